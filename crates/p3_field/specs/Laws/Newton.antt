@@ -1,0 +1,107 @@
+-- A polynomial of degree below n with given values at n points.
+use Rattle.std.proofs.Common.{◌≡◌, ℕ, zero, suc, ◌<◌, inl, inr, List, [], ◌∷◌, length, refl, sym, ◌∙◌, ap, arith}
+use Rattle.std.proofs.lemmas.Bool.{cases_eq}
+use Rattle.p3_field.specs.Ring.{Ring, RingLaws, sub}
+use Rattle.p3_field.specs.Poly.{val, Apart, add_poly, scale_poly}
+use Rattle.p3_field.specs.Field.{FieldLaws}
+use Rattle.p3_field.specs.Laws.Algebra.{zero_add, mul_zero, zero_mul, add_mul}
+use Rattle.p3_field.specs.Laws.Coeffs.{length_add, length_scale}
+use Rattle.p3_field.specs.Laws.Values.{val_add, val_scale}
+use Rattle.p3_field.specs.Laws.Roots.{sub_zero, sub_self, field_no_zero_divisors}
+
+-- (X - a) f
+abbrev pub times_linear : {A : Type 0} → Ring A → A → List A → List A
+times_linear r a f = add_poly r (scale_poly r (r.neg a) f) (r.zero ∷ f)
+
+-- the product of X - p i over i < n
+abbrev pub root_product : {A : Type 0} → Ring A → ℕ → (ℕ → A) → List A
+root_product r zero p = r.one ∷ []
+root_product r (suc n) p = times_linear r (p n) (root_product r n p)
+
+-- one more point `x` with the value `y`, where `f` serves the points that are roots of `g`
+abbrev pub newton_step : {A : Type 0} → Ring A → (A → A) → List A → List A → A → A → List A
+newton_step r inv f g x y = add_poly r f (scale_poly r (r.mul (sub r y (val r f x)) (inv (val r g x))) g)
+
+-- the polynomial with the values v i at p i, i < n
+abbrev pub newton : {A : Type 0} → Ring A → (A → A) → ℕ → (ℕ → A) → (ℕ → A) → List A
+newton r inv zero p v = []
+newton r inv (suc n) p v = newton_step r inv (newton r inv n p v) (root_product r n p) (p n) (v n)
+
+module _ {A : Type 0} (r : Ring A) (L : RingLaws r) where
+  pub val_times_linear : (a : A) (f : List A) (x : A) → val r (times_linear r a f) x ≡ r.mul (sub r x a) (val r f x)
+  val_times_linear a f x =
+      let F = val r f x in
+      cc (
+        val_add r L (scale_poly r (r.neg a) f) (r.zero ∷ f) x,
+        val_scale r L (r.neg a) f x,
+        zero_add r L (r.mul x F),
+        L.add_comm (r.mul (r.neg a) F) (r.mul x F),
+        add_mul r L x (r.neg a) F,
+      )
+
+  pub length_times_linear : (a : A) (f : List A) (n : ℕ) → length f ≡ n → length (times_linear r a f) ≡ suc n
+  length_times_linear a f n e =
+      length_add r L (scale_poly r (r.neg a) f) (r.zero ∷ f) (suc n) (let l : length (scale_poly r (r.neg a) f) ≡ length f = length_scale r L (r.neg a) f in omega arith) (ap suc e)
+
+  pub length_root_product : (n : ℕ) (p : ℕ → A) → length (root_product r n p) ≡ suc n
+  length_root_product zero p = refl
+  length_root_product (suc n) p = length_times_linear (p n) (root_product r n p) (suc n) (length_root_product n p)
+
+  pub root_product_zero : (n : ℕ) (p : ℕ → A) (i : ℕ) → i < n → val r (root_product r n p) (p i) ≡ r.zero
+  root_product_zero zero p i h = absurd (omega arith)
+  root_product_zero (suc n) p i h =
+      let G = root_product r n p in
+      val_times_linear (p n) G (p i) ∙ (elim (cases_eq i n) [
+        | inl e ↦ ap (λ w. r.mul w (val r G (p i))) (sub_self r L (p i) (p n) (ap p e)) ∙ zero_mul r L (val r G (p i))
+        | inr e ↦ ap (r.mul (sub r (p i) (p n))) (root_product_zero n p i (omega arith)) ∙ mul_zero r L (sub r (p i) (p n))
+      ])
+
+  module _ (inv : A → A) (W : FieldLaws r inv) where
+    pub root_product_not_zero : (n : ℕ) (p : ℕ → A) (x : A) → ((i : ℕ) → i < n → x ≡ p i → ⊥) → val r (root_product r n p) x ≡ r.zero → ⊥
+    root_product_not_zero zero p x a e = W.one_differs (cc (e, mul_zero r L x, L.add_zero r.one))
+    root_product_not_zero (suc n) p x a e =
+        let G = root_product r n p in
+        root_product_not_zero n p x (λ i k. a i (omega arith))
+        (field_no_zero_divisors r L inv W (sub r x (p n)) (val r G x) (λ z. a n (omega arith) (sub_zero r L x (p n) z)) (sym (val_times_linear (p n) G x) ∙ e))
+
+    pub length_newton : (n : ℕ) (p v : ℕ → A) → length (newton r inv n p v) ≡ n
+    length_newton zero p v = refl
+    length_newton (suc n) p v =
+        let f = newton r inv n p v in let g = root_product r n p in
+        let c = r.mul (sub r (v n) (val r f (p n))) (inv (val r g (p n))) in
+        let l : length f ≡ n = length_newton n p v in
+        length_add r L f (scale_poly r c g) (suc n) (omega arith) (length_scale r L c g ∙ length_root_product n p)
+
+    newton_old : (f g : List A) (x y z : A) → val r g z ≡ r.zero → val r (newton_step r inv f g x y) z ≡ val r f z
+    newton_old f g x y z e =
+        let c = r.mul (sub r y (val r f x)) (inv (val r g x)) in
+        cc (val_add r L f (scale_poly r c g) z, val_scale r L c g z, e, mul_zero r L c, L.add_zero (val r f z))
+
+    newton_new : (f g : List A) (x y : A) → (val r g x ≡ r.zero → ⊥) → val r (newton_step r inv f g x y) x ≡ y
+    newton_new f g x y n =
+        let F = val r f x in let G = val r g x in let d = sub r y F in
+        let c = r.mul d (inv G) in
+        cc (
+          val_add r L f (scale_poly r c g) x,
+          val_scale r L c g x,
+          L.mul_assoc d (inv G) G,
+          L.mul_comm (inv G) G,
+          W.mul_inv G n,
+          L.mul_one d,
+          L.add_comm F d,
+          L.add_assoc y (r.neg F) F,
+          L.add_comm (r.neg F) F,
+          L.add_neg F,
+          L.add_zero y,
+        )
+
+    pub newton_value : (n : ℕ) (p v : ℕ → A) → Apart n p → (i : ℕ) → i < n → val r (newton r inv n p v) (p i) ≡ v i
+    newton_value zero p v a i h = absurd (omega arith)
+    newton_value (suc n) p v a i h =
+        let f = newton r inv n p v in let g = root_product r n p in
+        elim (cases_eq i n) [
+          | inl e ↦ ap (λ k. val r (newton_step r inv f g (p n) (v n)) (p k)) e
+              ∙ (newton_new f g (p n) (v n) (root_product_not_zero n p (p n) (λ j k z. a j n k (omega arith) (sym z))) ∙ ap v (sym e))
+          | inr e ↦ newton_old f g (p n) (v n) (p i) (root_product_zero n p i (omega arith))
+              ∙ newton_value n p v (λ j k l m. a j k l (omega arith)) i (omega arith)
+        ]

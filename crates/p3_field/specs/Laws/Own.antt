@@ -1,0 +1,32 @@
+-- A field as a vector space over itself.
+use Rattle.std.proofs.Common.{◌≡◌, List, [], ◌∷◌, length, refl, ap, ◌∙◌, lit<}
+use Rattle.std.specs.List.{flat_map}
+use Rattle.p3_field.specs.Ring.{Ring, RingLaws}
+use Rattle.p3_field.specs.Field.{VectorLaws, RingHom, combine}
+
+abbrev pub own_whole : {A : Type 0} → A → List A → A
+own_whole z [] = z
+own_whole z (x ∷ xs) = x
+
+pub own_laws : {A : Type 0} (z : A) → VectorLaws {A = A} {B = A} 1 (λ x. x ∷ []) (own_whole z)
+own_laws z = record {
+  positive = lit< tt;
+  parts_length = λ x. refl;
+  whole_parts = λ x. refl;
+  parts_whole = parts_whole z;
+}
+  where
+    parts_whole : {A : Type 0} (z : A) (c : List A) → length c ≡ 1 → own_whole z c ∷ [] ≡ c
+    parts_whole z [] e = cc
+    parts_whole z (x ∷ []) e = refl
+    parts_whole z (x ∷ y ∷ ys) e = cc
+
+pub own_hom : {A : Type 0} (r : Ring A) → RingHom r r (λ x. x)
+own_hom r = record { keeps_zero = refl; keeps_one = refl; keeps_add = λ x y. refl; keeps_mul = λ x y. refl }
+
+pub flat_single : {A : Type 0} (xs : List A) → flat_map (λ (x : A). x ∷ []) xs ≡ xs
+flat_single [] = refl
+flat_single (x ∷ xs) = ap (λ l. x ∷ l) (flat_single xs)
+
+pub own_spans : {A : Type 0} (r : Ring A) (L : RingLaws r) (x : A) → combine r (λ _. r.one) 0 (x ∷ []) ≡ x
+own_spans r L x = L.add_zero (r.mul x r.one) ∙ L.mul_one x

@@ -1,0 +1,88 @@
+-- Polynomials as lists of coefficients, lowest first.
+use Rattle.std.proofs.Common.{◌≡◌, ℕ, zero, suc, ◌≤◌, ◌<◌, List, [], ◌∷◌, get_or, map}
+use Rattle.p3_field.specs.Ring.{Ring}
+use Rattle.p3_field.specs.Field.{Extension}
+
+-- the value at `x` of the polynomial with these coefficients, lowest first
+abbrev pub val : {A : Type 0} → Ring A → List A → A → A
+val r [] x = r.zero
+val r (c ∷ cs) x = r.add c (r.mul x (val r cs x))
+
+-- the value of a polynomial over F at a point above F
+abbrev pub val_in : {F E : Type 0} → Extension F E → List F → E → E
+val_in e f x = val e.ring (map e.embed f) x
+
+-- the coefficient of X^i, zero past the end
+abbrev pub coeff : {A : Type 0} → Ring A → List A → ℕ → A
+coeff r f i = get_or f i r.zero
+
+-- all coefficients from place `n` on are zero
+abbrev pub DegreeBelow : {A : Type 0} → Ring A → ℕ → List A → Type 0
+DegreeBelow r n f = (i : ℕ) → n ≤ i → coeff r f i ≡ r.zero
+
+-- all coefficients are zero
+abbrev pub IsZeroPoly : {A : Type 0} → Ring A → List A → Type 0
+IsZeroPoly r f = (i : ℕ) → coeff r f i ≡ r.zero
+
+-- the lists differ by zeros at the end
+abbrev pub SamePoly : {A : Type 0} → Ring A → List A → List A → Type 0
+SamePoly r f g = (i : ℕ) → coeff r f i ≡ coeff r g i
+
+-- the sum, coefficient by coefficient
+abbrev pub add_poly : {A : Type 0} → Ring A → List A → List A → List A
+add_poly r [] g = g
+add_poly r (c ∷ cs) [] = c ∷ cs
+add_poly r (c ∷ cs) (d ∷ ds) = r.add c d ∷ add_poly r cs ds
+
+-- each coefficient times `a`
+abbrev pub scale_poly : {A : Type 0} → Ring A → A → List A → List A
+scale_poly r a [] = []
+scale_poly r a (c ∷ cs) = r.mul a c ∷ scale_poly r a cs
+
+-- each coefficient negated
+abbrev pub neg_poly : {A : Type 0} → Ring A → List A → List A
+neg_poly r [] = []
+neg_poly r (c ∷ cs) = r.neg c ∷ neg_poly r cs
+
+-- the difference
+abbrev pub sub_poly : {A : Type 0} → Ring A → List A → List A → List A
+sub_poly r f g = add_poly r f (neg_poly r g)
+
+-- the product: (c + X f) g is c g + X (f g)
+abbrev pub mul_poly : {A : Type 0} → Ring A → List A → List A → List A
+mul_poly r [] g = []
+mul_poly r (c ∷ cs) g = add_poly r (scale_poly r c g) (r.zero ∷ mul_poly r cs g)
+
+-- f(hX): the coefficient of X^i times h^i
+abbrev pub shift_arg : {A : Type 0} → Ring A → A → List A → List A
+shift_arg r h [] = []
+shift_arg r h (c ∷ cs) = c ∷ scale_poly r h (shift_arg r h cs)
+
+-- X^n times f
+abbrev pub raise : {A : Type 0} → Ring A → ℕ → List A → List A
+raise r zero f = f
+raise r (suc n) f = r.zero ∷ raise r n f
+
+-- the values at `a` of the list and of its tails, but for the empty one
+abbrev pub tail_values : {A : Type 0} → Ring A → List A → A → List A
+tail_values r [] a = []
+tail_values r (d ∷ ds) a = r.add d (r.mul a (val r ds a)) ∷ tail_values r ds a
+
+-- the quotient of f by X - a
+abbrev pub quotient : {A : Type 0} → Ring A → List A → A → List A
+quotient r [] a = []
+quotient r (c ∷ cs) a = tail_values r cs a
+
+-- the coefficients t 0, .., t (n - 1)
+abbrev pub table : {A : Type 0} → ℕ → (ℕ → A) → List A
+table zero t = []
+table (suc n) t = t zero ∷ table n (λ i. t (suc i))
+
+-- t 0 + .. + t (n - 1)
+abbrev pub total : {A : Type 0} → Ring A → ℕ → (ℕ → A) → A
+total r zero t = r.zero
+total r (suc n) t = r.add (t zero) (total r n (λ i. t (suc i)))
+
+-- the points p 0, .., p (n - 1) differ from each other
+abbrev pub Apart : {A : Type 0} → ℕ → (ℕ → A) → Type 0
+Apart n p = (i j : ℕ) → i < j → j < n → p i ≡ p j → ⊥

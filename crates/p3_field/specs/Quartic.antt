@@ -1,0 +1,67 @@
+-- The quartic extension of BabyBear: polynomials c0 + c1 x + c2 x^2 + c3 x^3 modulo x^4 - 11
+-- (Plonky3's p3-field, BinomialExtensionField, over p3-baby-bear).
+use Rattle.std.proofs.Common.{ℕ, zero, suc, List, [], ◌∷◌}
+use Rattle.p3_field.specs.declared.baby_bear.BabyBear.{BabyBear}
+use Rattle.p3_field.specs.declared.quartic.QuarticExtension.{QuarticExtension}
+use Rattle.p3_field.specs.Ring.{Ring}
+use Rattle.p3_field.specs.BabyBear.{reduce, bear_ring}
+
+-- four coefficients over any `A`, lowest first
+pub record Four (A : Type 0) : Type 0 where
+  pub c0 : A
+  pub c1 : A
+  pub c2 : A
+  pub c3 : A
+
+-- polynomials of degree below 4 modulo x^4 - w: the coefficient of x^(4+i) in a product goes to x^i, times w
+abbrev pub four_ring : {A : Type 0} → Ring A → A → Ring (Four A)
+four_ring r w = record {
+  zero = record { c0 = r.zero; c1 = r.zero; c2 = r.zero; c3 = r.zero };
+  one = record { c0 = r.one; c1 = r.zero; c2 = r.zero; c3 = r.zero };
+  add = λ x y. record { c0 = r.add x.c0 y.c0; c1 = r.add x.c1 y.c1; c2 = r.add x.c2 y.c2; c3 = r.add x.c3 y.c3 };
+  mul = λ x y. record {
+    c0 = r.add (r.mul x.c0 y.c0) (r.mul w (r.add (r.mul x.c1 y.c3) (r.add (r.mul x.c2 y.c2) (r.mul x.c3 y.c1))));
+    c1 = r.add (r.add (r.mul x.c0 y.c1) (r.mul x.c1 y.c0)) (r.mul w (r.add (r.mul x.c2 y.c3) (r.mul x.c3 y.c2)));
+    c2 = r.add (r.add (r.mul x.c0 y.c2) (r.add (r.mul x.c1 y.c1) (r.mul x.c2 y.c0))) (r.mul w (r.mul x.c3 y.c3));
+    c3 = r.add (r.add (r.mul x.c0 y.c3) (r.mul x.c1 y.c2)) (r.add (r.mul x.c2 y.c1) (r.mul x.c3 y.c0));
+  };
+  neg = λ x. record { c0 = r.neg x.c0; c1 = r.neg x.c1; c2 = r.neg x.c2; c3 = r.neg x.c3 };
+}
+
+-- a value's coefficients
+abbrev pub to_four : QuarticExtension → Four BabyBear
+to_four x = record { c0 = x.c0; c1 = x.c1; c2 = x.c2; c3 = x.c3 }
+
+-- the value of coefficients
+abbrev pub of_four : Four BabyBear → QuarticExtension
+of_four x = record { c0 = x.c0; c1 = x.c1; c2 = x.c2; c3 = x.c3 }
+
+-- sums and products modulo x^4 - 11
+unfoldable pub quartic_ring : Ring QuarticExtension
+quartic_ring = let r = four_ring bear_ring (reduce 11) in record {
+  zero = of_four r.zero;
+  one = of_four r.one;
+  add = λ x y. of_four (r.add (to_four x) (to_four y));
+  mul = λ x y. of_four (r.mul (to_four x) (to_four y));
+  neg = λ x. of_four (r.neg (to_four x));
+}
+
+-- the constant polynomial
+abbrev pub of_bear_value : BabyBear → QuarticExtension
+of_bear_value x = record { c0 = x; c1 = bear_ring.zero; c2 = bear_ring.zero; c3 = bear_ring.zero }
+
+-- the coefficients as a list, lowest first
+abbrev pub quartic_parts : QuarticExtension → List BabyBear
+quartic_parts x = x.c0 ∷ x.c1 ∷ x.c2 ∷ x.c3 ∷ []
+
+-- the value of a list of four coefficients; of other lists zero
+abbrev pub quartic_whole : List BabyBear → QuarticExtension
+quartic_whole (a ∷ b ∷ c ∷ d ∷ []) = record { c0 = a; c1 = b; c2 = c; c3 = d }
+quartic_whole _ = record { c0 = reduce 0; c1 = reduce 0; c2 = reduce 0; c3 = reduce 0 }
+
+-- basis element i of four: x^i
+abbrev pub quartic_basis : ℕ → QuarticExtension
+quartic_basis zero = record { c0 = reduce 1; c1 = reduce 0; c2 = reduce 0; c3 = reduce 0 }
+quartic_basis (suc zero) = record { c0 = reduce 0; c1 = reduce 1; c2 = reduce 0; c3 = reduce 0 }
+quartic_basis (suc (suc zero)) = record { c0 = reduce 0; c1 = reduce 0; c2 = reduce 1; c3 = reduce 0 }
+quartic_basis _ = record { c0 = reduce 0; c1 = reduce 0; c2 = reduce 0; c3 = reduce 1 }
