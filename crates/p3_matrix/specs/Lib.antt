@@ -1,0 +1,4 @@
+pub mod Matrix
+pub mod Interpolation
+pub mod Products
+pub mod Laws

@@ -1,0 +1,91 @@
+//! Values of interpolants outside of their domain.
+ghost use Rattle.std.specs.Prelude.{◌≡◌, ℕ, ◌+◌, ◌*◌, ◌/◌, ◌^◌, ◌<◌, ◌≤◌, length, get_or, IfOk};
+ghost use Rattle.std.specs.Int.{IsPowerOfTwo};
+ghost use Rattle.p3_field.specs.Ring.{Ring, pow, of_nat};
+ghost use Rattle.p3_field.specs.Poly.{table, total};
+ghost use Rattle.p3_field.specs.Domain.{coset_point};
+ghost use Rattle.p3_matrix.specs.Matrix.{Rows, height, cell_at, column};
+ghost use Rattle.p3_matrix.specs.Interpolation.{IsInterpolatedAt, weight_at};
+
+use crate::dense::RowMajorMatrix;
+use crate::util::log2_strict_usize;
+use p3_field::{
+    ExtensionField, Field, FieldCore, Mem, PrimeCharacteristicRing, RingCore, TwoAdicCore,
+    TwoAdicField,
+};
+use std::alloc::Global;
+
+/// 1 + x + .. + x^(2^bits - 1), as the product of 1 + x^(2^j) for j below `bits`.
+pub fn sum_of_powers<F: PrimeCharacteristicRing>(x: F, bits: usize) -> F
+    ensures { result ≡ total F.ring (2 ^ bits) (λ i. pow F.ring x i) }
+{
+    let mut product = F::ONE;
+    let mut power = x;
+    for _ in 0..bits {
+        product = product * (F::ONE + power);
+        power = power.square();
+    }
+    product
+}
+
+// The weights of the values on a coset in the interpolant's value at a point.
+fn interpolation_weights<F: TwoAdicField, EF: ExtensionField<F>>(
+    alloc: Global,
+    log_size: usize,
+    shift: F,
+    point: EF,
+) -> Mem<Vec<EF>>
+    requires subgroup { log_size ≤ F.TWO_ADICITY }
+    requires shift { shift ≡ F.ring.zero → ⊥ }
+    ensures { IfOk result (λ v. v.items ≡ table (2 ^ log_size) (weight_at EF.ring (2 ^ log_size) (EF.embed (F.inv (of_nat F.ring (2 ^ log_size)))) (EF.embed (F.inv (F.root log_size))) (EF.ring.mul (EF.embed (F.inv shift)) point))) }
+{
+    let size: usize = 1 << log_size;
+    let scale = EF::from_base(F::from_u64(size as u64).inverse());
+    let step = EF::from_base(F::two_adic_generator(log_size).inverse());
+    let mut ratio = EF::from_base(shift.inverse()) * point;
+    let mut weights = Vec::with_capacity(alloc, size)?;
+    for _ in 0..size {
+        weights.push(scale * sum_of_powers(ratio, log_size))?;
+        ratio = step * ratio;
+    }
+    Ok(weights)
+}
+
+// The sum of a column's values times the weights.
+fn weighted_column<F: Field, EF: ExtensionField<F>>(
+    m: &RowMajorMatrix<F>,
+    column: usize,
+    weights: &[EF],
+) -> EF
+    requires column { column < m.now.width }
+    requires rows { length weights.now ≡ height m.now }
+    ensures { result ≡ total EF.ring (height m.now) (λ i. EF.ring.mul (EF.embed (cell_at F.ring.zero m.now i column)) (get_or weights.now i EF.ring.zero)) }
+{
+    let mut sum = EF::ZERO;
+    for (row, weight) in weights.iter().enumerate() {
+        sum = sum + EF::from_base(m.values[row * m.width + column]) * *weight;
+    }
+    sum
+}
+
+/// The value at a point of each column's interpolant on the coset with this shift and as many points as rows. It is
+/// total: at a point of the coset it gives that row's values (`p3_matrix::interpolation::Interpolate`).
+pub fn interpolate_coset<F: TwoAdicField, EF: ExtensionField<F>>(
+    alloc: Global,
+    m: &RowMajorMatrix<F>,
+    shift: F,
+    point: EF,
+) -> Mem<Vec<EF>>
+    requires power { IsPowerOfTwo (height m.now) }
+    requires subgroup { height m.now ≤ 2 ^ F.TWO_ADICITY }
+    requires shift { shift ≡ F.ring.zero → ⊥ }
+    ensures width { IfOk result (λ v. length v.items ≡ m.now.width) }
+    ensures values { IfOk result (λ v. (j k : ℕ) → j < m.now.width → height m.now ≡ 2 ^ k → IsInterpolatedAt F.ring EF.ring EF.embed (coset_point F.ring shift (F.root k)) (column F.ring.zero m.now j) point (get_or v.items j EF.ring.zero)) }
+{
+    let weights = interpolation_weights(alloc, log2_strict_usize(m.height()), shift, point)?;
+    let mut values = Vec::with_capacity(alloc, m.width())?;
+    for column in 0..m.width() {
+        values.push(weighted_column(m, column, &weights))?;
+    }
+    Ok(values)
+}
