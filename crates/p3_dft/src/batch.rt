@@ -1,0 +1,223 @@
+//! Transforms of all columns of a matrix.
+ghost use Rattle.std.specs.Prelude.{◌≡◌, ℕ, ◌+◌, ◌*◌, ◌/◌, ◌^◌, ◌<◌, ◌≤◌, length, IfOk};
+ghost use Rattle.std.specs.Int.{IsPowerOfTwo};
+ghost use Rattle.p3_field.specs.Ring.{Ring, pow};
+ghost use Rattle.p3_field.specs.Domain.{coset_point, IsInterpolant};
+ghost use Rattle.p3_matrix.specs.Matrix.{Rows, FillsRows, height, row_at};
+ghost use Rattle.p3_dft.specs.Transform.{values_at, HasValuesOf, HasCoefficientsOf, IsExtensionOf};
+
+use crate::column::{ColumnTransform, coset_interpolant, coset_values};
+use crate::naive::NaiveDft;
+use crate::radix2::Radix2Dit;
+use p3_field::{Mem, TwoAdicCore, TwoAdicField};
+use p3_matrix::{RowMajorMatrix, log2_strict_usize};
+use std::alloc::Global;
+
+/// Transforms of all columns of a matrix between coefficients and values on two-adic subgroups
+/// (`p3_dft::TwoAdicSubgroupDft`).
+///
+/// The height is a power of two, and at most the size of the largest subgroup.
+pub trait TwoAdicSubgroupDft<F: TwoAdicCore> {
+    /// Takes a column's coefficients, lowest first, to the polynomial's values on the subgroup.
+    fn dft_batch(&self, alloc: Global, m: RowMajorMatrix<F>) -> Mem<RowMajorMatrix<F>>
+        requires power { IsPowerOfTwo (height m) }
+        requires subgroup { height m ≤ 2 ^ F.TWO_ADICITY }
+        ensures { IfOk result (HasValuesOf F.ring F.root m) };
+
+    /// Takes a column's values on the subgroup to the coefficients of their interpolant.
+    fn idft_batch(&self, alloc: Global, m: RowMajorMatrix<F>) -> Mem<RowMajorMatrix<F>>
+        requires power { IsPowerOfTwo (height m) }
+        requires subgroup { height m ≤ 2 ^ F.TWO_ADICITY }
+        ensures { IfOk result (HasCoefficientsOf F.ring F.root m) };
+
+    /// Takes a column's values on the subgroup to the interpolant's values on the coset with this shift of the
+    /// subgroup that is 2^added_bits times as large.
+    fn coset_lde_batch(
+        &self,
+        alloc: Global,
+        m: RowMajorMatrix<F>,
+        added_bits: usize,
+        shift: F,
+    ) -> Mem<RowMajorMatrix<F>>
+        requires power { IsPowerOfTwo (height m) }
+        requires subgroup { height m * 2 ^ added_bits ≤ 2 ^ F.TWO_ADICITY }
+        requires shift { shift ≡ F.ring.zero → ⊥ }
+        ensures { IfOk result (IsExtensionOf F.ring F.root added_bits shift m) };
+}
+
+// The rows' polynomials evaluated on a coset.
+fn evaluated_rows<F: TwoAdicField, T: ColumnTransform>(
+    transform: &T,
+    alloc: Global,
+    m: &RowMajorMatrix<F>,
+    shift: F,
+    log_size: usize,
+) -> Mem<RowMajorMatrix<F>>
+    requires subgroup { log_size ≤ F.TWO_ADICITY }
+    requires fits { m.now.width ≤ 2 ^ log_size }
+    ensures width { IfOk result (λ v. v.width ≡ 2 ^ log_size) }
+    ensures height { IfOk result (λ v. height v ≡ height m.now) }
+    ensures rows { IfOk result (λ v. (i : ℕ) → i < height m.now → row_at v i ≡ values_at F.ring (coset_point F.ring shift (F.root log_size)) (2 ^ log_size) (row_at m.now i)) }
+{
+    let mut values = Vec::new(alloc);
+    for i in 0..m.height() {
+        let row = coset_values(transform, alloc, m.row(i), shift, log_size)?;
+        values.extend_from_slice(&row)?;
+    }
+    Ok(RowMajorMatrix::new(values, 1 << log_size))
+}
+
+// The rows' interpolants on a subgroup.
+fn interpolated_rows<F: TwoAdicField, T: ColumnTransform>(
+    transform: &T,
+    alloc: Global,
+    m: &RowMajorMatrix<F>,
+    log_size: usize,
+) -> Mem<RowMajorMatrix<F>>
+    requires subgroup { log_size ≤ F.TWO_ADICITY }
+    requires size { m.now.width ≡ 2 ^ log_size }
+    ensures width { IfOk result (λ v. v.width ≡ 2 ^ log_size) }
+    ensures height { IfOk result (λ v. height v ≡ height m.now) }
+    ensures rows { IfOk result (λ v. (i : ℕ) → i < height m.now → IsInterpolant F.ring (coset_point F.ring F.ring.one (F.root log_size)) (row_at m.now i) (row_at v i)) }
+{
+    let mut coefficients = Vec::new(alloc);
+    for i in 0..m.height() {
+        let row = coset_interpolant(transform, alloc, m.row(i), F::ONE, log_size)?;
+        coefficients.extend_from_slice(&row)?;
+    }
+    Ok(RowMajorMatrix::new(coefficients, m.width()))
+}
+
+// The three transforms, by this transform of a column.
+fn dft_columns<F: TwoAdicField, T: ColumnTransform>(
+    transform: &T,
+    alloc: Global,
+    m: &RowMajorMatrix<F>,
+) -> Mem<RowMajorMatrix<F>>
+    requires power { IsPowerOfTwo (height m.now) }
+    requires subgroup { height m.now ≤ 2 ^ F.TWO_ADICITY }
+    ensures { IfOk result (HasValuesOf F.ring F.root m.now) }
+{
+    let columns = m.transpose(alloc)?;
+    let values = evaluated_rows(
+        transform,
+        alloc,
+        &columns,
+        F::ONE,
+        log2_strict_usize(m.height()),
+    )?;
+    let transposed = values.transpose(alloc)?;
+    Ok(transposed)
+}
+
+fn idft_columns<F: TwoAdicField, T: ColumnTransform>(
+    transform: &T,
+    alloc: Global,
+    m: &RowMajorMatrix<F>,
+) -> Mem<RowMajorMatrix<F>>
+    requires power { IsPowerOfTwo (height m.now) }
+    requires subgroup { height m.now ≤ 2 ^ F.TWO_ADICITY }
+    ensures { IfOk result (HasCoefficientsOf F.ring F.root m.now) }
+{
+    let columns = m.transpose(alloc)?;
+    let coefficients = interpolated_rows(
+        transform,
+        alloc,
+        &columns,
+        log2_strict_usize(m.height()),
+    )?;
+    let transposed = coefficients.transpose(alloc)?;
+    Ok(transposed)
+}
+
+fn extended_columns<F: TwoAdicField, T: ColumnTransform>(
+    transform: &T,
+    alloc: Global,
+    m: &RowMajorMatrix<F>,
+    added_bits: usize,
+    shift: F,
+) -> Mem<RowMajorMatrix<F>>
+    requires power { IsPowerOfTwo (height m.now) }
+    requires subgroup { height m.now * 2 ^ added_bits ≤ 2 ^ F.TWO_ADICITY }
+    requires shift { shift ≡ F.ring.zero → ⊥ }
+    ensures { IfOk result (IsExtensionOf F.ring F.root added_bits shift m.now) }
+{
+    let log_height = log2_strict_usize(m.height());
+    let columns = m.transpose(alloc)?;
+    let coefficients = interpolated_rows(transform, alloc, &columns, log_height)?;
+    let values = evaluated_rows(
+        transform,
+        alloc,
+        &coefficients,
+        shift,
+        log_height + added_bits,
+    )?;
+    let transposed = values.transpose(alloc)?;
+    Ok(transposed)
+}
+
+impl<F: TwoAdicField> TwoAdicSubgroupDft<F> for NaiveDft {
+    fn dft_batch(&self, alloc: Global, m: RowMajorMatrix<F>) -> Mem<RowMajorMatrix<F>>
+        requires power { IsPowerOfTwo (height m) }
+        requires subgroup { height m ≤ 2 ^ F.TWO_ADICITY }
+        ensures { IfOk result (HasValuesOf F.ring F.root m) }
+    {
+        dft_columns(self, alloc, &m)
+    }
+
+    fn idft_batch(&self, alloc: Global, m: RowMajorMatrix<F>) -> Mem<RowMajorMatrix<F>>
+        requires power { IsPowerOfTwo (height m) }
+        requires subgroup { height m ≤ 2 ^ F.TWO_ADICITY }
+        ensures { IfOk result (HasCoefficientsOf F.ring F.root m) }
+    {
+        idft_columns(self, alloc, &m)
+    }
+
+    fn coset_lde_batch(
+        &self,
+        alloc: Global,
+        m: RowMajorMatrix<F>,
+        added_bits: usize,
+        shift: F,
+    ) -> Mem<RowMajorMatrix<F>>
+        requires power { IsPowerOfTwo (height m) }
+        requires subgroup { height m * 2 ^ added_bits ≤ 2 ^ F.TWO_ADICITY }
+        requires shift { shift ≡ F.ring.zero → ⊥ }
+        ensures { IfOk result (IsExtensionOf F.ring F.root added_bits shift m) }
+    {
+        extended_columns(self, alloc, &m, added_bits, shift)
+    }
+}
+
+impl<F: TwoAdicField> TwoAdicSubgroupDft<F> for Radix2Dit {
+    fn dft_batch(&self, alloc: Global, m: RowMajorMatrix<F>) -> Mem<RowMajorMatrix<F>>
+        requires power { IsPowerOfTwo (height m) }
+        requires subgroup { height m ≤ 2 ^ F.TWO_ADICITY }
+        ensures { IfOk result (HasValuesOf F.ring F.root m) }
+    {
+        dft_columns(self, alloc, &m)
+    }
+
+    fn idft_batch(&self, alloc: Global, m: RowMajorMatrix<F>) -> Mem<RowMajorMatrix<F>>
+        requires power { IsPowerOfTwo (height m) }
+        requires subgroup { height m ≤ 2 ^ F.TWO_ADICITY }
+        ensures { IfOk result (HasCoefficientsOf F.ring F.root m) }
+    {
+        idft_columns(self, alloc, &m)
+    }
+
+    fn coset_lde_batch(
+        &self,
+        alloc: Global,
+        m: RowMajorMatrix<F>,
+        added_bits: usize,
+        shift: F,
+    ) -> Mem<RowMajorMatrix<F>>
+        requires power { IsPowerOfTwo (height m) }
+        requires subgroup { height m * 2 ^ added_bits ≤ 2 ^ F.TWO_ADICITY }
+        requires shift { shift ≡ F.ring.zero → ⊥ }
+        ensures { IfOk result (IsExtensionOf F.ring F.root added_bits shift m) }
+    {
+        extended_columns(self, alloc, &m, added_bits, shift)
+    }
+}
