@@ -1,0 +1,3 @@
+pub mod Grind
+pub mod Sha256
+pub mod Laws

@@ -1,0 +1,106 @@
+// Challengers: a transcript is observed into one, and the verifier's random values are drawn from it.
+// No call takes memory, and what each answers and leaves is a function of the state and arguments.
+#![tactic(auto)]
+
+ghost use Rattle.std.specs.Prelude.{map, ◌≡◌, ℕ, ◌<◌, ◌^◌, IsTrue, ◌↔◌, MatchOption};
+ghost use Rattle.std.specs.List.{fold};
+ghost use Rattle.p3_field.specs.Ring.{of_nat};
+ghost use Rattle.p3_challenger.specs.Grind.{Checked, checked_state, IsLeast};
+
+use p3_field::{PrimeCore64, RingCore};
+
+mod sha256_challenger;
+
+pub use sha256_challenger::Sha256Challenger;
+
+/// A challenger that takes in values of type `T`, as Plonky3's `p3_challenger::CanObserve`.
+///
+/// The new state is a function of the old one and the value, the ghost member `observed`.
+pub trait CanObserve<T> {
+    ghost observed: { Self → T → Self };
+
+    /// Takes in one value.
+    fn observe(&mut self, value: &T)
+        ensures { self.new ≡ observed self.old value.now };
+
+    /// Takes in each value, the first one first.
+    final fn observe_slice(&mut self, values: &[T])
+        ensures { self.new ≡ fold observed self.old values.now }
+    {
+        for value in values {
+            self.observe(value);
+        }
+    }
+}
+
+/// A challenger that gives values of type `T`, as Plonky3's `p3_challenger::CanSample`.
+///
+/// The value and the new state are functions of the old state, the ghost members `drawn` and
+/// `after_draw`.
+pub trait CanSample<T> {
+    ghost drawn: { Self → T };
+
+    ghost after_draw: { Self → Self };
+
+    /// Draws one value.
+    fn sample(&mut self) -> T
+        ensures answer { result ≡ drawn self.old }
+        ensures state { self.new ≡ after_draw self.old };
+}
+
+/// A challenger that gives numbers of a few bits, as Plonky3's `p3_challenger::CanSampleBits`.
+///
+/// `order` is a number that each implementation fixes: how many values the drawn element has.
+pub trait CanSampleBits {
+    ghost order: { ℕ };
+
+    ghost bits_drawn: { Self → ℕ → ℕ };
+
+    ghost after_bits: { Self → ℕ → Self };
+
+    /// Draws a number below `2 ^ bits`, where that power is below the order.
+    fn sample_bits(&mut self, bits: usize) -> usize
+        requires { 2 ^ bits < order }
+        ensures answer { result ≡ bits_drawn self.old bits }
+        ensures state { self.new ≡ after_bits self.old bits };
+
+    ghost bits_below: { (s : Self) (bits : ℕ) → 2 ^ bits < order → bits_drawn s bits < 2 ^ bits };
+}
+
+/// A challenger with proofs of work, as Plonky3's `p3_challenger::GrindingChallenger`.
+///
+/// A witness passes at `bits` where `sample_bits(bits)` gives zero once it is observed. At zero
+/// bits each witness passes, and nothing is observed or drawn.
+pub trait GrindingChallenger: CanSampleBits + CanObserve<Self::Witness> {
+    /// What is ground: an element of a prime field. The bound is the field trait's core, so that
+    /// a caller may equate this type with a parameter that is a `PrimeField64`.
+    type Witness: PrimeCore64;
+
+    /// Whether the witness passes. The state is that after the check also where it does not.
+    fn check_witness(&mut self, bits: usize, value: Self::Witness) -> bool
+        requires { 2 ^ bits < Self.Witness.ORDER_U64 }
+        ensures answer { IsTrue result ↔ Checked Self.observed Self.bits_drawn self.old bits value }
+        ensures state { self.new ≡ checked_state Self.observed Self.after_bits self.old bits value };
+
+    /// The witness of least canonical value that passes, with the state after its check. `None`
+    /// is where no element passes, and then nothing changes.
+    fn grind(&mut self, bits: usize) -> Option<Self::Witness>
+        requires { 2 ^ bits < Self.Witness.ORDER_U64 }
+        ensures answer { MatchOption result
+            ((n : ℕ) → n < Self.Witness.ORDER_U64 → Checked Self.observed Self.bits_drawn self.old bits (of_nat Self.Witness.ring n) → ⊥)
+            (λ w. IsLeast (λ n. Checked Self.observed Self.bits_drawn self.old bits (of_nat Self.Witness.ring n)) (Self.Witness.canonical w)) }
+        ensures state { MatchOption result
+            (self.new ≡ self.old)
+            (λ w. self.new ≡ checked_state Self.observed Self.after_bits self.old bits w) };
+
+    ghost same_order: { Self.order ≡ Self.Witness.ORDER_U64 };
+}
+
+/// Takes in each byte as one field element, by `from_u64`, the first one first.
+pub fn observe_bytes<F: RingCore, C: CanObserve<F>>(challenger: &mut C, bytes: &[u8])
+    ensures { challenger.new ≡ fold C.observed challenger.old (map (of_nat F.ring) bytes.now) }
+{
+    for byte in bytes {
+        challenger.observe(&F::from_u64(*byte as u64));
+    }
+}
