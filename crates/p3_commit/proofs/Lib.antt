@@ -1,0 +1,4 @@
+pub mod Options
+pub mod SelectorLaws
+pub mod Lists
+pub mod Disjoint

@@ -1,0 +1,16 @@
+//! Evaluation domains. After Plonky3's `p3-commit`.
+//!
+//! Contracts see a domain by the definitions of `specs/Space.antt`, and its polynomials by those of `p3_field`'s
+//! `specs/Domain.antt`.
+#![tactic(auto)]
+
+mod domain;
+mod interpolation;
+mod selectors;
+mod split;
+
+pub use domain::{PolynomialSpace, are_disjoint};
+pub use selectors::{LagrangeSelectors, first_selector_at, last_selector_at};
+
+#[cfg(test)]
+mod tests;
