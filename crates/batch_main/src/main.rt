@@ -1,0 +1,24 @@
+//! The program: it makes the real ends, calls `run`, and ends with its status.
+#![tactic(auto)]
+
+use batch_tool::{Status, StdSink, StdSource, run};
+use std::alloc::AllocError;
+use std::process::ExitCode;
+use std::{env, io};
+
+fn main(rt: HostRuntime) -> ExitCode {
+    let alloc = rt.alloc();
+    let words = match env::args(&rt) {
+        Ok(args) => args.skip(1).collect(alloc),
+        Err(error) if error.kind() == io::ErrorKind::OutOfMemory => Err(AllocError),
+        // A word that is no text names no command, and neither do no words.
+        Err(_) => Ok(Vec::new(alloc)),
+    };
+    let mut source = StdSource::new(rt.reader());
+    let mut sink = StdSink::new(io::writer(&rt));
+    let status = match words {
+        Ok(words) => run(alloc, &words, &mut source, &mut sink),
+        Err(AllocError) => Status::OutOfMemory,
+    };
+    ExitCode::from(status.number())
+}

@@ -1,0 +1,157 @@
+-- What is committed: lengths of interpolants, and the records that the answer of `prove` is made of.
+use Rattle.std.proofs.Common.{◌≡◌, ℕ, zero, suc, ◌+◌, ◌*◌, ◌^◌, ◌<◌, ◌≤◌, ◌↔◌, Bool, true, false, List, ◌++◌, [], ◌∷◌, length, get_or, map, refl, sym, ◌∙◌, ap, subst, arith, add-one}
+use Rattle.std.specs.Prelude.{All, IsTrue}
+use Rattle.std.proofs.Math.Nat.{pow-suc}
+use Rattle.std.proofs.lemmas.List.{length-map, get_or-map}
+use Rattle.p3_field.specs.Field.{TwoAdic}
+use Rattle.p3_field.specs.Domain.{CosetData, point}
+use Rattle.p3_field.specs.Poly.{table}
+use Rattle.p3_field.specs.Ring.{of_nat}
+use Rattle.p3_field.specs.BabyBear.{bear_ring}
+use Rattle.p3_field.specs.Quartic.{quartic_ring, quartic_parts, quartic_whole}
+use Rattle.p3_field.specs.declared.baby_bear.BabyBear.{BabyBear}
+use Rattle.p3_matrix.specs.Matrix.{Rows}
+use Rattle.p3_field.specs.Laws.Tables.{length-table, get_or-table}
+use Rattle.p3_challenger.specs.declared.sha256_challenger.Sha256Challenger.{Sha256Challenger}
+use Rattle.p3_field.specs.declared.quartic.QuarticExtension.{QuarticExtension}
+use Rattle.p3_field.specs.Laws.BearField.{bear_of_canonical}
+use Rattle.batch_tool.specs.Script.{begun, play, observe_all, draw_all, passes, after_grinding}
+use Rattle.batch_tool.specs.BatchScript.{single_shape, script_to_alpha, script_from_grinding}
+use Rattle.batch_tool.proofs.Draws.{alpha-script, quotient-script, quotient-challenges, zeta-script}
+use Rattle.batch_tool.specs.Plain.{AreInterpolants, commitment_elements, evaluations}
+use Rattle.batch_tool.specs.Honest.{Instance, IsCommitted, trace_domain, quotient_domain, commitment_domain, quotient_columns, seeded_state, seeded, behind_alpha, before_grinding, whole_transcript, number_passes, IsGround, alpha, zeta, degree_bits_elements}
+use Rattle.batch_tool.specs.Swap.{swap_instance, last_right}
+use Rattle.batch_tool.specs.Tool.{tool}
+use Rattle.batch_tool.proofs.Matrices.{length-same}
+
+pub next-power : (k : ℕ) → 2 ^ k ≤ 2 ^ (k + 1)
+next-power k = rw (add-one, pow-suc) (omega arith)
+
+pub interpolants-count : {F C G : Type 0} (t : TwoAdic F) (d : CosetData F) (items : C → List F) (coefficients : G → List F) (cs : List C) (fs : List G)
+    → AreInterpolants t d (map items cs) (map coefficients fs) → length fs ≡ length cs
+interpolants-count t d items coefficients cs fs a = sym (length-map fs coefficients) ∙ (a.count ∙ length-map cs items)
+
+-- interpolants are as long as their columns
+pub interpolants-lengths : {F C G : Type 0} (t : TwoAdic F) (d : CosetData F) (items : C → List F) (coefficients : G → List F) (n : ℕ) (c : C) (cs : List C) (fs : List G)
+    → AreInterpolants t d (map items cs) (map coefficients fs) → All (λ c. length (items c) ≡ n) cs → All (λ f. length (coefficients f) ≡ n) fs
+interpolants-lengths t d items coefficients n c cs fs a h = λ k g lt.
+    let counts : length fs ≡ length cs = interpolants-count t d items coefficients cs fs a in
+    let same : length (map items cs) ≡ length cs = length-map cs items in
+    let inside : k < length cs = omega arith in
+    let i = a.each k (omega arith) in
+    ap length (sym (get_or-map coefficients fs k g [] lt)) ∙ (i.length_is ∙ (ap length (get_or-map items cs k c [] inside) ∙ h k c inside))
+
+pub same-coset : {F : Type 0} (d e : CosetData F) → d.shift ≡ e.shift → d.log_size ≡ e.log_size → d ≡ e
+same-coset d e s l = λ i. record { shift = s i; log_size = l i }
+
+pub power-within : (k m : ℕ) → m ≡ 2 ^ k → m ≤ 2 ^ (k + 1)
+power-within k m e = let h = next-power k in omega (arith, e, h)
+
+-- columns that are these lists are as long
+pub heights-are : {F C : Type 0} (items : C → List F) (n : ℕ) (cs : List C) (lists : List (List F)) → map items cs ≡ lists → All (λ l. length l ≡ n) lists
+    → All (λ c. length (items c) ≡ n) cs
+heights-are items n cs lists e h = λ k c lt.
+    let same : length (map items cs) ≡ length cs = length-map cs items in
+    let count : length (map items cs) ≡ length lists = ap length e in
+    ap length (sym (get_or-map items cs k c [] lt)) ∙ (ap (λ l. length (get_or l k [])) e ∙ h k [] (omega arith))
+
+pub two-tall : {F : Type 0} (n : ℕ) (f g : ℕ → F) → All (λ l. length l ≡ n) (table n f ∷ table n g ∷ [])
+two-tall n f g zero d lt = length-table n f
+two-tall n f g (suc zero) d lt = length-table n g
+two-tall n f g (suc (suc k)) d lt = absurd (omega arith)
+
+pub tables-tall : {F : Type 0} (m n : ℕ) (f : ℕ → ℕ → F) → All (λ l. length l ≡ n) (table m (λ e. table n (f e)))
+tables-tall m n f = λ k d lt.
+    let small : k < m = let l = length-table m (λ e. table n (f e)) in omega (arith, l) in
+    ap length (get_or-table m (λ e. table n (f e)) k d small) ∙ length-table n (f k)
+
+pub interpolants-along : {F : Type 0} (t : TwoAdic F) (d e : CosetData F) (columns others fs : List (List F)) → d ≡ e → columns ≡ others
+    → AreInterpolants t d columns fs → AreInterpolants t e others fs
+interpolants-along t d e columns others fs p q a =
+    let P : CosetData _ → Type 0 = λ d. AreInterpolants t d columns fs in
+    let Q : List (List _) → Type 0 = λ l. AreInterpolants t e l fs in
+    subst Q q (subst P p a)
+
+-- the transcript behind alpha's draw of a swap table
+pub behind-alpha-is : (k : ℕ) (a b : BabyBear) (old : Sha256Challenger) (main : Rows BabyBear) (mains : List (Rows BabyBear)) (publics : List BabyBear)
+    → old ≡ seeded_state tool (single_shape 2 3 4) → mains ≡ main ∷ [] → publics ≡ a ∷ b ∷ last_right k a b ∷ []
+    → play tool.challenger (begun BabyBear old) (script_to_alpha 4 (quartic_parts (of_nat quartic_ring k) ∷ []) (commitment_elements bear_ring mains) (publics ∷ []))
+    ≡ behind_alpha tool (swap_instance k a b) main
+unfolding tool swap_instance behind_alpha degree_bits_elements
+behind-alpha-is k a b old main mains publics p q r =
+    λ i. play tool.challenger (begun BabyBear (p i)) (script_to_alpha 4 (quartic_parts (of_nat quartic_ring k) ∷ []) (commitment_elements bear_ring (q i)) (r i ∷ []))
+
+-- two items by their places
+pub two-items : {F C : Type 0} (items : C → List F) (cs : List C) (x y : C) → length cs ≡ 2 → x ≡ get_or cs 0 x → y ≡ get_or cs 1 y → map items cs ≡ items x ∷ items y ∷ []
+two-items items [] x y l p q = absurd (omega arith)
+two-items items (c ∷ []) x y l p q = absurd (omega arith)
+two-items items (c ∷ d ∷ []) x y l p q = λ i. items (sym p i) ∷ items (sym q i) ∷ []
+two-items items (c ∷ d ∷ e ∷ cs) x y l p q = absurd (omega arith)
+
+module _ (k : ℕ) (a b : BabyBear) (main quotient : Rows BabyBear) where
+  abbrev swap : Instance BabyBear
+  swap = swap_instance k a b
+
+  -- what is committed, part by part
+  pub all-committed : (columns polynomials chunk : List (List BabyBear)) (challenge : QuarticExtension)
+      → AreInterpolants tool.field (trace_domain tool swap) swap.columns columns → main ≡ evaluations tool.field (commitment_domain tool swap) columns
+      → challenge ≡ alpha tool swap main → polynomials ≡ columns
+      → AreInterpolants tool.field (quotient_domain tool swap) (quotient_columns tool swap polynomials challenge) chunk
+      → quotient ≡ evaluations tool.field (commitment_domain tool swap) chunk
+      → IsCommitted tool swap columns main chunk quotient
+  all-committed columns polynomials chunk challenge p q r s t u = record {
+    columns_are = p;
+    main_is = q;
+    chunk_are = interpolants-along tool.field (quotient_domain tool swap) (quotient_domain tool swap) (quotient_columns tool swap polynomials challenge) (quotient_columns tool swap columns (alpha tool swap main)) chunk
+        refl (λ i. quotient_columns tool swap (s i) (r i)) t;
+    quotient_is = u;
+  }
+
+  -- the state that the grinding begins with
+  pub before-grinding-is : (old new : Sha256Challenger) (quotients : List (Rows BabyBear)) → old ≡ (behind_alpha tool swap main).state → quotients ≡ quotient ∷ []
+      → new ≡ observe_all tool.challenger old (commitment_elements bear_ring quotients) → new ≡ (before_grinding tool swap main quotient).state
+  unfolding tool swap_instance before_grinding
+  before-grinding-is old new quotients p q e =
+      e ∙ ((λ i. observe_all tool.challenger (p i) (commitment_elements bear_ring (q i)))
+      ∙ sym (quotient-script tool.challenger (behind_alpha tool swap main) (commitment_elements bear_ring (quotient ∷ []))))
+
+  pub nothing-passes : (old : Sha256Challenger) → old ≡ (before_grinding tool swap main quotient).state
+      → ((n : ℕ) → n < 2013265921 → passes tool.challenger old 4 (of_nat bear_ring n ∷ []) ≡ false)
+      → (n : ℕ) → n < 2013265921 → number_passes tool swap main quotient n ≡ false
+  unfolding tool swap_instance
+  nothing-passes old p h = λ n lt. ap (λ s. passes tool.challenger s 4 (of_nat bear_ring n ∷ [])) (sym p) ∙ h n lt
+
+  pub witness-is-ground : (old : Sha256Challenger) (w : BabyBear) → old ≡ (before_grinding tool swap main quotient).state
+      → passes tool.challenger old 4 (w ∷ []) ≡ true → ((n : ℕ) → n < w.value → passes tool.challenger old 4 (of_nat bear_ring n ∷ []) ≡ false)
+      → IsGround tool swap main quotient w.value
+  unfolding tool swap_instance
+  witness-is-ground old w p t f = record {
+    below_order = w.in_range;
+    passing = ap (λ x. passes tool.challenger (before_grinding tool swap main quotient).state 4 (x ∷ [])) (bear_of_canonical w) ∙ (ap (λ s. passes tool.challenger s 4 (w ∷ [])) (sym p) ∙ t);
+    least = λ m lt. ap (λ s. passes tool.challenger s 4 (of_nat bear_ring m ∷ [])) (sym p) ∙ f m lt;
+  }
+
+  one-challenge : (d : List BabyBear) × ((before_grinding tool swap main quotient).challenges ≡ d ∷ [])
+  unfolding tool swap_instance before_grinding behind_alpha degree_bits_elements
+  one-challenge = (
+    draw_all tool.challenger _ 4,
+    quotient-challenges tool.challenger (behind_alpha tool swap main) (commitment_elements bear_ring (quotient ∷ []))
+        ∙ ap (λ t. t.challenges) (alpha-script tool.challenger (seeded tool swap).state (quartic_parts (of_nat quartic_ring k)) (commitment_elements bear_ring (main ∷ [])) (a ∷ b ∷ last_right k a b ∷ [])),
+  )
+
+  pub zeta-is : (old : Sha256Challenger) (w : BabyBear) (z : QuarticExtension) → old ≡ (before_grinding tool swap main quotient).state
+      → quartic_parts z ≡ draw_all tool.challenger (after_grinding tool.challenger old 4 (w ∷ [])) 4 → z ≡ zeta tool swap main quotient w.value
+  unfolding tool swap_instance whole_transcript
+  zeta-is old w z p e =
+      let before = before_grinding tool swap main quotient in
+      let drawn : Sha256Challenger → BabyBear → List BabyBear = λ s x. draw_all tool.challenger (after_grinding tool.challenger s 4 (x ∷ [])) 4 in
+      let (d, one) = one-challenge in
+      let all : (whole_transcript tool swap main quotient w.value).challenges ≡ d ∷ drawn before.state (of_nat bear_ring w.value) ∷ [] =
+      zeta-script tool.challenger before (of_nat bear_ring w.value) ∙ ap (λ l. l ++ drawn before.state (of_nat bear_ring w.value) ∷ []) one in
+      ap quartic_whole (e ∙ (ap (λ s. drawn s w) p ∙ (ap (λ x. drawn before.state x) (sym (bear_of_canonical w)) ∙ ap (λ l. get_or l 1 []) (sym all))))
+
+pub told-true : {b : Bool} → b ≡ true → IsTrue b
+told-true e = e
+
+pub told-false : {b : Bool} → b ≡ false → IsTrue b → ⊥
+told-false e t = let f : false ≡ true = sym e ∙ t in cc

@@ -1,0 +1,37 @@
+-- What the steps of a script leave, and tests of grinding values.
+use Rattle.std.proofs.Common.{◌≡◌, ℕ, Bool, true, false, List, [], ◌∷◌, ◌++◌, refl, arith, ◌∙◌}
+use Rattle.std.proofs.lemmas.Bool.Decides.{nat_tests}
+use Rattle.std.specs.Prelude.{◌==◌}
+use Rattle.batch_tool.specs.Script.{ChallengerOf, Transcript, begun, play, observe_all, draw_all, after_draws, passes, after_grinding}
+use Rattle.batch_tool.specs.BatchScript.{script_to_alpha, script_of_quotient, script_from_grinding, degree_bits_step, main_commitment_step, public_values_step, constraint_challenge_step, quotient_commitment_step, ood_pow_step, zeta_step, opening_step}
+
+module _ {S F : Type 0} (c : ChallengerOf S F) where
+  -- the transcript behind alpha's draw
+  pub alpha-script : (s : S) (d m v : List F)
+      → play c (begun F s) (script_to_alpha 4 (d ∷ []) m (v ∷ []))
+      ≡ record {
+        state = after_draws c (observe_all c (observe_all c (observe_all c s d) m) v) 4;
+        challenges = draw_all c (observe_all c (observe_all c (observe_all c s d) m) v) 4 ∷ [];
+        passed = [];
+      }
+  unfolding play script_to_alpha degree_bits_step main_commitment_step public_values_step constraint_challenge_step
+  alpha-script s d m v = refl
+
+  pub quotient-script : (t : Transcript S F) (q : List F) → (play c t (script_of_quotient q)).state ≡ observe_all c t.state q
+  unfolding play quotient_commitment_step
+  quotient-script t q = refl
+
+  pub quotient-challenges : (t : Transcript S F) (q : List F) → (play c t (script_of_quotient q)).challenges ≡ t.challenges
+  unfolding play quotient_commitment_step
+  quotient-challenges t q = refl
+
+  pub zeta-script : (t : Transcript S F) (w : F)
+      → (play c t (script_from_grinding 4 4 w)).challenges ≡ t.challenges ++ draw_all c (after_grinding c t.state 4 (w ∷ [])) 4 ∷ []
+  unfolding play ood_pow_step zeta_step opening_step
+  zeta-script t w = refl
+
+pub zero-passes : (n : ℕ) → n ≡ 0 → (n == 0) ≡ true
+zero-passes n h = grind (arith, nat_tests, h)
+
+pub nonzero-fails : (n : ℕ) → (n ≡ 0 → ⊥) → (n == 0) ≡ false
+nonzero-fails n h = grind (arith, nat_tests, h)

@@ -1,0 +1,23 @@
+-- The statuses of the answer to a job.
+use Rattle.std.specs.Prelude.{ℕ, List, ⊤}
+use Rattle.batch_tool.specs.Prove.{IsJobAnswer}
+use Rattle.batch_tool.specs.declared.job.SwapTable.{SwapTable}
+use Rattle.batch_tool.specs.declared.top.Status.{Status}
+use Rattle.batch_tool.specs.declared.top.Status.TheVariants.{Done, Refused, Usage, BadInput, ReadFault, WriteFault, OutOfMemory, TooLarge}
+
+-- the command did its work, or refused its input
+abbrev pub IsJobStatus : Status → Type 0
+IsJobStatus Done = ⊤
+IsJobStatus Refused = ⊤
+IsJobStatus other = ⊥
+
+pub job-status : (table : SwapTable) (status : Status) (text : List ℕ) → IsJobAnswer table status text → IsJobStatus status
+unfolding IsJobAnswer
+job-status table Done text a = tt
+job-status table Refused text a = tt
+job-status table Usage text a = a
+job-status table BadInput text a = a
+job-status table ReadFault text a = a
+job-status table WriteFault text a = a
+job-status table OutOfMemory text a = a
+job-status table TooLarge text a = a

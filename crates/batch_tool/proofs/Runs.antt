@@ -1,0 +1,92 @@
+-- What a run answers, from what its parts do.
+use Rattle.std.proofs.Common.{◌≡◌, ℕ, ◌<◌, ◌≤◌, List, [], ◌∷◌, length, take, get_or, refl, sym, ap, subst, arith, map, String, Global, Option, Vec, Result, Ok, Err}
+use Rattle.std.specs.Prelude.{string_bytes, IfOk, ⊤}
+use Rattle.std.specs.Io.KnownBytes.{Consumes, Appends, IsAtEnd}
+use Rattle.std.specs.declared.alloc.AllocError.{AllocError}
+use Rattle.batch_tool.specs.Texts.{line_text}
+use Rattle.batch_tool.specs.Job.{JobWithin, job_words}
+use Rattle.batch_tool.specs.Prove.{IsJobAnswer}
+use Rattle.batch_tool.specs.Answer.{Names, IsProveAnswer, IsCommandAnswer, Answers, IsOutcome, Outcome}
+use Rattle.batch_tool.specs.declared.command.Command.{Command}
+use Rattle.batch_tool.specs.declared.command.Command.TheVariants.{Prove}
+use Rattle.batch_tool.specs.declared.job.Job.{Job}
+use Rattle.batch_tool.specs.declared.job.TheConstants.{MOST_LOG_ROWS}
+use Rattle.batch_tool.specs.declared.top.Status.{Status}
+use Rattle.batch_tool.specs.declared.top.Status.TheVariants.{Done, Refused, Usage, BadInput, ReadFault, WriteFault, OutOfMemory, TooLarge}
+use Rattle.batch_tool.proofs.JobAnswers.{job-status}
+
+-- one word
+pub one-word : (ws : List (String Global)) (w : String Global) → 1 ≤ length ws → length ws < 2 → w ≡ get_or ws 0 w → map string_bytes ws ≡ string_bytes w ∷ []
+one-word [] w a b e = absurd (omega arith)
+one-word (x ∷ []) w a b e = ap (λ (t : String Global). string_bytes t ∷ []) (sym e)
+one-word (x ∷ y ∷ ws) w a b e = absurd (omega arith)
+
+-- the answer to a job is the answer of `prove`
+pub prove-answers : (bytes : List ℕ) (job : Job) (status : Status) (text : List ℕ) → JobWithin MOST_LOG_ROWS job → bytes ≡ line_text (job_words job)
+    → IsJobAnswer job.table status text → IsProveAnswer bytes status text
+prove-answers bytes job Done text fits e a = (job, fits, e, a)
+prove-answers bytes job Refused text fits e a = (job, fits, e, a)
+prove-answers bytes job Usage text fits e a = (job, fits, e, a)
+prove-answers bytes job BadInput text fits e a = absurd (job-status job.table BadInput text a)
+prove-answers bytes job ReadFault text fits e a = (job, fits, e, a)
+prove-answers bytes job WriteFault text fits e a = (job, fits, e, a)
+prove-answers bytes job OutOfMemory text fits e a = (job, fits, e, a)
+prove-answers bytes job TooLarge text fits e a = (job, fits, e, a)
+
+pub prove-answers-ok : (bytes : List ℕ) (job : Job) (r : Result (Status × Vec ℕ Global) AllocError) → JobWithin MOST_LOG_ROWS job → bytes ≡ line_text (job_words job)
+    → IfOk r (λ p. IsJobAnswer job.table p.0 p.1.items) → IfOk r (λ p. IsProveAnswer bytes p.0 p.1.items)
+prove-answers-ok bytes job (Ok p) fits e a = prove-answers bytes job p.0 p.1.items fits e a
+prove-answers-ok bytes job (Err x) fits e a = tt
+
+-- the statuses of a command's answer
+abbrev pub IsAnswerStatus : Status → Type 0
+IsAnswerStatus Done = ⊤
+IsAnswerStatus Refused = ⊤
+IsAnswerStatus BadInput = ⊤
+IsAnswerStatus other = ⊥
+
+pub answer-status : (command : Command) (bytes : List ℕ) (status : Status) (text : List ℕ) → IsCommandAnswer command bytes status text → IsAnswerStatus status
+answer-status Prove bytes Done text a = tt
+answer-status Prove bytes Refused text a = tt
+answer-status Prove bytes BadInput text a = tt
+answer-status Prove bytes Usage text a = job-status a.0.table Usage text a.3
+answer-status Prove bytes ReadFault text a = job-status a.0.table ReadFault text a.3
+answer-status Prove bytes WriteFault text a = job-status a.0.table WriteFault text a.3
+answer-status Prove bytes OutOfMemory text a = job-status a.0.table OutOfMemory text a.3
+answer-status Prove bytes TooLarge text a = job-status a.0.table TooLarge text a.3
+
+-- a fault is no command's answer
+pub no-answer : (command : Command) (bytes : List ℕ) (status fault : Status) (text : List ℕ) → (IsAnswerStatus fault → ⊥)
+    → IsCommandAnswer command bytes status text → status ≡ fault → ⊥
+no-answer command bytes status fault text none a e = none (subst (λ (s : Status). IsAnswerStatus s) e (answer-status command bytes status text a))
+
+-- the answer of a command, for an input that was read to its end
+pub command-answers : (most : ℕ) (words : List (List ℕ)) (read : List ℕ) (ended : Type 0) (command : Command) (status : Status) (text : List ℕ)
+    → Names words command → ended → length read ≤ most → IsCommandAnswer command read status text → Answers most words read ended status text
+command-answers most words read ended command Done text n end few a = (end, few, (command, n, a))
+command-answers most words read ended command Refused text n end few a = (end, few, (command, n, a))
+command-answers most words read ended command Usage text n end few a = absurd (answer-status command read Usage text a)
+command-answers most words read ended command BadInput text n end few a = (end, few, (command, n, a))
+command-answers most words read ended command ReadFault text n end few a = absurd (answer-status command read ReadFault text a)
+command-answers most words read ended command WriteFault text n end few a = absurd (answer-status command read WriteFault text a)
+command-answers most words read ended command OutOfMemory text n end few a = absurd (answer-status command read OutOfMemory text a)
+command-answers most words read ended command TooLarge text n end few a = absurd (answer-status command read TooLarge text a)
+
+-- an answer that was written whole
+pub written-whole : (most : ℕ) (words : List (List ℕ)) (read : List ℕ) (ended : Type 0) (status : Status) (text : List ℕ)
+    → IsAnswerStatus status → Answers most words read ended status text → IsOutcome most words read ended text status
+written-whole most words read ended Done text s a = a
+written-whole most words read ended Refused text s a = a
+written-whole most words read ended Usage text s a = absurd s
+written-whole most words read ended BadInput text s a = a
+written-whole most words read ended ReadFault text s a = absurd s
+written-whole most words read ended WriteFault text s a = absurd s
+written-whole most words read ended OutOfMemory text s a = absurd s
+written-whole most words read ended TooLarge text s a = absurd s
+
+-- an answer that was not written whole
+pub cut-short : (most : ℕ) (words : List (List ℕ)) (left left_new written written_new : Option (List ℕ)) (status : Status) (read text : List ℕ) (n : ℕ)
+    → Consumes left left_new read → Answers most words read (IsAtEnd left_new) status text → n < length text → Appends written written_new (take n text)
+    → Outcome most words left left_new written written_new WriteFault
+cut-short most words left left_new written written_new status read text n c a short w =
+    record { read = read; consumed = c; wrote = take n text; appended = w; outcome = (status, text, a, (n, short, refl)) }

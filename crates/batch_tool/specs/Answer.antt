@@ -1,0 +1,72 @@
+-- What a run answers.
+use Rattle.std.specs.Prelude.{◌≡◌, ◌≤◌, ◌<◌, ℕ, List, [], ◌∷◌, length, take, codes, Option}
+use Rattle.std.specs.Io.KnownBytes.{Consumes, Appends, IsAtEnd}
+use Rattle.batch_tool.specs.Texts.{line_text}
+use Rattle.batch_tool.specs.WholeText.{IsNoText}
+use Rattle.batch_tool.specs.Job.{JobWithin, job_words}
+use Rattle.batch_tool.specs.Prove.{IsJobAnswer}
+use Rattle.batch_tool.specs.declared.command.Command.{Command}
+use Rattle.batch_tool.specs.declared.command.Command.TheVariants.{Prove}
+use Rattle.batch_tool.specs.declared.job.Job.{Job}
+use Rattle.batch_tool.specs.declared.job.TheConstants.{MOST_LOG_ROWS}
+use Rattle.batch_tool.specs.declared.top.Status.{Status}
+use Rattle.batch_tool.specs.declared.top.Status.TheVariants.{Done, Refused, Usage, BadInput, ReadFault, WriteFault, OutOfMemory, TooLarge}
+
+-- the words name this command
+abbrev pub Names : List (List ℕ) → Command → Type 0
+Names words Prove = words ≡ codes "prove" ∷ []
+
+-- the words name some command
+abbrev pub NamesSome : List (List ℕ) → Type 0
+NamesSome words = (command : Command) × Names words command
+
+-- the status and the text of `prove` for all the bytes of an input
+abbrev pub IsProveAnswer : List ℕ → Status → List ℕ → Type 0
+IsProveAnswer bytes BadInput text = IsNoText (JobWithin MOST_LOG_ROWS) job_words bytes × (text ≡ codes "bad input\n")
+IsProveAnswer bytes status text = (job : Job) × JobWithin MOST_LOG_ROWS job × (bytes ≡ line_text (job_words job)) × IsJobAnswer job.table status text
+
+-- the status and the text of a command for all the bytes of an input
+abbrev pub IsCommandAnswer : Command → List ℕ → Status → List ℕ → Type 0
+IsCommandAnswer Prove bytes status text = IsProveAnswer bytes status text
+
+-- the status and the text for these words and all the bytes of an input
+abbrev pub IsAnswer : List (List ℕ) → List ℕ → Status → List ℕ → Type 0
+IsAnswer words bytes Usage text = (NamesSome words → ⊥) × (text ≡ codes "usage: batch_tool prove | verify | demo N\n")
+IsAnswer words bytes status text = (command : Command) × Names words command × IsCommandAnswer command bytes status text
+
+-- The status and the text of a run that read these bytes: where the words name no command none was read, and else all were,
+-- up to the end of the input, and they were not too many.
+abbrev pub Answers : (most : ℕ) (words : List (List ℕ)) (read : List ℕ) (ended : Type 0) → Status → List ℕ → Type 0
+Answers most words read ended Usage text = (read ≡ []) × IsAnswer words [] Usage text
+Answers most words read ended status text = ended × (length read ≤ most) × IsAnswer words read status text
+
+-- what was written is the front of a text, and not all of it
+abbrev pub IsCutShort : List ℕ → List ℕ → Type 0
+IsCutShort written text = (n : ℕ) × (n < length text) × (written ≡ take n text)
+
+-- What a run did that read these bytes and wrote those, by its status: in every case but four the whole text was written.
+abbrev pub IsOutcome : (most : ℕ) (words : List (List ℕ)) (read : List ℕ) (ended : Type 0) (written : List ℕ) → Status → Type 0
+IsOutcome most words read ended written ReadFault = NamesSome words × (length read ≤ most) × (written ≡ [])
+IsOutcome most words read ended written OutOfMemory = NamesSome words × (written ≡ [])
+IsOutcome most words read ended written TooLarge = NamesSome words × (most < length read) × (written ≡ [])
+IsOutcome most words read ended written WriteFault = (status : Status) × (text : List ℕ) × Answers most words read ended status text × IsCutShort written text
+IsOutcome most words read ended written status = Answers most words read ended status written
+
+-- what a run took of the bytes that were left, and put behind what was written
+pub record Outcome (most : ℕ) (words : List (List ℕ)) (left left_new written written_new : Option (List ℕ)) (status : Status) : Type 0 where
+  pub read : List ℕ
+  pub consumed : Consumes left left_new read
+  pub wrote : List ℕ
+  pub appended : Appends written written_new wrote
+  pub outcome : IsOutcome most words read (IsAtEnd left_new) wrote status
+
+-- the exit status
+abbrev pub status_number : Status → ℕ
+status_number Done = 0
+status_number Refused = 1
+status_number Usage = 2
+status_number BadInput = 3
+status_number ReadFault = 4
+status_number WriteFault = 5
+status_number OutOfMemory = 6
+status_number TooLarge = 7

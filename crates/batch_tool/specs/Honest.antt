@@ -1,0 +1,147 @@
+-- The honest proof of one table, part by part in the script's order.
+use Rattle.std.specs.Prelude.{◌≡◌, ℕ, ◌+◌, ◌^◌, ◌<◌, List, [], ◌∷◌, ◌++◌, length, map, get_or, Bool, true, false, Option, Some, None}
+use Rattle.p3_field.specs.Ring.{Ring, of_nat}
+use Rattle.p3_field.specs.Field.{TwoAdic, Extension}
+use Rattle.p3_field.specs.Poly.{val, val_in, table}
+use Rattle.p3_field.specs.Domain.{CosetData, point, van}
+use Rattle.p3_matrix.specs.Matrix.{Rows}
+use Rattle.batch_tool.specs.Tree.{Tree, ev}
+use Rattle.batch_tool.specs.Fold.{fold}
+use Rattle.batch_tool.specs.Reading.{reading, itself}
+use Rattle.batch_tool.specs.Plain.{evaluations, AreInterpolants, commitment_elements}
+use Rattle.batch_tool.specs.Script.{ChallengerOf, Transcript, Played, observe_all, play, begun, passes}
+use Rattle.batch_tool.specs.Separator.{encoding}
+use Rattle.batch_tool.specs.BatchScript.{BatchShape, single_shape, separator, script_to_alpha, script_of_quotient, script_from_grinding}
+use Rattle.batch_tool.specs.Proof.{ProofData, OpenedData}
+
+-- what fixes a prover and a verifier: the fields, the challenger with its first state, the number of values that a grinding value
+-- may have, the backend's blowup and the bits of the grinding before zeta
+pub record Configuration (S F E : Type 0) : Type 0 where
+  pub field : TwoAdic F
+  pub extension : Extension F E
+  pub challenger : ChallengerOf S F
+  pub initial : S
+  pub order : ℕ
+  pub log_blowup : ℕ
+  pub ood_pow_bits : ℕ
+
+-- a table to be proved: its AIR's constraint trees, its trace column by column, its public values and the logarithm of its height
+pub record Instance (F : Type 0) : Type 0 where
+  pub trees : List (Tree F)
+  pub columns : List (List F)
+  pub publics : List F
+  pub log_height : ℕ
+
+-- the challenger's state behind the separator's encoding, each byte observed as one base element
+unfoldable pub seeded_state : {S F E : Type 0} → Configuration S F E → BatchShape → S
+seeded_state c shape = observe_all c.challenger c.initial (map (of_nat c.field.ring) (encoding (separator c.extension.dimension shape)))
+
+module _ {S F E : Type 0} (c : Configuration S F E) (table' : Instance F) where
+  abbrev pub trace_domain : CosetData F
+  trace_domain = record { shift = c.field.ring.one; log_size = table'.log_height }
+
+  -- for constraints of degree two there is one quotient chunk, on a domain of the trace's size
+  abbrev pub quotient_domain : CosetData F
+  quotient_domain = record { shift = c.field.generator; log_size = table'.log_height }
+
+  -- where the backend's commitments hold the values
+  abbrev pub commitment_domain : CosetData F
+  commitment_domain = record { shift = c.field.generator; log_size = table'.log_height + c.log_blowup }
+
+  abbrev pub shape : BatchShape
+  shape = single_shape (length table'.columns) (length table'.publics) c.ood_pow_bits
+
+  -- the transcript before the first step
+  abbrev pub seeded : Transcript S F
+  seeded = begun F (seeded_state c shape)
+
+  unfoldable pub degree_bits_elements : List F
+  degree_bits_elements = c.extension.parts (of_nat c.extension.ring table'.log_height)
+
+  -- the transcript behind alpha's draw, for this main commitment
+  unfoldable pub behind_alpha : Rows F → Transcript S F
+  behind_alpha main =
+      play c.challenger seeded
+      (script_to_alpha c.extension.dimension (degree_bits_elements ∷ []) (commitment_elements c.field.ring (main ∷ [])) (table'.publics ∷ []))
+
+  -- a challenge as it was drawn, by its number
+  abbrev pub drawn : Transcript S F → ℕ → E
+  drawn t i = c.extension.whole (get_or t.challenges i [])
+
+  abbrev pub alpha : Rows F → E
+  alpha main = drawn (behind_alpha main) 0
+
+  -- the transcript at the grinding before zeta
+  unfoldable pub before_grinding : Rows F → Rows F → Transcript S F
+  before_grinding main quotient =
+      play c.challenger (behind_alpha main) (script_of_quotient (commitment_elements c.field.ring (quotient ∷ [])))
+
+  -- the whole transcript, with the grinding value n
+  unfoldable pub whole_transcript : Rows F → Rows F → ℕ → Transcript S F
+  whole_transcript main quotient n =
+      play c.challenger (before_grinding main quotient) (script_from_grinding c.extension.dimension c.ood_pow_bits (of_nat c.field.ring n))
+
+  abbrev pub zeta : Rows F → Rows F → ℕ → E
+  zeta main quotient n = drawn (whole_transcript main quotient n) 1
+
+  -- whether the number n passes the grinding
+  abbrev pub number_passes : Rows F → Rows F → ℕ → Bool
+  number_passes main quotient n = passes c.challenger (before_grinding main quotient).state c.ood_pow_bits (of_nat c.field.ring n ∷ [])
+
+  -- the quotient's value at a point u: the fold by alpha of the trees' values there, over Van's value
+  unfoldable pub quotient_value : List (List F) → E → F → E
+  quotient_value columns a u =
+      c.extension.ring.mul
+      (fold c.extension.ring a (map (λ t. c.extension.embed (ev c.field.ring (λ x. x) (reading c.field (itself c.field.ring) trace_domain columns table'.publics u) t)) table'.trees))
+      (c.extension.embed (c.field.inv (val c.field.ring (van c.field.ring c.field.inv trace_domain) u)))
+
+  -- the quotient's values on its domain, as a column for each basis element
+  unfoldable pub quotient_columns : List (List F) → E → List (List F)
+  quotient_columns columns a =
+      table c.extension.dimension (λ e. table (2 ^ table'.log_height) (λ i.
+      get_or (c.extension.parts (quotient_value columns a (point c.field.ring c.field.root quotient_domain i))) e c.field.ring.zero))
+
+  -- the committed polynomials and their commitments: the trace's interpolants, and the quotient's on its domain
+  pub record IsCommitted (columns : List (List F)) (main : Rows F) (chunk : List (List F)) (quotient : Rows F) : Type 0 where
+    pub columns_are : AreInterpolants c.field trace_domain table'.columns columns
+    pub main_is : main ≡ evaluations c.field commitment_domain columns
+    pub chunk_are : AreInterpolants c.field quotient_domain (quotient_columns columns (alpha main)) chunk
+    pub quotient_is : quotient ≡ evaluations c.field commitment_domain chunk
+
+  -- the least number that passes the grinding
+  pub record IsGround (main quotient : Rows F) (n : ℕ) : Type 0 where
+    pub below_order : n < c.order
+    pub passing : number_passes main quotient n ≡ true
+    pub least : (m : ℕ) → m < n → number_passes main quotient m ≡ false
+
+  -- a point above F lies in the trace domain
+  abbrev pub IsInTraceDomain : E → Type 0
+  IsInTraceDomain z = (i : ℕ) × (i < 2 ^ table'.log_height) × (z ≡ c.extension.embed (point c.field.ring c.field.root trace_domain i))
+
+  abbrev pub opened_at : List (List F) → E → List E
+  opened_at fs x = map (λ f. val_in c.extension f x) fs
+
+  abbrev pub next_point : E → E
+  next_point x = c.extension.ring.mul (c.extension.embed (c.field.root table'.log_height)) x
+
+  -- the honest proof from what is committed, the grinding value and zeta
+  unfoldable pub honest_proof : (columns : List (List F)) (main : Rows F) (chunk : List (List F)) (quotient : Rows F) → ℕ → ProofData F E
+  honest_proof columns main chunk quotient n = let z = zeta main quotient n in record {
+    main = main ∷ [];
+    permutation = None;
+    quotient_chunks = quotient ∷ [];
+    random = None;
+    instances = record {
+      trace_local = opened_at columns z;
+      trace_next = Some (opened_at columns (next_point z));
+      preprocessed = None;
+      quotient_chunks = opened_at chunk z ∷ [];
+      random = None;
+      permutation_local = [];
+      permutation_next = [];
+    } ∷ [];
+    lookup_terminals = None ∷ [];
+    degree_bits = table'.log_height ∷ [];
+    lookup_pow_witness = None;
+    ood_pow_witness = of_nat c.field.ring n;
+  }

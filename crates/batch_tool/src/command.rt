@@ -1,0 +1,22 @@
+// The commands that a program's words name.
+ghost use Rattle.std.specs.Prelude.{map, string_bytes, MatchOption};
+ghost use Rattle.batch_tool.specs.Answer.{Names};
+
+/// What the program is to do.
+#[derive(Clone, Copy, Debug, PartialEq, Eq)]
+pub enum Command {
+    /// `prove`: reads a job, and writes its proof.
+    Prove,
+}
+
+impl Command {
+    /// The command that these words name, if they name one.
+    pub fn from_words(words: &[String]) -> Option<Self>
+        ensures { MatchOption result ((c : _) → Names (map string_bytes words.now) c → ⊥) (λ c. Names (map string_bytes words.now) c) }
+    {
+        match words {
+            [word] if word.as_str() == "prove" => Some(Command::Prove),
+            _ => None,
+        }
+    }
+}

@@ -1,0 +1,111 @@
+// Jobs: the tables that are to be proved.
+ghost use Rattle.std.specs.Prelude.{◌≡◌};
+ghost use Rattle.batch_tool.specs.WholeText.{ReadsText};
+ghost use Rattle.batch_tool.specs.Job.{JobWithin, job_words};
+
+use crate::items::Item;
+use crate::parse::{TextError, read_text};
+use crate::texts::{ItemError, Reader, push_number};
+use p3_field::BabyBear;
+use std::alloc::{AllocError, Global};
+
+/// The most that the base-2 logarithm of a table's rows may be.
+pub const MOST_LOG_ROWS: u32 = 10;
+
+/// The first line of a swap table's text.
+pub const SWAP_TAG: u32 = 1;
+
+/// The number of a job's tables.
+const TABLES: u32 = 1;
+
+/// A swap table: 2^`log_rows` rows of two cells, (a, b) in the rows of even number and (b, a) in those of odd number.
+#[derive(Clone, Copy, Debug, PartialEq, Eq)]
+pub struct SwapTable {
+    pub log_rows: u8,
+    pub a: BabyBear,
+    pub b: BabyBear,
+}
+
+impl SwapTable {
+    ghost use Rattle.batch_tool.specs.Swap.{last_right};
+
+    /// The right cell of the last row: b in a table of one row, else a.
+    pub fn last_right(&self) -> BabyBear
+        ensures { result ≡ last_right self.now.log_rows self.now.a self.now.b }
+    {
+        if self.log_rows == 0 { self.b } else { self.a }
+    }
+}
+
+/// Four lines: the tag 1, the base-2 logarithm of the rows, which is at most [`MOST_LOG_ROWS`], a, and b.
+impl Item for SwapTable {
+    ghost use Rattle.batch_tool.specs.declared.job.TheConstants.{MOST_LOG_ROWS};
+    ghost use Rattle.batch_tool.specs.Job.{SwapWithin, swap_words};
+    ghost use Rattle.batch_tool.specs.Laws.Jobs.{swap-grammar};
+    ghost use Rattle.std.proofs.Common.{lit<};
+
+    ghost within = { SwapWithin MOST_LOG_ROWS };
+
+    ghost words = { swap_words };
+
+    ghost grammar = { swap-grammar MOST_LOG_ROWS (lit< tt) };
+
+    fn read(alloc: Global, reader: &mut Reader) -> Result<Self, ItemError> {
+        reader.number(SWAP_TAG, SWAP_TAG)?;
+        let log_rows = reader.number(0, MOST_LOG_ROWS)?;
+        let a = BabyBear::read(alloc, reader)?;
+        let b = BabyBear::read(alloc, reader)?;
+        Ok(SwapTable {
+            log_rows: log_rows as u8,
+            a,
+            b,
+        })
+    }
+
+    fn print(&self, out: &mut Vec<u8>) -> Result<(), AllocError> {
+        push_number(out, SWAP_TAG as u64)?;
+        push_number(out, self.log_rows as u64)?;
+        self.a.print(out)?;
+        self.b.print(out)
+    }
+}
+
+/// A job: one swap table.
+#[derive(Clone, Copy, Debug, PartialEq, Eq)]
+pub struct Job {
+    pub table: SwapTable,
+}
+
+/// A list of tables: the line 1, and the table.
+impl Item for Job {
+    ghost use Rattle.batch_tool.specs.declared.job.TheConstants.{MOST_LOG_ROWS};
+    ghost use Rattle.batch_tool.specs.Job.{JobWithin, job_words};
+    ghost use Rattle.batch_tool.specs.Laws.Jobs.{job-grammar};
+    ghost use Rattle.std.proofs.Common.{lit<};
+
+    ghost within = { JobWithin MOST_LOG_ROWS };
+
+    ghost words = { job_words };
+
+    ghost grammar = { job-grammar MOST_LOG_ROWS (lit< tt) };
+
+    fn read(alloc: Global, reader: &mut Reader) -> Result<Self, ItemError> {
+        reader.number(TABLES, TABLES)?;
+        let table = SwapTable::read(alloc, reader)?;
+        Ok(Job { table })
+    }
+
+    fn print(&self, out: &mut Vec<u8>) -> Result<(), AllocError> {
+        push_number(out, TABLES as u64)?;
+        self.table.print(out)
+    }
+}
+
+/// Reads the job whose text the bytes are.
+///
+/// It is `Malformed` exactly where they are no job's text.
+pub fn read_job(alloc: Global, bytes: &[u8]) -> Result<Job, TextError>
+    ensures { ReadsText (JobWithin MOST_LOG_ROWS) job_words bytes.now result }
+{
+    read_text(alloc, bytes)
+}

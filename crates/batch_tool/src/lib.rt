@@ -1,0 +1,30 @@
+//! The program's layers: its ends, its texts, its prover and its top call.
+#![tactic(auto)]
+
+mod command;
+mod ends;
+mod first_form;
+mod fixed;
+mod items;
+mod job;
+mod memory;
+mod openings;
+mod parse;
+mod plain_pcs;
+mod proof;
+mod proof_file;
+mod prove;
+mod quotient;
+mod script;
+mod streams;
+mod texts;
+mod top;
+mod trace;
+mod transcript;
+mod whole;
+
+pub use ends::{Failed, InputError, Sink, Source};
+pub use memory::{MemorySink, MemorySource};
+pub use streams::{StdSink, StdSource};
+pub use top::{Status, run};
+pub use whole::{MAX_BYTES, read_whole, write_whole};

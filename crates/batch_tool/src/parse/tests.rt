@@ -1,0 +1,73 @@
+// Texts that are read back, and the lines of faults.
+use super::*;
+use crate::items::{print_list, print_option, read_list, read_option};
+use crate::job::{Job, SwapTable, read_job};
+use p3_field::{BabyBear, QuarticExtension, RingCore};
+use std::test::Fail;
+
+#[test]
+fn a_job_is_read_back(rt: HostRuntime) -> Result<(), Fail> {
+    let alloc = rt.alloc();
+    let mut text = Vec::new(alloc);
+    let job = Job {
+        table: SwapTable {
+            log_rows: 0,
+            a: BabyBear::from_u64(5),
+            b: BabyBear::from_u64(2_013_265_920),
+        },
+    };
+    job.print(&mut text)?;
+    assert_eq!(rt; text.as_slice(), b"1\n1\n0\n5\n2013265920\n".as_slice());
+    assert_eq!(rt; read_job(alloc, &text), Ok(job));
+    Ok(())
+}
+
+#[test]
+fn a_fault_has_its_line(rt: HostRuntime) -> Result<(), Fail> {
+    let faults = [
+        ("", 1),
+        ("2\n", 1),
+        ("1\n1\n03\n0\n1\n", 3),
+        ("1\n1\n0\n2013265921\n1\n", 4),
+        ("1\n1\n0\n", 4),
+        ("1\n1\n0\n5\n7", 5),
+        ("1\n1\n0\n5\n7\n7\n", 6),
+    ];
+    for (text, line) in faults {
+        let answer = read_job(rt.alloc(), text.as_bytes());
+        assert_eq!(rt; answer, Err(TextError::Malformed { line }), "of {text:?}");
+    }
+    Ok(())
+}
+
+#[test]
+fn lists_and_absent_values_are_read_back(rt: HostRuntime) -> Result<(), Fail> {
+    let alloc = rt.alloc();
+    let x = QuarticExtension {
+        c0: BabyBear::from_u64(1),
+        c1: BabyBear::from_u64(20),
+        c2: BabyBear::from_u64(0),
+        c3: BabyBear::from_u64(2_013_265_922),
+    };
+    let mut text = Vec::new(alloc);
+    print_list(&[x, x], &mut text)?;
+    print_option(&Some(x), &mut text)?;
+    print_option::<QuarticExtension>(&None, &mut text)?;
+    assert_eq!(rt;
+        text.as_slice(),
+        b"2\n1\n20\n0\n1\n1\n20\n0\n1\n1\n1\n20\n0\n1\n0\n".as_slice()
+    );
+    let mut reader = Reader::new(&text);
+    assert!(rt; read_list::<QuarticExtension>(alloc, &mut reader, 3, 9).is_err());
+    let list = read_list::<QuarticExtension>(alloc, &mut reader, 0, 2)
+        .ok()
+        .ok_or("a list")?;
+    assert_eq!(rt; list.as_slice(), [x, x].as_slice());
+    assert_eq!(rt; read_option(alloc, &mut reader), Ok(Some(x)));
+    assert_eq!(rt;
+        read_option::<QuarticExtension>(alloc, &mut reader),
+        Ok(None)
+    );
+    assert_eq!(rt; reader.rest(), b"".as_slice());
+    Ok(())
+}

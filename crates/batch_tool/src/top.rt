@@ -1,0 +1,112 @@
+// The top call.
+ghost use Rattle.std.specs.Prelude.{◌≡◌, ◌≤◌, IfOk, map, string_bytes};
+ghost use Rattle.batch_tool.specs.Causes.{Rose};
+ghost use Rattle.batch_tool.specs.Answer.{IsCommandAnswer, IsProveAnswer, Outcome, status_number};
+
+use crate::command::Command;
+use crate::ends::{Failed, InputError, Sink, Source};
+use crate::job::read_job;
+use crate::parse::TextError;
+use crate::prove::prove;
+use crate::whole::{MAX_BYTES, read_whole, write_whole};
+use p3_field::Mem;
+use std::alloc::{AllocError, Global};
+
+/// How a run ended.
+#[derive(Clone, Copy, Debug, PartialEq, Eq)]
+pub enum Status {
+    /// The command did its work.
+    Done,
+    /// The command refused its input.
+    Refused,
+    /// The words name no command. Nothing was read.
+    Usage,
+    /// The bytes of the input, read to their end, are no text of the command's grammar.
+    BadInput,
+    /// The source's count of faults rose. Nothing was written.
+    ReadFault,
+    /// The sink's count of faults rose. A part of the text was written, its front.
+    WriteFault,
+    /// Memory was wanting. Nothing was written.
+    OutOfMemory,
+    /// The input has more than [`MAX_BYTES`] bytes. Nothing was written.
+    TooLarge,
+}
+
+impl Status {
+    /// The exit status: 0 for `Done` up to 7 for `TooLarge`.
+    pub fn number(self) -> u8
+        ensures { result ≡ status_number self }
+    {
+        self as u8
+    }
+}
+
+const USAGE: &[u8] = b"usage: batch_tool prove | verify | demo N\n";
+
+const BAD_INPUT: &[u8] = b"bad input\n";
+
+/// Does what the words say, which are those after the program's name: reads the input where they name a command,
+/// and then writes one text.
+///
+/// The text is built whole before the first write. The words `prove` read a job and answer it. All others are `Usage`.
+pub fn run<S: Source, K: Sink>(
+    alloc: Global,
+    words: &[String],
+    source: &mut S,
+    sink: &mut K,
+) -> Status
+    ensures outcome { Outcome MAX_BYTES (map string_bytes words.now) (S.left source.old) (S.left source.new)
+        (K.written sink.old) (K.written sink.new) result }
+
+    // The counts never fall, and a fault is answered only where one rose.
+    ensures reads_later { S.faults source.old ≤ S.faults source.new }
+    ensures writes_later { K.faults sink.old ≤ K.faults sink.new }
+    ensures read_fault { result ≡ Status.ReadFault → Rose (S.faults source.old) (S.faults source.new) }
+    ensures write_fault { result ≡ Status.WriteFault → Rose (K.faults sink.old) (K.faults sink.new) }
+{
+    let Some(command) = Command::from_words(words) else {
+        return match write_whole(sink, USAGE) {
+            Ok(()) => Status::Usage,
+            Err(Failed) => Status::WriteFault,
+        };
+    };
+    let bytes = match read_whole(alloc, source) {
+        Ok(bytes) => bytes,
+        Err(InputError::ReadFault) => return Status::ReadFault,
+        Err(InputError::TooLarge) => return Status::TooLarge,
+        Err(InputError::OutOfMemory) => return Status::OutOfMemory,
+    };
+    let Ok((status, text)) = answer(alloc, command, &bytes) else {
+        return Status::OutOfMemory;
+    };
+    match write_whole(sink, &text) {
+        Ok(()) => status,
+        Err(Failed) => Status::WriteFault,
+    }
+}
+
+/// The status and the text of a command for all the bytes of an input.
+fn answer(alloc: Global, command: Command, bytes: &[u8]) -> Mem<(Status, Vec<u8>)>
+    ensures { IfOk result (λ p. IsCommandAnswer command bytes.now p.0 p.1.items) }
+{
+    match command {
+        Command::Prove => answer_prove(alloc, bytes),
+    }
+}
+
+/// The same of `prove`.
+fn answer_prove(alloc: Global, bytes: &[u8]) -> Mem<(Status, Vec<u8>)>
+    ensures { IfOk result (λ p. IsProveAnswer bytes.now p.0 p.1.items) }
+{
+    match read_job(alloc, bytes) {
+        Ok(job) => prove(alloc, &job.table),
+        Err(TextError::Malformed { line: _ }) => {
+            Ok((Status::BadInput, BAD_INPUT.to_vec(alloc)?))
+        }
+        Err(TextError::OutOfMemory) => Err(AllocError),
+    }
+}
+
+#[cfg(test)]
+mod tests;

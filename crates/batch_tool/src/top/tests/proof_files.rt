@@ -1,0 +1,92 @@
+// Runs of `prove` whose whole output another program, written apart from this one, gives.
+use super::*;
+
+/// The proof file of one row, (5, 7).
+const ONE_ROW: &str =
+    "1\n1\n1\n0\n5\n7\n7\n1\n2\n2\n5\n7\n5\n7\n0\n1\n4\n2\n1204566872\n118454515\n622633673\n256301273\n\
+    1204566872\n118454515\n622633673\n256301273\n0\n1\n2\n5\n0\n0\n0\n7\n0\n0\n0\n1\n2\n5\n0\n0\n0\n7\n\
+    0\n0\n0\n0\n1\n4\n1204566872\n0\n0\n0\n118454515\n0\n0\n0\n622633673\n0\n0\n0\n256301273\n0\n0\n0\n\
+    0\n0\n0\n1\n0\n1\n0\n0\n35\n";
+
+/// The proof file of four rows, the first of them (2013265920, 77).
+const FOUR_ROWS: &str =
+    "1\n1\n1\n2\n2013265920\n77\n2013265920\n1\n2\n8\n2013228480\n37517\n1984797328\n28468669\n37517\n\
+    2013228480\n28468669\n1984797328\n2013228480\n37517\n1984797328\n28468669\n37517\n2013228480\n\
+    28468669\n1984797328\n0\n1\n4\n8\n27254579\n125117349\n78789144\n1955886887\n1173396277\n\
+    1243945720\n1540287613\n128999702\n1085124660\n1292415882\n184369137\n372390275\n973761897\n\
+    184024752\n570177647\n621026243\n108338488\n1266822806\n932768138\n1312084045\n975462711\n\
+    147994435\n1484535590\n1125705309\n1063734328\n99524273\n827188145\n882314736\n1175097091\n\
+    1207915403\n441379635\n633678768\n0\n1\n2\n792199642\n407818363\n350197957\n1238903828\n1221066355\n\
+    1605447558\n1663067964\n774362093\n1\n2\n1221066355\n1605447558\n1663067964\n774362093\n792199642\n\
+    407818363\n350197957\n1238903828\n0\n1\n4\n1289886349\n883771965\n1043518658\n293935004\n687834135\n\
+    1617704580\n463227728\n536840015\n74513107\n1199308328\n1166143134\n1119248366\n379653161\n\
+    2012000956\n710247749\n340847669\n0\n0\n0\n1\n0\n1\n2\n0\n1\n";
+
+/// The proof file of eight rows, the first of them (0, 1).
+const EIGHT_ROWS: &str =
+    "1\n1\n1\n3\n0\n1\n0\n1\n2\n16\n2012804161\n461761\n10607289\n2002658633\n461761\n2012804161\n\
+    2002658633\n10607289\n2012804161\n461761\n10607289\n2002658633\n461761\n2012804161\n2002658633\n\
+    10607289\n2012804161\n461761\n10607289\n2002658633\n461761\n2012804161\n2002658633\n10607289\n\
+    2012804161\n461761\n10607289\n2002658633\n461761\n2012804161\n2002658633\n10607289\n0\n1\n4\n16\n\
+    1568638993\n362669797\n1363419737\n704341624\n1421480217\n512272935\n1982700849\n2005089949\n\
+    405741173\n1081966992\n1414068207\n1817925943\n1192498054\n1252101123\n1305628257\n286827546\n\
+    1049840159\n1936740155\n719250013\n206912116\n439251064\n1261701314\n1305647921\n312835459\n\
+    1352468395\n1368250767\n1505529099\n1531304683\n1624353041\n1875765735\n1728197963\n1531359302\n\
+    741006910\n1044117386\n1615863758\n346312688\n1315032683\n1051725467\n1998999789\n360210499\n\
+    1770133445\n448471889\n1700191331\n643773850\n889057375\n349872766\n316080295\n1511549882\n\
+    1780911507\n37163692\n28644636\n343510986\n1964633605\n554991314\n453095506\n936207428\n1612054556\n\
+    482001382\n1120655428\n1634604780\n1434489099\n1916217327\n377271629\n284606605\n0\n1\n2\n\
+    1597435214\n1966025846\n1125903859\n1802876843\n415830708\n47240075\n887362062\n210389078\n1\n2\n\
+    415830708\n47240075\n887362062\n210389078\n1597435214\n1966025846\n1125903859\n1802876843\n0\n1\n4\n\
+    1817405509\n1778475509\n1920545918\n1128192070\n1787303191\n221812578\n939606600\n1057666917\n\
+    1653752219\n59787249\n633438312\n1718235526\n717388169\n1859571393\n598658059\n1384290527\n0\n0\n0\n\
+    1\n0\n1\n3\n0\n15\n";
+
+#[test]
+fn a_job_gets_its_one_proof_file(rt: HostRuntime) -> Result<(), Fail> {
+    let jobs = [
+        ("1\n1\n0\n5\n7\n", ONE_ROW),
+        ("1\n1\n2\n2013265920\n77\n", FOUR_ROWS),
+        ("1\n1\n3\n0\n1\n", EIGHT_ROWS),
+    ];
+    for (job, file) in jobs {
+        answers(&rt, rt.alloc(), &["prove"], job, 0, file)?;
+    }
+    Ok(())
+}
+
+/// The 64-bit FNV-1a hash of bytes.
+fn fnv_1a(bytes: &[u8]) -> u64 {
+    let mut hash: u64 = 0xcbf2_9ce4_8422_2325;
+    for byte in bytes {
+        hash = (hash ^ *byte as u64).wrapping_mul(0x100_0000_01b3);
+    }
+    hash
+}
+
+#[test]
+fn the_largest_job_gets_its_one_proof_file(rt: HostRuntime) -> Result<(), Fail> {
+    let alloc = rt.alloc();
+    let words = words_of(alloc, &["prove"])?;
+    let job = b"1\n1\n10\n12345\n678910\n".to_vec(alloc)?;
+    let mut source = MemorySource::new(job, Vec::new(alloc));
+    let mut sink = MemorySink::new(alloc, 200_000, 65_536, Vec::new(alloc))?;
+    let status = run(alloc, &words, &mut source, &mut sink);
+    assert_eq!(rt; status.number(), 0);
+    assert_eq!(rt; sink.bytes().len(), 127_914);
+    assert_eq!(rt; fnv_1a(sink.bytes()), 7950089150875013792);
+    Ok(())
+}
+
+#[test]
+fn a_proof_file_that_is_cut_short_is_a_write_fault(rt: HostRuntime) -> Result<(), Fail> {
+    let alloc = rt.alloc();
+    let words = words_of(alloc, &["prove"])?;
+    let job = b"1\n1\n3\n0\n1\n".to_vec(alloc)?;
+    let mut source = MemorySource::new(job, Vec::new(alloc));
+    let mut sink = MemorySink::new(alloc, 2000, 10, vec![in alloc; 1]?)?;
+    let status = run(alloc, &words, &mut source, &mut sink);
+    assert_eq!(rt; status.number(), 5);
+    assert_eq!(rt; sink.bytes(), b"1\n1\n1\n3\n0\n".as_slice());
+    Ok(())
+}
