@@ -1,10 +1,10 @@
 -- What is committed: lengths of interpolants, and the records that the answer of `prove` is made of.
-use Rattle.std.proofs.Common.{◌≡◌, ℕ, zero, suc, ◌+◌, ◌*◌, ◌^◌, ◌<◌, ◌≤◌, ◌↔◌, Bool, true, false, List, ◌++◌, [], ◌∷◌, length, get_or, map, refl, sym, ◌∙◌, ap, subst, arith, add-one}
+use Rattle.std.proofs.Common.{◌≡◌, ℕ, zero, suc, ◌+◌, ◌^◌, ◌<◌, ◌≤◌, Bool, true, false, List, ◌++◌, [], ◌∷◌, length, get_or, map, refl, sym, ◌∙◌, ap, subst, arith, add-one}
 use Rattle.std.specs.Prelude.{All, IsTrue}
 use Rattle.std.proofs.Math.Nat.{pow-suc}
 use Rattle.std.proofs.lemmas.List.{length-map, get_or-map}
 use Rattle.p3_field.specs.Field.{TwoAdic}
-use Rattle.p3_field.specs.Domain.{CosetData, point}
+use Rattle.p3_field.specs.Domain.{CosetData}
 use Rattle.p3_field.specs.Poly.{table}
 use Rattle.p3_field.specs.Ring.{of_nat}
 use Rattle.p3_field.specs.BabyBear.{bear_ring}
@@ -16,13 +16,12 @@ use Rattle.p3_challenger.specs.declared.sha256_challenger.Sha256Challenger.{Sha2
 use Rattle.p3_field.specs.declared.quartic.QuarticExtension.{QuarticExtension}
 use Rattle.p3_field.specs.Laws.BearField.{bear_of_canonical}
 use Rattle.batch_tool.specs.Script.{begun, play, observe_all, draw_all, passes, after_grinding}
-use Rattle.batch_tool.specs.BatchScript.{single_shape, script_to_alpha, script_from_grinding}
+use Rattle.batch_tool.specs.BatchScript.{single_shape, script_to_alpha}
 use Rattle.batch_tool.proofs.Draws.{alpha-script, quotient-script, quotient-challenges, zeta-script}
 use Rattle.batch_tool.specs.Plain.{AreInterpolants, commitment_elements, evaluations}
-use Rattle.batch_tool.specs.Honest.{Instance, IsCommitted, trace_domain, quotient_domain, commitment_domain, quotient_columns, seeded_state, seeded, behind_alpha, before_grinding, whole_transcript, number_passes, IsGround, alpha, zeta, degree_bits_elements}
-use Rattle.batch_tool.specs.Swap.{swap_instance, last_right}
+use Rattle.batch_tool.specs.Honest.{Instance, IsCommitted, trace_domain, quotient_domain, commitment_domain, quotient_columns, seeded_state, seeded, behind_alpha, before_grinding, whole_transcript, number_passes, IsGround, alpha, zeta, zeta_behind, degree_bits_elements}
+use Rattle.batch_tool.specs.Swap.{swap_stated}
 use Rattle.batch_tool.specs.Tool.{tool}
-use Rattle.batch_tool.proofs.Matrices.{length-same}
 
 pub next-power : (k : ℕ) → 2 ^ k ≤ 2 ^ (k + 1)
 next-power k = rw (add-one, pow-suc) (omega arith)
@@ -73,12 +72,12 @@ interpolants-along t d e columns others fs p q a =
     subst Q q (subst P p a)
 
 -- the transcript behind alpha's draw of a swap table
-pub behind-alpha-is : (k : ℕ) (a b : BabyBear) (old : Sha256Challenger) (main : Rows BabyBear) (mains : List (Rows BabyBear)) (publics : List BabyBear)
-    → old ≡ seeded_state tool (single_shape 2 3 4) → mains ≡ main ∷ [] → publics ≡ a ∷ b ∷ last_right k a b ∷ []
+pub behind-alpha-is : (k : ℕ) (a b x : BabyBear) (old : Sha256Challenger) (main : Rows BabyBear) (mains : List (Rows BabyBear)) (publics : List BabyBear)
+    → old ≡ seeded_state tool (single_shape 2 3 4) → mains ≡ main ∷ [] → publics ≡ a ∷ b ∷ x ∷ []
     → play tool.challenger (begun BabyBear old) (script_to_alpha 4 (quartic_parts (of_nat quartic_ring k) ∷ []) (commitment_elements bear_ring mains) (publics ∷ []))
-    ≡ behind_alpha tool (swap_instance k a b) main
-unfolding tool swap_instance behind_alpha degree_bits_elements
-behind-alpha-is k a b old main mains publics p q r =
+    ≡ behind_alpha tool (swap_stated k a b x) main
+unfolding tool swap_stated behind_alpha degree_bits_elements
+behind-alpha-is k a b x old main mains publics p q r =
     λ i. play tool.challenger (begun BabyBear (p i)) (script_to_alpha 4 (quartic_parts (of_nat quartic_ring k) ∷ []) (commitment_elements bear_ring (q i)) (r i ∷ []))
 
 -- two items by their places
@@ -88,9 +87,9 @@ two-items items (c ∷ []) x y l p q = absurd (omega arith)
 two-items items (c ∷ d ∷ []) x y l p q = λ i. items (sym p i) ∷ items (sym q i) ∷ []
 two-items items (c ∷ d ∷ e ∷ cs) x y l p q = absurd (omega arith)
 
-module _ (k : ℕ) (a b : BabyBear) (main quotient : Rows BabyBear) where
+module _ (k : ℕ) (a b x : BabyBear) (main quotient : Rows BabyBear) where
   abbrev swap : Instance BabyBear
-  swap = swap_instance k a b
+  swap = swap_stated k a b x
 
   -- what is committed, part by part
   pub all-committed : (columns polynomials chunk : List (List BabyBear)) (challenge : QuarticExtension)
@@ -110,7 +109,7 @@ module _ (k : ℕ) (a b : BabyBear) (main quotient : Rows BabyBear) where
   -- the state that the grinding begins with
   pub before-grinding-is : (old new : Sha256Challenger) (quotients : List (Rows BabyBear)) → old ≡ (behind_alpha tool swap main).state → quotients ≡ quotient ∷ []
       → new ≡ observe_all tool.challenger old (commitment_elements bear_ring quotients) → new ≡ (before_grinding tool swap main quotient).state
-  unfolding tool swap_instance before_grinding
+  unfolding tool swap_stated before_grinding
   before-grinding-is old new quotients p q e =
       e ∙ ((λ i. observe_all tool.challenger (p i) (commitment_elements bear_ring (q i)))
       ∙ sym (quotient-script tool.challenger (behind_alpha tool swap main) (commitment_elements bear_ring (quotient ∷ []))))
@@ -118,13 +117,13 @@ module _ (k : ℕ) (a b : BabyBear) (main quotient : Rows BabyBear) where
   pub nothing-passes : (old : Sha256Challenger) → old ≡ (before_grinding tool swap main quotient).state
       → ((n : ℕ) → n < 2013265921 → passes tool.challenger old 4 (of_nat bear_ring n ∷ []) ≡ false)
       → (n : ℕ) → n < 2013265921 → number_passes tool swap main quotient n ≡ false
-  unfolding tool swap_instance
+  unfolding tool swap_stated
   nothing-passes old p h = λ n lt. ap (λ s. passes tool.challenger s 4 (of_nat bear_ring n ∷ [])) (sym p) ∙ h n lt
 
   pub witness-is-ground : (old : Sha256Challenger) (w : BabyBear) → old ≡ (before_grinding tool swap main quotient).state
       → passes tool.challenger old 4 (w ∷ []) ≡ true → ((n : ℕ) → n < w.value → passes tool.challenger old 4 (of_nat bear_ring n ∷ []) ≡ false)
       → IsGround tool swap main quotient w.value
-  unfolding tool swap_instance
+  unfolding tool swap_stated
   witness-is-ground old w p t f = record {
     below_order = w.in_range;
     passing = ap (λ x. passes tool.challenger (before_grinding tool swap main quotient).state 4 (x ∷ [])) (bear_of_canonical w) ∙ (ap (λ s. passes tool.challenger s 4 (w ∷ [])) (sym p) ∙ t);
@@ -132,23 +131,29 @@ module _ (k : ℕ) (a b : BabyBear) (main quotient : Rows BabyBear) where
   }
 
   one-challenge : (d : List BabyBear) × ((before_grinding tool swap main quotient).challenges ≡ d ∷ [])
-  unfolding tool swap_instance before_grinding behind_alpha degree_bits_elements
+  unfolding tool swap_stated before_grinding behind_alpha degree_bits_elements
   one-challenge = (
     draw_all tool.challenger _ 4,
     quotient-challenges tool.challenger (behind_alpha tool swap main) (commitment_elements bear_ring (quotient ∷ []))
-        ∙ ap (λ t. t.challenges) (alpha-script tool.challenger (seeded tool swap).state (quartic_parts (of_nat quartic_ring k)) (commitment_elements bear_ring (main ∷ [])) (a ∷ b ∷ last_right k a b ∷ [])),
+        ∙ ap (λ t. t.challenges) (alpha-script tool.challenger (seeded tool swap).state (quartic_parts (of_nat quartic_ring k)) (commitment_elements bear_ring (main ∷ [])) (a ∷ b ∷ x ∷ [])),
   )
 
   pub zeta-is : (old : Sha256Challenger) (w : BabyBear) (z : QuarticExtension) → old ≡ (before_grinding tool swap main quotient).state
-      → quartic_parts z ≡ draw_all tool.challenger (after_grinding tool.challenger old 4 (w ∷ [])) 4 → z ≡ zeta tool swap main quotient w.value
-  unfolding tool swap_instance whole_transcript
+      → quartic_parts z ≡ draw_all tool.challenger (after_grinding tool.challenger old 4 (w ∷ [])) 4 → z ≡ zeta_behind tool swap main quotient w
+  unfolding tool swap_stated whole_transcript
   zeta-is old w z p e =
       let before = before_grinding tool swap main quotient in
-      let drawn : Sha256Challenger → BabyBear → List BabyBear = λ s x. draw_all tool.challenger (after_grinding tool.challenger s 4 (x ∷ [])) 4 in
+      let drawn : Sha256Challenger → List BabyBear = λ s. draw_all tool.challenger (after_grinding tool.challenger s 4 (w ∷ [])) 4 in
       let (d, one) = one-challenge in
-      let all : (whole_transcript tool swap main quotient w.value).challenges ≡ d ∷ drawn before.state (of_nat bear_ring w.value) ∷ [] =
-      zeta-script tool.challenger before (of_nat bear_ring w.value) ∙ ap (λ l. l ++ drawn before.state (of_nat bear_ring w.value) ∷ []) one in
-      ap quartic_whole (e ∙ (ap (λ s. drawn s w) p ∙ (ap (λ x. drawn before.state x) (sym (bear_of_canonical w)) ∙ ap (λ l. get_or l 1 []) (sym all))))
+      let all : (whole_transcript tool swap main quotient w).challenges ≡ d ∷ drawn before.state ∷ [] =
+      zeta-script tool.challenger before w ∙ ap (λ l. l ++ drawn before.state ∷ []) one in
+      ap quartic_whole (e ∙ (ap drawn p ∙ ap (λ l. get_or l 1 []) (sym all)))
+
+  -- the same, of the witness's number
+  pub zeta-of-number : (old : Sha256Challenger) (w : BabyBear) (z : QuarticExtension) → old ≡ (before_grinding tool swap main quotient).state
+      → quartic_parts z ≡ draw_all tool.challenger (after_grinding tool.challenger old 4 (w ∷ [])) 4 → z ≡ zeta tool swap main quotient w.value
+  unfolding tool
+  zeta-of-number old w z p e = zeta-is old w z p e ∙ ap (zeta_behind tool swap main quotient) (sym (bear_of_canonical w))
 
 pub told-true : {b : Bool} → b ≡ true → IsTrue b
 told-true e = e

@@ -1,8 +1,8 @@
 -- What the steps of a script leave, and tests of grinding values.
-use Rattle.std.proofs.Common.{◌≡◌, ℕ, Bool, true, false, List, [], ◌∷◌, ◌++◌, refl, arith, ◌∙◌}
+use Rattle.std.proofs.Common.{◌≡◌, ℕ, Bool, true, false, List, [], ◌∷◌, ◌++◌, refl, sym, arith, ◌↔◌}
 use Rattle.std.proofs.lemmas.Bool.Decides.{nat_tests}
-use Rattle.std.specs.Prelude.{◌==◌}
-use Rattle.batch_tool.specs.Script.{ChallengerOf, Transcript, begun, play, observe_all, draw_all, after_draws, passes, after_grinding}
+use Rattle.std.specs.Prelude.{◌==◌, IsTrue}
+use Rattle.batch_tool.specs.Script.{ChallengerOf, Transcript, begun, play, observe_all, draw_all, after_draws, after_grinding}
 use Rattle.batch_tool.specs.BatchScript.{script_to_alpha, script_of_quotient, script_from_grinding, degree_bits_step, main_commitment_step, public_values_step, constraint_challenge_step, quotient_commitment_step, ood_pow_step, zeta_step, opening_step}
 
 module _ {S F : Type 0} (c : ChallengerOf S F) where
@@ -35,3 +35,8 @@ zero-passes n h = grind (arith, nat_tests, h)
 
 pub nonzero-fails : (n : ℕ) → (n ≡ 0 → ⊥) → (n == 0) ≡ false
 nonzero-fails n h = grind (arith, nat_tests, h)
+
+-- the answer of a test for zero
+pub answer-is : (b : Bool) (n : ℕ) → (IsTrue b ↔ (n ≡ 0)) → b ≡ (n == 0)
+answer-is true n h = sym (zero-passes n (h.0 refl))
+answer-is false n h = sym (nonzero-fails n (λ e. let t : false ≡ true = h.1 e in cc))

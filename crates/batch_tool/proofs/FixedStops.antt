@@ -1,10 +1,7 @@
 -- How the reading of parts that the reader knows stops.
-use Rattle.std.proofs.Common.{◌≡◌, ℕ, suc, ◌+◌, ◌-◌, ◌<◌, List, [], ◌∷◌, ◌++◌, length, take, drop, get_or, sym, ◌∙◌, ap, arith, append_assoc, replicate, add-one, drop-cons, Result, Ok, Err, Vec, Global}
-use Rattle.std.specs.Prelude.{All, flat_map}
-use Rattle.std.proofs.lemmas.Grind.{common_steps, flat_map-append}
-use Rattle.std.proofs.lemmas.List.{append-nil, append_cancel_left, take-append-drop, take_more}
-use Rattle.std.proofs.lemmas.List.Elements.{All-append, All-replicate}
-use Rattle.batch_tool.specs.Texts.{line_text, Reads, Stops, Between, Grammar, Unlimited, number_words, Small, ReadsList, ItemsWithin, items_words}
+use Rattle.std.proofs.Common.{◌≡◌, ℕ, ◌+◌, ◌<◌, List, [], ◌∷◌, ◌++◌, length, take, drop, get_or, sym, ◌∙◌, ap, arith, append_assoc, add-one, drop-cons, Result, Ok, Err, Vec, Global}
+use Rattle.std.proofs.lemmas.List.{append_cancel_left, take-append-drop, take_more}
+use Rattle.batch_tool.specs.Texts.{line_text, Reads, Stops, Between, Unlimited, number_words, Small, ReadsList, ItemsWithin, items_words}
 use Rattle.batch_tool.specs.Fixed.{fixed_words, headed_words}
 use Rattle.batch_tool.specs.Laws.FixedParts.{fixed-grammar, same-headed}
 use Rattle.batch_tool.specs.declared.texts.ItemError.{ItemError}

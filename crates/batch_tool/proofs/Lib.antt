@@ -1,11 +1,13 @@
 pub mod Appends
 pub mod Bytes
+pub mod Checking
 pub mod Draws
 pub mod Elements
 pub mod Faults
 pub mod FirstForms
 pub mod FixedStops
 pub mod Horner
+pub mod IdentityLemmas
 pub mod JobAnswers
 pub mod Lines
 pub mod Matrices
@@ -15,6 +17,8 @@ pub mod Patterns
 pub mod Prints
 pub mod QuotientLemmas
 pub mod Runs
+pub mod Shapes
 pub mod Stops
+pub mod Verifying
 pub mod SwapReading
 pub mod Committing

@@ -1,5 +1,5 @@
 -- The steps of a batch of one table, one by one.
-use Rattle.std.proofs.Common.{◌≡◌, ℕ, ◌∷◌, [], refl, List}
+use Rattle.std.proofs.Common.{◌≡◌, ℕ, ◌∷◌, []}
 use Rattle.p3_challenger.specs.declared.sha256_challenger.Sha256Challenger.{Sha256Challenger}
 use Rattle.batch_tool.specs.declared.script.Interaction.{Interaction}
 use Rattle.batch_tool.specs.declared.script.Hierarchy.TheVariants.{Begin, End}

@@ -1,6 +1,7 @@
 -- How the printing of a part is a part of the printing of the whole.
 use Rattle.std.proofs.Common.{◌≡◌, ℕ, ◌+◌, ◌<◌, List, [], ◌∷◌, ◌++◌, length, take, get_or, map, sym, ◌∙◌, ap, append_assoc}
 use Rattle.std.proofs.lemmas.List.{append-nil, take_more, map_more}
+use Rattle.std.specs.Prelude.{flat_map}
 use Rattle.std.proofs.lemmas.Grind.{flat_map-append}
 use Rattle.batch_tool.specs.Texts.{line_text, items_words}
 use Rattle.batch_tool.proofs.Lines.{line_text-append}
@@ -48,3 +49,13 @@ prints-nine front a b c d e f g i j p q r s t u v w x h1 h2 h3 h4 h5 h6 h7 h8 h9
 pub prints-number : (xs : List ℕ) (i : ℕ) (front old new : List ℕ) → i < length xs → old ≡ front ++ line_text (take i xs) → new ≡ old ++ line_text (get_or xs i 0 ∷ [])
     → new ≡ front ++ line_text (take (i + 1) xs)
 prints-number xs i front old new room e f = prints-part front old new (take i xs) (get_or xs i 0 ∷ []) e f ∙ ap (λ (l : List ℕ). front ++ line_text l) (sym (take_more xs i 0 room))
+
+-- one more item of a list that is appended item by item
+pub appends-more : {A : Type 0} (words : A → List ℕ) (xs : List A) (i : ℕ) (d : A) (front old new : List ℕ) → i < length xs
+    → old ≡ front ++ flat_map words (take i xs) → new ≡ old ++ words (get_or xs i d) → new ≡ front ++ flat_map words (take (i + 1) xs)
+appends-more words xs i d front old new room e f =
+    let before = flat_map words (take i xs) in
+    let a = get_or xs i d in
+    let same : flat_map words (take (i + 1) xs) ≡ before ++ words a
+    = ap (λ (l : _). flat_map words l) (take_more xs i d room) ∙ (flat_map-append words (take i xs) (a ∷ []) ∙ ap (λ (l : List ℕ). before ++ l) (append-nil (words a))) in
+    rw same (f ∙ rw e (append_assoc front before (words a)))

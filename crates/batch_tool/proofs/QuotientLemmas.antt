@@ -23,7 +23,7 @@ use Rattle.p3_dft.specs.Laws.Values.{length-values_at}
 use Rattle.batch_tool.specs.Tree.{ev}
 use Rattle.batch_tool.specs.Fold.{fold}
 use Rattle.batch_tool.specs.Reading.{reading, itself}
-use Rattle.batch_tool.specs.Swap.{swap_trees, swap_instance, last_right}
+use Rattle.batch_tool.specs.Swap.{swap_trees, swap_instance, last_right, swap_stated}
 use Rattle.batch_tool.specs.Honest.{quotient_value, quotient_columns, quotient_domain}
 use Rattle.batch_tool.specs.Tool.{tool}
 use Rattle.batch_tool.specs.Cells.{cell_value}
@@ -118,7 +118,7 @@ module _ (k : ℕ) (a b : BabyBear) (l q : List BabyBear) (alpha : QuarticExtens
       → inverse ≡ of_bear_value (bear_inv (sub bear_ring (pow bear_ring (reduce 31) (2 ^ k)) bear_ring.one))
       → value ≡ quartic_ring.mul (fold quartic_ring alpha (map of_bear_value vs)) inverse
       → value ≡ quotient_value tool (swap_instance k a b) (l ∷ q ∷ []) alpha (point tool.field.ring tool.field.root (quotient_domain tool (swap_instance k a b)) i)
-  unfolding tool swap_instance
+  unfolding tool swap_stated
   quotient_from_constraints vs inverse value i e f is =
       let vanishing = van_on_coset bear_ring bear_laws bear_inv bear_field_laws 27 bear_root bear_root_laws k (omega arith) (reduce 31) i in
       is ∙ ((λ j. quartic_ring.mul (fold quartic_ring alpha (map of_bear_value (e j))) (f j))
@@ -129,7 +129,7 @@ module _ (k : ℕ) (a b : BabyBear) (l q : List BabyBear) (alpha : QuarticExtens
 pub quotient_columns_are : (k : ℕ) (a b : BabyBear) (l q : List BabyBear) (alpha : QuarticExtension) (vs : List QuarticExtension)
     → vs ≡ table (2 ^ k) (λ i. quotient_value tool (swap_instance k a b) (l ∷ q ∷ []) alpha (point tool.field.ring tool.field.root (quotient_domain tool (swap_instance k a b)) i))
     → table 4 (λ e. table (length vs) (λ i. get_or (quartic_parts (get_or vs i quartic_ring.zero)) e bear_ring.zero)) ≡ quotient_columns tool (swap_instance k a b) (l ∷ q ∷ []) alpha
-unfolding tool swap_instance quotient_columns
+unfolding tool swap_stated quotient_columns
 quotient_columns_are k a b l q alpha vs is =
     let v : ℕ → QuarticExtension = λ i. quotient_value tool (swap_instance k a b) (l ∷ q ∷ []) alpha (point bear_ring bear_root (quotient_domain tool (swap_instance k a b)) i) in
     let len : length vs ≡ 2 ^ k = ap length is ∙ length-table (2 ^ k) v in

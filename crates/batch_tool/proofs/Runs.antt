@@ -6,14 +6,17 @@ use Rattle.std.specs.declared.alloc.AllocError.{AllocError}
 use Rattle.batch_tool.specs.Texts.{line_text}
 use Rattle.batch_tool.specs.Job.{JobWithin, job_words}
 use Rattle.batch_tool.specs.Prove.{IsJobAnswer}
-use Rattle.batch_tool.specs.Answer.{Names, IsProveAnswer, IsCommandAnswer, Answers, IsOutcome, Outcome}
+use Rattle.batch_tool.specs.Answer.{Names, IsProveAnswer, IsVerifyAnswer, IsCommandAnswer, Answers, IsOutcome, Outcome}
 use Rattle.batch_tool.specs.declared.command.Command.{Command}
-use Rattle.batch_tool.specs.declared.command.Command.TheVariants.{Prove}
+use Rattle.batch_tool.specs.declared.command.Command.TheVariants.{Prove, Verify}
 use Rattle.batch_tool.specs.declared.job.Job.{Job}
 use Rattle.batch_tool.specs.declared.job.TheConstants.{MOST_LOG_ROWS}
 use Rattle.batch_tool.specs.declared.top.Status.{Status}
 use Rattle.batch_tool.specs.declared.top.Status.TheVariants.{Done, Refused, Usage, BadInput, ReadFault, WriteFault, OutOfMemory, TooLarge}
-use Rattle.batch_tool.proofs.JobAnswers.{job-status}
+use Rattle.batch_tool.specs.FirstForm.{IsFirstForm, first_form_words}
+use Rattle.batch_tool.specs.FileAnswer.{IsFileAnswer}
+use Rattle.batch_tool.specs.declared.first_form.FirstForm.{FirstForm}
+use Rattle.batch_tool.proofs.JobAnswers.{job-status, file-status}
 
 -- one word
 pub one-word : (ws : List (String Global)) (w : String Global) → 1 ≤ length ws → length ws < 2 → w ≡ get_or ws 0 w → map string_bytes ws ≡ string_bytes w ∷ []
@@ -38,6 +41,23 @@ pub prove-answers-ok : (bytes : List ℕ) (job : Job) (r : Result (Status × Vec
 prove-answers-ok bytes job (Ok p) fits e a = prove-answers bytes job p.0 p.1.items fits e a
 prove-answers-ok bytes job (Err x) fits e a = tt
 
+-- the same of `verify`
+pub verify-answers : (bytes : List ℕ) (file : FirstForm) (status : Status) (text : List ℕ) → IsFirstForm MOST_LOG_ROWS file → bytes ≡ line_text (first_form_words file)
+    → IsFileAnswer file status text → IsVerifyAnswer bytes status text
+verify-answers bytes file Done text fits e a = (file, fits, e, a)
+verify-answers bytes file Refused text fits e a = (file, fits, e, a)
+verify-answers bytes file Usage text fits e a = (file, fits, e, a)
+verify-answers bytes file BadInput text fits e a = absurd (file-status file BadInput text a)
+verify-answers bytes file ReadFault text fits e a = (file, fits, e, a)
+verify-answers bytes file WriteFault text fits e a = (file, fits, e, a)
+verify-answers bytes file OutOfMemory text fits e a = (file, fits, e, a)
+verify-answers bytes file TooLarge text fits e a = (file, fits, e, a)
+
+pub verify-answers-ok : (bytes : List ℕ) (file : FirstForm) (r : Result (Status × Vec ℕ Global) AllocError) → IsFirstForm MOST_LOG_ROWS file → bytes ≡ line_text (first_form_words file)
+    → IfOk r (λ p. IsFileAnswer file p.0 p.1.items) → IfOk r (λ p. IsVerifyAnswer bytes p.0 p.1.items)
+verify-answers-ok bytes file (Ok p) fits e a = verify-answers bytes file p.0 p.1.items fits e a
+verify-answers-ok bytes file (Err x) fits e a = tt
+
 -- the statuses of a command's answer
 abbrev pub IsAnswerStatus : Status → Type 0
 IsAnswerStatus Done = ⊤
@@ -54,6 +74,14 @@ answer-status Prove bytes ReadFault text a = job-status a.0.table ReadFault text
 answer-status Prove bytes WriteFault text a = job-status a.0.table WriteFault text a.3
 answer-status Prove bytes OutOfMemory text a = job-status a.0.table OutOfMemory text a.3
 answer-status Prove bytes TooLarge text a = job-status a.0.table TooLarge text a.3
+answer-status Verify bytes Done text a = tt
+answer-status Verify bytes Refused text a = tt
+answer-status Verify bytes BadInput text a = tt
+answer-status Verify bytes Usage text a = file-status a.0 Usage text a.3
+answer-status Verify bytes ReadFault text a = file-status a.0 ReadFault text a.3
+answer-status Verify bytes WriteFault text a = file-status a.0 WriteFault text a.3
+answer-status Verify bytes OutOfMemory text a = file-status a.0 OutOfMemory text a.3
+answer-status Verify bytes TooLarge text a = file-status a.0 TooLarge text a.3
 
 -- a fault is no command's answer
 pub no-answer : (command : Command) (bytes : List ℕ) (status fault : Status) (text : List ℕ) → (IsAnswerStatus fault → ⊥)

@@ -12,7 +12,7 @@ use Rattle.p3_dft.specs.Laws.Values.{get_or-values_at}
 use Rattle.batch_tool.specs.Tree.{Cell, main, public, first_row, last_row, transition, ev}
 use Rattle.batch_tool.specs.Fold.{fold}
 use Rattle.batch_tool.specs.Reading.{reading, itself}
-use Rattle.batch_tool.specs.Swap.{swap_trees, swap_instance, last_right}
+use Rattle.batch_tool.specs.Swap.{swap_trees, swap_instance, last_right, swap_stated}
 use Rattle.batch_tool.specs.Honest.{Configuration, quotient_value}
 use Rattle.batch_tool.specs.Cells.{cell_value}
 use Rattle.batch_tool.specs.declared.quotient.SwapCells.{SwapCells}
@@ -60,7 +60,7 @@ pub quotient_value_is : {S F E : Type 0} (c : Configuration S F E) (k : ℕ) (a 
     ≡ c.extension.ring.mul
     (fold c.extension.ring alpha (map c.extension.embed (map (ev c.field.ring (λ x. x) (reading c.field (itself c.field.ring) (subgroup c.field.ring k) (l ∷ q ∷ []) (a ∷ b ∷ last_right k a b ∷ []) u)) swap_trees)))
     (c.extension.embed (c.field.inv (val c.field.ring (van c.field.ring c.field.inv (subgroup c.field.ring k)) u)))
-unfolding quotient_value swap_instance swap_trees
+unfolding quotient_value swap_stated swap_trees
 quotient_value_is c k a b l q alpha u = refl
 
 module _ {F : Type 0} (t : TwoAdic F) (L : RingLaws t.ring) (W : FieldLaws t.ring t.inv) (top : ℕ) (T : TwoAdicLaws t.ring top t.root) (k : ℕ) (fits : k ≤ top) (shift : F) where

@@ -5,8 +5,11 @@ use Rattle.batch_tool.specs.Texts.{line_text}
 use Rattle.batch_tool.specs.WholeText.{IsNoText}
 use Rattle.batch_tool.specs.Job.{JobWithin, job_words}
 use Rattle.batch_tool.specs.Prove.{IsJobAnswer}
+use Rattle.batch_tool.specs.FirstForm.{IsFirstForm, first_form_words}
+use Rattle.batch_tool.specs.FileAnswer.{IsFileAnswer}
+use Rattle.batch_tool.specs.declared.first_form.FirstForm.{FirstForm}
 use Rattle.batch_tool.specs.declared.command.Command.{Command}
-use Rattle.batch_tool.specs.declared.command.Command.TheVariants.{Prove}
+use Rattle.batch_tool.specs.declared.command.Command.TheVariants.{Prove, Verify}
 use Rattle.batch_tool.specs.declared.job.Job.{Job}
 use Rattle.batch_tool.specs.declared.job.TheConstants.{MOST_LOG_ROWS}
 use Rattle.batch_tool.specs.declared.top.Status.{Status}
@@ -15,6 +18,7 @@ use Rattle.batch_tool.specs.declared.top.Status.TheVariants.{Done, Refused, Usag
 -- the words name this command
 abbrev pub Names : List (List ℕ) → Command → Type 0
 Names words Prove = words ≡ codes "prove" ∷ []
+Names words Verify = words ≡ codes "verify" ∷ []
 
 -- the words name some command
 abbrev pub NamesSome : List (List ℕ) → Type 0
@@ -25,9 +29,15 @@ abbrev pub IsProveAnswer : List ℕ → Status → List ℕ → Type 0
 IsProveAnswer bytes BadInput text = IsNoText (JobWithin MOST_LOG_ROWS) job_words bytes × (text ≡ codes "bad input\n")
 IsProveAnswer bytes status text = (job : Job) × JobWithin MOST_LOG_ROWS job × (bytes ≡ line_text (job_words job)) × IsJobAnswer job.table status text
 
+-- the status and the text of `verify` for all the bytes of an input
+abbrev pub IsVerifyAnswer : List ℕ → Status → List ℕ → Type 0
+IsVerifyAnswer bytes BadInput text = IsNoText (IsFirstForm MOST_LOG_ROWS) first_form_words bytes × (text ≡ codes "bad input\n")
+IsVerifyAnswer bytes status text = (file : FirstForm) × IsFirstForm MOST_LOG_ROWS file × (bytes ≡ line_text (first_form_words file)) × IsFileAnswer file status text
+
 -- the status and the text of a command for all the bytes of an input
 abbrev pub IsCommandAnswer : Command → List ℕ → Status → List ℕ → Type 0
 IsCommandAnswer Prove bytes status text = IsProveAnswer bytes status text
+IsCommandAnswer Verify bytes status text = IsVerifyAnswer bytes status text
 
 -- the status and the text for these words and all the bytes of an input
 abbrev pub IsAnswer : List (List ℕ) → List ℕ → Status → List ℕ → Type 0

@@ -1,6 +1,6 @@
 -- The honest proof of one table, part by part in the script's order.
-use Rattle.std.specs.Prelude.{◌≡◌, ℕ, ◌+◌, ◌^◌, ◌<◌, List, [], ◌∷◌, ◌++◌, length, map, get_or, Bool, true, false, Option, Some, None}
-use Rattle.p3_field.specs.Ring.{Ring, of_nat}
+use Rattle.std.specs.Prelude.{◌≡◌, ℕ, ◌+◌, ◌^◌, ◌<◌, List, [], ◌∷◌, length, map, get_or, Bool, true, false, Some, None}
+use Rattle.p3_field.specs.Ring.{of_nat}
 use Rattle.p3_field.specs.Field.{TwoAdic, Extension}
 use Rattle.p3_field.specs.Poly.{val, val_in, table}
 use Rattle.p3_field.specs.Domain.{CosetData, point, van}
@@ -9,10 +9,10 @@ use Rattle.batch_tool.specs.Tree.{Tree, ev}
 use Rattle.batch_tool.specs.Fold.{fold}
 use Rattle.batch_tool.specs.Reading.{reading, itself}
 use Rattle.batch_tool.specs.Plain.{evaluations, AreInterpolants, commitment_elements}
-use Rattle.batch_tool.specs.Script.{ChallengerOf, Transcript, Played, observe_all, play, begun, passes}
+use Rattle.batch_tool.specs.Script.{ChallengerOf, Transcript, observe_all, play, begun, passes}
 use Rattle.batch_tool.specs.Separator.{encoding}
 use Rattle.batch_tool.specs.BatchScript.{BatchShape, single_shape, separator, script_to_alpha, script_of_quotient, script_from_grinding}
-use Rattle.batch_tool.specs.Proof.{ProofData, OpenedData}
+use Rattle.batch_tool.specs.Proof.{ProofData}
 
 -- what fixes a prover and a verifier: the fields, the challenger with its first state, the number of values that a grinding value
 -- may have, the backend's blowup and the bits of the grinding before zeta
@@ -76,17 +76,24 @@ module _ {S F E : Type 0} (c : Configuration S F E) (table' : Instance F) where
   before_grinding main quotient =
       play c.challenger (behind_alpha main) (script_of_quotient (commitment_elements c.field.ring (quotient ∷ [])))
 
-  -- the whole transcript, with the grinding value n
-  unfoldable pub whole_transcript : Rows F → Rows F → ℕ → Transcript S F
-  whole_transcript main quotient n =
-      play c.challenger (before_grinding main quotient) (script_from_grinding c.extension.dimension c.ood_pow_bits (of_nat c.field.ring n))
+  -- the whole transcript, with this grinding value
+  unfoldable pub whole_transcript : Rows F → Rows F → F → Transcript S F
+  whole_transcript main quotient witness =
+      play c.challenger (before_grinding main quotient) (script_from_grinding c.extension.dimension c.ood_pow_bits witness)
 
+  abbrev pub zeta_behind : Rows F → Rows F → F → E
+  zeta_behind main quotient witness = drawn (whole_transcript main quotient witness) 1
+
+  -- whether a grinding value passes
+  abbrev pub witness_passes : Rows F → Rows F → F → Bool
+  witness_passes main quotient witness = passes c.challenger (before_grinding main quotient).state c.ood_pow_bits (witness ∷ [])
+
+  -- the same of the number n
   abbrev pub zeta : Rows F → Rows F → ℕ → E
-  zeta main quotient n = drawn (whole_transcript main quotient n) 1
+  zeta main quotient n = zeta_behind main quotient (of_nat c.field.ring n)
 
-  -- whether the number n passes the grinding
   abbrev pub number_passes : Rows F → Rows F → ℕ → Bool
-  number_passes main quotient n = passes c.challenger (before_grinding main quotient).state c.ood_pow_bits (of_nat c.field.ring n ∷ [])
+  number_passes main quotient n = witness_passes main quotient (of_nat c.field.ring n)
 
   -- the quotient's value at a point u: the fold by alpha of the trees' values there, over Van's value
   unfoldable pub quotient_value : List (List F) → E → F → E

@@ -1,7 +1,9 @@
 pub mod Answer
 pub mod BatchScript
 pub mod Causes
+pub mod Checks
 pub mod Cells
+pub mod FileAnswer
 pub mod FirstForm
 pub mod Fixed
 pub mod Fold
@@ -9,11 +11,13 @@ pub mod Honest
 pub mod Job
 pub mod Laws
 pub mod Memory
+pub mod Opening
 pub mod Plain
 pub mod Proof
 pub mod ProofFile
 pub mod Prove
 pub mod Reading
+pub mod Refusals
 pub mod Script
 pub mod Separator
 pub mod Swap
@@ -21,5 +25,6 @@ pub mod Streams
 pub mod Texts
 pub mod Tool
 pub mod Tree
+pub mod Verify
 pub mod Whole
 pub mod WholeText

@@ -1,7 +1,6 @@
 -- What `prove` answers for a swap table.
 use Rattle.std.specs.Prelude.{◌≡◌, ℕ, ◌<◌, List, ◌⊎◌, false, codes}
 use Rattle.p3_field.specs.declared.baby_bear.BabyBear.{BabyBear}
-use Rattle.p3_field.specs.declared.quartic.QuarticExtension.{QuarticExtension}
 use Rattle.p3_matrix.specs.Matrix.{Rows}
 use Rattle.batch_tool.specs.Honest.{Instance, IsCommitted, IsGround, IsInTraceDomain, honest_proof, number_passes, zeta}
 use Rattle.batch_tool.specs.Tool.{tool}

@@ -1,5 +1,5 @@
 -- Reading a committed table at a point.
-use Rattle.std.specs.Prelude.{ℕ, Bool, true, false, List, [], ◌∷◌, map, get_or}
+use Rattle.std.specs.Prelude.{true, false, List, [], ◌∷◌, get_or}
 use Rattle.p3_field.specs.Ring.{Ring}
 use Rattle.p3_field.specs.Field.{TwoAdic, Extension}
 use Rattle.p3_field.specs.Poly.{val_in}

@@ -1,7 +1,6 @@
 -- Typed transcripts: the steps that prover and verifier play, and what a challenger draws along them.
 -- The step kinds are those of Plonky3's p3-batch-stark (transcript.rs); the numbers within a step are this project's own.
-use Rattle.std.specs.Prelude.{ℕ, zero, suc, Bool, true, List, [], ◌∷◌, ◌++◌, ◌-◌, ◌==◌, if◌then◌else◌, fold}
-use Rattle.batch_tool.specs.declared.script.Hierarchy.{Hierarchy}
+use Rattle.std.specs.Prelude.{ℕ, zero, suc, Bool, true, List, [], ◌∷◌, ◌++◌, ◌==◌, if◌then◌else◌, fold}
 use Rattle.batch_tool.specs.declared.script.InteractionKind.{InteractionKind}
 use Rattle.batch_tool.specs.declared.script.InteractionKind.TheVariants.{Message, Public, Challenge, Pow, Protocol}
 use Rattle.batch_tool.specs.declared.script.StepValue.{StepValue}

@@ -1,7 +1,7 @@
 -- The swap table: two columns l and r, whose rows are (a, b) and (b, a) in turn.
-use Rattle.std.specs.Prelude.{ℕ, ◌%◌, ◌^◌, ◌-◌, ◌==◌, Bool, true, false, List, [], ◌∷◌, if◌then◌else◌}
+use Rattle.std.specs.Prelude.{ℕ, ◌%◌, ◌^◌, ◌==◌, true, false, List, [], ◌∷◌, if◌then◌else◌}
 use Rattle.p3_field.specs.Poly.{table}
-use Rattle.batch_tool.specs.Tree.{Tree, constant, cell, sum, difference, product, main, public, first_row, last_row, transition}
+use Rattle.batch_tool.specs.Tree.{Tree, cell, difference, product, main, public, first_row, last_row, transition}
 use Rattle.batch_tool.specs.Honest.{Instance}
 
 -- the left cell of row i; the right cell is the left cell of the row after it
@@ -23,11 +23,15 @@ swap_trees =
     ∷ product (cell last_row) (difference (cell (main false 1)) (cell (public 2)))
     ∷ []
 
--- the table of 2^k rows that begins with (a, b)
-unfoldable pub swap_instance : {F : Type 0} → ℕ → F → F → Instance F
-swap_instance k a b = record {
+-- the table of 2^k rows that begins with (a, b), with the public values a, b and x
+unfoldable pub swap_stated : {F : Type 0} → ℕ → F → F → F → Instance F
+swap_stated k a b x = record {
   trees = swap_trees;
   columns = table (2 ^ k) (alternating a b) ∷ table (2 ^ k) (alternating b a) ∷ [];
-  publics = a ∷ b ∷ last_right k a b ∷ [];
+  publics = a ∷ b ∷ x ∷ [];
   log_height = k;
 }
+
+-- the same with its own last right cell
+abbrev pub swap_instance : {F : Type 0} → ℕ → F → F → Instance F
+swap_instance k a b = swap_stated k a b (last_right k a b)

@@ -1,5 +1,5 @@
 -- Constraint trees (Plonky3's p3-air: the expressions that an AIR asserts to be zero).
-use Rattle.std.specs.Prelude.{ℕ, Bool, List, map}
+use Rattle.std.specs.Prelude.{ℕ, Bool}
 use Rattle.p3_field.specs.Ring.{Ring, sub}
 
 -- what a constraint reads: a cell of this row or of the next, a public value, or a selector

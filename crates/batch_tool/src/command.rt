@@ -7,6 +7,8 @@ ghost use Rattle.batch_tool.specs.Answer.{Names};
 pub enum Command {
     /// `prove`: reads a job, and writes its proof.
     Prove,
+    /// `verify`: reads a proof file, and says whether its proof is accepted.
+    Verify,
 }
 
 impl Command {
@@ -16,6 +18,7 @@ impl Command {
     {
         match words {
             [word] if word.as_str() == "prove" => Some(Command::Prove),
+            [word] if word.as_str() == "verify" => Some(Command::Verify),
             _ => None,
         }
     }

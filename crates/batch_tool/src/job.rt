@@ -2,6 +2,7 @@
 ghost use Rattle.std.specs.Prelude.{◌≡◌};
 ghost use Rattle.batch_tool.specs.WholeText.{ReadsText};
 ghost use Rattle.batch_tool.specs.Job.{JobWithin, job_words};
+ghost use Rattle.batch_tool.specs.Swap.{last_right};
 
 use crate::items::Item;
 use crate::parse::{TextError, read_text};
@@ -26,14 +27,19 @@ pub struct SwapTable {
     pub b: BabyBear,
 }
 
-impl SwapTable {
-    ghost use Rattle.batch_tool.specs.Swap.{last_right};
+/// The right cell of the last of 2^`log_rows` rows: b in a table of one row, else a.
+pub fn final_right(log_rows: usize, a: BabyBear, b: BabyBear) -> BabyBear
+    ensures { result ≡ last_right log_rows a b }
+{
+    if log_rows == 0 { b } else { a }
+}
 
-    /// The right cell of the last row: b in a table of one row, else a.
+impl SwapTable {
+    /// The right cell of the table's last row.
     pub fn last_right(&self) -> BabyBear
         ensures { result ≡ last_right self.now.log_rows self.now.a self.now.b }
     {
-        if self.log_rows == 0 { self.b } else { self.a }
+        final_right(self.log_rows as usize, self.a, self.b)
     }
 }
 

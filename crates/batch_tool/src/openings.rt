@@ -33,7 +33,7 @@ pub fn interpolants(
 }
 
 /// The value of a polynomial over a field at a point above it, by Horner's rule.
-fn value_above<F: Field, EF: ExtensionField<F>>(coefficients: &[F], point: EF) -> EF
+pub fn value_above<F: Field, EF: ExtensionField<F>>(coefficients: &[F], point: EF) -> EF
     ensures { result ≡ val EF.ring (map EF.embed coefficients.now) point }
 {
     let mut sum = EF::ZERO;

@@ -8,7 +8,7 @@ ghost use Rattle.p3_field.specs.Ring.{of_nat};
 ghost use Rattle.batch_tool.specs.Plain.{AreInterpolants, evaluations};
 ghost use Rattle.batch_tool.specs.Prove.{IsJobAnswer, instance_of};
 ghost use Rattle.batch_tool.specs.Tool.{tool};
-ghost use Rattle.batch_tool.specs.Swap.{swap_instance};
+ghost use Rattle.batch_tool.specs.Swap.{swap_stated};
 
 use crate::job::SwapTable;
 use crate::openings::{interpolants, opened_values};
@@ -66,9 +66,9 @@ fn commit(
 }
 
 /// Whether a point lies in the trace domain of 2^log_height rows.
-fn is_in_trace_domain(log_height: usize, zeta: QuarticExtension) -> bool
+pub fn is_in_trace_domain(log_height: usize, zeta: QuarticExtension) -> bool
     requires { log_height ≤ 10 }
-    ensures { (a b : _) → IsTrue result ↔ IsInTraceDomain tool (swap_instance log_height a b) zeta }
+    ensures { (a b x : _) → IsTrue result ↔ IsInTraceDomain tool (swap_stated log_height a b x) zeta }
 {
     match TwoAdicMultiplicativeCoset::new(BabyBear::ONE, log_height) {
         Some(domain) => domain.vanishing_poly_at_point(zeta).is_zero(),

@@ -19,6 +19,7 @@ ghost use Rattle.batch_tool.specs.Honest.{quotient_value, quotient_domain};
 ghost use Rattle.batch_tool.specs.Tool.{tool};
 ghost use Rattle.batch_tool.specs.Cells.{cell_value};
 
+use crate::job::final_right;
 use p3_dft::values_on_coset;
 use p3_field::{
     BabyBear, BasedVectorSpace, ExtensionField, Field, FieldCore, Mem, PrimeCharacteristicRing,
@@ -134,13 +135,6 @@ fn vanishing_inverse(log_height: usize) -> QuarticExtension
 {
     let vanishing = quotient_shift().exp_power_of_2(log_height) - BabyBear::ONE;
     QuarticExtension::from_base(vanishing.inverse())
-}
-
-/// The right cell of the last row.
-fn final_right(log_height: usize, a: BabyBear, b: BabyBear) -> BabyBear
-    ensures { result ≡ last_right log_height a b }
-{
-    if log_height == 0 { b } else { a }
 }
 
 /// What is the same at each point of the quotient domain: the public values, and the trace domain's generator with

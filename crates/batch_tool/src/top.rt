@@ -1,13 +1,15 @@
 // The top call.
 ghost use Rattle.std.specs.Prelude.{◌≡◌, ◌≤◌, IfOk, map, string_bytes};
 ghost use Rattle.batch_tool.specs.Causes.{Rose};
-ghost use Rattle.batch_tool.specs.Answer.{IsCommandAnswer, IsProveAnswer, Outcome, status_number};
+ghost use Rattle.batch_tool.specs.Answer.{IsCommandAnswer, IsProveAnswer, IsVerifyAnswer, Outcome, status_number};
 
 use crate::command::Command;
 use crate::ends::{Failed, InputError, Sink, Source};
+use crate::first_form::read_first_form;
 use crate::job::read_job;
 use crate::parse::TextError;
 use crate::prove::prove;
+use crate::verify::verify;
 use crate::whole::{MAX_BYTES, read_whole, write_whole};
 use p3_field::Mem;
 use std::alloc::{AllocError, Global};
@@ -49,7 +51,8 @@ const BAD_INPUT: &[u8] = b"bad input\n";
 /// Does what the words say, which are those after the program's name: reads the input where they name a command,
 /// and then writes one text.
 ///
-/// The text is built whole before the first write. The words `prove` read a job and answer it. All others are `Usage`.
+/// The text is built whole before the first write. The word `prove` reads a job and answers it,
+/// the word `verify` reads a proof file and answers it. All others are `Usage`.
 pub fn run<S: Source, K: Sink>(
     alloc: Global,
     words: &[String],
@@ -92,6 +95,7 @@ fn answer(alloc: Global, command: Command, bytes: &[u8]) -> Mem<(Status, Vec<u8>
 {
     match command {
         Command::Prove => answer_prove(alloc, bytes),
+        Command::Verify => answer_verify(alloc, bytes),
     }
 }
 
@@ -101,6 +105,19 @@ fn answer_prove(alloc: Global, bytes: &[u8]) -> Mem<(Status, Vec<u8>)>
 {
     match read_job(alloc, bytes) {
         Ok(job) => prove(alloc, &job.table),
+        Err(TextError::Malformed { line: _ }) => {
+            Ok((Status::BadInput, BAD_INPUT.to_vec(alloc)?))
+        }
+        Err(TextError::OutOfMemory) => Err(AllocError),
+    }
+}
+
+/// The same of `verify`.
+fn answer_verify(alloc: Global, bytes: &[u8]) -> Mem<(Status, Vec<u8>)>
+    ensures { IfOk result (λ p. IsVerifyAnswer bytes.now p.0 p.1.items) }
+{
+    match read_first_form(alloc, bytes) {
+        Ok(file) => verify(alloc, &file),
         Err(TextError::Malformed { line: _ }) => {
             Ok((Status::BadInput, BAD_INPUT.to_vec(alloc)?))
         }

@@ -198,3 +198,15 @@ pub fn grind_and_draw_zeta(
         Some(witness) => Some((witness, draw_challenge(challenger))),
     }
 }
+
+/// Tests the grinding value before zeta, and draws zeta.
+pub fn check_and_draw_zeta(
+    challenger: &mut Sha256Challenger,
+    witness: BabyBear,
+) -> (bool, QuarticExtension)
+    ensures passed { result.0 ≡ passes tool.challenger challenger.old 4 (witness ∷ []) }
+    ensures zeta { quartic_parts result.1 ≡ draw_all tool.challenger (after_grinding tool.challenger challenger.old 4 (witness ∷ [])) 4 }
+{
+    let passed = challenger.check_witness(OOD_POW_BITS, witness);
+    (passed, draw_challenge(challenger))
+}

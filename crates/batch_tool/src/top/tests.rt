@@ -6,6 +6,7 @@ use std::process::Abort;
 use std::test::Fail;
 
 mod proof_files;
+mod refusals;
 
 /// The words of a program's call.
 fn words_of(alloc: Global, words: &[&str]) -> Mem<Vec<String>> {
@@ -62,7 +63,7 @@ fn words_that_name_no_command_get_the_usage(rt: HostRuntime) -> Result<(), Fail>
     let usage = "usage: batch_tool prove | verify | demo N\n";
     let alloc = rt.alloc();
     answers(&rt, alloc, &[], "", 2, usage)?;
-    answers(&rt, alloc, &["verify"], "", 2, usage)?;
+    answers(&rt, alloc, &["verify", "prove"], "", 2, usage)?;
     answers(&rt, alloc, &["demo", "01"], "", 2, usage)?;
     answers(&rt, alloc, &["prove", "prove"], "", 2, usage)?;
     answers(&rt, alloc, &["Prove"], "", 2, usage)?;

@@ -1,7 +1,5 @@
-use Rattle.std.proofs.Common.{◌≡◌, ◌++◌, ◌∷◌, [], take, map, sym, ◌∙◌, ap, List, arith, get_or, rules, length, ◌<◌, ◌+◌}
+use Rattle.std.proofs.Common.{◌++◌, ◌∷◌, [], take, map, sym, ◌∙◌, ap, arith, length, ◌<◌, ◌+◌}
 use Rattle.std.proofs.lemmas.List.{map_more, map-append}
-use Rattle.p3_field.specs.Ring.{pow}
-use Rattle.p3_field.specs.Domain.{IsInterpolant, point, coset_point}
 use Rattle.batch_tool.specs.Tool.{tool}
 use Rattle.batch_tool.proofs.Horner.{more-interpolants-at}
 use Rattle.batch_tool.proofs.openings.interpolants.Goals as goal

@@ -1,4 +1,4 @@
-use Rattle.std.proofs.Common.{◌≡◌, ◌-◌, ◌+◌, ℕ, length, drop, map, sym, ◌∙◌, ap, arith}
+use Rattle.std.proofs.Common.{◌≡◌, ◌-◌, ◌+◌, drop, map, sym, ◌∙◌, ap, arith}
 use Rattle.p3_field.specs.Poly.{val}
 use Rattle.batch_tool.proofs.Horner.{horner-start, horner-above}
 use Rattle.batch_tool.proofs.openings.value_above.Goals as goal

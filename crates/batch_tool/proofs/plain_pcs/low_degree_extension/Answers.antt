@@ -1,9 +1,8 @@
-use Rattle.std.proofs.Common.{◌≡◌, ◌^◌, ◌*◌, List, length, map, get_or, ◌∙◌, sym, ap}
+use Rattle.std.proofs.Common.{◌^◌, length, map, ◌∙◌, sym}
 use Rattle.std.proofs.lemmas.List.{length-map}
 use Rattle.p3_field.specs.BabyBear.{bear_ring, reduce}
 use Rattle.p3_field.specs.Domain.{coset_point}
 use Rattle.p3_field.specs.BabyBear.{bear_root}
-use Rattle.batch_tool.specs.Plain.{row_major, evaluations}
 use Rattle.batch_tool.specs.Tool.{tool}
 use Rattle.batch_tool.proofs.Matrices.{heights-of-values, extension-is, extension-fills, length-same, map-map}
 use Rattle.batch_tool.proofs.plain_pcs.low_degree_extension.Goals as goal

@@ -1,4 +1,3 @@
-use Rattle.std.proofs.Common.{◌≡◌, ◌+◌}
 use Rattle.batch_tool.proofs.Prints.{prints-line}
 use Rattle.batch_tool.proofs.proof_file.print_elements.Goals as goal
 

@@ -1,4 +1,3 @@
-use Rattle.std.proofs.Common.{◌≡◌, ◌+◌}
 use Rattle.batch_tool.proofs.Prints.{prints-number}
 use Rattle.batch_tool.proofs.proof_file.print_numbers.Goals as goal
 

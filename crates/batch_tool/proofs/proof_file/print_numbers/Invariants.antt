@@ -1,4 +1,4 @@
-use Rattle.std.proofs.Common.{◌≡◌, ◌++◌, map, take}
+use Rattle.std.proofs.Common.{◌≡◌, ◌++◌, take}
 use Rattle.batch_tool.specs.Texts.{line_text}
 use Rattle.batch_tool.proofs.proof_file.print_numbers.Given as goal
 

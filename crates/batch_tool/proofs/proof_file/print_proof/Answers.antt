@@ -1,4 +1,4 @@
-use Rattle.std.proofs.Common.{◌≡◌, ◌++◌, ◌∷◌, [], List, ℕ, ap, sym, ◌∙◌, None}
+use Rattle.std.proofs.Common.{◌++◌, ◌∷◌, [], ap, sym, ◌∙◌}
 use Rattle.batch_tool.specs.Texts.{line_text, list_words, option_words, extension_words, element_words}
 use Rattle.batch_tool.specs.ProofFile.{commitment_words, opened_words, proof_words}
 use Rattle.batch_tool.proofs.Prints.{prints-nine}

@@ -1,6 +1,4 @@
-use Rattle.std.proofs.Common.{◌≡◌, ◌^◌, ◌+◌, ◌≤◌, ◌<◌, ℕ, List, Vec, length, get_or, map, ap, arith}
-use Rattle.p3_field.specs.declared.baby_bear.BabyBear.{BabyBear}
-use Rattle.std.proofs.Common.{Global}
+use Rattle.std.proofs.Common.{◌^◌}
 use Rattle.batch_tool.specs.Tool.{tool}
 use Rattle.batch_tool.proofs.Committing.{power-within, interpolants-lengths}
 use Rattle.batch_tool.proofs.prove.commit.Goals as goal

@@ -1,12 +1,11 @@
-use Rattle.std.proofs.Common.{◌≡◌, ◌^◌, ◌<◌, ℕ, ◌∷◌, [], List, length, get_or, map, refl, sym, ◌∙◌, ap, arith}
+use Rattle.std.proofs.Common.{◌≡◌, ◌^◌, ◌∷◌, [], length, get_or, map, refl, sym, ◌∙◌, ap}
 use Rattle.std.proofs.lemmas.Result.{IfOk-weaker}
-use Rattle.p3_field.specs.Poly.{table}
-use Rattle.p3_field.specs.BabyBear.{bear_ring, reduce}
+use Rattle.p3_field.specs.BabyBear.{bear_ring}
 use Rattle.p3_field.specs.Quartic.{quartic_ring, quartic_parts}
 use Rattle.p3_field.specs.Laws.BearLaws.{same_bear}
 use Rattle.p3_field.specs.Laws.BearField.{bear_31}
 use Rattle.p3_field.specs.Laws.Tables.{length-table}
-use Rattle.batch_tool.specs.Swap.{swap_instance}
+use Rattle.batch_tool.specs.Swap.{swap_stated}
 use Rattle.batch_tool.specs.Honest.{quotient_domain, quotient_columns}
 use Rattle.batch_tool.specs.Prove.{instance_of}
 use Rattle.batch_tool.specs.Tool.{tool}
@@ -25,11 +24,11 @@ pub commit-requires-clause-shift : goal.commit-requires-clause-shift
 commit-requires-clause-shift c = λ e. bear_31 (same_bear _ _ refl ∙ e)
 
 pub returns-clause-commitment : goal.returns-clause-commitment
-unfolding tool swap_instance
+unfolding tool swap_stated
 returns-clause-commitment c = c.commit.ensures.commitment
 
 pub returns-clause-interpolants : goal.returns-clause-interpolants
-unfolding tool swap_instance
+unfolding tool swap_stated
 returns-clause-interpolants c =
     let t = c.args.table.now in
     let polynomials : map (λ f. f.items) c.args.polynomials.now ≡ c.deref.result.now ∷ c.deref-2.result.now ∷ [] =

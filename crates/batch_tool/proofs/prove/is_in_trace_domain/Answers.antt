@@ -8,7 +8,7 @@ use Rattle.p3_field.specs.declared.baby_bear.BabyBear.{BabyBear}
 use Rattle.p3_commit.specs.Space.{IsPoint}
 use Rattle.batch_tool.specs.Honest.{trace_domain}
 use Rattle.batch_tool.specs.Tool.{tool}
-use Rattle.batch_tool.specs.Swap.{swap_instance}
+use Rattle.batch_tool.specs.Swap.{swap_stated}
 use Rattle.batch_tool.proofs.Committing.{same-coset}
 use Rattle.batch_tool.proofs.prove.is_in_trace_domain.Goals as goal
 
@@ -20,11 +20,11 @@ unreachable-requires c = elim c.in-None.ensures [
 ]
 
 pub returns : goal.returns
-unfolding tool swap_instance bear_ring
-returns c = λ a b.
+unfolding tool swap_stated bear_ring
+returns c = λ a b x.
     let h = c.in-Some.ensures in
     let z = c.is_zero.ensures in
-    let d = trace_domain tool (swap_instance c.args.log_height a b) in
+    let d = trace_domain tool (swap_stated c.args.log_height a b x) in
     let same = same-coset c.in-Some.domain d (h.0 ∙ same_bear _ _ refl) h.1 in
     let P : CosetData BabyBear → Type 0 = λ d. (c.vanishing_poly_at_point.result ≡ quartic_ring.zero) ↔ IsPoint (2 ^ d.log_size) (point bear_ring bear_root d) of_bear_value c.args.zeta in
     let p : P d = subst P same c.vanishing_poly_at_point.ensures.zero in

@@ -1,16 +1,14 @@
-use Rattle.std.proofs.Common.{◌≡◌, ◌∷◌, [], ◌∙◌, ap, map, sym, Some, None, List}
+use Rattle.std.proofs.Common.{◌≡◌, ◌∷◌, [], ◌∙◌, ap, map, Some, None}
 use Rattle.p3_field.specs.Poly.{val_in}
-use Rattle.p3_field.specs.BabyBear.{bear_root}
 use Rattle.p3_field.specs.Quartic.{quartic_ring, of_bear_value}
-use Rattle.p3_field.specs.declared.quartic.QuarticExtension.{QuarticExtension}
-use Rattle.batch_tool.specs.Swap.{swap_instance}
+use Rattle.batch_tool.specs.Swap.{swap_stated}
 use Rattle.batch_tool.specs.Honest.{honest_proof, zeta, opened_at, next_point}
 use Rattle.batch_tool.specs.Prove.{instance_of}
 use Rattle.batch_tool.specs.Tool.{tool}
 use Rattle.batch_tool.proofs.prove.opened_proof.Goals as goal
 
 pub returns : goal.returns
-unfolding honest_proof tool swap_instance
+unfolding honest_proof tool swap_stated
 returns c = λ n w z.
     let inst = instance_of c.args.table.now in
     let x = zeta tool inst c.args.main.commitment c.args.quotient.commitment n in

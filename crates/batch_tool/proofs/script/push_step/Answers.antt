@@ -1,4 +1,4 @@
-use Rattle.std.proofs.Common.{◌≡◌, ◌++◌, ◌∷◌, [], List, ℕ, ap}
+use Rattle.std.proofs.Common.{◌∷◌, []}
 use Rattle.batch_tool.specs.Separator.{step_bytes, eight_bytes, counted, hierarchy_byte, kind_byte, value_byte, length_byte}
 use Rattle.batch_tool.specs.Script.{elements, amount}
 use Rattle.batch_tool.proofs.Appends.{appends-five}

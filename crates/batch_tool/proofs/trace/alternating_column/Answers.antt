@@ -1,5 +1,3 @@
-use Rattle.std.proofs.Common.{◌≡◌, ◌++◌, ◌∷◌, [], ◌∙◌, ap, ◌+◌}
-use Rattle.p3_field.specs.Poly.{table}
 use Rattle.p3_field.specs.Laws.Tables.{table_more}
 use Rattle.batch_tool.specs.Swap.{alternating}
 use Rattle.batch_tool.proofs.trace.alternating_column.Goals as goal

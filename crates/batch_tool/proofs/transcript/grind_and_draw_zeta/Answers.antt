@@ -1,7 +1,7 @@
-use Rattle.std.proofs.Common.{◌≡◌, ℕ, ◌%◌, ◌^◌, ap, subst, ◌∙◌}
+use Rattle.std.proofs.Common.{◌≡◌, ap, subst, ◌∙◌}
 use Rattle.p3_field.specs.Laws.BearField.{bear_of_canonical}
 use Rattle.p3_field.specs.declared.baby_bear.BabyBear.{BabyBear}
-use Rattle.p3_challenger.specs.Sha256.{observed, drawn, after_draw, bits_drawn}
+use Rattle.p3_challenger.specs.Sha256.{observed, bits_drawn}
 use Rattle.batch_tool.specs.Script.{draw_all}
 use Rattle.batch_tool.specs.Tool.{tool}
 use Rattle.batch_tool.proofs.Draws.{zero-passes, nonzero-fails}

@@ -1,4 +1,4 @@
-use Rattle.std.proofs.Common.{◌≡◌, ◌∷◌, [], ◌++◌, replicate}
+use Rattle.std.proofs.Common.{replicate}
 use Rattle.batch_tool.specs.BatchScript.{separator}
 use Rattle.batch_tool.specs.Honest.{seeded_state}
 use Rattle.batch_tool.specs.Tool.{tool}

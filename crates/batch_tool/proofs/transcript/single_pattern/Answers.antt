@@ -1,4 +1,4 @@
-use Rattle.std.proofs.Common.{◌≡◌, ◌∷◌, [], ◌∙◌}
+use Rattle.std.proofs.Common.{◌∙◌}
 use Rattle.batch_tool.specs.BatchScript.{degree_bits_step, main_commitment_step, public_values_step, constraint_challenge_step, quotient_commitment_step, ood_pow_step, zeta_step}
 use Rattle.batch_tool.proofs.Patterns.{nine-steps}
 use Rattle.batch_tool.proofs.transcript.single_pattern.Goals as goal

@@ -1,0 +1,97 @@
+//! The identity at zeta, which a verifier tests in the place of the constraints.
+
+ghost use Rattle.std.specs.Prelude.{◌≡◌, ◌≤◌, ◌↔◌, IsTrue, map, length};
+ghost use Rattle.p3_field.specs.Poly.{val};
+ghost use Rattle.p3_field.specs.Domain.{transition_selector};
+ghost use Rattle.p3_field.specs.BabyBear.{bear_ring};
+ghost use Rattle.p3_field.specs.BabyBear.{bear_inv, bear_root};
+ghost use Rattle.p3_field.specs.Quartic.{quartic_ring, of_bear_value};
+ghost use Rattle.batch_tool.specs.Tree.{Cell};
+ghost use Rattle.batch_tool.specs.Cells.{cell_value};
+ghost use Rattle.batch_tool.specs.Swap.{swap_stated};
+ghost use Rattle.batch_tool.specs.Tool.{tool};
+ghost use Rattle.batch_tool.specs.Verify.{Identity, opened_reading};
+
+use crate::first_form::SwapStatement;
+use crate::quotient::{SwapCells, constraint_values, folded};
+use p3_commit::{PolynomialSpace, first_selector_at, last_selector_at};
+use p3_field::{
+    BabyBear, ExtensionField, FieldCore, PrimeCharacteristicRing, QuarticExtension, RingCore,
+    TwoAdicMultiplicativeCoset,
+};
+
+/// The trace domain of a table of 2^`log_rows` rows: the subgroup of that size.
+fn trace_domain(log_rows: u8) -> TwoAdicMultiplicativeCoset<BabyBear>
+    requires { log_rows ≤ 10 }
+    ensures { result ≡ record { shift = bear_ring.one; log_size = log_rows } }
+{
+    match TwoAdicMultiplicativeCoset::new(BabyBear::ONE, log_rows as usize) {
+        Some(domain) => domain,
+        None => unreachable!(),
+    }
+}
+
+/// The selector of all rows but the last at a point u: u less the inverse of the domain's generator.
+fn transition_selector_at(
+    domain: &TwoAdicMultiplicativeCoset<BabyBear>,
+    point: QuarticExtension,
+) -> QuarticExtension
+    requires { domain.now.shift ≡ bear_ring.one }
+    ensures { result ≡ val quartic_ring (map of_bear_value (transition_selector bear_ring bear_inv bear_root domain.now)) point }
+{
+    domain.valid();
+    point - QuarticExtension::from_base(domain.subgroup_generator().inverse())
+}
+
+/// What the constraints read at zeta: the values opened there and at the next point stand for the columns' values.
+fn cells_at_zeta(
+    statement: &SwapStatement,
+    domain: &TwoAdicMultiplicativeCoset<BabyBear>,
+    zeta: QuarticExtension,
+    local: &[QuarticExtension],
+    next: &[QuarticExtension],
+) -> SwapCells<QuarticExtension>
+    requires domain { domain.now ≡ record { shift = bear_ring.one; log_size = statement.now.log_rows } }
+    requires local { length local.now ≡ 2 }
+    requires next { length next.now ≡ 2 }
+    ensures { (c : Cell) → cell_value quartic_ring.zero result c ≡ opened_reading tool (swap_stated statement.now.log_rows statement.now.a statement.now.b statement.now.x) local.now next.now zeta c }
+{
+    SwapCells {
+        left: local[0],
+        right: local[1],
+        next_left: next[0],
+        next_right: next[1],
+        first_row: first_selector_at(domain, zeta),
+        last_row: last_selector_at(domain, zeta),
+        transition: transition_selector_at(domain, zeta),
+        first_left: QuarticExtension::from_base(statement.a),
+        first_right: QuarticExtension::from_base(statement.b),
+        final_right: QuarticExtension::from_base(statement.x),
+    }
+}
+
+/// Whether the identity holds at zeta: the constraints' values folded by alpha are the value of Van of the trace
+/// domain times the quotient's, whose opened values `chunk` are coefficients over the basis. `local` are the values
+/// of the two columns at zeta, `next` those at the next point. After Plonky3's p3-batch-stark (`verify_constraints`).
+pub fn identity_holds(
+    statement: &SwapStatement,
+    alpha: QuarticExtension,
+    zeta: QuarticExtension,
+    local: &[QuarticExtension],
+    next: &[QuarticExtension],
+    chunk: &[QuarticExtension],
+) -> bool
+    requires few { statement.now.log_rows ≤ 10 }
+    requires local { length local.now ≡ 2 }
+    requires next { length next.now ≡ 2 }
+    requires chunk { length chunk.now ≡ 4 }
+    ensures { IsTrue result ↔ Identity tool (swap_stated statement.now.log_rows statement.now.a statement.now.b statement.now.x) alpha zeta local.now next.now chunk.now }
+{
+    let domain = trace_domain(statement.log_rows);
+    let cells = cells_at_zeta(statement, &domain, zeta, local, next);
+    let folded = folded(&constraint_values(&cells), alpha);
+    match <QuarticExtension as ExtensionField<BabyBear>>::from_ext_basis_coefficients(chunk) {
+        Some(quotient) => folded == domain.vanishing_poly_at_point(zeta) * quotient,
+        None => unreachable!(),
+    }
+}
