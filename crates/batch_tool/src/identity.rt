@@ -12,24 +12,14 @@ ghost use Rattle.batch_tool.specs.Swap.{swap_stated};
 ghost use Rattle.batch_tool.specs.Tool.{tool};
 ghost use Rattle.batch_tool.specs.Verify.{Identity, opened_reading};
 
+use crate::domain::trace_domain;
 use crate::first_form::SwapStatement;
 use crate::quotient::{SwapCells, constraint_values, folded};
 use p3_commit::{PolynomialSpace, first_selector_at, last_selector_at};
 use p3_field::{
-    BabyBear, ExtensionField, FieldCore, PrimeCharacteristicRing, QuarticExtension, RingCore,
+    BabyBear, ExtensionField, FieldCore, PrimeCharacteristicRing, QuarticExtension,
     TwoAdicMultiplicativeCoset,
 };
-
-/// The trace domain of a table of 2^`log_rows` rows: the subgroup of that size.
-fn trace_domain(log_rows: u8) -> TwoAdicMultiplicativeCoset<BabyBear>
-    requires { log_rows ≤ 10 }
-    ensures { result ≡ record { shift = bear_ring.one; log_size = log_rows } }
-{
-    match TwoAdicMultiplicativeCoset::new(BabyBear::ONE, log_rows as usize) {
-        Some(domain) => domain,
-        None => unreachable!(),
-    }
-}
 
 /// The selector of all rows but the last at a point u: u less the inverse of the domain's generator.
 fn transition_selector_at(
@@ -87,7 +77,7 @@ pub fn identity_holds(
     requires chunk { length chunk.now ≡ 4 }
     ensures { IsTrue result ↔ Identity tool (swap_stated statement.now.log_rows statement.now.a statement.now.b statement.now.x) alpha zeta local.now next.now chunk.now }
 {
-    let domain = trace_domain(statement.log_rows);
+    let domain = trace_domain(statement.log_rows as usize);
     let cells = cells_at_zeta(statement, &domain, zeta, local, next);
     let folded = folded(&constraint_values(&cells), alpha);
     match <QuarticExtension as ExtensionField<BabyBear>>::from_ext_basis_coefficients(chunk) {

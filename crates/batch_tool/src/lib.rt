@@ -2,6 +2,7 @@
 #![tactic(auto)]
 
 mod command;
+mod domain;
 mod ends;
 mod first_form;
 mod fixed;

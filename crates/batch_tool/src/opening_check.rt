@@ -11,8 +11,9 @@ ghost use Rattle.batch_tool.specs.Plain.{AreInterpolants};
 ghost use Rattle.batch_tool.specs.Tool.{tool};
 ghost use Rattle.batch_tool.specs.Verify.{columns_of, degree_checks, value_checks, round_checks};
 
-use crate::openings::{interpolants, value_above};
+use crate::openings::interpolants;
 use crate::refusal::{PlainError, Refusal};
+use p3_dft::polynomial_value;
 use p3_field::{BabyBear, FieldCore, Mem, QuarticExtension};
 use p3_matrix::RowMajorMatrix;
 use std::alloc::Global;
@@ -53,7 +54,7 @@ fn first_wrong_value(
     ensures { LeastFailing (length polynomials.now) (λ j. val_in tool.extension (get_or (map (λ f. f.items) polynomials.now) j []) point ≡ get_or claimed.now j quartic_ring.zero) result }
 {
     for (j, polynomial) in polynomials.iter().enumerate() {
-        if value_above(polynomial, point) != claimed[j] {
+        if polynomial_value(polynomial, point) != claimed[j] {
             return Some(j);
         }
     }

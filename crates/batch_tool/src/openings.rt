@@ -2,14 +2,12 @@
 
 ghost use Rattle.std.specs.Prelude.{◌≡◌, ◌^◌, ◌<◌, ◌≤◌, IfOk, List, length, map, All};
 ghost use Rattle.p3_field.specs.BabyBear.{bear_ring};
-ghost use Rattle.p3_field.specs.Poly.{val, val_in};
+ghost use Rattle.p3_field.specs.Poly.{val_in};
 ghost use Rattle.batch_tool.specs.Plain.{AreInterpolants};
 ghost use Rattle.batch_tool.specs.Tool.{tool};
 
-use p3_dft::interpolant_on_coset;
-use p3_field::{
-    BabyBear, ExtensionField, Field, Mem, PrimeCharacteristicRing, QuarticExtension, RingCore,
-};
+use p3_dft::{interpolant_on_coset, polynomial_value};
+use p3_field::{BabyBear, Mem, QuarticExtension};
 use std::alloc::Global;
 
 #[tactic(auto, using(crate::proofs::Horner::none_interpolated))]
@@ -32,19 +30,6 @@ pub fn interpolants(
     Ok(polynomials)
 }
 
-/// The value of a polynomial over a field at a point above it, by Horner's rule.
-pub fn value_above<F: Field, EF: ExtensionField<F>>(coefficients: &[F], point: EF) -> EF
-    ensures { result ≡ val EF.ring (map EF.embed coefficients.now) point }
-{
-    let mut sum = EF::ZERO;
-    let mut i = coefficients.len();
-    while i > 0 {
-        i -= 1;
-        sum = sum * point + EF::from_base(coefficients[i]);
-    }
-    sum
-}
-
 /// The values of polynomials at a point, in order.
 #[tactic(auto, unfolding(crate::specs::Tool::tool))]
 pub fn opened_values(
@@ -56,7 +41,7 @@ pub fn opened_values(
 {
     let mut values = Vec::new(alloc);
     for polynomial in polynomials {
-        values.push(value_above(polynomial, point))?;
+        values.push(polynomial_value(polynomial, point))?;
     }
     Ok(values)
 }

@@ -1,15 +1,15 @@
 //! The command `prove`: the honest proof of a swap table.
 
-ghost use Rattle.std.specs.Prelude.{◌≡◌, ◌^◌, ◌+◌, ◌≤◌, ◌↔◌, ◌∷◌, [], IfOk, IsTrue, ℕ, map, length, All, codes};
+ghost use Rattle.std.specs.Prelude.{◌≡◌, ◌^◌, ◌+◌, ◌≤◌, ◌∷◌, [], IfOk, ℕ, map, length, All, codes};
 ghost use Rattle.p3_field.specs.BabyBear.{reduce, bear_ring};
 ghost use Rattle.batch_tool.specs.BatchScript.{single_shape};
-ghost use Rattle.batch_tool.specs.Honest.{trace_domain, quotient_domain, commitment_domain, quotient_columns, IsInTraceDomain, alpha, behind_alpha, before_grinding, seeded_state, honest_proof, zeta as drawn_zeta};
+ghost use Rattle.batch_tool.specs.Honest.{trace_domain, quotient_domain, commitment_domain, quotient_columns, alpha, behind_alpha, before_grinding, seeded_state, honest_proof, zeta as drawn_zeta};
 ghost use Rattle.p3_field.specs.Ring.{of_nat};
 ghost use Rattle.batch_tool.specs.Plain.{AreInterpolants, evaluations};
 ghost use Rattle.batch_tool.specs.Prove.{IsJobAnswer, instance_of};
 ghost use Rattle.batch_tool.specs.Tool.{tool};
-ghost use Rattle.batch_tool.specs.Swap.{swap_stated};
 
+use crate::domain::is_in_trace_domain;
 use crate::job::SwapTable;
 use crate::openings::{interpolants, opened_values};
 use crate::plain_pcs::{low_degree_extension, observe_commitment};
@@ -20,10 +20,9 @@ use crate::top::Status;
 use crate::trace::trace_columns;
 use crate::transcript::{draw_alpha, grind_and_draw_zeta, seeded_challenger};
 use p3_challenger::Sha256Challenger;
-use p3_commit::PolynomialSpace;
 use p3_field::{
     BabyBear, ExtensionField, FieldCore, Mem, PrimeCharacteristicRing, QuarticExtension, RingCore,
-    TwoAdicCore, TwoAdicMultiplicativeCoset,
+    TwoAdicCore,
 };
 use p3_matrix::RowMajorMatrix;
 use std::alloc::Global;
@@ -63,17 +62,6 @@ fn commit(
         polynomials,
         commitment,
     })
-}
-
-/// Whether a point lies in the trace domain of 2^log_height rows.
-pub fn is_in_trace_domain(log_height: usize, zeta: QuarticExtension) -> bool
-    requires { log_height ≤ 10 }
-    ensures { (a b x : _) → IsTrue result ↔ IsInTraceDomain tool (swap_stated log_height a b x) zeta }
-{
-    match TwoAdicMultiplicativeCoset::new(BabyBear::ONE, log_height) {
-        Some(domain) => domain.vanishing_poly_at_point(zeta).is_zero(),
-        None => unreachable!(),
-    }
 }
 
 /// Commits to the trace and draws alpha.

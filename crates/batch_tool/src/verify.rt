@@ -9,13 +9,13 @@ ghost use Rattle.batch_tool.specs.Tool.{tool};
 ghost use Rattle.batch_tool.specs.Verify.{Meets, alpha_drawn, checks, round_checks, zeta_drawn};
 ghost use Rattle.batch_tool.specs.declared.refusal.Refusal.TheVariants.{OodPointInDomain, OodEvaluationMismatch};
 
+use crate::domain::is_in_trace_domain;
 use crate::first_form::{FirstForm, SwapStatement};
 use crate::identity::identity_holds;
 use crate::job::MOST_LOG_ROWS;
 use crate::opening_check::{committed_polynomials, quotient_fault, trace_fault};
 use crate::plain_pcs::observe_commitment;
 use crate::proof::TableProof;
-use crate::prove::is_in_trace_domain;
 use crate::refusal::{Refusal, refusal_line};
 use crate::top::Status;
 use crate::transcript::{OOD_POW_BITS, check_and_draw_zeta, draw_alpha, seeded_challenger};

@@ -16,7 +16,7 @@ returns-then-ne c =
     let v = ap (λ f. val quartic_ring (map of_bear_value f) c.args.point) e in
     let d : c.index-claimed-j.result ≡ get_or c.args.claimed.now j quartic_ring.zero = c.index-claimed-j.is ∙ get_or_default c.args.claimed.now j c.index-claimed-j.result quartic_ring.zero k in (
       h,
-      λ s. quartic-differs c.value_above.result c.index-claimed-j.result c.ne.result c.ne.ensures c.if-ne.true (c.value_above.ensures ∙ (v ∙ (s ∙ sym d))),
+      λ s. quartic-differs c.polynomial_value.result c.index-claimed-j.result c.ne.result c.ne.ensures c.if-ne.true (c.polynomial_value.ensures ∙ (v ∙ (s ∙ sym d))),
       c.loop-j.invariant,
     )
 
@@ -31,4 +31,4 @@ loop-j-preserved c =
     let d : c.index-claimed-j.result ≡ get_or c.args.claimed.now j quartic_ring.zero = c.index-claimed-j.is ∙ get_or_default c.args.claimed.now j c.index-claimed-j.result quartic_ring.zero k in
     let P : ℕ → Type 0 = λ i. val_in tool.extension (get_or (map (λ f. f.items) c.args.polynomials.now) i []) c.args.point ≡ get_or c.args.claimed.now i quartic_ring.zero in
     below_more P j c.loop-j.invariant
-    (sym v ∙ (sym c.value_above.ensures ∙ (quartic-agrees c.value_above.result c.index-claimed-j.result c.ne.result c.ne.ensures c.if-ne.false ∙ d)))
+    (sym v ∙ (sym c.polynomial_value.ensures ∙ (quartic-agrees c.polynomial_value.result c.index-claimed-j.result c.ne.result c.ne.ensures c.if-ne.false ∙ d)))

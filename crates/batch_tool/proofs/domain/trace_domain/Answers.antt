@@ -3,7 +3,7 @@ use Rattle.p3_field.specs.BabyBear.{bear_ring}
 use Rattle.p3_field.specs.Laws.BearLaws.{same_bear}
 use Rattle.p3_field.specs.Laws.BearOrder.{one_not_zero}
 use Rattle.batch_tool.proofs.Committing.{same-coset}
-use Rattle.batch_tool.proofs.identity.trace_domain.Goals as goal
+use Rattle.batch_tool.proofs.domain.trace_domain.Goals as goal
 
 pub unreachable-requires : goal.unreachable-requires
 unfolding bear_ring

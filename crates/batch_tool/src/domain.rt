@@ -1,0 +1,31 @@
+//! The trace domain of a swap table, and the points that lie in it.
+
+ghost use Rattle.std.specs.Prelude.{◌≡◌, ◌≤◌, ◌↔◌, IsTrue};
+ghost use Rattle.p3_field.specs.BabyBear.{bear_ring};
+ghost use Rattle.batch_tool.specs.Honest.{IsInTraceDomain};
+ghost use Rattle.batch_tool.specs.Swap.{swap_stated};
+ghost use Rattle.batch_tool.specs.Tool.{tool};
+
+use p3_commit::PolynomialSpace;
+use p3_field::{BabyBear, FieldCore, QuarticExtension, RingCore, TwoAdicMultiplicativeCoset};
+
+/// The trace domain of a table of 2^`log_rows` rows: the subgroup of that size.
+pub fn trace_domain(log_rows: usize) -> TwoAdicMultiplicativeCoset<BabyBear>
+    requires { log_rows ≤ 10 }
+    ensures { result ≡ record { shift = bear_ring.one; log_size = log_rows } }
+{
+    match TwoAdicMultiplicativeCoset::new(BabyBear::ONE, log_rows) {
+        Some(domain) => domain,
+        None => unreachable!(),
+    }
+}
+
+/// Whether a point lies in the trace domain of 2^`log_rows` rows.
+pub fn is_in_trace_domain(log_rows: usize, zeta: QuarticExtension) -> bool
+    requires { log_rows ≤ 10 }
+    ensures { (a b x : _) → IsTrue result ↔ IsInTraceDomain tool (swap_stated log_rows a b x) zeta }
+{
+    trace_domain(log_rows)
+        .vanishing_poly_at_point(zeta)
+        .is_zero()
+}
