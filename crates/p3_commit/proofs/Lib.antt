@@ -2,3 +2,4 @@ pub mod Options
 pub mod SelectorLaws
 pub mod Lists
 pub mod Disjoint
+pub mod Periods

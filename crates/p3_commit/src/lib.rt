@@ -6,10 +6,12 @@
 
 mod domain;
 mod interpolation;
+mod periodic;
 mod selectors;
 mod split;
 
 pub use domain::{PolynomialSpace, are_disjoint};
+pub use periodic::{PeriodicColumnShapeError, PeriodicColumns};
 pub use selectors::{LagrangeSelectors, first_selector_at, last_selector_at};
 
 #[cfg(test)]
