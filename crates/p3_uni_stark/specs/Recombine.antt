@@ -1,0 +1,39 @@
+-- A quotient's value from its chunks' values. The rule is that of Plonky3's p3-uni-stark
+-- (recompose_quotient_from_chunks).
+use Rattle.std.specs.Prelude.{◌≡◌, ℕ, zero, suc, ◌+◌, ◌-◌, ◌<◌, ◌^◌, List, [], length, map, get_or}
+use Rattle.p3_field.specs.Ring.{Ring}
+use Rattle.p3_field.specs.Field.{TwoAdic, Extension, combine}
+use Rattle.p3_field.specs.Poly.{val, val_in, total}
+use Rattle.p3_field.specs.Domain.{CosetData, van, point}
+use Rattle.p3_commit.specs.Space.{AreDisjoint}
+
+-- t 0 .. t (n - 1)
+abbrev pub product : {A : Type 0} → Ring A → ℕ → (ℕ → A) → A
+product r zero t = r.one
+product r (suc n) t = r.mul (product r n t) (t n)
+
+-- the product of t j for j below n but for j = i
+abbrev pub product_but : {A : Type 0} → Ring A → ℕ → ℕ → (ℕ → A) → A
+product_but r n i t = r.mul (product r i t) (product r (n - suc i) (λ j. t (suc i + j)))
+
+-- domain i of a list; what stands behind its end is never read
+abbrev pub domain_at : {F : Type 0} → Ring F → List (CosetData F) → ℕ → CosetData F
+domain_at r ds i = get_or ds i (record { shift = r.one; log_size = 0 })
+
+-- no two domains of the list have a point in common
+abbrev pub AllDisjoint : {F : Type 0} → TwoAdic F → List (CosetData F) → Type 0
+AllDisjoint f ds = (i j : ℕ) → i < length ds → j < length ds → (i ≡ j → ⊥)
+    → AreDisjoint (2 ^ (domain_at f.ring ds i).log_size) (point f.ring f.root (domain_at f.ring ds i)) (2 ^ (domain_at f.ring ds j).log_size) (point f.ring f.root (domain_at f.ring ds j))
+
+-- the weight of chunk i at x: the product over the other domains j of Van_j(x) / Van_j(first point of domain i).
+-- At the points of domain i it is one where the domains are cosets of one group, and at those of the others zero.
+unfoldable pub chunk_weight : {F E : Type 0} → TwoAdic F → Extension F E → List (CosetData F) → ℕ → E → E
+chunk_weight f e ds i x =
+    product_but e.ring (length ds) i
+    (λ j. e.ring.mul (val_in e (van f.ring f.inv (domain_at f.ring ds j)) x) (e.embed (f.inv (val f.ring (van f.ring f.inv (domain_at f.ring ds j)) (point f.ring f.root (domain_at f.ring ds i) 0)))))
+
+-- the quotient's value at x, where chunk i's polynomials have the values listed in item i of `chunks`: the sum of
+-- each chunk's weight times the sum of its values times the basis elements
+unfoldable pub recombined : {F E : Type 0} → TwoAdic F → Extension F E → List (CosetData F) → List (List E) → E → E
+recombined f e ds chunks x =
+    total e.ring (length ds) (λ i. e.ring.mul (chunk_weight f e ds i x) (combine e.ring e.basis 0 (get_or chunks i [])))

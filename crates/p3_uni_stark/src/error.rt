@@ -1,0 +1,104 @@
+//! Why a proof is refused.
+
+use p3_commit::PeriodicColumnShapeError;
+use std::fmt::Display;
+use thiserror::Error;
+
+/// A count, a width, a length or a presence in a proof that its statement doesn't allow (`InvalidProofShapeError` of
+/// `p3-uni-stark`). `air` is the number of the table in its batch, and None where a single table is proved.
+#[derive(Debug, Drop, Error)]
+pub enum InvalidProofShapeError {
+    /// The lists of the batch differ in their numbers of tables.
+    #[error("the lists of a batch differ in their numbers of tables")]
+    InstanceCountMismatch,
+    /// The degree bits are too few.
+    #[error("table {air:?}: degree bits {got} are below {minimum}")]
+    DegreeBitsTooSmall {
+        air: Option<usize>,
+        minimum: usize,
+        got: usize,
+    },
+    /// The degree bits are too many.
+    #[error("table {air:?}: degree bits {got} are above {maximum}")]
+    DegreeBitsTooLarge {
+        air: Option<usize>,
+        maximum: usize,
+        got: usize,
+    },
+    /// The quotient domain would be too large.
+    #[error("table {air:?}: quotient domain bits {got} are above {maximum}")]
+    QuotientDomainTooLarge {
+        air: Option<usize>,
+        maximum: usize,
+        got: usize,
+    },
+    /// The next row's opened values are missing, or too few or too many.
+    #[error("table {air:?}: the next row's opened values don't fit the declared columns")]
+    TraceNextMismatch { air: Option<usize> },
+    /// The next row is opened, though no column of it is declared.
+    #[error("table {air:?}: the next row is opened and isn't declared")]
+    UnexpectedTraceNext { air: Option<usize> },
+    /// Preprocessed values are opened of a table that has none.
+    #[error("table {air:?}: preprocessed values are opened of a table without any")]
+    UnexpectedPreprocessedValues { air: Option<usize> },
+    /// The next preprocessed row is opened, though no column of it is declared.
+    #[error("table {air:?}: the next preprocessed row is opened and isn't declared")]
+    UnexpectedPreprocessedNext { air: Option<usize> },
+    /// The number of public values isn't the declared one.
+    #[error("{got} public values in place of {expected}")]
+    PublicValuesLengthMismatch { expected: usize, got: usize },
+    /// The number of opened values of the current row isn't the table's width.
+    #[error("table {air}: {got} opened values of a row of {expected}")]
+    TraceLocalWidthMismatch {
+        air: usize,
+        expected: usize,
+        got: usize,
+    },
+    /// The number of quotient chunks isn't the expected one.
+    #[error("table {air}: {got} quotient chunks in place of {expected}")]
+    QuotientChunksCountMismatch {
+        air: usize,
+        expected: usize,
+        got: usize,
+    },
+    /// A quotient chunk hasn't as many values as the challenge field has dimensions.
+    #[error("table {air}: a quotient chunk of another length than the challenge field's dimension")]
+    QuotientChunkDimensionMismatch { air: usize },
+    /// The opened preprocessed values are missing, or too few or too many.
+    #[error("table {air}: the opened preprocessed values don't fit the declared width")]
+    PreprocessedWidthMismatch { air: usize },
+    /// The preprocessed trace was committed for another height.
+    #[error("table {air}: the preprocessed trace was committed for another height")]
+    PreprocessedMetadataMismatch { air: usize },
+    /// The preprocessed values aren't opened.
+    #[error("table {air}: the preprocessed values aren't opened")]
+    MissingPreprocessedValues { air: usize },
+    /// The numbers of quotient chunks and of their domains differ.
+    #[error("table {air}: the numbers of quotient chunks and of their domains differ")]
+    QuotientDomainsCountMismatch { air: usize },
+}
+
+/// Why a proof isn't accepted (`VerificationError` of `p3-uni-stark`); `E` is the backend's error.
+#[derive(Debug, Drop, Error)]
+#[error_bound(E: Display)]
+pub enum VerificationError<E> {
+    /// A count, a width, a length or a presence is wrong.
+    #[error("{0}")]
+    InvalidProofShape(InvalidProofShapeError),
+    /// The backend refuses the opening.
+    #[error("invalid opening argument: {0}")]
+    InvalidOpeningArgument(E),
+    /// The drawn point lies in a trace domain.
+    #[error("the drawn point lies in a trace domain")]
+    OodPointInDomain,
+    /// The folded constraints aren't the vanishing value times the quotient at the drawn point. `index` is the number
+    /// of the table in its batch.
+    #[error("the identity fails at the drawn point, of table {index:?}")]
+    OodEvaluationMismatch { index: Option<usize> },
+    /// Something random is there that the backend doesn't ask for, or is missing, or has another length.
+    #[error("the random openings aren't those that the backend asks for")]
+    RandomizationError,
+    /// A periodic column doesn't fit the height.
+    #[error("{0}")]
+    PeriodicColumn(PeriodicColumnShapeError),
+}

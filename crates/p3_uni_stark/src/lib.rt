@@ -1,0 +1,20 @@
+//! What provers and verifiers of single tables share with those of batches: the errors, the opened values, the
+//! recombination of a quotient from its chunks, and counts of openings. After Plonky3's `p3-uni-stark`.
+//!
+//! The definitions that the contracts cite are in `specs/`.
+#![tactic(auto)]
+
+mod degree_bits;
+mod error;
+mod openings;
+mod proof;
+mod recompose;
+
+pub use degree_bits::validate_degree_bits;
+pub use error::{InvalidProofShapeError, VerificationError};
+pub use openings::{OpeningShape, StarkOpeningLayout, num_batched_openings};
+pub use proof::{OpenedValues, PreprocessedOpenedValues};
+pub use recompose::recomposed_quotient;
+
+#[cfg(test)]
+mod tests;

@@ -1,0 +1,77 @@
+//! A quotient's value from those of its chunks.
+ghost use Rattle.std.specs.Prelude.{◌≡◌, ℕ, ◌+◌, ◌<◌, ◌^◌, length, map, get_or};
+ghost use Rattle.std.specs.List.{All};
+ghost use Rattle.p3_field.specs.Field.{combine};
+ghost use Rattle.p3_field.specs.Poly.{val};
+ghost use Rattle.p3_field.specs.Domain.{van, point};
+ghost use Rattle.p3_commit.specs.Space.{IsPoint};
+ghost use Rattle.p3_uni_stark.specs.Recombine.{product, domain_at, AllDisjoint, chunk_weight, recombined};
+
+use p3_commit::PolynomialSpace;
+use p3_field::{
+    ExtensionField, Field, FieldCore, PrimeCharacteristicRing, RingCore, TwoAdicCore, TwoAdicField,
+    TwoAdicMultiplicativeCoset,
+};
+
+// The product of the domains' vanishing polynomials at a point, which isn't zero outside of all of them.
+fn vanishing_product<F: TwoAdicField, EF: ExtensionField<F>>(
+    domains: &[TwoAdicMultiplicativeCoset<F>],
+    x: EF,
+) -> EF
+    ensures value { result ≡ product EF.ring (length domains.now) (λ j. val EF.ring (map EF.embed (van F.ring F.inv (domain_at F.ring domains.now j))) x) }
+    ensures nonzero { ((j : ℕ) → j < length domains.now → IsPoint (2 ^ (domain_at F.ring domains.now j).log_size) (point F.ring F.root (domain_at F.ring domains.now j)) EF.embed x → ⊥) → result ≡ EF.ring.zero → ⊥ }
+{
+    let mut product = EF::ONE;
+    for domain in domains {
+        product = product * domain.vanishing_poly_at_point(x);
+    }
+    product
+}
+
+// The weight of a chunk's domain at a point.
+fn weight_at<F: TwoAdicField, EF: ExtensionField<F>>(
+    domains: &[TwoAdicMultiplicativeCoset<F>],
+    chunk: usize,
+    x: EF,
+) -> EF
+    requires chunk { chunk < length domains.now }
+    requires disjoint { AllDisjoint (record { ring = F.ring; inv = F.inv; root = F.root; generator = F.GENERATOR }) domains.now }
+    ensures { result ≡ chunk_weight (record { ring = F.ring; inv = F.inv; root = F.root; generator = F.GENERATOR }) (record { ring = EF.ring; embed = EF.embed; dimension = EF.DIMENSION; basis = EF.basis; parts = EF.parts; whole = EF.whole }) domains.now chunk x }
+{
+    let before = &domains[..chunk];
+    let behind = &domains[chunk + 1..];
+    let first = domains[chunk].first_point();
+    let scale = vanishing_product(before, first) * vanishing_product(behind, first);
+    vanishing_product(before, x) * vanishing_product(behind, x) * EF::from_base(scale.inverse())
+}
+
+// The value of a chunk, from those of its coefficient columns.
+fn chunk_value<F: TwoAdicField, EF: ExtensionField<F>>(values: &[EF]) -> EF
+    requires { length values.now ≡ EF.DIMENSION }
+    ensures { result ≡ combine EF.ring EF.basis 0 values.now }
+{
+    match EF::from_ext_basis_coefficients(values) {
+        Some(value) => value,
+        None => unreachable!(),
+    }
+}
+
+/// The value at a point of a quotient whose chunks have the values `chunks` there: for each chunk the values of its
+/// coefficient columns, as many as the larger field has dimensions. Chunk i's polynomials agree with the quotient on
+/// domain i, and no two domains share a point (`recompose_quotient_from_chunks` of `p3-uni-stark`).
+pub fn recomposed_quotient<F: TwoAdicField, EF: ExtensionField<F>>(
+    domains: &[TwoAdicMultiplicativeCoset<F>],
+    chunks: &[Vec<EF>],
+    x: EF,
+) -> EF
+    requires one_for_each { length chunks.now ≡ length domains.now }
+    requires disjoint { AllDisjoint (record { ring = F.ring; inv = F.inv; root = F.root; generator = F.GENERATOR }) domains.now }
+    requires dimension { All (λ c. length c.items ≡ EF.DIMENSION) chunks.now }
+    ensures { result ≡ recombined (record { ring = F.ring; inv = F.inv; root = F.root; generator = F.GENERATOR }) (record { ring = EF.ring; embed = EF.embed; dimension = EF.DIMENSION; basis = EF.basis; parts = EF.parts; whole = EF.whole }) domains.now (map (λ c. c.items) chunks.now) x }
+{
+    let mut sum = EF::ZERO;
+    for (chunk, values) in chunks.iter().enumerate() {
+        sum = sum + weight_at(domains, chunk, x) * chunk_value::<F, EF>(values);
+    }
+    sum
+}
