@@ -10,6 +10,7 @@
 mod base;
 mod builder;
 mod cells;
+pub mod examples;
 
 pub use base::{Air, BaseAir};
 pub use builder::{AirBuilder, ExtensionBuilder, InteractionBuilder, PermutationAirBuilder};
