@@ -30,4 +30,5 @@ swap_declaration = record {
   periodic = [];
   constraints = None;
   degree_hint = None;
-  boolean_trace = false }
+  boolean_trace = false;
+}

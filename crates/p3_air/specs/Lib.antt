@@ -1,3 +1,6 @@
 pub mod Tree
 pub mod Shape
 pub mod Examples
+pub mod Symbolic
+pub mod Degree
+pub mod Laws

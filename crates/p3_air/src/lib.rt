@@ -11,7 +11,11 @@ mod base;
 mod builder;
 mod cells;
 pub mod examples;
+mod node;
+mod symbolic;
 
 pub use base::{Air, BaseAir};
 pub use builder::{AirBuilder, ExtensionBuilder, InteractionBuilder, PermutationAirBuilder};
 pub use cells::{Cell, Count, ExtCell};
+pub use node::Node;
+pub use symbolic::{SymbolicExpression, constraint_degree_from_poly_degree};

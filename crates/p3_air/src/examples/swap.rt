@@ -90,12 +90,34 @@ impl<F: Field> Air<F> for SwapAir {
     fn eval<AB: InteractionBuilder<F = F>>(&self, builder: &mut AB) -> Mem<()> {
         let first = Cell::FirstRow;
         let step = Cell::Transition;
-        let l = Cell::Main { next: false, column: 0 };
-        let r = Cell::Main { next: false, column: 1 };
+        let l = Cell::Main {
+            next: false,
+            column: 0,
+        };
+        let r = Cell::Main {
+            next: false,
+            column: 1,
+        };
         assert_equal_when(builder, first, l, Cell::Public(0))?;
         assert_equal_when(builder, first, r, Cell::Public(1))?;
-        assert_equal_when(builder, step, Cell::Main { next: true, column: 0 }, r)?;
-        assert_equal_when(builder, step, Cell::Main { next: true, column: 1 }, l)?;
+        assert_equal_when(
+            builder,
+            step,
+            Cell::Main {
+                next: true,
+                column: 0,
+            },
+            r,
+        )?;
+        assert_equal_when(
+            builder,
+            step,
+            Cell::Main {
+                next: true,
+                column: 1,
+            },
+            l,
+        )?;
         assert_equal_when(builder, Cell::LastRow, r, Cell::Public(2))?;
         Ok(())
     }
