@@ -11,11 +11,14 @@ mod base;
 mod builder;
 mod cells;
 pub mod examples;
+mod layout;
 mod node;
+mod recorded;
 mod symbolic;
 
 pub use base::{Air, BaseAir};
 pub use builder::{AirBuilder, ExtensionBuilder, InteractionBuilder, PermutationAirBuilder};
 pub use cells::{Cell, Count, ExtCell};
+pub use layout::{AirLayout, ConstraintLayout};
 pub use node::Node;
 pub use symbolic::{SymbolicExpression, constraint_degree_from_poly_degree};
