@@ -1,5 +1,5 @@
 -- Layouts: how many cells of each kind an AIR's builder declares, and where its constraints stand among all.
-use Rattle.std.specs.Prelude.{◌≡◌, ℕ, ◌+◌, ◌-◌, ◌<◌, true, List, length, map, All}
+use Rattle.std.specs.Prelude.{ℕ, ◌+◌, ◌-◌, true, List, length, map}
 use Rattle.p3_field.specs.Ring.{Ring, pow}
 use Rattle.p3_air.specs.declared.layout.AirLayout.{AirLayout}
 use Rattle.p3_air.specs.Shape.{Shape, Declaration, width_of}

@@ -1,5 +1,5 @@
 -- What a recording builder holds, and the trees and interactions that it stands for.
-use Rattle.std.specs.Prelude.{◌≡◌, ℕ, ◌<◌, ◌%◌, ◌++◌, zero, suc, Bool, true, false, nat_lt, cond, List, [], ◌∷◌, length, map, filter, All, Option, Some, None}
+use Rattle.std.specs.Prelude.{◌≡◌, ℕ, ◌<◌, ◌%◌, ◌++◌, suc, Bool, true, false, nat_lt, cond, List, [], ◌∷◌, length, map, filter, All, Option, Some, None}
 use Rattle.p3_air.specs.declared.cells.Count.{Count}
 use Rattle.p3_air.specs.declared.layout.AirLayout.{AirLayout}
 use Rattle.p3_air.specs.declared.node.Node.{Node}
@@ -81,3 +81,6 @@ indices_from true k [] = []
 indices_from false k [] = []
 indices_from true k (a ∷ xs) = cond a.in_extension (k ∷ indices_from true (suc k) xs) (indices_from true (suc k) xs)
 indices_from false k (a ∷ xs) = cond a.in_extension (indices_from false (suc k) xs) (k ∷ indices_from false (suc k) xs)
+
+abbrev pub known_count : ℕ → Count ℕ → Count ℕ
+known_count n c = record { value = known_place n c.value; bound = c.bound }

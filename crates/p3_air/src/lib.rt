@@ -14,6 +14,7 @@ pub mod examples;
 mod layout;
 mod node;
 mod recorded;
+mod recorder;
 mod symbolic;
 
 pub use base::{Air, BaseAir};
@@ -21,4 +22,5 @@ pub use builder::{AirBuilder, ExtensionBuilder, InteractionBuilder, PermutationA
 pub use cells::{Cell, Count, ExtCell};
 pub use layout::{AirLayout, ConstraintLayout};
 pub use node::Node;
+pub use recorder::InteractionSymbolicBuilder;
 pub use symbolic::{SymbolicExpression, constraint_degree_from_poly_degree};
