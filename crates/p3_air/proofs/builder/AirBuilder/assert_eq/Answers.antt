@@ -1,0 +1,9 @@
+use Rattle.std.proofs.lemmas.Result.{IfOk-weaker}
+use Rattle.p3_air.specs.Tree.{difference}
+use Rattle.p3_air.proofs.builder.AirBuilder.assert_eq.Goals as goal
+
+pub returns-clause-grows : goal.returns-clause-grows
+returns-clause-grows g c s t hs ht =
+    IfOk-weaker _ _ _
+    (λ _ p. g.met.Self.AirBuilder.grows_along _ _ _ _ _ _ _ c.sub.ensures.grows p)
+    (c.assert_zero.ensures.grows (difference s t) (c.in_ok-difference.ensures.stands s t hs ht))

@@ -1,0 +1,10 @@
+use Rattle.std.proofs.Common.{◌≡◌, List, [], take}
+use Rattle.p3_air.specs.Tree.{Tree, Stand}
+use Rattle.p3_air.proofs.builder.AirBuilder.assert_zeros.Given as goal
+
+abbrev pub invariant-loop-x : goal.invariant-loop-x
+invariant-loop-x g l =
+    g.Self.AirBuilder.later l.initial.self l.self
+    × (g.Self.AirBuilder.shape l.self ≡ g.Self.AirBuilder.shape l.initial.self)
+    × ((ts : List (Tree g.row.Self-F.Denot)) → Stand (g.Self.AirBuilder.stands l.initial.self) l.xs ts
+    → g.Self.AirBuilder.grows l.initial.self l.self (take l.x-index ts) [])

@@ -1,0 +1,9 @@
+pub mod Tree
+pub mod Shape
+pub mod Symbolic
+pub mod Degree
+pub mod Layout
+pub mod Placed
+pub mod Recording
+pub mod Examples
+pub mod Laws

@@ -1,0 +1,68 @@
+-- Constraint trees, their values, and what an interaction sends. The rules are those of Plonky3's p3-air
+-- (SymbolicExpression) and p3-lookup (Lookup): a constraint is an expression over the cells of a row and of the
+-- next one, public values, selectors and, for lookups, cells of the extension.
+use Rattle.std.specs.Prelude.{◌≡◌, ℕ, ◌*◌, ◌+◌, ◌/◌, ◌<◌, List, length, slice_range}
+use Rattle.std.specs.Prelude.{slice_index_or as get_or}
+use Rattle.p3_air.specs.declared.cells.Cell.{Cell}
+use Rattle.p3_air.specs.declared.cells.ExtCell.{ExtCell}
+use Rattle.p3_air.specs.declared.cells.Count.{Count}
+
+-- a constraint tree over constants of F, as written: nothing is simplified
+pub data Tree (F : Type 0) : Type 0 where
+  constant : F → Tree F
+  cell : Cell → Tree F
+  ext_cell : ExtCell → Tree F
+  sum : Tree F → Tree F → Tree F
+  difference : Tree F → Tree F → Tree F
+  product : Tree F → Tree F → Tree F
+
+-- what gives a tree over F a value in E: the way in from constants, the operations, and a value of each cell
+pub record Reading (F E : Type 0) : Type 0 where
+  pub from : F → E
+  pub add : E → E → E
+  pub sub : E → E → E
+  pub mul : E → E → E
+  pub at : Cell → E
+  pub at_ext : ExtCell → E
+
+-- the value of a tree
+abbrev pub ev : {F E : Type 0} → Reading F E → Tree F → E
+ev r (constant x) = r.from x
+ev r (cell c) = r.at c
+ev r (ext_cell c) = r.at_ext c
+ev r (sum x y) = r.add (ev r x) (ev r y)
+ev r (difference x y) = r.sub (ev r x) (ev r y)
+ev r (product x y) = r.mul (ev r x) (ev r y)
+
+-- whom an interaction speaks to: its own table alone, or all that use the bus of this name (its UTF-8 bytes)
+pub data Bus : Type 0 where
+  local : Bus
+  global : List ℕ → Bus
+
+-- What one interaction call records: tuples of one width, one after another, and a count for each. A call that
+-- names a bus has one tuple.
+pub record Interaction (F : Type 0) : Type 0 where
+  pub bus : Bus
+  pub fields : List (Tree F)
+  pub counts : List (Count (Tree F))
+
+-- how many fields each tuple has
+abbrev pub tuple_width : {F : Type 0} → Interaction F → ℕ
+tuple_width i = length i.fields / length i.counts
+
+-- tuple k
+abbrev pub tuple_at : {F : Type 0} → Interaction F → ℕ → List (Tree F)
+tuple_at i k = slice_range i.fields (k * tuple_width i) (k * tuple_width i + tuple_width i)
+
+-- the lists have one length, and each expression is in the relation with the tree at its place
+pub record Stand {E T : Type 0} (P : E → T → Type 0) (es : List E) (ts : List T) : Type 0 where
+  pub long : length ts ≡ length es
+  pub each : (k : ℕ) (d : E) (u : T) → k < length es → P (get_or es k d) (get_or ts k u)
+
+-- the count's value is in the relation with the tree's, and their bounds are one
+abbrev pub StandCount : {E T : Type 0} → (E → T → Type 0) → Count E → Count T → Type 0
+StandCount P c v = P c.value v.value × (v.bound ≡ c.bound)
+
+-- x (x - 1), which is zero where x is zero or one
+abbrev pub bool_tree : {F : Type 0} → F → Tree F → Tree F
+bool_tree one x = product x (difference x (constant one))

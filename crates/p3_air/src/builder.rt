@@ -1,0 +1,233 @@
+//! Builders: what an AIR's constraints are handed to.
+ghost use Rattle.std.specs.Prelude.{◌≡◌, ℕ, ◌<◌, ◌%◌, List, [], ◌∷◌, ◌++◌, IfOk, IsOk, IsTrue, Bool, length, map};
+ghost use Rattle.p3_air.specs.Shape.{Shape, Declares, DeclaresExt};
+ghost use Rattle.p3_air.specs.Tree.{Tree, Interaction, Stand, StandCount, constant as constant_tree, cell as cell_tree, ext_cell as ext_cell_tree, sum, difference, product, bool_tree, local, global};
+ghost use Rattle.p3_air.specs.declared.cells.Count.{Count as CountOf};
+
+use crate::cells::{Cell, Count, ExtCell};
+use p3_field::{FieldCore, Mem, RingCore};
+
+/// Takes constraints (`p3_air::AirBuilder`). An expression stands for a constraint tree, and `assert_zero` appends
+/// its expression's tree to the list of asserted trees.
+///
+/// The list of asserted trees and that of interactions are meanings: no builder need keep them. `grows` says what a
+/// state has in the two lists beyond an earlier one.
+pub trait AirBuilder {
+    /// The field of the trace.
+    type F: FieldCore;
+
+    /// Expressions over the cells.
+    type Expr: Copy;
+
+    // This expression stands for this tree in this state.
+    ghost stands: { Self → Self.Expr → Tree Self.F → Type 0 };
+
+    // The second state is the first one or comes after it.
+    ghost later: { Self → Self → Type 0 };
+
+    // The second state comes after the first, with these trees and interactions appended since.
+    ghost grows: { Self → Self → List (Tree Self.F) → List (Interaction Self.F) → Type 0 };
+
+    // The cells that are declared. No call changes them.
+    ghost shape: { Self → Shape };
+
+    // Whether no call fails.
+    ghost never_fails: { Bool };
+
+    /// The value of a declared cell.
+    fn cell(&mut self, c: Cell) -> Mem<Self::Expr>
+        requires { Declares (shape self.old) c }
+        ensures same { shape self.new ≡ shape self.old }
+        ensures grows { grows self.old self.new [] [] }
+        ensures answers { IsTrue never_fails → IsOk result }
+        ensures stands { IfOk result (λ e. stands self.new e (cell_tree c)) };
+
+    /// A constant.
+    fn constant(&mut self, x: Self::F) -> Mem<Self::Expr>
+        ensures same { shape self.new ≡ shape self.old }
+        ensures grows { grows self.old self.new [] [] }
+        ensures answers { IsTrue never_fails → IsOk result }
+        ensures stands { IfOk result (λ e. stands self.new e (constant_tree x)) };
+
+    /// The sum x + y.
+    fn add(&mut self, x: Self::Expr, y: Self::Expr) -> Mem<Self::Expr>
+        ensures same { shape self.new ≡ shape self.old }
+        ensures grows { grows self.old self.new [] [] }
+        ensures answers { IsTrue never_fails → IsOk result }
+        ensures stands { (s t : Tree Self.F) → stands self.old x s → stands self.old y t → IfOk result (λ e. stands self.new e (sum s t)) };
+
+    /// The difference x - y.
+    fn sub(&mut self, x: Self::Expr, y: Self::Expr) -> Mem<Self::Expr>
+        ensures same { shape self.new ≡ shape self.old }
+        ensures grows { grows self.old self.new [] [] }
+        ensures answers { IsTrue never_fails → IsOk result }
+        ensures stands { (s t : Tree Self.F) → stands self.old x s → stands self.old y t → IfOk result (λ e. stands self.new e (difference s t)) };
+
+    /// The product x * y.
+    fn mul(&mut self, x: Self::Expr, y: Self::Expr) -> Mem<Self::Expr>
+        ensures same { shape self.new ≡ shape self.old }
+        ensures grows { grows self.old self.new [] [] }
+        ensures answers { IsTrue never_fails → IsOk result }
+        ensures stands { (s t : Tree Self.F) → stands self.old x s → stands self.old y t → IfOk result (λ e. stands self.new e (product s t)) };
+
+    /// Asserts that x is zero in every row.
+    fn assert_zero(&mut self, x: Self::Expr) -> Mem<()>
+        ensures later { later self.old self.new }
+        ensures same { shape self.new ≡ shape self.old }
+        ensures answers { IsTrue never_fails → IsOk result }
+        ensures grows { (t : Tree Self.F) → stands self.old x t → IfOk result (λ _. grows self.old self.new (t ∷ []) []) };
+
+    /// Asserts that x - y is zero in every row.
+    fn assert_eq(&mut self, x: Self::Expr, y: Self::Expr) -> Mem<()>
+        ensures later { later self.old self.new }
+        ensures same { shape self.new ≡ shape self.old }
+        ensures answers { IsTrue never_fails → IsOk result }
+        ensures grows { (s t : Tree Self.F) → stands self.old x s → stands self.old y t → IfOk result (λ _. grows self.old self.new (difference s t ∷ []) []) }
+    {
+        let difference = self.sub(x, y)?;
+        self.assert_zero(difference)
+    }
+
+    /// Asserts that x * (x - 1) is zero in every row: that x is zero or one.
+    fn assert_bool(&mut self, x: Self::Expr) -> Mem<()>
+        ensures later { later self.old self.new }
+        ensures same { shape self.new ≡ shape self.old }
+        ensures answers { IsTrue never_fails → IsOk result }
+        ensures grows { (t : Tree Self.F) → stands self.old x t → IfOk result (λ _. grows self.old self.new (bool_tree Self.F.ring.one t ∷ []) []) }
+    {
+        let one = self.constant(<Self::F as RingCore>::ONE)?;
+        let less = self.sub(x, one)?;
+        let product = self.mul(x, less)?;
+        self.assert_zero(product)
+    }
+
+    /// Asserts that each of `xs` is zero in every row, in order.
+    fn assert_zeros(&mut self, xs: &[Self::Expr]) -> Mem<()>
+        ensures later { later self.old self.new }
+        ensures same { shape self.new ≡ shape self.old }
+        ensures answers { IsTrue never_fails → IsOk result }
+        ensures grows { (ts : List (Tree Self.F)) → Stand (stands self.old) xs.now ts → IfOk result (λ _. grows self.old self.new ts []) }
+    {
+        for x in xs {
+            self.assert_zero(*x)?;
+        }
+        Ok(())
+    }
+
+    /// Asserts that x * (x - 1) is zero in every row for each x of `xs`, in order.
+    fn assert_bools(&mut self, xs: &[Self::Expr]) -> Mem<()>
+        ensures later { later self.old self.new }
+        ensures same { shape self.new ≡ shape self.old }
+        ensures answers { IsTrue never_fails → IsOk result }
+        ensures grows { (ts : List (Tree Self.F)) → Stand (stands self.old) xs.now ts → IfOk result (λ _. grows self.old self.new (map (bool_tree Self.F.ring.one) ts) []) }
+    {
+        for x in xs {
+            self.assert_bool(*x)?;
+        }
+        Ok(())
+    }
+
+    ghost later_same: { (a : Self) → later a a };
+
+    ghost later_along: { (a b c : Self) → later a b → later b c → later a c };
+
+    // What stands for a tree in a state stands for it in every later state.
+    ghost persists: { (a b : Self) → later a b → (e : Self.Expr) (t : Tree Self.F) → stands a e t → stands b e t };
+
+    ghost grows_same: { (a : Self) → grows a a [] [] };
+
+    ghost grows_later: { (a b : Self) (ts : List (Tree Self.F)) (is : List (Interaction Self.F)) → grows a b ts is → later a b };
+
+    ghost grows_along: { (a b c : Self) (s t : List (Tree Self.F)) (i j : List (Interaction Self.F)) → grows a b s i → grows b c t j → grows a c (s ++ t) (i ++ j) };
+}
+
+/// Takes constraints over an extension of the field too (`p3_air::ExtensionBuilder`).
+pub trait ExtensionBuilder: AirBuilder {
+    /// Expressions with values in the extension.
+    type ExprEF: Copy;
+
+    // This expression of the extension stands for this tree in this state.
+    ghost stands_ext: { Self → Self.ExprEF → Tree Self.F → Type 0 };
+
+    /// An expression of the base as one of the extension: the same tree.
+    fn lift(&mut self, x: Self::Expr) -> Mem<Self::ExprEF>
+        ensures same { Self.shape self.new ≡ Self.shape self.old }
+        ensures grows { Self.grows self.old self.new [] [] }
+        ensures answers { IsTrue Self.never_fails → IsOk result }
+        ensures stands { (t : Tree Self.F) → Self.stands self.old x t → IfOk result (λ e. stands_ext self.new e t) };
+
+    /// The sum x + y.
+    fn add_ext(&mut self, x: Self::ExprEF, y: Self::ExprEF) -> Mem<Self::ExprEF>
+        ensures same { Self.shape self.new ≡ Self.shape self.old }
+        ensures grows { Self.grows self.old self.new [] [] }
+        ensures answers { IsTrue Self.never_fails → IsOk result }
+        ensures stands { (s t : Tree Self.F) → stands_ext self.old x s → stands_ext self.old y t → IfOk result (λ e. stands_ext self.new e (sum s t)) };
+
+    /// The difference x - y.
+    fn sub_ext(&mut self, x: Self::ExprEF, y: Self::ExprEF) -> Mem<Self::ExprEF>
+        ensures same { Self.shape self.new ≡ Self.shape self.old }
+        ensures grows { Self.grows self.old self.new [] [] }
+        ensures answers { IsTrue Self.never_fails → IsOk result }
+        ensures stands { (s t : Tree Self.F) → stands_ext self.old x s → stands_ext self.old y t → IfOk result (λ e. stands_ext self.new e (difference s t)) };
+
+    /// The product x * y.
+    fn mul_ext(&mut self, x: Self::ExprEF, y: Self::ExprEF) -> Mem<Self::ExprEF>
+        ensures same { Self.shape self.new ≡ Self.shape self.old }
+        ensures grows { Self.grows self.old self.new [] [] }
+        ensures answers { IsTrue Self.never_fails → IsOk result }
+        ensures stands { (s t : Tree Self.F) → stands_ext self.old x s → stands_ext self.old y t → IfOk result (λ e. stands_ext self.new e (product s t)) };
+
+    /// Asserts that x is zero in every row.
+    fn assert_zero_ext(&mut self, x: Self::ExprEF) -> Mem<()>
+        ensures later { Self.later self.old self.new }
+        ensures same { Self.shape self.new ≡ Self.shape self.old }
+        ensures answers { IsTrue Self.never_fails → IsOk result }
+        ensures grows { (t : Tree Self.F) → stands_ext self.old x t → IfOk result (λ _. Self.grows self.old self.new (t ∷ []) []) };
+
+    // What stands for a tree in a state stands for it in every later state.
+    ghost persists_ext: { (a b : Self) → Self.later a b → (e : Self.ExprEF) (t : Tree Self.F) → stands_ext a e t → stands_ext b e t };
+}
+
+/// Takes constraints over the permutation trace of lookups too (`p3_air::PermutationAirBuilder`).
+pub trait PermutationAirBuilder: ExtensionBuilder {
+    /// The value of a declared cell of the extension.
+    fn ext_cell(&mut self, c: ExtCell) -> Mem<Self::ExprEF>
+        requires { DeclaresExt (Self.shape self.old) c }
+        ensures same { Self.shape self.new ≡ Self.shape self.old }
+        ensures grows { Self.grows self.old self.new [] [] }
+        ensures answers { IsTrue Self.never_fails → IsOk result }
+        ensures stands { IfOk result (λ e. Self.stands_ext self.new e (ext_cell_tree c)) };
+}
+
+/// Takes interactions too (`p3_lookup::InteractionBuilder`).
+pub trait InteractionBuilder: PermutationAirBuilder {
+    /// Sends the tuple of `fields` on the bus of this name, as often as `count` says.
+    fn push_interaction(
+        &mut self,
+        bus_name: &str,
+        fields: &[Self::Expr],
+        count: Count<Self::Expr>,
+    ) -> Mem<()>
+        ensures later { Self.later self.old self.new }
+        ensures same { Self.shape self.new ≡ Self.shape self.old }
+        ensures answers { IsTrue Self.never_fails → IsOk result }
+        ensures grows { (fs : List (Tree Self.F)) (v : Tree Self.F) → Stand (Self.stands self.old) fields.now fs → Self.stands self.old count.value v
+            → IfOk result (λ _. Self.grows self.old self.new [] (record { bus = global bus_name.now; fields = fs; counts = record { value = v; bound = count.bound } ∷ [] } ∷ [])) };
+
+    /// Sends tuples within the table itself: `fields` has the tuples one after another, all of one width, as many as
+    /// there are counts, and tuple k is sent as often as count k says. There is at least one count, and the number of
+    /// counts divides that of the fields.
+    fn push_local_interaction(
+        &mut self,
+        fields: &[Self::Expr],
+        counts: &[Count<Self::Expr>],
+    ) -> Mem<()>
+        requires counted { 0 < length counts.now }
+        requires whole { length fields.now % length counts.now ≡ 0 }
+        ensures later { Self.later self.old self.new }
+        ensures same { Self.shape self.new ≡ Self.shape self.old }
+        ensures answers { IsTrue Self.never_fails → IsOk result }
+        ensures grows { (fs : List (Tree Self.F)) (vs : List (CountOf (Tree Self.F))) → Stand (Self.stands self.old) fields.now fs
+            → Stand (StandCount (Self.stands self.old)) counts.now vs
+            → IfOk result (λ _. Self.grows self.old self.new [] (record { bus = local; fields = fs; counts = vs } ∷ [])) };
+}
