@@ -8,13 +8,17 @@ mod degree_bits;
 mod error;
 mod openings;
 mod proof;
+mod prover_folder;
 mod recompose;
+mod verifier_folder;
 
 pub use degree_bits::validate_degree_bits;
 pub use error::{InvalidProofShapeError, VerificationError};
 pub use openings::{OpeningShape, StarkOpeningLayout, num_batched_openings};
 pub use proof::{OpenedValues, PreprocessedOpenedValues};
+pub use prover_folder::ProverFolder;
 pub use recompose::recomposed_quotient;
+pub use verifier_folder::VerifierFolder;
 
 #[cfg(test)]
 mod tests;

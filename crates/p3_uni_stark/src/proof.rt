@@ -19,18 +19,17 @@ pub struct OpenedValues<Challenge> {
 }
 
 impl<Challenge> Model for OpenedValues<Challenge> {
-    ghost use Rattle.std.specs.Prelude.{map};
-    ghost use Rattle.std.specs.Option.{map as map_option};
+    ghost use Rattle.std.specs.Prelude.{map, option_map};
     ghost use Rattle.p3_uni_stark.specs.Opened.{OpenedData};
 
     ghost Value = { OpenedData Challenge };
 
     ghost view = { λ v. record {
       trace_local = v.trace_local.items;
-      trace_next = map_option (λ x. x.items) v.trace_next;
+      trace_next = option_map (λ x. x.items) v.trace_next;
       preprocessed = v.preprocessed;
       quotient_chunks = map (λ x. x.items) v.quotient_chunks.items;
-      random = map_option (λ x. x.items) v.random;
+      random = option_map (λ x. x.items) v.random;
     } };
 }
 
@@ -44,10 +43,10 @@ pub struct PreprocessedOpenedValues<Challenge> {
 }
 
 impl<Challenge> Model for PreprocessedOpenedValues<Challenge> {
-    ghost use Rattle.std.specs.Option.{map as map_option};
+    ghost use Rattle.std.specs.Prelude.{option_map};
     ghost use Rattle.p3_uni_stark.specs.Opened.{PreprocessedData};
 
     ghost Value = { PreprocessedData Challenge };
 
-    ghost view = { λ v. record { local = v.local.items; next = map_option (λ x. x.items) v.next } };
+    ghost view = { λ v. record { local = v.local.items; next = option_map (λ x. x.items) v.next } };
 }

@@ -1,0 +1,182 @@
+//! The prover's constraint folder.
+ghost use Rattle.std.specs.Prelude.{◌≡◌, List, [], ◌∷◌, ◌%◌, ◌<◌, IfOk, IsOk, IsTrue, true, length, map, refl};
+ghost use Rattle.std.proofs.Common.{◌∙◌};
+ghost use Rattle.p3_air.specs.Tree.{Tree, ev, Stand, StandCount};
+ghost use Rattle.p3_air.specs.declared.cells.Count.{Count as CountOf};
+ghost use Rattle.p3_uni_stark.specs.Fold.{added_to, weighed_from};
+ghost use Rattle.p3_uni_stark.specs.Point.{reading, embedded, point_shape};
+ghost use Rattle.p3_uni_stark.specs.Laws.Folders.{value_persists, weighed_along};
+
+use p3_air::{
+    AirBuilder, Cell, Count, ExtCell, ExtensionBuilder, InteractionBuilder, PermutationAirBuilder,
+};
+use p3_field::{ExtensionField, Field, FieldCore, Mem, PrimeCharacteristicRing, RingCore};
+
+/// Folds constraints at one point of the quotient domain, over values of the base field, by the listed powers of the
+/// challenge (`ProverConstraintFolder` of `p3-uni-stark`). It never fails. From a zero accumulator and the first power
+/// the sum is that of each constraint's value times the power of its number; where the powers are alpha^(n-1), ..,
+/// alpha, 1 this is the verifier's fold of n constraints. A constraint past the last power adds nothing, and
+/// interactions add nothing.
+#[derive(Drop)]
+pub struct ProverFolder<'a, F, E> {
+    /// The main columns' values at the point, one for each column.
+    pub main_local: &'a [F],
+    /// The main columns' values at the next point.
+    pub main_next: &'a [F],
+    /// The preprocessed columns' values at the point.
+    pub preprocessed_local: &'a [F],
+    /// The preprocessed columns' values at the next point.
+    pub preprocessed_next: &'a [F],
+    /// The periodic columns' values at the point.
+    pub periodic_values: &'a [F],
+    /// The public values.
+    pub public_values: &'a [F],
+    /// The value of the selector of the first row.
+    pub is_first_row: F,
+    /// The value of the selector of the last row.
+    pub is_last_row: F,
+    /// The value of the selector of all rows but the last.
+    pub is_transition: F,
+    /// The power of the challenge for each constraint, in order.
+    pub alpha_powers: &'a [E],
+    /// How many constraints have taken their powers.
+    pub constraint_index: usize,
+    /// The sum so far.
+    pub accumulator: E,
+}
+
+impl<F: Field, E: ExtensionField<F>> ProverFolder<'_, F, E> {
+    ghost use Rattle.p3_uni_stark.specs.ProverState.{values_of, sum_of};
+
+    // Adds the value of one more constraint times its power.
+    fn add_weighted(&mut self, x: E)
+        ensures same { values_of self.new ≡ values_of self.old }
+        ensures sum { sum_of self.new ≡ added_to E.ring (sum_of self.old).left self.old.accumulator x }
+    {
+        if self.constraint_index < self.alpha_powers.len() {
+            let power = self.alpha_powers[self.constraint_index];
+            self.accumulator = self.accumulator + power * x;
+            self.constraint_index += 1;
+        }
+    }
+}
+
+impl<'a, F: Field, E: ExtensionField<F>> AirBuilder for ProverFolder<'a, F, E> {
+    ghost use Rattle.p3_uni_stark.specs.ProverState.{values_of, sum_of};
+
+    type F = F;
+
+    type Expr = F;
+
+    ghost stands = { λ b e t. E.embed e ≡ ev (reading E.ring E.embed (embedded E.embed (values_of b))) t };
+
+    ghost later = { λ a b. values_of b ≡ values_of a };
+
+    ghost grows = { λ a b ts is. (values_of b ≡ values_of a) × (sum_of b ≡ weighed_from E.ring (sum_of a) (map (ev (reading E.ring E.embed (embedded E.embed (values_of a)))) ts)) };
+
+    ghost shape = { λ b. point_shape (values_of b) };
+
+    ghost never_fails = { true };
+
+    fn cell(&mut self, c: Cell) -> Mem<F> {
+        Ok(match c {
+            Cell::Main { next: true, column } => self.main_next[column],
+            Cell::Main { next: false, column } => self.main_local[column],
+            Cell::Preprocessed { next: true, column } => self.preprocessed_next[column],
+            Cell::Preprocessed { next: false, column } => self.preprocessed_local[column],
+            Cell::Periodic(column) => self.periodic_values[column],
+            Cell::Public(n) => self.public_values[n],
+            Cell::FirstRow => self.is_first_row,
+            Cell::LastRow => self.is_last_row,
+            Cell::Transition => self.is_transition,
+        })
+    }
+
+    fn constant(&mut self, x: F) -> Mem<F> {
+        Ok(x)
+    }
+
+    fn add(&mut self, x: F, y: F) -> Mem<F> {
+        Ok(x + y)
+    }
+
+    fn sub(&mut self, x: F, y: F) -> Mem<F> {
+        Ok(x - y)
+    }
+
+    fn mul(&mut self, x: F, y: F) -> Mem<F> {
+        Ok(x * y)
+    }
+
+    fn assert_zero(&mut self, x: F) -> Mem<()> {
+        self.add_weighted(E::from_base(x));
+        Ok(())
+    }
+
+    ghost later_same = { λ a. refl };
+
+    ghost later_along = { λ a b c p q. q ∙ p };
+
+    ghost persists = { λ a b h e t k. value_persists (λ v. reading E.ring E.embed (embedded E.embed v)) (values_of a) (values_of b) (E.embed e) t h k };
+
+    ghost grows_same = { λ a. (refl, refl) };
+
+    ghost grows_later = { λ a b t i h. h.0 };
+
+    ghost grows_along = { λ a b c s t i j p q. (q.0 ∙ p.0, weighed_along E.ring (λ v. reading E.ring E.embed (embedded E.embed v)) (values_of a) (values_of b) (sum_of a) (sum_of b) (sum_of c) s t p.0 p.1 q.1) };
+}
+
+impl<'a, F: Field, E: ExtensionField<F>> ExtensionBuilder for ProverFolder<'a, F, E> {
+    ghost use Rattle.p3_uni_stark.specs.ProverState.{values_of};
+
+    type ExprEF = E;
+
+    ghost stands_ext = { λ b e t. e ≡ ev (reading E.ring E.embed (embedded E.embed (values_of b))) t };
+
+    fn lift(&mut self, x: F) -> Mem<E> {
+        Ok(E::from_base(x))
+    }
+
+    fn add_ext(&mut self, x: E, y: E) -> Mem<E> {
+        Ok(x + y)
+    }
+
+    fn sub_ext(&mut self, x: E, y: E) -> Mem<E> {
+        Ok(x - y)
+    }
+
+    fn mul_ext(&mut self, x: E, y: E) -> Mem<E> {
+        Ok(x * y)
+    }
+
+    fn assert_zero_ext(&mut self, x: E) -> Mem<()> {
+        self.add_weighted(x);
+        Ok(())
+    }
+
+    ghost persists_ext = { λ a b h e t k. value_persists (λ v. reading E.ring E.embed (embedded E.embed v)) (values_of a) (values_of b) e t h k };
+}
+
+impl<'a, F: Field, E: ExtensionField<F>> PermutationAirBuilder for ProverFolder<'a, F, E> {
+    fn ext_cell(&mut self, _c: ExtCell) -> Mem<E> {
+        Ok(E::ZERO)
+    }
+}
+
+impl<'a, F: Field, E: ExtensionField<F>> InteractionBuilder for ProverFolder<'a, F, E> {
+    ghost use Rattle.p3_uni_stark.specs.ProverState.{values_of, sum_of};
+
+    fn push_interaction(&mut self, _bus_name: &str, fields: &[F], count: Count<F>) -> Mem<()>
+        ensures later { values_of self.new ≡ values_of self.old }
+        ensures same { point_shape (values_of self.new) ≡ point_shape (values_of self.old) }
+        ensures answers { IsTrue true → IsOk result }
+        ensures grows { (fs : List (Tree F)) (v : Tree F) → Stand (λ e t. E.embed e ≡ ev (reading E.ring E.embed (embedded E.embed (values_of self.old))) t) fields.now fs → E.embed count.value ≡ ev (reading E.ring E.embed (embedded E.embed (values_of self.old))) v
+            → IfOk result (λ _. (values_of self.new ≡ values_of self.old) × (sum_of self.new ≡ weighed_from E.ring (sum_of self.old) [])) }
+    {
+        Ok(())
+    }
+
+    fn push_local_interaction(&mut self, _fields: &[F], _counts: &[Count<F>]) -> Mem<()> {
+        Ok(())
+    }
+}

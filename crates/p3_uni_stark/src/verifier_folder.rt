@@ -1,0 +1,162 @@
+//! The verifier's constraint folder.
+ghost use Rattle.std.specs.Prelude.{◌≡◌, List, [], ◌∷◌, ◌%◌, ◌<◌, IfOk, IsOk, IsTrue, true, length, map, refl};
+ghost use Rattle.std.proofs.Common.{◌∙◌};
+ghost use Rattle.p3_air.specs.Tree.{Tree, ev, Stand, StandCount};
+ghost use Rattle.p3_air.specs.declared.cells.Count.{Count as CountOf};
+ghost use Rattle.p3_uni_stark.specs.Fold.{fold_from};
+ghost use Rattle.p3_uni_stark.specs.Point.{reading, point_shape};
+ghost use Rattle.p3_uni_stark.specs.Laws.Folders.{value_persists, folded_along};
+
+use p3_air::{
+    AirBuilder, Cell, Count, ExtCell, ExtensionBuilder, InteractionBuilder, PermutationAirBuilder,
+};
+use p3_field::{ExtensionField, Field, FieldCore, Mem, PrimeCharacteristicRing, RingCore};
+
+/// Folds constraints at one point by a challenge, over the opened values there (`VerifierConstraintFolder` of
+/// `p3-uni-stark`). It never fails. From a zero accumulator the sum after n constraints is that of
+/// alpha^(n-1-i) times constraint i's value. Interactions add nothing.
+#[derive(Drop)]
+pub struct VerifierFolder<'a, F, E> {
+    /// The main columns' values at the point, one for each column.
+    pub main_local: &'a [E],
+    /// The main columns' values at the next point.
+    pub main_next: &'a [E],
+    /// The preprocessed columns' values at the point.
+    pub preprocessed_local: &'a [E],
+    /// The preprocessed columns' values at the next point.
+    pub preprocessed_next: &'a [E],
+    /// The periodic columns' values at the point.
+    pub periodic_values: &'a [E],
+    /// The public values.
+    pub public_values: &'a [F],
+    /// The value of the selector of the first row.
+    pub is_first_row: E,
+    /// The value of the selector of the last row.
+    pub is_last_row: E,
+    /// The value of the selector of all rows but the last.
+    pub is_transition: E,
+    /// The challenge.
+    pub alpha: E,
+    /// The sum so far.
+    pub accumulator: E,
+}
+
+impl<'a, F: Field, E: ExtensionField<F>> AirBuilder for VerifierFolder<'a, F, E> {
+    ghost use Rattle.p3_uni_stark.specs.VerifierState.{opened_of};
+
+    type F = F;
+
+    type Expr = E;
+
+    ghost stands = { λ b e t. e ≡ ev (reading E.ring E.embed (opened_of b).values) t };
+
+    ghost later = { λ a b. opened_of b ≡ opened_of a };
+
+    ghost grows = { λ a b ts is. (opened_of b ≡ opened_of a) × (b.accumulator ≡ fold_from E.ring a.alpha a.accumulator (map (ev (reading E.ring E.embed (opened_of a).values)) ts)) };
+
+    ghost shape = { λ b. point_shape (opened_of b).values };
+
+    ghost never_fails = { true };
+
+    fn cell(&mut self, c: Cell) -> Mem<E> {
+        Ok(match c {
+            Cell::Main { next: true, column } => self.main_next[column],
+            Cell::Main { next: false, column } => self.main_local[column],
+            Cell::Preprocessed { next: true, column } => self.preprocessed_next[column],
+            Cell::Preprocessed { next: false, column } => self.preprocessed_local[column],
+            Cell::Periodic(column) => self.periodic_values[column],
+            Cell::Public(n) => E::from_base(self.public_values[n]),
+            Cell::FirstRow => self.is_first_row,
+            Cell::LastRow => self.is_last_row,
+            Cell::Transition => self.is_transition,
+        })
+    }
+
+    fn constant(&mut self, x: F) -> Mem<E> {
+        Ok(E::from_base(x))
+    }
+
+    fn add(&mut self, x: E, y: E) -> Mem<E> {
+        Ok(x + y)
+    }
+
+    fn sub(&mut self, x: E, y: E) -> Mem<E> {
+        Ok(x - y)
+    }
+
+    fn mul(&mut self, x: E, y: E) -> Mem<E> {
+        Ok(x * y)
+    }
+
+    fn assert_zero(&mut self, x: E) -> Mem<()> {
+        self.accumulator = self.accumulator * self.alpha + x;
+        Ok(())
+    }
+
+    ghost later_same = { λ a. refl };
+
+    ghost later_along = { λ a b c p q. q ∙ p };
+
+    ghost persists = { λ a b h e t k. value_persists (λ o. reading E.ring E.embed o.values) (opened_of a) (opened_of b) e t h k };
+
+    ghost grows_same = { λ a. (refl, refl) };
+
+    ghost grows_later = { λ a b t i h. h.0 };
+
+    ghost grows_along = { λ a b c s t i j p q. (q.0 ∙ p.0, folded_along E.ring (λ o. reading E.ring E.embed o.values) (λ o. o.alpha) (opened_of a) (opened_of b) a.accumulator b.accumulator c.accumulator s t p.0 p.1 q.1) };
+}
+
+impl<'a, F: Field, E: ExtensionField<F>> ExtensionBuilder for VerifierFolder<'a, F, E> {
+    ghost use Rattle.p3_uni_stark.specs.VerifierState.{opened_of};
+
+    type ExprEF = E;
+
+    ghost stands_ext = { λ b e t. e ≡ ev (reading E.ring E.embed (opened_of b).values) t };
+
+    fn lift(&mut self, x: E) -> Mem<E> {
+        Ok(x)
+    }
+
+    fn add_ext(&mut self, x: E, y: E) -> Mem<E> {
+        Ok(x + y)
+    }
+
+    fn sub_ext(&mut self, x: E, y: E) -> Mem<E> {
+        Ok(x - y)
+    }
+
+    fn mul_ext(&mut self, x: E, y: E) -> Mem<E> {
+        Ok(x * y)
+    }
+
+    fn assert_zero_ext(&mut self, x: E) -> Mem<()> {
+        self.accumulator = self.accumulator * self.alpha + x;
+        Ok(())
+    }
+
+    ghost persists_ext = { λ a b h e t k. value_persists (λ o. reading E.ring E.embed o.values) (opened_of a) (opened_of b) e t h k };
+}
+
+impl<'a, F: Field, E: ExtensionField<F>> PermutationAirBuilder for VerifierFolder<'a, F, E> {
+    fn ext_cell(&mut self, _c: ExtCell) -> Mem<E> {
+        Ok(E::ZERO)
+    }
+}
+
+impl<'a, F: Field, E: ExtensionField<F>> InteractionBuilder for VerifierFolder<'a, F, E> {
+    ghost use Rattle.p3_uni_stark.specs.VerifierState.{opened_of};
+
+    fn push_interaction(&mut self, _bus_name: &str, fields: &[E], count: Count<E>) -> Mem<()>
+        ensures later { opened_of self.new ≡ opened_of self.old }
+        ensures same { point_shape (opened_of self.new).values ≡ point_shape (opened_of self.old).values }
+        ensures answers { IsTrue true → IsOk result }
+        ensures grows { (fs : List (Tree F)) (v : Tree F) → Stand (λ e t. e ≡ ev (reading E.ring E.embed (opened_of self.old).values) t) fields.now fs → count.value ≡ ev (reading E.ring E.embed (opened_of self.old).values) v
+            → IfOk result (λ _. (opened_of self.new ≡ opened_of self.old) × (self.new.accumulator ≡ fold_from E.ring self.old.alpha self.old.accumulator [])) }
+    {
+        Ok(())
+    }
+
+    fn push_local_interaction(&mut self, _fields: &[E], _counts: &[Count<E>]) -> Mem<()> {
+        Ok(())
+    }
+}
