@@ -1,2 +1,5 @@
 pub mod Space
 pub mod Laws
+pub mod Claims
+pub mod Failure
+pub mod Commitments
