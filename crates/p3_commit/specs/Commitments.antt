@@ -33,6 +33,13 @@ pub record IsCommitted {F : Type 0} (r : Ring F) (n : ℕ) (p : ℕ → F) (m : 
 abbrev pub AreCommitted : {F D : Type 0} → Ring F → (D → ℕ) → (D → ℕ → F) → List (D × Rows F) → List (Committed F) → Type 0
 AreCommitted r points point_at evaluations cs = EachPair evaluations cs (λ e c. IsCommitted r (points e.0) (point_at e.0) e.1 c)
 
+-- What committing to matrices on domains gives: w.0 is a commitment to them, and w.1 is prover data that the scheme made,
+-- which belongs to this commitment and holds the interpolants.
+pub record IsCommitment {F D C P : Type 0} (r : Ring F) (points : D → ℕ) (point_at : D → ℕ → F) (commits : List (D × Rows F) → C → Type 0) (made : P → Type 0) (holds : P → C → List (Committed F) → Type 0) (evaluations : List (D × Rows F)) (w : C × P) : Type 0 where
+  pub commitment_is : commits evaluations w.0
+  pub made_is : made w.1
+  pub held : (cs : List (Committed F)) × AreCommitted r points point_at evaluations cs × holds w.1 w.0 cs
+
 -- m holds the values of c's polynomials at the n points p
 pub record IsEvaluated {F : Type 0} (r : Ring F) (n : ℕ) (p : ℕ → F) (c : Committed F) (m : Rows F) : Type 0 where
   pub width_is : m.width ≡ length c.polynomials

@@ -1,5 +1,5 @@
 -- Refusals of a commitment scheme.
-use Rattle.std.specs.Prelude.{Result, Ok, Err, ⊤}
+use Rattle.std.specs.Prelude.{Result, Ok, Err, ⊤, ◌⊎◌}
 use Rattle.p3_commit.specs.declared.failure.PcsFailure.{PcsFailure}
 use Rattle.p3_commit.specs.declared.failure.PcsFailure.TheVariants.{OutOfMemory, Refused}
 
@@ -25,8 +25,11 @@ VerifiedBy opens faults (Ok w) = opens
 VerifiedBy opens faults (Err OutOfMemory) = ⊤
 VerifiedBy opens faults (Err (Refused e)) = faults e
 
--- the answer is a refusal for such a cause, or memory is wanting
-abbrev pub RefusedFor : {T E : Type 0} → (E → Type 0) → Result T (PcsFailure E) → Type 0
-RefusedFor faults (Ok w) = ⊥
-RefusedFor faults (Err OutOfMemory) = ⊤
-RefusedFor faults (Err (Refused e)) = faults e
+-- Of two calls, where the second takes what the first gave: the first is refused for this cause, or the second is, of
+-- something that the first may give.
+abbrev pub FaultInTurn : {U E : Type 0} → (E → Type 0) → (U → Type 0) → (U → E → Type 0) → E → Type 0
+FaultInTurn first gives second e = first e ⊎ (NoneOf first × ((u : _) × gives u × second u e))
+
+-- neither is refused
+abbrev pub NoneInTurn : {U E : Type 0} → (E → Type 0) → (U → Type 0) → (U → E → Type 0) → Type 0
+NoneInTurn first gives second = NoneOf first × ((u : _) × gives u × NoneOf (second u))

@@ -4,7 +4,7 @@ ghost use Rattle.std.specs.Int.{IsPowerOfTwo};
 ghost use Rattle.p3_matrix.specs.Matrix.{Rows};
 ghost use Rattle.p3_commit.specs.Claims.{CommitmentClaim, Request};
 ghost use Rattle.p3_commit.specs.Failure.{NoneOf, RefusedBy, IfRefused, VerifiedBy};
-ghost use Rattle.p3_commit.specs.Commitments.{IsSubgroup, Committed, AreCommitted, Held, AreHeld, nested, IsOpening};
+ghost use Rattle.p3_commit.specs.Commitments.{IsSubgroup, Committed, IsCommitment, Held, AreHeld, nested, IsOpening};
 
 use crate::claims::{CommitmentOpening, OpenedValues, OpeningRequest};
 use crate::domain::PolynomialSpace;
@@ -84,10 +84,7 @@ where
         evaluations: Vec<(Self::Domain, RowMajorMatrix<Self::Val>)>,
     ) -> Result<(Self::Commitment, Self::ProverData), PcsFailure<Self::ProverError>>
         ensures refusal { RefusedBy (commit_fault self.now evaluations.items) result }
-        ensures commitment { IfOk result (λ w. commits self.now evaluations.items w.0) }
-        ensures made { IfOk result (λ w. made self.now w.1) }
-        ensures count { IfOk result (λ w. matrix_count self.now w.1 ≡ length evaluations.items) }
-        ensures committed { IfOk result (λ w. (cs : List (Committed Self.Val)) × AreCommitted Self.Val.ring Self.Domain.points Self.Domain.point_at evaluations.items cs × holds self.now w.1 w.0 cs) };
+        ensures committed { IfOk result (IsCommitment Self.Val.ring Self.Domain.points Self.Domain.point_at (commits self.now) (made self.now) (holds self.now) evaluations.items) };
 
     /// Opens committed polynomials at points. The values stand in the order of the requests, of their matrices, of the
     /// points, and of the columns. From the same state of the challenger the proof is accepted for the claims with

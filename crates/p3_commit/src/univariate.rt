@@ -1,10 +1,10 @@
 //! What provers and verifiers of STARKs need of a scheme that commits to polynomials.
-ghost use Rattle.std.specs.Prelude.{◌≡◌, ℕ, ◌+◌, ◌<◌, ◌≤◌, ◌⊎◌, Bool, IsTrue, IsFalse, List, Option, None, Some, Ok, All, length, slice_get, IfOk};
+ghost use Rattle.std.specs.Prelude.{◌≡◌, ℕ, ◌+◌, ◌<◌, ◌≤◌, ◌⊎◌, Bool, IsTrue, IsFalse, List, Option, None, Some, Ok, All, length, slice_get, zip, IfOk};
 ghost use Rattle.std.specs.Int.{IsPowerOfTwo};
 ghost use Rattle.p3_matrix.specs.Matrix.{Rows, height};
 ghost use Rattle.p3_commit.specs.Claims.{CommitmentClaim, Request};
-ghost use Rattle.p3_commit.specs.Failure.{NoneOf, RefusedBy, RefusedFor, IfRefused, VerifiedBy};
-ghost use Rattle.p3_commit.specs.Commitments.{Committed, AreCommitted, IsEvaluated, Held, AreHeld, nested, IsOpening, AreParts, AreExtensions};
+ghost use Rattle.p3_commit.specs.Failure.{RefusedBy, FaultInTurn, NoneInTurn, IfRefused, VerifiedBy};
+ghost use Rattle.p3_commit.specs.Commitments.{Committed, IsCommitment, IsEvaluated, Held, AreHeld, nested, IsOpening, AreParts, AreExtensions};
 
 use crate::claims::{CommitmentOpening, OpenedValues, OpeningRequest};
 use crate::domain::PolynomialSpace;
@@ -55,21 +55,6 @@ where
     fn log_min_trace_height(&self) -> usize
         ensures { result ≡ log_min self.now };
 
-    /// Commits as `commit` does, without masking.
-    fn commit_preprocessing(
-        &self,
-        alloc: Global,
-        evaluations: Vec<(Self::Domain, RowMajorMatrix<Self::Val>)>,
-    ) -> Result<(Self::Commitment, Self::ProverData), PcsFailure<Self::ProverError>>
-        ensures refusal { RefusedBy (Self.commit_fault self.now evaluations.items) result }
-        ensures commitment { IfOk result (λ w. Self.commits self.now evaluations.items w.0) }
-        ensures made { IfOk result (λ w. Self.made self.now w.1) }
-        ensures count { IfOk result (λ w. Self.matrix_count self.now w.1 ≡ length evaluations.items) }
-        ensures committed { IfOk result (λ w. (cs : List (Committed Self.Val)) × AreCommitted Self.Val.ring Self.Domain.points Self.Domain.point_at evaluations.items cs × Self.holds self.now w.1 w.0 cs) }
-    {
-        self.commit(alloc, evaluations)
-    }
-
     /// The extensions of a quotient's chunks, one for each, to which `commit_ldes` commits. `Refused` comes exactly
     /// where `extension_fault` names a cause.
     fn get_quotient_ldes(
@@ -92,9 +77,8 @@ where
         ensures refusal { RefusedBy (ldes_fault self.now ldes.items) result }
         ensures made { IfOk result (λ w. Self.made self.now w.1) }
         ensures count { IfOk result (λ w. Self.matrix_count self.now w.1 ≡ length ldes.items) }
-        ensures commitment { IfOk result (λ w. (chunks : List (Self.Domain × Rows Self.Val)) → AreExtensions (extends self.now) chunks ldes.items → Self.commits self.now chunks w.0) }
         ensures committed { IfOk result (λ w. (chunks : List (Self.Domain × Rows Self.Val)) → AreExtensions (extends self.now) chunks ldes.items
-            → ((cs : List (Committed Self.Val)) × AreCommitted Self.Val.ring Self.Domain.points Self.Domain.point_at chunks cs × Self.holds self.now w.1 w.0 cs)) };
+            → IsCommitment Self.Val.ring Self.Domain.points Self.Domain.point_at (Self.commits self.now) (Self.made self.now) (Self.holds self.now) chunks w) };
 
     /// The values of the polynomials of one committed matrix on a domain.
     fn get_evaluations_on_domain(
@@ -125,8 +109,55 @@ where
         self.get_evaluations_on_domain(alloc, prover_data, idx, domain)
     }
 
+    /// A commitment to polynomials of random values, which a scheme that masks nothing lacks.
+    fn get_opt_randomization_poly_commitment(
+        &self,
+        alloc: Global,
+        domains: &[Self::Domain],
+    ) -> Result<Option<(Self::Commitment, Self::ProverData)>, PcsFailure<Self::ProverError>>
+        ensures { result ≡ Ok None }
+    {
+        Ok(None)
+    }
+
+    /// Commits as `commit` does, without masking.
+    final fn commit_preprocessing(
+        &self,
+        alloc: Global,
+        evaluations: Vec<(Self::Domain, RowMajorMatrix<Self::Val>)>,
+    ) -> Result<(Self::Commitment, Self::ProverData), PcsFailure<Self::ProverError>>
+        ensures refusal { RefusedBy (Self.commit_fault self.now evaluations.items) result }
+        ensures committed { IfOk result (IsCommitment Self.Val.ring Self.Domain.points Self.Domain.point_at (Self.commits self.now) (Self.made self.now) (Self.holds self.now) evaluations.items) }
+    {
+        self.commit(alloc, evaluations)
+    }
+
+    /// Commits to the parts of a quotient that is given by its values on a domain: part i has rows i, i + num_chunks,
+    /// i + 2 num_chunks and so on, on the part of the domain that begins at point i. It is refused exactly as
+    /// `get_quotient_ldes` of these parts is, and else as `commit_ldes` of its answer.
+    final fn commit_quotient(
+        &self,
+        alloc: Global,
+        quotient_domain: Self::Domain,
+        evaluations: RowMajorMatrix<Self::Val>,
+        num_chunks: usize,
+    ) -> Result<(Self::Commitment, Self::ProverData), PcsFailure<Self::ProverError>>
+        requires power { IsPowerOfTwo num_chunks }
+        requires fits { num_chunks ≤ Self.Domain.points quotient_domain }
+        requires height { height evaluations ≡ Self.Domain.points quotient_domain }
+        ensures refused { IfRefused result (λ e. (parts : List (Self.Domain × Rows Self.Val)) × AreParts (Self.Domain.part quotient_domain num_chunks) evaluations num_chunks parts
+            × FaultInTurn (extension_fault self.now parts num_chunks) (AreExtensions (extends self.now) parts) (ldes_fault self.now) e) }
+        ensures granted { IfOk result (λ w. (parts : List (Self.Domain × Rows Self.Val)) × AreParts (Self.Domain.part quotient_domain num_chunks) evaluations num_chunks parts
+            × NoneInTurn (extension_fault self.now parts num_chunks) (AreExtensions (extends self.now) parts) (ldes_fault self.now)
+            × IsCommitment Self.Val.ring Self.Domain.points Self.Domain.point_at (Self.commits self.now) (Self.made self.now) (Self.holds self.now) parts w) }
+    {
+        let parts = quotient_parts(alloc, &quotient_domain, evaluations, num_chunks)?;
+        let ldes = self.get_quotient_ldes(alloc, parts, num_chunks)?;
+        self.commit_ldes(alloc, ldes)
+    }
+
     /// Opens as `open` does. The number is the place of the request whose commitment is that of preprocessed columns.
-    fn open_with_preprocessing(
+    final fn open_with_preprocessing(
         &self,
         alloc: Global,
         requests: Vec<OpeningRequest<'_, Self::ProverData, Challenge>>,
@@ -144,7 +175,7 @@ where
     }
 
     /// Verifies as `verify` does. The number is the place of the claim whose commitment is that of preprocessed columns.
-    fn verify_with_preprocessing(
+    final fn verify_with_preprocessing(
         &self,
         alloc: Global,
         claims: Vec<CommitmentOpening<Challenge, Self::Commitment, Self::Domain>>,
@@ -157,17 +188,6 @@ where
         self.verify(alloc, claims, proof, challenger)
     }
 
-    /// A commitment to polynomials of random values, which a scheme that masks nothing lacks.
-    fn get_opt_randomization_poly_commitment(
-        &self,
-        alloc: Global,
-        domains: &[Self::Domain],
-    ) -> Result<Option<(Self::Commitment, Self::ProverData)>, PcsFailure<Self::ProverError>>
-        ensures { result ≡ Ok None }
-    {
-        Ok(None)
-    }
-
     ghost heights_ordered: { (s : Self) → log_min s ≤ log_max s };
 
     ghost heights_masked: { (s : Self) → IsTrue ZK → log_min s + 1 ≤ log_max s };
@@ -176,4 +196,34 @@ where
 
     // Where nothing is masked, the commitment is one function of what is committed.
     ghost one_commitment: { (s : Self) (e : List (Self.Domain × Rows Self.Val)) (c : Self.Commitment) → IsFalse ZK → Self.commits s e c → c ≡ commitment_of s e };
+}
+
+// The parts of a domain, each with its rows.
+fn quotient_parts<D: PolynomialSpace>(
+    alloc: Global,
+    domain: &D,
+    evaluations: RowMajorMatrix<D::Val>,
+    num_chunks: usize,
+) -> Mem<Vec<(D, RowMajorMatrix<D::Val>)>>
+    requires power { IsPowerOfTwo num_chunks }
+    requires fits { num_chunks ≤ D.points domain.now }
+    requires height { height evaluations ≡ D.points domain.now }
+    ensures { IfOk result (λ v. AreParts (D.part domain.now num_chunks) evaluations num_chunks v.items) }
+{
+    let rows = domain.split_evals(alloc, num_chunks, evaluations)?;
+    let domains = domain.split_domains(alloc, num_chunks)?;
+    let parts = paired(alloc, &domains, rows)?;
+    Ok(parts)
+}
+
+// Each item of the first list with the one at its place in the second.
+fn paired<X: Copy, Y: Drop>(alloc: Global, xs: &[X], ys: Vec<Y>) -> Mem<Vec<(X, Y)>>
+    requires { length xs.now ≡ length ys.items }
+    ensures { IfOk result (λ v. v.items ≡ zip xs.now ys.items) }
+{
+    let mut pairs = Vec::with_capacity(alloc, ys.len())?;
+    for y in ys {
+        pairs.push((xs[pairs.len()], y))?;
+    }
+    Ok(pairs)
 }
