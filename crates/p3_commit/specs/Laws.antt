@@ -1,3 +1,4 @@
 -- What is proved of the definitions, by subject.
 pub mod Cosets
 pub mod Periods
+pub mod Repeated

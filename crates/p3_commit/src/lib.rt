@@ -7,6 +7,7 @@
 mod domain;
 mod interpolation;
 mod periodic;
+mod periodic_values;
 mod selectors;
 mod split;
 
