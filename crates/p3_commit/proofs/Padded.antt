@@ -1,0 +1,127 @@
+-- A matrix with rows of zeros below: its height, and its columns' polynomials, which are the same.
+use Rattle.std.proofs.Common.{◌≡◌, ℕ, zero, suc, ◌+◌, ◌-◌, ◌*◌, ◌/◌, ◌^◌, ◌<◌, ◌≤◌, inl, inr, List, ◌++◌, length, get_or, refl, subst, sym, ◌∙◌, ap, arith, mul-assoc, mul-comm}
+use Rattle.std.specs.Int.{IsPowerOfTwo}
+use Rattle.std.proofs.Math.Nat.{mul-div_cancel}
+use Rattle.std.proofs.Math.Seq.{get_or-append_right}
+use Rattle.std.proofs.lemmas.Bool.{cases_eq, cases_lt}
+use Rattle.std.proofs.lemmas.List.{length-append, get_or_append_left, get_or_past}
+use Rattle.std.proofs.lemmas.Nat.{pow_pos, pow-add}
+use Rattle.p3_field.specs.Ring.{Ring, RingLaws}
+use Rattle.p3_field.specs.Poly.{val, coeff, SamePoly, table}
+use Rattle.p3_field.specs.Domain.{coset_point}
+use Rattle.p3_field.specs.Laws.Values.{val_same}
+use Rattle.p3_field.specs.Laws.Tables.{length-table, get_or-table, table_same}
+use Rattle.p3_matrix.specs.Matrix.{Rows, FillsRows, height, cell_at, column}
+use Rattle.p3_matrix.specs.Laws.Cells.{length-column, get_or-column}
+use Rattle.p3_matrix.specs.Laws.Grids.{in_matrix}
+use Rattle.p3_dft.specs.Transform.{values_at, HasValuesOf}
+use Rattle.p3_commit.specs.Encoder.{IsCodeOf}
+
+by_zero : (n : ℕ) → n / 0 ≡ 0
+by_zero n = omega arith
+
+-- a matrix with rows has columns
+pub width_positive : {F : Type 0} (m : Rows F) → IsPowerOfTwo (height m) → 0 < m.width
+width_positive m p = elim (cases_eq m.width 0) [
+  | inl z ↦
+      let none : height m ≡ 0 = ap (λ w. length m.values / w) z ∙ by_zero (length m.values) in
+      absurd (let q : 0 < 2 ^ p.0 = pow_pos p.0 in omega (arith, none, p.1))
+  | inr d ↦ omega arith
+]
+
+-- it has values
+pub count_positive : {F : Type 0} (m : Rows F) → IsPowerOfTwo (height m) → FillsRows m.values m.width → 0 < length m.values
+count_positive m p fills =
+    elim (cases_eq (length m.values) 0) [
+      | inl z ↦
+          let none : height m ≡ 0 = ap (λ n. n / m.width) z ∙ nothing m.width in
+          absurd (let q : 0 < 2 ^ p.0 = pow_pos p.0 in omega (arith, none, p.1))
+      | inr d ↦ omega arith
+    ]
+  where
+    nothing : (w : ℕ) → 0 / w ≡ 0
+    nothing w = omega arith
+
+-- the code's values in rows
+pub code_count : {F : Type 0} (m : Rows F) (n count : ℕ) → FillsRows m.values m.width → count ≡ length m.values * n → count ≡ height m * n * m.width
+code_count m n count fills e =
+    e ∙ (ap (λ k. k * n) (sym fills) ∙ exchanged (height m) m.width n)
+  where
+    exchanged : (h w n : ℕ) → h * w * n ≡ h * n * w
+    exchanged h w n = mul-assoc h w n ∙ (ap (λ k. h * k) (mul-comm w n) ∙ sym (mul-assoc h n w))
+
+pub code_height : {F : Type 0} (m : Rows F) (n count : ℕ) → 0 < m.width → FillsRows m.values m.width → count ≡ length m.values * n → count / m.width ≡ height m * n
+code_height m n count pos fills e = ap (λ k. k / m.width) (code_count m n count fills e) ∙ mul-div_cancel (height m * n) pos
+
+-- a power of two times another
+pub power_times : (h rate : ℕ) → IsPowerOfTwo h → IsPowerOfTwo (h * 2 ^ rate)
+power_times h rate p = (p.0 + rate, ap (λ k. k * 2 ^ rate) p.1 ∙ sym (pow-add 2 p.0 rate))
+
+pub times_more : (a n : ℕ) → 0 < n → a ≤ a * n
+times_more a zero pos = absurd (omega arith)
+times_more a (suc n) pos = omega arith
+
+module _ {A : Type 0} (r : Ring A) (L : RingLaws r) (m p : Rows A) (n count : ℕ) (pos : 0 < m.width) (fills : FillsRows m.values m.width)
+    (total : count ≡ length m.values * n) (more : length m.values ≤ count) (width : p.width ≡ m.width) (values : p.values ≡ m.values ++ table (count - length m.values) (λ _. r.zero)) where
+  padded_count : length p.values ≡ count
+  padded_count =
+      let zeros = table (count - length m.values) (λ _. r.zero) in
+      omega (arith, ap length values, length-append m.values zeros, length-table (count - length m.values) (λ _. r.zero))
+
+  pub padded_height : height p ≡ height m * n
+  padded_height = ap (λ w. length p.values / w) width ∙ (ap (λ k. k / m.width) padded_count ∙ code_height m n count pos fills total)
+
+  -- the cells below are zeros
+  zero_item : (k i : ℕ) → get_or (table k (λ _. r.zero)) i r.zero ≡ r.zero
+  zero_item k i = elim (cases_lt i k) [
+    | inl a ↦ get_or-table k (λ _. r.zero) i r.zero a
+    | inr a ↦ get_or_past (table k (λ _. r.zero)) i r.zero (omega (arith, length-table k (λ _. r.zero)))
+  ]
+
+  cell_above : (i j : ℕ) → i < height m → j < m.width → cell_at r.zero p i j ≡ cell_at r.zero m i j
+  cell_above i j a b =
+      let zeros = table (count - length m.values) (λ _. r.zero) in
+      ap (λ w. get_or p.values (i * w + j) r.zero) width
+      ∙ (ap (λ l. get_or l (i * m.width + j) r.zero) values
+      ∙ get_or_append_left m.values zeros r.zero (i * m.width + j) (in_matrix m i j fills a b))
+
+  cell_below : (i j : ℕ) → height m ≤ i → cell_at r.zero p i j ≡ r.zero
+  cell_below i j a =
+      let zeros = table (count - length m.values) (λ _. r.zero) in
+      let past : length m.values ≤ i * m.width + j = past_rows (height m) i m.width j (length m.values) fills a in
+      ap (λ w. get_or p.values (i * w + j) r.zero) width
+      ∙ (ap (λ l. get_or l (i * m.width + j) r.zero) values
+      ∙ (get_or-append_right m.values zeros (i * m.width + j) r.zero past ∙ zero_item (count - length m.values) (i * m.width + j - length m.values)))
+    where
+      past_rows : (h i w j n : ℕ) → h * w ≡ n → h ≤ i → n ≤ i * w + j
+      past_rows h i w j n e b = grind arith
+
+  same_column : (j : ℕ) → j < m.width → SamePoly r (column r.zero p j) (column r.zero m j)
+  same_column j b i = elim (cases_lt i (height m)) [
+    | inl a ↦
+        let below : i < height p = below_more i (height m) n (height p) a padded_height in
+        get_or-column r.zero p j i below ∙ (cell_above i j a b ∙ sym (get_or-column r.zero m j i a))
+    | inr a ↦ padding i a ∙ sym (get_or_past (column r.zero m j) i r.zero (omega (arith, length-column r.zero m j)))
+  ]
+    where
+      padding : (i : ℕ) → height m ≤ i → coeff r (column r.zero p j) i ≡ r.zero
+      padding i a = elim (cases_lt i (height p)) [
+        | inl c ↦ get_or-column r.zero p j i c ∙ cell_below i j a
+        | inr c ↦ get_or_past (column r.zero p j) i r.zero (omega (arith, length-column r.zero p j))
+      ]
+
+      below_more : (i h n k : ℕ) → i < h → k ≡ h * n → i < k
+      below_more i h n k a e = ?
+
+  pub padded_code : (root : ℕ → A) (rate : ℕ) (v : Rows A) → n ≡ 2 ^ rate → HasValuesOf r root p v → IsCodeOf r root m rate v
+  unfolding values_at
+  padded_code root rate v e V = record {
+    width_is = V.width_is ∙ width;
+    column_is = λ j k b h.
+      let q = coset_point r r.one (root k) in
+      let inside : j < p.width = omega (arith, width) in
+      let high : height p ≡ 2 ^ k = padded_height ∙ (ap (λ t. height m * t) e ∙ h) in
+      V.column_is j k inside high
+      ∙ table_same (2 ^ k) (λ i. val r (column r.zero p j) (q i)) (λ i. val r (column r.zero m j) (q i))
+      (λ i c. val_same r L (column r.zero p j) (column r.zero m j) (q i) (same_column j b));
+  }
