@@ -1,5 +1,6 @@
 -- A matrix with rows of zeros below: its height, and its columns' polynomials, which are the same.
-use Rattle.std.proofs.Common.{◌≡◌, ℕ, zero, suc, ◌+◌, ◌-◌, ◌*◌, ◌/◌, ◌^◌, ◌<◌, ◌≤◌, inl, inr, List, ◌++◌, length, get_or, refl, subst, sym, ◌∙◌, ap, arith, mul-assoc, mul-comm}
+use Rattle.std.proofs.Common.{◌≡◌, ℕ, zero, suc, ◌+◌, ◌-◌, ◌*◌, ◌/◌, ◌%◌, ◌^◌, ◌<◌, ◌≤◌, inl, inr, List, ◌++◌, length, get_or, refl, subst, sym, ◌∙◌, ap, arith, mul_assoc, mul_comm}
+use Rattle.std.specs.Prelude.{Result, Ok, Err, IsErrOf, IsErrAnd}
 use Rattle.std.specs.Int.{IsPowerOfTwo}
 use Rattle.std.proofs.Math.Nat.{mul-div_cancel}
 use Rattle.std.proofs.Math.Seq.{get_or-append_right}
@@ -14,8 +15,11 @@ use Rattle.p3_field.specs.Laws.Tables.{length-table, get_or-table, table_same}
 use Rattle.p3_matrix.specs.Matrix.{Rows, FillsRows, height, cell_at, column}
 use Rattle.p3_matrix.specs.Laws.Cells.{length-column, get_or-column}
 use Rattle.p3_matrix.specs.Laws.Grids.{in_matrix}
+use Rattle.p3_matrix.specs.Laws.Powers.{one_shifted_left}
 use Rattle.p3_dft.specs.Transform.{values_at, HasValuesOf}
 use Rattle.p3_commit.specs.Encoder.{IsCodeOf}
+use Rattle.p3_commit.specs.declared.encoder.EncodeError.{EncodeError}
+use Rattle.p3_commit.specs.declared.encoder.EncodeError.TheVariants.{NoSubgroup, OutOfMemory}
 
 by_zero : (n : ℕ) → n / 0 ≡ 0
 by_zero n = omega arith
@@ -48,7 +52,7 @@ code_count m n count fills e =
     e ∙ (ap (λ k. k * n) (sym fills) ∙ exchanged (height m) m.width n)
   where
     exchanged : (h w n : ℕ) → h * w * n ≡ h * n * w
-    exchanged h w n = mul-assoc h w n ∙ (ap (λ k. h * k) (mul-comm w n) ∙ sym (mul-assoc h n w))
+    exchanged h w n = mul_assoc h w n ∙ (ap (λ k. h * k) (mul_comm w n) ∙ sym (mul_assoc h n w))
 
 pub code_height : {F : Type 0} (m : Rows F) (n count : ℕ) → 0 < m.width → FillsRows m.values m.width → count ≡ length m.values * n → count / m.width ≡ height m * n
 code_height m n count pos fills e = ap (λ k. k / m.width) (code_count m n count fills e) ∙ mul-div_cancel (height m * n) pos
@@ -61,7 +65,19 @@ pub times_more : (a n : ℕ) → 0 < n → a ≤ a * n
 times_more a zero pos = absurd (omega arith)
 times_more a (suc n) pos = omega arith
 
-module _ {A : Type 0} (r : Ring A) (L : RingLaws r) (m p : Rows A) (n count : ℕ) (pos : 0 < m.width) (fills : FillsRows m.values m.width)
+-- the code's rows, and the size of the largest subgroup as the code computes them
+pub code_rows : {F : Type 0} (m : Rows F) (rate count w : ℕ) → IsPowerOfTwo (height m) → FillsRows m.values m.width → count ≡ length m.values * 2 ^ rate → w ≡ m.width → count / w ≡ height m * 2 ^ rate
+code_rows m rate count w p fills e width = ap (λ k. count / k) width ∙ code_height m (2 ^ rate) count (width_positive m p) fills e
+
+pub subgroup_size : (t top : ℕ) → t ≡ top → top < 64 → 1 * 2 ^ t % 18446744073709551616 ≡ 2 ^ top
+subgroup_size t top e h = ap (λ k. 1 * 2 ^ k % 18446744073709551616) e ∙ one_shifted_left top h
+
+-- want of memory is no other refusal
+pub other_error : {T : Type 0} (x : Result T EncodeError) → IsErrAnd x (λ e. e ≡ OutOfMemory) → IsErrOf x NoSubgroup → ⊥
+other_error (Ok y) p q = absurd p
+other_error (Err e) p q = cc
+
+module _ {A : Type 0} (r : Ring A) (L : RingLaws r) (m p : Rows A) (n count : ℕ) (pos : 0 < m.width) (some : 0 < n) (fills : FillsRows m.values m.width)
     (total : count ≡ length m.values * n) (more : length m.values ≤ count) (width : p.width ≡ m.width) (values : p.values ≡ m.values ++ table (count - length m.values) (λ _. r.zero)) where
   padded_count : length p.values ≡ count
   padded_count =
@@ -99,7 +115,7 @@ module _ {A : Type 0} (r : Ring A) (L : RingLaws r) (m p : Rows A) (n count : �
   same_column : (j : ℕ) → j < m.width → SamePoly r (column r.zero p j) (column r.zero m j)
   same_column j b i = elim (cases_lt i (height m)) [
     | inl a ↦
-        let below : i < height p = below_more i (height m) n (height p) a padded_height in
+        let below : i < height p = below_more i (height m) n (height p) a some padded_height in
         get_or-column r.zero p j i below ∙ (cell_above i j a b ∙ sym (get_or-column r.zero m j i a))
     | inr a ↦ padding i a ∙ sym (get_or_past (column r.zero m j) i r.zero (omega (arith, length-column r.zero m j)))
   ]
@@ -110,8 +126,9 @@ module _ {A : Type 0} (r : Ring A) (L : RingLaws r) (m p : Rows A) (n count : �
         | inr c ↦ get_or_past (column r.zero p j) i r.zero (omega (arith, length-column r.zero p j))
       ]
 
-      below_more : (i h n k : ℕ) → i < h → k ≡ h * n → i < k
-      below_more i h n k a e = ?
+      below_more : (i h n k : ℕ) → i < h → 0 < n → k ≡ h * n → i < k
+      below_more i h zero k a pos e = absurd (omega arith)
+      below_more i h (suc n) k a pos e = omega arith
 
   pub padded_code : (root : ℕ → A) (rate : ℕ) (v : Rows A) → n ≡ 2 ^ rate → HasValuesOf r root p v → IsCodeOf r root m rate v
   unfolding values_at

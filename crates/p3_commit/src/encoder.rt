@@ -136,7 +136,7 @@ fn encoded<F: TwoAdicField, D: TwoAdicSubgroupDft<F>>(
 // A positive number times 2^bits; None exactly where that passes `usize`.
 fn checked_multiple(n: usize, bits: usize) -> Option<usize>
     requires { 0 < n }
-    ensures { MatchOption result (usize.MAX < n * 2 ^ bits) (λ m. m ≡ n * 2 ^ bits) }
+    ensures { MatchOption result (usize.MAX < n * 2 ^ bits) (λ m. (m ≡ n * 2 ^ bits) × (n * 2 ^ bits ≤ usize.MAX)) }
 {
     if bits < 64 {
         n.checked_mul(1 << bits)
