@@ -18,33 +18,9 @@ use Rattle.p3_matrix.specs.Laws.Grids.{in_matrix}
 use Rattle.p3_matrix.specs.Laws.Powers.{one_shifted_left}
 use Rattle.p3_dft.specs.Transform.{values_at, HasValuesOf}
 use Rattle.p3_commit.specs.Encoder.{IsCodeOf}
+use Rattle.p3_commit.specs.Laws.Codes.{width_positive}
 use Rattle.p3_commit.specs.declared.encoder.EncodeError.{EncodeError}
 use Rattle.p3_commit.specs.declared.encoder.EncodeError.TheVariants.{NoSubgroup, OutOfMemory}
-
-by_zero : (n : ℕ) → n / 0 ≡ 0
-by_zero n = omega arith
-
--- a matrix with rows has columns
-pub width_positive : {F : Type 0} (m : Rows F) → IsPowerOfTwo (height m) → 0 < m.width
-width_positive m p = elim (cases_eq m.width 0) [
-  | inl z ↦
-      let none : height m ≡ 0 = ap (λ w. length m.values / w) z ∙ by_zero (length m.values) in
-      absurd (let q : 0 < 2 ^ p.0 = pow_pos p.0 in omega (arith, none, p.1))
-  | inr d ↦ omega arith
-]
-
--- it has values
-pub count_positive : {F : Type 0} (m : Rows F) → IsPowerOfTwo (height m) → FillsRows m.values m.width → 0 < length m.values
-count_positive m p fills =
-    elim (cases_eq (length m.values) 0) [
-      | inl z ↦
-          let none : height m ≡ 0 = ap (λ n. n / m.width) z ∙ nothing m.width in
-          absurd (let q : 0 < 2 ^ p.0 = pow_pos p.0 in omega (arith, none, p.1))
-      | inr d ↦ omega arith
-    ]
-  where
-    nothing : (w : ℕ) → 0 / w ≡ 0
-    nothing w = omega arith
 
 -- the code's values in rows
 pub code_count : {F : Type 0} (m : Rows F) (n count : ℕ) → FillsRows m.values m.width → count ≡ length m.values * n → count ≡ height m * n * m.width
@@ -135,10 +111,10 @@ module _ {A : Type 0} (r : Ring A) (L : RingLaws r) (m p : Rows A) (n count : �
   padded_code root rate v e V = record {
     width_is = V.width_is ∙ width;
     column_is = λ j k b h.
-      let q = coset_point r r.one (root k) in
-      let inside : j < p.width = omega (arith, width) in
-      let high : height p ≡ 2 ^ k = padded_height ∙ (ap (λ t. height m * t) e ∙ h) in
-      V.column_is j k inside high
-      ∙ table_same (2 ^ k) (λ i. val r (column r.zero p j) (q i)) (λ i. val r (column r.zero m j) (q i))
-      (λ i c. val_same r L (column r.zero p j) (column r.zero m j) (q i) (same_column j b));
+        let q = coset_point r r.one (root k) in
+        let inside : j < p.width = omega (arith, width) in
+        let high : height p ≡ 2 ^ k = padded_height ∙ (ap (λ t. height m * t) e ∙ h) in
+        V.column_is j k inside high
+        ∙ table_same (2 ^ k) (λ i. val r (column r.zero p j) (q i)) (λ i. val r (column r.zero m j) (q i))
+        (λ i c. val_same r L (column r.zero p j) (column r.zero m j) (q i) (same_column j b));
   }

@@ -2,3 +2,4 @@
 pub mod Cosets
 pub mod Periods
 pub mod Repeated
+pub mod Codes

@@ -5,6 +5,7 @@ ghost use Rattle.p3_field.specs.Ring.{Ring};
 ghost use Rattle.p3_field.specs.Poly.{table};
 ghost use Rattle.p3_matrix.specs.Matrix.{Rows, FillsRows, height};
 ghost use Rattle.p3_commit.specs.Encoder.{IsCodeOf, IsPadded};
+ghost use Rattle.p3_commit.specs.Laws.Codes.{code_shape as shape_of_code};
 ghost use Rattle.p3_commit.specs.declared.encoder.EncodeError.TheVariants.{OutOfMemory};
 
 use p3_dft::TwoAdicSubgroupDft;
@@ -73,6 +74,8 @@ pub trait Encoder<F: Field> {
         ensures code { IfOk result (encodes message 0) }
         ensures too_long { IsErrOf result EncodeError.CodewordTooLong → ⊥ }
         ensures no_subgroup { IsErrOf result EncodeError.NoSubgroup ↔ (2 ^ log_limit < height message) };
+
+    ghost code_shape: { (m : Rows F) (rate : ℕ) (code : Rows F) → IsPowerOfTwo (height m) → encodes m rate code → (code.width ≡ m.width) × (height code ≡ height m * 2 ^ rate) };
 }
 
 impl<F: TwoAdicField, D: TwoAdicSubgroupDft<F>> Encoder<F> for D {
@@ -109,6 +112,8 @@ impl<F: TwoAdicField, D: TwoAdicSubgroupDft<F>> Encoder<F> for D {
     {
         encoded(self, alloc, message, 0)
     }
+
+    ghost code_shape = { λ m rate code p c. shape_of_code F.ring F.root m code rate p c };
 }
 
 // The code by a transform of the padded matrix.

@@ -22,4 +22,8 @@ pub use periodic_table::PeriodicLdeTable;
 pub use selectors::{LagrangeSelectors, first_selector_at, last_selector_at};
 
 #[cfg(test)]
+mod encoder_tests;
+#[cfg(test)]
+mod periodic_tests;
+#[cfg(test)]
 mod tests;

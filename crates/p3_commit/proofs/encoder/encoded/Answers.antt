@@ -2,7 +2,8 @@ use Rattle.std.proofs.Common.{◌≡◌, ℕ, ◌+◌, ◌-◌, ◌*◌, ◌/◌
 use Rattle.std.specs.Int.{IsPowerOfTwo}
 use Rattle.std.proofs.lemmas.Nat.{pow_pos}
 use Rattle.p3_matrix.specs.Matrix.{Rows, FillsRows, height}
-use Rattle.p3_commit.proofs.Padded.{width_positive, code_count, code_rows, subgroup_size, power_times, times_more, padded_height, padded_code, other_error}
+use Rattle.p3_commit.specs.Laws.Codes.{width_positive}
+use Rattle.p3_commit.proofs.Padded.{code_count, code_rows, subgroup_size, power_times, times_more, padded_height, padded_code, other_error}
 use Rattle.p3_commit.proofs.encoder.encoded.Goals as goal
 
 pub returns-then-count-message-clause-no_subgroup : goal.returns-then-count-message-clause-no_subgroup
