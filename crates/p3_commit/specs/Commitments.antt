@@ -6,11 +6,8 @@ use Rattle.p3_field.specs.Domain.{IsInterpolant}
 use Rattle.p3_matrix.specs.Matrix.{Rows, height, column}
 use Rattle.p3_dft.specs.Transform.{values_at}
 use Rattle.p3_commit.specs.Space.{EachOf, IsSplit}
+use Rattle.p3_commit.specs.Periodic.{EachFrom}
 use Rattle.p3_commit.specs.Claims.{MatrixClaim, CommitmentClaim, Request}
-
--- both lists have one length, and P holds of each two items at the same place
-abbrev pub EachPair : {X Y : Type 0} → List X → List Y → (X → Y → Type 0) → Type 0
-EachPair xs ys P = EachOf (length xs) ys (λ i y. (x : _) → slice_get xs i ≡ Some x → P x y)
 
 -- the n points p are the subgroup of size n, where root k generates that of size 2^k
 pub record IsSubgroup {F : Type 0} (r : Ring F) (root : ℕ → F) (n m : ℕ) (p : ℕ → F) : Type 0 where
@@ -31,7 +28,7 @@ pub record IsCommitted {F : Type 0} (r : Ring F) (n : ℕ) (p : ℕ → F) (m : 
 
 -- cs holds the interpolants of the matrices on their domains, in order
 abbrev pub AreCommitted : {F D : Type 0} → Ring F → (D → ℕ) → (D → ℕ → F) → List (D × Rows F) → List (Committed F) → Type 0
-AreCommitted r points point_at evaluations cs = EachPair evaluations cs (λ e c. IsCommitted r (points e.0) (point_at e.0) e.1 c)
+AreCommitted r points point_at evaluations cs = EachFrom evaluations cs (λ e c. IsCommitted r (points e.0) (point_at e.0) e.1 c)
 
 -- What committing to matrices on domains gives: w.0 is a commitment to them, and w.1 is prover data that the scheme made,
 -- which belongs to this commitment and holds the interpolants.
@@ -52,11 +49,11 @@ pub record Held (C F : Type 0) : Type 0 where
 
 -- each request's prover data belongs to the commitment that stands at its place and holds the polynomials there
 abbrev pub AreHeld : {P E C F : Type 0} → (P → C → List (Committed F) → Type 0) → List (Request P E) → List (Held C F) → Type 0
-AreHeld holds requests held = EachPair requests held (λ r h. holds r.prover_data h.commitment h.matrices)
+AreHeld holds requests held = EachFrom requests held (λ r h. holds r.prover_data h.commitment h.matrices)
 
 -- each request has one list of points per matrix
 abbrev pub HavePoints : {P E C F : Type 0} → List (Held C F) → List (Request P E) → Type 0
-HavePoints held requests = EachPair held requests (λ h r. length r.points ≡ length h.matrices)
+HavePoints held requests = EachFrom held requests (λ h r. length r.points ≡ length h.matrices)
 
 -- the values of the polynomials at a point above their field
 abbrev pub values_of : {F E : Type 0} → Ring E → (F → E) → Committed F → E → List E
@@ -81,11 +78,11 @@ pub record IsMatrixClaim {E F D : Type 0} (s : Ring E) (embed : F → E) (points
 -- the claims that a commitment's matrices have these values at the points of a request
 pub record IsRoundClaim {P E C F D : Type 0} (s : Ring E) (embed : F → E) (points : D → ℕ) (h : Held C F) (r : Request P E) (c : CommitmentClaim E C D) : Type 0 where
   pub commitment_is : c.commitment ≡ h.commitment
-  pub matrices_are : EachPair (zip h.matrices r.points) c.matrices (λ p m. IsMatrixClaim s embed points p.0 p.1 m)
+  pub matrices_are : EachFrom (zip h.matrices r.points) c.matrices (λ p m. IsMatrixClaim s embed points p.0 p.1 m)
 
 -- the claims that hold of what was asked for, in its order
 abbrev pub AreClaims : {P E C F D : Type 0} → Ring E → (F → E) → (D → ℕ) → List (Held C F) → List (Request P E) → List (CommitmentClaim E C D) → Type 0
-AreClaims s embed points held requests claims = EachPair (zip held requests) claims (λ p c. IsRoundClaim s embed points p.0 p.1 c)
+AreClaims s embed points held requests claims = EachFrom (zip held requests) claims (λ p c. IsRoundClaim s embed points p.0 p.1 c)
 
 -- none of the points that are asked for is excluded
 abbrev pub AvoidAll : {P E : Type 0} → (E → Type 0) → List (Request P E) → Type 0
@@ -104,4 +101,4 @@ AreParts part m c parts = EachOf c parts (λ i e. part i e.0 × IsSplit m c i e.
 
 -- each matrix of the second list extends the one at its place in the first, with its domain
 abbrev pub AreExtensions : {F D : Type 0} → (D → Rows F → Rows F → Type 0) → List (D × Rows F) → List (Rows F) → Type 0
-AreExtensions extends evaluations ldes = EachPair evaluations ldes (λ e l. extends e.0 e.1 l)
+AreExtensions extends evaluations ldes = EachFrom evaluations ldes (λ e l. extends e.0 e.1 l)

@@ -1,4 +1,6 @@
 pub mod Space
+pub mod Periodic
+pub mod Encoder
 pub mod Laws
 pub mod Claims
 pub mod Failure

@@ -1,7 +1,8 @@
 //! What provers and verifiers of STARKs need of a scheme that commits to polynomials.
-ghost use Rattle.std.specs.Prelude.{◌≡◌, ℕ, ◌+◌, ◌<◌, ◌≤◌, ◌⊎◌, Bool, IsTrue, IsFalse, List, Option, None, Some, Ok, All, length, slice_get, zip, IfOk};
+ghost use Rattle.std.specs.Prelude.{◌≡◌, ℕ, ◌+◌, ◌<◌, ◌≤◌, ◌⊎◌, Bool, IsTrue, IsFalse, List, Option, None, Some, Ok, All, length, map, slice_get, zip, IfOk};
 ghost use Rattle.std.specs.Int.{IsPowerOfTwo};
 ghost use Rattle.p3_matrix.specs.Matrix.{Rows, height};
+ghost use Rattle.p3_commit.specs.Periodic.{IsPeriod, IsPeriodicTable};
 ghost use Rattle.p3_commit.specs.Claims.{CommitmentClaim, Request};
 ghost use Rattle.p3_commit.specs.Failure.{RefusedBy, FaultInTurn, NoneInTurn, IfRefused, VerifiedBy};
 ghost use Rattle.p3_commit.specs.Commitments.{Committed, IsCommitment, IsEvaluated, Held, AreHeld, nested, IsOpening, AreParts, AreExtensions};
@@ -10,6 +11,7 @@ use crate::claims::{CommitmentOpening, OpenedValues, OpeningRequest};
 use crate::domain::PolynomialSpace;
 use crate::failure::PcsFailure;
 use crate::pcs::Pcs;
+use crate::periodic_table::PeriodicLdeTable;
 use p3_field::{
     BasedVectorSpace, ExtensionField, Field, FieldCore, Mem, PrimeCharacteristicRing, RingCore,
     TwoAdicCore,
@@ -108,6 +110,21 @@ where
     {
         self.get_evaluations_on_domain(alloc, prover_data, idx, domain)
     }
+
+    /// The table of periodic columns on a quotient domain that is at least as large as the trace domain, whose shift is
+    /// one: row i of column c is the value of the column's polynomial at point i of the quotient domain. Without columns
+    /// it is empty.
+    fn build_periodic_lde_table(
+        &self,
+        alloc: Global,
+        periodic_cols: &[Vec<Self::Val>],
+        trace_domain: Self::Domain,
+        quotient_domain: Self::Domain,
+    ) -> Mem<PeriodicLdeTable<Self::Val>>
+        requires fit { All (λ c. IsPeriod (Self.Domain.points trace_domain) (length c.items)) periodic_cols.now }
+        requires shift { Self.Domain.point_at trace_domain 0 ≡ Self.Val.ring.one }
+        requires larger { Self.Domain.points trace_domain ≤ Self.Domain.points quotient_domain }
+        ensures { IfOk result (IsPeriodicTable Self.Val.ring (Self.Domain.points trace_domain) (Self.Domain.point_at trace_domain) (Self.Domain.points quotient_domain) (Self.Domain.point_at quotient_domain) (map (λ c. c.items) periodic_cols.now)) };
 
     /// A commitment to polynomials of random values, which a scheme that masks nothing lacks.
     fn get_opt_randomization_poly_commitment(

@@ -1,7 +1,7 @@
 -- Lists of one item.
 use Rattle.std.proofs.Common.{◌≡◌, ℕ, zero, suc, List, [], ◌∷◌, Some, length, map, refl, ap, sym, subst, ◌∙◌, arith, Vec}
 use Rattle.std.specs.Prelude.{slice_get}
-use Rattle.p3_commit.specs.Commitments.{EachPair}
+use Rattle.p3_commit.specs.Periodic.{EachFrom}
 
 pub single_map : {X Y : Type 0} (f : X → Y) (xs : List X) (y : Y) → map f xs ≡ y ∷ [] → (x : X) × (xs ≡ x ∷ [])
 single_map f [] y e = cc
@@ -20,7 +20,7 @@ single [] e = cc
 single (x ∷ []) e = (x, refl)
 single (x ∷ y ∷ zs) e = absurd (omega arith)
 
-pub one_pair : {X Y : Type 0} (P : X → Y → Type 0) (x : X) (y : Y) → P x y → EachPair (x ∷ []) (y ∷ []) P
+pub one_pair : {X Y : Type 0} (P : X → Y → Type 0) (x : X) (y : Y) → P x y → EachFrom (x ∷ []) (y ∷ []) P
 one_pair P x y p = record { count = refl; each = at }
   where
     at : (i : ℕ) (w : _) → slice_get (y ∷ []) i ≡ Some w → (v : _) → slice_get (x ∷ []) i ≡ Some v → P v w
