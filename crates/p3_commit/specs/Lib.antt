@@ -5,3 +5,4 @@ pub mod Laws
 pub mod Claims
 pub mod Failure
 pub mod Commitments
+pub mod Batches

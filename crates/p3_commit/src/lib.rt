@@ -10,6 +10,8 @@ mod domain;
 mod encoder;
 mod failure;
 mod interpolation;
+mod mmcs;
+mod multilinear;
 mod pcs;
 mod periodic;
 mod periodic_evaluator;
@@ -27,6 +29,8 @@ pub use claims::{
 pub use domain::{PolynomialSpace, are_disjoint};
 pub use encoder::{EncodeError, Encoder};
 pub use failure::PcsFailure;
+pub use mmcs::{BatchOpening, BatchOpeningRef, Mmcs};
+pub use multilinear::MultilinearPcs;
 pub use pcs::Pcs;
 pub use periodic::{PeriodicColumnShapeError, PeriodicColumns};
 pub use periodic_evaluator::PeriodicEvaluator;
