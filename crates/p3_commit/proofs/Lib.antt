@@ -3,3 +3,4 @@ pub mod SelectorLaws
 pub mod Lists
 pub mod Disjoint
 pub mod Periods
+pub mod Padded

@@ -11,13 +11,13 @@ pub first_unfit : {V : Type 0} (f : V → ℕ) (height : ℕ) (columns : List V)
     → ((k : ℕ) (d : V) → k < index → IsPeriod height (f (get_or columns k d))) → (IsPeriod height n → ⊥) → IsFirstUnfit height (map f columns) index n
 first_unfit f height columns index n v within at e before unfit = record {
   length_is =
-    let inside : index < length (map f columns) = omega (arith, length-map columns f) in
-    slice_get-get_or (map f columns) index n inside ∙ ap Some (get_or-map f columns index v n within ∙ (ap f (sym at) ∙ sym e));
+      let inside : index < length (map f columns) = omega (arith, length-map columns f) in
+      slice_get-get_or (map f columns) index n inside ∙ ap Some (get_or-map f columns index v n within ∙ (ap f (sym at) ∙ sym e));
   unfit = unfit;
   earlier_fit = λ i m b q.
-    let inside : i < length columns = omega arith in
-    let same : f (get_or columns i v) ≡ m = sym (get_or-map f columns i v m inside) ∙ get_or_from_slice_get (map f columns) i m m q in
-    subst (IsPeriod height) same (before i v b);
+      let inside : i < length columns = omega arith in
+      let same : f (get_or columns i v) ≡ m = sym (get_or-map f columns i v m inside) ∙ get_or_from_slice_get (map f columns) i m m q in
+      subst (IsPeriod height) same (before i v b);
 }
 
 -- one more column fits

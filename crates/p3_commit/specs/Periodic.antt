@@ -1,6 +1,6 @@
 -- Periodic columns, which list one period of values and repeat it over all rows. The rules are those of Plonky3's
 -- p3-commit (PeriodicColumns, PolynomialSpace, PeriodicLdeTable).
-use Rattle.std.specs.Prelude.{◌≡◌, ℕ, ◌+◌, ◌*◌, ◌/◌, ◌%◌, ◌<◌, ◌≤◌, List, Contains, Some, length, slice_get}
+use Rattle.std.specs.Prelude.{◌≡◌, ℕ, ◌+◌, ◌*◌, ◌/◌, ◌%◌, ◌<◌, ◌≤◌, ◌⊎◌, List, Contains, Some, length, slice_get}
 use Rattle.std.specs.Int.{IsPowerOfTwo, ◌∣◌}
 use Rattle.std.specs.List.{All, repeat}
 use Rattle.p3_field.specs.Ring.{Ring}
@@ -44,3 +44,15 @@ IsPeriodicAt r s embed n p x column y = IsInterpolatedAt r s embed p (over_rows 
 -- there is an item of ys for each of xs, in order, and R relates the two
 abbrev pub EachFrom : {X Y : Type 0} → List X → List Y → (X → Y → Type 0) → Type 0
 EachFrom {X} xs ys R = EachOf (length xs) ys (λ i y. (x : X) → slice_get xs i ≡ Some x → R x y)
+
+-- The table t has a column for each periodic one. At row i, taken modulo its height, it reads the values at point q i
+-- of the columns' interpolants on the n points p, for each of the m points q.
+pub record IsPeriodicTable {A : Type 0} (r : Ring A) (n : ℕ) (p : ℕ → A) (m : ℕ) (q : ℕ → A) (columns : List (List A)) (t : Rows A) : Type 0 where
+  pub width_is : t.width ≡ length columns
+  pub has_rows : 0 < length columns → 0 < height t
+  pub cell_is : (j : ℕ) (column : List A) (i : ℕ) → slice_get columns j ≡ Some column → i < m
+      → IsPeriodicAt r r (λ y. y) n p (q i) column (cell_at r.zero t (i % height t) j)
+
+-- how many rows a table may have: none, or a power of two
+abbrev pub IsTableHeight : ℕ → Type 0
+IsTableHeight n = (n ≡ 0) ⊎ IsPowerOfTwo n

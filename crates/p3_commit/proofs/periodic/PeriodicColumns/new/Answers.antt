@@ -14,10 +14,12 @@ returns-then-not-is_power_of_two g c =
 pub returns-then-height-length-ne0 : goal.returns-then-height-length-ne0
 returns-then-height-length-ne0 g c =
     let v = c.index-columns-index.result in
-    let n : c.len-length.result ≡ length v.items = omega (arith, v.ok.0) in
-    (first_unfit (λ w. length w.items) c.args.height c.args.columns.now c.loop-index.index c.len-length.result v (omega arith) c.index-columns-index.is n c.loop-index.invariant
-    (λ p. c.if-height-length-ne0.true (mod-eq-zero_of_dvd c.len-length.result p.1)),
-    c.is_power_of_two.ensures.0 c.if-not-is_power_of_two.false, refl)
+    let n : c.len-length.result ≡ length v.items = omega (arith, v.ok.0) in (
+      first_unfit (λ w. length w.items) c.args.height c.args.columns.now c.loop-index.index c.len-length.result v (omega arith) c.index-columns-index.is n c.loop-index.invariant
+          (λ p. c.if-height-length-ne0.true (mod-eq-zero_of_dvd c.len-length.result p.1)),
+      c.is_power_of_two.ensures.0 c.if-not-is_power_of_two.false,
+      refl,
+    )
 
 pub loop-index-preserved : goal.loop-index-preserved
 loop-index-preserved g c =
