@@ -11,6 +11,7 @@ mod base;
 mod builder;
 mod cells;
 pub mod examples;
+mod copying;
 mod layout;
 mod node;
 mod recorded;
