@@ -10,8 +10,8 @@
 mod base;
 mod builder;
 mod cells;
-pub mod examples;
 mod copying;
+pub mod examples;
 mod layout;
 mod node;
 mod recorded;
