@@ -1,3 +1,5 @@
 -- What is proved of the definitions, by subject.
 pub mod Symbolic
+pub mod Stand
 pub mod Recording
+pub mod Copying

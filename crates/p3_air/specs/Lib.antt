@@ -5,5 +5,6 @@ pub mod Degree
 pub mod Layout
 pub mod Placed
 pub mod Recording
+pub mod Copying
 pub mod Examples
 pub mod Laws

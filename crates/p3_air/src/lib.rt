@@ -10,6 +10,7 @@
 mod base;
 mod builder;
 mod cells;
+mod copying;
 pub mod examples;
 mod layout;
 mod node;
