@@ -4,20 +4,29 @@
 //! The definitions that the contracts cite are in `specs/`.
 #![tactic(auto)]
 
+mod config;
 mod degree_bits;
 mod error;
+mod folds;
 mod openings;
 mod proof;
 mod prover_folder;
 mod recompose;
 mod verifier_folder;
 
+pub use config::{
+    Challenge, Challenger, Commitment, Domain, PcsError, PcsProof, PcsProverError, StarkConfig,
+    StarkGenericConfig, Val,
+};
 pub use degree_bits::validate_degree_bits;
 pub use error::{InvalidProofShapeError, VerificationError};
+pub use folds::{
+    ProverConstraintFolder, VerifierConstraintFolder, prover_fold, verifier_fold,
+};
 pub use openings::{OpeningShape, StarkOpeningLayout, num_batched_openings};
 pub use proof::{OpenedValues, PreprocessedOpenedValues};
 pub use prover_folder::ProverFolder;
-pub use recompose::recomposed_quotient;
+pub use recompose::{recompose_quotient_from_chunks, recomposed_quotient};
 pub use verifier_folder::VerifierFolder;
 
 #[cfg(test)]

@@ -7,6 +7,7 @@ ghost use Rattle.p3_field.specs.Domain.{van, point};
 ghost use Rattle.p3_commit.specs.Space.{IsPoint};
 ghost use Rattle.p3_uni_stark.specs.Recombine.{product, domain_at, AllDisjoint, chunk_weight, recombined};
 
+use crate::config::{Challenge, Domain, StarkGenericConfig};
 use p3_commit::PolynomialSpace;
 use p3_field::{
     ExtensionField, Field, FieldCore, PrimeCharacteristicRing, RingCore, TwoAdicCore, TwoAdicField,
@@ -74,4 +75,18 @@ pub fn recomposed_quotient<F: TwoAdicField, EF: ExtensionField<F>>(
         sum = sum + weight_at(domains, chunk, x) * chunk_value::<F, EF>(values);
     }
     sum
+}
+
+/// The same over a configuration's fields (`recompose_quotient_from_chunks` of `p3-uni-stark`).
+pub fn recompose_quotient_from_chunks<SC: StarkGenericConfig>(
+    domains: &[Domain<SC>],
+    chunks: &[Vec<Challenge<SC>>],
+    zeta: Challenge<SC>,
+) -> Challenge<SC>
+    requires one_for_each { length chunks.now ≡ length domains.now }
+    requires disjoint { AllDisjoint (record { ring = SC.Val.ring; inv = SC.Val.inv; root = SC.Val.root; generator = SC.Val.GENERATOR }) domains.now }
+    requires dimension { All (λ c. length c.items ≡ SC.Challenge.DIMENSION) chunks.now }
+    ensures { result ≡ recombined (record { ring = SC.Val.ring; inv = SC.Val.inv; root = SC.Val.root; generator = SC.Val.GENERATOR }) (record { ring = SC.Challenge.ring; embed = SC.Challenge.embed; dimension = SC.Challenge.DIMENSION; basis = SC.Challenge.basis; parts = SC.Challenge.parts; whole = SC.Challenge.whole }) domains.now (map (λ c. c.items) chunks.now) zeta }
+{
+    recomposed_quotient(domains, chunks, zeta)
 }

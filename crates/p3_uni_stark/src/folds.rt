@@ -1,0 +1,56 @@
+//! The folds of an AIR's constraints, from the laws of builders alone.
+ghost use Rattle.std.specs.Prelude.{◌≡◌, length, map};
+ghost use Rattle.p3_air.specs.Shape.{Fits, declared_shape};
+ghost use Rattle.p3_air.specs.Tree.{ev};
+ghost use Rattle.p3_uni_stark.specs.Fold.{fold, fold_powers};
+ghost use Rattle.p3_uni_stark.specs.Point.{reading, embedded, point_shape};
+ghost use Rattle.p3_uni_stark.specs.VerifierState.{opened_of};
+ghost use Rattle.p3_uni_stark.specs.ProverState.{values_of};
+
+use crate::config::{Challenge, StarkGenericConfig, Val};
+use crate::prover_folder::ProverFolder;
+use crate::verifier_folder::VerifierFolder;
+use p3_air::{Air, BaseAir};
+use p3_field::{ExtensionField, Field, FieldCore, PrimeCharacteristicRing, RingCore};
+
+/// A verifier's folder over a configuration's fields (`VerifierConstraintFolder` of `p3-uni-stark`).
+pub type VerifierConstraintFolder<'a, SC> = VerifierFolder<'a, Val<SC>, Challenge<SC>>;
+
+/// A prover's folder over a configuration's fields (`ProverConstraintFolder` of `p3-uni-stark`).
+pub type ProverConstraintFolder<'a, SC> = ProverFolder<'a, Val<SC>, Challenge<SC>>;
+
+/// The fold of an AIR's constraints by the folder's challenge, at what the folder reads: its accumulator is zero, and
+/// it has all cells that the AIR declares.
+pub fn verifier_fold<F: Field, E: ExtensionField<F>, A: Air<F>>(
+    air: &A,
+    folder: VerifierFolder<'_, F, E>,
+) -> E
+    requires zero { folder.accumulator ≡ E.ring.zero }
+    requires declared { Fits (declared_shape (A.declaration air.now)) (point_shape (opened_of folder).values) }
+    ensures { result ≡ fold E.ring folder.alpha (map (ev (reading E.ring E.embed (opened_of folder).values)) (A.trees air.now)) }
+{
+    let mut folder = folder;
+    match air.eval(&mut folder) {
+        Ok(()) => folder.accumulator,
+        Err(_) => unreachable!(),
+    }
+}
+
+/// The fold of an AIR's constraints by a challenge whose powers the folder lists in order, one for each constraint: its
+/// accumulator is zero, no power is taken yet, and it has all cells that the AIR declares.
+pub fn prover_fold<F: Field, E: ExtensionField<F>, A: Air<F>>(
+    air: &A,
+    folder: ProverFolder<'_, F, E>,
+) -> E
+    requires zero { folder.accumulator ≡ E.ring.zero }
+    requires first { folder.constraint_index ≡ 0 }
+    requires declared { Fits (declared_shape (A.declaration air.now)) (point_shape (values_of folder)) }
+    ensures { (alpha : E) → folder.alpha_powers.now ≡ fold_powers E.ring alpha (length (A.trees air.now))
+        → result ≡ fold E.ring alpha (map (ev (reading E.ring E.embed (embedded E.embed (values_of folder)))) (A.trees air.now)) }
+{
+    let mut folder = folder;
+    match air.eval(&mut folder) {
+        Ok(()) => folder.accumulator,
+        Err(_) => unreachable!(),
+    }
+}
