@@ -1,2 +1,5 @@
 -- What is proved of the definitions, by subject.
 pub mod Cosets
+pub mod Periods
+pub mod Repeated
+pub mod Codes

@@ -1,2 +1,4 @@
 pub mod Space
+pub mod Periodic
+pub mod Encoder
 pub mod Laws

@@ -7,9 +7,12 @@ ghost use Rattle.p3_field.specs.Domain.{point, van, first_selector, last_selecto
 ghost use Rattle.p3_matrix.specs.Matrix.{Rows, height};
 ghost use Rattle.p3_matrix.specs.Interpolation.{IsInterpolatedAt};
 ghost use Rattle.p3_commit.specs.Space.{IsPoint, AreDisjoint, IsOffered, IsOutside, IsPart, IsSplit, EachOf};
+ghost use Rattle.p3_commit.specs.Periodic.{IsPeriod, IsPeriodicAt, EachFrom};
 ghost use Rattle.p3_commit.specs.Laws.Cosets.{points_apart, point_after, disjoint_where_outside, points_of_part};
 
 use crate::interpolation::interpolated_at;
+use crate::periodic::PeriodicColumns;
+use crate::periodic_values::{periodic_value, periodic_values};
 use crate::selectors::{LagrangeSelectors, selectors_at, selectors_on};
 use crate::split::{split_domain, split_rows};
 use p3_field::{
@@ -148,6 +151,26 @@ pub trait PolynomialSpace: Copy {
         requires { length evals.now ≡ points self.now }
         ensures { IsInterpolatedAt Self.Val.ring Ext.ring Ext.embed (point_at self.now) evals.now point result };
 
+    /// The value at a point of a periodic column's polynomial, also at the points of this space: that of the
+    /// interpolant of the column repeated over this space. The column lists one period.
+    fn evaluate_periodic_column_at<Ext: ExtensionField<Self::Val>>(
+        &self,
+        col: &[Self::Val],
+        point: Ext,
+    ) -> Ext
+        requires { IsPeriod (points self.now) (length col.now) }
+        ensures { IsPeriodicAt Self.Val.ring Ext.ring Ext.embed (points self.now) (point_at self.now) point col.now result };
+
+    /// The same of each of several columns, in order.
+    fn evaluate_periodic_columns_at<Ext: ExtensionField<Self::Val>>(
+        &self,
+        alloc: Global,
+        columns: PeriodicColumns<'_, Self::Val>,
+        point: Ext,
+    ) -> Mem<Vec<Ext>>
+        requires { columns.height ≡ points self.now }
+        ensures { IfOk result (λ v. EachFrom (map (λ c. c.items) columns.entry.columns.now) v.items (IsPeriodicAt Self.Val.ring Ext.ring Ext.embed (points self.now) (point_at self.now) point)) };
+
     ghost points_differ: { (d : Self) → valid d → Apart (points d) (point_at d) };
 
     ghost steps: { (d : Self) (i : ℕ) → valid d → point_at d (i + 1) ≡ Self.Val.ring.mul (point_at d i) (step d) };
@@ -268,6 +291,22 @@ impl<F: TwoAdicField> PolynomialSpace for TwoAdicMultiplicativeCoset<F> {
 
     fn evaluate_polynomial_at<Ext: ExtensionField<F>>(&self, evals: &[F], point: Ext) -> Ext {
         interpolated_at(self, evals, point)
+    }
+
+    fn evaluate_periodic_column_at<Ext: ExtensionField<F>>(&self, col: &[F], point: Ext) -> Ext {
+        periodic_value(self, col, point)
+    }
+
+    fn evaluate_periodic_columns_at<Ext: ExtensionField<F>>(
+        &self,
+        alloc: Global,
+        columns: PeriodicColumns<'_, F>,
+        x: Ext,
+    ) -> Mem<Vec<Ext>>
+        requires { columns.height ≡ 2 ^ self.now.log_size }
+        ensures { IfOk result (λ v. EachFrom (map (λ c. c.items) columns.entry.columns.now) v.items (IsPeriodicAt F.ring Ext.ring Ext.embed (2 ^ self.now.log_size) (point F.ring F.root self.now) x)) }
+    {
+        periodic_values(alloc, self, columns, x)
     }
 
     ghost points_differ = { λ d h. points_apart F.ring F.ring_laws F.inv F.field_laws F.TWO_ADICITY F.root F.root_laws d h.0 h.1 };

@@ -1,0 +1,36 @@
+-- The shape of a code.
+use Rattle.std.proofs.Common.{◌≡◌, ℕ, ◌+◌, ◌*◌, ◌/◌, ◌^◌, ◌<◌, inl, inr, length, sym, ◌∙◌, ap, arith}
+use Rattle.std.specs.Int.{IsPowerOfTwo}
+use Rattle.std.proofs.lemmas.Bool.{cases_eq}
+use Rattle.std.proofs.lemmas.Nat.{pow_pos, pow-add}
+use Rattle.p3_field.specs.Ring.{Ring}
+use Rattle.p3_field.specs.Poly.{val}
+use Rattle.p3_field.specs.Domain.{coset_point}
+use Rattle.p3_field.specs.Laws.Tables.{length-table}
+use Rattle.p3_matrix.specs.Matrix.{Rows, height, column}
+use Rattle.p3_matrix.specs.Laws.Cells.{length-column}
+use Rattle.p3_dft.specs.Transform.{values_at}
+use Rattle.p3_commit.specs.Encoder.{IsCodeOf}
+
+by_zero : (n : ℕ) → n / 0 ≡ 0
+by_zero n = omega arith
+
+-- a matrix with rows has columns
+pub width_positive : {F : Type 0} (m : Rows F) → IsPowerOfTwo (height m) → 0 < m.width
+width_positive m p = elim (cases_eq m.width 0) [
+  | inl z ↦
+      let none : height m ≡ 0 = ap (λ w. length m.values / w) z ∙ by_zero (length m.values) in
+      absurd (let q : 0 < 2 ^ p.0 = pow_pos p.0 in omega (arith, none, p.1))
+  | inr d ↦ omega arith
+]
+
+-- a code is as wide as its message, and 2^rate times as high
+pub code_shape : {A : Type 0} (r : Ring A) (root : ℕ → A) (m code : Rows A) (rate : ℕ) → IsPowerOfTwo (height m) → IsCodeOf r root m rate code → (code.width ≡ m.width) × (height code ≡ height m * 2 ^ rate)
+unfolding values_at
+code_shape r root m code rate p C =
+    let k = p.0 + rate in
+    let size : height m * 2 ^ rate ≡ 2 ^ k = ap (λ n. n * 2 ^ rate) p.1 ∙ sym (pow-add 2 p.0 rate) in
+    let column_is = C.column_is 0 k (width_positive m p) size in
+    let high : height code ≡ 2 ^ k =
+    sym (length-column r.zero code 0) ∙ (ap length column_is ∙ length-table (2 ^ k) (λ i. val r (column r.zero m 0) (coset_point r r.one (root k) i))) in
+    (C.width_is, high ∙ sym size)
