@@ -112,6 +112,7 @@ pub type PcsProverError<SC> = <<SC as StarkGenericConfig>::Pcs as Pcs<
 pub struct StarkConfig<P: UnivariateStarkPcs<E, C>, E, C>
 where
     P::Val: PrimeCore64,
+    E: ExtensionField<<P as Pcs<E, C>>::Val>,
 {
     pcs: P,
     challenger: C,
@@ -126,6 +127,7 @@ impl<P, E, C> StarkConfig<P, E, C>
 where
     P: UnivariateStarkPcs<E, C>,
     P::Val: PrimeCore64,
+    E: ExtensionField<<P as Pcs<E, C>>::Val>,
 {
     /// The configuration with this scheme, this challenger, and so many bits for the two grindings, of which two to
     /// the power is below the field's order.

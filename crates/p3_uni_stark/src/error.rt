@@ -34,19 +34,30 @@ pub enum InvalidProofShapeError {
     },
     /// The next row's opened values are missing, or too few or too many.
     #[error("table {air:?}: the next row's opened values don't fit the declared columns")]
-    TraceNextMismatch { air: Option<usize> },
+    TraceNextMismatch {
+        air: Option<usize>,
+    },
     /// The next row is opened, though no column of it is declared.
     #[error("table {air:?}: the next row is opened and isn't declared")]
-    UnexpectedTraceNext { air: Option<usize> },
+    UnexpectedTraceNext {
+        air: Option<usize>,
+    },
     /// Preprocessed values are opened of a table that has none.
     #[error("table {air:?}: preprocessed values are opened of a table without any")]
-    UnexpectedPreprocessedValues { air: Option<usize> },
+    UnexpectedPreprocessedValues {
+        air: Option<usize>,
+    },
     /// The next preprocessed row is opened, though no column of it is declared.
     #[error("table {air:?}: the next preprocessed row is opened and isn't declared")]
-    UnexpectedPreprocessedNext { air: Option<usize> },
+    UnexpectedPreprocessedNext {
+        air: Option<usize>,
+    },
     /// The number of public values isn't the declared one.
     #[error("{got} public values in place of {expected}")]
-    PublicValuesLengthMismatch { expected: usize, got: usize },
+    PublicValuesLengthMismatch {
+        expected: usize,
+        got: usize,
+    },
     /// The number of opened values of the current row isn't the table's width.
     #[error("table {air}: {got} opened values of a row of {expected}")]
     TraceLocalWidthMismatch {
@@ -63,19 +74,29 @@ pub enum InvalidProofShapeError {
     },
     /// A quotient chunk hasn't as many values as the challenge field has dimensions.
     #[error("table {air}: a quotient chunk of another length than the challenge field's dimension")]
-    QuotientChunkDimensionMismatch { air: usize },
+    QuotientChunkDimensionMismatch {
+        air: usize,
+    },
     /// The opened preprocessed values are missing, or too few or too many.
     #[error("table {air}: the opened preprocessed values don't fit the declared width")]
-    PreprocessedWidthMismatch { air: usize },
+    PreprocessedWidthMismatch {
+        air: usize,
+    },
     /// The preprocessed trace was committed for another height.
     #[error("table {air}: the preprocessed trace was committed for another height")]
-    PreprocessedMetadataMismatch { air: usize },
+    PreprocessedMetadataMismatch {
+        air: usize,
+    },
     /// The preprocessed values aren't opened.
     #[error("table {air}: the preprocessed values aren't opened")]
-    MissingPreprocessedValues { air: usize },
+    MissingPreprocessedValues {
+        air: usize,
+    },
     /// The numbers of quotient chunks and of their domains differ.
     #[error("table {air}: the numbers of quotient chunks and of their domains differ")]
-    QuotientDomainsCountMismatch { air: usize },
+    QuotientDomainsCountMismatch {
+        air: usize,
+    },
 }
 
 /// Why a proof isn't accepted (`VerificationError` of `p3-uni-stark`); `E` is the backend's error.

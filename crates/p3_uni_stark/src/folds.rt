@@ -27,7 +27,7 @@ pub fn verifier_fold<F: Field, E: ExtensionField<F>, A: Air<F>>(
 ) -> E
     requires zero { folder.accumulator ≡ E.ring.zero }
     requires declared { Fits (declared_shape (A.declaration air.now)) (point_shape (opened_of folder).values) }
-    ensures { result ≡ fold E.ring folder.alpha (map (ev (reading E.ring E.embed (opened_of folder).values)) (A.trees air.now)) }
+    ensures { result ≡ fold E.ring folder.entry.alpha (map (ev (reading E.ring E.embed (opened_of folder.entry).values)) (A.trees air.now)) }
 {
     let mut folder = folder;
     match air.eval(&mut folder) {
@@ -45,8 +45,8 @@ pub fn prover_fold<F: Field, E: ExtensionField<F>, A: Air<F>>(
     requires zero { folder.accumulator ≡ E.ring.zero }
     requires first { folder.constraint_index ≡ 0 }
     requires declared { Fits (declared_shape (A.declaration air.now)) (point_shape (values_of folder)) }
-    ensures { (alpha : E) → folder.alpha_powers.now ≡ fold_powers E.ring alpha (length (A.trees air.now))
-        → result ≡ fold E.ring alpha (map (ev (reading E.ring E.embed (embedded E.embed (values_of folder)))) (A.trees air.now)) }
+    ensures { (alpha : E) → folder.entry.alpha_powers.now ≡ fold_powers E.ring alpha (length (A.trees air.now))
+        → result ≡ fold E.ring alpha (map (ev (reading E.ring E.embed (embedded E.embed (values_of folder.entry)))) (A.trees air.now)) }
 {
     let mut folder = folder;
     match air.eval(&mut folder) {

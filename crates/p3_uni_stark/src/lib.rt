@@ -20,9 +20,7 @@ pub use config::{
 };
 pub use degree_bits::validate_degree_bits;
 pub use error::{InvalidProofShapeError, VerificationError};
-pub use folds::{
-    ProverConstraintFolder, VerifierConstraintFolder, prover_fold, verifier_fold,
-};
+pub use folds::{ProverConstraintFolder, VerifierConstraintFolder, prover_fold, verifier_fold};
 pub use openings::{OpeningShape, StarkOpeningLayout, num_batched_openings};
 pub use proof::{OpenedValues, PreprocessedOpenedValues};
 pub use prover_folder::ProverFolder;

@@ -88,6 +88,7 @@ pub fn num_batched_openings(
     requires fits { opened_count main_width main_next preprocessed_width preprocessed_next num_quotient_chunks challenge_dimension * powers openings < 2 ^ 64 }
     ensures { result ≡ opened_count main_width main_next preprocessed_width preprocessed_next num_quotient_chunks challenge_dimension * powers openings }
 {
-    let rows = count_of_row(main_width, main_next) + count_of_row(preprocessed_width, preprocessed_next);
+    let rows = count_of_row(main_width, main_next)
+        + count_of_row(preprocessed_width, preprocessed_next);
     (rows + num_quotient_chunks * challenge_dimension) * openings.powers_per_opening()
 }

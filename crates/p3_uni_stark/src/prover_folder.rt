@@ -81,9 +81,15 @@ impl<'a, F: Field, E: ExtensionField<F>> AirBuilder for ProverFolder<'a, F, E> {
     fn cell(&mut self, c: Cell) -> Mem<F> {
         Ok(match c {
             Cell::Main { next: true, column } => self.main_next[column],
-            Cell::Main { next: false, column } => self.main_local[column],
+            Cell::Main {
+                next: false,
+                column,
+            } => self.main_local[column],
             Cell::Preprocessed { next: true, column } => self.preprocessed_next[column],
-            Cell::Preprocessed { next: false, column } => self.preprocessed_local[column],
+            Cell::Preprocessed {
+                next: false,
+                column,
+            } => self.preprocessed_local[column],
             Cell::Periodic(column) => self.periodic_values[column],
             Cell::Public(n) => self.public_values[n],
             Cell::FirstRow => self.is_first_row,
@@ -112,6 +118,8 @@ impl<'a, F: Field, E: ExtensionField<F>> AirBuilder for ProverFolder<'a, F, E> {
         self.add_weighted(E::from_base(x));
         Ok(())
     }
+
+    ghost arrays_fit = { F.arrays_fit };
 
     ghost later_same = { λ a. refl };
 
@@ -153,6 +161,8 @@ impl<'a, F: Field, E: ExtensionField<F>> ExtensionBuilder for ProverFolder<'a, F
         self.add_weighted(x);
         Ok(())
     }
+
+    ghost arrays_fit_ext = { E.arrays_fit };
 
     ghost persists_ext = { λ a b h e t k. value_persists (λ v. reading E.ring E.embed (embedded E.embed v)) (values_of a) (values_of b) e t h k };
 }

@@ -61,9 +61,15 @@ impl<'a, F: Field, E: ExtensionField<F>> AirBuilder for VerifierFolder<'a, F, E>
     fn cell(&mut self, c: Cell) -> Mem<E> {
         Ok(match c {
             Cell::Main { next: true, column } => self.main_next[column],
-            Cell::Main { next: false, column } => self.main_local[column],
+            Cell::Main {
+                next: false,
+                column,
+            } => self.main_local[column],
             Cell::Preprocessed { next: true, column } => self.preprocessed_next[column],
-            Cell::Preprocessed { next: false, column } => self.preprocessed_local[column],
+            Cell::Preprocessed {
+                next: false,
+                column,
+            } => self.preprocessed_local[column],
             Cell::Periodic(column) => self.periodic_values[column],
             Cell::Public(n) => E::from_base(self.public_values[n]),
             Cell::FirstRow => self.is_first_row,
@@ -92,6 +98,8 @@ impl<'a, F: Field, E: ExtensionField<F>> AirBuilder for VerifierFolder<'a, F, E>
         self.accumulator = self.accumulator * self.alpha + x;
         Ok(())
     }
+
+    ghost arrays_fit = { E.arrays_fit };
 
     ghost later_same = { λ a. refl };
 
@@ -133,6 +141,8 @@ impl<'a, F: Field, E: ExtensionField<F>> ExtensionBuilder for VerifierFolder<'a,
         self.accumulator = self.accumulator * self.alpha + x;
         Ok(())
     }
+
+    ghost arrays_fit_ext = { E.arrays_fit };
 
     ghost persists_ext = { λ a b h e t k. value_persists (λ o. reading E.ring E.embed o.values) (opened_of a) (opened_of b) e t h k };
 }

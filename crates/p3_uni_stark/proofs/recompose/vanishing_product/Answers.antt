@@ -22,8 +22,8 @@ loop-domain-preserved g c =
     let product = P.muls _ _ _ c.mul-product.ensures in (
       product ∙ ((λ k. s.mul (c.loop-domain.invariant.0 k) (value k)) ∙ sym (product_more s g.met.EF.RingCore.ring_laws i (λ j. val s (map e (van r g.F.FieldCore.inv (domain_at r ds j))) x))),
       λ away z.
-      let none = field_no_zero_divisors s g.met.EF.RingCore.ring_laws g.EF.FieldCore.inv g.met.EF.FieldCore.field_laws _ _ (c.loop-domain.invariant.1 (λ j h. away j (omega arith))) (sym product ∙ z) in
-      away i (omega arith) (subst (λ (d : CosetData g.row.F.Denot). IsPoint (2 ^ d.log_size) (point r g.F.TwoAdicCore.root d) e x) (sym item) (c.vanishing_poly_at_point.ensures.zero.0 none)),
+          let none = field_no_zero_divisors s g.met.EF.RingCore.ring_laws g.EF.FieldCore.inv g.met.EF.FieldCore.field_laws _ _ (c.loop-domain.invariant.1 (λ j h. away j (omega arith))) (sym product ∙ z) in
+          away i (omega arith) (subst (λ (d : CosetData g.row.F.Denot). IsPoint (2 ^ d.log_size) (point r g.F.TwoAdicCore.root d) e x) (sym item) (c.vanishing_poly_at_point.ensures.zero.0 none)),
     )
 
 pub returns-clause-nonzero : goal.returns-clause-nonzero

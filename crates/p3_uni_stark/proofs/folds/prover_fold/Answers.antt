@@ -1,0 +1,19 @@
+use Rattle.std.proofs.Common.{◌≡◌, List, length, map, drop, sym, ◌∙◌, ap}
+use Rattle.std.proofs.lemmas.List.{length-map}
+use Rattle.p3_air.specs.Tree.{ev}
+use Rattle.p3_uni_stark.specs.Fold.{fold_powers, Sum, weighed_from}
+use Rattle.p3_uni_stark.specs.Point.{reading, embedded}
+use Rattle.p3_uni_stark.specs.ProverState.{values_of, sum_of}
+use Rattle.p3_uni_stark.specs.Laws.Folds.{weighed_fold}
+use Rattle.p3_uni_stark.proofs.folds.prover_fold.Goals as goal
+
+pub returns : goal.returns
+returns g c = λ alpha powers.
+    let s = g.E.RingCore.ring in
+    let trees = g.A.Air.trees c.args.air.now in
+    let read = ev (reading s g.E.ExtensionField.embed (embedded g.E.ExtensionField.embed (values_of c.args.folder))) in
+    let values = map read trees in
+    let ordered : c.args.folder.alpha_powers.now ≡ fold_powers s alpha (length values) = powers ∙ ap (fold_powers s alpha) (sym (length-map trees read)) in
+    let start : sum_of c.args.folder ≡ record { left = fold_powers s alpha (length values); total = s.zero } =
+    (λ i. record { left = (ap (λ n. drop n c.args.folder.alpha_powers.now) c.requires.first ∙ ordered) i; total = c.requires.zero i }) in
+    ap (λ w. w.total) c.in-Ok.ensures.grows.1 ∙ (ap (λ w. (weighed_from s w values).total) start ∙ weighed_fold s g.met.E.RingCore.ring_laws alpha values)
