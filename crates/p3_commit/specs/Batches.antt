@@ -1,14 +1,13 @@
 -- Openings of rows of committed matrices. The rules are those of Plonky3's p3-commit (Mmcs).
-use Rattle.std.specs.Prelude.{◌≡◌, ℕ, ◌/◌, ◌<◌, List, length, map, Contains, All}
+use Rattle.std.specs.Prelude.{◌≡◌, ℕ, ◌/◌, ◌<◌, List, length, map, All, Vec}
 use Rattle.std.specs.Int.{IsPowerOfTwo}
 use Rattle.p3_matrix.specs.Matrix.{Rows, height, row_at}
 use Rattle.p3_matrix.specs.declared.dense.Dimensions.{Dimensions}
 use Rattle.p3_commit.specs.Periodic.{IsGreatest, EachFrom}
 
--- the rows opened of a batch of matrices, with the proof that they are the committed ones
-pub record Opening (T P : Type 0) : Type 0 where
-  pub opened_values : List (List T)
-  pub opening_proof : P
+-- lists of items, where each is kept in a vector
+abbrev pub lists : {T A : Type 0} → List (Vec T A) → List (List T)
+lists vs = map (λ v. v.items) vs
 
 -- there is a matrix, and each height is a power of two
 pub record IsBatch {T : Type 0} (ms : List (Rows T)) : Type 0 where
