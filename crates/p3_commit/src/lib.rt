@@ -41,6 +41,8 @@ pub use selectors::{LagrangeSelectors, first_selector_at, last_selector_at};
 pub use univariate::UnivariateStarkPcs;
 
 #[cfg(test)]
+mod claims_tests;
+#[cfg(test)]
 mod encoder_tests;
 #[cfg(test)]
 mod periodic_tests;
