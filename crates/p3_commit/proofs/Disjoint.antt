@@ -1,5 +1,5 @@
 -- Two cosets meet exactly where the ratio of their shifts lies in the larger subgroup.
-use Rattle.std.proofs.Common.{◌≡◌, ℕ, ◌+◌, ◌-◌, ◌*◌, ◌^◌, ◌<◌, ◌≤◌, ◌⊎◌, ◌↔◌, inl, inr, sym, ◌∙◌, ap, arith}
+use Rattle.std.proofs.Common.{◌≡◌, ℕ, ◌-◌, ◌*◌, ◌^◌, ◌<◌, ◌≤◌, ◌⊎◌, inl, inr, sym, ◌∙◌, ap, arith}
 use Rattle.std.specs.Prelude.{max}
 use Rattle.std.proofs.lemmas.Nat.{pow_pos}
 use Rattle.std.proofs.lemmas.Bool.{cases_lt}
@@ -9,7 +9,7 @@ use Rattle.p3_field.specs.Domain.{CosetData, coset_point, point}
 use Rattle.p3_field.specs.Laws.Algebra.{one_mul}
 use Rattle.p3_field.specs.Laws.Order.{one_pow, pow_times}
 use Rattle.p3_field.specs.Laws.Roots.{field_no_zero_divisors}
-use Rattle.p3_field.specs.Laws.Coset.{HasOrder, two_adic_order, pow_mul}
+use Rattle.p3_field.specs.Laws.Coset.{two_adic_order, pow_mul}
 use Rattle.p3_field.specs.Laws.Vanishing.{coset_only}
 use Rattle.p3_field.specs.Laws.Tables.{first_coset_point}
 use Rattle.p3_commit.specs.Space.{AreDisjoint}

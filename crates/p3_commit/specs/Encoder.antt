@@ -1,5 +1,5 @@
 -- Codes whose codewords are a polynomial's values. The rules are those of Plonky3's p3-commit (Encoder).
-use Rattle.std.specs.Prelude.{◌≡◌, ℕ, ◌*◌, ◌/◌, ◌^◌, ◌<◌, ◌≤◌, List}
+use Rattle.std.specs.Prelude.{◌≡◌, ℕ, ◌*◌, ◌/◌, ◌^◌, ◌<◌, ◌≤◌}
 use Rattle.p3_field.specs.Ring.{Ring}
 use Rattle.p3_field.specs.Domain.{coset_point}
 use Rattle.p3_matrix.specs.Matrix.{Rows, height, cell_at, column}

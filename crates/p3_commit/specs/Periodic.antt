@@ -1,6 +1,6 @@
 -- Periodic columns, which list one period of values and repeat it over all rows. The rules are those of Plonky3's
 -- p3-commit (PeriodicColumns, PolynomialSpace, PeriodicLdeTable).
-use Rattle.std.specs.Prelude.{◌≡◌, ℕ, ◌+◌, ◌*◌, ◌/◌, ◌%◌, ◌<◌, ◌≤◌, ◌⊎◌, List, Contains, Some, length, slice_get}
+use Rattle.std.specs.Prelude.{◌≡◌, ℕ, ◌/◌, ◌%◌, ◌<◌, ◌≤◌, ◌⊎◌, List, Contains, Some, length, slice_get}
 use Rattle.std.specs.Int.{IsPowerOfTwo, ◌∣◌}
 use Rattle.std.specs.List.{All, repeat}
 use Rattle.p3_field.specs.Ring.{Ring}

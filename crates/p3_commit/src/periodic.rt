@@ -63,7 +63,8 @@ impl<'a, F> PeriodicColumns<'a, F> {
             if !is_power_of_two(length) {
                 return Err(PeriodicColumnShapeError::LengthNotPowerOfTwo { index, length });
             }
-            if height % length != 0 {
+            let rest = height % length;
+            if rest != 0 {
                 return Err(PeriodicColumnShapeError::LengthNotDividingHeight {
                     index,
                     length,

@@ -1,6 +1,6 @@
 -- That a column fits has one proof at most, so a struct can keep it.
-use Rattle.std.proofs.Common.{◌≡◌, ℕ, ◌^◌, ◌<◌, List, length, get_or, sym, ◌∙◌}
-use Rattle.std.specs.Int.{IsPowerOfTwo, ◌∣◌}
+use Rattle.std.proofs.Common.{ℕ, ◌^◌, List, length, get_or, sym, ◌∙◌}
+use Rattle.std.specs.Int.{IsPowerOfTwo}
 use Rattle.std.specs.List.{All}
 use Rattle.std.proofs.Math.Nat.{ℕ_set, ∣_prop}
 use mathlib.Core.HLevel.{Π_prop, ×_prop, Σ_prop_path}

@@ -1,5 +1,5 @@
 -- A period laid over many points: its items, and its interpolant, which is the period's at a power of the point.
-use Rattle.std.proofs.Common.{◌≡◌, ℕ, zero, suc, ◌+◌, ◌-◌, ◌*◌, ◌/◌, ◌%◌, ◌^◌, ◌<◌, ◌≤◌, inl, inr, List, [], ◌∷◌, ◌++◌, length, get_or, map, refl, sym, ◌∙◌, ap, arith}
+use Rattle.std.proofs.Common.{◌≡◌, ℕ, zero, suc, ◌+◌, ◌-◌, ◌*◌, ◌/◌, ◌%◌, ◌^◌, ◌<◌, ◌≤◌, inl, inr, List, [], ◌∷◌, length, get_or, map, refl, sym, ◌∙◌, ap, arith}
 use Rattle.std.specs.List.{repeat}
 use Rattle.std.proofs.Math.Nat.{mul-div_cancel, mod-eq-sub-mod, mod-eq_of_lt}
 use Rattle.std.proofs.lemmas.Nat.{pow-add, pow_pos}
@@ -7,9 +7,9 @@ use Rattle.std.proofs.lemmas.Bool.{cases_lt}
 use Rattle.std.proofs.lemmas.List.{length-append, get_or_append_left}
 use Rattle.std.proofs.Math.Seq.{get_or-append_right}
 use Rattle.p3_field.specs.Ring.{Ring, RingLaws, pow}
-use Rattle.p3_field.specs.Field.{RingHom, FieldLaws, TwoAdicLaws}
+use Rattle.p3_field.specs.Field.{RingHom, TwoAdicLaws}
 use Rattle.p3_field.specs.Poly.{val, raise, Apart}
-use Rattle.p3_field.specs.Domain.{CosetData, coset_point, point, IsInterpolant}
+use Rattle.p3_field.specs.Domain.{CosetData, coset_point, point}
 use Rattle.p3_field.specs.Laws.Values.{val_raise}
 use Rattle.p3_field.specs.Laws.Extended.{map_raise}
 use Rattle.p3_field.specs.Laws.Roots.{NoZeroDivisors}

@@ -1,4 +1,4 @@
-use Rattle.std.proofs.Common.{◌≡◌, ◌^◌, ◌∙◌, Bool, true, false, refl, sym, ap}
+use Rattle.std.proofs.Common.{◌≡◌, ◌^◌, ◌∙◌, Bool, true, false, refl, sym}
 use Rattle.std.specs.Prelude.{IsTrue, not, max}
 use Rattle.p3_field.specs.Ring.{pow, sub}
 use Rattle.p3_field.specs.Laws.Roots.{sub_zero, sub_self}

@@ -1,4 +1,4 @@
-use Rattle.std.proofs.Common.{◌≡◌, ℕ, ◌<◌, length, refl, sym, ◌∙◌, arith}
+use Rattle.std.proofs.Common.{◌≡◌, length, refl, sym, ◌∙◌, arith}
 use Rattle.std.specs.Int.{IsPowerOfTwo}
 use Rattle.std.proofs.lemmas.Nat.Gcd.{dvd_of_mod-eq-zero, mod-eq-zero_of_dvd}
 use Rattle.p3_commit.proofs.Periods.{first_unfit, more_fit}
@@ -11,12 +11,12 @@ returns-then-not-is_power_of_two g c =
     let none : IsPowerOfTwo c.len-length.result → ⊥ = λ p. let e = sym c.if-not-is_power_of_two.true ∙ c.is_power_of_two.ensures.1 p in cc in
     (first_unfit (λ w. length w.items) c.args.height c.args.columns.now c.loop-index.index c.len-length.result v (omega arith) c.index-columns-index.is n c.loop-index.invariant (λ p. none p.0), none)
 
-pub returns-then-height-length-ne0 : goal.returns-then-height-length-ne0
-returns-then-height-length-ne0 g c =
+pub returns-then-rest-ne0 : goal.returns-then-rest-ne0
+returns-then-rest-ne0 g c =
     let v = c.index-columns-index.result in
     let n : c.len-length.result ≡ length v.items = omega (arith, v.ok.0) in (
       first_unfit (λ w. length w.items) c.args.height c.args.columns.now c.loop-index.index c.len-length.result v (omega arith) c.index-columns-index.is n c.loop-index.invariant
-          (λ p. c.if-height-length-ne0.true (mod-eq-zero_of_dvd c.len-length.result p.1)),
+          (λ p. c.if-rest-ne0.true (mod-eq-zero_of_dvd c.len-length.result p.1)),
       c.is_power_of_two.ensures.0 c.if-not-is_power_of_two.false,
       refl,
     )
@@ -26,7 +26,7 @@ loop-index-preserved g c =
     let v = c.index-columns-index.result in
     let n : c.len-length.result ≡ length v.items = omega (arith, v.ok.0) in
     more_fit (λ w. length w.items) c.args.height c.args.columns.now c.loop-index.index c.len-length.result v (omega arith) c.index-columns-index.is n c.loop-index.invariant
-    (c.is_power_of_two.ensures.0 c.if-not-is_power_of_two.false, dvd_of_mod-eq-zero c.len-length.result c.if-height-length-ne0.false)
+    (c.is_power_of_two.ensures.0 c.if-not-is_power_of_two.false, dvd_of_mod-eq-zero c.len-length.result c.if-rest-ne0.false)
 
 pub returns : goal.returns
 returns g c = (refl, refl, λ k d b. c.loop-index.invariant k d (omega arith))
