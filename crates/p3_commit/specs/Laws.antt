@@ -1,5 +1,7 @@
 -- What is proved of the definitions, by subject.
 pub mod Cosets
+pub mod Pairs
 pub mod Periods
 pub mod Repeated
 pub mod Codes
+pub mod FlatBatches

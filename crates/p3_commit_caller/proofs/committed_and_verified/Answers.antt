@@ -1,0 +1,36 @@
+use Rattle.std.proofs.Common.{◌∙◌, List, [], ◌∷◌, ap, sym, subst}
+use Rattle.p3_commit.specs.Claims.{MatrixClaim}
+use Rattle.p3_commit_caller.proofs.Committing.{committed_one, values_of_committed}
+use Rattle.p3_commit_caller.proofs.committed_and_verified.Goals as goal
+
+pub opened-requires-clause-held : goal.opened-requires-clause-held
+opened-requires-clause-held g c =
+    let T = g.P.Pcs in
+    let S = g.P.Domain.PolynomialSpace in
+    let w : g.row.P-Commitment.Denot × g.row.P-ProverData.Denot = (c.in_ok-commitment.commitment, c.in_ok-commitment.prover_data) in
+    let (m, (are, h)) = committed_one g.P.Val.RingCore.ring S.points S.point_at (T.commits c.args.pcs.now) (T.made c.args.pcs.now) (T.holds c.args.pcs.now) c.in_ok-one.field-0.items c.args.domain c.args.matrix w c.in_ok-one.ensures c.in_ok-commitment.ensures.committed in
+    (c.in_ok-commitment.commitment, (m, h))
+
+pub returns-then-branch-clause-values : goal.returns-then-branch-clause-values
+returns-then-branch-clause-values g c =
+    let T = g.P.Pcs in
+    let S = g.P.Domain.PolynomialSpace in
+    let w : g.row.P-Commitment.Denot × g.row.P-ProverData.Denot = (c.in_ok-commitment.commitment, c.in_ok-commitment.prover_data) in
+    let r = g.P.Val.RingCore.ring in
+    let (m, (are, h)) = committed_one r S.points S.point_at (T.commits c.args.pcs.now) (T.made c.args.pcs.now) (T.holds c.args.pcs.now) c.in_ok-one.field-0.items c.args.domain c.args.matrix w c.in_ok-one.ensures c.in_ok-commitment.ensures.committed in
+    values_of_committed r g.E.RingCore.ring g.E.ExtensionField.embed (S.points c.args.domain) (S.point_at c.args.domain) c.args.matrix m c.args.point c.in_ok-values.values.items are
+    (c.in_ok-values.ensures.values c.in_ok-commitment.commitment m h)
+
+pub returns-clause-accepted : goal.returns-clause-accepted
+returns-clause-accepted g c =
+    let T = g.P.Pcs in
+    let S = g.P.Domain.PolynomialSpace in
+    let commitment = c.in_ok-commitment.commitment in
+    let w : g.row.P-Commitment.Denot × g.row.P-ProverData.Denot = (commitment, c.in_ok-commitment.prover_data) in
+    let (m, (are, h)) = committed_one g.P.Val.RingCore.ring S.points S.point_at (T.commits c.args.pcs.now) (T.made c.args.pcs.now) (T.holds c.args.pcs.now) c.in_ok-one.field-0.items c.args.domain c.args.matrix w c.in_ok-one.ensures c.in_ok-commitment.ensures.committed in
+    let accepts = c.in_ok-values.ensures.accepted commitment m c.args.domain h c.requires (sym are.size_is) in
+    let values = c.in_ok-from_slice.ensures.items ∙ c.deref.ensures.value in
+    let points = c.in_ok-points.ensures ∙ ap (λ l. record { point = c.args.point; values = l } ∷ []) values in
+    let matrices = c.in_ok-matrices.ensures ∙ ap (λ l. record { domain = c.args.domain; points = l } ∷ []) points in
+    let Q : List (MatrixClaim g.row.E.Denot g.row.P-Domain.Denot) → Type 0 = λ l. T.opens c.args.pcs.now c.args.challenger (record { commitment = commitment; matrices = l } ∷ []) c.in_ok-values.proof in
+    sym c.if-branch.false ∙ c.in_ok-verified.ensures (subst Q (sym matrices) accepts)
