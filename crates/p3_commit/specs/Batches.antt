@@ -1,14 +1,13 @@
 -- Openings of rows of committed matrices. The rules are those of Plonky3's p3-commit (Mmcs).
-use Rattle.std.specs.Prelude.{◌≡◌, ℕ, ◌/◌, ◌<◌, List, length, map, Contains, All}
+use Rattle.std.specs.Prelude.{◌≡◌, ℕ, ◌*◌, ◌/◌, ◌<◌, List, length, map, flat_map, All, Vec}
 use Rattle.std.specs.Int.{IsPowerOfTwo}
 use Rattle.p3_matrix.specs.Matrix.{Rows, height, row_at}
 use Rattle.p3_matrix.specs.declared.dense.Dimensions.{Dimensions}
 use Rattle.p3_commit.specs.Periodic.{IsGreatest, EachFrom}
 
--- the rows opened of a batch of matrices, with the proof that they are the committed ones
-pub record Opening (T P : Type 0) : Type 0 where
-  pub opened_values : List (List T)
-  pub opening_proof : P
+-- lists of items, where each is kept in a vector
+abbrev pub lists : {T A : Type 0} → List (Vec T A) → List (List T)
+lists vs = map (λ v. v.items) vs
 
 -- there is a matrix, and each height is a power of two
 pub record IsBatch {T : Type 0} (ms : List (Rows T)) : Type 0 where
@@ -35,3 +34,16 @@ dimensions_of ms = map (λ m. record { width = m.width; height = height m }) ms
 -- each row is as long as its matrix is wide
 abbrev pub HaveWidths : {T : Type 0} → List Dimensions → List (List T) → Type 0
 HaveWidths dimensions rows = EachFrom dimensions rows (λ d row. length row ≡ d.width)
+
+-- a matrix over a larger field as one over its base: each value gives way to its d coefficients
+abbrev pub flat_rows : {E F : Type 0} → (E → List F) → ℕ → Rows E → Rows F
+flat_rows parts d m = record { values = flat_map parts m.values; width = m.width * d }
+
+-- the dimensions of such a matrix
+abbrev pub widened : ℕ → Dimensions → Dimensions
+widened d s = record { width = s.width * d; height = s.height }
+
+-- matrices over a larger field, and what an inner scheme keeps of them as matrices over the base
+pub record FlatData (P E : Type 0) : Type 0 where
+  pub inner : P
+  pub matrices : List (Rows E)

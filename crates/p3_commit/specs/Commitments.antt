@@ -1,5 +1,5 @@
 -- Commitments to polynomials and their openings. The rules are those of Plonky3's p3-commit (Pcs, UnivariateStarkPcs).
-use Rattle.std.specs.Prelude.{◌≡◌, ℕ, ◌<◌, ◌^◌, List, [], Some, length, map, get_or, slice_get, zip, All, Vec}
+use Rattle.std.specs.Prelude.{◌≡◌, ℕ, ◌<◌, ◌^◌, List, [], length, map, get_or, zip, All, Vec}
 use Rattle.p3_field.specs.Ring.{Ring, pow}
 use Rattle.p3_field.specs.Poly.{val}
 use Rattle.p3_field.specs.Domain.{IsInterpolant}

@@ -4,3 +4,4 @@ pub mod Pairs
 pub mod Periods
 pub mod Repeated
 pub mod Codes
+pub mod FlatBatches

@@ -8,6 +8,7 @@
 mod claims;
 mod domain;
 mod encoder;
+mod extension_mmcs;
 mod failure;
 mod interpolation;
 mod mmcs;
@@ -28,6 +29,7 @@ pub use claims::{
 };
 pub use domain::{PolynomialSpace, are_disjoint};
 pub use encoder::{EncodeError, Encoder};
+pub use extension_mmcs::{ExtensionMmcs, ExtensionMmcsData};
 pub use failure::PcsFailure;
 pub use mmcs::{BatchOpening, BatchOpeningRef, Mmcs};
 pub use multilinear::MultilinearPcs;
@@ -38,6 +40,8 @@ pub use periodic_table::PeriodicLdeTable;
 pub use selectors::{LagrangeSelectors, first_selector_at, last_selector_at};
 pub use univariate::UnivariateStarkPcs;
 
+#[cfg(test)]
+mod claims_tests;
 #[cfg(test)]
 mod encoder_tests;
 #[cfg(test)]

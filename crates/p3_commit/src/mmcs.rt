@@ -1,17 +1,16 @@
 //! Schemes that commit to matrices and open their rows.
-ghost use Rattle.std.specs.Prelude.{◌≡◌, ℕ, ◌<◌, List, [], ◌∷◌, length, map, All, IfOk};
+ghost use Rattle.std.specs.Prelude.{◌≡◌, ℕ, ◌<◌, List, [], ◌∷◌, length, map, All, IfOk, MatchOption};
 ghost use Rattle.std.specs.Int.{IsPowerOfTwo};
 ghost use Rattle.p3_matrix.specs.Matrix.{Rows, height};
 ghost use Rattle.p3_matrix.specs.declared.dense.Dimensions.{Dimensions};
 ghost use Rattle.p3_commit.specs.Failure.{NoneOf, VerifiedBy};
 ghost use Rattle.p3_commit.specs.Periodic.{IsGreatest, EachFrom};
-ghost use Rattle.p3_commit.specs.Batches.{Opening, IsBatch, IsRowOf, AreRowsAt, dimensions_of, HaveWidths};
+ghost use Rattle.p3_commit.specs.Batches.{lists, IsBatch, IsRowOf, AreRowsAt, dimensions_of, HaveWidths};
 
 use crate::failure::PcsFailure;
 use p3_field::Mem;
 use p3_matrix::{Dimensions, RowMajorMatrix};
 use std::alloc::Global;
-use std::marker::Model;
 
 /// A scheme that commits to a batch of matrices and opens a row of each (`Mmcs` of `p3-commit`: a mixed matrix commitment
 /// scheme).
@@ -73,9 +72,9 @@ pub trait Mmcs<T: Copy + Eq> {
         prover_data: &Self::ProverData,
     ) -> Mem<BatchOpening<T, Self>>
         requires { IsRowOf (matrices prover_data.now) index }
-        ensures rows { IfOk result (λ o. AreRowsAt (matrices prover_data.now) index o.opened_values) }
+        ensures rows { IfOk result (λ o. AreRowsAt (matrices prover_data.now) index (lists o.opened_values.items)) }
         ensures accepted { IfOk result (λ o. (c : Self.Commitment) → belongs self.now prover_data.now c
-            → opens self.now c (dimensions_of (matrices prover_data.now)) index o.opened_values o.opening_proof) };
+            → opens self.now c (dimensions_of (matrices prover_data.now)) index (lists o.opened_values.items) o.opening_proof) };
 
     /// The committed matrices.
     fn get_matrices<'a>(&self, prover_data: &'a Self::ProverData) -> &'a [RowMajorMatrix<T>]
@@ -92,8 +91,8 @@ pub trait Mmcs<T: Copy + Eq> {
         opening: BatchOpeningRef<'_, T, Self>,
     ) -> Result<(), PcsFailure<Self::Error>>
         requires { All (λ d. takes d.width) dimensions.now }
-        ensures { VerifiedBy (opens self.now commit.now dimensions.now index (map (λ row. row.items) opening.entry.opened_values.now) opening.entry.opening_proof.now)
-            (fault self.now commit.now dimensions.now index (map (λ row. row.items) opening.entry.opened_values.now) opening.entry.opening_proof.now) result };
+        ensures { VerifiedBy (opens self.now commit.now dimensions.now index (lists opening.entry.opened_values.now) opening.entry.opening_proof.now)
+            (fault self.now commit.now dimensions.now index (lists opening.entry.opened_values.now) opening.entry.opening_proof.now) result };
 
     /// The rows of `open_batch` at each of these places, with one proof.
     fn open_multi_batch(
@@ -103,9 +102,9 @@ pub trait Mmcs<T: Copy + Eq> {
         prover_data: &Self::ProverData,
     ) -> Mem<(Vec<Vec<Vec<T>>>, Self::MultiProof)>
         requires { All (IsRowOf (matrices prover_data.now)) indices.now }
-        ensures rows { IfOk result (λ w. EachFrom indices.now (map (λ rows. map (λ row. row.items) rows.items) w.0.items) (AreRowsAt (matrices prover_data.now))) }
+        ensures rows { IfOk result (λ w. EachFrom indices.now (map (λ rows. lists rows.items) w.0.items) (AreRowsAt (matrices prover_data.now))) }
         ensures accepted { IfOk result (λ w. (c : Self.Commitment) → belongs self.now prover_data.now c
-            → multi_opens self.now c (dimensions_of (matrices prover_data.now)) indices.now (map (λ rows. map (λ row. row.items) rows.items) w.0.items) w.1) };
+            → multi_opens self.now c (dimensions_of (matrices prover_data.now)) indices.now (map (λ rows. lists rows.items) w.0.items) w.1) };
 
     /// What `verify_batch` does for several places at once.
     fn verify_multi_batch(
@@ -118,8 +117,52 @@ pub trait Mmcs<T: Copy + Eq> {
         proof: &Self::MultiProof,
     ) -> Result<(), PcsFailure<Self::Error>>
         requires { All (λ d. takes d.width) dimensions.now }
-        ensures { VerifiedBy (multi_opens self.now commit.now dimensions.now indices.now (map (λ rows. map (λ row. row.items) rows.items) opened_values.now) proof.now)
-            (multi_fault self.now commit.now dimensions.now indices.now (map (λ rows. map (λ row. row.items) rows.items) opened_values.now) proof.now) result };
+        ensures { VerifiedBy (multi_opens self.now commit.now dimensions.now indices.now (map (λ rows. lists rows.items) opened_values.now) proof.now)
+            (multi_fault self.now commit.now dimensions.now indices.now (map (λ rows. lists rows.items) opened_values.now) proof.now) result };
+
+    /// The height of each committed matrix.
+    fn get_matrix_heights(&self, alloc: Global, prover_data: &Self::ProverData) -> Mem<Vec<usize>>
+        ensures { IfOk result (λ v. v.items ≡ map (λ m. height m) (matrices prover_data.now)) }
+    {
+        heights_of(alloc, self.get_matrices(prover_data))
+    }
+
+    /// The greatest height of a committed matrix, where there is one.
+    fn get_max_height(&self, prover_data: &Self::ProverData) -> usize
+        requires { 0 < length (matrices prover_data.now) }
+        ensures { IsGreatest (map (λ m. height m) (matrices prover_data.now)) result }
+    {
+        greatest_height(self.get_matrices(prover_data)).unwrap()
+    }
+
+    /// Commits to one matrix.
+    final fn commit_matrix(
+        &self,
+        alloc: Global,
+        input: RowMajorMatrix<T>,
+    ) -> Mem<(Self::Commitment, Self::ProverData)>
+        requires height { IsPowerOfTwo (height input) }
+        requires width { takes input.width }
+        ensures matrices { IfOk result (λ w. matrices w.1 ≡ input ∷ []) }
+        ensures belongs { IfOk result (λ w. belongs self.now w.1 w.0) }
+    {
+        let inputs = one_matrix(alloc, input)?;
+        self.commit(alloc, inputs)
+    }
+
+    /// Commits to one column.
+    final fn commit_vec(
+        &self,
+        alloc: Global,
+        input: Vec<T>,
+    ) -> Mem<(Self::Commitment, Self::ProverData)>
+        requires height { IsPowerOfTwo (length input.items) }
+        requires width { takes 1 }
+        ensures matrices { IfOk result (λ w. matrices w.1 ≡ record { values = input.items; width = 1 } ∷ []) }
+        ensures belongs { IfOk result (λ w. belongs self.now w.1 w.0) }
+    {
+        self.commit_matrix(alloc, RowMajorMatrix::new_col(input))
+    }
 
     // an opening that is accepted has no fault
     ghost opens_faultless: { (s : Self) (c : Self.Commitment) (ds : List Dimensions) (i : ℕ) (rows : List (List T)) (p : Self.Proof) → opens s c ds i rows p → NoneOf (fault s c ds i rows p) };
@@ -142,12 +185,6 @@ pub struct BatchOpening<T: Copy + Eq, M: Mmcs<T>> {
     pub opening_proof: M::Proof,
 }
 
-impl<T: Copy + Eq, M: Mmcs<T>> Model for BatchOpening<T, M> {
-    ghost Value = { Opening T M.Proof };
-
-    ghost view = { λ o. record { opened_values = map (λ row. row.items) o.opened_values.items; opening_proof = o.opening_proof } };
-}
-
 /// The same, borrowed (`BatchOpeningRef` of `p3-commit`).
 #[derive(Clone, Copy)]
 pub struct BatchOpeningRef<'a, T: Copy + Eq, M: Mmcs<T>> {
@@ -155,4 +192,191 @@ pub struct BatchOpeningRef<'a, T: Copy + Eq, M: Mmcs<T>> {
     pub opened_values: &'a [Vec<T>],
     /// The proof.
     pub opening_proof: &'a M::Proof,
+}
+
+impl<T: Copy + Eq, M: Mmcs<T>> BatchOpening<T, M> {
+    /// The opening of these rows with this proof.
+    pub fn new(opened_values: Vec<Vec<T>>, opening_proof: M::Proof) -> Self
+        ensures rows { lists result.opened_values.items ≡ lists opened_values.items }
+        ensures proof { result.opening_proof ≡ opening_proof }
+    {
+        BatchOpening {
+            opened_values,
+            opening_proof,
+        }
+    }
+
+    /// The rows and the proof.
+    pub fn unpack(self) -> (Vec<Vec<T>>, M::Proof)
+        ensures rows { lists result.0.items ≡ lists self.opened_values.items }
+        ensures proof { result.1 ≡ self.opening_proof }
+    {
+        let BatchOpening {
+            opened_values,
+            opening_proof,
+        } = self;
+        (opened_values, opening_proof)
+    }
+}
+
+impl<'a, T: Copy + Eq, M: Mmcs<T>> BatchOpeningRef<'a, T, M> {
+    /// The opening of these rows with this proof.
+    pub fn new(opened_values: &'a [Vec<T>], opening_proof: &'a M::Proof) -> Self
+        ensures rows { result.opened_values.now ≡ opened_values.now }
+        ensures proof { result.opening_proof.now ≡ opening_proof.now }
+    {
+        BatchOpeningRef {
+            opened_values,
+            opening_proof,
+        }
+    }
+
+    /// The rows and the proof.
+    pub fn unpack(&self) -> (&'a [Vec<T>], &'a M::Proof)
+        ensures rows { result.0.now ≡ self.now.opened_values.now }
+        ensures proof { result.1.now ≡ self.now.opening_proof.now }
+    {
+        (self.opened_values, self.opening_proof)
+    }
+}
+
+impl<'a, T: Copy + Eq, M: Mmcs<T>> From<&'a BatchOpening<T, M>> for BatchOpeningRef<'a, T, M> {
+    ghost from_gives = { λ o r. (lists r.opened_values.now ≡ lists o.now.opened_values.items) × (r.opening_proof.now ≡ o.now.opening_proof) };
+
+    fn from(opening: &'a BatchOpening<T, M>) -> Self {
+        BatchOpeningRef {
+            opened_values: &opening.opened_values,
+            opening_proof: &opening.opening_proof,
+        }
+    }
+}
+
+// The list of one matrix.
+fn one_matrix<T: Copy>(alloc: Global, input: RowMajorMatrix<T>) -> Mem<Vec<RowMajorMatrix<T>>>
+    requires { IsPowerOfTwo (height input) }
+    ensures list { IfOk result (λ v. v.items ≡ input ∷ []) }
+{
+    let mut inputs = Vec::new(alloc);
+    inputs.push(input)?;
+    Ok(inputs)
+}
+
+// The height of each matrix.
+fn heights_of<T>(alloc: Global, matrices: &[RowMajorMatrix<T>]) -> Mem<Vec<usize>>
+    ensures { IfOk result (λ v. v.items ≡ map (λ m. height m) matrices.now) }
+{
+    matrices.iter().map(|m| m.height()).collect(alloc)
+}
+
+// The greatest height, where there is a matrix.
+fn greatest_height<T>(matrices: &[RowMajorMatrix<T>]) -> Option<usize>
+    ensures { MatchOption result (length matrices.now ≡ 0) (IsGreatest (map (λ m. height m) matrices.now)) }
+{
+    matrices.iter().map(|m| m.height()).max()
+}
+
+impl<'m, T: Copy + Eq, M: Mmcs<T>> Mmcs<T> for &'m M {
+    type ProverData = M::ProverData;
+
+    type Commitment = M::Commitment;
+
+    type Proof = M::Proof;
+
+    type MultiProof = M::MultiProof;
+
+    type Error = M::Error;
+
+    ghost takes = { λ w. M.takes w };
+
+    ghost matrices = { λ d. M.matrices d };
+
+    ghost belongs = { λ s d c. M.belongs s.now d c };
+
+    ghost opens = { λ s c ds i rows p. M.opens s.now c ds i rows p };
+
+    ghost fault = { λ s c ds i rows p e. M.fault s.now c ds i rows p e };
+
+    ghost multi_opens = { λ s c ds is rows p. M.multi_opens s.now c ds is rows p };
+
+    ghost multi_fault = { λ s c ds is rows p e. M.multi_fault s.now c ds is rows p e };
+
+    fn commit(
+        &self,
+        alloc: Global,
+        inputs: Vec<RowMajorMatrix<T>>,
+    ) -> Mem<(M::Commitment, M::ProverData)>
+        requires batch { IsBatch inputs.items }
+        requires widths { All (λ m. M.takes m.width) inputs.items }
+        ensures matrices { IfOk result (λ w. M.matrices w.1 ≡ inputs.items) }
+        ensures belongs { IfOk result (λ w. M.belongs self.now.now w.1 w.0) }
+    {
+        (**self).commit(alloc, inputs)
+    }
+
+    fn open_batch(
+        &self,
+        alloc: Global,
+        index: usize,
+        prover_data: &M::ProverData,
+    ) -> Mem<BatchOpening<T, Self>> {
+        let opening = (**self).open_batch(alloc, index, prover_data)?;
+        let (opened_values, opening_proof) = opening.unpack();
+        let opening = BatchOpening {
+            opened_values,
+            opening_proof,
+        };
+        Ok(opening)
+    }
+
+    fn get_matrices<'a>(&self, prover_data: &'a M::ProverData) -> &'a [RowMajorMatrix<T>] {
+        (**self).get_matrices(prover_data)
+    }
+
+    fn verify_batch(
+        &self,
+        alloc: Global,
+        commit: &M::Commitment,
+        dimensions: &[Dimensions],
+        index: usize,
+        opening: BatchOpeningRef<'_, T, Self>,
+    ) -> Result<(), PcsFailure<M::Error>>
+        requires { All (λ d. M.takes d.width) dimensions.now }
+        ensures { VerifiedBy (M.opens self.now.now commit.now dimensions.now index (lists opening.entry.opened_values.now) opening.entry.opening_proof.now)
+            (M.fault self.now.now commit.now dimensions.now index (lists opening.entry.opened_values.now) opening.entry.opening_proof.now) result }
+    {
+        let inner = BatchOpeningRef {
+            opened_values: opening.opened_values,
+            opening_proof: opening.opening_proof,
+        };
+        (**self).verify_batch(alloc, commit, dimensions, index, inner)
+    }
+
+    fn open_multi_batch(
+        &self,
+        alloc: Global,
+        indices: &[usize],
+        prover_data: &M::ProverData,
+    ) -> Mem<(Vec<Vec<Vec<T>>>, M::MultiProof)> {
+        (**self).open_multi_batch(alloc, indices, prover_data)
+    }
+
+    fn verify_multi_batch(
+        &self,
+        alloc: Global,
+        commit: &M::Commitment,
+        dimensions: &[Dimensions],
+        indices: &[usize],
+        opened_values: &[Vec<Vec<T>>],
+        proof: &M::MultiProof,
+    ) -> Result<(), PcsFailure<M::Error>> {
+        (**self).verify_multi_batch(alloc, commit, dimensions, indices, opened_values, proof)
+    }
+
+    ghost opens_faultless = { λ s c ds i rows p h. M.opens_faultless s.now c ds i rows p h };
+
+    ghost multi_opens_faultless = { λ s c ds is rows p h. M.multi_opens_faultless s.now c ds is rows p h };
+
+    ghost opened_widths = { λ s c ds i rows p h. M.opened_widths s.now c ds i rows p h };
+
+    ghost multi_opened_widths = { λ s c ds is rows p h. M.multi_opened_widths s.now c ds is rows p h };
 }

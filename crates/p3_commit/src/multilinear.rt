@@ -3,7 +3,9 @@ ghost use Rattle.std.specs.Prelude.{◌≡◌, ℕ, IfOk};
 ghost use Rattle.p3_commit.specs.Failure.{NoneOf, RefusedBy, IfRefused, VerifiedBy};
 
 use crate::failure::PcsFailure;
-use p3_field::{BasedVectorSpace, ExtensionField, Field, FieldCore, PrimeCharacteristicRing, RingCore};
+use p3_field::{
+    BasedVectorSpace, ExtensionField, Field, FieldCore, PrimeCharacteristicRing, RingCore,
+};
 use std::alloc::Global;
 
 /// A scheme that commits to multilinear polynomials, each given by its values on all points of zeros and ones, and proves
