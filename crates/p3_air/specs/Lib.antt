@@ -3,4 +3,5 @@ pub mod Shape
 pub mod Examples
 pub mod Symbolic
 pub mod Degree
+pub mod Gadgets
 pub mod Laws
