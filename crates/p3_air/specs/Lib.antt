@@ -4,4 +4,5 @@ pub mod Examples
 pub mod Symbolic
 pub mod Degree
 pub mod Gadgets
+pub mod Words
 pub mod Laws
