@@ -1,3 +1,4 @@
 -- What is proved of the definitions, by subject.
 pub mod Symbolic
 pub mod Gadgets
+pub mod Words

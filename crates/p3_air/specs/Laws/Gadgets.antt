@@ -1,18 +1,22 @@
 -- What the gadgets' trees mean, over each prime field of more than 2^20 elements.
-use Rattle.std.proofs.Common.{◌≡◌, ℕ, ◌+◌, ◌*◌, ◌/◌, ◌%◌, ◌^◌, ◌<◌, ◌≤◌, ◌⊎◌, inl, inr, [], ◌∷◌, refl, sym, ◌∙◌, ap, arith, lit<}
+use Rattle.std.proofs.Common.{◌≡◌, ℕ, zero, suc, ◌+◌, ◌*◌, ◌/◌, ◌%◌, ◌^◌, ◌<◌, ◌≤◌, ◌⊎◌, inl, inr, List, [], ◌∷◌, ◌++◌, map, refl, sym, ◌∙◌, ap, arith, lit<}
+use Rattle.std.specs.Prelude.{All, bit_xor}
+use Rattle.std.specs.Int.{rotate_left, w32}
 use Rattle.std.proofs.lemmas.Bool.{cases_eq, cases_lt}
-use Rattle.std.proofs.lemmas.List.Elements.{All-nil, All-cons, All-head, All-tail}
+use Rattle.std.proofs.lemmas.List.Elements.{All-nil, All-cons, All-head, All-tail, All-append}
 use Rattle.std.proofs.Math.Nat.{mod-eq_of_lt, zero-mod}
 use Rattle.p3_field.specs.Ring.{Ring, RingLaws, of_nat, sub}
+use Rattle.p3_field.specs.Poly.{table}
 use Rattle.p3_field.specs.Laws.Algebra.{add_cancel, mul_zero, zero_mul, of_nat_add, of_nat_mul}
 use Rattle.p3_field.specs.Laws.Coset.{mul_cancel}
 use Rattle.p3_field.specs.Laws.Roots.{sub_zero, sub_self, field_no_zero_divisors}
 use Rattle.p3_field.specs.Laws.Solver.{expressions, var, solve}
 use Rattle.p3_air.specs.declared.cells.Cell.{Cell}
 use Rattle.p3_air.specs.declared.cells.ExtCell.{ExtCell}
-use Rattle.p3_air.specs.Tree.{Tree, Reading, ev}
-use Rattle.p3_air.specs.Gadgets.{less_two, less_three, with_high, zero_or_one, zero_to_two}
-use Rattle.p3_air.specs.Words.{PrimeFieldLaws, cells_reading, Vanish, limbs_word, Add2Means, Add3Means}
+use Rattle.p3_air.specs.Tree.{Tree, Reading, ev, difference, bool_tree}
+use Rattle.p3_air.specs.Gadgets.{less_two, less_three, with_high, zero_or_one, zero_to_two, packed, xor_shift_bit, xor_shift_trees, rotated_place}
+use Rattle.p3_air.specs.Words.{PrimeFieldLaws, cells_reading, Vanish, HaveValues, AreBits, limbs_word, limb, bits_number, bits_word, Add2Means, Add3Means, PackMeans, XorShiftMeans}
+use Rattle.p3_air.specs.Laws.Words.{turned_bit, turned_bits, xor_of_bits, low_limb, high_limb}
 
 -- m - n as an element
 abbrev pub gap : {A : Type 0} → Ring A → ℕ → ℕ → A
@@ -58,6 +62,29 @@ pub record Carried {A : Type 0} (r : Ring A) (K n m k : ℕ) : Type 0 where
   pub carry : ℕ
   pub most : carry ≤ K
   pub same : of_nat r (m + n * carry) ≡ of_nat r k
+
+all_left : {X : Type 0} (Q : X → Type 0) (xs ys : List X) → All Q (xs ++ ys) → All Q xs
+all_left Q [] ys h = All-nil Q
+all_left Q (x ∷ xs) ys h = All-cons Q x xs (All-head Q x (xs ++ ys) h) (all_left Q xs ys (All-tail Q x (xs ++ ys) h))
+
+all_right : {X : Type 0} (Q : X → Type 0) (xs ys : List X) → All Q (xs ++ ys) → All Q ys
+all_right Q [] ys h = h
+all_right Q (x ∷ xs) ys h = all_right Q xs ys (All-tail Q x (xs ++ ys) h)
+
+-- what holds of f at each item of a table
+table_all : {X Y : Type 0} (Q : Y → Type 0) (f : X → Y) (n : ℕ) (t : ℕ → X) → All Q (map f (table n t)) → (k : ℕ) → k < n → Q (f (t k))
+table_all Q f zero t h k lt = absurd (omega (arith, lt))
+table_all Q f (suc n) t h zero lt = All-head Q (f (t zero)) (map f (table n (λ i. t (suc i)))) h
+table_all Q f (suc n) t h (suc k) lt = table_all Q f n (λ i. t (suc i)) (All-tail Q (f (t zero)) (map f (table n (λ i. t (suc i)))) h) k (omega (arith, lt))
+
+all_table : {X Y : Type 0} (Q : Y → Type 0) (f : X → Y) (n : ℕ) (t : ℕ → X) → ((k : ℕ) → k < n → Q (f (t k))) → All Q (map f (table n t))
+all_table Q f zero t h = All-nil Q
+all_table Q f (suc n) t h = All-cons Q (f (t zero)) (map f (table n (λ i. t (suc i)))) (h zero (omega arith)) (all_table Q f n (λ i. t (suc i)) (λ k lt. h (suc k) (omega (arith, lt))))
+
+two_places : (Q : ℕ → Type 0) → Q 0 → Q 1 → (k : ℕ) → k < 2 → Q k
+two_places Q a b zero h = a
+two_places Q a b (suc zero) h = b
+two_places Q a b (suc (suc k)) h = absurd (omega (arith, h))
 
 word_modulo : (a0 a1 s0 s1 p q : ℕ) → a0 < 2 ^ 16 → a1 < 2 ^ 16 → a0 + 2 ^ 16 * p ≡ s0 → a1 + 2 ^ 16 * q ≡ p + s1 → a0 + 2 ^ 16 * a1 ≡ (s0 + 2 ^ 16 * s1) % 2 ^ 32
 word_modulo a0 a1 s0 s1 p q b0 b1 e f =
@@ -279,4 +306,104 @@ module _ {A : Type 0} (r : Ring A) (inv : A → A) (order : ℕ) (canonical : A 
               two_vanish first second
               (carried_three y (2 ^ 32) (a 0 + 2 ^ 16 * a 1) (s0 + 2 ^ 16 * s1) whole (word_carried 2 (a 0) (a 1) s0 s1 a0 a1 (omega arith) (omega arith) f))
               (carried_three x (2 ^ 16) (a 0) s0 low (word_carried_low 2 (a 0) (a 1) s0 s1 a0 a1 (omega arith) f)),
+        )
+
+    -- ---- bits
+
+    -- the tree of packed bits is their number
+    pub packed_value : (t : ℕ → Tree A) (f : ℕ → ℕ) (k n : ℕ) → ((i : ℕ) → k ≤ i → i < k + n → ev rd (t i) ≡ of_nat r (f i)) → ev rd (packed r t k n) ≡ of_nat r (bits_number f k n)
+    unfolding packed bits_number
+    packed_value t f k zero h = refl
+    packed_value t f k (suc n) h =
+        let here = h k (omega arith) (omega arith) in
+        let rest = packed_value t f (suc k) n (λ i a b. h i (omega (arith, a)) (omega (arith, b))) in
+        let N = bits_number f (suc k) n in
+        cc (here, rest, of_nat_add r P.ring_laws (f k) (2 * N), of_nat_mul r P.ring_laws 2 N)
+
+    pub pack_means : PackMeans r rd
+    pack_means t f n h = packed_value t f 0 n (λ i a b. h i (omega (arith, b)))
+
+    xor_number : (m n : ℕ) → m < 2 → n < 2 → m + n ≡ (m + n) % 2 + 2 * (m * n)
+    xor_number zero n a b = let e : zero * n ≡ 0 = omega arith in omega (arith, e, b)
+    xor_number (suc zero) n a b = let e : suc zero * n ≡ n = omega arith in omega (arith, e, b)
+    xor_number (suc (suc m)) n a b = absurd (omega (arith, a))
+
+    -- x + y - 2xy is the exclusive or of bits
+    xor_value : (x y : A) (m n : ℕ) → m < 2 → n < 2 → x ≡ of_nat r m → y ≡ of_nat r n → sub r (r.add x y) (r.mul (of_nat r 2) (r.mul x y)) ≡ of_nat r ((m + n) % 2)
+    xor_value x y m n a b e f =
+        let L = P.ring_laws in
+        let z = (m + n) % 2 in
+        let k = 2 * (m * n) in
+        let sum : r.add x y ≡ of_nat r (z + k) = cc (e, f, of_nat_add r L m n, xor_number m n a b) in
+        let twice : r.mul (of_nat r 2) (r.mul x y) ≡ of_nat r k = cc (e, f, of_nat_mul r L m n, of_nat_mul r L 2 (m * n)) in
+        cc (sum, twice, of_nat_add r L z k, L.add_assoc (of_nat r z) (of_nat r k) (r.neg (of_nat r k)), L.add_neg (of_nat r k), L.add_zero (of_nat r z))
+
+    -- x (x - 1)
+    of_one : of_nat r 1 ≡ r.one
+    unfolding of_nat
+    of_one = P.ring_laws.add_zero r.one
+
+    bool_value : (x : A) (n : ℕ) → n < 2 → x ≡ of_nat r n → r.mul x (sub r x r.one) ≡ r.zero
+    unfolding of_nat
+    bool_value x zero a e = ap (λ v. r.mul v (sub r x r.one)) e ∙ zero_mul r P.ring_laws (sub r x r.one)
+    bool_value x (suc zero) a e = ap (r.mul x) (sub_self r P.ring_laws x r.one (e ∙ of_one)) ∙ mul_zero r P.ring_laws x
+    bool_value x (suc (suc n)) a e = absurd (omega (arith, a))
+
+    value_bool : 2 ^ 20 < order → (x : A) → r.mul x (sub r x r.one) ≡ r.zero → canonical x < 2
+    value_bool o x e = elim (zero_factor x (sub r x r.one) e) [
+      | inl h ↦ let z : canonical x ≡ 0 = ap canonical h ∙ canonical_zero in omega (arith, z)
+      | inr h ↦
+          let one : x ≡ of_nat r 1 = sub_zero r P.ring_laws x r.one h ∙ sym of_one in
+          let b : 1 < order = omega (arith, o) in
+          let z : canonical x ≡ 1 = ap canonical one ∙ (P.canonical_of 1 ∙ mod-eq_of_lt b) in
+          omega (arith, z)
+    ]
+
+    -- the values of the xor's trees
+    turned_values : (tb tc : ℕ → Tree A) (b c : ℕ → ℕ) (s : ℕ) → AreBits b → AreBits c → HaveValues r rd 32 tb b → HaveValues r rd 32 tc c
+        → (i : ℕ) → i < 32 → ev rd (xor_shift_bit r tb tc s i) ≡ of_nat r (turned_bit b c s i)
+    turned_values tb tc b c s rb rc hb hc i lt =
+        let place : rotated_place s i < 32 = omega arith in
+        xor_value (ev rd (tb i)) (ev rd (tc (rotated_place s i))) (b i) (c (rotated_place s i)) (rb i lt) (rc (rotated_place s i) place) (hb i lt) (hc (rotated_place s i) place)
+
+    -- the packed halves are the limbs of b xor (c rotated to the left by s)
+    low_half : (tb tc : ℕ → Tree A) (b c : ℕ → ℕ) (s : ℕ) → AreBits b → AreBits c → HaveValues r rd 32 tb b → HaveValues r rd 32 tc c
+        → ev rd (packed r (xor_shift_bit r tb tc s) 0 16) ≡ of_nat r (limb (bit_xor (bits_word b) (rotate_left w32 (bits_word c) s)) 0)
+    low_half tb tc b c s rb rc hb hc =
+        packed_value (xor_shift_bit r tb tc s) (turned_bit b c s) 0 16 (λ i a l. turned_values tb tc b c s rb rc hb hc i (omega (arith, l)))
+        ∙ ap (of_nat r) (sym (ap (λ w. limb w 0) (xor_of_bits b c s rb rc) ∙ low_limb (turned_bit b c s) (turned_bits b c s 0 32)))
+
+    high_half : (tb tc : ℕ → Tree A) (b c : ℕ → ℕ) (s : ℕ) → AreBits b → AreBits c → HaveValues r rd 32 tb b → HaveValues r rd 32 tc c
+        → ev rd (packed r (xor_shift_bit r tb tc s) 16 16) ≡ of_nat r (limb (bit_xor (bits_word b) (rotate_left w32 (bits_word c) s)) 1)
+    high_half tb tc b c s rb rc hb hc =
+        packed_value (xor_shift_bit r tb tc s) (turned_bit b c s) 16 16 (λ i a l. turned_values tb tc b c s rb rc hb hc i (omega (arith, l)))
+        ∙ ap (of_nat r) (sym (ap (λ w. limb w 1) (xor_of_bits b c s rb rc) ∙ high_limb (turned_bit b c s) (turned_bits b c s 0 32)))
+
+    pub xor_shift_means : 2 ^ 20 < order → XorShiftMeans r rd
+    unfolding xor_shift_trees
+    xor_shift_means o ta tb tc b s rb hb =
+        let Q : Tree A → Type 0 = λ v. ev rd v ≡ r.zero in
+        let f = xor_shift_bit r tb tc s in
+        let bools = map (bool_tree r.one) (table 32 tc) in
+        let first = difference (ta 0) (packed r f 0 16) in
+        let second = difference (ta 1) (packed r f 16 16) in (
+          λ v.
+              let c : ℕ → ℕ = λ k. canonical (ev rd (tc k)) in
+              let c_bits : AreBits c = λ k lt. value_bool o (ev rd (tc k)) (table_all Q (bool_tree r.one) 32 tc (all_left Q bools (first ∷ second ∷ []) v) k lt) in
+              let c_values : HaveValues r rd 32 tc c = λ k lt. sym (P.of_canonical (ev rd (tc k))) in
+              let halves = all_right Q bools (first ∷ second ∷ []) v in
+              record {
+                c = c;
+                c_bits = c_bits;
+                c_values = c_values;
+                a_values = two_places (λ k. ev rd (ta k) ≡ of_nat r (limb (bit_xor (bits_word b) (rotate_left w32 (bits_word c) s)) k))
+                    (sub_zero r P.ring_laws (ev rd (ta 0)) (ev rd (packed r f 0 16)) (first_vanishes first second halves) ∙ low_half tb tc b c s rb c_bits hb c_values)
+                    (sub_zero r P.ring_laws (ev rd (ta 1)) (ev rd (packed r f 16 16)) (second_vanishes first second halves) ∙ high_half tb tc b c s rb c_bits hb c_values);
+              },
+          λ x.
+              All-append Q bools (first ∷ second ∷ [])
+              (all_table Q (bool_tree r.one) 32 tc (λ k lt. bool_value (ev rd (tc k)) (x.c k) (x.c_bits k lt) (x.c_values k lt)))
+              (two_vanish first second
+              (sub_self r P.ring_laws (ev rd (ta 0)) (ev rd (packed r f 0 16)) (x.a_values 0 (lit< tt) ∙ sym (low_half tb tc b x.c s rb x.c_bits hb x.c_values)))
+              (sub_self r P.ring_laws (ev rd (ta 1)) (ev rd (packed r f 16 16)) (x.a_values 1 (lit< tt) ∙ sym (high_half tb tc b x.c s rb x.c_bits hb x.c_values)))),
         )
