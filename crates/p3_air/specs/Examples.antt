@@ -1,5 +1,5 @@
 -- What the example AIRs declare, and their constraints.
-use Rattle.std.specs.Prelude.{◌≡◌, ℕ, true, false, List, [], ◌∷◌, None, Some}
+use Rattle.std.specs.Prelude.{true, false, List, [], ◌∷◌, None}
 use Rattle.p3_air.specs.declared.cells.Cell.{Cell}
 use Rattle.p3_air.specs.declared.cells.Cell.TheVariants.{Main, Public, FirstRow, LastRow, Transition}
 use Rattle.p3_air.specs.Shape.{Declaration}

@@ -2,3 +2,5 @@
 pub mod Symbolic
 pub mod Gadgets
 pub mod Words
+pub mod Recording
+pub mod Copying

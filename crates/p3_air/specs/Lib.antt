@@ -1,8 +1,12 @@
 pub mod Tree
 pub mod Shape
-pub mod Examples
 pub mod Symbolic
 pub mod Degree
 pub mod Gadgets
 pub mod Words
+pub mod Layout
+pub mod Placed
+pub mod Recording
+pub mod Copying
+pub mod Examples
 pub mod Laws

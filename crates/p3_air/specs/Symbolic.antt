@@ -1,5 +1,5 @@
 -- Constraint trees as lists of nodes: the operands of a node stand before it, and a tree's root is the last node.
-use Rattle.std.specs.Prelude.{◌≡◌, ℕ, ◌-◌, ◌<◌, ◌++◌, zero, suc, List, [], ◌∷◌, length}
+use Rattle.std.specs.Prelude.{ℕ, ◌-◌, ◌<◌, ◌++◌, suc, List, [], ◌∷◌, length}
 use Rattle.std.specs.Prelude.{slice_index_or as get_or}
 use Rattle.p3_air.specs.declared.cells.Cell.TheVariants.{FirstRow}
 use Rattle.p3_air.specs.declared.node.Node.{Node}

@@ -12,12 +12,18 @@ mod builder;
 mod cells;
 pub mod examples;
 mod gadgets;
+mod copying;
+mod layout;
 mod node;
+mod recorded;
+mod recorder;
 mod symbolic;
 
 pub use base::{Air, BaseAir};
 pub use builder::{AirBuilder, ExtensionBuilder, InteractionBuilder, PermutationAirBuilder};
 pub use cells::{Cell, Count, ExtCell};
 pub use gadgets::{add2, add3, pack_bits_le, u32_to_bits_le, xor_32_shift};
+pub use layout::{AirLayout, ConstraintLayout};
 pub use node::Node;
+pub use recorder::InteractionSymbolicBuilder;
 pub use symbolic::{SymbolicExpression, constraint_degree_from_poly_degree};

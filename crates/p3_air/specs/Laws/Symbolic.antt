@@ -1,5 +1,5 @@
 -- Trees of nodes, as the list of nodes grows.
-use Rattle.std.proofs.Common.{◌≡◌, ℕ, ◌+◌, ◌-◌, ◌<◌, ◌≤◌, ◌++◌, zero, suc, List, [], ◌∷◌, length, refl, sym, ◌∙◌, ap, subst, get_or, arith, length-append, append_assoc, append-nil, add-zero, zero-add}
+use Rattle.std.proofs.Common.{◌≡◌, ℕ, ◌+◌, ◌<◌, ◌++◌, zero, suc, List, [], ◌∷◌, length, refl, sym, ◌∙◌, ap, subst, get_or, arith, length-append, add-zero, zero-add}
 use Rattle.std.proofs.lemmas.List.{get_or_append_left, get_or_push}
 use Rattle.p3_air.specs.declared.cells.Cell.TheVariants.{FirstRow}
 use Rattle.p3_air.specs.declared.node.Node.{Node}

@@ -1,4 +1,4 @@
-use Rattle.std.proofs.Common.{◌≡◌, ℕ, ◌<◌, length, arith, rules}
+use Rattle.std.proofs.Common.{rules}
 use Rattle.p3_air.specs.Laws.Symbolic.{node_is}
 use Rattle.p3_air.proofs.symbolic.+multiple_at.Goals as goal
 

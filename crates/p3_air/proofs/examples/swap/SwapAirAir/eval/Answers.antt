@@ -1,5 +1,5 @@
 use Rattle.std.proofs.Common.{[], ◌∷◌, true, false}
-use Rattle.p3_air.specs.declared.cells.Cell.TheVariants.{Main, Public, FirstRow, LastRow, Transition}
+use Rattle.p3_air.specs.declared.cells.Cell.TheVariants.{Main, Public, FirstRow, Transition}
 use Rattle.p3_air.specs.Examples.{equal_when}
 use Rattle.p3_air.proofs.examples.swap.SwapAirAir.eval.Goals as goal
 

@@ -1,0 +1,125 @@
+-- Copies of nodes, as one is added.
+use Rattle.std.proofs.Common.{◌≡◌, ◌≢◌, ℕ, ◌+◌, ◌<◌, ◌++◌, List, [], ◌∷◌, length, Option, Some, None, refl, sym, ◌∙◌, ap, subst, arith, length-append, append_assoc, append-nil, zero-add, inl, inr, ◌⊎◌}
+use Rattle.std.specs.Prelude.{Result, IfOk, Ok, Err}
+use Rattle.std.proofs.lemmas.Bool.{cases_eq}
+use Rattle.p3_air.specs.declared.node.Node.{Node}
+use Rattle.p3_air.specs.declared.node.Node.TheVariants.{Constant, Base, Extension, Sum, Difference, Product}
+use Rattle.p3_air.specs.Tree.{Tree, constant, cell, ext_cell, sum, difference, product}
+use Rattle.p3_air.specs.Symbolic.{node_tree, trees_after, tree_at, OperandsBelow, OrderedFrom, Ordered}
+use Rattle.p3_air.specs.Copying.{IsCopied, CopiesTo}
+use Rattle.p3_air.specs.Laws.Symbolic.{tree_at-append, tree_at-push, ordered-push, node_is, NodeIs}
+
+none_differs : {X : Type 0} {x : X} → None ≡ Some x → ⊥
+none_differs e = cc
+
+-- no copies of nothing
+pub copied-none : {F : Type 0} (ns : List (Node F)) (copy_of : ℕ → Option ℕ) → ((i : ℕ) → copy_of i ≡ None) → IsCopied ns [] copy_of
+unfolding OrderedFrom
+copied-none ns copy_of h = record { ordered = tt; trees = λ i p e. absurd (none_differs (sym (h i) ∙ e)) }
+
+-- what has a copy needs no other
+pub copies-here : {F : Type 0} (ns cs : List (Node F)) (m : ℕ → Option ℕ) (place p : ℕ) → IsCopied ns cs m → m place ≡ Some p → CopiesTo ns cs cs m m place p
+copies-here ns cs m place p h e = record {
+    copied = h;
+    more = [];
+    extends = sym (append-nil cs);
+    within = (h.trees place p e).0;
+    has_tree = (h.trees place p e).1;
+    last = λ n. absurd (none_differs (sym n ∙ e)) }
+
+-- a place that is this one, or another
+same_or_other : (i j : ℕ) → (i ≡ j) ⊎ (i ≢ j)
+same_or_other i j = cases_eq i j
+
+some_same : {X : Type 0} (x y : X) → Some x ≡ Some y → x ≡ y
+some_same x y e = cc
+
+-- one node more, whose tree is that of the place
+pub copies-add : {F : Type 0} (ns old cs new : List (Node F)) (before m after : ℕ → Option ℕ) (place p : ℕ) (n : Node F) (more : List (Node F))
+    → IsCopied ns cs m → cs ≡ old ++ more → OperandsBelow (length cs) n → node_tree (trees_after [] cs) n ≡ tree_at ns place
+    → p ≡ length cs → new ≡ cs ++ n ∷ [] → after place ≡ Some p → ((i : ℕ) → i ≢ place → after i ≡ m i)
+    → CopiesTo ns old new before after place p
+copies-add {F = F} ns old cs new before m after place p n more h grown below same last grows here others =
+    let long = length-append cs (n ∷ []) in
+    let P : ℕ → Type 0 = λ k. OperandsBelow k n in
+    let Q : List (Node F) → Type 0 = λ l. CopiesTo ns old l before after place p in
+    let added : tree_at (cs ++ n ∷ []) p ≡ tree_at ns place = ap (λ k. tree_at (cs ++ n ∷ []) k) last ∙ tree_at-push cs n ∙ same in
+    let within : p < length (cs ++ n ∷ []) = omega (arith, last, long) in
+    let trees : (i q : ℕ) → after i ≡ Some q → (q < length (cs ++ n ∷ [])) × (tree_at (cs ++ n ∷ []) q ≡ tree_at ns i) =
+        λ i q e. elim (same_or_other i place) [
+            inl w ↦
+                let at : p ≡ q = some_same p q (sym here ∙ ap after (sym w) ∙ e) in
+                let R : ℕ → Type 0 = λ k. (k < length (cs ++ n ∷ [])) × (tree_at (cs ++ n ∷ []) k ≡ tree_at ns i) in
+                subst R at (within, added ∙ ap (λ k. tree_at ns k) (sym w))
+          | inr w ↦
+                let kept = h.trees i q (sym (others i w) ∙ e) in
+                (omega (arith, kept.0, long), tree_at-append cs (n ∷ []) q kept.0 ∙ kept.1)
+        ] in
+    subst Q (sym grows) (record {
+        copied = record { ordered = ordered-push 0 cs n h.ordered (subst P (sym (zero-add (length cs))) below); trees = trees };
+        more = more ++ n ∷ [];
+        extends = ap (λ (l : List (Node F)). l ++ n ∷ []) grown ∙ append_assoc old more (n ∷ []);
+        within = within;
+        has_tree = added;
+        last = λ _. omega (arith, last, long) })
+
+-- copies of two operands, one after the other: both stand among the copies, in the trees of their places
+pub record HasCopies {F : Type 0} (ns old cs : List (Node F)) (m : ℕ → Option ℕ) (x y left right : ℕ) : Type 0 where
+  pub copied : IsCopied ns cs m
+  pub more : List (Node F)
+  pub extends : cs ≡ old ++ more
+  pub left_within : left < length cs
+  pub right_within : right < length cs
+  pub left_tree : tree_at cs left ≡ tree_at ns x
+  pub right_tree : tree_at cs right ≡ tree_at ns y
+
+pub copies-both : {F : Type 0} (ns old mid cs : List (Node F)) (m1 m2 m3 : ℕ → Option ℕ) (x y left right : ℕ)
+    → CopiesTo ns old mid m1 m2 x left → CopiesTo ns mid cs m2 m3 y right → HasCopies ns old cs m3 x y left right
+copies-both {F = F} ns old mid cs m1 m2 m3 x y left right h k =
+    let long = length-append mid k.more in
+    let P : List (Node F) → Type 0 = λ l. (left < length l) × (tree_at l left ≡ tree_at ns x) in
+    let kept = subst P (sym k.extends) (omega (arith, h.within, long), tree_at-append mid k.more left h.within ∙ h.has_tree) in
+    record {
+      copied = k.copied;
+      more = h.more ++ k.more;
+      extends = k.extends ∙ ap (λ (l : List (Node F)). l ++ k.more) h.extends ∙ append_assoc old h.more k.more;
+      left_within = kept.0;
+      right_within = k.within;
+      left_tree = kept.1;
+      right_tree = k.has_tree }
+
+-- the same of a call that adds the node, or fails
+pub copies-added : {F E : Type 0} (r : Result ℕ E) (ns old cs new : List (Node F)) (before m after : ℕ → Option ℕ) (place : ℕ) (n : Node F) (more : List (Node F))
+    → IsCopied ns cs m → cs ≡ old ++ more → OperandsBelow (length cs) n → node_tree (trees_after [] cs) n ≡ tree_at ns place
+    → IfOk r (λ p. p ≡ length cs) → IfOk r (λ _. new ≡ cs ++ n ∷ []) → IfOk r (λ p. after place ≡ Some p) → IfOk r (λ _. (i : ℕ) → i ≢ place → after i ≡ m i)
+    → IfOk r (λ p. CopiesTo ns old new before after place p)
+copies-added (Ok p) ns old cs new before m after place n more h grown below same last grows here others =
+    copies-add ns old cs new before m after place p n more h grown below same last grows here others
+copies-added (Err e) ns old cs new before m after place n more h grown below same last grows here others = tt
+
+pub copies-sum : {F E : Type 0} (r : Result ℕ E) (ns old cs new : List (Node F)) (before m after : ℕ → Option ℕ) (place x y left right : ℕ)
+    → HasCopies ns old cs m x y left right → NodeIs ns place (Sum x y)
+    → IfOk r (λ p. p ≡ length cs) → IfOk r (λ _. new ≡ cs ++ Sum left right ∷ []) → IfOk r (λ p. after place ≡ Some p) → IfOk r (λ _. (i : ℕ) → i ≢ place → after i ≡ m i)
+    → IfOk r (λ p. CopiesTo ns old new before after place p)
+copies-sum {F = F} r ns old cs new before m after place x y left right h node last grows here others =
+    let same : sum (tree_at cs left) (tree_at cs right) ≡ tree_at ns place =
+        ap (λ (a : Tree F). sum a (tree_at cs right)) h.left_tree ∙ ap (λ (b : Tree F). sum (tree_at ns x) b) h.right_tree ∙ sym node.2 in
+    copies-added r ns old cs new before m after place (Sum left right) h.more h.copied h.extends (h.left_within, h.right_within) same last grows here others
+
+pub copies-difference : {F E : Type 0} (r : Result ℕ E) (ns old cs new : List (Node F)) (before m after : ℕ → Option ℕ) (place x y left right : ℕ)
+    → HasCopies ns old cs m x y left right → NodeIs ns place (Difference x y)
+    → IfOk r (λ p. p ≡ length cs) → IfOk r (λ _. new ≡ cs ++ Difference left right ∷ []) → IfOk r (λ p. after place ≡ Some p) → IfOk r (λ _. (i : ℕ) → i ≢ place → after i ≡ m i)
+    → IfOk r (λ p. CopiesTo ns old new before after place p)
+copies-difference {F = F} r ns old cs new before m after place x y left right h node last grows here others =
+    let same : difference (tree_at cs left) (tree_at cs right) ≡ tree_at ns place =
+        ap (λ (a : Tree F). difference a (tree_at cs right)) h.left_tree ∙ ap (λ (b : Tree F). difference (tree_at ns x) b) h.right_tree ∙ sym node.2 in
+    copies-added r ns old cs new before m after place (Difference left right) h.more h.copied h.extends (h.left_within, h.right_within) same last grows here others
+
+pub copies-product : {F E : Type 0} (r : Result ℕ E) (ns old cs new : List (Node F)) (before m after : ℕ → Option ℕ) (place x y left right : ℕ)
+    → HasCopies ns old cs m x y left right → NodeIs ns place (Product x y)
+    → IfOk r (λ p. p ≡ length cs) → IfOk r (λ _. new ≡ cs ++ Product left right ∷ []) → IfOk r (λ p. after place ≡ Some p) → IfOk r (λ _. (i : ℕ) → i ≢ place → after i ≡ m i)
+    → IfOk r (λ p. CopiesTo ns old new before after place p)
+copies-product {F = F} r ns old cs new before m after place x y left right h node last grows here others =
+    let same : product (tree_at cs left) (tree_at cs right) ≡ tree_at ns place =
+        ap (λ (a : Tree F). product a (tree_at cs right)) h.left_tree ∙ ap (λ (b : Tree F). product (tree_at ns x) b) h.right_tree ∙ sym node.2 in
+    copies-added r ns old cs new before m after place (Product left right) h.more h.copied h.extends (h.left_within, h.right_within) same last grows here others

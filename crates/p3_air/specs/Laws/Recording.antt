@@ -1,0 +1,273 @@
+-- Recordings, as nodes, assertions and interactions are added.
+use Rattle.std.proofs.Common.{◌≡◌, ℕ, ◌<◌, ◌≤◌, ◌%◌, ◌++◌, zero, suc, Bool, List, [], ◌∷◌, length, map, All, Option, refl, sym, ◌∙◌, ap, subst, get_or, arith, length-append, append_assoc, append-nil, zero-add}
+use Rattle.std.specs.Prelude.{Result, IfOk}
+use Rattle.std.proofs.lemmas.List.{map-append, length-map}
+use Rattle.std.proofs.lemmas.Bool.Decides.{nat_tests}
+use Rattle.p3_air.specs.declared.cells.Count.{Count}
+use Rattle.p3_air.specs.declared.layout.AirLayout.{AirLayout}
+use Rattle.p3_air.specs.declared.node.Node.{Node}
+use Rattle.p3_air.specs.declared.node.Node.TheVariants.{Constant, Sum, Difference, Product}
+use Rattle.p3_air.specs.declared.recorded.Assertion.{Assertion}
+use Rattle.p3_air.specs.Tree.{Tree, Interaction, sum, difference, product, Stand, StandCount}
+use Rattle.p3_air.specs.Symbolic.{node_tree, trees_after, tree_at, OperandsBelow, OrderedFrom}
+use Rattle.p3_air.specs.Placed.{Placed}
+use Rattle.p3_air.specs.Recording.{Recording, trees_at, bus_of, count_at, interaction_at, sent_at, PlacedBelow, IsRecording, StandsAt, IsLater, Grows, known_place, known_count}
+use Rattle.p3_air.specs.Laws.Symbolic.{tree_at-append, tree_at-push, ordered-push}
+
+-- what holds of each element holds of the first, and of each of the others
+pub all-first : {X : Type 0} (P : X → Type 0) (x : X) (xs : List X) → All P (x ∷ xs) → P x
+all-first P x xs h = h 0 x (omega arith)
+
+pub all-rest : {X : Type 0} (P : X → Type 0) (x : X) (xs : List X) → All P (x ∷ xs) → All P xs
+all-rest P x xs h k d l = h (suc k) d (omega (arith, l))
+
+-- what holds of each element, and of one more
+pub all-push : {X : Type 0} (P : X → Type 0) (xs : List X) (y : X) → All P xs → P y → All P (xs ++ y ∷ [])
+all-push P [] y h p zero d l = p
+all-push P [] y h p (suc k) d l = absurd (omega (arith, l))
+all-push P (x ∷ xs) y h p zero d l = all-first P x xs h
+all-push P (x ∷ xs) y h p (suc k) d l = all-push P xs y (all-rest P x xs h) p k d (omega (arith, l))
+
+-- places below a number are below a larger one
+pub all_below-more : (n m : ℕ) (is : List ℕ) → n ≤ m → All (λ i. i < n) is → All (λ i. i < m) is
+all_below-more n m is h a k d l = omega (arith, a k d l)
+
+pub counts_below-more : (n m : ℕ) (cs : List (Count ℕ)) → n ≤ m → All (λ c. c.value < n) cs → All (λ c. c.value < m) cs
+counts_below-more n m cs h a k d l = omega (arith, a k d l)
+
+pub asserted_below-more : (n m : ℕ) (xs : List Assertion) → n ≤ m → All (λ a. a.place < n) xs → All (λ a. a.place < m) xs
+asserted_below-more n m xs h a k d l = omega (arith, a k d l)
+
+pub placed_below-more : (n m : ℕ) (ps : List Placed) → n ≤ m → All (PlacedBelow n) ps → All (PlacedBelow m) ps
+placed_below-more n m ps h a k d l =
+    let p = get_or ps k d in
+    let q = a k d l in
+    record { fields = all_below-more n m p.fields h q.fields; counts = counts_below-more n m p.counts h q.counts; counted = q.counted; whole = q.whole }
+
+-- further nodes change no tree that was asserted or sent
+pub trees_at-more : {F : Type 0} (ns ms : List (Node F)) (xs : List Assertion) → All (λ a. a.place < length ns) xs → trees_at (ns ++ ms) xs ≡ trees_at ns xs
+trees_at-more ns ms [] h = refl
+trees_at-more {F = F} ns ms (x ∷ xs) h =
+    ap (λ (t : Tree F). t ∷ trees_at (ns ++ ms) xs) (tree_at-append ns ms x.place (all-first (λ (a : Assertion). a.place < length ns) x xs h)) ∙ ap (λ (ts : List (Tree F)). tree_at ns x.place ∷ ts) (trees_at-more ns ms xs (all-rest (λ (a : Assertion). a.place < length ns) x xs h))
+
+pub fields_at-more : {F : Type 0} (ns ms : List (Node F)) (is : List ℕ) → All (λ i. i < length ns) is → map (tree_at (ns ++ ms)) is ≡ map (tree_at ns) is
+fields_at-more ns ms [] h = refl
+fields_at-more {F = F} ns ms (i ∷ is) h =
+    ap (λ (t : Tree F). t ∷ map (tree_at (ns ++ ms)) is) (tree_at-append ns ms i (all-first (λ j. j < length ns) i is h)) ∙ ap (λ (ts : List (Tree F)). tree_at ns i ∷ ts) (fields_at-more ns ms is (all-rest (λ j. j < length ns) i is h))
+
+pub counts_at-more : {F : Type 0} (ns ms : List (Node F)) (cs : List (Count ℕ)) → All (λ c. c.value < length ns) cs → map (count_at (ns ++ ms)) cs ≡ map (count_at ns) cs
+counts_at-more ns ms [] h = refl
+counts_at-more {F = F} ns ms (c ∷ cs) h =
+    ap (λ (t : Tree F). record { value = t; bound = c.bound } ∷ map (count_at (ns ++ ms)) cs) (tree_at-append ns ms c.value (all-first (λ (d : Count ℕ). d.value < length ns) c cs h))
+    ∙ ap (λ (vs : List (Count (Tree F))). count_at ns c ∷ vs) (counts_at-more ns ms cs (all-rest (λ (d : Count ℕ). d.value < length ns) c cs h))
+
+pub sent_at-more : {F : Type 0} (ns ms : List (Node F)) (ps : List Placed) → All (PlacedBelow (length ns)) ps → sent_at (ns ++ ms) ps ≡ sent_at ns ps
+sent_at-more ns ms [] h = refl
+sent_at-more {F = F} ns ms (p ∷ ps) h =
+    let q = all-first (PlacedBelow (length ns)) p ps h in
+    let f : map (tree_at (ns ++ ms)) p.fields ≡ map (tree_at ns) p.fields = fields_at-more ns ms p.fields q.fields in
+    let c : map (count_at (ns ++ ms)) p.counts ≡ map (count_at ns) p.counts = counts_at-more ns ms p.counts q.counts in
+    let here : interaction_at (ns ++ ms) p ≡ interaction_at ns p =
+    ap (λ (ts : List (Tree F)). record { bus = bus_of p.bus; fields = ts; counts = map (count_at (ns ++ ms)) p.counts }) f
+    ∙ ap (λ (vs : List (Count (Tree F))). record { bus = bus_of p.bus; fields = map (tree_at ns) p.fields; counts = vs }) c in
+    ap (λ (i : Interaction F). i ∷ sent_at (ns ++ ms) ps) here ∙ ap (λ (is : List (Interaction F)). interaction_at ns p ∷ is) (sent_at-more ns ms ps (all-rest (PlacedBelow (length ns)) p ps h))
+
+-- the laws of builders
+pub later-same : {F : Type 0} (a : Recording F) → IsLater a a
+later-same a = record { layout = refl; more = []; extends = sym (append-nil a.nodes) }
+
+pub later-along : {F : Type 0} (a b c : Recording F) → IsLater a b → IsLater b c → IsLater a c
+later-along {F = F} a b c h k = record {
+  layout = k.layout ∙ h.layout;
+  more = h.more ++ k.more;
+  extends = k.extends ∙ ap (λ (ns : List (Node F)). ns ++ k.more) h.extends ∙ append_assoc a.nodes h.more k.more;
+}
+
+pub stands-more : {F : Type 0} (ns ms more : List (Node F)) (e : ℕ) (t : Tree F) → ms ≡ ns ++ more → StandsAt ns e t → StandsAt ms e t
+stands-more {F = F} ns ms more e t h k =
+    let long = length-append ns more in
+    let P : List (Node F) → Type 0 = λ l. StandsAt l e t in
+    subst P (sym h) (record { within = omega (arith, long, k.within); has_tree = tree_at-append ns more e k.within ∙ k.has_tree })
+
+pub stands-later : {F : Type 0} (a b : Recording F) → IsLater a b → (e : ℕ) (t : Tree F) → StandsAt a.nodes e t → StandsAt b.nodes e t
+stands-later a b h e t k = stands-more a.nodes b.nodes h.more e t h.extends k
+
+pub grows-same : {F : Type 0} (a : Recording F) → Grows a a [] []
+grows-same a = record { later = later-same a; trees = sym (append-nil _); sent = sym (append-nil _) }
+
+pub grows-along : {F : Type 0} (a b c : Recording F) (s t : List (Tree F)) (i j : List (Interaction F)) → Grows a b s i → Grows b c t j → Grows a c (s ++ t) (i ++ j)
+grows-along {F = F} a b c s t i j h k = record {
+  later = later-along a b c h.later k.later;
+  trees = k.trees ∙ ap (λ (ts : List (Tree F)). ts ++ t) h.trees ∙ append_assoc (trees_at a.nodes a.asserted) s t;
+  sent = k.sent ∙ ap (λ (is : List (Interaction F)). is ++ j) h.sent ∙ append_assoc (sent_at a.nodes a.interactions) i j;
+}
+
+-- one node more
+pub recording-push : {F : Type 0} (r : Recording F) (n : Node F) → IsRecording r → OperandsBelow (length r.nodes) n → IsRecording (record r { nodes = r.nodes ++ n ∷ [] })
+recording-push r n h below =
+    let long = length-append r.nodes (n ∷ []) in
+    record {
+      rooted = omega (arith, long);
+      ordered = ordered-push 0 r.nodes n h.ordered (let P : ℕ → Type 0 = λ k. OperandsBelow k n in subst P (sym (zero-add (length r.nodes))) below);
+      asserted = asserted_below-more (length r.nodes) (length (r.nodes ++ n ∷ [])) r.asserted (omega (arith, long)) h.asserted;
+      interactions = placed_below-more (length r.nodes) (length (r.nodes ++ n ∷ [])) r.interactions (omega (arith, long)) h.interactions;
+    }
+
+pub grows-push : {F : Type 0} (r : Recording F) (n : Node F) → IsRecording r → Grows r (record r { nodes = r.nodes ++ n ∷ [] }) [] []
+grows-push r n h = record {
+  later = record { layout = refl; more = n ∷ []; extends = refl };
+  trees = trees_at-more r.nodes (n ∷ []) r.asserted h.asserted ∙ sym (append-nil _);
+  sent = sent_at-more r.nodes (n ∷ []) r.interactions h.interactions ∙ sym (append-nil _);
+}
+
+pub stands-push : {F : Type 0} (ns : List (Node F)) (n : Node F) (k : ℕ) → k ≡ length ns → StandsAt (ns ++ n ∷ []) k (node_tree (trees_after [] ns) n)
+stands-push ns n k e = record { within = omega (arith, e, length-append ns (n ∷ [])); has_tree = ap (λ i. tree_at (ns ++ n ∷ []) i) e ∙ tree_at-push ns n }
+
+-- an expression that stands for a tree is among the nodes
+pub known_place-stands : {F : Type 0} (ns : List (Node F)) (x : ℕ) (t : Tree F) → StandsAt ns x t → known_place (length ns) x ≡ x
+known_place-stands ns x t h = let w = h.within in grind (arith, nat_tests)
+
+pub known_place-tree : {F : Type 0} (ns : List (Node F)) (x : ℕ) (t : Tree F) → StandsAt ns x t → tree_at ns (known_place (length ns) x) ≡ t
+known_place-tree ns x t h = ap (λ k. tree_at ns k) (known_place-stands ns x t h) ∙ h.has_tree
+
+pub known_place-below : (n x : ℕ) → 0 < n → known_place n x < n
+known_place-below n x h = grind (arith, nat_tests)
+
+-- one assertion more
+pub grows-assert : {F : Type 0} (r : Recording F) (x : ℕ) (extension : Bool) (t : Tree F) → StandsAt r.nodes x t
+    → Grows r (record r { asserted = r.asserted ++ record { place = known_place (length r.nodes) x; in_extension = extension } ∷ [] }) (t ∷ []) []
+grows-assert {F = F} r x extension t h = record {
+  later = record { layout = refl; more = []; extends = sym (append-nil r.nodes) };
+  trees = map-append (λ a. tree_at r.nodes a.place) r.asserted (record { place = known_place (length r.nodes) x; in_extension = extension } ∷ [])
+      ∙ ap (λ (u : Tree F). trees_at r.nodes r.asserted ++ u ∷ []) (known_place-tree r.nodes x t h);
+  sent = sym (append-nil _);
+}
+
+-- a recording of nothing, whose first node is a constant
+pub recording-first : {F : Type 0} (l : AirLayout) (x : F) → IsRecording {F = F} (record { layout = l; nodes = Constant x ∷ []; asserted = []; interactions = [] })
+unfolding OrderedFrom
+recording-first l x = record {
+  rooted = omega arith;
+  ordered = (tt, tt);
+  asserted = λ k d h. absurd (omega (arith, h));
+  interactions = λ k d h. absurd (omega (arith, h));
+}
+
+-- one assertion more is among the nodes
+pub recording-assert : {F : Type 0} (r : Recording F) (x : ℕ) (extension : Bool) → IsRecording r → x < length r.nodes
+    → IsRecording (record r { asserted = r.asserted ++ record { place = x; in_extension = extension } ∷ [] })
+recording-assert {F = F} r x extension h below = record {
+  rooted = h.rooted;
+  ordered = h.ordered;
+  asserted = all-push (λ (a : Assertion). a.place < length r.nodes) r.asserted (record { place = x; in_extension = extension }) h.asserted below;
+  interactions = h.interactions;
+}
+
+-- one interaction more is among the nodes
+pub recording-send : {F : Type 0} (r : Recording F) (p : Placed) → IsRecording r → PlacedBelow (length r.nodes) p
+    → IsRecording (record r { interactions = r.interactions ++ p ∷ [] })
+recording-send {F = F} r p h below = record {
+  rooted = h.rooted;
+  ordered = h.ordered;
+  asserted = h.asserted;
+  interactions = all-push (PlacedBelow (length r.nodes)) r.interactions p h.interactions below;
+}
+
+-- known places are below the number of nodes
+pub known_places-below : (n : ℕ) (xs : List ℕ) → 0 < n → All (λ i. i < n) (map (known_place n) xs)
+known_places-below n [] h k d l = absurd (omega (arith, l))
+known_places-below n (x ∷ xs) h zero d l = known_place-below n x h
+known_places-below n (x ∷ xs) h (suc k) d l = known_places-below n xs h k d (omega (arith, l))
+
+pub known_counts-below : (n : ℕ) (xs : List (Count ℕ)) → 0 < n → All (λ c. c.value < n) (map (known_count n) xs)
+known_counts-below n [] h k d l = absurd (omega (arith, l))
+known_counts-below n (x ∷ xs) h zero d l = known_place-below n x.value h
+known_counts-below n (x ∷ xs) h (suc k) d l = known_counts-below n xs h k d (omega (arith, l))
+
+-- an interaction's known places, as many as its expressions
+pub placed-known : (n : ℕ) (bus : Option (List ℕ)) (xs : List ℕ) (cs : List (Count ℕ)) → 0 < n → 0 < length cs → length xs % length cs ≡ 0
+    → PlacedBelow n (record { bus = bus; fields = map (known_place n) xs; counts = map (known_count n) cs })
+placed-known n bus xs cs h counted whole = record {
+  fields = known_places-below n xs h;
+  counts = known_counts-below n cs h;
+  counted = omega (arith, counted, length-map cs (known_count n));
+  whole = rw (length-map cs (known_count n), length-map xs (known_place n)) whole;
+}
+
+pub placed-known-at : (n m k : ℕ) (bus : Option (List ℕ)) (xs : List ℕ) (cs : List (Count ℕ)) (fields : List ℕ) (counts : List (Count ℕ)) → m ≡ n → k ≡ n
+    → fields ≡ map (known_place m) xs → counts ≡ map (known_count k) cs → 0 < n → 0 < length cs → length xs % length cs ≡ 0
+    → PlacedBelow n (record { bus = bus; fields = fields; counts = counts })
+placed-known-at n m k bus xs cs fields counts e f g h below counted whole =
+    rw (g, h, e, f) (placed-known n bus xs cs below counted whole)
+
+-- expressions that stand for trees have these trees at their places
+pub known_places-trees : {F : Type 0} (ns : List (Node F)) (xs : List ℕ) (ts : List (Tree F)) → Stand (StandsAt ns) xs ts → map (tree_at ns) (map (known_place (length ns)) xs) ≡ ts
+known_places-trees ns [] [] h = refl
+known_places-trees ns [] (t ∷ ts) h = absurd (omega (arith, h.long))
+known_places-trees ns (x ∷ xs) [] h = absurd (omega (arith, h.long))
+known_places-trees {F = F} ns (x ∷ xs) (t ∷ ts) h =
+    let here = known_place-tree ns x t (h.each 0 x t (omega arith)) in
+    let rest : Stand (StandsAt ns) xs ts = record { long = omega (arith, h.long); each = λ k d u l. h.each (suc k) d u (omega (arith, l)) } in
+    ap (λ (u : Tree F). u ∷ map (tree_at ns) (map (known_place (length ns)) xs)) here ∙ ap (λ (us : List (Tree F)). t ∷ us) (known_places-trees ns xs ts rest)
+
+pub known_counts-trees : {F : Type 0} (ns : List (Node F)) (xs : List (Count ℕ)) (ts : List (Count (Tree F))) → Stand (StandCount (StandsAt ns)) xs ts
+    → map (count_at ns) (map (known_count (length ns)) xs) ≡ ts
+known_counts-trees ns [] [] h = refl
+known_counts-trees ns [] (t ∷ ts) h = absurd (omega (arith, h.long))
+known_counts-trees ns (x ∷ xs) [] h = absurd (omega (arith, h.long))
+known_counts-trees {F = F} ns (x ∷ xs) (t ∷ ts) h =
+    let stands = h.each 0 x t (omega arith) in
+    let value = known_place-tree ns x.value t.value stands.0 in
+    let here : count_at ns (known_count (length ns) x) ≡ t =
+    ap (λ (u : Tree F). record { value = u; bound = x.bound }) value ∙ ap (λ (b : ℕ). record { value = t.value; bound = b }) (sym stands.1) in
+    let rest : Stand (StandCount (StandsAt ns)) xs ts = record { long = omega (arith, h.long); each = λ k d u l. h.each (suc k) d u (omega (arith, l)) } in
+    ap (λ (u : Count (Tree F)). u ∷ map (count_at ns) (map (known_count (length ns)) xs)) here ∙ ap (λ (us : List (Count (Tree F))). t ∷ us) (known_counts-trees ns xs ts rest)
+
+-- one interaction more
+pub grows-send : {F : Type 0} (r : Recording F) (bus : Option (List ℕ)) (xs : List ℕ) (cs : List (Count ℕ)) (fs : List (Tree F)) (vs : List (Count (Tree F)))
+    → Stand (StandsAt r.nodes) xs fs → Stand (StandCount (StandsAt r.nodes)) cs vs
+    → Grows r (record r { interactions = r.interactions ++ record { bus = bus; fields = map (known_place (length r.nodes)) xs; counts = map (known_count (length r.nodes)) cs } ∷ [] })
+    [] (record { bus = bus_of bus; fields = fs; counts = vs } ∷ [])
+grows-send {F = F} r bus xs cs fs vs h k =
+    let p : Placed = record { bus = bus; fields = map (known_place (length r.nodes)) xs; counts = map (known_count (length r.nodes)) cs } in
+    record {
+      later = record { layout = refl; more = []; extends = sym (append-nil r.nodes) };
+      trees = sym (append-nil _);
+      sent = map-append (interaction_at r.nodes) r.interactions (p ∷ [])
+          ∙ ap (λ (us : List (Tree F)). sent_at r.nodes r.interactions ++ record { bus = bus_of bus; fields = us; counts = map (count_at r.nodes) p.counts } ∷ []) (known_places-trees r.nodes xs fs h)
+          ∙ ap (λ (us : List (Count (Tree F))). sent_at r.nodes r.interactions ++ record { bus = bus_of bus; fields = fs; counts = us } ∷ []) (known_counts-trees r.nodes cs vs k);
+    }
+
+-- an operation on two expressions that stand for trees
+pub operands-known : {F : Type 0} (ns : List (Node F)) (x y : ℕ) → 0 < length ns → (known_place (length ns) x < length ns) × (known_place (length ns) y < length ns)
+operands-known ns x y h = (known_place-below (length ns) x h, known_place-below (length ns) y h)
+
+pub stands-sum : {F E : Type 0} (r : Result ℕ E) (ns ms : List (Node F)) (x y : ℕ) (s t : Tree F) → StandsAt ns x s → StandsAt ns y t
+    → IfOk r (λ e. StandsAt ms e (node_tree (trees_after [] ns) (Sum (known_place (length ns) x) (known_place (length ns) y))))
+    → IfOk r (λ e. StandsAt ms e (sum s t))
+stands-sum {F = F} r ns ms x y s t h k q =
+    let left : tree_at ns (known_place (length ns) x) ≡ s = known_place-tree ns x s h in
+    let right : tree_at ns (known_place (length ns) y) ≡ t = known_place-tree ns y t k in
+    let e = ap (λ (a : Tree F). sum a (tree_at ns (known_place (length ns) y))) left ∙ ap (λ (b : Tree F). sum s b) right in
+    let P : Tree F → Type 0 = λ u. IfOk r (λ i. StandsAt ms i u) in
+    subst P e q
+
+pub stands-difference : {F E : Type 0} (r : Result ℕ E) (ns ms : List (Node F)) (x y : ℕ) (s t : Tree F) → StandsAt ns x s → StandsAt ns y t
+    → IfOk r (λ e. StandsAt ms e (node_tree (trees_after [] ns) (Difference (known_place (length ns) x) (known_place (length ns) y))))
+    → IfOk r (λ e. StandsAt ms e (difference s t))
+stands-difference {F = F} r ns ms x y s t h k q =
+    let left : tree_at ns (known_place (length ns) x) ≡ s = known_place-tree ns x s h in
+    let right : tree_at ns (known_place (length ns) y) ≡ t = known_place-tree ns y t k in
+    let e = ap (λ (a : Tree F). difference a (tree_at ns (known_place (length ns) y))) left ∙ ap (λ (b : Tree F). difference s b) right in
+    let P : Tree F → Type 0 = λ u. IfOk r (λ i. StandsAt ms i u) in
+    subst P e q
+
+pub stands-product : {F E : Type 0} (r : Result ℕ E) (ns ms : List (Node F)) (x y : ℕ) (s t : Tree F) → StandsAt ns x s → StandsAt ns y t
+    → IfOk r (λ e. StandsAt ms e (node_tree (trees_after [] ns) (Product (known_place (length ns) x) (known_place (length ns) y))))
+    → IfOk r (λ e. StandsAt ms e (product s t))
+stands-product {F = F} r ns ms x y s t h k q =
+    let left : tree_at ns (known_place (length ns) x) ≡ s = known_place-tree ns x s h in
+    let right : tree_at ns (known_place (length ns) y) ≡ t = known_place-tree ns y t k in
+    let e = ap (λ (a : Tree F). product a (tree_at ns (known_place (length ns) y))) left ∙ ap (λ (b : Tree F). product s b) right in
+    let P : Tree F → Type 0 = λ u. IfOk r (λ i. StandsAt ms i u) in
+    subst P e q

@@ -1,0 +1,86 @@
+-- What a recording builder holds, and the trees and interactions that it stands for.
+use Rattle.std.specs.Prelude.{◌≡◌, ℕ, ◌<◌, ◌%◌, ◌++◌, suc, Bool, true, false, nat_lt, cond, List, [], ◌∷◌, length, map, filter, All, Option, Some, None}
+use Rattle.p3_air.specs.declared.cells.Count.{Count}
+use Rattle.p3_air.specs.declared.layout.AirLayout.{AirLayout}
+use Rattle.p3_air.specs.declared.node.Node.{Node}
+use Rattle.p3_air.specs.declared.recorded.Assertion.{Assertion}
+use Rattle.p3_air.specs.Tree.{Tree, Interaction, Bus, local, global}
+use Rattle.p3_air.specs.Symbolic.{tree_at, Ordered}
+use Rattle.p3_air.specs.Placed.{Placed}
+
+-- the nodes so far, the places of the asserted ones in order, and the interactions in order
+pub record Recording (F : Type 0) : Type 0 where
+  pub layout : AirLayout
+  pub nodes : List (Node F)
+  pub asserted : List Assertion
+  pub interactions : List Placed
+
+-- the asserted trees
+abbrev pub trees_at : {F : Type 0} → List (Node F) → List Assertion → List (Tree F)
+trees_at ns xs = map (λ a. tree_at ns a.place) xs
+
+-- the bus of a recorded name
+abbrev pub bus_of : Option (List ℕ) → Bus
+bus_of None = local
+bus_of (Some name) = global name
+
+abbrev pub count_at : {F : Type 0} → List (Node F) → Count ℕ → Count (Tree F)
+count_at ns c = record { value = tree_at ns c.value; bound = c.bound }
+
+-- the interaction whose expressions are at these places
+abbrev pub interaction_at : {F : Type 0} → List (Node F) → Placed → Interaction F
+interaction_at ns p = record { bus = bus_of p.bus; fields = map (tree_at ns) p.fields; counts = map (count_at ns) p.counts }
+
+abbrev pub sent_at : {F : Type 0} → List (Node F) → List Placed → List (Interaction F)
+sent_at ns ps = map (interaction_at ns) ps
+
+-- all places are below n, and the tuples fill the fields
+pub record PlacedBelow (n : ℕ) (p : Placed) : Type 0 where
+  pub fields : All (λ i. i < n) p.fields
+  pub counts : All (λ c. c.value < n) p.counts
+  pub counted : 0 < length p.counts
+  pub whole : length p.fields % length p.counts ≡ 0
+
+-- the operands of each node stand before it, and what is asserted or sent is among the nodes
+pub record IsRecording {F : Type 0} (r : Recording F) : Type 0 where
+  pub rooted : 0 < length r.nodes
+  pub ordered : Ordered r.nodes
+  pub asserted : All (λ a. a.place < length r.nodes) r.asserted
+  pub interactions : All (PlacedBelow (length r.nodes)) r.interactions
+
+-- the node at this place is there, and has this tree
+pub record StandsAt {F : Type 0} (ns : List (Node F)) (e : ℕ) (t : Tree F) : Type 0 where
+  pub within : e < length ns
+  pub has_tree : tree_at ns e ≡ t
+
+-- the second recording has the first one's layout, and its nodes with others behind them
+pub record IsLater {F : Type 0} (a b : Recording F) : Type 0 where
+  pub layout : b.layout ≡ a.layout
+  pub more : List (Node F)
+  pub extends : b.nodes ≡ a.nodes ++ more
+
+-- the second recording is later than the first, with these trees asserted and these interactions sent since
+pub record Grows {F : Type 0} (a b : Recording F) (ts : List (Tree F)) (is : List (Interaction F)) : Type 0 where
+  pub later : IsLater a b
+  pub trees : trees_at b.nodes b.asserted ≡ trees_at a.nodes a.asserted ++ ts
+  pub sent : sent_at b.nodes b.interactions ≡ sent_at a.nodes a.interactions ++ is
+
+-- The place of an expression among n nodes. One that is not among them, which some other builder gave, is taken for
+-- the first node, the constant zero.
+abbrev pub known_place : ℕ → ℕ → ℕ
+known_place n x = cond (nat_lt x n) x 0
+
+-- the recorded constraints over the base field, or over the extension
+abbrev pub asserted_in : Bool → List Assertion → List Assertion
+asserted_in true xs = filter (λ a. a.in_extension) xs
+asserted_in false xs = filter (λ a. cond a.in_extension false true) xs
+
+-- their places among all, where the first of these constraints has the place k
+abbrev pub indices_from : Bool → ℕ → List Assertion → List ℕ
+indices_from true k [] = []
+indices_from false k [] = []
+indices_from true k (a ∷ xs) = cond a.in_extension (k ∷ indices_from true (suc k) xs) (indices_from true (suc k) xs)
+indices_from false k (a ∷ xs) = cond a.in_extension (indices_from false (suc k) xs) (k ∷ indices_from false (suc k) xs)
+
+abbrev pub known_count : ℕ → Count ℕ → Count ℕ
+known_count n c = record { value = known_place n c.value; bound = c.bound }

@@ -1,0 +1,297 @@
+//! The builder that records constraints and interactions.
+ghost use Rattle.std.specs.Prelude.{◌≡◌, ℕ, ◌<◌, ◌%◌, ◌++◌, List, [], ◌∷◌, length, map, IfOk, OnErr, IsTrue, IsOk, false, true, Bool, Option, IfSome, string_bytes};
+ghost use Rattle.std.specs.Option.{option_map};
+ghost use Rattle.p3_air.specs.Layout.{layout_shape};
+ghost use Rattle.p3_air.specs.Symbolic.{node_tree, trees_after, OperandsBelow};
+ghost use Rattle.p3_air.specs.Recording.{Recording, IsLater, Grows, StandsAt, known_place, bus_of, known_count};
+ghost use Rattle.p3_air.specs.Tree.{Tree, Interaction, Stand, StandCount, sum, difference, product, global, local};
+ghost use Rattle.p3_air.specs.declared.cells.Count.{Count as CountOf};
+ghost use Rattle.p3_air.specs.Laws.Recording.{later-same, later-along, stands-later, grows-same, grows-along};
+
+use crate::builder::{AirBuilder, ExtensionBuilder, InteractionBuilder, PermutationAirBuilder};
+use crate::cells::{Cell, Count, ExtCell};
+use crate::layout::AirLayout;
+use crate::node::Node;
+use crate::recorded::{Assertion, RecordedInteraction};
+use p3_field::{Field, FieldCore, Mem, RingCore};
+use std::alloc::Global;
+use std::marker::Model;
+
+/// Records the constraints and interactions that it is handed (`p3_lookup::InteractionSymbolicBuilder`). An
+/// expression is the place of its node; one that this builder didn't give reads as zero. A contract sees the builder
+/// as the record `Recording`.
+#[derive(Drop)]
+pub struct InteractionSymbolicBuilder<F> {
+    alloc: Global,
+    layout: AirLayout,
+    nodes: Vec<Node<F>>,
+    asserted: Vec<Assertion>,
+    interactions: Vec<RecordedInteraction>,
+}
+
+impl<F> Model for InteractionSymbolicBuilder<F> {
+    ghost use Rattle.p3_air.specs.Recording.{Recording, IsRecording};
+
+    ghost Value = { Recording F };
+
+    ghost view = { λ b. record { layout = b.layout; nodes = b.nodes.items; asserted = b.asserted.items; interactions = b.interactions.items } };
+
+    ghost invariant = { λ b. IsRecording (record { layout = b.layout; nodes = b.nodes.items; asserted = b.asserted.items; interactions = b.interactions.items }) };
+}
+
+// The place of an expression among `count` nodes, or that of the first node.
+fn known(count: usize, x: usize) -> usize
+    requires { 0 < count }
+    ensures place { result ≡ known_place count x }
+    ensures within { result < count }
+{
+    if x < count { x } else { 0 }
+}
+
+// The places of expressions among `count` nodes.
+fn known_all(alloc: Global, count: usize, xs: &[usize]) -> Mem<Vec<usize>>
+    requires { 0 < count }
+    ensures { IfOk result (λ v. v.items ≡ map (known_place count) xs.now) }
+{
+    let mut places = Vec::with_capacity(alloc, xs.len())?;
+    for x in xs {
+        places.push(known(count, *x))?;
+    }
+    Ok(places)
+}
+
+// The counts, by their places among `count` nodes.
+fn known_counts(alloc: Global, count: usize, xs: &[Count<usize>]) -> Mem<Vec<Count<usize>>>
+    requires { 0 < count }
+    ensures { IfOk result (λ v. v.items ≡ map (known_count count) xs.now) }
+{
+    let mut counts = Vec::with_capacity(alloc, xs.len())?;
+    for x in xs {
+        counts.push(Count {
+            value: known(count, x.value),
+            bound: x.bound,
+        })?;
+    }
+    Ok(counts)
+}
+
+impl<F: Field> InteractionSymbolicBuilder<F> {
+    /// A builder that declares the cells of this layout, and has nothing recorded.
+    pub fn new(alloc: Global, layout: AirLayout) -> Mem<Self>
+        ensures layout { IfOk result (λ b. b.layout ≡ layout) }
+        ensures asserted { IfOk result (λ b. b.asserted ≡ []) }
+        ensures interactions { IfOk result (λ b. b.interactions ≡ []) }
+    {
+        let mut nodes = Vec::new(alloc);
+        nodes.push(Node::Constant(F::ZERO))?;
+        Ok(InteractionSymbolicBuilder {
+            alloc,
+            layout,
+            nodes,
+            asserted: Vec::new(alloc),
+            interactions: Vec::new(alloc),
+        })
+    }
+
+    // Adds a node whose operands are among the nodes.
+    fn push(&mut self, node: Node<F>) -> Mem<usize>
+        requires { OperandsBelow (length self.old.nodes) node }
+        ensures grows { Grows self.old self.new [] [] }
+        ensures stands { IfOk result (λ e. StandsAt self.new.nodes e (node_tree (trees_after [] self.old.nodes) node)) }
+    {
+        let place = self.nodes.len();
+        self.nodes.push(node)?;
+        Ok(place)
+    }
+
+    // The place of an expression.
+    fn place(&self, x: usize) -> usize
+        ensures place { result ≡ known_place (length self.now.nodes) x }
+        ensures within { result < length self.now.nodes }
+    {
+        known(self.nodes.len(), x)
+    }
+
+    // Adds the sum of two expressions.
+    fn push_sum(&mut self, x: usize, y: usize) -> Mem<usize>
+        ensures grows { Grows self.old self.new [] [] }
+        ensures stands { (s t : Tree F) → StandsAt self.old.nodes x s → StandsAt self.old.nodes y t → IfOk result (λ e. StandsAt self.new.nodes e (sum s t)) }
+    {
+        let left = self.place(x);
+        let right = self.place(y);
+        self.push(Node::Sum(left, right))
+    }
+
+    // Adds the difference of two expressions.
+    fn push_difference(&mut self, x: usize, y: usize) -> Mem<usize>
+        ensures grows { Grows self.old self.new [] [] }
+        ensures stands { (s t : Tree F) → StandsAt self.old.nodes x s → StandsAt self.old.nodes y t → IfOk result (λ e. StandsAt self.new.nodes e (difference s t)) }
+    {
+        let left = self.place(x);
+        let right = self.place(y);
+        self.push(Node::Difference(left, right))
+    }
+
+    // Adds the product of two expressions.
+    fn push_product(&mut self, x: usize, y: usize) -> Mem<usize>
+        ensures grows { Grows self.old self.new [] [] }
+        ensures stands { (s t : Tree F) → StandsAt self.old.nodes x s → StandsAt self.old.nodes y t → IfOk result (λ e. StandsAt self.new.nodes e (product s t)) }
+    {
+        let left = self.place(x);
+        let right = self.place(y);
+        self.push(Node::Product(left, right))
+    }
+
+    // Appends an assertion.
+    fn assert(&mut self, x: usize, in_extension: bool) -> Mem<()>
+        ensures grows { (t : Tree F) → StandsAt self.old.nodes x t → IfOk result (λ _. Grows self.old self.new (t ∷ []) []) }
+        ensures asserted { IfOk result (λ _. self.new ≡ record self.old { asserted = self.old.asserted ++ record { place = known_place (length self.old.nodes) x; in_extension = in_extension } ∷ [] }) }
+        ensures same { OnErr result (self.new ≡ self.old) }
+    {
+        let place = self.place(x);
+        self.asserted.push(Assertion {
+            place,
+            in_extension,
+        })?;
+        Ok(())
+    }
+
+    // Keeps an interaction.
+    fn keep(&mut self, bus: Option<String>, fields: &[usize], counts: &[Count<usize>]) -> Mem<()>
+        requires counted { 0 < length counts.now }
+        requires whole { length fields.now % length counts.now ≡ 0 }
+        ensures sent { IfOk result (λ _. self.new ≡ record self.old { interactions = self.old.interactions ++ record { bus = option_map string_bytes bus; fields = map (known_place (length self.old.nodes)) fields.now; counts = map (known_count (length self.old.nodes)) counts.now } ∷ [] }) }
+        ensures same { OnErr result (self.new ≡ self.old) }
+    {
+        let fields = known_all(self.alloc, self.nodes.len(), fields)?;
+        let counts = known_counts(self.alloc, self.nodes.len(), counts)?;
+        self.interactions.push(RecordedInteraction {
+            bus,
+            fields,
+            counts,
+        })?;
+        Ok(())
+    }
+
+    // Appends an interaction.
+    fn send(&mut self, bus: Option<String>, fields: &[usize], counts: &[Count<usize>]) -> Mem<()>
+        requires counted { 0 < length counts.now }
+        requires whole { length fields.now % length counts.now ≡ 0 }
+        ensures later { IsLater self.old self.new }
+        ensures grows { (fs : List (Tree F)) (vs : List (CountOf (Tree F))) → Stand (StandsAt self.old.nodes) fields.now fs → Stand (StandCount (StandsAt self.old.nodes)) counts.now vs
+            → IfOk result (λ _. Grows self.old self.new [] (record { bus = bus_of (option_map string_bytes bus); fields = fs; counts = vs } ∷ [])) }
+    {
+        self.keep(bus, fields, counts)
+    }
+}
+
+impl<F: Field> AirBuilder for InteractionSymbolicBuilder<F> {
+    type F = F;
+
+    type Expr = usize;
+
+    ghost stands = { λ b e t. StandsAt b.nodes e t };
+
+    ghost later = { IsLater };
+
+    ghost grows = { Grows };
+
+    ghost shape = { λ b. layout_shape b.layout };
+
+    ghost never_fails = { false };
+
+    fn cell(&mut self, c: Cell) -> Mem<usize> {
+        self.push(Node::Base(c))
+    }
+
+    fn constant(&mut self, x: F) -> Mem<usize> {
+        self.push(Node::Constant(x))
+    }
+
+    fn add(&mut self, x: usize, y: usize) -> Mem<usize> {
+        self.push_sum(x, y)
+    }
+
+    fn sub(&mut self, x: usize, y: usize) -> Mem<usize> {
+        self.push_difference(x, y)
+    }
+
+    fn mul(&mut self, x: usize, y: usize) -> Mem<usize> {
+        self.push_product(x, y)
+    }
+
+    fn assert_zero(&mut self, x: usize) -> Mem<()> {
+        self.assert(x, false)
+    }
+
+    ghost later_same = { later-same };
+
+    ghost later_along = { later-along };
+
+    ghost persists = { stands-later };
+
+    ghost grows_same = { grows-same };
+
+    ghost grows_later = { λ a b t i h. h.later };
+
+    ghost grows_along = { grows-along };
+}
+
+impl<F: Field> ExtensionBuilder for InteractionSymbolicBuilder<F> {
+    type ExprEF = usize;
+
+    ghost stands_ext = { λ b e t. StandsAt b.nodes e t };
+
+    fn lift(&mut self, x: usize) -> Mem<usize> {
+        Ok(x)
+    }
+
+    fn add_ext(&mut self, x: usize, y: usize) -> Mem<usize> {
+        self.push_sum(x, y)
+    }
+
+    fn sub_ext(&mut self, x: usize, y: usize) -> Mem<usize> {
+        self.push_difference(x, y)
+    }
+
+    fn mul_ext(&mut self, x: usize, y: usize) -> Mem<usize> {
+        self.push_product(x, y)
+    }
+
+    fn assert_zero_ext(&mut self, x: usize) -> Mem<()> {
+        self.assert(x, true)
+    }
+
+    ghost persists_ext = { stands-later };
+}
+
+impl<F: Field> PermutationAirBuilder for InteractionSymbolicBuilder<F> {
+    fn ext_cell(&mut self, c: ExtCell) -> Mem<usize> {
+        self.push(Node::Extension(c))
+    }
+}
+
+impl<F: Field> InteractionBuilder for InteractionSymbolicBuilder<F> {
+    fn push_interaction(&mut self, bus_name: &str, fields: &[usize], count: Count<usize>) -> Mem<()>
+        ensures later { IsLater self.old self.new }
+        ensures same { layout_shape self.new.layout ≡ layout_shape self.old.layout }
+        ensures answers { IsTrue false → IsOk result }
+        ensures grows { (fs : List (Tree F)) (v : Tree F) → Stand (StandsAt self.old.nodes) fields.now fs → StandsAt self.old.nodes count.value v
+            → IfOk result (λ _. Grows self.old self.new [] (record { bus = global bus_name.now; fields = fs; counts = record { value = v; bound = count.bound } ∷ [] } ∷ [])) }
+    {
+        let bus = String::from_str(self.alloc, bus_name)?;
+        self.send(Some(bus), fields, &[count])
+    }
+
+    fn push_local_interaction(&mut self, fields: &[usize], counts: &[Count<usize>]) -> Mem<()>
+        requires counted { 0 < length counts.now }
+        requires whole { length fields.now % length counts.now ≡ 0 }
+        ensures later { IsLater self.old self.new }
+        ensures same { layout_shape self.new.layout ≡ layout_shape self.old.layout }
+        ensures answers { IsTrue false → IsOk result }
+        ensures grows { (fs : List (Tree F)) (vs : List (CountOf (Tree F))) → Stand (StandsAt self.old.nodes) fields.now fs → Stand (StandCount (StandsAt self.old.nodes)) counts.now vs
+            → IfOk result (λ _. Grows self.old self.new [] (record { bus = local; fields = fs; counts = vs } ∷ [])) }
+    {
+        self.send(None, fields, counts)
+    }
+}
