@@ -10,10 +10,11 @@
 mod base;
 mod builder;
 mod cells;
+mod copying;
 pub mod examples;
 mod gadgets;
-mod copying;
 mod layout;
+pub mod meanings;
 mod node;
 mod recorded;
 mod recorder;

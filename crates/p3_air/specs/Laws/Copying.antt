@@ -20,12 +20,13 @@ copied-none ns copy_of h = record { ordered = tt; trees = λ i p e. absurd (none
 -- what has a copy needs no other
 pub copies-here : {F : Type 0} (ns cs : List (Node F)) (m : ℕ → Option ℕ) (place p : ℕ) → IsCopied ns cs m → m place ≡ Some p → CopiesTo ns cs cs m m place p
 copies-here ns cs m place p h e = record {
-    copied = h;
-    more = [];
-    extends = sym (append-nil cs);
-    within = (h.trees place p e).0;
-    has_tree = (h.trees place p e).1;
-    last = λ n. absurd (none_differs (sym n ∙ e)) }
+  copied = h;
+  more = [];
+  extends = sym (append-nil cs);
+  within = (h.trees place p e).0;
+  has_tree = (h.trees place p e).1;
+  last = λ n. absurd (none_differs (sym n ∙ e));
+}
 
 -- a place that is this one, or another
 same_or_other : (i j : ℕ) → (i ≡ j) ⊎ (i ≢ j)
@@ -46,22 +47,23 @@ copies-add {F = F} ns old cs new before m after place p n more h grown below sam
     let added : tree_at (cs ++ n ∷ []) p ≡ tree_at ns place = ap (λ k. tree_at (cs ++ n ∷ []) k) last ∙ tree_at-push cs n ∙ same in
     let within : p < length (cs ++ n ∷ []) = omega (arith, last, long) in
     let trees : (i q : ℕ) → after i ≡ Some q → (q < length (cs ++ n ∷ [])) × (tree_at (cs ++ n ∷ []) q ≡ tree_at ns i) =
-        λ i q e. elim (same_or_other i place) [
-            inl w ↦
-                let at : p ≡ q = some_same p q (sym here ∙ ap after (sym w) ∙ e) in
-                let R : ℕ → Type 0 = λ k. (k < length (cs ++ n ∷ [])) × (tree_at (cs ++ n ∷ []) k ≡ tree_at ns i) in
-                subst R at (within, added ∙ ap (λ k. tree_at ns k) (sym w))
-          | inr w ↦
-                let kept = h.trees i q (sym (others i w) ∙ e) in
-                (omega (arith, kept.0, long), tree_at-append cs (n ∷ []) q kept.0 ∙ kept.1)
-        ] in
+    λ i q e. elim (same_or_other i place) [
+      | inl w ↦
+          let at : p ≡ q = some_same p q (sym here ∙ ap after (sym w) ∙ e) in
+          let R : ℕ → Type 0 = λ k. (k < length (cs ++ n ∷ [])) × (tree_at (cs ++ n ∷ []) k ≡ tree_at ns i) in
+          subst R at (within, added ∙ ap (λ k. tree_at ns k) (sym w))
+      | inr w ↦
+          let kept = h.trees i q (sym (others i w) ∙ e) in
+          (omega (arith, kept.0, long), tree_at-append cs (n ∷ []) q kept.0 ∙ kept.1)
+    ] in
     subst Q (sym grows) (record {
-        copied = record { ordered = ordered-push 0 cs n h.ordered (subst P (sym (zero-add (length cs))) below); trees = trees };
-        more = more ++ n ∷ [];
-        extends = ap (λ (l : List (Node F)). l ++ n ∷ []) grown ∙ append_assoc old more (n ∷ []);
-        within = within;
-        has_tree = added;
-        last = λ _. omega (arith, last, long) })
+      copied = record { ordered = ordered-push 0 cs n h.ordered (subst P (sym (zero-add (length cs))) below); trees = trees };
+      more = more ++ n ∷ [];
+      extends = ap (λ (l : List (Node F)). l ++ n ∷ []) grown ∙ append_assoc old more (n ∷ []);
+      within = within;
+      has_tree = added;
+      last = λ _. omega (arith, last, long);
+    })
 
 -- copies of two operands, one after the other: both stand among the copies, in the trees of their places
 pub record HasCopies {F : Type 0} (ns old cs : List (Node F)) (m : ℕ → Option ℕ) (x y left right : ℕ) : Type 0 where
@@ -86,7 +88,8 @@ copies-both {F = F} ns old mid cs m1 m2 m3 x y left right h k =
       left_within = kept.0;
       right_within = k.within;
       left_tree = kept.1;
-      right_tree = k.has_tree }
+      right_tree = k.has_tree;
+    }
 
 -- the same of a call that adds the node, or fails
 pub copies-added : {F E : Type 0} (r : Result ℕ E) (ns old cs new : List (Node F)) (before m after : ℕ → Option ℕ) (place : ℕ) (n : Node F) (more : List (Node F))
@@ -103,7 +106,7 @@ pub copies-sum : {F E : Type 0} (r : Result ℕ E) (ns old cs new : List (Node F
     → IfOk r (λ p. CopiesTo ns old new before after place p)
 copies-sum {F = F} r ns old cs new before m after place x y left right h node last grows here others =
     let same : sum (tree_at cs left) (tree_at cs right) ≡ tree_at ns place =
-        ap (λ (a : Tree F). sum a (tree_at cs right)) h.left_tree ∙ ap (λ (b : Tree F). sum (tree_at ns x) b) h.right_tree ∙ sym node.2 in
+    ap (λ (a : Tree F). sum a (tree_at cs right)) h.left_tree ∙ ap (λ (b : Tree F). sum (tree_at ns x) b) h.right_tree ∙ sym node.2 in
     copies-added r ns old cs new before m after place (Sum left right) h.more h.copied h.extends (h.left_within, h.right_within) same last grows here others
 
 pub copies-difference : {F E : Type 0} (r : Result ℕ E) (ns old cs new : List (Node F)) (before m after : ℕ → Option ℕ) (place x y left right : ℕ)
@@ -112,7 +115,7 @@ pub copies-difference : {F E : Type 0} (r : Result ℕ E) (ns old cs new : List 
     → IfOk r (λ p. CopiesTo ns old new before after place p)
 copies-difference {F = F} r ns old cs new before m after place x y left right h node last grows here others =
     let same : difference (tree_at cs left) (tree_at cs right) ≡ tree_at ns place =
-        ap (λ (a : Tree F). difference a (tree_at cs right)) h.left_tree ∙ ap (λ (b : Tree F). difference (tree_at ns x) b) h.right_tree ∙ sym node.2 in
+    ap (λ (a : Tree F). difference a (tree_at cs right)) h.left_tree ∙ ap (λ (b : Tree F). difference (tree_at ns x) b) h.right_tree ∙ sym node.2 in
     copies-added r ns old cs new before m after place (Difference left right) h.more h.copied h.extends (h.left_within, h.right_within) same last grows here others
 
 pub copies-product : {F E : Type 0} (r : Result ℕ E) (ns old cs new : List (Node F)) (before m after : ℕ → Option ℕ) (place x y left right : ℕ)
@@ -121,5 +124,5 @@ pub copies-product : {F E : Type 0} (r : Result ℕ E) (ns old cs new : List (No
     → IfOk r (λ p. CopiesTo ns old new before after place p)
 copies-product {F = F} r ns old cs new before m after place x y left right h node last grows here others =
     let same : product (tree_at cs left) (tree_at cs right) ≡ tree_at ns place =
-        ap (λ (a : Tree F). product a (tree_at cs right)) h.left_tree ∙ ap (λ (b : Tree F). product (tree_at ns x) b) h.right_tree ∙ sym node.2 in
+    ap (λ (a : Tree F). product a (tree_at cs right)) h.left_tree ∙ ap (λ (b : Tree F). product (tree_at ns x) b) h.right_tree ∙ sym node.2 in
     copies-added r ns old cs new before m after place (Product left right) h.more h.copied h.extends (h.left_within, h.right_within) same last grows here others
