@@ -1,9 +1,10 @@
 -- What the example AIRs declare, and their constraints.
-use Rattle.std.specs.Prelude.{true, false, List, [], ◌∷◌, None}
+use Rattle.std.specs.Prelude.{◌≡◌, ℕ, true, false, List, [], ◌∷◌, None, Some}
+use Rattle.p3_matrix.specs.Matrix.{Rows}
 use Rattle.p3_air.specs.declared.cells.Cell.{Cell}
-use Rattle.p3_air.specs.declared.cells.Cell.TheVariants.{Main, Public, FirstRow, LastRow, Transition}
+use Rattle.p3_air.specs.declared.cells.Cell.TheVariants.{Main, Preprocessed, Periodic, Public, FirstRow, LastRow, Transition}
 use Rattle.p3_air.specs.Shape.{Declaration}
-use Rattle.p3_air.specs.Tree.{Tree, cell, difference, product}
+use Rattle.p3_air.specs.Tree.{Tree, constant, cell, difference, product, Interaction, global, local}
 
 -- x and y agree where the selector isn't zero
 abbrev pub equal_when : {F : Type 0} → Cell → Cell → Cell → Tree F
@@ -29,6 +30,43 @@ swap_declaration = record {
   public_values = 3;
   periodic = [];
   constraints = None;
+  degree_hint = None;
+  boolean_trace = false;
+}
+
+-- One column, which is the product of a preprocessed and a periodic column. Each row sends the pair of
+-- its cell and the public value on the bus `words`, once; and within the table its cell, as often as the public value
+-- says, and the public value, once.
+abbrev pub post_trees : {F : Type 0} → List (Tree F)
+post_trees = difference (cell (Main false 0)) (product (cell (Preprocessed false 0)) (cell (Periodic 0))) ∷ []
+
+-- the bytes of the bus's name
+abbrev pub post_bus : List ℕ
+post_bus = 119 ∷ 111 ∷ 114 ∷ 100 ∷ 115 ∷ []
+
+abbrev pub post_interactions : {F : Type 0} → F → List (Interaction F)
+post_interactions one =
+    record {
+      bus = global post_bus;
+      fields = cell (Main false 0) ∷ cell (Public 0) ∷ [];
+      counts = record { value = constant one; bound = 1 } ∷ [];
+    }
+    ∷ record {
+      bus = local;
+      fields = cell (Main false 0) ∷ cell (Public 0) ∷ [];
+      counts = record { value = cell (Public 0); bound = 7 } ∷ record { value = constant one; bound = 1 } ∷ [];
+    }
+    ∷ []
+
+abbrev pub post_declaration : {F : Type 0} → List F → List (List F) → Declaration F
+post_declaration steps periodic = record {
+  width = 1;
+  preprocessed = Some (record { values = steps; width = 1 });
+  main_next = [];
+  preprocessed_next = [];
+  public_values = 1;
+  periodic = periodic;
+  constraints = Some 1;
   degree_hint = None;
   boolean_trace = false;
 }

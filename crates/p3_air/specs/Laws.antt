@@ -2,5 +2,8 @@
 pub mod Symbolic
 pub mod Gadgets
 pub mod Words
+pub mod Stand
+pub mod Examples
+pub mod RowCheck
 pub mod Recording
 pub mod Copying

@@ -8,5 +8,6 @@ pub mod Layout
 pub mod Placed
 pub mod Recording
 pub mod Copying
+pub mod RowCheck
 pub mod Examples
 pub mod Laws

@@ -1,5 +1,7 @@
 //! Builders: what an AIR's constraints are handed to.
-ghost use Rattle.std.specs.Prelude.{◌≡◌, ℕ, ◌<◌, ◌%◌, List, [], ◌∷◌, ◌++◌, IfOk, IsOk, IsTrue, Bool, length, map};
+ghost use Rattle.std.specs.Prelude.{◌≡◌, ℕ, ◌+◌, ◌*◌, ◌^◌, ◌<◌, ◌%◌, List, [], ◌∷◌, ◌++◌, IfOk, IsOk, IsTrue, Bool, length, map};
+ghost use prog.Memory.{size, align};
+ghost use denote.Param.{layout};
 ghost use Rattle.p3_air.specs.Shape.{Shape, Declares, DeclaresExt};
 ghost use Rattle.p3_air.specs.Tree.{Tree, Interaction, Stand, StandCount, constant as constant_tree, cell as cell_tree, ext_cell as ext_cell_tree, sum, difference, product, bool_tree, local, global};
 ghost use Rattle.p3_air.specs.declared.cells.Count.{Count as CountOf};
@@ -127,6 +129,9 @@ pub trait AirBuilder {
         Ok(())
     }
 
+    // Generic code keeps expressions in arrays: one of 1,024 takes less than 2^63 bytes, also one of counts.
+    ghost arrays_fit: { 1024 * (size (layout Self.Expr.row) + align (layout Self.Expr.row)) < 2 ^ 62 };
+
     ghost later_same: { (a : Self) → later a a };
 
     ghost later_along: { (a b c : Self) → later a b → later b c → later a c };
@@ -183,6 +188,9 @@ pub trait ExtensionBuilder: AirBuilder {
         ensures same { Self.shape self.new ≡ Self.shape self.old }
         ensures answers { IsTrue Self.never_fails → IsOk result }
         ensures grows { (t : Tree Self.F) → stands_ext self.old x t → IfOk result (λ _. Self.grows self.old self.new (t ∷ []) []) };
+
+    // Generic code keeps expressions of the extension in arrays: one of 1,024 takes less than 2^63 bytes.
+    ghost arrays_fit_ext: { 1024 * (size (layout Self.ExprEF.row) + align (layout Self.ExprEF.row)) < 2 ^ 62 };
 
     // What stands for a tree in a state stands for it in every later state.
     ghost persists_ext: { (a b : Self) → Self.later a b → (e : Self.ExprEF) (t : Tree Self.F) → stands_ext a e t → stands_ext b e t };

@@ -1,12 +1,15 @@
 //! The builder that records constraints and interactions.
 ghost use Rattle.std.specs.Prelude.{◌≡◌, ℕ, ◌<◌, ◌%◌, ◌++◌, List, [], ◌∷◌, length, map, IfOk, OnErr, IsTrue, IsOk, false, true, Bool, Option, IfSome, string_bytes};
 ghost use Rattle.std.specs.Option.{option_map};
+ghost use Rattle.std.proofs.Common.{lit<};
 ghost use Rattle.p3_air.specs.Layout.{layout_shape};
 ghost use Rattle.p3_air.specs.Symbolic.{node_tree, trees_after, OperandsBelow};
 ghost use Rattle.p3_air.specs.Recording.{Recording, IsLater, Grows, StandsAt, known_place, bus_of, known_count};
 ghost use Rattle.p3_air.specs.Tree.{Tree, Interaction, Stand, StandCount, sum, difference, product, global, local};
 ghost use Rattle.p3_air.specs.declared.cells.Count.{Count as CountOf};
 ghost use Rattle.p3_air.specs.Laws.Recording.{later-same, later-along, stands-later, grows-same, grows-along};
+
+mod read;
 
 use crate::builder::{AirBuilder, ExtensionBuilder, InteractionBuilder, PermutationAirBuilder};
 use crate::cells::{Cell, Count, ExtCell};
@@ -224,6 +227,8 @@ impl<F: Field> AirBuilder for InteractionSymbolicBuilder<F> {
         self.assert(x, false)
     }
 
+    ghost arrays_fit = { lit< tt };
+
     ghost later_same = { later-same };
 
     ghost later_along = { later-along };
@@ -261,6 +266,8 @@ impl<F: Field> ExtensionBuilder for InteractionSymbolicBuilder<F> {
     fn assert_zero_ext(&mut self, x: usize) -> Mem<()> {
         self.assert(x, true)
     }
+
+    ghost arrays_fit_ext = { lit< tt };
 
     ghost persists_ext = { stands-later };
 }

@@ -13,6 +13,8 @@
 
 ghost use Rattle.std.specs.Prelude.{◌≡◌, ℕ, ◌+◌, ◌-◌, ◌*◌, ◌/◌, ◌%◌, ◌^◌, ◌<◌, ◌≤◌, length, get_or, List, Bool, true, IsTrue, ◌↔◌, IfOk, cond, if◌then◌else◌, MatchOption, IsSome, map};
 ghost use Rattle.std.specs.List.{flat_map};
+ghost use prog.Memory.{size, align};
+ghost use denote.Param.{layout};
 ghost use Rattle.p3_field.specs.Ring.{Ring, RingLaws, pow, of_nat, sub};
 ghost use Rattle.p3_field.specs.Field.{FieldLaws, RingHom, TwoAdicLaws, VectorLaws, combine};
 
@@ -79,6 +81,10 @@ pub trait RingCore: Copy {
     ghost one_is: { ONE ≡ ring.one };
 
     ghost two_is: { TWO ≡ ring.add ring.one ring.one };
+
+    // Generic code keeps values in arrays: one of 1,024 values takes less than 2^63 bytes, also where each stands
+    // beside a number of 32 bits.
+    ghost arrays_fit: { 1024 * (size (layout Self.row) + align (layout Self.row)) < 2 ^ 62 };
 }
 
 /// A field without its operators: the core of `Field`.

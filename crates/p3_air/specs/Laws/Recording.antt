@@ -1,7 +1,8 @@
 -- Recordings, as nodes, assertions and interactions are added.
-use Rattle.std.proofs.Common.{◌≡◌, ℕ, ◌<◌, ◌≤◌, ◌%◌, ◌++◌, zero, suc, Bool, List, [], ◌∷◌, length, map, All, Option, refl, sym, ◌∙◌, ap, subst, get_or, arith, length-append, append_assoc, append-nil, zero-add}
+use Rattle.std.proofs.Common.{◌≡◌, ℕ, ◌<◌, ◌≤◌, ◌%◌, ◌++◌, zero, suc, Bool, List, [], ◌∷◌, length, map, All, Option, refl, sym, ◌∙◌, ap, subst, get_or, take, arith, length-append, append_assoc, append-nil, zero-add, add-zero, ◌+◌, cond, true, false}
 use Rattle.std.specs.Prelude.{Result, IfOk}
-use Rattle.std.proofs.lemmas.List.{map-append, length-map}
+use Rattle.std.proofs.lemmas.List.{map-append, length-map, take_more}
+use Rattle.std.proofs.lemmas.Grind.{common_steps}
 use Rattle.std.proofs.lemmas.Bool.Decides.{nat_tests}
 use Rattle.p3_air.specs.declared.cells.Count.{Count}
 use Rattle.p3_air.specs.declared.layout.AirLayout.{AirLayout}
@@ -11,7 +12,7 @@ use Rattle.p3_air.specs.declared.recorded.Assertion.{Assertion}
 use Rattle.p3_air.specs.Tree.{Tree, Interaction, sum, difference, product, Stand, StandCount}
 use Rattle.p3_air.specs.Symbolic.{node_tree, trees_after, tree_at, OperandsBelow, OrderedFrom}
 use Rattle.p3_air.specs.Placed.{Placed}
-use Rattle.p3_air.specs.Recording.{Recording, trees_at, bus_of, count_at, interaction_at, sent_at, PlacedBelow, IsRecording, StandsAt, IsLater, Grows, known_place, known_count}
+use Rattle.p3_air.specs.Recording.{Recording, trees_at, bus_of, count_at, interaction_at, sent_at, PlacedBelow, IsRecording, StandsAt, IsLater, Grows, known_place, known_count, is_in, asserted_in, indices_from}
 use Rattle.p3_air.specs.Laws.Symbolic.{tree_at-append, tree_at-push, ordered-push}
 
 -- what holds of each element holds of the first, and of each of the others
@@ -271,3 +272,59 @@ stands-product {F = F} r ns ms x y s t h k q =
     let e = ap (λ (a : Tree F). product a (tree_at ns (known_place (length ns) y))) left ∙ ap (λ (b : Tree F). product s b) right in
     let P : Tree F → Type 0 = λ u. IfOk r (λ i. StandsAt ms i u) in
     subst P e q
+
+chosen : (b : Bool) (k : ℕ) (xs ys zs : List ℕ) → xs ≡ ys ++ zs → cond b (k ∷ xs) xs ≡ cond b (k ∷ ys) ys ++ zs
+chosen true k xs ys zs e = ap (λ l. k ∷ l) e
+chosen false k xs ys zs e = e
+
+-- the places of one assertion more
+pub indices_from-push : (extension : Bool) (k : ℕ) (xs : List Assertion) (a : Assertion)
+    → indices_from extension k (xs ++ a ∷ []) ≡ indices_from extension k xs ++ cond (is_in extension a) ((k + length xs) ∷ []) []
+unfolding indices_from
+indices_from-push extension k [] a = ap (λ j. cond (is_in extension a) (j ∷ []) []) (sym (add-zero k))
+indices_from-push extension k (x ∷ xs) a =
+    let step = indices_from-push extension (suc k) xs a in
+    let at : suc k + length xs ≡ k + length (x ∷ xs) = omega arith in
+    let here : indices_from extension (suc k) (xs ++ a ∷ []) ≡ indices_from extension (suc k) xs ++ cond (is_in extension a) ((k + length (x ∷ xs)) ∷ []) [] =
+    step ∙ ap (λ j. indices_from extension (suc k) xs ++ cond (is_in extension a) (j ∷ []) []) at in
+    chosen (is_in extension x) k (indices_from extension (suc k) (xs ++ a ∷ [])) (indices_from extension (suc k) xs) (cond (is_in extension a) ((k + length (x ∷ xs)) ∷ []) []) here
+
+chosen_below : (b : Bool) (k n : ℕ) (xs : List ℕ) → k < n → All (λ i. i < n) xs → All (λ i. i < n) (cond b (k ∷ xs) xs)
+chosen_below true k n xs h a zero d l = h
+chosen_below true k n xs h a (suc j) d l = a j d (omega (arith, l))
+chosen_below false k n xs h a j d l = a j d l
+
+-- each listed place is that of an assertion
+pub indices_from-below : (extension : Bool) (k : ℕ) (xs : List Assertion) → All (λ i. i < k + length xs) (indices_from extension k xs)
+unfolding indices_from
+indices_from-below extension k [] j d l = absurd (omega (arith, l))
+indices_from-below extension k (x ∷ xs) j d l =
+    let rest : All (λ i. i < k + length (x ∷ xs)) (indices_from extension (suc k) xs) = λ i e m. omega (arith, indices_from-below extension (suc k) xs i e m) in
+    chosen_below (is_in extension x) k (k + length (x ∷ xs)) (indices_from extension (suc k) xs) (omega arith) rest j d l
+
+both_chosen : (b : Bool) (k j : ℕ) (xs ys : List ℕ) (n : ℕ) → length xs + length ys ≡ n
+    → length (cond (cond b false true) (k ∷ xs) xs) + length (cond (cond b true false) (j ∷ ys) ys) ≡ suc n
+both_chosen true k j xs ys n e = omega (arith, e)
+both_chosen false k j xs ys n e = omega (arith, e)
+
+-- each assertion is over the base field or over the extension
+pub indices_from-both : (k j : ℕ) (xs : List Assertion) → length (indices_from false k xs) + length (indices_from true j xs) ≡ length xs
+unfolding indices_from
+indices_from-both k j [] = refl
+indices_from-both k j (x ∷ xs) =
+    both_chosen x.in_extension k j (indices_from false (suc k) xs) (indices_from true (suc j) xs) (length xs) (indices_from-both (suc k) (suc j) xs)
+
+pub indices-below : (extension : Bool) (xs : List Assertion) → All (λ i. i < length xs) (indices_from extension 0 xs)
+indices-below extension xs j d l = omega (arith, indices_from-below extension 0 xs j d l)
+
+pub indices-step : (extension : Bool) (xs : List Assertion) (i : ℕ) (d : Assertion) → i < length xs
+    → indices_from extension 0 (take (i + 1) xs) ≡ indices_from extension 0 (take i xs) ++ cond (is_in extension (get_or xs i d)) (i ∷ []) []
+indices-step extension xs i d l =
+    let at : 0 + length (take i xs) ≡ i = grind (arith, common_steps) in
+    ap (λ ys. indices_from extension 0 ys) (take_more xs i d l)
+    ∙ indices_from-push extension 0 (take i xs) (get_or xs i d)
+    ∙ ap (λ j. indices_from extension 0 (take i xs) ++ cond (is_in extension (get_or xs i d)) (j ∷ []) []) at
+
+pub indices-none : (extension : Bool) → indices_from extension 0 [] ≡ []
+unfolding indices_from
+indices-none extension = refl

@@ -1,5 +1,5 @@
 -- A field as a vector space over itself.
-use Rattle.std.proofs.Common.{◌≡◌, List, [], ◌∷◌, length, refl, ap, ◌∙◌, lit<}
+use Rattle.std.proofs.Common.{◌≡◌, ◌<◌, ◌≤◌, List, [], ◌∷◌, length, get_or, refl, ap, sym, ◌∙◌, lit<, arith}
 use Rattle.std.specs.List.{flat_map}
 use Rattle.p3_field.specs.Ring.{Ring, RingLaws}
 use Rattle.p3_field.specs.Field.{VectorLaws, RingHom, combine}
@@ -30,3 +30,10 @@ flat_single (x ∷ xs) = ap (λ l. x ∷ l) (flat_single xs)
 
 pub own_spans : {A : Type 0} (r : Ring A) (L : RingLaws r) (x : A) → combine r (λ _. r.one) 0 (x ∷ []) ≡ x
 own_spans r L x = L.add_zero (r.mul x r.one) ∙ L.mul_one x
+
+-- a list of one coefficient has that coefficient as its value
+pub own_combined : {A : Type 0} (r : Ring A) (L : RingLaws r) (c : List A) (x : A) → 1 ≤ length c → length c < 2 → x ≡ get_or c 0 x
+    → (length c ≡ 1) × (x ≡ combine r (λ _. r.one) 0 c)
+own_combined r L [] x h k e = absurd (omega (arith, h))
+own_combined r L (y ∷ []) x h k e = (refl, e ∙ sym (own_spans r L y))
+own_combined r L (y ∷ z ∷ c) x h k e = absurd (omega (arith, k))

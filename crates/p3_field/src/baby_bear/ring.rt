@@ -3,7 +3,7 @@ ghost use Rattle.std.specs.Prelude.{◌≡◌, ℕ, ◌+◌, ◌-◌, ◌*◌, �
 ghost use Rattle.p3_field.specs.Ring.{Ring, RingLaws, pow, of_nat, sub};
 ghost use Rattle.p3_field.specs.BabyBear.{order, reduce, bear_ring};
 ghost use Rattle.p3_field.specs.Laws.BearLaws.{bear_laws};
-ghost use Rattle.std.proofs.Common.{rules, refl};
+ghost use Rattle.std.proofs.Common.{rules, refl, lit<};
 
 use crate::baby_bear::BabyBear;
 use crate::{PrimeCharacteristicRing, RingCore};
@@ -129,6 +129,8 @@ impl RingCore for BabyBear {
     ghost one_is = { refl };
 
     ghost two_is = { refl };
+
+    ghost arrays_fit = { lit< tt };
 }
 
 impl PrimeCharacteristicRing for BabyBear {

@@ -3,7 +3,7 @@ ghost use Rattle.std.specs.Prelude.{◌≡◌};
 ghost use Rattle.p3_field.specs.Ring.{of_nat, sub};
 ghost use Rattle.p3_field.specs.Gf256.{times_x, byte_mul, of_byte, gf_ring};
 ghost use Rattle.p3_field.specs.Laws.Gf256Laws.{gf_laws};
-ghost use Rattle.std.proofs.Common.{rules, refl};
+ghost use Rattle.std.proofs.Common.{rules, refl, lit<};
 
 use crate::gf256::Gf256;
 use crate::{PrimeCharacteristicRing, RingCore};
@@ -124,6 +124,8 @@ impl RingCore for Gf256 {
     ghost one_is = { refl };
 
     ghost two_is = { refl };
+
+    ghost arrays_fit = { lit< tt };
 }
 
 impl PrimeCharacteristicRing for Gf256 {

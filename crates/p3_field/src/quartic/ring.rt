@@ -5,7 +5,7 @@ ghost use Rattle.p3_field.specs.BabyBear.{bear_ring};
 ghost use Rattle.p3_field.specs.Quartic.{quartic_ring, to_four, of_bear_value};
 ghost use Rattle.p3_field.specs.Laws.Four.{weighted};
 ghost use Rattle.p3_field.specs.Laws.QuarticLaws.{quartic_laws};
-ghost use Rattle.std.proofs.Common.{rules, refl};
+ghost use Rattle.std.proofs.Common.{rules, refl, lit<};
 
 use crate::baby_bear::ring::{eleven, product, reduced};
 use crate::baby_bear::{BEAR_0, BEAR_1, BEAR_2, BabyBear};
@@ -139,6 +139,8 @@ impl RingCore for QuarticExtension {
     ghost one_is = { refl };
 
     ghost two_is = { refl };
+
+    ghost arrays_fit = { lit< tt };
 }
 
 impl PrimeCharacteristicRing for QuarticExtension {

@@ -1,0 +1,16 @@
+-- Lists of expressions that stand for lists of trees.
+use Rattle.std.proofs.Common.{◌≡◌, ℕ, ◌<◌, zero, suc, List, [], ◌∷◌, length, get_or, arith}
+use Rattle.p3_air.specs.Tree.{Stand}
+
+-- no expression stands for no tree
+pub stand-none : {E T : Type 0} (P : E → T → Type 0) → Stand P [] []
+stand-none P = record { long = omega arith; each = λ k d u l. absurd (omega (arith, l)) }
+
+stand-each : {E T : Type 0} (P : E → T → Type 0) (x : E) (t : T) (xs : List E) (ts : List T) → P x t → Stand P xs ts
+    → (i : ℕ) (d : E) (u : T) → i < length (x ∷ xs) → P (get_or (x ∷ xs) i d) (get_or (t ∷ ts) i u)
+stand-each P x t xs ts h k zero d u l = h
+stand-each P x t xs ts h k (suc i) d u l = k.each i d u (omega (arith, l))
+
+-- one more in front
+pub stand-more : {E T : Type 0} (P : E → T → Type 0) (x : E) (t : T) (xs : List E) (ts : List T) → P x t → Stand P xs ts → Stand P (x ∷ xs) (t ∷ ts)
+stand-more P x t xs ts h k = record { long = omega (arith, k.long); each = stand-each P x t xs ts h k }

@@ -1,0 +1,127 @@
+//! A table with preprocessed and periodic cells that sends its cells.
+ghost use Rattle.std.proofs.Common.{rules, ◌∙◌};
+ghost use Rattle.std.proofs.lemmas.List.{length-map};
+ghost use Rattle.p3_air.specs.Laws.Examples.{post-read};
+ghost use Rattle.std.specs.Prelude.{◌≡◌, ℕ, ◌<◌, List, [], ◌∷◌, IfOk, IsOk, IsTrue, length, map};
+ghost use Rattle.p3_air.specs.Shape.{Declares};
+ghost use Rattle.p3_air.specs.Tree.{cell as cell_tree, difference, product};
+ghost use Rattle.p3_air.specs.Examples.{post_trees, post_interactions, post_declaration};
+
+use crate::base::{Air, BaseAir};
+use crate::builder::{AirBuilder, InteractionBuilder};
+use crate::cells::{Cell, Count};
+use p3_field::{Field, FieldCore, Mem, RingCore};
+use p3_matrix::RowMajorMatrix;
+use std::alloc::Global;
+
+/// One column, which is the product of a preprocessed and a periodic column. Each row sends the pair of
+/// its cell and the public value on the bus `words`, once; and within the table its cell, as often as the public
+/// value says, and the public value, once.
+#[derive(Drop)]
+pub struct PostAir<F> {
+    /// The preprocessed column.
+    pub steps: Vec<F>,
+    /// The periodic column, as the only one of its list.
+    pub periodic: Vec<Vec<F>>,
+    pub ghost one_periodic: { length periodic.items ≡ 1 },
+}
+
+impl<F: Field> BaseAir<F> for PostAir<F> {
+    ghost declaration = { λ a. post_declaration a.steps.items (map (λ v. v.items) a.periodic.items) };
+
+    fn width(&self) -> usize {
+        1
+    }
+
+    fn preprocessed_trace(&self, alloc: Global) -> Mem<Option<RowMajorMatrix<F>>> {
+        let values = Vec::from_slice(alloc, &self.steps)?;
+        Ok(Some(RowMajorMatrix::new_col(values)))
+    }
+
+    fn preprocessed_width(&self) -> usize {
+        1
+    }
+
+    fn main_next_row_columns(&self) -> &[usize] {
+        &[]
+    }
+
+    fn preprocessed_next_row_columns(&self) -> &[usize] {
+        &[]
+    }
+
+    fn num_public_values(&self) -> usize {
+        1
+    }
+
+    fn periodic_columns(&self) -> &[Vec<F>] {
+        &self.periodic
+    }
+
+    fn num_constraints(&self) -> Option<usize> {
+        Some(1)
+    }
+
+    fn max_constraint_degree(&self) -> Option<usize> {
+        None
+    }
+
+    fn assumes_boolean_trace(&self) -> bool {
+        false
+    }
+
+    ghost has_columns = { λ _. Prim.search rules };
+}
+
+// The constraint: the cell is the product of the preprocessed and the periodic cell.
+fn assert_product<AB: AirBuilder>(builder: &mut AB, cell: Cell, x: Cell, y: Cell) -> Mem<()>
+    requires cell { Declares (AB.shape builder.old) cell }
+    requires left { Declares (AB.shape builder.old) x }
+    requires right { Declares (AB.shape builder.old) y }
+    ensures same { IfOk result (λ _. AB.shape builder.new ≡ AB.shape builder.old) }
+    ensures answers { IsTrue AB.never_fails → IsOk result }
+    ensures grows { IfOk result (λ _. AB.grows builder.old builder.new (difference (cell_tree cell) (product (cell_tree x) (cell_tree y)) ∷ []) []) }
+{
+    let a = builder.cell(cell)?;
+    let b = builder.cell(x)?;
+    let c = builder.cell(y)?;
+    let p = builder.mul(b, c)?;
+    builder.assert_eq(a, p)?;
+    Ok(())
+}
+
+impl<F: Field> Air<F> for PostAir<F> {
+    ghost trees = { λ _. post_trees };
+
+    ghost interactions = { λ _. post_interactions F.ring.one };
+
+    fn eval<AB: InteractionBuilder<F = F>>(&self, builder: &mut AB) -> Mem<()> {
+        let m = Cell::Main {
+            next: false,
+            column: 0,
+        };
+        let step = Cell::Preprocessed {
+            next: false,
+            column: 0,
+        };
+        assert_product(builder, m, step, Cell::Periodic(0))?;
+        let cell = builder.cell(m)?;
+        let public = builder.cell(Cell::Public(0))?;
+        let one = builder.constant(F::ONE)?;
+        let once = Count {
+            value: one,
+            bound: 1,
+        };
+        builder.push_interaction("words", &[cell, public], once)?;
+        let times = Count {
+            value: public,
+            bound: 7,
+        };
+        builder.push_local_interaction(&[cell, public], &[times, once])?;
+        Ok(())
+    }
+
+    ghost trees_read = { λ a. post-read a.steps.items (map (λ v. v.items) a.periodic.items) (length-map a.periodic.items (λ v. v.items) ∙ a.one_periodic) };
+
+    ghost interactions_read = { λ _. Prim.search rules };
+}
