@@ -4,10 +4,11 @@ pub mod Symbolic
 pub mod Degree
 pub mod Gadgets
 pub mod Words
+pub mod RowCheck
+pub mod Check
 pub mod Layout
 pub mod Placed
 pub mod Recording
 pub mod Copying
-pub mod RowCheck
 pub mod Examples
 pub mod Laws
