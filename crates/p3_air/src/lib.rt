@@ -32,3 +32,6 @@ pub use layout::{AirLayout, ConstraintLayout};
 pub use node::Node;
 pub use recorder::InteractionSymbolicBuilder;
 pub use symbolic::{SymbolicExpression, constraint_degree_from_poly_degree};
+
+#[cfg(test)]
+mod tests;
