@@ -1,5 +1,9 @@
 -- What is proved of the definitions, by subject.
 pub mod Symbolic
+pub mod Gadgets
+pub mod Words
 pub mod Stand
+pub mod Examples
+pub mod RowCheck
 pub mod Recording
 pub mod Copying

@@ -2,6 +2,10 @@ pub mod Tree
 pub mod Shape
 pub mod Symbolic
 pub mod Degree
+pub mod Gadgets
+pub mod Words
+pub mod RowCheck
+pub mod Check
 pub mod Layout
 pub mod Placed
 pub mod Recording

@@ -4,9 +4,8 @@ use Rattle.p3_air.specs.declared.cells.Count.{Count}
 use Rattle.p3_air.specs.declared.layout.AirLayout.{AirLayout}
 use Rattle.p3_air.specs.declared.node.Node.{Node}
 use Rattle.p3_air.specs.declared.recorded.Assertion.{Assertion}
-use Rattle.p3_air.specs.Tree.{Tree, Interaction, Bus, local, global, tuple_at}
-use Rattle.p3_field.specs.Poly.{table}
-use Rattle.p3_air.specs.Symbolic.{tree_at, tree_of, Ordered}
+use Rattle.p3_air.specs.Tree.{Tree, Interaction, Bus, local, global}
+use Rattle.p3_air.specs.Symbolic.{tree_at, Ordered}
 use Rattle.p3_air.specs.Placed.{Placed}
 
 -- the nodes so far, the places of the asserted ones in order, and the interactions in order
@@ -83,22 +82,6 @@ asserted_in extension xs = filter (is_in extension) xs
 unfoldable pub indices_from : Bool → ℕ → List Assertion → List ℕ
 indices_from extension k [] = []
 indices_from extension k (a ∷ xs) = cond (is_in extension a) (k ∷ indices_from extension (suc k) xs) (indices_from extension (suc k) xs)
-
--- an interaction as the expressions of its tuples and counts, each as its nodes
-pub record Sent (F : Type 0) : Type 0 where
-  pub bus : Option (List ℕ)
-  pub elements : List (List (List (Node F)))
-  pub multiplicities : List (Count (List (Node F)))
-
--- the tuples of an interaction, in order
-abbrev pub tuples : {F : Type 0} → Interaction F → List (List (Tree F))
-tuples i = table (length i.counts) (tuple_at i)
-
--- the expressions are those of the interaction
-pub record IsSent {F : Type 0} (s : Sent F) (i : Interaction F) : Type 0 where
-  pub bus : bus_of s.bus ≡ i.bus
-  pub elements : map (map tree_of) s.elements ≡ tuples i
-  pub multiplicities : map (λ c. record { value = tree_of c.value; bound = c.bound }) s.multiplicities ≡ i.counts
 
 abbrev pub known_count : ℕ → Count ℕ → Count ℕ
 known_count n c = record { value = known_place n c.value; bound = c.bound }

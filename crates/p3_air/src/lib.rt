@@ -10,9 +10,13 @@
 mod base;
 mod builder;
 mod cells;
+mod check;
 mod copying;
+mod debug;
 pub mod examples;
+mod gadgets;
 mod layout;
+pub mod meanings;
 mod node;
 mod recorded;
 mod recorder;
@@ -21,7 +25,13 @@ mod symbolic;
 pub use base::{Air, BaseAir};
 pub use builder::{AirBuilder, ExtensionBuilder, InteractionBuilder, PermutationAirBuilder};
 pub use cells::{Cell, Count, ExtCell};
+pub use check::{CheckFailure, check_constraints};
+pub use debug::{DebugConstraintBuilder, RowValues};
+pub use gadgets::{add2, add3, pack_bits_le, u32_to_bits_le, xor_32_shift};
 pub use layout::{AirLayout, ConstraintLayout};
 pub use node::Node;
 pub use recorder::InteractionSymbolicBuilder;
 pub use symbolic::{SymbolicExpression, constraint_degree_from_poly_degree};
+
+#[cfg(test)]
+mod tests;

@@ -10,6 +10,7 @@ ghost use Rattle.p3_air.specs.declared.cells.Count.{Count as CountOf};
 ghost use Rattle.p3_air.specs.Laws.Recording.{later-same, later-along, stands-later, grows-same, grows-along};
 
 mod read;
+mod sent;
 
 use crate::builder::{AirBuilder, ExtensionBuilder, InteractionBuilder, PermutationAirBuilder};
 use crate::cells::{Cell, Count, ExtCell};

@@ -1,5 +1,7 @@
 //! A table with preprocessed and periodic cells that sends its cells.
-ghost use Rattle.std.proofs.Common.{rules};
+ghost use Rattle.std.proofs.Common.{rules, ◌∙◌};
+ghost use Rattle.std.proofs.lemmas.List.{length-map};
+ghost use Rattle.p3_air.specs.Laws.Examples.{post-read};
 ghost use Rattle.std.specs.Prelude.{◌≡◌, ℕ, ◌<◌, List, [], ◌∷◌, IfOk, IsOk, IsTrue, length, map};
 ghost use Rattle.p3_air.specs.Shape.{Declares};
 ghost use Rattle.p3_air.specs.Tree.{cell as cell_tree, difference, product};
@@ -119,7 +121,7 @@ impl<F: Field> Air<F> for PostAir<F> {
         Ok(())
     }
 
-    ghost trees_read = { λ _. Prim.search rules };
+    ghost trees_read = { λ a. post-read a.steps.items (map (λ v. v.items) a.periodic.items) (length-map a.periodic.items (λ v. v.items) ∙ a.one_periodic) };
 
     ghost interactions_read = { λ _. Prim.search rules };
 }

@@ -1,0 +1,41 @@
+use Rattle.std.proofs.Common.{◌≡◌, ◌-◌, ◌<◌, suc, [], length, subst, ◌∙◌, arith}
+use Rattle.p3_air.specs.Tree.{Tree}
+use Rattle.p3_air.proofs.Packing.{packed_turn, packed_none, stand_item}
+use Rattle.p3_air.proofs.gadgets.pack_bits_le.Goals as goal
+
+pub loop-i-init : goal.loop-i-init
+loop-i-init g c =
+    let B = g.met.AB.AirBuilder in
+    let r = g.AB.F.RingCore.ring in
+    let n = length c.args.bits.now in
+    let none : n - n ≡ 0 = omega arith in
+    record {
+      same = c.constant-2.ensures.same ∙ c.constant.ensures.same;
+      grows = B.grows_along _ _ _ [] _ [] [] c.constant.ensures.grows c.constant-2.ensures.grows;
+      two = B.persists _ _ (B.grows_later _ _ _ _ c.constant-2.ensures.grows) _ _ (rw c.from_u64.ensures at c.in_ok-two.ensures.stands);
+      so_far = λ t h. subst (λ (u : Tree g.row.AB-F.Denot). g.AB.AirBuilder.stands c.constant-2.new.self c.in_ok-sum.sum u)
+          (packed_none r t n (n - n) none) (rw c.from_u64-2.ensures at c.in_ok-sum.ensures.stands);
+    }
+
+pub loop-i-preserved : goal.loop-i-preserved
+loop-i-preserved g c =
+    let B = g.met.AB.AirBuilder in
+    let r = g.AB.F.RingCore.ring in
+    let n = length c.args.bits.now in
+    let i = c.loop-i.i - 1 in
+    let next : c.loop-i.i ≡ suc i = omega arith in
+    let rest : n - i ≡ suc (n - c.loop-i.i) = omega arith in
+    let within : i < n = omega arith in
+    let past = B.persists _ _ (B.grows_later _ _ _ _ c.mul.ensures.grows) in
+    let both = B.grows_along _ _ _ [] _ [] [] c.mul.ensures.grows c.add.ensures.grows in
+    record {
+      same = c.add.ensures.same ∙ c.mul.ensures.same ∙ c.loop-i.invariant.same;
+      grows = B.grows_along _ _ _ [] _ [] [] c.loop-i.invariant.grows both;
+      two = B.persists _ _ (B.grows_later _ _ _ _ both) _ _ c.loop-i.invariant.two;
+      so_far = λ t h.
+          let twice = c.in_ok-twice.ensures.stands _ _ c.loop-i.invariant.two (c.loop-i.invariant.so_far t h) in
+          let bit = past _ _ (B.persists _ _ (B.grows_later _ _ _ _ c.loop-i.invariant.grows) _ _ (stand_item _ _ _ h i c.index-bits-i.result within c.index-bits-i.is)) in
+          subst (λ (u : Tree g.row.AB-F.Denot). g.AB.AirBuilder.stands c.add.new.self c.in_ok-sum-2.sum u)
+          (packed_turn r t i c.loop-i.i (n - c.loop-i.i) (n - i) next rest)
+          (c.in_ok-sum-2.ensures.stands _ _ bit twice);
+    }

@@ -1,0 +1,43 @@
+-- Values of trees at a row, as trees are asserted.
+use Rattle.std.proofs.Common.{◌≡◌, ◌++◌, List, [], ◌∷◌, map, refl, sym, ◌∙◌, ap, subst, append_assoc, append-nil}
+use Rattle.std.proofs.lemmas.List.{map-append}
+use Rattle.p3_field.specs.Ring.{Ring, RingLaws, sub}
+use Rattle.p3_field.specs.Field.{RingHom}
+use Rattle.p3_field.specs.Laws.Extended.{hom_neg}
+use Rattle.p3_air.specs.Tree.{Tree}
+use Rattle.p3_air.specs.RowCheck.{Row, Checked, Adds, value_at}
+
+pub row-same : {F E : Type 0} (a : Checked F E) → a.row ≡ a.row
+row-same a = refl
+
+pub row-along : {F E : Type 0} (a b c : Checked F E) → b.row ≡ a.row → c.row ≡ b.row → c.row ≡ a.row
+row-along a b c h k = k ∙ h
+
+-- a value at a row is the value at an equal row
+pub value_at-row : {F E : Type 0} (f : Ring F) (e : Ring E) (embed : F → E) (a b : Checked F E) → b.row ≡ a.row → (x : E) (t : Tree F)
+    → x ≡ value_at f e embed a.row t → x ≡ value_at f e embed b.row t
+value_at-row {F = F} {E = E} f e embed a b h x t k = let P : Row F E → Type 0 = λ r. x ≡ value_at f e embed r t in subst P (sym h) k
+
+pub adds-same : {F E : Type 0} (f : Ring F) (e : Ring E) (embed : F → E) (a : Checked F E) → Adds f e embed a a []
+adds-same f e embed a = record { row = refl; values = sym (append-nil a.values) }
+
+pub adds-along : {F E : Type 0} (f : Ring F) (e : Ring E) (embed : F → E) (a b c : Checked F E) (s t : List (Tree F))
+    → Adds f e embed a b s → Adds f e embed b c t → Adds f e embed a c (s ++ t)
+adds-along {F = F} {E = E} f e embed a b c s t h k =
+    let v = value_at f e embed a.row in
+    let P : Row F E → Type 0 = λ r. c.values ≡ b.values ++ map (value_at f e embed r) t in
+    let more : c.values ≡ b.values ++ map v t = subst P h.row k.values in
+    record {
+      row = k.row ∙ h.row;
+      values = more ∙ ap (λ (l : List E). l ++ map v t) h.values ∙ append_assoc a.values (map v s) (map v t) ∙ ap (λ (l : List E). a.values ++ l) (sym (map-append v s t));
+    }
+
+-- the value of one tree more
+pub adds-one : {F E : Type 0} (f : Ring F) (e : Ring E) (embed : F → E) (a : Checked F E) (x : E) (t : Tree F) → x ≡ value_at f e embed a.row t
+    → Adds f e embed a (record a { values = a.values ++ x ∷ [] }) (t ∷ [])
+adds-one {E = E} f e embed a x t h = record { row = refl; values = ap (λ (y : E). a.values ++ y ∷ []) h }
+
+-- sums, differences and products of values of the base field
+pub embed-sub : {F E : Type 0} (f : Ring F) (L : RingLaws f) (e : Ring E) (M : RingLaws e) (embed : F → E) (H : RingHom f e embed) (x y : F)
+    → embed (sub f x y) ≡ sub e (embed x) (embed y)
+embed-sub {E = E} f L e M embed H x y = H.keeps_add x (f.neg y) ∙ ap (λ (z : E). e.add (embed x) z) (hom_neg f L e M embed H y)

@@ -1,0 +1,260 @@
+//! The builder that evaluates constraints at a row.
+ghost use Rattle.std.specs.Prelude.{◌≡◌, ℕ, ◌<◌, ◌%◌, ◌++◌, List, [], ◌∷◌, length, IfOk, OnErr, IsTrue, IsOk, false, refl};
+ghost use Rattle.p3_air.specs.Shape.{Declares, DeclaresExt};
+ghost use Rattle.p3_air.specs.Tree.{Tree, Stand, StandCount};
+ghost use Rattle.p3_air.specs.RowCheck.{Checked, Row, Adds, value_at, cell_value, ext_cell_value, row_shape};
+ghost use Rattle.p3_air.specs.declared.cells.Count.{Count as CountOf};
+ghost use Rattle.p3_air.specs.Laws.RowCheck.{row-along, value_at-row, adds-same, adds-along};
+
+use crate::builder::{AirBuilder, ExtensionBuilder, InteractionBuilder, PermutationAirBuilder};
+use crate::cells::{Cell, Count, ExtCell};
+use p3_field::{ExtensionField, Field, FieldCore, Mem, PrimeCharacteristicRing, RingCore};
+use std::alloc::Global;
+use std::marker::Model;
+
+/// The values of the cells at one row. A contract sees them as the record `Row`.
+#[derive(Drop)]
+pub struct RowValues<'a, F, EF> {
+    /// The current row of the main trace.
+    pub main_local: &'a [F],
+    /// The next row of the main trace.
+    pub main_next: &'a [F],
+    /// The current row of the preprocessed trace.
+    pub preprocessed_local: &'a [F],
+    /// The next row of the preprocessed trace.
+    pub preprocessed_next: &'a [F],
+    /// The periodic columns at this row.
+    pub periodic: &'a [F],
+    /// The public values.
+    pub public_values: &'a [F],
+    /// Whether this is the first row.
+    pub is_first_row: bool,
+    /// Whether this is the last row.
+    pub is_last_row: bool,
+    /// The current row of the permutation trace.
+    pub permutation_local: &'a [EF],
+    /// The next row of the permutation trace.
+    pub permutation_next: &'a [EF],
+    /// The challenges of the lookups.
+    pub challenges: &'a [EF],
+    /// The terminals of the lookups: none or one.
+    pub terminals: &'a [EF],
+}
+
+impl<'a, F, EF> Model for RowValues<'a, F, EF> {
+    ghost use Rattle.p3_air.specs.RowCheck.{Row, IsRow};
+
+    ghost Value = { Row F EF };
+
+    ghost view = { λ r. record { main_local = r.main_local.now; main_next = r.main_next.now; preprocessed_local = r.preprocessed_local.now; preprocessed_next = r.preprocessed_next.now; periodic = r.periodic.now; public_values = r.public_values.now; is_first_row = r.is_first_row; is_last_row = r.is_last_row; permutation_local = r.permutation_local.now; permutation_next = r.permutation_next.now; challenges = r.challenges.now; terminals = r.terminals.now } };
+
+    ghost invariant = { λ r. IsRow (record { main_local = r.main_local.now; main_next = r.main_next.now; preprocessed_local = r.preprocessed_local.now; preprocessed_next = r.preprocessed_next.now; periodic = r.periodic.now; public_values = r.public_values.now; is_first_row = r.is_first_row; is_last_row = r.is_last_row; permutation_local = r.permutation_local.now; permutation_next = r.permutation_next.now; challenges = r.challenges.now; terminals = r.terminals.now }) };
+}
+
+impl<'a, F: Field, EF: ExtensionField<F>> RowValues<'a, F, EF> {
+    /// The value of a declared cell. The selectors are zero or one.
+    pub fn cell(&self, c: Cell) -> F
+        requires { Declares (row_shape self.now) c }
+        ensures { result ≡ cell_value F.ring self.now c }
+    {
+        match c {
+            Cell::Main { next: true, column } => self.main_next[column],
+            Cell::Main {
+                next: false,
+                column,
+            } => self.main_local[column],
+            Cell::Preprocessed { next: true, column } => self.preprocessed_next[column],
+            Cell::Preprocessed {
+                next: false,
+                column,
+            } => self.preprocessed_local[column],
+            Cell::Periodic(n) => self.periodic[n],
+            Cell::Public(n) => self.public_values[n],
+            Cell::FirstRow => F::from_bool(self.is_first_row),
+            Cell::LastRow => F::from_bool(self.is_last_row),
+            Cell::Transition => F::from_bool(!self.is_last_row),
+        }
+    }
+
+    /// The value of a declared cell of the extension.
+    pub fn ext_cell(&self, c: ExtCell) -> EF
+        requires { DeclaresExt (row_shape self.now) c }
+        ensures { result ≡ ext_cell_value EF.ring.zero self.now c }
+    {
+        match c {
+            ExtCell::Permutation { next: true, column } => self.permutation_next[column],
+            ExtCell::Permutation {
+                next: false,
+                column,
+            } => self.permutation_local[column],
+            ExtCell::Challenge(n) => self.challenges[n],
+            ExtCell::Terminal => self.terminals[0],
+        }
+    }
+}
+
+/// Evaluates the constraints that it is handed at one row (`p3_air::DebugConstraintBuilder`), and keeps the values of
+/// the asserted ones, in order: those over the base field as values of the extension. It ignores interactions. A
+/// contract sees it as the record `Checked`.
+#[derive(Drop)]
+pub struct DebugConstraintBuilder<'a, F, EF> {
+    row: RowValues<'a, F, EF>,
+    values: Vec<EF>,
+}
+
+impl<'a, F, EF> Model for DebugConstraintBuilder<'a, F, EF> {
+    ghost use Rattle.p3_air.specs.RowCheck.{Checked};
+
+    ghost Value = { Checked F EF };
+
+    ghost view = { λ b. record { row = b.row; values = b.values.items } };
+}
+
+impl<'a, F: Field, EF: ExtensionField<F>> DebugConstraintBuilder<'a, F, EF> {
+    /// A builder at this row, with nothing asserted.
+    pub fn new(alloc: Global, row: RowValues<'a, F, EF>) -> Self
+        ensures row { result.row ≡ row.entry }
+        ensures values { result.values ≡ [] }
+    {
+        DebugConstraintBuilder {
+            row,
+            values: Vec::new(alloc),
+        }
+    }
+
+    /// The values of the asserted constraints, in order.
+    pub fn values(&self) -> &[EF]
+        ensures { result.now ≡ self.now.values }
+    {
+        &self.values
+    }
+
+    // Keeps a value.
+    fn keep(&mut self, x: EF) -> Mem<()>
+        ensures kept { IfOk result (λ _. self.new ≡ record self.old { values = self.old.values ++ x ∷ [] }) }
+        ensures same { OnErr result (self.new ≡ self.old) }
+    {
+        self.values.push(x)?;
+        Ok(())
+    }
+}
+
+impl<'a, F: Field, EF: ExtensionField<F>> AirBuilder for DebugConstraintBuilder<'a, F, EF> {
+    ghost use Rattle.p3_air.specs.Laws.RowCheck.{row-along, value_at-row, adds-same, adds-along};
+
+    type F = F;
+
+    type Expr = F;
+
+    ghost stands = { λ b x t. EF.embed x ≡ value_at F.ring EF.ring EF.embed b.row t };
+
+    ghost later = { λ a b. b.row ≡ a.row };
+
+    ghost grows = { λ a b ts is. Adds F.ring EF.ring EF.embed a b ts };
+
+    ghost shape = { λ b. row_shape b.row };
+
+    ghost never_fails = { false };
+
+    fn cell(&mut self, c: Cell) -> Mem<F> {
+        Ok(self.row.cell(c))
+    }
+
+    fn constant(&mut self, x: F) -> Mem<F> {
+        Ok(x)
+    }
+
+    fn add(&mut self, x: F, y: F) -> Mem<F> {
+        Ok(x + y)
+    }
+
+    fn sub(&mut self, x: F, y: F) -> Mem<F> {
+        Ok(x - y)
+    }
+
+    fn mul(&mut self, x: F, y: F) -> Mem<F> {
+        Ok(x * y)
+    }
+
+    fn assert_zero(&mut self, x: F) -> Mem<()> {
+        self.keep(EF::from_base(x))
+    }
+
+    ghost arrays_fit = { F.arrays_fit };
+
+    ghost later_same = { λ a. refl };
+
+    ghost later_along = { row-along };
+
+    ghost persists = { λ a b h x t k. value_at-row F.ring EF.ring EF.embed a b h (EF.embed x) t k };
+
+    ghost grows_same = { adds-same F.ring EF.ring EF.embed };
+
+    ghost grows_later = { λ a b t i h. h.row };
+
+    ghost grows_along = { λ a b c s t i j h k. adds-along F.ring EF.ring EF.embed a b c s t h k };
+}
+
+impl<'a, F: Field, EF: ExtensionField<F>> ExtensionBuilder for DebugConstraintBuilder<'a, F, EF> {
+    ghost use Rattle.p3_air.specs.Laws.RowCheck.{value_at-row};
+
+    type ExprEF = EF;
+
+    ghost stands_ext = { λ b x t. x ≡ value_at F.ring EF.ring EF.embed b.row t };
+
+    fn lift(&mut self, x: F) -> Mem<EF> {
+        Ok(EF::from_base(x))
+    }
+
+    fn add_ext(&mut self, x: EF, y: EF) -> Mem<EF> {
+        Ok(x + y)
+    }
+
+    fn sub_ext(&mut self, x: EF, y: EF) -> Mem<EF> {
+        Ok(x - y)
+    }
+
+    fn mul_ext(&mut self, x: EF, y: EF) -> Mem<EF> {
+        Ok(x * y)
+    }
+
+    fn assert_zero_ext(&mut self, x: EF) -> Mem<()> {
+        self.keep(x)
+    }
+
+    ghost arrays_fit_ext = { EF.arrays_fit };
+
+    ghost persists_ext = { λ a b h x t k. value_at-row F.ring EF.ring EF.embed a b h x t k };
+}
+
+impl<'a, F: Field, EF: ExtensionField<F>> PermutationAirBuilder
+    for DebugConstraintBuilder<'a, F, EF> {
+    fn ext_cell(&mut self, c: ExtCell) -> Mem<EF> {
+        Ok(self.row.ext_cell(c))
+    }
+}
+
+impl<'a, F: Field, EF: ExtensionField<F>> InteractionBuilder for DebugConstraintBuilder<'a, F, EF> {
+    fn push_interaction(&mut self, _bus_name: &str, fields: &[F], count: Count<F>) -> Mem<()>
+        ensures later { self.new.row ≡ self.old.row }
+        ensures same { row_shape self.new.row ≡ row_shape self.old.row }
+        ensures answers { IsTrue false → IsOk result }
+        ensures grows { (fs : List (Tree F)) (v : Tree F) → Stand (λ x t. EF.embed x ≡ value_at F.ring EF.ring EF.embed self.old.row t) fields.now fs → EF.embed count.value ≡ value_at F.ring EF.ring EF.embed self.old.row v
+            → IfOk result (λ _. Adds F.ring EF.ring EF.embed self.old self.new []) }
+    {
+        Ok(())
+    }
+
+    fn push_local_interaction(&mut self, fields: &[F], counts: &[Count<F>]) -> Mem<()>
+        requires counted { 0 < length counts.now }
+        requires whole { length fields.now % length counts.now ≡ 0 }
+        ensures later { self.new.row ≡ self.old.row }
+        ensures same { row_shape self.new.row ≡ row_shape self.old.row }
+        ensures answers { IsTrue false → IsOk result }
+        ensures grows { (fs : List (Tree F)) (vs : List (CountOf (Tree F))) → Stand (λ x t. EF.embed x ≡ value_at F.ring EF.ring EF.embed self.old.row t) fields.now fs
+            → Stand (StandCount (λ x t. EF.embed x ≡ value_at F.ring EF.ring EF.embed self.old.row t)) counts.now vs
+            → IfOk result (λ _. Adds F.ring EF.ring EF.embed self.old self.new []) }
+    {
+        Ok(())
+    }
+}

@@ -1,0 +1,38 @@
+//! What the gadgets' constraints mean: laws as the contracts of functions that compute nothing.
+//!
+//! They hold over each prime field of more than 2^20 elements, whatever values the cells have.
+ghost use Rattle.std.specs.Prelude.{◌≡◌, ℕ, ◌^◌, ◌<◌};
+ghost use Rattle.p3_air.specs.declared.cells.Cell.{Cell};
+ghost use Rattle.p3_air.specs.declared.cells.ExtCell.{ExtCell};
+ghost use Rattle.p3_air.specs.Words.{cells_reading, Add2Means, Add3Means, XorShiftMeans, PackMeans, BitsMean};
+
+use p3_field::PrimeField64;
+
+/// Where the limbs are below 2^16, the constraints of `add2` are zero exactly where a is b + c modulo 2^32.
+pub fn add2_means<F: PrimeField64>()
+    requires { 2 ^ 20 < F.ORDER_U64 }
+    ensures { (at : Cell → F) (at_ext : ExtCell → F) → Add2Means F.ring (cells_reading F.ring at at_ext) }
+{}
+
+/// Where the limbs are below 2^16, the constraints of `add3` are zero exactly where a is b + c + d modulo 2^32.
+pub fn add3_means<F: PrimeField64>()
+    requires { 2 ^ 20 < F.ORDER_U64 }
+    ensures { (at : Cell → F) (at_ext : ExtCell → F) → Add3Means F.ring (cells_reading F.ring at at_ext) }
+{}
+
+/// Where b has bits, the constraints of `xor_32_shift` are zero exactly where c has bits and the limbs of a are those
+/// of b xor (c rotated to the left by s).
+pub fn xor_32_shift_means<F: PrimeField64>()
+    requires { 2 ^ 20 < F.ORDER_U64 }
+    ensures { (at : Cell → F) (at_ext : ExtCell → F) → XorShiftMeans F.ring (cells_reading F.ring at at_ext) }
+{}
+
+/// The expression of `pack_bits_le` is the number of the bits.
+pub fn pack_bits_le_means<F: PrimeField64>()
+    ensures { (at : Cell → F) (at_ext : ExtCell → F) → PackMeans F.ring (cells_reading F.ring at at_ext) }
+{}
+
+/// The bits of `u32_to_bits_le` are bits, and the word is their number.
+pub fn u32_to_bits_le_means()
+    ensures { (w : ℕ) → w < 2 ^ 32 → BitsMean w }
+{}
