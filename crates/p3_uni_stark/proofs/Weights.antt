@@ -66,7 +66,7 @@ pub first_outside : {F : Type 0} (f : TwoAdic F) (ds : List (CosetData F)) (i j 
 first_outside {F = F} f ds i j x d hi hj differ apart first same is =
     let P : CosetData F → Type 0 = λ e. IsPoint (2 ^ e.log_size) (point f.ring f.root e) (λ v. v) x in
     let (b, below, at) = subst P same is in
-    apart i j hi hj differ 0 b (pow_pos (domain_at f.ring ds i).log_size) below (sym first ∙ at)
+    apart i hi j hj differ 0 b (pow_pos (domain_at f.ring ds i).log_size) below (sym first ∙ at)
 
 -- the product over the domains before domain i
 pub before_is : {F B : Type 0} (r : Ring F) (s : Ring B) (M : RingLaws s) (ds : List (CosetData F)) (i : ℕ) (w : CosetData F → B) → i < length ds

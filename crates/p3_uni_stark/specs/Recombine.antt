@@ -20,10 +20,14 @@ product_but r n i t = r.mul (product r i t) (product r (n - suc i) (λ j. t (suc
 abbrev pub domain_at : {F : Type 0} → Ring F → List (CosetData F) → ℕ → CosetData F
 domain_at r ds i = get_or ds i (record { shift = r.one; log_size = 0 })
 
+-- domain i of the list has no point in common with any other
+abbrev pub IsDisjointFrom : {F : Type 0} → TwoAdic F → List (CosetData F) → ℕ → Type 0
+IsDisjointFrom f ds i = (j : ℕ) → j < length ds → (i ≡ j → ⊥)
+    → AreDisjoint (2 ^ (domain_at f.ring ds i).log_size) (point f.ring f.root (domain_at f.ring ds i)) (2 ^ (domain_at f.ring ds j).log_size) (point f.ring f.root (domain_at f.ring ds j))
+
 -- no two domains of the list have a point in common
 abbrev pub AllDisjoint : {F : Type 0} → TwoAdic F → List (CosetData F) → Type 0
-AllDisjoint f ds = (i j : ℕ) → i < length ds → j < length ds → (i ≡ j → ⊥)
-    → AreDisjoint (2 ^ (domain_at f.ring ds i).log_size) (point f.ring f.root (domain_at f.ring ds i)) (2 ^ (domain_at f.ring ds j).log_size) (point f.ring f.root (domain_at f.ring ds j))
+AllDisjoint f ds = (i : ℕ) → i < length ds → IsDisjointFrom f ds i
 
 -- the weight of chunk i at x: the product over the other domains j of Van_j(x) / Van_j(first point of domain i).
 -- At the points of domain i it is one where the domains are cosets of one group, and at those of the others zero.

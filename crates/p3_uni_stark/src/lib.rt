@@ -24,7 +24,7 @@ pub use folds::{ProverConstraintFolder, VerifierConstraintFolder, prover_fold, v
 pub use openings::{OpeningShape, StarkOpeningLayout, num_batched_openings};
 pub use proof::{OpenedValues, PreprocessedOpenedValues};
 pub use prover_folder::ProverFolder;
-pub use recompose::{recompose_quotient_from_chunks, recomposed_quotient};
+pub use recompose::{are_all_disjoint, recompose_quotient_from_chunks, recomposed_quotient};
 pub use verifier_folder::VerifierFolder;
 
 #[cfg(test)]

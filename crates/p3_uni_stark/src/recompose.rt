@@ -1,18 +1,46 @@
 //! A quotient's value from those of its chunks.
-ghost use Rattle.std.specs.Prelude.{◌≡◌, ℕ, ◌+◌, ◌<◌, ◌^◌, length, map, get_or};
+ghost use Rattle.std.specs.Prelude.{◌≡◌, ℕ, ◌+◌, ◌<◌, ◌^◌, ◌↔◌, IsTrue, length, map, get_or};
 ghost use Rattle.std.specs.List.{All};
 ghost use Rattle.p3_field.specs.Field.{combine};
 ghost use Rattle.p3_field.specs.Poly.{val};
 ghost use Rattle.p3_field.specs.Domain.{van, point};
 ghost use Rattle.p3_commit.specs.Space.{IsPoint};
-ghost use Rattle.p3_uni_stark.specs.Recombine.{product, domain_at, AllDisjoint, chunk_weight, recombined};
+ghost use Rattle.p3_uni_stark.specs.Recombine.{product, domain_at, IsDisjointFrom, AllDisjoint, chunk_weight, recombined};
 
 use crate::config::{Challenge, Domain, StarkGenericConfig};
-use p3_commit::PolynomialSpace;
+use p3_commit::{PolynomialSpace, are_disjoint};
 use p3_field::{
     ExtensionField, Field, FieldCore, PrimeCharacteristicRing, RingCore, TwoAdicCore, TwoAdicField,
     TwoAdicMultiplicativeCoset,
 };
+
+// Whether a domain of the list shares no point with any other of it.
+fn is_disjoint_from_others<F: TwoAdicField>(
+    domains: &[TwoAdicMultiplicativeCoset<F>],
+    index: usize,
+) -> bool
+    requires { index < length domains.now }
+    ensures { IsTrue result ↔ IsDisjointFrom (record { ring = F.ring; inv = F.inv; root = F.root; generator = F.GENERATOR }) domains.now index }
+{
+    for (other, domain) in domains.iter().enumerate() {
+        if other != index && !are_disjoint(&domains[index], domain) {
+            return false;
+        }
+    }
+    true
+}
+
+/// Whether no two domains of the list share a point.
+pub fn are_all_disjoint<F: TwoAdicField>(domains: &[TwoAdicMultiplicativeCoset<F>]) -> bool
+    ensures { IsTrue result ↔ AllDisjoint (record { ring = F.ring; inv = F.inv; root = F.root; generator = F.GENERATOR }) domains.now }
+{
+    for index in 0..domains.len() {
+        if !is_disjoint_from_others(domains, index) {
+            return false;
+        }
+    }
+    true
+}
 
 // The product of the domains' vanishing polynomials at a point, which isn't zero outside of all of them.
 fn vanishing_product<F: TwoAdicField, EF: ExtensionField<F>>(
@@ -59,7 +87,8 @@ fn chunk_value<F: TwoAdicField, EF: ExtensionField<F>>(values: &[EF]) -> EF
 
 /// The value at a point of a quotient whose chunks have the values `chunks` there: for each chunk the values of its
 /// coefficient columns, as many as the larger field has dimensions. Chunk i's polynomials agree with the quotient on
-/// domain i, and no two domains share a point (`recompose_quotient_from_chunks` of `p3-uni-stark`).
+/// domain i, and no two domains share a point (test:
+/// `are_all_disjoint`; `recompose_quotient_from_chunks` of `p3-uni-stark`).
 pub fn recomposed_quotient<F: TwoAdicField, EF: ExtensionField<F>>(
     domains: &[TwoAdicMultiplicativeCoset<F>],
     chunks: &[Vec<EF>],
