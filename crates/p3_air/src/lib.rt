@@ -34,4 +34,6 @@ pub use recorder::InteractionSymbolicBuilder;
 pub use symbolic::{SymbolicExpression, constraint_degree_from_poly_degree};
 
 #[cfg(test)]
+mod gadget_tests;
+#[cfg(test)]
 mod tests;
