@@ -5,7 +5,10 @@ use std::test::Fail;
 #[test]
 fn a_claim_of_pairs(rt: HostRuntime) -> Result<(), Fail> {
     let alloc = rt.alloc();
-    let points = vec![in alloc; (3u64, vec![in alloc; 5u64, 9]?), (4, vec![in alloc; 6, 7]?)]?;
+    let points = vec![in alloc;
+        (3u64, vec![in alloc; 5u64, 9]?),
+        (4, vec![in alloc; 6, 7]?),
+    ]?;
     let claim = CommitmentOpening::from_tuple(alloc, (1u64, vec![in alloc; (2u64, points)]?))?;
     assert_eq!(rt; claim.commitment, 1);
     assert_eq!(rt; claim.matrices.len(), 1);

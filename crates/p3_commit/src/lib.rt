@@ -33,7 +33,7 @@ pub use extension_mmcs::{ExtensionMmcs, ExtensionMmcsData};
 pub use failure::PcsFailure;
 pub use mmcs::{BatchOpening, BatchOpeningRef, Mmcs};
 pub use multilinear::MultilinearPcs;
-pub use pcs::Pcs;
+pub use pcs::{Pcs, Val};
 pub use periodic::{PeriodicColumnShapeError, PeriodicColumns};
 pub use periodic_evaluator::PeriodicEvaluator;
 pub use periodic_table::PeriodicLdeTable;

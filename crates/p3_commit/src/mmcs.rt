@@ -1,5 +1,5 @@
 //! Schemes that commit to matrices and open their rows.
-ghost use Rattle.std.specs.Prelude.{◌≡◌, ℕ, ◌<◌, List, [], ◌∷◌, length, map, All, IfOk, MatchOption};
+ghost use Rattle.std.specs.Prelude.{◌≡◌, ℕ, ◌<◌, List, [], ◌∷◌, length, map, All, IfOk, MatchOption, ⊤};
 ghost use Rattle.std.specs.Int.{IsPowerOfTwo};
 ghost use Rattle.p3_matrix.specs.Matrix.{Rows, height};
 ghost use Rattle.p3_matrix.specs.declared.dense.Dimensions.{Dimensions};
@@ -10,7 +10,7 @@ ghost use Rattle.p3_commit.specs.Batches.{lists, IsBatch, IsRowOf, AreRowsAt, di
 use crate::failure::PcsFailure;
 use p3_field::Mem;
 use p3_matrix::{Dimensions, RowMajorMatrix};
-use std::alloc::Global;
+use std::alloc::{AllocError, Global};
 
 /// A scheme that commits to a batch of matrices and opens a row of each (`Mmcs` of `p3-commit`: a mixed matrix commitment
 /// scheme).
@@ -186,7 +186,6 @@ pub struct BatchOpening<T: Copy + Eq, M: Mmcs<T>> {
 }
 
 /// The same, borrowed (`BatchOpeningRef` of `p3-commit`).
-#[derive(Clone, Copy)]
 pub struct BatchOpeningRef<'a, T: Copy + Eq, M: Mmcs<T>> {
     /// A row of each matrix.
     pub opened_values: &'a [Vec<T>],
@@ -218,6 +217,18 @@ impl<T: Copy + Eq, M: Mmcs<T>> BatchOpening<T, M> {
         (opened_values, opening_proof)
     }
 }
+
+impl<'a, T: Copy + Eq, M: Mmcs<T>> Clone for BatchOpeningRef<'a, T, M> {
+    ghost is_clone = { λ x y. y ≡ x };
+
+    ghost is_infallible = { λ _. ⊤ };
+
+    fn clone(&self) -> Result<Self, AllocError> {
+        Ok(*self)
+    }
+}
+
+impl<'a, T: Copy + Eq, M: Mmcs<T>> Copy for BatchOpeningRef<'a, T, M> {}
 
 impl<'a, T: Copy + Eq, M: Mmcs<T>> BatchOpeningRef<'a, T, M> {
     /// The opening of these rows with this proof.

@@ -16,6 +16,9 @@ use p3_field::{
 use p3_matrix::RowMajorMatrix;
 use std::alloc::Global;
 
+/// The field of a domain's points and values.
+pub type Val<D> = <D as PolynomialSpace>::Val;
+
 /// A scheme that commits to matrices of values on domains, read as polynomials column by column, and proves their
 /// values at points (`Pcs` of `p3-commit`).
 pub trait Pcs<Challenge, Challenger>

@@ -2,6 +2,9 @@
 //! opening. That the verifier accepts, and what the values are, follows from the laws of `Pcs` alone.
 #![tactic(auto)]
 
+mod agreeing;
+mod rows;
+
 ghost use Rattle.std.specs.Prelude.{◌≡◌, ◌⊎◌, ℕ, ◌<◌, List, [], ◌∷◌, length, get_or, IfOk, IsTrue, IsSome, IfSome};
 ghost use Rattle.p3_matrix.specs.Matrix.{Rows, column};
 ghost use Rattle.p3_matrix.specs.Interpolation.{IsInterpolatedAt};
@@ -10,6 +13,7 @@ ghost use Rattle.p3_commit.specs.Failure.{IfRefused};
 ghost use Rattle.p3_commit.specs.Commitments.{Committed, Held, nested, values_of};
 ghost use Rattle.p3_commit_caller.specs.Single.{claim_of, AreValues};
 
+pub use agreeing::committed_alike;
 use p3_commit::{
     CommitmentOpening, MatrixOpening, OpenedValues, OpeningRequest, Pcs, PcsFailure, PointOpening,
     PolynomialSpace,
@@ -19,6 +23,7 @@ use p3_field::{
     TwoAdicCore,
 };
 use p3_matrix::RowMajorMatrix;
+pub use rows::{committed_and_opened, twice};
 use std::alloc::Global;
 
 // The list of one item.
