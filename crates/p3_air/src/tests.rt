@@ -1,12 +1,14 @@
 //! Worked values, by hand from the rules.
-ghost use Rattle.std.specs.Prelude.{◌≡◌, ◌<◌, IfOk, length};
+ghost use Rattle.std.specs.Prelude.{◌≡◌, ◌<◌, [], ◌∷◌, IfOk, length};
+ghost use Rattle.p3_air.specs.Degree.{HasPeriod};
+ghost use Rattle.p3_air.specs.declared.node.Node.TheVariants.{Base};
 ghost use Rattle.p3_air.specs.Layout.{layout_shape};
 ghost use Rattle.p3_air.specs.Shape.{Declares, DeclaresExt};
 
 use crate::examples::SwapAir;
 use crate::{
     Air, AirBuilder, AirLayout, Cell, ConstraintLayout, ExtCell, ExtensionBuilder,
-    InteractionSymbolicBuilder, PermutationAirBuilder, SymbolicExpression,
+    InteractionSymbolicBuilder, Node, PermutationAirBuilder, SymbolicExpression,
     constraint_degree_from_poly_degree,
 };
 use p3_field::{BabyBear, FieldCore, Mem, RingCore};
@@ -131,6 +133,39 @@ fn degrees_stop_at_the_greatest(rt: HostRuntime) -> Result<(), Fail> {
     }
     assert_eq!(rt; constraint_degree_from_poly_degree(17, 8), 3);
     assert_eq!(rt; constraint_degree_from_poly_degree(16, 8), 2);
+    Ok(())
+}
+
+// The expression that is this cell alone.
+fn of_cell(alloc: Global, cell: Cell) -> Mem<SymbolicExpression<BabyBear>>
+    ensures { IfOk result (λ e. e ≡ Base cell ∷ []) }
+{
+    let mut nodes = Vec::new(alloc);
+    nodes.push(Node::Base(cell))?;
+    Ok(SymbolicExpression::new(nodes))
+}
+
+// The degree of a cell over 8 rows, where the only periodic column has period 2.
+fn degree_over_eight_rows(alloc: Global, cell: Cell) -> Mem<usize>
+    requires { HasPeriod (2 ∷ []) cell }
+{
+    let expression = of_cell(alloc, cell)?;
+    Ok(expression.poly_degree(8, &[2]))
+}
+
+// A column has degree 7 over 8 rows; one of period 2 has its two values four times: 1 * 4.
+#[test]
+fn degrees_over_a_domain(rt: HostRuntime) -> Result<(), Fail> {
+    let alloc = rt.alloc();
+    let main = Cell::Main {
+        next: false,
+        column: 0,
+    };
+    assert_eq!(rt; degree_over_eight_rows(alloc, main)?, 7);
+    assert_eq!(rt; degree_over_eight_rows(alloc, Cell::Periodic(0))?, 4);
+    assert_eq!(rt; degree_over_eight_rows(alloc, Cell::Transition)?, 1);
+    assert_eq!(rt; degree_over_eight_rows(alloc, Cell::LastRow)?, 7);
+    assert_eq!(rt; degree_over_eight_rows(alloc, Cell::Public(0))?, 0);
     Ok(())
 }
 

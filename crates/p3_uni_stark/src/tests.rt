@@ -5,7 +5,9 @@ use crate::{
     InvalidProofShapeError, OpeningShape, StarkOpeningLayout, are_all_disjoint,
     num_batched_openings, recomposed_quotient, validate_degree_bits,
 };
-use p3_field::{BabyBear, Mem, QuarticExtension, RingCore, TwoAdicCore, TwoAdicMultiplicativeCoset};
+use p3_field::{
+    BabyBear, Mem, QuarticExtension, RingCore, TwoAdicCore, TwoAdicMultiplicativeCoset,
+};
 use std::alloc::Global;
 use std::test::Fail;
 
@@ -41,7 +43,10 @@ fn counts_of_openings(rt: HostRuntime) -> Result<(), Fail> {
     let circle = num_batched_openings(100, true, 0, false, 2, 4, OpeningShape::Circle);
     assert_eq!(rt; circle, 416);
     let layout = StarkOpeningLayout::new(true);
-    assert_eq!(rt; (layout.trace, layout.quotient, layout.preprocessed), (1, 2, 3));
+    assert_eq!(rt;
+        (layout.trace, layout.quotient, layout.preprocessed),
+        (1, 2, 3)
+    );
     Ok(())
 }
 
