@@ -56,9 +56,9 @@ fn chunk(alloc: Global, first: u64) -> Mem<Vec<QuarticExtension>>
 {
     let mut values = Vec::new(alloc);
     values.push(QuarticExtension::from_u64(first))?;
-    for _ in 0..3 {
-        values.push(QuarticExtension::ZERO)?;
-    }
+    values.push(QuarticExtension::ZERO)?;
+    values.push(QuarticExtension::ZERO)?;
+    values.push(QuarticExtension::ZERO)?;
     Ok(values)
 }
 
