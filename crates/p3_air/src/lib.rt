@@ -37,3 +37,5 @@ pub use symbolic::{SymbolicExpression, constraint_degree_from_poly_degree};
 mod gadget_tests;
 #[cfg(test)]
 mod tests;
+#[cfg(test)]
+mod wheel_tests;
