@@ -33,11 +33,12 @@ cell_value z embed p FirstRow = p.first_row
 cell_value z embed p LastRow = p.last_row
 cell_value z embed p Transition = p.transition
 
--- the reading of constraints at the point. A table without lookups has no cells of the extension; they read as zero.
+-- the reading of constraints at the point. A table without lookups has no permutation columns and no challenges, and
+-- its terminal is the empty sum: cells of the extension read as zero.
 abbrev pub reading : {F E : Type 0} → Ring E → (F → E) → PointValues F E → Reading F E
 reading s embed p = record { from = embed; add = s.add; sub = sub s; mul = s.mul; at = cell_value s.zero embed p; at_ext = λ _. s.zero }
 
--- the cells that are there: a next row's column where that row has it
+-- the cells that are there: a next row's column where that row has it, and the terminal
 abbrev pub point_shape : {F E : Type 0} → PointValues F E → Shape
 point_shape p = record {
   main = length p.main_local;
@@ -48,7 +49,7 @@ point_shape p = record {
   public = length p.public;
   permutation = 0;
   challenges = 0;
-  terminals = 0;
+  terminals = 1;
 }
 
 -- values over F as values over E
