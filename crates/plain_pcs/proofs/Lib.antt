@@ -1,0 +1,12 @@
+pub mod Finding
+pub mod Parts
+pub mod Lists
+pub mod Commitments
+pub mod Transfers
+pub mod Evaluated
+pub mod PeriodicTables
+mod Openings
+mod Places
+mod Heights
+mod Folding
+mod TwoColumns

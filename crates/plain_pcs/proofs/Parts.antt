@@ -1,0 +1,201 @@
+-- The checks of the claims on a matrix and on a commitment, by what the search for the first fault finds.
+use Rattle.std.proofs.Common.{◌≡◌, ℕ, zero, suc, ◌+◌, ◌*◌, ◌%◌, ◌^◌, ◌<◌, ◌≤◌, ◌↔◌, inl, inr, List, [], ◌∷◌, ◌++◌, Option, Some, None, length, get_or, map, refl, sym, ◌∙◌, ap, subst, arith}
+use Rattle.std.specs.Prelude.{All, Bool, true, false, IsTrue, slice_get, flat_map, zip}
+use Rattle.std.proofs.lemmas.Bool.{cases_lt}
+use Rattle.std.proofs.lemmas.Grind.{one_shifted}
+use Rattle.std.proofs.lemmas.List.{get_or-map}
+use Rattle.std.proofs.lemmas.Option.{same_Some}
+use Rattle.p3_field.specs.Ring.{Ring, RingLaws}
+use Rattle.p3_field.specs.Field.{FieldLaws, TwoAdicLaws}
+use Rattle.p3_field.specs.Poly.{val, table, Apart, DegreeBelow}
+use Rattle.p3_field.specs.Domain.{CosetData, point, IsInterpolant}
+use Rattle.p3_field.specs.Laws.Interpolants.{interpolant_unique, points_apart}
+use Rattle.p3_matrix.specs.Matrix.{Rows, height, column}
+use Rattle.p3_matrix.specs.Laws.Cells.{length-column}
+use Rattle.p3_commit.specs.Claims.{PointClaim, MatrixClaim, CommitmentClaim}
+use Rattle.plain_pcs.specs.Scheme.{Scheme, scheme, PlainCommitmentData}
+use Rattle.plain_pcs.specs.Extension.{extended_domain}
+use Rattle.plain_pcs.specs.Checks.{Check, HasDimensions, Holds, NoneFails, FirstFails, same_count, dimensions, low_degree, has_value, numbered, point_checks, matrix_checks, round_checks}
+use Rattle.plain_pcs.specs.Faults.{FirstFault, LeastWithout, AreColumnPolynomials}
+use Rattle.plain_pcs.specs.declared.error.PlainError.{PlainError}
+use Rattle.plain_pcs.specs.declared.error.PlainError.TheVariants.{RoundShape, Dimensions, Degree, Value}
+use Rattle.plain_pcs.proofs.Finding.{none_by, first_by, first_here, first_later, first_stops, fault_after, fault_later}
+
+-- the item of a map, by the item itself
+pub item_of_map : {F C : Type 0} (items : C → List F) (xs : List C) (j : ℕ) (x : C) (l : List F) → j < length xs → x ≡ get_or xs j x → l ≡ items x → l ≡ get_or (map items xs) j []
+item_of_map items xs j x l h e f = f ∙ (ap items e ∙ sym (get_or-map items xs j x [] h))
+
+-- what holds of each item before place n and of the item there, holds of each before place n + 1
+pub one_more : {A : Type 0} (xs : List A) (n : ℕ) (x : A) (P : ℕ → A → Type 0) → slice_get xs n ≡ Some x → ((i : ℕ) (y : A) → i < n → slice_get xs i ≡ Some y → P i y) → P n x
+    → (i : ℕ) (y : A) → i < n + 1 → slice_get xs i ≡ Some y → P i y
+one_more xs n x P here before p i y lt q = elim (cases_lt i n) [
+  | inl a ↦ before i y a q
+  | inr a ↦
+      let at : n ≡ i = omega arith in
+      let same : x ≡ y = same_Some x y (sym here ∙ (ap (slice_get xs) at ∙ q)) in
+      subst (λ j. P j y) at (subst (P n) same p)
+]
+
+pub zip_within : {A B : Type 0} (xs : List A) (ys : List B) (i : ℕ) (z : A × B) → slice_get (zip xs ys) i ≡ Some z → i < length ys
+zip_within [] ys i z q = absurd cc
+zip_within (x ∷ xs) [] i z q = absurd cc
+zip_within (x ∷ xs) (y ∷ ys) zero z q = omega arith
+zip_within (x ∷ xs) (y ∷ ys) (suc i) z q = let h = zip_within xs ys i z q in omega arith
+
+-- the items of two lists at the same place
+pub zip_here : {A B : Type 0} (xs : List A) (ys : List B) (i : ℕ) (x : A) (y : B) → slice_get xs i ≡ Some x → slice_get ys i ≡ Some y → slice_get (zip xs ys) i ≡ Some (x, y)
+zip_here [] ys i x y p q = absurd cc
+zip_here (a ∷ xs) [] i x y p q = absurd cc
+zip_here (a ∷ xs) (b ∷ ys) zero x y p q = ap (λ v. Some (v, b)) (same_Some a x p) ∙ ap (λ v. Some (x, v)) (same_Some b y q)
+zip_here (a ∷ xs) (b ∷ ys) (suc i) x y p q = zip_here xs ys i x y p q
+
+-- a test that fails
+pub not_told : (told : Bool) (H : Type 0) → IsTrue told ↔ H → told ≡ false → H → ⊥
+not_told told H same e h = let t : told ≡ true = same.1 h in cc
+
+pub size_of_shift : (k top : ℕ) → k ≤ top → top < 64 → 1 * 2 ^ k % 18446744073709551616 ≡ 2 ^ k
+size_of_shift k top h t = let b : k < 64 = omega arith in (one_shifted k 18446744073709551615 refl b).0
+
+-- the interpolants of the columns are their polynomials
+module _ {F : Type 0} (r : Ring F) (L : RingLaws r) (inv : F → F) (W : FieldLaws r inv) (top : ℕ) (root : ℕ → F) (T : TwoAdicLaws r top root) where
+  pub all_polynomials : (generator : F) (b k : ℕ) (m : Rows F) (fs : List (List F)) → (generator ≡ r.zero → ⊥) → k + b ≤ top → height m ≡ 2 ^ (k + b) → length fs ≡ m.width
+      → ((j : ℕ) → j < m.width → IsInterpolant r (point r root (record { shift = generator; log_size = k + b })) (column r.zero m j) (get_or fs j []))
+      → AreColumnPolynomials (scheme r inv root generator top (record { log_blowup = b })) m k fs
+  all_polynomials generator b k m fs nz fits rows count each =
+      let d : CosetData F = record { shift = generator; log_size = k + b } in
+      let p = point r root d in
+      let apart : Apart (2 ^ (k + b)) p = points_apart r L inv W top root T d fits nz in
+      let P : ℕ → Type 0 = λ n. Apart n p in
+      record {
+        count = count;
+        each = each;
+        only = λ j f lt i.
+            let v = column r.zero m j in
+            interpolant_unique r L inv W p v (get_or fs j []) f (subst P (sym (length-column r.zero m j ∙ rows)) apart) (each j lt) i;
+      }
+
+-- the same polynomials by other words
+pub polynomials_at : {F V : Type 0} (items : V → List F) (s : Scheme F) (m : Rows F) (k n : ℕ) (vs ws : List V) → AreColumnPolynomials s m k (map items vs) → k ≡ n → ws ≡ vs
+    → AreColumnPolynomials s m n (map items ws)
+polynomials_at {F} {V} items s m k n vs ws A e f =
+    let P : List V → Type 0 = λ l. AreColumnPolynomials s m n (map items l) in
+    subst P (sym f) (subst (λ k. AreColumnPolynomials s m k (map items vs)) e A)
+
+-- what holds of the polynomial at hand, holds of the column's
+pub by_polynomial : {F : Type 0} (s : Scheme F) (m : Rows F) (k : ℕ) (fs : List (List F)) (j : ℕ) (P : List F → Type 0) → AreColumnPolynomials s m k fs → j < m.width
+    → P (get_or fs j []) ↔ ((f : List F) × IsInterpolant s.field.ring (point s.field.ring s.field.root (extended_domain s k)) (column s.field.ring.zero m j) f × P f)
+by_polynomial s m k fs j P A lt = (λ p. (get_or fs j [], A.each j lt, p), λ h. let (f, i, q) = h in subst P (sym (A.only j f lt i)) q)
+
+module _ {F E : Type 0} (s : Scheme F) (ring : Ring E) (embed : F → E) (m : Rows F) (k : ℕ) (fs : List (List F)) (A : AreColumnPolynomials s m k fs) where
+  abbrev degree_check : ℕ → ℕ → ℕ → Check F E
+  degree_check round number j = record { error = Degree round number j; fact = low_degree m k j }
+
+  abbrev Low : ℕ → ℕ → Type 0
+  Low bound j = DegreeBelow s.field.ring bound (get_or fs j [])
+
+  low_same : (j : ℕ) → j < m.width → Low (2 ^ k) j ↔ Holds s ring embed (low_degree m k j)
+  low_same j lt = by_polynomial s m k fs j (λ f. DegreeBelow s.field.ring (2 ^ k) f) A lt
+
+  low_here : (n bound : ℕ) (a : Option ℕ) → n ≡ length fs → bound ≡ 2 ^ k → LeastWithout (Low bound) n a → LeastWithout (Low (2 ^ k)) m.width a
+  low_here n bound a e f h = subst (λ b. LeastWithout (Low b) m.width a) f (subst (λ n. LeastWithout (Low bound) n a) (e ∙ A.count) h)
+
+  pub no_high_degree : (round number n bound : ℕ) → n ≡ length fs → bound ≡ 2 ^ k → LeastWithout (λ j. DegreeBelow s.field.ring bound (get_or fs j [])) n None
+      → NoneFails s ring embed (table m.width (λ j. record { error = Degree round number j; fact = low_degree m k j }))
+  no_high_degree round number n bound e f h = none_by s ring embed m.width (degree_check round number) (Low (2 ^ k)) low_same (low_here n bound None e f h)
+
+  pub high_degree : (round number n bound j : ℕ) → n ≡ length fs → bound ≡ 2 ^ k → LeastWithout (λ j. DegreeBelow s.field.ring bound (get_or fs j [])) n (Some j)
+      → FirstFails s ring embed (table m.width (λ j. record { error = Degree round number j; fact = low_degree m k j })) (Degree round number j)
+  high_degree round number n bound j e f h = first_by s ring embed m.width (degree_check round number) (Low (2 ^ k)) j low_same (low_here n bound (Some j) e f h)
+
+  module _ (round number at : ℕ) (p : PointClaim E) where
+    abbrev value_check : ℕ → Check F E
+    value_check j = record { error = Value round number at j; fact = has_value m k j p.point (get_or p.values j ring.zero) }
+
+    abbrev Claimed : List E → ℕ → Type 0
+    Claimed ys j = val ring (map embed (get_or fs j [])) p.point ≡ get_or ys j ring.zero
+
+    value_same : (j : ℕ) → j < m.width → Claimed p.values j ↔ Holds s ring embed (has_value m k j p.point (get_or p.values j ring.zero))
+    value_same j lt = by_polynomial s m k fs j (λ f. val ring (map embed f) p.point ≡ get_or p.values j ring.zero) A lt
+
+    value_here : (n : ℕ) (x : E) (ys : List E) (a : Option ℕ) → n ≡ length fs → x ≡ p.point → ys ≡ p.values
+        → LeastWithout (λ j. val ring (map embed (get_or fs j [])) x ≡ get_or ys j ring.zero) n a → LeastWithout (Claimed p.values) m.width a
+    value_here n x ys a e d f h =
+        subst (λ l. LeastWithout (Claimed l) m.width a) f
+        (subst (λ v. LeastWithout (λ j. val ring (map embed (get_or fs j [])) v ≡ get_or ys j ring.zero) m.width a) d
+        (subst (λ n. LeastWithout (λ j. val ring (map embed (get_or fs j [])) x ≡ get_or ys j ring.zero) n a) (e ∙ A.count) h))
+
+    pub no_wrong_value : (n : ℕ) (x : E) (ys : List E) → n ≡ length fs → x ≡ p.point → ys ≡ p.values
+        → LeastWithout (λ j. val ring (map embed (get_or fs j [])) x ≡ get_or ys j ring.zero) n None → NoneFails s ring embed (point_checks ring.zero round number m k (at, p))
+    no_wrong_value n x ys e d f h = none_by s ring embed m.width value_check (Claimed p.values) value_same (value_here n x ys None e d f h)
+
+    pub wrong_value : (n : ℕ) (x : E) (ys : List E) (j : ℕ) → n ≡ length fs → x ≡ p.point → ys ≡ p.values
+        → LeastWithout (λ j. val ring (map embed (get_or fs j [])) x ≡ get_or ys j ring.zero) n (Some j)
+        → FirstFails s ring embed (point_checks ring.zero round number m k (at, p)) (Value round number at j)
+    wrong_value n x ys j e d f h = first_by s ring embed m.width value_check (Claimed p.values) j value_same (value_here n x ys (Some j) e d f h)
+
+-- widths by other words
+pub widths_here : {E : Type 0} (points claimed : List (PointClaim E)) (w n : ℕ) → points ≡ claimed → n ≡ w → All (λ p. length p.values ≡ w) claimed → All (λ p. length p.values ≡ n) points
+widths_here {E} points claimed w n e f h =
+    let P : List (PointClaim E) → Type 0 = λ ps. All (λ p. length p.values ≡ n) ps in
+    let Q : ℕ → Type 0 = λ n. All (λ p. length p.values ≡ n) claimed in
+    subst P (sym e) (subst Q (sym f) h)
+
+-- the test of dimensions, by its parts
+pub dimensions_by : {F E : Type 0} (s : Scheme F) (ring : Ring E) (embed : F → E) (m : Rows F) (c : MatrixClaim E (CosetData F)) (told : Bool) (w : ℕ) (points : List (PointClaim E))
+    → c.domain.log_size + s.log_blowup ≤ s.most → height m ≡ 2 ^ (c.domain.log_size + s.log_blowup) → w ≡ m.width → points ≡ c.points
+    → IsTrue told ↔ All (λ p. length p.values ≡ w) points → IsTrue told ↔ HasDimensions s ring embed m c
+dimensions_by {F} {E} s ring embed m c told w points fits rows e f h =
+    let W : ℕ → Type 0 = λ w. IsTrue told ↔ All (λ p. length p.values ≡ w) points in
+    let P : List (PointClaim E) → Type 0 = λ ps. IsTrue told ↔ All (λ p. length p.values ≡ m.width) ps in
+    let same = subst P f (subst W e h) in
+    (λ t. record { fits = fits; height_is = rows; widths_are = same.0 t }, λ d. same.1 d.widths_are)
+
+module _ {F E : Type 0} (s : Scheme F) (ring : Ring E) (embed : F → E) where
+  module _ (round number : ℕ) (m : Rows F) (c : MatrixClaim E (CosetData F)) where
+    abbrev degrees : List (Check F E)
+    degrees = table m.width (λ j. record { error = Degree round number j; fact = low_degree m c.domain.log_size j })
+
+    abbrev values : List (Check F E)
+    values = flat_map (point_checks ring.zero round number m c.domain.log_size) (numbered c.points)
+
+    abbrev head : Check F E
+    head = record { error = Dimensions round number; fact = dimensions m c }
+
+    pub wrong_dimensions : (HasDimensions s ring embed m c → ⊥) → FirstFails s ring embed (matrix_checks ring.zero round (number, (m, c))) (Dimensions round number)
+    wrong_dimensions n = first_here s ring embed head (degrees ++ values) n
+
+    pub after_dimensions : (e : PlainError) → HasDimensions s ring embed m c → FirstFails s ring embed degrees e → FirstFails s ring embed (matrix_checks ring.zero round (number, (m, c))) e
+    after_dimensions e h f = first_later s ring embed head (degrees ++ values) e h (first_stops s ring embed degrees values e f)
+
+    pub after_degrees : (points : List (PointClaim E)) (a : Option PlainError) → HasDimensions s ring embed m c → NoneFails s ring embed degrees → points ≡ c.points
+        → FirstFault s ring embed (flat_map (point_checks ring.zero round number m c.domain.log_size) (numbered points)) a
+        → FirstFault s ring embed (matrix_checks ring.zero round (number, (m, c))) a
+    after_degrees points a h n q f =
+        let P : List (PointClaim E) → Type 0 = λ ps. FirstFault s ring embed (flat_map (point_checks ring.zero round number m c.domain.log_size) (numbered ps)) a in
+        fault_later s ring embed head (degrees ++ values) a h (fault_after s ring embed degrees values a n (subst P q f))
+
+  module _ (round : ℕ) (c : CommitmentClaim E (PlainCommitmentData F) (CosetData F)) where
+    abbrev parts : List (Check F E)
+    parts = flat_map (matrix_checks ring.zero round) (numbered (zip c.commitment.matrices c.matrices))
+
+    abbrev shape : Check F E
+    shape = record { error = RoundShape round; fact = same_count (length c.commitment.matrices) (length c.matrices) }
+
+    pub wrong_shape : (length c.commitment.matrices ≡ length c.matrices → ⊥) → FirstFails s ring embed (round_checks ring.zero (round, c)) (RoundShape round)
+    wrong_shape n = first_here s ring embed shape parts n
+
+    pub after_shape : (ms : List (Rows F)) (a : Option PlainError) → ms ≡ c.commitment.matrices → length c.commitment.matrices ≡ length c.matrices
+        → FirstFault s ring embed (flat_map (matrix_checks ring.zero round) (numbered (zip ms c.matrices))) a → FirstFault s ring embed (round_checks ring.zero (round, c)) a
+    after_shape ms a q e f =
+        let P : List (Rows F) → Type 0 = λ ms. FirstFault s ring embed (flat_map (matrix_checks ring.zero round) (numbered (zip ms c.matrices))) a in
+        fault_later s ring embed shape parts a e (subst P q f)
+
+  -- the first fault of the claim of a commitment, by the claim's parts
+  pub along_claim : (round : ℕ) (commitment : PlainCommitmentData F) (items claims : List (MatrixClaim E (CosetData F))) (x : CommitmentClaim E (PlainCommitmentData F) (CosetData F)) (a b : Option PlainError)
+      → claims ≡ items → record { commitment = commitment; matrices = items } ≡ x → a ≡ b
+      → FirstFault s ring embed (round_checks ring.zero (round, record { commitment = commitment; matrices = claims })) a → FirstFault s ring embed (round_checks ring.zero (round, x)) b
+  along_claim round commitment items claims x a b e q d f =
+      let P : List (MatrixClaim E (CosetData F)) → Type 0 = λ l. FirstFault s ring embed (round_checks ring.zero (round, record { commitment = commitment; matrices = l })) a in
+      let Q : CommitmentClaim E (PlainCommitmentData F) (CosetData F) → Type 0 = λ v. FirstFault s ring embed (round_checks ring.zero (round, v)) a in
+      let R : Option PlainError → Type 0 = λ o. FirstFault s ring embed (round_checks ring.zero (round, x)) o in
+      subst R d (subst Q q (subst P e f))

@@ -1,0 +1,28 @@
+use Rattle.std.proofs.Common.{◌≡◌, ◌∙◌, true, false, refl, sym, subst}
+use Rattle.std.specs.Prelude.{All}
+use Rattle.std.specs.Int.{IsPowerOfTwo}
+use Rattle.p3_matrix.specs.Matrix.{height}
+use Rattle.p3_commit.specs.Batches.{lists, IsRowOf}
+use Rattle.plain_pcs.specs.PlainMmcs.{HasShape, AreTheRows}
+use Rattle.plain_pcs.proofs.plain_mmcs.PlainMmcsMmcs.verify_batch.Goals as goal
+
+pub are_the_rows-requires-clause-powers : goal.are_the_rows-requires-clause-powers
+are_the_rows-requires-clause-powers g c =
+    subst (λ l. All (λ m. IsPowerOfTwo (height m)) l) (c.deref.ensures.value ∙ sym c.deref-3.ensures.value) (c.if-not-has_shape.ensures.0 refl).dimensions.powers
+
+pub returns-then-not-are_the_rows : goal.returns-then-not-are_the_rows
+returns-then-not-are_the_rows g c =
+    let rows = lists c.args.opening.opened_values.now in (
+      subst (λ l. HasShape l c.args.dimensions.now rows) c.deref.ensures.value (c.if-not-has_shape.ensures.0 refl),
+      subst (λ l. IsRowOf l c.args.index) c.deref-2.ensures.value (c.if-not-is_row.ensures.0 refl),
+      λ v. let e : false ≡ true = c.if-not-are_the_rows.ensures.1 (subst (λ l. AreTheRows g.T.PartialEq.eq l c.args.index rows) (sym c.deref-3.ensures.value) v) in cc,
+    )
+
+pub returns : goal.returns
+returns g c =
+    let rows = lists c.args.opening.opened_values.now in
+    record {
+      shape = subst (λ l. HasShape l c.args.dimensions.now rows) c.deref.ensures.value (c.if-not-has_shape.ensures.0 refl);
+      place = subst (λ l. IsRowOf l c.args.index) c.deref-2.ensures.value (c.if-not-is_row.ensures.0 refl);
+      values = subst (λ l. AreTheRows g.T.PartialEq.eq l c.args.index rows) c.deref-3.ensures.value (c.if-not-are_the_rows.ensures.0 refl);
+    }

@@ -1,0 +1,12 @@
+-- What is proved of the definitions, by subject.
+pub mod Scheme
+pub mod Checks
+pub mod Shifted
+pub mod Evaluations
+pub mod Extensions
+pub mod Listed
+pub mod Short
+pub mod Held
+pub mod Honest
+pub mod Faults
+pub mod Claims

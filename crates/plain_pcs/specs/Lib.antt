@@ -1,0 +1,14 @@
+pub mod Scheme
+pub mod Extension
+pub mod Checks
+pub mod Holding
+pub mod Refusals
+pub mod Observing
+pub mod Faults
+pub mod Cosets
+pub mod Transfer
+pub mod Opening
+pub mod PlainMmcs
+pub mod Multilinear
+pub mod PlainMultilinear
+pub mod Laws

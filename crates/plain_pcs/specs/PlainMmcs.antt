@@ -1,0 +1,60 @@
+-- Openings of matrices that are themselves the commitment.
+use Rattle.std.specs.Prelude.{◌≡◌, ℕ, List, Bool, IsTrue, length, map, All}
+use Rattle.std.specs.Int.{IsPowerOfTwo}
+use Rattle.std.specs.Cmp.Lexicographic.{pointwise}
+use Rattle.p3_matrix.specs.Matrix.{Rows, height, row_at}
+use Rattle.p3_matrix.specs.declared.dense.Dimensions.{Dimensions as Size}
+use Rattle.p3_commit.specs.Periodic.{IsGreatest, EachFrom}
+use Rattle.p3_commit.specs.Batches.{IsRowOf, row_in, dimensions_of, HaveWidths}
+use Rattle.plain_pcs.specs.declared.plain_mmcs.PlainMmcsError.{PlainMmcsError}
+use Rattle.plain_pcs.specs.declared.plain_mmcs.PlainMmcsError.TheVariants.{Dimensions, Index, Value}
+
+-- the widths and heights are those of the matrices, and each height is a power of two
+pub record AreDimensions {T : Type 0} (ms : List (Rows T)) (ds : List Size) : Type 0 where
+  pub same : ds ≡ dimensions_of ms
+  pub powers : All (λ m. IsPowerOfTwo (height m)) ms
+
+-- the shape of an opening is that of the matrices: the dimensions, and a row for each, as long as it is wide
+pub record HasShape {T : Type 0} (ms : List (Rows T)) (ds : List Size) (rows : List (List T)) : Type 0 where
+  pub dimensions : AreDimensions ms ds
+  pub widths : HaveWidths ds rows
+
+-- the values of a row are those of row i of the matrix, by their ==
+abbrev pub IsRow : {T : Type 0} → (T → T → Bool) → ℕ → Rows T → List T → Type 0
+IsRow eq i m row = IsTrue (pointwise eq row (row_at m i))
+
+-- the rows are of each matrix the one that belongs to row i of the highest
+abbrev pub AreTheRows : {T : Type 0} → (T → T → Bool) → List (Rows T) → ℕ → List (List T) → Type 0
+AreTheRows eq ms i rows = (most : ℕ) → IsGreatest (map (λ m. height m) ms) most → EachFrom ms rows (λ m row. IsRow eq (row_in most (height m) i) m row)
+
+-- the opening of row i is that of the matrices
+pub record IsOpened {T : Type 0} (eq : T → T → Bool) (ms : List (Rows T)) (ds : List Size) (i : ℕ) (rows : List (List T)) : Type 0 where
+  pub shape : HasShape ms ds rows
+  pub place : IsRowOf ms i
+  pub values : AreTheRows eq ms i rows
+
+-- the first of three facts that fails: of the shape, of the place, and of the values
+abbrev pub IsFirstFault : Type 0 → Type 0 → Type 0 → PlainMmcsError → Type 0
+IsFirstFault Shape Place Values Dimensions = Shape → ⊥
+IsFirstFault Shape Place Values Index = Shape × (Place → ⊥)
+IsFirstFault Shape Place Values Value = Shape × Place × (Values → ⊥)
+
+-- the fault of an opening
+abbrev pub IsFault : {T : Type 0} → (T → T → Bool) → List (Rows T) → List Size → ℕ → List (List T) → PlainMmcsError → Type 0
+IsFault eq ms ds i rows e = IsFirstFault (HasShape ms ds rows) (IsRowOf ms i) (AreTheRows eq ms i rows) e
+
+-- the shape of several openings
+pub record HaveShape {T : Type 0} (ms : List (Rows T)) (ds : List Size) (is : List ℕ) (openings : List (List (List T))) : Type 0 where
+  pub dimensions : AreDimensions ms ds
+  pub count : length openings ≡ length is
+  pub widths : All (HaveWidths ds) openings
+
+-- the openings of these rows are those of the matrices
+pub record AreOpened {T : Type 0} (eq : T → T → Bool) (ms : List (Rows T)) (ds : List Size) (is : List ℕ) (openings : List (List (List T))) : Type 0 where
+  pub shape : HaveShape ms ds is openings
+  pub places : All (IsRowOf ms) is
+  pub values : EachFrom is openings (AreTheRows eq ms)
+
+-- the fault of several openings
+abbrev pub IsFaultOfAll : {T : Type 0} → (T → T → Bool) → List (Rows T) → List Size → List ℕ → List (List (List T)) → PlainMmcsError → Type 0
+IsFaultOfAll eq ms ds is openings e = IsFirstFault (HaveShape ms ds is openings) (All (IsRowOf ms) is) (EachFrom is openings (AreTheRows eq ms)) e

@@ -1,0 +1,64 @@
+-- Openings of a multilinear polynomial whose values are themselves the commitment.
+use Rattle.std.specs.Prelude.{◌≡◌, ℕ, ◌^◌, ◌<◌, List, [], length, map, All}
+use Rattle.std.specs.Prelude.{slice_index_or as get_or}
+use Rattle.std.specs.List.{fold}
+use Rattle.p3_field.specs.Ring.{Ring, of_nat}
+use Rattle.plain_pcs.specs.Multilinear.{multilinear_value}
+use Rattle.plain_pcs.specs.declared.plain_multilinear.PlainMultilinearError.{PlainMultilinearError}
+use Rattle.plain_pcs.specs.declared.plain_multilinear.PlainMultilinearError.TheVariants.{Length, PointLength, Count, Value}
+use Rattle.plain_pcs.specs.declared.plain_multilinear.PlainMultilinearProverError.{PlainMultilinearProverError}
+use Rattle.plain_pcs.specs.declared.plain_multilinear.PlainMultilinearProverError.TheVariants.{Length as ProverLength, PointLength as ProverPointLength}
+
+-- the state of a challenger that has taken in the number of values, and then each value
+abbrev pub after_values : {F C : Type 0} → Ring F → (C → F → C) → List F → C → C
+after_values r observe vs c = fold observe (observe c (of_nat r (length vs))) vs
+
+-- i is the first of the places below n for which P fails
+pub record IsFirstFailing (n : ℕ) (P : ℕ → Type 0) (i : ℕ) : Type 0 where
+  pub within : i < n
+  pub fails : P i → ⊥
+  pub earlier : (j : ℕ) → j < i → P j
+
+-- there is a value for each place of m bits
+abbrev pub HasValues : {F : Type 0} → ℕ → List F → Type 0
+HasValues m vs = length vs ≡ 2 ^ m
+
+-- each point has m coordinates
+abbrev pub HaveCoordinates : {E : Type 0} → ℕ → List (List E) → Type 0
+HaveCoordinates m points = All (λ x. length x ≡ m) points
+
+-- point i is the first that has another number
+abbrev pub IsFirstUnfit : {E : Type 0} → ℕ → List (List E) → ℕ → Type 0
+IsFirstUnfit m points i = IsFirstFailing (length points) (λ j. length (get_or points j []) ≡ m) i
+
+-- the values at the points
+abbrev pub values_at : {F E : Type 0} → Ring E → (F → E) → List F → List (List E) → List E
+values_at s embed vs points = map (multilinear_value s (map embed vs)) points
+
+-- the claimed values are those at the points
+pub record AreValuesAt {F E : Type 0} (s : Ring E) (embed : F → E) (m : ℕ) (vs : List F) (points : List (List E)) (ys : List E) : Type 0 where
+  pub has_values : HasValues m vs
+  pub coordinates : HaveCoordinates m points
+  pub values : ys ≡ values_at s embed vs points
+
+-- claimed value i is the first of two lists of the same length that differs
+abbrev pub IsFirstDifferent : {E : Type 0} → Ring E → List E → List E → ℕ → Type 0
+IsFirstDifferent s ys zs i = IsFirstFailing (length zs) (λ j. get_or ys j s.zero ≡ get_or zs j s.zero) i
+
+-- the first fault of claimed values
+abbrev pub IsClaimFault : {F E : Type 0} → Ring E → (F → E) → ℕ → List F → List (List E) → List E → PlainMultilinearError → Type 0
+IsClaimFault s embed m vs points ys Length = HasValues m vs → ⊥
+IsClaimFault s embed m vs points ys (PointLength i) = HasValues m vs × IsFirstUnfit m points i
+IsClaimFault s embed m vs points ys Count = HasValues m vs × HaveCoordinates m points × (length ys ≡ length points → ⊥)
+IsClaimFault s embed m vs points ys (Value i) =
+    HasValues m vs × HaveCoordinates m points × (length ys ≡ length points) × IsFirstDifferent s ys (values_at s embed vs points) i
+
+-- why a list isn't committed to: it has another length
+abbrev pub IsCommitFault : {F : Type 0} → ℕ → List F → PlainMultilinearProverError → Type 0
+IsCommitFault m vs ProverLength = HasValues m vs → ⊥
+IsCommitFault m vs (ProverPointLength i) = ⊥
+
+-- why a list isn't opened: it has another length than this scheme's, or a point has
+abbrev pub IsOpenFault : {F E : Type 0} → ℕ → List F → List (List E) → PlainMultilinearProverError → Type 0
+IsOpenFault m vs points ProverLength = HasValues m vs → ⊥
+IsOpenFault m vs points (ProverPointLength i) = HasValues m vs × IsFirstUnfit m points i

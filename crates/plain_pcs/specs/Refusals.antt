@@ -1,0 +1,35 @@
+-- When the plain scheme refuses to commit, to extend or to open.
+use Rattle.std.specs.Prelude.{◌≡◌, ℕ, ◌^◌, ◌<◌, ◌≤◌, List, Some, length, slice_get}
+use Rattle.p3_field.specs.Domain.{CosetData}
+use Rattle.p3_matrix.specs.Matrix.{Rows, height}
+use Rattle.p3_commit.specs.Claims.{Request}
+use Rattle.plain_pcs.specs.Scheme.{Scheme}
+use Rattle.plain_pcs.specs.Extension.{IsCommittable}
+use Rattle.plain_pcs.specs.declared.error.PlainProverError.{PlainProverError}
+use Rattle.plain_pcs.specs.declared.error.PlainProverError.TheVariants.{Commit, Open}
+
+-- item i is the first that lacks the property
+pub record IsFirstWithout {X : Type 0} (P : X → Type 0) (xs : List X) (i : ℕ) : Type 0 where
+  pub item : X
+  pub item_is : slice_get xs i ≡ Some item
+  pub lacks : P item → ⊥
+  pub earlier : (j : ℕ) (x : X) → j < i → slice_get xs j ≡ Some x → P x
+
+-- committing and extending are refused for the first matrix that the scheme can't commit to on its domain
+abbrev pub CommitFault : {F : Type 0} → Scheme F → List (CosetData F × Rows F) → PlainProverError → Type 0
+CommitFault s evaluated (Commit i) = IsFirstWithout (λ e. IsCommittable s e.0 e.1) evaluated i
+CommitFault s evaluated (Open i) = ⊥
+
+-- the field has a subgroup with as many elements as the matrix has rows
+abbrev pub HasSubgroupHeight : {F : Type 0} → ℕ → Rows F → Type 0
+HasSubgroupHeight most m = (k : ℕ) × (k ≤ most) × (height m ≡ 2 ^ k)
+
+-- committing to extensions is refused for the first matrix whose height isn't 2^k with k at most `most`
+abbrev pub ExtensionsFault : {F : Type 0} → Scheme F → List (Rows F) → PlainProverError → Type 0
+ExtensionsFault s extensions (Commit i) = IsFirstWithout (HasSubgroupHeight s.most) extensions i
+ExtensionsFault s extensions (Open i) = ⊥
+
+-- opening is refused for the first request whose lists of points aren't one per matrix
+abbrev pub OpenFault : {F E : Type 0} → List (Request (List (CosetData F × Rows F)) E) → PlainProverError → Type 0
+OpenFault requests (Commit i) = ⊥
+OpenFault requests (Open i) = IsFirstWithout (λ r. length r.points ≡ length r.prover_data) requests i

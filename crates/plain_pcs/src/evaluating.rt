@@ -1,0 +1,132 @@
+//! The values of committed polynomials and of periodic columns on other domains.
+ghost use Rattle.std.specs.Prelude.{◌≡◌, ℕ, ◌+◌, ◌*◌, ◌/◌, ◌%◌, ◌^◌, ◌<◌, ◌≤◌, List, Some, All, length, get_or, map, slice_get, ◌++◌, IfOk};
+ghost use Rattle.std.specs.Int.{IsPowerOfTwo};
+ghost use Rattle.p3_field.specs.Ring.{Ring};
+ghost use Rattle.p3_field.specs.Domain.{CosetData, point};
+ghost use Rattle.p3_matrix.specs.Matrix.{Rows, height};
+ghost use Rattle.p3_commit.specs.Space.{IsSplit};
+ghost use Rattle.p3_commit.specs.Commitments.{Committed, IsEvaluated};
+ghost use Rattle.p3_commit.specs.Periodic.{IsPeriod, IsPeriodicTable};
+ghost use Rattle.plain_pcs.specs.Scheme.{Blowup, PlainCommitmentData, scheme};
+ghost use Rattle.plain_pcs.specs.Holding.{IsMade, AreHolding};
+ghost use Rattle.plain_pcs.specs.Transfer.{IsTransfer, IsRepeated};
+
+use crate::commitment::PlainProverData;
+use p3_commit::PeriodicLdeTable;
+use p3_dft::TwoAdicSubgroupDft;
+use p3_field::{FieldCore, Mem, RingCore, TwoAdicCore, TwoAdicField, TwoAdicMultiplicativeCoset};
+use p3_matrix::RowMajorMatrix;
+use std::alloc::Global;
+
+/// The values of the polynomials of the matrix at place `idx` on a domain, a row for each point and a column for each
+/// polynomial (own).
+///
+/// Prover data holds the polynomials' values on a domain of its own, and one transform leads from there. Memory alone can
+/// be wanting.
+pub(crate) fn evaluations_on_domain<F: TwoAdicField, D: TwoAdicSubgroupDft<F>>(
+    alloc: Global,
+    dft: &D,
+    prover_data: &PlainProverData<F>,
+    idx: usize,
+    domain: TwoAdicMultiplicativeCoset<F>,
+) -> Mem<RowMajorMatrix<F>>
+    requires made { IsMade prover_data.now }
+    requires index { idx < length prover_data.now }
+    ensures { IfOk result (λ m. (b : Blowup) (commitment : PlainCommitmentData F) (cs : List (Committed F)) (c : Committed F) → AreHolding (scheme F.ring F.inv F.root F.GENERATOR F.TWO_ADICITY b) prover_data.now commitment cs → slice_get cs idx ≡ Some c
+        → IsEvaluated F.ring (2 ^ domain.log_size) (point F.ring F.root domain) c m) }
+{
+    let evaluated = &prover_data.evaluated[idx];
+    let matrix = evaluated.1.try_clone(alloc)?;
+    let values = transferred(alloc, dft, evaluated.0, matrix, domain)?;
+    Ok(values)
+}
+
+/// The table of periodic columns on a quotient domain: a column for each, laid over the trace domain, and a row for each
+/// point of the quotient domain, with the values that the columns' interpolants have there (own). Without columns it is
+/// empty. Memory alone can be wanting.
+pub(crate) fn periodic_table<F: TwoAdicField, D: TwoAdicSubgroupDft<F>>(
+    alloc: Global,
+    dft: &D,
+    periodic_cols: &[Vec<F>],
+    trace_domain: TwoAdicMultiplicativeCoset<F>,
+    quotient_domain: TwoAdicMultiplicativeCoset<F>,
+) -> Mem<PeriodicLdeTable<F>>
+    requires fit { All (λ c. IsPeriod (2 ^ trace_domain.log_size) (length c.items)) periodic_cols.now }
+    requires shift { point F.ring F.root trace_domain 0 ≡ F.ring.one }
+    requires larger { 2 ^ trace_domain.log_size ≤ 2 ^ quotient_domain.log_size }
+    ensures { IfOk result (IsPeriodicTable F.ring (2 ^ trace_domain.log_size) (point F.ring F.root trace_domain) (2 ^ quotient_domain.log_size) (point F.ring F.root quotient_domain) (map (λ c. c.items) periodic_cols.now)) }
+{
+    if periodic_cols.is_empty() {
+        return Ok(PeriodicLdeTable::empty(alloc));
+    }
+    trace_domain.valid();
+    let columns = repeated(alloc, periodic_cols, trace_domain.size())?;
+    let values = transferred(alloc, dft, trace_domain, columns, quotient_domain)?;
+    Ok(PeriodicLdeTable::new(values))
+}
+
+// The values on the domain `to` of the polynomials with these values on the domain `from`.
+fn transferred<F: TwoAdicField, D: TwoAdicSubgroupDft<F>>(
+    alloc: Global,
+    dft: &D,
+    from: TwoAdicMultiplicativeCoset<F>,
+    values: RowMajorMatrix<F>,
+    to: TwoAdicMultiplicativeCoset<F>,
+) -> Mem<RowMajorMatrix<F>>
+    requires { height values ≡ 2 ^ from.log_size }
+    ensures { IfOk result (IsTransfer F.ring F.root from to values) }
+{
+    from.valid();
+    to.valid();
+    let shift = to.shift() * from.shift_inverse();
+    let log_from = from.log_size();
+    let log_to = to.log_size();
+    if log_to < log_from {
+        let all = dft.coset_lde_batch(alloc, values, 0, shift)?;
+        let rows = rows_apart(alloc, &all, 1 << (log_from - log_to))?;
+        Ok(rows)
+    } else {
+        let moved = dft.coset_lde_batch(alloc, values, log_to - log_from, shift)?;
+        Ok(moved)
+    }
+}
+
+// The first row, and then each row that stands so many rows after the one before.
+fn rows_apart<F: Copy>(
+    alloc: Global,
+    m: &RowMajorMatrix<F>,
+    stride: usize,
+) -> Mem<RowMajorMatrix<F>>
+    requires positive { 0 < stride }
+    requires divides { height m.now / stride * stride ≡ height m.now }
+    ensures { IfOk result (IsSplit m.now stride 0) }
+{
+    let mut values = Vec::new(alloc);
+    for j in 0..m.height() / stride {
+        values.extend_from_slice(m.row(stride * j))?;
+    }
+    Ok(RowMajorMatrix::new(values, m.width()))
+}
+
+// Periodic columns side by side, over so many rows.
+fn repeated<F: RingCore>(alloc: Global, columns: &[Vec<F>], rows: usize) -> Mem<RowMajorMatrix<F>>
+    requires { All (λ c. 0 < length c.items) columns.now }
+    ensures { IfOk result (IsRepeated F.ring.zero rows (map (λ c. c.items) columns.now)) }
+{
+    let mut values = Vec::new(alloc);
+    for i in 0..rows {
+        push_row(&mut values, columns, i)?;
+    }
+    Ok(RowMajorMatrix::new(values, columns.len()))
+}
+
+// One more row: the columns' values at the row's number modulo their lengths.
+fn push_row<F: RingCore>(values: &mut Vec<F>, columns: &[Vec<F>], row: usize) -> Mem<()>
+    requires { All (λ c. 0 < length c.items) columns.now }
+    ensures { IfOk result (λ _. values.new.items ≡ values.old.items ++ map (λ c. get_or c.items (row % length c.items) F.ring.zero) columns.now) }
+{
+    for column in columns {
+        values.push(column[row % column.len()])?;
+    }
+    Ok(())
+}

@@ -1,0 +1,108 @@
+//! Low-degree extensions of matrices.
+ghost use Rattle.std.specs.Prelude.{◌≡◌, ◌≤◌, ◌↔◌, IsTrue, IfOk, All};
+ghost use Rattle.p3_commit.specs.Failure.{RefusedBy};
+ghost use Rattle.p3_commit.specs.Commitments.{AreExtensions};
+ghost use Rattle.plain_pcs.specs.Scheme.{scheme};
+ghost use Rattle.plain_pcs.specs.Extension.{IsCommittable, Extends, extension_of};
+ghost use Rattle.plain_pcs.specs.Refusals.{CommitFault};
+
+use crate::error::PlainProverError;
+use p3_commit::PcsFailure;
+use p3_dft::TwoAdicSubgroupDft;
+use p3_field::{
+    Field, FieldCore, Mem, PrimeCharacteristicRing, RingCore, TwoAdicCore, TwoAdicField,
+    TwoAdicMultiplicativeCoset,
+};
+use p3_matrix::RowMajorMatrix;
+use std::alloc::Global;
+
+/// The extension of a matrix on a domain (own): the values of its columns' polynomials on the coset whose shift is the
+/// field's GENERATOR and which is 2^`log_blowup` times as large as the domain.
+pub fn extension<F: TwoAdicField, D: TwoAdicSubgroupDft<F>>(
+    alloc: Global,
+    dft: &D,
+    log_blowup: usize,
+    domain: TwoAdicMultiplicativeCoset<F>,
+    matrix: RowMajorMatrix<F>,
+) -> Mem<RowMajorMatrix<F>>
+    requires { IsCommittable (scheme F.ring F.inv F.root F.GENERATOR F.TWO_ADICITY (record { log_blowup = log_blowup })) domain matrix }
+    ensures { IfOk result (λ m. m ≡ extension_of (scheme F.ring F.inv F.root F.GENERATOR F.TWO_ADICITY (record { log_blowup = log_blowup })) domain matrix) }
+{
+    domain.valid();
+    let shift = F::GENERATOR * domain.shift_inverse();
+    let extended = dft.coset_lde_batch(alloc, matrix, log_blowup, shift)?;
+    // For the proof alone: `height` tells that the values fill whole rows.
+    extended.height();
+    Ok(extended)
+}
+
+// Whether the scheme can commit to a matrix on a domain.
+fn is_committable<F: TwoAdicField>(
+    log_blowup: usize,
+    domain: &TwoAdicMultiplicativeCoset<F>,
+    matrix: &RowMajorMatrix<F>,
+) -> bool
+    requires { log_blowup ≤ F.TWO_ADICITY }
+    ensures { IsTrue result ↔ IsCommittable (scheme F.ring F.inv F.root F.GENERATOR F.TWO_ADICITY (record { log_blowup = log_blowup })) domain.now matrix.now }
+{
+    domain.valid();
+    matrix.width() > 0
+        && matrix.height() == domain.size()
+        && domain.log_size() + log_blowup <= F::TWO_ADICITY
+}
+
+/// Refuses, for the first matrix that the scheme can't commit to on its domain.
+pub fn check_committable<F: TwoAdicField>(
+    log_blowup: usize,
+    evaluations: &[(TwoAdicMultiplicativeCoset<F>, RowMajorMatrix<F>)],
+) -> Result<(), PcsFailure<PlainProverError>>
+    requires { log_blowup ≤ F.TWO_ADICITY }
+    ensures refusal { RefusedBy (CommitFault (scheme F.ring F.inv F.root F.GENERATOR F.TWO_ADICITY (record { log_blowup = log_blowup })) evaluations.now) result }
+    ensures committable { IfOk result (λ _. All (λ e. IsCommittable (scheme F.ring F.inv F.root F.GENERATOR F.TWO_ADICITY (record { log_blowup = log_blowup })) e.0 e.1) evaluations.now) }
+{
+    for (matrix, evaluated) in evaluations.iter().enumerate() {
+        if !is_committable(log_blowup, &evaluated.0, &evaluated.1) {
+            return Err(PcsFailure::Refused(PlainProverError::Commit { matrix }));
+        }
+    }
+    Ok(())
+}
+
+/// The extensions of matrices on their domains. Each matrix is copied once, for the transform that consumes it.
+pub fn extensions_of<F: TwoAdicField, D: TwoAdicSubgroupDft<F>>(
+    alloc: Global,
+    dft: &D,
+    log_blowup: usize,
+    evaluations: &[(TwoAdicMultiplicativeCoset<F>, RowMajorMatrix<F>)],
+) -> Mem<Vec<RowMajorMatrix<F>>>
+    requires { All (λ e. IsCommittable (scheme F.ring F.inv F.root F.GENERATOR F.TWO_ADICITY (record { log_blowup = log_blowup })) e.0 e.1) evaluations.now }
+    ensures { IfOk result (λ v. AreExtensions (Extends (scheme F.ring F.inv F.root F.GENERATOR F.TWO_ADICITY (record { log_blowup = log_blowup }))) evaluations.now v.items) }
+{
+    let mut extensions = Vec::with_capacity(alloc, evaluations.len())?;
+    for evaluated in evaluations {
+        let domain = evaluated.0;
+        domain.valid();
+        let matrix = evaluated.1.try_clone(alloc)?;
+        extensions.push(extension(alloc, dft, log_blowup, domain, matrix)?)?;
+    }
+    Ok(extensions)
+}
+
+/// The extensions of matrices on their domains, where the matrices aren't wanted afterwards: none is copied.
+pub fn extensions_from<F: TwoAdicField, D: TwoAdicSubgroupDft<F>>(
+    alloc: Global,
+    dft: &D,
+    log_blowup: usize,
+    evaluations: Vec<(TwoAdicMultiplicativeCoset<F>, RowMajorMatrix<F>)>,
+) -> Mem<Vec<RowMajorMatrix<F>>>
+    requires { All (λ e. IsCommittable (scheme F.ring F.inv F.root F.GENERATOR F.TWO_ADICITY (record { log_blowup = log_blowup })) e.0 e.1) evaluations.items }
+    ensures { IfOk result (λ v. AreExtensions (Extends (scheme F.ring F.inv F.root F.GENERATOR F.TWO_ADICITY (record { log_blowup = log_blowup }))) evaluations.items v.items) }
+{
+    let mut extensions = Vec::with_capacity(alloc, evaluations.len())?;
+    for evaluated in evaluations {
+        let (domain, matrix) = evaluated;
+        domain.valid();
+        extensions.push(extension(alloc, dft, log_blowup, domain, matrix)?)?;
+    }
+    Ok(extensions)
+}

@@ -1,0 +1,41 @@
+//! Commitment schemes without hashing (own): a commitment is what is committed to, or its low-degree extension. So they
+//! neither hide nor compress, and a verifier checks values itself.
+//!
+//! `PlainPcs` commits to polynomials, `PlainMmcs` to matrices, and `PlainMultilinear` to multilinear polynomials. The
+//! definitions that the contracts cite are in `specs/`.
+#![tactic(auto)]
+
+mod commitment;
+mod committing;
+mod error;
+mod evaluating;
+mod evaluations;
+mod extending;
+mod observing;
+mod opening;
+mod plain_mmcs;
+mod plain_multilinear;
+mod plain_pcs;
+mod rows;
+mod verifying;
+
+pub use commitment::{PlainCommitment, PlainProof, PlainProverData};
+pub use error::{PlainError, PlainProverError};
+pub use plain_mmcs::{PlainMmcs, PlainMmcsData, PlainMmcsError, PlainMmcsProof};
+pub use plain_multilinear::{
+    PlainEvaluations, PlainMultilinear, PlainMultilinearError, PlainMultilinearProverError,
+};
+pub use plain_pcs::PlainPcs;
+
+#[cfg(test)]
+mod mmcs_tests;
+#[cfg(test)]
+mod multilinear_tests;
+#[cfg(test)]
+mod opening_tests;
+#[cfg(test)]
+mod quotient_tests;
+#[cfg(test)]
+mod scheme_tests;
+#[cfg(test)]
+mod verifying_tests;

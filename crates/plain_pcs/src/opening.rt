@@ -1,0 +1,126 @@
+//! Opening: the values of committed polynomials at points.
+ghost use Rattle.std.specs.Prelude.{◌≡◌, ℕ, ◌^◌, ◌<◌, ◌≤◌, List, All, length, map, IfOk, MatchOption};
+ghost use Rattle.p3_field.specs.Domain.{CosetData};
+ghost use Rattle.p3_matrix.specs.Matrix.{Rows, height};
+ghost use Rattle.p3_commit.specs.Failure.{RefusedBy};
+ghost use Rattle.p3_commit.specs.Commitments.{Committed, Held, AreHeld, IsOpening, nested, opened, values_of};
+ghost use Rattle.p3_commit.specs.Periodic.{EachFrom};
+ghost use Rattle.plain_pcs.specs.Scheme.{PlainCommitmentData, scheme};
+ghost use Rattle.plain_pcs.specs.Checks.{Opens};
+ghost use Rattle.plain_pcs.specs.Holding.{IsMade, AreHolding};
+ghost use Rattle.plain_pcs.specs.Refusals.{IsFirstWithout, OpenFault};
+ghost use Rattle.plain_pcs.specs.Opening.{HaveValues, EachHasValues, opened_each};
+
+use crate::commitment::PlainProverData;
+use crate::error::PlainProverError;
+use p3_commit::{
+    OpenedValues, OpenedValuesForMatrix, OpenedValuesForRound, OpeningRequest, PcsFailure,
+};
+use p3_field::{
+    ExtensionField, Field, FieldCore, Mem, PrimeCharacteristicRing, RingCore, TwoAdicCore,
+    TwoAdicField, TwoAdicMultiplicativeCoset,
+};
+use p3_matrix::{RowMajorMatrix, interpolate_coset};
+use std::alloc::Global;
+
+/// The values of committed polynomials at points (own), in the order of the requests, of their matrices, of the points,
+/// and of the columns. `Refused` names the first request whose lists of points aren't one per matrix.
+pub fn open<F: TwoAdicField, E: ExtensionField<F>>(
+    alloc: Global,
+    log_blowup: usize,
+    requests: &[OpeningRequest<'_, PlainProverData<F>, E>],
+) -> Result<OpenedValues<E>, PcsFailure<PlainProverError>>
+    requires made { All (λ r. IsMade r.prover_data) requests.now }
+    ensures refusal { RefusedBy (OpenFault requests.now) result }
+    ensures opening { IfOk result (λ w. (held : List (Held (PlainCommitmentData F) F)) → AreHeld (AreHolding (scheme F.ring F.inv F.root F.GENERATOR F.TWO_ADICITY (record { log_blowup = log_blowup }))) requests.now held
+        → IsOpening E.ring E.embed (λ (d : CosetData F). 2 ^ d.log_size) (λ (x : E). ⊥) (Opens (scheme F.ring F.inv F.root F.GENERATOR F.TWO_ADICITY (record { log_blowup = log_blowup })) E.ring E.embed) requests.now (nested w) held) }
+{
+    if let Some(request) = first_unfit(requests) {
+        return Err(PcsFailure::Refused(PlainProverError::Open { request }));
+    }
+    let values = opened_requests(alloc, requests)?;
+    Ok(values)
+}
+
+// The place of the first request whose lists of points aren't one per matrix.
+fn first_unfit<F: TwoAdicCore, E>(
+    requests: &[OpeningRequest<'_, PlainProverData<F>, E>],
+) -> Option<usize>
+    ensures { MatchOption result (All (λ r. length r.points ≡ length r.prover_data) requests.now) (IsFirstWithout (λ r. length r.points ≡ length r.prover_data) requests.now) }
+{
+    for (index, request) in requests.iter().enumerate() {
+        let prover_data = request.prover_data;
+        let lists = request.points.len();
+        let matrices = prover_data.evaluated.len();
+        if lists != matrices {
+            return Some(index);
+        }
+    }
+    None
+}
+
+// The values that are asked for, request by request.
+fn opened_requests<F: TwoAdicField, E: ExtensionField<F>>(
+    alloc: Global,
+    requests: &[OpeningRequest<'_, PlainProverData<F>, E>],
+) -> Mem<OpenedValues<E>>
+    requires made { All (λ r. IsMade r.prover_data) requests.now }
+    requires lists { All (λ r. length r.points ≡ length r.prover_data) requests.now }
+    ensures { IfOk result (λ w. (held : List (Held (PlainCommitmentData F) F)) → EachFrom requests.now held (λ r h. EachHasValues F.ring F.root r.prover_data h.matrices) → nested w ≡ opened E.ring E.embed held requests.now) }
+{
+    let mut rounds = Vec::with_capacity(alloc, requests.len())?;
+    for request in requests {
+        rounds.push(opened_matrices(alloc, request.prover_data, &request.points)?)?;
+    }
+    Ok(rounds)
+}
+
+// The values of the polynomials in prover data, matrix by matrix.
+fn opened_matrices<F: TwoAdicField, E: ExtensionField<F>>(
+    alloc: Global,
+    prover_data: &PlainProverData<F>,
+    points: &[Vec<E>],
+) -> Mem<OpenedValuesForRound<E>>
+    requires made { IsMade prover_data.now }
+    requires lists { length points.now ≡ length prover_data.now }
+    ensures { IfOk result (λ w. (cs : List (Committed F)) → EachHasValues F.ring F.root prover_data.now cs → map (λ m. map (λ v. v.items) m.items) w.items ≡ opened_each E.ring E.embed cs (map (λ v. v.items) points.now)) }
+{
+    let mut matrices = Vec::with_capacity(alloc, points.len())?;
+    for (index, list) in points.iter().enumerate() {
+        let (domain, matrix) = &prover_data.evaluated[index];
+        matrices.push(opened_matrix(alloc, domain, matrix, list)?)?;
+    }
+    Ok(matrices)
+}
+
+// The values of a matrix's polynomials, point by point.
+fn opened_matrix<F: TwoAdicField, E: ExtensionField<F>>(
+    alloc: Global,
+    domain: &TwoAdicMultiplicativeCoset<F>,
+    matrix: &RowMajorMatrix<F>,
+    points: &[E],
+) -> Mem<OpenedValuesForMatrix<E>>
+    requires { height matrix.now ≡ 2 ^ domain.now.log_size }
+    ensures { IfOk result (λ w. (c : Committed F) → HaveValues F.ring F.root domain.now matrix.now c.polynomials → map (λ v. v.items) w.items ≡ map (values_of E.ring E.embed c) points.now) }
+{
+    let mut values = Vec::with_capacity(alloc, points.len())?;
+    for point in points {
+        values.push(opened_at(alloc, domain, matrix, *point)?)?;
+    }
+    Ok(values)
+}
+
+// The values of a matrix's polynomials at a point.
+fn opened_at<F: TwoAdicField, E: ExtensionField<F>>(
+    alloc: Global,
+    domain: &TwoAdicMultiplicativeCoset<F>,
+    matrix: &RowMajorMatrix<F>,
+    point: E,
+) -> Mem<Vec<E>>
+    requires { height matrix.now ≡ 2 ^ domain.now.log_size }
+    ensures { IfOk result (λ v. (c : Committed F) → HaveValues F.ring F.root domain.now matrix.now c.polynomials → v.items ≡ values_of E.ring E.embed c point) }
+{
+    domain.valid();
+    let values = interpolate_coset(alloc, matrix, domain.shift(), point)?;
+    Ok(values)
+}
