@@ -1,8 +1,6 @@
--- What is committed: lengths of interpolants, and the records that the answer of `prove` is made of.
-use Rattle.std.proofs.Common.{◌≡◌, ℕ, zero, suc, ◌+◌, ◌^◌, ◌<◌, ◌≤◌, Bool, true, false, List, ◌++◌, [], ◌∷◌, length, get_or, map, refl, sym, ◌∙◌, ap, subst, arith, add-one}
+-- What is committed: the records that the answer of `prove` is made of.
+use Rattle.std.proofs.Common.{◌≡◌, ℕ, zero, suc, ◌<◌, Bool, true, false, List, ◌++◌, [], ◌∷◌, length, get_or, refl, sym, ◌∙◌, ap, subst, arith}
 use Rattle.std.specs.Prelude.{All, IsTrue}
-use Rattle.std.proofs.Math.Nat.{pow-suc}
-use Rattle.std.proofs.lemmas.List.{length-map, get_or-map}
 use Rattle.p3_field.specs.Field.{TwoAdic}
 use Rattle.p3_field.specs.Domain.{CosetData}
 use Rattle.p3_field.specs.Poly.{table}
@@ -18,41 +16,15 @@ use Rattle.p3_field.specs.Laws.BearField.{bear_of_canonical}
 use Rattle.batch_tool.specs.Script.{begun, play, observe_all, draw_all, passes, after_grinding}
 use Rattle.batch_tool.specs.BatchScript.{single_shape, script_to_alpha}
 use Rattle.batch_tool.proofs.Draws.{alpha-script, quotient-script, quotient-challenges, zeta-script}
-use Rattle.batch_tool.specs.Plain.{AreInterpolants, commitment_elements, evaluations}
+use Rattle.plain_pcs.specs.Extension.{evaluations}
+use Rattle.plain_pcs.specs.Observing.{commitment_elements}
+use Rattle.batch_tool.specs.Plain.{AreInterpolants}
 use Rattle.batch_tool.specs.Honest.{Instance, IsCommitted, trace_domain, quotient_domain, commitment_domain, quotient_columns, seeded_state, seeded, behind_alpha, before_grinding, whole_transcript, number_passes, IsGround, alpha, zeta, zeta_behind, degree_bits_elements}
 use Rattle.batch_tool.specs.Swap.{swap_stated}
 use Rattle.batch_tool.specs.Tool.{tool}
 
-pub next-power : (k : ℕ) → 2 ^ k ≤ 2 ^ (k + 1)
-next-power k = rw (add-one, pow-suc) (omega arith)
-
-pub interpolants-count : {F C G : Type 0} (t : TwoAdic F) (d : CosetData F) (items : C → List F) (coefficients : G → List F) (cs : List C) (fs : List G)
-    → AreInterpolants t d (map items cs) (map coefficients fs) → length fs ≡ length cs
-interpolants-count t d items coefficients cs fs a = sym (length-map fs coefficients) ∙ (a.count ∙ length-map cs items)
-
--- interpolants are as long as their columns
-pub interpolants-lengths : {F C G : Type 0} (t : TwoAdic F) (d : CosetData F) (items : C → List F) (coefficients : G → List F) (n : ℕ) (c : C) (cs : List C) (fs : List G)
-    → AreInterpolants t d (map items cs) (map coefficients fs) → All (λ c. length (items c) ≡ n) cs → All (λ f. length (coefficients f) ≡ n) fs
-interpolants-lengths t d items coefficients n c cs fs a h = λ k g lt.
-    let counts : length fs ≡ length cs = interpolants-count t d items coefficients cs fs a in
-    let same : length (map items cs) ≡ length cs = length-map cs items in
-    let inside : k < length cs = omega arith in
-    let i = a.each k (omega arith) in
-    ap length (sym (get_or-map coefficients fs k g [] lt)) ∙ (i.length_is ∙ (ap length (get_or-map items cs k c [] inside) ∙ h k c inside))
-
 pub same-coset : {F : Type 0} (d e : CosetData F) → d.shift ≡ e.shift → d.log_size ≡ e.log_size → d ≡ e
 same-coset d e s l = λ i. record { shift = s i; log_size = l i }
-
-pub power-within : (k m : ℕ) → m ≡ 2 ^ k → m ≤ 2 ^ (k + 1)
-power-within k m e = let h = next-power k in omega (arith, e, h)
-
--- columns that are these lists are as long
-pub heights-are : {F C : Type 0} (items : C → List F) (n : ℕ) (cs : List C) (lists : List (List F)) → map items cs ≡ lists → All (λ l. length l ≡ n) lists
-    → All (λ c. length (items c) ≡ n) cs
-heights-are items n cs lists e h = λ k c lt.
-    let same : length (map items cs) ≡ length cs = length-map cs items in
-    let count : length (map items cs) ≡ length lists = ap length e in
-    ap length (sym (get_or-map items cs k c [] lt)) ∙ (ap (λ l. length (get_or l k [])) e ∙ h k [] (omega arith))
 
 pub two-tall : {F : Type 0} (n : ℕ) (f g : ℕ → F) → All (λ l. length l ≡ n) (table n f ∷ table n g ∷ [])
 two-tall n f g zero d lt = length-table n f
@@ -74,18 +46,11 @@ interpolants-along t d e columns others fs p q a =
 -- the transcript behind alpha's draw of a swap table
 pub behind-alpha-is : (k : ℕ) (a b x : BabyBear) (old : Sha256Challenger) (main : Rows BabyBear) (mains : List (Rows BabyBear)) (publics : List BabyBear)
     → old ≡ seeded_state tool (single_shape 2 3 4) → mains ≡ main ∷ [] → publics ≡ a ∷ b ∷ x ∷ []
-    → play tool.challenger (begun BabyBear old) (script_to_alpha 4 (quartic_parts (of_nat quartic_ring k) ∷ []) (commitment_elements bear_ring mains) (publics ∷ []))
+    → play tool.challenger (begun BabyBear old) (script_to_alpha 4 (quartic_parts (of_nat quartic_ring k) ∷ []) (commitment_elements bear_ring (record { matrices = mains })) (publics ∷ []))
     ≡ behind_alpha tool (swap_stated k a b x) main
 unfolding tool swap_stated behind_alpha degree_bits_elements
 behind-alpha-is k a b x old main mains publics p q r =
-    λ i. play tool.challenger (begun BabyBear (p i)) (script_to_alpha 4 (quartic_parts (of_nat quartic_ring k) ∷ []) (commitment_elements bear_ring (q i)) (r i ∷ []))
-
--- two items by their places
-pub two-items : {F C : Type 0} (items : C → List F) (cs : List C) (x y : C) → length cs ≡ 2 → x ≡ get_or cs 0 x → y ≡ get_or cs 1 y → map items cs ≡ items x ∷ items y ∷ []
-two-items items [] x y l p q = absurd (omega arith)
-two-items items (c ∷ []) x y l p q = absurd (omega arith)
-two-items items (c ∷ d ∷ []) x y l p q = λ i. items (sym p i) ∷ items (sym q i) ∷ []
-two-items items (c ∷ d ∷ e ∷ cs) x y l p q = absurd (omega arith)
+    λ i. play tool.challenger (begun BabyBear (p i)) (script_to_alpha 4 (quartic_parts (of_nat quartic_ring k) ∷ []) (commitment_elements bear_ring (record { matrices = q i })) (r i ∷ []))
 
 module _ (k : ℕ) (a b x : BabyBear) (main quotient : Rows BabyBear) where
   abbrev swap : Instance BabyBear
@@ -108,11 +73,11 @@ module _ (k : ℕ) (a b x : BabyBear) (main quotient : Rows BabyBear) where
 
   -- the state that the grinding begins with
   pub before-grinding-is : (old new : Sha256Challenger) (quotients : List (Rows BabyBear)) → old ≡ (behind_alpha tool swap main).state → quotients ≡ quotient ∷ []
-      → new ≡ observe_all tool.challenger old (commitment_elements bear_ring quotients) → new ≡ (before_grinding tool swap main quotient).state
+      → new ≡ observe_all tool.challenger old (commitment_elements bear_ring (record { matrices = quotients })) → new ≡ (before_grinding tool swap main quotient).state
   unfolding tool swap_stated before_grinding
   before-grinding-is old new quotients p q e =
-      e ∙ ((λ i. observe_all tool.challenger (p i) (commitment_elements bear_ring (q i)))
-      ∙ sym (quotient-script tool.challenger (behind_alpha tool swap main) (commitment_elements bear_ring (quotient ∷ []))))
+      e ∙ ((λ i. observe_all tool.challenger (p i) (commitment_elements bear_ring (record { matrices = q i })))
+      ∙ sym (quotient-script tool.challenger (behind_alpha tool swap main) (commitment_elements bear_ring (record { matrices = quotient ∷ [] }))))
 
   pub nothing-passes : (old : Sha256Challenger) → old ≡ (before_grinding tool swap main quotient).state
       → ((n : ℕ) → n < 2013265921 → passes tool.challenger old 4 (of_nat bear_ring n ∷ []) ≡ false)
@@ -134,8 +99,8 @@ module _ (k : ℕ) (a b x : BabyBear) (main quotient : Rows BabyBear) where
   unfolding tool swap_stated before_grinding behind_alpha degree_bits_elements
   one-challenge = (
     draw_all tool.challenger _ 4,
-    quotient-challenges tool.challenger (behind_alpha tool swap main) (commitment_elements bear_ring (quotient ∷ []))
-        ∙ ap (λ t. t.challenges) (alpha-script tool.challenger (seeded tool swap).state (quartic_parts (of_nat quartic_ring k)) (commitment_elements bear_ring (main ∷ [])) (a ∷ b ∷ x ∷ [])),
+    quotient-challenges tool.challenger (behind_alpha tool swap main) (commitment_elements bear_ring (record { matrices = quotient ∷ [] }))
+        ∙ ap (λ t. t.challenges) (alpha-script tool.challenger (seeded tool swap).state (quartic_parts (of_nat quartic_ring k)) (commitment_elements bear_ring (record { matrices = main ∷ [] })) (a ∷ b ∷ x ∷ [])),
   )
 
   pub zeta-is : (old : Sha256Challenger) (w : BabyBear) (z : QuarticExtension) → old ≡ (before_grinding tool swap main quotient).state

@@ -1,4 +1,5 @@
 pub mod Appends
+pub mod Backend
 pub mod Bytes
 pub mod Checking
 pub mod Draws
@@ -6,12 +7,14 @@ pub mod Elements
 pub mod Faults
 pub mod FirstForms
 pub mod FixedStops
-pub mod Horner
+pub mod HonestCommitments
 pub mod IdentityLemmas
+pub mod Interpolated
 pub mod JobAnswers
 pub mod Lines
 pub mod Matrices
 pub mod Numbers
+pub mod OpenedLists
 pub mod OneText
 pub mod Patterns
 pub mod Prints
@@ -19,6 +22,7 @@ pub mod QuotientLemmas
 pub mod Runs
 pub mod Shapes
 pub mod Stops
+pub mod TraceLemmas
 pub mod Verifying
 pub mod SwapReading
 pub mod Committing

@@ -1,67 +1,41 @@
--- What the swap table's constraints read at a point, from the columns' values there.
-use Rattle.std.proofs.Common.{◌≡◌, ℕ, zero, suc, ◌+◌, ◌%◌, ◌^◌, ◌<◌, ◌≤◌, true, false, List, [], ◌∷◌, map, get_or, refl, sym, ◌∙◌, ap}
+-- What the swap table's constraints read at a point: the cells that are there, and the values on a coset seen from above.
+use Rattle.std.proofs.Common.{◌≡◌, ℕ, zero, suc, ◌+◌, ◌%◌, ◌^◌, ◌<◌, ◌≤◌, List, [], ◌∷◌, map, get_or, refl, sym, ◌∙◌, ap, subst, arith}
+use Rattle.std.specs.Prelude.{IsTrue, nat_lt}
+use Rattle.std.proofs.lemmas.Bool.{false≢true}
+use Rattle.std.proofs.lemmas.Grind.{common_steps}
 use Rattle.std.proofs.lemmas.List.{map-id}
 use Rattle.std.proofs.lemmas.Nat.{mod_below, pow_pos}
 use Rattle.p3_field.specs.Ring.{RingLaws, sub}
 use Rattle.p3_field.specs.Field.{TwoAdic, Extension, FieldLaws, TwoAdicLaws, RingHom}
 use Rattle.p3_field.specs.Poly.{val, val_in}
-use Rattle.p3_field.specs.Domain.{coset_point, van}
+use Rattle.p3_field.specs.Domain.{coset_point, first_selector, last_selector, transition_selector}
+use Rattle.p3_field.specs.Laws.Extended.{map_val}
+use Rattle.p3_field.specs.Laws.Own.{own_hom}
 use Rattle.p3_field.specs.Laws.SubgroupSelectors.{subgroup, ones, next_point, first_selector_value, last_selector_value, transition_selector_value}
 use Rattle.p3_dft.specs.Transform.{values_at}
 use Rattle.p3_dft.specs.Laws.Values.{get_or-values_at}
-use Rattle.batch_tool.specs.Tree.{Cell, main, public, first_row, last_row, transition, ev}
-use Rattle.batch_tool.specs.Fold.{fold}
-use Rattle.batch_tool.specs.Reading.{reading, itself}
-use Rattle.batch_tool.specs.Swap.{swap_trees, swap_instance, last_right, swap_stated}
-use Rattle.batch_tool.specs.Honest.{Configuration, quotient_value}
-use Rattle.batch_tool.specs.Cells.{cell_value}
-use Rattle.batch_tool.specs.declared.quotient.SwapCells.{SwapCells}
+use Rattle.p3_air.specs.Shape.{Shape, Fits, declared_shape, has}
+use Rattle.p3_air.specs.Examples.{swap_declaration}
+use Rattle.p3_uni_stark.specs.Point.{PointValues, embedded}
+use Rattle.batch_tool.specs.Reading.{point_values, opened_at}
 
--- the cells of columns l and q over the subgroup of size 2^k, with public values a, b and x, at a point u
-pub record AreReadAt {F E : Type 0} (t : TwoAdic F) (e : Extension F E) (k : ℕ) (l q : List F) (a b x : F) (u : E) (s : SwapCells E) : Type 0 where
-  pub left_is : s.left ≡ val_in e l u
-  pub right_is : s.right ≡ val_in e q u
-  pub next_left_is : s.next_left ≡ val_in e l (e.ring.mul (e.embed (t.root k)) u)
-  pub next_right_is : s.next_right ≡ val_in e q (e.ring.mul (e.embed (t.root k)) u)
-  pub first_row_is : s.first_row ≡ val e.ring (ones e.ring (2 ^ k)) u
-  pub last_row_is : s.last_row ≡ e.ring.mul (e.embed (t.root k)) (val e.ring (ones e.ring (2 ^ k)) (e.ring.mul (e.embed (t.root k)) u))
-  pub transition_is : s.transition ≡ sub e.ring u (e.embed (t.inv (t.root k)))
-  pub first_left_is : s.first_left ≡ e.embed a
-  pub first_right_is : s.first_right ≡ e.embed b
-  pub final_right_is : s.final_right ≡ e.embed x
+-- the next row is declared in the first two columns alone
+next_of_two : (n : ℕ) → IsTrue (has (0 ∷ 1 ∷ []) n) → IsTrue (nat_lt n 2)
+next_of_two zero h = refl
+next_of_two (suc zero) h = refl
+next_of_two (suc (suc n)) h = grind (arith, common_steps, h)
 
-module _ {F E : Type 0} (t : TwoAdic F) (L : RingLaws t.ring) (W : FieldLaws t.ring t.inv) (top : ℕ) (T : TwoAdicLaws t.ring top t.root)
-    (e : Extension F E) (M : RingLaws e.ring) (H : RingHom t.ring e.ring e.embed) (k : ℕ) (fits : k ≤ top) (l q : List F) (a b x : F) (u : E) (s : SwapCells E) (p : AreReadAt t e k l q a b x u s) where
-  pub cells_read : (c : Cell) → cell_value e.ring.zero s c ≡ reading t e (subgroup t.ring k) (l ∷ q ∷ []) (a ∷ b ∷ x ∷ []) u c
-  unfolding cell_value reading
-  cells_read (main false zero) = p.left_is
-  cells_read (main false (suc zero)) = p.right_is
-  cells_read (main false (suc (suc j))) = refl
-  cells_read (main true zero) = p.next_left_is
-  cells_read (main true (suc zero)) = p.next_right_is
-  cells_read (main true (suc (suc j))) = refl
-  cells_read (public zero) = p.first_left_is
-  cells_read (public (suc zero)) = p.first_right_is
-  cells_read (public (suc (suc zero))) = p.final_right_is
-  cells_read (public (suc (suc (suc i)))) = sym H.keeps_zero
-  cells_read first_row = p.first_row_is ∙ sym (first_selector_value t.ring L t.inv W e.ring M e.embed H k u)
-  cells_read last_row = p.last_row_is ∙ sym (last_selector_value t.ring L t.inv W e.ring M e.embed H top t.root T k fits u)
-  cells_read transition = p.transition_is ∙ sym (transition_selector_value t.ring L t.inv W e.ring M e.embed H t.root k u)
-
-  -- the constraints' values
-  pub constraints_read : map (ev e.ring (λ y. y) (cell_value e.ring.zero s)) swap_trees
-      ≡ map (ev e.ring e.embed (reading t e (subgroup t.ring k) (l ∷ q ∷ []) (a ∷ b ∷ x ∷ []) u)) swap_trees
-  unfolding ev swap_trees
-  constraints_read = ap (λ env. map (ev e.ring (λ y. y) env) swap_trees) (λ i c. cells_read c i)
-
--- the quotient's value by the constraints' values
-pub quotient_value_is : {S F E : Type 0} (c : Configuration S F E) (k : ℕ) (a b : F) (l q : List F) (alpha : E) (u : F)
-    → quotient_value c (swap_instance k a b) (l ∷ q ∷ []) alpha u
-    ≡ c.extension.ring.mul
-    (fold c.extension.ring alpha (map c.extension.embed (map (ev c.field.ring (λ x. x) (reading c.field (itself c.field.ring) (subgroup c.field.ring k) (l ∷ q ∷ []) (a ∷ b ∷ last_right k a b ∷ []) u)) swap_trees)))
-    (c.extension.embed (c.field.inv (val c.field.ring (van c.field.ring c.field.inv (subgroup c.field.ring k)) u)))
-unfolding quotient_value swap_stated swap_trees
-quotient_value_is c k a b l q alpha u = refl
+-- two columns, of which the next row may be read, and three public values are all that the swap table declares
+pub swap_fits : (F : Type 0) (s : Shape) (m : ℕ) → s.main ≡ 2 → ((n : ℕ) → s.main_next n ≡ nat_lt n m) → m ≡ 2 → s.public ≡ 3
+    → Fits (declared_shape {F = F} swap_declaration) s
+swap_fits F s m main next two public = record {
+  main = omega (arith, main);
+  main_next = λ n h. next n ∙ subst (λ v. IsTrue (nat_lt n v)) (sym two) (next_of_two n h);
+  preprocessed = omega arith;
+  preprocessed_next = λ n h. absurd (false≢true h);
+  periodic = omega arith;
+  public = omega (arith, public);
+}
 
 module _ {F : Type 0} (t : TwoAdic F) (L : RingLaws t.ring) (W : FieldLaws t.ring t.inv) (top : ℕ) (T : TwoAdicLaws t.ring top t.root) (k : ℕ) (fits : k ≤ top) (shift : F) where
   abbrev at : ℕ → F
@@ -74,36 +48,61 @@ module _ {F : Type 0} (t : TwoAdic F) (L : RingLaws t.ring) (W : FieldLaws t.rin
   value_next f v i e h =
       value_here f v ((i + 1) % 2 ^ k) e (mod_below (i + 1) (2 ^ k) (pow_pos k)) ∙ ap (val t.ring f) (sym (next_point t.ring L t.inv W top t.root T k fits shift i h))
 
-  read_own : (f : List F) (y : F) → val t.ring f y ≡ val_in (itself t.ring) f y
-  read_own f y = ap (λ g. val t.ring g y) (sym (map-id f))
+  own : (f : List F) (y v : F) → val t.ring (map (λ x. x) f) y ≡ v → v ≡ val t.ring f y
+  own f y v is = sym is ∙ ap (λ g. val t.ring g y) (map-id f)
 
-  -- the cells at point i of a coset, from the values there
-  pub read_from_values : (l q vl vq vo : List F) (a b x : F) (i : ℕ) (s : SwapCells F) → i < 2 ^ k
-      → vl ≡ values_at t.ring at (2 ^ k) l → vq ≡ values_at t.ring at (2 ^ k) q → vo ≡ values_at t.ring at (2 ^ k) (ones t.ring (2 ^ k))
-      → s ≡ record {
-        left = get_or vl i t.ring.zero;
-        right = get_or vq i t.ring.zero;
-        next_left = get_or vl ((i + 1) % 2 ^ k) t.ring.zero;
-        next_right = get_or vq ((i + 1) % 2 ^ k) t.ring.zero;
-        first_row = get_or vo i t.ring.zero;
-        last_row = t.ring.mul (t.root k) (get_or vo ((i + 1) % 2 ^ k) t.ring.zero);
-        transition = sub t.ring (at i) (t.inv (t.root k));
-        first_left = a;
-        first_right = b;
-        final_right = x;
-      }
-      → AreReadAt t (itself t.ring) k l q a b x (at i) s
-  read_from_values l q vl vq vo a b x i s h el eq eo es =
-      let o = ones t.ring (2 ^ k) in
-      record {
-        left_is = ap (λ c. c.left) es ∙ (value_here l vl i el h ∙ read_own l (at i));
-        right_is = ap (λ c. c.right) es ∙ (value_here q vq i eq h ∙ read_own q (at i));
-        next_left_is = ap (λ c. c.next_left) es ∙ (value_next l vl i el h ∙ read_own l (t.ring.mul (t.root k) (at i)));
-        next_right_is = ap (λ c. c.next_right) es ∙ (value_next q vq i eq h ∙ read_own q (t.ring.mul (t.root k) (at i)));
-        first_row_is = ap (λ c. c.first_row) es ∙ value_here o vo i eo h;
-        last_row_is = ap (λ c. c.last_row) es ∙ ap (t.ring.mul (t.root k)) (value_next o vo i eo h);
-        transition_is = ap (λ c. c.transition) es;
-        first_left_is = ap (λ c. c.first_left) es;
-        first_right_is = ap (λ c. c.first_right) es;
-        final_right_is = ap (λ c. c.final_right) es;
-      }
+  first_own : (y : F) → val t.ring (ones t.ring (2 ^ k)) y ≡ val t.ring (first_selector t.ring t.inv (subgroup t.ring k)) y
+  first_own y = own (first_selector t.ring t.inv (subgroup t.ring k)) y _ (first_selector_value t.ring L t.inv W t.ring L (λ x. x) (own_hom t.ring) k y)
+
+  last_own : (y : F) → t.ring.mul (t.root k) (val t.ring (ones t.ring (2 ^ k)) (t.ring.mul (t.root k) y)) ≡ val t.ring (last_selector t.ring t.inv t.root (subgroup t.ring k)) y
+  last_own y = own (last_selector t.ring t.inv t.root (subgroup t.ring k)) y _ (last_selector_value t.ring L t.inv W t.ring L (λ x. x) (own_hom t.ring) top t.root T k fits y)
+
+  transition_own : (y : F) → sub t.ring y (t.inv (t.root k)) ≡ val t.ring (transition_selector t.ring t.inv t.root (subgroup t.ring k)) y
+  transition_own y = own (transition_selector t.ring t.inv t.root (subgroup t.ring k)) y _ (transition_selector_value t.ring L t.inv W t.ring L (λ x. x) (own_hom t.ring) t.root k y)
+
+  module _ {E : Type 0} (e : Extension F E) (M : RingLaws e.ring) (H : RingHom t.ring e.ring e.embed) where
+    -- a value at a point of the field is the polynomial's value above it
+    above : (f : List F) (v y : F) → v ≡ val t.ring f y → e.embed v ≡ val_in e f (e.embed y)
+    above f v y is = ap e.embed is ∙ sym (map_val t.ring L e.ring M e.embed H f y)
+
+    above_next : (f : List F) (v y : F) → v ≡ val t.ring f (t.ring.mul (t.root k) y) → e.embed v ≡ val_in e f (e.ring.mul (e.embed (t.root k)) (e.embed y))
+    above_next f v y is = above f v (t.ring.mul (t.root k) y) is ∙ ap (val_in e f) (H.keeps_mul (t.root k) y)
+
+    -- what is read at point i of a coset, from the values there
+    pub read_above : (l q vl vq vo publics : List F) (i : ℕ) (p : PointValues F F) → i < 2 ^ k
+        → vl ≡ values_at t.ring at (2 ^ k) l → vq ≡ values_at t.ring at (2 ^ k) q → vo ≡ values_at t.ring at (2 ^ k) (ones t.ring (2 ^ k))
+        → p ≡ record {
+          main_local = get_or vl i t.ring.zero ∷ get_or vq i t.ring.zero ∷ [];
+          main_next = get_or vl ((i + 1) % 2 ^ k) t.ring.zero ∷ get_or vq ((i + 1) % 2 ^ k) t.ring.zero ∷ [];
+          preprocessed_local = [];
+          preprocessed_next = [];
+          periodic = [];
+          public = publics;
+          first_row = get_or vo i t.ring.zero;
+          last_row = t.ring.mul (t.root k) (get_or vo ((i + 1) % 2 ^ k) t.ring.zero);
+          transition = sub t.ring (at i) (t.inv (t.root k));
+        }
+        → embedded e.embed p
+        ≡ point_values t e (subgroup t.ring k) (opened_at e (l ∷ q ∷ []) (e.embed (at i))) (opened_at e (l ∷ q ∷ []) (e.ring.mul (e.embed (t.root k)) (e.embed (at i)))) publics (e.embed (at i))
+    unfolding point_values
+    read_above l q vl vq vo publics i p h el eq eo is =
+        let y = at i in
+        let o = ones t.ring (2 ^ k) in
+        let left = above l (get_or vl i t.ring.zero) y (value_here l vl i el h) in
+        let right = above q (get_or vq i t.ring.zero) y (value_here q vq i eq h) in
+        let next_left = above_next l (get_or vl ((i + 1) % 2 ^ k) t.ring.zero) y (value_next l vl i el h) in
+        let next_right = above_next q (get_or vq ((i + 1) % 2 ^ k) t.ring.zero) y (value_next q vq i eq h) in
+        let first = above (first_selector t.ring t.inv (subgroup t.ring k)) (get_or vo i t.ring.zero) y (value_here o vo i eo h ∙ first_own y) in
+        let last = above (last_selector t.ring t.inv t.root (subgroup t.ring k)) (t.ring.mul (t.root k) (get_or vo ((i + 1) % 2 ^ k) t.ring.zero)) y (ap (t.ring.mul (t.root k)) (value_next o vo i eo h) ∙ last_own y) in
+        let transition = above (transition_selector t.ring t.inv t.root (subgroup t.ring k)) (sub t.ring y (t.inv (t.root k))) y (transition_own y) in
+        ap (embedded e.embed) is ∙ (λ j. record {
+          main_local = left j ∷ right j ∷ [];
+          main_next = next_left j ∷ next_right j ∷ [];
+          preprocessed_local = [];
+          preprocessed_next = [];
+          periodic = [];
+          public = publics;
+          first_row = first j;
+          last_row = last j;
+          transition = transition j;
+        })

@@ -3,7 +3,7 @@ use Rattle.std.specs.Prelude.{◌≡◌, ℕ, ◌+◌, ◌*◌, ◌^◌, ◌≤�
 use Rattle.p3_field.specs.declared.baby_bear.BabyBear.{BabyBear}
 use Rattle.p3_field.specs.declared.quartic.QuarticExtension.{QuarticExtension}
 use Rattle.p3_matrix.specs.Matrix.{Rows}
-use Rattle.batch_tool.specs.Proof.{OpenedData, ProofData}
+use Rattle.batch_tool.specs.Proof.{OpenedWithLookups, ProofData}
 use Rattle.batch_tool.specs.ProofFile.{swap_statement_words, file_words}
 use Rattle.batch_tool.specs.declared.first_form.SwapStatement.{SwapStatement}
 use Rattle.batch_tool.specs.declared.first_form.FirstForm.{FirstForm}
@@ -24,12 +24,12 @@ pub record HasShape (columns rows : ℕ) (m : Rows BabyBear) : Type 0 where
   pub values : length m.values ≡ columns * rows
 
 -- what an honest proof opens of a swap table: both columns at zeta and at the next point, and the four columns of the one quotient chunk
-pub record IsSwapOpening (o : OpenedData QuarticExtension) : Type 0 where
-  pub trace_local : HasLength 2 o.trace_local
-  pub trace_next : IsSomeAnd o.trace_next (HasLength 2)
-  pub preprocessed : o.preprocessed ≡ None
-  pub quotient_chunks : Single (HasLength 4) o.quotient_chunks
-  pub random : o.random ≡ None
+pub record IsSwapOpening (o : OpenedWithLookups QuarticExtension) : Type 0 where
+  pub trace_local : HasLength 2 o.base.trace_local
+  pub trace_next : IsSomeAnd o.base.trace_next (HasLength 2)
+  pub preprocessed : o.base.preprocessed ≡ None
+  pub quotient_chunks : Single (HasLength 4) o.base.quotient_chunks
+  pub random : o.base.random ≡ None
   pub permutation_local : o.permutation_local ≡ []
   pub permutation_next : o.permutation_next ≡ []
 

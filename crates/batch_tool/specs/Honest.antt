@@ -2,13 +2,15 @@
 use Rattle.std.specs.Prelude.{◌≡◌, ℕ, ◌+◌, ◌^◌, ◌<◌, List, [], ◌∷◌, length, map, get_or, Bool, true, false, Some, None}
 use Rattle.p3_field.specs.Ring.{of_nat}
 use Rattle.p3_field.specs.Field.{TwoAdic, Extension}
-use Rattle.p3_field.specs.Poly.{val, val_in, table}
+use Rattle.p3_field.specs.Poly.{val, table}
 use Rattle.p3_field.specs.Domain.{CosetData, point, van}
 use Rattle.p3_matrix.specs.Matrix.{Rows}
-use Rattle.batch_tool.specs.Tree.{Tree, ev}
-use Rattle.batch_tool.specs.Fold.{fold}
-use Rattle.batch_tool.specs.Reading.{reading, itself}
-use Rattle.batch_tool.specs.Plain.{evaluations, AreInterpolants, commitment_elements}
+use Rattle.p3_air.specs.Tree.{Tree, ev}
+use Rattle.p3_uni_stark.specs.Fold.{fold}
+use Rattle.plain_pcs.specs.Extension.{evaluations}
+use Rattle.plain_pcs.specs.Observing.{commitment_elements}
+use Rattle.batch_tool.specs.Reading.{reading, opened_at}
+use Rattle.batch_tool.specs.Plain.{AreInterpolants}
 use Rattle.batch_tool.specs.Script.{ChallengerOf, Transcript, observe_all, play, begun, passes}
 use Rattle.batch_tool.specs.Separator.{encoding}
 use Rattle.batch_tool.specs.BatchScript.{BatchShape, single_shape, separator, script_to_alpha, script_of_quotient, script_from_grinding}
@@ -62,7 +64,7 @@ module _ {S F E : Type 0} (c : Configuration S F E) (table' : Instance F) where
   unfoldable pub behind_alpha : Rows F → Transcript S F
   behind_alpha main =
       play c.challenger seeded
-      (script_to_alpha c.extension.dimension (degree_bits_elements ∷ []) (commitment_elements c.field.ring (main ∷ [])) (table'.publics ∷ []))
+      (script_to_alpha c.extension.dimension (degree_bits_elements ∷ []) (commitment_elements c.field.ring (record { matrices = main ∷ [] })) (table'.publics ∷ []))
 
   -- a challenge as it was drawn, by its number
   abbrev pub drawn : Transcript S F → ℕ → E
@@ -74,7 +76,7 @@ module _ {S F E : Type 0} (c : Configuration S F E) (table' : Instance F) where
   -- the transcript at the grinding before zeta
   unfoldable pub before_grinding : Rows F → Rows F → Transcript S F
   before_grinding main quotient =
-      play c.challenger (behind_alpha main) (script_of_quotient (commitment_elements c.field.ring (quotient ∷ [])))
+      play c.challenger (behind_alpha main) (script_of_quotient (commitment_elements c.field.ring (record { matrices = quotient ∷ [] })))
 
   -- the whole transcript, with this grinding value
   unfoldable pub whole_transcript : Rows F → Rows F → F → Transcript S F
@@ -95,11 +97,11 @@ module _ {S F E : Type 0} (c : Configuration S F E) (table' : Instance F) where
   abbrev pub number_passes : Rows F → Rows F → ℕ → Bool
   number_passes main quotient n = witness_passes main quotient (of_nat c.field.ring n)
 
-  -- the quotient's value at a point u: the fold by alpha of the trees' values there, over Van's value
+  -- the quotient's value at a point u of F: the fold by alpha of the trees' values there, over Van's value
   unfoldable pub quotient_value : List (List F) → E → F → E
   quotient_value columns a u =
       c.extension.ring.mul
-      (fold c.extension.ring a (map (λ t. c.extension.embed (ev c.field.ring (λ x. x) (reading c.field (itself c.field.ring) trace_domain columns table'.publics u) t)) table'.trees))
+      (fold c.extension.ring a (map (ev (reading c.field c.extension trace_domain columns table'.publics (c.extension.embed u))) table'.trees))
       (c.extension.embed (c.field.inv (val c.field.ring (van c.field.ring c.field.inv trace_domain) u)))
 
   -- the quotient's values on its domain, as a column for each basis element
@@ -125,9 +127,6 @@ module _ {S F E : Type 0} (c : Configuration S F E) (table' : Instance F) where
   abbrev pub IsInTraceDomain : E → Type 0
   IsInTraceDomain z = (i : ℕ) × (i < 2 ^ table'.log_height) × (z ≡ c.extension.embed (point c.field.ring c.field.root trace_domain i))
 
-  abbrev pub opened_at : List (List F) → E → List E
-  opened_at fs x = map (λ f. val_in c.extension f x) fs
-
   abbrev pub next_point : E → E
   next_point x = c.extension.ring.mul (c.extension.embed (c.field.root table'.log_height)) x
 
@@ -139,11 +138,13 @@ module _ {S F E : Type 0} (c : Configuration S F E) (table' : Instance F) where
     quotient_chunks = quotient ∷ [];
     random = None;
     instances = record {
-      trace_local = opened_at columns z;
-      trace_next = Some (opened_at columns (next_point z));
-      preprocessed = None;
-      quotient_chunks = opened_at chunk z ∷ [];
-      random = None;
+      base = record {
+        trace_local = opened_at c.extension columns z;
+        trace_next = Some (opened_at c.extension columns (next_point z));
+        preprocessed = None;
+        quotient_chunks = opened_at c.extension chunk z ∷ [];
+        random = None;
+      };
       permutation_local = [];
       permutation_next = [];
     } ∷ [];

@@ -1,12 +1,11 @@
 pub mod Answer
 pub mod BatchScript
 pub mod Causes
+pub mod Committed
 pub mod Checks
-pub mod Cells
 pub mod FileAnswer
 pub mod FirstForm
 pub mod Fixed
-pub mod Fold
 pub mod Honest
 pub mod Job
 pub mod Laws
@@ -24,7 +23,6 @@ pub mod Swap
 pub mod Streams
 pub mod Texts
 pub mod Tool
-pub mod Tree
 pub mod Verify
 pub mod Whole
 pub mod WholeText

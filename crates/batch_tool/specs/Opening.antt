@@ -1,26 +1,26 @@
--- The plain backend's checks of polynomials that are at hand.
-use Rattle.std.specs.Prelude.{◌≡◌, ℕ, zero, suc, List, [], get_or, ⊤}
-use Rattle.p3_field.specs.Poly.{val_in, DegreeBelow}
-use Rattle.p3_field.specs.BabyBear.{bear_ring}
-use Rattle.p3_field.specs.Quartic.{quartic_ring}
+-- What a proof of one table claims of its two commitments, and the scheme that tests it.
+use Rattle.std.specs.Prelude.{ℕ, List, [], ◌∷◌}
+use Rattle.p3_field.specs.BabyBear.{reduce, bear_ring, bear_inv, bear_root}
+use Rattle.p3_field.specs.Domain.{CosetData}
 use Rattle.p3_field.specs.declared.baby_bear.BabyBear.{BabyBear}
-use Rattle.p3_field.specs.declared.quartic.QuarticExtension.{QuarticExtension}
-use Rattle.batch_tool.specs.Tool.{tool}
-use Rattle.batch_tool.specs.declared.refusal.PlainError.TheVariants.{Degree, Value}
-use Rattle.batch_tool.specs.declared.refusal.Refusal.{Refusal}
-use Rattle.batch_tool.specs.declared.refusal.Refusal.TheVariants.{OodPowWitness, InvalidOpeningArgument, OodPointInDomain, OodEvaluationMismatch}
+use Rattle.p3_commit.specs.Claims.{PointClaim, CommitmentClaim}
+use Rattle.plain_pcs.specs.Scheme.{Scheme, PlainCommitmentData, scheme}
 
--- what stands at place 0, and what stands at each place after it
-abbrev pub of_two : {A : Type 0} → A → A → ℕ → A
-of_two first rest zero = first
-of_two first rest (suc at) = rest
+-- the program's plain scheme: BabyBear has subgroups of sizes up to 2^27, and an extension is twice as large as its columns' domain
+abbrev pub plain_scheme : Scheme BabyBear
+plain_scheme = scheme bear_ring bear_inv bear_root (reduce 31) 27 (record { log_blowup = 1 })
 
--- What holds of the polynomials fs where a check of the plain backend doesn't fail: the j-th has a degree below the bound, and
--- at a point the claimed value. Other checks aren't the backend's.
-abbrev pub OpensTo : ℕ → List (List BabyBear) → (ℕ → QuarticExtension) → (ℕ → List QuarticExtension) → Refusal → Type 0
-OpensTo bound fs points claimed (OodPowWitness bits) = ⊤
-OpensTo bound fs points claimed (InvalidOpeningArgument (Degree round matrix j)) = DegreeBelow bear_ring bound (get_or fs j [])
-OpensTo bound fs points claimed (InvalidOpeningArgument (Value round matrix at j)) =
-    val_in tool.extension (get_or fs j []) (points at) ≡ get_or (claimed at) j quartic_ring.zero
-OpensTo bound fs points claimed OodPointInDomain = ⊤
-OpensTo bound fs points claimed (OodEvaluationMismatch index) = ⊤
+-- the claims on a commitment to one matrix, whose columns were given on the domain
+abbrev pub claim_on : {E : Type 0} → CosetData BabyBear → PlainCommitmentData BabyBear → List (PointClaim E) → CommitmentClaim E (PlainCommitmentData BabyBear) (CosetData BabyBear)
+claim_on domain commitment points = record {
+  commitment = commitment;
+  matrices = record { domain = domain; points = points } ∷ [];
+}
+
+-- the claims on the trace of 2^k rows, on the subgroup of that size
+abbrev pub trace_claim : {E : Type 0} → ℕ → PlainCommitmentData BabyBear → (local next : PointClaim E) → CommitmentClaim E (PlainCommitmentData BabyBear) (CosetData BabyBear)
+trace_claim k main local next = claim_on (record { shift = bear_ring.one; log_size = k }) main (local ∷ next ∷ [])
+
+-- the claims on its quotient chunk, on the coset of that size
+abbrev pub quotient_claim : {E : Type 0} → ℕ → PlainCommitmentData BabyBear → PointClaim E → CommitmentClaim E (PlainCommitmentData BabyBear) (CosetData BabyBear)
+quotient_claim k chunk opened = claim_on (record { shift = reduce 31; log_size = k }) chunk (opened ∷ [])

@@ -4,7 +4,8 @@ use Rattle.p3_field.specs.declared.baby_bear.BabyBear.{BabyBear}
 use Rattle.p3_field.specs.declared.quartic.QuarticExtension.{QuarticExtension}
 use Rattle.p3_matrix.specs.Matrix.{Rows, height}
 use Rattle.batch_tool.specs.Texts.{list_words, option_words, element_words, extension_words}
-use Rattle.batch_tool.specs.Proof.{PreprocessedData, OpenedData, ProofData}
+use Rattle.p3_uni_stark.specs.Opened.{PreprocessedData}
+use Rattle.batch_tool.specs.Proof.{OpenedWithLookups, ProofData}
 
 -- a matrix: its width, its height, and its elements row by row
 abbrev pub matrix_words : Rows BabyBear → List ℕ
@@ -19,10 +20,10 @@ values_words xs = list_words extension_words xs
 abbrev pub preprocessed_words : PreprocessedData QuarticExtension → List ℕ
 preprocessed_words p = values_words p.local ++ option_words values_words p.next
 
-unfoldable pub opened_words : OpenedData QuarticExtension → List ℕ
+unfoldable pub opened_words : OpenedWithLookups QuarticExtension → List ℕ
 opened_words o =
-    values_words o.trace_local ++ option_words values_words o.trace_next ++ option_words preprocessed_words o.preprocessed
-    ++ list_words values_words o.quotient_chunks ++ option_words values_words o.random
+    values_words o.base.trace_local ++ option_words values_words o.base.trace_next ++ option_words preprocessed_words o.base.preprocessed
+    ++ list_words values_words o.base.quotient_chunks ++ option_words values_words o.base.random
     ++ values_words o.permutation_local ++ values_words o.permutation_next
 
 unfoldable pub proof_words : ProofData BabyBear QuarticExtension → List ℕ

@@ -1,21 +1,34 @@
 -- Reading a committed table at a point.
-use Rattle.std.specs.Prelude.{true, false, List, [], ◌∷◌, get_or}
-use Rattle.p3_field.specs.Ring.{Ring}
+use Rattle.std.specs.Prelude.{List, [], map}
 use Rattle.p3_field.specs.Field.{TwoAdic, Extension}
 use Rattle.p3_field.specs.Poly.{val_in}
 use Rattle.p3_field.specs.Domain.{CosetData, first_selector, last_selector, transition_selector}
-use Rattle.batch_tool.specs.Tree.{Cell, main, public, first_row, last_row, transition}
+use Rattle.p3_air.specs.Tree.{Reading}
+use Rattle.p3_uni_stark.specs.Point.{PointValues, reading as reading_of}
 
--- a ring as an extension of itself, of dimension one
-abbrev pub itself : {F : Type 0} → Ring F → Extension F F
-itself r = record { ring = r; embed = λ x. x; dimension = 1; basis = λ i. r.one; parts = λ x. x ∷ []; whole = λ l. get_or l 0 r.zero }
+-- what constraints read at x, a point above F: the columns' values there and at the next point, the public values, and the selectors
+-- of the domain d at x. A table with main columns alone has no other cells.
+unfoldable pub point_values : {F E : Type 0} → TwoAdic F → Extension F E → CosetData F → (local next : List E) → List F → E → PointValues F E
+point_values t e d local next publics x = record {
+  main_local = local;
+  main_next = next;
+  preprocessed_local = [];
+  preprocessed_next = [];
+  periodic = [];
+  public = publics;
+  first_row = val_in e (first_selector t.ring t.inv d) x;
+  last_row = val_in e (last_selector t.ring t.inv t.root d) x;
+  transition = val_in e (transition_selector t.ring t.inv t.root d) x;
+}
 
--- the value of each cell where a table with these column polynomials and public values is read at x, a point above F:
--- a current cell is its column's value at x, a next cell its value at h x, a selector its polynomial's value at x
-unfoldable pub reading : {F E : Type 0} → TwoAdic F → Extension F E → CosetData F → List (List F) → List F → E → Cell → E
-reading t e d columns publics x (main false j) = val_in e (get_or columns j []) x
-reading t e d columns publics x (main true j) = val_in e (get_or columns j []) (e.ring.mul (e.embed (t.root d.log_size)) x)
-reading t e d columns publics x (public i) = e.embed (get_or publics i t.ring.zero)
-reading t e d columns publics x first_row = val_in e (first_selector t.ring t.inv d) x
-reading t e d columns publics x last_row = val_in e (last_selector t.ring t.inv t.root d) x
-reading t e d columns publics x transition = val_in e (transition_selector t.ring t.inv t.root d) x
+-- the reading of constraints at x where the columns have these values there and at the next point; a cell that isn't there is zero
+abbrev pub reading_with : {F E : Type 0} → TwoAdic F → Extension F E → CosetData F → (local next : List E) → List F → E → Reading F E
+reading_with t e d local next publics x = reading_of e.ring e.embed (point_values t e d local next publics x)
+
+-- the values of polynomials at x, a point above F, one after the other
+abbrev pub opened_at : {F E : Type 0} → Extension F E → List (List F) → E → List E
+opened_at e fs x = map (λ f. val_in e f x) fs
+
+-- the reading of constraints at x where the columns are the values of these polynomials: the next point is h x
+abbrev pub reading : {F E : Type 0} → TwoAdic F → Extension F E → CosetData F → List (List F) → List F → E → Reading F E
+reading t e d columns publics x = reading_with t e d (opened_at e columns x) (opened_at e columns (e.ring.mul (e.embed (t.root d.log_size)) x)) publics x

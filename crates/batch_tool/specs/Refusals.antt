@@ -1,6 +1,6 @@
 -- The lines that say what `verify` refuses.
 use Rattle.std.specs.Prelude.{ℕ, List, [], ◌∷◌, ◌++◌, flat_map, decimal, codes}
-use Rattle.batch_tool.specs.declared.refusal.PlainError.TheVariants.{Degree, Value}
+use Rattle.plain_pcs.specs.declared.error.PlainError.TheVariants.{RoundShape, Dimensions, Degree, Value}
 use Rattle.batch_tool.specs.declared.refusal.Refusal.{Refusal}
 use Rattle.batch_tool.specs.declared.refusal.Refusal.TheVariants.{OodPowWitness, InvalidOpeningArgument, OodPointInDomain, OodEvaluationMismatch}
 
@@ -11,6 +11,8 @@ spaced numbers = flat_map (λ n. 32 ∷ decimal n) numbers
 -- the refusal's name and its numbers in order
 abbrev pub reason_text : Refusal → List ℕ
 reason_text (OodPowWitness bits) = codes " OodPowWitness" ++ spaced (bits ∷ [])
+reason_text (InvalidOpeningArgument (RoundShape round)) = codes " InvalidOpeningArgument RoundShape" ++ spaced (round ∷ [])
+reason_text (InvalidOpeningArgument (Dimensions round matrix)) = codes " InvalidOpeningArgument Dimensions" ++ spaced (round ∷ matrix ∷ [])
 reason_text (InvalidOpeningArgument (Degree round matrix column)) = codes " InvalidOpeningArgument Degree" ++ spaced (round ∷ matrix ∷ column ∷ [])
 reason_text (InvalidOpeningArgument (Value round matrix at column)) = codes " InvalidOpeningArgument Value" ++ spaced (round ∷ matrix ∷ at ∷ column ∷ [])
 reason_text OodPointInDomain = codes " OodPointInDomain" ++ spaced []

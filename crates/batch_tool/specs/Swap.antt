@@ -1,7 +1,7 @@
--- The swap table: two columns l and r, whose rows are (a, b) and (b, a) in turn.
-use Rattle.std.specs.Prelude.{ℕ, ◌%◌, ◌^◌, ◌==◌, true, false, List, [], ◌∷◌, if◌then◌else◌}
+-- The swap table: two columns l and r, whose rows are (a, b) and (b, a) in turn. Its constraints are `swap_trees` of p3_air's examples.
+use Rattle.std.specs.Prelude.{ℕ, ◌%◌, ◌^◌, ◌==◌, [], ◌∷◌, if◌then◌else◌}
 use Rattle.p3_field.specs.Poly.{table}
-use Rattle.batch_tool.specs.Tree.{Tree, cell, difference, product, main, public, first_row, last_row, transition}
+use Rattle.p3_air.specs.Examples.{swap_trees}
 use Rattle.batch_tool.specs.Honest.{Instance}
 
 -- the left cell of row i; the right cell is the left cell of the row after it
@@ -11,17 +11,6 @@ alternating a b i = if i % 2 == 0 then a else b
 -- the right cell of the last of 2^k rows
 abbrev pub last_right : {F : Type 0} → ℕ → F → F → F
 last_right k a b = if k == 0 then b else a
-
--- the public values are a, b and x; the constraints say that the first row is (a, b), that each row after it is the row before
--- it swapped, and that x is the last right cell
-unfoldable pub swap_trees : {F : Type 0} → List (Tree F)
-swap_trees =
-    product (cell first_row) (difference (cell (main false 0)) (cell (public 0)))
-    ∷ product (cell first_row) (difference (cell (main false 1)) (cell (public 1)))
-    ∷ product (cell transition) (difference (cell (main true 0)) (cell (main false 1)))
-    ∷ product (cell transition) (difference (cell (main true 1)) (cell (main false 0)))
-    ∷ product (cell last_row) (difference (cell (main false 1)) (cell (public 2)))
-    ∷ []
 
 -- the table of 2^k rows that begins with (a, b), with the public values a, b and x
 unfoldable pub swap_stated : {F : Type 0} → ℕ → F → F → F → Instance F

@@ -1,15 +1,15 @@
 -- The checks of a proof of one table, in the verifier's order.
-use Rattle.std.specs.Prelude.{◌≡◌, ℕ, zero, suc, ◌^◌, true, false, List, [], ◌∷◌, ◌++◌, map, flat_map, get_or, Option, None, Some}
+use Rattle.std.specs.Prelude.{◌≡◌, ℕ, zero, suc, ◌^◌, true, List, [], ◌∷◌, ◌++◌, map, flat_map, get_or, Option, None, Some, ⊤}
 use Rattle.p3_field.specs.Poly.{val_in, table, DegreeBelow}
 use Rattle.p3_field.specs.Field.{combine}
 use Rattle.p3_field.specs.Domain.{point, van, IsInterpolant}
 use Rattle.p3_matrix.specs.Matrix.{Rows, column}
-use Rattle.batch_tool.specs.Tree.{Cell, ev, main, public, first_row, last_row, transition}
-use Rattle.batch_tool.specs.Fold.{fold}
-use Rattle.batch_tool.specs.Reading.{reading}
-use Rattle.batch_tool.specs.Proof.{OpenedData, ProofData}
+use Rattle.p3_air.specs.Tree.{ev}
+use Rattle.p3_uni_stark.specs.Fold.{fold}
+use Rattle.batch_tool.specs.Reading.{reading_with}
+use Rattle.batch_tool.specs.Proof.{OpenedWithLookups, ProofData}
 use Rattle.batch_tool.specs.Honest.{Configuration, Instance, trace_domain, commitment_domain, alpha, zeta_behind, witness_passes, next_point, IsInTraceDomain}
-use Rattle.batch_tool.specs.declared.refusal.PlainError.TheVariants.{Degree, Value}
+use Rattle.plain_pcs.specs.declared.error.PlainError.TheVariants.{RoundShape, Dimensions, Degree, Value}
 use Rattle.batch_tool.specs.declared.refusal.Refusal.{Refusal}
 use Rattle.batch_tool.specs.declared.refusal.Refusal.TheVariants.{OodPowWitness, InvalidOpeningArgument, OodPointInDomain, OodEvaluationMismatch}
 
@@ -29,24 +29,21 @@ main_of p = only (record { values = []; width = 0 }) p.main
 abbrev pub quotient_of : {F E : Type 0} → ProofData F E → Rows F
 quotient_of p = only (record { values = []; width = 0 }) p.quotient_chunks
 
-abbrev pub local_opened : {E : Type 0} → List (OpenedData E) → List E
+abbrev pub local_opened : {E : Type 0} → List (OpenedWithLookups E) → List E
 local_opened [] = []
-local_opened (o ∷ os) = o.trace_local
+local_opened (o ∷ os) = o.base.trace_local
 
-abbrev pub next_opened : {E : Type 0} → List (OpenedData E) → List E
+abbrev pub next_opened : {E : Type 0} → List (OpenedWithLookups E) → List E
 next_opened [] = []
-next_opened (o ∷ os) = present [] o.trace_next
+next_opened (o ∷ os) = present [] o.base.trace_next
 
-abbrev pub chunk_opened : {E : Type 0} → List (OpenedData E) → List E
+abbrev pub chunk_opened : {E : Type 0} → List (OpenedWithLookups E) → List E
 chunk_opened [] = []
-chunk_opened (o ∷ os) = only [] o.quotient_chunks
+chunk_opened (o ∷ os) = only [] o.base.quotient_chunks
 
--- the columns of a matrix
-abbrev pub columns_of : {F : Type 0} → F → Rows F → List (List F)
-columns_of d m = table m.width (column d m)
-
--- the checks of the plain backend on the one matrix of a round, by what is refused where a check fails: first the columns'
--- degrees, then the columns' values point by point
+-- The checks of the plain backend on the one matrix of a round, by what is refused where a check fails: first the columns'
+-- degrees, then the columns' values point by point. The form of a proof file fixes how many matrices and values there are, so
+-- that no check of these is listed.
 abbrev pub degree_checks : ℕ → ℕ → List Refusal
 degree_checks round columns = table columns (λ j. InvalidOpeningArgument (Degree round 0 j))
 
@@ -61,19 +58,11 @@ round_checks round columns points = degree_checks round columns ++ flat_map (val
 unfoldable pub checks : List Refusal
 checks = OodPowWitness 4 ∷ round_checks 0 2 2 ++ round_checks 1 4 1 ++ OodPointInDomain ∷ OodEvaluationMismatch 0 ∷ []
 
--- the value of each cell at x, where opened values stand for the columns' values: those at x, and those at the next point
-unfoldable pub opened_reading : {S F E : Type 0} → Configuration S F E → Instance F → (local next : List E) → E → Cell → E
-opened_reading c t local next x (main false j) = get_or local j c.extension.ring.zero
-opened_reading c t local next x (main true j) = get_or next j c.extension.ring.zero
-opened_reading c t local next x (public i) = reading c.field c.extension (trace_domain c t) [] t.publics x (public i)
-opened_reading c t local next x first_row = reading c.field c.extension (trace_domain c t) [] t.publics x first_row
-opened_reading c t local next x last_row = reading c.field c.extension (trace_domain c t) [] t.publics x last_row
-opened_reading c t local next x transition = reading c.field c.extension (trace_domain c t) [] t.publics x transition
-
--- the identity at a point: the constraints' fold by alpha is Van's value times the quotient's, whose opened values are coefficients over the basis
+-- the identity at a point, where opened values stand for the columns' values there and at the next point: the constraints' fold by alpha
+-- is Van's value times the quotient's, whose opened values are coefficients over the basis
 unfoldable pub Identity : {S F E : Type 0} → Configuration S F E → Instance F → (alpha zeta : E) → (local next chunk : List E) → Type 0
 Identity c t alpha zeta local next chunk =
-    fold c.extension.ring alpha (map (ev c.extension.ring c.extension.embed (opened_reading c t local next zeta)) t.trees)
+    fold c.extension.ring alpha (map (ev (reading_with c.field c.extension (trace_domain c t) local next t.publics zeta)) t.trees)
     ≡ c.extension.ring.mul (val_in c.extension (van c.field.ring c.field.inv (trace_domain c t)) zeta)
     (combine c.extension.ring c.extension.basis 0 chunk)
 
@@ -109,6 +98,9 @@ module _ {S F E : Type 0} (c : Configuration S F E) (table' : Instance F) (p : P
   -- what holds where a check doesn't fail
   abbrev pub Meets : Refusal → Type 0
   Meets (OodPowWitness bits) = witness_passes c table' (main_of p) (quotient_of p) p.ood_pow_witness ≡ true
+  -- no list of checks has these two
+  Meets (InvalidOpeningArgument (RoundShape round)) = ⊤
+  Meets (InvalidOpeningArgument (Dimensions round matrix)) = ⊤
   Meets (InvalidOpeningArgument (Degree round matrix j)) = (f : List F) × IsCommittedColumn round j f × DegreeBelow c.field.ring (2 ^ table'.log_height) f
   Meets (InvalidOpeningArgument (Value round matrix at j)) =
       (f : List F) × IsCommittedColumn round j f × (val_in c.extension f (opening_point at) ≡ get_or (claimed round at) j c.extension.ring.zero)

@@ -1,7 +1,7 @@
-//! The trace domain of a swap table, and the points that lie in it.
+//! The domains of a swap table, and the points that lie in the trace domain.
 
 ghost use Rattle.std.specs.Prelude.{◌≡◌, ◌≤◌, ◌↔◌, IsTrue};
-ghost use Rattle.p3_field.specs.BabyBear.{bear_ring};
+ghost use Rattle.p3_field.specs.BabyBear.{reduce, bear_ring};
 ghost use Rattle.batch_tool.specs.Honest.{IsInTraceDomain};
 ghost use Rattle.batch_tool.specs.Swap.{swap_stated};
 ghost use Rattle.batch_tool.specs.Tool.{tool};
@@ -15,6 +15,17 @@ pub fn trace_domain(log_rows: usize) -> TwoAdicMultiplicativeCoset<BabyBear>
     ensures { result ≡ record { shift = bear_ring.one; log_size = log_rows } }
 {
     match TwoAdicMultiplicativeCoset::new(BabyBear::ONE, log_rows) {
+        Some(domain) => domain,
+        None => unreachable!(),
+    }
+}
+
+/// The domain of the quotient chunk of a table of 2^`log_rows` rows: the coset of that size, with shift GENERATOR.
+pub fn quotient_domain(log_rows: usize) -> TwoAdicMultiplicativeCoset<BabyBear>
+    requires { log_rows ≤ 10 }
+    ensures { result ≡ record { shift = reduce 31; log_size = log_rows } }
+{
+    match TwoAdicMultiplicativeCoset::new(BabyBear::GENERATOR, log_rows) {
         Some(domain) => domain,
         None => unreachable!(),
     }

@@ -1,25 +1,28 @@
 //! The identity at zeta, which a verifier tests in the place of the constraints.
 
-ghost use Rattle.std.specs.Prelude.{◌≡◌, ◌≤◌, ◌↔◌, IsTrue, map, length};
+ghost use Rattle.std.specs.Prelude.{◌≡◌, ◌∷◌, [], ◌≤◌, ◌↔◌, IsTrue, map, length};
 ghost use Rattle.p3_field.specs.Poly.{val};
 ghost use Rattle.p3_field.specs.Domain.{transition_selector};
 ghost use Rattle.p3_field.specs.BabyBear.{bear_ring};
 ghost use Rattle.p3_field.specs.BabyBear.{bear_inv, bear_root};
 ghost use Rattle.p3_field.specs.Quartic.{quartic_ring, of_bear_value};
-ghost use Rattle.batch_tool.specs.Tree.{Cell};
-ghost use Rattle.batch_tool.specs.Cells.{cell_value};
+ghost use Rattle.p3_air.specs.Tree.{ev};
+ghost use Rattle.p3_air.specs.Examples.{swap_trees};
+ghost use Rattle.p3_uni_stark.specs.Fold.{fold};
+ghost use Rattle.batch_tool.specs.Reading.{reading_with};
 ghost use Rattle.batch_tool.specs.Swap.{swap_stated};
 ghost use Rattle.batch_tool.specs.Tool.{tool};
-ghost use Rattle.batch_tool.specs.Verify.{Identity, opened_reading};
+ghost use Rattle.batch_tool.specs.Verify.{Identity};
 
 use crate::domain::trace_domain;
 use crate::first_form::SwapStatement;
-use crate::quotient::{SwapCells, constraint_values, folded};
+use p3_air::examples::SwapAir;
 use p3_commit::{PolynomialSpace, first_selector_at, last_selector_at};
 use p3_field::{
-    BabyBear, ExtensionField, FieldCore, PrimeCharacteristicRing, QuarticExtension,
+    BabyBear, ExtensionField, FieldCore, PrimeCharacteristicRing, QuarticExtension, RingCore,
     TwoAdicMultiplicativeCoset,
 };
+use p3_uni_stark::{VerifierFolder, verifier_fold};
 
 /// The selector of all rows but the last at a point u: u less the inverse of the domain's generator.
 fn transition_selector_at(
@@ -33,31 +36,39 @@ fn transition_selector_at(
     point - QuarticExtension::from_base(domain.subgroup_generator().inverse())
 }
 
-/// What the constraints read at zeta: the values opened there and at the next point stand for the columns' values.
-fn cells_at_zeta(
+/// The fold of the constraints by alpha at zeta: the values opened there and at the next point stand for the columns'
+/// values.
+fn folded_at_zeta(
     statement: &SwapStatement,
     domain: &TwoAdicMultiplicativeCoset<BabyBear>,
+    alpha: QuarticExtension,
     zeta: QuarticExtension,
     local: &[QuarticExtension],
     next: &[QuarticExtension],
-) -> SwapCells<QuarticExtension>
-    requires domain { domain.now ≡ record { shift = bear_ring.one; log_size = statement.now.log_rows } }
+) -> QuarticExtension
+    requires domain { domain.now.shift ≡ bear_ring.one }
     requires local { length local.now ≡ 2 }
     requires next { length next.now ≡ 2 }
-    ensures { (c : Cell) → cell_value quartic_ring.zero result c ≡ opened_reading tool (swap_stated statement.now.log_rows statement.now.a statement.now.b statement.now.x) local.now next.now zeta c }
+    ensures { let publics = statement.now.a ∷ statement.now.b ∷ statement.now.x ∷ [] in
+        result ≡ fold quartic_ring alpha (map (ev (reading_with tool.field tool.extension domain.now local.now next.now publics zeta)) swap_trees) }
 {
-    SwapCells {
-        left: local[0],
-        right: local[1],
-        next_left: next[0],
-        next_right: next[1],
-        first_row: first_selector_at(domain, zeta),
-        last_row: last_selector_at(domain, zeta),
-        transition: transition_selector_at(domain, zeta),
-        first_left: QuarticExtension::from_base(statement.a),
-        first_right: QuarticExtension::from_base(statement.b),
-        final_right: QuarticExtension::from_base(statement.x),
-    }
+    let public_values = [statement.a, statement.b, statement.x];
+    verifier_fold(
+        &SwapAir,
+        VerifierFolder {
+            main_local: local,
+            main_next: next,
+            preprocessed_local: &[],
+            preprocessed_next: &[],
+            periodic_values: &[],
+            public_values: &public_values,
+            is_first_row: first_selector_at(domain, zeta),
+            is_last_row: last_selector_at(domain, zeta),
+            is_transition: transition_selector_at(domain, zeta),
+            alpha,
+            accumulator: QuarticExtension::ZERO,
+        },
+    )
 }
 
 /// Whether the identity holds at zeta: the constraints' values folded by alpha are the value of Van of the trace
@@ -78,8 +89,7 @@ pub fn identity_holds(
     ensures { IsTrue result ↔ Identity tool (swap_stated statement.now.log_rows statement.now.a statement.now.b statement.now.x) alpha zeta local.now next.now chunk.now }
 {
     let domain = trace_domain(statement.log_rows as usize);
-    let cells = cells_at_zeta(statement, &domain, zeta, local, next);
-    let folded = folded(&constraint_values(&cells), alpha);
+    let folded = folded_at_zeta(statement, &domain, alpha, zeta, local, next);
     match <QuarticExtension as ExtensionField<BabyBear>>::from_ext_basis_coefficients(chunk) {
         Some(quotient) => folded == domain.vanishing_poly_at_point(zeta) * quotient,
         None => unreachable!(),

@@ -2,6 +2,8 @@
 #![tactic(auto)]
 
 mod command;
+mod commitments;
+mod committed_proof;
 mod domain;
 mod ends;
 mod first_form;
@@ -10,15 +12,15 @@ mod identity;
 mod items;
 mod job;
 mod memory;
-mod opening_check;
-mod openings;
+mod opened;
+mod opening;
 mod parse;
-mod plain_pcs;
 mod proof;
 mod proof_file;
 mod prove;
 mod quotient;
 mod refusal;
+mod scheme;
 mod script;
 mod streams;
 mod texts;

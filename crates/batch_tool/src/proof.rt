@@ -29,30 +29,12 @@ pub struct TableProof {
 }
 
 impl Model for TableProof {
-    ghost use Rattle.std.specs.Prelude.{[], ◌∷◌, None, Some};
+    ghost use Rattle.std.specs.Prelude.{[], ◌∷◌};
     ghost use Rattle.p3_field.specs.declared.baby_bear.BabyBear.{BabyBear};
     ghost use Rattle.p3_field.specs.declared.quartic.QuarticExtension.{QuarticExtension};
-    ghost use Rattle.batch_tool.specs.Proof.{ProofData};
+    ghost use Rattle.batch_tool.specs.Proof.{ProofData, single_proof};
 
     ghost Value = { ProofData BabyBear QuarticExtension };
 
-    ghost view = { λ p. record {
-      main = p.main ∷ [];
-      permutation = None;
-      quotient_chunks = p.quotient_chunk ∷ [];
-      random = None;
-      instances = record {
-        trace_local = p.trace_local.items;
-        trace_next = Some p.trace_next.items;
-        preprocessed = None;
-        quotient_chunks = p.chunk_values.items ∷ [];
-        random = None;
-        permutation_local = [];
-        permutation_next = [];
-      } ∷ [];
-      lookup_terminals = None ∷ [];
-      degree_bits = p.degree_bits ∷ [];
-      lookup_pow_witness = None;
-      ood_pow_witness = p.ood_pow_witness;
-    } };
+    ghost view = { λ p. single_proof (p.main ∷ []) (p.quotient_chunk ∷ []) p.trace_local.items p.trace_next.items p.chunk_values.items p.degree_bits p.ood_pow_witness };
 }

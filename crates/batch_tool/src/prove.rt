@@ -1,68 +1,36 @@
 //! The command `prove`: the honest proof of a swap table.
 
-ghost use Rattle.std.specs.Prelude.{◌≡◌, ◌^◌, ◌+◌, ◌≤◌, ◌∷◌, [], IfOk, ℕ, map, length, All, codes};
-ghost use Rattle.p3_field.specs.BabyBear.{reduce, bear_ring};
-ghost use Rattle.batch_tool.specs.BatchScript.{single_shape};
-ghost use Rattle.batch_tool.specs.Honest.{trace_domain, quotient_domain, commitment_domain, quotient_columns, alpha, behind_alpha, before_grinding, seeded_state, honest_proof, zeta as drawn_zeta};
+ghost use Rattle.std.specs.Prelude.{◌≡◌, ◌≤◌, ◌∷◌, [], IfOk, ℕ, List};
 ghost use Rattle.p3_field.specs.Ring.{of_nat};
-ghost use Rattle.batch_tool.specs.Plain.{AreInterpolants, evaluations};
+ghost use Rattle.p3_field.specs.BabyBear.{bear_ring};
+ghost use Rattle.p3_matrix.specs.Matrix.{Rows};
+ghost use Rattle.batch_tool.specs.BatchScript.{single_shape};
+ghost use Rattle.batch_tool.specs.Committed.{IsCommittedTo, committed_matrix, trace_polynomials, chunk_polynomials};
+ghost use Rattle.batch_tool.specs.Honest.{alpha as drawn_alpha, behind_alpha, seeded_state, honest_proof, zeta as drawn_zeta};
 ghost use Rattle.batch_tool.specs.Prove.{IsJobAnswer, instance_of};
 ghost use Rattle.batch_tool.specs.Tool.{tool};
 
-use crate::domain::is_in_trace_domain;
+use crate::commitments::{Committed, commit_chunk, commit_columns, committed_values};
+use crate::domain::{is_in_trace_domain, quotient_domain, trace_domain};
 use crate::job::SwapTable;
-use crate::openings::{interpolants, opened_values};
-use crate::plain_pcs::{low_degree_extension, observe_commitment};
+use crate::opened::{only, open_committed};
 use crate::proof::TableProof;
 use crate::proof_file::print_file;
-use crate::quotient::{coefficient_columns, quotient_values};
+use crate::quotient::quotient_values;
 use crate::top::Status;
-use crate::trace::trace_columns;
+use crate::trace::trace_matrix;
 use crate::transcript::{draw_alpha, grind_and_draw_zeta, seeded_challenger};
-use p3_challenger::Sha256Challenger;
-use p3_field::{
-    BabyBear, ExtensionField, FieldCore, Mem, PrimeCharacteristicRing, QuarticExtension, RingCore,
-    TwoAdicCore,
-};
-use p3_matrix::RowMajorMatrix;
+use p3_challenger::{CanObserve, Sha256Challenger};
+use p3_field::{BabyBear, ExtensionField, Mem, QuarticExtension, TwoAdicCore};
+use p3_matrix::{RowMajorMatrix, flatten_matrix};
+use plain_pcs::PlainCommitment;
 use std::alloc::Global;
-use std::slice::from_ref;
 
 /// The refusal where no element passes the grinding before zeta.
 const WITNESS_NOT_FOUND: &[u8] = b"refused WitnessNotFound ood\n";
 
 /// The refusal where zeta lies in the trace domain.
 const OOD_POINT_IN_DOMAIN: &[u8] = b"refused OodPointInDomain\n";
-
-/// Polynomials, a list of coefficients for each, and the commitment to them: their values' matrix, which stands alone.
-#[derive(Drop)]
-struct Committed {
-    polynomials: Vec<Vec<BabyBear>>,
-    commitment: RowMajorMatrix<BabyBear>,
-}
-
-/// The interpolants of columns on the coset of this shift, and the commitment to them.
-fn commit(
-    alloc: Global,
-    columns: &[Vec<BabyBear>],
-    shift: BabyBear,
-    log_height: usize,
-) -> Mem<Committed>
-    requires few { log_height ≤ 10 }
-    requires heights { All (λ c. length c.items ≡ 2 ^ log_height) columns.now }
-    requires shift { shift ≡ bear_ring.zero → ⊥ }
-    ensures interpolants { IfOk result (λ r. AreInterpolants tool.field (record { shift = shift; log_size = log_height }) (map (λ c. c.items) columns.now) (map (λ f. f.items) r.polynomials.items)) }
-    ensures commitment { IfOk result (λ r. r.commitment ≡ evaluations tool.field (record { shift = reduce 31; log_size = log_height + 1 }) (map (λ f. f.items) r.polynomials.items)) }
-    ensures lengths { IfOk result (λ r. All (λ f. length f.items ≡ 2 ^ log_height) r.polynomials.items) }
-    ensures count { IfOk result (λ r. length r.polynomials.items ≡ length columns.now) }
-{
-    let polynomials = interpolants(alloc, columns, shift, log_height)?;
-    let commitment = low_degree_extension(alloc, &polynomials, log_height + 1)?;
-    Ok(Committed {
-        polynomials,
-        commitment,
-    })
-}
 
 /// Commits to the trace and draws alpha.
 fn commit_trace(
@@ -72,54 +40,47 @@ fn commit_trace(
 ) -> Mem<(Committed, QuarticExtension)>
     requires few { table.now.log_rows ≤ 10 }
     requires seeded { challenger.old ≡ seeded_state tool (single_shape 2 3 4) }
-    ensures interpolants { IfOk result (λ r. AreInterpolants tool.field (trace_domain tool (instance_of table.now)) (instance_of table.now).columns (map (λ f. f.items) r.0.polynomials.items)) }
-    ensures commitment { IfOk result (λ r. r.0.commitment ≡ evaluations tool.field (commitment_domain tool (instance_of table.now)) (map (λ f. f.items) r.0.polynomials.items)) }
-    ensures lengths { IfOk result (λ r. All (λ f. length f.items ≡ 2 ^ table.now.log_rows) r.0.polynomials.items) }
-    ensures count { IfOk result (λ r. length r.0.polynomials.items ≡ 2) }
-    ensures challenge { IfOk result (λ r. r.1 ≡ alpha tool (instance_of table.now) r.0.commitment) }
-    ensures state { IfOk result (λ r. challenger.new ≡ (behind_alpha tool (instance_of table.now) r.0.commitment).state) }
+    ensures committed { IfOk result (λ r. IsCommittedTo table.now.log_rows (trace_polynomials (instance_of table.now)) r.0.commitment r.0.kept) }
+    ensures challenge { IfOk result (λ r. r.1 ≡ drawn_alpha tool (instance_of table.now) (committed_matrix table.now.log_rows (trace_polynomials (instance_of table.now)))) }
+    ensures state { IfOk result (λ r. challenger.new ≡ (behind_alpha tool (instance_of table.now) (committed_matrix table.now.log_rows (trace_polynomials (instance_of table.now)))).state) }
 {
-    let log_height = table.log_rows as usize;
-    let columns = trace_columns(alloc, table)?;
-    let main = commit(alloc, &columns, BabyBear::ONE, log_height)?;
+    let log_rows = table.log_rows as usize;
+    let trace = trace_matrix(alloc, table)?;
+    let main = commit_columns(alloc, trace_domain(log_rows), trace)?;
     let public_values = [table.a, table.b, table.last_right()];
-    let alpha = draw_alpha(
-        challenger,
-        log_height,
-        from_ref(&main.commitment),
-        &public_values,
-    );
+    let alpha = draw_alpha(challenger, log_rows, &main.commitment, &public_values);
     Ok((main, alpha))
 }
 
-/// Commits to the quotient.
+/// Commits to the quotient of the committed trace's constraints, folded by alpha.
 fn commit_quotient(
     alloc: Global,
     table: &SwapTable,
-    polynomials: &[Vec<BabyBear>],
+    main: &Committed,
     alpha: QuarticExtension,
 ) -> Mem<Committed>
     requires few { table.now.log_rows ≤ 10 }
-    requires count { length polynomials.now ≡ 2 }
-    requires lengths { All (λ f. length f.items ≡ 2 ^ table.now.log_rows) polynomials.now }
-    ensures interpolants { IfOk result (λ r. AreInterpolants tool.field (quotient_domain tool (instance_of table.now)) (quotient_columns tool (instance_of table.now) (map (λ f. f.items) polynomials.now) alpha) (map (λ f. f.items) r.polynomials.items)) }
-    ensures commitment { IfOk result (λ r. r.commitment ≡ evaluations tool.field (commitment_domain tool (instance_of table.now)) (map (λ f. f.items) r.polynomials.items)) }
+    requires committed { IsCommittedTo table.now.log_rows (trace_polynomials (instance_of table.now)) main.now.commitment main.now.kept }
+    ensures { IfOk result (λ r. IsCommittedTo table.now.log_rows (chunk_polynomials (instance_of table.now) alpha) r.commitment r.kept) }
 {
-    let log_height = table.log_rows as usize;
-    let values = quotient_values(
-        alloc,
-        log_height,
-        table.a,
-        table.b,
-        &polynomials[0],
-        &polynomials[1],
-        alpha,
-    )?;
-    let columns = coefficient_columns(alloc, &values)?;
-    commit(alloc, &columns, BabyBear::GENERATOR, log_height)
+    let log_rows = table.log_rows as usize;
+    let domain = quotient_domain(log_rows);
+    let columns = committed_values(alloc, main, domain)?;
+    let values = quotient_values(alloc, log_rows, table.a, table.b, &columns, alpha)?;
+    let quotient = RowMajorMatrix::new_col(values);
+    let chunk = flatten_matrix::<BabyBear, QuarticExtension>(alloc, &quotient)?;
+    commit_chunk(alloc, domain, chunk)
 }
 
-/// Opens the committed polynomials at zeta and at the point after it, and puts the proof together.
+/// The matrix of a commitment to one.
+fn only_matrix(commitment: PlainCommitment<BabyBear>) -> RowMajorMatrix<BabyBear>
+    requires { (m : Rows BabyBear) × (commitment.matrices ≡ m ∷ []) }
+    ensures { commitment.matrices ≡ result ∷ [] }
+{
+    only(commitment.matrices)
+}
+
+/// Opens the trace at zeta and at the point after it, and the quotient at zeta, and puts the proof together.
 fn opened_proof(
     alloc: Global,
     table: &SwapTable,
@@ -127,19 +88,24 @@ fn opened_proof(
     quotient: Committed,
     witness: BabyBear,
     zeta: QuarticExtension,
+    challenger: &mut Sha256Challenger,
 ) -> Mem<TableProof>
-    requires { table.now.log_rows ≤ 10 }
-    ensures { (n : ℕ) → witness ≡ of_nat bear_ring n → zeta ≡ drawn_zeta tool (instance_of table.now) main.commitment quotient.commitment n
-        → IfOk result (λ p. p ≡ honest_proof tool (instance_of table.now) (map (λ f. f.items) main.polynomials.items) main.commitment (map (λ f. f.items) quotient.polynomials.items) quotient.commitment n) }
+    requires few { table.now.log_rows ≤ 10 }
+    requires main { (k : ℕ) × ((fs : List (List BabyBear)) × IsCommittedTo k fs main.commitment main.kept) }
+    requires quotient { (k : ℕ) × ((fs : List (List BabyBear)) × IsCommittedTo k fs quotient.commitment quotient.kept) }
+    ensures { IfOk result (λ p. (k n : ℕ) (fs gs : List (List BabyBear)) → IsCommittedTo k fs main.commitment main.kept → IsCommittedTo k gs quotient.commitment quotient.kept
+        → witness ≡ of_nat bear_ring n → zeta ≡ drawn_zeta tool (instance_of table.now) (committed_matrix k fs) (committed_matrix k gs) n
+        → p ≡ honest_proof tool (instance_of table.now) fs (committed_matrix k fs) gs (committed_matrix k gs) n) }
 {
     let generator = BabyBear::two_adic_generator(table.log_rows as usize);
     let next_point = QuarticExtension::from_base(generator) * zeta;
+    let values = open_committed(alloc, &main, &quotient, zeta, next_point, challenger)?;
     Ok(TableProof {
-        trace_local: opened_values(alloc, &main.polynomials, zeta)?,
-        trace_next: opened_values(alloc, &main.polynomials, next_point)?,
-        chunk_values: opened_values(alloc, &quotient.polynomials, zeta)?,
-        main: main.commitment,
-        quotient_chunk: quotient.commitment,
+        trace_local: values.trace_local,
+        trace_next: values.trace_next,
+        chunk_values: values.chunk_values,
+        main: only_matrix(main.commitment),
+        quotient_chunk: only_matrix(quotient.commitment),
         degree_bits: table.log_rows,
         ood_pow_witness: witness,
     })
@@ -153,8 +119,8 @@ pub fn prove(alloc: Global, table: &SwapTable) -> Mem<(Status, Vec<u8>)>
 {
     let mut challenger = seeded_challenger(alloc, 2, 3)?;
     let (main, alpha) = commit_trace(alloc, table, &mut challenger)?;
-    let quotient = commit_quotient(alloc, table, &main.polynomials, alpha)?;
-    observe_commitment(&mut challenger, from_ref(&quotient.commitment));
+    let quotient = commit_quotient(alloc, table, &main, alpha)?;
+    challenger.observe(&quotient.commitment);
     let (witness, zeta) = match grind_and_draw_zeta(&mut challenger) {
         Some(drawn) => drawn,
         None => return Ok((Status::Refused, Vec::from_slice(alloc, WITNESS_NOT_FOUND)?)),
@@ -165,7 +131,7 @@ pub fn prove(alloc: Global, table: &SwapTable) -> Mem<(Status, Vec<u8>)>
             Vec::from_slice(alloc, OOD_POINT_IN_DOMAIN)?,
         ));
     }
-    let proof = opened_proof(alloc, table, main, quotient, witness, zeta)?;
+    let proof = opened_proof(alloc, table, main, quotient, witness, zeta, &mut challenger)?;
     let mut text = Vec::new(alloc);
     print_file(table, &proof, &mut text)?;
     Ok((Status::Done, text))

@@ -1,36 +1,20 @@
 //! What `verify` refuses, and the lines that say it.
 
 ghost use Rattle.std.specs.Prelude.{◌≡◌, ◌++◌, OnOk, IfOk, ◌∷◌, decimal};
-ghost use Rattle.batch_tool.specs.Refusals.{spaced, refusal_text};
+ghost use Rattle.batch_tool.specs.Refusals.{spaced, reason_text, refusal_text};
+ghost use Rattle.batch_tool.specs.declared.refusal.Refusal.TheVariants.{InvalidOpeningArgument};
 
 use itoa::Buffer;
 use p3_field::Mem;
+use plain_pcs::PlainError;
 use std::alloc::{AllocError, Global};
-
-/// The faults of the plain backend's openings. Round 0 commits to the trace, round 1 to the quotient.
-#[derive(Clone, Copy, Debug, PartialEq, Eq)]
-pub enum PlainError {
-    /// The interpolant of a committed column has a degree that isn't below the domain's size.
-    Degree {
-        round: usize,
-        matrix: usize,
-        column: usize,
-    },
-    /// The value of a committed column's interpolant at a point isn't the claimed one.
-    Value {
-        round: usize,
-        matrix: usize,
-        point: usize,
-        column: usize,
-    },
-}
 
 /// Why a proof is refused: the first check that failed.
 #[derive(Clone, Copy, Debug, PartialEq, Eq)]
 pub enum Refusal {
     /// The grinding value before zeta fails its test of so many bits.
     OodPowWitness { bits: usize },
-    /// An opening isn't what the commitments hold.
+    /// An opening isn't what the commitments hold. Round 0 commits to the trace, round 1 to the quotient.
     InvalidOpeningArgument(PlainError),
     /// Zeta lies in the trace domain.
     OodPointInDomain,
@@ -59,44 +43,66 @@ fn push_named(out: &mut Vec<u8>, name: &[u8], numbers: &[usize]) -> Result<(), A
     Ok(())
 }
 
+/// Appends a space, the name of the refusal for an opening's fault, and its numbers.
+fn push_fault(out: &mut Vec<u8>, fault: PlainError) -> Result<(), AllocError>
+    ensures { OnOk result (out.new.items ≡ out.old.items ++ reason_text (InvalidOpeningArgument fault)) }
+{
+    match fault {
+        PlainError::RoundShape { round } => push_named(
+            out,
+            b" InvalidOpeningArgument RoundShape",
+            &[round],
+        ),
+        PlainError::Dimensions { round, matrix } => push_named(
+            out,
+            b" InvalidOpeningArgument Dimensions",
+            &[round, matrix],
+        ),
+        PlainError::Degree {
+            round,
+            matrix,
+            column,
+        } => push_named(
+            out,
+            b" InvalidOpeningArgument Degree",
+            &[round, matrix, column],
+        ),
+        PlainError::Value {
+            round,
+            matrix,
+            point,
+            column,
+        } => push_named(
+            out,
+            b" InvalidOpeningArgument Value",
+            &[round, matrix, point, column],
+        ),
+    }
+}
+
+/// Appends a space, a refusal's name and its numbers.
+fn push_reason(out: &mut Vec<u8>, refusal: Refusal) -> Result<(), AllocError>
+    ensures { OnOk result (out.new.items ≡ out.old.items ++ reason_text refusal) }
+{
+    match refusal {
+        Refusal::OodPowWitness { bits } => push_named(out, b" OodPowWitness", &[bits]),
+        Refusal::InvalidOpeningArgument(fault) => push_fault(out, fault),
+        Refusal::OodPointInDomain => push_named(out, b" OodPointInDomain", &[]),
+        Refusal::OodEvaluationMismatch { index } => push_named(
+            out,
+            b" OodEvaluationMismatch",
+            &[index],
+        ),
+    }
+}
+
 /// The line of a refusal: `refused`, its name and its numbers.
 #[tactic(auto, unfolding(crate::specs::Refusals::refusal_text))]
 pub fn refusal_line(alloc: Global, refusal: Refusal) -> Mem<Vec<u8>>
     ensures { IfOk result (λ v. v.items ≡ refusal_text refusal) }
 {
     let mut line = Vec::from_slice(alloc, b"refused")?;
-    match refusal {
-        Refusal::OodPowWitness { bits } => push_named(&mut line, b" OodPowWitness", &[bits])?,
-        Refusal::InvalidOpeningArgument(
-            PlainError::Degree {
-                round,
-                matrix,
-                column,
-            },
-        ) => push_named(
-            &mut line,
-            b" InvalidOpeningArgument Degree",
-            &[round, matrix, column],
-        )?,
-        Refusal::InvalidOpeningArgument(
-            PlainError::Value {
-                round,
-                matrix,
-                point,
-                column,
-            },
-        ) => push_named(
-            &mut line,
-            b" InvalidOpeningArgument Value",
-            &[round, matrix, point, column],
-        )?,
-        Refusal::OodPointInDomain => push_named(&mut line, b" OodPointInDomain", &[])?,
-        Refusal::OodEvaluationMismatch { index } => push_named(
-            &mut line,
-            b" OodEvaluationMismatch",
-            &[index],
-        )?,
-    }
+    push_reason(&mut line, refusal)?;
     line.push(b'\n')?;
     Ok(line)
 }

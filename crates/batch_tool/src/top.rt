@@ -117,7 +117,7 @@ fn answer_verify(alloc: Global, bytes: &[u8]) -> Mem<(Status, Vec<u8>)>
     ensures { IfOk result (λ p. IsVerifyAnswer bytes.now p.0 p.1.items) }
 {
     match read_first_form(alloc, bytes) {
-        Ok(file) => verify(alloc, &file),
+        Ok(file) => verify(alloc, file),
         Err(TextError::Malformed { line: _ }) => {
             Ok((Status::BadInput, BAD_INPUT.to_vec(alloc)?))
         }

@@ -6,19 +6,18 @@ ghost use Rattle.batch_tool.specs.Honest.{seeded_state};
 ghost use Rattle.batch_tool.specs.Tool.{tool};
 ghost use Rattle.batch_tool.specs.Script.{begun, play, observe_all, draw_all, after_draws, passes, after_grinding};
 ghost use Rattle.batch_tool.specs.BatchScript.{script_to_alpha};
-ghost use Rattle.batch_tool.specs.Plain.{commitment_elements};
+ghost use Rattle.plain_pcs.specs.Observing.{commitment_elements};
 ghost use Rattle.p3_field.specs.Ring.{of_nat};
 ghost use Rattle.p3_field.specs.BabyBear.{bear_ring};
 ghost use Rattle.p3_field.specs.Quartic.{quartic_ring};
 ghost use Rattle.p3_field.specs.Quartic.{quartic_parts, quartic_whole};
 
-use crate::plain_pcs::observe_commitment;
 use crate::script::{
     Hierarchy, Interaction, InteractionKind, Label, Length, StepValue, encode, push_eight_bytes,
 };
 use p3_challenger::{CanObserve, CanSample, GrindingChallenger, Sha256Challenger, observe_bytes};
 use p3_field::{BabyBear, Mem, QuarticExtension, RingCore};
-use p3_matrix::RowMajorMatrix;
+use plain_pcs::PlainCommitment;
 use std::alloc::Global;
 
 /// The number of coefficients of a challenge.
@@ -169,7 +168,7 @@ fn draw_challenge(challenger: &mut Sha256Challenger) -> QuarticExtension
 pub fn draw_alpha(
     challenger: &mut Sha256Challenger,
     log_height: usize,
-    main: &[RowMajorMatrix<BabyBear>],
+    main: &PlainCommitment<BabyBear>,
     public_values: &[BabyBear],
 ) -> QuarticExtension
     ensures state { let script = script_to_alpha 4 (quartic_parts (of_nat quartic_ring log_height) ∷ []) (commitment_elements bear_ring main.now) (public_values.now ∷ []) in
@@ -178,7 +177,7 @@ pub fn draw_alpha(
         quartic_parts result ∷ [] ≡ (play tool.challenger (begun _ challenger.old) script).challenges }
 {
     challenger.observe(&QuarticExtension::from_u64(log_height as u64));
-    observe_commitment(challenger, main);
+    challenger.observe(main);
     challenger.observe_slice(public_values);
     draw_challenge(challenger)
 }

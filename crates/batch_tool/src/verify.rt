@@ -1,116 +1,109 @@
 //! The command `verify`: the checks of a proof, and the first that fails.
 
-ghost use Rattle.std.specs.Prelude.{◌≡◌, ◌≤◌, ◌+◌, ◌^◌, ◌∷◌, [], IfOk};
+ghost use Rattle.std.specs.Prelude.{◌≡◌, ◌≤◌, ◌+◌, ◌^◌, ◌∷◌, ◌++◌, [], IfOk};
 ghost use Rattle.batch_tool.specs.Checks.{FirstFailing};
 ghost use Rattle.batch_tool.specs.FileAnswer.{stated, IsFileAnswer};
 ghost use Rattle.batch_tool.specs.FirstForm.{IsFirstForm, IsSwapShape};
-ghost use Rattle.batch_tool.specs.Honest.{alpha as drawn_alpha, zeta_behind, witness_passes};
+ghost use Rattle.batch_tool.specs.Honest.{witness_passes};
 ghost use Rattle.batch_tool.specs.Tool.{tool};
-ghost use Rattle.batch_tool.specs.Verify.{Meets, alpha_drawn, checks, round_checks, zeta_drawn};
+ghost use Rattle.batch_tool.specs.Verify.{Meets, alpha_drawn, checks, main_of, quotient_of, round_checks, zeta_drawn};
 ghost use Rattle.batch_tool.specs.declared.refusal.Refusal.TheVariants.{OodPointInDomain, OodEvaluationMismatch};
 
+use crate::committed_proof::CommittedProof;
 use crate::domain::is_in_trace_domain;
 use crate::first_form::{FirstForm, SwapStatement};
 use crate::identity::identity_holds;
 use crate::job::MOST_LOG_ROWS;
-use crate::opening_check::{committed_polynomials, quotient_fault, trace_fault};
-use crate::plain_pcs::observe_commitment;
+use crate::opening::{opening_fault, quotient_claim, trace_claim};
 use crate::proof::TableProof;
 use crate::refusal::{Refusal, refusal_line};
 use crate::top::Status;
 use crate::transcript::{OOD_POW_BITS, check_and_draw_zeta, draw_alpha, seeded_challenger};
+use p3_challenger::{CanObserve, Sha256Challenger};
+use p3_commit::PointOpening;
 use p3_field::{BabyBear, ExtensionField, Mem, QuarticExtension, TwoAdicCore};
-use p3_matrix::RowMajorMatrix;
 use std::alloc::Global;
-use std::slice::from_ref;
 
 /// What is written for a proof that passes every check.
 const ACCEPTED: &[u8] = b"accepted\n";
 
-/// The challenges of a proof, drawn again, and whether its grinding value passes.
-#[derive(Clone, Copy)]
+/// The challenges of a proof, drawn again, whether its grinding value passes, and the challenger behind zeta.
+#[derive(Drop)]
 struct Challenges {
     alpha: QuarticExtension,
     passed: bool,
     zeta: QuarticExtension,
+    challenger: Sha256Challenger,
 }
 
 /// Plays the script of a statement and a proof.
 fn drawn_challenges(
     alloc: Global,
     statement: &SwapStatement,
-    main: &RowMajorMatrix<BabyBear>,
-    quotient: &RowMajorMatrix<BabyBear>,
-    witness: BabyBear,
+    proof: &CommittedProof,
 ) -> Mem<Challenges>
-    ensures alpha { IfOk result (λ d. d.alpha ≡ drawn_alpha tool (stated statement.now) main.now) }
-    ensures passed { IfOk result (λ d. d.passed ≡ witness_passes tool (stated statement.now) main.now quotient.now witness) }
-    ensures zeta { IfOk result (λ d. d.zeta ≡ zeta_behind tool (stated statement.now) main.now quotient.now witness) }
+    requires { IsSwapShape statement.now.log_rows proof.now }
+    ensures alpha { IfOk result (λ d. d.alpha ≡ alpha_drawn tool (stated statement.now) proof.now) }
+    ensures passed { IfOk result (λ d. d.passed ≡ witness_passes tool (stated statement.now) (main_of proof.now) (quotient_of proof.now) proof.now.ood_pow_witness) }
+    ensures zeta { IfOk result (λ d. d.zeta ≡ zeta_drawn tool (stated statement.now) proof.now) }
 {
     let mut challenger = seeded_challenger(alloc, 2, 3)?;
     let public_values = [statement.a, statement.b, statement.x];
     let alpha = draw_alpha(
         &mut challenger,
         statement.log_rows as usize,
-        from_ref(main),
+        &proof.main,
         &public_values,
     );
-    observe_commitment(&mut challenger, from_ref(quotient));
-    let (passed, zeta) = check_and_draw_zeta(&mut challenger, witness);
+    challenger.observe(&proof.quotient_chunk);
+    let (passed, zeta) = check_and_draw_zeta(&mut challenger, proof.ood_pow_witness);
     Ok(Challenges {
         alpha,
         passed,
         zeta,
+        challenger,
     })
 }
 
-/// The first check of the trace's openings that fails, if one does.
-fn trace_refusal(
+/// The first check of the openings that fails, if one does: the scheme's verifier on the claims of the proof.
+fn opening_refusal(
     alloc: Global,
     statement: &SwapStatement,
-    proof: &TableProof,
+    proof: CommittedProof,
     zeta: QuarticExtension,
+    challenger: &mut Sha256Challenger,
 ) -> Mem<Option<Refusal>>
     requires few { statement.now.log_rows ≤ 10 }
-    requires shape { IsSwapShape statement.now.log_rows proof.now }
-    requires zeta { zeta ≡ zeta_drawn tool (stated statement.now) proof.now }
-    ensures { IfOk result (λ a. FirstFailing (Meets tool (stated statement.now) proof.now) (round_checks 0 2 2) a) }
+    requires shape { IsSwapShape statement.now.log_rows proof }
+    requires zeta { zeta ≡ zeta_drawn tool (stated statement.now) proof }
+    ensures { IfOk result (λ a. FirstFailing (Meets tool (stated statement.now) proof) (round_checks 0 2 2 ++ round_checks 1 4 1) a) }
 {
-    let log_height = statement.log_rows as usize;
-    let generator = BabyBear::two_adic_generator(log_height);
-    let next_point = QuarticExtension::from_base(generator) * zeta;
-    let polynomials = committed_polynomials(alloc, &proof.main, log_height + 1)?;
-    Ok(trace_fault(
-        &polynomials,
-        1 << log_height,
-        zeta,
-        &proof.trace_local,
-        next_point,
-        &proof.trace_next,
-    ))
-}
-
-/// The first check of the quotient's openings that fails, if one does.
-fn quotient_refusal(
-    alloc: Global,
-    statement: &SwapStatement,
-    proof: &TableProof,
-    zeta: QuarticExtension,
-) -> Mem<Option<Refusal>>
-    requires few { statement.now.log_rows ≤ 10 }
-    requires shape { IsSwapShape statement.now.log_rows proof.now }
-    requires zeta { zeta ≡ zeta_drawn tool (stated statement.now) proof.now }
-    ensures { IfOk result (λ a. FirstFailing (Meets tool (stated statement.now) proof.now) (round_checks 1 4 1) a) }
-{
-    let log_height = statement.log_rows as usize;
-    let polynomials = committed_polynomials(alloc, &proof.quotient_chunk, log_height + 1)?;
-    Ok(quotient_fault(&polynomials, 1 << log_height, zeta, &proof.chunk_values))
+    let log_rows = statement.log_rows as usize;
+    let generator = BabyBear::two_adic_generator(log_rows);
+    let local = PointOpening {
+        point: zeta,
+        values: proof.trace_local,
+    };
+    let next = PointOpening {
+        point: QuarticExtension::from_base(generator) * zeta,
+        values: proof.trace_next,
+    };
+    let opened = PointOpening {
+        point: zeta,
+        values: proof.chunk_values,
+    };
+    let main = trace_claim(alloc, log_rows, proof.main, local, next)?;
+    let quotient = quotient_claim(alloc, log_rows, proof.quotient_chunk, opened)?;
+    match opening_fault(alloc, vec![in alloc; main, quotient]?, challenger)? {
+        Some(fault) => Ok(Some(Refusal::InvalidOpeningArgument(fault))),
+        None => Ok(None),
+    }
 }
 
 /// The refusal where zeta lies in the trace domain, or where the identity fails there.
 fn identity_refusal(
     statement: &SwapStatement,
-    proof: &TableProof,
+    proof: &CommittedProof,
     alpha: QuarticExtension,
     zeta: QuarticExtension,
 ) -> Option<Refusal>
@@ -136,41 +129,36 @@ fn identity_refusal(
     None
 }
 
-/// The first check that a statement's proof fails, if it fails one.
+/// The first check that a statement's proof fails, if it fails one. The values at zeta are read before the openings take
+/// them, and what they tell is the answer where the openings hold.
 fn first_refusal(
     alloc: Global,
     statement: &SwapStatement,
-    proof: &TableProof,
+    proof: TableProof,
 ) -> Mem<Option<Refusal>>
     requires few { statement.now.log_rows ≤ 10 }
-    requires shape { IsSwapShape statement.now.log_rows proof.now }
-    ensures { IfOk result (λ a. FirstFailing (Meets tool (stated statement.now) proof.now) checks a) }
+    requires shape { IsSwapShape statement.now.log_rows proof }
+    ensures { IfOk result (λ a. FirstFailing (Meets tool (stated statement.now) proof) checks a) }
 {
-    let drawn = drawn_challenges(
-        alloc,
-        statement,
-        &proof.main,
-        &proof.quotient_chunk,
-        proof.ood_pow_witness,
-    )?;
+    let proof = CommittedProof::from_proof(alloc, proof)?;
+    let mut drawn = drawn_challenges(alloc, statement, &proof)?;
     if !drawn.passed {
         return Ok(Some(Refusal::OodPowWitness { bits: OOD_POW_BITS }));
     }
-    if let Some(refusal) = trace_refusal(alloc, statement, proof, drawn.zeta)? {
-        return Ok(Some(refusal));
+    let last = identity_refusal(statement, &proof, drawn.alpha, drawn.zeta);
+    match opening_refusal(alloc, statement, proof, drawn.zeta, &mut drawn.challenger)? {
+        Some(refusal) => Ok(Some(refusal)),
+        None => Ok(last),
     }
-    if let Some(refusal) = quotient_refusal(alloc, statement, proof, drawn.zeta)? {
-        return Ok(Some(refusal));
-    }
-    Ok(identity_refusal(statement, proof, drawn.alpha, drawn.zeta))
 }
 
 /// The status and the text for a file of the first form: accepted where no check fails, and else the first that fails.
-pub fn verify(alloc: Global, file: &FirstForm) -> Mem<(Status, Vec<u8>)>
-    requires { IsFirstForm MOST_LOG_ROWS file.now }
-    ensures { IfOk result (λ p. IsFileAnswer file.now p.0 p.1.items) }
+pub fn verify(alloc: Global, file: FirstForm) -> Mem<(Status, Vec<u8>)>
+    requires { IsFirstForm MOST_LOG_ROWS file }
+    ensures { IfOk result (λ p. IsFileAnswer file p.0 p.1.items) }
 {
-    match first_refusal(alloc, &file.statement, &file.proof)? {
+    let FirstForm { statement, proof } = file;
+    match first_refusal(alloc, &statement, proof)? {
         None => Ok((Status::Done, Vec::from_slice(alloc, ACCEPTED)?)),
         Some(refusal) => Ok((Status::Refused, refusal_line(alloc, refusal)?)),
     }

@@ -9,7 +9,7 @@ use Rattle.p3_field.specs.declared.quartic.QuarticExtension.{QuarticExtension}
 use Rattle.p3_matrix.specs.Matrix.{Rows}
 use Rattle.batch_tool.specs.Texts.{Between, Small, Grammar, Unlimited, ItemsWithin, number_words, element_words, extension_words}
 use Rattle.batch_tool.specs.Fixed.{fixed_words, headed_words}
-use Rattle.batch_tool.specs.Proof.{OpenedData, ProofData}
+use Rattle.batch_tool.specs.Proof.{OpenedWithLookups, ProofData}
 use Rattle.batch_tool.specs.ProofFile.{opened_words, proof_words, file_words}
 use Rattle.batch_tool.specs.FirstForm.{Single, HasLength, HasShape, IsSwapOpening, IsSwapShape, StatementWithin, statement_words, IsFirstForm, first_form_words}
 use Rattle.batch_tool.specs.Laws.Grammars.{PairWithin, ThenWithin, pair_words, SameTexts, pair-grammar, then-grammar, same-grammar, element-grammar, extension-grammar, ThreeWithin, three_words, three-grammar}
@@ -164,13 +164,15 @@ pub main-grammar : (k rows : ℕ) → k < 2 ^ 64 → rows < 2 ^ 64 → Grammar (
 main-grammar k rows h r = then-grammar (main_head-grammar rows r) (quotient-grammar k rows h r)
 
 -- the proof with these lists of values
-abbrev pub opening_of : List QuarticExtension → List QuarticExtension → List QuarticExtension → OpenedData QuarticExtension
+abbrev pub opening_of : List QuarticExtension → List QuarticExtension → List QuarticExtension → OpenedWithLookups QuarticExtension
 opening_of local next chunk = record {
-  trace_local = local;
-  trace_next = Some next;
-  preprocessed = None;
-  quotient_chunks = chunk ∷ [];
-  random = None;
+  base = record {
+    trace_local = local;
+    trace_next = Some next;
+    preprocessed = None;
+    quotient_chunks = chunk ∷ [];
+    random = None;
+  };
   permutation_local = [];
   permutation_next = [];
 }
@@ -292,22 +294,22 @@ same-proof k rows size = record {
       let m = single (HasShape 2 (2 ^ (k + 1))) p.main fits.main in
       let q = single (HasShape 4 (2 ^ (k + 1))) p.quotient_chunks fits.quotient_chunks in
       let o = single IsSwapOpening p.instances fits.instances in
-      let n = present (HasLength 2) o.0.trace_next o.1.trace_next in
-      let c = single (HasLength 4) o.0.quotient_chunks o.1.quotient_chunks in
+      let n = present (HasLength 2) o.0.base.trace_next o.1.trace_next in
+      let c = single (HasLength 4) o.0.base.quotient_chunks o.1.quotient_chunks in
       let main : record { values = m.0.values; width = 2 } ∷ [] ≡ p.main = matrix-same 2 m.0 m.1.width ∙ m.2 in
       let quotient : record { values = q.0.values; width = 4 } ∷ [] ≡ p.quotient_chunks = matrix-same 4 q.0 q.1.width ∙ q.2 in
-      let opened : opening_of o.0.trace_local n.0 c.0 ∷ [] ≡ p.instances = opening-same o.0 n.0 c.0 o.1 n.2 c.2 ∙ o.2 in
+      let opened : opening_of o.0.base.trace_local n.0 c.0 ∷ [] ≡ p.instances = opening-same o.0 n.0 c.0 o.1 n.2 c.2 ∙ o.2 in
       let permutation = sym fits.permutation in
       let random = sym fits.random in
       let terminals = sym fits.lookup_terminals in
       let bits = sym fits.degree_bits in
       let witness = sym fits.lookup_pow_witness in (
-        (m.0.values, (q.0.values, (o.0.trace_local, (n.0, (c.0, (tt, p.ood_pow_witness)))))),
+        (m.0.values, (q.0.values, (o.0.base.trace_local, (n.0, (c.0, (tt, p.ood_pow_witness)))))),
         (
           (m.1.values ∙ ap (λ (n : ℕ). 2 * n) (sym size), no-limits m.0.values),
           (
             (q.1.values ∙ ap (λ (n : ℕ). 4 * n) (sym size), no-limits q.0.values),
-            ((o.1.trace_local, no-limits o.0.trace_local), ((n.1, no-limits n.0), ((c.1, no-limits c.0), (tt, tt)))),
+            ((o.1.trace_local, no-limits o.0.base.trace_local), ((n.1, no-limits n.0), ((c.1, no-limits c.0), (tt, tt)))),
           ),
         ),
         λ i. record {
@@ -327,19 +329,21 @@ same-proof k rows size = record {
     matrix-same : (width : ℕ) (m : Rows BabyBear) → m.width ≡ width → record { values = m.values; width = width } ∷ [] ≡ m ∷ []
     matrix-same width m e = ap (λ (w : ℕ). record { values = m.values; width = w } ∷ []) (sym e)
 
-    opening-same : (o : OpenedData QuarticExtension) (next chunk : List QuarticExtension) → IsSwapOpening o → Some next ≡ o.trace_next → chunk ∷ [] ≡ o.quotient_chunks
-        → opening_of o.trace_local next chunk ∷ [] ≡ o ∷ []
+    opening-same : (o : OpenedWithLookups QuarticExtension) (next chunk : List QuarticExtension) → IsSwapOpening o → Some next ≡ o.base.trace_next → chunk ∷ [] ≡ o.base.quotient_chunks
+        → opening_of o.base.trace_local next chunk ∷ [] ≡ o ∷ []
     opening-same o next chunk fits n c =
         let preprocessed = sym fits.preprocessed in
         let random = sym fits.random in
         let local = sym fits.permutation_local in
         let after = sym fits.permutation_next in
         λ i. record {
-          trace_local = o.trace_local;
-          trace_next = n i;
-          preprocessed = preprocessed i;
-          quotient_chunks = c i;
-          random = random i;
+          base = record {
+            trace_local = o.base.trace_local;
+            trace_next = n i;
+            preprocessed = preprocessed i;
+            quotient_chunks = c i;
+            random = random i;
+          };
           permutation_local = local i;
           permutation_next = after i;
         } ∷ []

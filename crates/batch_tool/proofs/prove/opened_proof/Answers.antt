@@ -1,38 +1,46 @@
-use Rattle.std.proofs.Common.{◌≡◌, ◌∷◌, [], ◌∙◌, ap, map, Some, None}
+use Rattle.std.proofs.Common.{◌≡◌, ◌∷◌, [], ◌∙◌, sym, ap, map, Some, None}
 use Rattle.p3_field.specs.Poly.{val_in}
 use Rattle.p3_field.specs.Quartic.{quartic_ring, of_bear_value}
 use Rattle.batch_tool.specs.Swap.{swap_stated}
-use Rattle.batch_tool.specs.Honest.{honest_proof, zeta, opened_at, next_point}
+use Rattle.batch_tool.specs.Committed.{committed_matrix}
+use Rattle.batch_tool.specs.Honest.{honest_proof, zeta, next_point}
+use Rattle.batch_tool.specs.Reading.{opened_at}
 use Rattle.batch_tool.specs.Prove.{instance_of}
 use Rattle.batch_tool.specs.Tool.{tool}
 use Rattle.batch_tool.proofs.prove.opened_proof.Goals as goal
 
+pub only_matrix-requires : goal.only_matrix-requires
+only_matrix-requires c = let (k, (fs, h)) = c.requires.main in (committed_matrix k fs, h.matrix_is)
+
+pub only_matrix-requires-2 : goal.only_matrix-requires-2
+only_matrix-requires-2 c = let (k, (fs, h)) = c.requires.quotient in (committed_matrix k fs, h.matrix_is)
+
 pub returns : goal.returns
 unfolding honest_proof tool swap_stated
-returns c = λ n w z.
+returns c = λ k n fs gs h g w z.
     let inst = instance_of c.args.table.now in
-    let x = zeta tool inst c.args.main.commitment c.args.quotient.commitment n in
-    let columns = map (λ f. f.items) c.args.main.polynomials.items in
-    let chunk = map (λ f. f.items) c.args.quotient.polynomials.items in
-    let local : c.in_ok-opened_values.field-0.items ≡ opened_at tool inst columns x =
-    c.in_ok-opened_values.ensures ∙ (λ i. map (λ f. val_in tool.extension f (z i)) (map (λ f. f.items) (c.deref.ensures.value i))) in
+    let x = zeta tool inst (committed_matrix k fs) (committed_matrix k gs) n in
+    let opened = c.in_ok-values.ensures.main k fs h in
+    let main = sym c.only_matrix.ensures ∙ h.matrix_is in
+    let chunk = sym c.only_matrix-2.ensures ∙ g.matrix_is in
+    let local : c.in_ok-values.values.trace_local.items ≡ opened_at tool.extension fs x = opened.0 ∙ (λ i. map (λ f. val_in tool.extension f (z i)) fs) in
     let after : c.mul-next_point.result ≡ next_point tool inst x =
     c.mul-next_point.ensures ∙ (λ i. quartic_ring.mul ((c.from_base.ensures ∙ ap of_bear_value c.two_adic_generator-generator.ensures) i) (z i)) in
-    let next : c.in_ok-opened_values-2.field-0.items ≡ opened_at tool inst columns (next_point tool inst x) =
-    c.in_ok-opened_values-2.ensures ∙ (λ i. map (λ f. val_in tool.extension f (after i)) (map (λ f. f.items) (c.deref-2.ensures.value i))) in
-    let quotient : c.in_ok-opened_values-3.field-0.items ≡ opened_at tool inst chunk x =
-    c.in_ok-opened_values-3.ensures ∙ (λ i. map (λ f. val_in tool.extension f (z i)) (map (λ f. f.items) (c.deref-3.ensures.value i))) in
+    let next : c.in_ok-values.values.trace_next.items ≡ opened_at tool.extension fs (next_point tool inst x) = opened.1 ∙ (λ i. map (λ f. val_in tool.extension f (after i)) fs) in
+    let quotient : c.in_ok-values.values.chunk_values.items ≡ opened_at tool.extension gs x = c.in_ok-values.ensures.quotient k gs g ∙ (λ i. map (λ f. val_in tool.extension f (z i)) gs) in
     λ i. record {
-      main = c.args.main.commitment ∷ [];
+      main = main i;
       permutation = None;
-      quotient_chunks = c.args.quotient.commitment ∷ [];
+      quotient_chunks = chunk i;
       random = None;
       instances = record {
-        trace_local = local i;
-        trace_next = Some (next i);
-        preprocessed = None;
-        quotient_chunks = quotient i ∷ [];
-        random = None;
+        base = record {
+          trace_local = local i;
+          trace_next = Some (next i);
+          preprocessed = None;
+          quotient_chunks = quotient i ∷ [];
+          random = None;
+        };
         permutation_local = [];
         permutation_next = [];
       } ∷ [];

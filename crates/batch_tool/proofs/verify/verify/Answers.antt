@@ -6,7 +6,7 @@ use Rattle.batch_tool.proofs.verify.verify.Goals as goal
 pub returns-in_ok-from_slice-in-None : goal.returns-in_ok-from_slice-in-None
 unfolding IsFileAnswer
 returns-in_ok-from_slice-in-None c = (
-  subst (λ (o : Option Refusal). FirstRefusal c.args.file.now o) c.in-None.is c.in_ok-first_refusal.ensures,
+  subst (λ (o : Option Refusal). FirstRefusal c.args.file o) c.in-None.is c.in_ok-first_refusal.ensures,
   c.in_ok-from_slice-in-None.ensures.items,
 )
 
@@ -14,6 +14,6 @@ pub returns-in_ok-refusal_line-in-Some : goal.returns-in_ok-refusal_line-in-Some
 unfolding IsFileAnswer
 returns-in_ok-refusal_line-in-Some c = (
   c.in-Some.refusal,
-  subst (λ (o : Option Refusal). FirstRefusal c.args.file.now o) c.in-Some.is c.in_ok-first_refusal.ensures,
+  subst (λ (o : Option Refusal). FirstRefusal c.args.file o) c.in-Some.is c.in_ok-first_refusal.ensures,
   c.in_ok-refusal_line-in-Some.ensures,
 )
