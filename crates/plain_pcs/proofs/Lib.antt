@@ -9,4 +9,3 @@ mod Openings
 mod Places
 mod Heights
 mod Folding
-mod TwoColumns

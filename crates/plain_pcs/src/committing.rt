@@ -63,8 +63,9 @@ pub fn extensions<F: TwoAdicField, D: TwoAdicSubgroupDft<F>>(
     Ok(extended)
 }
 
-// Whether the field has a subgroup with as many elements as the matrix has rows.
-pub(crate) fn has_subgroup_height<F: TwoAdicField>(matrix: &RowMajorMatrix<F>) -> bool
+/// Whether the field has a subgroup with as many elements as the matrix has rows, which is what
+/// [`committed`](crate::PlainPcs::committed) asks of a committed matrix.
+pub fn has_subgroup_height<F: TwoAdicField>(matrix: &RowMajorMatrix<F>) -> bool
     ensures { IsTrue result ↔ HasSubgroupHeight F.TWO_ADICITY matrix.now }
 {
     let height = matrix.height();

@@ -20,22 +20,10 @@ mod rows;
 mod verifying;
 
 pub use commitment::{PlainCommitment, PlainProof, PlainProverData};
+pub use committing::has_subgroup_height;
 pub use error::{PlainError, PlainProverError};
 pub use plain_mmcs::{PlainMmcs, PlainMmcsData, PlainMmcsError, PlainMmcsProof};
 pub use plain_multilinear::{
     PlainEvaluations, PlainMultilinear, PlainMultilinearError, PlainMultilinearProverError,
 };
 pub use plain_pcs::PlainPcs;
-
-#[cfg(test)]
-mod mmcs_tests;
-#[cfg(test)]
-mod multilinear_tests;
-#[cfg(test)]
-mod opening_tests;
-#[cfg(test)]
-mod quotient_tests;
-#[cfg(test)]
-mod scheme_tests;
-#[cfg(test)]
-mod verifying_tests;

@@ -1,0 +1,160 @@
+//! Gadgets and the check of rows on worked values. The sums and rotations are those of Python's integers.
+ghost use Rattle.std.specs.Prelude.{◌≡◌, ◌<◌, IfOk, length};
+
+use p3_air::examples::SwapAir;
+use p3_air::{
+    AirBuilder, CheckFailure, DebugConstraintBuilder, RowValues, add2, add3, check_constraints,
+    pack_bits_le, u32_to_bits_le, xor_32_shift,
+};
+use p3_field::{BabyBear, FieldCore, Mem, RingCore};
+use p3_matrix::RowMajorMatrix;
+use std::alloc::Global;
+use std::test::Fail;
+
+type Builder = DebugConstraintBuilder<'static, BabyBear, BabyBear>;
+
+// A builder at a row without cells.
+fn at_no_cells(alloc: Global) -> Builder {
+    let row = RowValues {
+        main_local: &[],
+        main_next: &[],
+        preprocessed_local: &[],
+        preprocessed_next: &[],
+        periodic: &[],
+        public_values: &[],
+        is_first_row: false,
+        is_last_row: false,
+        permutation_local: &[],
+        permutation_next: &[],
+        challenges: &[],
+        terminals: &[],
+    };
+    DebugConstraintBuilder::new(alloc, row)
+}
+
+fn bear(n: u32) -> BabyBear {
+    BabyBear::from_u64(n as u64)
+}
+
+fn limbs(word: u32) -> [BabyBear; 2] {
+    [bear(word % 65536), bear(word / 65536)]
+}
+
+// Whether each constraint so far is zero.
+fn holds(builder: &Builder) -> bool {
+    for x in builder.values() {
+        if !x.is_zero() {
+            return false;
+        }
+    }
+    true
+}
+
+fn is_sum(alloc: Global, a: u32, b: u32, c: u32) -> Mem<bool> {
+    let mut builder = at_no_cells(alloc);
+    add2(&mut builder, limbs(a), limbs(b), limbs(c))?;
+    Ok(holds(&builder))
+}
+
+fn is_sum_of_three(alloc: Global, a: u32, b: u32, c: u32, d: u32) -> Mem<bool> {
+    let mut builder = at_no_cells(alloc);
+    add3(&mut builder, limbs(a), limbs(b), limbs(c), limbs(d))?;
+    Ok(holds(&builder))
+}
+
+fn is_xor_shift(alloc: Global, a: u32, b: u32, c: u32, shift: usize) -> Mem<bool> {
+    let mut builder = at_no_cells(alloc);
+    xor_32_shift(
+        &mut builder,
+        limbs(a),
+        u32_to_bits_le(b),
+        u32_to_bits_le(c),
+        shift,
+    )?;
+    Ok(holds(&builder))
+}
+
+// Three words b, c, d; then b + c and b + c + d modulo 2^32.
+const B: u32 = 0x9e37_79b9;
+
+const C: u32 = 0x7f4a_7c15;
+
+const D: u32 = 0xf39c_c060;
+
+const SUM: u32 = 0x1d81_f5ce;
+
+const SUM_OF_THREE: u32 = 0x111e_b62e;
+
+#[test]
+fn sums_of_words(rt: HostRuntime) -> Result<(), Fail> {
+    let alloc = rt.alloc();
+    assert!(rt; is_sum(alloc, SUM, B, C)?);
+    assert!(rt; !is_sum(alloc, SUM ^ 1, B, C)?);
+    assert!(rt; !is_sum(alloc, SUM ^ 0x0100_0000, B, C)?);
+    assert!(rt; is_sum_of_three(alloc, SUM_OF_THREE, B, C, D)?);
+    assert!(rt; !is_sum_of_three(alloc, SUM_OF_THREE ^ 0x8000, B, C, D)?);
+    Ok(())
+}
+
+// The xors and rotations to the right of BLAKE3's quarter round, by 16, 12, 8 and 7: of the sum a and the word d they
+// give a word c for which a is d xor (c rotated back to the left).
+#[test]
+fn rotations_of_words(rt: HostRuntime) -> Result<(), Fail> {
+    let alloc = rt.alloc();
+    let a = SUM_OF_THREE;
+    assert!(rt; is_xor_shift(alloc, a, D, 0x764e_e282, 16)?);
+    assert!(rt; is_xor_shift(alloc, a, D, 0x64ee_2827, 12)?);
+    assert!(rt; is_xor_shift(alloc, a, D, 0x4ee2_8276, 8)?);
+    assert!(rt; is_xor_shift(alloc, a, D, 0x9dc5_04ec, 7)?);
+    assert!(rt; is_xor_shift(alloc, a, D, 0x9dc5_04ec, 39)?);
+    assert!(rt; !is_xor_shift(alloc, a, D, 0x9dc5_04ed, 7)?);
+    assert!(rt; !is_xor_shift(alloc, a, D, 0x9dc5_04ec, 25)?);
+    Ok(())
+}
+
+#[test]
+fn bits_of_a_word(rt: HostRuntime) -> Result<(), Fail> {
+    let alloc = rt.alloc();
+    let bits: [BabyBear; 32] = u32_to_bits_le(0x0000_b62e);
+    let mut builder = at_no_cells(alloc);
+    let packed = pack_bits_le(&mut builder, &bits)?;
+    assert!(rt; packed == bear(0xb62e));
+    // 2 is no bit, though the packed limbs are those of the word.
+    let mut wrong = bits;
+    wrong[1] = bear(0);
+    wrong[0] = bear(2);
+    xor_32_shift(&mut builder, limbs(0xb62e), u32_to_bits_le(0), wrong, 0)?;
+    assert!(rt; !holds(&builder));
+    Ok(())
+}
+
+// Two rows of the swap table.
+fn two_rows(alloc: Global, values: [u32; 4]) -> Mem<RowMajorMatrix<BabyBear>>
+    ensures { IfOk result (λ m. (m.width ≡ 2) × (length m.values ≡ 4)) }
+{
+    let [a, b, c, d] = values;
+    let cells = Vec::from_array(alloc, [bear(a), bear(b), bear(c), bear(d)])?;
+    Ok(RowMajorMatrix::new(cells, 2))
+}
+
+// What the check says of swap's two rows with public values 0, 1 and x.
+fn checked_swap(alloc: Global, values: [u32; 4], x: u32) -> Result<(), CheckFailure> {
+    let main = two_rows(alloc, values)?;
+    let public_values = [bear(0), bear(1), bear(x)];
+    check_constraints(alloc, &SwapAir, &main, None, &public_values)
+}
+
+#[test]
+fn swap_holds(rt: HostRuntime) -> Result<(), Fail> {
+    let alloc = rt.alloc();
+    assert!(rt; checked_swap(alloc, [0, 1, 1, 0], 0).is_ok());
+    // The right cell of the second row isn't the left one of the first.
+    match checked_swap(alloc, [0, 1, 1, 2], 2) {
+        Err(CheckFailure::Failing { row, places }) => {
+            assert_eq!(rt; row, 0);
+            assert_eq!(rt; places.as_slice(), [3usize].as_slice());
+        }
+        _ => assert!(rt; false),
+    }
+    Ok(())
+}

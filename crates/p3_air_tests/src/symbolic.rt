@@ -1,0 +1,190 @@
+//! Worked values, by hand from the rules.
+ghost use Rattle.std.specs.Prelude.{◌≡◌, ◌<◌, [], ◌∷◌, IfOk, length};
+ghost use Rattle.p3_air.specs.Degree.{HasPeriod};
+ghost use Rattle.p3_air.specs.declared.node.Node.TheVariants.{Base};
+ghost use Rattle.p3_air.specs.Layout.{layout_shape};
+ghost use Rattle.p3_air.specs.Shape.{Declares, DeclaresExt};
+
+use p3_air::examples::SwapAir;
+use p3_air::{
+    Air, AirBuilder, AirLayout, Cell, ConstraintLayout, ExtCell, ExtensionBuilder,
+    InteractionSymbolicBuilder, Node, PermutationAirBuilder, SymbolicExpression,
+    constraint_degree_from_poly_degree,
+};
+use p3_field::{BabyBear, FieldCore, Mem, RingCore};
+use std::alloc::Global;
+use std::test::Fail;
+
+// One cell of each kind.
+fn one_of_each() -> AirLayout
+    ensures { result ≡ record { preprocessed_width = 1; main_width = 1; num_public_values = 1; num_periodic_columns = 1; permutation_width = 1; num_permutation_challenges = 1; num_permutation_values = 1 } }
+{
+    AirLayout {
+        preprocessed_width: 1,
+        main_width: 1,
+        num_public_values: 1,
+        num_periodic_columns: 1,
+        permutation_width: 1,
+        num_permutation_challenges: 1,
+        num_permutation_values: 1,
+    }
+}
+
+// The degree of a cell, and that with a transition selector of degree 3.
+fn degrees(constraints: &[SymbolicExpression<BabyBear>]) -> Option<(usize, usize)> {
+    match constraints.first() {
+        Some(c) => Some((c.degree_multiple(), c.degree_multiple_with_transition(3))),
+        None => None,
+    }
+}
+
+// The degrees of a cell, recorded as the only constraint.
+fn cell_degrees(alloc: Global, cell: Cell) -> Mem<Option<(usize, usize)>>
+    requires { Declares (layout_shape (record { preprocessed_width = 1; main_width = 1; num_public_values = 1; num_periodic_columns = 1; permutation_width = 1; num_permutation_challenges = 1; num_permutation_values = 1 })) cell }
+{
+    let mut builder = InteractionSymbolicBuilder::<BabyBear>::new(alloc, one_of_each())?;
+    let x = builder.cell(cell)?;
+    builder.assert_zero(x)?;
+    let constraints = builder.base_constraints(alloc)?;
+    Ok(degrees(&constraints))
+}
+
+// The same of a cell of the extension.
+fn ext_cell_degrees(alloc: Global, cell: ExtCell) -> Mem<Option<(usize, usize)>>
+    requires { DeclaresExt (layout_shape (record { preprocessed_width = 1; main_width = 1; num_public_values = 1; num_periodic_columns = 1; permutation_width = 1; num_permutation_challenges = 1; num_permutation_values = 1 })) cell }
+{
+    let mut builder = InteractionSymbolicBuilder::<BabyBear>::new(alloc, one_of_each())?;
+    let x = builder.ext_cell(cell)?;
+    builder.assert_zero_ext(x)?;
+    let constraints = builder.extension_constraints(alloc)?;
+    Ok(degrees(&constraints))
+}
+
+#[test]
+fn swap_has_five_constraints(rt: HostRuntime) -> Result<(), Fail> {
+    let alloc = rt.alloc();
+    let layout = AirLayout::from_air::<BabyBear, SwapAir>(&SwapAir);
+    assert_eq!(rt; layout.main_width, 2);
+    let mut builder = InteractionSymbolicBuilder::<BabyBear>::new(alloc, layout)?;
+    SwapAir.eval(&mut builder)?;
+    let constraints = builder.base_constraints(alloc)?;
+    assert_eq!(rt; constraints.len(), 5);
+    // A selector times a difference: of degree 2, but 1 where the selector is the transition.
+    let mut multiples = Vec::new(alloc);
+    for c in &constraints {
+        multiples.push(c.degree_multiple())?;
+    }
+    assert_eq!(rt; multiples.as_slice(), [2usize, 2, 1, 1, 2].as_slice());
+    let places = builder.constraint_layout(alloc)?;
+    assert_eq!(rt;
+        places.base_indices.as_slice(),
+        [0usize, 1, 2, 3, 4].as_slice()
+    );
+    assert_eq!(rt; places.ext_indices.len(), 0);
+    Ok(())
+}
+
+#[test]
+fn degrees_of_cells(rt: HostRuntime) -> Result<(), Fail> {
+    let alloc = rt.alloc();
+    let main = Cell::Main {
+        next: true,
+        column: 0,
+    };
+    let preprocessed = Cell::Preprocessed {
+        next: false,
+        column: 0,
+    };
+    assert_eq!(rt; cell_degrees(alloc, main)?, Some((1, 1)));
+    assert_eq!(rt; cell_degrees(alloc, preprocessed)?, Some((1, 1)));
+    assert_eq!(rt; cell_degrees(alloc, Cell::Periodic(0))?, Some((1, 1)));
+    assert_eq!(rt; cell_degrees(alloc, Cell::Public(0))?, Some((0, 0)));
+    assert_eq!(rt; cell_degrees(alloc, Cell::FirstRow)?, Some((1, 1)));
+    assert_eq!(rt; cell_degrees(alloc, Cell::LastRow)?, Some((1, 1)));
+    assert_eq!(rt; cell_degrees(alloc, Cell::Transition)?, Some((0, 3)));
+    let permutation = ExtCell::Permutation {
+        next: false,
+        column: 0,
+    };
+    assert_eq!(rt; ext_cell_degrees(alloc, permutation)?, Some((1, 1)));
+    assert_eq!(rt;
+        ext_cell_degrees(alloc, ExtCell::Challenge(0))?,
+        Some((0, 0))
+    );
+    assert_eq!(rt; ext_cell_degrees(alloc, ExtCell::Terminal)?, Some((0, 0)));
+    Ok(())
+}
+
+#[test]
+fn degrees_stop_at_the_greatest(rt: HostRuntime) -> Result<(), Fail> {
+    let alloc = rt.alloc();
+    let mut builder = InteractionSymbolicBuilder::<BabyBear>::new(alloc, one_of_each())?;
+    let step = builder.cell(Cell::Transition)?;
+    let first = builder.cell(Cell::FirstRow)?;
+    let product = builder.mul(step, first)?;
+    builder.assert_bool(product)?;
+    let constraints = builder.base_constraints(alloc)?;
+    match constraints.first() {
+        Some(c) => {
+            assert_eq!(rt; c.degree_multiple(), 2);
+            assert_eq!(rt; c.degree_multiple_with_transition(usize::MAX), usize::MAX);
+        }
+        None => assert!(rt; false),
+    }
+    assert_eq!(rt; constraint_degree_from_poly_degree(17, 8), 3);
+    assert_eq!(rt; constraint_degree_from_poly_degree(16, 8), 2);
+    Ok(())
+}
+
+// The expression that is this cell alone.
+fn of_cell(alloc: Global, cell: Cell) -> Mem<SymbolicExpression<BabyBear>>
+    ensures { IfOk result (λ e. e ≡ Base cell ∷ []) }
+{
+    let mut nodes = Vec::new(alloc);
+    nodes.push(Node::Base(cell))?;
+    Ok(SymbolicExpression::new(nodes))
+}
+
+// The degree of a cell over 8 rows, where the only periodic column has period 2.
+fn degree_over_eight_rows(alloc: Global, cell: Cell) -> Mem<usize>
+    requires { HasPeriod (2 ∷ []) cell }
+{
+    let expression = of_cell(alloc, cell)?;
+    Ok(expression.poly_degree(8, &[2]))
+}
+
+// A column has degree 7 over 8 rows; one of period 2 has its two values four times: 1 * 4.
+#[test]
+fn degrees_over_a_domain(rt: HostRuntime) -> Result<(), Fail> {
+    let alloc = rt.alloc();
+    let main = Cell::Main {
+        next: false,
+        column: 0,
+    };
+    assert_eq!(rt; degree_over_eight_rows(alloc, main)?, 7);
+    assert_eq!(rt; degree_over_eight_rows(alloc, Cell::Periodic(0))?, 4);
+    assert_eq!(rt; degree_over_eight_rows(alloc, Cell::Transition)?, 1);
+    assert_eq!(rt; degree_over_eight_rows(alloc, Cell::LastRow)?, 7);
+    assert_eq!(rt; degree_over_eight_rows(alloc, Cell::Public(0))?, 0);
+    Ok(())
+}
+
+#[test]
+fn powers_of_the_challenge(rt: HostRuntime) -> Result<(), Fail> {
+    let alloc = rt.alloc();
+    let mut base_indices = Vec::new(alloc);
+    base_indices.push(0)?;
+    base_indices.push(2)?;
+    let mut ext_indices = Vec::new(alloc);
+    ext_indices.push(1)?;
+    let layout = ConstraintLayout {
+        base_indices,
+        ext_indices,
+    };
+    assert_eq!(rt; layout.total_constraints(), 3);
+    let (base, extension) = layout.decompose_alpha(alloc, BabyBear::from_u64(2))?;
+    let four = BabyBear::from_u64(4);
+    assert_eq!(rt; base.as_slice(), [four, BabyBear::ONE].as_slice());
+    assert_eq!(rt; extension.as_slice(), [BabyBear::TWO].as_slice());
+    Ok(())
+}

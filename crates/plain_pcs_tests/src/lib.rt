@@ -1,0 +1,15 @@
+//! Tests of `plain_pcs` on worked values, as a caller of its public items.
+#![tactic(auto)]
+
+#[cfg(test)]
+mod mmcs;
+#[cfg(test)]
+mod multilinear;
+#[cfg(test)]
+mod opening;
+#[cfg(test)]
+mod quotient;
+#[cfg(test)]
+mod scheme;
+#[cfg(test)]
+mod verifying;

@@ -1,0 +1,236 @@
+//! Worked openings of two columns, of 4 and 2 rows.
+ghost use Rattle.std.specs.Prelude.{◌≡◌, ℕ, ◌+◌, ◌*◌, ◌^◌, ◌<◌, ◌≤◌, [], ◌∷◌, length, map, All, IfOk};
+ghost use Rattle.p3_matrix.specs.Matrix.{height};
+ghost use Rattle.p3_commit.specs.Batches.{IsBatch, IsRowOf};
+
+use p3_commit::{BatchOpeningRef, ExtensionMmcs, Mmcs, PcsFailure};
+use p3_field::{
+    BabyBear, BasedVectorSpace, ExtensionField, FieldCore, Mem, QuarticExtension, RingCore,
+};
+use p3_matrix::{Dimensions, RowMajorMatrix};
+use plain_pcs::{PlainMmcs, PlainMmcsError};
+use std::alloc::Global;
+use std::test::Fail;
+
+const SHAPE: [Dimensions; 2] = [
+    Dimensions {
+        width: 1,
+        height: 4,
+    },
+    Dimensions {
+        width: 1,
+        height: 2,
+    },
+];
+
+const WIDE_SHAPE: [Dimensions; 2] = [
+    Dimensions {
+        width: 2,
+        height: 4,
+    },
+    Dimensions {
+        width: 1,
+        height: 2,
+    },
+];
+
+fn bear(n: u64) -> BabyBear {
+    BabyBear::from_u64(n)
+}
+
+fn quartic(n: u64) -> QuarticExtension {
+    QuarticExtension::from_base(bear(n))
+}
+
+// The list of one value.
+fn one<T: Drop>(alloc: Global, value: T) -> Mem<Vec<T>> {
+    let mut list = Vec::new(alloc);
+    list.push(value)?;
+    Ok(list)
+}
+
+// Two columns of 4 and of 2 values.
+fn columns<T: Drop>(alloc: Global, high: Vec<T>, low: Vec<T>) -> Mem<Vec<RowMajorMatrix<T>>>
+    requires high { length high.items ≡ 4 }
+    requires low { length low.items ≡ 2 }
+    ensures heights { IfOk result (λ v. map (λ m. height m) v.items ≡ 4 ∷ 2 ∷ []) }
+    ensures widths { IfOk result (λ v. All (λ m. m.width ≡ 1) v.items) }
+{
+    let mut columns = Vec::new(alloc);
+    columns.push(RowMajorMatrix::new_col(high))?;
+    columns.push(RowMajorMatrix::new_col(low))?;
+    Ok(columns)
+}
+
+// The columns themselves: they are a batch, with rows 0 and 3.
+fn batch<T: Drop>(columns: Vec<RowMajorMatrix<T>>) -> Vec<RowMajorMatrix<T>>
+    requires { map (λ m. height m) columns.items ≡ 4 ∷ 2 ∷ [] }
+    ensures same { result.items ≡ columns.items }
+    ensures batch { IsBatch result.items }
+    ensures last { IsRowOf result.items 3 }
+    ensures rows { All (IsRowOf result.items) (0 ∷ 3 ∷ []) }
+{
+    columns
+}
+
+// The columns 10, 11, 12, 13 and 20, 21.
+fn bears(alloc: Global) -> Mem<Vec<RowMajorMatrix<BabyBear>>>
+    ensures batch { IfOk result (λ v. IsBatch v.items) }
+    ensures last { IfOk result (λ v. IsRowOf v.items 3) }
+    ensures rows { IfOk result (λ v. All (IsRowOf v.items) (0 ∷ 3 ∷ [])) }
+    ensures widths { IfOk result (λ v. All (λ m. m.width ≡ 1) v.items) }
+{
+    let high = vec![in alloc; bear(10), bear(11), bear(12), bear(13)]?;
+    let low = vec![in alloc; bear(20), bear(21)]?;
+    Ok(batch(columns(alloc, high, low)?))
+}
+
+// The same over the extension.
+fn quartics(alloc: Global) -> Mem<Vec<RowMajorMatrix<QuarticExtension>>>
+    ensures batch { IfOk result (λ v. IsBatch v.items) }
+    ensures last { IfOk result (λ v. IsRowOf v.items 3) }
+    ensures rows { IfOk result (λ v. All (IsRowOf v.items) (0 ∷ 3 ∷ [])) }
+    ensures widths { IfOk result (λ v. All (λ m. m.width ≡ 1) v.items) }
+{
+    let high = vec![in alloc; quartic(10), quartic(11), quartic(12), quartic(13)]?;
+    let low = vec![in alloc; quartic(20), quartic(21)]?;
+    Ok(batch(columns(alloc, high, low)?))
+}
+
+// Whether row 3 is opened as two values, verified, and refused with another first value, at row 4, and in another shape.
+fn opens<T: Copy + Eq, M: Mmcs<T, Error = PlainMmcsError>>(
+    alloc: Global,
+    mmcs: &M,
+    columns: Vec<RowMajorMatrix<T>>,
+    values: (T, T),
+    other: T,
+) -> Mem<bool>
+    requires batch { IsBatch columns.items }
+    requires last { IsRowOf columns.items 3 }
+    requires takes { All (λ m. M.takes m.width) columns.items }
+    requires one { M.takes 1 }
+    requires two { M.takes 2 }
+{
+    let (commitment, data) = mmcs.commit(alloc, columns)?;
+    let (mut rows, proof) = mmcs.open_batch(alloc, 3, &data)?.unpack();
+    let opened = cell(&rows, 0) == Some(values.0) && cell(&rows, 1) == Some(values.1);
+    let right = BatchOpeningRef::new(&rows, &proof);
+    let verified = mmcs.verify_batch(alloc, &commitment, &SHAPE, 3, right);
+    let past = mmcs.verify_batch(alloc, &commitment, &SHAPE, 4, right);
+    let both = mmcs.verify_batch(alloc, &commitment, &WIDE_SHAPE, 4, right);
+    rows[0] = one(alloc, other)?;
+    let wrong = BatchOpeningRef::new(&rows, &proof);
+    let refused = mmcs.verify_batch(alloc, &commitment, &SHAPE, 3, wrong);
+    Ok(
+        opened
+            && verified.is_ok()
+            && matches!(&past, Err(PcsFailure::Refused(PlainMmcsError::Index)))
+            && matches!(&both, Err(PcsFailure::Refused(PlainMmcsError::Dimensions)))
+            && matches!(&refused, Err(PcsFailure::Refused(PlainMmcsError::Value))),
+    )
+}
+
+// The first value of a row.
+fn cell<T: Copy>(rows: &[Vec<T>], row: usize) -> Option<T> {
+    rows.get(row)?.first().copied()
+}
+
+#[test]
+fn a_row_of_each_column(rt: HostRuntime) -> Result<(), Fail> {
+    let alloc = rt.alloc();
+    let values = (bear(13), bear(21));
+    assert!(rt; opens(alloc, &PlainMmcs, bears(alloc)?, values, bear(14))?);
+    assert!(rt; opens(alloc, &&PlainMmcs, bears(alloc)?, values, bear(14))?);
+    Ok(())
+}
+
+#[test]
+fn a_row_over_the_extension(rt: HostRuntime) -> Result<(), Fail> {
+    let alloc = rt.alloc();
+    let mmcs = ExtensionMmcs::<BabyBear, QuarticExtension, PlainMmcs>::new(PlainMmcs);
+    let values = (quartic(13), quartic(21));
+    assert!(rt; opens(alloc, &mmcs, quartics(alloc)?, values, quartic(14))?);
+    Ok(())
+}
+
+// Whether rows 0 and 3 are opened together, verified, and refused with another value in the second, at row 4, and without
+// the second.
+fn opens_two<T: Copy + Eq, M: Mmcs<T, Error = PlainMmcsError>>(
+    alloc: Global,
+    mmcs: &M,
+    columns: Vec<RowMajorMatrix<T>>,
+    values: (T, T),
+    other: T,
+) -> Mem<bool>
+    requires batch { IsBatch columns.items }
+    requires rows { All (IsRowOf columns.items) (0 ∷ 3 ∷ []) }
+    requires takes { All (λ m. M.takes m.width) columns.items }
+    requires one { M.takes 1 }
+{
+    let (commitment, data) = mmcs.commit(alloc, columns)?;
+    let (mut openings, proof) = mmcs.open_multi_batch(alloc, &[0, 3], &data)?;
+    let opened = first_cell(&openings, 0) == Some(values.0)
+        && first_cell(&openings, 1) == Some(values.1);
+    let verified = mmcs.verify_multi_batch(alloc, &commitment, &SHAPE, &[0, 3], &openings, &proof);
+    let past = mmcs.verify_multi_batch(alloc, &commitment, &SHAPE, &[0, 4], &openings, &proof);
+    let fewer = mmcs.verify_multi_batch(alloc, &commitment, &SHAPE, &[0], &openings, &proof);
+    if let Some(second) = openings.get_mut(1) {
+        second.clear();
+        second.push(one(alloc, other)?)?;
+        second.push(one(alloc, other)?)?;
+    }
+    let refused = mmcs.verify_multi_batch(alloc, &commitment, &SHAPE, &[0, 3], &openings, &proof);
+    Ok(
+        opened
+            && verified.is_ok()
+            && matches!(&past, Err(PcsFailure::Refused(PlainMmcsError::Index)))
+            && matches!(&fewer, Err(PcsFailure::Refused(PlainMmcsError::Dimensions)))
+            && matches!(&refused, Err(PcsFailure::Refused(PlainMmcsError::Value))),
+    )
+}
+
+// The first value of an opening.
+fn first_cell<T: Copy>(openings: &[Vec<Vec<T>>], opening: usize) -> Option<T> {
+    cell(openings.get(opening)?, 0)
+}
+
+#[test]
+fn two_rows_of_each_column(rt: HostRuntime) -> Result<(), Fail> {
+    let alloc = rt.alloc();
+    let values = (bear(10), bear(13));
+    assert!(rt; opens_two(alloc, &PlainMmcs, bears(alloc)?, values, bear(14))?);
+    assert!(rt; opens_two(alloc, &&PlainMmcs, bears(alloc)?, values, bear(14))?);
+    let mmcs = ExtensionMmcs::<BabyBear, QuarticExtension, PlainMmcs>::new(PlainMmcs);
+    let values = (quartic(10), quartic(13));
+    assert!(rt; opens_two(alloc, &mmcs, quartics(alloc)?, values, quartic(14))?);
+    Ok(())
+}
+
+#[test]
+fn heights_of_columns(rt: HostRuntime) -> Result<(), Fail> {
+    let alloc = rt.alloc();
+    let (_commitment, data) = PlainMmcs.commit(alloc, bears(alloc)?)?;
+    let heights = Mmcs::<BabyBear>::get_matrix_heights(&PlainMmcs, alloc, &data)?;
+    assert_eq!(rt; heights.as_slice(), [4, 2].as_slice());
+    assert_eq!(rt; Mmcs::<BabyBear>::get_max_height(&PlainMmcs, &data), 4);
+    Ok(())
+}
+
+#[test]
+fn one_column(rt: HostRuntime) -> Result<(), Fail> {
+    let alloc = rt.alloc();
+    let column = RowMajorMatrix::new_col(vec![in alloc; bear(5), bear(9)]?);
+    let (_commitment, data) = PlainMmcs.commit_matrix(alloc, column)?;
+    let (rows, _proof) = PlainMmcs.open_batch(alloc, 1, &data)?.unpack();
+    assert_eq!(rt; cell::<BabyBear>(&rows, 0), Some(bear(9)));
+    Ok(())
+}
+
+#[test]
+fn one_list(rt: HostRuntime) -> Result<(), Fail> {
+    let alloc = rt.alloc();
+    let (_commitment, data) = PlainMmcs.commit_vec(alloc, vec![in alloc; bear(5), bear(9)]?)?;
+    let (rows, _proof) = PlainMmcs.open_batch(alloc, 1, &data)?.unpack();
+    assert_eq!(rt; cell::<BabyBear>(&rows, 0), Some(bear(9)));
+    Ok(())
+}
