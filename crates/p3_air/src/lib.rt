@@ -1,1 +1,34 @@
+//! AIRs: tables with constraints between their rows, and the builders that take these constraints.
+//!
+//! The traits, types and calls are those of Plonky3's `p3-air`. An AIR declares its cells, one list of constraint
+//! trees and one list of interactions; `eval` appends exactly these to any builder, in order.
+//!
+//! The definitions that the contracts cite are in `specs/`: trees with their values (`Tree`) and declared cells
+//! (`Shape`).
+#![tactic(auto)]
 
+mod base;
+mod builder;
+mod cells;
+mod check;
+mod copying;
+mod debug;
+pub mod examples;
+mod gadgets;
+mod layout;
+pub mod meanings;
+mod node;
+mod recorded;
+mod recorder;
+mod symbolic;
+
+pub use base::{Air, BaseAir};
+pub use builder::{AirBuilder, ExtensionBuilder, InteractionBuilder, PermutationAirBuilder};
+pub use cells::{Cell, Count, ExtCell};
+pub use check::{CheckFailure, check_constraints};
+pub use debug::{DebugConstraintBuilder, RowValues};
+pub use gadgets::{add2, add3, pack_bits_le, u32_to_bits_le, xor_32_shift};
+pub use layout::{AirLayout, ConstraintLayout};
+pub use node::Node;
+pub use recorder::InteractionSymbolicBuilder;
+pub use symbolic::{SymbolicExpression, constraint_degree_from_poly_degree};
