@@ -8,7 +8,8 @@ use Rattle.p3_field.specs.Laws.Solver.{expressions, var, solve}
 use Rattle.p3_field.specs.Laws.Coeffs.{degree_add, degree_scale, degree_sub, degree_more, degree_cons, degree_length_le}
 use Rattle.p3_field.specs.Laws.Values.{val_add, val_scale, val_sub, val_same}
 use Rattle.p3_field.specs.Laws.Division.{divide, degree_quotient}
-use Rattle.p3_field.specs.Laws.Newton.{times_linear, val_times_linear}
+use Rattle.p3_field.specs.Newton.{times_linear}
+use Rattle.p3_field.specs.Laws.Newton.{val_times_linear}
 use Rattle.p3_field.specs.Laws.Roots.{NoZeroDivisors, RootsAt, sub_zero, sub_self, root_count, zero_quotient, same_values, quotient_root}
 
 -- f0 + b f1 + b^2 f2 + ..
