@@ -5,7 +5,7 @@ use Rattle.std.proofs.Math.Nat.{pow-suc}
 use Rattle.std.proofs.lemmas.Nat.{pow_pos}
 use Rattle.p3_field.specs.Ring.{Ring, RingLaws, pow, sub}
 use Rattle.p3_field.specs.Field.{FieldLaws, RingHom, TwoAdicLaws}
-use Rattle.p3_field.specs.Poly.{val, total, tail_values, quotient, scale_poly, raise}
+use Rattle.p3_field.specs.Poly.{val, coeff, SamePoly, total, tail_values, quotient, scale_poly, mul_poly, raise}
 use Rattle.p3_field.specs.Domain.{CosetData, point, vanishing, scaled_vanishing, van, first_selector, last_selector, transition_selector}
 use Rattle.p3_field.specs.Laws.Algebra.{zero_add, one_mul, mul_zero, neg_mul, add_mul}
 use Rattle.p3_field.specs.Laws.Order.{one_pow, pow_times}
@@ -14,8 +14,10 @@ use Rattle.p3_field.specs.Laws.Sums.{total_scale}
 use Rattle.p3_field.specs.Laws.Roots.{NoZeroDivisors, sub_zero, sub_self}
 use Rattle.p3_field.specs.Laws.Coset.{HasOrder, two_adic_order, pow_mul}
 use Rattle.p3_field.specs.Laws.Vanishing.{coset_only}
+use Rattle.p3_field.specs.Laws.PolyLaws.{divide_root, shifted_linear}
 use Rattle.p3_field.specs.Laws.Openings.{opening_quotient}
 use Rattle.p3_field.specs.Laws.Extended.{hom_neg, hom_pow, map_scale, map_add, map_raise, map_quotient, hom_order, hom_differs, hom_coset_point}
+use Rattle.p3_field.specs.Laws.Own.{own_hom}
 use Rattle.p3_field.specs.Laws.TwoAdic.{val_scaled_vanishing, root_not_zero}
 
 -- (1 + u) (1 + u^2) .. (1 + u^(2^(k-1)))
@@ -260,3 +262,31 @@ module _ {A B : Type 0} (r : Ring A) (L : RingLaws r) (s : Ring B) (M : RingLaws
       let at : r.mul d.shift g ≡ g = ap (λ z. r.mul z g) e ∙ one_mul r L g in
       trace_value d m g (r.mul d.shift g) x e n at
       ∙ cc (one_mul s M V, full, M.mul_assoc (f h) (pow s (f h) m) V, sum)
+
+module _ {A : Type 0} (r : Ring A) (L : RingLaws r) (inv : A → A) (W : FieldLaws r inv) where
+  -- X / s - a times s q, where q is Van divided by X - s a, and a^n = 1
+  quotient_divides : (d : CosetData A) (a p : A) → (d.shift ≡ r.zero → ⊥) → p ≡ r.mul d.shift a → pow r a (2 ^ d.log_size) ≡ r.one
+      → SamePoly r (mul_poly r (r.neg a ∷ inv d.shift ∷ []) (scale_poly r d.shift (quotient r (van r inv d) p))) (van r inv d)
+  unfolding van
+  quotient_divides d a p nz at e i =
+      let s = d.shift in let t = inv s in let V = van r inv d in
+      let unit : r.mul t s ≡ r.one = L.mul_comm t s ∙ W.mul_inv s nz in
+      let down : r.mul t p ≡ a = cc (at, L.mul_assoc t s a, unit, one_mul r L a) in
+      let root : val r V p ≡ r.zero =
+      val_scaled_vanishing r L (2 ^ d.log_size) s t p unit ∙ sub_self r L (pow r (r.mul t p) (2 ^ d.log_size)) r.one (ap (λ z. pow r z (2 ^ d.log_size)) down ∙ e) in
+      shifted_linear r L s t a (quotient r V p) unit i
+      ∙ (ap (λ z. coeff r (mul_poly r (r.neg z ∷ r.one ∷ []) (quotient r V p)) i) (sym at) ∙ sym (divide_root r L V p root i))
+
+  -- X / s - 1 times the selector of the first row is Van
+  pub first_selector_divides : (d : CosetData A) → (d.shift ≡ r.zero → ⊥)
+      → SamePoly r (mul_poly r (r.neg r.one ∷ inv d.shift ∷ []) (first_selector r inv d)) (van r inv d)
+  unfolding first_selector
+  first_selector_divides d nz = quotient_divides d r.one d.shift nz (sym (L.mul_one d.shift)) (one_pow r L (2 ^ d.log_size))
+
+  -- X / s - 1 / h times the selector of the last row is Van
+  pub last_selector_divides : (top : ℕ) (root : ℕ → A) → TwoAdicLaws r top root → (d : CosetData A) → (d.shift ≡ r.zero → ⊥) → d.log_size ≤ top
+      → SamePoly r (mul_poly r (transition_selector r inv root d) (last_selector r inv root d)) (van r inv d)
+  unfolding last_selector transition_selector
+  last_selector_divides top root T d nz h =
+      let g = inv (root d.log_size) in
+      quotient_divides d g (r.mul d.shift g) nz refl (inverse_root_full r L r L (λ x. x) (own_hom r) inv W top root T d.log_size h)
