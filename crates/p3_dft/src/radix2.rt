@@ -10,7 +10,8 @@ use p3_field::{Field, FieldCore, Mem, PrimeCharacteristicRing, RingCore};
 use std::alloc::Global;
 
 /// The radix-2 transform, decimated in time: the values of a polynomial come from those of its parts at even and at
-/// odd places, on the squares of the points. For n values it takes about n log n products (`p3_dft::Radix2Dit`).
+/// odd places, on the squares of the points. For n values it takes about n log n products. No clause says so: the
+/// clauses tell what a transform gives, and not which one runs (`p3_dft::Radix2Dit`).
 #[derive(Clone, Copy, Debug)]
 pub struct Radix2Dit;
 
