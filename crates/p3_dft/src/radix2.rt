@@ -2,7 +2,7 @@
 ghost use Rattle.std.specs.Prelude.{◌≡◌, ℕ, ◌+◌, ◌*◌, ◌^◌, ◌<◌, ◌≤◌, length, IfOk};
 ghost use Rattle.p3_field.specs.Ring.{Ring, pow};
 ghost use Rattle.p3_field.specs.Domain.{coset_point};
-ghost use Rattle.p3_field.specs.Laws.Openings.{even_part, odd_part};
+ghost use Rattle.p3_field.specs.Poly.{even_part, odd_part};
 ghost use Rattle.p3_dft.specs.Transform.{values_at, TurnsIn, butterflies};
 
 use crate::column::ColumnTransform;

@@ -1,7 +1,6 @@
 -- The values of a domain's polynomials, read over a larger ring: Van is zero on the domain alone, and the selectors
 -- by quotients, by sums of powers and by products.
 use Rattle.std.proofs.Common.{◌≡◌, ℕ, zero, suc, ◌+◌, ◌-◌, ◌*◌, ◌^◌, ◌≤◌, ◌<◌, ◌⊎◌, List, [], ◌∷◌, map, refl, sym, ◌∙◌, ap, arith}
-use Rattle.std.proofs.Math.Nat.{pow-suc}
 use Rattle.std.proofs.lemmas.Nat.{pow_pos}
 use Rattle.p3_field.specs.Ring.{Ring, RingLaws, pow, sub}
 use Rattle.p3_field.specs.Field.{FieldLaws, RingHom, TwoAdicLaws}
@@ -12,10 +11,10 @@ use Rattle.p3_field.specs.Laws.Order.{one_pow, pow_times}
 use Rattle.p3_field.specs.Laws.Values.{val_scale}
 use Rattle.p3_field.specs.Laws.Sums.{total_scale}
 use Rattle.p3_field.specs.Laws.Roots.{NoZeroDivisors, sub_zero, sub_self}
-use Rattle.p3_field.specs.Laws.Coset.{HasOrder, two_adic_order, pow_mul}
+use Rattle.p3_field.specs.Laws.Coset.{HasOrder, two_adic_order, pow_mul, double_power}
 use Rattle.p3_field.specs.Laws.Vanishing.{coset_only}
 use Rattle.p3_field.specs.Laws.PolyLaws.{divide_root, shifted_linear}
-use Rattle.p3_field.specs.Laws.Openings.{opening_quotient}
+use Rattle.p3_field.specs.Laws.Division.{opening_quotient}
 use Rattle.p3_field.specs.Laws.Extended.{hom_neg, hom_pow, map_scale, map_add, map_raise, map_quotient, hom_order, hom_differs, hom_coset_point}
 use Rattle.p3_field.specs.Laws.Own.{own_hom}
 use Rattle.p3_field.specs.Laws.TwoAdic.{val_scaled_vanishing, root_not_zero}
@@ -24,9 +23,6 @@ use Rattle.p3_field.specs.Laws.TwoAdic.{val_scaled_vanishing, root_not_zero}
 unfoldable pub doubling_product : {A : Type 0} → Ring A → ℕ → A → A
 doubling_product r zero u = r.one
 doubling_product r (suc k) u = r.mul (doubling_product r k u) (r.add r.one (pow r u (2 ^ k)))
-
-double_power : (k : ℕ) → 2 ^ suc k ≡ 2 ^ k + 2 ^ k
-double_power k = rw pow-suc (omega arith)
 
 module _ {A : Type 0} (r : Ring A) (L : RingLaws r) where
   -- the sum of n powers is that of the first m and u^m times that of the others
@@ -89,7 +85,7 @@ module _ {A : Type 0} (r : Ring A) (L : RingLaws r) where
       ∙ (L.mul_add (pow r h (suc m)) (pow r a (suc m)) (r.mul x T) ∙ cc (unit, rest, total_scale r L (suc m) y (λ i. pow r y i)))
 
 module _ {A B : Type 0} (r : Ring A) (L : RingLaws r) (s : Ring B) (M : RingLaws s) (f : A → B) (H : RingHom r s f) where
-  map_vanishing : (n : ℕ) (c : A) → map f (vanishing r n c) ≡ vanishing s n (f c)
+  pub map_vanishing : (n : ℕ) (c : A) → map f (vanishing r n c) ≡ vanishing s n (f c)
   map_vanishing n c =
       map_add r L s M f H (r.neg c ∷ []) (raise r n (r.one ∷ []))
       ∙ cc (hom_neg r L s M f H c, map_raise r L s M f H n (r.one ∷ []), H.keeps_one)
@@ -201,9 +197,9 @@ module _ {A B : Type 0} (r : Ring A) (L : RingLaws r) (s : Ring B) (M : RingLaws
           let found = coset_only s M N dec one n S (f (root d.log_size)) x (pow_pos d.log_size) O shift power in
           (found.0, found.1, found.2 ∙ sym (hom_coset_point r L s M f H d.shift (root d.log_size) found.0))
 
-scale_by_one : {A : Type 0} (r : Ring A) (L : RingLaws r) (g : List A) → scale_poly r r.one g ≡ g
-scale_by_one r L [] = refl
-scale_by_one r L (c ∷ cs) = cc (one_mul r L c, scale_by_one r L cs)
+pub scale_one : {A : Type 0} (r : Ring A) (L : RingLaws r) (g : List A) → scale_poly r r.one g ≡ g
+scale_one r L [] = refl
+scale_one r L (c ∷ cs) = cc (one_mul r L c, scale_one r L cs)
 
 -- for shift one, Van divided by X - a is X^n divided by X - a
 trace_quotient : {A : Type 0} (r : Ring A) (L : RingLaws r) (m : ℕ) (s t a p : A) → s ≡ r.one → t ≡ r.one → p ≡ a
@@ -212,9 +208,9 @@ trace_quotient r L m s t a p e d q =
     let T = pow r t (suc m) in
     let cs = raise r m (r.one ∷ []) in
     let one : T ≡ r.one = ap (λ z. pow r z (suc m)) d ∙ one_pow r L (suc m) in
-    let same : scale_poly r T cs ≡ cs = ap (λ z. scale_poly r z cs) one ∙ scale_by_one r L cs in
+    let same : scale_poly r T cs ≡ cs = ap (λ z. scale_poly r z cs) one ∙ scale_one r L cs in
     let tails = tail_values r (scale_poly r T cs) p in
-    ap (λ z. scale_poly r z tails) e ∙ (scale_by_one r L tails ∙ cc (same, q))
+    ap (λ z. scale_poly r z tails) e ∙ (scale_one r L tails ∙ cc (same, q))
 
 positive_size : (k : ℕ) → (m : ℕ) × (2 ^ k ≡ suc m)
 positive_size k = (2 ^ k - 1, let p : 0 < 2 ^ k = pow_pos k in omega arith)
