@@ -1,5 +1,7 @@
-// Challengers: a transcript is observed into one, and the verifier's random values are drawn from it.
-// No call takes memory, and what each answers and leaves is a function of the state and arguments.
+//! Challengers: a transcript is observed into one, and the verifier's random values are drawn from it.
+//! No call takes memory, and what each answers and leaves is a function of the state and arguments.
+//! The traits are after Plonky3's `p3-challenger`; the definitions that the contracts cite are in `specs/Grind.antt` and
+//! `specs/Sha256.antt`.
 #![tactic(auto)]
 
 ghost use Rattle.std.specs.Prelude.{map, ◌≡◌, ℕ, ◌<◌, ◌^◌, IsTrue, ◌↔◌, MatchOption};
@@ -17,6 +19,7 @@ pub use sha256_challenger::Sha256Challenger;
 ///
 /// The new state is a function of the old one and the value, the ghost member `observed`.
 pub trait CanObserve<T> {
+    // The state after a value.
     ghost observed: { Self → T → Self };
 
     /// Takes in one value.
@@ -38,6 +41,7 @@ pub trait CanObserve<T> {
 /// The value and the new state are functions of the old state, the ghost members `drawn` and
 /// `after_draw`.
 pub trait CanSample<T> {
+    // The value that a state gives, and the state after it.
     ghost drawn: { Self → T };
 
     ghost after_draw: { Self → Self };
@@ -52,6 +56,7 @@ pub trait CanSample<T> {
 ///
 /// `order` is a number that each implementation fixes: how many values the drawn element has.
 pub trait CanSampleBits {
+    // How many values the drawn element has, the number that is drawn, and the state after it.
     ghost order: { ℕ };
 
     ghost bits_drawn: { Self → ℕ → ℕ };
@@ -64,6 +69,7 @@ pub trait CanSampleBits {
         ensures answer { result ≡ bits_drawn self.old bits }
         ensures state { self.new ≡ after_bits self.old bits };
 
+    // The number has as many bits as were asked for.
     ghost bits_below: { (s : Self) (bits : ℕ) → 2 ^ bits < order → bits_drawn s bits < 2 ^ bits };
 }
 
@@ -93,10 +99,11 @@ pub trait GrindingChallenger: CanSampleBits + CanObserve<Self::Witness> {
             (self.new ≡ self.old)
             (λ w. self.new ≡ checked_state Self.observed Self.after_bits self.old bits w) };
 
+    // What is drawn and what is ground are of fields of one order.
     ghost same_order: { Self.order ≡ Self.Witness.ORDER_U64 };
 }
 
-/// Takes in each byte as one field element, by `from_u64`, the first one first.
+/// Takes in each byte as one field element, by `from_u64`, the first one first (own).
 pub fn observe_bytes<F: RingCore, C: CanObserve<F>>(challenger: &mut C, bytes: &[u8])
     ensures { challenger.new ≡ fold C.observed challenger.old (map (of_nat F.ring) bytes.now) }
 {

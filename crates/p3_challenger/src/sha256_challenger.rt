@@ -1,4 +1,4 @@
-// The challenger over SHA-256.
+//! The challenger over SHA-256.
 ghost use Rattle.std.specs.Prelude.{◌≡◌, ℕ, ◌%◌, ◌^◌, replicate, refl};
 ghost use Rattle.p3_field.specs.BabyBear.{reduce};
 ghost use Rattle.p3_challenger.specs.Sha256.{observed, observed_extension, drawn, after_draw, drawn_extension, after_extension_draw, bits_drawn};

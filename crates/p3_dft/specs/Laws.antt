@@ -2,3 +2,4 @@
 pub mod Values
 pub mod Butterflies
 pub mod Inverse
+pub mod RoundTrip

@@ -16,7 +16,8 @@ use std::alloc::Global;
 /// Transforms of all columns of a matrix between coefficients and values on two-adic subgroups
 /// (`p3_dft::TwoAdicSubgroupDft`).
 ///
-/// The height is a power of two, and at most the size of the largest subgroup.
+/// The height is a power of two, and at most the size of the largest subgroup. Row i of a matrix of values has those at
+/// point i of the subgroup or coset, in order and not bit-reversed. A result has as many columns as the argument.
 pub trait TwoAdicSubgroupDft<F: TwoAdicCore> {
     /// Takes a column's coefficients, lowest first, to the polynomial's values on the subgroup.
     fn dft_batch(&self, alloc: Global, m: RowMajorMatrix<F>) -> Mem<RowMajorMatrix<F>>
@@ -31,7 +32,8 @@ pub trait TwoAdicSubgroupDft<F: TwoAdicCore> {
         ensures { IfOk result (HasCoefficientsOf F.ring F.root m) };
 
     /// Takes a column's values on the subgroup to the interpolant's values on the coset with this shift of the
-    /// subgroup that is 2^added_bits times as large.
+    /// subgroup that is 2^added_bits times as large. The result has 2^added_bits times as many rows, which are at most
+    /// as many as the largest subgroup has points, and the shift isn't zero.
     fn coset_lde_batch(
         &self,
         alloc: Global,

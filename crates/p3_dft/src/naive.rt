@@ -9,8 +9,8 @@ use crate::column::ColumnTransform;
 use p3_field::{ExtensionField, Field, FieldCore, Mem, PrimeCharacteristicRing, RingCore};
 use std::alloc::Global;
 
-/// The transform that evaluates at each point by itself, in about n^2 products for n values. It serves as the
-/// reference of the others (`p3_dft::NaiveDft`).
+/// The transform that evaluates at each point by itself, in about n^2 products for n values, which no clause says. It
+/// serves as the reference of the others (`p3_dft::NaiveDft`).
 #[derive(Clone, Copy, Debug)]
 pub struct NaiveDft;
 
@@ -47,7 +47,7 @@ fn value<F: Field>(coefficients: &[F], point: F) -> F
     sum
 }
 
-/// The value at a point of a larger field of the polynomial with these coefficients, lowest first.
+/// The value at a point of a larger field of the polynomial with these coefficients, lowest first (own).
 pub fn polynomial_value<F: Field, EF: ExtensionField<F>>(coefficients: &[F], point: EF) -> EF
     ensures { result ≡ val EF.ring (map EF.embed coefficients.now) point }
 {

@@ -2,7 +2,7 @@
 ghost use Rattle.std.specs.Prelude.{◌≡◌, ℕ, ◌+◌, ◌*◌, ◌^◌, ◌<◌, ◌≤◌, length, IfOk};
 ghost use Rattle.p3_field.specs.Ring.{Ring, pow};
 ghost use Rattle.p3_field.specs.Domain.{coset_point};
-ghost use Rattle.p3_field.specs.Laws.Openings.{even_part, odd_part};
+ghost use Rattle.p3_field.specs.Poly.{even_part, odd_part};
 ghost use Rattle.p3_dft.specs.Transform.{values_at, TurnsIn, butterflies};
 
 use crate::column::ColumnTransform;
@@ -10,7 +10,8 @@ use p3_field::{Field, FieldCore, Mem, PrimeCharacteristicRing, RingCore};
 use std::alloc::Global;
 
 /// The radix-2 transform, decimated in time: the values of a polynomial come from those of its parts at even and at
-/// odd places, on the squares of the points. For n values it takes about n log n products (`p3_dft::Radix2Dit`).
+/// odd places, on the squares of the points. For n values it takes about n log n products. No clause says so: the
+/// clauses tell what a transform gives, and not which one runs (`p3_dft::Radix2Dit`).
 #[derive(Clone, Copy, Debug)]
 pub struct Radix2Dit;
 

@@ -6,7 +6,7 @@ use crate::{
     NaiveDft, Radix2Dit, TwoAdicSubgroupDft, interpolant_on_coset, polynomial_value,
     values_on_coset,
 };
-use p3_field::{BabyBear, FieldCore, Mem, RingCore};
+use p3_field::{BabyBear, FieldCore, Mem, PrimeCore64, RingCore};
 use p3_matrix::RowMajorMatrix;
 use std::alloc::Global;
 use std::process::Abort;
@@ -82,4 +82,147 @@ fn batches_of_two_values(rt: HostRuntime) -> Result<(), Fail> {
     idft_of_two(&rt, rt.alloc(), &Radix2Dit)?;
     extension_of_two(&rt, rt.alloc(), &NaiveDft)?;
     extension_of_two(&rt, rt.alloc(), &Radix2Dit)
+}
+
+// The canonical numbers of values.
+fn numbers(alloc: Global, values: &[BabyBear]) -> Mem<Vec<u64>> {
+    values
+        .iter()
+        .map(|value| value.as_canonical_u64())
+        .collect(alloc)
+}
+
+// The columns 1, 2, 3, 4 and 5, 6, 7, 9.
+fn two_columns(alloc: Global) -> Mem<RowMajorMatrix<BabyBear>>
+    ensures { IfOk result (λ m. height m ≡ 2 ^ 2) }
+{
+    let values = vec![in alloc;
+        bear(1),
+        bear(5),
+        bear(2),
+        bear(6),
+        bear(3),
+        bear(7),
+        bear(4),
+        bear(9),
+    ]?;
+    Ok(RowMajorMatrix::new(values, 2))
+}
+
+// The column 1, 2, .., 8.
+fn eight_rows(alloc: Global) -> Mem<RowMajorMatrix<BabyBear>>
+    ensures { IfOk result (λ m. height m ≡ 2 ^ 3) }
+{
+    let values = vec![in alloc;
+        bear(1),
+        bear(2),
+        bear(3),
+        bear(4),
+        bear(5),
+        bear(6),
+        bear(7),
+        bear(8),
+    ]?;
+    Ok(RowMajorMatrix::new_col(values))
+}
+
+fn transforms_of_four<T: TwoAdicSubgroupDft<BabyBear>>(
+    rt: &impl Abort,
+    alloc: Global,
+    transform: &T,
+) -> Result<(), Fail> {
+    let values = transform.dft_batch(alloc, two_columns(alloc)?)?;
+    let want = [
+        10, 27, 569722814, 854584222, 2013265919, 2013265918, 1443543103, 1158681695,
+    ];
+    assert_eq!(rt; values.width(), 2);
+    assert_eq!(rt;
+        numbers(alloc, values.as_slice())?.as_slice(),
+        want.as_slice()
+    );
+    let coefficients = transform.idft_batch(alloc, two_columns(alloc)?)?;
+    let want = [
+        1006632963, 503316487, 864202256, 792986904, 1006632960, 1509949440, 1149063664, 1220279016,
+    ];
+    assert_eq!(rt; coefficients.width(), 2);
+    assert_eq!(rt;
+        numbers(alloc, coefficients.as_slice())?.as_slice(),
+        want.as_slice()
+    );
+    Ok(())
+}
+
+fn extension_of_four<T: TwoAdicSubgroupDft<BabyBear>>(
+    rt: &impl Abort,
+    alloc: Global,
+    transform: &T,
+) -> Result<(), Fail> {
+    let shift = bear(31);
+    assert!(rt; !shift.is_zero());
+    let extended = transform.coset_lde_batch(alloc, two_columns(alloc)?, 1, shift)?;
+    let want = [
+        812971946, 212832417, 1583136595, 90250617, 1200264158, 1200256947, 1514882761, 289209724,
+        1200293019, 1800432076, 377777163, 837854105, 813002729, 813010429, 550735333, 795951502,
+    ];
+    assert_eq!(rt; extended.width(), 2);
+    assert_eq!(rt;
+        numbers(alloc, extended.as_slice())?.as_slice(),
+        want.as_slice()
+    );
+    Ok(())
+}
+
+fn transforms_of_eight<T: TwoAdicSubgroupDft<BabyBear>>(
+    rt: &impl Abort,
+    alloc: Global,
+    transform: &T,
+) -> Result<(), Fail> {
+    let values = transform.dft_batch(alloc, eight_rows(alloc)?)?;
+    let want = [
+        36, 1976151680, 1139445628, 1710526337, 2013265917, 302739576, 873820285, 37114233,
+    ];
+    assert_eq!(rt;
+        numbers(alloc, values.as_slice())?.as_slice(),
+        want.as_slice()
+    );
+    let coefficients = transform.idft_batch(alloc, eight_rows(alloc)?)?;
+    let want = [
+        1006632965, 1766246960, 864202256, 37842447, 1006632960, 1975423473, 1149063664, 247018960,
+    ];
+    assert_eq!(rt;
+        numbers(alloc, coefficients.as_slice())?.as_slice(),
+        want.as_slice()
+    );
+    Ok(())
+}
+
+#[test]
+fn one_column_of_four_values(rt: HostRuntime) -> Result<(), Fail> {
+    let alloc = rt.alloc();
+    let shift = bear(3);
+    assert!(rt; !shift.is_zero());
+    let column = [bear(1), bear(2), bear(3), bear(4)];
+    let values = values_on_coset(alloc, &column, shift, 2)?;
+    assert_eq!(rt;
+        numbers(alloc, &values)?.as_slice(),
+        [142, 870140696, 2013265835, 1143125173].as_slice()
+    );
+    let coefficients = interpolant_on_coset(alloc, &column, shift, 2)?;
+    assert_eq!(rt;
+        numbers(alloc, &coefficients)?.as_slice(),
+        [1006632963, 959156059, 782936747, 1981258430].as_slice()
+    );
+    assert_eq!(rt; polynomial_value(&column, bear(5)), bear(586));
+    Ok(())
+}
+
+// Values at points that aren't their own inverses, worked out from the definition by another program.
+#[test]
+fn batches_of_four_and_eight_values(rt: HostRuntime) -> Result<(), Fail> {
+    transforms_of_four(&rt, rt.alloc(), &NaiveDft)?;
+    transforms_of_four(&rt, rt.alloc(), &Radix2Dit)?;
+    extension_of_four(&rt, rt.alloc(), &NaiveDft)?;
+    extension_of_four(&rt, rt.alloc(), &Radix2Dit)?;
+    transforms_of_eight(&rt, rt.alloc(), &NaiveDft)?;
+    transforms_of_eight(&rt, rt.alloc(), &Radix2Dit)
 }

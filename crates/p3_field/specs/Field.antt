@@ -29,6 +29,11 @@ pub record VectorLaws {A B : Type 0} (dimension : ℕ) (parts : B → List A) (w
   pub whole_parts : (x : B) → whole (parts x) ≡ x
   pub parts_whole : (c : List A) → length c ≡ dimension → parts (whole c) ≡ c
 
+-- a field over itself: the value of a list of one coefficient is that coefficient; of no coefficient it is z
+abbrev pub own_whole : {A : Type 0} → A → List A → A
+own_whole z [] = z
+own_whole z (x ∷ xs) = x
+
 -- the sum of c_i times e_(k+i)
 abbrev pub combine : {A : Type 0} → Ring A → (ℕ → A) → ℕ → List A → A
 combine r e k [] = r.zero

@@ -15,7 +15,6 @@ pub mod Transform
 pub mod Extended
 pub mod PolyLaws
 pub mod TwoAdic
-pub mod Openings
 pub mod Chunks
 pub mod Subcosets
 pub mod BearLaws

@@ -1,6 +1,7 @@
 pub mod Ring
 pub mod Field
 pub mod Poly
+pub mod Newton
 pub mod Domain
 pub mod BabyBear
 pub mod Quartic

@@ -63,6 +63,18 @@ abbrev pub raise : {A : Type 0} → Ring A → ℕ → List A → List A
 raise r zero f = f
 raise r (suc n) f = r.zero ∷ raise r n f
 
+-- the coefficients at even places
+abbrev pub even_part : {A : Type 0} → List A → List A
+even_part [] = []
+even_part (c ∷ []) = c ∷ []
+even_part (c ∷ d ∷ cs) = c ∷ even_part cs
+
+-- the coefficients at odd places
+abbrev pub odd_part : {A : Type 0} → List A → List A
+odd_part [] = []
+odd_part (c ∷ []) = []
+odd_part (c ∷ d ∷ cs) = d ∷ odd_part cs
+
 -- the values at `a` of the list and of its tails, but for the empty one
 abbrev pub tail_values : {A : Type 0} → Ring A → List A → A → List A
 tail_values r [] a = []

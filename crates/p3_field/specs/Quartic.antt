@@ -4,7 +4,7 @@ use Rattle.std.proofs.Common.{ℕ, zero, suc, List, [], ◌∷◌}
 use Rattle.p3_field.specs.declared.baby_bear.BabyBear.{BabyBear}
 use Rattle.p3_field.specs.declared.quartic.QuarticExtension.{QuarticExtension}
 use Rattle.p3_field.specs.Ring.{Ring}
-use Rattle.p3_field.specs.BabyBear.{reduce, bear_ring}
+use Rattle.p3_field.specs.BabyBear.{reduce, bear_ring, bear_inv}
 
 -- four coefficients over any `A`, lowest first
 pub record Four (A : Type 0) : Type 0 where
@@ -65,3 +65,36 @@ quartic_basis zero = record { c0 = reduce 1; c1 = reduce 0; c2 = reduce 0; c3 = 
 quartic_basis (suc zero) = record { c0 = reduce 0; c1 = reduce 1; c2 = reduce 0; c3 = reduce 0 }
 quartic_basis (suc (suc zero)) = record { c0 = reduce 0; c1 = reduce 0; c2 = reduce 1; c3 = reduce 0 }
 quartic_basis _ = record { c0 = reduce 0; c1 = reduce 0; c2 = reduce 0; c3 = reduce 1 }
+
+-- the norm of x modulo x^4 - w: the product of x with its three conjugates. With a + b x^2 the product of c0 + c1 x + c2 x^2 + c3 x^3
+-- with c0 - c1 x + c2 x^2 - c3 x^3, it is a^2 - w b^2
+abbrev pub norm4 : {A : Type 0} → Ring A → A → Four A → A
+norm4 r w x =
+    let two = r.add r.one r.one in
+    let a = r.add (r.mul x.c0 x.c0) (r.add (r.mul w (r.mul x.c2 x.c2)) (r.neg (r.mul two (r.mul w (r.mul x.c1 x.c3))))) in
+    let b = r.add (r.mul two (r.mul x.c0 x.c2)) (r.neg (r.add (r.mul x.c1 x.c1) (r.mul w (r.mul x.c3 x.c3)))) in
+    r.add (r.mul a a) (r.neg (r.mul w (r.mul b b)))
+
+-- the product of the other three conjugates: c0 - c1 x + c2 x^2 - c3 x^3 times a - b x^2
+abbrev pub adjoint4 : {A : Type 0} → Ring A → A → Four A → Four A
+adjoint4 r w x =
+    let two = r.add r.one r.one in
+    let a = r.add (r.mul x.c0 x.c0) (r.add (r.mul w (r.mul x.c2 x.c2)) (r.neg (r.mul two (r.mul w (r.mul x.c1 x.c3))))) in
+    let b = r.add (r.mul two (r.mul x.c0 x.c2)) (r.neg (r.add (r.mul x.c1 x.c1) (r.mul w (r.mul x.c3 x.c3)))) in
+    (four_ring r w).mul (record { c0 = x.c0; c1 = r.neg x.c1; c2 = x.c2; c3 = r.neg x.c3 }) (record { c0 = a; c1 = r.zero; c2 = r.neg b; c3 = r.zero })
+
+-- N(x) = x times its adjoint
+unfoldable pub quartic_norm : QuarticExtension → BabyBear
+quartic_norm x = norm4 bear_ring (reduce 11) (to_four x)
+
+-- the product of the other three conjugates of x
+unfoldable pub quartic_adjoint : QuarticExtension → QuarticExtension
+quartic_adjoint x = of_four (adjoint4 bear_ring (reduce 11) (to_four x))
+
+-- k x, for k of the base
+abbrev pub scaled : BabyBear → QuarticExtension → QuarticExtension
+scaled k x = record { c0 = bear_ring.mul k x.c0; c1 = bear_ring.mul k x.c1; c2 = bear_ring.mul k x.c2; c3 = bear_ring.mul k x.c3 }
+
+-- the adjoint over the norm
+unfoldable pub quartic_inv : QuarticExtension → QuarticExtension
+quartic_inv x = scaled (bear_inv (quartic_norm x)) (quartic_adjoint x)

@@ -1,14 +1,15 @@
 //! Fields: their traits with their laws, the BabyBear field, its quartic extension, and cosets of
 //! two-adic subgroups.
 //!
-//! The traits, types and calls are those of Plonky3's `p3-field`, `p3-baby-bear` and `p3-commit`.
+//! The traits, types and calls are those of Plonky3's `p3-field` and `p3-baby-bear`; `Gf256` is this project's own. "Own"
+//! in a comment, here and in the other crates, says so: Plonky3 has no original.
 //! Each field trait has a core without operators: a bound of an associated type, or of a trait's
 //! parameter, names the core (`FieldCore`), and functions name the trait above it (`Field`).
 //!
 //! The definitions that the contracts cite are in `specs/`: rings and fields as plain data with
-//! laws (`Ring`, `Field`), polynomials as lists of coefficients (`Poly`), cosets and their
-//! polynomials (`Domain`), and the fields (`BabyBear`, `Quartic`). `specs/Laws` has what is proved
-//! of them.
+//! laws (`Ring`, `Field`), polynomials as lists of coefficients (`Poly`), those with given values
+//! (`Newton`), cosets and their polynomials (`Domain`), and the fields (`BabyBear`, `Quartic`,
+//! `Gf256`). `specs/Laws` has what is proved of them.
 #![tactic(auto)]
 
 ghost use Rattle.std.specs.Prelude.{◌≡◌, ℕ, ◌+◌, ◌-◌, ◌*◌, ◌/◌, ◌%◌, ◌^◌, ◌<◌, ◌≤◌, length, get_or, List, Bool, true, IsTrue, ◌↔◌, IfOk, cond, if◌then◌else◌, MatchOption, IsSome, map};
@@ -42,8 +43,10 @@ pub type Mem<T> = Result<T, AllocError>;
 ///
 /// `ring` gives the operations as data, and every value of the type meets `ring_laws`.
 pub trait RingCore: Copy {
+    // Zero, one, sums, products and opposites as data.
     ghost ring: { Ring Self };
 
+    // The constants, as the clauses name them.
     ghost ZERO: { Self };
 
     ghost ONE: { Self };
@@ -71,11 +74,13 @@ pub trait RingCore: Copy {
     fn from_u64(n: u64) -> Self
         ensures { result ≡ of_nat ring n };
 
+    // The operations are those of a commutative ring.
     ghost ring_laws: { RingLaws ring };
 
     // A copy is the value itself.
     ghost clones_are_copies: { (x y : Self) → Self.is_clone x y → y ≡ x };
 
+    // The constants are the ring's zero and one, and two is the sum of two ones.
     ghost zero_is: { ZERO ≡ ring.zero };
 
     ghost one_is: { ONE ≡ ring.one };
@@ -89,12 +94,15 @@ pub trait RingCore: Copy {
 
 /// A field without its operators: the core of `Field`.
 pub trait FieldCore: RingCore + Eq {
+    // The constant, as the clauses name it.
     ghost GENERATOR: { Self };
 
+    // The inverse; of zero it is some value, which no call answers.
     ghost inv: { Self → Self };
 
     /// A fixed value that isn't zero, by which a coset is shifted off its subgroup
-    /// (`Field::GENERATOR` of `p3-field`, which generates the multiplicative group).
+    /// (`Field::GENERATOR` of `p3-field`, which generates the multiplicative group). That it lies outside of each two-adic
+    /// subgroup is a law for `BabyBear` (`bear_31_power`), and none of this trait.
     const GENERATOR: Self;
 
     /// Whether this is zero.
@@ -110,20 +118,25 @@ pub trait FieldCore: RingCore + Eq {
         requires { (self.now ≡ Self.ring.zero) → ⊥ }
         ensures { result ≡ inv self.now };
 
+    // One isn't zero, and a value that isn't zero times its inverse is one.
     ghost field_laws: { FieldLaws Self.ring inv };
 
+    // The generator isn't zero.
     ghost generator_not_zero: { GENERATOR ≡ Self.ring.zero → ⊥ };
 
-    // `==` tells equality.
+    // Values that `==` tells equal are one.
     ghost eq_same: { (x y : Self) → Self.eq x y ≡ true → x ≡ y };
 
+    // A value equals itself.
     ghost same_eq: { (x : Self) → Self.eq x x ≡ true };
 }
 
 /// A prime field of less than 2^64 elements without its operators: the core of `PrimeField64`.
 pub trait PrimeCore64: FieldCore {
+    // The constant, as the clauses name it.
     ghost ORDER_U64: { ℕ };
 
+    // The number of a value.
     ghost canonical: { Self → ℕ };
 
     /// The number of elements.
@@ -133,17 +146,22 @@ pub trait PrimeCore64: FieldCore {
     fn as_canonical_u64(&self) -> u64
         ensures { result ≡ canonical self.now };
 
+    // The number is below the order.
     ghost canonical_below: { (x : Self) → canonical x < ORDER_U64 };
 
+    // The number gives the value back.
     ghost of_canonical: { (x : Self) → of_nat Self.ring (canonical x) ≡ x };
 
+    // Numbers are taken modulo the order.
     ghost canonical_of: { (n : ℕ) → canonical (of_nat Self.ring n) ≡ n % ORDER_U64 };
 }
 
 /// A field with subgroups of size 2^k, without its operators: the core of `TwoAdicField`.
 pub trait TwoAdicCore: FieldCore {
+    // The constant, as the clauses name it.
     ghost TWO_ADICITY: { ℕ };
 
+    // The generator of the subgroup of size 2^k.
     ghost root: { ℕ → Self };
 
     /// The logarithm to base 2 of the size of the largest such subgroup; it is below 64.
@@ -155,8 +173,10 @@ pub trait TwoAdicCore: FieldCore {
         requires { bits ≤ TWO_ADICITY }
         ensures { result ≡ root bits };
 
+    // A size fits 64 bits.
     ghost below_64: { TWO_ADICITY < 64 };
 
+    // Generator 0 is one, generator 1 minus one, which isn't one, and the square of each is the one before.
     ghost root_laws: { TwoAdicLaws Self.ring TWO_ADICITY root };
 }
 
@@ -188,6 +208,7 @@ pub trait PrimeCharacteristicRing: RingCore
         generic::repeated_square(self, k)
     }
 
+    // Any two values have a sum, and it is the ring's; likewise the difference, the product and the opposite.
     ghost may_add: { (x y : Self) → Self.can_add x y };
 
     ghost adds: { (x y r : Self) → Self.add_gives x y r → r ≡ Self.ring.add x y };
@@ -224,10 +245,13 @@ impl<T: Field + TwoAdicCore> TwoAdicField for T {}
 ///
 /// `parts` is a value's list of coefficients, and `whole` the value of such a list.
 pub trait BasedVectorSpace<F: FieldCore>: Copy {
+    // The constant, as the clauses name it.
     ghost DIMENSION: { ℕ };
 
+    // A value's coefficients, in basis order.
     ghost parts: { Self → List F };
 
+    // The value of a list of coefficients.
     ghost whole: { List F → Self };
 
     /// The number of coefficients; it isn't zero.
@@ -248,6 +272,7 @@ pub trait BasedVectorSpace<F: FieldCore>: Copy {
         requires { length values.now % DIMENSION ≡ 0 }
         ensures { IfOk result (λ v. flat_map parts v.items ≡ values.now) };
 
+    // Each value has one list of `DIMENSION` coefficients, each such list one value, and there is a coefficient.
     ghost vector_laws: { VectorLaws DIMENSION parts whole };
 }
 
@@ -256,8 +281,10 @@ pub trait BasedVectorSpace<F: FieldCore>: Copy {
 /// `embed` takes a value of `F` to this field, `basis` gives the basis, and each value is the sum
 /// of its coefficients times the basis elements.
 pub trait ExtensionField<F: FieldCore>: Field + BasedVectorSpace<F> {
+    // The value of this field that a value of the base is.
     ghost embed: { F → Self };
 
+    // Basis element i.
     ghost basis: { ℕ → Self };
 
     /// A value of the base as a value of this field; sums and products are kept.
@@ -269,7 +296,9 @@ pub trait ExtensionField<F: FieldCore>: Field + BasedVectorSpace<F> {
     fn from_ext_basis_coefficients(c: &[Self]) -> Option<Self>
         ensures { MatchOption result (length c.now ≡ Self.DIMENSION → ⊥) (λ y. (length c.now ≡ Self.DIMENSION) × (y ≡ combine Self.ring basis 0 c.now)) };
 
+    // Zero, one, sums and products of the base are kept.
     ghost embed_laws: { RingHom F.ring Self.ring embed };
 
+    // A value is the sum of its coefficients times the basis elements.
     ghost basis_laws: { (x : Self) → combine Self.ring basis 0 (map embed (Self.parts x)) ≡ x };
 }

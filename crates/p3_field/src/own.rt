@@ -1,6 +1,7 @@
-// Each field is an extension of dimension 1 of itself.
+//! Each field is an extension of dimension 1 of itself.
 ghost use Rattle.std.specs.Prelude.{◌≡◌, ℕ, ◌+◌, ◌-◌, ◌*◌, ◌/◌, ◌%◌, ◌^◌, ◌<◌, ◌≤◌, length, get_or, List, [], ◌∷◌, refl};
-ghost use Rattle.p3_field.specs.Laws.Own.{own_laws, own_hom, own_spans, own_whole};
+ghost use Rattle.p3_field.specs.Field.{own_whole};
+ghost use Rattle.p3_field.specs.Laws.Own.{own_laws, own_hom, own_spans};
 
 use crate::{BasedVectorSpace, ExtensionField, Field, FieldCore, Mem, RingCore};
 use std::alloc::Global;

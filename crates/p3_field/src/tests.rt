@@ -46,6 +46,7 @@ fn operators_of_the_base(rt: HostRuntime) {
     assert_eq!(rt; bear(3) - bear(5), bear(P - 2));
     assert_eq!(rt; bear(P - 2) * bear(P - 3), bear(6));
     assert_eq!(rt; -bear(7), bear(P - 7));
+    assert_eq!(rt; bear(5).square(), bear(25));
     assert_eq!(rt; -BabyBear::ZERO, BabyBear::ZERO);
     assert_eq!(rt; bear(5).exp_u64(1000003), bear(1930488033));
     assert_eq!(rt; bear(5).exp_power_of_2(20), bear(506600147));
@@ -57,6 +58,9 @@ fn inverses_in_the_base(rt: HostRuntime) {
         assert_eq!(rt; bear(n).try_inverse(), Some(bear(want)), "of {n}");
     }
     assert_eq!(rt; BabyBear::ZERO.try_inverse(), None);
+    let two = bear(2);
+    assert!(rt; !two.is_zero());
+    assert_eq!(rt; two.inverse(), bear(1006632961));
 }
 
 #[test]
@@ -80,6 +84,7 @@ fn the_quartic_extension(rt: HostRuntime) {
     assert_eq!(rt; x * y, quartic(676, 588, 386, 60));
     let inverse = quartic(1587469345, 920666518, 1160282443, 647153706);
     assert_eq!(rt; x.try_inverse(), Some(inverse));
+    assert_eq!(rt; x.square(), quartic(276, 268, 186, 20));
     assert_eq!(rt; QuarticExtension::ZERO.try_inverse(), None);
     assert_eq!(rt;
         QuarticExtension::TWO,
@@ -116,6 +121,10 @@ fn coefficients(rt: HostRuntime) -> Result<(), Fail> {
         &[bear(5), bear(6)],
     )?;
     assert_eq!(rt; own.as_slice(), [bear(5), bear(6)].as_slice());
+    let again = <BabyBear as BasedVectorSpace<BabyBear>>::reconstitute_from_base(rt.alloc(), &own)?;
+    assert_eq!(rt; again.as_slice(), [bear(5), bear(6)].as_slice());
+    let only = <BabyBear as BasedVectorSpace<BabyBear>>::basis_coefficient(&bear(5), 0);
+    assert_eq!(rt; only, bear(5));
     Ok(())
 }
 
@@ -161,6 +170,7 @@ fn bytes_as_polynomials(rt: HostRuntime) {
     assert_eq!(rt; -x, x);
     assert_eq!(rt; x * y, Gf256 { value: 0xc1 });
     assert_eq!(rt; x * Gf256 { value: 0x13 }, Gf256 { value: 0xfe });
+    assert_eq!(rt; x.square(), Gf256 { value: 0xa5 });
     assert_eq!(rt; Gf256::TWO, Gf256::ZERO);
     assert_eq!(rt; Gf256::from_u64(7), Gf256::ONE);
     assert_eq!(rt; Gf256::from_u16(6), Gf256::ZERO);

@@ -8,11 +8,11 @@ pub record Rows (F : Type 0) : Type 0 where
   pub values : List F
   pub width : ℕ
 
--- the values fill whole rows; rows of width zero have none
+-- the values fill whole rows; rows of width zero have none, since division by zero gives zero
 abbrev pub FillsRows : {F : Type 0} → List F → ℕ → Type 0
 FillsRows values width = length values / width * width ≡ length values
 
--- the number of rows, zero where the width is zero
+-- the number of rows; zero where the width is zero, since division by zero gives zero
 abbrev pub height : {F : Type 0} → Rows F → ℕ
 height m = length m.values / m.width
 

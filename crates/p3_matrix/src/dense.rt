@@ -76,7 +76,7 @@ impl<F> RowMajorMatrix<F> {
         &self.values
     }
 
-    /// The values of a row.
+    /// The values of a row below the height (own: `row_slice` without the test).
     pub fn row(&self, row: usize) -> &[F]
         requires { row < height self.now }
         ensures values { result.now ≡ row_at self.now row }
@@ -121,7 +121,7 @@ impl<F: Copy> RowMajorMatrix<F> {
         })
     }
 
-    /// The values of a column, from the first row to the last.
+    /// The values of a column below the width, from the first row to the last (own).
     pub fn column(&self, alloc: Global, column: usize) -> Mem<Vec<F>>
         requires { column < self.now.width }
         ensures count { IfOk result (λ v. length v.items ≡ height self.now) }
@@ -135,7 +135,8 @@ impl<F: Copy> RowMajorMatrix<F> {
         Ok(values)
     }
 
-    /// The matrix with rows and columns exchanged.
+    /// The matrix with rows and columns exchanged: from h rows of w columns, w rows of h columns, where cell (j, i) is
+    /// cell (i, j) of this one. A matrix without rows gives one of width zero (`p3_matrix::dense::RowMajorMatrix`).
     pub fn transpose(&self, alloc: Global) -> Mem<Self>
         ensures width { IfOk result (λ t. t.width ≡ height self.now) }
         ensures count { IfOk result (λ t. length t.values ≡ length self.now.values) }

@@ -8,7 +8,8 @@ use p3_field::{BasedVectorSpace, ExtensionField, Field, FieldCore, Mem};
 use std::alloc::Global;
 
 /// The matrix in which each value of a row is replaced by its coefficients, in order (`flatten_to_base` of
-/// `p3_matrix`'s extension matrices). It has as many rows, each as many times wider as the extension's dimension.
+/// `p3_matrix`'s extension matrices). From h rows of w columns it gives h rows of w * `DIMENSION` columns, a width that
+/// has to fit `usize`.
 pub fn flatten_matrix<F: Field, EF: ExtensionField<F>>(
     alloc: Global,
     m: &RowMajorMatrix<EF>,

@@ -15,7 +15,7 @@ use p3_field::{
 };
 use std::alloc::Global;
 
-/// 1 + x + .. + x^(2^bits - 1), as the product of 1 + x^(2^j) for j below `bits`.
+/// 1 + x + .. + x^(2^bits - 1), as the product of 1 + x^(2^j) for j below `bits` (own).
 pub fn sum_of_powers<F: PrimeCharacteristicRing>(x: F, bits: usize) -> F
     ensures { result ≡ total F.ring (2 ^ bits) (λ i. pow F.ring x i) }
 {
@@ -68,8 +68,9 @@ fn weighted_column<F: Field, EF: ExtensionField<F>>(
     sum
 }
 
-/// The value at a point of each column's interpolant on the coset with this shift and as many points as rows. It is
-/// total: at a point of the coset it gives that row's values (`p3_matrix::interpolation::Interpolate`).
+/// The value at a point of each column's interpolant on the coset with this shift and as many points as rows, one
+/// value a column, in order. At a point of the coset it gives that row's values. The height is a power of two up to
+/// 2^`TWO_ADICITY`, and the shift isn't zero (`p3_matrix::interpolation::Interpolate`).
 pub fn interpolate_coset<F: TwoAdicField, EF: ExtensionField<F>>(
     alloc: Global,
     m: &RowMajorMatrix<F>,

@@ -7,7 +7,7 @@ ghost use Rattle.p3_matrix.specs.Products.{product_below};
 use p3_field::{Field, FieldCore, Mem, PrimeCharacteristicRing, RingCore};
 use std::alloc::Global;
 
-/// The inverses of values that aren't zero, by one inversion and three products a value
+/// The inverses of values that aren't zero, in order, by one inversion and three products a value
 /// (`p3_field::batch_multiplicative_inverse`).
 pub fn batch_multiplicative_inverse<F: Field>(alloc: Global, values: &[F]) -> Mem<Vec<F>>
     requires { (i : ℕ) → i < length values.now → get_or values.now i F.ring.zero ≡ F.ring.zero → ⊥ }

@@ -3,11 +3,12 @@ ghost use Rattle.std.specs.Prelude.{◌≡◌, ◌^◌, IfOk};
 ghost use Rattle.p3_matrix.specs.Matrix.{height};
 
 use crate::{
-    RowMajorMatrix, checked_log_size_sum, flatten_matrix, interpolate_coset, is_power_of_two,
-    log2_ceil_usize, log2_strict_usize,
+    RowMajorMatrix, batch_multiplicative_inverse, checked_log_size_sum, flatten_matrix,
+    interpolate_coset, is_power_of_two, log2_ceil_usize, log2_strict_usize, sum_of_powers,
 };
 use p3_field::{BabyBear, FieldCore, Mem, QuarticExtension, RingCore};
 use std::alloc::Global;
+use std::process::Abort;
 use std::test::Fail;
 
 fn bear(n: u64) -> BabyBear {
@@ -38,6 +39,48 @@ fn interpolates_outside_and_on_the_coset(rt: HostRuntime) -> Result<(), Fail> {
     let values = interpolate_coset(alloc, &column, one, point)?;
     assert_eq!(rt; values.as_slice(), [QuarticExtension::ONE].as_slice());
     Ok(())
+}
+
+// The columns 1, 2, 3, 4 and 5, 6, 7, 9.
+fn two_columns(alloc: Global) -> Mem<RowMajorMatrix<BabyBear>>
+    ensures { IfOk result (λ m. height m ≡ 2 ^ 2) }
+{
+    let values = vec![in alloc;
+        bear(1),
+        bear(5),
+        bear(2),
+        bear(6),
+        bear(3),
+        bear(7),
+        bear(4),
+        bear(9),
+    ]?;
+    Ok(RowMajorMatrix::new(values, 2))
+}
+
+// At points that aren't their own inverses; the values were worked out by another program.
+#[test]
+fn interpolates_columns_of_four(rt: HostRuntime) -> Result<(), Fail> {
+    let alloc = rt.alloc();
+    let shift = bear(3);
+    assert!(rt; !shift.is_zero());
+    let columns = two_columns(alloc)?;
+    for (point, first, second) in [(5, 1242236348, 1154983184), (3, 1, 5)] {
+        let values = interpolate_coset(alloc, &columns, shift, bear(point))?;
+        assert_eq!(rt;
+            values.as_slice(),
+            [bear(first), bear(second)].as_slice(),
+            "at {point}"
+        );
+    }
+    Ok(())
+}
+
+#[test]
+fn sums_of_powers(rt: HostRuntime) {
+    assert_eq!(rt; sum_of_powers(bear(3), 0), bear(1));
+    assert_eq!(rt; sum_of_powers(bear(3), 2), bear(40));
+    assert_eq!(rt; sum_of_powers(bear(3), 3), bear(3280));
 }
 
 #[test]
@@ -72,6 +115,7 @@ fn cells_and_rows(rt: HostRuntime) -> Result<(), Fail> {
     assert_eq!(rt; m.get(0, 3), None);
     assert_eq!(rt; m.row_slice(1), Some([3u32, 4, 5].as_slice()));
     assert_eq!(rt; m.row_slice(2), None);
+    assert_eq!(rt; m.row(1), [3u32, 4, 5].as_slice());
     let column = m.column(alloc, 1)?;
     assert_eq!(rt; column.as_slice(), [1u32, 4].as_slice());
     let transposed = m.transpose(alloc)?;
@@ -90,5 +134,21 @@ fn logarithms(rt: HostRuntime) -> Result<(), Fail> {
     assert_eq!(rt; log2_strict_usize(8), 3);
     assert_eq!(rt; checked_log_size_sum(63, 0), Some((63, 1 << 63)));
     assert_eq!(rt; checked_log_size_sum(63, 1), None);
+    Ok(())
+}
+
+// The inverses of three values, if none is zero.
+fn inverses_of(rt: &impl Abort, alloc: Global, values: [BabyBear; 3]) -> Mem<Vec<BabyBear>> {
+    assert!(rt; !values[0].is_zero() && !values[1].is_zero() && !values[2].is_zero());
+    batch_multiplicative_inverse(alloc, &values)
+}
+
+#[test]
+fn inverses_of_several_values(rt: HostRuntime) -> Result<(), Fail> {
+    let inverses = inverses_of(&rt, rt.alloc(), [bear(2), bear(31), -bear(1)])?;
+    assert_eq!(rt;
+        inverses.as_slice(),
+        [bear(1006632961), bear(64944062), -bear(1)].as_slice()
+    );
     Ok(())
 }

@@ -11,7 +11,7 @@ use Rattle.p3_field.specs.Ring.{Ring, RingLaws}
 use Rattle.p3_field.specs.Field.{FieldLaws, TwoAdicLaws}
 use Rattle.p3_field.specs.Poly.{val, Apart}
 use Rattle.p3_field.specs.Domain.{CosetData, point, IsInterpolant}
-use Rattle.p3_field.specs.Laws.Newton.{newton}
+use Rattle.p3_field.specs.Newton.{newton}
 use Rattle.p3_field.specs.Laws.Interpolants.{interpolant_exists, points_apart}
 use Rattle.p3_matrix.specs.Matrix.{Rows, height, cell_at, column}
 use Rattle.p3_matrix.specs.Laws.Cells.{length-column, get_or-column}

@@ -4,7 +4,7 @@ use Rattle.std.specs.Prelude.{◌≡◌, ℕ, zero, suc, ◌+◌, ◌^◌, ◌<�
 use Rattle.p3_field.specs.Field.{TwoAdic}
 use Rattle.p3_field.specs.Poly.{val, table}
 use Rattle.p3_field.specs.Domain.{CosetData, point}
-use Rattle.p3_field.specs.Laws.Newton.{newton}
+use Rattle.p3_field.specs.Newton.{newton}
 use Rattle.p3_matrix.specs.Matrix.{Rows, height, column}
 use Rattle.plain_pcs.specs.Scheme.{Scheme, PlainCommitmentData}
 

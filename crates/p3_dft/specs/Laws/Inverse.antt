@@ -1,31 +1,24 @@
 -- The inverse transform: a transform with the inverse generator, weighed.
-use Rattle.std.proofs.Common.{◌≡◌, ℕ, zero, suc, ◌+◌, ◌*◌, ◌^◌, ◌≤◌, List, length, get_or, sym, ◌∙◌, ap, arith}
-use Rattle.std.proofs.Math.Nat.{pow-suc}
+use Rattle.std.proofs.Common.{◌≡◌, ℕ, zero, suc, ◌+◌, ◌^◌, ◌≤◌, List, length, get_or, sym, ◌∙◌, ap, arith}
 use Rattle.std.proofs.lemmas.Nat.{pow_pos}
 use Rattle.p3_field.specs.Ring.{Ring, RingLaws, pow, of_nat}
 use Rattle.p3_field.specs.Field.{FieldLaws, TwoAdicLaws}
 use Rattle.p3_field.specs.Poly.{val, table, total}
 use Rattle.p3_field.specs.Domain.{coset_point, IsInterpolant}
 use Rattle.p3_field.specs.Laws.Algebra.{one_mul, neg_mul, neg_neg}
-use Rattle.p3_field.specs.Laws.Order.{one_pow, pow_times}
+use Rattle.p3_field.specs.Laws.Order.{one_pow}
 use Rattle.p3_field.specs.Laws.Sums.{total_same, val_table}
 use Rattle.p3_field.specs.Laws.Roots.{field_no_zero_divisors}
-use Rattle.p3_field.specs.Laws.Coset.{HasOrder, two_adic_order, pow_mul}
+use Rattle.p3_field.specs.Laws.Coset.{HasOrder, two_adic_order, pow_mul, double_power}
 use Rattle.p3_field.specs.Laws.Subcosets.{order_half}
-use Rattle.p3_field.specs.Laws.Transform.{inverse_coeff, inverse_transform}
+use Rattle.p3_field.specs.Laws.Transform.{pow_swap, inverse_coeff, inverse_transform}
 use Rattle.p3_field.specs.Laws.TwoAdic.{coset_interpolant_value}
 use Rattle.p3_field.specs.Laws.Inverses.{root_inverts}
 use Rattle.p3_dft.specs.Transform.{values_at, TurnsIn, weighted}
 use Rattle.p3_field.specs.Laws.Tables.{length-table, table_same, table_of_items}
 use Rattle.p3_dft.specs.Laws.Values.{length-values_at, get_or-values_at}
 
-double_power : (k : ℕ) → 2 ^ suc k ≡ 2 ^ k + 2 ^ k
-double_power k = rw pow-suc (omega arith)
-
 module _ {A : Type 0} (r : Ring A) (L : RingLaws r) where
-  swap_powers : (x : A) (i j : ℕ) → pow r (pow r x i) j ≡ pow r (pow r x j) i
-  swap_powers x i j = let c : i * j ≡ j * i = omega arith in sym (pow_times r L x i j) ∙ (ap (pow r x) c ∙ pow_times r L x j i)
-
   -- the inverse transform's coefficient j is the weighed value of the polynomial with coefficients v at g^j
   coefficient_as_value : (n : ℕ) (m t g : A) (v : List A) (j : ℕ) → length v ≡ n
       → r.mul (val r v (coset_point r r.one g j)) (coset_point r m t j) ≡ inverse_coeff r n m t g (λ i. get_or v i r.zero) j
@@ -36,7 +29,7 @@ module _ {A : Type 0} (r : Ring A) (L : RingLaws r) where
       let sum : val r v X ≡ total r n (λ i. r.mul (x i) (pow r X i)) = ap (λ l. val r l X) (table_of_items r.zero v n e) ∙ val_table r L n x X in
       let S = total r n (λ i. r.mul (x i) (pow r (pow r g i) j)) in
       let turned : total r n (λ i. r.mul (x i) (pow r X i)) ≡ S =
-      total_same r L n (λ i. r.mul (x i) (pow r X i)) (λ i. r.mul (x i) (pow r (pow r g i) j)) (λ i h. ap (r.mul (x i)) (swap_powers g j i)) in
+      total_same r L n (λ i. r.mul (x i) (pow r X i)) (λ i. r.mul (x i) (pow r (pow r g i) j)) (λ i h. ap (r.mul (x i)) (pow_swap r L g j i)) in
       cc (ap (val r v) point, sum, turned, L.mul_comm S (r.mul m T), L.mul_assoc m T S)
 
   pub weighted_values : (n : ℕ) (m t g : A) (v : List A) → length v ≡ n

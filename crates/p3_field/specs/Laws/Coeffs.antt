@@ -3,7 +3,7 @@ use Rattle.std.proofs.Common.{◌≡◌, ℕ, zero, suc, ◌+◌, ◌-◌, ◌�
 use Rattle.std.proofs.lemmas.List.{get_or_past, get_or-append_right}
 use Rattle.p3_field.specs.Ring.{Ring, RingLaws, pow, sub}
 use Rattle.p3_field.specs.Laws.Algebra.{zero_add, one_mul, mul_zero, neg_zero}
-use Rattle.p3_field.specs.Poly.{coeff, DegreeBelow, IsZeroPoly, SamePoly, add_poly, scale_poly, neg_poly, sub_poly, mul_poly, shift_arg, raise, table}
+use Rattle.p3_field.specs.Poly.{coeff, DegreeBelow, IsZeroPoly, SamePoly, add_poly, scale_poly, neg_poly, sub_poly, mul_poly, shift_arg, raise}
 
 module _ {A : Type 0} (r : Ring A) (L : RingLaws r) where
   pub coeff_add : (f g : List A) (i : ℕ) → coeff r (add_poly r f g) i ≡ r.add (coeff r f i) (coeff r g i)
@@ -41,15 +41,6 @@ module _ {A : Type 0} (r : Ring A) (L : RingLaws r) where
   coeff_raise zero f i h = let e : i ≡ i - zero = omega arith in ap (coeff r f) e
   coeff_raise (suc n) f zero h = absurd (omega arith)
   coeff_raise (suc n) f (suc i) h = let e : i - n ≡ suc i - suc n = omega arith in coeff_raise n f i (omega arith) ∙ ap (coeff r f) e
-
-  pub coeff_table : (n : ℕ) (t : ℕ → A) (i : ℕ) → i < n → coeff r (table n t) i ≡ t i
-  coeff_table zero t i h = absurd (omega arith)
-  coeff_table (suc n) t zero h = refl
-  coeff_table (suc n) t (suc i) h = coeff_table n (λ j. t (suc j)) i (omega arith)
-
-  pub length_table : (n : ℕ) (t : ℕ → A) → length (table n t) ≡ n
-  length_table zero t = refl
-  length_table (suc n) t = ap suc (length_table n (λ j. t (suc j)))
 
   pub coeff_take : (n : ℕ) (f : List A) (i : ℕ) → i < n → coeff r (take n f) i ≡ coeff r f i
   coeff_take zero f i h = absurd (omega arith)

@@ -3,12 +3,12 @@ use Rattle.std.proofs.Common.{◌≡◌, ℕ, zero, suc, ◌+◌, ◌-◌, ◌*�
 use Rattle.std.proofs.Math.Nat.{pow-suc}
 use Rattle.std.proofs.lemmas.Bool.{cases_eq}
 use Rattle.p3_field.specs.Domain.{coset_point}
-use Rattle.p3_field.specs.Ring.{Ring, RingLaws, pow, of_nat, sub}
+use Rattle.p3_field.specs.Ring.{Ring, RingLaws, pow, sub}
 use Rattle.p3_field.specs.Field.{TwoAdicLaws}
 use Rattle.p3_field.specs.Laws.Algebra.{one_mul, neg_mul_neg, pow_add, pow_square, pow_one, mul_swap, mul_neg}
-use Rattle.p3_field.specs.Laws.Order.{one_pow, pow_times}
+use Rattle.p3_field.specs.Laws.Order.{one_pow}
 use Rattle.p3_field.specs.Poly.{Apart, total}
-use Rattle.p3_field.specs.Laws.Sums.{total_same, total_ones, geometric_sum}
+use Rattle.p3_field.specs.Laws.Sums.{geometric_sum}
 use Rattle.p3_field.specs.Laws.Roots.{NoZeroDivisors, sub_zero, sub_self}
 
 -- `n` is the least positive number with h^n = 1
@@ -20,14 +20,14 @@ multiple_below : (N m j : ℕ) → N * m ≡ j → 0 < j → j < N → ⊥
 multiple_below N zero j e a b = omega arith
 multiple_below N (suc m) j e a b = omega arith
 
-two_more : (k : ℕ) → 2 ^ suc k ≡ 2 ^ k + 2 ^ k
-two_more k = rw pow-suc (omega arith)
+pub double_power : (k : ℕ) → 2 ^ suc k ≡ 2 ^ k + 2 ^ k
+double_power k = rw pow-suc (omega arith)
 
 twice_multiple : (k m j : ℕ) → 2 ^ suc k * m ≡ j → 2 ^ k * m + 2 ^ k * m ≡ j
-twice_multiple k m j p = omega (arith, ap (λ z. z * m) (two_more k), p)
+twice_multiple k m j p = omega (arith, ap (λ z. z * m) (double_power k), p)
 
 next_multiple : (k m t j : ℕ) → 2 ^ suc k * m ≡ t → t + t ≡ j → 2 ^ suc (suc k) * m ≡ j
-next_multiple k m t j p q = omega (arith, ap (λ z. z * m) (two_more (suc k)), p, q)
+next_multiple k m t j p q = omega (arith, ap (λ z. z * m) (double_power (suc k)), p, q)
 
 module _ {A : Type 0} (r : Ring A) (L : RingLaws r) where
   pub pow_mul : (x y : A) (n : ℕ) → pow r (r.mul x y) n ≡ r.mul (pow r x n) (pow r y n)
@@ -49,7 +49,7 @@ module _ {A : Type 0} (r : Ring A) (L : RingLaws r) where
       ]
 
   square_half : (h : A) (k : ℕ) (c : A) → pow r h (2 ^ suc k) ≡ c → pow r (r.mul h h) (2 ^ k) ≡ c
-  square_half h k c e = pow_square r L h (2 ^ k) ∙ (ap (pow r h) (sym (two_more k)) ∙ e)
+  square_half h k c e = pow_square r L h (2 ^ k) ∙ (ap (pow r h) (sym (double_power k)) ∙ e)
 
   square_full : (h : A) (j : ℕ) → pow r h j ≡ r.one → pow r (r.mul h h) j ≡ r.one
   square_full h j f = pow_square r L h j ∙ cc (pow_add r L h j j, f, L.mul_one r.one)
@@ -117,16 +117,3 @@ module _ {A : Type 0} (r : Ring A) (L : RingLaws r) where
     root_sum n w e d =
         let S = total r n (λ j. pow r w j) in
         N (sub r w r.one) S (λ z. d (sub_zero r L w r.one z)) (geometric_sum r L n w ∙ sub_self r L (pow r w n) r.one e)
-
-    pub order_sum : (n : ℕ) (h : A) (j : ℕ) → HasOrder r n h → 0 < j → j < n → total r n (λ i. pow r h (i * j)) ≡ r.zero
-    order_sum n h j O a b =
-        let f : pow r (pow r h j) n ≡ r.one =
-        sym (pow_times r L h j n) ∙ (let c : j * n ≡ n * j = omega arith in ap (pow r h) c ∙ (pow_times r L h n j ∙ (ap (λ v. pow r v j) O.full ∙ one_pow r L j))) in
-        total_same r L n (λ i. pow r h (i * j)) (λ i. pow r (pow r h j) i)
-        (λ i k. let c : i * j ≡ j * i = omega arith in ap (pow r h) c ∙ pow_times r L h j i)
-        ∙ root_sum n (pow r h j) f (O.least j a b)
-
-  pub order_sum_zero : (n : ℕ) (h : A) → total r n (λ i. pow r h (i * 0)) ≡ of_nat r n
-  unfolding pow
-  order_sum_zero n h =
-      total_same r L n (λ i. pow r h (i * 0)) (λ i. r.one) (λ i k. let c : i * 0 ≡ 0 = omega arith in ap (pow r h) c) ∙ total_ones r L n

@@ -62,3 +62,9 @@ module _ {A : Type 0} (r : Ring A) (L : RingLaws r) where
   divide (c ∷ cs) a x =
       let Q = r.mul (sub r x a) (val r (tail_values r cs a) x) in let V = r.mul a (val r cs a) in
       cc (divide_tail cs a x, L.add_comm c (r.add Q V), L.add_assoc Q V c, L.add_comm V c)
+
+  -- (x - z) q(x) = f(x) - f(z)
+  pub opening_quotient : (f : List A) (z x : A) → r.mul (sub r x z) (val r (quotient r f z) x) ≡ sub r (val r f x) (val r f z)
+  opening_quotient f z x =
+      let Q = r.mul (sub r x z) (val r (quotient r f z) x) in let V = val r f z in
+      cc (divide f z x, L.add_assoc Q V (r.neg V), L.add_neg V, L.add_zero Q)

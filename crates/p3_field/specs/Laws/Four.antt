@@ -1,7 +1,7 @@
 -- The ring of polynomials of degree below 4 modulo x^4 - w.
 use Rattle.std.proofs.Common.{◌≡◌, List, [], ◌∷◌, refl}
 use Rattle.p3_field.specs.Ring.{Ring, RingLaws}
-use Rattle.p3_field.specs.Quartic.{Four, four_ring}
+use Rattle.p3_field.specs.Quartic.{Four, four_ring, norm4, adjoint4}
 use Rattle.p3_field.specs.Laws.Solver.{Expr, var, nought, times, expressions, solve}
 
 -- the same ring over expressions, and three values of 12 variables; variable 0 is w
@@ -52,20 +52,6 @@ module _ {A : Type 0} (r : Ring A) (L : RingLaws r) (w : A) where
       c3 = solve r L (V x y z) (E.mul x' (E.add y' z')).c3 (E.add (E.mul x' y') (E.mul x' z')).c3 refl i;
     };
   }
-
-abbrev pub norm4 : {A : Type 0} → Ring A → A → Four A → A
-norm4 r w x =
-    let two = r.add r.one r.one in
-    let a = r.add (r.mul x.c0 x.c0) (r.add (r.mul w (r.mul x.c2 x.c2)) (r.neg (r.mul two (r.mul w (r.mul x.c1 x.c3))))) in
-    let b = r.add (r.mul two (r.mul x.c0 x.c2)) (r.neg (r.add (r.mul x.c1 x.c1) (r.mul w (r.mul x.c3 x.c3)))) in
-    r.add (r.mul a a) (r.neg (r.mul w (r.mul b b)))
-
-abbrev pub adjoint4 : {A : Type 0} → Ring A → A → Four A → Four A
-adjoint4 r w x =
-    let two = r.add r.one r.one in
-    let a = r.add (r.mul x.c0 x.c0) (r.add (r.mul w (r.mul x.c2 x.c2)) (r.neg (r.mul two (r.mul w (r.mul x.c1 x.c3))))) in
-    let b = r.add (r.mul two (r.mul x.c0 x.c2)) (r.neg (r.add (r.mul x.c1 x.c1) (r.mul w (r.mul x.c3 x.c3)))) in
-    (four_ring r w).mul (record { c0 = x.c0; c1 = r.neg x.c1; c2 = x.c2; c3 = r.neg x.c3 }) (record { c0 = a; c1 = r.zero; c2 = r.neg b; c3 = r.zero })
 
 pub mul_adjoint : {A : Type 0} (r : Ring A) (L : RingLaws r) (w : A) (x : Four A) →
     (four_ring r w).mul x (adjoint4 r w x) ≡ record { c0 = norm4 r w x; c1 = r.zero; c2 = r.zero; c3 = r.zero }

@@ -8,7 +8,8 @@ use Rattle.std.proofs.Math.Bridge.{le_prop}
 use mathlib.Core.HLevel.{is_prop→PathP}
 use lib.Bits.{xor_zero_r}
 use Rattle.p3_field.specs.declared.gf256.Gf256.{Gf256, in_range-type}
-use Rattle.p3_field.specs.Ring.{RingLaws, of_nat}
+use Rattle.p3_field.specs.Ring.{RingLaws, pow, of_nat}
+use Rattle.p3_field.specs.Poly.{total}
 use Rattle.p3_field.specs.Gf256.{times_x, byte_mul, of_byte, gf_ring}
 use Rattle.p3_field.specs.Laws.Order.{below_at}
 
@@ -234,3 +235,20 @@ byte_mul_turn k a b h =
 pub byte_mul_start : (a b : ℕ) → 0 ≡ byte_mul 0 a b
 unfolding byte_mul
 byte_mul_start a b = refl
+
+-- x^8 is x^4 + x^3 + x + 1
+pub gf_x_to_8 : let x = of_byte 2 in let p = pow gf_ring x in p 8 ≡ gf_ring.add (p 4) (gf_ring.add (p 3) (gf_ring.add x gf_ring.one))
+unfolding pow byte_mul gf_ring
+gf_x_to_8 = same_gf _ _ refl
+
+-- the sum over i below 8 of bit i of n times x^i
+abbrev pub sum_of_bits : ℕ → Gf256
+sum_of_bits n = total gf_ring 8 (λ i. gf_ring.mul (of_byte (n / 2 ^ i % 2)) (pow gf_ring (of_byte 2) i))
+
+bits_value : (n : ℕ) → n < 256 → (sum_of_bits n).value ≡ n
+unfolding pow byte_mul gf_ring
+bits_value n h = eqb-true (sum_of_bits n).value n (below_at 256 (λ k. nat_eq (sum_of_bits k).value k) refl n h)
+
+-- a byte is the sum of its bits times the powers of x
+pub byte_is_sum : (b : Gf256) → b ≡ sum_of_bits b.value
+byte_is_sum b = same_gf b (sum_of_bits b.value) (sym (bits_value b.value b.in_range))

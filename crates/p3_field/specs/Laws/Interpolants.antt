@@ -5,7 +5,8 @@ use Rattle.p3_field.specs.Field.{FieldLaws, TwoAdicLaws}
 use Rattle.p3_field.specs.Poly.{Apart}
 use Rattle.p3_field.specs.Domain.{CosetData, IsInterpolant, point}
 use Rattle.p3_field.specs.Laws.Roots.{field_no_zero_divisors, same_values_list}
-use Rattle.p3_field.specs.Laws.Newton.{newton, newton_value, length_newton}
+use Rattle.p3_field.specs.Newton.{newton}
+use Rattle.p3_field.specs.Laws.Newton.{newton_value, length_newton}
 use Rattle.p3_field.specs.Laws.Coset.{coset_apart, two_adic_order}
 
 module _ {A : Type 0} (r : Ring A) (L : RingLaws r) (inv : A → A) (W : FieldLaws r inv) where

@@ -2,11 +2,7 @@
 use Rattle.std.proofs.Common.{◌≡◌, ◌<◌, ◌≤◌, List, [], ◌∷◌, length, get_or, refl, ap, sym, ◌∙◌, lit<, arith}
 use Rattle.std.specs.List.{flat_map}
 use Rattle.p3_field.specs.Ring.{Ring, RingLaws}
-use Rattle.p3_field.specs.Field.{VectorLaws, RingHom, combine}
-
-abbrev pub own_whole : {A : Type 0} → A → List A → A
-own_whole z [] = z
-own_whole z (x ∷ xs) = x
+use Rattle.p3_field.specs.Field.{VectorLaws, RingHom, combine, own_whole}
 
 pub own_laws : {A : Type 0} (z : A) → VectorLaws {A = A} {B = A} 1 (λ x. x ∷ []) (own_whole z)
 own_laws z = record {

@@ -3,7 +3,7 @@ use Rattle.std.proofs.Common.{◌⊎◌, inl, inr, ◌≡◌, ℕ, zero, suc, Li
 use Rattle.p3_field.specs.Domain.{vanishing}
 use Rattle.p3_field.specs.Ring.{Ring, RingLaws}
 use Rattle.p3_field.specs.Laws.Algebra.{zero_add, one_mul, mul_zero, zero_mul, add_swap, neg_mul}
-use Rattle.p3_field.specs.Poly.{coeff, IsZeroPoly, SamePoly, add_poly, scale_poly, mul_poly, raise}
+use Rattle.p3_field.specs.Poly.{val, coeff, IsZeroPoly, SamePoly, add_poly, scale_poly, mul_poly, raise, tail_values, quotient}
 use Rattle.p3_field.specs.Laws.Coeffs.{coeff_add, coeff_scale, coeff_sub}
 use Rattle.p3_field.specs.Laws.Vanishing.{times_vanishing}
 
@@ -163,6 +163,100 @@ module _ {A : Type 0} (r : Ring A) (L : RingLaws r) where
         coeff_sub r L (raise r n q) (scale_poly r c q) i,
         coeff_scale r L c q i,
         L.add_comm (r.neg (r.mul c (coeff r q i))) (coeff r (raise r n q) i),
+      )
+
+  -- the values at `a` of a list's tails: the first is the list's own, and each is a coefficient and a times the next
+  first_tail_value : (f : List A) (a : A) → coeff r (tail_values r f a) 0 ≡ val r f a
+  first_tail_value [] a = refl
+  first_tail_value (d ∷ ds) a = refl
+
+  next_tail_value : (f : List A) (a : A) (i : ℕ) → coeff r (tail_values r f a) i ≡ r.add (coeff r f i) (r.mul a (coeff r (tail_values r f a) (suc i)))
+  next_tail_value [] a i = cc (mul_zero r L a, L.add_zero r.zero)
+  next_tail_value (d ∷ ds) a zero = ap (λ v. r.add d (r.mul a v)) (sym (first_tail_value ds a))
+  next_tail_value (d ∷ ds) a (suc i) = next_tail_value ds a i
+
+  -- a product with c + e X
+  linear_mul_first : (c e : A) (f : List A) → coeff r (mul_poly r (c ∷ e ∷ []) f) 0 ≡ r.mul c (coeff r f 0)
+  linear_mul_first c e f = mul_first c (e ∷ []) f
+
+  linear_mul_next : (c e : A) (f : List A) (i : ℕ) → coeff r (mul_poly r (c ∷ e ∷ []) f) (suc i) ≡ r.add (r.mul c (coeff r f (suc i))) (r.mul e (coeff r f i))
+  linear_mul_next c e f i = mul_next c (e ∷ []) f i ∙ ap (r.add (r.mul c (coeff r f (suc i)))) (constant_mul e f i)
+
+  -- f = (X - a) q + f(a), coefficient by coefficient
+  pub divide_poly : (f : List A) (a : A) → SamePoly r f (add_poly r (mul_poly r (r.neg a ∷ r.one ∷ []) (quotient r f a)) (val r f a ∷ []))
+  divide_poly [] a zero = sym (L.add_zero r.zero)
+  divide_poly [] a (suc zero) = refl
+  divide_poly [] a (suc (suc i)) = refl
+  divide_poly (c ∷ cs) a zero =
+      let V = val r cs a in
+      let P = mul_poly r (r.neg a ∷ r.one ∷ []) (tail_values r cs a) in
+      let M = r.mul a V in
+      cc (
+        coeff_add r L P (r.add c M ∷ []) 0,
+        linear_mul_first (r.neg a) r.one (tail_values r cs a),
+        first_tail_value cs a,
+        neg_mul r L a V,
+        L.add_comm c M,
+        L.add_assoc (r.neg M) M c,
+        L.add_comm (r.neg M) M,
+        L.add_neg M,
+        zero_add r L c,
+      )
+  divide_poly (c ∷ cs) a (suc i) =
+      let T = tail_values r cs a in
+      let P = mul_poly r (r.neg a ∷ r.one ∷ []) T in
+      let U = coeff r T i in let V = coeff r T (suc i) in let M = r.mul a V in let D = coeff r cs i in
+      cc (
+        coeff_add r L P (val r (c ∷ cs) a ∷ []) (suc i),
+        L.add_zero (coeff r P (suc i)),
+        linear_mul_next (r.neg a) r.one T i,
+        neg_mul r L a V,
+        one_mul r L U,
+        next_tail_value cs a i,
+        L.add_comm D M,
+        L.add_assoc (r.neg M) M D,
+        L.add_comm (r.neg M) M,
+        L.add_neg M,
+        zero_add r L D,
+      )
+
+  -- a polynomial that is zero at `a` is X - a times its quotient
+  pub divide_root : (f : List A) (a : A) → val r f a ≡ r.zero → SamePoly r f (mul_poly r (r.neg a ∷ r.one ∷ []) (quotient r f a))
+  divide_root f a z i =
+      let P = mul_poly r (r.neg a ∷ r.one ∷ []) (quotient r f a) in
+      divide_poly f a i ∙ (coeff_add r L P (val r f a ∷ []) i ∙ (ap (r.add (coeff r P i)) (nothing (val r f a) z i) ∙ L.add_zero (coeff r P i)))
+    where
+      nothing : (v : A) → v ≡ r.zero → (i : ℕ) → coeff r (v ∷ []) i ≡ r.zero
+      nothing v e zero = e
+      nothing v e (suc i) = refl
+
+  -- X / s - a times s q is X - s a times q, where t s = 1
+  pub shifted_linear : (s t a : A) (q : List A) → r.mul t s ≡ r.one
+      → SamePoly r (mul_poly r (r.neg a ∷ t ∷ []) (scale_poly r s q)) (mul_poly r (r.neg (r.mul s a) ∷ r.one ∷ []) q)
+  shifted_linear s t a q e zero =
+      let Q = coeff r q 0 in
+      cc (
+        linear_mul_first (r.neg a) t (scale_poly r s q),
+        linear_mul_first (r.neg (r.mul s a)) r.one q,
+        coeff_scale r L s q 0,
+        neg_mul r L a (r.mul s Q),
+        neg_mul r L (r.mul s a) Q,
+        L.mul_comm s a,
+        L.mul_assoc a s Q,
+      )
+  shifted_linear s t a q e (suc i) =
+      let Q = coeff r q i in let R = coeff r q (suc i) in
+      cc (
+        linear_mul_next (r.neg a) t (scale_poly r s q) i,
+        linear_mul_next (r.neg (r.mul s a)) r.one q i,
+        coeff_scale r L s q i,
+        coeff_scale r L s q (suc i),
+        neg_mul r L a (r.mul s R),
+        neg_mul r L (r.mul s a) R,
+        L.mul_comm s a,
+        L.mul_assoc a s R,
+        L.mul_assoc t s Q,
+        e,
       )
 
   module _ (N : (x y : A) → (x ≡ r.zero → ⊥) → r.mul x y ≡ r.zero → y ≡ r.zero) where

@@ -8,30 +8,14 @@ use Rattle.p3_field.specs.declared.baby_bear.BabyBear.{BabyBear}
 use Rattle.p3_field.specs.declared.quartic.QuarticExtension.{QuarticExtension}
 use Rattle.p3_field.specs.Ring.{Ring, pow, sub}
 use Rattle.p3_field.specs.Field.{FieldLaws}
-use Rattle.p3_field.specs.Laws.Four.{norm4, adjoint4, conjugate4, mul_adjoint, mul_scaled4, even_norm_is, over_even_is}
+use Rattle.p3_field.specs.Laws.Four.{conjugate4, mul_adjoint, mul_scaled4, even_norm_is, over_even_is}
 use Rattle.p3_field.specs.Laws.Solver.{Expr, var, expressions, plus, times, minus, solve}
 use Rattle.p3_field.specs.BabyBear.{reduce, bear_ring, bear_inv}
 use Rattle.p3_field.specs.Laws.BearLaws.{bear_laws, same_bear}
 use Rattle.p3_field.specs.Laws.BearField.{bear_field_laws, bear_zero, bear_31}
 use Rattle.p3_field.specs.Laws.BearOrder.{one_not_zero, eleven_no_square, no_zero_product, inverse_power}
-use Rattle.p3_field.specs.Quartic.{quartic_ring, to_four, of_four, of_bear_value}
+use Rattle.p3_field.specs.Quartic.{quartic_ring, to_four, of_four, of_bear_value, quartic_norm, quartic_adjoint, scaled, quartic_inv}
 use Rattle.p3_field.specs.Laws.QuarticLaws.{of_bear_one, quartic_same}
-
--- N(x) = x times its adjoint
-unfoldable pub quartic_norm : QuarticExtension → BabyBear
-quartic_norm x = norm4 bear_ring (reduce 11) (to_four x)
-
--- the product of the other three conjugates of x
-unfoldable pub quartic_adjoint : QuarticExtension → QuarticExtension
-quartic_adjoint x = of_four (adjoint4 bear_ring (reduce 11) (to_four x))
-
--- k x, for k of the base
-abbrev pub scaled : BabyBear → QuarticExtension → QuarticExtension
-scaled k x = record { c0 = bear_ring.mul k x.c0; c1 = bear_ring.mul k x.c1; c2 = bear_ring.mul k x.c2; c3 = bear_ring.mul k x.c3 }
-
--- the adjoint over the norm
-unfoldable pub quartic_inv : QuarticExtension → QuarticExtension
-quartic_inv x = scaled (bear_inv (quartic_norm x)) (quartic_adjoint x)
 
 -- x with its odd coefficients negated
 abbrev pub conjugate : QuarticExtension → QuarticExtension

@@ -1,11 +1,11 @@
 -- The ring laws of the quartic extension, and the embedding of its base.
-use Rattle.std.proofs.Common.{◌≡◌, ℕ, zero, suc, ap, refl, sym, ◌∙◌}
+use Rattle.std.proofs.Common.{◌≡◌, ℕ, zero, suc, ◌<◌, ap, refl, sym, ◌∙◌, arith}
 use Rattle.p3_field.specs.declared.baby_bear.BabyBear.{BabyBear}
 use Rattle.p3_field.specs.declared.quartic.QuarticExtension.{QuarticExtension}
-use Rattle.p3_field.specs.Ring.{RingLaws, of_nat}
+use Rattle.p3_field.specs.Ring.{RingLaws, pow, of_nat}
 use Rattle.p3_field.specs.Field.{RingHom}
 use Rattle.p3_field.specs.BabyBear.{reduce, bear_ring}
-use Rattle.p3_field.specs.Quartic.{quartic_ring, to_four, of_four, of_bear_value}
+use Rattle.p3_field.specs.Quartic.{quartic_ring, to_four, of_four, of_bear_value, quartic_basis}
 use Rattle.p3_field.specs.Laws.BearLaws.{bear_laws, same_bear}
 use Rattle.p3_field.specs.Laws.Four.{four_laws, zero_parts, by_coefficients, by_coefficients_is}
 
@@ -59,3 +59,17 @@ of_bear_of_nat (suc n) = of_bear_add bear_ring.one (of_nat bear_ring n) ∙ cc (
 pub quartic_product : (x y z : QuarticExtension) → z ≡ of_four (by_coefficients bear_ring (reduce 11) (to_four x) (to_four y)) → z ≡ quartic_ring.mul x y
 unfolding quartic_ring
 quartic_product x y z e = e ∙ ap of_four (by_coefficients_is bear_ring bear_laws (reduce 11) (to_four x) (to_four y))
+
+-- x^4 is 11
+pub quartic_x_to_4 : pow quartic_ring (quartic_basis 1) 4 ≡ of_bear_value (reduce 11)
+unfolding pow quartic_ring bear_ring
+quartic_x_to_4 = quartic_same _ _ refl refl refl refl
+
+-- basis element i is x^i
+pub quartic_basis_is_power : (i : ℕ) → i < 4 → quartic_basis i ≡ pow quartic_ring (quartic_basis 1) i
+unfolding pow quartic_ring bear_ring
+quartic_basis_is_power zero h = quartic_same _ _ refl refl refl refl
+quartic_basis_is_power (suc zero) h = quartic_same _ _ refl refl refl refl
+quartic_basis_is_power (suc (suc zero)) h = quartic_same _ _ refl refl refl refl
+quartic_basis_is_power (suc (suc (suc zero))) h = quartic_same _ _ refl refl refl refl
+quartic_basis_is_power (suc (suc (suc (suc i)))) h = absurd (omega arith)

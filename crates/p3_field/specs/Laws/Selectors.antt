@@ -1,30 +1,28 @@
 -- The values of a domain's polynomials, read over a larger ring: Van is zero on the domain alone, and the selectors
 -- by quotients, by sums of powers and by products.
 use Rattle.std.proofs.Common.{◌≡◌, ℕ, zero, suc, ◌+◌, ◌-◌, ◌*◌, ◌^◌, ◌≤◌, ◌<◌, ◌⊎◌, List, [], ◌∷◌, map, refl, sym, ◌∙◌, ap, arith}
-use Rattle.std.proofs.Math.Nat.{pow-suc}
 use Rattle.std.proofs.lemmas.Nat.{pow_pos}
 use Rattle.p3_field.specs.Ring.{Ring, RingLaws, pow, sub}
 use Rattle.p3_field.specs.Field.{FieldLaws, RingHom, TwoAdicLaws}
-use Rattle.p3_field.specs.Poly.{val, total, tail_values, quotient, scale_poly, raise}
+use Rattle.p3_field.specs.Poly.{val, coeff, SamePoly, total, tail_values, quotient, scale_poly, mul_poly, raise}
 use Rattle.p3_field.specs.Domain.{CosetData, point, vanishing, scaled_vanishing, van, first_selector, last_selector, transition_selector}
 use Rattle.p3_field.specs.Laws.Algebra.{zero_add, one_mul, mul_zero, neg_mul, add_mul}
 use Rattle.p3_field.specs.Laws.Order.{one_pow, pow_times}
 use Rattle.p3_field.specs.Laws.Values.{val_scale}
 use Rattle.p3_field.specs.Laws.Sums.{total_scale}
 use Rattle.p3_field.specs.Laws.Roots.{NoZeroDivisors, sub_zero, sub_self}
-use Rattle.p3_field.specs.Laws.Coset.{HasOrder, two_adic_order, pow_mul}
+use Rattle.p3_field.specs.Laws.Coset.{HasOrder, two_adic_order, pow_mul, double_power}
 use Rattle.p3_field.specs.Laws.Vanishing.{coset_only}
-use Rattle.p3_field.specs.Laws.Openings.{opening_quotient}
+use Rattle.p3_field.specs.Laws.PolyLaws.{divide_root, shifted_linear}
+use Rattle.p3_field.specs.Laws.Division.{opening_quotient}
 use Rattle.p3_field.specs.Laws.Extended.{hom_neg, hom_pow, map_scale, map_add, map_raise, map_quotient, hom_order, hom_differs, hom_coset_point}
+use Rattle.p3_field.specs.Laws.Own.{own_hom}
 use Rattle.p3_field.specs.Laws.TwoAdic.{val_scaled_vanishing, root_not_zero}
 
 -- (1 + u) (1 + u^2) .. (1 + u^(2^(k-1)))
 unfoldable pub doubling_product : {A : Type 0} → Ring A → ℕ → A → A
 doubling_product r zero u = r.one
 doubling_product r (suc k) u = r.mul (doubling_product r k u) (r.add r.one (pow r u (2 ^ k)))
-
-double_power : (k : ℕ) → 2 ^ suc k ≡ 2 ^ k + 2 ^ k
-double_power k = rw pow-suc (omega arith)
 
 module _ {A : Type 0} (r : Ring A) (L : RingLaws r) where
   -- the sum of n powers is that of the first m and u^m times that of the others
@@ -87,7 +85,7 @@ module _ {A : Type 0} (r : Ring A) (L : RingLaws r) where
       ∙ (L.mul_add (pow r h (suc m)) (pow r a (suc m)) (r.mul x T) ∙ cc (unit, rest, total_scale r L (suc m) y (λ i. pow r y i)))
 
 module _ {A B : Type 0} (r : Ring A) (L : RingLaws r) (s : Ring B) (M : RingLaws s) (f : A → B) (H : RingHom r s f) where
-  map_vanishing : (n : ℕ) (c : A) → map f (vanishing r n c) ≡ vanishing s n (f c)
+  pub map_vanishing : (n : ℕ) (c : A) → map f (vanishing r n c) ≡ vanishing s n (f c)
   map_vanishing n c =
       map_add r L s M f H (r.neg c ∷ []) (raise r n (r.one ∷ []))
       ∙ cc (hom_neg r L s M f H c, map_raise r L s M f H n (r.one ∷ []), H.keeps_one)
@@ -199,9 +197,9 @@ module _ {A B : Type 0} (r : Ring A) (L : RingLaws r) (s : Ring B) (M : RingLaws
           let found = coset_only s M N dec one n S (f (root d.log_size)) x (pow_pos d.log_size) O shift power in
           (found.0, found.1, found.2 ∙ sym (hom_coset_point r L s M f H d.shift (root d.log_size) found.0))
 
-scale_by_one : {A : Type 0} (r : Ring A) (L : RingLaws r) (g : List A) → scale_poly r r.one g ≡ g
-scale_by_one r L [] = refl
-scale_by_one r L (c ∷ cs) = cc (one_mul r L c, scale_by_one r L cs)
+pub scale_one : {A : Type 0} (r : Ring A) (L : RingLaws r) (g : List A) → scale_poly r r.one g ≡ g
+scale_one r L [] = refl
+scale_one r L (c ∷ cs) = cc (one_mul r L c, scale_one r L cs)
 
 -- for shift one, Van divided by X - a is X^n divided by X - a
 trace_quotient : {A : Type 0} (r : Ring A) (L : RingLaws r) (m : ℕ) (s t a p : A) → s ≡ r.one → t ≡ r.one → p ≡ a
@@ -210,9 +208,9 @@ trace_quotient r L m s t a p e d q =
     let T = pow r t (suc m) in
     let cs = raise r m (r.one ∷ []) in
     let one : T ≡ r.one = ap (λ z. pow r z (suc m)) d ∙ one_pow r L (suc m) in
-    let same : scale_poly r T cs ≡ cs = ap (λ z. scale_poly r z cs) one ∙ scale_by_one r L cs in
+    let same : scale_poly r T cs ≡ cs = ap (λ z. scale_poly r z cs) one ∙ scale_one r L cs in
     let tails = tail_values r (scale_poly r T cs) p in
-    ap (λ z. scale_poly r z tails) e ∙ (scale_by_one r L tails ∙ cc (same, q))
+    ap (λ z. scale_poly r z tails) e ∙ (scale_one r L tails ∙ cc (same, q))
 
 positive_size : (k : ℕ) → (m : ℕ) × (2 ^ k ≡ suc m)
 positive_size k = (2 ^ k - 1, let p : 0 < 2 ^ k = pow_pos k in omega arith)
@@ -260,3 +258,31 @@ module _ {A B : Type 0} (r : Ring A) (L : RingLaws r) (s : Ring B) (M : RingLaws
       let at : r.mul d.shift g ≡ g = ap (λ z. r.mul z g) e ∙ one_mul r L g in
       trace_value d m g (r.mul d.shift g) x e n at
       ∙ cc (one_mul s M V, full, M.mul_assoc (f h) (pow s (f h) m) V, sum)
+
+module _ {A : Type 0} (r : Ring A) (L : RingLaws r) (inv : A → A) (W : FieldLaws r inv) where
+  -- X / s - a times s q, where q is Van divided by X - s a, and a^n = 1
+  quotient_divides : (d : CosetData A) (a p : A) → (d.shift ≡ r.zero → ⊥) → p ≡ r.mul d.shift a → pow r a (2 ^ d.log_size) ≡ r.one
+      → SamePoly r (mul_poly r (r.neg a ∷ inv d.shift ∷ []) (scale_poly r d.shift (quotient r (van r inv d) p))) (van r inv d)
+  unfolding van
+  quotient_divides d a p nz at e i =
+      let s = d.shift in let t = inv s in let V = van r inv d in
+      let unit : r.mul t s ≡ r.one = L.mul_comm t s ∙ W.mul_inv s nz in
+      let down : r.mul t p ≡ a = cc (at, L.mul_assoc t s a, unit, one_mul r L a) in
+      let root : val r V p ≡ r.zero =
+      val_scaled_vanishing r L (2 ^ d.log_size) s t p unit ∙ sub_self r L (pow r (r.mul t p) (2 ^ d.log_size)) r.one (ap (λ z. pow r z (2 ^ d.log_size)) down ∙ e) in
+      shifted_linear r L s t a (quotient r V p) unit i
+      ∙ (ap (λ z. coeff r (mul_poly r (r.neg z ∷ r.one ∷ []) (quotient r V p)) i) (sym at) ∙ sym (divide_root r L V p root i))
+
+  -- X / s - 1 times the selector of the first row is Van
+  pub first_selector_divides : (d : CosetData A) → (d.shift ≡ r.zero → ⊥)
+      → SamePoly r (mul_poly r (r.neg r.one ∷ inv d.shift ∷ []) (first_selector r inv d)) (van r inv d)
+  unfolding first_selector
+  first_selector_divides d nz = quotient_divides d r.one d.shift nz (sym (L.mul_one d.shift)) (one_pow r L (2 ^ d.log_size))
+
+  -- X / s - 1 / h times the selector of the last row is Van
+  pub last_selector_divides : (top : ℕ) (root : ℕ → A) → TwoAdicLaws r top root → (d : CosetData A) → (d.shift ≡ r.zero → ⊥) → d.log_size ≤ top
+      → SamePoly r (mul_poly r (transition_selector r inv root d) (last_selector r inv root d)) (van r inv d)
+  unfolding last_selector transition_selector
+  last_selector_divides top root T d nz h =
+      let g = inv (root d.log_size) in
+      quotient_divides d g (r.mul d.shift g) nz refl (inverse_root_full r L r L (λ x. x) (own_hom r) inv W top root T d.log_size h)

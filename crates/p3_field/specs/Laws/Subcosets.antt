@@ -3,13 +3,12 @@ use Rattle.std.proofs.Common.{◌≡◌, ℕ, zero, suc, ◌+◌, ◌*◌, ◌<�
 use Rattle.std.proofs.Math.Nat.{mul-lt-mul_of_pos_left}
 use Rattle.p3_field.specs.Domain.{coset_point}
 use Rattle.p3_field.specs.Ring.{Ring, RingLaws, pow, sub}
-use Rattle.p3_field.specs.Poly.{val, Apart}
-use Rattle.p3_field.specs.Laws.Algebra.{mul_neg, mul_swap, pow_add, pow_square, neg_mul, neg_mul_neg, neg_unique}
+use Rattle.p3_field.specs.Poly.{val, Apart, even_part, odd_part}
+use Rattle.p3_field.specs.Laws.Algebra.{mul_zero, mul_neg, mul_swap, pow_add, pow_square, neg_mul, neg_mul_neg, neg_unique}
 use Rattle.p3_field.specs.Laws.Order.{pow_times}
 use Rattle.p3_field.specs.Laws.Solver.{expressions, var, solve}
 use Rattle.p3_field.specs.Laws.Roots.{NoZeroDivisors, sub_zero, sub_self}
 use Rattle.p3_field.specs.Laws.Coset.{HasOrder, coset_apart, pow_mul}
-use Rattle.p3_field.specs.Laws.Openings.{even_part, odd_part, val_parts}
 
 abbrev square_left : {A : Type 0} → Ring A → A → A
 square_left r x = r.mul (sub r x r.one) (r.add x r.one)
@@ -21,7 +20,26 @@ scaled_positive : (k j : ℕ) → 0 < k → 0 < j → 0 < k * j
 scaled_positive zero j h p = absurd (omega arith)
 scaled_positive (suc k) j h p = omega arith
 
+-- the two sides of one step, with e and o the values at x^2 of the rest's parts
+abbrev parts_left : {A : Type 0} → Ring A → A → A → A → A → A → A
+parts_left r x c d e o = r.add c (r.mul x (r.add d (r.mul x (r.add e (r.mul x o)))))
+
+abbrev parts_right : {A : Type 0} → Ring A → A → A → A → A → A → A
+parts_right r x c d e o = r.add (r.add c (r.mul (r.mul x x) e)) (r.mul x (r.add d (r.mul (r.mul x x) o)))
+
 module _ {A : Type 0} (r : Ring A) (L : RingLaws r) where
+  parts_step : (x c d e o : A) → parts_left r x c d e o ≡ parts_right r x c d e o
+  parts_step x c d e o = solve r L (x ∷ c ∷ d ∷ e ∷ o ∷ [])
+      (parts_left expressions (var 0) (var 1) (var 2) (var 3) (var 4)) (parts_right expressions (var 0) (var 1) (var 2) (var 3) (var 4)) refl
+
+  -- f(x) = E(x^2) + x O(x^2)
+  pub val_parts : (f : List A) (x : A) → val r f x ≡ r.add (val r (even_part f) (r.mul x x)) (r.mul x (val r (odd_part f) (r.mul x x)))
+  val_parts [] x = cc (mul_zero r L x, L.add_zero r.zero)
+  val_parts (c ∷ []) x = cc (mul_zero r L (r.mul x x), L.add_zero c)
+  val_parts (c ∷ d ∷ cs) x =
+      ap (λ w. r.add c (r.mul x (r.add d (r.mul x w)))) (val_parts cs x)
+      ∙ parts_step x c d (val r (even_part cs) (r.mul x x)) (val r (odd_part cs) (r.mul x x))
+
   square_split : (x : A) → square_left r x ≡ square_right r x
   square_split x = solve r L (x ∷ []) (square_left expressions (var 0)) (square_right expressions (var 0)) refl
 
@@ -51,7 +69,7 @@ module _ {A : Type 0} (r : Ring A) (L : RingLaws r) where
       val r f (coset_point r s h i) ≡ r.add (val r (even_part f) q) (r.mul (coset_point r s h i) (val r (odd_part f) q))
   butterfly_first f s h i =
       let x = coset_point r s h i in
-      val_parts r L f x ∙ ap (λ w. r.add (val r (even_part f) w) (r.mul x (val r (odd_part f) w))) (square_point s h i)
+      val_parts f x ∙ ap (λ w. r.add (val r (even_part f) w) (r.mul x (val r (odd_part f) w))) (square_point s h i)
 
   pub butterfly_second : (f : List A) (s h : A) (m i : ℕ) → pow r h m ≡ r.neg r.one → let q = coset_point r (r.mul s s) (r.mul h h) i in
       val r f (coset_point r s h (i + m)) ≡ sub r (val r (even_part f) q) (r.mul (coset_point r s h i) (val r (odd_part f) q))
@@ -60,7 +78,7 @@ module _ {A : Type 0} (r : Ring A) (L : RingLaws r) where
       let q = coset_point r (r.mul s s) (r.mul h h) i in
       let y : coset_point r s h (i + m) ≡ r.neg x = opposite_point s h m i e in
       let z : r.mul (r.neg x) (r.neg x) ≡ q = neg_mul_neg r L x x ∙ square_point s h i in
-      ap (val r f) y ∙ (val_parts r L f (r.neg x)
+      ap (val r f) y ∙ (val_parts f (r.neg x)
       ∙ (ap (λ w. r.add (val r (even_part f) w) (r.mul (r.neg x) (val r (odd_part f) w))) z
       ∙ ap (r.add (val r (even_part f) q)) (neg_mul r L x (val r (odd_part f) q))))
 

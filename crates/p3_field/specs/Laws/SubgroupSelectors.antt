@@ -1,6 +1,6 @@
 -- The selectors of a subgroup of size 2^k: their coefficients, and their values over the field and above it.
-use Rattle.std.proofs.Common.{◌≡◌, ℕ, zero, suc, ◌+◌, ◌-◌, ◌%◌, ◌^◌, ◌≤◌, ◌<◌, inl, inr, List, [], ◌∷◌, ◌++◌, length, map, refl, sym, ◌∙◌, ap, arith}
-use Rattle.std.proofs.Math.Nat.{pow-suc, mod_self, mod-eq_of_lt}
+use Rattle.std.proofs.Common.{◌≡◌, ℕ, zero, suc, ◌+◌, ◌-◌, ◌%◌, ◌^◌, ◌≤◌, ◌<◌, inl, inr, List, [], ◌∷◌, map, refl, sym, ◌∙◌, ap, arith}
+use Rattle.std.proofs.Math.Nat.{mod_self, mod-eq_of_lt}
 use Rattle.std.proofs.lemmas.Nat.{pow_pos}
 use Rattle.std.proofs.lemmas.Bool.{cases_eq}
 use Rattle.p3_field.specs.Ring.{Ring, RingLaws, pow, sub}
@@ -9,12 +9,13 @@ use Rattle.p3_field.specs.Poly.{val, scale_poly, raise, tail_values, quotient, t
 use Rattle.p3_field.specs.Domain.{CosetData, coset_point, vanishing, van, first_selector, last_selector, transition_selector}
 use Rattle.p3_field.specs.Laws.Algebra.{zero_add, one_mul, mul_zero, pow_add}
 use Rattle.p3_field.specs.Laws.Order.{one_pow}
-use Rattle.p3_field.specs.Laws.Coeffs.{length_table}
-use Rattle.p3_field.specs.Laws.Values.{val_append, val_raise}
+use Rattle.p3_field.specs.Laws.Tables.{table_same}
+use Rattle.p3_field.specs.Laws.Values.{val_raise}
 use Rattle.p3_field.specs.Laws.Coset.{HasOrder, two_adic_order, pow_mul}
 use Rattle.p3_field.specs.Laws.TwoAdic.{root_not_zero}
 use Rattle.p3_field.specs.Laws.Vanishing.{val_vanishing, coset_point_power}
-use Rattle.p3_field.specs.Laws.Extended.{hom_neg, hom_pow, map_add, map_raise}
+use Rattle.p3_field.specs.Laws.Selectors.{scale_one, map_vanishing}
+use Rattle.p3_field.specs.Laws.Extended.{hom_neg, hom_pow}
 
 -- the domain of the powers of root k
 abbrev pub subgroup : {A : Type 0} → Ring A → ℕ → CosetData A
@@ -24,24 +25,11 @@ subgroup r k = record { shift = r.one; log_size = k }
 abbrev pub ones : {A : Type 0} → Ring A → ℕ → List A
 ones r n = table n (λ _. r.one)
 
--- (1 + x) (1 + x^2) (1 + x^4) .. (1 + x^(2^(k-1)))
-abbrev pub doubling_product : {A : Type 0} → Ring A → ℕ → A → A
-doubling_product r zero x = r.one
-doubling_product r (suc k) x = r.mul (doubling_product r k x) (r.add r.one (pow r x (2 ^ k)))
-
-same_table : {A : Type 0} (n : ℕ) (t u : ℕ → A) → ((i : ℕ) → i < n → t i ≡ u i) → table n t ≡ table n u
-same_table zero t u h = refl
-same_table (suc n) t u h = cc (h zero (omega arith), same_table n (λ i. t (suc i)) (λ i. u (suc i)) (λ i k. h (suc i) (omega arith)))
-
 pub map_table : {A B : Type 0} (f : A → B) (n : ℕ) (t : ℕ → A) → map f (table n t) ≡ table n (λ i. f (t i))
 map_table f zero t = refl
 map_table f (suc n) t = ap (λ l. f (t zero) ∷ l) (map_table f n (λ i. t (suc i)))
 
 module _ {A : Type 0} (r : Ring A) (L : RingLaws r) where
-  scale_one : (f : List A) → scale_poly r r.one f ≡ f
-  scale_one [] = refl
-  scale_one (c ∷ cs) = cc (one_mul r L c, scale_one cs)
-
   tail_values_raise : (m : ℕ) (a : A) → tail_values r (raise r m (r.one ∷ [])) a ≡ table (suc m) (λ j. pow r a (m - j))
   unfolding pow
   tail_values_raise zero a = ap (λ x. x ∷ []) (ap (r.add r.one) (mul_zero r L a) ∙ L.add_zero r.one)
@@ -52,7 +40,7 @@ module _ {A : Type 0} (r : Ring A) (L : RingLaws r) where
       let first : r.add r.zero (r.mul a (val r (raise r m (r.one ∷ [])) a)) ≡ r.mul a P = zero_add r L (r.mul a (val r (raise r m (r.one ∷ [])) a)) ∙ ap (r.mul a) value in
       let e : suc m ≡ suc m - zero = omega arith in
       let rest : table (suc m) (λ j. pow r a (m - j)) ≡ table (suc m) (λ j. pow r a (suc m - suc j)) =
-      same_table (suc m) (λ j. pow r a (m - j)) (λ j. pow r a (suc m - suc j)) (λ j h. let f : m - j ≡ suc m - suc j = omega arith in ap (pow r a) f) in
+      table_same (suc m) (λ j. pow r a (m - j)) (λ j. pow r a (suc m - suc j)) (λ j h. let f : m - j ≡ suc m - suc j = omega arith in ap (pow r a) f) in
       cc (first, ap (pow r a) e, tail_values_raise m a, rest)
 
   -- the quotient of X^(m+1) - c by X - a has the coefficients a^m, .., a, 1
@@ -69,13 +57,13 @@ module _ {A : Type 0} (r : Ring A) (L : RingLaws r) where
 
   pub quotient_at_one : (n : ℕ) → 0 < n → quotient r (vanishing r n r.one) r.one ≡ ones r n
   quotient_at_one zero p = absurd (omega arith)
-  quotient_at_one (suc m) p = quotient_vanishing m r.one r.one ∙ same_table (suc m) (λ j. pow r r.one (m - j)) (λ _. r.one) (λ j h. one_pow r L (m - j))
+  quotient_at_one (suc m) p = quotient_vanishing m r.one r.one ∙ table_same (suc m) (λ j. pow r r.one (m - j)) (λ _. r.one) (λ j h. one_pow r L (m - j))
 
   pub quotient_at_last : (n : ℕ) (h g : A) → 0 < n → pow r h n ≡ r.one → r.mul g h ≡ r.one → quotient r (vanishing r n r.one) g ≡ table n (λ j. pow r h (suc j))
   quotient_at_last zero h g p full unit = absurd (omega arith)
   quotient_at_last (suc m) h g p full unit =
       quotient_vanishing m r.one g
-      ∙ same_table (suc m) (λ j. pow r g (m - j)) (λ j. pow r h (suc j)) (λ j b. let e : suc j + (m - j) ≡ suc m = omega arith in turned_power (suc m) (m - j) j h g e full unit)
+      ∙ table_same (suc m) (λ j. pow r g (m - j)) (λ j. pow r h (suc j)) (λ j b. let e : suc j + (m - j) ≡ suc m = omega arith in turned_power (suc m) (m - j) j h g e full unit)
 
   scaled_powers : (n : ℕ) (c h x : A) → val r (table n (λ j. r.mul c (pow r h j))) x ≡ r.mul c (val r (ones r n) (r.mul h x))
   unfolding pow
@@ -83,7 +71,7 @@ module _ {A : Type 0} (r : Ring A) (L : RingLaws r) where
   scaled_powers (suc n) c h x =
       let V = val r (ones r n) (r.mul h x) in
       let rest : table n (λ j. r.mul c (r.mul h (pow r h j))) ≡ table n (λ j. r.mul (r.mul c h) (pow r h j)) =
-      same_table n (λ j. r.mul c (r.mul h (pow r h j))) (λ j. r.mul (r.mul c h) (pow r h j)) (λ j b. sym (L.mul_assoc c h (pow r h j))) in
+      table_same n (λ j. r.mul c (r.mul h (pow r h j))) (λ j. r.mul (r.mul c h) (pow r h j)) (λ j b. sym (L.mul_assoc c h (pow r h j))) in
       let value : val r (table n (λ j. r.mul c (r.mul h (pow r h j)))) x ≡ r.mul (r.mul c h) V = ap (λ l. val r l x) rest ∙ scaled_powers n (r.mul c h) h x in
       let turned : r.mul x (r.mul (r.mul c h) V) ≡ r.mul c (r.mul (r.mul h x) V) =
       cc (L.mul_assoc x (r.mul c h) V, L.mul_comm x (r.mul c h), L.mul_assoc c h x, L.mul_assoc c (r.mul h x) V) in
@@ -94,22 +82,6 @@ module _ {A : Type 0} (r : Ring A) (L : RingLaws r) where
   unfolding pow
   val_turned n h x = scaled_powers n h h x
 
-  ones_more : (m n : ℕ) → ones r (m + n) ≡ ones r m ++ ones r n
-  ones_more zero n = let e : zero + n ≡ n = omega arith in ap (ones r) e
-  ones_more (suc m) n = let e : suc m + n ≡ suc (m + n) = omega arith in ap (ones r) e ∙ ap (λ l. r.one ∷ l) (ones_more m n)
-
-  -- 1 + x + .. + x^(2^k - 1) as a product
-  pub val_ones : (k : ℕ) (x : A) → val r (ones r (2 ^ k)) x ≡ doubling_product r k x
-  val_ones zero x = cc (mul_zero r L x, L.add_zero r.one)
-  val_ones (suc k) x =
-      let n = 2 ^ k in
-      let s : 2 ^ suc k ≡ n + n = rw pow-suc (omega arith) in
-      let V = val r (ones r n) x in let P = pow r x n in
-      let len : length (ones r n) ≡ n = length_table r L n (λ _. r.one) in
-      let halves : val r (ones r n ++ ones r n) x ≡ r.add V (r.mul P V) = val_append r L (ones r n) (ones r n) x ∙ ap (λ m. r.add V (r.mul (pow r x m) V)) len in
-      let product : r.add V (r.mul P V) ≡ r.mul V (r.add r.one P) = cc (L.mul_add V r.one P, L.mul_one V, L.mul_comm P V) in
-      ap (λ m. val r (ones r m) x) s ∙ (ap (λ l. val r l x) (ones_more n n) ∙ (halves ∙ (product ∙ ap (λ v. r.mul v (r.add r.one P)) (val_ones k x))))
-
   module _ (inv : A → A) (W : FieldLaws r inv) where
     inv_one : inv r.one ≡ r.one
     inv_one = sym (one_mul r L (inv r.one)) ∙ W.mul_inv r.one W.one_differs
@@ -119,13 +91,13 @@ module _ {A : Type 0} (r : Ring A) (L : RingLaws r) where
     van_is k =
         let n = 2 ^ k in
         let a : pow r (inv r.one) n ≡ r.one = ap (λ v. pow r v n) inv_one ∙ one_pow r L n in
-        ap (λ t. scale_poly r t (vanishing r n (pow r r.one n))) a ∙ (scale_one (vanishing r n (pow r r.one n)) ∙ ap (vanishing r n) (one_pow r L n))
+        ap (λ t. scale_poly r t (vanishing r n (pow r r.one n))) a ∙ (scale_one r L (vanishing r n (pow r r.one n)) ∙ ap (vanishing r n) (one_pow r L n))
 
     -- the first row's selector is 1 + X + .. + X^(n-1)
     pub first_selector_is : (k : ℕ) → first_selector r inv (subgroup r k) ≡ ones r (2 ^ k)
     unfolding first_selector
     first_selector_is k =
-        scale_one (quotient r (van r inv (subgroup r k)) r.one) ∙ (ap (λ f. quotient r f r.one) (van_is k) ∙ quotient_at_one (2 ^ k) (pow_pos k))
+        scale_one r L (quotient r (van r inv (subgroup r k)) r.one) ∙ (ap (λ f. quotient r f r.one) (van_is k) ∙ quotient_at_one (2 ^ k) (pow_pos k))
 
     module _ (top : ℕ) (root : ℕ → A) (T : TwoAdicLaws r top root) (k : ℕ) (fits : k ≤ top) where
       order : HasOrder r (2 ^ k) (root k)
@@ -140,7 +112,7 @@ module _ {A : Type 0} (r : Ring A) (L : RingLaws r) where
       last_selector_is =
           let g = r.mul r.one (inv (root k)) in
           let unit : r.mul g (root k) ≡ r.one = cc (one_mul r L (inv (root k)), root_unit) in
-          scale_one (quotient r (van r inv (subgroup r k)) g)
+          scale_one r L (quotient r (van r inv (subgroup r k)) g)
           ∙ (ap (λ f. quotient r f g) (van_is k) ∙ quotient_at_last (2 ^ k) (root k) g (pow_pos k) order.full unit)
 
       -- h times point i is the next point, and the first after the last
@@ -172,13 +144,8 @@ module _ {A B : Type 0} (r : Ring A) (L : RingLaws r) (inv : A → A) (W : Field
   map_ones : (n : ℕ) → map f (ones r n) ≡ ones t n
   map_ones n = map_table f n (λ _. r.one) ∙ ap (λ c. table n (λ _. c)) H.keeps_one
 
-  map_vanishing : (n : ℕ) → map f (vanishing r n r.one) ≡ vanishing t n t.one
-  map_vanishing n =
-      map_add r L t M f H (r.neg r.one ∷ []) (raise r n (r.one ∷ []))
-      ∙ cc (hom_neg r L t M f H r.one, map_raise r L t M f H n (r.one ∷ []), H.keeps_one)
-
   pub van_value : (k : ℕ) (x : B) → val t (map f (van r inv (subgroup r k))) x ≡ sub t (pow t x (2 ^ k)) t.one
-  van_value k x = ap (λ l. val t (map f l) x) (van_is r L inv W k) ∙ (ap (λ l. val t l x) (map_vanishing (2 ^ k)) ∙ val_vanishing t M (2 ^ k) t.one x)
+  van_value k x = ap (λ l. val t (map f l) x) (van_is r L inv W k) ∙ (ap (λ l. val t l x) (map_vanishing r L t M f H (2 ^ k) r.one ∙ ap (vanishing t (2 ^ k)) H.keeps_one) ∙ val_vanishing t M (2 ^ k) t.one x)
 
   pub first_selector_value : (k : ℕ) (x : B) → val t (map f (first_selector r inv (subgroup r k))) x ≡ val t (ones t (2 ^ k)) x
   first_selector_value k x = ap (λ l. val t (map f l) x) (first_selector_is r L inv W k) ∙ ap (λ l. val t l x) (map_ones (2 ^ k))
@@ -195,14 +162,5 @@ module _ {A B : Type 0} (r : Ring A) (L : RingLaws r) (inv : A → A) (W : Field
   last_selector_value top root T k fits x =
       let n = 2 ^ k in let h = root k in
       ap (λ l. val t (map f l) x) (last_selector_is r L inv W top root T k fits)
-      ∙ (ap (λ l. val t l x) (map_table f n (λ j. pow r h (suc j)) ∙ same_table n (λ j. f (pow r h (suc j))) (λ j. pow t (f h) (suc j)) (λ j b. hom_pow r L t M f H h (suc j)))
+      ∙ (ap (λ l. val t l x) (map_table f n (λ j. pow r h (suc j)) ∙ table_same n (λ j. f (pow r h (suc j))) (λ j. pow t (f h) (suc j)) (λ j b. hom_pow r L t M f H h (suc j)))
       ∙ val_turned t M n (f h) x)
-
-  -- the same as products, which take 2 k multiplications
-  pub first_selector_product : (k : ℕ) (x : B) → val t (map f (first_selector r inv (subgroup r k))) x ≡ doubling_product t k x
-  first_selector_product k x = first_selector_value k x ∙ val_ones t M k x
-
-  pub last_selector_product : (top : ℕ) (root : ℕ → A) → TwoAdicLaws r top root → (k : ℕ) → k ≤ top → (x : B)
-      → val t (map f (last_selector r inv root (subgroup r k))) x ≡ t.mul (f (root k)) (doubling_product t k (t.mul (f (root k)) x))
-  last_selector_product top root T k fits x =
-      last_selector_value top root T k fits x ∙ ap (t.mul (f (root k))) (val_ones t M k (t.mul (f (root k)) x))

@@ -2,13 +2,13 @@
 use Rattle.std.proofs.Common.{◌≡◌, ◌≢◌, ℕ, ◌*◌, ◌<◌, inl, inr, List, length, sym, ◌∙◌, ap, arith}
 use Rattle.std.proofs.lemmas.Bool.{cases_lt}
 use Rattle.p3_field.specs.Domain.{coset_point}
-use Rattle.p3_field.specs.Ring.{Ring, RingLaws, pow, of_nat, sub}
+use Rattle.p3_field.specs.Ring.{Ring, RingLaws, pow, of_nat}
 use Rattle.p3_field.specs.Poly.{val, DegreeBelow, SamePoly, table, total}
-use Rattle.p3_field.specs.Laws.Algebra.{one_mul, mul_zero, mul_swap, mul_neg}
+use Rattle.p3_field.specs.Laws.Algebra.{one_mul, mul_zero, mul_swap}
 use Rattle.p3_field.specs.Laws.Order.{one_pow, pow_times}
-use Rattle.p3_field.specs.Laws.Coeffs.{length_table, degree_length_le}
-use Rattle.p3_field.specs.Laws.Values.{val_same}
-use Rattle.p3_field.specs.Laws.Sums.{total_same, total_scale, total_swap, total_only, total_ones, val_table, geometric_sum}
+use Rattle.p3_field.specs.Laws.Coeffs.{degree_length_le}
+use Rattle.p3_field.specs.Laws.Tables.{length-table}
+use Rattle.p3_field.specs.Laws.Sums.{total_same, total_scale, total_swap, total_only, total_ones, val_table}
 use Rattle.p3_field.specs.Laws.Roots.{NoZeroDivisors, same_values}
 use Rattle.p3_field.specs.Laws.Coset.{HasOrder, power_apart, pow_mul, root_sum, coset_apart}
 
@@ -28,7 +28,7 @@ pub record Inverses {A : Type 0} (r : Ring A) (n : ℕ) (s h m t g : A) : Type 0
 
 module _ {A : Type 0} (r : Ring A) (L : RingLaws r) where
   pub length_inverse_transform : (n : ℕ) (m t g : A) (v : ℕ → A) → length (inverse_transform r n m t g v) ≡ n
-  length_inverse_transform n m t g v = length_table r L n (inverse_coeff r n m t g v)
+  length_inverse_transform n m t g v = length-table n (inverse_coeff r n m t g v)
 
   pub degree_inverse_transform : (n : ℕ) (m t g : A) (v : ℕ → A) → DegreeBelow r n (inverse_transform r n m t g v)
   degree_inverse_transform n m t g v = let l : length (inverse_transform r n m t g v) ≡ n = length_inverse_transform n m t g v in degree_length_le r L n (inverse_transform r n m t g v) (omega arith)
@@ -36,7 +36,7 @@ module _ {A : Type 0} (r : Ring A) (L : RingLaws r) where
   one_powers : (x y : A) (j : ℕ) → r.mul x y ≡ r.one → r.mul (pow r x j) (pow r y j) ≡ r.one
   one_powers x y j e = sym (pow_mul r L x y j) ∙ (ap (λ v. pow r v j) e ∙ one_pow r L j)
 
-  pow_swap : (x : A) (i j : ℕ) → pow r (pow r x i) j ≡ pow r (pow r x j) i
+  pub pow_swap : (x : A) (i j : ℕ) → pow r (pow r x i) j ≡ pow r (pow r x j) i
   pow_swap x i j = let c : i * j ≡ j * i = omega arith in sym (pow_times r L x i j) ∙ (ap (pow r x) c ∙ pow_times r L x j i)
 
   -- one term of the value at s K
@@ -73,36 +73,6 @@ module _ {A : Type 0} (r : Ring A) (L : RingLaws r) where
       let pull : total r n (λ i. total r n (λ j. r.mul (v i) (pow r (w i) j))) ≡ total r n (λ i. r.mul (v i) (total r n (λ j. pow r (w i) j))) =
       total_same r L n (λ i. total r n (λ j. r.mul (v i) (pow r (w i) j))) (λ i. r.mul (v i) (total r n (λ j. pow r (w i) j))) (λ i b. total_scale r L n (v i) (λ j. pow r (w i) j)) in
       val_table r L n (inverse_coeff r n m t g v) x ∙ (terms ∙ (out ∙ ap (r.mul m) (swap ∙ pull)))
-
-  kernel_regroup : (I u S Z d y : A) → r.mul u S ≡ Z → r.mul I u ≡ y → r.mul d y ≡ r.one → S ≡ r.mul Z (r.mul I d)
-  kernel_regroup I u S Z d y a b c =
-      cc (a, b, c, one_mul r L S, L.mul_assoc d y S, L.mul_assoc I u S, L.mul_comm Z (r.mul I d), L.mul_comm I d, L.mul_assoc d I Z)
-
-  -- (K^n - 1) times 1 / (w - 1), with `d` for 1 / (K - h^i) and w = g^i K
-  kernel_sum : (n : ℕ) (h g K : A) (i : ℕ) (d : A) → pow r h n ≡ r.one → r.mul g h ≡ r.one → r.mul d (sub r K (pow r h i)) ≡ r.one
-      → total r n (λ j. pow r (r.mul (pow r g i) K) j) ≡ r.mul (sub r (pow r K n) r.one) (r.mul (pow r h i) d)
-  kernel_sum n h g K i d full e f =
-      let G = pow r g i in let I = pow r h i in let w = r.mul G K in
-      let S = total r n (λ j. pow r w j) in
-      let Z = sub r (pow r K n) r.one in
-      let gn : pow r g n ≡ r.one = cc (one_powers g h n e, full, L.mul_one (pow r g n)) in
-      let wn : pow r w n ≡ pow r K n = pow_mul r L G K n ∙ cc (pow_swap g i n, gn, one_pow r L i, one_mul r L (pow r K n)) in
-      let sum : r.mul (sub r w r.one) S ≡ Z = geometric_sum r L n w ∙ ap (λ v. sub r v r.one) wn in
-      let unit : r.mul I G ≡ r.one = L.mul_comm I G ∙ one_powers g h i e in
-      let turn : r.mul I (sub r w r.one) ≡ sub r K I = cc (L.mul_add I w (r.neg r.one), L.mul_assoc I G K, unit, one_mul r L K, mul_neg r L I r.one, L.mul_one I) in
-      kernel_regroup I (sub r w r.one) S Z d (sub r K I) sum turn f
-
-  -- the barycentric formula at x = s K, K not a power of h, with d i for 1 / (K - h^i)
-  pub barycentric : (n : ℕ) (s h m t g K : A) (v d : ℕ → A) → pow r h n ≡ r.one → Inverses r n s h m t g → ((i : ℕ) → i < n → r.mul (d i) (sub r K (pow r h i)) ≡ r.one)
-      → val r (inverse_transform r n m t g v) (r.mul s K) ≡ r.mul (r.mul m (sub r (pow r K n) r.one)) (total r n (λ i. r.mul (v i) (r.mul (pow r h i) (d i))))
-  barycentric n s h m t g K v d full I e =
-      let Z = sub r (pow r K n) r.one in
-      let u : ℕ → A = λ i. r.mul (v i) (r.mul (pow r h i) (d i)) in
-      let each : total r n (λ i. r.mul (v i) (total r n (λ j. pow r (r.mul (pow r g i) K) j))) ≡ total r n (λ i. r.mul Z (u i)) =
-      total_same r L n (λ i. r.mul (v i) (total r n (λ j. pow r (r.mul (pow r g i) K) j))) (λ i. r.mul Z (u i))
-      (λ i a. let D = r.mul (pow r h i) (d i) in
-      cc (kernel_sum n h g K i (d i) full I.of_root (e i a), L.mul_comm (v i) (r.mul Z D), L.mul_assoc Z D (v i), L.mul_comm D (v i))) in
-      inverse_transform_at n s m t g K v I.of_shift ∙ (ap (r.mul m) (each ∙ total_scale r L n Z u) ∙ sym (L.mul_assoc m Z (total r n u)))
 
   module _ (N : NoZeroDivisors r) where
     -- the powers of g^i h^k add up to zero but for i = k
@@ -145,12 +115,3 @@ module _ {A : Type 0} (r : Ring A) (L : RingLaws r) where
         let v : ℕ → A = λ i. val r f (coset_point r s h i) in
         same_values r L N n (coset_point r s h) (inverse_transform r n m t g v) f (coset_apart r L N n s h O nz) (degree_inverse_transform n m t g v) d
         (λ i k. inverse_transform_value n s h m t g v O I i k)
-
-    -- the same for any polynomial of degree below n, from its values on the coset
-    pub barycentric_poly : (n : ℕ) (s h m t g K : A) (f : List A) (d : ℕ → A) → HasOrder r n h → (s ≡ r.zero → ⊥) → Inverses r n s h m t g → DegreeBelow r n f
-        → ((i : ℕ) → i < n → r.mul (d i) (sub r K (pow r h i)) ≡ r.one)
-        → val r f (r.mul s K) ≡ r.mul (r.mul m (sub r (pow r K n) r.one)) (total r n (λ i. r.mul (val r f (coset_point r s h i)) (r.mul (pow r h i) (d i))))
-    barycentric_poly n s h m t g K f d O nz I below e =
-        let v : ℕ → A = λ i. val r f (coset_point r s h i) in
-        sym (val_same r L (inverse_transform r n m t g v) f (r.mul s K) (inverse_transform_of_values n s h m t g f O nz I below))
-        ∙ barycentric n s h m t g K v d O.full I e

@@ -1,8 +1,8 @@
 //! `QuarticExtension` as a field.
 ghost use Rattle.std.specs.Prelude.{◌≡◌};
 ghost use Rattle.p3_field.specs.BabyBear.{reduce};
-ghost use Rattle.p3_field.specs.Quartic.{of_bear_value};
-ghost use Rattle.p3_field.specs.Laws.QuarticField.{quartic_inv, conjugate, even, quartic_field_laws, quartic_31, quartic_eq_same, quartic_same_eq};
+ghost use Rattle.p3_field.specs.Quartic.{of_bear_value, quartic_inv};
+ghost use Rattle.p3_field.specs.Laws.QuarticField.{conjugate, even, quartic_field_laws, quartic_31, quartic_eq_same, quartic_same_eq};
 
 use crate::baby_bear::ring::eleven;
 use crate::baby_bear::{BEAR_0, BEAR_31, BabyBear};

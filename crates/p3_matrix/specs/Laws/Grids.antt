@@ -1,5 +1,5 @@
 -- Lists that hold a grid row after row.
-use Rattle.std.proofs.Common.{◌≡◌, ℕ, zero, suc, ◌+◌, ◌*◌, ◌/◌, ◌<◌, inl, inr, List, [], ◌++◌, length, get_or, refl, sym, ◌∙◌, ap, arith, length-append}
+use Rattle.std.proofs.Common.{◌≡◌, ℕ, zero, suc, ◌+◌, ◌*◌, ◌/◌, ◌<◌, inl, inr, List, ◌++◌, length, get_or, refl, sym, ◌∙◌, ap, arith, length-append}
 use Rattle.std.proofs.Math.Nat.{mul-div_cancel}
 use Rattle.std.proofs.lemmas.Nat.{mul-add-lt}
 use Rattle.std.proofs.lemmas.Bool.{cases_lt}
@@ -18,9 +18,6 @@ in_matrix m i j h a b = in_grid i j (height m) m.width (length m.values) h a b
 pub record IsGrid {A : Type 0} (d : A) (xs : List A) (h w : ℕ) (G : ℕ → ℕ → A) : Type 0 where
   pub length_is : length xs ≡ h * w
   pub cell_is : (i j : ℕ) → i < h → j < w → get_or xs (i * w + j) d ≡ G i j
-
-pub empty_grid : {A : Type 0} (d : A) (w : ℕ) (G : ℕ → ℕ → A) (xs : List A) → xs ≡ [] → IsGrid d xs 0 w G
-empty_grid d w G xs e = record { length_is = ap length e ∙ omega arith; cell_is = λ i j a b. absurd (omega arith) }
 
 -- one row more
 pub next_row : {A : Type 0} (d : A) (xs ys zs : List A) (h w : ℕ) (G : ℕ → ℕ → A) → IsGrid d xs h w G → length ys ≡ w → ((j : ℕ) → j < w → get_or ys j d ≡ G h j) → zs ≡ xs ++ ys

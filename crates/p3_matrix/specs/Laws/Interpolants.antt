@@ -1,17 +1,17 @@
 -- The value of an interpolant anywhere, as a sum of the values times weights without a division.
-use Rattle.std.proofs.Common.{◌≡◌, ℕ, zero, suc, ◌+◌, ◌^◌, ◌≤◌, ◌<◌, List, ◌∷◌, length, get_or, map, refl, sym, ◌∙◌, ap, arith}
+use Rattle.std.proofs.Common.{◌≡◌, ℕ, zero, suc, ◌+◌, ◌^◌, ◌≤◌, ◌<◌, List, length, get_or, map, sym, ◌∙◌, ap, arith}
 use Rattle.p3_field.specs.Ring.{Ring, RingLaws, pow, of_nat}
 use Rattle.p3_field.specs.Field.{FieldLaws, RingHom, TwoAdicLaws}
 use Rattle.p3_field.specs.Poly.{val, table, total, Apart}
 use Rattle.p3_field.specs.Domain.{coset_point, IsInterpolant}
 use Rattle.p3_field.specs.Laws.Algebra.{one_mul}
 use Rattle.p3_field.specs.Laws.Sums.{total_same, total_scale}
-use Rattle.p3_field.specs.Laws.Coeffs.{length_table}
 use Rattle.p3_field.specs.Laws.Roots.{NoZeroDivisors, same_values_list}
 use Rattle.p3_field.specs.Laws.Transform.{inverse_coeff, inverse_transform, inverse_transform_at}
 use Rattle.p3_field.specs.Laws.TwoAdic.{two_adic_inverses, coset_interpolant, coset_interpolant_value}
 use Rattle.p3_field.specs.Laws.Extended.{hom_pow}
-use Rattle.p3_field.specs.Laws.Tables.{get_or-table}
+use Rattle.p3_field.specs.Laws.SubgroupSelectors.{map_table}
+use Rattle.p3_field.specs.Laws.Tables.{length-table, get_or-table, table_same}
 use Rattle.p3_matrix.specs.Matrix.{Rows, height, cell_at, column}
 use Rattle.p3_matrix.specs.Interpolation.{IsInterpolatedAt, weight_at}
 use Rattle.p3_matrix.specs.Laws.Cells.{length-column, get_or-column}
@@ -41,14 +41,6 @@ module _ {B : Type 0} (s : Ring B) (M : RingLaws s) where
   weight_is n m g u i w sum y a b c = cc (a, b, c)
 
 module _ {A B : Type 0} (r : Ring A) (L : RingLaws r) (s : Ring B) (M : RingLaws s) (f : A → B) (H : RingHom r s f) where
-  map_table : (n : ℕ) (t : ℕ → A) → map f (table n t) ≡ table n (λ i. f (t i))
-  map_table zero t = refl
-  map_table (suc n) t = ap (λ l. f (t zero) ∷ l) (map_table n (λ i. t (suc i)))
-
-  table_same : (n : ℕ) (t u : ℕ → B) → ((i : ℕ) → t i ≡ u i) → table n t ≡ table n u
-  table_same zero t u h = refl
-  table_same (suc n) t u h = cc (h zero, table_same n (λ i. t (suc i)) (λ i. u (suc i)) (λ i. h (suc i)))
-
   hom_total : (n : ℕ) (t : ℕ → A) → f (total r n t) ≡ total s n (λ i. f (t i))
   hom_total zero t = H.keeps_zero
   hom_total (suc n) t = H.keeps_add (t zero) (total r n (λ i. t (suc i))) ∙ ap (s.add (f (t zero))) (hom_total n (λ i. t (suc i)))
@@ -64,8 +56,8 @@ module _ {A B : Type 0} (r : Ring A) (L : RingLaws r) (s : Ring B) (M : RingLaws
 
   map_inverse_transform : (n : ℕ) (m t g : A) (v : ℕ → A) → map f (inverse_transform r n m t g v) ≡ inverse_transform s n (f m) (f t) (f g) (λ i. f (v i))
   map_inverse_transform n m t g v =
-      map_table n (inverse_coeff r n m t g v)
-      ∙ table_same n (λ j. f (inverse_coeff r n m t g v j)) (inverse_coeff s n (f m) (f t) (f g) (λ i. f (v i))) (hom_inverse_coeff n m t g v)
+      map_table f n (inverse_coeff r n m t g v)
+      ∙ table_same n (λ j. f (inverse_coeff r n m t g v j)) (inverse_coeff s n (f m) (f t) (f g) (λ i. f (v i))) (λ j b. hom_inverse_coeff n m t g v j)
 
   weighted_sum : (k : ℕ) (m t g a : A) (x : B) (v : ℕ → A) → r.mul t a ≡ r.one
       → val s (map f (inverse_transform r (2 ^ k) m t g v)) x ≡ total s (2 ^ k) (λ i. s.mul (f (v i)) (weight_at s (2 ^ k) (f m) (f g) (s.mul (f t) x) i))
@@ -98,7 +90,7 @@ module _ {A B : Type 0} (r : Ring A) (L : RingLaws r) (s : Ring B) (M : RingLaws
         record {
           interpolant = g;
           interpolates = record {
-            length_is = length_table r L (2 ^ k) (inverse_coeff r (2 ^ k) (inv (of_nat r (2 ^ k))) (inv a) (inv (root k)) u) ∙ sym e;
+            length_is = length-table (2 ^ k) (inverse_coeff r (2 ^ k) (inv (of_nat r (2 ^ k))) (inv a) (inv (root k)) u) ∙ sym e;
             value_is = λ i b. coset_interpolant_value r L inv W top root T k a h nz u i (omega arith);
           };
           value_is = d ∙ sym (weighted_sum k (inv (of_nat r (2 ^ k))) (inv a) (inv (root k)) a x u I.of_shift);

@@ -40,6 +40,10 @@ power_between n i a b p =
 pub one_shifted_left : (k : ℕ) → k < 64 → 1 * 2 ^ k % 18446744073709551616 ≡ 2 ^ k
 one_shifted_left k h = (one_shifted k 18446744073709551615 refl h).0
 
+-- the same for a size below another that fits
+pub size_of_shift : (k top : ℕ) → k ≤ top → top < 64 → 1 * 2 ^ k % 18446744073709551616 ≡ 2 ^ k
+size_of_shift k top h t = one_shifted_left k (omega arith)
+
 -- a power of two is a multiple of each smaller one
 pub power_divides : (n c : ℕ) → (k : ℕ) × (n ≡ 2 ^ k) → (k : ℕ) × (c ≡ 2 ^ k) → c ≤ n → n / c * c ≡ n
 power_divides n c p q h =

@@ -1,16 +1,13 @@
-use Rattle.std.proofs.Common.{◌≡◌, ℕ, ◌*◌, ◌/◌, ◌%◌, ◌^◌, ◌<◌, ◌≤◌, ◌∙◌, sym, ap, arith, length}
+use Rattle.std.proofs.Common.{◌≡◌, ◌*◌, ◌/◌, ◌^◌, ◌<◌, ◌∙◌, sym, ap, arith, length}
 use Rattle.std.proofs.lemmas.Nat.{pow_pos}
 use Rattle.p3_field.specs.Domain.{coset_point}
 use Rattle.p3_matrix.specs.Matrix.{Rows, height, row_at}
 use Rattle.p3_matrix.specs.Laws.Grids.{product_fills, product_height}
-use Rattle.p3_matrix.specs.Laws.Powers.{one_shifted_left}
+use Rattle.p3_matrix.specs.Laws.Powers.{size_of_shift}
 use Rattle.p3_matrix.specs.Laws.Transposed.{rows_of, no_rows, more_rows}
 use Rattle.p3_dft.specs.Transform.{values_at}
 use Rattle.p3_dft.specs.Laws.Values.{length-values_at}
 use Rattle.p3_dft.proofs.batch.evaluated_rows.Goals as goal
-
-width_of_shift : (k top : ℕ) → k ≤ top → top < 64 → 1 * 2 ^ k % 18446744073709551616 ≡ 2 ^ k
-width_of_shift k top h t = one_shifted_left k (omega arith)
 
 pub loop-i-init : goal.loop-i-init
 loop-i-init g c = no_rows c.new-values.result.items (2 ^ c.args.log_size) _ c.new-values.ensures.items
@@ -30,16 +27,16 @@ loop-i-preserved g c =
 pub new-requires : goal.new-requires
 new-requires g c =
     let n = 2 ^ c.args.log_size in
-    let width = width_of_shift c.args.log_size _ c.requires.subgroup g.met.F.TwoAdicCore.below_64 in
+    let width = size_of_shift c.args.log_size _ c.requires.subgroup g.met.F.TwoAdicCore.below_64 in
     product_fills c.loop-i.values.items c.loop-i.i _ (c.loop-i.invariant.count ∙ ap (λ k. c.loop-i.i * k) (sym width))
 
 pub returns-clause-width : goal.returns-clause-width
 returns-clause-width g c =
-    ap (λ (v : Rows g.row.F.Denot). v.width) c.new.ensures ∙ width_of_shift c.args.log_size _ c.requires.subgroup g.met.F.TwoAdicCore.below_64
+    ap (λ (v : Rows g.row.F.Denot). v.width) c.new.ensures ∙ size_of_shift c.args.log_size _ c.requires.subgroup g.met.F.TwoAdicCore.below_64
 
 pub returns-clause-height : goal.returns-clause-height
 returns-clause-height g c =
-    let width = width_of_shift c.args.log_size _ c.requires.subgroup g.met.F.TwoAdicCore.below_64 in
+    let width = size_of_shift c.args.log_size _ c.requires.subgroup g.met.F.TwoAdicCore.below_64 in
     let xs = c.loop-i.values.items in
     let rows : c.loop-i.i ≡ height c.args.m.now = omega (arith, c.height-i-end.ensures.result) in
     ap (λ (v : Rows g.row.F.Denot). height v) c.new.ensures
@@ -47,7 +44,7 @@ returns-clause-height g c =
 
 pub returns-clause-rows : goal.returns-clause-rows
 returns-clause-rows g c = λ i b.
-    let width = width_of_shift c.args.log_size _ c.requires.subgroup g.met.F.TwoAdicCore.below_64 in
+    let width = size_of_shift c.args.log_size _ c.requires.subgroup g.met.F.TwoAdicCore.below_64 in
     let below : i < c.loop-i.i = omega (arith, c.height-i-end.ensures.result) in
     ap (λ (v : Rows g.row.F.Denot). row_at v i) c.new.ensures
     ∙ (ap (λ w. row_at (rows_of c.loop-i.values.items w) i) width ∙ c.loop-i.invariant.rows i below)

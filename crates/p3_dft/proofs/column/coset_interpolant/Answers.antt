@@ -1,5 +1,5 @@
-use Rattle.std.proofs.Common.{◌≡◌, ℕ, ◌*◌, ◌%◌, ◌^◌, ◌<◌, ◌≤◌, ◌∙◌, refl, sym, ap, arith}
-use Rattle.std.proofs.lemmas.Grind.{one_shifted}
+use Rattle.std.proofs.Common.{◌≡◌, ◌^◌, ◌∙◌, sym, ap}
+use Rattle.p3_matrix.specs.Laws.Powers.{size_of_shift}
 use Rattle.std.proofs.lemmas.Result.{IfOk-weaker}
 use Rattle.p3_field.specs.Ring.{pow, of_nat}
 use Rattle.p3_field.specs.Domain.{coset_point}
@@ -7,9 +7,6 @@ use Rattle.p3_dft.specs.Transform.{values_at}
 use Rattle.p3_field.specs.Laws.Inverses.{root_inverts, size_inverts}
 use Rattle.p3_dft.specs.Laws.Inverse.{inverse_root_turns, interpolates}
 use Rattle.p3_dft.proofs.column.coset_interpolant.Goals as goal
-
-size_of_shift : (k top : ℕ) → k ≤ top → top < 64 → 1 * 2 ^ k % 18446744073709551616 ≡ 2 ^ k
-size_of_shift k top h t = let b : k < 64 = omega arith in (one_shifted k 18446744073709551615 refl b).0
 
 pub inverse-generator-requires : goal.inverse-generator-requires
 inverse-generator-requires g c = λ e.

@@ -3,7 +3,7 @@ use Rattle.std.proofs.Math.Nat.{pow-suc}
 use Rattle.std.proofs.lemmas.Result.{IfOk-weaker}
 use Rattle.p3_field.specs.Ring.{Ring, RingLaws, pow}
 use Rattle.p3_field.specs.Domain.{coset_point}
-use Rattle.p3_field.specs.Laws.Openings.{even_part, odd_part}
+use Rattle.p3_field.specs.Poly.{even_part, odd_part}
 use Rattle.p3_dft.specs.Transform.{values_at, butterflies, TurnsIn}
 use Rattle.p3_dft.specs.Laws.Butterflies.{length-even_part, length-odd_part, turns_square, butterflies_of_values}
 use Rattle.p3_dft.specs.Laws.Values.{length-values_at}

@@ -1,5 +1,5 @@
 use Rattle.std.proofs.Common.{◌≡◌, take}
-use Rattle.p3_field.specs.Laws.Openings.{even_part, odd_part}
+use Rattle.p3_field.specs.Poly.{even_part, odd_part}
 use Rattle.p3_dft.proofs.radix2.even_and_odd.Given as goal
 
 abbrev pub invariant-loop-i : goal.invariant-loop-i

@@ -1,13 +1,10 @@
-use Rattle.std.proofs.Common.{◌≡◌, ℕ, ◌*◌, ◌%◌, ◌^◌, ◌<◌, ◌≤◌, ◌∙◌, refl, sym, ap, arith}
-use Rattle.std.proofs.lemmas.Grind.{one_shifted}
+use Rattle.std.proofs.Common.{◌≡◌, ◌^◌, ◌∙◌, sym, ap, arith}
+use Rattle.p3_matrix.specs.Laws.Powers.{size_of_shift}
 use Rattle.p3_field.specs.Ring.{of_nat}
 use Rattle.p3_field.specs.Laws.Inverses.{root_inverts, size_inverts}
 use Rattle.p3_field.specs.Laws.Tables.{table_push}
 use Rattle.p3_matrix.specs.Laws.Interpolants.{next_ratio, first_ratio, weight_is}
 use Rattle.p3_matrix.proofs.interpolation.interpolation_weights.Goals as goal
-
-size_of_shift : (k top : ℕ) → k ≤ top → top < 64 → 1 * 2 ^ k % 18446744073709551616 ≡ 2 ^ k
-size_of_shift k top h t = let b : k < 64 = omega arith in (one_shifted k 18446744073709551615 refl b).0
 
 pub inverse-requires : goal.inverse-requires
 inverse-requires g c = λ e.

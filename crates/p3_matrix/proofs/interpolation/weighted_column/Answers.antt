@@ -1,12 +1,9 @@
 use Rattle.std.proofs.Common.{◌≡◌, ℕ, ◌+◌, ◌*◌, ◌/◌, ◌<◌, ◌∙◌, sym, ap, arith, get_or, length}
-use Rattle.std.proofs.lemmas.Nat.{mul-add-lt}
 use Rattle.std.proofs.lemmas.List.{get_or_read}
 use Rattle.p3_field.specs.Laws.Tables.{total_more}
 use Rattle.p3_matrix.specs.Matrix.{Rows, height}
+use Rattle.p3_matrix.specs.Laws.Grids.{in_grid}
 use Rattle.p3_matrix.proofs.interpolation.weighted_column.Goals as goal
-
-in_grid : (i j h w n : ℕ) → h * w ≡ n → i < h → j < w → i * w + j < n
-in_grid i j h w n e a b = omega (arith, mul-add-lt i w j h a b, e)
 
 pub loop-row-preserved : goal.loop-row-preserved
 loop-row-preserved g c =

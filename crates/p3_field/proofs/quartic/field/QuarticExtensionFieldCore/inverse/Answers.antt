@@ -1,7 +1,7 @@
 use Rattle.std.proofs.Common.{◌≡◌, sym, ◌∙◌}
 use Rattle.p3_field.specs.BabyBear.{bear_inv}
-use Rattle.p3_field.specs.Quartic.{quartic_ring}
-use Rattle.p3_field.specs.Laws.QuarticField.{norm_zero, norm_of_even, inverse_of_even, conjugate, quartic_norm}
+use Rattle.p3_field.specs.Quartic.{quartic_ring, quartic_norm}
+use Rattle.p3_field.specs.Laws.QuarticField.{norm_zero, norm_of_even, inverse_of_even, conjugate}
 use Rattle.p3_field.proofs.quartic.field.QuarticExtensionFieldCore.inverse.Goals as goal
 
 pub inverse-scale-requires : goal.inverse-scale-requires
