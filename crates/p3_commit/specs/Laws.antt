@@ -1,5 +1,6 @@
 -- What is proved of the definitions, by subject.
 pub mod Cosets
+pub mod Each
 pub mod Pairs
 pub mod Periods
 pub mod Repeated

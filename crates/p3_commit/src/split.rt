@@ -62,8 +62,10 @@ pub(crate) fn split_rows<F: Copy>(
     Ok(parts)
 }
 
-// Each row that is a multiple of the stride after the first.
-fn rows_from<F: Copy>(
+/// Every stride-th row of a matrix from row `first` on (own): row j of the answer is row first + stride j. `first` is
+/// below `stride`, and `stride` divides the matrix's height; the answer is as wide as the matrix and has height / stride
+/// rows. The only error is want of memory.
+pub fn rows_from<F: Copy>(
     alloc: Global,
     m: &RowMajorMatrix<F>,
     first: usize,

@@ -6,7 +6,7 @@ use Rattle.std.proofs.lemmas.Option.{get_or_from_slice_get}
 use Rattle.p3_field.specs.Domain.{point}
 use Rattle.p3_commit.specs.Space.{EachOf}
 use Rattle.p3_commit.specs.Periodic.{IsPeriod, IsPeriodicAt, EachFrom}
-use Rattle.p3_commit.proofs.Lists.{none_yet, one_more}
+use Rattle.p3_commit.specs.Laws.Each.{none_yet, one_more}
 use Rattle.p3_commit.proofs.periodic_values.periodic_values.Goals as goal
 
 fits_here : {V X : Type 0} (f : V → List X) (height n : ℕ) (columns items : List V) (index : ℕ) (v : V) (xs : List X) → All (λ c. IsPeriod height (length (f c))) columns

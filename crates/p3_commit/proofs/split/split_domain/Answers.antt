@@ -1,7 +1,7 @@
 use Rattle.std.proofs.Common.{◌≡◌, ℕ, ◌∙◌, sym, subst, arith}
 use Rattle.p3_matrix.specs.Laws.Powers.{power_le_cancel}
 use Rattle.p3_commit.specs.Space.{IsPart}
-use Rattle.p3_commit.proofs.Lists.{none_yet, one_more}
+use Rattle.p3_commit.specs.Laws.Each.{none_yet, one_more}
 use Rattle.p3_commit.proofs.split.split_domain.Goals as goal
 
 pub part_from-requires : goal.part_from-requires

@@ -2,7 +2,7 @@ use Rattle.std.proofs.Common.{◌≡◌, ◌∙◌, arith}
 use Rattle.p3_matrix.specs.Matrix.{height}
 use Rattle.p3_matrix.specs.Laws.Powers.{power_divides}
 use Rattle.p3_commit.specs.Space.{IsSplit}
-use Rattle.p3_commit.proofs.Lists.{none_yet, one_more}
+use Rattle.p3_commit.specs.Laws.Each.{none_yet, one_more}
 use Rattle.p3_commit.proofs.split.split_rows.Goals as goal
 
 pub loop-i-init : goal.loop-i-init
