@@ -4,7 +4,7 @@ use Rattle.std.proofs.Math.Nat.{pow-suc}
 use Rattle.p3_field.specs.Ring.{Ring, RingLaws, pow, sub}
 use Rattle.p3_field.specs.Poly.{val, table}
 use Rattle.p3_field.specs.Domain.{coset_point}
-use Rattle.p3_field.specs.Laws.Algebra.{pow_square, mul_zero}
+use Rattle.p3_field.specs.Laws.Algebra.{pow_square}
 use Rattle.p3_field.specs.Laws.Openings.{even_part, odd_part}
 use Rattle.p3_field.specs.Laws.Subcosets.{butterfly_first, butterfly_second}
 use Rattle.p3_dft.specs.Transform.{values_at, TurnsIn, butterflies}
@@ -76,8 +76,3 @@ module _ {A : Type 0} (r : Ring A) (L : RingLaws r) where
       let both : table m v ++ table m (λ i. v (m + i)) ≡ table (2 ^ suc k) v = sym (table-append m m v) ∙ ap (λ n. table n v) (sym (double_power k)) in
       ap (λ n. table n (λ i. r.add (get_or e i r.zero) (r.mul (coset_point r s h i) (get_or o i r.zero))) ++ table n (λ i. sub r (get_or e i r.zero) (r.mul (coset_point r s h i) (get_or o i r.zero)))) len
       ∙ (cc (first, second) ∙ both)
-
-  -- a constant polynomial has one value everywhere
-  pub values_of_constant : (c : A) (p : ℕ → A) (n : ℕ) → values_at r p n (c ∷ []) ≡ table n (λ _. c)
-  unfolding values_at
-  values_of_constant c p n = table_same n (λ i. val r (c ∷ []) (p i)) (λ _. c) (λ i h. cc (mul_zero r L (p i), L.add_zero c))
