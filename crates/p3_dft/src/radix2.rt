@@ -6,6 +6,7 @@ ghost use Rattle.p3_field.specs.Poly.{even_part, odd_part};
 ghost use Rattle.p3_dft.specs.Transform.{values_at, TurnsIn, butterflies};
 
 use crate::column::ColumnTransform;
+use crate::naive::NaiveDft;
 use p3_field::{Field, FieldCore, Mem, PrimeCharacteristicRing, RingCore};
 use std::alloc::Global;
 
@@ -50,7 +51,7 @@ fn joined<F: Field>(alloc: Global, even: &[F], odd: &[F], shift: F, generator: F
     requires { length even.now ≡ length odd.now }
     ensures { IfOk result (λ v. v.items ≡ butterflies F.ring shift generator even.now odd.now) }
 {
-    let mut sums = Vec::with_capacity(alloc, even.len())?;
+    let mut sums = Vec::with_capacity(alloc, even.len().saturating_add(odd.len()))?;
     let mut differences = Vec::with_capacity(alloc, even.len())?;
     let mut point = shift;
     for (i, e) in even.iter().enumerate() {
@@ -63,20 +64,8 @@ fn joined<F: Field>(alloc: Global, even: &[F], odd: &[F], shift: F, generator: F
     Ok(sums)
 }
 
-// The value everywhere of a polynomial with at most one coefficient.
-fn constant<F: Field>(alloc: Global, coefficients: &[F], size: usize) -> Mem<Vec<F>>
-    requires { length coefficients.now ≤ 1 }
-    ensures { IfOk result (λ v. (p : ℕ → F) → v.items ≡ values_at F.ring p size coefficients.now) }
-{
-    let value = coefficients.first().copied().unwrap_or(F::ZERO);
-    let mut values = Vec::with_capacity(alloc, size)?;
-    for _ in 0..size {
-        values.push(value)?;
-    }
-    Ok(values)
-}
-
-// The values at shift, shift * generator, .., of which there are 2^bits.
+// The values at shift, shift * generator, .., of which there are 2^bits. At most four coefficients are evaluated at each
+// point by itself, which takes less time than to split them.
 fn values_on_powers<F: Field>(
     alloc: Global,
     coefficients: &[F],
@@ -89,8 +78,8 @@ fn values_on_powers<F: Field>(
     requires turns { TurnsIn F.ring bits generator }
     ensures { IfOk result (λ v. v.items ≡ values_at F.ring (coset_point F.ring shift generator) (2 ^ bits) coefficients.now) }
 {
-    if coefficients.len() <= 1 {
-        constant(alloc, coefficients, 1 << bits)
+    if coefficients.len() <= 4 {
+        NaiveDft.values_on_powers(alloc, coefficients, shift, generator, bits)
     } else {
         let (even, odd) = even_and_odd(alloc, coefficients)?;
         let even = values_on_powers(alloc, &even, shift.square(), generator.square(), bits - 1)?;

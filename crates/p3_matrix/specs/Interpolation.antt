@@ -1,6 +1,6 @@
 -- Values of interpolants outside of their domain.
 use Rattle.std.specs.Prelude.{◌≡◌, ℕ, List, map}
-use Rattle.p3_field.specs.Ring.{Ring, pow}
+use Rattle.p3_field.specs.Ring.{Ring, pow, sub}
 use Rattle.p3_field.specs.Poly.{val, total}
 use Rattle.p3_field.specs.Domain.{IsInterpolant}
 
@@ -14,3 +14,7 @@ pub record IsInterpolatedAt {A B : Type 0} (r : Ring A) (s : Ring B) (embed : A 
 -- the interpolant's value at x, where m is 1 / n, g is one over the subgroup's generator and u is x / shift.
 unfoldable pub weight_at : {B : Type 0} → Ring B → ℕ → B → B → B → ℕ → B
 weight_at s n m g u i = s.mul m (total s n (λ j. pow s (s.mul (pow s g i) u) j))
+
+-- w - 1 for w = g^i u
+unfoldable pub ratio_minus_one : {B : Type 0} → Ring B → B → B → ℕ → B
+ratio_minus_one s g u i = sub s (s.mul (pow s g i) u) s.one

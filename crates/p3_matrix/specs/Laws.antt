@@ -4,4 +4,5 @@ pub mod Grids
 pub mod Transposed
 pub mod Powers
 pub mod Interpolants
+pub mod Weights
 pub mod Flattened

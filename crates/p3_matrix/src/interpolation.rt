@@ -5,9 +5,10 @@ ghost use Rattle.p3_field.specs.Ring.{Ring, pow, of_nat};
 ghost use Rattle.p3_field.specs.Poly.{table, total};
 ghost use Rattle.p3_field.specs.Domain.{coset_point};
 ghost use Rattle.p3_matrix.specs.Matrix.{Rows, height, cell_at, column};
-ghost use Rattle.p3_matrix.specs.Interpolation.{IsInterpolatedAt, weight_at};
+ghost use Rattle.p3_matrix.specs.Interpolation.{IsInterpolatedAt, weight_at, ratio_minus_one};
 
 use crate::dense::RowMajorMatrix;
+use crate::inverses::scaled_inverses;
 use crate::util::log2_strict_usize;
 use p3_field::{
     ExtensionField, Field, FieldCore, Mem, PrimeCharacteristicRing, RingCore, TwoAdicCore,
@@ -28,7 +29,8 @@ pub fn sum_of_powers<F: PrimeCharacteristicRing>(x: F, bits: usize) -> F
     product
 }
 
-// The weights of the values on a coset in the interpolant's value at a point.
+// The weights of the values on a coset in the interpolant's value at a point. Outside of the coset they are quotients, by
+// one inversion and four products a weight; on it, where a divisor is zero, they are sums.
 fn interpolation_weights<F: TwoAdicField, EF: ExtensionField<F>>(
     alloc: Global,
     log_size: usize,
@@ -42,13 +44,48 @@ fn interpolation_weights<F: TwoAdicField, EF: ExtensionField<F>>(
     let size: usize = 1 << log_size;
     let scale = EF::from_base(F::from_u64(size as u64).inverse());
     let step = EF::from_base(F::two_adic_generator(log_size).inverse());
-    let mut ratio = EF::from_base(shift.inverse()) * point;
+    let ratio = EF::from_base(shift.inverse()) * point;
+    let vanishing = ratio.exp_power_of_2(log_size) - EF::ONE;
+    if vanishing.is_zero() {
+        weights_by_sums(alloc, log_size, scale, step, ratio)
+    } else {
+        let divisors = ratios_minus_one(alloc, size, step, ratio)?;
+        scaled_inverses(alloc, &divisors, scale * vanishing)
+    }
+}
+
+// The weights of a scale, a step and a ratio, each by a sum of powers, so that none is a quotient.
+fn weights_by_sums<F: Field>(
+    alloc: Global,
+    log_size: usize,
+    scale: F,
+    step: F,
+    ratio: F,
+) -> Mem<Vec<F>>
+    requires { log_size < 64 }
+    ensures { IfOk result (λ v. v.items ≡ table (2 ^ log_size) (weight_at F.ring (2 ^ log_size) scale step ratio)) }
+{
+    let size: usize = 1 << log_size;
+    let mut turned = ratio;
     let mut weights = Vec::with_capacity(alloc, size)?;
     for _ in 0..size {
-        weights.push(scale * sum_of_powers(ratio, log_size))?;
-        ratio = step * ratio;
+        weights.push(scale * sum_of_powers(turned, log_size))?;
+        turned = step * turned;
     }
     Ok(weights)
+}
+
+// The ratio times each of the first `size` powers of the step, minus one.
+fn ratios_minus_one<F: Field>(alloc: Global, size: usize, step: F, ratio: F) -> Mem<Vec<F>>
+    ensures { IfOk result (λ v. v.items ≡ table size (ratio_minus_one F.ring step ratio)) }
+{
+    let mut turned = ratio;
+    let mut divisors = Vec::with_capacity(alloc, size)?;
+    for _ in 0..size {
+        divisors.push(turned - F::ONE)?;
+        turned = step * turned;
+    }
+    Ok(divisors)
 }
 
 // The sum of a column's values times the weights.

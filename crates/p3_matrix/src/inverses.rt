@@ -13,8 +13,16 @@ pub fn batch_multiplicative_inverse<F: Field>(alloc: Global, values: &[F]) -> Me
     requires { (i : ℕ) → i < length values.now → get_or values.now i F.ring.zero ≡ F.ring.zero → ⊥ }
     ensures { IfOk result (λ v. v.items ≡ map F.inv values.now) }
 {
+    scaled_inverses(alloc, values, F::ONE)
+}
+
+/// A factor over each of the values, in order, none of which is zero, by one inversion and three products a value (own).
+pub(crate) fn scaled_inverses<F: Field>(alloc: Global, values: &[F], factor: F) -> Mem<Vec<F>>
+    requires { (i : ℕ) → i < length values.now → get_or values.now i F.ring.zero ≡ F.ring.zero → ⊥ }
+    ensures { IfOk result (λ v. v.items ≡ map (λ x. F.ring.mul factor (F.inv x)) values.now) }
+{
     let (fronts, whole) = products_of_fronts(alloc, values)?;
-    let inverses = inverses_by_fronts(values, fronts, whole.inverse());
+    let inverses = inverses_by_fronts(values, fronts, factor * whole.inverse());
     Ok(inverses)
 }
 
@@ -32,18 +40,18 @@ fn products_of_fronts<F: Field>(alloc: Global, values: &[F]) -> Mem<(Vec<F>, F)>
     Ok((fronts, product))
 }
 
-// From the last value back: the inverse of the product up to a value, times the product before it, is its inverse.
-fn inverses_by_fronts<F: Field>(values: &[F], fronts: Vec<F>, inverse_of_whole: F) -> Vec<F>
+// From the last value back: a factor over the product up to a value, times the product before it, is the factor over that
+// value. The quotient is the factor over the product of all.
+fn inverses_by_fronts<F: Field>(values: &[F], fronts: Vec<F>, quotient_of_all: F) -> Vec<F>
     requires nonzero { (i : ℕ) → i < length values.now → get_or values.now i F.ring.zero ≡ F.ring.zero → ⊥ }
     requires fronts { fronts.items ≡ table (length values.now) (product_below F.ring values.now) }
-    requires whole { F.ring.mul inverse_of_whole (product_below F.ring values.now (length values.now)) ≡ F.ring.one }
-    ensures { result.items ≡ map F.inv values.now }
+    ensures { result.items ≡ map (λ x. F.ring.mul (F.ring.mul quotient_of_all (product_below F.ring values.now (length values.now))) (F.inv x)) values.now }
 {
     let mut inverses = fronts;
-    let mut inverse = inverse_of_whole;
+    let mut quotient = quotient_of_all;
     for i in (0..values.len()).rev() {
-        inverses[i] = inverse * inverses[i];
-        inverse = inverse * values[i];
+        inverses[i] = quotient * inverses[i];
+        quotient = quotient * values[i];
     }
     inverses
 }

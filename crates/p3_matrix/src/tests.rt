@@ -58,14 +58,20 @@ fn two_columns(alloc: Global) -> Mem<RowMajorMatrix<BabyBear>>
     Ok(RowMajorMatrix::new(values, 2))
 }
 
-// At points that aren't their own inverses; the values were worked out by another program.
+// Outside of the coset and at three of its points; the values were worked out by another program.
 #[test]
 fn interpolates_columns_of_four(rt: HostRuntime) -> Result<(), Fail> {
     let alloc = rt.alloc();
     let shift = bear(3);
     assert!(rt; !shift.is_zero());
     let columns = two_columns(alloc)?;
-    for (point, first, second) in [(5, 1242236348, 1154983184), (3, 1, 5)] {
+    for (point, first, second) in [
+        (5, 1242236348, 1154983184),
+        (0, 1006632963, 503316487),
+        (3, 1, 5),
+        (1158681697, 2, 6),
+        (854584224, 4, 9),
+    ] {
         let values = interpolate_coset(alloc, &columns, shift, bear(point))?;
         assert_eq!(rt;
             values.as_slice(),
@@ -73,6 +79,40 @@ fn interpolates_columns_of_four(rt: HostRuntime) -> Result<(), Fail> {
             "at {point}"
         );
     }
+    Ok(())
+}
+
+// The coefficients of a value of the quartic extension.
+fn quartic(c0: u64, c1: u64, c2: u64, c3: u64) -> QuarticExtension {
+    QuarticExtension {
+        c0: bear(c0),
+        c1: bear(c1),
+        c2: bear(c2),
+        c3: bear(c3),
+    }
+}
+
+// At a point above the field, and at one of the coset as a point above the field.
+#[test]
+fn interpolates_above_the_field(rt: HostRuntime) -> Result<(), Fail> {
+    let alloc = rt.alloc();
+    let shift = bear(3);
+    assert!(rt; !shift.is_zero());
+    let columns = two_columns(alloc)?;
+    let values = interpolate_coset(alloc, &columns, shift, quartic(1, 2, 3, 4))?;
+    assert_eq!(rt;
+        values.as_slice(),
+        [
+            quartic(1751913077, 1074997419, 261192754, 236309743),
+            quartic(1043354946, 195753533, 895105634, 1883055428)
+        ]
+        .as_slice()
+    );
+    let values = interpolate_coset(alloc, &columns, shift, quartic(1158681697, 0, 0, 0))?;
+    assert_eq!(rt;
+        values.as_slice(),
+        [quartic(2, 0, 0, 0), quartic(6, 0, 0, 0)].as_slice()
+    );
     Ok(())
 }
 
@@ -87,12 +127,7 @@ fn sums_of_powers(rt: HostRuntime) {
 fn flattens_rows(rt: HostRuntime) -> Result<(), Fail> {
     let alloc = rt.alloc();
     let mut values = Vec::new(alloc);
-    values.push(QuarticExtension {
-        c0: bear(1),
-        c1: bear(2),
-        c2: bear(3),
-        c3: bear(4),
-    })?;
+    values.push(quartic(1, 2, 3, 4))?;
     let flat = flatten_matrix::<BabyBear, QuarticExtension>(
         alloc,
         &RowMajorMatrix::new_col(values),

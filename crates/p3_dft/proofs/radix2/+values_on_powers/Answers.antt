@@ -33,8 +33,8 @@ module _ {A : Type 0} (r : Ring A) (L : RingLaws r) where
   same_length : (e o x y : List A) (p q : ℕ → A) (n : ℕ) → e ≡ values_at r p n x → o ≡ values_at r q n y → length e ≡ length o
   same_length e o x y p q n d f = ap length d ∙ (length-values_at r p n x ∙ sym (ap length f ∙ length-values_at r q n y))
 
-pub values_on_powers-requires : goal.values_on_powers-requires
-values_on_powers-requires g t c = λ κs h.
+pub values_on_powers-requires-else-coefficients-le4 : goal.values_on_powers-requires-else-coefficients-le4
+values_on_powers-requires-else-coefficients-le4 g t c = λ κs h.
     let f = c.args.coefficients.now in
     let b = c.args.bits in
     let long : 1 < length f = omega arith in
@@ -48,18 +48,18 @@ values_on_powers-requires g t c = λ κs h.
           omega arith,
           (
             omega (arith, ap length even, short),
-            turns_less g.F.RingCore.ring g.met.F.RingCore.ring_laws b c.args.generator _ less c.square-else-coefficients-le1.ensures c.requires.turns,
+            turns_less g.F.RingCore.ring g.met.F.RingCore.ring_laws b c.args.generator _ less c.square-else-coefficients-le4.ensures c.requires.turns,
           ),
         ),
       ),
     )
 
-pub values_on_powers-requires-else-coefficients-le1 : goal.values_on_powers-requires-else-coefficients-le1
-values_on_powers-requires-else-coefficients-le1 g t c = λ κs h.
+pub values_on_powers-requires-else-coefficients-le4-2 : goal.values_on_powers-requires-else-coefficients-le4-2
+values_on_powers-requires-else-coefficients-le4-2 g t c = λ κs h.
     let f = c.args.coefficients.now in
     let b = c.args.bits in
     let long : 1 < length f = omega arith in
-    let odd : c.deref-else-coefficients-le1.result.now ≡ odd_part f = c.deref-else-coefficients-le1.ensures.value ∙ c.in_ok-even.ensures.odd in
+    let odd : c.deref-else-coefficients-le4.result.now ≡ odd_part f = c.deref-else-coefficients-le4.ensures.value ∙ c.in_ok-even.ensures.odd in
     let short = length-odd_part f (2 ^ (b - 1)) (halves (length f) b long c.requires.fits) in
     let less = one_bit_less (length f) b long c.requires.fits in (
       omega (arith, less),
@@ -69,7 +69,7 @@ values_on_powers-requires-else-coefficients-le1 g t c = λ κs h.
           omega arith,
           (
             omega (arith, ap length odd, short),
-            turns_less g.F.RingCore.ring g.met.F.RingCore.ring_laws b c.args.generator _ less c.square-else-coefficients-le1-3.ensures c.requires.turns,
+            turns_less g.F.RingCore.ring g.met.F.RingCore.ring_laws b c.args.generator _ less c.square-else-coefficients-le4-3.ensures c.requires.turns,
           ),
         ),
       ),
@@ -78,7 +78,7 @@ values_on_powers-requires-else-coefficients-le1 g t c = λ κs h.
 pub joined-requires : goal.joined-requires
 joined-requires g t c =
     same_length g.F.RingCore.ring g.met.F.RingCore.ring_laws _ _ _ _ _ _ _
-    (c.deref-else-coefficients-le1-2.ensures.value ∙ c.in_ok-even-2.ensures) (c.deref-else-coefficients-le1-3.ensures.value ∙ c.in_ok-odd.ensures)
+    (c.deref-else-coefficients-le4-2.ensures.value ∙ c.in_ok-even-2.ensures) (c.deref-else-coefficients-le4-3.ensures.value ∙ c.in_ok-odd.ensures)
 
 pub returns-in_ok-odd : goal.returns-in_ok-odd
 returns-in_ok-odd g t c =
@@ -87,10 +87,10 @@ returns-in_ok-odd g t c =
     let b = c.args.bits in
     let s = c.args.shift in let h = c.args.generator in
     let long : 1 < length f = omega arith in
-    let even : c.in_ok-even-2.even.items ≡ values_at r (coset_point r c.square.result c.square-else-coefficients-le1.result) (2 ^ (b - 1)) c.deref.result.now = c.in_ok-even-2.ensures in
-    let odd : c.in_ok-odd.odd.items ≡ values_at r (coset_point r c.square-else-coefficients-le1-2.result c.square-else-coefficients-le1-3.result) (2 ^ (b - 1)) c.deref-else-coefficients-le1.result.now = c.in_ok-odd.ensures in
-    let e : c.deref-else-coefficients-le1-2.result.now ≡ values_at r (coset_point r (r.mul s s) (r.mul h h)) (2 ^ (b - 1)) (even_part f) =
-    c.deref-else-coefficients-le1-2.ensures.value ∙ cc (even, c.square.ensures, c.square-else-coefficients-le1.ensures, c.deref.ensures.value, c.in_ok-even.ensures.even) in
-    let o : c.deref-else-coefficients-le1-3.result.now ≡ values_at r (coset_point r (r.mul s s) (r.mul h h)) (2 ^ (b - 1)) (odd_part f) =
-    c.deref-else-coefficients-le1-3.ensures.value ∙ cc (odd, c.square-else-coefficients-le1-2.ensures, c.square-else-coefficients-le1-3.ensures, c.deref-else-coefficients-le1.ensures.value, c.in_ok-even.ensures.odd) in
+    let even : c.in_ok-even-2.even.items ≡ values_at r (coset_point r c.square.result c.square-else-coefficients-le4.result) (2 ^ (b - 1)) c.deref.result.now = c.in_ok-even-2.ensures in
+    let odd : c.in_ok-odd.odd.items ≡ values_at r (coset_point r c.square-else-coefficients-le4-2.result c.square-else-coefficients-le4-3.result) (2 ^ (b - 1)) c.deref-else-coefficients-le4.result.now = c.in_ok-odd.ensures in
+    let e : c.deref-else-coefficients-le4-2.result.now ≡ values_at r (coset_point r (r.mul s s) (r.mul h h)) (2 ^ (b - 1)) (even_part f) =
+    c.deref-else-coefficients-le4-2.ensures.value ∙ cc (even, c.square.ensures, c.square-else-coefficients-le4.ensures, c.deref.ensures.value, c.in_ok-even.ensures.even) in
+    let o : c.deref-else-coefficients-le4-3.result.now ≡ values_at r (coset_point r (r.mul s s) (r.mul h h)) (2 ^ (b - 1)) (odd_part f) =
+    c.deref-else-coefficients-le4-3.ensures.value ∙ cc (odd, c.square-else-coefficients-le4-2.ensures, c.square-else-coefficients-le4-3.ensures, c.deref-else-coefficients-le4.ensures.value, c.in_ok-even.ensures.odd) in
     IfOk-weaker c.joined.result _ _ (λ v w. w ∙ joined_values r g.met.F.RingCore.ring_laws f _ _ s h b (one_bit_less (length f) b long c.requires.fits) c.requires.turns e o) c.joined.ensures
