@@ -15,7 +15,6 @@ pub mod Lines
 pub mod Matrices
 pub mod Numbers
 pub mod OpenedLists
-pub mod OneText
 pub mod Patterns
 pub mod Prints
 pub mod QuotientLemmas
