@@ -12,7 +12,6 @@ pub mod IdentityLemmas
 pub mod Interpolated
 pub mod JobAnswers
 pub mod Lines
-pub mod Matrices
 pub mod Numbers
 pub mod OpenedLists
 pub mod Patterns

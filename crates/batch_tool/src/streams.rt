@@ -99,3 +99,6 @@ impl<W: Write> Sink for StdSink<W> {
         counted(self.writer.write(piece), 1, &mut self.faults)
     }
 }
+
+#[cfg(test)]
+mod tests;

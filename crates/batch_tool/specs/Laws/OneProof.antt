@@ -27,7 +27,8 @@ tables-tall m n f = λ k d lt.
     ap length (get_or-table m (λ e. table n (f e)) k d small) ∙ length-table n (f k)
 
 module _ (d : CosetData BabyBear) (few : d.log_size ≤ 10) (nz : d.shift ≡ bear_ring.zero → ⊥) where
-  apart : (n : ℕ) → n ≡ 2 ^ d.log_size → Apart n (point bear_ring bear_root d)
+  -- the points of a domain differ
+  pub apart : (n : ℕ) → n ≡ 2 ^ d.log_size → Apart n (point bear_ring bear_root d)
   apart n e =
       let P : ℕ → Type 0 = λ n. Apart n (point bear_ring bear_root d) in
       subst P (sym e) (points_apart bear_ring bear_laws bear_inv bear_field_laws 27 bear_root bear_root_laws d (omega arith) nz)
