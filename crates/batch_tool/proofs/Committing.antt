@@ -1,15 +1,13 @@
 -- What is committed: the records that the answer of `prove` is made of.
-use Rattle.std.proofs.Common.{◌≡◌, ℕ, zero, suc, ◌<◌, Bool, true, false, List, ◌++◌, [], ◌∷◌, length, get_or, refl, sym, ◌∙◌, ap, subst, arith}
-use Rattle.std.specs.Prelude.{All, IsTrue}
+use Rattle.std.proofs.Common.{◌≡◌, ℕ, ◌<◌, Bool, true, false, List, ◌++◌, [], ◌∷◌, get_or, refl, sym, ◌∙◌, ap, subst}
+use Rattle.std.specs.Prelude.{IsTrue}
 use Rattle.p3_field.specs.Field.{TwoAdic}
 use Rattle.p3_field.specs.Domain.{CosetData}
-use Rattle.p3_field.specs.Poly.{table}
 use Rattle.p3_field.specs.Ring.{of_nat}
 use Rattle.p3_field.specs.BabyBear.{bear_ring}
 use Rattle.p3_field.specs.Quartic.{quartic_ring, quartic_parts, quartic_whole}
 use Rattle.p3_field.specs.declared.baby_bear.BabyBear.{BabyBear}
 use Rattle.p3_matrix.specs.Matrix.{Rows}
-use Rattle.p3_field.specs.Laws.Tables.{length-table, get_or-table}
 use Rattle.p3_challenger.specs.declared.sha256_challenger.Sha256Challenger.{Sha256Challenger}
 use Rattle.p3_field.specs.declared.quartic.QuarticExtension.{QuarticExtension}
 use Rattle.p3_field.specs.Laws.BearField.{bear_of_canonical}

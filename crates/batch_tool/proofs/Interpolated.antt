@@ -26,7 +26,7 @@ use Rattle.p3_commit.specs.declared.failure.PcsFailure.{PcsFailure}
 use Rattle.p3_commit.specs.declared.failure.PcsFailure.TheVariants.{Refused}
 use Rattle.p3_commit.specs.Commitments.{Committed, IsCommitment, IsCommitted, AreCommitted, IsEvaluated, AreParts, AreExtensions}
 use Rattle.plain_pcs.specs.Scheme.{Scheme, PlainCommitmentData}
-use Rattle.plain_pcs.specs.Extension.{columns, interpolant, evaluations, extended_domain, extension_of, commitment_of, IsCommittable, Extends}
+use Rattle.plain_pcs.specs.Extension.{columns, interpolant, extended_domain, extension_of, commitment_of, IsCommittable, Extends}
 use Rattle.plain_pcs.specs.Laws.Evaluations.{height-evaluations}
 use Rattle.plain_pcs.specs.Holding.{IsMade, AreHolding}
 use Rattle.plain_pcs.specs.Refusals.{CommitFault, ExtensionsFault}

@@ -5,13 +5,13 @@ use Rattle.std.specs.Char.{digit_value, is_ascii_digit}
 use Rattle.std.specs.Int.{IsInRange}
 use Rattle.std.specs.Str.Parse.{digits_value, AllDigits}
 use Rattle.std.proofs.lemmas.Grind.{common_steps}
-use Rattle.std.proofs.lemmas.Fmt.{decimal_digit, decimal_is_IsNumeral, decimal-digits_value, first_decimal}
+use Rattle.std.proofs.lemmas.Fmt.{decimal_digit, decimal-digits_value, first_decimal}
 use Rattle.std.proofs.lemmas.Int.Digits.{digits_more, digits_value_more}
 use Rattle.std.proofs.lemmas.Str.{digit_value_digit}
 use Rattle.std.proofs.lemmas.Str.Parse.{digit_at, digits_value-take-le, IsNumeralModel}
-use Rattle.std.proofs.lemmas.List.{take_at, take-append-drop}
-use Rattle.std.proofs.Math.Seq.{drop-cons, get_or-append_seam}
-use Rattle.batch_tool.specs.Laws.Lines.{FirstLine, first-line, before-end}
+use Rattle.std.proofs.lemmas.List.{take-append-drop}
+use Rattle.std.proofs.Math.Seq.{drop-cons}
+use Rattle.batch_tool.specs.Laws.Lines.{first-line, before-end}
 
 -- no number's line begins with LF
 pub not-empty : (bytes rest : List ℕ) (n : ℕ) → n < 2 ^ 64 → get_or bytes 0 0 ≡ 10 → bytes ≡ decimal n ++ 10 ∷ rest → ⊥

@@ -26,7 +26,6 @@ use Rattle.batch_tool.specs.Laws.FirstForms.{first_form-grammar}
 use Rattle.batch_tool.specs.Laws.OneProof.{two-tall, one_honest, one_number}
 use Rattle.batch_tool.specs.declared.command.Command.{Command}
 use Rattle.batch_tool.specs.declared.command.Command.TheVariants.{Prove, Verify}
-use Rattle.batch_tool.specs.declared.job.Job.{Job}
 use Rattle.batch_tool.specs.declared.job.SwapTable.{SwapTable}
 use Rattle.batch_tool.specs.declared.first_form.FirstForm.{FirstForm}
 use Rattle.batch_tool.specs.declared.refusal.Refusal.{Refusal}
