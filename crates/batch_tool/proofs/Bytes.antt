@@ -12,11 +12,11 @@ use Rattle.batch_tool.specs.Whole.{ReadsWhole}
 
 -- bytes that could not be kept
 pub unkept : (most : ℕ) (old new : Option (List ℕ)) (taken : List ℕ) (r : Result (Vec ℕ Global) InputError)
-    → Consumes old new taken → IsErrAnd r (λ e. e ≡ OutOfMemory) → ReadsWhole most old new r
-unkept most old new taken (Ok v) h e = absurd e
-unkept most old new taken (Err ReadFault) h e = cc
-unkept most old new taken (Err TooLarge) h e = cc
-unkept most old new taken (Err OutOfMemory) h e = record { taken = taken; consumed = h; answer = tt }
+    → Consumes old new taken → length taken ≤ most + 1 → IsErrAnd r (λ e. e ≡ OutOfMemory) → ReadsWhole most old new r
+unkept most old new taken (Ok v) h l e = absurd e
+unkept most old new taken (Err ReadFault) h l e = cc
+unkept most old new taken (Err TooLarge) h l e = cc
+unkept most old new taken (Err OutOfMemory) h l e = record { taken = taken; consumed = h; answer = l }
 
 -- what steps over pieces do to known bytes
 pub ruleset steps = (Consumes-nil, Appends-nil, Consumes-trans, Appends-trans, Consumes-kept, Appends-kept, take-add)

@@ -1,21 +1,19 @@
 -- What is committed: the records that the answer of `prove` is made of.
-use Rattle.std.proofs.Common.{◌≡◌, ℕ, zero, suc, ◌<◌, Bool, true, false, List, ◌++◌, [], ◌∷◌, length, get_or, refl, sym, ◌∙◌, ap, subst, arith}
-use Rattle.std.specs.Prelude.{All, IsTrue}
+use Rattle.std.proofs.Common.{◌≡◌, ℕ, ◌<◌, Bool, true, false, List, ◌++◌, [], ◌∷◌, get_or, refl, sym, ◌∙◌, ap, subst}
+use Rattle.std.specs.Prelude.{IsTrue}
 use Rattle.p3_field.specs.Field.{TwoAdic}
 use Rattle.p3_field.specs.Domain.{CosetData}
-use Rattle.p3_field.specs.Poly.{table}
 use Rattle.p3_field.specs.Ring.{of_nat}
 use Rattle.p3_field.specs.BabyBear.{bear_ring}
 use Rattle.p3_field.specs.Quartic.{quartic_ring, quartic_parts, quartic_whole}
 use Rattle.p3_field.specs.declared.baby_bear.BabyBear.{BabyBear}
 use Rattle.p3_matrix.specs.Matrix.{Rows}
-use Rattle.p3_field.specs.Laws.Tables.{length-table, get_or-table}
 use Rattle.p3_challenger.specs.declared.sha256_challenger.Sha256Challenger.{Sha256Challenger}
 use Rattle.p3_field.specs.declared.quartic.QuarticExtension.{QuarticExtension}
 use Rattle.p3_field.specs.Laws.BearField.{bear_of_canonical}
-use Rattle.batch_tool.specs.Script.{begun, play, observe_all, draw_all, passes, after_grinding}
+use Rattle.batch_tool.specs.Script.{begun, play, observe_all, draw_all, after_draws, passes, after_grinding}
 use Rattle.batch_tool.specs.BatchScript.{single_shape, script_to_alpha}
-use Rattle.batch_tool.proofs.Draws.{alpha-script, quotient-script, quotient-challenges, zeta-script}
+use Rattle.batch_tool.proofs.Draws.{alpha-script, quotient-script, quotient-challenges, zeta-script, zeta-state}
 use Rattle.plain_pcs.specs.Extension.{evaluations}
 use Rattle.plain_pcs.specs.Observing.{commitment_elements}
 use Rattle.batch_tool.specs.Plain.{AreInterpolants}
@@ -25,16 +23,6 @@ use Rattle.batch_tool.specs.Tool.{tool}
 
 pub same-coset : {F : Type 0} (d e : CosetData F) → d.shift ≡ e.shift → d.log_size ≡ e.log_size → d ≡ e
 same-coset d e s l = λ i. record { shift = s i; log_size = l i }
-
-pub two-tall : {F : Type 0} (n : ℕ) (f g : ℕ → F) → All (λ l. length l ≡ n) (table n f ∷ table n g ∷ [])
-two-tall n f g zero d lt = length-table n f
-two-tall n f g (suc zero) d lt = length-table n g
-two-tall n f g (suc (suc k)) d lt = absurd (omega arith)
-
-pub tables-tall : {F : Type 0} (m n : ℕ) (f : ℕ → ℕ → F) → All (λ l. length l ≡ n) (table m (λ e. table n (f e)))
-tables-tall m n f = λ k d lt.
-    let small : k < m = let l = length-table m (λ e. table n (f e)) in omega (arith, l) in
-    ap length (get_or-table m (λ e. table n (f e)) k d small) ∙ length-table n (f k)
 
 pub interpolants-along : {F : Type 0} (t : TwoAdic F) (d e : CosetData F) (columns others fs : List (List F)) → d ≡ e → columns ≡ others
     → AreInterpolants t d columns fs → AreInterpolants t e others fs
@@ -113,6 +101,14 @@ module _ (k : ℕ) (a b x : BabyBear) (main quotient : Rows BabyBear) where
       let all : (whole_transcript tool swap main quotient w).challenges ≡ d ∷ drawn before.state ∷ [] =
       zeta-script tool.challenger before w ∙ ap (λ l. l ++ drawn before.state ∷ []) one in
       ap quartic_whole (e ∙ (ap drawn p ∙ ap (λ l. get_or l 1 []) (sym all)))
+
+  -- the state behind zeta's draw, with which the opening begins
+  pub state-is : (old new : Sha256Challenger) (w : BabyBear) → old ≡ (before_grinding tool swap main quotient).state
+      → new ≡ after_draws tool.challenger (after_grinding tool.challenger old 4 (w ∷ [])) 4 → new ≡ (whole_transcript tool swap main quotient w).state
+  unfolding tool swap_stated whole_transcript
+  state-is old new w p e =
+      e ∙ (ap (λ s. after_draws tool.challenger (after_grinding tool.challenger s 4 (w ∷ [])) 4) p
+      ∙ sym (zeta-state tool.challenger (before_grinding tool swap main quotient) w))
 
   -- the same, of the witness's number
   pub zeta-of-number : (old : Sha256Challenger) (w : BabyBear) (z : QuarticExtension) → old ≡ (before_grinding tool swap main quotient).state

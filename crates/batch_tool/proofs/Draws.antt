@@ -30,6 +30,11 @@ module _ {S F : Type 0} (c : ChallengerOf S F) where
   unfolding play ood_pow_step zeta_step opening_step
   zeta-script t w = refl
 
+  pub zeta-state : (t : Transcript S F) (w : F)
+      → (play c t (script_from_grinding 4 4 w)).state ≡ after_draws c (after_grinding c t.state 4 (w ∷ [])) 4
+  unfolding play ood_pow_step zeta_step opening_step
+  zeta-state t w = refl
+
 pub zero-passes : (n : ℕ) → n ≡ 0 → (n == 0) ≡ true
 zero-passes n h = grind (arith, nat_tests, h)
 

@@ -5,7 +5,8 @@ use Rattle.std.proofs.lemmas.Grind.{common_steps}
 use Rattle.std.proofs.lemmas.List.{nil_from_length, append-nil}
 use Rattle.batch_tool.specs.Texts.{line_text, Reads, Stops, Small, Grammar}
 use Rattle.batch_tool.specs.WholeText.{Begins, IsFaultLine, IsNoText}
-use Rattle.batch_tool.proofs.Lines.{Longer, lines-tell, small-front, count-read}
+use Rattle.batch_tool.specs.Laws.Lines.{Longer, lines-tell}
+use Rattle.batch_tool.proofs.Lines.{small-front, count-read}
 
 nothing-behind : (n : ℕ) (xs ys : List ℕ) → [] ≡ xs ++ n ∷ ys → ⊥
 nothing-behind n xs ys e = let l : 0 ≡ length (xs ++ n ∷ ys) = ap (λ (t : List ℕ). length t) e in grind (arith, common_steps, l)

@@ -11,7 +11,8 @@ use Rattle.batch_tool.specs.Swap.{alternating, last_right, swap_instance, swap_s
 use Rattle.batch_tool.specs.Committed.{committed_matrix, trace_polynomials, chunk_polynomials}
 use Rattle.batch_tool.specs.Honest.{IsCommitted, trace_domain, quotient_domain, quotient_columns, quotient_value, alpha}
 use Rattle.batch_tool.specs.Tool.{tool}
-use Rattle.batch_tool.proofs.Committing.{all-committed, two-tall, tables-tall}
+use Rattle.batch_tool.specs.Laws.OneProof.{two-tall, tables-tall}
+use Rattle.batch_tool.proofs.Committing.{all-committed}
 use Rattle.batch_tool.proofs.Interpolated.{interpolants-are}
 
 pub honest-committed : (k : ℕ) (a b : BabyBear) (challenge : QuarticExtension) → k ≤ 10

@@ -3,20 +3,19 @@ use Rattle.std.proofs.Common.{◌≡◌, ℕ, zero, suc, ◌+◌, ◌-◌, ◌*�
 use Rattle.std.specs.Prelude.{slice_get, Result, Err, All}
 use Rattle.std.specs.List.{flat_map}
 use Rattle.std.proofs.lemmas.List.{get_or-take, get_or-drop, length-map, get_or-map, get_or_append_left, get_or-append-add}
-use Rattle.p3_field.specs.Poly.{Apart, table}
+use Rattle.p3_field.specs.Poly.{table}
 use Rattle.p3_field.specs.Domain.{CosetData, point, coset_point, IsInterpolant}
 use Rattle.p3_field.specs.BabyBear.{reduce, bear_ring, bear_inv, bear_root}
 use Rattle.p3_field.specs.Quartic.{quartic_ring, quartic_parts}
 use Rattle.p3_field.specs.Laws.BearLaws.{bear_laws}
-use Rattle.p3_field.specs.Laws.BearField.{bear_field_laws, bear_root_laws}
-use Rattle.p3_field.specs.Laws.Interpolants.{interpolant_unique, interpolant_exists, points_apart}
+use Rattle.p3_field.specs.Laws.BearField.{bear_field_laws}
+use Rattle.p3_field.specs.Laws.Interpolants.{interpolant_unique, interpolant_exists}
 use Rattle.p3_field.specs.Laws.SubgroupSelectors.{map_table}
 use Rattle.p3_field.specs.Laws.Tables.{length-table, get_or-table, table_same, table_of_items, first_coset_point}
 use Rattle.p3_field.specs.declared.baby_bear.BabyBear.{BabyBear}
 use Rattle.p3_field.specs.declared.quartic.QuarticExtension.{QuarticExtension}
 use Rattle.p3_matrix.specs.Matrix.{Rows, FillsRows, height, row_at, cell_at, column}
 use Rattle.p3_matrix.specs.Laws.Cells.{length-column, get_or-column}
-use Rattle.p3_matrix.specs.Laws.Grids.{product_height}
 use Rattle.p3_matrix.specs.Laws.Powers.{power_cancel}
 use Rattle.p3_matrix.specs.Laws.Transposed.{length-row_at}
 use Rattle.p3_dft.specs.Transform.{values_at}
@@ -27,7 +26,8 @@ use Rattle.p3_commit.specs.declared.failure.PcsFailure.{PcsFailure}
 use Rattle.p3_commit.specs.declared.failure.PcsFailure.TheVariants.{Refused}
 use Rattle.p3_commit.specs.Commitments.{Committed, IsCommitment, IsCommitted, AreCommitted, IsEvaluated, AreParts, AreExtensions}
 use Rattle.plain_pcs.specs.Scheme.{Scheme, PlainCommitmentData}
-use Rattle.plain_pcs.specs.Extension.{columns, interpolant, evaluations, extended_domain, extension_of, commitment_of, IsCommittable, Extends}
+use Rattle.plain_pcs.specs.Extension.{columns, interpolant, extended_domain, extension_of, commitment_of, IsCommittable, Extends}
+use Rattle.plain_pcs.specs.Laws.Evaluations.{height-evaluations}
 use Rattle.plain_pcs.specs.Holding.{IsMade, AreHolding}
 use Rattle.plain_pcs.specs.Refusals.{CommitFault, ExtensionsFault}
 use Rattle.plain_pcs.specs.declared.error.PlainProverError.{PlainProverError}
@@ -36,7 +36,7 @@ use Rattle.batch_tool.specs.Plain.{AreInterpolants}
 use Rattle.batch_tool.specs.Tool.{tool}
 use Rattle.batch_tool.specs.Opening.{plain_scheme}
 use Rattle.batch_tool.specs.Committed.{interpolants, IsCommittedTo}
-use Rattle.batch_tool.proofs.Matrices.{length-row_major}
+use Rattle.batch_tool.specs.Laws.OneProof.{apart}
 
 pub single : {X : Type 0} (xs : List X) → length xs ≡ 1 → (x : X) × (xs ≡ x ∷ [])
 single [] e = absurd (omega arith)
@@ -109,28 +109,15 @@ chunk-columns vs f e tall =
     ∙ table_same (length vs) (λ i. cell_at z f i j) (λ i. get_or (quartic_parts (get_or vs i quartic_ring.zero)) j z)
     (λ i a. ap (λ (m : Rows BabyBear). cell_at z m i j) e ∙ in-pieces quartic_parts 4 (λ x. refl) vs i j quartic_ring.zero z a b))
 
--- the height of evaluations
-pub height-evaluations : (d : CosetData BabyBear) (fs : List (List BabyBear)) → 0 < length fs → height (evaluations plain_scheme.field d fs) ≡ 2 ^ d.log_size
-unfolding evaluations
-height-evaluations d fs pos =
-    let e = evaluations plain_scheme.field d fs in
-    product_height e.values (2 ^ d.log_size) (length fs) (length-row_major (2 ^ d.log_size) (length fs) _ (λ i. length-map fs _)) pos
-
 module _ (d : CosetData BabyBear) (few : d.log_size ≤ 10) (nz : d.shift ≡ bear_ring.zero → ⊥) where
-  points-differ : Apart (2 ^ d.log_size) (point bear_ring bear_root d)
-  points-differ = points_apart bear_ring bear_laws bear_inv bear_field_laws 27 bear_root bear_root_laws d (omega arith) nz
-
-  differ-along : (v : List BabyBear) → length v ≡ 2 ^ d.log_size → Apart (length v) (point bear_ring bear_root d)
-  differ-along v e = let P : ℕ → Type 0 = λ n. Apart n (point bear_ring bear_root d) in subst P (sym e) points-differ
-
   -- the interpolant is one
   pub interpolates : (v : List BabyBear) → length v ≡ 2 ^ d.log_size → IsInterpolant bear_ring (point bear_ring bear_root d) v (interpolant plain_scheme.field d v)
-  interpolates v e = interpolant_exists bear_ring bear_laws bear_inv bear_field_laws (point bear_ring bear_root d) v (differ-along v e)
+  interpolates v e = interpolant_exists bear_ring bear_laws bear_inv bear_field_laws (point bear_ring bear_root d) v (apart d few nz (length v) e)
 
   -- and there is no other
   one-interpolant : (v f : List BabyBear) → length v ≡ 2 ^ d.log_size → IsInterpolant bear_ring (point bear_ring bear_root d) v f → f ≡ interpolant plain_scheme.field d v
   one-interpolant v f e h =
-      interpolant_unique bear_ring bear_laws bear_inv bear_field_laws (point bear_ring bear_root d) v f (interpolant plain_scheme.field d v) (differ-along v e) h (interpolates v e)
+      interpolant_unique bear_ring bear_laws bear_inv bear_field_laws (point bear_ring bear_root d) v f (interpolant plain_scheme.field d v) (apart d few nz (length v) e) h (interpolates v e)
 
   -- each column has its interpolant
   pub interpolants-are : (cols : List (List BabyBear)) → All (λ l. length l ≡ 2 ^ d.log_size) cols → AreInterpolants tool.field d cols (interpolants tool.field d cols)
@@ -218,7 +205,7 @@ module _ (d : CosetData BabyBear) (few : d.log_size ≤ 10) (nz : d.shift ≡ be
           let extends = gives.each 0 l (ap (λ x. slice_get x 0) sole) (d, p) (ap (λ x. slice_get x 0) one) in
           let fs = map (interpolant plain_scheme.field d) (columns bear_ring.zero p) in
           let count : length fs ≡ p.width = length-map (columns bear_ring.zero p) (interpolant plain_scheme.field d) ∙ length-table p.width (column bear_ring.zero p) in
-          let tall : height l ≡ 2 ^ (d.log_size + 1) = ap height extends.extension_is ∙ height-evaluations (extended_domain plain_scheme d.log_size) fs (let h = can.has_columns in omega (arith, count, h)) in
+          let tall : height l ≡ 2 ^ (d.log_size + 1) = ap height extends.extension_is ∙ height-evaluations plain_scheme.field (extended_domain plain_scheme d.log_size) fs (let h = can.has_columns in omega (arith, count, h)) in
           let H : Rows BabyBear → Type 0 = λ x. (k : ℕ) × (k ≤ 27) × (height x ≡ 2 ^ k) in
           fault.lacks (subst H (the_item u l fault.item i sole fault.item_is) (d.log_size + 1, omega arith, tall))
 

@@ -12,10 +12,8 @@ pub mod IdentityLemmas
 pub mod Interpolated
 pub mod JobAnswers
 pub mod Lines
-pub mod Matrices
 pub mod Numbers
 pub mod OpenedLists
-pub mod OneText
 pub mod Patterns
 pub mod Prints
 pub mod QuotientLemmas

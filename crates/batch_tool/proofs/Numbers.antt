@@ -5,49 +5,13 @@ use Rattle.std.specs.Char.{digit_value, is_ascii_digit}
 use Rattle.std.specs.Int.{IsInRange}
 use Rattle.std.specs.Str.Parse.{digits_value, AllDigits}
 use Rattle.std.proofs.lemmas.Grind.{common_steps}
-use Rattle.std.proofs.lemmas.Fmt.{decimal_digit, decimal_is_IsNumeral, decimal-digits_value, first_decimal}
+use Rattle.std.proofs.lemmas.Fmt.{decimal_digit, decimal-digits_value, first_decimal}
 use Rattle.std.proofs.lemmas.Int.Digits.{digits_more, digits_value_more}
 use Rattle.std.proofs.lemmas.Str.{digit_value_digit}
 use Rattle.std.proofs.lemmas.Str.Parse.{digit_at, digits_value-take-le, IsNumeralModel}
-use Rattle.std.proofs.lemmas.List.{take_at, take-append-drop}
-use Rattle.std.proofs.Math.Seq.{drop-cons, get_or-append_seam}
-use Rattle.std.proofs.Math.ListN.{get_or-append}
-
--- what a text tells of its first line, where that is a number's
-pub record FirstLine (bytes : List ℕ) (n : ℕ) : Type 0 where
-  pub room : length (decimal n) < length bytes
-  pub last : get_or bytes (length (decimal n)) 0 ≡ 10
-  pub digit : (i : ℕ) → i < length (decimal n) → IsInRange 48 57 (get_or bytes i 0)
-  pub same : (i : ℕ) → i < length (decimal n) → get_or bytes i 0 ≡ get_or (decimal n) i 0
-  pub front : take (length (decimal n)) bytes ≡ decimal n
-  pub nonempty : 0 < length (decimal n)
-  pub value : digits_value 10 (decimal n) ≡ n
-
-pub first-line : (bytes rest : List ℕ) (n : ℕ) → n < 2 ^ 64 → bytes ≡ decimal n ++ 10 ∷ rest → FirstLine bytes n
-first-line bytes rest n small e =
-    let d = decimal_is_IsNumeral n small in
-    let same : (i : ℕ) → i < length (decimal n) → get_or bytes i 0 ≡ get_or (decimal n) i 0
-    = λ i k. rw e (get_or-append (decimal n) (10 ∷ rest) 0 i k) in
-    record {
-      room = rw e (grind (arith, common_steps));
-      last = rw e (get_or-append_seam (decimal n) 10 rest 0);
-      digit = λ i k. rw (same i k) (digit_at (decimal n) i d.0.1 k);
-      same = same;
-      front = rw e (take_at (decimal n) (10 ∷ rest) (length (decimal n)) refl);
-      nonempty = d.0.0;
-      value = d.1;
-    }
-
--- digits stand before the line's end
-pub before-end : (bytes : List ℕ) (n i : ℕ) → FirstLine bytes n → AllDigits 10 (take i bytes) → i ≤ length bytes → i ≤ length (decimal n)
-before-end bytes n i line digits room =
-    let k = length (decimal n) in
-    let bad : k < i → ⊥ = λ past.
-    let r : IsInRange 48 57 (get_or (take i bytes) k 0) = digit_at (take i bytes) k digits (grind (arith, common_steps)) in
-    let same : get_or (take i bytes) k 0 ≡ get_or bytes k 0 = grind (arith, common_steps) in
-    let last : get_or bytes k 0 ≡ 10 = line.last in
-    omega (arith, r, same, last) in
-    grind (arith, bad)
+use Rattle.std.proofs.lemmas.List.{take-append-drop}
+use Rattle.std.proofs.Math.Seq.{drop-cons}
+use Rattle.batch_tool.specs.Laws.Lines.{first-line, before-end}
 
 -- no number's line begins with LF
 pub not-empty : (bytes rest : List ℕ) (n : ℕ) → n < 2 ^ 64 → get_or bytes 0 0 ≡ 10 → bytes ≡ decimal n ++ 10 ∷ rest → ⊥

@@ -4,7 +4,7 @@ use Rattle.std.proofs.lemmas.List.{append-nil, take_more, map_more}
 use Rattle.std.specs.Prelude.{flat_map}
 use Rattle.std.proofs.lemmas.Grind.{flat_map-append}
 use Rattle.batch_tool.specs.Texts.{line_text, items_words}
-use Rattle.batch_tool.proofs.Lines.{line_text-append}
+use Rattle.batch_tool.specs.Laws.Lines.{line_text-append}
 
 -- one more item
 pub prints-more : {A : Type 0} (words : A → List ℕ) (xs : List A) (i : ℕ) (a : A) (front old new : List ℕ) → i < length xs → a ≡ get_or xs i a

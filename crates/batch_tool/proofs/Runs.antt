@@ -3,6 +3,7 @@ use Rattle.std.proofs.Common.{◌≡◌, ℕ, ◌<◌, ◌≤◌, List, [], ◌�
 use Rattle.std.specs.Prelude.{string_bytes, IfOk, ⊤}
 use Rattle.std.specs.Io.KnownBytes.{Consumes, Appends, IsAtEnd}
 use Rattle.std.specs.declared.alloc.AllocError.{AllocError}
+use Rattle.batch_tool.specs.Limits.{most_log_rows}
 use Rattle.batch_tool.specs.Texts.{line_text}
 use Rattle.batch_tool.specs.Job.{JobWithin, job_words}
 use Rattle.batch_tool.specs.Prove.{IsJobAnswer}
@@ -10,7 +11,6 @@ use Rattle.batch_tool.specs.Answer.{Names, IsProveAnswer, IsVerifyAnswer, IsComm
 use Rattle.batch_tool.specs.declared.command.Command.{Command}
 use Rattle.batch_tool.specs.declared.command.Command.TheVariants.{Prove, Verify}
 use Rattle.batch_tool.specs.declared.job.Job.{Job}
-use Rattle.batch_tool.specs.declared.job.TheConstants.{MOST_LOG_ROWS}
 use Rattle.batch_tool.specs.declared.top.Status.{Status}
 use Rattle.batch_tool.specs.declared.top.Status.TheVariants.{Done, Refused, Usage, BadInput, ReadFault, WriteFault, OutOfMemory, TooLarge}
 use Rattle.batch_tool.specs.FirstForm.{IsFirstForm, first_form_words}
@@ -25,7 +25,7 @@ one-word (x ∷ []) w a b e = ap (λ (t : String Global). string_bytes t ∷ [])
 one-word (x ∷ y ∷ ws) w a b e = absurd (omega arith)
 
 -- the answer to a job is the answer of `prove`
-pub prove-answers : (bytes : List ℕ) (job : Job) (status : Status) (text : List ℕ) → JobWithin MOST_LOG_ROWS job → bytes ≡ line_text (job_words job)
+pub prove-answers : (bytes : List ℕ) (job : Job) (status : Status) (text : List ℕ) → JobWithin most_log_rows job → bytes ≡ line_text (job_words job)
     → IsJobAnswer job.table status text → IsProveAnswer bytes status text
 prove-answers bytes job Done text fits e a = (job, fits, e, a)
 prove-answers bytes job Refused text fits e a = (job, fits, e, a)
@@ -36,13 +36,13 @@ prove-answers bytes job WriteFault text fits e a = (job, fits, e, a)
 prove-answers bytes job OutOfMemory text fits e a = (job, fits, e, a)
 prove-answers bytes job TooLarge text fits e a = (job, fits, e, a)
 
-pub prove-answers-ok : (bytes : List ℕ) (job : Job) (r : Result (Status × Vec ℕ Global) AllocError) → JobWithin MOST_LOG_ROWS job → bytes ≡ line_text (job_words job)
+pub prove-answers-ok : (bytes : List ℕ) (job : Job) (r : Result (Status × Vec ℕ Global) AllocError) → JobWithin most_log_rows job → bytes ≡ line_text (job_words job)
     → IfOk r (λ p. IsJobAnswer job.table p.0 p.1.items) → IfOk r (λ p. IsProveAnswer bytes p.0 p.1.items)
 prove-answers-ok bytes job (Ok p) fits e a = prove-answers bytes job p.0 p.1.items fits e a
 prove-answers-ok bytes job (Err x) fits e a = tt
 
 -- the same of `verify`
-pub verify-answers : (bytes : List ℕ) (file : FirstForm) (status : Status) (text : List ℕ) → IsFirstForm MOST_LOG_ROWS file → bytes ≡ line_text (first_form_words file)
+pub verify-answers : (bytes : List ℕ) (file : FirstForm) (status : Status) (text : List ℕ) → IsFirstForm most_log_rows file → bytes ≡ line_text (first_form_words file)
     → IsFileAnswer file status text → IsVerifyAnswer bytes status text
 verify-answers bytes file Done text fits e a = (file, fits, e, a)
 verify-answers bytes file Refused text fits e a = (file, fits, e, a)
@@ -53,7 +53,7 @@ verify-answers bytes file WriteFault text fits e a = (file, fits, e, a)
 verify-answers bytes file OutOfMemory text fits e a = (file, fits, e, a)
 verify-answers bytes file TooLarge text fits e a = (file, fits, e, a)
 
-pub verify-answers-ok : (bytes : List ℕ) (file : FirstForm) (r : Result (Status × Vec ℕ Global) AllocError) → IsFirstForm MOST_LOG_ROWS file → bytes ≡ line_text (first_form_words file)
+pub verify-answers-ok : (bytes : List ℕ) (file : FirstForm) (r : Result (Status × Vec ℕ Global) AllocError) → IsFirstForm most_log_rows file → bytes ≡ line_text (first_form_words file)
     → IfOk r (λ p. IsFileAnswer file p.0 p.1.items) → IfOk r (λ p. IsVerifyAnswer bytes p.0 p.1.items)
 verify-answers-ok bytes file (Ok p) fits e a = verify-answers bytes file p.0 p.1.items fits e a
 verify-answers-ok bytes file (Err x) fits e a = tt

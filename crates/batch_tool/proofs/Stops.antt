@@ -4,11 +4,12 @@ use Rattle.std.specs.Prelude.{IsErrAnd, decimal, All}
 use Rattle.std.proofs.lemmas.List.{append-nil}
 use Rattle.std.proofs.lemmas.Grind.{common_steps, flat_map-append}
 use Rattle.std.proofs.lemmas.List.Elements.{All-append, All-replicate}
-use Rattle.batch_tool.specs.Texts.{line_text, Reads, Stops, Between, Grammar, number_words, items_words, ItemsWithin, list_words, ListWithin, OptionWithin, option_words, ReadsOne, ReadsList}
+use Rattle.batch_tool.specs.Texts.{line_text, Reads, Stops, Between, Grammar, number_words, items_words, ItemsWithin, list_words, ListWithin, OptionWithin, option_words, ReadsOne, ReadsKnown, ReadsList}
 use Rattle.batch_tool.specs.Laws.Grammars.{head-same, tail-same, zero-not-one, PairWithin, ThenWithin, pair_words, SameTexts, number-grammar, items-grammar, same-list, whole-words}
 use Rattle.batch_tool.specs.declared.texts.ItemError.{ItemError}
 use Rattle.batch_tool.specs.declared.texts.ItemError.TheVariants.{Malformed}
-use Rattle.batch_tool.proofs.Lines.{lines-more, same-line}
+use Rattle.batch_tool.specs.Laws.Lines.{same-line}
+use Rattle.batch_tool.proofs.Lines.{lines-more}
 
 -- an error that is handed on
 pub handed-on : {A : Type 0} (within : A → Type 0) (words : A → List ℕ) (old new : List ℕ) (r : Result A ItemError) (e : ItemError)
@@ -20,6 +21,12 @@ pub list-handed-on : {A : Type 0} (within : List A → Type 0) (words : List A �
     → IsErrAnd r (λ x. x ≡ e) → (e ≡ Malformed → Stops within words old new) → ReadsList within words old new r
 list-handed-on within words old new (Ok v) e h s = absurd h
 list-handed-on within words old new (Err x) e h s = λ m. s (sym h ∙ m)
+
+-- the same of a call that takes no memory
+pub known-handed-on : {A : Type 0} (within : A → Type 0) (words : A → List ℕ) (old new : List ℕ) (r : Result A ItemError) (e : ItemError)
+    → IsErrAnd r (λ x. x ≡ e) → e ≡ Malformed → Stops within words old new → ReadsKnown within words old new r
+known-handed-on within words old new (Ok v) e h m s = absurd h
+known-handed-on within words old new (Err x) e h m s = (h ∙ m, s)
 
 -- no line of a number in the range
 pub number-stops : (least most : ℕ) (bytes : List ℕ) → least ≤ most

@@ -1,6 +1,7 @@
 -- What a run answers.
-use Rattle.std.specs.Prelude.{◌≡◌, ◌≤◌, ◌<◌, ℕ, List, [], ◌∷◌, length, take, codes, Option}
+use Rattle.std.specs.Prelude.{◌≡◌, ◌≤◌, ◌<◌, ◌+◌, ℕ, List, [], ◌∷◌, length, take, codes, Option}
 use Rattle.std.specs.Io.KnownBytes.{Consumes, Appends, IsAtEnd}
+use Rattle.batch_tool.specs.Limits.{most_log_rows}
 use Rattle.batch_tool.specs.Texts.{line_text}
 use Rattle.batch_tool.specs.WholeText.{IsNoText}
 use Rattle.batch_tool.specs.Job.{JobWithin, job_words}
@@ -11,7 +12,6 @@ use Rattle.batch_tool.specs.declared.first_form.FirstForm.{FirstForm}
 use Rattle.batch_tool.specs.declared.command.Command.{Command}
 use Rattle.batch_tool.specs.declared.command.Command.TheVariants.{Prove, Verify}
 use Rattle.batch_tool.specs.declared.job.Job.{Job}
-use Rattle.batch_tool.specs.declared.job.TheConstants.{MOST_LOG_ROWS}
 use Rattle.batch_tool.specs.declared.top.Status.{Status}
 use Rattle.batch_tool.specs.declared.top.Status.TheVariants.{Done, Refused, Usage, BadInput, ReadFault, WriteFault, OutOfMemory, TooLarge}
 
@@ -26,13 +26,13 @@ NamesSome words = (command : Command) × Names words command
 
 -- the status and the text of `prove` for all the bytes of an input
 abbrev pub IsProveAnswer : List ℕ → Status → List ℕ → Type 0
-IsProveAnswer bytes BadInput text = IsNoText (JobWithin MOST_LOG_ROWS) job_words bytes × (text ≡ codes "bad input\n")
-IsProveAnswer bytes status text = (job : Job) × JobWithin MOST_LOG_ROWS job × (bytes ≡ line_text (job_words job)) × IsJobAnswer job.table status text
+IsProveAnswer bytes BadInput text = IsNoText (JobWithin most_log_rows) job_words bytes × (text ≡ codes "bad input\n")
+IsProveAnswer bytes status text = (job : Job) × JobWithin most_log_rows job × (bytes ≡ line_text (job_words job)) × IsJobAnswer job.table status text
 
 -- the status and the text of `verify` for all the bytes of an input
 abbrev pub IsVerifyAnswer : List ℕ → Status → List ℕ → Type 0
-IsVerifyAnswer bytes BadInput text = IsNoText (IsFirstForm MOST_LOG_ROWS) first_form_words bytes × (text ≡ codes "bad input\n")
-IsVerifyAnswer bytes status text = (file : FirstForm) × IsFirstForm MOST_LOG_ROWS file × (bytes ≡ line_text (first_form_words file)) × IsFileAnswer file status text
+IsVerifyAnswer bytes BadInput text = IsNoText (IsFirstForm most_log_rows) first_form_words bytes × (text ≡ codes "bad input\n")
+IsVerifyAnswer bytes status text = (file : FirstForm) × IsFirstForm most_log_rows file × (bytes ≡ line_text (first_form_words file)) × IsFileAnswer file status text
 
 -- the status and the text of a command for all the bytes of an input
 abbrev pub IsCommandAnswer : Command → List ℕ → Status → List ℕ → Type 0
@@ -54,11 +54,12 @@ Answers most words read ended status text = ended × (length read ≤ most) × I
 abbrev pub IsCutShort : List ℕ → List ℕ → Type 0
 IsCutShort written text = (n : ℕ) × (n < length text) × (written ≡ take n text)
 
--- What a run did that read these bytes and wrote those, by its status: in every case but four the whole text was written.
+-- What a run did that read these bytes and wrote those, by its status: in every case but four the whole text was written. No run reads
+-- more than one byte above the most.
 abbrev pub IsOutcome : (most : ℕ) (words : List (List ℕ)) (read : List ℕ) (ended : Type 0) (written : List ℕ) → Status → Type 0
 IsOutcome most words read ended written ReadFault = NamesSome words × (length read ≤ most) × (written ≡ [])
-IsOutcome most words read ended written OutOfMemory = NamesSome words × (written ≡ [])
-IsOutcome most words read ended written TooLarge = NamesSome words × (most < length read) × (written ≡ [])
+IsOutcome most words read ended written OutOfMemory = NamesSome words × (length read ≤ most + 1) × (written ≡ [])
+IsOutcome most words read ended written TooLarge = NamesSome words × (length read ≡ most + 1) × (written ≡ [])
 IsOutcome most words read ended written WriteFault = (status : Status) × (text : List ℕ) × Answers most words read ended status text × IsCutShort written text
 IsOutcome most words read ended written status = Answers most words read ended status written
 

@@ -72,14 +72,6 @@ instance_label s = eight_bytes (length s.trace_widths) ++ flat_map eight_bytes s
 unfoldable pub separator : ℕ → BatchShape → Separator
 separator dimension s = record { version = 1; name = codes "p3-batch-stark"; steps = pattern dimension s; instance = instance_label s }
 
--- the base elements that the values of a statement and a proof are observed as: per instance the degree bits and the public values
-pub record BatchValues (F : Type 0) : Type 0 where
-  pub degree_bits : List (List F)
-  pub main : List F
-  pub publics : List (List F)
-  pub quotient : List F
-  pub ood_witness : F
-
 abbrev pub with_value : {F : Type 0} → Interaction → List F → Played F
 with_value step value = record { step = step; value = value }
 
@@ -100,8 +92,3 @@ abbrev pub script_from_grinding : {F : Type 0} → ℕ → ℕ → F → List (P
 script_from_grinding dimension bits witness =
     with_value (ood_pow_step bits) (witness ∷ []) ∷ with_value (zeta_step dimension) []
     ∷ with_value (opening_step Begin) [] ∷ with_value (opening_step End) [] ∷ []
-
--- the whole script of a statement and a proof
-abbrev pub script : {F : Type 0} → ℕ → ℕ → BatchValues F → List (Played F)
-script dimension bits v =
-    script_to_alpha dimension v.degree_bits v.main v.publics ++ script_of_quotient v.quotient ++ script_from_grinding dimension bits v.ood_witness

@@ -1,5 +1,5 @@
 -- Counts of faults.
-use Rattle.std.specs.Prelude.{ℕ, ◌+◌, ◌-◌, ◌^◌, ◌<◌, ◌≤◌, min, Result, OnErr}
+use Rattle.std.specs.Prelude.{◌≡◌, ℕ, ◌+◌, ◌-◌, ◌^◌, ◌<◌, ◌≤◌, min, Result, Ok, Err, OnErr, IsErrAnd, ⊤}
 
 -- a count after one more fault: it stops at its last value
 abbrev pub next_count : ℕ → ℕ
@@ -14,3 +14,12 @@ pub record HasCause {T E : Type 0} (before now : ℕ) (result : Result T E) : Ty
   pub later : before ≤ now
   pub failed : OnErr result (Rose before now)
   pub bounded : now < 2 ^ 64
+
+-- a call fails, and counts one more fault
+abbrev pub Fails : {X : Type 0} → (before now : ℕ) → Result ℕ X → Type 0
+Fails before now result = IsErrAnd result (λ _. ⊤) × (now ≡ next_count before)
+
+-- what a call answers where a stream below it gives this, and how the count moves: a number of at least `least` is the answer
+abbrev pub IsCounted : {E X : Type 0} → Result ℕ E → (least before now : ℕ) → Result ℕ X → Type 0
+IsCounted (Ok n) least before now result = (least ≤ n → (result ≡ Ok n) × (now ≡ before)) × (n < least → Fails before now result)
+IsCounted (Err e) least before now result = Fails before now result

@@ -3,3 +3,6 @@ pub mod FirstForms
 pub mod FixedParts
 pub mod Grammars
 pub mod Jobs
+pub mod Lines
+pub mod OneAnswer
+pub mod OneProof

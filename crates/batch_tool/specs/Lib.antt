@@ -9,6 +9,7 @@ pub mod Fixed
 pub mod Honest
 pub mod Job
 pub mod Laws
+pub mod Limits
 pub mod Memory
 pub mod Opening
 pub mod Plain

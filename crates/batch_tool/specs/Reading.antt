@@ -1,8 +1,10 @@
 -- Reading a committed table at a point.
-use Rattle.std.specs.Prelude.{List, [], map}
+use Rattle.std.specs.Prelude.{ℕ, ◌+◌, ◌%◌, List, [], map, get_or}
+use Rattle.p3_field.specs.Ring.{Ring, sub}
 use Rattle.p3_field.specs.Field.{TwoAdic, Extension}
 use Rattle.p3_field.specs.Poly.{val_in}
 use Rattle.p3_field.specs.Domain.{CosetData, first_selector, last_selector, transition_selector}
+use Rattle.p3_matrix.specs.Matrix.{Rows, height, row_at}
 use Rattle.p3_air.specs.Tree.{Reading}
 use Rattle.p3_uni_stark.specs.Point.{PointValues, reading as reading_of}
 
@@ -32,3 +34,18 @@ opened_at e fs x = map (λ f. val_in e f x) fs
 -- the reading of constraints at x where the columns are the values of these polynomials: the next point is h x
 abbrev pub reading : {F E : Type 0} → TwoAdic F → Extension F E → CosetData F → List (List F) → List F → E → Reading F E
 reading t e d columns publics x = reading_with t e d (opened_at e columns x) (opened_at e columns (e.ring.mul (e.embed (t.root d.log_size)) x)) publics x
+
+-- what constraints read at point i of a domain, the value x, where rows list the columns' values there and first_row the first row's
+-- selector's: the next row stands at the next point, and the last row's selector is the generator times the first row's there
+abbrev pub values_at_point : {F : Type 0} → Ring F → Rows F → (first_row publics : List F) → (generator inverse : F) → ℕ → F → PointValues F F
+values_at_point r columns first_row publics generator inverse i x = let next = (i + 1) % height columns in record {
+  main_local = row_at columns i;
+  main_next = row_at columns next;
+  preprocessed_local = [];
+  preprocessed_next = [];
+  periodic = [];
+  public = publics;
+  first_row = get_or first_row i r.zero;
+  last_row = r.mul generator (get_or first_row next r.zero);
+  transition = sub r x inverse;
+}

@@ -87,6 +87,10 @@ pub record Stops {A : Type 0} (within : A → Type 0) (words : A → List ℕ) (
 abbrev pub ReadsOne : {A : Type 0} (within : A → Type 0) (words : A → List ℕ) (old new : List ℕ) → Result A ItemError → Type 0
 ReadsOne within words old new result = MatchResult result (λ v. Reads within words old new v) (λ e. e ≡ Malformed → Stops within words old new)
 
--- the same of a list that the call gives in a `Vec`
+-- the same of a call that takes no memory: its one error is `Malformed`
+abbrev pub ReadsKnown : {A : Type 0} (within : A → Type 0) (words : A → List ℕ) (old new : List ℕ) → Result A ItemError → Type 0
+ReadsKnown within words old new result = MatchResult result (λ v. Reads within words old new v) (λ e. (e ≡ Malformed) × Stops within words old new)
+
+-- what `ReadsOne` says, of a list that the call gives in a `Vec`
 abbrev pub ReadsList : {A : Type 0} (within : List A → Type 0) (words : List A → List ℕ) (old new : List ℕ) → Result (Vec A Global) ItemError → Type 0
 ReadsList within words old new result = MatchResult result (λ v. Reads within words old new v.items) (λ e. e ≡ Malformed → Stops within words old new)

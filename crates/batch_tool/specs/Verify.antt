@@ -95,7 +95,7 @@ module _ {S F E : Type 0} (c : Configuration S F E) (table' : Instance F) (p : P
   claimed zero (suc at) = next_opened p.instances
   claimed (suc round) at = chunk_opened p.instances
 
-  -- what holds where a check doesn't fail
+  -- what holds where a check doesn't fail; the number of bits is the configuration's, which the refusal only repeats
   abbrev pub Meets : Refusal → Type 0
   Meets (OodPowWitness bits) = witness_passes c table' (main_of p) (quotient_of p) p.ood_pow_witness ≡ true
   -- no list of checks has these two

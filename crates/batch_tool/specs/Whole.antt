@@ -1,16 +1,17 @@
 -- An input read to its end, and a text written whole.
-use Rattle.std.specs.Prelude.{◌≡◌, ℕ, ◌<◌, ◌≤◌, List, length, take, Option, Result, MatchResult, Vec, Ok, Err, ⊤}
+use Rattle.std.specs.Prelude.{◌≡◌, ℕ, ◌+◌, ◌<◌, ◌≤◌, List, length, take, Option, Result, MatchResult, Vec, Ok, Err}
 use Rattle.std.specs.Io.KnownBytes.{Consumes, Appends, IsAtEnd}
 use Rattle.std.specs.declared.alloc.Global.{Global}
 use Rattle.batch_tool.specs.declared.ends.InputError.{InputError}
 use Rattle.batch_tool.specs.declared.ends.InputError.TheVariants.{ReadFault, TooLarge, OutOfMemory}
 
--- what a read answers by the bytes that it took: all of them at the input's end, and `TooLarge` exactly where they are more than the most
+-- what a read answers by the bytes that it took, never more than one above the most: all of them at the input's end, and `TooLarge`
+-- exactly where they are one more than the most
 abbrev pub AnswersTaken : (most : ℕ) (taken : List ℕ) (ended : Type 0) → Result (Vec ℕ Global) InputError → Type 0
 AnswersTaken most taken ended (Ok v) = (v.items ≡ taken) × (length taken ≤ most) × ended
 AnswersTaken most taken ended (Err ReadFault) = length taken ≤ most
-AnswersTaken most taken ended (Err TooLarge) = most < length taken
-AnswersTaken most taken ended (Err OutOfMemory) = ⊤
+AnswersTaken most taken ended (Err TooLarge) = length taken ≡ most + 1
+AnswersTaken most taken ended (Err OutOfMemory) = length taken ≤ most + 1
 
 -- what a read to the end took of the bytes that were left, and what it answers
 pub record ReadsWhole (most : ℕ) (old new : Option (List ℕ)) (result : Result (Vec ℕ Global) InputError) : Type 0 where

@@ -1,8 +1,9 @@
-// The commands that a program's words name.
+//! The commands that a program's words name.
+
 ghost use Rattle.std.specs.Prelude.{map, string_bytes, MatchOption};
 ghost use Rattle.batch_tool.specs.Answer.{Names};
 
-/// What the program is to do.
+/// What the program is to do (own).
 #[derive(Clone, Copy, Debug, PartialEq, Eq)]
 pub enum Command {
     /// `prove`: reads a job, and writes its proof.

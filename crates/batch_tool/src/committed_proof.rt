@@ -14,15 +14,15 @@ use std::marker::Model;
 /// Clauses see it as the batch proof that a `TableProof` is.
 #[derive(Drop)]
 pub struct CommittedProof {
-    /// The commitment to the trace.
+    /// The commitment to the trace: one matrix, 2^(degree_bits + 1) rows by 2 columns.
     pub main: PlainCommitment<BabyBear>,
-    /// The commitment to the quotient chunk.
+    /// The commitment to the quotient chunk: one matrix, 2^(degree_bits + 1) rows by 4 columns.
     pub quotient_chunk: PlainCommitment<BabyBear>,
-    /// The trace columns' values at zeta.
+    /// The trace columns' values at zeta: two values.
     pub trace_local: Vec<QuarticExtension>,
-    /// The trace columns' values at the point after zeta.
+    /// The trace columns' values at the point after zeta: two values.
     pub trace_next: Vec<QuarticExtension>,
-    /// The quotient columns' values at zeta.
+    /// The quotient columns' values at zeta: four values.
     pub chunk_values: Vec<QuarticExtension>,
     /// The base-2 logarithm of the table's height.
     pub degree_bits: u8,

@@ -1,4 +1,5 @@
-// The ends: where a program's bytes come from, and where its text goes.
+//! The ends: where a program's bytes come from, and where its text goes.
+
 ghost use Rattle.std.specs.Prelude.{◌≡◌, ◌<◌, List, ℕ, Option, length, IfOk};
 ghost use Rattle.std.specs.Io.{ReadsAtMost, WritesAtMost};
 ghost use Rattle.std.specs.Io.KnownBytes.{ReadConsumes, WriteAppends};
@@ -31,7 +32,7 @@ impl From<AllocError> for InputError {
     }
 }
 
-/// Where bytes come from.
+/// Where bytes come from (own).
 pub trait Source {
     /// The bytes that are left, where the source tells them.
     ghost left: { Self → Option (List ℕ) };
@@ -50,7 +51,7 @@ pub trait Source {
         ensures cause { HasCause (faults self.old) (faults self.new) result };
 }
 
-/// Where a text goes.
+/// Where a text goes (own).
 pub trait Sink {
     /// The bytes that were written, where the sink tells them.
     ghost written: { Self → Option (List ℕ) };

@@ -1,5 +1,7 @@
-// Proof files of the first form: one swap table, and a proof with the shape of an honest one.
+//! Proof files of the first form: one swap table, and a proof with the shape of an honest one.
+
 ghost use Rattle.std.specs.Prelude.{◌≡◌, ◌≤◌, ◌+◌, ◌^◌};
+ghost use Rattle.batch_tool.specs.Limits.{most_log_rows};
 ghost use Rattle.batch_tool.specs.Texts.{ReadsOne};
 ghost use Rattle.batch_tool.specs.WholeText.{ReadsText};
 ghost use Rattle.batch_tool.specs.ProofFile.{proof_words};
@@ -12,9 +14,9 @@ use crate::parse::{TextError, read_text};
 use crate::proof::TableProof;
 use crate::proof_file::{print_numbers, print_proof};
 use crate::texts::{ItemError, Reader, push_number};
-use p3_field::BabyBear;
+use p3_field::{BabyBear, Mem};
 use p3_matrix::RowMajorMatrix;
-use std::alloc::{AllocError, Global};
+use std::alloc::Global;
 
 #[cfg(test)]
 mod tests;
@@ -22,9 +24,13 @@ mod tests;
 /// The statement of a swap table of 2^`log_rows` rows: its first row (a, b), and the right cell x of its last row.
 #[derive(Clone, Copy, Debug, PartialEq, Eq)]
 pub struct SwapStatement {
+    /// The base-2 logarithm of the rows, 0 to [`MOST_LOG_ROWS`].
     pub log_rows: u8,
+    /// The left cell of the first row.
     pub a: BabyBear,
+    /// The right cell of the first row.
     pub b: BabyBear,
+    /// The right cell of the last row, as it is claimed.
     pub x: BabyBear,
 }
 
@@ -55,7 +61,7 @@ impl Item for SwapStatement {
         })
     }
 
-    fn print(&self, out: &mut Vec<u8>) -> Result<(), AllocError> {
+    fn print(&self, out: &mut Vec<u8>) -> Mem<()> {
         push_number(out, SWAP_TAG as u64)?;
         push_number(out, self.log_rows as u64)?;
         self.a.print(out)?;
@@ -108,7 +114,9 @@ fn read_proof(alloc: Global, reader: &mut Reader, log_rows: u8) -> Result<TableP
 /// A proof file of version 1 with one swap table, whose proof has the shape of an honest one.
 #[derive(Drop)]
 pub struct FirstForm {
+    /// What is claimed.
     pub statement: SwapStatement,
+    /// The proof of it.
     pub proof: TableProof,
 }
 
@@ -133,7 +141,7 @@ impl Item for FirstForm {
     }
 
     #[tactic(auto, unfolding(crate::specs::ProofFile::file_words))]
-    fn print(&self, out: &mut Vec<u8>) -> Result<(), AllocError> {
+    fn print(&self, out: &mut Vec<u8>) -> Mem<()> {
         print_numbers(&[1, 1], out)?;
         self.statement.print(out)?;
         print_proof(&self.proof, out)
@@ -144,7 +152,7 @@ impl Item for FirstForm {
 ///
 /// It is `Malformed` exactly where they are no such file's text.
 pub fn read_first_form(alloc: Global, bytes: &[u8]) -> Result<FirstForm, TextError>
-    ensures { ReadsText (IsFirstForm MOST_LOG_ROWS) first_form_words bytes.now result }
+    ensures { ReadsText (IsFirstForm most_log_rows) first_form_words bytes.now result }
 {
     read_text(alloc, bytes)
 }

@@ -1,5 +1,6 @@
-// Reading parts of a text that the caller knows: numbers that are always the same, and lists whose length no line tells.
-ghost use Rattle.batch_tool.specs.Texts.{ReadsOne, ReadsList, ItemsWithin, Unlimited};
+//! Reading parts of a text that the caller knows: numbers that are always the same, and lists whose length no line tells.
+
+ghost use Rattle.batch_tool.specs.Texts.{ReadsKnown, ReadsList, ItemsWithin, Unlimited};
 ghost use Rattle.batch_tool.specs.Fixed.{fixed_words, headed_words};
 
 use crate::items::{Item, read_items};
@@ -10,7 +11,7 @@ use std::alloc::Global;
 ///
 /// It is `Malformed` exactly where the text's front is not their lines.
 pub fn read_fixed(reader: &mut Reader, numbers: &[u32]) -> Result<(), ItemError>
-    ensures { ReadsOne Unlimited (fixed_words numbers.now) reader.old reader.new result }
+    ensures { ReadsKnown Unlimited (fixed_words numbers.now) reader.old reader.new result }
 {
     for number in numbers {
         reader.number(*number, *number)?;

@@ -1,15 +1,16 @@
-// What texts are made of: values with one text each, lists of them, and values that may be absent.
+//! What texts are made of: values with one text each, lists of them, and values that may be absent.
+
 ghost use Rattle.std.specs.Prelude.{◌≡◌, ◌≤◌, ◌++◌, List, ℕ, OnOk};
 ghost use Rattle.batch_tool.specs.Texts.{ReadsOne, ReadsList, ItemsWithin, items_words, ListWithin, list_words, OptionWithin, option_words, line_text, Grammar};
 
 use crate::texts::{ItemError, Reader, push_number};
-use p3_field::{BabyBear, PrimeCore64, QuarticExtension, RingCore};
-use std::alloc::{AllocError, Global};
+use p3_field::{BabyBear, Mem, PrimeCore64, QuarticExtension, RingCore};
+use std::alloc::Global;
 
 /// The greatest canonical number of a [`BabyBear`].
 const LAST_ELEMENT: u32 = 2_013_265_920;
 
-/// A value with one text.
+/// A value with one text (own).
 pub trait Item: Drop {
     /// The values within the limits.
     ghost within: { Self → Type 0 };
@@ -24,7 +25,7 @@ pub trait Item: Drop {
         ensures { ReadsOne within words reader.old reader.new result };
 
     /// Prints the value's lines. On an error a part of them may stand.
-    fn print(&self, out: &mut Vec<u8>) -> Result<(), AllocError>
+    fn print(&self, out: &mut Vec<u8>) -> Mem<()>
         ensures { OnOk result (out.new.items ≡ out.old.items ++ line_text (words self.now)) };
 
     /// The lines of a value tell the value, and where they end.
@@ -47,7 +48,7 @@ impl Item for BabyBear {
         Ok(BabyBear::from_u64(value as u64))
     }
 
-    fn print(&self, out: &mut Vec<u8>) -> Result<(), AllocError> {
+    fn print(&self, out: &mut Vec<u8>) -> Mem<()> {
         push_number(out, self.as_canonical_u64())
     }
 }
@@ -71,7 +72,7 @@ impl Item for QuarticExtension {
         Ok(QuarticExtension { c0, c1, c2, c3 })
     }
 
-    fn print(&self, out: &mut Vec<u8>) -> Result<(), AllocError> {
+    fn print(&self, out: &mut Vec<u8>) -> Mem<()> {
         self.c0.print(out)?;
         self.c1.print(out)?;
         self.c2.print(out)?;
@@ -97,7 +98,7 @@ pub fn read_items<T: Item>(
 }
 
 /// Prints values, one after the other. On an error a part of them may stand.
-pub fn print_items<T: Item>(items: &[T], out: &mut Vec<u8>) -> Result<(), AllocError>
+pub fn print_items<T: Item>(items: &[T], out: &mut Vec<u8>) -> Mem<()>
     ensures { OnOk result (out.new.items ≡ out.old.items ++ line_text (items_words T.words items.now)) }
 {
     for item in items {
@@ -123,7 +124,7 @@ pub fn read_list<T: Item>(
 }
 
 /// Prints a list: the line of its count, and the values. On an error a part of them may stand.
-pub fn print_list<T: Item>(items: &[T], out: &mut Vec<u8>) -> Result<(), AllocError>
+pub fn print_list<T: Item>(items: &[T], out: &mut Vec<u8>) -> Mem<()>
     ensures { OnOk result (out.new.items ≡ out.old.items ++ line_text (list_words T.words items.now)) }
 {
     push_number(out, items.len() as u64)?;
@@ -144,7 +145,7 @@ pub fn read_option<T: Item>(alloc: Global, reader: &mut Reader) -> Result<Option
 }
 
 /// Prints a value that may be absent. On an error a part of its lines may stand.
-pub fn print_option<T: Item>(value: &Option<T>, out: &mut Vec<u8>) -> Result<(), AllocError>
+pub fn print_option<T: Item>(value: &Option<T>, out: &mut Vec<u8>) -> Mem<()>
     ensures { OnOk result (out.new.items ≡ out.old.items ++ line_text (option_words T.words value.now)) }
 {
     match value {

@@ -1,14 +1,16 @@
-// Jobs: the tables that are to be proved.
+//! Jobs: the tables that are to be proved.
+
 ghost use Rattle.std.specs.Prelude.{◌≡◌};
 ghost use Rattle.batch_tool.specs.WholeText.{ReadsText};
 ghost use Rattle.batch_tool.specs.Job.{JobWithin, job_words};
+ghost use Rattle.batch_tool.specs.Limits.{most_log_rows};
 ghost use Rattle.batch_tool.specs.Swap.{last_right};
 
 use crate::items::Item;
 use crate::parse::{TextError, read_text};
 use crate::texts::{ItemError, Reader, push_number};
-use p3_field::BabyBear;
-use std::alloc::{AllocError, Global};
+use p3_field::{BabyBear, Mem};
+use std::alloc::Global;
 
 /// The most that the base-2 logarithm of a table's rows may be.
 pub const MOST_LOG_ROWS: u32 = 10;
@@ -22,8 +24,11 @@ const TABLES: u32 = 1;
 /// A swap table: 2^`log_rows` rows of two cells, (a, b) in the rows of even number and (b, a) in those of odd number.
 #[derive(Clone, Copy, Debug, PartialEq, Eq)]
 pub struct SwapTable {
+    /// The base-2 logarithm of the rows, 0 to [`MOST_LOG_ROWS`].
     pub log_rows: u8,
+    /// The left cell of the first row.
     pub a: BabyBear,
+    /// The right cell of the first row.
     pub b: BabyBear,
 }
 
@@ -68,7 +73,7 @@ impl Item for SwapTable {
         })
     }
 
-    fn print(&self, out: &mut Vec<u8>) -> Result<(), AllocError> {
+    fn print(&self, out: &mut Vec<u8>) -> Mem<()> {
         push_number(out, SWAP_TAG as u64)?;
         push_number(out, self.log_rows as u64)?;
         self.a.print(out)?;
@@ -79,6 +84,7 @@ impl Item for SwapTable {
 /// A job: one swap table.
 #[derive(Clone, Copy, Debug, PartialEq, Eq)]
 pub struct Job {
+    /// The table.
     pub table: SwapTable,
 }
 
@@ -101,7 +107,7 @@ impl Item for Job {
         Ok(Job { table })
     }
 
-    fn print(&self, out: &mut Vec<u8>) -> Result<(), AllocError> {
+    fn print(&self, out: &mut Vec<u8>) -> Mem<()> {
         push_number(out, TABLES as u64)?;
         self.table.print(out)
     }
@@ -111,7 +117,7 @@ impl Item for Job {
 ///
 /// It is `Malformed` exactly where they are no job's text.
 pub fn read_job(alloc: Global, bytes: &[u8]) -> Result<Job, TextError>
-    ensures { ReadsText (JobWithin MOST_LOG_ROWS) job_words bytes.now result }
+    ensures { ReadsText (JobWithin most_log_rows) job_words bytes.now result }
 {
     read_text(alloc, bytes)
 }

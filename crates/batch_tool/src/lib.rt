@@ -1,4 +1,4 @@
-//! The program's layers: its ends, its texts, its prover and its top call.
+//! The program's layers: its ends, its texts, its prover, its verifier and its top call.
 #![tactic(auto)]
 
 mod command;

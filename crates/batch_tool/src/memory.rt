@@ -1,4 +1,5 @@
-// Ends in memory, which fail at the listed calls.
+//! Ends in memory, which fail at the listed calls.
+
 ghost use Rattle.std.specs.Prelude.{◌≡◌, ◌<◌, [], length, IfOk};
 ghost use Rattle.std.specs.Io.{ReadsAtMost, WritesAtMost};
 ghost use Rattle.std.specs.Io.KnownBytes.{ReadConsumes, WriteAppends};
@@ -6,10 +7,11 @@ ghost use Rattle.batch_tool.specs.Causes.{HasCause};
 ghost use Rattle.batch_tool.specs.Memory.{ReadsMemory, WritesMemory};
 
 use crate::ends::{Failed, Sink, Source};
-use std::alloc::{AllocError, Global};
+use p3_field::Mem;
+use std::alloc::Global;
 use std::marker::Model;
 
-/// A source of bytes in memory, which tells them, and fails at the listed calls.
+/// A source of bytes in memory, which tells them, and fails at the listed calls (own).
 #[derive(Drop)]
 pub struct MemorySource {
     bytes: Vec<u8>,
@@ -73,7 +75,7 @@ impl Source for MemorySource {
     }
 }
 
-/// A sink in memory, which tells what was written, and fails at the listed calls.
+/// A sink in memory, which tells what was written, and fails at the listed calls (own).
 #[derive(Drop)]
 pub struct MemorySink {
     bytes: Vec<u8>,
@@ -100,12 +102,7 @@ impl MemorySink {
     ///
     /// Of its calls of `write`, counted from 0, those in `failing` fail, and so do those that could take nothing;
     /// each counts a fault.
-    pub fn new(
-        alloc: Global,
-        room: usize,
-        most: usize,
-        failing: Vec<u64>,
-    ) -> Result<Self, AllocError>
+    pub fn new(alloc: Global, room: usize, most: usize, failing: Vec<u64>) -> Mem<Self>
         ensures { IfOk result (λ s. s ≡ record { written = []; room = room; most = most; failing = failing.items; calls = 0; faults = 0 }) }
     {
         Ok(MemorySink {

@@ -18,11 +18,11 @@ use std::alloc::{AllocError, Global};
 /// The opened values of a proof.
 #[derive(Drop)]
 pub struct ProofValues {
-    /// The trace columns' values at zeta.
+    /// The trace columns' values at zeta: two values.
     pub trace_local: Vec<QuarticExtension>,
-    /// The trace columns' values at the point after zeta.
+    /// The trace columns' values at the point after zeta: two values.
     pub trace_next: Vec<QuarticExtension>,
-    /// The quotient columns' values at zeta.
+    /// The quotient columns' values at zeta: four values.
     pub chunk_values: Vec<QuarticExtension>,
 }
 
@@ -99,6 +99,7 @@ pub fn open_committed(
         → (o.trace_local.items ≡ map (λ f. val_in tool.extension f zeta) fs) × (o.trace_next.items ≡ map (λ f. val_in tool.extension f next_point) fs)) }
     ensures quotient { IfOk result (λ o. (k : ℕ) (fs : List (List BabyBear)) → IsCommittedTo k fs quotient.now.commitment quotient.now.kept
         → o.chunk_values.items ≡ map (λ f. val_in tool.extension f zeta) fs) }
+    ensures challenger { challenger.new ≡ challenger.old }
 {
     let requests = opening_requests(alloc, main, quotient, zeta, next_point)?;
     match <Scheme as Pcs<QuarticExtension, Sha256Challenger>>::open(

@@ -65,13 +65,14 @@ pub fn quotient_claim(
     claim_on(alloc, quotient_domain(log_rows), chunk, points)
 }
 
-/// The first fault that the scheme's verifier finds with claims, or None.
+/// The first fault that the scheme's verifier finds with claims, or None. It fails only for want of memory.
 pub fn opening_fault(
     alloc: Global,
     claims: Vec<Claim>,
     challenger: &mut Sha256Challenger,
 ) -> Mem<Option<PlainError>>
-    ensures { IfOk result (λ o. MatchOption o (Opens plain_scheme quartic_ring of_bear_value claims.items) (Fault plain_scheme quartic_ring of_bear_value claims.items)) }
+    ensures fault { IfOk result (λ o. MatchOption o (Opens plain_scheme quartic_ring of_bear_value claims.items) (Fault plain_scheme quartic_ring of_bear_value claims.items)) }
+    ensures challenger { challenger.new ≡ challenger.old }
 {
     let verified = <Scheme as Pcs<QuarticExtension, Sha256Challenger>>::verify(
         &scheme(),

@@ -1,4 +1,5 @@
-// A whole text, from its first byte to its last.
+//! A whole text, from its first byte to its last.
+
 ghost use Rattle.std.specs.Prelude.{◌≡◌, ◌+◌, ◌==◌, count_by};
 ghost use Rattle.batch_tool.specs.WholeText.{ReadsText};
 

@@ -12,19 +12,20 @@ use std::marker::Model;
 /// Clauses see it as a batch proof, in which all that such a batch lacks is absent or empty.
 #[derive(Drop)]
 pub struct TableProof {
-    /// The commitment to the trace: the values of its two columns' interpolants.
+    /// The commitment to the trace: the values of its two columns' interpolants, 2^(degree_bits + 1) rows by 2 columns.
     pub main: RowMajorMatrix<BabyBear>,
-    /// The commitment to the quotient chunk: the values of its four coefficient columns.
+    /// The commitment to the quotient chunk: the values of its four coefficient columns' interpolants,
+    /// 2^(degree_bits + 1) rows by 4 columns.
     pub quotient_chunk: RowMajorMatrix<BabyBear>,
-    /// The trace columns' values at zeta.
+    /// The trace columns' values at zeta: two values.
     pub trace_local: Vec<QuarticExtension>,
-    /// The trace columns' values at the point after zeta.
+    /// The trace columns' values at the point after zeta: two values.
     pub trace_next: Vec<QuarticExtension>,
-    /// The quotient columns' values at zeta.
+    /// The quotient columns' values at zeta: four values.
     pub chunk_values: Vec<QuarticExtension>,
     /// The base-2 logarithm of the table's height.
     pub degree_bits: u8,
-    /// The grinding value before zeta.
+    /// The grinding value before zeta, four bits of grinding.
     pub ood_pow_witness: BabyBear,
 }
 

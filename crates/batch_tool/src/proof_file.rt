@@ -59,7 +59,7 @@ fn print_present_list(values: &[QuarticExtension], out: &mut Vec<u8>) -> Mem<()>
     Ok(())
 }
 
-/// Prints numbers, a line for each.
+/// Prints numbers, a line for each. On an error a part of them may stand.
 pub fn print_numbers(numbers: &[u64], out: &mut Vec<u8>) -> Mem<()>
     ensures { OnOk result (out.new.items ≡ out.old.items ++ line_text numbers.now) }
 {
@@ -93,7 +93,7 @@ fn print_instances(proof: &TableProof, out: &mut Vec<u8>) -> Mem<()>
     Ok(())
 }
 
-/// Prints the proof.
+/// Prints the proof. On an error a part of it may stand.
 pub fn print_proof(proof: &TableProof, out: &mut Vec<u8>) -> Mem<()>
     ensures { OnOk result (out.new.items ≡ out.old.items ++ line_text (proof_words proof.now)) }
 {
@@ -109,7 +109,7 @@ pub fn print_proof(proof: &TableProof, out: &mut Vec<u8>) -> Mem<()>
     Ok(())
 }
 
-/// Prints a proof file of version 1 with one swap table: its statement and its proof.
+/// Prints a proof file of version 1 with one swap table: its statement and its proof. On an error a part of it may stand.
 pub fn print_file(table: &SwapTable, proof: &TableProof, out: &mut Vec<u8>) -> Mem<()>
     ensures { OnOk result (out.new.items ≡ out.old.items ++ line_text (file_words table.now.log_rows table.now.a table.now.b (last_right table.now.log_rows table.now.a table.now.b) proof.now)) }
 {

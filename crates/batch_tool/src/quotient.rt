@@ -15,6 +15,7 @@ ghost use Rattle.p3_air.specs.Tree.{ev};
 ghost use Rattle.p3_air.specs.Examples.{swap_trees};
 ghost use Rattle.p3_uni_stark.specs.Fold.{fold, fold_powers};
 ghost use Rattle.p3_uni_stark.specs.Point.{reading, embedded};
+ghost use Rattle.batch_tool.specs.Reading.{values_at_point};
 ghost use Rattle.batch_tool.specs.Swap.{last_right, swap_instance};
 ghost use Rattle.batch_tool.specs.Honest.{quotient_value, quotient_domain};
 ghost use Rattle.batch_tool.specs.Tool.{tool};
@@ -127,18 +128,9 @@ fn folded_at(
     requires index { index < height columns.now }
     requires columns { columns.now.width ≡ 2 }
     requires first_row { length first_row.now ≡ height columns.now }
-    ensures { let z = bear_ring.zero in let next = (index + 1) % height columns.now in (alpha : _) → alpha_powers.now ≡ fold_powers quartic_ring alpha 5
-        → result ≡ fold quartic_ring alpha (map (ev (reading quartic_ring of_bear_value (embedded of_bear_value (record {
-          main_local = row_at columns.now index;
-          main_next = row_at columns.now next;
-          preprocessed_local = [];
-          preprocessed_next = [];
-          periodic = [];
-          public = statement.now.public_values;
-          first_row = get_or first_row.now index z;
-          last_row = bear_ring.mul statement.now.generator (get_or first_row.now next z);
-          transition = sub bear_ring point statement.now.generator_inverse;
-        })))) swap_trees) }
+    ensures { (alpha : _) → alpha_powers.now ≡ fold_powers quartic_ring alpha 5
+        → result ≡ fold quartic_ring alpha (map (ev (reading quartic_ring of_bear_value (embedded of_bear_value
+        (values_at_point bear_ring columns.now first_row.now statement.now.public_values statement.now.generator statement.now.generator_inverse index point)))) swap_trees) }
 {
     let next = (index + 1) % columns.height();
     prover_fold(

@@ -13,13 +13,19 @@ use std::alloc::{AllocError, Global};
 #[derive(Clone, Copy, Debug, PartialEq, Eq)]
 pub enum Refusal {
     /// The grinding value before zeta fails its test of so many bits.
-    OodPowWitness { bits: usize },
+    OodPowWitness {
+        /// The bits of the grinding.
+        bits: usize,
+    },
     /// An opening isn't what the commitments hold. Round 0 commits to the trace, round 1 to the quotient.
     InvalidOpeningArgument(PlainError),
     /// Zeta lies in the trace domain.
     OodPointInDomain,
     /// The identity fails for this instance.
-    OodEvaluationMismatch { index: usize },
+    OodEvaluationMismatch {
+        /// The number of the instance, from 0.
+        index: usize,
+    },
 }
 
 /// Appends a space and the digits of a number.

@@ -21,3 +21,6 @@ pub fn scheme() -> Scheme
         None => unreachable!(),
     }
 }
+
+#[cfg(test)]
+mod tests;

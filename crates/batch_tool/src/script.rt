@@ -4,40 +4,56 @@ ghost use Rattle.std.specs.Prelude.{◌≡◌, ◌++◌, ◌∷◌, [], List, �
 ghost use Rattle.batch_tool.specs.Separator.{eight_bytes, counted, step_bytes, encoding, hierarchy_byte, kind_byte, value_byte, length_byte};
 ghost use Rattle.batch_tool.specs.Script.{elements, amount};
 
-use std::alloc::{AllocError, Global};
+use p3_field::Mem;
+use std::alloc::Global;
 use std::marker::Model;
 
-/// Where a step stands: by itself, or at an end of a bracket.
+/// Where a step stands: by itself, or at an end of a bracket (after the steps of Plonky3's `p3-challenger`).
 #[derive(Clone, Copy, Debug, PartialEq, Eq)]
 pub enum Hierarchy {
+    /// A step by itself.
     Atomic,
+    /// The step that opens a bracket.
     Begin,
+    /// The step that closes a bracket.
     End,
 }
 
-/// What a step does.
+/// What a step does (after the steps of Plonky3's `p3-challenger`).
 #[derive(Clone, Copy, Debug, PartialEq, Eq)]
 pub enum InteractionKind {
+    /// The prover sends a value, which is observed.
     Message,
+    /// A public value is observed.
     Public,
+    /// A value is drawn.
     Challenge,
+    /// A grinding value is observed and tested.
     Pow,
+    /// The bracket of an inner protocol.
     Protocol,
 }
 
-/// What a step's value is: nothing, opaque, or algebraic of a dimension over the base field.
+/// What a step's value is: nothing, opaque, or algebraic of a dimension over the base field (after the steps of Plonky3's
+/// `p3-challenger`).
 #[derive(Clone, Copy, Debug, PartialEq, Eq)]
 pub enum StepValue {
+    /// No value.
     Marker,
+    /// A value whose elements another rule tells, as a commitment's.
     Opaque,
+    /// Elements of a field of this dimension over the base field.
     Algebra(usize),
 }
 
-/// How many values a step has.
+/// How many values a step has (after the steps of Plonky3's `p3-challenger`).
 #[derive(Clone, Copy, Debug, PartialEq, Eq)]
 pub enum Length {
+    /// None.
     None,
+    /// One.
     Scalar,
+    /// This many, or of a grinding this many bits.
     Fixed(usize),
 }
 
@@ -57,7 +73,7 @@ impl Model for Label {
 
 impl Label {
     /// A label of this text.
-    pub fn new(alloc: Global, text: &str) -> Result<Self, AllocError>
+    pub fn new(alloc: Global, text: &str) -> Mem<Self>
         ensures { IfOk result (λ l. l ≡ text.now) }
     {
         Ok(Label {
@@ -73,13 +89,18 @@ impl Label {
     }
 }
 
-/// One typed step of a transcript.
+/// One typed step of a transcript (after the steps of Plonky3's `p3-challenger`).
 #[derive(Drop)]
 pub struct Interaction {
+    /// Where the step stands.
     pub hierarchy: Hierarchy,
+    /// What it does.
     pub kind: InteractionKind,
+    /// What its value is.
     pub value: StepValue,
+    /// Its name.
     pub label: Label,
+    /// How many values it has.
     pub length: Length,
 }
 
@@ -150,7 +171,7 @@ impl InteractionKind {
 
 /// Appends a number as 8 big-endian bytes.
 #[tactic(auto, unfolding(crate::specs::Separator::eight_bytes))]
-pub fn push_eight_bytes(out: &mut Vec<u8>, number: usize) -> Result<(), AllocError>
+pub fn push_eight_bytes(out: &mut Vec<u8>, number: usize) -> Mem<()>
     ensures { OnOk result (out.new.items ≡ out.old.items ++ eight_bytes number) }
 {
     out.extend_from_slice(&number.to_be_bytes())
@@ -158,7 +179,7 @@ pub fn push_eight_bytes(out: &mut Vec<u8>, number: usize) -> Result<(), AllocErr
 
 /// Appends a text behind its length.
 #[tactic(auto, unfolding(crate::specs::Separator::counted))]
-fn push_counted(out: &mut Vec<u8>, bytes: &[u8]) -> Result<(), AllocError>
+fn push_counted(out: &mut Vec<u8>, bytes: &[u8]) -> Mem<()>
     ensures { OnOk result (out.new.items ≡ out.old.items ++ counted bytes.now) }
 {
     push_eight_bytes(out, bytes.len())?;
@@ -168,7 +189,7 @@ fn push_counted(out: &mut Vec<u8>, bytes: &[u8]) -> Result<(), AllocError>
 
 /// Appends a step's encoding.
 #[tactic(auto, unfolding(crate::specs::Separator::step_bytes))]
-fn push_step(out: &mut Vec<u8>, step: &Interaction) -> Result<(), AllocError>
+fn push_step(out: &mut Vec<u8>, step: &Interaction) -> Mem<()>
     ensures { OnOk result (out.new.items ≡ out.old.items ++ step_bytes step.now) }
 {
     let head = [step.hierarchy.byte(), step.kind.byte(), step.value.byte()];
@@ -181,7 +202,7 @@ fn push_step(out: &mut Vec<u8>, step: &Interaction) -> Result<(), AllocError>
 }
 
 /// Appends the encodings of steps, in order.
-fn push_steps(out: &mut Vec<u8>, steps: &[Interaction]) -> Result<(), AllocError>
+fn push_steps(out: &mut Vec<u8>, steps: &[Interaction]) -> Mem<()>
     ensures { OnOk result (out.new.items ≡ out.old.items ++ flat_map step_bytes steps.now) }
 {
     for step in steps {
@@ -190,15 +211,16 @@ fn push_steps(out: &mut Vec<u8>, steps: &[Interaction]) -> Result<(), AllocError
     Ok(())
 }
 
+/// The encoding of the separator with this version, name, pattern and instance label (own). It fails only for want of memory.
+/// Numbers are 8 big-endian bytes.
 #[tactic(auto, unfolding(crate::specs::Separator::encoding))]
-/// The encoding of the separator with this version, name, pattern and instance label.
 pub fn encode(
     alloc: Global,
     version: u8,
     name: &[u8],
     steps: &[Interaction],
     instance: &[u8],
-) -> Result<Vec<u8>, AllocError>
+) -> Mem<Vec<u8>>
     ensures { IfOk result (λ v. v.items ≡ encoding (record { version = version; name = name.now; steps = steps.now; instance = instance.now })) }
 {
     let mut out = Vec::new(alloc);

@@ -1,8 +1,10 @@
-// Texts of numbers, a line for each: how one line is read, and how one is printed.
+//! Texts of numbers, a line for each: how one line is read, and how one is printed.
+
 ghost use Rattle.std.specs.Prelude.{◌≡◌, ◌≢◌, ◌≤◌, ◌++◌, ◌∷◌, [], List, ℕ, length, drop, decimal, MatchOption, OnOk, IsTrue, ◌↔◌};
-ghost use Rattle.batch_tool.specs.Texts.{ReadsOne, Between, number_words, line_text};
+ghost use Rattle.batch_tool.specs.Texts.{ReadsKnown, Between, number_words, line_text};
 
 use itoa::Buffer;
+use p3_field::Mem;
 use std::alloc::{AllocError, AllocFailed};
 use std::marker::Model;
 
@@ -35,7 +37,7 @@ impl<T: Drop> From<AllocFailed<T>> for ItemError {
     }
 }
 
-/// What is left of a text. Contracts see its bytes.
+/// What is left of a text (own). Contracts see its bytes.
 #[derive(Drop)]
 pub struct Reader<'a> {
     rest: &'a [u8],
@@ -69,7 +71,7 @@ impl<'a> Reader<'a> {
     /// It is `Malformed` exactly where no such line is next, and then nothing is read.
     pub fn number(&mut self, least: u32, most: u32) -> Result<u32, ItemError>
         requires { least ≤ most }
-        ensures { ReadsOne (Between least most) number_words self.old self.new result }
+        ensures { ReadsKnown (Between least most) number_words self.old self.new result }
     {
         match first_number(self.rest, most) {
             None => Err(ItemError::Malformed),
@@ -119,7 +121,7 @@ fn first_number(bytes: &[u8], most: u32) -> Option<(u32, usize)>
 }
 
 /// Prints the line of a number. On an error a part of the line may stand.
-pub fn push_number(out: &mut Vec<u8>, value: u64) -> Result<(), AllocError>
+pub fn push_number(out: &mut Vec<u8>, value: u64) -> Mem<()>
     ensures { OnOk result (out.new.items ≡ out.old.items ++ line_text (value ∷ [])) }
 {
     let mut buffer = Buffer::new();

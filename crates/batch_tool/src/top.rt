@@ -1,6 +1,8 @@
-// The top call.
+//! The top call.
+
 ghost use Rattle.std.specs.Prelude.{◌≡◌, ◌≤◌, IfOk, map, string_bytes};
 ghost use Rattle.batch_tool.specs.Causes.{Rose};
+ghost use Rattle.batch_tool.specs.Limits.{most_bytes};
 ghost use Rattle.batch_tool.specs.Answer.{IsCommandAnswer, IsProveAnswer, IsVerifyAnswer, Outcome, status_number};
 
 use crate::command::Command;
@@ -10,7 +12,7 @@ use crate::job::read_job;
 use crate::parse::TextError;
 use crate::prove::prove;
 use crate::verify::verify;
-use crate::whole::{MAX_BYTES, read_whole, write_whole};
+use crate::whole::{read_whole, write_whole};
 use p3_field::Mem;
 use std::alloc::{AllocError, Global};
 
@@ -31,7 +33,7 @@ pub enum Status {
     WriteFault,
     /// Memory was wanting. Nothing was written.
     OutOfMemory,
-    /// The input has more than [`MAX_BYTES`] bytes. Nothing was written.
+    /// The input has more than [`MAX_BYTES`](crate::MAX_BYTES) bytes. Nothing was written.
     TooLarge,
 }
 
@@ -52,14 +54,17 @@ const BAD_INPUT: &[u8] = b"bad input\n";
 /// and then writes one text.
 ///
 /// The text is built whole before the first write. The word `prove` reads a job and answers it,
-/// the word `verify` reads a proof file and answers it. All others are `Usage`.
+/// the word `verify` reads a proof file and answers it. All others are `Usage` (own).
+///
+/// `ReadFault` and `WriteFault` come only where the source's or the sink's count of faults rose, `TooLarge` where one byte
+/// more than [`MAX_BYTES`](crate::MAX_BYTES) was read, and `OutOfMemory` where memory is wanting. No run reads more.
 pub fn run<S: Source, K: Sink>(
     alloc: Global,
     words: &[String],
     source: &mut S,
     sink: &mut K,
 ) -> Status
-    ensures outcome { Outcome MAX_BYTES (map string_bytes words.now) (S.left source.old) (S.left source.new)
+    ensures outcome { Outcome most_bytes (map string_bytes words.now) (S.left source.old) (S.left source.new)
         (K.written sink.old) (K.written sink.new) result }
 
     // The counts never fall, and a fault is answered only where one rose.

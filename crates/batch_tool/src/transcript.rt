@@ -48,6 +48,23 @@ fn atomic_step(
     })
 }
 
+/// A step in which the prover sends one value.
+fn message(alloc: Global, value: StepValue, label: &str) -> Mem<Interaction>
+    ensures { IfOk result (λ s. s ≡ atomic InteractionKind.Message value label.now Length.Scalar) }
+{
+    let kind = InteractionKind::Message;
+    atomic_step(alloc, kind, value, label, Length::Scalar)
+}
+
+/// A step in which one challenge is drawn.
+fn challenge(alloc: Global, label: &str) -> Mem<Interaction>
+    ensures { IfOk result (λ s. s ≡ atomic InteractionKind.Challenge (StepValue.Algebra 4) label.now Length.Scalar) }
+{
+    let kind = InteractionKind::Challenge;
+    let value = StepValue::Algebra(DIMENSION);
+    atomic_step(alloc, kind, value, label, Length::Scalar)
+}
+
 /// One end of the bracket around the opening argument.
 #[tactic(auto, unfolding(crate::specs::BatchScript::opening_step))]
 fn opening_step(alloc: Global, hierarchy: Hierarchy) -> Mem<Interaction>
@@ -66,22 +83,9 @@ fn opening_step(alloc: Global, hierarchy: Hierarchy) -> Mem<Interaction>
 fn single_pattern(alloc: Global, public_values: usize) -> Mem<Vec<Interaction>>
     ensures { (width : ℕ) → IfOk result (λ v. v.items ≡ pattern 4 (single_shape width public_values 4)) }
 {
-    let challenge = StepValue::Algebra(DIMENSION);
     let base = StepValue::Algebra(1);
-    let degree_bits = atomic_step(
-        alloc,
-        InteractionKind::Message,
-        challenge,
-        "degree_bits",
-        Length::Scalar,
-    )?;
-    let main = atomic_step(
-        alloc,
-        InteractionKind::Message,
-        StepValue::Opaque,
-        "main_commitment",
-        Length::Scalar,
-    )?;
+    let degree_bits = message(alloc, StepValue::Algebra(DIMENSION), "degree_bits")?;
+    let main = message(alloc, StepValue::Opaque, "main_commitment")?;
     let public = atomic_step(
         alloc,
         InteractionKind::Public,
@@ -89,20 +93,8 @@ fn single_pattern(alloc: Global, public_values: usize) -> Mem<Vec<Interaction>>
         "public_values",
         Length::Fixed(public_values),
     )?;
-    let alpha = atomic_step(
-        alloc,
-        InteractionKind::Challenge,
-        challenge,
-        "constraint_challenge",
-        Length::Scalar,
-    )?;
-    let quotient = atomic_step(
-        alloc,
-        InteractionKind::Message,
-        StepValue::Opaque,
-        "quotient_commitment",
-        Length::Scalar,
-    )?;
+    let alpha = challenge(alloc, "constraint_challenge")?;
+    let quotient = message(alloc, StepValue::Opaque, "quotient_commitment")?;
     let grinding = atomic_step(
         alloc,
         InteractionKind::Pow,
@@ -110,13 +102,7 @@ fn single_pattern(alloc: Global, public_values: usize) -> Mem<Vec<Interaction>>
         "ood_pow",
         Length::Fixed(OOD_POW_BITS),
     )?;
-    let zeta = atomic_step(
-        alloc,
-        InteractionKind::Challenge,
-        challenge,
-        "zeta",
-        Length::Scalar,
-    )?;
+    let zeta = challenge(alloc, "zeta")?;
     let begin = opening_step(alloc, Hierarchy::Begin)?;
     let end = opening_step(alloc, Hierarchy::End)?;
     Ok(vec![in alloc;
@@ -182,15 +168,18 @@ pub fn draw_alpha(
     draw_challenge(challenger)
 }
 
-/// Grinds before zeta, and draws zeta. `None` is where no element passes the grinding.
+/// Grinds before zeta, and draws zeta. `None` is where no element passes the grinding, and then the challenger stays as it was.
 pub fn grind_and_draw_zeta(
     challenger: &mut Sha256Challenger,
 ) -> Option<(BabyBear, QuarticExtension)>
-    ensures { MatchOption result
+    ensures drawn { MatchOption result
         ((n : ℕ) → n < 2013265921 → passes tool.challenger challenger.old 4 (of_nat bear_ring n ∷ []) ≡ false)
         (λ p. (passes tool.challenger challenger.old 4 (p.0 ∷ []) ≡ true)
         × ((n : ℕ) → n < p.0.value → passes tool.challenger challenger.old 4 (of_nat bear_ring n ∷ []) ≡ false)
         × (quartic_parts p.1 ≡ draw_all tool.challenger (after_grinding tool.challenger challenger.old 4 (p.0 ∷ [])) 4)) }
+    ensures state { MatchOption result
+        (challenger.new ≡ challenger.old)
+        (λ p. challenger.new ≡ after_draws tool.challenger (after_grinding tool.challenger challenger.old 4 (p.0 ∷ [])) 4) }
 {
     match challenger.grind(OOD_POW_BITS) {
         None => None,
@@ -205,6 +194,7 @@ pub fn check_and_draw_zeta(
 ) -> (bool, QuarticExtension)
     ensures passed { result.0 ≡ passes tool.challenger challenger.old 4 (witness ∷ []) }
     ensures zeta { quartic_parts result.1 ≡ draw_all tool.challenger (after_grinding tool.challenger challenger.old 4 (witness ∷ [])) 4 }
+    ensures state { challenger.new ≡ after_draws tool.challenger (after_grinding tool.challenger challenger.old 4 (witness ∷ [])) 4 }
 {
     let passed = challenger.check_witness(OOD_POW_BITS, witness);
     (passed, draw_challenge(challenger))

@@ -4,7 +4,8 @@ ghost use Rattle.std.specs.Prelude.{◌≡◌, ◌≤◌, ◌+◌, ◌^◌, ◌�
 ghost use Rattle.batch_tool.specs.Checks.{FirstFailing};
 ghost use Rattle.batch_tool.specs.FileAnswer.{stated, IsFileAnswer};
 ghost use Rattle.batch_tool.specs.FirstForm.{IsFirstForm, IsSwapShape};
-ghost use Rattle.batch_tool.specs.Honest.{witness_passes};
+ghost use Rattle.batch_tool.specs.Honest.{whole_transcript, witness_passes};
+ghost use Rattle.batch_tool.specs.Limits.{most_log_rows};
 ghost use Rattle.batch_tool.specs.Tool.{tool};
 ghost use Rattle.batch_tool.specs.Verify.{Meets, alpha_drawn, checks, main_of, quotient_of, round_checks, zeta_drawn};
 ghost use Rattle.batch_tool.specs.declared.refusal.Refusal.TheVariants.{OodPointInDomain, OodEvaluationMismatch};
@@ -13,7 +14,6 @@ use crate::committed_proof::CommittedProof;
 use crate::domain::is_in_trace_domain;
 use crate::first_form::{FirstForm, SwapStatement};
 use crate::identity::identity_holds;
-use crate::job::MOST_LOG_ROWS;
 use crate::opening::{opening_fault, quotient_claim, trace_claim};
 use crate::proof::TableProof;
 use crate::refusal::{Refusal, refusal_line};
@@ -46,6 +46,7 @@ fn drawn_challenges(
     ensures alpha { IfOk result (λ d. d.alpha ≡ alpha_drawn tool (stated statement.now) proof.now) }
     ensures passed { IfOk result (λ d. d.passed ≡ witness_passes tool (stated statement.now) (main_of proof.now) (quotient_of proof.now) proof.now.ood_pow_witness) }
     ensures zeta { IfOk result (λ d. d.zeta ≡ zeta_drawn tool (stated statement.now) proof.now) }
+    ensures state { IfOk result (λ d. d.challenger ≡ (whole_transcript tool (stated statement.now) (main_of proof.now) (quotient_of proof.now) proof.now.ood_pow_witness).state) }
 {
     let mut challenger = seeded_challenger(alloc, 2, 3)?;
     let public_values = [statement.a, statement.b, statement.x];
@@ -65,7 +66,8 @@ fn drawn_challenges(
     })
 }
 
-/// The first check of the openings that fails, if one does: the scheme's verifier on the claims of the proof.
+/// The first check of the openings that fails, if one does: the scheme's verifier on the claims of the proof, from the
+/// challenger behind zeta.
 fn opening_refusal(
     alloc: Global,
     statement: &SwapStatement,
@@ -76,7 +78,9 @@ fn opening_refusal(
     requires few { statement.now.log_rows ≤ 10 }
     requires shape { IsSwapShape statement.now.log_rows proof }
     requires zeta { zeta ≡ zeta_drawn tool (stated statement.now) proof }
-    ensures { IfOk result (λ a. FirstFailing (Meets tool (stated statement.now) proof) (round_checks 0 2 2 ++ round_checks 1 4 1) a) }
+    requires state { challenger.old ≡ (whole_transcript tool (stated statement.now) (main_of proof) (quotient_of proof) proof.ood_pow_witness).state }
+    ensures refusal { IfOk result (λ a. FirstFailing (Meets tool (stated statement.now) proof) (round_checks 0 2 2 ++ round_checks 1 4 1) a) }
+    ensures challenger { challenger.new ≡ challenger.old }
 {
     let log_rows = statement.log_rows as usize;
     let generator = BabyBear::two_adic_generator(log_rows);
@@ -154,7 +158,7 @@ fn first_refusal(
 
 /// The status and the text for a file of the first form: accepted where no check fails, and else the first that fails.
 pub fn verify(alloc: Global, file: FirstForm) -> Mem<(Status, Vec<u8>)>
-    requires { IsFirstForm MOST_LOG_ROWS file }
+    requires { IsFirstForm most_log_rows file }
     ensures { IfOk result (λ p. IsFileAnswer file p.0 p.1.items) }
 {
     let FirstForm { statement, proof } = file;

@@ -1,6 +1,8 @@
-// An input read to its end, and a text written whole.
+//! An input read to its end, and a text written whole.
+
 ghost use Rattle.std.specs.Prelude.{◌≡◌, ◌≤◌, length, OnErr, IsErrOf};
 ghost use Rattle.batch_tool.specs.Causes.{Rose};
+ghost use Rattle.batch_tool.specs.Limits.{most_bytes};
 ghost use Rattle.batch_tool.specs.Whole.{ReadsWhole, WritesWhole};
 
 use crate::ends::{Failed, InputError, Sink, Source};
@@ -11,20 +13,21 @@ pub const MAX_BYTES: usize = 67_108_864;
 
 const PIECE_BYTES: usize = 65_536;
 
-/// Reads all bytes up to the end of the input.
+/// Reads all bytes up to the end of the input, and never more than one above [`MAX_BYTES`] (own).
 ///
-/// `ReadFault` comes only where the source's count of faults rose in this call, `TooLarge` exactly where more than
-/// [`MAX_BYTES`] bytes were read, and `OutOfMemory` where memory is wanting.
+/// `ReadFault` comes only where the source's count of faults rose in this call, `TooLarge` exactly where that one byte more
+/// was read, and `OutOfMemory` where memory is wanting.
 #[tactic(auto, using(crate::proofs::Bytes::steps))]
 pub fn read_whole<S: Source>(alloc: Global, source: &mut S) -> Result<Vec<u8>, InputError>
-    ensures bytes { ReadsWhole MAX_BYTES (S.left source.old) (S.left source.new) result }
+    ensures bytes { ReadsWhole most_bytes (S.left source.old) (S.left source.new) result }
     ensures later { S.faults source.old ≤ S.faults source.new }
     ensures fault { IsErrOf result InputError.ReadFault → Rose (S.faults source.old) (S.faults source.new) }
 {
     let mut bytes = Vec::new(alloc);
     let mut piece = [0; PIECE_BYTES];
     while bytes.len() <= MAX_BYTES {
-        match source.read(&mut piece) {
+        let room = (MAX_BYTES + 1 - bytes.len()).min(PIECE_BYTES);
+        match source.read(&mut piece[..room]) {
             Ok(0) => return Ok(bytes),
             Ok(n) => bytes.extend_from_slice(&piece[..n])?,
             Err(Failed) => return Err(InputError::ReadFault),

@@ -113,7 +113,7 @@ fn a_source_that_fails_ends_the_run(rt: HostRuntime) -> Result<(), Fail> {
 fn an_input_of_too_many_bytes_is_too_large(rt: HostRuntime) -> Result<(), Fail> {
     let alloc = rt.alloc();
     let words = words_of(alloc, &["prove"])?;
-    for (size, number) in [(MAX_BYTES, 3), (MAX_BYTES + 1, 7)] {
+    for (size, number) in [(67_108_864, 3), (67_108_865, 7)] {
         let mut source = MemorySource::new(vec![in alloc; b'1'; size]?, Vec::new(alloc));
         let mut sink = MemorySink::new(alloc, 1000, 1000, Vec::new(alloc))?;
         let status = run(alloc, &words, &mut source, &mut sink);

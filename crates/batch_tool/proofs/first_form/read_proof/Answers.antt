@@ -29,7 +29,7 @@ returns-in_err-chunk_values c = handed-on (IsSwapShape c.args.log_rows) proof_wo
 
 pub returns-in_err-read_fixed : goal.returns-in_err-read_fixed
 returns-in_err-read_fixed c = handed-on (IsSwapShape c.args.log_rows) proof_words _ _ _ c.in_err-read_fixed.field-0.0 c.from_residual-in_err-read_fixed.ensures.1
-    (λ m. same-stops (same-proof c.args.log_rows c.committed_rows-rows.result c.committed_rows-rows.ensures.rows) (then-second (main_head-grammar c.committed_rows-rows.result (omega arith)) c.in_ok-main.ensures (then-second (quotient_head-grammar c.committed_rows-rows.result (omega arith)) c.in_ok-quotient_chunk.ensures (then-second local_head-grammar c.in_ok-trace_local.ensures (then-second next_head-grammar c.in_ok-trace_next.ensures (then-second chunk_head-grammar c.in_ok-chunk_values.ensures (then-first element-grammar (c.in_err-read_fixed.ensures m))))))))
+    (λ m. same-stops (same-proof c.args.log_rows c.committed_rows-rows.result c.committed_rows-rows.ensures.rows) (then-second (main_head-grammar c.committed_rows-rows.result (omega arith)) c.in_ok-main.ensures (then-second (quotient_head-grammar c.committed_rows-rows.result (omega arith)) c.in_ok-quotient_chunk.ensures (then-second local_head-grammar c.in_ok-trace_local.ensures (then-second next_head-grammar c.in_ok-trace_next.ensures (then-second chunk_head-grammar c.in_ok-chunk_values.ensures (then-first element-grammar c.in_err-read_fixed.ensures.1)))))))
 
 pub returns-in_err-ood_pow_witness : goal.returns-in_err-ood_pow_witness
 returns-in_err-ood_pow_witness c = handed-on (IsSwapShape c.args.log_rows) proof_words _ _ _ c.in_err-ood_pow_witness.field-0.0 c.from_residual-in_err-ood_pow_witness.ensures.1

@@ -11,7 +11,7 @@ use Rattle.batch_tool.proofs.fixed.read_headed.Goals as goal
 pub returns-in_err-read_fixed : goal.returns-in_err-read_fixed
 returns-in_err-read_fixed g c = list-handed-on (ItemsWithin c.args.count g.T.Item.within) (headed_words c.args.head.now g.T.Item.words) _ _ _ c.in_err-read_fixed.field-0.0 c.from_residual.ensures.1
     (λ m. same-stops (same-headed c.args.head.now c.args.count g.T.Item.within g.T.Item.words)
-    (then-first (items-grammar c.args.count g.met.T.Item.grammar) (c.in_err-read_fixed.ensures m)))
+    (then-first (items-grammar c.args.count g.met.T.Item.grammar) c.in_err-read_fixed.ensures.1))
 
 pub returns : goal.returns
 returns g c =

@@ -5,7 +5,7 @@ use Rattle.batch_tool.proofs.items.read_list.Goals as goal
 
 pub returns-in_err-count : goal.returns-in_err-count
 returns-in_err-count g c = list-handed-on (ListWithin c.args.least c.args.most g.T.Item.within) (list_words g.T.Item.words) _ _ _ c.in_err-count.field-0.0 c.from_residual.ensures.1
-    (λ m. count-stops c.args.least c.args.most g.met.T.Item.grammar (c.in_err-count.ensures m))
+    (λ m. count-stops c.args.least c.args.most g.met.T.Item.grammar c.in_err-count.ensures.1)
 
 pub returns : goal.returns
 returns g c = list-after-count c.args.least c.args.most g.T.Item.within g.T.Item.words _ _ _ c.in_ok-count.count c.read_items.result c.requires (omega arith)

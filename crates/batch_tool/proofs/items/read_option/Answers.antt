@@ -4,7 +4,7 @@ use Rattle.batch_tool.proofs.items.read_option.Goals as goal
 
 pub returns-in_err-number : goal.returns-in_err-number
 returns-in_err-number g c = handed-on (OptionWithin g.T.Item.within) (option_words g.T.Item.words) _ _ _ c.in_err-number.field-0.0 c.from_residual.ensures.1
-    (λ m. tag-stops g.T.Item.within g.T.Item.words _ _ (c.in_err-number.ensures m))
+    (λ m. tag-stops g.T.Item.within g.T.Item.words _ _ c.in_err-number.ensures.1)
 
 pub returns-in_err-read : goal.returns-in_err-read
 returns-in_err-read g c = handed-on (OptionWithin g.T.Item.within) (option_words g.T.Item.words) _ _ _ c.in_err-read.field-0.0 c.from_residual-in_err-read.ensures.1

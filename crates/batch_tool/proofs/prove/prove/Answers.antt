@@ -37,7 +37,7 @@ returns-in-None c =
       chunk = gs;
       quotient = quotient;
       committed = committed;
-      none = nothing-passes t.log_rows t.a t.b x main quotient c.observe.new.self state c.in-None.ensures;
+      none = nothing-passes t.log_rows t.a t.b x main quotient c.observe.new.self state c.in-None.ensures.drawn;
       text_is = c.in_ok-from_slice-in-None.ensures.items;
     })
 
@@ -54,8 +54,8 @@ returns-then-is_in_trace_domain c =
     let committed = honest-committed t.log_rows t.a t.b c.in_ok-main.alpha c.requires c.in_ok-main.ensures.challenge in
     let state = before-grinding-is t.log_rows t.a t.b x main quotient c.commit_trace.new.challenger c.observe.new.self c.in_ok-quotient.quotient.commitment.matrices c.in_ok-main.ensures.state c.in_ok-quotient.ensures.matrix_is c.observe.ensures in
     let w = c.in-Some.drawn.0 in
-    let ground = witness-is-ground t.log_rows t.a t.b x main quotient c.observe.new.self w state c.in-Some.ensures.0 c.in-Some.ensures.1 in
-    let drawn = zeta-of-number t.log_rows t.a t.b x main quotient c.observe.new.self w c.in-Some.drawn.1 state c.in-Some.ensures.2 in
+    let ground = witness-is-ground t.log_rows t.a t.b x main quotient c.observe.new.self w state c.in-Some.ensures.drawn.0 c.in-Some.ensures.drawn.1 in
+    let drawn = zeta-of-number t.log_rows t.a t.b x main quotient c.observe.new.self w c.in-Some.drawn.1 state c.in-Some.ensures.drawn.2 in
     let P : QuarticExtension → Type 0 = λ z. IsTrue c.is_in_trace_domain.result ↔ IsInTraceDomain tool inst z in
     let tells = subst P drawn (c.is_in_trace_domain.ensures t.a t.b x) in
     inr (record {
@@ -83,8 +83,8 @@ returns c =
     let committed = honest-committed t.log_rows t.a t.b c.in_ok-main.alpha c.requires c.in_ok-main.ensures.challenge in
     let state = before-grinding-is t.log_rows t.a t.b x main quotient c.commit_trace.new.challenger c.observe.new.self c.in_ok-quotient.quotient.commitment.matrices c.in_ok-main.ensures.state c.in_ok-quotient.ensures.matrix_is c.observe.ensures in
     let w = c.in-Some.drawn.0 in
-    let ground = witness-is-ground t.log_rows t.a t.b x main quotient c.observe.new.self w state c.in-Some.ensures.0 c.in-Some.ensures.1 in
-    let drawn = zeta-of-number t.log_rows t.a t.b x main quotient c.observe.new.self w c.in-Some.drawn.1 state c.in-Some.ensures.2 in
+    let ground = witness-is-ground t.log_rows t.a t.b x main quotient c.observe.new.self w state c.in-Some.ensures.drawn.0 c.in-Some.ensures.drawn.1 in
+    let drawn = zeta-of-number t.log_rows t.a t.b x main quotient c.observe.new.self w c.in-Some.drawn.1 state c.in-Some.ensures.drawn.2 in
     let P : QuarticExtension → Type 0 = λ z. IsTrue c.is_in_trace_domain.result ↔ IsInTraceDomain tool inst z in
     let tells = subst P drawn (c.is_in_trace_domain.ensures t.a t.b x) in
     let honest = c.in_ok-proof.ensures t.log_rows w.value fs gs c.in_ok-main.ensures.committed c.in_ok-quotient.ensures (sym (bear_of_canonical w)) drawn in

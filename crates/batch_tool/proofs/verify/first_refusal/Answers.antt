@@ -20,7 +20,7 @@ returns-in-Some c =
     let H = Meets tool (stated s) c.in_ok-proof.proof in
     answers-along (stated s) c.args.proof c.in_ok-proof.proof (Some c.in-Some.refusal) c.in_ok-proof.ensures
     (opening-fails H c.in-Some.refusal (passed-holds c.in_ok-drawn.drawn.passed _ c.in_ok-drawn.ensures.passed c.if-not-drawn.false)
-    (subst (λ (o : Option Refusal). FirstFailing H (round_checks 0 2 2 ++ round_checks 1 4 1) o) c.in-Some.is c.in_ok-refusal.ensures))
+    (subst (λ (o : Option Refusal). FirstFailing H (round_checks 0 2 2 ++ round_checks 1 4 1) o) c.in-Some.is c.in_ok-refusal.ensures.refusal))
 
 pub returns-in-None : goal.returns-in-None
 returns-in-None c =
@@ -28,5 +28,5 @@ returns-in-None c =
     let H = Meets tool (stated s) c.in_ok-proof.proof in
     answers-along (stated s) c.args.proof c.in_ok-proof.proof c.identity_refusal-last.result c.in_ok-proof.ensures
     (last-answers H c.identity_refusal-last.result (passed-holds c.in_ok-drawn.drawn.passed _ c.in_ok-drawn.ensures.passed c.if-not-drawn.false)
-    (subst (λ (o : Option Refusal). FirstFailing H (round_checks 0 2 2 ++ round_checks 1 4 1) o) c.in-None.is c.in_ok-refusal.ensures)
+    (subst (λ (o : Option Refusal). FirstFailing H (round_checks 0 2 2 ++ round_checks 1 4 1) o) c.in-None.is c.in_ok-refusal.ensures.refusal)
     c.identity_refusal-last.ensures)

@@ -12,9 +12,9 @@ use Rattle.batch_tool.specs.Verify.{zeta_drawn}
 use Rattle.batch_tool.proofs.Backend.{claims-are, opened-as-met, fault-as-met}
 use Rattle.batch_tool.proofs.verify.opening_refusal.Goals as goal
 
-pub returns-in-Some : goal.returns-in-Some
+pub returns-in-Some-clause-refusal : goal.returns-in-Some-clause-refusal
 unfolding tool swap_stated
-returns-in-Some c =
+returns-in-Some-clause-refusal c =
     let s = c.args.statement.now in
     let p = c.args.proof in
     let claims = c.in_ok-vec.field-0.items in
@@ -23,11 +23,11 @@ returns-in-Some c =
     let are = claims-are s.log_rows s.a s.b s.x p c.requires.few c.requires.shape claims c.in_ok-main.main c.in_ok-quotient.quotient _ _ _ c.args.zeta c.mul.result c.proof.view_is refl refl c.requires.zeta next
     c.in_ok-vec.ensures.items c.in_ok-main.ensures c.in_ok-quotient.ensures in
     let Q : Option PlainError → Type 0 = λ o. MatchOption o (Opens plain_scheme quartic_ring of_bear_value claims) (Fault plain_scheme quartic_ring of_bear_value claims) in
-    fault-as-met s.log_rows s.a s.b s.x p c.requires.few c.requires.shape claims are c.in-Some.fault (subst Q c.in-Some.is c.in_ok-fault.ensures)
+    fault-as-met s.log_rows s.a s.b s.x p c.requires.few c.requires.shape claims are c.in-Some.fault (subst Q c.in-Some.is c.in_ok-fault.ensures.fault)
 
-pub returns-in-None : goal.returns-in-None
+pub returns-in-None-clause-refusal : goal.returns-in-None-clause-refusal
 unfolding tool swap_stated
-returns-in-None c =
+returns-in-None-clause-refusal c =
     let s = c.args.statement.now in
     let p = c.args.proof in
     let claims = c.in_ok-vec.field-0.items in
@@ -36,4 +36,4 @@ returns-in-None c =
     let are = claims-are s.log_rows s.a s.b s.x p c.requires.few c.requires.shape claims c.in_ok-main.main c.in_ok-quotient.quotient _ _ _ c.args.zeta c.mul.result c.proof.view_is refl refl c.requires.zeta next
     c.in_ok-vec.ensures.items c.in_ok-main.ensures c.in_ok-quotient.ensures in
     let Q : Option PlainError → Type 0 = λ o. MatchOption o (Opens plain_scheme quartic_ring of_bear_value claims) (Fault plain_scheme quartic_ring of_bear_value claims) in
-    opened-as-met s.log_rows s.a s.b s.x p c.requires.few c.requires.shape claims are (subst Q c.in-None.is c.in_ok-fault.ensures)
+    opened-as-met s.log_rows s.a s.b s.x p c.requires.few c.requires.shape claims are (subst Q c.in-None.is c.in_ok-fault.ensures.fault)

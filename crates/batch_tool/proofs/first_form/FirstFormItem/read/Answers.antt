@@ -8,7 +8,7 @@ use Rattle.batch_tool.proofs.first_form.FirstFormItem.read.Goals as goal
 
 pub returns-in_err-read_fixed : goal.returns-in_err-read_fixed
 returns-in_err-read_fixed c = handed-on (IsFirstForm MOST_LOG_ROWS) first_form_words _ _ _ c.in_err-read_fixed.field-0.0 c.from_residual.ensures.1
-    (λ m. same-stops (same-file MOST_LOG_ROWS) (then-first (stated-grammar MOST_LOG_ROWS (lit≤ tt)) (c.in_err-read_fixed.ensures m)))
+    (λ m. same-stops (same-file MOST_LOG_ROWS) (then-first (stated-grammar MOST_LOG_ROWS (lit≤ tt)) c.in_err-read_fixed.ensures.1))
 
 pub returns-in_err-statement : goal.returns-in_err-statement
 returns-in_err-statement c = handed-on (IsFirstForm MOST_LOG_ROWS) first_form_words _ _ _ c.in_err-statement.field-0.0 c.from_residual-in_err-statement.ensures.1

@@ -9,11 +9,11 @@ use Rattle.batch_tool.proofs.first_form.SwapStatementItem.read.Goals as goal
 
 pub returns-in_err-number : goal.returns-in_err-number
 returns-in_err-number c = handed-on (StatementWithin MOST_LOG_ROWS) statement_words _ _ _ c.in_err-number.field-0.0 c.from_residual.ensures.1
-    (λ m. same-stops (same-statement MOST_LOG_ROWS) (then-first (rows-grammar MOST_LOG_ROWS (lit< tt)) (c.in_err-number.ensures m)))
+    (λ m. same-stops (same-statement MOST_LOG_ROWS) (then-first (rows-grammar MOST_LOG_ROWS (lit< tt)) c.in_err-number.ensures.1))
 
 pub returns-in_err-log_rows : goal.returns-in_err-log_rows
 returns-in_err-log_rows c = handed-on (StatementWithin MOST_LOG_ROWS) statement_words _ _ _ c.in_err-log_rows.field-0.0 c.from_residual-in_err-log_rows.ensures.1
-    (λ m. same-stops (same-statement MOST_LOG_ROWS) (then-second one-grammar c.in_ok-number.ensures (then-first three-grammar (c.in_err-log_rows.ensures m))))
+    (λ m. same-stops (same-statement MOST_LOG_ROWS) (then-second one-grammar c.in_ok-number.ensures (then-first three-grammar c.in_err-log_rows.ensures.1)))
 
 pub returns-in_err-a : goal.returns-in_err-a
 returns-in_err-a c = handed-on (StatementWithin MOST_LOG_ROWS) statement_words _ _ _ c.in_err-a.field-0.0 c.from_residual-in_err-a.ensures.1

@@ -7,7 +7,7 @@ use Rattle.batch_tool.proofs.job.JobItem.read.Goals as goal
 
 pub returns-in_err-number : goal.returns-in_err-number
 returns-in_err-number c = handed-on (JobWithin MOST_LOG_ROWS) job_words _ _ _ c.in_err-number.field-0.0 c.from_residual.ensures.1
-    (λ m. same-stops (same-job MOST_LOG_ROWS) (then-first (swap-grammar MOST_LOG_ROWS (lit< tt)) (c.in_err-number.ensures m)))
+    (λ m. same-stops (same-job MOST_LOG_ROWS) (then-first (swap-grammar MOST_LOG_ROWS (lit< tt)) c.in_err-number.ensures.1))
 
 pub returns-in_err-table : goal.returns-in_err-table
 returns-in_err-table c = handed-on (JobWithin MOST_LOG_ROWS) job_words _ _ _ c.in_err-table.field-0.0 c.from_residual-in_err-table.ensures.1
