@@ -19,7 +19,8 @@ use sha2::{Digest, Sha256};
 pub struct Sha256Challenger {
     /// The chain.
     pub chain: [u8; 32],
-    /// How many draws are left: 2 for both halves of the chain, 1 for the second, 0 for none.
+    /// How many draws are left: 2 for both halves of the chain, 1 for the second, 0 for none. The calls leave no more than
+    /// two; above two the second half is taken again.
     pub left: u8,
 }
 
