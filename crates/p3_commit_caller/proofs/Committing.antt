@@ -1,10 +1,14 @@
 -- A commitment to one matrix.
-use Rattle.std.proofs.Common.{◌≡◌, ◌∙◌, ℕ, List, [], ◌∷◌, length, get_or, map, refl, subst, ap, arith}
+use Rattle.std.proofs.Common.{◌≡◌, ◌∙◌, ℕ, List, [], ◌∷◌, length, get_or, map, refl, sym, subst, ap, arith, rules}
+use Rattle.std.specs.Prelude.{Result, Ok, Err, IsErrAnd}
 use Rattle.std.proofs.lemmas.List.{length-map, get_or-map}
 use Rattle.p3_field.specs.Ring.{Ring}
 use Rattle.p3_field.specs.Poly.{val}
 use Rattle.p3_matrix.specs.Matrix.{Rows}
 use Rattle.p3_commit.specs.Commitments.{Committed, IsCommitment, IsCommitted, AreCommitted, values_of}
+use Rattle.p3_commit.specs.Failure.{IfRefused}
+use Rattle.p3_commit.specs.declared.failure.PcsFailure.{PcsFailure}
+use Rattle.p3_commit.specs.declared.failure.PcsFailure.TheVariants.{OutOfMemory, Refused}
 use Rattle.p3_commit_caller.specs.Single.{AreValues}
 use Rattle.p3_commit_caller.proofs.Lists.{single}
 
@@ -34,3 +38,9 @@ values_of_committed {F = F} {E = E} r s embed n p m c x ys q e = record {
   where
     f : List F → E
     f g = val s (map embed g) x
+
+-- a refusal that is handed on, with what its cause leads to
+pub open_refused : {T E : Type 0} (V : Type 0) (P Q : E → Type 0) → ((e : E) → P e → Q e) → (r : Result T (PcsFailure E)) (f : PcsFailure E) → IsErrAnd r (λ x. x ≡ f) → IfRefused {T = V} (Err f) P → IfRefused r Q
+open_refused V P Q leads (Ok w) f h k = absurd h
+open_refused V P Q leads (Err OutOfMemory) f h k = search rules
+open_refused V P Q leads (Err (Refused e)) f h k = leads e (subst (λ x. IfRefused {T = V} (Err x) P) (sym h) k)

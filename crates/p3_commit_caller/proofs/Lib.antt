@@ -1,3 +1,4 @@
 mod Lists
 mod Openings
 mod Committing
+mod OpenedRow

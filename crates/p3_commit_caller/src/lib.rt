@@ -5,12 +5,12 @@
 mod agreeing;
 mod rows;
 
-ghost use Rattle.std.specs.Prelude.{◌≡◌, ◌⊎◌, ℕ, ◌<◌, List, [], ◌∷◌, length, get_or, IfOk, IsTrue, IsSome, IfSome};
+ghost use Rattle.std.specs.Prelude.{◌≡◌, ◌⊎◌, ◌↔◌, ℕ, ◌<◌, List, [], ◌∷◌, length, get_or, IfOk, IsTrue, IsSome, IfSome};
 ghost use Rattle.p3_matrix.specs.Matrix.{Rows, column};
 ghost use Rattle.p3_matrix.specs.Interpolation.{IsInterpolatedAt};
 ghost use Rattle.p3_commit.specs.Claims.{CommitmentClaim, Request};
 ghost use Rattle.p3_commit.specs.Failure.{IfRefused};
-ghost use Rattle.p3_commit.specs.Commitments.{Committed, Held, nested, values_of};
+ghost use Rattle.p3_commit.specs.Commitments.{Committed, IsCommitment, Held, nested, values_of};
 ghost use Rattle.p3_commit_caller.specs.Single.{claim_of, AreValues};
 
 pub use agreeing::committed_alike;
@@ -23,7 +23,7 @@ use p3_field::{
     TwoAdicCore,
 };
 use p3_matrix::RowMajorMatrix;
-pub use rows::{committed_and_opened, twice};
+pub use rows::committed_and_opened;
 use std::alloc::Global;
 
 // The list of one item.
@@ -86,7 +86,7 @@ fn verified<E: ExtensionField<P::Val>, C, P: Pcs<E, C>>(
     proof: &P::Proof,
     challenger: &mut C,
 ) -> Mem<bool>
-    ensures { IfOk result (λ b. P.opens pcs.now challenger.old (claim ∷ []) proof.now → IsTrue b) }
+    ensures { IfOk result (λ b. IsTrue b ↔ P.opens pcs.now challenger.old (claim ∷ []) proof.now) }
 {
     let claims = one(alloc, claim)?;
     match pcs.verify(alloc, claims, proof, challenger) {
@@ -96,11 +96,13 @@ fn verified<E: ExtensionField<P::Val>, C, P: Pcs<E, C>>(
     }
 }
 
-/// Commits to a matrix on a domain, opens it at a point, and verifies the opening: the values that were opened, or None
-/// where the verifier refuses them, which can't be. They are the values of the interpolants of the matrix's columns.
-/// `challenger` is the transcript's state before the opening; the point isn't one that the scheme excludes.
+/// Commits to a matrix on a domain, opens it at a point, and verifies the opening (own): the values that were opened, or
+/// None where the verifier refuses them, which can't be. They are the values of the interpolants of the matrix's columns,
+/// one for each column. `challenger` is the transcript's state before the opening; the point isn't one that the scheme
+/// excludes. What the verifier answered can't be seen, since by the scheme's laws it always accepts.
 ///
-/// `Refused` comes only where the scheme refuses to commit to the matrix or to open it.
+/// `Refused` comes only where the scheme refuses to commit to the matrix, or to open what it gave for a commitment to it.
+/// `OutOfMemory` may come in place of any answer.
 pub fn committed_and_verified<E: ExtensionField<P::Val>, C: Copy, P: Pcs<E, C>>(
     alloc: Global,
     pcs: &P,
@@ -111,7 +113,8 @@ pub fn committed_and_verified<E: ExtensionField<P::Val>, C: Copy, P: Pcs<E, C>>(
 ) -> Result<Option<Vec<E>>, PcsFailure<P::ProverError>>
     requires { P.excludes pcs.now point → ⊥ }
     ensures refused { IfRefused result (λ e. P.commit_fault pcs.now ((domain, matrix) ∷ []) e
-        ⊎ ((prover_data : P.ProverData) × P.open_fault pcs.now (record { prover_data = prover_data; points = (point ∷ []) ∷ [] } ∷ []) e)) }
+        ⊎ ((w : P.Commitment × P.ProverData) × IsCommitment P.Val.ring P.Domain.points P.Domain.point_at (P.commits pcs.now) (P.made pcs.now) (P.holds pcs.now) ((domain, matrix) ∷ []) w
+        × P.open_fault pcs.now (record { prover_data = w.1; points = (point ∷ []) ∷ [] } ∷ []) e)) }
     ensures accepted { IfOk result IsSome }
     ensures values { IfOk result (λ o. IfSome o (λ v. AreValues P.Val.ring E.ring E.embed (P.Domain.point_at domain) matrix point v.items)) }
 {

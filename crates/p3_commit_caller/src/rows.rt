@@ -1,22 +1,16 @@
 //! A caller of any scheme that commits to matrices: it commits to one, opens a row and verifies the opening.
-ghost use Rattle.std.specs.Prelude.{◌≡◌, ◌<◌, [], ◌∷◌, length, IfOk, IsSome};
+ghost use Rattle.std.specs.Prelude.{◌≡◌, ◌<◌, [], ◌∷◌, IfOk, IsSome, IfSome};
 ghost use Rattle.std.specs.Int.{IsPowerOfTwo};
-ghost use Rattle.p3_matrix.specs.Matrix.{Rows, height};
+ghost use Rattle.p3_matrix.specs.Matrix.{Rows, height, row_at};
+ghost use Rattle.p3_commit.specs.Batches.{lists};
 
 use p3_commit::{BatchOpening, BatchOpeningRef, Mmcs, PcsFailure};
 use p3_field::Mem;
 use p3_matrix::{Dimensions, RowMajorMatrix};
 use std::alloc::Global;
 
-/// A borrowed opening, twice: it is copied.
-pub fn twice<'a, T: Copy + Eq, M: Mmcs<T>>(
-    opening: BatchOpeningRef<'a, T, M>,
-) -> (BatchOpeningRef<'a, T, M>, BatchOpeningRef<'a, T, M>) {
-    (opening, opening)
-}
-
-/// Commits to a matrix, opens a row and verifies the opening: the opening, or None where the verifier refuses it, which
-/// can't be.
+/// Commits to a matrix, opens the row with this number and verifies the opening (own): the opening, which has that row
+/// alone, or None where the verifier refuses it, which can't be. The only error is want of memory.
 pub fn committed_and_opened<T: Copy + Eq, M: Mmcs<T>>(
     alloc: Global,
     mmcs: &M,
@@ -25,8 +19,9 @@ pub fn committed_and_opened<T: Copy + Eq, M: Mmcs<T>>(
 ) -> Mem<Option<BatchOpening<T, M>>>
     requires power { IsPowerOfTwo (height matrix) }
     requires width { M.takes matrix.width }
-    requires row { index < height matrix }
-    ensures { IfOk result IsSome }
+    requires index { index < height matrix }
+    ensures accepted { IfOk result IsSome }
+    ensures row { IfOk result (λ o. IfSome o (λ b. lists b.opened_values.items ≡ row_at matrix index ∷ [])) }
 {
     let dimensions = Dimensions {
         width: matrix.width(),

@@ -1,6 +1,8 @@
-use Rattle.std.proofs.Common.{◌∙◌, List, [], ◌∷◌, ap, sym, subst}
+use Rattle.std.proofs.Common.{◌∙◌, inr, List, [], ◌∷◌, ap, sym, subst, Vec, Global}
+use Rattle.p3_matrix.specs.Matrix.{Rows}
+use Rattle.p3_commit.specs.Commitments.{IsCommitment}
 use Rattle.p3_commit.specs.Claims.{MatrixClaim}
-use Rattle.p3_commit_caller.proofs.Committing.{committed_one, values_of_committed}
+use Rattle.p3_commit_caller.proofs.Committing.{committed_one, values_of_committed, open_refused}
 use Rattle.p3_commit_caller.proofs.committed_and_verified.Goals as goal
 
 pub opened-requires-clause-held : goal.opened-requires-clause-held
@@ -33,4 +35,14 @@ returns-clause-accepted g c =
     let points = c.in_ok-points.ensures ∙ ap (λ l. record { point = c.args.point; values = l } ∷ []) values in
     let matrices = c.in_ok-matrices.ensures ∙ ap (λ l. record { domain = c.args.domain; points = l } ∷ []) points in
     let Q : List (MatrixClaim g.row.E.Denot g.row.P-Domain.Denot) → Type 0 = λ l. T.opens c.args.pcs.now c.args.challenger (record { commitment = commitment; matrices = l } ∷ []) c.in_ok-values.proof in
-    sym c.if-branch.false ∙ c.in_ok-verified.ensures (subst Q (sym matrices) accepts)
+    sym c.if-branch.false ∙ c.in_ok-verified.ensures.1 (subst Q (sym matrices) accepts)
+
+pub returns-in_err-values-clause-refused : goal.returns-in_err-values-clause-refused
+returns-in_err-values-clause-refused g c =
+    let T = g.P.Pcs in
+    let S = g.P.Domain.PolynomialSpace in
+    let w : g.row.P-Commitment.Denot × g.row.P-ProverData.Denot = (c.in_ok-commitment.commitment, c.in_ok-commitment.prover_data) in
+    let Is : List (g.row.P-Domain.Denot × Rows g.row.P-Val.Denot) → Type 0 =
+    λ l. IsCommitment g.P.Val.RingCore.ring S.points S.point_at (T.commits c.args.pcs.now) (T.made c.args.pcs.now) (T.holds c.args.pcs.now) l w in
+    open_refused (Vec g.row.E.Denot Global × g.row.P-Proof.Denot) _ _ (λ e h. inr (w, subst Is c.in_ok-one.ensures c.in_ok-commitment.ensures.committed, h))
+    c.from_residual-in_err-values.result c.in_err-values.field-0.0 c.from_residual-in_err-values.ensures.1 c.in_err-values.ensures.refused
