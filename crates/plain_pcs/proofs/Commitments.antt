@@ -12,22 +12,34 @@ use Rattle.p3_matrix.specs.Laws.Cells.{length-column}
 use Rattle.p3_matrix.specs.Laws.Powers.{power_cancel}
 use Rattle.p3_dft.specs.Transform.{values_at}
 use Rattle.p3_dft.specs.Laws.Values.{length-values_at, get_or-values_at}
+use Rattle.p3_commit.specs.Failure.{NoneOf}
 use Rattle.p3_commit.specs.Commitments.{Committed, IsCommitted, IsCommitment, AreExtensions}
 use Rattle.p3_commit.specs.Periodic.{EachFrom}
 use Rattle.p3_commit.specs.Laws.Codes.{width_positive}
 use Rattle.plain_pcs.specs.Scheme.{Scheme, PlainCommitmentData}
 use Rattle.plain_pcs.specs.Extension.{interpolant, extended_domain, extension_of, commitment_of, IsCommittable, Extends}
 use Rattle.plain_pcs.specs.Holding.{IsMade, IsHolding, AreHolding}
-use Rattle.plain_pcs.specs.Refusals.{HasSubgroupHeight}
+use Rattle.plain_pcs.specs.Refusals.{CommitFault, ExtensionsFault, HasSubgroupHeight}
+use Rattle.plain_pcs.specs.declared.error.PlainProverError.TheVariants.{Commit, Open}
 use Rattle.plain_pcs.specs.Cosets.{IsOnCoset}
 use Rattle.plain_pcs.specs.Laws.Extensions.{polynomials, length-polynomials, get_or-polynomials, is_interpolant, width-extension, height-extension, column-extension}
-use Rattle.plain_pcs.proofs.Lists.{item_of, of_all, same_item, each_is_map, each_mapped, each_zipped}
+use Rattle.plain_pcs.specs.Laws.Listed.{item_at, item_has}
+use Rattle.plain_pcs.proofs.Lists.{same_item, none_first, each_is_map, each_mapped, each_zipped}
 
 -- a column is the values of its interpolant
-values_of_interpolant : {A : Type 0} (r : Ring A) (p : ℕ → A) (n : ℕ) (v f : List A) → length v ≡ n → IsInterpolant r p v f → v ≡ values_at r p n f
+pub values_of_interpolant : {A : Type 0} (r : Ring A) (p : ℕ → A) (n : ℕ) (v f : List A) → length v ≡ n → IsInterpolant r p v f → v ≡ values_at r p n f
 values_of_interpolant r p n v f size I =
     ext_get_or r.zero v (values_at r p n f) (size ∙ sym (length-values_at r p n f))
     (λ i b. sym (I.value_is i b) ∙ sym (get_or-values_at r p n f i r.zero (omega arith)))
+
+-- where all matrices can be committed to, there is no cause to refuse
+pub no_commit_fault : {F : Type 0} (s : Scheme F) (xs : List (CosetData F × Rows F)) → All (λ e. IsCommittable s e.0 e.1) xs → NoneOf (CommitFault s xs)
+no_commit_fault s xs all (Commit i) f = none_first (λ e. IsCommittable s e.0 e.1) xs i all f
+no_commit_fault s xs all (Open i) f = f
+
+pub no_height_fault : {F : Type 0} (s : Scheme F) (xs : List (Rows F)) → All (HasSubgroupHeight s.most) xs → NoneOf (ExtensionsFault s xs)
+no_height_fault s xs all (Commit i) f = none_first (HasSubgroupHeight s.most) xs i all f
+no_height_fault s xs all (Open i) f = f
 
 -- matrices that can be committed to on their domains are prover data
 pub committable_made : {F : Type 0} (s : Scheme F) (evaluated : List (CosetData F × Rows F)) → All (λ e. IsCommittable s e.0 e.1) evaluated → IsMade evaluated
@@ -37,9 +49,9 @@ committable_made s evaluated all = λ k d b. let C = all k d b in (C.has_columns
 pub cosets_made : {F : Type 0} (g : F) (top : ℕ) (ms : List (Rows F)) (kept : List (CosetData F × Rows F)) → All (HasSubgroupHeight top) ms → EachFrom ms kept (λ m e. IsOnCoset g m e) → IsMade kept
 cosets_made {F} g top ms kept all E = λ k d b.
     let e = get_or kept k d in
-    let (m, q) = item_of ms k (omega (arith, E.count)) in
+    let (m, q) = item_at ms k (omega (arith, E.count)) in
     let on : IsOnCoset g m e = E.each k e (slice_get-get_or kept k d b) m q in
-    let (n, low, size) = of_all (HasSubgroupHeight top) ms k m all q in
+    let (n, low, size) = item_has (HasSubgroupHeight top) ms k m all q in
     let wide : 0 < m.width = width_positive m (n, size) in
     (subst (λ (v : Rows F). 0 < v.width) (sym on.matrix_is) wide, ap (λ (v : Rows F). height v) on.matrix_is ∙ on.height_is)
 

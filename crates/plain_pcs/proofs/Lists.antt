@@ -9,6 +9,7 @@ use Rattle.p3_commit.specs.Space.{EachOf}
 use Rattle.p3_commit.specs.Periodic.{EachFrom}
 use Rattle.p3_commit.specs.Laws.Pairs.{length-zip, slice_get-zip}
 use Rattle.plain_pcs.specs.Refusals.{IsFirstWithout}
+use Rattle.plain_pcs.specs.Laws.Listed.{item_at, item_has}
 
 pub none_yet : {X : Type 0} (xs : List X) (P : ℕ → X → Type 0) → xs ≡ [] → EachOf 0 xs P
 none_yet xs P e = record {
@@ -38,18 +39,8 @@ one_more {X} n xs zs y P E p q = record {
               subst (λ j. P j x) (sym at) (subst (P n) last p)
         ]
 
--- an item, by its place
-pub item_of : {X : Type 0} (xs : List X) (i : ℕ) → i < length xs → (x : X) × (slice_get xs i ≡ Some x)
-item_of [] i h = absurd (omega arith)
-item_of (x ∷ xs) zero h = (x, refl)
-item_of (x ∷ xs) (suc i) h = item_of xs i (omega arith)
-
 pub same_item : {X : Type 0} (xs : List X) (i : ℕ) (x y : X) → slice_get xs i ≡ Some x → slice_get xs i ≡ Some y → x ≡ y
 same_item xs i x y e f = sym (get_or_from_slice_get xs i x x e) ∙ get_or_from_slice_get xs i y x f
-
--- what holds of all items holds of an item
-pub of_all : {X : Type 0} (P : X → Type 0) (xs : List X) (i : ℕ) (x : X) → All P xs → slice_get xs i ≡ Some x → P x
-of_all P xs i x all e = subst P (get_or_from_slice_get xs i x x e) (all i x (slice_get_within xs i x e))
 
 -- an item of a list that was mapped
 pub mapped_item : {X Y : Type 0} (f : X → Y) (xs : List X) (i : ℕ) (y : Y) → slice_get (map f xs) i ≡ Some y → (x : X) × (slice_get xs i ≡ Some x) × (y ≡ f x)
@@ -74,7 +65,7 @@ each_mapped f xs zs E R h step = record {
       let (v, a, b) = mapped_item f xs i y q in
       let same : v ≡ x = same_item xs i v x a e in
       let within : i < length zs = omega (arith, slice_get_within xs i x e, h.count) in
-      let (z, g) = item_of zs i within in
+      let (z, g) = item_at zs i within in
       subst (R x) (sym (b ∙ ap f same)) (step x z (h.each i z g x e));
 }
 
@@ -114,7 +105,7 @@ pub all_earlier : {X : Type 0} (P : X → Type 0) (xs : List X) (n : ℕ) → n 
 all_earlier P xs n e before = λ k d h. before k (get_or xs k d) (omega arith) (slice_get-get_or xs k d h)
 
 pub none_first : {X : Type 0} (P : X → Type 0) (xs : List X) (i : ℕ) → All P xs → IsFirstWithout P xs i → ⊥
-none_first P xs i all F = F.lacks (of_all P xs i F.item all F.item_is)
+none_first P xs i all F = F.lacks (item_has P xs i F.item all F.item_is)
 
 -- one item more, of one that is made from the next of xs
 pub each_step : {X Y : Type 0} (R : X → Y → Type 0) (xs : List X) (n : ℕ) (x : X) (ys zs : List Y) (y : Y) → n < length xs → x ≡ get_or xs n x
@@ -131,10 +122,6 @@ each_yielded {X} R xs done x ys zs y h at E p e =
 
 pub each_done : {X Y : Type 0} (R : X → Y → Type 0) (xs : List X) (n : ℕ) (ys : List Y) → n ≡ length xs → EachOf n ys (λ i y. (v : X) → slice_get xs i ≡ Some v → R v y) → EachFrom xs ys R
 each_done R xs n ys e E = record { count = E.count ∙ e; each = E.each }
-
--- what holds of all items, at one that was read
-pub at_item : {X : Type 0} (P : X → Type 0) (xs : List X) (i : ℕ) (x : X) → All P xs → i < length xs → x ≡ get_or xs i x → P x
-at_item P xs i x all h e = subst P (sym e) (all i x h)
 
 pub match_some : {X : Type 0} (o : Option X) (P : Type 0) (Q : X → Type 0) → (P → ⊥) → MatchOption o P Q → IsSome o
 match_some None P Q n m = absurd (n m)

@@ -7,7 +7,6 @@ use Rattle.p3_commit.specs.Claims.{Request}
 use Rattle.p3_commit.specs.Commitments.{Committed, Held, values_of, opened_round, opened}
 use Rattle.p3_commit.specs.Periodic.{EachFrom}
 use Rattle.p3_commit.specs.Laws.Pairs.{length-zip}
-use Rattle.p3_commit.specs.Failure.{NoneOf}
 use Rattle.p3_field.specs.Ring.{Ring, RingLaws}
 use Rattle.p3_field.specs.Field.{FieldLaws, TwoAdicLaws, RingHom}
 use Rattle.p3_field.specs.Poly.{val}
@@ -18,9 +17,6 @@ use Rattle.p3_matrix.specs.Matrix.{Rows, height, column}
 use Rattle.p3_matrix.specs.Interpolation.{IsInterpolatedAt}
 use Rattle.plain_pcs.specs.Scheme.{PlainCommitmentData}
 use Rattle.plain_pcs.specs.Opening.{HaveValues, EachHasValues, opened_each}
-use Rattle.plain_pcs.specs.Refusals.{OpenFault}
-use Rattle.plain_pcs.specs.declared.error.PlainProverError.TheVariants.{Commit, Open}
-use Rattle.plain_pcs.specs.Laws.Listed.{item_has}
 use Rattle.plain_pcs.specs.Laws.Short.{value_of_short}
 
 -- one result more
@@ -34,11 +30,6 @@ get_or-zip [] ys i x y a b = absurd (omega arith)
 get_or-zip (v ∷ xs) [] i x y a b = absurd (omega arith)
 get_or-zip (v ∷ xs) (w ∷ ys) zero x y a b = refl
 get_or-zip (v ∷ xs) (w ∷ ys) (suc i) x y a b = get_or-zip xs ys i x y (omega arith) (omega arith)
-
--- where each request has a list of points per matrix, there is no cause to refuse
-pub no_open_fault : {F E : Type 0} (requests : List (Request (List (CosetData F × Rows F)) E)) → All (λ r. length r.points ≡ length r.prover_data) requests → NoneOf (OpenFault requests)
-no_open_fault requests a (Commit i) f = f
-no_open_fault {F} {E} requests a (Open i) f = f.lacks (item_has (λ (r : Request (List (CosetData F × Rows F)) E). length r.points ≡ length r.prover_data) requests i f.item a f.item_is)
 
 module _ {F E : Type 0} (r : Ring F) (L : RingLaws r) (inv : F → F) (W : FieldLaws r inv) (top : ℕ) (root : ℕ → F) (T : TwoAdicLaws r top root)
     (s : Ring E) (M : RingLaws s) (embed : F → E) (H : RingHom r s embed) where

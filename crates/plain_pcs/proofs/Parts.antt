@@ -2,7 +2,6 @@
 use Rattle.std.proofs.Common.{◌≡◌, ℕ, zero, suc, ◌+◌, ◌*◌, ◌%◌, ◌^◌, ◌<◌, ◌≤◌, ◌↔◌, inl, inr, List, [], ◌∷◌, ◌++◌, Option, Some, None, length, get_or, map, refl, sym, ◌∙◌, ap, subst, arith}
 use Rattle.std.specs.Prelude.{All, Bool, true, false, IsTrue, slice_get, flat_map, zip}
 use Rattle.std.proofs.lemmas.Bool.{cases_lt}
-use Rattle.std.proofs.lemmas.Grind.{one_shifted}
 use Rattle.std.proofs.lemmas.List.{get_or-map}
 use Rattle.std.proofs.lemmas.Option.{same_Some}
 use Rattle.p3_field.specs.Ring.{Ring, RingLaws}
@@ -42,19 +41,9 @@ zip_within (x ∷ xs) [] i z q = absurd cc
 zip_within (x ∷ xs) (y ∷ ys) zero z q = omega arith
 zip_within (x ∷ xs) (y ∷ ys) (suc i) z q = let h = zip_within xs ys i z q in omega arith
 
--- the items of two lists at the same place
-pub zip_here : {A B : Type 0} (xs : List A) (ys : List B) (i : ℕ) (x : A) (y : B) → slice_get xs i ≡ Some x → slice_get ys i ≡ Some y → slice_get (zip xs ys) i ≡ Some (x, y)
-zip_here [] ys i x y p q = absurd cc
-zip_here (a ∷ xs) [] i x y p q = absurd cc
-zip_here (a ∷ xs) (b ∷ ys) zero x y p q = ap (λ v. Some (v, b)) (same_Some a x p) ∙ ap (λ v. Some (x, v)) (same_Some b y q)
-zip_here (a ∷ xs) (b ∷ ys) (suc i) x y p q = zip_here xs ys i x y p q
-
 -- a test that fails
 pub not_told : (told : Bool) (H : Type 0) → IsTrue told ↔ H → told ≡ false → H → ⊥
 not_told told H same e h = let t : told ≡ true = same.1 h in cc
-
-pub size_of_shift : (k top : ℕ) → k ≤ top → top < 64 → 1 * 2 ^ k % 18446744073709551616 ≡ 2 ^ k
-size_of_shift k top h t = let b : k < 64 = omega arith in (one_shifted k 18446744073709551615 refl b).0
 
 -- the interpolants of the columns are their polynomials
 module _ {F : Type 0} (r : Ring F) (L : RingLaws r) (inv : F → F) (W : FieldLaws r inv) (top : ℕ) (root : ℕ → F) (T : TwoAdicLaws r top root) where

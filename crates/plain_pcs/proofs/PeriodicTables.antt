@@ -21,6 +21,8 @@ use Rattle.p3_dft.specs.Laws.Values.{length-values_at, get_or-values_at}
 use Rattle.p3_commit.specs.Periodic.{IsPeriod, over_rows, IsPeriodicAt, IsPeriodicTable}
 use Rattle.p3_commit.specs.Laws.Repeated.{length_over_rows, get_or_over_rows}
 use Rattle.plain_pcs.specs.Transfer.{IsTransfer, IsRepeated}
+use Rattle.plain_pcs.specs.Laws.Listed.{item_has}
+use Rattle.plain_pcs.proofs.Commitments.{values_of_interpolant}
 
 -- a period has values, and whole copies fill the rows
 pub period_positive : (n k : ℕ) → IsPeriod n k → 0 < k
@@ -31,10 +33,6 @@ whole_copies n k p =
     let pos : 0 < k = period_positive n k p in
     let none : n % k ≡ 0 = mod-eq-zero_of_dvd k p.1 in
     omega arith
-
--- the property of an item
-all_at : {X : Type 0} (P : X → Type 0) (xs : List X) (i : ℕ) (x : X) → All P xs → slice_get xs i ≡ Some x → P x
-all_at P xs i x a h = subst P (get_or_from_slice_get xs i x x h) (a i x (slice_get_within xs i x h))
 
 module _ {A : Type 0} (r : Ring A) where
   -- a column of the matrix is the period over all rows
@@ -51,12 +49,6 @@ module _ {A : Type 0} (r : Ring A) where
       let inside : i < height m = omega (arith, length-column r.zero m j) in
       let below : i < n = omega arith in
       get_or-column r.zero m j i inside ∙ (R.cell_is i j c below h ∙ sym (get_or_over_rows n (n / length c) c i r.zero copies pos below)))
-
-  -- an interpolant has the values
-  values_of_interpolant : (p : ℕ → A) (n : ℕ) (v f : List A) → length v ≡ n → IsInterpolant r p v f → v ≡ values_at r p n f
-  values_of_interpolant p n v f len I =
-      ext_get_or r.zero v (values_at r p n f) (len ∙ sym (length-values_at r p n f))
-      (λ i b. let below : i < n = omega arith in sym (get_or-values_at r p n f i r.zero below ∙ I.value_is i b))
 
 module _ {A : Type 0} (r : Ring A) (L : RingLaws r) (inv : A → A) (W : FieldLaws r inv) (top : ℕ) (root : ℕ → A) (T : TwoAdicLaws r top root) where
   pub periodic_cell : (d e : CosetData A) (columns : List (List A)) (m v : Rows A) (j : ℕ) (c : List A) (i : ℕ) → d.log_size ≤ top → (d.shift ≡ r.zero → ⊥) → IsPeriod (2 ^ d.log_size) (length c)
@@ -89,7 +81,7 @@ module _ {A : Type 0} (r : Ring A) (L : RingLaws r) (inv : A → A) (W : FieldLa
   table_by_transfer d e columns m v fits nz periods R I = record {
     width_is = I.width_is ∙ R.width_is;
     has_rows = λ h. let q : 0 < 2 ^ e.log_size = pow_pos e.log_size in omega (arith, I.height_is);
-    cell_is = λ j c i h b. periodic_cell d e columns m v j c i fits nz (all_at (λ x. IsPeriod (2 ^ d.log_size) (length x)) columns j c periods h) R I h b;
+    cell_is = λ j c i h b. periodic_cell d e columns m v j c i fits nz (item_has (λ x. IsPeriod (2 ^ d.log_size) (length x)) columns j c periods h) R I h b;
   }
 
 -- an item of a list that is read from another

@@ -2,10 +2,9 @@
 use Rattle.std.proofs.Common.{◌≡◌, ℕ, ◌+◌, ◌<◌, ◌≤◌, inl, inr, List, Option, None, Some, [], ◌∷◌, ◌++◌, length, map, get_or, refl, sym, ◌∙◌, ap, subst, arith, Vec}
 use Rattle.std.specs.Prelude.{slice_get, option_map, All}
 use Rattle.std.proofs.lemmas.Bool.{cases_lt}
-use Rattle.std.proofs.lemmas.List.{length-map, length_push, get_or_push, get_or_append_left}
+use Rattle.std.proofs.lemmas.List.{length-map}
 use Rattle.std.proofs.lemmas.List.{get_or-map as read_map, get_or_default}
 use Rattle.std.proofs.lemmas.Option.{slice_get_within, slice_get-get_or, get_or_from_slice_get, slice_get-map}
-use Rattle.p3_commit.specs.Space.{EachOf}
 use Rattle.p3_commit.specs.Periodic.{EachFrom}
 use Rattle.p3_commit.specs.Batches.{lists}
 
@@ -40,35 +39,6 @@ read_list vs i v d h e = read_map (λ w. w.items) vs i v d h ∙ ap (λ w. w.ite
 -- the second list is read from the first
 pub each_mapped : {X Y : Type 0} (xs : List X) (f : X → Y) (R : X → Y → Type 0) → ((j : ℕ) (x : X) → j < length xs → R (get_or xs j x) (f (get_or xs j x))) → EachFrom xs (map f xs) R
 each_mapped xs f R h = each_read xs xs f R refl (λ j x v k. subst (λ w. R (get_or xs j x) (f w)) (get_or_default xs j x v k) (h j x k))
-
--- one more item
-pub none_yet : {X : Type 0} (xs : List X) (P : ℕ → X → Type 0) → xs ≡ [] → EachOf 0 xs P
-none_yet xs P e = record {
-  count = ap length e;
-  each = λ i x q. absurd (let b = slice_get_within xs i x q in omega (arith, b, ap length e));
-}
-
-pub one_more : {X : Type 0} (n : ℕ) (xs zs : List X) (y : X) (P : ℕ → X → Type 0) → EachOf n xs P → P n y → zs ≡ xs ++ y ∷ [] → EachOf (n + 1) zs P
-one_more {X} n xs zs y P E p q = record {
-  count = ap length q ∙ (length_push xs y ∙ ap (λ k. k + 1) E.count);
-  each = all;
-}
-  where
-    all : (i : ℕ) (x : X) → slice_get zs i ≡ Some x → P i x
-    all i x h =
-        let within : i < length zs = slice_get_within zs i x h in
-        let item : get_or zs i y ≡ x = get_or_from_slice_get zs i x y h in
-        elim (cases_lt i n) [
-          | inl a ↦
-              let inside : i < length xs = omega (arith, E.count) in
-              let old : get_or xs i y ≡ x = sym (get_or_append_left xs (y ∷ []) y i inside) ∙ (ap (λ l. get_or l i y) (sym q) ∙ item) in
-              E.each i x (slice_get-get_or xs i y inside ∙ ap Some old)
-          | inr a ↦
-              let long : length zs ≡ n + 1 = ap length q ∙ (length_push xs y ∙ ap (λ k. k + 1) E.count) in
-              let at : i ≡ n = omega arith in
-              let last : y ≡ x = sym (get_or_push xs y y i (E.count ∙ sym at)) ∙ (ap (λ l. get_or l i y) (sym q) ∙ item) in
-              subst (λ j. P j x) (sym at) (subst (P n) last p)
-        ]
 
 -- an item and what is read beside it
 pub one_of_each : {X Y A : Type 0} (xs : List X) (vs : List (Vec Y A)) (R : X → List Y → Type 0) → EachFrom xs (lists vs) R → length vs ≡ length xs

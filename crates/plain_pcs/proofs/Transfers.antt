@@ -15,7 +15,6 @@ use Rattle.p3_field.specs.Laws.Roots.{field_no_zero_divisors, same_values}
 use Rattle.p3_field.specs.Laws.Coset.{coset_apart, two_adic_order}
 use Rattle.p3_field.specs.Laws.Tables.{table_same, first_coset_point}
 use Rattle.p3_matrix.specs.Matrix.{Rows, height, row_at, cell_at, column}
-use Rattle.p3_matrix.specs.Laws.Powers.{one_shifted_left}
 use Rattle.p3_matrix.specs.Laws.Cells.{length-column, get_or-column}
 use Rattle.p3_dft.specs.Transform.{values_at, IsExtensionOf}
 use Rattle.p3_dft.specs.Laws.Values.{length-values_at, get_or-values_at}
@@ -31,10 +30,6 @@ largest_fits h k l top e a b =
     let size : h * 2 ^ (l - k) ≡ 2 ^ l = ap (λ n. n * 2 ^ (l - k)) e ∙ (sym (pow-add 2 k (l - k)) ∙ ap (λ n. 2 ^ n) sum) in
     let low : 2 ^ l ≤ 2 ^ top = pow_mono b in
     omega arith
-
--- a shifted one
-pub shifted_one : (k top : ℕ) → k ≤ top → top < 64 → 1 * 2 ^ k % 18446744073709551616 ≡ 2 ^ k
-shifted_one k top a b = one_shifted_left k (omega arith)
 
 -- a smaller power divides
 pub stride_divides : (h k l : ℕ) → h ≡ 2 ^ k → l ≤ k → h / 2 ^ (k - l) * 2 ^ (k - l) ≡ h

@@ -10,3 +10,4 @@ pub mod Held
 pub mod Honest
 pub mod Faults
 pub mod Claims
+pub mod Multilinear

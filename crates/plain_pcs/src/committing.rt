@@ -1,5 +1,5 @@
 //! Commitments to matrices and to extensions.
-ghost use Rattle.std.specs.Prelude.{◌≡◌, ℕ, ◌^◌, ◌<◌, ◌≤◌, ◌↔◌, IsTrue, List, Some, IfOk, All, length, slice_get};
+ghost use Rattle.std.specs.Prelude.{◌≡◌, ℕ, ◌^◌, ◌<◌, ◌≤◌, ◌↔◌, IsTrue, List, Some, IfOk, MatchOption, All, length, slice_get};
 ghost use Rattle.p3_field.specs.Domain.{CosetData, coset_point, point, IsInterpolant};
 ghost use Rattle.p3_matrix.specs.Matrix.{Rows, height, column};
 ghost use Rattle.p3_commit.specs.Space.{EachOf};
@@ -10,11 +10,11 @@ ghost use Rattle.plain_pcs.specs.Scheme.{scheme};
 ghost use Rattle.plain_pcs.specs.Extension.{Extends, commitment_of};
 ghost use Rattle.plain_pcs.specs.Holding.{IsMade, AreHolding};
 ghost use Rattle.plain_pcs.specs.Cosets.{IsOnCoset};
-ghost use Rattle.plain_pcs.specs.Refusals.{CommitFault, ExtensionsFault, HasSubgroupHeight};
+ghost use Rattle.plain_pcs.specs.Refusals.{IsFirstWithout, CommitFault, ExtensionsFault, HasSubgroupHeight};
 
 use crate::commitment::{PlainCommitment, PlainProverData, copied_matrices};
 use crate::error::PlainProverError;
-use crate::extending::{check_committable, extensions_from, extensions_of};
+use crate::extending::{extensions_from, extensions_of, first_not_committable};
 use p3_commit::PcsFailure;
 use p3_dft::{TwoAdicSubgroupDft, interpolant_on_coset};
 use p3_field::{FieldCore, Mem, TwoAdicCore, TwoAdicField, TwoAdicMultiplicativeCoset};
@@ -24,7 +24,7 @@ use std::alloc::Global;
 /// Commits to the columns of matrices on domains (own): the commitment is their extensions, and the prover keeps what it
 /// was given. Each matrix is copied once, for the transform that extends it. `Refused` names the first matrix that can't
 /// be committed to, and comes exactly where there is one.
-pub fn commit<F: TwoAdicField, D: TwoAdicSubgroupDft<F>>(
+pub(crate) fn commit<F: TwoAdicField, D: TwoAdicSubgroupDft<F>>(
     alloc: Global,
     dft: &D,
     log_blowup: usize,
@@ -36,7 +36,9 @@ pub fn commit<F: TwoAdicField, D: TwoAdicSubgroupDft<F>>(
         (λ es c. c ≡ commitment_of (scheme F.ring F.inv F.root F.GENERATOR F.TWO_ADICITY (record { log_blowup = log_blowup })) es)
         IsMade (AreHolding (scheme F.ring F.inv F.root F.GENERATOR F.TWO_ADICITY (record { log_blowup = log_blowup }))) evaluations.items) }
 {
-    check_committable(log_blowup, &evaluations)?;
+    if let Some(matrix) = first_not_committable(log_blowup, &evaluations) {
+        return Err(PcsFailure::Refused(PlainProverError::Commit { matrix }));
+    }
     let matrices = extensions_of(alloc, dft, log_blowup, &evaluations)?;
     Ok((
         PlainCommitment { matrices },
@@ -48,7 +50,7 @@ pub fn commit<F: TwoAdicField, D: TwoAdicSubgroupDft<F>>(
 
 /// The extensions of matrices on domains (own), without a copy of any. `Refused` names the first matrix that can't be
 /// committed to, and comes exactly where there is one.
-pub fn extensions<F: TwoAdicField, D: TwoAdicSubgroupDft<F>>(
+pub(crate) fn extensions<F: TwoAdicField, D: TwoAdicSubgroupDft<F>>(
     alloc: Global,
     dft: &D,
     log_blowup: usize,
@@ -58,7 +60,9 @@ pub fn extensions<F: TwoAdicField, D: TwoAdicSubgroupDft<F>>(
     ensures refusal { RefusedBy (CommitFault (scheme F.ring F.inv F.root F.GENERATOR F.TWO_ADICITY (record { log_blowup = log_blowup })) evaluations.items) result }
     ensures extensions { IfOk result (λ v. AreExtensions (Extends (scheme F.ring F.inv F.root F.GENERATOR F.TWO_ADICITY (record { log_blowup = log_blowup }))) evaluations.items v.items) }
 {
-    check_committable(log_blowup, &evaluations)?;
+    if let Some(matrix) = first_not_committable(log_blowup, &evaluations) {
+        return Err(PcsFailure::Refused(PlainProverError::Commit { matrix }));
+    }
     let extended = extensions_from(alloc, dft, log_blowup, evaluations)?;
     Ok(extended)
 }
@@ -72,20 +76,16 @@ pub fn has_subgroup_height<F: TwoAdicField>(matrix: &RowMajorMatrix<F>) -> bool
     is_power_of_two(height) && log2_strict_usize(height) <= F::TWO_ADICITY
 }
 
-// Refuses, for the first matrix of another height.
-fn check_heights<F: TwoAdicField>(
-    log_blowup: usize,
-    ldes: &[RowMajorMatrix<F>],
-) -> Result<(), PcsFailure<PlainProverError>>
-    ensures refusal { RefusedBy (ExtensionsFault (scheme F.ring F.inv F.root F.GENERATOR F.TWO_ADICITY (record { log_blowup = log_blowup })) ldes.now) result }
-    ensures heights { IfOk result (λ _. All (HasSubgroupHeight F.TWO_ADICITY) ldes.now) }
+// The place of the first matrix whose height isn't the size of a subgroup, or None.
+fn first_other_height<F: TwoAdicField>(ldes: &[RowMajorMatrix<F>]) -> Option<usize>
+    ensures { MatchOption result (All (HasSubgroupHeight F.TWO_ADICITY) ldes.now) (IsFirstWithout (HasSubgroupHeight F.TWO_ADICITY) ldes.now) }
 {
     for (matrix, lde) in ldes.iter().enumerate() {
         if !has_subgroup_height(lde) {
-            return Err(PcsFailure::Refused(PlainProverError::Commit { matrix }));
+            return Some(matrix);
         }
     }
-    Ok(())
+    None
 }
 
 // The coset whose shift is the field's GENERATOR and which has a point for each row.
@@ -116,7 +116,7 @@ fn with_cosets<F: TwoAdicField>(
 /// Commits to the columns of which these are extensions that `extensions` gave (own): the commitment is the extensions,
 /// and the prover keeps them, each with its coset. They are copied once. `Refused` names the first matrix whose height
 /// isn't the size of a subgroup, and comes exactly where there is one.
-pub fn commit_extensions<F: TwoAdicField>(
+pub(crate) fn commit_extensions<F: TwoAdicField>(
     alloc: Global,
     log_blowup: usize,
     ldes: Vec<RowMajorMatrix<F>>,
@@ -132,7 +132,9 @@ pub fn commit_extensions<F: TwoAdicField>(
         (λ es c. c ≡ commitment_of (scheme F.ring F.inv F.root F.GENERATOR F.TWO_ADICITY (record { log_blowup = log_blowup })) es)
         IsMade (AreHolding (scheme F.ring F.inv F.root F.GENERATOR F.TWO_ADICITY (record { log_blowup = log_blowup }))) chunks w) }
 {
-    check_heights(log_blowup, &ldes)?;
+    if let Some(matrix) = first_other_height(&ldes) {
+        return Err(PcsFailure::Refused(PlainProverError::Commit { matrix }));
+    }
     let matrices = copied_matrices(alloc, &ldes)?;
     let evaluated = with_cosets(alloc, ldes)?;
     Ok((PlainCommitment { matrices }, PlainProverData { evaluated }))
@@ -160,7 +162,7 @@ pub(crate) fn column_polynomials<F: TwoAdicField>(
 /// The polynomials of the columns of a committed matrix whose height is the size of a subgroup (own): for each column its
 /// coefficients, lowest first, as many as there are rows. The value at point i of the coset with shift GENERATOR is the
 /// column's value in row i.
-pub fn committed<F: TwoAdicField>(
+pub(crate) fn committed<F: TwoAdicField>(
     alloc: Global,
     commitment: &PlainCommitment<F>,
     matrix: usize,

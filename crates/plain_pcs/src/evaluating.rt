@@ -54,7 +54,8 @@ pub(crate) fn periodic_table<F: TwoAdicField, D: TwoAdicSubgroupDft<F>>(
     requires fit { All (λ c. IsPeriod (2 ^ trace_domain.log_size) (length c.items)) periodic_cols.now }
     requires shift { point F.ring F.root trace_domain 0 ≡ F.ring.one }
     requires larger { 2 ^ trace_domain.log_size ≤ 2 ^ quotient_domain.log_size }
-    ensures { IfOk result (IsPeriodicTable F.ring (2 ^ trace_domain.log_size) (point F.ring F.root trace_domain) (2 ^ quotient_domain.log_size) (point F.ring F.root quotient_domain) (map (λ c. c.items) periodic_cols.now)) }
+    ensures table { IfOk result (IsPeriodicTable F.ring (2 ^ trace_domain.log_size) (point F.ring F.root trace_domain) (2 ^ quotient_domain.log_size) (point F.ring F.root quotient_domain) (map (λ c. c.items) periodic_cols.now)) }
+    ensures height { IfOk result (λ t. 0 < length periodic_cols.now → height t ≡ 2 ^ quotient_domain.log_size) }
 {
     if periodic_cols.is_empty() {
         return Ok(PeriodicLdeTable::empty(alloc));

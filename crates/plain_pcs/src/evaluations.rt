@@ -11,7 +11,7 @@ use p3_field::{
 use std::alloc::Global;
 
 /// Takes in how many values there are, and then each.
-pub fn observe_values<F: RingCore, C: CanObserve<F>>(challenger: &mut C, values: &[F])
+pub(crate) fn observe_values<F: RingCore, C: CanObserve<F>>(challenger: &mut C, values: &[F])
     ensures { challenger.new ≡ after_values F.ring C.observed values.now challenger.old }
 {
     challenger.observe(&F::from_u64(values.len() as u64));
@@ -19,7 +19,7 @@ pub fn observe_values<F: RingCore, C: CanObserve<F>>(challenger: &mut C, values:
 }
 
 /// The first point with another number of coordinates.
-pub fn first_unfit<E>(points: &[Vec<E>], num_vars: usize) -> Option<usize>
+pub(crate) fn first_unfit<E>(points: &[Vec<E>], num_vars: usize) -> Option<usize>
     ensures { MatchOption result (HaveCoordinates num_vars (lists points.now)) (IsFirstUnfit num_vars (lists points.now)) }
 {
     for (i, point) in points.iter().enumerate() {
@@ -31,7 +31,7 @@ pub fn first_unfit<E>(points: &[Vec<E>], num_vars: usize) -> Option<usize>
 }
 
 /// The place of the first value that differs.
-pub fn first_different<E: FieldCore>(claimed: &[E], values: &[E]) -> Option<usize>
+pub(crate) fn first_different<E: FieldCore>(claimed: &[E], values: &[E]) -> Option<usize>
     requires { length claimed.now ≡ length values.now }
     ensures { MatchOption result (claimed.now ≡ values.now) (IsFirstDifferent E.ring claimed.now values.now) }
 {
@@ -82,7 +82,7 @@ fn value_at<F: Field, EF: ExtensionField<F>>(
 }
 
 /// The values at points.
-pub fn values_at<F: Field, EF: ExtensionField<F>>(
+pub(crate) fn values_at<F: Field, EF: ExtensionField<F>>(
     alloc: Global,
     evaluations: &[F],
     points: &[Vec<EF>],

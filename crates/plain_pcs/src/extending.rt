@@ -1,13 +1,10 @@
 //! Low-degree extensions of matrices.
-ghost use Rattle.std.specs.Prelude.{◌≡◌, ◌≤◌, ◌↔◌, IsTrue, IfOk, All};
-ghost use Rattle.p3_commit.specs.Failure.{RefusedBy};
+ghost use Rattle.std.specs.Prelude.{◌≡◌, ◌≤◌, ◌↔◌, IsTrue, IfOk, MatchOption, All};
 ghost use Rattle.p3_commit.specs.Commitments.{AreExtensions};
 ghost use Rattle.plain_pcs.specs.Scheme.{scheme};
 ghost use Rattle.plain_pcs.specs.Extension.{IsCommittable, Extends, extension_of};
-ghost use Rattle.plain_pcs.specs.Refusals.{CommitFault};
+ghost use Rattle.plain_pcs.specs.Refusals.{IsFirstWithout};
 
-use crate::error::PlainProverError;
-use p3_commit::PcsFailure;
 use p3_dft::TwoAdicSubgroupDft;
 use p3_field::{
     Field, FieldCore, Mem, PrimeCharacteristicRing, RingCore, TwoAdicCore, TwoAdicField,
@@ -18,7 +15,7 @@ use std::alloc::Global;
 
 /// The extension of a matrix on a domain (own): the values of its columns' polynomials on the coset whose shift is the
 /// field's GENERATOR and which is 2^`log_blowup` times as large as the domain.
-pub fn extension<F: TwoAdicField, D: TwoAdicSubgroupDft<F>>(
+pub(crate) fn extension<F: TwoAdicField, D: TwoAdicSubgroupDft<F>>(
     alloc: Global,
     dft: &D,
     log_blowup: usize,
@@ -51,25 +48,25 @@ fn is_committable<F: TwoAdicField>(
         && domain.log_size() + log_blowup <= F::TWO_ADICITY
 }
 
-/// Refuses, for the first matrix that the scheme can't commit to on its domain.
-pub fn check_committable<F: TwoAdicField>(
+/// The place of the first matrix that the scheme can't commit to on its domain, or None where it can commit to all.
+pub(crate) fn first_not_committable<F: TwoAdicField>(
     log_blowup: usize,
     evaluations: &[(TwoAdicMultiplicativeCoset<F>, RowMajorMatrix<F>)],
-) -> Result<(), PcsFailure<PlainProverError>>
+) -> Option<usize>
     requires { log_blowup ≤ F.TWO_ADICITY }
-    ensures refusal { RefusedBy (CommitFault (scheme F.ring F.inv F.root F.GENERATOR F.TWO_ADICITY (record { log_blowup = log_blowup })) evaluations.now) result }
-    ensures committable { IfOk result (λ _. All (λ e. IsCommittable (scheme F.ring F.inv F.root F.GENERATOR F.TWO_ADICITY (record { log_blowup = log_blowup })) e.0 e.1) evaluations.now) }
+    ensures { MatchOption result (All (λ e. IsCommittable (scheme F.ring F.inv F.root F.GENERATOR F.TWO_ADICITY (record { log_blowup = log_blowup })) e.0 e.1) evaluations.now)
+        (IsFirstWithout (λ e. IsCommittable (scheme F.ring F.inv F.root F.GENERATOR F.TWO_ADICITY (record { log_blowup = log_blowup })) e.0 e.1) evaluations.now) }
 {
     for (matrix, evaluated) in evaluations.iter().enumerate() {
         if !is_committable(log_blowup, &evaluated.0, &evaluated.1) {
-            return Err(PcsFailure::Refused(PlainProverError::Commit { matrix }));
+            return Some(matrix);
         }
     }
-    Ok(())
+    None
 }
 
 /// The extensions of matrices on their domains. Each matrix is copied once, for the transform that consumes it.
-pub fn extensions_of<F: TwoAdicField, D: TwoAdicSubgroupDft<F>>(
+pub(crate) fn extensions_of<F: TwoAdicField, D: TwoAdicSubgroupDft<F>>(
     alloc: Global,
     dft: &D,
     log_blowup: usize,
@@ -89,7 +86,7 @@ pub fn extensions_of<F: TwoAdicField, D: TwoAdicSubgroupDft<F>>(
 }
 
 /// The extensions of matrices on their domains, where the matrices aren't wanted afterwards: none is copied.
-pub fn extensions_from<F: TwoAdicField, D: TwoAdicSubgroupDft<F>>(
+pub(crate) fn extensions_from<F: TwoAdicField, D: TwoAdicSubgroupDft<F>>(
     alloc: Global,
     dft: &D,
     log_blowup: usize,

@@ -25,7 +25,7 @@ use std::alloc::Global;
 
 /// The values of committed polynomials at points (own), in the order of the requests, of their matrices, of the points,
 /// and of the columns. `Refused` names the first request whose lists of points aren't one per matrix.
-pub fn open<F: TwoAdicField, E: ExtensionField<F>>(
+pub(crate) fn open<F: TwoAdicField, E: ExtensionField<F>>(
     alloc: Global,
     log_blowup: usize,
     requests: &[OpeningRequest<'_, PlainProverData<F>, E>],

@@ -1,5 +1,5 @@
 //! Matrices that are their own commitment.
-ghost use Rattle.std.specs.Prelude.{◌≡◌, ℕ, ◌<◌, ◌↔◌, List, length, map, All, IfOk, IsTrue, MatchOption, ⊤};
+ghost use Rattle.std.specs.Prelude.{◌≡◌, ◌≢◌, ℕ, ◌<◌, ◌↔◌, List, length, map, All, Err, IfOk, IsTrue, MatchOption, ⊤};
 ghost use Rattle.std.specs.Int.{IsPowerOfTwo};
 ghost use Rattle.p3_matrix.specs.Matrix.{Rows, height};
 ghost use Rattle.p3_commit.specs.Periodic.{IsGreatest, EachFrom};
@@ -79,6 +79,7 @@ impl<T: Copy + Eq> Mmcs<T> for PlainMmcs {
 
     ghost multi_fault = { λ s c ds is rows p e. IsFaultOfAll T.eq c.items ds is rows e };
 
+    /// Copies each matrix once, for the commitment.
     fn commit(
         &self,
         alloc: Global,
@@ -96,6 +97,7 @@ impl<T: Copy + Eq> Mmcs<T> for PlainMmcs {
         Ok((commitment, PlainMmcsData { matrices: inputs }))
     }
 
+    /// A copy of a row of each matrix.
     fn open_batch(
         &self,
         alloc: Global,
@@ -109,10 +111,13 @@ impl<T: Copy + Eq> Mmcs<T> for PlainMmcs {
         })
     }
 
+    /// The committed matrices, in order.
     fn get_matrices<'a>(&self, prover_data: &'a PlainMmcsData<T>) -> &'a [RowMajorMatrix<T>] {
         &prover_data.matrices
     }
 
+    /// Compares the rows with the committed ones, one for each matrix, as long as it is wide. It allocates nothing, so memory
+    /// is never wanting. Where a committed height is no power of two, it is `Dimensions` for all rows.
     fn verify_batch(
         &self,
         _alloc: Global,
@@ -122,8 +127,9 @@ impl<T: Copy + Eq> Mmcs<T> for PlainMmcs {
         opening: BatchOpeningRef<'_, T, Self>,
     ) -> Result<(), PcsFailure<PlainMmcsError>>
         requires { All (λ d. ⊤) dimensions.now }
-        ensures { VerifiedBy (IsOpened T.eq commit.now.items dimensions.now index (lists opening.entry.opened_values.now))
+        ensures verdict { VerifiedBy (IsOpened T.eq commit.now.items dimensions.now index (lists opening.entry.opened_values.now))
             (IsFault T.eq commit.now.items dimensions.now index (lists opening.entry.opened_values.now)) result }
+        ensures decided { result ≢ Err PcsFailure.OutOfMemory }
     {
         let rows = opening.opened_values;
         if !has_shape(commit, dimensions, rows) {
@@ -138,6 +144,7 @@ impl<T: Copy + Eq> Mmcs<T> for PlainMmcs {
         Ok(())
     }
 
+    /// A copy of a row of each matrix, for each place.
     fn open_multi_batch(
         &self,
         alloc: Global,
@@ -151,6 +158,8 @@ impl<T: Copy + Eq> Mmcs<T> for PlainMmcs {
         Ok((openings, PlainMmcsProof))
     }
 
+    /// The same for each place in its turn: the shape of all openings comes first, then the places, then the values. It
+    /// allocates nothing, so memory is never wanting.
     fn verify_multi_batch(
         &self,
         _alloc: Global,
@@ -159,7 +168,12 @@ impl<T: Copy + Eq> Mmcs<T> for PlainMmcs {
         indices: &[usize],
         opened_values: &[Vec<Vec<T>>],
         _proof: &PlainMmcsProof,
-    ) -> Result<(), PcsFailure<PlainMmcsError>> {
+    ) -> Result<(), PcsFailure<PlainMmcsError>>
+        requires { All (λ d. ⊤) dimensions.now }
+        ensures verdict { VerifiedBy (AreOpened T.eq commit.now.items dimensions.now indices.now (map (λ rows. lists rows.items) opened_values.now))
+            (IsFaultOfAll T.eq commit.now.items dimensions.now indices.now (map (λ rows. lists rows.items) opened_values.now)) result }
+        ensures decided { result ≢ Err PcsFailure.OutOfMemory }
+    {
         if !have_shape(commit, dimensions, indices, opened_values) {
             return Err(PcsFailure::Refused(PlainMmcsError::Dimensions));
         }

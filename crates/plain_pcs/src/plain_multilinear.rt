@@ -1,6 +1,7 @@
 //! A multilinear polynomial whose values are their own commitment.
 ghost use Rattle.std.specs.Prelude.{◌≡◌, ℕ, ◌^◌, ◌<◌, List, length, map, IfOk, MatchOption};
 ghost use Rattle.p3_commit.specs.Batches.{lists};
+ghost use Rattle.p3_commit.specs.Failure.{RefusedBy, IfRefused, VerifiedBy};
 ghost use Rattle.plain_pcs.specs.PlainMultilinear.{after_values, HasValues, AreValuesAt, IsClaimFault, IsCommitFault, IsOpenFault};
 ghost use Rattle.plain_pcs.specs.Laws.Claims.{claims_faultless, one_claim_fault};
 
@@ -59,7 +60,7 @@ pub enum PlainMultilinearProverError {
     /// A point hasn't a coordinate for each variable; it is the first such.
     #[error("point {point} has not one coordinate for each variable")]
     PointLength {
-        /// The point's place among all.
+        /// The point's place among all, from 0.
         point: usize,
     },
 }
@@ -73,7 +74,7 @@ pub enum PlainMultilinearError {
     /// A point hasn't a coordinate for each variable; it is the first such.
     #[error("point {point} has not one coordinate for each variable")]
     PointLength {
-        /// The point's place among all.
+        /// The point's place among all, from 0.
         point: usize,
     },
     /// There isn't one value for each point.
@@ -82,13 +83,17 @@ pub enum PlainMultilinearError {
     /// A value isn't that of the polynomial at its point; it is the first such.
     #[error("the value at point {point} is not the polynomial's")]
     Value {
-        /// The point's place among all.
+        /// The point's place among all, from 0.
         point: usize,
     },
 }
 
 impl<F: Field, EF: ExtensionField<F>, C: CanObserve<F>> MultilinearPcs<EF, C>
     for PlainMultilinear<F> {
+    ghost use Rattle.std.specs.Prelude.{Vec};
+    ghost use Rattle.std.specs.declared.alloc.Global.{Global};
+    ghost use Rattle.plain_pcs.specs.declared.plain_multilinear.PlainEvaluations.{PlainEvaluations};
+
     type Val = F;
 
     type Commitment = PlainEvaluations<F>;
@@ -147,13 +152,20 @@ impl<F: Field, EF: ExtensionField<F>, C: CanObserve<F>> MultilinearPcs<EF, C>
         observe_values(challenger, &commitment.values);
     }
 
+    /// The values at the protocol's points, in order. The challenger stays as it was.
     fn open(
         &self,
         alloc: Global,
         prover_data: PlainEvaluations<F>,
         protocol: &Vec<Vec<EF>>,
         _challenger: &mut C,
-    ) -> Result<Vec<EF>, PcsFailure<PlainMultilinearProverError>> {
+    ) -> Result<Vec<EF>, PcsFailure<PlainMultilinearProverError>>
+        ensures refusal { RefusedBy (IsOpenFault self.now prover_data.values.items (lists protocol.now.items)) result }
+        ensures unchanged { IfRefused result (λ _. _challenger.new ≡ _challenger.old) }
+        ensures challenger { _challenger.new ≡ _challenger.old }
+        ensures accepted { IfOk result (λ p. (c : PlainEvaluations F) (w : Vec F Global) → HasValues self.now w.items × (prover_data.values.items ≡ w.items) × (c.values.items ≡ w.items)
+            → AreValuesAt EF.ring EF.embed self.now c.values.items (lists protocol.now.items) p.items) }
+    {
         if prover_data.values.len() != 1 << self.num_vars {
             return Err(PcsFailure::Refused(PlainMultilinearProverError::Length));
         }
@@ -163,6 +175,7 @@ impl<F: Field, EF: ExtensionField<F>, C: CanObserve<F>> MultilinearPcs<EF, C>
         Ok(values_at(alloc, &prover_data.values, protocol)?)
     }
 
+    /// Whether the proof is the values at the protocol's points, in order. The challenger stays as it was.
     fn verify(
         &self,
         alloc: Global,
@@ -170,7 +183,11 @@ impl<F: Field, EF: ExtensionField<F>, C: CanObserve<F>> MultilinearPcs<EF, C>
         proof: &Vec<EF>,
         _challenger: &mut C,
         protocol: &Vec<Vec<EF>>,
-    ) -> Result<(), PcsFailure<PlainMultilinearError>> {
+    ) -> Result<(), PcsFailure<PlainMultilinearError>>
+        ensures verdict { VerifiedBy (AreValuesAt EF.ring EF.embed self.now commitment.now.values.items (lists protocol.now.items) proof.now.items)
+            (IsClaimFault EF.ring EF.embed self.now commitment.now.values.items (lists protocol.now.items) proof.now.items) result }
+        ensures challenger { _challenger.new ≡ _challenger.old }
+    {
         if commitment.values.len() != 1 << self.num_vars {
             return Err(PcsFailure::Refused(PlainMultilinearError::Length));
         }

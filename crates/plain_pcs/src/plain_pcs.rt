@@ -134,10 +134,13 @@ impl<F: TwoAdicField, D: TwoAdicSubgroupDft<F>, E: ExtensionField<F>, C> Pcs<E, 
 
     ghost fault = { λ s t claims p e. Fault (scheme F.ring F.inv F.root F.GENERATOR F.TWO_ADICITY s) E.ring E.embed claims e };
 
+    /// The subgroup with this many points.
     fn natural_domain_for_degree(&self, degree: usize) -> TwoAdicMultiplicativeCoset<F> {
         subgroup(log2_strict_usize(degree))
     }
 
+    /// The commitment is each matrix's extension, as wide and 2^`log_blowup` times as high, by one transform of a copy; the
+    /// prover keeps the matrices. `Commit` names the first that can't be committed to, and comes exactly where there is one.
     fn commit(
         &self,
         alloc: Global,
@@ -185,6 +188,7 @@ impl<F: TwoAdicField, D: TwoAdicSubgroupDft<F>, E: ExtensionField<F>, C> Pcs<E, 
         }
     }
 
+    /// A copy of each extension.
     fn clone_commitment(&self, alloc: Global, c: &PlainCommitment<F>) -> Mem<PlainCommitment<F>> {
         c.try_clone(alloc)
     }
@@ -214,15 +218,19 @@ impl<F: TwoAdicField, D: TwoAdicSubgroupDft<F>, E: ExtensionField<F>, C> Univari
 
     ghost ldes_fault = { λ s ls e. ExtensionsFault (scheme F.ring F.inv F.root F.GENERATOR F.TWO_ADICITY s) ls e };
 
+    /// The field's two-adicity less `log_blowup`.
     fn log_max_trace_height(&self) -> usize {
         F::TWO_ADICITY - self.log_blowup
     }
 
+    /// Zero: a column may have one row.
     fn log_min_trace_height(&self) -> usize {
         0
     }
 
-    /// The extension of each chunk. Their number isn't read.
+    /// The extension of each chunk, 2^`log_blowup` times as high as the chunk and as wide. Their number isn't read. `Commit`
+    /// names the first chunk that has no columns, another height than its domain's size, or an extension of more than
+    /// 2^`TWO_ADICITY` rows, and comes exactly where there is one.
     fn get_quotient_ldes(
         &self,
         alloc: Global,
@@ -235,7 +243,8 @@ impl<F: TwoAdicField, D: TwoAdicSubgroupDft<F>, E: ExtensionField<F>, C> Univari
         extensions(alloc, &self.dft, self.log_blowup, evaluations)
     }
 
-    /// The commitment is the extensions; the prover keeps a copy of each with the coset of its height.
+    /// The commitment is the extensions; the prover keeps a copy of each with the coset of its height. `Commit` names the
+    /// first whose height isn't 2^k for a k of at most `TWO_ADICITY`, and comes exactly where there is one.
     fn commit_ldes(
         &self,
         alloc: Global,
@@ -251,6 +260,7 @@ impl<F: TwoAdicField, D: TwoAdicSubgroupDft<F>, E: ExtensionField<F>, C> Univari
         commit_extensions(alloc, self.log_blowup, ldes)
     }
 
+    /// A row for each point of the domain and a column for each polynomial, by one transform of the kept matrix.
     fn get_evaluations_on_domain(
         &self,
         alloc: Global,
@@ -261,13 +271,20 @@ impl<F: TwoAdicField, D: TwoAdicSubgroupDft<F>, E: ExtensionField<F>, C> Univari
         evaluations_on_domain(alloc, &self.dft, prover_data, idx, domain)
     }
 
+    /// The table by one transform of the columns. Each column has a row for each point of the quotient domain.
     fn build_periodic_lde_table(
         &self,
         alloc: Global,
         periodic_cols: &[Vec<F>],
         trace_domain: TwoAdicMultiplicativeCoset<F>,
         quotient_domain: TwoAdicMultiplicativeCoset<F>,
-    ) -> Mem<PeriodicLdeTable<F>> {
+    ) -> Mem<PeriodicLdeTable<F>>
+        requires fit { All (λ c. IsPeriod (2 ^ trace_domain.log_size) (length c.items)) periodic_cols.now }
+        requires shift { point F.ring F.root trace_domain 0 ≡ F.ring.one }
+        requires larger { 2 ^ trace_domain.log_size ≤ 2 ^ quotient_domain.log_size }
+        ensures table { IfOk result (IsPeriodicTable F.ring (2 ^ trace_domain.log_size) (point F.ring F.root trace_domain) (2 ^ quotient_domain.log_size) (point F.ring F.root quotient_domain) (map (λ c. c.items) periodic_cols.now)) }
+        ensures height { IfOk result (λ t. 0 < length periodic_cols.now → height t ≡ 2 ^ quotient_domain.log_size) }
+    {
         periodic_table(
             alloc,
             &self.dft,

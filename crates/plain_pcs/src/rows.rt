@@ -26,7 +26,7 @@ fn most_rows<T>(matrices: &[RowMajorMatrix<T>]) -> usize
 }
 
 /// Whether this is the number of a row of the highest matrix.
-pub fn is_row<T>(matrices: &[RowMajorMatrix<T>], index: usize) -> bool
+pub(crate) fn is_row<T>(matrices: &[RowMajorMatrix<T>], index: usize) -> bool
     ensures { IsTrue result ↔ IsRowOf matrices.now index }
 {
     match greatest_height(matrices) {
@@ -68,7 +68,7 @@ fn rows_of<T: Copy>(
 }
 
 /// Of each matrix the row that belongs to a row of the highest, found out here.
-pub fn opened_rows<T: Copy>(
+pub(crate) fn opened_rows<T: Copy>(
     alloc: Global,
     matrices: &[RowMajorMatrix<T>],
     index: usize,
@@ -90,7 +90,7 @@ fn is_size<T>(matrix: &RowMajorMatrix<T>, size: Dimensions) -> bool
 }
 
 /// Whether these are the matrices' widths and heights, and the heights are powers of two.
-pub fn are_dimensions<T>(matrices: &[RowMajorMatrix<T>], dimensions: &[Dimensions]) -> bool
+pub(crate) fn are_dimensions<T>(matrices: &[RowMajorMatrix<T>], dimensions: &[Dimensions]) -> bool
     ensures { IsTrue result ↔ AreDimensions matrices.now dimensions.now }
 {
     if dimensions.len() != matrices.len() {
@@ -105,7 +105,7 @@ pub fn are_dimensions<T>(matrices: &[RowMajorMatrix<T>], dimensions: &[Dimension
 }
 
 /// Whether there is a row for each of the dimensions, as long as they say.
-pub fn have_widths<T>(dimensions: &[Dimensions], rows: &[Vec<T>]) -> bool
+pub(crate) fn have_widths<T>(dimensions: &[Dimensions], rows: &[Vec<T>]) -> bool
     ensures { IsTrue result ↔ HaveWidths dimensions.now (lists rows.now) }
 {
     if rows.len() != dimensions.len() {
@@ -141,7 +141,7 @@ fn are_rows<T: Copy + Eq>(
 }
 
 /// Whether the rows are those that belong to a row of the highest matrix, found out here.
-pub fn are_the_rows<T: Copy + Eq>(
+pub(crate) fn are_the_rows<T: Copy + Eq>(
     matrices: &[RowMajorMatrix<T>],
     index: usize,
     rows: &[Vec<T>],

@@ -204,7 +204,7 @@ fn round_fault<F: TwoAdicField, E: ExtensionField<F>>(
 
 /// The first check of the claims that fails, or None (own): the claims on a commitment are one per matrix; then, matrix
 /// by matrix, its dimensions, the degrees of its columns' polynomials, and their values point by point.
-pub fn first_fault<F: TwoAdicField, E: ExtensionField<F>>(
+pub(crate) fn first_fault<F: TwoAdicField, E: ExtensionField<F>>(
     alloc: Global,
     log_blowup: usize,
     claims: &[CommitmentOpening<E, PlainCommitment<F>, TwoAdicMultiplicativeCoset<F>>],

@@ -7,17 +7,17 @@ use Rattle.plain_pcs.specs.Extension.{Extends}
 use Rattle.plain_pcs.specs.Holding.{IsMade}
 use Rattle.plain_pcs.specs.Cosets.{IsOnCoset}
 use Rattle.plain_pcs.specs.Refusals.{HasSubgroupHeight}
-use Rattle.plain_pcs.proofs.Commitments.{cosets_made, commitment_extended}
+use Rattle.plain_pcs.proofs.Commitments.{no_height_fault, cosets_made, commitment_extended}
 use Rattle.plain_pcs.proofs.committing.commit_extensions.Goals as goal
 
 pub with_cosets-requires : goal.with_cosets-requires
 with_cosets-requires g c =
-    subst (λ (xs : List (Rows g.row.F.Denot)). All (HasSubgroupHeight g.F.TwoAdicCore.TWO_ADICITY) xs) c.deref.ensures.value c.in_ok-check_heights.ensures.heights
+    subst (λ (xs : List (Rows g.row.F.Denot)). All (HasSubgroupHeight g.F.TwoAdicCore.TWO_ADICITY) xs) c.deref.ensures.value c.in_default.ensures
 
 pub returns-clause-made : goal.returns-clause-made
 returns-clause-made g c =
     let top = g.F.TwoAdicCore.TWO_ADICITY in
-    let all : All (HasSubgroupHeight top) c.args.ldes.items = subst (λ (xs : List (Rows g.row.F.Denot)). All (HasSubgroupHeight top) xs) c.deref.ensures.value c.in_ok-check_heights.ensures.heights in
+    let all : All (HasSubgroupHeight top) c.args.ldes.items = subst (λ (xs : List (Rows g.row.F.Denot)). All (HasSubgroupHeight top) xs) c.deref.ensures.value c.in_default.ensures in
     cosets_made g.F.FieldCore.GENERATOR top c.args.ldes.items c.in_ok-evaluated.evaluated.items all c.in_ok-evaluated.ensures
 
 pub returns-clause-committed : goal.returns-clause-committed
@@ -31,3 +31,8 @@ returns-clause-committed g c = λ chunks E.
     let on : EachFrom ls kept (λ m e. IsOnCoset G m e) = subst (λ (xs : List (Rows g.row.F.Denot)). EachFrom xs kept (λ m e. IsOnCoset G m e)) same c.in_ok-evaluated.ensures in
     let each : AreExtensions (Extends s) chunks ls = subst (λ (xs : List (Rows g.row.F.Denot)). AreExtensions (Extends s) chunks xs) same E in
     commitment_extended s g.met.F.RingCore.ring_laws g.met.F.FieldCore.field_laws g.met.F.TwoAdicCore.root_laws chunks kept ls each made on
+
+pub returns-clause-refusal : goal.returns-clause-refusal
+returns-clause-refusal g c =
+    let s = scheme g.F.RingCore.ring g.F.FieldCore.inv g.F.TwoAdicCore.root g.F.FieldCore.GENERATOR g.F.TwoAdicCore.TWO_ADICITY (record { log_blowup = c.args.log_blowup }) in
+    no_height_fault s c.args.ldes.items (subst (λ (xs : List (Rows g.row.F.Denot)). All (HasSubgroupHeight s.most) xs) c.deref.ensures.value c.in_default.ensures)

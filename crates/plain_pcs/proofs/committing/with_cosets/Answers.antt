@@ -3,7 +3,8 @@ use Rattle.std.proofs.lemmas.Iterator.Adapters.{YieldsList-from_vec}
 use Rattle.std.proofs.lemmas.Iterator.Consumers.{YieldsList-turn, YieldsList-end}
 use Rattle.plain_pcs.specs.Cosets.{IsOnCoset}
 use Rattle.plain_pcs.specs.Refusals.{HasSubgroupHeight}
-use Rattle.plain_pcs.proofs.Lists.{none_yet, at_item, each_yielded, each_done}
+use Rattle.plain_pcs.proofs.Lists.{none_yet, each_yielded, each_done}
+use Rattle.plain_pcs.proofs.Places.{read_all}
 use Rattle.plain_pcs.proofs.committing.with_cosets.Goals as goal
 
 pub coset_of_height-domain-requires : goal.coset_of_height-domain-requires
@@ -11,7 +12,7 @@ coset_of_height-domain-requires g c =
     let gives = c.into_iter-matrix-iterator.ensures.into_iter_gives in
     let road = YieldsList-from_vec {s = c.into_iter-matrix-iterator.result} c.args.matrices.items gives.0 (gives.1 ∙ c.args.matrices.ok.0) in
     let turn = YieldsList-turn road c.loop-matrix.yielded c.loop-matrix.matrix-iterator c.loop-matrix.yielded_by c.next.result c.next.new.self c.in-Some.matrix c.in-Some.is c.next.ensures.steps in
-    at_item (HasSubgroupHeight g.F.TwoAdicCore.TWO_ADICITY) c.args.matrices.items (length c.loop-matrix.yielded) c.in-Some.matrix c.requires turn.0 turn.1
+    read_all (HasSubgroupHeight g.F.TwoAdicCore.TWO_ADICITY) c.args.matrices.items (length c.loop-matrix.yielded) c.in-Some.matrix turn.0 turn.1 c.requires
 
 pub loop-matrix-init : goal.loop-matrix-init
 loop-matrix-init g c = none_yet c.in_ok-evaluated.evaluated.items _ c.in_ok-evaluated.ensures.items

@@ -1,10 +1,10 @@
-use Rattle.std.proofs.Common.{◌≡◌, ℕ, ◌^◌, ◌∙◌, List, true, false, length, map, get_or, inl, inr, subst, sym, arith}
+use Rattle.std.proofs.Common.{◌≡◌, ℕ, ◌^◌, ◌∙◌, List, true, false, length, map, get_or, inl, inr, subst, sym, ap, arith}
 use Rattle.std.specs.List.{All}
 use Rattle.std.proofs.lemmas.Bool.{cases_eq, eq-eqb}
 use Rattle.std.proofs.lemmas.List.{length-map}
 use Rattle.std.proofs.lemmas.List.Elements.{All-map}
 use Rattle.p3_field.specs.Domain.{point}
-use Rattle.p3_matrix.specs.Matrix.{Rows}
+use Rattle.p3_matrix.specs.Matrix.{Rows, height}
 use Rattle.p3_commit.specs.Periodic.{IsPeriod, IsPeriodicTable}
 use Rattle.plain_pcs.specs.Transfer.{IsRepeated}
 use Rattle.plain_pcs.proofs.PeriodicTables.{period_positive, table_by_transfer}
@@ -24,8 +24,8 @@ transferred-requires g c =
 pub new-requires : goal.new-requires
 new-requires g c = inr (c.args.quotient_domain.log_size, c.in_ok-values.ensures.height_is)
 
-pub returns : goal.returns
-returns g c =
+pub returns-clause-table : goal.returns-clause-table
+returns-clause-table g c =
     let r = g.F.RingCore.ring in
     let root = g.F.TwoAdicCore.root in
     let from = c.args.trace_domain in
@@ -40,3 +40,6 @@ returns g c =
     table_by_transfer r g.met.F.RingCore.ring_laws g.F.FieldCore.inv g.met.F.FieldCore.field_laws g.F.TwoAdicCore.TWO_ADICITY root g.met.F.TwoAdicCore.root_laws
     from to columns m v c.valid.ensures.1 c.valid.ensures.0 periods laid c.in_ok-values.ensures in
     subst (λ (t : Rows g.row.F.Denot). IsPeriodicTable r n (point r root from) (2 ^ to.log_size) (point r root to) columns t) (sym c.new.ensures) table
+
+pub returns-clause-height : goal.returns-clause-height
+returns-clause-height g c = λ h. ap (λ (t : Rows g.row.F.Denot). height t) c.new.ensures ∙ c.in_ok-values.ensures.height_is

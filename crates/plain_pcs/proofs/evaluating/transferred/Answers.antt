@@ -2,9 +2,10 @@ use Rattle.std.proofs.Common.{◌≡◌, ℕ, ◌-◌, ◌*◌, ◌/◌, ◌%◌
 use Rattle.std.proofs.Math.Pow.{pow_mono}
 use Rattle.p3_field.specs.Domain.{CosetData}
 use Rattle.p3_matrix.specs.Matrix.{height}
+use Rattle.p3_matrix.specs.Laws.Powers.{one_shifted_left}
 use Rattle.p3_commit.specs.Space.{IsSplit}
 use Rattle.plain_pcs.specs.Transfer.{IsTransfer}
-use Rattle.plain_pcs.proofs.Transfers.{largest_fits, shifted_one, stride_divides, ratio_not_zero, transfer, transfer_smaller}
+use Rattle.plain_pcs.proofs.Transfers.{largest_fits, stride_divides, ratio_not_zero, transfer, transfer_smaller}
 use Rattle.plain_pcs.proofs.evaluating.transferred.Goals as goal
 
 pub coset_lde_batch-requires-clause-subgroup : goal.coset_lde_batch-requires-clause-subgroup
@@ -38,7 +39,7 @@ rows_apart-requires-clause-divides g c =
     let whole : IsTransfer r root from same c.args.values c.in_ok-all.all =
     transfer r g.met.F.RingCore.ring_laws inv g.met.F.FieldCore.field_laws top root g.met.F.TwoAdicCore.root_laws from same 0 c.mul-shift.result c.args.values c.in_ok-all.all
     c.valid.ensures.1 c.valid.ensures.0 c.requires (omega arith) ratio c.in_ok-all.ensures in
-    let stride : 1 * 2 ^ (k - l) % 18446744073709551616 ≡ 2 ^ (k - l) = shifted_one (k - l) top (omega (arith, c.valid.ensures.1, c.log_size-log_from.ensures)) g.met.F.TwoAdicCore.below_64 in
+    let stride : 1 * 2 ^ (k - l) % 18446744073709551616 ≡ 2 ^ (k - l) = one_shifted_left (k - l) (omega (arith, c.valid.ensures.1, c.log_size-log_from.ensures, g.met.F.TwoAdicCore.below_64)) in
     let h = height c.in_ok-all.all in
     let tall : h ≡ 2 ^ k = whole.height_is ∙ ap (λ n. 2 ^ n) (sym c.log_size-log_from.ensures) in
     subst (λ (n : ℕ). h / n * n ≡ h) (sym stride) (stride_divides h k l tall (omega arith))
@@ -75,7 +76,7 @@ returns-in_ok-rows g c =
     let whole : IsTransfer r root from same c.args.values c.in_ok-all.all =
     transfer r g.met.F.RingCore.ring_laws inv g.met.F.FieldCore.field_laws top root g.met.F.TwoAdicCore.root_laws from same 0 c.mul-shift.result c.args.values c.in_ok-all.all
     c.valid.ensures.1 c.valid.ensures.0 c.requires (omega arith) ratio c.in_ok-all.ensures in
-    let stride : 1 * 2 ^ (k - l) % 18446744073709551616 ≡ 2 ^ (k - l) = shifted_one (k - l) top (omega (arith, c.valid.ensures.1, c.log_size-log_from.ensures)) g.met.F.TwoAdicCore.below_64 in
+    let stride : 1 * 2 ^ (k - l) % 18446744073709551616 ≡ 2 ^ (k - l) = one_shifted_left (k - l) (omega (arith, c.valid.ensures.1, c.log_size-log_from.ensures, g.met.F.TwoAdicCore.below_64)) in
     let some : IsSplit c.in_ok-all.all (2 ^ (k - l)) 0 c.in_ok-rows.rows = subst (λ (n : ℕ). IsSplit c.in_ok-all.all n 0 c.in_ok-rows.rows) stride c.in_ok-rows.ensures in
     transfer_smaller r g.met.F.RingCore.ring_laws inv g.met.F.FieldCore.field_laws top root g.met.F.TwoAdicCore.root_laws from to same (k - l) c.args.values c.in_ok-all.all c.in_ok-rows.rows
     c.valid.ensures.1 (omega (arith, c.log_size-log_from.ensures, c.log_size-log_to.ensures, c.if-log_to-log_from.true)) refl whole some

@@ -1,7 +1,8 @@
 use Rattle.std.proofs.Common.{◌≡◌, ◌∙◌, ℕ, ◌+◌, ◌*◌, ◌^◌, length, get_or, ap, arith}
 use Rattle.p3_field.specs.Poly.{table}
 use Rattle.p3_field.specs.Laws.Tables.{table_push, length-table}
-use Rattle.plain_pcs.proofs.Folding.{between, between_read, first_variable}
+use Rattle.plain_pcs.specs.Laws.Multilinear.{between, first_variable}
+use Rattle.plain_pcs.proofs.Folding.{between_read}
 use Rattle.plain_pcs.proofs.evaluations.first_set.Goals as goal
 
 pub loop-i-preserved : goal.loop-i-preserved

@@ -1,6 +1,6 @@
 use Rattle.std.proofs.Common.{◌≡◌, ◌+◌, ◌*◌, get_or}
 use Rattle.p3_field.specs.Poly.{table}
-use Rattle.plain_pcs.proofs.Folding.{between}
+use Rattle.plain_pcs.specs.Laws.Multilinear.{between}
 use Rattle.plain_pcs.proofs.evaluations.first_set.Given as goal
 
 abbrev pub invariant-loop-i : goal.invariant-loop-i

@@ -3,7 +3,8 @@ use Rattle.p3_field.specs.Domain.{CosetData}
 use Rattle.p3_matrix.specs.Matrix.{height}
 use Rattle.p3_commit.specs.Claims.{MatrixClaim}
 use Rattle.plain_pcs.specs.Scheme.{scheme}
-use Rattle.plain_pcs.proofs.Parts.{dimensions_by, size_of_shift}
+use Rattle.p3_matrix.specs.Laws.Powers.{one_shifted_left}
+use Rattle.plain_pcs.proofs.Parts.{dimensions_by}
 use Rattle.plain_pcs.proofs.verifying.has_dimensions.Goals as goal
 
 pub returns : goal.returns
@@ -17,5 +18,5 @@ returns g c =
     let below : n ≤ top = omega (arith, c.TWO_ADICITY.ensures) in
     let fits : claim.domain.log_size + c.args.log_blowup ≤ top = omega arith in
     let rows : height c.args.matrix.now ≡ 2 ^ (claim.domain.log_size + c.args.log_blowup) =
-    sym c.height.ensures.result ∙ (c.if-height-log_height.false ∙ (size_of_shift n top below g.met.F.TwoAdicCore.below_64 ∙ ap (λ k. 2 ^ (k + c.args.log_blowup)) size)) in
+    sym c.height.ensures.result ∙ (c.if-height-log_height.false ∙ (one_shifted_left n (omega (arith, below, g.met.F.TwoAdicCore.below_64)) ∙ ap (λ k. 2 ^ (k + c.args.log_blowup)) size)) in
     dimensions_by s g.E.RingCore.ring g.E.ExtensionField.embed c.args.matrix.now claim c.have_width.result c.width.result c.deref.result.now fits rows c.width.ensures points c.have_width.ensures

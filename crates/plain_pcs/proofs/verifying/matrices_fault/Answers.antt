@@ -6,7 +6,8 @@ use Rattle.plain_pcs.specs.Scheme.{scheme}
 use Rattle.plain_pcs.specs.Checks.{NoneFails, matrix_checks}
 use Rattle.plain_pcs.specs.Faults.{FirstFault}
 use Rattle.plain_pcs.proofs.Finding.{none_of_parts, first_of_parts}
-use Rattle.plain_pcs.proofs.Parts.{one_more, zip_within, zip_here}
+use Rattle.plain_pcs.proofs.Parts.{one_more, zip_within}
+use Rattle.plain_pcs.specs.Laws.Listed.{zip_item}
 use Rattle.plain_pcs.proofs.verifying.matrices_fault.Goals as goal
 
 pub returns-in-Some : goal.returns-in-Some
@@ -22,7 +23,7 @@ returns-in-Some g c =
     let matrix : slice_get ms i ≡ Some m = slice_get_read ms (length ms) i m refl (omega (arith, c.requires.count)) c.index-matrices-number.is in
     let claim : slice_get cs i ≡ Some x = slice_get_read cs (length cs) i x refl (omega arith) c.index-claims-number.is in
     let P : Option PlainError → Type 0 = λ a. FirstFault s ring embed (matrix_checks ring.zero c.args.round (i, (m, x))) a in
-    first_of_parts s ring embed (matrix_checks ring.zero c.args.round) (zip ms cs) i (m, x) c.in-Some.error (zip_here ms cs i m x matrix claim)
+    first_of_parts s ring embed (matrix_checks ring.zero c.args.round) (zip ms cs) i (m, x) c.in-Some.error (zip_item ms cs i m x matrix claim)
     c.loop-number.invariant (subst P c.in-Some.is c.in_ok-error.ensures)
 
 pub loop-number-preserved : goal.loop-number-preserved
@@ -38,7 +39,7 @@ loop-number-preserved g c =
     let matrix : slice_get ms i ≡ Some m = slice_get_read ms (length ms) i m refl (omega (arith, c.requires.count)) c.index-matrices-number.is in
     let claim : slice_get cs i ≡ Some x = slice_get_read cs (length cs) i x refl (omega arith) c.index-claims-number.is in
     let P : Option PlainError → Type 0 = λ a. FirstFault s ring embed (matrix_checks ring.zero c.args.round (i, (m, x))) a in
-    one_more (zip ms cs) i (m, x) (λ j y. NoneFails s ring embed (matrix_checks ring.zero c.args.round (j, y))) (zip_here ms cs i m x matrix claim)
+    one_more (zip ms cs) i (m, x) (λ j y. NoneFails s ring embed (matrix_checks ring.zero c.args.round (j, y))) (zip_item ms cs i m x matrix claim)
     c.loop-number.invariant (subst P c.in_default.is c.in_ok-error.ensures)
 
 pub returns : goal.returns

@@ -8,7 +8,7 @@ use Rattle.p3_commit.specs.Space.{EachOf}
 use Rattle.p3_commit.specs.Periodic.{EachFrom}
 use Rattle.p3_commit.specs.Batches.{lists, IsRowOf, AreRowsAt, dimensions_of}
 use Rattle.plain_pcs.specs.PlainMmcs.{AreOpened}
-use Rattle.plain_pcs.proofs.Places.{one_more}
+use Rattle.plain_pcs.proofs.Lists.{one_more}
 use Rattle.plain_pcs.proofs.Heights.{all_opened_accepted, widths_each}
 use Rattle.plain_pcs.proofs.plain_mmcs.PlainMmcsMmcs.open_multi_batch.Goals as goal
 

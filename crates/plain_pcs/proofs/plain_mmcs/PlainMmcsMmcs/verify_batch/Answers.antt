@@ -10,16 +10,16 @@ pub are_the_rows-requires-clause-powers : goal.are_the_rows-requires-clause-powe
 are_the_rows-requires-clause-powers g c =
     subst (λ l. All (λ m. IsPowerOfTwo (height m)) l) (c.deref.ensures.value ∙ sym c.deref-3.ensures.value) (c.if-not-has_shape.ensures.0 refl).dimensions.powers
 
-pub returns-then-not-are_the_rows : goal.returns-then-not-are_the_rows
-returns-then-not-are_the_rows g c =
+pub returns-then-not-are_the_rows-clause-verdict : goal.returns-then-not-are_the_rows-clause-verdict
+returns-then-not-are_the_rows-clause-verdict g c =
     let rows = lists c.args.opening.opened_values.now in (
       subst (λ l. HasShape l c.args.dimensions.now rows) c.deref.ensures.value (c.if-not-has_shape.ensures.0 refl),
       subst (λ l. IsRowOf l c.args.index) c.deref-2.ensures.value (c.if-not-is_row.ensures.0 refl),
       λ v. let e : false ≡ true = c.if-not-are_the_rows.ensures.1 (subst (λ l. AreTheRows g.T.PartialEq.eq l c.args.index rows) (sym c.deref-3.ensures.value) v) in cc,
     )
 
-pub returns : goal.returns
-returns g c =
+pub returns-clause-verdict : goal.returns-clause-verdict
+returns-clause-verdict g c =
     let rows = lists c.args.opening.opened_values.now in
     record {
       shape = subst (λ l. HasShape l c.args.dimensions.now rows) c.deref.ensures.value (c.if-not-has_shape.ensures.0 refl);

@@ -8,8 +8,8 @@ use Rattle.plain_pcs.specs.PlainMmcs.{HaveShape, AreTheRows}
 use Rattle.plain_pcs.proofs.Heights.{row_counts}
 use Rattle.plain_pcs.proofs.plain_mmcs.PlainMmcsMmcs.verify_multi_batch.Goals as goal
 
-pub returns-then-not-are_places : goal.returns-then-not-are_places
-returns-then-not-are_places g c =
+pub returns-then-not-are_places-clause-verdict : goal.returns-then-not-are_places-clause-verdict
+returns-then-not-are_places-clause-verdict g c =
     let openings = map (λ rows. lists rows.items) c.args.opened_values.now in (
       subst (λ l. HaveShape l c.args.dimensions.now c.args.indices.now openings) c.deref.ensures.value (c.if-not-have_shape.ensures.0 refl),
       λ p. let e : false ≡ true = c.if-not-are_places.ensures.1 (subst (λ l. All (IsRowOf l) c.args.indices.now) (sym c.deref-2.ensures.value) p) in cc,
@@ -29,16 +29,16 @@ are_all_the_rows-requires-clause-rows g c =
     let shape = subst (λ l. HaveShape l c.args.dimensions.now c.args.indices.now openings) (c.deref.ensures.value ∙ sym c.deref-3.ensures.value) (c.if-not-have_shape.ensures.0 refl) in
     row_counts c.deref-3.result.now c.args.dimensions.now c.args.opened_values.now shape.dimensions shape.widths
 
-pub returns-then-not-are_all_the_rows : goal.returns-then-not-are_all_the_rows
-returns-then-not-are_all_the_rows g c =
+pub returns-then-not-are_all_the_rows-clause-verdict : goal.returns-then-not-are_all_the_rows-clause-verdict
+returns-then-not-are_all_the_rows-clause-verdict g c =
     let openings = map (λ rows. lists rows.items) c.args.opened_values.now in (
       subst (λ l. HaveShape l c.args.dimensions.now c.args.indices.now openings) c.deref.ensures.value (c.if-not-have_shape.ensures.0 refl),
       subst (λ l. All (IsRowOf l) c.args.indices.now) c.deref-2.ensures.value (c.if-not-are_places.ensures.0 refl),
       λ v. let e : false ≡ true = c.if-not-are_all_the_rows.ensures.1 (subst (λ l. EachFrom c.args.indices.now openings (AreTheRows g.T.PartialEq.eq l)) (sym c.deref-3.ensures.value) v) in cc,
     )
 
-pub returns : goal.returns
-returns g c =
+pub returns-clause-verdict : goal.returns-clause-verdict
+returns-clause-verdict g c =
     let openings = map (λ rows. lists rows.items) c.args.opened_values.now in
     record {
       shape = subst (λ l. HaveShape l c.args.dimensions.now c.args.indices.now openings) c.deref.ensures.value (c.if-not-have_shape.ensures.0 refl);

@@ -1,7 +1,7 @@
 use Rattle.plain_pcs.specs.Scheme.{scheme}
 use Rattle.plain_pcs.specs.Extension.{IsCommittable}
 use Rattle.plain_pcs.proofs.Lists.{Earlier}
-use Rattle.plain_pcs.proofs.extending.check_committable.Given as goal
+use Rattle.plain_pcs.proofs.extending.first_not_committable.Given as goal
 
 abbrev pub invariant-loop-matrix : goal.invariant-loop-matrix
 invariant-loop-matrix g l =
