@@ -3,7 +3,8 @@ use Rattle.std.proofs.Common.{◌≡◌, ℕ, ◌+◌, ◌%◌, ◌++◌, Bool, 
 use Rattle.std.specs.Prelude.{nat_eq}
 use Rattle.p3_field.specs.Ring.{Ring}
 use Rattle.p3_matrix.specs.Matrix.{height, row_at}
-use Rattle.p3_air.specs.Tree.{Tree}
+use Rattle.std.proofs.lemmas.Simd.{map-map}
+use Rattle.p3_air.specs.Tree.{Tree, over_base}
 use Rattle.p3_air.specs.RowCheck.{Row, value_at}
 use Rattle.p3_air.specs.Check.{Table, row_of, row_values, preprocessed_row, periodic_row}
 
@@ -38,6 +39,7 @@ row_is d t i h a b c e p eh ea eb ec ee ep =
 
 -- what was added to nothing, at a row that is this one
 pub values_are : {F : Type 0} (r : Ring F) (t : Table F) (ts : List (Tree F)) (i : ℕ) (w : Row F F) (old new : List F)
-    → w ≡ row_of r.zero t i → old ≡ [] → new ≡ old ++ map (value_at r r (λ x. x) w) ts → new ≡ row_values r t ts i
+    → w ≡ row_of r.zero t i → old ≡ [] → new ≡ old ++ map (λ a. value_at r r (λ x. x) w a.tree) (map over_base ts) → new ≡ row_values r t ts i
 values_are {F = F} r t ts i w old new e f g =
-    g ∙ (ap (λ (l : List F). l ++ map (value_at r r (λ x. x) w) ts) f ∙ ap (λ (v : Row F F). map (value_at r r (λ x. x) v) ts) e)
+    let one : map (λ a. value_at r r (λ x. x) w a.tree) (map over_base ts) ≡ map (value_at r r (λ x. x) w) ts = map-map (λ a. value_at r r (λ x. x) w a.tree) over_base ts in
+    g ∙ (ap (λ (l : List F). old ++ l) one ∙ (ap (λ (l : List F). l ++ map (value_at r r (λ x. x) w) ts) f ∙ ap (λ (v : Row F F). map (value_at r r (λ x. x) v) ts) e))

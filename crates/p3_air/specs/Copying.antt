@@ -1,5 +1,5 @@
 -- Copies of a node and all that it stands on, without the other nodes of its list.
-use Rattle.std.specs.Prelude.{◌≡◌, ◌≢◌, ℕ, ◌+◌, ◌<◌, ◌++◌, List, length, Option, Some, None}
+use Rattle.std.specs.Prelude.{◌≡◌, ◌≢◌, ℕ, zero, suc, ◌+◌, ◌<◌, ◌++◌, List, length, Option, Some, None}
 use Rattle.p3_air.specs.declared.node.Node.{Node}
 use Rattle.p3_air.specs.Symbolic.{tree_at, Ordered}
 
@@ -8,7 +8,17 @@ pub record IsCopied {F : Type 0} (nodes copies : List (Node F)) (copy_of : ℕ �
   pub ordered : Ordered copies
   pub trees : (i p : ℕ) → copy_of i ≡ Some p → (p < length copies) × (tree_at copies p ≡ tree_at nodes i)
 
--- the copies grew, and p is the place of the copy of a place; a copy that was made is the last one
+-- how many of the first n places have a copy
+abbrev pub counted : Option ℕ → ℕ
+counted None = 0
+counted (Some p) = 1
+
+abbrev pub copied_below : (ℕ → Option ℕ) → ℕ → ℕ
+copied_below copy_of zero = 0
+copied_below copy_of (suc n) = copied_below copy_of n + counted (copy_of n)
+
+-- The copies grew, and p is the place of the copy of a place; a copy that was made is the last one. No place behind
+-- this one got a copy, and there are as many new copies as places that got one.
 pub record CopiesTo {F : Type 0} (nodes old new : List (Node F)) (before after : ℕ → Option ℕ) (place p : ℕ) : Type 0 where
   pub copied : IsCopied nodes new after
   pub more : List (Node F)
@@ -16,3 +26,5 @@ pub record CopiesTo {F : Type 0} (nodes old new : List (Node F)) (before after :
   pub within : p < length new
   pub has_tree : tree_at new p ≡ tree_at nodes place
   pub last : before place ≡ None → p + 1 ≡ length new
+  pub others : (i : ℕ) → place < i → after i ≡ before i
+  pub count : (n : ℕ) → place < n → length new + copied_below before n ≡ length old + copied_below after n

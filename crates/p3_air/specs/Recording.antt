@@ -4,7 +4,7 @@ use Rattle.p3_air.specs.declared.cells.Count.{Count}
 use Rattle.p3_air.specs.declared.layout.AirLayout.{AirLayout}
 use Rattle.p3_air.specs.declared.node.Node.{Node}
 use Rattle.p3_air.specs.declared.recorded.Assertion.{Assertion}
-use Rattle.p3_air.specs.Tree.{Tree, Interaction, Bus, local, global}
+use Rattle.p3_air.specs.Tree.{Tree, Asserted, Interaction, Bus, local, global}
 use Rattle.p3_air.specs.Symbolic.{tree_at, Ordered}
 use Rattle.p3_air.specs.Placed.{Placed}
 
@@ -18,6 +18,13 @@ pub record Recording (F : Type 0) : Type 0 where
 -- the asserted trees
 abbrev pub trees_at : {F : Type 0} → List (Node F) → List Assertion → List (Tree F)
 trees_at ns xs = map (λ a. tree_at ns a.place) xs
+
+-- the tree of an assertion, and whether it was made over the extension
+abbrev pub asserted_tree : {F : Type 0} → List (Node F) → Assertion → Asserted F
+asserted_tree ns a = record { tree = tree_at ns a.place; in_extension = a.in_extension }
+
+abbrev pub asserted_at : {F : Type 0} → List (Node F) → List Assertion → List (Asserted F)
+asserted_at ns xs = map (asserted_tree ns) xs
 
 -- the bus of a recorded name
 abbrev pub bus_of : Option (List ℕ) → Bus
@@ -60,9 +67,9 @@ pub record IsLater {F : Type 0} (a b : Recording F) : Type 0 where
   pub extends : b.nodes ≡ a.nodes ++ more
 
 -- the second recording is later than the first, with these trees asserted and these interactions sent since
-pub record Grows {F : Type 0} (a b : Recording F) (ts : List (Tree F)) (is : List (Interaction F)) : Type 0 where
+pub record Grows {F : Type 0} (a b : Recording F) (ts : List (Asserted F)) (is : List (Interaction F)) : Type 0 where
   pub later : IsLater a b
-  pub trees : trees_at b.nodes b.asserted ≡ trees_at a.nodes a.asserted ++ ts
+  pub trees : asserted_at b.nodes b.asserted ≡ asserted_at a.nodes a.asserted ++ ts
   pub sent : sent_at b.nodes b.interactions ≡ sent_at a.nodes a.interactions ++ is
 
 -- The place of an expression among n nodes. One that is not among them, which some other builder gave, is taken for

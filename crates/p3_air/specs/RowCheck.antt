@@ -7,7 +7,7 @@ use Rattle.p3_air.specs.declared.cells.Cell.TheVariants.{Main, Preprocessed, Per
 use Rattle.p3_air.specs.declared.cells.ExtCell.{ExtCell}
 use Rattle.p3_air.specs.declared.cells.ExtCell.TheVariants.{Permutation, Challenge, Terminal}
 use Rattle.p3_air.specs.Shape.{Shape}
-use Rattle.p3_air.specs.Tree.{Tree, Reading, ev}
+use Rattle.p3_air.specs.Tree.{Tree, Asserted, Reading, ev}
 
 -- the values of the cells at one row of a table: over the base field, and over the extension
 pub record Row (F E : Type 0) : Type 0 where
@@ -84,6 +84,6 @@ pub record Checked (F E : Type 0) : Type 0 where
   pub values : List E
 
 -- the second has the first one's row, and the values of these trees behind its values
-pub record Adds {F E : Type 0} (f : Ring F) (e : Ring E) (embed : F → E) (a b : Checked F E) (ts : List (Tree F)) : Type 0 where
+pub record Adds {F E : Type 0} (f : Ring F) (e : Ring E) (embed : F → E) (a b : Checked F E) (ts : List (Asserted F)) : Type 0 where
   pub row : b.row ≡ a.row
-  pub values : b.values ≡ a.values ++ map (value_at f e embed a.row) ts
+  pub values : b.values ≡ a.values ++ map (λ t. value_at f e embed a.row t.tree) ts

@@ -1,7 +1,7 @@
 -- Constraint trees, their values, and what an interaction sends. The rules are those of Plonky3's p3-air
 -- (SymbolicExpression) and p3-lookup (Lookup): a constraint is an expression over the cells of a row and of the
 -- next one, public values, selectors and, for lookups, cells of the extension.
-use Rattle.std.specs.Prelude.{◌≡◌, ℕ, ◌*◌, ◌+◌, ◌/◌, ◌<◌, List, length, slice_range}
+use Rattle.std.specs.Prelude.{◌≡◌, ℕ, ◌*◌, ◌+◌, ◌/◌, ◌<◌, Bool, true, false, List, length, slice_range}
 use Rattle.std.specs.Prelude.{slice_index_or as get_or}
 use Rattle.p3_air.specs.declared.cells.Cell.{Cell}
 use Rattle.p3_air.specs.declared.cells.ExtCell.{ExtCell}
@@ -33,6 +33,21 @@ ev r (ext_cell c) = r.at_ext c
 ev r (sum x y) = r.add (ev r x) (ev r y)
 ev r (difference x y) = r.sub (ev r x) (ev r y)
 ev r (product x y) = r.mul (ev r x) (ev r y)
+
+-- an asserted tree, and whether it was asserted over the extension
+pub record Asserted (F : Type 0) : Type 0 where
+  pub tree : Tree F
+  pub in_extension : Bool
+
+abbrev pub over_base : {F : Type 0} → Tree F → Asserted F
+over_base t = record { tree = t; in_extension = false }
+
+abbrev pub over_extension : {F : Type 0} → Tree F → Asserted F
+over_extension t = record { tree = t; in_extension = true }
+
+-- the value of an asserted tree, over whichever field it was asserted
+abbrev pub ev_asserted : {F E : Type 0} → Reading F E → Asserted F → E
+ev_asserted r a = ev r a.tree
 
 -- whom an interaction speaks to: its own table alone, or all that use the bus of this name (its UTF-8 bytes)
 pub data Bus : Type 0 where

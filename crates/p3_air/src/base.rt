@@ -1,7 +1,7 @@
 //! AIRs: what a table declares of itself, and its constraints.
-ghost use Rattle.std.specs.Prelude.{◌≡◌, ℕ, List, IfOk, IsOk, IsTrue, map, All};
+ghost use Rattle.std.specs.Prelude.{◌≡◌, ℕ, List, Some, IfOk, IsOk, IsTrue, length, map, All};
 ghost use Rattle.p3_air.specs.Shape.{Declaration, Fits, HasColumns, declared_shape, width_of, ReadsDeclared, IsInteraction};
-ghost use Rattle.p3_air.specs.Tree.{Tree, Interaction};
+ghost use Rattle.p3_air.specs.Tree.{Tree, Interaction, over_base};
 
 use crate::builder::InteractionBuilder;
 use p3_field::{FieldCore, Mem};
@@ -41,11 +41,11 @@ pub trait BaseAir<F: FieldCore> {
     fn periodic_columns(&self) -> &[Vec<F>]
         ensures { map (λ v. v.items) result.now ≡ (declaration self.now).periodic };
 
-    /// How many constraints there are, where the AIR tells it.
+    /// How many constraints there are, or None where the AIR doesn't tell it.
     fn num_constraints(&self) -> Option<usize>
         ensures { result ≡ (declaration self.now).constraints };
 
-    /// A hint on the constraints' greatest degree.
+    /// A hint on the constraints' greatest degree, or None where the AIR gives none.
     fn max_constraint_degree(&self) -> Option<usize>
         ensures { result ≡ (declaration self.now).degree_hint };
 
@@ -65,13 +65,18 @@ pub trait Air<F: FieldCore>: BaseAir<F> {
     // The interactions, in order.
     ghost interactions: { Self → List (Interaction F) };
 
-    /// Appends exactly the AIR's trees and interactions to a builder, in order. The builder declares every cell that
-    /// the AIR declares. Over a builder that never fails the answer is Ok.
+    /// Appends exactly the AIR's trees, over the base field, and interactions to a builder, in order. The builder
+    /// declares every cell that the AIR declares. Over a builder that never fails the answer is Ok. On an error too
+    /// the builder's expressions keep their meaning.
     fn eval<AB: InteractionBuilder<F = F>>(&self, builder: &mut AB) -> Mem<()>
         requires { Fits (declared_shape (Self.declaration self.now)) (AB.shape builder.old) }
-        ensures same { IfOk result (λ _. AB.shape builder.new ≡ AB.shape builder.old) }
+        ensures later { AB.later builder.old builder.new }
+        ensures same { AB.shape builder.new ≡ AB.shape builder.old }
         ensures answers { IsTrue AB.never_fails → IsOk result }
-        ensures grows { IfOk result (λ _. AB.grows builder.old builder.new (trees self.now) (interactions self.now)) };
+        ensures grows { IfOk result (λ _. AB.grows builder.old builder.new (map over_base (trees self.now)) (interactions self.now)) };
+
+    // The declared number of constraints, where there is one, is that of the trees.
+    ghost counts: { (a : Self) (n : ℕ) → (Self.declaration a).constraints ≡ Some n → n ≡ length (trees a) };
 
     // The trees read declared cells alone, and next cells only in declared next columns.
     ghost trees_read: { (a : Self) → All (ReadsDeclared (declared_shape (Self.declaration a))) (trees a) };

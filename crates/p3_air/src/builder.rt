@@ -3,7 +3,7 @@ ghost use Rattle.std.specs.Prelude.{◌≡◌, ℕ, ◌+◌, ◌*◌, ◌^◌, �
 ghost use prog.Memory.{size, align};
 ghost use denote.Param.{layout};
 ghost use Rattle.p3_air.specs.Shape.{Shape, Declares, DeclaresExt};
-ghost use Rattle.p3_air.specs.Tree.{Tree, Interaction, Stand, StandCount, constant as constant_tree, cell as cell_tree, ext_cell as ext_cell_tree, sum, difference, product, bool_tree, local, global};
+ghost use Rattle.p3_air.specs.Tree.{Tree, Asserted, Interaction, Stand, StandCount, constant as constant_tree, cell as cell_tree, ext_cell as ext_cell_tree, sum, difference, product, bool_tree, over_base, over_extension, local, global};
 ghost use Rattle.p3_air.specs.declared.cells.Count.{Count as CountOf};
 
 use crate::cells::{Cell, Count, ExtCell};
@@ -12,7 +12,8 @@ use p3_field::{FieldCore, Mem, RingCore};
 /// Takes constraints (`p3_air::AirBuilder`). An expression stands for a constraint tree, and `assert_zero` appends
 /// its expression's tree to the list of asserted trees.
 ///
-/// The list of asserted trees and that of interactions are meanings: no builder need keep them. `grows` says what a
+/// The list of asserted trees, each with the field over which it was asserted, and that of interactions are meanings:
+/// no builder need keep them. `grows` says what a
 /// state has in the two lists beyond an earlier one.
 pub trait AirBuilder {
     /// The field of the trace.
@@ -27,8 +28,8 @@ pub trait AirBuilder {
     // The second state is the first one or comes after it.
     ghost later: { Self → Self → Type 0 };
 
-    // The second state comes after the first, with these trees and interactions appended since.
-    ghost grows: { Self → Self → List (Tree Self.F) → List (Interaction Self.F) → Type 0 };
+    // The second state comes after the first, with these asserted trees and interactions appended since.
+    ghost grows: { Self → Self → List (Asserted Self.F) → List (Interaction Self.F) → Type 0 };
 
     // The cells that are declared. No call changes them.
     ghost shape: { Self → Shape };
@@ -77,14 +78,14 @@ pub trait AirBuilder {
         ensures later { later self.old self.new }
         ensures same { shape self.new ≡ shape self.old }
         ensures answers { IsTrue never_fails → IsOk result }
-        ensures grows { (t : Tree Self.F) → stands self.old x t → IfOk result (λ _. grows self.old self.new (t ∷ []) []) };
+        ensures grows { (t : Tree Self.F) → stands self.old x t → IfOk result (λ _. grows self.old self.new (over_base t ∷ []) []) };
 
     /// Asserts that x - y is zero in every row.
     fn assert_eq(&mut self, x: Self::Expr, y: Self::Expr) -> Mem<()>
         ensures later { later self.old self.new }
         ensures same { shape self.new ≡ shape self.old }
         ensures answers { IsTrue never_fails → IsOk result }
-        ensures grows { (s t : Tree Self.F) → stands self.old x s → stands self.old y t → IfOk result (λ _. grows self.old self.new (difference s t ∷ []) []) }
+        ensures grows { (s t : Tree Self.F) → stands self.old x s → stands self.old y t → IfOk result (λ _. grows self.old self.new (over_base (difference s t) ∷ []) []) }
     {
         let difference = self.sub(x, y)?;
         self.assert_zero(difference)
@@ -95,7 +96,7 @@ pub trait AirBuilder {
         ensures later { later self.old self.new }
         ensures same { shape self.new ≡ shape self.old }
         ensures answers { IsTrue never_fails → IsOk result }
-        ensures grows { (t : Tree Self.F) → stands self.old x t → IfOk result (λ _. grows self.old self.new (bool_tree Self.F.ring.one t ∷ []) []) }
+        ensures grows { (t : Tree Self.F) → stands self.old x t → IfOk result (λ _. grows self.old self.new (over_base (bool_tree Self.F.ring.one t) ∷ []) []) }
     {
         let one = self.constant(<Self::F as RingCore>::ONE)?;
         let less = self.sub(x, one)?;
@@ -108,7 +109,7 @@ pub trait AirBuilder {
         ensures later { later self.old self.new }
         ensures same { shape self.new ≡ shape self.old }
         ensures answers { IsTrue never_fails → IsOk result }
-        ensures grows { (ts : List (Tree Self.F)) → Stand (stands self.old) xs.now ts → IfOk result (λ _. grows self.old self.new ts []) }
+        ensures grows { (ts : List (Tree Self.F)) → Stand (stands self.old) xs.now ts → IfOk result (λ _. grows self.old self.new (map over_base ts) []) }
     {
         for x in xs {
             self.assert_zero(*x)?;
@@ -121,7 +122,7 @@ pub trait AirBuilder {
         ensures later { later self.old self.new }
         ensures same { shape self.new ≡ shape self.old }
         ensures answers { IsTrue never_fails → IsOk result }
-        ensures grows { (ts : List (Tree Self.F)) → Stand (stands self.old) xs.now ts → IfOk result (λ _. grows self.old self.new (map (bool_tree Self.F.ring.one) ts) []) }
+        ensures grows { (ts : List (Tree Self.F)) → Stand (stands self.old) xs.now ts → IfOk result (λ _. grows self.old self.new (map over_base (map (bool_tree Self.F.ring.one) ts)) []) }
     {
         for x in xs {
             self.assert_bool(*x)?;
@@ -136,14 +137,16 @@ pub trait AirBuilder {
 
     ghost later_along: { (a b c : Self) → later a b → later b c → later a c };
 
+    ghost later_shape: { (a b : Self) → later a b → shape b ≡ shape a };
+
     // What stands for a tree in a state stands for it in every later state.
     ghost persists: { (a b : Self) → later a b → (e : Self.Expr) (t : Tree Self.F) → stands a e t → stands b e t };
 
     ghost grows_same: { (a : Self) → grows a a [] [] };
 
-    ghost grows_later: { (a b : Self) (ts : List (Tree Self.F)) (is : List (Interaction Self.F)) → grows a b ts is → later a b };
+    ghost grows_later: { (a b : Self) (ts : List (Asserted Self.F)) (is : List (Interaction Self.F)) → grows a b ts is → later a b };
 
-    ghost grows_along: { (a b c : Self) (s t : List (Tree Self.F)) (i j : List (Interaction Self.F)) → grows a b s i → grows b c t j → grows a c (s ++ t) (i ++ j) };
+    ghost grows_along: { (a b c : Self) (s t : List (Asserted Self.F)) (i j : List (Interaction Self.F)) → grows a b s i → grows b c t j → grows a c (s ++ t) (i ++ j) };
 }
 
 /// Takes constraints over an extension of the field too (`p3_air::ExtensionBuilder`).
@@ -187,7 +190,7 @@ pub trait ExtensionBuilder: AirBuilder {
         ensures later { Self.later self.old self.new }
         ensures same { Self.shape self.new ≡ Self.shape self.old }
         ensures answers { IsTrue Self.never_fails → IsOk result }
-        ensures grows { (t : Tree Self.F) → stands_ext self.old x t → IfOk result (λ _. Self.grows self.old self.new (t ∷ []) []) };
+        ensures grows { (t : Tree Self.F) → stands_ext self.old x t → IfOk result (λ _. Self.grows self.old self.new (over_extension t ∷ []) []) };
 
     // Generic code keeps expressions of the extension in arrays: one of 1,024 takes less than 2^63 bytes.
     ghost arrays_fit_ext: { 1024 * (size (layout Self.ExprEF.row) + align (layout Self.ExprEF.row)) < 2 ^ 62 };

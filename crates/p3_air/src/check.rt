@@ -13,7 +13,7 @@ use p3_matrix::RowMajorMatrix;
 use std::alloc::{AllocError, Global};
 use thiserror::Error;
 
-/// Why a table doesn't meet its constraints, or couldn't be checked.
+/// Why a table doesn't meet its constraints, or couldn't be checked (own).
 #[derive(Debug, Drop, Error)]
 pub enum CheckFailure {
     /// The preprocessed trace hasn't the height of the main trace.

@@ -1,5 +1,5 @@
 //! Expressions of nodes in a list: a node and all that it stands on, each once.
-ghost use Rattle.std.specs.Prelude.{◌≡◌, ◌≢◌, ℕ, ◌+◌, ◌<◌, ◌++◌, List, [], ◌∷◌, length, IfOk, Some};
+ghost use Rattle.std.specs.Prelude.{◌≡◌, ◌≢◌, ℕ, ◌+◌, ◌<◌, ◌≤◌, ◌++◌, List, [], ◌∷◌, length, IfOk, Some};
 ghost use Rattle.std.specs.Ordering.{nat_cmp};
 ghost use Rattle.std.specs.BTreeMap.{get};
 ghost use Rattle.p3_air.specs.Symbolic.{tree_at, tree_of, Ordered, IsExpression};
@@ -19,7 +19,8 @@ pub fn expression_at<F: FieldCore>(
 ) -> Mem<SymbolicExpression<F>>
     requires within { place < length nodes.now }
     requires ordered { Ordered nodes.now }
-    ensures { IfOk result (λ e. tree_of e ≡ tree_at nodes.now place) }
+    ensures tree { IfOk result (λ e. tree_of e ≡ tree_at nodes.now place) }
+    ensures few { IfOk result (λ e. length e ≤ place + 1) }
 {
     let mut copies = Vec::new(alloc);
     let mut places = BTreeMap::new(alloc);

@@ -4,7 +4,7 @@ ghost use Rattle.p3_air.specs.Shape.{Declares, DeclaresExt};
 ghost use Rattle.p3_air.specs.Tree.{Tree, Stand, StandCount};
 ghost use Rattle.p3_air.specs.RowCheck.{Checked, Row, Adds, value_at, cell_value, ext_cell_value, row_shape};
 ghost use Rattle.p3_air.specs.declared.cells.Count.{Count as CountOf};
-ghost use Rattle.p3_air.specs.Laws.RowCheck.{row-along, value_at-row, adds-same, adds-along};
+ghost use Rattle.p3_air.specs.Laws.RowCheck.{row-along, row_shape-row, value_at-row, adds-same, adds-along};
 
 use crate::builder::{AirBuilder, ExtensionBuilder, InteractionBuilder, PermutationAirBuilder};
 use crate::cells::{Cell, Count, ExtCell};
@@ -12,18 +12,18 @@ use p3_field::{ExtensionField, Field, FieldCore, Mem, PrimeCharacteristicRing, R
 use std::alloc::Global;
 use std::marker::Model;
 
-/// The values of the cells at one row. A contract sees them as the record `Row`.
+/// The values of the cells at one row (own). A contract sees them as the record `Row`.
 #[derive(Drop)]
 pub struct RowValues<'a, F, EF> {
-    /// The current row of the main trace.
+    /// The current row of the main trace, one value for each column.
     pub main_local: &'a [F],
-    /// The next row of the main trace.
+    /// The next row of the main trace, one value for each column.
     pub main_next: &'a [F],
-    /// The current row of the preprocessed trace.
+    /// The current row of the preprocessed trace, one value for each column.
     pub preprocessed_local: &'a [F],
-    /// The next row of the preprocessed trace.
+    /// The next row of the preprocessed trace, one value for each column.
     pub preprocessed_next: &'a [F],
-    /// The periodic columns at this row.
+    /// The periodic columns' values at this row, one for each column.
     pub periodic: &'a [F],
     /// The public values.
     pub public_values: &'a [F],
@@ -31,9 +31,9 @@ pub struct RowValues<'a, F, EF> {
     pub is_first_row: bool,
     /// Whether this is the last row.
     pub is_last_row: bool,
-    /// The current row of the permutation trace.
+    /// The current row of the permutation trace, one value for each column.
     pub permutation_local: &'a [EF],
-    /// The next row of the permutation trace.
+    /// The next row of the permutation trace, one value for each column.
     pub permutation_next: &'a [EF],
     /// The challenges of the lookups.
     pub challenges: &'a [EF],
@@ -140,7 +140,7 @@ impl<'a, F: Field, EF: ExtensionField<F>> DebugConstraintBuilder<'a, F, EF> {
 }
 
 impl<'a, F: Field, EF: ExtensionField<F>> AirBuilder for DebugConstraintBuilder<'a, F, EF> {
-    ghost use Rattle.p3_air.specs.Laws.RowCheck.{row-along, value_at-row, adds-same, adds-along};
+    ghost use Rattle.p3_air.specs.Laws.RowCheck.{row-along, row_shape-row, value_at-row, adds-same, adds-along};
 
     type F = F;
 
@@ -185,6 +185,8 @@ impl<'a, F: Field, EF: ExtensionField<F>> AirBuilder for DebugConstraintBuilder<
     ghost later_same = { λ a. refl };
 
     ghost later_along = { row-along };
+
+    ghost later_shape = { row_shape-row };
 
     ghost persists = { λ a b h x t k. value_at-row F.ring EF.ring EF.embed a b h (EF.embed x) t k };
 

@@ -1,9 +1,9 @@
 //! Gadgets on words of 32 bits (`utils` of Plonky3's `p3-air`).
 //!
 //! A word is given by its two limbs of 16 bits or by its 32 bits, the lowest first.
-ghost use Rattle.std.specs.Prelude.{◌≡◌, ℕ, ◌+◌, ◌-◌, ◌*◌, ◌%◌, ◌^◌, ◌<◌, ◌≤◌, List, [], ◌∷◌, ◌++◌, IfOk, IsOk, IsTrue, length};
+ghost use Rattle.std.specs.Prelude.{◌≡◌, ℕ, ◌+◌, ◌-◌, ◌*◌, ◌%◌, ◌^◌, ◌<◌, ◌≤◌, List, [], ◌∷◌, ◌++◌, IfOk, IsOk, IsTrue, length, map};
 ghost use Rattle.p3_field.specs.Ring.{of_nat};
-ghost use Rattle.p3_air.specs.Tree.{Tree, sum, product};
+ghost use Rattle.p3_air.specs.Tree.{Tree, sum, product, over_base};
 ghost use Rattle.p3_air.specs.Gadgets.{StandAt, number, less_two, less_three, with_high, zero_or_one, zero_to_two, add2_trees, add3_trees, packed, xor_tree, xor_shift_bit, xor_shift_trees, rotated_place, word_bits};
 
 use crate::builder::AirBuilder;
@@ -16,6 +16,7 @@ fn less_two<AB: AirBuilder>(
     y: AB::Expr,
     z: AB::Expr,
 ) -> Mem<AB::Expr>
+    ensures later { AB.later builder.old builder.new }
     ensures same { AB.shape builder.new ≡ AB.shape builder.old }
     ensures answers { IsTrue AB.never_fails → IsOk result }
     ensures grows { AB.grows builder.old builder.new [] [] }
@@ -33,6 +34,7 @@ fn less_three<AB: AirBuilder>(
     z: AB::Expr,
     w: AB::Expr,
 ) -> Mem<AB::Expr>
+    ensures later { AB.later builder.old builder.new }
     ensures same { AB.shape builder.new ≡ AB.shape builder.old }
     ensures answers { IsTrue AB.never_fails → IsOk result }
     ensures grows { AB.grows builder.old builder.new [] [] }
@@ -44,6 +46,7 @@ fn less_three<AB: AirBuilder>(
 
 // low + 2^16 high.
 fn with_high<AB: AirBuilder>(builder: &mut AB, low: AB::Expr, high: AB::Expr) -> Mem<AB::Expr>
+    ensures later { AB.later builder.old builder.new }
     ensures same { AB.shape builder.new ≡ AB.shape builder.old }
     ensures answers { IsTrue AB.never_fails → IsOk result }
     ensures grows { AB.grows builder.old builder.new [] [] }
@@ -56,6 +59,7 @@ fn with_high<AB: AirBuilder>(builder: &mut AB, low: AB::Expr, high: AB::Expr) ->
 
 // y (x + n).
 fn times_more<AB: AirBuilder>(builder: &mut AB, y: AB::Expr, x: AB::Expr, n: u64) -> Mem<AB::Expr>
+    ensures later { AB.later builder.old builder.new }
     ensures same { AB.shape builder.new ≡ AB.shape builder.old }
     ensures answers { IsTrue AB.never_fails → IsOk result }
     ensures grows { AB.grows builder.old builder.new [] [] }
@@ -68,9 +72,10 @@ fn times_more<AB: AirBuilder>(builder: &mut AB, y: AB::Expr, x: AB::Expr, n: u64
 
 // Asserts that x (x + n) is zero.
 fn assert_zero_or_one<AB: AirBuilder>(builder: &mut AB, n: u64, x: AB::Expr) -> Mem<()>
+    ensures later { AB.later builder.old builder.new }
     ensures same { AB.shape builder.new ≡ AB.shape builder.old }
     ensures answers { IsTrue AB.never_fails → IsOk result }
-    ensures grows { (t : Tree AB.F) → AB.stands builder.old x t → IfOk result (λ _. AB.grows builder.old builder.new (zero_or_one AB.F.ring n t ∷ []) []) }
+    ensures grows { (t : Tree AB.F) → AB.stands builder.old x t → IfOk result (λ _. AB.grows builder.old builder.new (over_base (zero_or_one AB.F.ring n t) ∷ []) []) }
 {
     let both = times_more(builder, x, x, n)?;
     builder.assert_zero(both)
@@ -79,9 +84,10 @@ fn assert_zero_or_one<AB: AirBuilder>(builder: &mut AB, n: u64, x: AB::Expr) -> 
 // Asserts that x (x + n) (x + 2n) is zero.
 fn assert_zero_to_two<AB: AirBuilder>(builder: &mut AB, n: u64, x: AB::Expr) -> Mem<()>
     requires { n < 2 ^ 63 }
+    ensures later { AB.later builder.old builder.new }
     ensures same { AB.shape builder.new ≡ AB.shape builder.old }
     ensures answers { IsTrue AB.never_fails → IsOk result }
-    ensures grows { (t : Tree AB.F) → AB.stands builder.old x t → IfOk result (λ _. AB.grows builder.old builder.new (zero_to_two AB.F.ring n t ∷ []) []) }
+    ensures grows { (t : Tree AB.F) → AB.stands builder.old x t → IfOk result (λ _. AB.grows builder.old builder.new (over_base (zero_to_two AB.F.ring n t) ∷ []) []) }
 {
     let both = times_more(builder, x, x, n)?;
     let all = times_more(builder, both, x, 2 * n)?;
@@ -99,10 +105,11 @@ pub fn add2<AB: AirBuilder>(
     b: [AB::Expr; 2],
     c: [AB::Expr; 2],
 ) -> Mem<()>
+    ensures later { AB.later builder.old builder.new }
     ensures same { AB.shape builder.new ≡ AB.shape builder.old }
     ensures answers { IsTrue AB.never_fails → IsOk result }
     ensures grows { (s t u : ℕ → Tree AB.F) → StandAt (AB.stands builder.old) a s → StandAt (AB.stands builder.old) b t → StandAt (AB.stands builder.old) c u
-        → IfOk result (λ _. AB.grows builder.old builder.new (add2_trees AB.F.ring s t u) []) }
+        → IfOk result (λ _. AB.grows builder.old builder.new (map over_base (add2_trees AB.F.ring s t u)) []) }
 {
     let low = less_two(builder, a[0], b[0], c[0])?;
     let high = less_two(builder, a[1], b[1], c[1])?;
@@ -125,10 +132,11 @@ pub fn add3<AB: AirBuilder>(
     c: [AB::Expr; 2],
     d: [AB::Expr; 2],
 ) -> Mem<()>
+    ensures later { AB.later builder.old builder.new }
     ensures same { AB.shape builder.new ≡ AB.shape builder.old }
     ensures answers { IsTrue AB.never_fails → IsOk result }
     ensures grows { (s t u v : ℕ → Tree AB.F) → StandAt (AB.stands builder.old) a s → StandAt (AB.stands builder.old) b t → StandAt (AB.stands builder.old) c u → StandAt (AB.stands builder.old) d v
-        → IfOk result (λ _. AB.grows builder.old builder.new (add3_trees AB.F.ring s t u v) []) }
+        → IfOk result (λ _. AB.grows builder.old builder.new (map over_base (add3_trees AB.F.ring s t u v)) []) }
 {
     let low = less_three(builder, a[0], b[0], c[0], d[0])?;
     let high = less_three(builder, a[1], b[1], c[1], d[1])?;
@@ -139,6 +147,7 @@ pub fn add3<AB: AirBuilder>(
 
 /// The sum of bit i times 2^i, the lowest bit first: the number of these bits (`p3_air::utils::pack_bits_le`).
 pub fn pack_bits_le<AB: AirBuilder>(builder: &mut AB, bits: &[AB::Expr]) -> Mem<AB::Expr>
+    ensures later { AB.later builder.old builder.new }
     ensures same { AB.shape builder.new ≡ AB.shape builder.old }
     ensures answers { IsTrue AB.never_fails → IsOk result }
     ensures grows { IfOk result (λ _. AB.grows builder.old builder.new [] []) }
@@ -155,6 +164,7 @@ pub fn pack_bits_le<AB: AirBuilder>(builder: &mut AB, bits: &[AB::Expr]) -> Mem<
 
 // x + y - 2xy.
 fn xor<AB: AirBuilder>(builder: &mut AB, x: AB::Expr, y: AB::Expr) -> Mem<AB::Expr>
+    ensures later { AB.later builder.old builder.new }
     ensures same { AB.shape builder.new ≡ AB.shape builder.old }
     ensures answers { IsTrue AB.never_fails → IsOk result }
     ensures grows { IfOk result (λ _. AB.grows builder.old builder.new [] []) }
@@ -175,6 +185,7 @@ fn xor_shift_bits<AB: AirBuilder>(
     c: [AB::Expr; 32],
     s: usize,
 ) -> Mem<[AB::Expr; 32]>
+    ensures later { AB.later builder.old builder.new }
     ensures same { AB.shape builder.new ≡ AB.shape builder.old }
     ensures answers { IsTrue AB.never_fails → IsOk result }
     ensures grows { IfOk result (λ _. AB.grows builder.old builder.new [] []) }
@@ -200,10 +211,11 @@ pub fn xor_32_shift<AB: AirBuilder>(
     c: [AB::Expr; 32],
     s: usize,
 ) -> Mem<()>
+    ensures later { AB.later builder.old builder.new }
     ensures same { AB.shape builder.new ≡ AB.shape builder.old }
     ensures answers { IsTrue AB.never_fails → IsOk result }
     ensures grows { (t u v : ℕ → Tree AB.F) → StandAt (AB.stands builder.old) a t → StandAt (AB.stands builder.old) b u → StandAt (AB.stands builder.old) c v
-        → IfOk result (λ _. AB.grows builder.old builder.new (xor_shift_trees AB.F.ring t u v s) []) }
+        → IfOk result (λ _. AB.grows builder.old builder.new (map over_base (xor_shift_trees AB.F.ring t u v s)) []) }
 {
     builder.assert_bools(&c)?;
     let bits = xor_shift_bits(builder, b, c, s)?;
@@ -215,7 +227,7 @@ pub fn xor_32_shift<AB: AirBuilder>(
     Ok(())
 }
 
-/// The 32 bits of a word as elements, the lowest first.
+/// The 32 bits of a word as elements, the lowest first (`p3_air::utils::u32_to_bits_le`).
 pub fn u32_to_bits_le<F: PrimeCharacteristicRing>(word: u32) -> [F; 32]
     ensures { result ≡ word_bits F.ring word }
 {

@@ -1,10 +1,12 @@
 //! AIRs: tables with constraints between their rows, and the builders that take these constraints.
 //!
-//! The traits, types and calls are those of Plonky3's `p3-air`. An AIR declares its cells, one list of constraint
-//! trees and one list of interactions; `eval` appends exactly these to any builder, in order.
+//! The traits, types and calls are those of Plonky3's `p3-air` and, for interactions, `p3-lookup`. An AIR declares its
+//! cells, one list of constraint trees and one list of interactions; `eval` appends exactly these to any builder, in
+//! order.
 //!
-//! The definitions that the contracts cite are in `specs/`: trees with their values (`Tree`) and declared cells
-//! (`Shape`).
+//! The definitions that the contracts cite are in `specs/`: trees with their values (`Tree`), declared cells (`Shape`),
+//! degrees (`Degree`), what builders hold (`Symbolic`, `Recording`, `RowCheck`), layouts (`Layout`), the check of rows
+//! (`Check`) and gadgets (`Gadgets`, `Words`).
 #![tactic(auto)]
 
 mod base;

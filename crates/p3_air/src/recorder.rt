@@ -7,7 +7,8 @@ ghost use Rattle.p3_air.specs.Symbolic.{node_tree, trees_after, OperandsBelow};
 ghost use Rattle.p3_air.specs.Recording.{Recording, IsLater, Grows, StandsAt, known_place, bus_of, known_count};
 ghost use Rattle.p3_air.specs.Tree.{Tree, Interaction, Stand, StandCount, sum, difference, product, global, local};
 ghost use Rattle.p3_air.specs.declared.cells.Count.{Count as CountOf};
-ghost use Rattle.p3_air.specs.Laws.Recording.{later-same, later-along, stands-later, grows-same, grows-along};
+ghost use Rattle.p3_air.specs.declared.node.Node.TheVariants.{Constant};
+ghost use Rattle.p3_air.specs.Laws.Recording.{later-same, later-along, later-shape, stands-later, grows-same, grows-along};
 
 mod read;
 mod sent;
@@ -83,6 +84,7 @@ impl<F: Field> InteractionSymbolicBuilder<F> {
     /// A builder that declares the cells of this layout, and has nothing recorded.
     pub fn new(alloc: Global, layout: AirLayout) -> Mem<Self>
         ensures layout { IfOk result (λ b. b.layout ≡ layout) }
+        ensures first { IfOk result (λ b. b.nodes ≡ Constant F.ring.zero ∷ []) }
         ensures asserted { IfOk result (λ b. b.asserted ≡ []) }
         ensures interactions { IfOk result (λ b. b.interactions ≡ []) }
     {
@@ -148,7 +150,7 @@ impl<F: Field> InteractionSymbolicBuilder<F> {
 
     // Appends an assertion.
     fn assert(&mut self, x: usize, in_extension: bool) -> Mem<()>
-        ensures grows { (t : Tree F) → StandsAt self.old.nodes x t → IfOk result (λ _. Grows self.old self.new (t ∷ []) []) }
+        ensures grows { (t : Tree F) → StandsAt self.old.nodes x t → IfOk result (λ _. Grows self.old self.new (record { tree = t; in_extension = in_extension } ∷ []) []) }
         ensures asserted { IfOk result (λ _. self.new ≡ record self.old { asserted = self.old.asserted ++ record { place = known_place (length self.old.nodes) x; in_extension = in_extension } ∷ [] }) }
         ensures same { OnErr result (self.new ≡ self.old) }
     {
@@ -233,6 +235,8 @@ impl<F: Field> AirBuilder for InteractionSymbolicBuilder<F> {
     ghost later_same = { later-same };
 
     ghost later_along = { later-along };
+
+    ghost later_shape = { later-shape };
 
     ghost persists = { stands-later };
 

@@ -90,7 +90,7 @@ impl<F: FieldCore> SymbolicExpression<F> {
 }
 
 /// The least degree d' for which d' times the height `n` is at least the degree `d` of a polynomial: d / n rounded
-/// up. The height isn't zero.
+/// up. The height isn't zero (own).
 pub fn constraint_degree_from_poly_degree(d: usize, n: usize) -> usize
     requires { 0 < n }
     ensures enough { d ≤ result * n }

@@ -3,8 +3,8 @@ ghost use Rattle.std.specs.Prelude.{◌≡◌, ◌<◌, IfOk, length};
 
 use p3_air::examples::SwapAir;
 use p3_air::{
-    AirBuilder, CheckFailure, DebugConstraintBuilder, RowValues, add2, add3, check_constraints,
-    pack_bits_le, u32_to_bits_le, xor_32_shift,
+    AirBuilder, CheckFailure, DebugConstraintBuilder, ExtensionBuilder, RowValues, add2, add3,
+    check_constraints, pack_bits_le, u32_to_bits_le, xor_32_shift,
 };
 use p3_field::{BabyBear, FieldCore, Mem, RingCore};
 use p3_matrix::RowMajorMatrix;
@@ -156,5 +156,45 @@ fn swap_holds(rt: HostRuntime) -> Result<(), Fail> {
         }
         _ => assert!(rt; false),
     }
+    Ok(())
+}
+
+#[test]
+fn texts_of_failures(rt: HostRuntime) -> Result<(), Fail> {
+    let alloc = rt.alloc();
+    let height = CheckFailure::PreprocessedHeight;
+    assert_eq!(rt;
+        format!(in alloc; "{height}")?.as_str(),
+        "the preprocessed trace hasn't the height of the main trace"
+    );
+    let places = Vec::from_array(alloc, [0usize, 3])?;
+    let failing = CheckFailure::Failing { row: 2, places };
+    assert_eq!(rt;
+        format!(in alloc; "{failing}")?.as_str(),
+        "in row 2 the constraints [0, 3] aren't zero"
+    );
+    Ok(())
+}
+
+// Constraints over the base field and over the extension, at a row without cells.
+#[test]
+fn values_at_a_row(rt: HostRuntime) -> Result<(), Fail> {
+    let alloc = rt.alloc();
+    let mut builder = at_no_cells(alloc);
+    let x = builder.constant(bear(5))?;
+    let y = builder.constant(bear(3))?;
+    let sum = builder.add(x, y)?;
+    let difference = builder.sub(x, y)?;
+    builder.assert_zeros(&[sum, difference])?;
+    let above = builder.lift(x)?;
+    let product = builder.mul_ext(above, above)?;
+    let more = builder.add_ext(product, above)?;
+    let less = builder.sub_ext(product, above)?;
+    builder.assert_zero_ext(more)?;
+    builder.assert_zero_ext(less)?;
+    assert_eq!(rt;
+        builder.values(),
+        [bear(8), bear(2), bear(30), bear(20)].as_slice()
+    );
     Ok(())
 }

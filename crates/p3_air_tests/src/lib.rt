@@ -4,6 +4,8 @@
 #[cfg(test)]
 mod gadgets;
 #[cfg(test)]
+mod post;
+#[cfg(test)]
 mod symbolic;
 #[cfg(test)]
 mod wheel;

@@ -188,3 +188,27 @@ fn powers_of_the_challenge(rt: HostRuntime) -> Result<(), Fail> {
     assert_eq!(rt; extension.as_slice(), [BabyBear::TWO].as_slice());
     Ok(())
 }
+
+#[test]
+fn operations_over_the_extension(rt: HostRuntime) -> Result<(), Fail> {
+    let alloc = rt.alloc();
+    let mut builder = InteractionSymbolicBuilder::<BabyBear>::new(alloc, one_of_each())?;
+    let base = builder.cell(Cell::Public(0))?;
+    let x = builder.lift(base)?;
+    let y = builder.ext_cell(ExtCell::Challenge(0))?;
+    let sum = builder.add_ext(x, y)?;
+    let difference = builder.sub_ext(sum, y)?;
+    let product = builder.mul_ext(difference, y)?;
+    builder.assert_zero_ext(product)?;
+    let constraints = builder.extension_constraints(alloc)?;
+    match constraints.first() {
+        Some(constraint) => {
+            // Two cells, a sum, a difference and a product, each once.
+            assert_eq!(rt; constraint.nodes().len(), 5);
+            assert_eq!(rt; constraint.try_clone(alloc)?.nodes().len(), 5);
+        }
+        None => assert!(rt; false),
+    }
+    assert_eq!(rt; builder.base_constraints(alloc)?.len(), 0);
+    Ok(())
+}

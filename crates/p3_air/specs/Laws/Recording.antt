@@ -9,10 +9,11 @@ use Rattle.p3_air.specs.declared.layout.AirLayout.{AirLayout}
 use Rattle.p3_air.specs.declared.node.Node.{Node}
 use Rattle.p3_air.specs.declared.node.Node.TheVariants.{Constant, Sum, Difference, Product}
 use Rattle.p3_air.specs.declared.recorded.Assertion.{Assertion}
-use Rattle.p3_air.specs.Tree.{Tree, Interaction, sum, difference, product, Stand, StandCount}
+use Rattle.p3_air.specs.Tree.{Tree, Asserted, Interaction, constant, sum, difference, product, Stand, StandCount}
+use Rattle.p3_air.specs.Layout.{layout_shape}
 use Rattle.p3_air.specs.Symbolic.{node_tree, trees_after, tree_at, OperandsBelow, OrderedFrom}
 use Rattle.p3_air.specs.Placed.{Placed}
-use Rattle.p3_air.specs.Recording.{Recording, trees_at, bus_of, count_at, interaction_at, sent_at, PlacedBelow, IsRecording, StandsAt, IsLater, Grows, known_place, known_count, is_in, asserted_in, indices_from}
+use Rattle.p3_air.specs.Recording.{Recording, trees_at, asserted_tree, asserted_at, bus_of, count_at, interaction_at, sent_at, PlacedBelow, IsRecording, StandsAt, IsLater, Grows, known_place, known_count, is_in, asserted_in, indices_from}
 use Rattle.p3_air.specs.Laws.Symbolic.{tree_at-append, tree_at-push, ordered-push}
 
 -- what holds of each element holds of the first, and of each of the others
@@ -46,10 +47,13 @@ placed_below-more n m ps h a k d l =
     record { fields = all_below-more n m p.fields h q.fields; counts = counts_below-more n m p.counts h q.counts; counted = q.counted; whole = q.whole }
 
 -- further nodes change no tree that was asserted or sent
-pub trees_at-more : {F : Type 0} (ns ms : List (Node F)) (xs : List Assertion) → All (λ a. a.place < length ns) xs → trees_at (ns ++ ms) xs ≡ trees_at ns xs
-trees_at-more ns ms [] h = refl
-trees_at-more {F = F} ns ms (x ∷ xs) h =
-    ap (λ (t : Tree F). t ∷ trees_at (ns ++ ms) xs) (tree_at-append ns ms x.place (all-first (λ (a : Assertion). a.place < length ns) x xs h)) ∙ ap (λ (ts : List (Tree F)). tree_at ns x.place ∷ ts) (trees_at-more ns ms xs (all-rest (λ (a : Assertion). a.place < length ns) x xs h))
+pub asserted_at-more : {F : Type 0} (ns ms : List (Node F)) (xs : List Assertion) → All (λ a. a.place < length ns) xs → asserted_at (ns ++ ms) xs ≡ asserted_at ns xs
+asserted_at-more ns ms [] h = refl
+asserted_at-more {F = F} ns ms (x ∷ xs) h =
+    let here : asserted_tree (ns ++ ms) x ≡ asserted_tree ns x =
+    ap (λ (t : Tree F). record { tree = t; in_extension = x.in_extension }) (tree_at-append ns ms x.place (all-first (λ (a : Assertion). a.place < length ns) x xs h)) in
+    ap (λ (t : Asserted F). t ∷ asserted_at (ns ++ ms) xs) here
+    ∙ ap (λ (ts : List (Asserted F)). asserted_tree ns x ∷ ts) (asserted_at-more ns ms xs (all-rest (λ (a : Assertion). a.place < length ns) x xs h))
 
 pub fields_at-more : {F : Type 0} (ns ms : List (Node F)) (is : List ℕ) → All (λ i. i < length ns) is → map (tree_at (ns ++ ms)) is ≡ map (tree_at ns) is
 fields_at-more ns ms [] h = refl
@@ -84,6 +88,9 @@ later-along {F = F} a b c h k = record {
   extends = k.extends ∙ ap (λ (ns : List (Node F)). ns ++ k.more) h.extends ∙ append_assoc a.nodes h.more k.more;
 }
 
+pub later-shape : {F : Type 0} (a b : Recording F) → IsLater a b → layout_shape b.layout ≡ layout_shape a.layout
+later-shape a b h = ap layout_shape h.layout
+
 pub stands-more : {F : Type 0} (ns ms more : List (Node F)) (e : ℕ) (t : Tree F) → ms ≡ ns ++ more → StandsAt ns e t → StandsAt ms e t
 stands-more {F = F} ns ms more e t h k =
     let long = length-append ns more in
@@ -96,10 +103,10 @@ stands-later a b h e t k = stands-more a.nodes b.nodes h.more e t h.extends k
 pub grows-same : {F : Type 0} (a : Recording F) → Grows a a [] []
 grows-same a = record { later = later-same a; trees = sym (append-nil _); sent = sym (append-nil _) }
 
-pub grows-along : {F : Type 0} (a b c : Recording F) (s t : List (Tree F)) (i j : List (Interaction F)) → Grows a b s i → Grows b c t j → Grows a c (s ++ t) (i ++ j)
+pub grows-along : {F : Type 0} (a b c : Recording F) (s t : List (Asserted F)) (i j : List (Interaction F)) → Grows a b s i → Grows b c t j → Grows a c (s ++ t) (i ++ j)
 grows-along {F = F} a b c s t i j h k = record {
   later = later-along a b c h.later k.later;
-  trees = k.trees ∙ ap (λ (ts : List (Tree F)). ts ++ t) h.trees ∙ append_assoc (trees_at a.nodes a.asserted) s t;
+  trees = k.trees ∙ ap (λ (ts : List (Asserted F)). ts ++ t) h.trees ∙ append_assoc (asserted_at a.nodes a.asserted) s t;
   sent = k.sent ∙ ap (λ (is : List (Interaction F)). is ++ j) h.sent ∙ append_assoc (sent_at a.nodes a.interactions) i j;
 }
 
@@ -117,7 +124,7 @@ recording-push r n h below =
 pub grows-push : {F : Type 0} (r : Recording F) (n : Node F) → IsRecording r → Grows r (record r { nodes = r.nodes ++ n ∷ [] }) [] []
 grows-push r n h = record {
   later = record { layout = refl; more = n ∷ []; extends = refl };
-  trees = trees_at-more r.nodes (n ∷ []) r.asserted h.asserted ∙ sym (append-nil _);
+  trees = asserted_at-more r.nodes (n ∷ []) r.asserted h.asserted ∙ sym (append-nil _);
   sent = sent_at-more r.nodes (n ∷ []) r.interactions h.interactions ∙ sym (append-nil _);
 }
 
@@ -131,16 +138,25 @@ known_place-stands ns x t h = let w = h.within in grind (arith, nat_tests)
 pub known_place-tree : {F : Type 0} (ns : List (Node F)) (x : ℕ) (t : Tree F) → StandsAt ns x t → tree_at ns (known_place (length ns) x) ≡ t
 known_place-tree ns x t h = ap (λ k. tree_at ns k) (known_place-stands ns x t h) ∙ h.has_tree
 
+-- in a builder that began with one constant, an expression that is not among the nodes reads as this constant
+pub foreign-reads : {F : Type 0} (z : F) (a b : Recording F) (x : ℕ) → a.nodes ≡ Constant z ∷ [] → IsLater a b → length b.nodes ≤ x
+    → tree_at b.nodes (known_place (length b.nodes) x) ≡ constant z
+unfolding trees_after
+foreign-reads {F = F} z a b x first h past =
+    let at : known_place (length b.nodes) x ≡ 0 = grind (arith, nat_tests) in
+    let is : b.nodes ≡ (Constant z ∷ []) ++ h.more = h.extends ∙ ap (λ (ns : List (Node F)). ns ++ h.more) first in
+    ap (λ k. tree_at b.nodes k) at ∙ ap (λ (ns : List (Node F)). tree_at ns 0) is ∙ tree_at-append (Constant z ∷ []) h.more 0 (omega arith)
+
 pub known_place-below : (n x : ℕ) → 0 < n → known_place n x < n
 known_place-below n x h = grind (arith, nat_tests)
 
 -- one assertion more
 pub grows-assert : {F : Type 0} (r : Recording F) (x : ℕ) (extension : Bool) (t : Tree F) → StandsAt r.nodes x t
-    → Grows r (record r { asserted = r.asserted ++ record { place = known_place (length r.nodes) x; in_extension = extension } ∷ [] }) (t ∷ []) []
+    → Grows r (record r { asserted = r.asserted ++ record { place = known_place (length r.nodes) x; in_extension = extension } ∷ [] }) (record { tree = t; in_extension = extension } ∷ []) []
 grows-assert {F = F} r x extension t h = record {
   later = record { layout = refl; more = []; extends = sym (append-nil r.nodes) };
-  trees = map-append (λ a. tree_at r.nodes a.place) r.asserted (record { place = known_place (length r.nodes) x; in_extension = extension } ∷ [])
-      ∙ ap (λ (u : Tree F). trees_at r.nodes r.asserted ++ u ∷ []) (known_place-tree r.nodes x t h);
+  trees = map-append (asserted_tree r.nodes) r.asserted (record { place = known_place (length r.nodes) x; in_extension = extension } ∷ [])
+      ∙ ap (λ (u : Tree F). asserted_at r.nodes r.asserted ++ record { tree = u; in_extension = extension } ∷ []) (known_place-tree r.nodes x t h);
   sent = sym (append-nil _);
 }
 

@@ -4,14 +4,17 @@ use Rattle.std.proofs.lemmas.List.{map-append}
 use Rattle.p3_field.specs.Ring.{Ring, RingLaws, sub}
 use Rattle.p3_field.specs.Field.{RingHom}
 use Rattle.p3_field.specs.Laws.Extended.{hom_neg}
-use Rattle.p3_air.specs.Tree.{Tree}
-use Rattle.p3_air.specs.RowCheck.{Row, Checked, Adds, value_at}
+use Rattle.p3_air.specs.Tree.{Tree, Asserted}
+use Rattle.p3_air.specs.RowCheck.{Row, Checked, Adds, value_at, row_shape}
 
 pub row-same : {F E : Type 0} (a : Checked F E) → a.row ≡ a.row
 row-same a = refl
 
 pub row-along : {F E : Type 0} (a b c : Checked F E) → b.row ≡ a.row → c.row ≡ b.row → c.row ≡ a.row
 row-along a b c h k = k ∙ h
+
+pub row_shape-row : {F E : Type 0} (a b : Checked F E) → b.row ≡ a.row → row_shape b.row ≡ row_shape a.row
+row_shape-row {F = F} {E = E} a b h = ap (λ (r : Row F E). row_shape r) h
 
 -- a value at a row is the value at an equal row
 pub value_at-row : {F E : Type 0} (f : Ring F) (e : Ring E) (embed : F → E) (a b : Checked F E) → b.row ≡ a.row → (x : E) (t : Tree F)
@@ -21,11 +24,11 @@ value_at-row {F = F} {E = E} f e embed a b h x t k = let P : Row F E → Type 0 
 pub adds-same : {F E : Type 0} (f : Ring F) (e : Ring E) (embed : F → E) (a : Checked F E) → Adds f e embed a a []
 adds-same f e embed a = record { row = refl; values = sym (append-nil a.values) }
 
-pub adds-along : {F E : Type 0} (f : Ring F) (e : Ring E) (embed : F → E) (a b c : Checked F E) (s t : List (Tree F))
+pub adds-along : {F E : Type 0} (f : Ring F) (e : Ring E) (embed : F → E) (a b c : Checked F E) (s t : List (Asserted F))
     → Adds f e embed a b s → Adds f e embed b c t → Adds f e embed a c (s ++ t)
 adds-along {F = F} {E = E} f e embed a b c s t h k =
-    let v = value_at f e embed a.row in
-    let P : Row F E → Type 0 = λ r. c.values ≡ b.values ++ map (value_at f e embed r) t in
+    let v : Asserted F → E = λ u. value_at f e embed a.row u.tree in
+    let P : Row F E → Type 0 = λ r. c.values ≡ b.values ++ map (λ u. value_at f e embed r u.tree) t in
     let more : c.values ≡ b.values ++ map v t = subst P h.row k.values in
     record {
       row = k.row ∙ h.row;
@@ -33,7 +36,7 @@ adds-along {F = F} {E = E} f e embed a b c s t h k =
     }
 
 -- the value of one tree more
-pub adds-one : {F E : Type 0} (f : Ring F) (e : Ring E) (embed : F → E) (a : Checked F E) (x : E) (t : Tree F) → x ≡ value_at f e embed a.row t
+pub adds-one : {F E : Type 0} (f : Ring F) (e : Ring E) (embed : F → E) (a : Checked F E) (x : E) (t : Asserted F) → x ≡ value_at f e embed a.row t.tree
     → Adds f e embed a (record a { values = a.values ++ x ∷ [] }) (t ∷ [])
 adds-one {E = E} f e embed a x t h = record { row = refl; values = ap (λ (y : E). a.values ++ y ∷ []) h }
 

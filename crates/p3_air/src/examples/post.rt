@@ -1,10 +1,10 @@
 //! A table with preprocessed and periodic cells that sends its cells.
 ghost use Rattle.std.proofs.Common.{rules, ◌∙◌};
 ghost use Rattle.std.proofs.lemmas.List.{length-map};
-ghost use Rattle.p3_air.specs.Laws.Examples.{post-read};
+ghost use Rattle.p3_air.specs.Laws.Examples.{counts-some, post-read};
 ghost use Rattle.std.specs.Prelude.{◌≡◌, ℕ, ◌<◌, List, [], ◌∷◌, IfOk, IsOk, IsTrue, length, map};
 ghost use Rattle.p3_air.specs.Shape.{Declares};
-ghost use Rattle.p3_air.specs.Tree.{cell as cell_tree, difference, product};
+ghost use Rattle.p3_air.specs.Tree.{cell as cell_tree, difference, product, over_base};
 ghost use Rattle.p3_air.specs.Examples.{post_trees, post_interactions, post_declaration};
 
 use crate::base::{Air, BaseAir};
@@ -16,7 +16,7 @@ use std::alloc::Global;
 
 /// One column, which is the product of a preprocessed and a periodic column. Each row sends the pair of
 /// its cell and the public value on the bus `words`, once; and within the table its cell, as often as the public
-/// value says, and the public value, once.
+/// value says, and the public value, once (own).
 #[derive(Drop)]
 pub struct PostAir<F> {
     /// The preprocessed column.
@@ -78,9 +78,10 @@ fn assert_product<AB: AirBuilder>(builder: &mut AB, cell: Cell, x: Cell, y: Cell
     requires cell { Declares (AB.shape builder.old) cell }
     requires left { Declares (AB.shape builder.old) x }
     requires right { Declares (AB.shape builder.old) y }
-    ensures same { IfOk result (λ _. AB.shape builder.new ≡ AB.shape builder.old) }
+    ensures later { AB.later builder.old builder.new }
+    ensures same { AB.shape builder.new ≡ AB.shape builder.old }
     ensures answers { IsTrue AB.never_fails → IsOk result }
-    ensures grows { IfOk result (λ _. AB.grows builder.old builder.new (difference (cell_tree cell) (product (cell_tree x) (cell_tree y)) ∷ []) []) }
+    ensures grows { IfOk result (λ _. AB.grows builder.old builder.new (over_base (difference (cell_tree cell) (product (cell_tree x) (cell_tree y))) ∷ []) []) }
 {
     let a = builder.cell(cell)?;
     let b = builder.cell(x)?;
@@ -120,6 +121,8 @@ impl<F: Field> Air<F> for PostAir<F> {
         builder.push_local_interaction(&[cell, public], &[times, once])?;
         Ok(())
     }
+
+    ghost counts = { λ _ n e. counts-some n 1 e };
 
     ghost trees_read = { λ a. post-read a.steps.items (map (λ v. v.items) a.periodic.items) (length-map a.periodic.items (λ v. v.items) ∙ a.one_periodic) };
 

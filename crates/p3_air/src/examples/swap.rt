@@ -2,6 +2,8 @@
 ghost use Rattle.std.proofs.Common.{rules};
 ghost use Rattle.std.specs.Prelude.{◌≡◌, ℕ, List, [], ◌∷◌, IfOk, IsOk, IsTrue, None};
 ghost use Rattle.p3_air.specs.Shape.{Declares};
+ghost use Rattle.p3_air.specs.Tree.{over_base};
+ghost use Rattle.p3_air.specs.Laws.Examples.{counts-none};
 ghost use Rattle.p3_air.specs.Examples.{equal_when, swap_trees, swap_declaration};
 
 use crate::base::{Air, BaseAir};
@@ -19,9 +21,10 @@ fn assert_equal_when<AB: AirBuilder>(builder: &mut AB, selector: Cell, x: Cell, 
     requires selector { Declares (AB.shape builder.old) selector }
     requires left { Declares (AB.shape builder.old) x }
     requires right { Declares (AB.shape builder.old) y }
-    ensures same { IfOk result (λ _. AB.shape builder.new ≡ AB.shape builder.old) }
+    ensures later { AB.later builder.old builder.new }
+    ensures same { AB.shape builder.new ≡ AB.shape builder.old }
     ensures answers { IsTrue AB.never_fails → IsOk result }
-    ensures grows { IfOk result (λ _. AB.grows builder.old builder.new (equal_when selector x y ∷ []) []) }
+    ensures grows { IfOk result (λ _. AB.grows builder.old builder.new (over_base (equal_when selector x y) ∷ []) []) }
 {
     let s = builder.cell(selector)?;
     let a = builder.cell(x)?;
@@ -32,7 +35,8 @@ fn assert_equal_when<AB: AirBuilder>(builder: &mut AB, selector: Cell, x: Cell, 
     Ok(())
 }
 
-/// Two columns l and r of 2^k rows, (a, b) and (b, a) in turn. The public values are a, b and the last right cell.
+/// Two columns l and r of 2^k rows, (a, b) and (b, a) in turn. The public values are a, b and the last right cell
+/// (own).
 #[derive(Clone, Copy)]
 pub struct SwapAir;
 
@@ -121,6 +125,8 @@ impl<F: Field> Air<F> for SwapAir {
         assert_equal_when(builder, Cell::LastRow, r, Cell::Public(2))?;
         Ok(())
     }
+
+    ghost counts = { λ _ n e. counts-none n 5 e };
 
     ghost trees_read = { λ _. Prim.search rules };
 

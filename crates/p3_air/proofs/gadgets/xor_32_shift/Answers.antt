@@ -1,6 +1,8 @@
-use Rattle.std.proofs.Common.{◌≡◌, ◌+◌, ◌≤◌, [], ◌∷◌, length, subst, rules, arith}
-use Rattle.p3_air.specs.Tree.{Tree}
-use Rattle.p3_air.specs.Gadgets.{xor_shift_bit, xor_shift_trees}
+use Rattle.std.proofs.Common.{◌≡◌, ◌+◌, ◌≤◌, [], ◌∷◌, length, map, subst, rules, arith}
+use Rattle.std.proofs.lemmas.List.{map-append}
+use Rattle.p3_field.specs.Poly.{table}
+use Rattle.p3_air.specs.Tree.{Tree, over_base, bool_tree, difference}
+use Rattle.p3_air.specs.Gadgets.{xor_shift_bit, xor_shift_trees, packed}
 use Rattle.p3_air.proofs.Packing.{packed_low, packed_high, stand_later, stand_take, stand_tail, stand_table}
 use Rattle.p3_air.proofs.gadgets.xor_32_shift.Goals as goal
 
@@ -29,9 +31,10 @@ returns-clause-grows g c t u v ht hu hv =
     let first = c.in_ok-assert_eq.ensures.grows _ _ a0 low-2 in
     let past_first = B.persists _ _ (B.grows_later _ _ _ _ first) in
     let then = B.grows_along in
-    then _ _ _ _ _ [] [] bools
+    rw (map-append over_base (map (bool_tree r.one) (table 32 v)) (difference (t 0) (packed r f 0 16) ∷ difference (t 1) (packed r f 16 16) ∷ []))
+    (then _ _ _ _ _ [] [] bools
     (then _ _ _ [] _ [] [] c.in_ok-bits.ensures.grows
     (then _ _ _ [] _ [] [] c.in_ok-low.ensures.grows
     (then _ _ _ [] _ [] [] c.in_ok-high.ensures.grows
     (then _ _ _ (_ ∷ []) _ [] [] first
-    (c.in_ok-assert_eq-2.ensures.grows _ _ (past_first _ _ a1) (past_first _ _ high-2))))))
+    (c.in_ok-assert_eq-2.ensures.grows _ _ (past_first _ _ a1) (past_first _ _ high-2)))))))

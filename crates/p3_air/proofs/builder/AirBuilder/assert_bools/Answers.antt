@@ -1,8 +1,8 @@
-use Rattle.std.proofs.Common.{[], ◌∷◌, ◌<◌, length, take, get_or, sym, ◌≡◌, ◌∙◌, subst, arith}
+use Rattle.std.proofs.Common.{[], map, ◌∷◌, ◌<◌, length, take, get_or, sym, ◌≡◌, ◌∙◌, subst, arith}
 use Rattle.std.proofs.lemmas.List.{take_more, map-append}
 use Rattle.std.proofs.lemmas.Grind.{common_steps}
 use Rattle.p3_air.specs.declared.cells.Cell.TheVariants.{FirstRow}
-use Rattle.p3_air.specs.Tree.{Tree, cell, bool_tree}
+use Rattle.p3_air.specs.Tree.{Tree, cell, bool_tree, over_base}
 use Rattle.p3_air.proofs.builder.AirBuilder.assert_bools.Goals as goal
 
 pub loop-x-preserved : goal.loop-x-preserved
@@ -17,7 +17,7 @@ loop-x-preserved g c =
           let lt-2 : i < length ts = omega (arith, h.long) in
           let P : g.row.Self-Expr.Denot → Type 0 = λ x. g.Self.AirBuilder.stands c.args.self.now x (get_or ts i u) in
           let one = B.persists _ _ c.loop-x.invariant.0 _ _ (subst P (sym c.x-item.is) (h.each i c.x-item.result u lt)) in
-          rw (take_more ts i u lt-2, map-append (bool_tree g.Self.F.RingCore.ring.one) (take i ts) (get_or ts i u ∷ []))
+          rw (take_more ts i u lt-2, map-append (bool_tree g.Self.F.RingCore.ring.one) (take i ts) (get_or ts i u ∷ []), map-append over_base (map (bool_tree g.Self.F.RingCore.ring.one) (take i ts)) (bool_tree g.Self.F.RingCore.ring.one (get_or ts i u) ∷ []))
           (B.grows_along _ _ _ _ _ [] []
           (c.loop-x.invariant.2 ts h)
           (c.in_ok-assert_bool.ensures.grows _ one)),

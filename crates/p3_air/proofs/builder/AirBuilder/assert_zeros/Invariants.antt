@@ -1,5 +1,5 @@
-use Rattle.std.proofs.Common.{◌≡◌, List, [], take}
-use Rattle.p3_air.specs.Tree.{Tree, Stand}
+use Rattle.std.proofs.Common.{◌≡◌, List, [], map, take}
+use Rattle.p3_air.specs.Tree.{Tree, Stand, over_base}
 use Rattle.p3_air.proofs.builder.AirBuilder.assert_zeros.Given as goal
 
 abbrev pub invariant-loop-x : goal.invariant-loop-x
@@ -7,4 +7,4 @@ invariant-loop-x g l =
     g.Self.AirBuilder.later l.initial.self l.self
     × (g.Self.AirBuilder.shape l.self ≡ g.Self.AirBuilder.shape l.initial.self)
     × ((ts : List (Tree g.row.Self-F.Denot)) → Stand (g.Self.AirBuilder.stands l.initial.self) l.xs ts
-    → g.Self.AirBuilder.grows l.initial.self l.self (take l.x-index ts) [])
+    → g.Self.AirBuilder.grows l.initial.self l.self (map over_base (take l.x-index ts)) [])

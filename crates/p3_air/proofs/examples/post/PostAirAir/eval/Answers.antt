@@ -1,6 +1,6 @@
 use Rattle.std.proofs.Common.{[], ◌∷◌, ◌∙◌, false, refl}
 use Rattle.p3_air.specs.declared.cells.Cell.TheVariants.{Main, Preprocessed, Periodic, Public}
-use Rattle.p3_air.specs.Tree.{Tree, constant, cell, difference, product, StandCount}
+use Rattle.p3_air.specs.Tree.{Tree, constant, cell, difference, product, over_base, StandCount}
 use Rattle.p3_air.specs.Laws.Stand.{stand-none, stand-more}
 use Rattle.p3_air.proofs.examples.post.PostAirAir.eval.Goals as goal
 
@@ -18,7 +18,7 @@ returns-clause-grows g c =
     let pair2 = stand-more _ _ _ _ _ m2 (stand-more _ _ _ _ _ p2 (stand-none _)) in
     let counts = stand-more _ _ _ _ _ (p2, refl) (stand-more _ _ _ _ _ (B.persists _ _ sent _ _ one, refl) (stand-none _)) in
     let then = B.grows_along in
-    then _ _ _ (difference (cell (Main false 0)) (product (cell (Preprocessed false 0)) (cell (Periodic 0))) ∷ []) _ [] _ c.in_ok-assert_product.ensures.grows
+    then _ _ _ (over_base (difference (cell (Main false 0)) (product (cell (Preprocessed false 0)) (cell (Periodic 0)))) ∷ []) _ [] _ c.in_ok-assert_product.ensures.grows
     (then _ _ _ [] _ [] _ c.cell.ensures.grows
     (then _ _ _ [] _ [] _ c.cell-2.ensures.grows
     (then _ _ _ [] _ [] _ c.constant.ensures.grows
