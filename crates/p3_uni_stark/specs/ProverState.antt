@@ -1,5 +1,5 @@
 -- What a prover's folder reads, the powers that are left and the sum so far.
-use Rattle.std.specs.Prelude.{◌≡◌, List, drop}
+use Rattle.std.specs.Prelude.{◌≡◌, ℕ, ◌+◌, List, length, drop}
 use Rattle.p3_uni_stark.specs.declared.prover_folder.ProverFolder.{ProverFolder}
 use Rattle.p3_uni_stark.specs.Fold.{Sum}
 use Rattle.p3_uni_stark.specs.Point.{PointValues}
@@ -19,3 +19,8 @@ values_of b = record {
 
 abbrev pub sum_of : {F E : Type 0} → ProverFolder F E → Sum E
 sum_of b = record { left = drop b.constraint_index b.alpha_powers.now; total = b.accumulator }
+
+-- How many powers are taken and left together. While this stays, the folder counts a constraint only where it takes
+-- a power.
+abbrev pub powers_of : {F E : Type 0} → ProverFolder F E → ℕ
+powers_of b = b.constraint_index + length (sum_of b).left

@@ -30,7 +30,8 @@ abbrev pub AllDisjoint : {F : Type 0} → TwoAdic F → List (CosetData F) → T
 AllDisjoint f ds = (i : ℕ) → i < length ds → IsDisjointFrom f ds i
 
 -- the weight of chunk i at x: the product over the other domains j of Van_j(x) / Van_j(first point of domain i).
--- At the points of domain i it is one where the domains are cosets of one group, and at those of the others zero.
+-- At the points of domain i it is one where the domains are cosets of one group, and at those of the others zero
+-- (`weight_at_own` and `weight_elsewhere` of Laws/Weights).
 unfoldable pub chunk_weight : {F E : Type 0} → TwoAdic F → Extension F E → List (CosetData F) → ℕ → E → E
 chunk_weight f e ds i x =
     product_but e.ring (length ds) i

@@ -1,5 +1,6 @@
-//! What provers and verifiers of single tables share with those of batches: the errors, the opened values, the
-//! recombination of a quotient from its chunks, and counts of openings. After Plonky3's `p3-uni-stark`.
+//! What provers and verifiers of single tables share with those of batches: the configuration, the constraint folders,
+//! the errors, the opened values, the recombination of a quotient from its chunks, and counts of openings. After
+//! Plonky3's `p3-uni-stark`.
 //!
 //! The definitions that the contracts cite are in `specs/`.
 #![tactic(auto)]

@@ -30,7 +30,7 @@ fn is_disjoint_from_others<F: TwoAdicField>(
     true
 }
 
-/// Whether no two domains of the list share a point.
+/// Whether no two domains of the list share a point (own).
 pub fn are_all_disjoint<F: TwoAdicField>(domains: &[TwoAdicMultiplicativeCoset<F>]) -> bool
     ensures { IsTrue result ↔ AllDisjoint (record { ring = F.ring; inv = F.inv; root = F.root; generator = F.GENERATOR }) domains.now }
 {
@@ -87,8 +87,8 @@ fn chunk_value<F: TwoAdicField, EF: ExtensionField<F>>(values: &[EF]) -> EF
 
 /// The value at a point of a quotient whose chunks have the values `chunks` there: for each chunk the values of its
 /// coefficient columns, as many as the larger field has dimensions. Chunk i's polynomials agree with the quotient on
-/// domain i, and no two domains share a point (test:
-/// `are_all_disjoint`; `recompose_quotient_from_chunks` of `p3-uni-stark`).
+/// domain i, and no two domains share a point (test: `are_all_disjoint`). Own: the rule is that of
+/// `recompose_quotient_from_chunks` of `p3-uni-stark`.
 pub fn recomposed_quotient<F: TwoAdicField, EF: ExtensionField<F>>(
     domains: &[TwoAdicMultiplicativeCoset<F>],
     chunks: &[Vec<EF>],
@@ -106,7 +106,7 @@ pub fn recomposed_quotient<F: TwoAdicField, EF: ExtensionField<F>>(
     sum
 }
 
-/// The same over a configuration's fields (`recompose_quotient_from_chunks` of `p3-uni-stark`).
+/// The value of `recomposed_quotient` over a configuration's fields (`recompose_quotient_from_chunks` of `p3-uni-stark`).
 pub fn recompose_quotient_from_chunks<SC: StarkGenericConfig>(
     domains: &[Domain<SC>],
     chunks: &[Vec<Challenge<SC>>],

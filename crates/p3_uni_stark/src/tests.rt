@@ -2,9 +2,12 @@
 ghost use Rattle.std.specs.Prelude.{◌≡◌, IfOk, length};
 
 use crate::{
-    InvalidProofShapeError, OpeningShape, StarkOpeningLayout, are_all_disjoint,
-    num_batched_openings, recomposed_quotient, validate_degree_bits,
+    InvalidProofShapeError, OpeningShape, ProverFolder, StarkOpeningLayout, VerifierFolder,
+    are_all_disjoint, num_batched_openings, prover_fold, recomposed_quotient, validate_degree_bits,
+    verifier_fold,
 };
+use p3_air::examples::SwapAir;
+use p3_air::{AirBuilder, Count, ExtensionBuilder, InteractionBuilder};
 use p3_field::{
     BabyBear, Mem, QuarticExtension, RingCore, TwoAdicCore, TwoAdicMultiplicativeCoset,
 };
@@ -104,5 +107,114 @@ fn two_chunks_are_put_together(rt: HostRuntime) -> Result<(), Fail> {
     }
     let quotient = put_together(alloc, &domains, &[374255913, 1639010160])?;
     assert_eq!(rt; quotient, Some(QuarticExtension::from_u64(318589386)));
+    Ok(())
+}
+
+// The powers 10^4, .., 10, 1.
+fn powers_of_ten() -> [QuarticExtension; 5] {
+    [
+        QuarticExtension::from_u64(10000),
+        QuarticExtension::from_u64(1000),
+        QuarticExtension::from_u64(100),
+        QuarticExtension::from_u64(10),
+        QuarticExtension::ONE,
+    ]
+}
+
+// At the row 2, 3 before the row 5, 7, where all else is one, the constraints have the values 1, 2, 2, 5 and 2.
+#[test]
+fn both_folds_of_swap(rt: HostRuntime) -> Result<(), Fail> {
+    let (local, next) = ([bear(2), bear(3)], [bear(5), bear(7)]);
+    let public_values = [bear(1), bear(1), bear(1)];
+    let powers = powers_of_ten();
+    let folder = ProverFolder {
+        main_local: &local,
+        main_next: &next,
+        preprocessed_local: &[],
+        preprocessed_next: &[],
+        periodic_values: &[],
+        public_values: &public_values,
+        is_first_row: BabyBear::ONE,
+        is_last_row: BabyBear::ONE,
+        is_transition: BabyBear::ONE,
+        alpha_powers: &powers,
+        constraint_index: 0,
+        accumulator: QuarticExtension::ZERO,
+    };
+    assert_eq!(rt;
+        prover_fold(&SwapAir, folder),
+        QuarticExtension::from_u64(12252)
+    );
+    let local = [QuarticExtension::from_u64(2), QuarticExtension::from_u64(3)];
+    let next = [QuarticExtension::from_u64(5), QuarticExtension::from_u64(7)];
+    let folder = VerifierFolder {
+        main_local: &local,
+        main_next: &next,
+        preprocessed_local: &[],
+        preprocessed_next: &[],
+        periodic_values: &[],
+        public_values: &public_values,
+        is_first_row: QuarticExtension::ONE,
+        is_last_row: QuarticExtension::ONE,
+        is_transition: QuarticExtension::ONE,
+        alpha: QuarticExtension::from_u64(10),
+        accumulator: QuarticExtension::ZERO,
+    };
+    assert_eq!(rt;
+        verifier_fold(&SwapAir, folder),
+        QuarticExtension::from_u64(12252)
+    );
+    Ok(())
+}
+
+// Asserts over the extension that the square of x is zero, and sends x once within the table.
+fn assert_square<AB: InteractionBuilder>(builder: &mut AB, x: AB::Expr) -> Mem<()> {
+    let above = builder.lift(x)?;
+    let square = builder.mul_ext(above, above)?;
+    let sum = builder.add_ext(square, above)?;
+    let back = builder.sub_ext(sum, above)?;
+    builder.assert_zero_ext(back)?;
+    builder.push_local_interaction(&[x], &[Count { value: x, bound: 1 }])
+}
+
+// The square of 3 takes the first power. A constraint past the last power takes none and isn't counted.
+#[test]
+fn powers_are_counted(rt: HostRuntime) -> Result<(), Fail> {
+    let powers = [QuarticExtension::from_u64(10)];
+    let mut folder = ProverFolder {
+        main_local: &[],
+        main_next: &[],
+        preprocessed_local: &[],
+        preprocessed_next: &[],
+        periodic_values: &[],
+        public_values: &[],
+        is_first_row: BabyBear::ONE,
+        is_last_row: BabyBear::ONE,
+        is_transition: BabyBear::ONE,
+        alpha_powers: &powers,
+        constraint_index: 0,
+        accumulator: QuarticExtension::ZERO,
+    };
+    assert_square(&mut folder, bear(3))?;
+    assert_square(&mut folder, bear(3))?;
+    assert_eq!(rt; folder.accumulator, QuarticExtension::from_u64(90));
+    assert_eq!(rt; folder.constraint_index, 1);
+    let mut folder = VerifierFolder {
+        main_local: &[],
+        main_next: &[],
+        preprocessed_local: &[],
+        preprocessed_next: &[],
+        periodic_values: &[],
+        public_values: &[],
+        is_first_row: QuarticExtension::ONE,
+        is_last_row: QuarticExtension::ONE,
+        is_transition: QuarticExtension::ONE,
+        alpha: QuarticExtension::from_u64(10),
+        accumulator: QuarticExtension::ZERO,
+    };
+    let three = folder.constant(bear(3))?;
+    assert_square(&mut folder, three)?;
+    assert_square(&mut folder, three)?;
+    assert_eq!(rt; folder.accumulator, QuarticExtension::from_u64(99));
     Ok(())
 }

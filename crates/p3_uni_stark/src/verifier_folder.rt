@@ -1,11 +1,11 @@
 //! The verifier's constraint folder.
 ghost use Rattle.std.specs.Prelude.{◌≡◌, List, [], ◌∷◌, ◌%◌, ◌<◌, IfOk, IsOk, IsTrue, true, length, map, refl};
 ghost use Rattle.std.proofs.Common.{◌∙◌};
-ghost use Rattle.p3_air.specs.Tree.{Tree, ev, Stand, StandCount};
+ghost use Rattle.p3_air.specs.Tree.{Tree, ev, ev_asserted, Stand, StandCount};
 ghost use Rattle.p3_air.specs.declared.cells.Count.{Count as CountOf};
 ghost use Rattle.p3_uni_stark.specs.Fold.{fold_from};
 ghost use Rattle.p3_uni_stark.specs.Point.{reading, point_shape};
-ghost use Rattle.p3_uni_stark.specs.Laws.Folders.{value_persists, folded_along};
+ghost use Rattle.p3_uni_stark.specs.Laws.Folders.{shape_along, value_persists, folded_along};
 
 use p3_air::{
     AirBuilder, Cell, Count, ExtCell, ExtensionBuilder, InteractionBuilder, PermutationAirBuilder,
@@ -52,7 +52,7 @@ impl<'a, F: Field, E: ExtensionField<F>> AirBuilder for VerifierFolder<'a, F, E>
 
     ghost later = { λ a b. opened_of b ≡ opened_of a };
 
-    ghost grows = { λ a b ts is. (opened_of b ≡ opened_of a) × (b.accumulator ≡ fold_from E.ring a.alpha a.accumulator (map (ev (reading E.ring E.embed (opened_of a).values)) ts)) };
+    ghost grows = { λ a b ts is. (opened_of b ≡ opened_of a) × (b.accumulator ≡ fold_from E.ring a.alpha a.accumulator (map (ev_asserted (reading E.ring E.embed (opened_of a).values)) ts)) };
 
     ghost shape = { λ b. point_shape (opened_of b).values };
 
@@ -104,6 +104,8 @@ impl<'a, F: Field, E: ExtensionField<F>> AirBuilder for VerifierFolder<'a, F, E>
     ghost later_same = { λ a. refl };
 
     ghost later_along = { λ a b c p q. q ∙ p };
+
+    ghost later_shape = { λ a b p. shape_along (λ o. o.values) (opened_of a) (opened_of b) p };
 
     ghost persists = { λ a b h e t k. value_persists (λ o. reading E.ring E.embed o.values) (opened_of a) (opened_of b) e t h k };
 

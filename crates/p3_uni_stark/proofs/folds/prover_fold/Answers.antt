@@ -1,10 +1,11 @@
 use Rattle.std.proofs.Common.{◌≡◌, List, length, map, drop, sym, ◌∙◌, ap}
 use Rattle.std.proofs.lemmas.List.{length-map}
-use Rattle.p3_air.specs.Tree.{ev}
+use Rattle.p3_air.specs.Tree.{ev, ev_asserted, over_base}
 use Rattle.p3_uni_stark.specs.Fold.{fold_powers, Sum, weighed_from}
 use Rattle.p3_uni_stark.specs.Point.{reading, embedded}
 use Rattle.p3_uni_stark.specs.ProverState.{values_of, sum_of}
 use Rattle.p3_uni_stark.specs.Laws.Folds.{weighed_fold}
+use Rattle.p3_uni_stark.specs.Laws.Folders.{base_values}
 use Rattle.p3_uni_stark.proofs.folds.prover_fold.Goals as goal
 
 pub returns : goal.returns
@@ -16,4 +17,8 @@ returns g c = λ alpha powers.
     let ordered : c.args.folder.alpha_powers.now ≡ fold_powers s alpha (length values) = powers ∙ ap (fold_powers s alpha) (sym (length-map trees read)) in
     let start : sum_of c.args.folder ≡ record { left = fold_powers s alpha (length values); total = s.zero } =
     (λ i. record { left = (ap (λ n. drop n c.args.folder.alpha_powers.now) c.requires.first ∙ ordered) i; total = c.requires.zero i }) in
-    ap (λ w. w.total) c.in-Ok.ensures.grows.1 ∙ (ap (λ w. (weighed_from s w values).total) start ∙ weighed_fold s g.met.E.RingCore.ring_laws alpha values)
+    let over : map (ev_asserted (reading s g.E.ExtensionField.embed (embedded g.E.ExtensionField.embed (values_of c.args.folder)))) (map over_base trees) ≡ values =
+    base_values (reading s g.E.ExtensionField.embed (embedded g.E.ExtensionField.embed (values_of c.args.folder))) trees in
+    ap (λ w. w.total) c.in-Ok.ensures.grows.1
+    ∙ (ap (λ v. (weighed_from s (sum_of c.args.folder) v).total) over
+    ∙ (ap (λ w. (weighed_from s w values).total) start ∙ weighed_fold s g.met.E.RingCore.ring_laws alpha values))
