@@ -10,6 +10,10 @@ mod opening;
 #[cfg(test)]
 mod quotient;
 #[cfg(test)]
+mod rounds;
+#[cfg(test)]
 mod scheme;
+#[cfg(test)]
+mod texts;
 #[cfg(test)]
 mod verifying;

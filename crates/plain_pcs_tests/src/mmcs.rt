@@ -8,7 +8,7 @@ use p3_field::{
     BabyBear, BasedVectorSpace, ExtensionField, FieldCore, Mem, QuarticExtension, RingCore,
 };
 use p3_matrix::{Dimensions, RowMajorMatrix};
-use plain_pcs::{PlainMmcs, PlainMmcsError};
+use plain_pcs::{PlainMmcs, PlainMmcsError, PlainMmcsProof};
 use std::alloc::Global;
 use std::test::Fail;
 
@@ -206,13 +206,37 @@ fn two_rows_of_each_column(rt: HostRuntime) -> Result<(), Fail> {
     Ok(())
 }
 
+// The heights of committed columns, the greatest of them, and how many columns there are.
+fn heights<T: Copy + Eq, M: Mmcs<T>>(
+    alloc: Global,
+    mmcs: &M,
+    columns: Vec<RowMajorMatrix<T>>,
+) -> Mem<(Vec<usize>, usize, usize)>
+    requires batch { IsBatch columns.items }
+    requires takes { All (λ m. M.takes m.width) columns.items }
+{
+    let made = mmcs.commit(alloc, columns)?;
+    let heights = mmcs.get_matrix_heights(alloc, &made.1)?;
+    Ok((
+        heights,
+        mmcs.get_max_height(&made.1),
+        mmcs.get_matrices(&made.1).len(),
+    ))
+}
+
 #[test]
 fn heights_of_columns(rt: HostRuntime) -> Result<(), Fail> {
     let alloc = rt.alloc();
-    let (_commitment, data) = PlainMmcs.commit(alloc, bears(alloc)?)?;
-    let heights = Mmcs::<BabyBear>::get_matrix_heights(&PlainMmcs, alloc, &data)?;
-    assert_eq!(rt; heights.as_slice(), [4, 2].as_slice());
-    assert_eq!(rt; Mmcs::<BabyBear>::get_max_height(&PlainMmcs, &data), 4);
+    let (each, most, count) = heights(alloc, &PlainMmcs, bears(alloc)?)?;
+    assert_eq!(rt; each.as_slice(), [4, 2].as_slice());
+    assert_eq!(rt; (most, count), (4, 2));
+    let (each, most, count) = heights(alloc, &&PlainMmcs, bears(alloc)?)?;
+    assert_eq!(rt; each.as_slice(), [4, 2].as_slice());
+    assert_eq!(rt; (most, count), (4, 2));
+    let mmcs = ExtensionMmcs::<BabyBear, QuarticExtension, PlainMmcs>::new(PlainMmcs);
+    let (each, most, count) = heights(alloc, &mmcs, quartics(alloc)?)?;
+    assert_eq!(rt; each.as_slice(), [4, 2].as_slice());
+    assert_eq!(rt; (most, count), (4, 2));
     Ok(())
 }
 
@@ -232,5 +256,53 @@ fn one_list(rt: HostRuntime) -> Result<(), Fail> {
     let (_commitment, data) = PlainMmcs.commit_vec(alloc, vec![in alloc; bear(5), bear(9)]?)?;
     let (rows, _proof) = PlainMmcs.open_batch(alloc, 1, &data)?.unpack();
     assert_eq!(rt; cell::<BabyBear>(&rows, 0), Some(bear(9)));
+    Ok(())
+}
+
+// A commitment is a public list, so it may have a matrix that `commit` doesn't take.
+#[test]
+fn three_rows(rt: HostRuntime) -> Result<(), Fail> {
+    let alloc = rt.alloc();
+    let column = RowMajorMatrix::new_col(vec![in alloc; bear(5), bear(9), bear(2)]?);
+    let commitment = vec![in alloc; column]?;
+    let shape = [Dimensions {
+        width: 1,
+        height: 3,
+    }];
+    let rows = vec![in alloc; one(alloc, bear(5))?]?;
+    let opening = BatchOpeningRef::<BabyBear, PlainMmcs>::new(&rows, &PlainMmcsProof);
+    let answer = PlainMmcs.verify_batch(alloc, &commitment, &shape, 0, opening);
+    assert!(rt;
+        matches!(
+            &answer,
+            Err(PcsFailure::Refused(PlainMmcsError::Dimensions))
+        )
+    );
+    let openings = vec![in alloc; rows]?;
+    let answer = PlainMmcs.verify_multi_batch(
+        alloc,
+        &commitment,
+        &shape,
+        &[0],
+        &openings,
+        &PlainMmcsProof,
+    );
+    assert!(rt;
+        matches!(
+            &answer,
+            Err(PcsFailure::Refused(PlainMmcsError::Dimensions))
+        )
+    );
+    Ok(())
+}
+
+#[test]
+fn no_matrices(rt: HostRuntime) -> Result<(), Fail> {
+    let alloc = rt.alloc();
+    let commitment: Vec<RowMajorMatrix<BabyBear>> = Vec::new(alloc);
+    let rows: Vec<Vec<BabyBear>> = Vec::new(alloc);
+    let opening = BatchOpeningRef::<BabyBear, PlainMmcs>::new(&rows, &PlainMmcsProof);
+    let answer = PlainMmcs.verify_batch(alloc, &commitment, &[], 0, opening);
+    assert!(rt; matches!(&answer, Err(PcsFailure::Refused(PlainMmcsError::Index))));
     Ok(())
 }

@@ -91,6 +91,10 @@ fn a_line(rt: HostRuntime) -> Result<(), Fail> {
 fn two_variables(rt: HostRuntime) -> Result<(), Fail> {
     let alloc = rt.alloc();
     let pcs = PlainMultilinear::<BabyBear>::new(2);
+    assert_eq!(rt;
+        MultilinearPcs::<QuarticExtension, Sha256Challenger>::num_vars(&pcs),
+        2
+    );
     let mut challenger = Sha256Challenger::new();
     let values = vec![in alloc; bear(5), bear(9), bear(6), bear(20)]?;
     let (_commitment, data) = committed(alloc, &pcs, values, &mut challenger)

@@ -175,3 +175,60 @@ fn an_observed_commitment(rt: HostRuntime) -> Result<(), Fail> {
     assert_eq!(rt; challenger, again);
     Ok(())
 }
+
+// The domain for columns of eight rows.
+fn eight_points(scheme: &Plain) -> Coset {
+    <Plain as Pcs<BabyBear, Sha256Challenger>>::natural_domain_for_degree(scheme, 8)
+}
+
+#[test]
+fn domains_and_heights(rt: HostRuntime) -> Result<(), Fail> {
+    let scheme = scheme()?;
+    let most = <Plain as UnivariateStarkPcs<BabyBear, Sha256Challenger>>::log_max_trace_height(
+        &scheme,
+    );
+    let least = <Plain as UnivariateStarkPcs<BabyBear, Sha256Challenger>>::log_min_trace_height(
+        &scheme,
+    );
+    assert_eq!(rt; (least, most), (0, 26));
+    let domain = eight_points(&scheme);
+    assert_eq!(rt; domain.shift(), bear(1));
+    assert_eq!(rt; domain.log_size(), 3);
+    Ok(())
+}
+
+// The values on a domain of the polynomial 7 - 2 X, which is committed to on the points 1 and -1.
+fn values_on(alloc: Global, domain: Coset) -> Result<RowMajorMatrix<BabyBear>, Fail> {
+    let scheme = scheme()?;
+    let own = Coset::new(bear(1), 1).ok_or("no coset")?;
+    let (_commitment, kept) = committed(alloc, &scheme, own)?;
+    let values = <Plain as UnivariateStarkPcs<
+        BabyBear,
+        Sha256Challenger,
+    >>::get_evaluations_on_domain(&scheme, alloc, &kept, 0, domain)?;
+    Ok(values)
+}
+
+#[test]
+fn values_on_a_smaller_domain(rt: HostRuntime) -> Result<(), Fail> {
+    let alloc = rt.alloc();
+    let one = Coset::new(bear(31), 0).ok_or("no coset")?;
+    let values = values_on(alloc, one)?;
+    assert_eq!(rt; (values.height(), values.width()), (1, 1));
+    assert_eq!(rt; values.as_slice(), [-bear(55)].as_slice());
+    Ok(())
+}
+
+// The points are 1, r, -1 and -r, where r = 1728404513 is a root of -1.
+#[test]
+fn values_on_a_larger_domain(rt: HostRuntime) -> Result<(), Fail> {
+    let alloc = rt.alloc();
+    let four = Coset::new(bear(1), 2).ok_or("no coset")?;
+    let values = values_on(alloc, four)?;
+    assert_eq!(rt; (values.height(), values.width()), (4, 1));
+    assert_eq!(rt;
+        values.as_slice(),
+        [bear(5), bear(569722823), bear(9), bear(1443543112)].as_slice()
+    );
+    Ok(())
+}
