@@ -6,8 +6,8 @@ use Rattle.p3_uni_stark.proofs.tests.both_folds_of_swap.Goals as goal
 
 pub prover_fold-requires-clause-zero : goal.prover_fold-requires-clause-zero
 unfolding quartic_ring bear_ring
-prover_fold-requires-clause-zero c = quartic_same _ quartic_ring.zero refl refl refl refl
+prover_fold-requires-clause-zero c d = quartic_same _ quartic_ring.zero refl refl refl refl
 
 pub verifier_fold-requires-clause-zero : goal.verifier_fold-requires-clause-zero
 unfolding quartic_ring bear_ring
-verifier_fold-requires-clause-zero c = quartic_same _ quartic_ring.zero refl refl refl refl
+verifier_fold-requires-clause-zero c d = quartic_same _ quartic_ring.zero refl refl refl refl
