@@ -1,6 +1,5 @@
 -- What the example AIRs declare, and their constraints.
-use Rattle.std.specs.Prelude.{◌≡◌, ℕ, true, false, List, [], ◌∷◌, None, Some}
-use Rattle.p3_matrix.specs.Matrix.{Rows}
+use Rattle.std.specs.Prelude.{ℕ, true, false, List, [], ◌∷◌, None, Some}
 use Rattle.p3_air.specs.declared.cells.Cell.{Cell}
 use Rattle.p3_air.specs.declared.cells.Cell.TheVariants.{Main, Preprocessed, Periodic, Public, FirstRow, LastRow, Transition}
 use Rattle.p3_air.specs.Shape.{Declaration}

@@ -6,4 +6,5 @@ pub mod Stand
 pub mod Examples
 pub mod RowCheck
 pub mod Recording
+pub mod Places
 pub mod Copying

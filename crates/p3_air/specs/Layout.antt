@@ -1,5 +1,6 @@
 -- Layouts: how many cells of each kind an AIR's builder declares, and where its constraints stand among all.
-use Rattle.std.specs.Prelude.{ℕ, ◌+◌, ◌-◌, true, List, length, map}
+use Rattle.std.specs.Prelude.{◌≡◌, ℕ, ◌+◌, ◌-◌, ◌<◌, ◌==◌, ◌++◌, true, List, length, map, All, count_by}
+use Rattle.std.specs.Prelude.{slice_index_or as get_or}
 use Rattle.p3_field.specs.Ring.{Ring, pow}
 use Rattle.p3_air.specs.declared.layout.AirLayout.{AirLayout}
 use Rattle.p3_air.specs.Shape.{Shape, Declaration, width_of}
@@ -43,3 +44,16 @@ total p = length p.base_indices + length p.ext_indices
 -- constraints times their powers is the value that Horner's rule gives.
 abbrev pub powers_of : {E : Type 0} → Ring E → E → ℕ → List ℕ → List E
 powers_of r alpha n places = map (λ i. pow r alpha (n - 1 - i)) places
+
+-- the list has each number below n once, and no other
+pub record HasEachOnce (n : ℕ) (is : List ℕ) : Type 0 where
+  pub below : All (λ i. i < n) is
+  pub once : (i : ℕ) → i < n → count_by (λ j. j == i) is ≡ 1
+
+-- each constraint has its place once, in one of both lists
+abbrev pub ListsEachOnce : Places → Type 0
+ListsEachOnce p = HasEachOnce (total p) (p.base_indices ++ p.ext_indices)
+
+-- each number of the list is above those before it
+abbrev pub Ascends : List ℕ → Type 0
+Ascends is = (i j : ℕ) → i < j → j < length is → get_or is i 0 < get_or is j 0

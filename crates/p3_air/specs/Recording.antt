@@ -1,5 +1,6 @@
 -- What a recording builder holds, and the trees and interactions that it stands for.
-use Rattle.std.specs.Prelude.{◌≡◌, ℕ, ◌<◌, ◌%◌, ◌++◌, suc, Bool, true, false, nat_lt, cond, not, List, [], ◌∷◌, length, map, filter, All, Option, Some, None}
+use Rattle.std.specs.Prelude.{◌≡◌, ℕ, ◌<◌, ◌%◌, ◌++◌, suc, Bool, nat_lt, cond, not, List, [], ◌∷◌, length, map, filter, All, Option, Some, None}
+use Rattle.std.specs.Prelude.{slice_index_or as get_or}
 use Rattle.p3_air.specs.declared.cells.Count.{Count}
 use Rattle.p3_air.specs.declared.layout.AirLayout.{AirLayout}
 use Rattle.p3_air.specs.declared.node.Node.{Node}
@@ -7,6 +8,7 @@ use Rattle.p3_air.specs.declared.recorded.Assertion.{Assertion}
 use Rattle.p3_air.specs.Tree.{Tree, Asserted, Interaction, Bus, local, global}
 use Rattle.p3_air.specs.Symbolic.{tree_at, Ordered}
 use Rattle.p3_air.specs.Placed.{Placed}
+use Rattle.p3_air.specs.Layout.{Ascends}
 
 -- the nodes so far, the places of the asserted ones in order, and the interactions in order
 pub record Recording (F : Type 0) : Type 0 where
@@ -89,6 +91,19 @@ asserted_in extension xs = filter (is_in extension) xs
 unfoldable pub indices_from : Bool → ℕ → List Assertion → List ℕ
 indices_from extension k [] = []
 indices_from extension k (a ∷ xs) = cond (is_in extension a) (k ∷ indices_from extension (suc k) xs) (indices_from extension (suc k) xs)
+
+-- these are places of assertions over the extension, or of such over the base field, each above the one before it
+pub record AreTheirPlaces (extension : Bool) (xs : List Assertion) (is : List ℕ) : Type 0 where
+  pub ascending : Ascends is
+  pub own : All (λ i. (d : Assertion) → (get_or xs i d).in_extension ≡ extension) is
+
+-- the tree was asserted over the extension, or, where that is what is asked, over the base field
+abbrev pub is_over : {F : Type 0} → Bool → Asserted F → Bool
+is_over extension a = cond a.in_extension extension (not extension)
+
+-- of asserted trees those over the extension, or those over the base field, in order
+abbrev pub trees_over : {F : Type 0} → Bool → List (Asserted F) → List (Tree F)
+trees_over extension ts = map (λ a. a.tree) (filter (is_over extension) ts)
 
 abbrev pub known_count : ℕ → Count ℕ → Count ℕ
 known_count n c = record { value = known_place n c.value; bound = c.bound }

@@ -1,5 +1,5 @@
 -- The values of cells at one row, and the values of trees there.
-use Rattle.std.specs.Prelude.{◌≡◌, ℕ, ◌++◌, Bool, true, false, cond, List, [], length, map}
+use Rattle.std.specs.Prelude.{◌≡◌, ◌++◌, Bool, true, false, cond, List, length, map}
 use Rattle.std.specs.Prelude.{slice_index_or as get_or}
 use Rattle.p3_field.specs.Ring.{Ring, sub}
 use Rattle.p3_air.specs.declared.cells.Cell.{Cell}

@@ -5,6 +5,7 @@ use Rattle.std.specs.Int.{rotate_left, bit_at}
 use Rattle.std.specs.Int.{w32}
 use Rattle.p3_field.specs.Ring.{Ring, RingLaws, of_nat, sub}
 use Rattle.p3_field.specs.Field.{FieldLaws}
+use Rattle.p3_field.specs.Poly.{total}
 use Rattle.p3_air.specs.declared.cells.Cell.{Cell}
 use Rattle.p3_air.specs.declared.cells.ExtCell.{ExtCell}
 use Rattle.p3_air.specs.Tree.{Tree, Reading, ev}
@@ -86,6 +87,10 @@ XorShiftMeans {A} r rd = (ta tb tc : ℕ → Tree A) (b : ℕ → ℕ) (s : ℕ)
 -- The tree of `pack_bits_le` is the number of the bits.
 abbrev pub PackMeans : {A : Type 0} → Ring A → Reading A A → Type 0
 PackMeans {A} r rd = (t : ℕ → Tree A) (f : ℕ → ℕ) (n : ℕ) → HaveValues r rd n t f → ev rd (packed r t 0 n) ≡ of_nat r (bits_number f 0 n)
+
+-- The tree of `pack_bits_le` is the sum of the values at the n places, that at place i times 2^i.
+abbrev pub PackSums : {A : Type 0} → Ring A → Reading A A → Type 0
+PackSums {A} r rd = (t : ℕ → Tree A) (n : ℕ) → ev rd (packed r t 0 n) ≡ total r n (λ i. r.mul (of_nat r (2 ^ i)) (ev rd (t i)))
 
 -- The bits of a word are bits, and the word is the number of its bits.
 abbrev pub BitsMean : ℕ → Type 0

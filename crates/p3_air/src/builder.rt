@@ -1,5 +1,5 @@
 //! Builders: what an AIR's constraints are handed to.
-ghost use Rattle.std.specs.Prelude.{◌≡◌, ℕ, ◌+◌, ◌*◌, ◌^◌, ◌<◌, ◌%◌, List, [], ◌∷◌, ◌++◌, IfOk, IsOk, IsTrue, Bool, length, map};
+ghost use Rattle.std.specs.Prelude.{◌≡◌, ℕ, ◌+◌, ◌*◌, ◌^◌, ◌<◌, ◌%◌, List, [], ◌∷◌, ◌++◌, IfOk, OnErr, IsOk, IsTrue, Bool, length, map, take};
 ghost use prog.Memory.{size, align};
 ghost use denote.Param.{layout};
 ghost use Rattle.p3_air.specs.Shape.{Shape, Declares, DeclaresExt};
@@ -14,7 +14,8 @@ use p3_field::{FieldCore, Mem, RingCore};
 ///
 /// The list of asserted trees, each with the field over which it was asserted, and that of interactions are meanings:
 /// no builder need keep them. `grows` says what a
-/// state has in the two lists beyond an earlier one.
+/// state has in the two lists beyond an earlier one. On an error a call has appended nothing, or, of several constraints,
+/// some of the first (`refused`).
 pub trait AirBuilder {
     /// The field of the trace.
     type F: FieldCore;
@@ -78,7 +79,8 @@ pub trait AirBuilder {
         ensures later { later self.old self.new }
         ensures same { shape self.new ≡ shape self.old }
         ensures answers { IsTrue never_fails → IsOk result }
-        ensures grows { (t : Tree Self.F) → stands self.old x t → IfOk result (λ _. grows self.old self.new (over_base t ∷ []) []) };
+        ensures grows { (t : Tree Self.F) → stands self.old x t → IfOk result (λ _. grows self.old self.new (over_base t ∷ []) []) }
+        ensures refused { OnErr result (grows self.old self.new [] []) };
 
     /// Asserts that x - y is zero in every row.
     fn assert_eq(&mut self, x: Self::Expr, y: Self::Expr) -> Mem<()>
@@ -86,6 +88,7 @@ pub trait AirBuilder {
         ensures same { shape self.new ≡ shape self.old }
         ensures answers { IsTrue never_fails → IsOk result }
         ensures grows { (s t : Tree Self.F) → stands self.old x s → stands self.old y t → IfOk result (λ _. grows self.old self.new (over_base (difference s t) ∷ []) []) }
+        ensures refused { OnErr result (grows self.old self.new [] []) }
     {
         let difference = self.sub(x, y)?;
         self.assert_zero(difference)
@@ -97,6 +100,7 @@ pub trait AirBuilder {
         ensures same { shape self.new ≡ shape self.old }
         ensures answers { IsTrue never_fails → IsOk result }
         ensures grows { (t : Tree Self.F) → stands self.old x t → IfOk result (λ _. grows self.old self.new (over_base (bool_tree Self.F.ring.one t) ∷ []) []) }
+        ensures refused { OnErr result (grows self.old self.new [] []) }
     {
         let one = self.constant(<Self::F as RingCore>::ONE)?;
         let less = self.sub(x, one)?;
@@ -110,6 +114,7 @@ pub trait AirBuilder {
         ensures same { shape self.new ≡ shape self.old }
         ensures answers { IsTrue never_fails → IsOk result }
         ensures grows { (ts : List (Tree Self.F)) → Stand (stands self.old) xs.now ts → IfOk result (λ _. grows self.old self.new (map over_base ts) []) }
+        ensures refused { (ts : List (Tree Self.F)) → Stand (stands self.old) xs.now ts → OnErr result ((n : ℕ) × grows self.old self.new (map over_base (take n ts)) []) }
     {
         for x in xs {
             self.assert_zero(*x)?;
@@ -123,6 +128,7 @@ pub trait AirBuilder {
         ensures same { shape self.new ≡ shape self.old }
         ensures answers { IsTrue never_fails → IsOk result }
         ensures grows { (ts : List (Tree Self.F)) → Stand (stands self.old) xs.now ts → IfOk result (λ _. grows self.old self.new (map over_base (map (bool_tree Self.F.ring.one) ts)) []) }
+        ensures refused { (ts : List (Tree Self.F)) → Stand (stands self.old) xs.now ts → OnErr result ((n : ℕ) × grows self.old self.new (map over_base (map (bool_tree Self.F.ring.one) (take n ts))) []) }
     {
         for x in xs {
             self.assert_bool(*x)?;
@@ -190,7 +196,8 @@ pub trait ExtensionBuilder: AirBuilder {
         ensures later { Self.later self.old self.new }
         ensures same { Self.shape self.new ≡ Self.shape self.old }
         ensures answers { IsTrue Self.never_fails → IsOk result }
-        ensures grows { (t : Tree Self.F) → stands_ext self.old x t → IfOk result (λ _. Self.grows self.old self.new (over_extension t ∷ []) []) };
+        ensures grows { (t : Tree Self.F) → stands_ext self.old x t → IfOk result (λ _. Self.grows self.old self.new (over_extension t ∷ []) []) }
+        ensures refused { OnErr result (Self.grows self.old self.new [] []) };
 
     // Generic code keeps expressions of the extension in arrays: one of 1,024 takes less than 2^63 bytes.
     ghost arrays_fit_ext: { 1024 * (size (layout Self.ExprEF.row) + align (layout Self.ExprEF.row)) < 2 ^ 62 };
@@ -223,7 +230,8 @@ pub trait InteractionBuilder: PermutationAirBuilder {
         ensures same { Self.shape self.new ≡ Self.shape self.old }
         ensures answers { IsTrue Self.never_fails → IsOk result }
         ensures grows { (fs : List (Tree Self.F)) (v : Tree Self.F) → Stand (Self.stands self.old) fields.now fs → Self.stands self.old count.value v
-            → IfOk result (λ _. Self.grows self.old self.new [] (record { bus = global bus_name.now; fields = fs; counts = record { value = v; bound = count.bound } ∷ [] } ∷ [])) };
+            → IfOk result (λ _. Self.grows self.old self.new [] (record { bus = global bus_name.now; fields = fs; counts = record { value = v; bound = count.bound } ∷ [] } ∷ [])) }
+        ensures refused { OnErr result (Self.grows self.old self.new [] []) };
 
     /// Sends tuples within the table itself: `fields` has the tuples one after another, all of one width, as many as
     /// there are counts, and tuple k is sent as often as count k says. There is at least one count, and the number of
@@ -240,5 +248,6 @@ pub trait InteractionBuilder: PermutationAirBuilder {
         ensures answers { IsTrue Self.never_fails → IsOk result }
         ensures grows { (fs : List (Tree Self.F)) (vs : List (CountOf (Tree Self.F))) → Stand (Self.stands self.old) fields.now fs
             → Stand (StandCount (Self.stands self.old)) counts.now vs
-            → IfOk result (λ _. Self.grows self.old self.new [] (record { bus = local; fields = fs; counts = vs } ∷ [])) };
+            → IfOk result (λ _. Self.grows self.old self.new [] (record { bus = local; fields = fs; counts = vs } ∷ [])) }
+        ensures refused { OnErr result (Self.grows self.old self.new [] []) };
 }

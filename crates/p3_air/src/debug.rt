@@ -133,6 +133,7 @@ impl<'a, F: Field, EF: ExtensionField<F>> DebugConstraintBuilder<'a, F, EF> {
     fn keep(&mut self, x: EF) -> Mem<()>
         ensures kept { IfOk result (λ _. self.new ≡ record self.old { values = self.old.values ++ x ∷ [] }) }
         ensures same { OnErr result (self.new ≡ self.old) }
+        ensures refused { OnErr result (Adds F.ring EF.ring EF.embed self.old self.new []) }
     {
         self.values.push(x)?;
         Ok(())
@@ -243,6 +244,7 @@ impl<'a, F: Field, EF: ExtensionField<F>> InteractionBuilder for DebugConstraint
         ensures answers { IsTrue false → IsOk result }
         ensures grows { (fs : List (Tree F)) (v : Tree F) → Stand (λ x t. EF.embed x ≡ value_at F.ring EF.ring EF.embed self.old.row t) fields.now fs → EF.embed count.value ≡ value_at F.ring EF.ring EF.embed self.old.row v
             → IfOk result (λ _. Adds F.ring EF.ring EF.embed self.old self.new []) }
+        ensures refused { OnErr result (Adds F.ring EF.ring EF.embed self.old self.new []) }
     {
         Ok(())
     }
@@ -256,6 +258,7 @@ impl<'a, F: Field, EF: ExtensionField<F>> InteractionBuilder for DebugConstraint
         ensures grows { (fs : List (Tree F)) (vs : List (CountOf (Tree F))) → Stand (λ x t. EF.embed x ≡ value_at F.ring EF.ring EF.embed self.old.row t) fields.now fs
             → Stand (StandCount (λ x t. EF.embed x ≡ value_at F.ring EF.ring EF.embed self.old.row t)) counts.now vs
             → IfOk result (λ _. Adds F.ring EF.ring EF.embed self.old self.new []) }
+        ensures refused { OnErr result (Adds F.ring EF.ring EF.embed self.old self.new []) }
     {
         Ok(())
     }

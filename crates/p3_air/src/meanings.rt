@@ -4,7 +4,7 @@
 ghost use Rattle.std.specs.Prelude.{◌≡◌, ℕ, ◌^◌, ◌<◌};
 ghost use Rattle.p3_air.specs.declared.cells.Cell.{Cell};
 ghost use Rattle.p3_air.specs.declared.cells.ExtCell.{ExtCell};
-ghost use Rattle.p3_air.specs.Words.{cells_reading, Add2Means, Add3Means, XorShiftMeans, PackMeans, BitsMean};
+ghost use Rattle.p3_air.specs.Words.{cells_reading, Add2Means, Add3Means, XorShiftMeans, PackMeans, PackSums, BitsMean};
 
 use p3_field::PrimeField64;
 
@@ -27,9 +27,10 @@ pub fn xor_32_shift_means<F: PrimeField64>()
     ensures { (at : Cell → F) (at_ext : ExtCell → F) → XorShiftMeans F.ring (cells_reading F.ring at at_ext) }
 {}
 
-/// The expression of `pack_bits_le` is the number of the bits.
+/// The expression of `pack_bits_le` is the sum of the values, that at place i times 2^i; of bits it is their number.
 pub fn pack_bits_le_means<F: PrimeField64>()
-    ensures { (at : Cell → F) (at_ext : ExtCell → F) → PackMeans F.ring (cells_reading F.ring at at_ext) }
+    ensures sum { (at : Cell → F) (at_ext : ExtCell → F) → PackSums F.ring (cells_reading F.ring at at_ext) }
+    ensures number { (at : Cell → F) (at_ext : ExtCell → F) → PackMeans F.ring (cells_reading F.ring at at_ext) }
 {}
 
 /// The bits of `u32_to_bits_le` are bits, and the word is their number.

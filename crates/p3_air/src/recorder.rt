@@ -153,6 +153,7 @@ impl<F: Field> InteractionSymbolicBuilder<F> {
         ensures grows { (t : Tree F) → StandsAt self.old.nodes x t → IfOk result (λ _. Grows self.old self.new (record { tree = t; in_extension = in_extension } ∷ []) []) }
         ensures asserted { IfOk result (λ _. self.new ≡ record self.old { asserted = self.old.asserted ++ record { place = known_place (length self.old.nodes) x; in_extension = in_extension } ∷ [] }) }
         ensures same { OnErr result (self.new ≡ self.old) }
+        ensures refused { OnErr result (Grows self.old self.new [] []) }
     {
         let place = self.place(x);
         self.asserted.push(Assertion {
@@ -186,6 +187,7 @@ impl<F: Field> InteractionSymbolicBuilder<F> {
         ensures later { IsLater self.old self.new }
         ensures grows { (fs : List (Tree F)) (vs : List (CountOf (Tree F))) → Stand (StandsAt self.old.nodes) fields.now fs → Stand (StandCount (StandsAt self.old.nodes)) counts.now vs
             → IfOk result (λ _. Grows self.old self.new [] (record { bus = bus_of (option_map string_bytes bus); fields = fs; counts = vs } ∷ [])) }
+        ensures refused { OnErr result (Grows self.old self.new [] []) }
     {
         self.keep(bus, fields, counts)
     }
@@ -290,6 +292,7 @@ impl<F: Field> InteractionBuilder for InteractionSymbolicBuilder<F> {
         ensures answers { IsTrue false → IsOk result }
         ensures grows { (fs : List (Tree F)) (v : Tree F) → Stand (StandsAt self.old.nodes) fields.now fs → StandsAt self.old.nodes count.value v
             → IfOk result (λ _. Grows self.old self.new [] (record { bus = global bus_name.now; fields = fs; counts = record { value = v; bound = count.bound } ∷ [] } ∷ [])) }
+        ensures refused { OnErr result (Grows self.old self.new [] []) }
     {
         let bus = String::from_str(self.alloc, bus_name)?;
         self.send(Some(bus), fields, &[count])
@@ -303,6 +306,7 @@ impl<F: Field> InteractionBuilder for InteractionSymbolicBuilder<F> {
         ensures answers { IsTrue false → IsOk result }
         ensures grows { (fs : List (Tree F)) (vs : List (CountOf (Tree F))) → Stand (StandsAt self.old.nodes) fields.now fs → Stand (StandCount (StandsAt self.old.nodes)) counts.now vs
             → IfOk result (λ _. Grows self.old self.new [] (record { bus = local; fields = fs; counts = vs } ∷ [])) }
+        ensures refused { OnErr result (Grows self.old self.new [] []) }
     {
         self.send(None, fields, counts)
     }

@@ -1,3 +1,4 @@
 pub mod Folds
 pub mod Folders
 pub mod Weights
+pub mod Kinds

@@ -2,6 +2,7 @@ pub mod Opened
 pub mod Shape
 pub mod Recombine
 pub mod Fold
+pub mod Kinds
 pub mod Point
 pub mod VerifierState
 pub mod ProverState

@@ -1,6 +1,6 @@
 -- What a folder reads at one point: the values of the cells there. After Plonky3's p3-uni-stark (the constraint
 -- folders).
-use Rattle.std.specs.Prelude.{ℕ, ◌<◌, Bool, true, false, List, length, map, nat_lt}
+use Rattle.std.specs.Prelude.{true, false, List, length, map, nat_lt}
 use Rattle.std.specs.Prelude.{slice_index_or}
 use Rattle.p3_field.specs.Ring.{Ring, sub}
 use Rattle.p3_air.specs.declared.cells.Cell.{Cell}

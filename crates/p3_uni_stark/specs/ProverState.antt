@@ -1,5 +1,5 @@
 -- What a prover's folder reads, the powers that are left and the sum so far.
-use Rattle.std.specs.Prelude.{◌≡◌, ℕ, ◌+◌, List, length, drop}
+use Rattle.std.specs.Prelude.{ℕ, ◌+◌, length, drop}
 use Rattle.p3_uni_stark.specs.declared.prover_folder.ProverFolder.{ProverFolder}
 use Rattle.p3_uni_stark.specs.Fold.{Sum}
 use Rattle.p3_uni_stark.specs.Point.{PointValues}

@@ -1,6 +1,6 @@
 -- Degree bits within their bounds, and counts of openings. The rules are those of Plonky3's p3-uni-stark
 -- (validate_degree_bits, num_batched_openings).
-use Rattle.std.specs.Prelude.{◌≡◌, ℕ, ◌+◌, ◌*◌, ◌<◌, ◌≤◌, Bool, true, false, Option}
+use Rattle.std.specs.Prelude.{◌≡◌, ℕ, ◌+◌, ◌*◌, ◌<◌, Bool, true, false, Option}
 use Rattle.p3_uni_stark.specs.declared.openings.OpeningShape.{OpeningShape}
 use Rattle.p3_uni_stark.specs.declared.openings.OpeningShape.TheVariants.{Univariate, Circle}
 use Rattle.p3_uni_stark.specs.declared.error.InvalidProofShapeError.{InvalidProofShapeError}

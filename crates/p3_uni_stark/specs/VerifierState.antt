@@ -1,7 +1,4 @@
 -- What a verifier's folder reads, and the fold so far.
-use Rattle.std.specs.Prelude.{◌≡◌, List, map}
-use Rattle.p3_field.specs.Ring.{Ring}
-use Rattle.p3_air.specs.Tree.{Tree, ev}
 use Rattle.p3_uni_stark.specs.declared.verifier_folder.VerifierFolder.{VerifierFolder}
 use Rattle.p3_uni_stark.specs.Point.{PointValues}
 

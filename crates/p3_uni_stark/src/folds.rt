@@ -2,7 +2,7 @@
 ghost use Rattle.std.specs.Prelude.{◌≡◌, length, map};
 ghost use Rattle.p3_air.specs.Shape.{Fits, declared_shape};
 ghost use Rattle.p3_air.specs.Tree.{ev};
-ghost use Rattle.p3_uni_stark.specs.Fold.{fold, fold_powers};
+ghost use Rattle.p3_uni_stark.specs.Fold.{fold, fold_powers, weighed};
 ghost use Rattle.p3_uni_stark.specs.Point.{reading, embedded, point_shape};
 ghost use Rattle.p3_uni_stark.specs.VerifierState.{opened_of};
 ghost use Rattle.p3_uni_stark.specs.ProverState.{values_of};
@@ -36,8 +36,9 @@ pub fn verifier_fold<F: Field, E: ExtensionField<F>, A: Air<F>>(
     }
 }
 
-/// The fold of an AIR's constraints by a challenge whose powers the folder lists in order, one for each constraint: its
-/// accumulator is zero, no power is taken yet, and it has all cells that the AIR declares.
+/// The sum of an AIR's constraints, each times the power that the folder lists at its place; one past the last power
+/// adds nothing. Where these are a challenge's powers in order, one for each constraint, it is the fold by the
+/// challenge. The accumulator is zero, no power is taken yet, and the folder has all cells that the AIR declares.
 pub fn prover_fold<F: Field, E: ExtensionField<F>, A: Air<F>>(
     air: &A,
     folder: ProverFolder<'_, F, E>,
@@ -45,7 +46,8 @@ pub fn prover_fold<F: Field, E: ExtensionField<F>, A: Air<F>>(
     requires zero { folder.accumulator ≡ E.ring.zero }
     requires first { folder.constraint_index ≡ 0 }
     requires declared { Fits (declared_shape (A.declaration air.now)) (point_shape (values_of folder)) }
-    ensures { (alpha : E) → folder.entry.alpha_powers.now ≡ fold_powers E.ring alpha (length (A.trees air.now))
+    ensures weighed { result ≡ weighed E.ring folder.entry.alpha_powers.now (map (ev (reading E.ring E.embed (embedded E.embed (values_of folder.entry)))) (A.trees air.now)) }
+    ensures fold { (alpha : E) → folder.entry.alpha_powers.now ≡ fold_powers E.ring alpha (length (A.trees air.now))
         → result ≡ fold E.ring alpha (map (ev (reading E.ring E.embed (embedded E.embed (values_of folder.entry)))) (A.trees air.now)) }
 {
     let mut folder = folder;

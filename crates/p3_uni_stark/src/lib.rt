@@ -9,6 +9,7 @@ mod config;
 mod degree_bits;
 mod error;
 mod folds;
+mod kinds;
 mod openings;
 mod proof;
 mod prover_folder;
@@ -22,6 +23,7 @@ pub use config::{
 pub use degree_bits::validate_degree_bits;
 pub use error::{InvalidProofShapeError, VerificationError};
 pub use folds::{ProverConstraintFolder, VerifierConstraintFolder, prover_fold, verifier_fold};
+pub use kinds::fold_by_kinds;
 pub use openings::{OpeningShape, StarkOpeningLayout, num_batched_openings};
 pub use proof::{OpenedValues, PreprocessedOpenedValues};
 pub use prover_folder::ProverFolder;

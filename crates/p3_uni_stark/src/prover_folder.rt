@@ -1,5 +1,5 @@
 //! The prover's constraint folder.
-ghost use Rattle.std.specs.Prelude.{◌≡◌, List, [], ◌∷◌, ◌%◌, ◌<◌, IfOk, IsOk, IsTrue, true, length, map, refl};
+ghost use Rattle.std.specs.Prelude.{◌≡◌, List, [], ◌∷◌, ◌%◌, ◌<◌, IfOk, OnErr, IsOk, IsTrue, true, length, map, refl};
 ghost use Rattle.std.proofs.Common.{◌∙◌};
 ghost use Rattle.p3_air.specs.Tree.{Tree, ev, ev_asserted, Stand, StandCount};
 ghost use Rattle.p3_air.specs.declared.cells.Count.{Count as CountOf};
@@ -185,6 +185,7 @@ impl<'a, F: Field, E: ExtensionField<F>> InteractionBuilder for ProverFolder<'a,
         ensures answers { IsTrue true → IsOk result }
         ensures grows { (fs : List (Tree F)) (v : Tree F) → Stand (λ e t. E.embed e ≡ ev (reading E.ring E.embed (embedded E.embed (values_of self.old))) t) fields.now fs → E.embed count.value ≡ ev (reading E.ring E.embed (embedded E.embed (values_of self.old))) v
             → IfOk result (λ _. (values_of self.new ≡ values_of self.old) × (sum_of self.new ≡ weighed_from E.ring (sum_of self.old) []) × (powers_of self.new ≡ powers_of self.old)) }
+        ensures refused { OnErr result ((values_of self.new ≡ values_of self.old) × (sum_of self.new ≡ weighed_from E.ring (sum_of self.old) []) × (powers_of self.new ≡ powers_of self.old)) }
     {
         Ok(())
     }

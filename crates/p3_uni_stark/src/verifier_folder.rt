@@ -1,5 +1,5 @@
 //! The verifier's constraint folder.
-ghost use Rattle.std.specs.Prelude.{◌≡◌, List, [], ◌∷◌, ◌%◌, ◌<◌, IfOk, IsOk, IsTrue, true, length, map, refl};
+ghost use Rattle.std.specs.Prelude.{◌≡◌, List, [], ◌∷◌, ◌%◌, ◌<◌, IfOk, OnErr, IsOk, IsTrue, true, length, map, refl};
 ghost use Rattle.std.proofs.Common.{◌∙◌};
 ghost use Rattle.p3_air.specs.Tree.{Tree, ev, ev_asserted, Stand, StandCount};
 ghost use Rattle.p3_air.specs.declared.cells.Count.{Count as CountOf};
@@ -164,6 +164,7 @@ impl<'a, F: Field, E: ExtensionField<F>> InteractionBuilder for VerifierFolder<'
         ensures answers { IsTrue true → IsOk result }
         ensures grows { (fs : List (Tree F)) (v : Tree F) → Stand (λ e t. e ≡ ev (reading E.ring E.embed (opened_of self.old).values) t) fields.now fs → count.value ≡ ev (reading E.ring E.embed (opened_of self.old).values) v
             → IfOk result (λ _. (opened_of self.new ≡ opened_of self.old) × (self.new.accumulator ≡ fold_from E.ring self.old.alpha self.old.accumulator [])) }
+        ensures refused { OnErr result ((opened_of self.new ≡ opened_of self.old) × (self.new.accumulator ≡ fold_from E.ring self.old.alpha self.old.accumulator [])) }
     {
         Ok(())
     }

@@ -3,11 +3,11 @@ use Rattle.std.proofs.Common.{◌≡◌, ◌≢◌, ℕ, zero, suc, ◌+◌, ◌
 use Rattle.std.specs.Prelude.{Result, IfOk, Ok, Err}
 use Rattle.std.proofs.lemmas.Bool.{cases_eq}
 use Rattle.p3_air.specs.declared.node.Node.{Node}
-use Rattle.p3_air.specs.declared.node.Node.TheVariants.{Constant, Base, Extension, Sum, Difference, Product}
-use Rattle.p3_air.specs.Tree.{Tree, constant, cell, ext_cell, sum, difference, product}
-use Rattle.p3_air.specs.Symbolic.{node_tree, trees_after, tree_at, OperandsBelow, OrderedFrom, Ordered}
+use Rattle.p3_air.specs.declared.node.Node.TheVariants.{Sum, Difference, Product}
+use Rattle.p3_air.specs.Tree.{Tree, sum, difference, product}
+use Rattle.p3_air.specs.Symbolic.{node_tree, trees_after, tree_at, OperandsBelow, OrderedFrom}
 use Rattle.p3_air.specs.Copying.{IsCopied, CopiesTo, counted, copied_below}
-use Rattle.p3_air.specs.Laws.Symbolic.{tree_at-append, tree_at-push, ordered-push, node_is, NodeIs}
+use Rattle.p3_air.specs.Laws.Symbolic.{tree_at-append, tree_at-push, ordered-push, NodeIs}
 
 none_differs : {X : Type 0} {x : X} → None ≡ Some x → ⊥
 none_differs e = cc

@@ -1,5 +1,5 @@
 -- What the example AIRs read.
-use Rattle.std.proofs.Common.{◌≡◌, ℕ, ◌<◌, zero, suc, List, length, All, Option, Some, None, arith}
+use Rattle.std.proofs.Common.{◌≡◌, ℕ, zero, suc, List, length, All, Some, None, arith}
 use Rattle.std.proofs.lemmas.Bool.{false≢true}
 use Rattle.p3_air.specs.Shape.{ReadsDeclared, declared_shape}
 use Rattle.p3_air.specs.Examples.{post_trees, post_declaration}

@@ -1,13 +1,14 @@
 -- What the gadgets' trees mean, over each prime field of more than 2^20 elements.
-use Rattle.std.proofs.Common.{◌≡◌, ℕ, zero, suc, ◌+◌, ◌*◌, ◌/◌, ◌%◌, ◌^◌, ◌<◌, ◌≤◌, ◌⊎◌, inl, inr, List, [], ◌∷◌, ◌++◌, map, refl, sym, ◌∙◌, ap, arith, lit<}
+use Rattle.std.proofs.Common.{◌≡◌, ℕ, zero, suc, ◌+◌, ◌*◌, ◌/◌, ◌%◌, ◌^◌, ◌<◌, ◌≤◌, ◌⊎◌, inl, inr, List, [], ◌∷◌, ◌++◌, map, refl, sym, ◌∙◌, ap, arith, lit<, zero-add, add-zero}
 use Rattle.std.specs.Prelude.{All, bit_xor}
 use Rattle.std.specs.Int.{rotate_left, w32}
 use Rattle.std.proofs.lemmas.Bool.{cases_eq, cases_lt}
 use Rattle.std.proofs.lemmas.List.Elements.{All-nil, All-cons, All-head, All-tail, All-append}
-use Rattle.std.proofs.Math.Nat.{mod-eq_of_lt, zero-mod}
+use Rattle.std.proofs.Math.Nat.{mod-eq_of_lt, zero-mod, pow-suc}
 use Rattle.p3_field.specs.Ring.{Ring, RingLaws, of_nat, sub}
-use Rattle.p3_field.specs.Poly.{table}
-use Rattle.p3_field.specs.Laws.Algebra.{add_cancel, mul_zero, zero_mul, of_nat_add, of_nat_mul}
+use Rattle.p3_field.specs.Poly.{table, total}
+use Rattle.p3_field.specs.Laws.Algebra.{add_cancel, one_mul, mul_zero, zero_mul, of_nat_add, of_nat_mul}
+use Rattle.p3_field.specs.Laws.Sums.{total_same, total_scale}
 use Rattle.p3_field.specs.Laws.Coset.{mul_cancel}
 use Rattle.p3_field.specs.Laws.Roots.{sub_zero, sub_self, field_no_zero_divisors}
 use Rattle.p3_field.specs.Laws.Solver.{expressions, var, solve}
@@ -15,7 +16,7 @@ use Rattle.p3_air.specs.declared.cells.Cell.{Cell}
 use Rattle.p3_air.specs.declared.cells.ExtCell.{ExtCell}
 use Rattle.p3_air.specs.Tree.{Tree, Reading, ev, difference, bool_tree}
 use Rattle.p3_air.specs.Gadgets.{less_two, less_three, with_high, zero_or_one, zero_to_two, packed, xor_shift_bit, xor_shift_trees, rotated_place}
-use Rattle.p3_air.specs.Words.{PrimeFieldLaws, cells_reading, Vanish, HaveValues, AreBits, limbs_word, limb, bits_number, bits_word, Add2Means, Add3Means, PackMeans, XorShiftMeans}
+use Rattle.p3_air.specs.Words.{PrimeFieldLaws, cells_reading, Vanish, HaveValues, AreBits, limbs_word, limb, bits_number, bits_word, Add2Means, Add3Means, PackMeans, PackSums, XorShiftMeans}
 use Rattle.p3_air.specs.Laws.Words.{turned_bit, turned_bits, xor_of_bits, low_limb, high_limb}
 
 -- m - n as an element
@@ -322,6 +323,32 @@ module _ {A : Type 0} (r : Ring A) (inv : A → A) (order : ℕ) (canonical : A 
 
     pub pack_means : PackMeans r rd
     pack_means t f n h = packed_value t f 0 n (λ i a b. h i (omega (arith, b)))
+
+    -- it is the sum of the packed values by powers of two
+    packed_sum : (t : ℕ → Tree A) (k n : ℕ) → ev rd (packed r t k n) ≡ total r n (λ i. r.mul (of_nat r (2 ^ i)) (ev rd (t (k + i))))
+    unfolding packed of_nat
+    packed_sum t k zero = refl
+    packed_sum t k (suc n) =
+        let L = P.ring_laws in
+        let two = of_nat r 2 in
+        let first : r.mul (of_nat r (2 ^ 0)) (ev rd (t (k + 0))) ≡ ev rd (t k) =
+        ap (λ v. r.mul v (ev rd (t (k + 0)))) (L.add_zero r.one) ∙ (one_mul r L (ev rd (t (k + 0))) ∙ ap (λ j. ev rd (t j)) (add-zero k)) in
+        let later : (i : ℕ) → i < n → r.mul (of_nat r (2 ^ suc i)) (ev rd (t (k + suc i))) ≡ r.mul two (r.mul (of_nat r (2 ^ i)) (ev rd (t (suc k + i)))) = λ i h.
+        let power : 2 ^ suc i ≡ 2 * 2 ^ i = rw pow-suc (omega arith) in
+        let at : k + suc i ≡ suc k + i = omega arith in
+        (λ j. r.mul (of_nat r (power j)) (ev rd (t (at j))))
+        ∙ (ap (λ v. r.mul v (ev rd (t (suc k + i)))) (of_nat_mul r L 2 (2 ^ i)) ∙ L.mul_assoc two (of_nat r (2 ^ i)) (ev rd (t (suc k + i)))) in
+        let terms : ℕ → A = λ i. r.mul (of_nat r (2 ^ i)) (ev rd (t (suc k + i))) in
+        let rest : total r n (λ i. r.mul (of_nat r (2 ^ suc i)) (ev rd (t (k + suc i)))) ≡ r.mul two (ev rd (packed r t (suc k) n)) =
+        total_same r L n (λ i. r.mul (of_nat r (2 ^ suc i)) (ev rd (t (k + suc i)))) (λ i. r.mul two (terms i)) later
+        ∙ (total_scale r L n two terms ∙ ap (r.mul two) (sym (packed_sum t (suc k) n))) in
+        sym (λ j. r.add (first j) (rest j))
+
+    pub pack_sums : PackSums r rd
+    pack_sums t n =
+        packed_sum t 0 n
+        ∙ total_same r P.ring_laws n (λ i. r.mul (of_nat r (2 ^ i)) (ev rd (t (0 + i)))) (λ i. r.mul (of_nat r (2 ^ i)) (ev rd (t i)))
+        (λ i h. ap (λ j. r.mul (of_nat r (2 ^ i)) (ev rd (t j))) (zero-add i))
 
     xor_number : (m n : ℕ) → m < 2 → n < 2 → m + n ≡ (m + n) % 2 + 2 * (m * n)
     xor_number zero n a b = let e : zero * n ≡ 0 = omega arith in omega (arith, e, b)

@@ -1,6 +1,7 @@
 -- Recordings, as nodes, assertions and interactions are added.
 use Rattle.std.proofs.Common.{◌≡◌, ℕ, ◌<◌, ◌≤◌, ◌%◌, ◌++◌, zero, suc, Bool, List, [], ◌∷◌, length, map, All, Option, refl, sym, ◌∙◌, ap, subst, get_or, take, arith, length-append, append_assoc, append-nil, zero-add, add-zero, ◌+◌, cond, true, false}
 use Rattle.std.specs.Prelude.{Result, IfOk}
+use Rattle.std.proofs.lemmas.List.Elements.{All-head, All-tail, All-push}
 use Rattle.std.proofs.lemmas.List.{map-append, length-map, take_more}
 use Rattle.std.proofs.lemmas.Grind.{common_steps}
 use Rattle.std.proofs.lemmas.Bool.Decides.{nat_tests}
@@ -13,22 +14,8 @@ use Rattle.p3_air.specs.Tree.{Tree, Asserted, Interaction, constant, sum, differ
 use Rattle.p3_air.specs.Layout.{layout_shape}
 use Rattle.p3_air.specs.Symbolic.{node_tree, trees_after, tree_at, OperandsBelow, OrderedFrom}
 use Rattle.p3_air.specs.Placed.{Placed}
-use Rattle.p3_air.specs.Recording.{Recording, trees_at, asserted_tree, asserted_at, bus_of, count_at, interaction_at, sent_at, PlacedBelow, IsRecording, StandsAt, IsLater, Grows, known_place, known_count, is_in, asserted_in, indices_from}
+use Rattle.p3_air.specs.Recording.{Recording, asserted_tree, asserted_at, bus_of, count_at, interaction_at, sent_at, PlacedBelow, IsRecording, StandsAt, IsLater, Grows, known_place, known_count, is_in, indices_from}
 use Rattle.p3_air.specs.Laws.Symbolic.{tree_at-append, tree_at-push, ordered-push}
-
--- what holds of each element holds of the first, and of each of the others
-pub all-first : {X : Type 0} (P : X → Type 0) (x : X) (xs : List X) → All P (x ∷ xs) → P x
-all-first P x xs h = h 0 x (omega arith)
-
-pub all-rest : {X : Type 0} (P : X → Type 0) (x : X) (xs : List X) → All P (x ∷ xs) → All P xs
-all-rest P x xs h k d l = h (suc k) d (omega (arith, l))
-
--- what holds of each element, and of one more
-pub all-push : {X : Type 0} (P : X → Type 0) (xs : List X) (y : X) → All P xs → P y → All P (xs ++ y ∷ [])
-all-push P [] y h p zero d l = p
-all-push P [] y h p (suc k) d l = absurd (omega (arith, l))
-all-push P (x ∷ xs) y h p zero d l = all-first P x xs h
-all-push P (x ∷ xs) y h p (suc k) d l = all-push P xs y (all-rest P x xs h) p k d (omega (arith, l))
 
 -- places below a number are below a larger one
 pub all_below-more : (n m : ℕ) (is : List ℕ) → n ≤ m → All (λ i. i < n) is → All (λ i. i < m) is
@@ -51,31 +38,31 @@ pub asserted_at-more : {F : Type 0} (ns ms : List (Node F)) (xs : List Assertion
 asserted_at-more ns ms [] h = refl
 asserted_at-more {F = F} ns ms (x ∷ xs) h =
     let here : asserted_tree (ns ++ ms) x ≡ asserted_tree ns x =
-    ap (λ (t : Tree F). record { tree = t; in_extension = x.in_extension }) (tree_at-append ns ms x.place (all-first (λ (a : Assertion). a.place < length ns) x xs h)) in
+    ap (λ (t : Tree F). record { tree = t; in_extension = x.in_extension }) (tree_at-append ns ms x.place (All-head (λ (a : Assertion). a.place < length ns) x xs h)) in
     ap (λ (t : Asserted F). t ∷ asserted_at (ns ++ ms) xs) here
-    ∙ ap (λ (ts : List (Asserted F)). asserted_tree ns x ∷ ts) (asserted_at-more ns ms xs (all-rest (λ (a : Assertion). a.place < length ns) x xs h))
+    ∙ ap (λ (ts : List (Asserted F)). asserted_tree ns x ∷ ts) (asserted_at-more ns ms xs (All-tail (λ (a : Assertion). a.place < length ns) x xs h))
 
 pub fields_at-more : {F : Type 0} (ns ms : List (Node F)) (is : List ℕ) → All (λ i. i < length ns) is → map (tree_at (ns ++ ms)) is ≡ map (tree_at ns) is
 fields_at-more ns ms [] h = refl
 fields_at-more {F = F} ns ms (i ∷ is) h =
-    ap (λ (t : Tree F). t ∷ map (tree_at (ns ++ ms)) is) (tree_at-append ns ms i (all-first (λ j. j < length ns) i is h)) ∙ ap (λ (ts : List (Tree F)). tree_at ns i ∷ ts) (fields_at-more ns ms is (all-rest (λ j. j < length ns) i is h))
+    ap (λ (t : Tree F). t ∷ map (tree_at (ns ++ ms)) is) (tree_at-append ns ms i (All-head (λ j. j < length ns) i is h)) ∙ ap (λ (ts : List (Tree F)). tree_at ns i ∷ ts) (fields_at-more ns ms is (All-tail (λ j. j < length ns) i is h))
 
 pub counts_at-more : {F : Type 0} (ns ms : List (Node F)) (cs : List (Count ℕ)) → All (λ c. c.value < length ns) cs → map (count_at (ns ++ ms)) cs ≡ map (count_at ns) cs
 counts_at-more ns ms [] h = refl
 counts_at-more {F = F} ns ms (c ∷ cs) h =
-    ap (λ (t : Tree F). record { value = t; bound = c.bound } ∷ map (count_at (ns ++ ms)) cs) (tree_at-append ns ms c.value (all-first (λ (d : Count ℕ). d.value < length ns) c cs h))
-    ∙ ap (λ (vs : List (Count (Tree F))). count_at ns c ∷ vs) (counts_at-more ns ms cs (all-rest (λ (d : Count ℕ). d.value < length ns) c cs h))
+    ap (λ (t : Tree F). record { value = t; bound = c.bound } ∷ map (count_at (ns ++ ms)) cs) (tree_at-append ns ms c.value (All-head (λ (d : Count ℕ). d.value < length ns) c cs h))
+    ∙ ap (λ (vs : List (Count (Tree F))). count_at ns c ∷ vs) (counts_at-more ns ms cs (All-tail (λ (d : Count ℕ). d.value < length ns) c cs h))
 
 pub sent_at-more : {F : Type 0} (ns ms : List (Node F)) (ps : List Placed) → All (PlacedBelow (length ns)) ps → sent_at (ns ++ ms) ps ≡ sent_at ns ps
 sent_at-more ns ms [] h = refl
 sent_at-more {F = F} ns ms (p ∷ ps) h =
-    let q = all-first (PlacedBelow (length ns)) p ps h in
+    let q = All-head (PlacedBelow (length ns)) p ps h in
     let f : map (tree_at (ns ++ ms)) p.fields ≡ map (tree_at ns) p.fields = fields_at-more ns ms p.fields q.fields in
     let c : map (count_at (ns ++ ms)) p.counts ≡ map (count_at ns) p.counts = counts_at-more ns ms p.counts q.counts in
     let here : interaction_at (ns ++ ms) p ≡ interaction_at ns p =
     ap (λ (ts : List (Tree F)). record { bus = bus_of p.bus; fields = ts; counts = map (count_at (ns ++ ms)) p.counts }) f
     ∙ ap (λ (vs : List (Count (Tree F))). record { bus = bus_of p.bus; fields = map (tree_at ns) p.fields; counts = vs }) c in
-    ap (λ (i : Interaction F). i ∷ sent_at (ns ++ ms) ps) here ∙ ap (λ (is : List (Interaction F)). interaction_at ns p ∷ is) (sent_at-more ns ms ps (all-rest (PlacedBelow (length ns)) p ps h))
+    ap (λ (i : Interaction F). i ∷ sent_at (ns ++ ms) ps) here ∙ ap (λ (is : List (Interaction F)). interaction_at ns p ∷ is) (sent_at-more ns ms ps (All-tail (PlacedBelow (length ns)) p ps h))
 
 -- the laws of builders
 pub later-same : {F : Type 0} (a : Recording F) → IsLater a a
@@ -176,7 +163,7 @@ pub recording-assert : {F : Type 0} (r : Recording F) (x : ℕ) (extension : Boo
 recording-assert {F = F} r x extension h below = record {
   rooted = h.rooted;
   ordered = h.ordered;
-  asserted = all-push (λ (a : Assertion). a.place < length r.nodes) r.asserted (record { place = x; in_extension = extension }) h.asserted below;
+  asserted = All-push (λ (a : Assertion). a.place < length r.nodes) r.asserted (record { place = x; in_extension = extension }) h.asserted below;
   interactions = h.interactions;
 }
 
@@ -187,7 +174,7 @@ recording-send {F = F} r p h below = record {
   rooted = h.rooted;
   ordered = h.ordered;
   asserted = h.asserted;
-  interactions = all-push (PlacedBelow (length r.nodes)) r.interactions p h.interactions below;
+  interactions = All-push (PlacedBelow (length r.nodes)) r.interactions p h.interactions below;
 }
 
 -- known places are below the number of nodes

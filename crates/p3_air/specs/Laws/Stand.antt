@@ -1,5 +1,6 @@
 -- Lists of expressions that stand for lists of trees.
-use Rattle.std.proofs.Common.{◌≡◌, ℕ, ◌<◌, zero, suc, List, [], ◌∷◌, length, get_or, arith}
+use Rattle.std.proofs.Common.{ℕ, ◌<◌, zero, suc, List, [], ◌∷◌, length, get_or, arith}
+use Rattle.std.specs.Prelude.{Result, Ok, Err, OnErr}
 use Rattle.p3_air.specs.Tree.{Stand}
 
 -- no expression stands for no tree
@@ -14,3 +15,12 @@ stand-each P x t xs ts h k (suc i) d u l = k.each i d u (omega (arith, l))
 -- one more in front
 pub stand-more : {E T : Type 0} (P : E → T → Type 0) (x : E) (t : T) (xs : List E) (ts : List T) → P x t → Stand P xs ts → Stand P (x ∷ xs) (t ∷ ts)
 stand-more P x t xs ts h k = record { long = omega (arith, k.long); each = stand-each P x t xs ts h k }
+
+-- what holds in any case holds at an error
+pub holds_on_err : {T E P : Type 0} (r : Result T E) → P → OnErr r P
+holds_on_err (Ok x) p = tt
+holds_on_err (Err e) p = p
+
+pub some_on_err : {T E : Type 0} (P : ℕ → Type 0) (r : Result T E) (n : ℕ) → P n → OnErr r ((m : ℕ) × P m)
+some_on_err P (Ok x) n p = tt
+some_on_err P (Err e) n p = (n, p)

@@ -1,9 +1,9 @@
 //! What a recording builder has recorded, as values of their own.
 ghost use Rattle.std.specs.Prelude.{◌≡◌, ℕ, ◌+◌, ◌<◌, ◌++◌, List, [], ◌∷◌, length, map, All, IfOk, Bool, true, false, not, cond};
 ghost use Rattle.p3_air.specs.Tree.{Tree};
-ghost use Rattle.p3_air.specs.Layout.{total};
+ghost use Rattle.p3_air.specs.Layout.{total, ListsEachOnce};
 ghost use Rattle.p3_air.specs.Symbolic.{tree_at, tree_of, Ordered};
-ghost use Rattle.p3_air.specs.Recording.{trees_at, asserted_in, indices_from, is_in};
+ghost use Rattle.p3_air.specs.Recording.{trees_at, asserted_in, asserted_at, trees_over, AreTheirPlaces, indices_from, is_in};
 ghost use Rattle.p3_air.specs.declared.node.Node.{Node as NodeOf};
 
 use crate::copying::expression_at;
@@ -18,23 +18,29 @@ use std::alloc::Global;
 impl<F: Field> InteractionSymbolicBuilder<F> {
     /// The constraints asserted over the base field, in order.
     pub fn base_constraints(&self, alloc: Global) -> Mem<Vec<SymbolicExpression<F>>>
-        ensures { IfOk result (λ v. map tree_of v.items ≡ trees_at self.now.nodes (asserted_in false self.now.asserted)) }
+        ensures trees { IfOk result (λ v. map tree_of v.items ≡ trees_at self.now.nodes (asserted_in false self.now.asserted)) }
+        ensures asserted { IfOk result (λ v. map tree_of v.items ≡ trees_over false (asserted_at self.now.nodes self.now.asserted)) }
     {
         expressions(alloc, &self.nodes, &self.asserted, false)
     }
 
     /// The constraints asserted over the extension, in order.
     pub fn extension_constraints(&self, alloc: Global) -> Mem<Vec<SymbolicExpression<F>>>
-        ensures { IfOk result (λ v. map tree_of v.items ≡ trees_at self.now.nodes (asserted_in true self.now.asserted)) }
+        ensures trees { IfOk result (λ v. map tree_of v.items ≡ trees_at self.now.nodes (asserted_in true self.now.asserted)) }
+        ensures asserted { IfOk result (λ v. map tree_of v.items ≡ trees_over true (asserted_at self.now.nodes self.now.asserted)) }
     {
         expressions(alloc, &self.nodes, &self.asserted, true)
     }
 
-    /// The places of both kinds of constraints among all, which are numbered from 0 in the order of assertion.
+    /// The places of both kinds of constraints among all, which are numbered from 0 in the order of assertion: each
+    /// place stands once in one of both lists, and each list ascends.
     pub fn constraint_layout(&self, alloc: Global) -> Mem<ConstraintLayout>
         ensures base { IfOk result (λ l. l.base_indices ≡ indices_from false 0 self.now.asserted) }
         ensures extension { IfOk result (λ l. l.ext_indices ≡ indices_from true 0 self.now.asserted) }
         ensures total { IfOk result (λ l. total l ≡ length self.now.asserted) }
+        ensures once { IfOk result ListsEachOnce }
+        ensures base_places { IfOk result (λ l. AreTheirPlaces false self.now.asserted l.base_indices) }
+        ensures extension_places { IfOk result (λ l. AreTheirPlaces true self.now.asserted l.ext_indices) }
         ensures base_below { IfOk result (λ l. All (λ i. i < length self.now.asserted) l.base_indices) }
         ensures extension_below { IfOk result (λ l. All (λ i. i < length self.now.asserted) l.ext_indices) }
     {

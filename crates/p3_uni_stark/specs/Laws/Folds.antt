@@ -5,7 +5,7 @@ use Rattle.p3_field.specs.Ring.{Ring, RingLaws, pow}
 use Rattle.p3_field.specs.Poly.{table}
 use Rattle.p3_field.specs.Laws.Tables.{table_same}
 use Rattle.p3_field.specs.Laws.Algebra.{zero_add, zero_mul, add_mul}
-use Rattle.p3_uni_stark.specs.Fold.{fold, fold_powers, fold_from, Sum, added_to, weighed_from}
+use Rattle.p3_uni_stark.specs.Fold.{fold, fold_powers, fold_from, weighed, Sum, added_to, weighed_from}
 
 module _ {E : Type 0} (r : Ring E) where
   -- a list folded after another
@@ -49,6 +49,20 @@ module _ {E : Type 0} (r : Ring E) where
     -- from zero it is the fold
     pub fold_from_zero : (a : E) (xs : List E) → fold_from r a r.zero xs ≡ fold r a xs
     fold_from_zero a xs = fold_from_is a r.zero xs ∙ (ap (λ v. r.add v (fold r a xs)) (zero_mul r L (pow r a (length xs))) ∙ zero_add r L (fold r a xs))
+
+    weighed_none : (cs : List E) → weighed r [] cs ≡ r.zero
+    weighed_none [] = refl
+    weighed_none (c ∷ cs) = refl
+
+    -- what the weights and values make is added to the sum
+    pub weighed_total : (ws : List E) (t : E) (xs : List E) → (weighed_from r (record { left = ws; total = t }) xs).total ≡ r.add t (weighed r ws xs)
+    weighed_total ws t [] = sym (L.add_zero t)
+    weighed_total [] t (x ∷ xs) = weighed_total [] t xs ∙ ap (r.add t) (weighed_none xs)
+    weighed_total (w ∷ ws) t (x ∷ xs) = weighed_total ws (r.add t (r.mul w x)) xs ∙ L.add_assoc t (r.mul w x) (weighed r ws xs)
+
+    -- from zero it is the weighed sum
+    pub weighed_zero : (ws xs : List E) → (weighed_from r (record { left = ws; total = r.zero }) xs).total ≡ weighed r ws xs
+    weighed_zero ws xs = weighed_total ws r.zero xs ∙ zero_add r L (weighed r ws xs)
 
     weighed_is : (a t : E) (xs : List E) → (weighed_from r (record { left = fold_powers r a (length xs); total = t }) xs).total ≡ r.add t (fold r a xs)
     unfolding fold fold_powers

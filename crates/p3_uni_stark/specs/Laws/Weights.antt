@@ -1,21 +1,23 @@
 -- The weights of chunks at the points of the chunks' domains: zero at those of other domains, and one at those of
--- their own, where all domains are cosets of one group. So the recombined value at a point of domain i is chunk i's.
-use Rattle.std.proofs.Common.{◌≡◌, ℕ, zero, suc, ◌+◌, ◌-◌, ◌*◌, ◌^◌, ◌<◌, ◌≤◌, List, length, map, inl, inr, ◌⊎◌, refl, sym, ◌∙◌, ap, subst, arith}
+-- their own, where all domains are cosets of one group. So the recombined value at a point of domain i is chunk i's
+-- (`recombined_at_own`).
+use Rattle.std.proofs.Common.{◌≡◌, ◌≢◌, ℕ, zero, suc, ◌+◌, ◌-◌, ◌*◌, ◌^◌, ◌<◌, ◌≤◌, List, [], length, get_or, inl, inr, ◌⊎◌, refl, sym, ◌∙◌, ap, subst, arith}
 use Rattle.std.proofs.lemmas.Bool.{cases_eq, cases_lt}
 use Rattle.std.proofs.lemmas.List.{map-id}
 use Rattle.std.proofs.lemmas.Nat.{pow_pos}
 use Rattle.p3_field.specs.Ring.{Ring, RingLaws, pow, sub}
-use Rattle.p3_field.specs.Field.{TwoAdic, Extension, FieldLaws, RingHom, TwoAdicLaws}
+use Rattle.p3_field.specs.Field.{TwoAdic, Extension, combine, FieldLaws, RingHom, TwoAdicLaws}
 use Rattle.p3_field.specs.Poly.{val, val_in}
 use Rattle.p3_field.specs.Domain.{CosetData, van, point}
-use Rattle.p3_field.specs.Laws.Algebra.{mul_zero, zero_mul}
+use Rattle.p3_field.specs.Laws.Algebra.{one_mul, mul_zero, zero_mul}
+use Rattle.p3_field.specs.Laws.Sums.{total_only}
 use Rattle.p3_field.specs.Laws.Order.{one_pow, pow_times}
 use Rattle.p3_field.specs.Laws.Own.{own_hom}
 use Rattle.p3_field.specs.Laws.Roots.{field_no_zero_divisors}
 use Rattle.p3_field.specs.Laws.Coset.{HasOrder, two_adic_order, pow_mul}
 use Rattle.p3_field.specs.Laws.Extended.{hom_pow, map_val}
 use Rattle.p3_field.specs.Laws.Selectors.{van_vanishes, van_value, van_only}
-use Rattle.p3_uni_stark.specs.Recombine.{product, product_but, domain_at, AllDisjoint, chunk_weight}
+use Rattle.p3_uni_stark.specs.Recombine.{product, product_but, domain_at, AllDisjoint, chunk_weight, recombined}
 
 module _ {A : Type 0} (s : Ring A) (M : RingLaws s) where
   -- a product with a factor zero
@@ -109,3 +111,20 @@ module _ {F E : Type 0} (f : TwoAdic F) (L : RingLaws f.ring) (W : FieldLaws f.r
       van_along c d k (shifts j l) fits (same j l) ∙ (sym (van_along c d 0 (shifts j l) fits (same j l)) ∙ map_val r L s M e.embed H (van r f.inv c) first) in
       ap (λ v. s.mul v (e.embed (f.inv (value j)))) there ∙ (sym (H.keeps_mul (value j) (f.inv (value j))) ∙ (ap e.embed (W.mul_inv (value j) nonzero) ∙ H.keeps_one)) in
       product_but_one s M (length ds) i factor within one
+
+  -- The quotient's value at each point of a chunk's domain is the chunk's, where all domains are cosets of one group that
+  -- share no point.
+  pub recombined_at_own : ((x y : F) → (x ≡ y) ⊎ (x ≡ y → ⊥)) → (ds : List (CosetData F)) (chunks : List (List E)) (i k : ℕ) → i < length ds → AllDisjoint f ds
+      → ((j : ℕ) → j < length ds → (domain_at f.ring ds j).shift ≡ f.ring.zero → ⊥) → (domain_at f.ring ds i).log_size ≤ top
+      → ((j : ℕ) → j < length ds → (domain_at f.ring ds j).log_size ≡ (domain_at f.ring ds i).log_size)
+      → recombined f e ds chunks (e.embed (point f.ring f.root (domain_at f.ring ds i) k)) ≡ combine e.ring e.basis 0 (get_or chunks i [])
+  unfolding recombined
+  recombined_at_own dec ds chunks i k within apart shifts fits same =
+      let s = e.ring in
+      let x = e.embed (point f.ring f.root (domain_at f.ring ds i) k) in
+      let value : ℕ → E = λ j. combine s e.basis 0 (get_or chunks j []) in
+      let part : ℕ → E = λ j. s.mul (chunk_weight f e ds j x) (value j) in
+      let none : (j : ℕ) → j < length ds → j ≢ i → part j ≡ s.zero = λ j l differ.
+      ap (λ w. s.mul w (value j)) (weight_elsewhere f L W top T e M H ds j i k within differ (shifts i within) fits) ∙ zero_mul s M (value j) in
+      total_only s M (length ds) i part within none
+      ∙ (ap (λ w. s.mul w (value i)) (weight_at_own dec ds i k within apart shifts fits same) ∙ one_mul s M (value i))

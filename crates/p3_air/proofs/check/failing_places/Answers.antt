@@ -1,4 +1,4 @@
-use Rattle.std.proofs.Common.{◌≡◌, ◌<◌, length, List, ◌∙◌, ap, subst, sym, IfOk}
+use Rattle.std.proofs.Common.{◌<◌, length, List, ◌∙◌, ap, subst, IfOk}
 use Rattle.std.specs.Option.{option_map}
 use Rattle.p3_air.specs.Check.{AreNonzero, table_of, periodic_row}
 use Rattle.p3_air.proofs.Nonzero.{all_of_map}

@@ -1,4 +1,4 @@
-use Rattle.std.proofs.Common.{◌≡◌, ℕ, ◌<◌, [], ◌∷◌, length, sym, refl, append-nil, arith, rules, Option, None}
+use Rattle.std.proofs.Common.{[], sym, refl, append-nil, rules}
 use Rattle.std.specs.Ordering.{nat_cmp}
 use Rattle.std.specs.BTreeMap.{get}
 use Rattle.p3_air.specs.declared.node.Node.TheVariants.{Constant, Base, Extension}

@@ -1,4 +1,4 @@
-use Rattle.std.proofs.Common.{◌≡◌, ℕ, [], None, List, length, ap, rules}
+use Rattle.std.proofs.Common.{List, length, ap, rules}
 use Rattle.std.specs.Ordering.{nat_cmp}
 use Rattle.std.specs.BTreeMap.{get}
 use Rattle.p3_air.specs.Laws.Copying.{copied-none, copies-few}

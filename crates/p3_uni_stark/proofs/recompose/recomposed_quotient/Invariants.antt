@@ -1,4 +1,4 @@
-use Rattle.std.proofs.Common.{◌≡◌, ℕ, [], map, get_or}
+use Rattle.std.proofs.Common.{◌≡◌, [], map, get_or}
 use Rattle.p3_field.specs.Field.{TwoAdic, Extension, combine}
 use Rattle.p3_field.specs.Poly.{total}
 use Rattle.p3_uni_stark.specs.Recombine.{chunk_weight}

@@ -1,10 +1,10 @@
-use Rattle.std.proofs.Common.{◌≡◌, ℕ, suc, ◌+◌, ◌-◌, ◌<◌, length, map, get_or, sym, ◌∙◌, ap, arith}
-use Rattle.std.proofs.lemmas.List.{get_or_read, map-id, length-take-le, length-drop, get_or-take, get_or-drop}
+use Rattle.std.proofs.Common.{◌≡◌, ℕ, suc, ◌+◌, ◌-◌, length, map, sym, ◌∙◌, ap, arith}
+use Rattle.std.proofs.lemmas.List.{get_or_read, map-id, length-take-le, get_or-take}
 use Rattle.p3_field.specs.Field.{TwoAdic}
 use Rattle.p3_field.specs.Poly.{val}
 use Rattle.p3_field.specs.Domain.{CosetData, van, point}
 use Rattle.p3_field.specs.Laws.Roots.{field_no_zero_divisors}
-use Rattle.p3_uni_stark.specs.Recombine.{chunk_weight, domain_at, product, product_but}
+use Rattle.p3_uni_stark.specs.Recombine.{chunk_weight, domain_at, product}
 use Rattle.p3_uni_stark.proofs.Weights.{before_is, behind_is, behind_at, product_same, quotients_but, first_outside}
 use Rattle.p3_uni_stark.proofs.recompose.weight_at.Goals as goal
 

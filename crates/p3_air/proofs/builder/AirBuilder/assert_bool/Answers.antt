@@ -1,5 +1,6 @@
-use Rattle.std.proofs.lemmas.Result.{IfOk-weaker}
+use Rattle.std.proofs.lemmas.Result.{IfOk-weaker, on_err_weaker}
 use Rattle.std.proofs.Common.{[], ◌∙◌}
+use Rattle.p3_air.specs.Laws.Stand.{holds_on_err}
 use Rattle.p3_air.proofs.builder.AirBuilder.assert_bool.Goals as goal
 
 pub returns-clause-grows : goal.returns-clause-grows
@@ -13,3 +14,19 @@ returns-clause-grows g c t h =
     (B.grows_along _ _ _ [] _ [] [] c.sub.ensures.grows
     (B.grows_along _ _ _ [] _ [] [] c.mul.ensures.grows p)))
     (c.assert_zero.ensures.grows _ (c.in_ok-product.ensures.stands _ _ h2 (c.in_ok-less.ensures.stands _ _ h1 one)))
+
+pub returns-in_err-less-clause-refused : goal.returns-in_err-less-clause-refused
+returns-in_err-less-clause-refused g c =
+    holds_on_err _ (g.met.Self.AirBuilder.grows_along _ _ _ [] [] [] [] c.constant.ensures.grows c.sub.ensures.grows)
+
+pub returns-in_err-product-clause-refused : goal.returns-in_err-product-clause-refused
+returns-in_err-product-clause-refused g c =
+    let then = g.met.Self.AirBuilder.grows_along in
+    holds_on_err _ (then _ _ _ [] [] [] [] c.constant.ensures.grows (then _ _ _ [] [] [] [] c.sub.ensures.grows c.mul.ensures.grows))
+
+pub returns-clause-refused : goal.returns-clause-refused
+returns-clause-refused g c =
+    let then = g.met.Self.AirBuilder.grows_along in
+    on_err_weaker _
+    (λ p. then _ _ _ [] [] [] [] c.constant.ensures.grows (then _ _ _ [] [] [] [] c.sub.ensures.grows (then _ _ _ [] [] [] [] c.mul.ensures.grows p)))
+    c.assert_zero.ensures.refused

@@ -1,4 +1,5 @@
-use Rattle.std.proofs.lemmas.Result.{IfOk-weaker}
+use Rattle.std.proofs.Common.{[]}
+use Rattle.std.proofs.lemmas.Result.{IfOk-weaker, on_err_weaker}
 use Rattle.p3_air.specs.Tree.{difference}
 use Rattle.p3_air.proofs.builder.AirBuilder.assert_eq.Goals as goal
 
@@ -7,3 +8,7 @@ returns-clause-grows g c s t hs ht =
     IfOk-weaker _ _ _
     (λ _ p. g.met.Self.AirBuilder.grows_along _ _ _ _ _ _ _ c.sub.ensures.grows p)
     (c.assert_zero.ensures.grows (difference s t) (c.in_ok-difference.ensures.stands s t hs ht))
+
+pub returns-clause-refused : goal.returns-clause-refused
+returns-clause-refused g c =
+    on_err_weaker _ (λ p. g.met.Self.AirBuilder.grows_along _ _ _ [] [] [] [] c.sub.ensures.grows p) c.assert_zero.ensures.refused

@@ -1,4 +1,4 @@
-use Rattle.std.proofs.Common.{◌≡◌, [], sym, ◌∙◌, refl}
+use Rattle.std.proofs.Common.{sym, refl}
 use Rattle.p3_air.specs.Laws.Recording.{indices-none, indices-step}
 use Rattle.p3_air.proofs.recorder.read.indices.Goals as goal
 

@@ -1,6 +1,6 @@
 use Rattle.std.proofs.Common.{[], ◌∷◌, ◌∙◌, false, refl}
-use Rattle.p3_air.specs.declared.cells.Cell.TheVariants.{Main, Preprocessed, Periodic, Public}
-use Rattle.p3_air.specs.Tree.{Tree, constant, cell, difference, product, over_base, StandCount}
+use Rattle.p3_air.specs.declared.cells.Cell.TheVariants.{Main, Preprocessed, Periodic}
+use Rattle.p3_air.specs.Tree.{cell, difference, product, over_base}
 use Rattle.p3_air.specs.Laws.Stand.{stand-none, stand-more}
 use Rattle.p3_air.proofs.examples.post.PostAirAir.eval.Goals as goal
 

@@ -1,0 +1,14 @@
+use Rattle.std.proofs.Common.{◌≡◌, List, map, false, IfOk, subst}
+use Rattle.p3_air.specs.Tree.{Tree}
+use Rattle.p3_air.specs.Symbolic.{tree_of}
+use Rattle.p3_air.specs.Recording.{trees_at, asserted_in}
+use Rattle.p3_air.specs.Laws.Places.{trees_over_is}
+use Rattle.p3_air.proofs.recorder.InteractionSymbolicBuilder.base_constraints.Goals as goal
+
+pub returns-clause-asserted : goal.returns-clause-asserted
+returns-clause-asserted g c =
+    let nodes = c.self.inside.nodes.items in
+    let asserted = c.self.inside.asserted.items in
+    let P : List (Tree g.row.F.Denot) → Type 0 = λ ts. IfOk c.expressions.result (λ v. map tree_of v.items ≡ ts) in
+    let found : P (trees_at nodes (asserted_in false asserted)) = rw (← c.deref.ensures.value, ← c.deref-2.ensures.value) c.expressions.ensures in
+    rw (← c.self.view_is) (subst P (trees_over_is nodes false asserted) found)
