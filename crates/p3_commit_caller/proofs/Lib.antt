@@ -1,4 +1,4 @@
 mod Lists
 mod Openings
 mod Committing
-mod OpenedRow
+mod RowOfOne

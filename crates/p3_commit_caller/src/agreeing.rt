@@ -1,5 +1,6 @@
 //! Two calls that commit, where nothing is masked.
-ghost use Rattle.std.specs.Prelude.{◌≡◌, IsFalse, IfOk};
+ghost use Rattle.std.specs.Prelude.{◌≡◌, ◌⊎◌, IsFalse, IfOk};
+ghost use Rattle.p3_commit.specs.Failure.{NoneOf, RefusedBy};
 
 use p3_commit::{Pcs, PcsFailure, PolynomialSpace, UnivariateStarkPcs};
 use p3_field::{
@@ -9,19 +10,19 @@ use p3_field::{
 use p3_matrix::RowMajorMatrix;
 use std::alloc::Global;
 
-/// Commits to the same matrices by `commit` and by `commit_preprocessing` (own): the two commitments, which are equal
-/// where nothing is masked. It is refused where the scheme refuses to commit to the matrices.
+/// Commits to the first matrices by `commit` and to the second by `commit_preprocessing` (own): the two commitments. Where
+/// nothing is masked, each is the scheme's one function of its matrices, so that equal matrices have equal commitments.
+/// `Refused` comes exactly where the scheme refuses to commit to the first, or else to the second.
 pub fn committed_alike<E: ExtensionField<P::Val>, C, P: UnivariateStarkPcs<E, C>>(
     alloc: Global,
     pcs: &P,
     first: Vec<(P::Domain, RowMajorMatrix<P::Val>)>,
     second: Vec<(P::Domain, RowMajorMatrix<P::Val>)>,
 ) -> Result<(P::Commitment, P::Commitment), PcsFailure<P::ProverError>>
-    requires plain { IsFalse P.ZK }
-    requires same { first.items ≡ second.items }
-    ensures alike { IfOk result (λ w. w.0 ≡ w.1) }
+    ensures refusal { RefusedBy (λ e. P.commit_fault pcs.now first.items e ⊎ (NoneOf (P.commit_fault pcs.now first.items) × P.commit_fault pcs.now second.items e)) result }
     ensures commits { IfOk result (λ w. P.commits pcs.now first.items w.0 × P.commits pcs.now second.items w.1) }
-    ensures function { IfOk result (λ w. w.0 ≡ P.commitment_of pcs.now first.items) }
+    ensures function { IsFalse P.ZK → IfOk result (λ w. (w.0 ≡ P.commitment_of pcs.now first.items) × (w.1 ≡ P.commitment_of pcs.now second.items)) }
+    ensures alike { IsFalse P.ZK → first.items ≡ second.items → IfOk result (λ w. w.0 ≡ w.1) }
 {
     let (commitment, _data) = pcs.commit(alloc, first)?;
     let (again, _data) = pcs.commit_preprocessing(alloc, second)?;

@@ -1,5 +1,6 @@
-//! A caller of any scheme that commits to polynomials: it commits to a matrix, opens it at a point and verifies the
-//! opening. That the verifier accepts, and what the values are, follows from the laws of `Pcs` alone.
+//! Callers of any scheme that commits, over the laws of its trait alone: they commit, open, and verify what was opened.
+//! What each gives besides its values shows what it did: a commitment with the proof that the verifier was asked about, or
+//! the verifier's answer where the laws leave it open.
 #![tactic(auto)]
 
 mod agreeing;
@@ -23,7 +24,7 @@ use p3_field::{
     TwoAdicCore,
 };
 use p3_matrix::RowMajorMatrix;
-pub use rows::committed_and_opened;
+pub use rows::{OpenedRow, committed_and_opened};
 use std::alloc::Global;
 
 // The list of one item.
@@ -78,6 +79,24 @@ fn opened<E: ExtensionField<P::Val>, C, P: Pcs<E, C>>(
     Ok((only_values(values), proof))
 }
 
+// The claim that the one matrix of a commitment has these values at a point.
+fn single_claim<E: Drop, Commitment: Drop, Domain: Drop>(
+    alloc: Global,
+    commitment: Commitment,
+    domain: Domain,
+    point: E,
+    values: Vec<E>,
+) -> Mem<CommitmentOpening<E, Commitment, Domain>>
+    ensures { IfOk result (λ claim. claim ≡ claim_of commitment domain point values.items) }
+{
+    let points = one(alloc, PointOpening { point, values })?;
+    let matrices = one(alloc, MatrixOpening { domain, points })?;
+    Ok(CommitmentOpening {
+        commitment,
+        matrices,
+    })
+}
+
 // Whether the scheme's verifier accepts that one matrix has these values at one point.
 fn verified<E: ExtensionField<P::Val>, C, P: Pcs<E, C>>(
     alloc: Global,
@@ -96,10 +115,21 @@ fn verified<E: ExtensionField<P::Val>, C, P: Pcs<E, C>>(
     }
 }
 
-/// Commits to a matrix on a domain, opens it at a point, and verifies the opening (own): the values that were opened, or
-/// None where the verifier refuses them, which can't be. They are the values of the interpolants of the matrix's columns,
-/// one for each column. `challenger` is the transcript's state before the opening; the point isn't one that the scheme
-/// excludes. What the verifier answered can't be seen, since by the scheme's laws it always accepts.
+/// The values at one point of the polynomials of a committed matrix, with the proof that a verifier accepted (own).
+#[derive(Drop)]
+pub struct VerifiedValues<E, Commitment, Proof> {
+    /// The commitment to the matrix.
+    pub commitment: Commitment,
+    /// A value for each column.
+    pub values: Vec<E>,
+    /// The proof that opens the commitment at the point as these values.
+    pub proof: Proof,
+}
+
+/// Commits to a matrix on a domain, opens it at a point, and verifies the opening (own): what was opened, or None where the
+/// verifier refuses it. It refuses only at a point that the scheme excludes. The values are those of the interpolants of
+/// the matrix's columns, one for each column. `challenger` is the transcript's state before the opening, from which the
+/// proof opens the claim that the commitment's matrix, on `domain`, has these values at the point.
 ///
 /// `Refused` comes only where the scheme refuses to commit to the matrix, or to open what it gave for a commitment to it.
 /// `OutOfMemory` may come in place of any answer.
@@ -110,32 +140,28 @@ pub fn committed_and_verified<E: ExtensionField<P::Val>, C: Copy, P: Pcs<E, C>>(
     matrix: RowMajorMatrix<P::Val>,
     point: E,
     challenger: C,
-) -> Result<Option<Vec<E>>, PcsFailure<P::ProverError>>
-    requires { P.excludes pcs.now point → ⊥ }
+) -> Result<Option<VerifiedValues<E, P::Commitment, P::Proof>>, PcsFailure<P::ProverError>>
     ensures refused { IfRefused result (λ e. P.commit_fault pcs.now ((domain, matrix) ∷ []) e
         ⊎ ((w : P.Commitment × P.ProverData) × IsCommitment P.Val.ring P.Domain.points P.Domain.point_at (P.commits pcs.now) (P.made pcs.now) (P.holds pcs.now) ((domain, matrix) ∷ []) w
         × P.open_fault pcs.now (record { prover_data = w.1; points = (point ∷ []) ∷ [] } ∷ []) e)) }
-    ensures accepted { IfOk result IsSome }
-    ensures values { IfOk result (λ o. IfSome o (λ v. AreValues P.Val.ring E.ring E.embed (P.Domain.point_at domain) matrix point v.items)) }
+    ensures accepted { (P.excludes pcs.now point → ⊥) → IfOk result IsSome }
+    ensures committed { IfOk result (λ o. IfSome o (λ v. P.commits pcs.now ((domain, matrix) ∷ []) v.commitment)) }
+    ensures opens { IfOk result (λ o. IfSome o (λ v. P.opens pcs.now challenger (claim_of v.commitment domain point v.values.items ∷ []) v.proof)) }
+    ensures values { IfOk result (λ o. IfSome o (λ v. AreValues P.Val.ring E.ring E.embed (P.Domain.point_at domain) matrix point v.values.items)) }
 {
     let (commitment, prover_data) = pcs.commit(alloc, one(alloc, (domain, matrix))?)?;
     let mut prover = challenger;
     let (values, proof) = opened(alloc, pcs, &prover_data, point, &mut prover)?;
-    let points = one(
-        alloc,
-        PointOpening {
-            point,
-            values: Vec::from_slice(alloc, &values)?,
-        },
-    )?;
-    let matrices = one(alloc, MatrixOpening { domain, points })?;
-    let claim = CommitmentOpening {
-        commitment,
-        matrices,
-    };
+    let claimed = Vec::from_slice(alloc, &values)?;
+    let verified_commitment = pcs.clone_commitment(alloc, &commitment)?;
+    let claim = single_claim(alloc, verified_commitment, domain, point, claimed)?;
     let mut verifier = challenger;
     if verified(alloc, pcs, claim, &proof, &mut verifier)? {
-        Ok(Some(values))
+        Ok(Some(VerifiedValues {
+            commitment,
+            values,
+            proof,
+        }))
     } else {
         Ok(None)
     }

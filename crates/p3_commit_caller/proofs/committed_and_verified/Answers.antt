@@ -1,7 +1,8 @@
 use Rattle.std.proofs.Common.{◌∙◌, inr, List, [], ◌∷◌, ap, sym, subst, Vec, Global}
 use Rattle.p3_matrix.specs.Matrix.{Rows}
 use Rattle.p3_commit.specs.Commitments.{IsCommitment}
-use Rattle.p3_commit.specs.Claims.{MatrixClaim}
+use Rattle.p3_commit.specs.Claims.{CommitmentClaim}
+use Rattle.p3_commit_caller.specs.Single.{claim_of}
 use Rattle.p3_commit_caller.proofs.Committing.{committed_one, values_of_committed, open_refused}
 use Rattle.p3_commit_caller.proofs.committed_and_verified.Goals as goal
 
@@ -23,19 +24,20 @@ returns-then-branch-clause-values g c =
     values_of_committed r g.E.RingCore.ring g.E.ExtensionField.embed (S.points c.args.domain) (S.point_at c.args.domain) c.args.matrix m c.args.point c.in_ok-values.values.items are
     (c.in_ok-values.ensures.values c.in_ok-commitment.commitment m h)
 
-pub returns-clause-accepted : goal.returns-clause-accepted
-returns-clause-accepted g c =
+pub returns-else-branch-clause-accepted : goal.returns-else-branch-clause-accepted
+returns-else-branch-clause-accepted g c free =
     let T = g.P.Pcs in
     let S = g.P.Domain.PolynomialSpace in
     let commitment = c.in_ok-commitment.commitment in
+    let values = c.in_ok-values.values.items in
     let w : g.row.P-Commitment.Denot × g.row.P-ProverData.Denot = (commitment, c.in_ok-commitment.prover_data) in
     let (m, (are, h)) = committed_one g.P.Val.RingCore.ring S.points S.point_at (T.commits c.args.pcs.now) (T.made c.args.pcs.now) (T.holds c.args.pcs.now) c.in_ok-one.field-0.items c.args.domain c.args.matrix w c.in_ok-one.ensures c.in_ok-commitment.ensures.committed in
-    let accepts = c.in_ok-values.ensures.accepted commitment m c.args.domain h c.requires (sym are.size_is) in
-    let values = c.in_ok-from_slice.ensures.items ∙ c.deref.ensures.value in
-    let points = c.in_ok-points.ensures ∙ ap (λ l. record { point = c.args.point; values = l } ∷ []) values in
-    let matrices = c.in_ok-matrices.ensures ∙ ap (λ l. record { domain = c.args.domain; points = l } ∷ []) points in
-    let Q : List (MatrixClaim g.row.E.Denot g.row.P-Domain.Denot) → Type 0 = λ l. T.opens c.args.pcs.now c.args.challenger (record { commitment = commitment; matrices = l } ∷ []) c.in_ok-values.proof in
-    sym c.if-branch.false ∙ c.in_ok-verified.ensures.1 (subst Q (sym matrices) accepts)
+    let accepts = c.in_ok-values.ensures.accepted commitment m c.args.domain h free (sym are.size_is) in
+    let copied = c.in_ok-claimed.ensures.items ∙ c.deref.ensures.value in
+    let cloned = ap (λ k. claim_of k c.args.domain c.args.point c.in_ok-claimed.claimed.items) c.in_ok-verified_commitment.ensures in
+    let same = c.in_ok-claim.ensures ∙ (cloned ∙ ap (claim_of commitment c.args.domain c.args.point) copied) in
+    let Q : CommitmentClaim g.row.E.Denot g.row.P-Commitment.Denot g.row.P-Domain.Denot → Type 0 = λ k. T.opens c.args.pcs.now c.args.challenger (k ∷ []) c.in_ok-values.proof in
+    sym c.if-branch.false ∙ c.in_ok-verified.ensures.1 (subst Q (sym same) accepts)
 
 pub returns-in_err-values-clause-refused : goal.returns-in_err-values-clause-refused
 returns-in_err-values-clause-refused g c =
