@@ -1,5 +1,5 @@
 -- The honest proof of a swap table has the shape of a proof of the first form.
-use Rattle.std.proofs.Common.{◌≡◌, ℕ, ◌+◌, ◌*◌, ◌^◌, List, [], ◌∷◌, length, get_or, map, refl, sym, ◌∙◌, ap, subst, mul_comm}
+use Rattle.std.proofs.Common.{◌≡◌, ℕ, ◌+◌, ◌*◌, ◌^◌, List, length, get_or, map, refl, sym, ◌∙◌, ap, subst, mul_comm}
 use Rattle.std.proofs.lemmas.List.{length-map}
 use Rattle.p3_field.specs.Poly.{val, val_in, table}
 use Rattle.p3_field.specs.Domain.{CosetData, point}
