@@ -8,6 +8,7 @@ pub mod Faults
 pub mod FirstForms
 pub mod FixedStops
 pub mod HonestCommitments
+pub mod HonestForm
 pub mod IdentityLemmas
 pub mod Interpolated
 pub mod JobAnswers

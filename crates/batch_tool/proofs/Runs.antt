@@ -7,7 +7,7 @@ use Rattle.batch_tool.specs.Limits.{most_log_rows}
 use Rattle.batch_tool.specs.Texts.{line_text}
 use Rattle.batch_tool.specs.Job.{JobWithin, job_words}
 use Rattle.batch_tool.specs.Prove.{IsJobAnswer}
-use Rattle.batch_tool.specs.Answer.{Names, IsProveAnswer, IsVerifyAnswer, IsCommandAnswer, Answers, IsOutcome, Outcome}
+use Rattle.batch_tool.specs.Answer.{Names, IsProveAnswer, IsVerifyAnswer, IsCommandAnswer, Answers, IsOutcome, IsSilent, Outcome}
 use Rattle.batch_tool.specs.declared.command.Command.{Command}
 use Rattle.batch_tool.specs.declared.command.Command.TheVariants.{Prove, Verify}
 use Rattle.batch_tool.specs.declared.job.Job.{Job}
@@ -87,6 +87,17 @@ answer-status Verify bytes TooLarge text a = file-status a.0 TooLarge text a.3
 pub no-answer : (command : Command) (bytes : List ℕ) (status fault : Status) (text : List ℕ) → (IsAnswerStatus fault → ⊥)
     → IsCommandAnswer command bytes status text → status ≡ fault → ⊥
 no-answer command bytes status fault text none a e = none (subst (λ (s : Status). IsAnswerStatus s) e (answer-status command bytes status text a))
+
+-- a command's answer is written
+pub not-silent : (status : Status) → IsAnswerStatus status → IsSilent status → ⊥
+not-silent Done a s = s
+not-silent Refused a s = s
+not-silent BadInput a s = s
+not-silent Usage a s = a
+not-silent ReadFault a s = a
+not-silent WriteFault a s = a
+not-silent OutOfMemory a s = a
+not-silent TooLarge a s = a
 
 -- the answer of a command, for an input that was read to its end
 pub command-answers : (most : ℕ) (words : List (List ℕ)) (read : List ℕ) (ended : Type 0) (command : Command) (status : Status) (text : List ℕ)

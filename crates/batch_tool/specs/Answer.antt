@@ -1,5 +1,5 @@
 -- What a run answers.
-use Rattle.std.specs.Prelude.{◌≡◌, ◌≤◌, ◌<◌, ◌+◌, ℕ, List, [], ◌∷◌, length, take, codes, Option}
+use Rattle.std.specs.Prelude.{◌≡◌, ◌≤◌, ◌<◌, ◌+◌, ℕ, List, [], ◌∷◌, length, take, codes, Option, ⊤}
 use Rattle.std.specs.Io.KnownBytes.{Consumes, Appends, IsAtEnd}
 use Rattle.batch_tool.specs.Limits.{most_log_rows}
 use Rattle.batch_tool.specs.Texts.{line_text}
@@ -70,6 +70,13 @@ pub record Outcome (most : ℕ) (words : List (List ℕ)) (left left_new written
   pub wrote : List ℕ
   pub appended : Appends written written_new wrote
   pub outcome : IsOutcome most words read (IsAtEnd left_new) wrote status
+
+-- the statuses of a run that asks nothing of the sink
+abbrev pub IsSilent : Status → Type 0
+IsSilent ReadFault = ⊤
+IsSilent OutOfMemory = ⊤
+IsSilent TooLarge = ⊤
+IsSilent other = ⊥
 
 -- the exit status
 abbrev pub status_number : Status → ℕ

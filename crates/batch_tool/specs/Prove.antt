@@ -6,6 +6,7 @@ use Rattle.batch_tool.specs.Honest.{Instance, IsCommitted, IsGround, IsInTraceDo
 use Rattle.batch_tool.specs.Tool.{tool}
 use Rattle.batch_tool.specs.Swap.{swap_instance, last_right}
 use Rattle.batch_tool.specs.ProofFile.{file_words}
+use Rattle.batch_tool.specs.FirstForm.{IsSwapShape}
 use Rattle.batch_tool.specs.Texts.{line_text}
 use Rattle.batch_tool.specs.declared.job.SwapTable.{SwapTable}
 use Rattle.batch_tool.specs.declared.top.Status.{Status}
@@ -37,7 +38,8 @@ pub record DrawsTracePoint (table : SwapTable) (text : List ℕ) : Type 0 where
   pub inside : IsInTraceDomain tool (instance_of table) (zeta tool (instance_of table) main quotient number)
   pub text_is : text ≡ codes "refused OodPointInDomain\n"
 
--- the text is the statement with the honest proof, whose zeta lies outside the trace domain
+-- The text is the statement with the honest proof, whose zeta lies outside the trace domain. The proof has the shape of the first form, so
+-- the text is that of a file which `verify` reads.
 pub record IsProved (table : SwapTable) (text : List ℕ) : Type 0 where
   pub columns : List (List BabyBear)
   pub main : Rows BabyBear
@@ -47,6 +49,7 @@ pub record IsProved (table : SwapTable) (text : List ℕ) : Type 0 where
   pub number : ℕ
   pub ground : IsGround tool (instance_of table) main quotient number
   pub outside : IsInTraceDomain tool (instance_of table) (zeta tool (instance_of table) main quotient number) → ⊥
+  pub form : IsSwapShape table.log_rows (honest_proof tool (instance_of table) columns main chunk quotient number)
   pub text_is : text ≡ line_text (file_words table.log_rows table.a table.b (last_right table.log_rows table.a table.b) (honest_proof tool (instance_of table) columns main chunk quotient number))
 
 -- the status and the text for a job of this table

@@ -3,7 +3,7 @@
 ghost use Rattle.std.specs.Prelude.{◌≡◌, ◌≤◌, IfOk, map, string_bytes};
 ghost use Rattle.batch_tool.specs.Causes.{Rose};
 ghost use Rattle.batch_tool.specs.Limits.{most_bytes};
-ghost use Rattle.batch_tool.specs.Answer.{IsCommandAnswer, IsProveAnswer, IsVerifyAnswer, Outcome, status_number};
+ghost use Rattle.batch_tool.specs.Answer.{IsCommandAnswer, IsProveAnswer, IsSilent, IsVerifyAnswer, NamesSome, Outcome, status_number};
 
 use crate::command::Command;
 use crate::ends::{Failed, InputError, Sink, Source};
@@ -72,6 +72,10 @@ pub fn run<S: Source, K: Sink>(
     ensures writes_later { K.faults sink.old ≤ K.faults sink.new }
     ensures read_fault { result ≡ Status.ReadFault → Rose (S.faults source.old) (S.faults source.new) }
     ensures write_fault { result ≡ Status.WriteFault → Rose (K.faults sink.old) (K.faults sink.new) }
+
+    // What isn't asked stays as it was, whether or not it tells its bytes.
+    ensures unread { (NamesSome (map string_bytes words.now) → ⊥) → source.new ≡ source.old }
+    ensures unwritten { IsSilent result → sink.new ≡ sink.old }
 {
     let Some(command) = Command::from_words(words) else {
         return match write_whole(sink, USAGE) {

@@ -9,6 +9,7 @@ use Rattle.batch_tool.specs.Prove.{IsJobAnswer, instance_of}
 use Rattle.batch_tool.specs.Swap.{last_right}
 use Rattle.batch_tool.specs.Honest.{IsInTraceDomain}
 use Rattle.batch_tool.specs.Tool.{tool}
+use Rattle.batch_tool.proofs.HonestForm.{honest-shape}
 use Rattle.batch_tool.proofs.Committing.{before-grinding-is, nothing-passes, witness-is-ground, zeta-of-number, told-true, told-false}
 use Rattle.batch_tool.proofs.HonestCommitments.{honest-committed}
 use Rattle.batch_tool.proofs.prove.prove.Goals as goal
@@ -98,5 +99,6 @@ returns c =
       number = w.value;
       ground = ground;
       outside = λ h. told-false c.if-is_in_trace_domain.false (tells.1 h);
+      form = honest-shape t fs main gs quotient w.value committed;
       text_is = text;
     }

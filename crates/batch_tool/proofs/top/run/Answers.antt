@@ -3,7 +3,7 @@ use Rattle.std.specs.Io.KnownBytes.{Appends}
 use Rattle.std.proofs.KnownBytes.{Consumes-nil}
 use Rattle.batch_tool.specs.Answer.{IsCommandAnswer}
 use Rattle.batch_tool.specs.declared.top.Status.TheVariants.{Usage, ReadFault, WriteFault}
-use Rattle.batch_tool.proofs.Runs.{cut-short, command-answers, written-whole, answer-status, no-answer}
+use Rattle.batch_tool.proofs.Runs.{cut-short, command-answers, written-whole, answer-status, no-answer, not-silent}
 use Rattle.batch_tool.proofs.top.run.Goals as goal
 
 pub returns-in-Err-clause-outcome : goal.returns-in-Err-clause-outcome
@@ -45,3 +45,13 @@ returns-clause-outcome g c =
     c.deref-2.ensures.value c.in-Err-write_whole.ensures.text in
     cut-short _ _ _ _ _ _ c.in-Ok-answer.status read.taken text part.0 read.consumed
     (command-answers _ _ _ _ c.in-Some.command c.in-Ok-answer.status text c.in-Some.ensures read.answer.2 read.answer.1 a) part.1 part.2
+
+pub returns-in-Ok-write_whole-clause-unread : goal.returns-in-Ok-write_whole-clause-unread
+returns-in-Ok-write_whole-clause-unread g c none = absurd (none (c.in-Some.command, c.in-Some.ensures))
+
+pub returns-in-Ok-write_whole-clause-unwritten : goal.returns-in-Ok-write_whole-clause-unwritten
+returns-in-Ok-write_whole-clause-unwritten g c silent = absurd
+    (not-silent c.in-Ok-answer.status (answer-status c.in-Some.command c.deref.result.now c.in-Ok-answer.status c.in-Ok-answer.text.items c.in-Ok-answer.ensures) silent)
+
+pub returns-clause-unread : goal.returns-clause-unread
+returns-clause-unread g c none = absurd (none (c.in-Some.command, c.in-Some.ensures))
