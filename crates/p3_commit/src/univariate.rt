@@ -4,7 +4,7 @@ ghost use Rattle.std.specs.Int.{IsPowerOfTwo};
 ghost use Rattle.p3_matrix.specs.Matrix.{Rows, height};
 ghost use Rattle.p3_commit.specs.Periodic.{IsPeriod, IsPeriodicTable};
 ghost use Rattle.p3_commit.specs.Claims.{CommitmentClaim, Request};
-ghost use Rattle.p3_commit.specs.Failure.{RefusedBy, FaultInTurn, NoneInTurn, IfRefused, VerifiedBy};
+ghost use Rattle.p3_commit.specs.Failure.{NoneOf, RefusedBy, FaultInTurn, NoneInTurn, IfRefused, VerifiedBy};
 ghost use Rattle.p3_commit.specs.Commitments.{Committed, IsCommitment, IsEvaluated, Held, AreHeld, nested, IsOpening, AreParts, AreExtensions};
 
 use crate::claims::{CommitmentOpening, OpenedValues, OpeningRequest};
@@ -48,6 +48,9 @@ where
 
     // why the scheme refuses to commit to extensions
     ghost ldes_fault: { Self → List (Rows Self.Val) → Self.ProverError → Type 0 };
+
+    // why the scheme refuses to commit to a quotient that has these values on this domain, in so many parts
+    ghost quotient_fault: { Self → Self.Domain → Rows Self.Val → ℕ → Self.ProverError → Type 0 };
 
     /// The logarithm of the greatest number of rows that a trace may have.
     fn log_max_trace_height(&self) -> usize
@@ -151,7 +154,8 @@ where
 
     /// Commits to the parts of a quotient that is given by its values on a domain: part i has rows i, i + num_chunks,
     /// i + 2 num_chunks and so on, on the part of the domain that begins at point i. It is refused exactly as
-    /// `get_quotient_ldes` of these parts is, and else as `commit_ldes` of its answer.
+    /// `get_quotient_ldes` of these parts is, and else as `commit_ldes` of its answer: so `Refused` comes exactly where
+    /// `quotient_fault` names a cause.
     final fn commit_quotient(
         &self,
         alloc: Global,
@@ -162,6 +166,7 @@ where
         requires power { IsPowerOfTwo num_chunks }
         requires fits { num_chunks ≤ Self.Domain.points quotient_domain }
         requires height { height evaluations ≡ Self.Domain.points quotient_domain }
+        ensures refusal { RefusedBy (quotient_fault self.now quotient_domain evaluations num_chunks) result }
         ensures refused { IfRefused result (λ e. (parts : List (Self.Domain × Rows Self.Val)) × AreParts (Self.Domain.part quotient_domain num_chunks) evaluations num_chunks parts
             × FaultInTurn (extension_fault self.now parts num_chunks) (AreExtensions (extends self.now) parts) (ldes_fault self.now) e) }
         ensures granted { IfOk result (λ w. (parts : List (Self.Domain × Rows Self.Val)) × AreParts (Self.Domain.part quotient_domain num_chunks) evaluations num_chunks parts
@@ -210,6 +215,15 @@ where
     ghost heights_masked: { (s : Self) → IsTrue ZK → log_min s + 1 ≤ log_max s };
 
     ghost heights_fit: { (s : Self) → log_max s ≤ Self.Val.TWO_ADICITY };
+
+    // The causes to refuse a quotient are those to refuse its parts: a cause to extend them, or else to commit to what may be
+    // their extensions, is one.
+    ghost quotient_refused: { (s : Self) (d : Self.Domain) (m : Rows Self.Val) (n : ℕ) (parts : List (Self.Domain × Rows Self.Val)) (e : Self.ProverError) → IsPowerOfTwo n → n ≤ Self.Domain.points d → height m ≡ Self.Domain.points d
+        → AreParts (Self.Domain.part d n) m n parts → FaultInTurn (extension_fault s parts n) (AreExtensions (extends s) parts) (ldes_fault s) e → quotient_fault s d m n e };
+
+    // where the parts have no cause, and some extensions of them have none, the quotient has none
+    ghost quotient_granted: { (s : Self) (d : Self.Domain) (m : Rows Self.Val) (n : ℕ) (parts : List (Self.Domain × Rows Self.Val)) → IsPowerOfTwo n → n ≤ Self.Domain.points d → height m ≡ Self.Domain.points d
+        → AreParts (Self.Domain.part d n) m n parts → NoneInTurn (extension_fault s parts n) (AreExtensions (extends s) parts) (ldes_fault s) → NoneOf (quotient_fault s d m n) };
 
     // Where nothing is masked, the commitment is one function of what is committed.
     ghost one_commitment: { (s : Self) (e : List (Self.Domain × Rows Self.Val)) (c : Self.Commitment) → IsFalse ZK → Self.commits s e c → c ≡ commitment_of s e };

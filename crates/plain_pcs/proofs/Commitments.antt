@@ -1,9 +1,9 @@
 -- What commitments and their prover kept hold.
 use Rattle.std.proofs.Common.{◌≡◌, ℕ, ◌+◌, ◌^◌, ◌<◌, ◌≤◌, List, [], Some, length, get_or, map, refl, sym, ◌∙◌, ap, subst, arith}
-use Rattle.std.specs.Prelude.{slice_get}
+use Rattle.std.specs.Prelude.{slice_get, Result, Ok, Err}
 use Rattle.std.specs.List.{All}
 use Rattle.std.proofs.lemmas.List.{ext_get_or}
-use Rattle.std.proofs.lemmas.Option.{slice_get-get_or, get_or_from_slice_get, slice_get_within}
+use Rattle.std.proofs.lemmas.Option.{slice_get-get_or, get_or_from_slice_get}
 use Rattle.p3_field.specs.Ring.{Ring, RingLaws}
 use Rattle.p3_field.specs.Field.{FieldLaws, TwoAdicLaws}
 use Rattle.p3_field.specs.Domain.{CosetData, point, IsInterpolant}
@@ -13,13 +13,15 @@ use Rattle.p3_matrix.specs.Laws.Powers.{power_cancel}
 use Rattle.p3_dft.specs.Transform.{values_at}
 use Rattle.p3_dft.specs.Laws.Values.{length-values_at, get_or-values_at}
 use Rattle.p3_commit.specs.Failure.{NoneOf}
+use Rattle.p3_commit.specs.declared.failure.PcsFailure.{PcsFailure}
+use Rattle.p3_commit.specs.declared.failure.PcsFailure.TheVariants.{OutOfMemory, Refused}
 use Rattle.p3_commit.specs.Commitments.{Committed, IsCommitted, IsCommitment, AreExtensions}
 use Rattle.p3_commit.specs.Periodic.{EachFrom}
 use Rattle.p3_commit.specs.Laws.Codes.{width_positive}
 use Rattle.plain_pcs.specs.Scheme.{Scheme, PlainCommitmentData}
-use Rattle.plain_pcs.specs.Extension.{interpolant, extended_domain, extension_of, commitment_of, IsCommittable, Extends}
+use Rattle.plain_pcs.specs.Extension.{extended_domain, extension_of, commitment_of, IsCommittable, Extends}
 use Rattle.plain_pcs.specs.Holding.{IsMade, IsHolding, AreHolding}
-use Rattle.plain_pcs.specs.Refusals.{CommitFault, ExtensionsFault, HasSubgroupHeight}
+use Rattle.plain_pcs.specs.Refusals.{CommitFault, ExtensionsFault, HasSubgroupHeight, IfWanting}
 use Rattle.plain_pcs.specs.declared.error.PlainProverError.TheVariants.{Commit, Open}
 use Rattle.plain_pcs.specs.Cosets.{IsOnCoset}
 use Rattle.plain_pcs.specs.Laws.Extensions.{polynomials, length-polynomials, get_or-polynomials, is_interpolant, width-extension, height-extension, column-extension}
@@ -31,6 +33,12 @@ pub values_of_interpolant : {A : Type 0} (r : Ring A) (p : ℕ → A) (n : ℕ) 
 values_of_interpolant r p n v f size I =
     ext_get_or r.zero v (values_at r p n f) (size ∙ sym (length-values_at r p n f))
     (λ i b. sym (I.value_is i b) ∙ sym (get_or-values_at r p n f i r.zero (omega arith)))
+
+-- what holds anyway, holds where memory is wanting
+pub if_wanting : {T E : Type 0} (r : Result T (PcsFailure E)) (P : Type 0) → P → IfWanting r P
+if_wanting (Ok w) P p = tt
+if_wanting (Err OutOfMemory) P p = p
+if_wanting (Err (Refused e)) P p = tt
 
 -- where all matrices can be committed to, there is no cause to refuse
 pub no_commit_fault : {F : Type 0} (s : Scheme F) (xs : List (CosetData F × Rows F)) → All (λ e. IsCommittable s e.0 e.1) xs → NoneOf (CommitFault s xs)

@@ -5,7 +5,8 @@ use Rattle.p3_field.specs.Ring.{Ring}
 use Rattle.p3_field.specs.Poly.{table}
 use Rattle.plain_pcs.specs.Scheme.{Scheme}
 use Rattle.plain_pcs.specs.Checks.{Check, Holds, NoneFails, FirstFails, numbered}
-use Rattle.plain_pcs.specs.Faults.{FirstFault, LeastWithout}
+use Rattle.plain_pcs.specs.Failing.{FirstFailing}
+use Rattle.plain_pcs.specs.Faults.{FirstFault}
 use Rattle.plain_pcs.specs.declared.error.PlainError.{PlainError}
 
 module _ {F E : Type 0} (s : Scheme F) (ring : Ring E) (embed : F → E) where
@@ -73,15 +74,15 @@ module _ {F E : Type 0} (s : Scheme F) (ring : Ring E) (embed : F → E) where
       (first_of_table m (λ i. g (suc i)) j (omega arith) n (λ i k. h (suc i) (omega arith)))
 
   -- the checks of a table, by a property that each of them tests
-  pub none_by : (n : ℕ) (g : ℕ → Check F E) (P : ℕ → Type 0) → ((j : ℕ) → j < n → P j ↔ Holds s ring embed (g j).fact) → LeastWithout P n None
+  pub none_by : (n : ℕ) (g : ℕ → Check F E) (P : ℕ → Type 0) → ((j : ℕ) → j < n → P j ↔ Holds s ring embed (g j).fact) → FirstFailing n P None
       → NoneFails s ring embed (table n g)
   none_by n g P same h = none_of_table n g (λ j k. (same j k).0 (h j k))
 
-  pub first_by : (n : ℕ) (g : ℕ → Check F E) (P : ℕ → Type 0) (j : ℕ) → ((j : ℕ) → j < n → P j ↔ Holds s ring embed (g j).fact) → LeastWithout P n (Some j)
+  pub first_by : (n : ℕ) (g : ℕ → Check F E) (P : ℕ → Type 0) (j : ℕ) → ((j : ℕ) → j < n → P j ↔ Holds s ring embed (g j).fact) → FirstFailing n P (Some j)
       → FirstFails s ring embed (table n g) (g j).error
   first_by n g P j same h =
-      let lt : j < n = h.0 in
-      first_of_table n g j lt (λ t. h.1 ((same j lt).1 t)) (λ i k. let below : i < n = omega arith in (same i below).0 (h.2 i k))
+      let lt : j < n = h.within in
+      first_of_table n g j lt (λ t. h.fails ((same j lt).1 t)) (λ i k. let below : i < n = omega arith in (same i below).0 (h.earlier i k))
 
   module _ {A : Type 0} where
     none_from : (part : ℕ × A → List (Check F E)) (g : ℕ → ℕ) (xs : List A) → ((i : ℕ) (x : A) → slice_get xs i ≡ Some x → NoneFails s ring embed (part (g i, x)))

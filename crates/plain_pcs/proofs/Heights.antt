@@ -1,5 +1,5 @@
 -- Matrices of different heights, and a row of the highest.
-use Rattle.std.proofs.Common.{◌≡◌, ℕ, ◌*◌, ◌/◌, ◌+◌, ◌^◌, ◌<◌, ◌≤◌, [], ◌∷◌, ◌++◌, take, inl, inr, List, Some, length, map, get_or, refl, sym, ◌∙◌, ap, subst, arith, mul_comm, Vec}
+use Rattle.std.proofs.Common.{◌≡◌, ℕ, ◌*◌, ◌/◌, ◌+◌, ◌<◌, ◌≤◌, [], ◌∷◌, ◌++◌, take, inl, inr, List, Some, length, map, get_or, refl, sym, ◌∙◌, ap, subst, arith, mul_comm, Vec}
 use Rattle.std.specs.Prelude.{All, Bool, true, false, not, IsTrue, slice_get, option_map}
 use Rattle.std.specs.Cmp.{IsEquivalence}
 use Rattle.std.specs.Cmp.Lexicographic.{pointwise}
@@ -7,7 +7,7 @@ use Rattle.std.proofs.lemmas.Cmp.{lists_equiv}
 use Rattle.std.proofs.lemmas.Option.{slice_get-map, slice_get-get_or}
 use Rattle.std.specs.Int.{IsPowerOfTwo}
 use Rattle.std.proofs.lemmas.Bool.{cases_lt}
-use Rattle.std.proofs.lemmas.List.{length-map, take_more, take_all, map-append}
+use Rattle.std.proofs.lemmas.List.{length-map, take_more, map-append}
 use Rattle.std.proofs.lemmas.List.{get_or-map as read_map, get_or_default}
 use Rattle.std.proofs.lemmas.List.Elements.{All-map, All-contains}
 use Rattle.std.proofs.lemmas.Nat.{pow_pos}

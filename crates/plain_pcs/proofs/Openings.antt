@@ -1,6 +1,6 @@
 -- Opened values, list by list.
 use Rattle.std.proofs.Common.{◌≡◌, ℕ, zero, suc, ◌+◌, ◌^◌, ◌<◌, ◌≤◌, List, [], ◌∷◌, ◌++◌, length, get_or, map, take, refl, sym, ◌∙◌, ap, subst, arith}
-use Rattle.std.specs.Prelude.{zip, All, Vec}
+use Rattle.std.specs.Prelude.{zip, Vec}
 use Rattle.std.proofs.lemmas.List.{map_push, map_more, ext_get_or, length-map, get_or-map, take_all}
 use Rattle.std.proofs.lemmas.Option.{slice_get-get_or, slice_get_read}
 use Rattle.p3_commit.specs.Claims.{Request}

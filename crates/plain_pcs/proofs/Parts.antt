@@ -1,21 +1,24 @@
 -- The checks of the claims on a matrix and on a commitment, by what the search for the first fault finds.
-use Rattle.std.proofs.Common.{◌≡◌, ℕ, zero, suc, ◌+◌, ◌*◌, ◌%◌, ◌^◌, ◌<◌, ◌≤◌, ◌↔◌, inl, inr, List, [], ◌∷◌, ◌++◌, Option, Some, None, length, get_or, map, refl, sym, ◌∙◌, ap, subst, arith}
-use Rattle.std.specs.Prelude.{All, Bool, true, false, IsTrue, slice_get, flat_map, zip}
+use Rattle.std.proofs.Common.{◌≡◌, ℕ, zero, suc, ◌+◌, ◌^◌, ◌<◌, ◌≤◌, ◌↔◌, inl, inr, List, [], ◌∷◌, ◌++◌, Option, Some, None, length, get_or, map, sym, ◌∙◌, ap, subst, arith}
+use Rattle.std.specs.Prelude.{All, Bool, true, false, IsTrue, slice_get, flat_map, zip, option_map}
 use Rattle.std.proofs.lemmas.Bool.{cases_lt}
-use Rattle.std.proofs.lemmas.List.{get_or-map}
-use Rattle.std.proofs.lemmas.Option.{same_Some}
+use Rattle.std.proofs.lemmas.List.{length-map, get_or-map}
+use Rattle.std.proofs.lemmas.Option.{same_Some, slice_get-map, get_or_from_slice_get}
 use Rattle.p3_field.specs.Ring.{Ring, RingLaws}
 use Rattle.p3_field.specs.Field.{FieldLaws, TwoAdicLaws}
 use Rattle.p3_field.specs.Poly.{val, table, Apart, DegreeBelow}
-use Rattle.p3_field.specs.Domain.{CosetData, point, IsInterpolant}
+use Rattle.p3_field.specs.Domain.{CosetData, coset_point, point, IsInterpolant}
 use Rattle.p3_field.specs.Laws.Interpolants.{interpolant_unique, points_apart}
 use Rattle.p3_matrix.specs.Matrix.{Rows, height, column}
 use Rattle.p3_matrix.specs.Laws.Cells.{length-column}
+use Rattle.p3_commit.specs.Space.{EachOf}
 use Rattle.p3_commit.specs.Claims.{PointClaim, MatrixClaim, CommitmentClaim}
 use Rattle.plain_pcs.specs.Scheme.{Scheme, scheme, PlainCommitmentData}
 use Rattle.plain_pcs.specs.Extension.{extended_domain}
+use Rattle.plain_pcs.specs.Laws.Listed.{item_at}
 use Rattle.plain_pcs.specs.Checks.{Check, HasDimensions, Holds, NoneFails, FirstFails, same_count, dimensions, low_degree, has_value, numbered, point_checks, matrix_checks, round_checks}
-use Rattle.plain_pcs.specs.Faults.{FirstFault, LeastWithout, AreColumnPolynomials}
+use Rattle.plain_pcs.specs.Failing.{FirstFailing}
+use Rattle.plain_pcs.specs.Faults.{FirstFault, AreColumnPolynomials}
 use Rattle.plain_pcs.specs.declared.error.PlainError.{PlainError}
 use Rattle.plain_pcs.specs.declared.error.PlainError.TheVariants.{RoundShape, Dimensions, Degree, Value}
 use Rattle.plain_pcs.proofs.Finding.{none_by, first_by, first_here, first_later, first_stops, fault_after, fault_later}
@@ -45,30 +48,29 @@ zip_within (x ∷ xs) (y ∷ ys) (suc i) z q = let h = zip_within xs ys i z q in
 pub not_told : (told : Bool) (H : Type 0) → IsTrue told ↔ H → told ≡ false → H → ⊥
 not_told told H same e h = let t : told ≡ true = same.1 h in cc
 
--- the interpolants of the columns are their polynomials
+-- the interpolants of the columns, here in vectors, are their polynomials
 module _ {F : Type 0} (r : Ring F) (L : RingLaws r) (inv : F → F) (W : FieldLaws r inv) (top : ℕ) (root : ℕ → F) (T : TwoAdicLaws r top root) where
-  pub all_polynomials : (generator : F) (b k : ℕ) (m : Rows F) (fs : List (List F)) → (generator ≡ r.zero → ⊥) → k + b ≤ top → height m ≡ 2 ^ (k + b) → length fs ≡ m.width
-      → ((j : ℕ) → j < m.width → IsInterpolant r (point r root (record { shift = generator; log_size = k + b })) (column r.zero m j) (get_or fs j []))
-      → AreColumnPolynomials (scheme r inv root generator top (record { log_blowup = b })) m k fs
-  all_polynomials generator b k m fs nz fits rows count each =
+  pub polynomials_found : {V : Type 0} (items : V → List F) (generator : F) (b k : ℕ) (m : Rows F) (vs ws : List V) → (generator ≡ r.zero → ⊥) → k + b ≤ top → height m ≡ 2 ^ (k + b)
+      → ((n : ℕ) → height m ≡ 2 ^ n → EachOf m.width vs (λ j v. IsInterpolant r (coset_point r generator (root n)) (column r.zero m j) (items v))) → ws ≡ vs
+      → AreColumnPolynomials (scheme r inv root generator top (record { log_blowup = b })) m k (map items ws)
+  polynomials_found {V} items generator b k m vs ws nz fits rows found same =
       let d : CosetData F = record { shift = generator; log_size = k + b } in
       let p = point r root d in
+      let E = found (k + b) rows in
       let apart : Apart (2 ^ (k + b)) p = points_apart r L inv W top root T d fits nz in
       let P : ℕ → Type 0 = λ n. Apart n p in
-      record {
-        count = count;
+      let each : (j : ℕ) → j < m.width → IsInterpolant r p (column r.zero m j) (get_or (map items vs) j []) = λ j lt.
+      let (v, q) = item_at vs j (omega (arith, lt, E.count)) in
+      let here : get_or (map items vs) j [] ≡ items v = get_or_from_slice_get (map items vs) j (items v) [] (slice_get-map items vs j ∙ ap (option_map items) q) in
+      subst (λ (f : List F). IsInterpolant r p (column r.zero m j) f) (sym here) (E.each j v q) in
+      let all : AreColumnPolynomials (scheme r inv root generator top (record { log_blowup = b })) m k (map items vs) = record {
+        count = length-map vs items ∙ E.count;
         each = each;
         only = λ j f lt i.
             let v = column r.zero m j in
-            interpolant_unique r L inv W p v (get_or fs j []) f (subst P (sym (length-column r.zero m j ∙ rows)) apart) (each j lt) i;
-      }
-
--- the same polynomials by other words
-pub polynomials_at : {F V : Type 0} (items : V → List F) (s : Scheme F) (m : Rows F) (k n : ℕ) (vs ws : List V) → AreColumnPolynomials s m k (map items vs) → k ≡ n → ws ≡ vs
-    → AreColumnPolynomials s m n (map items ws)
-polynomials_at {F} {V} items s m k n vs ws A e f =
-    let P : List V → Type 0 = λ l. AreColumnPolynomials s m n (map items l) in
-    subst P (sym f) (subst (λ k. AreColumnPolynomials s m k (map items vs)) e A)
+            interpolant_unique r L inv W p v (get_or (map items vs) j []) f (subst P (sym (length-column r.zero m j ∙ rows)) apart) (each j lt) i;
+      } in
+      subst (λ (l : List V). AreColumnPolynomials (scheme r inv root generator top (record { log_blowup = b })) m k (map items l)) (sym same) all
 
 -- what holds of the polynomial at hand, holds of the column's
 pub by_polynomial : {F : Type 0} (s : Scheme F) (m : Rows F) (k : ℕ) (fs : List (List F)) (j : ℕ) (P : List F → Type 0) → AreColumnPolynomials s m k fs → j < m.width
@@ -85,14 +87,14 @@ module _ {F E : Type 0} (s : Scheme F) (ring : Ring E) (embed : F → E) (m : Ro
   low_same : (j : ℕ) → j < m.width → Low (2 ^ k) j ↔ Holds s ring embed (low_degree m k j)
   low_same j lt = by_polynomial s m k fs j (λ f. DegreeBelow s.field.ring (2 ^ k) f) A lt
 
-  low_here : (n bound : ℕ) (a : Option ℕ) → n ≡ length fs → bound ≡ 2 ^ k → LeastWithout (Low bound) n a → LeastWithout (Low (2 ^ k)) m.width a
-  low_here n bound a e f h = subst (λ b. LeastWithout (Low b) m.width a) f (subst (λ n. LeastWithout (Low bound) n a) (e ∙ A.count) h)
+  low_here : (n bound : ℕ) (a : Option ℕ) → n ≡ length fs → bound ≡ 2 ^ k → FirstFailing n (Low bound) a → FirstFailing m.width (Low (2 ^ k)) a
+  low_here n bound a e f h = subst (λ b. FirstFailing m.width (Low b) a) f (subst (λ n. FirstFailing n (Low bound) a) (e ∙ A.count) h)
 
-  pub no_high_degree : (round number n bound : ℕ) → n ≡ length fs → bound ≡ 2 ^ k → LeastWithout (λ j. DegreeBelow s.field.ring bound (get_or fs j [])) n None
+  pub no_high_degree : (round number n bound : ℕ) → n ≡ length fs → bound ≡ 2 ^ k → FirstFailing n (λ j. DegreeBelow s.field.ring bound (get_or fs j [])) None
       → NoneFails s ring embed (table m.width (λ j. record { error = Degree round number j; fact = low_degree m k j }))
   no_high_degree round number n bound e f h = none_by s ring embed m.width (degree_check round number) (Low (2 ^ k)) low_same (low_here n bound None e f h)
 
-  pub high_degree : (round number n bound j : ℕ) → n ≡ length fs → bound ≡ 2 ^ k → LeastWithout (λ j. DegreeBelow s.field.ring bound (get_or fs j [])) n (Some j)
+  pub high_degree : (round number n bound j : ℕ) → n ≡ length fs → bound ≡ 2 ^ k → FirstFailing n (λ j. DegreeBelow s.field.ring bound (get_or fs j [])) (Some j)
       → FirstFails s ring embed (table m.width (λ j. record { error = Degree round number j; fact = low_degree m k j })) (Degree round number j)
   high_degree round number n bound j e f h = first_by s ring embed m.width (degree_check round number) (Low (2 ^ k)) j low_same (low_here n bound (Some j) e f h)
 
@@ -107,18 +109,18 @@ module _ {F E : Type 0} (s : Scheme F) (ring : Ring E) (embed : F → E) (m : Ro
     value_same j lt = by_polynomial s m k fs j (λ f. val ring (map embed f) p.point ≡ get_or p.values j ring.zero) A lt
 
     value_here : (n : ℕ) (x : E) (ys : List E) (a : Option ℕ) → n ≡ length fs → x ≡ p.point → ys ≡ p.values
-        → LeastWithout (λ j. val ring (map embed (get_or fs j [])) x ≡ get_or ys j ring.zero) n a → LeastWithout (Claimed p.values) m.width a
+        → FirstFailing n (λ j. val ring (map embed (get_or fs j [])) x ≡ get_or ys j ring.zero) a → FirstFailing m.width (Claimed p.values) a
     value_here n x ys a e d f h =
-        subst (λ l. LeastWithout (Claimed l) m.width a) f
-        (subst (λ v. LeastWithout (λ j. val ring (map embed (get_or fs j [])) v ≡ get_or ys j ring.zero) m.width a) d
-        (subst (λ n. LeastWithout (λ j. val ring (map embed (get_or fs j [])) x ≡ get_or ys j ring.zero) n a) (e ∙ A.count) h))
+        subst (λ l. FirstFailing m.width (Claimed l) a) f
+        (subst (λ v. FirstFailing m.width (λ j. val ring (map embed (get_or fs j [])) v ≡ get_or ys j ring.zero) a) d
+        (subst (λ n. FirstFailing n (λ j. val ring (map embed (get_or fs j [])) x ≡ get_or ys j ring.zero) a) (e ∙ A.count) h))
 
     pub no_wrong_value : (n : ℕ) (x : E) (ys : List E) → n ≡ length fs → x ≡ p.point → ys ≡ p.values
-        → LeastWithout (λ j. val ring (map embed (get_or fs j [])) x ≡ get_or ys j ring.zero) n None → NoneFails s ring embed (point_checks ring.zero round number m k (at, p))
+        → FirstFailing n (λ j. val ring (map embed (get_or fs j [])) x ≡ get_or ys j ring.zero) None → NoneFails s ring embed (point_checks ring.zero round number m k (at, p))
     no_wrong_value n x ys e d f h = none_by s ring embed m.width value_check (Claimed p.values) value_same (value_here n x ys None e d f h)
 
     pub wrong_value : (n : ℕ) (x : E) (ys : List E) (j : ℕ) → n ≡ length fs → x ≡ p.point → ys ≡ p.values
-        → LeastWithout (λ j. val ring (map embed (get_or fs j [])) x ≡ get_or ys j ring.zero) n (Some j)
+        → FirstFailing n (λ j. val ring (map embed (get_or fs j [])) x ≡ get_or ys j ring.zero) (Some j)
         → FirstFails s ring embed (point_checks ring.zero round number m k (at, p)) (Value round number at j)
     wrong_value n x ys j e d f h = first_by s ring embed m.width value_check (Claimed p.values) j value_same (value_here n x ys (Some j) e d f h)
 

@@ -1,12 +1,12 @@
 -- Tables of periodic columns by a transform of the columns over all rows.
-use Rattle.std.proofs.Common.{◌≡◌, ℕ, zero, suc, ◌*◌, ◌/◌, ◌%◌, ◌^◌, ◌<◌, ◌≤◌, List, [], ◌∷◌, Some, length, get_or, map, subst, sym, ◌∙◌, ap, arith}
+use Rattle.std.proofs.Common.{◌≡◌, ℕ, zero, suc, ◌*◌, ◌/◌, ◌%◌, ◌^◌, ◌<◌, ◌≤◌, List, [], ◌∷◌, Some, length, get_or, map, sym, ◌∙◌, ap, arith}
 use Rattle.std.specs.Prelude.{slice_get}
 use Rattle.std.specs.List.{All}
 use Rattle.std.proofs.Math.Nat.{mod-eq_of_lt}
 use Rattle.std.proofs.lemmas.Nat.{pow_pos}
 use Rattle.std.proofs.lemmas.Nat.Gcd.{mod-eq-zero_of_dvd}
 use Rattle.std.proofs.lemmas.List.{ext_get_or, map-id, length-map}
-use Rattle.std.proofs.lemmas.Option.{slice_get_within, get_or_from_slice_get}
+use Rattle.std.proofs.lemmas.Option.{slice_get_within}
 use Rattle.p3_field.specs.Ring.{Ring, RingLaws}
 use Rattle.p3_field.specs.Field.{FieldLaws, TwoAdicLaws}
 use Rattle.p3_field.specs.Poly.{val, Apart}
@@ -17,7 +17,7 @@ use Rattle.p3_matrix.specs.Matrix.{Rows, height, cell_at, column}
 use Rattle.p3_matrix.specs.Laws.Cells.{length-column, get_or-column}
 use Rattle.p3_matrix.specs.Laws.Grids.{IsGrid, product_height}
 use Rattle.p3_dft.specs.Transform.{values_at}
-use Rattle.p3_dft.specs.Laws.Values.{length-values_at, get_or-values_at}
+use Rattle.p3_dft.specs.Laws.Values.{get_or-values_at}
 use Rattle.p3_commit.specs.Periodic.{IsPeriod, over_rows, IsPeriodicAt, IsPeriodicTable}
 use Rattle.p3_commit.specs.Laws.Repeated.{length_over_rows, get_or_over_rows}
 use Rattle.plain_pcs.specs.Transfer.{IsTransfer, IsRepeated}

@@ -1,5 +1,5 @@
 -- What a verifier's search for the first fault finds, part by part.
-use Rattle.std.specs.Prelude.{◌≡◌, ℕ, ◌<◌, List, [], Option, None, Some, MatchOption, length, get_or}
+use Rattle.std.specs.Prelude.{◌≡◌, ℕ, ◌<◌, List, [], Option, MatchOption, length, get_or}
 use Rattle.p3_field.specs.Ring.{Ring}
 use Rattle.p3_field.specs.Domain.{point, IsInterpolant}
 use Rattle.p3_matrix.specs.Matrix.{Rows, column}
@@ -11,11 +11,6 @@ use Rattle.plain_pcs.specs.declared.error.PlainError.{PlainError}
 -- no check fails, or this is the error of the first that does
 abbrev pub FirstFault : {F E : Type 0} → Scheme F → Ring E → (F → E) → List (Check F E) → Option PlainError → Type 0
 FirstFault s ring embed checks fault = MatchOption fault (NoneFails s ring embed checks) (FirstFails s ring embed checks)
-
--- the least number below n that lacks the property, or None where all of them have it
-abbrev pub LeastWithout : (ℕ → Type 0) → ℕ → Option ℕ → Type 0
-LeastWithout P n None = (j : ℕ) → j < n → P j
-LeastWithout P n (Some j) = (j < n) × (P j → ⊥) × ((i : ℕ) → i < j → P i)
 
 -- Of each column of a matrix that extends columns on a domain of size 2^k, the polynomial in fs is the interpolant, and no
 -- other is.

@@ -4,6 +4,7 @@ pub mod Checks
 pub mod Shifted
 pub mod Evaluations
 pub mod Extensions
+pub mod Quotients
 pub mod Listed
 pub mod Short
 pub mod Held

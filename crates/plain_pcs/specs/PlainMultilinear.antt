@@ -1,8 +1,9 @@
 -- Openings of a multilinear polynomial whose values are themselves the commitment.
-use Rattle.std.specs.Prelude.{◌≡◌, ℕ, ◌^◌, ◌<◌, List, [], length, map, All}
+use Rattle.std.specs.Prelude.{◌≡◌, ℕ, ◌^◌, List, [], length, map, All}
 use Rattle.std.specs.Prelude.{slice_index_or as get_or}
 use Rattle.std.specs.List.{fold}
 use Rattle.p3_field.specs.Ring.{Ring, of_nat}
+use Rattle.plain_pcs.specs.Failing.{IsFirstFailing}
 use Rattle.plain_pcs.specs.Multilinear.{multilinear_value}
 use Rattle.plain_pcs.specs.declared.plain_multilinear.PlainMultilinearError.{PlainMultilinearError}
 use Rattle.plain_pcs.specs.declared.plain_multilinear.PlainMultilinearError.TheVariants.{Length, PointLength, Count, Value}
@@ -12,12 +13,6 @@ use Rattle.plain_pcs.specs.declared.plain_multilinear.PlainMultilinearProverErro
 -- the state of a challenger that has taken in the number of values, and then each value
 abbrev pub after_values : {F C : Type 0} → Ring F → (C → F → C) → List F → C → C
 after_values r observe vs c = fold observe (observe c (of_nat r (length vs))) vs
-
--- i is the first of the places below n for which P fails
-pub record IsFirstFailing (n : ℕ) (P : ℕ → Type 0) (i : ℕ) : Type 0 where
-  pub within : i < n
-  pub fails : P i → ⊥
-  pub earlier : (j : ℕ) → j < i → P j
 
 -- there is a value for each place of m bits
 abbrev pub HasValues : {F : Type 0} → ℕ → List F → Type 0

@@ -1,8 +1,10 @@
 -- When the plain scheme refuses to commit, to extend or to open.
-use Rattle.std.specs.Prelude.{◌≡◌, ℕ, ◌^◌, ◌<◌, ◌≤◌, List, Some, length, slice_get}
+use Rattle.std.specs.Prelude.{◌≡◌, ℕ, ◌+◌, ◌*◌, ◌^◌, ◌<◌, ◌≤◌, List, Some, Result, Ok, Err, ⊤, length, slice_get}
 use Rattle.p3_field.specs.Domain.{CosetData}
 use Rattle.p3_matrix.specs.Matrix.{Rows, height}
 use Rattle.p3_commit.specs.Claims.{Request}
+use Rattle.p3_commit.specs.declared.failure.PcsFailure.{PcsFailure}
+use Rattle.p3_commit.specs.declared.failure.PcsFailure.TheVariants.{OutOfMemory, Refused}
 use Rattle.plain_pcs.specs.Scheme.{Scheme}
 use Rattle.plain_pcs.specs.Extension.{IsCommittable}
 use Rattle.plain_pcs.specs.declared.error.PlainProverError.{PlainProverError}
@@ -29,7 +31,20 @@ abbrev pub ExtensionsFault : {F : Type 0} → Scheme F → List (Rows F) → Pla
 ExtensionsFault s extensions (Commit i) = IsFirstWithout (HasSubgroupHeight s.most) extensions i
 ExtensionsFault s extensions (Open i) = ⊥
 
+-- Committing to a quotient on the domain d, in n parts of one size, is refused for the first part, where a part's extension
+-- would have more rows than the largest subgroup has elements: those of all parts together, 2^log_blowup times as many as d
+-- has points, are more than n times 2^most. Since there is a value for each point, no part lacks columns or rows.
+abbrev pub QuotientFault : {F : Type 0} → Scheme F → CosetData F → ℕ → PlainProverError → Type 0
+QuotientFault s d n (Commit i) = (i ≡ 0) × (2 ^ s.most * n < 2 ^ (d.log_size + s.log_blowup))
+QuotientFault s d n (Open i) = ⊥
+
 -- opening is refused for the first request whose lists of points aren't one per matrix
 abbrev pub OpenFault : {F E : Type 0} → List (Request (List (CosetData F × Rows F)) E) → PlainProverError → Type 0
 OpenFault requests (Commit i) = ⊥
 OpenFault requests (Open i) = IsFirstWithout (λ r. length r.points ≡ length r.prover_data) requests i
+
+-- What holds where memory is wanting. A call that looks for causes to refuse before it takes any memory then has none.
+abbrev pub IfWanting : {T E : Type 0} → Result T (PcsFailure E) → Type 0 → Type 0
+IfWanting (Ok w) p = ⊤
+IfWanting (Err OutOfMemory) p = p
+IfWanting (Err (Refused e)) p = ⊤

@@ -4,13 +4,13 @@ ghost use Rattle.p3_field.specs.Domain.{CosetData, coset_point, point, IsInterpo
 ghost use Rattle.p3_matrix.specs.Matrix.{Rows, height, column};
 ghost use Rattle.p3_commit.specs.Space.{EachOf};
 ghost use Rattle.p3_commit.specs.Periodic.{EachFrom};
-ghost use Rattle.p3_commit.specs.Failure.{RefusedBy};
+ghost use Rattle.p3_commit.specs.Failure.{NoneOf, RefusedBy};
 ghost use Rattle.p3_commit.specs.Commitments.{IsCommitment, AreExtensions};
 ghost use Rattle.plain_pcs.specs.Scheme.{scheme};
 ghost use Rattle.plain_pcs.specs.Extension.{Extends, commitment_of};
 ghost use Rattle.plain_pcs.specs.Holding.{IsMade, AreHolding};
 ghost use Rattle.plain_pcs.specs.Cosets.{IsOnCoset};
-ghost use Rattle.plain_pcs.specs.Refusals.{IsFirstWithout, CommitFault, ExtensionsFault, HasSubgroupHeight};
+ghost use Rattle.plain_pcs.specs.Refusals.{IsFirstWithout, CommitFault, ExtensionsFault, HasSubgroupHeight, IfWanting};
 
 use crate::commitment::{PlainCommitment, PlainProverData, copied_matrices};
 use crate::error::PlainProverError;
@@ -32,6 +32,7 @@ pub(crate) fn commit<F: TwoAdicField, D: TwoAdicSubgroupDft<F>>(
 ) -> Result<(PlainCommitment<F>, PlainProverData<F>), PcsFailure<PlainProverError>>
     requires { log_blowup ≤ F.TWO_ADICITY }
     ensures refusal { RefusedBy (CommitFault (scheme F.ring F.inv F.root F.GENERATOR F.TWO_ADICITY (record { log_blowup = log_blowup })) evaluations.items) result }
+    ensures searched { IfWanting result (NoneOf (CommitFault (scheme F.ring F.inv F.root F.GENERATOR F.TWO_ADICITY (record { log_blowup = log_blowup })) evaluations.items)) }
     ensures committed { IfOk result (IsCommitment F.ring (λ (d : CosetData F). 2 ^ d.log_size) (λ (d : CosetData F). point F.ring F.root d)
         (λ es c. c ≡ commitment_of (scheme F.ring F.inv F.root F.GENERATOR F.TWO_ADICITY (record { log_blowup = log_blowup })) es)
         IsMade (AreHolding (scheme F.ring F.inv F.root F.GENERATOR F.TWO_ADICITY (record { log_blowup = log_blowup }))) evaluations.items) }
@@ -58,6 +59,7 @@ pub(crate) fn extensions<F: TwoAdicField, D: TwoAdicSubgroupDft<F>>(
 ) -> Result<Vec<RowMajorMatrix<F>>, PcsFailure<PlainProverError>>
     requires { log_blowup ≤ F.TWO_ADICITY }
     ensures refusal { RefusedBy (CommitFault (scheme F.ring F.inv F.root F.GENERATOR F.TWO_ADICITY (record { log_blowup = log_blowup })) evaluations.items) result }
+    ensures searched { IfWanting result (NoneOf (CommitFault (scheme F.ring F.inv F.root F.GENERATOR F.TWO_ADICITY (record { log_blowup = log_blowup })) evaluations.items)) }
     ensures extensions { IfOk result (λ v. AreExtensions (Extends (scheme F.ring F.inv F.root F.GENERATOR F.TWO_ADICITY (record { log_blowup = log_blowup }))) evaluations.items v.items) }
 {
     if let Some(matrix) = first_not_committable(log_blowup, &evaluations) {
@@ -123,6 +125,7 @@ pub(crate) fn commit_extensions<F: TwoAdicField>(
 ) -> Result<(PlainCommitment<F>, PlainProverData<F>), PcsFailure<PlainProverError>>
     requires { log_blowup ≤ F.TWO_ADICITY }
     ensures refusal { RefusedBy (ExtensionsFault (scheme F.ring F.inv F.root F.GENERATOR F.TWO_ADICITY (record { log_blowup = log_blowup })) ldes.items) result }
+    ensures searched { IfWanting result (NoneOf (ExtensionsFault (scheme F.ring F.inv F.root F.GENERATOR F.TWO_ADICITY (record { log_blowup = log_blowup })) ldes.items)) }
     ensures commitment { IfOk result (λ w. w.0 ≡ record { matrices = ldes.items }) }
     ensures made { IfOk result (λ w. IsMade w.1) }
     ensures count { IfOk result (λ w. length w.1 ≡ length ldes.items) }
@@ -140,7 +143,7 @@ pub(crate) fn commit_extensions<F: TwoAdicField>(
     Ok((PlainCommitment { matrices }, PlainProverData { evaluated }))
 }
 
-// The interpolants of a matrix's columns on the coset of its height.
+/// The interpolants of a matrix's columns on the coset of its height, each found once.
 pub(crate) fn column_polynomials<F: TwoAdicField>(
     alloc: Global,
     matrix: &RowMajorMatrix<F>,

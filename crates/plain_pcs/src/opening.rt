@@ -2,13 +2,13 @@
 ghost use Rattle.std.specs.Prelude.{◌≡◌, ℕ, ◌^◌, ◌<◌, ◌≤◌, List, All, length, map, IfOk, MatchOption};
 ghost use Rattle.p3_field.specs.Domain.{CosetData};
 ghost use Rattle.p3_matrix.specs.Matrix.{Rows, height};
-ghost use Rattle.p3_commit.specs.Failure.{RefusedBy};
+ghost use Rattle.p3_commit.specs.Failure.{NoneOf, RefusedBy};
 ghost use Rattle.p3_commit.specs.Commitments.{Committed, Held, AreHeld, IsOpening, nested, opened, values_of};
 ghost use Rattle.p3_commit.specs.Periodic.{EachFrom};
 ghost use Rattle.plain_pcs.specs.Scheme.{PlainCommitmentData, scheme};
 ghost use Rattle.plain_pcs.specs.Checks.{Opens};
 ghost use Rattle.plain_pcs.specs.Holding.{IsMade, AreHolding};
-ghost use Rattle.plain_pcs.specs.Refusals.{IsFirstWithout, OpenFault};
+ghost use Rattle.plain_pcs.specs.Refusals.{IsFirstWithout, OpenFault, IfWanting};
 ghost use Rattle.plain_pcs.specs.Opening.{HaveValues, EachHasValues, opened_each};
 
 use crate::commitment::PlainProverData;
@@ -32,6 +32,7 @@ pub(crate) fn open<F: TwoAdicField, E: ExtensionField<F>>(
 ) -> Result<OpenedValues<E>, PcsFailure<PlainProverError>>
     requires made { All (λ r. IsMade r.prover_data) requests.now }
     ensures refusal { RefusedBy (OpenFault requests.now) result }
+    ensures searched { IfWanting result (NoneOf (OpenFault requests.now)) }
     ensures opening { IfOk result (λ w. (held : List (Held (PlainCommitmentData F) F)) → AreHeld (AreHolding (scheme F.ring F.inv F.root F.GENERATOR F.TWO_ADICITY (record { log_blowup = log_blowup }))) requests.now held
         → IsOpening E.ring E.embed (λ (d : CosetData F). 2 ^ d.log_size) (λ (x : E). ⊥) (Opens (scheme F.ring F.inv F.root F.GENERATOR F.TWO_ADICITY (record { log_blowup = log_blowup })) E.ring E.embed) requests.now (nested w) held) }
 {

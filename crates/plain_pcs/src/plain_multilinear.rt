@@ -1,8 +1,9 @@
 //! A multilinear polynomial whose values are their own commitment.
-ghost use Rattle.std.specs.Prelude.{◌≡◌, ℕ, ◌^◌, ◌<◌, List, length, map, IfOk, MatchOption};
+ghost use Rattle.std.specs.Prelude.{◌≡◌, ℕ, ◌^◌, ◌<◌, List, length, map, IfOk, IfErr, MatchOption};
 ghost use Rattle.p3_commit.specs.Batches.{lists};
 ghost use Rattle.p3_commit.specs.Failure.{RefusedBy, IfRefused, VerifiedBy};
-ghost use Rattle.plain_pcs.specs.PlainMultilinear.{after_values, HasValues, AreValuesAt, IsClaimFault, IsCommitFault, IsOpenFault};
+ghost use Rattle.plain_pcs.specs.PlainMultilinear.{after_values, HasValues, HaveCoordinates, AreValuesAt, IsClaimFault, IsCommitFault, IsOpenFault};
+ghost use Rattle.plain_pcs.specs.Refusals.{IfWanting};
 ghost use Rattle.plain_pcs.specs.Laws.Claims.{claims_faultless, one_claim_fault};
 
 use crate::evaluations::{first_different, first_unfit, observe_values, values_at};
@@ -128,15 +129,21 @@ impl<F: Field, EF: ExtensionField<F>, C: CanObserve<F>> MultilinearPcs<EF, C>
         self.num_vars
     }
 
+    /// The values are copied once, for the commitment. The challenger takes in how many they are, and then each; it stays as
+    /// it was where nothing is committed to, also for want of memory. `Length` comes exactly for another number of values.
     fn commit(
         &self,
         alloc: Global,
         witness: Vec<F>,
         challenger: &mut C,
-    ) -> Result<
-        (PlainEvaluations<F>, PlainEvaluations<F>),
-        PcsFailure<PlainMultilinearProverError>,
-    > {
+    ) -> Result<(PlainEvaluations<F>, PlainEvaluations<F>), PcsFailure<PlainMultilinearProverError>>
+        ensures refusal { RefusedBy (IsCommitFault self.now witness.items) result }
+        ensures searched { IfWanting result (HasValues self.now witness.items) }
+        ensures unchanged { IfRefused result (λ _. challenger.new ≡ challenger.old) }
+        ensures unchanged_by_failure { IfErr result (λ _. challenger.new ≡ challenger.old) }
+        ensures observed { IfOk result (λ w. challenger.new ≡ after_values F.ring C.observed w.0.values.items challenger.old) }
+        ensures held { IfOk result (λ w. HasValues self.now witness.items × (w.1.values.items ≡ witness.items) × (w.0.values.items ≡ witness.items)) }
+    {
         if witness.len() != 1 << self.num_vars {
             return Err(PcsFailure::Refused(PlainMultilinearProverError::Length));
         }
@@ -161,6 +168,7 @@ impl<F: Field, EF: ExtensionField<F>, C: CanObserve<F>> MultilinearPcs<EF, C>
         _challenger: &mut C,
     ) -> Result<Vec<EF>, PcsFailure<PlainMultilinearProverError>>
         ensures refusal { RefusedBy (IsOpenFault self.now prover_data.values.items (lists protocol.now.items)) result }
+        ensures searched { IfWanting result (HasValues self.now prover_data.values.items × HaveCoordinates self.now (lists protocol.now.items)) }
         ensures unchanged { IfRefused result (λ _. _challenger.new ≡ _challenger.old) }
         ensures challenger { _challenger.new ≡ _challenger.old }
         ensures accepted { IfOk result (λ p. (c : PlainEvaluations F) (w : Vec F Global) → HasValues self.now w.items × (prover_data.values.items ≡ w.items) × (c.values.items ≡ w.items)
@@ -186,6 +194,7 @@ impl<F: Field, EF: ExtensionField<F>, C: CanObserve<F>> MultilinearPcs<EF, C>
     ) -> Result<(), PcsFailure<PlainMultilinearError>>
         ensures verdict { VerifiedBy (AreValuesAt EF.ring EF.embed self.now commitment.now.values.items (lists protocol.now.items) proof.now.items)
             (IsClaimFault EF.ring EF.embed self.now commitment.now.values.items (lists protocol.now.items) proof.now.items) result }
+        ensures searched { IfWanting result (HasValues self.now commitment.now.values.items × HaveCoordinates self.now (lists protocol.now.items) × (length proof.now.items ≡ length protocol.now.items)) }
         ensures challenger { _challenger.new ≡ _challenger.old }
     {
         if commitment.values.len() != 1 << self.num_vars {

@@ -11,8 +11,9 @@ ghost use Rattle.plain_pcs.specs.Scheme.{Blowup, scheme, PlainCommitmentData};
 ghost use Rattle.plain_pcs.specs.Extension.{commitment_of, Extends};
 ghost use Rattle.plain_pcs.specs.Checks.{Opens, Fault};
 ghost use Rattle.plain_pcs.specs.Holding.{IsMade, AreHolding};
-ghost use Rattle.plain_pcs.specs.Refusals.{CommitFault, HasSubgroupHeight, ExtensionsFault, OpenFault};
+ghost use Rattle.plain_pcs.specs.Refusals.{CommitFault, HasSubgroupHeight, ExtensionsFault, QuotientFault, OpenFault, IfWanting};
 ghost use Rattle.plain_pcs.specs.Laws.Scheme.{held_count, none_below_zero, not_hidden, difference_fits};
+ghost use Rattle.plain_pcs.specs.Laws.Quotients.{refused_by_parts, granted_by_parts};
 ghost use Rattle.plain_pcs.specs.Laws.Checks.{opens_faultless as faultless_where_opens, one_fault as first_fault_is_one};
 
 use crate::commitment::{PlainCommitment, PlainProof, PlainProverData};
@@ -147,6 +148,7 @@ impl<F: TwoAdicField, D: TwoAdicSubgroupDft<F>, E: ExtensionField<F>, C> Pcs<E, 
         evaluations: Vec<(TwoAdicMultiplicativeCoset<F>, RowMajorMatrix<F>)>,
     ) -> Result<(PlainCommitment<F>, PlainProverData<F>), PcsFailure<PlainProverError>>
         ensures refusal { RefusedBy (CommitFault (scheme F.ring F.inv F.root F.GENERATOR F.TWO_ADICITY self.now) evaluations.items) result }
+        ensures searched { IfWanting result (NoneOf (CommitFault (scheme F.ring F.inv F.root F.GENERATOR F.TWO_ADICITY self.now) evaluations.items)) }
         ensures committed { IfOk result (IsCommitment F.ring (λ (d : CosetData F). 2 ^ d.log_size) (λ (d : CosetData F). point F.ring F.root d) (λ es c. c ≡ commitment_of (scheme F.ring F.inv F.root F.GENERATOR F.TWO_ADICITY self.now) es) IsMade (AreHolding (scheme F.ring F.inv F.root F.GENERATOR F.TWO_ADICITY self.now)) evaluations.items) }
     {
         commit(alloc, &self.dft, self.log_blowup, evaluations)
@@ -162,6 +164,7 @@ impl<F: TwoAdicField, D: TwoAdicSubgroupDft<F>, E: ExtensionField<F>, C> Pcs<E, 
     ) -> Result<(OpenedValues<E>, PlainProof), PcsFailure<PlainProverError>>
         requires { All (λ r. IsMade r.prover_data) requests.items }
         ensures refusal { RefusedBy (OpenFault requests.entry.items) result }
+        ensures searched { IfWanting result (NoneOf (OpenFault requests.entry.items)) }
         ensures unchanged { IfRefused result (λ _. challenger.new ≡ challenger.old) }
         ensures challenger { challenger.new ≡ challenger.old }
         ensures opening { IfOk result (λ w. (held : List (Held (PlainCommitmentData F) F)) → AreHeld (AreHolding (scheme F.ring F.inv F.root F.GENERATOR F.TWO_ADICITY self.now)) requests.entry.items held
@@ -218,6 +221,8 @@ impl<F: TwoAdicField, D: TwoAdicSubgroupDft<F>, E: ExtensionField<F>, C> Univari
 
     ghost ldes_fault = { λ s ls e. ExtensionsFault (scheme F.ring F.inv F.root F.GENERATOR F.TWO_ADICITY s) ls e };
 
+    ghost quotient_fault = { λ s d m n e. QuotientFault (scheme F.ring F.inv F.root F.GENERATOR F.TWO_ADICITY s) d n e };
+
     /// The field's two-adicity less `log_blowup`.
     fn log_max_trace_height(&self) -> usize {
         F::TWO_ADICITY - self.log_blowup
@@ -238,6 +243,7 @@ impl<F: TwoAdicField, D: TwoAdicSubgroupDft<F>, E: ExtensionField<F>, C> Univari
         num_chunks: usize,
     ) -> Result<Vec<RowMajorMatrix<F>>, PcsFailure<PlainProverError>>
         ensures refusal { RefusedBy (CommitFault (scheme F.ring F.inv F.root F.GENERATOR F.TWO_ADICITY self.now) evaluations.items) result }
+        ensures searched { IfWanting result (NoneOf (CommitFault (scheme F.ring F.inv F.root F.GENERATOR F.TWO_ADICITY self.now) evaluations.items)) }
         ensures extensions { IfOk result (λ v. AreExtensions (Extends (scheme F.ring F.inv F.root F.GENERATOR F.TWO_ADICITY self.now)) evaluations.items v.items) }
     {
         extensions(alloc, &self.dft, self.log_blowup, evaluations)
@@ -251,6 +257,7 @@ impl<F: TwoAdicField, D: TwoAdicSubgroupDft<F>, E: ExtensionField<F>, C> Univari
         ldes: Vec<RowMajorMatrix<F>>,
     ) -> Result<(PlainCommitment<F>, PlainProverData<F>), PcsFailure<PlainProverError>>
         ensures refusal { RefusedBy (ExtensionsFault (scheme F.ring F.inv F.root F.GENERATOR F.TWO_ADICITY self.now) ldes.items) result }
+        ensures searched { IfWanting result (NoneOf (ExtensionsFault (scheme F.ring F.inv F.root F.GENERATOR F.TWO_ADICITY self.now) ldes.items)) }
         ensures commitment { IfOk result (λ w. w.0 ≡ record { matrices = ldes.items }) }
         ensures made { IfOk result (λ w. IsMade w.1) }
         ensures count { IfOk result (λ w. length w.1 ≡ length ldes.items) }
@@ -299,6 +306,10 @@ impl<F: TwoAdicField, D: TwoAdicSubgroupDft<F>, E: ExtensionField<F>, C> Univari
     ghost heights_masked = { λ s h. not_hidden h };
 
     ghost heights_fit = { λ s. difference_fits F.TWO_ADICITY s.log_blowup };
+
+    ghost quotient_refused = { λ s d m n parts e power fits rows are fault. refused_by_parts (scheme F.ring F.inv F.root F.GENERATOR F.TWO_ADICITY s) d m n parts power rows are F.ring_laws F.field_laws F.root_laws e fault };
+
+    ghost quotient_granted = { λ s d m n parts power fits rows are none. granted_by_parts (scheme F.ring F.inv F.root F.GENERATOR F.TWO_ADICITY s) d m n parts power rows are none };
 
     ghost one_commitment = { λ s es c z h. h };
 }

@@ -4,12 +4,14 @@ ghost use Rattle.p3_field.specs.Poly.{val, DegreeBelow};
 ghost use Rattle.p3_matrix.specs.Matrix.{Rows, height};
 ghost use Rattle.plain_pcs.specs.Scheme.{Scheme, scheme};
 ghost use Rattle.plain_pcs.specs.Checks.{HasDimensions, numbered, point_checks, matrix_checks, round_checks, Opens, Fault};
-ghost use Rattle.plain_pcs.specs.Faults.{FirstFault, LeastWithout, AreColumnPolynomials};
+ghost use Rattle.plain_pcs.specs.Failing.{FirstFailing};
+ghost use Rattle.plain_pcs.specs.Faults.{FirstFault, AreColumnPolynomials};
 
 use crate::commitment::PlainCommitment;
+use crate::committing::column_polynomials;
 use crate::error::PlainError;
 use p3_commit::{CommitmentOpening, MatrixOpening, PointOpening};
-use p3_dft::{interpolant_on_coset, polynomial_value};
+use p3_dft::polynomial_value;
 use p3_field::{
     ExtensionField, Field, FieldCore, Mem, TwoAdicCore, TwoAdicField, TwoAdicMultiplicativeCoset,
 };
@@ -32,7 +34,7 @@ fn has_degree_below<F: Field>(polynomial: &[F], bound: usize) -> bool
 
 /// The first polynomial of too high a degree, or None.
 fn first_high_degree<F: Field>(polynomials: &[Vec<F>], bound: usize) -> Option<usize>
-    ensures { LeastWithout (λ j. DegreeBelow F.ring bound (get_or (map (λ f. f.items) polynomials.now) j [])) (length polynomials.now) result }
+    ensures { FirstFailing (length polynomials.now) (λ j. DegreeBelow F.ring bound (get_or (map (λ f. f.items) polynomials.now) j [])) result }
 {
     for (j, polynomial) in polynomials.iter().enumerate() {
         if !has_degree_below(polynomial, bound) {
@@ -49,7 +51,7 @@ fn first_wrong_value<F: TwoAdicField, E: ExtensionField<F>>(
     claimed: &[E],
 ) -> Option<usize>
     requires { length claimed.now ≡ length polynomials.now }
-    ensures { LeastWithout (λ j. val E.ring (map E.embed (get_or (map (λ f. f.items) polynomials.now) j [])) point ≡ get_or claimed.now j E.ring.zero) (length polynomials.now) result }
+    ensures { FirstFailing (length polynomials.now) (λ j. val E.ring (map E.embed (get_or (map (λ f. f.items) polynomials.now) j [])) point ≡ get_or claimed.now j E.ring.zero) result }
 {
     for (j, polynomial) in polynomials.iter().enumerate() {
         if polynomial_value(polynomial, point) != claimed[j] {
@@ -57,26 +59,6 @@ fn first_wrong_value<F: TwoAdicField, E: ExtensionField<F>>(
         }
     }
     None
-}
-
-/// The polynomials of a matrix's columns, each interpolated once.
-fn column_polynomials<F: TwoAdicField>(
-    alloc: Global,
-    log_blowup: usize,
-    log_size: usize,
-    matrix: &RowMajorMatrix<F>,
-) -> Mem<Vec<Vec<F>>>
-    requires fits { log_size + log_blowup ≤ F.TWO_ADICITY }
-    requires rows { height matrix.now ≡ 2 ^ (log_size + log_blowup) }
-    ensures { IfOk result (λ v. AreColumnPolynomials (scheme F.ring F.inv F.root F.GENERATOR F.TWO_ADICITY (record { log_blowup = log_blowup })) matrix.now log_size (map (λ f. f.items) v.items)) }
-{
-    let log_height = log_size + log_blowup;
-    let mut polynomials = Vec::with_capacity(alloc, matrix.width())?;
-    for j in 0..matrix.width() {
-        let column = matrix.column(alloc, j)?;
-        polynomials.push(interpolant_on_coset(alloc, &column, F::GENERATOR, log_height)?)?;
-    }
-    Ok(polynomials)
 }
 
 /// Whether each point's claimed values are as many as this.
@@ -153,7 +135,7 @@ fn matrix_fault<F: TwoAdicField, E: ExtensionField<F>>(
             matrix: number,
         }));
     }
-    let polynomials = column_polynomials(alloc, log_blowup, claim.domain.log_size(), matrix)?;
+    let polynomials = column_polynomials(alloc, matrix)?;
     if let Some(column) = first_high_degree(&polynomials, claim.domain.size()) {
         return Ok(Some(PlainError::Degree {
             round,

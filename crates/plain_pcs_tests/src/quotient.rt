@@ -1,13 +1,14 @@
-//! The column 5, 9 on the points 31 and -31 in two parts, and the periodic column 5, 9 on a larger domain.
+//! The column 5, 9 on the points 31 and -31 in two parts and in one, and the periodic column 5, 9 on a larger domain.
 ghost use Rattle.std.specs.Prelude.{◌≡◌, ◌<◌, IfOk, All, length};
 ghost use Rattle.p3_field.specs.BabyBear.{bear_ring};
 ghost use Rattle.p3_matrix.specs.Matrix.{height};
 
 use crate::scheme::{Coset, Plain, bear, only_values, pair, scheme};
 use p3_challenger::Sha256Challenger;
-use p3_commit::{PeriodicLdeTable, PolynomialSpace, UnivariateStarkPcs};
+use p3_commit::{PcsFailure, PeriodicLdeTable, PolynomialSpace, UnivariateStarkPcs};
+use p3_dft::Radix2Dit;
 use p3_field::{BabyBear, FieldCore, Mem, RingCore};
-use plain_pcs::PlainCommitment;
+use plain_pcs::{PlainCommitment, PlainPcs, PlainProverError};
 use std::alloc::Global;
 use std::test::Fail;
 
@@ -70,6 +71,39 @@ fn a_column_in_two_parts(rt: HostRuntime) -> Result<(), Fail> {
     assert_eq!(rt; only_values(&again)?, only_values(&commitment)?);
     let last = again.matrices.last().ok_or("no matrix")?;
     assert_eq!(rt; last.as_slice(), second.as_slice());
+    Ok(())
+}
+
+// Why the column isn't committed to in one part.
+fn refused_in_one_part(
+    alloc: Global,
+    scheme: &Plain,
+    domain: Coset,
+) -> Result<PlainProverError, Fail>
+    requires { domain.log_size ≡ 1 }
+{
+    let made = <Plain as UnivariateStarkPcs<BabyBear, Sha256Challenger>>::commit_quotient(
+        scheme,
+        alloc,
+        domain,
+        pair(alloc)?,
+        1,
+    );
+    match made {
+        Err(PcsFailure::Refused(fault)) => Ok(fault),
+        Err(PcsFailure::OutOfMemory) => Err("no memory".into()),
+        Ok(_) => Err("committed".into()),
+    }
+}
+
+// With a blowup of 2^27 the extension of two rows would have 2^28, and the largest subgroup has 2^27 elements.
+#[test]
+fn a_part_too_large(rt: HostRuntime) -> Result<(), Fail> {
+    let alloc = rt.alloc();
+    let scheme = PlainPcs::new(Radix2Dit, 27).ok_or("no scheme")?;
+    let domain = Coset::new(bear(31), 1).ok_or("no coset")?;
+    let fault = refused_in_one_part(alloc, &scheme, domain)?;
+    assert_eq!(rt; fault, PlainProverError::Commit { matrix: 0 });
     Ok(())
 }
 

@@ -1,10 +1,11 @@
 -- Faults of claimed values: values that are right have none, and the first fault is one.
-use Rattle.std.proofs.Common.{◌≡◌, ℕ, ◌^◌, ◌<◌, inl, inr, List, [], length, map, get_or, refl, sym, ◌∙◌, ap, arith}
+use Rattle.std.proofs.Common.{◌≡◌, ℕ, inl, inr, List, [], length, map, get_or, refl, ◌∙◌, ap, arith}
 use Rattle.std.proofs.lemmas.Bool.{cases_lt}
 use Rattle.std.proofs.lemmas.List.{length-map}
 use Rattle.p3_field.specs.Ring.{Ring}
 use Rattle.plain_pcs.specs.Multilinear.{multilinear_value}
-use Rattle.plain_pcs.specs.PlainMultilinear.{IsFirstFailing, HasValues, HaveCoordinates, IsFirstUnfit, AreValuesAt, values_at, IsFirstDifferent, IsClaimFault}
+use Rattle.plain_pcs.specs.Failing.{IsFirstFailing}
+use Rattle.plain_pcs.specs.PlainMultilinear.{HaveCoordinates, IsFirstUnfit, AreValuesAt, values_at, IsFirstDifferent, IsClaimFault}
 use Rattle.plain_pcs.specs.declared.plain_multilinear.PlainMultilinearError.{PlainMultilinearError}
 use Rattle.plain_pcs.specs.declared.plain_multilinear.PlainMultilinearError.TheVariants.{Length, PointLength, Count, Value}
 

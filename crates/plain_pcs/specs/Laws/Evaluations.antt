@@ -2,11 +2,10 @@
 use Rattle.std.proofs.Common.{◌≡◌, ℕ, zero, suc, ◌+◌, ◌-◌, ◌*◌, ◌^◌, ◌<◌, ◌≤◌, List, [], ◌++◌, length, get_or, take, drop, map, refl, sym, ◌∙◌, ap, subst, arith}
 use Rattle.std.proofs.Math.Seq.{take-add}
 use Rattle.std.proofs.lemmas.List.{ext_get_or, take_all, get_or-map, length-map}
-use Rattle.std.proofs.lemmas.Nat.{pow_pos}
 use Rattle.p3_field.specs.Field.{TwoAdic}
 use Rattle.p3_field.specs.Poly.{val}
 use Rattle.p3_field.specs.Domain.{CosetData, point}
-use Rattle.p3_matrix.specs.Matrix.{Rows, FillsRows, height, row_at, cell_at, column}
+use Rattle.p3_matrix.specs.Matrix.{Rows, FillsRows, height, row_at, column}
 use Rattle.p3_matrix.specs.Laws.Cells.{length-column, get_or-column}
 use Rattle.p3_matrix.specs.Laws.Grids.{product_fills, product_height}
 use Rattle.p3_matrix.specs.Laws.Transposed.{rows_of, HasRows, no_rows, more_rows, length-row_at, get_or-row_at}

@@ -1,7 +1,7 @@
 -- Extensions by a transform on the subgroup, and their columns.
-use Rattle.std.proofs.Common.{◌≡◌, ℕ, ◌+◌, ◌^◌, ◌<◌, ◌≤◌, List, [], length, get_or, map, refl, sym, ◌∙◌, ap, subst, arith}
+use Rattle.std.proofs.Common.{◌≡◌, ℕ, ◌+◌, ◌^◌, ◌<◌, ◌≤◌, List, [], length, get_or, map, sym, ◌∙◌, ap, subst, arith}
 use Rattle.std.proofs.lemmas.List.{get_or-map, length-map}
-use Rattle.p3_field.specs.Ring.{Ring, RingLaws}
+use Rattle.p3_field.specs.Ring.{RingLaws}
 use Rattle.p3_field.specs.Field.{FieldLaws, TwoAdicLaws}
 use Rattle.p3_field.specs.Poly.{Apart}
 use Rattle.p3_field.specs.Domain.{CosetData, point, coset_point, IsInterpolant}
@@ -9,11 +9,11 @@ use Rattle.p3_field.specs.Laws.Interpolants.{interpolant_exists, points_apart}
 use Rattle.p3_field.specs.Laws.Tables.{length-table, get_or-table}
 use Rattle.p3_matrix.specs.Matrix.{Rows, FillsRows, height, column}
 use Rattle.p3_matrix.specs.Laws.Cells.{length-column}
-use Rattle.p3_dft.specs.Transform.{values_at, IsExtension, IsExtensionOf}
+use Rattle.p3_dft.specs.Transform.{values_at, IsExtensionOf}
 use Rattle.plain_pcs.specs.Scheme.{Scheme}
-use Rattle.plain_pcs.specs.Extension.{columns, interpolant, extended_domain, evaluations, extension_of, IsCommittable}
+use Rattle.plain_pcs.specs.Extension.{columns, interpolant, extended_domain, extension_of, IsCommittable}
 use Rattle.plain_pcs.specs.Laws.Shifted.{extension_shifted}
-use Rattle.plain_pcs.specs.Laws.Evaluations.{width-evaluations, height-evaluations, evaluations-fill, column-evaluations, evaluations_of_columns}
+use Rattle.plain_pcs.specs.Laws.Evaluations.{width-evaluations, height-evaluations, column-evaluations, evaluations_of_columns}
 
 -- the polynomials of a matrix's columns on a domain
 abbrev pub polynomials : {F : Type 0} → Scheme F → CosetData F → Rows F → List (List F)

@@ -8,7 +8,6 @@ use Rattle.p3_matrix.specs.Matrix.{Rows}
 use Rattle.p3_commit.specs.Claims.{Request}
 use Rattle.p3_commit.specs.Commitments.{Committed, Held, AreHeld, HavePoints}
 use Rattle.p3_commit.specs.Periodic.{EachFrom}
-use Rattle.p3_commit.specs.Laws.Pairs.{length-zip}
 use Rattle.plain_pcs.specs.Scheme.{Scheme, PlainCommitmentData}
 use Rattle.plain_pcs.specs.Laws.Scheme.{held_count}
 use Rattle.plain_pcs.specs.Holding.{IsHolding, AreHolding}

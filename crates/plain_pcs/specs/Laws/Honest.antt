@@ -1,5 +1,5 @@
 -- Claims with the values of held polynomials pass each check.
-use Rattle.std.proofs.Common.{◌≡◌, ℕ, zero, suc, ◌+◌, ◌^◌, ◌≤◌, ◌<◌, List, [], ◌∷◌, ◌++◌, Some, length, get_or, map, refl, sym, ◌∙◌, ap, subst, arith}
+use Rattle.std.proofs.Common.{◌≡◌, ℕ, ◌+◌, ◌^◌, ◌≤◌, ◌<◌, List, [], ◌++◌, Some, length, get_or, map, refl, sym, ◌∙◌, ap, subst, arith}
 use Rattle.std.specs.Prelude.{slice_get, zip, flat_map, All}
 use Rattle.std.proofs.lemmas.List.{length-map, get_or-map}
 use Rattle.std.proofs.lemmas.List.Elements.{All-cons, All-append, All-map, All-same}
@@ -15,12 +15,12 @@ use Rattle.p3_commit.specs.Claims.{PointClaim, MatrixClaim, CommitmentClaim, Req
 use Rattle.p3_commit.specs.Commitments.{Committed, Held, AreHeld, AreClaims, IsMatrixClaim, IsRoundClaim, values_of}
 use Rattle.p3_commit.specs.Laws.Pairs.{length-zip, slice_get-zip}
 use Rattle.plain_pcs.specs.Scheme.{Scheme, PlainCommitmentData}
-use Rattle.plain_pcs.specs.Extension.{extended_domain, evaluations}
-use Rattle.plain_pcs.specs.Checks.{Fact, same_count, dimensions, low_degree, has_value, Check, Holds, HasDimensions, IsColumnPolynomial, NoneFails, numbered, point_checks, matrix_checks, round_checks, checks, Opens}
+use Rattle.plain_pcs.specs.Extension.{extended_domain}
+use Rattle.plain_pcs.specs.Checks.{same_count, dimensions, low_degree, has_value, Check, Holds, IsColumnPolynomial, NoneFails, numbered, point_checks, matrix_checks, round_checks, checks, Opens}
 use Rattle.plain_pcs.specs.Holding.{IsMade, IsHolding, AreHolding}
 use Rattle.plain_pcs.specs.declared.error.PlainError.TheVariants.{RoundShape, Dimensions, Degree, Value}
 use Rattle.plain_pcs.specs.Laws.Evaluations.{width-evaluations, height-evaluations, column-evaluations}
-use Rattle.plain_pcs.specs.Laws.Listed.{item_at, all_items, item_has, all_flat_map, all_table, all_numbered, zip_item}
+use Rattle.plain_pcs.specs.Laws.Listed.{item_at, item_has, all_flat_map, all_table, all_numbered, zip_item}
 use Rattle.plain_pcs.specs.Laws.Held.{power_within, holding_count}
 use Rattle.plain_pcs.specs.Laws.Short.{filled, filled_interpolant, filled_degree, filled_value}
 

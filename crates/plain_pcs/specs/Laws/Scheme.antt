@@ -1,5 +1,5 @@
 -- What the traits ask of the scheme's numbers, and how many matrices prover data holds polynomials of.
-use Rattle.std.proofs.Common.{◌≡◌, ℕ, ◌+◌, ◌-◌, ◌≤◌, IsTrue, false, List, length, zip, arith, ◌∙◌, sym, ap, subst, ◌^◌}
+use Rattle.std.proofs.Common.{◌≡◌, ℕ, ◌-◌, ◌≤◌, IsTrue, false, List, length, arith, ◌∙◌, sym, ap, subst, ◌^◌}
 use Rattle.std.specs.Prelude.{Result, Ok, Err, IfOk}
 use Rattle.std.proofs.lemmas.Slice.Zip.{length-zip}
 use Rattle.std.proofs.Math.Nat.{min-eq_left}

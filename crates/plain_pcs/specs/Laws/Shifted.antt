@@ -1,5 +1,5 @@
 -- Values on a coset, read as values on the subgroup: those of the polynomial f(sX), where s is the coset's shift.
-use Rattle.std.proofs.Common.{◌≡◌, ℕ, ◌<◌, List, length, get_or, sym, ◌∙◌, ap}
+use Rattle.std.proofs.Common.{◌≡◌, ℕ, List, length, sym, ◌∙◌, ap}
 use Rattle.p3_field.specs.Ring.{Ring, RingLaws, pow}
 use Rattle.p3_field.specs.Field.{FieldLaws}
 use Rattle.p3_field.specs.Poly.{val, Apart, shift_arg}

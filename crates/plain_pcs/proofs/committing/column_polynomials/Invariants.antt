@@ -1,4 +1,3 @@
-use Rattle.std.proofs.Common.{◌≡◌, ℕ, ◌^◌}
 use Rattle.p3_field.specs.Domain.{coset_point, IsInterpolant}
 use Rattle.p3_matrix.specs.Matrix.{column}
 use Rattle.p3_commit.specs.Space.{EachOf}

@@ -1,11 +1,11 @@
-use Rattle.std.proofs.Common.{◌≡◌, List, All, subst, sym, ◌∙◌}
+use Rattle.std.proofs.Common.{List, All, subst, sym, ◌∙◌}
 use Rattle.p3_field.specs.Domain.{CosetData}
 use Rattle.p3_matrix.specs.Matrix.{Rows}
 use Rattle.p3_commit.specs.Commitments.{AreExtensions}
 use Rattle.plain_pcs.specs.Scheme.{scheme}
 use Rattle.plain_pcs.specs.Extension.{IsCommittable, Extends}
 use Rattle.plain_pcs.specs.Refusals.{IsFirstWithout}
-use Rattle.plain_pcs.proofs.Commitments.{no_commit_fault, commitment_given}
+use Rattle.plain_pcs.proofs.Commitments.{if_wanting, no_commit_fault, commitment_given}
 use Rattle.plain_pcs.proofs.committing.commit.Goals as goal
 
 pub extensions_of-requires : goal.extensions_of-requires
@@ -31,3 +31,8 @@ pub returns-clause-refusal : goal.returns-clause-refusal
 returns-clause-refusal g c =
     let s = scheme g.F.RingCore.ring g.F.FieldCore.inv g.F.TwoAdicCore.root g.F.FieldCore.GENERATOR g.F.TwoAdicCore.TWO_ADICITY (record { log_blowup = c.args.log_blowup }) in
     no_commit_fault s c.args.evaluations.items (subst (λ (xs : List (CosetData g.row.F.Denot × Rows g.row.F.Denot)). All (λ e. IsCommittable s e.0 e.1) xs) c.deref.ensures.value c.in_default.ensures)
+
+pub returns-in_err-matrices-clause-searched : goal.returns-in_err-matrices-clause-searched
+returns-in_err-matrices-clause-searched g c =
+    let s = scheme g.F.RingCore.ring g.F.FieldCore.inv g.F.TwoAdicCore.root g.F.FieldCore.GENERATOR g.F.TwoAdicCore.TWO_ADICITY (record { log_blowup = c.args.log_blowup }) in
+    if_wanting c.from_residual.result _ (no_commit_fault s c.args.evaluations.items (subst (λ (xs : List (CosetData g.row.F.Denot × Rows g.row.F.Denot)). All (λ e. IsCommittable s e.0 e.1) xs) c.deref.ensures.value c.in_default.ensures))

@@ -1,4 +1,4 @@
-use Rattle.std.proofs.Common.{◌≡◌, sym, ◌∙◌, arith}
+use Rattle.std.proofs.Common.{sym, ◌∙◌, arith}
 use Rattle.plain_pcs.specs.Refusals.{HasSubgroupHeight}
 use Rattle.plain_pcs.proofs.Lists.{one_earlier, first_without, all_earlier}
 use Rattle.plain_pcs.proofs.committing.first_other_height.Goals as goal

@@ -1,4 +1,4 @@
-use Rattle.std.proofs.Common.{◌≡◌, ◌∙◌, ℕ, ◌+◌, ◌*◌, ◌^◌, length, get_or, ap, arith}
+use Rattle.std.proofs.Common.{◌≡◌, ◌∙◌, ◌+◌, ◌*◌, ◌^◌, length, get_or, ap, arith}
 use Rattle.p3_field.specs.Poly.{table}
 use Rattle.p3_field.specs.Laws.Tables.{table_push, length-table}
 use Rattle.plain_pcs.specs.Laws.Multilinear.{between, first_variable}

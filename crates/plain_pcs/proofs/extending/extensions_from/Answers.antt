@@ -1,9 +1,10 @@
-use Rattle.std.proofs.Common.{◌≡◌, sym, ◌∙◌, ap, subst, length, arith}
+use Rattle.std.proofs.Common.{◌∙◌, length}
 use Rattle.std.proofs.lemmas.Iterator.Adapters.{YieldsList-from_vec}
 use Rattle.std.proofs.lemmas.Iterator.Consumers.{YieldsList-turn, YieldsList-end}
 use Rattle.plain_pcs.specs.Scheme.{scheme}
 use Rattle.plain_pcs.specs.Extension.{IsCommittable, Extends}
-use Rattle.plain_pcs.proofs.Lists.{none_yet, each_yielded, each_done}
+use Rattle.p3_commit.specs.Laws.Each.{none_yet}
+use Rattle.plain_pcs.proofs.Lists.{each_yielded, each_done}
 use Rattle.plain_pcs.proofs.Places.{read_all}
 use Rattle.plain_pcs.proofs.extending.extensions_from.Goals as goal
 

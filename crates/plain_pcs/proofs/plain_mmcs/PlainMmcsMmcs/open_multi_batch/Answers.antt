@@ -1,4 +1,4 @@
-use Rattle.std.proofs.Common.{◌≡◌, ◌∙◌, [], ◌∷◌, Some, ℕ, length, map, get_or, refl, sym, ap, subst, arith}
+use Rattle.std.proofs.Common.{◌≡◌, ◌∙◌, [], ◌∷◌, Some, ℕ, length, map, get_or, sym, ap, subst, arith}
 use Rattle.std.specs.Prelude.{All, slice_get}
 use Rattle.std.specs.Int.{IsPowerOfTwo}
 use Rattle.std.proofs.lemmas.List.{map-append}
@@ -8,7 +8,7 @@ use Rattle.p3_commit.specs.Space.{EachOf}
 use Rattle.p3_commit.specs.Periodic.{EachFrom}
 use Rattle.p3_commit.specs.Batches.{lists, IsRowOf, AreRowsAt, dimensions_of}
 use Rattle.plain_pcs.specs.PlainMmcs.{AreOpened}
-use Rattle.plain_pcs.proofs.Lists.{one_more}
+use Rattle.p3_commit.specs.Laws.Each.{one_more}
 use Rattle.plain_pcs.proofs.Heights.{all_opened_accepted, widths_each}
 use Rattle.plain_pcs.proofs.plain_mmcs.PlainMmcsMmcs.open_multi_batch.Goals as goal
 

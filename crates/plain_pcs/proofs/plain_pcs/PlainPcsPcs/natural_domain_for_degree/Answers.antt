@@ -1,4 +1,4 @@
-use Rattle.std.proofs.Common.{◌≡◌, ℕ, ◌^◌, ◌≤◌, arith}
+use Rattle.std.proofs.Common.{◌≡◌, ◌^◌, ◌≤◌, arith}
 use Rattle.p3_matrix.specs.Laws.Powers.{power_le_cancel}
 use Rattle.plain_pcs.specs.Laws.Scheme.{is_subgroup}
 use Rattle.plain_pcs.proofs.plain_pcs.PlainPcsPcs.natural_domain_for_degree.Goals as goal

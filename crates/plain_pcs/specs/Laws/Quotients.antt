@@ -1,0 +1,109 @@
+-- When a quotient's parts can't be committed to: they have one size and one width, so where one is too large, the first is.
+use Rattle.std.proofs.Common.{◌≡◌, ℕ, ◌+◌, ◌*◌, ◌^◌, ◌<◌, ◌≤◌, inl, inr, List, Some, sym, ◌∙◌, ap, arith}
+use Rattle.std.specs.Prelude.{slice_get}
+use Rattle.std.specs.Int.{IsPowerOfTwo}
+use Rattle.std.proofs.Math.Nat.{mul_right_comm, mul-le-mul_right, le_of_mul-le-mul_right, pow-le-pow_right}
+use Rattle.std.proofs.lemmas.Nat.{pow-add, pow_pos}
+use Rattle.std.proofs.lemmas.Bool.{cases_lt}
+use Rattle.std.proofs.lemmas.Option.{slice_get_within}
+use Rattle.p3_field.specs.Ring.{RingLaws}
+use Rattle.p3_field.specs.Field.{FieldLaws, TwoAdicLaws}
+use Rattle.p3_field.specs.Domain.{CosetData}
+use Rattle.p3_matrix.specs.Matrix.{Rows, height}
+use Rattle.p3_matrix.specs.Laws.Powers.{power_le_cancel}
+use Rattle.p3_commit.specs.Space.{IsPart}
+use Rattle.p3_commit.specs.Commitments.{AreParts, AreExtensions}
+use Rattle.p3_commit.specs.Failure.{NoneOf, FaultInTurn, NoneInTurn}
+use Rattle.p3_commit.specs.Laws.Codes.{width_positive}
+use Rattle.plain_pcs.specs.Scheme.{Scheme}
+use Rattle.plain_pcs.specs.Extension.{IsCommittable, Extends}
+use Rattle.plain_pcs.specs.Refusals.{IsFirstWithout, CommitFault, ExtensionsFault, HasSubgroupHeight, QuotientFault}
+use Rattle.plain_pcs.specs.Laws.Listed.{item_at}
+use Rattle.plain_pcs.specs.Laws.Extensions.{height-extension}
+use Rattle.plain_pcs.specs.declared.error.PlainProverError.{PlainProverError}
+use Rattle.plain_pcs.specs.declared.error.PlainProverError.TheVariants.{Commit, Open}
+
+-- a factor that two equal products share
+same_factor : (a b n : ℕ) → 0 < n → a * n ≡ b * n → a ≡ b
+same_factor a b n pos e =
+    let low : a ≤ b = le_of_mul-le-mul_right {k = n} (omega (arith, e)) pos in
+    let high : b ≤ a = le_of_mul-le-mul_right {k = n} (omega (arith, e)) pos in
+    omega arith
+
+-- the extensions of n parts of a domain are together as large as the extension of the whole
+together : (k b d n : ℕ) → 2 ^ k * n ≡ 2 ^ d → 2 ^ (k + b) * n ≡ 2 ^ (d + b)
+together k b d n e =
+    ap (λ x. x * n) (pow-add 2 k b) ∙ (swapped (2 ^ k) (2 ^ b) n ∙ (ap (λ x. x * 2 ^ b) e ∙ sym (pow-add 2 d b)))
+  where
+    swapped : (x y z : ℕ) → x * y * z ≡ x * z * y
+    swapped x y z = mul_right_comm x y z
+
+module _ {F : Type 0} (s : Scheme F) (d : CosetData F) (m : Rows F) (n : ℕ) (parts : List (CosetData F × Rows F)) (power : IsPowerOfTwo n) (rows : height m ≡ 2 ^ d.log_size) (A : AreParts (IsPart s.field.ring s.field.root d n) m n parts) where
+  positive : 0 < n
+  positive = omega (arith, power.1, pow_pos power.0)
+
+  part_committable : (i : ℕ) (x : CosetData F × Rows F) → slice_get parts i ≡ Some x → 2 ^ (d.log_size + s.log_blowup) ≤ 2 ^ s.most * n → IsCommittable s x.0 x.1
+  part_committable i x q le =
+      let (P, S) = A.each i x q in
+      let k = x.0.log_size in
+      let all : 2 ^ (k + s.log_blowup) * n ≡ 2 ^ (d.log_size + s.log_blowup) = together k s.log_blowup d.log_size n P.size_is in
+      let one : 2 ^ (k + s.log_blowup) ≤ 2 ^ s.most = le_of_mul-le-mul_right {k = n} (omega (arith, all)) positive in
+      record {
+        has_columns = let w : 0 < m.width = width_positive m (d.log_size, rows) in omega (arith, w, S.width_is);
+        height_is = same_factor (height x.1) (2 ^ k) n positive (S.height_is ∙ (rows ∙ sym P.size_is));
+        fits = power_le_cancel (k + s.log_blowup) s.most one;
+      }
+
+  part_fits : (i : ℕ) (x : CosetData F × Rows F) → slice_get parts i ≡ Some x → IsCommittable s x.0 x.1 → 2 ^ (d.log_size + s.log_blowup) ≤ 2 ^ s.most * n
+  part_fits i x q C =
+      let (P, S) = A.each i x q in
+      let k = x.0.log_size in
+      let all : 2 ^ (k + s.log_blowup) * n ≡ 2 ^ (d.log_size + s.log_blowup) = together k s.log_blowup d.log_size n P.size_is in
+      let one : 2 ^ (k + s.log_blowup) ≤ 2 ^ s.most = pow-le-pow_right (omega arith) C.fits in
+      let more : 2 ^ (k + s.log_blowup) * n ≤ 2 ^ s.most * n = mul-le-mul_right n one in
+      omega (arith, all, more)
+
+  first_part : (x : CosetData F × Rows F) × (slice_get parts 0 ≡ Some x)
+  first_part = item_at parts 0 (omega (arith, A.count, positive))
+
+  too_large : (i : ℕ) → IsFirstWithout (λ e. IsCommittable s e.0 e.1) parts i → 2 ^ s.most * n < 2 ^ (d.log_size + s.log_blowup)
+  too_large i L = elim (cases_lt (2 ^ s.most * n) (2 ^ (d.log_size + s.log_blowup))) [
+    | inl h ↦ h
+    | inr h ↦ absurd (L.lacks (part_committable i L.item L.item_is h))
+  ]
+
+  -- the first of equal parts that can't be committed to is the first part
+  first_named : (i : ℕ) → IsFirstWithout (λ e. IsCommittable s e.0 e.1) parts i → i ≡ 0
+  first_named i L = elim (cases_lt 0 i) [
+    | inl h ↦
+        let (x, q) = first_part in
+        absurd (L.lacks (part_committable i L.item L.item_is (part_fits 0 x q (L.earlier 0 x h q))))
+    | inr h ↦ omega arith
+  ]
+
+  module _ (L : RingLaws s.field.ring) (W : FieldLaws s.field.ring s.field.inv) (T : TwoAdicLaws s.field.ring s.most s.field.root) where
+    -- the extension of a part has a subgroup's height
+    extended_height : (ls : List (Rows F)) → AreExtensions (Extends s) parts ls → (i : ℕ) (l : Rows F) → slice_get ls i ≡ Some l → HasSubgroupHeight s.most l
+    extended_height ls E i l q =
+        let (x, at) = item_at parts i (let b = slice_get_within ls i l q in omega (arith, b, E.count)) in
+        let X = E.each i l q x at in
+        (x.0.log_size + s.log_blowup, X.committable.fits, ap (λ (v : Rows F). height v) X.extension_is ∙ height-extension s L W T x.0 x.1 X.committable)
+
+    pub refused_by_parts : (e : PlainProverError) → FaultInTurn (CommitFault s parts) (AreExtensions (Extends s) parts) (ExtensionsFault s) e → QuotientFault s d n e
+    refused_by_parts (Commit i) (inl f) = (first_named i f, too_large i f)
+    refused_by_parts (Commit i) (inr f) =
+        let (ls, E, g) = f.1 in
+        absurd (g.lacks (extended_height ls E i g.item g.item_is))
+    refused_by_parts (Open i) (inl f) = f
+    refused_by_parts (Open i) (inr f) = let (ls, E, g) = f.1 in g
+
+  pub granted_by_parts : NoneInTurn (CommitFault s parts) (AreExtensions (Extends s) parts) (ExtensionsFault s) → NoneOf (QuotientFault s d n)
+  granted_by_parts N (Commit i) h =
+      let (x, q) = first_part in
+      N.0 (Commit 0) (record {
+        item = x;
+        item_is = q;
+        lacks = λ C. let low = part_fits 0 x q C in omega (arith, low, h.1);
+        earlier = λ j y lt a. absurd (omega arith);
+      })
+  granted_by_parts N (Open i) h = h
