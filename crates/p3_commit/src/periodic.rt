@@ -1,5 +1,6 @@
 //! Periodic columns, which list one period of values and repeat it over all rows of a trace.
-ghost use Rattle.std.specs.Prelude.{◌≡◌, ℕ, ◌+◌, ◌*◌, ◌/◌, ◌%◌, ◌<◌, ◌≤◌, ◌↔◌, length, map, List, IsTrue, MatchResult, MatchOption, ⊤};
+ghost use Rattle.std.specs.Prelude.{◌≡◌, ℕ, ◌+◌, ◌*◌, ◌/◌, ◌%◌, ◌<◌, ◌≤◌, ◌↔◌, Some, length, map, List, IsTrue, MatchResult, MatchOption, ⊤};
+ghost use Rattle.std.specs.Int.{◌∣◌};
 ghost use Rattle.std.specs.List.{All};
 ghost use Rattle.p3_commit.specs.Periodic.{IsPeriod, NamesFirstUnfit, IsGreatest};
 ghost use Rattle.p3_commit.specs.Laws.Periods.{all_periods_prop};
@@ -106,8 +107,16 @@ impl<'a, F> PeriodicColumns<'a, F> {
     /// The greatest length of all columns, which each other length divides, and None exactly where there is no
     /// column.
     pub fn max_period(&self) -> Option<usize>
-        ensures { MatchOption result (length self.now.columns.now ≡ 0) (IsGreatest (map (λ c. length c.items) self.now.columns.now)) }
+        ensures greatest { MatchOption result (length self.now.columns.now ≡ 0) (IsGreatest (map (λ c. length c.items) self.now.columns.now)) }
+        ensures divided { (n : ℕ) → result ≡ Some n → All (λ c. length c.items ∣ n) self.now.columns.now }
     {
-        self.columns.iter().map(|column| column.len()).max()
+        greatest_length(self.columns)
     }
+}
+
+// The greatest length, where there is a column.
+fn greatest_length<F>(columns: &[Vec<F>]) -> Option<usize>
+    ensures { MatchOption result (length columns.now ≡ 0) (IsGreatest (map (λ c. length c.items) columns.now)) }
+{
+    columns.iter().map(|column| column.len()).max()
 }

@@ -1,7 +1,7 @@
 -- Cosets as polynomial spaces.
 use Rattle.std.proofs.Common.{◌≡◌, ℕ, zero, suc, ◌+◌, ◌-◌, ◌*◌, ◌/◌, ◌%◌, ◌^◌, ◌<◌, ◌≤◌, ◌↔◌, inl, inr, sym, ◌∙◌, ap, arith}
 use Rattle.std.specs.Prelude.{max}
-use Rattle.std.proofs.Math.Nat.{pow-suc, mul-le-mul_left}
+use Rattle.std.proofs.Math.Nat.{pow-suc, mul-div_cancel_left}
 use Rattle.std.proofs.lemmas.Nat.{pow_pos, pow-add, mod_below}
 use Rattle.std.proofs.lemmas.Bool.{cases_lt}
 use Rattle.p3_field.specs.Ring.{Ring, RingLaws, pow}
@@ -27,20 +27,7 @@ power_quotient a b (suc c) e =
     let h : a ≤ b = power_le_cancel a b low in
     let sum : a + (b - a) ≡ b = omega arith in
     let split : 2 ^ a * 2 ^ (b - a) ≡ 2 ^ b = sym (pow-add 2 a (b - a)) ∙ ap (λ k. 2 ^ k) sum in
-    (h, cancel (2 ^ a) (suc c) (2 ^ (b - a)) (pow_pos a) (e ∙ sym split))
-  where
-    cancel : (n x y : ℕ) → 0 < n → n * x ≡ n * y → x ≡ y
-    cancel n x y p e = elim (cases_lt x y) [
-      | inl a ↦ absurd (strict n x y p a e)
-      | inr a ↦ elim (cases_lt y x) [
-        | inl b ↦ absurd (strict n y x p b (sym e))
-        | inr b ↦ omega arith
-      ]
-    ]
-      where
-        strict : (n x y : ℕ) → 0 < n → x < y → n * x ≡ n * y → ⊥
-        strict zero x y p a e = omega arith
-        strict (suc n) x y p a e = let q : (suc n) * suc x ≤ (suc n) * y = mul-le-mul_left (suc n) a in omega arith
+    (h, sym (mul-div_cancel_left (suc c) (pow_pos a)) ∙ (ap (λ k. k / 2 ^ a) (e ∙ sym split) ∙ mul-div_cancel_left (2 ^ (b - a)) (pow_pos a)))
 
 module _ {A : Type 0} (r : Ring A) (L : RingLaws r) (top : ℕ) (root : ℕ → A) (T : TwoAdicLaws r top root) where
   -- a power of a generator is the generator of the smaller subgroup

@@ -1,13 +1,12 @@
 -- Batches of matrices over an extension as batches over its base.
-use Rattle.std.proofs.Common.{◌≡◌, ℕ, suc, ◌*◌, ◌%◌, ◌^◌, ◌<◌, ◌≤◌, inl, inr, List, [], ◌∷◌, length, map, get_or, refl, sym, ◌∙◌, ap, subst, arith, Vec}
+use Rattle.std.proofs.Common.{◌≡◌, ℕ, ◌*◌, ◌/◌, ◌%◌, ◌^◌, ◌<◌, List, [], ◌∷◌, length, map, get_or, refl, sym, ◌∙◌, ap, subst, arith, Vec}
 use Rattle.std.specs.Prelude.{flat_map, All, slice_get, option_map}
 use Rattle.std.specs.Int.{IsPowerOfTwo}
-use Rattle.std.proofs.lemmas.Bool.{cases_lt}
 use Rattle.std.proofs.lemmas.List.{length-map}
 use Rattle.std.proofs.lemmas.List.Elements.{All-nil, All-cons, All-map}
 use Rattle.std.proofs.lemmas.Option.{slice_get-map, slice_get-get_or}
 use Rattle.std.proofs.Math.ListN.{get_or-map}
-use Rattle.std.proofs.Math.Nat.{mul-le-mul_left, mul-mod_left}
+use Rattle.std.proofs.Math.Nat.{mul-div_cancel, mul-mod_left}
 use Rattle.p3_field.specs.Field.{VectorLaws}
 use Rattle.p3_field.specs.Laws.VectorSpace.{flat_map_injective}
 use Rattle.p3_matrix.specs.Matrix.{Rows, height, row_at}
@@ -27,16 +26,7 @@ map_injective f inj (x ∷ xs) (y ∷ ys) e =
 
 -- a product by a positive number tells the factor
 product_cancel : (a b d : ℕ) → 0 < d → a * d ≡ b * d → a ≡ b
-product_cancel a b d p e = elim (cases_lt a b) [
-  | inl h ↦ absurd (less a b d p h e)
-  | inr h ↦ elim (cases_lt b a) [
-    | inl k ↦ absurd (less b a d p k (sym e))
-    | inr k ↦ omega arith
-  ]
-]
-  where
-    less : (a b d : ℕ) → 0 < d → a < b → a * d ≡ b * d → ⊥
-    less a b d p h e = let q : d * suc a ≤ d * b = mul-le-mul_left d h in omega arith
+product_cancel a b d p e = sym (mul-div_cancel a p) ∙ (ap (λ k. k / d) e ∙ mul-div_cancel b p)
 
 module _ {E F : Type 0} (d : ℕ) (parts : E → List F) (whole : List F → E) (V : VectorLaws d parts whole) where
   pub flat_height : (m : Rows E) → height (flat_rows parts d m) ≡ height m

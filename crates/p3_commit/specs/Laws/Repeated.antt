@@ -8,7 +8,7 @@ use Rattle.std.proofs.lemmas.List.{length-append, get_or_append_left}
 use Rattle.std.proofs.Math.Seq.{get_or-append_right}
 use Rattle.p3_field.specs.Ring.{Ring, RingLaws, pow}
 use Rattle.p3_field.specs.Field.{RingHom, TwoAdicLaws}
-use Rattle.p3_field.specs.Poly.{val, raise, Apart}
+use Rattle.p3_field.specs.Poly.{val, raise}
 use Rattle.p3_field.specs.Domain.{CosetData, coset_point, point}
 use Rattle.p3_field.specs.Laws.Values.{val_raise}
 use Rattle.p3_field.specs.Laws.Extended.{map_raise}
@@ -16,7 +16,6 @@ use Rattle.p3_field.specs.Laws.Roots.{NoZeroDivisors}
 use Rattle.p3_field.specs.Laws.Coset.{two_adic_order}
 use Rattle.p3_field.specs.Laws.Subcosets.{row_power}
 use Rattle.p3_matrix.specs.Interpolation.{IsInterpolatedAt}
-use Rattle.p3_matrix.specs.Laws.Interpolants.{value_of_interpolant}
 use Rattle.p3_commit.specs.Periodic.{over_rows, IsPeriodicAt}
 use Rattle.p3_commit.specs.Laws.Cosets.{root_power, reduced}
 
@@ -128,13 +127,6 @@ module _ {A B : Type 0} (r : Ring A) (L : RingLaws r) (s : Ring B) (M : RingLaws
         stepped zero pos whole round J = absurd (omega arith)
         stepped (suc j) pos whole round J =
             periodic_value (point r root d) (point r root e) (2 ^ d.log_size) j column x y whole (let q : 0 < 2 ^ e.log_size = pow_pos e.log_size in omega (arith, size)) round J
-
--- a periodic column has one value at a point
-pub periodic_unique : {A B : Type 0} (r : Ring A) (L : RingLaws r) (N : NoZeroDivisors r) (s : Ring B) (f : A → B) (p : ℕ → A) (n m : ℕ) (column : List A) (x y z : B) → n ≡ m * length column → 0 < length column → Apart n p
-    → IsPeriodicAt r s f n p x column y → IsPeriodicAt r s f n p x column z → y ≡ z
-periodic_unique r L N s f p n m column x y z e pos apart I J =
-    let long = length_over_rows n m column e pos in
-    value_of_interpolant r L N s f p (over_rows n column) J.interpolant x y (λ i j a b. apart i j a (omega (arith, b, long))) I J.interpolates ∙ sym J.value_is
 
 -- powers aren't zero
 pub power_not_zero : {A : Type 0} (r : Ring A) → NoZeroDivisors r → (r.one ≡ r.zero → ⊥) → (x : A) (n : ℕ) → (x ≡ r.zero → ⊥) → pow r x n ≡ r.zero → ⊥
