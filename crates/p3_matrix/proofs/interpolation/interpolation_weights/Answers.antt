@@ -1,4 +1,4 @@
-use Rattle.std.proofs.Common.{◌≡◌, ℕ, ◌*◌, ◌%◌, ◌^◌, ◌<◌, ◌≤◌, ◌∙◌, refl, sym, ap, arith, subst, List, map, length, get_or, true, false}
+use Rattle.std.proofs.Common.{◌≡◌, ℕ, ◌^◌, ◌<◌, ◌∙◌, sym, ap, subst, List, map, length, get_or, true, false}
 use Rattle.std.specs.Prelude.{IfOk}
 use Rattle.p3_matrix.specs.Laws.Powers.{size_of_shift}
 use Rattle.p3_field.specs.Ring.{of_nat, pow, sub}
