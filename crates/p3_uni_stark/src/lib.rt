@@ -29,6 +29,3 @@ pub use proof::{OpenedValues, PreprocessedOpenedValues};
 pub use prover_folder::ProverFolder;
 pub use recompose::{are_all_disjoint, recompose_quotient_from_chunks, recomposed_quotient};
 pub use verifier_folder::VerifierFolder;
-
-#[cfg(test)]
-mod tests;

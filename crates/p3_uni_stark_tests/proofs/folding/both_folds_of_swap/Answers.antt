@@ -2,7 +2,7 @@ use Rattle.std.proofs.Common.{refl}
 use Rattle.p3_field.specs.BabyBear.{bear_ring}
 use Rattle.p3_field.specs.Quartic.{quartic_ring}
 use Rattle.p3_field.specs.Laws.QuarticLaws.{quartic_same}
-use Rattle.p3_uni_stark.proofs.tests.both_folds_of_swap.Goals as goal
+use Rattle.p3_uni_stark_tests.proofs.folding.both_folds_of_swap.Goals as goal
 
 pub prover_fold-requires-clause-zero : goal.prover_fold-requires-clause-zero
 unfolding quartic_ring bear_ring
