@@ -82,14 +82,15 @@ pub trait GrindingChallenger: CanSampleBits + CanObserve<Self::Witness> {
     /// a caller may equate this type with a parameter that is a `PrimeField64`.
     type Witness: PrimeCore64;
 
-    /// Whether the witness passes. The state is that after the check also where it does not.
+    /// Whether the witness passes, where `2 ^ bits` is below the order of its field. The state is that after the check also
+    /// where it does not.
     fn check_witness(&mut self, bits: usize, value: Self::Witness) -> bool
         requires { 2 ^ bits < Self.Witness.ORDER_U64 }
         ensures answer { IsTrue result ↔ Checked Self.observed Self.bits_drawn self.old bits value }
         ensures state { self.new ≡ checked_state Self.observed Self.after_bits self.old bits value };
 
-    /// The witness of least canonical value that passes, with the state after its check. `None`
-    /// is where no element passes, and then nothing changes.
+    /// The witness of least canonical value that passes, with the state after its check, where `2 ^ bits` is below the
+    /// order of its field. `None` is where no element passes, and then nothing changes.
     fn grind(&mut self, bits: usize) -> Option<Self::Witness>
         requires { 2 ^ bits < Self.Witness.ORDER_U64 }
         ensures answer { MatchOption result

@@ -19,8 +19,8 @@ use sha2::{Digest, Sha256};
 pub struct Sha256Challenger {
     /// The chain.
     pub chain: [u8; 32],
-    /// How many draws are left: 2 for both halves of the chain, 1 for the second, 0 for none. The calls leave no more than
-    /// two; above two the second half is taken again.
+    /// How many draws are left: 2 for both halves of the chain, 1 for the second, 0 for none. One from `new` never has more
+    /// than two; above two a draw takes the second half, and leaves one draw fewer.
     pub left: u8,
 }
 
@@ -70,7 +70,7 @@ impl CanSample<BabyBear> for Sha256Challenger {
 
     ghost after_draw = { after_draw };
 
-    /// One element. At every second draw the chain is hashed, in one compression.
+    /// One element. Where no draw is left, the chain is hashed first, in one compression.
     fn sample(&mut self) -> BabyBear {
         if self.left == 0 {
             self.chain = Sha256::digest(&self.chain);
