@@ -43,19 +43,25 @@ post_trees = difference (cell (Main false 0)) (product (cell (Preprocessed false
 abbrev pub post_bus : List ℕ
 post_bus = 119 ∷ 111 ∷ 114 ∷ 100 ∷ 115 ∷ []
 
+-- the pair (x, y) on the bus, once
+abbrev pub words_sent : {F : Type 0} → F → Cell → Cell → Interaction F
+words_sent one x y = record {
+  bus = global post_bus;
+  fields = cell x ∷ cell y ∷ [];
+  counts = record { value = constant one; bound = 1 } ∷ [];
+}
+
+-- within the table x, as often as y says, and y, once
+abbrev pub cells_sent : {F : Type 0} → F → Cell → Cell → Interaction F
+cells_sent one x y = record {
+  bus = local;
+  fields = cell x ∷ cell y ∷ [];
+  counts = record { value = cell y; bound = 7 } ∷ record { value = constant one; bound = 1 } ∷ [];
+}
+
 abbrev pub post_interactions : {F : Type 0} → F → List (Interaction F)
 post_interactions one =
-    record {
-      bus = global post_bus;
-      fields = cell (Main false 0) ∷ cell (Public 0) ∷ [];
-      counts = record { value = constant one; bound = 1 } ∷ [];
-    }
-    ∷ record {
-      bus = local;
-      fields = cell (Main false 0) ∷ cell (Public 0) ∷ [];
-      counts = record { value = cell (Public 0); bound = 7 } ∷ record { value = constant one; bound = 1 } ∷ [];
-    }
-    ∷ []
+    words_sent one (Main false 0) (Public 0) ∷ cells_sent one (Main false 0) (Public 0) ∷ []
 
 abbrev pub post_declaration : {F : Type 0} → List F → List (List F) → Declaration F
 post_declaration steps periodic = record {

@@ -3,6 +3,7 @@ pub mod Symbolic
 pub mod Gadgets
 pub mod Words
 pub mod Stand
+pub mod Growth
 pub mod Examples
 pub mod RowCheck
 pub mod Recording

@@ -1,7 +1,7 @@
 -- Constraint trees, their values, and what an interaction sends. The rules are those of Plonky3's p3-air
 -- (SymbolicExpression) and p3-lookup (Lookup): a constraint is an expression over the cells of a row and of the
 -- next one, public values, selectors and, for lookups, cells of the extension.
-use Rattle.std.specs.Prelude.{◌≡◌, ℕ, ◌*◌, ◌+◌, ◌/◌, ◌<◌, Bool, true, false, List, length, slice_range}
+use Rattle.std.specs.Prelude.{◌≡◌, ℕ, ◌*◌, ◌+◌, ◌/◌, ◌<◌, Bool, true, false, List, length, slice_range, take}
 use Rattle.std.specs.Prelude.{slice_index_or as get_or}
 use Rattle.p3_air.specs.declared.cells.Cell.{Cell}
 use Rattle.p3_air.specs.declared.cells.ExtCell.{ExtCell}
@@ -81,3 +81,9 @@ StandCount P c v = P c.value v.value × (v.bound ≡ c.bound)
 -- x (x - 1), which is zero where x is zero or one
 abbrev pub bool_tree : {F : Type 0} → F → Tree F → Tree F
 bool_tree one x = product x (difference x (constant one))
+
+-- what holds of some of the first trees and some of the first interactions, as that these were appended
+pub record SomeFirst {A B : Type 0} (P : List A → List B → Type 0) (ts : List A) (is : List B) : Type 0 where
+  pub trees : ℕ
+  pub interactions : ℕ
+  pub appended : P (take trees ts) (take interactions is)

@@ -1,9 +1,9 @@
 //! Builders: what an AIR's constraints are handed to.
-ghost use Rattle.std.specs.Prelude.{◌≡◌, ℕ, ◌+◌, ◌*◌, ◌^◌, ◌<◌, ◌%◌, List, [], ◌∷◌, ◌++◌, IfOk, OnErr, IsOk, IsTrue, Bool, length, map, take};
+ghost use Rattle.std.specs.Prelude.{◌≡◌, ℕ, ◌+◌, ◌*◌, ◌^◌, ◌<◌, ◌%◌, List, [], ◌∷◌, ◌++◌, IfOk, OnErr, IsOk, IsTrue, Bool, length, map};
 ghost use prog.Memory.{size, align};
 ghost use denote.Param.{layout};
 ghost use Rattle.p3_air.specs.Shape.{Shape, Declares, DeclaresExt};
-ghost use Rattle.p3_air.specs.Tree.{Tree, Asserted, Interaction, Stand, StandCount, constant as constant_tree, cell as cell_tree, ext_cell as ext_cell_tree, sum, difference, product, bool_tree, over_base, over_extension, local, global};
+ghost use Rattle.p3_air.specs.Tree.{Tree, Asserted, Interaction, Stand, StandCount, SomeFirst, constant as constant_tree, cell as cell_tree, ext_cell as ext_cell_tree, sum, difference, product, bool_tree, over_base, over_extension, local, global};
 ghost use Rattle.p3_air.specs.declared.cells.Count.{Count as CountOf};
 
 use crate::cells::{Cell, Count, ExtCell};
@@ -114,7 +114,7 @@ pub trait AirBuilder {
         ensures same { shape self.new ≡ shape self.old }
         ensures answers { IsTrue never_fails → IsOk result }
         ensures grows { (ts : List (Tree Self.F)) → Stand (stands self.old) xs.now ts → IfOk result (λ _. grows self.old self.new (map over_base ts) []) }
-        ensures refused { (ts : List (Tree Self.F)) → Stand (stands self.old) xs.now ts → OnErr result ((n : ℕ) × grows self.old self.new (map over_base (take n ts)) []) }
+        ensures refused { (ts : List (Tree Self.F)) → Stand (stands self.old) xs.now ts → OnErr result (SomeFirst (grows self.old self.new) (map over_base ts) []) }
     {
         for x in xs {
             self.assert_zero(*x)?;
@@ -128,7 +128,7 @@ pub trait AirBuilder {
         ensures same { shape self.new ≡ shape self.old }
         ensures answers { IsTrue never_fails → IsOk result }
         ensures grows { (ts : List (Tree Self.F)) → Stand (stands self.old) xs.now ts → IfOk result (λ _. grows self.old self.new (map over_base (map (bool_tree Self.F.ring.one) ts)) []) }
-        ensures refused { (ts : List (Tree Self.F)) → Stand (stands self.old) xs.now ts → OnErr result ((n : ℕ) × grows self.old self.new (map over_base (map (bool_tree Self.F.ring.one) (take n ts))) []) }
+        ensures refused { (ts : List (Tree Self.F)) → Stand (stands self.old) xs.now ts → OnErr result (SomeFirst (grows self.old self.new) (map over_base (map (bool_tree Self.F.ring.one) ts)) []) }
     {
         for x in xs {
             self.assert_bool(*x)?;

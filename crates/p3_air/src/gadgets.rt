@@ -1,9 +1,9 @@
 //! Gadgets on words of 32 bits (`utils` of Plonky3's `p3-air`).
 //!
 //! A word is given by its two limbs of 16 bits or by its 32 bits, the lowest first.
-ghost use Rattle.std.specs.Prelude.{◌≡◌, ℕ, ◌+◌, ◌-◌, ◌*◌, ◌%◌, ◌^◌, ◌<◌, ◌≤◌, List, [], ◌∷◌, ◌++◌, IfOk, IsOk, IsTrue, length, map};
+ghost use Rattle.std.specs.Prelude.{◌≡◌, ℕ, ◌+◌, ◌-◌, ◌*◌, ◌%◌, ◌^◌, ◌<◌, ◌≤◌, List, [], ◌∷◌, ◌++◌, IfOk, OnErr, IsOk, IsTrue, length, map};
 ghost use Rattle.p3_field.specs.Ring.{of_nat};
-ghost use Rattle.p3_air.specs.Tree.{Tree, sum, product, over_base};
+ghost use Rattle.p3_air.specs.Tree.{Tree, SomeFirst, sum, product, over_base};
 ghost use Rattle.p3_air.specs.Gadgets.{StandAt, number, less_two, less_three, with_high, zero_or_one, zero_to_two, add2_trees, add3_trees, packed, xor_tree, xor_shift_bit, xor_shift_trees, rotated_place, word_bits};
 
 use crate::builder::AirBuilder;
@@ -76,6 +76,7 @@ fn assert_zero_or_one<AB: AirBuilder>(builder: &mut AB, n: u64, x: AB::Expr) -> 
     ensures same { AB.shape builder.new ≡ AB.shape builder.old }
     ensures answers { IsTrue AB.never_fails → IsOk result }
     ensures grows { (t : Tree AB.F) → AB.stands builder.old x t → IfOk result (λ _. AB.grows builder.old builder.new (over_base (zero_or_one AB.F.ring n t) ∷ []) []) }
+    ensures refused { OnErr result (AB.grows builder.old builder.new [] []) }
 {
     let both = times_more(builder, x, x, n)?;
     builder.assert_zero(both)
@@ -88,6 +89,7 @@ fn assert_zero_to_two<AB: AirBuilder>(builder: &mut AB, n: u64, x: AB::Expr) -> 
     ensures same { AB.shape builder.new ≡ AB.shape builder.old }
     ensures answers { IsTrue AB.never_fails → IsOk result }
     ensures grows { (t : Tree AB.F) → AB.stands builder.old x t → IfOk result (λ _. AB.grows builder.old builder.new (over_base (zero_to_two AB.F.ring n t) ∷ []) []) }
+    ensures refused { OnErr result (AB.grows builder.old builder.new [] []) }
 {
     let both = times_more(builder, x, x, n)?;
     let all = times_more(builder, both, x, 2 * n)?;
@@ -110,6 +112,8 @@ pub fn add2<AB: AirBuilder>(
     ensures answers { IsTrue AB.never_fails → IsOk result }
     ensures grows { (s t u : ℕ → Tree AB.F) → StandAt (AB.stands builder.old) a s → StandAt (AB.stands builder.old) b t → StandAt (AB.stands builder.old) c u
         → IfOk result (λ _. AB.grows builder.old builder.new (map over_base (add2_trees AB.F.ring s t u)) []) }
+    ensures refused { (s t u : ℕ → Tree AB.F) → StandAt (AB.stands builder.old) a s → StandAt (AB.stands builder.old) b t → StandAt (AB.stands builder.old) c u
+        → OnErr result (SomeFirst (AB.grows builder.old builder.new) (map over_base (add2_trees AB.F.ring s t u)) []) }
 {
     let low = less_two(builder, a[0], b[0], c[0])?;
     let high = less_two(builder, a[1], b[1], c[1])?;
@@ -137,6 +141,8 @@ pub fn add3<AB: AirBuilder>(
     ensures answers { IsTrue AB.never_fails → IsOk result }
     ensures grows { (s t u v : ℕ → Tree AB.F) → StandAt (AB.stands builder.old) a s → StandAt (AB.stands builder.old) b t → StandAt (AB.stands builder.old) c u → StandAt (AB.stands builder.old) d v
         → IfOk result (λ _. AB.grows builder.old builder.new (map over_base (add3_trees AB.F.ring s t u v)) []) }
+    ensures refused { (s t u v : ℕ → Tree AB.F) → StandAt (AB.stands builder.old) a s → StandAt (AB.stands builder.old) b t → StandAt (AB.stands builder.old) c u → StandAt (AB.stands builder.old) d v
+        → OnErr result (SomeFirst (AB.grows builder.old builder.new) (map over_base (add3_trees AB.F.ring s t u v)) []) }
 {
     let low = less_three(builder, a[0], b[0], c[0], d[0])?;
     let high = less_three(builder, a[1], b[1], c[1], d[1])?;
@@ -150,7 +156,7 @@ pub fn pack_bits_le<AB: AirBuilder>(builder: &mut AB, bits: &[AB::Expr]) -> Mem<
     ensures later { AB.later builder.old builder.new }
     ensures same { AB.shape builder.new ≡ AB.shape builder.old }
     ensures answers { IsTrue AB.never_fails → IsOk result }
-    ensures grows { IfOk result (λ _. AB.grows builder.old builder.new [] []) }
+    ensures grows { AB.grows builder.old builder.new [] [] }
     ensures stands { (t : ℕ → Tree AB.F) → StandAt (AB.stands builder.old) bits.now t → IfOk result (λ e. AB.stands builder.new e (packed AB.F.ring t 0 (length bits.now))) }
 {
     let two = builder.constant(<AB::F as RingCore>::from_u64(2))?;
@@ -167,7 +173,7 @@ fn xor<AB: AirBuilder>(builder: &mut AB, x: AB::Expr, y: AB::Expr) -> Mem<AB::Ex
     ensures later { AB.later builder.old builder.new }
     ensures same { AB.shape builder.new ≡ AB.shape builder.old }
     ensures answers { IsTrue AB.never_fails → IsOk result }
-    ensures grows { IfOk result (λ _. AB.grows builder.old builder.new [] []) }
+    ensures grows { AB.grows builder.old builder.new [] [] }
     ensures stands { (s t : Tree AB.F) → AB.stands builder.old x s → AB.stands builder.old y t → IfOk result (λ e. AB.stands builder.new e (xor_tree AB.F.ring s t)) }
 {
     let sum = builder.add(x, y)?;
@@ -188,7 +194,7 @@ fn xor_shift_bits<AB: AirBuilder>(
     ensures later { AB.later builder.old builder.new }
     ensures same { AB.shape builder.new ≡ AB.shape builder.old }
     ensures answers { IsTrue AB.never_fails → IsOk result }
-    ensures grows { IfOk result (λ _. AB.grows builder.old builder.new [] []) }
+    ensures grows { AB.grows builder.old builder.new [] [] }
     ensures stands { (t u : ℕ → Tree AB.F) → StandAt (AB.stands builder.old) b t → StandAt (AB.stands builder.old) c u
         → IfOk result (λ es. StandAt (AB.stands builder.new) es (xor_shift_bit AB.F.ring t u s)) }
 {
@@ -197,6 +203,27 @@ fn xor_shift_bits<AB: AirBuilder>(
         bits[i] = xor(builder, b[i], c[(i + (32 - s % 32)) % 32])?;
     }
     Ok(bits)
+}
+
+// The limbs of b xor (c rotated to the left by s), the low one first.
+fn xor_shift_limbs<AB: AirBuilder>(
+    builder: &mut AB,
+    b: [AB::Expr; 32],
+    c: [AB::Expr; 32],
+    s: usize,
+) -> Mem<(AB::Expr, AB::Expr)>
+    ensures later { AB.later builder.old builder.new }
+    ensures same { AB.shape builder.new ≡ AB.shape builder.old }
+    ensures answers { IsTrue AB.never_fails → IsOk result }
+    ensures grows { AB.grows builder.old builder.new [] [] }
+    ensures stands { (t u : ℕ → Tree AB.F) → StandAt (AB.stands builder.old) b t → StandAt (AB.stands builder.old) c u
+        → IfOk result (λ p. AB.stands builder.new p.0 (packed AB.F.ring (xor_shift_bit AB.F.ring t u s) 0 16) × AB.stands builder.new p.1 (packed AB.F.ring (xor_shift_bit AB.F.ring t u s) 16 16)) }
+{
+    let bits = xor_shift_bits(builder, b, c, s)?;
+    let all = &bits[..];
+    let low = pack_bits_le(builder, &all[..16])?;
+    let high = pack_bits_le(builder, &all[16..])?;
+    Ok((low, high))
 }
 
 /// Asserts that the 32 elements of c are bits, and that the word a is b xor (c rotated to the left by s): of a there
@@ -216,12 +243,11 @@ pub fn xor_32_shift<AB: AirBuilder>(
     ensures answers { IsTrue AB.never_fails → IsOk result }
     ensures grows { (t u v : ℕ → Tree AB.F) → StandAt (AB.stands builder.old) a t → StandAt (AB.stands builder.old) b u → StandAt (AB.stands builder.old) c v
         → IfOk result (λ _. AB.grows builder.old builder.new (map over_base (xor_shift_trees AB.F.ring t u v s)) []) }
+    ensures refused { (t u v : ℕ → Tree AB.F) → StandAt (AB.stands builder.old) a t → StandAt (AB.stands builder.old) b u → StandAt (AB.stands builder.old) c v
+        → OnErr result (SomeFirst (AB.grows builder.old builder.new) (map over_base (xor_shift_trees AB.F.ring t u v s)) []) }
 {
     builder.assert_bools(&c)?;
-    let bits = xor_shift_bits(builder, b, c, s)?;
-    let all = &bits[..];
-    let low = pack_bits_le(builder, &all[..16])?;
-    let high = pack_bits_le(builder, &all[16..])?;
+    let (low, high) = xor_shift_limbs(builder, b, c, s)?;
     builder.assert_eq(a[0], low)?;
     builder.assert_eq(a[1], high)?;
     Ok(())

@@ -20,7 +20,3 @@ stand-more P x t xs ts h k = record { long = omega (arith, k.long); each = stand
 pub holds_on_err : {T E P : Type 0} (r : Result T E) → P → OnErr r P
 holds_on_err (Ok x) p = tt
 holds_on_err (Err e) p = p
-
-pub some_on_err : {T E : Type 0} (P : ℕ → Type 0) (r : Result T E) (n : ℕ) → P n → OnErr r ((m : ℕ) × P m)
-some_on_err P (Ok x) n p = tt
-some_on_err P (Err e) n p = (n, p)

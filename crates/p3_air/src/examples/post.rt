@@ -2,10 +2,10 @@
 ghost use Rattle.std.proofs.Common.{rules, ◌∙◌};
 ghost use Rattle.std.proofs.lemmas.List.{length-map};
 ghost use Rattle.p3_air.specs.Laws.Examples.{counts-some, post-read};
-ghost use Rattle.std.specs.Prelude.{◌≡◌, ℕ, ◌<◌, List, [], ◌∷◌, IfOk, IsOk, IsTrue, length, map};
+ghost use Rattle.std.specs.Prelude.{◌≡◌, ℕ, ◌<◌, List, [], ◌∷◌, IfOk, OnErr, IsOk, IsTrue, length, map};
 ghost use Rattle.p3_air.specs.Shape.{Declares};
 ghost use Rattle.p3_air.specs.Tree.{cell as cell_tree, difference, product, over_base};
-ghost use Rattle.p3_air.specs.Examples.{post_trees, post_interactions, post_declaration};
+ghost use Rattle.p3_air.specs.Examples.{words_sent, cells_sent, post_trees, post_interactions, post_declaration};
 
 use crate::base::{Air, BaseAir};
 use crate::builder::{AirBuilder, InteractionBuilder};
@@ -73,6 +73,21 @@ impl<F: Field> BaseAir<F> for PostAir<F> {
     ghost has_columns = { λ _. Prim.search rules };
 }
 
+// The product of two cells.
+fn product_of_cells<AB: AirBuilder>(builder: &mut AB, x: Cell, y: Cell) -> Mem<AB::Expr>
+    requires left { Declares (AB.shape builder.old) x }
+    requires right { Declares (AB.shape builder.old) y }
+    ensures later { AB.later builder.old builder.new }
+    ensures same { AB.shape builder.new ≡ AB.shape builder.old }
+    ensures answers { IsTrue AB.never_fails → IsOk result }
+    ensures grows { AB.grows builder.old builder.new [] [] }
+    ensures stands { IfOk result (λ e. AB.stands builder.new e (product (cell_tree x) (cell_tree y))) }
+{
+    let a = builder.cell(x)?;
+    let b = builder.cell(y)?;
+    builder.mul(a, b)
+}
+
 // The constraint: the cell is the product of the preprocessed and the periodic cell.
 fn assert_product<AB: AirBuilder>(builder: &mut AB, cell: Cell, x: Cell, y: Cell) -> Mem<()>
     requires cell { Declares (AB.shape builder.old) cell }
@@ -82,13 +97,46 @@ fn assert_product<AB: AirBuilder>(builder: &mut AB, cell: Cell, x: Cell, y: Cell
     ensures same { AB.shape builder.new ≡ AB.shape builder.old }
     ensures answers { IsTrue AB.never_fails → IsOk result }
     ensures grows { IfOk result (λ _. AB.grows builder.old builder.new (over_base (difference (cell_tree cell) (product (cell_tree x) (cell_tree y))) ∷ []) []) }
+    ensures refused { OnErr result (AB.grows builder.old builder.new [] []) }
 {
     let a = builder.cell(cell)?;
-    let b = builder.cell(x)?;
-    let c = builder.cell(y)?;
-    let p = builder.mul(b, c)?;
-    builder.assert_eq(a, p)?;
-    Ok(())
+    let p = product_of_cells(builder, x, y)?;
+    builder.assert_eq(a, p)
+}
+
+// Sends the pair (x, y) on the bus, once.
+fn send_words<AB: InteractionBuilder>(builder: &mut AB, one: AB::F, x: Cell, y: Cell) -> Mem<()>
+    requires left { Declares (AB.shape builder.old) x }
+    requires right { Declares (AB.shape builder.old) y }
+    ensures later { AB.later builder.old builder.new }
+    ensures same { AB.shape builder.new ≡ AB.shape builder.old }
+    ensures answers { IsTrue AB.never_fails → IsOk result }
+    ensures grows { IfOk result (λ _. AB.grows builder.old builder.new [] (words_sent one x y ∷ [])) }
+    ensures refused { OnErr result (AB.grows builder.old builder.new [] []) }
+{
+    let a = builder.cell(x)?;
+    let b = builder.cell(y)?;
+    let value = builder.constant(one)?;
+    let once = Count { value, bound: 1 };
+    builder.push_interaction("words", &[a, b], once)
+}
+
+// Sends within the table x, as often as y says, and y, once.
+fn send_cells<AB: InteractionBuilder>(builder: &mut AB, one: AB::F, x: Cell, y: Cell) -> Mem<()>
+    requires left { Declares (AB.shape builder.old) x }
+    requires right { Declares (AB.shape builder.old) y }
+    ensures later { AB.later builder.old builder.new }
+    ensures same { AB.shape builder.new ≡ AB.shape builder.old }
+    ensures answers { IsTrue AB.never_fails → IsOk result }
+    ensures grows { IfOk result (λ _. AB.grows builder.old builder.new [] (cells_sent one x y ∷ [])) }
+    ensures refused { OnErr result (AB.grows builder.old builder.new [] []) }
+{
+    let a = builder.cell(x)?;
+    let b = builder.cell(y)?;
+    let value = builder.constant(one)?;
+    let times = Count { value: b, bound: 7 };
+    let once = Count { value, bound: 1 };
+    builder.push_local_interaction(&[a, b], &[times, once])
 }
 
 impl<F: Field> Air<F> for PostAir<F> {
@@ -106,20 +154,9 @@ impl<F: Field> Air<F> for PostAir<F> {
             column: 0,
         };
         assert_product(builder, m, step, Cell::Periodic(0))?;
-        let cell = builder.cell(m)?;
-        let public = builder.cell(Cell::Public(0))?;
-        let one = builder.constant(F::ONE)?;
-        let once = Count {
-            value: one,
-            bound: 1,
-        };
-        builder.push_interaction("words", &[cell, public], once)?;
-        let times = Count {
-            value: public,
-            bound: 7,
-        };
-        builder.push_local_interaction(&[cell, public], &[times, once])?;
-        Ok(())
+        let public = Cell::Public(0);
+        send_words(builder, F::ONE, m, public)?;
+        send_cells(builder, F::ONE, m, public)
     }
 
     ghost counts = { λ _ n e. counts-some n 1 e };

@@ -1,8 +1,8 @@
 //! The swap table.
 ghost use Rattle.std.proofs.Common.{rules};
-ghost use Rattle.std.specs.Prelude.{◌≡◌, ℕ, List, [], ◌∷◌, IfOk, IsOk, IsTrue, None};
+ghost use Rattle.std.specs.Prelude.{◌≡◌, ℕ, List, [], ◌∷◌, IfOk, OnErr, IsOk, IsTrue, None};
 ghost use Rattle.p3_air.specs.Shape.{Declares};
-ghost use Rattle.p3_air.specs.Tree.{over_base};
+ghost use Rattle.p3_air.specs.Tree.{cell as cell_tree, difference, over_base};
 ghost use Rattle.p3_air.specs.Laws.Examples.{counts-none};
 ghost use Rattle.p3_air.specs.Examples.{equal_when, swap_trees, swap_declaration};
 
@@ -16,6 +16,21 @@ use std::alloc::Global;
 // The columns whose next row is read: both.
 static NEXT_COLUMNS: [usize; 2] = [0, 1];
 
+// The difference of two cells.
+fn difference_of_cells<AB: AirBuilder>(builder: &mut AB, x: Cell, y: Cell) -> Mem<AB::Expr>
+    requires left { Declares (AB.shape builder.old) x }
+    requires right { Declares (AB.shape builder.old) y }
+    ensures later { AB.later builder.old builder.new }
+    ensures same { AB.shape builder.new ≡ AB.shape builder.old }
+    ensures answers { IsTrue AB.never_fails → IsOk result }
+    ensures grows { AB.grows builder.old builder.new [] [] }
+    ensures stands { IfOk result (λ e. AB.stands builder.new e (difference (cell_tree x) (cell_tree y))) }
+{
+    let a = builder.cell(x)?;
+    let b = builder.cell(y)?;
+    builder.sub(a, b)
+}
+
 // Asserts that two cells agree where the selector isn't zero.
 fn assert_equal_when<AB: AirBuilder>(builder: &mut AB, selector: Cell, x: Cell, y: Cell) -> Mem<()>
     requires selector { Declares (AB.shape builder.old) selector }
@@ -25,14 +40,12 @@ fn assert_equal_when<AB: AirBuilder>(builder: &mut AB, selector: Cell, x: Cell, 
     ensures same { AB.shape builder.new ≡ AB.shape builder.old }
     ensures answers { IsTrue AB.never_fails → IsOk result }
     ensures grows { IfOk result (λ _. AB.grows builder.old builder.new (over_base (equal_when selector x y) ∷ []) []) }
+    ensures refused { OnErr result (AB.grows builder.old builder.new [] []) }
 {
     let s = builder.cell(selector)?;
-    let a = builder.cell(x)?;
-    let b = builder.cell(y)?;
-    let d = builder.sub(a, b)?;
+    let d = difference_of_cells(builder, x, y)?;
     let p = builder.mul(s, d)?;
-    builder.assert_zero(p)?;
-    Ok(())
+    builder.assert_zero(p)
 }
 
 /// Two columns l and r of 2^k rows, (a, b) and (b, a) in turn. The public values are a, b and the last right cell
@@ -122,8 +135,7 @@ impl<F: Field> Air<F> for SwapAir {
             },
             l,
         )?;
-        assert_equal_when(builder, Cell::LastRow, r, Cell::Public(2))?;
-        Ok(())
+        assert_equal_when(builder, Cell::LastRow, r, Cell::Public(2))
     }
 
     ghost counts = { λ _ n e. counts-none n 5 e };

@@ -39,3 +39,14 @@ loop-i-preserved g c =
           (packed_turn r t i c.loop-i.i (n - c.loop-i.i) (n - i) next rest)
           (c.in_ok-sum-2.ensures.stands _ _ bit twice);
     }
+
+pub returns-in_err-sum-clause-grows : goal.returns-in_err-sum-clause-grows
+returns-in_err-sum-clause-grows g c = g.met.AB.AirBuilder.grows_along _ _ _ [] _ [] [] c.constant.ensures.grows c.constant-2.ensures.grows
+
+pub returns-in_err-twice-clause-grows : goal.returns-in_err-twice-clause-grows
+returns-in_err-twice-clause-grows g c = g.met.AB.AirBuilder.grows_along _ _ _ [] _ [] [] c.loop-i.invariant.grows c.mul.ensures.grows
+
+pub returns-in_err-sum-2-clause-grows : goal.returns-in_err-sum-2-clause-grows
+returns-in_err-sum-2-clause-grows g c =
+    let then = g.met.AB.AirBuilder.grows_along in
+    then _ _ _ [] _ [] [] c.loop-i.invariant.grows (then _ _ _ [] _ [] [] c.mul.ensures.grows c.add.ensures.grows)

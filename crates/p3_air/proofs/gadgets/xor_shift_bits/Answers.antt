@@ -30,5 +30,8 @@ loop-i-preserved g c =
           ];
     }
 
+pub returns-in_err-bits-clause-grows : goal.returns-in_err-bits-clause-grows
+returns-in_err-bits-clause-grows g c = g.met.AB.AirBuilder.grows_along _ _ _ [] _ [] [] c.loop-i.invariant.grows c.xor.ensures.grows
+
 pub returns-clause-stands : goal.returns-clause-stands
 returns-clause-stands g c t u ht hu = record { each = λ k d lt. c.loop-i.invariant.so_far t u ht hu k d (omega (arith, c.loop-i.invariant.long, lt)) }

@@ -1,7 +1,7 @@
 use Rattle.std.proofs.Common.{[], map, ◌∷◌, ◌<◌, length, take, get_or, sym, ◌≡◌, ◌∙◌, subst, append-nil, arith}
-use Rattle.std.proofs.lemmas.List.{take_more, map-append}
+use Rattle.std.proofs.lemmas.List.{take_more, take-map, map-append}
 use Rattle.std.proofs.lemmas.Grind.{common_steps}
-use Rattle.p3_air.specs.Laws.Stand.{some_on_err}
+use Rattle.p3_air.specs.Laws.Growth.{first_on_err}
 use Rattle.p3_air.specs.declared.cells.Cell.TheVariants.{FirstRow}
 use Rattle.p3_air.specs.Tree.{Tree, cell, over_base}
 use Rattle.p3_air.proofs.builder.AirBuilder.assert_zeros.Goals as goal
@@ -32,4 +32,4 @@ returns-clause-grows g c ts h =
 pub returns-in_err-assert_zero-clause-refused : goal.returns-in_err-assert_zero-clause-refused
 returns-in_err-assert_zero-clause-refused g c ts h =
     let grown = rw append-nil at (g.met.Self.AirBuilder.grows_along _ _ _ _ [] [] [] (c.loop-x.invariant.2 ts h) c.in_err-assert_zero.ensures.refused) in
-    some_on_err (λ n. g.Self.AirBuilder.grows _ _ (map over_base (take n ts)) []) _ c.loop-x.x-index grown
+    first_on_err g.Self.AirBuilder.grows _ _ (map over_base ts) [] _ c.loop-x.x-index 0 (rw take-map grown)

@@ -1,4 +1,5 @@
 use Rattle.std.proofs.Common.{[]}
+use Rattle.p3_air.specs.Laws.Growth.{none_on_err}
 use Rattle.p3_air_tests.proofs.wheel.WheelAirBabyBear.eval.Goals as goal
 
 pub returns-clause-grows : goal.returns-clause-grows
@@ -17,3 +18,30 @@ returns-clause-grows g c =
     (then _ _ _ [] _ [] [] c.cell-3.ensures.grows
     (then _ _ _ [] _ [] [] c.mul.ensures.grows
     (c.in_ok-assert_eq.ensures.grows _ _ m product))))
+
+pub returns-in_err-m-clause-refused : goal.returns-in_err-m-clause-refused
+returns-in_err-m-clause-refused g c = none_on_err g.AB.AirBuilder.grows _ _ _ _ _ c.cell.ensures.grows
+
+pub returns-in_err-number-clause-refused : goal.returns-in_err-number-clause-refused
+returns-in_err-number-clause-refused g c =
+    let then = g.met.AB.AirBuilder.grows_along in
+    none_on_err g.AB.AirBuilder.grows _ _ _ _ _
+    (then _ _ _ [] [] [] [] c.cell.ensures.grows c.cell-2.ensures.grows)
+
+pub returns-in_err-turn-clause-refused : goal.returns-in_err-turn-clause-refused
+returns-in_err-turn-clause-refused g c =
+    let then = g.met.AB.AirBuilder.grows_along in
+    none_on_err g.AB.AirBuilder.grows _ _ _ _ _
+    (then _ _ _ [] [] [] [] c.cell.ensures.grows (then _ _ _ [] [] [] [] c.cell-2.ensures.grows c.cell-3.ensures.grows))
+
+pub returns-in_err-product-clause-refused : goal.returns-in_err-product-clause-refused
+returns-in_err-product-clause-refused g c =
+    let then = g.met.AB.AirBuilder.grows_along in
+    none_on_err g.AB.AirBuilder.grows _ _ _ _ _
+    (then _ _ _ [] [] [] [] c.cell.ensures.grows (then _ _ _ [] [] [] [] c.cell-2.ensures.grows (then _ _ _ [] [] [] [] c.cell-3.ensures.grows c.mul.ensures.grows)))
+
+pub returns-in_err-assert_eq-clause-refused : goal.returns-in_err-assert_eq-clause-refused
+returns-in_err-assert_eq-clause-refused g c =
+    let then = g.met.AB.AirBuilder.grows_along in
+    none_on_err g.AB.AirBuilder.grows _ _ _ _ _
+    (then _ _ _ [] [] [] [] c.cell.ensures.grows (then _ _ _ [] [] [] [] c.cell-2.ensures.grows (then _ _ _ [] [] [] [] c.cell-3.ensures.grows (then _ _ _ [] [] [] [] c.mul.ensures.grows c.in_err-assert_eq.ensures.refused))))

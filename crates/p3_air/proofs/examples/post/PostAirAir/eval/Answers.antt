@@ -1,26 +1,34 @@
-use Rattle.std.proofs.Common.{[], ◌∷◌, ◌∙◌, false, refl}
-use Rattle.p3_air.specs.declared.cells.Cell.TheVariants.{Main, Preprocessed, Periodic}
-use Rattle.p3_air.specs.Tree.{cell, difference, product, over_base}
-use Rattle.p3_air.specs.Laws.Stand.{stand-none, stand-more}
+use Rattle.std.proofs.lemmas.Result.{IfOk-weaker, on_err_weaker}
+use Rattle.std.proofs.Common.{[], ◌∷◌, ◌∙◌}
+use Rattle.p3_air.specs.Laws.Stand.{holds_on_err}
+use Rattle.p3_air.specs.Laws.Growth.{none_first, none_on_err, some_after}
 use Rattle.p3_air.proofs.examples.post.PostAirAir.eval.Goals as goal
 
 pub returns-clause-grows : goal.returns-clause-grows
 returns-clause-grows g c =
-    let B = g.met.AB.AirBuilder in
-    let after = B.grows_later in
-    let sent = c.in_ok-push_interaction.ensures.later in
-    let m = B.persists _ _ (after _ _ _ _ c.constant.ensures.grows) _ _ (B.persists _ _ (after _ _ _ _ c.cell-2.ensures.grows) _ _ c.in_ok-cell.ensures.stands) in
-    let p = B.persists _ _ (after _ _ _ _ c.constant.ensures.grows) _ _ c.in_ok-public.ensures.stands in
-    let one = rw (c.ONE.ensures ∙ g.met.F.RingCore.one_is) at c.in_ok-one.ensures.stands in
-    let pair = stand-more _ _ _ _ _ m (stand-more _ _ _ _ _ p (stand-none _)) in
-    let m2 = B.persists _ _ sent _ _ m in
-    let p2 = B.persists _ _ sent _ _ p in
-    let pair2 = stand-more _ _ _ _ _ m2 (stand-more _ _ _ _ _ p2 (stand-none _)) in
-    let counts = stand-more _ _ _ _ _ (p2, refl) (stand-more _ _ _ _ _ (B.persists _ _ sent _ _ one, refl) (stand-none _)) in
-    let then = B.grows_along in
-    then _ _ _ (over_base (difference (cell (Main false 0)) (product (cell (Preprocessed false 0)) (cell (Periodic 0)))) ∷ []) _ [] _ c.in_ok-assert_product.ensures.grows
-    (then _ _ _ [] _ [] _ c.cell.ensures.grows
-    (then _ _ _ [] _ [] _ c.cell-2.ensures.grows
-    (then _ _ _ [] _ [] _ c.constant.ensures.grows
-    (then _ _ _ [] _ (_ ∷ []) _ (c.in_ok-push_interaction.ensures.grows _ _ pair one)
-    (c.in_ok-push_local_interaction.ensures.grows _ _ pair2 counts)))))
+    let then = g.met.AB.AirBuilder.grows_along in
+    let words = rw (c.ONE.ensures ∙ g.met.F.RingCore.one_is) at c.in_ok-send_words.ensures.grows in
+    let cells = rw (c.ONE-2.ensures ∙ g.met.F.RingCore.one_is) at c.send_cells.ensures.grows in
+    IfOk-weaker _ _ _
+    (λ _ p. then _ _ _ (_ ∷ []) [] [] _ c.in_ok-assert_product.ensures.grows (then _ _ _ [] [] (_ ∷ []) (_ ∷ []) words p))
+    cells
+
+pub returns-in_err-assert_product-clause-refused : goal.returns-in_err-assert_product-clause-refused
+returns-in_err-assert_product-clause-refused g c = none_on_err g.AB.AirBuilder.grows _ _ _ _ _ c.in_err-assert_product.ensures.refused
+
+pub returns-in_err-send_words-clause-refused : goal.returns-in_err-send_words-clause-refused
+returns-in_err-send_words-clause-refused g c =
+    let then = some_after g.met.AB.AirBuilder.grows_along in
+    holds_on_err _
+    (then _ _ _ (_ ∷ []) [] [] _ c.in_ok-assert_product.ensures.grows
+    (none_first g.AB.AirBuilder.grows _ _ _ _ c.in_err-send_words.ensures.refused))
+
+pub returns-clause-refused : goal.returns-clause-refused
+returns-clause-refused g c =
+    let then = some_after g.met.AB.AirBuilder.grows_along in
+    let words = rw (c.ONE.ensures ∙ g.met.F.RingCore.one_is) at c.in_ok-send_words.ensures.grows in
+    on_err_weaker _
+    (λ p. then _ _ _ (_ ∷ []) [] [] (_ ∷ _ ∷ []) c.in_ok-assert_product.ensures.grows
+    (then _ _ _ [] [] (_ ∷ []) (_ ∷ []) words
+    (none_first g.AB.AirBuilder.grows _ _ _ _ p)))
+    c.send_cells.ensures.refused
