@@ -1,10 +1,9 @@
 //! The values of committed polynomials and of periodic columns on other domains.
-ghost use Rattle.std.specs.Prelude.{◌≡◌, ℕ, ◌+◌, ◌*◌, ◌/◌, ◌%◌, ◌^◌, ◌<◌, ◌≤◌, List, Some, All, length, get_or, map, slice_get, ◌++◌, IfOk};
+ghost use Rattle.std.specs.Prelude.{◌≡◌, ℕ, ◌+◌, ◌%◌, ◌^◌, ◌<◌, ◌≤◌, List, Some, All, length, get_or, map, slice_get, ◌++◌, IfOk};
 ghost use Rattle.std.specs.Int.{IsPowerOfTwo};
 ghost use Rattle.p3_field.specs.Ring.{Ring};
 ghost use Rattle.p3_field.specs.Domain.{CosetData, point};
 ghost use Rattle.p3_matrix.specs.Matrix.{Rows, height};
-ghost use Rattle.p3_commit.specs.Space.{IsSplit};
 ghost use Rattle.p3_commit.specs.Commitments.{Committed, IsEvaluated};
 ghost use Rattle.p3_commit.specs.Periodic.{IsPeriod, IsPeriodicTable};
 ghost use Rattle.plain_pcs.specs.Scheme.{Blowup, PlainCommitmentData, scheme};
@@ -12,7 +11,7 @@ ghost use Rattle.plain_pcs.specs.Holding.{IsMade, AreHolding};
 ghost use Rattle.plain_pcs.specs.Transfer.{IsTransfer, IsRepeated};
 
 use crate::commitment::PlainProverData;
-use p3_commit::PeriodicLdeTable;
+use p3_commit::{PeriodicLdeTable, rows_from};
 use p3_dft::TwoAdicSubgroupDft;
 use p3_field::{FieldCore, Mem, RingCore, TwoAdicCore, TwoAdicField, TwoAdicMultiplicativeCoset};
 use p3_matrix::RowMajorMatrix;
@@ -84,29 +83,12 @@ fn transferred<F: TwoAdicField, D: TwoAdicSubgroupDft<F>>(
     let log_to = to.log_size();
     if log_to < log_from {
         let all = dft.coset_lde_batch(alloc, values, 0, shift)?;
-        let rows = rows_apart(alloc, &all, 1 << (log_from - log_to))?;
+        let rows = rows_from(alloc, &all, 0, 1 << (log_from - log_to))?;
         Ok(rows)
     } else {
         let moved = dft.coset_lde_batch(alloc, values, log_to - log_from, shift)?;
         Ok(moved)
     }
-}
-
-// The first row, and then each row that stands so many rows after the one before.
-fn rows_apart<F: Copy>(
-    alloc: Global,
-    m: &RowMajorMatrix<F>,
-    stride: usize,
-) -> Mem<RowMajorMatrix<F>>
-    requires positive { 0 < stride }
-    requires divides { height m.now / stride * stride ≡ height m.now }
-    ensures { IfOk result (IsSplit m.now stride 0) }
-{
-    let mut values = Vec::new(alloc);
-    for j in 0..m.height() / stride {
-        values.extend_from_slice(m.row(stride * j))?;
-    }
-    Ok(RowMajorMatrix::new(values, m.width()))
 }
 
 // Periodic columns side by side, over so many rows.

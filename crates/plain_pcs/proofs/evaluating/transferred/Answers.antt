@@ -24,8 +24,8 @@ coset_lde_batch-requires-clause-shift g c =
     let ratio : c.mul-shift.result ≡ r.mul to.shift (inv from.shift) = cc (g.met.F.PrimeCharacteristicRing.muls _ _ _ c.mul-shift.ensures, c.shift.ensures, c.shift_inverse.ensures) in
     ratio_not_zero r g.met.F.RingCore.ring_laws inv g.met.F.FieldCore.field_laws top root g.met.F.TwoAdicCore.root_laws from.shift to.shift c.mul-shift.result c.valid.ensures.0 c.valid-2.ensures.0 ratio
 
-pub rows_apart-requires-clause-divides : goal.rows_apart-requires-clause-divides
-rows_apart-requires-clause-divides g c =
+pub rows_from-requires-clause-divides : goal.rows_from-requires-clause-divides
+rows_from-requires-clause-divides g c =
     let r = g.F.RingCore.ring in
     let inv = g.F.FieldCore.inv in
     let top = g.F.TwoAdicCore.TWO_ADICITY in
