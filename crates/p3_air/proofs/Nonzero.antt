@@ -3,7 +3,7 @@ use Rattle.std.proofs.Common.{◌≡◌, ℕ, ◌+◌, ◌<◌, ◌⊎◌, inl, 
 use Rattle.std.specs.Prelude.{All, Contains}
 use Rattle.std.proofs.lemmas.Bool.{cases_lt}
 use Rattle.std.proofs.lemmas.List.{get_or_append_left, get_or_push, get_or_default, get_or-map, length-map}
-use Rattle.std.proofs.lemmas.List.Elements.{All-nil, All-push, All-weaker, Contains-append_left, Contains-push}
+use Rattle.std.proofs.lemmas.List.Elements.{All-push, All-weaker, Contains-append_left, Contains-push}
 use Rattle.p3_field.specs.Ring.{Ring}
 use Rattle.p3_air.specs.Check.{AreNonzero}
 
@@ -17,13 +17,6 @@ pub record NonzeroBelow {A : Type 0} (r : Ring A) (values : List A) (n : ℕ) (p
   pub increasing : (i j : ℕ) → i < j → j < length places → get_or places i 0 < get_or places j 0
 
 module _ {A : Type 0} (r : Ring A) (values : List A) where
-  pub nonzero_none : NonzeroBelow r values 0 []
-  nonzero_none = record {
-    nonzero = All-nil (NonzeroAt r values 0);
-    others = λ k lt. absurd (omega (arith, lt));
-    increasing = λ i j a b. absurd (omega (arith, b));
-  }
-
   weaker : (n : ℕ) (places : List ℕ) → All (NonzeroAt r values n) places → All (NonzeroAt r values (n + 1)) places
   weaker n places h = All-weaker (NonzeroAt r values n) (NonzeroAt r values (n + 1)) (λ k x. let b = x.0 in (omega (arith, b), x.1)) places h
 
@@ -62,13 +55,6 @@ module _ {A : Type 0} (r : Ring A) (values : List A) where
               let below = (h.nonzero i 0 here).0 in
               omega (arith, left, right, below)
         ];
-  }
-
-  pub nonzero_all : (n : ℕ) (places : List ℕ) → NonzeroBelow r values n places → n ≡ length values → AreNonzero r values places
-  nonzero_all n places h e = record {
-    nonzero = λ k d lt. let x = h.nonzero k d lt in let b = x.0 in (omega (arith, b, e), x.1);
-    others = λ k lt. h.others k (omega (arith, lt, e));
-    increasing = h.increasing;
   }
 
   -- no places: all values are zero

@@ -59,17 +59,6 @@ abbrev size_of : {T : Type 0} → Rows T → Dimensions
 size_of m = record { width = m.width; height = height m }
 
 module _ {T : Type 0} (ms : List (Rows T)) (i : ℕ) where
-  pub row_some : IsRowOf ms i → 0 < length ms
-  row_some (n, (G, below)) = omega (arith, G.is_one.1, length-map ms (λ (m : Rows T). height m))
-
-  pub below_greatest : (most : ℕ) → IsRowOf ms i → IsGreatest (map (λ m. height m) ms) most → i < most
-  below_greatest most (n, (G, below)) H = omega (arith, below, one_greatest (map (λ (m : Rows T). height m) ms) n most G H)
-
-  pub rows_at_greatest : (most : ℕ) (rows : List (List T)) → IsGreatest (map (λ m. height m) ms) most → rows ≡ map (λ m. row_at m (row_in most (height m) i)) ms → AreRowsAt ms i rows
-  rows_at_greatest most rows G e n H =
-      let P : ℕ → Type 0 = λ k. rows ≡ map (λ m. row_at m (row_in k (height m) i)) ms in
-      subst P (one_greatest (map (λ (m : Rows T). height m) ms) most n G H) e
-
   pub the_rows_at_greatest : (eq : T → T → Bool) (most : ℕ) (rows : List (List T)) → IsGreatest (map (λ m. height m) ms) most → EachFrom ms rows (λ m row. IsRow eq (row_in most (height m) i) m row) → AreTheRows eq ms i rows
   the_rows_at_greatest eq most rows G e n H =
       let P : ℕ → Type 0 = λ k. EachFrom ms rows (λ m row. IsRow eq (row_in k (height m) i) m row) in

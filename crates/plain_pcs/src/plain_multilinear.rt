@@ -159,7 +159,9 @@ impl<F: Field, EF: ExtensionField<F>, C: CanObserve<F>> MultilinearPcs<EF, C>
         observe_values(challenger, &commitment.values);
     }
 
-    /// The values at the protocol's points, in order. The challenger stays as it was.
+    /// The values at the protocol's points, in order. `Length` comes exactly where the prover's values aren't 2^`num_vars`, and
+    /// where they are, `PointLength` exactly for the first point with another number of coordinates. The challenger stays as
+    /// it was.
     fn open(
         &self,
         alloc: Global,
@@ -183,7 +185,9 @@ impl<F: Field, EF: ExtensionField<F>, C: CanObserve<F>> MultilinearPcs<EF, C>
         Ok(values_at(alloc, &prover_data.values, protocol)?)
     }
 
-    /// Whether the proof is the values at the protocol's points, in order. The challenger stays as it was.
+    /// Whether the proof is the values at the protocol's points, in order: Ok exactly where it is. Else it names the first
+    /// fault: `Length` of the commitment, `PointLength` of the first such point, `Count`, and `Value` of the first value that
+    /// differs. The challenger stays as it was.
     fn verify(
         &self,
         alloc: Global,

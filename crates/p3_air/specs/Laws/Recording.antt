@@ -10,7 +10,7 @@ use Rattle.p3_air.specs.declared.layout.AirLayout.{AirLayout}
 use Rattle.p3_air.specs.declared.node.Node.{Node}
 use Rattle.p3_air.specs.declared.node.Node.TheVariants.{Constant, Sum, Difference, Product}
 use Rattle.p3_air.specs.declared.recorded.Assertion.{Assertion}
-use Rattle.p3_air.specs.Tree.{Tree, Asserted, Interaction, constant, sum, difference, product, Stand, StandCount}
+use Rattle.p3_air.specs.Tree.{Tree, Asserted, Interaction, sum, difference, product, Stand, StandCount}
 use Rattle.p3_air.specs.Layout.{layout_shape}
 use Rattle.p3_air.specs.Symbolic.{node_tree, trees_after, tree_at, OperandsBelow, OrderedFrom}
 use Rattle.p3_air.specs.Placed.{Placed}
@@ -125,27 +125,8 @@ known_place-stands ns x t h = let w = h.within in grind (arith, nat_tests)
 pub known_place-tree : {F : Type 0} (ns : List (Node F)) (x : ℕ) (t : Tree F) → StandsAt ns x t → tree_at ns (known_place (length ns) x) ≡ t
 known_place-tree ns x t h = ap (λ k. tree_at ns k) (known_place-stands ns x t h) ∙ h.has_tree
 
--- in a builder that began with one constant, an expression that is not among the nodes reads as this constant
-pub foreign-reads : {F : Type 0} (z : F) (a b : Recording F) (x : ℕ) → a.nodes ≡ Constant z ∷ [] → IsLater a b → length b.nodes ≤ x
-    → tree_at b.nodes (known_place (length b.nodes) x) ≡ constant z
-unfolding trees_after
-foreign-reads {F = F} z a b x first h past =
-    let at : known_place (length b.nodes) x ≡ 0 = grind (arith, nat_tests) in
-    let is : b.nodes ≡ (Constant z ∷ []) ++ h.more = h.extends ∙ ap (λ (ns : List (Node F)). ns ++ h.more) first in
-    ap (λ k. tree_at b.nodes k) at ∙ ap (λ (ns : List (Node F)). tree_at ns 0) is ∙ tree_at-append (Constant z ∷ []) h.more 0 (omega arith)
-
 pub known_place-below : (n x : ℕ) → 0 < n → known_place n x < n
 known_place-below n x h = grind (arith, nat_tests)
-
--- one assertion more
-pub grows-assert : {F : Type 0} (r : Recording F) (x : ℕ) (extension : Bool) (t : Tree F) → StandsAt r.nodes x t
-    → Grows r (record r { asserted = r.asserted ++ record { place = known_place (length r.nodes) x; in_extension = extension } ∷ [] }) (record { tree = t; in_extension = extension } ∷ []) []
-grows-assert {F = F} r x extension t h = record {
-  later = record { layout = refl; more = []; extends = sym (append-nil r.nodes) };
-  trees = map-append (asserted_tree r.nodes) r.asserted (record { place = known_place (length r.nodes) x; in_extension = extension } ∷ [])
-      ∙ ap (λ (u : Tree F). asserted_at r.nodes r.asserted ++ record { tree = u; in_extension = extension } ∷ []) (known_place-tree r.nodes x t h);
-  sent = sym (append-nil _);
-}
 
 -- a recording of nothing, whose first node is a constant
 pub recording-first : {F : Type 0} (l : AirLayout) (x : F) → IsRecording {F = F} (record { layout = l; nodes = Constant x ∷ []; asserted = []; interactions = [] })
@@ -155,16 +136,6 @@ recording-first l x = record {
   ordered = (tt, tt);
   asserted = λ k d h. absurd (omega (arith, h));
   interactions = λ k d h. absurd (omega (arith, h));
-}
-
--- one assertion more is among the nodes
-pub recording-assert : {F : Type 0} (r : Recording F) (x : ℕ) (extension : Bool) → IsRecording r → x < length r.nodes
-    → IsRecording (record r { asserted = r.asserted ++ record { place = x; in_extension = extension } ∷ [] })
-recording-assert {F = F} r x extension h below = record {
-  rooted = h.rooted;
-  ordered = h.ordered;
-  asserted = All-push (λ (a : Assertion). a.place < length r.nodes) r.asserted (record { place = x; in_extension = extension }) h.asserted below;
-  interactions = h.interactions;
 }
 
 -- one interaction more is among the nodes
@@ -241,10 +212,6 @@ grows-send {F = F} r bus xs cs fs vs h k =
           ∙ ap (λ (us : List (Tree F)). sent_at r.nodes r.interactions ++ record { bus = bus_of bus; fields = us; counts = map (count_at r.nodes) p.counts } ∷ []) (known_places-trees r.nodes xs fs h)
           ∙ ap (λ (us : List (Count (Tree F))). sent_at r.nodes r.interactions ++ record { bus = bus_of bus; fields = fs; counts = us } ∷ []) (known_counts-trees r.nodes cs vs k);
     }
-
--- an operation on two expressions that stand for trees
-pub operands-known : {F : Type 0} (ns : List (Node F)) (x y : ℕ) → 0 < length ns → (known_place (length ns) x < length ns) × (known_place (length ns) y < length ns)
-operands-known ns x y h = (known_place-below (length ns) x h, known_place-below (length ns) y h)
 
 pub stands-sum : {F E : Type 0} (r : Result ℕ E) (ns ms : List (Node F)) (x y : ℕ) (s t : Tree F) → StandsAt ns x s → StandsAt ns y t
     → IfOk r (λ e. StandsAt ms e (node_tree (trees_after [] ns) (Sum (known_place (length ns) x) (known_place (length ns) y))))

@@ -1,14 +1,9 @@
 -- Values of trees at a row, as trees are asserted.
-use Rattle.std.proofs.Common.{◌≡◌, ◌++◌, List, [], ◌∷◌, map, refl, sym, ◌∙◌, ap, subst, append_assoc, append-nil}
+use Rattle.std.proofs.Common.{◌≡◌, ◌++◌, List, [], map, refl, sym, ◌∙◌, ap, subst, append_assoc, append-nil}
 use Rattle.std.proofs.lemmas.List.{map-append}
-use Rattle.p3_field.specs.Ring.{Ring, RingLaws, sub}
-use Rattle.p3_field.specs.Field.{RingHom}
-use Rattle.p3_field.specs.Laws.Extended.{hom_neg}
+use Rattle.p3_field.specs.Ring.{Ring}
 use Rattle.p3_air.specs.Tree.{Tree, Asserted}
 use Rattle.p3_air.specs.RowCheck.{Row, Checked, Adds, value_at, row_shape}
-
-pub row-same : {F E : Type 0} (a : Checked F E) → a.row ≡ a.row
-row-same a = refl
 
 pub row-along : {F E : Type 0} (a b c : Checked F E) → b.row ≡ a.row → c.row ≡ b.row → c.row ≡ a.row
 row-along a b c h k = k ∙ h
@@ -34,13 +29,3 @@ adds-along {F = F} {E = E} f e embed a b c s t h k =
       row = k.row ∙ h.row;
       values = more ∙ ap (λ (l : List E). l ++ map v t) h.values ∙ append_assoc a.values (map v s) (map v t) ∙ ap (λ (l : List E). a.values ++ l) (sym (map-append v s t));
     }
-
--- the value of one tree more
-pub adds-one : {F E : Type 0} (f : Ring F) (e : Ring E) (embed : F → E) (a : Checked F E) (x : E) (t : Asserted F) → x ≡ value_at f e embed a.row t.tree
-    → Adds f e embed a (record a { values = a.values ++ x ∷ [] }) (t ∷ [])
-adds-one {E = E} f e embed a x t h = record { row = refl; values = ap (λ (y : E). a.values ++ y ∷ []) h }
-
--- sums, differences and products of values of the base field
-pub embed-sub : {F E : Type 0} (f : Ring F) (L : RingLaws f) (e : Ring E) (M : RingLaws e) (embed : F → E) (H : RingHom f e embed) (x y : F)
-    → embed (sub f x y) ≡ sub e (embed x) (embed y)
-embed-sub {E = E} f L e M embed H x y = H.keeps_add x (f.neg y) ∙ ap (λ (z : E). e.add (embed x) z) (hom_neg f L e M embed H y)

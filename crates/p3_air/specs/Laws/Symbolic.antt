@@ -5,7 +5,7 @@ use Rattle.p3_air.specs.declared.cells.Cell.TheVariants.{FirstRow}
 use Rattle.p3_air.specs.declared.node.Node.{Node}
 use Rattle.p3_air.specs.declared.node.Node.TheVariants.{Constant, Base, Extension, Sum, Difference, Product}
 use Rattle.p3_air.specs.Tree.{Tree, constant, cell, ext_cell, sum, difference, product}
-use Rattle.p3_air.specs.Symbolic.{tree_in, node_tree, trees_after, tree_at, tree_of, OperandsBelow, OrderedFrom, Ordered}
+use Rattle.p3_air.specs.Symbolic.{tree_in, node_tree, trees_after, tree_at, OperandsBelow, OrderedFrom, Ordered}
 
 -- one tree a node
 pub length-trees_after : {F : Type 0} (ts : List (Tree F)) (ns : List (Node F)) → length (trees_after ts ns) ≡ length ts + length ns
@@ -77,10 +77,6 @@ tree_at-push {F = F} ns n =
     let ts = trees_after [] ns in
     let long = length-trees_after {F = F} [] ns in
     ap (λ (us : List (Tree F)). tree_in us (length ns)) (trees_after-append [] ns (n ∷ [])) ∙ get_or_push ts (node_tree ts n) (cell FirstRow) (length ns) (omega (arith, long))
-
--- the last node's tree is the tree of the whole
-pub tree_of-push : {F : Type 0} (ns : List (Node F)) (n : Node F) → tree_of (ns ++ n ∷ []) ≡ node_tree (trees_after [] ns) n
-tree_of-push ns n = ap (λ k. tree_at (ns ++ n ∷ []) k) (omega (arith, length-append ns (n ∷ []))) ∙ tree_at-push ns n
 
 -- a node whose operands are in the list may be added
 pub ordered-push : {F : Type 0} (k : ℕ) (ns : List (Node F)) (n : Node F) → OrderedFrom k ns → OperandsBelow (k + length ns) n → OrderedFrom k (ns ++ n ∷ [])
