@@ -101,7 +101,7 @@ impl MemorySink {
     /// An empty sink with room for `room` bytes, which takes at most `most` bytes in one call.
     ///
     /// Of its calls of `write`, counted from 0, those in `failing` fail, and so do those that could take nothing;
-    /// each counts a fault.
+    /// each counts a fault. It fails only for want of memory.
     pub fn new(alloc: Global, room: usize, most: usize, failing: Vec<u64>) -> Mem<Self>
         ensures { IfOk result (λ s. s ≡ record { written = []; room = room; most = most; failing = failing.items; calls = 0; faults = 0 }) }
     {

@@ -112,7 +112,7 @@ fn opened_proof(
 }
 
 /// The status and the text for a job of this table: its statement and its honest proof, or the refusal where the
-/// grinding before zeta has no witness or the drawn zeta lies in the trace domain.
+/// grinding before zeta has no witness or the drawn zeta lies in the trace domain. It fails only for want of memory.
 pub fn prove(alloc: Global, table: &SwapTable) -> Mem<(Status, Vec<u8>)>
     requires { table.now.log_rows ≤ 10 }
     ensures { IfOk result (λ p. IsJobAnswer table.now p.0 p.1.items) }

@@ -129,7 +129,7 @@ fn single_label(alloc: Global, width: usize) -> Mem<Vec<u8>>
     Ok(label)
 }
 
-/// A challenger behind the separator of a batch of one table.
+/// A challenger behind the separator of a batch of one table of this trace width. It fails only for want of memory.
 pub fn seeded_challenger(alloc: Global, width: usize, public_values: usize) -> Mem<Sha256Challenger>
     ensures { IfOk result (λ s. s ≡ seeded_state tool (single_shape width public_values 4)) }
 {

@@ -156,7 +156,8 @@ fn first_refusal(
     }
 }
 
-/// The status and the text for a file of the first form: accepted where no check fails, and else the first that fails.
+/// The status and the text for a file of the first form: accepted where no check fails, and else the first that fails. It
+/// fails only for want of memory.
 pub fn verify(alloc: Global, file: FirstForm) -> Mem<(Status, Vec<u8>)>
     requires { IsFirstForm most_log_rows file }
     ensures { IfOk result (λ p. IsFileAnswer file p.0 p.1.items) }

@@ -184,7 +184,7 @@ pub trait PolynomialSpace: Copy {
     ghost part_size: { (d e : Self) (c i : ℕ) → part d c i e → points e * c ≡ points d };
 }
 
-/// Whether two cosets have no point in common: they have one exactly where the ratio of their shifts lies in the
+/// Whether two cosets have no point in common (own): they have one exactly where the ratio of their shifts lies in the
 /// larger of their subgroups.
 pub fn are_disjoint<F: TwoAdicField>(
     first: &TwoAdicMultiplicativeCoset<F>,

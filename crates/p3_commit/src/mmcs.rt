@@ -53,7 +53,7 @@ pub trait Mmcs<T: Copy + Eq> {
 
     ghost multi_fault: { Self → Self.Commitment → List Dimensions → List ℕ → List (List (List T)) → Self.MultiProof → Self.Error → Type 0 };
 
-    /// Commits to at least one matrix, of heights that are powers of two.
+    /// Commits to at least one matrix, of heights that are powers of two. Memory alone can be wanting.
     fn commit(
         &self,
         alloc: Global,
@@ -64,7 +64,8 @@ pub trait Mmcs<T: Copy + Eq> {
         ensures matrices { IfOk result (λ w. matrices w.1 ≡ inputs.items) }
         ensures belongs { IfOk result (λ w. belongs self.now w.1 w.0) };
 
-    /// Opens one row of each matrix: of the highest that with this number.
+    /// Opens one row of each matrix: of the highest that with this number, which is below its height. Memory alone can be
+    /// wanting.
     fn open_batch(
         &self,
         alloc: Global,

@@ -112,8 +112,8 @@ pub(crate) fn selectors_on<F: TwoAdicField>(
     })
 }
 
-/// The first selector of a trace domain, whose shift is one, at a point u: the product of 1 + u^(2^j) for j below
-/// the logarithm of the size. It needs no inverse.
+/// The first selector of a trace domain, whose shift is one, at a point u (own): the product of 1 + u^(2^j) for j
+/// below the logarithm of the size. It needs no inverse.
 pub fn first_selector_at<F: TwoAdicField, EF: ExtensionField<F>>(
     domain: &TwoAdicMultiplicativeCoset<F>,
     point: EF,
@@ -124,8 +124,8 @@ pub fn first_selector_at<F: TwoAdicField, EF: ExtensionField<F>>(
     sum_of_powers(point, domain.log_size())
 }
 
-/// The last selector of a trace domain, whose shift is one, at a point u: with its generator h, h times the first
-/// selector at h * u. It needs no inverse.
+/// The last selector of a trace domain, whose shift is one, at a point u (own): with its generator h, h times the
+/// first selector at h * u. It needs no inverse.
 pub fn last_selector_at<F: TwoAdicField, EF: ExtensionField<F>>(
     domain: &TwoAdicMultiplicativeCoset<F>,
     point: EF,

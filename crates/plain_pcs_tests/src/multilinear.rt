@@ -69,6 +69,19 @@ fn a_line(rt: HostRuntime) -> Result<(), Fail> {
     assert_eq!(rt; opened.as_slice(), [quartic(17)].as_slice());
     assert_eq!(rt; challenger, verifier);
     assert!(rt; verified(alloc, &pcs, &commitment, &points, &opened).is_ok());
+    Ok(())
+}
+
+#[test]
+fn wrong_values_of_a_line(rt: HostRuntime) -> Result<(), Fail> {
+    let alloc = rt.alloc();
+    let pcs = PlainMultilinear::<BabyBear>::new(1);
+    let values = vec![in alloc; bear(5), bear(9)]?;
+    let mut challenger = Sha256Challenger::new();
+    let (commitment, _data) = committed(alloc, &pcs, values, &mut challenger)
+        .ok()
+        .ok_or("refused")?;
+    let points = vec![in alloc; vec![in alloc; quartic(3)]?]?;
     let wrong = vec![in alloc; quartic(18)]?;
     let answer = verified(alloc, &pcs, &commitment, &points, &wrong);
     assert!(rt;
@@ -116,7 +129,7 @@ fn two_variables(rt: HostRuntime) -> Result<(), Fail> {
 }
 
 #[test]
-fn refused_lengths(rt: HostRuntime) -> Result<(), Fail> {
+fn refused_values(rt: HostRuntime) -> Result<(), Fail> {
     let alloc = rt.alloc();
     let pcs = PlainMultilinear::<BabyBear>::new(1);
     let mut challenger = Sha256Challenger::new();
@@ -129,6 +142,14 @@ fn refused_lengths(rt: HostRuntime) -> Result<(), Fail> {
         )
     );
     assert_eq!(rt; challenger, Sha256Challenger::new());
+    Ok(())
+}
+
+#[test]
+fn refused_points(rt: HostRuntime) -> Result<(), Fail> {
+    let alloc = rt.alloc();
+    let pcs = PlainMultilinear::<BabyBear>::new(1);
+    let mut challenger = Sha256Challenger::new();
     let values = vec![in alloc; bear(5), bear(9)]?;
     let (commitment, data) = committed(alloc, &pcs, values, &mut challenger)
         .ok()

@@ -87,6 +87,11 @@ fn at(
     })
 }
 
+// The claims on a matrix with columns on this domain.
+fn claims_on(domain: Coset, points: Vec<PointOpening<BabyBear>>) -> MatrixOpening<BabyBear, Coset> {
+    MatrixOpening { domain, points }
+}
+
 // The claims on both commitments, with this second value of the second matrix at 10.
 fn claims(
     alloc: Global,
@@ -104,22 +109,8 @@ fn claims(
         at(alloc, 10, bear(1), Some(value))?,
         at(alloc, 3, bear(1), Some(bear(1)))?,
     ]?;
-    let one = vec![in alloc;
-        MatrixOpening {
-            domain,
-            points: alone
-        },
-    ]?;
-    let two = vec![in alloc;
-        MatrixOpening {
-            domain,
-            points: line
-        },
-        MatrixOpening {
-            domain,
-            points: both
-        },
-    ]?;
+    let one = vec![in alloc; claims_on(domain, alone)]?;
+    let two = vec![in alloc; claims_on(domain, line), claims_on(domain, both)]?;
     let rounds = vec![in alloc;
         CommitmentOpening {
             commitment: first,

@@ -62,30 +62,32 @@ fn fault_of(alloc: Global, claim: Claim) -> Result<Option<PlainError>, Fail> {
     }
 }
 
+// The first fault of the claims at 9 on a matrix with this one column, or None.
+fn fault_of_column(
+    alloc: Global,
+    column: Vec<BabyBear>,
+    values: Vec<QuarticExtension>,
+) -> Result<Option<PlainError>, Fail> {
+    let made = claim(alloc, column, values)?.ok_or("no domain")?;
+    fault_of(alloc, made)
+}
+
 #[test]
 fn a_claim_that_holds(rt: HostRuntime) -> Result<(), Fail> {
     let alloc = rt.alloc();
-    let held = claim(
-        alloc,
-        vec![in alloc; bear(5), bear(5)]?,
-        vec![in alloc; above(5)]?,
-    )?
-    .ok_or("no domain")?;
-    assert_eq!(rt; fault_of(alloc, held)?, None);
+    let column = vec![in alloc; bear(5), bear(5)]?;
+    let fault = fault_of_column(alloc, column, vec![in alloc; above(5)]?)?;
+    assert_eq!(rt; fault, None);
     Ok(())
 }
 
 #[test]
-fn claims_that_fail(rt: HostRuntime) -> Result<(), Fail> {
+fn another_value(rt: HostRuntime) -> Result<(), Fail> {
     let alloc = rt.alloc();
-    let other = claim(
-        alloc,
-        vec![in alloc; bear(5), bear(5)]?,
-        vec![in alloc; above(6)]?,
-    )?
-    .ok_or("no domain")?;
+    let column = vec![in alloc; bear(5), bear(5)]?;
+    let fault = fault_of_column(alloc, column, vec![in alloc; above(6)]?)?;
     assert_eq!(rt;
-        fault_of(alloc, other)?,
+        fault,
         Some(PlainError::Value {
             round: 0,
             matrix: 0,
@@ -93,39 +95,45 @@ fn claims_that_fail(rt: HostRuntime) -> Result<(), Fail> {
             column: 0
         })
     );
-    let linear = claim(
-        alloc,
-        vec![in alloc; bear(5), bear(6)]?,
-        vec![in alloc; above(5)]?,
-    )?
-    .ok_or("no domain")?;
+    Ok(())
+}
+
+#[test]
+fn a_degree_too_high(rt: HostRuntime) -> Result<(), Fail> {
+    let alloc = rt.alloc();
+    let column = vec![in alloc; bear(5), bear(6)]?;
+    let fault = fault_of_column(alloc, column, vec![in alloc; above(5)]?)?;
     assert_eq!(rt;
-        fault_of(alloc, linear)?,
+        fault,
         Some(PlainError::Degree {
             round: 0,
             matrix: 0,
             column: 0
         })
     );
-    let wide = claim(
-        alloc,
-        vec![in alloc; bear(5), bear(5)]?,
-        vec![in alloc; above(5), above(5)]?,
-    )?
-    .ok_or("no domain")?;
+    Ok(())
+}
+
+#[test]
+fn a_value_too_many(rt: HostRuntime) -> Result<(), Fail> {
+    let alloc = rt.alloc();
+    let column = vec![in alloc; bear(5), bear(5)]?;
+    let fault = fault_of_column(alloc, column, vec![in alloc; above(5), above(5)]?)?;
     assert_eq!(rt;
-        fault_of(alloc, wide)?,
+        fault,
         Some(PlainError::Dimensions {
             round: 0,
             matrix: 0
         })
     );
-    let mut none = claim(
-        alloc,
-        vec![in alloc; bear(5), bear(5)]?,
-        vec![in alloc; above(5)]?,
-    )?
-    .ok_or("no domain")?;
+    Ok(())
+}
+
+#[test]
+fn a_claim_without_a_matrix(rt: HostRuntime) -> Result<(), Fail> {
+    let alloc = rt.alloc();
+    let column = vec![in alloc; bear(5), bear(5)]?;
+    let mut none = claim(alloc, column, vec![in alloc; above(5)]?)?.ok_or("no domain")?;
     none.commitment.matrices.clear();
     assert_eq!(rt;
         fault_of(alloc, none)?,
