@@ -1,5 +1,5 @@
 -- What a prover's folder reads, the powers that are left and the sum so far.
-use Rattle.std.specs.Prelude.{ℕ, ◌+◌, length, drop}
+use Rattle.std.specs.Prelude.{ℕ, ◌+◌, List, length, drop}
 use Rattle.p3_uni_stark.specs.declared.prover_folder.ProverFolder.{ProverFolder}
 use Rattle.p3_uni_stark.specs.Fold.{Sum}
 use Rattle.p3_uni_stark.specs.Point.{PointValues}
@@ -16,6 +16,14 @@ values_of b = record {
   last_row = b.is_last_row;
   transition = b.is_transition;
 }
+
+-- what no call changes: the values that are read, and the powers, also those that are taken
+pub record Given (F E : Type 0) : Type 0 where
+  pub values : PointValues F F
+  pub powers : List E
+
+abbrev pub given_of : {F E : Type 0} → ProverFolder F E → Given F E
+given_of b = record { values = values_of b; powers = b.alpha_powers.now }
 
 abbrev pub sum_of : {F E : Type 0} → ProverFolder F E → Sum E
 sum_of b = record { left = drop b.constraint_index b.alpha_powers.now; total = b.accumulator }

@@ -38,7 +38,8 @@ pub enum InvalidProofShapeError {
         air: Option<usize>,
         /// The greatest logarithm of a domain's size.
         maximum: usize,
-        /// The logarithm of the quotient domain's size, which stops at the greatest `usize`.
+        /// The logarithm that is too great, of the number of chunks or of the quotient domain's size. It stops at the
+        /// greatest `usize`.
         got: usize,
     },
     /// The next row's opened values are missing, or too few or too many.
@@ -105,13 +106,13 @@ pub enum InvalidProofShapeError {
         /// The number of the table in its batch.
         air: usize,
     },
-    /// The preprocessed trace was committed for another height.
+    /// The preprocessed trace was committed for another height, or its width is given as zero.
     #[error("table {air}: the preprocessed trace was committed for another height")]
     PreprocessedMetadataMismatch {
         /// The number of the table in its batch.
         air: usize,
     },
-    /// The preprocessed values aren't opened.
+    /// The preprocessed values aren't opened, or those of a declared next row aren't.
     #[error("table {air}: the preprocessed values aren't opened")]
     MissingPreprocessedValues {
         /// The number of the table in its batch.

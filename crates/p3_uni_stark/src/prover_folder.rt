@@ -46,11 +46,11 @@ pub struct ProverFolder<'a, F, E> {
 }
 
 impl<F: Field, E: ExtensionField<F>> ProverFolder<'_, F, E> {
-    ghost use Rattle.p3_uni_stark.specs.ProverState.{values_of, sum_of, powers_of};
+    ghost use Rattle.p3_uni_stark.specs.ProverState.{given_of, sum_of, powers_of};
 
     // Adds the value of one more constraint times its power.
     fn add_weighted(&mut self, x: E)
-        ensures same { values_of self.new ≡ values_of self.old }
+        ensures same { given_of self.new ≡ given_of self.old }
         ensures sum { sum_of self.new ≡ added_to E.ring (sum_of self.old).left self.old.accumulator x }
         ensures index { powers_of self.new ≡ powers_of self.old }
     {
@@ -63,7 +63,7 @@ impl<F: Field, E: ExtensionField<F>> ProverFolder<'_, F, E> {
 }
 
 impl<'a, F: Field, E: ExtensionField<F>> AirBuilder for ProverFolder<'a, F, E> {
-    ghost use Rattle.p3_uni_stark.specs.ProverState.{values_of, sum_of, powers_of};
+    ghost use Rattle.p3_uni_stark.specs.ProverState.{values_of, given_of, sum_of, powers_of};
 
     type F = F;
 
@@ -71,9 +71,9 @@ impl<'a, F: Field, E: ExtensionField<F>> AirBuilder for ProverFolder<'a, F, E> {
 
     ghost stands = { λ b e t. E.embed e ≡ ev (reading E.ring E.embed (embedded E.embed (values_of b))) t };
 
-    ghost later = { λ a b. values_of b ≡ values_of a };
+    ghost later = { λ a b. given_of b ≡ given_of a };
 
-    ghost grows = { λ a b ts is. (values_of b ≡ values_of a) × (sum_of b ≡ weighed_from E.ring (sum_of a) (map (ev_asserted (reading E.ring E.embed (embedded E.embed (values_of a)))) ts)) × (powers_of b ≡ powers_of a) };
+    ghost grows = { λ a b ts is. (given_of b ≡ given_of a) × (sum_of b ≡ weighed_from E.ring (sum_of a) (map (ev_asserted (reading E.ring E.embed (embedded E.embed (values_of a)))) ts)) × (powers_of b ≡ powers_of a) };
 
     ghost shape = { λ b. point_shape (values_of b) };
 
@@ -126,19 +126,19 @@ impl<'a, F: Field, E: ExtensionField<F>> AirBuilder for ProverFolder<'a, F, E> {
 
     ghost later_along = { λ a b c p q. q ∙ p };
 
-    ghost later_shape = { λ a b p. shape_along (λ v. v) (values_of a) (values_of b) p };
+    ghost later_shape = { λ a b p. shape_along (λ o. o.values) (given_of a) (given_of b) p };
 
-    ghost persists = { λ a b h e t k. value_persists (λ v. reading E.ring E.embed (embedded E.embed v)) (values_of a) (values_of b) (E.embed e) t h k };
+    ghost persists = { λ a b h e t k. value_persists (λ o. reading E.ring E.embed (embedded E.embed o.values)) (given_of a) (given_of b) (E.embed e) t h k };
 
     ghost grows_same = { λ a. (refl, refl, refl) };
 
     ghost grows_later = { λ a b t i h. h.0 };
 
-    ghost grows_along = { λ a b c s t i j p q. (q.0 ∙ p.0, weighed_along E.ring (λ v. reading E.ring E.embed (embedded E.embed v)) (values_of a) (values_of b) (sum_of a) (sum_of b) (sum_of c) s t p.0 p.1 q.1, q.2 ∙ p.2) };
+    ghost grows_along = { λ a b c s t i j p q. (q.0 ∙ p.0, weighed_along E.ring (λ o. reading E.ring E.embed (embedded E.embed o.values)) (given_of a) (given_of b) (sum_of a) (sum_of b) (sum_of c) s t p.0 p.1 q.1, q.2 ∙ p.2) };
 }
 
 impl<'a, F: Field, E: ExtensionField<F>> ExtensionBuilder for ProverFolder<'a, F, E> {
-    ghost use Rattle.p3_uni_stark.specs.ProverState.{values_of};
+    ghost use Rattle.p3_uni_stark.specs.ProverState.{values_of, given_of};
 
     type ExprEF = E;
 
@@ -167,7 +167,7 @@ impl<'a, F: Field, E: ExtensionField<F>> ExtensionBuilder for ProverFolder<'a, F
 
     ghost arrays_fit_ext = { E.arrays_fit };
 
-    ghost persists_ext = { λ a b h e t k. value_persists (λ v. reading E.ring E.embed (embedded E.embed v)) (values_of a) (values_of b) e t h k };
+    ghost persists_ext = { λ a b h e t k. value_persists (λ o. reading E.ring E.embed (embedded E.embed o.values)) (given_of a) (given_of b) e t h k };
 }
 
 impl<'a, F: Field, E: ExtensionField<F>> PermutationAirBuilder for ProverFolder<'a, F, E> {
@@ -177,15 +177,15 @@ impl<'a, F: Field, E: ExtensionField<F>> PermutationAirBuilder for ProverFolder<
 }
 
 impl<'a, F: Field, E: ExtensionField<F>> InteractionBuilder for ProverFolder<'a, F, E> {
-    ghost use Rattle.p3_uni_stark.specs.ProverState.{values_of, sum_of, powers_of};
+    ghost use Rattle.p3_uni_stark.specs.ProverState.{values_of, given_of, sum_of, powers_of};
 
     fn push_interaction(&mut self, _bus_name: &str, fields: &[F], count: Count<F>) -> Mem<()>
-        ensures later { values_of self.new ≡ values_of self.old }
+        ensures later { given_of self.new ≡ given_of self.old }
         ensures same { point_shape (values_of self.new) ≡ point_shape (values_of self.old) }
         ensures answers { IsTrue true → IsOk result }
         ensures grows { (fs : List (Tree F)) (v : Tree F) → Stand (λ e t. E.embed e ≡ ev (reading E.ring E.embed (embedded E.embed (values_of self.old))) t) fields.now fs → E.embed count.value ≡ ev (reading E.ring E.embed (embedded E.embed (values_of self.old))) v
-            → IfOk result (λ _. (values_of self.new ≡ values_of self.old) × (sum_of self.new ≡ weighed_from E.ring (sum_of self.old) []) × (powers_of self.new ≡ powers_of self.old)) }
-        ensures refused { OnErr result ((values_of self.new ≡ values_of self.old) × (sum_of self.new ≡ weighed_from E.ring (sum_of self.old) []) × (powers_of self.new ≡ powers_of self.old)) }
+            → IfOk result (λ _. (given_of self.new ≡ given_of self.old) × (sum_of self.new ≡ weighed_from E.ring (sum_of self.old) []) × (powers_of self.new ≡ powers_of self.old)) }
+        ensures refused { OnErr result ((given_of self.new ≡ given_of self.old) × (sum_of self.new ≡ weighed_from E.ring (sum_of self.old) []) × (powers_of self.new ≡ powers_of self.old)) }
     {
         Ok(())
     }
