@@ -1,8 +1,8 @@
 -- What the plain scheme's clauses say where there is one matrix, over plain variables.
-use Rattle.std.proofs.Common.{◌≡◌, ℕ, zero, suc, ◌+◌, ◌-◌, ◌*◌, ◌^◌, ◌<◌, ◌≤◌, inl, inr, Some, List, [], ◌∷◌, ◌++◌, length, drop, get_or, map, refl, sym, ◌∙◌, ap, subst, arith}
+use Rattle.std.proofs.Common.{◌≡◌, ℕ, zero, suc, ◌+◌, ◌*◌, ◌^◌, ◌<◌, ◌≤◌, inl, inr, Some, List, [], ◌∷◌, ◌++◌, length, get_or, map, refl, sym, ◌∙◌, ap, subst, arith}
 use Rattle.std.specs.Prelude.{slice_get, Result, Err, All}
 use Rattle.std.specs.List.{flat_map}
-use Rattle.std.proofs.lemmas.List.{get_or-take, get_or-drop, length-map, get_or-map, get_or_append_left, get_or-append-add}
+use Rattle.std.proofs.lemmas.List.{length-map, get_or-map, get_or_append_left, get_or-append-add}
 use Rattle.p3_field.specs.Poly.{table}
 use Rattle.p3_field.specs.Domain.{CosetData, point, coset_point, IsInterpolant}
 use Rattle.p3_field.specs.BabyBear.{reduce, bear_ring, bear_inv, bear_root}
@@ -17,7 +17,7 @@ use Rattle.p3_field.specs.declared.quartic.QuarticExtension.{QuarticExtension}
 use Rattle.p3_matrix.specs.Matrix.{Rows, FillsRows, height, row_at, cell_at, column}
 use Rattle.p3_matrix.specs.Laws.Cells.{length-column, get_or-column}
 use Rattle.p3_matrix.specs.Laws.Powers.{power_cancel}
-use Rattle.p3_matrix.specs.Laws.Transposed.{length-row_at}
+use Rattle.p3_matrix.specs.Laws.Transposed.{length-row_at, get_or-row_at}
 use Rattle.p3_dft.specs.Transform.{values_at}
 use Rattle.p3_dft.specs.Laws.Values.{length-values_at}
 use Rattle.p3_commit.specs.Space.{IsPart}
@@ -25,6 +25,7 @@ use Rattle.p3_commit.specs.Failure.{FaultInTurn, IfRefused}
 use Rattle.p3_commit.specs.declared.failure.PcsFailure.{PcsFailure}
 use Rattle.p3_commit.specs.declared.failure.PcsFailure.TheVariants.{Refused}
 use Rattle.p3_commit.specs.Commitments.{Committed, IsCommitment, IsCommitted, AreCommitted, IsEvaluated, AreParts, AreExtensions}
+use Rattle.p3_commit.specs.Laws.OneItem.{single}
 use Rattle.plain_pcs.specs.Scheme.{Scheme, PlainCommitmentData}
 use Rattle.plain_pcs.specs.Extension.{columns, interpolant, extended_domain, extension_of, commitment_of, IsCommittable, Extends}
 use Rattle.plain_pcs.specs.Laws.Evaluations.{height-evaluations}
@@ -38,11 +39,6 @@ use Rattle.batch_tool.specs.Opening.{plain_scheme}
 use Rattle.batch_tool.specs.Committed.{interpolants, IsCommittedTo}
 use Rattle.batch_tool.specs.Laws.OneProof.{apart}
 
-pub single : {X : Type 0} (xs : List X) → length xs ≡ 1 → (x : X) × (xs ≡ x ∷ [])
-single [] e = absurd (omega arith)
-single (x ∷ []) e = (x, refl)
-single (x ∷ y ∷ zs) e = absurd (omega arith)
-
 -- the item of a list of one
 pub the_item : {X : Type 0} (xs : List X) (x y : X) (i : ℕ) → xs ≡ x ∷ [] → slice_get xs i ≡ Some y → x ≡ y
 the_item xs x y zero e g = let h : Some x ≡ Some y = sym (ap (λ l. slice_get l 0) e) ∙ g in cc
@@ -55,19 +51,12 @@ cause-of {T = T} {E = E} Q r x e p q h =
     let R : PcsFailure E → Type 0 = λ x. IfRefused {T = T} (Err x) Q in
     subst R q (subst P p h)
 
--- a cell by its row
-cell-row : {F : Type 0} (m : Rows F) (i j : ℕ) (d : F) → j < m.width → get_or (row_at m i) j d ≡ cell_at d m i j
-cell-row m i j d b =
-    let at = i * m.width in
-    let c : j < (at + m.width) - at = omega arith in
-    get_or-take ((at + m.width) - at) (drop at m.values) j d c ∙ get_or-drop at m.values j d
-
 -- a row of two columns
 pub row-of-two : {F : Type 0} (z : F) (m : Rows F) (i : ℕ) → FillsRows m.values m.width → m.width ≡ 2 → i < height m → row_at m i ≡ get_or (column z m 0) i z ∷ get_or (column z m 1) i z ∷ []
 row-of-two z m i f w a =
     let n : length (row_at m i) ≡ 2 = length-row_at m f i a ∙ w in
-    let first = cell-row m i 0 z (omega (arith, w)) ∙ sym (get_or-column z m 0 i a) in
-    let second = cell-row m i 1 z (omega (arith, w)) ∙ sym (get_or-column z m 1 i a) in
+    let first = get_or-row_at m i 0 z (omega (arith, w)) ∙ sym (get_or-column z m 0 i a) in
+    let second = get_or-row_at m i 1 z (omega (arith, w)) ∙ sym (get_or-column z m 1 i a) in
     items (row_at m i) n ∙ (λ j. first j ∷ second j ∷ [])
   where
     items : (l : List _) → length l ≡ 2 → l ≡ get_or l 0 z ∷ get_or l 1 z ∷ []
@@ -84,7 +73,7 @@ columns-by-rows z m p w h rows =
     ∙ table_same m.width (column z p) (column z m)
     (λ j b. ap (λ n. table n (λ i. cell_at z p i j)) h
     ∙ table_same (height m) (λ i. cell_at z p i j) (λ i. cell_at z m i j)
-    (λ i a. sym (cell-row p i j z (omega (arith, w))) ∙ (ap (λ l. get_or l j z) (rows i (omega (arith, h))) ∙ cell-row m i j z b)))
+    (λ i a. sym (get_or-row_at p i j z (omega (arith, w))) ∙ (ap (λ l. get_or l j z) (rows i (omega (arith, h))) ∙ get_or-row_at m i j z b)))
 
 -- a list made of pieces of one length, place by place
 pub in-pieces : {X Y : Type 0} (f : X → List Y) (d : ℕ) (len : (x : X) → length (f x) ≡ d) (xs : List X) (i j : ℕ) (x : X) (y : Y) → i < length xs → j < d

@@ -1,5 +1,5 @@
 -- An opening of two commitments to one matrix each: the first at two points, the second at one.
-use Rattle.std.proofs.Common.{◌≡◌, ℕ, zero, suc, ◌^◌, Some, List, [], ◌∷◌, map, refl, sym, ◌∙◌, ap, subst, Vec}
+use Rattle.std.proofs.Common.{◌≡◌, ℕ, zero, suc, ◌^◌, Some, List, [], ◌∷◌, map, refl, sym, ◌∙◌, ap, subst}
 use Rattle.std.specs.Prelude.{slice_get}
 use Rattle.p3_field.specs.Domain.{CosetData}
 use Rattle.p3_field.specs.declared.baby_bear.BabyBear.{BabyBear}
@@ -9,44 +9,24 @@ use Rattle.p3_matrix.specs.Matrix.{Rows}
 use Rattle.p3_commit.specs.Claims.{CommitmentClaim, Request}
 use Rattle.p3_commit.specs.Periodic.{EachFrom}
 use Rattle.p3_commit.specs.Commitments.{Committed, Held, AreHeld, IsOpening, values_of}
+use Rattle.p3_commit.specs.Laws.OneItem.{same_one}
 use Rattle.plain_pcs.specs.Scheme.{Scheme, PlainCommitmentData}
 use Rattle.plain_pcs.specs.Holding.{AreHolding}
 use Rattle.batch_tool.specs.Opening.{plain_scheme}
 use Rattle.batch_tool.specs.Committed.{IsCommittedTo}
 
--- lists of one and of two items, behind a map
-pub one_behind : {X Y : Type 0} (f : X → Y) (xs : List X) (y : Y) → map f xs ≡ y ∷ [] → (x : X) × (xs ≡ x ∷ [])
-one_behind f [] y e = cc
-one_behind f (x ∷ []) y e = (x, refl)
-one_behind f (x ∷ z ∷ zs) y e = cc
-
+-- a list of two items behind a map
 pub two_behind : {X Y : Type 0} (f : X → Y) (xs : List X) (y w : Y) → map f xs ≡ y ∷ w ∷ [] → (x : X) × ((z : X) × (xs ≡ x ∷ z ∷ []))
 two_behind f [] y w e = cc
 two_behind f (x ∷ []) y w e = cc
 two_behind f (x ∷ z ∷ []) y w e = (x, (z, refl))
 two_behind f (x ∷ z ∷ u ∷ zs) y w e = cc
 
-same_one : {X : Type 0} (x y : X) → x ∷ [] ≡ y ∷ [] → x ≡ y
-same_one x y e = cc
-
 same_two : {X : Type 0} (x y z w : X) → x ∷ y ∷ [] ≡ z ∷ w ∷ [] → (x ≡ z) × (y ≡ w)
 same_two x y z w e = (cc, cc)
 
-pub the_one : {X Y : Type 0} (f : X → Y) (xs : List X) (x : X) (y : Y) → map f xs ≡ y ∷ [] → xs ≡ x ∷ [] → f x ≡ y
-the_one f xs x y e h = same_one (f x) y (sym (ap (map f) h) ∙ e)
-
 pub the_two : {X Y : Type 0} (f : X → Y) (xs : List X) (x z : X) (y w : Y) → map f xs ≡ y ∷ w ∷ [] → xs ≡ x ∷ z ∷ [] → (f x ≡ y) × (f z ≡ w)
 the_two f xs x z y w e h = same_two (f x) (f z) y w (sym (ap (map f) h) ∙ e)
-
--- opened values as lists, level by level
-abbrev pub values_in : {E A : Type 0} → Vec E A → List E
-values_in v = v.items
-
-abbrev pub matrix_in : {E A : Type 0} → Vec (Vec E A) A → List (List E)
-matrix_in v = map values_in v.items
-
-abbrev pub round_in : {E A : Type 0} → Vec (Vec (Vec E A) A) A → List (List (List E))
-round_in v = map matrix_in v.items
 
 -- the lists of both rounds
 pub three_same : {X : Type 0} (a b c x y z : List X) → ((a ∷ b ∷ []) ∷ []) ∷ ((c ∷ []) ∷ []) ∷ [] ≡ ((x ∷ y ∷ []) ∷ []) ∷ ((z ∷ []) ∷ []) ∷ [] → (a ≡ x) × ((b ≡ y) × (c ≡ z))

@@ -1,6 +1,6 @@
 -- How the printing of a part is a part of the printing of the whole.
-use Rattle.std.proofs.Common.{◌≡◌, ℕ, ◌+◌, ◌<◌, List, [], ◌∷◌, ◌++◌, length, take, get_or, map, sym, ◌∙◌, ap, append_assoc}
-use Rattle.std.proofs.lemmas.List.{append-nil, take_more, map_more}
+use Rattle.std.proofs.Common.{◌≡◌, ℕ, ◌+◌, ◌<◌, List, [], ◌∷◌, ◌++◌, length, take, get_or, sym, ◌∙◌, ap, append_assoc}
+use Rattle.std.proofs.lemmas.List.{append-nil, take_more}
 use Rattle.std.specs.Prelude.{flat_map}
 use Rattle.std.proofs.lemmas.Grind.{flat_map-append}
 use Rattle.batch_tool.specs.Texts.{line_text, items_words}
@@ -16,15 +16,6 @@ prints-more words xs i a front old new room is e f =
     let same : items_words words (take (i + 1) xs) ≡ before ++ words a
     = ap (λ (l : _). items_words words l) more ∙ (flat_map-append words (take i xs) (a ∷ []) ∙ ap (λ (l : List ℕ). before ++ l) (append-nil (words a))) in
     rw same (rw (line_text-append before (words a)) (f ∙ rw e (append_assoc front (line_text before) (line_text (words a)))))
-
--- one more line of a list of numbers
-pub prints-line : {A : Type 0} (number : A → ℕ) (xs : List A) (i : ℕ) (a : A) (front old new : List ℕ) → i < length xs → a ≡ get_or xs i a
-    → old ≡ front ++ line_text (map number (take i xs)) → new ≡ old ++ line_text (number a ∷ [])
-    → new ≡ front ++ line_text (map number (take (i + 1) xs))
-prints-line number xs i a front old new room is e f =
-    let more : map number (take (i + 1) xs) ≡ map number (take i xs) ++ number a ∷ [] =
-    map_more number xs i a room ∙ ap (λ b. map number (take i xs) ++ number b ∷ []) (sym is) in
-    rw more (rw (line_text-append (map number (take i xs)) (number a ∷ [])) (f ∙ rw e (append_assoc front (line_text (map number (take i xs))) (line_text (number a ∷ [])))))
 
 -- a part behind what stands already
 pub prints-part : (front old new v w : List ℕ) → old ≡ front ++ line_text v → new ≡ old ++ line_text w → new ≡ front ++ line_text (v ++ w)

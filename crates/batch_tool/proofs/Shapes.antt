@@ -1,11 +1,12 @@
 -- The parts of a proof of the first form.
 use Rattle.std.specs.Prelude.{IsSomeAnd}
-use Rattle.std.proofs.Common.{◌≡◌, Option, Some, None, ℕ, ◌+◌, ◌*◌, ◌/◌, ◌^◌, List, [], ◌∷◌, length, refl, ◌∙◌, ap, arith}
+use Rattle.std.proofs.Common.{◌≡◌, Option, Some, None, ℕ, ◌+◌, ◌/◌, ◌^◌, List, [], ◌∷◌, length, refl, ◌∙◌, ap}
 use Rattle.p3_field.specs.declared.baby_bear.BabyBear.{BabyBear}
 use Rattle.p3_field.specs.declared.quartic.QuarticExtension.{QuarticExtension}
 use Rattle.p3_matrix.specs.Matrix.{Rows, height}
 use Rattle.batch_tool.specs.Proof.{OpenedWithLookups, ProofData}
 use Rattle.batch_tool.specs.FirstForm.{Single, HasLength, HasShape, IsSwapOpening, IsSwapShape}
+use Rattle.batch_tool.specs.Laws.FirstForms.{half, quarter}
 use Rattle.batch_tool.specs.Verify.{only, present, main_of, quotient_of, local_opened, next_opened, chunk_opened}
 
 -- the only matrix has the shape
@@ -19,12 +20,6 @@ only-matrix : (columns rows : ℕ) (d : Rows BabyBear) (ms : List (Rows BabyBear
 only-matrix columns rows d [] h = absurd h
 only-matrix columns rows d (m ∷ []) h = refl
 only-matrix columns rows d (m ∷ n ∷ ms) h = absurd h
-
-two-wide : (n rows : ℕ) → n ≡ 2 * rows → n / 2 ≡ rows
-two-wide n rows h = omega arith
-
-four-wide : (n rows : ℕ) → n ≡ 4 * rows → n / 4 ≡ rows
-four-wide n rows h = omega arith
 
 only-length : (n : ℕ) (lists : List (List QuarticExtension)) → Single (HasLength n) lists → length (only [] lists) ≡ n
 only-length n [] h = absurd h
@@ -59,7 +54,7 @@ module _ (k : ℕ) (p : ProofData BabyBear QuarticExtension) (shape : IsSwapShap
   main-width = main-shape.width
 
   pub main-height : height (main_of p) ≡ 2 ^ (k + 1)
-  main-height = ap (λ w. length (main_of p).values / w) main-width ∙ two-wide (length (main_of p).values) (2 ^ (k + 1)) main-shape.values
+  main-height = ap (λ w. length (main_of p).values / w) main-width ∙ half (length (main_of p).values) (2 ^ (k + 1)) main-shape.values
 
   pub main-alone : p.main ≡ main_of p ∷ []
   main-alone = only-matrix 2 (2 ^ (k + 1)) (record { values = []; width = 0 }) p.main shape.main
@@ -71,7 +66,7 @@ module _ (k : ℕ) (p : ProofData BabyBear QuarticExtension) (shape : IsSwapShap
   quotient-width = quotient-shape.width
 
   pub quotient-height : height (quotient_of p) ≡ 2 ^ (k + 1)
-  quotient-height = ap (λ w. length (quotient_of p).values / w) quotient-width ∙ four-wide (length (quotient_of p).values) (2 ^ (k + 1)) quotient-shape.values
+  quotient-height = ap (λ w. length (quotient_of p).values / w) quotient-width ∙ quarter (length (quotient_of p).values) (2 ^ (k + 1)) quotient-shape.values
 
   pub quotient-alone : p.quotient_chunks ≡ quotient_of p ∷ []
   quotient-alone = only-matrix 4 (2 ^ (k + 1)) (record { values = []; width = 0 }) p.quotient_chunks shape.quotient_chunks

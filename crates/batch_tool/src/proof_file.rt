@@ -5,7 +5,7 @@ ghost use Rattle.batch_tool.specs.Texts.{line_text, list_words, extension_words,
 ghost use Rattle.batch_tool.specs.ProofFile.{matrix_words, commitment_words, values_words, opened_words, proof_words, file_words};
 ghost use Rattle.batch_tool.specs.Swap.{last_right};
 
-use crate::items::{Item, print_list};
+use crate::items::{Item, print_items, print_list};
 use crate::job::SwapTable;
 use crate::proof::TableProof;
 use crate::texts::push_number;
@@ -16,10 +16,7 @@ use p3_matrix::RowMajorMatrix;
 fn print_elements(elements: &[BabyBear], out: &mut Vec<u8>) -> Mem<()>
     ensures { OnOk result (out.new.items ≡ out.old.items ++ line_text (map (λ x. x.value) elements.now)) }
 {
-    for element in elements {
-        element.print(out)?;
-    }
-    Ok(())
+    print_items(elements, out)
 }
 
 /// Prints a matrix: its width, its height, and its elements row by row.
@@ -41,18 +38,10 @@ fn print_commitment(matrix: &RowMajorMatrix<BabyBear>, out: &mut Vec<u8>) -> Mem
     Ok(())
 }
 
-/// Prints a list of one list of values.
-fn print_single_list(values: &[QuarticExtension], out: &mut Vec<u8>) -> Mem<()>
-    ensures { OnOk result (out.new.items ≡ out.old.items ++ line_text (list_words values_words (values.now ∷ []))) }
-{
-    push_number(out, 1)?;
-    print_list(values, out)?;
-    Ok(())
-}
-
-/// Prints a list of values that is present.
-fn print_present_list(values: &[QuarticExtension], out: &mut Vec<u8>) -> Mem<()>
-    ensures { OnOk result (out.new.items ≡ out.old.items ++ line_text (option_words values_words (Some values.now))) }
+/// Prints the line `1` and a list of values: a list of this list alone and the list as one that is present have this text.
+fn print_one_list(values: &[QuarticExtension], out: &mut Vec<u8>) -> Mem<()>
+    ensures alone { OnOk result (out.new.items ≡ out.old.items ++ line_text (list_words values_words (values.now ∷ []))) }
+    ensures present { OnOk result (out.new.items ≡ out.old.items ++ line_text (option_words values_words (Some values.now))) }
 {
     push_number(out, 1)?;
     print_list(values, out)?;
@@ -75,9 +64,9 @@ fn print_opened(proof: &TableProof, out: &mut Vec<u8>) -> Mem<()>
     ensures single { OnOk result (length proof.now.instances ≡ 1) }
 {
     print_list(&proof.trace_local, out)?;
-    print_present_list(&proof.trace_next, out)?;
+    print_one_list(&proof.trace_next, out)?;
     push_number(out, 0)?;
-    print_single_list(&proof.chunk_values, out)?;
+    print_one_list(&proof.chunk_values, out)?;
     push_number(out, 0)?;
     push_number(out, 0)?;
     push_number(out, 0)?;

@@ -1,4 +1,4 @@
-pub mod Options
+pub mod Logarithms
 pub mod SelectorLaws
 pub mod Disjoint
 pub mod Periods

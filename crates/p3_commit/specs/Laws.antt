@@ -6,3 +6,5 @@ pub mod Periods
 pub mod Repeated
 pub mod Codes
 pub mod FlatBatches
+pub mod Options
+pub mod OneItem

@@ -7,10 +7,10 @@ use Rattle.p3_field.specs.Poly.{val}
 use Rattle.p3_matrix.specs.Matrix.{Rows}
 use Rattle.p3_commit.specs.Commitments.{Committed, IsCommitment, IsCommitted, AreCommitted, values_of}
 use Rattle.p3_commit.specs.Failure.{IfRefused}
+use Rattle.p3_commit.specs.Laws.OneItem.{single}
 use Rattle.p3_commit.specs.declared.failure.PcsFailure.{PcsFailure}
 use Rattle.p3_commit.specs.declared.failure.PcsFailure.TheVariants.{OutOfMemory, Refused}
 use Rattle.p3_commit_caller.specs.Single.{AreValues}
-use Rattle.p3_commit_caller.proofs.Lists.{single}
 
 module _ {F D C P : Type 0} (r : Ring F) (points : D → ℕ) (point_at : D → ℕ → F) (commits : List (D × Rows F) → C → Type 0) (made : P → Type 0) (holds : P → C → List (Committed F) → Type 0) where
   pub committed_one : (evaluations : List (D × Rows F)) (d : D) (m : Rows F) (w : C × P) → evaluations ≡ (d, m) ∷ [] → IsCommitment r points point_at commits made holds evaluations w

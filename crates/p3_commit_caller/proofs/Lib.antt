@@ -1,4 +1,3 @@
-mod Lists
 mod Openings
 mod Committing
 mod RowOfOne

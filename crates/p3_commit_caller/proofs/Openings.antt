@@ -5,8 +5,8 @@ use Rattle.std.proofs.lemmas.List.Elements.{All-cons, All-nil}
 use Rattle.p3_field.specs.Ring.{Ring}
 use Rattle.p3_commit.specs.Claims.{CommitmentClaim, MatrixClaim, Request}
 use Rattle.p3_commit.specs.Commitments.{Committed, Held, AreHeld, IsOpening, IsRoundClaim, IsMatrixClaim, values_of}
+use Rattle.p3_commit.specs.Laws.OneItem.{one_pair}
 use Rattle.p3_commit_caller.specs.Single.{claim_of}
-use Rattle.p3_commit_caller.proofs.Lists.{one_pair}
 
 module _ {P E C F D : Type 0} (holds : P → C → List (Committed F) → Type 0) (s : Ring E) (embed : F → E) (points : D → ℕ) (excludes : E → Type 0) (accepts : List (CommitmentClaim E C D) → Type 0) where
   -- what an opening of any held polynomials says where one matrix is opened at one point

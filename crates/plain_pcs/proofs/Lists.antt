@@ -1,6 +1,6 @@
 -- Lists side by side, and the first item without a property.
-use Rattle.std.proofs.Common.{◌≡◌, ℕ, Option, None, zero, suc, ◌+◌, ◌<◌, inl, inr, List, [], ◌∷◌, ◌++◌, Some, length, get_or, map, rules, refl, subst, sym, ◌∙◌, ap, arith}
-use Rattle.std.specs.Prelude.{slice_get, zip, MatchOption, IsSome}
+use Rattle.std.proofs.Common.{◌≡◌, ℕ, zero, suc, ◌+◌, ◌<◌, inl, inr, List, [], ◌∷◌, ◌++◌, Some, length, get_or, map, refl, subst, sym, ◌∙◌, ap, arith}
+use Rattle.std.specs.Prelude.{slice_get, zip}
 use Rattle.std.specs.List.{All}
 use Rattle.std.proofs.lemmas.Bool.{cases_lt}
 use Rattle.std.proofs.lemmas.List.{length-map, length_push}
@@ -95,7 +95,3 @@ each_yielded {X} R xs done x ys zs y h at E p e =
 
 pub each_done : {X Y : Type 0} (R : X → Y → Type 0) (xs : List X) (n : ℕ) (ys : List Y) → n ≡ length xs → EachOf n ys (λ i y. (v : X) → slice_get xs i ≡ Some v → R v y) → EachFrom xs ys R
 each_done R xs n ys e E = record { count = E.count ∙ e; each = E.each }
-
-pub match_some : {X : Type 0} (o : Option X) (P : Type 0) (Q : X → Type 0) → (P → ⊥) → MatchOption o P Q → IsSome o
-match_some None P Q n m = absurd (n m)
-match_some (Some x) P Q n m = search rules

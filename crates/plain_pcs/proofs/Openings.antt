@@ -6,6 +6,7 @@ use Rattle.std.proofs.lemmas.Option.{slice_get-get_or, slice_get_read}
 use Rattle.p3_commit.specs.Claims.{Request}
 use Rattle.p3_commit.specs.Commitments.{Committed, Held, values_of, opened_round, opened}
 use Rattle.p3_commit.specs.Periodic.{EachFrom}
+use Rattle.p3_commit.specs.Laws.OneItem.{matrix_in, round_in}
 use Rattle.p3_commit.specs.Laws.Pairs.{length-zip}
 use Rattle.p3_field.specs.Ring.{Ring, RingLaws}
 use Rattle.p3_field.specs.Field.{FieldLaws, TwoAdicLaws, RingHom}
@@ -51,13 +52,6 @@ module _ {F E : Type 0} (r : Ring F) (L : RingLaws r) (inv : F → F) (W : Field
       (points_apart r L inv W top root T d fits nz) (V.short j [] b) (V.values_are j a) (subst P shift (I j d.log_size a high))
       ∙ sym (get_or-map f fs j [] s.zero b))
 
--- the values of vectors of vectors
-abbrev pub lists_of : {E A : Type 0} → Vec (Vec E A) A → List (List E)
-lists_of w = map (λ v. v.items) w.items
-
-abbrev pub rounds_of : {E A : Type 0} → Vec (Vec (Vec E A) A) A → List (List (List E))
-rounds_of w = map (λ m. map (λ v. v.items) m.items) w.items
-
 module _ {F E : Type 0} (r : Ring F) (root : ℕ → F) (s : Ring E) (embed : F → E) where
   -- all matrices
   pub all_matrices : (kept : List (CosetData F × Rows F)) (points : List (List E)) (cs : List (Committed F)) (i : ℕ) (ws : List (List (List E))) → length points ≡ length kept → length points ≤ i → EachHasValues r root kept cs
@@ -79,9 +73,9 @@ module _ {F E A : Type 0} (r : Ring F) (root : ℕ → F) (s : Ring E) (embed : 
   -- one matrix more
   pub next_matrix : (stored kept : List (CosetData F × Rows F)) (lists : List (Vec E A)) (cs : List (Committed F)) (i : ℕ) (ws zs : List (Vec (Vec E A) A)) (w : Vec (Vec E A) A) (e : CosetData F × Rows F) (l : Vec E A) (xs : List E)
       → length lists ≡ length kept → i < length lists → EachHasValues r root kept cs → stored ≡ kept → e ≡ get_or stored i e → l ≡ get_or lists i l → xs ≡ l.items
-      → map lists_of ws ≡ map (λ p. map (values_of s embed p.0) p.1) (take i (zip cs (map (λ v. v.items) lists))) → zs ≡ ws ++ w ∷ []
-      → ((c : Committed F) → HaveValues r root e.0 e.1 c.polynomials → lists_of w ≡ map (values_of s embed c) xs)
-      → map lists_of zs ≡ map (λ p. map (values_of s embed p.0) p.1) (take (i + 1) (zip cs (map (λ v. v.items) lists)))
+      → map matrix_in ws ≡ map (λ p. map (values_of s embed p.0) p.1) (take i (zip cs (map (λ v. v.items) lists))) → zs ≡ ws ++ w ∷ []
+      → ((c : Committed F) → HaveValues r root e.0 e.1 c.polynomials → matrix_in w ≡ map (values_of s embed c) xs)
+      → map matrix_in zs ≡ map (λ p. map (values_of s embed p.0) p.1) (take (i + 1) (zip cs (map (λ v. v.items) lists)))
   next_matrix stored kept lists cs i ws zs w e l xs long h H view read item q now more told =
       let at : e ≡ get_or kept i e = read ∙ ap (λ k. get_or k i e) view in
       let pts : List (List E) = map (λ v. v.items) lists in
@@ -95,17 +89,17 @@ module _ {F E A : Type 0} (r : Ring F) (root : ℕ → F) (s : Ring E) (embed : 
       let c = get_or cs i none in
       let V : HaveValues r root e.0 e.1 c.polynomials = H.each i c (slice_get-get_or cs i none a) e (slice_get_read kept (length kept) i e refl (omega arith) at) in
       let same : get_or pts i [] ≡ xs = get_or-map (λ v. v.items) lists i l [] h ∙ (ap (λ (v : Vec E A). v.items) (sym item) ∙ sym q) in
-      let value : lists_of w ≡ f (get_or (zip cs pts) i (none, [])) =
+      let value : matrix_in w ≡ f (get_or (zip cs pts) i (none, [])) =
       told c V ∙ (ap (map (values_of s embed c)) (sym same) ∙ ap f (sym (get_or-zip cs pts i none [] a b))) in
-      one_more lists_of f ws zs w (zip cs pts) i (none, []) now more inside value
+      one_more matrix_in f ws zs w (zip cs pts) i (none, []) now more inside value
 
   -- one request more
   pub next_request : (requests : List (Request (List (CosetData F × Rows F)) E)) (held : List (Held (PlainCommitmentData F) F)) (i : ℕ) (ws zs : List (Vec (Vec (Vec E A) A) A)) (w : Vec (Vec (Vec E A) A) A)
       (e : Request (List (CosetData F × Rows F)) E) (kept : List (CosetData F × Rows F)) (points : List (List E))
       → i < length requests → EachFrom requests held (λ q h. EachHasValues r root q.prover_data h.matrices) → e ≡ get_or requests i e → kept ≡ e.prover_data → points ≡ e.points
-      → map rounds_of ws ≡ map (λ p. opened_round s embed p.0 p.1) (take i (zip held requests)) → zs ≡ ws ++ w ∷ []
-      → ((cs : List (Committed F)) → EachHasValues r root kept cs → rounds_of w ≡ opened_each s embed cs points)
-      → map rounds_of zs ≡ map (λ p. opened_round s embed p.0 p.1) (take (i + 1) (zip held requests))
+      → map round_in ws ≡ map (λ p. opened_round s embed p.0 p.1) (take i (zip held requests)) → zs ≡ ws ++ w ∷ []
+      → ((cs : List (Committed F)) → EachHasValues r root kept cs → round_in w ≡ opened_each s embed cs points)
+      → map round_in zs ≡ map (λ p. opened_round s embed p.0 p.1) (take (i + 1) (zip held requests))
   next_request requests held i ws zs w e kept points h H at same lists now more told =
       let f : Held (PlainCommitmentData F) F × Request (List (CosetData F × Rows F)) E → List (List (List E)) = λ p. opened_round s embed p.0 p.1 in
       let none : Held (PlainCommitmentData F) F = record { commitment = record { matrices = [] }; matrices = [] } in
@@ -115,7 +109,7 @@ module _ {F E A : Type 0} (r : Ring F) (root : ℕ → F) (s : Ring E) (embed : 
       let c = get_or held i none in
       let V : EachHasValues r root e.prover_data c.matrices = H.each i c (slice_get-get_or held i none a) e (slice_get_read requests (length requests) i e refl h at) in
       let P : List (CosetData F × Rows F) → Type 0 = λ k. EachHasValues r root k c.matrices in
-      let value : rounds_of w ≡ f (get_or (zip held requests) i (none, e)) =
+      let value : round_in w ≡ f (get_or (zip held requests) i (none, e)) =
       told c.matrices (subst P (sym same) V)
       ∙ (ap (opened_each s embed c.matrices) (lists ∙ ap (λ (q : Request (List (CosetData F × Rows F)) E). q.points) at) ∙ ap f (sym (get_or-zip held requests i none e a h))) in
-      one_more rounds_of f ws zs w (zip held requests) i (none, e) now more inside value
+      one_more round_in f ws zs w (zip held requests) i (none, e) now more inside value

@@ -1,9 +1,9 @@
 -- Values of polynomials taken from one coset to another by a transform over the subgroup.
-use Rattle.std.proofs.Common.{◌≡◌, ℕ, ◌+◌, ◌-◌, ◌*◌, ◌/◌, ◌^◌, ◌<◌, ◌≤◌, List, length, get_or, drop, sym, ◌∙◌, ap, arith}
+use Rattle.std.proofs.Common.{◌≡◌, ℕ, ◌+◌, ◌-◌, ◌*◌, ◌/◌, ◌^◌, ◌<◌, ◌≤◌, List, length, get_or, sym, ◌∙◌, ap, arith}
 use Rattle.std.proofs.Math.Nat.{mul-div_cancel, mul-lt-mul_of_pos_left}
 use Rattle.std.proofs.Math.Pow.{pow_mono}
 use Rattle.std.proofs.lemmas.Nat.{pow-add, pow_pos}
-use Rattle.std.proofs.lemmas.List.{ext_get_or, get_or-take, get_or-drop}
+use Rattle.std.proofs.lemmas.List.{ext_get_or}
 use Rattle.p3_field.specs.Ring.{Ring, RingLaws, pow}
 use Rattle.p3_field.specs.Field.{FieldLaws, TwoAdicLaws}
 use Rattle.p3_field.specs.Poly.{val, SamePoly, shift_arg}
@@ -14,13 +14,15 @@ use Rattle.p3_field.specs.Laws.Values.{val_same, val_shift_arg}
 use Rattle.p3_field.specs.Laws.Roots.{field_no_zero_divisors, same_values}
 use Rattle.p3_field.specs.Laws.Coset.{coset_apart, two_adic_order}
 use Rattle.p3_field.specs.Laws.Tables.{table_same, first_coset_point}
-use Rattle.p3_matrix.specs.Matrix.{Rows, height, row_at, cell_at, column}
+use Rattle.p3_matrix.specs.Matrix.{Rows, height, column}
 use Rattle.p3_matrix.specs.Laws.Cells.{length-column, get_or-column}
+use Rattle.p3_matrix.specs.Laws.Transposed.{get_or-row_at}
 use Rattle.p3_dft.specs.Transform.{values_at, IsExtensionOf}
 use Rattle.p3_dft.specs.Laws.Values.{length-values_at, get_or-values_at}
 use Rattle.p3_commit.specs.Space.{IsPart, IsSplit}
 use Rattle.p3_commit.specs.Laws.Codes.{width_positive}
 use Rattle.p3_commit.specs.Laws.Cosets.{points_of_part}
+use Rattle.p3_commit.specs.Laws.FlatBatches.{product_cancel}
 use Rattle.plain_pcs.specs.Transfer.{IsTransfer}
 
 -- the larger of two subgroups is one of the field's
@@ -38,16 +40,6 @@ stride_divides h k l e a =
     let size : h ≡ 2 ^ l * 2 ^ (k - l) = e ∙ (ap (λ n. 2 ^ n) (sym sum) ∙ pow-add 2 l (k - l)) in
     let quotient : h / 2 ^ (k - l) ≡ 2 ^ l = ap (λ n. n / 2 ^ (k - l)) size ∙ mul-div_cancel (2 ^ l) (pow_pos (k - l)) in
     ap (λ n. n * 2 ^ (k - l)) quotient ∙ sym size
-
-range_width : (a w : ℕ) → (a + w) - a ≡ w
-range_width a w = omega arith
-
--- a cell in its row
-cell_of_row : {F : Type 0} (m : Rows F) (i j : ℕ) (d : F) → j < m.width → get_or (row_at m i) j d ≡ cell_at d m i j
-cell_of_row m i j d b =
-    let at = i * m.width in
-    let c : j < (at + m.width) - at = omega (arith, range_width at m.width) in
-    get_or-take ((at + m.width) - at) (drop at m.values) j d c ∙ get_or-drop at m.values j d
 
 module _ {A : Type 0} (r : Ring A) (L : RingLaws r) where
   -- the polynomial that has on a subgroup the values that f has on its coset with shift a
@@ -135,9 +127,9 @@ module _ {A : Type 0} (r : Ring A) (L : RingLaws r) (inv : A → A) (W : FieldLa
       let at : 0 + 2 ^ c * i < 2 ^ w.log_size = place c e.log_size w.log_size i sum below in
       let under : 0 + 2 ^ c * i < height v = omega arith in
       get_or-column r.zero u j i inside
-      ∙ (sym (cell_of_row u i j r.zero across)
+      ∙ (sym (get_or-row_at u i j r.zero across)
       ∙ (ap (λ l. get_or l j r.zero) (S.row_is i inside)
-      ∙ (cell_of_row v (0 + 2 ^ c * i) j r.zero b
+      ∙ (get_or-row_at v (0 + 2 ^ c * i) j r.zero b
       ∙ (sym (get_or-column r.zero v j (0 + 2 ^ c * i) under)
       ∙ (ap (λ l. get_or l (0 + 2 ^ c * i) r.zero) is
       ∙ (get_or-values_at r (point r root w) (2 ^ w.log_size) f (0 + 2 ^ c * i) r.zero at
@@ -162,8 +154,5 @@ module _ {A : Type 0} (r : Ring A) (L : RingLaws r) (inv : A → A) (W : FieldLa
         column_is = λ j f b short is. sampled_column e w c v u j f fits sum shift I.height_is low S (omega (arith, I.width_is)) (I.column_is j f b short is);
       }
     where
-      cancel : (n x y : ℕ) → 0 < n → x * n ≡ y * n → x ≡ y
-      cancel n x y pos e = sym (mul-div_cancel x pos) ∙ (ap (λ k. k / n) e ∙ mul-div_cancel y pos)
-
       smaller_height : (h c l k : ℕ) → l + c ≡ k → h * 2 ^ c ≡ 2 ^ k → h ≡ 2 ^ l
-      smaller_height h c l k e q = cancel (2 ^ c) h (2 ^ l) (pow_pos c) (q ∙ (ap (λ n. 2 ^ n) (sym e) ∙ pow-add 2 l c))
+      smaller_height h c l k e q = product_cancel h (2 ^ l) (2 ^ c) (pow_pos c) (q ∙ (ap (λ n. 2 ^ n) (sym e) ∙ pow-add 2 l c))

@@ -13,7 +13,7 @@ use Rattle.batch_tool.specs.Proof.{OpenedWithLookups, ProofData}
 use Rattle.batch_tool.specs.ProofFile.{opened_words, proof_words, file_words}
 use Rattle.batch_tool.specs.FirstForm.{Single, HasLength, HasShape, IsSwapOpening, IsSwapShape, StatementWithin, statement_words, IsFirstForm, first_form_words}
 use Rattle.batch_tool.specs.Laws.Grammars.{PairWithin, ThenWithin, pair_words, SameTexts, pair-grammar, then-grammar, same-grammar, element-grammar, extension-grammar, ThreeWithin, three_words, three-grammar}
-use Rattle.batch_tool.specs.Laws.Jobs.{log_rows-grammar, one-grammar}
+use Rattle.batch_tool.specs.Laws.Jobs.{log_rows-grammar, one-grammar, one}
 use Rattle.batch_tool.specs.Laws.FixedParts.{fixed-grammar, headed-grammar}
 use Rattle.batch_tool.specs.declared.first_form.SwapStatement.{SwapStatement}
 
@@ -26,9 +26,6 @@ rows_words = pair_words number_words three_words
 
 pub rows-grammar : (most : ℕ) → most < 2 ^ 64 → Grammar (RowsWithin most) rows_words
 rows-grammar most small = then-grammar (log_rows-grammar most small) three-grammar
-
-one : (n : ℕ) → Between 1 1 n → 1 ≡ n
-one n fits = omega (arith, fits)
 
 -- a statement is seen as its tag, the logarithm of the rows, and the three elements
 pub same-statement : (most : ℕ) → SameTexts (ThenWithin (Between 1 1) (RowsWithin most)) (pair_words number_words rows_words) (StatementWithin most) statement_words
@@ -224,13 +221,15 @@ flat-words m q l n c k e M Q L N C =
     nine-parts (1 ∷ 2 ∷ m ∷ (M ++ [])) (0 ∷ []) (1 ∷ 4 ∷ q ∷ (Q ++ [])) (0 ∷ []) (1 ∷ opened) (1 ∷ 0 ∷ []) (1 ∷ k ∷ []) (0 ∷ []) (e ∷ [])
     ∙ λ i. 1 ∷ 2 ∷ m ∷ (first i ++ (0 ∷ 1 ∷ 4 ∷ q ∷ (second i ++ (0 ∷ 1 ∷ third i))))
 
-elements-words : (xs : List BabyBear) → map (λ x. x.value) xs ≡ flat_map element_words xs
+-- the words of elements
+pub elements-words : (xs : List BabyBear) → map (λ x. x.value) xs ≡ flat_map element_words xs
 elements-words xs = sym (flat_map_single (λ x. x.value) xs)
 
-half : (n rows : ℕ) → n ≡ 2 * rows → n / 2 ≡ rows
+-- the rows of two columns and of four
+pub half : (n rows : ℕ) → n ≡ 2 * rows → n / 2 ≡ rows
 half n rows h = omega arith
 
-quarter : (n rows : ℕ) → n ≡ 4 * rows → n / 4 ≡ rows
+pub quarter : (n rows : ℕ) → n ≡ 4 * rows → n / 4 ≡ rows
 quarter n rows h = omega arith
 
 -- the words of a proof with these lists

@@ -22,7 +22,7 @@ size-grammar most small = then-grammar (log_rows-grammar most small) two-grammar
 pub one-grammar : Grammar (Between 1 1) number_words
 one-grammar = number-grammar 1 1 (omega arith) (omega arith)
 
-one : (n : ℕ) → Between 1 1 n → 1 ≡ n
+pub one : (n : ℕ) → Between 1 1 n → 1 ≡ n
 one n fits = omega (arith, fits)
 
 -- a swap table is seen as its tag, the logarithm of its rows, and its first row

@@ -25,7 +25,7 @@ map_injective f inj (x ∷ xs) (y ∷ ys) e =
     cc (inj x y a, map_injective f inj xs ys b)
 
 -- a product by a positive number tells the factor
-product_cancel : (a b d : ℕ) → 0 < d → a * d ≡ b * d → a ≡ b
+pub product_cancel : (a b d : ℕ) → 0 < d → a * d ≡ b * d → a ≡ b
 product_cancel a b d p e = sym (mul-div_cancel a p) ∙ (ap (λ k. k / d) e ∙ mul-div_cancel b p)
 
 module _ {E F : Type 0} (d : ℕ) (parts : E → List F) (whole : List F → E) (V : VectorLaws d parts whole) where

@@ -1,7 +1,7 @@
 use Rattle.std.proofs.Common.{◌∙◌, List, [], ◌∷◌, ap, sym, map, subst}
 use Rattle.p3_commit.specs.Commitments.{values_of}
+use Rattle.p3_commit.specs.Laws.OneItem.{innermost, values_in}
 use Rattle.p3_commit_caller.specs.Single.{claim_of}
-use Rattle.p3_commit_caller.proofs.Lists.{innermost, values_in}
 use Rattle.p3_commit_caller.proofs.Openings.{opening_of_one}
 use Rattle.p3_commit_caller.proofs.opened.Goals as goal
 

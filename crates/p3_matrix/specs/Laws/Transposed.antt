@@ -12,8 +12,16 @@ row_fits i h w n e a =
     let b : (i + 1) * w ≤ h * w = mul-le-mul_right w (omega arith) in
     omega (arith, b, e)
 
-range_width : (a w : ℕ) → (a + w) - a ≡ w
+-- how many values a row takes
+pub range_width : (a w : ℕ) → (a + w) - a ≡ w
 range_width a w = omega arith
+
+-- a cell in its row
+pub get_or-row_at : {F : Type 0} (m : Rows F) (i j : ℕ) (d : F) → j < m.width → get_or (row_at m i) j d ≡ cell_at d m i j
+get_or-row_at m i j d b =
+    let at = i * m.width in
+    let c : j < (at + m.width) - at = omega (arith, range_width at m.width) in
+    get_or-take ((at + m.width) - at) (drop at m.values) j d c ∙ get_or-drop at m.values j d
 
 module _ {F : Type 0} (m : Rows F) (h : FillsRows m.values m.width) where
   pub length-row_at : (i : ℕ) → i < height m → length (row_at m i) ≡ m.width
@@ -22,12 +30,6 @@ module _ {F : Type 0} (m : Rows F) (h : FillsRows m.values m.width) where
       let fits : at + m.width ≤ length m.values = row_fits i (height m) m.width (length m.values) h a in
       let n : (at + m.width) - at ≤ length (drop at m.values) = omega (arith, length-drop at m.values) in
       length-take-le ((at + m.width) - at) (drop at m.values) n ∙ range_width at m.width
-
-  pub get_or-row_at : (i j : ℕ) (d : F) → j < m.width → get_or (row_at m i) j d ≡ cell_at d m i j
-  get_or-row_at i j d b =
-      let at = i * m.width in
-      let c : j < (at + m.width) - at = omega (arith, range_width at m.width) in
-      get_or-take ((at + m.width) - at) (drop at m.values) j d c ∙ get_or-drop at m.values j d
 
 -- the rows of a list of values
 abbrev pub rows_of : {A : Type 0} → List A → ℕ → Rows A
@@ -89,7 +91,7 @@ module _ {F : Type 0} (d : F) (m t : Rows F) (h : FillsRows m.values m.width) (w
       let long : length (column d t j) ≡ m.width = length-column d t j ∙ rows in
       ext_get_or d (column d t j) (row_at m j) (long ∙ sym (length-row_at m h j b))
       (λ i a. let below : i < m.width = omega arith in
-      get_or-column d t j i (omega arith) ∙ (cells j i b below ∙ sym (get_or-row_at m h j i d below)))
+      get_or-column d t j i (omega arith) ∙ (cells j i b below ∙ sym (get_or-row_at m j i d below)))
 
   pub row_at-transposed : (j : ℕ) → 0 < height m → j < m.width → row_at t j ≡ column d m j
   row_at-transposed j pos b =
@@ -98,4 +100,4 @@ module _ {F : Type 0} (d : F) (m t : Rows F) (h : FillsRows m.values m.width) (w
       let long : length (row_at t j) ≡ height m = length-row_at t transposed-fills j inside ∙ width in
       ext_get_or d (row_at t j) (column d m j) (long ∙ sym (length-column d m j))
       (λ i a. let below : i < height m = omega arith in let across : i < t.width = omega arith in
-      get_or-row_at t transposed-fills j i d across ∙ (cells i j below b ∙ sym (get_or-column d m j i below)))
+      get_or-row_at t j i d across ∙ (cells i j below b ∙ sym (get_or-column d m j i below)))

@@ -1,5 +1,5 @@
 -- The rows and columns of polynomials' values on a domain.
-use Rattle.std.proofs.Common.{◌≡◌, ℕ, zero, suc, ◌+◌, ◌-◌, ◌*◌, ◌^◌, ◌<◌, ◌≤◌, List, [], ◌++◌, length, get_or, take, drop, map, refl, sym, ◌∙◌, ap, subst, arith}
+use Rattle.std.proofs.Common.{◌≡◌, ℕ, zero, suc, ◌+◌, ◌*◌, ◌^◌, ◌<◌, ◌≤◌, List, [], ◌++◌, length, get_or, take, drop, map, refl, sym, ◌∙◌, ap, subst, arith}
 use Rattle.std.proofs.Math.Seq.{take-add}
 use Rattle.std.proofs.lemmas.List.{ext_get_or, take_all, get_or-map, length-map}
 use Rattle.p3_field.specs.Field.{TwoAdic}
@@ -8,13 +8,10 @@ use Rattle.p3_field.specs.Domain.{CosetData, point}
 use Rattle.p3_matrix.specs.Matrix.{Rows, FillsRows, height, row_at, column}
 use Rattle.p3_matrix.specs.Laws.Cells.{length-column, get_or-column}
 use Rattle.p3_matrix.specs.Laws.Grids.{product_fills, product_height}
-use Rattle.p3_matrix.specs.Laws.Transposed.{rows_of, HasRows, no_rows, more_rows, length-row_at, get_or-row_at}
+use Rattle.p3_matrix.specs.Laws.Transposed.{rows_of, HasRows, no_rows, more_rows, range_width, length-row_at, get_or-row_at}
 use Rattle.p3_dft.specs.Transform.{values_at}
 use Rattle.p3_dft.specs.Laws.Values.{length-values_at, get_or-values_at}
 use Rattle.plain_pcs.specs.Extension.{row_major, evaluations}
-
-range_width : (a w : ℕ) → (a + w) - a ≡ w
-range_width a w = omega arith
 
 -- rows one after another are the rows of the list
 pub rows-row_major : {A : Type 0} (w n : ℕ) (row : ℕ → List A) → ((i : ℕ) → i < n → length (row i) ≡ w) → HasRows (row_major n row) n w (λ k y. y ≡ row k)
@@ -82,7 +79,7 @@ module _ {F : Type 0} (t : TwoAdic F) (d : CosetData F) (fs : List (List F)) (so
       (λ i a.
       let below : i < height m = omega (arith, length-column z m j) in
       let within : i < n = omega (arith, height-evaluations) in
-      get_or-column z m j i below ∙ (sym (get_or-row_at m evaluations-fill i j z inside)
+      get_or-column z m j i below ∙ (sym (get_or-row_at m i j z inside)
       ∙ (ap (λ l. get_or l j z) (row-evaluations i within) ∙ (get_or-map (λ g. val t.ring g (p i)) fs j [] z b
       ∙ sym (get_or-values_at t.ring p n f i z within)))))
 
@@ -102,7 +99,7 @@ module _ {F : Type 0} (t : TwoAdic F) (d : CosetData F) (fs : List (List F)) (so
       (λ j a.
       let inside : j < m.width = omega (arith, long) in
       let across : j < length fs = omega (arith, wide) in
-      get_or-row_at m fills i j z inside ∙ (sym (get_or-column z m j i below) ∙ (ap (λ l. get_or l i z) (cols j across)
+      get_or-row_at m i j z inside ∙ (sym (get_or-column z m j i below) ∙ (ap (λ l. get_or l i z) (cols j across)
       ∙ (get_or-values_at t.ring p n (get_or fs j []) i z b ∙ sym (get_or-map (λ f. val t.ring f (p i)) fs j [] z across))))) in
       let values : m.values ≡ row_major n (λ i. map (λ f. val t.ring f (p i)) fs) = values_by_rows m fills ∙ (ap (λ k. row_major k (row_at m)) high ∙ row_major_same n (row_at m) (λ i. map (λ f. val t.ring f (p i)) fs) row) in
       same_rows m.values (row_major n (λ i. map (λ f. val t.ring f (p i)) fs)) m.width (length fs) values wide

@@ -15,6 +15,7 @@ use Rattle.p3_commit.specs.Space.{IsPart}
 use Rattle.p3_commit.specs.Commitments.{AreParts, AreExtensions}
 use Rattle.p3_commit.specs.Failure.{NoneOf, FaultInTurn, NoneInTurn}
 use Rattle.p3_commit.specs.Laws.Codes.{width_positive}
+use Rattle.p3_commit.specs.Laws.FlatBatches.{product_cancel}
 use Rattle.plain_pcs.specs.Scheme.{Scheme}
 use Rattle.plain_pcs.specs.Extension.{IsCommittable, Extends}
 use Rattle.plain_pcs.specs.Refusals.{IsFirstWithout, CommitFault, ExtensionsFault, HasSubgroupHeight, QuotientFault}
@@ -22,13 +23,6 @@ use Rattle.plain_pcs.specs.Laws.Listed.{item_at}
 use Rattle.plain_pcs.specs.Laws.Extensions.{height-extension}
 use Rattle.plain_pcs.specs.declared.error.PlainProverError.{PlainProverError}
 use Rattle.plain_pcs.specs.declared.error.PlainProverError.TheVariants.{Commit, Open}
-
--- a factor that two equal products share
-same_factor : (a b n : ℕ) → 0 < n → a * n ≡ b * n → a ≡ b
-same_factor a b n pos e =
-    let low : a ≤ b = le_of_mul-le-mul_right {k = n} (omega (arith, e)) pos in
-    let high : b ≤ a = le_of_mul-le-mul_right {k = n} (omega (arith, e)) pos in
-    omega arith
 
 -- the extensions of n parts of a domain are together as large as the extension of the whole
 together : (k b d n : ℕ) → 2 ^ k * n ≡ 2 ^ d → 2 ^ (k + b) * n ≡ 2 ^ (d + b)
@@ -50,7 +44,7 @@ module _ {F : Type 0} (s : Scheme F) (d : CosetData F) (m : Rows F) (n : ℕ) (p
       let one : 2 ^ (k + s.log_blowup) ≤ 2 ^ s.most = le_of_mul-le-mul_right {k = n} (omega (arith, all)) positive in
       record {
         has_columns = let w : 0 < m.width = width_positive m (d.log_size, rows) in omega (arith, w, S.width_is);
-        height_is = same_factor (height x.1) (2 ^ k) n positive (S.height_is ∙ (rows ∙ sym P.size_is));
+        height_is = product_cancel (height x.1) (2 ^ k) n positive (S.height_is ∙ (rows ∙ sym P.size_is));
         fits = power_le_cancel (k + s.log_blowup) s.most one;
       }
 

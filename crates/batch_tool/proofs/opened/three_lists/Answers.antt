@@ -1,5 +1,6 @@
 use Rattle.std.proofs.Common.{[], ◌∷◌}
-use Rattle.batch_tool.proofs.OpenedLists.{one_behind, two_behind, the_one, the_two, values_in, matrix_in, round_in}
+use Rattle.p3_commit.specs.Laws.OneItem.{one_behind, the_one, values_in, matrix_in, round_in}
+use Rattle.batch_tool.proofs.OpenedLists.{two_behind, the_two}
 use Rattle.batch_tool.proofs.opened.three_lists.Goals as goal
 
 pub both-main-requires : goal.both-main-requires

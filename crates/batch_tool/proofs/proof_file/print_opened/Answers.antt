@@ -14,9 +14,9 @@ unfolding opened_words
 returns-clause-text c =
     let p = c.proof.inside in
     let local : c.print_list.new.out.items ≡ c.args.out.now.items ++ line_text (values_words p.trace_local.items) = rw (← c.deref.ensures.value) c.in_ok-print_list.ensures in
-    let next : c.print_present_list.new.out.items ≡ c.print_list.new.out.items ++ line_text (option_words values_words (Some p.trace_next.items)) = rw (← c.deref-2.ensures.value) c.in_ok-print_present_list.ensures in
-    let chunk : c.print_single_list.new.out.items ≡ c.push_number.new.out.items ++ line_text (list_words values_words (p.chunk_values.items ∷ [])) = rw (← c.deref-3.ensures.value) c.in_ok-print_single_list.ensures in
-    let all = prints-seven c.args.out.now.items c.print_list.new.out.items c.print_present_list.new.out.items c.push_number.new.out.items c.print_single_list.new.out.items c.push_number-2.new.out.items c.push_number-3.new.out.items c.push_number-4.new.out.items
+    let next : c.print_one_list.new.out.items ≡ c.print_list.new.out.items ++ line_text (option_words values_words (Some p.trace_next.items)) = rw (← c.deref-2.ensures.value) c.in_ok-print_one_list.ensures.present in
+    let chunk : c.print_one_list-2.new.out.items ≡ c.push_number.new.out.items ++ line_text (list_words values_words (p.chunk_values.items ∷ [])) = rw (← c.deref-3.ensures.value) c.in_ok-print_one_list-2.ensures.alone in
+    let all = prints-seven c.args.out.now.items c.print_list.new.out.items c.print_one_list.new.out.items c.push_number.new.out.items c.print_one_list-2.new.out.items c.push_number-2.new.out.items c.push_number-3.new.out.items c.push_number-4.new.out.items
     (values_words p.trace_local.items) (option_words values_words (Some p.trace_next.items)) (0 ∷ []) (list_words values_words (p.chunk_values.items ∷ [])) (0 ∷ []) (0 ∷ []) (0 ∷ [])
     local next c.in_ok-push_number.ensures chunk c.in_ok-push_number-2.ensures c.in_ok-push_number-3.ensures c.in_ok-push_number-4.ensures in
     all

@@ -9,7 +9,7 @@ use Rattle.p3_field.specs.Laws.Roots.{field_no_zero_divisors}
 use Rattle.p3_matrix.specs.Laws.Powers.{power_le_cancel}
 use Rattle.p3_matrix.specs.Interpolation.{IsInterpolatedAt}
 use Rattle.p3_commit.specs.Laws.Repeated.{power_not_zero, periodic_on_coset}
-use Rattle.p3_commit.proofs.Options.{match_some}
+use Rattle.p3_commit.specs.Laws.Options.{match_some}
 use Rattle.p3_commit.proofs.periodic_values.periodic_value.Goals as goal
 
 -- a period isn't longer than the domain

@@ -2,7 +2,7 @@ use Rattle.std.proofs.Common.{◌≡◌, ℕ, ◌+◌, ◌-◌, ◌*◌, ◌^◌
 use Rattle.std.proofs.lemmas.Nat.{pow-add}
 use Rattle.std.proofs.lemmas.Option.{MatchOption-at_some}
 use Rattle.p3_commit.specs.Laws.Cosets.{point_not_zero}
-use Rattle.p3_commit.proofs.Options.{match_some}
+use Rattle.p3_commit.specs.Laws.Options.{match_some}
 use Rattle.p3_commit.proofs.split.part_from.Goals as goal
 
 whole : (k a n : ℕ) → a ≤ k → n ≡ k - a → 2 ^ n * 2 ^ a ≡ 2 ^ k

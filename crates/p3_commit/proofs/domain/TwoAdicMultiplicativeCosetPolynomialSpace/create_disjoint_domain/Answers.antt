@@ -1,15 +1,9 @@
-use Rattle.std.proofs.Common.{◌≡◌, ℕ, ◌^◌, ◌<◌, ◌≤◌, ◌∙◌, inl, inr, sym, ap, arith}
-use Rattle.std.proofs.lemmas.Bool.{cases_lt}
+use Rattle.std.proofs.Common.{◌≡◌, ◌^◌, ◌∙◌, inl, inr, sym, ap, arith}
 use Rattle.std.proofs.lemmas.Option.{MatchOption-at_some}
 use Rattle.p3_field.specs.Laws.Roots.{field_no_zero_divisors}
-use Rattle.p3_commit.proofs.Options.{match_some}
+use Rattle.p3_commit.specs.Laws.Options.{match_some}
+use Rattle.p3_commit.proofs.Logarithms.{too_large}
 use Rattle.p3_commit.proofs.domain.TwoAdicMultiplicativeCosetPolynomialSpace.create_disjoint_domain.Goals as goal
-
-too_large : (top m k : ℕ) → ((j : ℕ) → m ≤ 2 ^ j → k ≤ j) → top < k → 2 ^ top < m
-too_large top m k least h = elim (cases_lt (2 ^ top) m) [
-  | inl a ↦ a
-  | inr a ↦ let b = least top a in absurd (omega arith)
-]
 
 pub unwrap-requires : goal.unwrap-requires
 unwrap-requires g c =

@@ -1,19 +1,8 @@
-use Rattle.std.proofs.Common.{◌≡◌, ℕ, ◌^◌, ◌<◌, ◌≤◌, ◌∙◌, inl, inr, sym, ap, arith}
-use Rattle.std.proofs.Math.Pow.{pow_mono}
-use Rattle.std.proofs.lemmas.Bool.{cases_lt}
+use Rattle.std.proofs.Common.{◌≡◌, ◌^◌, ◌∙◌, inl, inr, sym, ap, arith}
 use Rattle.p3_field.specs.Laws.Roots.{field_no_zero_divisors}
-use Rattle.p3_commit.proofs.Options.{match_weaker}
+use Rattle.p3_commit.specs.Laws.Options.{match_weaker}
+use Rattle.p3_commit.proofs.Logarithms.{too_large, not_too_large}
 use Rattle.p3_commit.proofs.domain.TwoAdicMultiplicativeCosetPolynomialSpace.try_create_disjoint_domain.Goals as goal
-
--- the least logarithm passes the two-adicity exactly where the size does
-too_large : (top m k : ℕ) → ((j : ℕ) → m ≤ 2 ^ j → k ≤ j) → top < k → 2 ^ top < m
-too_large top m k least h = elim (cases_lt (2 ^ top) m) [
-  | inl a ↦ a
-  | inr a ↦ let b = least top a in absurd (omega arith)
-]
-
-fits : (top m k : ℕ) → m ≤ 2 ^ k → k ≤ top → 2 ^ top < m → ⊥
-fits top m k enough h over = let p : 2 ^ k ≤ 2 ^ top = pow_mono h in omega arith
 
 pub returns : goal.returns
 returns g c =
@@ -35,6 +24,6 @@ returns g c =
         enough = omega (arith, c.log2_ceil_usize.ensures.enough, ap (λ k. 2 ^ k) q.1);
         least = λ k b. let low = c.log2_ceil_usize.ensures.least k b in omega (arith, low, q.1);
       },
-      fits top m ceil c.log2_ceil_usize.ensures.enough q.2,
+      not_too_large top m ceil c.log2_ceil_usize.ensures.enough q.2,
     ))
     c.new.ensures

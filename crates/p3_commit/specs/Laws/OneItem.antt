@@ -1,24 +1,25 @@
--- Lists of one item.
+-- Lists of one item, and opened values as lists.
 use Rattle.std.proofs.Common.{◌≡◌, ℕ, zero, suc, List, [], ◌∷◌, Some, length, map, refl, ap, sym, subst, ◌∙◌, arith, Vec}
 use Rattle.std.specs.Prelude.{slice_get}
 use Rattle.p3_commit.specs.Periodic.{EachFrom}
-
-pub single_map : {X Y : Type 0} (f : X → Y) (xs : List X) (y : Y) → map f xs ≡ y ∷ [] → (x : X) × (xs ≡ x ∷ [])
-single_map f [] y e = cc
-single_map f (x ∷ []) y e = (x, refl)
-single_map f (x ∷ z ∷ zs) y e = cc
-
-pub head_same : {X : Type 0} (x y : X) → x ∷ [] ≡ y ∷ [] → x ≡ y
-head_same x y e = cc
-
--- what is mapped, where there is one item
-pub peel : {X Y : Type 0} (f : X → Y) (xs : List X) (x : X) (y : Y) → map f xs ≡ y ∷ [] → xs ≡ x ∷ [] → f x ≡ y
-peel f xs x y e h = head_same (f x) y (sym (ap (map f) h) ∙ e)
 
 pub single : {X : Type 0} (xs : List X) → length xs ≡ 1 → (x : X) × (xs ≡ x ∷ [])
 single [] e = cc
 single (x ∷ []) e = (x, refl)
 single (x ∷ y ∷ zs) e = absurd (omega arith)
+
+pub same_one : {X : Type 0} (x y : X) → x ∷ [] ≡ y ∷ [] → x ≡ y
+same_one x y e = cc
+
+-- a list behind a map
+pub one_behind : {X Y : Type 0} (f : X → Y) (xs : List X) (y : Y) → map f xs ≡ y ∷ [] → (x : X) × (xs ≡ x ∷ [])
+one_behind f [] y e = cc
+one_behind f (x ∷ []) y e = (x, refl)
+one_behind f (x ∷ z ∷ zs) y e = cc
+
+-- what is mapped, where there is one item
+pub the_one : {X Y : Type 0} (f : X → Y) (xs : List X) (x : X) (y : Y) → map f xs ≡ y ∷ [] → xs ≡ x ∷ [] → f x ≡ y
+the_one f xs x y e h = same_one (f x) y (sym (ap (map f) h) ∙ e)
 
 pub one_pair : {X Y : Type 0} (P : X → Y → Type 0) (x : X) (y : Y) → P x y → EachFrom (x ∷ []) (y ∷ []) P
 one_pair P x y p = record { count = refl; each = at }
@@ -38,4 +39,4 @@ abbrev pub round_in : {E A : Type 0} → Vec (Vec (Vec E A) A) A → List (List 
 round_in v = map matrix_in v.items
 
 pub innermost : {X : Type 0} (x y : List X) → ((x ∷ []) ∷ []) ∷ [] ≡ ((y ∷ []) ∷ []) ∷ [] → x ≡ y
-innermost x y e = head_same x y (head_same (x ∷ []) (y ∷ []) (head_same ((x ∷ []) ∷ []) ((y ∷ []) ∷ []) e))
+innermost x y e = same_one x y (same_one (x ∷ []) (y ∷ []) (same_one ((x ∷ []) ∷ []) ((y ∷ []) ∷ []) e))
