@@ -13,9 +13,8 @@ use p3_field::{FieldCore, Mem, RingCore};
 /// its expression's tree to the list of asserted trees.
 ///
 /// The list of asserted trees, each with the field over which it was asserted, and that of interactions are meanings:
-/// no builder need keep them. `grows` says what a
-/// state has in the two lists beyond an earlier one. On an error a call has appended nothing, or, of several constraints,
-/// some of the first (`refused`).
+/// no builder need keep them. `grows` says what a state has in the two lists beyond an earlier one. On an error a call
+/// has appended nothing, or, of several constraints, some of the first (`refused`).
 pub trait AirBuilder {
     /// The field of the trace.
     type F: FieldCore;

@@ -100,7 +100,8 @@ fn assert_zero_to_two<AB: AirBuilder>(builder: &mut AB, n: u64, x: AB::Expr) -> 
 ///
 /// With acc16 = a0 - b0 - c0 and acc = acc16 + 2^16 (a1 - b1 - c1), the constraints are acc (acc + 2^32) and
 /// acc16 (acc16 + 2^16), in this order. Over a prime field of more than 2^20 elements they are zero exactly for the
-/// sum, where each limb is below 2^16. After `p3_air::utils::add2`.
+/// sum, where each limb is below 2^16. On an error some of the first of them were appended, and nothing else. After
+/// `p3_air::utils::add2`.
 pub fn add2<AB: AirBuilder>(
     builder: &mut AB,
     a: [AB::Expr; 2],
@@ -127,8 +128,8 @@ pub fn add2<AB: AirBuilder>(
 ///
 /// With acc16 = a0 - b0 - c0 - d0 and acc = acc16 + 2^16 (a1 - b1 - c1 - d1), the constraints are
 /// acc (acc + 2^32) (acc + 2^33) and acc16 (acc16 + 2^16) (acc16 + 2^17), in this order. Over a prime field of more
-/// than 2^20 elements they are zero exactly for the sum, where each limb is below 2^16. After
-/// `p3_air::utils::add3`.
+/// than 2^20 elements they are zero exactly for the sum, where each limb is below 2^16. On an error some of the first
+/// of them were appended, and nothing else. After `p3_air::utils::add3`.
 pub fn add3<AB: AirBuilder>(
     builder: &mut AB,
     a: [AB::Expr; 2],
@@ -151,7 +152,8 @@ pub fn add3<AB: AirBuilder>(
     assert_zero_to_two(builder, 1 << 16, low)
 }
 
-/// The sum of bit i times 2^i, the lowest bit first: the number of these bits (`p3_air::utils::pack_bits_le`).
+/// The sum of bit i times 2^i, the lowest bit first: the number of these bits (`p3_air::utils::pack_bits_le`). It appends
+/// nothing, on an error neither.
 pub fn pack_bits_le<AB: AirBuilder>(builder: &mut AB, bits: &[AB::Expr]) -> Mem<AB::Expr>
     ensures later { AB.later builder.old builder.new }
     ensures same { AB.shape builder.new ≡ AB.shape builder.old }
@@ -230,7 +232,8 @@ fn xor_shift_limbs<AB: AirBuilder>(
 /// are two limbs of 16 bits, of b and c 32 bits, the lowest first. A shift counts modulo 32.
 ///
 /// The constraints are x (x - 1) for each bit x of c, then a0 and a1 minus the packed 16 bits of that half. Of bits
-/// x and y the exclusive or is x + y - 2xy. After `p3_air::utils::xor_32_shift`.
+/// x and y the exclusive or is x + y - 2xy. On an error some of the first of them were appended, and nothing else. After
+/// `p3_air::utils::xor_32_shift`.
 pub fn xor_32_shift<AB: AirBuilder>(
     builder: &mut AB,
     a: [AB::Expr; 2],
