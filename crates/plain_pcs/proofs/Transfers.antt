@@ -53,11 +53,15 @@ module _ {A : Type 0} (r : Ring A) (L : RingLaws r) (inv : A → A) (W : FieldLa
       let b = inv a in
       cc (L.mul_assoc a (r.mul s b) x, L.mul_comm s b, L.mul_assoc a b s, W.mul_inv a nz, one_mul r L s)
 
+  -- the quotient of the shifts
+  ratio_is : (d e : CosetData A) (x y s : A) → s ≡ r.mul x y → x ≡ e.shift → y ≡ inv d.shift → s ≡ r.mul e.shift (inv d.shift)
+  ratio_is d e x y s is p q = cc (is, p, q)
+
   -- the shift isn't zero
-  pub ratio_not_zero : (a s t : A) → (a ≡ r.zero → ⊥) → (s ≡ r.zero → ⊥) → t ≡ r.mul s (inv a) → t ≡ r.zero → ⊥
-  ratio_not_zero a s t na ns is e =
-      let z : inv a ≡ r.zero = field_no_zero_divisors r L inv W s (inv a) ns (sym is ∙ e) in
-      W.one_differs (sym (W.mul_inv a na) ∙ (ap (r.mul a) z ∙ mul_zero r L a))
+  pub ratio_not_zero : (d e : CosetData A) (x y s : A) → (d.shift ≡ r.zero → ⊥) → (e.shift ≡ r.zero → ⊥) → s ≡ r.mul x y → x ≡ e.shift → y ≡ inv d.shift → s ≡ r.zero → ⊥
+  ratio_not_zero d e x y s nd ne is p q zero =
+      let z : inv d.shift ≡ r.zero = field_no_zero_divisors r L inv W e.shift (inv d.shift) ne (sym (ratio_is d e x y s is p q) ∙ zero) in
+      W.one_differs (sym (W.mul_inv d.shift nd) ∙ (ap (r.mul d.shift) z ∙ mul_zero r L d.shift))
 
   same_polynomial : (k : ℕ) (a : A) (v f g : List A) → k ≤ top → length v ≡ 2 ^ k → length f ≤ 2 ^ k → v ≡ values_at r (coset_point r a (root k)) (2 ^ k) f
       → IsInterpolant r (coset_point r r.one (root k)) v g → SamePoly r g (shift_arg r a f)
@@ -86,21 +90,21 @@ module _ {A : Type 0} (r : Ring A) (L : RingLaws r) (inv : A → A) (W : FieldLa
       ∙ (ap (λ z. val r f (r.mul a (r.mul z x))) shift ∙ ap (val r f) (divided a s x nz))))
 
   -- a transform with the shift e / d leads from d to e, which is as large or larger
-  pub transfer : (d e : CosetData A) (c : ℕ) (s : A) (m v : Rows A) → d.log_size ≤ top → (d.shift ≡ r.zero → ⊥) → height m ≡ 2 ^ d.log_size → d.log_size + c ≡ e.log_size
-      → s ≡ r.mul e.shift (inv d.shift) → IsExtensionOf r root c s m v → IsTransfer r root d e m v
-  transfer d e c s m v fits nz size sum shift E = record {
+  pub transfer : (d e : CosetData A) (c : ℕ) (x y s : A) (m v : Rows A) → d.log_size ≤ top → (d.shift ≡ r.zero → ⊥) → height m ≡ 2 ^ d.log_size → d.log_size + c ≡ e.log_size
+      → s ≡ r.mul x y → x ≡ e.shift → y ≡ inv d.shift → IsExtensionOf r root c s m v → IsTransfer r root d e m v
+  transfer d e c x y s m v fits nz size sum is p q E = record {
     width_is = E.width_is;
     height_is =
         let X = E.column_is 0 d.log_size (width_positive m (d.log_size, size)) size in
         sym (length-column r.zero v 0)
         ∙ (ap length X.values_are ∙ (length-values_at r (coset_point r s (root (d.log_size + c))) (2 ^ (d.log_size + c)) X.interpolant ∙ ap (λ l. 2 ^ l) sum));
-    column_is = λ j f b short is.
+    column_is = λ j f b short values.
         let k = d.log_size in
         let X = E.column_is j k b size in
         let same : SamePoly r X.interpolant (shift_arg r d.shift f) =
-        same_polynomial k d.shift (column r.zero m j) f X.interpolant fits (length-column r.zero m j ∙ size) short is X.interpolates in
+        same_polynomial k d.shift (column r.zero m j) f X.interpolant fits (length-column r.zero m j ∙ size) short values X.interpolates in
         X.values_are
-        ∙ (shifted_values (2 ^ (k + c)) d.shift e.shift s (root (k + c)) f X.interpolant nz shift same
+        ∙ (shifted_values (2 ^ (k + c)) d.shift e.shift s (root (k + c)) f X.interpolant nz (ratio_is d e x y s is p q) same
         ∙ ap (λ l. values_at r (coset_point r e.shift (root l)) (2 ^ l) f) sum);
   }
 

@@ -15,14 +15,8 @@ coset_lde_batch-requires-clause-subgroup g c =
 
 pub coset_lde_batch-requires-clause-shift : goal.coset_lde_batch-requires-clause-shift
 coset_lde_batch-requires-clause-shift g c =
-    let r = g.F.RingCore.ring in
-    let inv = g.F.FieldCore.inv in
-    let top = g.F.TwoAdicCore.TWO_ADICITY in
-    let root = g.F.TwoAdicCore.root in
-    let from = c.args.from in
-    let to = c.args.to in
-    let ratio : c.mul-shift.result ≡ r.mul to.shift (inv from.shift) = cc (g.met.F.PrimeCharacteristicRing.muls _ _ _ c.mul-shift.ensures, c.shift.ensures, c.shift_inverse.ensures) in
-    ratio_not_zero r g.met.F.RingCore.ring_laws inv g.met.F.FieldCore.field_laws top root g.met.F.TwoAdicCore.root_laws from.shift to.shift c.mul-shift.result c.valid.ensures.0 c.valid-2.ensures.0 ratio
+    ratio_not_zero g.F.RingCore.ring g.met.F.RingCore.ring_laws g.F.FieldCore.inv g.met.F.FieldCore.field_laws g.F.TwoAdicCore.TWO_ADICITY g.F.TwoAdicCore.root g.met.F.TwoAdicCore.root_laws
+    c.args.from c.args.to _ _ c.mul-shift.result c.valid.ensures.0 c.valid-2.ensures.0 (g.met.F.PrimeCharacteristicRing.muls _ _ _ c.mul-shift.ensures) c.shift.ensures c.shift_inverse.ensures
 
 pub rows_from-requires-clause-divides : goal.rows_from-requires-clause-divides
 rows_from-requires-clause-divides g c =
@@ -32,13 +26,12 @@ rows_from-requires-clause-divides g c =
     let root = g.F.TwoAdicCore.root in
     let from = c.args.from in
     let to = c.args.to in
-    let ratio : c.mul-shift.result ≡ r.mul to.shift (inv from.shift) = cc (g.met.F.PrimeCharacteristicRing.muls _ _ _ c.mul-shift.ensures, c.shift.ensures, c.shift_inverse.ensures) in
     let k = c.log_size-log_from.result in
     let l = c.log_size-log_to.result in
     let same : CosetData g.row.F.Denot = record { shift = to.shift; log_size = from.log_size } in
     let whole : IsTransfer r root from same c.args.values c.in_ok-all.all =
-    transfer r g.met.F.RingCore.ring_laws inv g.met.F.FieldCore.field_laws top root g.met.F.TwoAdicCore.root_laws from same 0 c.mul-shift.result c.args.values c.in_ok-all.all
-    c.valid.ensures.1 c.valid.ensures.0 c.requires (omega arith) ratio c.in_ok-all.ensures in
+    transfer r g.met.F.RingCore.ring_laws inv g.met.F.FieldCore.field_laws top root g.met.F.TwoAdicCore.root_laws from same 0 _ _ c.mul-shift.result c.args.values c.in_ok-all.all
+    c.valid.ensures.1 c.valid.ensures.0 c.requires (omega arith) (g.met.F.PrimeCharacteristicRing.muls _ _ _ c.mul-shift.ensures) c.shift.ensures c.shift_inverse.ensures c.in_ok-all.ensures in
     let stride : 1 * 2 ^ (k - l) % 18446744073709551616 ≡ 2 ^ (k - l) = one_shifted_left (k - l) (omega (arith, c.valid.ensures.1, c.log_size-log_from.ensures, g.met.F.TwoAdicCore.below_64)) in
     let h = height c.in_ok-all.all in
     let tall : h ≡ 2 ^ k = whole.height_is ∙ ap (λ n. 2 ^ n) (sym c.log_size-log_from.ensures) in
@@ -52,14 +45,8 @@ coset_lde_batch-requires-else-log_to-log_from-clause-subgroup g c =
 
 pub coset_lde_batch-requires-else-log_to-log_from-clause-shift : goal.coset_lde_batch-requires-else-log_to-log_from-clause-shift
 coset_lde_batch-requires-else-log_to-log_from-clause-shift g c =
-    let r = g.F.RingCore.ring in
-    let inv = g.F.FieldCore.inv in
-    let top = g.F.TwoAdicCore.TWO_ADICITY in
-    let root = g.F.TwoAdicCore.root in
-    let from = c.args.from in
-    let to = c.args.to in
-    let ratio : c.mul-shift.result ≡ r.mul to.shift (inv from.shift) = cc (g.met.F.PrimeCharacteristicRing.muls _ _ _ c.mul-shift.ensures, c.shift.ensures, c.shift_inverse.ensures) in
-    ratio_not_zero r g.met.F.RingCore.ring_laws inv g.met.F.FieldCore.field_laws top root g.met.F.TwoAdicCore.root_laws from.shift to.shift c.mul-shift.result c.valid.ensures.0 c.valid-2.ensures.0 ratio
+    ratio_not_zero g.F.RingCore.ring g.met.F.RingCore.ring_laws g.F.FieldCore.inv g.met.F.FieldCore.field_laws g.F.TwoAdicCore.TWO_ADICITY g.F.TwoAdicCore.root g.met.F.TwoAdicCore.root_laws
+    c.args.from c.args.to _ _ c.mul-shift.result c.valid.ensures.0 c.valid-2.ensures.0 (g.met.F.PrimeCharacteristicRing.muls _ _ _ c.mul-shift.ensures) c.shift.ensures c.shift_inverse.ensures
 
 pub returns-in_ok-rows : goal.returns-in_ok-rows
 returns-in_ok-rows g c =
@@ -69,13 +56,12 @@ returns-in_ok-rows g c =
     let root = g.F.TwoAdicCore.root in
     let from = c.args.from in
     let to = c.args.to in
-    let ratio : c.mul-shift.result ≡ r.mul to.shift (inv from.shift) = cc (g.met.F.PrimeCharacteristicRing.muls _ _ _ c.mul-shift.ensures, c.shift.ensures, c.shift_inverse.ensures) in
     let k = c.log_size-log_from.result in
     let l = c.log_size-log_to.result in
     let same : CosetData g.row.F.Denot = record { shift = to.shift; log_size = from.log_size } in
     let whole : IsTransfer r root from same c.args.values c.in_ok-all.all =
-    transfer r g.met.F.RingCore.ring_laws inv g.met.F.FieldCore.field_laws top root g.met.F.TwoAdicCore.root_laws from same 0 c.mul-shift.result c.args.values c.in_ok-all.all
-    c.valid.ensures.1 c.valid.ensures.0 c.requires (omega arith) ratio c.in_ok-all.ensures in
+    transfer r g.met.F.RingCore.ring_laws inv g.met.F.FieldCore.field_laws top root g.met.F.TwoAdicCore.root_laws from same 0 _ _ c.mul-shift.result c.args.values c.in_ok-all.all
+    c.valid.ensures.1 c.valid.ensures.0 c.requires (omega arith) (g.met.F.PrimeCharacteristicRing.muls _ _ _ c.mul-shift.ensures) c.shift.ensures c.shift_inverse.ensures c.in_ok-all.ensures in
     let stride : 1 * 2 ^ (k - l) % 18446744073709551616 ≡ 2 ^ (k - l) = one_shifted_left (k - l) (omega (arith, c.valid.ensures.1, c.log_size-log_from.ensures, g.met.F.TwoAdicCore.below_64)) in
     let some : IsSplit c.in_ok-all.all (2 ^ (k - l)) 0 c.in_ok-rows.rows = subst (λ (n : ℕ). IsSplit c.in_ok-all.all n 0 c.in_ok-rows.rows) stride c.in_ok-rows.ensures in
     transfer_smaller r g.met.F.RingCore.ring_laws inv g.met.F.FieldCore.field_laws top root g.met.F.TwoAdicCore.root_laws from to same (k - l) c.args.values c.in_ok-all.all c.in_ok-rows.rows
@@ -89,8 +75,7 @@ returns-in_ok-moved g c =
     let root = g.F.TwoAdicCore.root in
     let from = c.args.from in
     let to = c.args.to in
-    let ratio : c.mul-shift.result ≡ r.mul to.shift (inv from.shift) = cc (g.met.F.PrimeCharacteristicRing.muls _ _ _ c.mul-shift.ensures, c.shift.ensures, c.shift_inverse.ensures) in
     let k = c.log_size-log_from.result in
     let l = c.log_size-log_to.result in
-    transfer r g.met.F.RingCore.ring_laws inv g.met.F.FieldCore.field_laws top root g.met.F.TwoAdicCore.root_laws from to (l - k) c.mul-shift.result c.args.values c.in_ok-moved.moved
-    c.valid.ensures.1 c.valid.ensures.0 c.requires (omega (arith, c.log_size-log_from.ensures, c.log_size-log_to.ensures, c.if-log_to-log_from.false)) ratio c.in_ok-moved.ensures
+    transfer r g.met.F.RingCore.ring_laws inv g.met.F.FieldCore.field_laws top root g.met.F.TwoAdicCore.root_laws from to (l - k) _ _ c.mul-shift.result c.args.values c.in_ok-moved.moved
+    c.valid.ensures.1 c.valid.ensures.0 c.requires (omega (arith, c.log_size-log_from.ensures, c.log_size-log_to.ensures, c.if-log_to-log_from.false)) (g.met.F.PrimeCharacteristicRing.muls _ _ _ c.mul-shift.ensures) c.shift.ensures c.shift_inverse.ensures c.in_ok-moved.ensures
