@@ -12,6 +12,3 @@ pub use batch::TwoAdicSubgroupDft;
 pub use column::{interpolant_on_coset, values_on_coset};
 pub use naive::{NaiveDft, polynomial_value};
 pub use radix2::Radix2Dit;
-
-#[cfg(test)]
-mod tests;

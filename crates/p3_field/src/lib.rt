@@ -28,15 +28,13 @@ mod generic;
 mod gf256;
 mod own;
 mod quartic;
-#[cfg(test)]
-mod tests;
 
 pub use baby_bear::BabyBear;
 pub use coset::TwoAdicMultiplicativeCoset;
 pub use gf256::Gf256;
 pub use quartic::QuarticExtension;
 
-/// A result whose only error is want of memory.
+/// A result whose only error is want of memory (own).
 pub type Mem<T> = Result<T, AllocError>;
 
 /// A commutative ring without its operators: the core of `PrimeCharacteristicRing`.

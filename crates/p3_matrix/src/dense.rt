@@ -68,7 +68,7 @@ impl<F> RowMajorMatrix<F> {
         }
     }
 
-    /// All values, row after row.
+    /// All values, row after row (own).
     pub fn as_slice(&self) -> &[F]
         ensures values { result.now ≡ self.now.values }
         ensures fills { FillsRows self.now.values self.now.width }

@@ -14,6 +14,3 @@ pub use extension::flatten_matrix;
 pub use interpolation::{interpolate_coset, sum_of_powers};
 pub use inverses::batch_multiplicative_inverse;
 pub use util::{checked_log_size_sum, is_power_of_two, log2_ceil_usize, log2_strict_usize};
-
-#[cfg(test)]
-mod tests;

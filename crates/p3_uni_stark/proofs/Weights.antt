@@ -6,6 +6,7 @@ use Rattle.p3_field.specs.Ring.{Ring, RingLaws}
 use Rattle.p3_field.specs.Field.{FieldLaws, RingHom, TwoAdic}
 use Rattle.p3_field.specs.Laws.Algebra.{one_mul, mul_swap, mul_zero, zero_mul}
 use Rattle.p3_field.specs.Laws.Roots.{field_no_zero_divisors}
+use Rattle.p3_field.specs.Laws.SubgroupSelectors.{inv_one}
 use Rattle.p3_field.specs.Domain.{CosetData, point}
 use Rattle.p3_commit.specs.Space.{IsPoint}
 use Rattle.p3_uni_stark.specs.Recombine.{product, product_but, domain_at, AllDisjoint}
@@ -19,9 +20,6 @@ module _ {A : Type 0} (r : Ring A) (L : RingLaws r) where
   product_same (suc n) t u h = let p = product_same n t u (λ i k. h i (omega arith)) in let q = h n (omega arith) in λ i. r.mul (p i) (q i)
 
   module _ (inv : A → A) (W : FieldLaws r inv) where
-    inv_one : inv r.one ≡ r.one
-    inv_one = sym (one_mul r L (inv r.one)) ∙ W.mul_inv r.one W.one_differs
-
     pub inv_mul : (x y : A) → (x ≡ r.zero → ⊥) → (y ≡ r.zero → ⊥) → inv (r.mul x y) ≡ r.mul (inv x) (inv y)
     inv_mul x y a b =
         let z = inv (r.mul x y) in
@@ -34,7 +32,7 @@ module _ {A : Type 0} (r : Ring A) (L : RingLaws r) where
       -- a product of quotients is the product of what is divided over that of the divisors
       quotients : (n : ℕ) (p : ℕ → B) (u : ℕ → A) → (product r n u ≡ r.zero → ⊥)
           → s.mul (product s n p) (f (inv (product r n u))) ≡ product s n (λ j. s.mul (p j) (f (inv (u j))))
-      quotients zero p u h = ap (λ v. s.mul s.one (f v)) inv_one ∙ (ap (s.mul s.one) H.keeps_one ∙ M.mul_one s.one)
+      quotients zero p u h = ap (λ v. s.mul s.one (f v)) (inv_one r L inv W) ∙ (ap (s.mul s.one) H.keeps_one ∙ M.mul_one s.one)
       quotients (suc n) p u h =
           let U = product r n u in
           let low : U ≡ r.zero → ⊥ = λ e. h (ap (λ v. r.mul v (u n)) e ∙ zero_mul r L (u n)) in

@@ -83,7 +83,8 @@ module _ {A : Type 0} (r : Ring A) (L : RingLaws r) where
   val_turned n h x = scaled_powers n h h x
 
   module _ (inv : A → A) (W : FieldLaws r inv) where
-    inv_one : inv r.one ≡ r.one
+    -- one is its own inverse
+    pub inv_one : inv r.one ≡ r.one
     inv_one = sym (one_mul r L (inv r.one)) ∙ W.mul_inv r.one W.one_differs
 
     pub van_is : (k : ℕ) → van r inv (subgroup r k) ≡ vanishing r (2 ^ k) r.one

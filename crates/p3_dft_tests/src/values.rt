@@ -2,7 +2,7 @@
 ghost use Rattle.std.specs.Prelude.{◌≡◌, ◌^◌, IfOk};
 ghost use Rattle.p3_matrix.specs.Matrix.{height};
 
-use crate::{
+use p3_dft::{
     NaiveDft, Radix2Dit, TwoAdicSubgroupDft, interpolant_on_coset, polynomial_value,
     values_on_coset,
 };

@@ -1,7 +1,7 @@
 //! Values that were worked out apart from this crate, and calls through the bounds.
 ghost use Rattle.std.specs.Prelude.{◌≡◌};
 
-use crate::{
+use p3_field::{
     BabyBear, BasedVectorSpace, ExtensionField, FieldCore, Gf256, PrimeCharacteristicRing,
     PrimeCore64, QuarticExtension, RingCore, TwoAdicCore, TwoAdicField, TwoAdicMultiplicativeCoset,
 };

@@ -2,11 +2,11 @@
 ghost use Rattle.std.specs.Prelude.{◌≡◌, ◌^◌, IfOk};
 ghost use Rattle.p3_matrix.specs.Matrix.{height};
 
-use crate::{
+use p3_field::{BabyBear, FieldCore, Mem, QuarticExtension, RingCore};
+use p3_matrix::{
     RowMajorMatrix, batch_multiplicative_inverse, checked_log_size_sum, flatten_matrix,
     interpolate_coset, is_power_of_two, log2_ceil_usize, log2_strict_usize, sum_of_powers,
 };
-use p3_field::{BabyBear, FieldCore, Mem, QuarticExtension, RingCore};
 use std::alloc::Global;
 use std::process::Abort;
 use std::test::Fail;
