@@ -1,14 +1,16 @@
 //! Gadgets and the check of rows on worked values. The sums and rotations are those of Python's integers.
 ghost use Rattle.std.specs.Prelude.{◌≡◌, ◌<◌, IfOk, length};
+ghost use Rattle.p3_air.specs.Shape.{DeclaresExt};
 
 use p3_air::examples::SwapAir;
 use p3_air::{
-    AirBuilder, CheckFailure, DebugConstraintBuilder, ExtensionBuilder, RowValues, add2, add3,
-    check_constraints, pack_bits_le, u32_to_bits_le, xor_32_shift,
+    AirBuilder, CheckFailure, Count, DebugConstraintBuilder, ExtCell, ExtensionBuilder,
+    InteractionBuilder, PermutationAirBuilder, RowValues, add2, add3, check_constraints,
+    pack_bits_le, u32_to_bits_le, xor_32_shift,
 };
-use p3_field::{BabyBear, FieldCore, Mem, RingCore};
+use p3_field::{BabyBear, FieldCore, Mem, QuarticExtension, RingCore};
 use p3_matrix::RowMajorMatrix;
-use std::alloc::Global;
+use std::alloc::{AllocError, Global};
 use std::test::Fail;
 
 type Builder = DebugConstraintBuilder<'static, BabyBear, BabyBear>;
@@ -173,6 +175,8 @@ fn texts_of_failures(rt: HostRuntime) -> Result<(), Fail> {
         format!(in alloc; "{failing}")?.as_str(),
         "in row 2 the constraints [0, 3] aren't zero"
     );
+    let wanting: CheckFailure = AllocError.into();
+    assert_eq!(rt; format!(in alloc; "{wanting}")?.as_str(), "out of memory");
     Ok(())
 }
 
@@ -196,5 +200,56 @@ fn values_at_a_row(rt: HostRuntime) -> Result<(), Fail> {
         builder.values(),
         [bear(8), bear(2), bear(30), bear(20)].as_slice()
     );
+    Ok(())
+}
+
+// Asserts that y^2 + x and y^2 - x are zero, where y is the cell, and sends x on a bus and within the table.
+fn assert_square<AB: InteractionBuilder>(builder: &mut AB, y: ExtCell, x: AB::Expr) -> Mem<()>
+    requires { DeclaresExt (AB.shape builder.old) y }
+{
+    let y = builder.ext_cell(y)?;
+    let above = builder.lift(x)?;
+    let square = builder.mul_ext(y, y)?;
+    let more = builder.add_ext(square, above)?;
+    let less = builder.sub_ext(square, above)?;
+    builder.assert_zero_ext(more)?;
+    builder.assert_zero_ext(less)?;
+    let count = Count { value: x, bound: 1 };
+    builder.push_interaction("squares", &[x], count)?;
+    builder.push_local_interaction(&[x], &[count])
+}
+
+// A row whose only cells are 4 and the next row's 7 over the extension. What is sent has no values.
+#[test]
+fn values_over_the_extension(rt: HostRuntime) -> Result<(), Fail> {
+    let (local, next) = (
+        [QuarticExtension::from_u64(4)],
+        [QuarticExtension::from_u64(7)],
+    );
+    let row = RowValues {
+        main_local: &[],
+        main_next: &[],
+        preprocessed_local: &[],
+        preprocessed_next: &[],
+        periodic: &[],
+        public_values: &[],
+        is_first_row: false,
+        is_last_row: false,
+        permutation_local: &local,
+        permutation_next: &next,
+        challenges: &[],
+        terminals: &[],
+    };
+    let mut builder = DebugConstraintBuilder::<BabyBear, QuarticExtension>::new(rt.alloc(), row);
+    let cell = ExtCell::Permutation {
+        next: true,
+        column: 0,
+    };
+    assert_square(&mut builder, cell, bear(3))?;
+    let expected = [
+        QuarticExtension::from_u64(52),
+        QuarticExtension::from_u64(46),
+    ];
+    assert_eq!(rt; builder.values(), expected.as_slice());
     Ok(())
 }

@@ -22,7 +22,7 @@ fn post_sends_two_interactions(rt: HostRuntime) -> Result<(), Fail> {
     let air = post(alloc)?;
     let layout = AirLayout::from_air::<BabyBear, PostAir<BabyBear>>(&air);
     let mut builder = InteractionSymbolicBuilder::<BabyBear>::new(alloc, layout)?;
-    air.eval(&mut builder)?;
+    Air::<BabyBear>::eval(&air, &mut builder)?;
     let count = builder.num_interactions();
     assert_eq!(rt; count, 2);
     if count == 2 {
@@ -58,6 +58,10 @@ fn declarations(rt: HostRuntime) -> Result<(), Fail> {
     assert_eq!(rt; BaseAir::<BabyBear>::num_constraints(&swap), None);
     assert_eq!(rt; BaseAir::<BabyBear>::max_constraint_degree(&swap), None);
     assert!(rt; !BaseAir::<BabyBear>::assumes_boolean_trace(&swap));
+    assert_eq!(rt;
+        BaseAir::<BabyBear>::preprocessed_next_row_columns(&swap).len(),
+        0
+    );
     let post = post(alloc)?;
     match post.preprocessed_trace(alloc)? {
         Some(trace) => {
@@ -66,6 +70,9 @@ fn declarations(rt: HostRuntime) -> Result<(), Fail> {
         None => assert!(rt; false),
     }
     assert_eq!(rt; post.preprocessed_next_row_columns().len(), 0);
+    assert_eq!(rt; post.main_next_row_columns().len(), 0);
     assert_eq!(rt; post.num_constraints(), Some(1));
+    assert_eq!(rt; post.max_constraint_degree(), None);
+    assert!(rt; !post.assumes_boolean_trace());
     Ok(())
 }

@@ -136,6 +136,29 @@ fn degrees_stop_at_the_greatest(rt: HostRuntime) -> Result<(), Fail> {
     Ok(())
 }
 
+// Asserts that x + 3 is x, that x is a bit, and that x and x + 3 are zero.
+fn assert_in_all_ways<AB: AirBuilder>(builder: &mut AB, x: AB::Expr) -> Mem<()> {
+    let three = builder.constant(<AB::F as RingCore>::from_u64(3))?;
+    let sum = builder.add(x, three)?;
+    builder.assert_eq(sum, x)?;
+    builder.assert_bools(&[x])?;
+    builder.assert_zeros(&[x, sum])
+}
+
+#[test]
+fn degrees_of_sums(rt: HostRuntime) -> Result<(), Fail> {
+    let alloc = rt.alloc();
+    let mut builder = InteractionSymbolicBuilder::<BabyBear>::new(alloc, one_of_each())?;
+    let x = builder.cell(Cell::FirstRow)?;
+    assert_in_all_ways(&mut builder, x)?;
+    let mut multiples = Vec::new(alloc);
+    for constraint in &builder.base_constraints(alloc)? {
+        multiples.push(constraint.degree_multiple())?;
+    }
+    assert_eq!(rt; multiples.as_slice(), [1usize, 2, 1, 1].as_slice());
+    Ok(())
+}
+
 // The expression that is this cell alone.
 fn of_cell(alloc: Global, cell: Cell) -> Mem<SymbolicExpression<BabyBear>>
     ensures { IfOk result (λ e. e ≡ Base cell ∷ []) }
@@ -189,17 +212,25 @@ fn powers_of_the_challenge(rt: HostRuntime) -> Result<(), Fail> {
     Ok(())
 }
 
+// Asserts over the extension that (x + y - y) y is zero, where x is the first cell and y the second.
+fn assert_product<AB: PermutationAirBuilder>(builder: &mut AB, x: Cell, y: ExtCell) -> Mem<()>
+    requires base { Declares (AB.shape builder.old) x }
+    requires extension { DeclaresExt (AB.shape builder.old) y }
+{
+    let base = builder.cell(x)?;
+    let x = builder.lift(base)?;
+    let y = builder.ext_cell(y)?;
+    let sum = builder.add_ext(x, y)?;
+    let difference = builder.sub_ext(sum, y)?;
+    let product = builder.mul_ext(difference, y)?;
+    builder.assert_zero_ext(product)
+}
+
 #[test]
 fn operations_over_the_extension(rt: HostRuntime) -> Result<(), Fail> {
     let alloc = rt.alloc();
     let mut builder = InteractionSymbolicBuilder::<BabyBear>::new(alloc, one_of_each())?;
-    let base = builder.cell(Cell::Public(0))?;
-    let x = builder.lift(base)?;
-    let y = builder.ext_cell(ExtCell::Challenge(0))?;
-    let sum = builder.add_ext(x, y)?;
-    let difference = builder.sub_ext(sum, y)?;
-    let product = builder.mul_ext(difference, y)?;
-    builder.assert_zero_ext(product)?;
+    assert_product(&mut builder, Cell::Public(0), ExtCell::Challenge(0))?;
     let constraints = builder.extension_constraints(alloc)?;
     match constraints.first() {
         Some(constraint) => {

@@ -19,7 +19,7 @@ fn a_claim_of_pairs(rt: HostRuntime) -> Result<(), Fail> {
     assert_eq!(rt; (first.point, last.point), (3, 4));
     assert_eq!(rt; first.values.as_slice(), [5, 9].as_slice());
     assert_eq!(rt; last.values.as_slice(), [6, 7].as_slice());
-    let point = PointOpening::from((8u64, vec![in alloc; 9u64]?));
+    let point: PointOpening<u64> = (8u64, vec![in alloc; 9u64]?).into();
     assert_eq!(rt; point.point, 8);
     Ok(())
 }
@@ -28,7 +28,8 @@ fn a_claim_of_pairs(rt: HostRuntime) -> Result<(), Fail> {
 fn a_copied_request(rt: HostRuntime) -> Result<(), Fail> {
     let alloc = rt.alloc();
     let prover_data = 7u64;
-    let request = OpeningRequest::from((&prover_data, vec![in alloc; vec![in alloc; 3u64, 4]?]?));
+    let points = vec![in alloc; vec![in alloc; 3u64, 4]?]?;
+    let request: OpeningRequest<'_, u64, u64> = (&prover_data, points).into();
     let copy = request.try_clone(alloc)?;
     assert_eq!(rt; *copy.prover_data, 7);
     let points = copy.points.first().ok_or("no points")?;

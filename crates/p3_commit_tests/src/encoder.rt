@@ -2,11 +2,12 @@
 ghost use Rattle.std.specs.Prelude.{◌≡◌, ◌+◌, ◌*◌, ◌^◌, ◌<◌, ◌≤◌, length, IfOk};
 ghost use Rattle.p3_matrix.specs.Matrix.{height};
 
-use p3_commit::{EncodeError, Encoder};
+use p3_commit::{EncodeError, Encoder, PcsFailure};
 use p3_dft::{NaiveDft, Radix2Dit};
 use p3_field::{BabyBear, Mem, RingCore};
 use p3_matrix::RowMajorMatrix;
-use std::alloc::Global;
+use std::alloc::{AllocError, AllocFailed, Global};
+use std::process::Abort;
 use std::test::Fail;
 
 fn bear(n: u64) -> BabyBear {
@@ -32,15 +33,35 @@ fn refused_codes(rt: HostRuntime) -> Result<(), Fail> {
     Ok(())
 }
 
+// Compares the code of 7 and -2 by both calls, over the bound alone.
+fn code_of_a_line<E: Encoder<BabyBear>>(
+    rt: &impl Abort,
+    alloc: Global,
+    encoder: &E,
+) -> Result<(), Fail> {
+    let message = two_rows(alloc, bear(7), -bear(2))?;
+    let code = encoder.encode_batch(alloc, message, 0)?;
+    assert_eq!(rt; code.as_slice(), [bear(5), bear(9)].as_slice());
+    let message = two_rows(alloc, bear(7), -bear(2))?;
+    let code = encoder.encode_batch_padded(alloc, message, 0)?;
+    assert_eq!(rt; code.as_slice(), [bear(5), bear(9)].as_slice());
+    Ok(())
+}
+
 #[test]
 fn codes_of_a_line(rt: HostRuntime) -> Result<(), Fail> {
-    let alloc = rt.alloc();
-    let message = two_rows(alloc, bear(7), -bear(2))?;
-    let code = NaiveDft.encode_batch(alloc, message, 0)?;
-    assert_eq!(rt; code.as_slice(), [bear(5), bear(9)].as_slice());
-    let message = two_rows(alloc, bear(7), -bear(2))?;
-    let code = Radix2Dit.encode_batch_padded(alloc, message, 0)?;
-    assert_eq!(rt; code.as_slice(), [bear(5), bear(9)].as_slice());
+    code_of_a_line(&rt, rt.alloc(), &NaiveDft)?;
+    code_of_a_line(&rt, rt.alloc(), &Radix2Dit)
+}
+
+#[test]
+fn failures_of_memory(rt: HostRuntime) -> Result<(), Fail> {
+    let encoding: EncodeError = AllocError.into();
+    assert!(rt; matches!(&encoding, EncodeError::OutOfMemory));
+    let failure: PcsFailure<u64> = AllocError.into();
+    assert!(rt; matches!(&failure, PcsFailure::OutOfMemory));
+    let failure: PcsFailure<u64> = AllocFailed { value: 7u64 }.into();
+    assert!(rt; matches!(&failure, PcsFailure::OutOfMemory));
     Ok(())
 }
 

@@ -4,7 +4,9 @@ ghost use Rattle.std.specs.Prelude.{◌≡◌, ◌+◌, ◌*◌, ◌^◌, ◌<�
 use p3_commit::{
     PeriodicColumnShapeError, PeriodicColumns, PeriodicEvaluator, PeriodicLdeTable, PolynomialSpace,
 };
-use p3_field::{BabyBear, Mem, QuarticExtension, RingCore, TwoAdicMultiplicativeCoset};
+use p3_field::{
+    BabyBear, ExtensionField, Mem, QuarticExtension, RingCore, TwoAdicMultiplicativeCoset,
+};
 use p3_matrix::{RowMajorMatrix, is_power_of_two};
 use std::alloc::Global;
 use std::test::Fail;
@@ -72,6 +74,11 @@ fn first_unfit_column(rt: HostRuntime) -> Result<(), Fail> {
     Ok(())
 }
 
+// A clone, over the bound alone.
+fn cloned<T: Clone>(x: &T) -> Mem<T> {
+    x.clone()
+}
+
 #[test]
 fn fit_columns(rt: HostRuntime) -> Result<(), Fail> {
     let alloc = rt.alloc();
@@ -83,6 +90,8 @@ fn fit_columns(rt: HostRuntime) -> Result<(), Fail> {
     );
     assert!(rt; !three.is_empty());
     assert_eq!(rt; three.as_slice().len(), 3);
+    let again = cloned(&three)?;
+    assert_eq!(rt; (again.len(), again.height()), (3, 8));
     let none = columns_of(alloc, &[])?;
     let none = PeriodicColumns::new(&none, 7)?;
     assert_eq!(rt;
@@ -193,6 +202,23 @@ fn values_of_periodic_columns(rt: HostRuntime) -> Result<(), Fail> {
         ]
         .as_slice()
     );
+    Ok(())
+}
+
+// The value at a point of the column 5, 9 over four points.
+fn pair_at<E: ExtensionField<BabyBear>>(domain: &Coset, point: E) -> E
+    requires { domain.now.log_size ≡ 2 }
+{
+    domain.evaluate_periodic_column_at(&[bear(5), bear(9)], point)
+}
+
+// The interpolant of 5, 9, 5, 9 on the points 1, r, -1, -r, where r is a root of -1, is 7 - 2 X^2.
+#[test]
+fn values_of_one_periodic_column(rt: HostRuntime) -> Result<(), Fail> {
+    let domain = Coset::new(bear(1), 2).ok_or("no coset")?;
+    assert_eq!(rt; pair_at(&domain, bear(3)), -bear(11));
+    let three = QuarticExtension::from_u64(3);
+    assert_eq!(rt; pair_at(&domain, three), -QuarticExtension::from_u64(11));
     Ok(())
 }
 

@@ -2,7 +2,7 @@
 ghost use Rattle.std.specs.Prelude.{◌≡◌};
 
 use p3_field::{
-    BabyBear, BasedVectorSpace, ExtensionField, FieldCore, Gf256, PrimeCharacteristicRing,
+    BabyBear, BasedVectorSpace, ExtensionField, FieldCore, Gf256, Mem, PrimeCharacteristicRing,
     PrimeCore64, QuarticExtension, RingCore, TwoAdicCore, TwoAdicField, TwoAdicMultiplicativeCoset,
 };
 use std::test::Fail;
@@ -91,6 +91,10 @@ fn the_quartic_extension(rt: HostRuntime) {
         QuarticExtension::ONE + QuarticExtension::ONE
     );
     assert_eq!(rt; QuarticExtension::from_u64(P + 1), QuarticExtension::ONE);
+    assert_eq!(rt; QuarticExtension::from_u16(65535), quartic(65535, 0, 0, 0));
+    assert_eq!(rt; QuarticExtension::from_bool(true), QuarticExtension::ONE);
+    assert_eq!(rt; QuarticExtension::from_bool(false), QuarticExtension::ZERO);
+    assert_eq!(rt; x.exp_u64(3), quartic(18646, 9664, 2430, 2300));
 }
 
 #[test]
@@ -181,8 +185,21 @@ fn bytes_as_polynomials(rt: HostRuntime) {
     );
     assert_eq!(rt; Gf256::ZERO.try_inverse(), None);
     assert_eq!(rt; Gf256::GENERATOR.exp_u64(17), Gf256 { value: 0xe1 });
+    assert_eq!(rt; x.exp_power_of_2(8), x);
     let own = <Gf256 as ExtensionField<Gf256>>::from_ext_basis_coefficients(&[x]);
     assert_eq!(rt; own, Some(x));
+}
+
+// A clone, over the bound alone.
+fn cloned<T: Clone>(x: &T) -> Mem<T> {
+    x.clone()
+}
+
+#[test]
+fn a_cloned_coset(rt: HostRuntime) -> Result<(), Fail> {
+    let coset = TwoAdicMultiplicativeCoset::new(bear(3), 3).ok_or("no coset")?;
+    assert_eq!(rt; cloned(&coset)?, coset);
+    Ok(())
 }
 
 // Code over the bounds alone.

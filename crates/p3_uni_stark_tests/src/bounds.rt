@@ -37,5 +37,10 @@ fn counts_of_openings(rt: HostRuntime) -> Result<(), Fail> {
         (layout.trace, layout.quotient, layout.preprocessed),
         (1, 2, 3)
     );
+    let layout = StarkOpeningLayout::new(false);
+    assert_eq!(rt;
+        (layout.trace, layout.quotient, layout.preprocessed),
+        (0, 1, 2)
+    );
     Ok(())
 }

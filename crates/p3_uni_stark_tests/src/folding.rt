@@ -1,7 +1,12 @@
 //! Constraints folded by both folders, and the powers that they take.
+ghost use Rattle.p3_air.specs.Shape.{DeclaresExt};
+ghost use Rattle.p3_air.specs.declared.cells.ExtCell.TheVariants.{Terminal};
+
 use p3_air::examples::SwapAir;
-use p3_air::{AirBuilder, Count, ExtensionBuilder, InteractionBuilder};
-use p3_field::{BabyBear, Mem, QuarticExtension, RingCore};
+use p3_air::{
+    AirBuilder, Count, ExtCell, ExtensionBuilder, InteractionBuilder, PermutationAirBuilder,
+};
+use p3_field::{BabyBear, FieldCore, Mem, QuarticExtension, RingCore};
 use p3_uni_stark::{ProverFolder, VerifierFolder, prover_fold, verifier_fold};
 use std::test::Fail;
 
@@ -66,14 +71,16 @@ fn both_folds_of_swap(rt: HostRuntime) -> Result<(), Fail> {
     Ok(())
 }
 
-// Asserts over the extension that the square of x is zero, and sends x once within the table.
+// Asserts over the extension that the square of x is zero, and sends x on a bus and within the table, as often as x says.
 fn assert_square<AB: InteractionBuilder>(builder: &mut AB, x: AB::Expr) -> Mem<()> {
     let above = builder.lift(x)?;
     let square = builder.mul_ext(above, above)?;
     let sum = builder.add_ext(square, above)?;
     let back = builder.sub_ext(sum, above)?;
     builder.assert_zero_ext(back)?;
-    builder.push_local_interaction(&[x], &[Count { value: x, bound: 1 }])
+    let count = Count { value: x, bound: 1 };
+    builder.push_interaction("squares", &[x], count)?;
+    builder.push_local_interaction(&[x], &[count])
 }
 
 // The square of 3 takes the first power. A constraint past the last power takes none and isn't counted.
@@ -115,5 +122,62 @@ fn powers_are_counted(rt: HostRuntime) -> Result<(), Fail> {
     assert_square(&mut folder, three)?;
     assert_square(&mut folder, three)?;
     assert_eq!(rt; folder.accumulator, QuarticExtension::from_u64(99));
+    Ok(())
+}
+
+// Asserts that x + 3 is x, that x is a bit, and that x and x + 3 are zero.
+fn assert_in_all_ways<AB: AirBuilder>(builder: &mut AB, x: AB::Expr) -> Mem<()> {
+    let three = builder.constant(<AB::F as RingCore>::from_u64(3))?;
+    let sum = builder.add(x, three)?;
+    builder.assert_eq(sum, x)?;
+    builder.assert_bools(&[x])?;
+    builder.assert_zeros(&[x, sum])
+}
+
+// The terminal of the lookups. A table without lookups has the empty sum.
+fn terminal<AB: PermutationAirBuilder>(builder: &mut AB) -> Mem<AB::ExprEF>
+    requires { DeclaresExt (AB.shape builder.old) Terminal }
+{
+    builder.ext_cell(ExtCell::Terminal)
+}
+
+// At 5 the values are 3, 20, 5 and 8.
+#[test]
+fn assertions_of_all_forms(rt: HostRuntime) -> Result<(), Fail> {
+    let powers = powers_of_ten();
+    let mut folder = ProverFolder {
+        main_local: &[],
+        main_next: &[],
+        preprocessed_local: &[],
+        preprocessed_next: &[],
+        periodic_values: &[],
+        public_values: &[],
+        is_first_row: BabyBear::ONE,
+        is_last_row: BabyBear::ONE,
+        is_transition: BabyBear::ONE,
+        alpha_powers: &powers[1..],
+        constraint_index: 0,
+        accumulator: QuarticExtension::ZERO,
+    };
+    assert_in_all_ways(&mut folder, bear(5))?;
+    assert_eq!(rt; folder.accumulator, QuarticExtension::from_u64(5058));
+    assert_eq!(rt; terminal(&mut folder)?, QuarticExtension::ZERO);
+    let mut folder = VerifierFolder {
+        main_local: &[],
+        main_next: &[],
+        preprocessed_local: &[],
+        preprocessed_next: &[],
+        periodic_values: &[],
+        public_values: &[],
+        is_first_row: QuarticExtension::ONE,
+        is_last_row: QuarticExtension::ONE,
+        is_transition: QuarticExtension::ONE,
+        alpha: QuarticExtension::from_u64(10),
+        accumulator: QuarticExtension::ZERO,
+    };
+    let five = folder.constant(bear(5))?;
+    assert_in_all_ways(&mut folder, five)?;
+    assert_eq!(rt; folder.accumulator, QuarticExtension::from_u64(5058));
+    assert_eq!(rt; terminal(&mut folder)?, QuarticExtension::ZERO);
     Ok(())
 }

@@ -3,7 +3,7 @@ ghost use Rattle.std.specs.Prelude.{◌≡◌, ℕ, ◌+◌, ◌*◌, ◌^◌, �
 ghost use Rattle.p3_matrix.specs.Matrix.{height};
 ghost use Rattle.p3_commit.specs.Batches.{IsBatch, IsRowOf};
 
-use p3_commit::{BatchOpeningRef, ExtensionMmcs, Mmcs, PcsFailure};
+use p3_commit::{BatchOpening, BatchOpeningRef, ExtensionMmcs, Mmcs, PcsFailure};
 use p3_field::{
     BabyBear, BasedVectorSpace, ExtensionField, FieldCore, Mem, QuarticExtension, RingCore,
 };
@@ -250,12 +250,42 @@ fn one_column(rt: HostRuntime) -> Result<(), Fail> {
     Ok(())
 }
 
+// A clone, over the bound alone.
+fn cloned<T: Clone>(x: &T) -> Mem<T> {
+    x.clone()
+}
+
+#[test]
+fn an_opening_of_one_row(rt: HostRuntime) -> Result<(), Fail> {
+    let alloc = rt.alloc();
+    let rows = vec![in alloc; one(alloc, bear(9))?]?;
+    let opening = BatchOpening::<BabyBear, PlainMmcs>::new(rows, PlainMmcsProof);
+    let borrowed: BatchOpeningRef<'_, BabyBear, PlainMmcs> = (&opening).into();
+    let (rows, _proof) = cloned(&borrowed)?.unpack();
+    assert_eq!(rt; cell::<BabyBear>(rows, 0), Some(bear(9)));
+    Ok(())
+}
+
+// Row 1 of a list of two values as a column, over the bound alone.
+fn second_of_list<T: Copy + Eq, M: Mmcs<T>>(alloc: Global, mmcs: &M, list: Vec<T>) -> Mem<Option<T>>
+    requires two { length list.items ≡ 2 }
+    requires one { M.takes 1 }
+{
+    let (_commitment, data) = mmcs.commit_vec(alloc, list)?;
+    let (rows, _proof) = mmcs.open_batch(alloc, 1, &data)?.unpack();
+    Ok(cell(&rows, 0))
+}
+
 #[test]
 fn one_list(rt: HostRuntime) -> Result<(), Fail> {
     let alloc = rt.alloc();
-    let (_commitment, data) = PlainMmcs.commit_vec(alloc, vec![in alloc; bear(5), bear(9)]?)?;
-    let (rows, _proof) = PlainMmcs.open_batch(alloc, 1, &data)?.unpack();
-    assert_eq!(rt; cell::<BabyBear>(&rows, 0), Some(bear(9)));
+    let list = vec![in alloc; bear(5), bear(9)]?;
+    assert_eq!(rt; second_of_list(alloc, &PlainMmcs, list)?, Some(bear(9)));
+    let list = vec![in alloc; bear(5), bear(9)]?;
+    assert_eq!(rt; second_of_list(alloc, &&PlainMmcs, list)?, Some(bear(9)));
+    let mmcs = ExtensionMmcs::<BabyBear, QuarticExtension, PlainMmcs>::new(PlainMmcs);
+    let list = vec![in alloc; quartic(5), quartic(9)]?;
+    assert_eq!(rt; second_of_list(alloc, &mmcs, list)?, Some(quartic(9)));
     Ok(())
 }
 

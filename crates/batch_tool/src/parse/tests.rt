@@ -1,8 +1,10 @@
 // Texts that are read back, and the lines of faults.
 use super::*;
+use crate::InputError;
 use crate::items::{print_list, print_option, read_list, read_option};
 use crate::job::{Job, SwapTable, read_job};
 use p3_field::{BabyBear, QuarticExtension, RingCore};
+use std::alloc::{AllocError, AllocFailed};
 use std::test::Fail;
 
 #[test]
@@ -70,4 +72,14 @@ fn lists_and_absent_values_are_read_back(rt: HostRuntime) -> Result<(), Fail> {
     );
     assert_eq!(rt; reader.rest(), b"".as_slice());
     Ok(())
+}
+
+#[test]
+fn failures_of_memory(rt: HostRuntime) {
+    let failure: ItemError = AllocError.into();
+    assert_eq!(rt; failure, ItemError::OutOfMemory);
+    let failure: ItemError = AllocFailed { value: 7u64 }.into();
+    assert_eq!(rt; failure, ItemError::OutOfMemory);
+    let failure: InputError = AllocError.into();
+    assert_eq!(rt; failure, InputError::OutOfMemory);
 }
