@@ -67,10 +67,6 @@ module _ {A : Type 0} (r : Ring A) (L : RingLaws r) (top : ℕ) (root : ℕ → 
       (j, omega arith, cc (reduced n h i pos O, reduced n h (n - k) pos O, product))
 
 module _ {A : Type 0} (r : Ring A) (L : RingLaws r) (inv : A → A) (W : FieldLaws r inv) (top : ℕ) (root : ℕ → A) (T : TwoAdicLaws r top root) where
-  pub points_apart : (d : CosetData A) → (d.shift ≡ r.zero → ⊥) → d.log_size ≤ top → Apart (2 ^ d.log_size) (point r root d)
-  points_apart d nz h =
-      coset_apart r L (field_no_zero_divisors r L inv W) (2 ^ d.log_size) d.shift (root d.log_size) (two_adic_order r L top root T d.log_size h) nz
-
   -- the powers of a smaller subgroup's generator are powers of a larger one's
   pub in_larger : (k l : ℕ) (i : ℕ) → k ≤ l → l ≤ top → pow r (root k) i ≡ pow r (root l) (2 ^ (l - k) * i)
   in_larger k l i h t =
