@@ -6,12 +6,11 @@ use Rattle.std.proofs.lemmas.Nat.{pow_pos, pow-add, mod_below}
 use Rattle.std.proofs.lemmas.Bool.{cases_lt}
 use Rattle.p3_field.specs.Ring.{Ring, RingLaws, pow}
 use Rattle.p3_field.specs.Field.{FieldLaws, TwoAdicLaws}
-use Rattle.p3_field.specs.Poly.{Apart}
 use Rattle.p3_field.specs.Domain.{CosetData, point}
 use Rattle.p3_field.specs.Laws.Algebra.{one_mul, zero_mul, pow_add, pow_square, pow_one}
 use Rattle.p3_field.specs.Laws.Order.{one_pow, pow_times}
 use Rattle.p3_field.specs.Laws.Roots.{field_no_zero_divisors}
-use Rattle.p3_field.specs.Laws.Coset.{HasOrder, coset_apart, two_adic_order, mul_cancel}
+use Rattle.p3_field.specs.Laws.Coset.{HasOrder, two_adic_order, mul_cancel}
 use Rattle.p3_field.specs.Laws.Subcosets.{row_of_coset}
 use Rattle.p3_field.specs.Laws.Tables.{first_coset_point, next_coset_point}
 use Rattle.p3_matrix.specs.Laws.Powers.{power_le_cancel}
