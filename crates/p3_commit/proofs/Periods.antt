@@ -3,26 +3,29 @@ use Rattle.std.proofs.Common.{◌≡◌, ℕ, ◌+◌, ◌-◌, ◌*◌, ◌^◌
 use Rattle.std.proofs.lemmas.Bool.{cases_lt}
 use Rattle.std.proofs.lemmas.List.{get_or-map, length-map}
 use Rattle.std.proofs.lemmas.Option.{slice_get-get_or, get_or_from_slice_get}
-use Rattle.std.specs.Prelude.{MatchOption, All}
+use Rattle.std.specs.Prelude.{MatchOption, All, slice_get}
 use Rattle.std.specs.Int.{IsPowerOfTwo, ◌∣◌}
 use Rattle.std.proofs.Math.Nat.{dvd-mul_left}
 use Rattle.std.proofs.lemmas.Nat.{pow-add}
 use Rattle.p3_matrix.specs.Laws.Powers.{power_le_cancel}
-use Rattle.p3_commit.specs.Periodic.{IsPeriod, IsFirstUnfit, IsGreatest}
+use Rattle.p3_field.specs.Checks.{FirstFails}
+use Rattle.p3_field.specs.Laws.Checks.{first_of_items}
+use Rattle.p3_commit.specs.Periodic.{IsPeriod, period_checks, NamesFirstUnfit, IsGreatest}
+use Rattle.p3_commit.specs.Laws.Periods.{periods_pass}
+use Rattle.p3_commit.specs.declared.periodic.PeriodicColumnShapeError.{PeriodicColumnShapeError}
 
 -- where the columns before this one fit and it doesn't, it is the first unfit one
-pub first_unfit : {V : Type 0} (f : V → ℕ) (height : ℕ) (columns : List V) (index n : ℕ) (v : V) → index < length columns → v ≡ get_or columns index v → n ≡ f v
-    → ((k : ℕ) (d : V) → k < index → IsPeriod height (f (get_or columns k d))) → (IsPeriod height n → ⊥) → IsFirstUnfit height (map f columns) index n
-first_unfit f height columns index n v within at e before unfit = record {
-  length_is =
-      let inside : index < length (map f columns) = omega (arith, length-map columns f) in
-      slice_get-get_or (map f columns) index n inside ∙ ap Some (get_or-map f columns index v n within ∙ (ap f (sym at) ∙ sym e));
-  unfit = unfit;
-  earlier_fit = λ i m b q.
-      let inside : i < length columns = omega arith in
-      let same : f (get_or columns i v) ≡ m = sym (get_or-map f columns i v m inside) ∙ get_or_from_slice_get (map f columns) i m m q in
-      subst (IsPeriod height) same (before i v b);
-}
+pub first_unfit : {V : Type 0} (f : V → ℕ) (height : ℕ) (columns : List V) (index n : ℕ) (v : V) (e : PeriodicColumnShapeError) → index < length columns → v ≡ get_or columns index v → n ≡ f v
+    → ((k : ℕ) (d : V) → k < index → IsPeriod height (f (get_or columns k d))) → FirstFails (period_checks height index n) e → NamesFirstUnfit height (map f columns) e
+first_unfit f height columns index n v e within at is before fails =
+    let inside : index < length (map f columns) = omega (arith, length-map columns f) in
+    let here : slice_get (map f columns) index ≡ Some n =
+    slice_get-get_or (map f columns) index n inside ∙ ap Some (get_or-map f columns index v n within ∙ (ap f (sym at) ∙ sym is)) in
+    first_of_items (period_checks height) (map f columns) index n e here
+    (λ i m b q.
+    let low : i < length columns = omega arith in
+    let same : f (get_or columns i v) ≡ m = sym (get_or-map f columns i v m low) ∙ get_or_from_slice_get (map f columns) i m m q in
+    periods_pass height i m (subst (IsPeriod height) same (before i v b))) fails
 
 -- one more column fits
 pub more_fit : {V : Type 0} (f : V → ℕ) (height : ℕ) (columns : List V) (index n : ℕ) (v : V) → index < length columns → v ≡ get_or columns index v → n ≡ f v

@@ -98,7 +98,7 @@ module _ {A : Type 0} (r : Ring A) (L : RingLaws r) (inv : A → A) (W : FieldLa
   transition_item =
       let x = point r root e i in
       ap (λ y. sub r y (inv (root d.log_size))) at_point
-      ∙ (sym (transition_selector_value r L r L (λ y. y) (own_hom r) inv W top root T d x) ∙ plain (transition_selector r inv root d) x)
+      ∙ (sym (transition_selector_value r L r L (λ y. y) (own_hom r) inv W root d x) ∙ plain (transition_selector r inv root d) x)
 
 -- lists of values, item by item
 pub nonzero_items : {A : Type 0} (z : A) (xs : List A) (n : ℕ) (t : ℕ → A) → xs ≡ table n t → ((i : ℕ) → i < n → t i ≡ z → ⊥) → (i : ℕ) → i < length xs → get_or xs i z ≡ z → ⊥

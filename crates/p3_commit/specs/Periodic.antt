@@ -1,9 +1,10 @@
 -- Periodic columns, which list one period of values and repeat it over all rows. The rules are those of Plonky3's
 -- p3-commit (PeriodicColumns, PolynomialSpace, PeriodicLdeTable).
-use Rattle.std.specs.Prelude.{◌≡◌, ℕ, ◌/◌, ◌%◌, ◌<◌, ◌≤◌, ◌⊎◌, List, Contains, Some, length, slice_get}
+use Rattle.std.specs.Prelude.{◌≡◌, ℕ, ◌/◌, ◌%◌, ◌<◌, ◌≤◌, ◌⊎◌, List, [], ◌∷◌, Contains, Some, length, slice_get}
 use Rattle.std.specs.Int.{IsPowerOfTwo, ◌∣◌}
 use Rattle.std.specs.List.{All, repeat}
 use Rattle.p3_field.specs.Ring.{Ring}
+use Rattle.p3_field.specs.Checks.{Check, check, FirstFails, of_items}
 use Rattle.p3_matrix.specs.Matrix.{Rows, height, cell_at}
 use Rattle.p3_matrix.specs.Interpolation.{IsInterpolatedAt}
 use Rattle.p3_commit.specs.Space.{EachOf}
@@ -15,18 +16,14 @@ use Rattle.p3_commit.specs.declared.periodic.PeriodicColumnShapeError.TheVariant
 abbrev pub IsPeriod : ℕ → ℕ → Type 0
 IsPeriod height length = IsPowerOfTwo length × (length ∣ height)
 
--- the column of this index is the first that can't be laid over so many rows, and has this length
-pub record IsFirstUnfit (height : ℕ) (lengths : List ℕ) (index length : ℕ) : Type 0 where
-  pub length_is : slice_get lengths index ≡ Some length
-  pub unfit : IsPeriod height length → ⊥
-  pub earlier_fit : (i n : ℕ) → i < index → slice_get lengths i ≡ Some n → IsPeriod height n
+-- the checks of a column of this length: a power of two, before a divisor of the number of rows
+abbrev pub period_checks : ℕ → ℕ → ℕ → List (Check PeriodicColumnShapeError)
+period_checks height index length =
+    check (LengthNotPowerOfTwo index length) (IsPowerOfTwo length) ∷ check (LengthNotDividingHeight index length height) (length ∣ height) ∷ []
 
--- the error that names the first unfit column: it says what the column's length fails, a power of two before a divisor
+-- the error that names the first column that can't be laid over so many rows, and says what its length fails
 abbrev pub NamesFirstUnfit : ℕ → List ℕ → PeriodicColumnShapeError → Type 0
-NamesFirstUnfit height lengths (LengthNotPowerOfTwo index length) =
-    IsFirstUnfit height lengths index length × (IsPowerOfTwo length → ⊥)
-NamesFirstUnfit height lengths (LengthNotDividingHeight index length against) =
-    IsFirstUnfit height lengths index length × IsPowerOfTwo length × (against ≡ height)
+NamesFirstUnfit height lengths e = FirstFails (of_items (period_checks height) lengths) e
 
 -- n is one of the numbers, and none of them is greater
 pub record IsGreatest (xs : List ℕ) (n : ℕ) : Type 0 where

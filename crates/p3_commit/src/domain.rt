@@ -8,7 +8,8 @@ ghost use Rattle.p3_matrix.specs.Matrix.{Rows, height};
 ghost use Rattle.p3_matrix.specs.Interpolation.{IsInterpolatedAt};
 ghost use Rattle.p3_commit.specs.Space.{IsPoint, AreDisjoint, IsOffered, IsOutside, IsPart, IsSplit, EachOf};
 ghost use Rattle.p3_commit.specs.Periodic.{IsPeriod, IsPeriodicAt, EachFrom};
-ghost use Rattle.p3_commit.specs.Laws.Cosets.{points_apart, point_after, disjoint_where_outside, points_of_part};
+ghost use Rattle.p3_field.specs.Laws.Interpolants.{points_apart};
+ghost use Rattle.p3_commit.specs.Laws.Cosets.{point_after, disjoint_where_outside, points_of_part};
 
 use crate::interpolation::interpolated_at;
 use crate::periodic::PeriodicColumns;
@@ -309,7 +310,7 @@ impl<F: TwoAdicField> PolynomialSpace for TwoAdicMultiplicativeCoset<F> {
         periodic_values(alloc, self, columns, x)
     }
 
-    ghost points_differ = { λ d h. points_apart F.ring F.ring_laws F.inv F.field_laws F.TWO_ADICITY F.root F.root_laws d h.0 h.1 };
+    ghost points_differ = { λ d h. points_apart F.ring F.ring_laws F.inv F.field_laws F.TWO_ADICITY F.root F.root_laws d h.1 h.0 };
 
     ghost steps = { λ d i h. point_after F.ring F.ring_laws F.root d i };
 

@@ -31,7 +31,7 @@ pub use domain::{PolynomialSpace, are_disjoint};
 pub use encoder::{EncodeError, Encoder};
 pub use extension_mmcs::{ExtensionMmcs, ExtensionMmcsData};
 pub use failure::PcsFailure;
-pub use mmcs::{BatchOpening, BatchOpeningRef, Mmcs};
+pub use mmcs::{BatchOpening, BatchOpeningRef, Mmcs, greatest_height};
 pub use multilinear::MultilinearPcs;
 pub use pcs::{Pcs, Val};
 pub use periodic::{PeriodicColumnShapeError, PeriodicColumns};

@@ -280,8 +280,8 @@ fn heights_of<T>(alloc: Global, matrices: &[RowMajorMatrix<T>]) -> Mem<Vec<usize
     matrices.iter().map(|m| m.height()).collect(alloc)
 }
 
-// The greatest height, where there is a matrix.
-fn greatest_height<T>(matrices: &[RowMajorMatrix<T>]) -> Option<usize>
+/// The height of the highest matrix (own), and None exactly where there is no matrix.
+pub fn greatest_height<T>(matrices: &[RowMajorMatrix<T>]) -> Option<usize>
     ensures { MatchOption result (length matrices.now ≡ 0) (IsGreatest (map (λ m. height m) matrices.now)) }
 {
     matrices.iter().map(|m| m.height()).max()

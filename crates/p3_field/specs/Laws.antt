@@ -1,4 +1,5 @@
 -- What is proved of the definitions, by subject.
+pub mod Checks
 pub mod Algebra
 pub mod Solver
 pub mod Order

@@ -6,4 +6,5 @@ pub mod Domain
 pub mod BabyBear
 pub mod Quartic
 pub mod Gf256
+pub mod Checks
 pub mod Laws

@@ -6,12 +6,11 @@ use Rattle.std.proofs.lemmas.Nat.{pow_pos, pow-add, mod_below}
 use Rattle.std.proofs.lemmas.Bool.{cases_lt}
 use Rattle.p3_field.specs.Ring.{Ring, RingLaws, pow}
 use Rattle.p3_field.specs.Field.{FieldLaws, TwoAdicLaws}
-use Rattle.p3_field.specs.Poly.{Apart}
 use Rattle.p3_field.specs.Domain.{CosetData, point}
 use Rattle.p3_field.specs.Laws.Algebra.{one_mul, zero_mul, pow_add, pow_square, pow_one}
 use Rattle.p3_field.specs.Laws.Order.{one_pow, pow_times}
 use Rattle.p3_field.specs.Laws.Roots.{field_no_zero_divisors}
-use Rattle.p3_field.specs.Laws.Coset.{HasOrder, coset_apart, two_adic_order, mul_cancel}
+use Rattle.p3_field.specs.Laws.Coset.{HasOrder, two_adic_order, mul_cancel}
 use Rattle.p3_field.specs.Laws.Subcosets.{row_of_coset}
 use Rattle.p3_field.specs.Laws.Tables.{first_coset_point, next_coset_point}
 use Rattle.p3_matrix.specs.Laws.Powers.{power_le_cancel}
@@ -67,10 +66,6 @@ module _ {A : Type 0} (r : Ring A) (L : RingLaws r) (top : ℕ) (root : ℕ → 
       (j, omega arith, cc (reduced n h i pos O, reduced n h (n - k) pos O, product))
 
 module _ {A : Type 0} (r : Ring A) (L : RingLaws r) (inv : A → A) (W : FieldLaws r inv) (top : ℕ) (root : ℕ → A) (T : TwoAdicLaws r top root) where
-  pub points_apart : (d : CosetData A) → (d.shift ≡ r.zero → ⊥) → d.log_size ≤ top → Apart (2 ^ d.log_size) (point r root d)
-  points_apart d nz h =
-      coset_apart r L (field_no_zero_divisors r L inv W) (2 ^ d.log_size) d.shift (root d.log_size) (two_adic_order r L top root T d.log_size h) nz
-
   -- the powers of a smaller subgroup's generator are powers of a larger one's
   pub in_larger : (k l : ℕ) (i : ℕ) → k ≤ l → l ≤ top → pow r (root k) i ≡ pow r (root l) (2 ^ (l - k) * i)
   in_larger k l i h t =

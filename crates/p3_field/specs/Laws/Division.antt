@@ -1,5 +1,5 @@
 -- Division by X - a.
-use Rattle.std.proofs.Common.{◌≡◌, ℕ, zero, suc, List, [], ◌∷◌, length, refl, ◌∙◌, ap, arith}
+use Rattle.std.proofs.Common.{◌≡◌, ℕ, zero, suc, List, [], ◌∷◌, length, refl, ◌∙◌, ap}
 use Rattle.p3_field.specs.Ring.{Ring, RingLaws, sub}
 use Rattle.p3_field.specs.Poly.{val, DegreeBelow, IsZeroPoly, tail_values, quotient}
 use Rattle.p3_field.specs.Laws.Algebra.{mul_zero}
@@ -18,10 +18,6 @@ module _ {A : Type 0} (r : Ring A) (L : RingLaws r) where
   pub length_tail_values : (f : List A) (a : A) → length (tail_values r f a) ≡ length f
   length_tail_values [] a = refl
   length_tail_values (c ∷ cs) a = ap suc (length_tail_values cs a)
-
-  pub length_quotient : (f : List A) (a : A) (n : ℕ) → length f ≡ suc n → length (quotient r f a) ≡ n
-  length_quotient [] a n e = absurd (omega arith)
-  length_quotient (c ∷ cs) a n e = length_tail_values cs a ∙ omega arith
 
   pub tail_values_zero : (f : List A) (a : A) → IsZeroPoly r f → IsZeroPoly r (tail_values r f a)
   tail_values_zero [] a z i = refl

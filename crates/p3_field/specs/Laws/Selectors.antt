@@ -1,10 +1,10 @@
 -- The values of a domain's polynomials, read over a larger ring: Van is zero on the domain alone, and the selectors
 -- by quotients, by sums of powers and by products.
-use Rattle.std.proofs.Common.{◌≡◌, ℕ, zero, suc, ◌+◌, ◌-◌, ◌*◌, ◌^◌, ◌≤◌, ◌<◌, ◌⊎◌, List, [], ◌∷◌, map, refl, sym, ◌∙◌, ap, arith}
+use Rattle.std.proofs.Common.{◌≡◌, ℕ, zero, suc, ◌+◌, ◌*◌, ◌^◌, ◌≤◌, ◌<◌, ◌⊎◌, List, [], ◌∷◌, map, refl, sym, ◌∙◌, ap, arith}
 use Rattle.std.proofs.lemmas.Nat.{pow_pos}
 use Rattle.p3_field.specs.Ring.{Ring, RingLaws, pow, sub}
 use Rattle.p3_field.specs.Field.{FieldLaws, RingHom, TwoAdicLaws}
-use Rattle.p3_field.specs.Poly.{val, coeff, SamePoly, total, tail_values, quotient, scale_poly, mul_poly, raise}
+use Rattle.p3_field.specs.Poly.{val, coeff, SamePoly, total, quotient, scale_poly, mul_poly, raise}
 use Rattle.p3_field.specs.Domain.{CosetData, point, vanishing, scaled_vanishing, van, first_selector, last_selector, transition_selector}
 use Rattle.p3_field.specs.Laws.Algebra.{zero_add, one_mul, mul_zero, neg_mul, add_mul}
 use Rattle.p3_field.specs.Laws.Order.{one_pow, pow_times}
@@ -48,41 +48,6 @@ module _ {A : Type 0} (r : Ring A) (L : RingLaws r) where
       ap (λ x. r.mul x (r.add r.one P)) (doubling_product_sum k u)
       ∙ (cc (L.mul_add S r.one P, L.mul_one S, L.mul_comm S P, powers_append (2 ^ k) (2 ^ k) u)
       ∙ ap (λ n. total r n (λ i. pow r u i)) (sym (double_power k)))
-
-  -- X^m, its value at one, and the values of its tails
-  val_top : (m : ℕ) (c a : A) → val r (raise r m (c ∷ [])) a ≡ r.mul c (pow r a m)
-  unfolding pow
-  val_top zero c a = cc (mul_zero r L a, L.add_zero c, L.mul_one c)
-  val_top (suc m) c a =
-      let P = pow r a m in
-      ap (λ x. r.add r.zero (r.mul a x)) (val_top m c a) ∙ cc (zero_add r L (r.mul a (r.mul c P)), L.mul_assoc a c P, L.mul_comm a c, L.mul_assoc c a P)
-
-  -- with a = 1: the sum of the powers
-  tails_at_one : (m : ℕ) (x : A) → val r (tail_values r (raise r m (r.one ∷ [])) r.one) x ≡ total r (suc m) (λ i. pow r x i)
-  unfolding pow
-  tails_at_one zero x = cc (mul_zero r L r.one, L.add_zero r.one, mul_zero r L x)
-  tails_at_one (suc m) x =
-      let S = total r (suc m) (λ i. pow r x i) in
-      let top : val r (raise r m (r.one ∷ [])) r.one ≡ r.one = val_top m r.one r.one ∙ cc (one_mul r L (pow r r.one m), one_pow r L m) in
-      cc (top, one_mul r L r.one, zero_add r L r.one, tails_at_one m x, total_scale r L (suc m) x (λ i. pow r x i))
-
-  -- with a h = 1: h^m times the values at a is the sum of the powers of h x
-  tails_at_inverse : (m : ℕ) (a h x : A) → r.mul h a ≡ r.one
-      → r.mul (pow r h m) (val r (tail_values r (raise r m (r.one ∷ [])) a) x) ≡ total r (suc m) (λ i. pow r (r.mul h x) i)
-  unfolding pow
-  tails_at_inverse zero a h x e = cc (mul_zero r L a, L.add_zero r.one, mul_zero r L x, L.mul_one r.one)
-  tails_at_inverse (suc m) a h x e =
-      let H = pow r h m in let P = pow r a m in
-      let T = val r (tail_values r (raise r m (r.one ∷ [])) a) x in
-      let y = r.mul h x in
-      let S = total r (suc m) (λ i. pow r y i) in
-      let top : val r (raise r m (r.one ∷ [])) a ≡ P = val_top m r.one a ∙ one_mul r L P in
-      let unit : r.mul (pow r h (suc m)) (pow r a (suc m)) ≡ r.one = sym (pow_mul r L h a (suc m)) ∙ (ap (λ z. pow r z (suc m)) e ∙ one_pow r L (suc m)) in
-      let head : r.add r.zero (r.mul a (val r (raise r m (r.one ∷ [])) a)) ≡ pow r a (suc m) = zero_add r L (r.mul a (val r (raise r m (r.one ∷ [])) a)) ∙ ap (r.mul a) top in
-      let rest : r.mul (pow r h (suc m)) (r.mul x T) ≡ r.mul y S =
-      cc (L.mul_comm h H, L.mul_assoc H h (r.mul x T), L.mul_assoc h x T, L.mul_comm H (r.mul y T), L.mul_assoc y T H, L.mul_comm T H, tails_at_inverse m a h x e) in
-      ap (λ z. r.mul (pow r h (suc m)) (r.add z (r.mul x T))) head
-      ∙ (L.mul_add (pow r h (suc m)) (pow r a (suc m)) (r.mul x T) ∙ cc (unit, rest, total_scale r L (suc m) y (λ i. pow r y i)))
 
 module _ {A B : Type 0} (r : Ring A) (L : RingLaws r) (s : Ring B) (M : RingLaws s) (f : A → B) (H : RingHom r s f) where
   pub map_vanishing : (n : ℕ) (c : A) → map f (vanishing r n c) ≡ vanishing s n (f c)
@@ -146,6 +111,14 @@ module _ {A B : Type 0} (r : Ring A) (L : RingLaws r) (s : Ring B) (M : RingLaws
         let at : r.mul d.shift r.one ≡ d.shift = L.mul_one d.shift in
         cc (whole, one, at)
 
+    -- trans = x / s - 1 / h
+    pub transition_selector_value : (root : ℕ → A) (d : CosetData A) (x : B)
+        → val s (map f (transition_selector r inv root d)) x ≡ sub s (s.mul (f (inv d.shift)) x) (f (inv (root d.log_size)))
+    unfolding transition_selector
+    transition_selector_value root d x =
+        let g = f (inv (root d.log_size)) in let t = f (inv d.shift) in
+        cc (hom_neg r L s M f H (inv (root d.log_size)), mul_zero s M x, M.add_zero t, M.mul_comm x t, M.add_comm (s.neg g) (s.mul t x))
+
     module _ (top : ℕ) (root : ℕ → A) (T : TwoAdicLaws r top root) where
       unit_of_root : (k : ℕ) → k ≤ top → r.mul (root k) (inv (root k)) ≡ r.one
       unit_of_root k h = W.mul_inv (root k) (root_not_zero r L inv W (2 ^ k) (root k) (pow_pos k) (two_adic_order r L top root T k h))
@@ -164,14 +137,6 @@ module _ {A B : Type 0} (r : Ring A) (L : RingLaws r) (s : Ring B) (M : RingLaws
       last_selector_value d x nz h =
           quotient_value d (inv (root d.log_size)) x nz
           (sym (hom_pow r L s M f H (inv (root d.log_size)) (2 ^ d.log_size)) ∙ (ap f (inverse_root_full d.log_size h) ∙ H.keeps_one))
-
-      -- trans = x / s - 1 / h
-      pub transition_selector_value : (d : CosetData A) (x : B)
-          → val s (map f (transition_selector r inv root d)) x ≡ sub s (s.mul (f (inv d.shift)) x) (f (inv (root d.log_size)))
-      unfolding transition_selector
-      transition_selector_value d x =
-          let g = f (inv (root d.log_size)) in let t = f (inv d.shift) in
-          cc (hom_neg r L s M f H (inv (root d.log_size)), mul_zero s M x, M.add_zero t, M.mul_comm x t, M.add_comm (s.neg g) (s.mul t x))
 
       -- the points are roots of Van
       pub van_vanishes : (d : CosetData A) (i : ℕ) → (d.shift ≡ r.zero → ⊥) → d.log_size ≤ top → val s (map f (van r inv d)) (f (point r root d i)) ≡ s.zero
@@ -200,64 +165,6 @@ module _ {A B : Type 0} (r : Ring A) (L : RingLaws r) (s : Ring B) (M : RingLaws
 pub scale_one : {A : Type 0} (r : Ring A) (L : RingLaws r) (g : List A) → scale_poly r r.one g ≡ g
 scale_one r L [] = refl
 scale_one r L (c ∷ cs) = cc (one_mul r L c, scale_one r L cs)
-
--- for shift one, Van divided by X - a is X^n divided by X - a
-trace_quotient : {A : Type 0} (r : Ring A) (L : RingLaws r) (m : ℕ) (s t a p : A) → s ≡ r.one → t ≡ r.one → p ≡ a
-    → scale_poly r s (quotient r (scaled_vanishing r (suc m) s t) p) ≡ tail_values r (raise r m (r.one ∷ [])) a
-trace_quotient r L m s t a p e d q =
-    let T = pow r t (suc m) in
-    let cs = raise r m (r.one ∷ []) in
-    let one : T ≡ r.one = ap (λ z. pow r z (suc m)) d ∙ one_pow r L (suc m) in
-    let same : scale_poly r T cs ≡ cs = ap (λ z. scale_poly r z cs) one ∙ scale_one r L cs in
-    let tails = tail_values r (scale_poly r T cs) p in
-    ap (λ z. scale_poly r z tails) e ∙ (scale_one r L tails ∙ cc (same, q))
-
-positive_size : (k : ℕ) → (m : ℕ) × (2 ^ k ≡ suc m)
-positive_size k = (2 ^ k - 1, let p : 0 < 2 ^ k = pow_pos k in omega arith)
-
-module _ {A B : Type 0} (r : Ring A) (L : RingLaws r) (s : Ring B) (M : RingLaws s) (f : A → B) (H : RingHom r s f) (inv : A → A) (W : FieldLaws r inv) where
-  trace_inverse : (a : A) → a ≡ r.one → inv a ≡ r.one
-  trace_inverse a e = let n : r.one ≡ r.zero → ⊥ = W.one_differs in ap inv e ∙ (sym (one_mul r L (inv r.one)) ∙ W.mul_inv r.one n)
-
-  trace_value : (d : CosetData A) (m : ℕ) (a p : A) (x : B) → d.shift ≡ r.one → 2 ^ d.log_size ≡ suc m → p ≡ a
-      → val s (map f (scale_poly r d.shift (quotient r (van r inv d) p))) x ≡ val s (tail_values s (raise s m (s.one ∷ [])) (f a)) x
-  unfolding van
-  trace_value d m a p x e n q =
-      let cs = raise r m (r.one ∷ []) in
-      let list : scale_poly r d.shift (quotient r (van r inv d) p) ≡ tail_values r cs a =
-      ap (λ k. scale_poly r d.shift (quotient r (scaled_vanishing r k d.shift (inv d.shift)) p)) n
-      ∙ trace_quotient r L m d.shift (inv d.shift) a p e (trace_inverse d.shift e) q in
-      let mapped : map f (tail_values r cs a) ≡ tail_values s (map f cs) (f a) = map_quotient r L s M f H (r.zero ∷ cs) a in
-      let powers : map f cs ≡ raise s m (s.one ∷ []) = map_raise r L s M f H m (r.one ∷ []) ∙ ap (λ z. raise s m (z ∷ [])) H.keeps_one in
-      cc (list, mapped, powers)
-
-  -- on a trace domain the first selector at u is the product of the 1 + u^(2^j), j < k
-  pub trace_first_selector : (d : CosetData A) (x : B) → d.shift ≡ r.one → val s (map f (first_selector r inv d)) x ≡ doubling_product s d.log_size x
-  unfolding first_selector
-  trace_first_selector d x e =
-      let (m, n) = positive_size d.log_size in
-      trace_value d m r.one d.shift x e n e
-      ∙ (ap (λ z. val s (tail_values s (raise s m (s.one ∷ [])) z) x) H.keeps_one
-      ∙ (tails_at_one s M m x ∙ (ap (λ k. total s k (λ i. pow s x i)) (sym n) ∙ sym (doubling_product_sum s M d.log_size x))))
-
-  -- and the last selector at u is h times the first at h u
-  pub trace_last_selector : (top : ℕ) (root : ℕ → A) → TwoAdicLaws r top root → (d : CosetData A) (x : B) → d.shift ≡ r.one → d.log_size ≤ top
-      → val s (map f (last_selector r inv root d)) x ≡ s.mul (f (root d.log_size)) (doubling_product s d.log_size (s.mul (f (root d.log_size)) x))
-  unfolding last_selector pow
-  trace_last_selector top root T d x e b =
-      let (m, n) = positive_size d.log_size in
-      let h = root d.log_size in let g = inv h in
-      let y = s.mul (f h) x in
-      let O = two_adic_order r L top root T d.log_size b in
-      let unit : r.mul h g ≡ r.one = unit_of_root r L s M f H inv W top root T d.log_size b in
-      let mapped : s.mul (f h) (f g) ≡ s.one = sym (H.keeps_mul h g) ∙ (ap f unit ∙ H.keeps_one) in
-      let full : s.mul (f h) (pow s (f h) m) ≡ s.one = ap (pow s (f h)) (sym n) ∙ (sym (hom_pow r L s M f H h (2 ^ d.log_size)) ∙ (ap f O.full ∙ H.keeps_one)) in
-      let V = val s (tail_values s (raise s m (s.one ∷ [])) (f g)) x in
-      let sum : s.mul (pow s (f h) m) V ≡ doubling_product s d.log_size y =
-      tails_at_inverse s M m (f g) (f h) x mapped ∙ (ap (λ k. total s k (λ i. pow s y i)) (sym n) ∙ sym (doubling_product_sum s M d.log_size y)) in
-      let at : r.mul d.shift g ≡ g = ap (λ z. r.mul z g) e ∙ one_mul r L g in
-      trace_value d m g (r.mul d.shift g) x e n at
-      ∙ cc (one_mul s M V, full, M.mul_assoc (f h) (pow s (f h) m) V, sum)
 
 module _ {A : Type 0} (r : Ring A) (L : RingLaws r) (inv : A → A) (W : FieldLaws r inv) where
   -- X / s - a times s q, where q is Van divided by X - s a, and a^n = 1

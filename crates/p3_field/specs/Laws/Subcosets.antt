@@ -3,12 +3,12 @@ use Rattle.std.proofs.Common.{◌≡◌, ℕ, zero, suc, ◌+◌, ◌*◌, ◌<�
 use Rattle.std.proofs.Math.Nat.{mul-lt-mul_of_pos_left}
 use Rattle.p3_field.specs.Domain.{coset_point}
 use Rattle.p3_field.specs.Ring.{Ring, RingLaws, pow, sub}
-use Rattle.p3_field.specs.Poly.{val, Apart, even_part, odd_part}
-use Rattle.p3_field.specs.Laws.Algebra.{mul_zero, mul_neg, mul_swap, pow_add, pow_square, neg_mul, neg_mul_neg, neg_unique}
+use Rattle.p3_field.specs.Poly.{val, even_part, odd_part}
+use Rattle.p3_field.specs.Laws.Algebra.{mul_zero, mul_neg, mul_swap, pow_add, neg_mul, neg_mul_neg, neg_unique}
 use Rattle.p3_field.specs.Laws.Order.{pow_times}
 use Rattle.p3_field.specs.Laws.Solver.{expressions, var, solve}
 use Rattle.p3_field.specs.Laws.Roots.{NoZeroDivisors, sub_zero, sub_self}
-use Rattle.p3_field.specs.Laws.Coset.{HasOrder, coset_apart, pow_mul}
+use Rattle.p3_field.specs.Laws.Coset.{HasOrder, pow_mul}
 
 abbrev square_left : {A : Type 0} → Ring A → A → A
 square_left r x = r.mul (sub r x r.one) (r.add x r.one)
@@ -48,12 +48,6 @@ module _ {A : Type 0} (r : Ring A) (L : RingLaws r) where
   order_power k n h pos O = record {
     full = sym (pow_times r L h k n) ∙ O.full;
     least = λ j a b e. O.least (k * j) (scaled_positive k j pos a) (mul-lt-mul_of_pos_left b pos) (pow_times r L h k j ∙ e);
-  }
-
-  pub order_square : (m : ℕ) (h : A) → HasOrder r (m + m) h → HasOrder r m (r.mul h h)
-  order_square m h O = record {
-    full = pow_square r L h m ∙ O.full;
-    least = λ j a b e. O.least (j + j) (omega arith) (omega arith) (sym (pow_square r L h j) ∙ e);
   }
 
   pub square_point : (s h : A) (i : ℕ) → r.mul (coset_point r s h i) (coset_point r s h i) ≡ coset_point r (r.mul s s) (r.mul h h) i
@@ -103,8 +97,3 @@ module _ {A : Type 0} (r : Ring A) (L : RingLaws r) where
         let z : r.mul (sub r H r.one) (r.add H r.one) ≡ r.zero = square_split H ∙ sub_self r L (r.mul H H) r.one square in
         let w : r.add H r.one ≡ r.zero = N (sub r H r.one) (r.add H r.one) (λ e. O.least m pos (omega arith) (sub_zero r L H r.one e)) z in
         neg_unique r L r.one H (L.add_comm r.one H ∙ w)
-
-    -- the k cosets have different n-th powers
-    pub rows_differ : (k n : ℕ) (s h : A) → 0 < n → HasOrder r (n * k) h → (pow r s n ≡ r.zero → ⊥) → Apart k (λ j. pow r (coset_point r s h j) n)
-    rows_differ k n s h pos O nz = λ i j a b e.
-        coset_apart r L N k (pow r s n) (pow r h n) (order_power n k h pos O) nz i j a b (sym (row_power s h k n i) ∙ (e ∙ row_power s h k n j))

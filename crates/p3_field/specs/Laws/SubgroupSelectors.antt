@@ -5,7 +5,7 @@ use Rattle.std.proofs.lemmas.Nat.{pow_pos}
 use Rattle.std.proofs.lemmas.Bool.{cases_eq}
 use Rattle.p3_field.specs.Ring.{Ring, RingLaws, pow, sub}
 use Rattle.p3_field.specs.Field.{FieldLaws, TwoAdicLaws, RingHom}
-use Rattle.p3_field.specs.Poly.{val, scale_poly, raise, tail_values, quotient, table}
+use Rattle.p3_field.specs.Poly.{val, scale_poly, raise, tail_values, quotient, table, total}
 use Rattle.p3_field.specs.Domain.{CosetData, coset_point, vanishing, van, first_selector, last_selector, transition_selector}
 use Rattle.p3_field.specs.Laws.Algebra.{zero_add, one_mul, mul_zero, pow_add}
 use Rattle.p3_field.specs.Laws.Order.{one_pow}
@@ -14,8 +14,9 @@ use Rattle.p3_field.specs.Laws.Values.{val_raise}
 use Rattle.p3_field.specs.Laws.Coset.{HasOrder, two_adic_order, pow_mul}
 use Rattle.p3_field.specs.Laws.TwoAdic.{root_not_zero}
 use Rattle.p3_field.specs.Laws.Vanishing.{val_vanishing, coset_point_power}
-use Rattle.p3_field.specs.Laws.Selectors.{scale_one, map_vanishing}
-use Rattle.p3_field.specs.Laws.Extended.{hom_neg, hom_pow}
+use Rattle.p3_field.specs.Laws.Sums.{total_same, val_table}
+use Rattle.p3_field.specs.Laws.Selectors.{scale_one, van_value as van_value_on_coset, transition_selector_value as transition_value_on_coset}
+use Rattle.p3_field.specs.Laws.Extended.{hom_pow}
 
 -- the domain of the powers of root k
 abbrev pub subgroup : {A : Type 0} → Ring A → ℕ → CosetData A
@@ -76,6 +77,9 @@ module _ {A : Type 0} (r : Ring A) (L : RingLaws r) where
       let turned : r.mul x (r.mul (r.mul c h) V) ≡ r.mul c (r.mul (r.mul h x) V) =
       cc (L.mul_assoc x (r.mul c h) V, L.mul_comm x (r.mul c h), L.mul_assoc c h x, L.mul_assoc c (r.mul h x) V) in
       cc (value, L.mul_one c, turned, L.mul_add c r.one (r.mul (r.mul h x) V))
+
+  pub val_ones : (n : ℕ) (x : A) → val r (ones r n) x ≡ total r n (λ i. pow r x i)
+  val_ones n x = val_table r L n (λ _. r.one) x ∙ total_same r L n (λ j. r.mul r.one (pow r x j)) (λ j. pow r x j) (λ j b. one_mul r L (pow r x j))
 
   -- h + h^2 x + .. + h^n x^(n-1) = h (1 + y + .. + y^(n-1)) at y = h x
   pub val_turned : (n : ℕ) (h x : A) → val r (table n (λ j. pow r h (suc j))) x ≡ r.mul h (val r (ones r n) (r.mul h x))
@@ -145,18 +149,18 @@ module _ {A B : Type 0} (r : Ring A) (L : RingLaws r) (inv : A → A) (W : Field
   map_ones : (n : ℕ) → map f (ones r n) ≡ ones t n
   map_ones n = map_table f n (λ _. r.one) ∙ ap (λ c. table n (λ _. c)) H.keeps_one
 
+  -- one is embedded as one, and divided by itself
+  unit : (x : B) → t.mul (f (inv r.one)) x ≡ x
+  unit x = cc (ap f (inv_one r L inv W), H.keeps_one, one_mul t M x)
+
   pub van_value : (k : ℕ) (x : B) → val t (map f (van r inv (subgroup r k))) x ≡ sub t (pow t x (2 ^ k)) t.one
-  van_value k x = ap (λ l. val t (map f l) x) (van_is r L inv W k) ∙ (ap (λ l. val t l x) (map_vanishing r L t M f H (2 ^ k) r.one ∙ ap (vanishing t (2 ^ k)) H.keeps_one) ∙ val_vanishing t M (2 ^ k) t.one x)
+  van_value k x = van_value_on_coset r L t M f H inv W (subgroup r k) x W.one_differs ∙ ap (λ z. sub t (pow t z (2 ^ k)) t.one) (unit x)
 
   pub first_selector_value : (k : ℕ) (x : B) → val t (map f (first_selector r inv (subgroup r k))) x ≡ val t (ones t (2 ^ k)) x
   first_selector_value k x = ap (λ l. val t (map f l) x) (first_selector_is r L inv W k) ∙ ap (λ l. val t l x) (map_ones (2 ^ k))
 
   pub transition_selector_value : (root : ℕ → A) (k : ℕ) (x : B) → val t (map f (transition_selector r inv root (subgroup r k))) x ≡ sub t x (f (inv (root k)))
-  unfolding transition_selector
-  transition_selector_value root k x =
-      let G = f (inv (root k)) in
-      let one : f (inv r.one) ≡ t.one = ap f (inv_one r L inv W) ∙ H.keeps_one in
-      cc (hom_neg r L t M f H (inv (root k)), one, mul_zero t M x, M.add_zero t.one, M.mul_one x, M.add_comm (t.neg G) x)
+  transition_selector_value root k x = transition_value_on_coset r L t M f H inv W root (subgroup r k) x ∙ ap (λ z. sub t z (f (inv (root k)))) (unit x)
 
   pub last_selector_value : (top : ℕ) (root : ℕ → A) → TwoAdicLaws r top root → (k : ℕ) → k ≤ top → (x : B)
       → val t (map f (last_selector r inv root (subgroup r k))) x ≡ t.mul (f (root k)) (val t (ones t (2 ^ k)) (t.mul (f (root k)) x))
@@ -165,3 +169,18 @@ module _ {A B : Type 0} (r : Ring A) (L : RingLaws r) (inv : A → A) (W : Field
       ap (λ l. val t (map f l) x) (last_selector_is r L inv W top root T k fits)
       ∙ (ap (λ l. val t l x) (map_table f n (λ j. pow r h (suc j)) ∙ table_same n (λ j. f (pow r h (suc j))) (λ j. pow t (f h) (suc j)) (λ j b. hom_pow r L t M f H h (suc j)))
       ∙ val_turned t M n (f h) x)
+
+  -- on a trace domain the first selector at x is 1 + x + .. + x^(n-1)
+  pub trace_first_selector : (d : CosetData A) (x : B) → d.shift ≡ r.one → val t (map f (first_selector r inv d)) x ≡ total t (2 ^ d.log_size) (λ i. pow t x i)
+  trace_first_selector d x e =
+      let same : d ≡ subgroup r d.log_size = λ i. record { shift = e i; log_size = d.log_size } in
+      ap (λ c. val t (map f (first_selector r inv c)) x) same ∙ (first_selector_value d.log_size x ∙ val_ones t M (2 ^ d.log_size) x)
+
+  -- and the last selector at x is h times the first at h x
+  pub trace_last_selector : (top : ℕ) (root : ℕ → A) → TwoAdicLaws r top root → (d : CosetData A) (x : B) → d.shift ≡ r.one → d.log_size ≤ top
+      → val t (map f (last_selector r inv root d)) x ≡ t.mul (f (root d.log_size)) (total t (2 ^ d.log_size) (λ i. pow t (t.mul (f (root d.log_size)) x) i))
+  trace_last_selector top root T d x e fits =
+      let h = f (root d.log_size) in
+      let same : d ≡ subgroup r d.log_size = λ i. record { shift = e i; log_size = d.log_size } in
+      ap (λ c. val t (map f (last_selector r inv root c)) x) same
+      ∙ (last_selector_value top root T d.log_size fits x ∙ ap (t.mul h) (val_ones t M (2 ^ d.log_size) (t.mul h x)))

@@ -3,14 +3,14 @@ use Rattle.std.proofs.Common.{◌≡◌, ◌≢◌, ℕ, ◌*◌, ◌<◌, inl, 
 use Rattle.std.proofs.lemmas.Bool.{cases_lt}
 use Rattle.p3_field.specs.Domain.{coset_point}
 use Rattle.p3_field.specs.Ring.{Ring, RingLaws, pow, of_nat}
-use Rattle.p3_field.specs.Poly.{val, DegreeBelow, SamePoly, table, total}
+use Rattle.p3_field.specs.Poly.{val, DegreeBelow, table, total}
 use Rattle.p3_field.specs.Laws.Algebra.{one_mul, mul_zero, mul_swap}
 use Rattle.p3_field.specs.Laws.Order.{one_pow, pow_times}
 use Rattle.p3_field.specs.Laws.Coeffs.{degree_length_le}
 use Rattle.p3_field.specs.Laws.Tables.{length-table}
 use Rattle.p3_field.specs.Laws.Sums.{total_same, total_scale, total_swap, total_only, total_ones, val_table}
-use Rattle.p3_field.specs.Laws.Roots.{NoZeroDivisors, same_values}
-use Rattle.p3_field.specs.Laws.Coset.{HasOrder, power_apart, pow_mul, root_sum, coset_apart}
+use Rattle.p3_field.specs.Laws.Roots.{NoZeroDivisors}
+use Rattle.p3_field.specs.Laws.Coset.{HasOrder, power_apart, pow_mul, root_sum}
 
 -- the coefficient of X^j: m t^j (v 0 + v 1 g^j + v 2 g^(2 j) + ..), where m n = 1, t s = 1 and g h = 1
 abbrev pub inverse_coeff : {A : Type 0} → Ring A → ℕ → A → A → A → (ℕ → A) → ℕ → A
@@ -107,11 +107,3 @@ module _ {A : Type 0} (r : Ring A) (L : RingLaws r) where
         let last : at k ≡ r.mul (v k) (of_nat r n) = ap (r.mul (v k)) (same_sum n h g k I.of_root) in
         inverse_transform_at n s m t g K v I.of_shift ∙ (ap (r.mul m) (only ∙ last)
         ∙ cc (L.mul_comm (v k) (of_nat r n), L.mul_assoc m (of_nat r n) (v k), I.of_size, one_mul r L (v k)))
-
-    -- the transform of a polynomial's values is the polynomial
-    pub inverse_transform_of_values : (n : ℕ) (s h m t g : A) (f : List A) → HasOrder r n h → (s ≡ r.zero → ⊥) → Inverses r n s h m t g → DegreeBelow r n f
-        → SamePoly r (inverse_transform r n m t g (λ i. val r f (coset_point r s h i))) f
-    inverse_transform_of_values n s h m t g f O nz I d =
-        let v : ℕ → A = λ i. val r f (coset_point r s h i) in
-        same_values r L N n (coset_point r s h) (inverse_transform r n m t g v) f (coset_apart r L N n s h O nz) (degree_inverse_transform n m t g v) d
-        (λ i k. inverse_transform_value n s h m t g v O I i k)

@@ -4,14 +4,14 @@ use Rattle.std.proofs.Math.Nat.{pow-suc}
 use Rattle.std.proofs.lemmas.Nat.{pow_pos}
 use Rattle.p3_field.specs.Domain.{scaled_vanishing, coset_point, vanishing}
 use Rattle.p3_field.specs.Ring.{Ring, RingLaws, pow, of_nat, sub}
-use Rattle.p3_field.specs.Poly.{val, DegreeBelow, SamePoly}
+use Rattle.p3_field.specs.Poly.{val, SamePoly}
 use Rattle.p3_field.specs.Field.{FieldLaws, TwoAdicLaws}
 use Rattle.p3_field.specs.Laws.Algebra.{zero_mul, of_nat_add, neg_unique, mul_neg}
 use Rattle.p3_field.specs.Laws.Values.{val_scale}
-use Rattle.p3_field.specs.Laws.Roots.{RootsAt, field_no_zero_divisors, same_values}
-use Rattle.p3_field.specs.Laws.Coset.{HasOrder, coset_apart, two_adic_order, pow_mul}
+use Rattle.p3_field.specs.Laws.Roots.{RootsAt, field_no_zero_divisors}
+use Rattle.p3_field.specs.Laws.Coset.{HasOrder, two_adic_order, pow_mul}
 use Rattle.p3_field.specs.Laws.Order.{one_pow}
-use Rattle.p3_field.specs.Laws.Transform.{Inverses, inverse_transform, inverse_transform_value, degree_inverse_transform}
+use Rattle.p3_field.specs.Laws.Transform.{Inverses, inverse_transform, inverse_transform_value}
 use Rattle.p3_field.specs.Laws.Vanishing.{val_vanishing, times_vanishing, quotient_by_vanishing, coset_divides}
 
 -- a test for equality decides it
@@ -75,13 +75,6 @@ module _ {A : Type 0} (r : Ring A) (L : RingLaws r) where
       coset_interpolant_value v i h =
           inverse_transform_value r L (field_no_zero_divisors r L inv W) (2 ^ k) s (gen k) (inv (of_nat r (2 ^ k))) (inv s) (inv (gen k)) v
           (two_adic_order r L top gen T k fits) (two_adic_inverses top gen T k s fits nz) i h
-
-      pub coset_interpolant_unique : (v : ℕ → A) (f : List A) → DegreeBelow r (2 ^ k) f → ((i : ℕ) → i < 2 ^ k → val r f (coset_point r s (gen k) i) ≡ v i)
-          → SamePoly r f (coset_interpolant v)
-      coset_interpolant_unique v f d e =
-          let N = field_no_zero_divisors r L inv W in
-          same_values r L N (2 ^ k) (coset_point r s (gen k)) f (coset_interpolant v) (coset_apart r L N (2 ^ k) s (gen k) (two_adic_order r L top gen T k fits) nz) d
-          (degree_inverse_transform r L (2 ^ k) (inv (of_nat r (2 ^ k))) (inv s) (inv (gen k)) v) (λ i h. e i h ∙ sym (coset_interpolant_value v i h))
 
       pub two_adic_divides : (f : List A) → RootsAt r (2 ^ k) (coset_point r s (gen k)) f
           → SamePoly r f (times_vanishing r (2 ^ k) (pow r s (2 ^ k)) (quotient_by_vanishing r (2 ^ k) (pow r s (2 ^ k)) f))

@@ -142,7 +142,7 @@ returns-clause-transition g c =
     let dec = decide_by _ g.met.EF.FieldCore.eq_same g.met.EF.FieldCore.same_eq in
     let ratio : c.mul-ratio.result ≡ s.mul (f (inv d.shift)) x = cc (P.muls _ _ _ c.mul-ratio.ensures, c.from_base.ensures, c.shift_inverse.ensures) in
     let from_last : c.sub-from_last.result ≡ sub s (s.mul (f (inv d.shift)) x) (f (inv (root d.log_size))) = cc (P.subs _ _ _ c.sub-from_last.ensures, ratio, c.from_base-2.ensures, c.inverse.ensures, c.subgroup_generator.ensures) in
-    from_last ∙ sym (transition_selector_value r L s M f H inv W top root T d x)
+    from_last ∙ sym (transition_selector_value r L s M f H inv W root d x)
 
 pub returns-clause-inverse : goal.returns-clause-inverse
 returns-clause-inverse g c =
