@@ -70,3 +70,9 @@ all_of_map {Y = Y} Q f xs ys e h = λ k d lt.
     let P : List Y → Type 0 = λ l. All Q l in
     let there : k < length (map f xs) = omega (arith, length-map xs f, lt) in
     subst Q (get_or-map f xs k d (f d) lt) (subst P (sym e) h k (f d) there)
+
+-- a place among them is that of a value that isn't zero
+pub nonzero_fails : {A : Type 0} (r : Ring A) (values : List A) (places : List ℕ) → AreNonzero r values places → 0 < length places → All (λ x. x ≡ r.zero) values → ⊥
+nonzero_fails r values places h some all =
+    let first = h.nonzero 0 0 some in
+    first.1 (all (get_or places 0 0) r.zero first.0)

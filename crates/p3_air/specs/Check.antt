@@ -3,6 +3,7 @@
 use Rattle.std.specs.Prelude.{◌≡◌, ℕ, ◌+◌, ◌%◌, ◌<◌, nat_eq, List, [], length, map, All, Contains, Option, Some, None, Result, Ok, Err, ◌⊎◌}
 use Rattle.std.specs.Prelude.{slice_index_or as get_or}
 use Rattle.p3_field.specs.Ring.{Ring}
+use Rattle.p3_field.specs.Checks.{IsFirstFailing, FirstFailing}
 use Rattle.p3_matrix.specs.Matrix.{Rows, height, row_at}
 use Rattle.p3_air.specs.declared.check.CheckFailure.{CheckFailure}
 use Rattle.p3_air.specs.declared.check.CheckFailure.TheVariants.{PreprocessedHeight, Failing, OutOfMemory}
@@ -64,16 +65,10 @@ abbrev pub HasHeight : {F : Type 0} → Option (Rows F) → ℕ → Type 0
 HasHeight None n = Unit {0}
 HasHeight (Some m) n = height m ≡ n
 
--- the first row with a tree that isn't zero, and the places of all such trees there
-pub record IsFirstFailing {F : Type 0} (r : Ring F) (t : Table F) (ts : List (Tree F)) (row : ℕ) (ps : List ℕ) : Type 0 where
-  pub within : row < height t.main
-  pub before : (i : ℕ) → i < row → HoldsAtRow r t ts i
-  pub failing : 0 < length ps
-  pub places : AreNonzero r (row_values r t ts row) ps
-
--- the answer for a table whose constraints are these trees
+-- The answer for a table whose constraints are these trees: after the height of the preprocessed trace the first row with a tree that isn't zero, with the
+-- places of all such trees there.
 abbrev pub IsChecked : {F : Type 0} → Ring F → Table F → List (Tree F) → Result (Unit {0}) CheckFailure → Type 0
-IsChecked r t ts (Ok x) = HasHeight t.preprocessed (height t.main) × ((i : ℕ) → i < height t.main → HoldsAtRow r t ts i)
+IsChecked r t ts (Ok x) = HasHeight t.preprocessed (height t.main) × FirstFailing (height t.main) (HoldsAtRow r t ts) None
 IsChecked r t ts (Err PreprocessedHeight) = HasHeight t.preprocessed (height t.main) → ⊥
-IsChecked r t ts (Err (Failing row places)) = HasHeight t.preprocessed (height t.main) × IsFirstFailing r t ts row places.items
+IsChecked r t ts (Err (Failing row places)) = HasHeight t.preprocessed (height t.main) × IsFirstFailing (height t.main) (HoldsAtRow r t ts) row × AreNonzero r (row_values r t ts row) places.items
 IsChecked r t ts (Err OutOfMemory) = Unit {0}
