@@ -17,7 +17,7 @@ use Rattle.p3_field.specs.Laws.SubgroupSelectors.{subgroup, transition_selector_
 use Rattle.p3_field.specs.declared.baby_bear.BabyBear.{BabyBear}
 use Rattle.p3_field.specs.declared.quartic.QuarticExtension.{QuarticExtension}
 use Rattle.p3_air.specs.Tree.{ev}
-use Rattle.p3_air.specs.Examples.{swap_trees}
+use Rattle.batch_tables.specs.Swap.{swap_trees}
 use Rattle.p3_uni_stark.specs.Fold.{fold}
 use Rattle.p3_uni_stark.specs.Point.{PointValues, reading as reading_of}
 use Rattle.batch_tool.specs.Reading.{point_values, reading_with}

@@ -20,7 +20,7 @@ use Rattle.p3_dft.specs.Transform.{values_at}
 use Rattle.p3_field.specs.Laws.Tables.{length-table, get_or-table, table_same}
 use Rattle.p3_dft.specs.Laws.Values.{length-values_at}
 use Rattle.p3_air.specs.Tree.{Reading, ev}
-use Rattle.p3_air.specs.Examples.{swap_trees}
+use Rattle.batch_tables.specs.Swap.{swap_trees}
 use Rattle.p3_uni_stark.specs.Fold.{fold, fold_powers}
 use Rattle.p3_uni_stark.specs.Point.{PointValues, embedded, reading as reading_of}
 use Rattle.batch_tool.specs.Reading.{reading}

@@ -15,7 +15,7 @@ use Rattle.p3_field.specs.Laws.SubgroupSelectors.{subgroup, ones, next_point, fi
 use Rattle.p3_dft.specs.Transform.{values_at}
 use Rattle.p3_dft.specs.Laws.Values.{get_or-values_at}
 use Rattle.p3_air.specs.Shape.{Shape, Fits, declared_shape, has}
-use Rattle.p3_air.specs.Examples.{swap_declaration}
+use Rattle.batch_tables.specs.Swap.{swap_declaration}
 use Rattle.p3_uni_stark.specs.Point.{PointValues, embedded}
 use Rattle.batch_tool.specs.Reading.{point_values, opened_at}
 

@@ -1,7 +1,7 @@
--- The swap table: two columns l and r, whose rows are (a, b) and (b, a) in turn. Its constraints are `swap_trees` of p3_air's examples.
+-- The swap table: two columns l and r, whose rows are (a, b) and (b, a) in turn. Its constraints are `swap_trees` of batch_tables.
 use Rattle.std.specs.Prelude.{ℕ, ◌%◌, ◌^◌, ◌==◌, [], ◌∷◌, if◌then◌else◌}
 use Rattle.p3_field.specs.Poly.{table}
-use Rattle.p3_air.specs.Examples.{swap_trees}
+use Rattle.batch_tables.specs.Swap.{swap_trees}
 use Rattle.batch_tool.specs.Honest.{Instance}
 
 -- the left cell of row i; the right cell is the left cell of the row after it

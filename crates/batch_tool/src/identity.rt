@@ -7,7 +7,7 @@ ghost use Rattle.p3_field.specs.BabyBear.{bear_ring};
 ghost use Rattle.p3_field.specs.BabyBear.{bear_inv, bear_root};
 ghost use Rattle.p3_field.specs.Quartic.{quartic_ring, of_bear_value};
 ghost use Rattle.p3_air.specs.Tree.{ev};
-ghost use Rattle.p3_air.specs.Examples.{swap_trees};
+ghost use Rattle.batch_tables.specs.Swap.{swap_trees};
 ghost use Rattle.p3_uni_stark.specs.Fold.{fold};
 ghost use Rattle.batch_tool.specs.Reading.{reading_with};
 ghost use Rattle.batch_tool.specs.Swap.{swap_stated};
@@ -16,7 +16,7 @@ ghost use Rattle.batch_tool.specs.Verify.{Identity};
 
 use crate::domain::trace_domain;
 use crate::first_form::SwapStatement;
-use p3_air::examples::SwapAir;
+use batch_tables::SwapAir;
 use p3_commit::{PolynomialSpace, first_selector_at, last_selector_at};
 use p3_field::{
     BabyBear, ExtensionField, FieldCore, PrimeCharacteristicRing, QuarticExtension, RingCore,

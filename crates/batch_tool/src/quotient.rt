@@ -12,7 +12,7 @@ ghost use Rattle.p3_matrix.specs.Matrix.{height, row_at, column};
 ghost use Rattle.p3_dft.specs.Transform.{values_at};
 ghost use Rattle.p3_field.specs.Quartic.{quartic_ring, of_bear_value};
 ghost use Rattle.p3_air.specs.Tree.{ev};
-ghost use Rattle.p3_air.specs.Examples.{swap_trees};
+ghost use Rattle.batch_tables.specs.Swap.{swap_trees};
 ghost use Rattle.p3_uni_stark.specs.Fold.{fold, fold_powers};
 ghost use Rattle.p3_uni_stark.specs.Point.{reading, embedded};
 ghost use Rattle.batch_tool.specs.Reading.{values_at_point};
@@ -21,7 +21,7 @@ ghost use Rattle.batch_tool.specs.Honest.{quotient_value, quotient_domain};
 ghost use Rattle.batch_tool.specs.Tool.{tool};
 
 use crate::job::final_right;
-use p3_air::examples::SwapAir;
+use batch_tables::SwapAir;
 use p3_dft::values_on_coset;
 use p3_field::{
     BabyBear, ExtensionField, FieldCore, Mem, PrimeCharacteristicRing, QuarticExtension, RingCore,

@@ -4,7 +4,7 @@ pub mod Gadgets
 pub mod Words
 pub mod Stand
 pub mod Growth
-pub mod Examples
+pub mod Declared
 pub mod RowCheck
 pub mod Recording
 pub mod Places

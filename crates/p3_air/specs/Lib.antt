@@ -10,5 +10,4 @@ pub mod Layout
 pub mod Placed
 pub mod Recording
 pub mod Copying
-pub mod Examples
 pub mod Laws

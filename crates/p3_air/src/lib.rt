@@ -15,7 +15,6 @@ mod cells;
 mod check;
 mod copying;
 mod debug;
-pub mod examples;
 mod gadgets;
 mod layout;
 pub mod meanings;

@@ -2,7 +2,7 @@
 ghost use Rattle.std.specs.Prelude.{◌≡◌, ◌<◌, IfOk, length};
 ghost use Rattle.p3_air.specs.Shape.{DeclaresExt};
 
-use p3_air::examples::SwapAir;
+use batch_tables::SwapAir;
 use p3_air::{
     AirBuilder, CheckFailure, Count, DebugConstraintBuilder, ExtCell, ExtensionBuilder,
     InteractionBuilder, PermutationAirBuilder, RowValues, add2, add3, check_constraints,

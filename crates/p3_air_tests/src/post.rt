@@ -1,7 +1,7 @@
 //! The post table: what it declares, and what it sends.
 ghost use Rattle.std.specs.Prelude.{◌≡◌, ◌<◌, IfOk, length};
 
-use p3_air::examples::{PostAir, SwapAir};
+use batch_tables::{PostAir, SwapAir};
 use p3_air::{Air, AirLayout, BaseAir, InteractionSymbolicBuilder};
 use p3_field::{BabyBear, FieldCore, Mem, RingCore};
 use std::alloc::Global;

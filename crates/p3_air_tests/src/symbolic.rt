@@ -5,7 +5,7 @@ ghost use Rattle.p3_air.specs.declared.node.Node.TheVariants.{Base};
 ghost use Rattle.p3_air.specs.Layout.{layout_shape};
 ghost use Rattle.p3_air.specs.Shape.{Declares, DeclaresExt};
 
-use p3_air::examples::SwapAir;
+use batch_tables::SwapAir;
 use p3_air::{
     Air, AirBuilder, AirLayout, Cell, ConstraintLayout, ExtCell, ExtensionBuilder,
     InteractionSymbolicBuilder, Node, PermutationAirBuilder, SymbolicExpression,

@@ -7,7 +7,7 @@ ghost use Rattle.p3_field.specs.BabyBear.{bear_ring};
 ghost use Rattle.p3_air.specs.declared.cells.Cell.TheVariants.{Main, Preprocessed, Periodic};
 ghost use Rattle.p3_matrix.specs.Matrix.{height};
 ghost use Rattle.p3_air.specs.Tree.{cell, difference, product};
-ghost use Rattle.p3_air.specs.Laws.Examples.{counts-none};
+ghost use Rattle.p3_air.specs.Laws.Declared.{counts-none};
 
 use p3_air::{Air, AirBuilder, BaseAir, Cell, CheckFailure, InteractionBuilder, check_constraints};
 use p3_field::{BabyBear, Mem, RingCore};

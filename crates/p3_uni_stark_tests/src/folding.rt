@@ -2,7 +2,7 @@
 ghost use Rattle.p3_air.specs.Shape.{DeclaresExt};
 ghost use Rattle.p3_air.specs.declared.cells.ExtCell.TheVariants.{Terminal};
 
-use p3_air::examples::SwapAir;
+use batch_tables::SwapAir;
 use p3_air::{
     AirBuilder, Count, ExtCell, ExtensionBuilder, InteractionBuilder, PermutationAirBuilder,
 };

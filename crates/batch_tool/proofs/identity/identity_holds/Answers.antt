@@ -6,7 +6,7 @@ use Rattle.p3_field.specs.BabyBear.{bear_inv}
 use Rattle.p3_field.specs.Quartic.{quartic_ring, of_bear_value}
 use Rattle.p3_field.specs.declared.baby_bear.BabyBear.{BabyBear}
 use Rattle.p3_air.specs.Tree.{ev}
-use Rattle.p3_air.specs.Examples.{swap_trees}
+use Rattle.batch_tables.specs.Swap.{swap_trees}
 use Rattle.p3_uni_stark.specs.Fold.{fold}
 use Rattle.batch_tool.specs.Reading.{reading_with}
 use Rattle.batch_tool.specs.Tool.{tool}

@@ -8,7 +8,7 @@ use Rattle.p3_field.specs.BabyBear.{bear_root}
 use Rattle.p3_field.specs.Laws.Tables.{table_push, first_coset_point, next_coset_point}
 use Rattle.p3_matrix.specs.Matrix.{height, column}
 use Rattle.p3_air.specs.Tree.{ev}
-use Rattle.p3_air.specs.Examples.{swap_trees}
+use Rattle.batch_tables.specs.Swap.{swap_trees}
 use Rattle.p3_uni_stark.specs.Fold.{fold}
 use Rattle.p3_uni_stark.specs.Point.{reading, embedded}
 use Rattle.batch_tool.proofs.Interpolated.{row-of-two}

@@ -1,0 +1,12 @@
+//! The program's tables, each as an AIR.
+//!
+//! Each module has one table. Its declaration, its constraint trees and its interactions are definitions of `specs/`,
+//! and the `impl`s of `BaseAir` and `Air` are proved to answer and to append exactly these. `README.md` says what each
+//! table is for.
+#![tactic(auto)]
+
+mod post;
+mod swap;
+
+pub use post::PostAir;
+pub use swap::SwapAir;
