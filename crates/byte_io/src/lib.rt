@@ -6,11 +6,13 @@
 //! only where one happened.
 #![tactic(auto)]
 
+mod answers;
 mod ends;
 mod memory;
 mod streams;
 mod whole;
 
+pub use answers::{InputStream, OutputStream};
 pub use ends::{Failed, InputError, Sink, Source};
 pub use memory::{MemorySink, MemorySource};
 pub use streams::{StdSink, StdSource};

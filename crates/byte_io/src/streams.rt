@@ -1,13 +1,14 @@
 //! Ends over std's readers and writers.
 
-ghost use Rattle.std.specs.Prelude.{◌≡◌, ◌<◌, ◌≤◌, ◌^◌, length, IfOk, MatchResult};
+ghost use Rattle.std.specs.Prelude.{◌≡◌, ◌<◌, ◌≤◌, ◌^◌, ℕ, Result, length, IfOk};
 ghost use Rattle.std.specs.Io.{ReadsAtMost, WritesAtMost};
 ghost use Rattle.std.specs.Io.KnownBytes.{ReadConsumes, WriteAppends};
-ghost use Rattle.byte_io.specs.Causes.{HasCause, next_count, IsCounted};
+ghost use Rattle.byte_io.specs.Causes.{HasCause, IsCounted};
+ghost use Rattle.std.specs.declared.io.Error.{Error};
 
+use crate::answers::{InputStream, OutputStream};
 use crate::ends::{Failed, Sink, Source};
 use std::io;
-use std::io::{Read, Write};
 
 /// What an end answers where std's stream answers this: the number, where it is at least `least`, and else `Failed`. The
 /// count of faults rises by one where the end fails, and else stays as it was (own).
@@ -31,7 +32,7 @@ pub struct StdSource<R> {
     ghost counted: { faults < 2 ^ 64 },
 }
 
-impl<R: Read> StdSource<R> {
+impl<R: InputStream> StdSource<R> {
     /// A source over this reader, with no fault.
     pub fn new(reader: R) -> Self
         ensures left { ⟦<StdSource<R> as Source>⟧.left result ≡ R.remaining reader }
@@ -41,7 +42,7 @@ impl<R: Read> StdSource<R> {
     }
 }
 
-impl<R: Read> Source for StdSource<R> {
+impl<R: InputStream> Source for StdSource<R> {
     ghost use Rattle.byte_io.specs.Streams.{reader_of, source_faults};
 
     ghost left = { λ s. R.remaining (reader_of s) };
@@ -53,11 +54,12 @@ impl<R: Read> Source for StdSource<R> {
         ensures bound { ReadsAtMost result buf.new }
         ensures bytes { ReadConsumes (R.remaining (reader_of self.old)) (R.remaining (reader_of self.new)) result buf.new }
         ensures cause { HasCause (source_faults self.old) (source_faults self.new) result }
-        ensures count { MatchResult result
-            (λ _. source_faults self.new ≡ source_faults self.old)
-            (λ _. source_faults self.new ≡ next_count (source_faults self.old)) }
+
+        // The reader was asked, and its answer is counted: `Failed` comes exactly where the reader answered an error.
+        ensures answer { (answer : Result ℕ Error) × R.answers (reader_of self.old) (reader_of self.new) buf.new answer
+            × IsCounted answer 0 (source_faults self.old) (source_faults self.new) result }
     {
-        counted(self.reader.read(buf), 0, &mut self.faults)
+        counted(self.reader.read_some(buf), 0, &mut self.faults)
     }
 }
 
@@ -69,7 +71,7 @@ pub struct StdSink<W> {
     ghost counted: { faults < 2 ^ 64 },
 }
 
-impl<W: Write> StdSink<W> {
+impl<W: OutputStream> StdSink<W> {
     /// A sink over this writer, with no fault.
     pub fn new(writer: W) -> Self
         ensures written { ⟦<StdSink<W> as Sink>⟧.written result ≡ W.contents writer }
@@ -79,7 +81,7 @@ impl<W: Write> StdSink<W> {
     }
 }
 
-impl<W: Write> Sink for StdSink<W> {
+impl<W: OutputStream> Sink for StdSink<W> {
     ghost use Rattle.byte_io.specs.Streams.{writer_of, sink_faults};
 
     ghost written = { λ s. W.contents (writer_of s) };
@@ -92,11 +94,12 @@ impl<W: Write> Sink for StdSink<W> {
         ensures some { IfOk result (λ n. 0 < n) }
         ensures bytes { WriteAppends (W.contents (writer_of self.old)) (W.contents (writer_of self.new)) result piece.now }
         ensures cause { HasCause (sink_faults self.old) (sink_faults self.new) result }
-        ensures count { MatchResult result
-            (λ _. sink_faults self.new ≡ sink_faults self.old)
-            (λ _. sink_faults self.new ≡ next_count (sink_faults self.old)) }
+
+        // The writer was asked, and its answer is counted: `Failed` comes exactly where the writer answered an error or took nothing.
+        ensures answer { (answer : Result ℕ Error) × W.answers (writer_of self.old) (writer_of self.new) piece.now answer
+            × IsCounted answer 1 (sink_faults self.old) (sink_faults self.new) result }
     {
-        counted(self.writer.write(piece), 1, &mut self.faults)
+        counted(self.writer.write_some(piece), 1, &mut self.faults)
     }
 }
 

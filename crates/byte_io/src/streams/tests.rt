@@ -1,7 +1,13 @@
 //! Ends over std's readers and writers in memory.
+
+ghost use Rattle.std.specs.Prelude.{◌≡◌, ◌<◌, IsErr, None, false, length};
+ghost use Rattle.std.specs.Io.{ReadsAtMost, WritesAtMost};
+ghost use Rattle.std.specs.Io.KnownBytes.{ReadConsumes, WriteAppends};
+
 use super::*;
 use crate::{InputError, read_whole, write_whole};
 use std::alloc::AllocError;
+use std::io::{Read, Write};
 use std::test::Fail;
 
 /// A reader whose first call fails, and then a text.
@@ -12,12 +18,24 @@ struct FailingReader<'a> {
 }
 
 impl<'a> Read for FailingReader<'a> {
-    fn read(&mut self, buf: &mut [u8]) -> io::Result<usize> {
+    fn read(&mut self, buf: &mut [u8]) -> io::Result<usize>
+        ensures bound { ReadsAtMost result buf.new }
+        ensures bytes { ReadConsumes None None result buf.new }
+        ensures first { self.old.failed ≡ false → IsErr result }
+    {
         if self.failed {
             return self.text.read(buf);
         }
         self.failed = true;
         Err(io::Error::from(io::ErrorKind::BrokenPipe))
+    }
+}
+
+impl InputStream for FailingReader<'_> {
+    ghost answers = { λ old _ _ answer. old.failed ≡ false → IsErr answer };
+
+    fn read_some(&mut self, buf: &mut [u8]) -> io::Result<usize> {
+        self.read(buf)
     }
 }
 
@@ -29,7 +47,11 @@ struct FailingWriter {
 }
 
 impl Write for FailingWriter {
-    fn write(&mut self, piece: &[u8]) -> io::Result<usize> {
+    fn write(&mut self, piece: &[u8]) -> io::Result<usize>
+        ensures bound { WritesAtMost result piece.now }
+        ensures bytes { WriteAppends None None result piece.now }
+        ensures first { self.old.failed ≡ false → IsErr result }
+    {
         if self.failed {
             self.taken = self.taken.saturating_add(piece.len());
             return Ok(piece.len());
@@ -40,6 +62,14 @@ impl Write for FailingWriter {
 
     fn flush(&mut self) -> io::Result<()> {
         Ok(())
+    }
+}
+
+impl OutputStream for FailingWriter {
+    ghost answers = { λ old _ _ answer. old.failed ≡ false → IsErr answer };
+
+    fn write_some(&mut self, piece: &[u8]) -> io::Result<usize> {
+        self.write(piece)
     }
 }
 
@@ -79,6 +109,24 @@ fn a_slice_is_read_to_its_end(rt: HostRuntime) -> Result<(), Fail> {
     assert_eq!(rt; bytes.as_slice(), text.as_slice());
     assert_eq!(rt; source.faults, 0);
     Ok(())
+}
+
+/// The number of bytes read off a slice, of which no read fails.
+fn read_of_slice(source: &mut StdSource<&[u8]>, buf: &mut [u8]) -> usize
+    requires { 0 < length buf.old }
+{
+    match source.read(buf) {
+        Ok(count) => count,
+        Err(Failed) => unreachable!(),
+    }
+}
+
+#[test]
+fn no_read_of_a_slice_fails(rt: HostRuntime) {
+    let mut source = StdSource::new(b"1\n".as_slice());
+    let mut buf = [0; 5];
+    assert_eq!(rt; read_of_slice(&mut source, &mut buf), 2);
+    assert_eq!(rt; read_of_slice(&mut source, &mut buf), 0);
 }
 
 #[test]
