@@ -3,12 +3,12 @@ use Rattle.std.proofs.Common.{◌≡◌, ℕ, ◌+◌, ◌^◌, List, [], ◌∷
 use Rattle.p3_field.specs.declared.baby_bear.BabyBear.{BabyBear}
 use Rattle.p3_field.specs.declared.quartic.QuarticExtension.{QuarticExtension}
 use Rattle.p3_matrix.specs.Matrix.{Rows}
-use Rattle.batch_tool.specs.Texts.{line_text, Reads, Unlimited}
-use Rattle.batch_tool.specs.Fixed.{fixed_words}
+use Rattle.line_format.specs.Texts.{line_text, Reads, Unlimited}
+use Rattle.line_format.specs.Fixed.{fixed_words}
 use Rattle.batch_tool.specs.Proof.{ProofData}
 use Rattle.batch_tool.specs.ProofFile.{proof_words, file_words}
 use Rattle.batch_tool.specs.FirstForm.{IsSwapShape, IsFirstForm, first_form_words}
-use Rattle.batch_tool.specs.Laws.Grammars.{ThenWithin, pair_words}
+use Rattle.line_format.specs.Laws.Grammars.{ThenWithin, pair_words}
 use Rattle.batch_tool.specs.Laws.FirstForms.{MainParts, MainWithin, main_words, opening_of, proof_of, proof_of-shape, proof_of-words, StatedWithin, stated_words, file_head}
 use Rattle.batch_tool.specs.declared.first_form.SwapStatement.{SwapStatement}
 

@@ -4,15 +4,15 @@ use Rattle.std.specs.Prelude.{string_bytes, IfOk, ⊤}
 use Rattle.std.specs.Io.KnownBytes.{Consumes, Appends, IsAtEnd}
 use Rattle.std.specs.declared.alloc.AllocError.{AllocError}
 use Rattle.batch_tool.specs.Limits.{most_log_rows}
-use Rattle.batch_tool.specs.Texts.{line_text}
+use Rattle.line_format.specs.Texts.{line_text}
 use Rattle.batch_tool.specs.Job.{JobWithin, job_words}
 use Rattle.batch_tool.specs.Prove.{IsJobAnswer}
 use Rattle.batch_tool.specs.Answer.{Names, IsProveAnswer, IsVerifyAnswer, IsCommandAnswer, Answers, IsOutcome, IsSilent, Outcome}
 use Rattle.batch_tool.specs.declared.command.Command.{Command}
 use Rattle.batch_tool.specs.declared.command.Command.TheVariants.{Prove, Verify}
 use Rattle.batch_tool.specs.declared.job.Job.{Job}
-use Rattle.batch_tool.specs.declared.top.Status.{Status}
-use Rattle.batch_tool.specs.declared.top.Status.TheVariants.{Done, Refused, Usage, BadInput, ReadFault, WriteFault, OutOfMemory, TooLarge}
+use Rattle.batch_tool.specs.declared.status.Status.{Status}
+use Rattle.batch_tool.specs.declared.status.Status.TheVariants.{Done, Refused, Usage, BadInput, ReadFault, WriteFault, OutOfMemory, TooLarge}
 use Rattle.batch_tool.specs.FirstForm.{IsFirstForm, first_form_words}
 use Rattle.batch_tool.specs.FileAnswer.{IsFileAnswer}
 use Rattle.batch_tool.specs.declared.first_form.FirstForm.{FirstForm}

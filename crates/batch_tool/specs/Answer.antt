@@ -2,8 +2,8 @@
 use Rattle.std.specs.Prelude.{◌≡◌, ◌≤◌, ◌<◌, ◌+◌, ℕ, List, [], ◌∷◌, length, take, codes, Option, ⊤}
 use Rattle.std.specs.Io.KnownBytes.{Consumes, Appends, IsAtEnd}
 use Rattle.batch_tool.specs.Limits.{most_log_rows}
-use Rattle.batch_tool.specs.Texts.{line_text}
-use Rattle.batch_tool.specs.WholeText.{IsNoText}
+use Rattle.line_format.specs.Texts.{line_text}
+use Rattle.line_format.specs.WholeText.{IsNoText}
 use Rattle.batch_tool.specs.Job.{JobWithin, job_words}
 use Rattle.batch_tool.specs.Prove.{IsJobAnswer}
 use Rattle.batch_tool.specs.FirstForm.{IsFirstForm, first_form_words}
@@ -12,8 +12,8 @@ use Rattle.batch_tool.specs.declared.first_form.FirstForm.{FirstForm}
 use Rattle.batch_tool.specs.declared.command.Command.{Command}
 use Rattle.batch_tool.specs.declared.command.Command.TheVariants.{Prove, Verify}
 use Rattle.batch_tool.specs.declared.job.Job.{Job}
-use Rattle.batch_tool.specs.declared.top.Status.{Status}
-use Rattle.batch_tool.specs.declared.top.Status.TheVariants.{Done, Refused, Usage, BadInput, ReadFault, WriteFault, OutOfMemory, TooLarge}
+use Rattle.batch_tool.specs.declared.status.Status.{Status}
+use Rattle.batch_tool.specs.declared.status.Status.TheVariants.{Done, Refused, Usage, BadInput, ReadFault, WriteFault, OutOfMemory, TooLarge}
 
 -- the words name this command
 abbrev pub Names : List (List ℕ) → Command → Type 0
@@ -77,14 +77,3 @@ IsSilent ReadFault = ⊤
 IsSilent OutOfMemory = ⊤
 IsSilent TooLarge = ⊤
 IsSilent other = ⊥
-
--- the exit status
-abbrev pub status_number : Status → ℕ
-status_number Done = 0
-status_number Refused = 1
-status_number Usage = 2
-status_number BadInput = 3
-status_number ReadFault = 4
-status_number WriteFault = 5
-status_number OutOfMemory = 6
-status_number TooLarge = 7

@@ -10,8 +10,8 @@ use Rattle.batch_tool.specs.Refusals.{refusal_text}
 use Rattle.batch_tool.specs.declared.first_form.SwapStatement.{SwapStatement}
 use Rattle.batch_tool.specs.declared.first_form.FirstForm.{FirstForm}
 use Rattle.batch_tool.specs.declared.refusal.Refusal.{Refusal}
-use Rattle.batch_tool.specs.declared.top.Status.{Status}
-use Rattle.batch_tool.specs.declared.top.Status.TheVariants.{Done, Refused, Usage, BadInput, ReadFault, WriteFault, OutOfMemory, TooLarge}
+use Rattle.batch_tool.specs.declared.status.Status.{Status}
+use Rattle.batch_tool.specs.declared.status.Status.TheVariants.{Done, Refused, Usage, BadInput, ReadFault, WriteFault, OutOfMemory, TooLarge}
 
 -- the table that a statement speaks of, with the statement's own public values; of its trace the checks use the width alone
 abbrev pub stated : SwapStatement → Instance BabyBear

@@ -3,7 +3,7 @@ use Rattle.std.specs.Prelude.{ℕ, List, [], ◌∷◌, ◌++◌, map}
 use Rattle.p3_field.specs.declared.baby_bear.BabyBear.{BabyBear}
 use Rattle.p3_field.specs.declared.quartic.QuarticExtension.{QuarticExtension}
 use Rattle.p3_matrix.specs.Matrix.{Rows, height}
-use Rattle.batch_tool.specs.Texts.{list_words, option_words, element_words, extension_words}
+use Rattle.line_format.specs.Texts.{list_words, option_words, element_words, extension_words}
 use Rattle.p3_uni_stark.specs.Opened.{PreprocessedData}
 use Rattle.batch_tool.specs.Proof.{OpenedWithLookups, ProofData}
 

@@ -7,10 +7,10 @@ use Rattle.batch_tool.specs.Tool.{tool}
 use Rattle.batch_tool.specs.Swap.{swap_instance, last_right}
 use Rattle.batch_tool.specs.ProofFile.{file_words}
 use Rattle.batch_tool.specs.FirstForm.{IsSwapShape}
-use Rattle.batch_tool.specs.Texts.{line_text}
+use Rattle.line_format.specs.Texts.{line_text}
 use Rattle.batch_tool.specs.declared.job.SwapTable.{SwapTable}
-use Rattle.batch_tool.specs.declared.top.Status.{Status}
-use Rattle.batch_tool.specs.declared.top.Status.TheVariants.{Done, Refused, Usage, BadInput, ReadFault, WriteFault, OutOfMemory, TooLarge}
+use Rattle.batch_tool.specs.declared.status.Status.{Status}
+use Rattle.batch_tool.specs.declared.status.Status.TheVariants.{Done, Refused, Usage, BadInput, ReadFault, WriteFault, OutOfMemory, TooLarge}
 
 -- a swap table as an instance that is to be proved
 abbrev pub instance_of : SwapTable → Instance BabyBear

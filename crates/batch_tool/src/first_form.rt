@@ -2,18 +2,17 @@
 
 ghost use Rattle.std.specs.Prelude.{◌≡◌, ◌≤◌, ◌+◌, ◌^◌};
 ghost use Rattle.batch_tool.specs.Limits.{most_log_rows};
-ghost use Rattle.batch_tool.specs.Texts.{ReadsOne};
-ghost use Rattle.batch_tool.specs.WholeText.{ReadsText};
+ghost use Rattle.line_format.specs.Texts.{ReadsOne};
+ghost use Rattle.line_format.specs.WholeText.{ReadsText};
 ghost use Rattle.batch_tool.specs.ProofFile.{proof_words};
 ghost use Rattle.batch_tool.specs.FirstForm.{IsSwapShape, IsFirstForm, first_form_words};
 
-use crate::fixed::{read_fixed, read_headed};
-use crate::items::Item;
 use crate::job::{MOST_LOG_ROWS, SWAP_TAG};
-use crate::parse::{TextError, read_text};
 use crate::proof::TableProof;
 use crate::proof_file::{print_numbers, print_proof};
-use crate::texts::{ItemError, Reader, push_number};
+use line_format::{
+    Item, ItemError, Reader, TextError, push_number, read_fixed, read_headed, read_text,
+};
 use p3_field::{BabyBear, Mem};
 use p3_matrix::RowMajorMatrix;
 use std::alloc::Global;

@@ -1,14 +1,12 @@
 //! Jobs: the tables that are to be proved.
 
 ghost use Rattle.std.specs.Prelude.{◌≡◌};
-ghost use Rattle.batch_tool.specs.WholeText.{ReadsText};
+ghost use Rattle.line_format.specs.WholeText.{ReadsText};
 ghost use Rattle.batch_tool.specs.Job.{JobWithin, job_words};
 ghost use Rattle.batch_tool.specs.Limits.{most_log_rows};
 ghost use Rattle.batch_tool.specs.Swap.{last_right};
 
-use crate::items::Item;
-use crate::parse::{TextError, read_text};
-use crate::texts::{ItemError, Reader, push_number};
+use line_format::{Item, ItemError, Reader, TextError, push_number, read_text};
 use p3_field::{BabyBear, Mem};
 use std::alloc::Global;
 
@@ -121,3 +119,6 @@ pub fn read_job(alloc: Global, bytes: &[u8]) -> Result<Job, TextError>
 {
     read_text(alloc, bytes)
 }
+
+#[cfg(test)]
+mod tests;

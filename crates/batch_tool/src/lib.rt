@@ -1,20 +1,17 @@
-//! The program's layers: its ends, its texts, its prover, its verifier and its top call.
+//! The program's layers: its files, its prover, its verifier and its top call.
 #![tactic(auto)]
 
 mod command;
 mod commitments;
 mod committed_proof;
 mod domain;
-mod ends;
 mod first_form;
-mod fixed;
+#[cfg(test)]
+mod honest_files;
 mod identity;
-mod items;
 mod job;
-mod memory;
 mod opened;
 mod opening;
-mod parse;
 mod proof;
 mod proof_file;
 mod prove;
@@ -22,16 +19,15 @@ mod quotient;
 mod refusal;
 mod scheme;
 mod script;
-mod streams;
-mod texts;
+mod status;
 mod top;
 mod trace;
 mod transcript;
 mod verify;
-mod whole;
 
-pub use ends::{Failed, InputError, Sink, Source};
-pub use memory::{MemorySink, MemorySource};
-pub use streams::{StdSink, StdSource};
-pub use top::{Status, run};
-pub use whole::{MAX_BYTES, read_whole, write_whole};
+pub use byte_io::{
+    Failed, InputError, MAX_BYTES, MemorySink, MemorySource, Sink, Source, StdSink, StdSource,
+    read_whole, write_whole,
+};
+pub use status::Status;
+pub use top::run;

@@ -1,7 +1,7 @@
 //! The proof of one table.
 
 ghost use Rattle.std.specs.Prelude.{◌≡◌, ◌++◌, OnOk};
-ghost use Rattle.batch_tool.specs.Texts.{line_text};
+ghost use Rattle.line_format.specs.Texts.{line_text};
 
 use p3_field::{BabyBear, QuarticExtension};
 use p3_matrix::RowMajorMatrix;

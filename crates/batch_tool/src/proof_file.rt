@@ -1,14 +1,13 @@
 //! The text of a proof file.
 
 ghost use Rattle.std.specs.Prelude.{◌≡◌, ◌++◌, ◌∷◌, [], OnOk, map, flat_map, length};
-ghost use Rattle.batch_tool.specs.Texts.{line_text, list_words, extension_words, option_words};
+ghost use Rattle.line_format.specs.Texts.{line_text, list_words, extension_words, option_words};
 ghost use Rattle.batch_tool.specs.ProofFile.{matrix_words, commitment_words, values_words, opened_words, proof_words, file_words};
 ghost use Rattle.batch_tool.specs.Swap.{last_right};
 
-use crate::items::{Item, print_items, print_list};
 use crate::job::SwapTable;
 use crate::proof::TableProof;
-use crate::texts::push_number;
+use line_format::{Item, print_items, print_list, push_number};
 use p3_field::{BabyBear, Mem, QuarticExtension};
 use p3_matrix::RowMajorMatrix;
 

@@ -17,7 +17,7 @@ use crate::opened::{only, open_committed};
 use crate::proof::TableProof;
 use crate::proof_file::print_file;
 use crate::quotient::quotient_values;
-use crate::top::Status;
+use crate::status::Status;
 use crate::trace::trace_matrix;
 use crate::transcript::{draw_alpha, grind_and_draw_zeta, seeded_challenger};
 use p3_challenger::{CanObserve, Sha256Challenger};

@@ -1,50 +1,20 @@
 //! The top call.
 
 ghost use Rattle.std.specs.Prelude.{◌≡◌, ◌≤◌, IfOk, map, string_bytes};
-ghost use Rattle.batch_tool.specs.Causes.{Rose};
-ghost use Rattle.batch_tool.specs.Limits.{most_bytes};
-ghost use Rattle.batch_tool.specs.Answer.{IsCommandAnswer, IsProveAnswer, IsSilent, IsVerifyAnswer, NamesSome, Outcome, status_number};
+ghost use Rattle.byte_io.specs.Causes.{Rose};
+ghost use Rattle.byte_io.specs.Limits.{most_bytes};
+ghost use Rattle.batch_tool.specs.Answer.{IsCommandAnswer, IsProveAnswer, IsSilent, IsVerifyAnswer, NamesSome, Outcome};
 
 use crate::command::Command;
-use crate::ends::{Failed, InputError, Sink, Source};
 use crate::first_form::read_first_form;
 use crate::job::read_job;
-use crate::parse::TextError;
 use crate::prove::prove;
+use crate::status::Status;
 use crate::verify::verify;
-use crate::whole::{read_whole, write_whole};
+use byte_io::{Failed, InputError, Sink, Source, read_whole, write_whole};
+use line_format::TextError;
 use p3_field::Mem;
 use std::alloc::{AllocError, Global};
-
-/// How a run ended.
-#[derive(Clone, Copy, Debug, PartialEq, Eq)]
-pub enum Status {
-    /// The command did its work.
-    Done,
-    /// The command refused its input.
-    Refused,
-    /// The words name no command. Nothing was read.
-    Usage,
-    /// The bytes of the input, read to their end, are no text of the command's grammar.
-    BadInput,
-    /// The source's count of faults rose. Nothing was written.
-    ReadFault,
-    /// The sink's count of faults rose. A part of the text was written, its front.
-    WriteFault,
-    /// Memory was wanting. Nothing was written.
-    OutOfMemory,
-    /// The input has more than [`MAX_BYTES`](crate::MAX_BYTES) bytes. Nothing was written.
-    TooLarge,
-}
-
-impl Status {
-    /// The exit status: 0 for `Done` up to 7 for `TooLarge`.
-    pub fn number(self) -> u8
-        ensures { result ≡ status_number self }
-    {
-        self as u8
-    }
-}
 
 const USAGE: &[u8] = b"usage: batch_tool prove | verify | demo N\n";
 

@@ -17,7 +17,7 @@ use crate::identity::identity_holds;
 use crate::opening::{opening_fault, quotient_claim, trace_claim};
 use crate::proof::TableProof;
 use crate::refusal::{Refusal, refusal_line};
-use crate::top::Status;
+use crate::status::Status;
 use crate::transcript::{OOD_POW_BITS, check_and_draw_zeta, draw_alpha, seeded_challenger};
 use p3_challenger::{CanObserve, Sha256Challenger};
 use p3_commit::PointOpening;

@@ -7,14 +7,14 @@ use Rattle.std.proofs.lemmas.List.Concat.{flat_map_single}
 use Rattle.p3_field.specs.declared.baby_bear.BabyBear.{BabyBear}
 use Rattle.p3_field.specs.declared.quartic.QuarticExtension.{QuarticExtension}
 use Rattle.p3_matrix.specs.Matrix.{Rows}
-use Rattle.batch_tool.specs.Texts.{Between, Small, Grammar, Unlimited, ItemsWithin, number_words, element_words, extension_words}
-use Rattle.batch_tool.specs.Fixed.{fixed_words, headed_words}
+use Rattle.line_format.specs.Texts.{Between, Small, Grammar, Unlimited, ItemsWithin, number_words, element_words, extension_words}
+use Rattle.line_format.specs.Fixed.{fixed_words, headed_words}
 use Rattle.batch_tool.specs.Proof.{OpenedWithLookups, ProofData}
 use Rattle.batch_tool.specs.ProofFile.{opened_words, proof_words, file_words}
 use Rattle.batch_tool.specs.FirstForm.{Single, HasLength, HasShape, IsSwapOpening, IsSwapShape, StatementWithin, statement_words, IsFirstForm, first_form_words}
-use Rattle.batch_tool.specs.Laws.Grammars.{PairWithin, ThenWithin, pair_words, SameTexts, pair-grammar, then-grammar, same-grammar, element-grammar, extension-grammar, ThreeWithin, three_words, three-grammar}
+use Rattle.line_format.specs.Laws.Grammars.{PairWithin, ThenWithin, pair_words, SameTexts, pair-grammar, then-grammar, same-grammar, element-grammar, extension-grammar, ThreeWithin, three_words, three-grammar}
 use Rattle.batch_tool.specs.Laws.Jobs.{log_rows-grammar, one-grammar, one}
-use Rattle.batch_tool.specs.Laws.FixedParts.{fixed-grammar, headed-grammar}
+use Rattle.line_format.specs.Laws.FixedParts.{fixed-grammar, headed-grammar}
 use Rattle.batch_tool.specs.declared.first_form.SwapStatement.{SwapStatement}
 
 -- the logarithm of the rows, and the three elements

@@ -2,9 +2,9 @@
 use Rattle.std.specs.Prelude.{◌≡◌, ℕ, ◌<◌, ◌^◌, List, ◌∷◌, refl}
 use Rattle.std.proofs.Common.{ap, arith}
 use Rattle.p3_field.specs.declared.baby_bear.BabyBear.{BabyBear}
-use Rattle.batch_tool.specs.Texts.{Between, Grammar, number_words}
+use Rattle.line_format.specs.Texts.{Between, Grammar, number_words}
 use Rattle.batch_tool.specs.Job.{SwapWithin, swap_words, JobWithin, job_words}
-use Rattle.batch_tool.specs.Laws.Grammars.{ThenWithin, pair_words, SameTexts, then-grammar, number-grammar, same-grammar, TwoWithin, two_words, two-grammar}
+use Rattle.line_format.specs.Laws.Grammars.{ThenWithin, pair_words, SameTexts, then-grammar, number-grammar, same-grammar, TwoWithin, two_words, two-grammar}
 
 -- the logarithm of the rows, and the first row
 abbrev pub SizeWithin : ℕ → ℕ × (BabyBear × BabyBear) → Type 0

@@ -6,8 +6,8 @@ use Rattle.std.proofs.lemmas.List.{append-nil}
 use Rattle.p3_field.specs.declared.baby_bear.BabyBear.{BabyBear}
 use Rattle.p3_matrix.specs.Matrix.{Rows}
 use Rattle.batch_tool.specs.Limits.{most_log_rows}
-use Rattle.batch_tool.specs.Texts.{line_text, Grammar}
-use Rattle.batch_tool.specs.WholeText.{IsNoText}
+use Rattle.line_format.specs.Texts.{line_text, Grammar}
+use Rattle.line_format.specs.WholeText.{IsNoText}
 use Rattle.batch_tool.specs.Job.{JobWithin, job_words}
 use Rattle.batch_tool.specs.FirstForm.{IsFirstForm, first_form_words}
 use Rattle.batch_tool.specs.Honest.{IsCommitted, IsGround, IsInTraceDomain, honest_proof, number_passes, zeta}
@@ -20,7 +20,7 @@ use Rattle.batch_tool.specs.Verify.{checks, Meets}
 use Rattle.batch_tool.specs.Refusals.{refusal_text}
 use Rattle.batch_tool.specs.FileAnswer.{stated, FirstRefusal, IsFileAnswer}
 use Rattle.batch_tool.specs.Answer.{Names, NamesSome, IsProveAnswer, IsVerifyAnswer, IsCommandAnswer, IsAnswer}
-use Rattle.batch_tool.specs.Laws.Lines.{lines-tell}
+use Rattle.line_format.specs.Laws.Lines.{lines-tell}
 use Rattle.batch_tool.specs.Laws.Jobs.{job-grammar}
 use Rattle.batch_tool.specs.Laws.FirstForms.{first_form-grammar}
 use Rattle.batch_tool.specs.Laws.OneProof.{two-tall, one_honest, one_number}
@@ -29,8 +29,8 @@ use Rattle.batch_tool.specs.declared.command.Command.TheVariants.{Prove, Verify}
 use Rattle.batch_tool.specs.declared.job.SwapTable.{SwapTable}
 use Rattle.batch_tool.specs.declared.first_form.FirstForm.{FirstForm}
 use Rattle.batch_tool.specs.declared.refusal.Refusal.{Refusal}
-use Rattle.batch_tool.specs.declared.top.Status.{Status}
-use Rattle.batch_tool.specs.declared.top.Status.TheVariants.{Done, Refused, Usage, BadInput, ReadFault, WriteFault, OutOfMemory, TooLarge}
+use Rattle.batch_tool.specs.declared.status.Status.{Status}
+use Rattle.batch_tool.specs.declared.status.Status.TheVariants.{Done, Refused, Usage, BadInput, ReadFault, WriteFault, OutOfMemory, TooLarge}
 
 -- of two texts that are the same the shorter's numbers tell the value
 front-tells : {A : Type 0} {within : A → Type 0} {words : A → List ℕ} → Grammar within words → (v w : A) → within v → within w

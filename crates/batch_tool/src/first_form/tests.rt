@@ -1,20 +1,17 @@
 // A whole file that is read and printed back, and the lines of faults.
 use super::*;
+use crate::honest_files::ONE_ROW;
 use std::test::Fail;
-
-/// The honest proof file of one row, (5, 7), as another program writes it.
-const FILE: &[u8] =
-    b"1\n1\n1\n0\n5\n7\n7\n1\n2\n2\n5\n7\n5\n7\n0\n1\n4\n2\n1204566872\n118454515\n622633673\n256301273\n1204566872\n118454515\n622633673\n256301273\n0\n1\n2\n5\n0\n0\n0\n7\n0\n0\n0\n1\n2\n5\n0\n0\n0\n7\n0\n0\n0\n0\n1\n4\n1204566872\n0\n0\n0\n118454515\n0\n0\n0\n622633673\n0\n0\n0\n256301273\n0\n0\n0\n0\n0\n0\n1\n0\n1\n0\n0\n35\n";
 
 #[test]
 fn an_honest_file_is_read_and_printed_back(rt: HostRuntime) -> Result<(), Fail> {
     let alloc = rt.alloc();
-    let file = read_first_form(alloc, FILE)?;
+    let file = read_first_form(alloc, ONE_ROW.as_bytes())?;
     assert_eq!(rt; file.statement.log_rows, 0);
     assert_eq!(rt; file.proof.main.height(), 2);
     let mut text = Vec::new(alloc);
     file.print(&mut text)?;
-    assert_eq!(rt; text.as_slice(), FILE);
+    assert_eq!(rt; text.as_slice(), ONE_ROW.as_bytes());
     Ok(())
 }
 
@@ -37,7 +34,7 @@ fn a_fault_has_its_line(rt: HostRuntime) -> Result<(), Fail> {
 
 #[test]
 fn a_line_behind_the_file_is_a_fault(rt: HostRuntime) -> Result<(), Fail> {
-    let mut text = FILE.to_vec(rt.alloc())?;
+    let mut text = ONE_ROW.as_bytes().to_vec(rt.alloc())?;
     text.extend_from_slice(b"0\n")?;
     assert_eq!(rt;
         read_first_form(rt.alloc(), &text).err(),

@@ -1,9 +1,9 @@
 use Rattle.std.proofs.Common.{arith}
 use Rattle.batch_tool.specs.FirstForm.{IsSwapShape}
 use Rattle.batch_tool.specs.ProofFile.{proof_words}
-use Rattle.batch_tool.specs.Laws.Grammars.{element-grammar}
+use Rattle.line_format.specs.Laws.Grammars.{element-grammar}
 use Rattle.batch_tool.specs.Laws.FirstForms.{main_head-grammar, quotient_head-grammar, local_head-grammar, next_head-grammar, chunk_head-grammar, end_head-grammar, end-grammar, chunk-grammar, next-grammar, local-grammar, quotient-grammar, same-proof}
-use Rattle.batch_tool.proofs.Stops.{handed-on, same-stops, then-first, then-second, then-reads}
+use Rattle.line_format.specs.Laws.Stops.{handed-on, same-stops, then-first, then-second, then-reads}
 use Rattle.batch_tool.proofs.FirstForms.{proof-reads}
 use Rattle.batch_tool.proofs.first_form.read_proof.Goals as goal
 

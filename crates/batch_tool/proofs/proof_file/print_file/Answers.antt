@@ -1,9 +1,9 @@
 use Rattle.std.proofs.Common.{◌≡◌, ◌++◌, ◌∷◌, [], ap, ◌∙◌}
 use Rattle.p3_field.specs.declared.baby_bear.BabyBear.{BabyBear}
-use Rattle.batch_tool.specs.Texts.{line_text}
+use Rattle.line_format.specs.Texts.{line_text}
 use Rattle.batch_tool.specs.Swap.{last_right}
 use Rattle.batch_tool.specs.ProofFile.{proof_words, file_words}
-use Rattle.batch_tool.proofs.Prints.{prints-part}
+use Rattle.line_format.specs.Laws.Prints.{prints-part}
 use Rattle.batch_tool.proofs.proof_file.print_file.Goals as goal
 
 pub returns : goal.returns

@@ -1,8 +1,8 @@
 use Rattle.std.proofs.Common.{◌≡◌, ◌++◌, ◌∷◌, [], length, ap, sym, ◌∙◌}
 use Rattle.std.specs.Prelude.{flat_map}
-use Rattle.batch_tool.specs.Texts.{line_text}
+use Rattle.line_format.specs.Texts.{line_text}
 use Rattle.batch_tool.specs.ProofFile.{opened_words}
-use Rattle.batch_tool.proofs.Prints.{prints-part}
+use Rattle.line_format.specs.Laws.Prints.{prints-part}
 use Rattle.batch_tool.proofs.proof_file.print_instances.Goals as goal
 
 pub returns : goal.returns

@@ -1,4 +1,4 @@
-use Rattle.batch_tool.proofs.Prints.{prints-number}
+use Rattle.line_format.specs.Laws.Prints.{prints-number}
 use Rattle.batch_tool.proofs.proof_file.print_numbers.Goals as goal
 
 pub loop-number-preserved : goal.loop-number-preserved

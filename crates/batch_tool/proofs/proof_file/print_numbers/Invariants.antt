@@ -1,5 +1,5 @@
 use Rattle.std.proofs.Common.{◌≡◌, ◌++◌, take}
-use Rattle.batch_tool.specs.Texts.{line_text}
+use Rattle.line_format.specs.Texts.{line_text}
 use Rattle.batch_tool.proofs.proof_file.print_numbers.Given as goal
 
 abbrev pub invariant-loop-number : goal.invariant-loop-number

@@ -1,9 +1,9 @@
 use Rattle.std.proofs.Common.{◌≡◌, ◌++◌, ◌∷◌, [], List, ℕ, ap, length, sym, ◌∙◌, Some}
 use Rattle.std.specs.Prelude.{flat_map}
 use Rattle.std.proofs.lemmas.List.{append-nil}
-use Rattle.batch_tool.specs.Texts.{line_text, list_words, option_words}
+use Rattle.line_format.specs.Texts.{line_text, list_words, option_words}
 use Rattle.batch_tool.specs.ProofFile.{values_words, opened_words}
-use Rattle.batch_tool.proofs.Prints.{prints-seven}
+use Rattle.line_format.specs.Laws.Prints.{prints-seven}
 use Rattle.batch_tool.proofs.proof_file.print_opened.Goals as goal
 
 pub returns-clause-single : goal.returns-clause-single

@@ -1,7 +1,7 @@
 use Rattle.std.proofs.Common.{◌++◌, ◌∷◌, [], ap, sym, ◌∙◌}
-use Rattle.batch_tool.specs.Texts.{line_text, list_words, option_words, extension_words, element_words}
+use Rattle.line_format.specs.Texts.{line_text, list_words, option_words, extension_words, element_words}
 use Rattle.batch_tool.specs.ProofFile.{commitment_words, opened_words, proof_words}
-use Rattle.batch_tool.proofs.Prints.{prints-nine}
+use Rattle.line_format.specs.Laws.Prints.{prints-nine}
 use Rattle.batch_tool.proofs.proof_file.print_proof.Goals as goal
 
 pub returns : goal.returns

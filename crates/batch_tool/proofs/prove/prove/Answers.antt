@@ -2,7 +2,7 @@ use Rattle.std.proofs.Common.{◌++◌, ◌∙◌, sym, subst, inl, inr, ◌↔�
 use Rattle.std.specs.Prelude.{IsTrue}
 use Rattle.p3_field.specs.Laws.BearField.{bear_of_canonical}
 use Rattle.p3_field.specs.declared.quartic.QuarticExtension.{QuarticExtension}
-use Rattle.batch_tool.specs.Texts.{line_text}
+use Rattle.line_format.specs.Texts.{line_text}
 use Rattle.batch_tool.specs.ProofFile.{file_words}
 use Rattle.batch_tool.specs.Committed.{committed_matrix, trace_polynomials, chunk_polynomials}
 use Rattle.batch_tool.specs.Prove.{IsJobAnswer, instance_of}

@@ -1,7 +1,7 @@
 use Rattle.std.proofs.Common.{◌≡◌, ℕ, ◌∷◌, ◌++◌, List, take, decimal, append_assoc, ap, sym, ◌∙◌}
 use Rattle.std.proofs.lemmas.List.{append-nil, take_all}
 use Rattle.batch_tool.specs.Refusals.{spaced}
-use Rattle.batch_tool.proofs.Prints.{appends-more}
+use Rattle.batch_tool.proofs.Appends.{appends-more}
 use Rattle.batch_tool.proofs.refusal.push_named.Goals as goal
 
 pub loop-number-init : goal.loop-number-init

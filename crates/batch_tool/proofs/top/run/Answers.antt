@@ -2,7 +2,7 @@ use Rattle.std.proofs.Common.{ℕ, List, [], length, refl, ◌∙◌, subst, ◌
 use Rattle.std.specs.Io.KnownBytes.{Appends}
 use Rattle.std.proofs.KnownBytes.{Consumes-nil}
 use Rattle.batch_tool.specs.Answer.{IsCommandAnswer}
-use Rattle.batch_tool.specs.declared.top.Status.TheVariants.{Usage, ReadFault, WriteFault}
+use Rattle.batch_tool.specs.declared.status.Status.TheVariants.{Usage, ReadFault, WriteFault}
 use Rattle.batch_tool.proofs.Runs.{cut-short, command-answers, written-whole, answer-status, no-answer, not-silent}
 use Rattle.batch_tool.proofs.top.run.Goals as goal
 

@@ -1,6 +1,6 @@
 // Runs of `verify`. The damaged files whose grinding passes were made by another program, written apart from this one.
-use super::proof_files::{EIGHT_ROWS, FOUR_ROWS, ONE_ROW};
 use super::*;
+use crate::honest_files::{EIGHT_ROWS, FOUR_ROWS, ONE_ROW};
 
 /// A text in which the line of this number, from 1, is replaced.
 fn with_line(alloc: Global, text: &[u8], place: usize, line: &str) -> Mem<Vec<u8>> {

@@ -2,7 +2,7 @@ use Rattle.std.proofs.Common.{lit≤, lit<}
 use Rattle.batch_tool.specs.declared.job.TheConstants.{MOST_LOG_ROWS}
 use Rattle.batch_tool.specs.FirstForm.{IsSwapShape, IsFirstForm, first_form_words}
 use Rattle.batch_tool.specs.Laws.FirstForms.{statement-grammar, shape-grammar, stated-grammar, file_head-grammar, same-file}
-use Rattle.batch_tool.proofs.Stops.{handed-on, same-stops, then-first, then-second, then-reads, pair-first, pair-second, pair-reads}
+use Rattle.line_format.specs.Laws.Stops.{handed-on, same-stops, then-first, then-second, then-reads, pair-first, pair-second, pair-reads}
 use Rattle.batch_tool.proofs.FirstForms.{file-reads}
 use Rattle.batch_tool.proofs.first_form.FirstFormItem.read.Goals as goal
 

@@ -1,10 +1,10 @@
 use Rattle.std.proofs.Common.{lit<}
 use Rattle.batch_tool.specs.declared.job.TheConstants.{MOST_LOG_ROWS}
 use Rattle.batch_tool.specs.FirstForm.{StatementWithin, statement_words}
-use Rattle.batch_tool.specs.Laws.Grammars.{element-grammar, two-grammar, three-grammar}
+use Rattle.line_format.specs.Laws.Grammars.{element-grammar, two-grammar, three-grammar}
 use Rattle.batch_tool.specs.Laws.Jobs.{one-grammar, log_rows-grammar}
 use Rattle.batch_tool.specs.Laws.FirstForms.{rows-grammar, same-statement}
-use Rattle.batch_tool.proofs.Stops.{handed-on, same-stops, then-first, then-second}
+use Rattle.line_format.specs.Laws.Stops.{handed-on, same-stops, then-first, then-second}
 use Rattle.batch_tool.proofs.first_form.SwapStatementItem.read.Goals as goal
 
 pub returns-in_err-number : goal.returns-in_err-number

@@ -2,7 +2,7 @@ use Rattle.std.proofs.Common.{lit<}
 use Rattle.batch_tool.specs.declared.job.TheConstants.{MOST_LOG_ROWS}
 use Rattle.batch_tool.specs.Job.{JobWithin, job_words}
 use Rattle.batch_tool.specs.Laws.Jobs.{one-grammar, swap-grammar, same-job}
-use Rattle.batch_tool.proofs.Stops.{handed-on, same-stops, then-first, then-second}
+use Rattle.line_format.specs.Laws.Stops.{handed-on, same-stops, then-first, then-second}
 use Rattle.batch_tool.proofs.job.JobItem.read.Goals as goal
 
 pub returns-in_err-number : goal.returns-in_err-number

@@ -1,9 +1,9 @@
 use Rattle.std.proofs.Common.{lit<}
 use Rattle.batch_tool.specs.declared.job.TheConstants.{MOST_LOG_ROWS}
 use Rattle.batch_tool.specs.Job.{SwapWithin, swap_words}
-use Rattle.batch_tool.specs.Laws.Grammars.{element-grammar, two-grammar}
+use Rattle.line_format.specs.Laws.Grammars.{element-grammar, two-grammar}
 use Rattle.batch_tool.specs.Laws.Jobs.{one-grammar, log_rows-grammar, size-grammar, same-swap}
-use Rattle.batch_tool.proofs.Stops.{handed-on, same-stops, then-first, then-second}
+use Rattle.line_format.specs.Laws.Stops.{handed-on, same-stops, then-first, then-second}
 use Rattle.batch_tool.proofs.job.SwapTableItem.read.Goals as goal
 
 pub returns-in_err-number : goal.returns-in_err-number

@@ -1,0 +1,120 @@
+-- The line of a text's fault.
+use Rattle.std.proofs.Common.{◌≡◌, ℕ, ◌+◌, ◌-◌, ◌<◌, ◌≤◌, List, [], ◌∷◌, ◌++◌, length, take, sym, ◌∙◌, ap, subst, arith, append_assoc, refl, Bool, false}
+use Rattle.std.specs.Prelude.{decimal, count_by, ◌==◌}
+use Rattle.std.proofs.lemmas.Grind.{common_steps}
+use Rattle.std.proofs.lemmas.List.{nil_from_length, append-nil}
+use Rattle.line_format.specs.Texts.{line_text, Reads, Stops, Small, Grammar}
+use Rattle.line_format.specs.WholeText.{Begins, IsFaultLine, IsNoText}
+use Rattle.line_format.specs.Laws.Lines.{Longer, lines-tell}
+use Rattle.line_format.proofs.Lines.{small-front, count-read}
+
+nothing-behind : (n : ℕ) (xs ys : List ℕ) → [] ≡ xs ++ n ∷ ys → ⊥
+nothing-behind n xs ys e = let l : 0 ≡ length (xs ++ n ∷ ys) = ap (λ (t : List ℕ). length t) e in grind (arith, common_steps, l)
+
+begins-small : {A : Type 0} {within : A → Type 0} {words : A → List ℕ} → Grammar within words → (lines : List ℕ) → Begins within words lines → Small lines
+begins-small g lines b = small-front lines b.missing (subst (λ (l : List ℕ). Small l) b.begins (g.small b.some b.fits))
+
+begins-whole : {A : Type 0} {within : A → Type 0} {words : A → List ℕ} (v : A) → within v → Begins within words (words v)
+begins-whole {A} {within} {words} v fits = record { some = v; fits = fits; missing = []; begins = sym (append-nil (words v)) }
+
+begins-stop : {A : Type 0} {within : A → Type 0} {words : A → List ℕ} {bytes new : List ℕ} → (s : Stops within words bytes new) → Begins within words s.read
+begins-stop s = record { some = s.some; fits = s.some_fits; missing = s.next ∷ s.missing; begins = s.begins }
+
+longer-stops : {A : Type 0} {within : A → Type 0} {words : A → List ℕ} {bytes new : List ℕ} (s : Stops within words bytes new) (more after : List ℕ)
+    → Begins within words more → Longer s.read more new after → length s.read < length more → ⊥
+longer-stops {A} {within} {words} {bytes} {new} s more after m t h = go t.more t.numbers t.text
+  where
+    go : (zs : List ℕ) → more ≡ s.read ++ zs → new ≡ line_text zs ++ after → ⊥
+    go [] e f = let l : length more ≡ length s.read = ap (λ (k : List ℕ). length k) (e ∙ append-nil s.read) in omega (arith, l, h)
+    go (n ∷ zs) e f = s.stuck n (line_text zs ++ after) (f ∙ append_assoc (decimal n) (10 ∷ line_text zs) after) m.some m.fits [] (zs ++ m.missing)
+        (append-nil (words m.some) ∙ (m.begins ∙ (ap (λ (l : List ℕ). l ++ m.missing) e ∙ append_assoc s.read (n ∷ zs) m.missing)))
+
+-- where the reading stopped
+pub stop-is-fault : {A : Type 0} {within : A → Type 0} {words : A → List ℕ} {bytes new : List ℕ} → Grammar within words → (s : Stops within words bytes new)
+    → IsFaultLine within words bytes (length s.read + 1)
+stop-is-fault {A} {within} {words} {bytes} {new} g s =
+    let b : Begins within words s.read = begins-stop s in
+    record {
+      lines = s.read;
+      rest = new;
+      text = s.text;
+      begins = b;
+      number = refl;
+      greatest = λ more after e m.
+          let far : length s.read < length more → ⊥ = λ h.
+          let t = lines-tell s.read more new after (begins-small g s.read b) (begins-small g more m) (omega arith) (sym s.text ∙ e) in
+          longer-stops s more after m t h in
+          grind (arith, far);
+    }
+
+-- what stopped is no text
+pub stop-is-no-text : {A : Type 0} {within : A → Type 0} {words : A → List ℕ} {bytes new : List ℕ} → Grammar within words → Stops within words bytes new → IsNoText within words bytes
+unfolding stop-is-fault
+stop-is-no-text {A} {within} {words} {bytes} {new} g s v fits e =
+    let fault = stop-is-fault g s in
+    let text : bytes ≡ line_text (words v) ++ [] = e ∙ sym (append-nil (line_text (words v))) in
+    let short : length (words v) ≤ length s.read = fault.greatest (words v) [] text (begins-whole v fits) in
+    let t = lines-tell (words v) s.read [] new (g.small v fits) (begins-small g s.read fault.begins) short (sym text ∙ s.text) in
+    let same : words s.some ++ [] ≡ words v ++ (t.more ++ s.next ∷ s.missing)
+    = append-nil (words s.some) ∙ (s.begins ∙ (ap (λ (l : List ℕ). l ++ s.next ∷ s.missing) t.numbers ∙ append_assoc (words v) t.more (s.next ∷ s.missing))) in
+    nothing-behind s.next t.more s.missing (g.tells s.some v [] (t.more ++ s.next ∷ s.missing) s.some_fits fits same).1
+
+longer-reads : {A : Type 0} {within : A → Type 0} {words : A → List ℕ} → Grammar within words → (new : List ℕ) (v : A) → within v → (more after : List ℕ)
+    → Begins within words more → Longer (words v) more new after → length (words v) < length more → ⊥
+longer-reads {A} {within} {words} g new v fits more after m t h = go t.more t.numbers
+  where
+    go : (zs : List ℕ) → more ≡ words v ++ zs → ⊥
+    go [] e = let l : length more ≡ length (words v) = ap (λ (k : List ℕ). length k) (e ∙ append-nil (words v)) in omega (arith, l, h)
+    go (n ∷ zs) e =
+        let same : words m.some ++ [] ≡ words v ++ (n ∷ (zs ++ m.missing))
+        = append-nil (words m.some) ∙ (m.begins ∙ (ap (λ (l : List ℕ). l ++ m.missing) e ∙ append_assoc (words v) (n ∷ zs) m.missing)) in
+        nothing-behind n [] (zs ++ m.missing) (g.tells m.some v [] (n ∷ (zs ++ m.missing)) m.fits fits same).1
+
+-- where something stands behind a text
+pub rest-is-fault : {A : Type 0} {within : A → Type 0} {words : A → List ℕ} {bytes new : List ℕ} {v : A} → Grammar within words → Reads within words bytes new v
+    → IsFaultLine within words bytes (length (words v) + 1)
+rest-is-fault {A} {within} {words} {bytes} {new} {v} g r = record {
+  lines = words v;
+  rest = new;
+  text = r.text;
+  begins = begins-whole v r.fits;
+  number = refl;
+  greatest = λ more after e m.
+      let far : length (words v) < length more → ⊥ = λ h.
+      let t = lines-tell (words v) more new after (g.small v r.fits) (begins-small g more m) (omega arith) (sym r.text ∙ e) in
+      longer-reads g new v r.fits more after m t h in
+      grind (arith, far);
+}
+
+-- what has something behind it is no text
+pub rest-is-no-text : {A : Type 0} {within : A → Type 0} {words : A → List ℕ} {bytes new : List ℕ} {v : A} → Grammar within words → Reads within words bytes new v
+    → (new ≡ [] → ⊥) → IsNoText within words bytes
+unfolding rest-is-fault
+rest-is-no-text {A} {within} {words} {bytes} {new} {v} g r some w fits e =
+    let fault = rest-is-fault g r in
+    let text : bytes ≡ line_text (words w) ++ [] = e ∙ sym (append-nil (line_text (words w))) in
+    let short : length (words w) ≤ length (words v) = fault.greatest (words w) [] text (begins-whole w fits) in
+    let t = lines-tell (words w) (words v) [] new (g.small w fits) (g.small v r.fits) short (sym text ∙ r.text) in
+    let l : 0 ≡ length (line_text t.more ++ new) = ap (λ (k : List ℕ). length k) t.text in
+    some (nil_from_length new (grind (arith, common_steps, l)))
+
+-- the fault by the number of the line behind the lines that were read
+pub stop-faults : {A : Type 0} {within : A → Type 0} {words : A → List ℕ} {old new : List ℕ} (bytes rest : List ℕ) (line : ℕ) → old ≡ bytes → rest ≡ new
+    → Grammar within words → Stops within words old new
+    → line ≡ count_by (λ b. b == 10) (take (length bytes - length rest) bytes) + 1 → IsNoText within words bytes × IsFaultLine within words bytes line
+stop-faults {A} {within} {words} {old} {new} bytes rest line from to g stop e =
+    let s : Stops within words bytes rest = subst (λ (b : List ℕ). Stops within words b rest) from (subst (λ (b : List ℕ). Stops within words old b) (sym to) stop) in
+    let n : line ≡ length s.read + 1 = omega (arith, e, count-read bytes rest s.read s.text (begins-small g s.read (begins-stop s))) in
+    (stop-is-no-text g s, rw n (stop-is-fault g s))
+
+pub rest-faults : {A : Type 0} {within : A → Type 0} {words : A → List ℕ} {old new : List ℕ} {v : A} (bytes rest : List ℕ) (line : ℕ) → old ≡ bytes → rest ≡ new
+    → Grammar within words → Reads within words old new v → (new ≡ [] → ⊥)
+    → line ≡ count_by (λ b. b == 10) (take (length bytes - length rest) bytes) + 1 → IsNoText within words bytes × IsFaultLine within words bytes line
+rest-faults {A} {within} {words} {old} {new} {v} bytes rest line from to g read some e =
+    let r : Reads within words bytes rest v = subst (λ (b : List ℕ). Reads within words b rest v) from (subst (λ (b : List ℕ). Reads within words old b v) (sym to) read) in
+    let n : line ≡ length (words v) + 1 = omega (arith, e, count-read bytes rest (words v) r.text (g.small v r.fits)) in
+    (rest-is-no-text g r (λ none. some (sym to ∙ none)), rw n (rest-is-fault g r))
+
+-- a test of emptiness
+pub not-empty : (new rest : List ℕ) (b : Bool) → rest ≡ new → b ≡ (length rest == 0) → b ≡ false → new ≡ [] → ⊥
+not-empty new rest b to e f n = let l : length rest ≡ 0 = ap (λ (t : List ℕ). length t) (to ∙ n) in grind (arith, common_steps, e, f, l)

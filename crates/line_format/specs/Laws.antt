@@ -1,0 +1,6 @@
+-- What is proved of the definitions, by subject.
+pub mod FixedParts
+pub mod Grammars
+pub mod Lines
+pub mod Prints
+pub mod Stops

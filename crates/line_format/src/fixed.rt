@@ -1,0 +1,35 @@
+//! Reading parts of a text that the caller knows: numbers that are always the same, and lists whose length no line tells.
+
+ghost use Rattle.line_format.specs.Texts.{ReadsKnown, ReadsList, ItemsWithin, Unlimited};
+ghost use Rattle.line_format.specs.Fixed.{fixed_words, headed_words};
+
+use crate::items::{Item, read_items};
+use crate::texts::{ItemError, Reader};
+use std::alloc::Global;
+
+/// Reads these numbers, a line for each.
+///
+/// It is `Malformed` exactly where the text's front is not their lines.
+pub fn read_fixed(reader: &mut Reader, numbers: &[u32]) -> Result<(), ItemError>
+    ensures { ReadsKnown Unlimited (fixed_words numbers.now) reader.old reader.new result }
+{
+    for number in numbers {
+        reader.number(*number, *number)?;
+    }
+    Ok(())
+}
+
+/// Reads the numbers of `head`, and then `count` values.
+///
+/// It is `Malformed` exactly where the text's front is not the lines of these numbers and the text of so many values.
+pub fn read_headed<T: Item>(
+    alloc: Global,
+    reader: &mut Reader,
+    head: &[u32],
+    count: usize,
+) -> Result<Vec<T>, ItemError>
+    ensures { ReadsList (ItemsWithin count T.within) (headed_words head.now T.words) reader.old reader.new result }
+{
+    read_fixed(reader, head)?;
+    read_items(alloc, reader, count)
+}

@@ -1,0 +1,50 @@
+//! A whole text, from its first byte to its last.
+
+ghost use Rattle.std.specs.Prelude.{◌≡◌, ◌+◌, ◌==◌, count_by};
+ghost use Rattle.line_format.specs.WholeText.{ReadsText};
+
+use crate::items::Item;
+use crate::texts::{ItemError, Reader};
+use std::alloc::Global;
+
+/// Why bytes are no text.
+#[derive(Clone, Copy, Debug, PartialEq, Eq)]
+pub enum TextError {
+    /// The bytes are no value's text. `line` is one more than the greatest number of whole lines at their start that
+    /// begin some value's text.
+    Malformed { line: u64 },
+    /// Memory was wanting.
+    OutOfMemory,
+}
+
+/// Reads the one value whose text the bytes are, from the first to the last.
+///
+/// It is `Malformed` exactly where they are no value's text.
+pub fn read_text<T: Item>(alloc: Global, bytes: &[u8]) -> Result<T, TextError>
+    ensures { ReadsText T.within T.words bytes.now result }
+{
+    let mut reader = Reader::new(bytes);
+    match T::read(alloc, &mut reader) {
+        Ok(value) => {
+            if reader.rest().is_empty() {
+                return Ok(value);
+            }
+        }
+        Err(ItemError::OutOfMemory) => return Err(TextError::OutOfMemory),
+        Err(ItemError::Malformed) => {}
+    }
+    let read = bytes.len() - reader.rest().len();
+    Err(TextError::Malformed {
+        line: line_behind(&bytes[..read]),
+    })
+}
+
+/// The number of the line behind these whole lines, counted from 1.
+fn line_behind(lines: &[u8]) -> u64
+    ensures { result ≡ count_by (λ b. b == 10) lines.now + 1 }
+{
+    lines.iter().filter(|byte| **byte == b'\n').count() as u64 + 1
+}
+
+#[cfg(test)]
+mod tests;
