@@ -2,7 +2,6 @@ pub mod Answer
 pub mod BatchScript
 pub mod Causes
 pub mod Committed
-pub mod Checks
 pub mod FileAnswer
 pub mod FirstForm
 pub mod Fixed
