@@ -10,17 +10,18 @@ use Rattle.p3_field.specs.declared.quartic.QuarticExtension.{QuarticExtension}
 use Rattle.p3_matrix.specs.Matrix.{Rows}
 use Rattle.p3_commit.specs.Claims.{PointClaim, CommitmentClaim}
 use Rattle.plain_pcs.specs.Scheme.{PlainCommitmentData}
-use Rattle.plain_pcs.specs.Checks.{Check, Fact, same_count, dimensions, low_degree, has_value, Holds, HasDimensions, NoneFails, FirstFails, Opens, Fault, checks as scheme_checks, round_checks as scheme_round}
+use Rattle.plain_pcs.specs.Checks.{HasDimensions, HasLowDegree as LowDegree, HasValue, degree_check as scheme_degree, value_check as scheme_value, point_checks as scheme_point, round_checks as scheme_round, checks as scheme_checks, Opens, Fault}
 use Rattle.plain_pcs.specs.declared.error.PlainError.{PlainError}
 use Rattle.plain_pcs.specs.declared.error.PlainError.TheVariants.{RoundShape, Dimensions, Degree, Value}
-use Rattle.batch_tool.specs.Checks.{FirstFailing}
+use Rattle.p3_field.specs.Checks.{Check, check, NoneFails, FirstFails, FirstRefusal, in_turn, of_items}
+use Rattle.p3_field.specs.Laws.Checks.{none_append, none_before, none_behind, first_stops, first_after, first_parted}
 use Rattle.batch_tool.specs.FirstForm.{IsSwapShape}
 use Rattle.batch_tool.specs.Honest.{Instance, next_point}
 use Rattle.batch_tool.specs.Opening.{plain_scheme, trace_claim, quotient_claim}
 use Rattle.batch_tool.specs.Proof.{ProofData}
 use Rattle.batch_tool.specs.Swap.{swap_stated}
 use Rattle.batch_tool.specs.Tool.{tool}
-use Rattle.batch_tool.specs.Verify.{Meets, round_checks, main_of, quotient_of, local_opened, next_opened, chunk_opened, zeta_drawn}
+use Rattle.batch_tool.specs.Verify.{degree_check, value_check, point_checks, round_checks, opening_checks, committed, main_of, quotient_of, local_opened, next_opened, chunk_opened, zeta_drawn}
 use Rattle.batch_tool.specs.declared.refusal.Refusal.{Refusal}
 use Rattle.batch_tool.specs.declared.refusal.Refusal.TheVariants.{InvalidOpeningArgument}
 use Rattle.batch_tool.proofs.Shapes.{main-alone, quotient-alone, main-width, main-height, quotient-width, quotient-height, local-length, next-length, chunk-length}
@@ -33,55 +34,58 @@ Claims = CommitmentClaim QuarticExtension (PlainCommitmentData BabyBear) (CosetD
 abbrev alone : Rows BabyBear → PlainCommitmentData BabyBear
 alone m = record { matrices = m ∷ [] }
 
--- a check of the program's scheme, and that it doesn't fail
-abbrev SchemeCheck : Type 0
-SchemeCheck = Check BabyBear QuarticExtension
+-- one claim for one matrix
+abbrev OneEach : Type 0
+OneEach = let one : ℕ = 1 in one ≡ one
 
-abbrev Passes : Fact BabyBear QuarticExtension → Type 0
-Passes fact = Holds plain_scheme quartic_ring of_bear_value fact
+-- Where no check of the scheme fails, no check of the verifier does, and the first fault of the scheme is the verifier's.
+record Follows (cs : List (Check PlainError)) (rs : List (Check Refusal)) : Type 0 where
+  none : NoneFails cs → NoneFails rs
+  first : (e : PlainError) → FirstFails cs e → FirstFails rs (InvalidOpeningArgument e)
 
--- The refusals' checks are the scheme's in the same order, but for some of the scheme's that hold.
-data Follows (H : Refusal → Type 0) : List SchemeCheck → List Refusal → Type 0 where
-  ended : Follows H [] []
-  held : (c : SchemeCheck) {cs : List SchemeCheck} {rs : List Refusal} → Passes c.fact → Follows H cs rs → Follows H (c ∷ cs) rs
-  listed : (c : SchemeCheck) {cs : List SchemeCheck} {rs : List Refusal} → Passes c.fact ↔ H (InvalidOpeningArgument c.error) → Follows H cs rs
-      → Follows H (c ∷ cs) (InvalidOpeningArgument c.error ∷ rs)
+follow-none : Follows [] []
+unfolding NoneFails FirstFails
+follow-none = record { none = λ n. n; first = λ e f. absurd f }
 
-module _ (H : Refusal → Type 0) where
-  follow-both : {cs ds : List SchemeCheck} {rs ss : List Refusal} → Follows H cs rs → Follows H ds ss → Follows H (cs ++ ds) (rs ++ ss)
-  follow-both ended g = g
-  follow-both (held c h f) g = held c h (follow-both f g)
-  follow-both (listed c h f) g = listed c h (follow-both f g)
+follow-both : (cs ds : List (Check PlainError)) (rs ss : List (Check Refusal)) → Follows cs rs → Follows ds ss → Follows (cs ++ ds) (rs ++ ss)
+follow-both cs ds rs ss f g = record {
+  none = λ n. none_append rs ss (f.none (none_before cs ds n)) (g.none (none_behind cs ds n));
+  first = λ e h. elim (first_parted cs ds e h) [
+    | inl t ↦ first_stops rs ss (InvalidOpeningArgument e) (f.first e t)
+    | inr t ↦ first_after rs ss (InvalidOpeningArgument e) (f.none t.0) (g.first e t.1)
+  ];
+}
 
-  follow-alone : {cs : List SchemeCheck} {rs : List Refusal} → Follows H cs rs → Follows H (cs ++ []) rs
-  follow-alone ended = ended
-  follow-alone (held c h f) = held c h (follow-alone f)
-  follow-alone (listed c h f) = listed c h (follow-alone f)
+-- a check of the scheme's that holds, before others
+follow-held : (c : Check PlainError) (cs : List (Check PlainError)) (rs : List (Check Refusal)) → c.holds → Follows cs rs → Follows (c ∷ cs) rs
+unfolding NoneFails FirstFails
+follow-held c cs rs h f = record {
+  none = λ n. f.none n.1;
+  first = λ e g. elim g [ inl t ↦ f.first e t.1 | inr t ↦ absurd (t.0 h) ];
+}
 
-  follow-table : (n : ℕ) (e : ℕ → PlainError) (f : ℕ → Fact BabyBear QuarticExtension) → ((j : ℕ) → Passes (f j) ↔ H (InvalidOpeningArgument (e j)))
-      → Follows H (table n (λ j. record { error = e j; fact = f j })) (table n (λ j. InvalidOpeningArgument (e j)))
-  follow-table zero e f h = ended
-  follow-table (suc n) e f h = listed (record { error = e 0; fact = f 0 }) (h 0) (follow-table n (λ i. e (suc i)) (λ i. f (suc i)) (λ i. h (suc i)))
+nothing-fails : (e : PlainError) → FirstFails [] e → ⊥
+unfolding FirstFails
+nothing-fails e f = f
 
-  -- the answers by the one list are those by the other
-  none-fails : {cs : List SchemeCheck} {rs : List Refusal} → Follows H cs rs → NoneFails plain_scheme quartic_ring of_bear_value cs → FirstFailing H rs None
-  unfolding FirstFailing
-  none-fails ended n = tt
-  none-fails (held c h f) n = none-fails f (λ i d k. n (suc i) d (omega arith))
-  none-fails (listed c h f) n = inl (h.0 (n 0 c (omega arith)), none-fails f (λ i d k. n (suc i) d (omega arith)))
+follow-alone : (cs : List (Check PlainError)) (rs : List (Check Refusal)) → Follows cs rs → Follows (cs ++ []) rs
+follow-alone cs rs f = record {
+  none = λ n. f.none (none_before cs [] n);
+  first = λ e h. elim (first_parted cs [] e h) [ inl t ↦ f.first e t | inr t ↦ absurd (nothing-fails e t.1) ];
+}
 
-  first-fails : {cs : List SchemeCheck} {rs : List Refusal} (e : PlainError) → Follows H cs rs → FirstFails plain_scheme quartic_ring of_bear_value cs e
-      → FirstFailing H rs (Some (InvalidOpeningArgument e))
-  unfolding FirstFailing FirstFails
-  first-fails e ended f = absurd f
-  first-fails e (held c h g) f = elim f [
-    | inl t ↦ first-fails e g t.1
-    | inr t ↦ absurd (t.0 h)
-  ]
-  first-fails e (listed c h g) f = elim f [
-    | inl t ↦ inl (h.0 t.0, first-fails e g t.1)
-    | inr t ↦ inr (λ q. t.0 (h.1 q), ap (λ d. Some (InvalidOpeningArgument d)) t.1)
-  ]
+-- one check of each, of the same
+follow-one : (e : PlainError) (P : Type 0) → Follows (check e P ∷ []) (check (InvalidOpeningArgument e) P ∷ [])
+unfolding NoneFails FirstFails
+follow-one e P = record {
+  none = λ n. n;
+  first = λ g f. elim f [ inl t ↦ absurd t.1 | inr t ↦ inr (t.0, ap InvalidOpeningArgument t.1) ];
+}
+
+follow-turns : (n : ℕ) (f : ℕ → List (Check PlainError)) (g : ℕ → List (Check Refusal)) → ((j : ℕ) → Follows (f j) (g j)) → Follows (in_turn n f) (in_turn n g)
+unfolding in_turn
+follow-turns zero f g h = follow-none
+follow-turns (suc n) f g h = follow-both (in_turn n f) (f n) (in_turn n g) (g n) (follow-turns n f g h) (h n)
 
 -- a property of one or two items, of each
 all-one : {A : Type 0} (P : A → Type 0) (x : A) → P x → All P (x ∷ [])
@@ -95,9 +99,6 @@ all-two P x y p q (suc i) d h = all-one P y q i d (omega arith)
 module _ (k : ℕ) (a b x : BabyBear) (p : ProofData BabyBear QuarticExtension) (small : k ≤ 10) (shape : IsSwapShape k p) where
   abbrev swap : Instance BabyBear
   swap = swap_stated k a b x
-
-  abbrev met : Refusal → Type 0
-  met = Meets tool swap p
 
   -- what is claimed of the trace, and of the quotient
   abbrev local_claim : PointClaim QuarticExtension
@@ -142,49 +143,71 @@ module _ (k : ℕ) (a b x : BabyBear) (p : ProofData BabyBear QuarticExtension) 
     widths_are = all-one (λ c. length c.values ≡ (quotient_of p).width) chunk_claim (chunk-length p.instances shape.instances ∙ sym (quotient-width k p shape));
   }
 
-  trace-follows : Follows met (scheme_round quartic_ring.zero (0, trace_claim k (alone (main_of p)) local_claim next_claim)) (round_checks 0 2 2)
-  unfolding tool swap_stated
+  abbrev scheme_degrees : (round : ℕ) → Rows BabyBear → List (Check PlainError)
+  scheme_degrees round m = in_turn m.width (scheme_degree plain_scheme quartic_ring of_bear_value round 0 m k)
+
+  abbrev scheme_values : (round : ℕ) → Rows BabyBear → ℕ → PointClaim QuarticExtension → List (Check PlainError)
+  scheme_values round m at claim = scheme_point plain_scheme quartic_ring of_bear_value round 0 m k at claim
+
+  trace-follows : Follows (scheme_round plain_scheme quartic_ring of_bear_value 0 (trace_claim k (alone (main_of p)) local_claim next_claim)) (round_checks tool swap p 0 2 2)
+  unfolding tool swap_stated of_items in_turn
   trace-follows =
       let m = main_of p in
-      let P : ℕ → Type 0 = λ w. Follows met (scheme_round quartic_ring.zero (0, trace_claim k (alone m) local_claim next_claim)) (round_checks 0 w 2) in
+      let w = m.width in
+      let points : List (Check PlainError) = scheme_values 0 m 0 local_claim ++ (scheme_values 0 m 1 next_claim ++ []) in
+      let all : List (Check PlainError) =
+      check (Dimensions 0 0) (HasDimensions plain_scheme quartic_ring of_bear_value m (record { domain = record { shift = bear_ring.one; log_size = k }; points = local_claim ∷ next_claim ∷ [] }))
+      ∷ (scheme_degrees 0 m ++ points) in
+      let P : ℕ → Type 0 = λ w. Follows (check (RoundShape 0) OneEach ∷ (all ++ [])) (round_checks tool swap p 0 w 2) in
       subst P (main-width k p shape)
-      (held (record { error = RoundShape 0; fact = same_count 1 1 }) refl
-      (follow-alone met
-      (held (record { error = Dimensions 0 0; fact = dimensions m (record { domain = record { shift = bear_ring.one; log_size = k }; points = local_claim ∷ next_claim ∷ [] }) }) trace-fits
-      (follow-both met (follow-table met m.width (λ j. Degree 0 0 j) (λ j. low_degree m k j) (λ j. (λ h. h, λ h. h)))
-      (follow-both met
-      (follow-table met m.width (λ j. Value 0 0 0 j) (λ j. has_value m k j local_claim.point (get_or local_claim.values j quartic_ring.zero)) (λ j. (λ h. h, λ h. h)))
-      (follow-both met
-      (follow-table met m.width (λ j. Value 0 0 1 j) (λ j. has_value m k j next_claim.point (get_or next_claim.values j quartic_ring.zero)) (λ j. (λ h. h, λ h. h)))
-      ended))))))
+      (follow-held (check (RoundShape 0) OneEach) (all ++ []) (round_checks tool swap p 0 w 2) refl
+      (follow-alone all (round_checks tool swap p 0 w 2)
+      (follow-held (check (Dimensions 0 0) (HasDimensions plain_scheme quartic_ring of_bear_value m (record { domain = record { shift = bear_ring.one; log_size = k }; points = local_claim ∷ next_claim ∷ [] })))
+      (scheme_degrees 0 m ++ points) (round_checks tool swap p 0 w 2) trace-fits
+      (follow-both (scheme_degrees 0 m) points (in_turn w (degree_check tool swap p 0)) (point_checks tool swap p 0 w 0 ++ point_checks tool swap p 0 w 1)
+      (follow-turns w (scheme_degree plain_scheme quartic_ring of_bear_value 0 0 m k) (degree_check tool swap p 0)
+      (λ j. follow-one (Degree 0 0 j) (LowDegree plain_scheme quartic_ring of_bear_value m k j)))
+      (follow-both (scheme_values 0 m 0 local_claim) (scheme_values 0 m 1 next_claim ++ []) (point_checks tool swap p 0 w 0) (point_checks tool swap p 0 w 1)
+      (follow-turns w (scheme_value plain_scheme quartic_ring of_bear_value 0 0 m k 0 local_claim) (value_check tool swap p 0 0)
+      (λ j. follow-one (Value 0 0 0 j) (HasValue plain_scheme quartic_ring of_bear_value m k j local_claim.point (get_or local_claim.values j quartic_ring.zero))))
+      (follow-alone (scheme_values 0 m 1 next_claim) (point_checks tool swap p 0 w 1)
+      (follow-turns w (scheme_value plain_scheme quartic_ring of_bear_value 0 0 m k 1 next_claim) (value_check tool swap p 0 1)
+      (λ j. follow-one (Value 0 0 1 j) (HasValue plain_scheme quartic_ring of_bear_value m k j next_claim.point (get_or next_claim.values j quartic_ring.zero))))))))))
 
-  quotient-follows : Follows met (scheme_round quartic_ring.zero (1, quotient_claim k (alone (quotient_of p)) chunk_claim)) (round_checks 1 4 1)
-  unfolding tool swap_stated
+  quotient-follows : Follows (scheme_round plain_scheme quartic_ring of_bear_value 1 (quotient_claim k (alone (quotient_of p)) chunk_claim)) (round_checks tool swap p 1 4 1)
+  unfolding tool swap_stated of_items in_turn
   quotient-follows =
       let m = quotient_of p in
-      let P : ℕ → Type 0 = λ w. Follows met (scheme_round quartic_ring.zero (1, quotient_claim k (alone m) chunk_claim)) (round_checks 1 w 1) in
+      let w = m.width in
+      let points : List (Check PlainError) = scheme_values 1 m 0 chunk_claim ++ [] in
+      let all : List (Check PlainError) =
+      check (Dimensions 1 0) (HasDimensions plain_scheme quartic_ring of_bear_value m (record { domain = record { shift = reduce 31; log_size = k }; points = chunk_claim ∷ [] }))
+      ∷ (scheme_degrees 1 m ++ points) in
+      let P : ℕ → Type 0 = λ w. Follows (check (RoundShape 1) OneEach ∷ (all ++ [])) (round_checks tool swap p 1 w 1) in
       subst P (quotient-width k p shape)
-      (held (record { error = RoundShape 1; fact = same_count 1 1 }) refl
-      (follow-alone met
-      (held (record { error = Dimensions 1 0; fact = dimensions m (record { domain = record { shift = reduce 31; log_size = k }; points = chunk_claim ∷ [] }) }) quotient-fits
-      (follow-both met (follow-table met m.width (λ j. Degree 1 0 j) (λ j. low_degree m k j) (λ j. (λ h. h, λ h. h)))
-      (follow-both met
-      (follow-table met m.width (λ j. Value 1 0 0 j) (λ j. has_value m k j chunk_claim.point (get_or chunk_claim.values j quartic_ring.zero)) (λ j. (λ h. h, λ h. h)))
-      ended)))))
+      (follow-held (check (RoundShape 1) OneEach) (all ++ []) (round_checks tool swap p 1 w 1) refl
+      (follow-alone all (round_checks tool swap p 1 w 1)
+      (follow-held (check (Dimensions 1 0) (HasDimensions plain_scheme quartic_ring of_bear_value m (record { domain = record { shift = reduce 31; log_size = k }; points = chunk_claim ∷ [] })))
+      (scheme_degrees 1 m ++ points) (round_checks tool swap p 1 w 1) quotient-fits
+      (follow-both (scheme_degrees 1 m) points (in_turn w (degree_check tool swap p 1)) (point_checks tool swap p 1 w 0)
+      (follow-turns w (scheme_degree plain_scheme quartic_ring of_bear_value 1 0 m k) (degree_check tool swap p 1)
+      (λ j. follow-one (Degree 1 0 j) (LowDegree plain_scheme quartic_ring of_bear_value m k j)))
+      (follow-alone (scheme_values 1 m 0 chunk_claim) (point_checks tool swap p 1 w 0)
+      (follow-turns w (scheme_value plain_scheme quartic_ring of_bear_value 1 0 m k 0 chunk_claim) (value_check tool swap p 1 0)
+      (λ j. follow-one (Value 1 0 0 j) (HasValue plain_scheme quartic_ring of_bear_value m k j chunk_claim.point (get_or chunk_claim.values j quartic_ring.zero)))))))))
 
-  all-follow : Follows met (scheme_checks quartic_ring.zero claims_of) (round_checks 0 2 2 ++ round_checks 1 4 1)
-  unfolding scheme_checks
-  all-follow = follow-both met trace-follows (follow-alone met quotient-follows)
+  all-follow : Follows (scheme_checks plain_scheme quartic_ring of_bear_value claims_of) (opening_checks tool swap p)
+  unfolding scheme_checks of_items
+  all-follow =
+      let trace = scheme_round plain_scheme quartic_ring of_bear_value 0 (trace_claim k (alone (main_of p)) local_claim next_claim) in
+      let quotient = scheme_round plain_scheme quartic_ring of_bear_value 1 (quotient_claim k (alone (quotient_of p)) chunk_claim) in
+      follow-both trace (quotient ++ []) (round_checks tool swap p 0 2 2) (round_checks tool swap p 1 4 1) trace-follows (follow-alone quotient (round_checks tool swap p 1 4 1) quotient-follows)
 
   -- the scheme's verifier finds no fault
-  pub opened-as-met : (claims : List Claims) → claims ≡ claims_of
-      → Opens plain_scheme quartic_ring of_bear_value claims → FirstFailing met (round_checks 0 2 2 ++ round_checks 1 4 1) None
-  opened-as-met claims e o =
-      none-fails met all-follow (subst (λ l. Opens plain_scheme quartic_ring of_bear_value l) e o)
+  pub opened-as-met : (claims : List Claims) → claims ≡ claims_of → Opens plain_scheme quartic_ring of_bear_value claims → FirstRefusal (opening_checks tool swap p) None
+  opened-as-met claims e o = all-follow.none (subst (λ l. Opens plain_scheme quartic_ring of_bear_value l) e o)
 
   -- or finds this one first
-  pub fault-as-met : (claims : List Claims) → claims ≡ claims_of
-      → (fault : PlainError) → Fault plain_scheme quartic_ring of_bear_value claims fault
-      → FirstFailing met (round_checks 0 2 2 ++ round_checks 1 4 1) (Some (InvalidOpeningArgument fault))
-  fault-as-met claims e fault f =
-      first-fails met fault all-follow (subst (λ l. Fault plain_scheme quartic_ring of_bear_value l fault) e f)
+  pub fault-as-met : (claims : List Claims) → claims ≡ claims_of → (fault : PlainError) → Fault plain_scheme quartic_ring of_bear_value claims fault
+      → FirstRefusal (opening_checks tool swap p) (Some (InvalidOpeningArgument fault))
+  fault-as-met claims e fault f = all-follow.first fault (subst (λ l. Fault plain_scheme quartic_ring of_bear_value l fault) e f)

@@ -31,6 +31,7 @@ use Rattle.plain_pcs.specs.Extension.{columns, interpolant, extended_domain, ext
 use Rattle.plain_pcs.specs.Laws.Evaluations.{height-evaluations}
 use Rattle.plain_pcs.specs.Holding.{IsMade, AreHolding}
 use Rattle.plain_pcs.specs.Refusals.{CommitFault, ExtensionsFault}
+use Rattle.plain_pcs.specs.Laws.Listed.{lacking}
 use Rattle.plain_pcs.specs.declared.error.PlainProverError.{PlainProverError}
 use Rattle.plain_pcs.specs.declared.error.PlainProverError.TheVariants.{Commit, Open}
 use Rattle.batch_tool.specs.Plain.{AreInterpolants}
@@ -185,7 +186,8 @@ module _ (d : CosetData BabyBear) (few : d.log_size ≤ 10) (nz : d.shift ≡ be
       turn p one can (Open i) (inr f) = f.1.2
       turn p one can (Commit i) (inl f) =
           let Q : CosetData BabyBear × Rows BabyBear → Type 0 = λ x. IsCommittable plain_scheme x.0 x.1 in
-          f.lacks (subst Q (the_item parts (d, p) f.item i one f.item_is) can)
+          let (x, at, misses) = lacking Q parts i f in
+          misses (subst Q (the_item parts (d, p) x i one at) can)
       turn p one can (Commit i) (inr f) =
           let u = f.1.0 in
           let gives = f.1.1 in
@@ -196,7 +198,8 @@ module _ (d : CosetData BabyBear) (few : d.log_size ≤ 10) (nz : d.shift ≡ be
           let count : length fs ≡ p.width = length-map (columns bear_ring.zero p) (interpolant plain_scheme.field d) ∙ length-table p.width (column bear_ring.zero p) in
           let tall : height l ≡ 2 ^ (d.log_size + 1) = ap height extends.extension_is ∙ height-evaluations plain_scheme.field (extended_domain plain_scheme d.log_size) fs (let h = can.has_columns in omega (arith, count, h)) in
           let H : Rows BabyBear → Type 0 = λ x. (k : ℕ) × (k ≤ 27) × (height x ≡ 2 ^ k) in
-          fault.lacks (subst H (the_item u l fault.item i sole fault.item_is) (d.log_size + 1, omega arith, tall))
+          let (x, at, misses) = lacking H u i fault in
+          misses (subst H (the_item u l x i sole at) (d.log_size + 1, omega arith, tall))
 
   -- and commits to it
   pub chunk-held : (s : Scheme BabyBear) (m : Rows BabyBear) (parts : List (CosetData BabyBear × Rows BabyBear)) (w : PlainCommitmentData BabyBear × List (CosetData BabyBear × Rows BabyBear))

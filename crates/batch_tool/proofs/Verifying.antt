@@ -1,42 +1,57 @@
 -- The first check of a proof that fails, from its parts.
-use Rattle.std.proofs.Common.{◌≡◌, Bool, true, false, List, [], ◌∷◌, ◌++◌, Option, Some, None, sym, ◌∙◌, subst}
-use Rattle.batch_tool.specs.Checks.{FirstFailing}
+use Rattle.std.proofs.Common.{◌≡◌, Bool, true, false, List, [], ◌∷◌, ◌++◌, Option, Some, None, inl, inr, refl, sym, ◌∙◌, subst}
+use Rattle.p3_field.specs.Checks.{check, NoneFails, FirstFails, FirstRefusal}
+use Rattle.p3_field.specs.Laws.Checks.{first_here, first_stops, refusal_later, refusal_after}
 use Rattle.p3_field.specs.declared.baby_bear.BabyBear.{BabyBear}
 use Rattle.p3_field.specs.declared.quartic.QuarticExtension.{QuarticExtension}
-use Rattle.batch_tool.specs.Honest.{Instance}
+use Rattle.batch_tool.specs.Honest.{Instance, IsInTraceDomain, witness_passes}
 use Rattle.batch_tool.specs.Proof.{ProofData}
 use Rattle.batch_tool.specs.Tool.{tool}
-use Rattle.batch_tool.specs.Verify.{Meets, round_checks, checks}
+use Rattle.batch_tool.specs.Verify.{main_of, quotient_of, local_opened, next_opened, chunk_opened, alpha_drawn, zeta_drawn, Identity, opening_checks, identity_checks, checks}
 use Rattle.batch_tool.specs.declared.refusal.Refusal.{Refusal}
 use Rattle.batch_tool.specs.declared.refusal.Refusal.TheVariants.{OodPowWitness, OodPointInDomain, OodEvaluationMismatch}
-use Rattle.batch_tool.proofs.Checking.{first-after, first-stops, first-one, first-fails}
 
-abbrev last_checks : List Refusal
-last_checks = OodPointInDomain ∷ OodEvaluationMismatch 0 ∷ []
+module _ (t : Instance BabyBear) (p : ProofData BabyBear QuarticExtension) where
+  abbrev Passes : Type 0
+  Passes = witness_passes tool t (main_of p) (quotient_of p) p.ood_pow_witness ≡ true
 
-module _ (H : Refusal → Type 0) where
-  pub grinding-fails : (H (OodPowWitness 4) → ⊥) → FirstFailing H checks (Some (OodPowWitness 4))
+  pub grinding-fails : (Passes → ⊥) → FirstRefusal (checks tool t p) (Some (OodPowWitness 4))
   unfolding checks
-  grinding-fails n = first-fails H (OodPowWitness 4) (round_checks 0 2 2 ++ round_checks 1 4 1 ++ last_checks) n
+  grinding-fails n = first_here (check (OodPowWitness 4) Passes) (opening_checks tool t p ++ identity_checks tool t p) (OodPowWitness 4) n refl
 
-  pub opening-fails : (r : Refusal) → H (OodPowWitness 4) → FirstFailing H (round_checks 0 2 2 ++ round_checks 1 4 1) (Some r) → FirstFailing H checks (Some r)
+  pub opening-fails : (r : Refusal) → Passes → FirstRefusal (opening_checks tool t p) (Some r) → FirstRefusal (checks tool t p) (Some r)
   unfolding checks
   opening-fails r w f =
-      first-after H (OodPowWitness 4 ∷ []) (round_checks 0 2 2 ++ round_checks 1 4 1 ++ last_checks) (Some r) (first-one H (OodPowWitness 4) w)
-      (first-stops H (round_checks 0 2 2 ++ round_checks 1 4 1) last_checks r f)
+      refusal_later (check (OodPowWitness 4) Passes) (opening_checks tool t p ++ identity_checks tool t p) (Some r) w
+      (first_stops (opening_checks tool t p) (identity_checks tool t p) r f)
 
-  pub last-answers : (a : Option Refusal) → H (OodPowWitness 4) → FirstFailing H (round_checks 0 2 2 ++ round_checks 1 4 1) None
-      → FirstFailing H (OodPointInDomain ∷ OodEvaluationMismatch 0 ∷ []) a → FirstFailing H checks a
+  pub last-answers : (a : Option Refusal) → Passes → FirstRefusal (opening_checks tool t p) None → FirstRefusal (identity_checks tool t p) a → FirstRefusal (checks tool t p) a
   unfolding checks
   last-answers a w f g =
-      first-after H (OodPowWitness 4 ∷ []) (round_checks 0 2 2 ++ round_checks 1 4 1 ++ last_checks) a (first-one H (OodPowWitness 4) w)
-      (first-after H (round_checks 0 2 2 ++ round_checks 1 4 1) last_checks a f g)
+      refusal_later (check (OodPowWitness 4) Passes) (opening_checks tool t p ++ identity_checks tool t p) a w
+      (refusal_after (opening_checks tool t p) (identity_checks tool t p) a f g)
+
+  -- the checks of zeta and of the identity
+  pub inside-fails : IsInTraceDomain tool t (zeta_drawn tool t p) → FirstRefusal (identity_checks tool t p) (Some OodPointInDomain)
+  unfolding FirstFails
+  inside-fails inside = inr (λ outside. outside inside, refl)
+
+  abbrev Holds : Type 0
+  Holds = Identity tool t (alpha_drawn tool t p) (zeta_drawn tool t p) (local_opened p.instances) (next_opened p.instances) (chunk_opened p.instances)
+
+  pub identity-fails : (IsInTraceDomain tool t (zeta_drawn tool t p) → ⊥) → (Holds → ⊥) → FirstRefusal (identity_checks tool t p) (Some (OodEvaluationMismatch 0))
+  unfolding FirstFails
+  identity-fails outside fails = inl (outside, inr (fails, refl))
+
+  pub identity-holds : (IsInTraceDomain tool t (zeta_drawn tool t p) → ⊥) → Holds → FirstRefusal (identity_checks tool t p) None
+  unfolding NoneFails
+  identity-holds outside holds = (outside, (holds, tt))
 
 -- the answer for a proof that is the same
 pub answers-along : (t : Instance BabyBear) (p q : ProofData BabyBear QuarticExtension) (a : Option Refusal) → q ≡ p
-    → FirstFailing (Meets tool t q) checks a → FirstFailing (Meets tool t p) checks a
+    → FirstRefusal (checks tool t q) a → FirstRefusal (checks tool t p) a
 answers-along t p q a e f =
-    let P : ProofData BabyBear QuarticExtension → Type 0 = λ v. FirstFailing (Meets tool t v) checks a in
+    let P : ProofData BabyBear QuarticExtension → Type 0 = λ v. FirstRefusal (checks tool t v) a in
     subst P e f
 
 -- a test's answer, by what it is the answer to

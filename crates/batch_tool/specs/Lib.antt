@@ -1,6 +1,5 @@
 pub mod Answer
 pub mod BatchScript
-pub mod Checks
 pub mod Committed
 pub mod FileAnswer
 pub mod FirstForm

@@ -1,6 +1,7 @@
 -- The checks of a proof of one table, in the verifier's order.
-use Rattle.std.specs.Prelude.{◌≡◌, ℕ, zero, suc, ◌^◌, true, List, [], ◌∷◌, ◌++◌, map, flat_map, get_or, Option, None, Some, ⊤}
-use Rattle.p3_field.specs.Poly.{val_in, table, DegreeBelow}
+use Rattle.std.specs.Prelude.{◌≡◌, ℕ, zero, suc, ◌^◌, true, List, [], ◌∷◌, ◌++◌, map, get_or, Option, None, Some}
+use Rattle.p3_field.specs.Poly.{val_in, DegreeBelow}
+use Rattle.p3_field.specs.Checks.{Check, check, in_turn}
 use Rattle.p3_field.specs.Field.{combine}
 use Rattle.p3_field.specs.Domain.{point, van, IsInterpolant}
 use Rattle.p3_matrix.specs.Matrix.{Rows, column}
@@ -9,7 +10,7 @@ use Rattle.p3_uni_stark.specs.Fold.{fold}
 use Rattle.batch_tool.specs.Reading.{reading_with}
 use Rattle.batch_tool.specs.Proof.{OpenedWithLookups, ProofData}
 use Rattle.batch_tool.specs.Honest.{Configuration, Instance, trace_domain, commitment_domain, alpha, zeta_behind, witness_passes, next_point, IsInTraceDomain}
-use Rattle.plain_pcs.specs.declared.error.PlainError.TheVariants.{RoundShape, Dimensions, Degree, Value}
+use Rattle.plain_pcs.specs.declared.error.PlainError.TheVariants.{Degree, Value}
 use Rattle.batch_tool.specs.declared.refusal.Refusal.{Refusal}
 use Rattle.batch_tool.specs.declared.refusal.Refusal.TheVariants.{OodPowWitness, InvalidOpeningArgument, OodPointInDomain, OodEvaluationMismatch}
 
@@ -40,23 +41,6 @@ next_opened (o ∷ os) = present [] o.base.trace_next
 abbrev pub chunk_opened : {E : Type 0} → List (OpenedWithLookups E) → List E
 chunk_opened [] = []
 chunk_opened (o ∷ os) = only [] o.base.quotient_chunks
-
--- The checks of the plain backend on the one matrix of a round, by what is refused where a check fails: first the columns'
--- degrees, then the columns' values point by point. The form of a proof file fixes how many matrices and values there are, so
--- that no check of these is listed.
-abbrev pub degree_checks : ℕ → ℕ → List Refusal
-degree_checks round columns = table columns (λ j. InvalidOpeningArgument (Degree round 0 j))
-
-abbrev pub value_checks : ℕ → ℕ → ℕ → List Refusal
-value_checks round columns at = table columns (λ j. InvalidOpeningArgument (Value round 0 at j))
-
-abbrev pub round_checks : ℕ → ℕ → ℕ → List Refusal
-round_checks round columns points = degree_checks round columns ++ flat_map (value_checks round columns) (table points (λ at. at))
-
--- The checks of a proof of one table of two columns, by what is refused where a check fails: the grinding before zeta, the
--- backend's on the trace at zeta and at the next point, the backend's on the quotient at zeta, zeta, and the identity.
-unfoldable pub checks : List Refusal
-checks = OodPowWitness 4 ∷ round_checks 0 2 2 ++ round_checks 1 4 1 ++ OodPointInDomain ∷ OodEvaluationMismatch 0 ∷ []
 
 -- the identity at a point, where opened values stand for the columns' values there and at the next point: the constraints' fold by alpha
 -- is Van's value times the quotient's, whose opened values are coefficients over the basis
@@ -95,14 +79,37 @@ module _ {S F E : Type 0} (c : Configuration S F E) (table' : Instance F) (p : P
   claimed zero (suc at) = next_opened p.instances
   claimed (suc round) at = chunk_opened p.instances
 
-  -- what holds where a check doesn't fail; the number of bits is the configuration's, which the refusal only repeats
-  abbrev pub Meets : Refusal → Type 0
-  Meets (OodPowWitness bits) = witness_passes c table' (main_of p) (quotient_of p) p.ood_pow_witness ≡ true
-  -- no list of checks has these two
-  Meets (InvalidOpeningArgument (RoundShape round)) = ⊤
-  Meets (InvalidOpeningArgument (Dimensions round matrix)) = ⊤
-  Meets (InvalidOpeningArgument (Degree round matrix j)) = (f : List F) × IsCommittedColumn round j f × DegreeBelow c.field.ring (2 ^ table'.log_height) f
-  Meets (InvalidOpeningArgument (Value round matrix at j)) =
-      (f : List F) × IsCommittedColumn round j f × (val_in c.extension f (opening_point at) ≡ get_or (claimed round at) j c.extension.ring.zero)
-  Meets OodPointInDomain = IsInTraceDomain c table' zeta_drawn → ⊥
-  Meets (OodEvaluationMismatch index) = Identity c table' alpha_drawn zeta_drawn (local_opened p.instances) (next_opened p.instances) (chunk_opened p.instances)
+  -- The checks of the plain backend on the one matrix of a round: first the columns' degrees, then the columns' values point
+  -- by point. The form of a proof file fixes how many matrices and values there are, so that no check of these is listed.
+  abbrev pub HasLowDegree : (round column : ℕ) → Type 0
+  HasLowDegree round j = (f : List F) × IsCommittedColumn round j f × DegreeBelow c.field.ring (2 ^ table'.log_height) f
+
+  abbrev pub HasClaimedValue : (round at column : ℕ) → Type 0
+  HasClaimedValue round at j = (f : List F) × IsCommittedColumn round j f × (val_in c.extension f (opening_point at) ≡ get_or (claimed round at) j c.extension.ring.zero)
+
+  abbrev pub degree_check : (round column : ℕ) → List (Check Refusal)
+  degree_check round j = check (InvalidOpeningArgument (Degree round 0 j)) (HasLowDegree round j) ∷ []
+
+  abbrev pub value_check : (round at column : ℕ) → List (Check Refusal)
+  value_check round at j = check (InvalidOpeningArgument (Value round 0 at j)) (HasClaimedValue round at j) ∷ []
+
+  abbrev pub point_checks : (round columns at : ℕ) → List (Check Refusal)
+  point_checks round columns at = in_turn columns (value_check round at)
+
+  abbrev pub round_checks : (round columns points : ℕ) → List (Check Refusal)
+  round_checks round columns points = in_turn columns (degree_check round) ++ in_turn points (point_checks round columns)
+
+  -- the backend's checks, on the trace at zeta and at the next point, and on the quotient at zeta
+  abbrev pub opening_checks : List (Check Refusal)
+  opening_checks = round_checks 0 2 2 ++ round_checks 1 4 1
+
+  -- zeta, and the identity there
+  abbrev pub identity_checks : List (Check Refusal)
+  identity_checks =
+      check OodPointInDomain (IsInTraceDomain c table' zeta_drawn → ⊥)
+      ∷ check (OodEvaluationMismatch 0) (Identity c table' alpha_drawn zeta_drawn (local_opened p.instances) (next_opened p.instances) (chunk_opened p.instances)) ∷ []
+
+  -- The checks of a proof of one table of two columns: the grinding before zeta, whose refusal repeats the configuration's number of bits, the backend's
+  -- checks, zeta, and the identity.
+  unfoldable pub checks : List (Check Refusal)
+  checks = check (OodPowWitness 4) (witness_passes c table' (main_of p) (quotient_of p) p.ood_pow_witness ≡ true) ∷ opening_checks ++ identity_checks

@@ -1,14 +1,13 @@
 //! The command `verify`: the checks of a proof, and the first that fails.
 
-ghost use Rattle.std.specs.Prelude.{◌≡◌, ◌≤◌, ◌+◌, ◌^◌, ◌∷◌, ◌++◌, [], IfOk};
-ghost use Rattle.batch_tool.specs.Checks.{FirstFailing};
+ghost use Rattle.std.specs.Prelude.{◌≡◌, ◌≤◌, ◌+◌, ◌^◌, IfOk};
+ghost use Rattle.p3_field.specs.Checks.{FirstRefusal};
 ghost use Rattle.batch_tool.specs.FileAnswer.{stated, IsFileAnswer};
 ghost use Rattle.batch_tool.specs.FirstForm.{IsFirstForm, IsSwapShape};
 ghost use Rattle.batch_tool.specs.Honest.{whole_transcript, witness_passes};
 ghost use Rattle.batch_tool.specs.Limits.{most_log_rows};
 ghost use Rattle.batch_tool.specs.Tool.{tool};
-ghost use Rattle.batch_tool.specs.Verify.{Meets, alpha_drawn, checks, main_of, quotient_of, round_checks, zeta_drawn};
-ghost use Rattle.batch_tool.specs.declared.refusal.Refusal.TheVariants.{OodPointInDomain, OodEvaluationMismatch};
+ghost use Rattle.batch_tool.specs.Verify.{alpha_drawn, checks, identity_checks, main_of, opening_checks, quotient_of, zeta_drawn};
 
 use crate::committed_proof::CommittedProof;
 use crate::domain::is_in_trace_domain;
@@ -79,7 +78,7 @@ fn opening_refusal(
     requires shape { IsSwapShape statement.now.log_rows proof }
     requires zeta { zeta ≡ zeta_drawn tool (stated statement.now) proof }
     requires state { challenger.old ≡ (whole_transcript tool (stated statement.now) (main_of proof) (quotient_of proof) proof.ood_pow_witness).state }
-    ensures refusal { IfOk result (λ a. FirstFailing (Meets tool (stated statement.now) proof) (round_checks 0 2 2 ++ round_checks 1 4 1) a) }
+    ensures refusal { IfOk result (λ a. FirstRefusal (opening_checks tool (stated statement.now) proof) a) }
     ensures challenger { challenger.new ≡ challenger.old }
 {
     let log_rows = statement.log_rows as usize;
@@ -115,7 +114,7 @@ fn identity_refusal(
     requires shape { IsSwapShape statement.now.log_rows proof.now }
     requires alpha { alpha ≡ alpha_drawn tool (stated statement.now) proof.now }
     requires zeta { zeta ≡ zeta_drawn tool (stated statement.now) proof.now }
-    ensures { FirstFailing (Meets tool (stated statement.now) proof.now) (OodPointInDomain ∷ OodEvaluationMismatch 0 ∷ []) result }
+    ensures { FirstRefusal (identity_checks tool (stated statement.now) proof.now) result }
 {
     if is_in_trace_domain(statement.log_rows as usize, zeta) {
         return Some(Refusal::OodPointInDomain);
@@ -142,7 +141,7 @@ fn first_refusal(
 ) -> Mem<Option<Refusal>>
     requires few { statement.now.log_rows ≤ 10 }
     requires shape { IsSwapShape statement.now.log_rows proof }
-    ensures { IfOk result (λ a. FirstFailing (Meets tool (stated statement.now) proof) checks a) }
+    ensures { IfOk result (λ a. FirstRefusal (checks tool (stated statement.now) proof) a) }
 {
     let proof = CommittedProof::from_proof(alloc, proof)?;
     let mut drawn = drawn_challenges(alloc, statement, &proof)?;

@@ -1,4 +1,3 @@
-pub mod Finding
 pub mod Parts
 pub mod Lists
 pub mod Commitments
@@ -6,6 +5,8 @@ pub mod Transfers
 pub mod Evaluated
 pub mod PeriodicTables
 mod Openings
+mod OpeningFaults
+mod ClaimFaults
 mod Places
 mod Heights
 mod Folding

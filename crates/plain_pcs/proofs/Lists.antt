@@ -9,8 +9,8 @@ use Rattle.p3_commit.specs.Space.{EachOf}
 use Rattle.p3_commit.specs.Periodic.{EachFrom}
 use Rattle.p3_commit.specs.Laws.Each.{one_more}
 use Rattle.p3_commit.specs.Laws.Pairs.{length-zip, slice_get-zip}
-use Rattle.plain_pcs.specs.Refusals.{IsFirstWithout}
-use Rattle.plain_pcs.specs.Laws.Listed.{item_at, item_has}
+use Rattle.p3_field.specs.Checks.{IsFirstWithout}
+use Rattle.plain_pcs.specs.Laws.Listed.{item_at, item_has, lacking, first_lacking}
 
 pub same_item : {X : Type 0} (xs : List X) (i : ℕ) (x y : X) → slice_get xs i ≡ Some x → slice_get xs i ≡ Some y → x ≡ y
 same_item xs i x y e f = sym (get_or_from_slice_get xs i x x e) ∙ get_or_from_slice_get xs i y x f
@@ -67,18 +67,13 @@ one_earlier P xs i x h e before p = λ j y b q. elim (cases_lt j i) [
 ]
 
 pub first_without : {X : Type 0} (P : X → Type 0) (xs : List X) (i : ℕ) (x : X) → i < length xs → x ≡ get_or xs i x → Earlier P xs i → (P x → ⊥) → IsFirstWithout P xs i
-first_without P xs i x h e before lacks = record {
-  item = x;
-  item_is = slice_get-get_or xs i x h ∙ ap Some (sym e);
-  lacks = lacks;
-  earlier = before;
-}
+first_without P xs i x h e before lacks = first_lacking P xs i x (slice_get-get_or xs i x h ∙ ap Some (sym e)) lacks before
 
 pub all_earlier : {X : Type 0} (P : X → Type 0) (xs : List X) (n : ℕ) → n ≡ length xs → Earlier P xs n → All P xs
 all_earlier P xs n e before = λ k d h. before k (get_or xs k d) (omega arith) (slice_get-get_or xs k d h)
 
 pub none_first : {X : Type 0} (P : X → Type 0) (xs : List X) (i : ℕ) → All P xs → IsFirstWithout P xs i → ⊥
-none_first P xs i all F = F.lacks (item_has P xs i F.item all F.item_is)
+none_first P xs i all F = let (x, q, lacks) = lacking P xs i F in lacks (item_has P xs i x all q)
 
 -- one item more, of one that is made from the next of xs
 pub each_step : {X Y : Type 0} (R : X → Y → Type 0) (xs : List X) (n : ℕ) (x : X) (ys zs : List Y) (y : Y) → n < length xs → x ≡ get_or xs n x

@@ -1,12 +1,14 @@
 -- The checks of the claims on a matrix and on a commitment, by what the search for the first fault finds.
-use Rattle.std.proofs.Common.{◌≡◌, ℕ, zero, suc, ◌+◌, ◌^◌, ◌<◌, ◌≤◌, ◌↔◌, inl, inr, List, [], ◌∷◌, ◌++◌, Option, Some, None, length, get_or, map, sym, ◌∙◌, ap, subst, arith}
-use Rattle.std.specs.Prelude.{All, Bool, true, false, IsTrue, slice_get, flat_map, zip, option_map}
+use Rattle.std.proofs.Common.{◌≡◌, ℕ, zero, suc, ◌+◌, ◌^◌, ◌<◌, ◌≤◌, ◌↔◌, inl, inr, List, [], ◌∷◌, ◌++◌, Option, Some, None, length, get_or, map, refl, sym, ◌∙◌, ap, subst, arith}
+use Rattle.std.specs.Prelude.{All, Bool, true, false, IsTrue, slice_get, zip, option_map}
 use Rattle.std.proofs.lemmas.Bool.{cases_lt}
 use Rattle.std.proofs.lemmas.List.{length-map, get_or-map}
 use Rattle.std.proofs.lemmas.Option.{same_Some, slice_get-map, get_or_from_slice_get}
 use Rattle.p3_field.specs.Ring.{Ring, RingLaws}
 use Rattle.p3_field.specs.Field.{FieldLaws, TwoAdicLaws}
-use Rattle.p3_field.specs.Poly.{val, table, Apart, DegreeBelow}
+use Rattle.p3_field.specs.Poly.{val, Apart, DegreeBelow}
+use Rattle.p3_field.specs.Checks.{Check, check, NoneFails, FirstFails, FirstRefusal, in_turn, of_items, FirstFailing}
+use Rattle.p3_field.specs.Laws.Checks.{first_here, first_stops, refusal_later, refusal_after, none_alone, none_by, first_by}
 use Rattle.p3_field.specs.Domain.{CosetData, coset_point, point, IsInterpolant}
 use Rattle.p3_field.specs.Laws.Interpolants.{interpolant_unique, points_apart}
 use Rattle.p3_matrix.specs.Matrix.{Rows, height, column}
@@ -16,12 +18,10 @@ use Rattle.p3_commit.specs.Claims.{PointClaim, MatrixClaim, CommitmentClaim}
 use Rattle.plain_pcs.specs.Scheme.{Scheme, scheme, PlainCommitmentData}
 use Rattle.plain_pcs.specs.Extension.{extended_domain}
 use Rattle.plain_pcs.specs.Laws.Listed.{item_at}
-use Rattle.plain_pcs.specs.Checks.{Check, HasDimensions, Holds, NoneFails, FirstFails, same_count, dimensions, low_degree, has_value, numbered, point_checks, matrix_checks, round_checks}
-use Rattle.plain_pcs.specs.Failing.{FirstFailing}
-use Rattle.plain_pcs.specs.Faults.{FirstFault, AreColumnPolynomials}
+use Rattle.plain_pcs.specs.Checks.{HasDimensions, HasLowDegree, HasValue, degree_check, value_check, point_checks, matrix_checks, round_checks}
+use Rattle.plain_pcs.specs.Faults.{AreColumnPolynomials}
 use Rattle.plain_pcs.specs.declared.error.PlainError.{PlainError}
 use Rattle.plain_pcs.specs.declared.error.PlainError.TheVariants.{RoundShape, Dimensions, Degree, Value}
-use Rattle.plain_pcs.proofs.Finding.{none_by, first_by, first_here, first_later, first_stops, fault_after, fault_later}
 
 -- the item of a map, by the item itself
 pub item_of_map : {F C : Type 0} (items : C → List F) (xs : List C) (j : ℕ) (x : C) (l : List F) → j < length xs → x ≡ get_or xs j x → l ≡ items x → l ≡ get_or (map items xs) j []
@@ -78,34 +78,34 @@ pub by_polynomial : {F : Type 0} (s : Scheme F) (m : Rows F) (k : ℕ) (fs : Lis
 by_polynomial s m k fs j P A lt = (λ p. (get_or fs j [], A.each j lt, p), λ h. let (f, i, q) = h in subst P (sym (A.only j f lt i)) q)
 
 module _ {F E : Type 0} (s : Scheme F) (ring : Ring E) (embed : F → E) (m : Rows F) (k : ℕ) (fs : List (List F)) (A : AreColumnPolynomials s m k fs) where
-  abbrev degree_check : ℕ → ℕ → ℕ → Check F E
-  degree_check round number j = record { error = Degree round number j; fact = low_degree m k j }
-
   abbrev Low : ℕ → ℕ → Type 0
   Low bound j = DegreeBelow s.field.ring bound (get_or fs j [])
 
-  low_same : (j : ℕ) → j < m.width → Low (2 ^ k) j ↔ Holds s ring embed (low_degree m k j)
+  low_same : (j : ℕ) → j < m.width → Low (2 ^ k) j ↔ HasLowDegree s ring embed m k j
   low_same j lt = by_polynomial s m k fs j (λ f. DegreeBelow s.field.ring (2 ^ k) f) A lt
 
   low_here : (n bound : ℕ) (a : Option ℕ) → n ≡ length fs → bound ≡ 2 ^ k → FirstFailing n (Low bound) a → FirstFailing m.width (Low (2 ^ k)) a
   low_here n bound a e f h = subst (λ b. FirstFailing m.width (Low b) a) f (subst (λ n. FirstFailing n (Low bound) a) (e ∙ A.count) h)
 
   pub no_high_degree : (round number n bound : ℕ) → n ≡ length fs → bound ≡ 2 ^ k → FirstFailing n (λ j. DegreeBelow s.field.ring bound (get_or fs j [])) None
-      → NoneFails s ring embed (table m.width (λ j. record { error = Degree round number j; fact = low_degree m k j }))
-  no_high_degree round number n bound e f h = none_by s ring embed m.width (degree_check round number) (Low (2 ^ k)) low_same (low_here n bound None e f h)
+      → NoneFails (in_turn m.width (degree_check s ring embed round number m k))
+  no_high_degree round number n bound e f h =
+      none_by (degree_check s ring embed round number m k) (Low (2 ^ k)) m.width
+      (λ j b p. none_alone (check (Degree round number j) (HasLowDegree s ring embed m k j)) ((low_same j b).0 p)) (low_here n bound None e f h)
 
   pub high_degree : (round number n bound j : ℕ) → n ≡ length fs → bound ≡ 2 ^ k → FirstFailing n (λ j. DegreeBelow s.field.ring bound (get_or fs j [])) (Some j)
-      → FirstFails s ring embed (table m.width (λ j. record { error = Degree round number j; fact = low_degree m k j })) (Degree round number j)
-  high_degree round number n bound j e f h = first_by s ring embed m.width (degree_check round number) (Low (2 ^ k)) j low_same (low_here n bound (Some j) e f h)
+      → FirstFails (in_turn m.width (degree_check s ring embed round number m k)) (Degree round number j)
+  high_degree round number n bound j e f h =
+      let F = low_here n bound (Some j) e f h in
+      first_by (degree_check s ring embed round number m k) (Low (2 ^ k)) m.width j (Degree round number j)
+      (λ i b p. none_alone (check (Degree round number i) (HasLowDegree s ring embed m k i)) ((low_same i b).0 p))
+      (λ l. first_here (check (Degree round number j) (HasLowDegree s ring embed m k j)) [] (Degree round number j) (λ t. l ((low_same j F.within).1 t)) refl) F
 
   module _ (round number at : ℕ) (p : PointClaim E) where
-    abbrev value_check : ℕ → Check F E
-    value_check j = record { error = Value round number at j; fact = has_value m k j p.point (get_or p.values j ring.zero) }
-
     abbrev Claimed : List E → ℕ → Type 0
     Claimed ys j = val ring (map embed (get_or fs j [])) p.point ≡ get_or ys j ring.zero
 
-    value_same : (j : ℕ) → j < m.width → Claimed p.values j ↔ Holds s ring embed (has_value m k j p.point (get_or p.values j ring.zero))
+    value_same : (j : ℕ) → j < m.width → Claimed p.values j ↔ HasValue s ring embed m k j p.point (get_or p.values j ring.zero)
     value_same j lt = by_polynomial s m k fs j (λ f. val ring (map embed f) p.point ≡ get_or p.values j ring.zero) A lt
 
     value_here : (n : ℕ) (x : E) (ys : List E) (a : Option ℕ) → n ≡ length fs → x ≡ p.point → ys ≡ p.values
@@ -116,13 +116,19 @@ module _ {F E : Type 0} (s : Scheme F) (ring : Ring E) (embed : F → E) (m : Ro
         (subst (λ n. FirstFailing n (λ j. val ring (map embed (get_or fs j [])) x ≡ get_or ys j ring.zero) a) (e ∙ A.count) h))
 
     pub no_wrong_value : (n : ℕ) (x : E) (ys : List E) → n ≡ length fs → x ≡ p.point → ys ≡ p.values
-        → FirstFailing n (λ j. val ring (map embed (get_or fs j [])) x ≡ get_or ys j ring.zero) None → NoneFails s ring embed (point_checks ring.zero round number m k (at, p))
-    no_wrong_value n x ys e d f h = none_by s ring embed m.width value_check (Claimed p.values) value_same (value_here n x ys None e d f h)
+        → FirstFailing n (λ j. val ring (map embed (get_or fs j [])) x ≡ get_or ys j ring.zero) None → NoneFails (point_checks s ring embed round number m k at p)
+    no_wrong_value n x ys e d f h =
+        none_by (value_check s ring embed round number m k at p) (Claimed p.values) m.width
+        (λ j b q. none_alone (check (Value round number at j) (HasValue s ring embed m k j p.point (get_or p.values j ring.zero))) ((value_same j b).0 q)) (value_here n x ys None e d f h)
 
     pub wrong_value : (n : ℕ) (x : E) (ys : List E) (j : ℕ) → n ≡ length fs → x ≡ p.point → ys ≡ p.values
         → FirstFailing n (λ j. val ring (map embed (get_or fs j [])) x ≡ get_or ys j ring.zero) (Some j)
-        → FirstFails s ring embed (point_checks ring.zero round number m k (at, p)) (Value round number at j)
-    wrong_value n x ys j e d f h = first_by s ring embed m.width value_check (Claimed p.values) j value_same (value_here n x ys (Some j) e d f h)
+        → FirstFails (point_checks s ring embed round number m k at p) (Value round number at j)
+    wrong_value n x ys j e d f h =
+        let F = value_here n x ys (Some j) e d f h in
+        first_by (value_check s ring embed round number m k at p) (Claimed p.values) m.width j (Value round number at j)
+        (λ i b q. none_alone (check (Value round number at i) (HasValue s ring embed m k i p.point (get_or p.values i ring.zero))) ((value_same i b).0 q))
+        (λ l. first_here (check (Value round number at j) (HasValue s ring embed m k j p.point (get_or p.values j ring.zero))) [] (Value round number at j) (λ t. l ((value_same j F.within).1 t)) refl) F
 
 -- widths by other words
 pub widths_here : {E : Type 0} (points claimed : List (PointClaim E)) (w n : ℕ) → points ≡ claimed → n ≡ w → All (λ p. length p.values ≡ w) claimed → All (λ p. length p.values ≡ n) points
@@ -143,50 +149,50 @@ dimensions_by {F} {E} s ring embed m c told w points fits rows e f h =
 
 module _ {F E : Type 0} (s : Scheme F) (ring : Ring E) (embed : F → E) where
   module _ (round number : ℕ) (m : Rows F) (c : MatrixClaim E (CosetData F)) where
-    abbrev degrees : List (Check F E)
-    degrees = table m.width (λ j. record { error = Degree round number j; fact = low_degree m c.domain.log_size j })
+    abbrev degrees : List (Check PlainError)
+    degrees = in_turn m.width (degree_check s ring embed round number m c.domain.log_size)
 
-    abbrev values : List (Check F E)
-    values = flat_map (point_checks ring.zero round number m c.domain.log_size) (numbered c.points)
+    abbrev values : List (Check PlainError)
+    values = of_items (point_checks s ring embed round number m c.domain.log_size) c.points
 
-    abbrev head : Check F E
-    head = record { error = Dimensions round number; fact = dimensions m c }
+    abbrev head : Check PlainError
+    head = check (Dimensions round number) (HasDimensions s ring embed m c)
 
-    pub wrong_dimensions : (HasDimensions s ring embed m c → ⊥) → FirstFails s ring embed (matrix_checks ring.zero round (number, (m, c))) (Dimensions round number)
-    wrong_dimensions n = first_here s ring embed head (degrees ++ values) n
+    pub wrong_dimensions : (HasDimensions s ring embed m c → ⊥) → FirstFails (matrix_checks s ring embed round number (m, c)) (Dimensions round number)
+    wrong_dimensions n = first_here head (degrees ++ values) (Dimensions round number) n refl
 
-    pub after_dimensions : (e : PlainError) → HasDimensions s ring embed m c → FirstFails s ring embed degrees e → FirstFails s ring embed (matrix_checks ring.zero round (number, (m, c))) e
-    after_dimensions e h f = first_later s ring embed head (degrees ++ values) e h (first_stops s ring embed degrees values e f)
+    pub after_dimensions : (e : PlainError) → HasDimensions s ring embed m c → FirstFails degrees e → FirstFails (matrix_checks s ring embed round number (m, c)) e
+    after_dimensions e h f = refusal_later head (degrees ++ values) (Some e) h (first_stops degrees values e f)
 
-    pub after_degrees : (points : List (PointClaim E)) (a : Option PlainError) → HasDimensions s ring embed m c → NoneFails s ring embed degrees → points ≡ c.points
-        → FirstFault s ring embed (flat_map (point_checks ring.zero round number m c.domain.log_size) (numbered points)) a
-        → FirstFault s ring embed (matrix_checks ring.zero round (number, (m, c))) a
+    pub after_degrees : (points : List (PointClaim E)) (a : Option PlainError) → HasDimensions s ring embed m c → NoneFails degrees → points ≡ c.points
+        → FirstRefusal (of_items (point_checks s ring embed round number m c.domain.log_size) points) a
+        → FirstRefusal (matrix_checks s ring embed round number (m, c)) a
     after_degrees points a h n q f =
-        let P : List (PointClaim E) → Type 0 = λ ps. FirstFault s ring embed (flat_map (point_checks ring.zero round number m c.domain.log_size) (numbered ps)) a in
-        fault_later s ring embed head (degrees ++ values) a h (fault_after s ring embed degrees values a n (subst P q f))
+        let P : List (PointClaim E) → Type 0 = λ ps. FirstRefusal (of_items (point_checks s ring embed round number m c.domain.log_size) ps) a in
+        refusal_later head (degrees ++ values) a h (refusal_after degrees values a n (subst P q f))
 
   module _ (round : ℕ) (c : CommitmentClaim E (PlainCommitmentData F) (CosetData F)) where
-    abbrev parts : List (Check F E)
-    parts = flat_map (matrix_checks ring.zero round) (numbered (zip c.commitment.matrices c.matrices))
+    abbrev parts : List (Check PlainError)
+    parts = of_items (matrix_checks s ring embed round) (zip c.commitment.matrices c.matrices)
 
-    abbrev shape : Check F E
-    shape = record { error = RoundShape round; fact = same_count (length c.commitment.matrices) (length c.matrices) }
+    abbrev shape : Check PlainError
+    shape = check (RoundShape round) (length c.commitment.matrices ≡ length c.matrices)
 
-    pub wrong_shape : (length c.commitment.matrices ≡ length c.matrices → ⊥) → FirstFails s ring embed (round_checks ring.zero (round, c)) (RoundShape round)
-    wrong_shape n = first_here s ring embed shape parts n
+    pub wrong_shape : (length c.commitment.matrices ≡ length c.matrices → ⊥) → FirstFails (round_checks s ring embed round c) (RoundShape round)
+    wrong_shape n = first_here shape parts (RoundShape round) n refl
 
     pub after_shape : (ms : List (Rows F)) (a : Option PlainError) → ms ≡ c.commitment.matrices → length c.commitment.matrices ≡ length c.matrices
-        → FirstFault s ring embed (flat_map (matrix_checks ring.zero round) (numbered (zip ms c.matrices))) a → FirstFault s ring embed (round_checks ring.zero (round, c)) a
+        → FirstRefusal (of_items (matrix_checks s ring embed round) (zip ms c.matrices)) a → FirstRefusal (round_checks s ring embed round c) a
     after_shape ms a q e f =
-        let P : List (Rows F) → Type 0 = λ ms. FirstFault s ring embed (flat_map (matrix_checks ring.zero round) (numbered (zip ms c.matrices))) a in
-        fault_later s ring embed shape parts a e (subst P q f)
+        let P : List (Rows F) → Type 0 = λ ms. FirstRefusal (of_items (matrix_checks s ring embed round) (zip ms c.matrices)) a in
+        refusal_later shape parts a e (subst P q f)
 
   -- the first fault of the claim of a commitment, by the claim's parts
   pub along_claim : (round : ℕ) (commitment : PlainCommitmentData F) (items claims : List (MatrixClaim E (CosetData F))) (x : CommitmentClaim E (PlainCommitmentData F) (CosetData F)) (a b : Option PlainError)
       → claims ≡ items → record { commitment = commitment; matrices = items } ≡ x → a ≡ b
-      → FirstFault s ring embed (round_checks ring.zero (round, record { commitment = commitment; matrices = claims })) a → FirstFault s ring embed (round_checks ring.zero (round, x)) b
+      → FirstRefusal (round_checks s ring embed round (record { commitment = commitment; matrices = claims })) a → FirstRefusal (round_checks s ring embed round x) b
   along_claim round commitment items claims x a b e q d f =
-      let P : List (MatrixClaim E (CosetData F)) → Type 0 = λ l. FirstFault s ring embed (round_checks ring.zero (round, record { commitment = commitment; matrices = l })) a in
-      let Q : CommitmentClaim E (PlainCommitmentData F) (CosetData F) → Type 0 = λ v. FirstFault s ring embed (round_checks ring.zero (round, v)) a in
-      let R : Option PlainError → Type 0 = λ o. FirstFault s ring embed (round_checks ring.zero (round, x)) o in
+      let P : List (MatrixClaim E (CosetData F)) → Type 0 = λ l. FirstRefusal (round_checks s ring embed round (record { commitment = commitment; matrices = l })) a in
+      let Q : CommitmentClaim E (PlainCommitmentData F) (CosetData F) → Type 0 = λ v. FirstRefusal (round_checks s ring embed round v) a in
+      let R : Option PlainError → Type 0 = λ o. FirstRefusal (round_checks s ring embed round x) o in
       subst R d (subst Q q (subst P e f))

@@ -1,16 +1,9 @@
--- What a verifier's search for the first fault finds, part by part.
-use Rattle.std.specs.Prelude.{◌≡◌, ℕ, ◌<◌, List, [], Option, MatchOption, length, get_or}
-use Rattle.p3_field.specs.Ring.{Ring}
+-- The polynomials that a verifier's search for the first fault tests.
+use Rattle.std.specs.Prelude.{◌≡◌, ℕ, ◌<◌, List, [], length, get_or}
 use Rattle.p3_field.specs.Domain.{point, IsInterpolant}
 use Rattle.p3_matrix.specs.Matrix.{Rows, column}
 use Rattle.plain_pcs.specs.Scheme.{Scheme}
 use Rattle.plain_pcs.specs.Extension.{extended_domain}
-use Rattle.plain_pcs.specs.Checks.{Check, NoneFails, FirstFails}
-use Rattle.plain_pcs.specs.declared.error.PlainError.{PlainError}
-
--- no check fails, or this is the error of the first that does
-abbrev pub FirstFault : {F E : Type 0} → Scheme F → Ring E → (F → E) → List (Check F E) → Option PlainError → Type 0
-FirstFault s ring embed checks fault = MatchOption fault (NoneFails s ring embed checks) (FirstFails s ring embed checks)
 
 -- Of each column of a matrix that extends columns on a domain of size 2^k, the polynomial in fs is the interpolant, and no
 -- other is.

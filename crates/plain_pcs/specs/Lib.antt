@@ -4,7 +4,6 @@ pub mod Checks
 pub mod Holding
 pub mod Refusals
 pub mod Observing
-pub mod Failing
 pub mod Faults
 pub mod Cosets
 pub mod Transfer

@@ -1,7 +1,8 @@
 -- Openings of matrices that are themselves the commitment.
-use Rattle.std.specs.Prelude.{◌≡◌, ℕ, List, Bool, IsTrue, length, map, All}
+use Rattle.std.specs.Prelude.{◌≡◌, ℕ, List, [], ◌∷◌, Bool, IsTrue, length, map, All}
 use Rattle.std.specs.Int.{IsPowerOfTwo}
 use Rattle.std.specs.Cmp.Lexicographic.{pointwise}
+use Rattle.p3_field.specs.Checks.{Check, check, FirstFails}
 use Rattle.p3_matrix.specs.Matrix.{Rows, height, row_at}
 use Rattle.p3_matrix.specs.declared.dense.Dimensions.{Dimensions as Size}
 use Rattle.p3_commit.specs.Periodic.{IsGreatest, EachFrom}
@@ -33,15 +34,13 @@ pub record IsOpened {T : Type 0} (eq : T → T → Bool) (ms : List (Rows T)) (d
   pub place : IsRowOf ms i
   pub values : AreTheRows eq ms i rows
 
--- the first of three facts that fails: of the shape, of the place, and of the values
-abbrev pub IsFirstFault : Type 0 → Type 0 → Type 0 → PlainMmcsError → Type 0
-IsFirstFault Shape Place Values Dimensions = Shape → ⊥
-IsFirstFault Shape Place Values Index = Shape × (Place → ⊥)
-IsFirstFault Shape Place Values Value = Shape × Place × (Values → ⊥)
+-- the checks of an opening: its shape, its place, and its values
+abbrev pub opening_checks : Type 0 → Type 0 → Type 0 → List (Check PlainMmcsError)
+opening_checks Shape Place Values = check Dimensions Shape ∷ check Index Place ∷ check Value Values ∷ []
 
 -- the fault of an opening
 abbrev pub IsFault : {T : Type 0} → (T → T → Bool) → List (Rows T) → List Size → ℕ → List (List T) → PlainMmcsError → Type 0
-IsFault eq ms ds i rows e = IsFirstFault (HasShape ms ds rows) (IsRowOf ms i) (AreTheRows eq ms i rows) e
+IsFault eq ms ds i rows e = FirstFails (opening_checks (HasShape ms ds rows) (IsRowOf ms i) (AreTheRows eq ms i rows)) e
 
 -- the shape of several openings
 pub record HaveShape {T : Type 0} (ms : List (Rows T)) (ds : List Size) (is : List ℕ) (openings : List (List (List T))) : Type 0 where
@@ -57,4 +56,4 @@ pub record AreOpened {T : Type 0} (eq : T → T → Bool) (ms : List (Rows T)) (
 
 -- the fault of several openings
 abbrev pub IsFaultOfAll : {T : Type 0} → (T → T → Bool) → List (Rows T) → List Size → List ℕ → List (List (List T)) → PlainMmcsError → Type 0
-IsFaultOfAll eq ms ds is openings e = IsFirstFault (HaveShape ms ds is openings) (All (IsRowOf ms) is) (EachFrom is openings (AreTheRows eq ms)) e
+IsFaultOfAll eq ms ds is openings e = FirstFails (opening_checks (HaveShape ms ds is openings) (All (IsRowOf ms) is) (EachFrom is openings (AreTheRows eq ms))) e

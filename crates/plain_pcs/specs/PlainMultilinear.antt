@@ -1,9 +1,9 @@
 -- Openings of a multilinear polynomial whose values are themselves the commitment.
-use Rattle.std.specs.Prelude.{◌≡◌, ℕ, ◌^◌, List, [], length, map, All}
+use Rattle.std.specs.Prelude.{◌≡◌, ℕ, ◌^◌, List, [], ◌∷◌, ◌++◌, length, map, All}
 use Rattle.std.specs.Prelude.{slice_index_or as get_or}
 use Rattle.std.specs.List.{fold}
 use Rattle.p3_field.specs.Ring.{Ring, of_nat}
-use Rattle.plain_pcs.specs.Failing.{IsFirstFailing}
+use Rattle.p3_field.specs.Checks.{Check, check, FirstFails, in_turn, IsFirstFailing}
 use Rattle.plain_pcs.specs.Multilinear.{multilinear_value}
 use Rattle.plain_pcs.specs.declared.plain_multilinear.PlainMultilinearError.{PlainMultilinearError}
 use Rattle.plain_pcs.specs.declared.plain_multilinear.PlainMultilinearError.TheVariants.{Length, PointLength, Count, Value}
@@ -40,13 +40,21 @@ pub record AreValuesAt {F E : Type 0} (s : Ring E) (embed : F → E) (m : ℕ) (
 abbrev pub IsFirstDifferent : {E : Type 0} → Ring E → List E → List E → ℕ → Type 0
 IsFirstDifferent s ys zs i = IsFirstFailing (length zs) (λ j. get_or ys j s.zero ≡ get_or zs j s.zero) i
 
+-- the checks of claimed values: the commitment's length, the points' coordinates, the number of the values, and each value
+abbrev pub point_check : {E : Type 0} → ℕ → List (List E) → ℕ → List (Check PlainMultilinearError)
+point_check m points i = check (PointLength i) (length (get_or points i []) ≡ m) ∷ []
+
+abbrev pub value_check : {E : Type 0} → Ring E → List E → List E → ℕ → List (Check PlainMultilinearError)
+value_check s ys zs i = check (Value i) (get_or ys i s.zero ≡ get_or zs i s.zero) ∷ []
+
+abbrev pub claim_checks : {F E : Type 0} → Ring E → (F → E) → ℕ → List F → List (List E) → List E → List (Check PlainMultilinearError)
+claim_checks s embed m vs points ys =
+    check Length (HasValues m vs) ∷ in_turn (length points) (point_check m points)
+    ++ check Count (length ys ≡ length points) ∷ in_turn (length points) (value_check s ys (values_at s embed vs points))
+
 -- the first fault of claimed values
 abbrev pub IsClaimFault : {F E : Type 0} → Ring E → (F → E) → ℕ → List F → List (List E) → List E → PlainMultilinearError → Type 0
-IsClaimFault s embed m vs points ys Length = HasValues m vs → ⊥
-IsClaimFault s embed m vs points ys (PointLength i) = HasValues m vs × IsFirstUnfit m points i
-IsClaimFault s embed m vs points ys Count = HasValues m vs × HaveCoordinates m points × (length ys ≡ length points → ⊥)
-IsClaimFault s embed m vs points ys (Value i) =
-    HasValues m vs × HaveCoordinates m points × (length ys ≡ length points) × IsFirstDifferent s ys (values_at s embed vs points) i
+IsClaimFault s embed m vs points ys e = FirstFails (claim_checks s embed m vs points ys) e
 
 -- why a list isn't committed to: it has another length
 abbrev pub IsCommitFault : {F : Type 0} → ℕ → List F → PlainMultilinearProverError → Type 0

@@ -1,5 +1,6 @@
 -- When the plain scheme refuses to commit, to extend or to open.
-use Rattle.std.specs.Prelude.{◌≡◌, ℕ, ◌+◌, ◌*◌, ◌^◌, ◌<◌, ◌≤◌, List, Some, Result, Ok, Err, ⊤, length, slice_get}
+use Rattle.std.specs.Prelude.{◌≡◌, ℕ, ◌+◌, ◌*◌, ◌^◌, ◌<◌, ◌≤◌, List, Result, Ok, Err, ⊤, length}
+use Rattle.p3_field.specs.Checks.{IsFirstWithout}
 use Rattle.p3_field.specs.Domain.{CosetData}
 use Rattle.p3_matrix.specs.Matrix.{Rows, height}
 use Rattle.p3_commit.specs.Claims.{Request}
@@ -9,13 +10,6 @@ use Rattle.plain_pcs.specs.Scheme.{Scheme}
 use Rattle.plain_pcs.specs.Extension.{IsCommittable}
 use Rattle.plain_pcs.specs.declared.error.PlainProverError.{PlainProverError}
 use Rattle.plain_pcs.specs.declared.error.PlainProverError.TheVariants.{Commit, Open}
-
--- item i is the first that lacks the property
-pub record IsFirstWithout {X : Type 0} (P : X → Type 0) (xs : List X) (i : ℕ) : Type 0 where
-  pub item : X
-  pub item_is : slice_get xs i ≡ Some item
-  pub lacks : P item → ⊥
-  pub earlier : (j : ℕ) (x : X) → j < i → slice_get xs j ≡ Some x → P x
 
 -- committing and extending are refused for the first matrix that the scheme can't commit to on its domain
 abbrev pub CommitFault : {F : Type 0} → Scheme F → List (CosetData F × Rows F) → PlainProverError → Type 0

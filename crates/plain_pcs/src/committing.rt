@@ -10,7 +10,8 @@ ghost use Rattle.plain_pcs.specs.Scheme.{scheme};
 ghost use Rattle.plain_pcs.specs.Extension.{Extends, commitment_of};
 ghost use Rattle.plain_pcs.specs.Holding.{IsMade, AreHolding};
 ghost use Rattle.plain_pcs.specs.Cosets.{IsOnCoset};
-ghost use Rattle.plain_pcs.specs.Refusals.{IsFirstWithout, CommitFault, ExtensionsFault, HasSubgroupHeight, IfWanting};
+ghost use Rattle.p3_field.specs.Checks.{IsFirstWithout};
+ghost use Rattle.plain_pcs.specs.Refusals.{CommitFault, ExtensionsFault, HasSubgroupHeight, IfWanting};
 
 use crate::commitment::{PlainCommitment, PlainProverData, copied_matrices};
 use crate::error::PlainProverError;

@@ -3,7 +3,7 @@ ghost use Rattle.std.specs.Prelude.{◌≡◌, ◌≤◌, ◌↔◌, IsTrue, IfO
 ghost use Rattle.p3_commit.specs.Commitments.{AreExtensions};
 ghost use Rattle.plain_pcs.specs.Scheme.{scheme};
 ghost use Rattle.plain_pcs.specs.Extension.{IsCommittable, Extends, extension_of};
-ghost use Rattle.plain_pcs.specs.Refusals.{IsFirstWithout};
+ghost use Rattle.p3_field.specs.Checks.{IsFirstWithout};
 
 use p3_dft::TwoAdicSubgroupDft;
 use p3_field::{

@@ -8,7 +8,8 @@ ghost use Rattle.p3_commit.specs.Periodic.{EachFrom};
 ghost use Rattle.plain_pcs.specs.Scheme.{PlainCommitmentData, scheme};
 ghost use Rattle.plain_pcs.specs.Checks.{Opens};
 ghost use Rattle.plain_pcs.specs.Holding.{IsMade, AreHolding};
-ghost use Rattle.plain_pcs.specs.Refusals.{IsFirstWithout, OpenFault, IfWanting};
+ghost use Rattle.p3_field.specs.Checks.{IsFirstWithout};
+ghost use Rattle.plain_pcs.specs.Refusals.{OpenFault, IfWanting};
 ghost use Rattle.plain_pcs.specs.Opening.{HaveValues, EachHasValues, opened_each};
 
 use crate::commitment::PlainProverData;

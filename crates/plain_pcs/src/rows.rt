@@ -6,16 +6,10 @@ ghost use Rattle.p3_commit.specs.Periodic.{IsGreatest, EachFrom};
 ghost use Rattle.p3_commit.specs.Batches.{lists, row_in, IsRowOf, AreRowsAt, HaveWidths};
 ghost use Rattle.plain_pcs.specs.PlainMmcs.{AreDimensions, IsRow, AreTheRows};
 
+use p3_commit::greatest_height;
 use p3_field::Mem;
 use p3_matrix::{Dimensions, RowMajorMatrix, is_power_of_two};
 use std::alloc::Global;
-
-// The greatest height, where there is a matrix.
-fn greatest_height<T>(matrices: &[RowMajorMatrix<T>]) -> Option<usize>
-    ensures { MatchOption result (length matrices.now ≡ 0) (IsGreatest (map (λ m. height m) matrices.now)) }
-{
-    matrices.iter().map(|m| m.height()).max()
-}
 
 // The height of the highest of at least one matrix.
 fn most_rows<T>(matrices: &[RowMajorMatrix<T>]) -> usize

@@ -1,11 +1,11 @@
 //! The search for the first check of claims that fails.
-ghost use Rattle.std.specs.Prelude.{◌≡◌, ℕ, ◌+◌, ◌*◌, ◌^◌, ◌<◌, ◌≤◌, ◌↔◌, IsTrue, IfOk, MatchOption, List, [], All, length, map, get_or, zip, flat_map};
+ghost use Rattle.std.specs.Prelude.{◌≡◌, ℕ, ◌+◌, ◌*◌, ◌^◌, ◌<◌, ◌≤◌, ◌↔◌, IsTrue, IfOk, List, [], All, length, map, get_or, zip};
 ghost use Rattle.p3_field.specs.Poly.{val, DegreeBelow};
+ghost use Rattle.p3_field.specs.Checks.{FirstFailing, FirstRefusal, of_items};
 ghost use Rattle.p3_matrix.specs.Matrix.{Rows, height};
 ghost use Rattle.plain_pcs.specs.Scheme.{Scheme, scheme};
-ghost use Rattle.plain_pcs.specs.Checks.{HasDimensions, numbered, point_checks, matrix_checks, round_checks, Opens, Fault};
-ghost use Rattle.plain_pcs.specs.Failing.{FirstFailing};
-ghost use Rattle.plain_pcs.specs.Faults.{FirstFault, AreColumnPolynomials};
+ghost use Rattle.plain_pcs.specs.Checks.{HasDimensions, point_checks, matrix_checks, round_checks, checks};
+ghost use Rattle.plain_pcs.specs.Faults.{AreColumnPolynomials};
 
 use crate::commitment::PlainCommitment;
 use crate::committing::column_polynomials;
@@ -102,7 +102,7 @@ fn points_fault<F: TwoAdicField, E: ExtensionField<F>>(
 ) -> Option<PlainError>
     requires { All (λ p. length p.values ≡ length polynomials.now) points.now }
     ensures { (s : Scheme F) (m : Rows F) (k : ℕ) → AreColumnPolynomials s m k (map (λ f. f.items) polynomials.now)
-        → FirstFault s E.ring E.embed (flat_map (point_checks E.ring.zero round matrix m k) (numbered points.now)) result }
+        → FirstRefusal (of_items (point_checks s E.ring E.embed round matrix m k) points.now) result }
 {
     for (point, opening) in points.iter().enumerate() {
         if let Some(column) = first_wrong_value(polynomials, opening.point, &opening.values) {
@@ -127,7 +127,7 @@ fn matrix_fault<F: TwoAdicField, E: ExtensionField<F>>(
     claim: &MatrixOpening<E, TwoAdicMultiplicativeCoset<F>>,
 ) -> Mem<Option<PlainError>>
     requires { log_blowup ≤ F.TWO_ADICITY }
-    ensures { IfOk result (FirstFault (scheme F.ring F.inv F.root F.GENERATOR F.TWO_ADICITY (record { log_blowup = log_blowup })) E.ring E.embed (matrix_checks E.ring.zero round (number, (matrix.now, claim.now)))) }
+    ensures { IfOk result (FirstRefusal (matrix_checks (scheme F.ring F.inv F.root F.GENERATOR F.TWO_ADICITY (record { log_blowup = log_blowup })) E.ring E.embed round number (matrix.now, claim.now))) }
 {
     if !has_dimensions(log_blowup, matrix, claim) {
         return Ok(Some(PlainError::Dimensions {
@@ -156,7 +156,7 @@ fn matrices_fault<F: TwoAdicField, E: ExtensionField<F>>(
 ) -> Mem<Option<PlainError>>
     requires blowup { log_blowup ≤ F.TWO_ADICITY }
     requires count { length matrices.now ≡ length claims.now }
-    ensures { IfOk result (FirstFault (scheme F.ring F.inv F.root F.GENERATOR F.TWO_ADICITY (record { log_blowup = log_blowup })) E.ring E.embed (flat_map (matrix_checks E.ring.zero round) (numbered (zip matrices.now claims.now)))) }
+    ensures { IfOk result (FirstRefusal (of_items (matrix_checks (scheme F.ring F.inv F.root F.GENERATOR F.TWO_ADICITY (record { log_blowup = log_blowup })) E.ring E.embed round) (zip matrices.now claims.now))) }
 {
     for (number, claim) in claims.iter().enumerate() {
         let matrix = &matrices[number];
@@ -176,7 +176,7 @@ fn round_fault<F: TwoAdicField, E: ExtensionField<F>>(
     claims: &[MatrixOpening<E, TwoAdicMultiplicativeCoset<F>>],
 ) -> Mem<Option<PlainError>>
     requires { log_blowup ≤ F.TWO_ADICITY }
-    ensures { IfOk result (FirstFault (scheme F.ring F.inv F.root F.GENERATOR F.TWO_ADICITY (record { log_blowup = log_blowup })) E.ring E.embed (round_checks E.ring.zero (round, record { commitment = commitment.now; matrices = claims.now }))) }
+    ensures { IfOk result (FirstRefusal (round_checks (scheme F.ring F.inv F.root F.GENERATOR F.TWO_ADICITY (record { log_blowup = log_blowup })) E.ring E.embed round (record { commitment = commitment.now; matrices = claims.now }))) }
 {
     if commitment.matrices.len() != claims.len() {
         return Ok(Some(PlainError::RoundShape { round }));
@@ -192,7 +192,7 @@ pub(crate) fn first_fault<F: TwoAdicField, E: ExtensionField<F>>(
     claims: &[CommitmentOpening<E, PlainCommitment<F>, TwoAdicMultiplicativeCoset<F>>],
 ) -> Mem<Option<PlainError>>
     requires { log_blowup ≤ F.TWO_ADICITY }
-    ensures { IfOk result (λ o. MatchOption o (Opens (scheme F.ring F.inv F.root F.GENERATOR F.TWO_ADICITY (record { log_blowup = log_blowup })) E.ring E.embed claims.now) (Fault (scheme F.ring F.inv F.root F.GENERATOR F.TWO_ADICITY (record { log_blowup = log_blowup })) E.ring E.embed claims.now)) }
+    ensures { IfOk result (FirstRefusal (checks (scheme F.ring F.inv F.root F.GENERATOR F.TWO_ADICITY (record { log_blowup = log_blowup })) E.ring E.embed claims.now)) }
 {
     for (round, claim) in claims.iter().enumerate() {
         let matrices = &claim.matrices;

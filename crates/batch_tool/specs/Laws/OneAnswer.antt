@@ -3,6 +3,8 @@ use Rattle.std.proofs.Common.{◌≡◌, ℕ, ◌^◌, ◌<◌, ◌≤◌, false
 use Rattle.std.specs.Prelude.{codes, ◌⊎◌}
 use Rattle.std.proofs.lemmas.Bool.{cases_lt}
 use Rattle.std.proofs.lemmas.List.{append-nil}
+use Rattle.p3_field.specs.Checks.{Check, FirstRefusal, in_turn, AreSingle}
+use Rattle.p3_field.specs.Laws.Checks.{same_refusal, none_single, check_single, single_append, single_in_turn}
 use Rattle.p3_field.specs.declared.baby_bear.BabyBear.{BabyBear}
 use Rattle.p3_matrix.specs.Matrix.{Rows}
 use Rattle.batch_tool.specs.Limits.{most_log_rows}
@@ -10,15 +12,17 @@ use Rattle.line_format.specs.Texts.{line_text, Grammar}
 use Rattle.line_format.specs.WholeText.{IsNoText}
 use Rattle.batch_tool.specs.Job.{JobWithin, job_words}
 use Rattle.batch_tool.specs.FirstForm.{IsFirstForm, first_form_words}
-use Rattle.batch_tool.specs.Honest.{IsCommitted, IsGround, IsInTraceDomain, honest_proof, number_passes, zeta}
+use Rattle.p3_field.specs.declared.quartic.QuarticExtension.{QuarticExtension}
+use Rattle.plain_pcs.specs.declared.error.PlainError.TheVariants.{Degree, Value}
+use Rattle.batch_tool.specs.Proof.{ProofData}
+use Rattle.batch_tool.specs.Honest.{Instance, IsCommitted, IsGround, IsInTraceDomain, honest_proof, number_passes, zeta}
 use Rattle.batch_tool.specs.Tool.{tool}
 use Rattle.batch_tool.specs.Swap.{alternating, last_right, swap_stated}
 use Rattle.batch_tool.specs.ProofFile.{file_words}
 use Rattle.batch_tool.specs.Prove.{IsJobAnswer, instance_of}
-use Rattle.batch_tool.specs.Checks.{FirstFailing}
-use Rattle.batch_tool.specs.Verify.{checks, Meets}
+use Rattle.batch_tool.specs.Verify.{degree_check, value_check, point_checks, round_checks, HasLowDegree, HasClaimedValue, opening_checks, identity_checks, checks}
 use Rattle.batch_tool.specs.Refusals.{refusal_text}
-use Rattle.batch_tool.specs.FileAnswer.{stated, FirstRefusal, IsFileAnswer}
+use Rattle.batch_tool.specs.FileAnswer.{stated, file_checks, IsFileAnswer}
 use Rattle.batch_tool.specs.Answer.{Names, NamesSome, IsProveAnswer, IsVerifyAnswer, IsCommandAnswer, IsAnswer}
 use Rattle.line_format.specs.Laws.Lines.{lines-tell}
 use Rattle.batch_tool.specs.Laws.Jobs.{job-grammar}
@@ -29,6 +33,7 @@ use Rattle.batch_tool.specs.declared.command.Command.TheVariants.{Prove, Verify}
 use Rattle.batch_tool.specs.declared.job.SwapTable.{SwapTable}
 use Rattle.batch_tool.specs.declared.first_form.FirstForm.{FirstForm}
 use Rattle.batch_tool.specs.declared.refusal.Refusal.{Refusal}
+use Rattle.batch_tool.specs.declared.refusal.Refusal.TheVariants.{OodPowWitness, InvalidOpeningArgument, OodPointInDomain, OodEvaluationMismatch}
 use Rattle.batch_tool.specs.declared.status.Status.{Status}
 use Rattle.batch_tool.specs.declared.status.Status.TheVariants.{Done, Refused, Usage, BadInput, ReadFault, WriteFault, OutOfMemory, TooLarge}
 
@@ -47,22 +52,26 @@ text-tells {A} {within} {words} g v w p q e = elim (cases_lt (length (words v)) 
   | inr h ↦ front-tells g w v q p (sym e) h
 ]
 
--- of a list of checks one is the first that fails, or none fails
-pub one_first : {R : Type 0} (H : R → Type 0) (rs : List R) (a b : Option R) → FirstFailing H rs a → FirstFailing H rs b → a ≡ b
-unfolding FirstFailing
-one_first H [] None None f g = refl
-one_first H [] None (Some r) f g = absurd g
-one_first H [] (Some r) b f g = absurd f
-one_first H (r ∷ rs) a b f g = elim f [
-  | inl s ↦ elim g [
-    | inl t ↦ one_first H rs a b s.1 t.1
-    | inr t ↦ absurd (t.0 s.0)
-  ]
-  | inr s ↦ elim g [
-    | inl t ↦ absurd (s.0 t.0)
-    | inr t ↦ s.1 ∙ sym t.1
-  ]
-]
+-- each check of a proof has one refusal
+module _ (t : Instance BabyBear) (p : ProofData BabyBear QuarticExtension) where
+  round_single : (round columns points : ℕ) → AreSingle (round_checks tool t p round columns points)
+  round_single round columns points =
+      let degrees : List (Check Refusal) = in_turn columns (degree_check tool t p round) in
+      let values : List (Check Refusal) = in_turn points (point_checks tool t p round columns) in
+      single_append degrees values
+      (single_in_turn (degree_check tool t p round) columns (λ j. check_single (InvalidOpeningArgument (Degree round 0 j)) (HasLowDegree tool t p round j) [] (none_single Refusal)))
+      (single_in_turn (point_checks tool t p round columns) points
+      (λ at.
+      single_in_turn (value_check tool t p round at) columns
+      (λ j. check_single (InvalidOpeningArgument (Value round 0 at j)) (HasClaimedValue tool t p round at j) [] (none_single Refusal))))
+
+  pub checks_single : AreSingle (checks tool t p)
+  unfolding checks
+  checks_single =
+      check_single (OodPowWitness 4) _ _
+      (single_append (opening_checks tool t p) (identity_checks tool t p)
+      (single_append (round_checks tool t p 0 2 2) (round_checks tool t p 1 4 1) (round_single 0 2 2) (round_single 1 4 1))
+      (check_single OodPointInDomain _ _ (check_single (OodEvaluationMismatch 0) _ [] (none_single Refusal))))
 
 -- two answers are one
 abbrev pub SameAnswer : (s t : Status) (x y : List ℕ) → Type 0
@@ -77,7 +86,7 @@ text_of : Option Refusal → List ℕ
 text_of None = codes "accepted\n"
 text_of (Some refusal) = refusal_text refusal
 
-file-view : (file : FirstForm) (s : Status) (x : List ℕ) → IsFileAnswer file s x → (a : Option Refusal) × (FirstRefusal file a × ((s ≡ status_of a) × (x ≡ text_of a)))
+file-view : (file : FirstForm) (s : Status) (x : List ℕ) → IsFileAnswer file s x → (a : Option Refusal) × (FirstRefusal (file_checks file) a × ((s ≡ status_of a) × (x ≡ text_of a)))
 unfolding IsFileAnswer status_of text_of
 file-view file Done x a = (None, (a.0, (refl, a.1)))
 file-view file Refused x a = (Some a.0, (a.1, (refl, a.2)))
@@ -92,7 +101,7 @@ pub one_file : (file : FirstForm) (s t : Status) (x y : List ℕ) → IsFileAnsw
 one_file file s t x y a b =
     let (o, (f, (so, xo))) = file-view file s x a in
     let (p, (g, (tp, yp))) = file-view file t y b in
-    let same : o ≡ p = one_first (Meets tool (stated file.statement) file.proof) checks o p f g in
+    let same : o ≡ p = same_refusal (file_checks file) o p (checks_single (stated file.statement) file.proof) f g in
     (so ∙ (ap status_of same ∙ sym tp), xo ∙ (ap text_of same ∙ sym yp))
 
 -- one answer to a job, by what is committed

@@ -1,40 +1,44 @@
 -- Checks that hold have no fault, and there is one first fault at most.
-use Rattle.std.proofs.Common.{◌≡◌, suc, inl, inr, List, [], ◌∷◌, sym, ◌∙◌, arith}
+use Rattle.std.proofs.Common.{◌≡◌, ℕ, List, [], zip}
 use Rattle.p3_field.specs.Ring.{Ring}
-use Rattle.p3_commit.specs.Claims.{CommitmentClaim}
-use Rattle.p3_commit.specs.Failure.{NoneOf}
+use Rattle.p3_field.specs.Checks.{AreSingle, in_turn, of_items}
+use Rattle.p3_field.specs.Laws.Checks.{none_first, same_first, none_single, check_single, single_append, single_in_turn, single_of_items}
 use Rattle.p3_field.specs.Domain.{CosetData}
+use Rattle.p3_matrix.specs.Matrix.{Rows}
+use Rattle.p3_commit.specs.Claims.{PointClaim, MatrixClaim, CommitmentClaim}
+use Rattle.p3_commit.specs.Failure.{NoneOf}
 use Rattle.plain_pcs.specs.Scheme.{Scheme, PlainCommitmentData}
-use Rattle.plain_pcs.specs.Checks.{Check, NoneFails, FirstFails, Opens, Fault, checks}
+use Rattle.plain_pcs.specs.Checks.{HasDimensions, degree_check, value_check, point_checks, matrix_checks, round_checks, checks, Opens, Fault}
 use Rattle.plain_pcs.specs.declared.error.PlainError.{PlainError}
+use Rattle.plain_pcs.specs.declared.error.PlainError.TheVariants.{RoundShape, Dimensions, Degree, Value}
 
 module _ {F E : Type 0} (s : Scheme F) (ring : Ring E) (embed : F → E) where
-  pub none_first : (cs : List (Check F E)) (e : PlainError) → NoneFails s ring embed cs → FirstFails s ring embed cs e → ⊥
-  unfolding FirstFails
-  none_first [] e n f = f
-  none_first (c ∷ cs) e n f = elim f [
-    | inl t ↦ none_first cs e (λ i d k. n (suc i) d (omega arith)) t.1
-    | inr t ↦ t.0 (n 0 c (omega arith))
-  ]
+  -- each check has one refusal
+  point_single : (round matrix : ℕ) (m : Rows F) (k at : ℕ) (p : PointClaim E) → AreSingle (point_checks s ring embed round matrix m k at p)
+  point_single round matrix m k at p =
+      single_in_turn (value_check s ring embed round matrix m k at p) m.width (λ j. check_single (Value round matrix at j) _ [] (none_single PlainError))
 
-  pub same_first : (cs : List (Check F E)) (e g : PlainError) → FirstFails s ring embed cs e → FirstFails s ring embed cs g → e ≡ g
-  unfolding FirstFails
-  same_first [] e g a b = absurd a
-  same_first (c ∷ cs) e g a b = elim a [
-    | inl t ↦ elim b [
-      | inl u ↦ same_first cs e g t.1 u.1
-      | inr u ↦ absurd (u.0 t.0)
-    ]
-    | inr t ↦ elim b [
-      | inl u ↦ absurd (t.0 u.0)
-      | inr u ↦ t.1 ∙ sym u.1
-    ]
-  ]
+  matrix_single : (round matrix : ℕ) (c : Rows F × MatrixClaim E (CosetData F)) → AreSingle (matrix_checks s ring embed round matrix c)
+  matrix_single round matrix c =
+      let k = c.1.domain.log_size in
+      check_single (Dimensions round matrix) (HasDimensions s ring embed c.0 c.1) _ (
+      single_append (in_turn c.0.width (degree_check s ring embed round matrix c.0 k)) (of_items (point_checks s ring embed round matrix c.0 k) c.1.points)
+      (single_in_turn (degree_check s ring embed round matrix c.0 k) c.0.width (λ j. check_single (Degree round matrix j) _ [] (none_single PlainError)))
+      (single_of_items (point_checks s ring embed round matrix c.0 k) c.1.points (point_single round matrix c.0 k))
+      )
+
+  round_single : (round : ℕ) (c : CommitmentClaim E (PlainCommitmentData F) (CosetData F)) → AreSingle (round_checks s ring embed round c)
+  round_single round c =
+      check_single (RoundShape round) _ _ (single_of_items (matrix_checks s ring embed round) (zip c.commitment.matrices c.matrices) (matrix_single round))
+
+  pub checks_single : (claims : List (CommitmentClaim E (PlainCommitmentData F) (CosetData F))) → AreSingle (checks s ring embed claims)
+  unfolding checks
+  checks_single claims = single_of_items (round_checks s ring embed) claims round_single
 
   -- claims that the commitments open have no fault
   pub opens_faultless : (claims : List (CommitmentClaim E (PlainCommitmentData F) (CosetData F))) → Opens s ring embed claims → NoneOf (Fault s ring embed claims)
-  opens_faultless claims n = λ e f. none_first (checks ring.zero claims) e n f
+  opens_faultless claims n = λ e f. none_first (checks s ring embed claims) e n f
 
   -- and the first fault is one
   pub one_fault : (claims : List (CommitmentClaim E (PlainCommitmentData F) (CosetData F))) (e g : PlainError) → Fault s ring embed claims e → Fault s ring embed claims g → e ≡ g
-  one_fault claims e g a b = same_first (checks ring.zero claims) e g a b
+  one_fault claims e g a b = same_first (checks s ring embed claims) e g (checks_single claims) a b

@@ -1,18 +1,34 @@
--- An opening that is accepted has no fault.
-use Rattle.std.specs.Prelude.{ℕ, List, Bool}
+-- An opening that is accepted has no fault, and one that isn't has one first fault at most.
+use Rattle.std.specs.Prelude.{◌≡◌, ℕ, List, [], ◌∷◌, Bool, All}
+use Rattle.p3_field.specs.Checks.{check, NoneFails, AreSingle}
+use Rattle.p3_field.specs.Laws.Checks.{none_first, same_first, none_single, check_single}
 use Rattle.p3_matrix.specs.Matrix.{Rows}
 use Rattle.p3_matrix.specs.declared.dense.Dimensions.{Dimensions as Size}
-use Rattle.plain_pcs.specs.PlainMmcs.{IsFirstFault, IsOpened, IsFault, AreOpened, IsFaultOfAll}
+use Rattle.p3_commit.specs.Periodic.{EachFrom}
+use Rattle.p3_commit.specs.Batches.{IsRowOf}
+use Rattle.plain_pcs.specs.PlainMmcs.{opening_checks, HasShape, HaveShape, AreTheRows, IsOpened, IsFault, AreOpened, IsFaultOfAll}
 use Rattle.plain_pcs.specs.declared.plain_mmcs.PlainMmcsError.{PlainMmcsError}
 use Rattle.plain_pcs.specs.declared.plain_mmcs.PlainMmcsError.TheVariants.{Dimensions, Index, Value}
 
-no_first : (Shape Place Values : Type 0) → Shape → Place → Values → (e : PlainMmcsError) → IsFirstFault Shape Place Values e → ⊥
-no_first Shape Place Values s p v Dimensions f = f s
-no_first Shape Place Values s p v Index f = f.1 p
-no_first Shape Place Values s p v Value f = f.2 v
+none_of_three : (Shape Place Values : Type 0) → Shape → Place → Values → NoneFails (opening_checks Shape Place Values)
+unfolding NoneFails
+none_of_three Shape Place Values s p v = (s, (p, (v, tt)))
 
-pub opened_faultless : {T : Type 0} (eq : T → T → Bool) (ms : List (Rows T)) (ds : List Size) (i : ℕ) (rows : List (List T)) → IsOpened eq ms ds i rows → (e : PlainMmcsError) → IsFault eq ms ds i rows e → ⊥
-opened_faultless eq ms ds i rows h e f = no_first _ _ _ h.shape h.place h.values e f
+single : (Shape Place Values : Type 0) → AreSingle (opening_checks Shape Place Values)
+single Shape Place Values =
+    check_single Dimensions Shape (check Index Place ∷ check Value Values ∷ [])
+    (check_single Index Place (check Value Values ∷ []) (check_single Value Values [] (none_single PlainMmcsError)))
 
-pub all_opened_faultless : {T : Type 0} (eq : T → T → Bool) (ms : List (Rows T)) (ds : List Size) (is : List ℕ) (openings : List (List (List T))) → AreOpened eq ms ds is openings → (e : PlainMmcsError) → IsFaultOfAll eq ms ds is openings e → ⊥
-all_opened_faultless eq ms ds is openings h e f = no_first _ _ _ h.shape h.places h.values e f
+module _ {T : Type 0} (eq : T → T → Bool) (ms : List (Rows T)) (ds : List Size) where
+  pub opened_faultless : (i : ℕ) (rows : List (List T)) → IsOpened eq ms ds i rows → (e : PlainMmcsError) → IsFault eq ms ds i rows e → ⊥
+  opened_faultless i rows h e f = none_first _ e (none_of_three (HasShape ms ds rows) (IsRowOf ms i) (AreTheRows eq ms i rows) h.shape h.place h.values) f
+
+  pub one_opening_fault : (i : ℕ) (rows : List (List T)) (e g : PlainMmcsError) → IsFault eq ms ds i rows e → IsFault eq ms ds i rows g → e ≡ g
+  one_opening_fault i rows e g f h = same_first _ e g (single (HasShape ms ds rows) (IsRowOf ms i) (AreTheRows eq ms i rows)) f h
+
+  pub all_opened_faultless : (is : List ℕ) (openings : List (List (List T))) → AreOpened eq ms ds is openings → (e : PlainMmcsError) → IsFaultOfAll eq ms ds is openings e → ⊥
+  all_opened_faultless is openings h e f =
+      none_first _ e (none_of_three (HaveShape ms ds is openings) (All (IsRowOf ms) is) (EachFrom is openings (AreTheRows eq ms)) h.shape h.places h.values) f
+
+  pub one_fault_of_all : (is : List ℕ) (openings : List (List (List T))) (e g : PlainMmcsError) → IsFaultOfAll eq ms ds is openings e → IsFaultOfAll eq ms ds is openings g → e ≡ g
+  one_fault_of_all is openings e g f h = same_first _ e g (single (HaveShape ms ds is openings) (All (IsRowOf ms) is) (EachFrom is openings (AreTheRows eq ms))) f h

@@ -1,12 +1,12 @@
 -- Claims with the values of held polynomials pass each check.
-use Rattle.std.proofs.Common.{◌≡◌, ℕ, ◌+◌, ◌^◌, ◌≤◌, ◌<◌, List, [], ◌++◌, Some, length, get_or, map, refl, sym, ◌∙◌, ap, subst, arith}
-use Rattle.std.specs.Prelude.{slice_get, zip, flat_map, All}
+use Rattle.std.proofs.Common.{◌≡◌, ℕ, ◌+◌, ◌^◌, ◌≤◌, ◌<◌, List, [], ◌++◌, Some, None, length, get_or, map, refl, sym, ◌∙◌, ap, subst, arith}
+use Rattle.std.specs.Prelude.{slice_get, zip, All}
 use Rattle.std.proofs.lemmas.List.{length-map, get_or-map}
-use Rattle.std.proofs.lemmas.List.Elements.{All-cons, All-append, All-map, All-same}
+use Rattle.std.proofs.lemmas.List.Elements.{All-map, All-same}
 use Rattle.std.proofs.lemmas.Option.{slice_get_within}
 use Rattle.p3_field.specs.Ring.{Ring, RingLaws}
 use Rattle.p3_field.specs.Field.{RingHom}
-use Rattle.p3_field.specs.Poly.{val, table}
+use Rattle.p3_field.specs.Poly.{val}
 use Rattle.p3_field.specs.Domain.{CosetData, point, IsInterpolant}
 use Rattle.p3_matrix.specs.Matrix.{Rows, height, column}
 use Rattle.p3_matrix.specs.Laws.Powers.{power_cancel}
@@ -16,11 +16,13 @@ use Rattle.p3_commit.specs.Commitments.{Committed, Held, AreHeld, AreClaims, IsM
 use Rattle.p3_commit.specs.Laws.Pairs.{length-zip, slice_get-zip}
 use Rattle.plain_pcs.specs.Scheme.{Scheme, PlainCommitmentData}
 use Rattle.plain_pcs.specs.Extension.{extended_domain}
-use Rattle.plain_pcs.specs.Checks.{same_count, dimensions, low_degree, has_value, Check, Holds, IsColumnPolynomial, NoneFails, numbered, point_checks, matrix_checks, round_checks, checks, Opens}
+use Rattle.p3_field.specs.Checks.{check, NoneFails, in_turn, of_items}
+use Rattle.p3_field.specs.Laws.Checks.{refusal_later, none_append, none_alone, none_of_each, none_of_items}
+use Rattle.plain_pcs.specs.Checks.{HasDimensions, HasLowDegree, HasValue, IsColumnPolynomial, degree_check, value_check, point_checks, matrix_checks, round_checks, checks, Opens}
 use Rattle.plain_pcs.specs.Holding.{IsMade, IsHolding, AreHolding}
 use Rattle.plain_pcs.specs.declared.error.PlainError.TheVariants.{RoundShape, Dimensions, Degree, Value}
 use Rattle.plain_pcs.specs.Laws.Evaluations.{width-evaluations, height-evaluations, column-evaluations}
-use Rattle.plain_pcs.specs.Laws.Listed.{item_at, item_has, all_flat_map, all_table, all_numbered, zip_item}
+use Rattle.plain_pcs.specs.Laws.Listed.{item_at, item_has, zip_item}
 use Rattle.plain_pcs.specs.Laws.Held.{power_within, holding_count}
 use Rattle.plain_pcs.specs.Laws.Short.{filled, filled_interpolant, filled_degree, filled_value}
 
@@ -58,14 +60,14 @@ module _ {F E : Type 0} (s : Scheme F) (ring : Ring E) (embed : F → E) (L : Ri
         subst P (sym e) (filled_interpolant s.field.ring L (2 ^ (I.log_size + s.log_blowup)) f (point s.field.ring s.field.root (extended_domain s I.log_size)) (column s.field.ring.zero l j)
         (let n = power_within I.log_size (I.log_size + s.log_blowup) (omega arith) in omega (arith, polynomial_length j h, n)) column_is)
 
-    degree_holds : (k j : ℕ) → k ≡ I.log_size → j < l.width → Holds s ring embed (low_degree l k j)
+    degree_holds : (k j : ℕ) → k ≡ I.log_size → j < l.width → HasLowDegree s ring embed l k j
     unfolding polynomial
     degree_holds k j e h =
         let f = get_or c.polynomials j [] in
         let n : length f ≤ 2 ^ k = omega (arith, polynomial_length j h, ap (λ i. 2 ^ i) e) in
         (polynomial j, column_polynomial k j e h, filled_degree s.field.ring L (2 ^ (I.log_size + s.log_blowup)) f (2 ^ k) n)
 
-    value_holds : (k j : ℕ) (x : E) (ys : List E) → k ≡ I.log_size → j < l.width → ys ≡ values_of ring embed c x → Holds s ring embed (has_value l k j x (get_or ys j ring.zero))
+    value_holds : (k j : ℕ) (x : E) (ys : List E) → k ≡ I.log_size → j < l.width → ys ≡ values_of ring embed c x → HasValue s ring embed l k j x (get_or ys j ring.zero)
     unfolding polynomial
     value_holds k j x ys e h q =
         let f = get_or c.polynomials j [] in
@@ -84,7 +86,7 @@ module _ {F E : Type 0} (s : Scheme F) (ring : Ring E) (embed : F → E) (L : Ri
           let g : E → PointClaim E = λ x. record { point = x; values = values_of ring embed c x } in
           All-same P m.points (map g xs) C.points_are (All-map P g xs (λ k x h. refl))
 
-      dimensions_hold : Holds s ring embed (dimensions l m)
+      dimensions_hold : HasDimensions s ring embed l m
       dimensions_hold = record {
         fits = let f = I.fits in omega (arith, log_size_is);
         height_is = height_is ∙ ap (λ k. 2 ^ (k + s.log_blowup)) (sym log_size_is);
@@ -93,19 +95,20 @@ module _ {F E : Type 0} (s : Scheme F) (ring : Ring E) (embed : F → E) (L : Ri
       }
 
       -- a matrix of held polynomials passes its checks
-      matrix_holds : (round n : ℕ) → NoneFails s ring embed (matrix_checks ring.zero round (n, (l, m)))
+      matrix_holds : (round n : ℕ) → NoneFails (matrix_checks s ring embed round n (l, m))
       matrix_holds round n =
-          let P : Check F E → Type 0 = λ k. Holds s ring embed k.fact in
           let k = m.domain.log_size in
-          let degree : ℕ → Check F E = λ j. record { error = Degree round n j; fact = low_degree l k j } in
-          let values : ℕ × PointClaim E → List (Check F E) = point_checks ring.zero round n l k in
-          let of_point : (i : ℕ) (e : ℕ × PointClaim E) → slice_get m.points i ≡ Some e.1 → All P (values e) = λ i e h.
-          all_table P l.width (λ j. record { error = Value round n e.0 j; fact = has_value l k j e.1.point (get_or e.1.values j ring.zero) })
-          (λ j b. value_holds k j e.1.point e.1.values log_size_is b (item_has (λ p. p.values ≡ values_of ring embed c p.point) m.points i e.1 points_have_values h)) in
-          All-cons P (record { error = Dimensions round n; fact = dimensions l m }) (table l.width degree ++ flat_map values (numbered m.points)) dimensions_hold
-          (All-append P (table l.width degree) (flat_map values (numbered m.points))
-          (all_table P l.width degree (λ j b. degree_holds k j log_size_is b))
-          (all_flat_map P values (numbered m.points) (all_numbered (λ e. All P (values e)) m.points of_point)))
+          let degree = degree_check s ring embed round n l k in
+          let values = point_checks s ring embed round n l k in
+          refusal_later (check (Dimensions round n) (HasDimensions s ring embed l m)) (in_turn l.width degree ++ of_items values m.points) None dimensions_hold
+          (none_append (in_turn l.width degree) (of_items values m.points)
+          (none_of_each degree l.width (λ j b. none_alone (check (Degree round n j) (HasLowDegree s ring embed l k j)) (degree_holds k j log_size_is b)))
+          (none_of_items values m.points
+          (λ at p q.
+          none_of_each (value_check s ring embed round n l k at p) l.width
+          (λ j b.
+          none_alone (check (Value round n at j) (HasValue s ring embed l k j p.point (get_or p.values j ring.zero)))
+          (value_holds k j p.point p.values log_size_is b (item_has (λ p. p.values ≡ values_of ring embed c p.point) m.points at p points_have_values q))))))
 
   module _ (h : Held (PlainCommitmentData F) F) (q : Request (List (CosetData F × Rows F)) E) (c : CommitmentClaim E (PlainCommitmentData F) (CosetData F))
       (made : IsMade q.prover_data) (lists : length q.points ≡ length q.prover_data) (A : AreHolding s q.prover_data h.commitment h.matrices) (C : IsRoundClaim ring embed size h q c) where
@@ -121,25 +124,23 @@ module _ {F E : Type 0} (s : Scheme F) (ring : Ring E) (embed : F → E) (L : Ri
     commitment_count = ap (λ (k : PlainCommitmentData F). length k.matrices) C.commitment_is ∙ (sym A.count ∙ sym claims_count)
 
     -- the matrix and the claim at a place pass their checks
-    place_holds : (round k : ℕ) (e : ℕ × (Rows F × MatrixClaim E (CosetData F))) → slice_get (zip c.commitment.matrices c.matrices) k ≡ Some e.1 → NoneFails s ring embed (matrix_checks ring.zero round e)
+    place_holds : (round k : ℕ) (e : Rows F × MatrixClaim E (CosetData F)) → slice_get (zip c.commitment.matrices c.matrices) k ≡ Some e → NoneFails (matrix_checks s ring embed round k e)
     place_holds round k e i =
-        let (a, b) = slice_get-zip c.commitment.matrices c.matrices k e.1 i in
-        let a' : slice_get h.commitment.matrices k ≡ Some e.1.0 = ap (λ (w : PlainCommitmentData F). slice_get w.matrices k) (sym C.commitment_is) ∙ a in
-        let inside : k < length c.matrices = slice_get_within c.matrices k e.1.1 b in
+        let (a, b) = slice_get-zip c.commitment.matrices c.matrices k e i in
+        let a' : slice_get h.commitment.matrices k ≡ Some e.0 = ap (λ (w : PlainCommitmentData F). slice_get w.matrices k) (sym C.commitment_is) ∙ a in
+        let inside : k < length c.matrices = slice_get_within c.matrices k e.1 b in
         let (d, d') = item_at q.prover_data k (omega (arith, claims_count)) in
         let (p, p') = item_at (zip h.matrices q.points) k (omega (arith, C.matrices_are.count)) in
         let held = slice_get-zip h.matrices q.points k p p' in
-        let I : IsHolding s d e.1.0 p.0 = A.each.each k p.0 held.0 (d, e.1.0) (zip_item q.prover_data h.commitment.matrices k d e.1.0 d' a') in
-        matrix_holds d e.1.0 p.0 (item_has (λ (w : CosetData F × Rows F). (0 < w.1.width) × (height w.1 ≡ 2 ^ w.0.log_size)) q.prover_data k d made d') I p.1 e.1.1 (C.matrices_are.each k e.1.1 b p p') round e.0
+        let I : IsHolding s d e.0 p.0 = A.each.each k p.0 held.0 (d, e.0) (zip_item q.prover_data h.commitment.matrices k d e.0 d' a') in
+        matrix_holds d e.0 p.0 (item_has (λ (w : CosetData F × Rows F). (0 < w.1.width) × (height w.1 ≡ 2 ^ w.0.log_size)) q.prover_data k d made d') I p.1 e.1 (C.matrices_are.each k e.1 b p p') round k
 
     -- the claims on a commitment pass their checks
-    round_holds : (round : ℕ) → NoneFails s ring embed (round_checks ring.zero (round, c))
+    round_holds : (round : ℕ) → NoneFails (round_checks s ring embed round c)
     round_holds round =
-        let P : Check F E → Type 0 = λ k. Holds s ring embed k.fact in
-        let ms = zip c.commitment.matrices c.matrices in
-        let first : Check F E = record { error = RoundShape round; fact = same_count (length c.commitment.matrices) (length c.matrices) } in
-        All-cons P first (flat_map (matrix_checks ring.zero round) (numbered ms)) commitment_count
-        (all_flat_map P (matrix_checks ring.zero round) (numbered ms) (all_numbered (λ e. All P (matrix_checks ring.zero round e)) ms (place_holds round)))
+        let parts = zip c.commitment.matrices c.matrices in
+        refusal_later (check (RoundShape round) (length c.commitment.matrices ≡ length c.matrices)) (of_items (matrix_checks s ring embed round) parts) None commitment_count
+        (none_of_items (matrix_checks s ring embed round) parts (place_holds round))
 
   -- the claims that hold of what was asked for are opened
   pub honest_opens : (requests : List (Request (List (CosetData F × Rows F)) E)) (held : List (Held (PlainCommitmentData F) F)) (claims : List (CommitmentClaim E (PlainCommitmentData F) (CosetData F)))
@@ -147,13 +148,12 @@ module _ {F E : Type 0} (s : Scheme F) (ring : Ring E) (embed : F → E) (L : Ri
       → AreClaims ring embed size held requests claims → Opens s ring embed claims
   unfolding checks
   honest_opens requests held claims made lists A C =
-      let P : Check F E → Type 0 = λ k. Holds s ring embed k.fact in
-      all_flat_map P (round_checks ring.zero) (numbered claims) (all_numbered (λ e. All P (round_checks ring.zero e)) claims
+      none_of_items (round_checks s ring embed) claims
       (λ k e h.
-      let inside : k < length claims = slice_get_within claims k e.1 h in
+      let inside : k < length claims = slice_get_within claims k e h in
       let (p, p') = item_at (zip held requests) k (omega (arith, C.count)) in
       let both = slice_get-zip held requests k p p' in
-      round_holds p.0 p.1 e.1
+      round_holds p.0 p.1 e
       (item_has (λ (q : Request (List (CosetData F × Rows F)) E). IsMade q.prover_data) requests k p.1 made both.1)
       (item_has (λ (q : Request (List (CosetData F × Rows F)) E). length q.points ≡ length q.prover_data) requests k p.1 lists both.1)
-      (A.each k p.0 both.0 p.1 both.1) (C.each k e.1 h p p') e.0))
+      (A.each k p.0 both.0 p.1 both.1) (C.each k e h p p') k)

@@ -1,12 +1,8 @@
 -- Properties of each item of lists that are put together.
 use Rattle.std.proofs.Common.{◌≡◌, ℕ, zero, suc, ◌<◌, List, [], ◌∷◌, Some, length, get_or, refl, sym, subst, arith}
-use Rattle.std.specs.Prelude.{slice_get, zip, flat_map, All}
-use Rattle.std.proofs.lemmas.List.Elements.{All-nil, All-head, All-tail, All-append}
+use Rattle.std.specs.Prelude.{slice_get, zip, All, Option, IfSome}
 use Rattle.std.proofs.lemmas.Option.{slice_get_within, slice_get-get_or, get_or_from_slice_get}
-use Rattle.p3_field.specs.Poly.{table}
-use Rattle.p3_field.specs.Laws.Tables.{length-table, get_or-table}
-use Rattle.p3_commit.specs.Laws.Pairs.{slice_get-zip}
-use Rattle.plain_pcs.specs.Checks.{numbered}
+use Rattle.p3_field.specs.Checks.{IsFirstWithout}
 
 -- a place in a list has an item
 pub item_at : {X : Type 0} (xs : List X) (k : ℕ) → k < length xs → (x : X) × (slice_get xs k ≡ Some x)
@@ -21,23 +17,33 @@ all_items P xs f k d h = f k (get_or xs k d) (slice_get-get_or xs k d h)
 pub item_has : {X : Type 0} (P : X → Type 0) (xs : List X) (k : ℕ) (x : X) → All P xs → slice_get xs k ≡ Some x → P x
 item_has P xs k x a e = subst P (get_or_from_slice_get xs k x x e) (a k x (slice_get_within xs k x e))
 
-pub all_flat_map : {X A : Type 0} (P : A → Type 0) (f : X → List A) (xs : List X) → All (λ x. All P (f x)) xs → All P (flat_map f xs)
-all_flat_map P f [] a = All-nil P
-all_flat_map P f (x ∷ xs) a =
-    All-append P (f x) (flat_map f xs) (All-head (λ y. All P (f y)) x xs a) (all_flat_map P f xs (All-tail (λ y. All P (f y)) x xs a))
-
-pub all_table : {A : Type 0} (P : A → Type 0) (n : ℕ) (t : ℕ → A) → ((i : ℕ) → i < n → P (t i)) → All P (table n t)
-all_table P n t f k d h =
-    let b : k < n = omega (arith, length-table n t) in
-    subst P (sym (get_or-table n t k d b)) (f k b)
-
--- a number and an item are those of a place
-pub all_numbered : {X : Type 0} (P : ℕ × X → Type 0) (xs : List X) → ((k : ℕ) (e : ℕ × X) → slice_get xs k ≡ Some e.1 → P e) → All P (numbered xs)
-all_numbered P xs f = all_items P (numbered xs) (λ k e h. f k e (slice_get-zip (table (length xs) (λ i. i)) xs k e h).1)
-
 -- items at the same place are a pair at this place
 pub zip_item : {X Y : Type 0} (xs : List X) (ys : List Y) (k : ℕ) (x : X) (y : Y) → slice_get xs k ≡ Some x → slice_get ys k ≡ Some y → slice_get (zip xs ys) k ≡ Some (x, y)
 zip_item [] ys k x y a b = cc
 zip_item (v ∷ xs) [] k x y a b = cc
 zip_item (v ∷ xs) (w ∷ ys) zero x y a b = cc
 zip_item (v ∷ xs) (w ∷ ys) (suc k) x y a b = zip_item xs ys k x y a b
+
+-- the first item that lacks a property is there and lacks it, and each before it has it
+pub lacking : {X : Type 0} (P : X → Type 0) (xs : List X) (i : ℕ) → IsFirstWithout P xs i → (x : X) × (slice_get xs i ≡ Some x) × (P x → ⊥)
+lacking {X} P xs i F =
+    let (x, q) = item_at xs i F.within in
+    let at : Option X → Type 0 = λ o. IfSome o P in
+    (x, q, λ p. F.fails (subst at (sym q) p))
+
+pub earlier_has : {X : Type 0} (P : X → Type 0) (xs : List X) (i j : ℕ) (x : X) → IsFirstWithout P xs i → j < i → slice_get xs j ≡ Some x → P x
+earlier_has {X} P xs i j x F b q = let at : Option X → Type 0 = λ o. IfSome o P in subst at q (F.earlier j b)
+
+-- and so it is found
+pub first_lacking : {X : Type 0} (P : X → Type 0) (xs : List X) (i : ℕ) (x : X) → slice_get xs i ≡ Some x → (P x → ⊥) → ((j : ℕ) (y : X) → j < i → slice_get xs j ≡ Some y → P y)
+    → IsFirstWithout P xs i
+first_lacking {X} P xs i x q lacks before =
+    let at : Option X → Type 0 = λ o. IfSome o P in
+    let within : i < length xs = slice_get_within xs i x q in
+    record {
+      within = within;
+      fails = λ p. lacks (subst at q p);
+      earlier = λ j b.
+          let (y, r) = item_at xs j (omega (arith, b, within)) in
+          subst at (sym r) (before j y b r);
+    }

@@ -18,8 +18,9 @@ use Rattle.p3_commit.specs.Laws.Codes.{width_positive}
 use Rattle.p3_commit.specs.Laws.FlatBatches.{product_cancel}
 use Rattle.plain_pcs.specs.Scheme.{Scheme}
 use Rattle.plain_pcs.specs.Extension.{IsCommittable, Extends}
-use Rattle.plain_pcs.specs.Refusals.{IsFirstWithout, CommitFault, ExtensionsFault, HasSubgroupHeight, QuotientFault}
-use Rattle.plain_pcs.specs.Laws.Listed.{item_at}
+use Rattle.p3_field.specs.Checks.{IsFirstWithout}
+use Rattle.plain_pcs.specs.Refusals.{CommitFault, ExtensionsFault, HasSubgroupHeight, QuotientFault}
+use Rattle.plain_pcs.specs.Laws.Listed.{item_at, lacking, earlier_has, first_lacking}
 use Rattle.plain_pcs.specs.Laws.Extensions.{height-extension}
 use Rattle.plain_pcs.specs.declared.error.PlainProverError.{PlainProverError}
 use Rattle.plain_pcs.specs.declared.error.PlainProverError.TheVariants.{Commit, Open}
@@ -63,7 +64,7 @@ module _ {F : Type 0} (s : Scheme F) (d : CosetData F) (m : Rows F) (n : ℕ) (p
   too_large : (i : ℕ) → IsFirstWithout (λ e. IsCommittable s e.0 e.1) parts i → 2 ^ s.most * n < 2 ^ (d.log_size + s.log_blowup)
   too_large i L = elim (cases_lt (2 ^ s.most * n) (2 ^ (d.log_size + s.log_blowup))) [
     | inl h ↦ h
-    | inr h ↦ absurd (L.lacks (part_committable i L.item L.item_is h))
+    | inr h ↦ let (x, q, lacks) = lacking (λ e. IsCommittable s e.0 e.1) parts i L in absurd (lacks (part_committable i x q h))
   ]
 
   -- the first of equal parts that can't be committed to is the first part
@@ -71,7 +72,8 @@ module _ {F : Type 0} (s : Scheme F) (d : CosetData F) (m : Rows F) (n : ℕ) (p
   first_named i L = elim (cases_lt 0 i) [
     | inl h ↦
         let (x, q) = first_part in
-        absurd (L.lacks (part_committable i L.item L.item_is (part_fits 0 x q (L.earlier 0 x h q))))
+        let (y, r, lacks) = lacking (λ e. IsCommittable s e.0 e.1) parts i L in
+        absurd (lacks (part_committable i y r (part_fits 0 x q (earlier_has (λ e. IsCommittable s e.0 e.1) parts i 0 x L h q))))
     | inr h ↦ omega arith
   ]
 
@@ -87,17 +89,14 @@ module _ {F : Type 0} (s : Scheme F) (d : CosetData F) (m : Rows F) (n : ℕ) (p
     refused_by_parts (Commit i) (inl f) = (first_named i f, too_large i f)
     refused_by_parts (Commit i) (inr f) =
         let (ls, E, g) = f.1 in
-        absurd (g.lacks (extended_height ls E i g.item g.item_is))
+        let (l, q, lacks) = lacking (HasSubgroupHeight s.most) ls i g in
+        absurd (lacks (extended_height ls E i l q))
     refused_by_parts (Open i) (inl f) = f
     refused_by_parts (Open i) (inr f) = let (ls, E, g) = f.1 in g
 
   pub granted_by_parts : NoneInTurn (CommitFault s parts) (AreExtensions (Extends s) parts) (ExtensionsFault s) → NoneOf (QuotientFault s d n)
   granted_by_parts N (Commit i) h =
       let (x, q) = first_part in
-      N.0 (Commit 0) (record {
-        item = x;
-        item_is = q;
-        lacks = λ C. let low = part_fits 0 x q C in omega (arith, low, h.1);
-        earlier = λ j y lt a. absurd (omega arith);
-      })
+      N.0 (Commit 0)
+      (first_lacking (λ e. IsCommittable s e.0 e.1) parts 0 x q (λ C. let low = part_fits 0 x q C in omega (arith, low, h.1)) (λ j y lt a. absurd (omega arith)))
   granted_by_parts N (Open i) h = h

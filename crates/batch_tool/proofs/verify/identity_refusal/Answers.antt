@@ -1,12 +1,12 @@
-use Rattle.std.proofs.Common.{◌↔◌, [], ◌∷◌, Some, None, ◌∙◌, ap, subst}
+use Rattle.std.proofs.Common.{◌↔◌, ◌∙◌, ap, subst}
 use Rattle.std.specs.Prelude.{IsTrue}
 use Rattle.p3_field.specs.declared.quartic.QuarticExtension.{QuarticExtension}
 use Rattle.batch_tool.specs.FileAnswer.{stated}
 use Rattle.batch_tool.specs.Honest.{IsInTraceDomain}
 use Rattle.batch_tool.specs.Tool.{tool}
-use Rattle.batch_tool.specs.Verify.{Meets, Identity, local_opened, next_opened, chunk_opened}
-use Rattle.batch_tool.specs.declared.refusal.Refusal.TheVariants.{OodPointInDomain, OodEvaluationMismatch}
-use Rattle.batch_tool.proofs.Checking.{along-five, first-after, first-one, first-fails}
+use Rattle.batch_tool.specs.Verify.{Identity, local_opened, next_opened, chunk_opened}
+use Rattle.batch_tool.proofs.Checking.{along-five}
+use Rattle.batch_tool.proofs.Verifying.{inside-fails, identity-fails, identity-holds}
 use Rattle.batch_tool.proofs.Committing.{told-true, told-false}
 use Rattle.batch_tool.proofs.verify.identity_refusal.Goals as goal
 
@@ -16,7 +16,7 @@ returns-then-is_in_trace_domain c =
     let p = c.args.proof.now in
     let P : QuarticExtension → Type 0 = λ z. IsTrue c.is_in_trace_domain.result ↔ IsInTraceDomain tool (stated s) z in
     let tells = subst P c.requires.zeta (c.is_in_trace_domain.ensures s.a s.b s.x) in
-    first-fails (Meets tool (stated s) p) OodPointInDomain (OodEvaluationMismatch 0 ∷ []) (λ outside. outside (tells.0 (told-true c.if-is_in_trace_domain.true)))
+    inside-fails (stated s) p (tells.0 (told-true c.if-is_in_trace_domain.true))
 
 pub returns-then-not-identity_holds : goal.returns-then-not-identity_holds
 returns-then-not-identity_holds c =
@@ -27,9 +27,7 @@ returns-then-not-identity_holds c =
     let same = along-five (λ a z l n q. IsTrue c.identity_holds.result ↔ Identity tool (stated s) a z l n q) c.requires.alpha c.requires.zeta
     (c.deref.ensures.value ∙ ap (λ v. local_opened v.instances) c.proof.view_is) (c.deref-2.ensures.value ∙ ap (λ v. next_opened v.instances) c.proof.view_is)
     (c.deref-3.ensures.value ∙ ap (λ v. chunk_opened v.instances) c.proof.view_is) c.identity_holds.ensures in
-    first-after (Meets tool (stated s) p) (OodPointInDomain ∷ []) (OodEvaluationMismatch 0 ∷ []) (Some (OodEvaluationMismatch 0))
-    (first-one (Meets tool (stated s) p) OodPointInDomain (λ inside. told-false c.if-is_in_trace_domain.false (tells.1 inside)))
-    (first-fails (Meets tool (stated s) p) (OodEvaluationMismatch 0) [] (λ holds. told-false c.if-not-identity_holds.true (same.1 holds)))
+    identity-fails (stated s) p (λ inside. told-false c.if-is_in_trace_domain.false (tells.1 inside)) (λ holds. told-false c.if-not-identity_holds.true (same.1 holds))
 
 pub returns : goal.returns
 returns c =
@@ -40,6 +38,4 @@ returns c =
     let same = along-five (λ a z l n q. IsTrue c.identity_holds.result ↔ Identity tool (stated s) a z l n q) c.requires.alpha c.requires.zeta
     (c.deref.ensures.value ∙ ap (λ v. local_opened v.instances) c.proof.view_is) (c.deref-2.ensures.value ∙ ap (λ v. next_opened v.instances) c.proof.view_is)
     (c.deref-3.ensures.value ∙ ap (λ v. chunk_opened v.instances) c.proof.view_is) c.identity_holds.ensures in
-    first-after (Meets tool (stated s) p) (OodPointInDomain ∷ []) (OodEvaluationMismatch 0 ∷ []) None
-    (first-one (Meets tool (stated s) p) OodPointInDomain (λ inside. told-false c.if-is_in_trace_domain.false (tells.1 inside)))
-    (first-one (Meets tool (stated s) p) (OodEvaluationMismatch 0) (same.0 (told-true c.if-not-identity_holds.false)))
+    identity-holds (stated s) p (λ inside. told-false c.if-is_in_trace_domain.false (tells.1 inside)) (same.0 (told-true c.if-not-identity_holds.false))

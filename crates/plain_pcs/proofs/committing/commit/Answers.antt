@@ -4,7 +4,7 @@ use Rattle.p3_matrix.specs.Matrix.{Rows}
 use Rattle.p3_commit.specs.Commitments.{AreExtensions}
 use Rattle.plain_pcs.specs.Scheme.{scheme}
 use Rattle.plain_pcs.specs.Extension.{IsCommittable, Extends}
-use Rattle.plain_pcs.specs.Refusals.{IsFirstWithout}
+use Rattle.p3_field.specs.Checks.{IsFirstWithout}
 use Rattle.plain_pcs.proofs.Commitments.{if_wanting, no_commit_fault, commitment_given}
 use Rattle.plain_pcs.proofs.committing.commit.Goals as goal
 

@@ -3,7 +3,7 @@ use Rattle.p3_field.specs.Domain.{CosetData}
 use Rattle.p3_matrix.specs.Matrix.{Rows}
 use Rattle.plain_pcs.specs.Scheme.{scheme}
 use Rattle.plain_pcs.specs.Extension.{IsCommittable}
-use Rattle.plain_pcs.specs.Refusals.{IsFirstWithout}
+use Rattle.p3_field.specs.Checks.{IsFirstWithout}
 use Rattle.plain_pcs.proofs.Commitments.{if_wanting, no_commit_fault}
 use Rattle.plain_pcs.proofs.committing.extensions.Goals as goal
 
