@@ -71,9 +71,10 @@ pub record IsFirstFailing {F : Type 0} (r : Ring F) (t : Table F) (ts : List (Tr
   pub failing : 0 < length ps
   pub places : AreNonzero r (row_values r t ts row) ps
 
--- the answer for a table whose constraints are these trees
+-- The answer for a table whose constraints are these trees. Heights that differ are found without memory, so out of
+-- memory comes only where they agree.
 abbrev pub IsChecked : {F : Type 0} → Ring F → Table F → List (Tree F) → Result (Unit {0}) CheckFailure → Type 0
 IsChecked r t ts (Ok x) = HasHeight t.preprocessed (height t.main) × ((i : ℕ) → i < height t.main → HoldsAtRow r t ts i)
 IsChecked r t ts (Err PreprocessedHeight) = HasHeight t.preprocessed (height t.main) → ⊥
 IsChecked r t ts (Err (Failing row places)) = HasHeight t.preprocessed (height t.main) × IsFirstFailing r t ts row places.items
-IsChecked r t ts (Err OutOfMemory) = Unit {0}
+IsChecked r t ts (Err OutOfMemory) = HasHeight t.preprocessed (height t.main)
