@@ -1,3 +1,4 @@
 pub mod Packing
+pub mod NodeDegrees
 pub mod Nonzero
 pub mod RowOf

@@ -66,9 +66,9 @@ HasHeight None n = Unit {0}
 HasHeight (Some m) n = height m ≡ n
 
 -- The answer for a table whose constraints are these trees: after the height of the preprocessed trace the first row with a tree that isn't zero, with the
--- places of all such trees there.
+-- places of all such trees there. Heights that differ are found without memory, so out of memory comes only where they agree.
 abbrev pub IsChecked : {F : Type 0} → Ring F → Table F → List (Tree F) → Result (Unit {0}) CheckFailure → Type 0
 IsChecked r t ts (Ok x) = HasHeight t.preprocessed (height t.main) × FirstFailing (height t.main) (HoldsAtRow r t ts) None
 IsChecked r t ts (Err PreprocessedHeight) = HasHeight t.preprocessed (height t.main) → ⊥
 IsChecked r t ts (Err (Failing row places)) = HasHeight t.preprocessed (height t.main) × IsFirstFailing (height t.main) (HoldsAtRow r t ts) row × AreNonzero r (row_values r t ts row) places.items
-IsChecked r t ts (Err OutOfMemory) = Unit {0}
+IsChecked r t ts (Err OutOfMemory) = HasHeight t.preprocessed (height t.main)

@@ -5,6 +5,8 @@ use Rattle.p3_air.specs.declared.cells.Cell.{Cell}
 use Rattle.p3_air.specs.declared.cells.Cell.TheVariants.{Main, Preprocessed, Periodic, Public, FirstRow, LastRow, Transition}
 use Rattle.p3_air.specs.declared.cells.ExtCell.{ExtCell}
 use Rattle.p3_air.specs.declared.cells.ExtCell.TheVariants.{Permutation, Challenge, Terminal}
+use Rattle.p3_air.specs.declared.node.Node.{Node}
+use Rattle.p3_air.specs.declared.node.Node.TheVariants.{Constant, Base, Extension, Sum, Difference, Product}
 use Rattle.p3_air.specs.Tree.{Tree, constant, cell, ext_cell, sum, difference, product}
 
 -- the sum, which stops at the greatest usize
@@ -19,6 +21,15 @@ degree f g (ext_cell c) = g c
 degree f g (sum x y) = max (degree f g x) (degree f g y)
 degree f g (difference x y) = max (degree f g x) (degree f g y)
 degree f g (product x y) = capped_sum (degree f g x) (degree f g y)
+
+-- the degree of a node whose operands have these degrees
+abbrev pub node_degree : {F : Type 0} → (Cell → ℕ) → (ExtCell → ℕ) → List ℕ → Node F → ℕ
+node_degree f g ds (Constant x) = 0
+node_degree f g ds (Base c) = f c
+node_degree f g ds (Extension c) = g c
+node_degree f g ds (Sum i j) = max (slice_index ds i) (slice_index ds j)
+node_degree f g ds (Difference i j) = max (slice_index ds i) (slice_index ds j)
+node_degree f g ds (Product i j) = capped_sum (slice_index ds i) (slice_index ds j)
 
 -- a cell's degree as a multiple of the height, where the transition selector has degree t
 abbrev pub cell_multiple : ℕ → Cell → ℕ

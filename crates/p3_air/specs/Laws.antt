@@ -3,6 +3,7 @@ pub mod Symbolic
 pub mod Gadgets
 pub mod Words
 pub mod Stand
+pub mod Asserting
 pub mod Growth
 pub mod Declared
 pub mod RowCheck

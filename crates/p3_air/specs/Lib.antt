@@ -1,6 +1,7 @@
 pub mod Tree
 pub mod Shape
 pub mod Symbolic
+pub mod Asserting
 pub mod Degree
 pub mod Gadgets
 pub mod Words

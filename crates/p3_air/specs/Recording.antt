@@ -79,6 +79,10 @@ pub record Grows {F : Type 0} (a b : Recording F) (ts : List (Asserted F)) (is :
 abbrev pub known_place : ℕ → ℕ → ℕ
 known_place n x = cond (nat_lt x n) x 0
 
+-- The recording after this expression was asserted: one that is not among its nodes is asserted as the constant zero.
+abbrev pub asserting : {F : Type 0} → Recording F → ℕ → Bool → Recording F
+asserting r x in_extension = record r { asserted = r.asserted ++ record { place = known_place (length r.nodes) x; in_extension = in_extension } ∷ [] }
+
 -- the assertion was made over the extension, or, where that is what is asked, over the base field
 abbrev pub is_in : Bool → Assertion → Bool
 is_in extension a = cond a.in_extension extension (not extension)
@@ -107,3 +111,13 @@ trees_over extension ts = map (λ a. a.tree) (filter (is_over extension) ts)
 
 abbrev pub known_count : ℕ → Count ℕ → Count ℕ
 known_count n c = record { value = known_place n c.value; bound = c.bound }
+
+-- the name of a bus, or none for a local interaction
+abbrev pub name_of : Bus → Option (List ℕ)
+name_of local = None
+name_of (global name) = Some name
+
+-- The recording after these fields and counts were sent on the bus of this name, or locally: an expression that is
+-- not among its nodes is sent as the constant zero.
+abbrev pub sending : {F : Type 0} → Recording F → Option (List ℕ) → List ℕ → List (Count ℕ) → Recording F
+sending r bus xs cs = record r { interactions = r.interactions ++ record { bus = bus; fields = map (known_place (length r.nodes)) xs; counts = map (known_count (length r.nodes)) cs } ∷ [] }

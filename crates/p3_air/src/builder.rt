@@ -3,7 +3,8 @@ ghost use Rattle.std.specs.Prelude.{◌≡◌, ℕ, ◌+◌, ◌*◌, ◌^◌, �
 ghost use prog.Memory.{size, align};
 ghost use denote.Param.{layout};
 ghost use Rattle.p3_air.specs.Shape.{Shape, Declares, DeclaresExt};
-ghost use Rattle.p3_air.specs.Tree.{Tree, Asserted, Interaction, Stand, StandCount, SomeFirst, constant as constant_tree, cell as cell_tree, ext_cell as ext_cell_tree, sum, difference, product, bool_tree, over_base, over_extension, local, global};
+ghost use Rattle.p3_air.specs.Asserting.{AssertsOne, AssertsEach, AssertsFirst};
+ghost use Rattle.p3_air.specs.Tree.{Tree, Asserted, Interaction, Bus, Stand, StandCount, SomeFirst, constant as constant_tree, cell as cell_tree, ext_cell as ext_cell_tree, sum, difference, product, bool_tree, over_base, over_extension, local, global};
 ghost use Rattle.p3_air.specs.declared.cells.Count.{Count as CountOf};
 
 use crate::cells::{Cell, Count, ExtCell};
@@ -14,7 +15,10 @@ use p3_field::{FieldCore, Mem, RingCore};
 ///
 /// The list of asserted trees, each with the field over which it was asserted, and that of interactions are meanings:
 /// no builder need keep them. `grows` says what a state has in the two lists beyond an earlier one. On an error a call
-/// has appended nothing, or, of several constraints, some of the first (`refused`).
+/// has appended nothing, or, of several constraints, some of the first (`refused`, `some`).
+///
+/// An expression may stand for no tree, as one that some other builder gave. `asserts` says what asserting it does all
+/// the same: each builder says by it what exactly the state is then.
 pub trait AirBuilder {
     /// The field of the trace.
     type F: FieldCore;
@@ -31,11 +35,17 @@ pub trait AirBuilder {
     // The second state comes after the first, with these asserted trees and interactions appended since.
     ghost grows: { Self → Self → List (Asserted Self.F) → List (Interaction Self.F) → Type 0 };
 
+    // The second state is the first one after exactly this expression was asserted, whatever it stands for.
+    ghost asserts: { Self → Self.Expr → Self → Type 0 };
+
     // The cells that are declared. No call changes them.
     ghost shape: { Self → Shape };
 
     // Whether no call fails.
     ghost never_fails: { Bool };
+
+    // Whether no call fails but those that assert.
+    ghost only_asserting_fails: { Bool };
 
     /// The value of a declared cell.
     fn cell(&mut self, c: Cell) -> Mem<Self::Expr>
@@ -43,6 +53,7 @@ pub trait AirBuilder {
         ensures same { shape self.new ≡ shape self.old }
         ensures grows { grows self.old self.new [] [] }
         ensures answers { IsTrue never_fails → IsOk result }
+        ensures sure { IsTrue only_asserting_fails → IsOk result }
         ensures stands { IfOk result (λ e. stands self.new e (cell_tree c)) };
 
     /// A constant.
@@ -50,6 +61,7 @@ pub trait AirBuilder {
         ensures same { shape self.new ≡ shape self.old }
         ensures grows { grows self.old self.new [] [] }
         ensures answers { IsTrue never_fails → IsOk result }
+        ensures sure { IsTrue only_asserting_fails → IsOk result }
         ensures stands { IfOk result (λ e. stands self.new e (constant_tree x)) };
 
     /// The sum x + y.
@@ -57,6 +69,7 @@ pub trait AirBuilder {
         ensures same { shape self.new ≡ shape self.old }
         ensures grows { grows self.old self.new [] [] }
         ensures answers { IsTrue never_fails → IsOk result }
+        ensures sure { IsTrue only_asserting_fails → IsOk result }
         ensures stands { (s t : Tree Self.F) → stands self.old x s → stands self.old y t → IfOk result (λ e. stands self.new e (sum s t)) };
 
     /// The difference x - y.
@@ -64,6 +77,7 @@ pub trait AirBuilder {
         ensures same { shape self.new ≡ shape self.old }
         ensures grows { grows self.old self.new [] [] }
         ensures answers { IsTrue never_fails → IsOk result }
+        ensures sure { IsTrue only_asserting_fails → IsOk result }
         ensures stands { (s t : Tree Self.F) → stands self.old x s → stands self.old y t → IfOk result (λ e. stands self.new e (difference s t)) };
 
     /// The product x * y.
@@ -71,6 +85,7 @@ pub trait AirBuilder {
         ensures same { shape self.new ≡ shape self.old }
         ensures grows { grows self.old self.new [] [] }
         ensures answers { IsTrue never_fails → IsOk result }
+        ensures sure { IsTrue only_asserting_fails → IsOk result }
         ensures stands { (s t : Tree Self.F) → stands self.old x s → stands self.old y t → IfOk result (λ e. stands self.new e (product s t)) };
 
     /// Asserts that x is zero in every row.
@@ -79,6 +94,7 @@ pub trait AirBuilder {
         ensures same { shape self.new ≡ shape self.old }
         ensures answers { IsTrue never_fails → IsOk result }
         ensures grows { (t : Tree Self.F) → stands self.old x t → IfOk result (λ _. grows self.old self.new (over_base t ∷ []) []) }
+        ensures asserts { IfOk result (λ _. asserts self.old x self.new) }
         ensures refused { OnErr result (grows self.old self.new [] []) };
 
     /// Asserts that x - y is zero in every row.
@@ -87,6 +103,7 @@ pub trait AirBuilder {
         ensures same { shape self.new ≡ shape self.old }
         ensures answers { IsTrue never_fails → IsOk result }
         ensures grows { (s t : Tree Self.F) → stands self.old x s → stands self.old y t → IfOk result (λ _. grows self.old self.new (over_base (difference s t) ∷ []) []) }
+        ensures asserts { IfOk result (λ _. AssertsOne (λ a b. grows a b [] []) asserts self.old self.new) }
         ensures refused { OnErr result (grows self.old self.new [] []) }
     {
         let difference = self.sub(x, y)?;
@@ -99,6 +116,7 @@ pub trait AirBuilder {
         ensures same { shape self.new ≡ shape self.old }
         ensures answers { IsTrue never_fails → IsOk result }
         ensures grows { (t : Tree Self.F) → stands self.old x t → IfOk result (λ _. grows self.old self.new (over_base (bool_tree Self.F.ring.one t) ∷ []) []) }
+        ensures asserts { IfOk result (λ _. AssertsOne (λ a b. grows a b [] []) asserts self.old self.new) }
         ensures refused { OnErr result (grows self.old self.new [] []) }
     {
         let one = self.constant(<Self::F as RingCore>::ONE)?;
@@ -114,6 +132,8 @@ pub trait AirBuilder {
         ensures answers { IsTrue never_fails → IsOk result }
         ensures grows { (ts : List (Tree Self.F)) → Stand (stands self.old) xs.now ts → IfOk result (λ _. grows self.old self.new (map over_base ts) []) }
         ensures refused { (ts : List (Tree Self.F)) → Stand (stands self.old) xs.now ts → OnErr result (SomeFirst (grows self.old self.new) (map over_base ts) []) }
+        ensures asserts { IfOk result (λ _. AssertsEach asserts xs.now self.old self.new) }
+        ensures some { OnErr result (AssertsFirst (λ a b. grows a b [] []) asserts xs.now self.old self.new) }
     {
         for x in xs {
             self.assert_zero(*x)?;
@@ -128,6 +148,8 @@ pub trait AirBuilder {
         ensures answers { IsTrue never_fails → IsOk result }
         ensures grows { (ts : List (Tree Self.F)) → Stand (stands self.old) xs.now ts → IfOk result (λ _. grows self.old self.new (map over_base (map (bool_tree Self.F.ring.one) ts)) []) }
         ensures refused { (ts : List (Tree Self.F)) → Stand (stands self.old) xs.now ts → OnErr result (SomeFirst (grows self.old self.new) (map over_base (map (bool_tree Self.F.ring.one) ts)) []) }
+        ensures asserts { IfOk result (λ _. AssertsEach (λ a x b. AssertsOne (λ c d. grows c d [] []) asserts a b) xs.now self.old self.new) }
+        ensures some { OnErr result (AssertsFirst (λ a b. grows a b [] []) (λ a x b. AssertsOne (λ c d. grows c d [] []) asserts a b) xs.now self.old self.new) }
     {
         for x in xs {
             self.assert_bool(*x)?;
@@ -152,6 +174,9 @@ pub trait AirBuilder {
     ghost grows_later: { (a b : Self) (ts : List (Asserted Self.F)) (is : List (Interaction Self.F)) → grows a b ts is → later a b };
 
     ghost grows_along: { (a b c : Self) (s t : List (Asserted Self.F)) (i j : List (Interaction Self.F)) → grows a b s i → grows b c t j → grows a c (s ++ t) (i ++ j) };
+
+    // What is asserted is the tree that it stands for.
+    ghost asserts_grows: { (a b : Self) (x : Self.Expr) (t : Tree Self.F) → stands a x t → asserts a x b → grows a b (over_base t ∷ []) [] };
 }
 
 /// Takes constraints over an extension of the field too (`p3_air::ExtensionBuilder`).
@@ -162,11 +187,15 @@ pub trait ExtensionBuilder: AirBuilder {
     // This expression of the extension stands for this tree in this state.
     ghost stands_ext: { Self → Self.ExprEF → Tree Self.F → Type 0 };
 
+    // The second state is the first one after exactly this expression of the extension was asserted.
+    ghost asserts_ext: { Self → Self.ExprEF → Self → Type 0 };
+
     /// An expression of the base as one of the extension: the same tree.
     fn lift(&mut self, x: Self::Expr) -> Mem<Self::ExprEF>
         ensures same { Self.shape self.new ≡ Self.shape self.old }
         ensures grows { Self.grows self.old self.new [] [] }
         ensures answers { IsTrue Self.never_fails → IsOk result }
+        ensures sure { IsTrue Self.only_asserting_fails → IsOk result }
         ensures stands { (t : Tree Self.F) → Self.stands self.old x t → IfOk result (λ e. stands_ext self.new e t) };
 
     /// The sum x + y.
@@ -174,6 +203,7 @@ pub trait ExtensionBuilder: AirBuilder {
         ensures same { Self.shape self.new ≡ Self.shape self.old }
         ensures grows { Self.grows self.old self.new [] [] }
         ensures answers { IsTrue Self.never_fails → IsOk result }
+        ensures sure { IsTrue Self.only_asserting_fails → IsOk result }
         ensures stands { (s t : Tree Self.F) → stands_ext self.old x s → stands_ext self.old y t → IfOk result (λ e. stands_ext self.new e (sum s t)) };
 
     /// The difference x - y.
@@ -181,6 +211,7 @@ pub trait ExtensionBuilder: AirBuilder {
         ensures same { Self.shape self.new ≡ Self.shape self.old }
         ensures grows { Self.grows self.old self.new [] [] }
         ensures answers { IsTrue Self.never_fails → IsOk result }
+        ensures sure { IsTrue Self.only_asserting_fails → IsOk result }
         ensures stands { (s t : Tree Self.F) → stands_ext self.old x s → stands_ext self.old y t → IfOk result (λ e. stands_ext self.new e (difference s t)) };
 
     /// The product x * y.
@@ -188,6 +219,7 @@ pub trait ExtensionBuilder: AirBuilder {
         ensures same { Self.shape self.new ≡ Self.shape self.old }
         ensures grows { Self.grows self.old self.new [] [] }
         ensures answers { IsTrue Self.never_fails → IsOk result }
+        ensures sure { IsTrue Self.only_asserting_fails → IsOk result }
         ensures stands { (s t : Tree Self.F) → stands_ext self.old x s → stands_ext self.old y t → IfOk result (λ e. stands_ext self.new e (product s t)) };
 
     /// Asserts that x is zero in every row.
@@ -196,6 +228,7 @@ pub trait ExtensionBuilder: AirBuilder {
         ensures same { Self.shape self.new ≡ Self.shape self.old }
         ensures answers { IsTrue Self.never_fails → IsOk result }
         ensures grows { (t : Tree Self.F) → stands_ext self.old x t → IfOk result (λ _. Self.grows self.old self.new (over_extension t ∷ []) []) }
+        ensures asserts { IfOk result (λ _. asserts_ext self.old x self.new) }
         ensures refused { OnErr result (Self.grows self.old self.new [] []) };
 
     // Generic code keeps expressions of the extension in arrays: one of 1,024 takes less than 2^63 bytes.
@@ -203,6 +236,9 @@ pub trait ExtensionBuilder: AirBuilder {
 
     // What stands for a tree in a state stands for it in every later state.
     ghost persists_ext: { (a b : Self) → Self.later a b → (e : Self.ExprEF) (t : Tree Self.F) → stands_ext a e t → stands_ext b e t };
+
+    // What is asserted is the tree that it stands for.
+    ghost asserts_ext_grows: { (a b : Self) (x : Self.ExprEF) (t : Tree Self.F) → stands_ext a x t → asserts_ext a x b → Self.grows a b (over_extension t ∷ []) [] };
 }
 
 /// Takes constraints over the permutation trace of lookups too (`p3_air::PermutationAirBuilder`).
@@ -213,11 +249,15 @@ pub trait PermutationAirBuilder: ExtensionBuilder {
         ensures same { Self.shape self.new ≡ Self.shape self.old }
         ensures grows { Self.grows self.old self.new [] [] }
         ensures answers { IsTrue Self.never_fails → IsOk result }
+        ensures sure { IsTrue Self.only_asserting_fails → IsOk result }
         ensures stands { IfOk result (λ e. Self.stands_ext self.new e (ext_cell_tree c)) };
 }
 
 /// Takes interactions too (`p3_lookup::InteractionBuilder`).
 pub trait InteractionBuilder: PermutationAirBuilder {
+    // The second state is the first one after exactly these fields and counts were sent, whatever they stand for.
+    ghost sends: { Self → Bus → List Self.Expr → List (CountOf Self.Expr) → Self → Type 0 };
+
     /// Sends the tuple of `fields` on the bus of this name, as often as `count` says.
     fn push_interaction(
         &mut self,
@@ -228,8 +268,10 @@ pub trait InteractionBuilder: PermutationAirBuilder {
         ensures later { Self.later self.old self.new }
         ensures same { Self.shape self.new ≡ Self.shape self.old }
         ensures answers { IsTrue Self.never_fails → IsOk result }
+        ensures sure { IsTrue Self.only_asserting_fails → IsOk result }
         ensures grows { (fs : List (Tree Self.F)) (v : Tree Self.F) → Stand (Self.stands self.old) fields.now fs → Self.stands self.old count.value v
             → IfOk result (λ _. Self.grows self.old self.new [] (record { bus = global bus_name.now; fields = fs; counts = record { value = v; bound = count.bound } ∷ [] } ∷ [])) }
+        ensures sends { IfOk result (λ _. sends self.old (global bus_name.now) fields.now (count ∷ []) self.new) }
         ensures refused { OnErr result (Self.grows self.old self.new [] []) };
 
     /// Sends tuples within the table itself: `fields` has the tuples one after another, all of one width, as many as
@@ -245,8 +287,14 @@ pub trait InteractionBuilder: PermutationAirBuilder {
         ensures later { Self.later self.old self.new }
         ensures same { Self.shape self.new ≡ Self.shape self.old }
         ensures answers { IsTrue Self.never_fails → IsOk result }
+        ensures sure { IsTrue Self.only_asserting_fails → IsOk result }
         ensures grows { (fs : List (Tree Self.F)) (vs : List (CountOf (Tree Self.F))) → Stand (Self.stands self.old) fields.now fs
             → Stand (StandCount (Self.stands self.old)) counts.now vs
             → IfOk result (λ _. Self.grows self.old self.new [] (record { bus = local; fields = fs; counts = vs } ∷ [])) }
+        ensures sends { IfOk result (λ _. sends self.old local fields.now counts.now self.new) }
         ensures refused { OnErr result (Self.grows self.old self.new [] []) };
+
+    // What is sent are the trees that the expressions stand for.
+    ghost sends_grows: { (a b : Self) (bus : Bus) (xs : List Self.Expr) (cs : List (CountOf Self.Expr)) (fs : List (Tree Self.F)) (vs : List (CountOf (Tree Self.F)))
+        → Stand (Self.stands a) xs fs → Stand (StandCount (Self.stands a)) cs vs → sends a bus xs cs b → Self.grows a b [] (record { bus = bus; fields = fs; counts = vs } ∷ []) };
 }

@@ -28,7 +28,7 @@ pub enum CheckFailure {
         /// The places of the constraints that aren't zero there, in order.
         places: Vec<usize>,
     },
-    /// Memory was wanting.
+    /// Out of memory.
     #[error("out of memory")]
     OutOfMemory,
 }
@@ -135,7 +135,8 @@ fn failing_places<F: Field, A: Air<F>>(
 ///
 /// The answer is `PreprocessedHeight` exactly where the preprocessed trace hasn't the main trace's height. Else it is
 /// `Failing` for the first row with a constraint that isn't zero, with the places of all such constraints there, and
-/// Ok exactly where there is no such row. `OutOfMemory` may come in place of any answer.
+/// Ok exactly where there is no such row. `OutOfMemory` may come in place of any of these two, and never in place of
+/// `PreprocessedHeight`.
 pub fn check_constraints<F: Field, A: Air<F>>(
     alloc: Global,
     air: &A,

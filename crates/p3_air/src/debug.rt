@@ -1,10 +1,10 @@
 //! The builder that evaluates constraints at a row.
-ghost use Rattle.std.specs.Prelude.{◌≡◌, ℕ, ◌<◌, ◌%◌, ◌++◌, List, [], ◌∷◌, length, IfOk, OnErr, IsTrue, IsOk, false, refl};
+ghost use Rattle.std.specs.Prelude.{◌≡◌, ℕ, ◌<◌, ◌%◌, ◌++◌, List, [], ◌∷◌, length, IfOk, OnErr, IsTrue, IsOk, false, true, refl};
 ghost use Rattle.p3_air.specs.Shape.{Declares, DeclaresExt};
-ghost use Rattle.p3_air.specs.Tree.{Tree, Stand, StandCount};
+ghost use Rattle.p3_air.specs.Tree.{Tree, Stand, StandCount, over_base, over_extension};
 ghost use Rattle.p3_air.specs.RowCheck.{Checked, Row, Adds, value_at, cell_value, ext_cell_value, row_shape};
 ghost use Rattle.p3_air.specs.declared.cells.Count.{Count as CountOf};
-ghost use Rattle.p3_air.specs.Laws.RowCheck.{row-along, row_shape-row, value_at-row, adds-same, adds-along};
+ghost use Rattle.p3_air.specs.Laws.RowCheck.{row-along, row_shape-row, value_at-row, adds-same, adds-along, keeping-adds};
 
 use crate::builder::{AirBuilder, ExtensionBuilder, InteractionBuilder, PermutationAirBuilder};
 use crate::cells::{Cell, Count, ExtCell};
@@ -141,7 +141,7 @@ impl<'a, F: Field, EF: ExtensionField<F>> DebugConstraintBuilder<'a, F, EF> {
 }
 
 impl<'a, F: Field, EF: ExtensionField<F>> AirBuilder for DebugConstraintBuilder<'a, F, EF> {
-    ghost use Rattle.p3_air.specs.Laws.RowCheck.{row-along, row_shape-row, value_at-row, adds-same, adds-along};
+    ghost use Rattle.p3_air.specs.Laws.RowCheck.{row-along, row_shape-row, value_at-row, adds-same, adds-along, keeping-adds};
 
     type F = F;
 
@@ -153,9 +153,13 @@ impl<'a, F: Field, EF: ExtensionField<F>> AirBuilder for DebugConstraintBuilder<
 
     ghost grows = { λ a b ts is. Adds F.ring EF.ring EF.embed a b ts };
 
+    ghost asserts = { λ a x b. b ≡ record a { values = a.values ++ EF.embed x ∷ [] } };
+
     ghost shape = { λ b. row_shape b.row };
 
     ghost never_fails = { false };
+
+    ghost only_asserting_fails = { true };
 
     fn cell(&mut self, c: Cell) -> Mem<F> {
         Ok(self.row.cell(c))
@@ -196,14 +200,18 @@ impl<'a, F: Field, EF: ExtensionField<F>> AirBuilder for DebugConstraintBuilder<
     ghost grows_later = { λ a b t i h. h.row };
 
     ghost grows_along = { λ a b c s t i j h k. adds-along F.ring EF.ring EF.embed a b c s t h k };
+
+    ghost asserts_grows = { λ a b x t h e. keeping-adds F.ring EF.ring EF.embed a b (EF.embed x) (over_base t) h e };
 }
 
 impl<'a, F: Field, EF: ExtensionField<F>> ExtensionBuilder for DebugConstraintBuilder<'a, F, EF> {
-    ghost use Rattle.p3_air.specs.Laws.RowCheck.{value_at-row};
+    ghost use Rattle.p3_air.specs.Laws.RowCheck.{value_at-row, keeping-adds};
 
     type ExprEF = EF;
 
     ghost stands_ext = { λ b x t. x ≡ value_at F.ring EF.ring EF.embed b.row t };
+
+    ghost asserts_ext = { λ a x b. b ≡ record a { values = a.values ++ x ∷ [] } };
 
     fn lift(&mut self, x: F) -> Mem<EF> {
         Ok(EF::from_base(x))
@@ -228,6 +236,8 @@ impl<'a, F: Field, EF: ExtensionField<F>> ExtensionBuilder for DebugConstraintBu
     ghost arrays_fit_ext = { EF.arrays_fit };
 
     ghost persists_ext = { λ a b h x t k. value_at-row F.ring EF.ring EF.embed a b h x t k };
+
+    ghost asserts_ext_grows = { λ a b x t h e. keeping-adds F.ring EF.ring EF.embed a b x (over_extension t) h e };
 }
 
 impl<'a, F: Field, EF: ExtensionField<F>> PermutationAirBuilder
@@ -238,12 +248,18 @@ impl<'a, F: Field, EF: ExtensionField<F>> PermutationAirBuilder
 }
 
 impl<'a, F: Field, EF: ExtensionField<F>> InteractionBuilder for DebugConstraintBuilder<'a, F, EF> {
+    ghost use Rattle.p3_air.specs.Laws.RowCheck.{unchanged-adds};
+
+    ghost sends = { λ a bus xs cs b. b ≡ a };
+
     fn push_interaction(&mut self, _bus_name: &str, fields: &[F], count: Count<F>) -> Mem<()>
         ensures later { self.new.row ≡ self.old.row }
         ensures same { row_shape self.new.row ≡ row_shape self.old.row }
         ensures answers { IsTrue false → IsOk result }
         ensures grows { (fs : List (Tree F)) (v : Tree F) → Stand (λ x t. EF.embed x ≡ value_at F.ring EF.ring EF.embed self.old.row t) fields.now fs → EF.embed count.value ≡ value_at F.ring EF.ring EF.embed self.old.row v
             → IfOk result (λ _. Adds F.ring EF.ring EF.embed self.old self.new []) }
+        ensures sure { IsTrue true → IsOk result }
+        ensures sends { IfOk result (λ _. self.new ≡ self.old) }
         ensures refused { OnErr result (Adds F.ring EF.ring EF.embed self.old self.new []) }
     {
         Ok(())
@@ -258,8 +274,12 @@ impl<'a, F: Field, EF: ExtensionField<F>> InteractionBuilder for DebugConstraint
         ensures grows { (fs : List (Tree F)) (vs : List (CountOf (Tree F))) → Stand (λ x t. EF.embed x ≡ value_at F.ring EF.ring EF.embed self.old.row t) fields.now fs
             → Stand (StandCount (λ x t. EF.embed x ≡ value_at F.ring EF.ring EF.embed self.old.row t)) counts.now vs
             → IfOk result (λ _. Adds F.ring EF.ring EF.embed self.old self.new []) }
+        ensures sure { IsTrue true → IsOk result }
+        ensures sends { IfOk result (λ _. self.new ≡ self.old) }
         ensures refused { OnErr result (Adds F.ring EF.ring EF.embed self.old self.new []) }
     {
         Ok(())
     }
+
+    ghost sends_grows = { λ a b bus xs cs fs vs h k e. unchanged-adds F.ring EF.ring EF.embed a b e };
 }

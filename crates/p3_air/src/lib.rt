@@ -15,6 +15,7 @@ mod cells;
 mod check;
 mod copying;
 mod debug;
+mod degrees;
 mod gadgets;
 mod layout;
 pub mod meanings;

@@ -3,12 +3,12 @@ ghost use Rattle.std.specs.Prelude.{◌≡◌, ℕ, ◌<◌, ◌%◌, ◌++◌, 
 ghost use Rattle.std.specs.Option.{option_map};
 ghost use Rattle.std.proofs.Common.{lit<};
 ghost use Rattle.p3_air.specs.Layout.{layout_shape};
-ghost use Rattle.p3_air.specs.Symbolic.{node_tree, trees_after, OperandsBelow};
-ghost use Rattle.p3_air.specs.Recording.{Recording, IsLater, Grows, StandsAt, known_place, bus_of, known_count};
+ghost use Rattle.p3_air.specs.Symbolic.{node_tree, trees_after, tree_at, OperandsBelow};
+ghost use Rattle.p3_air.specs.Recording.{Recording, IsLater, Grows, StandsAt, known_place, bus_of, name_of, known_count, asserting, sending};
 ghost use Rattle.p3_air.specs.Tree.{Tree, Interaction, Stand, StandCount, sum, difference, product, global, local};
 ghost use Rattle.p3_air.specs.declared.cells.Count.{Count as CountOf};
 ghost use Rattle.p3_air.specs.declared.node.Node.TheVariants.{Constant};
-ghost use Rattle.p3_air.specs.Laws.Recording.{later-same, later-along, later-shape, stands-later, grows-same, grows-along};
+ghost use Rattle.p3_air.specs.Laws.Recording.{later-same, later-along, later-shape, stands-later, grows-same, grows-along, asserting-grows, sending-grows};
 
 mod read;
 mod sent;
@@ -122,6 +122,7 @@ impl<F: Field> InteractionSymbolicBuilder<F> {
     fn push_sum(&mut self, x: usize, y: usize) -> Mem<usize>
         ensures grows { Grows self.old self.new [] [] }
         ensures stands { (s t : Tree F) → StandsAt self.old.nodes x s → StandsAt self.old.nodes y t → IfOk result (λ e. StandsAt self.new.nodes e (sum s t)) }
+        ensures known { IfOk result (λ e. StandsAt self.new.nodes e (sum (tree_at self.old.nodes (known_place (length self.old.nodes) x)) (tree_at self.old.nodes (known_place (length self.old.nodes) y)))) }
     {
         let left = self.place(x);
         let right = self.place(y);
@@ -132,6 +133,7 @@ impl<F: Field> InteractionSymbolicBuilder<F> {
     fn push_difference(&mut self, x: usize, y: usize) -> Mem<usize>
         ensures grows { Grows self.old self.new [] [] }
         ensures stands { (s t : Tree F) → StandsAt self.old.nodes x s → StandsAt self.old.nodes y t → IfOk result (λ e. StandsAt self.new.nodes e (difference s t)) }
+        ensures known { IfOk result (λ e. StandsAt self.new.nodes e (difference (tree_at self.old.nodes (known_place (length self.old.nodes) x)) (tree_at self.old.nodes (known_place (length self.old.nodes) y)))) }
     {
         let left = self.place(x);
         let right = self.place(y);
@@ -142,6 +144,7 @@ impl<F: Field> InteractionSymbolicBuilder<F> {
     fn push_product(&mut self, x: usize, y: usize) -> Mem<usize>
         ensures grows { Grows self.old self.new [] [] }
         ensures stands { (s t : Tree F) → StandsAt self.old.nodes x s → StandsAt self.old.nodes y t → IfOk result (λ e. StandsAt self.new.nodes e (product s t)) }
+        ensures known { IfOk result (λ e. StandsAt self.new.nodes e (product (tree_at self.old.nodes (known_place (length self.old.nodes) x)) (tree_at self.old.nodes (known_place (length self.old.nodes) y)))) }
     {
         let left = self.place(x);
         let right = self.place(y);
@@ -151,7 +154,7 @@ impl<F: Field> InteractionSymbolicBuilder<F> {
     // Appends an assertion.
     fn assert(&mut self, x: usize, in_extension: bool) -> Mem<()>
         ensures grows { (t : Tree F) → StandsAt self.old.nodes x t → IfOk result (λ _. Grows self.old self.new (record { tree = t; in_extension = in_extension } ∷ []) []) }
-        ensures asserted { IfOk result (λ _. self.new ≡ record self.old { asserted = self.old.asserted ++ record { place = known_place (length self.old.nodes) x; in_extension = in_extension } ∷ [] }) }
+        ensures asserted { IfOk result (λ _. self.new ≡ asserting self.old x in_extension) }
         ensures same { OnErr result (self.new ≡ self.old) }
         ensures refused { OnErr result (Grows self.old self.new [] []) }
     {
@@ -167,7 +170,7 @@ impl<F: Field> InteractionSymbolicBuilder<F> {
     fn keep(&mut self, bus: Option<String>, fields: &[usize], counts: &[Count<usize>]) -> Mem<()>
         requires counted { 0 < length counts.now }
         requires whole { length fields.now % length counts.now ≡ 0 }
-        ensures sent { IfOk result (λ _. self.new ≡ record self.old { interactions = self.old.interactions ++ record { bus = option_map string_bytes bus; fields = map (known_place (length self.old.nodes)) fields.now; counts = map (known_count (length self.old.nodes)) counts.now } ∷ [] }) }
+        ensures sent { IfOk result (λ _. self.new ≡ sending self.old (option_map string_bytes bus) fields.now counts.now) }
         ensures same { OnErr result (self.new ≡ self.old) }
     {
         let fields = known_all(self.alloc, self.nodes.len(), fields)?;
@@ -187,6 +190,7 @@ impl<F: Field> InteractionSymbolicBuilder<F> {
         ensures later { IsLater self.old self.new }
         ensures grows { (fs : List (Tree F)) (vs : List (CountOf (Tree F))) → Stand (StandsAt self.old.nodes) fields.now fs → Stand (StandCount (StandsAt self.old.nodes)) counts.now vs
             → IfOk result (λ _. Grows self.old self.new [] (record { bus = bus_of (option_map string_bytes bus); fields = fs; counts = vs } ∷ [])) }
+        ensures sent { IfOk result (λ _. self.new ≡ sending self.old (option_map string_bytes bus) fields.now counts.now) }
         ensures refused { OnErr result (Grows self.old self.new [] []) }
     {
         self.keep(bus, fields, counts)
@@ -204,9 +208,13 @@ impl<F: Field> AirBuilder for InteractionSymbolicBuilder<F> {
 
     ghost grows = { Grows };
 
+    ghost asserts = { λ a x b. b ≡ asserting a x false };
+
     ghost shape = { λ b. layout_shape b.layout };
 
     ghost never_fails = { false };
+
+    ghost only_asserting_fails = { false };
 
     fn cell(&mut self, c: Cell) -> Mem<usize> {
         self.push(Node::Base(c))
@@ -247,12 +255,16 @@ impl<F: Field> AirBuilder for InteractionSymbolicBuilder<F> {
     ghost grows_later = { λ a b t i h. h.later };
 
     ghost grows_along = { grows-along };
+
+    ghost asserts_grows = { λ a b x t h e. asserting-grows a b x false t h e };
 }
 
 impl<F: Field> ExtensionBuilder for InteractionSymbolicBuilder<F> {
     type ExprEF = usize;
 
     ghost stands_ext = { λ b e t. StandsAt b.nodes e t };
+
+    ghost asserts_ext = { λ a x b. b ≡ asserting a x true };
 
     fn lift(&mut self, x: usize) -> Mem<usize> {
         Ok(x)
@@ -277,6 +289,8 @@ impl<F: Field> ExtensionBuilder for InteractionSymbolicBuilder<F> {
     ghost arrays_fit_ext = { lit< tt };
 
     ghost persists_ext = { stands-later };
+
+    ghost asserts_ext_grows = { λ a b x t h e. asserting-grows a b x true t h e };
 }
 
 impl<F: Field> PermutationAirBuilder for InteractionSymbolicBuilder<F> {
@@ -286,12 +300,16 @@ impl<F: Field> PermutationAirBuilder for InteractionSymbolicBuilder<F> {
 }
 
 impl<F: Field> InteractionBuilder for InteractionSymbolicBuilder<F> {
+    ghost sends = { λ a bus xs cs b. b ≡ sending a (name_of bus) xs cs };
+
     fn push_interaction(&mut self, bus_name: &str, fields: &[usize], count: Count<usize>) -> Mem<()>
         ensures later { IsLater self.old self.new }
         ensures same { layout_shape self.new.layout ≡ layout_shape self.old.layout }
         ensures answers { IsTrue false → IsOk result }
         ensures grows { (fs : List (Tree F)) (v : Tree F) → Stand (StandsAt self.old.nodes) fields.now fs → StandsAt self.old.nodes count.value v
             → IfOk result (λ _. Grows self.old self.new [] (record { bus = global bus_name.now; fields = fs; counts = record { value = v; bound = count.bound } ∷ [] } ∷ [])) }
+        ensures sure { IsTrue false → IsOk result }
+        ensures sends { IfOk result (λ _. self.new ≡ sending self.old (name_of (global bus_name.now)) fields.now (count ∷ [])) }
         ensures refused { OnErr result (Grows self.old self.new [] []) }
     {
         let bus = String::from_str(self.alloc, bus_name)?;
@@ -306,8 +324,12 @@ impl<F: Field> InteractionBuilder for InteractionSymbolicBuilder<F> {
         ensures answers { IsTrue false → IsOk result }
         ensures grows { (fs : List (Tree F)) (vs : List (CountOf (Tree F))) → Stand (StandsAt self.old.nodes) fields.now fs → Stand (StandCount (StandsAt self.old.nodes)) counts.now vs
             → IfOk result (λ _. Grows self.old self.new [] (record { bus = local; fields = fs; counts = vs } ∷ [])) }
+        ensures sure { IsTrue false → IsOk result }
+        ensures sends { IfOk result (λ _. self.new ≡ sending self.old (name_of local) fields.now counts.now) }
         ensures refused { OnErr result (Grows self.old self.new [] []) }
     {
         self.send(None, fields, counts)
     }
+
+    ghost sends_grows = { sending-grows };
 }

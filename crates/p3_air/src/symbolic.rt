@@ -1,12 +1,13 @@
 //! Constraint trees as values, and their degrees.
-ghost use Rattle.std.specs.Prelude.{◌≡◌, ℕ, ◌+◌, ◌-◌, ◌*◌, ◌/◌, ◌^◌, ◌<◌, ◌≤◌, min, length, List, IfOk};
+ghost use Rattle.std.specs.Prelude.{◌≡◌, ℕ, ◌+◌, ◌-◌, ◌*◌, ◌/◌, ◌^◌, ◌<◌, ◌≤◌, min, length, List, IfOk, slice_index};
 ghost use Rattle.p3_air.specs.Tree.{Tree};
 ghost use Rattle.p3_air.specs.Shape.{ReadsIn};
-ghost use Rattle.p3_air.specs.Symbolic.{tree_at, tree_of, Ordered, IsExpression};
-ghost use Rattle.p3_air.specs.Degree.{capped_sum, multiple, cell_multiple, ext_multiple, polynomial_degree, cell_degree, ext_degree, HasPeriod};
+ghost use Rattle.p3_air.specs.Symbolic.{tree_of, IsExpression};
+ghost use Rattle.p3_air.specs.Degree.{multiple, polynomial_degree, periodic_degree as periodic_degree_of, HasPeriod};
 ghost use Rattle.p3_air.specs.declared.node.Node.{Node as NodeOf};
 
 use crate::cells::{Cell, ExtCell};
+use crate::degrees::{CellDegrees, root_degree};
 use crate::node::Node;
 use p3_field::{FieldCore, Mem, RingCore};
 use std::alloc::Global;
@@ -75,7 +76,7 @@ impl<F: FieldCore> SymbolicExpression<F> {
     pub fn degree_multiple_with_transition(&self, t: usize) -> usize
         ensures { result ≡ multiple t (tree_of self.now) }
     {
-        multiple_at(&self.nodes, self.nodes.len() - 1, t)
+        root_degree(&self.nodes, &Multiples { transition: t })
     }
 
     /// The degree of the polynomial over a trace of `trace_len` rows, which isn't zero. `periods` has the length of
@@ -85,7 +86,13 @@ impl<F: FieldCore> SymbolicExpression<F> {
         requires periods { ReadsIn (HasPeriod periods.now) (λ _. Unit {0}) (tree_of self.now) }
         ensures { result ≡ polynomial_degree trace_len periods.now (tree_of self.now) }
     {
-        degree_at(&self.nodes, self.nodes.len() - 1, trace_len, periods)
+        root_degree(
+            &self.nodes,
+            &OverRows {
+                rows: trace_len,
+                periods,
+            },
+        )
     }
 }
 
@@ -99,112 +106,73 @@ pub fn constraint_degree_from_poly_degree(d: usize, n: usize) -> usize
     d.div_ceil(n)
 }
 
-// A cell's degree as a multiple of the height.
-fn multiple_of(cell: Cell, t: usize) -> usize
-    ensures { result ≡ cell_multiple t cell }
-{
-    match cell {
-        Cell::Public(_) => 0,
-        Cell::Transition => t,
-        _ => 1,
-    }
+// Degrees as multiples of the height, where the transition selector has this one.
+#[derive(Clone, Copy)]
+struct Multiples {
+    transition: usize,
 }
 
-// An extension cell's degree as a multiple of the height.
-fn multiple_of_ext(cell: ExtCell) -> usize
-    ensures { result ≡ ext_multiple cell }
-{
-    match cell {
-        ExtCell::Permutation { .. } => 1,
-        _ => 0,
-    }
-}
+impl CellDegrees for Multiples {
+    ghost use Rattle.p3_air.specs.Degree.{cell_multiple, ext_multiple};
 
-// The degree of the tree at a place as a multiple of the height.
-fn multiple_at<F: FieldCore>(nodes: &[Node<F>], place: usize, t: usize) -> usize
-    requires within { place < length nodes.now }
-    requires ordered { Ordered nodes.now }
-    ensures { result ≡ multiple t (tree_at nodes.now place) }
-{
-    match nodes[place] {
-        Node::Constant(_) => 0,
-        Node::Base(cell) => multiple_of(cell, t),
-        Node::Extension(cell) => multiple_of_ext(cell),
-        Node::Sum(x, y) => {
-            let left = multiple_at(nodes, x, t);
-            left.max(multiple_at(nodes, y, t))
+    ghost base = { λ d c. cell_multiple d.transition c };
+
+    ghost extension = { λ _ c. ext_multiple c };
+
+    fn of_cell(&self, cell: Cell) -> usize {
+        match cell {
+            Cell::Public(_) => 0,
+            Cell::Transition => self.transition,
+            _ => 1,
         }
-        Node::Difference(x, y) => {
-            let left = multiple_at(nodes, x, t);
-            left.max(multiple_at(nodes, y, t))
-        }
-        Node::Product(x, y) => {
-            let left = multiple_at(nodes, x, t);
-            left.saturating_add(multiple_at(nodes, y, t))
+    }
+
+    fn of_ext_cell(&self, cell: ExtCell) -> usize {
+        match cell {
+            ExtCell::Permutation { .. } => 1,
+            _ => 0,
         }
     }
 }
 
-// The degree of a cell's polynomial.
-fn degree_of(cell: Cell, trace_len: usize, periods: &[usize]) -> usize
-    requires rows { 0 < trace_len }
-    requires period { HasPeriod periods.now cell }
-    ensures { result ≡ cell_degree trace_len periods.now cell }
-{
-    match cell {
-        Cell::Periodic(i) => {
-            let period = periods[i];
-            if period == 0 {
-                0
-            } else {
-                (period - 1) * (trace_len / period)
-            }
+// Degrees of polynomials over so many rows, where the periodic columns have these periods.
+#[derive(Clone, Copy)]
+struct OverRows<'a> {
+    rows: usize,
+    periods: &'a [usize],
+}
+
+impl<'a> CellDegrees for OverRows<'a> {
+    ghost use Rattle.p3_air.specs.Degree.{cell_degree, ext_degree};
+
+    ghost base = { λ d c. cell_degree d.rows d.periods.now c };
+
+    ghost extension = { λ d c. ext_degree d.rows c };
+
+    fn of_cell(&self, cell: Cell) -> usize {
+        match cell {
+            Cell::Periodic(i) => periodic_degree(self.rows, self.periods, i),
+            Cell::Public(_) => 0,
+            Cell::Transition => 1,
+            _ => self.rows.saturating_sub(1),
         }
-        Cell::Public(_) => 0,
-        Cell::Transition => 1,
-        _ => trace_len - 1,
+    }
+
+    fn of_ext_cell(&self, cell: ExtCell) -> usize {
+        match cell {
+            ExtCell::Permutation { .. } => self.rows.saturating_sub(1),
+            _ => 0,
+        }
     }
 }
 
-// The degree of an extension cell's polynomial.
-fn degree_of_ext(cell: ExtCell, trace_len: usize) -> usize
-    requires { 0 < trace_len }
-    ensures { result ≡ ext_degree trace_len cell }
+// The degree of periodic column i over so many rows, zero where it has no period.
+fn periodic_degree(rows: usize, periods: &[usize], i: usize) -> usize
+    ensures { result ≡ periodic_degree_of rows (slice_index periods.now i) }
 {
-    match cell {
-        ExtCell::Permutation { .. } => trace_len - 1,
-        _ => 0,
+    if i >= periods.len() || periods[i] == 0 {
+        return 0;
     }
-}
-
-// The degree of the polynomial of the tree at a place.
-fn degree_at<F: FieldCore>(
-    nodes: &[Node<F>],
-    place: usize,
-    trace_len: usize,
-    periods: &[usize],
-) -> usize
-    requires within { place < length nodes.now }
-    requires ordered { Ordered nodes.now }
-    requires rows { 0 < trace_len }
-    requires periods { ReadsIn (HasPeriod periods.now) (λ _. Unit {0}) (tree_at nodes.now place) }
-    ensures { result ≡ polynomial_degree trace_len periods.now (tree_at nodes.now place) }
-{
-    match nodes[place] {
-        Node::Constant(_) => 0,
-        Node::Base(cell) => degree_of(cell, trace_len, periods),
-        Node::Extension(cell) => degree_of_ext(cell, trace_len),
-        Node::Sum(x, y) => {
-            let left = degree_at(nodes, x, trace_len, periods);
-            left.max(degree_at(nodes, y, trace_len, periods))
-        }
-        Node::Difference(x, y) => {
-            let left = degree_at(nodes, x, trace_len, periods);
-            left.max(degree_at(nodes, y, trace_len, periods))
-        }
-        Node::Product(x, y) => {
-            let left = degree_at(nodes, x, trace_len, periods);
-            left.saturating_add(degree_at(nodes, y, trace_len, periods))
-        }
-    }
+    let period = periods[i];
+    (period - 1) * (rows / period)
 }

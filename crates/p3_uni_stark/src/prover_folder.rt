@@ -1,6 +1,6 @@
 //! The prover's constraint folder.
 ghost use Rattle.std.specs.Prelude.{◌≡◌, List, [], ◌∷◌, ◌%◌, ◌<◌, IfOk, OnErr, IsOk, IsTrue, true, length, map, refl};
-ghost use Rattle.std.proofs.Common.{◌∙◌};
+ghost use Rattle.std.proofs.Common.{◌∙◌, ap};
 ghost use Rattle.p3_air.specs.Tree.{Tree, ev, ev_asserted, Stand, StandCount};
 ghost use Rattle.p3_air.specs.declared.cells.Count.{Count as CountOf};
 ghost use Rattle.p3_uni_stark.specs.Fold.{added_to, weighed_from};
@@ -48,8 +48,10 @@ pub struct ProverFolder<'a, F, E> {
 impl<F: Field, E: ExtensionField<F>> ProverFolder<'_, F, E> {
     ghost use Rattle.p3_uni_stark.specs.ProverState.{given_of, sum_of, powers_of};
 
-    // Adds the value of one more constraint times its power.
-    fn add_weighted(&mut self, x: E)
+    /// Folds one more value in, whatever it is a constraint's value of or not: it is added times the next power, which
+    /// is then taken. Past the last power it adds nothing (own). A folder that wraps this one takes its constraints in
+    /// by this call.
+    pub fn fold_in(&mut self, x: E)
         ensures same { given_of self.new ≡ given_of self.old }
         ensures sum { sum_of self.new ≡ added_to E.ring (sum_of self.old).left self.old.accumulator x }
         ensures index { powers_of self.new ≡ powers_of self.old }
@@ -75,9 +77,13 @@ impl<'a, F: Field, E: ExtensionField<F>> AirBuilder for ProverFolder<'a, F, E> {
 
     ghost grows = { λ a b ts is. (given_of b ≡ given_of a) × (sum_of b ≡ weighed_from E.ring (sum_of a) (map (ev_asserted (reading E.ring E.embed (embedded E.embed (values_of a)))) ts)) × (powers_of b ≡ powers_of a) };
 
+    ghost asserts = { λ a x b. (given_of b ≡ given_of a) × (sum_of b ≡ added_to E.ring (sum_of a).left a.accumulator (E.embed x)) × (powers_of b ≡ powers_of a) };
+
     ghost shape = { λ b. point_shape (values_of b) };
 
     ghost never_fails = { true };
+
+    ghost only_asserting_fails = { true };
 
     fn cell(&mut self, c: Cell) -> Mem<F> {
         Ok(match c {
@@ -116,7 +122,7 @@ impl<'a, F: Field, E: ExtensionField<F>> AirBuilder for ProverFolder<'a, F, E> {
     }
 
     fn assert_zero(&mut self, x: F) -> Mem<()> {
-        self.add_weighted(E::from_base(x));
+        self.fold_in(E::from_base(x));
         Ok(())
     }
 
@@ -135,14 +141,18 @@ impl<'a, F: Field, E: ExtensionField<F>> AirBuilder for ProverFolder<'a, F, E> {
     ghost grows_later = { λ a b t i h. h.0 };
 
     ghost grows_along = { λ a b c s t i j p q. (q.0 ∙ p.0, weighed_along E.ring (λ o. reading E.ring E.embed (embedded E.embed o.values)) (given_of a) (given_of b) (sum_of a) (sum_of b) (sum_of c) s t p.0 p.1 q.1, q.2 ∙ p.2) };
+
+    ghost asserts_grows = { λ a b x t h k. (k.0, k.1 ∙ ap (added_to E.ring (sum_of a).left a.accumulator) h, k.2) };
 }
 
 impl<'a, F: Field, E: ExtensionField<F>> ExtensionBuilder for ProverFolder<'a, F, E> {
-    ghost use Rattle.p3_uni_stark.specs.ProverState.{values_of, given_of};
+    ghost use Rattle.p3_uni_stark.specs.ProverState.{values_of, given_of, sum_of, powers_of};
 
     type ExprEF = E;
 
     ghost stands_ext = { λ b e t. e ≡ ev (reading E.ring E.embed (embedded E.embed (values_of b))) t };
+
+    ghost asserts_ext = { λ a x b. (given_of b ≡ given_of a) × (sum_of b ≡ added_to E.ring (sum_of a).left a.accumulator x) × (powers_of b ≡ powers_of a) };
 
     fn lift(&mut self, x: F) -> Mem<E> {
         Ok(E::from_base(x))
@@ -161,13 +171,15 @@ impl<'a, F: Field, E: ExtensionField<F>> ExtensionBuilder for ProverFolder<'a, F
     }
 
     fn assert_zero_ext(&mut self, x: E) -> Mem<()> {
-        self.add_weighted(x);
+        self.fold_in(x);
         Ok(())
     }
 
     ghost arrays_fit_ext = { E.arrays_fit };
 
     ghost persists_ext = { λ a b h e t k. value_persists (λ o. reading E.ring E.embed (embedded E.embed o.values)) (given_of a) (given_of b) e t h k };
+
+    ghost asserts_ext_grows = { λ a b x t h k. (k.0, k.1 ∙ ap (added_to E.ring (sum_of a).left a.accumulator) h, k.2) };
 }
 
 impl<'a, F: Field, E: ExtensionField<F>> PermutationAirBuilder for ProverFolder<'a, F, E> {
@@ -179,12 +191,16 @@ impl<'a, F: Field, E: ExtensionField<F>> PermutationAirBuilder for ProverFolder<
 impl<'a, F: Field, E: ExtensionField<F>> InteractionBuilder for ProverFolder<'a, F, E> {
     ghost use Rattle.p3_uni_stark.specs.ProverState.{values_of, given_of, sum_of, powers_of};
 
+    ghost sends = { λ a bus xs cs b. (given_of b ≡ given_of a) × (sum_of b ≡ sum_of a) × (powers_of b ≡ powers_of a) };
+
     fn push_interaction(&mut self, _bus_name: &str, fields: &[F], count: Count<F>) -> Mem<()>
         ensures later { given_of self.new ≡ given_of self.old }
         ensures same { point_shape (values_of self.new) ≡ point_shape (values_of self.old) }
         ensures answers { IsTrue true → IsOk result }
         ensures grows { (fs : List (Tree F)) (v : Tree F) → Stand (λ e t. E.embed e ≡ ev (reading E.ring E.embed (embedded E.embed (values_of self.old))) t) fields.now fs → E.embed count.value ≡ ev (reading E.ring E.embed (embedded E.embed (values_of self.old))) v
             → IfOk result (λ _. (given_of self.new ≡ given_of self.old) × (sum_of self.new ≡ weighed_from E.ring (sum_of self.old) []) × (powers_of self.new ≡ powers_of self.old)) }
+        ensures sure { IsTrue true → IsOk result }
+        ensures sends { IfOk result (λ _. (given_of self.new ≡ given_of self.old) × (sum_of self.new ≡ sum_of self.old) × (powers_of self.new ≡ powers_of self.old)) }
         ensures refused { OnErr result ((given_of self.new ≡ given_of self.old) × (sum_of self.new ≡ weighed_from E.ring (sum_of self.old) []) × (powers_of self.new ≡ powers_of self.old)) }
     {
         Ok(())
@@ -193,4 +209,6 @@ impl<'a, F: Field, E: ExtensionField<F>> InteractionBuilder for ProverFolder<'a,
     fn push_local_interaction(&mut self, _fields: &[F], _counts: &[Count<F>]) -> Mem<()> {
         Ok(())
     }
+
+    ghost sends_grows = { λ a b bus xs cs fs vs h k e. e };
 }

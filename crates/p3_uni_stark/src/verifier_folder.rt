@@ -1,6 +1,6 @@
 //! The verifier's constraint folder.
 ghost use Rattle.std.specs.Prelude.{◌≡◌, List, [], ◌∷◌, ◌%◌, ◌<◌, IfOk, OnErr, IsOk, IsTrue, true, length, map, refl};
-ghost use Rattle.std.proofs.Common.{◌∙◌};
+ghost use Rattle.std.proofs.Common.{◌∙◌, ap};
 ghost use Rattle.p3_air.specs.Tree.{Tree, ev, ev_asserted, Stand, StandCount};
 ghost use Rattle.p3_air.specs.declared.cells.Count.{Count as CountOf};
 ghost use Rattle.p3_uni_stark.specs.Fold.{fold_from};
@@ -41,6 +41,19 @@ pub struct VerifierFolder<'a, F, E> {
     pub accumulator: E,
 }
 
+impl<F: Field, E: ExtensionField<F>> VerifierFolder<'_, F, E> {
+    ghost use Rattle.p3_uni_stark.specs.VerifierState.{opened_of};
+
+    /// Folds one more value in, whatever it is a constraint's value of or not: the sum times the challenge, plus the
+    /// value (own). A folder that wraps this one takes its constraints in by this call.
+    pub fn fold_in(&mut self, x: E)
+        ensures same { opened_of self.new ≡ opened_of self.old }
+        ensures sum { self.new.accumulator ≡ E.ring.add (E.ring.mul self.old.accumulator self.old.alpha) x }
+    {
+        self.accumulator = self.accumulator * self.alpha + x;
+    }
+}
+
 impl<'a, F: Field, E: ExtensionField<F>> AirBuilder for VerifierFolder<'a, F, E> {
     ghost use Rattle.p3_uni_stark.specs.VerifierState.{opened_of};
 
@@ -54,9 +67,13 @@ impl<'a, F: Field, E: ExtensionField<F>> AirBuilder for VerifierFolder<'a, F, E>
 
     ghost grows = { λ a b ts is. (opened_of b ≡ opened_of a) × (b.accumulator ≡ fold_from E.ring a.alpha a.accumulator (map (ev_asserted (reading E.ring E.embed (opened_of a).values)) ts)) };
 
+    ghost asserts = { λ a x b. (opened_of b ≡ opened_of a) × (b.accumulator ≡ E.ring.add (E.ring.mul a.accumulator a.alpha) x) };
+
     ghost shape = { λ b. point_shape (opened_of b).values };
 
     ghost never_fails = { true };
+
+    ghost only_asserting_fails = { true };
 
     fn cell(&mut self, c: Cell) -> Mem<E> {
         Ok(match c {
@@ -95,7 +112,7 @@ impl<'a, F: Field, E: ExtensionField<F>> AirBuilder for VerifierFolder<'a, F, E>
     }
 
     fn assert_zero(&mut self, x: E) -> Mem<()> {
-        self.accumulator = self.accumulator * self.alpha + x;
+        self.fold_in(x);
         Ok(())
     }
 
@@ -114,6 +131,8 @@ impl<'a, F: Field, E: ExtensionField<F>> AirBuilder for VerifierFolder<'a, F, E>
     ghost grows_later = { λ a b t i h. h.0 };
 
     ghost grows_along = { λ a b c s t i j p q. (q.0 ∙ p.0, folded_along E.ring (λ o. reading E.ring E.embed o.values) (λ o. o.alpha) (opened_of a) (opened_of b) a.accumulator b.accumulator c.accumulator s t p.0 p.1 q.1) };
+
+    ghost asserts_grows = { λ a b x t h k. (k.0, k.1 ∙ ap (E.ring.add (E.ring.mul a.accumulator a.alpha)) h) };
 }
 
 impl<'a, F: Field, E: ExtensionField<F>> ExtensionBuilder for VerifierFolder<'a, F, E> {
@@ -122,6 +141,8 @@ impl<'a, F: Field, E: ExtensionField<F>> ExtensionBuilder for VerifierFolder<'a,
     type ExprEF = E;
 
     ghost stands_ext = { λ b e t. e ≡ ev (reading E.ring E.embed (opened_of b).values) t };
+
+    ghost asserts_ext = { λ a x b. (opened_of b ≡ opened_of a) × (b.accumulator ≡ E.ring.add (E.ring.mul a.accumulator a.alpha) x) };
 
     fn lift(&mut self, x: E) -> Mem<E> {
         Ok(x)
@@ -140,13 +161,15 @@ impl<'a, F: Field, E: ExtensionField<F>> ExtensionBuilder for VerifierFolder<'a,
     }
 
     fn assert_zero_ext(&mut self, x: E) -> Mem<()> {
-        self.accumulator = self.accumulator * self.alpha + x;
+        self.fold_in(x);
         Ok(())
     }
 
     ghost arrays_fit_ext = { E.arrays_fit };
 
     ghost persists_ext = { λ a b h e t k. value_persists (λ o. reading E.ring E.embed o.values) (opened_of a) (opened_of b) e t h k };
+
+    ghost asserts_ext_grows = { λ a b x t h k. (k.0, k.1 ∙ ap (E.ring.add (E.ring.mul a.accumulator a.alpha)) h) };
 }
 
 impl<'a, F: Field, E: ExtensionField<F>> PermutationAirBuilder for VerifierFolder<'a, F, E> {
@@ -158,12 +181,16 @@ impl<'a, F: Field, E: ExtensionField<F>> PermutationAirBuilder for VerifierFolde
 impl<'a, F: Field, E: ExtensionField<F>> InteractionBuilder for VerifierFolder<'a, F, E> {
     ghost use Rattle.p3_uni_stark.specs.VerifierState.{opened_of};
 
+    ghost sends = { λ a bus xs cs b. (opened_of b ≡ opened_of a) × (b.accumulator ≡ a.accumulator) };
+
     fn push_interaction(&mut self, _bus_name: &str, fields: &[E], count: Count<E>) -> Mem<()>
         ensures later { opened_of self.new ≡ opened_of self.old }
         ensures same { point_shape (opened_of self.new).values ≡ point_shape (opened_of self.old).values }
         ensures answers { IsTrue true → IsOk result }
         ensures grows { (fs : List (Tree F)) (v : Tree F) → Stand (λ e t. e ≡ ev (reading E.ring E.embed (opened_of self.old).values) t) fields.now fs → count.value ≡ ev (reading E.ring E.embed (opened_of self.old).values) v
             → IfOk result (λ _. (opened_of self.new ≡ opened_of self.old) × (self.new.accumulator ≡ fold_from E.ring self.old.alpha self.old.accumulator [])) }
+        ensures sure { IsTrue true → IsOk result }
+        ensures sends { IfOk result (λ _. (opened_of self.new ≡ opened_of self.old) × (self.new.accumulator ≡ self.old.accumulator)) }
         ensures refused { OnErr result ((opened_of self.new ≡ opened_of self.old) × (self.new.accumulator ≡ fold_from E.ring self.old.alpha self.old.accumulator [])) }
     {
         Ok(())
@@ -172,4 +199,6 @@ impl<'a, F: Field, E: ExtensionField<F>> InteractionBuilder for VerifierFolder<'
     fn push_local_interaction(&mut self, _fields: &[E], _counts: &[Count<E>]) -> Mem<()> {
         Ok(())
     }
+
+    ghost sends_grows = { λ a b bus xs cs fs vs h k e. e };
 }

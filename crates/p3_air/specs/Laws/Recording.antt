@@ -10,11 +10,11 @@ use Rattle.p3_air.specs.declared.layout.AirLayout.{AirLayout}
 use Rattle.p3_air.specs.declared.node.Node.{Node}
 use Rattle.p3_air.specs.declared.node.Node.TheVariants.{Constant, Sum, Difference, Product}
 use Rattle.p3_air.specs.declared.recorded.Assertion.{Assertion}
-use Rattle.p3_air.specs.Tree.{Tree, Asserted, Interaction, sum, difference, product, Stand, StandCount}
+use Rattle.p3_air.specs.Tree.{Tree, Asserted, Interaction, Bus, local, global, sum, difference, product, Stand, StandCount}
 use Rattle.p3_air.specs.Layout.{layout_shape}
 use Rattle.p3_air.specs.Symbolic.{node_tree, trees_after, tree_at, OperandsBelow, OrderedFrom}
 use Rattle.p3_air.specs.Placed.{Placed}
-use Rattle.p3_air.specs.Recording.{Recording, asserted_tree, asserted_at, bus_of, count_at, interaction_at, sent_at, PlacedBelow, IsRecording, StandsAt, IsLater, Grows, known_place, known_count, is_in, indices_from}
+use Rattle.p3_air.specs.Recording.{Recording, asserted_tree, asserted_at, bus_of, count_at, interaction_at, sent_at, PlacedBelow, IsRecording, StandsAt, IsLater, Grows, known_place, known_count, is_in, indices_from, asserting, name_of, sending}
 use Rattle.p3_air.specs.Laws.Symbolic.{tree_at-append, tree_at-push, ordered-push}
 
 -- places below a number are below a larger one
@@ -212,6 +212,32 @@ grows-send {F = F} r bus xs cs fs vs h k =
           ∙ ap (λ (us : List (Tree F)). sent_at r.nodes r.interactions ++ record { bus = bus_of bus; fields = us; counts = map (count_at r.nodes) p.counts } ∷ []) (known_places-trees r.nodes xs fs h)
           ∙ ap (λ (us : List (Count (Tree F))). sent_at r.nodes r.interactions ++ record { bus = bus_of bus; fields = fs; counts = us } ∷ []) (known_counts-trees r.nodes cs vs k);
     }
+
+-- one assertion more
+pub asserting-grows : {F : Type 0} (a b : Recording F) (x : ℕ) (in_extension : Bool) (t : Tree F) → StandsAt a.nodes x t → b ≡ asserting a x in_extension
+    → Grows a b (record { tree = t; in_extension = in_extension } ∷ []) []
+asserting-grows {F = F} a b x in_extension t h e =
+    let one : Assertion = record { place = known_place (length a.nodes) x; in_extension = in_extension } in
+    let grown : Grows a (asserting a x in_extension) (record { tree = t; in_extension = in_extension } ∷ []) [] = record {
+      later = record { layout = refl; more = []; extends = sym (append-nil a.nodes) };
+      trees = map-append (asserted_tree a.nodes) a.asserted (one ∷ [])
+          ∙ ap (λ (u : Tree F). asserted_at a.nodes a.asserted ++ record { tree = u; in_extension = in_extension } ∷ []) (known_place-tree a.nodes x t h);
+      sent = sym (append-nil _);
+    } in
+    let P : Recording F → Type 0 = λ r. Grows a r (record { tree = t; in_extension = in_extension } ∷ []) [] in
+    subst P (sym e) grown
+
+bus_of-name : (bus : Bus) → bus_of (name_of bus) ≡ bus
+bus_of-name local = refl
+bus_of-name (global name) = refl
+
+pub sending-grows : {F : Type 0} (a b : Recording F) (bus : Bus) (xs : List ℕ) (cs : List (Count ℕ)) (fs : List (Tree F)) (vs : List (Count (Tree F)))
+    → Stand (StandsAt a.nodes) xs fs → Stand (StandCount (StandsAt a.nodes)) cs vs → b ≡ sending a (name_of bus) xs cs
+    → Grows a b [] (record { bus = bus; fields = fs; counts = vs } ∷ [])
+sending-grows {F = F} a b bus xs cs fs vs h k e =
+    let P : Recording F → Type 0 = λ r. Grows a r [] (record { bus = bus; fields = fs; counts = vs } ∷ []) in
+    let Q : Bus → Type 0 = λ c. Grows a (sending a (name_of bus) xs cs) [] (record { bus = c; fields = fs; counts = vs } ∷ []) in
+    subst P (sym e) (subst Q (bus_of-name bus) (grows-send a (name_of bus) xs cs fs vs h k))
 
 pub stands-sum : {F E : Type 0} (r : Result ℕ E) (ns ms : List (Node F)) (x y : ℕ) (s t : Tree F) → StandsAt ns x s → StandsAt ns y t
     → IfOk r (λ e. StandsAt ms e (node_tree (trees_after [] ns) (Sum (known_place (length ns) x) (known_place (length ns) y))))

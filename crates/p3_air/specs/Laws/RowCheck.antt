@@ -1,5 +1,5 @@
 -- Values of trees at a row, as trees are asserted.
-use Rattle.std.proofs.Common.{◌≡◌, ◌++◌, List, [], map, refl, sym, ◌∙◌, ap, subst, append_assoc, append-nil}
+use Rattle.std.proofs.Common.{◌≡◌, ◌++◌, List, [], ◌∷◌, map, refl, sym, ◌∙◌, ap, subst, append_assoc, append-nil}
 use Rattle.std.proofs.lemmas.List.{map-append}
 use Rattle.p3_field.specs.Ring.{Ring}
 use Rattle.p3_air.specs.Tree.{Tree, Asserted}
@@ -29,3 +29,14 @@ adds-along {F = F} {E = E} f e embed a b c s t h k =
       row = k.row ∙ h.row;
       values = more ∙ ap (λ (l : List E). l ++ map v t) h.values ∙ append_assoc a.values (map v s) (map v t) ∙ ap (λ (l : List E). a.values ++ l) (sym (map-append v s t));
     }
+
+-- the value of an asserted tree kept behind the others
+pub keeping-adds : {F E : Type 0} (f : Ring F) (e : Ring E) (embed : F → E) (a b : Checked F E) (x : E) (t : Asserted F) → x ≡ value_at f e embed a.row t.tree
+    → b ≡ record a { values = a.values ++ x ∷ [] } → Adds f e embed a b (t ∷ [])
+keeping-adds {F = F} {E = E} f e embed a b x t h k = record {
+  row = ap (λ (c : Checked F E). c.row) k;
+  values = ap (λ (c : Checked F E). c.values) k ∙ ap (λ (y : E). a.values ++ y ∷ []) h;
+}
+
+pub unchanged-adds : {F E : Type 0} (f : Ring F) (e : Ring E) (embed : F → E) (a b : Checked F E) → b ≡ a → Adds f e embed a b []
+unchanged-adds {F = F} {E = E} f e embed a b k = let P : Checked F E → Type 0 = λ c. Adds f e embed a c [] in subst P (sym k) (adds-same f e embed a)

@@ -1,6 +1,7 @@
 use Rattle.std.proofs.lemmas.Result.{IfOk-weaker, on_err_weaker}
 use Rattle.std.proofs.Common.{[], ◌∙◌}
 use Rattle.p3_air.specs.Laws.Stand.{holds_on_err}
+use Rattle.p3_air.specs.Asserting.{AssertsOne}
 use Rattle.p3_air.proofs.builder.AirBuilder.assert_bool.Goals as goal
 
 pub returns-clause-grows : goal.returns-clause-grows
@@ -30,3 +31,18 @@ returns-clause-refused g c =
     on_err_weaker _
     (λ p. then _ _ _ [] [] [] [] c.constant.ensures.grows (then _ _ _ [] [] [] [] c.sub.ensures.grows (then _ _ _ [] [] [] [] c.mul.ensures.grows p)))
     c.assert_zero.ensures.refused
+
+pub returns-clause-asserts : goal.returns-clause-asserts
+returns-clause-asserts g c =
+    let B = g.Self.AirBuilder in
+    let then = g.met.Self.AirBuilder.grows_along in
+    IfOk-weaker c.assert_zero.result
+    (λ _. B.asserts c.mul.new.self c.in_ok-product.product c.assert_zero.new.self)
+    (λ _. AssertsOne (λ a b. B.grows a b [] []) B.asserts c.args.self.now c.assert_zero.new.self)
+    (λ _ p. record {
+      before = c.mul.new.self;
+      expression = c.in_ok-product.product;
+      quiet_before = then _ _ _ [] [] [] [] c.constant.ensures.grows (then _ _ _ [] [] [] [] c.sub.ensures.grows c.mul.ensures.grows);
+      asserted = p;
+    })
+    c.assert_zero.ensures.asserts

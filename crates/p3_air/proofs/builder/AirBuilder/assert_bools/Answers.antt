@@ -1,9 +1,12 @@
-use Rattle.std.proofs.Common.{[], map, ◌∷◌, ◌<◌, length, take, get_or, sym, ◌≡◌, ◌∙◌, subst, append-nil, arith}
+use Rattle.std.proofs.Common.{[], map, List, ◌∷◌, ◌++◌, ◌+◌, ◌<◌, length, take, ap, get_or, sym, ◌≡◌, ◌∙◌, subst, append-nil, arith}
 use Rattle.std.proofs.lemmas.List.{take_more, take-map, map-append}
 use Rattle.std.proofs.lemmas.Grind.{common_steps}
 use Rattle.p3_air.specs.Laws.Growth.{first_on_err}
 use Rattle.p3_air.specs.declared.cells.Cell.TheVariants.{FirstRow}
 use Rattle.p3_air.specs.Tree.{Tree, cell, bool_tree, over_base}
+use Rattle.p3_air.specs.Laws.Stand.{holds_on_err}
+use Rattle.p3_air.specs.Laws.Asserting.{asserts-more}
+use Rattle.p3_air.specs.Asserting.{AssertsOne, AssertsEach, AssertsFirst}
 use Rattle.p3_air.proofs.builder.AirBuilder.assert_bools.Goals as goal
 
 pub loop-x-preserved : goal.loop-x-preserved
@@ -22,6 +25,12 @@ loop-x-preserved g c =
           (B.grows_along _ _ _ _ _ [] []
           (c.loop-x.invariant.2 ts h)
           (c.in_ok-assert_bool.ensures.grows _ one)),
+      (let lt : i < length c.args.xs.now = c.loop-x-test.true in
+          let xs = c.args.xs.now in
+          let step : g.row.Self.Denot → g.row.Self-Expr.Denot → g.row.Self.Denot → Type 0 = (λ a x b. AssertsOne (λ c d. g.Self.AirBuilder.grows c d [] []) g.Self.AirBuilder.asserts a b) in
+          let taken : take (i + 1) xs ≡ take i xs ++ c.x-item.result ∷ [] = take_more xs i c.x-item.result lt ∙ ap (λ (y : g.row.Self-Expr.Denot). take i xs ++ y ∷ []) (sym c.x-item.is) in
+          let P : List g.row.Self-Expr.Denot → Type 0 = λ ys. AssertsEach step ys c.args.self.now c.assert_bool.new.self in
+          subst P (sym taken) (asserts-more step (take i xs) c.x-item.result c.args.self.now c.loop-x.self c.assert_bool.new.self c.loop-x.invariant.3 c.in_ok-assert_bool.ensures.asserts)),
     )
 
 pub returns-clause-grows : goal.returns-clause-grows
@@ -33,3 +42,20 @@ pub returns-in_err-assert_bool-clause-refused : goal.returns-in_err-assert_bool-
 returns-in_err-assert_bool-clause-refused g c ts h =
     let grown = rw append-nil at (g.met.Self.AirBuilder.grows_along _ _ _ _ [] [] [] (c.loop-x.invariant.2 ts h) c.in_err-assert_bool.ensures.refused) in
     first_on_err g.Self.AirBuilder.grows _ _ (map over_base (map (bool_tree g.Self.F.RingCore.ring.one) ts)) [] _ c.loop-x.x-index 0 (rw (take-map, take-map) grown)
+
+pub returns-clause-asserts : goal.returns-clause-asserts
+returns-clause-asserts g c =
+    let e : take c.loop-x.x-index c.args.xs.now ≡ c.args.xs.now = grind (arith, common_steps) in
+    rw e at c.loop-x.invariant.3
+
+pub returns-in_err-assert_bool-clause-some : goal.returns-in_err-assert_bool-clause-some
+returns-in_err-assert_bool-clause-some g c =
+    let step : g.row.Self.Denot → g.row.Self-Expr.Denot → g.row.Self.Denot → Type 0 = (λ a x b. AssertsOne (λ c d. g.Self.AirBuilder.grows c d [] []) g.Self.AirBuilder.asserts a b) in
+    let some : AssertsFirst (λ a b. g.Self.AirBuilder.grows a b [] []) step c.args.xs.now c.args.self.now c.assert_bool.new.self = record {
+      count = c.loop-x.x-index;
+      within = omega (arith, c.loop-x-test.true);
+      before = c.loop-x.self;
+      asserted = c.loop-x.invariant.3;
+      quiet_after = c.in_err-assert_bool.ensures.refused;
+    } in
+    holds_on_err _ some

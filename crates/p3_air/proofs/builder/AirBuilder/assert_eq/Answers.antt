@@ -1,6 +1,7 @@
 use Rattle.std.proofs.Common.{[]}
 use Rattle.std.proofs.lemmas.Result.{IfOk-weaker, on_err_weaker}
 use Rattle.p3_air.specs.Tree.{difference}
+use Rattle.p3_air.specs.Asserting.{AssertsOne}
 use Rattle.p3_air.proofs.builder.AirBuilder.assert_eq.Goals as goal
 
 pub returns-clause-grows : goal.returns-clause-grows
@@ -12,3 +13,12 @@ returns-clause-grows g c s t hs ht =
 pub returns-clause-refused : goal.returns-clause-refused
 returns-clause-refused g c =
     on_err_weaker _ (λ p. g.met.Self.AirBuilder.grows_along _ _ _ [] [] [] [] c.sub.ensures.grows p) c.assert_zero.ensures.refused
+
+pub returns-clause-asserts : goal.returns-clause-asserts
+returns-clause-asserts g c =
+    let B = g.Self.AirBuilder in
+    IfOk-weaker c.assert_zero.result
+    (λ _. B.asserts c.sub.new.self c.in_ok-difference.difference c.assert_zero.new.self)
+    (λ _. AssertsOne (λ a b. B.grows a b [] []) B.asserts c.args.self.now c.assert_zero.new.self)
+    (λ _ p. record { before = c.sub.new.self; expression = c.in_ok-difference.difference; quiet_before = c.sub.ensures.grows; asserted = p })
+    c.assert_zero.ensures.asserts

@@ -1,6 +1,6 @@
 use Rattle.std.proofs.Common.{rules}
 use Rattle.p3_air.specs.Laws.Symbolic.{node_is}
-use Rattle.p3_air.proofs.symbolic.+multiple_at.Goals as goal
+use Rattle.p3_air.proofs.degrees.+degree_at.Goals as goal
 
 pub returns-in-Constant : goal.returns-in-Constant
 returns-in-Constant g t c =
@@ -17,14 +17,14 @@ returns-in-Extension g t c =
     let here = node_is c.args.nodes.now c.args.place _ _ c.requires.ordered c.requires.within c.in-Extension.is in
     rw here (search rules)
 
-pub multiple_at-left-requires : goal.multiple_at-left-requires
-multiple_at-left-requires g t c κs within =
+pub degree_at-left-requires : goal.degree_at-left-requires
+degree_at-left-requires g t c κs within =
     let here = node_is c.args.nodes.now c.args.place _ _ c.requires.ordered c.requires.within c.in-Sum.is in
     let earlier = here.0 in
     search rules
 
-pub multiple_at-requires : goal.multiple_at-requires
-multiple_at-requires g t c κs within =
+pub degree_at-requires : goal.degree_at-requires
+degree_at-requires g t c κs within =
     let here = node_is c.args.nodes.now c.args.place _ _ c.requires.ordered c.requires.within c.in-Sum.is in
     let earlier = here.1 in
     search rules
@@ -34,14 +34,14 @@ returns-in-Sum g t c =
     let here = node_is c.args.nodes.now c.args.place _ _ c.requires.ordered c.requires.within c.in-Sum.is in
     rw here.2 (search rules)
 
-pub multiple_at-left-requires-in-Difference : goal.multiple_at-left-requires-in-Difference
-multiple_at-left-requires-in-Difference g t c κs within =
+pub degree_at-left-requires-in-Difference : goal.degree_at-left-requires-in-Difference
+degree_at-left-requires-in-Difference g t c κs within =
     let here = node_is c.args.nodes.now c.args.place _ _ c.requires.ordered c.requires.within c.in-Difference.is in
     let earlier = here.0 in
     search rules
 
-pub multiple_at-requires-in-Difference : goal.multiple_at-requires-in-Difference
-multiple_at-requires-in-Difference g t c κs within =
+pub degree_at-requires-in-Difference : goal.degree_at-requires-in-Difference
+degree_at-requires-in-Difference g t c κs within =
     let here = node_is c.args.nodes.now c.args.place _ _ c.requires.ordered c.requires.within c.in-Difference.is in
     let earlier = here.1 in
     search rules
@@ -51,14 +51,14 @@ returns-in-Difference g t c =
     let here = node_is c.args.nodes.now c.args.place _ _ c.requires.ordered c.requires.within c.in-Difference.is in
     rw here.2 (search rules)
 
-pub multiple_at-left-requires-in-Product : goal.multiple_at-left-requires-in-Product
-multiple_at-left-requires-in-Product g t c κs within =
+pub degree_at-left-requires-in-Product : goal.degree_at-left-requires-in-Product
+degree_at-left-requires-in-Product g t c κs within =
     let here = node_is c.args.nodes.now c.args.place _ _ c.requires.ordered c.requires.within c.in-Product.is in
     let earlier = here.0 in
     search rules
 
-pub multiple_at-requires-in-Product : goal.multiple_at-requires-in-Product
-multiple_at-requires-in-Product g t c κs within =
+pub degree_at-requires-in-Product : goal.degree_at-requires-in-Product
+degree_at-requires-in-Product g t c κs within =
     let here = node_is c.args.nodes.now c.args.place _ _ c.requires.ordered c.requires.within c.in-Product.is in
     let earlier = here.1 in
     search rules
