@@ -71,6 +71,10 @@ impl<F: Field> BaseAir<F> for PostAir<F> {
     }
 
     ghost has_columns = { λ _. Prim.search rules };
+
+    ghost next_below = { λ _. Prim.search rules };
+
+    ghost preprocessed_next_below = { λ _. Prim.search rules };
 }
 
 // The product of two cells.

@@ -95,6 +95,10 @@ impl<F: Field> BaseAir<F> for SwapAir {
     }
 
     ghost has_columns = { λ _. tt };
+
+    ghost next_below = { λ _. Prim.search rules };
+
+    ghost preprocessed_next_below = { λ _. Prim.search rules };
 }
 
 impl<F: Field> Air<F> for SwapAir {

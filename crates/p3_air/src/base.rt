@@ -1,5 +1,5 @@
 //! AIRs: what a table declares of itself, and its constraints.
-ghost use Rattle.std.specs.Prelude.{◌≡◌, ℕ, List, Some, IfOk, OnErr, IsOk, IsTrue, length, map, All};
+ghost use Rattle.std.specs.Prelude.{◌≡◌, ℕ, ◌<◌, List, Some, IfOk, OnErr, IsOk, IsTrue, length, map, All};
 ghost use Rattle.p3_air.specs.Shape.{Declaration, Fits, HasColumns, declared_shape, width_of, ReadsDeclared, IsInteraction};
 ghost use Rattle.p3_air.specs.Tree.{Tree, Interaction, SomeFirst, over_base};
 
@@ -25,11 +25,11 @@ pub trait BaseAir<F: FieldCore> {
     fn preprocessed_width(&self) -> usize
         ensures { result ≡ width_of (declaration self.now).preprocessed };
 
-    /// The columns of the main trace whose next row a constraint may read.
+    /// The columns of the main trace whose next row a constraint may read. Each is below `width`.
     fn main_next_row_columns(&self) -> &[usize]
         ensures { result.now ≡ (declaration self.now).main_next };
 
-    /// The columns of the preprocessed trace whose next row a constraint may read.
+    /// The columns of the preprocessed trace whose next row a constraint may read. Each is below `preprocessed_width`.
     fn preprocessed_next_row_columns(&self) -> &[usize]
         ensures { result.now ≡ (declaration self.now).preprocessed_next };
 
@@ -55,6 +55,12 @@ pub trait BaseAir<F: FieldCore> {
 
     // A preprocessed trace has at least one column.
     ghost has_columns: { (a : Self) → HasColumns (declaration a).preprocessed };
+
+    // The next row is declared only in columns that the main trace has.
+    ghost next_below: { (a : Self) → All (λ c. c < (declaration a).width) (declaration a).main_next };
+
+    // The next preprocessed row is declared only in columns that the preprocessed trace has.
+    ghost preprocessed_next_below: { (a : Self) → All (λ c. c < width_of (declaration a).preprocessed) (declaration a).preprocessed_next };
 }
 
 /// A table with constraints (`p3_air::Air`), which has one list of constraint trees and one of interactions.

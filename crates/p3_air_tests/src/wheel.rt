@@ -73,6 +73,10 @@ impl BaseAir<BabyBear> for Wheel {
     }
 
     ghost has_columns = { Prim.search rules };
+
+    ghost next_below = { λ _. Prim.search rules };
+
+    ghost preprocessed_next_below = { λ _. Prim.search rules };
 }
 
 impl Air<BabyBear> for Wheel {

@@ -2,6 +2,7 @@
 pub mod Cosets
 pub mod Each
 pub mod Pairs
+pub mod Parts
 pub mod Periods
 pub mod Repeated
 pub mod Codes

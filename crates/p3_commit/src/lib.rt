@@ -6,6 +6,7 @@
 #![tactic(auto)]
 
 mod claims;
+mod coset;
 mod domain;
 mod encoder;
 mod extension_mmcs;
@@ -13,6 +14,7 @@ mod failure;
 mod interpolation;
 mod mmcs;
 mod multilinear;
+mod parts;
 mod pcs;
 mod periodic;
 mod periodic_evaluator;
@@ -27,12 +29,14 @@ pub use claims::{
     OpenedValuesForMatrix, OpenedValuesForPoint, OpenedValuesForRound, OpeningRequest,
     PointOpening,
 };
+pub use coset::CosetPcs;
 pub use domain::{PolynomialSpace, are_disjoint};
 pub use encoder::{EncodeError, Encoder};
 pub use extension_mmcs::{ExtensionMmcs, ExtensionMmcsData};
 pub use failure::PcsFailure;
 pub use mmcs::{BatchOpening, BatchOpeningRef, Mmcs, greatest_height};
 pub use multilinear::MultilinearPcs;
+pub use parts::{a_split_is_one, parts_are_disjoint};
 pub use pcs::{Pcs, Val};
 pub use periodic::{PeriodicColumnShapeError, PeriodicColumns};
 pub use periodic_evaluator::PeriodicEvaluator;

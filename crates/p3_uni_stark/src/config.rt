@@ -2,7 +2,7 @@
 ghost use Rattle.std.specs.Prelude.{◌≡◌, ℕ, ◌<◌, ◌^◌, cond};
 
 use p3_challenger::{CanObserve, CanSample, CanSampleBits, GrindingChallenger};
-use p3_commit::{Pcs, PolynomialSpace, UnivariateStarkPcs};
+use p3_commit::{CosetPcs, Pcs, PolynomialSpace, UnivariateStarkPcs};
 use p3_field::{
     BasedVectorSpace, ExtensionField, Field, FieldCore, PrimeCharacteristicRing, PrimeCore64,
     PrimeField64, RingCore, TwoAdicCore, TwoAdicField, TwoAdicMultiplicativeCoset,
@@ -27,13 +27,8 @@ pub trait StarkGenericConfig {
         + GrindingChallenger<Witness = Self::Val>
         + CanObserve<<Self::Pcs as Pcs<Self::Challenge, Self::Challenger>>::Commitment>;
 
-    /// The commitment scheme.
-    type Pcs: UnivariateStarkPcs<
-        Self::Challenge,
-        Self::Challenger,
-        Val = Self::Val,
-        Domain = TwoAdicMultiplicativeCoset<Self::Val>,
-    >;
+    /// The commitment scheme, whose domains are cosets.
+    type Pcs: CosetPcs<Self::Challenge, Self::Challenger, Val = Self::Val>;
 
     // the state in which each transcript begins
     ghost initial_of: { Self → Self.Challenger };
@@ -151,7 +146,7 @@ where
 
 impl<P, E, C> StarkGenericConfig for StarkConfig<P, E, C>
 where
-    P: UnivariateStarkPcs<E, C, Domain = TwoAdicMultiplicativeCoset<<P as Pcs<E, C>>::Val>>,
+    P: CosetPcs<E, C>,
     P::Val: TwoAdicField + PrimeField64,
     E: ExtensionField<P::Val>,
     C: Copy

@@ -1,5 +1,5 @@
 //! The plain scheme over a field and a transform.
-ghost use Rattle.std.specs.Prelude.{◌≡◌, ℕ, ◌^◌, ◌-◌, ◌+◌, ◌<◌, ◌≤◌, true, false, List, All, MatchOption, Some, IfOk, length, map, slice_get};
+ghost use Rattle.std.specs.Prelude.{◌≡◌, refl, ℕ, ◌^◌, ◌-◌, ◌+◌, ◌<◌, ◌≤◌, true, false, List, All, MatchOption, Some, IfOk, length, map, slice_get};
 ghost use Rattle.std.specs.Int.{IsPowerOfTwo};
 ghost use Rattle.p3_field.specs.Domain.{CosetData, coset_point, point, IsInterpolant};
 ghost use Rattle.p3_matrix.specs.Matrix.{Rows, height, column};
@@ -23,7 +23,7 @@ use crate::evaluating::{evaluations_on_domain, periodic_table};
 use crate::opening::open;
 use crate::verifying::first_fault;
 use p3_commit::{
-    CommitmentOpening, OpenedValues, OpeningRequest, Pcs, PcsFailure, PeriodicLdeTable,
+    CommitmentOpening, CosetPcs, OpenedValues, OpeningRequest, Pcs, PcsFailure, PeriodicLdeTable,
     UnivariateStarkPcs,
 };
 use p3_dft::TwoAdicSubgroupDft;
@@ -312,4 +312,11 @@ impl<F: TwoAdicField, D: TwoAdicSubgroupDft<F>, E: ExtensionField<F>, C> Univari
     ghost quotient_granted = { λ s d m n parts power fits rows are none. granted_by_parts (scheme F.ring F.inv F.root F.GENERATOR F.TWO_ADICITY s) d m n parts power rows are none };
 
     ghost one_commitment = { λ s es c z h. h };
+}
+
+impl<F: TwoAdicField, D: TwoAdicSubgroupDft<F>, E: ExtensionField<F>, C> CosetPcs<E, C>
+    for PlainPcs<F, D> {
+    ghost coset_points = { λ d. refl };
+
+    ghost coset_point = { λ d i. refl };
 }

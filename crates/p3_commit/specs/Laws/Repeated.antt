@@ -60,11 +60,12 @@ module _ {A : Type 0} (r : Ring A) (L : RingLaws r) where
   length_raise zero f = omega arith
   length_raise (suc j) f = omega (arith, length_raise j f)
 
-  length_spread : (j : ℕ) (g : List A) → length (spread r j g) ≡ suc j * length g
+  -- its length, and its value: that of g at a power of the point
+  pub length_spread : (j : ℕ) (g : List A) → length (spread r j g) ≡ suc j * length g
   length_spread j [] = omega arith
   length_spread j (c ∷ cs) = omega (arith, length_raise j (spread r j cs), length_spread j cs)
 
-  val_spread : (j : ℕ) (g : List A) (x : A) → val r (spread r j g) x ≡ val r g (pow r x (suc j))
+  pub val_spread : (j : ℕ) (g : List A) (x : A) → val r (spread r j g) x ≡ val r g (pow r x (suc j))
   unfolding pow
   val_spread j [] x = refl
   val_spread j (c ∷ cs) x =
@@ -100,7 +101,7 @@ module _ {A B : Type 0} (r : Ring A) (L : RingLaws r) (s : Ring B) (M : RingLaws
 
   module _ (top : ℕ) (root : ℕ → A) (T : TwoAdicLaws r top root) where
     -- the period's coset: its points are powers of the whole's
-    periods_points : (d e : CosetData A) (a : ℕ) → d.log_size ≤ top → e.log_size + a ≡ d.log_size → e.shift ≡ pow r d.shift (2 ^ a) → (i : ℕ)
+    pub periods_points : (d e : CosetData A) (a : ℕ) → d.log_size ≤ top → e.log_size + a ≡ d.log_size → e.shift ≡ pow r d.shift (2 ^ a) → (i : ℕ)
         → pow r (point r root d i) (2 ^ a) ≡ point r root e (i % 2 ^ e.log_size)
     periods_points d e a fits sum shift i =
         let k = e.log_size in
