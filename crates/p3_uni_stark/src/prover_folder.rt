@@ -48,7 +48,7 @@ pub struct ProverFolder<'a, F, E> {
 impl<F: Field, E: ExtensionField<F>> ProverFolder<'_, F, E> {
     ghost use Rattle.p3_uni_stark.specs.ProverState.{given_of, sum_of, powers_of};
 
-    /// Folds one more value in, whatever it is a constraint's value of or not: it is added times the next power, which
+    /// Folds one more value in, be it a constraint's value or not: it is added times the next power, which
     /// is then taken. Past the last power it adds nothing (own). A folder that wraps this one takes its constraints in
     /// by this call.
     pub fn fold_in(&mut self, x: E)

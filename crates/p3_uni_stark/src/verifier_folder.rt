@@ -44,7 +44,7 @@ pub struct VerifierFolder<'a, F, E> {
 impl<F: Field, E: ExtensionField<F>> VerifierFolder<'_, F, E> {
     ghost use Rattle.p3_uni_stark.specs.VerifierState.{opened_of};
 
-    /// Folds one more value in, whatever it is a constraint's value of or not: the sum times the challenge, plus the
+    /// Folds one more value in, be it a constraint's value or not: the sum times the challenge, plus the
     /// value (own). A folder that wraps this one takes its constraints in by this call.
     pub fn fold_in(&mut self, x: E)
         ensures same { opened_of self.new ≡ opened_of self.old }
