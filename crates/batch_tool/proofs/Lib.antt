@@ -1,6 +1,7 @@
 pub mod Appends
 pub mod Backend
 pub mod Checking
+pub mod Committing
 pub mod Draws
 pub mod FirstForms
 pub mod HonestCommitments
@@ -10,10 +11,10 @@ pub mod Interpolated
 pub mod JobAnswers
 pub mod OpenedLists
 pub mod Patterns
+pub mod Proving
 pub mod QuotientLemmas
 pub mod Runs
 pub mod Shapes
+pub mod SwapReading
 pub mod TraceLemmas
 pub mod Verifying
-pub mod SwapReading
-pub mod Committing

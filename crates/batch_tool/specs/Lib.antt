@@ -19,4 +19,5 @@ pub mod Separator
 pub mod Status
 pub mod Swap
 pub mod Tool
+pub mod Uniqueness
 pub mod Verify

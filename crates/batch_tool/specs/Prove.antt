@@ -1,10 +1,17 @@
 -- What `prove` answers for a swap table.
-use Rattle.std.specs.Prelude.{◌≡◌, ℕ, ◌<◌, List, ◌⊎◌, false, codes}
+use Rattle.std.specs.Prelude.{◌≡◌, ℕ, ◌<◌, List, ◌⊎◌, Option, None, Some, false, codes}
 use Rattle.p3_field.specs.declared.baby_bear.BabyBear.{BabyBear}
+use Rattle.p3_field.specs.declared.quartic.QuarticExtension.{QuarticExtension}
+use Rattle.p3_field.specs.Ring.{of_nat}
+use Rattle.p3_field.specs.BabyBear.{bear_ring}
+use Rattle.p3_field.specs.Domain.{CosetData}
 use Rattle.p3_matrix.specs.Matrix.{Rows}
+use Rattle.plain_pcs.specs.Scheme.{PlainCommitmentData}
+use Rattle.batch_tool.specs.Committed.{IsCommittedTo, committed_matrix}
 use Rattle.batch_tool.specs.Honest.{Instance, IsCommitted, IsGround, IsInTraceDomain, honest_proof, number_passes, zeta}
 use Rattle.batch_tool.specs.Tool.{tool}
 use Rattle.batch_tool.specs.Swap.{swap_instance, last_right}
+use Rattle.batch_tool.specs.Proof.{ProofData}
 use Rattle.batch_tool.specs.ProofFile.{file_words}
 use Rattle.batch_tool.specs.FirstForm.{IsSwapShape}
 use Rattle.line_format.specs.Texts.{line_text}
@@ -15,6 +22,10 @@ use Rattle.batch_tool.specs.declared.status.Status.TheVariants.{Done, Refused, U
 -- a swap table as an instance that is to be proved
 abbrev pub instance_of : SwapTable → Instance BabyBear
 instance_of t = swap_instance t.log_rows t.a t.b
+
+-- the text of a proof file: the table's statement, and a proof
+abbrev pub proof_text : SwapTable → ProofData BabyBear QuarticExtension → List ℕ
+proof_text t proof = line_text (file_words t.log_rows t.a t.b (last_right t.log_rows t.a t.b) proof)
 
 -- no number below the field's order passes the grinding before zeta
 pub record LacksWitness (table : SwapTable) (text : List ℕ) : Type 0 where
@@ -51,6 +62,25 @@ pub record IsProved (table : SwapTable) (text : List ℕ) : Type 0 where
   pub outside : IsInTraceDomain tool (instance_of table) (zeta tool (instance_of table) main quotient number) → ⊥
   pub form : IsSwapShape table.log_rows (honest_proof tool (instance_of table) columns main chunk quotient number)
   pub text_is : text ≡ line_text (file_words table.log_rows table.a table.b (last_right table.log_rows table.a table.b) (honest_proof tool (instance_of table) columns main chunk quotient number))
+
+-- the commitment and the prover's data that belong to it
+abbrev pub Kept : Type 0
+Kept = PlainCommitmentData BabyBear × List (CosetData BabyBear × Rows BabyBear)
+
+-- the text of the honest proof of what these hold, for the trace and for the quotient, where this is its grinding value and its zeta
+abbrev pub IsOpenedText : SwapTable → (main quotient : Kept) → (witness : BabyBear) → (zeta' : QuarticExtension) → List ℕ → Type 0
+IsOpenedText table main quotient witness zeta' text =
+    (k n : ℕ) (fs gs : List (List BabyBear)) → IsCommittedTo k fs main.0 main.1 → IsCommittedTo k gs quotient.0 quotient.1
+    → witness ≡ of_nat bear_ring n → zeta' ≡ zeta tool (instance_of table) (committed_matrix k fs) (committed_matrix k gs) n
+    → text ≡ proof_text table (honest_proof tool (instance_of table) fs (committed_matrix k fs) gs (committed_matrix k gs) n)
+
+-- The status and the text by what was drawn behind the grinding, a grinding value and zeta: a refusal where nothing was drawn, or
+-- where zeta lies in the trace domain, and else a text with this fact.
+abbrev pub IsDrawnAnswer : SwapTable → (BabyBear → QuarticExtension → List ℕ → Type 0) → Option (BabyBear × QuarticExtension) → Status → List ℕ → Type 0
+IsDrawnAnswer table Fact None status text = (status ≡ Refused) × (text ≡ codes "refused WitnessNotFound ood\n")
+IsDrawnAnswer table Fact (Some d) Done text = (IsInTraceDomain tool (instance_of table) d.1 → ⊥) × Fact d.0 d.1 text
+IsDrawnAnswer table Fact (Some d) Refused text = IsInTraceDomain tool (instance_of table) d.1 × (text ≡ codes "refused OodPointInDomain\n")
+IsDrawnAnswer table Fact (Some d) other text = ⊥
 
 -- the status and the text for a job of this table
 unfoldable pub IsJobAnswer : SwapTable → Status → List ℕ → Type 0

@@ -10,6 +10,8 @@ mod first_form;
 mod honest_files;
 mod identity;
 mod job;
+mod laws;
+mod line;
 mod opened;
 mod opening;
 mod proof;
@@ -29,5 +31,6 @@ pub use byte_io::{
     Failed, InputError, MAX_BYTES, MemorySink, MemorySource, Sink, Source, StdSink, StdSource,
     read_whole, write_whole,
 };
+pub use laws::{one_answer, one_honest_proof};
 pub use status::Status;
 pub use top::run;

@@ -1,18 +1,19 @@
 //! The command `prove`: the honest proof of a swap table.
 
-ghost use Rattle.std.specs.Prelude.{◌≡◌, ◌≤◌, ◌∷◌, [], IfOk, ℕ, List};
+ghost use Rattle.std.specs.Prelude.{◌≡◌, ◌≤◌, ◌∷◌, [], IfOk, IsErr, Some, ℕ, List};
 ghost use Rattle.p3_field.specs.Ring.{of_nat};
 ghost use Rattle.p3_field.specs.BabyBear.{bear_ring};
 ghost use Rattle.p3_matrix.specs.Matrix.{Rows};
 ghost use Rattle.batch_tool.specs.BatchScript.{single_shape};
 ghost use Rattle.batch_tool.specs.Committed.{IsCommittedTo, committed_matrix, trace_polynomials, chunk_polynomials};
-ghost use Rattle.batch_tool.specs.Honest.{alpha as drawn_alpha, behind_alpha, seeded_state, honest_proof, zeta as drawn_zeta};
-ghost use Rattle.batch_tool.specs.Prove.{IsJobAnswer, instance_of};
+ghost use Rattle.batch_tool.specs.Honest.{alpha as drawn_alpha, behind_alpha, seeded_state, honest_proof, zeta as drawn_zeta, IsInTraceDomain};
+ghost use Rattle.batch_tool.specs.Prove.{IsDrawnAnswer, IsJobAnswer, IsOpenedText, instance_of};
 ghost use Rattle.batch_tool.specs.Tool.{tool};
 
 use crate::commitments::{Committed, commit_chunk, commit_columns, committed_values};
 use crate::domain::{is_in_trace_domain, quotient_domain, trace_domain};
 use crate::job::SwapTable;
+use crate::line::Line;
 use crate::opened::{only, open_committed};
 use crate::proof::TableProof;
 use crate::proof_file::print_file;
@@ -111,28 +112,53 @@ fn opened_proof(
     })
 }
 
+/// The status and the text by what was drawn behind the grinding: a refusal where nothing was or zeta lies in the trace
+/// domain, and else the statement and the proof. Out of memory only where there is a proof.
+fn drawn_answer(
+    alloc: Global,
+    table: &SwapTable,
+    main: Committed,
+    quotient: Committed,
+    drawn: Option<(BabyBear, QuarticExtension)>,
+    challenger: &mut Sha256Challenger,
+    mut line: Line,
+) -> Mem<(Status, Vec<u8>)>
+    requires few { table.now.log_rows ≤ 10 }
+    requires main { (k : ℕ) × ((fs : List (List BabyBear)) × IsCommittedTo k fs main.commitment main.kept) }
+    requires quotient { (k : ℕ) × ((fs : List (List BabyBear)) × IsCommittedTo k fs quotient.commitment quotient.kept) }
+    requires empty { line ≡ [] }
+    ensures answer { IfOk result (λ a. IsDrawnAnswer table.now
+        (IsOpenedText table.now (main.commitment, main.kept) (quotient.commitment, quotient.kept)) drawn a.0 a.1.items) }
+    ensures memory { IsErr result → (d : BabyBear × QuarticExtension) × (drawn ≡ Some d) × (IsInTraceDomain tool (instance_of table.now) d.1 → ⊥) }
+{
+    let (witness, zeta) = match drawn {
+        Some(drawn) => drawn,
+        None => {
+            line.push(WITNESS_NOT_FOUND);
+            return Ok((Status::Refused, line.into_bytes()));
+        }
+    };
+    if is_in_trace_domain(table.log_rows as usize, zeta) {
+        line.push(OOD_POINT_IN_DOMAIN);
+        return Ok((Status::Refused, line.into_bytes()));
+    }
+    let proof = opened_proof(alloc, table, main, quotient, witness, zeta, challenger)?;
+    let mut text = Vec::new(alloc);
+    print_file(table, &proof, &mut text)?;
+    Ok((Status::Done, text))
+}
+
 /// The status and the text for a job of this table: its statement and its honest proof, or the refusal where the
-/// grinding before zeta has no witness or the drawn zeta lies in the trace domain. It fails only for want of memory.
-pub fn prove(alloc: Global, table: &SwapTable) -> Mem<(Status, Vec<u8>)>
-    requires { table.now.log_rows ≤ 10 }
+/// grinding before zeta has no witness or the drawn zeta lies in the trace domain. It fails only where out of memory.
+pub fn prove(alloc: Global, table: &SwapTable, line: Line) -> Mem<(Status, Vec<u8>)>
+    requires few { table.now.log_rows ≤ 10 }
+    requires empty { line ≡ [] }
     ensures { IfOk result (λ p. IsJobAnswer table.now p.0 p.1.items) }
 {
     let mut challenger = seeded_challenger(alloc, 2, 3)?;
     let (main, alpha) = commit_trace(alloc, table, &mut challenger)?;
     let quotient = commit_quotient(alloc, table, &main, alpha)?;
     challenger.observe(&quotient.commitment);
-    let (witness, zeta) = match grind_and_draw_zeta(&mut challenger) {
-        Some(drawn) => drawn,
-        None => return Ok((Status::Refused, Vec::from_slice(alloc, WITNESS_NOT_FOUND)?)),
-    };
-    if is_in_trace_domain(table.log_rows as usize, zeta) {
-        return Ok((
-            Status::Refused,
-            Vec::from_slice(alloc, OOD_POINT_IN_DOMAIN)?,
-        ));
-    }
-    let proof = opened_proof(alloc, table, main, quotient, witness, zeta, &mut challenger)?;
-    let mut text = Vec::new(alloc);
-    print_file(table, &proof, &mut text)?;
-    Ok((Status::Done, text))
+    let drawn = grind_and_draw_zeta(&mut challenger);
+    drawn_answer(alloc, table, main, quotient, drawn, &mut challenger, line)
 }

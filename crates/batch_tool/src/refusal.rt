@@ -1,13 +1,12 @@
 //! What `verify` refuses, and the lines that say it.
 
-ghost use Rattle.std.specs.Prelude.{◌≡◌, ◌++◌, OnOk, IfOk, ◌∷◌, decimal};
+ghost use Rattle.std.specs.Prelude.{◌≡◌, ◌≤◌, ◌+◌, ◌*◌, ◌++◌, ◌∷◌, [], decimal, length};
 ghost use Rattle.batch_tool.specs.Refusals.{spaced, reason_text, refusal_text};
 ghost use Rattle.batch_tool.specs.declared.refusal.Refusal.TheVariants.{InvalidOpeningArgument};
 
+use crate::line::Line;
 use itoa::Buffer;
-use p3_field::Mem;
 use plain_pcs::PlainError;
-use std::alloc::{AllocError, Global};
 
 /// Why a proof is refused: the first check that failed.
 #[derive(Clone, Copy, Debug, PartialEq, Eq)]
@@ -29,38 +28,42 @@ pub enum Refusal {
 }
 
 /// Appends a space and the digits of a number.
-fn push_spaced(out: &mut Vec<u8>, number: usize) -> Result<(), AllocError>
-    ensures { OnOk result (out.new.items ≡ out.old.items ++ 32 ∷ decimal number) }
+fn push_spaced(line: &mut Line, number: usize)
+    requires { length line.old + 21 ≤ 128 }
+    ensures text { line.new ≡ line.old ++ 32 ∷ decimal number }
+    ensures few { length line.new ≤ length line.old + 21 }
 {
     let mut buffer = Buffer::new();
-    out.push(b' ')?;
-    out.extend_from_slice(buffer.format(number as u64).as_bytes())?;
-    Ok(())
+    line.push(b" ");
+    line.push(buffer.format(number as u64).as_bytes());
 }
 
 /// Appends a name, and behind it each number after a space.
-fn push_named(out: &mut Vec<u8>, name: &[u8], numbers: &[usize]) -> Result<(), AllocError>
-    ensures { OnOk result (out.new.items ≡ out.old.items ++ (name.now ++ spaced numbers.now)) }
+fn push_named(line: &mut Line, name: &[u8], numbers: &[usize])
+    requires { length line.old + length name.now + 21 * length numbers.now ≤ 128 }
+    ensures text { line.new ≡ line.old ++ (name.now ++ spaced numbers.now) }
+    ensures few { length line.new ≤ length line.old + length name.now + 21 * length numbers.now }
 {
-    out.extend_from_slice(name)?;
+    line.push(name);
     for number in numbers {
-        push_spaced(out, *number)?;
+        push_spaced(line, *number);
     }
-    Ok(())
 }
 
 /// Appends a space, the name of the refusal for an opening's fault, and its numbers.
-fn push_fault(out: &mut Vec<u8>, fault: PlainError) -> Result<(), AllocError>
-    ensures { OnOk result (out.new.items ≡ out.old.items ++ reason_text (InvalidOpeningArgument fault)) }
+fn push_fault(line: &mut Line, fault: PlainError)
+    requires { length line.old ≤ 8 }
+    ensures text { line.new ≡ line.old ++ reason_text (InvalidOpeningArgument fault) }
+    ensures few { length line.new ≤ 121 }
 {
     match fault {
         PlainError::RoundShape { round } => push_named(
-            out,
+            line,
             b" InvalidOpeningArgument RoundShape",
             &[round],
         ),
         PlainError::Dimensions { round, matrix } => push_named(
-            out,
+            line,
             b" InvalidOpeningArgument Dimensions",
             &[round, matrix],
         ),
@@ -69,7 +72,7 @@ fn push_fault(out: &mut Vec<u8>, fault: PlainError) -> Result<(), AllocError>
             matrix,
             column,
         } => push_named(
-            out,
+            line,
             b" InvalidOpeningArgument Degree",
             &[round, matrix, column],
         ),
@@ -79,7 +82,7 @@ fn push_fault(out: &mut Vec<u8>, fault: PlainError) -> Result<(), AllocError>
             point,
             column,
         } => push_named(
-            out,
+            line,
             b" InvalidOpeningArgument Value",
             &[round, matrix, point, column],
         ),
@@ -87,28 +90,30 @@ fn push_fault(out: &mut Vec<u8>, fault: PlainError) -> Result<(), AllocError>
 }
 
 /// Appends a space, a refusal's name and its numbers.
-fn push_reason(out: &mut Vec<u8>, refusal: Refusal) -> Result<(), AllocError>
-    ensures { OnOk result (out.new.items ≡ out.old.items ++ reason_text refusal) }
+fn push_reason(line: &mut Line, refusal: Refusal)
+    requires { length line.old ≤ 8 }
+    ensures text { line.new ≡ line.old ++ reason_text refusal }
+    ensures few { length line.new ≤ 121 }
 {
     match refusal {
-        Refusal::OodPowWitness { bits } => push_named(out, b" OodPowWitness", &[bits]),
-        Refusal::InvalidOpeningArgument(fault) => push_fault(out, fault),
-        Refusal::OodPointInDomain => push_named(out, b" OodPointInDomain", &[]),
+        Refusal::OodPowWitness { bits } => push_named(line, b" OodPowWitness", &[bits]),
+        Refusal::InvalidOpeningArgument(fault) => push_fault(line, fault),
+        Refusal::OodPointInDomain => push_named(line, b" OodPointInDomain", &[]),
         Refusal::OodEvaluationMismatch { index } => push_named(
-            out,
+            line,
             b" OodEvaluationMismatch",
             &[index],
         ),
     }
 }
 
-/// The line of a refusal: `refused`, its name and its numbers.
+/// Writes the line of a refusal: `refused`, its name and its numbers.
 #[tactic(auto, unfolding(crate::specs::Refusals::refusal_text))]
-pub fn refusal_line(alloc: Global, refusal: Refusal) -> Mem<Vec<u8>>
-    ensures { IfOk result (λ v. v.items ≡ refusal_text refusal) }
+pub fn push_refusal(line: &mut Line, refusal: Refusal)
+    requires { line.old ≡ [] }
+    ensures { line.new ≡ refusal_text refusal }
 {
-    let mut line = Vec::from_slice(alloc, b"refused")?;
-    push_reason(&mut line, refusal)?;
-    line.push(b'\n')?;
-    Ok(line)
+    line.push(b"refused");
+    push_reason(line, refusal);
+    line.push(b"\n");
 }

@@ -1,6 +1,7 @@
 //! The top call.
 
-ghost use Rattle.std.specs.Prelude.{◌≡◌, ◌≤◌, IfOk, map, string_bytes};
+ghost use Rattle.std.specs.Prelude.{◌≡◌, ◌≤◌, ℕ, [], IfOk, IsErr, IsOkAnd, codes, map, string_bytes};
+ghost use Rattle.line_format.specs.declared.parse.TextError.TheVariants.{Malformed, OutOfMemory};
 ghost use Rattle.byte_io.specs.Causes.{Rose};
 ghost use Rattle.byte_io.specs.Limits.{most_bytes};
 ghost use Rattle.batch_tool.specs.Answer.{IsCommandAnswer, IsProveAnswer, IsSilent, IsVerifyAnswer, NamesSome, Outcome};
@@ -8,6 +9,7 @@ ghost use Rattle.batch_tool.specs.Answer.{IsCommandAnswer, IsProveAnswer, IsSile
 use crate::command::Command;
 use crate::first_form::read_first_form;
 use crate::job::read_job;
+use crate::line::Line;
 use crate::prove::prove;
 use crate::status::Status;
 use crate::verify::verify;
@@ -82,12 +84,10 @@ fn answer(alloc: Global, command: Command, bytes: &[u8]) -> Mem<(Status, Vec<u8>
 fn answer_prove(alloc: Global, bytes: &[u8]) -> Mem<(Status, Vec<u8>)>
     ensures { IfOk result (λ p. IsProveAnswer bytes.now p.0 p.1.items) }
 {
+    let line = Line::new(alloc)?;
     match read_job(alloc, bytes) {
-        Ok(job) => prove(alloc, &job.table),
-        Err(TextError::Malformed { line: _ }) => {
-            Ok((Status::BadInput, BAD_INPUT.to_vec(alloc)?))
-        }
-        Err(TextError::OutOfMemory) => Err(AllocError),
+        Ok(job) => prove(alloc, &job.table, line),
+        Err(error) => no_text(error, line),
     }
 }
 
@@ -95,12 +95,25 @@ fn answer_prove(alloc: Global, bytes: &[u8]) -> Mem<(Status, Vec<u8>)>
 fn answer_verify(alloc: Global, bytes: &[u8]) -> Mem<(Status, Vec<u8>)>
     ensures { IfOk result (λ p. IsVerifyAnswer bytes.now p.0 p.1.items) }
 {
+    let line = Line::new(alloc)?;
     match read_first_form(alloc, bytes) {
-        Ok(file) => verify(alloc, file),
-        Err(TextError::Malformed { line: _ }) => {
-            Ok((Status::BadInput, BAD_INPUT.to_vec(alloc)?))
+        Ok(file) => verify(alloc, file, line),
+        Err(error) => no_text(error, line),
+    }
+}
+
+/// The status and the text where bytes are no text. Out of memory exactly where the reading was.
+fn no_text(error: TextError, mut line: Line) -> Mem<(Status, Vec<u8>)>
+    requires { line ≡ [] }
+    ensures malformed { (at : ℕ) → error ≡ Malformed at → IsOkAnd result (λ p. (p.0 ≡ Status.BadInput) × (p.1.items ≡ codes "bad input\n")) }
+    ensures memory { error ≡ OutOfMemory → IsErr result }
+{
+    match error {
+        TextError::Malformed { line: _ } => {
+            line.push(BAD_INPUT);
+            Ok((Status::BadInput, line.into_bytes()))
         }
-        Err(TextError::OutOfMemory) => Err(AllocError),
+        TextError::OutOfMemory => Err(AllocError),
     }
 }
 

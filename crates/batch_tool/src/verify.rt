@@ -1,11 +1,12 @@
 //! The command `verify`: the checks of a proof, and the first that fails.
 
-ghost use Rattle.std.specs.Prelude.{◌≡◌, ◌≤◌, ◌+◌, ◌^◌, IfOk};
+ghost use Rattle.std.specs.Prelude.{◌≡◌, ◌≤◌, ◌+◌, ◌^◌, [], Err, IfOk, IsErr, IsOkAnd, MatchResult, None, Ok, Some, codes, true};
 ghost use Rattle.p3_field.specs.Checks.{FirstRefusal};
 ghost use Rattle.batch_tool.specs.FileAnswer.{stated, IsFileAnswer};
 ghost use Rattle.batch_tool.specs.FirstForm.{IsFirstForm, IsSwapShape};
 ghost use Rattle.batch_tool.specs.Honest.{whole_transcript, witness_passes};
 ghost use Rattle.batch_tool.specs.Limits.{most_log_rows};
+ghost use Rattle.batch_tool.specs.Refusals.{refusal_text};
 ghost use Rattle.batch_tool.specs.Tool.{tool};
 ghost use Rattle.batch_tool.specs.Verify.{alpha_drawn, checks, identity_checks, main_of, opening_checks, quotient_of, zeta_drawn};
 
@@ -13,9 +14,10 @@ use crate::committed_proof::CommittedProof;
 use crate::domain::is_in_trace_domain;
 use crate::first_form::{FirstForm, SwapStatement};
 use crate::identity::identity_holds;
+use crate::line::Line;
 use crate::opening::{opening_fault, quotient_claim, trace_claim};
 use crate::proof::TableProof;
-use crate::refusal::{Refusal, refusal_line};
+use crate::refusal::{Refusal, push_refusal};
 use crate::status::Status;
 use crate::transcript::{OOD_POW_BITS, check_and_draw_zeta, draw_alpha, seeded_challenger};
 use p3_challenger::{CanObserve, Sha256Challenger};
@@ -132,8 +134,44 @@ fn identity_refusal(
     None
 }
 
-/// The first check that a statement's proof fails, if it fails one. The values at zeta are read before the openings take
-/// them, and what they tell is the answer where the openings hold.
+/// What the openings refuse, and else what is refused last. Out of memory exactly where the openings were.
+fn first_of(opening: Mem<Option<Refusal>>, last: Option<Refusal>) -> Mem<Option<Refusal>>
+    ensures none { opening ≡ Ok None → result ≡ Ok last }
+    ensures some { (r : Refusal) → opening ≡ Ok (Some r) → result ≡ Ok (Some r) }
+    ensures memory { IsErr opening → IsErr result }
+{
+    match opening? {
+        Some(refusal) => Ok(Some(refusal)),
+        None => Ok(last),
+    }
+}
+
+/// The first check that a statement's proof fails, by the challenges that were drawn. The values at zeta are read before the
+/// openings take them. Out of memory only where the grinding value passes.
+fn refusal_behind(
+    alloc: Global,
+    statement: &SwapStatement,
+    proof: CommittedProof,
+    mut drawn: Challenges,
+) -> Mem<Option<Refusal>>
+    requires few { statement.now.log_rows ≤ 10 }
+    requires shape { IsSwapShape statement.now.log_rows proof }
+    requires alpha { drawn.alpha ≡ alpha_drawn tool (stated statement.now) proof }
+    requires passed { drawn.passed ≡ witness_passes tool (stated statement.now) (main_of proof) (quotient_of proof) proof.ood_pow_witness }
+    requires zeta { drawn.zeta ≡ zeta_drawn tool (stated statement.now) proof }
+    requires state { drawn.challenger ≡ (whole_transcript tool (stated statement.now) (main_of proof) (quotient_of proof) proof.ood_pow_witness).state }
+    ensures refusal { IfOk result (λ a. FirstRefusal (checks tool (stated statement.now) proof) a) }
+    ensures memory { IsErr result → drawn.passed ≡ true }
+{
+    if !drawn.passed {
+        return Ok(Some(Refusal::OodPowWitness { bits: OOD_POW_BITS }));
+    }
+    let last = identity_refusal(statement, &proof, drawn.alpha, drawn.zeta);
+    let opening = opening_refusal(alloc, statement, proof, drawn.zeta, &mut drawn.challenger);
+    first_of(opening, last)
+}
+
+/// The first check that a statement's proof fails, if it fails one.
 fn first_refusal(
     alloc: Global,
     statement: &SwapStatement,
@@ -144,26 +182,37 @@ fn first_refusal(
     ensures { IfOk result (λ a. FirstRefusal (checks tool (stated statement.now) proof) a) }
 {
     let proof = CommittedProof::from_proof(alloc, proof)?;
-    let mut drawn = drawn_challenges(alloc, statement, &proof)?;
-    if !drawn.passed {
-        return Ok(Some(Refusal::OodPowWitness { bits: OOD_POW_BITS }));
-    }
-    let last = identity_refusal(statement, &proof, drawn.alpha, drawn.zeta);
-    match opening_refusal(alloc, statement, proof, drawn.zeta, &mut drawn.challenger)? {
-        Some(refusal) => Ok(Some(refusal)),
-        None => Ok(last),
-    }
+    let drawn = drawn_challenges(alloc, statement, &proof)?;
+    refusal_behind(alloc, statement, proof, drawn)
+}
+
+/// The status and the text by what is refused. Out of memory exactly where the checks were.
+fn refusal_answer(refusal: Mem<Option<Refusal>>, mut line: Line) -> Mem<(Status, Vec<u8>)>
+    requires { line ≡ [] }
+    ensures accepted { refusal ≡ Ok None → IsOkAnd result (λ p. (p.0 ≡ Status.Done) × (p.1.items ≡ codes "accepted\n")) }
+    ensures refused { (r : Refusal) → refusal ≡ Ok (Some r) → IsOkAnd result (λ p. (p.0 ≡ Status.Refused) × (p.1.items ≡ refusal_text r)) }
+    ensures memory { IsErr refusal → IsErr result }
+{
+    let status = match refusal? {
+        None => {
+            line.push(ACCEPTED);
+            Status::Done
+        }
+        Some(refusal) => {
+            push_refusal(&mut line, refusal);
+            Status::Refused
+        }
+    };
+    Ok((status, line.into_bytes()))
 }
 
 /// The status and the text for a file of the first form: accepted where no check fails, and else the first that fails. It
-/// fails only for want of memory.
-pub fn verify(alloc: Global, file: FirstForm) -> Mem<(Status, Vec<u8>)>
-    requires { IsFirstForm most_log_rows file }
+/// fails only where out of memory.
+pub fn verify(alloc: Global, file: FirstForm, line: Line) -> Mem<(Status, Vec<u8>)>
+    requires form { IsFirstForm most_log_rows file }
+    requires empty { line ≡ [] }
     ensures { IfOk result (λ p. IsFileAnswer file p.0 p.1.items) }
 {
     let FirstForm { statement, proof } = file;
-    match first_refusal(alloc, &statement, proof)? {
-        None => Ok((Status::Done, Vec::from_slice(alloc, ACCEPTED)?)),
-        Some(refusal) => Ok((Status::Refused, refusal_line(alloc, refusal)?)),
-    }
+    refusal_answer(first_refusal(alloc, &statement, proof), line)
 }

@@ -13,8 +13,10 @@ use Rattle.p3_field.specs.declared.baby_bear.BabyBear.{BabyBear}
 use Rattle.p3_matrix.specs.Matrix.{Rows}
 use Rattle.plain_pcs.specs.Extension.{evaluations}
 use Rattle.batch_tool.specs.Plain.{AreInterpolants}
-use Rattle.batch_tool.specs.Honest.{Instance, IsCommitted, IsGround, trace_domain, quotient_domain, commitment_domain, quotient_columns, quotient_value, alpha}
+use Rattle.batch_tool.specs.Honest.{Instance, IsCommitted, IsGround, trace_domain, quotient_domain, commitment_domain, quotient_columns, quotient_value, alpha, honest_proof}
+use Rattle.batch_tool.specs.Proof.{ProofData}
 use Rattle.batch_tool.specs.Tool.{tool}
+use Rattle.batch_tool.specs.Uniqueness.{IsHonestProof, HasOneHonestProof}
 
 pub two-tall : {F : Type 0} (n : ℕ) (f g : ℕ → F) → All (λ l. length l ≡ n) (table n f ∷ table n g ∷ [])
 two-tall n f g zero d lt = length-table n f
@@ -68,3 +70,12 @@ one_number t main quotient m n g h =
     let low : m < n → ⊥ = λ lt. let f : true ≡ false = sym g.passing ∙ h.least m lt in cc in
     let high : n < m → ⊥ = λ lt. let f : true ≡ false = sym h.passing ∙ g.least n lt in cc in
     grind (arith, low, high)
+
+-- so is the honest proof
+pub one_honest_proof : (t : Instance BabyBear) → t.log_height ≤ 10 → All (λ l. length l ≡ 2 ^ t.log_height) t.columns → HasOneHonestProof t
+one_honest_proof t few tall p q f g =
+    let s = one_honest t few tall f.columns g.columns f.main g.main f.chunk g.chunk f.quotient g.quotient f.committed g.committed in
+    let ground : IsGround tool t f.main f.quotient g.number
+    = subst (λ (m : Rows BabyBear). IsGround tool t m f.quotient g.number) (sym s.1.0) (subst (λ (m : Rows BabyBear). IsGround tool t g.main m g.number) (sym s.1.1.1) g.ground) in
+    let number : f.number ≡ g.number = one_number t f.main f.quotient f.number g.number f.ground ground in
+    f.proof_is ∙ ((λ i. honest_proof tool t (s.0 i) (s.1.0 i) (s.1.1.0 i) (s.1.1.1 i) (number i)) ∙ sym g.proof_is)

@@ -17,7 +17,16 @@ fn words_of(alloc: Global, words: &[&str]) -> Mem<Vec<String>> {
     Ok(all)
 }
 
-/// Runs the words over ends that never fail, and compares the status and the text.
+/// The exit status and the text of these words, over ends that never fail and with room for so many bytes.
+fn ran(alloc: Global, words: &[&str], input: &[u8], room: usize) -> Mem<(u8, Vec<u8>)> {
+    let words = words_of(alloc, words)?;
+    let mut source = MemorySource::new(input.to_vec(alloc)?, Vec::new(alloc));
+    let mut sink = MemorySink::new(alloc, room, 1000, Vec::new(alloc))?;
+    let status = run(alloc, &words, &mut source, &mut sink);
+    Ok((status.number(), sink.bytes().to_vec(alloc)?))
+}
+
+/// Runs the words, and compares the status and the text.
 fn answers(
     rt: &impl Abort,
     alloc: Global,
@@ -26,12 +35,9 @@ fn answers(
     number: u8,
     text: &str,
 ) -> Mem<()> {
-    let words = words_of(alloc, words)?;
-    let mut source = MemorySource::new(input.as_bytes().to_vec(alloc)?, Vec::new(alloc));
-    let mut sink = MemorySink::new(alloc, 2000, 1000, Vec::new(alloc))?;
-    let status = run(alloc, &words, &mut source, &mut sink);
-    assert_eq!(rt; status.number(), number, "of {input:?}");
-    assert_eq!(rt; sink.bytes(), text.as_bytes(), "of {input:?}");
+    let (status, written) = ran(alloc, words, input.as_bytes(), 2000)?;
+    assert_eq!(rt; status, number, "of {input:?}");
+    assert_eq!(rt; &written[..], text.as_bytes(), "of {input:?}");
     Ok(())
 }
 

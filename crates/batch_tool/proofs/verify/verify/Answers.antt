@@ -1,20 +1,5 @@
-use Rattle.std.proofs.Common.{Option, subst}
-use Rattle.p3_field.specs.Checks.{FirstRefusal}
-use Rattle.batch_tool.specs.FileAnswer.{file_checks, IsFileAnswer}
-use Rattle.batch_tool.specs.declared.refusal.Refusal.{Refusal}
+use Rattle.batch_tool.proofs.Verifying.{file-answered}
 use Rattle.batch_tool.proofs.verify.verify.Goals as goal
 
-pub returns-in_ok-from_slice-in-None : goal.returns-in_ok-from_slice-in-None
-unfolding IsFileAnswer
-returns-in_ok-from_slice-in-None c = (
-  subst (λ (o : Option Refusal). FirstRefusal (file_checks c.args.file) o) c.in-None.is c.in_ok-first_refusal.ensures,
-  c.in_ok-from_slice-in-None.ensures.items,
-)
-
-pub returns-in_ok-refusal_line-in-Some : goal.returns-in_ok-refusal_line-in-Some
-unfolding IsFileAnswer
-returns-in_ok-refusal_line-in-Some c = (
-  c.in-Some.refusal,
-  subst (λ (o : Option Refusal). FirstRefusal (file_checks c.args.file) o) c.in-Some.is c.in_ok-first_refusal.ensures,
-  c.in_ok-refusal_line-in-Some.ensures,
-)
+pub returns : goal.returns
+returns c = file-answered c.args.file c.first_refusal.result c.refusal_answer.result c.first_refusal.ensures c.refusal_answer.ensures.accepted c.refusal_answer.ensures.refused c.refusal_answer.ensures.memory

@@ -27,14 +27,24 @@ fn fnv_1a(bytes: &[u8]) -> u64 {
 #[test]
 fn the_largest_job_gets_its_one_proof_file(rt: HostRuntime) -> Result<(), Fail> {
     let alloc = rt.alloc();
-    let words = words_of(alloc, &["prove"])?;
-    let job = b"1\n1\n10\n12345\n678910\n".to_vec(alloc)?;
-    let mut source = MemorySource::new(job, Vec::new(alloc));
-    let mut sink = MemorySink::new(alloc, 200_000, 65_536, Vec::new(alloc))?;
-    let status = run(alloc, &words, &mut source, &mut sink);
-    assert_eq!(rt; status.number(), 0);
-    assert_eq!(rt; sink.bytes().len(), 127_914);
-    assert_eq!(rt; fnv_1a(sink.bytes()), 7950089150875013792);
+    let (status, file) = ran(alloc, &["prove"], b"1\n1\n10\n12345\n678910\n", 200_000)?;
+    assert_eq!(rt; status, 0);
+    assert_eq!(rt; file.len(), 127_914);
+    assert_eq!(rt; fnv_1a(&file), 7950089150875013792);
+    let (status, text) = ran(alloc, &["verify"], &file, 100)?;
+    assert_eq!(rt; status, 0);
+    assert_eq!(rt; &text[..], b"accepted\n".as_slice());
+    Ok(())
+}
+
+#[test]
+fn a_file_of_512_rows_is_accepted(rt: HostRuntime) -> Result<(), Fail> {
+    let alloc = rt.alloc();
+    let (status, file) = ran(alloc, &["prove"], b"1\n1\n9\n5\n7\n", 100_000)?;
+    assert_eq!(rt; status, 0);
+    let (status, text) = ran(alloc, &["verify"], &file, 100)?;
+    assert_eq!(rt; status, 0);
+    assert_eq!(rt; &text[..], b"accepted\n".as_slice());
     Ok(())
 }
 

@@ -29,15 +29,6 @@ fn damaged(alloc: Global, lines: &[(usize, &str)]) -> Mem<Vec<u8>> {
     Ok(text)
 }
 
-/// The exit status and the text of `verify` for these bytes.
-fn verified(alloc: Global, bytes: Vec<u8>) -> Mem<(u8, Vec<u8>)> {
-    let words = words_of(alloc, &["verify"])?;
-    let mut source = MemorySource::new(bytes, Vec::new(alloc));
-    let mut sink = MemorySink::new(alloc, 100, 100, Vec::new(alloc))?;
-    let status = run(alloc, &words, &mut source, &mut sink);
-    Ok((status.number(), sink.bytes().to_vec(alloc)?))
-}
-
 #[test]
 fn honest_files_are_accepted(rt: HostRuntime) -> Result<(), Fail> {
     for file in [ONE_ROW, FOUR_ROWS, EIGHT_ROWS] {
@@ -80,7 +71,7 @@ fn a_damaged_file_gets_its_first_refusal(rt: HostRuntime) -> Result<(), Fail> {
         (&identity, b"refused OodEvaluationMismatch 0\n"),
     ];
     for (lines, text) in files {
-        let (status, written) = verified(alloc, damaged(alloc, lines)?)?;
+        let (status, written) = ran(alloc, &["verify"], &damaged(alloc, lines)?, 100)?;
         assert_eq!(rt; status, 1);
         assert_eq!(rt; &written[..], text);
     }
@@ -94,7 +85,7 @@ fn a_file_cut_behind_a_line_is_bad_input(rt: HostRuntime) -> Result<(), Fail> {
     let mut cut = Vec::new(alloc);
     for byte in bytes {
         if *byte == b'\n' {
-            let (status, written) = verified(alloc, cut.to_vec(alloc)?)?;
+            let (status, written) = ran(alloc, &["verify"], &cut, 100)?;
             assert_eq!(rt; status, 3);
             assert_eq!(rt; &written[..], b"bad input\n".as_slice());
         }
@@ -108,7 +99,7 @@ fn is_refused(alloc: Global, place: usize, line: &str, words: &[&str]) -> Mem<bo
     for word in words {
         if line != *word {
             let changed = with_line(alloc, EIGHT_ROWS.as_bytes(), place, word)?;
-            let (status, _text) = verified(alloc, changed)?;
+            let (status, _text) = ran(alloc, &["verify"], &changed, 100)?;
             if status != 1 && status != 3 {
                 return Ok(false);
             }

@@ -1,0 +1,5 @@
+use Rattle.batch_tool.specs.Laws.OneAnswer.{one_answer}
+use Rattle.batch_tool.proofs.laws.one_answer.Goals as goal
+
+pub returns : goal.returns
+returns c words bytes s t x y f g = one_answer words bytes s t x y f g

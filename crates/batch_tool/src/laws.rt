@@ -1,0 +1,16 @@
+//! What there is at most one of: laws as the contracts of functions that compute nothing.
+
+ghost use Rattle.std.specs.Prelude.{◌≡◌, ◌≤◌, ◌^◌, ℕ, List, All, length};
+ghost use Rattle.p3_field.specs.declared.baby_bear.BabyBear.{BabyBear};
+ghost use Rattle.batch_tool.specs.Honest.{Instance};
+ghost use Rattle.batch_tool.specs.Uniqueness.{HasOneAnswer, HasOneHonestProof};
+
+/// Words and all the bytes of an input have at most one answer: one status, and one text.
+pub fn one_answer()
+    ensures { (words : List (List ℕ)) (bytes : List ℕ) → HasOneAnswer words bytes }
+{}
+
+/// A table of at most 2^10 rows has at most one honest proof.
+pub fn one_honest_proof()
+    ensures { (table : Instance BabyBear) → table.log_height ≤ 10 → All (λ c. length c ≡ 2 ^ table.log_height) table.columns → HasOneHonestProof table }
+{}
