@@ -12,13 +12,13 @@ pub enum Status {
     Refused,
     /// The words name no command. Nothing was read.
     Usage,
-    /// The bytes of the input, read to their end, are no text of the command's grammar.
+    /// The bytes of the input, read to their end where the source tells them, are no text of the command's grammar.
     BadInput,
     /// The source's count of faults rose. Nothing was written.
     ReadFault,
     /// The sink's count of faults rose. A part of the text was written, its front.
     WriteFault,
-    /// Memory was wanting. Nothing was written.
+    /// Out of memory. Nothing was written.
     OutOfMemory,
     /// The input has more than [`MAX_BYTES`](crate::MAX_BYTES) bytes. Nothing was written.
     TooLarge,

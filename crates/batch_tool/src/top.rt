@@ -29,7 +29,8 @@ const BAD_INPUT: &[u8] = b"bad input\n";
 /// the word `verify` reads a proof file and answers it. All others are `Usage` (own).
 ///
 /// `ReadFault` and `WriteFault` come only where the source's or the sink's count of faults rose, `TooLarge` where one byte
-/// more than [`MAX_BYTES`](crate::MAX_BYTES) was read, and `OutOfMemory` where memory is wanting. No run reads more.
+/// more than [`MAX_BYTES`](crate::MAX_BYTES) was read, and `OutOfMemory` where out of memory. What is said of bytes holds of ends
+/// that tell them; of these no run reads more.
 pub fn run<S: Source, K: Sink>(
     alloc: Global,
     words: &[String],

@@ -13,10 +13,11 @@ pub const MAX_BYTES: usize = 67_108_864;
 
 const PIECE_BYTES: usize = 65_536;
 
-/// Reads all bytes up to the end of the input, and never more than one above [`MAX_BYTES`] (own).
+/// Reads all bytes up to the end of the input, and never more than one above [`MAX_BYTES`], of a source that tells its
+/// bytes (own).
 ///
 /// `ReadFault` comes only where the source's count of faults rose in this call, `TooLarge` exactly where that one byte more
-/// was read, and `OutOfMemory` where memory is wanting.
+/// was read, and `OutOfMemory` where out of memory.
 #[tactic(auto, using(crate::proofs::Bytes::steps))]
 pub fn read_whole<S: Source>(alloc: Global, source: &mut S) -> Result<Vec<u8>, InputError>
     ensures bytes { ReadsWhole most_bytes (S.left source.old) (S.left source.new) result }
