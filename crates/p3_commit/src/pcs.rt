@@ -1,10 +1,10 @@
 //! Schemes that commit to polynomials and open them at points.
-ghost use Rattle.std.specs.Prelude.{◌≡◌, ℕ, ◌^◌, ◌<◌, ◌≤◌, List, All, length, IfOk};
+ghost use Rattle.std.specs.Prelude.{◌≡◌, ℕ, ◌^◌, ◌<◌, ◌≤◌, List, All, length, IfOk, IsOk};
 ghost use Rattle.std.specs.Int.{IsPowerOfTwo};
 ghost use Rattle.p3_matrix.specs.Matrix.{Rows};
 ghost use Rattle.p3_commit.specs.Claims.{CommitmentClaim, Request};
 ghost use Rattle.p3_commit.specs.Failure.{NoneOf, RefusedBy, IfRefused, VerifiedBy};
-ghost use Rattle.p3_commit.specs.Commitments.{IsSubgroup, Committed, IsCommitment, Held, AreHeld, nested, IsOpening};
+ghost use Rattle.p3_commit.specs.Commitments.{IsSubgroup, Committed, IsCommitment, Held, AreHeld, nested, AreClaims, IsOpening};
 
 use crate::claims::{CommitmentOpening, OpenedValues, OpeningRequest};
 use crate::domain::PolynomialSpace;
@@ -64,6 +64,15 @@ where
     // why the scheme refuses to open
     ghost open_fault: { Self → List (Request Self.ProverData Challenge) → Self.ProverError → Type 0 };
 
+    // a proof that opening these requests from this challenger's state gives
+    ghost proves: { Self → Challenger → List (Request Self.ProverData Challenge) → Self.Proof → Type 0 };
+
+    // the state in which the opening that gives this proof leaves the challenger
+    ghost after_open: { Self → Challenger → List (Request Self.ProverData Challenge) → Self.Proof → Challenger };
+
+    // the state in which a verification that accepts leaves it
+    ghost after_verify: { Self → Challenger → List (CommitmentClaim Challenge Self.Commitment Self.Domain) → Self.Proof → Challenger };
+
     // a point at which honest openings may be refused
     ghost excludes: { Self → Challenge → Type 0 };
 
@@ -91,8 +100,9 @@ where
 
     /// Opens committed polynomials at points. The values stand in the order of the requests, of their matrices, of the
     /// points, and of the columns. From the same state of the challenger the proof is accepted for the claims with
-    /// these values and domains of the committed sizes, unless a point is excluded. `Refused` comes exactly where
-    /// `open_fault` names a cause, and leaves the challenger as it was.
+    /// these values and domains of the committed sizes, unless a point is excluded, and the verification then leaves the
+    /// challenger as the opening did (`one_state`). `Refused` comes exactly where `open_fault` names a cause, and leaves the
+    /// challenger as it was.
     fn open(
         &self,
         alloc: Global,
@@ -102,11 +112,13 @@ where
         requires { All (λ r. made self.now r.prover_data) requests.items }
         ensures refusal { RefusedBy (open_fault self.now requests.entry.items) result }
         ensures unchanged { IfRefused result (λ _. challenger.new ≡ challenger.old) }
+        ensures proof { IfOk result (λ w. proves self.now challenger.old requests.entry.items w.1) }
+        ensures after { IfOk result (λ w. challenger.new ≡ after_open self.now challenger.old requests.entry.items w.1) }
         ensures opening { IfOk result (λ w. (held : List (Held Self.Commitment Self.Val)) → AreHeld (holds self.now) requests.entry.items held
             → IsOpening Challenge.ring Challenge.embed Self.Domain.points (excludes self.now) (λ claims. opens self.now challenger.old claims w.1) requests.entry.items (nested w.0) held) };
 
     /// Whether the proof opens the claims from the challenger's state: Ok exactly where it does (`opens`), and else
-    /// `Refused` of the first fault.
+    /// `Refused` of the first fault. Where it does, the challenger is then in the state that `after_verify` names.
     fn verify(
         &self,
         alloc: Global,
@@ -114,7 +126,8 @@ where
         proof: &Self::Proof,
         challenger: &mut Challenger,
     ) -> Result<(), PcsFailure<Self::Error>>
-        ensures { VerifiedBy (opens self.now challenger.old claims.items proof.now) (fault self.now challenger.old claims.items proof.now) result };
+        ensures verdict { VerifiedBy (opens self.now challenger.old claims.items proof.now) (fault self.now challenger.old claims.items proof.now) result }
+        ensures after { IsOk result → challenger.new ≡ after_verify self.now challenger.old claims.items proof.now };
 
     /// A commitment equal to this one.
     fn clone_commitment(&self, alloc: Global, c: &Self::Commitment) -> Mem<Self::Commitment>
@@ -128,4 +141,16 @@ where
 
     // the first fault is one
     ghost one_fault: { (s : Self) (t : Challenger) (claims : List (CommitmentClaim Challenge Self.Commitment Self.Domain)) (p : Self.Proof) (e g : Self.Error) → fault s t claims p e → fault s t claims p g → e ≡ g };
+
+    // no two causes to refuse to commit
+    ghost one_commit_fault: { (s : Self) (es : List (Self.Domain × Rows Self.Val)) (e g : Self.ProverError) → commit_fault s es e → commit_fault s es g → e ≡ g };
+
+    // no two causes to refuse to open
+    ghost one_open_fault: { (s : Self) (requests : List (Request Self.ProverData Challenge)) (e g : Self.ProverError) → open_fault s requests e → open_fault s requests g → e ≡ g };
+
+    // Where the proof of an opening opens the claims of what was asked for, the verification leaves the challenger as the
+    // opening did.
+    ghost one_state: { (s : Self) (t : Challenger) (requests : List (Request Self.ProverData Challenge)) (held : List (Held Self.Commitment Self.Val)) (claims : List (CommitmentClaim Challenge Self.Commitment Self.Domain)) (p : Self.Proof)
+        → proves s t requests p → AreHeld (holds s) requests held → AreClaims Challenge.ring Challenge.embed Self.Domain.points held requests claims → opens s t claims p
+        → after_open s t requests p ≡ after_verify s t claims p };
 }

@@ -1,5 +1,5 @@
 //! What provers and verifiers of STARKs need of a scheme that commits to polynomials.
-ghost use Rattle.std.specs.Prelude.{◌≡◌, ℕ, ◌+◌, ◌<◌, ◌≤◌, ◌⊎◌, Bool, IsTrue, IsFalse, List, Option, None, Some, Ok, All, length, map, slice_get, zip, IfOk};
+ghost use Rattle.std.specs.Prelude.{◌≡◌, ℕ, ◌+◌, ◌<◌, ◌≤◌, ◌⊎◌, Bool, IsTrue, IsFalse, List, Option, None, Some, Ok, All, length, map, slice_get, zip, IfOk, IsOk};
 ghost use Rattle.std.specs.Int.{IsPowerOfTwo};
 ghost use Rattle.p3_matrix.specs.Matrix.{Rows, height};
 ghost use Rattle.p3_commit.specs.Periodic.{IsPeriod, IsPeriodicTable};
@@ -190,6 +190,8 @@ where
         requires made { All (λ r. Self.made self.now r.prover_data) requests.items }
         ensures refusal { RefusedBy (Self.open_fault self.now requests.entry.items) result }
         ensures unchanged { IfRefused result (λ _. challenger.new ≡ challenger.old) }
+        ensures proof { IfOk result (λ w. Self.proves self.now challenger.old requests.entry.items w.1) }
+        ensures after { IfOk result (λ w. challenger.new ≡ Self.after_open self.now challenger.old requests.entry.items w.1) }
         ensures opening { IfOk result (λ w. (held : List (Held Self.Commitment Self.Val)) → AreHeld (Self.holds self.now) requests.entry.items held
             → IsOpening Challenge.ring Challenge.embed Self.Domain.points (Self.excludes self.now) (λ claims. Self.opens self.now challenger.old claims w.1) requests.entry.items (nested w.0) held) }
     {
@@ -205,10 +207,18 @@ where
         challenger: &mut Challenger,
         preprocessed_commitment: Option<usize>,
     ) -> Result<(), PcsFailure<Self::Error>>
-        ensures { VerifiedBy (Self.opens self.now challenger.old claims.items proof.now) (Self.fault self.now challenger.old claims.items proof.now) result }
+        ensures verdict { VerifiedBy (Self.opens self.now challenger.old claims.items proof.now) (Self.fault self.now challenger.old claims.items proof.now) result }
+        ensures after { IsOk result → challenger.new ≡ Self.after_verify self.now challenger.old claims.items proof.now }
     {
         self.verify(alloc, claims, proof, challenger)
     }
+
+    // no two causes to refuse to extend, to commit to extensions, or to commit to a quotient
+    ghost one_extension_fault: { (s : Self) (es : List (Self.Domain × Rows Self.Val)) (n : ℕ) (e g : Self.ProverError) → extension_fault s es n e → extension_fault s es n g → e ≡ g };
+
+    ghost one_ldes_fault: { (s : Self) (ls : List (Rows Self.Val)) (e g : Self.ProverError) → ldes_fault s ls e → ldes_fault s ls g → e ≡ g };
+
+    ghost one_quotient_fault: { (s : Self) (d : Self.Domain) (m : Rows Self.Val) (n : ℕ) (e g : Self.ProverError) → quotient_fault s d m n e → quotient_fault s d m n g → e ≡ g };
 
     ghost heights_ordered: { (s : Self) → log_min s ≤ log_max s };
 

@@ -2,3 +2,4 @@ pub mod Folds
 pub mod Folders
 pub mod Weights
 pub mod Kinds
+pub mod Parts

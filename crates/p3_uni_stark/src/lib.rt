@@ -14,6 +14,7 @@ mod openings;
 mod proof;
 mod prover_folder;
 mod recompose;
+mod uniqueness;
 mod verifier_folder;
 
 pub use config::{
@@ -28,4 +29,5 @@ pub use openings::{OpeningShape, StarkOpeningLayout, num_batched_openings};
 pub use proof::{OpenedValues, PreprocessedOpenedValues};
 pub use prover_folder::ProverFolder;
 pub use recompose::{are_all_disjoint, recompose_quotient_from_chunks, recomposed_quotient};
+pub use uniqueness::{powers_are_in_order, recombined_on_domains, split_domains_are_disjoint};
 pub use verifier_folder::VerifierFolder;

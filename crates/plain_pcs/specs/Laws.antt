@@ -12,3 +12,4 @@ pub mod Honest
 pub mod Faults
 pub mod Claims
 pub mod Multilinear
+pub mod Refusals

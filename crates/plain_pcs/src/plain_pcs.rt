@@ -1,5 +1,5 @@
 //! The plain scheme over a field and a transform.
-ghost use Rattle.std.specs.Prelude.{◌≡◌, refl, ℕ, ◌^◌, ◌-◌, ◌+◌, ◌<◌, ◌≤◌, true, false, List, All, MatchOption, Some, IfOk, length, map, slice_get};
+ghost use Rattle.std.specs.Prelude.{◌≡◌, refl, ℕ, ◌^◌, ◌-◌, ◌+◌, ◌<◌, ◌≤◌, true, false, List, All, MatchOption, Some, IfOk, IsOk, length, map, slice_get};
 ghost use Rattle.std.specs.Int.{IsPowerOfTwo};
 ghost use Rattle.p3_field.specs.Domain.{CosetData, coset_point, point, IsInterpolant};
 ghost use Rattle.p3_matrix.specs.Matrix.{Rows, height, column};
@@ -14,6 +14,7 @@ ghost use Rattle.plain_pcs.specs.Holding.{IsMade, AreHolding};
 ghost use Rattle.plain_pcs.specs.Refusals.{CommitFault, HasSubgroupHeight, ExtensionsFault, QuotientFault, OpenFault, IfWanting};
 ghost use Rattle.plain_pcs.specs.Laws.Scheme.{held_count, none_below_zero, not_hidden, difference_fits};
 ghost use Rattle.plain_pcs.specs.Laws.Quotients.{refused_by_parts, granted_by_parts};
+ghost use Rattle.plain_pcs.specs.Laws.Refusals.{one_cause_to_commit, one_cause_to_extend, one_cause_of_quotient, one_cause_to_open};
 ghost use Rattle.plain_pcs.specs.Laws.Checks.{opens_faultless as faultless_where_opens, one_fault as first_fault_is_one};
 
 use crate::commitment::{PlainCommitment, PlainProof, PlainProverData};
@@ -129,6 +130,12 @@ impl<F: TwoAdicField, D: TwoAdicSubgroupDft<F>, E: ExtensionField<F>, C> Pcs<E, 
 
     ghost open_fault = { λ s rs e. OpenFault rs e };
 
+    ghost proves = { λ s t rs p. p ≡ record {} };
+
+    ghost after_open = { λ s t rs p. t };
+
+    ghost after_verify = { λ s t claims p. t };
+
     ghost excludes = { λ s x. ⊥ };
 
     ghost opens = { λ s t claims p. Opens (scheme F.ring F.inv F.root F.GENERATOR F.TWO_ADICITY s) E.ring E.embed claims };
@@ -167,6 +174,8 @@ impl<F: TwoAdicField, D: TwoAdicSubgroupDft<F>, E: ExtensionField<F>, C> Pcs<E, 
         ensures searched { IfWanting result (NoneOf (OpenFault requests.entry.items)) }
         ensures unchanged { IfRefused result (λ _. challenger.new ≡ challenger.old) }
         ensures challenger { challenger.new ≡ challenger.old }
+        ensures proof { IfOk result (λ w. w.1 ≡ record {}) }
+        ensures after { IfOk result (λ _. challenger.new ≡ challenger.old) }
         ensures opening { IfOk result (λ w. (held : List (Held (PlainCommitmentData F) F)) → AreHeld (AreHolding (scheme F.ring F.inv F.root F.GENERATOR F.TWO_ADICITY self.now)) requests.entry.items held
             → IsOpening E.ring E.embed (λ (d : CosetData F). 2 ^ d.log_size) (λ (x : E). ⊥) (Opens (scheme F.ring F.inv F.root F.GENERATOR F.TWO_ADICITY self.now) E.ring E.embed) requests.entry.items (nested w.0) held) }
     {
@@ -183,6 +192,7 @@ impl<F: TwoAdicField, D: TwoAdicSubgroupDft<F>, E: ExtensionField<F>, C> Pcs<E, 
         challenger: &mut C,
     ) -> Result<(), PcsFailure<PlainError>>
         ensures verdict { VerifiedBy (Opens (scheme F.ring F.inv F.root F.GENERATOR F.TWO_ADICITY self.now) E.ring E.embed claims.items) (Fault (scheme F.ring F.inv F.root F.GENERATOR F.TWO_ADICITY self.now) E.ring E.embed claims.items) result }
+        ensures after { IsOk result → challenger.new ≡ challenger.old }
         ensures challenger { challenger.new ≡ challenger.old }
     {
         match first_fault(alloc, self.log_blowup, &claims)? {
@@ -201,6 +211,12 @@ impl<F: TwoAdicField, D: TwoAdicSubgroupDft<F>, E: ExtensionField<F>, C> Pcs<E, 
     ghost opens_faultless = { λ s t claims p o. faultless_where_opens (scheme F.ring F.inv F.root F.GENERATOR F.TWO_ADICITY s) E.ring E.embed claims o };
 
     ghost one_fault = { λ s t claims p e g h k. first_fault_is_one (scheme F.ring F.inv F.root F.GENERATOR F.TWO_ADICITY s) E.ring E.embed claims e g h k };
+
+    ghost one_commit_fault = { λ s es e g h k. one_cause_to_commit (scheme F.ring F.inv F.root F.GENERATOR F.TWO_ADICITY s) es e g h k };
+
+    ghost one_open_fault = { λ s rs e g h k. one_cause_to_open rs e g h k };
+
+    ghost one_state = { λ s t rs held claims p proves are claimed opens. refl };
 }
 
 impl<F: TwoAdicField, D: TwoAdicSubgroupDft<F>, E: ExtensionField<F>, C> UnivariateStarkPcs<E, C>
@@ -300,6 +316,12 @@ impl<F: TwoAdicField, D: TwoAdicSubgroupDft<F>, E: ExtensionField<F>, C> Univari
             quotient_domain,
         )
     }
+
+    ghost one_extension_fault = { λ s es n e g h k. one_cause_to_commit (scheme F.ring F.inv F.root F.GENERATOR F.TWO_ADICITY s) es e g h k };
+
+    ghost one_ldes_fault = { λ s ls e g h k. one_cause_to_extend (scheme F.ring F.inv F.root F.GENERATOR F.TWO_ADICITY s) ls e g h k };
+
+    ghost one_quotient_fault = { λ s d m n e g h k. one_cause_of_quotient (scheme F.ring F.inv F.root F.GENERATOR F.TWO_ADICITY s) d n e g h k };
 
     ghost heights_ordered = { λ s. none_below_zero (F.TWO_ADICITY - s.log_blowup) };
 
