@@ -272,6 +272,10 @@ impl<F: Field, EF: ExtensionField<F>, InnerMmcs: Mmcs<F>> Mmcs<EF>
 
     ghost multi_opens_faultless = { λ s c ds is rows p h. InnerMmcs.multi_opens_faultless s c (map (widened EF.DIMENSION) ds) is (map (map (flat_map EF.parts)) rows) p h };
 
+    ghost one_fault = { λ s c ds i rows p e g f h. InnerMmcs.one_fault s c (map (widened EF.DIMENSION) ds) i (map (flat_map EF.parts) rows) p e g f h };
+
+    ghost multi_one_fault = { λ s c ds is rows p e g f h. InnerMmcs.multi_one_fault s c (map (widened EF.DIMENSION) ds) is (map (map (flat_map EF.parts)) rows) p e g f h };
+
     ghost opened_widths = { λ s c ds i rows p h. flat_widths EF.DIMENSION EF.parts EF.whole EF.vector_laws ds rows (InnerMmcs.opened_widths s c (map (widened EF.DIMENSION) ds) i (map (flat_map EF.parts) rows) p h) };
 
     ghost multi_opened_widths = { λ s c ds is rows p h. flat_widths_each EF.DIMENSION EF.parts EF.whole EF.vector_laws ds rows (InnerMmcs.multi_opened_widths s c (map (widened EF.DIMENSION) ds) is (map (map (flat_map EF.parts)) rows) p h) };

@@ -170,6 +170,11 @@ pub trait Mmcs<T: Copy + Eq> {
 
     ghost multi_opens_faultless: { (s : Self) (c : Self.Commitment) (ds : List Dimensions) (is : List ℕ) (rows : List (List (List T))) (p : Self.MultiProof) → multi_opens s c ds is rows p → NoneOf (multi_fault s c ds is rows p) };
 
+    // the first fault is one
+    ghost one_fault: { (s : Self) (c : Self.Commitment) (ds : List Dimensions) (i : ℕ) (rows : List (List T)) (p : Self.Proof) (e g : Self.Error) → fault s c ds i rows p e → fault s c ds i rows p g → e ≡ g };
+
+    ghost multi_one_fault: { (s : Self) (c : Self.Commitment) (ds : List Dimensions) (is : List ℕ) (rows : List (List (List T))) (p : Self.MultiProof) (e g : Self.Error) → multi_fault s c ds is rows p e → multi_fault s c ds is rows p g → e ≡ g };
+
     // rows that are accepted have their matrices' widths
     ghost opened_widths: { (s : Self) (c : Self.Commitment) (ds : List Dimensions) (i : ℕ) (rows : List (List T)) (p : Self.Proof) → opens s c ds i rows p → HaveWidths ds rows };
 
@@ -387,6 +392,10 @@ impl<'m, T: Copy + Eq, M: Mmcs<T>> Mmcs<T> for &'m M {
     ghost opens_faultless = { λ s c ds i rows p h. M.opens_faultless s.now c ds i rows p h };
 
     ghost multi_opens_faultless = { λ s c ds is rows p h. M.multi_opens_faultless s.now c ds is rows p h };
+
+    ghost one_fault = { λ s c ds i rows p e g f h. M.one_fault s.now c ds i rows p e g f h };
+
+    ghost multi_one_fault = { λ s c ds is rows p e g f h. M.multi_one_fault s.now c ds is rows p e g f h };
 
     ghost opened_widths = { λ s c ds i rows p h. M.opened_widths s.now c ds i rows p h };
 

@@ -110,4 +110,9 @@ where
 
     // the first fault is one
     ghost one_fault: { (s : Self) (t : Challenger) (c : Self.Commitment) (o : Self.OpeningProtocol) (p : Self.Proof) (e g : Self.Error) → fault s t c o p e → fault s t c o p g → e ≡ g };
+
+    // and so is the cause to refuse to commit, and to open
+    ghost one_commit_fault: { (s : Self) (w : Self.Witness) (e g : Self.ProverError) → commit_fault s w e → commit_fault s w g → e ≡ g };
+
+    ghost one_open_fault: { (s : Self) (d : Self.ProverData) (o : Self.OpeningProtocol) (e g : Self.ProverError) → open_fault s d o e → open_fault s d o g → e ≡ g };
 }

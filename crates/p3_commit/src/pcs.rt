@@ -142,11 +142,10 @@ where
     // the first fault is one
     ghost one_fault: { (s : Self) (t : Challenger) (claims : List (CommitmentClaim Challenge Self.Commitment Self.Domain)) (p : Self.Proof) (e g : Self.Error) → fault s t claims p e → fault s t claims p g → e ≡ g };
 
-    // no two causes to refuse to commit
+    // and so is the cause to refuse to commit, and to open
     ghost one_commit_fault: { (s : Self) (es : List (Self.Domain × Rows Self.Val)) (e g : Self.ProverError) → commit_fault s es e → commit_fault s es g → e ≡ g };
 
-    // no two causes to refuse to open
-    ghost one_open_fault: { (s : Self) (requests : List (Request Self.ProverData Challenge)) (e g : Self.ProverError) → open_fault s requests e → open_fault s requests g → e ≡ g };
+    ghost one_open_fault: { (s : Self) (rs : List (Request Self.ProverData Challenge)) (e g : Self.ProverError) → open_fault s rs e → open_fault s rs g → e ≡ g };
 
     // Where the proof of an opening opens the claims of what was asked for, the verification leaves the challenger as the
     // opening did.

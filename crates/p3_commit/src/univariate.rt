@@ -213,13 +213,6 @@ where
         self.verify(alloc, claims, proof, challenger)
     }
 
-    // no two causes to refuse to extend, to commit to extensions, or to commit to a quotient
-    ghost one_extension_fault: { (s : Self) (es : List (Self.Domain × Rows Self.Val)) (n : ℕ) (e g : Self.ProverError) → extension_fault s es n e → extension_fault s es n g → e ≡ g };
-
-    ghost one_ldes_fault: { (s : Self) (ls : List (Rows Self.Val)) (e g : Self.ProverError) → ldes_fault s ls e → ldes_fault s ls g → e ≡ g };
-
-    ghost one_quotient_fault: { (s : Self) (d : Self.Domain) (m : Rows Self.Val) (n : ℕ) (e g : Self.ProverError) → quotient_fault s d m n e → quotient_fault s d m n g → e ≡ g };
-
     ghost heights_ordered: { (s : Self) → log_min s ≤ log_max s };
 
     ghost heights_masked: { (s : Self) → IsTrue ZK → log_min s + 1 ≤ log_max s };
@@ -234,6 +227,13 @@ where
     // where the parts have no cause, and some extensions of them have none, the quotient has none
     ghost quotient_granted: { (s : Self) (d : Self.Domain) (m : Rows Self.Val) (n : ℕ) (parts : List (Self.Domain × Rows Self.Val)) → IsPowerOfTwo n → n ≤ Self.Domain.points d → height m ≡ Self.Domain.points d
         → AreParts (Self.Domain.part d n) m n parts → NoneInTurn (extension_fault s parts n) (AreExtensions (extends s) parts) (ldes_fault s) → NoneOf (quotient_fault s d m n) };
+
+    // the cause to refuse to extend, to commit to extensions, and to commit to a quotient, is one
+    ghost one_extension_fault: { (s : Self) (es : List (Self.Domain × Rows Self.Val)) (n : ℕ) (e g : Self.ProverError) → extension_fault s es n e → extension_fault s es n g → e ≡ g };
+
+    ghost one_ldes_fault: { (s : Self) (ls : List (Rows Self.Val)) (e g : Self.ProverError) → ldes_fault s ls e → ldes_fault s ls g → e ≡ g };
+
+    ghost one_quotient_fault: { (s : Self) (d : Self.Domain) (m : Rows Self.Val) (n : ℕ) (e g : Self.ProverError) → quotient_fault s d m n e → quotient_fault s d m n g → e ≡ g };
 
     // Where nothing is masked, the commitment is one function of what is committed.
     ghost one_commitment: { (s : Self) (e : List (Self.Domain × Rows Self.Val)) (c : Self.Commitment) → IsFalse ZK → Self.commits s e c → c ≡ commitment_of s e };

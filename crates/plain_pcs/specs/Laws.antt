@@ -1,6 +1,7 @@
 -- What is proved of the definitions, by subject.
 pub mod Scheme
 pub mod Checks
+pub mod Causes
 pub mod Shifted
 pub mod Evaluations
 pub mod Extensions
@@ -12,4 +13,3 @@ pub mod Honest
 pub mod Faults
 pub mod Claims
 pub mod Multilinear
-pub mod Refusals

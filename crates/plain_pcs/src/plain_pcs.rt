@@ -14,8 +14,8 @@ ghost use Rattle.plain_pcs.specs.Holding.{IsMade, AreHolding};
 ghost use Rattle.plain_pcs.specs.Refusals.{CommitFault, HasSubgroupHeight, ExtensionsFault, QuotientFault, OpenFault, IfWanting};
 ghost use Rattle.plain_pcs.specs.Laws.Scheme.{held_count, none_below_zero, not_hidden, difference_fits};
 ghost use Rattle.plain_pcs.specs.Laws.Quotients.{refused_by_parts, granted_by_parts};
-ghost use Rattle.plain_pcs.specs.Laws.Refusals.{one_cause_to_commit, one_cause_to_extend, one_cause_of_quotient, one_cause_to_open};
 ghost use Rattle.plain_pcs.specs.Laws.Checks.{opens_faultless as faultless_where_opens, one_fault as first_fault_is_one};
+ghost use Rattle.plain_pcs.specs.Laws.Causes.{one_commit_cause, one_extensions_cause, one_quotient_cause, one_open_cause};
 
 use crate::commitment::{PlainCommitment, PlainProof, PlainProverData};
 use crate::committing::{commit, commit_extensions, committed, extensions};
@@ -212,9 +212,9 @@ impl<F: TwoAdicField, D: TwoAdicSubgroupDft<F>, E: ExtensionField<F>, C> Pcs<E, 
 
     ghost one_fault = { λ s t claims p e g h k. first_fault_is_one (scheme F.ring F.inv F.root F.GENERATOR F.TWO_ADICITY s) E.ring E.embed claims e g h k };
 
-    ghost one_commit_fault = { λ s es e g h k. one_cause_to_commit (scheme F.ring F.inv F.root F.GENERATOR F.TWO_ADICITY s) es e g h k };
+    ghost one_commit_fault = { λ s es e g f h. one_commit_cause (scheme F.ring F.inv F.root F.GENERATOR F.TWO_ADICITY s) es e g f h };
 
-    ghost one_open_fault = { λ s rs e g h k. one_cause_to_open rs e g h k };
+    ghost one_open_fault = { λ s rs e g f h. one_open_cause rs e g f h };
 
     ghost one_state = { λ s t rs held claims p proves are claimed opens. refl };
 }
@@ -317,12 +317,6 @@ impl<F: TwoAdicField, D: TwoAdicSubgroupDft<F>, E: ExtensionField<F>, C> Univari
         )
     }
 
-    ghost one_extension_fault = { λ s es n e g h k. one_cause_to_commit (scheme F.ring F.inv F.root F.GENERATOR F.TWO_ADICITY s) es e g h k };
-
-    ghost one_ldes_fault = { λ s ls e g h k. one_cause_to_extend (scheme F.ring F.inv F.root F.GENERATOR F.TWO_ADICITY s) ls e g h k };
-
-    ghost one_quotient_fault = { λ s d m n e g h k. one_cause_of_quotient (scheme F.ring F.inv F.root F.GENERATOR F.TWO_ADICITY s) d n e g h k };
-
     ghost heights_ordered = { λ s. none_below_zero (F.TWO_ADICITY - s.log_blowup) };
 
     ghost heights_masked = { λ s h. not_hidden h };
@@ -332,6 +326,12 @@ impl<F: TwoAdicField, D: TwoAdicSubgroupDft<F>, E: ExtensionField<F>, C> Univari
     ghost quotient_refused = { λ s d m n parts e power fits rows are fault. refused_by_parts (scheme F.ring F.inv F.root F.GENERATOR F.TWO_ADICITY s) d m n parts power rows are F.ring_laws F.field_laws F.root_laws e fault };
 
     ghost quotient_granted = { λ s d m n parts power fits rows are none. granted_by_parts (scheme F.ring F.inv F.root F.GENERATOR F.TWO_ADICITY s) d m n parts power rows are none };
+
+    ghost one_extension_fault = { λ s es n e g f h. one_commit_cause (scheme F.ring F.inv F.root F.GENERATOR F.TWO_ADICITY s) es e g f h };
+
+    ghost one_ldes_fault = { λ s ls e g f h. one_extensions_cause (scheme F.ring F.inv F.root F.GENERATOR F.TWO_ADICITY s) ls e g f h };
+
+    ghost one_quotient_fault = { λ s d m n e g f h. one_quotient_cause (scheme F.ring F.inv F.root F.GENERATOR F.TWO_ADICITY s) d n e g f h };
 
     ghost one_commitment = { λ s es c z h. h };
 }

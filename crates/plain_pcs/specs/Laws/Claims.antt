@@ -1,12 +1,14 @@
 -- Faults of claimed values: values that are right have none, and the first fault is one.
-use Rattle.std.proofs.Common.{◌≡◌, ℕ, List, [], ◌∷◌, ◌++◌, None, length, map, get_or, ◌∙◌, ap}
+use Rattle.std.proofs.Common.{◌≡◌, ℕ, List, [], ◌∷◌, ◌++◌, None, length, map, get_or, refl, ◌∙◌, ap}
 use Rattle.std.proofs.lemmas.List.{length-map}
 use Rattle.p3_field.specs.Ring.{Ring}
 use Rattle.p3_field.specs.Checks.{Check, check, NoneFails, in_turn, AreSingle}
-use Rattle.p3_field.specs.Laws.Checks.{none_first, same_first, refusal_later, none_append, none_alone, none_by, none_single, check_single, single_append, single_in_turn}
+use Rattle.p3_field.specs.Laws.Checks.{none_first, same_first, same_failing, refusal_later, none_append, none_alone, none_by, none_single, check_single, single_append, single_in_turn}
 use Rattle.plain_pcs.specs.Multilinear.{multilinear_value}
-use Rattle.plain_pcs.specs.PlainMultilinear.{HasValues, HaveCoordinates, AreValuesAt, values_at, point_check, value_check, claim_checks, IsClaimFault}
+use Rattle.plain_pcs.specs.PlainMultilinear.{HasValues, HaveCoordinates, AreValuesAt, values_at, point_check, value_check, claim_checks, IsClaimFault, IsCommitFault, IsOpenFault}
 use Rattle.plain_pcs.specs.declared.plain_multilinear.PlainMultilinearError.{PlainMultilinearError}
+use Rattle.plain_pcs.specs.declared.plain_multilinear.PlainMultilinearProverError.{PlainMultilinearProverError}
+use Rattle.plain_pcs.specs.declared.plain_multilinear.PlainMultilinearProverError.TheVariants.{Length as ProverLength, PointLength as ProverPointLength}
 use Rattle.plain_pcs.specs.declared.plain_multilinear.PlainMultilinearError.TheVariants.{Length, PointLength, Count, Value}
 
 pub points_pass : {E : Type 0} (m : ℕ) (points : List (List E)) → HaveCoordinates m points → NoneFails (in_turn (length points) (point_check m points))
@@ -47,3 +49,16 @@ module _ {F E : Type 0} (s : Ring E) (embed : F → E) (m : ℕ) (vs : List F) (
 
   pub one_claim_fault : (e g : PlainMultilinearError) → IsClaimFault s embed m vs points ys e → IsClaimFault s embed m vs points ys g → e ≡ g
   one_claim_fault e g f h = same_first (claim_checks s embed m vs points ys) e g claims_single f h
+
+-- the cause to refuse to commit, and to open, is one
+pub one_commit_cause : {F : Type 0} (m : ℕ) (vs : List F) (e g : PlainMultilinearProverError) → IsCommitFault m vs e → IsCommitFault m vs g → e ≡ g
+one_commit_cause m vs ProverLength ProverLength f h = refl
+one_commit_cause m vs ProverLength (ProverPointLength j) f h = absurd h
+one_commit_cause m vs (ProverPointLength i) g f h = absurd f
+
+pub one_open_cause : {F E : Type 0} (m : ℕ) (vs : List F) (points : List (List E)) (e g : PlainMultilinearProverError) → IsOpenFault m vs points e → IsOpenFault m vs points g → e ≡ g
+one_open_cause m vs points ProverLength ProverLength f h = refl
+one_open_cause m vs points ProverLength (ProverPointLength j) f h = absurd (f h.0)
+one_open_cause m vs points (ProverPointLength i) ProverLength f h = absurd (h f.0)
+one_open_cause m vs points (ProverPointLength i) (ProverPointLength j) f h =
+    ap ProverPointLength (same_failing (length points) (λ k. length (get_or points k []) ≡ m) i j f.1 h.1)
