@@ -3,7 +3,9 @@ ghost use Rattle.std.specs.Prelude.{◌≡◌, ◌<◌, [], ◌∷◌, IfOk, len
 ghost use Rattle.p3_air.specs.Degree.{HasPeriod};
 ghost use Rattle.p3_air.specs.declared.node.Node.TheVariants.{Base};
 ghost use Rattle.p3_air.specs.Layout.{layout_shape};
-ghost use Rattle.p3_air.specs.Shape.{Declares, DeclaresExt};
+ghost use Rattle.p3_air.specs.Shape.{Declares, DeclaresExt, ReadsIn};
+ghost use Rattle.p3_air.specs.Symbolic.{IsExpression, tree_of};
+ghost use Rattle.p3_air.specs.Tree.{product};
 
 use batch_tables::SwapAir;
 use p3_air::{
@@ -174,6 +176,41 @@ fn degree_over_eight_rows(alloc: Global, cell: Cell) -> Mem<usize>
 {
     let expression = of_cell(alloc, cell)?;
     Ok(expression.poly_degree(8, &[2]))
+}
+
+// Adds the square of the last node.
+fn add_square(nodes: &mut Vec<Node<BabyBear>>) -> Mem<()>
+    requires { IsExpression nodes.old.items }
+    ensures expression { IfOk result (λ _. IsExpression nodes.new.items) }
+    ensures square { IfOk result (λ _. tree_of nodes.new.items ≡ product (tree_of nodes.old.items) (tree_of nodes.old.items)) }
+{
+    let last = nodes.len() - 1;
+    nodes.push(Node::Product(last, last))?;
+    Ok(())
+}
+
+// A column's cell squared forty times, as nodes that each name the one before twice.
+fn squared_forty_times(alloc: Global) -> Mem<SymbolicExpression<BabyBear>>
+    ensures { IfOk result (λ e. ReadsIn (HasPeriod []) (λ _. Unit {0}) (tree_of e)) }
+{
+    let cell = of_cell(alloc, Cell::FirstRow)?;
+    let mut nodes = Vec::from_slice(alloc, cell.nodes())?;
+    for _i in 0..40 {
+        add_square(&mut nodes)?;
+    }
+    Ok(SymbolicExpression::new(nodes))
+}
+
+// Each node's degree is computed once: a step for each path would be 2^40 steps.
+#[test]
+fn degrees_of_shared_nodes(rt: HostRuntime) -> Result<(), Fail> {
+    let alloc = rt.alloc();
+    let expression = squared_forty_times(alloc)?;
+    assert_eq!(rt; expression.nodes().len(), 41);
+    assert_eq!(rt; expression.degree_multiple(), 1 << 40);
+    assert_eq!(rt; expression.degree_multiple_with_transition(7), 1 << 40);
+    assert_eq!(rt; expression.poly_degree(8, &[]), 7 << 40);
+    Ok(())
 }
 
 // A column has degree 7 over 8 rows; one of period 2 has its two values four times: 1 * 4.

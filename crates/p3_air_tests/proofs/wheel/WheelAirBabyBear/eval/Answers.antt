@@ -45,3 +45,11 @@ returns-in_err-assert_eq-clause-refused g c =
     let then = g.met.AB.AirBuilder.grows_along in
     none_on_err g.AB.AirBuilder.grows _ _ _ _ _
     (then _ _ _ [] [] [] [] c.cell.ensures.grows (then _ _ _ [] [] [] [] c.cell-2.ensures.grows (then _ _ _ [] [] [] [] c.cell-3.ensures.grows (then _ _ _ [] [] [] [] c.mul.ensures.grows c.in_err-assert_eq.ensures.refused))))
+
+pub returns-clause-later : goal.returns-clause-later
+returns-clause-later g c =
+    let B = g.met.AB.AirBuilder in
+    let after = B.grows_later in
+    B.later_along _ _ _ (after _ _ _ _ c.cell.ensures.grows)
+    (B.later_along _ _ _ (after _ _ _ _ c.cell-2.ensures.grows)
+    (B.later_along _ _ _ (after _ _ _ _ c.cell-3.ensures.grows) (B.later_along _ _ _ (after _ _ _ _ c.mul.ensures.grows) c.assert_eq.ensures.later)))

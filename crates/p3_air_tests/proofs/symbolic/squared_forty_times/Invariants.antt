@@ -1,0 +1,8 @@
+use Rattle.std.proofs.Common.{[]}
+use Rattle.p3_air.specs.Degree.{HasPeriod}
+use Rattle.p3_air.specs.Shape.{ReadsIn}
+use Rattle.p3_air.specs.Symbolic.{IsExpression, tree_of}
+use Rattle.p3_air_tests.proofs.symbolic.squared_forty_times.Given as goal
+
+abbrev pub invariant-loop-i : goal.invariant-loop-i
+invariant-loop-i l = IsExpression l.nodes.items × ReadsIn (HasPeriod []) (λ _. Unit {0}) (tree_of l.nodes.items)
