@@ -40,7 +40,7 @@ impl<T: AsBytes> InputStream for Cursor<T> {
 }
 
 /// Nothing is known of what standard input answers.
-impl InputStream for StdinLock<'_> {
+impl InputStream for StdinLock<'static> {
     ghost answers = { λ _ _ _ _. ⊤ };
 
     fn read_some(&mut self, buf: &mut [u8]) -> io::Result<usize> {
