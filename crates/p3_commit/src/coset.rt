@@ -13,8 +13,7 @@ use p3_field::{
 /// A scheme whose domains are the cosets of a two-adic field (own): its contracts see a domain's points as the coset's,
 /// in the order of the generator's powers. So what `natural_domain_for_degree` gives is known whole, and so is each part
 /// of a split.
-pub trait CosetPcs<Challenge, Challenger>:
-    UnivariateStarkPcs<
+pub trait CosetPcs<Challenge, Challenger>: UnivariateStarkPcs<
     Challenge,
     Challenger,
     Domain = TwoAdicMultiplicativeCoset<<Self as Pcs<Challenge, Challenger>>::Val>,

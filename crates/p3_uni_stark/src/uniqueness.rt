@@ -9,8 +9,8 @@ ghost use Rattle.p3_uni_stark.specs.Fold.{fold_powers};
 ghost use Rattle.p3_uni_stark.specs.Recombine.{domain_at, AllDisjoint, recombined};
 
 use p3_field::{
-    BasedVectorSpace, ExtensionField, Field, FieldCore, PrimeCharacteristicRing, RingCore, TwoAdicCore,
-    TwoAdicField,
+    BasedVectorSpace, ExtensionField, Field, FieldCore, PrimeCharacteristicRing, RingCore,
+    TwoAdicCore, TwoAdicField,
 };
 
 /// The powers of a challenge that a layout gives to n constraints of one kind, by their places in order, are the weights

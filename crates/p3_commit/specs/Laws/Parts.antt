@@ -81,6 +81,6 @@ one_split {F} m p q c i d pos fills filled S T =
         let long : length (column d q j) ≡ length (column d p j) = length-column d q j ∙ (sym rows ∙ sym (length-column d p j)) in
         ext_get_or d (column d q j) (column d p j) long
         (λ k h.
-          let high : k < height q = omega (arith, h, length-column d q j) in
-          let same : k < height p = omega (arith, high, rows) in
-          get_or-column d q j k high ∙ (cells j k l high ∙ sym (get_or-column d p j k same)))
+        let high : k < height q = omega (arith, h, length-column d q j) in
+        let same : k < height p = omega (arith, high, rows) in
+        get_or-column d q j k high ∙ (cells j k l high ∙ sym (get_or-column d p j k same)))
