@@ -6,9 +6,10 @@ use Rattle.std.proofs.lemmas.Option.{slice_get-get_or}
 use Rattle.p3_field.specs.Ring.{Ring, RingLaws}
 use Rattle.p3_field.specs.Field.{TwoAdic, Extension, combine, FieldLaws, RingHom, TwoAdicLaws}
 use Rattle.p3_field.specs.Domain.{CosetData, point}
+use Rattle.p3_field.specs.Laws.Interpolants.{points_apart}
 use Rattle.p3_matrix.specs.Laws.Powers.{power_cancel, power_le_cancel}
 use Rattle.p3_commit.specs.Space.{IsPart, EachOf}
-use Rattle.p3_commit.specs.Laws.Cosets.{points_of_part, points_apart, point_not_zero}
+use Rattle.p3_commit.specs.Laws.Cosets.{points_of_part, point_not_zero}
 use Rattle.p3_commit.specs.Laws.Parts.{parts_apart}
 use Rattle.p3_uni_stark.specs.Recombine.{domain_at, AllDisjoint, recombined}
 use Rattle.p3_uni_stark.specs.Laws.Weights.{recombined_at_own}
@@ -30,7 +31,7 @@ module _ {F : Type 0} (f : TwoAdic F) (L : RingLaws f.ring) (W : FieldLaws f.rin
       let one = part_at i h in
       let other = part_at j k in
       parts_apart (point f.ring f.root whole) (point f.ring f.root a) (point f.ring f.root b) (2 ^ whole.log_size) (2 ^ a.log_size) (2 ^ b.log_size) c i j
-      (points_apart f.ring L f.inv W top f.root T whole shift fits) one.size_is other.size_is (omega (arith, h, S.count)) (omega (arith, k, S.count)) differ
+      (points_apart f.ring L f.inv W top f.root T whole fits shift) one.size_is other.size_is (omega (arith, h, S.count)) (omega (arith, k, S.count)) differ
       (λ l. points_of_part f.ring L top f.root T whole a c i l fits one) (λ l. points_of_part f.ring L top f.root T whole b c j l fits other)
 
   -- a part's size, as a quotient
