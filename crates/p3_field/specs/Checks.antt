@@ -36,10 +36,16 @@ unfoldable pub of_items : {X R : Type 0} → (ℕ → X → List (Check R)) → 
 of_items f [] = []
 of_items f (x ∷ xs) = f zero x ++ of_items (λ i. f (suc i)) xs
 
--- no check has two refusals
+-- A check that fails has exactly one refusal: two are the same, and that there is none can't be. A refusal that is chosen elsewhere may be one only
+-- where the check fails.
+pub record HasOneRefusal {R : Type 0} (c : Check R) : Type 0 where
+  pub same : (d e : R) → c.refusal d → c.refusal e → d ≡ e
+  pub some : (c.holds → ⊥) → ((e : R) → c.refusal e → ⊥) → ⊥
+
+-- each check has exactly one refusal where it fails
 unfoldable pub AreSingle : {R : Type 0} → List (Check R) → Type 0
 AreSingle [] = ⊤
-AreSingle {R} (c ∷ cs) = ((d e : R) → c.refusal d → c.refusal e → d ≡ e) × AreSingle cs
+AreSingle (c ∷ cs) = HasOneRefusal c × AreSingle cs
 
 -- i is the first of the numbers below n for which P fails: the first refusal of `numbers n P`
 pub record IsFirstFailing (n : ℕ) (P : ℕ → Type 0) (i : ℕ) : Type 0 where

@@ -1,8 +1,8 @@
--- Checks behind each other, the checks of several things in turn, and that one refusal at most is the first.
+-- Checks behind each other, the checks of several things in turn, and that exactly one refusal is the first where a check fails.
 use Rattle.std.proofs.Common.{◌≡◌, ℕ, zero, suc, ◌+◌, ◌<◌, ◌↔◌, List, [], ◌∷◌, ◌++◌, Option, None, Some, refl, sym, ◌∙◌, ap, subst, inl, inr, arith, add-one}
 use Rattle.std.specs.Prelude.{slice_get, ◌⊎◌}
 use Rattle.std.proofs.lemmas.Bool.{cases_lt}
-use Rattle.p3_field.specs.Checks.{Check, check, NoneFails, FirstFails, FirstRefusal, in_turn, of_items, AreSingle, IsFirstFailing, FirstFailing, number_check, numbers}
+use Rattle.p3_field.specs.Checks.{Check, check, NoneFails, FirstFails, FirstRefusal, in_turn, of_items, HasOneRefusal, AreSingle, IsFirstFailing, FirstFailing, number_check, numbers}
 
 pub none_single : (R : Type 0) → AreSingle {R = R} []
 unfolding AreSingle
@@ -74,7 +74,7 @@ module _ {R : Type 0} where
   none_first [] e n f = f
   none_first (c ∷ cs) e n f = elim f [ inl t ↦ none_first cs e n.1 t.1 | inr t ↦ t.0 n.0 ]
 
-  -- and where no check has two refusals, there is one first refusal at most
+  -- and where each check has one refusal, there is one first refusal at most
   pub same_first : (cs : List (Check R)) (d e : R) → AreSingle cs → FirstFails cs d → FirstFails cs e → d ≡ e
   unfolding FirstFails AreSingle
   same_first [] d e s a b = absurd a
@@ -85,9 +85,18 @@ module _ {R : Type 0} where
     ]
     | inr t ↦ elim b [
       | inl u ↦ absurd (t.0 u.0)
-      | inr u ↦ s.0 d e t.1 u.1
+      | inr u ↦ s.0.same d e t.1 u.1
     ]
   ]
+
+  -- And there is one where a check fails: it can't be that some check fails and none is the first.
+  pub some_first : (cs : List (Check R)) → AreSingle cs → (NoneFails cs → ⊥) → ((e : R) → FirstFails cs e → ⊥) → ⊥
+  unfolding NoneFails FirstFails AreSingle
+  some_first [] s n f = n tt
+  some_first (c ∷ cs) s n f =
+      s.0.some
+      (λ h. some_first cs s.1 (λ rest. n (h, rest)) (λ e g. f e (inl (h, g))))
+      (λ e r. f e (inr (λ h. some_first cs s.1 (λ rest. n (h, rest)) (λ d g. f d (inl (h, g))), r)))
 
   pub same_refusal : (cs : List (Check R)) (a b : Option R) → AreSingle cs → FirstRefusal cs a → FirstRefusal cs b → a ≡ b
   same_refusal cs None None s f g = refl
@@ -100,10 +109,14 @@ module _ {R : Type 0} where
   single_append [] ys f g = g
   single_append (x ∷ xs) ys f g = (f.0, single_append xs ys f.1 g)
 
-  -- a check with one refusal
-  pub check_single : (r : R) (P : Type 0) (cs : List (Check R)) → AreSingle cs → AreSingle (check r P ∷ cs)
+  -- a check with one refusal, before others
+  pub single_before : (c : Check R) (cs : List (Check R)) → HasOneRefusal c → AreSingle cs → AreSingle (c ∷ cs)
   unfolding AreSingle
-  check_single r P cs s = (λ d e p q. p ∙ sym q, s)
+  single_before c cs h s = (h, s)
+
+  -- one that is refused with r
+  pub check_single : (r : R) (P : Type 0) (cs : List (Check R)) → AreSingle cs → AreSingle (check r P ∷ cs)
+  check_single r P cs s = single_before (check r P) cs (record { same = λ d e p q. p ∙ sym q; some = λ n none. none r refl }) s
 
   -- the checks of n things in turn: of none
   pub none_of_none : (f : ℕ → List (Check R)) → NoneFails (in_turn 0 f)
