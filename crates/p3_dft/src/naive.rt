@@ -27,27 +27,15 @@ impl ColumnTransform for NaiveDft {
         let mut values = Vec::with_capacity(alloc, size)?;
         let mut point = shift;
         for _ in 0..size {
-            values.push(value(coefficients, point))?;
+            values.push(polynomial_value(coefficients, point))?;
             point = point * generator;
         }
         Ok(values)
     }
 }
 
-// The value at a point, by Horner's rule.
-fn value<F: Field>(coefficients: &[F], point: F) -> F
-    ensures { result ≡ val F.ring coefficients.now point }
-{
-    let mut sum = F::ZERO;
-    let mut i = coefficients.len();
-    while i > 0 {
-        i -= 1;
-        sum = sum * point + coefficients[i];
-    }
-    sum
-}
-
-/// The value at a point of a larger field of the polynomial with these coefficients, lowest first (own).
+/// The value at a point of an extension field, or of the field itself, of the polynomial with these coefficients, lowest
+/// first, by Horner's rule (own).
 pub fn polynomial_value<F: Field, EF: ExtensionField<F>>(coefficients: &[F], point: EF) -> EF
     ensures { result ≡ val EF.ring (map EF.embed coefficients.now) point }
 {

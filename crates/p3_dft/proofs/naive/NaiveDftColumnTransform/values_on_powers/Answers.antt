@@ -1,4 +1,4 @@
-use Rattle.std.proofs.Common.{◌≡◌, ℕ, ◌*◌, ◌%◌, ◌^◌, ◌∙◌, refl, sym, ap, arith}
+use Rattle.std.proofs.Common.{◌≡◌, ℕ, ◌*◌, ◌%◌, ◌^◌, ◌∙◌, refl, sym, ap, arith, map-id}
 use Rattle.std.proofs.lemmas.Grind.{one_shifted}
 use Rattle.p3_field.specs.Poly.{val, table}
 use Rattle.p3_field.specs.Domain.{coset_point}
@@ -18,7 +18,7 @@ loop-preserved g c =
     let P = g.met.F.PrimeCharacteristicRing in
     let t = λ (i : ℕ). val r c.args.coefficients.now (coset_point r c.args.shift c.args.generator i) in
     record {
-      values_so_far = c.in_ok-push.ensures.items ∙ table_push c.loop.counter t _ _ c.loop.invariant.values_so_far (c.value.ensures ∙ ap (val r c.args.coefficients.now) c.loop.invariant.point_is);
+      values_so_far = c.in_ok-push.ensures.items ∙ table_push c.loop.counter t _ _ c.loop.invariant.values_so_far (c.polynomial_value.ensures ∙ (ap (λ cs. val r cs c.loop.point) (map-id c.args.coefficients.now) ∙ ap (val r c.args.coefficients.now) c.loop.invariant.point_is));
       point_is = cc (P.muls _ _ _ c.mul-point.ensures, c.loop.invariant.point_is, next_coset_point r g.met.F.RingCore.ring_laws c.args.shift c.args.generator c.loop.counter);
     }
 
