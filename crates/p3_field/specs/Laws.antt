@@ -8,6 +8,7 @@ pub mod Values
 pub mod Division
 pub mod Roots
 pub mod Sums
+pub mod Products
 pub mod Newton
 pub mod Interpolants
 pub mod Coset

@@ -95,6 +95,11 @@ abbrev pub total : {A : Type 0} → Ring A → ℕ → (ℕ → A) → A
 total r zero t = r.zero
 total r (suc n) t = r.add (t zero) (total r n (λ i. t (suc i)))
 
+-- t 0 * .. * t (n - 1)
+abbrev pub product : {A : Type 0} → Ring A → ℕ → (ℕ → A) → A
+product r zero t = r.one
+product r (suc n) t = r.mul (product r n t) (t n)
+
 -- the points p 0, .., p (n - 1) differ from each other
 abbrev pub Apart : {A : Type 0} → ℕ → (ℕ → A) → Type 0
 Apart n p = (i j : ℕ) → i < j → j < n → p i ≡ p j → ⊥

@@ -7,16 +7,13 @@ use Rattle.p3_field.specs.Laws.Roots.{NoZeroDivisors}
 use Rattle.p3_matrix.specs.Products.{product_below}
 
 pub no_product : {A : Type 0} (r : Ring A) (v : List A) → product_below r v 0 ≡ r.one
-unfolding product_below
 no_product r v = λ _. r.one
 
 pub next_product : {A : Type 0} (r : Ring A) (v : List A) (n : ℕ) → product_below r v (n + 1) ≡ r.mul (product_below r v n) (get_or v n r.zero)
-unfolding product_below
 next_product r v n = let e : n + 1 ≡ suc n = omega arith in ap (product_below r v) e
 
 module _ {A : Type 0} (r : Ring A) (L : RingLaws r) where
   pub product_not_zero : NoZeroDivisors r → (r.one ≡ r.zero → ⊥) → (v : List A) (n : ℕ) → ((i : ℕ) → i < n → get_or v i r.zero ≡ r.zero → ⊥) → product_below r v n ≡ r.zero → ⊥
-  unfolding product_below
   product_not_zero N one v zero nz e = one e
   product_not_zero N one v (suc n) nz e =
       product_not_zero N one v n (λ i h. nz i (omega arith)) (N (get_or v n r.zero) (product_below r v n) (nz n (omega arith)) (L.mul_comm (get_or v n r.zero) (product_below r v n) ∙ e))

@@ -9,16 +9,10 @@ use Rattle.p3_field.specs.Laws.Roots.{field_no_zero_divisors}
 use Rattle.p3_field.specs.Laws.SubgroupSelectors.{inv_one}
 use Rattle.p3_field.specs.Domain.{CosetData, point}
 use Rattle.p3_commit.specs.Space.{IsPoint}
-use Rattle.p3_uni_stark.specs.Recombine.{product, product_but, domain_at, AllDisjoint}
+use Rattle.p3_field.specs.Poly.{product}
+use Rattle.p3_uni_stark.specs.Recombine.{product_but, domain_at, AllDisjoint}
 
 module _ {A : Type 0} (r : Ring A) (L : RingLaws r) where
-  pub product_more : (n : ℕ) (t : ℕ → A) → product r (n + 1) t ≡ r.mul (product r n t) (t n)
-  product_more n t = let e : n + 1 ≡ suc n = omega arith in ap (λ m. product r m t) e
-
-  pub product_same : (n : ℕ) (t u : ℕ → A) → ((i : ℕ) → i < n → t i ≡ u i) → product r n t ≡ product r n u
-  product_same zero t u h = refl
-  product_same (suc n) t u h = let p = product_same n t u (λ i k. h i (omega arith)) in let q = h n (omega arith) in λ i. r.mul (p i) (q i)
-
   module _ (inv : A → A) (W : FieldLaws r inv) where
     pub inv_mul : (x y : A) → (x ≡ r.zero → ⊥) → (y ≡ r.zero → ⊥) → inv (r.mul x y) ≡ r.mul (inv x) (inv y)
     inv_mul x y a b =

@@ -3,14 +3,9 @@
 use Rattle.std.specs.Prelude.{◌≡◌, ℕ, zero, suc, ◌+◌, ◌-◌, ◌<◌, ◌^◌, List, [], length, get_or}
 use Rattle.p3_field.specs.Ring.{Ring}
 use Rattle.p3_field.specs.Field.{TwoAdic, Extension, combine}
-use Rattle.p3_field.specs.Poly.{val, val_in, total}
+use Rattle.p3_field.specs.Poly.{val, val_in, total, product}
 use Rattle.p3_field.specs.Domain.{CosetData, van, point}
 use Rattle.p3_commit.specs.Space.{AreDisjoint}
-
--- t 0 .. t (n - 1)
-abbrev pub product : {A : Type 0} → Ring A → ℕ → (ℕ → A) → A
-product r zero t = r.one
-product r (suc n) t = r.mul (product r n t) (t n)
 
 -- the product of t j for j below n but for j = i
 abbrev pub product_but : {A : Type 0} → Ring A → ℕ → ℕ → (ℕ → A) → A

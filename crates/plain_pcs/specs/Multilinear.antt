@@ -3,12 +3,7 @@ use Rattle.std.specs.Prelude.{ℕ, zero, suc, ◌^◌, List, length}
 use Rattle.std.specs.Prelude.{slice_index_or as get_or}
 use Rattle.std.specs.Int.{bit_at}
 use Rattle.p3_field.specs.Ring.{Ring, sub}
-use Rattle.p3_field.specs.Poly.{total}
-
--- the product t 0 .. t (n - 1)
-abbrev pub product : {A : Type 0} → Ring A → ℕ → (ℕ → A) → A
-product r zero t = r.one
-product r (suc n) t = r.mul (t zero) (product r n (λ j. t (suc j)))
+use Rattle.p3_field.specs.Poly.{total, product}
 
 -- the factor of a variable at x: 1 - x where the bit is zero, and x where it is one
 abbrev pub factor : {A : Type 0} → Ring A → ℕ → A → A

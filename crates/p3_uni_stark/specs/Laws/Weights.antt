@@ -7,34 +7,27 @@ use Rattle.std.proofs.lemmas.List.{map-id}
 use Rattle.std.proofs.lemmas.Nat.{pow_pos}
 use Rattle.p3_field.specs.Ring.{Ring, RingLaws, pow, sub}
 use Rattle.p3_field.specs.Field.{TwoAdic, Extension, combine, FieldLaws, RingHom, TwoAdicLaws}
-use Rattle.p3_field.specs.Poly.{val, val_in}
+use Rattle.p3_field.specs.Poly.{val, val_in, product}
 use Rattle.p3_field.specs.Domain.{CosetData, van, point}
 use Rattle.p3_field.specs.Laws.Algebra.{one_mul, mul_zero, zero_mul}
 use Rattle.p3_field.specs.Laws.Sums.{total_only}
+use Rattle.p3_field.specs.Laws.Products.{product_zero, product_one}
 use Rattle.p3_field.specs.Laws.Order.{one_pow, pow_times}
 use Rattle.p3_field.specs.Laws.Own.{own_hom}
 use Rattle.p3_field.specs.Laws.Roots.{field_no_zero_divisors}
 use Rattle.p3_field.specs.Laws.Coset.{HasOrder, two_adic_order, pow_mul}
 use Rattle.p3_field.specs.Laws.Extended.{hom_pow, map_val}
 use Rattle.p3_field.specs.Laws.Selectors.{van_vanishes, van_value, van_only}
-use Rattle.p3_uni_stark.specs.Recombine.{product, product_but, domain_at, AllDisjoint, chunk_weight, recombined}
+use Rattle.p3_uni_stark.specs.Recombine.{product_but, domain_at, AllDisjoint, chunk_weight, recombined}
 
 module _ {A : Type 0} (s : Ring A) (M : RingLaws s) where
-  -- a product with a factor zero
-  product_zero : (n j : ℕ) (t : ℕ → A) → j < n → t j ≡ s.zero → product s n t ≡ s.zero
-  product_zero zero j t h z = absurd (omega (arith, h))
-  product_zero (suc n) j t h z = elim (cases_eq j n) [
-    | inl w ↦ ap (s.mul (product s n t)) (ap t (sym w) ∙ z) ∙ mul_zero s M (product s n t)
-    | inr w ↦ ap (λ v. s.mul v (t n)) (product_zero n j t (omega (arith, h, w)) z) ∙ zero_mul s M (t n)
-  ]
-
   product_but_zero : (n i j : ℕ) (t : ℕ → A) → j < n → (i ≡ j → ⊥) → t j ≡ s.zero → product_but s n i t ≡ s.zero
   product_but_zero n i j t h differ z = elim (cases_lt j i) [
-    | inl w ↦ ap (λ v. s.mul v (product s (n - suc i) (λ k. t (suc i + k)))) (product_zero i j t w z) ∙ zero_mul s M (product s (n - suc i) (λ k. t (suc i + k)))
+    | inl w ↦ ap (λ v. s.mul v (product s (n - suc i) (λ k. t (suc i + k)))) (product_zero s M i j t w z) ∙ zero_mul s M (product s (n - suc i) (λ k. t (suc i + k)))
     | inr w ↦
         let at : suc i + (j - suc i) ≡ j = omega (arith, w, differ) in
         let below : j - suc i < n - suc i = omega (arith, w, differ, h) in
-        ap (s.mul (product s i t)) (product_zero (n - suc i) (j - suc i) (λ k. t (suc i + k)) below (ap t at ∙ z)) ∙ mul_zero s M (product s i t)
+        ap (s.mul (product s i t)) (product_zero s M (n - suc i) (j - suc i) (λ k. t (suc i + k)) below (ap t at ∙ z)) ∙ mul_zero s M (product s i t)
   ]
 
 -- chunk i weighs zero at each point of another domain
@@ -52,16 +45,10 @@ weight_elsewhere f L W top T e M H ds i j k h differ shift fits =
     product_but_zero s M (length ds) i j factor h differ none
 
 module _ {A : Type 0} (s : Ring A) (M : RingLaws s) where
-  product_one : (n : ℕ) (t : ℕ → A) → ((j : ℕ) → j < n → t j ≡ s.one) → product s n t ≡ s.one
-  product_one zero t h = refl
-  product_one (suc n) t h =
-      let rest = product_one n t (λ j l. h j (omega (arith, l))) in
-      (λ i. s.mul (rest i) (h n (omega arith) i)) ∙ M.mul_one s.one
-
   product_but_one : (n i : ℕ) (t : ℕ → A) → i < n → ((j : ℕ) → j < n → (i ≡ j → ⊥) → t j ≡ s.one) → product_but s n i t ≡ s.one
   product_but_one n i t l h =
-      let before = product_one i t (λ j b. h j (omega (arith, b, l)) (λ e. omega (arith, b, e))) in
-      let behind = product_one (n - suc i) (λ j. t (suc i + j)) (λ j b. h (suc i + j) (omega (arith, b, l)) (λ e. omega (arith, e))) in
+      let before = product_one s M i t (λ j b. h j (omega (arith, b, l)) (λ e. omega (arith, b, e))) in
+      let behind = product_one s M (n - suc i) (λ j. t (suc i + j)) (λ j b. h (suc i + j) (omega (arith, b, l)) (λ e. omega (arith, e))) in
       (λ k. s.mul (before k) (behind k)) ∙ M.mul_one s.one
 
 module _ {F E : Type 0} (f : TwoAdic F) (L : RingLaws f.ring) (W : FieldLaws f.ring f.inv) (top : ℕ) (T : TwoAdicLaws f.ring top f.root)

@@ -5,12 +5,13 @@ use Rattle.std.proofs.lemmas.Nat.Bits.{bit_at_lowest, bit_at-suc}
 use Rattle.std.proofs.lemmas.List.{length-append}
 use Rattle.std.proofs.Math.Nat.{pow-suc}
 use Rattle.p3_field.specs.Ring.{Ring, RingLaws, sub, of_nat}
-use Rattle.p3_field.specs.Poly.{table, total}
+use Rattle.p3_field.specs.Poly.{table, total, product}
 use Rattle.p3_field.specs.Laws.Algebra.{one_mul}
 use Rattle.p3_field.specs.Laws.Sums.{total_same}
+use Rattle.p3_field.specs.Laws.Products.{product_front, product_same}
 use Rattle.p3_field.specs.Laws.Tables.{length-table, get_or-table, table_same}
 use Rattle.p3_field.specs.Laws.Solver.{expressions, var, solve}
-use Rattle.plain_pcs.specs.Multilinear.{product, factor, weight, multilinear_value}
+use Rattle.plain_pcs.specs.Multilinear.{factor, weight, multilinear_value}
 
 -- the value that takes the place of two neighbours a, b where the variable is x
 abbrev pub between : {A : Type 0} → Ring A → A → A → A → A
@@ -27,10 +28,6 @@ abbrev weighed : {A : Type 0} → Ring A → ℕ → A → A → A → A
 weighed r b x v w = r.mul v (r.mul (factor r b x) w)
 
 module _ {A : Type 0} (r : Ring A) (L : RingLaws r) where
-  product_same : (n : ℕ) (t u : ℕ → A) → ((j : ℕ) → j < n → t j ≡ u j) → product r n t ≡ product r n u
-  product_same zero t u h = refl
-  product_same (suc n) t u h = cc (h zero (omega arith), product_same n (λ j. t (suc j)) (λ j. u (suc j)) (λ j k. h (suc j) (omega arith)))
-
   -- a sum over places, taken by twos
   total_pairs : (n : ℕ) (t : ℕ → A) → total r (2 * n) t ≡ total r n (λ i. r.add (t (2 * i)) (t (2 * i + 1)))
   total_pairs zero t = refl
@@ -48,8 +45,9 @@ module _ {A : Type 0} (r : Ring A) (L : RingLaws r) where
   unfolding weight
   weight-cons x xs i =
       let low = ap (λ b. factor r b x) (bit_at_lowest i) in
-      let rest = product_same (length xs) (λ j. factor r (bit_at i (suc j)) (get_or xs j r.zero)) (λ j. factor r (bit_at (i / 2) j) (get_or xs j r.zero)) (λ j k. ap (λ b. factor r b (get_or xs j r.zero)) (bit_at-suc i j)) in
-      ap (λ f. r.mul f (product r (length xs) (λ j. factor r (bit_at i (suc j)) (get_or xs j r.zero)))) low ∙ ap (r.mul (factor r (i % 2) x)) rest
+      let rest = product_same r L (length xs) (λ j. factor r (bit_at i (suc j)) (get_or xs j r.zero)) (λ j. factor r (bit_at (i / 2) j) (get_or xs j r.zero)) (λ j k. ap (λ b. factor r b (get_or xs j r.zero)) (bit_at-suc i j)) in
+      product_front r L (length xs) (λ j. factor r (bit_at i j) (get_or (x ∷ xs) j r.zero))
+      ∙ (ap (λ f. r.mul f (product r (length xs) (λ j. factor r (bit_at i (suc j)) (get_or xs j r.zero)))) low ∙ ap (r.mul (factor r (i % 2) x)) rest)
 
   weight_even : (x : A) (xs : List A) (i : ℕ) → weight r (x ∷ xs) (2 * i) ≡ r.mul (sub r r.one x) (weight r xs i)
   weight_even x xs i =

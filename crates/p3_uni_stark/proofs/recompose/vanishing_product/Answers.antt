@@ -5,7 +5,7 @@ use Rattle.p3_field.specs.Domain.{CosetData, van, point}
 use Rattle.p3_field.specs.Laws.Roots.{field_no_zero_divisors}
 use Rattle.p3_commit.specs.Space.{IsPoint}
 use Rattle.p3_uni_stark.specs.Recombine.{domain_at}
-use Rattle.p3_uni_stark.proofs.Weights.{product_more}
+use Rattle.p3_field.specs.Laws.Products.{product_more}
 use Rattle.p3_uni_stark.proofs.recompose.vanishing_product.Goals as goal
 
 pub loop-domain-preserved : goal.loop-domain-preserved

@@ -2,7 +2,8 @@ use Rattle.std.proofs.Common.{◌≡◌, ℕ, ◌<◌, ◌^◌, map}
 use Rattle.p3_field.specs.Poly.{val}
 use Rattle.p3_field.specs.Domain.{van, point}
 use Rattle.p3_commit.specs.Space.{IsPoint}
-use Rattle.p3_uni_stark.specs.Recombine.{product, domain_at}
+use Rattle.p3_uni_stark.specs.Recombine.{domain_at}
+use Rattle.p3_field.specs.Poly.{product}
 use Rattle.p3_uni_stark.proofs.recompose.vanishing_product.Given as goal
 
 abbrev pub invariant-loop-domain : goal.invariant-loop-domain

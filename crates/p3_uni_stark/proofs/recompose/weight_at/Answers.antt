@@ -4,8 +4,10 @@ use Rattle.p3_field.specs.Field.{TwoAdic}
 use Rattle.p3_field.specs.Poly.{val}
 use Rattle.p3_field.specs.Domain.{CosetData, van, point}
 use Rattle.p3_field.specs.Laws.Roots.{field_no_zero_divisors}
-use Rattle.p3_uni_stark.specs.Recombine.{chunk_weight, domain_at, product}
-use Rattle.p3_uni_stark.proofs.Weights.{before_is, behind_is, behind_at, product_same, quotients_but, first_outside}
+use Rattle.p3_uni_stark.specs.Recombine.{chunk_weight, domain_at}
+use Rattle.p3_field.specs.Poly.{product}
+use Rattle.p3_field.specs.Laws.Products.{product_same}
+use Rattle.p3_uni_stark.proofs.Weights.{before_is, behind_is, behind_at, quotients_but, first_outside}
 use Rattle.p3_uni_stark.proofs.recompose.weight_at.Goals as goal
 
 pub inverse-requires : goal.inverse-requires
