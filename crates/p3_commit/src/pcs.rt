@@ -3,7 +3,7 @@ ghost use Rattle.std.specs.Prelude.{◌≡◌, ℕ, ◌^◌, ◌<◌, ◌≤◌,
 ghost use Rattle.std.specs.Int.{IsPowerOfTwo};
 ghost use Rattle.p3_matrix.specs.Matrix.{Rows};
 ghost use Rattle.p3_commit.specs.Claims.{CommitmentClaim, Request};
-ghost use Rattle.p3_commit.specs.Failure.{NoneOf, RefusedBy, IfRefused, VerifiedBy};
+ghost use Rattle.p3_commit.specs.Failure.{NoneOf, FaultUnless, RefusedBy, IfRefused, VerifiedBy};
 ghost use Rattle.p3_commit.specs.Commitments.{IsSubgroup, Committed, IsCommitment, Held, AreHeld, nested, AreClaims, IsOpening};
 
 use crate::claims::{CommitmentOpening, OpenedValues, OpeningRequest};
@@ -138,6 +138,9 @@ where
 
     // a proof that opens the claims has no fault
     ghost opens_faultless: { (s : Self) (t : Challenger) (claims : List (CommitmentClaim Challenge Self.Commitment Self.Domain)) (p : Self.Proof) → opens s t claims p → NoneOf (fault s t claims p) };
+
+    // one that doesn't open them has a first fault
+    ghost some_fault: { (s : Self) (t : Challenger) (claims : List (CommitmentClaim Challenge Self.Commitment Self.Domain)) (p : Self.Proof) → FaultUnless (opens s t claims p) (fault s t claims p) };
 
     // the first fault is one
     ghost one_fault: { (s : Self) (t : Challenger) (claims : List (CommitmentClaim Challenge Self.Commitment Self.Domain)) (p : Self.Proof) (e g : Self.Error) → fault s t claims p e → fault s t claims p g → e ≡ g };
