@@ -82,7 +82,8 @@ where
     // the first fault of a proof that doesn't
     ghost fault: { Self → Challenger → List (CommitmentClaim Challenge Self.Commitment Self.Domain) → Self.Proof → Self.Error → Type 0 };
 
-    /// The domain of shift one with `degree` points.
+    /// The subgroup with `degree` points, as the domain whose first point is one: point i is the i-th power of the field's
+    /// generator of that subgroup. `degree`, which counts points, must be a power of two and at most 2^`TWO_ADICITY`.
     fn natural_domain_for_degree(&self, degree: usize) -> Self::Domain
         requires power { IsPowerOfTwo degree }
         requires fits { degree ≤ 2 ^ Self.Val.TWO_ADICITY }
