@@ -7,6 +7,10 @@ use Rattle.p3_commit.specs.declared.failure.PcsFailure.TheVariants.{OutOfMemory,
 abbrev pub NoneOf : {E : Type 0} → (E → Type 0) → Type 0
 NoneOf faults = (e : _) → faults e → ⊥
 
+-- Where something doesn't hold, there is a cause: that it doesn't hold and that there is no cause can't both be.
+abbrev pub FaultUnless : {E : Type 0} → Type 0 → (E → Type 0) → Type 0
+FaultUnless holds faults = (holds → ⊥) → NoneOf faults → ⊥
+
 -- The answer is a refusal exactly where there is a cause, and names it. Want of memory may come in place of any answer.
 abbrev pub RefusedBy : {T E : Type 0} → (E → Type 0) → Result T (PcsFailure E) → Type 0
 RefusedBy faults (Ok w) = NoneOf faults

@@ -97,13 +97,17 @@ pub trait PolynomialSpace: Copy {
         requires { lacks self.now min_size → ⊥ }
         ensures { offered self.now min_size result };
 
-    /// The parts of this space: part i begins at point i and takes each point that is `num_chunks` further.
+    /// The parts of this space, `num_chunks` of them: part i begins at point i and takes each point that is `num_chunks`
+    /// further. `num_chunks` must be a power of two and at most the number of points, so each part has a point. The only
+    /// error is running out of memory.
     fn split_domains(&self, alloc: Global, num_chunks: usize) -> Mem<Vec<Self>>
         requires power { IsPowerOfTwo num_chunks }
         requires fits { num_chunks ≤ points self.now }
         ensures { IfOk result (λ v. EachOf num_chunks v.items (part self.now num_chunks)) };
 
-    /// The rows of a matrix on the parts of this space: row j of part i is row i + num_chunks * j.
+    /// The rows of a matrix on the parts of this space, in the order of `split_domains`: row j of part i is row
+    /// i + `num_chunks` * j, and each part is as wide as the matrix. The matrix must have a row for each point, and
+    /// `num_chunks` be a power of two and at most the number of points. The only error is running out of memory.
     fn split_evals(
         &self,
         alloc: Global,
@@ -143,7 +147,8 @@ pub trait PolynomialSpace: Copy {
         ensures transition { IfOk result (λ s. s.is_transition.items ≡ table (points coset) (λ i. val Self.Val.ring (transition_poly self.now) (point_at coset i))) }
         ensures inverse { IfOk result (λ s. s.inv_vanishing.items ≡ table (points coset) (λ i. Self.Val.inv (val Self.Val.ring (vanishing_poly self.now) (point_at coset i)))) };
 
-    /// The value at a point of the interpolant of the values on this space, also at its points.
+    /// The value at a point of a column's interpolant on this space: the polynomial of degree below the number of points
+    /// whose value at point i is `evals[i]`. There must be a value for each point. `point` may also lie in this space.
     fn evaluate_polynomial_at<Ext: ExtensionField<Self::Val>>(
         &self,
         evals: &[Self::Val],

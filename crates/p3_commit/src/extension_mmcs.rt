@@ -272,6 +272,10 @@ impl<F: Field, EF: ExtensionField<F>, InnerMmcs: Mmcs<F>> Mmcs<EF>
 
     ghost multi_opens_faultless = { λ s c ds is rows p h. InnerMmcs.multi_opens_faultless s c (map (widened EF.DIMENSION) ds) is (map (map (flat_map EF.parts)) rows) p h };
 
+    ghost some_fault = { λ s c ds i rows p n f. InnerMmcs.some_fault s c (map (widened EF.DIMENSION) ds) i (map (flat_map EF.parts) rows) p n f };
+
+    ghost multi_some_fault = { λ s c ds is rows p n f. InnerMmcs.multi_some_fault s c (map (widened EF.DIMENSION) ds) is (map (map (flat_map EF.parts)) rows) p n f };
+
     ghost one_fault = { λ s c ds i rows p e g f h. InnerMmcs.one_fault s c (map (widened EF.DIMENSION) ds) i (map (flat_map EF.parts) rows) p e g f h };
 
     ghost multi_one_fault = { λ s c ds is rows p e g f h. InnerMmcs.multi_one_fault s c (map (widened EF.DIMENSION) ds) is (map (map (flat_map EF.parts)) rows) p e g f h };

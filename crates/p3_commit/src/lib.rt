@@ -23,6 +23,7 @@ mod periodic_values;
 mod selectors;
 mod split;
 mod univariate;
+mod verdict;
 
 pub use claims::{
     CommitmentOpening, CommitmentWithOpeningPoints, MatrixOpening, OpenedValues,
@@ -44,3 +45,4 @@ pub use periodic_table::PeriodicLdeTable;
 pub use selectors::{LagrangeSelectors, first_selector_at, last_selector_at};
 pub use split::rows_from;
 pub use univariate::UnivariateStarkPcs;
+pub use verdict::a_verification_is_a_check;

@@ -3,7 +3,7 @@ ghost use Rattle.std.specs.Prelude.{◌≡◌, ℕ, ◌<◌, List, [], ◌∷◌
 ghost use Rattle.std.specs.Int.{IsPowerOfTwo};
 ghost use Rattle.p3_matrix.specs.Matrix.{Rows, height};
 ghost use Rattle.p3_matrix.specs.declared.dense.Dimensions.{Dimensions};
-ghost use Rattle.p3_commit.specs.Failure.{NoneOf, VerifiedBy};
+ghost use Rattle.p3_commit.specs.Failure.{NoneOf, FaultUnless, VerifiedBy};
 ghost use Rattle.p3_commit.specs.Periodic.{IsGreatest, EachFrom};
 ghost use Rattle.p3_commit.specs.Batches.{lists, IsBatch, IsRowOf, AreRowsAt, dimensions_of, HaveWidths};
 
@@ -169,6 +169,11 @@ pub trait Mmcs<T: Copy + Eq> {
     ghost opens_faultless: { (s : Self) (c : Self.Commitment) (ds : List Dimensions) (i : ℕ) (rows : List (List T)) (p : Self.Proof) → opens s c ds i rows p → NoneOf (fault s c ds i rows p) };
 
     ghost multi_opens_faultless: { (s : Self) (c : Self.Commitment) (ds : List Dimensions) (is : List ℕ) (rows : List (List (List T))) (p : Self.MultiProof) → multi_opens s c ds is rows p → NoneOf (multi_fault s c ds is rows p) };
+
+    // one that isn't has a first fault
+    ghost some_fault: { (s : Self) (c : Self.Commitment) (ds : List Dimensions) (i : ℕ) (rows : List (List T)) (p : Self.Proof) → FaultUnless (opens s c ds i rows p) (fault s c ds i rows p) };
+
+    ghost multi_some_fault: { (s : Self) (c : Self.Commitment) (ds : List Dimensions) (is : List ℕ) (rows : List (List (List T))) (p : Self.MultiProof) → FaultUnless (multi_opens s c ds is rows p) (multi_fault s c ds is rows p) };
 
     // the first fault is one
     ghost one_fault: { (s : Self) (c : Self.Commitment) (ds : List Dimensions) (i : ℕ) (rows : List (List T)) (p : Self.Proof) (e g : Self.Error) → fault s c ds i rows p e → fault s c ds i rows p g → e ≡ g };
@@ -392,6 +397,10 @@ impl<'m, T: Copy + Eq, M: Mmcs<T>> Mmcs<T> for &'m M {
     ghost opens_faultless = { λ s c ds i rows p h. M.opens_faultless s.now c ds i rows p h };
 
     ghost multi_opens_faultless = { λ s c ds is rows p h. M.multi_opens_faultless s.now c ds is rows p h };
+
+    ghost some_fault = { λ s c ds i rows p n f. M.some_fault s.now c ds i rows p n f };
+
+    ghost multi_some_fault = { λ s c ds is rows p n f. M.multi_some_fault s.now c ds is rows p n f };
 
     ghost one_fault = { λ s c ds i rows p e g f h. M.one_fault s.now c ds i rows p e g f h };
 

@@ -1,6 +1,6 @@
 //! Schemes that commit to multilinear polynomials.
 ghost use Rattle.std.specs.Prelude.{◌≡◌, ℕ, IfOk};
-ghost use Rattle.p3_commit.specs.Failure.{NoneOf, RefusedBy, IfRefused, VerifiedBy};
+ghost use Rattle.p3_commit.specs.Failure.{NoneOf, FaultUnless, RefusedBy, IfRefused, VerifiedBy};
 
 use crate::failure::PcsFailure;
 use p3_field::{
@@ -107,6 +107,9 @@ where
 
     // a proof that opens has no fault
     ghost opens_faultless: { (s : Self) (t : Challenger) (c : Self.Commitment) (o : Self.OpeningProtocol) (p : Self.Proof) → opens s t c o p → NoneOf (fault s t c o p) };
+
+    // one that doesn't has a first fault
+    ghost some_fault: { (s : Self) (t : Challenger) (c : Self.Commitment) (o : Self.OpeningProtocol) (p : Self.Proof) → FaultUnless (opens s t c o p) (fault s t c o p) };
 
     // the first fault is one
     ghost one_fault: { (s : Self) (t : Challenger) (c : Self.Commitment) (o : Self.OpeningProtocol) (p : Self.Proof) (e g : Self.Error) → fault s t c o p e → fault s t c o p g → e ≡ g };

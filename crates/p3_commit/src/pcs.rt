@@ -3,7 +3,7 @@ ghost use Rattle.std.specs.Prelude.{◌≡◌, ℕ, ◌^◌, ◌<◌, ◌≤◌,
 ghost use Rattle.std.specs.Int.{IsPowerOfTwo};
 ghost use Rattle.p3_matrix.specs.Matrix.{Rows};
 ghost use Rattle.p3_commit.specs.Claims.{CommitmentClaim, Request};
-ghost use Rattle.p3_commit.specs.Failure.{NoneOf, RefusedBy, IfRefused, VerifiedBy};
+ghost use Rattle.p3_commit.specs.Failure.{NoneOf, FaultUnless, RefusedBy, IfRefused, VerifiedBy};
 ghost use Rattle.p3_commit.specs.Commitments.{IsSubgroup, Committed, IsCommitment, Held, AreHeld, nested, AreClaims, IsOpening};
 
 use crate::claims::{CommitmentOpening, OpenedValues, OpeningRequest};
@@ -82,7 +82,8 @@ where
     // the first fault of a proof that doesn't
     ghost fault: { Self → Challenger → List (CommitmentClaim Challenge Self.Commitment Self.Domain) → Self.Proof → Self.Error → Type 0 };
 
-    /// The domain of shift one with `degree` points.
+    /// The subgroup with `degree` points, as the domain whose first point is one: point i is the i-th power of the field's
+    /// generator of that subgroup. `degree`, which counts points, must be a power of two and at most 2^`TWO_ADICITY`.
     fn natural_domain_for_degree(&self, degree: usize) -> Self::Domain
         requires power { IsPowerOfTwo degree }
         requires fits { degree ≤ 2 ^ Self.Val.TWO_ADICITY }
@@ -138,6 +139,9 @@ where
 
     // a proof that opens the claims has no fault
     ghost opens_faultless: { (s : Self) (t : Challenger) (claims : List (CommitmentClaim Challenge Self.Commitment Self.Domain)) (p : Self.Proof) → opens s t claims p → NoneOf (fault s t claims p) };
+
+    // one that doesn't open them has a first fault
+    ghost some_fault: { (s : Self) (t : Challenger) (claims : List (CommitmentClaim Challenge Self.Commitment Self.Domain)) (p : Self.Proof) → FaultUnless (opens s t claims p) (fault s t claims p) };
 
     // the first fault is one
     ghost one_fault: { (s : Self) (t : Challenger) (claims : List (CommitmentClaim Challenge Self.Commitment Self.Domain)) (p : Self.Proof) (e g : Self.Error) → fault s t claims p e → fault s t claims p g → e ≡ g };

@@ -64,8 +64,8 @@ impl<F> PeriodicLdeTable<F> {
         self.values.height()
     }
 
-    /// After how many groups of `pack_width` rows the groups repeat: the height over its greatest common divisor
-    /// with `pack_width`, and so 0 for an empty table.
+    /// After how many groups of `pack_width` rows the groups repeat, counted in groups and not in rows: the height over its
+    /// greatest common divisor with `pack_width`, and so 0 for an empty table. `pack_width` must not be 0.
     pub fn packed_group_period(&self, pack_width: usize) -> usize
         requires { 0 < pack_width }
         ensures { (g : ℕ) × IsGcd (height self.now) pack_width g × (result ≡ height self.now / g) }
@@ -74,7 +74,8 @@ impl<F> PeriodicLdeTable<F> {
         height / greatest_common_divisor(height, pack_width)
     }
 
-    /// The value of a column at a row, which may be past the last: it is taken modulo the height.
+    /// The value of column `col_idx` at row `lde_idx`, which may be past the last: it is taken modulo the height. The table
+    /// must have a row, and `col_idx` be below its width.
     pub fn get(&self, lde_idx: usize, col_idx: usize) -> &F
         requires filled { 0 < height self.now }
         requires column { col_idx < self.now.width }

@@ -85,7 +85,10 @@ where
         ensures committed { IfOk result (λ w. (chunks : List (Self.Domain × Rows Self.Val)) → AreExtensions (extends self.now) chunks ldes.items
             → IsCommitment Self.Val.ring Self.Domain.points Self.Domain.point_at (Self.commits self.now) (Self.made self.now) (Self.holds self.now) chunks w) };
 
-    /// The values of the polynomials of one committed matrix on a domain.
+    /// The values of the polynomials of one committed matrix on a domain: column j has the values of polynomial j, one for
+    /// each point, in the domain's order. `prover_data` must come from this scheme, and `idx`, the matrix's place in it, be
+    /// below its number of matrices; the domain may be any. Of prover data that `commit_ldes` made from other matrices than
+    /// the scheme's own extensions no values are promised. The only error is running out of memory.
     fn get_evaluations_on_domain(
         &self,
         alloc: Global,
@@ -98,7 +101,7 @@ where
         ensures { IfOk result (λ m. (commitment : Self.Commitment) (cs : List (Committed Self.Val)) (c : Committed Self.Val) → Self.holds self.now prover_data.now commitment cs → slice_get cs idx ≡ Some c
             → IsEvaluated Self.Val.ring (Self.Domain.points domain) (Self.Domain.point_at domain) c m) };
 
-    /// The same without masking.
+    /// The same without masking, under the same conditions.
     fn get_evaluations_on_domain_no_random(
         &self,
         alloc: Global,
@@ -152,10 +155,11 @@ where
         self.commit(alloc, evaluations)
     }
 
-    /// Commits to the parts of a quotient that is given by its values on a domain: part i has rows i, i + num_chunks,
-    /// i + 2 num_chunks and so on, on the part of the domain that begins at point i. It is refused exactly as
-    /// `get_quotient_ldes` of these parts is, and else as `commit_ldes` of its answer: so `Refused` comes exactly where
-    /// `quotient_fault` names a cause.
+    /// Commits to the parts of a quotient that is given by its values on a domain: part i has rows i, i + `num_chunks`,
+    /// i + 2 * `num_chunks` and so on, on the part of the domain that begins at point i, and is committed to as a matrix of
+    /// its own. There must be a row for each point, and `num_chunks` be a power of two and at most the number of points. It
+    /// is refused exactly as `get_quotient_ldes` of these parts is, and else as `commit_ldes` of its answer: so `Refused`
+    /// comes exactly where `quotient_fault` names a cause.
     final fn commit_quotient(
         &self,
         alloc: Global,
@@ -178,7 +182,10 @@ where
         self.commit_ldes(alloc, ldes)
     }
 
-    /// Opens as `open` does. The number is the place of the request whose commitment is that of preprocessed columns.
+    /// Opens as `open` does, with the same answers: `Refused` comes exactly where `open_fault` names a cause, and leaves the
+    /// challenger as it was. Nothing may be masked (`ZK` is false), and each request's prover data must come from this
+    /// scheme. `preprocessed_commitment` is the place among the requests, from 0, of that of preprocessed columns, or None;
+    /// it makes no difference here.
     final fn open_with_preprocessing(
         &self,
         alloc: Global,

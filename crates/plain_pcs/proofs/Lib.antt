@@ -10,3 +10,5 @@ mod ClaimFaults
 mod Places
 mod Heights
 mod Folding
+mod Bounds
+mod Binding

@@ -1,6 +1,7 @@
 pub mod Scheme
 pub mod Extension
 pub mod Checks
+pub mod Binding
 pub mod Holding
 pub mod Refusals
 pub mod Observing

@@ -1,5 +1,5 @@
 -- When the plain scheme refuses to commit, to extend or to open.
-use Rattle.std.specs.Prelude.{◌≡◌, ℕ, ◌+◌, ◌*◌, ◌^◌, ◌<◌, ◌≤◌, List, Result, Ok, Err, ⊤, length}
+use Rattle.std.specs.Prelude.{◌≡◌, ℕ, ◌+◌, ◌-◌, ◌*◌, ◌^◌, ◌<◌, ◌≤◌, List, Result, Ok, Err, ⊤, length}
 use Rattle.p3_field.specs.Checks.{IsFirstWithout}
 use Rattle.p3_field.specs.Domain.{CosetData}
 use Rattle.p3_matrix.specs.Matrix.{Rows, height}
@@ -15,6 +15,13 @@ use Rattle.plain_pcs.specs.declared.error.PlainProverError.TheVariants.{Commit, 
 abbrev pub CommitFault : {F : Type 0} → Scheme F → List (CosetData F × Rows F) → PlainProverError → Type 0
 CommitFault s evaluated (Commit i) = IsFirstWithout (λ e. IsCommittable s e.0 e.1) evaluated i
 CommitFault s evaluated (Open i) = ⊥
+
+-- A matrix of values on its domain is within the scheme's bounds: it has columns, a row for each point, and at most
+-- 2^(most - log_blowup) rows, as a trace may have.
+pub record IsWithinBounds {F : Type 0} (s : Scheme F) (e : CosetData F × Rows F) : Type 0 where
+  pub has_columns : 0 < e.1.width
+  pub height_is : height e.1 ≡ 2 ^ e.0.log_size
+  pub short : e.0.log_size ≤ s.most - s.log_blowup
 
 -- the field has a subgroup with as many elements as the matrix has rows
 abbrev pub HasSubgroupHeight : {F : Type 0} → ℕ → Rows F → Type 0

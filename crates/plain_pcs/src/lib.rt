@@ -11,6 +11,7 @@ mod error;
 mod evaluating;
 mod evaluations;
 mod extending;
+mod meanings;
 mod observing;
 mod opening;
 mod plain_mmcs;
@@ -22,6 +23,7 @@ mod verifying;
 pub use commitment::{PlainCommitment, PlainProof, PlainProverData};
 pub use committing::has_subgroup_height;
 pub use error::{PlainError, PlainProverError};
+pub use meanings::{nothing_is_refused_within_bounds, opened_claims_bind};
 pub use plain_mmcs::{PlainMmcs, PlainMmcsData, PlainMmcsError, PlainMmcsProof};
 pub use plain_multilinear::{
     PlainEvaluations, PlainMultilinear, PlainMultilinearError, PlainMultilinearProverError,

@@ -5,7 +5,7 @@ ghost use Rattle.p3_matrix.specs.Matrix.{Rows, height};
 ghost use Rattle.p3_commit.specs.Periodic.{IsGreatest, EachFrom};
 ghost use Rattle.p3_commit.specs.Batches.{lists, IsBatch, IsRowOf, HaveWidths};
 ghost use Rattle.p3_commit.specs.Failure.{VerifiedBy};
-ghost use Rattle.plain_pcs.specs.Laws.Faults.{opened_faultless, all_opened_faultless, one_opening_fault, one_fault_of_all};
+ghost use Rattle.plain_pcs.specs.Laws.Faults.{opened_faultless, all_opened_faultless, some_opening_fault, some_fault_of_all, one_opening_fault, one_fault_of_all};
 ghost use Rattle.plain_pcs.specs.PlainMmcs.{AreTheRows, HasShape, HaveShape, IsOpened, IsFault, AreOpened, IsFaultOfAll};
 
 use crate::rows::{are_dimensions, are_the_rows, have_widths, is_row, opened_rows};
@@ -189,6 +189,10 @@ impl<T: Copy + Eq> Mmcs<T> for PlainMmcs {
     ghost opens_faultless = { λ s c ds i rows p h. opened_faultless T.eq c.items ds i rows h };
 
     ghost multi_opens_faultless = { λ s c ds is rows p h. all_opened_faultless T.eq c.items ds is rows h };
+
+    ghost some_fault = { λ s c ds i rows p n f. some_opening_fault T.eq c.items ds i rows n f };
+
+    ghost multi_some_fault = { λ s c ds is rows p n f. some_fault_of_all T.eq c.items ds is rows n f };
 
     ghost one_fault = { λ s c ds i rows p e g f h. one_opening_fault T.eq c.items ds i rows e g f h };
 

@@ -4,7 +4,7 @@ ghost use Rattle.p3_commit.specs.Batches.{lists};
 ghost use Rattle.p3_commit.specs.Failure.{RefusedBy, IfRefused, VerifiedBy};
 ghost use Rattle.plain_pcs.specs.PlainMultilinear.{after_values, HasValues, HaveCoordinates, AreValuesAt, IsClaimFault, IsCommitFault, IsOpenFault};
 ghost use Rattle.plain_pcs.specs.Refusals.{IfWanting};
-ghost use Rattle.plain_pcs.specs.Laws.Claims.{claims_faultless, one_claim_fault, one_commit_cause, one_open_cause};
+ghost use Rattle.plain_pcs.specs.Laws.Claims.{claims_faultless, some_claim_fault, one_claim_fault, one_commit_cause, one_open_cause};
 
 use crate::evaluations::{first_different, first_unfit, observe_values, values_at};
 use p3_challenger::CanObserve;
@@ -222,6 +222,8 @@ impl<F: Field, EF: ExtensionField<F>, C: CanObserve<F>> MultilinearPcs<EF, C>
     ghost one_commit_fault = { λ s w e g f h. one_commit_cause s w.items e g f h };
 
     ghost one_open_fault = { λ s d o e g f h. one_open_cause s d.values.items (lists o.items) e g f h };
+
+    ghost some_fault = { λ s t c o p n f. some_claim_fault EF.ring EF.embed s c.values.items (lists o.items) p.items n f };
 
     ghost one_fault = { λ s t c o p e g. one_claim_fault EF.ring EF.embed s c.values.items (lists o.items) p.items e g };
 }

@@ -14,7 +14,7 @@ ghost use Rattle.plain_pcs.specs.Holding.{IsMade, AreHolding};
 ghost use Rattle.plain_pcs.specs.Refusals.{CommitFault, HasSubgroupHeight, ExtensionsFault, QuotientFault, OpenFault, IfWanting};
 ghost use Rattle.plain_pcs.specs.Laws.Scheme.{held_count, none_below_zero, not_hidden, difference_fits};
 ghost use Rattle.plain_pcs.specs.Laws.Quotients.{refused_by_parts, granted_by_parts};
-ghost use Rattle.plain_pcs.specs.Laws.Checks.{opens_faultless as faultless_where_opens, one_fault as first_fault_is_one};
+ghost use Rattle.plain_pcs.specs.Laws.Checks.{opens_faultless as faultless_where_opens, some_fault as fault_where_not, one_fault as first_fault_is_one};
 ghost use Rattle.plain_pcs.specs.Laws.Causes.{one_commit_cause, one_extensions_cause, one_quotient_cause, one_open_cause};
 
 use crate::commitment::{PlainCommitment, PlainProof, PlainProverData};
@@ -72,6 +72,14 @@ impl<F: TwoAdicField, D: TwoAdicSubgroupDft<F> + Drop> PlainPcs<F, D> {
 }
 
 impl<F: TwoAdicField, D> PlainPcs<F, D> {
+    /// Does nothing, and tells the caller's proof what every scheme meets, which a proof can't read from the type alone: the
+    /// logarithm of the blowup is at most the field's two-adicity.
+    pub fn valid(&self)
+        ensures { self.now.log_blowup ≤ F.TWO_ADICITY }
+    {
+        let _ = &self.log_blowup;
+    }
+
     /// Per column of the matrix of this number in a commitment the coefficients, lowest first and as many as rows, of its
     /// interpolant on the coset with shift GENERATOR and a point for each row. The matrix must exist, and its height be a
     /// power of two up to 2^`TWO_ADICITY`.
@@ -209,6 +217,8 @@ impl<F: TwoAdicField, D: TwoAdicSubgroupDft<F>, E: ExtensionField<F>, C> Pcs<E, 
     ghost holds_all = { λ s d c cs h. held_count h };
 
     ghost opens_faultless = { λ s t claims p o. faultless_where_opens (scheme F.ring F.inv F.root F.GENERATOR F.TWO_ADICITY s) E.ring E.embed claims o };
+
+    ghost some_fault = { λ s t claims p n f. fault_where_not (scheme F.ring F.inv F.root F.GENERATOR F.TWO_ADICITY s) E.ring E.embed claims n f };
 
     ghost one_fault = { λ s t claims p e g h k. first_fault_is_one (scheme F.ring F.inv F.root F.GENERATOR F.TWO_ADICITY s) E.ring E.embed claims e g h k };
 

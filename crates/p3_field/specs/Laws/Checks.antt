@@ -176,6 +176,14 @@ module _ {X R : Type 0} where
   none_of_items f (x ∷ xs) h =
       none_append (f zero x) (of_items (λ i. f (suc i)) xs) (h zero x refl) (none_of_items (λ i. f (suc i)) xs (λ i y q. h (suc i) y q))
 
+  pub none_at_item : (f : ℕ → X → List (Check R)) (xs : List X) (i : ℕ) (x : X) → slice_get xs i ≡ Some x → NoneFails (of_items f xs) → NoneFails (f i x)
+  unfolding of_items
+  none_at_item f [] i x q h = absurd cc
+  none_at_item f (y ∷ xs) zero x q h =
+      let same : y ≡ x = cc in
+      subst (λ z. NoneFails (f zero z)) same (none_before (f zero y) (of_items (λ j. f (suc j)) xs) h)
+  none_at_item f (y ∷ xs) (suc i) x q h = none_at_item (λ j. f (suc j)) xs i x q (none_behind (f zero y) (of_items (λ j. f (suc j)) xs) h)
+
   pub first_of_items : (f : ℕ → X → List (Check R)) (xs : List X) (i : ℕ) (x : X) (e : R) → slice_get xs i ≡ Some x
       → ((j : ℕ) (y : X) → j < i → slice_get xs j ≡ Some y → NoneFails (f j y)) → FirstFails (f i x) e → FirstFails (of_items f xs) e
   unfolding of_items

@@ -1,12 +1,12 @@
--- Checks that hold have no fault, and there is one first fault at most.
+-- Checks that hold have no fault, and others have exactly one first fault.
 use Rattle.std.proofs.Common.{◌≡◌, ℕ, List, [], zip}
 use Rattle.p3_field.specs.Ring.{Ring}
 use Rattle.p3_field.specs.Checks.{AreSingle, in_turn, of_items}
-use Rattle.p3_field.specs.Laws.Checks.{none_first, same_first, none_single, check_single, single_append, single_in_turn, single_of_items}
+use Rattle.p3_field.specs.Laws.Checks.{none_first, some_first, same_first, none_single, check_single, single_append, single_in_turn, single_of_items}
 use Rattle.p3_field.specs.Domain.{CosetData}
 use Rattle.p3_matrix.specs.Matrix.{Rows}
 use Rattle.p3_commit.specs.Claims.{PointClaim, MatrixClaim, CommitmentClaim}
-use Rattle.p3_commit.specs.Failure.{NoneOf}
+use Rattle.p3_commit.specs.Failure.{NoneOf, FaultUnless}
 use Rattle.plain_pcs.specs.Scheme.{Scheme, PlainCommitmentData}
 use Rattle.plain_pcs.specs.Checks.{HasDimensions, degree_check, value_check, point_checks, matrix_checks, round_checks, checks, Opens, Fault}
 use Rattle.plain_pcs.specs.declared.error.PlainError.{PlainError}
@@ -38,6 +38,10 @@ module _ {F E : Type 0} (s : Scheme F) (ring : Ring E) (embed : F → E) where
   -- claims that the commitments open have no fault
   pub opens_faultless : (claims : List (CommitmentClaim E (PlainCommitmentData F) (CosetData F))) → Opens s ring embed claims → NoneOf (Fault s ring embed claims)
   opens_faultless claims n = λ e f. none_first (checks s ring embed claims) e n f
+
+  -- others have a first fault
+  pub some_fault : (claims : List (CommitmentClaim E (PlainCommitmentData F) (CosetData F))) → FaultUnless (Opens s ring embed claims) (Fault s ring embed claims)
+  some_fault claims = λ n f. some_first (checks s ring embed claims) (checks_single claims) n f
 
   -- and the first fault is one
   pub one_fault : (claims : List (CommitmentClaim E (PlainCommitmentData F) (CosetData F))) (e g : PlainError) → Fault s ring embed claims e → Fault s ring embed claims g → e ≡ g

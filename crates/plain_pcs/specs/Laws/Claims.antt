@@ -1,9 +1,10 @@
--- Faults of claimed values: values that are right have none, and the first fault is one.
-use Rattle.std.proofs.Common.{◌≡◌, ℕ, List, [], ◌∷◌, ◌++◌, None, length, map, get_or, refl, ◌∙◌, ap}
-use Rattle.std.proofs.lemmas.List.{length-map}
+-- Faults of claimed values: values that are right have none, others have a first, and the first fault is one.
+use Rattle.std.proofs.Common.{◌≡◌, ℕ, List, [], ◌∷◌, ◌++◌, None, length, map, get_or, refl, sym, ◌∙◌, ap, subst, arith}
+use Rattle.std.proofs.lemmas.List.{length-map, get_or_default, ext_get_or}
 use Rattle.p3_field.specs.Ring.{Ring}
 use Rattle.p3_field.specs.Checks.{Check, check, NoneFails, in_turn, AreSingle}
-use Rattle.p3_field.specs.Laws.Checks.{none_first, same_first, same_failing, refusal_later, none_append, none_alone, none_by, none_single, check_single, single_append, single_in_turn}
+use Rattle.p3_field.specs.Laws.Checks.{none_first, some_first, same_first, same_failing, refusal_later, none_append, none_before, none_behind, none_alone, holds_alone, none_at, none_by, none_single, check_single, single_append, single_in_turn}
+use Rattle.p3_commit.specs.Failure.{FaultUnless}
 use Rattle.plain_pcs.specs.Multilinear.{multilinear_value}
 use Rattle.plain_pcs.specs.PlainMultilinear.{HasValues, HaveCoordinates, AreValuesAt, values_at, point_check, value_check, claim_checks, IsClaimFault, IsCommitFault, IsOpenFault}
 use Rattle.plain_pcs.specs.declared.plain_multilinear.PlainMultilinearError.{PlainMultilinearError}
@@ -35,6 +36,23 @@ module _ {F E : Type 0} (s : Ring E) (embed : F → E) (m : ℕ) (vs : List F) (
       (none_by (value_check s ys zs) (λ j. get_or ys j s.zero ≡ get_or zs j s.zero) (length points)
       (λ j b p. none_alone (check (Value j) (get_or ys j s.zero ≡ get_or zs j s.zero)) p) (λ j b. ap (λ l. get_or l j s.zero) h.values))))
 
+  -- claims that fail no check are right
+  values_of_none : NoneFails (claim_checks s embed m vs points ys) → AreValuesAt s embed m vs points ys
+  unfolding NoneFails
+  values_of_none n =
+      let pointed = in_turn (length points) (point_check m points) in
+      let lists = none_before pointed counted n.1 in
+      let behind = none_behind pointed counted n.1 in
+      let count : length ys ≡ length zs = behind.0 ∙ sym (length-map points (multilinear_value s (map embed vs))) in
+      record {
+        has_values = n.0;
+        coordinates = λ j d b.
+            subst (λ (x : List E). length x ≡ m) (get_or_default points j [] d b)
+            (holds_alone (check (PointLength j) (length (get_or points j []) ≡ m)) (none_at (point_check m points) (length points) j b lists));
+        values = ext_get_or s.zero ys zs count (λ j b.
+            holds_alone (check (Value j) (get_or ys j s.zero ≡ get_or zs j s.zero)) (none_at (value_check s ys zs) (length points) j (omega (arith, behind.0, b)) behind.1));
+      }
+
   claims_single : AreSingle (claim_checks s embed m vs points ys)
   claims_single =
       let pointed = in_turn (length points) (point_check m points) in
@@ -46,6 +64,9 @@ module _ {F E : Type 0} (s : Ring E) (embed : F → E) (m : ℕ) (vs : List F) (
 
   pub claims_faultless : AreValuesAt s embed m vs points ys → (e : PlainMultilinearError) → IsClaimFault s embed m vs points ys e → ⊥
   claims_faultless h e f = none_first (claim_checks s embed m vs points ys) e (claims_pass h) f
+
+  pub some_claim_fault : FaultUnless (AreValuesAt s embed m vs points ys) (IsClaimFault s embed m vs points ys)
+  some_claim_fault = λ n f. some_first (claim_checks s embed m vs points ys) claims_single (λ none. n (values_of_none none)) f
 
   pub one_claim_fault : (e g : PlainMultilinearError) → IsClaimFault s embed m vs points ys e → IsClaimFault s embed m vs points ys g → e ≡ g
   one_claim_fault e g f h = same_first (claim_checks s embed m vs points ys) e g claims_single f h

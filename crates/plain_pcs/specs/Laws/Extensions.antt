@@ -1,6 +1,8 @@
 -- Extensions by a transform on the subgroup, and their columns.
-use Rattle.std.proofs.Common.{◌≡◌, ℕ, ◌+◌, ◌^◌, ◌<◌, ◌≤◌, List, [], length, get_or, map, sym, ◌∙◌, ap, subst, arith}
+use Rattle.std.proofs.Common.{◌≡◌, ℕ, ◌+◌, ◌^◌, ◌<◌, ◌≤◌, List, [], Some, length, get_or, map, sym, ◌∙◌, ap, subst, arith}
+use Rattle.std.specs.Prelude.{slice_get}
 use Rattle.std.proofs.lemmas.List.{get_or-map, length-map}
+use Rattle.std.proofs.lemmas.Option.{slice_get_within}
 use Rattle.p3_field.specs.Ring.{RingLaws}
 use Rattle.p3_field.specs.Field.{FieldLaws, TwoAdicLaws}
 use Rattle.p3_field.specs.Poly.{Apart}
@@ -10,8 +12,11 @@ use Rattle.p3_field.specs.Laws.Tables.{length-table, get_or-table}
 use Rattle.p3_matrix.specs.Matrix.{Rows, FillsRows, height, column}
 use Rattle.p3_matrix.specs.Laws.Cells.{length-column}
 use Rattle.p3_dft.specs.Transform.{values_at, IsExtensionOf}
+use Rattle.p3_commit.specs.Commitments.{AreExtensions}
 use Rattle.plain_pcs.specs.Scheme.{Scheme}
-use Rattle.plain_pcs.specs.Extension.{columns, interpolant, extended_domain, extension_of, IsCommittable}
+use Rattle.plain_pcs.specs.Extension.{columns, interpolant, extended_domain, extension_of, IsCommittable, Extends}
+use Rattle.plain_pcs.specs.Refusals.{HasSubgroupHeight}
+use Rattle.plain_pcs.specs.Laws.Listed.{item_at}
 use Rattle.plain_pcs.specs.Laws.Shifted.{extension_shifted}
 use Rattle.plain_pcs.specs.Laws.Evaluations.{width-evaluations, height-evaluations, column-evaluations, evaluations_of_columns}
 
@@ -73,6 +78,14 @@ module _ {F : Type 0} (s : Scheme F) (L : RingLaws s.field.ring) (W : FieldLaws 
   height-extension d m C =
       let long = length-polynomials s d m in
       height-evaluations s.field (extended_domain s d.log_size) (polynomials s d m) (omega (arith, C.has_columns, long))
+
+  -- extensions have heights of subgroups
+  pub extended_height : (chunks : List (CosetData F × Rows F)) (ls : List (Rows F)) → AreExtensions (Extends s) chunks ls
+      → (i : ℕ) (l : Rows F) → slice_get ls i ≡ Some l → HasSubgroupHeight s.most l
+  extended_height chunks ls E i l q =
+      let (x, at) = item_at chunks i (let b = slice_get_within ls i l q in omega (arith, b, E.count)) in
+      let X = E.each i l q x at in
+      (x.0.log_size + s.log_blowup, X.committable.fits, ap (λ (v : Rows F). height v) X.extension_is ∙ height-extension x.0 x.1 X.committable)
 
   pub column-extension : (d : CosetData F) (m : Rows F) → IsCommittable s d m → (j : ℕ) → j < m.width
       → column s.field.ring.zero (extension_of s d m) j

@@ -5,7 +5,6 @@ use Rattle.std.specs.Int.{IsPowerOfTwo}
 use Rattle.std.proofs.Math.Nat.{mul_right_comm, mul-le-mul_right, le_of_mul-le-mul_right, pow-le-pow_right}
 use Rattle.std.proofs.lemmas.Nat.{pow-add, pow_pos}
 use Rattle.std.proofs.lemmas.Bool.{cases_lt}
-use Rattle.std.proofs.lemmas.Option.{slice_get_within}
 use Rattle.p3_field.specs.Ring.{RingLaws}
 use Rattle.p3_field.specs.Field.{FieldLaws, TwoAdicLaws}
 use Rattle.p3_field.specs.Domain.{CosetData}
@@ -21,7 +20,7 @@ use Rattle.plain_pcs.specs.Extension.{IsCommittable, Extends}
 use Rattle.p3_field.specs.Checks.{IsFirstWithout}
 use Rattle.plain_pcs.specs.Refusals.{CommitFault, ExtensionsFault, HasSubgroupHeight, QuotientFault}
 use Rattle.plain_pcs.specs.Laws.Listed.{item_at, lacking, earlier_has, first_lacking}
-use Rattle.plain_pcs.specs.Laws.Extensions.{height-extension}
+use Rattle.plain_pcs.specs.Laws.Extensions.{extended_height}
 use Rattle.plain_pcs.specs.declared.error.PlainProverError.{PlainProverError}
 use Rattle.plain_pcs.specs.declared.error.PlainProverError.TheVariants.{Commit, Open}
 
@@ -78,19 +77,12 @@ module _ {F : Type 0} (s : Scheme F) (d : CosetData F) (m : Rows F) (n : ℕ) (p
   ]
 
   module _ (L : RingLaws s.field.ring) (W : FieldLaws s.field.ring s.field.inv) (T : TwoAdicLaws s.field.ring s.most s.field.root) where
-    -- the extension of a part has a subgroup's height
-    extended_height : (ls : List (Rows F)) → AreExtensions (Extends s) parts ls → (i : ℕ) (l : Rows F) → slice_get ls i ≡ Some l → HasSubgroupHeight s.most l
-    extended_height ls E i l q =
-        let (x, at) = item_at parts i (let b = slice_get_within ls i l q in omega (arith, b, E.count)) in
-        let X = E.each i l q x at in
-        (x.0.log_size + s.log_blowup, X.committable.fits, ap (λ (v : Rows F). height v) X.extension_is ∙ height-extension s L W T x.0 x.1 X.committable)
-
     pub refused_by_parts : (e : PlainProverError) → FaultInTurn (CommitFault s parts) (AreExtensions (Extends s) parts) (ExtensionsFault s) e → QuotientFault s d n e
     refused_by_parts (Commit i) (inl f) = (first_named i f, too_large i f)
     refused_by_parts (Commit i) (inr f) =
         let (ls, E, g) = f.1 in
         let (l, q, lacks) = lacking (HasSubgroupHeight s.most) ls i g in
-        absurd (lacks (extended_height ls E i l q))
+        absurd (lacks (extended_height s L W T parts ls E i l q))
     refused_by_parts (Open i) (inl f) = f
     refused_by_parts (Open i) (inr f) = let (ls, E, g) = f.1 in g
 
