@@ -8,18 +8,22 @@ ghost use Rattle.p3_air.specs.declared.cells.ExtCell.{ExtCell};
 ghost use Rattle.p3_air.specs.CellValues.{CellValues, cell_in, ext_cell_in, reading_at, map_values, row_values_in, poly_reading, HaveDegrees};
 ghost use Rattle.p3_air.specs.Degree.{degree, full_degree, polynomial_degree, HasPeriod};
 ghost use Rattle.p3_air.specs.Maps.{reading_over, Keeps, AgreeOn};
-ghost use Rattle.p3_air.specs.Shape.{Shape, Declaration, ReadsIn, ReadsDeclared, declared_shape};
+ghost use Rattle.p3_air.specs.Shape.{Shape, Declaration, Declares, DeclaresExt, ReadsIn, ReadsDeclared, declared_shape};
 ghost use Rattle.p3_air.specs.RowCheck.{Row, row_reading};
 ghost use Rattle.p3_air.specs.Tree.{Tree, Reading, ev};
 
 use p3_field::RingCore;
 
-/// A tree has one value: two readings over one ring that agree on the cells that it reads give it the same (`same`). Its
-/// value goes along each map that keeps constants, sums, differences and products and takes the cells that it reads to one
-/// another (`along`); so along a map of rings the value's image is the value at the images (`image`).
+/// A tree has one value: two readings over one ring that agree on the cells that it reads give it the same (`same`), and so
+/// where it reads declared cells alone and they agree on these (`declared`). Its value goes along each map that keeps
+/// constants, sums, differences and products and takes the cells that it reads to one another (`along`); so along a map of
+/// rings the value's image is the value at the images (`image`).
 pub fn a_tree_has_one_value<F, E: RingCore, G: RingCore>()
     ensures same { (r : Ring E) (embed : F → E) (at second : Cell → E) (at_ext second_ext : ExtCell → E) (t : Tree F)
         → ReadsIn (λ c. at c ≡ second c) (λ c. at_ext c ≡ second_ext c) t
+        → ev (reading_over r embed at at_ext) t ≡ ev (reading_over r embed second second_ext) t }
+    ensures declared { (r : Ring E) (embed : F → E) (at second : Cell → E) (at_ext second_ext : ExtCell → E) (s : Shape) (t : Tree F)
+        → ((c : Cell) → Declares s c → at c ≡ second c) → ((c : ExtCell) → DeclaresExt s c → at_ext c ≡ second_ext c) → ReadsDeclared s t
         → ev (reading_over r embed at at_ext) t ≡ ev (reading_over r embed second second_ext) t }
     ensures along { (first : Reading F E) (second : Reading F G) (f : E → G) (t : Tree F)
         → Keeps first second f → AgreeOn first second f t → f (ev first t) ≡ ev second t }

@@ -15,7 +15,7 @@ use Rattle.p3_air.specs.declared.cells.ExtCell.{ExtCell}
 use Rattle.p3_air.specs.declared.cells.ExtCell.TheVariants.{Permutation, Challenge, Terminal}
 use Rattle.p3_air.specs.CellValues.{CellValues, cell_in, ext_cell_in, poly_reading, HaveDegrees}
 use Rattle.p3_air.specs.Degree.{degree, full_degree, cell_degree, ext_degree, polynomial_degree, HasPeriod}
-use Rattle.p3_air.specs.Laws.Maps.{reads_all}
+use Rattle.p3_air.specs.Laws.Maps.{reads_all, reads_more}
 use Rattle.p3_air.specs.Shape.{Shape, Declaration, Declares, DeclaresExt, ReadsIn, ReadsDeclared, declared_shape}
 use Rattle.p3_air.specs.Tree.{Tree, ev, constant, cell, ext_cell, sum, difference, product}
 
@@ -31,16 +31,6 @@ degree_is_full f g (product x y) h =
     let a = degree_is_full f g x (omega (arith, h)) in
     let b = degree_is_full f g y (omega (arith, h)) in
     omega (arith, h, a, b)
-
--- what one property of cells gives of another holds of what a tree reads
-pub reads_more : {F : Type 0} (P P' : Cell → Type 0) (Q Q' : ExtCell → Type 0) → ((c : Cell) → P c → P' c) → ((c : ExtCell) → Q c → Q' c)
-    → (t : Tree F) → ReadsIn P Q t → ReadsIn P' Q' t
-reads_more P P' Q Q' p q (constant x) h = tt
-reads_more P P' Q Q' p q (cell c) h = p c h
-reads_more P P' Q Q' p q (ext_cell c) h = q c h
-reads_more P P' Q Q' p q (sum x y) h = (reads_more P P' Q Q' p q x h.0, reads_more P P' Q Q' p q y h.1)
-reads_more P P' Q Q' p q (difference x y) h = (reads_more P P' Q Q' p q x h.0, reads_more P P' Q Q' p q y h.1)
-reads_more P P' Q Q' p q (product x y) h = (reads_more P P' Q Q' p q x h.0, reads_more P P' Q Q' p q y h.1)
 
 has_period : (s : Shape) (periods : List ℕ) → s.periodic ≤ length periods → (c : Cell) → Declares s c → HasPeriod periods c
 has_period s periods h (Main next column) d = tt
