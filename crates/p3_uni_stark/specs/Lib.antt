@@ -6,4 +6,6 @@ pub mod Kinds
 pub mod Point
 pub mod VerifierState
 pub mod ProverState
+pub mod FoldPolynomials
+pub mod PointCells
 pub mod Laws
