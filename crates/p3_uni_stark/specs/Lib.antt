@@ -7,5 +7,4 @@ pub mod Point
 pub mod VerifierState
 pub mod ProverState
 pub mod FoldPolynomials
-pub mod PointCells
 pub mod Laws
