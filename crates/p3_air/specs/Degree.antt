@@ -22,6 +22,15 @@ degree f g (sum x y) = max (degree f g x) (degree f g y)
 degree f g (difference x y) = max (degree f g x) (degree f g y)
 degree f g (product x y) = capped_sum (degree f g x) (degree f g y)
 
+-- the same without the stop
+abbrev pub full_degree : {F : Type 0} → (Cell → ℕ) → (ExtCell → ℕ) → Tree F → ℕ
+full_degree f g (constant x) = 0
+full_degree f g (cell c) = f c
+full_degree f g (ext_cell c) = g c
+full_degree f g (sum x y) = max (full_degree f g x) (full_degree f g y)
+full_degree f g (difference x y) = max (full_degree f g x) (full_degree f g y)
+full_degree f g (product x y) = full_degree f g x + full_degree f g y
+
 -- the degree of a node whose operands have these degrees
 abbrev pub node_degree : {F : Type 0} → (Cell → ℕ) → (ExtCell → ℕ) → List ℕ → Node F → ℕ
 node_degree f g ds (Constant x) = 0
@@ -72,6 +81,10 @@ ext_degree n Terminal = 0
 -- the degree of a tree's polynomial over n rows
 abbrev pub polynomial_degree : {F : Type 0} → ℕ → List ℕ → Tree F → ℕ
 polynomial_degree n periods tree = degree (cell_degree n periods) (ext_degree n) tree
+
+-- the same without the stop
+abbrev pub full_polynomial_degree : {F : Type 0} → ℕ → List ℕ → Tree F → ℕ
+full_polynomial_degree n periods tree = full_degree (cell_degree n periods) (ext_degree n) tree
 
 -- the cell is no periodic column past these periods
 abbrev pub HasPeriod : List ℕ → Cell → Type 0

@@ -10,3 +10,6 @@ pub mod RowCheck
 pub mod Recording
 pub mod Places
 pub mod Copying
+pub mod Maps
+pub mod CellValues
+pub mod Degrees

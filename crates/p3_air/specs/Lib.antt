@@ -11,4 +11,6 @@ pub mod Layout
 pub mod Placed
 pub mod Recording
 pub mod Copying
+pub mod Maps
+pub mod CellValues
 pub mod Laws

@@ -6,7 +6,7 @@
 //!
 //! The definitions that the contracts cite are in `specs/`: trees with their values (`Tree`), declared cells (`Shape`),
 //! degrees (`Degree`), what builders hold (`Symbolic`, `Recording`, `RowCheck`), layouts (`Layout`), the check of rows
-//! (`Check`) and gadgets (`Gadgets`, `Words`).
+//! (`Check`), gadgets (`Gadgets`, `Words`), values of trees along maps (`Maps`), and cells at a point (`CellValues`).
 #![tactic(auto)]
 
 mod base;
@@ -23,6 +23,7 @@ mod node;
 mod recorded;
 mod recorder;
 mod symbolic;
+pub mod trees;
 
 pub use base::{Air, BaseAir};
 pub use builder::{AirBuilder, ExtensionBuilder, InteractionBuilder, PermutationAirBuilder};

@@ -9,3 +9,4 @@ pub mod Codes
 pub mod FlatBatches
 pub mod Options
 pub mod OneItem
+pub mod Degrees

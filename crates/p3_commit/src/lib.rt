@@ -7,6 +7,7 @@
 
 mod claims;
 mod coset;
+mod degrees;
 mod domain;
 mod encoder;
 mod extension_mmcs;
@@ -31,6 +32,7 @@ pub use claims::{
     PointOpening,
 };
 pub use coset::CosetPcs;
+pub use degrees::{repeated_columns_have_degrees, selectors_have_degrees};
 pub use domain::{PolynomialSpace, are_disjoint};
 pub use encoder::{EncodeError, Encoder};
 pub use extension_mmcs::{ExtensionMmcs, ExtensionMmcsData};

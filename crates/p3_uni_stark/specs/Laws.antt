@@ -3,3 +3,5 @@ pub mod Folders
 pub mod Weights
 pub mod Kinds
 pub mod Parts
+pub mod FoldPolynomials
+pub mod Point

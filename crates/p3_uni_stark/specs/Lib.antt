@@ -6,4 +6,5 @@ pub mod Kinds
 pub mod Point
 pub mod VerifierState
 pub mod ProverState
+pub mod FoldPolynomials
 pub mod Laws

@@ -1,10 +1,8 @@
 -- What a folder reads at one point: the values of the cells there. After Plonky3's p3-uni-stark (the constraint
 -- folders).
-use Rattle.std.specs.Prelude.{true, false, List, length, map, nat_lt}
-use Rattle.std.specs.Prelude.{slice_index_or}
-use Rattle.p3_field.specs.Ring.{Ring, sub}
-use Rattle.p3_air.specs.declared.cells.Cell.{Cell}
-use Rattle.p3_air.specs.declared.cells.Cell.TheVariants.{Main, Preprocessed, Periodic, Public, FirstRow, LastRow, Transition}
+use Rattle.std.specs.Prelude.{List, [], ◌∷◌, length, map, nat_lt}
+use Rattle.p3_field.specs.Ring.{Ring}
+use Rattle.p3_air.specs.CellValues.{CellValues, reading_at}
 use Rattle.p3_air.specs.Shape.{Shape}
 use Rattle.p3_air.specs.Tree.{Reading}
 
@@ -21,22 +19,28 @@ pub record PointValues (F E : Type 0) : Type 0 where
   pub last_row : E
   pub transition : E
 
--- the value of a cell, where public values go into E by `embed`; a cell that isn't there reads as zero
-abbrev pub cell_value : {F E : Type 0} → E → (F → E) → PointValues F E → Cell → E
-cell_value z embed p (Main true n) = slice_index_or p.main_next n z
-cell_value z embed p (Main false n) = slice_index_or p.main_local n z
-cell_value z embed p (Preprocessed true n) = slice_index_or p.preprocessed_next n z
-cell_value z embed p (Preprocessed false n) = slice_index_or p.preprocessed_local n z
-cell_value z embed p (Periodic n) = slice_index_or p.periodic n z
-cell_value z embed p (Public n) = slice_index_or (map embed p.public) n z
-cell_value z embed p FirstRow = p.first_row
-cell_value z embed p LastRow = p.last_row
-cell_value z embed p Transition = p.transition
+-- This as a value of each cell, where public values go into E by `embed`. A table without lookups has no permutation columns and no
+-- challenges, and its terminal is the empty sum: cells of the extension read as zero.
+abbrev pub point_cells : {F E : Type 0} → E → (F → E) → PointValues F E → CellValues E
+point_cells zero embed p = record {
+  main_local = p.main_local;
+  main_next = p.main_next;
+  preprocessed_local = p.preprocessed_local;
+  preprocessed_next = p.preprocessed_next;
+  periodic = p.periodic;
+  public_values = map embed p.public;
+  first_row = p.first_row;
+  last_row = p.last_row;
+  transition = p.transition;
+  permutation_local = [];
+  permutation_next = [];
+  challenges = [];
+  terminals = zero ∷ [];
+}
 
--- the reading of constraints at the point. A table without lookups has no permutation columns and no challenges, and
--- its terminal is the empty sum: cells of the extension read as zero.
+-- the reading of constraints at the point; a cell that isn't there reads as zero
 abbrev pub reading : {F E : Type 0} → Ring E → (F → E) → PointValues F E → Reading F E
-reading s embed p = record { from = embed; add = s.add; sub = sub s; mul = s.mul; at = cell_value s.zero embed p; at_ext = λ _. s.zero }
+reading r embed p = reading_at r embed (point_cells r.zero embed p)
 
 -- the cells that are there: a next row's column where that row has it, and the terminal
 abbrev pub point_shape : {F E : Type 0} → PointValues F E → Shape

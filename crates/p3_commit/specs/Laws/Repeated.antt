@@ -9,7 +9,7 @@ use Rattle.std.proofs.Math.Seq.{get_or-append_right}
 use Rattle.p3_field.specs.Ring.{Ring, RingLaws, pow}
 use Rattle.p3_field.specs.Field.{RingHom, TwoAdicLaws}
 use Rattle.p3_field.specs.Poly.{val, raise}
-use Rattle.p3_field.specs.Domain.{CosetData, coset_point, point}
+use Rattle.p3_field.specs.Domain.{CosetData, IsInterpolant, coset_point, point}
 use Rattle.p3_field.specs.Laws.Values.{val_raise}
 use Rattle.p3_field.specs.Laws.Extended.{map_raise}
 use Rattle.p3_field.specs.Laws.Roots.{NoZeroDivisors}
@@ -73,6 +73,20 @@ module _ {A : Type 0} (r : Ring A) (L : RingLaws r) where
       ap (λ v. r.add c (r.mul x v)) (val_raise r L j (spread r j cs) x ∙ ap (r.mul (pow r x j)) (val_spread j cs x))
       ∙ ap (r.add c) (sym (L.mul_assoc x (pow r x j) G))
 
+  -- where the m-th powers of the points go round the period's points, the whole's interpolant is that of the period in X^m
+  pub spread_interpolates : (p q : ℕ → A) (n j : ℕ) (column g : List A) → n ≡ suc j * length column → 0 < length column
+      → ((i : ℕ) → i < n → pow r (p i) (suc j) ≡ q (i % length column)) → IsInterpolant r q column g → IsInterpolant r p (over_rows n column) (spread r j g)
+  spread_interpolates p q n j column g e pos round G =
+      let long = length_over_rows n (suc j) column e pos in
+      record {
+        length_is = length_spread j g ∙ (ap (λ k. suc j * k) G.length_is ∙ (sym e ∙ sym long));
+        value_is = λ i h.
+            let below : i < n = omega (arith, long) in
+            let inside : i % length column < length column = omega arith in
+            val_spread j g (p i) ∙ (ap (val r g) (round i below) ∙ (G.value_is (i % length column) inside
+            ∙ sym (get_or_over_rows n (suc j) column i r.zero e pos below)));
+      }
+
 module _ {A B : Type 0} (r : Ring A) (L : RingLaws r) (s : Ring B) (M : RingLaws s) (f : A → B) (H : RingHom r s f) where
   map_spread : (j : ℕ) (g : List A) → map f (spread r j g) ≡ spread s j (map f g)
   map_spread j [] = refl
@@ -85,17 +99,9 @@ module _ {A B : Type 0} (r : Ring A) (L : RingLaws r) (s : Ring B) (M : RingLaws
       → IsInterpolatedAt r s f q column (pow s x (suc j)) y → IsPeriodicAt r s f n p x column y
   periodic_value p q n j column x y e pos round I =
       let g = I.interpolant in
-      let long = length_over_rows n (suc j) column e pos in
       record {
         interpolant = spread r j g;
-        interpolates = record {
-          length_is = length_spread r L j g ∙ (ap (λ k. suc j * k) I.interpolates.length_is ∙ (sym e ∙ sym long));
-          value_is = λ i h.
-              let below : i < n = omega (arith, long) in
-              let inside : i % length column < length column = omega arith in
-              val_spread r L j g (p i) ∙ (ap (val r g) (round i below) ∙ (I.interpolates.value_is (i % length column) inside
-              ∙ sym (get_or_over_rows n (suc j) column i r.zero e pos below)));
-        };
+        interpolates = spread_interpolates r L p q n j column g e pos round I.interpolates;
         value_is = I.value_is ∙ sym (ap (λ l. val s l x) (map_spread j g) ∙ val_spread s M j (map f g) x);
       }
 
