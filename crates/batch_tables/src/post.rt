@@ -72,6 +72,8 @@ impl<F: Field> BaseAir<F> for PostAir<F> {
 
     ghost has_columns = { λ _. Prim.search rules };
 
+    ghost whole_rows = { λ _. Prim.search rules };
+
     ghost next_below = { λ _. Prim.search rules };
 
     ghost preprocessed_next_below = { λ _. Prim.search rules };

@@ -96,6 +96,8 @@ impl<F: Field> BaseAir<F> for SwapAir {
 
     ghost has_columns = { λ _. tt };
 
+    ghost whole_rows = { λ _. tt };
+
     ghost next_below = { λ _. Prim.search rules };
 
     ghost preprocessed_next_below = { λ _. Prim.search rules };

@@ -1,10 +1,12 @@
 pub mod Tree
 pub mod Shape
 pub mod Symbolic
+pub mod Operation
 pub mod Asserting
 pub mod Degree
 pub mod Gadgets
 pub mod Words
+pub mod PointValues
 pub mod RowCheck
 pub mod Check
 pub mod Layout

@@ -6,6 +6,7 @@ use Rattle.p3_air.specs.declared.layout.AirLayout.{AirLayout}
 use Rattle.p3_air.specs.declared.node.Node.{Node}
 use Rattle.p3_air.specs.declared.recorded.Assertion.{Assertion}
 use Rattle.p3_air.specs.Tree.{Tree, Asserted, Interaction, Bus, local, global}
+use Rattle.p3_air.specs.Operation.{Operation, tree_by}
 use Rattle.p3_air.specs.Symbolic.{tree_at, Ordered}
 use Rattle.p3_air.specs.Placed.{Placed}
 use Rattle.p3_air.specs.Layout.{Ascends}
@@ -78,6 +79,14 @@ pub record Grows {F : Type 0} (a b : Recording F) (ts : List (Asserted F)) (is :
 -- the first node, the constant zero.
 abbrev pub known_place : ℕ → ℕ → ℕ
 known_place n x = cond (nat_lt x n) x 0
+
+-- the tree that an expression is read as: one that is not among the nodes is the constant zero
+abbrev pub known_tree : {F : Type 0} → List (Node F) → ℕ → Tree F
+known_tree ns x = tree_at ns (known_place (length ns) x)
+
+-- in the second recording the last expression has the tree of this operation on the others, read in the first
+abbrev pub Computes : {F : Type 0} → Recording F → Operation → ℕ → ℕ → Recording F → ℕ → Type 0
+Computes a op x y b e = StandsAt b.nodes e (tree_by op (known_tree a.nodes x) (known_tree a.nodes y))
 
 -- The recording after this expression was asserted: one that is not among its nodes is asserted as the constant zero.
 abbrev pub asserting : {F : Type 0} → Recording F → ℕ → Bool → Recording F

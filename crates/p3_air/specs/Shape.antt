@@ -3,7 +3,7 @@
 use Rattle.std.specs.Prelude.{◌≡◌, ℕ, ◌<◌, ◌≤◌, ◌%◌, ◌==◌, Bool, true, IsTrue, List, length, All}
 use Rattle.std.specs.Prelude.{Option, Some, None}
 use Rattle.std.specs.List.{list_any}
-use Rattle.p3_matrix.specs.Matrix.{Rows}
+use Rattle.p3_matrix.specs.Matrix.{Rows, FillsRows}
 use Rattle.p3_air.specs.declared.cells.Cell.{Cell}
 use Rattle.p3_air.specs.declared.cells.Cell.TheVariants.{Main, Preprocessed, Periodic, Public, FirstRow, LastRow, Transition}
 use Rattle.p3_air.specs.declared.cells.ExtCell.{ExtCell}
@@ -68,6 +68,11 @@ width_of (Some m) = m.width
 abbrev pub HasColumns : {F : Type 0} → Option (Rows F) → Type 0
 HasColumns None = Unit {0}
 HasColumns (Some m) = 0 < m.width
+
+-- the values of a preprocessed trace fill whole rows
+abbrev pub HasWholeRows : {F : Type 0} → Option (Rows F) → Type 0
+HasWholeRows None = Unit {0}
+HasWholeRows (Some m) = FillsRows m.values m.width
 
 -- the number is one of the list
 abbrev pub has : List ℕ → ℕ → Bool

@@ -1,6 +1,6 @@
 -- What the gadgets' trees mean: words of 32 bits as numbers, given by limbs of 16 bits or by bits, the lowest first,
 -- and elements of a prime field that stand for these. The rules are those of Plonky3's p3-air (utils).
-use Rattle.std.specs.Prelude.{◌≡◌, ℕ, zero, suc, ◌+◌, ◌*◌, ◌/◌, ◌%◌, ◌^◌, ◌<◌, List, All, bit_xor, ◌↔◌}
+use Rattle.std.specs.Prelude.{◌≡◌, ℕ, zero, suc, ◌+◌, ◌*◌, ◌/◌, ◌%◌, ◌^◌, ◌<◌, List, All, bit_xor, ◌↔◌, ◌⊎◌}
 use Rattle.std.specs.Int.{rotate_left, bit_at}
 use Rattle.std.specs.Int.{w32}
 use Rattle.p3_field.specs.Ring.{Ring, RingLaws, of_nat, sub}
@@ -8,8 +8,8 @@ use Rattle.p3_field.specs.Field.{FieldLaws}
 use Rattle.p3_field.specs.Poly.{total}
 use Rattle.p3_air.specs.declared.cells.Cell.{Cell}
 use Rattle.p3_air.specs.declared.cells.ExtCell.{ExtCell}
-use Rattle.p3_air.specs.Tree.{Tree, Reading, ev}
-use Rattle.p3_air.specs.Gadgets.{add2_trees, add3_trees, packed, xor_shift_trees}
+use Rattle.p3_air.specs.Tree.{Tree, Reading, ev, bool_tree}
+use Rattle.p3_air.specs.Gadgets.{add2_trees, add3_trees, packed, xor_tree, xor_shift_trees}
 
 -- a prime field as data: each element is the sum of as many ones as its canonical number, which is below the order
 pub record PrimeFieldLaws {A : Type 0} (r : Ring A) (inv : A → A) (order : ℕ) (canonical : A → ℕ) : Type 0 where
@@ -95,3 +95,23 @@ PackSums {A} r rd = (t : ℕ → Tree A) (n : ℕ) → ev rd (packed r t 0 n) �
 -- The bits of a word are bits, and the word is the number of its bits.
 abbrev pub BitsMean : ℕ → Type 0
 BitsMean w = AreBits (bit_at w) × (bits_word (bit_at w) ≡ w)
+
+-- zero or one
+abbrev pub IsBit : {A : Type 0} → Ring A → A → Type 0
+IsBit r x = (x ≡ r.zero) ⊎ (x ≡ r.one)
+
+-- The tree of `assert_bool` is zero exactly where the value is zero or one.
+abbrev pub BoolMeans : {A : Type 0} → Ring A → Reading A A → Type 0
+BoolMeans {A} r rd = (t : Tree A) → (ev rd (bool_tree r.one t) ≡ r.zero) ↔ IsBit r (ev rd t)
+
+-- The tree of `xor` is, of bits as numbers, the number of their exclusive or.
+abbrev pub XorMeans : {A : Type 0} → Ring A → Reading A A → Type 0
+XorMeans {A} r rd = (s t : Tree A) (m n : ℕ) → m < 2 → n < 2 → ev rd s ≡ of_nat r m → ev rd t ≡ of_nat r n → ev rd (xor_tree r s t) ≡ of_nat r (bit_xor m n)
+
+-- z is zero and x and y are equal, or z is one and they differ
+abbrev pub Tells : {A : Type 0} → Ring A → (x y z : A) → Type 0
+Tells r x y z = ((x ≡ y) × (z ≡ r.zero)) ⊎ ((x ≡ y → ⊥) × (z ≡ r.one))
+
+-- The tree of `xor` is, of values that are zero or one, zero where they are equal and else one.
+abbrev pub XorTells : {A : Type 0} → Ring A → Reading A A → Type 0
+XorTells {A} r rd = (s t : Tree A) → IsBit r (ev rd s) → IsBit r (ev rd t) → Tells r (ev rd s) (ev rd t) (ev rd (xor_tree r s t))

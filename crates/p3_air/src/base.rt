@@ -1,6 +1,6 @@
 //! AIRs: what a table declares of itself, and its constraints.
 ghost use Rattle.std.specs.Prelude.{◌≡◌, ℕ, ◌<◌, List, Some, IfOk, OnErr, IsOk, IsTrue, length, map, All};
-ghost use Rattle.p3_air.specs.Shape.{Declaration, Fits, HasColumns, declared_shape, width_of, ReadsDeclared, IsInteraction};
+ghost use Rattle.p3_air.specs.Shape.{Declaration, Fits, HasColumns, HasWholeRows, declared_shape, width_of, ReadsDeclared, IsInteraction};
 ghost use Rattle.p3_air.specs.Tree.{Tree, Interaction, SomeFirst, over_base};
 
 use crate::builder::InteractionBuilder;
@@ -55,6 +55,9 @@ pub trait BaseAir<F: FieldCore> {
 
     // A preprocessed trace has at least one column.
     ghost has_columns: { (a : Self) → HasColumns (declaration a).preprocessed };
+
+    // The values of a preprocessed trace fill whole rows.
+    ghost whole_rows: { (a : Self) → HasWholeRows (declaration a).preprocessed };
 
     // The next row is declared only in columns that the main trace has.
     ghost next_below: { (a : Self) → All (λ c. c < (declaration a).width) (declaration a).main_next };

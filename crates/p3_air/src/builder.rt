@@ -3,7 +3,8 @@ ghost use Rattle.std.specs.Prelude.{◌≡◌, ℕ, ◌+◌, ◌*◌, ◌^◌, �
 ghost use prog.Memory.{size, align};
 ghost use denote.Param.{layout};
 ghost use Rattle.p3_air.specs.Shape.{Shape, Declares, DeclaresExt};
-ghost use Rattle.p3_air.specs.Asserting.{AssertsOne, AssertsEach, AssertsFirst};
+ghost use Rattle.p3_air.specs.Asserting.{AssertsOne, AssertsEach, AssertsFirst, ComputesBool};
+ghost use Rattle.p3_air.specs.Operation.{Operation, plus, minus, times, tree_by};
 ghost use Rattle.p3_air.specs.Tree.{Tree, Asserted, Interaction, Bus, Stand, StandCount, SomeFirst, constant as constant_tree, cell as cell_tree, ext_cell as ext_cell_tree, sum, difference, product, bool_tree, over_base, over_extension, local, global};
 ghost use Rattle.p3_air.specs.declared.cells.Count.{Count as CountOf};
 
@@ -17,8 +18,8 @@ use p3_field::{FieldCore, Mem, RingCore};
 /// no builder need keep them. `grows` says what a state has in the two lists beyond an earlier one. On an error a call
 /// has appended nothing, or, of several constraints, some of the first (`refused`, `some`).
 ///
-/// An expression may stand for no tree, as one that some other builder gave. `asserts` says what asserting it does all
-/// the same: each builder says by it what exactly the state is then.
+/// An expression may stand for no tree, as one that some other builder gave. `computes` and `asserts` say what an
+/// operation on it gives and what asserting it does all the same: each builder says by them what exactly that is.
 pub trait AirBuilder {
     /// The field of the trace.
     type F: FieldCore;
@@ -37,6 +38,10 @@ pub trait AirBuilder {
 
     // The second state is the first one after exactly this expression was asserted, whatever it stands for.
     ghost asserts: { Self → Self.Expr → Self → Type 0 };
+
+    // In the second state the last expression is what this operation on the others gives, which are read in the first
+    // state, whatever they stand for.
+    ghost computes: { Self → Operation → Self.Expr → Self.Expr → Self → Self.Expr → Type 0 };
 
     // The cells that are declared. No call changes them.
     ghost shape: { Self → Shape };
@@ -70,6 +75,7 @@ pub trait AirBuilder {
         ensures grows { grows self.old self.new [] [] }
         ensures answers { IsTrue never_fails → IsOk result }
         ensures sure { IsTrue only_asserting_fails → IsOk result }
+        ensures computes { IfOk result (λ e. computes self.old plus x y self.new e) }
         ensures stands { (s t : Tree Self.F) → stands self.old x s → stands self.old y t → IfOk result (λ e. stands self.new e (sum s t)) };
 
     /// The difference x - y.
@@ -78,6 +84,7 @@ pub trait AirBuilder {
         ensures grows { grows self.old self.new [] [] }
         ensures answers { IsTrue never_fails → IsOk result }
         ensures sure { IsTrue only_asserting_fails → IsOk result }
+        ensures computes { IfOk result (λ e. computes self.old minus x y self.new e) }
         ensures stands { (s t : Tree Self.F) → stands self.old x s → stands self.old y t → IfOk result (λ e. stands self.new e (difference s t)) };
 
     /// The product x * y.
@@ -86,6 +93,7 @@ pub trait AirBuilder {
         ensures grows { grows self.old self.new [] [] }
         ensures answers { IsTrue never_fails → IsOk result }
         ensures sure { IsTrue only_asserting_fails → IsOk result }
+        ensures computes { IfOk result (λ e. computes self.old times x y self.new e) }
         ensures stands { (s t : Tree Self.F) → stands self.old x s → stands self.old y t → IfOk result (λ e. stands self.new e (product s t)) };
 
     /// Asserts that x is zero in every row.
@@ -103,7 +111,7 @@ pub trait AirBuilder {
         ensures same { shape self.new ≡ shape self.old }
         ensures answers { IsTrue never_fails → IsOk result }
         ensures grows { (s t : Tree Self.F) → stands self.old x s → stands self.old y t → IfOk result (λ _. grows self.old self.new (over_base (difference s t) ∷ []) []) }
-        ensures asserts { IfOk result (λ _. AssertsOne (λ a b. grows a b [] []) asserts self.old self.new) }
+        ensures asserts { IfOk result (λ _. AssertsOne (λ m e. grows self.old m [] [] × computes self.old minus x y m e) asserts self.new) }
         ensures refused { OnErr result (grows self.old self.new [] []) }
     {
         let difference = self.sub(x, y)?;
@@ -116,7 +124,7 @@ pub trait AirBuilder {
         ensures same { shape self.new ≡ shape self.old }
         ensures answers { IsTrue never_fails → IsOk result }
         ensures grows { (t : Tree Self.F) → stands self.old x t → IfOk result (λ _. grows self.old self.new (over_base (bool_tree Self.F.ring.one t) ∷ []) []) }
-        ensures asserts { IfOk result (λ _. AssertsOne (λ a b. grows a b [] []) asserts self.old self.new) }
+        ensures asserts { IfOk result (λ _. AssertsOne (λ m e. grows self.old m [] [] × ComputesBool stands computes Self.F.ring.one x m e) asserts self.new) }
         ensures refused { OnErr result (grows self.old self.new [] []) }
     {
         let one = self.constant(<Self::F as RingCore>::ONE)?;
@@ -148,8 +156,8 @@ pub trait AirBuilder {
         ensures answers { IsTrue never_fails → IsOk result }
         ensures grows { (ts : List (Tree Self.F)) → Stand (stands self.old) xs.now ts → IfOk result (λ _. grows self.old self.new (map over_base (map (bool_tree Self.F.ring.one) ts)) []) }
         ensures refused { (ts : List (Tree Self.F)) → Stand (stands self.old) xs.now ts → OnErr result (SomeFirst (grows self.old self.new) (map over_base (map (bool_tree Self.F.ring.one) ts)) []) }
-        ensures asserts { IfOk result (λ _. AssertsEach (λ a x b. AssertsOne (λ c d. grows c d [] []) asserts a b) xs.now self.old self.new) }
-        ensures some { OnErr result (AssertsFirst (λ a b. grows a b [] []) (λ a x b. AssertsOne (λ c d. grows c d [] []) asserts a b) xs.now self.old self.new) }
+        ensures asserts { IfOk result (λ _. AssertsEach (λ a x b. AssertsOne (λ m e. grows a m [] [] × ComputesBool stands computes Self.F.ring.one x m e) asserts b) xs.now self.old self.new) }
+        ensures some { OnErr result (AssertsFirst (λ a b. grows a b [] []) (λ a x b. AssertsOne (λ m e. grows a m [] [] × ComputesBool stands computes Self.F.ring.one x m e) asserts b) xs.now self.old self.new) }
     {
         for x in xs {
             self.assert_bool(*x)?;
@@ -175,6 +183,12 @@ pub trait AirBuilder {
 
     ghost grows_along: { (a b c : Self) (s t : List (Asserted Self.F)) (i j : List (Interaction Self.F)) → grows a b s i → grows b c t j → grows a c (s ++ t) (i ++ j) };
 
+    // A builder no call of which fails has none that fails but those that assert.
+    ghost never_fails_sure: { IsTrue never_fails → IsTrue only_asserting_fails };
+
+    // What operations on expressions that stand for trees give stands for the operation's tree.
+    ghost computes_stands: { (a b : Self) → later a b → (op : Operation) (x y e : Self.Expr) (s t : Tree Self.F) → stands a x s → stands a y t → computes a op x y b e → stands b e (tree_by op s t) };
+
     // What is asserted is the tree that it stands for.
     ghost asserts_grows: { (a b : Self) (x : Self.Expr) (t : Tree Self.F) → stands a x t → asserts a x b → grows a b (over_base t ∷ []) [] };
 }
@@ -190,12 +204,21 @@ pub trait ExtensionBuilder: AirBuilder {
     // The second state is the first one after exactly this expression of the extension was asserted.
     ghost asserts_ext: { Self → Self.ExprEF → Self → Type 0 };
 
+    // In the second state the last expression is what this operation on the others gives, which are read in the first
+    // state, whatever they stand for.
+    ghost computes_ext: { Self → Operation → Self.ExprEF → Self.ExprEF → Self → Self.ExprEF → Type 0 };
+
+    // In the second state the expression of the extension is the first one as one of the extension, read in the first
+    // state, whatever it stands for.
+    ghost lifts: { Self → Self.Expr → Self → Self.ExprEF → Type 0 };
+
     /// An expression of the base as one of the extension: the same tree.
     fn lift(&mut self, x: Self::Expr) -> Mem<Self::ExprEF>
         ensures same { Self.shape self.new ≡ Self.shape self.old }
         ensures grows { Self.grows self.old self.new [] [] }
         ensures answers { IsTrue Self.never_fails → IsOk result }
         ensures sure { IsTrue Self.only_asserting_fails → IsOk result }
+        ensures lifts { IfOk result (λ e. lifts self.old x self.new e) }
         ensures stands { (t : Tree Self.F) → Self.stands self.old x t → IfOk result (λ e. stands_ext self.new e t) };
 
     /// The sum x + y.
@@ -204,6 +227,7 @@ pub trait ExtensionBuilder: AirBuilder {
         ensures grows { Self.grows self.old self.new [] [] }
         ensures answers { IsTrue Self.never_fails → IsOk result }
         ensures sure { IsTrue Self.only_asserting_fails → IsOk result }
+        ensures computes { IfOk result (λ e. computes_ext self.old plus x y self.new e) }
         ensures stands { (s t : Tree Self.F) → stands_ext self.old x s → stands_ext self.old y t → IfOk result (λ e. stands_ext self.new e (sum s t)) };
 
     /// The difference x - y.
@@ -212,6 +236,7 @@ pub trait ExtensionBuilder: AirBuilder {
         ensures grows { Self.grows self.old self.new [] [] }
         ensures answers { IsTrue Self.never_fails → IsOk result }
         ensures sure { IsTrue Self.only_asserting_fails → IsOk result }
+        ensures computes { IfOk result (λ e. computes_ext self.old minus x y self.new e) }
         ensures stands { (s t : Tree Self.F) → stands_ext self.old x s → stands_ext self.old y t → IfOk result (λ e. stands_ext self.new e (difference s t)) };
 
     /// The product x * y.
@@ -220,6 +245,7 @@ pub trait ExtensionBuilder: AirBuilder {
         ensures grows { Self.grows self.old self.new [] [] }
         ensures answers { IsTrue Self.never_fails → IsOk result }
         ensures sure { IsTrue Self.only_asserting_fails → IsOk result }
+        ensures computes { IfOk result (λ e. computes_ext self.old times x y self.new e) }
         ensures stands { (s t : Tree Self.F) → stands_ext self.old x s → stands_ext self.old y t → IfOk result (λ e. stands_ext self.new e (product s t)) };
 
     /// Asserts that x is zero in every row.
@@ -236,6 +262,12 @@ pub trait ExtensionBuilder: AirBuilder {
 
     // What stands for a tree in a state stands for it in every later state.
     ghost persists_ext: { (a b : Self) → Self.later a b → (e : Self.ExprEF) (t : Tree Self.F) → stands_ext a e t → stands_ext b e t };
+
+    // What operations on expressions that stand for trees give stands for the operation's tree.
+    ghost computes_ext_stands: { (a b : Self) → Self.later a b → (op : Operation) (x y e : Self.ExprEF) (s t : Tree Self.F) → stands_ext a x s → stands_ext a y t → computes_ext a op x y b e → stands_ext b e (tree_by op s t) };
+
+    // What is lifted keeps its tree.
+    ghost lifts_stands: { (a b : Self) → Self.later a b → (x : Self.Expr) (e : Self.ExprEF) (t : Tree Self.F) → Self.stands a x t → lifts a x b e → stands_ext b e t };
 
     // What is asserted is the tree that it stands for.
     ghost asserts_ext_grows: { (a b : Self) (x : Self.ExprEF) (t : Tree Self.F) → stands_ext a x t → asserts_ext a x b → Self.grows a b (over_extension t ∷ []) [] };

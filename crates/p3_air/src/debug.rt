@@ -4,8 +4,11 @@ ghost use Rattle.p3_air.specs.Shape.{Declares, DeclaresExt};
 ghost use Rattle.p3_air.specs.Tree.{Tree, Stand, StandCount, over_base, over_extension};
 ghost use Rattle.p3_air.specs.RowCheck.{Checked, Row, Adds, value_at, cell_value, ext_cell_value, row_shape};
 ghost use Rattle.p3_air.specs.declared.cells.Count.{Count as CountOf};
+ghost use Rattle.std.proofs.Common.{◌∙◌};
+ghost use Rattle.p3_air.specs.Operation.{value_by};
 ghost use Rattle.p3_air.specs.Laws.RowCheck.{row-along, row_shape-row, value_at-row, adds-same, adds-along, keeping-adds};
 
+use crate::base_cells::BaseCells;
 use crate::builder::{AirBuilder, ExtensionBuilder, InteractionBuilder, PermutationAirBuilder};
 use crate::cells::{Cell, Count, ExtCell};
 use p3_field::{ExtensionField, Field, FieldCore, Mem, PrimeCharacteristicRing, RingCore};
@@ -57,23 +60,18 @@ impl<'a, F: Field, EF: ExtensionField<F>> RowValues<'a, F, EF> {
         requires { Declares (row_shape self.now) c }
         ensures { result ≡ cell_value F.ring self.now c }
     {
-        match c {
-            Cell::Main { next: true, column } => self.main_next[column],
-            Cell::Main {
-                next: false,
-                column,
-            } => self.main_local[column],
-            Cell::Preprocessed { next: true, column } => self.preprocessed_next[column],
-            Cell::Preprocessed {
-                next: false,
-                column,
-            } => self.preprocessed_local[column],
-            Cell::Periodic(n) => self.periodic[n],
-            Cell::Public(n) => self.public_values[n],
-            Cell::FirstRow => F::from_bool(self.is_first_row),
-            Cell::LastRow => F::from_bool(self.is_last_row),
-            Cell::Transition => F::from_bool(!self.is_last_row),
-        }
+        let cells = BaseCells {
+            main_local: self.main_local,
+            main_next: self.main_next,
+            preprocessed_local: self.preprocessed_local,
+            preprocessed_next: self.preprocessed_next,
+            periodic: self.periodic,
+            public_values: self.public_values,
+            first_row: F::from_bool(self.is_first_row),
+            last_row: F::from_bool(self.is_last_row),
+            transition: F::from_bool(!self.is_last_row),
+        };
+        cells.cell(c)
     }
 
     /// The value of a declared cell of the extension.
@@ -141,7 +139,7 @@ impl<'a, F: Field, EF: ExtensionField<F>> DebugConstraintBuilder<'a, F, EF> {
 }
 
 impl<'a, F: Field, EF: ExtensionField<F>> AirBuilder for DebugConstraintBuilder<'a, F, EF> {
-    ghost use Rattle.p3_air.specs.Laws.RowCheck.{row-along, row_shape-row, value_at-row, adds-same, adds-along, keeping-adds};
+    ghost use Rattle.p3_air.specs.Laws.RowCheck.{row-along, row_shape-row, value_at-row, embedded-value_at, adds-same, adds-along, keeping-adds};
 
     type F = F;
 
@@ -154,6 +152,8 @@ impl<'a, F: Field, EF: ExtensionField<F>> AirBuilder for DebugConstraintBuilder<
     ghost grows = { λ a b ts is. Adds F.ring EF.ring EF.embed a b ts };
 
     ghost asserts = { λ a x b. b ≡ record a { values = a.values ++ EF.embed x ∷ [] } };
+
+    ghost computes = { λ a op x y b e. e ≡ value_by F.ring op x y };
 
     ghost shape = { λ b. row_shape b.row };
 
@@ -201,17 +201,25 @@ impl<'a, F: Field, EF: ExtensionField<F>> AirBuilder for DebugConstraintBuilder<
 
     ghost grows_along = { λ a b c s t i j h k. adds-along F.ring EF.ring EF.embed a b c s t h k };
 
+    ghost never_fails_sure = { λ _. refl };
+
+    ghost computes_stands = { λ a b h op x y e s t k l q. embedded-value_at F.ring F.ring_laws EF.ring EF.ring_laws EF.embed EF.embed_laws a b h op x y e s t k l q };
+
     ghost asserts_grows = { λ a b x t h e. keeping-adds F.ring EF.ring EF.embed a b (EF.embed x) (over_base t) h e };
 }
 
 impl<'a, F: Field, EF: ExtensionField<F>> ExtensionBuilder for DebugConstraintBuilder<'a, F, EF> {
-    ghost use Rattle.p3_air.specs.Laws.RowCheck.{value_at-row, keeping-adds};
+    ghost use Rattle.p3_air.specs.Laws.RowCheck.{value_at-row, value_by-at, keeping-adds};
 
     type ExprEF = EF;
 
     ghost stands_ext = { λ b x t. x ≡ value_at F.ring EF.ring EF.embed b.row t };
 
     ghost asserts_ext = { λ a x b. b ≡ record a { values = a.values ++ x ∷ [] } };
+
+    ghost computes_ext = { λ a op x y b e. e ≡ value_by EF.ring op x y };
+
+    ghost lifts = { λ a x b e. e ≡ EF.embed x };
 
     fn lift(&mut self, x: F) -> Mem<EF> {
         Ok(EF::from_base(x))
@@ -236,6 +244,10 @@ impl<'a, F: Field, EF: ExtensionField<F>> ExtensionBuilder for DebugConstraintBu
     ghost arrays_fit_ext = { EF.arrays_fit };
 
     ghost persists_ext = { λ a b h x t k. value_at-row F.ring EF.ring EF.embed a b h x t k };
+
+    ghost computes_ext_stands = { λ a b h op x y e s t k l q. value_by-at F.ring EF.ring EF.embed a b h op x y e s t k l q };
+
+    ghost lifts_stands = { λ a b h x e t k q. value_at-row F.ring EF.ring EF.embed a b h e t (q ∙ k) };
 
     ghost asserts_ext_grows = { λ a b x t h e. keeping-adds F.ring EF.ring EF.embed a b x (over_extension t) h e };
 }

@@ -170,8 +170,9 @@ pub fn pack_bits_le<AB: AirBuilder>(builder: &mut AB, bits: &[AB::Expr]) -> Mem<
     Ok(sum)
 }
 
-// x + y - 2xy.
-fn xor<AB: AirBuilder>(builder: &mut AB, x: AB::Expr, y: AB::Expr) -> Mem<AB::Expr>
+/// x + y - 2xy, over any field: of values that are zero or one their exclusive or (own). It appends nothing, on an error
+/// neither.
+pub fn xor<AB: AirBuilder>(builder: &mut AB, x: AB::Expr, y: AB::Expr) -> Mem<AB::Expr>
     ensures later { AB.later builder.old builder.new }
     ensures same { AB.shape builder.new ≡ AB.shape builder.old }
     ensures answers { IsTrue AB.never_fails → IsOk result }

@@ -10,6 +10,7 @@
 #![tactic(auto)]
 
 mod base;
+mod base_cells;
 mod builder;
 mod cells;
 mod check;
@@ -26,11 +27,12 @@ mod symbolic;
 pub mod trees;
 
 pub use base::{Air, BaseAir};
+pub use base_cells::BaseCells;
 pub use builder::{AirBuilder, ExtensionBuilder, InteractionBuilder, PermutationAirBuilder};
 pub use cells::{Cell, Count, ExtCell};
 pub use check::{CheckFailure, check_constraints};
 pub use debug::{DebugConstraintBuilder, RowValues};
-pub use gadgets::{add2, add3, pack_bits_le, u32_to_bits_le, xor_32_shift};
+pub use gadgets::{add2, add3, pack_bits_le, u32_to_bits_le, xor, xor_32_shift};
 pub use layout::{AirLayout, ConstraintLayout};
 pub use node::Node;
 pub use recorder::InteractionSymbolicBuilder;

@@ -1,12 +1,25 @@
 //! What the gadgets' constraints mean: laws as the contracts of functions that compute nothing.
 //!
-//! They hold over each prime field of more than 2^20 elements, whatever values the cells have.
+//! Those on words hold over each prime field of more than 2^20 elements, those on bits over each field. They hold
+//! whatever values the cells have.
 ghost use Rattle.std.specs.Prelude.{◌≡◌, ℕ, ◌^◌, ◌<◌};
 ghost use Rattle.p3_air.specs.declared.cells.Cell.{Cell};
 ghost use Rattle.p3_air.specs.declared.cells.ExtCell.{ExtCell};
-ghost use Rattle.p3_air.specs.Words.{cells_reading, Add2Means, Add3Means, XorShiftMeans, PackMeans, PackSums, BitsMean};
+ghost use Rattle.p3_air.specs.Words.{cells_reading, Add2Means, Add3Means, XorShiftMeans, PackMeans, PackSums, BitsMean, BoolMeans, XorMeans, XorTells};
 
-use p3_field::PrimeField64;
+use p3_field::{Field, PrimeField64};
+
+/// Over each field the constraint of `assert_bool` is zero exactly where the value is zero or one.
+pub fn assert_bool_means<F: Field>()
+    ensures { (at : Cell → F) (at_ext : ExtCell → F) → BoolMeans F.ring (cells_reading F.ring at at_ext) }
+{}
+
+/// Over each field, also where one and one is zero, the expression of `xor` is of bits, as numbers, their exclusive or.
+/// Of values that are zero or one it is zero where they are equal, and else one.
+pub fn xor_means<F: Field>()
+    ensures numbers { (at : Cell → F) (at_ext : ExtCell → F) → XorMeans F.ring (cells_reading F.ring at at_ext) }
+    ensures values { (at : Cell → F) (at_ext : ExtCell → F) → XorTells F.ring (cells_reading F.ring at at_ext) }
+{}
 
 /// Where the limbs are below 2^16, the constraints of `add2` are zero exactly where a is b + c modulo 2^32.
 pub fn add2_means<F: PrimeField64>()

@@ -3,12 +3,12 @@ ghost use Rattle.std.specs.Prelude.{◌≡◌, ℕ, ◌<◌, ◌%◌, ◌++◌, 
 ghost use Rattle.std.specs.Option.{option_map};
 ghost use Rattle.std.proofs.Common.{lit<};
 ghost use Rattle.p3_air.specs.Layout.{layout_shape};
-ghost use Rattle.p3_air.specs.Symbolic.{node_tree, trees_after, tree_at, OperandsBelow};
-ghost use Rattle.p3_air.specs.Recording.{Recording, IsLater, Grows, StandsAt, known_place, bus_of, name_of, known_count, asserting, sending};
+ghost use Rattle.p3_air.specs.Symbolic.{node_tree, trees_after, OperandsBelow};
+ghost use Rattle.p3_air.specs.Recording.{Recording, IsLater, Grows, StandsAt, Computes, known_place, known_tree, bus_of, name_of, known_count, asserting, sending};
 ghost use Rattle.p3_air.specs.Tree.{Tree, Interaction, Stand, StandCount, sum, difference, product, global, local};
 ghost use Rattle.p3_air.specs.declared.cells.Count.{Count as CountOf};
 ghost use Rattle.p3_air.specs.declared.node.Node.TheVariants.{Constant};
-ghost use Rattle.p3_air.specs.Laws.Recording.{later-same, later-along, later-shape, stands-later, grows-same, grows-along, asserting-grows, sending-grows};
+ghost use Rattle.p3_air.specs.Laws.Recording.{later-same, later-along, later-shape, stands-later, grows-same, grows-along, asserting-grows, sending-grows, computes-stands, lifts-stands};
 
 mod read;
 mod sent;
@@ -122,7 +122,7 @@ impl<F: Field> InteractionSymbolicBuilder<F> {
     fn push_sum(&mut self, x: usize, y: usize) -> Mem<usize>
         ensures grows { Grows self.old self.new [] [] }
         ensures stands { (s t : Tree F) → StandsAt self.old.nodes x s → StandsAt self.old.nodes y t → IfOk result (λ e. StandsAt self.new.nodes e (sum s t)) }
-        ensures known { IfOk result (λ e. StandsAt self.new.nodes e (sum (tree_at self.old.nodes (known_place (length self.old.nodes) x)) (tree_at self.old.nodes (known_place (length self.old.nodes) y)))) }
+        ensures known { IfOk result (λ e. StandsAt self.new.nodes e (sum (known_tree self.old.nodes x) (known_tree self.old.nodes y))) }
     {
         let left = self.place(x);
         let right = self.place(y);
@@ -133,7 +133,7 @@ impl<F: Field> InteractionSymbolicBuilder<F> {
     fn push_difference(&mut self, x: usize, y: usize) -> Mem<usize>
         ensures grows { Grows self.old self.new [] [] }
         ensures stands { (s t : Tree F) → StandsAt self.old.nodes x s → StandsAt self.old.nodes y t → IfOk result (λ e. StandsAt self.new.nodes e (difference s t)) }
-        ensures known { IfOk result (λ e. StandsAt self.new.nodes e (difference (tree_at self.old.nodes (known_place (length self.old.nodes) x)) (tree_at self.old.nodes (known_place (length self.old.nodes) y)))) }
+        ensures known { IfOk result (λ e. StandsAt self.new.nodes e (difference (known_tree self.old.nodes x) (known_tree self.old.nodes y))) }
     {
         let left = self.place(x);
         let right = self.place(y);
@@ -144,7 +144,7 @@ impl<F: Field> InteractionSymbolicBuilder<F> {
     fn push_product(&mut self, x: usize, y: usize) -> Mem<usize>
         ensures grows { Grows self.old self.new [] [] }
         ensures stands { (s t : Tree F) → StandsAt self.old.nodes x s → StandsAt self.old.nodes y t → IfOk result (λ e. StandsAt self.new.nodes e (product s t)) }
-        ensures known { IfOk result (λ e. StandsAt self.new.nodes e (product (tree_at self.old.nodes (known_place (length self.old.nodes) x)) (tree_at self.old.nodes (known_place (length self.old.nodes) y)))) }
+        ensures known { IfOk result (λ e. StandsAt self.new.nodes e (product (known_tree self.old.nodes x) (known_tree self.old.nodes y))) }
     {
         let left = self.place(x);
         let right = self.place(y);
@@ -210,6 +210,8 @@ impl<F: Field> AirBuilder for InteractionSymbolicBuilder<F> {
 
     ghost asserts = { λ a x b. b ≡ asserting a x false };
 
+    ghost computes = { Computes };
+
     ghost shape = { λ b. layout_shape b.layout };
 
     ghost never_fails = { false };
@@ -256,6 +258,10 @@ impl<F: Field> AirBuilder for InteractionSymbolicBuilder<F> {
 
     ghost grows_along = { grows-along };
 
+    ghost never_fails_sure = { λ h. h };
+
+    ghost computes_stands = { computes-stands };
+
     ghost asserts_grows = { λ a b x t h e. asserting-grows a b x false t h e };
 }
 
@@ -266,8 +272,12 @@ impl<F: Field> ExtensionBuilder for InteractionSymbolicBuilder<F> {
 
     ghost asserts_ext = { λ a x b. b ≡ asserting a x true };
 
+    ghost computes_ext = { Computes };
+
+    ghost lifts = { λ a x b e. StandsAt b.nodes e (known_tree a.nodes x) };
+
     fn lift(&mut self, x: usize) -> Mem<usize> {
-        Ok(x)
+        Ok(self.place(x))
     }
 
     fn add_ext(&mut self, x: usize, y: usize) -> Mem<usize> {
@@ -289,6 +299,10 @@ impl<F: Field> ExtensionBuilder for InteractionSymbolicBuilder<F> {
     ghost arrays_fit_ext = { lit< tt };
 
     ghost persists_ext = { stands-later };
+
+    ghost computes_ext_stands = { computes-stands };
+
+    ghost lifts_stands = { lifts-stands };
 
     ghost asserts_ext_grows = { λ a b x t h e. asserting-grows a b x true t h e };
 }

@@ -2,6 +2,7 @@
 ghost use Rattle.std.specs.Prelude.{◌≡◌, ◌<◌, IfOk, length};
 ghost use Rattle.p3_air.specs.Shape.{DeclaresExt};
 
+use crate::support::bear;
 use batch_tables::SwapAir;
 use p3_air::{
     AirBuilder, CheckFailure, Count, DebugConstraintBuilder, ExtCell, ExtensionBuilder,
@@ -15,9 +16,12 @@ use std::test::Fail;
 
 type Builder = DebugConstraintBuilder<'static, BabyBear, BabyBear>;
 
-// A builder at a row without cells.
-fn at_no_cells(alloc: Global) -> Builder {
-    let row = RowValues {
+// A row whose only cells are these of the extension, in the row and in the next one.
+fn row_of_permutation<'a, EF>(local: &'a [EF], next: &'a [EF]) -> RowValues<'a, BabyBear, EF>
+    requires { length next.now ≡ length local.now }
+    ensures { result.permutation_local ≡ local.now }
+{
+    RowValues {
         main_local: &[],
         main_next: &[],
         preprocessed_local: &[],
@@ -26,20 +30,20 @@ fn at_no_cells(alloc: Global) -> Builder {
         public_values: &[],
         is_first_row: false,
         is_last_row: false,
-        permutation_local: &[],
-        permutation_next: &[],
+        permutation_local: local,
+        permutation_next: next,
         challenges: &[],
         terminals: &[],
-    };
-    DebugConstraintBuilder::new(alloc, row)
+    }
 }
 
-fn bear(n: u32) -> BabyBear {
-    BabyBear::from_u64(n as u64)
+// A builder at a row without cells.
+fn at_no_cells(alloc: Global) -> Builder {
+    DebugConstraintBuilder::new(alloc, row_of_permutation(&[], &[]))
 }
 
 fn limbs(word: u32) -> [BabyBear; 2] {
-    [bear(word % 65536), bear(word / 65536)]
+    [bear((word % 65536) as u64), bear((word / 65536) as u64)]
 }
 
 // Whether each constraint so far is zero.
@@ -131,7 +135,7 @@ fn bits_of_a_word(rt: HostRuntime) -> Result<(), Fail> {
 }
 
 // Two rows of the swap table.
-fn two_rows(alloc: Global, values: [u32; 4]) -> Mem<RowMajorMatrix<BabyBear>>
+fn two_rows(alloc: Global, values: [u64; 4]) -> Mem<RowMajorMatrix<BabyBear>>
     ensures { IfOk result (λ m. (m.width ≡ 2) × (length m.values ≡ 4)) }
 {
     let [a, b, c, d] = values;
@@ -140,7 +144,7 @@ fn two_rows(alloc: Global, values: [u32; 4]) -> Mem<RowMajorMatrix<BabyBear>>
 }
 
 // What the check says of swap's two rows with public values 0, 1 and x.
-fn checked_swap(alloc: Global, values: [u32; 4], x: u32) -> Result<(), CheckFailure> {
+fn checked_swap(alloc: Global, values: [u64; 4], x: u64) -> Result<(), CheckFailure> {
     let main = two_rows(alloc, values)?;
     let public_values = [bear(0), bear(1), bear(x)];
     check_constraints(alloc, &SwapAir, &main, None, &public_values)
@@ -226,20 +230,7 @@ fn values_over_the_extension(rt: HostRuntime) -> Result<(), Fail> {
         [QuarticExtension::from_u64(4)],
         [QuarticExtension::from_u64(7)],
     );
-    let row = RowValues {
-        main_local: &[],
-        main_next: &[],
-        preprocessed_local: &[],
-        preprocessed_next: &[],
-        periodic: &[],
-        public_values: &[],
-        is_first_row: false,
-        is_last_row: false,
-        permutation_local: &local,
-        permutation_next: &next,
-        challenges: &[],
-        terminals: &[],
-    };
+    let row = row_of_permutation(&local, &next);
     let mut builder = DebugConstraintBuilder::<BabyBear, QuarticExtension>::new(rt.alloc(), row);
     let cell = ExtCell::Permutation {
         next: true,

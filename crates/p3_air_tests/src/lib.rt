@@ -5,6 +5,7 @@
 mod gadgets;
 #[cfg(test)]
 mod post;
+pub mod support;
 #[cfg(test)]
 mod symbolic;
 #[cfg(test)]

@@ -7,6 +7,7 @@ ghost use Rattle.p3_air.specs.Shape.{Declares, DeclaresExt, ReadsIn};
 ghost use Rattle.p3_air.specs.Symbolic.{IsExpression, tree_of};
 ghost use Rattle.p3_air.specs.Tree.{product};
 
+use crate::support::assert_in_all_ways;
 use batch_tables::SwapAir;
 use p3_air::{
     Air, AirBuilder, AirLayout, Cell, ConstraintLayout, ExtCell, ExtensionBuilder,
@@ -136,15 +137,6 @@ fn degrees_stop_at_the_greatest(rt: HostRuntime) -> Result<(), Fail> {
     assert_eq!(rt; constraint_degree_from_poly_degree(17, 8), 3);
     assert_eq!(rt; constraint_degree_from_poly_degree(16, 8), 2);
     Ok(())
-}
-
-// Asserts that x + 3 is x, that x is a bit, and that x and x + 3 are zero.
-fn assert_in_all_ways<AB: AirBuilder>(builder: &mut AB, x: AB::Expr) -> Mem<()> {
-    let three = builder.constant(<AB::F as RingCore>::from_u64(3))?;
-    let sum = builder.add(x, three)?;
-    builder.assert_eq(sum, x)?;
-    builder.assert_bools(&[x])?;
-    builder.assert_zeros(&[x, sum])
 }
 
 #[test]

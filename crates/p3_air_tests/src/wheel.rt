@@ -9,6 +9,7 @@ ghost use Rattle.p3_matrix.specs.Matrix.{height};
 ghost use Rattle.p3_air.specs.Tree.{cell, difference, product};
 ghost use Rattle.p3_air.specs.Laws.Declared.{counts-none};
 
+use crate::support::bear;
 use p3_air::{Air, AirBuilder, BaseAir, Cell, CheckFailure, InteractionBuilder, check_constraints};
 use p3_field::{BabyBear, Mem, RingCore};
 use p3_matrix::RowMajorMatrix;
@@ -20,12 +21,6 @@ use std::test::Fail;
 struct Wheel {
     columns: Vec<Vec<BabyBear>>,
     ghost one: { map (λ c. c.items) columns.items ≡ (of_nat bear_ring 3 ∷ of_nat bear_ring 5 ∷ []) ∷ [] },
-}
-
-fn bear(n: u64) -> BabyBear
-    ensures { result ≡ of_nat bear_ring n }
-{
-    BabyBear::from_u64(n)
 }
 
 impl BaseAir<BabyBear> for Wheel {
@@ -73,6 +68,8 @@ impl BaseAir<BabyBear> for Wheel {
     }
 
     ghost has_columns = { Prim.search rules };
+
+    ghost whole_rows = { λ _. Prim.search rules };
 
     ghost next_below = { λ _. Prim.search rules };
 

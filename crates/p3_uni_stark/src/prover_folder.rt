@@ -5,10 +5,12 @@ ghost use Rattle.p3_air.specs.Tree.{Tree, ev, ev_asserted, Stand, StandCount};
 ghost use Rattle.p3_air.specs.declared.cells.Count.{Count as CountOf};
 ghost use Rattle.p3_uni_stark.specs.Fold.{added_to, weighed_from};
 ghost use Rattle.p3_uni_stark.specs.Point.{reading, embedded, point_shape};
-ghost use Rattle.p3_uni_stark.specs.Laws.Folders.{shape_along, value_persists, weighed_along};
+ghost use Rattle.p3_uni_stark.specs.Laws.Folders.{shape_along, value_persists, value_by_persists, base_value_by_persists, weighed_along};
+ghost use Rattle.p3_air.specs.Operation.{value_by};
 
 use p3_air::{
-    AirBuilder, Cell, Count, ExtCell, ExtensionBuilder, InteractionBuilder, PermutationAirBuilder,
+    AirBuilder, BaseCells, Cell, Count, ExtCell, ExtensionBuilder, InteractionBuilder,
+    PermutationAirBuilder,
 };
 use p3_field::{ExtensionField, Field, FieldCore, Mem, PrimeCharacteristicRing, RingCore};
 
@@ -45,8 +47,25 @@ pub struct ProverFolder<'a, F, E> {
     pub accumulator: E,
 }
 
-impl<F: Field, E: ExtensionField<F>> ProverFolder<'_, F, E> {
-    ghost use Rattle.p3_uni_stark.specs.ProverState.{given_of, sum_of, powers_of};
+impl<'a, F: Field, E: ExtensionField<F>> ProverFolder<'a, F, E> {
+    ghost use Rattle.p3_uni_stark.specs.ProverState.{values_of, given_of, sum_of, powers_of};
+
+    // The values that it reads.
+    fn cells(&self) -> BaseCells<'a, F, F>
+        ensures { result ≡ values_of self.now }
+    {
+        BaseCells {
+            main_local: self.main_local,
+            main_next: self.main_next,
+            preprocessed_local: self.preprocessed_local,
+            preprocessed_next: self.preprocessed_next,
+            periodic: self.periodic_values,
+            public_values: self.public_values,
+            first_row: self.is_first_row,
+            last_row: self.is_last_row,
+            transition: self.is_transition,
+        }
+    }
 
     /// Folds one more value in, be it a constraint's value or not: it is added times the next power, which
     /// is then taken. Past the last power it adds nothing (own). A folder that wraps this one takes its constraints in
@@ -79,6 +98,8 @@ impl<'a, F: Field, E: ExtensionField<F>> AirBuilder for ProverFolder<'a, F, E> {
 
     ghost asserts = { λ a x b. (given_of b ≡ given_of a) × (sum_of b ≡ added_to E.ring (sum_of a).left a.accumulator (E.embed x)) × (powers_of b ≡ powers_of a) };
 
+    ghost computes = { λ a op x y b e. e ≡ value_by F.ring op x y };
+
     ghost shape = { λ b. point_shape (values_of b) };
 
     ghost never_fails = { true };
@@ -86,23 +107,7 @@ impl<'a, F: Field, E: ExtensionField<F>> AirBuilder for ProverFolder<'a, F, E> {
     ghost only_asserting_fails = { true };
 
     fn cell(&mut self, c: Cell) -> Mem<F> {
-        Ok(match c {
-            Cell::Main { next: true, column } => self.main_next[column],
-            Cell::Main {
-                next: false,
-                column,
-            } => self.main_local[column],
-            Cell::Preprocessed { next: true, column } => self.preprocessed_next[column],
-            Cell::Preprocessed {
-                next: false,
-                column,
-            } => self.preprocessed_local[column],
-            Cell::Periodic(column) => self.periodic_values[column],
-            Cell::Public(n) => self.public_values[n],
-            Cell::FirstRow => self.is_first_row,
-            Cell::LastRow => self.is_last_row,
-            Cell::Transition => self.is_transition,
-        })
+        Ok(self.cells().cell(c))
     }
 
     fn constant(&mut self, x: F) -> Mem<F> {
@@ -142,6 +147,10 @@ impl<'a, F: Field, E: ExtensionField<F>> AirBuilder for ProverFolder<'a, F, E> {
 
     ghost grows_along = { λ a b c s t i j p q. (q.0 ∙ p.0, weighed_along E.ring (λ o. reading E.ring E.embed (embedded E.embed o.values)) (given_of a) (given_of b) (sum_of a) (sum_of b) (sum_of c) s t p.0 p.1 q.1, q.2 ∙ p.2) };
 
+    ghost never_fails_sure = { λ h. h };
+
+    ghost computes_stands = { λ a b h op x y e s t k l q. base_value_by_persists F.ring F.ring_laws E.ring E.ring_laws E.embed E.embed_laws (λ o. embedded E.embed o.values) (given_of a) (given_of b) op x y e s t h k l q };
+
     ghost asserts_grows = { λ a b x t h k. (k.0, k.1 ∙ ap (added_to E.ring (sum_of a).left a.accumulator) h, k.2) };
 }
 
@@ -153,6 +162,10 @@ impl<'a, F: Field, E: ExtensionField<F>> ExtensionBuilder for ProverFolder<'a, F
     ghost stands_ext = { λ b e t. e ≡ ev (reading E.ring E.embed (embedded E.embed (values_of b))) t };
 
     ghost asserts_ext = { λ a x b. (given_of b ≡ given_of a) × (sum_of b ≡ added_to E.ring (sum_of a).left a.accumulator x) × (powers_of b ≡ powers_of a) };
+
+    ghost computes_ext = { λ a op x y b e. e ≡ value_by E.ring op x y };
+
+    ghost lifts = { λ a x b e. e ≡ E.embed x };
 
     fn lift(&mut self, x: F) -> Mem<E> {
         Ok(E::from_base(x))
@@ -178,6 +191,10 @@ impl<'a, F: Field, E: ExtensionField<F>> ExtensionBuilder for ProverFolder<'a, F
     ghost arrays_fit_ext = { E.arrays_fit };
 
     ghost persists_ext = { λ a b h e t k. value_persists (λ o. reading E.ring E.embed (embedded E.embed o.values)) (given_of a) (given_of b) e t h k };
+
+    ghost computes_ext_stands = { λ a b h op x y e s t k l q. value_by_persists E.ring E.embed (λ o. embedded E.embed o.values) (given_of a) (given_of b) op x y e s t h k l q };
+
+    ghost lifts_stands = { λ a b h x e t k q. value_persists (λ o. reading E.ring E.embed (embedded E.embed o.values)) (given_of a) (given_of b) e t h (q ∙ k) };
 
     ghost asserts_ext_grows = { λ a b x t h k. (k.0, k.1 ∙ ap (added_to E.ring (sum_of a).left a.accumulator) h, k.2) };
 }

@@ -5,10 +5,12 @@ ghost use Rattle.p3_air.specs.Tree.{Tree, ev, ev_asserted, Stand, StandCount};
 ghost use Rattle.p3_air.specs.declared.cells.Count.{Count as CountOf};
 ghost use Rattle.p3_uni_stark.specs.Fold.{fold_from};
 ghost use Rattle.p3_uni_stark.specs.Point.{reading, point_shape};
-ghost use Rattle.p3_uni_stark.specs.Laws.Folders.{shape_along, value_persists, folded_along};
+ghost use Rattle.p3_uni_stark.specs.Laws.Folders.{shape_along, value_persists, value_by_persists, folded_along};
+ghost use Rattle.p3_air.specs.Operation.{value_by};
 
 use p3_air::{
-    AirBuilder, Cell, Count, ExtCell, ExtensionBuilder, InteractionBuilder, PermutationAirBuilder,
+    AirBuilder, BaseCells, Cell, Count, ExtCell, ExtensionBuilder, InteractionBuilder,
+    PermutationAirBuilder,
 };
 use p3_field::{ExtensionField, Field, FieldCore, Mem, PrimeCharacteristicRing, RingCore};
 
@@ -41,8 +43,25 @@ pub struct VerifierFolder<'a, F, E> {
     pub accumulator: E,
 }
 
-impl<F: Field, E: ExtensionField<F>> VerifierFolder<'_, F, E> {
+impl<'a, F: Field, E: ExtensionField<F>> VerifierFolder<'a, F, E> {
     ghost use Rattle.p3_uni_stark.specs.VerifierState.{opened_of};
+
+    // The values that it reads.
+    fn cells(&self) -> BaseCells<'a, F, E>
+        ensures { result ≡ (opened_of self.now).values }
+    {
+        BaseCells {
+            main_local: self.main_local,
+            main_next: self.main_next,
+            preprocessed_local: self.preprocessed_local,
+            preprocessed_next: self.preprocessed_next,
+            periodic: self.periodic_values,
+            public_values: self.public_values,
+            first_row: self.is_first_row,
+            last_row: self.is_last_row,
+            transition: self.is_transition,
+        }
+    }
 
     /// Folds one more value in, be it a constraint's value or not: the sum times the challenge, plus the
     /// value (own). A folder that wraps this one takes its constraints in by this call.
@@ -69,6 +88,8 @@ impl<'a, F: Field, E: ExtensionField<F>> AirBuilder for VerifierFolder<'a, F, E>
 
     ghost asserts = { λ a x b. (opened_of b ≡ opened_of a) × (b.accumulator ≡ E.ring.add (E.ring.mul a.accumulator a.alpha) x) };
 
+    ghost computes = { λ a op x y b e. e ≡ value_by E.ring op x y };
+
     ghost shape = { λ b. point_shape (opened_of b).values };
 
     ghost never_fails = { true };
@@ -76,23 +97,7 @@ impl<'a, F: Field, E: ExtensionField<F>> AirBuilder for VerifierFolder<'a, F, E>
     ghost only_asserting_fails = { true };
 
     fn cell(&mut self, c: Cell) -> Mem<E> {
-        Ok(match c {
-            Cell::Main { next: true, column } => self.main_next[column],
-            Cell::Main {
-                next: false,
-                column,
-            } => self.main_local[column],
-            Cell::Preprocessed { next: true, column } => self.preprocessed_next[column],
-            Cell::Preprocessed {
-                next: false,
-                column,
-            } => self.preprocessed_local[column],
-            Cell::Periodic(column) => self.periodic_values[column],
-            Cell::Public(n) => E::from_base(self.public_values[n]),
-            Cell::FirstRow => self.is_first_row,
-            Cell::LastRow => self.is_last_row,
-            Cell::Transition => self.is_transition,
-        })
+        Ok(self.cells().cell(c))
     }
 
     fn constant(&mut self, x: F) -> Mem<E> {
@@ -132,6 +137,10 @@ impl<'a, F: Field, E: ExtensionField<F>> AirBuilder for VerifierFolder<'a, F, E>
 
     ghost grows_along = { λ a b c s t i j p q. (q.0 ∙ p.0, folded_along E.ring (λ o. reading E.ring E.embed o.values) (λ o. o.alpha) (opened_of a) (opened_of b) a.accumulator b.accumulator c.accumulator s t p.0 p.1 q.1) };
 
+    ghost never_fails_sure = { λ h. h };
+
+    ghost computes_stands = { λ a b h op x y e s t k l q. value_by_persists E.ring E.embed (λ o. o.values) (opened_of a) (opened_of b) op x y e s t h k l q };
+
     ghost asserts_grows = { λ a b x t h k. (k.0, k.1 ∙ ap (E.ring.add (E.ring.mul a.accumulator a.alpha)) h) };
 }
 
@@ -143,6 +152,10 @@ impl<'a, F: Field, E: ExtensionField<F>> ExtensionBuilder for VerifierFolder<'a,
     ghost stands_ext = { λ b e t. e ≡ ev (reading E.ring E.embed (opened_of b).values) t };
 
     ghost asserts_ext = { λ a x b. (opened_of b ≡ opened_of a) × (b.accumulator ≡ E.ring.add (E.ring.mul a.accumulator a.alpha) x) };
+
+    ghost computes_ext = { λ a op x y b e. e ≡ value_by E.ring op x y };
+
+    ghost lifts = { λ a x b e. e ≡ x };
 
     fn lift(&mut self, x: E) -> Mem<E> {
         Ok(x)
@@ -168,6 +181,10 @@ impl<'a, F: Field, E: ExtensionField<F>> ExtensionBuilder for VerifierFolder<'a,
     ghost arrays_fit_ext = { E.arrays_fit };
 
     ghost persists_ext = { λ a b h e t k. value_persists (λ o. reading E.ring E.embed o.values) (opened_of a) (opened_of b) e t h k };
+
+    ghost computes_ext_stands = { λ a b h op x y e s t k l q. value_by_persists E.ring E.embed (λ o. o.values) (opened_of a) (opened_of b) op x y e s t h k l q };
+
+    ghost lifts_stands = { λ a b h x e t k q. value_persists (λ o. reading E.ring E.embed o.values) (opened_of a) (opened_of b) e t h (q ∙ k) };
 
     ghost asserts_ext_grows = { λ a b x t h k. (k.0, k.1 ∙ ap (E.ring.add (E.ring.mul a.accumulator a.alpha)) h) };
 }

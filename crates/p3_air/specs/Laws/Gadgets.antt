@@ -17,6 +17,7 @@ use Rattle.p3_air.specs.declared.cells.ExtCell.{ExtCell}
 use Rattle.p3_air.specs.Tree.{Tree, Reading, ev, difference, bool_tree}
 use Rattle.p3_air.specs.Gadgets.{less_two, less_three, with_high, zero_or_one, zero_to_two, packed, xor_shift_bit, xor_shift_trees, rotated_place}
 use Rattle.p3_air.specs.Words.{PrimeFieldLaws, cells_reading, Vanish, HaveValues, AreBits, limbs_word, limb, bits_number, bits_word, Add2Means, Add3Means, PackMeans, PackSums, XorShiftMeans}
+use Rattle.p3_air.specs.Laws.Bits.{xor_value, of_one, bool_value}
 use Rattle.p3_air.specs.Laws.Words.{turned_bit, turned_bits, xor_of_bits, low_limb, high_limb}
 
 -- m - n as an element
@@ -350,37 +351,11 @@ module _ {A : Type 0} (r : Ring A) (inv : A → A) (order : ℕ) (canonical : A 
         ∙ total_same r P.ring_laws n (λ i. r.mul (of_nat r (2 ^ i)) (ev rd (t (0 + i)))) (λ i. r.mul (of_nat r (2 ^ i)) (ev rd (t i)))
         (λ i h. ap (λ j. r.mul (of_nat r (2 ^ i)) (ev rd (t j))) (zero-add i))
 
-    xor_number : (m n : ℕ) → m < 2 → n < 2 → m + n ≡ (m + n) % 2 + 2 * (m * n)
-    xor_number zero n a b = let e : zero * n ≡ 0 = omega arith in omega (arith, e, b)
-    xor_number (suc zero) n a b = let e : suc zero * n ≡ n = omega arith in omega (arith, e, b)
-    xor_number (suc (suc m)) n a b = absurd (omega (arith, a))
-
-    -- x + y - 2xy is the exclusive or of bits
-    xor_value : (x y : A) (m n : ℕ) → m < 2 → n < 2 → x ≡ of_nat r m → y ≡ of_nat r n → sub r (r.add x y) (r.mul (of_nat r 2) (r.mul x y)) ≡ of_nat r ((m + n) % 2)
-    xor_value x y m n a b e f =
-        let L = P.ring_laws in
-        let z = (m + n) % 2 in
-        let k = 2 * (m * n) in
-        let sum : r.add x y ≡ of_nat r (z + k) = cc (e, f, of_nat_add r L m n, xor_number m n a b) in
-        let twice : r.mul (of_nat r 2) (r.mul x y) ≡ of_nat r k = cc (e, f, of_nat_mul r L m n, of_nat_mul r L 2 (m * n)) in
-        cc (sum, twice, of_nat_add r L z k, L.add_assoc (of_nat r z) (of_nat r k) (r.neg (of_nat r k)), L.add_neg (of_nat r k), L.add_zero (of_nat r z))
-
-    -- x (x - 1)
-    of_one : of_nat r 1 ≡ r.one
-    unfolding of_nat
-    of_one = P.ring_laws.add_zero r.one
-
-    bool_value : (x : A) (n : ℕ) → n < 2 → x ≡ of_nat r n → r.mul x (sub r x r.one) ≡ r.zero
-    unfolding of_nat
-    bool_value x zero a e = ap (λ v. r.mul v (sub r x r.one)) e ∙ zero_mul r P.ring_laws (sub r x r.one)
-    bool_value x (suc zero) a e = ap (r.mul x) (sub_self r P.ring_laws x r.one (e ∙ of_one)) ∙ mul_zero r P.ring_laws x
-    bool_value x (suc (suc n)) a e = absurd (omega (arith, a))
-
     value_bool : 2 ^ 20 < order → (x : A) → r.mul x (sub r x r.one) ≡ r.zero → canonical x < 2
     value_bool o x e = elim (zero_factor x (sub r x r.one) e) [
       | inl h ↦ let z : canonical x ≡ 0 = ap canonical h ∙ canonical_zero in omega (arith, z)
       | inr h ↦
-          let one : x ≡ of_nat r 1 = sub_zero r P.ring_laws x r.one h ∙ sym of_one in
+          let one : x ≡ of_nat r 1 = sub_zero r P.ring_laws x r.one h ∙ sym (of_one r P.ring_laws) in
           let b : 1 < order = omega (arith, o) in
           let z : canonical x ≡ 1 = ap canonical one ∙ (P.canonical_of 1 ∙ mod-eq_of_lt b) in
           omega (arith, z)
@@ -391,7 +366,7 @@ module _ {A : Type 0} (r : Ring A) (inv : A → A) (order : ℕ) (canonical : A 
         → (i : ℕ) → i < 32 → ev rd (xor_shift_bit r tb tc s i) ≡ of_nat r (turned_bit b c s i)
     turned_values tb tc b c s rb rc hb hc i lt =
         let place : rotated_place s i < 32 = omega arith in
-        xor_value (ev rd (tb i)) (ev rd (tc (rotated_place s i))) (b i) (c (rotated_place s i)) (rb i lt) (rc (rotated_place s i) place) (hb i lt) (hc (rotated_place s i) place)
+        xor_value r P.ring_laws (ev rd (tb i)) (ev rd (tc (rotated_place s i))) (b i) (c (rotated_place s i)) (rb i lt) (rc (rotated_place s i) place) (hb i lt) (hc (rotated_place s i) place)
 
     -- the packed halves are the limbs of b xor (c rotated to the left by s)
     low_half : (tb tc : ℕ → Tree A) (b c : ℕ → ℕ) (s : ℕ) → AreBits b → AreBits c → HaveValues r rd 32 tb b → HaveValues r rd 32 tc c
@@ -429,7 +404,7 @@ module _ {A : Type 0} (r : Ring A) (inv : A → A) (order : ℕ) (canonical : A 
               },
           λ x.
               All-append Q bools (first ∷ second ∷ [])
-              (all_table Q (bool_tree r.one) 32 tc (λ k lt. bool_value (ev rd (tc k)) (x.c k) (x.c_bits k lt) (x.c_values k lt)))
+              (all_table Q (bool_tree r.one) 32 tc (λ k lt. bool_value r P.ring_laws (ev rd (tc k)) (x.c k) (x.c_bits k lt) (x.c_values k lt)))
               (two_vanish first second
               (sub_self r P.ring_laws (ev rd (ta 0)) (ev rd (packed r f 0 16)) (x.a_values 0 (lit< tt) ∙ sym (low_half tb tc b x.c s rb x.c_bits hb x.c_values)))
               (sub_self r P.ring_laws (ev rd (ta 1)) (ev rd (packed r f 16 16)) (x.a_values 1 (lit< tt) ∙ sym (high_half tb tc b x.c s rb x.c_bits hb x.c_values)))),

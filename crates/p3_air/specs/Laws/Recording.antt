@@ -11,10 +11,11 @@ use Rattle.p3_air.specs.declared.node.Node.{Node}
 use Rattle.p3_air.specs.declared.node.Node.TheVariants.{Constant, Sum, Difference, Product}
 use Rattle.p3_air.specs.declared.recorded.Assertion.{Assertion}
 use Rattle.p3_air.specs.Tree.{Tree, Asserted, Interaction, Bus, local, global, sum, difference, product, Stand, StandCount}
+use Rattle.p3_air.specs.Operation.{Operation, tree_by}
 use Rattle.p3_air.specs.Layout.{layout_shape}
 use Rattle.p3_air.specs.Symbolic.{node_tree, trees_after, tree_at, OperandsBelow, OrderedFrom}
 use Rattle.p3_air.specs.Placed.{Placed}
-use Rattle.p3_air.specs.Recording.{Recording, asserted_tree, asserted_at, bus_of, count_at, interaction_at, sent_at, PlacedBelow, IsRecording, StandsAt, IsLater, Grows, known_place, known_count, is_in, indices_from, asserting, name_of, sending}
+use Rattle.p3_air.specs.Recording.{Recording, asserted_tree, asserted_at, bus_of, count_at, interaction_at, sent_at, PlacedBelow, IsRecording, StandsAt, IsLater, Grows, Computes, known_place, known_tree, known_count, is_in, indices_from, asserting, name_of, sending}
 use Rattle.p3_air.specs.Laws.Symbolic.{tree_at-append, tree_at-push, ordered-push}
 
 -- places below a number are below a larger one
@@ -124,6 +125,17 @@ known_place-stands ns x t h = let w = h.within in grind (arith, nat_tests)
 
 pub known_place-tree : {F : Type 0} (ns : List (Node F)) (x : ℕ) (t : Tree F) → StandsAt ns x t → tree_at ns (known_place (length ns) x) ≡ t
 known_place-tree ns x t h = ap (λ k. tree_at ns k) (known_place-stands ns x t h) ∙ h.has_tree
+
+-- what operations on expressions with trees give has the operation's tree, and what is lifted keeps its tree
+pub computes-stands : {F : Type 0} (a b : Recording F) → IsLater a b → (op : Operation) (x y e : ℕ) (s t : Tree F) → StandsAt a.nodes x s → StandsAt a.nodes y t
+    → Computes a op x y b e → StandsAt b.nodes e (tree_by op s t)
+computes-stands {F = F} a b later op x y e s t h k q =
+    let P : Tree F → Type 0 = λ u. StandsAt b.nodes e (tree_by op u (known_tree a.nodes y)) in
+    let Q : Tree F → Type 0 = λ u. StandsAt b.nodes e (tree_by op s u) in
+    subst Q (known_place-tree a.nodes y t k) (subst P (known_place-tree a.nodes x s h) q)
+
+pub lifts-stands : {F : Type 0} (a b : Recording F) → IsLater a b → (x e : ℕ) (t : Tree F) → StandsAt a.nodes x t → StandsAt b.nodes e (known_tree a.nodes x) → StandsAt b.nodes e t
+lifts-stands {F = F} a b later x e t h q = let P : Tree F → Type 0 = λ u. StandsAt b.nodes e u in subst P (known_place-tree a.nodes x t h) q
 
 pub known_place-below : (n x : ℕ) → 0 < n → known_place n x < n
 known_place-below n x h = grind (arith, nat_tests)

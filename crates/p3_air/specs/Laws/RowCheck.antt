@@ -1,9 +1,12 @@
 -- Values of trees at a row, as trees are asserted.
 use Rattle.std.proofs.Common.{◌≡◌, ◌++◌, List, [], ◌∷◌, map, refl, sym, ◌∙◌, ap, subst, append_assoc, append-nil}
 use Rattle.std.proofs.lemmas.List.{map-append}
-use Rattle.p3_field.specs.Ring.{Ring}
+use Rattle.p3_field.specs.Ring.{Ring, RingLaws}
+use Rattle.p3_field.specs.Field.{RingHom}
 use Rattle.p3_air.specs.Tree.{Tree, Asserted}
-use Rattle.p3_air.specs.RowCheck.{Row, Checked, Adds, value_at, row_shape}
+use Rattle.p3_air.specs.Operation.{Operation, tree_by, value_by}
+use Rattle.p3_air.specs.RowCheck.{Row, Checked, Adds, row_reading, value_at, row_shape}
+use Rattle.p3_air.specs.Laws.Operation.{ReadsBy, value_by-tree, embedded-value_by}
 
 pub row-along : {F E : Type 0} (a b c : Checked F E) → b.row ≡ a.row → c.row ≡ b.row → c.row ≡ a.row
 row-along a b c h k = k ∙ h
@@ -15,6 +18,22 @@ row_shape-row {F = F} {E = E} a b h = ap (λ (r : Row F E). row_shape r) h
 pub value_at-row : {F E : Type 0} (f : Ring F) (e : Ring E) (embed : F → E) (a b : Checked F E) → b.row ≡ a.row → (x : E) (t : Tree F)
     → x ≡ value_at f e embed a.row t → x ≡ value_at f e embed b.row t
 value_at-row {F = F} {E = E} f e embed a b h x t k = let P : Row F E → Type 0 = λ r. x ≡ value_at f e embed r t in subst P (sym h) k
+
+by_ring : {F E : Type 0} (f : Ring F) (e : Ring E) (embed : F → E) (r : Row F E) → ReadsBy e (row_reading f e embed r)
+by_ring f e embed r = record { adds = λ x y. refl; subs = λ x y. refl; muls = λ x y. refl }
+
+-- the value of an operation on values of trees is its tree's
+pub value_by-at : {F E : Type 0} (f : Ring F) (e : Ring E) (embed : F → E) (a b : Checked F E) → b.row ≡ a.row → (op : Operation) (x y z : E) (s t : Tree F)
+    → x ≡ value_at f e embed a.row s → y ≡ value_at f e embed a.row t → z ≡ value_by e op x y → z ≡ value_at f e embed b.row (tree_by op s t)
+value_by-at f e embed a b h op x y z s t k l q =
+    value_at-row f e embed a b h z (tree_by op s t) (value_by-tree e (row_reading f e embed a.row) (by_ring f e embed a.row) op x y z s t k l q)
+
+pub embedded-value_at : {F E : Type 0} (f : Ring F) (L : RingLaws f) (e : Ring E) (M : RingLaws e) (embed : F → E) (H : RingHom f e embed) (a b : Checked F E)
+    → b.row ≡ a.row → (op : Operation) (x y z : F) (s t : Tree F)
+    → embed x ≡ value_at f e embed a.row s → embed y ≡ value_at f e embed a.row t → z ≡ value_by f op x y → embed z ≡ value_at f e embed b.row (tree_by op s t)
+embedded-value_at f L e M embed H a b h op x y z s t k l q =
+    value_at-row f e embed a b h (embed z) (tree_by op s t)
+    (embedded-value_by f L e M embed H (row_reading f e embed a.row) (by_ring f e embed a.row) op x y z s t k l q)
 
 pub adds-same : {F E : Type 0} (f : Ring F) (e : Ring E) (embed : F → E) (a : Checked F E) → Adds f e embed a a []
 adds-same f e embed a = record { row = refl; values = sym (append-nil a.values) }

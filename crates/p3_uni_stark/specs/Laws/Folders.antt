@@ -1,16 +1,41 @@
 -- The laws of builders for the folders.
-use Rattle.std.proofs.Common.{◌≡◌, List, ◌++◌, map, sym, ◌∙◌, ap, subst}
+use Rattle.std.proofs.Common.{◌≡◌, ℕ, true, false, List, ◌++◌, map, get_or, refl, sym, ◌∙◌, ap, subst}
 use Rattle.std.proofs.lemmas.List.{map-append}
 use Rattle.std.proofs.lemmas.Simd.{map-map}
-use Rattle.p3_field.specs.Ring.{Ring}
+use Rattle.std.proofs.Math.ListN.{get_or-map}
+use Rattle.p3_field.specs.Ring.{Ring, RingLaws}
+use Rattle.p3_field.specs.Field.{RingHom}
 use Rattle.p3_air.specs.Tree.{Tree, Asserted, Reading, ev, ev_asserted, over_base}
-use Rattle.p3_uni_stark.specs.Point.{PointValues, point_shape}
+use Rattle.p3_air.specs.declared.cells.Cell.{Cell}
+use Rattle.p3_air.specs.declared.cells.Cell.TheVariants.{Main, Preprocessed, Periodic, Public, FirstRow, LastRow, Transition}
+use Rattle.p3_air.specs.PointValues.{point_cell}
+use Rattle.p3_air.specs.Operation.{Operation, tree_by, value_by}
+use Rattle.p3_air.specs.Laws.Operation.{ReadsBy, value_by-tree, embedded-value_by}
+use Rattle.p3_uni_stark.specs.Point.{PointValues, point_shape, reading, embedded}
 use Rattle.p3_uni_stark.specs.Fold.{fold_from, Sum, weighed_from}
 use Rattle.p3_uni_stark.specs.Laws.Folds.{fold_after, weighed_after}
 
 -- a value in a state is the tree's value in each state that reads the same
 pub value_persists : {F E S : Type 0} (reads : S → Reading F E) (p q : S) (e : E) (t : Tree F) → q ≡ p → e ≡ ev (reads p) t → e ≡ ev (reads q) t
 value_persists {F = F} {E = E} {S = S} reads p q e t h k = let P : S → Type 0 = λ r. e ≡ ev (reads r) t in subst P (sym h) k
+
+by_ring : {F E : Type 0} (s : Ring E) (embed : F → E) (p : PointValues F E) → ReadsBy s (reading s embed p)
+by_ring s embed p = record { adds = λ x y. refl; subs = λ x y. refl; muls = λ x y. refl }
+
+-- the value of an operation on values of trees is the value of its tree in each state that reads the same
+pub value_by_persists : {F E S : Type 0} (s : Ring E) (embed : F → E) (values : S → PointValues F E) (p q : S) (op : Operation) (x y z : E) (t u : Tree F) → q ≡ p
+    → x ≡ ev (reading s embed (values p)) t → y ≡ ev (reading s embed (values p)) u → z ≡ value_by s op x y → z ≡ ev (reading s embed (values q)) (tree_by op t u)
+value_by_persists s embed values p q op x y z t u h k l e =
+    value_persists (λ r. reading s embed (values r)) p q z (tree_by op t u) h
+    (value_by-tree s (reading s embed (values p)) (by_ring s embed (values p)) op x y z t u k l e)
+
+-- the same of values of the base field, which go into the extension
+pub base_value_by_persists : {F E S : Type 0} (f : Ring F) (L : RingLaws f) (s : Ring E) (M : RingLaws s) (embed : F → E) (H : RingHom f s embed) (values : S → PointValues F E) (p q : S)
+    (op : Operation) (x y z : F) (t u : Tree F) → q ≡ p
+    → embed x ≡ ev (reading s embed (values p)) t → embed y ≡ ev (reading s embed (values p)) u → z ≡ value_by f op x y → embed z ≡ ev (reading s embed (values q)) (tree_by op t u)
+base_value_by_persists f L s M embed H values p q op x y z t u h k l e =
+    value_persists (λ r. reading s embed (values r)) p q (embed z) (tree_by op t u) h
+    (embedded-value_by f L s M embed H (reading s embed (values p)) (by_ring s embed (values p)) op x y z t u k l e)
 
 -- states that read the same have the same cells
 pub shape_along : {F E S : Type 0} (values : S → PointValues F E) (p q : S) → q ≡ p → point_shape (values q) ≡ point_shape (values p)
@@ -37,3 +62,18 @@ weighed_along {F = F} {E = E} {S = S} s reads p q a b c t u h k l =
     let value : Asserted F → E = ev_asserted (reads p) in
     subst P h l ∙ (ap (λ v. weighed_from s v (map value u)) k
     ∙ (weighed_after s a (map value t) (map value u) ∙ ap (weighed_from s a) (sym (map-append value t u))))
+
+mapped : {A B : Type 0} (embed : A → B) (z : A) (w : B) → embed z ≡ w → (xs : List A) (i : ℕ) → embed (get_or xs i z) ≡ get_or (map embed xs) i w
+mapped embed z w e xs i = sym (get_or-map embed xs i z) ∙ ap (get_or (map embed xs) i) e
+
+-- the image of a cell's value is its value among the images
+pub image_of_cell : {A B : Type 0} (embed : A → B) (z : A) (w : B) → embed z ≡ w → (p : PointValues A A) (c : Cell) → embed (point_cell z (λ x. x) p c) ≡ point_cell w embed (embedded embed p) c
+image_of_cell embed z w e p (Main true n) = mapped embed z w e p.main_next n
+image_of_cell embed z w e p (Main false n) = mapped embed z w e p.main_local n
+image_of_cell embed z w e p (Preprocessed true n) = mapped embed z w e p.preprocessed_next n
+image_of_cell embed z w e p (Preprocessed false n) = mapped embed z w e p.preprocessed_local n
+image_of_cell embed z w e p (Periodic n) = mapped embed z w e p.periodic n
+image_of_cell embed z w e p (Public n) = ap embed (get_or-map (λ x. x) p.public n z) ∙ mapped embed z w e p.public n
+image_of_cell embed z w e p FirstRow = refl
+image_of_cell embed z w e p LastRow = refl
+image_of_cell embed z w e p Transition = refl

@@ -1,7 +1,7 @@
 use Rattle.std.proofs.lemmas.Result.{IfOk-weaker, on_err_weaker}
 use Rattle.std.proofs.Common.{[], ◌∙◌}
 use Rattle.p3_air.specs.Laws.Stand.{holds_on_err}
-use Rattle.p3_air.specs.Asserting.{AssertsOne}
+use Rattle.p3_air.specs.Asserting.{AssertsOne, ComputesBool}
 use Rattle.p3_air.proofs.builder.AirBuilder.assert_bool.Goals as goal
 
 pub returns-clause-grows : goal.returns-clause-grows
@@ -35,14 +35,24 @@ returns-clause-refused g c =
 pub returns-clause-asserts : goal.returns-clause-asserts
 returns-clause-asserts g c =
     let B = g.Self.AirBuilder in
+    let one = g.Self.F.RingCore.ring.one in
     let then = g.met.Self.AirBuilder.grows_along in
+    let bool : ComputesBool B.stands B.computes one c.args.x c.mul.new.self c.in_ok-product.product = record {
+      first = c.constant.new.self;
+      second = c.sub.new.self;
+      unit = c.in_ok-one.one;
+      less = c.in_ok-less.less;
+      unit_stands = rw (c.ONE.ensures ∙ g.met.Self.F.RingCore.one_is) at c.in_ok-one.ensures.stands;
+      less_computed = c.in_ok-less.ensures.computes;
+      product_computed = c.in_ok-product.ensures.computes;
+    } in
     IfOk-weaker c.assert_zero.result
     (λ _. B.asserts c.mul.new.self c.in_ok-product.product c.assert_zero.new.self)
-    (λ _. AssertsOne (λ a b. B.grows a b [] []) B.asserts c.args.self.now c.assert_zero.new.self)
+    (λ _. AssertsOne (λ m e. B.grows c.args.self.now m [] [] × ComputesBool B.stands B.computes one c.args.x m e) B.asserts c.assert_zero.new.self)
     (λ _ p. record {
       before = c.mul.new.self;
       expression = c.in_ok-product.product;
-      quiet_before = then _ _ _ [] [] [] [] c.constant.ensures.grows (then _ _ _ [] [] [] [] c.sub.ensures.grows c.mul.ensures.grows);
+      given = (then _ _ _ [] [] [] [] c.constant.ensures.grows (then _ _ _ [] [] [] [] c.sub.ensures.grows c.mul.ensures.grows), bool);
       asserted = p;
     })
     c.assert_zero.ensures.asserts

@@ -6,7 +6,7 @@ use Rattle.p3_air.specs.declared.cells.Cell.TheVariants.{FirstRow}
 use Rattle.p3_air.specs.Tree.{Tree, cell, bool_tree, over_base}
 use Rattle.p3_air.specs.Laws.Stand.{holds_on_err}
 use Rattle.p3_air.specs.Laws.Asserting.{asserts-more}
-use Rattle.p3_air.specs.Asserting.{AssertsOne, AssertsEach, AssertsFirst}
+use Rattle.p3_air.specs.Asserting.{AssertsOne, ComputesBool, AssertsEach, AssertsFirst}
 use Rattle.p3_air.proofs.builder.AirBuilder.assert_bools.Goals as goal
 
 pub loop-x-preserved : goal.loop-x-preserved
@@ -27,7 +27,7 @@ loop-x-preserved g c =
           (c.in_ok-assert_bool.ensures.grows _ one)),
       (let lt : i < length c.args.xs.now = c.loop-x-test.true in
           let xs = c.args.xs.now in
-          let step : g.row.Self.Denot → g.row.Self-Expr.Denot → g.row.Self.Denot → Type 0 = (λ a x b. AssertsOne (λ c d. g.Self.AirBuilder.grows c d [] []) g.Self.AirBuilder.asserts a b) in
+          let step : g.row.Self.Denot → g.row.Self-Expr.Denot → g.row.Self.Denot → Type 0 = (λ a x b. AssertsOne (λ m e. g.Self.AirBuilder.grows a m [] [] × ComputesBool g.Self.AirBuilder.stands g.Self.AirBuilder.computes g.Self.F.RingCore.ring.one x m e) g.Self.AirBuilder.asserts b) in
           let taken : take (i + 1) xs ≡ take i xs ++ c.x-item.result ∷ [] = take_more xs i c.x-item.result lt ∙ ap (λ (y : g.row.Self-Expr.Denot). take i xs ++ y ∷ []) (sym c.x-item.is) in
           let P : List g.row.Self-Expr.Denot → Type 0 = λ ys. AssertsEach step ys c.args.self.now c.assert_bool.new.self in
           subst P (sym taken) (asserts-more step (take i xs) c.x-item.result c.args.self.now c.loop-x.self c.assert_bool.new.self c.loop-x.invariant.3 c.in_ok-assert_bool.ensures.asserts)),
@@ -50,7 +50,7 @@ returns-clause-asserts g c =
 
 pub returns-in_err-assert_bool-clause-some : goal.returns-in_err-assert_bool-clause-some
 returns-in_err-assert_bool-clause-some g c =
-    let step : g.row.Self.Denot → g.row.Self-Expr.Denot → g.row.Self.Denot → Type 0 = (λ a x b. AssertsOne (λ c d. g.Self.AirBuilder.grows c d [] []) g.Self.AirBuilder.asserts a b) in
+    let step : g.row.Self.Denot → g.row.Self-Expr.Denot → g.row.Self.Denot → Type 0 = (λ a x b. AssertsOne (λ m e. g.Self.AirBuilder.grows a m [] [] × ComputesBool g.Self.AirBuilder.stands g.Self.AirBuilder.computes g.Self.F.RingCore.ring.one x m e) g.Self.AirBuilder.asserts b) in
     let some : AssertsFirst (λ a b. g.Self.AirBuilder.grows a b [] []) step c.args.xs.now c.args.self.now c.assert_bool.new.self = record {
       count = c.loop-x.x-index;
       within = omega (arith, c.loop-x-test.true);

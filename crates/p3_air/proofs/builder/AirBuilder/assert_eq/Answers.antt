@@ -1,6 +1,7 @@
 use Rattle.std.proofs.Common.{[]}
 use Rattle.std.proofs.lemmas.Result.{IfOk-weaker, on_err_weaker}
 use Rattle.p3_air.specs.Tree.{difference}
+use Rattle.p3_air.specs.Operation.{minus}
 use Rattle.p3_air.specs.Asserting.{AssertsOne}
 use Rattle.p3_air.proofs.builder.AirBuilder.assert_eq.Goals as goal
 
@@ -19,6 +20,11 @@ returns-clause-asserts g c =
     let B = g.Self.AirBuilder in
     IfOk-weaker c.assert_zero.result
     (λ _. B.asserts c.sub.new.self c.in_ok-difference.difference c.assert_zero.new.self)
-    (λ _. AssertsOne (λ a b. B.grows a b [] []) B.asserts c.args.self.now c.assert_zero.new.self)
-    (λ _ p. record { before = c.sub.new.self; expression = c.in_ok-difference.difference; quiet_before = c.sub.ensures.grows; asserted = p })
+    (λ _. AssertsOne (λ m e. B.grows c.args.self.now m [] [] × B.computes c.args.self.now minus c.args.x c.args.y m e) B.asserts c.assert_zero.new.self)
+    (λ _ p. record {
+      before = c.sub.new.self;
+      expression = c.in_ok-difference.difference;
+      given = (c.sub.ensures.grows, c.in_ok-difference.ensures.computes);
+      asserted = p;
+    })
     c.assert_zero.ensures.asserts
