@@ -1,7 +1,7 @@
 -- The plain scheme's checks of a proof's claims are the verifier's, but for some that hold of each proof of the form.
-use Rattle.std.proofs.Common.{◌≡◌, ℕ, zero, suc, ◌≤◌, ◌↔◌, inl, inr, Some, None, List, [], ◌∷◌, ◌++◌, length, refl, sym, ◌∙◌, ap, subst, arith}
-use Rattle.std.specs.Prelude.{All, get_or}
-use Rattle.p3_field.specs.Poly.{table}
+use Rattle.std.proofs.Common.{◌≡◌, ℕ, zero, suc, ◌≤◌, inl, inr, Some, None, List, [], ◌∷◌, ◌++◌, length, refl, sym, ◌∙◌, ap, subst, arith}
+use Rattle.std.specs.Prelude.{All, get_or, IfOk, MatchOption, Option, Result, Ok, Err}
+use Rattle.std.specs.declared.alloc.AllocError.{AllocError}
 use Rattle.p3_field.specs.Domain.{CosetData}
 use Rattle.p3_field.specs.BabyBear.{reduce, bear_ring}
 use Rattle.p3_field.specs.Quartic.{quartic_ring, of_bear_value}
@@ -21,10 +21,15 @@ use Rattle.batch_tool.specs.Opening.{plain_scheme, trace_claim, quotient_claim}
 use Rattle.batch_tool.specs.Proof.{ProofData}
 use Rattle.batch_tool.specs.Swap.{swap_stated}
 use Rattle.batch_tool.specs.Tool.{tool}
-use Rattle.batch_tool.specs.Verify.{degree_check, value_check, point_checks, round_checks, opening_checks, committed, main_of, quotient_of, local_opened, next_opened, chunk_opened, zeta_drawn}
+use Rattle.batch_tool.specs.Verify.{degree_check, value_check, point_checks, round_checks, opening_checks, main_of, quotient_of, local_opened, next_opened, chunk_opened, zeta_drawn}
 use Rattle.batch_tool.specs.declared.refusal.Refusal.{Refusal}
 use Rattle.batch_tool.specs.declared.refusal.Refusal.TheVariants.{InvalidOpeningArgument}
 use Rattle.batch_tool.proofs.Shapes.{main-alone, quotient-alone, main-width, main-height, quotient-width, quotient-height, local-length, next-length, chunk-length}
+
+-- what a fault of the openings is refused as
+abbrev pub refusal_of : Option PlainError → Option Refusal
+refusal_of None = None
+refusal_of (Some e) = Some (InvalidOpeningArgument e)
 
 -- what is claimed of a commitment
 abbrev pub Claims : Type 0
@@ -211,3 +216,10 @@ module _ (k : ℕ) (a b x : BabyBear) (p : ProofData BabyBear QuarticExtension) 
   pub fault-as-met : (claims : List Claims) → claims ≡ claims_of → (fault : PlainError) → Fault plain_scheme quartic_ring of_bear_value claims fault
       → FirstRefusal (opening_checks tool swap p) (Some (InvalidOpeningArgument fault))
   fault-as-met claims e fault f = all-follow.first fault (subst (λ l. Fault plain_scheme quartic_ring of_bear_value l fault) e f)
+
+  -- the same of the verifier's whole answer
+  pub answer-as-met : (claims : List Claims) → claims ≡ claims_of → (o : Result (Option PlainError) AllocError)
+      → IfOk o (λ f. MatchOption f (Opens plain_scheme quartic_ring of_bear_value claims) (Fault plain_scheme quartic_ring of_bear_value claims)) → IfOk o (λ f. FirstRefusal (opening_checks tool swap p) (refusal_of f))
+  answer-as-met claims e (Ok None) h = opened-as-met claims e h
+  answer-as-met claims e (Ok (Some f)) h = fault-as-met claims e f h
+  answer-as-met claims e (Err x) h = tt

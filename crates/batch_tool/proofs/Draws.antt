@@ -1,7 +1,13 @@
 -- What the steps of a script leave, and tests of grinding values.
-use Rattle.std.proofs.Common.{◌≡◌, ℕ, Bool, true, false, List, [], ◌∷◌, ◌++◌, refl, sym, arith, ◌↔◌}
+use Rattle.std.proofs.Common.{◌≡◌, ℕ, true, false, List, [], ◌∷◌, ◌++◌, refl, ap, arith}
 use Rattle.std.proofs.lemmas.Bool.Decides.{nat_tests}
-use Rattle.std.specs.Prelude.{◌==◌, IsTrue}
+use Rattle.std.specs.Prelude.{◌==◌}
+use Rattle.p3_field.specs.Quartic.{quartic_parts}
+use Rattle.p3_field.specs.declared.baby_bear.BabyBear.{BabyBear}
+use Rattle.p3_field.specs.declared.quartic.QuarticExtension.{QuarticExtension}
+use Rattle.p3_challenger.specs.Sha256.{observed, after_draw, drawn_extension}
+use Rattle.p3_challenger.specs.declared.sha256_challenger.Sha256Challenger.{Sha256Challenger}
+use Rattle.batch_tool.specs.Tool.{tool}
 use Rattle.batch_tool.specs.Script.{ChallengerOf, Transcript, begun, play, observe_all, draw_all, after_draws, after_grinding}
 use Rattle.batch_tool.specs.BatchScript.{script_to_alpha, script_of_quotient, script_from_grinding, degree_bits_step, main_commitment_step, public_values_step, constraint_challenge_step, quotient_commitment_step, ood_pow_step, zeta_step, opening_step}
 
@@ -41,7 +47,8 @@ zero-passes n h = grind (arith, nat_tests, h)
 pub nonzero-fails : (n : ℕ) → (n ≡ 0 → ⊥) → (n == 0) ≡ false
 nonzero-fails n h = grind (arith, nat_tests, h)
 
--- the answer of a test for zero
-pub answer-is : (b : Bool) (n : ℕ) → (IsTrue b ↔ (n ≡ 0)) → b ≡ (n == 0)
-answer-is true n h = sym (zero-passes n (h.0 refl))
-answer-is false n h = sym (nonzero-fails n (λ e. let t : false ≡ true = h.1 e in cc))
+-- an extension element that is drawn behind a grinding value: its coefficients are so many draws
+pub drawn-parts : (s : Sha256Challenger) (w : BabyBear) (z : QuarticExtension) → z ≡ drawn_extension (after_draw (observed s w))
+    → quartic_parts z ≡ draw_all tool.challenger (after_grinding tool.challenger s 4 (w ∷ [])) 4
+unfolding tool draw_all drawn_extension
+drawn-parts s w z e = ap quartic_parts e

@@ -10,6 +10,7 @@ pub mod IdentityLemmas
 pub mod Interpolated
 pub mod JobAnswers
 pub mod OpenedLists
+mod AtZeta
 pub mod Patterns
 pub mod Proving
 pub mod QuotientLemmas

@@ -1,10 +1,11 @@
 -- The answer for a job, by what was drawn behind the grinding.
 use Rattle.std.proofs.Common.{◌≡◌, ℕ, List, Option, Some, None, Result, Ok, Err, refl, sym, subst, inl, inr}
-use Rattle.std.specs.Prelude.{IfOk, MatchOption, codes}
+use Rattle.std.specs.Prelude.{IfOk, IfSome, MatchOption, codes}
 use Rattle.p3_field.specs.declared.baby_bear.BabyBear.{BabyBear}
 use Rattle.p3_field.specs.declared.quartic.QuarticExtension.{QuarticExtension}
 use Rattle.batch_tool.specs.Honest.{IsInTraceDomain}
-use Rattle.batch_tool.specs.Prove.{IsDrawnAnswer, IsJobAnswer, LacksWitness, DrawsTracePoint, IsProved, instance_of}
+use Rattle.batch_tool.specs.Prove.{IsDrawnAnswer, IsJobAnswer, LacksWitness, DrawsTracePoint, IsProved, instance_of, zeta_of}
+use Rattle.batch_tool.specs.declared.opening.AtZeta.{AtZeta}
 use Rattle.batch_tool.specs.Tool.{tool}
 use Rattle.batch_tool.specs.declared.job.SwapTable.{SwapTable}
 use Rattle.batch_tool.specs.declared.status.Status.{Status}
@@ -21,6 +22,23 @@ at-none A B o e m = subst (λ v. MatchOption v A B) e m
 
 pub at-some : {X : Type 0} (A : Type 0) (B : X → Type 0) (o : Option X) (x : X) → o ≡ Some x → MatchOption o A B → B x
 at-some A B o x e m = subst (λ v. MatchOption v A B) e m
+
+pub if-some : {X : Type 0} (B : X → Type 0) (o : Option X) (x : X) → o ≡ Some x → IfSome o B → B x
+if-some B o x e m = subst (λ v. IfSome v B) e m
+
+pub if-ok : {X E : Type 0} (B : X → Type 0) (o : Result X E) (x : X) → o ≡ Ok x → IfOk o B → B x
+if-ok B o x e m = subst (λ v. IfOk v B) e m
+
+-- what is known of a drawn zeta, by whether one was drawn
+pub nothing-drawn : {T : Type 0} (A : Type 0) (B : BabyBear → QuarticExtension → Type 0) (o : Option (BabyBear × AtZeta QuarticExtension T)) → zeta_of o ≡ None
+    → MatchOption o A (λ d. B d.0 d.1.zeta) → A
+nothing-drawn A B None e m = m
+nothing-drawn A B (Some d) e m = cc
+
+pub drawn-at : {T : Type 0} (A : Type 0) (B : BabyBear → QuarticExtension → Type 0) (o : Option (BabyBear × AtZeta QuarticExtension T)) (d : BabyBear × QuarticExtension) → zeta_of o ≡ Some d
+    → MatchOption o A (λ d. B d.0 d.1.zeta) → B d.0 d.1
+drawn-at A B None d e m = cc
+drawn-at A B (Some c) d e m = let same : (c.0, c.1.zeta) ≡ d = cc in subst (λ (v : BabyBear × QuarticExtension). B v.0 v.1) same m
 
 pub job-answered : (t : SwapTable) (Fact : BabyBear → QuarticExtension → List ℕ → Type 0) (drawn : Option (BabyBear × QuarticExtension)) (s : Status) (text : List ℕ)
     → (drawn ≡ None → text ≡ codes "refused WitnessNotFound ood\n" → LacksWitness t text)

@@ -1,5 +1,5 @@
 -- The first check of a proof that fails, from its parts.
-use Rattle.std.proofs.Common.{◌≡◌, Bool, true, false, List, [], ◌∷◌, ◌++◌, Option, Some, None, Result, Ok, Err, inl, inr, refl, sym, ◌∙◌, subst}
+use Rattle.std.proofs.Common.{◌≡◌, true, false, List, [], ◌∷◌, ◌++◌, Option, Some, None, Result, Ok, Err, inl, inr, refl, sym, ◌∙◌, subst}
 use Rattle.std.proofs.Common.{ℕ, Vec, Global}
 use Rattle.std.specs.Prelude.{IfOk, IsErr, IsOkAnd, codes}
 use Rattle.std.proofs.lemmas.Bool.{false≢true}
@@ -8,21 +8,59 @@ use Rattle.p3_field.specs.Checks.{check, NoneFails, FirstFails, FirstRefusal}
 use Rattle.p3_field.specs.Laws.Checks.{first_here, first_stops, refusal_later, refusal_after}
 use Rattle.p3_field.specs.declared.baby_bear.BabyBear.{BabyBear}
 use Rattle.p3_field.specs.declared.quartic.QuarticExtension.{QuarticExtension}
-use Rattle.batch_tool.specs.Honest.{Instance, IsInTraceDomain, witness_passes}
+use Rattle.batch_tool.specs.Honest.{Instance, IsInTraceDomain, before_grinding, witness_passes}
 use Rattle.batch_tool.specs.Proof.{ProofData}
 use Rattle.batch_tool.specs.Tool.{tool}
-use Rattle.batch_tool.specs.Verify.{main_of, quotient_of, local_opened, next_opened, chunk_opened, alpha_drawn, zeta_drawn, Identity, opening_checks, identity_checks, checks}
+use Rattle.batch_tool.specs.Script.{passes}
+use Rattle.batch_tool.specs.Verify.{main_of, quotient_of, Identity, opening_checks, checks_at, identity_checks, checks}
 use Rattle.batch_tool.specs.FileAnswer.{file_checks, IsFileAnswer}
 use Rattle.batch_tool.specs.Refusals.{refusal_text}
 use Rattle.batch_tool.specs.declared.first_form.FirstForm.{FirstForm}
 use Rattle.batch_tool.specs.declared.status.Status.{Status}
 use Rattle.batch_tool.specs.declared.status.Status.TheVariants.{Done, Refused}
 use Rattle.batch_tool.specs.declared.refusal.Refusal.{Refusal}
-use Rattle.batch_tool.specs.declared.refusal.Refusal.TheVariants.{OodPowWitness, OodPointInDomain, OodEvaluationMismatch}
+use Rattle.batch_tool.specs.declared.refusal.Refusal.TheVariants.{OodPowWitness, InvalidOpeningArgument, OodPointInDomain, OodEvaluationMismatch}
+use Rattle.plain_pcs.specs.declared.error.PlainError.{PlainError}
+use Rattle.p3_challenger.specs.Sha256.{observed, bits_drawn}
+use Rattle.p3_challenger.specs.declared.sha256_challenger.Sha256Challenger.{Sha256Challenger}
+use Rattle.batch_tool.proofs.Draws.{zero-passes, nonzero-fails}
+use Rattle.batch_tool.proofs.Backend.{refusal_of}
+
+-- a grinding value passes where the bits that are drawn behind it are zero
+pub passed-holds : (s : Sha256Challenger) (w : BabyBear) → bits_drawn (observed s w) 4 ≡ 0 → passes tool.challenger s 4 (w ∷ []) ≡ true
+unfolding tool
+passed-holds s w h = zero-passes (bits_drawn (observed s w) 4) h
+
+pub not-passed : (s : Sha256Challenger) (w : BabyBear) → (bits_drawn (observed s w) 4 ≡ 0 → ⊥) → passes tool.challenger s 4 (w ∷ []) ≡ true → ⊥
+unfolding tool
+not-passed s w h t = let f : true ≡ false = sym t ∙ nonzero-fails (bits_drawn (observed s w) 4) h in cc
+
+module _ (t : Instance BabyBear) (alpha zeta : QuarticExtension) (local next chunk : List QuarticExtension) where
+  -- the checks of zeta and of the identity
+  pub inside-fails : IsInTraceDomain tool t zeta → FirstRefusal (checks_at tool t alpha zeta local next chunk) (Some OodPointInDomain)
+  unfolding FirstFails
+  inside-fails inside = inr (λ outside. outside inside, refl)
+
+  pub identity-fails : (IsInTraceDomain tool t zeta → ⊥) → (Identity tool t alpha zeta local next chunk → ⊥) → FirstRefusal (checks_at tool t alpha zeta local next chunk) (Some (OodEvaluationMismatch 0))
+  unfolding FirstFails
+  identity-fails outside fails = inl (outside, inr (fails, refl))
+
+  pub identity-holds : (IsInTraceDomain tool t zeta → ⊥) → Identity tool t alpha zeta local next chunk → FirstRefusal (checks_at tool t alpha zeta local next chunk) None
+  unfolding NoneFails
+  identity-holds outside holds = (outside, (holds, tt))
 
 module _ (t : Instance BabyBear) (p : ProofData BabyBear QuarticExtension) where
   abbrev Passes : Type 0
   Passes = witness_passes tool t (main_of p) (quotient_of p) p.ood_pow_witness ≡ true
+
+  -- whether the grinding value passes, by the bits that are drawn behind it
+  pub passes-by : (s : Sha256Challenger) (w : BabyBear) → s ≡ (before_grinding tool t (main_of p) (quotient_of p)).state → w ≡ p.ood_pow_witness → bits_drawn (observed s w) 4 ≡ 0 → Passes
+  unfolding tool
+  passes-by s w e v h = (λ i. passes tool.challenger (sym e i) 4 (sym v i ∷ [])) ∙ passed-holds s w h
+
+  pub fails-by : (s : Sha256Challenger) (w : BabyBear) → s ≡ (before_grinding tool t (main_of p) (quotient_of p)).state → w ≡ p.ood_pow_witness → (bits_drawn (observed s w) 4 ≡ 0 → ⊥) → Passes → ⊥
+  unfolding tool
+  fails-by s w e v h t = not-passed s w h ((λ i. passes tool.challenger (e i) 4 (v i ∷ [])) ∙ t)
 
   pub grinding-fails : (Passes → ⊥) → FirstRefusal (checks tool t p) (Some (OodPowWitness 4))
   unfolding checks
@@ -40,34 +78,18 @@ module _ (t : Instance BabyBear) (p : ProofData BabyBear QuarticExtension) where
       refusal_later (check (OodPowWitness 4) Passes) (opening_checks tool t p ++ identity_checks tool t p) a w
       (refusal_after (opening_checks tool t p) (identity_checks tool t p) a f g)
 
-  -- the checks of zeta and of the identity
-  pub inside-fails : IsInTraceDomain tool t (zeta_drawn tool t p) → FirstRefusal (identity_checks tool t p) (Some OodPointInDomain)
-  unfolding FirstFails
-  inside-fails inside = inr (λ outside. outside inside, refl)
-
-  abbrev Holds : Type 0
-  Holds = Identity tool t (alpha_drawn tool t p) (zeta_drawn tool t p) (local_opened p.instances) (next_opened p.instances) (chunk_opened p.instances)
-
-  pub identity-fails : (IsInTraceDomain tool t (zeta_drawn tool t p) → ⊥) → (Holds → ⊥) → FirstRefusal (identity_checks tool t p) (Some (OodEvaluationMismatch 0))
-  unfolding FirstFails
-  identity-fails outside fails = inl (outside, inr (fails, refl))
-
-  pub identity-holds : (IsInTraceDomain tool t (zeta_drawn tool t p) → ⊥) → Holds → FirstRefusal (identity_checks tool t p) None
-  unfolding NoneFails
-  identity-holds outside holds = (outside, (holds, tt))
-
   -- what is refused first, by what the openings refuse and what is refused last
-  pub first-refused : (opening result : Result (Option Refusal) AllocError) (last : Option Refusal) → Passes
-      → IfOk opening (λ a. FirstRefusal (opening_checks tool t p) a)
+  pub first-refused : (opening : Result (Option PlainError) AllocError) (result : Result (Option Refusal) AllocError) (last : Option Refusal) → Passes
+      → IfOk opening (λ o. FirstRefusal (opening_checks tool t p) (refusal_of o))
       → FirstRefusal (identity_checks tool t p) last
-      → (opening ≡ Ok None → result ≡ Ok last) → ((r : Refusal) → opening ≡ Ok (Some r) → result ≡ Ok (Some r)) → (IsErr opening → IsErr result)
+      → (opening ≡ Ok None → result ≡ Ok last) → ((e : PlainError) → opening ≡ Ok (Some e) → result ≡ Ok (Some (InvalidOpeningArgument e))) → (IsErr opening → IsErr result)
       → IfOk result (λ a. FirstRefusal (checks tool t p) a)
   first-refused (Ok None) result last w f g none some memory =
       let P : Result (Option Refusal) AllocError → Type 0 = λ r. IfOk r (λ a. FirstRefusal (checks tool t p) a) in
       subst P (sym (none refl)) (last-answers last w f g)
-  first-refused (Ok (Some r)) result last w f g none some memory =
+  first-refused (Ok (Some e)) result last w f g none some memory =
       let P : Result (Option Refusal) AllocError → Type 0 = λ r. IfOk r (λ a. FirstRefusal (checks tool t p) a) in
-      subst P (sym (some r refl)) (opening-fails r w f)
+      subst P (sym (some e refl)) (opening-fails (InvalidOpeningArgument e) w f)
   first-refused (Err e) (Ok a) last w f g none some memory = absurd (false≢true (memory refl))
   first-refused (Err e) (Err x) last w f g none some memory = tt
 
@@ -77,13 +99,6 @@ pub answers-along : (t : Instance BabyBear) (p q : ProofData BabyBear QuarticExt
 answers-along t p q a e f =
     let P : ProofData BabyBear QuarticExtension → Type 0 = λ v. FirstRefusal (checks tool t v) a in
     subst P e f
-
--- a test's answer, by what it is the answer to
-pub not-passed : (b t : Bool) → b ≡ t → b ≡ false → t ≡ true → ⊥
-not-passed b t e n h = let f : true ≡ false = sym h ∙ (sym e ∙ n) in cc
-
-pub passed-holds : (b t : Bool) → b ≡ t → b ≡ true → t ≡ true
-passed-holds b t e n = sym e ∙ n
 
 -- the status and the text, by what is refused
 pub file-answered : (file : FirstForm) (refusal : Result (Option Refusal) AllocError) (result : Result (Status × Vec ℕ Global) AllocError)

@@ -13,7 +13,7 @@ use Rattle.batch_tool.specs.declared.command.Command.{Command}
 use Rattle.batch_tool.specs.declared.command.Command.TheVariants.{Prove, Verify}
 use Rattle.batch_tool.specs.declared.job.Job.{Job}
 use Rattle.batch_tool.specs.declared.status.Status.{Status}
-use Rattle.batch_tool.specs.declared.status.Status.TheVariants.{Done, Refused, Usage, BadInput, ReadFault, WriteFault, OutOfMemory, TooLarge}
+use Rattle.batch_tool.specs.declared.status.Status.TheVariants.{Usage, BadInput, ReadFault, WriteFault, OutOfMemory, TooLarge}
 
 -- the words name this command
 abbrev pub Names : List (List ℕ) → Command → Type 0

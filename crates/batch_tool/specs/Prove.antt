@@ -12,6 +12,8 @@ use Rattle.batch_tool.specs.Honest.{Instance, IsCommitted, IsGround, IsInTraceDo
 use Rattle.batch_tool.specs.Tool.{tool}
 use Rattle.batch_tool.specs.Swap.{swap_instance, last_right}
 use Rattle.batch_tool.specs.Proof.{ProofData}
+use Rattle.batch_tool.specs.Reading.{opened_at}
+use Rattle.batch_tool.specs.declared.opening.AtZeta.{AtZeta}
 use Rattle.batch_tool.specs.ProofFile.{file_words}
 use Rattle.batch_tool.specs.FirstForm.{IsSwapShape}
 use Rattle.line_format.specs.Texts.{line_text}
@@ -73,6 +75,17 @@ IsOpenedText table main quotient witness zeta' text =
     (k n : ℕ) (fs gs : List (List BabyBear)) → IsCommittedTo k fs main.0 main.1 → IsCommittedTo k gs quotient.0 quotient.1
     → witness ≡ of_nat bear_ring n → zeta' ≡ zeta tool (instance_of table) (committed_matrix k fs) (committed_matrix k gs) n
     → text ≡ proof_text table (honest_proof tool (instance_of table) fs (committed_matrix k fs) gs (committed_matrix k gs) n)
+
+-- the lists are the values at zeta of the trace's polynomials, their values at the point after it, and the values at zeta of the quotient's
+pub record AreValuesAtZeta (log_rows : ℕ) (trace quotient : List (List BabyBear)) (zeta' : QuarticExtension) (local next chunk : List QuarticExtension) : Type 0 where
+  pub local_is : local ≡ opened_at tool.extension trace zeta'
+  pub next_is : next ≡ opened_at tool.extension trace (tool.extension.ring.mul (tool.extension.embed (tool.field.root log_rows)) zeta')
+  pub chunk_is : chunk ≡ opened_at tool.extension quotient zeta'
+
+-- the grinding value and zeta, where they were drawn
+abbrev pub zeta_of : {T : Type 0} → Option (BabyBear × AtZeta QuarticExtension T) → Option (BabyBear × QuarticExtension)
+zeta_of None = None
+zeta_of (Some d) = Some (d.0, d.1.zeta)
 
 -- The status and the text by what was drawn behind the grinding, a grinding value and zeta: a refusal where nothing was drawn, or
 -- where zeta lies in the trace domain, and else a text with this fact.

@@ -50,6 +50,12 @@ Identity c t alpha zeta local next chunk =
     ≡ c.extension.ring.mul (val_in c.extension (van c.field.ring c.field.inv (trace_domain c t)) zeta)
     (combine c.extension.ring c.extension.basis 0 chunk)
 
+-- a point that is drawn, and the identity there
+abbrev pub checks_at : {S F E : Type 0} → Configuration S F E → Instance F → (alpha zeta : E) → (local next chunk : List E) → List (Check Refusal)
+checks_at c t alpha zeta local next chunk =
+    check OodPointInDomain (IsInTraceDomain c t zeta → ⊥)
+    ∷ check (OodEvaluationMismatch 0) (Identity c t alpha zeta local next chunk) ∷ []
+
 module _ {S F E : Type 0} (c : Configuration S F E) (table' : Instance F) (p : ProofData F E) where
   -- the challenges, drawn again from the statement and the proof
   abbrev pub alpha_drawn : E
@@ -105,9 +111,7 @@ module _ {S F E : Type 0} (c : Configuration S F E) (table' : Instance F) (p : P
 
   -- zeta, and the identity there
   abbrev pub identity_checks : List (Check Refusal)
-  identity_checks =
-      check OodPointInDomain (IsInTraceDomain c table' zeta_drawn → ⊥)
-      ∷ check (OodEvaluationMismatch 0) (Identity c table' alpha_drawn zeta_drawn (local_opened p.instances) (next_opened p.instances) (chunk_opened p.instances)) ∷ []
+  identity_checks = checks_at c table' alpha_drawn zeta_drawn (local_opened p.instances) (next_opened p.instances) (chunk_opened p.instances)
 
   -- The checks of a proof of one table of two columns: the grinding before zeta, whose refusal repeats the configuration's number of bits, the backend's
   -- checks, zeta, and the identity.

@@ -2,6 +2,7 @@
 
 ghost use Rattle.std.specs.Prelude.{◌≡◌, ◌∷◌, [], IfOk};
 
+use crate::opening::ProofValues;
 use crate::proof::TableProof;
 use p3_field::{BabyBear, Mem, QuarticExtension};
 use p3_matrix::RowMajorMatrix;
@@ -18,12 +19,8 @@ pub struct CommittedProof {
     pub main: PlainCommitment<BabyBear>,
     /// The commitment to the quotient chunk: one matrix, 2^(degree_bits + 1) rows by 4 columns.
     pub quotient_chunk: PlainCommitment<BabyBear>,
-    /// The trace columns' values at zeta: two values.
-    pub trace_local: Vec<QuarticExtension>,
-    /// The trace columns' values at the point after zeta: two values.
-    pub trace_next: Vec<QuarticExtension>,
-    /// The quotient columns' values at zeta: four values.
-    pub chunk_values: Vec<QuarticExtension>,
+    /// The opened values.
+    pub values: ProofValues<QuarticExtension>,
     /// The base-2 logarithm of the table's height.
     pub degree_bits: u8,
     /// The grinding value before zeta.
@@ -37,7 +34,7 @@ impl Model for CommittedProof {
 
     ghost Value = { ProofData BabyBear QuarticExtension };
 
-    ghost view = { λ p. single_proof p.main.matrices p.quotient_chunk.matrices p.trace_local.items p.trace_next.items p.chunk_values.items p.degree_bits p.ood_pow_witness };
+    ghost view = { λ p. single_proof p.main.matrices p.quotient_chunk.matrices p.values.trace_local.items p.values.trace_next.items p.values.chunk_values.items p.degree_bits p.ood_pow_witness };
 }
 
 /// The commitment that has this one matrix.
@@ -56,9 +53,11 @@ impl CommittedProof {
         Ok(CommittedProof {
             main: commitment_of(alloc, proof.main)?,
             quotient_chunk: commitment_of(alloc, proof.quotient_chunk)?,
-            trace_local: proof.trace_local,
-            trace_next: proof.trace_next,
-            chunk_values: proof.chunk_values,
+            values: ProofValues {
+                trace_local: proof.trace_local,
+                trace_next: proof.trace_next,
+                chunk_values: proof.chunk_values,
+            },
             degree_bits: proof.degree_bits,
             ood_pow_witness: proof.ood_pow_witness,
         })

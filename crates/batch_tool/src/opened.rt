@@ -1,30 +1,22 @@
-//! The prover's opening of what it has committed to.
+//! Grinding, zeta, and the prover's openings there, over any challenger and scheme.
 
-ghost use Rattle.std.specs.Prelude.{◌≡◌, ℕ, ◌∷◌, [], IfOk, List, map};
-ghost use Rattle.p3_field.specs.Poly.{val_in};
+ghost use Rattle.std.specs.Prelude.{◌≡◌, ◌<◌, ◌^◌, ℕ, ◌∷◌, [], IfOk, IfSome, IsSomeAnd, List, MatchOption, None};
+ghost use Rattle.p3_field.specs.Ring.{of_nat};
 ghost use Rattle.p3_field.specs.declared.quartic.QuarticExtension.{QuarticExtension};
+ghost use Rattle.p3_challenger.specs.Grind.{Checked, IsLeast, checked_state};
 ghost use Rattle.p3_commit.specs.Commitments.{nested};
-ghost use Rattle.batch_tool.specs.Committed.{IsCommittedTo};
-ghost use Rattle.batch_tool.specs.Tool.{tool};
+ghost use Rattle.p3_commit.specs.Space.{IsPoint};
+ghost use Rattle.batch_tool.specs.Opening.{requests_at as requested_at, three_lists as three, AreTheThree, IsOpenedBy, OpensThree};
 
-use crate::commitments::Committed;
-use crate::scheme::{Scheme, scheme};
-use p3_challenger::Sha256Challenger;
-use p3_commit::{OpenedValues, OpeningRequest, Pcs, PcsFailure};
-use p3_field::{BabyBear, Mem, QuarticExtension};
-use plain_pcs::PlainProverData;
+use crate::opening::{AtZeta, ProofValues, one, two};
+use crate::scheme::Scheme;
+use p3_challenger::{CanSample, GrindingChallenger, Sha256Challenger};
+use p3_commit::{OpenedValues, OpeningRequest, Pcs, PcsFailure, PolynomialSpace};
+use p3_field::{
+    BasedVectorSpace, ExtensionField, Field, FieldCore, Mem, PrimeCharacteristicRing, PrimeCore64,
+    QuarticExtension, RingCore, TwoAdicCore,
+};
 use std::alloc::{AllocError, Global};
-
-/// The opened values of a proof.
-#[derive(Drop)]
-pub struct ProofValues {
-    /// The trace columns' values at zeta: two values.
-    pub trace_local: Vec<QuarticExtension>,
-    /// The trace columns' values at the point after zeta: two values.
-    pub trace_next: Vec<QuarticExtension>,
-    /// The quotient columns' values at zeta: four values.
-    pub chunk_values: Vec<QuarticExtension>,
-}
 
 /// The item of a list that has one.
 pub fn only<T: Drop>(mut list: Vec<T>) -> T
@@ -45,9 +37,9 @@ fn both<T: Drop>(mut list: Vec<T>) -> (T, T)
 }
 
 /// The lists of values: of the first commitment's one matrix at two points, and of the second's at one.
-fn three_lists(values: OpenedValues<QuarticExtension>) -> ProofValues
-    requires { (a : List QuarticExtension) × ((b : List QuarticExtension) × ((c : List QuarticExtension) × (nested values ≡ ((a ∷ b ∷ []) ∷ []) ∷ ((c ∷ []) ∷ []) ∷ []))) }
-    ensures { nested values ≡ ((result.trace_local.items ∷ result.trace_next.items ∷ []) ∷ []) ∷ ((result.chunk_values.items ∷ []) ∷ []) ∷ [] }
+fn three_lists(values: OpenedValues<QuarticExtension>) -> ProofValues<QuarticExtension>
+    requires { (a : List QuarticExtension) × ((b : List QuarticExtension) × ((c : List QuarticExtension) × (nested values ≡ three a b c))) }
+    ensures { nested values ≡ three result.trace_local.items result.trace_next.items result.chunk_values.items }
 {
     let (main, quotient) = both(values);
     let (trace_local, trace_next) = both(only(main));
@@ -59,57 +51,135 @@ fn three_lists(values: OpenedValues<QuarticExtension>) -> ProofValues
     }
 }
 
-/// What is to be opened: the trace at zeta and at the point after it, the quotient at zeta.
-fn opening_requests<'a>(
+/// What is to be opened at zeta: the trace there and at the point after it, the quotient there.
+fn requests_at<'a, E: Copy + Drop, D>(
     alloc: Global,
-    main: &'a Committed,
-    quotient: &'a Committed,
-    zeta: QuarticExtension,
-    next_point: QuarticExtension,
-) -> Mem<Vec<OpeningRequest<'a, PlainProverData<BabyBear>, QuarticExtension>>>
-    ensures { IfOk result (λ v. v.items ≡ record { prover_data = main.now.kept; points = (zeta ∷ next_point ∷ []) ∷ [] } ∷ record { prover_data = quotient.now.kept; points = (zeta ∷ []) ∷ [] } ∷ []) }
+    main: &'a D,
+    quotient: &'a D,
+    zeta: E,
+    next: E,
+) -> Mem<Vec<OpeningRequest<'a, D, E>>>
+    ensures { IfOk result (λ v. v.items ≡ requested_at main.now quotient.now zeta next) }
 {
-    let main_points = vec![in alloc; vec![in alloc; zeta, next_point]?]?;
-    let quotient_points = vec![in alloc; vec![in alloc; zeta]?]?;
-    Ok(vec![in alloc;
-        OpeningRequest {
-            prover_data: &main.kept,
-            points: main_points,
-        },
-        OpeningRequest {
-            prover_data: &quotient.kept,
-            points: quotient_points,
-        },
-    ]?)
+    let main_points = one(alloc, two(alloc, zeta, next)?)?;
+    let quotient_points = one(alloc, one(alloc, zeta)?)?;
+    let main = OpeningRequest {
+        prover_data: main,
+        points: main_points,
+    };
+    let quotient = OpeningRequest {
+        prover_data: quotient,
+        points: quotient_points,
+    };
+    two(alloc, main, quotient)
 }
 
-/// Opens the committed trace at zeta and at the point after it, and the committed quotient at zeta. It fails only for want
-/// of memory.
-pub fn open_committed(
+/// What a scheme opens: the values and their proof.
+type Opening<E, C, P> = Result<
+    (OpenedValues<E>, <P as Pcs<E, C>>::Proof),
+    PcsFailure<<P as Pcs<E, C>>::ProverError>,
+>;
+
+/// Opens at zeta, unless it lies in the trace domain.
+fn opened_outside<E: ExtensionField<P::Val>, C, P: Pcs<E, C>>(
     alloc: Global,
-    main: &Committed,
-    quotient: &Committed,
-    zeta: QuarticExtension,
-    next_point: QuarticExtension,
-    challenger: &mut Sha256Challenger,
-) -> Mem<ProofValues>
-    requires main { (k : ℕ) × ((fs : List (List BabyBear)) × IsCommittedTo k fs main.now.commitment main.now.kept) }
-    requires quotient { (k : ℕ) × ((fs : List (List BabyBear)) × IsCommittedTo k fs quotient.now.commitment quotient.now.kept) }
-    ensures main { IfOk result (λ o. (k : ℕ) (fs : List (List BabyBear)) → IsCommittedTo k fs main.now.commitment main.now.kept
-        → (o.trace_local.items ≡ map (λ f. val_in tool.extension f zeta) fs) × (o.trace_next.items ≡ map (λ f. val_in tool.extension f next_point) fs)) }
-    ensures quotient { IfOk result (λ o. (k : ℕ) (fs : List (List BabyBear)) → IsCommittedTo k fs quotient.now.commitment quotient.now.kept
-        → o.chunk_values.items ≡ map (λ f. val_in tool.extension f zeta) fs) }
-    ensures challenger { challenger.new ≡ challenger.old }
+    pcs: &P,
+    domain: &P::Domain,
+    main: &P::ProverData,
+    quotient: &P::ProverData,
+    zeta: E,
+    next: E,
+    challenger: &mut C,
+) -> Option<Opening<E, C, P>>
+    requires main { P.made pcs.now main.now }
+    requires quotient { P.made pcs.now quotient.now }
+    ensures domain { let inside = IsPoint (P.Domain.points domain.now) (P.Domain.point_at domain.now) E.embed zeta in MatchOption result inside (λ _. inside → ⊥) }
+    ensures opening { let requests = requested_at main.now quotient.now zeta next in IfSome result (λ r. IsOpenedBy E.ring E.embed P.Domain.points (P.open_fault pcs.now requests) (P.proves pcs.now challenger.old requests)
+        (P.holds pcs.now) (P.excludes pcs.now) (P.opens pcs.now challenger.old) requests r) }
+    ensures after { let requests = requested_at main.now quotient.now zeta next in
+        IfSome result (λ r. IfOk r (λ w. challenger.new ≡ P.after_open pcs.now challenger.old requests w.1)) }
 {
-    let requests = opening_requests(alloc, main, quotient, zeta, next_point)?;
-    match <Scheme as Pcs<QuarticExtension, Sha256Challenger>>::open(
-        &scheme(),
-        alloc,
-        requests,
-        challenger,
-    ) {
+    if domain.vanishing_poly_at_point(zeta).is_zero() {
+        return None;
+    }
+    match requests_at(alloc, main, quotient, zeta, next) {
+        Ok(requests) => Some(pcs.open(alloc, requests, challenger)),
+        Err(_) => Some(Err(PcsFailure::OutOfMemory)),
+    }
+}
+
+/// Grinds, draws zeta, and opens there what is committed of a table: the grinding value, zeta, and what the scheme opens.
+/// `step` is the generator of the trace domain. None where no element passes the grinding, and nothing is opened where zeta
+/// lies in the trace domain.
+pub fn open_at_zeta<E: ExtensionField<P::Val>, C, P: Pcs<E, C>>(
+    alloc: Global,
+    pcs: &P,
+    bits: usize,
+    domain: &P::Domain,
+    step: E,
+    main: &P::ProverData,
+    quotient: &P::ProverData,
+    challenger: &mut C,
+) -> Option<(P::Val, AtZeta<E, Option<Opening<E, C, P>>>)>
+where
+    P::Val: PrimeCore64,
+    C: GrindingChallenger<Witness = P::Val> + CanSample<E>,
+    requires bits { 2 ^ bits < P.Val.ORDER_U64 }
+    requires main { P.made pcs.now main.now }
+    requires quotient { P.made pcs.now quotient.now }
+    ensures witness { MatchOption result
+        ((n : ℕ) → n < P.Val.ORDER_U64 → Checked C.observed C.bits_drawn challenger.old bits (of_nat P.Val.ring n) → ⊥)
+        (λ d. IsLeast (λ n. Checked C.observed C.bits_drawn challenger.old bits (of_nat P.Val.ring n)) (P.Val.canonical d.0)) }
+    ensures zeta { IfSome result (λ d. d.1.zeta ≡ C.drawn (checked_state C.observed C.after_bits challenger.old bits d.0)) }
+    ensures domain { IfSome result (λ d. let inside = IsPoint (P.Domain.points domain.now) (P.Domain.point_at domain.now) E.embed d.1.zeta in MatchOption d.1.opening inside (λ _. inside → ⊥)) }
+    ensures opening { IfSome result (λ d. let state = C.after_draw (checked_state C.observed C.after_bits challenger.old bits d.0) in
+        let requests = requested_at main.now quotient.now d.1.zeta (E.ring.mul step d.1.zeta) in IfSome d.1.opening (λ r. IsOpenedBy E.ring E.embed P.Domain.points (P.open_fault pcs.now requests) (P.proves pcs.now state requests)
+        (P.holds pcs.now) (P.excludes pcs.now) (P.opens pcs.now state) requests r)) }
+    ensures after { IfSome result (λ d. let state = C.after_draw (checked_state C.observed C.after_bits challenger.old bits d.0) in
+        let requests = requested_at main.now quotient.now d.1.zeta (E.ring.mul step d.1.zeta) in
+        IfSome d.1.opening (λ r. IfOk r (λ w. challenger.new ≡ P.after_open pcs.now state requests w.1))) }
+{
+    let witness = challenger.grind(bits)?;
+    let zeta = challenger.sample();
+    let next = step * zeta;
+    let opening = opened_outside(alloc, pcs, domain, main, quotient, zeta, next, challenger);
+    Some((witness, AtZeta { zeta, opening }))
+}
+
+/// The three lists of what the program's scheme opens.
+fn opened_values(
+    opening: Opening<QuarticExtension, Sha256Challenger, Scheme>,
+) -> Mem<ProofValues<QuarticExtension>>
+    requires { OpensThree opening }
+    ensures { AreTheThree opening result }
+{
+    match opening {
         Ok((values, _)) => Ok(three_lists(values)),
         Err(PcsFailure::OutOfMemory) => Err(AllocError),
         Err(PcsFailure::Refused(_)) => unreachable!(),
+    }
+}
+
+/// The values of a table's proof, by zeta, or nothing where zeta lies in the trace domain.
+pub type OpenedAtZeta = AtZeta<QuarticExtension, Option<Mem<ProofValues<QuarticExtension>>>>;
+
+/// The same at zeta, if anything was opened there.
+pub fn values_at(
+    opened: AtZeta<QuarticExtension, Option<Opening<QuarticExtension, Sha256Challenger, Scheme>>>,
+) -> OpenedAtZeta
+    requires { IfSome opened.opening OpensThree }
+    ensures zeta { result.zeta ≡ opened.zeta }
+    ensures values { MatchOption opened.opening (result.opening ≡ None) (λ r. IsSomeAnd result.opening (AreTheThree r)) }
+{
+    let AtZeta { zeta, opening } = opened;
+    match opening {
+        None => AtZeta {
+            zeta,
+            opening: None,
+        },
+        Some(opening) => AtZeta {
+            zeta,
+            opening: Some(opened_values(opening)),
+        },
     }
 }

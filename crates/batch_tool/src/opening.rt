@@ -1,89 +1,182 @@
-//! What a proof of one table claims of its two commitments, and the test of it.
+//! Grinding, zeta, and what a proof claims there, over any scheme and challenger: so a verification begins in the state behind
+//! zeta's draw, whatever a scheme makes of it.
 
-ghost use Rattle.std.specs.Prelude.{◌≡◌, ◌≤◌, ◌∷◌, [], IfOk, MatchOption};
-ghost use Rattle.p3_field.specs.Quartic.{quartic_ring, of_bear_value};
-ghost use Rattle.plain_pcs.specs.Checks.{Opens, Fault};
-ghost use Rattle.batch_tool.specs.Opening.{plain_scheme, claim_on as claims_on, trace_claim as claims_on_trace, quotient_claim as claims_on_quotient};
+ghost use Rattle.std.specs.Prelude.{◌≡◌, ◌<◌, ◌^◌, ◌∷◌, [], IfOk, IfSome, MatchOption, None, Ok};
+ghost use Rattle.p3_challenger.specs.Grind.{Checked, checked_state};
+ghost use Rattle.batch_tool.specs.Opening.{claim_on as claims_on, claims_at as claimed_at};
 
-use crate::domain::{quotient_domain, trace_domain};
-use crate::scheme::{Scheme, scheme};
-use p3_challenger::Sha256Challenger;
-use p3_commit::{CommitmentOpening, MatrixOpening, Pcs, PcsFailure, PointOpening};
-use p3_field::{BabyBear, Mem, QuarticExtension, TwoAdicMultiplicativeCoset};
-use plain_pcs::{PlainCommitment, PlainError, PlainProof};
+use p3_challenger::{CanSample, GrindingChallenger};
+use p3_commit::{CommitmentOpening, MatrixOpening, Pcs, PcsFailure, PointOpening, PolynomialSpace};
+use p3_field::{
+    BasedVectorSpace, ExtensionField, Field, FieldCore, Mem, PrimeCharacteristicRing, PrimeCore64,
+    RingCore, TwoAdicCore,
+};
 use std::alloc::{AllocError, Global};
 
-/// The claims on one commitment.
-pub type Claim = CommitmentOpening<
-    QuarticExtension,
-    PlainCommitment<BabyBear>,
-    TwoAdicMultiplicativeCoset<BabyBear>,
->;
+/// Where a table's columns were given, and the factor from a point to the next one.
+#[derive(Drop)]
+pub struct TableDomains<D, E> {
+    /// The trace domain.
+    pub trace: D,
+    /// The domain of the quotient's one chunk.
+    pub quotient: D,
+    /// The generator of the trace domain.
+    pub step: E,
+}
+
+/// The opened values of a proof.
+#[derive(Drop)]
+pub struct ProofValues<E> {
+    /// The trace columns' values at zeta.
+    pub trace_local: Vec<E>,
+    /// The trace columns' values at the point after zeta.
+    pub trace_next: Vec<E>,
+    /// The quotient columns' values at zeta.
+    pub chunk_values: Vec<E>,
+}
+
+/// Zeta as it was drawn, and what the openings there came to.
+#[derive(Drop)]
+pub struct AtZeta<E, T> {
+    /// The drawn point.
+    pub zeta: E,
+    /// What the openings came to.
+    pub opening: T,
+}
+
+/// A list of one item.
+pub fn one<T: Drop>(alloc: Global, item: T) -> Mem<Vec<T>>
+    ensures { IfOk result (λ v. v.items ≡ item ∷ []) }
+{
+    let mut list = Vec::new(alloc);
+    list.push(item)?;
+    Ok(list)
+}
+
+/// A list of two items.
+pub fn two<T: Drop>(alloc: Global, first: T, second: T) -> Mem<Vec<T>>
+    ensures { IfOk result (λ v. v.items ≡ first ∷ second ∷ []) }
+{
+    let mut list = Vec::new(alloc);
+    list.push(first)?;
+    list.push(second)?;
+    Ok(list)
+}
 
 /// The claims on a commitment to one matrix, whose columns were given on this domain.
-fn claim_on(
+fn claim_on<E: Drop, C: Drop, D: Drop>(
     alloc: Global,
-    domain: TwoAdicMultiplicativeCoset<BabyBear>,
-    commitment: PlainCommitment<BabyBear>,
-    points: Vec<PointOpening<QuarticExtension>>,
-) -> Mem<Claim>
+    domain: D,
+    commitment: C,
+    points: Vec<PointOpening<E>>,
+) -> Mem<CommitmentOpening<E, C, D>>
     ensures { IfOk result (λ c. c ≡ claims_on domain commitment points.items) }
 {
-    let matrices = vec![in alloc; MatrixOpening { domain, points }]?;
+    let matrices = one(alloc, MatrixOpening { domain, points })?;
     Ok(CommitmentOpening {
         commitment,
         matrices,
     })
 }
 
-/// The claims on the committed trace of 2^`log_rows` rows: its columns' values at zeta, then those at the next point.
-pub fn trace_claim(
+/// What a table's proof claims of its two commitments at zeta: the trace columns' values there and at the point after it, and
+/// the quotient columns' values there.
+fn claims_at<E: RingCore, C: Drop, D: Drop>(
     alloc: Global,
-    log_rows: usize,
-    main: PlainCommitment<BabyBear>,
-    local: PointOpening<QuarticExtension>,
-    next: PointOpening<QuarticExtension>,
-) -> Mem<Claim>
-    requires { log_rows ≤ 10 }
-    ensures { IfOk result (λ c. c ≡ claims_on_trace log_rows main local next) }
+    domains: TableDomains<D, E>,
+    commitments: (C, C),
+    values: &ProofValues<E>,
+    zeta: E,
+    next: E,
+) -> Mem<Vec<CommitmentOpening<E, C, D>>>
+    ensures { IfOk result (λ v. v.items ≡ claimed_at domains.trace domains.quotient commitments.0 commitments.1 values.now.trace_local.items values.now.trace_next.items values.now.chunk_values.items zeta next) }
 {
-    let points = vec![in alloc; local, next]?;
-    claim_on(alloc, trace_domain(log_rows), main, points)
-}
-
-/// The claims on the committed quotient chunk of a table of 2^`log_rows` rows: its columns' values at zeta.
-pub fn quotient_claim(
-    alloc: Global,
-    log_rows: usize,
-    chunk: PlainCommitment<BabyBear>,
-    opened: PointOpening<QuarticExtension>,
-) -> Mem<Claim>
-    requires { log_rows ≤ 10 }
-    ensures { IfOk result (λ c. c ≡ claims_on_quotient log_rows chunk opened) }
-{
-    let points = vec![in alloc; opened]?;
-    claim_on(alloc, quotient_domain(log_rows), chunk, points)
-}
-
-/// The first fault that the scheme's verifier finds with claims, or None. It fails only for want of memory.
-pub fn opening_fault(
-    alloc: Global,
-    claims: Vec<Claim>,
-    challenger: &mut Sha256Challenger,
-) -> Mem<Option<PlainError>>
-    ensures fault { IfOk result (λ o. MatchOption o (Opens plain_scheme quartic_ring of_bear_value claims.items) (Fault plain_scheme quartic_ring of_bear_value claims.items)) }
-    ensures challenger { challenger.new ≡ challenger.old }
-{
-    let verified = <Scheme as Pcs<QuarticExtension, Sha256Challenger>>::verify(
-        &scheme(),
+    let local = PointOpening {
+        point: zeta,
+        values: Vec::from_slice(alloc, &values.trace_local)?,
+    };
+    let after = PointOpening {
+        point: next,
+        values: Vec::from_slice(alloc, &values.trace_next)?,
+    };
+    let opened = PointOpening {
+        point: zeta,
+        values: Vec::from_slice(alloc, &values.chunk_values)?,
+    };
+    let main = claim_on(
         alloc,
-        claims,
-        &PlainProof,
-        challenger,
-    );
-    match verified {
+        domains.trace,
+        commitments.0,
+        two(alloc, local, after)?,
+    )?;
+    let quotient = claim_on(alloc, domains.quotient, commitments.1, one(alloc, opened)?)?;
+    two(alloc, main, quotient)
+}
+
+/// The first fault that a scheme's verifier finds at zeta, or None where the proof opens the claims.
+fn fault_at<E: ExtensionField<P::Val>, C, P: Pcs<E, C>>(
+    alloc: Global,
+    pcs: &P,
+    domains: TableDomains<P::Domain, E>,
+    commitments: (P::Commitment, P::Commitment),
+    values: &ProofValues<E>,
+    proof: &P::Proof,
+    zeta: E,
+    challenger: &mut C,
+) -> Mem<Option<P::Error>>
+    ensures fault { let claims = claimed_at domains.trace domains.quotient commitments.0 commitments.1 values.now.trace_local.items values.now.trace_next.items values.now.chunk_values.items zeta (E.ring.mul domains.step zeta) in
+        IfOk result (λ o. MatchOption o (P.opens pcs.now challenger.old claims proof.now) (P.fault pcs.now challenger.old claims proof.now)) }
+    ensures after { let claims = claimed_at domains.trace domains.quotient commitments.0 commitments.1 values.now.trace_local.items values.now.trace_next.items values.now.chunk_values.items zeta (E.ring.mul domains.step zeta) in
+        result ≡ Ok None → challenger.new ≡ P.after_verify pcs.now challenger.old claims proof.now }
+{
+    let next = domains.step * zeta;
+    let claims = claims_at(alloc, domains, commitments, values, zeta, next)?;
+    match pcs.verify(alloc, claims, proof, challenger) {
         Ok(()) => Ok(None),
         Err(PcsFailure::Refused(fault)) => Ok(Some(fault)),
         Err(PcsFailure::OutOfMemory) => Err(AllocError),
     }
+}
+
+/// Tests the grinding value, draws zeta, and verifies what a table's proof claims there: the first fault, or None where the
+/// proof opens the claims. None in place of all where the grinding value doesn't pass.
+pub fn verify_at_zeta<E: ExtensionField<P::Val>, C, P: Pcs<E, C>>(
+    alloc: Global,
+    pcs: &P,
+    bits: usize,
+    domains: TableDomains<P::Domain, E>,
+    commitments: (P::Commitment, P::Commitment),
+    values: &ProofValues<E>,
+    proof: &P::Proof,
+    witness: P::Val,
+    challenger: &mut C,
+) -> Option<AtZeta<E, Mem<Option<P::Error>>>>
+where
+    P::Val: PrimeCore64,
+    C: GrindingChallenger<Witness = P::Val> + CanSample<E>,
+    requires { 2 ^ bits < P.Val.ORDER_U64 }
+    ensures passed { MatchOption result (Checked C.observed C.bits_drawn challenger.old bits witness → ⊥) (λ d. Checked C.observed C.bits_drawn challenger.old bits witness) }
+    ensures zeta { IfSome result (λ d. d.zeta ≡ C.drawn (checked_state C.observed C.after_bits challenger.old bits witness)) }
+    ensures opening { IfSome result (λ d. let state = C.after_draw (checked_state C.observed C.after_bits challenger.old bits witness) in
+        let claims = claimed_at domains.trace domains.quotient commitments.0 commitments.1 values.now.trace_local.items values.now.trace_next.items values.now.chunk_values.items d.zeta (E.ring.mul domains.step d.zeta) in
+        IfOk d.opening (λ o. MatchOption o (P.opens pcs.now state claims proof.now) (P.fault pcs.now state claims proof.now))) }
+    ensures after { IfSome result (λ d. let state = C.after_draw (checked_state C.observed C.after_bits challenger.old bits witness) in
+        let claims = claimed_at domains.trace domains.quotient commitments.0 commitments.1 values.now.trace_local.items values.now.trace_next.items values.now.chunk_values.items d.zeta (E.ring.mul domains.step d.zeta) in
+        d.opening ≡ Ok None → challenger.new ≡ P.after_verify pcs.now state claims proof.now) }
+{
+    if !challenger.check_witness(bits, witness) {
+        return None;
+    }
+    let zeta = challenger.sample();
+    let opening = fault_at(
+        alloc,
+        pcs,
+        domains,
+        commitments,
+        values,
+        proof,
+        zeta,
+        challenger,
+    );
+    Some(AtZeta { zeta, opening })
 }

@@ -1,28 +1,32 @@
 //! The command `prove`: the honest proof of a swap table.
 
-ghost use Rattle.std.specs.Prelude.{◌≡◌, ◌≤◌, ◌∷◌, [], IfOk, IsErr, Some, ℕ, List};
+ghost use Rattle.std.specs.Prelude.{◌≡◌, ◌≤◌, ◌<◌, ◌∷◌, [], IfOk, IfSome, IsErr, MatchOption, Some, ℕ, List, true, false};
 ghost use Rattle.p3_field.specs.Ring.{of_nat};
 ghost use Rattle.p3_field.specs.BabyBear.{bear_ring};
+ghost use Rattle.p3_field.specs.Quartic.{quartic_parts};
 ghost use Rattle.p3_matrix.specs.Matrix.{Rows};
 ghost use Rattle.batch_tool.specs.BatchScript.{single_shape};
 ghost use Rattle.batch_tool.specs.Committed.{IsCommittedTo, committed_matrix, trace_polynomials, chunk_polynomials};
 ghost use Rattle.batch_tool.specs.Honest.{alpha as drawn_alpha, behind_alpha, seeded_state, honest_proof, zeta as drawn_zeta, IsInTraceDomain};
-ghost use Rattle.batch_tool.specs.Prove.{IsDrawnAnswer, IsJobAnswer, IsOpenedText, instance_of};
+ghost use Rattle.batch_tool.specs.Prove.{AreValuesAtZeta, IsDrawnAnswer, IsJobAnswer, IsOpenedText, instance_of, zeta_of};
+ghost use Rattle.batch_tool.specs.Script.{passes, draw_all, after_grinding};
 ghost use Rattle.batch_tool.specs.Tool.{tool};
 
 use crate::commitments::{Committed, commit_chunk, commit_columns, committed_values};
-use crate::domain::{is_in_trace_domain, quotient_domain, trace_domain};
+use crate::domain::{quotient_domain, table_domains, trace_domain};
 use crate::job::SwapTable;
 use crate::line::Line;
-use crate::opened::{only, open_committed};
+use crate::opened::{OpenedAtZeta, only, open_at_zeta, values_at};
+use crate::opening::ProofValues;
 use crate::proof::TableProof;
 use crate::proof_file::print_file;
 use crate::quotient::quotient_values;
+use crate::scheme::scheme;
 use crate::status::Status;
 use crate::trace::trace_matrix;
-use crate::transcript::{draw_alpha, grind_and_draw_zeta, seeded_challenger};
+use crate::transcript::{OOD_POW_BITS, draw_alpha, seeded_challenger};
 use p3_challenger::{CanObserve, Sha256Challenger};
-use p3_field::{BabyBear, ExtensionField, Mem, QuarticExtension, TwoAdicCore};
+use p3_field::{BabyBear, Mem, QuarticExtension};
 use p3_matrix::{RowMajorMatrix, flatten_matrix};
 use plain_pcs::PlainCommitment;
 use std::alloc::Global;
@@ -81,27 +85,22 @@ fn only_matrix(commitment: PlainCommitment<BabyBear>) -> RowMajorMatrix<BabyBear
     only(commitment.matrices)
 }
 
-/// Opens the trace at zeta and at the point after it, and the quotient at zeta, and puts the proof together.
+/// The proof of these commitments, this grinding value and these opened values.
 fn opened_proof(
-    alloc: Global,
     table: &SwapTable,
     main: Committed,
     quotient: Committed,
     witness: BabyBear,
-    zeta: QuarticExtension,
-    challenger: &mut Sha256Challenger,
-) -> Mem<TableProof>
-    requires few { table.now.log_rows ≤ 10 }
+    values: ProofValues<QuarticExtension>,
+) -> TableProof
     requires main { (k : ℕ) × ((fs : List (List BabyBear)) × IsCommittedTo k fs main.commitment main.kept) }
     requires quotient { (k : ℕ) × ((fs : List (List BabyBear)) × IsCommittedTo k fs quotient.commitment quotient.kept) }
-    ensures { IfOk result (λ p. (k n : ℕ) (fs gs : List (List BabyBear)) → IsCommittedTo k fs main.commitment main.kept → IsCommittedTo k gs quotient.commitment quotient.kept
-        → witness ≡ of_nat bear_ring n → zeta ≡ drawn_zeta tool (instance_of table.now) (committed_matrix k fs) (committed_matrix k gs) n
-        → p ≡ honest_proof tool (instance_of table.now) fs (committed_matrix k fs) gs (committed_matrix k gs) n) }
+    ensures { (k n : ℕ) (fs gs : List (List BabyBear)) (z : QuarticExtension) → IsCommittedTo k fs main.commitment main.kept → IsCommittedTo k gs quotient.commitment quotient.kept
+        → witness ≡ of_nat bear_ring n → z ≡ drawn_zeta tool (instance_of table.now) (committed_matrix k fs) (committed_matrix k gs) n
+        → AreValuesAtZeta table.now.log_rows fs gs z values.trace_local.items values.trace_next.items values.chunk_values.items
+        → result ≡ honest_proof tool (instance_of table.now) fs (committed_matrix k fs) gs (committed_matrix k gs) n }
 {
-    let generator = BabyBear::two_adic_generator(table.log_rows as usize);
-    let next_point = QuarticExtension::from_base(generator) * zeta;
-    let values = open_committed(alloc, &main, &quotient, zeta, next_point, challenger)?;
-    Ok(TableProof {
+    TableProof {
         trace_local: values.trace_local,
         trace_next: values.trace_next,
         chunk_values: values.chunk_values,
@@ -109,7 +108,45 @@ fn opened_proof(
         quotient_chunk: only_matrix(quotient.commitment),
         degree_bits: table.log_rows,
         ood_pow_witness: witness,
-    })
+    }
+}
+
+/// Grinds, draws zeta, and opens there what is committed, by the program's scheme.
+fn drawn_values(
+    alloc: Global,
+    table: &SwapTable,
+    main: &Committed,
+    quotient: &Committed,
+    challenger: &mut Sha256Challenger,
+) -> Option<(BabyBear, OpenedAtZeta)>
+    requires few { table.now.log_rows ≤ 10 }
+    requires main { (k : ℕ) × ((fs : List (List BabyBear)) × IsCommittedTo k fs main.now.commitment main.now.kept) }
+    requires quotient { (k : ℕ) × ((fs : List (List BabyBear)) × IsCommittedTo k fs quotient.now.commitment quotient.now.kept) }
+    ensures drawn { MatchOption result
+        ((n : ℕ) → n < 2013265921 → passes tool.challenger challenger.old 4 (of_nat bear_ring n ∷ []) ≡ false)
+        (λ p. (passes tool.challenger challenger.old 4 (p.0 ∷ []) ≡ true)
+        × ((n : ℕ) → n < p.0.value → passes tool.challenger challenger.old 4 (of_nat bear_ring n ∷ []) ≡ false)
+        × (quartic_parts p.1.zeta ≡ draw_all tool.challenger (after_grinding tool.challenger challenger.old 4 (p.0 ∷ [])) 4)) }
+    ensures domain { IfSome result (λ d. MatchOption d.1.opening (IsInTraceDomain tool (instance_of table.now) d.1.zeta) (λ _. IsInTraceDomain tool (instance_of table.now) d.1.zeta → ⊥)) }
+    ensures values { IfSome result (λ d. IfSome d.1.opening (λ o. IfOk o (λ v. (k : ℕ) (fs gs : List (List BabyBear))
+        → IsCommittedTo k fs main.now.commitment main.now.kept → IsCommittedTo k gs quotient.now.commitment quotient.now.kept
+        → AreValuesAtZeta table.now.log_rows fs gs d.1.zeta v.trace_local.items v.trace_next.items v.chunk_values.items))) }
+{
+    let domains = table_domains(table.log_rows as usize);
+    let drawn = open_at_zeta(
+        alloc,
+        &scheme(),
+        OOD_POW_BITS,
+        &domains.trace,
+        domains.step,
+        &main.kept,
+        &quotient.kept,
+        challenger,
+    );
+    match drawn {
+        None => None,
+        Some((witness, at)) => Some((witness, values_at(at))),
+    }
 }
 
 /// The status and the text by what was drawn behind the grinding: a refusal where nothing was or zeta lies in the trace
@@ -119,30 +156,36 @@ fn drawn_answer(
     table: &SwapTable,
     main: Committed,
     quotient: Committed,
-    drawn: Option<(BabyBear, QuarticExtension)>,
-    challenger: &mut Sha256Challenger,
+    drawn: Option<(BabyBear, OpenedAtZeta)>,
     mut line: Line,
 ) -> Mem<(Status, Vec<u8>)>
     requires few { table.now.log_rows ≤ 10 }
     requires main { (k : ℕ) × ((fs : List (List BabyBear)) × IsCommittedTo k fs main.commitment main.kept) }
     requires quotient { (k : ℕ) × ((fs : List (List BabyBear)) × IsCommittedTo k fs quotient.commitment quotient.kept) }
+    requires domain { IfSome drawn (λ d. MatchOption d.1.opening (IsInTraceDomain tool (instance_of table.now) d.1.zeta) (λ _. IsInTraceDomain tool (instance_of table.now) d.1.zeta → ⊥)) }
+    requires values { IfSome drawn (λ d. IfSome d.1.opening (λ o. IfOk o (λ v. (k : ℕ) (fs gs : List (List BabyBear))
+        → IsCommittedTo k fs main.commitment main.kept → IsCommittedTo k gs quotient.commitment quotient.kept
+        → AreValuesAtZeta table.now.log_rows fs gs d.1.zeta v.trace_local.items v.trace_next.items v.chunk_values.items))) }
     requires empty { line ≡ [] }
     ensures answer { IfOk result (λ a. IsDrawnAnswer table.now
-        (IsOpenedText table.now (main.commitment, main.kept) (quotient.commitment, quotient.kept)) drawn a.0 a.1.items) }
-    ensures memory { IsErr result → (d : BabyBear × QuarticExtension) × (drawn ≡ Some d) × (IsInTraceDomain tool (instance_of table.now) d.1 → ⊥) }
+        (IsOpenedText table.now (main.commitment, main.kept) (quotient.commitment, quotient.kept)) (zeta_of drawn) a.0 a.1.items) }
+    ensures memory { IsErr result → (d : BabyBear × QuarticExtension) × (zeta_of drawn ≡ Some d) × (IsInTraceDomain tool (instance_of table.now) d.1 → ⊥) }
 {
-    let (witness, zeta) = match drawn {
+    let (witness, at) = match drawn {
         Some(drawn) => drawn,
         None => {
             line.push(WITNESS_NOT_FOUND);
             return Ok((Status::Refused, line.into_bytes()));
         }
     };
-    if is_in_trace_domain(table.log_rows as usize, zeta) {
-        line.push(OOD_POINT_IN_DOMAIN);
-        return Ok((Status::Refused, line.into_bytes()));
-    }
-    let proof = opened_proof(alloc, table, main, quotient, witness, zeta, challenger)?;
+    let values = match at.opening {
+        Some(values) => values,
+        None => {
+            line.push(OOD_POINT_IN_DOMAIN);
+            return Ok((Status::Refused, line.into_bytes()));
+        }
+    };
+    let proof = opened_proof(table, main, quotient, witness, values?);
     let mut text = Vec::new(alloc);
     print_file(table, &proof, &mut text)?;
     Ok((Status::Done, text))
@@ -159,6 +202,6 @@ pub fn prove(alloc: Global, table: &SwapTable, line: Line) -> Mem<(Status, Vec<u
     let (main, alpha) = commit_trace(alloc, table, &mut challenger)?;
     let quotient = commit_quotient(alloc, table, &main, alpha)?;
     challenger.observe(&quotient.commitment);
-    let drawn = grind_and_draw_zeta(&mut challenger);
-    drawn_answer(alloc, table, main, quotient, drawn, &mut challenger, line)
+    let drawn = drawn_values(alloc, table, &main, &quotient, &mut challenger);
+    drawn_answer(alloc, table, main, quotient, drawn, line)
 }

@@ -1,16 +1,16 @@
 //! The transcript of a batch of one table, and how its challenger is seeded.
 
-ghost use Rattle.std.specs.Prelude.{◌≡◌, ◌∷◌, [], IfOk, OnOk, List, ℕ, length, MatchOption, ◌<◌, true, false};
+ghost use Rattle.std.specs.Prelude.{◌≡◌, ◌∷◌, [], IfOk, OnOk, List, ℕ, length};
 ghost use Rattle.batch_tool.specs.BatchScript.{single_shape, pattern, instance_label, atomic, opening_step as bracket};
 ghost use Rattle.batch_tool.specs.Honest.{seeded_state};
 ghost use Rattle.batch_tool.specs.Tool.{tool};
-ghost use Rattle.batch_tool.specs.Script.{begun, play, observe_all, draw_all, after_draws, passes, after_grinding};
+ghost use Rattle.batch_tool.specs.Script.{begun, play, observe_all, draw_all, after_draws};
 ghost use Rattle.batch_tool.specs.BatchScript.{script_to_alpha};
 ghost use Rattle.plain_pcs.specs.Observing.{commitment_elements};
 ghost use Rattle.p3_field.specs.Ring.{of_nat};
 ghost use Rattle.p3_field.specs.BabyBear.{bear_ring};
 ghost use Rattle.p3_field.specs.Quartic.{quartic_ring};
-ghost use Rattle.p3_field.specs.Quartic.{quartic_parts, quartic_whole};
+ghost use Rattle.p3_field.specs.Quartic.{quartic_parts};
 
 use crate::script::{
     Hierarchy, Interaction, InteractionKind, Label, Length, StepValue, encode, push_eight_bytes,
@@ -166,36 +166,4 @@ pub fn draw_alpha(
     challenger.observe(main);
     challenger.observe_slice(public_values);
     draw_challenge(challenger)
-}
-
-/// Grinds before zeta, and draws zeta. `None` is where no element passes the grinding, and then the challenger stays as it was.
-pub fn grind_and_draw_zeta(
-    challenger: &mut Sha256Challenger,
-) -> Option<(BabyBear, QuarticExtension)>
-    ensures drawn { MatchOption result
-        ((n : ℕ) → n < 2013265921 → passes tool.challenger challenger.old 4 (of_nat bear_ring n ∷ []) ≡ false)
-        (λ p. (passes tool.challenger challenger.old 4 (p.0 ∷ []) ≡ true)
-        × ((n : ℕ) → n < p.0.value → passes tool.challenger challenger.old 4 (of_nat bear_ring n ∷ []) ≡ false)
-        × (quartic_parts p.1 ≡ draw_all tool.challenger (after_grinding tool.challenger challenger.old 4 (p.0 ∷ [])) 4)) }
-    ensures state { MatchOption result
-        (challenger.new ≡ challenger.old)
-        (λ p. challenger.new ≡ after_draws tool.challenger (after_grinding tool.challenger challenger.old 4 (p.0 ∷ [])) 4) }
-{
-    match challenger.grind(OOD_POW_BITS) {
-        None => None,
-        Some(witness) => Some((witness, draw_challenge(challenger))),
-    }
-}
-
-/// Tests the grinding value before zeta, and draws zeta.
-pub fn check_and_draw_zeta(
-    challenger: &mut Sha256Challenger,
-    witness: BabyBear,
-) -> (bool, QuarticExtension)
-    ensures passed { result.0 ≡ passes tool.challenger challenger.old 4 (witness ∷ []) }
-    ensures zeta { quartic_parts result.1 ≡ draw_all tool.challenger (after_grinding tool.challenger challenger.old 4 (witness ∷ [])) 4 }
-    ensures state { challenger.new ≡ after_draws tool.challenger (after_grinding tool.challenger challenger.old 4 (witness ∷ [])) 4 }
-{
-    let passed = challenger.check_witness(OOD_POW_BITS, witness);
-    (passed, draw_challenge(challenger))
 }

@@ -1,53 +1,45 @@
 //! The command `verify`: the checks of a proof, and the first that fails.
 
-ghost use Rattle.std.specs.Prelude.{◌≡◌, ◌≤◌, ◌+◌, ◌^◌, [], Err, IfOk, IsErr, IsOkAnd, MatchResult, None, Ok, Some, codes, true};
+ghost use Rattle.std.specs.Prelude.{◌≡◌, ◌≤◌, ◌+◌, ◌^◌, [], Err, IfOk, IsErr, IsOkAnd, MatchResult, None, Ok, Some, codes, true, length};
 ghost use Rattle.p3_field.specs.Checks.{FirstRefusal};
 ghost use Rattle.batch_tool.specs.FileAnswer.{stated, IsFileAnswer};
 ghost use Rattle.batch_tool.specs.FirstForm.{IsFirstForm, IsSwapShape};
-ghost use Rattle.batch_tool.specs.Honest.{whole_transcript, witness_passes};
+ghost use Rattle.batch_tool.specs.Honest.{before_grinding, witness_passes};
 ghost use Rattle.batch_tool.specs.Limits.{most_log_rows};
 ghost use Rattle.batch_tool.specs.Refusals.{refusal_text};
 ghost use Rattle.batch_tool.specs.Tool.{tool};
-ghost use Rattle.batch_tool.specs.Verify.{alpha_drawn, checks, identity_checks, main_of, opening_checks, quotient_of, zeta_drawn};
+ghost use Rattle.batch_tool.specs.Verify.{alpha_drawn, checks, checks_at, main_of, quotient_of};
+ghost use Rattle.batch_tool.specs.declared.refusal.Refusal.TheVariants.{InvalidOpeningArgument};
+ghost use Rattle.plain_pcs.specs.declared.error.PlainError.{PlainError};
 
 use crate::committed_proof::CommittedProof;
-use crate::domain::is_in_trace_domain;
+use crate::domain::{is_in_trace_domain, table_domains};
 use crate::first_form::{FirstForm, SwapStatement};
 use crate::identity::identity_holds;
 use crate::line::Line;
-use crate::opening::{opening_fault, quotient_claim, trace_claim};
+use crate::opening::{ProofValues, verify_at_zeta};
 use crate::proof::TableProof;
 use crate::refusal::{Refusal, push_refusal};
+use crate::scheme::scheme;
 use crate::status::Status;
-use crate::transcript::{OOD_POW_BITS, check_and_draw_zeta, draw_alpha, seeded_challenger};
+use crate::transcript::{OOD_POW_BITS, draw_alpha, seeded_challenger};
 use p3_challenger::{CanObserve, Sha256Challenger};
-use p3_commit::PointOpening;
-use p3_field::{BabyBear, ExtensionField, Mem, QuarticExtension, TwoAdicCore};
+use p3_field::{Mem, QuarticExtension};
+use plain_pcs::{PlainError, PlainProof};
 use std::alloc::Global;
 
 /// What is written for a proof that passes every check.
 const ACCEPTED: &[u8] = b"accepted\n";
 
-/// The challenges of a proof, drawn again, whether its grinding value passes, and the challenger behind zeta.
-#[derive(Drop)]
-struct Challenges {
-    alpha: QuarticExtension,
-    passed: bool,
-    zeta: QuarticExtension,
-    challenger: Sha256Challenger,
-}
-
-/// Plays the script of a statement and a proof.
-fn drawn_challenges(
+/// Plays the script of a statement and a proof up to the grinding before zeta: alpha, and the challenger then.
+fn drawn_alpha(
     alloc: Global,
     statement: &SwapStatement,
     proof: &CommittedProof,
-) -> Mem<Challenges>
+) -> Mem<(QuarticExtension, Sha256Challenger)>
     requires { IsSwapShape statement.now.log_rows proof.now }
-    ensures alpha { IfOk result (λ d. d.alpha ≡ alpha_drawn tool (stated statement.now) proof.now) }
-    ensures passed { IfOk result (λ d. d.passed ≡ witness_passes tool (stated statement.now) (main_of proof.now) (quotient_of proof.now) proof.now.ood_pow_witness) }
-    ensures zeta { IfOk result (λ d. d.zeta ≡ zeta_drawn tool (stated statement.now) proof.now) }
-    ensures state { IfOk result (λ d. d.challenger ≡ (whole_transcript tool (stated statement.now) (main_of proof.now) (quotient_of proof.now) proof.now.ood_pow_witness).state) }
+    ensures alpha { IfOk result (λ d. d.0 ≡ alpha_drawn tool (stated statement.now) proof.now) }
+    ensures state { IfOk result (λ d. d.1 ≡ (before_grinding tool (stated statement.now) (main_of proof.now) (quotient_of proof.now)).state) }
 {
     let mut challenger = seeded_challenger(alloc, 2, 3)?;
     let public_values = [statement.a, statement.b, statement.x];
@@ -58,65 +50,21 @@ fn drawn_challenges(
         &public_values,
     );
     challenger.observe(&proof.quotient_chunk);
-    let (passed, zeta) = check_and_draw_zeta(&mut challenger, proof.ood_pow_witness);
-    Ok(Challenges {
-        alpha,
-        passed,
-        zeta,
-        challenger,
-    })
-}
-
-/// The first check of the openings that fails, if one does: the scheme's verifier on the claims of the proof, from the
-/// challenger behind zeta.
-fn opening_refusal(
-    alloc: Global,
-    statement: &SwapStatement,
-    proof: CommittedProof,
-    zeta: QuarticExtension,
-    challenger: &mut Sha256Challenger,
-) -> Mem<Option<Refusal>>
-    requires few { statement.now.log_rows ≤ 10 }
-    requires shape { IsSwapShape statement.now.log_rows proof }
-    requires zeta { zeta ≡ zeta_drawn tool (stated statement.now) proof }
-    requires state { challenger.old ≡ (whole_transcript tool (stated statement.now) (main_of proof) (quotient_of proof) proof.ood_pow_witness).state }
-    ensures refusal { IfOk result (λ a. FirstRefusal (opening_checks tool (stated statement.now) proof) a) }
-    ensures challenger { challenger.new ≡ challenger.old }
-{
-    let log_rows = statement.log_rows as usize;
-    let generator = BabyBear::two_adic_generator(log_rows);
-    let local = PointOpening {
-        point: zeta,
-        values: proof.trace_local,
-    };
-    let next = PointOpening {
-        point: QuarticExtension::from_base(generator) * zeta,
-        values: proof.trace_next,
-    };
-    let opened = PointOpening {
-        point: zeta,
-        values: proof.chunk_values,
-    };
-    let main = trace_claim(alloc, log_rows, proof.main, local, next)?;
-    let quotient = quotient_claim(alloc, log_rows, proof.quotient_chunk, opened)?;
-    match opening_fault(alloc, vec![in alloc; main, quotient]?, challenger)? {
-        Some(fault) => Ok(Some(Refusal::InvalidOpeningArgument(fault))),
-        None => Ok(None),
-    }
+    Ok((alpha, challenger))
 }
 
 /// The refusal where zeta lies in the trace domain, or where the identity fails there.
 fn identity_refusal(
     statement: &SwapStatement,
-    proof: &CommittedProof,
     alpha: QuarticExtension,
     zeta: QuarticExtension,
+    values: &ProofValues<QuarticExtension>,
 ) -> Option<Refusal>
     requires few { statement.now.log_rows ≤ 10 }
-    requires shape { IsSwapShape statement.now.log_rows proof.now }
-    requires alpha { alpha ≡ alpha_drawn tool (stated statement.now) proof.now }
-    requires zeta { zeta ≡ zeta_drawn tool (stated statement.now) proof.now }
-    ensures { FirstRefusal (identity_checks tool (stated statement.now) proof.now) result }
+    requires local { length values.now.trace_local.items ≡ 2 }
+    requires next { length values.now.trace_next.items ≡ 2 }
+    requires chunk { length values.now.chunk_values.items ≡ 4 }
+    ensures { FirstRefusal (checks_at tool (stated statement.now) alpha zeta values.now.trace_local.items values.now.trace_next.items values.now.chunk_values.items) result }
 {
     if is_in_trace_domain(statement.log_rows as usize, zeta) {
         return Some(Refusal::OodPointInDomain);
@@ -125,9 +73,9 @@ fn identity_refusal(
         statement,
         alpha,
         zeta,
-        &proof.trace_local,
-        &proof.trace_next,
-        &proof.chunk_values,
+        &values.trace_local,
+        &values.trace_next,
+        &values.chunk_values,
     ) {
         return Some(Refusal::OodEvaluationMismatch { index: 0 });
     }
@@ -135,40 +83,51 @@ fn identity_refusal(
 }
 
 /// What the openings refuse, and else what is refused last. Out of memory exactly where the openings were.
-fn first_of(opening: Mem<Option<Refusal>>, last: Option<Refusal>) -> Mem<Option<Refusal>>
+fn first_of(opening: Mem<Option<PlainError>>, last: Option<Refusal>) -> Mem<Option<Refusal>>
     ensures none { opening ≡ Ok None → result ≡ Ok last }
-    ensures some { (r : Refusal) → opening ≡ Ok (Some r) → result ≡ Ok (Some r) }
+    ensures some { (e : PlainError) → opening ≡ Ok (Some e) → result ≡ Ok (Some (InvalidOpeningArgument e)) }
     ensures memory { IsErr opening → IsErr result }
 {
     match opening? {
-        Some(refusal) => Ok(Some(refusal)),
+        Some(fault) => Ok(Some(Refusal::InvalidOpeningArgument(fault))),
         None => Ok(last),
     }
 }
 
-/// The first check that a statement's proof fails, by the challenges that were drawn. The values at zeta are read before the
-/// openings take them. Out of memory only where the grinding value passes.
+/// The first check that a statement's proof fails, from alpha and the challenger behind it and the quotient. Out of memory
+/// only where the grinding value passes.
 fn refusal_behind(
     alloc: Global,
     statement: &SwapStatement,
     proof: CommittedProof,
-    mut drawn: Challenges,
+    alpha: QuarticExtension,
+    mut challenger: Sha256Challenger,
 ) -> Mem<Option<Refusal>>
     requires few { statement.now.log_rows ≤ 10 }
     requires shape { IsSwapShape statement.now.log_rows proof }
-    requires alpha { drawn.alpha ≡ alpha_drawn tool (stated statement.now) proof }
-    requires passed { drawn.passed ≡ witness_passes tool (stated statement.now) (main_of proof) (quotient_of proof) proof.ood_pow_witness }
-    requires zeta { drawn.zeta ≡ zeta_drawn tool (stated statement.now) proof }
-    requires state { drawn.challenger ≡ (whole_transcript tool (stated statement.now) (main_of proof) (quotient_of proof) proof.ood_pow_witness).state }
+    requires alpha { alpha ≡ alpha_drawn tool (stated statement.now) proof }
+    requires state { challenger ≡ (before_grinding tool (stated statement.now) (main_of proof) (quotient_of proof)).state }
     ensures refusal { IfOk result (λ a. FirstRefusal (checks tool (stated statement.now) proof) a) }
-    ensures memory { IsErr result → drawn.passed ≡ true }
+    ensures memory { IsErr result → witness_passes tool (stated statement.now) (main_of proof) (quotient_of proof) proof.ood_pow_witness ≡ true }
 {
-    if !drawn.passed {
-        return Ok(Some(Refusal::OodPowWitness { bits: OOD_POW_BITS }));
+    let drawn = verify_at_zeta(
+        alloc,
+        &scheme(),
+        OOD_POW_BITS,
+        table_domains(statement.log_rows as usize),
+        (proof.main, proof.quotient_chunk),
+        &proof.values,
+        &PlainProof,
+        proof.ood_pow_witness,
+        &mut challenger,
+    );
+    match drawn {
+        None => Ok(Some(Refusal::OodPowWitness { bits: OOD_POW_BITS })),
+        Some(at) => first_of(
+            at.opening,
+            identity_refusal(statement, alpha, at.zeta, &proof.values),
+        ),
     }
-    let last = identity_refusal(statement, &proof, drawn.alpha, drawn.zeta);
-    let opening = opening_refusal(alloc, statement, proof, drawn.zeta, &mut drawn.challenger);
-    first_of(opening, last)
 }
 
 /// The first check that a statement's proof fails, if it fails one.
@@ -182,8 +141,8 @@ fn first_refusal(
     ensures { IfOk result (λ a. FirstRefusal (checks tool (stated statement.now) proof) a) }
 {
     let proof = CommittedProof::from_proof(alloc, proof)?;
-    let drawn = drawn_challenges(alloc, statement, &proof)?;
-    refusal_behind(alloc, statement, proof, drawn)
+    let (alpha, challenger) = drawn_alpha(alloc, statement, &proof)?;
+    refusal_behind(alloc, statement, proof, alpha, challenger)
 }
 
 /// The status and the text by what is refused. Out of memory exactly where the checks were.

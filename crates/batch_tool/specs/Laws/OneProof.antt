@@ -14,9 +14,8 @@ use Rattle.p3_matrix.specs.Matrix.{Rows}
 use Rattle.plain_pcs.specs.Extension.{evaluations}
 use Rattle.batch_tool.specs.Plain.{AreInterpolants}
 use Rattle.batch_tool.specs.Honest.{Instance, IsCommitted, IsGround, trace_domain, quotient_domain, commitment_domain, quotient_columns, quotient_value, alpha, honest_proof}
-use Rattle.batch_tool.specs.Proof.{ProofData}
 use Rattle.batch_tool.specs.Tool.{tool}
-use Rattle.batch_tool.specs.Uniqueness.{IsHonestProof, HasOneHonestProof}
+use Rattle.batch_tool.specs.Uniqueness.{HasOneHonestProof}
 
 pub two-tall : {F : Type 0} (n : ℕ) (f g : ℕ → F) → All (λ l. length l ≡ n) (table n f ∷ table n g ∷ [])
 two-tall n f g zero d lt = length-table n f

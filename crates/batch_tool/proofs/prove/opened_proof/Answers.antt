@@ -1,6 +1,4 @@
-use Rattle.std.proofs.Common.{◌≡◌, ◌∷◌, [], ◌∙◌, sym, ap, map, Some, None}
-use Rattle.p3_field.specs.Poly.{val_in}
-use Rattle.p3_field.specs.Quartic.{quartic_ring, of_bear_value}
+use Rattle.std.proofs.Common.{◌≡◌, ◌∷◌, [], ◌∙◌, sym, ap, Some, None}
 use Rattle.batch_tool.specs.Swap.{swap_stated}
 use Rattle.batch_tool.specs.Committed.{committed_matrix}
 use Rattle.batch_tool.specs.Honest.{honest_proof, zeta, next_point}
@@ -17,17 +15,14 @@ only_matrix-requires-2 c = let (k, (fs, h)) = c.requires.quotient in (committed_
 
 pub returns : goal.returns
 unfolding honest_proof tool swap_stated
-returns c = λ k n fs gs h g w z.
+returns c = λ k n fs gs z h g w e v.
     let inst = instance_of c.args.table.now in
     let x = zeta tool inst (committed_matrix k fs) (committed_matrix k gs) n in
-    let opened = c.in_ok-values.ensures.main k fs h in
     let main = sym c.only_matrix.ensures ∙ h.matrix_is in
     let chunk = sym c.only_matrix-2.ensures ∙ g.matrix_is in
-    let local : c.in_ok-values.values.trace_local.items ≡ opened_at tool.extension fs x = opened.0 ∙ (λ i. map (λ f. val_in tool.extension f (z i)) fs) in
-    let after : c.mul-next_point.result ≡ next_point tool inst x =
-    c.mul-next_point.ensures ∙ (λ i. quartic_ring.mul ((c.from_base.ensures ∙ ap of_bear_value c.two_adic_generator-generator.ensures) i) (z i)) in
-    let next : c.in_ok-values.values.trace_next.items ≡ opened_at tool.extension fs (next_point tool inst x) = opened.1 ∙ (λ i. map (λ f. val_in tool.extension f (after i)) fs) in
-    let quotient : c.in_ok-values.values.chunk_values.items ≡ opened_at tool.extension gs x = c.in_ok-values.ensures.quotient k gs g ∙ (λ i. map (λ f. val_in tool.extension f (z i)) gs) in
+    let local : c.args.values.trace_local.items ≡ opened_at tool.extension fs x = v.local_is ∙ ap (opened_at tool.extension fs) e in
+    let next : c.args.values.trace_next.items ≡ opened_at tool.extension fs (next_point tool inst x) = v.next_is ∙ ap (λ y. opened_at tool.extension fs (next_point tool inst y)) e in
+    let quotient : c.args.values.chunk_values.items ≡ opened_at tool.extension gs x = v.chunk_is ∙ ap (opened_at tool.extension gs) e in
     λ i. record {
       main = main i;
       permutation = None;

@@ -1,4 +1,4 @@
-use Rattle.std.proofs.Common.{◌≡◌, ◌<◌, ℕ, List, ◌∷◌, [], false, true, subst, sym}
+use Rattle.std.proofs.Common.{◌≡◌, ◌<◌, ℕ, ◌∷◌, [], false, true, subst, sym}
 use Rattle.p3_field.specs.Ring.{of_nat}
 use Rattle.p3_field.specs.BabyBear.{bear_ring}
 use Rattle.p3_field.specs.Quartic.{quartic_parts}
@@ -7,14 +7,14 @@ use Rattle.p3_field.specs.declared.baby_bear.BabyBear.{BabyBear}
 use Rattle.p3_field.specs.declared.quartic.QuarticExtension.{QuarticExtension}
 use Rattle.batch_tool.specs.Committed.{committed_matrix, trace_polynomials, chunk_polynomials}
 use Rattle.batch_tool.specs.Honest.{IsInTraceDomain}
-use Rattle.batch_tool.specs.Prove.{IsDrawnAnswer, IsJobAnswer, IsOpenedText, instance_of}
+use Rattle.batch_tool.specs.Prove.{IsDrawnAnswer, IsJobAnswer, IsOpenedText, instance_of, zeta_of}
 use Rattle.batch_tool.specs.Script.{passes, draw_all, after_grinding}
 use Rattle.batch_tool.specs.Swap.{last_right}
 use Rattle.batch_tool.specs.Tool.{tool}
 use Rattle.batch_tool.proofs.HonestForm.{honest-shape}
 use Rattle.batch_tool.proofs.Committing.{before-grinding-is, nothing-passes, witness-is-ground, zeta-of-number}
 use Rattle.batch_tool.proofs.HonestCommitments.{honest-committed}
-use Rattle.batch_tool.proofs.Proving.{ok-along, at-none, at-some, job-answered}
+use Rattle.batch_tool.proofs.Proving.{ok-along, nothing-drawn, drawn-at, job-answered}
 use Rattle.batch_tool.proofs.prove.prove.Goals as goal
 
 pub drawn_answer-requires-clause-main : goal.drawn_answer-requires-clause-main
@@ -37,24 +37,24 @@ returns c =
     let before = c.observe.new.self in
     let state = before-grinding-is t.log_rows t.a t.b x main quotient c.commit_trace.new.challenger before c.in_ok-quotient.quotient.commitment.matrices c.in_ok-main.ensures.state c.in_ok-quotient.ensures.matrix_is c.observe.ensures in
     let Fact = IsOpenedText t (c.in_ok-main.main.commitment, c.in_ok-main.main.kept) (c.in_ok-quotient.quotient.commitment, c.in_ok-quotient.quotient.kept) in
-    let drawn = c.grind_and_draw_zeta-drawn.result in
+    let drawn = c.drawn_values-drawn.result in
     let None' : Type 0 = (n : ℕ) → n < 2013265921 → passes tool.challenger before 4 (of_nat bear_ring n ∷ []) ≡ false in
-    let Some' : BabyBear × QuarticExtension → Type 0 = λ p. (passes tool.challenger before 4 (p.0 ∷ []) ≡ true)
-    × ((n : ℕ) → n < p.0.value → passes tool.challenger before 4 (of_nat bear_ring n ∷ []) ≡ false)
-    × (quartic_parts p.1 ≡ draw_all tool.challenger (after_grinding tool.challenger before 4 (p.0 ∷ [])) 4) in
-    ok-along (λ a. IsDrawnAnswer t Fact drawn a.0 a.1.items) (λ a. IsJobAnswer t a.0 a.1.items) c.drawn_answer.result
-    (λ a. job-answered t Fact drawn a.0 a.1.items
+    let Ground : BabyBear → QuarticExtension → Type 0 = λ w z. (passes tool.challenger before 4 (w ∷ []) ≡ true)
+    × ((n : ℕ) → n < w.value → passes tool.challenger before 4 (of_nat bear_ring n ∷ []) ≡ false)
+    × (quartic_parts z ≡ draw_all tool.challenger (after_grinding tool.challenger before 4 (w ∷ [])) 4) in
+    ok-along (λ a. IsDrawnAnswer t Fact (zeta_of drawn) a.0 a.1.items) (λ a. IsJobAnswer t a.0 a.1.items) c.drawn_answer.result
+    (λ a. job-answered t Fact (zeta_of drawn) a.0 a.1.items
     (λ none is. record {
       columns = fs;
       main = main;
       chunk = gs;
       quotient = quotient;
       committed = committed;
-      none = nothing-passes t.log_rows t.a t.b x main quotient before state (at-none None' Some' drawn none c.grind_and_draw_zeta-drawn.ensures.drawn);
+      none = nothing-passes t.log_rows t.a t.b x main quotient before state (nothing-drawn None' Ground drawn none c.drawn_values-drawn.ensures.drawn);
       text_is = is;
     })
     (λ d some inside is.
-    let e = at-some None' Some' drawn d some c.grind_and_draw_zeta-drawn.ensures.drawn in
+    let e = drawn-at None' Ground drawn d some c.drawn_values-drawn.ensures.drawn in
     let z = zeta-of-number t.log_rows t.a t.b x main quotient before d.0 d.1 state e.2 in
     record {
       columns = fs;
@@ -68,7 +68,7 @@ returns c =
       text_is = is;
     })
     (λ d some outside fact.
-    let e = at-some None' Some' drawn d some c.grind_and_draw_zeta-drawn.ensures.drawn in
+    let e = drawn-at None' Ground drawn d some c.drawn_values-drawn.ensures.drawn in
     let z = zeta-of-number t.log_rows t.a t.b x main quotient before d.0 d.1 state e.2 in
     record {
       columns = fs;

@@ -1,0 +1,75 @@
+use Rattle.std.proofs.Common.{◌≡◌, ◌∙◌, ◌^◌, sym, ap, subst}
+use Rattle.std.specs.Prelude.{MatchOption}
+use Rattle.p3_field.specs.BabyBear.{reduce, bear_ring, bear_inv, bear_root}
+use Rattle.p3_field.specs.Domain.{CosetData, point}
+use Rattle.p3_field.specs.Quartic.{quartic_ring, of_bear_value}
+use Rattle.p3_field.specs.Laws.BearField.{bear_of_canonical}
+use Rattle.p3_field.specs.declared.baby_bear.BabyBear.{BabyBear}
+use Rattle.p3_field.specs.declared.quartic.QuarticExtension.{QuarticExtension}
+use Rattle.p3_challenger.specs.Sha256.{observed, bits_drawn}
+use Rattle.p3_commit.specs.Space.{IsPoint}
+use Rattle.plain_pcs.specs.Scheme.{scheme}
+use Rattle.batch_tool.specs.Swap.{swap_stated}
+use Rattle.batch_tool.specs.Tool.{tool}
+use Rattle.batch_tool.specs.Opening.{requests_at, AreTheThree}
+use Rattle.plain_pcs.specs.Checks.{Opens}
+use Rattle.plain_pcs.specs.Refusals.{OpenFault}
+use Rattle.batch_tool.proofs.AtZeta.{map-some, as-opened, some-opened, no-fault, Opened, opens-three, each-opened}
+use Rattle.batch_tool.proofs.Draws.{zero-passes, nonzero-fails, drawn-parts}
+use Rattle.batch_tool.proofs.prove.drawn_values.Goals as goal
+
+pub returns-in-None-clause-drawn : goal.returns-in-None-clause-drawn
+unfolding tool
+returns-in-None-clause-drawn c = λ n h. nonzero-fails _ (c.in-None.ensures.witness n h)
+
+pub returns-in-Some-clause-drawn : goal.returns-in-Some-clause-drawn
+unfolding tool
+returns-in-Some-clause-drawn c =
+    let old = c.args.challenger.now in
+    let w = c.in-Some.witness in
+    let P : BabyBear → Type 0 = λ x. bits_drawn (observed old x) 4 ≡ 0 in (
+      zero-passes (bits_drawn (observed old w) 4) (subst P (bear_of_canonical w) c.in-Some.ensures.witness.meets),
+      λ n h. nonzero-fails _ (c.in-Some.ensures.witness.none_below n h),
+      drawn-parts old w c.values_at.result.zeta (c.values_at.ensures.zeta ∙ c.in-Some.ensures.zeta),
+    )
+
+pub values_at-requires : goal.values_at-requires
+values_at-requires c =
+    let (k, (fs, h)) = c.requires.main in
+    let (m, (gs, g)) = c.requires.quotient in
+    let main = c.args.main.now in
+    let quotient = c.args.quotient.now in
+    let b = scheme bear_ring bear_inv bear_root (reduce 31) 27 c.scheme.result in
+    let same = ap (scheme bear_ring bear_inv bear_root (reduce 31) 27) c.scheme.ensures in
+    let zeta = c.in-Some.at.zeta in
+    let next = quartic_ring.mul c.table_domains-domains.result.step zeta in
+    map-some (Opened b same (OpenFault (requests_at main.kept quotient.kept zeta next)) (λ p. p ≡ record {}) (λ claims p. Opens b quartic_ring of_bear_value claims) (main.commitment, main.kept) (quotient.commitment, quotient.kept) zeta next)
+    _ c.in-Some.at.opening
+    (opens-three b same _ _ _ (main.commitment, main.kept) (quotient.commitment, quotient.kept) zeta next k m fs gs h g
+    (no-fault k m fs gs (main.commitment, main.kept) (quotient.commitment, quotient.kept) zeta next h g))
+    c.in-Some.ensures.opening
+
+pub returns-in-Some-clause-domain : goal.returns-in-Some-clause-domain
+unfolding tool swap_stated
+returns-in-Some-clause-domain c =
+    let at = c.in-Some.at in
+    let P : CosetData BabyBear → QuarticExtension → Type 0 = λ d z. let inside = IsPoint (2 ^ d.log_size) (point bear_ring bear_root d) of_bear_value z in MatchOption c.values_at.result.opening inside (λ _. inside → ⊥) in
+    let inside = IsPoint (2 ^ c.table_domains-domains.result.trace.log_size) (point bear_ring bear_root c.table_domains-domains.result.trace) of_bear_value at.zeta in
+    let first : P c.table_domains-domains.result.trace at.zeta = as-opened _ inside at.opening c.values_at.result.opening c.values_at.ensures.values c.in-Some.ensures.domain in
+    subst (λ z. P (record { shift = bear_ring.one; log_size = c.args.table.now.log_rows }) z) (sym c.values_at.ensures.zeta) (subst (λ d. P d at.zeta) c.table_domains-domains.ensures.trace first)
+
+pub returns-in-Some-clause-values : goal.returns-in-Some-clause-values
+unfolding tool
+returns-in-Some-clause-values c =
+    let main = c.args.main.now in
+    let quotient = c.args.quotient.now in
+    let at = c.in-Some.at in
+    let b = scheme bear_ring bear_inv bear_root (reduce 31) 27 c.scheme.result in
+    let same = ap (scheme bear_ring bear_inv bear_root (reduce 31) 27) c.scheme.ensures in
+    let next = quartic_ring.mul c.table_domains-domains.result.step at.zeta in
+    some-opened AreTheThree
+    (Opened b same (OpenFault (requests_at main.kept quotient.kept at.zeta next)) (λ p. p ≡ record {}) (λ claims p. Opens b quartic_ring of_bear_value claims) (main.commitment, main.kept) (quotient.commitment, quotient.kept) at.zeta next)
+    _ at.opening c.values_at.result.opening
+    (each-opened b same _ _ _ (main.commitment, main.kept) (quotient.commitment, quotient.kept) at.zeta next
+    c.args.table.now.log_rows c.values_at.result.zeta c.values_at.ensures.zeta (λ i. quartic_ring.mul (c.table_domains-domains.ensures.step i) at.zeta))
+    c.values_at.ensures.values c.in-Some.ensures.opening
