@@ -10,6 +10,7 @@ use Rattle.p3_field.specs.Laws.SubgroupSelectors.{inv_one}
 use Rattle.p3_field.specs.Domain.{CosetData, point}
 use Rattle.p3_commit.specs.Space.{IsPoint}
 use Rattle.p3_field.specs.Poly.{product}
+use Rattle.p3_field.specs.Laws.Products.{product_same}
 use Rattle.p3_uni_stark.specs.Recombine.{product_but, domain_at, AllDisjoint}
 
 module _ {A : Type 0} (r : Ring A) (L : RingLaws r) where

@@ -2,10 +2,10 @@
 ghost use Rattle.std.specs.Prelude.{◌≡◌, ℕ, ◌+◌, ◌<◌, ◌^◌, ◌↔◌, IsTrue, length, map, get_or};
 ghost use Rattle.std.specs.List.{All};
 ghost use Rattle.p3_field.specs.Field.{combine};
-ghost use Rattle.p3_field.specs.Poly.{val};
+ghost use Rattle.p3_field.specs.Poly.{val, product};
 ghost use Rattle.p3_field.specs.Domain.{van, point};
 ghost use Rattle.p3_commit.specs.Space.{IsPoint};
-ghost use Rattle.p3_uni_stark.specs.Recombine.{product, domain_at, IsDisjointFrom, AllDisjoint, chunk_weight, recombined};
+ghost use Rattle.p3_uni_stark.specs.Recombine.{domain_at, IsDisjointFrom, AllDisjoint, chunk_weight, recombined};
 
 use crate::config::{Challenge, Domain, StarkGenericConfig};
 use p3_commit::{PolynomialSpace, are_disjoint};
