@@ -1,16 +1,13 @@
 //! A quotient put together from its chunks.
 ghost use Rattle.std.specs.Prelude.{◌≡◌, IfOk, length};
 
+use p3_air_tests::support::bear;
 use p3_field::{
     BabyBear, Mem, QuarticExtension, RingCore, TwoAdicCore, TwoAdicMultiplicativeCoset,
 };
 use p3_uni_stark::{are_all_disjoint, recomposed_quotient};
 use std::alloc::Global;
 use std::test::Fail;
-
-fn bear(n: u64) -> BabyBear {
-    BabyBear::from_u64(n)
-}
 
 // The values of a chunk whose first coefficient column has this value, and whose others are zero.
 fn chunk(alloc: Global, first: u64) -> Mem<Vec<QuarticExtension>>

@@ -1,4 +1,6 @@
 //! Constraints folded by both folders, and the powers that they take.
+ghost use Rattle.std.specs.Prelude.{◌≡◌};
+ghost use Rattle.p3_field.specs.Quartic.{quartic_ring};
 ghost use Rattle.p3_air.specs.Shape.{DeclaresExt};
 ghost use Rattle.p3_air.specs.declared.cells.ExtCell.TheVariants.{Terminal};
 
@@ -6,13 +8,10 @@ use batch_tables::SwapAir;
 use p3_air::{
     AirBuilder, Count, ExtCell, ExtensionBuilder, InteractionBuilder, PermutationAirBuilder,
 };
+use p3_air_tests::support::{assert_in_all_ways, bear};
 use p3_field::{BabyBear, FieldCore, Mem, QuarticExtension, RingCore};
 use p3_uni_stark::{ProverFolder, VerifierFolder, prover_fold, verifier_fold};
 use std::test::Fail;
-
-fn bear(n: u64) -> BabyBear {
-    BabyBear::from_u64(n)
-}
 
 // The powers 10^4, .., 10, 1.
 fn powers_of_ten() -> [QuarticExtension; 5] {
@@ -25,45 +24,76 @@ fn powers_of_ten() -> [QuarticExtension; 5] {
     ]
 }
 
+// The prover's folder over these rows, public values and powers, where each selector is one and nothing is summed yet.
+fn prover_folder<'a>(
+    local: &'a [BabyBear],
+    next: &'a [BabyBear],
+    public_values: &'a [BabyBear],
+    powers: &'a [QuarticExtension],
+) -> ProverFolder<'a, BabyBear, QuarticExtension>
+    ensures zero { result.accumulator ≡ quartic_ring.zero }
+    ensures first { result.constraint_index ≡ 0 }
+    ensures local { result.main_local.now ≡ local.now }
+    ensures next { result.main_next.now ≡ next.now }
+    ensures public { result.public_values.now ≡ public_values.now }
+{
+    ProverFolder {
+        main_local: local,
+        main_next: next,
+        preprocessed_local: &[],
+        preprocessed_next: &[],
+        periodic_values: &[],
+        public_values,
+        is_first_row: BabyBear::ONE,
+        is_last_row: BabyBear::ONE,
+        is_transition: BabyBear::ONE,
+        alpha_powers: powers,
+        constraint_index: 0,
+        accumulator: QuarticExtension::ZERO,
+    }
+}
+
+// The verifier's folder over these rows and public values by the challenge 10, where each selector is one and nothing is
+// summed yet.
+fn verifier_folder<'a>(
+    local: &'a [QuarticExtension],
+    next: &'a [QuarticExtension],
+    public_values: &'a [BabyBear],
+) -> VerifierFolder<'a, BabyBear, QuarticExtension>
+    ensures zero { result.accumulator ≡ quartic_ring.zero }
+    ensures local { result.main_local.now ≡ local.now }
+    ensures next { result.main_next.now ≡ next.now }
+    ensures public { result.public_values.now ≡ public_values.now }
+{
+    VerifierFolder {
+        main_local: local,
+        main_next: next,
+        preprocessed_local: &[],
+        preprocessed_next: &[],
+        periodic_values: &[],
+        public_values,
+        is_first_row: QuarticExtension::ONE,
+        is_last_row: QuarticExtension::ONE,
+        is_transition: QuarticExtension::ONE,
+        alpha: QuarticExtension::from_u64(10),
+        accumulator: QuarticExtension::ZERO,
+    }
+}
+
 // At the row 2, 3 before the row 5, 7, where all else is one, the constraints have the values 1, 2, 2, 5 and 2.
 #[test]
 fn both_folds_of_swap(rt: HostRuntime) -> Result<(), Fail> {
     let (local, next) = ([bear(2), bear(3)], [bear(5), bear(7)]);
     let public_values = [bear(1), bear(1), bear(1)];
     let powers = powers_of_ten();
-    let folder = ProverFolder {
-        main_local: &local,
-        main_next: &next,
-        preprocessed_local: &[],
-        preprocessed_next: &[],
-        periodic_values: &[],
-        public_values: &public_values,
-        is_first_row: BabyBear::ONE,
-        is_last_row: BabyBear::ONE,
-        is_transition: BabyBear::ONE,
-        alpha_powers: &powers,
-        constraint_index: 0,
-        accumulator: QuarticExtension::ZERO,
-    };
+    let folder = prover_folder(&local, &next, &public_values, &powers);
     assert_eq!(rt;
         prover_fold(&SwapAir, folder),
         QuarticExtension::from_u64(12252)
     );
     let local = [QuarticExtension::from_u64(2), QuarticExtension::from_u64(3)];
     let next = [QuarticExtension::from_u64(5), QuarticExtension::from_u64(7)];
-    let folder = VerifierFolder {
-        main_local: &local,
-        main_next: &next,
-        preprocessed_local: &[],
-        preprocessed_next: &[],
-        periodic_values: &[],
-        public_values: &public_values,
-        is_first_row: QuarticExtension::ONE,
-        is_last_row: QuarticExtension::ONE,
-        is_transition: QuarticExtension::ONE,
-        alpha: QuarticExtension::from_u64(10),
-        accumulator: QuarticExtension::ZERO,
-    };
+    let folder = verifier_folder(&local, &next, &public_values);
     assert_eq!(rt;
         verifier_fold(&SwapAir, folder),
         QuarticExtension::from_u64(12252)
@@ -87,51 +117,17 @@ fn assert_square<AB: InteractionBuilder>(builder: &mut AB, x: AB::Expr) -> Mem<(
 #[test]
 fn powers_are_counted(rt: HostRuntime) -> Result<(), Fail> {
     let powers = [QuarticExtension::from_u64(10)];
-    let mut folder = ProverFolder {
-        main_local: &[],
-        main_next: &[],
-        preprocessed_local: &[],
-        preprocessed_next: &[],
-        periodic_values: &[],
-        public_values: &[],
-        is_first_row: BabyBear::ONE,
-        is_last_row: BabyBear::ONE,
-        is_transition: BabyBear::ONE,
-        alpha_powers: &powers,
-        constraint_index: 0,
-        accumulator: QuarticExtension::ZERO,
-    };
+    let mut folder = prover_folder(&[], &[], &[], &powers);
     assert_square(&mut folder, bear(3))?;
     assert_square(&mut folder, bear(3))?;
     assert_eq!(rt; folder.accumulator, QuarticExtension::from_u64(90));
     assert_eq!(rt; folder.constraint_index, 1);
-    let mut folder = VerifierFolder {
-        main_local: &[],
-        main_next: &[],
-        preprocessed_local: &[],
-        preprocessed_next: &[],
-        periodic_values: &[],
-        public_values: &[],
-        is_first_row: QuarticExtension::ONE,
-        is_last_row: QuarticExtension::ONE,
-        is_transition: QuarticExtension::ONE,
-        alpha: QuarticExtension::from_u64(10),
-        accumulator: QuarticExtension::ZERO,
-    };
+    let mut folder = verifier_folder(&[], &[], &[]);
     let three = folder.constant(bear(3))?;
     assert_square(&mut folder, three)?;
     assert_square(&mut folder, three)?;
     assert_eq!(rt; folder.accumulator, QuarticExtension::from_u64(99));
     Ok(())
-}
-
-// Asserts that x + 3 is x, that x is a bit, and that x and x + 3 are zero.
-fn assert_in_all_ways<AB: AirBuilder>(builder: &mut AB, x: AB::Expr) -> Mem<()> {
-    let three = builder.constant(<AB::F as RingCore>::from_u64(3))?;
-    let sum = builder.add(x, three)?;
-    builder.assert_eq(sum, x)?;
-    builder.assert_bools(&[x])?;
-    builder.assert_zeros(&[x, sum])
 }
 
 // The terminal of the lookups. A table without lookups has the empty sum.
@@ -145,36 +141,11 @@ fn terminal<AB: PermutationAirBuilder>(builder: &mut AB) -> Mem<AB::ExprEF>
 #[test]
 fn assertions_of_all_forms(rt: HostRuntime) -> Result<(), Fail> {
     let powers = powers_of_ten();
-    let mut folder = ProverFolder {
-        main_local: &[],
-        main_next: &[],
-        preprocessed_local: &[],
-        preprocessed_next: &[],
-        periodic_values: &[],
-        public_values: &[],
-        is_first_row: BabyBear::ONE,
-        is_last_row: BabyBear::ONE,
-        is_transition: BabyBear::ONE,
-        alpha_powers: &powers[1..],
-        constraint_index: 0,
-        accumulator: QuarticExtension::ZERO,
-    };
+    let mut folder = prover_folder(&[], &[], &[], &powers[1..]);
     assert_in_all_ways(&mut folder, bear(5))?;
     assert_eq!(rt; folder.accumulator, QuarticExtension::from_u64(5058));
     assert_eq!(rt; terminal(&mut folder)?, QuarticExtension::ZERO);
-    let mut folder = VerifierFolder {
-        main_local: &[],
-        main_next: &[],
-        preprocessed_local: &[],
-        preprocessed_next: &[],
-        periodic_values: &[],
-        public_values: &[],
-        is_first_row: QuarticExtension::ONE,
-        is_last_row: QuarticExtension::ONE,
-        is_transition: QuarticExtension::ONE,
-        alpha: QuarticExtension::from_u64(10),
-        accumulator: QuarticExtension::ZERO,
-    };
+    let mut folder = verifier_folder(&[], &[], &[]);
     let five = folder.constant(bear(5))?;
     assert_in_all_ways(&mut folder, five)?;
     assert_eq!(rt; folder.accumulator, QuarticExtension::from_u64(5058));
