@@ -1,6 +1,6 @@
 -- A quotient's value from its chunks' values. The rule is that of Plonky3's p3-uni-stark
 -- (recompose_quotient_from_chunks).
-use Rattle.std.specs.Prelude.{◌≡◌, ℕ, zero, suc, ◌+◌, ◌-◌, ◌<◌, ◌^◌, List, [], length, get_or}
+use Rattle.std.specs.Prelude.{◌≡◌, ℕ, suc, ◌+◌, ◌-◌, ◌<◌, ◌^◌, List, [], length, get_or}
 use Rattle.p3_field.specs.Ring.{Ring}
 use Rattle.p3_field.specs.Field.{TwoAdic, Extension, combine}
 use Rattle.p3_field.specs.Poly.{val, val_in, total, product}

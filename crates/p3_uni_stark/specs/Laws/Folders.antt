@@ -1,19 +1,20 @@
 -- The laws of builders for the folders.
-use Rattle.std.proofs.Common.{◌≡◌, ℕ, true, false, List, ◌++◌, map, get_or, refl, sym, ◌∙◌, ap, subst}
+use Rattle.std.proofs.Common.{◌≡◌, List, ◌++◌, map, refl, sym, ◌∙◌, ap, subst}
 use Rattle.std.proofs.lemmas.List.{map-append}
 use Rattle.std.proofs.lemmas.Simd.{map-map}
-use Rattle.std.proofs.Math.ListN.{get_or-map}
 use Rattle.p3_field.specs.Ring.{Ring, RingLaws}
 use Rattle.p3_field.specs.Field.{RingHom}
 use Rattle.p3_air.specs.Tree.{Tree, Asserted, Reading, ev, ev_asserted, over_base}
 use Rattle.p3_air.specs.declared.cells.Cell.{Cell}
-use Rattle.p3_air.specs.declared.cells.Cell.TheVariants.{Main, Preprocessed, Periodic, Public, FirstRow, LastRow, Transition}
+use Rattle.p3_air.specs.CellValues.{cell_in}
+use Rattle.p3_air.specs.Laws.CellValues.{cell_image}
 use Rattle.p3_air.specs.PointValues.{point_cell}
 use Rattle.p3_air.specs.Operation.{Operation, tree_by, value_by}
 use Rattle.p3_air.specs.Laws.Operation.{ReadsBy, value_by-tree, embedded-value_by}
-use Rattle.p3_uni_stark.specs.Point.{PointValues, point_shape, reading, embedded}
+use Rattle.p3_uni_stark.specs.Point.{PointValues, point_cells, point_shape, reading, embedded}
 use Rattle.p3_uni_stark.specs.Fold.{fold_from, Sum, weighed_from}
 use Rattle.p3_uni_stark.specs.Laws.Folds.{fold_after, weighed_after}
+use Rattle.p3_uni_stark.specs.Laws.Point.{embedded_cells}
 
 -- a value in a state is the tree's value in each state that reads the same
 pub value_persists : {F E S : Type 0} (reads : S → Reading F E) (p q : S) (e : E) (t : Tree F) → q ≡ p → e ≡ ev (reads p) t → e ≡ ev (reads q) t
@@ -63,17 +64,7 @@ weighed_along {F = F} {E = E} {S = S} s reads p q a b c t u h k l =
     subst P h l ∙ (ap (λ v. weighed_from s v (map value u)) k
     ∙ (weighed_after s a (map value t) (map value u) ∙ ap (weighed_from s a) (sym (map-append value t u))))
 
-mapped : {A B : Type 0} (embed : A → B) (z : A) (w : B) → embed z ≡ w → (xs : List A) (i : ℕ) → embed (get_or xs i z) ≡ get_or (map embed xs) i w
-mapped embed z w e xs i = sym (get_or-map embed xs i z) ∙ ap (get_or (map embed xs) i) e
-
 -- the image of a cell's value is its value among the images
-pub image_of_cell : {A B : Type 0} (embed : A → B) (z : A) (w : B) → embed z ≡ w → (p : PointValues A A) (c : Cell) → embed (point_cell z (λ x. x) p c) ≡ point_cell w embed (embedded embed p) c
-image_of_cell embed z w e p (Main true n) = mapped embed z w e p.main_next n
-image_of_cell embed z w e p (Main false n) = mapped embed z w e p.main_local n
-image_of_cell embed z w e p (Preprocessed true n) = mapped embed z w e p.preprocessed_next n
-image_of_cell embed z w e p (Preprocessed false n) = mapped embed z w e p.preprocessed_local n
-image_of_cell embed z w e p (Periodic n) = mapped embed z w e p.periodic n
-image_of_cell embed z w e p (Public n) = ap embed (get_or-map (λ x. x) p.public n z) ∙ mapped embed z w e p.public n
-image_of_cell embed z w e p FirstRow = refl
-image_of_cell embed z w e p LastRow = refl
-image_of_cell embed z w e p Transition = refl
+pub image_of_cell : {A B : Type 0} (embed : A → B) (z : A) (w : B) → embed z ≡ w → (p : PointValues A A) (c : Cell)
+    → embed (point_cell z (λ x. x) p c) ≡ point_cell w embed (embedded embed p) c
+image_of_cell embed z w e p c = cell_image embed z w e (point_cells z (λ x. x) p) c ∙ ap (λ v. cell_in w v c) (sym (embedded_cells z w embed p e))

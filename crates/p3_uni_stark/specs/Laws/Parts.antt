@@ -1,9 +1,9 @@
 -- The quotient of a domain that is split in parts: no two parts have a point in common, and at each point of a part the quotient's value is
 -- that part's chunk.
-use Rattle.std.proofs.Common.{◌≡◌, ℕ, zero, suc, ◌+◌, ◌*◌, ◌/◌, ◌^◌, ◌<◌, ◌≤◌, ◌⊎◌, List, [], length, get_or, sym, ◌∙◌, ap, subst, arith}
+use Rattle.std.proofs.Common.{◌≡◌, ℕ, zero, suc, ◌+◌, ◌*◌, ◌/◌, ◌^◌, ◌<◌, ◌≤◌, ◌⊎◌, List, [], length, get_or, sym, ◌∙◌, ap, arith}
 use Rattle.std.proofs.Math.Nat.{mul-div_cancel}
 use Rattle.std.proofs.lemmas.Option.{slice_get-get_or}
-use Rattle.p3_field.specs.Ring.{Ring, RingLaws}
+use Rattle.p3_field.specs.Ring.{RingLaws}
 use Rattle.p3_field.specs.Field.{TwoAdic, Extension, combine, FieldLaws, RingHom, TwoAdicLaws}
 use Rattle.p3_field.specs.Domain.{CosetData, point}
 use Rattle.p3_field.specs.Laws.Interpolants.{points_apart}

@@ -1,4 +1,4 @@
-use Rattle.std.proofs.Common.{sym, subst, ◌≡◌, ◌∙◌, ap}
+use Rattle.std.proofs.Common.{sym, subst, ◌∙◌, ap}
 use Rattle.p3_air.specs.Shape.{Declares}
 use Rattle.p3_air.specs.PointValues.{PointValues, point_cell, point_shape}
 use Rattle.p3_uni_stark.proofs.verifier_folder.VerifierFolderAirBuilder.cell.Goals as goal
