@@ -11,5 +11,6 @@ pub mod Declared
 pub mod RowCheck
 pub mod PointValues
 pub mod Recording
+pub mod Reads
 pub mod Places
 pub mod Copying

@@ -12,5 +12,6 @@ pub mod Check
 pub mod Layout
 pub mod Placed
 pub mod Recording
+pub mod Reads
 pub mod Copying
 pub mod Laws
