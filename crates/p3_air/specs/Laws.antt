@@ -11,6 +11,7 @@ pub mod Declared
 pub mod RowCheck
 pub mod PointValues
 pub mod Recording
+pub mod Reads
 pub mod Places
 pub mod Copying
 pub mod Maps

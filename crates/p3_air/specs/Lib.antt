@@ -12,6 +12,7 @@ pub mod Check
 pub mod Layout
 pub mod Placed
 pub mod Recording
+pub mod Reads
 pub mod Copying
 pub mod Maps
 pub mod CellValues

@@ -21,6 +21,7 @@ mod gadgets;
 mod layout;
 pub mod meanings;
 mod node;
+mod reads;
 mod recorded;
 mod recorder;
 mod symbolic;

@@ -3,7 +3,7 @@ ghost use Rattle.std.specs.Prelude.{◌≡◌, ℕ, ◌+◌, ◌-◌, ◌*◌, �
 ghost use Rattle.p3_air.specs.Tree.{Tree};
 ghost use Rattle.p3_air.specs.Shape.{ReadsIn};
 ghost use Rattle.p3_air.specs.Symbolic.{tree_of, IsExpression};
-ghost use Rattle.p3_air.specs.Degree.{multiple, polynomial_degree, periodic_degree as periodic_degree_of, HasPeriod};
+ghost use Rattle.p3_air.specs.Degree.{degree, multiple, polynomial_degree, periodic_degree as periodic_degree_of, HasPeriod};
 ghost use Rattle.p3_air.specs.declared.node.Node.{Node as NodeOf};
 
 use crate::cells::{Cell, ExtCell};
@@ -62,6 +62,13 @@ impl<F: FieldCore> SymbolicExpression<F> {
         Ok(SymbolicExpression { nodes })
     }
 
+    /// The degree of the tree, where cells have these degrees.
+    pub(crate) fn degree_by<D: CellDegrees>(&self, cells: &D) -> usize
+        ensures { result ≡ degree (D.base cells.now) (D.extension cells.now) (tree_of self.now) }
+    {
+        root_degree(&self.nodes, cells)
+    }
+
     /// The degree as a multiple of the trace's height: one for cells of the traces, periodic columns and the
     /// selectors of the first and the last row, zero for constants, public values, challenges, the terminal and the
     /// transition selector. A sum or a difference has the larger degree, and a product their sum, which stops at the
@@ -76,7 +83,7 @@ impl<F: FieldCore> SymbolicExpression<F> {
     pub fn degree_multiple_with_transition(&self, t: usize) -> usize
         ensures { result ≡ multiple t (tree_of self.now) }
     {
-        root_degree(&self.nodes, &Multiples { transition: t })
+        self.degree_by(&Multiples { transition: t })
     }
 
     /// The degree of the polynomial over a trace of `trace_len` rows, which isn't zero. `periods` has the length of
@@ -86,13 +93,10 @@ impl<F: FieldCore> SymbolicExpression<F> {
         requires periods { ReadsIn (HasPeriod periods.now) (λ _. Unit {0}) (tree_of self.now) }
         ensures { result ≡ polynomial_degree trace_len periods.now (tree_of self.now) }
     {
-        root_degree(
-            &self.nodes,
-            &OverRows {
-                rows: trace_len,
-                periods,
-            },
-        )
+        self.degree_by(&OverRows {
+            rows: trace_len,
+            periods,
+        })
     }
 }
 

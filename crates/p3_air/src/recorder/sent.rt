@@ -1,13 +1,16 @@
 //! The interactions that a recording builder has recorded, as values of their own.
-ghost use Rattle.std.specs.Prelude.{◌≡◌, ℕ, ◌<◌, List, length, map, get_or, All, IfOk};
+ghost use Rattle.std.specs.Prelude.{◌≡◌, ℕ, ◌<◌, ◌↔◌, List, length, map, get_or, All, IfOk, IsTrue};
 ghost use Rattle.p3_air.specs.Symbolic.{tree_at, tree_of, Ordered};
 ghost use Rattle.std.specs.Option.{option_copied};
 ghost use Rattle.p3_air.specs.Placed.{Placed};
-ghost use Rattle.p3_air.specs.Recording.{interaction_at};
+ghost use Rattle.p3_air.specs.Recording.{interaction_at, sent_at};
+ghost use Rattle.p3_air.specs.Shape.{declared_shape, IsInteraction};
 
+use crate::base::BaseAir;
 use crate::cells::Count;
 use crate::copying::expression_at;
 use crate::node::Node;
+use crate::reads::all_sendable;
 use crate::recorder::InteractionSymbolicBuilder;
 use crate::symbolic::SymbolicExpression;
 use p3_field::{Field, FieldCore, Mem, RingCore};
@@ -46,6 +49,38 @@ impl<F: Field> InteractionSymbolicBuilder<F> {
     {
         let recorded = &self.interactions[index];
         bounds_of(alloc, &recorded.counts)
+    }
+
+    // Whether an interaction reads only what the AIR's interactions may read.
+    fn interaction_reads_declared<A: BaseAir<F>>(
+        &self,
+        alloc: Global,
+        air: &A,
+        index: usize,
+    ) -> Mem<bool>
+        requires { index < length self.now.interactions }
+        ensures { IfOk result (λ b. (d : Placed) → IsTrue b ↔ IsInteraction (declared_shape (A.declaration air.now)) (interaction_at self.now.nodes (get_or self.now.interactions index d))) }
+    {
+        let _ = &self.interactions;
+        let fields = self.interaction_fields(alloc, index)?;
+        let counts = self.interaction_counts(alloc, index)?;
+        if !all_sendable(&fields, air) {
+            return Ok(false);
+        }
+        Ok(all_sendable(&counts, air))
+    }
+
+    /// Whether each interaction reads only what an interaction of this AIR may read: constants, and public values, main and
+    /// preprocessed cells that it declares, next cells only in declared next columns (own).
+    pub fn interactions_read_declared<A: BaseAir<F>>(&self, alloc: Global, air: &A) -> Mem<bool>
+        ensures { IfOk result (λ b. IsTrue b ↔ All (IsInteraction (declared_shape (A.declaration air.now))) (sent_at self.now.nodes self.now.interactions)) }
+    {
+        for index in 0..self.num_interactions() {
+            if !self.interaction_reads_declared(alloc, air, index)? {
+                return Ok(false);
+            }
+        }
+        Ok(true)
     }
 
     /// The name of an interaction's bus, or None for a local one.
