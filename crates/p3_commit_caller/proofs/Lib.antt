@@ -1,3 +1,8 @@
 mod Openings
 mod Committing
 mod RowOfOne
+mod Lists
+mod RoundClaims
+mod Refusals
+mod Evaluations
+mod ClaimSteps

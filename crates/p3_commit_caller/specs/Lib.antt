@@ -1,1 +1,4 @@
 pub mod Single
+pub mod Causes
+pub mod Extended
+pub mod Rounds

@@ -4,7 +4,13 @@
 #![tactic(auto)]
 
 mod agreeing;
+mod evaluated;
+mod faults;
+mod quotients;
+mod rounds;
 mod rows;
+mod several;
+mod witnesses;
 
 ghost use Rattle.std.specs.Prelude.{◌≡◌, ◌⊎◌, ◌↔◌, ℕ, ◌<◌, List, [], ◌∷◌, length, get_or, IfOk, IsTrue, IsSome, IfSome};
 ghost use Rattle.p3_matrix.specs.Matrix.{Rows, column};
@@ -15,6 +21,8 @@ ghost use Rattle.p3_commit.specs.Commitments.{Committed, IsCommitment, Held, nes
 ghost use Rattle.p3_commit_caller.specs.Single.{claim_of, AreValues};
 
 pub use agreeing::committed_alike;
+pub use evaluated::committed_and_evaluated;
+pub use faults::{fault_of_claims, fault_of_rows, rows_verified_twice};
 use p3_commit::{
     CommitmentOpening, MatrixOpening, OpenedValues, OpeningRequest, Pcs, PcsFailure, PointOpening,
     PolynomialSpace,
@@ -24,8 +32,12 @@ use p3_field::{
     TwoAdicCore,
 };
 use p3_matrix::RowMajorMatrix;
+pub use quotients::quotient_committed_twice;
+pub use rounds::Round;
 pub use rows::{OpenedRow, committed_and_opened};
+pub use several::{VerifiedRounds, rounds_verified};
 use std::alloc::Global;
+pub use witnesses::witness_verified;
 
 // The list of one item.
 fn one<T: Drop>(alloc: Global, item: T) -> Mem<Vec<T>>
