@@ -10,6 +10,7 @@ pub mod Growth
 pub mod Declared
 pub mod RowCheck
 pub mod PointValues
+pub mod RowOf
 pub mod Recording
 pub mod Reads
 pub mod Places
