@@ -15,23 +15,27 @@ use Rattle.p3_matrix.specs.Laws.Cells.{length-column}
 use Rattle.p3_commit.specs.Claims.{PointClaim, MatrixClaim, CommitmentClaim}
 use Rattle.plain_pcs.specs.Scheme.{Scheme, PlainCommitmentData}
 use Rattle.plain_pcs.specs.Extension.{extended_domain, interpolant}
-use Rattle.plain_pcs.specs.Checks.{HasDimensions, IsColumnPolynomial, HasLowDegree, HasValue, degree_check, value_check, point_checks, matrix_checks, round_checks, checks, Opens}
+use Rattle.plain_pcs.specs.Checks.{HasDimensions, IsColumnPolynomial, HasLowDegree, HasValue, Opens}
+use Rattle.plain_pcs.specs.Checks.{degree_check, value_check, point_checks, matrix_checks, round_checks, checks}
 use Rattle.plain_pcs.specs.Binding.{IsBound}
 use Rattle.plain_pcs.specs.Laws.Extensions.{polynomials, length-polynomials, get_or-polynomials, is_interpolant}
 use Rattle.plain_pcs.specs.Laws.Listed.{zip_item}
 use Rattle.plain_pcs.specs.declared.error.PlainError.TheVariants.{Degree, Value}
 
 module _ {F E : Type 0} (s : Scheme F) (ring : Ring E) (embed : F → E)
-    (L : RingLaws s.field.ring) (W : FieldLaws s.field.ring s.field.inv) (T : TwoAdicLaws s.field.ring s.most s.field.root) (nz : s.field.generator ≡ s.field.ring.zero → ⊥) where
+    (L : RingLaws s.field.ring) (W : FieldLaws s.field.ring s.field.inv) (T : TwoAdicLaws s.field.ring s.most s.field.root)
+    (nz : s.field.generator ≡ s.field.ring.zero → ⊥) where
   -- a column has no other polynomial
-  one_polynomial : (m : Rows F) (k j : ℕ) (f : List F) → j < m.width → k + s.log_blowup ≤ s.most → height m ≡ 2 ^ (k + s.log_blowup) → IsColumnPolynomial s ring embed m k j f
+  one_polynomial : (m : Rows F) (k j : ℕ) (f : List F) → j < m.width → k + s.log_blowup ≤ s.most → height m ≡ 2 ^ (k + s.log_blowup)
+      → IsColumnPolynomial s ring embed m k j f
       → f ≡ get_or (polynomials s (extended_domain s k) m) j []
   one_polynomial m k j f b fits tall I =
       let r = s.field.ring in
       let d = extended_domain s k in
       let v = column r.zero m j in
       let long : length v ≡ 2 ^ (k + s.log_blowup) = length-column r.zero m j ∙ tall in
-      let apart : Apart (length v) (point r s.field.root d) = subst (λ n. Apart n (point r s.field.root d)) (sym long) (points_apart r L s.field.inv W s.most s.field.root T d fits nz) in
+      let apart : Apart (length v) (point r s.field.root d) =
+      subst (λ n. Apart n (point r s.field.root d)) (sym long) (points_apart r L s.field.inv W s.most s.field.root T d fits nz) in
       interpolant_unique r L s.field.inv W (point r s.field.root d) v f (interpolant s.field d v) apart I (is_interpolant s L W T d v fits nz long)
       ∙ sym (get_or-polynomials s d m j b)
 
@@ -46,7 +50,8 @@ module _ {F E : Type 0} (s : Scheme F) (ring : Ring E) (embed : F → E)
         let (f, I, deg) = low j b in
         subst (DegreeBelow s.field.ring (2 ^ k)) (one_polynomial m k j f b dimensions.fits dimensions.height_is I ∙ get_or_default fs j [] e h) deg
 
-    valued : (p : PointClaim E) → length p.values ≡ m.width → ((j : ℕ) → j < m.width → HasValue s ring embed m d.domain.log_size j p.point (get_or p.values j ring.zero))
+    valued : (p : PointClaim E) → length p.values ≡ m.width
+        → ((j : ℕ) → j < m.width → HasValue s ring embed m d.domain.log_size j p.point (get_or p.values j ring.zero))
         → p.values ≡ map (λ f. val ring (map embed f) p.point) fs
     valued p wide value =
         let k = d.domain.log_size in
@@ -65,7 +70,9 @@ module _ {F E : Type 0} (s : Scheme F) (ring : Ring E) (embed : F → E)
   opened_bound claims opens round i c m d at_round at_matrix at_claim =
       let k = d.domain.log_size in
       let whole = none_at_item (round_checks s ring embed) claims round c at_round opens in
-      let here = none_at_item (matrix_checks s ring embed round) (zip c.commitment.matrices c.matrices) i (m, d) (zip_item c.commitment.matrices c.matrices i m d at_matrix at_claim) whole.1 in
+      let here =
+      none_at_item (matrix_checks s ring embed round) (zip c.commitment.matrices c.matrices) i (m, d)
+      (zip_item c.commitment.matrices c.matrices i m d at_matrix at_claim) whole.1 in
       let degrees = in_turn m.width (degree_check s ring embed round i m k) in
       let values = of_items (point_checks s ring embed round i m k) d.points in
       record {

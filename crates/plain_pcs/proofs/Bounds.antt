@@ -20,7 +20,8 @@ use Rattle.plain_pcs.proofs.Commitments.{no_commit_fault, no_height_fault}
 use Rattle.plain_pcs.specs.declared.error.PlainProverError.TheVariants.{Commit, Open}
 
 module _ {F : Type 0} (s : Scheme F) where
-  pub commit_granted : (evaluated : List (CosetData F × Rows F)) → s.log_blowup ≤ s.most → All (IsWithinBounds s) evaluated → NoneOf (CommitFault s evaluated)
+  pub commit_granted : (evaluated : List (CosetData F × Rows F)) → s.log_blowup ≤ s.most → All (IsWithinBounds s) evaluated
+      → NoneOf (CommitFault s evaluated)
   commit_granted evaluated fits all =
       no_commit_fault s evaluated (λ k d b.
       let W = all k d b in
@@ -31,7 +32,8 @@ module _ {F : Type 0} (s : Scheme F) where
   extensions_granted L W T chunks ls E = no_height_fault s ls (all_items (HasSubgroupHeight s.most) ls (extended_height s L W T chunks ls E))
 
   -- parts of 2^rows points, of which there are 2^parts
-  pub quotient_granted : (d : CosetData F) (rows parts : ℕ) → s.log_blowup ≤ s.most → d.log_size ≡ rows + parts → rows ≤ s.most - s.log_blowup → NoneOf (QuotientFault s d (2 ^ parts))
+  pub quotient_granted : (d : CosetData F) (rows parts : ℕ) → s.log_blowup ≤ s.most → d.log_size ≡ rows + parts → rows ≤ s.most - s.log_blowup
+      → NoneOf (QuotientFault s d (2 ^ parts))
   quotient_granted d rows parts fits size short (Commit i) f =
       let one : 2 ^ (rows + s.log_blowup) ≤ 2 ^ s.most = pow-le-pow_right (omega arith) (omega (arith, fits, short)) in
       let all : 2 ^ (rows + s.log_blowup) * 2 ^ parts ≤ 2 ^ s.most * 2 ^ parts = mul-le-mul_right (2 ^ parts) one in
@@ -40,6 +42,7 @@ module _ {F : Type 0} (s : Scheme F) where
       omega (arith, f.1, all, same)
   quotient_granted d rows parts fits size short (Open i) f = f
 
-pub open_granted : {F E : Type 0} (requests : List (Request (List (CosetData F × Rows F)) E)) → All (λ r. length r.points ≡ length r.prover_data) requests → NoneOf (OpenFault requests)
+pub open_granted : {F E : Type 0} (requests : List (Request (List (CosetData F × Rows F)) E))
+    → All (λ r. length r.points ≡ length r.prover_data) requests → NoneOf (OpenFault requests)
 open_granted requests all (Commit i) f = f
 open_granted requests all (Open i) f = none_first (λ r. length r.points ≡ length r.prover_data) requests i all f
