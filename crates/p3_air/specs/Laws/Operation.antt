@@ -1,5 +1,5 @@
 -- An operation's value is its tree's, where trees are read by a ring's operations.
-use Rattle.std.proofs.Common.{◌≡◌, refl, sym, ◌∙◌, ap}
+use Rattle.std.proofs.Common.{◌≡◌, sym, ◌∙◌, ap}
 use Rattle.p3_field.specs.Ring.{Ring, RingLaws, sub}
 use Rattle.p3_field.specs.Field.{RingHom}
 use Rattle.p3_field.specs.Laws.Extended.{hom_neg}

@@ -1,4 +1,4 @@
-use Rattle.std.proofs.Common.{◌≡◌, List, All, map, get_or, length, sym, ◌∙◌, subst}
+use Rattle.std.proofs.Common.{List, All, map, get_or, length, sym, ◌∙◌, subst}
 use Rattle.p3_air.specs.declared.node.Node.{Node}
 use Rattle.p3_air.specs.Recording.{Recording, IsRecording}
 use Rattle.p3_air.specs.Shape.{declared_shape, ReadsSendable}

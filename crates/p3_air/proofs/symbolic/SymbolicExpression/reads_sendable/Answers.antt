@@ -1,5 +1,4 @@
-use Rattle.std.proofs.Common.{◌≡◌, true, subst, arith}
-use Rattle.std.specs.Prelude.{IsTrue, ◌↔◌}
+use Rattle.std.proofs.Common.{◌≡◌, true, subst}
 use Rattle.p3_air.specs.Degree.{degree}
 use Rattle.p3_air.specs.Reads.{strangeness}
 use Rattle.p3_air.specs.Shape.{Shape, declared_shape, ReadsSendable}
