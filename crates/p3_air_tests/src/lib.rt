@@ -5,6 +5,8 @@
 mod gadgets;
 #[cfg(test)]
 mod post;
+#[cfg(test)]
+mod reads;
 pub mod support;
 #[cfg(test)]
 mod symbolic;

@@ -1,10 +1,12 @@
 //! What several tests share, also those of crates above.
-ghost use Rattle.std.specs.Prelude.{◌≡◌, IsTrue, IsOk};
+ghost use Rattle.std.specs.Prelude.{◌≡◌, [], ◌∷◌, IfOk, IsTrue, IsOk};
 ghost use Rattle.p3_field.specs.Ring.{of_nat};
 ghost use Rattle.p3_field.specs.BabyBear.{bear_ring};
+ghost use Rattle.p3_air.specs.declared.node.Node.TheVariants.{Base};
 
-use p3_air::AirBuilder;
+use p3_air::{AirBuilder, Cell, Node, SymbolicExpression};
 use p3_field::{BabyBear, FieldCore, Mem, RingCore};
+use std::alloc::Global;
 
 /// The element of this number.
 pub fn bear(n: u64) -> BabyBear
@@ -24,4 +26,13 @@ pub fn assert_in_all_ways<AB: AirBuilder>(builder: &mut AB, x: AB::Expr) -> Mem<
     builder.assert_eq(sum, x)?;
     builder.assert_bools(&[x])?;
     builder.assert_zeros(&[x, sum])
+}
+
+/// The expression that is this cell alone.
+pub fn of_cell(alloc: Global, cell: Cell) -> Mem<SymbolicExpression<BabyBear>>
+    ensures { IfOk result (λ e. e ≡ Base cell ∷ []) }
+{
+    let mut nodes = Vec::new(alloc);
+    nodes.push(Node::Base(cell))?;
+    Ok(SymbolicExpression::new(nodes))
 }

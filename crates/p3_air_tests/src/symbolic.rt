@@ -1,13 +1,12 @@
 //! Worked values, by hand from the rules.
 ghost use Rattle.std.specs.Prelude.{◌≡◌, ◌<◌, [], ◌∷◌, IfOk, length};
 ghost use Rattle.p3_air.specs.Degree.{HasPeriod};
-ghost use Rattle.p3_air.specs.declared.node.Node.TheVariants.{Base};
 ghost use Rattle.p3_air.specs.Layout.{layout_shape};
 ghost use Rattle.p3_air.specs.Shape.{Declares, DeclaresExt, ReadsIn};
 ghost use Rattle.p3_air.specs.Symbolic.{IsExpression, tree_of};
 ghost use Rattle.p3_air.specs.Tree.{product};
 
-use crate::support::assert_in_all_ways;
+use crate::support::{assert_in_all_ways, of_cell};
 use batch_tables::SwapAir;
 use p3_air::{
     Air, AirBuilder, AirLayout, Cell, ConstraintLayout, ExtCell, ExtensionBuilder,
@@ -151,15 +150,6 @@ fn degrees_of_sums(rt: HostRuntime) -> Result<(), Fail> {
     }
     assert_eq!(rt; multiples.as_slice(), [1usize, 2, 1, 1].as_slice());
     Ok(())
-}
-
-// The expression that is this cell alone.
-fn of_cell(alloc: Global, cell: Cell) -> Mem<SymbolicExpression<BabyBear>>
-    ensures { IfOk result (λ e. e ≡ Base cell ∷ []) }
-{
-    let mut nodes = Vec::new(alloc);
-    nodes.push(Node::Base(cell))?;
-    Ok(SymbolicExpression::new(nodes))
 }
 
 // The degree of a cell over 8 rows, where the only periodic column has period 2.

@@ -3,7 +3,7 @@ use Rattle.p3_air.specs.Symbolic.{IsExpression, OrderedFrom}
 use Rattle.p3_air.specs.declared.node.Node.{Node}
 use Rattle.p3_air.specs.declared.node.Node.TheVariants.{Base}
 use Rattle.p3_field.specs.declared.baby_bear.BabyBear.{BabyBear}
-use Rattle.p3_air_tests.proofs.symbolic.of_cell.Goals as goal
+use Rattle.p3_air_tests.proofs.support.of_cell.Goals as goal
 
 pub new-requires : goal.new-requires
 unfolding OrderedFrom

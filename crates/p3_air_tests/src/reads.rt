@@ -1,0 +1,89 @@
+//! What constraints and interactions read, tested when the program runs.
+ghost use Rattle.std.specs.Prelude.{◌≡◌, ◌<◌, IfOk};
+ghost use Rattle.p3_air.specs.Shape.{Declares};
+
+use crate::support::of_cell;
+use batch_tables::SwapAir;
+use p3_air::{
+    AirBuilder, AirLayout, Cell, Count, InteractionBuilder, InteractionSymbolicBuilder,
+};
+use p3_field::{BabyBear, FieldCore, Mem, RingCore};
+use std::alloc::Global;
+use std::test::Fail;
+
+// Whether a cell alone reads what the swap table declares, and what its interactions may read.
+fn reads_of_swap(alloc: Global, cell: Cell) -> Mem<(bool, bool)> {
+    let expression = of_cell(alloc, cell)?;
+    Ok((
+        expression.reads_declared(&SwapAir),
+        expression.reads_sendable(&SwapAir),
+    ))
+}
+
+// The swap table has two columns, whose next rows are declared, and three public values.
+#[test]
+fn cells_of_swap(rt: HostRuntime) -> Result<(), Fail> {
+    let alloc = rt.alloc();
+    let next = Cell::Main {
+        next: true,
+        column: 1,
+    };
+    let past = Cell::Main {
+        next: false,
+        column: 2,
+    };
+    let preprocessed = Cell::Preprocessed {
+        next: false,
+        column: 0,
+    };
+    assert_eq!(rt; reads_of_swap(alloc, next)?, (true, true));
+    assert_eq!(rt; reads_of_swap(alloc, past)?, (false, false));
+    assert_eq!(rt; reads_of_swap(alloc, preprocessed)?, (false, false));
+    assert_eq!(rt; reads_of_swap(alloc, Cell::Public(2))?, (true, true));
+    assert_eq!(rt; reads_of_swap(alloc, Cell::Public(3))?, (false, false));
+    assert_eq!(rt; reads_of_swap(alloc, Cell::FirstRow)?, (true, false));
+    assert_eq!(rt; reads_of_swap(alloc, Cell::Periodic(0))?, (false, false));
+    Ok(())
+}
+
+// A builder of one main column and one public value.
+fn narrow(alloc: Global) -> Mem<InteractionSymbolicBuilder<BabyBear>>
+    ensures { IfOk result (λ b. b.layout ≡ record { preprocessed_width = 0; main_width = 1; num_public_values = 1; num_periodic_columns = 1; permutation_width = 0; num_permutation_challenges = 0; num_permutation_values = 0 }) }
+{
+    let layout = AirLayout {
+        preprocessed_width: 0,
+        main_width: 1,
+        num_public_values: 1,
+        num_periodic_columns: 1,
+        permutation_width: 0,
+        num_permutation_challenges: 0,
+        num_permutation_values: 0,
+    };
+    InteractionSymbolicBuilder::new(alloc, layout)
+}
+
+// Sends the cell once on a bus.
+fn send<AB: InteractionBuilder>(builder: &mut AB, cell: Cell) -> Mem<()>
+    requires { Declares (AB.shape builder.old) cell }
+{
+    let value = builder.cell(cell)?;
+    let one = builder.constant(<AB::F as RingCore>::ONE)?;
+    let once = Count {
+        value: one,
+        bound: 1,
+    };
+    builder.push_interaction("cells", &[value], once)
+}
+
+// What is sent of a public value may be read by an interaction of the swap table, what is sent of a selector may not.
+#[test]
+fn interactions_of_swap(rt: HostRuntime) -> Result<(), Fail> {
+    let alloc = rt.alloc();
+    let mut builder = narrow(alloc)?;
+    send(&mut builder, Cell::Public(0))?;
+    assert!(rt; builder.interactions_read_declared(alloc, &SwapAir)?);
+    let mut builder = narrow(alloc)?;
+    send(&mut builder, Cell::LastRow)?;
+    assert!(rt; !builder.interactions_read_declared(alloc, &SwapAir)?);
+    Ok(())
+}
