@@ -4,9 +4,7 @@ ghost use Rattle.p3_air.specs.Shape.{Declares};
 
 use crate::support::of_cell;
 use batch_tables::SwapAir;
-use p3_air::{
-    AirBuilder, AirLayout, Cell, Count, InteractionBuilder, InteractionSymbolicBuilder,
-};
+use p3_air::{AirBuilder, AirLayout, Cell, Count, InteractionBuilder, InteractionSymbolicBuilder};
 use p3_field::{BabyBear, FieldCore, Mem, RingCore};
 use std::alloc::Global;
 use std::test::Fail;
