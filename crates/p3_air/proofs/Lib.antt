@@ -1,4 +1,3 @@
 pub mod Packing
 pub mod NodeDegrees
 pub mod Nonzero
-pub mod RowOf

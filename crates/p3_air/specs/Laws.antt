@@ -7,6 +7,7 @@ pub mod Asserting
 pub mod Growth
 pub mod Declared
 pub mod RowCheck
+pub mod RowOf
 pub mod Recording
 pub mod Places
 pub mod Copying

@@ -14,9 +14,10 @@ use p3_field::{Field, FieldCore, Mem, RingCore};
 use std::alloc::Global;
 
 impl<F: Field> InteractionSymbolicBuilder<F> {
-    /// How many interactions there are.
+    /// How many interactions there are. Each has at least one count.
     pub fn num_interactions(&self) -> usize
-        ensures { result ≡ length self.now.interactions }
+        ensures number { result ≡ length self.now.interactions }
+        ensures counted { All (λ p. 0 < length p.counts) self.now.interactions }
     {
         self.interactions.len()
     }

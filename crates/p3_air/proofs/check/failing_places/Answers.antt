@@ -2,7 +2,7 @@ use Rattle.std.proofs.Common.{◌<◌, length, List, ◌∙◌, ap, subst, IfOk}
 use Rattle.std.specs.Option.{option_map}
 use Rattle.p3_air.specs.Check.{AreNonzero, table_of, periodic_row}
 use Rattle.p3_air.proofs.Nonzero.{all_of_map}
-use Rattle.p3_air.proofs.RowOf.{row_is, values_are}
+use Rattle.p3_air.specs.Laws.RowOf.{row_is, values_are}
 use Rattle.p3_air.proofs.check.failing_places.Goals as goal
 
 pub periodic_at-requires : goal.periodic_at-requires
