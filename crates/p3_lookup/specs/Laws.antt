@@ -1,0 +1,8 @@
+-- What is proved of the definitions, by subject.
+pub mod Terms
+pub mod Vanish
+pub mod Balance
+pub mod Messages
+pub mod Agreement
+pub mod Buses
+pub mod Packing

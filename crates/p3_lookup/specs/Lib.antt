@@ -1,0 +1,15 @@
+pub mod Lookup
+pub mod Written
+pub mod Term
+pub mod Trees
+pub mod Emission
+pub mod Honest
+pub mod Rows
+pub mod Messages
+pub mod Bus
+pub mod Packing
+pub mod Bound
+pub mod Challenge
+pub mod Terminal
+pub mod Generated
+pub mod Laws
