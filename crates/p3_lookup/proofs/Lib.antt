@@ -5,3 +5,4 @@ pub mod Columns
 pub mod FromAir
 pub mod Degrees
 pub mod Packed
+pub mod Bounded

@@ -6,3 +6,7 @@ pub mod Messages
 pub mod Agreement
 pub mod Buses
 pub mod Packing
+pub mod Places
+pub mod Bound
+pub mod Batch
+pub mod PermutationRows

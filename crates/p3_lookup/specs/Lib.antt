@@ -12,4 +12,7 @@ pub mod Bound
 pub mod Challenge
 pub mod Terminal
 pub mod Generated
+pub mod PermutationRows
+pub mod Loads
+pub mod Batch
 pub mod Laws

@@ -8,7 +8,9 @@
 //! the constraints (`Trees`), the honest columns (`Honest`, `Rows`, `Generated`), and messages (`Messages`).
 #![tactic(auto)]
 
+mod bound;
 mod challenges;
+mod copying;
 mod degree;
 mod emission;
 mod expression;
@@ -23,6 +25,7 @@ mod packing;
 mod terminal;
 mod values;
 
+pub use bound::check_multiplicity_height_bound;
 pub use challenges::Challenges;
 pub use gadget::{LogUpGadget, LookupProtocol};
 pub use kind::Kind;

@@ -7,6 +7,9 @@ ghost use Rattle.p3_lookup.specs.Honest.{argument};
 ghost use Rattle.p3_lookup.specs.Rows.{HonestColumnsVanish};
 ghost use Rattle.p3_lookup.specs.Messages.{Sender, BalancedSum};
 ghost use Rattle.p3_lookup.specs.Bus.{SharesByName};
+ghost use Rattle.p3_lookup.specs.Batch.{BatchTable, BalancedBatch, WidthsPassOn};
+ghost use Rattle.p3_lookup.specs.PermutationRows.{GeneratedRowsVanish};
+ghost use Rattle.p3_air.specs.Check.{Table};
 
 use p3_field::{ExtensionField, Field};
 
@@ -16,9 +19,26 @@ pub fn honest_columns_vanish<F: Field, EF: ExtensionField<F>>()
     ensures { (challenges : List EF) (lookups : List (LookupData F)) (value : ℕ → Tree F → EF) → HonestColumnsVanish F.ring EF.embed (argument EF.ring EF.inv challenges lookups value) }
 {}
 
+/// The columns and the terminal that `generate_permutation` gives meet the constraints of the lookups in each row of the table,
+/// as a check of its rows reads them.
+pub fn generated_rows_vanish<F: Field, EF: ExtensionField<F>>()
+    ensures { (table : Table F) (lookups : List (LookupData F)) (challenges : List EF) → GeneratedRowsVanish F.ring EF.ring EF.inv EF.embed table lookups challenges }
+{}
+
 /// Where nothing is left over on any bus of a batch, the terminals of its tables sum to zero.
 pub fn balanced_terminals_vanish<F: Field, EF: ExtensionField<F>>()
     ensures { (senders : List (Sender F)) → BalancedSum F.ring F.eq EF.ring EF.inv EF.embed senders }
+{}
+
+/// Where nothing is left over on any bus of a batch, the terminals of its tables sum to zero, with the buses numbered and their
+/// bases made as for a batch, whatever alpha and beta are drawn.
+pub fn balanced_batch_sums_to_zero<F: Field, EF: ExtensionField<F>>()
+    ensures { (tables : List (BatchTable F)) → BalancedBatch F.ring F.eq EF.ring EF.inv EF.embed tables }
+{}
+
+/// Where the lookups of a batch have tuples of one width on each bus, so have its messages.
+pub fn messages_of_one_width<F: Field>()
+    ensures { (tables : List (BatchTable F)) → WidthsPassOn tables }
 {}
 
 /// Two different lookups of a batch have one bus exactly where both name it.

@@ -2,71 +2,16 @@
 ghost use Rattle.std.specs.Prelude.{◌≡◌, ℕ, ◌≤◌, ◌++◌, List, [], ◌∷◌, length, map, All, ◌<◌, IfOk, IfSome, MatchOption, slice_set, true, false};
 ghost use Rattle.p3_air.specs.Tree.{Bus};
 ghost use Rattle.p3_lookup.specs.Lookup.{IsCounted};
-ghost use Rattle.p3_lookup.specs.Written.{Written, bus_of_kind, read, read_all, merged_written};
-ghost use Rattle.p3_lookup.specs.Packing.{same_name, merged, takes_in, with_lookup, packed_onto, packed, SendTheSame};
+ghost use Rattle.p3_lookup.specs.Written.{Written, read, read_all, merged_written};
+ghost use Rattle.p3_lookup.specs.Packing.{merged, takes_in, with_lookup, packed_onto, packed, SendTheSame};
 
+use crate::copying::{append_counts, append_tuples};
 use crate::degree::degree_of;
-use crate::from_air::copies;
 use crate::gadget::LogUpGadget;
-use crate::kind::Kind;
+use crate::kind::{have_one_name, kind_copy};
 use crate::lookup::{Lookup, Lookups};
-use p3_air::{Count, SymbolicExpression};
 use p3_field::{Field, FieldCore, Mem, RingCore};
 use std::alloc::Global;
-
-// Whether both kinds are global, and of one name.
-fn have_one_name(a: &Kind, b: &Kind) -> bool
-    ensures { result ≡ same_name (bus_of_kind a.now) (bus_of_kind b.now) }
-{
-    match a {
-        Kind::Local => false,
-        Kind::Global(name) => match b {
-            Kind::Local => false,
-            Kind::Global(other) => name.as_bytes() == other.as_bytes(),
-        },
-    }
-}
-
-// A kind equal to this one.
-fn kind_copy(alloc: Global, kind: &Kind) -> Mem<Kind>
-    ensures { IfOk result (λ k. bus_of_kind k ≡ bus_of_kind kind.now) }
-{
-    match kind {
-        Kind::Local => Ok(Kind::Local),
-        Kind::Global(name) => Ok(Kind::Global(String::from_str(alloc, name.as_str())?)),
-    }
-}
-
-// Appends copies of tuples.
-fn append_tuples<F: Field>(
-    alloc: Global,
-    tuples: &mut Vec<Vec<SymbolicExpression<F>>>,
-    more: &[Vec<SymbolicExpression<F>>],
-) -> Mem<()>
-    ensures { IfOk result (λ _. map (λ v. v.items) tuples.new.items ≡ map (λ v. v.items) tuples.old.items ++ map (λ v. v.items) more.now) }
-{
-    for tuple in more {
-        tuples.push(copies(alloc, tuple)?)?;
-    }
-    Ok(())
-}
-
-// Appends copies of counts.
-fn append_counts<F: Field>(
-    alloc: Global,
-    counts: &mut Vec<Count<SymbolicExpression<F>>>,
-    more: &[Count<SymbolicExpression<F>>],
-) -> Mem<()>
-    ensures { IfOk result (λ _. counts.new.items ≡ counts.old.items ++ more.now) }
-{
-    for count in more {
-        counts.push(Count {
-            value: count.value.try_clone(alloc)?,
-            bound: count.bound,
-        })?;
-    }
-    Ok(())
-}
 
 // The tuples of both lookups, on the bus of the first.
 fn merge<F: Field>(alloc: Global, k: &Lookup<F>, l: &Lookup<F>) -> Mem<Lookup<F>>
@@ -126,18 +71,6 @@ fn taker<F: Field>(
     Ok(None)
 }
 
-// A lookup equal to this one.
-fn copy_of<F: Field>(alloc: Global, lookup: &Lookup<F>) -> Mem<Lookup<F>>
-    ensures { IfOk result (λ l. l ≡ lookup.now) }
-{
-    let kind = kind_copy(alloc, &lookup.kind)?;
-    let mut elements = Vec::new(alloc);
-    append_tuples(alloc, &mut elements, &lookup.elements)?;
-    let mut multiplicities = Vec::new(alloc);
-    append_counts(alloc, &mut multiplicities, &lookup.multiplicities)?;
-    Ok(Lookup::new(kind, elements, multiplicities))
-}
-
 // The kept lookups with one more, which is merged into the first that takes it in.
 fn placed<F: Field>(
     alloc: Global,
@@ -157,7 +90,7 @@ fn placed<F: Field>(
             Ok(kept)
         }
         None => {
-            kept.push(copy_of(alloc, lookup)?)?;
+            kept.push(lookup.try_clone(alloc)?)?;
             Ok(kept)
         }
     }

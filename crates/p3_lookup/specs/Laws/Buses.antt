@@ -1,5 +1,5 @@
 -- Two different lookups have one bus exactly where both name it.
-use Rattle.std.proofs.Common.{◌≡◌, ◌≢◌, ℕ, zero, suc, ◌+◌, ◌<◌, ◌≤◌, ◌⊎◌, inl, inr, Bool, true, false, cond, not, List, [], ◌∷◌, length, get_or, refl, sym, ◌∙◌, ap, subst, arith}
+use Rattle.std.proofs.Common.{◌≡◌, ◌≢◌, ℕ, zero, suc, ◌+◌, ◌<◌, ◌≤◌, ◌⊎◌, inl, inr, Bool, true, false, cond, not, List, [], ◌∷◌, length, get_or, refl, sym, ◌∙◌, ap, subst, arith, add-one}
 use Rattle.std.specs.Prelude.{bytes_eq, ◌==◌}
 use Rattle.std.specs.List.{position_or_len}
 use Rattle.std.specs.Cmp.Lexicographic.{bytes_decides}
@@ -9,7 +9,7 @@ use Rattle.std.proofs.lemmas.Bool.Decides.{eqb_tells}
 use Rattle.p3_air.specs.Tree.{Bus, local, global}
 use Rattle.p3_lookup.specs.Bus.{is_named, opener_of, opener, opened_below, bus_number, bus_count, NameOneBus, SharesByName}
 
-same_opens : (n : ℕ) → (n == n) ≡ true
+pub same_opens : (n : ℕ) → (n == n) ≡ true
 same_opens n = elim (eqb_tells n n) [ inl p ↦ p.0 | inr p ↦ absurd (p.1 refl) ]
 
 -- the count never falls, and rises behind each lookup that opens a bus
@@ -24,15 +24,29 @@ opened_later bs m (suc n) h = elim (cases_lt m (suc n)) [
   | inr not ↦ let e : m ≡ suc n = omega (arith, h, not) in let P : ℕ → Type 0 = λ k. opened_below bs k ≤ opened_below bs (suc n) in subst P (sym e) (omega arith)
 ]
 
-opens_one : (bs : List Bus) (n : ℕ) → opener bs n ≡ n → opened_below bs (suc n) ≡ opened_below bs n + 1
+opens_next : (bs : List Bus) (n : ℕ) → opener bs n ≡ n → opened_below bs (suc n) ≡ opened_below bs n + 1
 unfolding opened_below
-opens_one bs n e =
+opens_next bs n e =
     let b : (opener bs n == n) ≡ true = ap (λ k. k == n) e ∙ same_opens n in
     ap (λ c. opened_below bs n + cond c 1 0) b
 
+opens_no_more : (bs : List Bus) (n : ℕ) → (opener bs n == n) ≡ false → opened_below bs (suc n) ≡ opened_below bs n
+unfolding opened_below
+opens_no_more bs n e = ap (λ c. opened_below bs n + cond c 1 0) e ∙ nothing (opened_below bs n)
+  where
+    nothing : (k : ℕ) → k + 0 ≡ k
+    nothing k = omega arith
+
+-- one bus more behind a lookup that opens one, and as many behind another
+pub opens_one : (bs : List Bus) (n : ℕ) → opener bs n ≡ n → opened_below bs (n + 1) ≡ opened_below bs n + 1
+opens_one bs n e = ap (opened_below bs) (add-one n) ∙ opens_next bs n e
+
+pub opens_none : (bs : List Bus) (n : ℕ) → (opener bs n == n) ≡ false → opened_below bs (n + 1) ≡ opened_below bs n
+opens_none bs n e = ap (opened_below bs) (add-one n) ∙ opens_no_more bs n e
+
 -- two lookups that open buses open different ones
 pub opened_apart : (bs : List Bus) (m n : ℕ) → opener bs m ≡ m → m < n → opened_below bs m < opened_below bs n
-opened_apart bs m n e h = omega (arith, opens_one bs m e, opened_later bs (suc m) n (omega (arith, h)))
+opened_apart bs m n e h = omega (arith, opens_next bs m e, opened_later bs (suc m) n (omega (arith, h)))
 
 pub opened_once : (bs : List Bus) (m n : ℕ) → opener bs m ≡ m → opener bs n ≡ n → opened_below bs m ≡ opened_below bs n → m ≡ n
 opened_once bs m n e d s = elim (cases_lt m n) [
@@ -78,6 +92,14 @@ opens_itself bs i (global name) h e = ap (opener_of bs (position_or_len (is_name
 
 opener_opens : (bs : List Bus) (i : ℕ) → i < length bs → opener bs (opener bs i) ≡ opener bs i
 opener_opens bs i h = opens_itself bs i (get_or bs i local) h refl
+
+opener_within : (bs : List Bus) (i : ℕ) (b : Bus) → i < length bs → get_or bs i local ≡ b → opener_of bs i b ≤ i
+opener_within bs i local h e = omega arith
+opener_within bs i (global name) h e = (first_named bs i name h e).within
+
+-- the number of a lookup's bus is one of the batch
+pub number_below : (bs : List Bus) (i : ℕ) → i < length bs → bus_number bs i < bus_count bs
+number_below bs i h = opened_apart bs (opener bs i) (length bs) (opener_opens bs i h) (omega (arith, opener_within bs i (get_or bs i local) h refl, h))
 
 -- what two lookups have whose buses one lookup opens
 one_opener : (bs : List Bus) (i j : ℕ) (a b : Bus) → i < length bs → j < length bs → i ≢ j → get_or bs i local ≡ a → get_or bs j local ≡ b
