@@ -1,7 +1,8 @@
 pub mod Turns
 pub mod Pairs
 pub mod Row
-pub mod Columns
+pub mod Added
+pub mod Groups
 pub mod FromAir
 pub mod Degrees
 pub mod Packed

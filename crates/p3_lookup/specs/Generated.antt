@@ -1,5 +1,5 @@
 -- What the generation of permutation columns answers. After Plonky3's p3-lookup (generate_permutation).
-use Rattle.std.specs.Prelude.{◌≡◌, ℕ, ◌+◌, ◌<◌, ◌++◌, true, List, [], ◌∷◌, length, map, All, Option, Result, Ok, Err}
+use Rattle.std.specs.Prelude.{◌≡◌, ℕ, ◌+◌, ◌<◌, true, List, [], ◌∷◌, length, map, All, Option, Result, Ok, Err}
 use Rattle.std.specs.Prelude.{slice_index_or as get_or}
 use Rattle.p3_field.specs.Ring.{Ring}
 use Rattle.p3_matrix.specs.Matrix.{Rows, height, cell_at}
@@ -13,8 +13,6 @@ use Rattle.p3_lookup.specs.Honest.{Argument, argument, row_terms, honest_cell, r
 use Rattle.p3_lookup.specs.declared.terminal.LookupTerminal.{LookupTerminal}
 use Rattle.p3_lookup.specs.declared.terminal.GenerateError.{GenerateError}
 use Rattle.p3_lookup.specs.declared.terminal.GenerateError.TheVariants.{DenominatorZero, OutOfMemory}
-use Rattle.p3_lookup.specs.declared.terminal.RowFault.{RowFault}
-use Rattle.p3_lookup.specs.declared.terminal.RowFault.TheVariants.{Zero, Memory}
 
 -- the value in the extension of a tree over the base field at a row
 abbrev pub embedded_at : {F E : Type 0} → Ring F → (F → E) → Row F F → Tree F → E
@@ -45,29 +43,22 @@ pub record IsFirstZero {E : Type 0} (r : Ring E) (ts : List (Term E)) (j : ℕ) 
   pub zero : (d : Term E) → (get_or ts j d).denominator ≡ r.zero
   pub before : (k : ℕ) (d : Term E) → k < j → (get_or ts k d).denominator ≡ r.zero → ⊥
 
--- the answer of a call that sums fractions
-abbrev pub IsFraction : {E : Type 0} → Ring E → (E → E) → List (Term E) → Result E ℕ → Type 0
-IsFraction r inv ts (Ok x) = (x ≡ fraction r inv ts) × HasInverses r ts
-IsFraction r inv ts (Err j) = IsFirstZero r ts j
-
 -- the first denominator that is zero in a row: its lookup and its tuple
 pub record IsFirstZeroIn {E : Type 0} (r : Ring E) (tss : List (List (Term E))) (lookup tuple : ℕ) : Type 0 where
   pub within : lookup < length tss
   pub first : IsFirstZero r (get_or tss lookup []) tuple
   pub before : (k : ℕ) → k < lookup → HasInverses r (get_or tss k [])
 
--- The answer of a call that puts the fractions of a row, whose terms these are, behind some values: their sum, or the
--- first denominator that is zero.
-abbrev pub IsRowAdded : {E : Type 0} → Ring E → (E → E) → List (List (Term E)) → List E → List E → Result E RowFault → Type 0
-IsRowAdded r inv tss old new (Ok x) = (new ≡ old ++ map (fraction r inv) tss) × (x ≡ sum_of r (map (fraction r inv) tss)) × All (HasInverses r) tss
-IsRowAdded r inv tss old new (Err (Zero lookup tuple)) = IsFirstZeroIn r tss lookup tuple
-IsRowAdded r inv tss old new (Err Memory) = Unit {0}
-
 -- the first denominator that is zero: its row, its lookup and its tuple
 pub record IsFirstZeroOf {F E : Type 0} (p : Argument F E) (n row lookup tuple : ℕ) : Type 0 where
   pub within : row < n
   pub first : IsFirstZeroIn p.ring (row_terms p row) lookup tuple
   pub before : (i : ℕ) → i < row → RowHasInverses p i
+
+-- why there are no columns for a table of n rows: the first denominator that is zero, or want of memory
+abbrev pub IsFault : {F E : Type 0} → Argument F E → ℕ → GenerateError → Type 0
+IsFault p n (DenominatorZero row lookup tuple) = IsFirstZeroOf p n row lookup tuple
+IsFault p n OutOfMemory = Unit {0}
 
 -- the answer for a table of n rows: the honest columns and the terminal, or the first denominator that is zero
 abbrev pub IsGenerated : {F E : Type 0} → Argument F E → ℕ → Result (Rows E × LookupTerminal E) GenerateError → Type 0
@@ -77,10 +68,4 @@ IsGenerated p n (Ok (m, t)) =
     × ((i j : ℕ) → i < n → j < length p.lookups + 1 → cell_at p.ring.zero m i j ≡ honest_cell p i j)
     × (t.0 ≡ running_sum p n)
     × ((i : ℕ) → i < n → RowHasInverses p i)
-IsGenerated p n (Err (DenominatorZero row lookup tuple)) = IsFirstZeroOf p n row lookup tuple
-IsGenerated p n (Err OutOfMemory) = Unit {0}
-
--- what went wrong in a row
-abbrev pub fault_at : ℕ → RowFault → GenerateError
-fault_at row (Zero lookup tuple) = DenominatorZero row lookup tuple
-fault_at row Memory = OutOfMemory
+IsGenerated p n (Err e) = IsFault p n e

@@ -12,6 +12,7 @@ pub mod Bound
 pub mod Challenge
 pub mod Terminal
 pub mod Generated
+pub mod RowTerms
 pub mod PermutationRows
 pub mod Loads
 pub mod Batch

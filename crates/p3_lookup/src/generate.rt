@@ -1,5 +1,5 @@
 //! Permutation columns.
-ghost use Rattle.std.specs.Prelude.{◌≡◌, ℕ, ◌+◌, ◌*◌, ◌<◌, ◌≤◌, ◌++◌, List, [], ◌∷◌, length, map, All, Option, IfSome, MatchResult};
+ghost use Rattle.std.specs.Prelude.{◌≡◌, ℕ, ◌+◌, ◌*◌, ◌<◌, ◌≤◌, ◌++◌, List, [], ◌∷◌, length, map, drop, All, Option, IfOk, IfSome, MatchResult};
 ghost use Rattle.std.specs.Option.{option_map};
 ghost use Rattle.p3_matrix.specs.Matrix.{height};
 ghost use Rattle.p3_air.specs.Shape.{width_of};
@@ -7,63 +7,59 @@ ghost use Rattle.p3_air.specs.RowCheck.{row_shape};
 ghost use Rattle.p3_air.specs.Check.{preprocessed_row};
 ghost use Rattle.p3_lookup.specs.Lookup.{IsLookup, sent};
 ghost use Rattle.p3_lookup.specs.Written.{read, read_all};
-ghost use Rattle.p3_lookup.specs.Honest.{terms_of, terms_from, row_terms, running_sum};
-ghost use Rattle.p3_lookup.specs.Generated.{embedded_at, sent_shape, argument_over, IsFraction, IsRowAdded, IsGenerated, fault_at};
-ghost use Rattle.p3_lookup.specs.declared.terminal.RowFault.TheVariants.{Memory};
+ghost use Rattle.p3_lookup.specs.Term.{sum_of, quotient, HasInverses};
+ghost use Rattle.p3_lookup.specs.Honest.{terms_of, terms_from, row_terms, RowHasInverses};
+ghost use Rattle.p3_lookup.specs.Generated.{embedded_at, sent_shape, argument_over, IsGenerated, IsFault};
+ghost use Rattle.p3_lookup.specs.RowTerms.{AreTermsAdded, AreRowTermsAdded, table_terms, sizes, row_size, group_sums, IsRowAdded, AreColumns};
 
 use crate::lookup::Lookup;
-use crate::terminal::{GenerateError, LookupTerminal, RowFault};
-use crate::values::fraction_value;
+use crate::term::Term;
+use crate::terminal::{GenerateError, LookupTerminal};
+use crate::values::push_terms;
 use p3_air::RowValues;
 use p3_field::{ExtensionField, Field, FieldCore, Mem, PrimeCharacteristicRing, RingCore};
-use p3_matrix::RowMajorMatrix;
+use p3_matrix::{RowMajorMatrix, batch_multiplicative_inverse};
 use std::alloc::Global;
 
-// The fraction of a lookup at a row, or the place of its first denominator that is zero.
-fn lookup_value<'a, F: Field, EF: ExtensionField<F>>(
+// Appends the terms of a lookup at a row, or gives the first whose denominator is zero. The place is the number of the row
+// and that of the lookup.
+fn push_lookup<'a, F: Field, EF: ExtensionField<F>>(
+    terms: &mut Vec<Term<EF>>,
     lookup: &Lookup<F>,
-    row: &RowValues<'a, F, F>,
+    cells: &RowValues<'a, F, F>,
     challenges: (EF, EF),
-) -> Result<EF, usize>
-    requires lookup { IsLookup (row_shape row.now) (read lookup.now) }
-    ensures { IsFraction EF.ring EF.inv (terms_of EF.ring challenges.0 challenges.1 (embedded_at F.ring EF.embed row.now) (sent (read lookup.now))) result }
+    place: (usize, usize),
+) -> Result<(), GenerateError>
+    requires lookup { IsLookup (row_shape cells.now) (read lookup.now) }
+    ensures { AreTermsAdded EF.ring (terms_of EF.ring challenges.0 challenges.1 (embedded_at F.ring EF.embed cells.now) (sent (read lookup.now))) place.0 place.1 terms.old.items terms.new.items result }
 {
-    fraction_value(&lookup.elements, &lookup.multiplicities, row, challenges)
+    push_terms(
+        terms,
+        &lookup.elements,
+        &lookup.multiplicities,
+        cells,
+        challenges,
+        place,
+    )
 }
 
-// Appends a value.
-fn push_value<EF: Field>(values: &mut Vec<EF>, x: EF) -> Result<(), RowFault>
-    ensures { MatchResult result (λ _. values.new.items ≡ values.old.items ++ x ∷ []) (λ e. e ≡ Memory) }
-{
-    match values.push(x) {
-        Ok(()) => Ok(()),
-        Err(_) => Err(RowFault::Memory),
-    }
-}
-
-// Appends the fractions of a row, and gives their sum.
-fn push_fractions<'a, F: Field, EF: ExtensionField<F>>(
-    values: &mut Vec<EF>,
+// Appends the terms of all lookups at a row, or gives the first whose denominator is zero.
+fn push_lookups<'a, F: Field, EF: ExtensionField<F>>(
+    terms: &mut Vec<Term<EF>>,
     lookups: &[Lookup<F>],
-    row: &RowValues<'a, F, F>,
+    cells: &RowValues<'a, F, F>,
     challenges: &[EF],
-) -> Result<EF, RowFault>
-    requires lookups { All (IsLookup (row_shape row.now)) (read_all lookups.now) }
+    row: usize,
+) -> Result<(), GenerateError>
+    requires lookups { All (IsLookup (row_shape cells.now)) (read_all lookups.now) }
     requires challenges { length challenges.now ≡ 2 * length lookups.now }
-    ensures { IsRowAdded EF.ring EF.inv (terms_from EF.ring challenges.now (embedded_at F.ring EF.embed row.now) 0 (read_all lookups.now)) values.old.items values.new.items result }
+    ensures { AreRowTermsAdded EF.ring (terms_from EF.ring challenges.now (embedded_at F.ring EF.embed cells.now) 0 (read_all lookups.now)) row terms.old.items terms.new.items result }
 {
-    let mut sum = EF::ZERO;
     for i in 0..lookups.len() {
         let pair = (challenges[2 * i], challenges[2 * i + 1]);
-        match lookup_value(&lookups[i], row, pair) {
-            Ok(fraction) => {
-                push_value(values, fraction)?;
-                sum = sum + fraction;
-            }
-            Err(tuple) => return Err(RowFault::Zero { lookup: i, tuple }),
-        }
+        push_lookup(terms, &lookups[i], cells, pair, (row, i))?;
     }
-    Ok(sum)
+    Ok(())
 }
 
 // A row of the preprocessed trace, which is empty where there is none.
@@ -78,27 +74,25 @@ fn preprocessed_at<'a, F>(trace: Option<&'a RowMajorMatrix<F>>, row: usize) -> &
     }
 }
 
-// Appends a row of the permutation columns, the running sum first, and gives the sum of its fractions.
-fn push_row<F: Field, EF: ExtensionField<F>>(
-    values: &mut Vec<EF>,
+// Appends the terms of all lookups at a row of a table, or gives the first whose denominator is zero.
+fn push_row_terms<F: Field, EF: ExtensionField<F>>(
+    terms: &mut Vec<Term<EF>>,
     main: &RowMajorMatrix<F>,
     preprocessed: Option<&RowMajorMatrix<F>>,
     public_values: &[F],
     lookups: &[Lookup<F>],
     challenges: &[EF],
     row: usize,
-    running: EF,
-) -> Result<EF, RowFault>
+) -> Result<(), GenerateError>
     requires row { row < height main.now }
     requires preprocessed { IfSome preprocessed (λ m. height m.now ≡ height main.now) }
     requires lookups { All (IsLookup (sent_shape main.now (option_map (λ m. m.now) preprocessed) public_values.now)) (read_all lookups.now) }
     requires challenges { length challenges.now ≡ 2 * length lookups.now }
     ensures { let p = argument_over F.ring EF.ring EF.inv EF.embed main.now (option_map (λ m. m.now) preprocessed.entry) public_values.now (read_all lookups.now) challenges.now in
-        IsRowAdded EF.ring EF.inv (row_terms p row) (values.old.items ++ running ∷ []) values.new.items result }
+        AreRowTermsAdded EF.ring (row_terms p row) row terms.old.items terms.new.items result }
 {
     let height = main.height();
     let next = (row + 1) % height;
-    push_value(values, running)?;
     let cells = RowValues {
         main_local: main.row(row),
         main_next: main.row(next),
@@ -113,17 +107,124 @@ fn push_row<F: Field, EF: ExtensionField<F>>(
         challenges: &[],
         terminals: &[],
     };
-    push_fractions(values, lookups, &cells, challenges)
+    push_lookups(terms, lookups, &cells, challenges, row)
 }
 
-// The error for what went wrong in a row.
-fn error_at(row: usize, fault: RowFault) -> GenerateError
-    ensures { result ≡ fault_at row fault }
+// The terms of all lookups, row after row, or the first whose denominator is zero.
+fn terms_of_table<F: Field, EF: ExtensionField<F>>(
+    alloc: Global,
+    main: &RowMajorMatrix<F>,
+    preprocessed: Option<&RowMajorMatrix<F>>,
+    public_values: &[F],
+    lookups: &[Lookup<F>],
+    challenges: &[EF],
+) -> Result<Vec<Term<EF>>, GenerateError>
+    requires preprocessed { IfSome preprocessed (λ m. height m.now ≡ height main.now) }
+    requires lookups { All (IsLookup (sent_shape main.now (option_map (λ m. m.now) preprocessed) public_values.now)) (read_all lookups.now) }
+    requires challenges { length challenges.now ≡ 2 * length lookups.now }
+    ensures { let p = argument_over F.ring EF.ring EF.inv EF.embed main.now (option_map (λ m. m.now) preprocessed.entry) public_values.now (read_all lookups.now) challenges.now in
+        MatchResult result (λ v. (v.items ≡ table_terms p (height main.now)) × ((i : ℕ) → i < height main.now → RowHasInverses p i)) (IsFault p (height main.now)) }
 {
-    match fault {
-        RowFault::Zero { lookup, tuple } => GenerateError::DenominatorZero { row, lookup, tuple },
-        RowFault::Memory => GenerateError::OutOfMemory,
+    let mut terms = Vec::new(alloc);
+    for row in 0..main.height() {
+        push_row_terms(
+            &mut terms,
+            main,
+            preprocessed,
+            public_values,
+            lookups,
+            challenges,
+            row,
+        )?;
     }
+    Ok(terms)
+}
+
+// The denominators of terms.
+fn denominators_of<EF: Field>(alloc: Global, terms: &[Term<EF>]) -> Mem<Vec<EF>>
+    ensures { IfOk result (λ v. v.items ≡ map (λ t. t.denominator) terms.now) }
+{
+    let mut denominators = Vec::with_capacity(alloc, terms.len())?;
+    for i in 0..terms.len() {
+        let term = &terms[i];
+        denominators.push(term.denominator)?;
+    }
+    Ok(denominators)
+}
+
+// The count of each term over its denominator, none of which is zero, by one inversion for all.
+fn quotients_of<EF: Field>(alloc: Global, terms: &[Term<EF>]) -> Mem<Vec<EF>>
+    requires { HasInverses EF.ring terms.now }
+    ensures { IfOk result (λ v. v.items ≡ map (quotient EF.ring EF.inv) terms.now) }
+{
+    let denominators = denominators_of(alloc, terms)?;
+    let mut quotients = batch_multiplicative_inverse(alloc, &denominators)?;
+    for i in 0..terms.len() {
+        let term = &terms[i];
+        quotients[i] = term.count * quotients[i];
+    }
+    Ok(quotients)
+}
+
+// The sum of values.
+fn total<EF: Field>(values: &[EF]) -> EF
+    ensures { result ≡ sum_of EF.ring values.now }
+{
+    let mut sum = EF::ZERO;
+    for i in (0..values.len()).rev() {
+        sum = values[i] + sum;
+    }
+    sum
+}
+
+// Appends a row: the running sum, and each lookup's fraction, which is the sum of its quotients. Those of the row begin at
+// `start`. Gives the place behind them, and the running sum of the next row.
+fn push_row<F, EF: Field>(
+    values: &mut Vec<EF>,
+    lookups: &[Lookup<F>],
+    quotients: &[EF],
+    start: usize,
+    running: EF,
+) -> Mem<(usize, EF)>
+    requires { start + row_size (sizes (read_all lookups.now)) ≤ length quotients.now }
+    ensures { IfOk result (λ p. IsRowAdded EF.ring (group_sums EF.ring (sizes (read_all lookups.now)) (drop start quotients.now)) running values.old.items values.new.items p.1
+        × (p.0 ≡ start + row_size (sizes (read_all lookups.now)))) }
+{
+    values.push(running)?;
+    let mut place = start;
+    let mut running = running;
+    for i in 0..lookups.len() {
+        let lookup = &lookups[i];
+        let count = lookup.elements.len();
+        prove!(count <= quotients.len() - place);
+        let end = place + count;
+        let fraction = total(&quotients[place..end]);
+        values.push(fraction)?;
+        running = running + fraction;
+        place = end;
+    }
+    Ok((place, running))
+}
+
+// The permutation columns row after row, and the terminal, from the quotients of all rows.
+fn rows_of<F, EF: Field>(
+    alloc: Global,
+    lookups: &[Lookup<F>],
+    quotients: &[EF],
+    height: usize,
+) -> Mem<(Vec<EF>, EF)>
+    requires { height * row_size (sizes (read_all lookups.now)) ≤ length quotients.now }
+    ensures { IfOk result (λ p. AreColumns EF.ring (λ i. group_sums EF.ring (sizes (read_all lookups.now)) (drop (i * row_size (sizes (read_all lookups.now))) quotients.now)) (length lookups.now) p.0.items height p.1) }
+{
+    let mut values = Vec::new(alloc);
+    let mut place = 0;
+    let mut running = EF::ZERO;
+    for _row in 0..height {
+        let next = push_row(&mut values, lookups, quotients, place, running)?;
+        place = next.0;
+        running = next.1;
+    }
+    Ok((values, running))
 }
 
 // The permutation columns and the terminal, or the first denominator that is zero.
@@ -141,23 +242,16 @@ pub(crate) fn columns_and_terminal<F: Field, EF: ExtensionField<F>>(
     ensures { let p = argument_over F.ring EF.ring EF.inv EF.embed main.now (option_map (λ m. m.now) preprocessed.entry) public_values.now (read_all lookups.now) challenges.now in
         IsGenerated p (height main.now) result }
 {
-    let width = lookups.len() + 1;
-    let mut values = Vec::new(alloc);
-    let mut running = EF::ZERO;
-    for row in 0..main.height() {
-        match push_row(
-            &mut values,
-            main,
-            preprocessed,
-            public_values,
-            lookups,
-            challenges,
-            row,
-            running,
-        ) {
-            Ok(sum) => running = running + sum,
-            Err(fault) => return Err(error_at(row, fault)),
-        }
-    }
-    Ok((RowMajorMatrix::new(values, width), LookupTerminal(running)))
+    let terms = terms_of_table(
+        alloc,
+        main,
+        preprocessed,
+        public_values,
+        lookups,
+        challenges,
+    )?;
+    let quotients = quotients_of(alloc, &terms)?;
+    let (values, terminal) = rows_of(alloc, lookups, &quotients, main.height())?;
+    let columns = RowMajorMatrix::new(values, lookups.len() + 1);
+    Ok((columns, LookupTerminal(terminal)))
 }

@@ -22,6 +22,7 @@ mod kind;
 mod lookup;
 pub mod meanings;
 mod packing;
+mod term;
 mod terminal;
 mod values;
 

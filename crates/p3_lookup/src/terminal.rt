@@ -1,6 +1,8 @@
 //! Terminals, and the errors of lookups.
 ghost use Rattle.std.specs.Prelude.{◌≡◌};
+ghost use Rattle.p3_lookup.specs.declared.terminal.GenerateError.TheVariants.{OutOfMemory};
 
+use std::alloc::{AllocError, AllocFailed};
 use thiserror::Error;
 
 /// The value with which a table's running sum ends (`p3_lookup::LookupTerminal`).
@@ -66,16 +68,18 @@ pub enum GenerateError {
     OutOfMemory,
 }
 
-/// Why the fractions of a row couldn't be summed.
-#[derive(Debug, Drop)]
-pub(crate) enum RowFault {
-    /// The first denominator that is zero.
-    Zero {
-        /// Its lookup.
-        lookup: usize,
-        /// Its tuple in the lookup.
-        tuple: usize,
-    },
-    /// Out of memory.
-    Memory,
+impl From<AllocError> for GenerateError {
+    ghost from_gives = { λ _ e. e ≡ OutOfMemory };
+
+    fn from(_error: AllocError) -> GenerateError {
+        GenerateError::OutOfMemory
+    }
+}
+
+impl<T: Drop> From<AllocFailed<T>> for GenerateError {
+    ghost from_gives = { λ _ e. e ≡ OutOfMemory };
+
+    fn from(_error: AllocFailed<T>) -> GenerateError {
+        GenerateError::OutOfMemory
+    }
 }

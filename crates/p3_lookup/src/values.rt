@@ -1,15 +1,18 @@
 //! Values of lookups at a row.
-ghost use Rattle.std.specs.Prelude.{◌≡◌, ℕ, ◌+◌, ◌*◌, ◌<◌, List, [], length, map, All, MatchOption};
+ghost use Rattle.std.specs.Prelude.{◌≡◌, ℕ, ◌+◌, ◌*◌, ◌<◌, List, [], length, map, All};
 ghost use Rattle.p3_field.specs.Poly.{val};
 ghost use Rattle.p3_air.specs.Shape.{ReadsSendable};
 ghost use Rattle.p3_air.specs.Symbolic.{tree_at, tree_of, Ordered};
 ghost use Rattle.p3_air.specs.RowCheck.{value_at, row_shape};
 ghost use Rattle.p3_lookup.specs.Lookup.{map_sent, pair_up};
 ghost use Rattle.p3_lookup.specs.Written.{tree_count};
-ghost use Rattle.p3_lookup.specs.Term.{term, quotient};
+ghost use Rattle.p3_lookup.specs.Term.{term};
 ghost use Rattle.p3_lookup.specs.Honest.{terms_of};
-ghost use Rattle.p3_lookup.specs.Generated.{embedded_at, IsFraction};
+ghost use Rattle.p3_lookup.specs.Generated.{embedded_at};
+ghost use Rattle.p3_lookup.specs.RowTerms.{AreTermsAdded};
 
+use crate::term::Term;
+use crate::terminal::GenerateError;
 use p3_air::{Count, Node, RowValues, SymbolicExpression};
 use p3_field::{ExtensionField, Field, FieldCore, PrimeCharacteristicRing, RingCore};
 
@@ -67,43 +70,49 @@ fn combined_value<'a, F: Field, EF: ExtensionField<F>>(
     sum
 }
 
-// A tuple's count over its denominator, or None where that is zero.
-fn quotient_value<'a, F: Field, EF: ExtensionField<F>>(
+// A tuple's count over its denominator.
+fn term_value<'a, F: Field, EF: ExtensionField<F>>(
     tuple: &[SymbolicExpression<F>],
     count: &SymbolicExpression<F>,
     row: &RowValues<'a, F, F>,
     challenges: (EF, EF),
-) -> Option<EF>
+) -> Term<EF>
     requires tuple { All (ReadsSendable (row_shape row.now)) (map tree_of tuple.now) }
     requires count { ReadsSendable (row_shape row.now) (tree_of count.now) }
-    ensures { let t = term EF.ring challenges.0 challenges.1 (map_sent (embedded_at F.ring EF.embed row.now) (record { tuple = map tree_of tuple.now; count = tree_of count.now })) in
-        MatchOption result (t.denominator ≡ EF.ring.zero) (λ x. (x ≡ quotient EF.ring EF.inv t) × (t.denominator ≡ EF.ring.zero → ⊥)) }
+    ensures { result ≡ term EF.ring challenges.0 challenges.1 (map_sent (embedded_at F.ring EF.embed row.now) (record { tuple = map tree_of tuple.now; count = tree_of count.now })) }
 {
-    let denominator = challenges.0 - combined_value(tuple, row, challenges.1);
-    match denominator.try_inverse() {
-        Some(inverse) => Some(embedded_value::<F, EF>(count, row) * inverse),
-        None => None,
+    Term {
+        count: embedded_value::<F, EF>(count, row),
+        denominator: challenges.0 - combined_value(tuple, row, challenges.1),
     }
 }
 
-// The sum of a lookup's counts over their denominators, or the place of the first denominator that is zero.
-pub(crate) fn fraction_value<'a, F: Field, EF: ExtensionField<F>>(
+// Appends the terms of a lookup at a row, or gives the first whose denominator is zero. The place is the number of the row
+// and that of the lookup.
+pub(crate) fn push_terms<'a, F: Field, EF: ExtensionField<F>>(
+    terms: &mut Vec<Term<EF>>,
     elements: &[Vec<SymbolicExpression<F>>],
     multiplicities: &[Count<SymbolicExpression<F>>],
     row: &RowValues<'a, F, F>,
     challenges: (EF, EF),
-) -> Result<EF, usize>
+    place: (usize, usize),
+) -> Result<(), GenerateError>
     requires counted { length multiplicities.now ≡ length elements.now }
     requires tuples { All (All (ReadsSendable (row_shape row.now))) (map (map tree_of) (map (λ v. v.items) elements.now)) }
     requires counts { All (λ c. ReadsSendable (row_shape row.now) c.value) (map tree_count multiplicities.now) }
-    ensures { IsFraction EF.ring EF.inv (terms_of EF.ring challenges.0 challenges.1 (embedded_at F.ring EF.embed row.now) (pair_up (map (map tree_of) (map (λ v. v.items) elements.now)) (map tree_count multiplicities.now))) result }
+    ensures { AreTermsAdded EF.ring (terms_of EF.ring challenges.0 challenges.1 (embedded_at F.ring EF.embed row.now) (pair_up (map (map tree_of) (map (λ v. v.items) elements.now)) (map tree_count multiplicities.now))) place.0 place.1 terms.old.items terms.new.items result }
 {
-    let mut sum = EF::ZERO;
     for i in 0..elements.len() {
-        match quotient_value(&elements[i], &multiplicities[i].value, row, challenges) {
-            Some(quotient) => sum = sum + quotient,
-            None => return Err(i),
+        let term = term_value(&elements[i], &multiplicities[i].value, row, challenges);
+        if term.denominator.is_zero() {
+            let (row, lookup) = place;
+            return Err(GenerateError::DenominatorZero {
+                row,
+                lookup,
+                tuple: i,
+            });
         }
+        terms.push(term)?;
     }
-    Ok(sum)
+    Ok(())
 }

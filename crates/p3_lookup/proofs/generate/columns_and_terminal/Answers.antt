@@ -1,57 +1,63 @@
-use Rattle.std.proofs.Common.{◌≡◌, ℕ, ◌+◌, ◌<◌, ◌≤◌, ◌++◌, List, [], ◌∷◌, length, map, sym, ◌∙◌, ap, subst, refl, arith}
-use Rattle.std.specs.Prelude.{All, Err}
+use Rattle.std.proofs.Common.{◌≡◌, ℕ, ◌+◌, ◌*◌, ◌<◌, ◌≤◌, List, length, map, drop, sym, ◌∙◌, ap, subst, arith}
+use Rattle.std.specs.Prelude.{All}
 use Rattle.std.specs.Option.{option_map}
 use Rattle.std.proofs.lemmas.List.{length-map}
-use Rattle.p3_matrix.specs.Matrix.{height}
+use Rattle.p3_matrix.specs.Matrix.{Rows, height}
 use Rattle.p3_matrix.specs.Laws.Grids.{product_fills}
+use Rattle.p3_lookup.specs.Lookup.{LookupData, IsCounted}
 use Rattle.p3_lookup.specs.Written.{read, read_all}
-use Rattle.p3_lookup.specs.Generated.{argument_over, IsGenerated}
-use Rattle.p3_lookup.specs.declared.terminal.GenerateError.{GenerateError}
-use Rattle.p3_lookup.proofs.Columns.{AreColumnsAt, columns_start, columns_next, columns_fault, columns_end}
+use Rattle.p3_lookup.specs.Term.{Term, HasInverses, quotient}
+use Rattle.p3_lookup.specs.Generated.{argument_over}
+use Rattle.p3_lookup.specs.RowTerms.{table_terms, sizes, row_size, group_sums, AreColumns}
+use Rattle.p3_lookup.proofs.Row.{sizes_are}
+use Rattle.p3_lookup.proofs.Added.{table_inverses}
+use Rattle.p3_lookup.proofs.Groups.{length_table, generated}
 use Rattle.p3_lookup.proofs.generate.columns_and_terminal.Goals as goal
 
-pub loop-row-init : goal.loop-row-init
-loop-row-init g c =
+pub quotients_of-requires : goal.quotients_of-requires
+quotients_of-requires g c =
     let p = argument_over g.F.RingCore.ring g.EF.RingCore.ring g.EF.FieldCore.inv g.EF.ExtensionField.embed c.args.main.now (option_map (λ m. m.now) c.args.preprocessed) c.args.public_values.now (read_all c.args.lookups.now) c.args.challenges.now in
-    let w = length c.args.lookups.now + 1 in
-    let zero : c.ZERO-running.result ≡ p.ring.zero = c.ZERO-running.ensures ∙ g.met.EF.RingCore.zero_is in (
-      subst (λ (l : List g.row.EF.Denot). AreColumnsAt p w l 0 c.ZERO-running.result) (sym c.new-values.ensures.items) (columns_start p w c.ZERO-running.result zero),
-      refl,
-    )
-
-pub returns-in-Err : goal.returns-in-Err
-returns-in-Err g c =
-    let p = argument_over g.F.RingCore.ring g.EF.RingCore.ring g.EF.FieldCore.inv g.EF.ExtensionField.embed c.args.main.now (option_map (λ m. m.now) c.args.preprocessed) c.args.public_values.now (read_all c.args.lookups.now) c.args.challenges.now in
-    let w = length c.args.lookups.now + 1 in
-    let wide : w ≡ length (read_all c.args.lookups.now) + 1 = omega (arith, length-map c.args.lookups.now read) in
-    let L = g.met.EF.RingCore.ring_laws in
     let n = height c.args.main.now in
-    let within : c.loop-row.row < n = omega (arith, c.height-row-end.ensures.result) in
-    subst (λ (x : GenerateError). IsGenerated p n (Err x)) (sym c.error_at.ensures)
-    (columns_fault p L w wide c.loop-row.values.items (c.loop-row.values.items ++ c.loop-row.running ∷ []) c.push_row.new.values.items n c.loop-row.row c.loop-row.running c.in-Err.fault within c.in-Err.ensures c.loop-row.invariant.0)
+    let ws = c.args.lookups.now in
+    let ls = read_all ws in
+    let ns = sizes ls in
+    let told = c.in_ok-terms.ensures in
+    let Q : List (Term g.row.EF.Denot) → Type 0 = λ l. HasInverses p.ring l in
+    subst Q (sym (c.deref.ensures.value ∙ told.0)) (table_inverses p n told.1)
 
-pub loop-row-preserved : goal.loop-row-preserved
-loop-row-preserved g c =
+pub rows_of-requires : goal.rows_of-requires
+rows_of-requires g c =
     let p = argument_over g.F.RingCore.ring g.EF.RingCore.ring g.EF.FieldCore.inv g.EF.ExtensionField.embed c.args.main.now (option_map (λ m. m.now) c.args.preprocessed) c.args.public_values.now (read_all c.args.lookups.now) c.args.challenges.now in
-    let w = length c.args.lookups.now + 1 in
-    let wide : w ≡ length (read_all c.args.lookups.now) + 1 = omega (arith, length-map c.args.lookups.now read) in
-    let L = g.met.EF.RingCore.ring_laws in
-    let told = c.in-Ok.ensures in (
-      columns_next p L w wide c.loop-row.values.items c.push_row.new.values.items c.loop-row.row c.loop-row.running c.in-Ok.sum c.add-running.result
-          told.0 told.1 told.2 (g.met.EF.PrimeCharacteristicRing.adds _ _ _ c.add-running.ensures) c.loop-row.invariant.0,
-      refl,
-    )
+    let n = height c.args.main.now in
+    let ws = c.args.lookups.now in
+    let ls = read_all ws in
+    let ns = sizes ls in
+    let told = c.in_ok-terms.ensures in
+    let counted : All IsCounted ls = λ k d lt. (c.requires.lookups k d lt).counted in
+    let same = λ (i : ℕ). sizes_are p.ring p.challenges (p.value i) 0 ls counted in
+    let xs = c.deref-2.result.now in
+    let e : xs ≡ map (quotient p.ring p.inv) (table_terms p n) = c.deref-2.ensures.value ∙ c.in_ok-quotients.ensures ∙ ap (map (quotient p.ring p.inv)) (c.deref.ensures.value ∙ told.0) in
+    let long : length xs ≡ n * row_size ns = ap length e ∙ length-map (table_terms p n) (quotient p.ring p.inv) ∙ length_table p ns same n in
+    omega (arith, long, ap (λ k. k * row_size ns) c.height.ensures.result)
 
-pub new-requires : goal.new-requires
-new-requires g c = product_fills c.loop-row.values.items c.loop-row.row (length c.args.lookups.now + 1) c.loop-row.invariant.0.grid.length_is
+pub new-columns-requires : goal.new-columns-requires
+new-columns-requires g c = product_fills c.in_ok-values.values.items c.height.result (length c.args.lookups.now + 1) c.in_ok-values.ensures.grid.length_is
 
 pub returns : goal.returns
 returns g c =
     let p = argument_over g.F.RingCore.ring g.EF.RingCore.ring g.EF.FieldCore.inv g.EF.ExtensionField.embed c.args.main.now (option_map (λ m. m.now) c.args.preprocessed) c.args.public_values.now (read_all c.args.lookups.now) c.args.challenges.now in
-    let w = length c.args.lookups.now + 1 in
-    let wide : w ≡ length (read_all c.args.lookups.now) + 1 = omega (arith, length-map c.args.lookups.now read) in
-    let L = g.met.EF.RingCore.ring_laws in
     let n = height c.args.main.now in
-    let end : c.loop-row.row ≡ n = omega (arith, c.height-row-end.ensures.result) in
-    columns_end p L w wide c.loop-row.values.items n c.loop-row.running c.new.result c.new.ensures
-    (subst (λ (k : ℕ). AreColumnsAt p w c.loop-row.values.items k c.loop-row.running) end c.loop-row.invariant.0)
+    let ws = c.args.lookups.now in
+    let ls = read_all ws in
+    let ns = sizes ls in
+    let told = c.in_ok-terms.ensures in
+    let counted : All IsCounted ls = λ k d lt. (c.requires.lookups k d lt).counted in
+    let same = λ (i : ℕ). sizes_are p.ring p.challenges (p.value i) 0 ls counted in
+    let xs = c.deref-2.result.now in
+    let e : xs ≡ map (quotient p.ring p.inv) (table_terms p n) = c.deref-2.ensures.value ∙ c.in_ok-quotients.ensures ∙ ap (map (quotient p.ring p.inv)) (c.deref.ensures.value ∙ told.0) in
+    let fs = λ (i : ℕ). group_sums p.ring ns (drop (i * row_size ns) xs) in
+    let wide : length ws ≡ length ls = sym (length-map ws (read {F = g.row.F.Denot})) in
+    let columns = subst (λ (w : ℕ). AreColumns p.ring fs w c.in_ok-values.values.items n c.in_ok-values.terminal) wide
+    (subst (λ (k : ℕ). AreColumns p.ring fs (length ws) c.in_ok-values.values.items k c.in_ok-values.terminal) c.height.ensures.result c.in_ok-values.ensures) in
+    let matrix = c.new-columns.ensures ∙ ap (λ (w : ℕ). let m : Rows g.row.EF.Denot = record { values = c.in_ok-values.values.items; width = w + 1 } in m) wide in
+    generated p g.met.EF.RingCore.ring_laws ns same (length-map ls (λ (l : LookupData g.row.F.Denot). length l.tuples)) n xs c.in_ok-values.values.items c.in_ok-values.terminal c.new-columns.result e told.1 columns matrix
