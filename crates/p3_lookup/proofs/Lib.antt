@@ -1,0 +1,9 @@
+pub mod Turns
+pub mod Pairs
+pub mod Row
+pub mod Added
+pub mod Groups
+pub mod FromAir
+pub mod Degrees
+pub mod Packed
+pub mod Bounded

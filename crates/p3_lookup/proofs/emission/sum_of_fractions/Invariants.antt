@@ -1,0 +1,11 @@
+use Rattle.std.proofs.Common.{◌≡◌, []}
+use Rattle.p3_lookup.specs.Trees.{sum_tree}
+use Rattle.p3_lookup.proofs.emission.sum_of_fractions.Given as goal
+
+abbrev pub invariant-loop-i : goal.invariant-loop-i
+invariant-loop-i g l =
+    let B = g.AB.AirBuilder in record {
+      same : B.shape l.builder ≡ B.shape l.fn.builder;
+      grows : B.grows l.fn.builder l.builder [] [];
+      so_far : g.AB.ExtensionBuilder.stands_ext l.builder l.sum (sum_tree g.AB.F.RingCore.ring l.i);
+    }

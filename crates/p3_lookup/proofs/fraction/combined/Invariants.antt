@@ -1,0 +1,15 @@
+use Rattle.std.proofs.Common.{◌≡◌, [], drop, map}
+use Rattle.p3_field.specs.Poly.{val}
+use Rattle.p3_air.specs.Tree.{Tree}
+use Rattle.p3_air.specs.Symbolic.{tree_of}
+use Rattle.p3_lookup.specs.Trees.{trees}
+use Rattle.p3_lookup.proofs.fraction.combined.Given as goal
+
+abbrev pub invariant-loop-i : goal.invariant-loop-i
+invariant-loop-i g l =
+    let B = g.AB.AirBuilder in
+    let X = g.AB.ExtensionBuilder in record {
+      same : B.shape l.builder ≡ B.shape l.fn.builder;
+      grows : B.grows l.fn.builder l.builder [] [];
+      so_far : (b : Tree g.row.AB-F.Denot) → X.stands_ext l.fn.builder l.beta b → X.stands_ext l.builder l.sum (val (trees g.AB.F.RingCore.ring) (drop l.i (map tree_of l.tuple)) b);
+    }

@@ -1,0 +1,160 @@
+//! The constraint of a lookup's fraction, handed to a builder.
+ghost use Rattle.std.specs.Prelude.{◌≡◌, ℕ, ◌+◌, ◌*◌, ◌<◌, ◌≤◌, suc, false, List, [], ◌∷◌, length, map, All, IfOk, OnErr, IsOk, IsTrue};
+ghost use Rattle.p3_field.specs.Poly.{val};
+ghost use Rattle.p3_air.specs.Tree.{Tree, sum, difference, product, over_extension, constant as constant_tree};
+ghost use Rattle.p3_air.specs.Shape.{ReadsSendable};
+ghost use Rattle.p3_air.specs.Symbolic.{tree_of};
+ghost use Rattle.p3_lookup.specs.Lookup.{IsCounted, ReadsSent, sent, pair_up};
+ghost use Rattle.p3_lookup.specs.Written.{read, tree_count};
+ghost use Rattle.p3_lookup.specs.Term.{common, numerator};
+ghost use Rattle.p3_lookup.specs.Trees.{trees, term_tree, fraction_tree};
+ghost use Rattle.p3_lookup.specs.Emission.{ArePartsOf};
+
+use crate::expression::lifted;
+use crate::lookup::Lookup;
+use p3_air::{
+    AirBuilder, Count, ExtCell, ExtensionBuilder, PermutationAirBuilder, SymbolicExpression,
+};
+use p3_field::{FieldCore, Mem, RingCore};
+
+// x + beta * sum.
+fn combined_step<AB: ExtensionBuilder>(
+    builder: &mut AB,
+    x: &SymbolicExpression<AB::F>,
+    beta: AB::ExprEF,
+    rest: AB::ExprEF,
+) -> Mem<AB::ExprEF>
+    requires reads { ReadsSendable (AB.shape builder.old) (tree_of x.now) }
+    ensures same { AB.shape builder.new ≡ AB.shape builder.old }
+    ensures answers { IsTrue AB.never_fails → IsOk result }
+    ensures grows { AB.grows builder.old builder.new [] [] }
+    ensures stands { (b s : Tree AB.F) → AB.stands_ext builder.old beta b → AB.stands_ext builder.old rest s → IfOk result (λ e. AB.stands_ext builder.new e (sum (tree_of x.now) (product b s))) }
+{
+    let first = lifted(builder, x)?;
+    let others = builder.mul_ext(beta, rest)?;
+    builder.add_ext(first, others)
+}
+
+// The constant zero or one.
+pub(crate) fn constant_ext<AB: ExtensionBuilder>(builder: &mut AB, x: AB::F) -> Mem<AB::ExprEF>
+    ensures same { AB.shape builder.new ≡ AB.shape builder.old }
+    ensures answers { IsTrue AB.never_fails → IsOk result }
+    ensures grows { AB.grows builder.old builder.new [] [] }
+    ensures stands { IfOk result (λ e. AB.stands_ext builder.new e (constant_tree x)) }
+{
+    let constant = builder.constant(x)?;
+    builder.lift(constant)
+}
+
+// The sum of the tuple's e_k times beta^k.
+fn combined<AB: ExtensionBuilder>(
+    builder: &mut AB,
+    tuple: &[SymbolicExpression<AB::F>],
+    beta: AB::ExprEF,
+) -> Mem<AB::ExprEF>
+    requires reads { All (ReadsSendable (AB.shape builder.old)) (map tree_of tuple.now) }
+    ensures same { AB.shape builder.new ≡ AB.shape builder.old }
+    ensures answers { IsTrue AB.never_fails → IsOk result }
+    ensures grows { AB.grows builder.old builder.new [] [] }
+    ensures stands { (b : Tree AB.F) → AB.stands_ext builder.old beta b → IfOk result (λ e. AB.stands_ext builder.new e (val (trees AB.F.ring) (map tree_of tuple.now) b)) }
+{
+    let mut sum = constant_ext(builder, <AB::F as RingCore>::ZERO)?;
+    for i in (0..tuple.len()).rev() {
+        sum = combined_step(builder, &tuple[i], beta, sum)?;
+    }
+    Ok(sum)
+}
+
+// The base minus the tuple's sum.
+fn denominator_of<AB: ExtensionBuilder>(
+    builder: &mut AB,
+    tuple: &[SymbolicExpression<AB::F>],
+    base: AB::ExprEF,
+    beta: AB::ExprEF,
+) -> Mem<AB::ExprEF>
+    requires reads { All (ReadsSendable (AB.shape builder.old)) (map tree_of tuple.now) }
+    ensures same { AB.shape builder.new ≡ AB.shape builder.old }
+    ensures answers { IsTrue AB.never_fails → IsOk result }
+    ensures grows { AB.grows builder.old builder.new [] [] }
+    ensures stands { (a b : Tree AB.F) → AB.stands_ext builder.old base a → AB.stands_ext builder.old beta b
+        → IfOk result (λ e. AB.stands_ext builder.new e (difference a (val (trees AB.F.ring) (map tree_of tuple.now) b))) }
+{
+    let sum = combined(builder, tuple, beta)?;
+    builder.sub_ext(base, sum)
+}
+
+// The common denominator and the numerator with one more term.
+fn with_term<AB: ExtensionBuilder>(
+    builder: &mut AB,
+    count: AB::ExprEF,
+    denominator: AB::ExprEF,
+    common: AB::ExprEF,
+    numerator: AB::ExprEF,
+) -> Mem<(AB::ExprEF, AB::ExprEF)>
+    ensures same { AB.shape builder.new ≡ AB.shape builder.old }
+    ensures answers { IsTrue AB.never_fails → IsOk result }
+    ensures grows { AB.grows builder.old builder.new [] [] }
+    ensures stands { (m d c n : Tree AB.F) → AB.stands_ext builder.old count m → AB.stands_ext builder.old denominator d → AB.stands_ext builder.old common c → AB.stands_ext builder.old numerator n
+        → IfOk result (λ p. AB.stands_ext builder.new p.0 (product d c) × AB.stands_ext builder.new p.1 (sum (product m c) (product d n))) }
+{
+    let own = builder.mul_ext(count, common)?;
+    let others = builder.mul_ext(denominator, numerator)?;
+    let numerator = builder.add_ext(own, others)?;
+    let common = builder.mul_ext(denominator, common)?;
+    Ok((common, numerator))
+}
+
+// The common denominator and the numerator with one more tuple and its count.
+fn with_tuple<AB: ExtensionBuilder>(
+    builder: &mut AB,
+    tuple: &[SymbolicExpression<AB::F>],
+    count: &SymbolicExpression<AB::F>,
+    challenges: (AB::ExprEF, AB::ExprEF),
+    parts: (AB::ExprEF, AB::ExprEF),
+) -> Mem<(AB::ExprEF, AB::ExprEF)>
+    requires tuple { All (ReadsSendable (AB.shape builder.old)) (map tree_of tuple.now) }
+    requires count { ReadsSendable (AB.shape builder.old) (tree_of count.now) }
+    ensures same { AB.shape builder.new ≡ AB.shape builder.old }
+    ensures answers { IsTrue AB.never_fails → IsOk result }
+    ensures grows { AB.grows builder.old builder.new [] [] }
+    ensures stands { (a b c n : Tree AB.F) → AB.stands_ext builder.old challenges.0 a → AB.stands_ext builder.old challenges.1 b → AB.stands_ext builder.old parts.0 c → AB.stands_ext builder.old parts.1 n
+        → IfOk result (λ p. AB.stands_ext builder.new p.0 (product (difference a (val (trees AB.F.ring) (map tree_of tuple.now) b)) c)
+        × AB.stands_ext builder.new p.1 (sum (product (tree_of count.now) c) (product (difference a (val (trees AB.F.ring) (map tree_of tuple.now) b)) n))) }
+{
+    let denominator = denominator_of(builder, tuple, challenges.0, challenges.1)?;
+    let times = lifted(builder, count)?;
+    with_term(builder, times, denominator, parts.0, parts.1)
+}
+
+// The common denominator and the numerator of a lookup's terms, where the challenges are its base and beta.
+pub(crate) fn fraction_parts<AB: ExtensionBuilder>(
+    builder: &mut AB,
+    elements: &[Vec<SymbolicExpression<AB::F>>],
+    multiplicities: &[Count<SymbolicExpression<AB::F>>],
+    challenges: (AB::ExprEF, AB::ExprEF),
+) -> Mem<(AB::ExprEF, AB::ExprEF)>
+    requires counted { length multiplicities.now ≡ length elements.now }
+    requires tuples { All (All (ReadsSendable (AB.shape builder.old))) (map (map tree_of) (map (λ v. v.items) elements.now)) }
+    requires counts { All (λ c. ReadsSendable (AB.shape builder.old) c.value) (map tree_count multiplicities.now) }
+    ensures same { AB.shape builder.new ≡ AB.shape builder.old }
+    ensures answers { IsTrue AB.never_fails → IsOk result }
+    ensures grows { AB.grows builder.old builder.new [] [] }
+    ensures stands { (a b : Tree AB.F) → AB.stands_ext builder.old challenges.0 a → AB.stands_ext builder.old challenges.1 b
+        → IfOk result (λ p. ArePartsOf (AB.stands_ext builder.new) AB.F.ring a b p (pair_up (map (map tree_of) (map (λ v. v.items) elements.now)) (map tree_count multiplicities.now))) }
+{
+    let mut common = constant_ext(builder, <AB::F as RingCore>::ONE)?;
+    let mut numerator = constant_ext(builder, <AB::F as RingCore>::ZERO)?;
+    for i in (0..elements.len()).rev() {
+        let parts = (common, numerator);
+        let next = with_tuple(
+            builder,
+            &elements[i],
+            &multiplicities[i].value,
+            challenges,
+            parts,
+        )?;
+        common = next.0;
+        numerator = next.1;
+    }
+    Ok((common, numerator))
+}
