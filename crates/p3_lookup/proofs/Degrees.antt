@@ -1,12 +1,12 @@
 -- Degrees of the trees of a tuple and of terms.
-use Rattle.std.proofs.Common.{◌≡◌, ℕ, ◌+◌, ◌-◌, ◌*◌, ◌<◌, ◌≤◌, ◌^◌, zero, suc, max, min, List, [], ◌∷◌, length, get_or, map, drop, refl, sym, ◌∙◌, ap, arith}
+use Rattle.std.proofs.Common.{◌≡◌, ℕ, ◌<◌, ◌^◌, max, List, ◌∷◌, sym, ◌∙◌, ap, arith}
 use Rattle.p3_field.specs.Ring.{Ring}
 use Rattle.p3_field.specs.Poly.{val}
 use Rattle.p3_air.specs.Degree.{multiple, capped_sum}
 use Rattle.p3_air.specs.Tree.{Tree}
 use Rattle.p3_lookup.specs.Lookup.{LookupData, Sent, sent}
 use Rattle.p3_lookup.specs.Term.{common, numerator}
-use Rattle.p3_lookup.specs.Trees.{trees, base_tree, beta_tree, term_tree, term_trees}
+use Rattle.p3_lookup.specs.Trees.{trees, base_tree, beta_tree, term_trees}
 use Rattle.p3_lookup.specs.Packing.{lookup_degree}
 use Rattle.p3_lookup.specs.Emission.{AreDegreesOf}
 

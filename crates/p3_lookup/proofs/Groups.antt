@@ -1,8 +1,8 @@
 -- From the quotients of all terms to the fractions of each row.
-use Rattle.std.proofs.Common.{◌≡◌, ℕ, zero, suc, ◌+◌, ◌-◌, ◌*◌, ◌/◌, ◌<◌, ◌≤◌, inl, inr, List, [], ◌∷◌, ◌++◌, length, get_or, map, take, drop, refl, sym, ◌∙◌, ap, subst, arith, append-nil, append_assoc}
-use Rattle.std.specs.Prelude.{All, flat_map, slice_range}
+use Rattle.std.proofs.Common.{◌≡◌, ℕ, zero, suc, ◌+◌, ◌-◌, ◌*◌, ◌<◌, ◌≤◌, inl, inr, List, [], ◌∷◌, ◌++◌, length, get_or, map, take, drop, refl, sym, ◌∙◌, ap, arith, append-nil, append_assoc}
+use Rattle.std.specs.Prelude.{slice_range}
 use Rattle.std.proofs.Math.ListN.{set}
-use Rattle.std.proofs.lemmas.List.{length-append, length-map, map-append, take_at, drop_at, set_at, get_or_at, drop_more, map_more, drop-map, drop-drop, take-map, length-take-le, length-drop, get_or-map, drop_all, take_all}
+use Rattle.std.proofs.lemmas.List.{length-append, length-map, map-append, take_at, drop_at, set_at, get_or_at, drop_more, map_more, drop-drop, length-take-le, length-drop, get_or-map, drop_all, take_all}
 use Rattle.std.proofs.lemmas.Nat.{row_fits}
 use Rattle.std.proofs.lemmas.Bool.{cases_lt}
 use Rattle.p3_field.specs.Ring.{Ring, RingLaws}
@@ -10,10 +10,10 @@ use Rattle.p3_field.specs.Poly.{total}
 use Rattle.p3_field.specs.Laws.Sums.{total_same}
 use Rattle.p3_field.specs.Laws.Tables.{total_more}
 use Rattle.p3_matrix.specs.Matrix.{Rows, height}
-use Rattle.p3_matrix.specs.Laws.Grids.{IsGrid, next_row, product_height}
+use Rattle.p3_matrix.specs.Laws.Grids.{next_row, product_height}
 use Rattle.p3_lookup.specs.Term.{Term, sum_of, quotient, fraction, HasInverses}
 use Rattle.p3_lookup.specs.Honest.{Argument, row_terms, row_fractions, running_sum, honest_cell, RowHasInverses}
-use Rattle.p3_lookup.specs.RowTerms.{flat_terms, table_terms, sizes, row_size, group_sums, IsRowAdded, column_cell, AreColumns}
+use Rattle.p3_lookup.specs.RowTerms.{flat_terms, table_terms, row_size, group_sums, IsRowAdded, column_cell, AreColumns}
 
 -- each inverse with its count, in place
 

@@ -1,13 +1,12 @@
 -- Turns of the loops that pack lookups.
-use Rattle.std.proofs.Common.{◌≡◌, ℕ, zero, suc, ◌+◌, ◌<◌, ◌≤◌, true, false, Bool, ◌&&◌, cond, List, [], ◌∷◌, ◌++◌, length, get_or, map, take, drop, refl, sym, ◌∙◌, ap, subst, arith, append_assoc}
-use Rattle.std.specs.Prelude.{nat_le}
-use Rattle.std.proofs.lemmas.List.{map-append, length-append, length-map, take_more, take_all, drop_all, drop_more, set_split, map-set}
+use Rattle.std.proofs.Common.{◌≡◌, ℕ, suc, ◌+◌, ◌<◌, ◌≤◌, true, false, cond, List, [], ◌∷◌, ◌++◌, length, get_or, map, take, drop, sym, ◌∙◌, ap, arith, append_assoc}
+use Rattle.std.proofs.lemmas.List.{map-append, length-append, take_more, take_all, drop_all, drop_more, set_split}
 use Rattle.std.proofs.Math.ListN.{set}
 use Rattle.p3_field.specs.Ring.{Ring}
 use Rattle.p3_air.specs.Symbolic.{tree_of}
 use Rattle.p3_lookup.specs.Lookup.{LookupData, IsCounted}
-use Rattle.p3_lookup.specs.Written.{Written, read, read_all, tree_count, merged_written}
-use Rattle.p3_lookup.specs.Packing.{merged, same_name, takes_in, with_lookup, lookup_degree}
+use Rattle.p3_lookup.specs.Written.{Written, read, tree_count, merged_written}
+use Rattle.p3_lookup.specs.Packing.{merged, takes_in, with_lookup}
 
 pub read_merged : {F : Type 0} (k l : Written F) → read (merged_written k l) ≡ merged (read k) (read l)
 read_merged k l = cc (map-append (map tree_of) k.elements l.elements, map-append tree_count k.multiplicities l.multiplicities)

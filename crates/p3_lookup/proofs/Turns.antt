@@ -1,12 +1,12 @@
 -- Turns of loops that go down a list from its end.
-use Rattle.std.proofs.Common.{◌≡◌, ℕ, zero, suc, ◌+◌, ◌-◌, ◌<◌, false, List, [], ◌∷◌, ◌++◌, length, get_or, map, drop, take, refl, sym, ◌∙◌, ap, subst, arith}
+use Rattle.std.proofs.Common.{◌≡◌, ℕ, zero, suc, ◌+◌, ◌<◌, false, List, [], ◌∷◌, ◌++◌, length, get_or, map, drop, take, refl, sym, ◌∙◌, ap, subst, arith}
 use Rattle.std.specs.Prelude.{All, ◌==◌}
 use Rattle.std.proofs.lemmas.List.{length-map, map-append}
 use Rattle.p3_field.specs.Ring.{Ring}
 use Rattle.p3_field.specs.Poly.{val}
 use Rattle.p3_air.specs.declared.cells.Count.{Count}
 use Rattle.p3_air.specs.Tree.{Tree, sum, over_extension}
-use Rattle.p3_lookup.specs.Lookup.{LookupData, Sent, pair_up}
+use Rattle.p3_lookup.specs.Lookup.{LookupData, pair_up}
 use Rattle.p3_lookup.specs.Trees.{column_tree, sum_tree, fraction_tree, fraction_trees, running_trees, lookup_trees}
 
 pub mapped_item : {X Y : Type 0} (f : X → Y) (xs : List X) (i : ℕ) (x : X) (d : Y) → i < length xs → x ≡ get_or xs i x → get_or (map f xs) i d ≡ f x

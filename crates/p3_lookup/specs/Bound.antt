@@ -1,6 +1,6 @@
 -- The bound on multiplicities: on no bus may the counts of a batch, each as large as it is trusted to be, add up to the
 -- order of the field. After Plonky3's p3-lookup (check_multiplicity_height_bound).
-use Rattle.std.specs.Prelude.{◌≡◌, ℕ, zero, suc, ◌+◌, ◌-◌, ◌*◌, ◌^◌, ◌<◌, ◌≤◌, ◌==◌, min, cond, Bool, List, [], ◌∷◌, ◌++◌, length, map, Result, Ok, Err}
+use Rattle.std.specs.Prelude.{◌≡◌, ℕ, suc, ◌+◌, ◌-◌, ◌*◌, ◌^◌, ◌<◌, ◌≤◌, ◌==◌, min, cond, Bool, List, [], ◌∷◌, ◌++◌, map, Result, Ok, Err}
 use Rattle.p3_lookup.specs.declared.terminal.LookupError.{LookupError}
 use Rattle.p3_lookup.specs.declared.terminal.LookupError.TheVariants.{MultiplicityBound, PermutationWidthMismatch, PermutationLengthMismatch, TerminalPresenceMismatch, CommitmentMismatch, TerminalSum}
 use Rattle.p3_lookup.specs.Lookup.{LookupData}

@@ -1,6 +1,6 @@
 -- The numbers of the buses of a batch, in the order of its tables and of their lookups: a local lookup opens a bus of
 -- its own, and the first lookup that names a bus opens that. The rule is this project's own.
-use Rattle.std.specs.Prelude.{◌≡◌, ◌≢◌, ◌↔◌, ℕ, zero, suc, ◌+◌, ◌*◌, ◌<◌, ◌≤◌, ◌==◌, bytes_eq, cond, nat_lt, Bool, true, false, List, [], ◌∷◌, length, map, flat_map, max, sum_by, All}
+use Rattle.std.specs.Prelude.{◌≡◌, ◌≢◌, ◌↔◌, ℕ, zero, suc, ◌+◌, ◌<◌, ◌==◌, bytes_eq, cond, Bool, false, List, [], ◌∷◌, length, map, flat_map, max, sum_by, All}
 use Rattle.std.specs.Prelude.{slice_index_or as get_or}
 use Rattle.std.specs.List.{position_or_len}
 use Rattle.p3_air.specs.declared.cells.Count.{Count}

@@ -1,5 +1,5 @@
 -- What the generation of permutation columns answers. After Plonky3's p3-lookup (generate_permutation).
-use Rattle.std.specs.Prelude.{◌≡◌, ℕ, ◌+◌, ◌<◌, true, List, [], ◌∷◌, length, map, All, Option, Result, Ok, Err}
+use Rattle.std.specs.Prelude.{◌≡◌, ℕ, ◌+◌, ◌<◌, true, List, [], length, Option, Result, Ok, Err}
 use Rattle.std.specs.Prelude.{slice_index_or as get_or}
 use Rattle.p3_field.specs.Ring.{Ring}
 use Rattle.p3_matrix.specs.Matrix.{Rows, height, cell_at}
@@ -8,7 +8,7 @@ use Rattle.p3_air.specs.Shape.{Shape, width_of}
 use Rattle.p3_air.specs.RowCheck.{Row, value_at}
 use Rattle.p3_air.specs.Check.{table_of, row_of}
 use Rattle.p3_lookup.specs.Lookup.{LookupData}
-use Rattle.p3_lookup.specs.Term.{Term, fraction, sum_of, HasInverses}
+use Rattle.p3_lookup.specs.Term.{Term, HasInverses}
 use Rattle.p3_lookup.specs.Honest.{Argument, argument, row_terms, honest_cell, running_sum, RowHasInverses}
 use Rattle.p3_lookup.specs.declared.terminal.LookupTerminal.{LookupTerminal}
 use Rattle.p3_lookup.specs.declared.terminal.GenerateError.{GenerateError}

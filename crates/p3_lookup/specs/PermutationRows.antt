@@ -1,5 +1,5 @@
 -- The rows of a table with its generated permutation columns, as a folder or a check of rows reads them.
-use Rattle.std.specs.Prelude.{◌≡◌, ℕ, ◌+◌, ◌%◌, ◌<◌, nat_eq, List, [], ◌∷◌, length, All, Ok}
+use Rattle.std.specs.Prelude.{◌≡◌, ℕ, ◌+◌, ◌%◌, ◌<◌, nat_eq, List, [], ◌∷◌, All, Ok}
 use Rattle.p3_field.specs.Ring.{Ring}
 use Rattle.p3_matrix.specs.Matrix.{Rows, height, row_at}
 use Rattle.p3_air.specs.RowCheck.{Row, value_at}

@@ -1,6 +1,6 @@
 -- What it is for the cells of a table's rows to be honest: the selectors' values, and the permutation columns of an
 -- honest prover. The row after the last is the first.
-use Rattle.std.specs.Prelude.{◌≡◌, ℕ, suc, ◌+◌, ◌*◌, ◌%◌, ◌<◌, true, false, List, length, All}
+use Rattle.std.specs.Prelude.{◌≡◌, ℕ, suc, ◌+◌, ◌*◌, ◌%◌, ◌<◌, true, false, length, All}
 use Rattle.std.specs.Prelude.{slice_index_or as get_or}
 use Rattle.p3_field.specs.Ring.{Ring, sub}
 use Rattle.p3_air.specs.declared.cells.Cell.{Cell}
@@ -8,7 +8,7 @@ use Rattle.p3_air.specs.declared.cells.Cell.TheVariants.{FirstRow, LastRow, Tran
 use Rattle.p3_air.specs.declared.cells.ExtCell.{ExtCell}
 use Rattle.p3_air.specs.declared.cells.ExtCell.TheVariants.{Permutation, Challenge, Terminal}
 use Rattle.p3_air.specs.Tree.{Tree, Reading, ev}
-use Rattle.p3_lookup.specs.Lookup.{LookupData, Sent, sent}
+use Rattle.p3_lookup.specs.Lookup.{Sent, sent}
 use Rattle.p3_lookup.specs.Honest.{Argument, honest_cell, running_sum, RowHasInverses}
 use Rattle.p3_lookup.specs.Trees.{lookup_trees}
 

@@ -1,6 +1,6 @@
 -- Sums of fractions: a lookup's tuples, each as often as its count says over its denominator. After Plonky3's
 -- p3-lookup (LogUpGadget); the weights in a denominator are this project's own.
-use Rattle.std.specs.Prelude.{◌≡◌, ℕ, List, [], ◌∷◌, map, All}
+use Rattle.std.specs.Prelude.{◌≡◌, List, [], ◌∷◌, map, All}
 use Rattle.p3_field.specs.Ring.{Ring, sub}
 use Rattle.p3_field.specs.Poly.{val}
 use Rattle.p3_lookup.specs.Lookup.{Sent}

@@ -1,5 +1,5 @@
 -- Lookups as a program holds them: each expression is a list of nodes.
-use Rattle.std.specs.Prelude.{ℕ, ◌++◌, List, map, string_bytes}
+use Rattle.std.specs.Prelude.{◌++◌, List, map, string_bytes}
 use Rattle.p3_air.specs.declared.cells.Count.{Count}
 use Rattle.p3_air.specs.declared.node.Node.{Node}
 use Rattle.p3_air.specs.Tree.{Tree, Bus, local, global}

@@ -1,9 +1,9 @@
 -- What is sent has one value in the base field and, embedded, in the extension: a reading over the extension whose
 -- sendable cells are embedded values gives each tree that a lookup sends its embedded value.
-use Rattle.std.proofs.Common.{◌≡◌, ℕ, ◌<◌, List, [], ◌∷◌, length, get_or, map, refl, sym, ◌∙◌, ap, arith}
+use Rattle.std.proofs.Common.{◌≡◌, List, [], ◌∷◌, get_or, refl, sym, arith}
 use Rattle.std.specs.Prelude.{All}
 use Rattle.std.proofs.lemmas.List.Elements.{All-head, All-tail, All-cons}
-use Rattle.p3_field.specs.Ring.{Ring, RingLaws, sub}
+use Rattle.p3_field.specs.Ring.{Ring, RingLaws}
 use Rattle.p3_field.specs.Field.{RingHom}
 use Rattle.p3_field.specs.Laws.Extended.{hom_neg}
 use Rattle.p3_air.specs.declared.cells.Cell.{Cell}
@@ -11,7 +11,7 @@ use Rattle.p3_air.specs.declared.cells.Count.{Count}
 use Rattle.p3_air.specs.declared.cells.ExtCell.{ExtCell}
 use Rattle.p3_air.specs.Tree.{Tree, constant, cell, ext_cell, sum, difference, product, ev}
 use Rattle.p3_air.specs.Shape.{Shape, Declares, IsSendable, ReadsSendable}
-use Rattle.p3_lookup.specs.Lookup.{LookupData, ReadsSent, Sent, pair_up, sent}
+use Rattle.p3_lookup.specs.Lookup.{LookupData, ReadsSent, pair_up, sent}
 use Rattle.p3_lookup.specs.Rows.{reading_with, AgreeOn}
 
 module _ {F E : Type 0} (f : Ring F) (fL : RingLaws f) (e : Ring E) (L : RingLaws e) (embed : F → E) (H : RingHom f e embed)

@@ -1,7 +1,7 @@
 -- What is laid out for the lookups of a batch, and the widths of its messages.
-use Rattle.std.proofs.Common.{◌≡◌, ℕ, zero, suc, ◌+◌, ◌*◌, ◌<◌, Bool, true, List, [], ◌∷◌, ◌++◌, length, get_or, map, refl, sym, ◌∙◌, ap, subst, arith}
+use Rattle.std.proofs.Common.{◌≡◌, ℕ, zero, suc, ◌+◌, ◌<◌, Bool, true, List, [], ◌∷◌, ◌++◌, length, get_or, map, refl, sym, ◌∙◌, ap, subst, arith}
 use Rattle.std.specs.Prelude.{All, flat_map}
-use Rattle.std.proofs.lemmas.List.{length-map, length-append, map-append, get_or-map, get_or_append_left, get_or-append-add, get_or_default}
+use Rattle.std.proofs.lemmas.List.{length-map, map-append, get_or-map, get_or_append_left, get_or-append-add, get_or_default}
 use Rattle.std.proofs.lemmas.List.Elements.{All-cons, All-head, All-tail, All-append, All-weaker}
 use Rattle.p3_field.specs.Ring.{Ring, RingLaws}
 use Rattle.p3_field.specs.Field.{RingHom}
@@ -12,10 +12,10 @@ use Rattle.p3_air.specs.Tree.{Tree, local}
 use Rattle.p3_lookup.specs.Lookup.{LookupData, pair_up, sent}
 use Rattle.p3_lookup.specs.Term.{sum_of}
 use Rattle.p3_lookup.specs.Honest.{running_sum}
-use Rattle.p3_lookup.specs.Bus.{bus_number, bus_in, bus_count, batch_buses, lookups_before, widest, HaveOneWidth}
+use Rattle.p3_lookup.specs.Bus.{bus_number, bus_in, bus_count, batch_buses, lookups_before, widest}
 use Rattle.p3_lookup.specs.Challenge.{bus_base, challenges_with}
-use Rattle.p3_lookup.specs.Messages.{Message, Sender, message, messages_from, table_messages, batch_messages, IsBalanced, challenges_from, argument_of, terminal_of}
-use Rattle.p3_lookup.specs.Batch.{BatchTable, batch_lookups, senders_from, senders, batch_challenges, laid_out, laid_out_terminal, BalancedBatch, AreOfOneWidth, WidthsPassOn}
+use Rattle.p3_lookup.specs.Messages.{Message, Sender, message, messages_from, table_messages, batch_messages, challenges_from, argument_of, terminal_of}
+use Rattle.p3_lookup.specs.Batch.{BatchTable, batch_lookups, senders_from, senders, laid_out, laid_out_terminal, BalancedBatch, WidthsPassOn}
 use Rattle.p3_lookup.specs.Laws.Buses.{number_below}
 use Rattle.p3_lookup.specs.Laws.Places.{place_within, behind}
 use Rattle.p3_lookup.specs.Laws.Messages.{balance_sums}

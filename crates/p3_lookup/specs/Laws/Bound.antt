@@ -1,17 +1,16 @@
 -- The loads of buses, lookup by lookup as the bound on multiplicities is checked.
-use Rattle.std.proofs.Common.{◌≡◌, ◌≢◌, ℕ, zero, suc, ◌+◌, ◌-◌, ◌*◌, ◌^◌, ◌<◌, ◌≤◌, min, ◌⊎◌, inl, inr, Bool, true, false, cond, not, ◌||◌, List, [], ◌∷◌, ◌++◌, length, get_or, map, take, drop, refl, sym, ◌∙◌, ap, subst, arith}
-use Rattle.std.specs.Prelude.{◌==◌, bytes_eq}
+use Rattle.std.proofs.Common.{◌≡◌, ℕ, zero, suc, ◌+◌, ◌-◌, ◌*◌, ◌^◌, ◌<◌, ◌≤◌, min, inl, inr, Bool, true, false, cond, not, ◌||◌, List, [], ◌∷◌, ◌++◌, length, get_or, map, take, drop, refl, sym, ◌∙◌, ap, subst, arith}
+use Rattle.std.specs.Prelude.{◌==◌}
 use Rattle.std.specs.Bool.{Decides}
 use Rattle.std.specs.List.{list_any, position_or_len}
 use Rattle.std.specs.Cmp.Lexicographic.{bytes_decides}
-use Rattle.std.proofs.lemmas.Bool.{cases_lt, cases_eq, or_parts, or_from, false_from_ne_true}
+use Rattle.std.proofs.lemmas.Bool.{cases_lt, cases_eq, or_parts, false_from_ne_true}
 use Rattle.std.proofs.lemmas.Bool.Decides.{same_from_decides, Decides-eqb, Decides-like}
-use Rattle.std.proofs.lemmas.List.{length-append, length-map, get_or_append_left, get_or-append-add, get_or-map, take-append-le, take-map, take_all, drop_more, drop_all}
-use Rattle.std.proofs.lemmas.List.Folds.{list_any-append, list_any_at}
-use Rattle.std.proofs.lemmas.List.Sums.{fails_before_first, position_or_len_is}
+use Rattle.std.proofs.lemmas.List.{length-append, length-map, get_or_append_left, get_or-append-add, get_or-map, take-append-le, take-map, drop_more}
+use Rattle.std.proofs.lemmas.List.Folds.{list_any-append}
 use Rattle.p3_air.specs.Tree.{Bus, local, global}
 use Rattle.p3_lookup.specs.Lookup.{LookupData}
-use Rattle.p3_lookup.specs.Bus.{is_named, opener_of, opener, opened_below, bus_number, bus_count, batch_buses, lookups_before, bus_in, bounds_of, NameOneBus}
+use Rattle.p3_lookup.specs.Bus.{is_named, opener_of, opener, opened_below, bus_number, batch_buses, lookups_before, bounds_of}
 use Rattle.p3_lookup.specs.Packing.{same_name}
 use Rattle.p3_lookup.specs.Bound.{batch_loads, load_where, bus_load, AreBounded, capped, IsFirstOverload}
 use Rattle.p3_lookup.specs.Loads.{is_named_among, named_load, named_loads, AreBoundedBelow}

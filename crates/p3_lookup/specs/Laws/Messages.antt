@@ -1,5 +1,5 @@
 -- The terminals of a batch are the sum over its messages of count over denominator, and zero where nothing is left over.
-use Rattle.std.proofs.Common.{◌≡◌, ◌≢◌, ℕ, zero, suc, ◌+◌, ◌*◌, ◌<◌, ◌⊎◌, inl, inr, Bool, true, false, ◌&&◌, nat_eq, List, [], ◌∷◌, ◌++◌, length, get_or, map, refl, sym, ◌∙◌, ap, subst, arith}
+use Rattle.std.proofs.Common.{◌≡◌, ℕ, zero, suc, ◌+◌, ◌*◌, ◌<◌, inl, inr, Bool, true, false, ◌&&◌, nat_eq, List, [], ◌∷◌, ◌++◌, length, get_or, map, refl, sym, ◌∙◌, ap, subst, arith}
 use Rattle.std.specs.Prelude.{flat_map}
 use Rattle.std.specs.Cmp.Lexicographic.{pointwise, pointwise_decides}
 use Rattle.std.proofs.lemmas.List.{map-append}
@@ -11,9 +11,9 @@ use Rattle.p3_field.specs.Poly.{table, total}
 use Rattle.p3_field.specs.Laws.Sums.{total_same, total_zero}
 use Rattle.p3_air.specs.Tree.{Tree}
 use Rattle.p3_lookup.specs.Lookup.{LookupData, Sent, map_sent, sent}
-use Rattle.p3_lookup.specs.Term.{Term, term, denominator, sum_of, quotient, fraction}
-use Rattle.p3_lookup.specs.Honest.{Argument, lookup_terms, terms_from, row_terms, row_fractions, running_sum}
-use Rattle.p3_lookup.specs.Messages.{Message, Sender, message, messages_from, table_messages, batch_messages, is_of, net, IsBalanced, message_denominator, HasBases, challenges_from, challenges_of, argument_of, terminal_of}
+use Rattle.p3_lookup.specs.Term.{term, denominator, sum_of, fraction}
+use Rattle.p3_lookup.specs.Honest.{terms_from, row_fractions, running_sum}
+use Rattle.p3_lookup.specs.Messages.{Message, Sender, message, messages_from, table_messages, batch_messages, IsBalanced, message_denominator, challenges_from, challenges_of, argument_of, terminal_of}
 use Rattle.p3_lookup.specs.Laws.Terms.{sum_append}
 use Rattle.p3_lookup.specs.Laws.Balance.{balanced}
 

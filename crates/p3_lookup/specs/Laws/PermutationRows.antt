@@ -1,5 +1,5 @@
 -- The generated permutation columns meet the constraints of the lookups in each row of the table.
-use Rattle.std.proofs.Common.{◌≡◌, ◌≢◌, ℕ, zero, suc, ◌+◌, ◌*◌, ◌%◌, ◌<◌, inl, inr, Bool, true, false, cond, List, [], ◌∷◌, length, get_or, refl, sym, ◌∙◌, ap, subst, arith}
+use Rattle.std.proofs.Common.{◌≡◌, ◌≢◌, ℕ, suc, ◌+◌, ◌%◌, ◌<◌, inl, inr, true, false, cond, List, [], length, get_or, refl, ◌∙◌, ap, arith}
 use Rattle.std.specs.Prelude.{All, nat_eq, Ok}
 use Rattle.std.proofs.lemmas.Bool.Decides.{eqb_tells}
 use Rattle.std.proofs.lemmas.Nat.{mod_below}
@@ -10,13 +10,12 @@ use Rattle.p3_matrix.specs.Laws.Transposed.{get_or-row_at}
 use Rattle.p3_air.specs.declared.cells.Cell.{Cell}
 use Rattle.p3_air.specs.declared.cells.Cell.TheVariants.{Main, Preprocessed, Periodic, Public, FirstRow, LastRow, Transition}
 use Rattle.p3_air.specs.declared.cells.ExtCell.{ExtCell}
-use Rattle.p3_air.specs.Tree.{Tree}
-use Rattle.p3_air.specs.Shape.{Shape, Declares, IsSendable}
+use Rattle.p3_air.specs.Shape.{Declares, IsSendable}
 use Rattle.p3_air.specs.RowCheck.{Row, cell_value, ext_cell_value}
 use Rattle.p3_air.specs.Check.{Table, table_of, row_of}
 use Rattle.p3_lookup.specs.declared.terminal.LookupTerminal.{LookupTerminal}
 use Rattle.p3_lookup.specs.Lookup.{LookupData, IsLookup}
-use Rattle.p3_lookup.specs.Honest.{Argument, honest_cell, running_sum}
+use Rattle.p3_lookup.specs.Honest.{Argument, honest_cell}
 use Rattle.p3_lookup.specs.Rows.{AreSelectors, IsHonestRow, AreHonestRows}
 use Rattle.p3_lookup.specs.Generated.{sent_shape, argument_over, IsGenerated}
 use Rattle.p3_lookup.specs.PermutationRows.{permutation_row, GeneratedRowsVanish}

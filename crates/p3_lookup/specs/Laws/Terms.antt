@@ -1,13 +1,12 @@
 -- Sums of fractions over a common denominator.
-use Rattle.std.proofs.Common.{◌≡◌, ℕ, zero, suc, ◌+◌, ◌<◌, List, [], ◌∷◌, ◌++◌, length, get_or, map, refl, sym, ◌∙◌, ap, arith}
-use Rattle.std.specs.Prelude.{All}
+use Rattle.std.proofs.Common.{◌≡◌, List, [], ◌∷◌, ◌++◌, length, get_or, refl, sym, ◌∙◌, ap}
 use Rattle.std.proofs.lemmas.List.Elements.{All-head, All-tail}
-use Rattle.p3_field.specs.Ring.{Ring, RingLaws, sub}
+use Rattle.p3_field.specs.Ring.{Ring, RingLaws}
 use Rattle.p3_field.specs.Field.{FieldLaws}
 use Rattle.p3_field.specs.Poly.{total}
-use Rattle.p3_field.specs.Laws.Algebra.{zero_add, mul_zero, add_swap}
+use Rattle.p3_field.specs.Laws.Algebra.{zero_add}
 use Rattle.p3_field.specs.Laws.Solver.{expressions, var, solve}
-use Rattle.p3_lookup.specs.Term.{Term, common, numerator, sum_of, quotient, fraction, HasInverses}
+use Rattle.p3_lookup.specs.Term.{Term, common, numerator, sum_of, fraction, HasInverses}
 
 -- the two sides of one step, with the first term's count, denominator and inverse, and of the others the product of
 -- the denominators and the sum of the fractions

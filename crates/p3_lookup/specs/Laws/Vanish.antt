@@ -1,5 +1,5 @@
 -- The honest permutation columns make each constraint of the lookups zero in each row.
-use Rattle.std.proofs.Common.{◌≡◌, ℕ, zero, suc, ◌+◌, ◌*◌, ◌%◌, ◌<◌, ◌≤◌, ◌⊎◌, inl, inr, true, false, List, [], ◌∷◌, ◌++◌, length, get_or, map, refl, sym, ◌∙◌, ap, subst, arith, add-one}
+use Rattle.std.proofs.Common.{◌≡◌, ℕ, zero, suc, ◌+◌, ◌*◌, ◌%◌, ◌<◌, inl, inr, true, false, List, [], ◌∷◌, ◌++◌, length, get_or, map, refl, sym, ◌∙◌, ap, subst, arith}
 use Rattle.std.specs.Prelude.{All}
 use Rattle.std.proofs.lemmas.List.{length-map}
 use Rattle.std.proofs.lemmas.List.Elements.{All-head, All-tail, All-cons, All-append}
@@ -8,7 +8,7 @@ use Rattle.std.proofs.Math.Nat.{mod-eq_of_lt}
 use Rattle.p3_field.specs.Ring.{Ring, RingLaws, sub}
 use Rattle.p3_field.specs.Field.{FieldLaws, RingHom}
 use Rattle.p3_field.specs.Poly.{val, total}
-use Rattle.p3_field.specs.Laws.Algebra.{zero_add, mul_zero, zero_mul}
+use Rattle.p3_field.specs.Laws.Algebra.{mul_zero, zero_mul}
 use Rattle.p3_field.specs.Laws.Sums.{total_same}
 use Rattle.p3_field.specs.Laws.Tables.{total_more}
 use Rattle.p3_air.specs.declared.cells.Cell.{Cell}
@@ -18,9 +18,9 @@ use Rattle.p3_air.specs.declared.cells.ExtCell.TheVariants.{Permutation, Challen
 use Rattle.p3_air.specs.Tree.{Tree, Reading, ev}
 use Rattle.p3_lookup.specs.Lookup.{LookupData, Sent, map_sent, sent}
 use Rattle.p3_lookup.specs.Term.{Term, term, denominator, common, numerator, sum_of, fraction, HasInverses}
-use Rattle.p3_lookup.specs.Trees.{trees, base_tree, beta_tree, term_tree, term_trees, fraction_tree, fraction_trees, sum_tree, first_tree, transition_tree, last_tree, running_trees, lookup_trees}
-use Rattle.p3_lookup.specs.Honest.{Argument, lookup_terms, terms_from, row_terms, row_fractions, running_sum, honest_cell, RowHasInverses}
-use Rattle.p3_lookup.specs.Rows.{reading_with, AreSelectors, IsHonestRow, AreHonestRows, AgreeOn}
+use Rattle.p3_lookup.specs.Trees.{trees, base_tree, beta_tree, term_tree, fraction_tree, fraction_trees, sum_tree, first_tree, transition_tree, last_tree, running_trees, lookup_trees}
+use Rattle.p3_lookup.specs.Honest.{Argument, lookup_terms, terms_from, row_terms, row_fractions, running_sum, RowHasInverses}
+use Rattle.p3_lookup.specs.Rows.{reading_with, AreHonestRows, AgreeOn}
 use Rattle.p3_lookup.specs.Laws.Terms.{fraction_times, sum_is_total}
 
 -- a tree's value in the ring, and the ring's laws

@@ -1,6 +1,5 @@
-use Rattle.std.proofs.Common.{◌≡◌, ℕ, ◌<◌, ◌≤◌, Bool, true, false, List, length, get_or, map, take, sym, ◌∙◌, ap, arith}
-use Rattle.std.proofs.lemmas.List.{length-map, take_all}
-use Rattle.p3_air.specs.Tree.{Bus}
+use Rattle.std.proofs.Common.{◌≡◌, ◌<◌, length, take, sym, ◌∙◌, ap, arith}
+use Rattle.std.proofs.lemmas.List.{length-map}
 use Rattle.p3_lookup.specs.Lookup.{LookupData}
 use Rattle.p3_lookup.specs.Written.{Written, bus_of_kind, read, read_all}
 use Rattle.p3_lookup.specs.Packing.{same_name}

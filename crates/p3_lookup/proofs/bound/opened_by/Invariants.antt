@@ -1,4 +1,4 @@
-use Rattle.std.proofs.Common.{◌≡◌, ◌≤◌, ◌+◌, [], length, get_or, map}
+use Rattle.std.proofs.Common.{◌+◌, map}
 use Rattle.p3_lookup.specs.Written.{read_all}
 use Rattle.p3_lookup.specs.Bus.{lookups_before}
 use Rattle.p3_lookup.specs.Loads.{AreBoundedBelow}

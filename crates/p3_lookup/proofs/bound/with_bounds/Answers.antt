@@ -1,4 +1,4 @@
-use Rattle.std.proofs.Common.{◌≡◌, ℕ, ◌+◌, ◌*◌, ◌<◌, ◌≤◌, min, length, drop, sym, ◌∙◌, ap, arith}
+use Rattle.std.proofs.Common.{◌≡◌, ◌+◌, ◌*◌, ◌<◌, min, length, drop, sym, ◌∙◌, ap, arith}
 use Rattle.p3_lookup.specs.Bus.{bounds_of}
 use Rattle.p3_lookup.proofs.Bounded.{limited, bounds_turn}
 use Rattle.p3_lookup.proofs.bound.with_bounds.Goals as goal

@@ -1,5 +1,5 @@
-use Rattle.std.proofs.Common.{◌≡◌, ℕ, ◌+◌, ◌^◌, ◌<◌, max, min, List, map, sym, ◌∙◌, ap, subst, arith, refl}
-use Rattle.p3_air.specs.Degree.{multiple, capped_sum}
+use Rattle.std.proofs.Common.{◌≡◌, ◌^◌, ◌<◌, max, List, map, ◌∙◌, ap, subst, arith, refl}
+use Rattle.p3_air.specs.Degree.{capped_sum}
 use Rattle.p3_air.specs.Tree.{Tree}
 use Rattle.p3_air.specs.Symbolic.{tree_of}
 use Rattle.p3_lookup.specs.Lookup.{Sent, pair_up, sent}

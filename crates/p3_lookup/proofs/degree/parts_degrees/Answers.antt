@@ -1,7 +1,5 @@
-use Rattle.std.proofs.Common.{◌≡◌, ℕ, ◌+◌, ◌-◌, ◌<◌, ◌^◌, suc, max, min, List, ◌∷◌, length, map, drop, get_or, sym, ◌∙◌, ap, subst, arith}
-use Rattle.std.proofs.lemmas.List.{length-map}
-use Rattle.p3_field.specs.Poly.{val}
-use Rattle.p3_air.specs.Degree.{multiple, capped_sum}
+use Rattle.std.proofs.Common.{◌≡◌, ℕ, ◌-◌, ◌<◌, suc, max, List, ◌∷◌, length, map, drop, get_or, sym, ◌∙◌, ap, subst, arith}
+use Rattle.p3_air.specs.Degree.{capped_sum}
 use Rattle.p3_air.specs.Tree.{Tree}
 use Rattle.p3_air.specs.Symbolic.{tree_of}
 use Rattle.p3_lookup.specs.Lookup.{Sent, pair_up}

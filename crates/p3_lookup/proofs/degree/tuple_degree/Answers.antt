@@ -1,8 +1,7 @@
-use Rattle.std.proofs.Common.{◌≡◌, ℕ, ◌+◌, ◌-◌, ◌<◌, ◌^◌, suc, max, min, List, ◌∷◌, length, map, drop, sym, ◌∙◌, ap, arith}
+use Rattle.std.proofs.Common.{◌≡◌, ◌-◌, ◌<◌, suc, length, map, drop, sym, ◌∙◌, ap, arith}
 use Rattle.std.proofs.lemmas.List.{drop_all, length-map}
 use Rattle.p3_field.specs.Poly.{val}
-use Rattle.p3_air.specs.Degree.{multiple, capped_sum}
-use Rattle.p3_air.specs.Tree.{Tree}
+use Rattle.p3_air.specs.Degree.{multiple}
 use Rattle.p3_air.specs.Symbolic.{tree_of}
 use Rattle.p3_lookup.specs.Trees.{trees}
 use Rattle.p3_lookup.proofs.Turns.{dropped}

@@ -1,10 +1,10 @@
-use Rattle.std.proofs.Common.{◌≡◌, ℕ, ◌+◌, ◌<◌, List, [], ◌∷◌, ◌++◌, length, map, take, get_or, sym, ◌∙◌, ap, subst, append-nil, arith}
-use Rattle.std.proofs.lemmas.List.{map-append, take-map, length-map, take_all}
+use Rattle.std.proofs.Common.{◌≡◌, ◌+◌, ◌<◌, List, [], ◌∷◌, ◌++◌, length, map, take, sym, ◌∙◌, ap, subst, append-nil, arith}
+use Rattle.std.proofs.lemmas.List.{map-append, take-map, length-map}
 use Rattle.p3_air.specs.Tree.{Asserted, over_extension}
 use Rattle.p3_air.specs.Shape.{Shape}
 use Rattle.p3_air.specs.Laws.Growth.{first_on_err}
-use Rattle.p3_lookup.specs.Lookup.{LookupData, IsLookup}
-use Rattle.p3_lookup.specs.Written.{Written, read, read_all}
+use Rattle.p3_lookup.specs.Lookup.{IsLookup}
+use Rattle.p3_lookup.specs.Written.{read, read_all}
 use Rattle.p3_lookup.specs.Trees.{fraction_tree, fraction_trees}
 use Rattle.p3_lookup.proofs.Turns.{mapped_item, at_item, fractions_turn, fractions_front}
 use Rattle.p3_lookup.proofs.emission.assert_fractions.Goals as goal

@@ -1,9 +1,7 @@
-use Rattle.std.proofs.Common.{List, [], ◌∷◌, map}
+use Rattle.std.proofs.Common.{[], ◌∷◌}
 use Rattle.std.proofs.lemmas.Result.{IfOk-weaker, on_err_weaker}
-use Rattle.p3_air.specs.Tree.{Asserted, over_extension}
 use Rattle.p3_air.specs.Laws.Growth.{none_first, none_on_err, some_after}
 use Rattle.p3_air.specs.Laws.Stand.{holds_on_err}
-use Rattle.p3_lookup.specs.Trees.{first_tree, transition_tree, last_tree}
 use Rattle.p3_lookup.proofs.emission.assert_running.Goals as goal
 
 pub returns-in_err-assert_first-clause-refused : goal.returns-in_err-assert_first-clause-refused

@@ -1,6 +1,5 @@
-use Rattle.std.proofs.Common.{◌≡◌, ℕ, ◌+◌, suc, [], ◌∙◌, ap, subst, arith}
-use Rattle.p3_air.specs.Tree.{Tree, sum, constant}
-use Rattle.p3_lookup.specs.Trees.{column_tree, sum_tree}
+use Rattle.std.proofs.Common.{◌≡◌, [], ◌∙◌, subst}
+use Rattle.p3_air.specs.Tree.{Tree, constant}
 use Rattle.p3_lookup.proofs.Turns.{sum_turn}
 use Rattle.p3_lookup.proofs.emission.sum_of_fractions.Goals as goal
 

@@ -1,5 +1,4 @@
-use Rattle.std.proofs.Common.{◌≡◌, ℕ, ◌<◌, [], sym, ◌∙◌, subst, rules}
-use Rattle.p3_air.specs.Tree.{Tree}
+use Rattle.std.proofs.Common.{[], sym, subst, rules}
 use Rattle.p3_air.specs.Shape.{Shape, ReadsSendable}
 use Rattle.p3_air.specs.Symbolic.{tree_at}
 use Rattle.p3_air.specs.Laws.Symbolic.{node_is}

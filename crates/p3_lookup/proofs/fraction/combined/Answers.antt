@@ -1,4 +1,4 @@
-use Rattle.std.proofs.Common.{◌≡◌, ℕ, ◌-◌, ◌<◌, suc, [], length, sym, ◌∙◌, subst, arith}
+use Rattle.std.proofs.Common.{◌≡◌, ◌-◌, ◌<◌, suc, [], length, sym, ◌∙◌, subst, arith}
 use Rattle.p3_air.specs.Tree.{Tree}
 use Rattle.p3_air.specs.Shape.{Shape, ReadsSendable}
 use Rattle.p3_air.specs.Symbolic.{tree_of}

@@ -1,4 +1,4 @@
-use Rattle.std.proofs.Common.{◌≡◌, map, take}
+use Rattle.std.proofs.Common.{◌≡◌, take}
 use Rattle.p3_air.specs.Recording.{sent_at}
 use Rattle.p3_lookup.specs.Lookup.{lookups_of}
 use Rattle.p3_lookup.specs.Written.{read_all}

@@ -1,11 +1,11 @@
-use Rattle.std.proofs.Common.{◌≡◌, ℕ, ◌<◌, List, [], ◌++◌, length, map, subst, arith}
+use Rattle.std.proofs.Common.{◌≡◌, ◌<◌, List, [], length, map, subst, arith}
 use Rattle.std.proofs.lemmas.List.{length-map}
 use Rattle.std.proofs.lemmas.Result.{IfOk-weaker, on_err_weaker}
 use Rattle.p3_air.specs.Tree.{Asserted, over_extension, SomeFirst}
 use Rattle.p3_air.specs.Laws.Growth.{some_after, some_of_more}
 use Rattle.p3_air.specs.Laws.Stand.{holds_on_err}
 use Rattle.p3_lookup.specs.Written.{read, read_all}
-use Rattle.p3_lookup.specs.Trees.{fraction_trees, running_trees, lookup_trees}
+use Rattle.p3_lookup.specs.Trees.{fraction_trees, running_trees}
 use Rattle.p3_lookup.proofs.Turns.{lookup_trees_are, some_item}
 use Rattle.p3_lookup.proofs.gadget.assert_lookups.Goals as goal
 

@@ -1,15 +1,12 @@
-use Rattle.std.proofs.Common.{◌≡◌, ℕ, ◌+◌, ◌<◌, ◌++◌, List, [], ◌∷◌, length, map, sym, ◌∙◌, ap, subst, refl, arith}
-use Rattle.std.specs.Prelude.{All}
+use Rattle.std.proofs.Common.{[], subst, refl}
 use Rattle.std.specs.Option.{option_map}
-use Rattle.p3_air.specs.Shape.{Shape}
-use Rattle.p3_air.specs.RowCheck.{Row, row_shape}
-use Rattle.p3_air.specs.Check.{table_of, row_of}
+use Rattle.p3_air.specs.RowCheck.{Row}
+use Rattle.p3_air.specs.Check.{table_of}
 use Rattle.p3_air.specs.Laws.RowOf.{row_is}
-use Rattle.p3_lookup.specs.Lookup.{IsLookup}
 use Rattle.p3_lookup.specs.Written.{read_all}
 use Rattle.p3_lookup.specs.Honest.{terms_from}
 use Rattle.p3_lookup.specs.RowTerms.{AreRowTermsAdded}
-use Rattle.p3_lookup.specs.Generated.{embedded_at, sent_shape}
+use Rattle.p3_lookup.specs.Generated.{embedded_at}
 use Rattle.p3_lookup.proofs.generate.push_row_terms.Goals as goal
 
 pub returns : goal.returns

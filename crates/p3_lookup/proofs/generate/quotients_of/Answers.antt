@@ -1,6 +1,6 @@
-use Rattle.std.proofs.Common.{◌≡◌, ℕ, ◌+◌, ◌<◌, ◌≤◌, List, length, get_or, map, sym, ◌∙◌, ap, subst, arith}
+use Rattle.std.proofs.Common.{◌≡◌, ◌<◌, length, map, ◌∙◌, ap, arith}
 use Rattle.p3_lookup.specs.Term.{Term, quotient}
-use Rattle.p3_lookup.proofs.Groups.{scaled_start, scaled_length, scaled_read, scaled_more, scaled_end, ready}
+use Rattle.p3_lookup.proofs.Groups.{scaled_start, scaled_read, scaled_more, scaled_end, ready}
 use Rattle.p3_lookup.proofs.generate.quotients_of.Goals as goal
 
 pub batch_multiplicative_inverse-requires : goal.batch_multiplicative_inverse-requires

@@ -1,7 +1,6 @@
-use Rattle.std.proofs.Common.{◌≡◌, ℕ, ◌+◌, ◌*◌, ◌<◌, ◌≤◌, List, length, map, sym, ◌∙◌, ap, subst, arith}
-use Rattle.std.proofs.lemmas.List.{length-map}
-use Rattle.p3_lookup.specs.Written.{read, read_all}
-use Rattle.p3_lookup.specs.RowTerms.{sizes, row_size, group_sums, AreColumns}
+use Rattle.std.proofs.Common.{◌≡◌, List, sym, ◌∙◌, subst}
+use Rattle.p3_lookup.specs.Written.{read_all}
+use Rattle.p3_lookup.specs.RowTerms.{sizes}
 use Rattle.p3_lookup.proofs.Groups.{AreRowsAt, rows_start, rows_place, rows_more}
 use Rattle.p3_lookup.proofs.generate.rows_of.Goals as goal
 

@@ -1,6 +1,5 @@
 use Rattle.p3_lookup.specs.Honest.{argument}
 use Rattle.p3_lookup.specs.Laws.Vanish.{trees_vanish}
-use Rattle.p3_lookup.specs.Laws.Agreement.{agree_sent}
 use Rattle.p3_lookup.proofs.meanings.honest_columns_vanish.Goals as goal
 
 pub returns : goal.returns

@@ -1,10 +1,10 @@
-use Rattle.std.proofs.Common.{◌≡◌, ℕ, ◌+◌, ◌<◌, ◌≤◌, true, suc, List, [], ◌∷◌, length, drop, get_or, map, sym, ◌∙◌, ap, subst, arith}
+use Rattle.std.proofs.Common.{◌≡◌, ◌+◌, ◌<◌, ◌≤◌, true, suc, List, ◌∷◌, length, drop, sym, ◌∙◌, ap, subst, arith}
 use Rattle.std.specs.Prelude.{All}
 use Rattle.std.proofs.lemmas.List.{length-map, drop_all}
 use Rattle.p3_air.specs.Tree.{local}
 use Rattle.p3_lookup.specs.Lookup.{LookupData, IsCounted}
 use Rattle.p3_lookup.specs.Written.{read, read_all}
-use Rattle.p3_lookup.specs.Packing.{with_lookup, packed_onto}
+use Rattle.p3_lookup.specs.Packing.{packed_onto}
 use Rattle.p3_lookup.specs.Laws.Packing.{with_counted}
 use Rattle.p3_lookup.proofs.Turns.{at_item, dropped}
 use Rattle.p3_lookup.proofs.packing.all_placed.Goals as goal

@@ -1,10 +1,10 @@
-use Rattle.std.proofs.Common.{◌≡◌, ℕ, ◌+◌, ◌<◌, ◌≤◌, List, [], ◌∷◌, ◌++◌, length, get_or, map, sym, ◌∙◌, ap, arith}
+use Rattle.std.proofs.Common.{◌<◌, length, ◌∙◌, ap, arith}
 use Rattle.std.proofs.lemmas.List.{length-map}
 use Rattle.std.proofs.Math.ListN.{set}
 use Rattle.p3_lookup.specs.Lookup.{LookupData, IsCounted}
 use Rattle.p3_lookup.specs.Written.{read, read_all}
 use Rattle.p3_lookup.proofs.Turns.{at_item, mapped_item}
-use Rattle.p3_lookup.proofs.Packed.{pass_next, pass_taken, pass_end}
+use Rattle.p3_lookup.proofs.Packed.{pass_next, pass_taken}
 use Rattle.p3_lookup.proofs.packing.taker.Goals as goal
 
 pub taken_in-requires-clause-first : goal.taken_in-requires-clause-first

@@ -1,4 +1,3 @@
-use Rattle.std.proofs.Common.{◌≡◌}
 use Rattle.p3_lookup.specs.Written.{read, read_all}
 use Rattle.p3_lookup.proofs.Packed.{Passed}
 use Rattle.p3_lookup.proofs.packing.taker.Given as goal

@@ -1,6 +1,4 @@
-use Rattle.std.proofs.Common.{◌≡◌, ℕ, ◌<◌, [], sym, ◌∙◌, ap, subst, rules}
-use Rattle.p3_air.specs.Symbolic.{tree_at}
-use Rattle.p3_air.specs.RowCheck.{value_at}
+use Rattle.std.proofs.Common.{rules}
 use Rattle.p3_air.specs.Laws.Symbolic.{node_is}
 use Rattle.p3_lookup.proofs.values.+value_in.Goals as goal
 

@@ -1,4 +1,4 @@
-use Rattle.std.proofs.Common.{◌≡◌, ℕ, ◌-◌, ◌<◌, suc, List, ◌∷◌, length, map, drop, ◌∙◌, ap, arith}
+use Rattle.std.proofs.Common.{◌≡◌, ◌-◌, ◌<◌, suc, List, ◌∷◌, length, map, drop, ap, arith}
 use Rattle.p3_field.specs.Poly.{val}
 use Rattle.p3_air.specs.Tree.{Tree}
 use Rattle.p3_air.specs.Shape.{ReadsSendable}

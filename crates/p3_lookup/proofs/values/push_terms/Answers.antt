@@ -1,6 +1,6 @@
-use Rattle.std.proofs.Common.{◌≡◌, ℕ, ◌+◌, ◌<◌, ◌≤◌, suc, true, false, refl, List, [], ◌∷◌, length, map, drop, get_or, sym, ◌∙◌, ap, subst, arith}
+use Rattle.std.proofs.Common.{◌≡◌, ◌<◌, ◌≤◌, true, false, refl, List, length, map, get_or, sym, ◌∙◌, ap, subst, arith}
 use Rattle.std.specs.Prelude.{All}
-use Rattle.std.proofs.lemmas.List.{drop_all, length-map}
+use Rattle.std.proofs.lemmas.List.{length-map}
 use Rattle.p3_air.specs.declared.node.Node.{Node}
 use Rattle.p3_air.specs.Shape.{ReadsSendable}
 use Rattle.p3_air.specs.Symbolic.{tree_of}
@@ -9,10 +9,10 @@ use Rattle.p3_lookup.specs.Lookup.{map_sent, pair_up}
 use Rattle.p3_lookup.specs.Term.{term, Term}
 use Rattle.p3_lookup.specs.Written.{tree_count}
 use Rattle.p3_lookup.specs.Generated.{embedded_at}
-use Rattle.p3_lookup.proofs.Turns.{at_item, mapped_item, dropped, dropped_twice}
+use Rattle.p3_lookup.proofs.Turns.{at_item, mapped_item}
 use Rattle.p3_lookup.specs.Honest.{terms_of}
 use Rattle.p3_lookup.proofs.Pairs.{pair_length, term_item}
-use Rattle.p3_lookup.proofs.Added.{terms_start, terms_more, terms_zero, terms_end}
+use Rattle.p3_lookup.proofs.Added.{terms_more, terms_zero, terms_end}
 use Rattle.p3_lookup.proofs.values.push_terms.Goals as goal
 
 pub term_value-term-requires-clause-tuple : goal.term_value-term-requires-clause-tuple

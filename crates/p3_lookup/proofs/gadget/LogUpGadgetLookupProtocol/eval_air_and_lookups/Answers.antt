@@ -1,6 +1,6 @@
-use Rattle.std.proofs.Common.{◌≡◌, ℕ, ◌<◌, List, [], ◌++◌, length, map, subst, sym, append-nil, arith}
+use Rattle.std.proofs.Common.{List, [], ◌++◌, map, subst, append-nil}
 use Rattle.std.proofs.lemmas.Result.{IfOk-weaker, on_err_weaker}
-use Rattle.p3_air.specs.Tree.{Asserted, Interaction, over_base, over_extension, SomeFirst}
+use Rattle.p3_air.specs.Tree.{Interaction, over_base, over_extension, SomeFirst}
 use Rattle.p3_air.specs.Laws.Growth.{some_after, some_of_more}
 use Rattle.p3_air.specs.Laws.Stand.{holds_on_err}
 use Rattle.p3_lookup.specs.Written.{read_all}
