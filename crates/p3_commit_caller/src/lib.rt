@@ -6,7 +6,6 @@
 mod agreeing;
 mod evaluated;
 mod faults;
-mod preprocessed;
 mod quotients;
 mod rounds;
 mod rows;
@@ -33,7 +32,6 @@ use p3_field::{
     TwoAdicCore,
 };
 use p3_matrix::RowMajorMatrix;
-pub use preprocessed::preprocessed_verified;
 pub use quotients::quotient_committed_twice;
 pub use rounds::Round;
 pub use rows::{OpenedRow, committed_and_opened};

@@ -1,2 +1,1 @@
 mod TwoColumns
-mod FirstPoint

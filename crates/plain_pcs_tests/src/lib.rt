@@ -18,8 +18,6 @@ mod rounds;
 #[cfg(test)]
 mod scheme;
 #[cfg(test)]
-mod several;
-#[cfg(test)]
 mod texts;
 #[cfg(test)]
 mod verifying;

@@ -5,7 +5,6 @@ ghost use Rattle.plain_pcs.specs.Holding.{IsMade};
 
 use p3_challenger::{CanObserve, Sha256Challenger};
 use p3_commit::{OpeningRequest, Pcs, PcsFailure, UnivariateStarkPcs};
-use p3_commit_caller::committed_and_evaluated;
 use p3_dft::Radix2Dit;
 use p3_field::{
     BabyBear, ExtensionField, FieldCore, Mem, QuarticExtension, RingCore, TwoAdicCore,
@@ -50,9 +49,7 @@ pub fn committed(alloc: Global, scheme: &Plain, domain: Coset) -> Result<Made, F
 }
 
 // The same by `commit_preprocessing`.
-fn preprocessed(alloc: Global, scheme: &Plain, domain: Coset) -> Result<Made, Fail>
-    ensures { IfOk result (λ w. IsMade w.1 × (length w.1 ≡ 1)) }
-{
+fn preprocessed(alloc: Global, scheme: &Plain, domain: Coset) -> Result<Made, Fail> {
     let columns = vec![in alloc; (domain, pair(alloc)?)]?;
     match <Plain as UnivariateStarkPcs<QuarticExtension, Sha256Challenger>>::commit_preprocessing(
         scheme, alloc, columns,
@@ -233,66 +230,5 @@ fn values_on_a_larger_domain(rt: HostRuntime) -> Result<(), Fail> {
         values.as_slice(),
         [bear(5), bear(569722823), bear(9), bear(1443543112)].as_slice()
     );
-    Ok(())
-}
-
-// The values on four points of the second of two matrices, the constant column 2 and the column 5, 9, or why the first is
-// refused on so large a domain.
-fn second_evaluated(
-    alloc: Global,
-    log_first: usize,
-) -> Result<Result<RowMajorMatrix<BabyBear>, PlainProverError>, Fail> {
-    let first = Coset::new(bear(1), log_first).ok_or("no coset")?;
-    let own = Coset::new(bear(1), 1).ok_or("no coset")?;
-    let four = Coset::new(bear(1), 2).ok_or("no coset")?;
-    let column = RowMajorMatrix::new_col(vec![in alloc; bear(2), bear(2)]?);
-    let columns = vec![in alloc; (first, column), (own, pair(alloc)?)]?;
-    match committed_and_evaluated::<BabyBear, Sha256Challenger, Plain>(
-        alloc,
-        &scheme()?,
-        columns,
-        1,
-        four,
-    ) {
-        Ok((_commitment, values)) => Ok(Ok(values)),
-        Err(PcsFailure::Refused(error)) => Ok(Err(error)),
-        Err(PcsFailure::OutOfMemory) => Err("no memory".into()),
-    }
-}
-
-#[test]
-fn the_second_matrix_on_a_larger_domain(rt: HostRuntime) -> Result<(), Fail> {
-    let alloc = rt.alloc();
-    let values = second_evaluated(alloc, 1)?.ok().ok_or("refused")?;
-    assert_eq!(rt;
-        values.as_slice(),
-        [bear(5), bear(569722823), bear(9), bear(1443543112)].as_slice()
-    );
-    let refusal = second_evaluated(alloc, 2)?.err();
-    assert_eq!(rt; refusal, Some(PlainProverError::Commit { matrix: 0 }));
-    Ok(())
-}
-
-#[test]
-fn preprocessed_columns_evaluated_and_opened(rt: HostRuntime) -> Result<(), Fail> {
-    let alloc = rt.alloc();
-    let scheme = scheme()?;
-    let own = Coset::new(bear(1), 1).ok_or("no coset")?;
-    let (_commitment, kept) = preprocessed(alloc, &scheme, own)?;
-    let one = Coset::new(bear(31), 0).ok_or("no coset")?;
-    let values = <Plain as UnivariateStarkPcs<
-        BabyBear,
-        Sha256Challenger,
-    >>::get_evaluations_on_domain(&scheme, alloc, &kept, 0, one)?;
-    assert_eq!(rt; values.as_slice(), [-bear(55)].as_slice());
-    let points = vec![in alloc; vec![in alloc; bear(3)]?]?;
-    let requests = vec![in alloc; OpeningRequest::from((&kept, points))]?;
-    let mut challenger = Sha256Challenger::new();
-    let answer = scheme.open_with_preprocessing(alloc, requests, &mut challenger, Some(0));
-    let (opened, _proof) = answer.ok().ok_or("refused")?;
-    let round = opened.first().ok_or("no round")?;
-    let matrix = round.first().ok_or("no matrix")?;
-    let values = matrix.first().ok_or("no point")?;
-    assert_eq!(rt; values.as_slice(), [bear(1)].as_slice());
     Ok(())
 }
