@@ -4,7 +4,9 @@
 use crate::scheme::{Coset, bear, pair, scheme};
 use p3_challenger::Sha256Challenger;
 use p3_commit::{CommitmentOpening, PcsFailure};
-use p3_commit_caller::{Round, VerifiedRounds, fault_of_claims, rounds_verified};
+use p3_commit_caller::{
+    Round, VerifiedRounds, fault_of_claims, preprocessed_verified, rounds_verified,
+};
 use p3_field::{BabyBear, FieldCore, Mem, RingCore};
 use p3_matrix::RowMajorMatrix;
 use plain_pcs::{PlainCommitment, PlainError, PlainProof, PlainProverError};
@@ -156,5 +158,35 @@ fn a_refused_claim(rt: HostRuntime) -> Result<(), Fail> {
         column: 1,
     };
     assert_eq!(rt; fault_where_changed(alloc, bear(1))?, Some(expected));
+    Ok(())
+}
+
+// What is claimed of two rounds and of the third as preprocessed columns, or why they are refused.
+fn preprocessed(
+    alloc: Global,
+    log_third: usize,
+) -> Result<Result<Verified, PlainProverError>, Fail> {
+    let start = Sha256Challenger::new();
+    let columns = third(alloc, log_third)?;
+    match preprocessed_verified(alloc, &scheme()?, two_rounds(alloc)?, columns, start) {
+        Ok(Some(verified)) => Ok(Ok(verified)),
+        Ok(None) => Err("refused by the verifier".into()),
+        Err(PcsFailure::Refused(error)) => Ok(Err(error)),
+        Err(PcsFailure::OutOfMemory) => Err("no memory".into()),
+    }
+}
+
+#[test]
+fn preprocessed_columns_verified(rt: HostRuntime) -> Result<(), Fail> {
+    let alloc = rt.alloc();
+    let verified = preprocessed(alloc, 1)?.ok().ok_or("refused")?;
+    let claims = &verified.claims;
+    assert_eq!(rt; claims.len(), 3);
+    assert_eq!(rt; values_at(claims, 1, 0, 1)?, [bear(3)].as_slice());
+    assert_eq!(rt; values_at(claims, 2, 0, 1)?, [-bear(13)].as_slice());
+    assert_eq!(rt; values_at(claims, 2, 1, 0)?, [bear(1), -bear(6)].as_slice());
+    assert_eq!(rt; verified.prover, verified.verifier);
+    let refusal = preprocessed(alloc, 2)?.err();
+    assert_eq!(rt; refusal, Some(PlainProverError::Commit { matrix: 0 }));
     Ok(())
 }
