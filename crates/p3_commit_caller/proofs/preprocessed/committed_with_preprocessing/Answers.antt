@@ -17,7 +17,7 @@ pub returns-in_err-kept-clause-refusal : goal.returns-in_err-kept-clause-refusal
 returns-in_err-kept-clause-refusal g c =
     handed_on (Vec (KeptRound g.row.P-Domain.Denot g.row.E.Denot g.row.P-Commitment.Denot g.row.P-ProverData.Denot) Global) _ _
     (λ e h. refused_earlier (λ q. g.P.Pcs.commit_fault c.args.pcs.now q.evaluations) c.args.rounds.items c.args.preprocessed e h)
-    c.from_residual-in_err-kept.result c.in_err-kept.field-0.0 c.from_residual-in_err-kept.ensures.1 c.in_err-kept.ensures.refusal
+    c.from_residual.result c.in_err-kept.field-0.0 c.from_residual.ensures.1 c.in_err-kept.ensures.refusal
 
 pub returns-in_err-committed_preprocessing-clause-refusal : goal.returns-in_err-committed_preprocessing-clause-refusal
 returns-in_err-committed_preprocessing-clause-refusal g c =
