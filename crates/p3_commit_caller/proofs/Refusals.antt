@@ -1,11 +1,11 @@
 -- The first of several items that is refused, and the only cause.
 use Rattle.std.proofs.Common.{◌≡◌, ℕ, zero, suc, ◌+◌, ◌<◌, inl, inr, List, [], ◌∷◌, ◌++◌, Some, length, get_or, refl, subst, sym, ◌∙◌, ap, arith, rules}
-use Rattle.std.specs.Prelude.{slice_get, Result, Ok, Err, IsErrAnd}
+use Rattle.std.specs.Prelude.{slice_get, Result, Ok, Err, IsErrAnd, IfOk}
 use Rattle.std.proofs.lemmas.Bool.{cases_lt}
 use Rattle.std.proofs.lemmas.List.{length_push}
 use Rattle.std.proofs.lemmas.Option.{slice_get_within, get_or_from_slice_get}
 use Rattle.p3_commit.specs.Periodic.{EachFrom}
-use Rattle.p3_commit.specs.Failure.{NoneOf, RefusedBy, IfRefused}
+use Rattle.p3_commit.specs.Failure.{NoneOf, RefusedBy, IfRefused, FaultInTurn}
 use Rattle.p3_commit.specs.declared.failure.PcsFailure.{PcsFailure}
 use Rattle.p3_commit.specs.declared.failure.PcsFailure.TheVariants.{OutOfMemory, Refused}
 use Rattle.p3_commit_caller.specs.Causes.{IsCause, FirstRefused}
@@ -25,6 +25,16 @@ pub handed_as_one : {T E : Type 0} (V : Type 0) (P Q : E → Type 0) → ((e : E
 handed_as_one V P Q leads (Ok w) f h k = absurd h
 handed_as_one V P Q leads (Err OutOfMemory) f h k = search rules
 handed_as_one V P Q leads (Err (Refused e)) f h k = leads e (subst (λ x. RefusedBy {T = V} P (Err x)) (sym h) k)
+
+-- two calls in turn, of which the first is not refused
+pub refused_in_turn : {T U E : Type 0} (first : E → Type 0) (gives : U → Type 0) (second : U → E → Type 0) (u : U) → NoneOf first → gives u → (r : Result T (PcsFailure E)) → IfRefused r (second u) → IfRefused r (FaultInTurn first gives second)
+refused_in_turn first gives second u none g (Ok w) h = h
+refused_in_turn first gives second u none g (Err OutOfMemory) h = h
+refused_in_turn first gives second u none g (Err (Refused e)) h = inr (none, (u, g, h))
+
+pub leads_to : {T E : Type 0} (P Q : T → Type 0) → ((w : T) → P w → Q w) → (r : Result T E) → IfOk r P → IfOk r Q
+leads_to P Q f (Ok w) h = f w h
+leads_to P Q f (Err e) h = h
 
 -- a list with one item more
 before_end : {X : Type 0} (xs : List X) (y : X) (i : ℕ) (x : X) → slice_get xs i ≡ Some x → slice_get (xs ++ y ∷ []) i ≡ Some x

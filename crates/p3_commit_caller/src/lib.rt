@@ -6,6 +6,7 @@
 mod agreeing;
 mod evaluated;
 mod faults;
+mod preprocessed;
 mod quotients;
 mod rounds;
 mod rows;
@@ -32,6 +33,7 @@ use p3_field::{
     TwoAdicCore,
 };
 use p3_matrix::RowMajorMatrix;
+pub use preprocessed::preprocessed_verified;
 pub use quotients::quotient_committed_twice;
 pub use rounds::Round;
 pub use rows::{OpenedRow, committed_and_opened};

@@ -1,1 +1,2 @@
 mod TwoColumns
+mod FirstPoint

@@ -3,15 +3,17 @@ ghost use Rattle.std.specs.Prelude.{◌≡◌, ℕ, ◌*◌, ◌^◌, ◌<◌, I
 ghost use Rattle.p3_matrix.specs.Matrix.{height};
 
 use p3_challenger::Sha256Challenger;
-use p3_commit::{ExtensionMmcs, Mmcs, PcsFailure};
-use p3_commit_caller::{committed_alike, committed_and_opened, committed_and_verified};
+use p3_commit::{BatchOpeningRef, ExtensionMmcs, Mmcs, PcsFailure};
+use p3_commit_caller::{
+    committed_alike, committed_and_opened, committed_and_verified, rows_verified_twice,
+};
 use p3_dft::{NaiveDft, Radix2Dit, TwoAdicSubgroupDft};
 use p3_field::{
     BabyBear, ExtensionField, FieldCore, Mem, QuarticExtension, RingCore,
     TwoAdicMultiplicativeCoset,
 };
-use p3_matrix::RowMajorMatrix;
-use plain_pcs::{PlainCommitment, PlainMmcs, PlainPcs, PlainProverError};
+use p3_matrix::{Dimensions, RowMajorMatrix};
+use plain_pcs::{PlainCommitment, PlainMmcs, PlainMmcsError, PlainPcs, PlainProverError};
 use std::alloc::Global;
 use std::test::Fail;
 
@@ -138,5 +140,39 @@ fn a_row_opened_as_another(rt: HostRuntime) -> Result<(), Fail> {
     let mmcs = ExtensionMmcs::<BabyBear, QuarticExtension, PlainMmcs>::new(PlainMmcs);
     let wanted = (Some(quartic(9)), true, false);
     assert_eq!(rt; last_row(alloc, &mmcs, quartic(5), quartic(9))?, wanted);
+    Ok(())
+}
+
+// Why row 1 of the column 5, 9 is refused at this place, asked twice.
+fn faults_at(alloc: Global, index: usize) -> Mem<(Option<PlainMmcsError>, Option<PlainMmcsError>)> {
+    let pair = column(alloc, bear(5), bear(9))?;
+    let opened = committed_and_opened(alloc, &PlainMmcs, pair, 1, 1)?;
+    let shape = [Dimensions {
+        width: 1,
+        height: 2,
+    }];
+    let rows = BatchOpeningRef::from(&opened.opening);
+    rows_verified_twice(alloc, &PlainMmcs, &opened.commitment, &shape, index, rows)
+}
+
+#[test]
+fn a_row_verified_twice(rt: HostRuntime) -> Result<(), Fail> {
+    let alloc = rt.alloc();
+    let faults = faults_at(alloc, 1)?;
+    assert!(rt; matches!(&faults, (None, None)));
+    let faults = faults_at(alloc, 0)?;
+    assert!(rt;
+        matches!(
+            &faults,
+            (Some(PlainMmcsError::Value), Some(PlainMmcsError::Value))
+        )
+    );
+    let faults = faults_at(alloc, 2)?;
+    assert!(rt;
+        matches!(
+            &faults,
+            (Some(PlainMmcsError::Index), Some(PlainMmcsError::Index))
+        )
+    );
     Ok(())
 }

@@ -14,9 +14,9 @@ mod opening;
 #[cfg(test)]
 mod quotient;
 #[cfg(test)]
-mod rounds;
-#[cfg(test)]
 mod scheme;
+#[cfg(test)]
+mod several;
 #[cfg(test)]
 mod texts;
 #[cfg(test)]

@@ -1,6 +1,7 @@
 //! Worked values of multilinear polynomials of one and two variables.
 use p3_challenger::Sha256Challenger;
 use p3_commit::{MultilinearPcs, PcsFailure};
+use p3_commit_caller::witness_verified;
 use p3_field::{BabyBear, BasedVectorSpace, ExtensionField, FieldCore, QuarticExtension, RingCore};
 use plain_pcs::{
     PlainEvaluations, PlainMultilinear, PlainMultilinearError, PlainMultilinearProverError,
@@ -178,6 +179,44 @@ fn refused_points(rt: HostRuntime) -> Result<(), Fail> {
         matches!(
             &answer,
             Err(PcsFailure::Refused(PlainMultilinearError::Length))
+        )
+    );
+    Ok(())
+}
+
+// What is opened of values at points, by the caller of any scheme.
+fn opened(
+    alloc: Global,
+    values: Vec<BabyBear>,
+    points: &Vec<Vec<QuarticExtension>>,
+) -> Result<Vec<QuarticExtension>, ProverRefusal> {
+    let pcs = PlainMultilinear::<BabyBear>::new(1);
+    let start = Sha256Challenger::new();
+    let (_commitment, values) = witness_verified(alloc, &pcs, values, points, start)?;
+    Ok(values)
+}
+
+#[test]
+fn a_line_by_the_caller(rt: HostRuntime) -> Result<(), Fail> {
+    let alloc = rt.alloc();
+    let points = vec![in alloc; vec![in alloc; quartic(3)]?]?;
+    let values = opened(alloc, vec![in alloc; bear(5), bear(9)]?, &points)
+        .ok()
+        .ok_or("refused")?;
+    assert_eq!(rt; values.as_slice(), [quartic(17)].as_slice());
+    let answer = opened(alloc, vec![in alloc; bear(5), bear(9), bear(6)]?, &points);
+    assert!(rt;
+        matches!(
+            &answer,
+            Err(PcsFailure::Refused(PlainMultilinearProverError::Length))
+        )
+    );
+    let points = vec![in alloc; vec![in alloc; quartic(3), quartic(4)]?]?;
+    let answer = opened(alloc, vec![in alloc; bear(5), bear(9)]?, &points);
+    assert!(rt;
+        matches!(
+            &answer,
+            Err(PcsFailure::Refused(PlainMultilinearProverError::PointLength { point: 0 }))
         )
     );
     Ok(())

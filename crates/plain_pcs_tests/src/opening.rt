@@ -3,7 +3,7 @@
 ghost use Rattle.std.specs.Prelude.{◌≡◌, IfOk, length};
 ghost use Rattle.plain_pcs.specs.Holding.{IsMade};
 
-use crate::scheme::{Coset, Plain, bear, committed, scheme};
+use crate::scheme::{Coset, Plain, bear, committed, preprocessed, scheme};
 use p3_challenger::Sha256Challenger;
 use p3_commit::{CommitmentOpening, OpenedValues, OpeningRequest, Pcs, UnivariateStarkPcs};
 use p3_field::{BabyBear, FieldCore, Mem, RingCore};
@@ -76,11 +76,17 @@ fn opened_at_a_point(rt: HostRuntime) -> Result<(), Fail> {
 }
 
 #[test]
-fn opened_as_preprocessed(rt: HostRuntime) -> Result<(), Fail> {
+fn preprocessed_columns_evaluated_and_opened(rt: HostRuntime) -> Result<(), Fail> {
     let alloc = rt.alloc();
     let scheme = scheme()?;
     let domain = Coset::new(bear(1), 1).ok_or("no coset")?;
-    let (commitment, kept) = committed(alloc, &scheme, domain)?;
+    let (commitment, kept) = preprocessed(alloc, &scheme, domain)?;
+    let one = Coset::new(bear(31), 0).ok_or("no coset")?;
+    let values = <Plain as UnivariateStarkPcs<
+        BabyBear,
+        Sha256Challenger,
+    >>::get_evaluations_on_domain(&scheme, alloc, &kept, 0, one)?;
+    assert_eq!(rt; values.as_slice(), [-bear(55)].as_slice());
     let points = vec![in alloc; vec![in alloc; bear(3)]?]?;
     let requests = vec![in alloc; OpeningRequest::from((&kept, points))]?;
     let mut challenger = Sha256Challenger::new();

@@ -6,6 +6,7 @@ ghost use Rattle.p3_matrix.specs.Matrix.{height};
 use crate::scheme::{Coset, Plain, bear, only_values, pair, scheme};
 use p3_challenger::Sha256Challenger;
 use p3_commit::{PcsFailure, PeriodicLdeTable, PolynomialSpace, UnivariateStarkPcs};
+use p3_commit_caller::quotient_committed_twice;
 use p3_dft::Radix2Dit;
 use p3_field::{BabyBear, FieldCore, Mem, RingCore};
 use plain_pcs::{PlainCommitment, PlainPcs, PlainProverError};
@@ -155,5 +156,71 @@ fn a_periodic_column(rt: HostRuntime) -> Result<(), Fail> {
     assert_eq!(rt; *table.get(0, 0), -bear(1915));
     assert_eq!(rt; *table.get(2, 0), bear(1929));
     assert_eq!(rt; *table.get(4, 0), -bear(1915));
+    Ok(())
+}
+
+// The commitments to the column in two parts by the caller of any scheme, or why they are refused.
+fn committed_twice(
+    alloc: Global,
+    scheme: &Plain,
+    domain: Coset,
+) -> Result<(PlainCommitment<BabyBear>, PlainCommitment<BabyBear>), PcsFailure<PlainProverError>>
+    requires { domain.log_size ≡ 1 }
+{
+    quotient_committed_twice::<BabyBear, Sha256Challenger, Plain>(
+        alloc,
+        scheme,
+        domain,
+        pair(alloc)?,
+        2,
+    )
+}
+
+#[test]
+fn two_parts_committed_twice(rt: HostRuntime) -> Result<(), Fail> {
+    let alloc = rt.alloc();
+    let domain = Coset::new(bear(31), 1).ok_or("no coset")?;
+    let (steps, once) = committed_twice(alloc, &scheme()?, domain)
+        .ok()
+        .ok_or("refused")?;
+    assert_eq!(rt; only_values(&steps)?, [bear(5), bear(5)].as_slice());
+    assert_eq!(rt; only_values(&once)?, [bear(5), bear(5)].as_slice());
+    let last = steps.matrices.last().ok_or("no matrix")?;
+    assert_eq!(rt; last.as_slice(), [bear(9), bear(9)].as_slice());
+    let last = once.matrices.last().ok_or("no matrix")?;
+    assert_eq!(rt; last.as_slice(), [bear(9), bear(9)].as_slice());
+    Ok(())
+}
+
+// The table of no columns over four rows, on a domain of eight points.
+fn table_of_none(
+    alloc: Global,
+    scheme: &Plain,
+    trace_domain: Coset,
+    quotient_domain: Coset,
+) -> Mem<PeriodicLdeTable<BabyBear>>
+    requires shift { trace_domain.shift ≡ bear_ring.one }
+    requires trace { trace_domain.log_size ≡ 2 }
+    requires quotient { quotient_domain.log_size ≡ 3 }
+    ensures { IfOk result (λ t. t.width ≡ 0) }
+{
+    <Plain as UnivariateStarkPcs<BabyBear, Sha256Challenger>>::build_periodic_lde_table(
+        scheme,
+        alloc,
+        &[],
+        trace_domain,
+        quotient_domain,
+    )
+}
+
+#[test]
+fn no_periodic_column(rt: HostRuntime) -> Result<(), Fail> {
+    let alloc = rt.alloc();
+    let scheme = scheme()?;
+    let trace_domain = four_rows()?;
+    let quotient_domain = Coset::new(bear(31), 3).ok_or("no coset")?;
+    let table = table_of_none(alloc, &scheme, trace_domain, quotient_domain)?;
+    assert!(rt; table.is_empty());
+    assert_eq!(rt; (table.height(), table.width()), (0, 0));
     Ok(())
 }

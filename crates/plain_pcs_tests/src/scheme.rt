@@ -5,6 +5,7 @@ ghost use Rattle.plain_pcs.specs.Holding.{IsMade};
 
 use p3_challenger::{CanObserve, Sha256Challenger};
 use p3_commit::{OpeningRequest, Pcs, PcsFailure, UnivariateStarkPcs};
+use p3_commit_caller::committed_and_evaluated;
 use p3_dft::Radix2Dit;
 use p3_field::{
     BabyBear, ExtensionField, FieldCore, Mem, QuarticExtension, RingCore, TwoAdicCore,
@@ -49,7 +50,9 @@ pub fn committed(alloc: Global, scheme: &Plain, domain: Coset) -> Result<Made, F
 }
 
 // The same by `commit_preprocessing`.
-fn preprocessed(alloc: Global, scheme: &Plain, domain: Coset) -> Result<Made, Fail> {
+pub fn preprocessed(alloc: Global, scheme: &Plain, domain: Coset) -> Result<Made, Fail>
+    ensures { IfOk result (λ w. IsMade w.1 × (length w.1 ≡ 1)) }
+{
     let columns = vec![in alloc; (domain, pair(alloc)?)]?;
     match <Plain as UnivariateStarkPcs<QuarticExtension, Sha256Challenger>>::commit_preprocessing(
         scheme, alloc, columns,
@@ -197,38 +200,40 @@ fn domains_and_heights(rt: HostRuntime) -> Result<(), Fail> {
     Ok(())
 }
 
-// The values on a domain of the polynomial 7 - 2 X, which is committed to on the points 1 and -1.
-fn values_on(alloc: Global, domain: Coset) -> Result<RowMajorMatrix<BabyBear>, Fail> {
-    let scheme = scheme()?;
+// The values on four points of the second of two matrices, the constant column 2 and the column 5, 9, or why the first is
+// refused on so large a domain.
+fn second_evaluated(
+    alloc: Global,
+    log_first: usize,
+) -> Result<Result<RowMajorMatrix<BabyBear>, PlainProverError>, Fail> {
+    let first = Coset::new(bear(1), log_first).ok_or("no coset")?;
     let own = Coset::new(bear(1), 1).ok_or("no coset")?;
-    let (_commitment, kept) = committed(alloc, &scheme, own)?;
-    let values = <Plain as UnivariateStarkPcs<
-        BabyBear,
-        Sha256Challenger,
-    >>::get_evaluations_on_domain(&scheme, alloc, &kept, 0, domain)?;
-    Ok(values)
-}
-
-#[test]
-fn values_on_a_smaller_domain(rt: HostRuntime) -> Result<(), Fail> {
-    let alloc = rt.alloc();
-    let one = Coset::new(bear(31), 0).ok_or("no coset")?;
-    let values = values_on(alloc, one)?;
-    assert_eq!(rt; (values.height(), values.width()), (1, 1));
-    assert_eq!(rt; values.as_slice(), [-bear(55)].as_slice());
-    Ok(())
+    let four = Coset::new(bear(1), 2).ok_or("no coset")?;
+    let column = RowMajorMatrix::new_col(vec![in alloc; bear(2), bear(2)]?);
+    let columns = vec![in alloc; (first, column), (own, pair(alloc)?)]?;
+    match committed_and_evaluated::<BabyBear, Sha256Challenger, Plain>(
+        alloc,
+        &scheme()?,
+        columns,
+        1,
+        four,
+    ) {
+        Ok((_commitment, values)) => Ok(Ok(values)),
+        Err(PcsFailure::Refused(error)) => Ok(Err(error)),
+        Err(PcsFailure::OutOfMemory) => Err("no memory".into()),
+    }
 }
 
 // The points are 1, r, -1 and -r, where r = 1728404513 is a root of -1.
 #[test]
-fn values_on_a_larger_domain(rt: HostRuntime) -> Result<(), Fail> {
+fn the_second_matrix_on_a_larger_domain(rt: HostRuntime) -> Result<(), Fail> {
     let alloc = rt.alloc();
-    let four = Coset::new(bear(1), 2).ok_or("no coset")?;
-    let values = values_on(alloc, four)?;
-    assert_eq!(rt; (values.height(), values.width()), (4, 1));
+    let values = second_evaluated(alloc, 1)?.ok().ok_or("refused")?;
     assert_eq!(rt;
         values.as_slice(),
         [bear(5), bear(569722823), bear(9), bear(1443543112)].as_slice()
     );
+    let refusal = second_evaluated(alloc, 2)?.err();
+    assert_eq!(rt; refusal, Some(PlainProverError::Commit { matrix: 0 }));
     Ok(())
 }
