@@ -5,6 +5,7 @@ ghost use Rattle.p3_field.specs.Ring.{of_nat};
 ghost use Rattle.p3_field.specs.declared.quartic.QuarticExtension.{QuarticExtension};
 ghost use Rattle.p3_challenger.specs.Grind.{Checked, IsLeast, checked_state};
 ghost use Rattle.p3_commit.specs.Commitments.{nested};
+ghost use Rattle.p3_commit.specs.Failure.{IfRefused};
 ghost use Rattle.p3_commit.specs.Space.{IsPoint};
 ghost use Rattle.batch_tool.specs.Opening.{requests_at as requested_at, three_lists as three, AreTheThree, IsOpenedBy, OpensThree};
 
@@ -80,7 +81,7 @@ type Opening<E, C, P> = Result<
     PcsFailure<<P as Pcs<E, C>>::ProverError>,
 >;
 
-/// Opens at zeta, unless it lies in the trace domain.
+/// Opens at zeta, unless it lies in the trace domain. Where it does, and where the scheme refuses, the challenger stays as it was.
 fn opened_outside<E: ExtensionField<P::Val>, C, P: Pcs<E, C>>(
     alloc: Global,
     pcs: &P,
@@ -98,6 +99,7 @@ fn opened_outside<E: ExtensionField<P::Val>, C, P: Pcs<E, C>>(
         (P.holds pcs.now) (P.excludes pcs.now) (P.opens pcs.now challenger.old) requests r) }
     ensures after { let requests = requested_at main.now quotient.now zeta next in
         IfSome result (λ r. IfOk r (λ w. challenger.new ≡ P.after_open pcs.now challenger.old requests w.1)) }
+    ensures unchanged { MatchOption result (challenger.new ≡ challenger.old) (λ r. IfRefused r (λ _. challenger.new ≡ challenger.old)) }
 {
     if domain.vanishing_poly_at_point(zeta).is_zero() {
         return None;
@@ -109,8 +111,8 @@ fn opened_outside<E: ExtensionField<P::Val>, C, P: Pcs<E, C>>(
 }
 
 /// Grinds, draws zeta, and opens there what is committed of a table: the grinding value, zeta, and what the scheme opens.
-/// `step` is the generator of the trace domain. None where no element passes the grinding, and nothing is opened where zeta
-/// lies in the trace domain.
+/// `step` is the generator of the trace domain. None where no element passes the grinding, which leaves the challenger as it
+/// was, and nothing is opened where zeta lies in the trace domain, which leaves it behind zeta's draw, as a refusal does.
 pub fn open_at_zeta<E: ExtensionField<P::Val>, C, P: Pcs<E, C>>(
     alloc: Global,
     pcs: &P,
@@ -138,6 +140,8 @@ where
     ensures after { IfSome result (λ d. let state = C.after_draw (checked_state C.observed C.after_bits challenger.old bits d.0) in
         let requests = requested_at main.now quotient.now d.1.zeta (E.ring.mul step d.1.zeta) in
         IfSome d.1.opening (λ r. IfOk r (λ w. challenger.new ≡ P.after_open pcs.now state requests w.1))) }
+    ensures state { MatchOption result (challenger.new ≡ challenger.old) (λ d. let state = C.after_draw (checked_state C.observed C.after_bits challenger.old bits d.0) in
+        MatchOption d.1.opening (challenger.new ≡ state) (λ r. IfRefused r (λ _. challenger.new ≡ state))) }
 {
     let witness = challenger.grind(bits)?;
     let zeta = challenger.sample();

@@ -139,7 +139,8 @@ fn fault_at<E: ExtensionField<P::Val>, C, P: Pcs<E, C>>(
 }
 
 /// Tests the grinding value, draws zeta, and verifies what a table's proof claims there: the first fault, or None where the
-/// proof opens the claims. None in place of all where the grinding value doesn't pass.
+/// proof opens the claims. None in place of all where the grinding value doesn't pass, and then the challenger is behind the
+/// test alone.
 pub fn verify_at_zeta<E: ExtensionField<P::Val>, C, P: Pcs<E, C>>(
     alloc: Global,
     pcs: &P,
@@ -163,6 +164,7 @@ where
     ensures after { IfSome result (λ d. let state = C.after_draw (checked_state C.observed C.after_bits challenger.old bits witness) in
         let claims = claimed_at domains.trace domains.quotient commitments.0 commitments.1 values.now.trace_local.items values.now.trace_next.items values.now.chunk_values.items d.zeta (E.ring.mul domains.step d.zeta) in
         d.opening ≡ Ok None → challenger.new ≡ P.after_verify pcs.now state claims proof.now) }
+    ensures state { result ≡ None → challenger.new ≡ checked_state C.observed C.after_bits challenger.old bits witness }
 {
     if !challenger.check_witness(bits, witness) {
         return None;

@@ -117,16 +117,16 @@ fn drawn_values(
     table: &SwapTable,
     main: &Committed,
     quotient: &Committed,
-    challenger: &mut Sha256Challenger,
+    mut challenger: Sha256Challenger,
 ) -> Option<(BabyBear, OpenedAtZeta)>
     requires few { table.now.log_rows ≤ 10 }
     requires main { (k : ℕ) × ((fs : List (List BabyBear)) × IsCommittedTo k fs main.now.commitment main.now.kept) }
     requires quotient { (k : ℕ) × ((fs : List (List BabyBear)) × IsCommittedTo k fs quotient.now.commitment quotient.now.kept) }
     ensures drawn { MatchOption result
-        ((n : ℕ) → n < 2013265921 → passes tool.challenger challenger.old 4 (of_nat bear_ring n ∷ []) ≡ false)
-        (λ p. (passes tool.challenger challenger.old 4 (p.0 ∷ []) ≡ true)
-        × ((n : ℕ) → n < p.0.value → passes tool.challenger challenger.old 4 (of_nat bear_ring n ∷ []) ≡ false)
-        × (quartic_parts p.1.zeta ≡ draw_all tool.challenger (after_grinding tool.challenger challenger.old 4 (p.0 ∷ [])) 4)) }
+        ((n : ℕ) → n < 2013265921 → passes tool.challenger challenger 4 (of_nat bear_ring n ∷ []) ≡ false)
+        (λ p. (passes tool.challenger challenger 4 (p.0 ∷ []) ≡ true)
+        × ((n : ℕ) → n < p.0.value → passes tool.challenger challenger 4 (of_nat bear_ring n ∷ []) ≡ false)
+        × (quartic_parts p.1.zeta ≡ draw_all tool.challenger (after_grinding tool.challenger challenger 4 (p.0 ∷ [])) 4)) }
     ensures domain { IfSome result (λ d. MatchOption d.1.opening (IsInTraceDomain tool (instance_of table.now) d.1.zeta) (λ _. IsInTraceDomain tool (instance_of table.now) d.1.zeta → ⊥)) }
     ensures values { IfSome result (λ d. IfSome d.1.opening (λ o. IfOk o (λ v. (k : ℕ) (fs gs : List (List BabyBear))
         → IsCommittedTo k fs main.now.commitment main.now.kept → IsCommittedTo k gs quotient.now.commitment quotient.now.kept
@@ -141,7 +141,7 @@ fn drawn_values(
         domains.step,
         &main.kept,
         &quotient.kept,
-        challenger,
+        &mut challenger,
     );
     match drawn {
         None => None,
@@ -202,6 +202,6 @@ pub fn prove(alloc: Global, table: &SwapTable, line: Line) -> Mem<(Status, Vec<u
     let (main, alpha) = commit_trace(alloc, table, &mut challenger)?;
     let quotient = commit_quotient(alloc, table, &main, alpha)?;
     challenger.observe(&quotient.commitment);
-    let drawn = drawn_values(alloc, table, &main, &quotient, &mut challenger);
+    let drawn = drawn_values(alloc, table, &main, &quotient, challenger);
     drawn_answer(alloc, table, main, quotient, drawn, line)
 }

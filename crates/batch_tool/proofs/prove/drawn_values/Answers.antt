@@ -25,7 +25,7 @@ returns-in-None-clause-drawn c = λ n h. nonzero-fails _ (c.in-None.ensures.witn
 pub returns-in-Some-clause-drawn : goal.returns-in-Some-clause-drawn
 unfolding tool
 returns-in-Some-clause-drawn c =
-    let old = c.args.challenger.now in
+    let old = c.args.challenger in
     let w = c.in-Some.witness in
     let P : BabyBear → Type 0 = λ x. bits_drawn (observed old x) 4 ≡ 0 in (
       zero-passes (bits_drawn (observed old w) 4) (subst P (bear_of_canonical w) c.in-Some.ensures.witness.meets),
