@@ -1,6 +1,9 @@
 -- What is proved of the definitions, by subject.
 pub mod Symbolic
 pub mod Bits
+pub mod Lists
+pub mod Packing
+pub mod Appended
 pub mod Gadgets
 pub mod Words
 pub mod Stand

@@ -5,6 +5,8 @@ pub mod Operation
 pub mod Asserting
 pub mod Degree
 pub mod Gadgets
+pub mod Joined
+pub mod Appended
 pub mod Words
 pub mod PointValues
 pub mod RowCheck

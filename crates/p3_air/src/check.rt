@@ -66,8 +66,9 @@ fn periodic_at<F: Field>(alloc: Global, columns: &[Vec<F>], row: usize) -> Mem<V
     Ok(values)
 }
 
-// A row of the preprocessed trace, which is empty where there is none.
-fn preprocessed_at<'a, F>(trace: Option<&'a RowMajorMatrix<F>>, row: usize) -> &'a [F]
+/// A row of a preprocessed trace: empty where there is none, so that it has as many values as the trace has columns
+/// (own; upstream's callers take the row of the optional trace in place).
+pub fn preprocessed_at<'a, F>(trace: Option<&'a RowMajorMatrix<F>>, row: usize) -> &'a [F]
     requires { IfSome trace (λ m. row < height m.now) }
     ensures values { result.now ≡ preprocessed_row (option_map (λ m. m.now) trace.entry) row }
     ensures len { length result.now ≡ width_of (option_map (λ m. m.now) trace.entry) }

@@ -31,7 +31,7 @@ pub use base::{Air, BaseAir};
 pub use base_cells::BaseCells;
 pub use builder::{AirBuilder, ExtensionBuilder, InteractionBuilder, PermutationAirBuilder};
 pub use cells::{Cell, Count, ExtCell};
-pub use check::{CheckFailure, check_constraints};
+pub use check::{CheckFailure, check_constraints, preprocessed_at};
 pub use debug::{DebugConstraintBuilder, RowValues};
 pub use gadgets::{add2, add3, pack_bits_le, u32_to_bits_le, xor, xor_32_shift};
 pub use layout::{AirLayout, ConstraintLayout};

@@ -1,6 +1,6 @@
 -- What the gadgets' trees mean, over each prime field of more than 2^20 elements.
-use Rattle.std.proofs.Common.{◌≡◌, ℕ, zero, suc, ◌+◌, ◌*◌, ◌/◌, ◌%◌, ◌^◌, ◌<◌, ◌≤◌, ◌⊎◌, inl, inr, List, [], ◌∷◌, ◌++◌, map, refl, sym, ◌∙◌, ap, arith, lit<, zero-add, add-zero}
-use Rattle.std.specs.Prelude.{All, bit_xor}
+use Rattle.std.proofs.Common.{◌≡◌, ℕ, zero, suc, ◌+◌, ◌*◌, ◌/◌, ◌%◌, ◌^◌, ◌<◌, ◌≤◌, ◌⊎◌, inl, inr, [], ◌∷◌, map, refl, sym, ◌∙◌, ap, arith, lit<, zero-add, add-zero}
+use Rattle.std.specs.Prelude.{bit_xor}
 use Rattle.std.specs.Int.{rotate_left, w32}
 use Rattle.std.proofs.lemmas.Bool.{cases_eq, cases_lt}
 use Rattle.std.proofs.lemmas.List.Elements.{All-nil, All-cons, All-head, All-tail, All-append}
@@ -17,6 +17,7 @@ use Rattle.p3_air.specs.declared.cells.ExtCell.{ExtCell}
 use Rattle.p3_air.specs.Tree.{Tree, Reading, ev, difference, bool_tree}
 use Rattle.p3_air.specs.Gadgets.{less_two, less_three, with_high, zero_or_one, zero_to_two, packed, xor_shift_bit, xor_shift_trees, rotated_place}
 use Rattle.p3_air.specs.Words.{PrimeFieldLaws, cells_reading, Vanish, HaveValues, AreBits, limbs_word, limb, bits_number, bits_word, Add2Means, Add3Means, PackMeans, PackSums, XorShiftMeans}
+use Rattle.p3_air.specs.Laws.Lists.{all_left, all_right, all_of_mapped, all_mapped}
 use Rattle.p3_air.specs.Laws.Bits.{xor_value, of_one, bool_value}
 use Rattle.p3_air.specs.Laws.Words.{turned_bit, turned_bits, xor_of_bits, low_limb, high_limb}
 
@@ -65,24 +66,6 @@ pub record Carried {A : Type 0} (r : Ring A) (K n m k : ℕ) : Type 0 where
   pub most : carry ≤ K
   pub same : of_nat r (m + n * carry) ≡ of_nat r k
 
-all_left : {X : Type 0} (Q : X → Type 0) (xs ys : List X) → All Q (xs ++ ys) → All Q xs
-all_left Q [] ys h = All-nil Q
-all_left Q (x ∷ xs) ys h = All-cons Q x xs (All-head Q x (xs ++ ys) h) (all_left Q xs ys (All-tail Q x (xs ++ ys) h))
-
-all_right : {X : Type 0} (Q : X → Type 0) (xs ys : List X) → All Q (xs ++ ys) → All Q ys
-all_right Q [] ys h = h
-all_right Q (x ∷ xs) ys h = all_right Q xs ys (All-tail Q x (xs ++ ys) h)
-
--- what holds of f at each item of a table
-table_all : {X Y : Type 0} (Q : Y → Type 0) (f : X → Y) (n : ℕ) (t : ℕ → X) → All Q (map f (table n t)) → (k : ℕ) → k < n → Q (f (t k))
-table_all Q f zero t h k lt = absurd (omega (arith, lt))
-table_all Q f (suc n) t h zero lt = All-head Q (f (t zero)) (map f (table n (λ i. t (suc i)))) h
-table_all Q f (suc n) t h (suc k) lt = table_all Q f n (λ i. t (suc i)) (All-tail Q (f (t zero)) (map f (table n (λ i. t (suc i)))) h) k (omega (arith, lt))
-
-all_table : {X Y : Type 0} (Q : Y → Type 0) (f : X → Y) (n : ℕ) (t : ℕ → X) → ((k : ℕ) → k < n → Q (f (t k))) → All Q (map f (table n t))
-all_table Q f zero t h = All-nil Q
-all_table Q f (suc n) t h = All-cons Q (f (t zero)) (map f (table n (λ i. t (suc i)))) (h zero (omega arith)) (all_table Q f n (λ i. t (suc i)) (λ k lt. h (suc k) (omega (arith, lt))))
-
 two_places : (Q : ℕ → Type 0) → Q 0 → Q 1 → (k : ℕ) → k < 2 → Q k
 two_places Q a b zero h = a
 two_places Q a b (suc zero) h = b
@@ -105,7 +88,7 @@ module _ {A : Type 0} (r : Ring A) (inv : A → A) (order : ℕ) (canonical : A 
   same_number m n a b e =
       sym (mod-eq_of_lt a) ∙ (sym (P.canonical_of m) ∙ (ap canonical e ∙ (P.canonical_of n ∙ mod-eq_of_lt b)))
 
-  canonical_zero : canonical r.zero ≡ 0
+  pub canonical_zero : canonical r.zero ≡ 0
   unfolding of_nat
   canonical_zero = P.canonical_of 0 ∙ zero-mod order
 
@@ -121,6 +104,17 @@ module _ {A : Type 0} (r : Ring A) (inv : A → A) (order : ℕ) (canonical : A 
   zero_factor x y e = elim (zero_or_not x) [
     | inl h ↦ inl h
     | inr d ↦ inr (field_no_zero_divisors r P.ring_laws inv P.field_laws x y d e)
+  ]
+
+  -- x (x - 1) is zero only where x is zero or one
+  pub value_bool : 2 ^ 20 < order → (x : A) → r.mul x (sub r x r.one) ≡ r.zero → canonical x < 2
+  value_bool o x e = elim (zero_factor x (sub r x r.one) e) [
+    | inl h ↦ let z : canonical x ≡ 0 = ap canonical h ∙ canonical_zero in omega (arith, z)
+    | inr h ↦
+        let one : x ≡ of_nat r 1 = sub_zero r P.ring_laws x r.one h ∙ sym (of_one r P.ring_laws) in
+        let b : 1 < order = omega (arith, o) in
+        let z : canonical x ≡ 1 = ap canonical one ∙ (P.canonical_of 1 ∙ mod-eq_of_lt b) in
+        omega (arith, z)
   ]
 
   -- a number below the order that isn't zero is no zero
@@ -351,16 +345,6 @@ module _ {A : Type 0} (r : Ring A) (inv : A → A) (order : ℕ) (canonical : A 
         ∙ total_same r P.ring_laws n (λ i. r.mul (of_nat r (2 ^ i)) (ev rd (t (0 + i)))) (λ i. r.mul (of_nat r (2 ^ i)) (ev rd (t i)))
         (λ i h. ap (λ j. r.mul (of_nat r (2 ^ i)) (ev rd (t j))) (zero-add i))
 
-    value_bool : 2 ^ 20 < order → (x : A) → r.mul x (sub r x r.one) ≡ r.zero → canonical x < 2
-    value_bool o x e = elim (zero_factor x (sub r x r.one) e) [
-      | inl h ↦ let z : canonical x ≡ 0 = ap canonical h ∙ canonical_zero in omega (arith, z)
-      | inr h ↦
-          let one : x ≡ of_nat r 1 = sub_zero r P.ring_laws x r.one h ∙ sym (of_one r P.ring_laws) in
-          let b : 1 < order = omega (arith, o) in
-          let z : canonical x ≡ 1 = ap canonical one ∙ (P.canonical_of 1 ∙ mod-eq_of_lt b) in
-          omega (arith, z)
-    ]
-
     -- the values of the xor's trees
     turned_values : (tb tc : ℕ → Tree A) (b c : ℕ → ℕ) (s : ℕ) → AreBits b → AreBits c → HaveValues r rd 32 tb b → HaveValues r rd 32 tc c
         → (i : ℕ) → i < 32 → ev rd (xor_shift_bit r tb tc s i) ≡ of_nat r (turned_bit b c s i)
@@ -391,7 +375,7 @@ module _ {A : Type 0} (r : Ring A) (inv : A → A) (order : ℕ) (canonical : A 
         let second = difference (ta 1) (packed r f 16 16) in (
           λ v.
               let c : ℕ → ℕ = λ k. canonical (ev rd (tc k)) in
-              let c_bits : AreBits c = λ k lt. value_bool o (ev rd (tc k)) (table_all Q (bool_tree r.one) 32 tc (all_left Q bools (first ∷ second ∷ []) v) k lt) in
+              let c_bits : AreBits c = λ k lt. value_bool o (ev rd (tc k)) (all_of_mapped Q (bool_tree r.one) 32 tc (all_left Q bools (first ∷ second ∷ []) v) k lt) in
               let c_values : HaveValues r rd 32 tc c = λ k lt. sym (P.of_canonical (ev rd (tc k))) in
               let halves = all_right Q bools (first ∷ second ∷ []) v in
               record {
@@ -404,7 +388,7 @@ module _ {A : Type 0} (r : Ring A) (inv : A → A) (order : ℕ) (canonical : A 
               },
           λ x.
               All-append Q bools (first ∷ second ∷ [])
-              (all_table Q (bool_tree r.one) 32 tc (λ k lt. bool_value r P.ring_laws (ev rd (tc k)) (x.c k) (x.c_bits k lt) (x.c_values k lt)))
+              (all_mapped Q (bool_tree r.one) 32 tc (λ k lt. bool_value r P.ring_laws (ev rd (tc k)) (x.c k) (x.c_bits k lt) (x.c_values k lt)))
               (two_vanish first second
               (sub_self r P.ring_laws (ev rd (ta 0)) (ev rd (packed r f 0 16)) (x.a_values 0 (lit< tt) ∙ sym (low_half tb tc b x.c s rb x.c_bits hb x.c_values)))
               (sub_self r P.ring_laws (ev rd (ta 1)) (ev rd (packed r f 16 16)) (x.a_values 1 (lit< tt) ∙ sym (high_half tb tc b x.c s rb x.c_bits hb x.c_values)))),

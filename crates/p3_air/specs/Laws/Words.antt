@@ -67,7 +67,7 @@ bit_of_shl_high n k i h =
     let e : n * 2 ^ k ≡ n * 2 ^ k + 0 = omega arith in
     ap (λ m. bit_at m i) e ∙ bit_at_cat_high n k 0 i (pow_pos k) h
 
-bit_of_low : (n w i : ℕ) → i < w → bit_at (n % 2 ^ w) i ≡ bit_at n i
+pub bit_of_low : (n w i : ℕ) → i < w → bit_at (n % 2 ^ w) i ≡ bit_at n i
 bit_of_low n w i h =
     let e : n / 2 ^ w * 2 ^ w + n % 2 ^ w ≡ n = shr_split n w in
     sym (bit_at_cat_low (n / 2 ^ w) w (n % 2 ^ w) i h) ∙ ap (λ m. bit_at m i) e
@@ -108,7 +108,7 @@ bit_of_rotated n s i b h =
           ]
     ]
 
-rotated_below : (n s : ℕ) → n < 2 ^ 32 → rotate_left w32 n s < 2 ^ 32
+pub rotated_below : (n s : ℕ) → n < 2 ^ 32 → rotate_left w32 n s < 2 ^ 32
 rotated_below n s b =
     let k = s % 32 in
     let m = (32 - k) % 32 in

@@ -1,6 +1,6 @@
 use Rattle.std.proofs.Common.{◌≡◌, ◌-◌, ◌<◌, suc, [], length, subst, ◌∙◌, arith}
 use Rattle.p3_air.specs.Tree.{Tree}
-use Rattle.p3_air.proofs.Packing.{packed_turn, packed_none, stand_item}
+use Rattle.p3_air.specs.Laws.Packing.{packed_turn, packed_none, stand_item}
 use Rattle.p3_air.proofs.gadgets.pack_bits_le.Goals as goal
 
 pub loop-i-init : goal.loop-i-init

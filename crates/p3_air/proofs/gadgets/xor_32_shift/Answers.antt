@@ -5,7 +5,7 @@ use Rattle.p3_air.specs.Tree.{over_base, bool_tree, difference}
 use Rattle.p3_air.specs.Gadgets.{xor_shift_bit, xor_shift_trees, packed}
 use Rattle.p3_air.specs.Laws.Stand.{holds_on_err}
 use Rattle.p3_air.specs.Laws.Growth.{none_first, some_of_more, some_after}
-use Rattle.p3_air.proofs.Packing.{stand_later, stand_table}
+use Rattle.p3_air.specs.Laws.Packing.{stand_later, stand_table}
 use Rattle.p3_air.proofs.gadgets.xor_32_shift.Goals as goal
 
 pub returns-clause-grows : goal.returns-clause-grows

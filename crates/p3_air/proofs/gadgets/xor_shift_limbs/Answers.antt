@@ -1,7 +1,7 @@
 use Rattle.std.proofs.Common.{◌≡◌, ◌+◌, ◌≤◌, [], length, subst, rules, arith}
 use Rattle.p3_air.specs.Tree.{Tree}
 use Rattle.p3_air.specs.Gadgets.{xor_shift_bit}
-use Rattle.p3_air.proofs.Packing.{packed_low, packed_high, stand_later, stand_take, stand_tail}
+use Rattle.p3_air.specs.Laws.Packing.{packed_low, packed_high, stand_later, stand_take, stand_tail}
 use Rattle.p3_air.proofs.gadgets.xor_shift_limbs.Goals as goal
 
 pub returns-in_err-low-clause-grows : goal.returns-in_err-low-clause-grows

@@ -1,5 +1,5 @@
 -- One turn of Horner's rule on trees, packed bits from another place on, and expressions that stand for trees.
-use Rattle.std.proofs.Common.{◌≡◌, ℕ, zero, suc, ◌+◌, ◌-◌, ◌<◌, ◌≤◌, List, length, take, drop, get_or, refl, sym, ◌∙◌, ap, subst, arith, length-drop}
+use Rattle.std.proofs.Common.{◌≡◌, ℕ, zero, suc, ◌+◌, ◌-◌, ◌<◌, ◌≤◌, List, [], ◌∷◌, length, take, drop, get_or, refl, sym, ◌∙◌, ap, subst, arith, length-drop}
 use Rattle.std.proofs.lemmas.List.{get_or-take, get_or-drop, length-take}
 use Rattle.p3_field.specs.Ring.{Ring}
 use Rattle.p3_field.specs.Poly.{table}
@@ -66,3 +66,9 @@ packed_high r t es e =
 -- the expressions of a tail, as a slice from a place to the end has them
 pub stand_tail : {E T : Type 0} (P : E → T → Type 0) (es : List E) (t : ℕ → T) → StandAt P es t → (n : ℕ) → StandAt P (take (length es - n) (drop n es)) (λ i. t (n + i))
 stand_tail P es t h n = stand_take P (drop n es) (λ i. t (n + i)) (stand_drop P es t h n) (length es - n) (omega (arith, length-drop n es))
+
+-- two expressions and the trees of their places
+pub stand_pair : {E T : Type 0} (P : E → T → Type 0) (x y : E) (t : ℕ → T) → P x (t 0) → P y (t 1) → (k : ℕ) (d : E) → k < length (x ∷ y ∷ []) → P (get_or (x ∷ y ∷ []) k d) (t k)
+stand_pair P x y t a b zero d lt = a
+stand_pair P x y t a b (suc zero) d lt = b
+stand_pair P x y t a b (suc (suc k)) d lt = absurd (omega (arith, lt))
