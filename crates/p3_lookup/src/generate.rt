@@ -2,9 +2,7 @@
 ghost use Rattle.std.specs.Prelude.{◌≡◌, ℕ, ◌+◌, ◌*◌, ◌<◌, ◌≤◌, ◌++◌, List, [], ◌∷◌, length, map, drop, All, Option, IfOk, IfSome, MatchResult};
 ghost use Rattle.std.specs.Option.{option_map};
 ghost use Rattle.p3_matrix.specs.Matrix.{height};
-ghost use Rattle.p3_air.specs.Shape.{width_of};
 ghost use Rattle.p3_air.specs.RowCheck.{row_shape};
-ghost use Rattle.p3_air.specs.Check.{preprocessed_row};
 ghost use Rattle.p3_lookup.specs.Lookup.{IsLookup, sent};
 ghost use Rattle.p3_lookup.specs.Written.{read, read_all};
 ghost use Rattle.p3_lookup.specs.Term.{sum_of, quotient, HasInverses};
@@ -16,7 +14,7 @@ use crate::lookup::Lookup;
 use crate::term::Term;
 use crate::terminal::{GenerateError, LookupTerminal};
 use crate::values::push_terms;
-use p3_air::RowValues;
+use p3_air::{RowValues, preprocessed_at};
 use p3_field::{ExtensionField, Field, FieldCore, Mem, PrimeCharacteristicRing, RingCore};
 use p3_matrix::{RowMajorMatrix, batch_multiplicative_inverse};
 use std::alloc::Global;
@@ -60,18 +58,6 @@ fn push_lookups<'a, F: Field, EF: ExtensionField<F>>(
         push_lookup(terms, &lookups[i], cells, pair, (row, i))?;
     }
     Ok(())
-}
-
-// A row of the preprocessed trace, which is empty where there is none.
-fn preprocessed_at<'a, F>(trace: Option<&'a RowMajorMatrix<F>>, row: usize) -> &'a [F]
-    requires { IfSome trace (λ m. row < height m.now) }
-    ensures values { result.now ≡ preprocessed_row (option_map (λ m. m.now) trace.entry) row }
-    ensures len { length result.now ≡ width_of (option_map (λ m. m.now) trace.entry) }
-{
-    match trace {
-        Some(m) => m.row(row),
-        None => &[],
-    }
 }
 
 // Appends the terms of all lookups at a row of a table, or gives the first whose denominator is zero.

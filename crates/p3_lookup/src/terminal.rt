@@ -12,10 +12,11 @@ pub struct LookupTerminal<EF>(pub EF);
 /// What is wrong with the lookups of a batch (`p3_lookup::LookupError`).
 #[derive(Debug, Drop, Error)]
 pub enum LookupError {
-    /// On this bus the counts may add up to the order of the field.
-    #[error("the multiplicities of bus {bus} may reach the order of the field")]
+    /// On this bus, and on none before it, the sum of the bounds of all counts, each times its table's height, reaches the
+    /// order of the field.
+    #[error("bus {bus}: the sum of bounds times heights reaches the order of the field")]
     MultiplicityBound {
-        /// The bus.
+        /// The number of the bus.
         bus: usize,
     },
     /// A permutation row of this table has another length.

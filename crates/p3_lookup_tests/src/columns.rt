@@ -1,0 +1,131 @@
+//! Permutation columns of worked tables.
+ghost use Rattle.std.specs.Prelude.{◌≡◌, ◌*◌, ◌<◌, IfOk, length};
+
+use crate::support::{bear, bears, cell, generated, on_bus, single, take, take_both};
+use p3_field::{BabyBear, FieldCore, RingCore};
+use p3_lookup::{GenerateError, Kind, LookupTerminal};
+use p3_matrix::RowMajorMatrix;
+use std::alloc::Global;
+use std::process::Abort;
+use std::test::Fail;
+
+type Answer = Result<(RowMajorMatrix<BabyBear>, LookupTerminal<BabyBear>), GenerateError>;
+
+// Compares the cells of an answer, row after row, its width and its terminal.
+fn assert_columns(
+    rt: &impl Abort,
+    answer: &Answer,
+    cells: &[BabyBear],
+    width: usize,
+    terminal: BabyBear,
+) {
+    match answer {
+        Ok((columns, end)) => {
+            assert_eq!(rt; columns.width(), width);
+            assert_eq!(rt; columns.as_slice(), cells);
+            assert_eq!(rt; end.0, terminal);
+        }
+        Err(_) => assert!(rt; false),
+    }
+}
+
+// The row, the lookup and the tuple of the denominator that is zero.
+fn zero_of(answer: &Answer) -> Option<(usize, usize, usize)> {
+    match answer {
+        Err(GenerateError::DenominatorZero { row, lookup, tuple }) => Some((*row, *lookup, *tuple)),
+        _ => None,
+    }
+}
+
+// 1 / (7 - 5) is a half; 5 - 5 is zero.
+#[test]
+fn one_row(rt: HostRuntime) -> Result<(), Fail> {
+    let alloc = rt.alloc();
+    let half = bear(1_006_632_961);
+    let lookups = vec![in alloc; take(alloc, Kind::Local, 1)?]?;
+    let answer = generated(alloc, &[5], &lookups, &[bear(7), bear(3)]);
+    assert_columns(&rt, &answer, &[bear(0), half], 2, half);
+    let answer = generated(alloc, &[5], &lookups, &[bear(5), bear(3)]);
+    assert_eq!(rt; zero_of(&answer), Some((0, 0, 0)));
+    Ok(())
+}
+
+// Over 7 the cells 5, 6, 3 have the denominators 2, 1, 4, and over 4 they have -1, -2, 1. So with a count of 2 the
+// fractions are 1, 2, 1/2 and -2, -1, 2.
+#[test]
+fn two_lookups(rt: HostRuntime) -> Result<(), Fail> {
+    let alloc = rt.alloc();
+    let lookups = vec![in alloc;
+        take(alloc, on_bus(alloc, "values")?, 2)?,
+        take(alloc, Kind::Local, 2)?,
+    ]?;
+    let challenges = [bear(7), bear(3), bear(4), bear(3)];
+    let answer = generated(alloc, &[5, 6, 3], &lookups, &challenges);
+    let half = bear(1_006_632_961);
+    let cells = [
+        bear(0),
+        bear(1),
+        -bear(2),
+        -bear(1),
+        bear(2),
+        -bear(1),
+        bear(0),
+        half,
+        bear(2),
+    ];
+    assert_columns(&rt, &answer, &cells, 3, bear(2) + half);
+    Ok(())
+}
+
+// Over 7 the cells 5 and 9 have the denominators 2 and -2.
+#[test]
+fn denominators_that_cancel(rt: HostRuntime) -> Result<(), Fail> {
+    let alloc = rt.alloc();
+    let lookups = vec![in alloc; take_both(alloc, Kind::Local, 1)?]?;
+    let answer = generated(alloc, &[5, 9], &lookups, &[bear(7), bear(3)]);
+    assert_columns(&rt, &answer, &[bear(0); 4], 2, bear(0));
+    Ok(())
+}
+
+// The pairs (5, 9) and (9, 5) have the denominators 30 - 5 - 2 * 9 = 7 and 30 - 9 - 2 * 5 = 11.
+#[test]
+fn pairs(rt: HostRuntime) -> Result<(), Fail> {
+    let alloc = rt.alloc();
+    let tuple = vec![in alloc; cell(alloc, false)?, cell(alloc, true)?]?;
+    let lookups = vec![in alloc; single(alloc, Kind::Local, tuple, 77)?]?;
+    let answer = generated(alloc, &[5, 9], &lookups, &[bear(30), bear(2)]);
+    let cells = [bear(0), bear(11), bear(11), bear(7)];
+    assert_columns(&rt, &answer, &cells, 2, bear(18));
+    Ok(())
+}
+
+#[test]
+fn first_zero(rt: HostRuntime) -> Result<(), Fail> {
+    let alloc = rt.alloc();
+    let lookups = vec![in alloc; take(alloc, Kind::Local, 1)?, take(alloc, Kind::Local, 1)?]?;
+    let challenges = [bear(7), bear(2), bear(3), bear(2)];
+    let answer = generated(alloc, &[1, 2, 3], &lookups, &challenges);
+    assert_eq!(rt; zero_of(&answer), Some((2, 1, 0)));
+    let challenges = [bear(3), bear(2), bear(3), bear(2)];
+    let answer = generated(alloc, &[1, 2, 3], &lookups, &challenges);
+    assert_eq!(rt; zero_of(&answer), Some((2, 0, 0)));
+    let lookups = vec![in alloc;
+        take(alloc, Kind::Local, 1)?,
+        take_both(alloc, Kind::Local, 1)?,
+    ]?;
+    let challenges = [bear(7), bear(2), bear(3), bear(2)];
+    let answer = generated(alloc, &[1, 2, 3], &lookups, &challenges);
+    assert_eq!(rt; zero_of(&answer), Some((1, 1, 1)));
+    Ok(())
+}
+
+#[test]
+fn nothing_taken(rt: HostRuntime) -> Result<(), Fail> {
+    let alloc = rt.alloc();
+    let answer = generated(alloc, &[5, 9], &[], &[]);
+    assert_columns(&rt, &answer, &[bear(0), bear(0)], 1, bear(0));
+    let lookups = vec![in alloc; take(alloc, Kind::Local, 1)?]?;
+    let answer = generated(alloc, &[], &lookups, &[bear(7), bear(3)]);
+    assert_columns(&rt, &answer, &[], 2, bear(0));
+    Ok(())
+}
