@@ -2,3 +2,6 @@
 pub mod Bits
 pub mod Reduction
 pub mod Draws
+pub mod Scripts
+pub mod Flat
+pub mod Sha256Flat

@@ -1,7 +1,12 @@
-//! Challengers: a transcript is observed into one, and the verifier's random values are drawn from it.
-//! No call takes memory, and what each answers and leaves is a function of the state and arguments.
-//! The traits are after Plonky3's `p3-challenger`; the definitions that the contracts cite are in `specs/Grind.antt` and
-//! `specs/Sha256.antt`.
+//! Challengers: a transcript is observed into one, and the verifier's random values are drawn from it. No call of a challenger takes memory, and
+//! what each answers and leaves is a function of the state and arguments.
+//!
+//! Typed transcripts: the steps of a pattern, the separator that fixes them, and a state each for prover and verifier that plays them in order.
+//! A call's condition is that the next step is of its kind, so steps out of order are refused before a program runs.
+//!
+//! Traits and types are after Plonky3's `p3-challenger`. The definitions that the contracts cite are in `specs/`: grinding (`Grind`), the challenger
+//! over SHA-256 (`Sha256`), scripts and what is drawn along them (`Script`, and over base elements `Elements`), the encoding (`Separator`), and
+//! the typed states (`States`).
 #![tactic(auto)]
 
 ghost use Rattle.std.specs.Prelude.{map, ◌≡◌, ℕ, ◌<◌, ◌^◌, IsTrue, ◌↔◌, MatchOption};
@@ -11,9 +16,21 @@ ghost use Rattle.p3_challenger.specs.Grind.{Checked, checked_state, IsLeast};
 
 use p3_field::{PrimeCore64, RingCore};
 
+pub mod meanings;
+mod prover_state;
+mod script;
+mod separator;
 mod sha256_challenger;
+mod states;
+mod verifier_state;
 
+pub use prover_state::ProverState;
+pub use script::{
+    Hierarchy, Interaction, InteractionKind, InteractionPattern, Label, Length, StepValue,
+};
+pub use separator::{DomainSeparator, push_eight_bytes};
 pub use sha256_challenger::Sha256Challenger;
+pub use verifier_state::VerifierState;
 
 /// A challenger that takes in values of type `T`, as Plonky3's `p3_challenger::CanObserve`.
 ///

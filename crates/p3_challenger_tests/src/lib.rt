@@ -1,0 +1,13 @@
+//! A caller of the typed transcript of `p3_challenger`, by its public items and its bounds alone, and tests on worked values.
+#![tactic(auto)]
+
+mod sides;
+mod steps;
+
+pub use sides::{Side, prover_side, verifier_side};
+pub use steps::worked_pattern;
+
+#[cfg(test)]
+mod encoding;
+#[cfg(test)]
+mod playing;
