@@ -1,0 +1,7 @@
+use Rattle.std.proofs.Common.{map}
+use Rattle.p3_lookup.specs.Written.{bus_of_kind}
+use Rattle.p3_batch_stark.proofs.Numbered.{AreNumbered}
+use Rattle.p3_batch_stark.proofs.buses.bus_numbers.Given as goal
+
+abbrev pub invariant-loop-place : goal.invariant-loop-place
+invariant-loop-place l = AreNumbered (map bus_of_kind l.kinds) l.place l.numbers.items l.count

@@ -1,0 +1,5 @@
+use Rattle.p3_batch_stark.specs.Laws.Shapes.{tells-shapes}
+use Rattle.p3_batch_stark.proofs.meanings.shapes_are_told.Goals as goal
+
+pub returns : goal.returns
+returns c = tells-shapes
