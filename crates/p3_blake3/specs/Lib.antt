@@ -1,0 +1,5 @@
+pub mod Compress
+pub mod TraceRow
+pub mod HalfRounds
+pub mod Generated
+pub mod Laws

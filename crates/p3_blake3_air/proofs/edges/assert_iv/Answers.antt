@@ -1,0 +1,37 @@
+use Rattle.std.proofs.Common.{◌+◌, ◌*◌, ◌∙◌, arith}
+use Rattle.p3_blake3.specs.Compress.{iv}
+use Rattle.p3_blake3_air.specs.Trees.{word_trees, iv_trees}
+use Rattle.p3_air.specs.Laws.Appended.{on_failure, one_more, some_turns, no_turns, all_turns}
+use Rattle.p3_blake3_air.proofs.edges.assert_iv.Goals as goal
+
+pub loop-i-init : goal.loop-i-init
+loop-i-init g c =
+    let B = g.met.AB.AirBuilder in
+    let r = g.AB.F.RingCore.ring in record {
+      later = B.later_same _;
+      same = λ i. g.AB.AirBuilder.shape c.args.builder.now;
+      grown = no_turns g.AB.AirBuilder.grows B.grows_along _ (λ i. word_trees r (c.args.column + 2 * i) (iv i)) (B.grows_same _);
+    }
+
+pub loop-i-preserved : goal.loop-i-preserved
+loop-i-preserved g c =
+    let B = g.met.AB.AirBuilder in
+    let r = g.AB.F.RingCore.ring in record {
+      later = B.later_along _ _ _ c.loop-i.invariant.later c.assert_word.ensures.later;
+      same = c.assert_word.ensures.same ∙ c.loop-i.invariant.same;
+      grown = one_more g.AB.AirBuilder.grows B.grows_along c.loop-i.i (λ i. word_trees r (c.args.column + 2 * i) (iv i)) c.loop-i.invariant.grown c.in_ok-assert_word.ensures.grows;
+    }
+
+pub returns-clause-grows : goal.returns-clause-grows
+unfolding iv_trees
+returns-clause-grows g c =
+    let B = g.met.AB.AirBuilder in
+    let r = g.AB.F.RingCore.ring in
+    all_turns g.AB.AirBuilder.grows B.grows_along _ _ c.loop-i.i 4 (λ i. word_trees r (c.args.column + 2 * i) (iv i)) (omega arith) c.loop-i.invariant.grown
+
+pub returns-in_err-assert_word-clause-refused : goal.returns-in_err-assert_word-clause-refused
+unfolding iv_trees
+returns-in_err-assert_word-clause-refused g c =
+    let B = g.met.AB.AirBuilder in
+    let r = g.AB.F.RingCore.ring in
+    on_failure (some_turns g.AB.AirBuilder.grows B.grows_along _ _ _ c.loop-i.i 4 (λ i. word_trees r (c.args.column + 2 * i) (iv i)) c.loop-i-test.true c.loop-i.invariant.grown c.in_err-assert_word.ensures.refused.holds)

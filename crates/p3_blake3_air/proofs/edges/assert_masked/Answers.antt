@@ -1,0 +1,37 @@
+use Rattle.std.proofs.Common.{◌+◌, ◌*◌, ◌∙◌, arith}
+use Rattle.p3_air.specs.Gadgets.{xor_shift_trees}
+use Rattle.p3_blake3_air.specs.Trees.{from_column, masked_trees}
+use Rattle.p3_air.specs.Laws.Appended.{on_failure, one_more, some_turns, no_turns, all_turns}
+use Rattle.p3_blake3_air.proofs.edges.assert_masked.Goals as goal
+
+pub loop-i-init : goal.loop-i-init
+loop-i-init g c =
+    let B = g.met.AB.AirBuilder in
+    let r = g.AB.F.RingCore.ring in record {
+      later = B.later_same _;
+      same = λ i. g.AB.AirBuilder.shape c.args.builder.now;
+      grown = no_turns g.AB.AirBuilder.grows B.grows_along _ (λ i. xor_shift_trees r (from_column (c.args.limbs + 2 * i)) (from_column (c.args.bits + 32 * i)) (from_column (c.args.mask + 32 * i)) 0) (B.grows_same _);
+    }
+
+pub loop-i-preserved : goal.loop-i-preserved
+loop-i-preserved g c =
+    let B = g.met.AB.AirBuilder in
+    let r = g.AB.F.RingCore.ring in record {
+      later = B.later_along _ _ _ c.loop-i.invariant.later c.assert_turned.ensures.later;
+      same = c.assert_turned.ensures.same ∙ c.loop-i.invariant.same;
+      grown = one_more g.AB.AirBuilder.grows B.grows_along c.loop-i.i (λ i. xor_shift_trees r (from_column (c.args.limbs + 2 * i)) (from_column (c.args.bits + 32 * i)) (from_column (c.args.mask + 32 * i)) 0) c.loop-i.invariant.grown c.in_ok-assert_turned.ensures.grows;
+    }
+
+pub returns-clause-grows : goal.returns-clause-grows
+unfolding masked_trees
+returns-clause-grows g c =
+    let B = g.met.AB.AirBuilder in
+    let r = g.AB.F.RingCore.ring in
+    all_turns g.AB.AirBuilder.grows B.grows_along _ _ c.loop-i.i 4 (λ i. xor_shift_trees r (from_column (c.args.limbs + 2 * i)) (from_column (c.args.bits + 32 * i)) (from_column (c.args.mask + 32 * i)) 0) (omega arith) c.loop-i.invariant.grown
+
+pub returns-in_err-assert_turned-clause-refused : goal.returns-in_err-assert_turned-clause-refused
+unfolding masked_trees
+returns-in_err-assert_turned-clause-refused g c =
+    let B = g.met.AB.AirBuilder in
+    let r = g.AB.F.RingCore.ring in
+    on_failure (some_turns g.AB.AirBuilder.grows B.grows_along _ _ _ c.loop-i.i 4 (λ i. xor_shift_trees r (from_column (c.args.limbs + 2 * i)) (from_column (c.args.bits + 32 * i)) (from_column (c.args.mask + 32 * i)) 0) c.loop-i-test.true c.loop-i.invariant.grown c.in_err-assert_turned.ensures.refused.holds)

@@ -1,0 +1,42 @@
+use Rattle.std.proofs.Common.{[], ◌∷◌, ◌∙◌, sym, arith, subst}
+use Rattle.p3_air.specs.Appended.{Appended, AppendedSome}
+use Rattle.p3_air.specs.Laws.Lists.{table_joined}
+use Rattle.p3_air.specs.Tree.{difference}
+use Rattle.p3_air.specs.Gadgets.{xor_tree}
+use Rattle.p3_blake3_air.specs.Trees.{from_column, xor_trees}
+use Rattle.p3_air.specs.Laws.Appended.{on_failure, one_more, some_turns, no_turns, all_turns}
+use Rattle.p3_blake3_air.proofs.edges.assert_xors.Goals as goal
+
+pub loop-i-init : goal.loop-i-init
+loop-i-init g c =
+    let B = g.met.AB.AirBuilder in
+    let r = g.AB.F.RingCore.ring in record {
+      later = B.later_same _;
+      same = λ i. g.AB.AirBuilder.shape c.args.builder.now;
+      grown = no_turns g.AB.AirBuilder.grows B.grows_along _ (λ i. difference (from_column c.args.column i) (xor_tree r (from_column c.args.left i) (from_column c.args.right i)) ∷ []) (B.grows_same _);
+    }
+
+pub loop-i-preserved : goal.loop-i-preserved
+loop-i-preserved g c =
+    let B = g.met.AB.AirBuilder in
+    let r = g.AB.F.RingCore.ring in record {
+      later = B.later_along _ _ _ c.loop-i.invariant.later c.assert_xor.ensures.later;
+      same = c.assert_xor.ensures.same ∙ c.loop-i.invariant.same;
+      grown = one_more g.AB.AirBuilder.grows B.grows_along c.loop-i.i (λ i. difference (from_column c.args.column i) (xor_tree r (from_column c.args.left i) (from_column c.args.right i)) ∷ []) c.loop-i.invariant.grown c.in_ok-assert_xor.ensures.grows;
+    }
+
+pub returns-clause-grows : goal.returns-clause-grows
+unfolding xor_trees
+returns-clause-grows g c =
+    let B = g.met.AB.AirBuilder in
+    let r = g.AB.F.RingCore.ring in
+    subst (Appended g.AB.AirBuilder.grows _ _) (sym (table_joined 128 (λ i. difference (from_column c.args.column i) (xor_tree r (from_column c.args.left i) (from_column c.args.right i)))))
+    (all_turns g.AB.AirBuilder.grows B.grows_along _ _ c.loop-i.i 128 (λ i. difference (from_column c.args.column i) (xor_tree r (from_column c.args.left i) (from_column c.args.right i)) ∷ []) (omega arith) c.loop-i.invariant.grown)
+
+pub returns-in_err-assert_xor-clause-refused : goal.returns-in_err-assert_xor-clause-refused
+unfolding xor_trees
+returns-in_err-assert_xor-clause-refused g c =
+    let B = g.met.AB.AirBuilder in
+    let r = g.AB.F.RingCore.ring in
+    on_failure (subst (AppendedSome g.AB.AirBuilder.grows _ _) (sym (table_joined 128 (λ i. difference (from_column c.args.column i) (xor_tree r (from_column c.args.left i) (from_column c.args.right i)))))
+    (some_turns g.AB.AirBuilder.grows B.grows_along _ _ _ c.loop-i.i 128 (λ i. difference (from_column c.args.column i) (xor_tree r (from_column c.args.left i) (from_column c.args.right i)) ∷ []) c.loop-i-test.true c.loop-i.invariant.grown c.in_err-assert_xor.ensures.refused.holds))

@@ -1,0 +1,36 @@
+use Rattle.std.proofs.Common.{◌∙◌, arith}
+use Rattle.p3_blake3_air.specs.Trees.{steps_trees, rounds_trees}
+use Rattle.p3_air.specs.Laws.Appended.{on_failure, one_more, some_turns, no_turns, all_turns}
+use Rattle.p3_blake3_air.proofs.rounds.assert_rounds.Goals as goal
+
+pub loop-p-init : goal.loop-p-init
+loop-p-init g c =
+    let B = g.met.AB.AirBuilder in
+    let r = g.AB.F.RingCore.ring in record {
+      later = B.later_same _;
+      same = λ i. g.AB.AirBuilder.shape c.args.builder.now;
+      grown = no_turns g.AB.AirBuilder.grows B.grows_along _ (steps_trees r) (B.grows_same _);
+    }
+
+pub loop-p-preserved : goal.loop-p-preserved
+loop-p-preserved g c =
+    let B = g.met.AB.AirBuilder in
+    let r = g.AB.F.RingCore.ring in record {
+      later = B.later_along _ _ _ c.loop-p.invariant.later c.assert_steps.ensures.later;
+      same = c.assert_steps.ensures.same ∙ c.loop-p.invariant.same;
+      grown = one_more g.AB.AirBuilder.grows B.grows_along c.loop-p.p (steps_trees r) c.loop-p.invariant.grown c.in_ok-assert_steps.ensures.grows;
+    }
+
+pub returns-clause-grows : goal.returns-clause-grows
+unfolding rounds_trees
+returns-clause-grows g c =
+    let B = g.met.AB.AirBuilder in
+    let r = g.AB.F.RingCore.ring in
+    all_turns g.AB.AirBuilder.grows B.grows_along _ _ c.loop-p.p 14 (steps_trees r) (omega arith) c.loop-p.invariant.grown
+
+pub returns-in_err-assert_steps-clause-refused : goal.returns-in_err-assert_steps-clause-refused
+unfolding rounds_trees
+returns-in_err-assert_steps-clause-refused g c =
+    let B = g.met.AB.AirBuilder in
+    let r = g.AB.F.RingCore.ring in
+    on_failure (some_turns g.AB.AirBuilder.grows B.grows_along _ _ _ c.loop-p.p 14 (steps_trees r) c.loop-p-test.true c.loop-p.invariant.grown c.in_err-assert_steps.ensures.refused.holds)

@@ -1,0 +1,14 @@
+use Rattle.std.proofs.Common.{◌≡◌}
+use Rattle.p3_air.specs.Joined.{joined}
+use Rattle.p3_air.specs.Appended.{Appended}
+use Rattle.p3_blake3_air.specs.Trees.{steps_trees}
+use Rattle.p3_blake3_air.proofs.rounds.assert_rounds.Given as goal
+
+abbrev pub invariant-loop-p : goal.invariant-loop-p
+invariant-loop-p g l =
+    let B = g.AB.AirBuilder in
+    let r = g.AB.F.RingCore.ring in record {
+      later : B.later l.fn.builder l.builder;
+      same : B.shape l.builder ≡ B.shape l.fn.builder;
+      grown : Appended B.grows l.fn.builder l.builder (joined l.p (steps_trees r));
+    }

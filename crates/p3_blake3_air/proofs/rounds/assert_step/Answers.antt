@@ -1,0 +1,36 @@
+use Rattle.std.proofs.Common.{◌+◌, ◌*◌, ◌∙◌, arith}
+use Rattle.p3_blake3_air.specs.Trees.{step_half_trees, step_trees}
+use Rattle.p3_air.specs.Laws.Appended.{on_failure, one_more, some_turns, no_turns, all_turns}
+use Rattle.p3_blake3_air.proofs.rounds.assert_step.Goals as goal
+
+pub loop-h-init : goal.loop-h-init
+loop-h-init g c =
+    let B = g.met.AB.AirBuilder in
+    let r = g.AB.F.RingCore.ring in record {
+      later = B.later_same _;
+      same = λ i. g.AB.AirBuilder.shape c.args.builder.now;
+      grown = no_turns g.AB.AirBuilder.grows B.grows_along _ (λ h. step_half_trees r (2 * c.args.p + h) c.args.g) (B.grows_same _);
+    }
+
+pub loop-h-preserved : goal.loop-h-preserved
+loop-h-preserved g c =
+    let B = g.met.AB.AirBuilder in
+    let r = g.AB.F.RingCore.ring in record {
+      later = B.later_along _ _ _ c.loop-h.invariant.later c.assert_step_half.ensures.later;
+      same = c.assert_step_half.ensures.same ∙ c.loop-h.invariant.same;
+      grown = one_more g.AB.AirBuilder.grows B.grows_along c.loop-h.h (λ h. step_half_trees r (2 * c.args.p + h) c.args.g) c.loop-h.invariant.grown c.in_ok-assert_step_half.ensures.grows;
+    }
+
+pub returns-clause-grows : goal.returns-clause-grows
+unfolding step_trees
+returns-clause-grows g c =
+    let B = g.met.AB.AirBuilder in
+    let r = g.AB.F.RingCore.ring in
+    all_turns g.AB.AirBuilder.grows B.grows_along _ _ c.loop-h.h 2 (λ h. step_half_trees r (2 * c.args.p + h) c.args.g) (omega arith) c.loop-h.invariant.grown
+
+pub returns-in_err-assert_step_half-clause-refused : goal.returns-in_err-assert_step_half-clause-refused
+unfolding step_trees
+returns-in_err-assert_step_half-clause-refused g c =
+    let B = g.met.AB.AirBuilder in
+    let r = g.AB.F.RingCore.ring in
+    on_failure (some_turns g.AB.AirBuilder.grows B.grows_along _ _ _ c.loop-h.h 2 (λ h. step_half_trees r (2 * c.args.p + h) c.args.g) c.loop-h-test.true c.loop-h.invariant.grown c.in_err-assert_step_half.ensures.refused.holds)

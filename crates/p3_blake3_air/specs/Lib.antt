@@ -1,0 +1,4 @@
+pub mod Trees
+pub mod Meanings
+pub mod Rows
+pub mod Laws

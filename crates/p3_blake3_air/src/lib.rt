@@ -1,0 +1,28 @@
+//! The compression of BLAKE3 as an AIR over prime fields, after Plonky3's `p3-blake3-air`: a row is one compression.
+//!
+//! The definitions that the contracts cite are in `specs/`: the constraints (`Trees`), what they mean (`Meanings`) and the
+//! generated rows (`Rows`). The compression on words and the row of one are in `p3_blake3`.
+#![tactic(auto)]
+
+mod air;
+mod columns;
+mod edges;
+mod generation;
+mod half;
+pub mod meanings;
+mod places;
+mod reading;
+mod rounds;
+mod writing;
+
+pub use air::{Blake3Air, NUM_BLAKE3_COLS};
+pub use columns::{Blake3Cols, Blake3State, FullRound};
+pub use generation::generate_trace_rows;
+pub use p3_blake3::TraceError;
+pub use writing::{write_limbs, write_word};
+
+/// Bits of a limb (`p3_blake3_air::constants`).
+pub const BITS_PER_LIMB: usize = 16;
+
+/// Limbs of a word (`p3_blake3_air::constants`).
+pub const U32_LIMBS: usize = 2;
