@@ -1,6 +1,6 @@
 //! The prover's transcript of a batch.
 
-ghost use Rattle.std.specs.Prelude.{◌≡◌, List, ℕ, [], ◌∷◌, ◌++◌, map, IfOk, IfErr, MatchResult, All, ◌+◌, IsTrue, is_some, length, ◌<◌, ◌^◌};
+ghost use Rattle.std.specs.Prelude.{◌≡◌, List, ℕ, [], ◌∷◌, ◌++◌, map, IfOk, IfErr, MatchResult, All, ◌+◌, IsTrue, is_some, length, ◌<◌, ◌^◌, Option};
 ghost use Rattle.std.specs.Fn.{FnOnceReturnsAtMut};
 ghost use Rattle.std.specs.Option.{option_copied, option_map_or};
 ghost use Rattle.p3_challenger.specs.States.{NextIs, IsStep, played};
@@ -128,6 +128,8 @@ impl<
         requires few { 2 ^ self.old.shape.lookup_pow_bits < F.ORDER_U64 }
         ensures ground { IfOk result (λ p. IsPairGround (⟦<C as BatchChallenger<F, EF, Com>>⟧.functions) F.ring F.canonical self.old.state self.old.shape.num_lookup_instances self.old.shape.lookup_pow_bits p.1) }
         ensures refused { IfErr result (ProverFails (LacksPairGround (⟦<C as BatchChallenger<F, EF, Com>>⟧.functions) F.ring F.ORDER_U64 self.old.state self.old.shape.num_lookup_instances self.old.shape.lookup_pow_bits)) }
+        ensures left { IfErr result (λ e. e ≡ TranscriptError.WitnessNotFound → self.new.state ≡ self.old.state) }
+        ensures memory { IfErr result (λ e. e ≡ TranscriptError.OutOfMemory → (w : Option F) × IsPairGround (⟦<C as BatchChallenger<F, EF, Com>>⟧.functions) F.ring F.canonical self.old.state self.old.shape.num_lookup_instances self.old.shape.lookup_pow_bits w) }
         ensures plays { IfOk result (λ p. let script = pair_script EF.DIMENSION self.old.shape.num_lookup_instances self.old.shape.lookup_pow_bits p.1 in
             let c = ⟦<C as BatchChallenger<F, EF, Com>>⟧.functions in
             Plays c script self.old self.new (drawn_along c self.old.state script)
@@ -185,6 +187,7 @@ impl<
         ensures ground { MatchResult result
             (λ p. IsGround (⟦<C as BatchChallenger<F, EF, Com>>⟧.functions) F.ring F.canonical self.old.state self.old.shape.ood_pow_bits p.1)
             (λ e. (e ≡ TranscriptError.WitnessNotFound) × NonePasses (⟦<C as BatchChallenger<F, EF, Com>>⟧.functions) F.ring F.ORDER_U64 self.old.state self.old.shape.ood_pow_bits) }
+        ensures left { IfErr result (λ _. self.new.state ≡ self.old.state) }
         ensures plays { IfOk result (λ p. Plays (⟦<C as BatchChallenger<F, EF, Com>>⟧.functions) (ood_script EF.DIMENSION self.old.shape.ood_pow_bits p.1) self.old self.new (p.0 ∷ [])) }
         ensures turn { IfOk result (λ _. self.new.remaining ≡ from_opening EF.DIMENSION self.new.shape) }
     {

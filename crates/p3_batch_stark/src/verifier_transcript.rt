@@ -8,7 +8,7 @@ ghost use Rattle.p3_field.specs.Ring.{of_nat};
 ghost use Rattle.p3_lookup.specs.Written.{read_all};
 ghost use Rattle.p3_batch_stark.specs.BatchScript.{Shape, seeded, pattern, from_main, from_preprocessed, from_lookup, from_permutation, from_quotient, from_ood, from_opening, is_positive};
 ghost use Rattle.p3_batch_stark.specs.BatchScript.{bindings_script, main_script, preprocessed_script, pair_script, permutation_script, quotient_script, ood_script, opening_script};
-ghost use Rattle.p3_batch_stark.specs.Grinding.{IsCanonicalAt, IsTaken, IsPairTaken, OodRefusal, PairRefusal, VerifierFails};
+ghost use Rattle.p3_batch_stark.specs.Grinding.{IsCanonicalAt, IsTaken, IsPairTaken, OodRefusal, PairRefusal, VerifierFails, OodLeft, PairLeft};
 ghost use Rattle.p3_batch_stark.specs.Buses.{batch_layout};
 ghost use Rattle.p3_batch_stark.specs.Running.{Running, Plays, lists, drawn_along};
 
@@ -137,6 +137,8 @@ impl<
         requires few { 2 ^ self.old.shape.lookup_pow_bits < F.ORDER_U64 }
         ensures taken { IfOk result (λ _. IsPairTaken (⟦<C as BatchChallenger<F, EF, Com>>⟧.functions) F.ring self.old.state self.old.shape.num_lookup_instances self.old.shape.lookup_pow_bits witness) }
         ensures refused { IfErr result (VerifierFails (PairRefusal (⟦<C as BatchChallenger<F, EF, Com>>⟧.functions) F.ring self.old.state self.old.shape.num_lookup_instances self.old.shape.lookup_pow_bits witness)) }
+        ensures left { IfErr result (VerifierFails (PairLeft (⟦<C as BatchChallenger<F, EF, Com>>⟧.functions) self.old.state self.old.shape.lookup_pow_bits witness self.new.state)) }
+        ensures memory { IfErr result (λ e. e ≡ TranscriptError.OutOfMemory → IsPairTaken (⟦<C as BatchChallenger<F, EF, Com>>⟧.functions) F.ring self.old.state self.old.shape.num_lookup_instances self.old.shape.lookup_pow_bits witness) }
         ensures plays { IfOk result (λ v. let script = pair_script EF.DIMENSION self.old.shape.num_lookup_instances self.old.shape.lookup_pow_bits witness in
             let c = ⟦<C as BatchChallenger<F, EF, Com>>⟧.functions in
             Plays c script self.old self.new (drawn_along c self.old.state script)
@@ -206,6 +208,7 @@ impl<
         ensures answer { MatchResult result
             (λ _. IsTaken (⟦<C as BatchChallenger<F, EF, Com>>⟧.functions) F.ring self.old.state self.old.shape.ood_pow_bits witness)
             (OodRefusal (⟦<C as BatchChallenger<F, EF, Com>>⟧.functions) F.ring self.old.state self.old.shape.ood_pow_bits witness) }
+        ensures left { IfErr result (OodLeft (⟦<C as BatchChallenger<F, EF, Com>>⟧.functions) self.old.state self.old.shape.ood_pow_bits witness self.new.state) }
         ensures plays { IfOk result (λ zeta. Plays (⟦<C as BatchChallenger<F, EF, Com>>⟧.functions) (ood_script EF.DIMENSION self.old.shape.ood_pow_bits witness) self.old self.new (zeta ∷ [])) }
         ensures turn { IfOk result (λ _. self.new.remaining ≡ from_opening EF.DIMENSION self.new.shape) }
     {
