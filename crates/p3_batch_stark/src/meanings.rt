@@ -1,9 +1,9 @@
 //! What the transcript's definitions promise: laws as the contracts of functions that compute nothing.
 
-ghost use Rattle.std.specs.Prelude.{ℕ, ◌≡◌, List};
+ghost use Rattle.std.specs.Prelude.{ℕ, ◌≡◌, ◌↔◌, List, true};
 ghost use Rattle.p3_challenger.specs.Script.{steps_of};
 ghost use Rattle.p3_batch_stark.specs.BatchScript.{Shape, Given, script, pattern};
-ghost use Rattle.p3_batch_stark.specs.Shapes.{TellsShapes};
+ghost use Rattle.p3_batch_stark.specs.Shapes.{TellsShapes, shape_eq};
 ghost use Rattle.p3_batch_stark.specs.Running.{PlaysChain, IsOneFold, TellsDraws, TellsTests};
 ghost use Rattle.p3_batch_stark.specs.Fits.{FitsShape};
 ghost use Rattle.p3_batch_stark.specs.Buses.{LaysOutBases};
@@ -16,9 +16,10 @@ use p3_challenger::{CanObserve, CanSample, GrindingChallenger};
 use p3_field::{BasedVectorSpace, ExtensionField, Field, PrimeField64, RingCore};
 
 /// Two shapes within the separator's bounds have one pattern and one instance label exactly if they are equal, but for the bits of the
-/// lookup grinding where no instance has lookups.
+/// lookup grinding where no instance has lookups. `==` of shapes is true exactly where they are equal.
 pub fn shapes_are_told()
-    ensures { (d : ℕ) → TellsShapes d }
+    ensures told { (d : ℕ) → TellsShapes d }
+    ensures equality { (s t : Shape) → (shape_eq s t ≡ true) ↔ (s ≡ t) }
 {}
 
 /// Prover's and verifier's transcripts are one fold: phases one behind the other are one, from equal states one script draws the same and leaves
