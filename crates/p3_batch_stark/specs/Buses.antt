@@ -1,9 +1,12 @@
 -- The challenges of the lookups of a batch: the layout that both sides make of the drawn pair. The phase is that of Plonky3's p3-batch-stark
 -- (transcript.rs); the rule of buses and of their bases is this project's own.
-use Rattle.std.specs.Prelude.{◌≡◌, ℕ, ◌+◌, ◌*◌, ◌<◌, List, [], ◌∷◌, length, map}
+use Rattle.std.specs.Prelude.{◌≡◌, ℕ, ◌+◌, ◌*◌, ◌<◌, List, [], ◌∷◌, length, map, Option, Some, bytes_eq}
 use Rattle.std.specs.Prelude.{slice_index_or as get_or}
+use Rattle.std.specs.Option.{unwrap_or}
+use Rattle.std.specs.Map.{update}
 use Rattle.p3_field.specs.Ring.{Ring}
 use Rattle.p3_field.specs.Poly.{table}
+use Rattle.p3_air.specs.Tree.{Bus, local, global}
 use Rattle.p3_lookup.specs.Lookup.{LookupData}
 use Rattle.p3_lookup.specs.Bus.{bus_in, bus_count, batch_buses, widest}
 use Rattle.p3_lookup.specs.Challenge.{ChallengesData, challenges_with, bus_base}
@@ -25,3 +28,9 @@ pub record HasItsBase {F E : Type 0} (e : Ring E) (alpha beta : E) (tables : Lis
 
 abbrev pub LaysOutBases : {F E : Type 0} → Ring E → List (List (LookupData F)) → Type 0
 LaysOutBases {E = E} e tables = (alpha beta : E) (t k : ℕ) → t < length tables → k < length (get_or tables t []) → HasItsBase e alpha beta tables t k
+
+-- the lookup at this place has its bus opened at place o, by the places where names were before, which are then these: a local one by itself, a
+-- global one where its name was, else by itself
+abbrev pub OpensBy : (List ℕ → Option ℕ) → Bus → (place o : ℕ) → (List ℕ → Option ℕ) → Type 0
+OpensBy before local place o after = (o ≡ place) × ((q : List ℕ) → after q ≡ before q)
+OpensBy before (global name) place o after = (o ≡ unwrap_or (before name) place) × ((q : List ℕ) → after q ≡ update bytes_eq before name (Some o) q)

@@ -1,6 +1,6 @@
 -- What a batch's transcript is while it runs, and what a phase does to it.
 use Rattle.std.specs.Prelude.{◌≡◌, ℕ, true, List, [], ◌∷◌, ◌++◌, map, Vec}
-use Rattle.p3_challenger.specs.Script.{Played, ChallengerOf, Transcript, Elements, play, passes, begun, steps_of}
+use Rattle.p3_challenger.specs.Script.{Played, ChallengerOf, Elements, play, passes, begun, steps_of}
 use Rattle.p3_challenger.specs.declared.script.Interaction.{Interaction}
 use Rattle.p3_batch_stark.specs.BatchScript.{Shape, Given, seeded, ground, is_positive, script_to_lookup, script_to_ood, script_to_opening, draws, draws_of}
 use Rattle.p3_field.specs.Ring.{Ring}

@@ -2,36 +2,24 @@
 
 ghost use Rattle.std.specs.Prelude.{◌≡◌, ℕ, ◌≤◌, ◌<◌, max, List, [], ◌∷◌, ◌++◌, map, flat_map, length, get_or, IfOk, OnOk, All};
 ghost use Rattle.std.specs.List.{fold};
+ghost use Rattle.std.specs.BTreeMap.{get_by_text};
 ghost use Rattle.p3_field.specs.Poly.{table};
 ghost use Rattle.p3_lookup.specs.Written.{bus_of_kind, read, read_all};
-ghost use Rattle.p3_lookup.specs.Packing.{same_name};
-ghost use Rattle.p3_lookup.specs.Bus.{opener, bus_number, bus_count, batch_buses, widest, widest_of};
+ghost use Rattle.p3_lookup.specs.Bus.{bus_number, bus_count, batch_buses, widest, widest_of};
 ghost use Rattle.p3_lookup.specs.Challenge.{challenges_with};
 ghost use Rattle.p3_batch_stark.specs.Running.{lists};
-ghost use Rattle.p3_batch_stark.specs.Buses.{instance_challenges, batch_layout};
+ghost use Rattle.p3_batch_stark.specs.Buses.{OpensBy, instance_challenges, batch_layout};
 
 use p3_field::{Field, Mem};
 use p3_lookup::{Challenges, Kind, Lookup, LookupProtocol, Lookups};
 use std::alloc::Global;
+use std::collections::BTreeMap;
 
 /// The numbers of the buses of a batch's lookups, lookup by lookup, and how many buses there are.
 #[derive(Drop)]
 struct BusNumbers {
     numbers: Vec<usize>,
     count: usize,
-}
-
-/// Whether both kinds are global, and of one name.
-fn have_one_name(a: &Kind, b: &Kind) -> bool
-    ensures { result ≡ same_name (bus_of_kind a.now) (bus_of_kind b.now) }
-{
-    match a {
-        Kind::Local => false,
-        Kind::Global(name) => match b {
-            Kind::Local => false,
-            Kind::Global(other) => name.as_bytes() == other.as_bytes(),
-        },
-    }
 }
 
 /// A lookup's kind.
@@ -65,28 +53,38 @@ fn batch_kinds<F>(alloc: Global, lookups: &[Lookups<F>]) -> Mem<Vec<Kind>>
     Ok(kinds)
 }
 
-/// The place of the lookup that opens the bus of the lookup at this place: the first one of its name, or itself.
-fn opener_place(kinds: &[Kind], place: usize) -> usize
-    requires place { place < length kinds.now }
-    ensures opener { result ≡ opener (map bus_of_kind kinds.now) place }
-    ensures within { result ≤ place }
+/// The place of the lookup that opens the bus of a lookup of this kind at this place: the one that `openers` has for its name, else itself, which
+/// `openers` has for the name then.
+fn opener_place(
+    openers: &mut BTreeMap<String, usize>,
+    alloc: Global,
+    kind: &Kind,
+    place: usize,
+) -> Mem<usize>
+    ensures { IfOk result (λ o. OpensBy (get_by_text openers.old) (bus_of_kind kind.now) place o (get_by_text openers.new)) }
 {
-    for earlier in 0..place {
-        if have_one_name(&kinds[place], &kinds[earlier]) {
-            return earlier;
+    match kind {
+        Kind::Local => Ok(place),
+        Kind::Global(name) => {
+            if let Some(opener) = openers.get(name.as_str()) {
+                return Ok(*opener);
+            }
+            let key = String::from_str(alloc, name.as_str())?;
+            openers.insert(key, place)?;
+            Ok(place)
         }
     }
-    place
 }
 
 /// The number of each lookup's bus: how many buses are opened before it. A lookup that opens none has the number of the one that opened its bus.
 fn bus_numbers(alloc: Global, kinds: &[Kind]) -> Mem<BusNumbers>
     ensures { IfOk result (λ b. let buses = map bus_of_kind kinds.now in (b.numbers.items ≡ table (length buses) (bus_number buses)) × (b.count ≡ bus_count buses)) }
 {
+    let mut openers = BTreeMap::new(alloc);
     let mut numbers = Vec::new(alloc);
     let mut count = 0;
     for place in 0..kinds.len() {
-        let opener = opener_place(kinds, place);
+        let opener = opener_place(&mut openers, alloc, &kinds[place], place)?;
         if opener < place {
             let number = numbers[opener];
             numbers.push(number)?;

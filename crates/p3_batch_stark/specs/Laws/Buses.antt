@@ -1,15 +1,14 @@
 -- In the layout of a drawn pair each lookup has the base of its bus, and beta.
-use Rattle.std.proofs.Common.{◌≡◌, ℕ, zero, suc, ◌+◌, ◌*◌, ◌<◌, List, [], ◌∷◌, length, get_or, refl, sym, ◌∙◌, ap, arith}
+use Rattle.std.proofs.Common.{◌≡◌, ℕ, zero, suc, ◌+◌, ◌*◌, ◌<◌, List, [], ◌∷◌, length, get_or, refl, ◌∙◌, ap, arith}
 use Rattle.p3_field.specs.Ring.{Ring}
-use Rattle.p3_field.specs.Poly.{table}
 use Rattle.p3_field.specs.Laws.Tables.{get_or-table}
 use Rattle.p3_lookup.specs.Lookup.{LookupData}
-use Rattle.p3_lookup.specs.Bus.{bus_in, bus_number, bus_count, batch_buses, widest}
+use Rattle.p3_lookup.specs.Bus.{bus_in, bus_count, batch_buses, widest}
 use Rattle.p3_lookup.specs.Challenge.{ChallengesData, challenges_with, bus_base}
 use Rattle.p3_lookup.specs.Batch.{laid_out}
 use Rattle.p3_lookup.specs.Laws.Buses.{number_below}
 use Rattle.p3_lookup.specs.Laws.Places.{place_within}
-use Rattle.p3_batch_stark.specs.Buses.{instance_challenges, batch_layout, HasItsBase, LaysOutBases}
+use Rattle.p3_batch_stark.specs.Buses.{instance_challenges, batch_layout, LaysOutBases}
 
 -- lookup k has the challenges 2 k and 2 k + 1
 laid-base : {E : Type 0} (z : E) (c : ChallengesData E) (bus : ℕ → ℕ) (n m k : ℕ) → k < m → get_or (laid_out z c bus n m) (2 * k) z ≡ get_or c.bus_prefix (bus (n + k)) z

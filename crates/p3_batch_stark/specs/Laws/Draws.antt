@@ -1,11 +1,11 @@
 -- Phases one behind the other, and what a whole run draws: prover's and verifier's transcripts are one fold.
-use Rattle.std.proofs.Common.{◌≡◌, ℕ, zero, suc, List, [], ◌∷◌, ◌++◌, Bool, true, map, length, refl, ap, sym, ◌∙◌, append_assoc, get_or, Option, Some, None}
-use Rattle.std.proofs.lemmas.List.{append-nil, map-append, append_cancel_left}
+use Rattle.std.proofs.Common.{◌≡◌, ℕ, List, ◌++◌, refl, ap, sym, ◌∙◌, append_assoc}
+use Rattle.std.proofs.lemmas.List.{append-nil, map-append}
 use Rattle.p3_field.specs.Ring.{Ring}
 use Rattle.p3_challenger.specs.Script.{ChallengerOf, Transcript, Played, play, begun, steps_of}
 use Rattle.p3_challenger.specs.Laws.Scripts.{play-append, play-behind, behind_all}
-use Rattle.p3_batch_stark.specs.BatchScript.{Shape, Given, Draws, draws, draws_of, script, script_to_opening, seeded, bindings_script, main_script, preprocessed_script, pair_script, permutation_script, quotient_script, ood_script, opening_script}
-use Rattle.p3_batch_stark.specs.Running.{Running, Plays, IsOneFold, PlaysChain, TellsDraws}
+use Rattle.p3_batch_stark.specs.BatchScript.{Shape, Given, draws, draws_of, script, script_to_opening, seeded, opening_script}
+use Rattle.p3_batch_stark.specs.Running.{IsOneFold, PlaysChain, TellsDraws}
 
 module _ {S F E M : Type 0} (c : ChallengerOf S F E M) where
   -- a script behind another starts at its state, and adds what it draws and tests

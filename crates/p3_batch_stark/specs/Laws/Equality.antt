@@ -1,11 +1,10 @@
 -- Equality of shapes, number by number, is an equivalence, and decides whether they are equal.
-use Rattle.std.specs.Prelude.{◌≡◌, ◌↔◌, true, nat_eq}
-use Rattle.std.specs.Bool.{beq}
+use Rattle.std.specs.Prelude.{◌≡◌, ◌↔◌, true}
 use Rattle.std.proofs.Common.{ap}
 use Rattle.std.proofs.lemmas.Bool.Decides.{Decides-and, Decides-like}
 use Rattle.std.specs.Cmp.{IsEquivalence, IsPartialEquivalence, partial_equiv_from_equiv, and_equiv, on_equiv, nat_eq_equiv, bool_eq_equiv}
 use Rattle.std.specs.Cmp.{unsigned_Decides, booleans_Decides}
-use Rattle.std.specs.Cmp.Lexicographic.{nat_list_eq_equiv, pointwise, pointwise_decides}
+use Rattle.std.specs.Cmp.Lexicographic.{nat_list_eq_equiv, pointwise_decides}
 use Rattle.p3_batch_stark.specs.BatchScript.{Shape}
 use Rattle.p3_batch_stark.specs.Shapes.{shape_eq}
 

@@ -4,9 +4,9 @@ use Rattle.std.specs.Prelude.{is_some}
 use Rattle.std.proofs.lemmas.List.{append-nil, map-append}
 use Rattle.std.proofs.lemmas.Simd.{map-map}
 use Rattle.p3_field.specs.Ring.{Ring, of_nat}
-use Rattle.p3_challenger.specs.Script.{Played, Value, NoValue, Elements, Extended, Sealed, steps_of}
+use Rattle.p3_challenger.specs.Script.{Played, NoValue, Elements, Extended, steps_of}
 use Rattle.p3_challenger.specs.declared.script.Interaction.{Interaction}
-use Rattle.p3_batch_stark.specs.BatchScript.{Shape, Given, script, pattern, from_main, from_preprocessed, from_lookup, from_permutation, from_quotient, from_ood, from_opening, bindings_script, main_script, preprocessed_script, pair_script, permutation_script, quotient_script, ood_script, opening_script, degree_bits_step, main_commitment_step, public_values_step, lookup_terminal_step, permutation_commitment_step, constraint_challenge_step, preprocessed_commitment_step, quotient_commitment_step, randomization_commitment_step, only_with, pair_steps, is_positive, with_value, sealed, ground}
+use Rattle.p3_batch_stark.specs.BatchScript.{Shape, Given, script, pattern, from_main, from_preprocessed, from_lookup, from_permutation, from_quotient, from_ood, from_opening, bindings_script, main_script, preprocessed_script, pair_script, permutation_script, quotient_script, ood_script, opening_script, degree_bits_step, main_commitment_step, public_values_step, lookup_terminal_step, permutation_commitment_step, constraint_challenge_step, preprocessed_commitment_step, quotient_commitment_step, randomization_commitment_step, only_with, pair_steps, is_positive, with_value, sealed}
 use Rattle.p3_batch_stark.specs.Fits.{FitsShape}
 use Rattle.p3_batch_stark.specs.Laws.Phases.{map-const, permutation-steps}
 

@@ -1,5 +1,5 @@
 -- The batch of one table, step by step.
-use Rattle.std.proofs.Common.{◌≡◌, ℕ, List, refl}
+use Rattle.std.proofs.Common.{ℕ, List, refl}
 use Rattle.p3_field.specs.Ring.{Ring}
 use Rattle.p3_batch_stark.specs.BatchScript.{pattern, from_main, from_preprocessed, from_lookup, from_permutation, from_quotient, from_ood, from_opening, script, bindings_script, main_script, preprocessed_script, pair_script, permutation_script, quotient_script, ood_script, opening_script}
 use Rattle.p3_batch_stark.specs.Single.{HasNineSteps, HasNineValues}

@@ -1,5 +1,5 @@
 -- What each phase's script does, in closed form, and its steps.
-use Rattle.std.proofs.Common.{◌≡◌, ℕ, zero, suc, List, [], ◌∷◌, ◌++◌, length, map, refl, ap, sym, ◌∙◌, Option, Some, None, Vec, Bool, true, false, replicate}
+use Rattle.std.proofs.Common.{◌≡◌, ℕ, zero, suc, List, [], ◌∷◌, ◌++◌, length, map, refl, ap, sym, ◌∙◌, Option, Some, None, Vec, replicate}
 use Rattle.std.specs.Prelude.{is_some, nat_lt}
 use Rattle.std.proofs.Common.{arith, ◌<◌, ◌+◌, take, get_or, append_assoc}
 use Rattle.std.proofs.lemmas.List.{take_more, map-append}
@@ -8,9 +8,9 @@ use Rattle.std.proofs.lemmas.Simd.{map-map}
 use Rattle.std.proofs.lemmas.List.Folds.{fold-map}
 use Rattle.std.specs.List.{fold}
 use Rattle.p3_field.specs.Ring.{Ring, of_nat}
-use Rattle.p3_challenger.specs.Script.{ChallengerOf, Transcript, Played, Value, NoValue, Elements, Extended, Sealed, play, begun, steps_of}
+use Rattle.p3_challenger.specs.Script.{ChallengerOf, Transcript, Played, NoValue, Elements, Extended, play, begun, steps_of}
 use Rattle.p3_challenger.specs.declared.script.Interaction.{Interaction}
-use Rattle.p3_batch_stark.specs.BatchScript.{bindings_script, main_script, permutation_script, degree_bits_step, main_commitment_step, public_values_step, lookup_terminal_step, permutation_commitment_step, constraint_challenge_step, only_with, permutation_steps, sealed, with_value, is_positive, pair_steps, lookup_pow_step, lookup_alpha_step, lookup_beta_step}
+use Rattle.p3_batch_stark.specs.BatchScript.{bindings_script, main_script, permutation_script, degree_bits_step, main_commitment_step, public_values_step, lookup_terminal_step, permutation_commitment_step, constraint_challenge_step, only_with, permutation_steps, with_value, is_positive, pair_steps, lookup_pow_step, lookup_alpha_step, lookup_beta_step}
 use Rattle.std.specs.Option.{option_map_or, option_copied}
 use Rattle.std.specs.Borrow.{Bor}
 use Rattle.std.specs.Prelude.{IsTrue}

@@ -3,7 +3,7 @@ use Rattle.std.proofs.Common.{◌≡◌, ℕ, zero, suc, List, [], ◌∷◌, �
 use Rattle.std.proofs.lemmas.List.{append-nil}
 use Rattle.p3_field.specs.Ring.{Ring}
 use Rattle.p3_challenger.specs.Script.{ChallengerOf, Transcript, Played, NoValue, Elements, play, begun, passes}
-use Rattle.p3_batch_stark.specs.BatchScript.{Shape, Given, Draws, draws, draws_of, script_to_lookup, script_to_ood, script_to_opening, seeded, bindings_script, main_script, preprocessed_script, pair_script, permutation_script, quotient_script, ood_script, with_value, ground, is_positive, constraint_challenge_step}
+use Rattle.p3_batch_stark.specs.BatchScript.{Shape, Given, draws, draws_of, script_to_lookup, script_to_ood, script_to_opening, seeded, bindings_script, main_script, preprocessed_script, pair_script, permutation_script, quotient_script, ood_script, with_value, ground, is_positive, constraint_challenge_step}
 use Rattle.p3_batch_stark.specs.Running.{Running, Plays, drawn_along, TellsTests}
 use Rattle.p3_batch_stark.specs.Laws.Draws.{play-on, play-script, plays-chain, run-draws}
 use Rattle.p3_batch_stark.specs.Laws.Phases.{play-degree_bits, play-publics, play-terminals}

@@ -1,14 +1,14 @@
 -- Pattern and instance label tell shapes apart.
 use Rattle.std.proofs.Common.{◌≡◌, ℕ, zero, suc, ◌<◌, ◌^◌, List, [], ◌∷◌, ◌++◌, length, map, refl, ap, sym, ◌∙◌, Bool, true, false, replicate, arith, All, flat_map, append_assoc}
-use Rattle.std.specs.Int.{w64, to_be_bytes, from_be_bytes}
+use Rattle.std.specs.Int.{w64, from_be_bytes}
 use Rattle.std.proofs.lemmas.Nat.{from_be_bytes-to_be_bytes_8}
-use Rattle.std.proofs.lemmas.List.{append_cancel_left, append-nil, length-map}
+use Rattle.std.proofs.lemmas.List.{append_cancel_left, length-map}
 use Rattle.std.proofs.lemmas.List.Elements.{All-head, All-tail}
 use Rattle.p3_challenger.specs.Separator.{eight_bytes}
 use Rattle.p3_challenger.specs.States.{behind, next_bits}
 use Rattle.p3_challenger.specs.declared.script.Interaction.{Interaction}
 use Rattle.p3_batch_stark.specs.Shapes.{IsWithin, AreSame, TellsShapes}
-use Rattle.p3_batch_stark.specs.BatchScript.{Shape, pattern, instance_label, from_main, from_preprocessed, from_lookup, from_permutation, from_quotient, from_ood, from_opening, degree_bits_step, main_commitment_step, public_values_step, preprocessed_commitment_step, lookup_pow_step, lookup_alpha_step, lookup_beta_step, permutation_commitment_step, lookup_terminal_step, constraint_challenge_step, quotient_commitment_step, randomization_commitment_step, ood_pow_step, permutation_steps, pair_steps, only_with, is_positive, closing_steps}
+use Rattle.p3_batch_stark.specs.BatchScript.{Shape, pattern, instance_label, from_main, from_preprocessed, from_lookup, from_permutation, from_quotient, from_ood, from_opening, degree_bits_step, main_commitment_step, public_values_step, preprocessed_commitment_step, lookup_terminal_step, constraint_challenge_step, quotient_commitment_step, randomization_commitment_step, permutation_steps, pair_steps, only_with, is_positive, closing_steps}
 
 -- two lists whose fronts have one length are equal part by part
 pub parts-equal : {A : Type 0} (us vs xs ys : List A) → length us ≡ length vs → us ++ xs ≡ vs ++ ys → (us ≡ vs) × (xs ≡ ys)

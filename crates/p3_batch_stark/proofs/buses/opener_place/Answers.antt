@@ -1,38 +1,35 @@
-use Rattle.std.proofs.Common.{◌≡◌, ℕ, ◌<◌, length, get_or, map, sym, ◌∙◌, ap, arith}
-use Rattle.std.proofs.lemmas.List.{length-map}
-use Rattle.p3_air.specs.Tree.{local}
+use Rattle.std.proofs.Common.{◌≡◌, ℕ, List, string_bytes, Some, None, ap, sym, subst}
+use Rattle.std.specs.Prelude.{bytes_eq}
+use Rattle.std.specs.BTreeMap.{get_by_text}
+use Rattle.std.specs.Map.{update}
+use Rattle.std.specs.Option.{unwrap_or}
+use Rattle.std.proofs.lemmas.Map.Text.{btree_map_updates_text}
+use Rattle.std.proofs.lemmas.Result.{IfOk-at_ok}
 use Rattle.p3_lookup.specs.Written.{bus_of_kind}
-use Rattle.p3_lookup.specs.Packing.{same_name}
-use Rattle.p3_batch_stark.proofs.Numbered.{opener-found, mapped-at, none-more}
+use Rattle.p3_batch_stark.specs.Buses.{OpensBy}
+use Rattle.p3_batch_stark.proofs.Numbered.{update-same}
 use Rattle.p3_batch_stark.proofs.buses.opener_place.Goals as goal
 
-pub returns-then-have_one_name-clause-opener : goal.returns-then-have_one_name-clause-opener
-returns-then-have_one_name-clause-opener c =
-    let ks = c.args.kinds.now in
-    let i = c.args.place in
-    let e = c.loop-earlier.earlier in
-    let before : e < length ks = omega (arith, c.requires.place) in
-    opener-found (map bus_of_kind ks) i e (omega (arith, c.requires.place, length-map ks bus_of_kind)) (omega arith) c.loop-earlier.invariant
-    (λ lt. ap (λ b. same_name b (get_or (map bus_of_kind ks) e local)) (mapped-at bus_of_kind ks i c.index-kinds-place.result local c.requires.place c.index-kinds-place.is)
-    ∙ ap (same_name (bus_of_kind c.index-kinds-place.result)) (mapped-at bus_of_kind ks e c.index-kinds-earlier.result local before c.index-kinds-earlier.is)
-    ∙ sym c.if-have_one_name.ensures)
+-- the name has a place
+pub returns-in-Some : goal.returns-in-Some
+returns-in-Some c =
+    let f = get_by_text c.args.openers.now in
+    let name = string_bytes c.in-Global.name in
+    let o = c.in-Some.opener.now in
+    let found : f name ≡ Some o = sym (subst (λ bs. Some o ≡ f bs) c.as_str.ensures.value c.in-Some.ensures.value) in
+    subst (λ k. OpensBy f (bus_of_kind k) c.args.place o f) (sym c.in-Global.is) (sym (ap (λ r. unwrap_or r c.args.place) found), update-same f name (Some o) found)
 
-pub loop-earlier-preserved : goal.loop-earlier-preserved
-loop-earlier-preserved c =
-    let ks = c.args.kinds.now in
+-- the name gets its place
+pub returns-in_ok-insert-in-Global : goal.returns-in_ok-insert-in-Global
+returns-in_ok-insert-in-Global c =
+    let f = get_by_text c.args.openers.now in
+    let after = get_by_text c.insert.new.self in
+    let name = string_bytes c.in-Global.name in
     let i = c.args.place in
-    let e = c.loop-earlier.earlier in
-    let before : e < length ks = omega (arith, c.requires.place) in
-    none-more (λ j. same_name (get_or (map bus_of_kind ks) i local) (get_or (map bus_of_kind ks) j local)) e c.loop-earlier.invariant
-    (ap (λ b. same_name b (get_or (map bus_of_kind ks) e local)) (mapped-at bus_of_kind ks i c.index-kinds-place.result local c.requires.place c.index-kinds-place.is)
-    ∙ ap (same_name (bus_of_kind c.index-kinds-place.result)) (mapped-at bus_of_kind ks e c.index-kinds-earlier.result local before c.index-kinds-earlier.is)
-    ∙ sym c.if-have_one_name.ensures)
-
-pub returns-clause-opener : goal.returns-clause-opener
-returns-clause-opener c =
-    let ks = c.args.kinds.now in
-    let i = c.args.place in
-    let end : c.loop-earlier.earlier ≡ i = omega arith in
-    opener-found (map bus_of_kind ks) i i (omega (arith, c.requires.place, length-map ks bus_of_kind)) (omega arith)
-    (λ j lt. c.loop-earlier.invariant j (omega (arith, lt, end)))
-    (λ lt. absurd (omega (arith, lt)))
+    let none : f name ≡ None = sym (subst (λ bs. None ≡ f bs) c.as_str.ensures.value c.in_default.ensures.value) in
+    let key = c.in_ok-key-in-Global.key in
+    let text = IfOk-at_ok (λ s. string_bytes s ≡ c.as_str-in-Global.result.now) c.in_ok-key-in-Global.was c.from_str.ensures.ok in
+    let sets = btree_map_updates_text (string_bytes key) c.args.openers.now c.insert.new.self _ c.in_ok-insert-in-Global.ensures.updates in
+    let named = subst (λ bs. string_bytes key ≡ bs) c.as_str-in-Global.ensures.value text in
+    subst (λ k. OpensBy f (bus_of_kind k) i i after) (sym c.in-Global.is)
+    (sym (ap (λ r. unwrap_or r i) none), subst (λ bs. (q : List ℕ) → after q ≡ update bytes_eq f bs (Some i) q) named sets)

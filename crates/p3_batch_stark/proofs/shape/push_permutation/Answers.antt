@@ -1,4 +1,4 @@
-use Rattle.std.proofs.Common.{append_assoc, OnOk}
+use Rattle.std.proofs.Common.{append_assoc}
 use Rattle.p3_batch_stark.specs.Laws.Phases.{permutation_cases}
 use Rattle.p3_batch_stark.proofs.shape.push_permutation.Goals as goal
 

@@ -1,4 +1,4 @@
-use Rattle.std.proofs.Common.{append_assoc, ◌++◌, ◌∷◌, [], ap, ◌∙◌}
+use Rattle.std.proofs.Common.{append_assoc, ◌++◌, ap, ◌∙◌}
 use Rattle.std.proofs.lemmas.List.{replicate_more}
 use Rattle.p3_batch_stark.specs.BatchScript.{lookup_terminal_step}
 use Rattle.p3_batch_stark.proofs.shape.push_terminals.Goals as goal

@@ -1,4 +1,4 @@
-use Rattle.std.proofs.Common.{◌≡◌, ap, ◌∙◌}
+use Rattle.std.proofs.Common.{◌∙◌}
 use Rattle.p3_batch_stark.specs.BatchScript.{separator}
 use Rattle.p3_batch_stark.proofs.shape.BatchShape.domain_separator.Goals as goal
 

@@ -1,5 +1,4 @@
-use Rattle.std.proofs.Common.{rules, ◌≡◌, ◌++◌, ap, ◌∙◌, length, flat_map}
-use Rattle.p3_challenger.specs.Separator.{eight_bytes}
+use Rattle.std.proofs.Common.{rules, ◌≡◌, ap, length}
 use Rattle.p3_batch_stark.specs.BatchScript.{instance_label}
 use Rattle.p3_batch_stark.proofs.shape.BatchShape.label.Goals as goal
 

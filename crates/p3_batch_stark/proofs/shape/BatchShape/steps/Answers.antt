@@ -1,6 +1,6 @@
 use Rattle.std.proofs.Common.{◌≡◌, ◌++◌, ap, ◌∙◌, map, List}
 use Rattle.p3_challenger.specs.declared.script.Interaction.{Interaction}
-use Rattle.p3_batch_stark.specs.BatchScript.{Shape, pattern, degree_bits_step, public_values_step}
+use Rattle.p3_batch_stark.specs.BatchScript.{pattern, degree_bits_step, public_values_step}
 use Rattle.p3_batch_stark.specs.Laws.Matched.{grown}
 use Rattle.p3_batch_stark.proofs.shape.BatchShape.steps.Goals as goal
 

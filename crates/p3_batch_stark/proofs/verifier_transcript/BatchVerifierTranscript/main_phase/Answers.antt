@@ -1,4 +1,4 @@
-use Rattle.std.proofs.Common.{◌≡◌, ◌++◌, ◌∷◌, map, length, ap, sym, ◌∙◌, take, drop}
+use Rattle.std.proofs.Common.{◌++◌, ◌∷◌, map, length, ap, sym, ◌∙◌}
 use Rattle.std.specs.List.{fold}
 use Rattle.std.proofs.Math.ListN.{drop_of_length-le}
 use Rattle.std.proofs.lemmas.List.{take_all}

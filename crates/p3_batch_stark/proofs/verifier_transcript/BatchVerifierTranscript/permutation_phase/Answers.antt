@@ -1,5 +1,5 @@
-use Rattle.std.proofs.Common.{◌≡◌, ◌++◌, ◌∷◌, map, length, ap, sym, subst, ◌∙◌, take, drop}
-use Rattle.std.specs.Prelude.{is_some, IsTrue}
+use Rattle.std.proofs.Common.{◌++◌, ◌∷◌, map, ap, sym, subst, ◌∙◌}
+use Rattle.std.specs.Prelude.{is_some}
 use Rattle.std.specs.List.{fold}
 use Rattle.std.specs.Option.{option_copied, option_map_or}
 use Rattle.std.proofs.Math.ListN.{drop_of_length-le}

@@ -2,7 +2,6 @@ use Rattle.std.proofs.Common.{◌≡◌, ◌++◌, ◌∷◌, map, drop, take}
 use Rattle.std.specs.List.{fold}
 use Rattle.std.specs.Option.{option_copied, option_map_or}
 use Rattle.p3_batch_stark.specs.BatchScript.{lookup_terminal_step, constraint_challenge_step, from_quotient}
-use Rattle.p3_batch_stark.specs.Laws.Phases.{plays-permutation}
 use Rattle.p3_batch_stark.proofs.verifier_transcript.BatchVerifierTranscript.permutation_phase.Given as goal
 
 abbrev pub invariant-loop-terminal : goal.invariant-loop-terminal
