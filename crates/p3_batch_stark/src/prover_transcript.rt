@@ -116,7 +116,7 @@ impl<
     }
 
     /// Grinds, draws the lookups' pair, and lays it out for the buses of each instance's lookups, where instances have lookups. The
-    /// second part of the answer is the grinding value. `WitnessNotFound` is where no element passes.
+    /// second part of the answer is the grinding value. `WitnessNotFound` is where no element passes, and leaves the challenger as it was.
     #[tactic(auto, unfolding(crate::specs::BatchScript::from_lookup, crate::specs::BatchScript::pair_script, p3_challenger::specs::Script::play), using(crate::specs::Laws::Phases::pair_cases))]
     pub fn lookup_phase<LG: LookupProtocol>(
         &mut self,
@@ -179,7 +179,7 @@ impl<
         }
     }
 
-    /// Grinds, and draws zeta. `WitnessNotFound` is where no element passes, and the only refusal.
+    /// Grinds, and draws zeta. `WitnessNotFound` is where no element passes, and the only refusal; it leaves the challenger as it was.
     #[tactic(auto, unfolding(crate::specs::BatchScript::from_ood, crate::specs::BatchScript::ood_script, p3_challenger::specs::Script::play))]
     pub fn ood_phase(&mut self) -> Result<(EF, F), TranscriptError>
         requires turn { self.old.remaining ≡ from_ood EF.DIMENSION self.old.shape }

@@ -124,7 +124,7 @@ impl<
     }
 
     /// Tests the grinding value, draws the lookups' pair, and lays it out for the buses of each instance's lookups, where instances
-    /// have lookups.
+    /// have lookups. A value that fails the test leaves the challenger behind that test, and any other refusal as it was.
     #[tactic(auto, unfolding(crate::specs::BatchScript::from_lookup, crate::specs::BatchScript::pair_script, p3_challenger::specs::Script::play), using(crate::specs::Laws::Phases::pair_cases))]
     pub fn lookup_phase<LG: LookupProtocol>(
         &mut self,
@@ -200,7 +200,8 @@ impl<
         }
     }
 
-    /// Tests the grinding value, and draws zeta.
+    /// Tests the grinding value, and draws zeta. A value that fails the test leaves the challenger behind that test; the other refusal
+    /// leaves it as it was.
     #[tactic(auto, unfolding(crate::specs::BatchScript::from_ood, crate::specs::BatchScript::ood_script, p3_challenger::specs::Script::play))]
     pub fn ood_phase(&mut self, witness: F) -> Result<EF, BatchTranscriptFailure>
         requires turn { self.old.remaining ≡ from_ood EF.DIMENSION self.old.shape }
