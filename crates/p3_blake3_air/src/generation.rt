@@ -1,5 +1,5 @@
 //! The rows of compressions.
-ghost use Rattle.std.specs.Prelude.{◌≡◌, ℕ, ◌+◌, ◌*◌, ◌^◌, ◌<◌, ◌≤◌, suc, List, [], ◌∷◌, ◌++◌, IfOk, MatchOption, Err, ◌↔◌, length, map};
+ghost use Rattle.std.specs.Prelude.{◌≡◌, ℕ, ◌+◌, ◌*◌, ◌^◌, ◌<◌, ◌≤◌, suc, List, [], ◌∷◌, ◌++◌, IfOk, MatchOption, MatchResult, Err, ◌↔◌, ◌⊎◌, length, map};
 ghost use Rattle.p3_blake3.specs.Compress.{Input, State, first_state, output_of};
 ghost use Rattle.p3_air.specs.Joined.{joined};
 ghost use Rattle.p3_blake3.specs.TraceRow.{bit_cells, state_cells, state, row_cells, trace_row};
@@ -115,6 +115,21 @@ fn room_for(rows: usize, extra: usize) -> Option<usize>
     cells.checked_mul(1 << extra)
 }
 
+/// The number of cells of so many rows times 2^extra, or why there is no trace of them.
+pub fn room_of(rows: usize, extra: usize) -> Result<usize, TraceError>
+    ensures answers { MatchResult result (λ n. IsPowerOfTwo rows × (IsTooLong rows extra → ⊥)) (λ e. (e ≡ NotPowerOfTwo) ⊎ (e ≡ TooLong)) }
+    ensures not_power { (result ≡ Err NotPowerOfTwo) ↔ (IsPowerOfTwo rows → ⊥) }
+    ensures too_long { (result ≡ Err TooLong) ↔ (IsPowerOfTwo rows × IsTooLong rows extra) }
+{
+    if !is_power_of_two(rows) {
+        return Err(TraceError::NotPowerOfTwo);
+    }
+    match room_for(rows, extra) {
+        None => Err(TraceError::TooLong),
+        Some(room) => Ok(room),
+    }
+}
+
 /// The trace of the compressions of these blocks (16 words each) and chaining values (8 words): row i has the counter i, as
 /// block length the number of rows, of which the low 32 bits, and no flags (`p3_blake3_air::generate_trace_rows`). It has 9168
 /// columns. Room is kept for the cells times 2^`extra_capacity_bits`.
@@ -135,14 +150,7 @@ pub fn generate_trace_rows<F: PrimeField64>(
     ensures any_field { result ≡ Err WrongCharacteristic → ⊥ }
     ensures none_is_no_power { result ≡ Err NoInput → ⊥ }
 {
-    if !is_power_of_two(inputs.len()) {
-        return Err(TraceError::NotPowerOfTwo);
-    }
-    match room_for(inputs.len(), extra_capacity_bits) {
-        None => Err(TraceError::TooLong),
-        Some(room) => {
-            let values = rows_of(alloc, inputs, room)?;
-            Ok(RowMajorMatrix::new(values, 9168))
-        }
-    }
+    let room = room_of(inputs.len(), extra_capacity_bits)?;
+    let values = rows_of(alloc, inputs, room)?;
+    Ok(RowMajorMatrix::new(values, 9168))
 }

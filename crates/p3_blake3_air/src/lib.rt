@@ -11,6 +11,7 @@ mod generation;
 mod half;
 pub mod meanings;
 mod places;
+mod random;
 mod reading;
 mod rounds;
 mod writing;

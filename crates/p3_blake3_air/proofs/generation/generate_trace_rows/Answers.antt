@@ -14,15 +14,15 @@ fills r values inputs e =
     omega (arith, long)
 
 pub new-requires : goal.new-requires
-new-requires g c = fills g.F.RingCore.ring _ c.args.inputs.now c.in_ok-values-in-Some.ensures
+new-requires g c = fills g.F.RingCore.ring _ c.args.inputs.now c.in_ok-values.ensures
 
 row_of : {F : Type 0} (r : Ring F) (values : List F) (inputs : List (List ℕ)) (m : Rows F) → values ≡ map (of_nat r) (rows_cells inputs) → m ≡ record { values = values; width = 9168 }
     → (i : ℕ) → i < length inputs → row_at m i ≡ trace_row r (input_of (row_words inputs i))
 row_of {F = F} r values inputs m e f i lt =
     (λ j. row_at (f j) i) ∙ ((λ j. row_at (record { values = e j; width = 9168 }) i) ∙ generated_row r inputs i lt)
 
-pub returns-in_ok-values-in-Some-clause-row : goal.returns-in_ok-values-in-Some-clause-row
-returns-in_ok-values-in-Some-clause-row g c = row_of g.F.RingCore.ring _ c.args.inputs.now _ c.in_ok-values-in-Some.ensures c.new.ensures
+pub returns-clause-row : goal.returns-clause-row
+returns-clause-row g c = row_of g.F.RingCore.ring _ c.args.inputs.now _ c.in_ok-values.ensures c.new.ensures
 
 height_of : {F : Type 0} (r : Ring F) (values : List F) (inputs : List (List ℕ)) (m : Rows F) → values ≡ map (of_nat r) (rows_cells inputs) → m ≡ record { values = values; width = 9168 } → height m ≡ length inputs
 height_of {F = F} r values inputs m e f =
@@ -31,5 +31,5 @@ height_of {F = F} r values inputs m e f =
     let same : height whole ≡ length inputs = omega (arith, long) in
     (λ j. height (f j)) ∙ same
 
-pub returns-in_ok-values-in-Some-clause-height : goal.returns-in_ok-values-in-Some-clause-height
-returns-in_ok-values-in-Some-clause-height g c = height_of g.F.RingCore.ring _ c.args.inputs.now _ c.in_ok-values-in-Some.ensures c.new.ensures
+pub returns-clause-height : goal.returns-clause-height
+returns-clause-height g c = height_of g.F.RingCore.ring _ c.args.inputs.now _ c.in_ok-values.ensures c.new.ensures
