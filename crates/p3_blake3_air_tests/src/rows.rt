@@ -1,0 +1,73 @@
+//! A row of one compression, beside the row that a separate program has committed.
+ghost use Rattle.std.specs.Prelude.{◌≡◌, ◌<◌, length};
+ghost use Rattle.p3_matrix.specs.Matrix.{height};
+
+use crate::support::{COUNTED, rows_of};
+use p3_blake3_air::{Blake3Cols, write_limbs, write_word};
+use p3_field::{BabyBear, FieldCore, RingCore};
+use std::test::Fail;
+
+// A number in base 31 with one digit more.
+fn with_digit(sum: BabyBear, digit: BabyBear) -> BabyBear {
+    let shifted = sum * BabyBear::from_u64(31);
+    shifted + digit
+}
+
+// All cells in one number, as the digits of a number in base 31.
+fn fingerprint(row: &[BabyBear]) -> BabyBear {
+    let mut sum = BabyBear::ZERO;
+    for cell in row {
+        sum = with_digit(sum, *cell);
+    }
+    sum
+}
+
+#[test]
+fn row_of_the_words_1_to_24(rt: HostRuntime) -> Result<(), Fail> {
+    let alloc = rt.alloc();
+    let rows = rows_of(alloc, &[COUNTED])?;
+    assert_eq!(rt; rows.width(), 9168);
+    assert!(rt; fingerprint(rows.row(0)) == BabyBear::from_u64(1074250010));
+    let output = [
+        0x56a2e470, 0x402d2224, 0xa998ea87, 0xf65315c7, 0x6d5ae661, 0xcb1e6926, 0x95f8e864,
+        0xbb2d861f, 0x7b6eeb39, 0xda65012c, 0x449e900d, 0x426e12d1, 0x15f01d86, 0x655b9c0b,
+        0x853383f8, 0xb09e95fb,
+    ];
+    assert!(rt; Blake3Cols::new(rows.row(0)).output_words() == output);
+    Ok(())
+}
+
+// Cells of that row by their names.
+#[test]
+fn cells_by_name(rt: HostRuntime) -> Result<(), Fail> {
+    let alloc = rt.alloc();
+    let rows = rows_of(alloc, &[COUNTED])?;
+    let cells = Blake3Cols::new(rows.row(0));
+    // The second word is 2, the last one 24, the length 1.
+    assert!(rt; *cells.inputs(1, 1) == BabyBear::ONE);
+    assert!(rt; *cells.chaining_values(1, 3, 4) == BabyBear::ONE);
+    assert!(rt; *cells.counter_low(0) == BabyBear::ZERO);
+    assert!(rt; *cells.counter_hi(0) == BabyBear::ZERO);
+    assert!(rt; *cells.block_len(0) == BabyBear::ONE);
+    assert!(rt; *cells.flags(0) == BabyBear::ZERO);
+    assert!(rt; *cells.initial_row0(2, 0) == BabyBear::from_u64(19));
+    assert!(rt; *cells.initial_row2(0, 1) == BabyBear::from_u64(0x6a09));
+    assert!(rt; *cells.final_round_helpers(0, 3) == BabyBear::ONE);
+    assert!(rt; *cells.outputs(3, 3, 31) == BabyBear::ONE);
+    let first = cells.full_rounds(0);
+    assert!(rt; *first.state_prime().row0(0, 0) == BabyBear::from_u64(39));
+    assert!(rt; *first.state_middle().row2(3, 1) == BabyBear::from_u64(4053));
+    assert!(rt; *first.state_middle_prime().row1(3, 31) == BabyBear::ONE);
+    assert!(rt; *cells.full_rounds(6).state_output().row3(0, 4) == BabyBear::ONE);
+    Ok(())
+}
+
+// A word's bits in the cells 1 to 32, another's limbs in 34 and 35, and 2 in all others.
+#[test]
+fn written_words(rt: HostRuntime) -> Result<(), Fail> {
+    let mut row = [BabyBear::TWO; 40];
+    write_word(&mut row, 1, 0x80000005);
+    write_limbs(&mut row, 34, 0x00020001);
+    assert!(rt; fingerprint(&row) == BabyBear::from_u64(1439454948));
+    Ok(())
+}
