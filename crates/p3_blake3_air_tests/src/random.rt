@@ -1,7 +1,4 @@
 //! Rows of compressions of random words.
-ghost use Rattle.std.specs.Prelude.{◌≡◌, ◌<◌, length};
-ghost use Rattle.p3_matrix.specs.Matrix.{height};
-
 use p3_blake3_air::{Blake3Air, Blake3Cols};
 use p3_field::BabyBear;
 use p3_matrix::RowMajorMatrix;

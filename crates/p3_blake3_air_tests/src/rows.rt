@@ -1,7 +1,4 @@
 //! A row of one compression, beside the row that a separate program has committed.
-ghost use Rattle.std.specs.Prelude.{◌≡◌, ◌<◌, length};
-ghost use Rattle.p3_matrix.specs.Matrix.{height};
-
 use crate::support::{COUNTED, rows_of};
 use p3_blake3_air::{Blake3Cols, write_limbs, write_word};
 use p3_field::{BabyBear, FieldCore, RingCore};

@@ -1,5 +1,5 @@
 //! What several tests share.
-ghost use Rattle.std.specs.Prelude.{◌≡◌, ◌<◌, IfOk, length};
+ghost use Rattle.std.specs.Prelude.{◌≡◌, IfOk, length};
 ghost use Rattle.p3_matrix.specs.Matrix.{height};
 
 use p3_blake3_air::{TraceError, generate_trace_rows};

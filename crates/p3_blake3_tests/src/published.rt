@@ -1,5 +1,5 @@
 //! The compression against published hashes of BLAKE3.
-ghost use Rattle.std.specs.Prelude.{◌+◌, ◌≤◌};
+ghost use Rattle.std.specs.Prelude.{◌≤◌};
 
 use p3_blake3::{IV, compress};
 use std::test::Fail;
