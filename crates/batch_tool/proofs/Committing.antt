@@ -1,23 +1,24 @@
 -- What is committed: the records that the answer of `prove` is made of.
-use Rattle.std.proofs.Common.{◌≡◌, ℕ, ◌<◌, Bool, true, false, List, ◌++◌, [], ◌∷◌, get_or, refl, sym, ◌∙◌, ap, subst}
+use Rattle.std.proofs.Common.{◌≡◌, ℕ, ◌<◌, Bool, true, false, List, ◌++◌, [], ◌∷◌, length, get_or, refl, sym, ◌∙◌, ap, subst}
 use Rattle.std.specs.Prelude.{IsTrue}
 use Rattle.p3_field.specs.Field.{TwoAdic}
 use Rattle.p3_field.specs.Domain.{CosetData}
 use Rattle.p3_field.specs.Ring.{of_nat}
 use Rattle.p3_field.specs.BabyBear.{bear_ring}
-use Rattle.p3_field.specs.Quartic.{quartic_ring, quartic_parts, quartic_whole}
+use Rattle.p3_field.specs.Quartic.{quartic_ring}
 use Rattle.p3_field.specs.declared.baby_bear.BabyBear.{BabyBear}
 use Rattle.p3_matrix.specs.Matrix.{Rows}
 use Rattle.p3_challenger.specs.declared.sha256_challenger.Sha256Challenger.{Sha256Challenger}
 use Rattle.p3_field.specs.declared.quartic.QuarticExtension.{QuarticExtension}
 use Rattle.p3_field.specs.Laws.BearField.{bear_of_canonical}
-use Rattle.batch_tool.specs.Script.{begun, play, observe_all, draw_all, after_draws, passes, after_grinding}
-use Rattle.batch_tool.specs.BatchScript.{single_shape, script_to_alpha}
-use Rattle.batch_tool.proofs.Draws.{alpha-script, quotient-script, quotient-challenges, zeta-script, zeta-state}
+use Rattle.p3_challenger.specs.Script.{Elements, begun, play, passes}
+use Rattle.p3_batch_stark.specs.Grinding.{NonePasses, behind_test, number_passes as passes_number, value_passes}
+use Rattle.p3_batch_stark.specs.Single.{single_shape}
 use Rattle.plain_pcs.specs.Extension.{evaluations}
-use Rattle.plain_pcs.specs.Observing.{commitment_elements}
+use Rattle.plain_pcs.specs.Scheme.{PlainCommitmentData}
+use Rattle.batch_tool.proofs.Draws.{alpha-script, quotient-script, zeta-script}
 use Rattle.batch_tool.specs.Plain.{AreInterpolants}
-use Rattle.batch_tool.specs.Honest.{Instance, IsCommitted, trace_domain, quotient_domain, commitment_domain, quotient_columns, seeded_state, seeded, behind_alpha, before_grinding, whole_transcript, number_passes, IsGround, alpha, zeta, zeta_behind, degree_bits_elements}
+use Rattle.batch_tool.specs.Honest.{Instance, IsCommitted, trace_domain, quotient_domain, commitment_domain, quotient_columns, seeded_state, seeded, behind_alpha, before_grinding, whole_transcript, number_passes, IsGround, alpha, zeta, zeta_behind, committed_to, script_to_alpha}
 use Rattle.batch_tool.specs.Swap.{swap_stated}
 use Rattle.batch_tool.specs.Tool.{tool}
 
@@ -32,13 +33,13 @@ interpolants-along t d e columns others fs p q a =
     subst Q q (subst P p a)
 
 -- the transcript behind alpha's draw of a swap table
-pub behind-alpha-is : (k : ℕ) (a b x : BabyBear) (old : Sha256Challenger) (main : Rows BabyBear) (mains : List (Rows BabyBear)) (publics : List BabyBear)
-    → old ≡ seeded_state tool (single_shape 2 3 4) → mains ≡ main ∷ [] → publics ≡ a ∷ b ∷ x ∷ []
-    → play tool.challenger (begun BabyBear old) (script_to_alpha 4 (quartic_parts (of_nat quartic_ring k) ∷ []) (commitment_elements bear_ring (record { matrices = mains })) (publics ∷ []))
+pub behind-alpha-is : (k : ℕ) (a b x : BabyBear) (main : Rows BabyBear) (commitment : PlainCommitmentData BabyBear) (publics : List BabyBear)
+    → commitment ≡ committed_to main → publics ≡ a ∷ b ∷ x ∷ []
+    → play tool.challenger (begun QuarticExtension (seeded_state tool (single_shape 2 (length publics) 4))) (script_to_alpha quartic_ring 4 k commitment publics)
     ≡ behind_alpha tool (swap_stated k a b x) main
-unfolding tool swap_stated behind_alpha degree_bits_elements
-behind-alpha-is k a b x old main mains publics p q r =
-    λ i. play tool.challenger (begun BabyBear (p i)) (script_to_alpha 4 (quartic_parts (of_nat quartic_ring k) ∷ []) (commitment_elements bear_ring (record { matrices = q i })) (r i ∷ []))
+unfolding tool swap_stated behind_alpha
+behind-alpha-is k a b x main commitment publics p q =
+    λ i. play tool.challenger (begun QuarticExtension (seeded_state tool (single_shape 2 (length (q i)) 4))) (script_to_alpha quartic_ring 4 k (p i) (q i))
 
 module _ (k : ℕ) (a b x : BabyBear) (main quotient : Rows BabyBear) where
   abbrev swap : Instance BabyBear
@@ -60,59 +61,51 @@ module _ (k : ℕ) (a b x : BabyBear) (main quotient : Rows BabyBear) where
   }
 
   -- the state that the grinding begins with
-  pub before-grinding-is : (old new : Sha256Challenger) (quotients : List (Rows BabyBear)) → old ≡ (behind_alpha tool swap main).state → quotients ≡ quotient ∷ []
-      → new ≡ observe_all tool.challenger old (commitment_elements bear_ring (record { matrices = quotients })) → new ≡ (before_grinding tool swap main quotient).state
+  pub before-grinding-is : (old new : Sha256Challenger) (commitment : PlainCommitmentData BabyBear) → old ≡ (behind_alpha tool swap main).state → commitment ≡ committed_to quotient
+      → new ≡ tool.challenger.observe_opaque old commitment → new ≡ (before_grinding tool swap main quotient).state
   unfolding tool swap_stated before_grinding
-  before-grinding-is old new quotients p q e =
-      e ∙ ((λ i. observe_all tool.challenger (p i) (commitment_elements bear_ring (record { matrices = q i })))
-      ∙ sym (quotient-script tool.challenger (behind_alpha tool swap main) (commitment_elements bear_ring (record { matrices = quotient ∷ [] }))))
+  before-grinding-is old new commitment p q e =
+      e ∙ ((λ i. tool.challenger.observe_opaque (p i) (q i)) ∙ sym (ap (λ t. t.state) (quotient-script tool.challenger (behind_alpha tool swap main) (committed_to quotient))))
 
   pub nothing-passes : (old : Sha256Challenger) → old ≡ (before_grinding tool swap main quotient).state
-      → ((n : ℕ) → n < 2013265921 → passes tool.challenger old 4 (of_nat bear_ring n ∷ []) ≡ false)
+      → NonePasses tool.challenger bear_ring 2013265921 old 4
       → (n : ℕ) → n < 2013265921 → number_passes tool swap main quotient n ≡ false
   unfolding tool swap_stated
-  nothing-passes old p h = λ n lt. ap (λ s. passes tool.challenger s 4 (of_nat bear_ring n ∷ [])) (sym p) ∙ h n lt
+  nothing-passes old p h = λ n lt. ap (λ s. passes tool.challenger s 4 (Elements (of_nat bear_ring n ∷ []))) (sym p) ∙ h n lt
 
   pub witness-is-ground : (old : Sha256Challenger) (w : BabyBear) → old ≡ (before_grinding tool swap main quotient).state
-      → passes tool.challenger old 4 (w ∷ []) ≡ true → ((n : ℕ) → n < w.value → passes tool.challenger old 4 (of_nat bear_ring n ∷ []) ≡ false)
+      → value_passes tool.challenger bear_ring old 4 w ≡ true → ((n : ℕ) → n < w.value → passes_number tool.challenger bear_ring old 4 n ≡ false)
       → IsGround tool swap main quotient w.value
   unfolding tool swap_stated
   witness-is-ground old w p t f = record {
     below_order = w.in_range;
-    passing = ap (λ x. passes tool.challenger (before_grinding tool swap main quotient).state 4 (x ∷ [])) (bear_of_canonical w) ∙ (ap (λ s. passes tool.challenger s 4 (w ∷ [])) (sym p) ∙ t);
-    least = λ m lt. ap (λ s. passes tool.challenger s 4 (of_nat bear_ring m ∷ [])) (sym p) ∙ f m lt;
+    passing = ap (λ x. passes tool.challenger (before_grinding tool swap main quotient).state 4 (Elements (x ∷ []))) (bear_of_canonical w)
+        ∙ (ap (λ s. passes tool.challenger s 4 (Elements (w ∷ []))) (sym p) ∙ t);
+    least = λ m lt. ap (λ s. passes tool.challenger s 4 (Elements (of_nat bear_ring m ∷ []))) (sym p) ∙ f m lt;
   }
 
-  one-challenge : (d : List BabyBear) × ((before_grinding tool swap main quotient).challenges ≡ d ∷ [])
-  unfolding tool swap_stated before_grinding behind_alpha degree_bits_elements
+  one-challenge : (d : QuarticExtension) × ((before_grinding tool swap main quotient).challenges ≡ d ∷ [])
+  unfolding tool swap_stated before_grinding behind_alpha
   one-challenge = (
-    draw_all tool.challenger _ 4,
-    quotient-challenges tool.challenger (behind_alpha tool swap main) (commitment_elements bear_ring (record { matrices = quotient ∷ [] }))
-        ∙ ap (λ t. t.challenges) (alpha-script tool.challenger (seeded tool swap).state (quartic_parts (of_nat quartic_ring k)) (commitment_elements bear_ring (record { matrices = main ∷ [] })) (a ∷ b ∷ x ∷ [])),
+    tool.challenger.draw _,
+    ap (λ t. t.challenges) (quotient-script tool.challenger (behind_alpha tool swap main) (committed_to quotient))
+        ∙ ap (λ t. t.challenges) (alpha-script tool.challenger quartic_ring 4 k (seeded tool swap).state (committed_to main) (a ∷ b ∷ x ∷ [])),
   )
 
   pub zeta-is : (old : Sha256Challenger) (w : BabyBear) (z : QuarticExtension) → old ≡ (before_grinding tool swap main quotient).state
-      → quartic_parts z ≡ draw_all tool.challenger (after_grinding tool.challenger old 4 (w ∷ [])) 4 → z ≡ zeta_behind tool swap main quotient w
+      → z ≡ tool.challenger.draw (behind_test tool.challenger old 4 w) → z ≡ zeta_behind tool swap main quotient w
   unfolding tool swap_stated whole_transcript
   zeta-is old w z p e =
       let before = before_grinding tool swap main quotient in
-      let drawn : Sha256Challenger → List BabyBear = λ s. draw_all tool.challenger (after_grinding tool.challenger s 4 (w ∷ [])) 4 in
+      let drawn : Sha256Challenger → QuarticExtension = λ s. tool.challenger.draw (behind_test tool.challenger s 4 w) in
       let (d, one) = one-challenge in
       let all : (whole_transcript tool swap main quotient w).challenges ≡ d ∷ drawn before.state ∷ [] =
-      zeta-script tool.challenger before w ∙ ap (λ l. l ++ drawn before.state ∷ []) one in
-      ap quartic_whole (e ∙ (ap drawn p ∙ ap (λ l. get_or l 1 []) (sym all)))
-
-  -- the state behind zeta's draw, with which the opening begins
-  pub state-is : (old new : Sha256Challenger) (w : BabyBear) → old ≡ (before_grinding tool swap main quotient).state
-      → new ≡ after_draws tool.challenger (after_grinding tool.challenger old 4 (w ∷ [])) 4 → new ≡ (whole_transcript tool swap main quotient w).state
-  unfolding tool swap_stated whole_transcript
-  state-is old new w p e =
-      e ∙ (ap (λ s. after_draws tool.challenger (after_grinding tool.challenger s 4 (w ∷ [])) 4) p
-      ∙ sym (zeta-state tool.challenger (before_grinding tool swap main quotient) w))
+      ap (λ t. t.challenges) (zeta-script tool.challenger 4 4 before w) ∙ ap (λ l. l ++ drawn before.state ∷ []) one in
+      e ∙ (ap drawn p ∙ ap (λ l. get_or l 1 quartic_ring.zero) (sym all))
 
   -- the same, of the witness's number
   pub zeta-of-number : (old : Sha256Challenger) (w : BabyBear) (z : QuarticExtension) → old ≡ (before_grinding tool swap main quotient).state
-      → quartic_parts z ≡ draw_all tool.challenger (after_grinding tool.challenger old 4 (w ∷ [])) 4 → z ≡ zeta tool swap main quotient w.value
+      → z ≡ tool.challenger.draw (behind_test tool.challenger old 4 w) → z ≡ zeta tool swap main quotient w.value
   unfolding tool
   zeta-of-number old w z p e = zeta-is old w z p e ∙ ap (zeta_behind tool swap main quotient) (sym (bear_of_canonical w))
 

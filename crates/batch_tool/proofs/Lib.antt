@@ -11,7 +11,6 @@ pub mod Interpolated
 pub mod JobAnswers
 pub mod OpenedLists
 mod AtZeta
-pub mod Patterns
 pub mod Proving
 pub mod QuotientLemmas
 pub mod Runs

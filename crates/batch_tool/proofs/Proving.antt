@@ -1,6 +1,6 @@
 -- The answer for a job, by what was drawn behind the grinding.
 use Rattle.std.proofs.Common.{◌≡◌, ℕ, List, Option, Some, None, Result, Ok, Err, refl, sym, subst, inl, inr}
-use Rattle.std.specs.Prelude.{IfOk, IfSome, MatchOption, codes}
+use Rattle.std.specs.Prelude.{IfOk, IfSome, MatchOption, MatchResult, codes}
 use Rattle.p3_field.specs.declared.baby_bear.BabyBear.{BabyBear}
 use Rattle.p3_field.specs.declared.quartic.QuarticExtension.{QuarticExtension}
 use Rattle.batch_tool.specs.Honest.{IsInTraceDomain}
@@ -28,6 +28,12 @@ if-some B o x e m = subst (λ v. IfSome v B) e m
 
 pub if-ok : {X E : Type 0} (B : X → Type 0) (o : Result X E) (x : X) → o ≡ Ok x → IfOk o B → B x
 if-ok B o x e m = subst (λ v. IfOk v B) e m
+
+pub at-ok : {X E : Type 0} (A : X → Type 0) (B : E → Type 0) (o : Result X E) (x : X) → o ≡ Ok x → MatchResult o A B → A x
+at-ok A B o x e m = subst (λ v. MatchResult v A B) e m
+
+pub at-err : {X E : Type 0} (A : X → Type 0) (B : E → Type 0) (o : Result X E) (x : E) → o ≡ Err x → MatchResult o A B → B x
+at-err A B o x e m = subst (λ v. MatchResult v A B) e m
 
 -- what is known of a drawn zeta, by whether one was drawn
 pub nothing-drawn : {T : Type 0} (A : Type 0) (B : BabyBear → QuarticExtension → Type 0) (o : Option (BabyBear × AtZeta QuarticExtension T)) → zeta_of o ≡ None

@@ -1,5 +1,5 @@
 -- The first check of a proof that fails, from its parts.
-use Rattle.std.proofs.Common.{◌≡◌, true, false, List, [], ◌∷◌, ◌++◌, Option, Some, None, Result, Ok, Err, inl, inr, refl, sym, ◌∙◌, subst}
+use Rattle.std.proofs.Common.{arith, ◌≡◌, true, false, List, ◌++◌, Option, Some, None, Result, Ok, Err, inl, inr, refl, sym, ◌∙◌, subst}
 use Rattle.std.proofs.Common.{ℕ, Vec, Global}
 use Rattle.std.specs.Prelude.{IfOk, IsErr, IsOkAnd, codes}
 use Rattle.std.proofs.lemmas.Bool.{false≢true}
@@ -11,7 +11,6 @@ use Rattle.p3_field.specs.declared.quartic.QuarticExtension.{QuarticExtension}
 use Rattle.batch_tool.specs.Honest.{Instance, IsInTraceDomain, before_grinding, witness_passes}
 use Rattle.batch_tool.specs.Proof.{ProofData}
 use Rattle.batch_tool.specs.Tool.{tool}
-use Rattle.batch_tool.specs.Script.{passes}
 use Rattle.batch_tool.specs.Verify.{main_of, quotient_of, Identity, opening_checks, checks_at, identity_checks, checks}
 use Rattle.batch_tool.specs.FileAnswer.{file_checks, IsFileAnswer}
 use Rattle.batch_tool.specs.Refusals.{refusal_text}
@@ -19,21 +18,14 @@ use Rattle.batch_tool.specs.declared.first_form.FirstForm.{FirstForm}
 use Rattle.batch_tool.specs.declared.status.Status.{Status}
 use Rattle.batch_tool.specs.declared.status.Status.TheVariants.{Done, Refused}
 use Rattle.batch_tool.specs.declared.refusal.Refusal.{Refusal}
-use Rattle.batch_tool.specs.declared.refusal.Refusal.TheVariants.{OodPowWitness, InvalidOpeningArgument, OodPointInDomain, OodEvaluationMismatch}
+use Rattle.batch_tool.specs.declared.refusal.Refusal.TheVariants.{OodPowWitness as RefusedOodPowWitness, InvalidOpeningArgument, OodPointInDomain, OodEvaluationMismatch}
 use Rattle.plain_pcs.specs.declared.error.PlainError.{PlainError}
-use Rattle.p3_challenger.specs.Sha256.{observed, bits_drawn}
 use Rattle.p3_challenger.specs.declared.sha256_challenger.Sha256Challenger.{Sha256Challenger}
-use Rattle.batch_tool.proofs.Draws.{zero-passes, nonzero-fails}
+use Rattle.p3_field.specs.BabyBear.{bear_ring}
+use Rattle.p3_batch_stark.specs.Grinding.{OodRefusal, value_passes}
+use Rattle.p3_batch_stark.specs.declared.failure.BatchTranscriptFailure.{BatchTranscriptFailure}
+use Rattle.p3_batch_stark.specs.declared.failure.BatchTranscriptFailure.TheVariants.{LookupPowWitness, MissingLookupPowWitness, UnexpectedLookupPowWitness, NonCanonicalLookupPowWitness, OodPowWitness, NonCanonicalOodPowWitness}
 use Rattle.batch_tool.proofs.Backend.{refusal_of}
-
--- a grinding value passes where the bits that are drawn behind it are zero
-pub passed-holds : (s : Sha256Challenger) (w : BabyBear) → bits_drawn (observed s w) 4 ≡ 0 → passes tool.challenger s 4 (w ∷ []) ≡ true
-unfolding tool
-passed-holds s w h = zero-passes (bits_drawn (observed s w) 4) h
-
-pub not-passed : (s : Sha256Challenger) (w : BabyBear) → (bits_drawn (observed s w) 4 ≡ 0 → ⊥) → passes tool.challenger s 4 (w ∷ []) ≡ true → ⊥
-unfolding tool
-not-passed s w h t = let f : true ≡ false = sym t ∙ nonzero-fails (bits_drawn (observed s w) 4) h in cc
 
 module _ (t : Instance BabyBear) (alpha zeta : QuarticExtension) (local next chunk : List QuarticExtension) where
   -- the checks of zeta and of the identity
@@ -53,29 +45,35 @@ module _ (t : Instance BabyBear) (p : ProofData BabyBear QuarticExtension) where
   abbrev Passes : Type 0
   Passes = witness_passes tool t (main_of p) (quotient_of p) p.ood_pow_witness ≡ true
 
-  -- whether the grinding value passes, by the bits that are drawn behind it
-  pub passes-by : (s : Sha256Challenger) (w : BabyBear) → s ≡ (before_grinding tool t (main_of p) (quotient_of p)).state → w ≡ p.ood_pow_witness → bits_drawn (observed s w) 4 ≡ 0 → Passes
+  -- whether the grinding value passes, by the challenger's own test at an equal state
+  pub passes-by : (s : Sha256Challenger) (w : BabyBear) → s ≡ (before_grinding tool t (main_of p) (quotient_of p)).state → w ≡ p.ood_pow_witness → value_passes tool.challenger bear_ring s 4 w ≡ true → Passes
   unfolding tool
-  passes-by s w e v h = (λ i. passes tool.challenger (sym e i) 4 (sym v i ∷ [])) ∙ passed-holds s w h
+  passes-by s w e v h = (λ i. value_passes tool.challenger bear_ring (sym e i) 4 (sym v i)) ∙ h
 
-  pub fails-by : (s : Sha256Challenger) (w : BabyBear) → s ≡ (before_grinding tool t (main_of p) (quotient_of p)).state → w ≡ p.ood_pow_witness → (bits_drawn (observed s w) 4 ≡ 0 → ⊥) → Passes → ⊥
+  pub fails-by : (s : Sha256Challenger) (w : BabyBear) (f : BatchTranscriptFailure) → s ≡ (before_grinding tool t (main_of p) (quotient_of p)).state → w ≡ p.ood_pow_witness
+      → OodRefusal tool.challenger bear_ring s 4 w f → Passes → ⊥
   unfolding tool
-  fails-by s w e v h t = not-passed s w h ((λ i. passes tool.challenger (e i) 4 (v i ∷ [])) ∙ t)
+  fails-by s w NonCanonicalOodPowWitness e v h q = let f : 4 ≡ 0 = h.0 in omega (arith, f)
+  fails-by s w (OodPowWitness b) e v h q = let f : true ≡ false = sym ((λ i. value_passes tool.challenger bear_ring (e i) 4 (v i)) ∙ q) ∙ h.1 in cc
+  fails-by s w (LookupPowWitness b) e v h q = h
+  fails-by s w (MissingLookupPowWitness b) e v h q = h
+  fails-by s w UnexpectedLookupPowWitness e v h q = h
+  fails-by s w NonCanonicalLookupPowWitness e v h q = h
 
-  pub grinding-fails : (Passes → ⊥) → FirstRefusal (checks tool t p) (Some (OodPowWitness 4))
+  pub grinding-fails : (Passes → ⊥) → FirstRefusal (checks tool t p) (Some (RefusedOodPowWitness 4))
   unfolding checks
-  grinding-fails n = first_here (check (OodPowWitness 4) Passes) (opening_checks tool t p ++ identity_checks tool t p) (OodPowWitness 4) n refl
+  grinding-fails n = first_here (check (RefusedOodPowWitness 4) Passes) (opening_checks tool t p ++ identity_checks tool t p) (RefusedOodPowWitness 4) n refl
 
   pub opening-fails : (r : Refusal) → Passes → FirstRefusal (opening_checks tool t p) (Some r) → FirstRefusal (checks tool t p) (Some r)
   unfolding checks
   opening-fails r w f =
-      refusal_later (check (OodPowWitness 4) Passes) (opening_checks tool t p ++ identity_checks tool t p) (Some r) w
+      refusal_later (check (RefusedOodPowWitness 4) Passes) (opening_checks tool t p ++ identity_checks tool t p) (Some r) w
       (first_stops (opening_checks tool t p) (identity_checks tool t p) r f)
 
   pub last-answers : (a : Option Refusal) → Passes → FirstRefusal (opening_checks tool t p) None → FirstRefusal (identity_checks tool t p) a → FirstRefusal (checks tool t p) a
   unfolding checks
   last-answers a w f g =
-      refusal_later (check (OodPowWitness 4) Passes) (opening_checks tool t p ++ identity_checks tool t p) a w
+      refusal_later (check (RefusedOodPowWitness 4) Passes) (opening_checks tool t p ++ identity_checks tool t p) a w
       (refusal_after (opening_checks tool t p) (identity_checks tool t p) a f g)
 
   -- what is refused first, by what the openings refuse and what is refused last

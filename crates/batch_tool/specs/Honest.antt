@@ -1,19 +1,19 @@
 -- The honest proof of one table, part by part in the script's order.
-use Rattle.std.specs.Prelude.{◌≡◌, ℕ, ◌+◌, ◌^◌, ◌<◌, List, [], ◌∷◌, length, map, get_or, Bool, true, false, Some, None}
-use Rattle.p3_field.specs.Ring.{of_nat}
+use Rattle.std.specs.Prelude.{◌≡◌, ℕ, ◌+◌, ◌^◌, ◌<◌, List, [], ◌∷◌, ◌++◌, length, map, get_or, Bool, true, false, Some, None}
+use Rattle.p3_field.specs.Ring.{Ring, of_nat}
 use Rattle.p3_field.specs.Field.{TwoAdic, Extension}
 use Rattle.p3_field.specs.Poly.{val, table}
 use Rattle.p3_field.specs.Domain.{CosetData, point, van}
 use Rattle.p3_matrix.specs.Matrix.{Rows}
 use Rattle.p3_air.specs.Tree.{Tree, ev}
 use Rattle.p3_uni_stark.specs.Fold.{fold}
+use Rattle.p3_challenger.specs.Script.{ChallengerOf, Transcript, Played, Elements, play, begun, passes}
+use Rattle.p3_batch_stark.specs.BatchScript.{Shape, Given, seeded as seeded_by, bindings_script, main_script, permutation_script, quotient_script, ood_script, opening_script}
+use Rattle.p3_batch_stark.specs.Single.{single_shape, single_given}
 use Rattle.plain_pcs.specs.Extension.{evaluations}
-use Rattle.plain_pcs.specs.Observing.{commitment_elements}
+use Rattle.plain_pcs.specs.Scheme.{PlainCommitmentData}
 use Rattle.batch_tool.specs.Reading.{reading, opened_at}
 use Rattle.batch_tool.specs.Plain.{AreInterpolants}
-use Rattle.batch_tool.specs.Script.{ChallengerOf, Transcript, observe_all, play, begun, passes}
-use Rattle.batch_tool.specs.Separator.{encoding}
-use Rattle.batch_tool.specs.BatchScript.{BatchShape, single_shape, separator, script_to_alpha, script_of_quotient, script_from_grinding}
 use Rattle.batch_tool.specs.Proof.{ProofData}
 
 -- what fixes a prover and a verifier: the fields, the challenger with its first state, the number of values that a grinding value
@@ -21,7 +21,7 @@ use Rattle.batch_tool.specs.Proof.{ProofData}
 pub record Configuration (S F E : Type 0) : Type 0 where
   pub field : TwoAdic F
   pub extension : Extension F E
-  pub challenger : ChallengerOf S F
+  pub challenger : ChallengerOf S F E (PlainCommitmentData F)
   pub initial : S
   pub order : ℕ
   pub log_blowup : ℕ
@@ -35,8 +35,17 @@ pub record Instance (F : Type 0) : Type 0 where
   pub log_height : ℕ
 
 -- the challenger's state behind the separator's encoding, each byte observed as one base element
-unfoldable pub seeded_state : {S F E : Type 0} → Configuration S F E → BatchShape → S
-seeded_state c shape = observe_all c.challenger c.initial (map (of_nat c.field.ring) (encoding (separator c.extension.dimension shape)))
+unfoldable pub seeded_state : {S F E : Type 0} → Configuration S F E → Shape → S
+seeded_state c shape = seeded_by c.challenger c.field.ring c.extension.dimension shape c.initial
+
+-- a commitment of the plain backend to one matrix
+abbrev pub committed_to : {F : Type 0} → Rows F → PlainCommitmentData F
+committed_to m = record { matrices = m ∷ [] }
+
+-- the script of a batch of one table without preprocessed columns and lookups, as far as the challenge that folds the constraints
+unfoldable pub script_to_alpha : {F E M : Type 0} → Ring E → (dimension log_height : ℕ) → M → List F → List (Played F E M)
+script_to_alpha r dimension log_height main publics =
+    bindings_script r dimension (log_height ∷ []) ++ main_script main (publics ∷ []) ++ permutation_script dimension None []
 
 module _ {S F E : Type 0} (c : Configuration S F E) (table' : Instance F) where
   abbrev pub trace_domain : CosetData F
@@ -50,45 +59,43 @@ module _ {S F E : Type 0} (c : Configuration S F E) (table' : Instance F) where
   abbrev pub commitment_domain : CosetData F
   commitment_domain = record { shift = c.field.generator; log_size = table'.log_height + c.log_blowup }
 
-  abbrev pub shape : BatchShape
+  abbrev pub shape : Shape
   shape = single_shape (length table'.columns) (length table'.publics) c.ood_pow_bits
 
-  -- the transcript before the first step
-  abbrev pub seeded : Transcript S F
-  seeded = begun F (seeded_state c shape)
+  -- what statement and proof give to the batch's script
+  abbrev pub given : Rows F → Rows F → F → Given F E (PlainCommitmentData F)
+  given main quotient witness = single_given table'.log_height (committed_to main) table'.publics (committed_to quotient) witness
 
-  unfoldable pub degree_bits_elements : List F
-  degree_bits_elements = c.extension.parts (of_nat c.extension.ring table'.log_height)
+  -- the transcript before the first step
+  abbrev pub seeded : Transcript S E
+  seeded = begun E (seeded_state c shape)
 
   -- the transcript behind alpha's draw, for this main commitment
-  unfoldable pub behind_alpha : Rows F → Transcript S F
-  behind_alpha main =
-      play c.challenger seeded
-      (script_to_alpha c.extension.dimension (degree_bits_elements ∷ []) (commitment_elements c.field.ring (record { matrices = main ∷ [] })) (table'.publics ∷ []))
+  unfoldable pub behind_alpha : Rows F → Transcript S E
+  behind_alpha main = play c.challenger seeded (script_to_alpha c.extension.ring c.extension.dimension table'.log_height (committed_to main) table'.publics)
 
   -- a challenge as it was drawn, by its number
-  abbrev pub drawn : Transcript S F → ℕ → E
-  drawn t i = c.extension.whole (get_or t.challenges i [])
+  abbrev pub drawn : Transcript S E → ℕ → E
+  drawn t i = get_or t.challenges i c.extension.ring.zero
 
   abbrev pub alpha : Rows F → E
   alpha main = drawn (behind_alpha main) 0
 
   -- the transcript at the grinding before zeta
-  unfoldable pub before_grinding : Rows F → Rows F → Transcript S F
-  before_grinding main quotient =
-      play c.challenger (behind_alpha main) (script_of_quotient (commitment_elements c.field.ring (record { matrices = quotient ∷ [] })))
+  unfoldable pub before_grinding : Rows F → Rows F → Transcript S E
+  before_grinding main quotient = play c.challenger (behind_alpha main) (quotient_script (committed_to quotient) None)
 
   -- the whole transcript, with this grinding value
-  unfoldable pub whole_transcript : Rows F → Rows F → F → Transcript S F
+  unfoldable pub whole_transcript : Rows F → Rows F → F → Transcript S E
   whole_transcript main quotient witness =
-      play c.challenger (before_grinding main quotient) (script_from_grinding c.extension.dimension c.ood_pow_bits witness)
+      play c.challenger (before_grinding main quotient) (ood_script c.extension.dimension c.ood_pow_bits witness ++ opening_script)
 
   abbrev pub zeta_behind : Rows F → Rows F → F → E
   zeta_behind main quotient witness = drawn (whole_transcript main quotient witness) 1
 
   -- whether a grinding value passes
   abbrev pub witness_passes : Rows F → Rows F → F → Bool
-  witness_passes main quotient witness = passes c.challenger (before_grinding main quotient).state c.ood_pow_bits (witness ∷ [])
+  witness_passes main quotient witness = passes c.challenger (before_grinding main quotient).state c.ood_pow_bits (Elements (witness ∷ []))
 
   -- the same of the number n
   abbrev pub zeta : Rows F → Rows F → ℕ → E

@@ -1,6 +1,6 @@
 pub mod Answer
-pub mod BatchScript
 pub mod Committed
+pub mod Drawn
 pub mod FileAnswer
 pub mod FirstForm
 pub mod Honest
@@ -14,8 +14,6 @@ pub mod ProofFile
 pub mod Prove
 pub mod Reading
 pub mod Refusals
-pub mod Script
-pub mod Separator
 pub mod Status
 pub mod Swap
 pub mod Tool

@@ -20,7 +20,6 @@ mod prove;
 mod quotient;
 mod refusal;
 mod scheme;
-mod script;
 mod status;
 mod top;
 mod trace;
@@ -31,6 +30,6 @@ pub use byte_io::{
     Failed, InputError, MAX_BYTES, MemorySink, MemorySource, Sink, Source, StdSink, StdSource,
     read_whole, write_whole,
 };
-pub use laws::{one_answer, one_honest_proof};
+pub use laws::{one_answer, one_honest_proof, one_transcript};
 pub use status::Status;
 pub use top::run;

@@ -1,9 +1,9 @@
 //! Grinding, zeta, and the prover's openings there, over any challenger and scheme.
 
 ghost use Rattle.std.specs.Prelude.{◌≡◌, ◌<◌, ◌^◌, ℕ, ◌∷◌, [], IfOk, IfSome, IsSomeAnd, List, MatchOption, None};
-ghost use Rattle.p3_field.specs.Ring.{of_nat};
 ghost use Rattle.p3_field.specs.declared.quartic.QuarticExtension.{QuarticExtension};
-ghost use Rattle.p3_challenger.specs.Grind.{Checked, IsLeast, checked_state};
+ghost use Rattle.p3_batch_stark.specs.BatchScript.{from_ood};
+ghost use Rattle.p3_batch_stark.specs.Grinding.{IsGround, NonePasses, behind_test};
 ghost use Rattle.p3_commit.specs.Commitments.{nested};
 ghost use Rattle.p3_commit.specs.Failure.{IfRefused};
 ghost use Rattle.p3_commit.specs.Space.{IsPoint};
@@ -11,13 +11,15 @@ ghost use Rattle.batch_tool.specs.Opening.{requests_at as requested_at, three_li
 
 use crate::opening::{AtZeta, ProofValues, one, two};
 use crate::scheme::Scheme;
-use p3_challenger::{CanSample, GrindingChallenger, Sha256Challenger};
+use p3_batch_stark::{BatchChallenger, BatchProverTranscript};
+use p3_challenger::{CanObserve, CanSample, GrindingChallenger, Sha256Challenger};
 use p3_commit::{OpenedValues, OpeningRequest, Pcs, PcsFailure, PolynomialSpace};
 use p3_field::{
     BasedVectorSpace, ExtensionField, Field, FieldCore, Mem, PrimeCharacteristicRing, PrimeCore64,
-    QuarticExtension, RingCore, TwoAdicCore,
+    PrimeField64, QuarticExtension, RingCore, TwoAdicCore,
 };
 use std::alloc::{AllocError, Global};
+use std::marker::PhantomData;
 
 /// The item of a list that has one.
 pub fn only<T: Drop>(mut list: Vec<T>) -> T
@@ -110,44 +112,71 @@ fn opened_outside<E: ExtensionField<P::Val>, C, P: Pcs<E, C>>(
     }
 }
 
-/// Grinds, draws zeta, and opens there what is committed of a table: the grinding value, zeta, and what the scheme opens.
-/// `step` is the generator of the trace domain. None where no element passes the grinding, which leaves the challenger as it
-/// was, and nothing is opened where zeta lies in the trace domain, which leaves it behind zeta's draw, as a refusal does.
+/// Grinds, draws zeta, and opens there what is committed of a table: the grinding value, zeta, and what the scheme opens; and
+/// the challenger. `step` is the generator of the trace domain. None where no element passes the grinding, which leaves the
+/// challenger as it was, and nothing is opened where zeta lies in the trace domain, which leaves it behind zeta's draw, as a
+/// refusal does.
 pub fn open_at_zeta<E: ExtensionField<P::Val>, C, P: Pcs<E, C>>(
     alloc: Global,
     pcs: &P,
-    bits: usize,
     domain: &P::Domain,
     step: E,
     main: &P::ProverData,
     quotient: &P::ProverData,
-    challenger: &mut C,
-) -> Option<(P::Val, AtZeta<E, Option<Opening<E, C, P>>>)>
+    transcript: BatchProverTranscript<C, P::Val, E, P::Commitment>,
+) -> (Option<(P::Val, AtZeta<E, Option<Opening<E, C, P>>>)>, C)
 where
-    P::Val: PrimeCore64,
-    C: GrindingChallenger<Witness = P::Val> + CanSample<E>,
-    requires bits { 2 ^ bits < P.Val.ORDER_U64 }
+    P::Val: PrimeField64,
+    C: GrindingChallenger<Witness = P::Val>
+        + CanObserve<E>
+        + CanObserve<P::Commitment>
+        + CanSample<P::Val>
+        + CanSample<E>,
+    requires turn { transcript.remaining ≡ from_ood E.DIMENSION transcript.shape }
+    requires bits { 2 ^ transcript.shape.ood_pow_bits < P.Val.ORDER_U64 }
     requires main { P.made pcs.now main.now }
     requires quotient { P.made pcs.now quotient.now }
-    ensures witness { MatchOption result
-        ((n : ℕ) → n < P.Val.ORDER_U64 → Checked C.observed C.bits_drawn challenger.old bits (of_nat P.Val.ring n) → ⊥)
-        (λ d. IsLeast (λ n. Checked C.observed C.bits_drawn challenger.old bits (of_nat P.Val.ring n)) (P.Val.canonical d.0)) }
-    ensures zeta { IfSome result (λ d. d.1.zeta ≡ C.drawn (checked_state C.observed C.after_bits challenger.old bits d.0)) }
-    ensures domain { IfSome result (λ d. let inside = IsPoint (P.Domain.points domain.now) (P.Domain.point_at domain.now) E.embed d.1.zeta in MatchOption d.1.opening inside (λ _. inside → ⊥)) }
-    ensures opening { IfSome result (λ d. let state = C.after_draw (checked_state C.observed C.after_bits challenger.old bits d.0) in
+    ensures witness { let c = ⟦<C as BatchChallenger<P::Val, E, P::Commitment>>⟧.functions in MatchOption result.0
+        (NonePasses c P.Val.ring P.Val.ORDER_U64 transcript.state transcript.shape.ood_pow_bits)
+        (λ d. IsGround c P.Val.ring P.Val.canonical transcript.state transcript.shape.ood_pow_bits d.0) }
+    ensures zeta { let c = ⟦<C as BatchChallenger<P::Val, E, P::Commitment>>⟧.functions in
+        IfSome result.0 (λ d. d.1.zeta ≡ c.draw (behind_test c transcript.state transcript.shape.ood_pow_bits d.0)) }
+    ensures domain { IfSome result.0 (λ d. let inside = IsPoint (P.Domain.points domain.now) (P.Domain.point_at domain.now) E.embed d.1.zeta in MatchOption d.1.opening inside (λ _. inside → ⊥)) }
+    ensures opening { let c = ⟦<C as BatchChallenger<P::Val, E, P::Commitment>>⟧.functions in IfSome result.0 (λ d. let state = c.after_draw (behind_test c transcript.state transcript.shape.ood_pow_bits d.0) in
         let requests = requested_at main.now quotient.now d.1.zeta (E.ring.mul step d.1.zeta) in IfSome d.1.opening (λ r. IsOpenedBy E.ring E.embed P.Domain.points (P.open_fault pcs.now requests) (P.proves pcs.now state requests)
         (P.holds pcs.now) (P.excludes pcs.now) (P.opens pcs.now state) requests r)) }
-    ensures after { IfSome result (λ d. let state = C.after_draw (checked_state C.observed C.after_bits challenger.old bits d.0) in
+    ensures after { let c = ⟦<C as BatchChallenger<P::Val, E, P::Commitment>>⟧.functions in IfSome result.0 (λ d. let state = c.after_draw (behind_test c transcript.state transcript.shape.ood_pow_bits d.0) in
         let requests = requested_at main.now quotient.now d.1.zeta (E.ring.mul step d.1.zeta) in
-        IfSome d.1.opening (λ r. IfOk r (λ w. challenger.new ≡ P.after_open pcs.now state requests w.1))) }
-    ensures state { MatchOption result (challenger.new ≡ challenger.old) (λ d. let state = C.after_draw (checked_state C.observed C.after_bits challenger.old bits d.0) in
-        MatchOption d.1.opening (challenger.new ≡ state) (λ r. IfRefused r (λ _. challenger.new ≡ state))) }
+        IfSome d.1.opening (λ r. IfOk r (λ w. result.1 ≡ P.after_open pcs.now state requests w.1))) }
+    ensures state { let c = ⟦<C as BatchChallenger<P::Val, E, P::Commitment>>⟧.functions in MatchOption result.0 (result.1 ≡ transcript.state) (λ d. let state = c.after_draw (behind_test c transcript.state transcript.shape.ood_pow_bits d.0) in
+        MatchOption d.1.opening (result.1 ≡ state) (λ r. IfRefused r (λ _. result.1 ≡ state))) }
 {
-    let witness = challenger.grind(bits)?;
-    let zeta = challenger.sample();
-    let next = step * zeta;
-    let opening = opened_outside(alloc, pcs, domain, main, quotient, zeta, next, challenger);
-    Some((witness, AtZeta { zeta, opening }))
+    let mut transcript = transcript;
+    match transcript.ood_phase() {
+        Err(_) => (None, transcript.abort()),
+        Ok((zeta, witness)) => {
+            let next = step * zeta;
+            let (opening, _) = transcript.delegate(
+                |challenger: &mut C|
+                    requires main { P.made pcs.now main.now }
+                    requires quotient { P.made pcs.now quotient.now }
+                    ensures domain { let inside = IsPoint (P.Domain.points domain.entry.now) (P.Domain.point_at domain.entry.now) E.embed zeta in MatchOption result.0 inside (λ _. inside → ⊥) }
+                    ensures opening { let requests = requested_at main.entry.now quotient.entry.now zeta next in IfSome result.0 (λ r. IsOpenedBy E.ring E.embed P.Domain.points (P.open_fault pcs.entry.now requests) (P.proves pcs.entry.now challenger.old requests)
+                        (P.holds pcs.entry.now) (P.excludes pcs.entry.now) (P.opens pcs.entry.now challenger.old) requests r) }
+                    ensures after { let requests = requested_at main.entry.now quotient.entry.now zeta next in
+                        IfSome result.0 (λ r. IfOk r (λ w. challenger.new ≡ P.after_open pcs.entry.now challenger.old requests w.1)) }
+                    ensures unchanged { MatchOption result.0 (challenger.new ≡ challenger.old) (λ r. IfRefused r (λ _. challenger.new ≡ challenger.old)) }
+                {
+                    let opening = opened_outside(
+                        alloc, pcs, domain, main, quotient, zeta, next, challenger,
+                    );
+                    (opening, PhantomData::<(P::Val, P::Commitment, P::Error)>)
+                },
+            );
+            let opened = Some((witness, AtZeta { zeta, opening }));
+            (opened, transcript.finish())
+        }
+    }
 }
 
 /// The three lists of what the program's scheme opens.

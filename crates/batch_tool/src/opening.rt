@@ -1,17 +1,20 @@
 //! Grinding, zeta, and what a proof claims there, over any scheme and challenger: so a verification begins in the state behind
 //! zeta's draw, whatever a scheme makes of it.
 
-ghost use Rattle.std.specs.Prelude.{◌≡◌, ◌<◌, ◌^◌, ◌∷◌, [], IfOk, IfSome, MatchOption, None, Ok};
-ghost use Rattle.p3_challenger.specs.Grind.{Checked, checked_state};
+ghost use Rattle.std.specs.Prelude.{◌≡◌, ◌<◌, ◌^◌, ◌∷◌, [], IfErr, IfOk, MatchOption, MatchResult, None, Ok};
+ghost use Rattle.p3_batch_stark.specs.BatchScript.{from_ood};
+ghost use Rattle.p3_batch_stark.specs.Grinding.{IsTaken, OodLeft, OodRefusal, behind_test};
 ghost use Rattle.batch_tool.specs.Opening.{claim_on as claims_on, claims_at as claimed_at};
 
-use p3_challenger::{CanSample, GrindingChallenger};
+use p3_batch_stark::{BatchChallenger, BatchTranscriptFailure, BatchVerifierTranscript};
+use p3_challenger::{CanObserve, CanSample, GrindingChallenger};
 use p3_commit::{CommitmentOpening, MatrixOpening, Pcs, PcsFailure, PointOpening, PolynomialSpace};
 use p3_field::{
     BasedVectorSpace, ExtensionField, Field, FieldCore, Mem, PrimeCharacteristicRing, PrimeCore64,
-    RingCore, TwoAdicCore,
+    PrimeField64, RingCore, TwoAdicCore,
 };
 use std::alloc::{AllocError, Global};
+use std::marker::PhantomData;
 
 /// Where a table's columns were given, and the factor from a point to the next one.
 #[derive(Drop)]
@@ -139,46 +142,72 @@ fn fault_at<E: ExtensionField<P::Val>, C, P: Pcs<E, C>>(
 }
 
 /// Tests the grinding value, draws zeta, and verifies what a table's proof claims there: the first fault, or None where the
-/// proof opens the claims. None in place of all where the grinding value doesn't pass, and then the challenger is behind the
-/// test alone.
+/// proof opens the claims; and the challenger. The failure in place of all is that of the grinding value, and then the
+/// challenger is behind the test alone.
 pub fn verify_at_zeta<E: ExtensionField<P::Val>, C, P: Pcs<E, C>>(
     alloc: Global,
     pcs: &P,
-    bits: usize,
     domains: TableDomains<P::Domain, E>,
     commitments: (P::Commitment, P::Commitment),
     values: &ProofValues<E>,
     proof: &P::Proof,
     witness: P::Val,
-    challenger: &mut C,
-) -> Option<AtZeta<E, Mem<Option<P::Error>>>>
+    transcript: BatchVerifierTranscript<C, P::Val, E, P::Commitment>,
+) -> (
+    Result<AtZeta<E, Mem<Option<P::Error>>>, BatchTranscriptFailure>,
+    C,
+)
 where
-    P::Val: PrimeCore64,
-    C: GrindingChallenger<Witness = P::Val> + CanSample<E>,
-    requires { 2 ^ bits < P.Val.ORDER_U64 }
-    ensures passed { MatchOption result (Checked C.observed C.bits_drawn challenger.old bits witness → ⊥) (λ d. Checked C.observed C.bits_drawn challenger.old bits witness) }
-    ensures zeta { IfSome result (λ d. d.zeta ≡ C.drawn (checked_state C.observed C.after_bits challenger.old bits witness)) }
-    ensures opening { IfSome result (λ d. let state = C.after_draw (checked_state C.observed C.after_bits challenger.old bits witness) in
+    P::Val: PrimeField64,
+    C: GrindingChallenger<Witness = P::Val>
+        + CanObserve<E>
+        + CanObserve<P::Commitment>
+        + CanSample<P::Val>
+        + CanSample<E>,
+    requires turn { transcript.remaining ≡ from_ood E.DIMENSION transcript.shape }
+    requires bits { 2 ^ transcript.shape.ood_pow_bits < P.Val.ORDER_U64 }
+    ensures passed { let c = ⟦<C as BatchChallenger<P::Val, E, P::Commitment>>⟧.functions in MatchResult result.0
+        (λ _. IsTaken c P.Val.ring transcript.state transcript.shape.ood_pow_bits witness)
+        (OodRefusal c P.Val.ring transcript.state transcript.shape.ood_pow_bits witness) }
+    ensures zeta { let c = ⟦<C as BatchChallenger<P::Val, E, P::Commitment>>⟧.functions in
+        IfOk result.0 (λ d. d.zeta ≡ c.draw (behind_test c transcript.state transcript.shape.ood_pow_bits witness)) }
+    ensures opening { let c = ⟦<C as BatchChallenger<P::Val, E, P::Commitment>>⟧.functions in IfOk result.0 (λ d. let state = c.after_draw (behind_test c transcript.state transcript.shape.ood_pow_bits witness) in
         let claims = claimed_at domains.trace domains.quotient commitments.0 commitments.1 values.now.trace_local.items values.now.trace_next.items values.now.chunk_values.items d.zeta (E.ring.mul domains.step d.zeta) in
         IfOk d.opening (λ o. MatchOption o (P.opens pcs.now state claims proof.now) (P.fault pcs.now state claims proof.now))) }
-    ensures after { IfSome result (λ d. let state = C.after_draw (checked_state C.observed C.after_bits challenger.old bits witness) in
+    ensures after { let c = ⟦<C as BatchChallenger<P::Val, E, P::Commitment>>⟧.functions in IfOk result.0 (λ d. let state = c.after_draw (behind_test c transcript.state transcript.shape.ood_pow_bits witness) in
         let claims = claimed_at domains.trace domains.quotient commitments.0 commitments.1 values.now.trace_local.items values.now.trace_next.items values.now.chunk_values.items d.zeta (E.ring.mul domains.step d.zeta) in
-        d.opening ≡ Ok None → challenger.new ≡ P.after_verify pcs.now state claims proof.now) }
-    ensures state { result ≡ None → challenger.new ≡ checked_state C.observed C.after_bits challenger.old bits witness }
+        d.opening ≡ Ok None → result.1 ≡ P.after_verify pcs.now state claims proof.now) }
+    ensures left { let c = ⟦<C as BatchChallenger<P::Val, E, P::Commitment>>⟧.functions in
+        IfErr result.0 (OodLeft c transcript.state transcript.shape.ood_pow_bits witness result.1) }
 {
-    if !challenger.check_witness(bits, witness) {
-        return None;
+    let mut transcript = transcript;
+    match transcript.ood_phase(witness) {
+        Err(failure) => (Err(failure), transcript.abort()),
+        Ok(zeta) => {
+            let (opening, _) = transcript.delegate(
+                |challenger: &mut C|
+                    ensures fault { let claims = claimed_at domains.trace domains.quotient commitments.0 commitments.1 values.entry.now.trace_local.items values.entry.now.trace_next.items values.entry.now.chunk_values.items zeta (E.ring.mul domains.step zeta) in
+                        IfOk result.0 (λ o. MatchOption o (P.opens pcs.entry.now challenger.old claims proof.entry.now) (P.fault pcs.entry.now challenger.old claims proof.entry.now)) }
+                    ensures after { let claims = claimed_at domains.trace domains.quotient commitments.0 commitments.1 values.entry.now.trace_local.items values.entry.now.trace_next.items values.entry.now.chunk_values.items zeta (E.ring.mul domains.step zeta) in
+                        result.0 ≡ Ok None → challenger.new ≡ P.after_verify pcs.entry.now challenger.old claims proof.entry.now }
+                {
+                    let opening = fault_at(
+                        alloc,
+                        pcs,
+                        domains,
+                        commitments,
+                        values,
+                        proof,
+                        zeta,
+                        challenger,
+                    );
+                    (
+                        opening,
+                        PhantomData::<(P::Val, P::ProverData, P::ProverError)>,
+                    )
+                },
+            );
+            (Ok(AtZeta { zeta, opening }), transcript.finish())
+        }
     }
-    let zeta = challenger.sample();
-    let opening = fault_at(
-        alloc,
-        pcs,
-        domains,
-        commitments,
-        values,
-        proof,
-        zeta,
-        challenger,
-    );
-    Some(AtZeta { zeta, opening })
 }

@@ -3,13 +3,13 @@
 ghost use Rattle.std.specs.Prelude.{◌≡◌, ◌≤◌, ◌<◌, ◌∷◌, [], IfOk, IfSome, IsErr, MatchOption, Some, ℕ, List, true, false};
 ghost use Rattle.p3_field.specs.Ring.{of_nat};
 ghost use Rattle.p3_field.specs.BabyBear.{bear_ring};
-ghost use Rattle.p3_field.specs.Quartic.{quartic_parts};
 ghost use Rattle.p3_matrix.specs.Matrix.{Rows};
-ghost use Rattle.batch_tool.specs.BatchScript.{single_shape};
+ghost use Rattle.p3_batch_stark.specs.BatchScript.{from_quotient};
+ghost use Rattle.p3_batch_stark.specs.Grinding.{NonePasses, behind_test, number_passes, value_passes};
+ghost use Rattle.p3_batch_stark.specs.Single.{single_shape};
 ghost use Rattle.batch_tool.specs.Committed.{IsCommittedTo, committed_matrix, trace_polynomials, chunk_polynomials};
-ghost use Rattle.batch_tool.specs.Honest.{alpha as drawn_alpha, behind_alpha, seeded_state, honest_proof, zeta as drawn_zeta, IsInTraceDomain};
+ghost use Rattle.batch_tool.specs.Honest.{alpha as alpha_of, behind_alpha, honest_proof, zeta as drawn_zeta, IsInTraceDomain};
 ghost use Rattle.batch_tool.specs.Prove.{AreValuesAtZeta, IsDrawnAnswer, IsJobAnswer, IsOpenedText, instance_of, zeta_of};
-ghost use Rattle.batch_tool.specs.Script.{passes, draw_all, after_grinding};
 ghost use Rattle.batch_tool.specs.Tool.{tool};
 
 use crate::commitments::{Committed, commit_chunk, commit_columns, committed_values};
@@ -24,8 +24,7 @@ use crate::quotient::quotient_values;
 use crate::scheme::scheme;
 use crate::status::Status;
 use crate::trace::trace_matrix;
-use crate::transcript::{OOD_POW_BITS, draw_alpha, seeded_challenger};
-use p3_challenger::{CanObserve, Sha256Challenger};
+use crate::transcript::{ProverTranscript, prover_behind_alpha};
 use p3_field::{BabyBear, Mem, QuarticExtension};
 use p3_matrix::{RowMajorMatrix, flatten_matrix};
 use plain_pcs::PlainCommitment;
@@ -37,24 +36,31 @@ const WITNESS_NOT_FOUND: &[u8] = b"refused WitnessNotFound ood\n";
 /// The refusal where zeta lies in the trace domain.
 const OOD_POINT_IN_DOMAIN: &[u8] = b"refused OodPointInDomain\n";
 
-/// Commits to the trace and draws alpha.
-fn commit_trace(
+/// Commits to the trace.
+fn commit_trace(alloc: Global, table: &SwapTable) -> Mem<Committed>
+    requires few { table.now.log_rows ≤ 10 }
+    ensures { IfOk result (λ r. IsCommittedTo table.now.log_rows (trace_polynomials (instance_of table.now)) r.commitment r.kept) }
+{
+    let trace = trace_matrix(alloc, table)?;
+    commit_columns(alloc, trace_domain(table.log_rows as usize), trace)
+}
+
+/// Draws alpha behind the commitment to the trace: alpha, and the transcript then.
+fn drawn_alpha(
     alloc: Global,
     table: &SwapTable,
-    challenger: &mut Sha256Challenger,
-) -> Mem<(Committed, QuarticExtension)>
+    main: &Committed,
+) -> Mem<(QuarticExtension, ProverTranscript)>
     requires few { table.now.log_rows ≤ 10 }
-    requires seeded { challenger.old ≡ seeded_state tool (single_shape 2 3 4) }
-    ensures committed { IfOk result (λ r. IsCommittedTo table.now.log_rows (trace_polynomials (instance_of table.now)) r.0.commitment r.0.kept) }
-    ensures challenge { IfOk result (λ r. r.1 ≡ drawn_alpha tool (instance_of table.now) (committed_matrix table.now.log_rows (trace_polynomials (instance_of table.now)))) }
-    ensures state { IfOk result (λ r. challenger.new ≡ (behind_alpha tool (instance_of table.now) (committed_matrix table.now.log_rows (trace_polynomials (instance_of table.now)))).state) }
+    requires committed { IsCommittedTo table.now.log_rows (trace_polynomials (instance_of table.now)) main.now.commitment main.now.kept }
+    ensures challenge { IfOk result (λ d. d.0 ≡ alpha_of tool (instance_of table.now) (committed_matrix table.now.log_rows (trace_polynomials (instance_of table.now)))) }
+    ensures state { IfOk result (λ d. d.1.state ≡ (behind_alpha tool (instance_of table.now) (committed_matrix table.now.log_rows (trace_polynomials (instance_of table.now)))).state) }
+    ensures turn { IfOk result (λ d. d.1.remaining ≡ from_quotient 4 d.1.shape) }
+    ensures shape { IfOk result (λ d. d.1.shape ≡ single_shape 2 3 4) }
 {
-    let log_rows = table.log_rows as usize;
-    let trace = trace_matrix(alloc, table)?;
-    let main = commit_columns(alloc, trace_domain(log_rows), trace)?;
     let public_values = [table.a, table.b, table.last_right()];
-    let alpha = draw_alpha(challenger, log_rows, &main.commitment, &public_values);
-    Ok((main, alpha))
+    let log_rows = table.log_rows as usize;
+    prover_behind_alpha(alloc, log_rows, &main.commitment, &public_values)
 }
 
 /// Commits to the quotient of the committed trace's constraints, folded by alpha.
@@ -111,37 +117,39 @@ fn opened_proof(
     }
 }
 
-/// Grinds, draws zeta, and opens there what is committed, by the program's scheme.
+/// Binds the quotient's commitment, grinds, draws zeta, and opens there what is committed, by the program's scheme.
 fn drawn_values(
     alloc: Global,
     table: &SwapTable,
     main: &Committed,
     quotient: &Committed,
-    mut challenger: Sha256Challenger,
+    mut transcript: ProverTranscript,
 ) -> Option<(BabyBear, OpenedAtZeta)>
     requires few { table.now.log_rows ≤ 10 }
     requires main { (k : ℕ) × ((fs : List (List BabyBear)) × IsCommittedTo k fs main.now.commitment main.now.kept) }
     requires quotient { (k : ℕ) × ((fs : List (List BabyBear)) × IsCommittedTo k fs quotient.now.commitment quotient.now.kept) }
-    ensures drawn { MatchOption result
-        ((n : ℕ) → n < 2013265921 → passes tool.challenger challenger 4 (of_nat bear_ring n ∷ []) ≡ false)
-        (λ p. (passes tool.challenger challenger 4 (p.0 ∷ []) ≡ true)
-        × ((n : ℕ) → n < p.0.value → passes tool.challenger challenger 4 (of_nat bear_ring n ∷ []) ≡ false)
-        × (quartic_parts p.1.zeta ≡ draw_all tool.challenger (after_grinding tool.challenger challenger 4 (p.0 ∷ [])) 4)) }
+    requires turn { transcript.remaining ≡ from_quotient 4 transcript.shape }
+    requires shape { transcript.shape ≡ single_shape 2 3 4 }
+    ensures drawn { let state = tool.challenger.observe_opaque transcript.state quotient.now.commitment in MatchOption result
+        (NonePasses tool.challenger bear_ring 2013265921 state 4)
+        (λ d. (value_passes tool.challenger bear_ring state 4 d.0 ≡ true)
+        × ((n : ℕ) → n < d.0.value → number_passes tool.challenger bear_ring state 4 n ≡ false)
+        × (d.1.zeta ≡ tool.challenger.draw (behind_test tool.challenger state 4 d.0))) }
     ensures domain { IfSome result (λ d. MatchOption d.1.opening (IsInTraceDomain tool (instance_of table.now) d.1.zeta) (λ _. IsInTraceDomain tool (instance_of table.now) d.1.zeta → ⊥)) }
     ensures values { IfSome result (λ d. IfSome d.1.opening (λ o. IfOk o (λ v. (k : ℕ) (fs gs : List (List BabyBear))
         → IsCommittedTo k fs main.now.commitment main.now.kept → IsCommittedTo k gs quotient.now.commitment quotient.now.kept
         → AreValuesAtZeta table.now.log_rows fs gs d.1.zeta v.trace_local.items v.trace_next.items v.chunk_values.items))) }
 {
+    transcript.quotient_phase(&quotient.commitment, None);
     let domains = table_domains(table.log_rows as usize);
-    let drawn = open_at_zeta(
+    let (drawn, _challenger) = open_at_zeta(
         alloc,
         &scheme(),
-        OOD_POW_BITS,
         &domains.trace,
         domains.step,
         &main.kept,
         &quotient.kept,
-        &mut challenger,
+        transcript,
     );
     match drawn {
         None => None,
@@ -198,10 +206,16 @@ pub fn prove(alloc: Global, table: &SwapTable, line: Line) -> Mem<(Status, Vec<u
     requires empty { line ≡ [] }
     ensures { IfOk result (λ p. IsJobAnswer table.now p.0 p.1.items) }
 {
-    let mut challenger = seeded_challenger(alloc, 2, 3)?;
-    let (main, alpha) = commit_trace(alloc, table, &mut challenger)?;
-    let quotient = commit_quotient(alloc, table, &main, alpha)?;
-    challenger.observe(&quotient.commitment);
-    let drawn = drawn_values(alloc, table, &main, &quotient, challenger);
-    drawn_answer(alloc, table, main, quotient, drawn, line)
+    let main = commit_trace(alloc, table)?;
+    let (alpha, transcript) = drawn_alpha(alloc, table, &main)?;
+    match commit_quotient(alloc, table, &main, alpha) {
+        Ok(quotient) => {
+            let drawn = drawn_values(alloc, table, &main, &quotient, transcript);
+            drawn_answer(alloc, table, main, quotient, drawn, line)
+        }
+        Err(failure) => {
+            let _ = transcript.abort();
+            Err(failure)
+        }
+    }
 }

@@ -2,6 +2,8 @@
 
 ghost use Rattle.std.specs.Prelude.{◌≡◌, ◌≤◌, ◌+◌, ◌^◌, [], Err, IfOk, IsErr, IsOkAnd, MatchResult, None, Ok, Some, codes, true, length};
 ghost use Rattle.p3_field.specs.Checks.{FirstRefusal};
+ghost use Rattle.p3_batch_stark.specs.BatchScript.{from_ood};
+ghost use Rattle.p3_batch_stark.specs.Single.{single_shape};
 ghost use Rattle.batch_tool.specs.FileAnswer.{stated, IsFileAnswer};
 ghost use Rattle.batch_tool.specs.FirstForm.{IsFirstForm, IsSwapShape};
 ghost use Rattle.batch_tool.specs.Honest.{before_grinding, witness_passes};
@@ -22,8 +24,7 @@ use crate::proof::TableProof;
 use crate::refusal::{Refusal, push_refusal};
 use crate::scheme::scheme;
 use crate::status::Status;
-use crate::transcript::{OOD_POW_BITS, draw_alpha, seeded_challenger};
-use p3_challenger::{CanObserve, Sha256Challenger};
+use crate::transcript::{OOD_POW_BITS, VerifierTranscript, verifier_behind_alpha};
 use p3_field::{Mem, QuarticExtension};
 use plain_pcs::{PlainError, PlainProof};
 use std::alloc::Global;
@@ -31,26 +32,27 @@ use std::alloc::Global;
 /// What is written for a proof that passes every check.
 const ACCEPTED: &[u8] = b"accepted\n";
 
-/// Plays the script of a statement and a proof up to the grinding before zeta: alpha, and the challenger then.
+/// Plays the script of a statement and a proof up to the grinding before zeta: alpha, and the transcript then.
 fn drawn_alpha(
     alloc: Global,
     statement: &SwapStatement,
     proof: &CommittedProof,
-) -> Mem<(QuarticExtension, Sha256Challenger)>
+) -> Mem<(QuarticExtension, VerifierTranscript)>
     requires { IsSwapShape statement.now.log_rows proof.now }
     ensures alpha { IfOk result (λ d. d.0 ≡ alpha_drawn tool (stated statement.now) proof.now) }
-    ensures state { IfOk result (λ d. d.1 ≡ (before_grinding tool (stated statement.now) (main_of proof.now) (quotient_of proof.now)).state) }
+    ensures state { IfOk result (λ d. d.1.state ≡ (before_grinding tool (stated statement.now) (main_of proof.now) (quotient_of proof.now)).state) }
+    ensures turn { IfOk result (λ d. d.1.remaining ≡ from_ood 4 d.1.shape) }
+    ensures shape { IfOk result (λ d. d.1.shape ≡ single_shape 2 3 4) }
 {
-    let mut challenger = seeded_challenger(alloc, 2, 3)?;
     let public_values = [statement.a, statement.b, statement.x];
-    let alpha = draw_alpha(
-        &mut challenger,
+    let (alpha, mut transcript) = verifier_behind_alpha(
+        alloc,
         statement.log_rows as usize,
         &proof.main,
         &public_values,
-    );
-    challenger.observe(&proof.quotient_chunk);
-    Ok((alpha, challenger))
+    )?;
+    transcript.quotient_phase(&proof.quotient_chunk, None);
+    Ok((alpha, transcript))
 }
 
 /// The refusal where zeta lies in the trace domain, or where the identity fails there.
@@ -94,36 +96,37 @@ fn first_of(opening: Mem<Option<PlainError>>, last: Option<Refusal>) -> Mem<Opti
     }
 }
 
-/// The first check that a statement's proof fails, from alpha and the challenger behind it and the quotient. Out of memory
+/// The first check that a statement's proof fails, from alpha and the transcript behind it and the quotient. Out of memory
 /// only where the grinding value passes.
 fn refusal_behind(
     alloc: Global,
     statement: &SwapStatement,
     proof: CommittedProof,
     alpha: QuarticExtension,
-    mut challenger: Sha256Challenger,
+    transcript: VerifierTranscript,
 ) -> Mem<Option<Refusal>>
     requires few { statement.now.log_rows ≤ 10 }
     requires shape { IsSwapShape statement.now.log_rows proof }
     requires alpha { alpha ≡ alpha_drawn tool (stated statement.now) proof }
-    requires state { challenger ≡ (before_grinding tool (stated statement.now) (main_of proof) (quotient_of proof)).state }
+    requires state { transcript.state ≡ (before_grinding tool (stated statement.now) (main_of proof) (quotient_of proof)).state }
+    requires turn { transcript.remaining ≡ from_ood 4 transcript.shape }
+    requires of_shape { transcript.shape ≡ single_shape 2 3 4 }
     ensures refusal { IfOk result (λ a. FirstRefusal (checks tool (stated statement.now) proof) a) }
     ensures memory { IsErr result → witness_passes tool (stated statement.now) (main_of proof) (quotient_of proof) proof.ood_pow_witness ≡ true }
 {
-    let drawn = verify_at_zeta(
+    let (drawn, _challenger) = verify_at_zeta(
         alloc,
         &scheme(),
-        OOD_POW_BITS,
         table_domains(statement.log_rows as usize),
         (proof.main, proof.quotient_chunk),
         &proof.values,
         &PlainProof,
         proof.ood_pow_witness,
-        &mut challenger,
+        transcript,
     );
     match drawn {
-        None => Ok(Some(Refusal::OodPowWitness { bits: OOD_POW_BITS })),
-        Some(at) => first_of(
+        Err(_) => Ok(Some(Refusal::OodPowWitness { bits: OOD_POW_BITS })),
+        Ok(at) => first_of(
             at.opening,
             identity_refusal(statement, alpha, at.zeta, &proof.values),
         ),
@@ -141,8 +144,8 @@ fn first_refusal(
     ensures { IfOk result (λ a. FirstRefusal (checks tool (stated statement.now) proof) a) }
 {
     let proof = CommittedProof::from_proof(alloc, proof)?;
-    let (alpha, challenger) = drawn_alpha(alloc, statement, &proof)?;
-    refusal_behind(alloc, statement, proof, alpha, challenger)
+    let (alpha, transcript) = drawn_alpha(alloc, statement, &proof)?;
+    refusal_behind(alloc, statement, proof, alpha, transcript)
 }
 
 /// The status and the text by what is refused. Out of memory exactly where the checks were.

@@ -37,6 +37,15 @@ pub enum BatchTranscriptFailure {
     NonCanonicalOodPowWitness,
 }
 
+/// Which grinding it is that no element passes (own).
+#[derive(Clone, Copy, Debug)]
+pub enum GrindStep {
+    /// The one before the lookups' challenges.
+    Lookup,
+    /// The one before zeta.
+    Ood,
+}
+
 /// Why a phase of a transcript fails (own).
 #[derive(Debug, Drop, Error)]
 pub enum TranscriptError {

@@ -16,7 +16,7 @@ mod shape;
 mod verifier_transcript;
 
 pub use challenger::BatchChallenger;
-pub use failure::{BatchTranscriptFailure, TranscriptError};
+pub use failure::{BatchTranscriptFailure, GrindStep, TranscriptError};
 pub use prover_transcript::BatchProverTranscript;
 pub use shape::BatchShape;
 pub use verifier_transcript::BatchVerifierTranscript;

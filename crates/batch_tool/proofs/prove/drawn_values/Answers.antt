@@ -1,12 +1,12 @@
-use Rattle.std.proofs.Common.{◌≡◌, ◌∙◌, ◌^◌, sym, ap, subst}
-use Rattle.std.specs.Prelude.{MatchOption}
+use Rattle.std.proofs.Common.{◌≡◌, ◌∙◌, ◌^◌, true, sym, ap, subst}
+use Rattle.std.specs.Prelude.{IfSome, MatchOption}
 use Rattle.p3_field.specs.BabyBear.{reduce, bear_ring, bear_inv, bear_root}
 use Rattle.p3_field.specs.Domain.{CosetData, point}
 use Rattle.p3_field.specs.Quartic.{quartic_ring, of_bear_value}
 use Rattle.p3_field.specs.Laws.BearField.{bear_of_canonical}
 use Rattle.p3_field.specs.declared.baby_bear.BabyBear.{BabyBear}
 use Rattle.p3_field.specs.declared.quartic.QuarticExtension.{QuarticExtension}
-use Rattle.p3_challenger.specs.Sha256.{observed, bits_drawn}
+use Rattle.p3_batch_stark.specs.Grinding.{IsGround, NonePasses, behind_test, value_passes}
 use Rattle.p3_commit.specs.Space.{IsPoint}
 use Rattle.plain_pcs.specs.Scheme.{scheme}
 use Rattle.batch_tool.specs.Swap.{swap_stated}
@@ -15,22 +15,37 @@ use Rattle.batch_tool.specs.Opening.{requests_at, AreTheThree}
 use Rattle.plain_pcs.specs.Checks.{Opens}
 use Rattle.plain_pcs.specs.Refusals.{OpenFault}
 use Rattle.batch_tool.proofs.AtZeta.{map-some, as-opened, some-opened, no-fault, Opened, opens-three, each-opened}
-use Rattle.batch_tool.proofs.Draws.{zero-passes, nonzero-fails, drawn-parts}
+use Rattle.batch_tool.proofs.Draws.{along-two, observed-quotient, fails-where}
+use Rattle.batch_tool.proofs.Proving.{at-none, at-some, if-some}
 use Rattle.batch_tool.proofs.prove.drawn_values.Goals as goal
 
 pub returns-in-None-clause-drawn : goal.returns-in-None-clause-drawn
 unfolding tool
-returns-in-None-clause-drawn c = λ n h. nonzero-fails _ (c.in-None.ensures.witness n h)
+returns-in-None-clause-drawn c =
+    let state = observed-quotient tool.challenger c.args.quotient.now.commitment c.args.transcript c.quotient_phase.new.self c.quotient_phase.ensures.plays in
+    let bits = ap (λ s. s.ood_pow_bits) (c.quotient_phase.ensures.plays.shape ∙ c.requires.shape) in
+    let drawn = c.open_at_zeta-drawn.result.0 in
+    at-none _ _ drawn c.in-None.is
+    (along-two (λ s b. MatchOption drawn (NonePasses tool.challenger bear_ring 2013265921 s b) (λ d. IsGround tool.challenger bear_ring (λ x. x.value) s b d.0)) _ _ _ _ state bits
+    c.open_at_zeta-drawn.ensures.witness)
 
 pub returns-in-Some-clause-drawn : goal.returns-in-Some-clause-drawn
 unfolding tool
 returns-in-Some-clause-drawn c =
-    let old = c.args.challenger in
+    let state = observed-quotient tool.challenger c.args.quotient.now.commitment c.args.transcript c.quotient_phase.new.self c.quotient_phase.ensures.plays in
+    let bits = ap (λ s. s.ood_pow_bits) (c.quotient_phase.ensures.plays.shape ∙ c.requires.shape) in
+    let old = tool.challenger.observe_opaque c.args.transcript.state c.args.quotient.now.commitment in
+    let drawn = c.open_at_zeta-drawn.result.0 in
     let w = c.in-Some.witness in
-    let P : BabyBear → Type 0 = λ x. bits_drawn (observed old x) 4 ≡ 0 in (
-      zero-passes (bits_drawn (observed old w) 4) (subst P (bear_of_canonical w) c.in-Some.ensures.witness.meets),
-      λ n h. nonzero-fails _ (c.in-Some.ensures.witness.none_below n h),
-      drawn-parts old w c.values_at.result.zeta (c.values_at.ensures.zeta ∙ c.in-Some.ensures.zeta),
+    let ground = at-some _ _ drawn (w, c.in-Some.at) c.in-Some.is
+    (along-two (λ s b. MatchOption drawn (NonePasses tool.challenger bear_ring 2013265921 s b) (λ d. IsGround tool.challenger bear_ring (λ x. x.value) s b d.0)) _ _ _ _ state bits
+    c.open_at_zeta-drawn.ensures.witness) in
+    let zeta = if-some _ drawn (w, c.in-Some.at) c.in-Some.is
+    (along-two (λ s b. IfSome drawn (λ d. d.1.zeta ≡ tool.challenger.draw (behind_test tool.challenger s b d.0))) _ _ _ _ state bits c.open_at_zeta-drawn.ensures.zeta) in
+    let P : BabyBear → Type 0 = λ x. value_passes tool.challenger bear_ring old 4 x ≡ true in (
+      subst P (bear_of_canonical w) ground.meets,
+      λ n h. fails-where _ (ground.none_below n h),
+      c.values_at.ensures.zeta ∙ zeta,
     )
 
 pub values_at-requires : goal.values_at-requires
@@ -47,7 +62,7 @@ values_at-requires c =
     _ c.in-Some.at.opening
     (opens-three b same _ _ _ (main.commitment, main.kept) (quotient.commitment, quotient.kept) zeta next k m fs gs h g
     (no-fault k m fs gs (main.commitment, main.kept) (quotient.commitment, quotient.kept) zeta next h g))
-    c.in-Some.ensures.opening
+    (if-some _ c.open_at_zeta-drawn.result.0 (c.in-Some.witness, c.in-Some.at) c.in-Some.is c.open_at_zeta-drawn.ensures.opening)
 
 pub returns-in-Some-clause-domain : goal.returns-in-Some-clause-domain
 unfolding tool swap_stated
@@ -55,7 +70,7 @@ returns-in-Some-clause-domain c =
     let at = c.in-Some.at in
     let P : CosetData BabyBear → QuarticExtension → Type 0 = λ d z. let inside = IsPoint (2 ^ d.log_size) (point bear_ring bear_root d) of_bear_value z in MatchOption c.values_at.result.opening inside (λ _. inside → ⊥) in
     let inside = IsPoint (2 ^ c.table_domains-domains.result.trace.log_size) (point bear_ring bear_root c.table_domains-domains.result.trace) of_bear_value at.zeta in
-    let first : P c.table_domains-domains.result.trace at.zeta = as-opened _ inside at.opening c.values_at.result.opening c.values_at.ensures.values c.in-Some.ensures.domain in
+    let first : P c.table_domains-domains.result.trace at.zeta = as-opened _ inside at.opening c.values_at.result.opening c.values_at.ensures.values (if-some _ c.open_at_zeta-drawn.result.0 (c.in-Some.witness, c.in-Some.at) c.in-Some.is c.open_at_zeta-drawn.ensures.domain) in
     subst (λ z. P (record { shift = bear_ring.one; log_size = c.args.table.now.log_rows }) z) (sym c.values_at.ensures.zeta) (subst (λ d. P d at.zeta) c.table_domains-domains.ensures.trace first)
 
 pub returns-in-Some-clause-values : goal.returns-in-Some-clause-values
@@ -72,4 +87,4 @@ returns-in-Some-clause-values c =
     _ at.opening c.values_at.result.opening
     (each-opened b same _ _ _ (main.commitment, main.kept) (quotient.commitment, quotient.kept) at.zeta next
     c.args.table.now.log_rows c.values_at.result.zeta c.values_at.ensures.zeta (λ i. quartic_ring.mul (c.table_domains-domains.ensures.step i) at.zeta))
-    c.values_at.ensures.values c.in-Some.ensures.opening
+    c.values_at.ensures.values (if-some _ c.open_at_zeta-drawn.result.0 (c.in-Some.witness, c.in-Some.at) c.in-Some.is c.open_at_zeta-drawn.ensures.opening)
