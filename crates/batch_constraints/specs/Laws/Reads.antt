@@ -1,0 +1,46 @@
+-- What the constraints of a table with lookups read.
+use Rattle.std.proofs.Common.{◌≡◌, ℕ, zero, suc, List, length, All, arith, refl}
+use Rattle.p3_air.specs.declared.cells.Cell.{Cell}
+use Rattle.p3_air.specs.declared.cells.Cell.TheVariants.{Main, Preprocessed, Periodic, Public, FirstRow, LastRow, Transition}
+use Rattle.p3_air.specs.Shape.{Shape, Fits, Declares, IsSendable, ReadsSendable, Declaration, declared_shape}
+use Rattle.p3_air.specs.Tree.{Tree}
+use Rattle.p3_air.specs.Laws.Maps.{reads_more}
+use Rattle.p3_air.specs.Layout.{layout_of, layout_shape}
+use Rattle.p3_lookup.specs.Lookup.{LookupData, IsLookup, FitLookups}
+use Rattle.batch_constraints.specs.BatchTrees.{layout_with, AreLookupsOf}
+
+-- a shape that fits declares each cell that may be sent
+pub declares_more : (a b : Shape) → Fits a b → (c : Cell) → Declares a c × IsSendable c → Declares b c × IsSendable c
+declares_more a b h (Main next column) d = ((omega (arith, d.0.0, h.main), λ e. h.main_next column (d.0.1 e)), tt)
+declares_more a b h (Preprocessed next column) d = ((omega (arith, d.0.0, h.preprocessed), λ e. h.preprocessed_next column (d.0.1 e)), tt)
+declares_more a b h (Periodic n) d = absurd d.1
+declares_more a b h (Public n) d = (omega (arith, d.0, h.public), tt)
+declares_more a b h FirstRow d = absurd d.1
+declares_more a b h LastRow d = absurd d.1
+declares_more a b h Transition d = absurd d.1
+
+pub sendable_more : {F : Type 0} (a b : Shape) → Fits a b → (t : Tree F) → ReadsSendable a t → ReadsSendable b t
+sendable_more a b h t r = reads_more (λ c. Declares a c × IsSendable c) (λ c. Declares b c × IsSendable c) (λ _. ⊥) (λ _. ⊥) (declares_more a b h) (λ c q. q) t r
+
+-- a lookup of a shape is one of each shape that fits
+pub lookup_more : {F : Type 0} (a b : Shape) → Fits a b → (l : LookupData F) → IsLookup a l → IsLookup b l
+lookup_more a b h l r = record {
+  counted = r.counted;
+  reads = record {
+    tuples = λ k d w j u v. sendable_more a b h _ (r.reads.tuples k d w j u v);
+    counts = λ k d w. sendable_more a b h _ (r.reads.counts k d w);
+  };
+}
+
+-- the builder of a table's layout declares what the table does
+pub layout_fits : {F : Type 0} (d : Declaration F) (n : ℕ) → Fits (declared_shape d) (layout_shape (layout_with (layout_of d) n))
+layout_fits d zero = record { main = omega arith; main_next = λ c h. refl; preprocessed = omega arith; preprocessed_next = λ c h. refl; periodic = omega arith; public = omega arith }
+layout_fits d (suc n) = record { main = omega arith; main_next = λ c h. refl; preprocessed = omega arith; preprocessed_next = λ c h. refl; periodic = omega arith; public = omega arith }
+
+pub lookups_fit : {F : Type 0} (d : Declaration F) (n : ℕ) (ls : List (LookupData F)) → AreLookupsOf d ls → All (IsLookup (layout_shape (layout_with (layout_of d) n))) ls
+lookups_fit d n ls h k e l = lookup_more _ _ (layout_fits d n) _ (h k e l)
+
+-- and has what the constraints of the lookups read
+pub table_fits : {F : Type 0} (d : Declaration F) (n : ℕ) (ls : List (LookupData F)) → length ls ≡ n → AreLookupsOf d ls → FitLookups (layout_shape (layout_with (layout_of d) n)) ls
+table_fits d zero ls e h = record { lookups = lookups_fit d zero ls h; columns = λ l. absurd (omega (arith, e, l)); challenges = omega (arith, e); terminal = λ l. absurd (omega (arith, e, l)) }
+table_fits d (suc n) ls e h = record { lookups = lookups_fit d (suc n) ls h; columns = λ _. omega (arith, e); challenges = omega (arith, e); terminal = λ _. omega arith }

@@ -1,0 +1,2 @@
+pub mod BatchTrees
+pub mod Laws
