@@ -1,3 +1,6 @@
 -- What is proved of the definitions, by subject.
 pub mod Reads
+pub mod TreesRead
 pub mod Places
+pub mod Degrees
+pub mod Periods

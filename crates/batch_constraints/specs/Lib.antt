@@ -1,2 +1,4 @@
 pub mod BatchTrees
+pub mod Sizing
+pub mod Openings
 pub mod Laws
