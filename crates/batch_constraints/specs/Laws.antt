@@ -4,3 +4,4 @@ pub mod TreesRead
 pub mod Places
 pub mod Degrees
 pub mod Periods
+pub mod Rows

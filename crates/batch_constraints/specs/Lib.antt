@@ -1,4 +1,5 @@
 pub mod BatchTrees
 pub mod Sizing
 pub mod Openings
+pub mod BatchCheck
 pub mod Laws
