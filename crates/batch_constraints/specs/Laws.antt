@@ -5,3 +5,5 @@ pub mod Places
 pub mod Degrees
 pub mod Periods
 pub mod Rows
+pub mod Own
+pub mod Logarithms

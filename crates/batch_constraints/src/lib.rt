@@ -7,6 +7,7 @@
 #![tactic(auto)]
 
 mod check;
+pub mod meanings;
 mod openings;
 mod sizing;
 mod symbolic;

@@ -56,7 +56,7 @@ powers_below_least n k (suc m) below above =
       | inr le ↦ let h = above m le in grind (arith, nat_tests)
     ]
 
-below_power : (n : ℕ) → n ≤ 2 ^ n
+pub below_power : (n : ℕ) → n ≤ 2 ^ n
 below_power zero = omega arith
 below_power (suc n) =
     let rest = below_power n in

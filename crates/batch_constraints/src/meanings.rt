@@ -1,0 +1,30 @@
+//! What the definitions are fixed by: laws as the contracts of functions that compute nothing.
+ghost use Rattle.std.specs.Prelude.{◌≡◌, ℕ, ◌^◌, ◌≤◌, List, length, All};
+ghost use Rattle.p3_air.specs.Layout.{layout_of, layout_shape};
+ghost use Rattle.p3_air.specs.Shape.{Shape, Declaration, IsInteraction, ReadsDeclared, declared_shape};
+ghost use Rattle.p3_air.specs.Tree.{Interaction};
+ghost use Rattle.p3_lookup.specs.Lookup.{LookupData, FitLookups, lookups_of};
+ghost use Rattle.p3_lookup.specs.Trees.{lookup_trees};
+ghost use Rattle.batch_constraints.specs.BatchTrees.{AreLookupsOf, layout_with};
+ghost use Rattle.batch_constraints.specs.Sizing.{log_ceil};
+
+use p3_field::{Field, FieldCore, RingCore};
+
+/// The lookups that an AIR's own interactions make are lookups of its table: so what `Lookups::from_air` gives may be handed
+/// to each call of this crate.
+pub fn own_lookups_fit<F>()
+    ensures { (d : Declaration F) (is : List (Interaction F)) → All (IsInteraction (declared_shape d)) is → AreLookupsOf d (lookups_of is) }
+{}
+
+/// A builder of a table's layout has what the constraints of its lookups read (`layout`), and where a builder has it, they
+/// read nothing else (`reads`).
+pub fn constraints_read_what_is_declared<F: Field>()
+    ensures layout { (d : Declaration F) (ls : List (LookupData F)) → AreLookupsOf d ls → FitLookups (layout_shape (layout_with (layout_of d) (length ls))) ls }
+    ensures reads { (s : Shape) (ls : List (LookupData F)) → FitLookups s ls → All (ReadsDeclared s) (lookup_trees F.ring ls) }
+{}
+
+/// The logarithm of a count reaches it (`enough`), and no smaller one does (`least`).
+pub fn a_logarithm_is_the_least()
+    ensures enough { (n : ℕ) → n ≤ 2 ^ log_ceil n }
+    ensures least { (n j : ℕ) → n ≤ 2 ^ j → log_ceil n ≤ j }
+{}
