@@ -1,0 +1,9 @@
+//! Tests of `batch_constraints` on worked values, as a caller of its public items.
+#![tactic(auto)]
+
+#[cfg(test)]
+mod checks;
+pub mod cube;
+#[cfg(test)]
+mod sizes;
+pub mod take;
