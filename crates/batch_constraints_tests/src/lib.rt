@@ -5,5 +5,7 @@
 mod checks;
 pub mod cube;
 #[cfg(test)]
+mod post;
+#[cfg(test)]
 mod sizes;
 pub mod take;
