@@ -1,0 +1,39 @@
+use Rattle.std.proofs.Common.{◌≡◌, drop, ◌∙◌, ap, arith}
+use Rattle.std.proofs.lemmas.List.{length-map}
+use Rattle.p3_air.specs.CellValues.{reading_at}
+use Rattle.p3_air.specs.Shape.{declared_shape}
+use Rattle.p3_air.specs.Tree.{ev}
+use Rattle.p3_lookup.specs.Trees.{lookup_trees}
+use Rattle.p3_lookup.specs.Written.{read, read_all}
+use Rattle.p3_uni_stark.specs.ProverState.{sum_of}
+use Rattle.batch_constraints.specs.Laws.Reads.{lookup_more}
+use Rattle.batch_prover_folder.specs.FolderState.{cells_of, shape_of}
+use Rattle.batch_prover_folder.proofs.Sums.{weighed_trees, folded_trees}
+use Rattle.batch_prover_folder.proofs.fold.prover_fold_with_lookups.Goals as goal
+
+pub eval_air_and_lookups-requires-clause-lookups : goal.eval_air_and_lookups-requires-clause-lookups
+eval_air_and_lookups-requires-clause-lookups g c =
+    let long = length-map c.args.lookups.now read in
+    record {
+      lookups = λ k e l. lookup_more (declared_shape (g.A.BaseAir.declaration c.args.air.now)) (shape_of c.args.folder) c.requires.declared _ (c.requires.lookups k e l);
+      columns = λ some. let h = c.requires.columns (omega (arith, long, some)) in omega (arith, long, h);
+      challenges = omega (arith, long, c.requires.challenges);
+      terminal = λ some. c.requires.terminals (omega (arith, long, some));
+    }
+
+pub returns-clause-weighed : goal.returns-clause-weighed
+returns-clause-weighed g c =
+    let s = g.E.RingCore.ring in
+    let powers = c.args.folder.inner.alpha_powers.now in
+    let start : sum_of c.args.folder.inner ≡ record { left = powers; total = s.zero } =
+    (λ i. record { left = ap (λ n. drop n powers) c.requires.first i; total = c.requires.zero i }) in
+    weighed_trees s g.met.E.RingCore.ring_laws (ev (reading_at s g.E.ExtensionField.embed (cells_of s.zero g.E.ExtensionField.embed c.args.folder)))
+    (g.A.Air.trees c.args.air.now) (lookup_trees g.F.RingCore.ring (read_all c.args.lookups.now)) powers (sum_of c.args.folder.inner) _ start c.in-Ok.ensures.grows.1
+
+pub returns-clause-fold : goal.returns-clause-fold
+returns-clause-fold g c = λ alpha ordered.
+    let s = g.E.RingCore.ring in
+    let powers = c.args.folder.inner.alpha_powers.now in
+    returns-clause-weighed g c
+    ∙ folded_trees s g.met.E.RingCore.ring_laws (ev (reading_at s g.E.ExtensionField.embed (cells_of s.zero g.E.ExtensionField.embed c.args.folder)))
+    (g.A.Air.trees c.args.air.now) (lookup_trees g.F.RingCore.ring (read_all c.args.lookups.now)) alpha powers ordered

@@ -1,0 +1,208 @@
+//! The prover's constraint folder with lookups.
+ghost use Rattle.std.specs.Prelude.{◌≡◌, List, [], IfOk, OnErr, IsOk, IsTrue, true, map, refl};
+ghost use Rattle.std.proofs.Common.{◌∙◌, ap};
+ghost use Rattle.p3_air.specs.CellValues.{reading_at};
+ghost use Rattle.p3_air.specs.Operation.{value_by};
+ghost use Rattle.p3_air.specs.Tree.{Tree, ev, ev_asserted, Stand};
+ghost use Rattle.p3_uni_stark.specs.Fold.{added_to, weighed_from};
+ghost use Rattle.p3_uni_stark.specs.Laws.Folders.{value_persists, weighed_along};
+ghost use Rattle.batch_prover_folder.specs.Laws.Cells.{cells_by_persists, base_cells_by_persists, shape_with};
+
+use p3_air::{
+    AirBuilder, Cell, Count, ExtCell, ExtensionBuilder, InteractionBuilder, PermutationAirBuilder,
+};
+use p3_field::{ExtensionField, Field, FieldCore, Mem, PrimeCharacteristicRing, RingCore};
+use p3_uni_stark::ProverFolder;
+
+/// Folds a table's constraints, those of its lookups among them, at one point of the quotient domain
+/// (`ProverConstraintFolderWithLookups` of `p3-batch-stark`): the plain prover's folder, with the values of the
+/// permutation columns, the challenges and the terminal of the lookups. It never fails. Constraints over the base field
+/// and over the extension take their powers in the one order in which they are asserted, as the plain folder's do.
+/// Interactions add nothing.
+#[derive(Drop)]
+pub struct ProverFolderWithLookups<'a, F, E> {
+    /// The plain prover's folder, with the values of all other cells, the powers and the sum so far.
+    pub inner: ProverFolder<'a, F, E>,
+    /// The permutation columns' values at the point, one for each column.
+    pub permutation_local: &'a [E],
+    /// The permutation columns' values at the next point.
+    pub permutation_next: &'a [E],
+    /// The challenges of the lookups.
+    pub permutation_challenges: &'a [E],
+    /// The terminals of the lookups: none or one.
+    pub permutation_values: &'a [E],
+}
+
+impl<'a, F: Field, E: ExtensionField<F>> ProverFolderWithLookups<'a, F, E> {
+    ghost use Rattle.p3_uni_stark.specs.ProverState.{sum_of, powers_of};
+    ghost use Rattle.batch_prover_folder.specs.FolderState.{given_with};
+
+    // Folds one more value in, as the plain folder does.
+    fn fold_in(&mut self, x: E)
+        ensures same { given_with self.new ≡ given_with self.old }
+        ensures sum { sum_of self.new.inner ≡ added_to E.ring (sum_of self.old.inner).left self.old.inner.accumulator x }
+        ensures index { powers_of self.new.inner ≡ powers_of self.old.inner }
+    {
+        self.inner.fold_in(x);
+    }
+}
+
+impl<'a, F: Field, E: ExtensionField<F>> AirBuilder for ProverFolderWithLookups<'a, F, E> {
+    ghost use Rattle.p3_uni_stark.specs.ProverState.{sum_of, powers_of};
+    ghost use Rattle.batch_prover_folder.specs.FolderState.{given_with, given_cells, cells_of, shape_of};
+
+    type F = F;
+
+    type Expr = F;
+
+    ghost stands = { λ b e t. E.embed e ≡ ev (reading_at E.ring E.embed (cells_of E.ring.zero E.embed b)) t };
+
+    ghost later = { λ a b. given_with b ≡ given_with a };
+
+    ghost grows = { λ a b ts is. (given_with b ≡ given_with a) × (sum_of b.inner ≡ weighed_from E.ring (sum_of a.inner) (map (ev_asserted (reading_at E.ring E.embed (cells_of E.ring.zero E.embed a))) ts)) × (powers_of b.inner ≡ powers_of a.inner) };
+
+    ghost asserts = { λ a x b. (given_with b ≡ given_with a) × (sum_of b.inner ≡ added_to E.ring (sum_of a.inner).left a.inner.accumulator (E.embed x)) × (powers_of b.inner ≡ powers_of a.inner) };
+
+    ghost computes = { λ a op x y b e. e ≡ value_by F.ring op x y };
+
+    ghost shape = { λ b. shape_of b };
+
+    ghost never_fails = { true };
+
+    ghost only_asserting_fails = { true };
+
+    fn cell(&mut self, c: Cell) -> Mem<F> {
+        self.inner.cell(c)
+    }
+
+    fn constant(&mut self, x: F) -> Mem<F> {
+        Ok(x)
+    }
+
+    fn add(&mut self, x: F, y: F) -> Mem<F> {
+        Ok(x + y)
+    }
+
+    fn sub(&mut self, x: F, y: F) -> Mem<F> {
+        Ok(x - y)
+    }
+
+    fn mul(&mut self, x: F, y: F) -> Mem<F> {
+        Ok(x * y)
+    }
+
+    fn assert_zero(&mut self, x: F) -> Mem<()> {
+        self.fold_in(E::from_base(x));
+        Ok(())
+    }
+
+    ghost arrays_fit = { F.arrays_fit };
+
+    ghost later_same = { λ a. refl };
+
+    ghost later_along = { λ a b c p q. q ∙ p };
+
+    ghost later_shape = { λ a b p. shape_with (given_with a) (given_with b) p };
+
+    ghost persists = { λ a b h e t k. value_persists (λ o. reading_at E.ring E.embed (given_cells E.ring.zero E.embed o)) (given_with a) (given_with b) (E.embed e) t h k };
+
+    ghost grows_same = { λ a. (refl, refl, refl) };
+
+    ghost grows_later = { λ a b t i h. h.0 };
+
+    ghost grows_along = { λ a b c s t i j p q. (q.0 ∙ p.0, weighed_along E.ring (λ o. reading_at E.ring E.embed (given_cells E.ring.zero E.embed o)) (given_with a) (given_with b) (sum_of a.inner) (sum_of b.inner) (sum_of c.inner) s t p.0 p.1 q.1, q.2 ∙ p.2) };
+
+    ghost never_fails_sure = { λ h. h };
+
+    ghost computes_stands = { λ a b h op x y e s t k l q. base_cells_by_persists F.ring F.ring_laws E.ring E.ring_laws E.embed E.embed_laws (λ o. given_cells E.ring.zero E.embed o) (given_with a) (given_with b) op x y e s t h k l q };
+
+    ghost asserts_grows = { λ a b x t h k. (k.0, k.1 ∙ ap (added_to E.ring (sum_of a.inner).left a.inner.accumulator) h, k.2) };
+}
+
+impl<'a, F: Field, E: ExtensionField<F>> ExtensionBuilder for ProverFolderWithLookups<'a, F, E> {
+    ghost use Rattle.p3_uni_stark.specs.ProverState.{sum_of, powers_of};
+    ghost use Rattle.batch_prover_folder.specs.FolderState.{given_with, given_cells, cells_of};
+
+    type ExprEF = E;
+
+    ghost stands_ext = { λ b e t. e ≡ ev (reading_at E.ring E.embed (cells_of E.ring.zero E.embed b)) t };
+
+    ghost asserts_ext = { λ a x b. (given_with b ≡ given_with a) × (sum_of b.inner ≡ added_to E.ring (sum_of a.inner).left a.inner.accumulator x) × (powers_of b.inner ≡ powers_of a.inner) };
+
+    ghost computes_ext = { λ a op x y b e. e ≡ value_by E.ring op x y };
+
+    ghost lifts = { λ a x b e. e ≡ E.embed x };
+
+    fn lift(&mut self, x: F) -> Mem<E> {
+        Ok(E::from_base(x))
+    }
+
+    fn add_ext(&mut self, x: E, y: E) -> Mem<E> {
+        Ok(x + y)
+    }
+
+    fn sub_ext(&mut self, x: E, y: E) -> Mem<E> {
+        Ok(x - y)
+    }
+
+    fn mul_ext(&mut self, x: E, y: E) -> Mem<E> {
+        Ok(x * y)
+    }
+
+    fn assert_zero_ext(&mut self, x: E) -> Mem<()> {
+        self.fold_in(x);
+        Ok(())
+    }
+
+    ghost arrays_fit_ext = { E.arrays_fit };
+
+    ghost persists_ext = { λ a b h e t k. value_persists (λ o. reading_at E.ring E.embed (given_cells E.ring.zero E.embed o)) (given_with a) (given_with b) e t h k };
+
+    ghost computes_ext_stands = { λ a b h op x y e s t k l q. cells_by_persists E.ring E.embed (λ o. given_cells E.ring.zero E.embed o) (given_with a) (given_with b) op x y e s t h k l q };
+
+    ghost lifts_stands = { λ a b h x e t k q. value_persists (λ o. reading_at E.ring E.embed (given_cells E.ring.zero E.embed o)) (given_with a) (given_with b) e t h (q ∙ k) };
+
+    ghost asserts_ext_grows = { λ a b x t h k. (k.0, k.1 ∙ ap (added_to E.ring (sum_of a.inner).left a.inner.accumulator) h, k.2) };
+}
+
+impl<'a, F: Field, E: ExtensionField<F>> PermutationAirBuilder
+    for ProverFolderWithLookups<'a, F, E> {
+    fn ext_cell(&mut self, c: ExtCell) -> Mem<E> {
+        let value = match c {
+            ExtCell::Permutation { next: true, column } => self.permutation_next[column],
+            ExtCell::Permutation {
+                next: false,
+                column,
+            } => self.permutation_local[column],
+            ExtCell::Challenge(n) => self.permutation_challenges[n],
+            ExtCell::Terminal => self.permutation_values[0],
+        };
+        Ok(value)
+    }
+}
+
+impl<'a, F: Field, E: ExtensionField<F>> InteractionBuilder for ProverFolderWithLookups<'a, F, E> {
+    ghost use Rattle.p3_uni_stark.specs.ProverState.{sum_of, powers_of};
+    ghost use Rattle.batch_prover_folder.specs.FolderState.{given_with, cells_of, shape_of};
+
+    ghost sends = { λ a bus xs cs b. (given_with b ≡ given_with a) × (sum_of b.inner ≡ sum_of a.inner) × (powers_of b.inner ≡ powers_of a.inner) };
+
+    fn push_interaction(&mut self, _bus_name: &str, fields: &[F], count: Count<F>) -> Mem<()>
+        ensures later { given_with self.new ≡ given_with self.old }
+        ensures same { shape_of self.new ≡ shape_of self.old }
+        ensures answers { IsTrue true → IsOk result }
+        ensures grows { (fs : List (Tree F)) (v : Tree F) → Stand (λ e t. E.embed e ≡ ev (reading_at E.ring E.embed (cells_of E.ring.zero E.embed self.old)) t) fields.now fs → E.embed count.value ≡ ev (reading_at E.ring E.embed (cells_of E.ring.zero E.embed self.old)) v
+            → IfOk result (λ _. (given_with self.new ≡ given_with self.old) × (sum_of self.new.inner ≡ weighed_from E.ring (sum_of self.old.inner) []) × (powers_of self.new.inner ≡ powers_of self.old.inner)) }
+        ensures sure { IsTrue true → IsOk result }
+        ensures sends { IfOk result (λ _. (given_with self.new ≡ given_with self.old) × (sum_of self.new.inner ≡ sum_of self.old.inner) × (powers_of self.new.inner ≡ powers_of self.old.inner)) }
+        ensures refused { OnErr result ((given_with self.new ≡ given_with self.old) × (sum_of self.new.inner ≡ weighed_from E.ring (sum_of self.old.inner) []) × (powers_of self.new.inner ≡ powers_of self.old.inner)) }
+    {
+        Ok(())
+    }
+
+    fn push_local_interaction(&mut self, _fields: &[F], _counts: &[Count<F>]) -> Mem<()> {
+        Ok(())
+    }
+
+    ghost sends_grows = { λ a b bus xs cs fs vs h k e. e };
+}
