@@ -17,9 +17,11 @@ module _ {F E : Type 0} (s : Ring E) (L : RingLaws s) (value : Tree F → E) (ow
       ∙ (ap (λ (w : Sum E). (weighed_from s w (map value (own ++ others))).total) h ∙ weighed_zero s L powers (map value (own ++ others))))
 
   -- by a challenge's powers in order it is their fold
-  pub folded_trees : (alpha : E) (powers : List E) → powers ≡ fold_powers s alpha (length (own ++ others)) → weighed s powers (map value (own ++ others)) ≡ fold s alpha (map value (own ++ others))
-  folded_trees alpha powers h =
+  pub folded_trees : (alpha total : E) (powers : List E) → total ≡ weighed s powers (map value (own ++ others)) → powers ≡ fold_powers s alpha (length (own ++ others))
+      → total ≡ fold s alpha (map value (own ++ others))
+  folded_trees alpha total powers k h =
       let values = map value (own ++ others) in
       let ordered : powers ≡ fold_powers s alpha (length values) = h ∙ ap (fold_powers s alpha) (sym (length-map (own ++ others) value)) in
-      ap (λ (ws : List E). weighed s ws values) ordered
-      ∙ (sym (weighed_zero s L (fold_powers s alpha (length values)) values) ∙ weighed_fold s L alpha values)
+      k
+      ∙ (ap (λ (ws : List E). weighed s ws values) ordered
+      ∙ (sym (weighed_zero s L (fold_powers s alpha (length values)) values) ∙ weighed_fold s L alpha values))

@@ -1,4 +1,4 @@
-use Rattle.std.proofs.Common.{◌≡◌, drop, ◌∙◌, ap, arith}
+use Rattle.std.proofs.Common.{◌≡◌, drop, ap, arith}
 use Rattle.std.proofs.lemmas.List.{length-map}
 use Rattle.p3_air.specs.CellValues.{reading_at}
 use Rattle.p3_air.specs.Shape.{declared_shape}
@@ -28,12 +28,11 @@ returns-clause-weighed g c =
     let start : sum_of c.args.folder.inner ≡ record { left = powers; total = s.zero } =
     (λ i. record { left = ap (λ n. drop n powers) c.requires.first i; total = c.requires.zero i }) in
     weighed_trees s g.met.E.RingCore.ring_laws (ev (reading_at s g.E.ExtensionField.embed (cells_of s.zero g.E.ExtensionField.embed c.args.folder)))
-    (g.A.Air.trees c.args.air.now) (lookup_trees g.F.RingCore.ring (read_all c.args.lookups.now)) powers (sum_of c.args.folder.inner) _ start c.in-Ok.ensures.grows.1
+    (g.A.Air.trees c.args.air.now) (lookup_trees g.F.RingCore.ring (read_all c.args.lookups.now)) powers (sum_of c.args.folder.inner) (sum_of c.eval_air_and_lookups.new.builder.inner) start c.in-Ok.ensures.grows.1
 
 pub returns-clause-fold : goal.returns-clause-fold
 returns-clause-fold g c = λ alpha ordered.
     let s = g.E.RingCore.ring in
-    let powers = c.args.folder.inner.alpha_powers.now in
-    returns-clause-weighed g c
-    ∙ folded_trees s g.met.E.RingCore.ring_laws (ev (reading_at s g.E.ExtensionField.embed (cells_of s.zero g.E.ExtensionField.embed c.args.folder)))
-    (g.A.Air.trees c.args.air.now) (lookup_trees g.F.RingCore.ring (read_all c.args.lookups.now)) alpha powers ordered
+    folded_trees s g.met.E.RingCore.ring_laws (ev (reading_at s g.E.ExtensionField.embed (cells_of s.zero g.E.ExtensionField.embed c.args.folder)))
+    (g.A.Air.trees c.args.air.now) (lookup_trees g.F.RingCore.ring (read_all c.args.lookups.now)) alpha c.eval_air_and_lookups.new.builder.inner.accumulator
+    c.args.folder.inner.alpha_powers.now (returns-clause-weighed g c) ordered
