@@ -1,0 +1,2 @@
+pub mod FolderState
+pub mod Laws
