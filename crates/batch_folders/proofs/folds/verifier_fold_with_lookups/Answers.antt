@@ -1,15 +1,11 @@
-use Rattle.std.proofs.Common.{map, ◌∙◌, ap, arith}
+use Rattle.std.proofs.Common.{arith}
 use Rattle.std.proofs.lemmas.List.{length-map}
 use Rattle.p3_air.specs.Shape.{declared_shape}
-use Rattle.p3_air.specs.Tree.{ev}
 use Rattle.p3_lookup.specs.Trees.{lookup_trees}
 use Rattle.p3_lookup.specs.Written.{read, read_all}
-use Rattle.p3_uni_stark.specs.Fold.{fold_from}
-use Rattle.p3_uni_stark.specs.Laws.Folds.{fold_from_zero}
-use Rattle.batch_constraints.specs.BatchTrees.{table_trees}
 use Rattle.batch_constraints.specs.Laws.Reads.{lookup_more}
-use Rattle.batch_constraints.specs.Laws.Rows.{asserted_values}
 use Rattle.batch_folders.specs.FolderState.{all_opened, reading_of, shape_of}
+use Rattle.batch_folders.specs.Laws.Folders.{folded_from_zero}
 use Rattle.batch_folders.proofs.folds.verifier_fold_with_lookups.Goals as goal
 
 pub eval_air_and_lookups-requires-clause-lookups : goal.eval_air_and_lookups-requires-clause-lookups
@@ -27,12 +23,8 @@ eval_air_and_lookups-requires-clause-lookups g c =
 pub returns : goal.returns
 returns g c =
     let s = g.E.RingCore.ring in
-    let alpha = c.args.folder.inner.alpha in
-    let sum = c.args.folder.inner.accumulator in
-    let value = ev (reading_of s g.E.ExtensionField.embed (all_opened c.args.folder)) in
+    let f = c.args.folder in
     let ts = g.A.Air.trees c.args.air.now in
     let us = lookup_trees g.F.RingCore.ring (read_all c.args.lookups.now) in
-    let values = map value (table_trees g.F.RingCore.ring ts (read_all c.args.lookups.now)) in
-    c.in-Ok.ensures.grows.1
-    ∙ (ap (fold_from s alpha sum) (asserted_values value ts us)
-    ∙ (ap (λ v. fold_from s alpha v values) c.requires.zero ∙ fold_from_zero s g.met.E.RingCore.ring_laws alpha values))
+    folded_from_zero s g.met.E.RingCore.ring_laws (reading_of s g.E.ExtensionField.embed (all_opened f)) f.inner.alpha f.inner.accumulator c.eval_air_and_lookups.new.builder.inner.accumulator ts us
+    c.requires.zero c.in-Ok.ensures.grows.1
