@@ -2,7 +2,7 @@ use Rattle.std.proofs.Common.{refl}
 use Rattle.p3_field.specs.BabyBear.{bear_ring}
 use Rattle.p3_field.specs.Quartic.{quartic_ring}
 use Rattle.p3_field.specs.Laws.QuarticLaws.{quartic_same}
-use Rattle.batch_folders_tests.proofs.folding.plain_folder.Goals as goal
+use Rattle.batch_verifier_folder_tests.proofs.folding.plain_folder.Goals as goal
 
 pub returns-clause-zero : goal.returns-clause-zero
 unfolding quartic_ring bear_ring

@@ -5,8 +5,8 @@ ghost use Rattle.p3_air.specs.Tree.{Tree, ev, ev_asserted, Stand, StandCount};
 ghost use Rattle.p3_air.specs.Operation.{value_by};
 ghost use Rattle.p3_uni_stark.specs.Fold.{fold_from};
 ghost use Rattle.p3_uni_stark.specs.Laws.Folders.{value_persists, folded_along};
-ghost use Rattle.batch_folders.specs.FolderState.{OpenedWithLookups, cells_of, reading_of, shape_of};
-ghost use Rattle.batch_folders.specs.Laws.Folders.{value_by_persists};
+ghost use Rattle.batch_verifier_folder.specs.FolderState.{OpenedWithLookups, cells_of, reading_of, shape_of};
+ghost use Rattle.batch_verifier_folder.specs.Laws.Folders.{value_by_persists};
 
 use p3_air::{
     AirBuilder, Cell, Count, ExtCell, ExtensionBuilder, InteractionBuilder, PermutationAirBuilder,
@@ -33,7 +33,7 @@ pub struct VerifierFolderWithLookups<'a, F, E> {
 }
 
 impl<'a, F: Field, E: ExtensionField<F>> AirBuilder for VerifierFolderWithLookups<'a, F, E> {
-    ghost use Rattle.batch_folders.specs.FolderState.{all_opened};
+    ghost use Rattle.batch_verifier_folder.specs.FolderState.{all_opened};
 
     type F = F;
 
@@ -104,7 +104,7 @@ impl<'a, F: Field, E: ExtensionField<F>> AirBuilder for VerifierFolderWithLookup
 }
 
 impl<'a, F: Field, E: ExtensionField<F>> ExtensionBuilder for VerifierFolderWithLookups<'a, F, E> {
-    ghost use Rattle.batch_folders.specs.FolderState.{all_opened};
+    ghost use Rattle.batch_verifier_folder.specs.FolderState.{all_opened};
 
     type ExprEF = E;
 
@@ -166,7 +166,7 @@ impl<'a, F: Field, E: ExtensionField<F>> PermutationAirBuilder
 
 impl<'a, F: Field, E: ExtensionField<F>> InteractionBuilder
     for VerifierFolderWithLookups<'a, F, E> {
-    ghost use Rattle.batch_folders.specs.FolderState.{all_opened};
+    ghost use Rattle.batch_verifier_folder.specs.FolderState.{all_opened};
 
     ghost sends = { λ a bus xs cs b. (all_opened b ≡ all_opened a) × (b.inner.accumulator ≡ a.inner.accumulator) };
 

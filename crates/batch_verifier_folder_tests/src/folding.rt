@@ -3,8 +3,8 @@ ghost use Rattle.std.specs.Prelude.{◌≡◌};
 ghost use Rattle.p3_field.specs.Quartic.{quartic_ring};
 
 use batch_constraints_tests::take::{Take, take_lookups};
-use batch_folders::{VerifierFolderWithLookups, verifier_fold_with_lookups};
 use batch_tables::SwapAir;
+use batch_verifier_folder::{VerifierFolderWithLookups, verifier_fold_with_lookups};
 use p3_air_tests::support::bear;
 use p3_field::{BabyBear, FieldCore, QuarticExtension, RingCore};
 use p3_lookup::LogUpGadget;

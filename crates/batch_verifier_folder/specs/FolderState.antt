@@ -7,7 +7,7 @@ use Rattle.p3_air.specs.PointValues.{point_cells, point_shape}
 use Rattle.p3_air.specs.Shape.{Shape}
 use Rattle.p3_air.specs.Tree.{Reading}
 use Rattle.p3_uni_stark.specs.VerifierState.{Opened, opened_of}
-use Rattle.batch_folders.specs.declared.verifier_folder.VerifierFolderWithLookups.{VerifierFolderWithLookups}
+use Rattle.batch_verifier_folder.specs.declared.verifier_folder.VerifierFolderWithLookups.{VerifierFolderWithLookups}
 
 -- the values of the base field's cells with the folding challenge, and the permutation columns, the lookups' challenges and the terminals
 pub record OpenedWithLookups (F E : Type 0) : Type 0 where

@@ -4,9 +4,9 @@ use Rattle.p3_air.specs.Shape.{declared_shape}
 use Rattle.p3_lookup.specs.Trees.{lookup_trees}
 use Rattle.p3_lookup.specs.Written.{read, read_all}
 use Rattle.batch_constraints.specs.Laws.Reads.{lookup_more}
-use Rattle.batch_folders.specs.FolderState.{all_opened, reading_of, shape_of}
-use Rattle.batch_folders.specs.Laws.Folders.{folded_from_zero}
-use Rattle.batch_folders.proofs.folds.verifier_fold_with_lookups.Goals as goal
+use Rattle.batch_verifier_folder.specs.FolderState.{all_opened, reading_of, shape_of}
+use Rattle.batch_verifier_folder.specs.Laws.Folders.{folded_from_zero}
+use Rattle.batch_verifier_folder.proofs.folds.verifier_fold_with_lookups.Goals as goal
 
 pub eval_air_and_lookups-requires-clause-lookups : goal.eval_air_and_lookups-requires-clause-lookups
 eval_air_and_lookups-requires-clause-lookups g c =

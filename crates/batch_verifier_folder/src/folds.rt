@@ -5,7 +5,7 @@ ghost use Rattle.p3_air.specs.Tree.{ev};
 ghost use Rattle.p3_lookup.specs.Written.{read_all};
 ghost use Rattle.p3_uni_stark.specs.Fold.{fold};
 ghost use Rattle.batch_constraints.specs.BatchTrees.{AreLookupsOf, table_trees};
-ghost use Rattle.batch_folders.specs.FolderState.{all_opened, reading_of, shape_of};
+ghost use Rattle.batch_verifier_folder.specs.FolderState.{all_opened, reading_of, shape_of};
 
 use crate::verifier_folder::VerifierFolderWithLookups;
 use p3_air::{Air, BaseAir};
