@@ -1,0 +1,5 @@
+//! Tests of `batch_prover_folder` on worked values, as a caller of its public items.
+#![tactic(auto)]
+
+#[cfg(test)]
+mod folding;
