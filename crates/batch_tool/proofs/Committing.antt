@@ -12,8 +12,8 @@ use Rattle.p3_challenger.specs.declared.sha256_challenger.Sha256Challenger.{Sha2
 use Rattle.p3_field.specs.declared.quartic.QuarticExtension.{QuarticExtension}
 use Rattle.p3_field.specs.Laws.BearField.{bear_of_canonical}
 use Rattle.p3_challenger.specs.Script.{Elements, begun, play, passes}
-use Rattle.p3_batch_stark.specs.Grinding.{NonePasses, behind_test, number_passes as passes_number, value_passes}
-use Rattle.p3_batch_stark.specs.Single.{single_shape}
+use Rattle.batch_transcript.specs.Grinding.{NonePasses, behind_test, number_passes as passes_number, value_passes}
+use Rattle.batch_transcript.specs.Single.{single_shape}
 use Rattle.plain_pcs.specs.Extension.{evaluations}
 use Rattle.plain_pcs.specs.Scheme.{PlainCommitmentData}
 use Rattle.batch_tool.proofs.Draws.{alpha-script, quotient-script, zeta-script}

@@ -5,10 +5,10 @@ use Rattle.p3_field.specs.Ring.{Ring, of_nat}
 use Rattle.p3_challenger.specs.Script.{ChallengerOf, Transcript, Played, Elements, begun, play, passes, after_grinding}
 use Rattle.p3_challenger.specs.Laws.Scripts.{grinding-state}
 use Rattle.p3_challenger.specs.declared.sha256_challenger.Sha256Challenger.{Sha256Challenger}
-use Rattle.p3_batch_stark.specs.Grinding.{behind_test}
-use Rattle.p3_batch_stark.specs.BatchScript.{bindings_script, main_script, preprocessed_script, pair_script, permutation_script, quotient_script, ood_script, opening_script}
-use Rattle.p3_batch_stark.specs.Running.{Running, Plays, drawn_along}
-use Rattle.p3_batch_stark.specs.Laws.Draws.{plays-chain}
+use Rattle.batch_transcript.specs.Grinding.{behind_test}
+use Rattle.batch_transcript.specs.BatchScript.{bindings_script, main_script, preprocessed_script, pair_script, permutation_script, quotient_script, ood_script, opening_script}
+use Rattle.batch_transcript.specs.Running.{Running, Plays, drawn_along}
+use Rattle.batch_transcript.specs.Laws.Draws.{plays-chain}
 use Rattle.batch_tool.specs.Honest.{script_to_alpha}
 
 module _ {S F E M : Type 0} (c : ChallengerOf S F E M) where

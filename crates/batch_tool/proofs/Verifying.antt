@@ -22,9 +22,9 @@ use Rattle.batch_tool.specs.declared.refusal.Refusal.TheVariants.{OodPowWitness 
 use Rattle.plain_pcs.specs.declared.error.PlainError.{PlainError}
 use Rattle.p3_challenger.specs.declared.sha256_challenger.Sha256Challenger.{Sha256Challenger}
 use Rattle.p3_field.specs.BabyBear.{bear_ring}
-use Rattle.p3_batch_stark.specs.Grinding.{OodRefusal, value_passes}
-use Rattle.p3_batch_stark.specs.declared.failure.BatchTranscriptFailure.{BatchTranscriptFailure}
-use Rattle.p3_batch_stark.specs.declared.failure.BatchTranscriptFailure.TheVariants.{LookupPowWitness, MissingLookupPowWitness, UnexpectedLookupPowWitness, NonCanonicalLookupPowWitness, OodPowWitness, NonCanonicalOodPowWitness}
+use Rattle.batch_transcript.specs.Grinding.{OodRefusal, value_passes}
+use Rattle.batch_transcript.specs.declared.failure.BatchTranscriptFailure.{BatchTranscriptFailure}
+use Rattle.batch_transcript.specs.declared.failure.BatchTranscriptFailure.TheVariants.{LookupPowWitness, MissingLookupPowWitness, UnexpectedLookupPowWitness, NonCanonicalLookupPowWitness, OodPowWitness, NonCanonicalOodPowWitness}
 use Rattle.batch_tool.proofs.Backend.{refusal_of}
 
 module _ (t : Instance BabyBear) (alpha zeta : QuarticExtension) (local next chunk : List QuarticExtension) where

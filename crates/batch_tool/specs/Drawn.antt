@@ -9,8 +9,8 @@ use Rattle.p3_challenger.specs.Elements.{PlayedElements, flat_transcript, play_e
 use Rattle.p3_challenger.specs.Script.{begun}
 use Rattle.p3_challenger.specs.Sha256Functions.{sha256_elements}
 use Rattle.p3_challenger.specs.declared.script.Hierarchy.TheVariants.{Begin, End}
-use Rattle.p3_batch_stark.specs.BatchScript.{draws, degree_bits_step, main_commitment_step, public_values_step, constraint_challenge_step, quotient_commitment_step, ood_pow_step, zeta_step, opening_step}
-use Rattle.p3_batch_stark.specs.Single.{with_elements}
+use Rattle.batch_transcript.specs.BatchScript.{draws, degree_bits_step, main_commitment_step, public_values_step, constraint_challenge_step, quotient_commitment_step, ood_pow_step, zeta_step, opening_step}
+use Rattle.batch_transcript.specs.Single.{with_elements}
 use Rattle.plain_pcs.specs.Observing.{commitment_elements}
 use Rattle.batch_tool.specs.Honest.{Configuration, Instance, alpha, committed_to, given, seeded_state, shape, whole_transcript, witness_passes, zeta_behind}
 use Rattle.batch_tool.specs.Tool.{tool}

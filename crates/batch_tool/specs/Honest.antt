@@ -8,8 +8,8 @@ use Rattle.p3_matrix.specs.Matrix.{Rows}
 use Rattle.p3_air.specs.Tree.{Tree, ev}
 use Rattle.p3_uni_stark.specs.Fold.{fold}
 use Rattle.p3_challenger.specs.Script.{ChallengerOf, Transcript, Played, Elements, play, begun, passes}
-use Rattle.p3_batch_stark.specs.BatchScript.{Shape, Given, seeded as seeded_by, bindings_script, main_script, permutation_script, quotient_script, ood_script, opening_script}
-use Rattle.p3_batch_stark.specs.Single.{single_shape, single_given}
+use Rattle.batch_transcript.specs.BatchScript.{Shape, Given, seeded as seeded_by, bindings_script, main_script, permutation_script, quotient_script, ood_script, opening_script}
+use Rattle.batch_transcript.specs.Single.{single_shape, single_given}
 use Rattle.plain_pcs.specs.Extension.{evaluations}
 use Rattle.plain_pcs.specs.Scheme.{PlainCommitmentData}
 use Rattle.batch_tool.specs.Reading.{reading, opened_at}

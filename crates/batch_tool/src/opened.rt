@@ -2,8 +2,8 @@
 
 ghost use Rattle.std.specs.Prelude.{◌≡◌, ◌<◌, ◌^◌, ℕ, ◌∷◌, [], IfOk, IfSome, IsSomeAnd, List, MatchOption, None};
 ghost use Rattle.p3_field.specs.declared.quartic.QuarticExtension.{QuarticExtension};
-ghost use Rattle.p3_batch_stark.specs.BatchScript.{from_ood};
-ghost use Rattle.p3_batch_stark.specs.Grinding.{IsGround, NonePasses, behind_test};
+ghost use Rattle.batch_transcript.specs.BatchScript.{from_ood};
+ghost use Rattle.batch_transcript.specs.Grinding.{IsGround, NonePasses, behind_test};
 ghost use Rattle.p3_commit.specs.Commitments.{nested};
 ghost use Rattle.p3_commit.specs.Failure.{IfRefused};
 ghost use Rattle.p3_commit.specs.Space.{IsPoint};
@@ -11,7 +11,7 @@ ghost use Rattle.batch_tool.specs.Opening.{requests_at as requested_at, three_li
 
 use crate::opening::{AtZeta, ProofValues, one, two};
 use crate::scheme::Scheme;
-use p3_batch_stark::{BatchChallenger, BatchProverTranscript};
+use batch_transcript::{BatchChallenger, BatchProverTranscript};
 use p3_challenger::{CanObserve, CanSample, GrindingChallenger, Sha256Challenger};
 use p3_commit::{OpenedValues, OpeningRequest, Pcs, PcsFailure, PolynomialSpace};
 use p3_field::{

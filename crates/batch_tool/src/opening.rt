@@ -2,11 +2,11 @@
 //! zeta's draw, whatever a scheme makes of it.
 
 ghost use Rattle.std.specs.Prelude.{◌≡◌, ◌<◌, ◌^◌, ◌∷◌, [], IfErr, IfOk, MatchOption, MatchResult, None, Ok};
-ghost use Rattle.p3_batch_stark.specs.BatchScript.{from_ood};
-ghost use Rattle.p3_batch_stark.specs.Grinding.{IsTaken, OodLeft, OodRefusal, behind_test};
+ghost use Rattle.batch_transcript.specs.BatchScript.{from_ood};
+ghost use Rattle.batch_transcript.specs.Grinding.{IsTaken, OodLeft, OodRefusal, behind_test};
 ghost use Rattle.batch_tool.specs.Opening.{claim_on as claims_on, claims_at as claimed_at};
 
-use p3_batch_stark::{BatchChallenger, BatchTranscriptFailure, BatchVerifierTranscript};
+use batch_transcript::{BatchChallenger, BatchTranscriptFailure, BatchVerifierTranscript};
 use p3_challenger::{CanObserve, CanSample, GrindingChallenger};
 use p3_commit::{CommitmentOpening, MatrixOpening, Pcs, PcsFailure, PointOpening, PolynomialSpace};
 use p3_field::{

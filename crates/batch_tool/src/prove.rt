@@ -4,9 +4,9 @@ ghost use Rattle.std.specs.Prelude.{◌≡◌, ◌≤◌, ◌<◌, ◌∷◌, []
 ghost use Rattle.p3_field.specs.Ring.{of_nat};
 ghost use Rattle.p3_field.specs.BabyBear.{bear_ring};
 ghost use Rattle.p3_matrix.specs.Matrix.{Rows};
-ghost use Rattle.p3_batch_stark.specs.BatchScript.{from_quotient};
-ghost use Rattle.p3_batch_stark.specs.Grinding.{NonePasses, behind_test, number_passes, value_passes};
-ghost use Rattle.p3_batch_stark.specs.Single.{single_shape};
+ghost use Rattle.batch_transcript.specs.BatchScript.{from_quotient};
+ghost use Rattle.batch_transcript.specs.Grinding.{NonePasses, behind_test, number_passes, value_passes};
+ghost use Rattle.batch_transcript.specs.Single.{single_shape};
 ghost use Rattle.batch_tool.specs.Committed.{IsCommittedTo, committed_matrix, trace_polynomials, chunk_polynomials};
 ghost use Rattle.batch_tool.specs.Honest.{alpha as alpha_of, behind_alpha, honest_proof, zeta as drawn_zeta, IsInTraceDomain};
 ghost use Rattle.batch_tool.specs.Prove.{AreValuesAtZeta, IsDrawnAnswer, IsJobAnswer, IsOpenedText, instance_of, zeta_of};

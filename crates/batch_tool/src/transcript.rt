@@ -4,14 +4,14 @@ ghost use Rattle.std.specs.Prelude.{◌≡◌, ◌∷◌, [], IfOk, length};
 ghost use Rattle.p3_challenger.specs.Script.{begun, play};
 ghost use Rattle.p3_field.specs.Quartic.{quartic_ring};
 ghost use Rattle.p3_field.specs.declared.quartic.QuarticExtension.{QuarticExtension};
-ghost use Rattle.p3_batch_stark.specs.BatchScript.{from_quotient, pattern};
-ghost use Rattle.p3_batch_stark.specs.Running.{Plays};
-ghost use Rattle.p3_batch_stark.specs.Single.{single_shape as shape_of};
+ghost use Rattle.batch_transcript.specs.BatchScript.{from_quotient, pattern};
+ghost use Rattle.batch_transcript.specs.Running.{Plays};
+ghost use Rattle.batch_transcript.specs.Single.{single_shape as shape_of};
 ghost use Rattle.batch_tool.specs.Honest.{seeded_state, script_to_alpha};
 ghost use Rattle.batch_tool.specs.Tool.{tool};
 
 use crate::opening::one;
-use p3_batch_stark::{BatchProverTranscript, BatchShape, BatchVerifierTranscript};
+use batch_transcript::{BatchProverTranscript, BatchShape, BatchVerifierTranscript};
 use p3_challenger::Sha256Challenger;
 use p3_field::{BabyBear, Mem, QuarticExtension};
 use p3_lookup::LogUpGadget;

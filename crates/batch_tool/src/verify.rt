@@ -2,8 +2,8 @@
 
 ghost use Rattle.std.specs.Prelude.{◌≡◌, ◌≤◌, ◌+◌, ◌^◌, [], Err, IfOk, IsErr, IsOkAnd, MatchResult, None, Ok, Some, codes, true, length};
 ghost use Rattle.p3_field.specs.Checks.{FirstRefusal};
-ghost use Rattle.p3_batch_stark.specs.BatchScript.{from_ood};
-ghost use Rattle.p3_batch_stark.specs.Single.{single_shape};
+ghost use Rattle.batch_transcript.specs.BatchScript.{from_ood};
+ghost use Rattle.batch_transcript.specs.Single.{single_shape};
 ghost use Rattle.batch_tool.specs.FileAnswer.{stated, IsFileAnswer};
 ghost use Rattle.batch_tool.specs.FirstForm.{IsFirstForm, IsSwapShape};
 ghost use Rattle.batch_tool.specs.Honest.{before_grinding, witness_passes};

@@ -1,22 +1,26 @@
-//! The batch STARK: so far its transcript alone, after Plonky3's `p3-batch-stark`.
+//! The batch STARK, after Plonky3's `p3-batch-stark`: its names in one place. Each stands in a crate of its part, with the
+//! contracts that it has here.
 //!
-//! A shape fixes a batch's steps and its separator. Prover and verifier play these steps phase by phase, each with a transcript that owns the
-//! challenger. A phase's condition is its turn, so phases out of order are refused before a program runs.
-//!
-//! The definitions that the contracts cite are in `specs/`: the script of a batch and what is drawn along it (`BatchScript`), what a phase does
-//! (`Running`), grinding values (`Grinding`), the layout of the lookups' challenges (`Buses`), and when shapes are told apart (`Shapes`).
+//! | Part | Crate |
+//! |---|---|
+//! | the transcript of a batch | `batch_transcript` |
+//! | the constraints of a table with lookups: degrees, chunk counts, openings, the check of rows | `batch_constraints` |
+//! | the verifier's constraint folder | `batch_verifier_folder` |
+//! | the prover's constraint folder | `batch_prover_folder` |
 #![tactic(auto)]
 
-mod buses;
-mod challenger;
-mod failure;
-pub mod meanings;
-mod prover_transcript;
-mod shape;
-mod verifier_transcript;
-
-pub use challenger::BatchChallenger;
-pub use failure::{BatchTranscriptFailure, GrindStep, TranscriptError};
-pub use prover_transcript::BatchProverTranscript;
-pub use shape::BatchShape;
-pub use verifier_transcript::BatchVerifierTranscript;
+pub use batch_constraints::{
+    CheckFailure, check_constraints, get_constraint_layout, get_log_num_quotient_chunks,
+    get_log_num_quotient_chunks_for_domain, get_max_constraint_degree, get_symbolic_constraints,
+    num_batched_openings,
+};
+pub use batch_prover_folder::{
+    ProverConstraintFolderWithLookups, ProverFolderWithLookups, prover_fold_with_lookups,
+};
+pub use batch_transcript::{
+    BatchChallenger, BatchProverTranscript, BatchShape, BatchTranscriptFailure,
+    BatchVerifierTranscript, GrindStep, TranscriptError,
+};
+pub use batch_verifier_folder::{
+    VerifierConstraintFolderWithLookups, VerifierFolderWithLookups, verifier_fold_with_lookups,
+};

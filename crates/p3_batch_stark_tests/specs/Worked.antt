@@ -1,6 +1,6 @@
 -- The worked batch: two instances.
 use Rattle.std.specs.Prelude.{ℕ, [], ◌∷◌, Bool}
-use Rattle.p3_batch_stark.specs.BatchScript.{Shape}
+use Rattle.batch_transcript.specs.BatchScript.{Shape}
 
 -- so many instances have lookups, whether there are commitments to preprocessed columns and of a randomization, and the bits of both grindings
 abbrev pub worked_shape : (instances : ℕ) → (committed : Bool) → (lookup_bits ood_bits : ℕ) → Shape

@@ -2,8 +2,8 @@
 
 ghost use Rattle.std.specs.Prelude.{◌≡◌, List, ℕ, [], map, length, IfOk, is_some, ◌<◌, ◌^◌};
 ghost use Rattle.std.specs.Option.{option_copied};
-ghost use Rattle.p3_batch_stark.specs.BatchScript.{Given, draws, is_positive};
-ghost use Rattle.p3_batch_stark.specs.Running.{lists};
+ghost use Rattle.batch_transcript.specs.BatchScript.{Given, draws, is_positive};
+ghost use Rattle.batch_transcript.specs.Running.{lists};
 
 use p3_batch_stark::{
     BatchChallenger, BatchProverTranscript, BatchShape, BatchVerifierTranscript, TranscriptError,

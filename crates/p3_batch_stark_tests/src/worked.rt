@@ -1,6 +1,6 @@
 //! The worked batch: two instances, of which the first one may have lookups.
 ghost use Rattle.std.specs.Prelude.{◌≡◌, IfOk, [], ◌∷◌, map, length, ◌<◌, ◌^◌};
-ghost use Rattle.p3_batch_stark.specs.Running.{lists};
+ghost use Rattle.batch_transcript.specs.Running.{lists};
 ghost use Rattle.p3_batch_stark_tests.specs.Worked.{worked_shape};
 
 use crate::root::Root;

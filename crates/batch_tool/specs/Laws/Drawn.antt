@@ -16,9 +16,9 @@ use Rattle.p3_challenger.specs.Sha256Functions.{sha256_functions, sha256_element
 use Rattle.p3_challenger.specs.declared.script.Hierarchy.TheVariants.{Begin, End}
 use Rattle.p3_challenger.specs.declared.script.InteractionKind.{InteractionKind}
 use Rattle.p3_challenger.specs.declared.script.InteractionKind.TheVariants.{Message, Public, Challenge, Pow, Protocol}
-use Rattle.p3_batch_stark.specs.Single.{single_shape, single_given}
-use Rattle.p3_batch_stark.specs.Laws.Landed.{single-script}
-use Rattle.p3_batch_stark.specs.BatchScript.{degree_bits_step, main_commitment_step, public_values_step, constraint_challenge_step, quotient_commitment_step, ood_pow_step, zeta_step, opening_step, with_value, draws, script, bindings_script, main_script, preprocessed_script, pair_script, permutation_script, quotient_script, ood_script, opening_script}
+use Rattle.batch_transcript.specs.Single.{single_shape, single_given}
+use Rattle.batch_transcript.specs.Laws.Landed.{single-script}
+use Rattle.batch_transcript.specs.BatchScript.{degree_bits_step, main_commitment_step, public_values_step, constraint_challenge_step, quotient_commitment_step, ood_pow_step, zeta_step, opening_step, with_value, draws, script, bindings_script, main_script, preprocessed_script, pair_script, permutation_script, quotient_script, ood_script, opening_script}
 use Rattle.plain_pcs.specs.Observing.{commitment_elements}
 use Rattle.batch_tool.specs.Drawn.{DrawsAsBatch, PlaysByElements}
 use Rattle.batch_tool.specs.Honest.{Configuration, Instance, behind_alpha, before_grinding, committed_to, given, script_to_alpha, seeded_state, shape, whole_transcript}

@@ -6,7 +6,7 @@ use Rattle.p3_field.specs.Quartic.{quartic_ring, of_bear_value}
 use Rattle.p3_field.specs.Laws.BearField.{bear_of_canonical}
 use Rattle.p3_field.specs.declared.baby_bear.BabyBear.{BabyBear}
 use Rattle.p3_field.specs.declared.quartic.QuarticExtension.{QuarticExtension}
-use Rattle.p3_batch_stark.specs.Grinding.{IsGround, NonePasses, behind_test, value_passes}
+use Rattle.batch_transcript.specs.Grinding.{IsGround, NonePasses, behind_test, value_passes}
 use Rattle.p3_commit.specs.Space.{IsPoint}
 use Rattle.plain_pcs.specs.Scheme.{scheme}
 use Rattle.batch_tool.specs.Swap.{swap_stated}

@@ -6,7 +6,7 @@ use Rattle.p3_field.specs.declared.quartic.QuarticExtension.{QuarticExtension}
 use Rattle.batch_tool.specs.Committed.{committed_matrix, trace_polynomials, chunk_polynomials}
 use Rattle.batch_tool.specs.Honest.{IsInTraceDomain}
 use Rattle.batch_tool.specs.Prove.{IsDrawnAnswer, IsJobAnswer, IsOpenedText, instance_of, zeta_of}
-use Rattle.p3_batch_stark.specs.Grinding.{NonePasses, behind_test, number_passes, value_passes}
+use Rattle.batch_transcript.specs.Grinding.{NonePasses, behind_test, number_passes, value_passes}
 use Rattle.batch_tool.specs.Swap.{last_right}
 use Rattle.batch_tool.specs.Tool.{tool}
 use Rattle.batch_tool.proofs.HonestForm.{honest-shape}

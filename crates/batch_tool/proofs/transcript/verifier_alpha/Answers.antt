@@ -1,8 +1,8 @@
 use Rattle.std.proofs.Common.{◌≡◌, ◌∷◌, [], List, None, ◌∙◌, ap, subst}
 use Rattle.p3_field.specs.Quartic.{quartic_ring}
 use Rattle.p3_field.specs.declared.baby_bear.BabyBear.{BabyBear}
-use Rattle.p3_batch_stark.specs.BatchScript.{main_script}
-use Rattle.p3_batch_stark.specs.Running.{Plays, lists}
+use Rattle.batch_transcript.specs.BatchScript.{main_script}
+use Rattle.batch_transcript.specs.Running.{Plays, lists}
 use Rattle.batch_tool.specs.Tool.{tool}
 use Rattle.batch_tool.proofs.Draws.{no-pair, plays-to-alpha}
 use Rattle.batch_tool.proofs.transcript.verifier_alpha.Goals as goal

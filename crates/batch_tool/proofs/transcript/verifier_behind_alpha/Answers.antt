@@ -1,8 +1,8 @@
 use Rattle.std.proofs.Common.{◌∷◌, [], length, replicate, ◌∙◌, ap}
 use Rattle.p3_field.specs.BabyBear.{bear_ring}
 use Rattle.p3_field.specs.Quartic.{quartic_ring}
-use Rattle.p3_batch_stark.specs.BatchScript.{seeded}
-use Rattle.p3_batch_stark.specs.Single.{single_shape}
+use Rattle.batch_transcript.specs.BatchScript.{seeded}
+use Rattle.batch_transcript.specs.Single.{single_shape}
 use Rattle.batch_tool.specs.Honest.{script_to_alpha, seeded_state}
 use Rattle.batch_tool.specs.Tool.{tool}
 use Rattle.batch_tool.proofs.Draws.{plays-from, same-challenger}

@@ -15,7 +15,7 @@ use Rattle.batch_tool.specs.Verify.{main_of, quotient_of, local_opened, next_ope
 use Rattle.batch_tool.proofs.Backend.{answer-as-met, claims-are}
 use Rattle.batch_tool.proofs.Checking.{along-five}
 use Rattle.batch_tool.proofs.Committing.{zeta-is}
-use Rattle.p3_batch_stark.specs.Grinding.{OodRefusal, behind_test, value_passes}
+use Rattle.batch_transcript.specs.Grinding.{OodRefusal, behind_test, value_passes}
 use Rattle.batch_tool.proofs.Proving.{at-err, at-ok, if-ok}
 use Rattle.batch_tool.proofs.Verifying.{first-refused, grinding-fails, fails-by, passes-by}
 use Rattle.batch_tool.proofs.verify.refusal_behind.Goals as goal

@@ -1,5 +1,5 @@
 use Rattle.std.proofs.Common.{◌≡◌, ap, sym, ◌∙◌, rules, of_calls}
-use Rattle.p3_batch_stark.specs.Laws.Runs.{run-tells}
+use Rattle.batch_transcript.specs.Laws.Runs.{run-tells}
 use Rattle.p3_batch_stark_tests.proofs.runs.prover_run.Goals as goal
 
 pub returns : goal.returns

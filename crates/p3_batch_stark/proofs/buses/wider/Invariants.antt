@@ -1,7 +1,0 @@
-use Rattle.std.proofs.Common.{◌≡◌, length, take}
-use Rattle.std.specs.Prelude.{max}
-use Rattle.std.specs.List.{fold}
-use Rattle.p3_batch_stark.proofs.buses.wider.Given as goal
-
-abbrev pub invariant-loop-tuple : goal.invariant-loop-tuple
-invariant-loop-tuple g l = l.widest ≡ fold (λ w t. max w (length t.items)) l.width (take l.tuple-index l.tuples)

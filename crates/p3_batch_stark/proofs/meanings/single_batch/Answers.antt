@@ -1,8 +1,0 @@
-use Rattle.p3_batch_stark.specs.Laws.Landed.{single-pattern, single-script}
-use Rattle.p3_batch_stark.proofs.meanings.single_batch.Goals as goal
-
-pub returns : goal.returns
-returns g c = record {
-  steps = single-pattern g.EF.BasedVectorSpace.DIMENSION;
-  values = single-script _ g.EF.RingCore.ring g.EF.BasedVectorSpace.parts g.EF.BasedVectorSpace.DIMENSION;
-}

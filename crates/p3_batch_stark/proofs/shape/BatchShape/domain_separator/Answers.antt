@@ -1,7 +1,0 @@
-use Rattle.std.proofs.Common.{◌∙◌}
-use Rattle.p3_batch_stark.specs.BatchScript.{separator}
-use Rattle.p3_batch_stark.proofs.shape.BatchShape.domain_separator.Goals as goal
-
-pub returns : goal.returns
-unfolding separator
-returns g c = c.in_ok-instance.ensures ∙ rw (c.in_ok-separator.ensures, c.in_ok-pattern.ensures, c.deref.ensures.value, c.in_ok-label.ensures)

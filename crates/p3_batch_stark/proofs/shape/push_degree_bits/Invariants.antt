@@ -1,6 +1,0 @@
-use Rattle.std.proofs.Common.{◌≡◌, ◌++◌, map, take}
-use Rattle.p3_batch_stark.specs.BatchScript.{degree_bits_step}
-use Rattle.p3_batch_stark.proofs.shape.push_degree_bits.Given as goal
-
-abbrev pub invariant-loop-width : goal.invariant-loop-width
-invariant-loop-width l = l.steps.items ≡ l.initial.steps.items ++ map (λ _. degree_bits_step l.dimension) (take l._width-index l.widths)

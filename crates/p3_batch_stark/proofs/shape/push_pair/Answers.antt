@@ -1,8 +1,0 @@
-use Rattle.std.proofs.Common.{append_assoc}
-use Rattle.p3_batch_stark.specs.Laws.Phases.{pair_cases}
-use Rattle.p3_batch_stark.proofs.shape.push_pair.Goals as goal
-
-pub returns : goal.returns
-returns c =
-    rw (pair_cases c.args.dimension c.args.instances c.args.bits c.if-instances-eq0.false, c.in_ok-push_challenge-2.ensures, c.in_ok-push_challenge.ensures, c.in_ok-push_pow.ensures)
-    (simp append_assoc)
