@@ -1,4 +1,4 @@
-//! The batch STARK: so far its transcript alone, after Plonky3's `p3-batch-stark`.
+//! The transcript of a batch, after Plonky3's `p3-batch-stark`.
 //!
 //! A shape fixes a batch's steps and its separator. Prover and verifier play these steps phase by phase, each with a transcript that owns the
 //! challenger. A phase's condition is its turn, so phases out of order are refused before a program runs.
