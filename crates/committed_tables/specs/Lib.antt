@@ -1,0 +1,4 @@
+pub mod Fields
+pub mod Committed
+pub mod Polynomials
+pub mod Laws

@@ -1,0 +1,10 @@
+//! A table as a proof commits to it, over data alone: polynomials, their values at a point and on the rows, the identity of
+//! its constraints with their quotient, and the challenges by which a false identity passes.
+//!
+//! The functions compute nothing: their contracts are laws of the definitions in `specs/`. These are the fields' laws
+//! (`Fields`), the table with its values (`Committed`) and its polynomials (`Polynomials`). After Plonky3's
+//! `p3-batch-stark`, of whose prover and verifier they are the mathematics.
+#![tactic(auto)]
+
+pub mod fields;
+pub mod polynomials;
