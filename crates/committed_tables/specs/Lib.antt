@@ -1,4 +1,5 @@
 pub mod Fields
 pub mod Committed
 pub mod Polynomials
+pub mod Rows
 pub mod Laws

@@ -8,3 +8,4 @@
 
 pub mod fields;
 pub mod polynomials;
+pub mod rows;
