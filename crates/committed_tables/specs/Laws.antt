@@ -3,3 +3,8 @@ pub mod Values
 pub mod Degrees
 pub mod Selectors
 pub mod Rows
+pub mod Identity
+pub mod IdentityDegree
+pub mod Decided
+pub mod Soundness
+pub mod Counts

@@ -7,5 +7,7 @@
 #![tactic(auto)]
 
 pub mod fields;
+pub mod identity;
 pub mod polynomials;
 pub mod rows;
+pub mod soundness;
