@@ -8,3 +8,5 @@ pub mod IdentityDegree
 pub mod Decided
 pub mod Soundness
 pub mod Counts
+pub mod Batch
+pub mod Opened

@@ -4,4 +4,6 @@ pub mod Polynomials
 pub mod Rows
 pub mod Identity
 pub mod Unlucky
+pub mod Batch
+pub mod Opened
 pub mod Laws

@@ -8,6 +8,7 @@
 
 pub mod fields;
 pub mod identity;
+pub mod opened;
 pub mod polynomials;
 pub mod rows;
 pub mod soundness;

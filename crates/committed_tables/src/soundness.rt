@@ -4,6 +4,7 @@ ghost use Rattle.std.specs.Prelude.{◌≡◌, ◌⊎◌, ℕ, ◌+◌, ◌-◌,
 ghost use Rattle.p3_field.specs.Field.{TwoAdic, Extension};
 ghost use Rattle.p3_air.specs.Degree.{full_polynomial_degree};
 ghost use Rattle.p3_air.specs.Tree.{Tree};
+ghost use Rattle.committed_tables.specs.Batch.{AllHold, AreIdentities, DividedTable, IsUnluckyAlphaOfBatch, IsUnluckyZetaOfBatch};
 ghost use Rattle.committed_tables.specs.Committed.{CommittedTable, Holds, IsBounded, periods_of, rows_of};
 ghost use Rattle.committed_tables.specs.Fields.{FieldsLaws};
 ghost use Rattle.committed_tables.specs.Identity.{CommittedIdentity, CommittedQuotient, IsBoundedQuotient, chunks_of};
@@ -15,6 +16,14 @@ pub fn an_identity_makes_a_table_hold<F, E>()
     ensures { (f : TwoAdic F) (e : Extension F E) (top : ℕ) (inverse : E → E) (t : CommittedTable F E) (trees : List (Tree F)) (q : CommittedQuotient F) (alpha zeta : E) → FieldsLaws f e top inverse
         → t.log_height ≤ top → CommittedIdentity f e t trees q alpha zeta
         → Holds f e t trees ⊎ (IsUnluckyAlpha f e t trees alpha ⊎ IsUnluckyZeta f e t trees q alpha zeta) }
+{}
+
+/// The same of a batch with one alpha and one zeta: where each table's identity holds at zeta, each table holds, or one of the
+/// two is unlucky for some table.
+pub fn identities_make_a_batch_hold<F, E>()
+    ensures { (f : TwoAdic F) (e : Extension F E) (top : ℕ) (inverse : E → E) (batch : List (DividedTable F E)) (alpha zeta : E) → FieldsLaws f e top inverse
+        → All (λ b. b.table.log_height ≤ top) batch → AreIdentities f e batch alpha zeta
+        → AllHold f e batch ⊎ (IsUnluckyAlphaOfBatch f e batch alpha ⊎ IsUnluckyZetaOfBatch f e batch alpha zeta) }
 {}
 
 /// Fewer alphas are unlucky at a row than the table has trees (`row`), and none without trees (`none`); on all n rows at most
