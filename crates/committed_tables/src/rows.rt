@@ -1,11 +1,12 @@
 //! Committed tables on their rows: laws as the contracts of functions that compute nothing.
-ghost use Rattle.std.specs.Prelude.{◌≡◌, ◌↔◌, ℕ, ◌+◌, ◌%◌, ◌<◌, ◌≤◌};
+ghost use Rattle.std.specs.Prelude.{◌≡◌, ◌↔◌, ℕ, ◌+◌, ◌%◌, ◌^◌, ◌<◌, ◌≤◌, List};
 ghost use Rattle.p3_field.specs.Field.{TwoAdic, Extension};
 ghost use Rattle.p3_matrix.specs.Matrix.{Rows};
 ghost use Rattle.p3_air.specs.Check.{Table};
 ghost use Rattle.committed_tables.specs.Committed.{CommittedTable, IsBounded, next_point, row_point, rows_of, values_at};
 ghost use Rattle.committed_tables.specs.Fields.{FieldsLaws};
 ghost use Rattle.committed_tables.specs.Rows.{AreOfRow, CommitsTo, trace_row};
+ghost use Rattle.committed_tables.specs.Traces.{HaveRows, committed_traces};
 
 /// The point of the next row is that of row (i + 1) modulo the height (`next`). On the rows the first row's selector is zero
 /// in all but the first, the last row's in all but the last, and the transition's in the last alone (`first`, `last`,
@@ -30,4 +31,12 @@ pub fn a_committed_table_has_its_traces_rows<F, E>()
         → AreOfRow e (trace_row f.ring.zero traces columns t.challenges t.terminals i) (values_at f e t (row_point f e t i)) }
     ensures bounded { (f : TwoAdic F) (e : Extension F E) (top : ℕ) (inverse : E → E) (t : CommittedTable F E) (traces : Table F) (columns : Rows E) → FieldsLaws f e top inverse
         → CommitsTo f e t traces columns → IsBounded f t }
+{}
+
+/// Traces and permutation columns of 2^k rows, which each periodic column fits, are committed to by the interpolants of their
+/// columns: so there is a table that commits to them.
+pub fn traces_are_committed<F, E>()
+    ensures { (f : TwoAdic F) (e : Extension F E) (top : ℕ) (inverse : E → E) (k : ℕ) (traces : Table F) (columns : Rows E) (challenges terminals : List E) → FieldsLaws f e top inverse
+        → k ≤ top → HaveRows (2 ^ k) traces columns
+        → CommitsTo f e (committed_traces f e traces columns challenges terminals k) traces columns }
 {}
