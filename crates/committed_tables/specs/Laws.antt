@@ -11,3 +11,6 @@ pub mod Soundness
 pub mod Counts
 pub mod Batch
 pub mod Opened
+pub mod Quotient
+pub mod Disjoint
+pub mod BearFields

@@ -5,6 +5,7 @@ pub mod Rows
 pub mod Traces
 pub mod Identity
 pub mod Unlucky
+pub mod Quotient
 pub mod Batch
 pub mod Opened
 pub mod Laws

@@ -1,7 +1,6 @@
 //! The fields over which the laws hold: laws as the contracts of functions that compute nothing.
-ghost use Rattle.p3_field.specs.BabyBear.{reduce, bear_ring, bear_inv, bear_root};
-ghost use Rattle.p3_field.specs.Quartic.{quartic_ring, of_bear_value, quartic_basis, quartic_parts, quartic_whole, quartic_inv};
-ghost use Rattle.committed_tables.specs.Fields.{FieldsLaws};
+ghost use Rattle.p3_field.specs.Quartic.{quartic_inv};
+ghost use Rattle.committed_tables.specs.Fields.{FieldsLaws, bear_field, quartic_extension};
 
 use p3_field::{BasedVectorSpace, ExtensionField, FieldCore, RingCore, TwoAdicCore, TwoAdicField};
 
@@ -12,5 +11,5 @@ pub fn fields_have_laws<F: TwoAdicField, EF: ExtensionField<F>>()
 
 /// `BabyBear` and `QuarticExtension` meet them: so there are such fields.
 pub fn baby_bear_has_laws()
-    ensures { FieldsLaws (record { ring = bear_ring; inv = bear_inv; root = bear_root; generator = reduce 31 }) (record { ring = quartic_ring; embed = of_bear_value; dimension = 4; basis = quartic_basis; parts = quartic_parts; whole = quartic_whole }) 27 quartic_inv }
+    ensures { FieldsLaws bear_field quartic_extension 27 quartic_inv }
 {}

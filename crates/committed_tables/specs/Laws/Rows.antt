@@ -50,6 +50,18 @@ piece_item g n long xs j k z d h l =
     length-pieces g n long (take j xs) ∙ ap (λ m. m * n) (length-take-le j xs (omega (arith, h))) in
     ap (λ m. get_or (flat_map g xs) (m + k) d) (sym before) ∙ get_or-flat_map g xs j k z d h (omega (arith, long (get_or xs j z), l))
 
+module _ {F E : Type 0} (f : TwoAdic F) (e : Extension F E) (top : ℕ) (inverse : E → E) (L : FieldsLaws f e top inverse) where
+  -- polynomials whose values at x are the coefficients of a value make it
+  pub combined_parts : (cell : E) (g : ℕ → List F) (x : E) → ((k : ℕ) → k < e.dimension → val_in e (g k) x ≡ e.embed (get_or (e.parts cell) k f.ring.zero))
+      → combine e.ring e.basis 0 (map (λ p. val_in e p x) (table e.dimension g)) ≡ cell
+  combined_parts cell g x same =
+      let part : ℕ → F = λ k. get_or (e.parts cell) k f.ring.zero in
+      let whole : map (λ p. val_in e p x) (table e.dimension g) ≡ map e.embed (e.parts cell) =
+      map_table (λ p. val_in e p x) e.dimension g
+      ∙ (table_same e.dimension (λ k. val_in e (g k) x) (λ k. e.embed (part k)) same
+      ∙ (sym (map_table e.embed e.dimension part) ∙ ap (map e.embed) (sym (table_of_items f.ring.zero (e.parts cell) e.dimension (L.vector.parts_length cell))))) in
+      ap (combine e.ring e.basis 0) whole ∙ L.spans cell
+
 module _ {F E : Type 0} (f : TwoAdic F) (e : Extension F E) (top : ℕ) (inverse : E → E) (L : FieldsLaws f e top inverse) (t : CommittedTable F E) (fits : t.log_height ≤ top) where
   -- the value of a column's interpolant at row i
   cell_on_row : (values g : List F) (i : ℕ) → IsInterpolant f.ring (point f.ring f.root (trace_domain f e t)) values g → i < length values
@@ -106,7 +118,7 @@ module _ {F E : Type 0} (f : TwoAdic F) (e : Extension F E) (top : ℕ) (inverse
       let cell = get_or (row_at m i) j e.ring.zero in
       let within : j * D + D ≤ W * D = let q : suc j * D ≤ W * D = mul-le-mul_right D inside in omega (arith, q) in
       get_or-table (permutation_width f e t) item j e.ring.zero (omega (arith, inside, width))
-      ∙ combined_parts cell (λ k. get_or t.permutation (j * D + k) []) x (λ k l.
+      ∙ combined_parts f e top inverse L cell (λ k. get_or t.permutation (j * D + k) []) x (λ k l.
       sym (get_or-map-within (λ (g : List F). val_in e g x) t.permutation (j * D + k) [] (e.embed z) (omega (arith, within, l, I.count)))
       ∙ (ap (λ ys. get_or ys (j * D + k) (e.embed z)) flat
       ∙ (get_or-map e.embed (flat_map e.parts (row_at m i)) (j * D + k) z
@@ -114,17 +126,6 @@ module _ {F E : Type 0} (f : TwoAdic F) (e : Extension F E) (top : ℕ) (inverse
     where
       product_pos : (a b : ℕ) → 0 < a → 0 < b → 0 < a * b
       product_pos a b p q = let r : 1 * b ≤ a * b = mul-le-mul_right b p in omega (arith, r, q)
-
-      -- polynomials whose values at x are the coefficients of a value make it
-      combined_parts : (cell : E) (g : ℕ → List F) (x : E) → ((k : ℕ) → k < e.dimension → val_in e (g k) x ≡ e.embed (get_or (e.parts cell) k f.ring.zero))
-          → combine e.ring e.basis 0 (map (λ p. val_in e p x) (table e.dimension g)) ≡ cell
-      combined_parts cell g x same =
-          let part : ℕ → F = λ k. get_or (e.parts cell) k f.ring.zero in
-          let whole : map (λ p. val_in e p x) (table e.dimension g) ≡ map e.embed (e.parts cell) =
-          map_table (λ p. val_in e p x) e.dimension g
-          ∙ (table_same e.dimension (λ k. val_in e (g k) x) (λ k. e.embed (part k)) same
-          ∙ (sym (map_table e.embed e.dimension part) ∙ ap (map e.embed) (sym (table_of_items f.ring.zero (e.parts cell) e.dimension (L.vector.parts_length cell))))) in
-          ap (combine e.ring e.basis 0) whole ∙ L.spans cell
 
   -- and a periodic column its value at i modulo its length
   periodic_on_row : (values : List F) → IsPeriod (rows_of t) (length values) → (i : ℕ) → i < rows_of t
