@@ -4,6 +4,7 @@ use Rattle.p3_field.specs.Field.{TwoAdic, Extension}
 use Rattle.p3_field.specs.Poly.{table}
 use Rattle.p3_field.specs.Newton.{newton}
 use Rattle.p3_field.specs.Domain.{CosetData, point}
+use Rattle.p3_field.specs.Laws.SubgroupSelectors.{subgroup}
 use Rattle.p3_matrix.specs.Matrix.{Rows, FillsRows, column, height}
 use Rattle.p3_air.specs.Check.{Table}
 use Rattle.p3_commit.specs.Periodic.{IsPeriod}
@@ -23,16 +24,12 @@ abbrev pub some_interpolants : {F : Type 0} → TwoAdic F → CosetData F → Op
 some_interpolants f d None = []
 some_interpolants f d (Some m) = interpolants f d m
 
--- the subgroup of 2^k points
-abbrev pub subgroup_of : {F : Type 0} → TwoAdic F → ℕ → CosetData F
-subgroup_of f k = record { shift = f.ring.one; log_size = k }
-
 -- traces of 2^k rows as a committed table, with these permutation columns, challenges and terminals
 abbrev pub committed_traces : {F E : Type 0} → TwoAdic F → Extension F E → Table F → Rows E → List E → List E → ℕ → CommittedTable F E
 committed_traces f e traces columns challenges terminals k = record {
-  main = interpolants f (subgroup_of f k) traces.main;
-  preprocessed = some_interpolants f (subgroup_of f k) traces.preprocessed;
-  permutation = interpolants f (subgroup_of f k) (flattened_matrix e columns);
+  main = interpolants f (subgroup f.ring k) traces.main;
+  preprocessed = some_interpolants f (subgroup f.ring k) traces.preprocessed;
+  permutation = interpolants f (subgroup f.ring k) (flattened_matrix e columns);
   public_values = traces.public_values;
   challenges = challenges;
   terminals = terminals;

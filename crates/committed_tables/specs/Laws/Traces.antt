@@ -6,6 +6,7 @@ use Rattle.p3_field.specs.Field.{TwoAdic, Extension}
 use Rattle.p3_field.specs.Poly.{Apart, table}
 use Rattle.p3_field.specs.Domain.{IsInterpolant, point}
 use Rattle.p3_field.specs.Laws.Interpolants.{interpolant_exists, points_apart}
+use Rattle.p3_field.specs.Laws.SubgroupSelectors.{subgroup}
 use Rattle.p3_field.specs.Laws.Tables.{length-table, get_or-table}
 use Rattle.p3_matrix.specs.Matrix.{Rows, column}
 use Rattle.p3_matrix.specs.Laws.Cells.{length-column}
@@ -13,12 +14,12 @@ use Rattle.p3_matrix.specs.Laws.Flattened.{height-pieces, pieces-fill}
 use Rattle.p3_air.specs.Check.{Table}
 use Rattle.committed_tables.specs.Fields.{FieldsLaws}
 use Rattle.committed_tables.specs.Rows.{CommitsTo, InterpolateColumns, InterpolateSome, flattened_matrix}
-use Rattle.committed_tables.specs.Traces.{HaveRows, IsSomeTall, IsTall, committed_traces, interpolant, interpolants, some_interpolants, subgroup_of}
+use Rattle.committed_tables.specs.Traces.{HaveRows, IsSomeTall, IsTall, committed_traces, interpolant, interpolants, some_interpolants}
 
 module _ {F E : Type 0} (f : TwoAdic F) (e : Extension F E) (top : ℕ) (inverse : E → E) (L : FieldsLaws f e top inverse) (k : ℕ) (fits : k ≤ top) where
-  columns_interpolated : (m : Rows F) → IsTall (2 ^ k) m → InterpolateColumns f (subgroup_of f k) m (interpolants f (subgroup_of f k) m)
+  columns_interpolated : (m : Rows F) → IsTall (2 ^ k) m → InterpolateColumns f (subgroup f.ring k) m (interpolants f (subgroup f.ring k) m)
   columns_interpolated m T =
-      let d = subgroup_of f k in
+      let d = subgroup f.ring k in
       let p = point f.ring f.root d in
       let values = column f.ring.zero m in
       let apart : Apart (2 ^ k) p = points_apart f.ring L.below f.inv L.below_field top f.root L.roots d fits L.below_field.one_differs in
@@ -35,7 +36,7 @@ module _ {F E : Type 0} (f : TwoAdic F) (e : Extension F E) (top : ℕ) (inverse
             (interpolant_exists f.ring L.below f.inv L.below_field p (values j) (subst (λ n. Apart n p) (sym long) apart));
       }
 
-  some_interpolated : (m : Option (Rows F)) → IsSomeTall (2 ^ k) m → InterpolateSome f (subgroup_of f k) m (some_interpolants f (subgroup_of f k) m)
+  some_interpolated : (m : Option (Rows F)) → IsSomeTall (2 ^ k) m → InterpolateSome f (subgroup f.ring k) m (some_interpolants f (subgroup f.ring k) m)
   some_interpolated None T = refl
   some_interpolated (Some m) T = columns_interpolated m T
 
