@@ -21,8 +21,8 @@ module _ {F E : Type 0} (f : TwoAdic F) (e : Extension F E) (t : CommittedTable 
   folded_poly trees alpha = fold_poly e.ring alpha (map (tree_poly f e t) trees)
 
   -- its quotient by the polynomial that vanishes on the rows
-  abbrev pub divided_poly : List (Tree F) → E → List E
-  divided_poly trees alpha = quotient_by_vanishing e.ring (rows_of t) (pow e.ring (e.embed f.ring.one) (rows_of t)) (folded_poly trees alpha)
+  abbrev pub fold_quotient : List (Tree F) → E → List E
+  fold_quotient trees alpha = quotient_by_vanishing e.ring (rows_of t) (pow e.ring (e.embed f.ring.one) (rows_of t)) (folded_poly trees alpha)
 
   module _ (shift : F) (log_chunks : ℕ) where
     -- the quotient domain: the coset of this shift with 2^log_chunks times as many points as there are rows
@@ -41,12 +41,12 @@ module _ {F E : Type 0} (f : TwoAdic F) (e : Extension F E) (t : CommittedTable 
 
     module _ (trees : List (Tree F)) (alpha : E) where
       -- the quotient's value at a point u below: the fold by alpha of the trees' values there, over the vanishing polynomial's value
-      unfoldable pub divided_value : F → E
-      divided_value u = e.ring.mul (fold e.ring alpha (map (ev (reading f e t (e.embed u))) trees)) (e.embed (f.inv (val f.ring (van f.ring f.inv (trace_domain f e t)) u)))
+      unfoldable pub quotient_value : F → E
+      quotient_value u = e.ring.mul (fold e.ring alpha (map (ev (reading f e t (e.embed u))) trees)) (e.embed (f.inv (val f.ring (van f.ring f.inv (trace_domain f e t)) u)))
 
       -- coefficient k of row j of chunk i, which is row i + C j of the quotient
       abbrev pub chunk_cell : ℕ → ℕ → ℕ → F
-      chunk_cell i k j = get_or (e.parts (divided_value (point f.ring f.root quotient_domain (i + 2 ^ log_chunks * j)))) k f.ring.zero
+      chunk_cell i k j = get_or (e.parts (quotient_value (point f.ring f.root quotient_domain (i + 2 ^ log_chunks * j)))) k f.ring.zero
 
       -- chunk i's polynomials: for each coefficient the interpolant on the chunk's domain
       unfoldable pub honest_chunk : ℕ → List (List F)

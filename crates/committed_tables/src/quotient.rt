@@ -9,7 +9,7 @@ ghost use Rattle.p3_air.specs.Tree.{Tree};
 ghost use Rattle.committed_tables.specs.Committed.{CommittedTable, Holds, IsBounded, periods_of, rows_of};
 ghost use Rattle.committed_tables.specs.Fields.{FieldsLaws, bear_field, quartic_extension};
 ghost use Rattle.committed_tables.specs.Identity.{CommittedIdentity, IsBoundedQuotient, quotient_poly, rows_van};
-ghost use Rattle.committed_tables.specs.Quotient.{IsQuotientDomain, chunk_cell, chunk_domain, divided_poly, divided_value, folded_poly, honest_chunk, honest_quotient, quotient_domain};
+ghost use Rattle.committed_tables.specs.Quotient.{IsQuotientDomain, chunk_cell, chunk_domain, fold_quotient, quotient_value, folded_poly, honest_chunk, honest_quotient, quotient_domain};
 
 use p3_field::{BabyBear, QuarticExtension};
 
@@ -28,14 +28,14 @@ pub fn baby_bear_has_quotient_domains()
 
 /// Where a table holds, the fold by alpha of its trees' polynomials is the vanishing polynomial times another (`divides`),
 /// which has the honest quotient's values on the quotient domain (`values`).
-pub fn a_table_that_holds_is_divided<F, E>()
+pub fn a_table_that_holds_has_a_quotient<F, E>()
     ensures divides { (f : TwoAdic F) (e : Extension F E) (top : ℕ) (inverse : E → E) (t : CommittedTable F E) (trees : List (Tree F)) (alpha x : E) → FieldsLaws f e top inverse
         → t.log_height ≤ top → Holds f e t trees
-        → val e.ring (folded_poly f e t trees alpha) x ≡ e.ring.mul (val e.ring (rows_van f e t) x) (val e.ring (divided_poly f e t trees alpha) x) }
+        → val e.ring (folded_poly f e t trees alpha) x ≡ e.ring.mul (val e.ring (rows_van f e t) x) (val e.ring (fold_quotient f e t trees alpha) x) }
     ensures values { (f : TwoAdic F) (e : Extension F E) (top : ℕ) (inverse : E → E) (t : CommittedTable F E) (trees : List (Tree F)) (alpha : E) (shift : F) (log_chunks m : ℕ) → FieldsLaws f e top inverse
         → IsQuotientDomain f e t shift log_chunks top → Holds f e t trees → m < 2 ^ (t.log_height + log_chunks)
-        → divided_value f e t shift log_chunks trees alpha (point f.ring f.root (quotient_domain f e t shift log_chunks) m)
-        ≡ val e.ring (divided_poly f e t trees alpha) (e.embed (point f.ring f.root (quotient_domain f e t shift log_chunks) m)) }
+        → quotient_value f e t shift log_chunks trees alpha (point f.ring f.root (quotient_domain f e t shift log_chunks) m)
+        ≡ val e.ring (fold_quotient f e t trees alpha) (e.embed (point f.ring f.root (quotient_domain f e t shift log_chunks) m)) }
 {}
 
 /// The honest chunks are over domains of the table's height, with polynomials of degrees below it (`bounded`): each is the
@@ -51,7 +51,7 @@ pub fn an_honest_quotient_is_that_of_the_fold<F, E>()
         → g ≡ get_or (honest_chunk f e t shift log_chunks trees alpha i) k [] }
     ensures recombined { (f : TwoAdic F) (e : Extension F E) (top : ℕ) (inverse : E → E) (t : CommittedTable F E) (trees : List (Tree F)) (alpha : E) (shift : F) (log_chunks : ℕ) (x : E) → FieldsLaws f e top inverse
         → IsQuotientDomain f e t shift log_chunks top → IsBounded f t → Holds f e t trees → All (λ tree. full_polynomial_degree (rows_of t) (periods_of t) tree < rows_of t * (2 ^ log_chunks + 1)) trees
-        → val e.ring (quotient_poly f e (honest_quotient f e t shift log_chunks trees alpha)) x ≡ val e.ring (divided_poly f e t trees alpha) x }
+        → val e.ring (quotient_poly f e (honest_quotient f e t shift log_chunks trees alpha)) x ≡ val e.ring (fold_quotient f e t trees alpha) x }
     ensures identity { (f : TwoAdic F) (e : Extension F E) (top : ℕ) (inverse : E → E) (t : CommittedTable F E) (trees : List (Tree F)) (alpha : E) (shift : F) (log_chunks : ℕ) (x : E) → FieldsLaws f e top inverse
         → IsQuotientDomain f e t shift log_chunks top → IsBounded f t → Holds f e t trees → All (λ tree. full_polynomial_degree (rows_of t) (periods_of t) tree < rows_of t * (2 ^ log_chunks + 1)) trees
         → CommittedIdentity f e t trees (honest_quotient f e t shift log_chunks trees alpha) alpha x }

@@ -44,9 +44,9 @@ module _ {F E : Type 0} (e : Extension F E) (M : RingLaws e.ring) where
         ((product_value n (λ j. t (suc i + j)) x ∙ product_same s M n (λ j. val s (t (suc i + j)) x) (λ j. u (suc i + j)) (λ j h. each (suc i + j))) k))
 
     -- the value of Quot is recombined from the chunks' values
-    pub quotient_value : (q : CommittedQuotient F) (x : E) → val e.ring (quotient_poly f e q) x ≡ recombined f e q.domains (chunk_values f e q x) x
+    pub quotient_poly_value : (q : CommittedQuotient F) (x : E) → val e.ring (quotient_poly f e q) x ≡ recombined f e q.domains (chunk_values f e q x) x
     unfolding quotient_poly recombined
-    quotient_value q x =
+    quotient_poly_value q x =
         let s = e.ring in
         let ds = q.domains in
         let at = λ (gs : List (List F)). map (λ (g : List F). val_in e g x) gs in
@@ -75,7 +75,7 @@ module _ {F E : Type 0} (e : Extension F E) (M : RingLaws e.ring) where
           let V = rows_van f e t in
           let Q = quotient_poly f e q in
           val_sub s M P (mul_poly s V Q) x
-          ∙ (λ i. sub s (trees_fold_value alpha x i) ((val_mul s M V Q x ∙ ap (s.mul (val s V x)) (quotient_value q x)) i))
+          ∙ (λ i. sub s (trees_fold_value alpha x i) ((val_mul s M V Q x ∙ ap (s.mul (val s V x)) (quotient_poly_value q x)) i))
 
       -- it is zero exactly where the identity holds
       pub identity_at : (q : CommittedQuotient F) (alpha x : E) → CommittedIdentity f e t trees q alpha x ↔ (val e.ring (identity_poly f e t trees q alpha) x ≡ e.ring.zero)

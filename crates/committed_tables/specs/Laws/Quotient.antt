@@ -37,11 +37,11 @@ use Rattle.committed_tables.specs.Committed.{CommittedTable, Holds, IsBounded, p
 use Rattle.committed_tables.specs.Fields.{FieldsLaws}
 use Rattle.committed_tables.specs.Identity.{CommittedIdentity, IsBoundedQuotient, chunk_values, quotient_poly, rows_van}
 use Rattle.committed_tables.specs.Polynomials.{tree_poly}
-use Rattle.committed_tables.specs.Quotient.{IsQuotientDomain, chunk_cell, chunk_domain, divided_poly, divided_value, folded_poly, honest_chunk, honest_quotient, quotient_domain}
+use Rattle.committed_tables.specs.Quotient.{IsQuotientDomain, chunk_cell, chunk_domain, fold_quotient, quotient_value, folded_poly, honest_chunk, honest_quotient, quotient_domain}
 use Rattle.committed_tables.specs.Traces.{interpolant}
 use Rattle.committed_tables.specs.Unlucky.{row_values}
 use Rattle.committed_tables.specs.Laws.Degrees.{all_images, all_table, committed_degree}
-use Rattle.committed_tables.specs.Laws.Identity.{quotient_value, trees_fold_value}
+use Rattle.committed_tables.specs.Laws.Identity.{quotient_poly_value, trees_fold_value}
 use Rattle.committed_tables.specs.Laws.IdentityDegree.{degree_quotient}
 use Rattle.committed_tables.specs.Laws.Rows.{combined_parts}
 
@@ -59,12 +59,12 @@ module _ {F E : Type 0} (f : TwoAdic F) (e : Extension F E) (top : ℕ) (inverse
   divisors = field_no_zero_divisors e.ring L.above inverse L.above_field
 
   -- where the table holds the fold is the vanishing polynomial times its quotient
-  pub fold_divided : Holds f e t trees → (x : E) → val e.ring (folded_poly f e t trees alpha) x ≡ e.ring.mul (val e.ring (rows_van f e t) x) (val e.ring (divided_poly f e t trees alpha) x)
+  pub fold_divided : Holds f e t trees → (x : E) → val e.ring (folded_poly f e t trees alpha) x ≡ e.ring.mul (val e.ring (rows_van f e t) x) (val e.ring (fold_quotient f e t trees alpha) x)
   fold_divided holds x =
       let s = e.ring in let M = L.above in let k = t.log_height in let n = rows_of t in
       let one = e.embed f.ring.one in let h = e.embed (f.root k) in
       let G = folded_poly f e t trees alpha in
-      let q = divided_poly f e t trees alpha in
+      let q = fold_quotient f e t trees alpha in
       let O : HasOrder s n h = hom_order f.ring L.below s M e.embed L.embeds f.inv L.below_field L.above_field.one_differs n (f.root k) (two_adic_order f.ring L.below top f.root L.roots k fits) in
       let shift : one ≡ s.zero → ⊥ = λ z. L.above_field.one_differs (sym L.embeds.keeps_one ∙ z) in
       let divides : SamePoly s G (times_vanishing s n (pow s one n) q) =
@@ -97,14 +97,14 @@ module _ {F E : Type 0} (f : TwoAdic F) (e : Extension F E) (top : ℕ) (inverse
 
   -- the quotient's value at a point of its domain is that of the fold's quotient
   pub value_there : Holds f e t trees → (m : ℕ) → m < size
-      → divided_value f e t shift log_chunks trees alpha (point f.ring f.root whole m) ≡ val e.ring (divided_poly f e t trees alpha) (e.embed (point f.ring f.root whole m))
-  unfolding divided_value
+      → quotient_value f e t shift log_chunks trees alpha (point f.ring f.root whole m) ≡ val e.ring (fold_quotient f e t trees alpha) (e.embed (point f.ring f.root whole m))
+  unfolding quotient_value
   value_there holds m h =
       let s = e.ring in let M = L.above in
       let u = point f.ring f.root whole m in let x = e.embed u in
       let v = val f.ring (van f.ring f.inv (trace_domain f e t)) u in
       let V = val s (rows_van f e t) x in
-      let q = val s (divided_poly f e t trees alpha) x in
+      let q = val s (fold_quotient f e t trees alpha) x in
       let w = e.embed (f.inv v) in
       let folded : fold s alpha (map (ev (reading f e t x)) trees) ≡ s.mul V q =
       sym (trees_fold_value e M f t trees alpha x) ∙ fold_divided f e top inverse L t trees alpha low holds x in
@@ -161,13 +161,13 @@ module _ {F E : Type 0} (f : TwoAdic F) (e : Extension F E) (top : ℕ) (inverse
   -- a chunk's values are the quotient's at its rows
   values_of_chunk : (i j : ℕ) → j < rows_of t
       → combine e.ring e.basis 0 (map (λ g. val_in e g (e.embed (point f.ring f.root whole (i + 2 ^ log_chunks * j)))) (honest_chunk f e t shift log_chunks trees alpha i))
-      ≡ divided_value f e t shift log_chunks trees alpha (point f.ring f.root whole (i + 2 ^ log_chunks * j))
+      ≡ quotient_value f e t shift log_chunks trees alpha (point f.ring f.root whole (i + 2 ^ log_chunks * j))
   unfolding honest_chunk
   values_of_chunk i j h =
       let d = chunk_domain f e t shift log_chunks i in
       let m = i + 2 ^ log_chunks * j in
       let p = point f.ring f.root d j in
-      let v = divided_value f e t shift log_chunks trees alpha (point f.ring f.root whole m) in
+      let v = quotient_value f e t shift log_chunks trees alpha (point f.ring f.root whole m) in
       let g : ℕ → List F = λ k. interpolant f d (cells i k) in
       let there : p ≡ point f.ring f.root whole m = points_of_part f.ring L.below top f.root L.roots whole d (2 ^ log_chunks) i j Q.fits (chunk_is_part i) in
       combined_parts f e top inverse L v g (e.embed (point f.ring f.root whole m)) (λ k l.
@@ -190,7 +190,7 @@ module _ {F E : Type 0} (f : TwoAdic F) (e : Extension F E) (top : ℕ) (inverse
   -- at each point of the quotient domain the quotient of the honest chunks has the value of the fold's
   recombined_there : Holds f e t trees → (m : ℕ) → m < size
       → val e.ring (quotient_poly f e (honest_quotient f e t shift log_chunks trees alpha)) (e.embed (point f.ring f.root whole m))
-      ≡ val e.ring (divided_poly f e t trees alpha) (e.embed (point f.ring f.root whole m))
+      ≡ val e.ring (fold_quotient f e t trees alpha) (e.embed (point f.ring f.root whole m))
   recombined_there holds m h =
       let s = e.ring in let C = 2 ^ log_chunks in let n = rows_of t in
       let q = honest_quotient f e t shift log_chunks trees alpha in
@@ -205,21 +205,21 @@ module _ {F E : Type 0} (f : TwoAdic F) (e : Extension F E) (top : ℕ) (inverse
       let here : x ≡ y = ap (λ k. e.embed (point f.ring f.root whole k)) (sym back) in
       let at = λ (z : E) (gs : List (List F)). map (λ (g : List F). val_in e g z) gs in
       ap (val s (quotient_poly f e q)) here
-      ∙ (quotient_value e L.above f q y
+      ∙ (quotient_poly_value e L.above f q y
       ∙ (recombined_on_part f L.below L.below_field top L.roots whole Q.shift_not_zero Q.fits C parts are_parts e L.above L.embeds L.below_decided (chunk_values f e q y) i j li
       ∙ (ap (combine s e.basis 0) (get_or-map (at y) q.chunks i [] ∙ ap (at y) (get_or-table C (honest_chunk f e t shift log_chunks trees alpha) i [] li))
       ∙ (values_of_chunk i j lj
-      ∙ (ap (λ k. divided_value f e t shift log_chunks trees alpha (point f.ring f.root whole k)) back
+      ∙ (ap (λ k. quotient_value f e t shift log_chunks trees alpha (point f.ring f.root whole k)) back
       ∙ value_there holds m h)))))
 
   module _ (B : IsBounded f t) (holds : Holds f e t trees) (fit : All (λ tree. full_polynomial_degree (rows_of t) (periods_of t) tree < rows_of t * (2 ^ log_chunks + 1)) trees) where
     -- The quotient of the honest chunks is the fold's at every point.
-    pub honest_recombined : (x : E) → val e.ring (quotient_poly f e (honest_quotient f e t shift log_chunks trees alpha)) x ≡ val e.ring (divided_poly f e t trees alpha) x
+    pub honest_recombined : (x : E) → val e.ring (quotient_poly f e (honest_quotient f e t shift log_chunks trees alpha)) x ≡ val e.ring (fold_quotient f e t trees alpha) x
     honest_recombined x =
         let s = e.ring in let C = 2 ^ log_chunks in let n = rows_of t in
         let q = honest_quotient f e t shift log_chunks trees alpha in
         let P = quotient_poly f e q in
-        let R = divided_poly f e t trees alpha in
+        let R = fold_quotient f e t trees alpha in
         let most = n * (C + 1) in
         let count : length parts * n ≡ size =
         ap (λ z. z * n) (length-table C (chunk_domain f e t shift log_chunks)) ∙ (let c : C * n ≡ n * C = omega arith in c ∙ sym size_is) in
@@ -244,4 +244,4 @@ module _ {F E : Type 0} (f : TwoAdic F) (e : Extension F E) (top : ℕ) (inverse
         let q = honest_quotient f e t shift log_chunks trees alpha in
         sym (trees_fold_value e L.above f t trees alpha x)
         ∙ (fold_divided f e top inverse L t trees alpha low holds x
-        ∙ ap (e.ring.mul (val e.ring (rows_van f e t) x)) (sym (honest_recombined x) ∙ quotient_value e L.above f q x))
+        ∙ ap (e.ring.mul (val e.ring (rows_van f e t) x)) (sym (honest_recombined x) ∙ quotient_poly_value e L.above f q x))
