@@ -14,3 +14,4 @@ pub mod Opened
 pub mod Quotient
 pub mod Disjoint
 pub mod BearFields
+pub mod Lookups

@@ -9,6 +9,7 @@
 
 pub mod fields;
 pub mod identity;
+pub mod lookups;
 pub mod opened;
 pub mod polynomials;
 pub mod quotient;
