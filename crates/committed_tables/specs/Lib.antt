@@ -1,0 +1,11 @@
+pub mod Fields
+pub mod Committed
+pub mod Polynomials
+pub mod Rows
+pub mod Traces
+pub mod Identity
+pub mod Unlucky
+pub mod Quotient
+pub mod Batch
+pub mod Opened
+pub mod Laws
