@@ -46,7 +46,7 @@ module _ {F E : Type 0} (f : TwoAdic F) (e : Extension F E) where
   unfoldable pub weight_poly : List (CosetData F) → ℕ → List E
   weight_poly ds i = product_poly_but e.ring (length ds) i (λ j. scaled_van (domain_at f.ring ds i) (domain_at f.ring ds j))
 
-  -- Quot: the sum of each chunk's weight times the sum of its polynomials times the basis elements
+  -- the quotient: the sum of each chunk's weight times the sum of its polynomials times the basis elements
   unfoldable pub quotient_poly : CommittedQuotient F → List E
   quotient_poly q = sum_polys e.ring (chunks_of q) (λ i. mul_poly e.ring (weight_poly q.domains i) (combined_poly e 0 (get_or q.chunks i [])))
 
@@ -54,18 +54,18 @@ module _ {F E : Type 0} (f : TwoAdic F) (e : Extension F E) where
   abbrev pub chunk_values : CommittedQuotient F → E → List (List E)
   chunk_values q x = map (λ gs. map (λ g. val_in e g x) gs) q.chunks
 
-  -- Van over the larger field, which vanishes on the rows
+  -- the vanishing polynomial of the rows, over the larger field
   abbrev pub rows_van : CommittedTable F E → List E
   rows_van t = over e (van f.ring f.inv (trace_domain f e t))
 
   module _ (t : CommittedTable F E) (trees : List (Tree F)) where
-    -- The identity of the committed polynomials at x: the fold by alpha of the trees' values there is the value of Van times
+    -- The identity of the committed polynomials at x: the fold by alpha of the trees' values there is the vanishing polynomial's value times
     -- the quotient's, recombined from its chunks' values.
     abbrev pub CommittedIdentity : CommittedQuotient F → (alpha x : E) → Type 0
     CommittedIdentity q alpha x =
         fold e.ring alpha (map (ev (reading f e t x)) trees)
         ≡ e.ring.mul (val e.ring (rows_van t) x) (recombined f e q.domains (chunk_values q x) x)
 
-    -- the identity polynomial: the fold by alpha of the trees' polynomials, minus Van times Quot
+    -- the identity polynomial: the fold by alpha of the trees' polynomials, minus the vanishing polynomial times the quotient
     unfoldable pub identity_poly : CommittedQuotient F → E → List E
     identity_poly q alpha = sub_poly e.ring (fold_poly e.ring alpha (map (tree_poly f e t) trees)) (mul_poly e.ring (rows_van t) (quotient_poly q))

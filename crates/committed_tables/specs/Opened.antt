@@ -38,7 +38,7 @@ module _ {F E : Type 0} (f : TwoAdic F) (e : Extension F E) (t : CommittedTable 
     pub challenges : v.challenges ≡ t.challenges
     pub terminals : v.terminals ≡ t.terminals
 
-  -- The identity of the table at x over opened values: the fold by alpha of the trees read at these is the value of Van times the
+  -- The identity of the table at x over opened values: the fold by alpha of the trees read at these is the vanishing polynomial's times the
   -- quotient's, recombined from the chunks' opened values.
   abbrev pub OpenedIdentity : List (Tree F) → CommittedQuotient F → (alpha x : E) → CellValues E → List (List E) → Type 0
   OpenedIdentity trees q alpha x v chunks =

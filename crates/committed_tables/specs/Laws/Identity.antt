@@ -43,7 +43,7 @@ module _ {F E : Type 0} (e : Extension F E) (M : RingLaws e.ring) where
         ((product_value i t x ∙ product_same s M i (λ j. val s (t j) x) u (λ j h. each j)) k)
         ((product_value n (λ j. t (suc i + j)) x ∙ product_same s M n (λ j. val s (t (suc i + j)) x) (λ j. u (suc i + j)) (λ j h. each (suc i + j))) k))
 
-    -- the value of Quot is recombined from the chunks' values
+    -- the quotient's value is recombined from the chunks' values
     pub quotient_poly_value : (q : CommittedQuotient F) (x : E) → val e.ring (quotient_poly f e q) x ≡ recombined f e q.domains (chunk_values f e q x) x
     unfolding quotient_poly recombined
     quotient_poly_value q x =
@@ -64,7 +64,7 @@ module _ {F E : Type 0} (e : Extension F E) (M : RingLaws e.ring) where
           fold_of_trees e.ring M e.embed (cell_polys f e t) alpha x trees
           ∙ ap (λ v. fold e.ring alpha (map (ev (reading_at e.ring e.embed v)) trees)) (values_are e M f t x)
 
-      -- the value of the identity polynomial: the fold of the trees' values, minus that of Van times Quot
+      -- the value of the identity polynomial: the fold of the trees' values, minus that of the vanishing polynomial times the quotient
       pub identity_value : (q : CommittedQuotient F) (alpha x : E)
           → val e.ring (identity_poly f e t trees q alpha) x
           ≡ sub e.ring (fold e.ring alpha (map (ev (reading f e t x)) trees)) (e.ring.mul (val e.ring (rows_van f e t) x) (recombined f e q.domains (chunk_values f e q x) x))

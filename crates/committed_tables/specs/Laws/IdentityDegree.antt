@@ -53,7 +53,7 @@ module _ {F E : Type 0} (f : TwoAdic F) (e : Extension F E) (top : ℕ) (inverse
       | inr a ↦ subst (All (DegreeBelow f.ring (rows_of t))) (sym (get_or-eq_default q.chunks [] a)) (λ k d l. absurd (omega (arith, l)))
     ]
 
-    -- Quot's degree is below n C
+    -- the quotient's degree is below n C
     pub degree_quotient : DegreeBelow e.ring (chunks_of q * rows_of t) (quotient_poly f e q)
     unfolding quotient_poly weight_poly
     degree_quotient =
