@@ -1,0 +1,4 @@
+mod Quotients
+mod Verdicts
+mod Pushed
+mod PeriodicColumns

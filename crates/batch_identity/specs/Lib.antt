@@ -1,0 +1,5 @@
+pub mod Identity
+pub mod OpenedRows
+pub mod PeriodicValues
+pub mod VerifierData
+pub mod Laws

@@ -1,0 +1,9 @@
+//! Tests of `batch_identity` on worked values, as a caller of its public items.
+#![tactic(auto)]
+
+#[cfg(test)]
+mod blank;
+#[cfg(test)]
+mod identities;
+#[cfg(test)]
+mod rows;
