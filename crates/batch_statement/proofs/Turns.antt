@@ -30,8 +30,8 @@ pub place_more : {X Y : Type 0} (f : X → Y) (P : ℕ → Y → Type 0) (xs : L
 place_more f P xs i x h e all p k lt d = elim (cases_lt k i) [
   | inl less ↦ all k less d
   | inr ge ↦
-    let at : i ≡ k = omega (arith, ge, lt) in
-    subst (λ j. P j (get_or (map f xs) j d)) at (subst (P i) (sym (mapped_item f xs i x d h e)) p)
+      let at : i ≡ k = omega (arith, ge, lt) in
+      subst (λ j. P j (get_or (map f xs) j d)) at (subst (P i) (sym (mapped_item f xs i x d h e)) p)
 ]
 
 pub at_place : {X Y : Type 0} (f : X → Y) (P : ℕ → Y → Type 0) (xs : List X) (i n : ℕ) (x : X) → i < n → i < length xs → x ≡ get_or xs i x

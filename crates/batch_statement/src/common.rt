@@ -42,10 +42,7 @@ fn empty_lookups<F: Field>(alloc: Global, n: usize) -> Mem<Vec<Lookups<F>>>
 
 impl<F, Com> SharedData<F, Com> {
     /// The data with these preprocessed traces and these lookups (`CommonData::new`).
-    pub fn new(
-        preprocessed: Option<PreprocessedTraces<Com>>,
-        lookups: Vec<Lookups<F>>,
-    ) -> Self
+    pub fn new(preprocessed: Option<PreprocessedTraces<Com>>, lookups: Vec<Lookups<F>>) -> Self
         ensures { result ≡ record { preprocessed = preprocessed; lookups = lookups.items } }
     {
         SharedData {

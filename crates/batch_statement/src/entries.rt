@@ -51,10 +51,7 @@ fn have_no_columns<F: Field, A: BaseAir<F>>(airs: &[A], n: usize) -> bool
 }
 
 // The tables with an entry, in order.
-fn tables_with_entry(
-    alloc: Global,
-    entries: &[Option<PreprocessedInstanceMeta>],
-) -> Mem<Vec<usize>>
+fn tables_with_entry(alloc: Global, entries: &[Option<PreprocessedInstanceMeta>]) -> Mem<Vec<usize>>
     ensures { IfOk result (λ v. v.items ≡ with_entry 0 entries.now) }
 {
     let mut tables = Vec::new(alloc);

@@ -63,7 +63,9 @@ fn agrees_with_table<F>(lookup: &Lookup<F>, table: &[Lookup<F>]) -> bool
 fn agrees_with<F>(lookup: &Lookup<F>, tables: &[Lookups<F>]) -> bool
     ensures { result ≡ agrees_with_all lookup.now tables.now }
 {
-    tables.iter().all(|table| agrees_with_table(lookup, table.as_slice()))
+    tables
+        .iter()
+        .all(|table| agrees_with_table(lookup, table.as_slice()))
 }
 
 // Whether the tuples of the lookup have one width, and it agrees with those of each of these tables.
@@ -84,5 +86,7 @@ fn table_fits_among<F>(tables: &[Lookups<F>], table: &[Lookup<F>]) -> bool
 pub(crate) fn have_one_width<F>(tables: &[Lookups<F>]) -> bool
     ensures { result ≡ have_one_width_each tables.now }
 {
-    tables.iter().all(|table| table_fits_among(tables, table.as_slice()))
+    tables
+        .iter()
+        .all(|table| table_fits_among(tables, table.as_slice()))
 }

@@ -1,5 +1,5 @@
 -- The tests of widths tell whether all tuples on one bus have one width.
-use Rattle.std.proofs.Common.{◌≡◌, ◌≢◌, ℕ, ◌+◌, ◌<◌, Bool, true, false, not, ◌&&◌, ◌||◌, List, [], ◌∷◌, ◌++◌, length, get_or, map, inl, inr, refl, sym, ◌∙◌, ap, subst, arith}
+use Rattle.std.proofs.Common.{◌≡◌, ◌≢◌, ℕ, ◌<◌, Bool, true, not, ◌&&◌, List, [], ◌∷◌, ◌++◌, length, get_or, map, inl, inr, refl, sym, ◌∙◌, ap, subst, arith}
 use Rattle.std.specs.Prelude.{◌==◌, ◌↔◌, All, IsTrue, flat_map}
 use Rattle.std.specs.List.{list_all}
 use Rattle.std.specs.Cmp.Lexicographic.{bytes_decides}
@@ -12,7 +12,7 @@ use Rattle.p3_air.specs.declared.node.Node.{Node}
 use Rattle.p3_air.specs.Symbolic.{tree_of}
 use Rattle.p3_air.specs.Tree.{Tree, Bus, local, global}
 use Rattle.p3_lookup.specs.Lookup.{LookupData}
-use Rattle.p3_lookup.specs.Bus.{HaveOneWidth, NameOneBus, bus_number}
+use Rattle.p3_lookup.specs.Bus.{HaveOneWidth, bus_number}
 use Rattle.p3_lookup.specs.Packing.{same_name}
 use Rattle.p3_lookup.specs.Written.{Written, read, read_all}
 use Rattle.p3_lookup.specs.Laws.Buses.{shares_by_name}
@@ -167,6 +167,7 @@ tested {F = F} tables ws joined h =
 pub have_one_width-means : {F : Type 0} (tables : List (List (Written F))) → IsTrue (have_one_width tables) ↔ HaveOneWidth (flat_map (λ ls. ls) (map read_all tables))
 have_one_width-means {F = F} tables =
     let ws = flat_map (λ vs. vs) tables in
-    let P : List (LookupData F) → Type 0 = λ ls. HaveOneWidth ls in
-    ((λ h. subst P (sym (read_joined tables)) (told tables ws refl (sym (all_joined (fits_among tables) tables) ∙ h))),
-    λ h. all_joined (fits_among tables) tables ∙ tested tables ws refl (subst P (read_joined tables) h))
+    let P : List (LookupData F) → Type 0 = λ ls. HaveOneWidth ls in (
+      (λ h. subst P (sym (read_joined tables)) (told tables ws refl (sym (all_joined (fits_among tables) tables) ∙ h))),
+      λ h. all_joined (fits_among tables) tables ∙ tested tables ws refl (subst P (read_joined tables) h),
+    )

@@ -1,4 +1,4 @@
-use Rattle.std.proofs.Common.{◌≡◌, ℕ, ◌<◌, length, get_or, None, refl, sym, ◌∙◌, subst, arith}
+use Rattle.std.proofs.Common.{ℕ, ◌<◌, length, get_or, None, refl, sym, ◌∙◌, subst, arith}
 use Rattle.p3_air.specs.Shape.{Declaration, width_of}
 use Rattle.p3_air.specs.Laws.Reads.{not_true}
 use Rattle.batch_statement.specs.Statement.{HasEntryOf}
@@ -10,9 +10,10 @@ returns-then-not-is_entry_of g c =
     let i = c.loop-i.i in
     let within : i < length c.args.airs.now = omega arith in
     let P : ℕ → Declaration g.row.F.Denot → Type 0 = λ k d. HasEntryOf (width_of d.preprocessed) (get_or c.args.entries.now k None) in
-    let Q : ℕ → Type 0 = λ w. HasEntryOf w (get_or c.args.entries.now i None) in
-    ((λ h. absurd (not_true h)),
-    λ h. sym c.if-not-is_entry_of.true ∙ c.is_entry_of.ensures.1 (subst Q (sym c.preprocessed_width.ensures) (at_place g.A.BaseAir.declaration P c.args.airs.now i c.args.n c.index-airs-i.result c.loop-i-test.true within c.index-airs-i.is h)))
+    let Q : ℕ → Type 0 = λ w. HasEntryOf w (get_or c.args.entries.now i None) in (
+      (λ h. absurd (not_true h)),
+      λ h. sym c.if-not-is_entry_of.true ∙ c.is_entry_of.ensures.1 (subst Q (sym c.preprocessed_width.ensures) (at_place g.A.BaseAir.declaration P c.args.airs.now i c.args.n c.index-airs-i.result c.loop-i-test.true within c.index-airs-i.is h)),
+    )
 
 pub loop-i-preserved : goal.loop-i-preserved
 loop-i-preserved g c =

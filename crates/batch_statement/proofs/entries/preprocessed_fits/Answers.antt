@@ -1,4 +1,4 @@
-use Rattle.std.proofs.Common.{◌≡◌, ℕ, ◌<◌, List, None, Some, length, map, take, get_or, refl, sym, ◌∙◌, ap, subst, arith, IsTrue}
+use Rattle.std.proofs.Common.{map, sym, subst, IsTrue}
 use Rattle.std.specs.Prelude.{◌↔◌, Option}
 use Rattle.batch_statement.specs.Statement.{PreprocessedTracesData}
 use Rattle.batch_statement.specs.Fitting.{FitsPreprocessed}
@@ -9,4 +9,3 @@ returns-in-None g c =
     let P : Option (PreprocessedTracesData g.row.Com.Denot) → Type 0 = λ p. IsTrue c.have_no_columns.result ↔ FitsPreprocessed (map g.A.BaseAir.declaration c.args.airs.now) p c.args.n in
     subst P (sym c.in-None.is)
     ((λ h. record { entries = c.have_no_columns.ensures.0 h; listed = tt; places = λ k lt. tt }), λ h. c.have_no_columns.ensures.1 h.entries)
-

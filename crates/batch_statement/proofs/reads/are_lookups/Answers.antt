@@ -1,4 +1,4 @@
-use Rattle.std.proofs.Common.{◌≡◌, ◌<◌, List, All, length, map, take, refl, sym, ◌∙◌, ap, subst, arith}
+use Rattle.std.proofs.Common.{◌≡◌, List, All, map, take, refl, sym, ◌∙◌, subst, arith}
 use Rattle.std.proofs.lemmas.Grind.{common_steps}
 use Rattle.p3_air.specs.Shape.{declared_shape}
 use Rattle.p3_air.specs.Laws.Reads.{not_true}
@@ -14,9 +14,10 @@ loop-i-preserved g c =
 
 pub returns-then-not-is_lookup : goal.returns-then-not-is_lookup
 returns-then-not-is_lookup g c =
-    let s = declared_shape (g.A.BaseAir.declaration c.args.air.now) in
-    ((λ h. absurd (not_true h)),
-    λ h. sym c.if-not-is_lookup.true ∙ c.is_lookup.ensures.1 (at_item (read {F = g.row.F.Denot}) (IsLookup s) c.args.lookups.now c.loop-i.i c.index-lookups-i.result c.loop-i-test.true c.index-lookups-i.is h))
+    let s = declared_shape (g.A.BaseAir.declaration c.args.air.now) in (
+      (λ h. absurd (not_true h)),
+      λ h. sym c.if-not-is_lookup.true ∙ c.is_lookup.ensures.1 (at_item (read {F = g.row.F.Denot}) (IsLookup s) c.args.lookups.now c.loop-i.i c.index-lookups-i.result c.loop-i-test.true c.index-lookups-i.is h),
+    )
 
 pub returns : goal.returns
 returns g c =

@@ -1,4 +1,4 @@
-use Rattle.std.proofs.Common.{◌≡◌, List, All, map, take, refl, sym, ◌∙◌, ap, subst, arith}
+use Rattle.std.proofs.Common.{◌≡◌, List, All, map, take, refl, sym, ◌∙◌, subst, arith}
 use Rattle.std.proofs.lemmas.Grind.{common_steps}
 use Rattle.p3_air.specs.declared.cells.Count.{Count}
 use Rattle.p3_air.specs.declared.node.Node.{Node}
@@ -17,9 +17,10 @@ loop-count-preserved g c =
 
 pub returns-then-not-reads_sendable : goal.returns-then-not-reads_sendable
 returns-then-not-reads_sendable g c =
-    let s = declared_shape (g.A.BaseAir.declaration c.args.air.now) in
-    ((λ h. absurd (not_true h)),
-    λ h. sym c.if-not-reads_sendable.true ∙ c.reads_sendable.ensures.1 (at_item (tree_count {F = g.row.F.Denot}) (λ (k : Count (Tree g.row.F.Denot)). ReadsSendable s k.value) c.args.counts.now c.loop-count.count-index c.count-item.result c.loop-count-test.true c.count-item.is h))
+    let s = declared_shape (g.A.BaseAir.declaration c.args.air.now) in (
+      (λ h. absurd (not_true h)),
+      λ h. sym c.if-not-reads_sendable.true ∙ c.reads_sendable.ensures.1 (at_item (tree_count {F = g.row.F.Denot}) (λ (k : Count (Tree g.row.F.Denot)). ReadsSendable s k.value) c.args.counts.now c.loop-count.count-index c.count-item.result c.loop-count-test.true c.count-item.is h),
+    )
 
 pub returns : goal.returns
 returns g c =

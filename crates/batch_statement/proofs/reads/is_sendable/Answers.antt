@@ -1,4 +1,4 @@
-use Rattle.std.proofs.Common.{◌≡◌, List, All, map, take, refl, sym, ◌∙◌, ap, subst, arith}
+use Rattle.std.proofs.Common.{◌≡◌, List, All, map, take, refl, sym, ◌∙◌, subst, arith}
 use Rattle.std.proofs.lemmas.Grind.{common_steps}
 use Rattle.p3_air.specs.declared.node.Node.{Node}
 use Rattle.p3_air.specs.Shape.{declared_shape, ReadsSendable}
@@ -15,9 +15,10 @@ loop-expression-preserved g c =
 
 pub returns-then-not-reads_sendable : goal.returns-then-not-reads_sendable
 returns-then-not-reads_sendable g c =
-    let s = declared_shape (g.A.BaseAir.declaration c.args.air.now) in
-    ((λ h. absurd (not_true h)),
-    λ h. sym c.if-not-reads_sendable.true ∙ c.reads_sendable.ensures.1 (at_item (tree_of {F = g.row.F.Denot}) (ReadsSendable s) c.args.tuple.now c.loop-expression.expression-index c.expression-item.result c.loop-expression-test.true c.expression-item.is h))
+    let s = declared_shape (g.A.BaseAir.declaration c.args.air.now) in (
+      (λ h. absurd (not_true h)),
+      λ h. sym c.if-not-reads_sendable.true ∙ c.reads_sendable.ensures.1 (at_item (tree_of {F = g.row.F.Denot}) (ReadsSendable s) c.args.tuple.now c.loop-expression.expression-index c.expression-item.result c.loop-expression-test.true c.expression-item.is h),
+    )
 
 pub returns : goal.returns
 returns g c =

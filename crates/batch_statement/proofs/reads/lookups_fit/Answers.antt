@@ -15,9 +15,10 @@ returns-then-not-are_lookups g c =
     let P : ℕ → Declaration g.row.F.Denot → Type 0 = λ k d. All (IsLookup (declared_shape d)) (get_or (map read_all c.args.lookups.now) k []) in
     let Q : List (LookupData g.row.F.Denot) → Type 0 = λ ls. All (IsLookup s) ls in
     let own : get_or (map read_all c.args.lookups.now) i [] ≡ read_all c.as_slice.result.now =
-    mapped_item (read_all {F = g.row.F.Denot}) c.args.lookups.now i c.index-lookups-i.result [] inside c.index-lookups-i.is ∙ ap (read_all {F = g.row.F.Denot}) (sym c.as_slice.ensures) in
-    ((λ h. absurd (not_true h)),
-    λ h. sym c.if-not-are_lookups.true ∙ c.are_lookups.ensures.1 (subst Q own (at_place g.A.BaseAir.declaration P c.args.airs.now i c.args.n c.index-airs-i.result c.loop-i-test.true within c.index-airs-i.is h)))
+    mapped_item (read_all {F = g.row.F.Denot}) c.args.lookups.now i c.index-lookups-i.result [] inside c.index-lookups-i.is ∙ ap (read_all {F = g.row.F.Denot}) (sym c.as_slice.ensures) in (
+      (λ h. absurd (not_true h)),
+      λ h. sym c.if-not-are_lookups.true ∙ c.are_lookups.ensures.1 (subst Q own (at_place g.A.BaseAir.declaration P c.args.airs.now i c.args.n c.index-airs-i.result c.loop-i-test.true within c.index-airs-i.is h)),
+    )
 
 pub loop-i-preserved : goal.loop-i-preserved
 loop-i-preserved g c =

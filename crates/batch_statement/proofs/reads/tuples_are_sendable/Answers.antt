@@ -1,4 +1,4 @@
-use Rattle.std.proofs.Common.{◌≡◌, List, All, map, take, Vec, Global, refl, sym, ◌∙◌, ap, subst, arith}
+use Rattle.std.proofs.Common.{◌≡◌, List, All, map, take, Vec, Global, refl, sym, ◌∙◌, subst, arith}
 use Rattle.std.proofs.lemmas.Grind.{common_steps}
 use Rattle.p3_air.specs.declared.node.Node.{Node}
 use Rattle.p3_air.specs.declared.symbolic.SymbolicExpression.{SymbolicExpression}
@@ -21,9 +21,10 @@ pub returns-then-not-is_sendable : goal.returns-then-not-is_sendable
 returns-then-not-is_sendable g c =
     let s = declared_shape (g.A.BaseAir.declaration c.args.air.now) in
     let trees : Vec (SymbolicExpression g.row.F.Denot) Global → List (Tree g.row.F.Denot) = λ v. map tree_of v.items in
-    let P : List (List (Node g.row.F.Denot)) → Type 0 = λ xs. All (ReadsSendable s) (map tree_of xs) in
-    ((λ h. absurd (not_true h)),
-    λ h. sym c.if-not-is_sendable.true ∙ c.is_sendable.ensures.1 (subst P (sym c.deref.ensures.value) (at_item trees (All (ReadsSendable s)) c.args.tuples.now c.loop-tuple.tuple-index c.tuple-item.result c.loop-tuple-test.true c.tuple-item.is h)))
+    let P : List (List (Node g.row.F.Denot)) → Type 0 = λ xs. All (ReadsSendable s) (map tree_of xs) in (
+      (λ h. absurd (not_true h)),
+      λ h. sym c.if-not-is_sendable.true ∙ c.is_sendable.ensures.1 (subst P (sym c.deref.ensures.value) (at_item trees (All (ReadsSendable s)) c.args.tuples.now c.loop-tuple.tuple-index c.tuple-item.result c.loop-tuple-test.true c.tuple-item.is h)),
+    )
 
 pub returns : goal.returns
 returns g c =
