@@ -1,0 +1,4 @@
+-- What is proved of the definitions, by subject.
+pub mod Verdicts
+pub mod Parts
+pub mod Reads

@@ -1,0 +1,7 @@
+use Rattle.std.proofs.Common.{All, map, take}
+use Rattle.p3_air.specs.Shape.{declared_shape, ReadsSendable}
+use Rattle.p3_air.specs.Symbolic.{tree_of}
+use Rattle.batch_statement.proofs.reads.tuples_are_sendable.Given as goal
+
+abbrev pub invariant-loop-tuple : goal.invariant-loop-tuple
+invariant-loop-tuple g l = All (All (ReadsSendable (declared_shape (g.A.BaseAir.declaration l.air)))) (map (λ v. map tree_of v.items) (take l.tuple-index l.tuples))

@@ -1,0 +1,4 @@
+pub mod Statement
+pub mod Proof
+pub mod Fitting
+pub mod Laws
