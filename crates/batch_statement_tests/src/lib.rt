@@ -1,0 +1,5 @@
+//! Tests of `batch_statement`, as a caller of its public items.
+#![tactic(auto)]
+
+#[cfg(test)]
+mod fits;
