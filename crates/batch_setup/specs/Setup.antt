@@ -22,7 +22,7 @@ pub record HaveOneLength {A F : Type 0} (airs : List A) (traces : List (Rows F))
   pub traces_long : length traces ≡ length airs
   pub publics_long : length publics ≡ length airs
 
--- the refusal of lists that differ in their lengths; want of memory is free
+-- the refusal of lists that differ in their lengths; out of memory is free
 abbrev pub IsMismatch : {A F E : Type 0} → List A → List (Rows F) → List (List F) → SetupError E → Type 0
 IsMismatch airs traces publics LengthMismatch = HaveOneLength airs traces publics → ⊥
 IsMismatch airs traces publics (PreprocessedHeight instance) = ⊥

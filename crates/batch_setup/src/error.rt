@@ -54,7 +54,7 @@ pub enum SetupError<E> {
         /// The logarithm of the blowup.
         log_blowup: usize,
     },
-    /// Memory is wanting. It may come in place of any other answer.
+    /// Out of memory. It may come in place of any other answer.
     #[error("out of memory")]
     OutOfMemory,
 }

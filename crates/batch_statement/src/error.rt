@@ -24,7 +24,7 @@ pub enum BatchVerificationError<E> {
     /// A grinding value fails.
     #[error("{0}")]
     Transcript(BatchTranscriptFailure),
-    /// Memory is wanting. It may come in place of any other answer.
+    /// Out of memory. It may come in place of any other answer.
     #[error("out of memory")]
     OutOfMemory,
 }

@@ -7,6 +7,9 @@
 //! | the constraints of a table with lookups: degrees, chunk counts, openings, the check of rows | `batch_constraints` |
 //! | the verifier's constraint folder | `batch_verifier_folder` |
 //! | the prover's constraint folder | `batch_prover_folder` |
+//! | common data, proofs, and why a proof is refused | `batch_statement` |
+//! | the identity of one table at the drawn point | `batch_identity` |
+//! | instances, and the data that a prover is given | `batch_setup` |
 #![tactic(auto)]
 
 pub use batch_constraints::{
@@ -14,8 +17,18 @@ pub use batch_constraints::{
     get_log_num_quotient_chunks_for_domain, get_max_constraint_degree, get_symbolic_constraints,
     num_batched_openings,
 };
+pub use batch_identity::{IdentityData, VerifierData};
 pub use batch_prover_folder::{
     ProverConstraintFolderWithLookups, ProverFolderWithLookups, prover_fold_with_lookups,
+};
+pub use batch_setup::{
+    KeptData, ProverData, ProverOnlyData, ProverPhase, SetupData, SetupError, StarkInstance,
+    TableInstance,
+};
+pub use batch_statement::{
+    BatchCommitments, BatchOpenedValues, BatchProof, BatchVerificationError, CommonData,
+    GlobalPreprocessed, OpenedValuesWithLookups, PreprocessedInstanceMeta, PreprocessedTraces,
+    SharedData, TablesProof,
 };
 pub use batch_transcript::{
     BatchChallenger, BatchProverTranscript, BatchShape, BatchTranscriptFailure,

@@ -1,0 +1,5 @@
+//! Tests of a batch's instances and of the data that its prover is given.
+#![tactic(auto)]
+
+#[cfg(test)]
+mod instances;
