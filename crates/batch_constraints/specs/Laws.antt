@@ -7,3 +7,4 @@ pub mod Periods
 pub mod Rows
 pub mod Own
 pub mod Logarithms
+pub mod Fits
