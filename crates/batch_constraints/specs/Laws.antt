@@ -8,3 +8,5 @@ pub mod Rows
 pub mod Own
 pub mod Logarithms
 pub mod Fits
+pub mod Fractions
+pub mod Packing
