@@ -10,3 +10,4 @@ pub mod Logarithms
 pub mod Fits
 pub mod Fractions
 pub mod Packing
+pub mod Folders
