@@ -7,3 +7,7 @@ pub mod Periods
 pub mod Rows
 pub mod Own
 pub mod Logarithms
+pub mod Fits
+pub mod Fractions
+pub mod Packing
+pub mod Folders

@@ -2,10 +2,12 @@
 -- (get_max_constraint_degree, get_log_num_quotient_chunks).
 use Rattle.std.specs.Prelude.{ℕ, zero, suc, ◌+◌, ◌-◌, ◌^◌, nat_lt, cond, max, List, [], ◌∷◌, length, map, Option, None, Some}
 use Rattle.std.specs.Int.{div_ceil}
+use Rattle.p3_field.specs.Ring.{Ring}
 use Rattle.p3_air.specs.Degree.{multiple, polynomial_degree}
 use Rattle.p3_air.specs.Shape.{Declaration}
 use Rattle.p3_air.specs.Tree.{Tree}
-use Rattle.p3_lookup.specs.Lookup.{greatest}
+use Rattle.p3_lookup.specs.Lookup.{LookupData, greatest}
+use Rattle.batch_constraints.specs.BatchTrees.{table_trees}
 
 -- the largest multiple of the height, where the transition selector has degree t; zero without constraints
 abbrev pub largest_multiple : {F : Type 0} → ℕ → List (Tree F) → ℕ
@@ -51,3 +53,13 @@ log_ceil n = powers_below n n
 -- the logarithm of the number of chunks of the quotient of constraints of this degree, masked or not
 abbrev pub log_chunks : ℕ → ℕ → ℕ
 log_chunks masks degree = log_ceil (max (degree + masks) 2 - 1)
+
+-- the logarithm of the number of chunks of a table with these trees and lookups, over a domain of n points whose transition selector
+-- has degree t
+abbrev pub table_log_chunks : {F : Type 0} → Ring F → Declaration F → List (Tree F) → ℕ → ℕ → ℕ → List (LookupData F) → ℕ
+table_log_chunks f d trees masks t n lookups = log_chunks masks (with_hint d (domain_degree t n (periods_of d) (table_trees f trees lookups)))
+
+-- The degree that a packed lookup's constraints may have where the quotient has 2^k chunks, masked or not: a larger one would need more
+-- chunks. After the budget of Plonky3's p3-lookup (pack_same_bus_with_degree).
+abbrev pub free_budget : ℕ → ℕ → ℕ
+free_budget masks k = 2 ^ k + 1 - masks

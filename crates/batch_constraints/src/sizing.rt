@@ -1,5 +1,5 @@
 //! The degree of a table's constraints, and into how many chunks its quotient is split.
-ghost use Rattle.std.specs.Prelude.{◌≡◌, ℕ, ◌+◌, ◌-◌, ◌<◌, ◌≤◌, ◌++◌, max, length, map, All, IfOk};
+ghost use Rattle.std.specs.Prelude.{◌≡◌, ℕ, ◌+◌, ◌-◌, ◌^◌, ◌<◌, ◌≤◌, List, [], ◌++◌, max, length, map, All, IfOk};
 ghost use Rattle.p3_air.specs.Degree.{multiple, polynomial_degree, HasPeriod};
 ghost use Rattle.p3_air.specs.Layout.{layout_of};
 ghost use Rattle.p3_air.specs.Shape.{ReadsIn};
@@ -7,6 +7,7 @@ ghost use Rattle.p3_air.specs.Symbolic.{tree_of};
 ghost use Rattle.p3_lookup.specs.Lookup.{greatest};
 ghost use Rattle.p3_lookup.specs.Written.{read, read_all};
 ghost use Rattle.batch_constraints.specs.BatchTrees.{table_trees, AreLookupsOf};
+ghost use Rattle.batch_constraints.specs.Fitting.{FewTransitionsFit};
 ghost use Rattle.batch_constraints.specs.Sizing.{largest_multiple, largest_degree, constraint_degree, domain_degree, periods_of, hint_of, with_hint, log_chunks};
 
 use crate::symbolic::get_symbolic_constraints;
@@ -147,6 +148,10 @@ fn hinted<F: Field, A: BaseAir<F>>(air: &A, degree: usize) -> usize
 /// hint, the least k for which 2^k is at least max(d + `is_zk`, 2) - 1 (`get_log_num_quotient_chunks` of
 /// `p3-batch-stark`).
 ///
+/// Where the AIR has no periodic column, each constraint with fewer transition factors than max(d, 2) fits the chunks
+/// (`fits`): over n rows, for any n but zero, its polynomial has a degree below n (2^k + 1). Transition factors count the
+/// transition selectors that are multiplied with each other: a sum or a difference takes the larger number, a product adds.
+///
 /// `is_zk` is at most one. The other conditions are those of `get_max_constraint_degree`.
 pub fn get_log_num_quotient_chunks<F: Field, A: Air<F>, LG: LookupProtocol>(
     alloc: Global,
@@ -161,15 +166,19 @@ pub fn get_log_num_quotient_chunks<F: Field, A: Air<F>, LG: LookupProtocol>(
     requires lookups { AreLookupsOf (A.declaration air.now) (read_all contexts.now) }
     requires rows { 0 < trace_len }
     requires masks { is_zk ≤ 1 }
-    ensures { let trees = table_trees F.ring (A.trees air.now) (read_all contexts.now) in
+    ensures chunks { let trees = table_trees F.ring (A.trees air.now) (read_all contexts.now) in
         IfOk result (λ k. k ≡ log_chunks is_zk (with_hint (A.declaration air.now) (constraint_degree trace_len (periods_of (A.declaration air.now)) trees))) }
+    ensures fits { let trees = table_trees F.ring (A.trees air.now) (read_all contexts.now) in
+        let degree = with_hint (A.declaration air.now) (constraint_degree trace_len (periods_of (A.declaration air.now)) trees) in
+        (A.declaration air.now).periodic ≡ [] → IfOk result (λ k. FewTransitionsFit (periods_of (A.declaration air.now)) degree (2 ^ k) trees) }
 {
     let degree = get_max_constraint_degree(alloc, air, layout, trace_len, contexts, lookup_gadget)?;
     Ok(chunks_of(hinted(air, degree), is_zk))
 }
 
 /// `get_log_num_quotient_chunks` for a domain: that of the domain's size where the domain's transition selector has degree
-/// zero, else by the largest `degree_multiple_with_transition`.
+/// zero, else by the largest `degree_multiple_with_transition`. The constraints fit the chunks as they do there, where the
+/// domain's transition selector has degree zero.
 ///
 /// The domain has a point. The other conditions are those of `get_log_num_quotient_chunks`.
 pub fn get_log_num_quotient_chunks_for_domain<
@@ -190,8 +199,12 @@ pub fn get_log_num_quotient_chunks_for_domain<
     requires lookups { AreLookupsOf (A.declaration air.now) (read_all contexts.now) }
     requires points { 0 < D.points domain }
     requires masks { is_zk ≤ 1 }
-    ensures { let trees = table_trees F.ring (A.trees air.now) (read_all contexts.now) in
+    ensures chunks { let trees = table_trees F.ring (A.trees air.now) (read_all contexts.now) in
         IfOk result (λ k. k ≡ log_chunks is_zk (with_hint (A.declaration air.now) (domain_degree (D.transition_degree domain) (D.points domain) (periods_of (A.declaration air.now)) trees))) }
+    ensures fits { let trees = table_trees F.ring (A.trees air.now) (read_all contexts.now) in
+        let degree = with_hint (A.declaration air.now) (constraint_degree (D.points domain) (periods_of (A.declaration air.now)) trees) in
+        D.transition_degree domain ≡ 0 → (A.declaration air.now).periodic ≡ []
+        → IfOk result (λ k. FewTransitionsFit (periods_of (A.declaration air.now)) degree (2 ^ k) trees) }
 {
     let t = domain.transition_degree_multiple();
     if t == 0 {

@@ -6,7 +6,8 @@ ghost use Rattle.p3_air.specs.Operation.{value_by};
 ghost use Rattle.p3_air.specs.Tree.{Tree, ev, ev_asserted, Stand};
 ghost use Rattle.p3_uni_stark.specs.Fold.{added_to, weighed_from};
 ghost use Rattle.p3_uni_stark.specs.Laws.Folders.{value_persists, weighed_along};
-ghost use Rattle.batch_prover_folder.specs.Laws.Cells.{cells_by_persists, base_cells_by_persists, shape_with};
+ghost use Rattle.batch_constraints.specs.Laws.Folders.{value_by_persists};
+ghost use Rattle.batch_prover_folder.specs.Laws.Cells.{base_value_by_persists, shape_with};
 
 use p3_air::{
     AirBuilder, Cell, Count, ExtCell, ExtensionBuilder, InteractionBuilder, PermutationAirBuilder,
@@ -114,7 +115,7 @@ impl<'a, F: Field, E: ExtensionField<F>> AirBuilder for ProverFolderWithLookups<
 
     ghost never_fails_sure = { λ h. h };
 
-    ghost computes_stands = { λ a b h op x y e s t k l q. base_cells_by_persists F.ring F.ring_laws E.ring E.ring_laws E.embed E.embed_laws (λ o. given_cells E.ring.zero E.embed o) (given_with a) (given_with b) op x y e s t h k l q };
+    ghost computes_stands = { λ a b h op x y e s t k l q. base_value_by_persists F.ring F.ring_laws E.ring E.ring_laws E.embed E.embed_laws (λ o. given_cells E.ring.zero E.embed o) (given_with a) (given_with b) op x y e s t h k l q };
 
     ghost asserts_grows = { λ a b x t h k. (k.0, k.1 ∙ ap (added_to E.ring (sum_of a.inner).left a.inner.accumulator) h, k.2) };
 }
@@ -158,7 +159,7 @@ impl<'a, F: Field, E: ExtensionField<F>> ExtensionBuilder for ProverFolderWithLo
 
     ghost persists_ext = { λ a b h e t k. value_persists (λ o. reading_at E.ring E.embed (given_cells E.ring.zero E.embed o)) (given_with a) (given_with b) e t h k };
 
-    ghost computes_ext_stands = { λ a b h op x y e s t k l q. cells_by_persists E.ring E.embed (λ o. given_cells E.ring.zero E.embed o) (given_with a) (given_with b) op x y e s t h k l q };
+    ghost computes_ext_stands = { λ a b h op x y e s t k l q. value_by_persists E.ring E.embed (λ o. given_cells E.ring.zero E.embed o) (given_with a) (given_with b) op x y e s t h k l q };
 
     ghost lifts_stands = { λ a b h x e t k q. value_persists (λ o. reading_at E.ring E.embed (given_cells E.ring.zero E.embed o)) (given_with a) (given_with b) e t h (q ∙ k) };
 

@@ -5,8 +5,8 @@ ghost use Rattle.p3_air.specs.Tree.{Tree, ev, ev_asserted, Stand, StandCount};
 ghost use Rattle.p3_air.specs.Operation.{value_by};
 ghost use Rattle.p3_uni_stark.specs.Fold.{fold_from};
 ghost use Rattle.p3_uni_stark.specs.Laws.Folders.{value_persists, folded_along};
+ghost use Rattle.batch_constraints.specs.Laws.Folders.{value_by_persists};
 ghost use Rattle.batch_verifier_folder.specs.FolderState.{OpenedWithLookups, cells_of, reading_of, shape_of};
-ghost use Rattle.batch_verifier_folder.specs.Laws.Folders.{value_by_persists};
 
 use p3_air::{
     AirBuilder, Cell, Count, ExtCell, ExtensionBuilder, InteractionBuilder, PermutationAirBuilder,

@@ -1,7 +1,9 @@
 -- Numbers that degrees and chunk counts rest on.
 use Rattle.std.proofs.Common.{◌≡◌, ℕ, zero, suc, ◌+◌, ◌*◌, ◌^◌, ◌<◌, ◌≤◌, List, [], ◌∷◌, ◌++◌, length, map, take, get_or, max, min, inl, inr, refl, sym, ◌∙◌, ap, arith}
 use Rattle.std.specs.Int.{div_ceil}
+use Rattle.std.specs.Prelude.{All}
 use Rattle.std.proofs.lemmas.List.{map-append, take_more}
+use Rattle.std.proofs.lemmas.List.Elements.{All-head, All-tail}
 use Rattle.std.proofs.Math.Nat.{pow-suc}
 use Rattle.std.proofs.Math.Pow.{pow_mono}
 use Rattle.std.proofs.lemmas.Nat.{mul-le, pow_pos}
@@ -16,6 +18,22 @@ use Rattle.batch_constraints.specs.Sizing.{powers_below, log_ceil, constraint_de
 pub greatest_append : (n : ℕ) (xs ys : List ℕ) → greatest n (xs ++ ys) ≡ greatest (greatest n xs) ys
 greatest_append n [] ys = refl
 greatest_append n (x ∷ xs) ys = greatest_append (max n x) xs ys
+
+-- what bounds the greatest of some numbers bounds each of them, and the other way round
+pub first_below_greatest : (a : ℕ) (xs : List ℕ) (b : ℕ) → greatest a xs ≤ b → a ≤ b
+first_below_greatest a [] b h = h
+first_below_greatest a (x ∷ xs) b h = let m = first_below_greatest (max a x) xs b h in omega (arith, m)
+
+pub all_below_greatest : (a : ℕ) (xs : List ℕ) (b : ℕ) → greatest a xs ≤ b → All (λ x. x ≤ b) xs
+all_below_greatest a [] b h k d l = absurd (omega (arith, l))
+all_below_greatest a (x ∷ xs) b h zero d l = let m = first_below_greatest (max a x) xs b h in omega (arith, m)
+all_below_greatest a (x ∷ xs) b h (suc k) d l = all_below_greatest (max a x) xs b h k d (omega (arith, l))
+
+pub greatest_below : (a : ℕ) (xs : List ℕ) (b : ℕ) → a ≤ b → All (λ x. x ≤ b) xs → greatest a xs ≤ b
+greatest_below a [] b h all = h
+greatest_below a (x ∷ xs) b h all =
+    let m = All-head (λ y. y ≤ b) x xs all in
+    greatest_below (max a x) xs b (omega (arith, h, m)) (All-tail (λ y. y ≤ b) x xs all)
 
 too_many : (d n k c : ℕ) → k < c → d ≤ k * n → c * n < d + n → ⊥
 too_many d n k c lt e h =
@@ -35,6 +53,15 @@ greatest_next {F = F} {T = T} tree degree start d i xs x l is h =
     greatest_more start (map degree (map tree (take i xs))) (degree (tree x)) d h
     ∙ ap (λ ks. greatest start ks) (sym split)
     ∙ ap (λ (ys : List F). greatest start (map degree (map tree ys))) (sym more)
+
+-- what a multiple reaches has at most this quotient, rounded up
+pub div_ceil_least : (d n k : ℕ) → 0 < n → d ≤ k * n → div_ceil d n ≤ k
+div_ceil_least d n k p enough =
+    let bounds = div_ceil_times d n p in
+    elim (cases_lt k (div_ceil d n)) [
+      | inl below ↦ absurd (too_many d n k (div_ceil d n) below enough bounds.1)
+      | inr le ↦ le
+    ]
 
 -- the least multiple that reaches a number is its quotient, rounded up
 pub is_div_ceil : (d n k : ℕ) → 0 < n → d ≤ k * n → ((j : ℕ) → d ≤ j * n → k ≤ j) → k ≡ div_ceil d n

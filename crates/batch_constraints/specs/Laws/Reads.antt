@@ -1,5 +1,5 @@
 -- What the constraints of a table with lookups read.
-use Rattle.std.proofs.Common.{◌≡◌, ℕ, zero, suc, List, length, All, arith, refl}
+use Rattle.std.proofs.Common.{◌≡◌, ℕ, zero, suc, ◌*◌, ◌<◌, ◌≤◌, List, length, arith, refl}
 use Rattle.p3_air.specs.declared.cells.Cell.{Cell}
 use Rattle.p3_air.specs.declared.cells.Cell.TheVariants.{Main, Preprocessed, Periodic, Public, FirstRow, LastRow, Transition}
 use Rattle.p3_air.specs.Shape.{Shape, Fits, Declares, IsSendable, ReadsSendable, Declaration, declared_shape}
@@ -37,10 +37,18 @@ pub layout_fits : {F : Type 0} (d : Declaration F) (n : ℕ) → Fits (declared_
 layout_fits d zero = record { main = omega arith; main_next = λ c h. refl; preprocessed = omega arith; preprocessed_next = λ c h. refl; periodic = omega arith; public = omega arith }
 layout_fits d (suc n) = record { main = omega arith; main_next = λ c h. refl; preprocessed = omega arith; preprocessed_next = λ c h. refl; periodic = omega arith; public = omega arith }
 
-pub lookups_fit : {F : Type 0} (d : Declaration F) (n : ℕ) (ls : List (LookupData F)) → AreLookupsOf d ls → All (IsLookup (layout_shape (layout_with (layout_of d) n))) ls
-lookups_fit d n ls h k e l = lookup_more _ _ (layout_fits d n) _ (h k e l)
+-- what has the declared cells, and a permutation column for the running sum and one for each lookup, two challenges for each, and the
+-- terminal, has what the constraints of the lookups read
+pub shape_fits_lookups : {F : Type 0} (d : Declaration F) (s : Shape) (ls : List (LookupData F)) (n : ℕ) → length ls ≡ n → Fits (declared_shape d) s → AreLookupsOf d ls
+    → (0 < n → n < s.permutation) → 2 * n ≤ s.challenges → (0 < n → 0 < s.terminals) → FitLookups s ls
+shape_fits_lookups d s ls n long fits h columns challenges terminals = record {
+  lookups = λ k e l. lookup_more (declared_shape d) s fits _ (h k e l);
+  columns = λ some. let c = columns (omega (arith, long, some)) in omega (arith, long, c);
+  challenges = omega (arith, long, challenges);
+  terminal = λ some. terminals (omega (arith, long, some));
+}
 
--- and has what the constraints of the lookups read
+-- and so the builder of a table's layout
 pub table_fits : {F : Type 0} (d : Declaration F) (n : ℕ) (ls : List (LookupData F)) → length ls ≡ n → AreLookupsOf d ls → FitLookups (layout_shape (layout_with (layout_of d) n)) ls
-table_fits d zero ls e h = record { lookups = lookups_fit d zero ls h; columns = λ l. absurd (omega (arith, e, l)); challenges = omega (arith, e); terminal = λ l. absurd (omega (arith, e, l)) }
-table_fits d (suc n) ls e h = record { lookups = lookups_fit d (suc n) ls h; columns = λ _. omega (arith, e); challenges = omega (arith, e); terminal = λ _. omega arith }
+table_fits d zero ls e h = shape_fits_lookups d (layout_shape (layout_with (layout_of d) zero)) ls zero e (layout_fits d zero) h (λ l. absurd (omega (arith, l))) (omega arith) (λ l. absurd (omega (arith, l)))
+table_fits d (suc n) ls e h = shape_fits_lookups d (layout_shape (layout_with (layout_of d) (suc n))) ls (suc n) e (layout_fits d (suc n)) h (λ _. omega arith) (omega arith) (λ _. omega arith)

@@ -7,7 +7,7 @@ use Rattle.p3_air.specs.Tree.{Tree, over_base, over_extension}
 use Rattle.p3_lookup.specs.Lookup.{LookupData, FitLookups}
 use Rattle.batch_constraints.specs.BatchCheck.{BatchTable, batch_row}
 use Rattle.batch_constraints.specs.BatchTrees.{AreLookupsOf}
-use Rattle.batch_constraints.specs.Laws.Reads.{lookup_more}
+use Rattle.batch_constraints.specs.Laws.Reads.{shape_fits_lookups}
 
 -- a row with the declared numbers of values has the declared cells
 pub row_fits : {F E : Type 0} (d : Declaration F) (w : Row F E) → length w.main_local ≡ d.width → length w.preprocessed_local ≡ width_of d.preprocessed
@@ -24,12 +24,8 @@ row_fits d w a b c e = record {
 -- and what the constraints of its n lookups read
 pub row_fits_lookups : {F E : Type 0} (d : Declaration F) (w : Row F E) (ls : List (LookupData F)) (n : ℕ) → length ls ≡ n → Fits (declared_shape d) (row_shape w) → AreLookupsOf d ls
     → (0 < n → length w.permutation_local ≡ n + 1) → length w.challenges ≡ 2 * n → (0 < n → length w.terminals ≡ 1) → FitLookups (row_shape w) ls
-row_fits_lookups d w ls n long fits h columns challenges terminals = record {
-  lookups = λ k e l. lookup_more (declared_shape d) (row_shape w) fits _ (h k e l);
-  columns = λ some. let c = columns (omega (arith, long, some)) in omega (arith, long, c);
-  challenges = omega (arith, long, challenges);
-  terminal = λ some. let t = terminals (omega (arith, long, some)) in omega (arith, t);
-}
+row_fits_lookups d w ls n long fits h columns challenges terminals =
+    shape_fits_lookups d (row_shape w) ls n long fits h (λ some. let c = columns some in omega (arith, c)) (omega (arith, challenges)) (λ some. let t = terminals some in omega (arith, t))
 
 -- the values of asserted trees are those of the trees
 pub values_over_extension : {F E : Type 0} (g : Tree F → E) (us : List (Tree F)) → map (λ a. g a.tree) (map over_extension us) ≡ map g us

@@ -8,26 +8,18 @@ use Rattle.p3_air.specs.declared.cells.Cell.TheVariants.{Main, Preprocessed, Per
 use Rattle.p3_air.specs.CellValues.{CellValues, cell_in, reading_at}
 use Rattle.p3_air.specs.Shape.{Declares}
 use Rattle.p3_air.specs.Operation.{Operation, tree_by, value_by}
-use Rattle.p3_air.specs.Laws.Operation.{ReadsBy, value_by-tree, embedded-value_by}
+use Rattle.p3_air.specs.Laws.Operation.{embedded-value_by}
 use Rattle.p3_uni_stark.specs.Point.{point_cells, point_shape, embedded}
 use Rattle.p3_uni_stark.specs.Laws.Folders.{value_persists}
+use Rattle.batch_constraints.specs.Laws.Folders.{by_ring}
 use Rattle.batch_prover_folder.specs.FolderState.{GivenWithLookups, given_cells, given_shape}
 
-by_ring : {F E : Type 0} (s : Ring E) (embed : F → E) (v : CellValues E) → ReadsBy s (reading_at s embed v)
-by_ring s embed v = record { adds = λ x y. refl; subs = λ x y. refl; muls = λ x y. refl }
-
--- the value of an operation on values of trees is the value of its tree in each state that reads the same
-pub cells_by_persists : {F E S : Type 0} (s : Ring E) (embed : F → E) (values : S → CellValues E) (p q : S) (op : Operation) (x y z : E) (t u : Tree F) → q ≡ p
-    → x ≡ ev (reading_at s embed (values p)) t → y ≡ ev (reading_at s embed (values p)) u → z ≡ value_by s op x y → z ≡ ev (reading_at s embed (values q)) (tree_by op t u)
-cells_by_persists s embed values p q op x y z t u h k l e =
-    value_persists (λ r. reading_at s embed (values r)) p q z (tree_by op t u) h
-    (value_by-tree s (reading_at s embed (values p)) (by_ring s embed (values p)) op x y z t u k l e)
-
--- the same of values of the base field, which go into the extension
-pub base_cells_by_persists : {F E S : Type 0} (f : Ring F) (L : RingLaws f) (s : Ring E) (M : RingLaws s) (embed : F → E) (H : RingHom f s embed) (values : S → CellValues E) (p q : S)
+-- the value of an operation on values of the base field, which go into the extension as values of trees, is that of its tree in each state
+-- that reads the same
+pub base_value_by_persists : {F E S : Type 0} (f : Ring F) (L : RingLaws f) (s : Ring E) (M : RingLaws s) (embed : F → E) (H : RingHom f s embed) (values : S → CellValues E) (p q : S)
     (op : Operation) (x y z : F) (t u : Tree F) → q ≡ p
     → embed x ≡ ev (reading_at s embed (values p)) t → embed y ≡ ev (reading_at s embed (values p)) u → z ≡ value_by f op x y → embed z ≡ ev (reading_at s embed (values q)) (tree_by op t u)
-base_cells_by_persists f L s M embed H values p q op x y z t u h k l e =
+base_value_by_persists f L s M embed H values p q op x y z t u h k l e =
     value_persists (λ r. reading_at s embed (values r)) p q (embed z) (tree_by op t u) h
     (embedded-value_by f L s M embed H (reading_at s embed (values p)) (by_ring s embed (values p)) op x y z t u k l e)
 
