@@ -1,0 +1,11 @@
+-- What is proved of the definitions, by subject.
+pub mod Words
+pub mod Sums
+pub mod Values
+pub mod Rounds
+pub mod Cells
+pub mod Completion
+pub mod Bits
+pub mod Exact
+pub mod Step
+pub mod Degree

@@ -1,0 +1,5 @@
+pub mod Sums
+pub mod Trees
+pub mod Row
+pub mod Meanings
+pub mod Laws

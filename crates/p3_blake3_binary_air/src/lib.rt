@@ -1,0 +1,11 @@
+//! The compression of BLAKE3 as an AIR over fields of characteristic two, after the binary AIR of Plonky3's `p3-blake3-air`.
+//!
+//! A row of 11536 cells is one compression, each word by its bits. A sum of words is given by its carries: exclusive or is
+//! addition, so the constraints have degree 2, and a rotation costs nothing.
+//!
+//! The definitions that the contracts cite are in `specs/`: sums bit by bit (`Sums`), the constraints (`Trees`), the row of
+//! one compression (`Row`), what the constraints mean (`Meanings`), where the words stand (`Places`), and the rows of the
+//! generators (`Rows`, `Random`).
+#![tactic(auto)]
+
+pub mod meanings;
