@@ -9,3 +9,5 @@ pub mod Bits
 pub mod Exact
 pub mod Step
 pub mod Degree
+pub mod Places
+pub mod Reads

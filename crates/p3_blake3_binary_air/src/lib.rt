@@ -8,4 +8,12 @@
 //! generators (`Rows`, `Random`).
 #![tactic(auto)]
 
+mod adding;
+mod air;
 pub mod meanings;
+mod places;
+mod reading;
+mod rounds;
+mod words;
+
+pub use air::{Blake3BinaryAir, NUM_BLAKE3_BINARY_COLS};
