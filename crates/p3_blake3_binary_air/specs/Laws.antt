@@ -11,3 +11,6 @@ pub mod Step
 pub mod Degree
 pub mod Places
 pub mod Reads
+pub mod Pushing
+pub mod Generated
+pub mod Output

@@ -10,10 +10,18 @@
 
 mod adding;
 mod air;
+mod columns;
+mod generation;
+mod input;
 pub mod meanings;
 mod places;
+mod random;
 mod reading;
 mod rounds;
 mod words;
 
 pub use air::{Blake3BinaryAir, NUM_BLAKE3_BINARY_COLS};
+pub use columns::{Blake3BinaryCols, Blake3BinaryGCols};
+pub use generation::generate_binary_trace_rows;
+pub use input::Blake3CompressionInput;
+pub use p3_blake3::TraceError;
