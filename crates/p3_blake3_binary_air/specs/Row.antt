@@ -1,9 +1,9 @@
 -- The row of one compression over fields of characteristic 2: its words in order, each by its bits, the lowest first.
-use Rattle.std.specs.Prelude.{◌≡◌, ℕ, zero, suc, ◌+◌, ◌*◌, ◌/◌, ◌%◌, List, [], ◌∷◌, ◌++◌, map}
+use Rattle.std.specs.Prelude.{ℕ, suc, ◌+◌, List, ◌++◌, map}
 use Rattle.std.specs.Int.{bit_at}
 use Rattle.p3_field.specs.Ring.{Ring, of_nat}
 use Rattle.p3_field.specs.Poly.{table}
-use Rattle.p3_blake3.specs.Compress.{Quarter, State, Input, chaining, taken, half}
+use Rattle.p3_blake3.specs.Compress.{Quarter, Input, chaining, taken, half}
 use Rattle.p3_blake3.specs.TraceRow.{bit_cells, turn_of, d_turn, b_turn, message_of, state}
 use Rattle.p3_blake3_binary_air.specs.Sums.{carry}
 use Rattle.p3_blake3_binary_air.specs.Trees.{laid}

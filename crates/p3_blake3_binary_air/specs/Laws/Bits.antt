@@ -1,8 +1,7 @@
 -- What the steps make of bits are the bits of one compression.
-use Rattle.std.proofs.Common.{◌≡◌, ℕ, zero, suc, ◌+◌, ◌-◌, ◌*◌, ◌/◌, ◌%◌, ◌^◌, ◌<◌, ◌≤◌, ◌++◌, List, [], ◌∷◌, length, get_or, map, refl, sym, ◌∙◌, ap, subst, arith, lit<, inl, inr, length-append}
+use Rattle.std.proofs.Common.{◌≡◌, ℕ, zero, suc, ◌+◌, ◌-◌, ◌*◌, ◌/◌, ◌%◌, ◌<◌, ◌++◌, List, length, get_or, refl, sym, ◌∙◌, ap, subst, arith, inl, inr, length-append}
 use Rattle.std.specs.Int.{bit_at}
 use Rattle.std.proofs.lemmas.Bool.{cases_lt}
-use Rattle.std.proofs.lemmas.Nat.Bits.{bit_at-lt}
 use Rattle.std.proofs.lemmas.List.{get_or_append_left, get_or-append-add, get_or-map, length-map}
 use Rattle.p3_field.specs.Ring.{Ring, RingLaws, of_nat}
 use Rattle.p3_field.specs.Poly.{table}
@@ -11,20 +10,19 @@ use Rattle.p3_air.specs.declared.cells.Cell.{Cell}
 use Rattle.p3_air.specs.declared.cells.ExtCell.{ExtCell}
 use Rattle.p3_air.specs.Tree.{Tree, constant}
 use Rattle.p3_air.specs.Words.{cells_reading}
-use Rattle.p3_blake3.specs.Compress.{Quarter, word, half, State, Input, chaining, column_of, step_of, taken, first_state}
-use Rattle.p3_air.specs.Joined.{joined}
+use Rattle.p3_blake3.specs.Compress.{Quarter, word, half, Input, chaining, column_of, step_of}
 use Rattle.p3_blake3.specs.TraceRow.{bit_cells, turn_of, d_turn, b_turn, message_of, state, AreWords}
 use Rattle.p3_blake3_binary_air.specs.Meanings.{AreWords4, StandBits}
 use Rattle.p3_blake3_binary_air.specs.Sums.{carry}
 use Rattle.p3_blake3_binary_air.specs.Trees.{Four, row_of, four_taken, laid, half_column}
 use Rattle.p3_blake3_binary_air.specs.Row.{before_half, after_half, half_cells, binary_cells, binary_trace_row}
 use Rattle.p3_blake3.specs.Laws.Schedule.{message_below}
-use Rattle.p3_blake3_binary_air.specs.Laws.Words.{AreStateWords, taken_words, state_words}
+use Rattle.p3_blake3_binary_air.specs.Laws.Words.{taken_words, state_words}
 use Rattle.p3_blake3_binary_air.specs.Laws.Sums.{half_means}
-use Rattle.p3_blake3_binary_air.specs.Laws.Values.{carries_of, made_a, made_b, made_c, made_d, made, HaveFour, HaveMade, half_made, after_made}
+use Rattle.p3_blake3_binary_air.specs.Laws.Values.{carries_of, made_b, made_d, made, HaveFour, HaveMade, half_made, after_made}
 use Rattle.p3_blake3_binary_air.specs.Laws.Rounds.{values_after, message_values}
 use Rattle.p3_blake3.specs.Laws.Cells.{length-bit_cells}
-use Rattle.p3_blake3_binary_air.specs.Laws.Cells.{at_joined, three, StepCells, step_cells, long3, long_laid}
+use Rattle.p3_blake3_binary_air.specs.Laws.Cells.{at_joined, StepCells, step_cells, long3, long_laid}
 use Rattle.p3_blake3_binary_air.specs.Laws.Completion.{made_carries, made_ds, made_bs}
 
 -- where the input's words stand in the row

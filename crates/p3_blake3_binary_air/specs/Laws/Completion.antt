@@ -1,16 +1,13 @@
 -- Each choice of the input's cells has exactly one completion that meets the constraints of the steps.
-use Rattle.std.proofs.Common.{◌≡◌, ℕ, zero, suc, ◌+◌, ◌-◌, ◌*◌, ◌/◌, ◌%◌, ◌<◌, ◌≤◌, ◌++◌, List, [], ◌∷◌, length, get_or, false, refl, sym, ◌∙◌, ap, subst, arith, length-append}
+use Rattle.std.proofs.Common.{◌≡◌, ℕ, ◌+◌, ◌<◌, ◌++◌, List, length, get_or, sym, ◌∙◌, ap, subst, arith}
 use Rattle.std.proofs.lemmas.List.{get_or_append_left, get_or-append-add, ext_get_or}
-use Rattle.std.specs.Prelude.{All}
 use Rattle.p3_field.specs.Ring.{Ring, RingLaws}
-use Rattle.p3_air.specs.declared.cells.Cell.{Cell}
-use Rattle.p3_air.specs.declared.cells.ExtCell.{ExtCell}
 use Rattle.p3_air.specs.RowCheck.{Row, cell_value, ext_cell_value}
 use Rattle.p3_blake3.specs.TraceRow.{turn_of, d_turn, b_turn, message_of}
-use Rattle.p3_blake3_binary_air.specs.Trees.{Four, four_taken, laid, half_column, steps_trees}
-use Rattle.p3_blake3_binary_air.specs.Meanings.{Meets, Completes, OneCompletion}
-use Rattle.p3_blake3_binary_air.specs.Laws.Values.{carries_of, made_d, made_b, HaveMade}
-use Rattle.p3_blake3_binary_air.specs.Laws.Rounds.{values_after, message_values, StepMade, steps_made}
+use Rattle.p3_blake3_binary_air.specs.Trees.{Four, four_taken, laid, steps_trees}
+use Rattle.p3_blake3_binary_air.specs.Meanings.{Meets, OneCompletion}
+use Rattle.p3_blake3_binary_air.specs.Laws.Values.{carries_of, made_d, made_b}
+use Rattle.p3_blake3_binary_air.specs.Laws.Rounds.{values_after, message_values, steps_made}
 use Rattle.p3_blake3_binary_air.specs.Laws.Cells.{three, StepCells, step_cells, long3, long_laid, cover_steps}
 
 module _ {A : Type 0} (r : Ring A) (L : RingLaws r) (two : r.add r.one r.one ≡ r.zero) where

@@ -1,5 +1,5 @@
 -- The constraints over fields of characteristic 2 have degree at most 2, whatever degree the transition selector has.
-use Rattle.std.proofs.Common.{ℕ, zero, suc, ◌+◌, ◌*◌, ◌<◌, ◌≤◌, ◌++◌, List, [], ◌∷◌, arith}
+use Rattle.std.proofs.Common.{ℕ, zero, suc, ◌+◌, ◌*◌, ◌≤◌, ◌∷◌, arith}
 use Rattle.std.specs.Prelude.{All}
 use Rattle.std.proofs.lemmas.List.Elements.{All-cons, All-append}
 use Rattle.p3_field.specs.Ring.{Ring}

@@ -1,13 +1,11 @@
 -- A row meets all constraints exactly when it is the row of one compression, over each field in which 1 + 1 is zero.
-use Rattle.std.proofs.Common.{◌≡◌, ℕ, zero, suc, ◌+◌, ◌-◌, ◌*◌, ◌/◌, ◌%◌, ◌^◌, ◌<◌, ◌≤◌, ◌⊎◌, ◌++◌, List, [], ◌∷◌, length, get_or, false, inl, inr, refl, sym, ◌∙◌, ap, subst, arith, lit<}
-use Rattle.std.specs.Prelude.{All, ◌↔◌}
+use Rattle.std.proofs.Common.{◌≡◌, ℕ, zero, suc, ◌+◌, ◌-◌, ◌*◌, ◌/◌, ◌%◌, ◌^◌, ◌<◌, ◌≤◌, ◌⊎◌, get_or, inl, inr, refl, sym, ◌∙◌, ap, subst, arith, lit<}
 use Rattle.std.specs.Int.{bit_at}
 use Rattle.std.proofs.lemmas.Bool.{cases_lt}
 use Rattle.std.proofs.lemmas.Nat.Bits.{bit_at-lt, same_from_bits_below}
 use Rattle.std.proofs.lemmas.List.{ext_get_or}
 use Rattle.std.proofs.lemmas.List.Elements.{All-append}
 use Rattle.p3_field.specs.Ring.{Ring, RingLaws, of_nat, sub}
-use Rattle.p3_field.specs.Poly.{table}
 use Rattle.p3_field.specs.Laws.Algebra.{mul_zero, zero_mul}
 use Rattle.p3_field.specs.Laws.Roots.{NoZeroDivisors, sub_zero, sub_self}
 use Rattle.p3_air.specs.RowCheck.{Row, value_at}
@@ -22,7 +20,7 @@ use Rattle.p3_air.specs.Laws.Lists.{all_left, all_right, all_of_table, all_table
 use Rattle.p3_blake3.specs.Laws.Words.{bit_of_bits, bits_below}
 use Rattle.p3_blake3_binary_air.specs.Laws.Cells.{StepCells}
 use Rattle.p3_blake3_binary_air.specs.Laws.Completion.{made_carries, made_ds, made_bs, meets_of_cells, cells_of_meets, same_steps}
-use Rattle.p3_blake3_binary_air.specs.Laws.Bits.{InputCells, input_cells, cover_input, cells, row_at, long_trace, trace_steps}
+use Rattle.p3_blake3_binary_air.specs.Laws.Bits.{input_cells, cover_input, cells, row_at, long_trace, trace_steps}
 
 -- the first where n is zero, else the second
 pick : ℕ → ℕ → ℕ → ℕ

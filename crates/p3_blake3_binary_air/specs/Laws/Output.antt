@@ -4,8 +4,8 @@ use Rattle.std.specs.Prelude.{bit_xor}
 use Rattle.std.specs.Int.{bit_at, rotate_left, w32}
 use Rattle.std.proofs.lemmas.List.{get_or-map}
 use Rattle.p3_field.specs.Ring.{Ring, of_nat}
-use Rattle.p3_blake3.specs.Compress.{Quarter, State, word, half, half_a, half_b, half_c, half_d, Input, chaining, taken, step_of, output_of, compress}
-use Rattle.p3_blake3.specs.TraceRow.{turn_of, d_turn, b_turn, message_of, half_round, state, AreWords}
+use Rattle.p3_blake3.specs.Compress.{word, half_b, half_d, Input, chaining, step_of, output_of, compress}
+use Rattle.p3_blake3.specs.TraceRow.{turn_of, d_turn, b_turn, message_of, state, AreWords}
 use Rattle.p3_blake3.specs.Laws.Words.{turned_there}
 use Rattle.p3_blake3.specs.Laws.Compress.{taken_made, output_is_compressed}
 use Rattle.p3_blake3.specs.Laws.State.{same_output}
@@ -15,7 +15,7 @@ use Rattle.p3_blake3_binary_air.specs.Trees.{half_column}
 use Rattle.p3_blake3_binary_air.specs.Row.{before_half, after_half, binary_cells, binary_trace_row}
 use Rattle.p3_blake3_binary_air.specs.Output.{HasWordAt, step_words, state_read, AreRead}
 use Rattle.p3_blake3_binary_air.specs.Laws.Words.{half_words, taken_words, state_words}
-use Rattle.p3_blake3_binary_air.specs.Laws.Bits.{row_steps, long_row, InputCells, input_cells}
+use Rattle.p3_blake3_binary_air.specs.Laws.Bits.{row_steps, long_row, input_cells}
 
 -- the second half of a step takes what the first half made
 before_is : (x : Input) (g : ℕ) → g < 4 → before_half x 27 g ≡ after_half x 26 g

@@ -1,11 +1,11 @@
 -- The words of the state stand in their places.
-use Rattle.std.proofs.Common.{◌≡◌, ℕ, zero, suc, ◌+◌, ◌*◌, ◌/◌, ◌%◌, ◌++◌, List, [], ◌∷◌, refl, sym, ◌∙◌, ap, arith, append_assoc}
+use Rattle.std.proofs.Common.{◌≡◌, ℕ, zero, suc, ◌+◌, ◌*◌, List, refl, sym, ap}
 use Rattle.p3_field.specs.Ring.{Ring}
 use Rattle.p3_air.specs.Tree.{Tree}
 use Rattle.p3_blake3.specs.Compress.{column_of, step_of}
 use Rattle.p3_blake3.specs.TraceRow.{turn_of, d_turn, b_turn, message_of}
 use Rattle.p3_blake3_binary_air.specs.Trees.{from_column, half_column, words_after, half_step_trees}
-use Rattle.p3_blake3_binary_air.specs.Sums.{turned, with_carries, sum2_trees, sum3_trees, half_trees}
+use Rattle.p3_blake3_binary_air.specs.Sums.{turned, half_trees}
 use Rattle.p3_blake3_binary_air.specs.Places.{word_bit, b_place, d_place, a_word, c_word, first_sum_trees, second_sum_trees, placed_trees}
 
 module _ {F : Type 0} (r : Ring F) where

@@ -1,9 +1,8 @@
 -- The constraints over fields of characteristic 2 read declared cells alone, and there are as many as is declared.
-use Rattle.std.proofs.Common.{◌≡◌, ℕ, zero, suc, ◌+◌, ◌-◌, ◌*◌, ◌/◌, ◌%◌, ◌<◌, ◌≤◌, ◌++◌, List, [], ◌∷◌, length, Bool, true, false, Some, refl, sym, ◌∙◌, ap, arith, lit<}
+use Rattle.std.proofs.Common.{◌≡◌, ℕ, zero, suc, ◌+◌, ◌*◌, ◌<◌, ◌≤◌, ◌∷◌, length, Bool, true, false, Some, sym, ◌∙◌, arith, lit<}
 use Rattle.std.specs.Prelude.{All, cond}
-use Rattle.std.specs.Int.{bit_at}
-use Rattle.std.proofs.lemmas.List.Elements.{All-nil, All-cons, All-append}
-use Rattle.p3_field.specs.Ring.{Ring, of_nat}
+use Rattle.std.proofs.lemmas.List.Elements.{All-cons, All-append}
+use Rattle.p3_field.specs.Ring.{Ring}
 use Rattle.p3_field.specs.Poly.{table}
 use Rattle.p3_air.specs.declared.cells.Cell.{Cell}
 use Rattle.p3_air.specs.declared.cells.Cell.TheVariants.{Main}
@@ -14,7 +13,7 @@ use Rattle.p3_air.specs.Gadgets.{rotated_place}
 use Rattle.p3_air.specs.Laws.Declared.{counts-some}
 use Rattle.p3_blake3.specs.Compress.{column_of, step_of}
 use Rattle.p3_blake3.specs.TraceRow.{turn_of, d_turn, b_turn, message_of}
-use Rattle.p3_blake3_binary_air.specs.Trees.{from_column, bits_trees, Four, half_column, words_after, half_step_trees, steps_trees, binary_trees, air_trees, binary_declaration}
+use Rattle.p3_blake3_binary_air.specs.Trees.{from_column, bits_trees, half_column, words_after, half_step_trees, steps_trees, binary_trees, air_trees, binary_declaration}
 use Rattle.p3_blake3_binary_air.specs.Sums.{carries_trees, majority, carry_in, with_carries, sum2_trees, sum3_trees, turned, half_trees}
 use Rattle.p3_air.specs.Laws.Lists.{all_table}
 use Rattle.p3_blake3.specs.Laws.Schedule.{message_below}

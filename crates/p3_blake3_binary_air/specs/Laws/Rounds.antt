@@ -1,6 +1,6 @@
 -- The induction over the half rounds on words of any values: the constraints of the steps are zero exactly where the
 -- cells have the values that the steps make of the input's.
-use Rattle.std.proofs.Common.{◌≡◌, ℕ, zero, suc, ◌+◌, ◌-◌, ◌*◌, ◌/◌, ◌%◌, ◌^◌, ◌<◌, ◌≤◌, ◌++◌, List, [], ◌∷◌, false, refl, sym, ◌∙◌, ap, subst, arith, lit<}
+use Rattle.std.proofs.Common.{◌≡◌, ℕ, zero, suc, ◌+◌, ◌*◌, ◌/◌, ◌%◌, ◌<◌, ◌≤◌, List, false, refl, subst, arith}
 use Rattle.std.specs.Prelude.{All, ◌↔◌}
 use Rattle.std.specs.Int.{bit_at}
 use Rattle.p3_field.specs.Ring.{Ring, RingLaws, of_nat}
@@ -12,8 +12,7 @@ use Rattle.p3_air.specs.Words.{cells_reading, Vanish}
 use Rattle.p3_blake3.specs.Compress.{iv, column_of, step_of}
 use Rattle.p3_air.specs.Joined.{joined}
 use Rattle.p3_blake3.specs.TraceRow.{turn_of, d_turn, b_turn, message_of}
-use Rattle.p3_blake3_binary_air.specs.Trees.{from_column, Four, row_of, four_taken, laid, half_column, words_made, first_words, words_half, words_after, half_step_trees, steps_trees}
-use Rattle.p3_blake3_binary_air.specs.Sums.{turned}
+use Rattle.p3_blake3_binary_air.specs.Trees.{from_column, Four, row_of, four_taken, laid, half_column, words_made, words_after, half_step_trees, steps_trees}
 use Rattle.p3_air.specs.Laws.Lists.{all_of_joined, all_joined}
 use Rattle.p3_blake3.specs.Laws.Schedule.{message_below}
 use Rattle.p3_blake3_binary_air.specs.Laws.Values.{made, Have, HaveFour, HaveMade, half_made, after_made}

@@ -1,12 +1,12 @@
 -- The law of one step in characteristic 2, and how many constraints there are.
-use Rattle.std.proofs.Common.{◌≡◌, ℕ, zero, suc, ◌+◌, ◌*◌, ◌%◌, ◌/◌, ◌++◌, List, [], ◌∷◌, length, refl, sym, ◌∙◌, ap, arith, length-append}
+use Rattle.std.proofs.Common.{◌≡◌, ℕ, suc, ◌∷◌, length, ap, arith, length-append}
 use Rattle.std.proofs.lemmas.List.Elements.{All-append}
-use Rattle.p3_field.specs.Ring.{Ring, RingLaws, of_nat}
+use Rattle.p3_field.specs.Ring.{Ring, RingLaws}
 use Rattle.p3_field.specs.Poly.{table}
 use Rattle.p3_field.specs.Laws.Tables.{length-table}
 use Rattle.p3_air.specs.declared.cells.Cell.{Cell}
 use Rattle.p3_air.specs.declared.cells.ExtCell.{ExtCell}
-use Rattle.p3_air.specs.Tree.{Tree, Reading, ev, constant, sum, product, bool_tree}
+use Rattle.p3_air.specs.Tree.{Tree, ev, constant, sum, product, bool_tree}
 use Rattle.p3_air.specs.Words.{cells_reading}
 use Rattle.p3_blake3.specs.Compress.{half}
 use Rattle.p3_blake3_binary_air.specs.Trees.{from_column, bits_trees, half_step_trees, steps_trees, binary_trees}

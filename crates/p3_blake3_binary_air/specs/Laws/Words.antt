@@ -1,5 +1,5 @@
 -- The words of each state are words.
-use Rattle.std.proofs.Common.{ℕ, zero, suc, ◌+◌, ◌%◌, ◌^◌, ◌<◌, arith, lit<}
+use Rattle.std.proofs.Common.{ℕ, zero, suc, ◌+◌, ◌^◌, ◌<◌, arith, lit<}
 use Rattle.std.specs.Prelude.{bit_xor}
 use Rattle.std.proofs.lemmas.Nat.{xor_lt, mod_below}
 use Rattle.p3_blake3.specs.Compress.{Quarter, word, half, half_a, half_b, half_c, half_d, State, Input, column_of, step_of, taken, first_state}

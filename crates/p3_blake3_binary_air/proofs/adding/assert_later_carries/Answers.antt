@@ -1,6 +1,6 @@
-use Rattle.std.proofs.Common.{◌≡◌, ℕ, suc, ◌+◌, ◌<◌, [], ◌∷◌, ◌∙◌, refl, sym, ap, arith, rules, subst}
+use Rattle.std.proofs.Common.{◌≡◌, suc, ◌+◌, [], ◌∷◌, ◌∙◌, sym, arith, rules, subst}
 use Rattle.p3_air.specs.Appended.{Appended, AppendedSome}
-use Rattle.p3_air.specs.Tree.{Tree, sum}
+use Rattle.p3_air.specs.Tree.{sum}
 use Rattle.p3_air.specs.Laws.Growth.{none_first}
 use Rattle.p3_air.specs.Laws.Lists.{table_joined}
 use Rattle.p3_air.specs.Laws.Appended.{on_failure, one_more, some_turns, no_turns, all_turns}

@@ -1,4 +1,3 @@
-use Rattle.std.proofs.Common.{[]}
 use Rattle.p3_air.specs.Laws.Growth.{none_first}
 use Rattle.p3_air.specs.Laws.Packing.{stand_later}
 use Rattle.p3_air.specs.Laws.Appended.{both, later, front, after_none, some_after_none, on_failure}

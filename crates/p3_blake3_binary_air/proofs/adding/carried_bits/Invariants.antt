@@ -1,7 +1,6 @@
 use Rattle.std.proofs.Common.{◌≡◌, ℕ, ◌<◌, [], length, get_or}
 use Rattle.p3_air.specs.Tree.{Tree}
 use Rattle.p3_air.specs.Gadgets.{StandAt}
-use Rattle.p3_air.specs.Laws.Packing.{stand_later}
 use Rattle.p3_blake3_binary_air.specs.Sums.{with_carries}
 use Rattle.p3_blake3_binary_air.proofs.adding.carried_bits.Given as goal
 

@@ -1,4 +1,4 @@
-use Rattle.std.proofs.Common.{◌+◌, ◌-◌, ◌%◌, ◌<◌, [], inl, inr, length, get_or, set, sym, subst, ◌∙◌, arith, rules, length-set, get_or-set_same, get_or-set_other}
+use Rattle.std.proofs.Common.{◌<◌, [], inl, inr, length, get_or, set, sym, subst, ◌∙◌, arith, rules, length-set, get_or-set_same, get_or-set_other}
 use Rattle.std.proofs.lemmas.Bool.{cases_eq}
 use Rattle.p3_blake3_binary_air.specs.Sums.{carry_in}
 use Rattle.p3_blake3_binary_air.proofs.adding.carries_in.Goals as goal

@@ -1,4 +1,4 @@
-use Rattle.std.proofs.Common.{◌≡◌, ℕ, ◌+◌, ◌*◌, ◌/◌, ◌%◌, ◌∙◌, ap, arith, subst}
+use Rattle.std.proofs.Common.{◌≡◌, ℕ, ◌+◌, ◌*◌, ◌∙◌, ap, arith, subst}
 use Rattle.std.specs.Prelude.{bit_xor, List}
 use Rattle.std.specs.Int.{rotate_left, w32}
 use Rattle.p3_field.specs.Ring.{Ring}

@@ -1,4 +1,4 @@
-use Rattle.std.proofs.Common.{◌≡◌, ℕ, suc, ◌+◌, [], ◌∷◌, ◌∙◌, ap, sym, arith, subst}
+use Rattle.std.proofs.Common.{◌≡◌, suc, ◌+◌, [], ◌∷◌, ◌∙◌, ap, sym, arith, subst}
 use Rattle.std.specs.Int.{bit_at}
 use Rattle.p3_air.specs.Laws.Lists.{table_joined}
 use Rattle.p3_blake3.specs.Generated.{Pushed}

@@ -1,4 +1,4 @@
-use Rattle.std.proofs.Common.{ℕ, suc, [], ◌∷◌}
+use Rattle.std.proofs.Common.{suc, [], ◌∷◌}
 use Rattle.p3_air.specs.Joined.{joined}
 use Rattle.p3_blake3.specs.Generated.{Pushed}
 use Rattle.p3_blake3_binary_air.specs.Sums.{carry}

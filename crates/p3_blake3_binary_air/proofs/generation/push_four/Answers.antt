@@ -1,4 +1,4 @@
-use Rattle.std.proofs.Common.{ℕ, ◌+◌, ◌*◌, arith}
+use Rattle.std.proofs.Common.{◌+◌, ◌*◌, arith}
 use Rattle.p3_air.specs.Joined.{joined}
 use Rattle.p3_blake3_binary_air.specs.Row.{half_cells}
 use Rattle.p3_blake3.specs.Laws.Pushing.{push_none, push_more, push_all}

@@ -1,4 +1,4 @@
-use Rattle.std.proofs.Common.{ℕ, ◌+◌, ◌*◌}
+use Rattle.std.proofs.Common.{◌+◌, ◌*◌}
 use Rattle.p3_blake3.specs.Compress.{Input}
 use Rattle.p3_air.specs.Joined.{joined}
 use Rattle.p3_blake3.specs.TraceRow.{state}

@@ -1,5 +1,5 @@
 use Rattle.std.proofs.Common.{subst}
-use Rattle.p3_blake3.specs.Generated.{Pushed, quarter_of}
+use Rattle.p3_blake3.specs.Generated.{Pushed}
 use Rattle.p3_blake3_binary_air.specs.Row.{quarter_cells}
 use Rattle.p3_blake3.specs.Laws.Pushing.{push_both}
 use Rattle.p3_blake3_binary_air.proofs.generation.push_half.Goals as goal

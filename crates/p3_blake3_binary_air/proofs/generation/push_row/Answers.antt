@@ -1,6 +1,4 @@
-use Rattle.std.proofs.Common.{◌≡◌, ℕ, ◌+◌, refl, ap, arith, subst}
-use Rattle.std.specs.Int.{bit_at}
-use Rattle.p3_field.specs.Poly.{table}
+use Rattle.std.proofs.Common.{◌≡◌, ℕ, ◌+◌, refl, arith, subst}
 use Rattle.p3_blake3.specs.TraceRow.{bit_cells}
 use Rattle.p3_blake3.specs.Generated.{Pushed, input_of}
 use Rattle.p3_blake3_binary_air.specs.Row.{binary_cells}

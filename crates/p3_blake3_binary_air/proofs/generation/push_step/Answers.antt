@@ -1,4 +1,4 @@
-use Rattle.std.proofs.Common.{◌≡◌, ℕ, ◌+◌, ◌*◌, ◌++◌, List, [], sym, subst, arith}
+use Rattle.std.proofs.Common.{◌≡◌, ℕ, ◌+◌, ◌*◌, ◌++◌, List, subst, arith}
 use Rattle.p3_air.specs.Joined.{joined}
 use Rattle.p3_blake3.specs.TraceRow.{state}
 use Rattle.p3_blake3.specs.Generated.{Pushed}

@@ -1,8 +1,8 @@
-use Rattle.std.proofs.Common.{◌≡◌, ℕ, suc, ◌+◌, ◌*◌, arith, sym, subst}
+use Rattle.std.proofs.Common.{◌≡◌, ℕ, ◌+◌, ◌*◌, arith, sym, subst}
 use Rattle.p3_blake3.specs.declared.words.StateWords.{StateWords}
 use Rattle.p3_blake3.specs.Compress.{Input, first_state}
 use Rattle.p3_air.specs.Joined.{joined}
-use Rattle.p3_blake3.specs.TraceRow.{state, half_round}
+use Rattle.p3_blake3.specs.TraceRow.{state}
 use Rattle.p3_blake3.specs.Generated.{IsState, Pushed}
 use Rattle.p3_blake3_binary_air.specs.Row.{half_cells}
 use Rattle.p3_blake3_binary_air.specs.Laws.Pushing.{laid_by_fours}

@@ -1,4 +1,4 @@
-use Rattle.std.proofs.Common.{ℕ, ◌+◌, arith}
+use Rattle.std.proofs.Common.{◌+◌, arith}
 use Rattle.std.specs.Int.{bit_at}
 use Rattle.p3_field.specs.Poly.{table}
 use Rattle.p3_blake3.specs.Generated.{input_of}

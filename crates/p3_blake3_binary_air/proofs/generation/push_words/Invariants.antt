@@ -1,4 +1,4 @@
-use Rattle.std.proofs.Common.{ℕ, ◌+◌}
+use Rattle.std.proofs.Common.{◌+◌}
 use Rattle.std.specs.Int.{bit_at}
 use Rattle.p3_field.specs.Poly.{table}
 use Rattle.p3_air.specs.Joined.{joined}

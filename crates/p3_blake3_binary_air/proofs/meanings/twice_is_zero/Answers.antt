@@ -1,4 +1,4 @@
-use Rattle.std.proofs.Common.{◌≡◌, sym, ◌∙◌}
+use Rattle.std.proofs.Common.{sym, ◌∙◌}
 use Rattle.p3_blake3_binary_air.specs.Laws.Sums.{double}
 use Rattle.p3_blake3_binary_air.proofs.meanings.twice_is_zero.Goals as goal
 

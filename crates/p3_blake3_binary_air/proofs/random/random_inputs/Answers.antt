@@ -1,4 +1,4 @@
-use Rattle.std.proofs.Common.{◌≡◌, ◌+◌, ◌*◌, ap, ◌∙◌, arith, rules}
+use Rattle.std.proofs.Common.{◌∙◌, rules}
 use Rattle.p3_field.specs.Laws.Tables.{table_push}
 use Rattle.p3_blake3_binary_air.specs.Random.{state_after, random_input}
 use Rattle.p3_blake3_binary_air.proofs.random.random_inputs.Goals as goal

@@ -1,4 +1,4 @@
-use Rattle.std.proofs.Common.{◌≡◌, ℕ, zero, suc, ◌+◌, ◌-◌, ◌*◌, ◌/◌, ◌%◌, ◌∙◌, ap, sym, refl, arith, subst}
+use Rattle.std.proofs.Common.{◌≡◌, ℕ, ◌+◌, ◌*◌, ◌%◌, ◌∙◌, ap, arith, subst}
 use Rattle.p3_field.specs.Ring.{Ring}
 use Rattle.p3_blake3_binary_air.specs.declared.words.Word.{Word}
 use Rattle.p3_blake3.specs.Compress.{column_of}

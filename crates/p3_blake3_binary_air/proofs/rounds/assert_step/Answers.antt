@@ -1,5 +1,4 @@
-use Rattle.std.proofs.Common.{◌≡◌, ℕ, ◌+◌, ◌*◌, ◌/◌, ◌%◌, ◌∙◌, arith}
-use Rattle.p3_air.specs.Joined.{joined}
+use Rattle.std.proofs.Common.{◌+◌, ◌*◌, ◌/◌, ◌%◌, ◌∙◌, arith}
 use Rattle.p3_blake3_binary_air.specs.Trees.{half_step_trees}
 use Rattle.p3_blake3_binary_air.specs.Places.{step_trees}
 use Rattle.p3_air.specs.Laws.Appended.{on_failure, one_more, some_turns, no_turns, all_turns}

@@ -1,8 +1,7 @@
-use Rattle.std.proofs.Common.{◌≡◌, ℕ, ◌+◌, ◌*◌, ◌/◌, ◌%◌}
+use Rattle.std.proofs.Common.{◌≡◌, ◌+◌, ◌*◌, ◌/◌, ◌%◌}
 use Rattle.p3_air.specs.Joined.{joined}
 use Rattle.p3_air.specs.Appended.{Appended}
 use Rattle.p3_blake3_binary_air.specs.Trees.{half_step_trees}
-use Rattle.p3_blake3_binary_air.specs.Places.{step_trees}
 use Rattle.p3_blake3_binary_air.proofs.rounds.assert_step.Given as goal
 
 abbrev pub invariant-loop-h : goal.invariant-loop-h

@@ -1,4 +1,4 @@
-use Rattle.std.proofs.Common.{◌≡◌, ℕ, ◌+◌, ◌∙◌, List, [], ◌∷◌}
+use Rattle.std.proofs.Common.{◌≡◌, ℕ, ◌∙◌, [], ◌∷◌}
 use Rattle.std.specs.Prelude.{bit_xor}
 use Rattle.p3_air.specs.Joined.{joined}
 use Rattle.p3_blake3.specs.declared.words.FourWords.{FourWords}
