@@ -153,35 +153,11 @@ fn compression_words(inputs: &[Blake3CompressionInput], i: usize) -> [u32; 28]
     let c = &input.chaining_value;
     let low = (input.counter % 4294967296) as u32;
     let high = (input.counter / 4294967296 % 4294967296) as u32;
+    let block_len = input.block_len;
+    let flags = input.flags;
     [
-        b[0],
-        b[1],
-        b[2],
-        b[3],
-        b[4],
-        b[5],
-        b[6],
-        b[7],
-        b[8],
-        b[9],
-        b[10],
-        b[11],
-        b[12],
-        b[13],
-        b[14],
-        b[15],
-        c[0],
-        c[1],
-        c[2],
-        c[3],
-        c[4],
-        c[5],
-        c[6],
-        c[7],
-        low,
-        high,
-        input.block_len,
-        input.flags,
+        b[0], b[1], b[2], b[3], b[4], b[5], b[6], b[7], b[8], b[9], b[10], b[11], b[12], b[13],
+        b[14], b[15], c[0], c[1], c[2], c[3], c[4], c[5], c[6], c[7], low, high, block_len, flags,
     ]
 }
 

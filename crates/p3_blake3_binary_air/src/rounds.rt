@@ -12,7 +12,7 @@ use crate::words::{Word, turned_at, word_at};
 use p3_air::AirBuilder;
 use p3_field::Mem;
 
-// Asserts the first sum of half a step: a and b, with their carries from k on, and the message word at m. It is d xor (d
+// Asserts the first sum of half a step: a and b, with their carries from `cells` on, and a message word. It is d xor (d
 // after it, turned to the left by s).
 fn assert_first_sum<AB: AirBuilder>(
     builder: &mut AB,
@@ -20,26 +20,26 @@ fn assert_first_sum<AB: AirBuilder>(
     a: Word,
     b: usize,
     d: usize,
-    m: usize,
-    k: usize,
+    message: usize,
+    cells: usize,
 ) -> Mem<()>
     requires wide { 11536 ≤ (AB.shape builder.old).main }
     requires within_a { IsWithin a }
     requires within_b { b + 32 ≤ 11536 }
     requires within_d { d + 32 ≤ 11536 }
-    requires within_m { m + 32 ≤ 11536 }
-    requires within_k { k + 95 ≤ 11536 }
+    requires within_message { message + 32 ≤ 11536 }
+    requires within_cells { cells + 95 ≤ 11536 }
     ensures later { AB.later builder.old builder.new }
     ensures same { AB.shape builder.new ≡ AB.shape builder.old }
     ensures answers { IsTrue AB.never_fails → IsOk result }
-    ensures grows { IfOk result (λ _. Appended AB.grows builder.old builder.new (first_sum_trees AB.F.ring s a b d m k)) }
-    ensures refused { OnFailure result (AppendedSome AB.grows builder.old builder.new (first_sum_trees AB.F.ring s a b d m k)) }
+    ensures grows { IfOk result (λ _. Appended AB.grows builder.old builder.new (first_sum_trees AB.F.ring s a b d message cells)) }
+    ensures refused { OnFailure result (AppendedSome AB.grows builder.old builder.new (first_sum_trees AB.F.ring s a b d message cells)) }
 {
     let x = word_at(builder, a)?;
     let y = bits_at(builder, b)?;
-    let z = bits_at(builder, m)?;
-    let carries = carries_at(builder, k)?;
-    let sum = turned_at(builder, d, k + 31, s)?;
+    let z = bits_at(builder, message)?;
+    let carries = carries_at(builder, cells)?;
+    let sum = turned_at(builder, d, cells + 31, s)?;
     assert_sum3(builder, x, y, z, carries, sum)?;
     Ok(())
 }
@@ -50,26 +50,26 @@ fn assert_second_sum<AB: AirBuilder>(
     t: usize,
     c: Word,
     b: usize,
-    k: usize,
+    cells: usize,
 ) -> Mem<()>
     requires wide { 11536 ≤ (AB.shape builder.old).main }
     requires within_c { IsWithin c }
     requires within_b { b + 32 ≤ 11536 }
-    requires within_k { k + 95 ≤ 11536 }
+    requires within_cells { cells + 95 ≤ 11536 }
     ensures later { AB.later builder.old builder.new }
     ensures same { AB.shape builder.new ≡ AB.shape builder.old }
     ensures answers { IsTrue AB.never_fails → IsOk result }
-    ensures grows { IfOk result (λ _. Appended AB.grows builder.old builder.new (second_sum_trees AB.F.ring t c b k)) }
-    ensures refused { OnFailure result (AppendedSome AB.grows builder.old builder.new (second_sum_trees AB.F.ring t c b k)) }
+    ensures grows { IfOk result (λ _. Appended AB.grows builder.old builder.new (second_sum_trees AB.F.ring t c b cells)) }
+    ensures refused { OnFailure result (AppendedSome AB.grows builder.old builder.new (second_sum_trees AB.F.ring t c b cells)) }
 {
     let x = word_at(builder, c)?;
-    let y = bits_at(builder, k + 31)?;
-    let sum = turned_at(builder, b, k + 63, t)?;
+    let y = bits_at(builder, cells + 31)?;
+    let sum = turned_at(builder, b, cells + 63, t)?;
     assert_sum2(builder, x, y, sum)?;
     Ok(())
 }
 
-// Asserts half a step on words in these places, whose own cells stand from k on.
+// Asserts half a step on words in these places, whose own cells stand from `cells` on.
 fn assert_placed<AB: AirBuilder>(
     builder: &mut AB,
     s: usize,
@@ -78,24 +78,24 @@ fn assert_placed<AB: AirBuilder>(
     b: usize,
     c: Word,
     d: usize,
-    m: usize,
-    k: usize,
+    message: usize,
+    cells: usize,
 ) -> Mem<()>
     requires wide { 11536 ≤ (AB.shape builder.old).main }
     requires within_a { IsWithin a }
     requires within_b { b + 32 ≤ 11536 }
     requires within_c { IsWithin c }
     requires within_d { d + 32 ≤ 11536 }
-    requires within_m { m + 32 ≤ 11536 }
-    requires within_k { k + 95 ≤ 11536 }
+    requires within_message { message + 32 ≤ 11536 }
+    requires within_cells { cells + 95 ≤ 11536 }
     ensures later { AB.later builder.old builder.new }
     ensures same { AB.shape builder.new ≡ AB.shape builder.old }
     ensures answers { IsTrue AB.never_fails → IsOk result }
-    ensures grows { IfOk result (λ _. Appended AB.grows builder.old builder.new (placed_trees AB.F.ring s t a b c d m k)) }
-    ensures refused { OnFailure result (AppendedSome AB.grows builder.old builder.new (placed_trees AB.F.ring s t a b c d m k)) }
+    ensures grows { IfOk result (λ _. Appended AB.grows builder.old builder.new (placed_trees AB.F.ring s t a b c d message cells)) }
+    ensures refused { OnFailure result (AppendedSome AB.grows builder.old builder.new (placed_trees AB.F.ring s t a b c d message cells)) }
 {
-    assert_first_sum(builder, s, a, b, d, m, k)?;
-    assert_second_sum(builder, t, c, b, k)?;
+    assert_first_sum(builder, s, a, b, d, message, cells)?;
+    assert_second_sum(builder, t, c, b, cells)?;
     Ok(())
 }
 
@@ -115,8 +115,8 @@ fn assert_half_step<AB: AirBuilder>(builder: &mut AB, n: usize, g: usize) -> Mem
     let b = b_place(n, (g + turn) % 4);
     let c = c_word(n, (g + 2 * turn) % 4);
     let d = d_place(n, (g + 3 * turn) % 4);
-    let m = message_column(n, g);
-    let k = half_column(n, g);
+    let message = message_column(n, g);
+    let cells = half_column(n, g);
     assert_placed(
         builder,
         16 - 8 * (n % 2),
@@ -125,8 +125,8 @@ fn assert_half_step<AB: AirBuilder>(builder: &mut AB, n: usize, g: usize) -> Mem
         b,
         c,
         d,
-        m,
-        k,
+        message,
+        cells,
     )?;
     Ok(())
 }

@@ -27,11 +27,11 @@ is_half r n g a b c d m k ea eb ec ed em ek =
 pub returns-clause-grows : goal.returns-clause-grows
 returns-clause-grows g c =
     subst (Appended g.AB.AirBuilder.grows _ _)
-    (is_half g.AB.F.RingCore.ring c.args.n c.args.g _ _ _ _ _ _ c.a_word-a.ensures.word c.b_place-b.ensures.column c.c_word-c.ensures.word c.d_place-d.ensures.column c.message_column-m.ensures.column c.half_column-k.ensures.column)
+    (is_half g.AB.F.RingCore.ring c.args.n c.args.g _ _ _ _ _ _ c.a_word-a.ensures.word c.b_place-b.ensures.column c.c_word-c.ensures.word c.d_place-d.ensures.column c.message_column-message.ensures.column c.half_column-cells.ensures.column)
     c.in_ok-assert_placed.ensures.grows
 
 pub returns-in_err-assert_placed-clause-refused : goal.returns-in_err-assert_placed-clause-refused
 returns-in_err-assert_placed-clause-refused g c =
     on_failure (subst (AppendedSome g.AB.AirBuilder.grows _ _)
-    (is_half g.AB.F.RingCore.ring c.args.n c.args.g _ _ _ _ _ _ c.a_word-a.ensures.word c.b_place-b.ensures.column c.c_word-c.ensures.word c.d_place-d.ensures.column c.message_column-m.ensures.column c.half_column-k.ensures.column)
+    (is_half g.AB.F.RingCore.ring c.args.n c.args.g _ _ _ _ _ _ c.a_word-a.ensures.word c.b_place-b.ensures.column c.c_word-c.ensures.word c.d_place-d.ensures.column c.message_column-message.ensures.column c.half_column-cells.ensures.column)
     c.in_err-assert_placed.ensures.refused.holds)

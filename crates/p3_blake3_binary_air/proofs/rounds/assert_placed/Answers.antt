@@ -10,7 +10,7 @@ returns-clause-grows g c =
 pub returns-in_err-assert_first_sum-clause-refused : goal.returns-in_err-assert_first_sum-clause-refused
 unfolding placed_trees
 returns-in_err-assert_first_sum-clause-refused g c =
-    on_failure (front g.AB.AirBuilder.grows g.met.AB.AirBuilder.grows_along (second_sum_trees g.AB.F.RingCore.ring c.args.t c.args.c c.args.b c.args.k) c.in_err-assert_first_sum.ensures.refused.holds)
+    on_failure (front g.AB.AirBuilder.grows g.met.AB.AirBuilder.grows_along (second_sum_trees g.AB.F.RingCore.ring c.args.t c.args.c c.args.b c.args.cells) c.in_err-assert_first_sum.ensures.refused.holds)
 
 pub returns-in_err-assert_second_sum-clause-refused : goal.returns-in_err-assert_second_sum-clause-refused
 unfolding placed_trees
