@@ -15,9 +15,9 @@ use std::test::Fail;
 // Cells of each kind: of the chaining value, the block, the counter's halves, the length and the flags, then of carries, d and
 // b of both halves in the first step, in steps of each round, and in the last one.
 const PLACES: [usize; 40] = [
-    0, 31, 128, 255, 256, 511, 767, 768, 799, 800, 832, 864, 895, 896, 926, 927, 958, 959, 990, 991,
-    1021, 1022, 1053, 1054, 1085, 1086, 1656, 2416, 3176, 4000, 4696, 5500, 6216, 7736, 9256, 10776,
-    11346, 11441, 11472, 11535,
+    0, 31, 128, 255, 256, 511, 767, 768, 799, 800, 832, 864, 895, 896, 926, 927, 958, 959, 990,
+    991, 1021, 1022, 1053, 1054, 1085, 1086, 1656, 2416, 3176, 4000, 4696, 5500, 6216, 7736, 9256,
+    10776, 11346, 11441, 11472, 11535,
 ];
 
 #[test]

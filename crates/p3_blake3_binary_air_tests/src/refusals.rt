@@ -20,13 +20,23 @@ fn name_of<F>(answer: &Result<RowMajorMatrix<F>, TraceError>) -> &'static str {
 #[test]
 fn refused_rows(rt: HostRuntime) -> Result<(), Fail> {
     let alloc = rt.alloc();
-    let none: Result<RowMajorMatrix<Gf256>, TraceError> = generate_binary_trace_rows(alloc, &[], 60);
+    let none: Result<RowMajorMatrix<Gf256>, TraceError> = generate_binary_trace_rows(
+        alloc,
+        &[],
+        60,
+    );
     assert_eq!(rt; name_of(&none), "NoInput");
-    let three: Result<RowMajorMatrix<Gf256>, TraceError> =
-        generate_binary_trace_rows(alloc, &[COUNTED; 3], 60);
+    let three: Result<RowMajorMatrix<Gf256>, TraceError> = generate_binary_trace_rows(
+        alloc,
+        &[COUNTED; 3],
+        60,
+    );
     assert_eq!(rt; name_of(&three), "NotPowerOfTwo");
-    let long: Result<RowMajorMatrix<Gf256>, TraceError> =
-        generate_binary_trace_rows(alloc, &[COUNTED], 60);
+    let long: Result<RowMajorMatrix<Gf256>, TraceError> = generate_binary_trace_rows(
+        alloc,
+        &[COUNTED],
+        60,
+    );
     assert_eq!(rt; name_of(&long), "TooLong");
     Ok(())
 }
@@ -34,11 +44,17 @@ fn refused_rows(rt: HostRuntime) -> Result<(), Fail> {
 #[test]
 fn refused_fields(rt: HostRuntime) -> Result<(), Fail> {
     let alloc = rt.alloc();
-    let one: Result<RowMajorMatrix<BabyBear>, TraceError> =
-        generate_binary_trace_rows(alloc, &[COUNTED], 0);
+    let one: Result<RowMajorMatrix<BabyBear>, TraceError> = generate_binary_trace_rows(
+        alloc,
+        &[COUNTED],
+        0,
+    );
     assert_eq!(rt; name_of(&one), "WrongCharacteristic");
-    let none: Result<RowMajorMatrix<BabyBear>, TraceError> =
-        generate_binary_trace_rows(alloc, &[], 0);
+    let none: Result<RowMajorMatrix<BabyBear>, TraceError> = generate_binary_trace_rows(
+        alloc,
+        &[],
+        0,
+    );
     assert_eq!(rt; name_of(&none), "WrongCharacteristic");
     let random: Result<RowMajorMatrix<BabyBear>, TraceError> =
         Blake3BinaryAir::default().generate_random_trace_rows(alloc, 3, 64);
@@ -57,8 +73,9 @@ fn refused_random_rows(rt: HostRuntime) -> Result<(), Fail> {
         (1, 51, "TooLong"),
     ] {
         let answer: Result<RowMajorMatrix<Gf256>, TraceError> =
-            Blake3BinaryAir::assuming_boolean_trace()
-                .generate_random_trace_rows(alloc, rows, extra);
+            Blake3BinaryAir::assuming_boolean_trace().generate_random_trace_rows(
+                alloc, rows, extra,
+            );
         assert_eq!(rt; name_of(&answer), name, "of {rows} rows");
     }
     Ok(())
