@@ -1,0 +1,41 @@
+use Rattle.std.proofs.Common.{[], ◌∷◌, ◌∙◌, sym, arith, subst}
+use Rattle.p3_air.specs.Appended.{Appended, AppendedSome}
+use Rattle.p3_air.specs.Laws.Lists.{table_joined}
+use Rattle.p3_air.specs.Tree.{bool_tree}
+use Rattle.p3_blake3_binary_air.specs.Trees.{from_column, bits_trees}
+use Rattle.p3_air.specs.Laws.Appended.{on_failure, one_more, some_turns, no_turns, all_turns}
+use Rattle.p3_blake3_binary_air.proofs.air.assert_bits.Goals as goal
+
+pub loop-i-init : goal.loop-i-init
+loop-i-init g c =
+    let B = g.met.AB.AirBuilder in
+    let r = g.AB.F.RingCore.ring in record {
+      later = B.later_same _;
+      same = λ i. g.AB.AirBuilder.shape c.args.builder.now;
+      grown = no_turns g.AB.AirBuilder.grows B.grows_along _ (λ i. bool_tree r.one (from_column c.args.column i) ∷ []) (B.grows_same _);
+    }
+
+pub loop-i-preserved : goal.loop-i-preserved
+loop-i-preserved g c =
+    let B = g.met.AB.AirBuilder in
+    let r = g.AB.F.RingCore.ring in record {
+      later = B.later_along _ _ _ c.loop-i.invariant.later c.assert_bit.ensures.later;
+      same = c.assert_bit.ensures.same ∙ c.loop-i.invariant.same;
+      grown = one_more g.AB.AirBuilder.grows B.grows_along c.loop-i.i (λ i. bool_tree r.one (from_column c.args.column i) ∷ []) c.loop-i.invariant.grown c.in_ok-assert_bit.ensures.grows;
+    }
+
+pub returns-clause-grows : goal.returns-clause-grows
+unfolding bits_trees
+returns-clause-grows g c =
+    let B = g.met.AB.AirBuilder in
+    let r = g.AB.F.RingCore.ring in
+    subst (Appended g.AB.AirBuilder.grows _ _) (sym (table_joined c.args.n (λ i. bool_tree r.one (from_column c.args.column i))))
+    (all_turns g.AB.AirBuilder.grows B.grows_along _ _ c.loop-i.i c.args.n (λ i. bool_tree r.one (from_column c.args.column i) ∷ []) (omega arith) c.loop-i.invariant.grown)
+
+pub returns-in_err-assert_bit-clause-refused : goal.returns-in_err-assert_bit-clause-refused
+unfolding bits_trees
+returns-in_err-assert_bit-clause-refused g c =
+    let B = g.met.AB.AirBuilder in
+    let r = g.AB.F.RingCore.ring in
+    on_failure (subst (AppendedSome g.AB.AirBuilder.grows _ _) (sym (table_joined c.args.n (λ i. bool_tree r.one (from_column c.args.column i))))
+    (some_turns g.AB.AirBuilder.grows B.grows_along _ _ _ c.loop-i.i c.args.n (λ i. bool_tree r.one (from_column c.args.column i) ∷ []) c.loop-i-test.true c.loop-i.invariant.grown c.in_err-assert_bit.ensures.refused.holds))

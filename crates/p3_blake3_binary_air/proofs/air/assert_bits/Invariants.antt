@@ -1,0 +1,15 @@
+use Rattle.std.proofs.Common.{◌≡◌, [], ◌∷◌}
+use Rattle.p3_air.specs.Joined.{joined}
+use Rattle.p3_air.specs.Appended.{Appended}
+use Rattle.p3_air.specs.Tree.{bool_tree}
+use Rattle.p3_blake3_binary_air.specs.Trees.{from_column}
+use Rattle.p3_blake3_binary_air.proofs.air.assert_bits.Given as goal
+
+abbrev pub invariant-loop-i : goal.invariant-loop-i
+invariant-loop-i g l =
+    let B = g.AB.AirBuilder in
+    let r = g.AB.F.RingCore.ring in record {
+      later : B.later l.fn.builder l.builder;
+      same : B.shape l.builder ≡ B.shape l.fn.builder;
+      grown : Appended B.grows l.fn.builder l.builder (joined l.i (λ i. bool_tree r.one (from_column l.column i) ∷ []));
+    }

@@ -1,0 +1,14 @@
+use Rattle.std.proofs.Common.{◌≡◌, ◌+◌, ◌*◌, ◌/◌, ◌%◌}
+use Rattle.p3_air.specs.Joined.{joined}
+use Rattle.p3_air.specs.Appended.{Appended}
+use Rattle.p3_blake3_binary_air.specs.Trees.{half_step_trees}
+use Rattle.p3_blake3_binary_air.proofs.rounds.assert_step.Given as goal
+
+abbrev pub invariant-loop-h : goal.invariant-loop-h
+invariant-loop-h g l =
+    let B = g.AB.AirBuilder in
+    let r = g.AB.F.RingCore.ring in record {
+      later : B.later l.fn.builder l.builder;
+      same : B.shape l.builder ≡ B.shape l.fn.builder;
+      grown : Appended B.grows l.fn.builder l.builder (joined l.h (λ h. half_step_trees r (2 * (l.k / 4) + h) (l.k % 4)));
+    }

@@ -1,0 +1,9 @@
+pub mod Sums
+pub mod Trees
+pub mod Row
+pub mod Meanings
+pub mod Places
+pub mod Rows
+pub mod Random
+pub mod Output
+pub mod Laws
