@@ -1,6 +1,7 @@
 //! What the constraints mean: laws as the contracts of functions that compute nothing.
 //!
-//! Each premise is that one and one is zero in the field. `means_over_gf256` shows that `Gf256` meets it.
+//! Each premise is that one and one is zero in the field, as `twice_is_zero` of `p3_field` says it of fields in which `TWO` is
+//! zero. `means_over_gf256` shows that `Gf256` meets it.
 ghost use Rattle.std.specs.Prelude.{◌≡◌, ℕ, ◌≤◌, All};
 ghost use Rattle.p3_air.specs.declared.cells.Cell.{Cell};
 ghost use Rattle.p3_air.specs.declared.cells.ExtCell.{ExtCell};
@@ -11,13 +12,6 @@ ghost use Rattle.p3_blake3_binary_air.specs.Trees.{binary_trees};
 ghost use Rattle.p3_blake3_binary_air.specs.Meanings.{Sum2Means, Sum3Means, StepMeans, RowMeans, WordsAreDetermined, OneCompletion, AreCounted};
 
 use p3_field::{Field, Gf256};
-
-/// In a field in which `TWO` is zero, one and one is zero (`ones`), and so is each value twice (`values`).
-pub fn twice_is_zero<F: Field>()
-    requires { F.TWO ≡ F.ring.zero }
-    ensures ones { F.ring.add F.ring.one F.ring.one ≡ F.ring.zero }
-    ensures values { (x : F) → F.ring.add x x ≡ F.ring.zero }
-{}
 
 /// Where x and y are bits, the 32 constraints of a sum of two are zero exactly where s is x + y modulo 2^32 (`sum2`); those of
 /// a sum of three exactly where also the carries are those of x + y (`sum3`). Where the words before a step and its two

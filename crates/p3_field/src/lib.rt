@@ -26,6 +26,7 @@ mod baby_bear;
 mod coset;
 mod generic;
 mod gf256;
+pub mod meanings;
 mod own;
 mod quartic;
 

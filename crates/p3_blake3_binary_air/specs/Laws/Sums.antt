@@ -7,7 +7,7 @@ use Rattle.std.proofs.lemmas.Nat.Bits.{bit_at_lowest, bit_at-suc, bit_at-lt, bit
 use Rattle.std.proofs.lemmas.List.Elements.{All-cons, All-head, All-tail, All-append}
 use Rattle.p3_field.specs.Ring.{Ring, RingLaws, of_nat}
 use Rattle.p3_field.specs.Poly.{table}
-use Rattle.p3_field.specs.Laws.Algebra.{mul_zero, zero_mul, zero_add, of_nat_add, of_nat_mul}
+use Rattle.p3_field.specs.Laws.Algebra.{twice_zero, zero_mul, zero_add, of_nat_add, of_nat_mul}
 use Rattle.p3_field.specs.Laws.Solver.{expressions, var, solve}
 use Rattle.p3_air.specs.declared.cells.Cell.{Cell}
 use Rattle.p3_air.specs.declared.cells.ExtCell.{ExtCell}
@@ -93,7 +93,7 @@ back_right r s x y = r.add s (r.add (r.add x x) (r.add y y))
 module _ {A : Type 0} (r : Ring A) (L : RingLaws r) (two : r.add r.one r.one ≡ r.zero) where
   -- two of a value are zero
   pub double : (x : A) → r.add x x ≡ r.zero
-  double x = cc (L.mul_one x, L.mul_add x r.one r.one, two, mul_zero r L x)
+  double x = twice_zero r L two x
 
   -- what is added to a sum of zero is what was there
   pub same_of_zero : (a b : A) → r.add a b ≡ r.zero → b ≡ a

@@ -115,3 +115,7 @@ module _ {A : Type 0} (r : Ring A) (L : RingLaws r) where
       let d : drop i cs ≡ c ∷ drop (i + 1) cs = rw add-one (drop-cons cs i c h ∙ ap (λ v. v ∷ drop (suc i) cs) (sym e)) in
       let k : val r (drop i cs) x ≡ r.add c (r.mul x (val r (drop (i + 1) cs) x)) = ap (λ l. val r l x) d in
       cc (k, f, L.add_comm (r.mul sum x) c, L.mul_comm sum x)
+
+-- where one and one is zero, each value twice is
+pub twice_zero : {A : Type 0} (r : Ring A) → RingLaws r → r.add r.one r.one ≡ r.zero → (x : A) → r.add x x ≡ r.zero
+twice_zero r L two x = cc (L.mul_one x, L.mul_add x r.one r.one, two, mul_zero r L x)
