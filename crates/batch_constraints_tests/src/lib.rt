@@ -5,7 +5,12 @@
 mod checks;
 pub mod cube;
 #[cfg(test)]
-mod post;
+mod degrees;
+pub mod post;
+#[cfg(test)]
+mod post_checks;
 #[cfg(test)]
 mod sizes;
 pub mod take;
+#[cfg(test)]
+mod wheel;

@@ -1,19 +1,17 @@
-//! A table with a preprocessed and a periodic column.
+//! The post table: a preprocessed and a periodic column, and two lookups.
 ghost use Rattle.std.specs.Prelude.{◌≡◌, ◌<◌, IfOk, All, length, map};
-ghost use Rattle.p3_matrix.specs.Matrix.{height};
+ghost use Rattle.p3_lookup.specs.Written.{read_all};
+ghost use Rattle.batch_tables.specs.Post.{post_declaration};
+ghost use Rattle.batch_constraints.specs.BatchTrees.{AreLookupsOf};
 
-use batch_constraints::{CheckFailure, check_constraints, get_max_constraint_degree};
 use batch_tables::PostAir;
-use p3_air::AirLayout;
 use p3_air_tests::support::bear;
 use p3_field::{BabyBear, FieldCore, Mem, RingCore};
-use p3_lookup::LogUpGadget;
-use p3_matrix::RowMajorMatrix;
+use p3_lookup::Lookups;
 use std::alloc::Global;
-use std::test::Fail;
 
-// The post table with four rows in its preprocessed column, and a periodic column of one value.
-fn post(alloc: Global) -> Mem<PostAir<BabyBear>>
+/// The post table with four rows in its preprocessed column, and a periodic column of the value 3.
+pub fn post(alloc: Global) -> Mem<PostAir<BabyBear>>
     ensures { IfOk result (λ a. All (λ c. 0 < length c) (map (λ v. v.items) a.periodic.items)) }
 {
     let steps = Vec::from_array(alloc, [bear(1), bear(2), bear(3), bear(4)])?;
@@ -23,51 +21,11 @@ fn post(alloc: Global) -> Mem<PostAir<BabyBear>>
     Ok(PostAir { steps, periodic })
 }
 
-// A column of these rows.
-fn column(alloc: Global, rows: &[BabyBear]) -> Mem<RowMajorMatrix<BabyBear>>
-    ensures { IfOk result (λ m. (m.width ≡ 1) × (height m ≡ length rows.now)) }
+/// The lookups of the table: the pair of its cell and the public value on the bus `words`, once; and within the table the
+/// cell, as often as the public value says, and the public value, once.
+pub fn post_lookups(alloc: Global, air: &PostAir<BabyBear>) -> Mem<Lookups<BabyBear>>
+    ensures lookups { IfOk result (λ l. AreLookupsOf (post_declaration air.now.steps.items (map (λ v. v.items) air.now.periodic.items)) (read_all l)) }
+    ensures two { IfOk result (λ l. length l ≡ 2) }
 {
-    Ok(RowMajorMatrix::new_col(Vec::from_slice(alloc, rows)?))
-}
-
-// The constraint's polynomial has degree 3 over four rows, since a column of one value is a constant: degree 1, though as
-// a multiple of the height it would be 2.
-#[test]
-fn degree_with_a_constant_column(rt: HostRuntime) -> Result<(), Fail> {
-    let alloc = rt.alloc();
-    let air = post(alloc)?;
-    let layout = AirLayout::from_air::<BabyBear, PostAir<BabyBear>>(&air);
-    let degree = get_max_constraint_degree::<BabyBear, PostAir<BabyBear>, LogUpGadget>(
-        alloc,
-        &air,
-        layout,
-        4,
-        &[],
-        &LogUpGadget::new(),
-    )?;
-    assert_eq!(rt; degree, 1);
-    Ok(())
-}
-
-#[test]
-fn preprocessed_rows_of_another_height(rt: HostRuntime) -> Result<(), Fail> {
-    let alloc = rt.alloc();
-    let air = post(alloc)?;
-    let main = column(alloc, &[bear(3); 4])?;
-    let steps = column(alloc, &[bear(1); 8])?;
-    let columns = RowMajorMatrix::new_col(Vec::new(alloc));
-    let checked = check_constraints::<BabyBear, BabyBear, PostAir<BabyBear>, LogUpGadget>(
-        alloc,
-        &air,
-        &main,
-        Some(&steps),
-        &columns,
-        &[],
-        &[],
-        &[bear(1)],
-        &[],
-        &LogUpGadget::new(),
-    );
-    assert!(rt; matches!(checked, Err(CheckFailure::PreprocessedHeight)));
-    Ok(())
+    Lookups::from_air(alloc, air)
 }

@@ -2,6 +2,7 @@
 ghost use Rattle.std.specs.Prelude.{◌≡◌};
 ghost use Rattle.p3_field.specs.Quartic.{quartic_ring};
 
+use batch_constraints_tests::post::{post, post_lookups};
 use batch_constraints_tests::take::{Take, take_lookups};
 use batch_tables::SwapAir;
 use batch_verifier_folder::{VerifierFolderWithLookups, verifier_fold_with_lookups};
@@ -63,6 +64,41 @@ fn fold_of_take(rt: HostRuntime) -> Result<(), Fail> {
     assert_eq!(rt;
         verifier_fold_with_lookups(&Take, lookups.as_slice(), &gadget, folder),
         quartic(5267)
+    );
+    Ok(())
+}
+
+// The cell 7 beside the preprocessed 2 and the periodic 3: 7 - 6 = 1. With the public value 4 the pair has the denominator
+// 21 - (7 + 3 * 4) = 2, so its fraction's constraint has the value 3 * 2 - 1 = 5. Within the table the denominators are
+// 10 - 7 and 10 - 4, so the other fraction's has 2 * 3 * 6 - (4 * 6 + 3) = 9. The running sum is 6 and then 19, and the
+// terminal 15, so the others have 6, 19 - 6 - (3 + 2) = 8 and 15 - 6 - (3 + 2) = 4.
+#[test]
+fn fold_of_two_lookups(rt: HostRuntime) -> Result<(), Fail> {
+    let air = post(rt.alloc())?;
+    let lookups = post_lookups(rt.alloc(), &air)?;
+    let (local, steps, turns) = ([quartic(7)], [quartic(2)], [quartic(3)]);
+    let public_values = [bear(4)];
+    let columns = [quartic(6), quartic(3), quartic(2)];
+    let next_columns = [quartic(19), quartic(0), quartic(0)];
+    let challenges = [quartic(21), quartic(3), quartic(10), quartic(1)];
+    let terminals = [quartic(15)];
+    let inner = VerifierFolder {
+        preprocessed_local: &steps,
+        preprocessed_next: &steps,
+        periodic_values: &turns,
+        ..plain_folder(&local, &local, &public_values)
+    };
+    let folder = VerifierFolderWithLookups {
+        inner,
+        permutation_local: &columns,
+        permutation_next: &next_columns,
+        permutation_challenges: &challenges,
+        permutation_values: &terminals,
+    };
+    let gadget = LogUpGadget::new();
+    assert_eq!(rt;
+        verifier_fold_with_lookups(&air, lookups.as_slice(), &gadget, folder),
+        quartic(159684)
     );
     Ok(())
 }

@@ -1,0 +1,13 @@
+use Rattle.std.proofs.Common.{◌≡◌, ◌∷◌, [], List, subst, sym}
+use Rattle.p3_air.specs.Degree.{HasPeriod}
+use Rattle.p3_air.specs.Shape.{ReadsIn}
+use Rattle.p3_air.specs.Symbolic.{tree_of, trees_after}
+use Rattle.p3_air.specs.declared.node.Node.{Node}
+use Rattle.p3_field.specs.declared.baby_bear.BabyBear.{BabyBear}
+use Rattle.batch_constraints_tests.proofs.degrees.degree_of.Goals as goal
+
+pub poly_degree-requires-clause-periods : goal.poly_degree-requires-clause-periods
+unfolding trees_after
+poly_degree-requires-clause-periods c =
+    let P : List (Node BabyBear) → Type 0 = λ e. ReadsIn (HasPeriod c.args.periods.now) (λ x. Unit {0}) (tree_of e) in
+    subst P (sym c.in_ok-expression.ensures) c.requires
