@@ -1,1 +1,4 @@
 pub mod Setup
+pub mod Packed
+pub mod Verdict
+pub mod Laws

@@ -6,6 +6,7 @@
 
 mod error;
 mod instance;
+mod lookups;
 mod prover_data;
 
 pub use error::{ProverPhase, SetupError};
