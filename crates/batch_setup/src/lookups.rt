@@ -12,20 +12,12 @@ ghost use Rattle.batch_setup.specs.Packed.{source_of, log_chunks_with, own_budge
 ghost use Rattle.batch_setup.specs.Verdict.{IsSetUp};
 
 use crate::error::SetupError;
+use crate::powers::power_of_two;
 use batch_constraints::get_log_num_quotient_chunks;
 use p3_air::{Air, AirLayout, BaseAir};
 use p3_field::{Field, FieldCore, Mem, RingCore};
 use p3_lookup::{LogUpGadget, Lookups};
 use std::alloc::Global;
-
-// 2^`log`.
-fn power_of_two(log: usize) -> usize
-    requires { log < 64 }
-    ensures size { result ≡ 2 ^ log }
-    ensures positive { 0 < result }
-{
-    1 << log
-}
 
 // The free budget of a table with so many chunks, which stops at the greatest usize.
 fn free_budget(log_chunks: usize, masks: usize) -> usize
