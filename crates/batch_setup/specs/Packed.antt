@@ -1,7 +1,7 @@
 -- The lookups of a batch's tables, packed within each table's budget. After Plonky3's p3-batch-stark
 -- (from_airs_and_degrees_with_lookup_budgets).
 use Rattle.std.specs.Prelude.{slice_index_or as get_or}
-use Rattle.std.specs.Prelude.{◌≡◌, ℕ, ◌+◌, ◌-◌, ◌^◌, ◌<◌, ◌≤◌, max, false, List, [], ◌∷◌, map, None}
+use Rattle.std.specs.Prelude.{ℕ, ◌+◌, ◌-◌, ◌^◌, ◌<◌, ◌≤◌, max, false, List, [], ◌∷◌, None}
 use Rattle.p3_field.specs.Checks.{Check, check}
 use Rattle.p3_field.specs.Ring.{Ring}
 use Rattle.p3_air.specs.Degree.{capped_sum}

@@ -9,7 +9,6 @@ use Rattle.p3_commit.specs.Failure.{NoneOf}
 use Rattle.batch_statement.specs.Statement.{PreprocessedTracesData, with_entry}
 use Rattle.batch_statement.specs.declared.preprocessed.PreprocessedInstanceMeta.{PreprocessedInstanceMeta}
 use Rattle.batch_setup.specs.Packed.{Source, no_source}
-use Rattle.batch_setup.specs.declared.error.ProverPhase.{ProverPhase}
 use Rattle.batch_setup.specs.declared.error.ProverPhase.TheVariants.{PreprocessingCommitment, TraceCommitment, PermutationCommitment, QuotientEvaluations, QuotientCommitment, Opening}
 use Rattle.batch_setup.specs.declared.error.SetupError.{SetupError}
 use Rattle.batch_setup.specs.declared.error.SetupError.TheVariants.{LengthMismatch, PreprocessedHeight, Pcs, LookupBudget, OutOfMemory}

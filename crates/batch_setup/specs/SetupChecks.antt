@@ -1,6 +1,6 @@
 -- The checks of what prover data is made from, in order. After Plonky3's p3-batch-stark (from_airs_and_degrees_with_lookup_budgets).
 use Rattle.std.specs.Prelude.{slice_index_or as get_or}
-use Rattle.std.specs.Prelude.{◌≡◌, ℕ, ◌+◌, ◌<◌, ◌≤◌, List, [], ◌∷◌, ◌++◌, length}
+use Rattle.std.specs.Prelude.{◌≡◌, ℕ, ◌<◌, ◌≤◌, List, [], ◌∷◌, ◌++◌, length}
 use Rattle.p3_field.specs.Checks.{Check, check, in_turn}
 use Rattle.p3_field.specs.Domain.{CosetData}
 use Rattle.p3_field.specs.Ring.{Ring}

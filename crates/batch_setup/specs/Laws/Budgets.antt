@@ -1,7 +1,7 @@
 -- Degrees stop at the greatest usize, so that a budget may stop there too.
-use Rattle.std.proofs.Common.{◌≡◌, ℕ, ◌+◌, ◌-◌, ◌^◌, ◌<◌, ◌≤◌, Bool, true, false, ◌&&◌, cond, min, max, List, [], ◌∷◌, length, map, inl, inr, refl, sym, ◌∙◌, ap, arith}
+use Rattle.std.proofs.Common.{◌≡◌, ℕ, ◌-◌, ◌^◌, ◌≤◌, Bool, ◌&&◌, cond, min, max, List, [], ◌∷◌, map, inl, inr, refl, ◌∙◌, ap, arith}
 use Rattle.std.specs.Prelude.{nat_le}
-use Rattle.std.proofs.lemmas.Bool.{cases_lt, leb-true}
+use Rattle.std.proofs.lemmas.Bool.{cases_lt}
 use Rattle.std.proofs.lemmas.List.Elements.{All-map}
 use Rattle.p3_field.specs.Ring.{Ring}
 use Rattle.p3_air.specs.declared.cells.Cell.{Cell}
@@ -10,7 +10,7 @@ use Rattle.p3_air.specs.declared.cells.ExtCell.{ExtCell}
 use Rattle.p3_air.specs.declared.cells.ExtCell.TheVariants.{Permutation, Challenge, Terminal}
 use Rattle.p3_air.specs.Degree.{multiple, cell_multiple, ext_multiple}
 use Rattle.p3_air.specs.Tree.{Tree, constant, cell, ext_cell, sum, difference, product}
-use Rattle.p3_lookup.specs.Lookup.{LookupData, greatest}
+use Rattle.p3_lookup.specs.Lookup.{LookupData}
 use Rattle.p3_lookup.specs.Packing.{lookup_degree, merged, same_name, takes_in, with_lookup, packed_onto, packed}
 use Rattle.p3_lookup.specs.Trees.{lookup_trees}
 use Rattle.batch_constraints.specs.Laws.Degrees.{greatest_below}

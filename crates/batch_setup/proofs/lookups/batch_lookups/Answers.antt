@@ -1,6 +1,6 @@
-use Rattle.std.proofs.Common.{◌≡◌, ℕ, [], ◌∷◌, map, ◌∙◌, ap, arith}
+use Rattle.std.proofs.Common.{[], ◌∷◌, map, ◌∙◌, ap, arith}
 use Rattle.std.proofs.lemmas.List.{map-append}
-use Rattle.p3_field.specs.Laws.Checks.{none_in_turn, none_of_none, none_until}
+use Rattle.p3_field.specs.Laws.Checks.{none_in_turn, none_of_none}
 use Rattle.p3_field.specs.Laws.Tables.{table_push}
 use Rattle.p3_lookup.specs.Written.{read_all}
 use Rattle.batch_setup.specs.Laws.Verdicts.{exits, refusal_in_turn}

@@ -1,4 +1,4 @@
-use Rattle.std.proofs.Common.{ℕ, ◌+◌, ◌<◌, ◌≤◌, subst, arith}
+use Rattle.std.proofs.Common.{◌+◌, ◌<◌, ◌≤◌, subst, arith}
 use Rattle.p3_air.specs.Degree.{capped_sum}
 use Rattle.batch_setup.specs.Packed.{limit_checks}
 use Rattle.batch_setup.specs.Verdict.{IsSetUp}

@@ -1,4 +1,4 @@
-use Rattle.std.proofs.Common.{◌≡◌, ℕ, map, get_or, sym, subst}
+use Rattle.std.proofs.Common.{◌≡◌, get_or, sym, subst}
 use Rattle.std.specs.Prelude.{IfOk}
 use Rattle.p3_lookup.specs.Written.{read_all}
 use Rattle.batch_setup.specs.Packed.{Source, source_of, no_source, budget_checks, packed_lookups}

@@ -1,4 +1,4 @@
-use Rattle.std.proofs.Common.{◌≡◌, ℕ, ◌-◌, ◌^◌, min, max, sym, ◌∙◌, ap, subst}
+use Rattle.std.proofs.Common.{◌≡◌, ◌-◌, ◌^◌, min, max, sym, ◌∙◌, ap, subst}
 use Rattle.p3_air.specs.Shape.{declared_shape}
 use Rattle.p3_lookup.specs.Packing.{packed}
 use Rattle.p3_lookup.specs.Written.{read_all}

@@ -1,4 +1,4 @@
-use Rattle.std.proofs.Common.{◌≡◌, ℕ, length, map, get_or, ◌∙◌, ap, subst, arith}
+use Rattle.std.proofs.Common.{◌≡◌, length, map, get_or, ◌∙◌, ap, subst, arith}
 use Rattle.p3_field.specs.Poly.{table}
 use Rattle.p3_field.specs.Laws.Checks.{none_in_turn, none_of_none, none_until}
 use Rattle.p3_field.specs.Laws.Tables.{table_push}

@@ -1,4 +1,4 @@
-use Rattle.std.proofs.Common.{◌≡◌, ℕ, map}
+use Rattle.std.proofs.Common.{◌≡◌, map}
 use Rattle.p3_field.specs.Poly.{table}
 use Rattle.p3_field.specs.Checks.{NoneFails, in_turn}
 use Rattle.batch_setup.specs.Packed.{source_of}

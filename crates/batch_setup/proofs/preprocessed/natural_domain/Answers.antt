@@ -1,4 +1,4 @@
-use Rattle.std.proofs.Common.{◌≡◌, ℕ, ◌^◌, ◌≤◌, sym, ◌∙◌, subst}
+use Rattle.std.proofs.Common.{◌^◌, ◌≤◌, sym, ◌∙◌, subst}
 use Rattle.std.proofs.Math.Pow.{pow_mono}
 use Rattle.batch_setup.proofs.Naturals.{subgroup_of}
 use Rattle.batch_setup.proofs.preprocessed.natural_domain.Goals as goal

@@ -1,4 +1,4 @@
-use Rattle.std.proofs.Common.{◌≡◌, ℕ, cond, ◌++◌, ◌-◌, ◌^◌, length, map, replicate, ◌∙◌, subst}
+use Rattle.std.proofs.Common.{◌≡◌, cond, ◌++◌, ◌-◌, ◌^◌, length, map, replicate, ◌∙◌, subst}
 use Rattle.std.specs.Prelude.{IfOk}
 use Rattle.std.proofs.lemmas.List.{length-replicate}
 use Rattle.p3_field.specs.Checks.{in_turn}

@@ -1,4 +1,4 @@
-use Rattle.std.proofs.Common.{◌≡◌, ℕ, ◌+◌, ◌<◌, ◌≤◌, Bool, true, false, cond, ◌++◌, length, map, sym, subst, arith}
+use Rattle.std.proofs.Common.{◌≡◌, ◌<◌, ◌≤◌, Bool, true, false, cond, ◌++◌, length, map, sym, subst, arith}
 use Rattle.std.specs.Prelude.{IfOk}
 use Rattle.p3_field.specs.Laws.Checks.{holds_alone}
 use Rattle.p3_field.specs.Poly.{table}

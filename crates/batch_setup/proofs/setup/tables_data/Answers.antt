@@ -1,8 +1,8 @@
-use Rattle.std.proofs.Common.{◌≡◌, map, sym, ◌∙◌, ap, subst}
+use Rattle.std.proofs.Common.{map, sym, subst}
 use Rattle.p3_commit.specs.Commitments.{IsCommitment}
 use Rattle.p3_field.specs.Laws.Checks.{none_append}
 use Rattle.p3_lookup.specs.Written.{read_all}
-use Rattle.batch_statement.specs.Statement.{WellFormed, WrittenCommon, read_common}
+use Rattle.batch_statement.specs.Statement.{WellFormed, read_common}
 use Rattle.batch_setup.specs.Laws.Formed.{made_well_formed}
 use Rattle.batch_setup.specs.Laws.Verdicts.{exits, refused_before, refused_after}
 use Rattle.batch_setup.proofs.setup.tables_data.Goals as goal
