@@ -1,7 +1,7 @@
 -- The instances of a batch, one after another.
-use Rattle.std.proofs.Common.{◌≡◌, ℕ, zero, suc, ◌+◌, ◌<◌, List, [], ◌∷◌, ◌++◌, length, get_or, map, drop, refl, sym, ◌∙◌, ap, arith}
+use Rattle.std.proofs.Common.{◌≡◌, ℕ, zero, suc, ◌+◌, ◌<◌, List, [], ◌∷◌, length, get_or, map, drop, sym, ◌∙◌, ap, arith}
 use Rattle.p3_matrix.specs.Matrix.{Rows}
-use Rattle.batch_setup.specs.Setup.{Instance, instances_of}
+use Rattle.batch_setup.specs.Setup.{instances_of}
 
 -- the instances from place i on are that at i and those behind it
 pub next : {A F X : Type 0} (f : X → List F) (bs : List A) (ts : List (Rows F)) (ps : List X) (i : ℕ) (a : A) (t : Rows F) (p : X)

@@ -14,10 +14,14 @@ pub struct KeptData<PD> {
     pub preprocessed_prover_data: Option<PD>,
 }
 
+/// What a configuration's backend keeps of what it committed to.
+pub type Committed<SC> = <<SC as StarkGenericConfig>::Pcs as Pcs<
+    Challenge<SC>,
+    Challenger<SC>,
+>>::ProverData;
+
 /// What a prover keeps for itself, over a configuration (`ProverOnlyData` of `p3-batch-stark`).
-pub type ProverOnlyData<SC> = KeptData<
-    <<SC as StarkGenericConfig>::Pcs as Pcs<Challenge<SC>, Challenger<SC>>>::ProverData,
->;
+pub type ProverOnlyData<SC> = KeptData<Committed<SC>>;
 
 /// What a prover shares with the verifier, and what it keeps.
 #[derive(Drop)]
@@ -29,11 +33,7 @@ pub struct SetupData<F, Com, PD> {
 }
 
 /// A prover's data over a configuration (`ProverData` of `p3-batch-stark`).
-pub type ProverData<SC> = SetupData<
-    Val<SC>,
-    Commitment<SC>,
-    <<SC as StarkGenericConfig>::Pcs as Pcs<Challenge<SC>, Challenger<SC>>>::ProverData,
->;
+pub type ProverData<SC> = SetupData<Val<SC>, Commitment<SC>, Committed<SC>>;
 
 impl<PD> KeptData<PD> {
     /// The data where no table has a preprocessed trace (`ProverOnlyData::empty`).

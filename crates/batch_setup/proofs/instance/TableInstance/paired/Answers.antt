@@ -1,4 +1,4 @@
-use Rattle.std.proofs.Common.{◌≡◌, ◌+◌, ◌<◌, List, [], ◌∷◌, ◌++◌, length, map, drop, Vec, Global, append_assoc, sym, ◌∙◌, ap, arith}
+use Rattle.std.proofs.Common.{◌+◌, ◌<◌, List, [], ◌∷◌, ◌++◌, length, map, drop, Vec, Global, append_assoc, sym, ◌∙◌, ap, arith}
 use Rattle.batch_setup.specs.Setup.{Instance, instances_of}
 use Rattle.batch_setup.proofs.Instances.{next}
 use Rattle.batch_setup.proofs.instance.TableInstance.paired.Goals as goal
