@@ -22,8 +22,9 @@ pub use batch_prover_folder::{
     ProverConstraintFolderWithLookups, ProverFolderWithLookups, prover_fold_with_lookups,
 };
 pub use batch_setup::{
-    KeptData, ProverData, ProverOnlyData, ProverPhase, SetupData, SetupError, StarkInstance,
-    TableInstance,
+    Committed, KeptData, ProverData, ProverOnlyData, ProverPhase, SetupData, SetupError,
+    StarkInstance, TableInstance, prover_data_from_airs_and_degrees,
+    prover_data_from_airs_and_degrees_with_lookup_budgets,
 };
 pub use batch_statement::{
     BatchCommitments, BatchOpenedValues, BatchProof, BatchVerificationError, CommonData,
