@@ -1,0 +1,4 @@
+pub mod Wheel
+pub mod Words
+pub mod Tool
+pub mod Laws
