@@ -1,6 +1,7 @@
 -- What a prover of a batch is given. After Plonky3's p3-batch-stark (StarkInstance).
-use Rattle.std.specs.Prelude.{◌≡◌, List, [], ◌∷◌, length}
-use Rattle.p3_matrix.specs.Matrix.{Rows}
+use Rattle.std.specs.Int.{IsPowerOfTwo}
+use Rattle.std.specs.Prelude.{◌≡◌, ℕ, zero, suc, ◌+◌, ◌^◌, cond, nat_lt, List, [], ◌∷◌, All, length, map}
+use Rattle.p3_matrix.specs.Matrix.{Rows, height}
 use Rattle.batch_setup.specs.declared.error.SetupError.{SetupError}
 use Rattle.batch_setup.specs.declared.error.SetupError.TheVariants.{LengthMismatch, PreprocessedHeight, Pcs, LookupBudget, OutOfMemory}
 
@@ -29,3 +30,24 @@ IsMismatch airs traces publics (PreprocessedHeight instance) = ⊥
 IsMismatch airs traces publics (Pcs phase source) = ⊥
 IsMismatch airs traces publics (LookupBudget instance log_chunks log_blowup) = ⊥
 IsMismatch airs traces publics OutOfMemory = Unit {0}
+
+-- the AIRs of instances, in order
+abbrev pub airs_of : {A F : Type 0} → List (Instance A F) → List A
+airs_of instances = map (λ i. i.air) instances
+
+-- the height of each instance's trace is a power of two
+abbrev pub ArePowers : {A F : Type 0} → List (Instance A F) → Type 0
+ArePowers instances = All (λ i. IsPowerOfTwo (height i.trace)) instances
+
+-- how many of the first k powers of two are below n
+unfoldable pub powers_below : (k n : ℕ) → ℕ
+powers_below zero n = 0
+powers_below (suc k) n = powers_below k n + cond (nat_lt (2 ^ k) n) 1 0
+
+-- the logarithm of a power of two: how many powers of two are below it
+unfoldable pub log_of : ℕ → ℕ
+log_of n = powers_below n n
+
+-- the degree bits of instances: the logarithm of each trace's height, and one more where the backend masks
+abbrev pub bits_of : {A F : Type 0} → (masks : ℕ) → List (Instance A F) → List ℕ
+bits_of masks instances = map (λ i. log_of (height i.trace) + masks) instances

@@ -1,10 +1,13 @@
 //! The instances of a batch.
-ghost use Rattle.std.specs.Prelude.{◌≡◌, length, map, IfOk, MatchResult};
-ghost use Rattle.batch_setup.specs.Setup.{instances_of, HaveOneLength, IsMismatch};
+ghost use Rattle.std.specs.Int.{IsPowerOfTwo};
+ghost use Rattle.std.specs.Prelude.{◌≡◌, ◌+◌, ◌≤◌, length, map, IfOk, MatchResult};
+ghost use Rattle.p3_matrix.specs.Matrix.{height};
+ghost use Rattle.batch_setup.specs.Setup.{instances_of, airs_of, bits_of, log_of, ArePowers, HaveOneLength, IsMismatch};
 
 use crate::error::SetupError;
+use crate::lent::LentAir;
 use p3_field::{Field, FieldCore, Mem, RingCore};
-use p3_matrix::RowMajorMatrix;
+use p3_matrix::{RowMajorMatrix, log2_strict_usize};
 use p3_uni_stark::{StarkGenericConfig, Val};
 use std::alloc::Global;
 use std::marker::Model;
@@ -87,4 +90,44 @@ impl<'a, F: Field, A> TableInstance<'a, F, A> {
         let instances = TableInstance::paired(alloc, airs, traces, public_values)?;
         Ok(instances)
     }
+}
+
+// The AIRs of instances, lent, in order.
+pub(crate) fn lent_airs<'a, F, A>(
+    alloc: Global,
+    instances: &[TableInstance<'a, F, A>],
+) -> Mem<Vec<LentAir<'a, A>>>
+    ensures { IfOk result (λ v. v.items ≡ airs_of instances.now) }
+{
+    let mut airs = Vec::with_capacity(alloc, instances.len())?;
+    for instance in instances {
+        airs.push(LentAir::new(instance.air))?;
+    }
+    Ok(airs)
+}
+
+// The degree bits of a trace: the logarithm of its height, and what masking adds.
+fn bits_of_trace<F>(trace: &RowMajorMatrix<F>, masks: usize) -> usize
+    requires masks { masks ≤ 1 }
+    requires power { IsPowerOfTwo (height trace.now) }
+    ensures { result ≡ log_of (height trace.now) + masks }
+{
+    log2_strict_usize(trace.height()) + masks
+}
+
+// The degree bits of instances, in order.
+pub(crate) fn degree_bits<F, A>(
+    alloc: Global,
+    instances: &[TableInstance<F, A>],
+    masks: usize,
+) -> Mem<Vec<usize>>
+    requires masks { masks ≤ 1 }
+    requires powers { ArePowers instances.now }
+    ensures { IfOk result (λ v. v.items ≡ bits_of masks instances.now) }
+{
+    let mut bits = Vec::with_capacity(alloc, instances.len())?;
+    for instance in instances {
+        bits.push(bits_of_trace(instance.trace, masks))?;
+    }
+    Ok(bits)
 }

@@ -8,6 +8,7 @@
 
 mod error;
 mod instance;
+mod lent;
 mod lookups;
 mod powers;
 mod preprocessed;
@@ -17,6 +18,3 @@ mod setup;
 pub use error::{ProverPhase, SetupError};
 pub use instance::{StarkInstance, TableInstance};
 pub use prover_data::{Committed, KeptData, ProverData, ProverOnlyData, SetupData};
-pub use setup::{
-    prover_data_from_airs_and_degrees, prover_data_from_airs_and_degrees_with_lookup_budgets,
-};

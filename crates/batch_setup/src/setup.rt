@@ -9,10 +9,12 @@ ghost use Rattle.p3_lookup.specs.Written.{read_all};
 ghost use Rattle.batch_statement.specs.Statement.{WellFormed, read_common};
 ghost use Rattle.batch_setup.specs.Packed.{source_of, packed_at};
 ghost use Rattle.batch_setup.specs.Preprocessed.{committed_below, entry_at, IsPrepared};
+ghost use Rattle.batch_setup.specs.Setup.{airs_of, bits_of, ArePowers};
 ghost use Rattle.batch_setup.specs.SetupChecks.{degree_checks, length_checks, trace_checks, table_checks, AreBounded};
 ghost use Rattle.batch_setup.specs.Verdict.{IsSetUp};
 
 use crate::error::SetupError;
+use crate::instance::{StarkInstance, degree_bits, lent_airs};
 use crate::lookups::batch_lookups;
 use crate::preprocessed::prepared;
 use crate::prover_data::{KeptData, ProverData, SetupData};
@@ -86,86 +88,117 @@ fn tables_data<SC: StarkGenericConfig, A: Air<Val<SC>>>(
     })
 }
 
-/// The prover's data of AIRs (`ProverData::from_airs_and_degrees_with_lookup_budgets` of `p3-batch-stark`): the lookups of each
-/// AIR, packed within the larger of its table's free budget and of the one that is asked for, and one commitment to the
-/// AIRs' preprocessed traces, in order, each on the natural domain of its extended degree. Where no AIR has one there is no
-/// commitment. `trace_ext_degree_bits` has for each AIR the logarithm of its table's height, and one more where the backend
-/// masks; `log_blowup` is the logarithm of the backend's blowup. The data is well-formed.
-///
-/// The degree bits lie in the backend's bounds, and the tuples that the AIRs send on one bus have one width. The answer is, the
-/// first in this order:
-///
-/// - `LengthMismatch` exactly where the lists differ in their lengths;
-/// - `PreprocessedHeight` for the first preprocessed trace with another height than its table;
-/// - `Pcs` where the backend refuses the commitment;
-/// - `LookupBudget` for the first budget above the free one whose packed lookups give more chunks, with masking, than the
-///   backend's blowup. Its `log_chunks` is the logarithm of that number, and stops at the greatest `usize`.
-///
-/// A budget of at most the free one leaves the number of chunks as it is without packing (`packing_keeps_the_chunks` of
-/// `batch_constraints`).
-pub fn prover_data_from_airs_and_degrees_with_lookup_budgets<
-    SC: StarkGenericConfig,
-    A: Air<Val<SC>>,
->(
-    alloc: Global,
-    config: &SC,
-    airs: &[A],
-    trace_ext_degree_bits: &[usize],
-    lookup_budget_overrides: &[usize],
-    log_blowup: usize,
-) -> Result<ProverData<SC>, SetupError<PcsProverError<SC>>>
-    requires bits { AreBounded (SC.Pcs.log_min (SC.pcs_of config.now) + cond SC.Pcs.ZK 1 0) (SC.Pcs.log_max (SC.pcs_of config.now)) trace_ext_degree_bits.now }
-    requires widths { HaveOneWidth (flat_map (λ a. lookups_of (A.interactions a)) airs.now) }
-    ensures verdict { let sources = map (source_of A.declaration A.trees A.interactions) airs.now in
-        IsSetUp (length_checks (length airs.now) (length trace_ext_degree_bits.now) (length lookup_budget_overrides.now)
-        ++ table_checks SC.Val.ring (cond SC.Pcs.ZK 1 0) log_blowup (SC.Pcs.commit_fault (SC.pcs_of config.now)) sources trace_ext_degree_bits.now lookup_budget_overrides.now (length airs.now)) result }
-    ensures lookups { let sources = map (source_of A.declaration A.trees A.interactions) airs.now in
-        IfOk result (λ d. map read_all d.common.lookups ≡ table (length airs.now) (packed_at SC.Val.ring (cond SC.Pcs.ZK 1 0) sources trace_ext_degree_bits.now lookup_budget_overrides.now)) }
-    ensures preprocessed { let sources = map (source_of A.declaration A.trees A.interactions) airs.now in
-        IfOk result (λ d. IsPrepared (λ es p. IsCommitment SC.Val.ring ⟦<<SC::Pcs as Pcs<SC::Challenge, SC::Challenger>>::Domain as PolynomialSpace>⟧.points ⟦<<SC::Pcs as Pcs<SC::Challenge, SC::Challenger>>::Domain as PolynomialSpace>⟧.point_at (SC.Pcs.commits (SC.pcs_of config.now)) (SC.Pcs.made (SC.pcs_of config.now)) (SC.Pcs.holds (SC.pcs_of config.now)) es p)
-        (table (length airs.now) (entry_at SC.Val.ring.one sources trace_ext_degree_bits.now)) (committed_below SC.Val.ring.one sources trace_ext_degree_bits.now (length airs.now)) d.common.preprocessed d.prover_only.preprocessed_prover_data) }
-    ensures formed { IfOk result (λ d. WellFormed (map A.declaration airs.now) (read_common d.common)) }
-{
-    check_lengths(airs, trace_ext_degree_bits, lookup_budget_overrides)?;
-    let masks = config.is_zk();
-    tables_data(
-        alloc,
-        config,
-        airs,
-        trace_ext_degree_bits,
-        lookup_budget_overrides,
-        masks,
-        log_blowup,
-    )
-}
+impl<F, Com, PD> SetupData<F, Com, PD> {
+    /// The prover's data of AIRs (`ProverData::from_airs_and_degrees_with_lookup_budgets` of `p3-batch-stark`): the lookups of
+    /// each AIR, packed within the larger of its table's free budget and of the one that is asked for, and one commitment to
+    /// the AIRs' preprocessed traces, in order, each on the natural domain of its extended degree. Where no AIR has one there
+    /// is no commitment. `trace_ext_degree_bits` has for each AIR the logarithm of its table's height, and one more where the
+    /// backend masks; `log_blowup` is the logarithm of the backend's blowup. The data is well-formed.
+    ///
+    /// The degree bits lie in the backend's bounds, and the tuples that the AIRs send on one bus have one width. The answer is,
+    /// the first in this order:
+    ///
+    /// - `LengthMismatch` exactly where the lists differ in their lengths;
+    /// - `PreprocessedHeight` for the first preprocessed trace with another height than its table;
+    /// - `Pcs` where the backend refuses the commitment;
+    /// - `LookupBudget` for the first budget above the free one whose packed lookups give more chunks, with masking, than the
+    ///   backend's blowup. Its `log_chunks` is the logarithm of that number, and stops at the greatest `usize`.
+    ///
+    /// A budget of at most the free one leaves the number of chunks as it is without packing (`packing_keeps_the_chunks` of
+    /// `batch_constraints`).
+    pub fn from_airs_and_degrees_with_lookup_budgets<SC: StarkGenericConfig, A: Air<Val<SC>>>(
+        alloc: Global,
+        config: &SC,
+        airs: &[A],
+        trace_ext_degree_bits: &[usize],
+        lookup_budget_overrides: &[usize],
+        log_blowup: usize,
+    ) -> Result<ProverData<SC>, SetupError<PcsProverError<SC>>>
+        requires bits { AreBounded (SC.Pcs.log_min (SC.pcs_of config.now) + cond SC.Pcs.ZK 1 0) (SC.Pcs.log_max (SC.pcs_of config.now)) trace_ext_degree_bits.now }
+        requires widths { HaveOneWidth (flat_map (λ a. lookups_of (A.interactions a)) airs.now) }
+        ensures verdict { let sources = map (source_of A.declaration A.trees A.interactions) airs.now in
+            IsSetUp (length_checks (length airs.now) (length trace_ext_degree_bits.now) (length lookup_budget_overrides.now)
+            ++ table_checks SC.Val.ring (cond SC.Pcs.ZK 1 0) log_blowup (SC.Pcs.commit_fault (SC.pcs_of config.now)) sources trace_ext_degree_bits.now lookup_budget_overrides.now (length airs.now)) result }
+        ensures lookups { let sources = map (source_of A.declaration A.trees A.interactions) airs.now in
+            IfOk result (λ d. map read_all d.common.lookups ≡ table (length airs.now) (packed_at SC.Val.ring (cond SC.Pcs.ZK 1 0) sources trace_ext_degree_bits.now lookup_budget_overrides.now)) }
+        ensures preprocessed { let sources = map (source_of A.declaration A.trees A.interactions) airs.now in
+            IfOk result (λ d. IsPrepared (λ es p. IsCommitment SC.Val.ring ⟦<<SC::Pcs as Pcs<SC::Challenge, SC::Challenger>>::Domain as PolynomialSpace>⟧.points ⟦<<SC::Pcs as Pcs<SC::Challenge, SC::Challenger>>::Domain as PolynomialSpace>⟧.point_at (SC.Pcs.commits (SC.pcs_of config.now)) (SC.Pcs.made (SC.pcs_of config.now)) (SC.Pcs.holds (SC.pcs_of config.now)) es p)
+            (table (length airs.now) (entry_at SC.Val.ring.one sources trace_ext_degree_bits.now)) (committed_below SC.Val.ring.one sources trace_ext_degree_bits.now (length airs.now)) d.common.preprocessed d.prover_only.preprocessed_prover_data) }
+        ensures formed { IfOk result (λ d. WellFormed (map A.declaration airs.now) (read_common d.common)) }
+    {
+        check_lengths(airs, trace_ext_degree_bits, lookup_budget_overrides)?;
+        let masks = config.is_zk();
+        tables_data(
+            alloc,
+            config,
+            airs,
+            trace_ext_degree_bits,
+            lookup_budget_overrides,
+            masks,
+            log_blowup,
+        )
+    }
 
-/// The same without budgets that are asked for (`ProverData::from_airs_and_degrees` of `p3-batch-stark`): each table's lookups are
-/// packed within its free budget. The conditions are the same, and so are the answers, of which `LookupBudget` never comes.
-pub fn prover_data_from_airs_and_degrees<SC: StarkGenericConfig, A: Air<Val<SC>>>(
-    alloc: Global,
-    config: &SC,
-    airs: &[A],
-    trace_ext_degree_bits: &[usize],
-) -> Result<ProverData<SC>, SetupError<PcsProverError<SC>>>
-    requires bits { AreBounded (SC.Pcs.log_min (SC.pcs_of config.now) + cond SC.Pcs.ZK 1 0) (SC.Pcs.log_max (SC.pcs_of config.now)) trace_ext_degree_bits.now }
-    requires widths { HaveOneWidth (flat_map (λ a. lookups_of (A.interactions a)) airs.now) }
-    ensures verdict { let sources = map (source_of A.declaration A.trees A.interactions) airs.now in
-        IsSetUp (degree_checks (length airs.now) (length trace_ext_degree_bits.now)
-        ++ trace_checks SC.Val.ring.one (cond SC.Pcs.ZK 1 0) (SC.Pcs.commit_fault (SC.pcs_of config.now)) sources trace_ext_degree_bits.now (length airs.now)) result }
-    ensures lookups { let sources = map (source_of A.declaration A.trees A.interactions) airs.now in
-        IfOk result (λ d. map read_all d.common.lookups ≡ table (length airs.now) (packed_at SC.Val.ring (cond SC.Pcs.ZK 1 0) sources trace_ext_degree_bits.now (replicate (length airs.now) 0))) }
-    ensures preprocessed { let sources = map (source_of A.declaration A.trees A.interactions) airs.now in
-        IfOk result (λ d. IsPrepared (λ es p. IsCommitment SC.Val.ring ⟦<<SC::Pcs as Pcs<SC::Challenge, SC::Challenger>>::Domain as PolynomialSpace>⟧.points ⟦<<SC::Pcs as Pcs<SC::Challenge, SC::Challenger>>::Domain as PolynomialSpace>⟧.point_at (SC.Pcs.commits (SC.pcs_of config.now)) (SC.Pcs.made (SC.pcs_of config.now)) (SC.Pcs.holds (SC.pcs_of config.now)) es p)
-        (table (length airs.now) (entry_at SC.Val.ring.one sources trace_ext_degree_bits.now)) (committed_below SC.Val.ring.one sources trace_ext_degree_bits.now (length airs.now)) d.common.preprocessed d.prover_only.preprocessed_prover_data) }
-    ensures formed { IfOk result (λ d. WellFormed (map A.declaration airs.now) (read_common d.common)) }
-{
-    let budgets = zeros(alloc, airs.len())?;
-    prover_data_from_airs_and_degrees_with_lookup_budgets(
-        alloc,
-        config,
-        airs,
-        trace_ext_degree_bits,
-        &budgets,
-        usize::MAX,
-    )
+    /// The same without budgets that are asked for (`ProverData::from_airs_and_degrees` of `p3-batch-stark`): each table's
+    /// lookups are packed within its free budget. The conditions are the same, and so are the answers, of which `LookupBudget`
+    /// never comes.
+    pub fn from_airs_and_degrees<SC: StarkGenericConfig, A: Air<Val<SC>>>(
+        alloc: Global,
+        config: &SC,
+        airs: &[A],
+        trace_ext_degree_bits: &[usize],
+    ) -> Result<ProverData<SC>, SetupError<PcsProverError<SC>>>
+        requires bits { AreBounded (SC.Pcs.log_min (SC.pcs_of config.now) + cond SC.Pcs.ZK 1 0) (SC.Pcs.log_max (SC.pcs_of config.now)) trace_ext_degree_bits.now }
+        requires widths { HaveOneWidth (flat_map (λ a. lookups_of (A.interactions a)) airs.now) }
+        ensures verdict { let sources = map (source_of A.declaration A.trees A.interactions) airs.now in
+            IsSetUp (degree_checks (length airs.now) (length trace_ext_degree_bits.now)
+            ++ trace_checks SC.Val.ring.one (cond SC.Pcs.ZK 1 0) (SC.Pcs.commit_fault (SC.pcs_of config.now)) sources trace_ext_degree_bits.now (length airs.now)) result }
+        ensures lookups { let sources = map (source_of A.declaration A.trees A.interactions) airs.now in
+            IfOk result (λ d. map read_all d.common.lookups ≡ table (length airs.now) (packed_at SC.Val.ring (cond SC.Pcs.ZK 1 0) sources trace_ext_degree_bits.now (replicate (length airs.now) 0))) }
+        ensures preprocessed { let sources = map (source_of A.declaration A.trees A.interactions) airs.now in
+            IfOk result (λ d. IsPrepared (λ es p. IsCommitment SC.Val.ring ⟦<<SC::Pcs as Pcs<SC::Challenge, SC::Challenger>>::Domain as PolynomialSpace>⟧.points ⟦<<SC::Pcs as Pcs<SC::Challenge, SC::Challenger>>::Domain as PolynomialSpace>⟧.point_at (SC.Pcs.commits (SC.pcs_of config.now)) (SC.Pcs.made (SC.pcs_of config.now)) (SC.Pcs.holds (SC.pcs_of config.now)) es p)
+            (table (length airs.now) (entry_at SC.Val.ring.one sources trace_ext_degree_bits.now)) (committed_below SC.Val.ring.one sources trace_ext_degree_bits.now (length airs.now)) d.common.preprocessed d.prover_only.preprocessed_prover_data) }
+        ensures formed { IfOk result (λ d. WellFormed (map A.declaration airs.now) (read_common d.common)) }
+    {
+        let budgets = zeros(alloc, airs.len())?;
+        Self::from_airs_and_degrees_with_lookup_budgets(
+            alloc,
+            config,
+            airs,
+            trace_ext_degree_bits,
+            &budgets,
+            usize::MAX,
+        )
+    }
+
+    /// The same of instances (`ProverData::from_instances` of `p3-batch-stark`): of their AIRs in order, each with the degree
+    /// bits of its trace, which are the logarithm of its height, and one more where the backend masks.
+    ///
+    /// Each trace's height is a power of two, the degree bits lie in the backend's bounds, and the tuples that the AIRs send on
+    /// one bus have one width. The answers are those above, of which `LengthMismatch` and `LookupBudget` never come.
+    pub fn from_instances<SC: StarkGenericConfig, A: Air<Val<SC>>>(
+        alloc: Global,
+        config: &SC,
+        instances: &[StarkInstance<'_, SC, A>],
+    ) -> Result<ProverData<SC>, SetupError<PcsProverError<SC>>>
+        requires powers { ArePowers instances.now }
+        requires bits { AreBounded (SC.Pcs.log_min (SC.pcs_of config.now) + cond SC.Pcs.ZK 1 0) (SC.Pcs.log_max (SC.pcs_of config.now)) (bits_of (cond SC.Pcs.ZK 1 0) instances.now) }
+        requires widths { HaveOneWidth (flat_map (λ a. lookups_of (A.interactions a)) (airs_of instances.now)) }
+        ensures verdict { let airs = airs_of instances.now in
+            let sources = map (source_of A.declaration A.trees A.interactions) airs in
+            IsSetUp (trace_checks SC.Val.ring.one (cond SC.Pcs.ZK 1 0) (SC.Pcs.commit_fault (SC.pcs_of config.now)) sources (bits_of (cond SC.Pcs.ZK 1 0) instances.now) (length airs)) result }
+        ensures lookups { let airs = airs_of instances.now in
+            let sources = map (source_of A.declaration A.trees A.interactions) airs in
+            IfOk result (λ d. map read_all d.common.lookups ≡ table (length airs) (packed_at SC.Val.ring (cond SC.Pcs.ZK 1 0) sources (bits_of (cond SC.Pcs.ZK 1 0) instances.now) (replicate (length airs) 0))) }
+        ensures preprocessed { let airs = airs_of instances.now in
+            let sources = map (source_of A.declaration A.trees A.interactions) airs in
+            let bits = bits_of (cond SC.Pcs.ZK 1 0) instances.now in
+            IfOk result (λ d. IsPrepared (λ es p. IsCommitment SC.Val.ring ⟦<<SC::Pcs as Pcs<SC::Challenge, SC::Challenger>>::Domain as PolynomialSpace>⟧.points ⟦<<SC::Pcs as Pcs<SC::Challenge, SC::Challenger>>::Domain as PolynomialSpace>⟧.point_at (SC.Pcs.commits (SC.pcs_of config.now)) (SC.Pcs.made (SC.pcs_of config.now)) (SC.Pcs.holds (SC.pcs_of config.now)) es p)
+            (table (length airs) (entry_at SC.Val.ring.one sources bits)) (committed_below SC.Val.ring.one sources bits (length airs)) d.common.preprocessed d.prover_only.preprocessed_prover_data) }
+        ensures formed { IfOk result (λ d. WellFormed (map A.declaration (airs_of instances.now)) (read_common d.common)) }
+    {
+        let airs = lent_airs(alloc, instances)?;
+        let bits = degree_bits(alloc, instances, config.is_zk())?;
+        Self::from_airs_and_degrees(alloc, config, &airs, &bits)
+    }
 }

@@ -54,6 +54,9 @@ fn instances_are_in_order(rt: HostRuntime) -> Result<(), Fail> {
 fn empty_data(rt: HostRuntime) -> Result<(), Fail> {
     let data: SetupData<BabyBear, u8, u8> = SetupData::empty(rt.alloc(), 2)?;
     assert_eq!(rt; data.common.lookups.len(), 2);
+    for lookups in &data.common.lookups {
+        assert!(rt; lookups.as_slice().is_empty());
+    }
     assert!(rt; data.common.preprocessed.is_none());
     assert!(rt; data.prover_only.preprocessed_prover_data.is_none());
     let kept: KeptData<u8> = KeptData::empty();

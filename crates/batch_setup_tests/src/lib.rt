@@ -2,4 +2,10 @@
 #![tactic(auto)]
 
 #[cfg(test)]
+mod budgets;
+#[cfg(test)]
 mod instances;
+#[cfg(test)]
+mod setting;
+#[cfg(test)]
+mod wheels;

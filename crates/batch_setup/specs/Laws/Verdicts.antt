@@ -73,3 +73,14 @@ answer_without {E = E} xs zs ys us (Err e) f n none v = refusal_along (xs ++ (ys
         | inr last ↦ absurd (none_first us d none last.1)
       ]
     ]
+
+-- where the first checks never fail, the others decide
+pub answer_behind : {T E : Type 0} (xs ys : List (Check (SetupError E))) (r : Result T (SetupError E)) → NoneFails xs → IsSetUp (xs ++ ys) r → IsSetUp ys r
+answer_behind xs ys (Ok t) none v = none_behind xs ys v
+answer_behind {E = E} xs ys (Err e) none v = refusal_along (xs ++ ys) ys e later v
+  where
+    later : (d : SetupError E) → FirstFails (xs ++ ys) d → FirstFails ys d
+    later d g = elim (first_parted xs ys d g) [
+      | inl here ↦ absurd (none_first xs d none here)
+      | inr behind ↦ behind.1
+    ]

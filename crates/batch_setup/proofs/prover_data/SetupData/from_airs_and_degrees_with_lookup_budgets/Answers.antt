@@ -1,4 +1,4 @@
-use Rattle.std.proofs.Common.{◌≡◌, ◌<◌, ◌≤◌, Bool, true, false, cond, ◌++◌, length, map, sym, subst, arith}
+use Rattle.std.proofs.Common.{◌≡◌, ◌<◌, ◌≤◌, ◌++◌, length, map, sym, subst, arith}
 use Rattle.std.specs.Prelude.{IfOk}
 use Rattle.p3_field.specs.Laws.Checks.{holds_alone}
 use Rattle.p3_field.specs.Poly.{table}
@@ -7,11 +7,8 @@ use Rattle.batch_setup.specs.Packed.{source_of, packed_at}
 use Rattle.batch_setup.specs.SetupChecks.{length_checks, table_checks}
 use Rattle.batch_setup.specs.Verdict.{IsSetUp}
 use Rattle.batch_setup.specs.Laws.Verdicts.{exits, refused_before, answer_after}
-use Rattle.batch_setup.proofs.setup.prover_data_from_airs_and_degrees_with_lookup_budgets.Goals as goal
-
-cond_small : (b : Bool) → cond b 1 0 ≤ 1
-cond_small true = omega arith
-cond_small false = omega arith
+use Rattle.batch_setup.proofs.Masks.{mask_small}
+use Rattle.batch_setup.proofs.prover_data.SetupData.from_airs_and_degrees_with_lookup_budgets.Goals as goal
 
 pub returns-in_err-check_lengths-clause-verdict : goal.returns-in_err-check_lengths-clause-verdict
 returns-in_err-check_lengths-clause-verdict g c = exits _ _ _ c.from_residual.ensures.1 (refused_before _ _ _ c.in_err-check_lengths.ensures)
@@ -23,7 +20,7 @@ pub tables_data-requires-clause-budgets : goal.tables_data-requires-clause-budge
 tables_data-requires-clause-budgets g c = (holds_alone _ c.in_ok-check_lengths.ensures).1
 
 pub tables_data-requires-clause-masks : goal.tables_data-requires-clause-masks
-tables_data-requires-clause-masks g c = subst (λ m. m ≤ 1) (sym c.is_zk-masks.ensures) (cond_small g.SC-Pcs-UnivariateStarkPcs.ZK)
+tables_data-requires-clause-masks g c = subst (λ m. m ≤ 1) (sym c.is_zk-masks.ensures) (mask_small g.SC-Pcs-UnivariateStarkPcs.ZK)
 
 pub tables_data-requires-clause-masked : goal.tables_data-requires-clause-masked
 tables_data-requires-clause-masked g c = λ i lt.

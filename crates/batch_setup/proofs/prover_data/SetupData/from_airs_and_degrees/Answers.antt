@@ -10,7 +10,7 @@ use Rattle.batch_setup.specs.Verdict.{IsSetUp}
 use Rattle.batch_setup.specs.Laws.Verdicts.{answer_without, first_same, none_same}
 use Rattle.batch_setup.specs.declared.error.SetupError.TheVariants.{LengthMismatch}
 use Rattle.batch_setup.proofs.Zeros.{zeros_never_fail}
-use Rattle.batch_setup.proofs.setup.prover_data_from_airs_and_degrees.Goals as goal
+use Rattle.batch_setup.proofs.prover_data.SetupData.from_airs_and_degrees.Goals as goal
 
 pub returns-clause-verdict : goal.returns-clause-verdict
 returns-clause-verdict g c =
@@ -20,11 +20,11 @@ returns-clause-verdict g c =
     let bits = a.trace_ext_degree_bits.now in
     let r = g.SC.Val.RingCore.ring in
     let z = cond g.SC-Pcs-UnivariateStarkPcs.ZK 1 0 in
-    let made = c.prover_data_from_airs_and_degrees_with_lookup_budgets.result in
+    let made = c.from_airs_and_degrees_with_lookup_budgets.result in
     let sources = map (source_of g.A.BaseAir.declaration g.A.Air.trees g.A.Air.interactions) a.airs.now in
     let fault = g.SC-Pcs-Pcs.commit_fault (g.SC.StarkGenericConfig.pcs_of a.config.now) in
     let verdict = subst (λ xs. IsSetUp (length_checks n b (length xs) ++ table_checks r z (2 ^ 64 - 1) fault sources bits xs n) made) (c.deref.ensures.value ∙ c.in_ok-budgets.ensures)
-    c.prover_data_from_airs_and_degrees_with_lookup_budgets.ensures.verdict in
+    c.from_airs_and_degrees_with_lookup_budgets.ensures.verdict in
     answer_without (length_checks n b (length (replicate n 0))) (degree_checks n b) (trace_checks r.one z fault sources bits n) (in_turn n (budget_at r z (2 ^ 64 - 1) sources bits (replicate n 0))) made
     (first_same LengthMismatch ((b ≡ n) × (length (replicate n 0) ≡ n)) (b ≡ n) (λ q. (q, length-replicate n 0)))
     (none_same LengthMismatch ((b ≡ n) × (length (replicate n 0) ≡ n)) (b ≡ n) (λ p. p.0))
@@ -34,5 +34,5 @@ pub returns-clause-lookups : goal.returns-clause-lookups
 returns-clause-lookups g c =
     let a = c.args in
     let sources = map (source_of g.A.BaseAir.declaration g.A.Air.trees g.A.Air.interactions) a.airs.now in
-    subst (λ xs. IfOk c.prover_data_from_airs_and_degrees_with_lookup_budgets.result (λ d. map read_all d.common.lookups ≡ table (length a.airs.now) (packed_at g.SC.Val.RingCore.ring (cond g.SC-Pcs-UnivariateStarkPcs.ZK 1 0) sources a.trace_ext_degree_bits.now xs)))
-    (c.deref.ensures.value ∙ c.in_ok-budgets.ensures) c.prover_data_from_airs_and_degrees_with_lookup_budgets.ensures.lookups
+    subst (λ xs. IfOk c.from_airs_and_degrees_with_lookup_budgets.result (λ d. map read_all d.common.lookups ≡ table (length a.airs.now) (packed_at g.SC.Val.RingCore.ring (cond g.SC-Pcs-UnivariateStarkPcs.ZK 1 0) sources a.trace_ext_degree_bits.now xs)))
+    (c.deref.ensures.value ∙ c.in_ok-budgets.ensures) c.from_airs_and_degrees_with_lookup_budgets.ensures.lookups
