@@ -1,13 +1,13 @@
 //! All checks of a proof's shape.
-ghost use Rattle.std.specs.Prelude.{◌≡◌, ℕ, ◌+◌, ◌^◌, ◌<◌, ◌≤◌, length, map, IfOk};
+ghost use Rattle.std.specs.Prelude.{◌≡◌, ℕ, ◌+◌, ◌^◌, ◌<◌, ◌≤◌, length, map, IfOk, IfErr};
 ghost use Rattle.std.specs.Prelude.{slice_index_or as get_or};
-ghost use Rattle.p3_field.specs.Checks.{in_turn};
+ghost use Rattle.p3_field.specs.Checks.{NoneFails, in_turn};
 ghost use Rattle.p3_field.specs.Poly.{table};
 ghost use Rattle.p3_lookup.specs.Bus.{bus_count, batch_buses};
 ghost use Rattle.p3_lookup.specs.Written.{read_all};
 ghost use Rattle.batch_constraints.specs.BatchTrees.{AreLookupsOf};
 ghost use Rattle.batch_statement.specs.Statement.{Statement, WellFormed, read_common, tables_of};
-ghost use Rattle.batch_shape_checks.specs.ShapeChecks.{AreCounted, bound_part, bounds_with, chunks_at, opened_by, shape_checks, size_part, stated};
+ghost use Rattle.batch_shape_checks.specs.ShapeChecks.{AreCounted, bound_part, bounds_with, chunks_at, count_checks, opened_by, shape_checks, size_part, stated};
 ghost use Rattle.batch_shape_checks.specs.Verdict.{IsDecided, IsVerdict};
 
 use crate::bounds::check_bounds;
@@ -107,7 +107,7 @@ fn batch_opened<F: PrimeField64, A: Air<F>, E, Com, Opening, R>(
 /// All checks of a proof's shape, in the order of `shape_checks`: the counts and what is random, each table's degree bits and
 /// number of chunks, the bound on each bus, what is opened of each table, the presence of permutation columns. The answer is
 /// the refusal of the first that fails; where none does, for each table the logarithm of the number of its quotient's chunks
-/// before masking.
+/// before masking. Out of memory comes only where the counts are right, and what is random is there as it has to be (`memory`).
 ///
 /// The common data is well-formed for the AIRs. `masks` is at most one and at most `least`, and `most` is below 64.
 pub fn check_shape<F: PrimeField64, A: Air<F>, E, Com, Opening, R>(
@@ -124,6 +124,7 @@ pub fn check_shape<F: PrimeField64, A: Air<F>, E, Com, Opening, R>(
     requires formed { WellFormed (map A.declaration airs.now) (read_common common.now) }
     ensures verdict { IsVerdict (shape_checks F.ring (bounds_with F.ORDER_U64 bounds) (stated (tables_of A.declaration A.trees airs.now) (map (λ v. v.items) public_values.now) common.now) proof.now) result }
     ensures chunks { IfOk result (λ v. v.items ≡ table (length airs.now) (chunks_at F.ring bounds.masks (tables_of A.declaration A.trees airs.now) (map read_all common.now.lookups) proof.now.degree_bits)) }
+    ensures memory { IfErr result (λ e. e ≡ BatchVerificationError.OutOfMemory → NoneFails (count_checks {R = R} bounds.zk (stated (tables_of A.declaration A.trees airs.now) (map (λ v. v.items) public_values.now) common.now) proof.now)) }
 {
     check_counts(airs, public_values, common, proof, bounds.zk)?;
     let chunks = batch_sizes(alloc, airs, public_values, common, proof, bounds)?;

@@ -1,5 +1,5 @@
 -- The checks of a proof's shape, part by part.
-use Rattle.std.proofs.Common.{◌≡◌, ℕ, ◌+◌, ◌^◌, ◌<◌, ◌≤◌, List, [], ◌++◌, Result, Ok, Err, length, get_or, map, refl, sym, ◌∙◌, ap, subst, arith}
+use Rattle.std.proofs.Common.{◌≡◌, ℕ, ◌+◌, ◌^◌, ◌<◌, ◌≤◌, List, [], ◌++◌, Result, Ok, Err, length, get_or, map, refl, sym, ◌∙◌, ap, subst, inl, inr, arith}
 use Rattle.p3_field.specs.Ring.{Ring}
 use Rattle.p3_field.specs.Poly.{table}
 use Rattle.p3_field.specs.Laws.Tables.{get_or-table, length-table}
@@ -13,7 +13,7 @@ use Rattle.p3_lookup.specs.declared.terminal.LookupError.TheVariants.{Multiplici
 use Rattle.batch_statement.specs.Proof.{ProofData}
 use Rattle.batch_statement.specs.Statement.{Statement}
 use Rattle.batch_statement.specs.declared.error.BatchVerificationError.{BatchVerificationError}
-use Rattle.batch_statement.specs.declared.error.BatchVerificationError.TheVariants.{Lookup}
+use Rattle.batch_statement.specs.declared.error.BatchVerificationError.TheVariants.{Lookup, OutOfMemory}
 use Rattle.batch_shape_checks.specs.ShapeChecks.{Bounds, AreCounted, count_checks, permutation_check, sizes_at, chunks_at, heights_of, bound_at, opened_at, opened_by, opened_checks, size_part, bound_part, opened_part, shape_checks}
 use Rattle.batch_shape_checks.specs.Verdict.{IsVerdict, IsRefusal}
 use Rattle.batch_shape_checks.specs.Laws.Verdicts.{first_of_five, second_of_five, third_of_five, fourth_of_five, last_of_five, turns_agree}
@@ -22,6 +22,14 @@ use Rattle.batch_shape_checks.specs.Laws.Verdicts.{first_of_five, second_of_five
 pub counted : {F E C P : Type 0} (R : Type 0) (zk : _) (s : Statement F C) (p : ProofData F E C P) → NoneFails (count_checks {R = R} zk s p) → AreCounted s p
 unfolding NoneFails
 counted R zk s p h = h.0
+
+-- whose refusal is never out of memory
+pub counts_named : {F E C P R : Type 0} (zk : _) (s : Statement F C) (p : ProofData F E C P) (e : BatchVerificationError R) → FirstFails (count_checks zk s p) e → e ≡ OutOfMemory → ⊥
+unfolding FirstFails
+counts_named zk s p e v m = elim v [
+  | inl t ↦ elim t.1 [ inl u ↦ absurd u.1 | inr u ↦ let r = u.1 in cc ]
+  | inr t ↦ let r = t.1 in cc
+]
 
 -- degree bits and a number of chunks that were found to fit
 pub bits_fit : {F : Type 0} (R : Type 0) (f : Ring F) (least most masks : ℕ) (tables : _) (lookups : List (List (LookupData F))) (degree_bits : List ℕ) (n i : ℕ) → i < n

@@ -1,5 +1,5 @@
 -- Answers for lists of checks behind each other, and for checks in turn.
-use Rattle.std.proofs.Common.{◌≡◌, ℕ, zero, suc, ◌+◌, ◌<◌, List, [], ◌∷◌, ◌++◌, Result, Ok, Err, sym, subst, inl, inr, arith}
+use Rattle.std.proofs.Common.{◌≡◌, ℕ, zero, suc, ◌+◌, ◌<◌, List, [], ◌∷◌, ◌++◌, Result, Ok, Err, IfErr, sym, subst, inl, inr, arith}
 use Rattle.std.specs.Result.{IsErrAnd}
 use Rattle.std.proofs.lemmas.Bool.{cases_lt}
 use Rattle.p3_field.specs.Checks.{Check, NoneFails, FirstFails, in_turn}
@@ -17,6 +17,16 @@ pub exits : {T R : Type 0} (cs : List (Check (BatchVerificationError R))) (e : B
     → IsErrAnd r (λ y. y ≡ e) → IsRefusal cs e → IsVerdict cs r
 exits cs e (Err y) p v = subst (IsRefusal cs) (sym p) v
 exits cs e (Ok t) p v = absurd p
+
+-- what is known of that error
+pub exits_if : {T R : Type 0} (P : R → Type 0) (e : R) (r : Result T R) → IsErrAnd r (λ y. y ≡ e) → P e → IfErr r P
+exits_if P e (Err y) p h = subst P (sym p) h
+exits_if P e (Ok t) p h = absurd p
+
+-- what holds in any case is known of each error
+pub err_if : {T R P : Type 0} (Q : R → Type 0) (r : Result T R) → P → IfErr r (λ e. Q e → P)
+err_if Q (Err e) h = λ q. h
+err_if Q (Ok t) h = tt
 
 -- what is decided is refused, as where memory may run out
 pub refused : {R : Type 0} (cs : List (Check (BatchVerificationError R))) (e : BatchVerificationError R) → FirstFails cs e → IsRefusal cs e

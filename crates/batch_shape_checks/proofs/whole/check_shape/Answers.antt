@@ -6,8 +6,8 @@ use Rattle.p3_field.specs.Laws.Tables.{get_or-table, length-table}
 use Rattle.p3_lookup.specs.Written.{read_all}
 use Rattle.batch_statement.specs.Statement.{Table, tables_of}
 use Rattle.batch_shape_checks.specs.ShapeChecks.{bounds_with, chunks_at, opened_by, stated}
-use Rattle.batch_shape_checks.specs.Laws.Parts.{bits_fit, chunks_fit, counted, first_part, fourth_part, last_part, opened_agree, second_part, third_part}
-use Rattle.batch_shape_checks.specs.Laws.Verdicts.{exits, refused, verdict}
+use Rattle.batch_shape_checks.specs.Laws.Parts.{bits_fit, chunks_fit, counted, counts_named, first_part, fourth_part, last_part, opened_agree, second_part, third_part}
+use Rattle.batch_shape_checks.specs.Laws.Verdicts.{exits, exits_if, refused, verdict}
 use Rattle.batch_shape_checks.proofs.whole.check_shape.Goals as goal
 
 pub returns-in_err-check_counts-clause-verdict : goal.returns-in_err-check_counts-clause-verdict
@@ -126,3 +126,19 @@ returns-clause-verdict g c =
     last_part f b s p {T = Unit {0}} (Ok tt) c.in_ok-check_counts.ensures c.in_ok-chunks.ensures.verdict c.in_ok-batch_bounds.ensures
     (subst NoneFails (opened_agree f m a.bounds.dimension s p c.deref.result.now found) (subst (λ k. NoneFails (in_turn k by)) (sym n) c.in_ok-batch_opened.ensures))
     c.in_ok-check_permutation.ensures
+
+pub returns-in_err-check_counts-clause-memory : goal.returns-in_err-check_counts-clause-memory
+returns-in_err-check_counts-clause-memory g c =
+    exits_if _ _ _ c.from_residual.ensures.1 (λ m. absurd (counts_named _ _ _ _ c.in_err-check_counts.ensures m))
+
+pub returns-in_err-chunks-clause-memory : goal.returns-in_err-chunks-clause-memory
+returns-in_err-chunks-clause-memory g c = exits_if _ _ _ c.from_residual-in_err-chunks.ensures.1 (λ m. c.in_ok-check_counts.ensures)
+
+pub returns-in_err-batch_bounds-clause-memory : goal.returns-in_err-batch_bounds-clause-memory
+returns-in_err-batch_bounds-clause-memory g c = exits_if _ _ _ c.from_residual-in_err-batch_bounds.ensures.1 (λ m. c.in_ok-check_counts.ensures)
+
+pub returns-in_err-batch_opened-clause-memory : goal.returns-in_err-batch_opened-clause-memory
+returns-in_err-batch_opened-clause-memory g c = exits_if _ _ _ c.from_residual-in_err-batch_opened.ensures.1 (λ m. c.in_ok-check_counts.ensures)
+
+pub returns-in_err-check_permutation-clause-memory : goal.returns-in_err-check_permutation-clause-memory
+returns-in_err-check_permutation-clause-memory g c = exits_if _ _ _ c.from_residual-in_err-check_permutation.ensures.1 (λ m. c.in_ok-check_counts.ensures)
