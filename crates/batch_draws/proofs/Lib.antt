@@ -1,0 +1,7 @@
+mod ScriptShape
+mod Fitting
+mod Laid
+mod Chains
+mod Refusals
+mod Decided
+mod HandedOut
