@@ -1,0 +1,5 @@
+pub mod Lists
+pub mod Parts
+pub mod Made
+pub mod Memory
+pub mod Rounds

@@ -1,0 +1,63 @@
+-- The rounds of claims behind each other.
+use Rattle.std.proofs.Common.{◌≡◌, ℕ, List, ◌++◌, Option, Some, length, sym, ◌∙◌, ap, subst}
+use Rattle.std.specs.List.{flat_map}
+use Rattle.p3_field.specs.Ring.{Ring}
+use Rattle.p3_field.specs.Poly.{table}
+use Rattle.p3_field.specs.Domain.{CosetData}
+use Rattle.p3_air.specs.Shape.{Declaration}
+use Rattle.p3_commit.specs.Claims.{CommitmentClaim}
+use Rattle.batch_statement.specs.declared.commitments.BatchCommitments.{BatchCommitments}
+use Rattle.batch_claims.specs.ClaimChecks.{AreSized}
+use Rattle.batch_setting.specs.Domains.{next_by}
+use Rattle.batch_claims.specs.Claims.{round, random_claim, main_claim, chunk_claims, matrix_claim, permutation_claims, claims_by}
+use Rattle.batch_statement.specs.Proof.{OpenedWithLookups}
+
+-- lists that grow by five
+pub five_joined : {X : Type 0} (a b c d e v w x y z : List X) → v ≡ a → w ≡ v ++ b → x ≡ w ++ c → y ≡ x ++ d → z ≡ y ++ e → z ≡ a ++ b ++ c ++ d ++ e
+five_joined a b c d e v w x y z p q r s t = t ∙ ap (λ l. l ++ e) (s ∙ ap (λ l. l ++ d) (r ∙ ap (λ l. l ++ c) (q ∙ ap (λ l. l ++ b) p)))
+
+-- all rounds, where the lists have these lengths
+pub rounds_are : {F E C : Type 0} (r : Ring F) (zeta : E) (after : ℕ → E) (masks : ℕ) (domains : List (List (CosetData F)))
+    (declarations : List (Declaration F)) (commitments : BatchCommitments C) (preprocessed : Option C) (matrices : List ℕ) (degree_bits : List ℕ) (instances : List (OpenedWithLookups E))
+    (m n k : ℕ) (v w x y z : List (CommitmentClaim E C (CosetData F)))
+    → m ≡ length declarations → n ≡ length declarations → k ≡ length declarations
+    → v ≡ round commitments.random (table m (random_claim r zeta degree_bits instances))
+    → w ≡ v ++ round (Some commitments.main) (table n (main_claim r zeta after declarations degree_bits instances))
+    → x ≡ w ++ round (Some commitments.quotient_chunks) (flat_map (chunk_claims r zeta masks domains instances) (table k (λ i. i)))
+    → y ≡ x ++ round preprocessed (table (length matrices) (matrix_claim r zeta after declarations degree_bits instances matrices))
+    → z ≡ y ++ round commitments.permutation (flat_map (permutation_claims r zeta after degree_bits instances) (table m (λ i. i)))
+    → z ≡ claims_by r zeta after masks domains declarations commitments preprocessed matrices degree_bits instances
+unfolding claims_by
+rounds_are r zeta after masks domains declarations commitments preprocessed matrices degree_bits instances m n k v w x y z a b c p q s t u =
+    five_joined
+    (round commitments.random (table (length declarations) (random_claim r zeta degree_bits instances)))
+    (round (Some commitments.main) (table (length declarations) (main_claim r zeta after declarations degree_bits instances)))
+    (round (Some commitments.quotient_chunks) (flat_map (chunk_claims r zeta masks domains instances) (table (length declarations) (λ i. i))))
+    (round preprocessed (table (length matrices) (matrix_claim r zeta after declarations degree_bits instances matrices)))
+    (round commitments.permutation (flat_map (permutation_claims r zeta after degree_bits instances) (table (length declarations) (λ i. i))))
+    v w x y z
+    (p ∙ ap (λ l. round commitments.random (table l (random_claim r zeta degree_bits instances))) a)
+    (q ∙ ap (λ l. v ++ round (Some commitments.main) (table l (main_claim r zeta after declarations degree_bits instances))) b)
+    (s ∙ ap (λ l. w ++ round (Some commitments.quotient_chunks) (flat_map (chunk_claims r zeta masks domains instances) (table l (λ i. i)))) c)
+    t
+    (u ∙ ap (λ l. y ++ round commitments.permutation (flat_map (permutation_claims r zeta after degree_bits instances) (table l (λ i. i)))) a)
+
+-- the same claims, of lists that are equal
+pub claims_agree : {F E C : Type 0} (r : Ring F) (zeta : E) (t : Ring E) (embed : F → E) (root : ℕ → F) (declarations : List (Declaration F)) (degree_bits : List ℕ)
+    (made : List (CommitmentClaim E C (CosetData F)))
+    (m n : ℕ) (d e : List (List (CosetData F))) (k l : BatchCommitments C) (s u : Option C) (x y : List ℕ) (v w : List (OpenedWithLookups E))
+    → m ≡ n → d ≡ e → k ≡ l → s ≡ u → x ≡ y → v ≡ w
+    → made ≡ claims_by r zeta (next_by t embed root m zeta) m d declarations k s x degree_bits v
+    → made ≡ claims_by r zeta (next_by t embed root n zeta) n e declarations l u y degree_bits w
+claims_agree r zeta t embed root declarations degree_bits made m n d e k l s u x y v w a b c f g h z =
+    z ∙ (λ i. claims_by r zeta (next_by t embed root (a i) zeta) (a i) (b i) declarations (c i) (f i) (g i) degree_bits (h i))
+
+-- what the checks leave, of lists that are equal
+pub sized_agree : {F E : Type 0} (two n : ℕ) (degree_bits : List ℕ) (a b : ℕ) (v w : List (OpenedWithLookups E)) (d e : List (List (CosetData F)))
+    → b ≡ a → w ≡ v → e ≡ d → AreSized a two n degree_bits v d → AreSized b two n degree_bits w e
+sized_agree two n degree_bits a b v w d e p q r z =
+    subst (λ k. AreSized k two n degree_bits w e) (sym p) (subst (λ k. AreSized a two n degree_bits k e) (sym q) (subst (λ k. AreSized a two n degree_bits v k) (sym r) z))
+
+-- a table of as many items
+pub table_until : {X : Type 0} (t : ℕ → X) (n m : ℕ) (d : List X) → n ≡ m → d ≡ table n t → d ≡ table m t
+table_until t n m d e h = h ∙ ap (λ k. table k t) e
