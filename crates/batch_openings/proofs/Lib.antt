@@ -1,0 +1,4 @@
+pub mod Thin
+pub mod Shaped
+pub mod Thinned
+pub mod Whole
