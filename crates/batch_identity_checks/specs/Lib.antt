@@ -1,0 +1,3 @@
+pub mod TableIdentity
+pub mod MadeRows
+pub mod Laws
