@@ -1,0 +1,4 @@
+-- What is proved of the definitions.
+pub mod Named
+pub mod Parts
+pub mod Singles

@@ -1,0 +1,2 @@
+pub mod BatchChecks
+pub mod Laws
