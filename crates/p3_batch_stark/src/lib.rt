@@ -8,10 +8,14 @@
 //! | the verifier's constraint folder | `batch_verifier_folder` |
 //! | the prover's constraint folder | `batch_prover_folder` |
 //! | common data, proofs, and why a proof is refused | `batch_statement` |
+//! | a configuration as plain data, which contracts speak of | `batch_setting` |
+//! | what a proof claims of its commitments | `batch_claims` |
 //! | the identity of one table at the drawn point | `batch_identity` |
+//! | whether a batch proof is accepted | `batch_verifier` |
 //! | instances, and the data that a prover is given | `batch_setup` |
 #![tactic(auto)]
 
+pub use batch_claims::{OpeningArgumentWithQuotientDomains, commitments_with_opening_points};
 pub use batch_constraints::{
     CheckFailure, check_constraints, get_constraint_layout, get_log_num_quotient_chunks,
     get_log_num_quotient_chunks_for_domain, get_max_constraint_degree, get_symbolic_constraints,
@@ -21,10 +25,10 @@ pub use batch_identity::{IdentityData, VerifierData};
 pub use batch_prover_folder::{
     ProverConstraintFolderWithLookups, ProverFolderWithLookups, prover_fold_with_lookups,
 };
+pub use batch_setting::Settings;
 pub use batch_setup::{
     Committed, KeptData, ProverData, ProverOnlyData, ProverPhase, SetupData, SetupError,
-    StarkInstance, TableInstance, prover_data_from_airs_and_degrees,
-    prover_data_from_airs_and_degrees_with_lookup_budgets,
+    StarkInstance, TableInstance,
 };
 pub use batch_statement::{
     BatchCommitments, BatchOpenedValues, BatchProof, BatchVerificationError, CommonData,
@@ -35,6 +39,7 @@ pub use batch_transcript::{
     BatchChallenger, BatchProverTranscript, BatchShape, BatchTranscriptFailure,
     BatchVerifierTranscript, GrindStep, TranscriptError,
 };
+pub use batch_verifier::verify_batch;
 pub use batch_verifier_folder::{
     VerifierConstraintFolderWithLookups, VerifierFolderWithLookups, verifier_fold_with_lookups,
 };
