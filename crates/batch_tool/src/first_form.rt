@@ -11,9 +11,9 @@ use crate::job::{MOST_LOG_ROWS, SWAP_TAG};
 use crate::proof::TableProof;
 use crate::proof_file::{print_numbers, print_proof};
 use line_format::{
-    Item, ItemError, Reader, TextError, push_number, read_fixed, read_headed, read_text,
+    Form, ItemError, Reader, TextError, push_number, read_fixed, read_headed, read_text,
 };
-use p3_field::{BabyBear, Mem};
+use p3_field::{BabyBear, Mem, QuarticExtension};
 use p3_matrix::RowMajorMatrix;
 use std::alloc::Global;
 
@@ -34,11 +34,18 @@ pub struct SwapStatement {
 }
 
 /// Five lines: the tag 1, the base-2 logarithm of the rows, which is at most [`MOST_LOG_ROWS`], a, b, and x.
-impl Item for SwapStatement {
+impl Form for SwapStatement {
+    type Value = SwapStatement;
+
+    ghost use Rattle.batch_tool.specs.declared.first_form.SwapStatement.{SwapStatement as SwapStatementData};
     ghost use Rattle.batch_tool.specs.declared.job.TheConstants.{MOST_LOG_ROWS};
     ghost use Rattle.batch_tool.specs.FirstForm.{StatementWithin, statement_words};
     ghost use Rattle.batch_tool.specs.Laws.FirstForms.{statement-grammar};
     ghost use Rattle.std.proofs.Common.{lit<};
+
+    ghost Data = { SwapStatementData };
+
+    ghost data_of = { λ v. v };
 
     ghost within = { StatementWithin MOST_LOG_ROWS };
 
@@ -46,7 +53,7 @@ impl Item for SwapStatement {
 
     ghost grammar = { statement-grammar MOST_LOG_ROWS (lit< tt) };
 
-    fn read(alloc: Global, reader: &mut Reader) -> Result<Self, ItemError> {
+    fn read(alloc: Global, reader: &mut Reader) -> Result<SwapStatement, ItemError> {
         reader.number(SWAP_TAG, SWAP_TAG)?;
         let log_rows = reader.number(0, MOST_LOG_ROWS)?;
         let a = BabyBear::read(alloc, reader)?;
@@ -60,12 +67,12 @@ impl Item for SwapStatement {
         })
     }
 
-    fn print(&self, out: &mut Vec<u8>) -> Mem<()> {
+    fn print(value: &SwapStatement, out: &mut Vec<u8>) -> Mem<()> {
         push_number(out, SWAP_TAG as u64)?;
-        push_number(out, self.log_rows as u64)?;
-        self.a.print(out)?;
-        self.b.print(out)?;
-        self.x.print(out)
+        push_number(out, value.log_rows as u64)?;
+        BabyBear::print(&value.a, out)?;
+        BabyBear::print(&value.b, out)?;
+        BabyBear::print(&value.x, out)
     }
 }
 
@@ -83,19 +90,24 @@ fn committed_rows(log_rows: u8) -> u32
 /// It is `Malformed` exactly where the text's front is no such proof's text.
 fn read_proof(alloc: Global, reader: &mut Reader, log_rows: u8) -> Result<TableProof, ItemError>
     requires { log_rows ≤ MOST_LOG_ROWS }
-    ensures { ReadsOne (IsSwapShape log_rows) proof_words reader.old reader.new result }
+    ensures { ReadsOne (λ p. p) (IsSwapShape log_rows) proof_words reader.old reader.new result }
 {
     let rows = committed_rows(log_rows);
     // One matrix of width 2.
-    let main = read_headed(alloc, reader, &[1, 2, rows], 2 * rows as usize)?;
+    let main = read_headed::<BabyBear>(alloc, reader, &[1, 2, rows], 2 * rows as usize)?;
     // No permutation; one matrix of width 4.
-    let quotient_chunk = read_headed(alloc, reader, &[0, 1, 4, rows], 4 * rows as usize)?;
+    let quotient_chunk = read_headed::<BabyBear>(
+        alloc,
+        reader,
+        &[0, 1, 4, rows],
+        4 * rows as usize,
+    )?;
     // No randomization; one instance, with two values at zeta.
-    let trace_local = read_headed(alloc, reader, &[0, 1, 2], 2)?;
+    let trace_local = read_headed::<QuarticExtension>(alloc, reader, &[0, 1, 2], 2)?;
     // Two values at the next point are there.
-    let trace_next = read_headed(alloc, reader, &[1, 2], 2)?;
+    let trace_next = read_headed::<QuarticExtension>(alloc, reader, &[1, 2], 2)?;
     // No preprocessed columns; one chunk of four values.
-    let chunk_values = read_headed(alloc, reader, &[0, 1, 4], 4)?;
+    let chunk_values = read_headed::<QuarticExtension>(alloc, reader, &[0, 1, 4], 4)?;
     // No randomization, two empty permutation rows; one absent terminal; one entry of degree bits; no lookup grinding.
     read_fixed(reader, &[0, 0, 0, 1, 0, 1, log_rows as u32, 0])?;
     let ood_pow_witness = BabyBear::read(alloc, reader)?;
@@ -120,11 +132,18 @@ pub struct FirstForm {
 }
 
 /// The version 1, a list of one table, and the proof.
-impl Item for FirstForm {
+impl Form for FirstForm {
+    type Value = FirstForm;
+
+    ghost use Rattle.batch_tool.specs.declared.first_form.FirstForm.{FirstForm as FirstFormData};
     ghost use Rattle.batch_tool.specs.declared.job.TheConstants.{MOST_LOG_ROWS};
     ghost use Rattle.batch_tool.specs.FirstForm.{IsFirstForm, first_form_words};
     ghost use Rattle.batch_tool.specs.Laws.FirstForms.{first_form-grammar};
     ghost use Rattle.std.proofs.Common.{lit≤};
+
+    ghost Data = { FirstFormData };
+
+    ghost data_of = { λ v. v };
 
     ghost within = { IsFirstForm MOST_LOG_ROWS };
 
@@ -132,7 +151,7 @@ impl Item for FirstForm {
 
     ghost grammar = { first_form-grammar MOST_LOG_ROWS (lit≤ tt) };
 
-    fn read(alloc: Global, reader: &mut Reader) -> Result<Self, ItemError> {
+    fn read(alloc: Global, reader: &mut Reader) -> Result<FirstForm, ItemError> {
         read_fixed(reader, &[1, 1])?;
         let statement = SwapStatement::read(alloc, reader)?;
         let proof = read_proof(alloc, reader, statement.log_rows)?;
@@ -140,10 +159,10 @@ impl Item for FirstForm {
     }
 
     #[tactic(auto, unfolding(crate::specs::ProofFile::file_words))]
-    fn print(&self, out: &mut Vec<u8>) -> Mem<()> {
+    fn print(value: &FirstForm, out: &mut Vec<u8>) -> Mem<()> {
         print_numbers(&[1, 1], out)?;
-        self.statement.print(out)?;
-        print_proof(&self.proof, out)
+        SwapStatement::print(&value.statement, out)?;
+        print_proof(&value.proof, out)
     }
 }
 
@@ -151,7 +170,7 @@ impl Item for FirstForm {
 ///
 /// It is `Malformed` exactly where they are no such file's text.
 pub fn read_first_form(alloc: Global, bytes: &[u8]) -> Result<FirstForm, TextError>
-    ensures { ReadsText (IsFirstForm most_log_rows) first_form_words bytes.now result }
+    ensures { ReadsText (λ f. f) (IsFirstForm most_log_rows) first_form_words bytes.now result }
 {
-    read_text(alloc, bytes)
+    read_text::<FirstForm>(alloc, bytes)
 }

@@ -6,7 +6,7 @@ ghost use Rattle.batch_tool.specs.Job.{JobWithin, job_words};
 ghost use Rattle.batch_tool.specs.Limits.{most_log_rows};
 ghost use Rattle.batch_tool.specs.Swap.{last_right};
 
-use line_format::{Item, ItemError, Reader, TextError, push_number, read_text};
+use line_format::{Form, ItemError, Reader, TextError, push_number, read_text};
 use p3_field::{BabyBear, Mem};
 use std::alloc::Global;
 
@@ -47,11 +47,18 @@ impl SwapTable {
 }
 
 /// Four lines: the tag 1, the base-2 logarithm of the rows, which is at most [`MOST_LOG_ROWS`], a, and b.
-impl Item for SwapTable {
+impl Form for SwapTable {
+    type Value = SwapTable;
+
+    ghost use Rattle.batch_tool.specs.declared.job.SwapTable.{SwapTable as SwapTableData};
     ghost use Rattle.batch_tool.specs.declared.job.TheConstants.{MOST_LOG_ROWS};
     ghost use Rattle.batch_tool.specs.Job.{SwapWithin, swap_words};
     ghost use Rattle.batch_tool.specs.Laws.Jobs.{swap-grammar};
     ghost use Rattle.std.proofs.Common.{lit<};
+
+    ghost Data = { SwapTableData };
+
+    ghost data_of = { λ v. v };
 
     ghost within = { SwapWithin MOST_LOG_ROWS };
 
@@ -59,7 +66,7 @@ impl Item for SwapTable {
 
     ghost grammar = { swap-grammar MOST_LOG_ROWS (lit< tt) };
 
-    fn read(alloc: Global, reader: &mut Reader) -> Result<Self, ItemError> {
+    fn read(alloc: Global, reader: &mut Reader) -> Result<SwapTable, ItemError> {
         reader.number(SWAP_TAG, SWAP_TAG)?;
         let log_rows = reader.number(0, MOST_LOG_ROWS)?;
         let a = BabyBear::read(alloc, reader)?;
@@ -71,11 +78,11 @@ impl Item for SwapTable {
         })
     }
 
-    fn print(&self, out: &mut Vec<u8>) -> Mem<()> {
+    fn print(value: &SwapTable, out: &mut Vec<u8>) -> Mem<()> {
         push_number(out, SWAP_TAG as u64)?;
-        push_number(out, self.log_rows as u64)?;
-        self.a.print(out)?;
-        self.b.print(out)
+        push_number(out, value.log_rows as u64)?;
+        BabyBear::print(&value.a, out)?;
+        BabyBear::print(&value.b, out)
     }
 }
 
@@ -87,11 +94,18 @@ pub struct Job {
 }
 
 /// A list of tables: the line 1, and the table.
-impl Item for Job {
+impl Form for Job {
+    type Value = Job;
+
+    ghost use Rattle.batch_tool.specs.declared.job.Job.{Job as JobData};
     ghost use Rattle.batch_tool.specs.declared.job.TheConstants.{MOST_LOG_ROWS};
     ghost use Rattle.batch_tool.specs.Job.{JobWithin, job_words};
     ghost use Rattle.batch_tool.specs.Laws.Jobs.{job-grammar};
     ghost use Rattle.std.proofs.Common.{lit<};
+
+    ghost Data = { JobData };
+
+    ghost data_of = { λ v. v };
 
     ghost within = { JobWithin MOST_LOG_ROWS };
 
@@ -99,15 +113,15 @@ impl Item for Job {
 
     ghost grammar = { job-grammar MOST_LOG_ROWS (lit< tt) };
 
-    fn read(alloc: Global, reader: &mut Reader) -> Result<Self, ItemError> {
+    fn read(alloc: Global, reader: &mut Reader) -> Result<Job, ItemError> {
         reader.number(TABLES, TABLES)?;
         let table = SwapTable::read(alloc, reader)?;
         Ok(Job { table })
     }
 
-    fn print(&self, out: &mut Vec<u8>) -> Mem<()> {
+    fn print(value: &Job, out: &mut Vec<u8>) -> Mem<()> {
         push_number(out, TABLES as u64)?;
-        self.table.print(out)
+        SwapTable::print(&value.table, out)
     }
 }
 
@@ -115,9 +129,9 @@ impl Item for Job {
 ///
 /// It is `Malformed` exactly where they are no job's text.
 pub fn read_job(alloc: Global, bytes: &[u8]) -> Result<Job, TextError>
-    ensures { ReadsText (JobWithin most_log_rows) job_words bytes.now result }
+    ensures { ReadsText (λ j. j) (JobWithin most_log_rows) job_words bytes.now result }
 {
-    read_text(alloc, bytes)
+    read_text::<Job>(alloc, bytes)
 }
 
 #[cfg(test)]

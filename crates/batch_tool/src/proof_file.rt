@@ -7,7 +7,7 @@ ghost use Rattle.batch_tool.specs.Swap.{last_right};
 
 use crate::job::SwapTable;
 use crate::proof::TableProof;
-use line_format::{Item, print_items, print_list, push_number};
+use line_format::{Form, print_items, print_list, push_number};
 use p3_field::{BabyBear, Mem, QuarticExtension};
 use p3_matrix::RowMajorMatrix;
 
@@ -15,7 +15,8 @@ use p3_matrix::RowMajorMatrix;
 fn print_elements(elements: &[BabyBear], out: &mut Vec<u8>) -> Mem<()>
     ensures { OnOk result (out.new.items ≡ out.old.items ++ line_text (map (λ x. x.value) elements.now)) }
 {
-    print_items(elements, out)
+    print_items::<BabyBear>(elements, out)?;
+    Ok(())
 }
 
 /// Prints a matrix: its width, its height, and its elements row by row.
@@ -43,7 +44,7 @@ fn print_one_list(values: &[QuarticExtension], out: &mut Vec<u8>) -> Mem<()>
     ensures present { OnOk result (out.new.items ≡ out.old.items ++ line_text (option_words values_words (Some values.now))) }
 {
     push_number(out, 1)?;
-    print_list(values, out)?;
+    print_list::<QuarticExtension>(values, out)?;
     Ok(())
 }
 
@@ -62,7 +63,7 @@ fn print_opened(proof: &TableProof, out: &mut Vec<u8>) -> Mem<()>
     ensures text { OnOk result (out.new.items ≡ out.old.items ++ line_text (flat_map opened_words proof.now.instances)) }
     ensures single { OnOk result (length proof.now.instances ≡ 1) }
 {
-    print_list(&proof.trace_local, out)?;
+    print_list::<QuarticExtension>(&proof.trace_local, out)?;
     print_one_list(&proof.trace_next, out)?;
     push_number(out, 0)?;
     print_one_list(&proof.chunk_values, out)?;
@@ -93,7 +94,7 @@ pub fn print_proof(proof: &TableProof, out: &mut Vec<u8>) -> Mem<()>
     print_numbers(&[1, 0], out)?;
     print_numbers(&[1, proof.degree_bits as u64], out)?;
     push_number(out, 0)?;
-    proof.ood_pow_witness.print(out)?;
+    BabyBear::print(&proof.ood_pow_witness, out)?;
     Ok(())
 }
 

@@ -1,10 +1,14 @@
 -- The line of a text's fault.
-use Rattle.std.proofs.Common.{◌≡◌, ℕ, ◌+◌, ◌-◌, ◌<◌, ◌≤◌, List, [], ◌∷◌, ◌++◌, length, take, sym, ◌∙◌, ap, subst, arith, append_assoc, refl, Bool, false}
-use Rattle.std.specs.Prelude.{decimal, count_by, ◌==◌}
+use Rattle.std.proofs.Common.{◌≡◌, ℕ, ◌+◌, ◌-◌, ◌<◌, ◌≤◌, List, [], ◌∷◌, ◌++◌, length, take, drop, sym, ◌∙◌, ap, subst, arith, append_assoc, refl, Bool, false, Result, Ok, Err}
+use Rattle.std.specs.Prelude.{decimal, count_by, cond, ◌==◌}
 use Rattle.std.proofs.lemmas.Grind.{common_steps}
-use Rattle.std.proofs.lemmas.List.{nil_from_length, append-nil}
+use Rattle.std.proofs.lemmas.List.Sums.{sum_by-append}
+use Rattle.std.proofs.Math.Seq.{take-add}
+use Rattle.std.proofs.lemmas.List.{nil_from_length, append-nil, take_all}
 use Rattle.line_format.specs.Texts.{line_text, Reads, Stops, Small, Grammar}
-use Rattle.line_format.specs.WholeText.{Begins, IsFaultLine, IsNoText}
+use Rattle.line_format.specs.WholeText.{Begins, IsFaultLine, IsNoText, lines_before, IsFaultLineFrom, ReadsText, ReadsTextFrom}
+use Rattle.line_format.specs.declared.parse.TextError.{TextError}
+use Rattle.line_format.specs.declared.parse.TextError.TheVariants.{Malformed, OutOfMemory}
 use Rattle.line_format.specs.Laws.Lines.{Longer, lines-tell}
 use Rattle.line_format.proofs.Lines.{small-front, count-read}
 
@@ -98,22 +102,57 @@ rest-is-no-text {A} {within} {words} {bytes} {new} {v} g r some w fits e =
     let l : 0 ≡ length (line_text t.more ++ new) = ap (λ (k : List ℕ). length k) t.text in
     some (nil_from_length new (grind (arith, common_steps, l)))
 
--- the fault by the number of the line behind the lines that were read
-pub stop-faults : {A : Type 0} {within : A → Type 0} {words : A → List ℕ} {old new : List ℕ} (bytes rest : List ℕ) (line : ℕ) → old ≡ bytes → rest ≡ new
-    → Grammar within words → Stops within words old new
-    → line ≡ count_by (λ b. b == 10) (take (length bytes - length rest) bytes) + 1 → IsNoText within words bytes × IsFaultLine within words bytes line
-stop-faults {A} {within} {words} {old} {new} bytes rest line from to g stop e =
-    let s : Stops within words bytes rest = subst (λ (b : List ℕ). Stops within words b rest) from (subst (λ (b : List ℕ). Stops within words old b) (sym to) stop) in
-    let n : line ≡ length s.read + 1 = omega (arith, e, count-read bytes rest s.read s.text (begins-small g s.read (begins-stop s))) in
-    (stop-is-no-text g s, rw n (stop-is-fault g s))
+-- the text from a place to the end
+pub whole-rest : (bytes : List ℕ) (from : ℕ) → from ≤ length bytes → take (length bytes - from) (drop from bytes) ≡ drop from bytes
+whole-rest bytes from room = take_all (length bytes - from) (drop from bytes) (grind (arith, common_steps))
 
-pub rest-faults : {A : Type 0} {within : A → Type 0} {words : A → List ℕ} {old new : List ℕ} {v : A} (bytes rest : List ℕ) (line : ℕ) → old ≡ bytes → rest ≡ new
-    → Grammar within words → Reads within words old new v → (new ≡ [] → ⊥)
-    → line ≡ count_by (λ b. b == 10) (take (length bytes - length rest) bytes) + 1 → IsNoText within words bytes × IsFaultLine within words bytes line
-rest-faults {A} {within} {words} {old} {new} {v} bytes rest line from to g read some e =
-    let r : Reads within words bytes rest v = subst (λ (b : List ℕ). Reads within words b rest v) from (subst (λ (b : List ℕ). Reads within words old b v) (sym to) read) in
-    let n : line ≡ length (words v) + 1 = omega (arith, e, count-read bytes rest (words v) r.text (g.small v r.fits)) in
-    (rest-is-no-text g r (λ none. some (sym to ∙ none)), rw n (rest-is-fault g r))
+-- the lines that end before what is left are those before the place, and those that were read from there
+count-from : (bytes rest ns : List ℕ) (from line : ℕ) → from ≤ length bytes → drop from bytes ≡ line_text ns ++ rest → Small ns
+    → line ≡ count_by (λ b. b == 10) (take (length bytes - length rest) bytes) + 1 → line ≡ lines_before bytes from + (length ns + 1)
+count-from bytes rest ns from line room text small e =
+    let part = drop from bytes in
+    let long : length rest ≤ length part = rw text (grind (arith, common_steps)) in
+    let size : length part ≡ length bytes - from = grind (arith, common_steps) in
+    let split : length bytes - length rest ≡ from + (length part - length rest) = omega (arith, long, size, room) in
+    let read : count_by (λ b. b == 10) (take (length part - length rest) part) ≡ length ns = count-read part rest ns text small in
+    let parts : take (from + (length part - length rest)) bytes ≡ take from bytes ++ take (length part - length rest) part = take-add from (length part - length rest) bytes in
+    let count : count_by (λ b. b == 10) (take (length bytes - length rest) bytes) ≡ lines_before bytes from + length ns
+    = ap (λ (n : ℕ). count_by (λ b. b == 10) (take n bytes)) split ∙ (ap (λ (l : List ℕ). count_by (λ b. b == 10) l) parts
+    ∙ (sum_by-append (λ b. cond (b == 10) 1 0) (take from bytes) (take (length part - length rest) part) ∙ ap (λ (n : ℕ). lines_before bytes from + n) read)) in
+    omega (arith, e, count)
+
+-- the fault by the number of the line behind the lines that were read
+pub stop-faults : {A : Type 0} {within : A → Type 0} {words : A → List ℕ} {old new : List ℕ} (bytes rest : List ℕ) (from line : ℕ) → from ≤ length bytes
+    → old ≡ take (length bytes - from) (drop from bytes) → rest ≡ new → Grammar within words → Stops within words old new
+    → line ≡ count_by (λ b. b == 10) (take (length bytes - length rest) bytes) + 1
+    → IsNoText within words (drop from bytes) × IsFaultLineFrom within words bytes from line
+stop-faults {A} {within} {words} {old} {new} bytes rest from line room start to g stop e =
+    let s : Stops within words (drop from bytes) rest
+    = subst (λ (b : List ℕ). Stops within words b rest) (start ∙ whole-rest bytes from room) (subst (λ (b : List ℕ). Stops within words old b) (sym to) stop) in (
+      stop-is-no-text g s,
+      record { own = length s.read + 1; fault = stop-is-fault g s; counted = count-from bytes rest s.read from line room s.text (begins-small g s.read (begins-stop s)) e },
+    )
+
+pub rest-faults : {A : Type 0} {within : A → Type 0} {words : A → List ℕ} {old new : List ℕ} {v : A} (bytes rest : List ℕ) (from line : ℕ) → from ≤ length bytes
+    → old ≡ take (length bytes - from) (drop from bytes) → rest ≡ new → Grammar within words → Reads within words old new v → (new ≡ [] → ⊥)
+    → line ≡ count_by (λ b. b == 10) (take (length bytes - length rest) bytes) + 1
+    → IsNoText within words (drop from bytes) × IsFaultLineFrom within words bytes from line
+rest-faults {A} {within} {words} {old} {new} {v} bytes rest from line room start to g read some e =
+    let r : Reads within words (drop from bytes) rest v
+    = subst (λ (b : List ℕ). Reads within words b rest v) (start ∙ whole-rest bytes from room) (subst (λ (b : List ℕ). Reads within words old b v) (sym to) read) in (
+      rest-is-no-text g r (λ none. some (sym to ∙ none)),
+      record { own = length (words v) + 1; fault = rest-is-fault g r; counted = count-from bytes rest (words v) from line room r.text (g.small v r.fits) e },
+    )
+
+-- the text from the first byte on is the whole text
+pub from-start : {V A : Type 0} (data_of : V → A) (within : A → Type 0) (words : A → List ℕ) (bytes : List ℕ) (r : Result V TextError)
+    → ReadsTextFrom data_of within words bytes 0 r → ReadsText data_of within words bytes r
+from-start data_of within words bytes (Ok v) h = h
+from-start data_of within words bytes (Err (Malformed line)) h =
+    let counted : line ≡ 0 + h.1.own = h.1.counted in
+    let same : line ≡ h.1.own = omega (arith, counted) in
+    (h.0, subst (λ (n : ℕ). IsFaultLine within words bytes n) (sym same) h.1.fault)
+from-start data_of within words bytes (Err OutOfMemory) h = h
 
 -- a test of emptiness
 pub not-empty : (new rest : List ℕ) (b : Bool) → rest ≡ new → b ≡ (length rest == 0) → b ≡ false → new ≡ [] → ⊥

@@ -1,7 +1,7 @@
 -- How the reading of parts that the reader knows stops.
-use Rattle.std.proofs.Common.{◌≡◌, ℕ, ◌+◌, ◌<◌, List, [], ◌∷◌, ◌++◌, length, take, drop, get_or, sym, ◌∙◌, ap, arith, append_assoc, add-one, drop-cons, Result, Ok, Err, Vec, Global}
+use Rattle.std.proofs.Common.{◌≡◌, ℕ, ◌+◌, ◌<◌, List, [], ◌∷◌, ◌++◌, length, take, drop, get_or, sym, ◌∙◌, ap, arith, append_assoc, add-one, drop-cons, Result, Ok, Err}
 use Rattle.std.proofs.lemmas.List.{append_cancel_left, take-append-drop, take_more}
-use Rattle.line_format.specs.Texts.{line_text, Reads, Stops, Between, Unlimited, number_words, Small, ReadsList, ItemsWithin, items_words}
+use Rattle.line_format.specs.Texts.{line_text, Reads, Stops, Between, Unlimited, number_words, Small, ReadsOne, ItemsWithin, items_words}
 use Rattle.line_format.specs.Fixed.{fixed_words, headed_words}
 use Rattle.line_format.specs.Laws.FixedParts.{fixed-grammar, same-headed}
 use Rattle.line_format.specs.declared.texts.ItemError.{ItemError}
@@ -45,9 +45,9 @@ fixed-grows numbers i n old mid new room text r =
     lines-more (take i numbers) (get_or numbers i 0 ∷ []) old mid new text line ∙ ap (λ (l : List ℕ). line_text l ++ new) (sym (take_more numbers i 0 room))
 
 -- fixed numbers were read, and then a list of known length
-pub headed-read : {A : Type 0} (within : A → Type 0) (words : A → List ℕ) (head : List ℕ) (count : ℕ) (old mid new : List ℕ) (r : Result (Vec A Global) ItemError)
-    → Small head → Reads {A = Unit {0}} Unlimited (fixed_words head) old mid tt → ReadsList (ItemsWithin count within) (items_words words) mid new r
-    → ReadsList (ItemsWithin count within) (headed_words head words) old new r
-headed-read within words head count old mid new (Ok v) small h r = record { fits = r.fits; text = lines-more head (items_words words v.items) old mid new h.text r.text }
-headed-read within words head count old mid new (Err e) small h r =
+pub headed-read : {V A : Type 0} (data_of : V → List A) (within : A → Type 0) (words : A → List ℕ) (head : List ℕ) (count : ℕ) (old mid new : List ℕ) (r : Result V ItemError)
+    → Small head → Reads {A = Unit {0}} Unlimited (fixed_words head) old mid tt → ReadsOne data_of (ItemsWithin count within) (items_words words) mid new r
+    → ReadsOne data_of (ItemsWithin count within) (headed_words head words) old new r
+headed-read data_of within words head count old mid new (Ok v) small h r = record { fits = r.fits; text = lines-more head (items_words words (data_of v)) old mid new h.text r.text }
+headed-read data_of within words head count old mid new (Err e) small h r =
     λ m. same-stops (same-headed head count within words) (then-second (fixed-grammar head small) h (r m))

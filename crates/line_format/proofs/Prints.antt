@@ -1,7 +1,8 @@
 -- How the printing of a list grows by an item.
-use Rattle.std.proofs.Common.{◌≡◌, ℕ, ◌+◌, ◌<◌, List, [], ◌∷◌, ◌++◌, length, take, get_or, sym, ◌∙◌, ap, append_assoc}
-use Rattle.std.proofs.lemmas.List.{append-nil, take_more}
-use Rattle.std.specs.Prelude.{flat_map}
+use Rattle.std.proofs.Common.{◌≡◌, ℕ, ◌+◌, ◌<◌, ◌≤◌, List, [], ◌∷◌, ◌++◌, length, take, get_or, sym, ◌∙◌, ap, append_assoc}
+use Rattle.std.proofs.lemmas.List.{append-nil, take_more, take_all}
+use Rattle.std.specs.Prelude.{map}
+use Rattle.std.proofs.lemmas.List.Folds.{flat_map-map}
 use Rattle.std.proofs.lemmas.Grind.{flat_map-append}
 use Rattle.line_format.specs.Texts.{line_text, items_words}
 use Rattle.line_format.specs.Laws.Lines.{line_text-append}
@@ -16,3 +17,10 @@ prints-more words xs i a front old new room is e f =
     let same : items_words words (take (i + 1) xs) ≡ before ++ words a
     = ap (λ (l : _). items_words words l) more ∙ (flat_map-append words (take i xs) (a ∷ []) ∙ ap (λ (l : List ℕ). before ++ l) (append-nil (words a))) in
     rw same (rw (line_text-append before (words a)) (f ∙ rw e (append_assoc front (line_text before) (line_text (words a)))))
+
+-- all items, each by its data
+pub prints-all : {V A : Type 0} (data_of : V → A) (words : A → List ℕ) (xs : List V) (i : ℕ) (front new : List ℕ) → length xs ≤ i
+    → new ≡ front ++ line_text (items_words (λ v. words (data_of v)) (take i xs)) → new ≡ front ++ line_text (items_words words (map data_of xs))
+prints-all data_of words xs i front new all e =
+    let whole : take i xs ≡ xs = take_all i xs all in
+    e ∙ (ap (λ (l : _). front ++ line_text (items_words (λ v. words (data_of v)) l)) whole ∙ ap (λ (l : List ℕ). front ++ line_text l) (sym (flat_map-map words data_of xs)))

@@ -1,13 +1,12 @@
 -- How the reading of numbers, of lists and of values that may be absent stops.
-use Rattle.std.proofs.Common.{◌≡◌, ℕ, suc, ◌-◌, ◌<◌, ◌≤◌, ◌^◌, List, [], ◌∷◌, ◌++◌, length, refl, sym, ◌∙◌, ap, subst, arith, append_assoc, replicate, Result, Ok, Err, Vec, Global, Option, Some, None}
-use Rattle.std.specs.Prelude.{IsErrAnd, decimal, All}
-use Rattle.std.proofs.lemmas.List.{append-nil}
+use Rattle.std.proofs.Common.{◌≡◌, ℕ, suc, ◌-◌, ◌<◌, ◌≤◌, ◌^◌, List, [], ◌∷◌, ◌++◌, length, refl, sym, ◌∙◌, ap, subst, arith, append_assoc, replicate, Result, Ok, Err, Option, Some, None}
+use Rattle.std.specs.Prelude.{decimal, All, map}
+use Rattle.std.proofs.lemmas.List.{append-nil, map-append}
 use Rattle.std.proofs.lemmas.Grind.{common_steps, flat_map-append}
 use Rattle.std.proofs.lemmas.List.Elements.{All-append, All-replicate}
-use Rattle.line_format.specs.Texts.{line_text, Reads, Stops, Between, Grammar, number_words, items_words, ItemsWithin, list_words, ListWithin, OptionWithin, option_words, ReadsOne, ReadsKnown, ReadsList}
-use Rattle.line_format.specs.Laws.Grammars.{head-same, tail-same, zero-not-one, PairWithin, ThenWithin, pair_words, SameTexts, number-grammar, items-grammar, same-list, whole-words}
+use Rattle.line_format.specs.Texts.{line_text, Reads, Stops, Between, Grammar, number_words, items_words, ItemsWithin, list_words, ListWithin, OptionWithin, option_words, ReadsOne}
+use Rattle.line_format.specs.Laws.Grammars.{head-same, tail-same, zero-not-one, number-grammar, items-grammar, same-list}
 use Rattle.line_format.specs.declared.texts.ItemError.{ItemError}
-use Rattle.line_format.specs.declared.texts.ItemError.TheVariants.{Malformed}
 use Rattle.line_format.specs.Laws.Lines.{lines-more, same-line}
 use Rattle.line_format.specs.Laws.Stops.{pair-first, pair-second, pair-reads, same-stops, same-reads}
 
@@ -91,6 +90,10 @@ item-stops {A} {within} {words} {mid} {new} g count done old d room text s =
           s.stuck n after e r.0 r.1 r.2 y r.3;
     }
 
+-- the data of a list with one more item
+pub map-pushed : {A B : Type 0} (f : A → B) (xs ys : List A) (x : A) → ys ≡ xs ++ x ∷ [] → map f ys ≡ map f xs ++ f x ∷ []
+map-pushed f xs ys x e = ap (λ (l : List _). map f l) e ∙ map-append f xs (x ∷ [])
+
 -- one more item
 pub items-grow : {A : Type 0} (words : A → List ℕ) (done : List A) (b : A) (old mid new : List ℕ)
     → old ≡ line_text (items_words words done) ++ mid → mid ≡ line_text (words b) ++ new
@@ -107,13 +110,13 @@ count-stops {A} {within} {words} least most g s =
     same-stops (same-list least most within words) (pair-first (λ n. ItemsWithin n within) (λ n _. items-grammar n g) s)
 
 -- a list whose count was read
-pub list-after-count : {A : Type 0} (least most : ℕ) (within : A → Type 0) (words : A → List ℕ) (old mid new : List ℕ) (count : ℕ) (r : Result (Vec A Global) ItemError)
-    → least ≤ most → most < 2 ^ 64 → Reads (Between least most) number_words old mid count → ReadsList (ItemsWithin count within) (items_words words) mid new r
-    → ReadsList (ListWithin least most within) (list_words words) old new r
+pub list-after-count : {V A : Type 0} (data_of : V → List A) (least most : ℕ) (within : A → Type 0) (words : A → List ℕ) (old mid new : List ℕ) (count : ℕ) (r : Result V ItemError)
+    → least ≤ most → most < 2 ^ 64 → Reads (Between least most) number_words old mid count → ReadsOne data_of (ItemsWithin count within) (items_words words) mid new r
+    → ReadsOne data_of (ListWithin least most within) (list_words words) old new r
 unfolding same-list
-list-after-count least most within words old mid new count (Ok v) room few n s =
+list-after-count data_of least most within words old mid new count (Ok v) room few n s =
     same-reads (same-list least most within words) (pair-reads (λ n. ItemsWithin n within) n s)
-list-after-count least most within words old mid new count (Err e) room few n s =
+list-after-count data_of least most within words old mid new count (Err e) room few n s =
     λ m. same-stops (same-list least most within words) (pair-second (λ n. ItemsWithin n within) (number-grammar least most room few) n (s m))
 
 -- a value that may be absent, whose tag can't be read

@@ -4,3 +4,4 @@ pub mod Grammars
 pub mod Lines
 pub mod Prints
 pub mod Stops
+pub mod Tells

@@ -1,6 +1,5 @@
 -- Texts: a line for each number. A value has numbers, and its text is their lines.
-use Rattle.std.specs.Prelude.{◌≡◌, ℕ, ◌^◌, ◌<◌, ◌≤◌, List, [], ◌∷◌, ◌++◌, length, All, flat_map, decimal, Result, MatchResult, Option, None, Some, ⊤, Vec}
-use Rattle.std.specs.declared.alloc.Global.{Global}
+use Rattle.std.specs.Prelude.{◌≡◌, ℕ, ◌^◌, ◌<◌, ◌≤◌, List, [], ◌∷◌, ◌++◌, length, All, flat_map, decimal, Result, MatchResult, Option, None, Some, ⊤}
 use Rattle.p3_field.specs.declared.baby_bear.BabyBear.{BabyBear}
 use Rattle.p3_field.specs.declared.quartic.QuarticExtension.{QuarticExtension}
 use Rattle.line_format.specs.declared.texts.ItemError.{ItemError}
@@ -83,14 +82,10 @@ pub record Stops {A : Type 0} (within : A → Type 0) (words : A → List ℕ) (
   pub begins : words some ≡ read ++ next ∷ missing
   pub stuck : (n : ℕ) (rest : List ℕ) → new ≡ decimal n ++ 10 ∷ rest → (v : A) → within v → (x y : List ℕ) → words v ++ x ≡ read ++ n ∷ y → ⊥
 
--- what a call that reads one value off a text did
-abbrev pub ReadsOne : {A : Type 0} (within : A → Type 0) (words : A → List ℕ) (old new : List ℕ) → Result A ItemError → Type 0
-ReadsOne within words old new result = MatchResult result (λ v. Reads within words old new v) (λ e. e ≡ Malformed → Stops within words old new)
+-- what a call that reads one value off a text did, where `data_of` gives the value's data
+abbrev pub ReadsOne : {A D : Type 0} (data_of : A → D) (within : D → Type 0) (words : D → List ℕ) (old new : List ℕ) → Result A ItemError → Type 0
+ReadsOne data_of within words old new result = MatchResult result (λ v. Reads within words old new (data_of v)) (λ e. e ≡ Malformed → Stops within words old new)
 
 -- the same of a call that takes no memory: its one error is `Malformed`
 abbrev pub ReadsKnown : {A : Type 0} (within : A → Type 0) (words : A → List ℕ) (old new : List ℕ) → Result A ItemError → Type 0
 ReadsKnown within words old new result = MatchResult result (λ v. Reads within words old new v) (λ e. (e ≡ Malformed) × Stops within words old new)
-
--- what `ReadsOne` says, of a list that the call gives in a `Vec`
-abbrev pub ReadsList : {A : Type 0} (within : List A → Type 0) (words : List A → List ℕ) (old new : List ℕ) → Result (Vec A Global) ItemError → Type 0
-ReadsList within words old new result = MatchResult result (λ v. Reads within words old new v.items) (λ e. e ≡ Malformed → Stops within words old new)

@@ -1,5 +1,5 @@
 -- A whole text, and the line of its fault.
-use Rattle.std.specs.Prelude.{◌≡◌, ◌≢◌, ℕ, ◌+◌, ◌≤◌, List, ◌++◌, length, Result, Ok, Err, ⊤}
+use Rattle.std.specs.Prelude.{◌≡◌, ◌≢◌, ℕ, ◌+◌, ◌≤◌, List, ◌++◌, length, take, drop, count_by, ◌==◌, Result, Ok, Err, ⊤}
 use Rattle.line_format.specs.Texts.{line_text}
 use Rattle.line_format.specs.declared.parse.TextError.{TextError}
 use Rattle.line_format.specs.declared.parse.TextError.TheVariants.{Malformed, OutOfMemory}
@@ -24,8 +24,29 @@ pub record IsFaultLine {A : Type 0} (within : A → Type 0) (words : A → List 
 abbrev pub IsNoText : {A : Type 0} (within : A → Type 0) (words : A → List ℕ) → List ℕ → Type 0
 IsNoText {A} within words bytes = (v : A) → within v → bytes ≢ line_text (words v)
 
--- a read of a whole text: the value whose text the bytes are, or the line of the fault where they are the text of none
-abbrev pub ReadsText : {A : Type 0} (within : A → Type 0) (words : A → List ℕ) → List ℕ → Result A TextError → Type 0
-ReadsText within words bytes (Ok v) = within v × (bytes ≡ line_text (words v))
-ReadsText within words bytes (Err (Malformed line)) = IsNoText within words bytes × IsFaultLine within words bytes line
-ReadsText within words bytes (Err OutOfMemory) = ⊤
+-- a read of a whole text, where `data_of` gives a value's data: the value whose text the bytes are, or the line of the fault where they
+-- are the text of none
+abbrev pub ReadsText : {A D : Type 0} (data_of : A → D) (within : D → Type 0) (words : D → List ℕ) → List ℕ → Result A TextError → Type 0
+ReadsText data_of within words bytes (Ok v) = within (data_of v) × (bytes ≡ line_text (words (data_of v)))
+ReadsText data_of within words bytes (Err (Malformed line)) = IsNoText within words bytes × IsFaultLine within words bytes line
+ReadsText data_of within words bytes (Err OutOfMemory) = ⊤
+
+-- how many lines end before a place
+abbrev pub lines_before : List ℕ → ℕ → ℕ
+lines_before bytes from = count_by (λ b. b == 10) (take from bytes)
+
+-- The line of the fault of the text that begins at a place: it is counted from the first byte of all.
+pub record IsFaultLineFrom {A : Type 0} (within : A → Type 0) (words : A → List ℕ) (bytes : List ℕ) (from line : ℕ) : Type 0 where
+  pub own : ℕ
+  pub fault : IsFaultLine within words (drop from bytes) own
+  pub counted : line ≡ lines_before bytes from + own
+
+-- the same as `ReadsText`, of the text from a place to the end
+abbrev pub ReadsTextFrom : {A D : Type 0} (data_of : A → D) (within : D → Type 0) (words : D → List ℕ) → List ℕ → ℕ → Result A TextError → Type 0
+ReadsTextFrom data_of within words bytes from (Ok v) = within (data_of v) × (drop from bytes ≡ line_text (words (data_of v)))
+ReadsTextFrom data_of within words bytes from (Err (Malformed line)) = IsNoText within words (drop from bytes) × IsFaultLineFrom within words bytes from line
+ReadsTextFrom data_of within words bytes from (Err OutOfMemory) = ⊤
+
+-- a text tells the value, and where it ends: no value's text is the front of another's
+abbrev pub TextsTell : {A : Type 0} (within : A → Type 0) (words : A → List ℕ) → Type 0
+TextsTell {A} within words = (v w : A) (x y : List ℕ) → within v → within w → line_text (words v) ++ x ≡ line_text (words w) ++ y → (v ≡ w) × (x ≡ y)

@@ -1,9 +1,11 @@
 //! Reading parts of a text that the caller knows: numbers that are always the same, and lists whose length no line tells.
 
-ghost use Rattle.line_format.specs.Texts.{ReadsKnown, ReadsList, ItemsWithin, Unlimited};
+ghost use Rattle.std.specs.Prelude.{map};
+ghost use Rattle.line_format.specs.Texts.{ReadsKnown, ReadsOne, ItemsWithin, Unlimited};
 ghost use Rattle.line_format.specs.Fixed.{fixed_words, headed_words};
 
-use crate::items::{Item, read_items};
+use crate::forms::Form;
+use crate::lists::read_items;
 use crate::texts::{ItemError, Reader};
 use std::alloc::Global;
 
@@ -22,14 +24,14 @@ pub fn read_fixed(reader: &mut Reader, numbers: &[u32]) -> Result<(), ItemError>
 /// Reads the numbers of `head`, and then `count` values.
 ///
 /// It is `Malformed` exactly where the text's front is not the lines of these numbers and the text of so many values.
-pub fn read_headed<T: Item>(
+pub fn read_headed<T: Form>(
     alloc: Global,
     reader: &mut Reader,
     head: &[u32],
     count: usize,
-) -> Result<Vec<T>, ItemError>
-    ensures { ReadsList (ItemsWithin count T.within) (headed_words head.now T.words) reader.old reader.new result }
+) -> Result<Vec<T::Value>, ItemError>
+    ensures { ReadsOne (λ v. map T.data_of v.items) (ItemsWithin count T.within) (headed_words head.now T.words) reader.old reader.new result }
 {
     read_fixed(reader, head)?;
-    read_items(alloc, reader, count)
+    read_items::<T>(alloc, reader, count)
 }

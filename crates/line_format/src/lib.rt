@@ -1,16 +1,18 @@
 //! Texts of numbers, a line for each, of which each value has exactly one: for programs whose files are to be read in one way only.
 //!
-//! An [`Item`] is a value with one text, whose grammar is proved with it. [`read_text`] reads the one value whose text some bytes
-//! are, or names the line of the first fault. A [`Reader`] is what is left of a text, and the calls over it read and print the
-//! parts that texts are made of.
+//! A [`Form`] says how values are written, each as one text, and its grammar is proved with it. [`read_text`] reads the one value
+//! whose text some bytes are, or names the line of the first fault. A [`Reader`] is what is left of a text, and the calls over it
+//! read and print the parts that texts are made of.
 #![tactic(auto)]
 
 mod fixed;
-mod items;
+mod forms;
+mod lists;
 mod parse;
 mod texts;
 
 pub use fixed::{read_fixed, read_headed};
-pub use items::{Item, print_items, print_list, print_option, read_items, read_list, read_option};
-pub use parse::{TextError, read_text};
+pub use forms::Form;
+pub use lists::{ListOf, print_items, print_list, read_items, read_list};
+pub use parse::{TextError, read_text, read_text_from};
 pub use texts::{ItemError, Reader, push_number};

@@ -1,9 +1,9 @@
 //! A whole text, from its first byte to its last.
 
-ghost use Rattle.std.specs.Prelude.{◌≡◌, ◌+◌, ◌==◌, count_by};
-ghost use Rattle.line_format.specs.WholeText.{ReadsText};
+ghost use Rattle.std.specs.Prelude.{◌≡◌, ◌≤◌, ◌+◌, ◌==◌, count_by, length};
+ghost use Rattle.line_format.specs.WholeText.{ReadsText, ReadsTextFrom};
 
-use crate::items::Item;
+use crate::forms::Form;
 use crate::texts::{ItemError, Reader};
 use std::alloc::Global;
 
@@ -20,10 +20,24 @@ pub enum TextError {
 /// Reads the one value whose text the bytes are, from the first to the last.
 ///
 /// It is `Malformed` exactly where they are no value's text.
-pub fn read_text<T: Item>(alloc: Global, bytes: &[u8]) -> Result<T, TextError>
-    ensures { ReadsText T.within T.words bytes.now result }
+pub fn read_text<T: Form>(alloc: Global, bytes: &[u8]) -> Result<T::Value, TextError>
+    ensures { ReadsText T.data_of T.within T.words bytes.now result }
 {
-    let mut reader = Reader::new(bytes);
+    read_text_from::<T>(alloc, bytes, 0)
+}
+
+/// Reads the one value whose text the bytes are from byte `from` to the last.
+///
+/// It is `Malformed` exactly where they are no value's text. The line of the fault is counted from the first byte of all.
+pub fn read_text_from<T: Form>(
+    alloc: Global,
+    bytes: &[u8],
+    from: usize,
+) -> Result<T::Value, TextError>
+    requires { from ≤ length bytes.now }
+    ensures { ReadsTextFrom T.data_of T.within T.words bytes.now from result }
+{
+    let mut reader = Reader::new(&bytes[from..]);
     match T::read(alloc, &mut reader) {
         Ok(value) => {
             if reader.rest().is_empty() {

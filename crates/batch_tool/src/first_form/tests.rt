@@ -10,7 +10,7 @@ fn an_honest_file_is_read_and_printed_back(rt: HostRuntime) -> Result<(), Fail> 
     assert_eq!(rt; file.statement.log_rows, 0);
     assert_eq!(rt; file.proof.main.height(), 2);
     let mut text = Vec::new(alloc);
-    file.print(&mut text)?;
+    FirstForm::print(&file, &mut text)?;
     assert_eq!(rt; text.as_slice(), ONE_ROW.as_bytes());
     Ok(())
 }

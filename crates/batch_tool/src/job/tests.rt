@@ -14,7 +14,7 @@ fn a_job_is_read_back(rt: HostRuntime) -> Result<(), Fail> {
             b: BabyBear::from_u64(2_013_265_920),
         },
     };
-    job.print(&mut text)?;
+    Job::print(&job, &mut text)?;
     assert_eq!(rt; text.as_slice(), b"1\n1\n0\n5\n2013265920\n".as_slice());
     assert_eq!(rt; read_job(alloc, &text), Ok(job));
     Ok(())

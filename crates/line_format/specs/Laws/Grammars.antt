@@ -1,6 +1,6 @@
 -- Grammars of parts, and of what is made of parts.
 use Rattle.std.specs.Prelude.{◌≡◌, ℕ, suc, ◌<◌, ◌≤◌, ◌^◌, List, [], ◌∷◌, ◌++◌, length, All, Option, None, Some, replicate, refl}
-use Rattle.std.proofs.Common.{sym, ap, subst, ◌∙◌, append_assoc, arith}
+use Rattle.std.proofs.Common.{sym, ap, subst, ◌∙◌, append_assoc, arith, Fits, w32}
 use Rattle.std.proofs.lemmas.Grind.{common_steps}
 use Rattle.std.proofs.lemmas.List.Elements.{All-append, All-replicate}
 use Rattle.p3_field.specs.declared.baby_bear.BabyBear.{BabyBear}
@@ -125,6 +125,11 @@ pub list-grammar : {A : Type 0} {within : A → Type 0} {words : A → List ℕ}
     → Grammar (ListWithin least most within) (list_words words)
 list-grammar {A} {within} {words} least most room few g =
     same-grammar (same-list least most within words) (pair-grammar (λ n. ItemsWithin n within) (number-grammar least most room few) (λ n _. items-grammar n g))
+
+-- a list of at most so many items, where the number is one of 32 bits
+pub at_most-grammar : {A : Type 0} {within : A → Type 0} {words : A → List ℕ} (most : ℕ) → Fits w32 most → Grammar within words
+    → Grammar (ListWithin 0 most within) (list_words words)
+at_most-grammar most fits g = list-grammar 0 most (omega arith) (omega (arith, fits)) g
 
 -- a value that may be absent
 pub option-grammar : {A : Type 0} {within : A → Type 0} {words : A → List ℕ} → Grammar within words → Grammar (OptionWithin within) (option_words words)

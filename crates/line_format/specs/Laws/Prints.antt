@@ -1,9 +1,9 @@
 -- How the printing of a part is a part of the printing of the whole.
-use Rattle.std.proofs.Common.{◌≡◌, ℕ, ◌+◌, ◌<◌, List, [], ◌∷◌, ◌++◌, length, take, get_or, sym, ◌∙◌, ap, append_assoc}
-use Rattle.std.proofs.lemmas.List.{append-nil, take_more}
-use Rattle.std.specs.Prelude.{flat_map}
-use Rattle.std.proofs.lemmas.Grind.{flat_map-append}
-use Rattle.line_format.specs.Texts.{line_text, items_words}
+use Rattle.std.proofs.Common.{◌≡◌, ℕ, ◌+◌, ◌<◌, List, [], ◌∷◌, ◌++◌, length, take, get_or, sym, ◌∙◌, ap, append_assoc, Option}
+use Rattle.std.specs.Prelude.{map, option_map}
+use Rattle.std.proofs.lemmas.List.{take_more, map-id}
+use Rattle.std.proofs.lemmas.Iterator.Adapters.{option_map_id}
+use Rattle.line_format.specs.Texts.{line_text}
 use Rattle.line_format.specs.Laws.Lines.{line_text-append}
 
 -- a part behind what stands already
@@ -29,3 +29,10 @@ prints-nine front a b c d e f g i j p q r s t u v w x h1 h2 h3 h4 h5 h6 h7 h8 h9
 pub prints-number : (xs : List ℕ) (i : ℕ) (front old new : List ℕ) → i < length xs → old ≡ front ++ line_text (take i xs) → new ≡ old ++ line_text (get_or xs i 0 ∷ [])
     → new ≡ front ++ line_text (take (i + 1) xs)
 prints-number xs i front old new room e f = prints-part front old new (take i xs) (get_or xs i 0 ∷ []) e f ∙ ap (λ (l : List ℕ). front ++ line_text l) (sym (take_more xs i 0 room))
+
+-- values that are their own data: a list of them, and one that may be absent
+pub prints-items : {A : Type 0} (words : List A → List ℕ) (xs : List A) (old new : List ℕ) → new ≡ old ++ line_text (words (map (λ x. x) xs)) → new ≡ old ++ line_text (words xs)
+prints-items words xs old new e = e ∙ ap (λ (l : List _). old ++ line_text (words l)) (map-id xs)
+
+pub prints-option : {A : Type 0} (words : Option A → List ℕ) (o : Option A) (old new : List ℕ) → new ≡ old ++ line_text (words (option_map (λ x. x) o)) → new ≡ old ++ line_text (words o)
+prints-option words o old new e = e ∙ ap (λ (l : Option _). old ++ line_text (words l)) (option_map_id o)

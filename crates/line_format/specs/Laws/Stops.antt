@@ -1,25 +1,19 @@
 -- How the reading of a part is a part of the reading of the whole.
-use Rattle.std.proofs.Common.{◌≡◌, ℕ, suc, ◌-◌, ◌<◌, ◌≤◌, ◌^◌, List, [], ◌∷◌, ◌++◌, length, refl, sym, ◌∙◌, ap, subst, arith, append_assoc, replicate, Result, Ok, Err, Vec, Global, Option, Some, None}
-use Rattle.std.specs.Prelude.{IsErrAnd, decimal, All}
-use Rattle.std.proofs.lemmas.List.{append-nil}
-use Rattle.std.proofs.lemmas.Grind.{common_steps, flat_map-append}
-use Rattle.std.proofs.lemmas.List.Elements.{All-append, All-replicate}
-use Rattle.line_format.specs.Texts.{line_text, Reads, Stops, Between, Grammar, number_words, items_words, ItemsWithin, list_words, ListWithin, OptionWithin, option_words, ReadsOne, ReadsKnown, ReadsList}
-use Rattle.line_format.specs.Laws.Grammars.{head-same, tail-same, zero-not-one, PairWithin, ThenWithin, pair_words, SameTexts, number-grammar, items-grammar, same-list, whole-words}
+use Rattle.std.proofs.Common.{◌≡◌, ℕ, List, ◌∷◌, ◌++◌, sym, ◌∙◌, ap, subst, append_assoc, Result, Ok, Err, Option}
+use Rattle.std.specs.Prelude.{IsErrAnd, map, option_map}
+use Rattle.std.proofs.lemmas.List.{map-id}
+use Rattle.std.proofs.lemmas.Iterator.Adapters.{option_map_id}
+use Rattle.line_format.specs.Texts.{line_text, Reads, Stops, Grammar, ReadsOne, ReadsKnown}
+use Rattle.line_format.specs.Laws.Grammars.{PairWithin, ThenWithin, pair_words, SameTexts, whole-words}
 use Rattle.line_format.specs.declared.texts.ItemError.{ItemError}
 use Rattle.line_format.specs.declared.texts.ItemError.TheVariants.{Malformed}
 use Rattle.line_format.specs.Laws.Lines.{lines-more}
 
 -- an error that is handed on
-pub handed-on : {A : Type 0} (within : A → Type 0) (words : A → List ℕ) (old new : List ℕ) (r : Result A ItemError) (e : ItemError)
-    → IsErrAnd r (λ x. x ≡ e) → (e ≡ Malformed → Stops within words old new) → ReadsOne within words old new r
-handed-on within words old new (Ok v) e h s = absurd h
-handed-on within words old new (Err x) e h s = λ m. s (sym h ∙ m)
-
-pub list-handed-on : {A : Type 0} (within : List A → Type 0) (words : List A → List ℕ) (old new : List ℕ) (r : Result (Vec A Global) ItemError) (e : ItemError)
-    → IsErrAnd r (λ x. x ≡ e) → (e ≡ Malformed → Stops within words old new) → ReadsList within words old new r
-list-handed-on within words old new (Ok v) e h s = absurd h
-list-handed-on within words old new (Err x) e h s = λ m. s (sym h ∙ m)
+pub handed-on : {A D : Type 0} (data_of : A → D) (within : D → Type 0) (words : D → List ℕ) (old new : List ℕ) (r : Result A ItemError) (e : ItemError)
+    → IsErrAnd r (λ x. x ≡ e) → (e ≡ Malformed → Stops within words old new) → ReadsOne data_of within words old new r
+handed-on data_of within words old new (Ok v) e h s = absurd h
+handed-on data_of within words old new (Err x) e h s = λ m. s (sym h ∙ m)
 
 -- the same of a call that takes no memory
 pub known-handed-on : {A : Type 0} (within : A → Type 0) (words : A → List ℕ) (old new : List ℕ) (r : Result A ItemError) (e : ItemError)
@@ -104,3 +98,12 @@ pub same-reads : {A B : Type 0} {near : A → Type 0} {near_words : A → List �
     → (s : SameTexts near near_words far far_words) → Reads near near_words old new a → Reads far far_words old new (s.to a)
 same-reads {A} {B} {near} {near_words} {far} {far_words} {old} {new} {a} s r =
     record { fits = s.to_fits a r.fits; text = r.text ∙ ap (λ (l : List ℕ). line_text l ++ new) (sym (s.to_words a r.fits)) }
+
+-- values that are their own data: a list of them, and one that may be absent
+pub own-items : {A : Type 0} {within : List A → Type 0} {words : List A → List ℕ} {old new : List ℕ} (xs : List A)
+    → Reads within words old new (map (λ x. x) xs) → Reads within words old new xs
+own-items {A} {within} {words} {old} {new} xs r = subst (λ (l : List A). Reads within words old new l) (map-id xs) r
+
+pub own-option : {A : Type 0} {within : Option A → Type 0} {words : Option A → List ℕ} {old new : List ℕ} (o : Option A)
+    → Reads within words old new (option_map (λ x. x) o) → Reads within words old new o
+own-option {A} {within} {words} {old} {new} o r = subst (λ (l : Option A). Reads within words old new l) (option_map_id o) r

@@ -1,9 +1,13 @@
 // Texts that are read back, and failures of memory.
 use super::*;
-use crate::items::{print_list, print_option, read_list, read_option};
+use crate::lists::{ListOf, print_items, read_items};
 use p3_field::{BabyBear, QuarticExtension, RingCore};
 use std::alloc::{AllocError, AllocFailed};
 use std::test::Fail;
+
+type AtMostOne = ListOf<QuarticExtension, 1>;
+
+type AtMostTwo = ListOf<QuarticExtension, 2>;
 
 #[test]
 fn lists_and_absent_values_are_read_back(rt: HostRuntime) -> Result<(), Fail> {
@@ -14,25 +18,22 @@ fn lists_and_absent_values_are_read_back(rt: HostRuntime) -> Result<(), Fail> {
         c2: BabyBear::from_u64(0),
         c3: BabyBear::from_u64(2_013_265_922),
     };
+    let list = vec![in alloc; x, x]?;
     let mut text = Vec::new(alloc);
-    print_list(&[x, x], &mut text)?;
-    print_option(&Some(x), &mut text)?;
-    print_option::<QuarticExtension>(&None, &mut text)?;
+    AtMostTwo::print(&list, &mut text)?;
+    print_items::<Option<QuarticExtension>>(&[Some(x), None], &mut text)?;
     assert_eq!(rt;
         text.as_slice(),
         b"2\n1\n20\n0\n1\n1\n20\n0\n1\n1\n1\n20\n0\n1\n0\n".as_slice()
     );
     let mut reader = Reader::new(&text);
-    assert!(rt; read_list::<QuarticExtension>(alloc, &mut reader, 3, 9).is_err());
-    let list = read_list::<QuarticExtension>(alloc, &mut reader, 0, 2)
+    assert!(rt; AtMostOne::read(alloc, &mut reader).is_err());
+    let read = AtMostTwo::read(alloc, &mut reader).ok().ok_or("a list")?;
+    assert_eq!(rt; read.as_slice(), [x, x].as_slice());
+    let options = read_items::<Option<QuarticExtension>>(alloc, &mut reader, 2)
         .ok()
-        .ok_or("a list")?;
-    assert_eq!(rt; list.as_slice(), [x, x].as_slice());
-    assert_eq!(rt; read_option(alloc, &mut reader), Ok(Some(x)));
-    assert_eq!(rt;
-        read_option::<QuarticExtension>(alloc, &mut reader),
-        Ok(None)
-    );
+        .ok_or("two options")?;
+    assert_eq!(rt; options.as_slice(), [Some(x), None].as_slice());
     assert_eq!(rt; reader.rest(), b"".as_slice());
     Ok(())
 }
@@ -43,4 +44,22 @@ fn failures_of_memory(rt: HostRuntime) {
     assert_eq!(rt; failure, ItemError::OutOfMemory);
     let failure: ItemError = AllocFailed { value: 7u64 }.into();
     assert_eq!(rt; failure, ItemError::OutOfMemory);
+}
+
+#[test]
+fn lines_are_counted_from_the_first_byte(rt: HostRuntime) {
+    let alloc = rt.alloc();
+    let bytes = b"head\nof it\n2\n5\n07\n";
+    assert_eq!(rt;
+        read_text_from::<ListOf<BabyBear, 9>>(alloc, bytes, 11).err(),
+        Some(TextError::Malformed { line: 5 })
+    );
+    assert_eq!(rt;
+        read_text_from::<BabyBear>(alloc, bytes, 13),
+        Err(TextError::Malformed { line: 5 })
+    );
+    assert_eq!(rt;
+        read_text::<BabyBear>(alloc, &bytes[13..15]),
+        Ok(BabyBear::from_u64(5))
+    );
 }

@@ -3,7 +3,7 @@ use Rattle.std.specs.Prelude.{flat_map}
 use Rattle.std.proofs.lemmas.List.{append-nil}
 use Rattle.line_format.specs.Texts.{line_text, list_words, option_words}
 use Rattle.batch_tool.specs.ProofFile.{values_words, opened_words}
-use Rattle.line_format.specs.Laws.Prints.{prints-seven}
+use Rattle.line_format.specs.Laws.Prints.{prints-seven, prints-items}
 use Rattle.batch_tool.proofs.proof_file.print_opened.Goals as goal
 
 pub returns-clause-single : goal.returns-clause-single
@@ -13,7 +13,7 @@ pub returns-clause-text : goal.returns-clause-text
 unfolding opened_words
 returns-clause-text c =
     let p = c.proof.inside in
-    let local : c.print_list.new.out.items ≡ c.args.out.now.items ++ line_text (values_words p.trace_local.items) = rw (← c.deref.ensures.value) c.in_ok-print_list.ensures in
+    let local : c.print_list.new.out.items ≡ c.args.out.now.items ++ line_text (values_words p.trace_local.items) = rw (← c.deref.ensures.value) (prints-items values_words c.deref.result.now _ _ c.in_ok-print_list.ensures) in
     let next : c.print_one_list.new.out.items ≡ c.print_list.new.out.items ++ line_text (option_words values_words (Some p.trace_next.items)) = rw (← c.deref-2.ensures.value) c.in_ok-print_one_list.ensures.present in
     let chunk : c.print_one_list-2.new.out.items ≡ c.push_number.new.out.items ++ line_text (list_words values_words (p.chunk_values.items ∷ [])) = rw (← c.deref-3.ensures.value) c.in_ok-print_one_list-2.ensures.alone in
     let all = prints-seven c.args.out.now.items c.print_list.new.out.items c.print_one_list.new.out.items c.push_number.new.out.items c.print_one_list-2.new.out.items c.push_number-2.new.out.items c.push_number-3.new.out.items c.push_number-4.new.out.items

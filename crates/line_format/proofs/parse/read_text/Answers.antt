@@ -1,11 +1,5 @@
-use Rattle.line_format.proofs.Faults.{stop-faults, rest-faults, not-empty}
+use Rattle.line_format.proofs.Faults.{from-start}
 use Rattle.line_format.proofs.parse.read_text.Goals as goal
-use Rattle.line_format.proofs.parse.read_text.Goals.{in-Ok+else-is_empty, in-Err-Malformed}
 
 pub returns : goal.returns
-returns g c = elim c.match-read.branch [
-  | in-Ok+else-is_empty w ↦ rest-faults c.args.bytes.now c.rest-2.result.now c.line_behind.result c.new-reader.ensures c.rest-2.ensures g.met.T.Item.grammar
-      w.in-Ok.ensures (not-empty _ _ _ w.rest.ensures w.is_empty.ensures w.if-is_empty.false) c.line_behind.ensures
-  | in-Err-Malformed w ↦ stop-faults c.args.bytes.now c.rest-2.result.now c.line_behind.result c.new-reader.ensures c.rest-2.ensures g.met.T.Item.grammar
-      (w.in-Err-Malformed.ensures w.in-Err-Malformed.field-0-is) c.line_behind.ensures
-]
+returns g c = from-start g.T.Form.data_of g.T.Form.within g.T.Form.words c.args.bytes.now c.read_text_from.result c.read_text_from.ensures
