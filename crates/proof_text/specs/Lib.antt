@@ -1,0 +1,4 @@
+pub mod Laws
+pub mod Matrices
+pub mod Openings
+pub mod ProofText
