@@ -1,0 +1,30 @@
+-- The rows of a committed table over the base field (own).
+use Rattle.std.specs.Prelude.{ℕ, true, false, List, map}
+use Rattle.p3_air.specs.declared.cells.Cell.{Cell}
+use Rattle.p3_air.specs.declared.cells.Cell.TheVariants.{Main, Preprocessed, Periodic, Public, FirstRow, LastRow, Transition}
+use Rattle.p3_air.specs.Shape.{ReadsIn}
+use Rattle.p3_air.specs.Tree.{Tree}
+use Rattle.p3_field.specs.Domain.{point}
+use Rattle.p3_field.specs.Field.{TwoAdic}
+use Rattle.p3_field.specs.Laws.SubgroupSelectors.{subgroup}
+use Rattle.p3_field.specs.Poly.{val}
+use Rattle.committed_tables.specs.Committed.{CommittedTable}
+
+-- row i of the main columns: the values of their polynomials at the row's point
+abbrev pub main_row : {F E : Type 0} → TwoAdic F → CommittedTable F E → ℕ → List F
+main_row f t i = map (λ g. val f.ring g (point f.ring f.root (subgroup f.ring t.log_height) i)) t.main
+
+-- the cell is one of this row's main cells
+abbrev pub IsMainHere : Cell → Type 0
+IsMainHere (Main true column) = ⊥
+IsMainHere (Main false column) = Unit {0}
+IsMainHere (Preprocessed next column) = ⊥
+IsMainHere (Periodic n) = ⊥
+IsMainHere (Public n) = ⊥
+IsMainHere FirstRow = ⊥
+IsMainHere LastRow = ⊥
+IsMainHere Transition = ⊥
+
+-- the constraint reads such cells alone
+abbrev pub ReadsMainHere : {F : Type 0} → Tree F → Type 0
+ReadsMainHere tree = ReadsIn IsMainHere (λ _. ⊥) tree

@@ -1,0 +1,9 @@
+pub mod Commitment
+pub mod PlainSetting
+pub mod CommittedBatch
+pub mod Meaning
+pub mod OpenedBatch
+pub mod UnluckyCounts
+pub mod Swapped
+pub mod BaseRows
+pub mod Laws

@@ -1,0 +1,77 @@
+//! How many challenges may be unlucky for a swap table of eight rows, in numbers: by the calls that give its constraints, their
+//! degrees and the number of its quotient's chunks.
+ghost use Rattle.std.specs.Prelude.{◌≡◌, ◌+◌, ◌-◌, ◌*◌, ◌^◌, ◌<◌, [], max, map, All, IfSome};
+ghost use Rattle.p3_air.specs.Degree.{HasPeriod, polynomial_degree};
+ghost use Rattle.p3_air.specs.Shape.{ReadsIn};
+ghost use Rattle.p3_air.specs.Symbolic.{tree_of};
+ghost use Rattle.p3_lookup.specs.Lookup.{greatest};
+
+use batch_constraints::{get_log_num_quotient_chunks, get_symbolic_constraints};
+use batch_tables::SwapAir;
+use p3_air::{AirLayout, SymbolicExpression};
+use p3_field::{BabyBear, FieldCore, RingCore};
+use p3_lookup::LogUpGadget;
+use std::alloc::Global;
+use std::test::Fail;
+
+// The largest degree of constraints without periodic columns over so many rows.
+fn largest_degree(constraints: &[SymbolicExpression<BabyBear>], rows: usize) -> usize
+    requires rows { 0 < rows }
+    requires periods { All (ReadsIn (HasPeriod []) (λ _. Unit {0})) (map tree_of constraints.now) }
+    ensures { result ≡ greatest 0 (map (polynomial_degree rows []) (map tree_of constraints.now)) }
+{
+    let mut degree = 0usize;
+    for constraint in constraints {
+        degree = degree.max(constraint.poly_degree(rows, &[]));
+    }
+    degree
+}
+
+// How many alphas may be unlucky for so many rows and constraints.
+fn most_alphas(rows: usize, constraints: usize) -> Option<usize>
+    ensures { IfSome result (λ n. n ≡ rows * (constraints - 1)) }
+{
+    rows.checked_mul(constraints.saturating_sub(1))
+}
+
+// How many zetas may be unlucky for so many rows, this largest degree and this logarithm of the number of chunks.
+fn most_zetas(rows: usize, degree: usize, log_chunks: usize) -> Option<usize>
+    ensures { IfSome result (λ n. n ≡ max degree (rows * (2 ^ log_chunks + 1) - 1)) }
+{
+    if log_chunks >= 32 {
+        return None;
+    }
+    let chunks = 1usize << log_chunks;
+    match rows.checked_mul(chunks + 1) {
+        Some(n) => Some(degree.max(n.saturating_sub(1))),
+        None => None,
+    }
+}
+
+#[test]
+fn swap_of_eight_rows(rt: HostRuntime) -> Result<(), Fail> {
+    let alloc = rt.alloc();
+    let gadget = LogUpGadget::new();
+    let layout = AirLayout::from_air::<BabyBear, SwapAir>(&SwapAir);
+    let constraints = get_symbolic_constraints::<BabyBear, SwapAir, LogUpGadget>(
+        alloc,
+        &SwapAir,
+        layout,
+        &[],
+        &gadget,
+    )?;
+    let log_chunks = get_log_num_quotient_chunks::<BabyBear, SwapAir, LogUpGadget>(
+        alloc,
+        &SwapAir,
+        layout,
+        8,
+        &[],
+        0,
+        &gadget,
+    )?;
+    let degree = largest_degree(&constraints.0, 8);
+    assert_eq!(rt; most_alphas(8, constraints.0.len()), Some(32));
+    assert_eq!(rt; degree, 14);
+    assert_eq!(rt; most_zetas(8, degree, log_chunks), Some(15));
+    Ok(())
+}
