@@ -1,0 +1,5 @@
+pub mod Selecting
+pub mod FallingPowers
+pub mod RowFits
+pub mod QuotientSteps
+pub mod Recombined

@@ -1,0 +1,4 @@
+pub mod Evaluations
+pub mod QuotientRows
+pub mod Chunks
+pub mod Laws

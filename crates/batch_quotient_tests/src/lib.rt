@@ -1,0 +1,11 @@
+//! Tests of the values of a table's quotient, as a caller of `batch_quotient`'s public items.
+#![tactic(auto)]
+
+#[cfg(test)]
+mod cell_air;
+#[cfg(test)]
+mod setting;
+#[cfg(test)]
+mod tables;
+#[cfg(test)]
+mod traces;
