@@ -7,6 +7,7 @@
 //! | the constraints of a table with lookups: degrees, chunk counts, openings, the check of rows | `batch_constraints` |
 //! | the verifier's constraint folder | `batch_verifier_folder` |
 //! | the prover's constraint folder | `batch_prover_folder` |
+//! | the values of a table's quotient, and its chunks | `batch_quotient` |
 //! | common data, proofs, and why a proof is refused | `batch_statement` |
 //! | a configuration as plain data, which contracts speak of | `batch_setting` |
 //! | what a proof claims of its commitments | `batch_claims` |
@@ -25,6 +26,7 @@ pub use batch_identity::{IdentityData, VerifierData};
 pub use batch_prover_folder::{
     ProverConstraintFolderWithLookups, ProverFolderWithLookups, prover_fold_with_lookups,
 };
+pub use batch_quotient::{quotient_chunks, quotient_values};
 pub use batch_setting::Settings;
 pub use batch_setup::{
     Committed, KeptData, ProverData, ProverOnlyData, ProverPhase, SetupData, SetupError,
