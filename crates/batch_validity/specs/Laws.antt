@@ -1,0 +1,5 @@
+-- What is proved of the definitions, by subject.
+pub mod Columns
+pub mod Committed
+pub mod Held
+pub mod Made

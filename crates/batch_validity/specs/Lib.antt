@@ -1,0 +1,3 @@
+pub mod Traced
+pub mod Valid
+pub mod Laws
