@@ -1,0 +1,31 @@
+-- Configurations over BabyBear serve for jobs; and what is made for a job's AIRs is valid.
+use Rattle.std.proofs.Common.{◌≡◌, ℕ, ◌^◌, ◌≤◌, refl, sym, subst, arith}
+use Rattle.p3_challenger.specs.Script.{ChallengerOf}
+use Rattle.p3_field.specs.BabyBear.{bear_ring}
+use Rattle.p3_field.specs.Laws.Algebra.{one_mul}
+use Rattle.p3_field.specs.Laws.BearField.{bear_31, bear_31_power}
+use Rattle.p3_field.specs.Laws.BearLaws.{bear_laws}
+use Rattle.p3_field.specs.Quartic.{quartic_inv}
+use Rattle.p3_field.specs.Ring.{pow}
+use Rattle.p3_field.specs.declared.baby_bear.BabyBear.{BabyBear}
+use Rattle.p3_field.specs.declared.quartic.QuarticExtension.{QuarticExtension}
+use Rattle.committed_tables.specs.Fields.{bear_field}
+use Rattle.committed_tables.specs.Laws.BearFields.{bear_fields}
+use Rattle.tool_validity.specs.Serves.{ServesJobs, bear_setting}
+
+module _ {S C : Type 0} (challenger : ChallengerOf S BabyBear QuarticExtension C) (initial : S) (log_max lookup_bits ood_bits : ℕ) where
+  -- the shift is the generator
+  shift_is : bear_field.generator ≡ bear_ring.mul bear_ring.one bear_field.generator
+  shift_is = sym (one_mul bear_ring bear_laws bear_field.generator)
+
+  pub bear_serves : 10 ≤ log_max → ServesJobs (bear_setting challenger initial log_max lookup_bits ood_bits) quartic_inv
+  bear_serves enough = record {
+    fields = bear_fields;
+    plain = refl;
+    least = refl;
+    most = enough;
+    subgroups = omega arith;
+    order = omega arith;
+    shift = subst (λ x. x ≡ bear_ring.zero → ⊥) shift_is bear_31;
+    shifted = λ k h. subst (λ x. pow bear_ring x (2 ^ k) ≡ bear_ring.one → ⊥) shift_is (bear_31_power k (omega (arith, h)));
+  }

@@ -1,0 +1,37 @@
+-- Configurations for jobs.
+use Rattle.std.specs.Prelude.{◌≡◌, ℕ, ◌^◌, ◌<◌, ◌≤◌, false}
+use Rattle.p3_field.specs.Ring.{pow}
+use Rattle.batch_setting.specs.Setting.{Setting}
+use Rattle.batch_validity.specs.Traced.{quotient_shift}
+use Rattle.committed_tables.specs.Fields.{FieldsLaws, bear_field, quartic_extension}
+use Rattle.p3_challenger.specs.Script.{ChallengerOf}
+use Rattle.p3_field.specs.declared.baby_bear.BabyBear.{BabyBear}
+use Rattle.p3_field.specs.declared.quartic.QuarticExtension.{QuarticExtension}
+
+-- A configuration serves for jobs: its fields have the laws, its backend masks nothing and takes tables of one row and of up to 2^10, there
+-- are subgroups of these sizes, none of which has the quotients' shift among its elements, and the order is above eight tables' loads.
+pub record ServesJobs {S F E C : Type 0} (c : Setting S F E C) (inverse : E → E) : Type 0 where
+  pub fields : FieldsLaws c.field c.extension c.two_adicity inverse
+  pub plain : c.zk ≡ false
+  pub least : c.log_min ≡ 0
+  pub most : 10 ≤ c.log_max
+  pub subgroups : 10 ≤ c.two_adicity
+  pub order : 8388608 < c.order
+  pub shift : quotient_shift c ≡ c.field.ring.zero → ⊥
+  pub shifted : (k : ℕ) → k ≤ 10 → pow c.field.ring (quotient_shift c) (2 ^ k) ≡ c.field.ring.one → ⊥
+
+-- a configuration over BabyBear and its quartic extension, whose backend masks nothing and takes any trace of up to 2^log_max rows
+abbrev pub bear_setting : {S C : Type 0} → ChallengerOf S BabyBear QuarticExtension C → (initial : S) → (log_max lookup_bits ood_bits : ℕ) → Setting S BabyBear QuarticExtension C
+bear_setting challenger initial log_max lookup_bits ood_bits = record {
+  field = bear_field;
+  two_adicity = 27;
+  order = 2013265921;
+  extension = quartic_extension;
+  challenger = challenger;
+  initial = initial;
+  zk = false;
+  log_min = 0;
+  log_max = log_max;
+  lookup_bits = lookup_bits;
+  ood_bits = ood_bits;
+}
