@@ -1,0 +1,2 @@
+pub mod HonestProof
+pub mod Laws
