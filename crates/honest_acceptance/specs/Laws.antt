@@ -1,0 +1,9 @@
+-- What is proved of honest proofs before a verifier, by check.
+pub mod Lengths
+pub mod Rounds
+pub mod Kept
+pub mod Opened
+pub mod Shape
+pub mod Identity
+pub mod Accepted
+pub mod Airs
