@@ -1,0 +1,3 @@
+mod Granted
+mod SettingData
+mod SharedData

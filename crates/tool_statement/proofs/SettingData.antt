@@ -1,0 +1,32 @@
+-- The configuration as plain data.
+use Rattle.std.proofs.Common.{◌≡◌, ℕ, ◌-◌, false, replicate}
+use Rattle.p3_field.specs.BabyBear.{reduce, bear_ring, bear_inv, bear_root}
+use Rattle.p3_field.specs.Quartic.{quartic_ring, of_bear_value, quartic_basis, quartic_parts, quartic_whole}
+use Rattle.p3_field.specs.declared.baby_bear.BabyBear.{BabyBear}
+use Rattle.p3_field.specs.declared.quartic.QuarticExtension.{QuarticExtension}
+use Rattle.p3_challenger.specs.Sha256Functions.{sha256_functions}
+use Rattle.p3_challenger.specs.declared.sha256_challenger.Sha256Challenger.{Sha256Challenger}
+use Rattle.plain_pcs.specs.Scheme.{Blowup, PlainCommitmentData}
+use Rattle.plain_pcs.specs.Observing.{commitment_elements}
+use Rattle.batch_setting.specs.Setting.{Setting}
+use Rattle.tool_statement.specs.Config.{tool_setting}
+
+abbrev pub setting_with : Blowup → Sha256Challenger → ℕ → ℕ → Setting Sha256Challenger BabyBear QuarticExtension (PlainCommitmentData BabyBear)
+setting_with b challenger lookup_bits ood_bits = record {
+  field = record { ring = bear_ring; inv = bear_inv; root = bear_root; generator = reduce 31 };
+  two_adicity = 27;
+  order = 2013265921;
+  extension = record { ring = quartic_ring; embed = of_bear_value; dimension = 4; basis = quartic_basis; parts = quartic_parts; whole = quartic_whole };
+  challenger = sha256_functions (commitment_elements bear_ring);
+  initial = challenger;
+  zk = false;
+  log_min = 0;
+  log_max = 27 - b.log_blowup;
+  lookup_bits = lookup_bits;
+  ood_bits = ood_bits;
+}
+
+pub setting_is : (b : Blowup) (challenger : Sha256Challenger) (lookup_bits ood_bits : ℕ) → b ≡ record { log_blowup = 1 } → challenger ≡ record { chain = replicate 32 0; left = 0 }
+    → lookup_bits ≡ 4 → ood_bits ≡ 4 → setting_with b challenger lookup_bits ood_bits ≡ tool_setting
+unfolding tool_setting
+setting_is b challenger lookup_bits ood_bits p q r s = λ i. setting_with (p i) (q i) (r i) (s i)

@@ -1,0 +1,82 @@
+//! The tables of a statement.
+ghost use Rattle.std.specs.Prelude.{◌≡◌, IfOk};
+ghost use Rattle.p3_field.specs.BabyBear.{bear_ring};
+ghost use Rattle.batch_setup.specs.Packed.{source_of};
+ghost use Rattle.tool_tables.specs.Tool.{tool_declaration, tool_interactions, tool_trees};
+ghost use Rattle.tool_statement.specs.StatedTables.{TableWithin, log_height_of, publics_of, source_of_table};
+
+use batch_tables::SwapAir;
+use p3_field::{BabyBear, Mem};
+use std::alloc::Global;
+use tool_tables::{GiveAir, TakeAir, ToolAir, WheelAir};
+
+/// What a proof file states of a table (own): its kind, the base-2 logarithm `k` of its number of rows, and its public values. `k` is 0 to
+/// 10, of a wheel 1 to 10.
+#[derive(Clone, Copy, Debug, PartialEq, Eq)]
+pub enum TableStatement {
+    /// A swap table.
+    Swap {
+        /// The base-2 logarithm of the number of rows.
+        k: u8,
+        /// The left cell of the first row.
+        a: BabyBear,
+        /// The right cell of the first row.
+        b: BabyBear,
+        /// The right cell of the last row.
+        x: BabyBear,
+    },
+    /// A wheel.
+    Wheel {
+        /// The base-2 logarithm of the number of rows.
+        k: u8,
+    },
+    /// A table that takes words.
+    Take {
+        /// The base-2 logarithm of the number of rows.
+        k: u8,
+    },
+    /// A table that gives words.
+    Give {
+        /// The base-2 logarithm of the number of rows.
+        k: u8,
+    },
+}
+
+impl TableStatement {
+    /// The base-2 logarithm of the number of rows.
+    pub fn log_height(&self) -> usize
+        ensures { result ≡ log_height_of self.now }
+    {
+        match self {
+            TableStatement::Swap { k, .. } => *k as usize,
+            TableStatement::Wheel { k } => *k as usize,
+            TableStatement::Take { k } => *k as usize,
+            TableStatement::Give { k } => *k as usize,
+        }
+    }
+
+    /// The table's AIR. The only error is running out of memory.
+    pub fn air(&self, alloc: Global) -> Mem<ToolAir<BabyBear>>
+        requires { TableWithin self.now }
+        ensures { IfOk result (λ a. source_of (tool_declaration bear_ring) tool_trees (tool_interactions bear_ring) a ≡ source_of_table self.now) }
+    {
+        match self {
+            TableStatement::Swap { .. } => Ok(ToolAir::Swap(SwapAir)),
+            TableStatement::Wheel { k } => Ok(ToolAir::Wheel(WheelAir::new(alloc, *k as usize)?)),
+            TableStatement::Take { .. } => Ok(ToolAir::Take(TakeAir)),
+            TableStatement::Give { .. } => Ok(ToolAir::Give(GiveAir)),
+        }
+    }
+
+    /// The table's public values: a, b and x of a swap table, else none. The only error is running out of memory.
+    pub fn public_values(&self, alloc: Global) -> Mem<Vec<BabyBear>>
+        ensures { IfOk result (λ v. v.items ≡ publics_of self.now) }
+    {
+        match self {
+            TableStatement::Swap { a, b, x, .. } => Ok(Vec::from_array(alloc, [*a, *b, *x])?),
+            TableStatement::Wheel { .. } => Ok(Vec::new(alloc)),
+            TableStatement::Take { .. } => Ok(Vec::new(alloc)),
+            TableStatement::Give { .. } => Ok(Vec::new(alloc)),
+        }
+    }
+}
