@@ -1,0 +1,71 @@
+-- What `verify` answers for a proof file: a status and a text.
+use Rattle.std.specs.Prelude.{◌≡◌, ◌⊎◌, ℕ, List, [], ◌∷◌, length, min, codes, slice_get, None, Some}
+use Rattle.std.specs.Prelude.{slice_index_or as get_or}
+use Rattle.p3_field.specs.Checks.{FirstFailing, IsFirstFailing}
+use Rattle.p3_field.specs.declared.baby_bear.BabyBear.{BabyBear}
+use Rattle.plain_pcs.specs.declared.error.PlainError.{PlainError}
+use Rattle.batch_statement.specs.declared.error.BatchVerificationError.{BatchVerificationError}
+use Rattle.batch_verifier.specs.BatchChecks.{Accepted, FirstFault}
+use Rattle.plain_soundness.specs.Meaning.{HoldUnlessUnlucky, IsAlphaUnlucky, IsZetaUnlucky}
+use Rattle.plain_soundness.specs.Swapped.{EndsSwapped}
+use Rattle.proof_text.specs.ProofText.{ToolProofData}
+use Rattle.tool_statement.specs.Config.{tool_setting, tool_backend}
+use Rattle.tool_statement.specs.StatedTables.{log_heights_of, tool_statement}
+use Rattle.tool_statement.specs.declared.table.TableStatement.{TableStatement}
+use Rattle.tool_statement.specs.declared.table.TableStatement.TheVariants.{Swap}
+use Rattle.tool_verifier.specs.Refusals.{fault_text, refused_text}
+use Rattle.tool_verifier.specs.declared.status.Status.{Status}
+use Rattle.tool_verifier.specs.declared.status.Status.TheVariants.{Done, Refused, Usage, BadInput, ReadFault, WriteFault, OutOfMemory, TooLarge}
+
+-- the degree bits of table i are the stated logarithm of its height
+abbrev pub HasStatedHeight : List TableStatement → (degree_bits : List ℕ) → ℕ → Type 0
+HasStatedHeight tables degree_bits i = get_or (log_heights_of tables) i 0 ≡ get_or degree_bits i 0
+
+-- table i is the first, below both lengths, of which that isn't so
+abbrev pub IsMismatch : List TableStatement → (degree_bits : List ℕ) → ℕ → Type 0
+IsMismatch tables degree_bits i = IsFirstFailing (min (length tables) (length degree_bits)) (HasStatedHeight tables degree_bits) i
+
+-- it is so of all
+abbrev pub HaveStatedHeights : List TableStatement → (degree_bits : List ℕ) → Type 0
+HaveStatedHeights tables degree_bits = FirstFailing (min (length tables) (length degree_bits)) (HasStatedHeight tables degree_bits) None
+
+abbrev pub mismatch_text : ℕ → List ℕ
+mismatch_text i = refused_text (codes "HeightMismatch") (i ∷ [])
+
+-- the proof has the stated heights, and no check of the batch verifier fails
+abbrev pub IsAccepted : List TableStatement → ToolProofData → Type 0
+IsAccepted tables p = HaveStatedHeights tables p.degree_bits × Accepted tool_setting tool_backend (tool_statement tables) p
+
+-- Where neither drawn challenge is unlucky, each swap table ends as it should: its last right cell is the second public value in a table with no degree
+-- bits, which has one row, and else the first.
+abbrev pub SwapsEnd : List TableStatement → ToolProofData → Type 0
+SwapsEnd tables p =
+    (IsAlphaUnlucky tool_setting 1 (tool_statement tables) p → ⊥) → (IsZetaUnlucky tool_setting 1 (tool_statement tables) p → ⊥)
+    → (i k : ℕ) (a b x : BabyBear) → slice_get tables i ≡ Some (Swap k a b x) → EndsSwapped (get_or p.degree_bits i 0) a b x
+
+-- What an accepted proof means: every constraint of every table is zero on each row of the committed polynomials, or the drawn alpha or the drawn zeta
+-- is unlucky; and where neither is, swap tables end as they should. The scheme's blowup is two to the power of one.
+pub record IsMeant (tables : List TableStatement) (p : ToolProofData) : Type 0 where
+  pub holds : HoldUnlessUnlucky tool_setting 1 (tool_statement tables) p
+  pub swaps : SwapsEnd tables p
+
+-- why it isn't accepted, as the line that says so: the first table with another height, or else the first check that fails
+abbrev pub IsRefusedWith : List TableStatement → ToolProofData → List ℕ → Type 0
+IsRefusedWith tables p text =
+    ((i : ℕ) × IsMismatch tables p.degree_bits i × (text ≡ mismatch_text i))
+    ⊎ (HaveStatedHeights tables p.degree_bits × ((e : BatchVerificationError PlainError) × FirstFault tool_setting tool_backend (tool_statement tables) p e × (text ≡ fault_text e)))
+
+-- The status and the text. What `accepted` means follows from the checks, and is said here since it is what a reader of the text relies on.
+unfoldable pub IsFileAnswer : List TableStatement → ToolProofData → Status → List ℕ → Type 0
+IsFileAnswer tables p Done text = IsAccepted tables p × IsMeant tables p × (text ≡ codes "accepted\n")
+IsFileAnswer tables p Refused text = IsRefusedWith tables p text
+IsFileAnswer tables p Usage text = ⊥
+IsFileAnswer tables p BadInput text = ⊥
+IsFileAnswer tables p ReadFault text = ⊥
+IsFileAnswer tables p WriteFault text = ⊥
+IsFileAnswer tables p OutOfMemory text = ⊥
+IsFileAnswer tables p TooLarge text = ⊥
+
+-- two answers are one
+abbrev pub SameAnswer : (s t : Status) (x y : List ℕ) → Type 0
+SameAnswer s t x y = (s ≡ t) × (x ≡ y)

@@ -1,0 +1,3 @@
+pub mod FileAnswer
+pub mod Refusals
+pub mod Status
