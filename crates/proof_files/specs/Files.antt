@@ -1,0 +1,47 @@
+-- Proof files: the words of a file, and its limits.
+use Rattle.std.specs.Prelude.{◌≡◌, ◌==◌, if◌then◌else◌, ℕ, List, [], ◌∷◌, ◌++◌}
+use Rattle.std.specs.Prelude.{slice_index_or as get_or}
+use Rattle.p3_field.specs.BabyBear.{bear_ring}
+use Rattle.p3_field.specs.declared.baby_bear.BabyBear.{BabyBear}
+use Rattle.line_format.specs.Texts.{ListWithin, list_words}
+use Rattle.tool_statement.specs.StatedTables.{TableWithin}
+use Rattle.tool_statement.specs.declared.table.TableStatement.{TableStatement}
+use Rattle.tool_statement.specs.declared.table.TableStatement.TheVariants.{Swap, Wheel, Take, Give}
+use Rattle.proof_text.specs.ProofText.{ProofWithin, ToolProofData, proof_words}
+
+-- a table's statement: its kind, the logarithm of its rows, and a swap table's public values
+abbrev pub statement_words : TableStatement → List ℕ
+statement_words (Swap k a b x) = 1 ∷ k ∷ a.value ∷ b.value ∷ x.value ∷ []
+statement_words (Wheel k) = 2 ∷ k ∷ []
+statement_words (Take k) = 3 ∷ k ∷ []
+statement_words (Give k) = 4 ∷ k ∷ []
+
+-- by the kind: the least logarithm of the rows, the number of public values, and the statement with this logarithm and these values
+abbrev pub least_log_rows : ℕ → ℕ
+least_log_rows kind = if kind == 2 then 1 else 0
+
+abbrev pub public_count : ℕ → ℕ
+public_count kind = if kind == 1 then 3 else 0
+
+abbrev pub stated : (kind k : ℕ) → List BabyBear → TableStatement
+stated kind k values =
+    if kind == 1 then Swap k (get_or values 0 bear_ring.zero) (get_or values 1 bear_ring.zero) (get_or values 2 bear_ring.zero)
+    else if kind == 2 then Wheel k
+    else if kind == 3 then Take k
+    else Give k
+
+-- a proof file as plain data
+pub record FileData : Type 0 where
+  pub version : ℕ
+  pub tables : List TableStatement
+  pub proof : ToolProofData
+
+-- a file of version 1 with 1 to 8 tables, each within its limits, and a proof within those of proofs
+pub record FileWithin (f : FileData) : Type 0 where
+  pub version : f.version ≡ 1
+  pub tables : ListWithin 1 8 TableWithin f.tables
+  pub proof : ProofWithin f.proof
+
+-- the version, the list of the tables, and the proof
+abbrev pub file_words : FileData → List ℕ
+file_words f = f.version ∷ list_words statement_words f.tables ++ proof_words f.proof

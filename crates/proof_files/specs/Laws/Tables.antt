@@ -1,0 +1,98 @@
+-- The words of a table's statement tell the statement.
+use Rattle.std.specs.Prelude.{◌==◌, if◌then◌else◌}
+use Rattle.std.proofs.Common.{◌≡◌, Bool, true, false, ℕ, zero, suc, ◌≤◌, List, [], ◌∷◌, length, All, refl, arith}
+use Rattle.p3_field.specs.declared.baby_bear.BabyBear.{BabyBear}
+use Rattle.line_format.specs.Texts.{Between, Grammar, ItemsWithin, Unlimited, element_words, items_words, number_words}
+use Rattle.line_format.specs.Laws.Grammars.{PairWithin, ThenWithin, SameTexts, element-grammar, items-grammar, number-grammar, pair-grammar, pair_words, same-grammar, then-grammar}
+use Rattle.tool_statement.specs.StatedTables.{TableWithin}
+use Rattle.tool_statement.specs.declared.table.TableStatement.{TableStatement}
+use Rattle.tool_statement.specs.declared.table.TableStatement.TheVariants.{Swap, Wheel, Take, Give}
+use Rattle.proof_files.specs.Files.{least_log_rows, public_count, stated, statement_words}
+
+-- a table is seen as its kind, the logarithm of its rows, and its public values
+abbrev pub RowsWithin : ℕ → ℕ → Type 0
+RowsWithin kind = Between (least_log_rows kind) 10
+
+abbrev pub ValuesWithin : ℕ → List BabyBear → Type 0
+ValuesWithin kind = ItemsWithin (public_count kind) Unlimited
+
+abbrev pub RestWithin : ℕ → ℕ × List BabyBear → Type 0
+RestWithin kind = ThenWithin (RowsWithin kind) (ValuesWithin kind)
+
+abbrev pub rest_words : ℕ × List BabyBear → List ℕ
+rest_words = pair_words number_words (items_words element_words)
+
+abbrev pub SeenWithin : ℕ × (ℕ × List BabyBear) → Type 0
+SeenWithin = PairWithin (Between 1 4) RestWithin
+
+abbrev pub seen_words : ℕ × (ℕ × List BabyBear) → List ℕ
+seen_words = pair_words number_words rest_words
+
+pub no_values : (P : BabyBear → Type 0) → All P []
+no_values P k d h = absurd (omega (arith, h))
+
+abbrev pub to : ℕ × (ℕ × List BabyBear) → TableStatement
+to p = stated p.0 p.1.0 p.1.1
+
+pub fits : (kind k : ℕ) (xs : List BabyBear) → SeenWithin (kind, (k, xs)) → TableWithin (stated kind k xs)
+fits zero k xs h = absurd (let l = h.0.0 in omega (arith, l))
+fits (suc zero) k xs h = h.1.0.1
+fits (suc (suc zero)) k xs h = h.1.0
+fits (suc (suc (suc zero))) k xs h = h.1.0.1
+fits (suc (suc (suc (suc zero)))) k xs h = h.1.0.1
+fits (suc (suc (suc (suc (suc n))))) k xs h = absurd (let l = h.0.1 in omega (arith, l))
+
+pub three : (k : ℕ) (xs : List BabyBear) → length xs ≡ 3 → statement_words (stated 1 k xs) ≡ 1 ∷ k ∷ items_words element_words xs
+three k [] e = absurd (omega (arith, e))
+three k (x ∷ []) e = absurd (omega (arith, e))
+three k (x ∷ y ∷ []) e = absurd (omega (arith, e))
+three k (x ∷ y ∷ z ∷ []) e = refl
+three k (x ∷ y ∷ z ∷ w ∷ ws) e = absurd (omega (arith, e))
+
+pub none : (kind k : ℕ) (xs : List BabyBear) → length xs ≡ 0 → kind ∷ k ∷ [] ≡ kind ∷ k ∷ items_words element_words xs
+none kind k [] e = refl
+none kind k (x ∷ xs) e = absurd (omega (arith, e))
+
+pub words : (kind k : ℕ) (xs : List BabyBear) → SeenWithin (kind, (k, xs)) → statement_words (stated kind k xs) ≡ seen_words (kind, (k, xs))
+words zero k xs h = absurd (let l = h.0.0 in omega (arith, l))
+words (suc zero) k xs h = three k xs h.1.1.0
+words (suc (suc zero)) k xs h = none 2 k xs h.1.1.0
+words (suc (suc (suc zero))) k xs h = none 3 k xs h.1.1.0
+words (suc (suc (suc (suc zero)))) k xs h = none 4 k xs h.1.1.0
+words (suc (suc (suc (suc (suc n))))) k xs h = absurd (let l = h.0.1 in omega (arith, l))
+
+pub whole : (t : TableStatement) → TableWithin t → (p : ℕ × (ℕ × List BabyBear)) × SeenWithin p × (to p ≡ t)
+whole (Swap k a b x) h = ((1, (k, a ∷ b ∷ x ∷ [])), ((omega arith, omega arith), ((omega arith, h), (refl, λ i d l. tt))), refl)
+whole (Wheel k) h = ((2, (k, [])), ((omega arith, omega arith), (h, (refl, no_values Unlimited))), refl)
+whole (Take k) h = ((3, (k, [])), ((omega arith, omega arith), ((omega arith, h), (refl, no_values Unlimited))), refl)
+whole (Give k) h = ((4, (k, [])), ((omega arith, omega arith), ((omega arith, h), (refl, no_values Unlimited))), refl)
+
+unfoldable pub same-table : SameTexts SeenWithin seen_words TableWithin statement_words
+same-table = record {
+  to = to;
+  to_fits = λ p h. fits p.0 p.1.0 p.1.1 h;
+  to_words = λ p h. words p.0 p.1.0 p.1.1 h;
+  whole = whole;
+}
+
+few_of : (b : Bool) → (if b then 1 else 0) ≤ 10
+few_of true = omega arith
+few_of false = omega arith
+
+few : (kind : ℕ) → least_log_rows kind ≤ 10
+few kind = few_of (kind == 2)
+
+pub kind-grammar : Grammar (Between 1 4) number_words
+kind-grammar = number-grammar 1 4 (omega arith) (omega arith)
+
+pub rows-grammar : (kind : ℕ) → Grammar (RowsWithin kind) number_words
+rows-grammar kind = number-grammar (least_log_rows kind) 10 (few kind) (omega arith)
+
+pub values-grammar : (kind : ℕ) → Grammar (ValuesWithin kind) (items_words element_words)
+values-grammar kind = items-grammar (public_count kind) element-grammar
+
+pub rest-grammar : (kind : ℕ) → Grammar (RestWithin kind) rest_words
+rest-grammar kind = then-grammar (rows-grammar kind) (values-grammar kind)
+
+pub table-grammar : Grammar TableWithin statement_words
+table-grammar = same-grammar same-table (pair-grammar RestWithin kind-grammar (λ kind h. rest-grammar kind))

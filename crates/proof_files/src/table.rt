@@ -1,0 +1,112 @@
+//! The text of a table's statement.
+ghost use Rattle.std.specs.Prelude.{◌≡◌, ◌≤◌, length};
+ghost use Rattle.proof_files.specs.Files.{least_log_rows, public_count, stated};
+
+use line_format::{Form, ItemError, Reader, push_number, read_items};
+use p3_field::{BabyBear, Mem};
+use std::alloc::Global;
+use tool_statement::TableStatement;
+
+/// The first line of a swap table's text.
+const SWAP: u32 = 1;
+
+/// The first line of a wheel's text.
+const WHEEL: u32 = 2;
+
+/// The first line of the text of a table that takes words.
+const TAKE: u32 = 3;
+
+/// The first line of the text of a table that gives words.
+const GIVE: u32 = 4;
+
+/// The most that the base-2 logarithm of a table's rows may be.
+const MOST_LOG_ROWS: u32 = 10;
+
+// The least logarithm of the rows of a table of this kind.
+fn least_rows(kind: u32) -> u32
+    ensures { result ≡ least_log_rows kind }
+{
+    if kind == WHEEL { 1 } else { 0 }
+}
+
+// How many public values a table of this kind has.
+fn public_values(kind: u32) -> usize
+    ensures { result ≡ public_count kind }
+{
+    if kind == SWAP { 3 } else { 0 }
+}
+
+// The table of this kind.
+fn table_of(kind: u32, k: u8, values: &[BabyBear]) -> TableStatement
+    requires { length values.now ≡ public_count kind }
+    ensures { result ≡ stated kind k values.now }
+{
+    if kind == SWAP {
+        TableStatement::Swap {
+            k,
+            a: values[0],
+            b: values[1],
+            x: values[2],
+        }
+    } else if kind == WHEEL {
+        TableStatement::Wheel { k }
+    } else if kind == TAKE {
+        TableStatement::Take { k }
+    } else {
+        TableStatement::Give { k }
+    }
+}
+
+/// The form of a table's statement: its kind, 1 for a swap table, 2 for a wheel, 3 for one that takes words, 4 for one that gives words; the
+/// base-2 logarithm of its rows; and a, b and x of a swap table.
+pub struct StatedTable;
+
+impl Form for StatedTable {
+    type Value = TableStatement;
+
+    ghost use Rattle.tool_statement.specs.declared.table.TableStatement.{TableStatement as Stated};
+    ghost use Rattle.tool_statement.specs.StatedTables.{TableWithin};
+    ghost use Rattle.proof_files.specs.Files.{statement_words};
+    ghost use Rattle.proof_files.specs.Laws.Tables.{table-grammar};
+
+    ghost Data = { Stated };
+
+    ghost data_of = { λ t. t };
+
+    ghost within = { TableWithin };
+
+    ghost words = { statement_words };
+
+    ghost grammar = { table-grammar };
+
+    fn read(alloc: Global, reader: &mut Reader) -> Result<TableStatement, ItemError> {
+        let kind = reader.number(SWAP, GIVE)?;
+        let k = reader.number(least_rows(kind), MOST_LOG_ROWS)?;
+        let values = read_items::<BabyBear>(alloc, reader, public_values(kind))?;
+        Ok(table_of(kind, k as u8, &values))
+    }
+
+    fn print(value: &TableStatement, out: &mut Vec<u8>) -> Mem<()> {
+        match value {
+            TableStatement::Swap { k, a, b, x } => {
+                push_number(out, 1)?;
+                push_number(out, *k as u64)?;
+                BabyBear::print(a, out)?;
+                BabyBear::print(b, out)?;
+                BabyBear::print(x, out)
+            }
+            TableStatement::Wheel { k } => {
+                push_number(out, 2)?;
+                push_number(out, *k as u64)
+            }
+            TableStatement::Take { k } => {
+                push_number(out, 3)?;
+                push_number(out, *k as u64)
+            }
+            TableStatement::Give { k } => {
+                push_number(out, 4)?;
+                push_number(out, *k as u64)
+            }
+        }
+    }
+}
