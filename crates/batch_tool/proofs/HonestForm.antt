@@ -9,7 +9,7 @@ use Rattle.p3_field.specs.declared.quartic.QuarticExtension.{QuarticExtension}
 use Rattle.p3_matrix.specs.Matrix.{Rows}
 use Rattle.plain_pcs.specs.Extension.{evaluations}
 use Rattle.plain_pcs.specs.Laws.Evaluations.{rows-row_major}
-use Rattle.batch_tool.specs.FirstForm.{HasShape, IsSwapShape}
+use Rattle.batch_tool.specs.SwapShape.{HasShape, IsSwapShape}
 use Rattle.batch_tool.specs.Honest.{IsCommitted, alpha, commitment_domain, honest_proof, next_point, quotient_columns, quotient_domain, quotient_value, zeta}
 use Rattle.batch_tool.specs.Prove.{instance_of}
 use Rattle.batch_tool.specs.Swap.{swap_stated}

@@ -1,11 +1,12 @@
 -- The statuses of the answers to jobs and files.
 use Rattle.std.specs.Prelude.{ℕ, List, ⊤}
 use Rattle.batch_tool.specs.Prove.{IsJobAnswer}
-use Rattle.batch_tool.specs.FileAnswer.{IsFileAnswer}
-use Rattle.batch_tool.specs.declared.first_form.FirstForm.{FirstForm}
+use Rattle.tool_statement.specs.declared.table.TableStatement.{TableStatement}
+use Rattle.proof_text.specs.ProofText.{ToolProofData}
+use Rattle.tool_verifier.specs.FileAnswer.{IsFileAnswer}
 use Rattle.batch_tool.specs.declared.job.SwapTable.{SwapTable}
-use Rattle.batch_tool.specs.declared.status.Status.{Status}
-use Rattle.batch_tool.specs.declared.status.Status.TheVariants.{Done, Refused, Usage, BadInput, ReadFault, WriteFault, OutOfMemory, TooLarge}
+use Rattle.tool_verifier.specs.declared.status.Status.{Status}
+use Rattle.tool_verifier.specs.declared.status.Status.TheVariants.{Done, Refused, Usage, BadInput, ReadFault, WriteFault, OutOfMemory, TooLarge}
 
 -- the command did its work, or refused its input
 abbrev pub IsJobStatus : Status → Type 0
@@ -24,13 +25,13 @@ job-status table WriteFault text a = a
 job-status table OutOfMemory text a = a
 job-status table TooLarge text a = a
 
-pub file-status : (file : FirstForm) (status : Status) (text : List ℕ) → IsFileAnswer file status text → IsJobStatus status
+pub file-status : (tables : List TableStatement) (p : ToolProofData) (status : Status) (text : List ℕ) → IsFileAnswer tables p status text → IsJobStatus status
 unfolding IsFileAnswer
-file-status file Done text a = tt
-file-status file Refused text a = tt
-file-status file Usage text a = a
-file-status file BadInput text a = a
-file-status file ReadFault text a = a
-file-status file WriteFault text a = a
-file-status file OutOfMemory text a = a
-file-status file TooLarge text a = a
+file-status tables p Done text a = tt
+file-status tables p Refused text a = tt
+file-status tables p Usage text a = a
+file-status tables p BadInput text a = a
+file-status tables p ReadFault text a = a
+file-status tables p WriteFault text a = a
+file-status tables p OutOfMemory text a = a
+file-status tables p TooLarge text a = a

@@ -1,12 +1,8 @@
 pub mod Appends
-pub mod Backend
-pub mod Checking
 pub mod Committing
 pub mod Draws
-pub mod FirstForms
 pub mod HonestCommitments
 pub mod HonestForm
-pub mod IdentityLemmas
 pub mod Interpolated
 pub mod JobAnswers
 pub mod OpenedLists
@@ -14,7 +10,5 @@ mod AtZeta
 pub mod Proving
 pub mod QuotientLemmas
 pub mod Runs
-pub mod Shapes
 pub mod SwapReading
 pub mod TraceLemmas
-pub mod Verifying

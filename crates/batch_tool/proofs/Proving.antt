@@ -8,8 +8,8 @@ use Rattle.batch_tool.specs.Prove.{IsDrawnAnswer, IsJobAnswer, LacksWitness, Dra
 use Rattle.batch_tool.specs.declared.opening.AtZeta.{AtZeta}
 use Rattle.batch_tool.specs.Tool.{tool}
 use Rattle.batch_tool.specs.declared.job.SwapTable.{SwapTable}
-use Rattle.batch_tool.specs.declared.status.Status.{Status}
-use Rattle.batch_tool.specs.declared.status.Status.TheVariants.{Done, Refused, Usage, BadInput, ReadFault, WriteFault, OutOfMemory, TooLarge}
+use Rattle.tool_verifier.specs.declared.status.Status.{Status}
+use Rattle.tool_verifier.specs.declared.status.Status.TheVariants.{Done, Refused, Usage, BadInput, ReadFault, WriteFault, OutOfMemory, TooLarge}
 
 -- what holds of a value that was given
 pub ok-along : {A E : Type 0} (P Q : A → Type 0) (r : Result A E) → ((v : A) → P v → Q v) → IfOk r P → IfOk r Q

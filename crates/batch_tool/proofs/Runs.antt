@@ -1,21 +1,25 @@
 -- What a run answers, from what its parts do.
 use Rattle.std.proofs.Common.{◌≡◌, ℕ, ◌<◌, ◌≤◌, List, [], ◌∷◌, length, take, get_or, refl, sym, ap, subst, arith, map, String, Global, Option, Vec, Result, Ok, Err}
-use Rattle.std.specs.Prelude.{string_bytes, IfOk, ⊤}
+use Rattle.std.proofs.lemmas.Bool.{false≢true}
+use Rattle.std.specs.Prelude.{string_bytes, IfOk, IsErr, ⊤}
 use Rattle.std.specs.Io.KnownBytes.{Consumes, Appends, IsAtEnd}
 use Rattle.std.specs.declared.alloc.AllocError.{AllocError}
 use Rattle.batch_tool.specs.Limits.{most_log_rows}
 use Rattle.line_format.specs.Texts.{line_text}
 use Rattle.batch_tool.specs.Job.{JobWithin, job_words}
 use Rattle.batch_tool.specs.Prove.{IsJobAnswer}
-use Rattle.batch_tool.specs.Answer.{Names, IsProveAnswer, IsVerifyAnswer, IsCommandAnswer, Answers, IsOutcome, IsSilent, Outcome}
+use Rattle.line_format.specs.WholeText.{ReadsText}
+use Rattle.line_format.specs.declared.parse.TextError.{TextError}
+use Rattle.line_format.specs.declared.parse.TextError.TheVariants.{Malformed, OutOfMemory as NoMemory}
+use Rattle.tool_verifier.specs.FileAnswer.{IsFileAnswer}
+use Rattle.tool_verifier.specs.declared.answer.Answer.{Answer}
+use Rattle.proof_files.specs.Files.{FileData, FileWithin, file_words}
+use Rattle.batch_tool.specs.Answer.{Names, IsBadInput, bad_input_text, IsProveAnswer, IsVerifyAnswer, IsCommandAnswer, Answers, IsOutcome, IsSilent, Outcome}
 use Rattle.batch_tool.specs.declared.command.Command.{Command}
 use Rattle.batch_tool.specs.declared.command.Command.TheVariants.{Prove, Verify}
 use Rattle.batch_tool.specs.declared.job.Job.{Job}
-use Rattle.batch_tool.specs.declared.status.Status.{Status}
-use Rattle.batch_tool.specs.declared.status.Status.TheVariants.{Done, Refused, Usage, BadInput, ReadFault, WriteFault, OutOfMemory, TooLarge}
-use Rattle.batch_tool.specs.FirstForm.{IsFirstForm, first_form_words}
-use Rattle.batch_tool.specs.FileAnswer.{IsFileAnswer}
-use Rattle.batch_tool.specs.declared.first_form.FirstForm.{FirstForm}
+use Rattle.tool_verifier.specs.declared.status.Status.{Status}
+use Rattle.tool_verifier.specs.declared.status.Status.TheVariants.{Done, Refused, Usage, BadInput, ReadFault, WriteFault, OutOfMemory, TooLarge}
 use Rattle.batch_tool.proofs.JobAnswers.{job-status, file-status}
 
 -- one word
@@ -36,27 +40,46 @@ prove-answers bytes job WriteFault text fits e a = (job, fits, e, a)
 prove-answers bytes job OutOfMemory text fits e a = (job, fits, e, a)
 prove-answers bytes job TooLarge text fits e a = (job, fits, e, a)
 
-pub prove-answers-ok : (bytes : List ℕ) (job : Job) (r : Result (Status × Vec ℕ Global) AllocError) → JobWithin most_log_rows job → bytes ≡ line_text (job_words job)
-    → IfOk r (λ p. IsJobAnswer job.table p.0 p.1.items) → IfOk r (λ p. IsProveAnswer bytes p.0 p.1.items)
-prove-answers-ok bytes job (Ok p) fits e a = prove-answers bytes job p.0 p.1.items fits e a
-prove-answers-ok bytes job (Err x) fits e a = tt
+pub prove-answers-ok : (bytes : List ℕ) (job : Job) (r : Result Answer AllocError) → JobWithin most_log_rows job → bytes ≡ line_text (job_words job)
+    → IfOk r (λ a. IsJobAnswer job.table a.status a.text.items) → IfOk r (λ a. IsProveAnswer bytes a.status a.text.items)
+prove-answers-ok bytes job (Ok a) fits e h = prove-answers bytes job a.status a.text.items fits e h
+prove-answers-ok bytes job (Err x) fits e h = tt
 
 -- the same of `verify`
-pub verify-answers : (bytes : List ℕ) (file : FirstForm) (status : Status) (text : List ℕ) → IsFirstForm most_log_rows file → bytes ≡ line_text (first_form_words file)
-    → IsFileAnswer file status text → IsVerifyAnswer bytes status text
+pub verify-answers : (bytes : List ℕ) (file : FileData) (status : Status) (text : List ℕ) → FileWithin file → bytes ≡ line_text (file_words file)
+    → IsFileAnswer file.tables file.proof status text → IsVerifyAnswer bytes status text
 verify-answers bytes file Done text fits e a = (file, fits, e, a)
 verify-answers bytes file Refused text fits e a = (file, fits, e, a)
 verify-answers bytes file Usage text fits e a = (file, fits, e, a)
-verify-answers bytes file BadInput text fits e a = absurd (file-status file BadInput text a)
+verify-answers bytes file BadInput text fits e a = absurd (file-status file.tables file.proof BadInput text a)
 verify-answers bytes file ReadFault text fits e a = (file, fits, e, a)
 verify-answers bytes file WriteFault text fits e a = (file, fits, e, a)
 verify-answers bytes file OutOfMemory text fits e a = (file, fits, e, a)
 verify-answers bytes file TooLarge text fits e a = (file, fits, e, a)
 
-pub verify-answers-ok : (bytes : List ℕ) (file : FirstForm) (r : Result (Status × Vec ℕ Global) AllocError) → IsFirstForm most_log_rows file → bytes ≡ line_text (first_form_words file)
-    → IfOk r (λ p. IsFileAnswer file p.0 p.1.items) → IfOk r (λ p. IsVerifyAnswer bytes p.0 p.1.items)
-verify-answers-ok bytes file (Ok p) fits e a = verify-answers bytes file p.0 p.1.items fits e a
-verify-answers-ok bytes file (Err x) fits e a = tt
+pub verify-answers-ok : (bytes : List ℕ) (file : FileData) (r : Result Answer AllocError) → FileWithin file → bytes ≡ line_text (file_words file)
+    → IfOk r (λ a. IsFileAnswer file.tables file.proof a.status a.text.items) → IfOk r (λ a. IsVerifyAnswer bytes a.status a.text.items)
+verify-answers-ok bytes file (Ok a) fits e h = verify-answers bytes file a.status a.text.items fits e h
+verify-answers-ok bytes file (Err x) fits e h = tt
+
+-- bytes that are no text of a command's grammar, where the reading ends so and the text says so
+pub bad-answers : {A T : Type 0} (data_of : T → A) (within : A → Type 0) (words : A → List ℕ) (bytes : List ℕ) (e : TextError) (r : Result Answer AllocError)
+    → ReadsText data_of within words bytes (Err e)
+    → ((at : ℕ) → e ≡ Malformed at → IfOk r (λ a. (a.status ≡ BadInput) × (a.text.items ≡ bad_input_text at))) → (e ≡ NoMemory → IsErr r)
+    → IfOk r (λ a. (a.status ≡ BadInput) × IsBadInput within words bytes a.text.items)
+bad-answers data_of within words bytes (Malformed line) (Ok a) read bad memory = let f = bad line refl in (f.0, (read.0, (line, read.1, f.1)))
+bad-answers data_of within words bytes NoMemory (Ok a) read bad memory = absurd (false≢true (memory refl))
+bad-answers data_of within words bytes e (Err x) read bad memory = tt
+
+pub bad-job : (bytes : List ℕ) (r : Result Answer AllocError) → IfOk r (λ a. (a.status ≡ BadInput) × IsBadInput (JobWithin most_log_rows) job_words bytes a.text.items)
+    → IfOk r (λ a. IsProveAnswer bytes a.status a.text.items)
+bad-job bytes (Ok a) h = subst (λ (s : Status). IsProveAnswer bytes s a.text.items) (sym h.0) h.1
+bad-job bytes (Err x) h = tt
+
+pub bad-file : (bytes : List ℕ) (r : Result Answer AllocError) → IfOk r (λ a. (a.status ≡ BadInput) × IsBadInput FileWithin file_words bytes a.text.items)
+    → IfOk r (λ a. IsVerifyAnswer bytes a.status a.text.items)
+bad-file bytes (Ok a) h = subst (λ (s : Status). IsVerifyAnswer bytes s a.text.items) (sym h.0) h.1
+bad-file bytes (Err x) h = tt
 
 -- the statuses of a command's answer
 abbrev pub IsAnswerStatus : Status → Type 0
@@ -77,11 +100,11 @@ answer-status Prove bytes TooLarge text a = job-status a.0.table TooLarge text a
 answer-status Verify bytes Done text a = tt
 answer-status Verify bytes Refused text a = tt
 answer-status Verify bytes BadInput text a = tt
-answer-status Verify bytes Usage text a = file-status a.0 Usage text a.3
-answer-status Verify bytes ReadFault text a = file-status a.0 ReadFault text a.3
-answer-status Verify bytes WriteFault text a = file-status a.0 WriteFault text a.3
-answer-status Verify bytes OutOfMemory text a = file-status a.0 OutOfMemory text a.3
-answer-status Verify bytes TooLarge text a = file-status a.0 TooLarge text a.3
+answer-status Verify bytes Usage text a = file-status a.0.tables a.0.proof Usage text a.3
+answer-status Verify bytes ReadFault text a = file-status a.0.tables a.0.proof ReadFault text a.3
+answer-status Verify bytes WriteFault text a = file-status a.0.tables a.0.proof WriteFault text a.3
+answer-status Verify bytes OutOfMemory text a = file-status a.0.tables a.0.proof OutOfMemory text a.3
+answer-status Verify bytes TooLarge text a = file-status a.0.tables a.0.proof TooLarge text a.3
 
 -- a fault is no command's answer
 pub no-answer : (command : Command) (bytes : List ℕ) (status fault : Status) (text : List ℕ) → (IsAnswerStatus fault → ⊥)

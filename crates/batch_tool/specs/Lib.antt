@@ -1,8 +1,6 @@
 pub mod Answer
 pub mod Committed
 pub mod Drawn
-pub mod FileAnswer
-pub mod FirstForm
 pub mod Honest
 pub mod Job
 pub mod Laws
@@ -13,9 +11,7 @@ pub mod Proof
 pub mod ProofFile
 pub mod Prove
 pub mod Reading
-pub mod Refusals
-pub mod Status
 pub mod Swap
+pub mod SwapShape
 pub mod Tool
 pub mod Uniqueness
-pub mod Verify

@@ -15,11 +15,11 @@ use Rattle.batch_tool.specs.Proof.{ProofData}
 use Rattle.batch_tool.specs.Reading.{opened_at}
 use Rattle.batch_tool.specs.declared.opening.AtZeta.{AtZeta}
 use Rattle.batch_tool.specs.ProofFile.{file_words}
-use Rattle.batch_tool.specs.FirstForm.{IsSwapShape}
+use Rattle.batch_tool.specs.SwapShape.{IsSwapShape}
 use Rattle.line_format.specs.Texts.{line_text}
 use Rattle.batch_tool.specs.declared.job.SwapTable.{SwapTable}
-use Rattle.batch_tool.specs.declared.status.Status.{Status}
-use Rattle.batch_tool.specs.declared.status.Status.TheVariants.{Done, Refused, Usage, BadInput, ReadFault, WriteFault, OutOfMemory, TooLarge}
+use Rattle.tool_verifier.specs.declared.status.Status.{Status}
+use Rattle.tool_verifier.specs.declared.status.Status.TheVariants.{Done, Refused, Usage, BadInput, ReadFault, WriteFault, OutOfMemory, TooLarge}
 
 -- a swap table as an instance that is to be proved
 abbrev pub instance_of : SwapTable → Instance BabyBear

@@ -7,7 +7,7 @@ use Rattle.batch_tool.specs.Answer.{IsAnswer}
 use Rattle.batch_tool.specs.Honest.{Instance, IsCommitted, IsGround, honest_proof}
 use Rattle.batch_tool.specs.Proof.{ProofData}
 use Rattle.batch_tool.specs.Tool.{tool}
-use Rattle.batch_tool.specs.declared.status.Status.{Status}
+use Rattle.tool_verifier.specs.declared.status.Status.{Status}
 
 -- two answers to the same words and the same bytes are one
 abbrev pub HasOneAnswer : List (List ℕ) → List ℕ → Type 0

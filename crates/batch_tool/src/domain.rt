@@ -52,13 +52,3 @@ pub fn table_domains(
         step: QuarticExtension::from_base(generator),
     }
 }
-
-/// Whether a point lies in the trace domain of 2^`log_rows` rows.
-pub fn is_in_trace_domain(log_rows: usize, zeta: QuarticExtension) -> bool
-    requires { log_rows ≤ 10 }
-    ensures { (a b x : _) → IsTrue result ↔ IsInTraceDomain tool (swap_stated log_rows a b x) zeta }
-{
-    trace_domain(log_rows)
-        .vanishing_poly_at_point(zeta)
-        .is_zero()
-}

@@ -7,10 +7,14 @@ ghost use Rattle.batch_tool.specs.Drawn.{DrawsAsBatch, PlaysByElements};
 ghost use Rattle.batch_tool.specs.Tool.{tool};
 ghost use Rattle.batch_tool.specs.Uniqueness.{HasOneAnswer, HasOneHonestProof};
 
+use tool_verifier::there_is_one_answer;
+
 /// Words and all the bytes of an input have at most one answer: one status, and one text.
 pub fn one_answer()
     ensures { (words : List (List ℕ)) (bytes : List ℕ) → HasOneAnswer words bytes }
-{}
+{
+    there_is_one_answer();
+}
 
 /// A table of at most 2^10 rows has at most one honest proof.
 pub fn one_honest_proof()

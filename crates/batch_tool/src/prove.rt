@@ -22,13 +22,13 @@ use crate::proof::TableProof;
 use crate::proof_file::print_file;
 use crate::quotient::quotient_values;
 use crate::scheme::scheme;
-use crate::status::Status;
 use crate::trace::trace_matrix;
 use crate::transcript::{ProverTranscript, prover_behind_alpha};
 use p3_field::{BabyBear, Mem, QuarticExtension};
 use p3_matrix::{RowMajorMatrix, flatten_matrix};
 use plain_pcs::PlainCommitment;
 use std::alloc::Global;
+use tool_verifier::Status;
 
 /// The refusal where no element passes the grinding before zeta.
 const WITNESS_NOT_FOUND: &[u8] = b"refused WitnessNotFound ood\n";

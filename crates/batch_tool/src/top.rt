@@ -1,26 +1,25 @@
 //! The top call.
 
-ghost use Rattle.std.specs.Prelude.{◌≡◌, ◌≤◌, ℕ, [], IfOk, IsErr, IsOkAnd, codes, map, string_bytes};
+ghost use Rattle.std.specs.Prelude.{◌≡◌, ◌≤◌, ℕ, IfOk, IsErr, map, string_bytes};
 ghost use Rattle.line_format.specs.declared.parse.TextError.TheVariants.{Malformed, OutOfMemory};
 ghost use Rattle.byte_io.specs.Causes.{Rose};
 ghost use Rattle.byte_io.specs.Limits.{most_bytes};
-ghost use Rattle.batch_tool.specs.Answer.{IsCommandAnswer, IsProveAnswer, IsSilent, IsVerifyAnswer, NamesSome, Outcome};
+ghost use Rattle.batch_tool.specs.Answer.{IsCommandAnswer, IsProveAnswer, IsSilent, IsVerifyAnswer, NamesSome, Outcome, bad_input_text};
 
 use crate::command::Command;
-use crate::first_form::read_first_form;
 use crate::job::read_job;
 use crate::line::Line;
 use crate::prove::prove;
-use crate::status::Status;
-use crate::verify::verify;
 use byte_io::{Failed, InputError, Sink, Source, read_whole, write_whole};
-use line_format::TextError;
+use line_format::{TextError, push_number};
 use p3_field::Mem;
+use proof_files::{answer_verify, read_proof_file};
 use std::alloc::{AllocError, Global};
+use tool_verifier::{Answer, Status};
 
 const USAGE: &[u8] = b"usage: batch_tool prove | verify | demo N\n";
 
-const BAD_INPUT: &[u8] = b"bad input\n";
+const BAD_INPUT: &[u8] = b"bad input at line ";
 
 /// Does what the words say, which are those after the program's name: reads the input where they name a command,
 /// and then writes one text.
@@ -62,61 +61,63 @@ pub fn run<S: Source, K: Sink>(
         Err(InputError::TooLarge) => return Status::TooLarge,
         Err(InputError::OutOfMemory) => return Status::OutOfMemory,
     };
-    let Ok((status, text)) = answer(alloc, command, &bytes) else {
+    let Ok(answer) = answer(alloc, command, &bytes) else {
         return Status::OutOfMemory;
     };
-    match write_whole(sink, &text) {
-        Ok(()) => status,
+    match write_whole(sink, &answer.text) {
+        Ok(()) => answer.status,
         Err(Failed) => Status::WriteFault,
     }
 }
 
-/// The status and the text of a command for all the bytes of an input.
-fn answer(alloc: Global, command: Command, bytes: &[u8]) -> Mem<(Status, Vec<u8>)>
-    ensures { IfOk result (λ p. IsCommandAnswer command bytes.now p.0 p.1.items) }
+/// What a command answers for all the bytes of an input.
+fn answer(alloc: Global, command: Command, bytes: &[u8]) -> Mem<Answer>
+    ensures { IfOk result (λ a. IsCommandAnswer command bytes.now a.status a.text.items) }
 {
     match command {
-        Command::Prove => answer_prove(alloc, bytes),
-        Command::Verify => answer_verify(alloc, bytes),
+        Command::Prove => job_answer(alloc, bytes),
+        Command::Verify => file_answer(alloc, bytes),
     }
 }
 
 /// The same of `prove`.
-fn answer_prove(alloc: Global, bytes: &[u8]) -> Mem<(Status, Vec<u8>)>
-    ensures { IfOk result (λ p. IsProveAnswer bytes.now p.0 p.1.items) }
+fn job_answer(alloc: Global, bytes: &[u8]) -> Mem<Answer>
+    ensures { IfOk result (λ a. IsProveAnswer bytes.now a.status a.text.items) }
 {
-    let line = Line::new(alloc)?;
     match read_job(alloc, bytes) {
-        Ok(job) => prove(alloc, &job.table, line),
-        Err(error) => no_text(error, line),
+        Ok(job) => {
+            let (status, text) = prove(alloc, &job.table, Line::new(alloc)?)?;
+            Ok(Answer { status, text })
+        }
+        Err(error) => bad_input(alloc, error),
     }
 }
 
 /// The same of `verify`.
-fn answer_verify(alloc: Global, bytes: &[u8]) -> Mem<(Status, Vec<u8>)>
-    ensures { IfOk result (λ p. IsVerifyAnswer bytes.now p.0 p.1.items) }
+fn file_answer(alloc: Global, bytes: &[u8]) -> Mem<Answer>
+    ensures { IfOk result (λ a. IsVerifyAnswer bytes.now a.status a.text.items) }
 {
-    let line = Line::new(alloc)?;
-    match read_first_form(alloc, bytes) {
-        Ok(file) => verify(alloc, file, line),
-        Err(error) => no_text(error, line),
+    match read_proof_file(alloc, bytes) {
+        Ok(file) => answer_verify(alloc, &file),
+        Err(error) => bad_input(alloc, error),
     }
 }
 
-/// The status and the text where bytes are no text. Out of memory exactly where the reading was.
-fn no_text(error: TextError, mut line: Line) -> Mem<(Status, Vec<u8>)>
-    requires { line ≡ [] }
-    ensures malformed { (at : ℕ) → error ≡ Malformed at → IsOkAnd result (λ p. (p.0 ≡ Status.BadInput) × (p.1.items ≡ codes "bad input\n")) }
+/// What a command answers for bytes that are no text of its grammar. Out of memory wherever the reading was.
+fn bad_input(alloc: Global, error: TextError) -> Mem<Answer>
+    ensures malformed { (at : ℕ) → error ≡ Malformed at → IfOk result (λ a. (a.status ≡ Status.BadInput) × (a.text.items ≡ bad_input_text at)) }
     ensures memory { error ≡ OutOfMemory → IsErr result }
 {
     match error {
-        TextError::Malformed { line: _ } => {
-            line.push(BAD_INPUT);
-            Ok((Status::BadInput, line.into_bytes()))
+        TextError::Malformed { line } => {
+            let mut text = Vec::new(alloc);
+            text.extend_from_slice(BAD_INPUT)?;
+            push_number(&mut text, line)?;
+            Ok(Answer {
+                status: Status::BadInput,
+                text,
+            })
         }
         TextError::OutOfMemory => Err(AllocError),
     }
 }
-
-#[cfg(test)]
-mod tests;

@@ -1,8 +1,10 @@
 -- The grammar of jobs.
 use Rattle.std.specs.Prelude.{◌≡◌, ℕ, ◌<◌, ◌^◌, List, ◌∷◌, refl}
-use Rattle.std.proofs.Common.{ap, arith}
+use Rattle.std.proofs.Common.{ap, arith, map, sym}
+use Rattle.std.specs.Prelude.{flat_map}
+use Rattle.std.proofs.lemmas.List.Concat.{flat_map_single}
 use Rattle.p3_field.specs.declared.baby_bear.BabyBear.{BabyBear}
-use Rattle.line_format.specs.Texts.{Between, Grammar, number_words}
+use Rattle.line_format.specs.Texts.{Between, Grammar, element_words, number_words}
 use Rattle.batch_tool.specs.Job.{SwapWithin, swap_words, JobWithin, job_words}
 use Rattle.line_format.specs.Laws.Grammars.{ThenWithin, pair_words, SameTexts, then-grammar, number-grammar, same-grammar, TwoWithin, two_words, two-grammar}
 
@@ -48,3 +50,7 @@ same-job most = record {
 
 pub job-grammar : (most : ℕ) → most < 2 ^ 64 → Grammar (JobWithin most) job_words
 job-grammar most small = same-grammar (same-job most) (then-grammar one-grammar (swap-grammar most small))
+
+-- the words of elements
+pub elements-words : (xs : List BabyBear) → map (λ x. x.value) xs ≡ flat_map element_words xs
+elements-words xs = sym (flat_map_single (λ x. x.value) xs)

@@ -3,39 +3,31 @@ use Rattle.std.proofs.Common.{◌≡◌, ℕ, ◌^◌, ◌<◌, ◌≤◌, false
 use Rattle.std.specs.Prelude.{codes, ◌⊎◌}
 use Rattle.std.proofs.lemmas.Bool.{cases_lt}
 use Rattle.std.proofs.lemmas.List.{append-nil}
-use Rattle.p3_field.specs.Checks.{Check, FirstRefusal, in_turn, AreSingle}
-use Rattle.p3_field.specs.Laws.Checks.{same_refusal, none_single, check_single, single_append, single_in_turn}
 use Rattle.p3_field.specs.declared.baby_bear.BabyBear.{BabyBear}
 use Rattle.p3_matrix.specs.Matrix.{Rows}
 use Rattle.batch_tool.specs.Limits.{most_log_rows}
 use Rattle.line_format.specs.Texts.{line_text, Grammar}
-use Rattle.line_format.specs.WholeText.{IsNoText}
+use Rattle.line_format.specs.WholeText.{IsNoText, IsFaultLine}
 use Rattle.batch_tool.specs.Job.{JobWithin, job_words}
-use Rattle.batch_tool.specs.FirstForm.{IsFirstForm, first_form_words}
-use Rattle.p3_field.specs.declared.quartic.QuarticExtension.{QuarticExtension}
-use Rattle.plain_pcs.specs.declared.error.PlainError.TheVariants.{Degree, Value}
-use Rattle.batch_tool.specs.Proof.{ProofData}
 use Rattle.batch_tool.specs.Honest.{Instance, IsCommitted, IsGround, IsInTraceDomain, honest_proof, number_passes, zeta}
 use Rattle.batch_tool.specs.Tool.{tool}
 use Rattle.batch_tool.specs.Swap.{alternating, last_right, swap_stated}
-use Rattle.batch_tool.specs.ProofFile.{file_words}
+use Rattle.batch_tool.specs.ProofFile.{file_words as swap_file_words}
 use Rattle.batch_tool.specs.Prove.{IsJobAnswer, instance_of}
-use Rattle.batch_tool.specs.Verify.{degree_check, value_check, point_checks, round_checks, HasLowDegree, HasClaimedValue, opening_checks, identity_checks, checks}
-use Rattle.batch_tool.specs.Refusals.{refusal_text}
-use Rattle.batch_tool.specs.FileAnswer.{stated, file_checks, IsFileAnswer}
-use Rattle.batch_tool.specs.Answer.{Names, NamesSome, IsProveAnswer, IsVerifyAnswer, IsCommandAnswer, IsAnswer}
+use Rattle.batch_tool.specs.Answer.{Names, NamesSome, IsBadInput, IsProveAnswer, IsVerifyAnswer, IsCommandAnswer, IsAnswer, bad_input_text}
+use Rattle.tool_statement.specs.declared.table.TableStatement.{TableStatement}
+use Rattle.proof_text.specs.ProofText.{ToolProofData}
+use Rattle.tool_verifier.specs.FileAnswer.{IsFileAnswer, SameAnswer}
+use Rattle.proof_files.specs.Files.{FileData, FileWithin, file_words}
+use Rattle.proof_files.specs.Laws.Files.{file-grammar}
 use Rattle.line_format.specs.Laws.Lines.{lines-tell}
 use Rattle.batch_tool.specs.Laws.Jobs.{job-grammar}
-use Rattle.batch_tool.specs.Laws.FirstForms.{first_form-grammar}
 use Rattle.batch_tool.specs.Laws.OneProof.{two-tall, one_honest, one_number}
 use Rattle.batch_tool.specs.declared.command.Command.{Command}
 use Rattle.batch_tool.specs.declared.command.Command.TheVariants.{Prove, Verify}
 use Rattle.batch_tool.specs.declared.job.SwapTable.{SwapTable}
-use Rattle.batch_tool.specs.declared.first_form.FirstForm.{FirstForm}
-use Rattle.batch_tool.specs.declared.refusal.Refusal.{Refusal}
-use Rattle.batch_tool.specs.declared.refusal.Refusal.TheVariants.{OodPowWitness, InvalidOpeningArgument, OodPointInDomain, OodEvaluationMismatch}
-use Rattle.batch_tool.specs.declared.status.Status.{Status}
-use Rattle.batch_tool.specs.declared.status.Status.TheVariants.{Done, Refused, Usage, BadInput, ReadFault, WriteFault, OutOfMemory, TooLarge}
+use Rattle.tool_verifier.specs.declared.status.Status.{Status}
+use Rattle.tool_verifier.specs.declared.status.Status.TheVariants.{Done, Refused, Usage, BadInput, ReadFault, WriteFault, OutOfMemory, TooLarge}
 
 -- of two texts that are the same the shorter's numbers tell the value
 front-tells : {A : Type 0} {within : A → Type 0} {words : A → List ℕ} → Grammar within words → (v w : A) → within v → within w
@@ -52,58 +44,6 @@ text-tells {A} {within} {words} g v w p q e = elim (cases_lt (length (words v)) 
   | inr h ↦ front-tells g w v q p (sym e) h
 ]
 
--- each check of a proof has one refusal
-module _ (t : Instance BabyBear) (p : ProofData BabyBear QuarticExtension) where
-  round_single : (round columns points : ℕ) → AreSingle (round_checks tool t p round columns points)
-  round_single round columns points =
-      let degrees : List (Check Refusal) = in_turn columns (degree_check tool t p round) in
-      let values : List (Check Refusal) = in_turn points (point_checks tool t p round columns) in
-      single_append degrees values
-      (single_in_turn (degree_check tool t p round) columns (λ j. check_single (InvalidOpeningArgument (Degree round 0 j)) (HasLowDegree tool t p round j) [] (none_single Refusal)))
-      (single_in_turn (point_checks tool t p round columns) points
-      (λ at.
-      single_in_turn (value_check tool t p round at) columns
-      (λ j. check_single (InvalidOpeningArgument (Value round 0 at j)) (HasClaimedValue tool t p round at j) [] (none_single Refusal))))
-
-  pub checks_single : AreSingle (checks tool t p)
-  unfolding checks
-  checks_single =
-      check_single (OodPowWitness 4) _ _
-      (single_append (opening_checks tool t p) (identity_checks tool t p)
-      (single_append (round_checks tool t p 0 2 2) (round_checks tool t p 1 4 1) (round_single 0 2 2) (round_single 1 4 1))
-      (check_single OodPointInDomain _ _ (check_single (OodEvaluationMismatch 0) _ [] (none_single Refusal))))
-
--- two answers are one
-abbrev pub SameAnswer : (s t : Status) (x y : List ℕ) → Type 0
-SameAnswer s t x y = (s ≡ t) × (x ≡ y)
-
--- one answer to a file, by the first check that fails
-status_of : Option Refusal → Status
-status_of None = Done
-status_of (Some refusal) = Refused
-
-text_of : Option Refusal → List ℕ
-text_of None = codes "accepted\n"
-text_of (Some refusal) = refusal_text refusal
-
-file-view : (file : FirstForm) (s : Status) (x : List ℕ) → IsFileAnswer file s x → (a : Option Refusal) × (FirstRefusal (file_checks file) a × ((s ≡ status_of a) × (x ≡ text_of a)))
-unfolding IsFileAnswer status_of text_of
-file-view file Done x a = (None, (a.0, (refl, a.1)))
-file-view file Refused x a = (Some a.0, (a.1, (refl, a.2)))
-file-view file Usage x a = absurd a
-file-view file BadInput x a = absurd a
-file-view file ReadFault x a = absurd a
-file-view file WriteFault x a = absurd a
-file-view file OutOfMemory x a = absurd a
-file-view file TooLarge x a = absurd a
-
-pub one_file : (file : FirstForm) (s t : Status) (x y : List ℕ) → IsFileAnswer file s x → IsFileAnswer file t y → SameAnswer s t x y
-one_file file s t x y a b =
-    let (o, (f, (so, xo))) = file-view file s x a in
-    let (p, (g, (tp, yp))) = file-view file t y b in
-    let same : o ≡ p = same_refusal (file_checks file) o p (checks_single (stated file.statement) file.proof) f g in
-    (so ∙ (ap status_of same ∙ sym tp), xo ∙ (ap text_of same ∙ sym yp))
-
 -- one answer to a job, by what is committed
 module _ (table' : SwapTable) where
   abbrev NoneAt : Rows BabyBear → Rows BabyBear → List ℕ → Type 0
@@ -116,7 +56,7 @@ module _ (table' : SwapTable) where
   abbrev OutsideAt : List (List BabyBear) → Rows BabyBear → List (List BabyBear) → Rows BabyBear → List ℕ → Type 0
   OutsideAt columns main chunk quotient text = (n : ℕ) × (IsGround tool (instance_of table') main quotient n
       × ((IsInTraceDomain tool (instance_of table') (zeta tool (instance_of table') main quotient n) → ⊥)
-      × (text ≡ line_text (file_words table'.log_rows table'.a table'.b (last_right table'.log_rows table'.a table'.b) (honest_proof tool (instance_of table') columns main chunk quotient n)))))
+      × (text ≡ line_text (swap_file_words table'.log_rows table'.a table'.b (last_right table'.log_rows table'.a table'.b) (honest_proof tool (instance_of table') columns main chunk quotient n)))))
 
   abbrev EndsAt : List (List BabyBear) → Rows BabyBear → List (List BabyBear) → Rows BabyBear → Status → List ℕ → Type 0
   EndsAt columns main chunk quotient s x =
@@ -183,7 +123,7 @@ module _ (table' : SwapTable) where
           | inl b ↦ absurd (inside-outside main quotient b.1.0 a.1.0 b.1.1.0 a.1.1.0 b.1.1.1.0 a.1.1.1.0)
           | inr b ↦ (
             a.0 ∙ sym b.0,
-            a.1.1.1.1 ∙ (ap (λ n. line_text (file_words table'.log_rows table'.a table'.b (last_right table'.log_rows table'.a table'.b) (honest_proof tool (instance_of table') columns main chunk quotient n)))
+            a.1.1.1.1 ∙ (ap (λ n. line_text (swap_file_words table'.log_rows table'.a table'.b (last_right table'.log_rows table'.a table'.b) (honest_proof tool (instance_of table') columns main chunk quotient n)))
                 (one_number (instance_of table') main quotient a.1.0 b.1.0 a.1.1.0 b.1.1.0) ∙ sym b.1.1.1.1),
           )
         ]
@@ -207,17 +147,26 @@ module _ (table' : SwapTable) where
       subst D (sym same.1.1.1) (subst C (sym same.1.1.0) (subst B (sym same.1.0) (subst A (sym same.0) g.ends))) in
       one-end f.columns f.main f.chunk f.quotient s t x y f.ends along
 
+-- the line of a fault is one
+same_line : {A : Type 0} (within : A → Type 0) (words : A → List ℕ) (bytes : List ℕ) (m n : ℕ) → IsFaultLine within words bytes m → IsFaultLine within words bytes n → m ≡ n
+same_line within words bytes m n a b =
+    let up = a.greatest b.lines b.rest b.text b.begins in
+    let down = b.greatest a.lines a.rest a.text a.begins in
+    let e = a.number in
+    let f = b.number in
+    omega (arith, up, down, e, f)
+
 -- one answer to the bytes of an input, where each value of a grammar has one
 abbrev TextAnswer : {A : Type 0} (within : A → Type 0) (words : A → List ℕ) (answer : A → Status → List ℕ → Type 0) → List ℕ → Status → List ℕ → Type 0
 TextAnswer {A} within words answer bytes s x =
-    ((s ≡ BadInput) × (IsNoText within words bytes × (x ≡ codes "bad input\n"))) ⊎ ((v : A) × (within v × ((bytes ≡ line_text (words v)) × answer v s x)))
+    ((s ≡ BadInput) × IsBadInput within words bytes x) ⊎ ((v : A) × (within v × ((bytes ≡ line_text (words v)) × answer v s x)))
 
 one-text : {A : Type 0} {within : A → Type 0} {words : A → List ℕ} (answer : A → Status → List ℕ → Type 0) → Grammar within words
     → ((v : A) → within v → (s t : Status) (x y : List ℕ) → answer v s x → answer v t y → SameAnswer s t x y)
     → (bytes : List ℕ) (s t : Status) (x y : List ℕ) → TextAnswer within words answer bytes s x → TextAnswer within words answer bytes t y → SameAnswer s t x y
 one-text {A} {within} {words} answer grammar one bytes s t x y f g = elim f [
   | inl a ↦ elim g [
-    | inl b ↦ (a.0 ∙ sym b.0, a.1.1 ∙ sym b.1.1)
+    | inl b ↦ (a.0 ∙ sym b.0, a.1.1.2 ∙ (ap bad_input_text (same_line within words bytes a.1.1.0 b.1.1.0 a.1.1.1 b.1.1.1) ∙ sym b.1.1.2))
     | inr b ↦ absurd (a.1.0 b.0 b.1.0 b.1.1.0)
   ]
   | inr a ↦ elim g [
@@ -230,7 +179,7 @@ one-text {A} {within} {words} answer grammar one bytes s t x y f g = elim f [
 ]
 
 prove-view : (bytes : List ℕ) (s : Status) (x : List ℕ) → IsProveAnswer bytes s x → TextAnswer (JobWithin most_log_rows) job_words (λ job. IsJobAnswer job.table) bytes s x
-prove-view bytes BadInput x a = inl (refl, (a.0, a.1))
+prove-view bytes BadInput x a = inl (refl, a)
 prove-view bytes Done x a = inr (a.0, (a.1, (a.2, a.3)))
 prove-view bytes Refused x a = inr (a.0, (a.1, (a.2, a.3)))
 prove-view bytes Usage x a = inr (a.0, (a.1, (a.2, a.3)))
@@ -239,8 +188,8 @@ prove-view bytes WriteFault x a = inr (a.0, (a.1, (a.2, a.3)))
 prove-view bytes OutOfMemory x a = inr (a.0, (a.1, (a.2, a.3)))
 prove-view bytes TooLarge x a = inr (a.0, (a.1, (a.2, a.3)))
 
-verify-view : (bytes : List ℕ) (s : Status) (x : List ℕ) → IsVerifyAnswer bytes s x → TextAnswer (IsFirstForm most_log_rows) first_form_words IsFileAnswer bytes s x
-verify-view bytes BadInput x a = inl (refl, (a.0, a.1))
+verify-view : (bytes : List ℕ) (s : Status) (x : List ℕ) → IsVerifyAnswer bytes s x → TextAnswer FileWithin file_words (λ f. IsFileAnswer f.tables f.proof) bytes s x
+verify-view bytes BadInput x a = inl (refl, a)
 verify-view bytes Done x a = inr (a.0, (a.1, (a.2, a.3)))
 verify-view bytes Refused x a = inr (a.0, (a.1, (a.2, a.3)))
 verify-view bytes Usage x a = inr (a.0, (a.1, (a.2, a.3)))
@@ -253,14 +202,18 @@ pub one_prove : (bytes : List ℕ) (s t : Status) (x y : List ℕ) → IsProveAn
 one_prove bytes s t x y a b =
     one-text (λ job. IsJobAnswer job.table) (job-grammar most_log_rows (lit< tt)) (λ job fits. one_job job.table fits) bytes s t x y (prove-view bytes s x a) (prove-view bytes t y b)
 
-pub one_verify : (bytes : List ℕ) (s t : Status) (x y : List ℕ) → IsVerifyAnswer bytes s x → IsVerifyAnswer bytes t y → SameAnswer s t x y
-one_verify bytes s t x y a b =
-    one-text IsFileAnswer (first_form-grammar most_log_rows (lit≤ tt)) (λ file fits. one_file file) bytes s t x y (verify-view bytes s x a) (verify-view bytes t y b)
+-- where the tables and the proof of a file have one
+abbrev pub OneFile : Type 0
+OneFile = (tables : List TableStatement) (p : ToolProofData) (s t : Status) (x y : List ℕ) → IsFileAnswer tables p s x → IsFileAnswer tables p t y → SameAnswer s t x y
+
+pub one_verify : OneFile → (bytes : List ℕ) (s t : Status) (x y : List ℕ) → IsVerifyAnswer bytes s x → IsVerifyAnswer bytes t y → SameAnswer s t x y
+one_verify one bytes s t x y a b =
+    one-text (λ f. IsFileAnswer f.tables f.proof) file-grammar (λ f fits. one f.tables f.proof) bytes s t x y (verify-view bytes s x a) (verify-view bytes t y b)
 
 -- one answer to a command
-pub one_command : (command : Command) (bytes : List ℕ) (s t : Status) (x y : List ℕ) → IsCommandAnswer command bytes s x → IsCommandAnswer command bytes t y → SameAnswer s t x y
-one_command Prove bytes s t x y a b = one_prove bytes s t x y a b
-one_command Verify bytes s t x y a b = one_verify bytes s t x y a b
+pub one_command : OneFile → (command : Command) (bytes : List ℕ) (s t : Status) (x y : List ℕ) → IsCommandAnswer command bytes s x → IsCommandAnswer command bytes t y → SameAnswer s t x y
+one_command one Prove bytes s t x y a b = one_prove bytes s t x y a b
+one_command one Verify bytes s t x y a b = one_verify one bytes s t x y a b
 
 -- words name one command at most
 not-both : (words : List (List ℕ)) → words ≡ codes "prove" ∷ [] → words ≡ codes "verify" ∷ [] → ⊥
@@ -289,8 +242,8 @@ words-view words bytes OutOfMemory x a = inr (a.0, (a.1, a.2))
 words-view words bytes TooLarge x a = inr (a.0, (a.1, a.2))
 
 -- The words and the bytes of an input have one status and one text.
-pub one_answer : (words : List (List ℕ)) (bytes : List ℕ) (s t : Status) (x y : List ℕ) → IsAnswer words bytes s x → IsAnswer words bytes t y → (s ≡ t) × (x ≡ y)
-one_answer words bytes s t x y f g = elim (words-view words bytes s x f) [
+pub one_answer : OneFile → (words : List (List ℕ)) (bytes : List ℕ) (s t : Status) (x y : List ℕ) → IsAnswer words bytes s x → IsAnswer words bytes t y → (s ≡ t) × (x ≡ y)
+one_answer one words bytes s t x y f g = elim (words-view words bytes s x f) [
   | inl a ↦ elim (words-view words bytes t y g) [
     | inl b ↦ (a.0 ∙ sym b.0, a.1.1 ∙ sym b.1.1)
     | inr b ↦ absurd (a.1.0 (b.0, b.1.0))
@@ -299,6 +252,6 @@ one_answer words bytes s t x y f g = elim (words-view words bytes s x f) [
     | inl b ↦ absurd (b.1.0 (a.0, a.1.0))
     | inr b ↦
         let P : Command → Type 0 = λ c. IsCommandAnswer c bytes t y in
-        one_command a.0 bytes s t x y a.1.1 (subst P (one_name words b.0 a.0 b.1.0 a.1.0) b.1.1)
+        one_command one a.0 bytes s t x y a.1.1 (subst P (one_name words b.0 a.0 b.1.0 a.1.0) b.1.1)
   ]
 ]

@@ -1,6 +1,6 @@
 use Rattle.line_format.specs.Texts.{items_words, element_words}
 use Rattle.line_format.specs.Laws.Prints.{prints-items}
-use Rattle.batch_tool.specs.Laws.FirstForms.{elements-words}
+use Rattle.batch_tool.specs.Laws.Jobs.{elements-words}
 use Rattle.batch_tool.proofs.proof_file.print_elements.Goals as goal
 
 pub returns : goal.returns

@@ -1,0 +1,52 @@
+// Runs of `prove` whose whole output another program, written apart from this one, gives.
+use crate::files::{EIGHT_ROWS, ONE_ROW};
+use crate::runs::{answers, ran, words_of};
+use batch_tool::{MemorySink, MemorySource, run};
+use std::test::Fail;
+
+#[test]
+fn a_job_gets_its_one_proof_file(rt: HostRuntime) -> Result<(), Fail> {
+    let jobs = [
+        ("1\n1\n0\n5\n7\n", ONE_ROW),
+        ("1\n1\n3\n0\n1\n", EIGHT_ROWS),
+    ];
+    for (job, file) in jobs {
+        answers(&rt, rt.alloc(), &["prove"], job, 0, file)?;
+    }
+    Ok(())
+}
+
+/// The 64-bit FNV-1a hash of bytes.
+fn fnv_1a(bytes: &[u8]) -> u64 {
+    let mut hash: u64 = 0xcbf2_9ce4_8422_2325;
+    for byte in bytes {
+        hash = (hash ^ *byte as u64).wrapping_mul(0x100_0000_01b3);
+    }
+    hash
+}
+
+#[test]
+fn the_largest_job_gets_its_one_proof_file(rt: HostRuntime) -> Result<(), Fail> {
+    let alloc = rt.alloc();
+    let (status, file) = ran(alloc, &["prove"], b"1\n1\n10\n12345\n678910\n", 200_000)?;
+    assert_eq!(rt; status, 0);
+    assert_eq!(rt; file.len(), 127_914);
+    assert_eq!(rt; fnv_1a(&file), 7950089150875013792);
+    let (status, text) = ran(alloc, &["verify"], &file, 100)?;
+    assert_eq!(rt; status, 0);
+    assert_eq!(rt; &text[..], b"accepted\n".as_slice());
+    Ok(())
+}
+
+#[test]
+fn a_proof_file_that_is_cut_short_is_a_write_fault(rt: HostRuntime) -> Result<(), Fail> {
+    let alloc = rt.alloc();
+    let words = words_of(alloc, &["prove"])?;
+    let job = b"1\n1\n3\n0\n1\n".to_vec(alloc)?;
+    let mut source = MemorySource::new(job, Vec::new(alloc));
+    let mut sink = MemorySink::new(alloc, 2000, 10, vec![in alloc; 1]?)?;
+    let status = run(alloc, &words, &mut source, &mut sink);
+    assert_eq!(rt; status.number(), 5);
+    assert_eq!(rt; sink.bytes(), b"1\n1\n1\n3\n0\n".as_slice());
+    Ok(())
+}

@@ -1,0 +1,124 @@
+// Files of which a line is changed that are still proof files, and what they are refused with.
+use crate::files::{EIGHT_ROWS, FOUR_KINDS, ONE_ROW, TAKE_GIVE, WHEEL};
+use crate::runs::{is_answered, line_at_fault, verified, with_lines};
+use p3_field::Mem;
+use std::alloc::Global;
+use std::process::Abort;
+use std::test::Fail;
+
+#[test]
+fn the_first_failing_check_is_named(rt: HostRuntime) -> Result<(), Fail> {
+    let alloc = rt.alloc();
+    // The stated height; an opened value; a grinding value where no lookup is, and none where one is; the degree bits in the proof; a next
+    // row that isn't declared; a terminal that is absent; a chunk that is missing.
+    let cases = [
+        (EIGHT_ROWS, 4, "4\n", "refused HeightMismatch 0\n"),
+        (WHEEL, 4, "2\n", "refused HeightMismatch 0\n"),
+        (FOUR_KINDS, 9, "2\n", "refused HeightMismatch 1\n"),
+        (FOUR_KINDS, 13, "0\n", "refused HeightMismatch 3\n"),
+        (
+            ONE_ROW,
+            30,
+            "6\n",
+            "refused InvalidOpeningArgument Value 0 0 0 0\n",
+        ),
+        (
+            ONE_ROW,
+            74,
+            "1\n0\n",
+            "refused UnexpectedLookupPowWitness\n",
+        ),
+    ];
+    for (file, place, lines, text) in cases {
+        let changed = with_lines(alloc, file, place, lines)?;
+        assert!(rt; is_answered(alloc, &changed, 1, text)?, "of {place} {text}");
+    }
+    Ok(())
+}
+
+#[test]
+fn a_missing_grinding_value_is_named(rt: HostRuntime) -> Result<(), Fail> {
+    let alloc = rt.alloc();
+    let lines = TAKE_GIVE.lines().count();
+    // The option's two lines become `0`.
+    let without = with_lines(alloc, TAKE_GIVE, lines.saturating_sub(2), "0\n")?;
+    let Ok(text) = str::from_utf8(&without) else {
+        return Err("no text".into());
+    };
+    let missing = with_lines(alloc, text, lines.saturating_sub(1), "")?;
+    assert!(rt; is_answered(alloc, &missing, 1, "refused MissingLookupPowWitness 4\n")?);
+    Ok(())
+}
+
+#[test]
+fn a_changed_public_value_is_refused(rt: HostRuntime) -> Result<(), Fail> {
+    let alloc = rt.alloc();
+    let changed = with_lines(alloc, EIGHT_ROWS, 7, "1\n")?;
+    let (status, text) = verified(alloc, &changed)?;
+    assert_eq!(rt; status, 1);
+    assert!(rt; text.starts_with(b"refused "));
+    Ok(())
+}
+
+/// With this word in each line's place, where it is another: how many files are bad input, and the sum of their lines at fault. None where
+/// one is accepted, or ends in another way.
+fn faults_with(alloc: Global, word: &str) -> Mem<Option<(u64, u64)>> {
+    let mut count: u64 = 0;
+    let mut sum: u64 = 0;
+    let mut with_end = String::from_str(alloc, word)?;
+    with_end.push('\n')?;
+    for (number, line) in FOUR_KINDS.lines().enumerate() {
+        if line != word {
+            let changed = with_lines(alloc, FOUR_KINDS, number.saturating_add(1), &with_end)?;
+            let (status, text) = verified(alloc, &changed)?;
+            if status == 3 {
+                count = count.saturating_add(1);
+                sum = sum.saturating_add(line_at_fault(&text));
+            } else if status != 1 {
+                return Ok(None);
+            }
+        }
+    }
+    Ok(Some((count, sum)))
+}
+
+/// The numbers are of another reader of the grammar, written apart from this one.
+fn is_never_accepted(rt: &impl Abort, alloc: Global, word: &str, count: u64, sum: u64) -> Mem<()> {
+    assert_eq!(rt; faults_with(alloc, word)?, Some((count, sum)), "of {word}");
+    Ok(())
+}
+
+#[test]
+fn no_line_is_accepted_as_zero(rt: HostRuntime) -> Result<(), Fail> {
+    Ok(is_never_accepted(&rt, rt.alloc(), "0", 57, 12_781)?)
+}
+
+#[test]
+fn no_line_is_accepted_as_one(rt: HostRuntime) -> Result<(), Fail> {
+    Ok(is_never_accepted(&rt, rt.alloc(), "1", 54, 14_306)?)
+}
+
+#[test]
+fn no_line_is_accepted_as_two(rt: HostRuntime) -> Result<(), Fail> {
+    Ok(is_never_accepted(&rt, rt.alloc(), "2", 64, 18_669)?)
+}
+
+#[test]
+fn no_line_is_accepted_as_a_small_number(rt: HostRuntime) -> Result<(), Fail> {
+    Ok(is_never_accepted(&rt, rt.alloc(), "31", 78, 25_513)?)
+}
+
+#[test]
+fn no_line_is_accepted_as_a_byte(rt: HostRuntime) -> Result<(), Fail> {
+    Ok(is_never_accepted(&rt, rt.alloc(), "255", 78, 31_723)?)
+}
+
+#[test]
+fn no_line_is_accepted_as_an_element(rt: HostRuntime) -> Result<(), Fail> {
+    Ok(is_never_accepted(&rt, rt.alloc(), "1000000007", 82, 21_405)?)
+}
+
+#[test]
+fn no_line_is_accepted_as_the_last_element(rt: HostRuntime) -> Result<(), Fail> {
+    Ok(is_never_accepted(&rt, rt.alloc(), "2013265920", 82, 21_405)?)
+}

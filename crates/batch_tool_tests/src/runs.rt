@@ -1,0 +1,80 @@
+//! Runs of the program over ends in memory.
+use batch_tool::{MemorySink, MemorySource, run};
+use p3_field::Mem;
+use std::alloc::Global;
+use std::process::Abort;
+
+/// The words of a program's call.
+pub fn words_of(alloc: Global, words: &[&str]) -> Mem<Vec<String>> {
+    let mut all = Vec::new(alloc);
+    for word in words {
+        all.push(String::from_str(alloc, word)?)?;
+    }
+    Ok(all)
+}
+
+/// The exit status and the text of these words, over ends that never fail and with room for so many bytes.
+pub fn ran(alloc: Global, words: &[&str], input: &[u8], room: usize) -> Mem<(u8, Vec<u8>)> {
+    let words = words_of(alloc, words)?;
+    let mut source = MemorySource::new(input.to_vec(alloc)?, Vec::new(alloc));
+    let mut sink = MemorySink::new(alloc, room, 1000, Vec::new(alloc))?;
+    let status = run(alloc, &words, &mut source, &mut sink);
+    Ok((status.number(), sink.bytes().to_vec(alloc)?))
+}
+
+/// Runs the words, and compares the status and the text.
+pub fn answers(
+    rt: &impl Abort,
+    alloc: Global,
+    words: &[&str],
+    input: &str,
+    number: u8,
+    text: &str,
+) -> Mem<()> {
+    let (status, written) = ran(alloc, words, input.as_bytes(), 2000)?;
+    assert_eq!(rt; status, number, "of {input:?}");
+    assert_eq!(rt; &written[..], text.as_bytes(), "of {input:?}");
+    Ok(())
+}
+
+/// The exit status and the text of `verify`.
+pub fn verified(alloc: Global, input: &[u8]) -> Mem<(u8, Vec<u8>)> {
+    ran(alloc, &["verify"], input, 100)
+}
+
+/// Whether `verify` answers with this status and this text.
+pub fn is_answered(alloc: Global, input: &[u8], status: u8, text: &str) -> Mem<bool> {
+    let (number, written) = verified(alloc, input)?;
+    Ok(number == status && &written[..] == text.as_bytes())
+}
+
+/// A text in which each line of this number, from 1, has these lines in its place, each with its end: none removes the line.
+pub fn with_lines(alloc: Global, text: &str, place: usize, lines: &str) -> Mem<Vec<u8>> {
+    let mut out = Vec::new(alloc);
+    for (number, line) in text.lines().enumerate() {
+        if number.saturating_add(1) == place {
+            out.extend_from_slice(lines.as_bytes())?;
+        } else {
+            out.extend_from_slice(line.as_bytes())?;
+            out.push(b'\n')?;
+        }
+    }
+    Ok(out)
+}
+
+/// The number of the line at fault: what stands between `bad input at line ` and the line's end; zero where the text is another.
+pub fn line_at_fault(text: &[u8]) -> u64 {
+    let head = b"bad input at line ";
+    if text.len() <= head.len() || &text[..head.len()] != head.as_slice() {
+        return 0;
+    }
+    let mut number: u64 = 0;
+    for byte in &text[head.len()..] {
+        if byte.is_ascii_digit() {
+            number = number
+                .saturating_mul(10)
+                .saturating_add(byte.saturating_sub(b'0') as u64);
+        }
+    }
+    number
+}
