@@ -1,0 +1,2 @@
+pub mod SwapShape
+pub mod SwapChecks
