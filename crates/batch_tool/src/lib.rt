@@ -24,6 +24,7 @@ pub use byte_io::{
     read_whole, write_whole,
 };
 pub use laws::{one_answer, one_honest_proof, one_transcript};
+pub use line_format::TextError;
 pub use proof_files::{ProofFile, answer_verify, read_proof_file, write_proof_file};
 pub use proof_text::{read_proof_part, write_proof_part};
 pub use tool_statement::{TableStatement, ToolConfig, tool_config};

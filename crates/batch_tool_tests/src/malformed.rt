@@ -39,30 +39,81 @@ fn the_line_is_named(rt: HostRuntime) -> Result<(), Fail> {
     Ok(())
 }
 
+/// Whether this number in this line's place has this line at fault; zero where the file is read, and refused.
+fn is_found(alloc: Global, place: usize, number: u64, line: u64) -> Mem<bool> {
+    let text = format!(in alloc; "{number}\n")?;
+    let changed = with_lines(alloc, FOUR_KINDS, place, &text)?;
+    if line > 0 {
+        return is_at_fault(alloc, &changed, line);
+    }
+    let (status, _text) = verified(alloc, &changed)?;
+    Ok(status == 1)
+}
+
 #[test]
 fn a_changed_count_is_found_where_it_differs(rt: HostRuntime) -> Result<(), Fail> {
     let alloc = rt.alloc();
-    // The line of a count or of a number, what stands in its place, and the line at fault.
-    let changes = [
-        (2, "5\n", 17),
-        (2, "3\n", 19),
-        (14, "5\n", 75),
-        (14, "3\n", 61),
-        (15, "4097\n", 548),
-        (16, "2013265921\n", 16),
-        (16, "02012804161\n", 16),
-        (72, "5\n", 159),
-        (72, "1\n", 109),
-        (141, "5\n", 263),
-        (263, "5\n", 548),
-        (263, "3\n", 432),
-        (398, "9\n", 435),
-        (540, "5\n", 546),
-        (540, "3\n", 547),
+    // Each count's line, the count, and the line at fault where it is raised and where it is lowered by one.
+    let counts: [(usize, u64, u64, u64); 29] = [
+        (2, 4, 17, 19),
+        (14, 4, 75, 61),
+        (72, 2, 159, 109),
+        (141, 4, 263, 244),
+        (263, 4, 548, 432),
+        (264, 2, 277, 269),
+        (274, 2, 287, 279),
+        (284, 1, 0, 285),
+        (285, 4, 306, 298),
+        (303, 0, 308, 0),
+        (304, 0, 309, 0),
+        (305, 1, 314, 306),
+        (312, 1, 349, 313),
+        (318, 1, 366, 319),
+        (319, 4, 340, 365),
+        (337, 0, 0, 0),
+        (338, 0, 0, 0),
+        (339, 1, 348, 340),
+        (346, 1, 365, 347),
+        (347, 4, 368, 360),
+        (365, 8, 402, 394),
+        (398, 8, 435, 427),
+        (431, 2, 444, 436),
+        (442, 1, 461, 443),
+        (443, 4, 464, 456),
+        (461, 8, 498, 490),
+        (494, 8, 531, 523),
+        (527, 4, 540, 536),
+        (540, 4, 546, 547),
     ];
-    for (place, lines, line) in changes {
-        let changed = with_lines(alloc, FOUR_KINDS, place, lines)?;
-        assert!(rt; is_at_fault(alloc, &changed, line)?, "of {place} {lines:?}");
+    for (place, count, raised, lowered) in counts {
+        assert!(rt;
+            is_found(alloc, place, count.saturating_add(1), raised)?,
+            "of {place} raised"
+        );
+        if count > 0 {
+            assert!(rt;
+                is_found(alloc, place, count.saturating_sub(1), lowered)?,
+                "of {place} lowered"
+            );
+        }
+    }
+    Ok(())
+}
+
+#[test]
+fn an_element_is_below_the_order_and_written_in_one_way(rt: HostRuntime) -> Result<(), Fail> {
+    let alloc = rt.alloc();
+    for lines in [
+        "2013265921\n",
+        "02012804161\n",
+        "+1\n",
+        " 1\n",
+        "1 \n",
+        "\n",
+        "1\r\n",
+    ] {
+        let changed = with_lines(alloc, FOUR_KINDS, 16, lines)?;
+        assert!(rt; is_at_fault(alloc, &changed, 16)?, "of {lines:?}");
     }
     Ok(())
 }
