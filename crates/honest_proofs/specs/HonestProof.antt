@@ -266,7 +266,7 @@ module _ {S F E C : Type 0} (c : Setting S F E C) (p : Prover F E C) (s : Statem
   -- a denominator is zero: the first, by tables and then by rows;
   pub record IsDenominatorZero (i row : ℕ) : Type 0 where
     pub witness : Option F
-    pub ground : IsLookupGround witness
+    pub is_ground : IsLookupGround witness
     pub within : i < length s.tables
     pub before : (j : ℕ) → j < i → FractionsAt witness j
     pub lookup : ℕ
@@ -276,7 +276,7 @@ module _ {S F E C : Type 0} (c : Setting S F E C) (p : Prover F E C) (s : Statem
   -- no number below the order passes the grind before zeta
   pub record LacksOodGround : Type 0 where
     pub witness : Option F
-    pub ground : IsLookupGround witness
+    pub is_ground : IsLookupGround witness
     pub has_fractions : HaveFractions witness
     pub none : NonePasses c.challenger c.field.ring c.order (state_at_ood witness) c.ood_bits
 

@@ -71,7 +71,7 @@ pub fault_is : {S F E C : Type 0} (c : Setting S F E C) (p : Prover F E C) (s : 
     → IsFirstZeroOf (argument_at c p s traces degree_bits w i) (height (traced_at s traces degree_bits i).trace) row lookup tuple → IsDenominatorZero c p s traces degree_bits i row
 fault_is c p s traces degree_bits w i row lookup tuple found within before tall zero = record {
   witness = w;
-  ground = found;
+  is_ground = found;
   within = within;
   before = before;
   lookup = lookup;

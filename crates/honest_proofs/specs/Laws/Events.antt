@@ -128,7 +128,7 @@ module _ {S F E C : Type 0} (P : Type 0) (c : Setting S F E C) (p : Prover F E C
 
   last_part : (w : Option F) → IsLookupGround c p s traces degree_bits w → HaveFractions c p s traces degree_bits w → LacksOodGround c p s traces degree_bits ⊎ CanBeBuilt c p s traces degree_bits P
   last_part w lookup fractions = elim (ground_or_none c.challenger c.field.ring c.order p.canonical own (state_at_ood c p s traces degree_bits w) c.ood_bits) [
-    | inl none ↦ inl (record { witness = w; ground = lookup; has_fractions = fractions; none = none })
+    | inl none ↦ inl (record { witness = w; is_ground = lookup; has_fractions = fractions; none = none })
     | inr g ↦ inr (w, g.0, built w g.0 lookup fractions g.1)
   ]
 
@@ -136,7 +136,7 @@ module _ {S F E C : Type 0} (P : Type 0) (c : Setting S F E C) (p : Prover F E C
   middle_part w lookup = elim (first_or_all (FractionsAt c p s traces degree_bits w) (λ i. HasFirstZero (argument_at c p s traces degree_bits w i) (2 ^ log_rows c (traced_at s traces degree_bits i)))
       (λ i. table_zero (argument_at c p s traces degree_bits w i) decide (2 ^ log_rows c (traced_at s traces degree_bits i))) (length s.tables)) [
         | inl all ↦ inr (last_part w lookup all)
-        | inr f ↦ inl (f.place, f.there.row, record { witness = w; ground = lookup; within = f.within; before = f.before; lookup = f.there.lookup; tuple = f.there.tuple; first = f.there.first })
+        | inr f ↦ inl (f.place, f.there.row, record { witness = w; is_ground = lookup; within = f.within; before = f.before; lookup = f.there.lookup; tuple = f.there.tuple; first = f.there.first })
       ]
 
   -- an event comes, or there are grinding values with which a proof is built, whatever proves its openings
@@ -157,12 +157,12 @@ module _ {S F E C : Type 0} (c : Setting S F E C) (p : Prover F E C) (s : Statem
   -- so no other table and row before it is one
   not_before : (i row j other : ℕ) → IsDenominatorZero c p s traces degree_bits i row → IsDenominatorZero c p s traces degree_bits j other → i < j → ⊥
   not_before i row j other Z Y less =
-      let e = one_lookup c p s traces degree_bits K Y.witness Z.witness Y.ground Z.ground in
+      let e = one_lookup c p s traces degree_bits K Y.witness Z.witness Y.is_ground Z.is_ground in
       zero_there i row Z (subst (λ w. FractionsAt c p s traces degree_bits w i) e (Y.before i less) row Z.first.within)
 
   row_not_before : (i row j other : ℕ) → IsDenominatorZero c p s traces degree_bits i row → IsDenominatorZero c p s traces degree_bits j other → j ≡ i → row < other → ⊥
   row_not_before i row j other Z Y same less =
-      let e = one_lookup c p s traces degree_bits K Y.witness Z.witness Y.ground Z.ground in
+      let e = one_lookup c p s traces degree_bits K Y.witness Z.witness Y.is_ground Z.is_ground in
       zero_there i row Z
       (subst (λ w. RowHasInverses (argument_at c p s traces degree_bits w i) row) e (subst (λ k. RowHasInverses (argument_at c p s traces degree_bits Y.witness k) row) same (Y.first.before row less)))
 
@@ -187,9 +187,9 @@ module _ {S F E C : Type 0} (c : Setting S F E C) (p : Prover F E C) (s : Statem
 
   pub lookup_alone : LacksLookupGround c p s traces degree_bits → (HasZeroDenominator c p s traces degree_bits ⊎ LacksOodGround c p s traces degree_bits) → ⊥
   lookup_alone lacks other = elim other [
-    | inl z ↦ lookup_event c p s traces degree_bits K z.2.witness lacks z.2.ground
-    | inr o ↦ lookup_event c p s traces degree_bits K o.witness lacks o.ground
+    | inl z ↦ lookup_event c p s traces degree_bits K z.2.witness lacks z.2.is_ground
+    | inr o ↦ lookup_event c p s traces degree_bits K o.witness lacks o.is_ground
   ]
 
   pub zero_alone : HasZeroDenominator c p s traces degree_bits → LacksOodGround c p s traces degree_bits → ⊥
-  zero_alone z o = denominator_event c p s traces degree_bits K z.0 z.1 o.witness z.2 o.ground o.has_fractions
+  zero_alone z o = denominator_event c p s traces degree_bits K z.0 z.1 o.witness z.2 o.is_ground o.has_fractions

@@ -114,13 +114,13 @@ module _ {S F E C : Type 0} (c : Setting S F E C) (p : Prover F E C) (s : Statem
 
   pub denominator_event : (i row : ℕ) (w : Option F) → IsDenominatorZero c p s traces degree_bits i row → IsLookupGround c p s traces degree_bits w → HaveFractions c p s traces degree_bits w → ⊥
   denominator_event i row w Z a all =
-      let e = one_lookup w Z.witness a Z.ground in
+      let e = one_lookup w Z.witness a Z.is_ground in
       let here = subst (HaveFractions c p s traces degree_bits) e all i Z.within row Z.first.within in
       let none : Term E = record { count = c.extension.ring.zero; denominator = c.extension.ring.zero } in
       here Z.lookup [] Z.first.first.within Z.tuple none Z.first.first.first.within (Z.first.first.first.zero none)
 
   pub ood_event : (w : Option F) (z : F) → LacksOodGround c p s traces degree_bits → IsLookupGround c p s traces degree_bits w → IsOodGround c p s traces degree_bits w z → ⊥
   ood_event w z Z a b =
-      let e = one_lookup w Z.witness a Z.ground in
+      let e = one_lookup w Z.witness a Z.is_ground in
       none_ground c.challenger c.field.ring c.order p.canonical K (state_at_ood c p s traces degree_bits Z.witness) c.ood_bits z Z.none
       (subst (λ u. IsOodGround c p s traces degree_bits u z) e b)
