@@ -1,5 +1,5 @@
 // Runs of `prove` whose whole output another program, written apart from this one, gives.
-use crate::files::{EIGHT_ROWS, ONE_ROW};
+use crate::files::{EIGHT_ROWS, FOUR_ROWS, ONE_ROW};
 use crate::runs::{answers, ran, words_of};
 use batch_tool::{MemorySink, MemorySource, run};
 use std::test::Fail;
@@ -8,6 +8,7 @@ use std::test::Fail;
 fn a_job_gets_its_one_proof_file(rt: HostRuntime) -> Result<(), Fail> {
     let jobs = [
         ("1\n1\n0\n5\n7\n", ONE_ROW),
+        ("1\n1\n2\n2013265920\n77\n", FOUR_ROWS),
         ("1\n1\n3\n0\n1\n", EIGHT_ROWS),
     ];
     for (job, file) in jobs {
@@ -32,6 +33,17 @@ fn the_largest_job_gets_its_one_proof_file(rt: HostRuntime) -> Result<(), Fail> 
     assert_eq!(rt; status, 0);
     assert_eq!(rt; file.len(), 127_914);
     assert_eq!(rt; fnv_1a(&file), 7950089150875013792);
+    let (status, text) = ran(alloc, &["verify"], &file, 100)?;
+    assert_eq!(rt; status, 0);
+    assert_eq!(rt; &text[..], b"accepted\n".as_slice());
+    Ok(())
+}
+
+#[test]
+fn a_file_of_512_rows_is_accepted(rt: HostRuntime) -> Result<(), Fail> {
+    let alloc = rt.alloc();
+    let (status, file) = ran(alloc, &["prove"], b"1\n1\n9\n5\n7\n", 100_000)?;
+    assert_eq!(rt; status, 0);
     let (status, text) = ran(alloc, &["verify"], &file, 100)?;
     assert_eq!(rt; status, 0);
     assert_eq!(rt; &text[..], b"accepted\n".as_slice());

@@ -1,6 +1,6 @@
 // Files of which a line is changed that are still proof files, and what they are refused with.
 use crate::files::{EIGHT_ROWS, FOUR_KINDS, ONE_ROW, TAKE_GIVE, WHEEL};
-use crate::runs::{is_answered, line_at_fault, verified, with_lines};
+use crate::runs::{damaged, is_answered, line_at_fault, verified, with_lines};
 use p3_field::Mem;
 use std::alloc::Global;
 use std::process::Abort;
@@ -9,8 +9,7 @@ use std::test::Fail;
 #[test]
 fn the_first_failing_check_is_named(rt: HostRuntime) -> Result<(), Fail> {
     let alloc = rt.alloc();
-    // The stated height; an opened value; a grinding value where no lookup is, and none where one is; the degree bits in the proof; a next
-    // row that isn't declared; a terminal that is absent; a chunk that is missing.
+    // The stated height; an opened value; a grinding value where no table has lookups.
     let cases = [
         (EIGHT_ROWS, 4, "4\n", "refused HeightMismatch 0\n"),
         (WHEEL, 4, "2\n", "refused HeightMismatch 0\n"),
@@ -32,6 +31,44 @@ fn the_first_failing_check_is_named(rt: HostRuntime) -> Result<(), Fail> {
     for (file, place, lines, text) in cases {
         let changed = with_lines(alloc, file, place, lines)?;
         assert!(rt; is_answered(alloc, &changed, 1, text)?, "of {place} {text}");
+    }
+    Ok(())
+}
+
+#[test]
+fn a_damaged_proof_gets_its_first_refusal(rt: HostRuntime) -> Result<(), Fail> {
+    let alloc = rt.alloc();
+    // Of the proof of one row. A public value and a grinding value, behind which the grinding fails; a committed cell with all that
+    // follows from it; a quotient raised by one with all that follows from it. Another program, written apart from this one, made them.
+    let public: [(usize, &str); 1] = [(7, "8")];
+    let grinding: [(usize, &str); 1] = [(75, "36")];
+    let degree: [(usize, &str); 10] = [
+        (11, "6"),
+        (19, "1472439445"),
+        (20, "1593702522"),
+        (21, "128598264"),
+        (22, "265080978"),
+        (23, "1472439445"),
+        (24, "1593702522"),
+        (25, "128598264"),
+        (26, "265080978"),
+        (75, "15"),
+    ];
+    let identity: [(usize, &str); 4] = [
+        (19, "1204566873"),
+        (23, "1204566873"),
+        (51, "1204566873"),
+        (75, "4"),
+    ];
+    let files: [(&[(usize, &str)], &str); 4] = [
+        (&public, "refused OodPowWitness 4\n"),
+        (&grinding, "refused OodPowWitness 4\n"),
+        (&degree, "refused InvalidOpeningArgument Degree 0 0 0\n"),
+        (&identity, "refused OodEvaluationMismatch 0\n"),
+    ];
+    for (lines, text) in files {
+        let changed = damaged(alloc, ONE_ROW, lines)?;
+        assert!(rt; is_answered(alloc, &changed, 1, text)?, "of {text}");
     }
     Ok(())
 }

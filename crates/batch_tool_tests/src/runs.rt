@@ -62,6 +62,28 @@ pub fn with_lines(alloc: Global, text: &str, place: usize, lines: &str) -> Mem<V
     Ok(out)
 }
 
+/// What stands in the line of this number: the last of these replacements that names it, or else the line itself.
+fn replaced<'a>(lines: &[(usize, &'a str)], number: usize, line: &'a str) -> &'a str {
+    let mut found = line;
+    for (place, other) in lines {
+        if *place == number {
+            found = *other;
+        }
+    }
+    found
+}
+
+/// A text in which the lines of these numbers, from 1, are replaced.
+pub fn damaged(alloc: Global, text: &str, lines: &[(usize, &str)]) -> Mem<Vec<u8>> {
+    let mut out = Vec::new(alloc);
+    for (number, line) in text.lines().enumerate() {
+        let kept = replaced(&*lines, number.saturating_add(1), line);
+        out.extend_from_slice(kept.as_bytes())?;
+        out.push(b'\n')?;
+    }
+    Ok(out)
+}
+
 /// The number of the line at fault: what stands between `bad input at line ` and the line's end; zero where the text is another.
 pub fn line_at_fault(text: &[u8]) -> u64 {
     let head = b"bad input at line ";
