@@ -60,22 +60,26 @@ module _ {S F E C : Type 0} (c : Setting S F E C) where
   abbrev pub AreBalanced : (F → F → Bool) → List (TracedTable F) → Type 0
   AreBalanced eq tables = IsBalanced c.field.ring eq (batch_messages (senders (map (sender c) tables)))
 
-  -- A statement with traces and degree bits is valid, where values are equal by `eq`, and the backend's commitment to matrices on
-  -- domains is `commitment_of`:
-  pub record Valid (eq : F → F → Bool) (commitment_of : List (CosetData F × Rows F) → C) (s : Statement F C) (traces : List (Rows F)) (degree_bits : List ℕ) : Type 0 where
-    -- the common data is well-formed, and each list has an item for each table;
+  -- A batch is traced, a statement with traces and degree bits, where the backend's commitment to matrices on domains is `commitment_of`: this is what
+  -- a prover of it asks for. The traces need not meet the constraints.
+  pub record IsTracedBatch (commitment_of : List (CosetData F × Rows F) → C) (s : Statement F C) (traces : List (Rows F)) (degree_bits : List ℕ) : Type 0 where
+    -- The common data is well-formed, and each list has an item for each table;
     pub formed : WellFormed (map (λ t. t.declaration) s.tables) s.common
     pub lists : AreListed s traces degree_bits
     -- the preprocessed commitment is that to the AIRs' preprocessed traces, and each entry has its table's degree bits;
     pub committed : CommitsToMatrices commitment_of (preprocessed_matrices c.field.ring.one (all_traced s traces degree_bits)) s.common.preprocessed
     pub entries : (i : ℕ) → i < length s.tables → HasBits (traced_at s traces degree_bits i).degree_bits (entry_of s.common.preprocessed i)
-    -- each table is traced;
+    -- each table is traced, and there are the quotients' domains
     pub traced : (i : ℕ) → i < length s.tables → IsTraced (traced_at s traces degree_bits i)
-    -- the traces meet the AIRs' constraints;
-    pub holds : (i : ℕ) → i < length s.tables → OwnHold (traced_at s traces degree_bits i)
-    -- all constraints fit, and there are the quotients' domains;
-    pub fits : (i : ℕ) → i < length s.tables → AllFit (traced_at s traces degree_bits i)
     pub domains : (i : ℕ) → i < length s.tables → HasQuotientDomain (traced_at s traces degree_bits i)
+
+  -- A statement with traces and degree bits is valid, where values are equal by `eq`:
+  pub record Valid (eq : F → F → Bool) (commitment_of : List (CosetData F × Rows F) → C) (s : Statement F C) (traces : List (Rows F)) (degree_bits : List ℕ) : Type 0 where
+    -- it is a traced batch;
+    pub batch : IsTracedBatch commitment_of s traces degree_bits
+    -- the traces meet the AIRs' constraints, and all constraints fit;
+    pub holds : (i : ℕ) → i < length s.tables → OwnHold (traced_at s traces degree_bits i)
+    pub fits : (i : ℕ) → i < length s.tables → AllFit (traced_at s traces degree_bits i)
     -- no bus may carry counts that add up to the order of the field, and all are balanced
     pub bounded : AreBounded c.order s.common.lookups (heights_of (masks c) degree_bits (length s.tables))
     pub balanced : AreBalanced eq (all_traced s traces degree_bits)

@@ -14,16 +14,16 @@ ghost use Rattle.committed_tables.specs.Quotient.{IsQuotientDomain, honest_quoti
 ghost use Rattle.committed_tables.specs.Rows.{CommitsTo};
 ghost use Rattle.committed_tables.specs.Traces.{IsTall};
 ghost use Rattle.batch_validity.specs.Traced.{committed_alone, committed_with, constraints, declared, log_parts, log_rows, quotient_shift, traced_at, traces_of};
-ghost use Rattle.batch_validity.specs.Valid.{Valid};
+ghost use Rattle.batch_validity.specs.Valid.{IsTracedBatch, Valid};
 
-/// Where a statement with traces is valid, each of its tables with permutation columns of its height is committed to: its
-/// polynomials are the interpolants of the columns (`commits`). Its quotient has a domain (`domain`).
-pub fn a_valid_table_is_committed<C, F, E, Com>()
-    ensures commits { (c : Setting C F E Com) (eq : F → F → Bool) (commitment_of : List (CosetData F × Rows F) → Com) (s : Statement F Com) (traces : List (Rows F)) (degree_bits : List ℕ) (inverse : E → E) (i : ℕ) (columns : Rows E) (challenges terminals : List E)
-        → FieldsLaws c.field c.extension c.two_adicity inverse → Valid c eq commitment_of s traces degree_bits → i < length s.tables → IsTall (2 ^ log_rows c (traced_at s traces degree_bits i)) columns
+/// In a traced batch each table with permutation columns of its height is committed to: its polynomials are the interpolants of the
+/// columns (`commits`). Its quotient has a domain (`domain`).
+pub fn a_traced_table_is_committed<C, F, E, Com>()
+    ensures commits { (c : Setting C F E Com) (commitment_of : List (CosetData F × Rows F) → Com) (s : Statement F Com) (traces : List (Rows F)) (degree_bits : List ℕ) (inverse : E → E) (i : ℕ) (columns : Rows E) (challenges terminals : List E)
+        → FieldsLaws c.field c.extension c.two_adicity inverse → IsTracedBatch c commitment_of s traces degree_bits → i < length s.tables → IsTall (2 ^ log_rows c (traced_at s traces degree_bits i)) columns
         → CommitsTo c.field c.extension (committed_with c (traced_at s traces degree_bits i) columns challenges terminals) (traces_of (traced_at s traces degree_bits i)) columns }
-    ensures domain { (c : Setting C F E Com) (eq : F → F → Bool) (commitment_of : List (CosetData F × Rows F) → Com) (s : Statement F Com) (traces : List (Rows F)) (degree_bits : List ℕ) (inverse : E → E) (i : ℕ) (columns : Rows E) (challenges terminals : List E)
-        → FieldsLaws c.field c.extension c.two_adicity inverse → Valid c eq commitment_of s traces degree_bits → i < length s.tables
+    ensures domain { (c : Setting C F E Com) (commitment_of : List (CosetData F × Rows F) → Com) (s : Statement F Com) (traces : List (Rows F)) (degree_bits : List ℕ) (inverse : E → E) (i : ℕ) (columns : Rows E) (challenges terminals : List E)
+        → FieldsLaws c.field c.extension c.two_adicity inverse → IsTracedBatch c commitment_of s traces degree_bits → i < length s.tables
         → let t = traced_at s traces degree_bits i in IsQuotientDomain c.field c.extension (committed_with c t columns challenges terminals) (quotient_shift c) (log_parts c t) c.two_adicity }
 {}
 

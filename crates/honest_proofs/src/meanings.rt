@@ -21,7 +21,7 @@ ghost use Rattle.committed_tables.specs.Fields.{AreDecided, FieldsLaws};
 ghost use Rattle.committed_tables.specs.Identity.{CommittedIdentity};
 ghost use Rattle.committed_tables.specs.Quotient.{honest_quotient, quotient_domain};
 ghost use Rattle.batch_validity.specs.Traced.{TracedTable, constraints, declared, log_parts, log_rows, quotient_shift, traced_at};
-ghost use Rattle.batch_validity.specs.Valid.{Valid};
+ghost use Rattle.batch_validity.specs.Valid.{IsTracedBatch, Valid};
 ghost use Rattle.honest_proofs.specs.HonestProof.{AreCanonical, AreLogHeights, CanBeBuilt, FractionsAt, HasZeroDenominator, HasQuotientRows, HaveFractions, IsBuilt, IsDenominatorZero, IsLookupGround, IsOodGround, LacksLookupGround, LacksOodGround, Prover, alpha, argument_of, challenges_at, chunk_matrices, committed_at, committed_table, honest_proof, opening_state, permutation_columns, terminal_of, terminals, zeta};
 
 /// What a verifier draws along an honest proof is what its parts were made of, each draw over the parts before it: the challenges
@@ -97,13 +97,13 @@ pub fn no_honest_proof_where_an_event_comes<C, F, E, Com>()
         → IsOodGround c p s traces degree_bits lookup_witness ood_witness → ⊥ }
 {}
 
-/// Where a statement with traces is valid, its degree bits are the logarithms of the heights (`heights`). Where besides its AIRs
+/// The degree bits of a traced batch are the logarithms of the heights (`heights`). Where besides the statement is valid, its AIRs
 /// read declared cells alone, as each AIR does, and no denominator is zero, all constraints of each table that an honest proof
 /// commits to are zero on its rows (`holds`), and their identity with the honest quotient holds at every point (`identity`). For
 /// a table of n rows and a quotient of C chunks, n (C + 1) is below 2^64.
 pub fn honest_tables_hold<C, F, E, Com>()
-    ensures heights { (c : Setting C F E Com) (p : Prover F E Com) (eq : F → F → Bool) (s : Statement F Com) (traces : List (Rows F)) (degree_bits : List ℕ)
-        → Valid c eq p.commitment_of s traces degree_bits → AreLogHeights c p s traces degree_bits }
+    ensures heights { (c : Setting C F E Com) (p : Prover F E Com) (s : Statement F Com) (traces : List (Rows F)) (degree_bits : List ℕ)
+        → IsTracedBatch c p.commitment_of s traces degree_bits → AreLogHeights c p s traces degree_bits }
     ensures holds { (c : Setting C F E Com) (p : Prover F E Com) (eq : F → F → Bool) (s : Statement F Com) (traces : List (Rows F)) (degree_bits : List ℕ) (lookup_witness : Option F) (i : ℕ)
         → FieldsLaws c.field c.extension c.two_adicity p.inverse → Valid c eq p.commitment_of s traces degree_bits → i < length s.tables
         → let t = traced_at s traces degree_bits i in All (ReadsDeclared (declared_shape (declared t))) t.table.trees

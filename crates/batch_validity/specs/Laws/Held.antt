@@ -30,7 +30,7 @@ use Rattle.committed_tables.specs.Laws.Quotient.{honest_identity}
 use Rattle.committed_tables.specs.Laws.Rows.{traces_bounded}
 use Rattle.committed_tables.specs.Laws.Traces.{traces_committed}
 use Rattle.batch_validity.specs.Traced.{TracedTable, committed_alone, committed_with, constraints, declared, log_parts, log_rows, quotient_shift, traced_at, traces_of}
-use Rattle.batch_validity.specs.Valid.{AllFit, HasQuotientDomain, IsTraced, OwnHold, Valid}
+use Rattle.batch_validity.specs.Valid.{AllFit, HasQuotientDomain, IsTraced, IsTracedBatch, OwnHold, Valid}
 use Rattle.batch_validity.specs.Laws.Committed.{holds_beside, rows_beside}
 
 -- lookups that read what a table declares read what it may send
@@ -108,18 +108,18 @@ module _ {S F E C : Type 0} (c : Setting S F E C) (inverse : E → E) (L : Field
         (holds_beside c.field c.extension (traces_of t) (log_rows c t) columns challenges (terminal.0 ∷ []) (declared t) t.table.trees reads own)
         fit
 
-module _ {S F E C : Type 0} (c : Setting S F E C) (eq : F → F → Bool) (commitment_of : List (CosetData F × Rows F) → C) (s : Statement F C) (traces : List (Rows F)) (degree_bits : List ℕ)
-    (inverse : E → E) (L : FieldsLaws c.field c.extension c.two_adicity inverse) (V : Valid c eq commitment_of s traces degree_bits) where
+module _ {S F E C : Type 0} (c : Setting S F E C) (commitment_of : List (CosetData F × Rows F) → C) (s : Statement F C) (traces : List (Rows F)) (degree_bits : List ℕ)
+    (inverse : E → E) (L : FieldsLaws c.field c.extension c.two_adicity inverse) (B : IsTracedBatch c commitment_of s traces degree_bits) where
   abbrev declarations : List (Declaration F)
   declarations = map (λ (t : Table F). t.declaration) s.tables
 
   counted : (p : Option (PreprocessedTracesData C)) → HasEntries (length s.tables) p → within_entries p (min (length declarations) (length s.common.lookups)) ≡ length s.tables
-  counted None h = let q = V.lists.lookups_long in omega (arith, q, length-map s.tables (λ (t : Table F). t.declaration))
-  counted (Some g) h = let q = V.lists.lookups_long in omega (arith, q, h, length-map s.tables (λ (t : Table F). t.declaration))
+  counted None h = let q = B.lists.lookups_long in omega (arith, q, length-map s.tables (λ (t : Table F). t.declaration))
+  counted (Some g) h = let q = B.lists.lookups_long in omega (arith, q, h, length-map s.tables (λ (t : Table F). t.declaration))
 
   -- each table is one of the common data's instances
   pub all_counted : instance_count declarations s.common ≡ length s.tables
-  all_counted = counted s.common.preprocessed V.lists.entries_long
+  all_counted = counted s.common.preprocessed B.lists.entries_long
 
   module _ (i : ℕ) (lt : i < length s.tables) where
     abbrev t : TracedTable F
@@ -131,37 +131,43 @@ module _ {S F E C : Type 0} (c : Setting S F E C) (eq : F → F → Bool) (commi
     lookups_read : All (ReadsSent (declared_shape (declared t))) t.lookups
     lookups_read =
         subst (λ (d : Declaration F). All (ReadsSent (declared_shape d)) t.lookups) declared_there
-        (V.formed.reads i (omega (arith, lt, all_counted)) (no_table {F = F}).declaration)
+        (B.formed.reads i (omega (arith, lt, all_counted)) (no_table {F = F}).declaration)
 
-    -- its lookups read what its traces have
-    -- which are what it declares
+    -- its lookups read what it declares
     pub lookups_declared : All (IsLookup (declared_shape (declared t))) t.lookups
-    lookups_declared j d l = record { counted = V.formed.counted i (omega (arith, lt, all_counted)) j d l; reads = lookups_read j d l }
+    lookups_declared j d l = record { counted = B.formed.counted i (omega (arith, lt, all_counted)) j d l; reads = lookups_read j d l }
 
+    -- which its traces have
     pub lookups_fit : All (IsLookup (sent_shape t.trace (declared t).preprocessed t.publics)) t.lookups
     lookups_fit j d l = record {
-      counted = V.formed.counted i (omega (arith, lt, all_counted)) j d l;
-      reads = sent_more (declared t) t.trace t.publics (V.traced i lt).width (V.traced i lt).publics (get_or t.lookups j d) (lookups_read j d l);
+      counted = B.formed.counted i (omega (arith, lt, all_counted)) j d l;
+      reads = sent_more (declared t) t.trace t.publics (B.traced i lt).width (B.traced i lt).publics (get_or t.lookups j d) (lookups_read j d l);
     }
 
-    pub valid_commits : (columns : Rows E) (challenges terminals : List E) → IsTall (2 ^ log_rows c t) columns → CommitsTo c.field c.extension (committed_with c t columns challenges terminals) (traces_of t) columns
-    valid_commits columns challenges terminals tall = commits_beside c inverse L t (V.domains i lt) columns challenges terminals (V.traced i lt) tall
+    pub traced_commits : (columns : Rows E) (challenges terminals : List E) → IsTall (2 ^ log_rows c t) columns → CommitsTo c.field c.extension (committed_with c t columns challenges terminals) (traces_of t) columns
+    traced_commits columns challenges terminals tall = commits_beside c inverse L t (B.domains i lt) columns challenges terminals (B.traced i lt) tall
 
-    pub valid_domain : (columns : Rows E) (challenges terminals : List E) → IsQuotientDomain c.field c.extension (committed_with c t columns challenges terminals) (quotient_shift c) (log_parts c t) c.two_adicity
-    valid_domain columns challenges terminals = domain_beside c inverse L t (V.domains i lt) columns challenges terminals
+    pub traced_domain : (columns : Rows E) (challenges terminals : List E) → IsQuotientDomain c.field c.extension (committed_with c t columns challenges terminals) (quotient_shift c) (log_parts c t) c.two_adicity
+    traced_domain columns challenges terminals = domain_beside c inverse L t (B.domains i lt) columns challenges terminals
 
-    pub valid_holds_alone : All (ReadsDeclared (declared_shape (declared t))) t.table.trees → t.lookups ≡ [] → Holds c.field c.extension (committed_alone c t) (constraints c t)
-    valid_holds_alone reads none = holds_alone c inverse L t (V.domains i lt) (V.traced i lt) (V.holds i lt) reads none
+module _ {S F E C : Type 0} (c : Setting S F E C) (eq : F → F → Bool) (commitment_of : List (CosetData F × Rows F) → C) (s : Statement F C) (traces : List (Rows F)) (degree_bits : List ℕ)
+    (inverse : E → E) (L : FieldsLaws c.field c.extension c.two_adicity inverse) (V : Valid c eq commitment_of s traces degree_bits) where
+  module _ (i : ℕ) (lt : i < length s.tables) where
+    abbrev own : TracedTable F
+    own = traced_at s traces degree_bits i
 
-    pub valid_holds : All (ReadsDeclared (declared_shape (declared t))) t.table.trees → (columns : Rows E) (challenges : List E) (terminal : LookupTerminal E) → IsTall (2 ^ log_rows c t) columns
-        → IsGenerated (argument_over c.field.ring c.extension.ring inverse c.extension.embed t.trace (declared t).preprocessed t.publics t.lookups challenges) (height t.trace) (Ok (columns, terminal))
-        → Holds c.field c.extension (committed_with c t columns challenges (terminal.0 ∷ [])) (constraints c t)
+    pub valid_holds_alone : All (ReadsDeclared (declared_shape (declared own))) own.table.trees → own.lookups ≡ [] → Holds c.field c.extension (committed_alone c own) (constraints c own)
+    valid_holds_alone reads none = holds_alone c inverse L own (V.batch.domains i lt) (V.batch.traced i lt) (V.holds i lt) reads none
+
+    pub valid_holds : All (ReadsDeclared (declared_shape (declared own))) own.table.trees → (columns : Rows E) (challenges : List E) (terminal : LookupTerminal E) → IsTall (2 ^ log_rows c own) columns
+        → IsGenerated (argument_over c.field.ring c.extension.ring inverse c.extension.embed own.trace (declared own).preprocessed own.publics own.lookups challenges) (height own.trace) (Ok (columns, terminal))
+        → Holds c.field c.extension (committed_with c own columns challenges (terminal.0 ∷ [])) (constraints c own)
     valid_holds reads columns challenges terminal tall made =
-        holds_generated c inverse L t (V.domains i lt) (V.traced i lt) (V.holds i lt) reads lookups_fit columns challenges terminal tall made
+        holds_generated c inverse L own (V.batch.domains i lt) (V.batch.traced i lt) (V.holds i lt) reads (lookups_fit c commitment_of s traces degree_bits inverse L V.batch i lt) columns challenges terminal tall made
 
-    pub valid_identity : (columns : Rows E) (challenges terminals : List E) (alpha x : E) → 2 ^ log_rows c t * (2 ^ log_parts c t + 1) < 2 ^ 64 → IsTall (2 ^ log_rows c t) columns
-        → Holds c.field c.extension (committed_with c t columns challenges terminals) (constraints c t)
-        → CommittedIdentity c.field c.extension (committed_with c t columns challenges terminals) (constraints c t)
-        (honest_quotient c.field c.extension (committed_with c t columns challenges terminals) (quotient_shift c) (log_parts c t) (constraints c t) alpha) alpha x
+    pub valid_identity : (columns : Rows E) (challenges terminals : List E) (alpha x : E) → 2 ^ log_rows c own * (2 ^ log_parts c own + 1) < 2 ^ 64 → IsTall (2 ^ log_rows c own) columns
+        → Holds c.field c.extension (committed_with c own columns challenges terminals) (constraints c own)
+        → CommittedIdentity c.field c.extension (committed_with c own columns challenges terminals) (constraints c own)
+        (honest_quotient c.field c.extension (committed_with c own columns challenges terminals) (quotient_shift c) (log_parts c own) (constraints c own) alpha) alpha x
     valid_identity columns challenges terminals alpha x small tall holds =
-        identity_beside c inverse L t (V.domains i lt) columns challenges terminals (V.traced i lt) tall alpha x small (V.fits i lt) holds
+        identity_beside c inverse L own (V.batch.domains i lt) columns challenges terminals (V.batch.traced i lt) tall alpha x small (V.fits i lt) holds

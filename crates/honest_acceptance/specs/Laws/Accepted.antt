@@ -55,15 +55,15 @@ module _ {S F E C P : Type 0} (c : Setting S F E C) (p : Prover F E C) (eq : F �
   claims_pass =
       none_append (in_turn n (domain_checks c s proof {R = R})) (in_turn (length (matrix_tables s.common.preprocessed)) (metadata_check c s proof {R = R}))
       (none_of_each (domain_checks c s proof {R = R}) n (λ i h.
-      let Q = V.domains i h in let T = V.traced i h in
+      let Q = V.batch.domains i h in let T = V.batch.traced i h in
       let fits = Q.fits in let least = T.least in
       let size : bits_at degree_bits i + log_chunks c s proof i ≡ log_rows c (at i) + log_parts c (at i) = omega (arith, least) in
       (omega (arith, fits, below, size), (omega (arith, fits, size), tt))))
       (none_of_each (metadata_check c s proof {R = R}) (length (matrix_tables s.common.preprocessed)) (λ m h.
       let i = get_or (matrix_tables s.common.preprocessed) m 0 in
       let within : i < n =
-      listed_below (map (λ (t : Table F). t.declaration) s.tables) s.common n V.formed (length-map s.tables (λ (t : Table F). t.declaration)) m 0 h in
-      (V.entries i within, tt)))
+      listed_below (map (λ (t : Table F). t.declaration) s.tables) s.common n V.batch.formed (length-map s.tables (λ (t : Table F). t.declaration)) m 0 h in
+      (V.batch.entries i within, tt)))
 
   -- the identity of each table at the point holds
   module _ (fractions : HaveFractions c p s traces degree_bits w) (outside : (i : ℕ) → i < n → IsOutside c (at i) x) where
@@ -85,7 +85,7 @@ module _ {S F E C P : Type 0} (c : Setting S F E C) (p : Prover F E C) (eq : F �
         let same_parts : get_or (table n parts) i [] ≡ parts i = get_or-table n parts i [] h in
         let same_opened : get_or (table n opened) i no_opened ≡ opened i = get_or-table n opened i no_opened h in
         subst NoneFails (sym (λ j. at_table i (same_ch j) (same_end j) (same_parts j) (D.alpha_is j) (D.zeta_is j) (same_opened j)))
-        (identity_pass c p (at i) (challenges_at c p s traces degree_bits w i) L (V.domains i h) (V.traced i h) a x (H i h).reads
+        (identity_pass c p (at i) (challenges_at c p s traces degree_bits w i) L (V.batch.domains i h) (V.batch.traced i h) a x (H i h).reads
         (lookups_declared c eq p.commitment_of s traces degree_bits p.inverse L V i h)
         (valid_identity c p eq s traces degree_bits L V w fractions i h (H i h).reads a x (H i h).small) (outside i h) R i))
 

@@ -13,7 +13,7 @@ use Rattle.batch_setting.specs.Setting.{Backend, Setting}
 use Rattle.batch_shape_checks.specs.ShapeChecks.{no_table}
 use Rattle.batch_statement.specs.Statement.{Common, Statement, Table, tables_of}
 use Rattle.batch_validity.specs.Traced.{log_parts, log_rows, traced_at}
-use Rattle.batch_validity.specs.Valid.{Valid}
+use Rattle.batch_validity.specs.Valid.{IsTracedBatch, Valid}
 use Rattle.batch_statement.specs.Proof.{ProofData}
 use Rattle.batch_verifier.specs.BatchChecks.{Accepted}
 use Rattle.committed_tables.specs.Fields.{FieldsLaws}
@@ -32,9 +32,9 @@ small_size k l top fits low =
     let q : 2 ^ k ≤ 2 ^ 62 = pow-le-pow_right (omega arith) b in
     omega (arith, whole, turned, p, q)
 
-module _ {S F E C A : Type 0} (c : Setting S F E C) (eq : F → F → Bool) (commitment_of : List (CosetData F × Rows F) → C) (declaration : A → Declaration F) (trees : A → List (Tree F))
+module _ {S F E C A : Type 0} (c : Setting S F E C) (commitment_of : List (CosetData F × Rows F) → C) (declaration : A → Declaration F) (trees : A → List (Tree F))
     (columns : (a : A) → HasColumns (declaration a).preprocessed) (reads : (a : A) → All (ReadsDeclared (declared_shape (declaration a))) (trees a)) (airs : List A)
-    (s : Statement F C) (own : s.tables ≡ tables_of declaration trees airs) (traces : List (Rows F)) (degree_bits : List ℕ) (V : Valid c eq commitment_of s traces degree_bits) (low : c.two_adicity < 63) where
+    (s : Statement F C) (own : s.tables ≡ tables_of declaration trees airs) (traces : List (Rows F)) (degree_bits : List ℕ) (B : IsTracedBatch c commitment_of s traces degree_bits) (low : c.two_adicity < 63) where
   abbrev Sound : Table F → Type 0
   Sound t = HasColumns t.declaration.preprocessed × All (ReadsDeclared (declared_shape t.declaration)) t.trees
 
@@ -44,7 +44,7 @@ module _ {S F E C A : Type 0} (c : Setting S F E C) (eq : F → F → Bool) (com
   pub airs_sound : AreRegular c s traces degree_bits
   airs_sound i h =
       let here = all_sound i no_table h in
-      let Q = V.domains i h in
+      let Q = B.domains i h in
       record {
         has_columns = here.0;
         reads = here.1;
@@ -62,5 +62,5 @@ pub airs_accepted : {S F E C P R A : Type 0} (c : Setting S F E C) (p : Prover F
 airs_accepted c p eq declaration trees columns reads airs publics common traces degree_bits L eq_same same_eq K b q plain low V G outside =
     let s : Statement _ _ = record { tables = tables_of declaration trees airs; publics = publics; common = common } in
     let long : length s.tables ≡ length airs = length-map airs _ in
-    honest_accepted c p eq s traces degree_bits L eq_same same_eq K V (airs_sound c eq p.commitment_of declaration trees columns reads airs s refl traces degree_bits V low) plain (omega (arith, low)) b q G
+    honest_accepted c p eq s traces degree_bits L eq_same same_eq K V (airs_sound c p.commitment_of declaration trees columns reads airs s refl traces degree_bits V.batch low) plain (omega (arith, low)) b q G
     (λ i h. outside i (omega (arith, h, long)))

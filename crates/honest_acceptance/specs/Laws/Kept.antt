@@ -29,7 +29,7 @@ use Rattle.committed_tables.specs.Laws.Quotient.{one_chunk_polynomial}
 use Rattle.batch_validity.specs.Laws.Columns.{pieces_height, pieces_row}
 use Rattle.batch_validity.specs.Laws.Held.{all_counted, domain_beside}
 use Rattle.batch_validity.specs.Traced.{TracedTable, all_traced, constraints, declared, log_parts, log_rows, preprocessed_matrices, quotient_shift, traced_at}
-use Rattle.batch_validity.specs.Valid.{HasQuotientDomain, IsTraced, Valid}
+use Rattle.batch_validity.specs.Valid.{HasQuotientDomain, IsTraced, IsTracedBatch}
 use Rattle.honest_proofs.specs.HonestProof.{Prover, alpha, challenges_at, chunk_matrices, chunk_rows, committed_table, permutation_columns, permutation_matrices, quotient_row, terminal_of, where_some, zeta}
 use Rattle.honest_acceptance.specs.Rounds.{OpenedMatrix, chunk_opened, chunks, chunks_opened, committed_of, main_opened, mains, of_table, permutation_opened, permutations, preprocessed_opened, preprocesseds}
 use Rattle.honest_acceptance.specs.Laws.Lengths.{honest_commits}
@@ -239,8 +239,8 @@ module _ {S F E C : Type 0} (c : Setting S F E C) (p : Prover F E C) (t : Traced
   one_preprocessed (Some m) (Some o) there some entry =
       ((natural c.field.ring.one t.degree_bits, m), refl, preprocessed_kept c p t challenges L Q T plain folding x m there)
 
-module _ {S F E C : Type 0} (c : Setting S F E C) (p : Prover F E C) (eq : F → F → Bool) (s : Statement F C) (traces : List (Rows F)) (degree_bits : List ℕ)
-    (L : FieldsLaws c.field c.extension c.two_adicity p.inverse) (V : Valid c eq p.commitment_of s traces degree_bits) (plain : c.zk ≡ false) (w : Option F) (z : F) where
+module _ {S F E C : Type 0} (c : Setting S F E C) (p : Prover F E C) (s : Statement F C) (traces : List (Rows F)) (degree_bits : List ℕ)
+    (L : FieldsLaws c.field c.extension c.two_adicity p.inverse) (B : IsTracedBatch c p.commitment_of s traces degree_bits) (plain : c.zk ≡ false) (w : Option F) (z : F) where
   abbrev n : ℕ
   n = length s.tables
 
@@ -269,7 +269,7 @@ module _ {S F E C : Type 0} (c : Setting S F E C) (p : Prover F E C) (eq : F →
       let of = of_table c p s traces degree_bits w z (main_opened c p) in
       let h = paired_from (Keeps c.field) (map (λ (t : TracedTable F). (subgroup c.field.ring t.degree_bits, t.trace)) (all_traced s traces degree_bits)) held K in
       paired_is (Keeps c.field) n (λ i. (subgroup c.field.ring (at i).degree_bits, (at i).trace)) (λ i. (of i).committed) held
-      (λ i l. main_kept c p (at i) (ch i) L (V.domains i l) (V.traced i l) plain a x)
+      (λ i l. main_kept c p (at i) (ch i) L (B.domains i l) (B.traced i l) plain a x)
       (subst (λ ms. ArePaired (Keeps c.field) ms held) (map_table (λ (t : TracedTable F). (subgroup c.field.ring t.degree_bits, t.trace)) n at) h)
       ∙ sym (map_table committed n of)
 
@@ -278,7 +278,7 @@ module _ {S F E C : Type 0} (c : Setting S F E C) (p : Prover F E C) (eq : F →
   chunks_kept held K =
       let of = of_table c p s traces degree_bits w z (chunks_opened c p) in
       let matrices = λ (i : ℕ). chunk_matrices c p (at i) (ch i) a in
-      paired_flat_is (Keeps c.field) matrices (λ i. committed_of (of i)) n (λ i. i) held (λ i l. chunks_kept_of c p (at i) (ch i) L (V.domains i l) (V.traced i l) plain a x)
+      paired_flat_is (Keeps c.field) matrices (λ i. committed_of (of i)) n (λ i. i) held (λ i l. chunks_kept_of c p (at i) (ch i) L (B.domains i l) (B.traced i l) plain a x)
       (paired_from (Keeps c.field) (flat_map matrices (table n (λ i. i))) held K)
       ∙ sym (map_flat committed of (table n (λ i. i)))
 
@@ -287,7 +287,7 @@ module _ {S F E C : Type 0} (c : Setting S F E C) (p : Prover F E C) (eq : F →
   permutations_kept held K =
       let of = of_table c p s traces degree_bits w z (permutation_opened c p) in
       let matrices = λ (i : ℕ). permutation_matrices c p (at i) (ch i) in
-      paired_flat_is (Keeps c.field) matrices (λ i. committed_of (of i)) n (λ i. i) held (λ i l. permutation_kept c p (at i) (ch i) L (V.domains i l) (V.traced i l) plain a x)
+      paired_flat_is (Keeps c.field) matrices (λ i. committed_of (of i)) n (λ i. i) held (λ i l. permutation_kept c p (at i) (ch i) L (B.domains i l) (B.traced i l) plain a x)
       (paired_from (Keeps c.field) (flat_map matrices (table n (λ i. i))) held K)
       ∙ sym (map_flat committed of (table n (λ i. i)))
 
@@ -299,9 +299,9 @@ module _ {S F E C : Type 0} (c : Setting S F E C) (p : Prover F E C) (eq : F →
       → IsOne (Keeps c.field) (entry_of s.common.preprocessed i) (on_domain c.field.ring.one (at i).degree_bits (declared (at i)).preprocessed) (preprocessed_opened c p (at i) (ch i) a x).committed
   entry_at some i l =
       let same : declared_at declarations i ≡ declared (at i) = get_or-map (λ (t : Table F). t.declaration) s.tables i no_table (no_table {F = F}).declaration l in
-      let count = all_counted c eq p.commitment_of s traces degree_bits p.inverse L V in
-      one_preprocessed c p (at i) (ch i) L (V.domains i l) (V.traced i l) plain a x (declared (at i)).preprocessed (entry_of s.common.preprocessed i) refl (some i l)
-      (subst (λ (d : Declaration F). HasEntryOf (width_of d.preprocessed) (entry_of s.common.preprocessed i)) same (V.formed.entries i (omega (arith, l, count)) (no_table {F = F}).declaration))
+      let count = all_counted c p.commitment_of s traces degree_bits p.inverse L B in
+      one_preprocessed c p (at i) (ch i) L (B.domains i l) (B.traced i l) plain a x (declared (at i)).preprocessed (entry_of s.common.preprocessed i) refl (some i l)
+      (subst (λ (d : Declaration F). HasEntryOf (width_of d.preprocessed) (entry_of s.common.preprocessed i)) same (B.formed.entries i (omega (arith, l, count)) (no_table {F = F}).declaration))
 
   pub preprocesseds_kept : ((i : ℕ) → i < n → HasColumns (declared (at i)).preprocessed) → (held : List (Committed F)) → Kept (preprocessed_matrices c.field.ring.one (all_traced s traces degree_bits)) held
       → held ≡ committed_of (preprocesseds c p s traces degree_bits w z)
@@ -311,8 +311,8 @@ module _ {S F E C : Type 0} (c : Setting S F E C) (p : Prover F E C) (eq : F →
       let ms = matrix_tables s.common.preprocessed in
       let v = λ (i : ℕ). (of i).committed in
       let es = table n (entry_of s.common.preprocessed) in
-      let count = all_counted c eq p.commitment_of s traces degree_bits p.inverse L V in
-      let listed : ms ≡ with_entry 0 es = listed_is s.common.preprocessed n V.lists.entries_long (subst (λ m. ListsEntries m s.common.preprocessed) count V.formed.listed) in
+      let count = all_counted c p.commitment_of s traces degree_bits p.inverse L B in
+      let listed : ms ≡ with_entry 0 es = listed_is s.common.preprocessed n B.lists.entries_long (subst (λ m. ListsEntries m s.common.preprocessed) count B.formed.listed) in
       entries_kept (Keeps c.field) (λ i. g (at i)) v n 0 (λ i. i) es held (length-table n (entry_of s.common.preprocessed)) (λ j l. omega arith)
       (λ j l. subst (λ o. IsOne (Keeps c.field) o (g (at j)) (v j)) (sym (get_or-table n (entry_of s.common.preprocessed) j None l)) (entry_at some j l))
       (subst (λ q. ArePaired (Keeps c.field) q held) (flat_over g n at (λ i. i)) (paired_from (Keeps c.field) (preprocessed_matrices c.field.ring.one (all_traced s traces degree_bits)) held K))

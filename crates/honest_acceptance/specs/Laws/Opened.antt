@@ -9,7 +9,7 @@ use Rattle.p3_commit.specs.Commitments.{AreCommitted, AreHeld, AvoidAll, Committ
 use Rattle.batch_setting.specs.Setting.{Setting}
 use Rattle.batch_statement.specs.Statement.{Statement}
 use Rattle.committed_tables.specs.Fields.{FieldsLaws}
-use Rattle.batch_validity.specs.Valid.{Valid}
+use Rattle.batch_validity.specs.Valid.{IsTracedBatch}
 use Rattle.honest_proofs.specs.HonestProof.{Prover, honest_claims}
 use Rattle.honest_acceptance.specs.Rounds.{AskFor, OpenedMatrix, Round, committed_of, held_of, honest_rounds, values_in_rounds}
 use Rattle.honest_acceptance.specs.Laws.Rounds.{ArePaired, honest_are_claims, paired_from}
@@ -30,8 +30,8 @@ rounds_opened r embed (x ∷ rounds) (q ∷ requests) h =
     (ap (λ ps. map (λ p. map (values_of r embed p.0) p.1) (zip (committed_of x.matrices) ps)) h.0 ∙ matrices_opened r embed x.matrices) i
     ∷ rounds_opened r embed rounds requests h.1 i
 
-module _ {S F E C D P : Type 0} (c : Setting S F E C) (p : Prover F E C) (eq : F → F → Bool) (s : Statement F C) (traces : List (Rows F)) (degree_bits : List ℕ)
-    (L : FieldsLaws c.field c.extension c.two_adicity p.inverse) (V : Valid c eq p.commitment_of s traces degree_bits) (plain : c.zk ≡ false) (w : Option F) (z : F) (opening : P)
+module _ {S F E C D P : Type 0} (c : Setting S F E C) (p : Prover F E C) (s : Statement F C) (traces : List (Rows F)) (degree_bits : List ℕ)
+    (L : FieldsLaws c.field c.extension c.two_adicity p.inverse) (B : IsTracedBatch c p.commitment_of s traces degree_bits) (plain : c.zk ≡ false) (w : Option F) (z : F) (opening : P)
     (points : CosetData F → ℕ) (sizes : (d : CosetData F) → points d ≡ 2 ^ d.log_size) (holds : D → C → List (Committed F) → Type 0) (excludes : E → Type 0)
     (accepts : List (CommitmentClaim E C (CosetData F)) → Type 0) (requests : List (Request D E)) (values : List (List (List (List E))))
     (ask : AskFor (honest_rounds c p s traces degree_bits w z) requests) (held : AreHeld holds requests (held_of (honest_rounds c p s traces degree_bits w z)))
@@ -43,7 +43,7 @@ module _ {S F E C D P : Type 0} (c : Setting S F E C) (p : Prover F E C) (eq : F
   O = subst (λ q. IsOpening c.extension.ring c.extension.embed q excludes accepts requests values (held_of rounds)) (λ i d. sizes d i) (opens (held_of rounds) held)
 
   pub opening_taken : AvoidAll excludes requests → accepts (honest_claims c p s traces degree_bits w z opening)
-  opening_taken avoid = O.accepted (honest_claims c p s traces degree_bits w z opening) (honest_are_claims c p eq s traces degree_bits L V plain w z opening requests ask) avoid
+  opening_taken avoid = O.accepted (honest_claims c p s traces degree_bits w z opening) (honest_are_claims c p s traces degree_bits L B plain w z opening requests ask) avoid
 
   pub opening_values : values ≡ values_in_rounds c.extension.ring c.extension.embed rounds
   opening_values =

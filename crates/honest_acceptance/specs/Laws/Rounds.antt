@@ -27,7 +27,7 @@ use Rattle.committed_tables.specs.Quotient.{honest_chunk}
 use Rattle.committed_tables.specs.Fields.{FieldsLaws}
 use Rattle.committed_tables.specs.Rows.{CommitsTo, InterpolateSome}
 use Rattle.batch_validity.specs.Traced.{TracedTable, constraints, declared, log_parts, log_rows, quotient_shift, traced_at, traces_of}
-use Rattle.batch_validity.specs.Valid.{Valid}
+use Rattle.batch_validity.specs.Valid.{IsTracedBatch}
 use Rattle.honest_proofs.specs.HonestProof.{Prover, alpha, challenges_at, committed_table, honest_claims, honest_proof, main_part, opened_of, permutation_columns, permutation_part, quotient_part, where_some, zeta}
 use Rattle.honest_acceptance.specs.Rounds.{AskFor, IsRoundOf, OpenedMatrix, Round, chunk_opened, chunks_opened, held_of, honest_rounds, main_opened, of_table, permutation_opened, point_after, points_with, preprocessed_opened, round_of}
 use Rattle.honest_acceptance.specs.Laws.Lengths.{honest_commits, permutation_count}
@@ -190,8 +190,8 @@ module _ {S F E C : Type 0} (c : Setting S F E C) where
   asked (r ∷ rs) (q ∷ qs) [] h k = k
   asked (r ∷ rs) (q ∷ qs) (d ∷ ds) h k = (one_round r q d h.0 k.0, asked rs qs ds h.1 k.1)
 
-module _ {S F E C P : Type 0} (c : Setting S F E C) (p : Prover F E C) (eq : F → F → Bool) (s : Statement F C) (traces : List (Rows F)) (degree_bits : List ℕ)
-    (L : FieldsLaws c.field c.extension c.two_adicity p.inverse) (V : Valid c eq p.commitment_of s traces degree_bits) (plain : c.zk ≡ false) (w : Option F) (z : F) (opening : P) where
+module _ {S F E C P : Type 0} (c : Setting S F E C) (p : Prover F E C) (s : Statement F C) (traces : List (Rows F)) (degree_bits : List ℕ)
+    (L : FieldsLaws c.field c.extension c.two_adicity p.inverse) (B : IsTracedBatch c p.commitment_of s traces degree_bits) (plain : c.zk ≡ false) (w : Option F) (z : F) (opening : P) where
   abbrev n : ℕ
   n = length s.tables
 
@@ -229,7 +229,7 @@ module _ {S F E C P : Type 0} (c : Setting S F E C) (p : Prover F E C) (eq : F �
   instance_same i h = get_or-table n (λ i. opened_of c p (at i) (ch i) a x) i no_opened h
 
   commits_at : (i : ℕ) → i < n → CommitsTo c.field c.extension (committed_table c p (at i) (ch i)) (traces_of (at i)) (permutation_columns c p (at i) (ch i))
-  commits_at i h = honest_commits c p (at i) (ch i) L (V.domains i h) (V.traced i h)
+  commits_at i h = honest_commits c p (at i) (ch i) L (B.domains i h) (B.traced i h)
 
   -- the rounds one by one
   mains : ArePaired IsClaim (table n (of_table c p s traces degree_bits w z (main_opened c p))) (table (length declarations) (main_claim c.field.ring x next_at declarations degree_bits instances))
@@ -253,7 +253,7 @@ module _ {S F E C P : Type 0} (c : Setting S F E C) (p : Prover F E C) (eq : F �
   preprocesseds =
       let ms = matrix_tables s.common.preprocessed in
       paired_table IsClaim (length ms) (λ m. of_table c p s traces degree_bits w z (preprocessed_opened c p) (get_or ms m 0)) (matrix_claim c.field.ring x next_at declarations degree_bits instances ms)
-      (λ m h. preprocessed_at (get_or ms m 0) (listed_below declarations s.common n V.formed long m 0 h))
+      (λ m h. preprocessed_at (get_or ms m 0) (listed_below declarations s.common n B.formed long m 0 h))
 
   permutations : ArePaired IsClaim (flat_map (of_table c p s traces degree_bits w z (permutation_opened c p)) (table n (λ i. i)))
       (flat_map (permutation_claims c.field.ring x next_at degree_bits instances) (table (length declarations) (λ i. i)))
@@ -264,7 +264,7 @@ module _ {S F E C P : Type 0} (c : Setting S F E C) (p : Prover F E C) (eq : F �
       (paired_flat IsClaim g h n (λ i. i) (λ i b.
       let claim = λ (o : OpenedWithLookups E). where_opened c.field.ring x (next_at (bits_at degree_bits i)) (bits_at degree_bits i) o.permutation_local o.permutation_next in
       subst (ArePaired IsClaim (g i)) (sym (λ j. claim (instance_same i b j)))
-      (permutation_claims_are c p (at i) (ch i) a x (permutation_count c p (at i) (ch i) L (V.domains i b) (V.traced i b)) L.vector.positive)))
+      (permutation_claims_are c p (at i) (ch i) a x (permutation_count c p (at i) (ch i) L (B.domains i b) (B.traced i b)) L.vector.positive)))
 
   -- the chunks' domains as they are listed
   abbrev chunk_logs : List ℕ
@@ -295,7 +295,7 @@ module _ {S F E C P : Type 0} (c : Setting S F E C) (p : Prover F E C) (eq : F �
       (paired_table IsClaim (2 ^ log_parts c (at i)) (chunk_opened c p (at i) (ch i) a x) (chunk_claim c.field.ring x (masks c) ds o.base.quotient_chunks) (λ j b.
       let there : get_or ds j (subgroup c.field.ring 0) ≡ d j = get_or-table (2 ^ log_parts c (at i)) d j (subgroup c.field.ring 0) b in
       let size = ap (λ (e : CosetData F). e.log_size) there in
-      let least = (V.traced i h).least in
+      let least = (B.traced i h).least in
       chunk_is c p (at i) (ch i) a x j b ((get_or ds j (subgroup c.field.ring 0)).log_size + masks c) (omega (arith, size, masked)))))
 
   quotients : ArePaired IsClaim (flat_map (of_table c p s traces degree_bits w z (chunks_opened c p)) (table n (λ i. i))) (flat_map (chunk_claims c.field.ring x (masks c) domains_of_chunks instances) (table (length declarations) (λ i. i)))

@@ -66,11 +66,11 @@ module _ {S F E C P : Type 0} (c : Setting S F E C) (p : Prover F E C) (eq : F �
   count_pass = (
     record {
       instances = length-table n opened;
-      publics = V.lists.publics_long;
-      degree_bits = V.lists.bits_long;
+      publics = V.batch.lists.publics_long;
+      degree_bits = V.batch.lists.bits_long;
       terminals = length-table n _;
-      lookups = V.lists.lookups_long;
-      entries = V.lists.entries_long;
+      lookups = V.batch.lists.lookups_long;
+      entries = V.batch.lists.entries_long;
     },
     (record { opened = all_table (λ o. is_there o.base.random ≡ c.zk) n opened (λ i. nothing_random (at i) _ _ _); committed = sym plain }, tt),
   )
@@ -79,7 +79,7 @@ module _ {S F E C P : Type 0} (c : Setting S F E C) (p : Prover F E C) (eq : F �
   unfolding honest_proof NoneFails
   size_pass =
       none_of_each (sizes_at {R = R} c.field.ring (c.log_min + masks c) c.log_max (masks c) s.tables s.common.lookups degree_bits) n (λ i h.
-      let T = V.traced i h in let Q = V.domains i h in
+      let T = V.batch.traced i h in let Q = V.batch.domains i h in
       let least = T.least in let most = T.most in let fits = Q.fits in
       (least, (most, (omega (arith, fits, below), tt))))
 
@@ -97,7 +97,7 @@ module _ {S F E C P : Type 0} (c : Setting S F E C) (p : Prover F E C) (eq : F �
       let ends = λ (j : ℕ). terminal_of c p (at j) (challenges_at c p s traces degree_bits w j) in
       let last : get_or (table n ends) i None ≡ ends i = get_or-table n ends i None h in
       subst NoneFails (sym (λ j. own (there j) (is_there (last j))))
-      (table_pass c p (at i) (challenges_at c p s traces degree_bits w i) L (V.domains i h) (V.traced i h) (columns i h) (alpha c p s traces degree_bits w) (zeta c p s traces degree_bits w z) R i))
+      (table_pass c p (at i) (challenges_at c p s traces degree_bits w i) L (V.batch.domains i h) (V.batch.traced i h) (columns i h) (alpha c p s traces degree_bits w) (zeta c p s traces degree_bits w z) R i))
 
   permutation_there : is_there (permutation_part c p s traces degree_bits w) ≡ list_any has_some s.common.lookups
   permutation_there =
@@ -105,7 +105,7 @@ module _ {S F E C P : Type 0} (c : Setting S F E C) (p : Prover F E C) (eq : F �
       committed_there p.commitment_of (flat_map made (table n (λ i. i)))
       ∙ (some_of_all made (table n (λ i. i))
       ∙ (any_table has_some (λ i. has_some (made i)) n (λ i. (at i).lookups) (λ i. i) (λ i h. some_there (at i).lookups _)
-      ∙ ap (list_any has_some) (sym (table_of_items [] s.common.lookups n V.lists.lookups_long))))
+      ∙ ap (list_any has_some) (sym (table_of_items [] s.common.lookups n V.batch.lists.lookups_long))))
 
   permutation_pass : NoneFails (permutation_check {R = R} s proof)
   unfolding honest_proof

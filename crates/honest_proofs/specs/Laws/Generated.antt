@@ -19,7 +19,7 @@ use Rattle.committed_tables.specs.Quotient.{honest_quotient}
 use Rattle.committed_tables.specs.Traces.{IsTall}
 use Rattle.batch_statement.specs.Statement.{Statement}
 use Rattle.batch_validity.specs.Traced.{TracedTable, committed_with, constraints, declared, log_parts, log_rows, no_rows, quotient_shift, traced_at, traces_of}
-use Rattle.batch_validity.specs.Valid.{AllFit, HasQuotientDomain, IsTraced, OwnHold, Valid}
+use Rattle.batch_validity.specs.Valid.{AllFit, HasQuotientDomain, IsTraced, IsTracedBatch, OwnHold, Valid}
 use Rattle.batch_validity.specs.Laws.Columns.{pieces_height, pieces_row, pieces_tall}
 use Rattle.batch_validity.specs.Laws.Committed.{holds_beside, no_rows_tall}
 use Rattle.batch_validity.specs.Laws.Held.{holds_generated, identity_beside, lookups_fit}
@@ -115,17 +115,17 @@ module _ {S F E C : Type 0} (c : Setting S F E C) (p : Prover F E C) (eq : F →
   -- the same of table i of a valid statement
   pub valid_holds : Holds c.field c.extension (committed_at c p s traces degree_bits w i) (constraints c (traced_at s traces degree_bits i))
   valid_holds =
-      honest_holds c p (traced_at s traces degree_bits i) (challenges_at c p s traces degree_bits w i) L (V.domains i lt) (V.traced i lt) (V.holds i lt) reads
-      (lookups_fit c eq p.commitment_of s traces degree_bits p.inverse L V i lt) (fractions i lt)
+      honest_holds c p (traced_at s traces degree_bits i) (challenges_at c p s traces degree_bits w i) L (V.batch.domains i lt) (V.batch.traced i lt) (V.holds i lt) reads
+      (lookups_fit c p.commitment_of s traces degree_bits p.inverse L V.batch i lt) (fractions i lt)
 
   pub valid_identity : (alpha x : E) → 2 ^ log_rows c (traced_at s traces degree_bits i) * (2 ^ log_parts c (traced_at s traces degree_bits i) + 1) < 2 ^ 64
       → CommittedIdentity c.field c.extension (committed_at c p s traces degree_bits w i) (constraints c (traced_at s traces degree_bits i))
       (honest_quotient c.field c.extension (committed_at c p s traces degree_bits w i) (quotient_shift c) (log_parts c (traced_at s traces degree_bits i)) (constraints c (traced_at s traces degree_bits i)) alpha) alpha x
   valid_identity alpha x small =
-      honest_identity c p (traced_at s traces degree_bits i) (challenges_at c p s traces degree_bits w i) L (V.domains i lt) (V.traced i lt) (V.holds i lt) reads
-      (lookups_fit c eq p.commitment_of s traces degree_bits p.inverse L V i lt) (fractions i lt) alpha x small (V.fits i lt)
+      honest_identity c p (traced_at s traces degree_bits i) (challenges_at c p s traces degree_bits w i) L (V.batch.domains i lt) (V.batch.traced i lt) (V.holds i lt) reads
+      (lookups_fit c p.commitment_of s traces degree_bits p.inverse L V.batch i lt) (fractions i lt) alpha x small (V.fits i lt)
 
--- the degree bits of a valid statement are those of its traces
-pub valid_heights : {S F E C : Type 0} (c : Setting S F E C) (p : Prover F E C) (eq : F → F → Bool) (s : Statement F C) (traces : List (Rows F)) (degree_bits : List ℕ)
-    → Valid c eq p.commitment_of s traces degree_bits → AreLogHeights c p s traces degree_bits
-valid_heights c p eq s traces degree_bits V = record { bits_long = V.lists.bits_long; traces_long = V.lists.traces_long; each = λ i h. (V.traced i h).rows.tall }
+-- the degree bits of a traced batch are those of its traces
+pub traced_heights : {S F E C : Type 0} (c : Setting S F E C) (p : Prover F E C) (s : Statement F C) (traces : List (Rows F)) (degree_bits : List ℕ)
+    → IsTracedBatch c p.commitment_of s traces degree_bits → AreLogHeights c p s traces degree_bits
+traced_heights c p s traces degree_bits B = record { bits_long = B.lists.bits_long; traces_long = B.lists.traces_long; each = λ i h. (B.traced i h).rows.tall }

@@ -99,7 +99,7 @@ module _ {S F E C : Type 0} (c : Setting S F E C) (p : Prover F E C) (eq : F →
   lookups_same : batch_lookups senders_are ≡ s.common.lookups
   lookups_same =
       maps (λ (t : BatchTable F). t.lookups) (sender c) (λ (t : TracedTable F). t.lookups) (λ t. refl) (all_traced s traces degree_bits)
-      ∙ (map_table (λ (t : TracedTable F). t.lookups) n at ∙ sym (table_of_items [] s.common.lookups n V.lists.lookups_long))
+      ∙ (map_table (λ (t : TracedTable F). t.lookups) n at ∙ sym (table_of_items [] s.common.lookups n V.batch.lists.lookups_long))
 
   -- For a drawn pair each table's terminal is that of the batch's tables, which sum to zero.
   module _ (alpha beta : E) where
@@ -114,7 +114,7 @@ module _ {S F E C : Type 0} (c : Setting S F E C) (p : Prover F E C) (eq : F →
         let e = c.extension.ring in
         let tables = s.common.lookups in
         let lay = λ (ls : List (List (LookupData F))). laid_out e.zero (challenges_with e alpha beta (widest ls) (bus_count (batch_buses ls))) (bus_in ls i) 0 (length (at i).lookups) in
-        get_or-table (length tables) (instance_challenges e (challenges_with e alpha beta (widest tables) (bus_count (batch_buses tables))) tables) i [] (let q = V.lists.lookups_long in omega (arith, h, q))
+        get_or-table (length tables) (instance_challenges e (challenges_with e alpha beta (widest tables) (bus_count (batch_buses tables))) tables) i [] (let q = V.batch.lists.lookups_long in omega (arith, h, q))
         ∙ ap lay (sym lookups_same)
 
     all_sums : sum_of c.extension.ring (table n (λ i. running_sum (argument_of c p (at i) (layout i)) (2 ^ log_rows c (at i)))) ≡ c.extension.ring.zero
@@ -165,7 +165,7 @@ module _ {S F E C : Type 0} (c : Setting S F E C) (p : Prover F E C) (eq : F →
       by_count zero e is =
           ap (sum_of c.extension.ring)
           (nothing_there n (λ i. terminal_of c p (at i) (get_or (batch_layout c.extension.ring pair s.common.lookups) i []))
-          (λ i h. no_terminal (at i) (get_or (batch_layout c.extension.ring pair s.common.lookups) i []) (at i).lookups refl (none_some s.common.lookups e i (let q = V.lists.lookups_long in omega (arith, h, q)))))
+          (λ i h. no_terminal (at i) (get_or (batch_layout c.extension.ring pair s.common.lookups) i []) (at i).lookups refl (none_some s.common.lookups e i (let q = V.batch.lists.lookups_long in omega (arith, h, q)))))
       by_count (suc m) e (alpha, beta, two) =
           subst (λ l. sum_of c.extension.ring (flat_map option_to_list (table n (λ i. terminal_of c p (at i) (get_or (batch_layout c.extension.ring l s.common.lookups) i [])))) ≡ c.extension.ring.zero) (sym two)
           (terminals_vanish alpha beta)

@@ -191,20 +191,22 @@ module _ {S F E C : Type 0} (c : Setting S F E C) (inverse : E → E) (Z : Serve
       → ((i : ℕ) → i < length s.tables → HasBits (traced_at s traces bits i).degree_bits (entry_of common.preprocessed i))
       → Valid c eq commitment_of s traces bits
   job_is_valid commitment_of formed committed counted listed = record {
-    formed = formed;
-    lists = record {
-      publics_long = length-map job (publics_of {F = F}) ∙ sym long;
-      lookups_long = ap length lookups_are ∙ (length-map job (own_lookups r) ∙ sym long);
-      entries_long = counted;
-      traces_long = length-map job (trace_of r) ∙ sym long;
-      bits_long = length-map job (log_height_of {F = F}) ∙ sym long;
+    batch = record {
+      formed = formed;
+      lists = record {
+        publics_long = length-map job (publics_of {F = F}) ∙ sym long;
+        lookups_long = ap length lookups_are ∙ (length-map job (own_lookups r) ∙ sym long);
+        entries_long = counted;
+        traces_long = length-map job (trace_of r) ∙ sym long;
+        bits_long = length-map job (log_height_of {F = F}) ∙ sym long;
+      };
+      committed = committed;
+      entries = listed;
+      traced = each (IsTraced c) (job_traced c inverse Z);
+      domains = each (HasQuotientDomain c) (job_domain c inverse Z);
     };
-    committed = committed;
-    entries = listed;
-    traced = each (IsTraced c) (job_traced c inverse Z);
     holds = each (OwnHold c) (job_holds c inverse Z);
     fits = each (AllFit c) (job_all_fit c inverse Z);
-    domains = each (HasQuotientDomain c) (job_domain c inverse Z);
     bounded = buses_bounded;
     balanced = buses_balanced;
   }

@@ -3,8 +3,8 @@ use Rattle.honest_acceptance.specs.Laws.Opened.{opening_taken, opening_values}
 use Rattle.honest_acceptance.proofs.openings.an_honest_opening_is_taken.Goals as goal
 
 pub returns-clause-taken : goal.returns-clause-taken
-returns-clause-taken g k config s traces degree_bits commitment_of w z requests values proof plain V ask held opens avoid =
-    opening_taken _ _ g.SC.Val.PartialEq.eq s traces degree_bits
+returns-clause-taken g k config s traces degree_bits commitment_of w z requests values proof plain B ask held opens avoid =
+    opening_taken _ _ s traces degree_bits
     (record {
       below = g.met.SC.Val.RingCore.ring_laws;
       below_field = g.met.SC.Val.FieldCore.field_laws;
@@ -17,11 +17,11 @@ returns-clause-taken g k config s traces degree_bits commitment_of w z requests 
       vector = g.met.SC.Challenge.BasedVectorSpace.vector_laws;
       spans = g.met.SC.Challenge.ExtensionField.basis_laws;
     })
-    V plain w z proof _ g.met.SC.Pcs.CosetPcs.coset_points _ _ _ requests values ask held opens avoid
+    B plain w z proof _ g.met.SC.Pcs.CosetPcs.coset_points _ _ _ requests values ask held opens avoid
 
 pub returns-clause-values : goal.returns-clause-values
-returns-clause-values g k config s traces degree_bits commitment_of w z requests values proof plain V ask held opens =
-    opening_values _ _ g.SC.Val.PartialEq.eq s traces degree_bits
+returns-clause-values g k config s traces degree_bits commitment_of w z requests values proof plain B ask held opens =
+    opening_values _ _ s traces degree_bits
     (record {
       below = g.met.SC.Val.RingCore.ring_laws;
       below_field = g.met.SC.Val.FieldCore.field_laws;
@@ -34,4 +34,4 @@ returns-clause-values g k config s traces degree_bits commitment_of w z requests
       vector = g.met.SC.Challenge.BasedVectorSpace.vector_laws;
       spans = g.met.SC.Challenge.ExtensionField.basis_laws;
     })
-    V plain w z proof _ g.met.SC.Pcs.CosetPcs.coset_points _ _ _ requests values ask held opens
+    B plain w z proof _ g.met.SC.Pcs.CosetPcs.coset_points _ _ _ requests values ask held opens

@@ -4,8 +4,8 @@ use Rattle.honest_acceptance.specs.Laws.Opened.{kept_on}
 use Rattle.honest_acceptance.proofs.openings.honest_matrices_are_kept.Goals as goal
 
 pub returns-clause-mains : goal.returns-clause-mains
-returns-clause-mains g k config s traces degree_bits commitment_of w z held plain V K =
-    mains_kept _ _ g.SC.Val.PartialEq.eq s traces degree_bits
+returns-clause-mains g k config s traces degree_bits commitment_of w z held plain B K =
+    mains_kept _ _ s traces degree_bits
     (record {
       below = g.met.SC.Val.RingCore.ring_laws;
       below_field = g.met.SC.Val.FieldCore.field_laws;
@@ -18,11 +18,11 @@ returns-clause-mains g k config s traces degree_bits commitment_of w z held plai
       vector = g.met.SC.Challenge.BasedVectorSpace.vector_laws;
       spans = g.met.SC.Challenge.ExtensionField.basis_laws;
     })
-    V plain w z held (kept_on _ _ _ _ g.met.SC.Pcs.CosetPcs.coset_points g.met.SC.Pcs.CosetPcs.coset_point _ held K)
+    B plain w z held (kept_on _ _ _ _ g.met.SC.Pcs.CosetPcs.coset_points g.met.SC.Pcs.CosetPcs.coset_point _ held K)
 
 pub returns-clause-chunks : goal.returns-clause-chunks
-returns-clause-chunks g k config s traces degree_bits commitment_of w z held plain V K =
-    chunks_kept _ _ g.SC.Val.PartialEq.eq s traces degree_bits
+returns-clause-chunks g k config s traces degree_bits commitment_of w z held plain B K =
+    chunks_kept _ _ s traces degree_bits
     (record {
       below = g.met.SC.Val.RingCore.ring_laws;
       below_field = g.met.SC.Val.FieldCore.field_laws;
@@ -35,11 +35,11 @@ returns-clause-chunks g k config s traces degree_bits commitment_of w z held pla
       vector = g.met.SC.Challenge.BasedVectorSpace.vector_laws;
       spans = g.met.SC.Challenge.ExtensionField.basis_laws;
     })
-    V plain w z held (kept_on _ _ _ _ g.met.SC.Pcs.CosetPcs.coset_points g.met.SC.Pcs.CosetPcs.coset_point _ held K)
+    B plain w z held (kept_on _ _ _ _ g.met.SC.Pcs.CosetPcs.coset_points g.met.SC.Pcs.CosetPcs.coset_point _ held K)
 
 pub returns-clause-permutations : goal.returns-clause-permutations
-returns-clause-permutations g k config s traces degree_bits commitment_of w z held plain V K =
-    permutations_kept _ _ g.SC.Val.PartialEq.eq s traces degree_bits
+returns-clause-permutations g k config s traces degree_bits commitment_of w z held plain B K =
+    permutations_kept _ _ s traces degree_bits
     (record {
       below = g.met.SC.Val.RingCore.ring_laws;
       below_field = g.met.SC.Val.FieldCore.field_laws;
@@ -52,11 +52,11 @@ returns-clause-permutations g k config s traces degree_bits commitment_of w z he
       vector = g.met.SC.Challenge.BasedVectorSpace.vector_laws;
       spans = g.met.SC.Challenge.ExtensionField.basis_laws;
     })
-    V plain w z held (kept_on _ _ _ _ g.met.SC.Pcs.CosetPcs.coset_points g.met.SC.Pcs.CosetPcs.coset_point _ held K)
+    B plain w z held (kept_on _ _ _ _ g.met.SC.Pcs.CosetPcs.coset_points g.met.SC.Pcs.CosetPcs.coset_point _ held K)
 
 pub returns-clause-preprocesseds : goal.returns-clause-preprocesseds
-returns-clause-preprocesseds g k config s traces degree_bits commitment_of w z held plain V some K =
-    preprocesseds_kept _ _ g.SC.Val.PartialEq.eq s traces degree_bits
+returns-clause-preprocesseds g k config s traces degree_bits commitment_of w z held plain B some K =
+    preprocesseds_kept _ _ s traces degree_bits
     (record {
       below = g.met.SC.Val.RingCore.ring_laws;
       below_field = g.met.SC.Val.FieldCore.field_laws;
@@ -69,4 +69,4 @@ returns-clause-preprocesseds g k config s traces degree_bits commitment_of w z h
       vector = g.met.SC.Challenge.BasedVectorSpace.vector_laws;
       spans = g.met.SC.Challenge.ExtensionField.basis_laws;
     })
-    V plain w z some held (kept_on _ _ _ _ g.met.SC.Pcs.CosetPcs.coset_points g.met.SC.Pcs.CosetPcs.coset_point _ held K)
+    B plain w z some held (kept_on _ _ _ _ g.met.SC.Pcs.CosetPcs.coset_points g.met.SC.Pcs.CosetPcs.coset_point _ held K)

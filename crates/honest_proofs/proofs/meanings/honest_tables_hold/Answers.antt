@@ -1,4 +1,4 @@
-use Rattle.honest_proofs.specs.Laws.Generated.{valid_heights, valid_holds, valid_identity}
+use Rattle.honest_proofs.specs.Laws.Generated.{traced_heights, valid_holds, valid_identity}
 use Rattle.honest_proofs.proofs.meanings.honest_tables_hold.Goals as goal
 
 pub returns-clause-holds : goal.returns-clause-holds
@@ -8,4 +8,4 @@ pub returns-clause-identity : goal.returns-clause-identity
 returns-clause-identity g k c p eq s traces degree_bits w i folding x L V lt reads fractions small = valid_identity c p eq s traces degree_bits L V w fractions i lt reads folding x small
 
 pub returns-clause-heights : goal.returns-clause-heights
-returns-clause-heights g k c p eq s traces degree_bits V = valid_heights c p eq s traces degree_bits V
+returns-clause-heights g k c p s traces degree_bits B = traced_heights c p s traces degree_bits B

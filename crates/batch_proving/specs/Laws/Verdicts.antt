@@ -1,0 +1,36 @@
+-- Answers for lists of checks behind each other, and for checks in turn.
+use Rattle.std.proofs.Common.{◌≡◌, ℕ, ◌<◌, List, [], ◌∷◌, ◌++◌, Result, Ok, Err, sym, subst}
+use Rattle.std.specs.Result.{IsErrAnd}
+use Rattle.p3_field.specs.Checks.{Check, NoneFails, FirstFails, in_turn}
+use Rattle.p3_field.specs.Laws.Checks.{none_append, first_stops, first_after, first_here, refused_in_turn}
+use Rattle.batch_proving.specs.Verdict.{IsProverVerdict, IsProverRefusal}
+use Rattle.batch_proving.specs.declared.error.ProvingError.{ProvingError}
+use Rattle.batch_proving.specs.declared.error.ProvingError.TheVariants.{Pcs, MultiplicityBound, LookupDenominatorZero, WitnessNotFound, OutOfMemory}
+
+-- what the exit of a `?` returns is the error of the call before it
+pub exits : {T R : Type 0} (cs : List (Check (ProvingError R))) (e : ProvingError R) (r : Result T (ProvingError R)) → IsErrAnd r (λ y. y ≡ e) → IsProverRefusal cs e → IsProverVerdict cs r
+exits cs e (Err y) p v = subst (IsProverRefusal cs) (sym p) v
+exits cs e (Ok t) p v = absurd p
+
+-- what a list of checks is refused with comes of each list that is refused so
+pub refusal_along : {R : Type 0} (xs ys : List (Check (ProvingError R))) (e : ProvingError R) → ((d : ProvingError R) → FirstFails xs d → FirstFails ys d) → IsProverRefusal xs e → IsProverRefusal ys e
+refusal_along xs ys (Pcs p s) f v = f (Pcs p s) v
+refusal_along xs ys (MultiplicityBound b) f v = f (MultiplicityBound b) v
+refusal_along xs ys (LookupDenominatorZero i r) f v = f (LookupDenominatorZero i r) v
+refusal_along xs ys (WitnessNotFound s) f v = f (WitnessNotFound s) v
+refusal_along xs ys OutOfMemory f v = tt
+
+pub refused_before : {R : Type 0} (xs ys : List (Check (ProvingError R))) (e : ProvingError R) → IsProverRefusal xs e → IsProverRefusal (xs ++ ys) e
+refused_before xs ys e v = refusal_along xs (xs ++ ys) e (λ d. first_stops xs ys d) v
+
+pub refused_after : {R : Type 0} (xs ys : List (Check (ProvingError R))) (e : ProvingError R) → NoneFails xs → IsProverRefusal ys e → IsProverRefusal (xs ++ ys) e
+refused_after xs ys e f v = refusal_along ys (xs ++ ys) e (λ d. first_after xs ys d f) v
+
+-- the checks of n things in turn, of which some first don't fail and the next is refused
+pub refusal_in_turn : {R : Type 0} (f : ℕ → List (Check (ProvingError R))) (i n : ℕ) (e : ProvingError R) → i < n → NoneFails (in_turn i f) → IsProverRefusal (f i) e → IsProverRefusal (in_turn n f) e
+refusal_in_turn f i n e b h v = refusal_along (f i) (in_turn n f) e (λ d. refused_in_turn f i n d b h) v
+
+-- where the first checks don't fail, the others decide
+pub answer_after : {T R : Type 0} (xs ys : List (Check (ProvingError R))) (r : Result T (ProvingError R)) → NoneFails xs → IsProverVerdict ys r → IsProverVerdict (xs ++ ys) r
+answer_after xs ys (Ok t) f v = none_append xs ys f v
+answer_after xs ys (Err e) f v = refused_after xs ys e f v

@@ -1,0 +1,18 @@
+-- Answers of a prover, for checks in order.
+use Rattle.std.specs.Prelude.{List, Result, Ok, Err, ⊤}
+use Rattle.p3_field.specs.Checks.{Check, NoneFails, FirstFails}
+use Rattle.batch_proving.specs.declared.error.ProvingError.{ProvingError}
+use Rattle.batch_proving.specs.declared.error.ProvingError.TheVariants.{Pcs, MultiplicityBound, LookupDenominatorZero, WitnessNotFound, OutOfMemory}
+
+-- the error is the refusal of the first check that fails, or says that memory ran out
+abbrev pub IsProverRefusal : {R : Type 0} → List (Check (ProvingError R)) → ProvingError R → Type 0
+IsProverRefusal cs (Pcs phase source) = FirstFails cs (Pcs phase source)
+IsProverRefusal cs (MultiplicityBound bus) = FirstFails cs (MultiplicityBound bus)
+IsProverRefusal cs (LookupDenominatorZero instance row) = FirstFails cs (LookupDenominatorZero instance row)
+IsProverRefusal cs (WitnessNotFound step) = FirstFails cs (WitnessNotFound step)
+IsProverRefusal cs OutOfMemory = ⊤
+
+-- Ok exactly where no check fails, and else the refusal of the first that fails; out of memory may come in place of any answer
+abbrev pub IsProverVerdict : {T R : Type 0} → List (Check (ProvingError R)) → Result T (ProvingError R) → Type 0
+IsProverVerdict cs (Ok x) = NoneFails cs
+IsProverVerdict cs (Err e) = IsProverRefusal cs e

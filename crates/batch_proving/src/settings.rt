@@ -1,0 +1,35 @@
+//! A configuration's prover as plain data.
+ghost use Rattle.honest_proofs.specs.HonestProof.{Prover};
+ghost use Rattle.batch_proving.specs.Backend.{ProverBackend};
+
+use p3_commit::{CosetPcs, Pcs, PolynomialSpace, UnivariateStarkPcs};
+use p3_field::{
+    BasedVectorSpace, ExtensionField, Field, FieldCore, PrimeCharacteristicRing, PrimeCore64,
+    PrimeField64, RingCore, TwoAdicCore, TwoAdicField,
+};
+use p3_uni_stark::StarkGenericConfig;
+
+/// A configuration's prover as plain data (own). Each configuration has it.
+pub trait ProverSettings: StarkGenericConfig {
+    // the inverses, the canonical numbers, and the backend's commitment to matrices on domains
+    ghost prover: { Self → Prover Self.Val Self.Challenge Self.Pcs.Commitment };
+
+    // the prover's side of the backend
+    ghost prover_backend: { Self → ProverBackend Self.Challenger Self.Val Self.Challenge Self.Pcs.Commitment Self.Pcs.ProverData Self.Pcs.Proof Self.Pcs.ProverError };
+}
+
+impl<SC: StarkGenericConfig> ProverSettings for SC {
+    ghost prover = { λ config. record { inverse = SC.Challenge.inv; canonical = SC.Val.canonical; commitment_of = SC.Pcs.commitment_of (SC.pcs_of config) } };
+
+    ghost prover_backend = { λ config. record {
+      commit_fault = SC.Pcs.commit_fault (SC.pcs_of config);
+      extension_fault = SC.Pcs.extension_fault (SC.pcs_of config);
+      extends = SC.Pcs.extends (SC.pcs_of config);
+      ldes_fault = SC.Pcs.ldes_fault (SC.pcs_of config);
+      made = SC.Pcs.made (SC.pcs_of config);
+      holds = SC.Pcs.holds (SC.pcs_of config);
+      open_fault = SC.Pcs.open_fault (SC.pcs_of config);
+      proves = SC.Pcs.proves (SC.pcs_of config);
+      excludes = SC.Pcs.excludes (SC.pcs_of config);
+    } };
+}
