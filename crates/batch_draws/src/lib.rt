@@ -12,3 +12,5 @@ mod shapes;
 mod terminals;
 
 pub use draws::{Drawn, check_draws};
+pub use shapes::{batch_shape, preprocessed_commitment};
+pub use terminals::terminals_there;

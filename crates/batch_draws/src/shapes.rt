@@ -61,8 +61,8 @@ fn tables_with_lookups<F>(lookups: &[Lookups<F>]) -> usize
     lookups.iter().filter(|table| has_lookups(table)).count()
 }
 
-// The commitment to the preprocessed traces, where there are such.
-pub(crate) fn preprocessed_commitment<F, Com>(common: &SharedData<F, Com>) -> Option<&Com>
+/// The commitment to the preprocessed traces, where there are such (own).
+pub fn preprocessed_commitment<F, Com>(common: &SharedData<F, Com>) -> Option<&Com>
     ensures value { option_copied result ≡ option_map (λ g. g.commitment) common.now.preprocessed }
     ensures variant { is_some result ≡ is_some common.now.preprocessed }
 {
@@ -72,8 +72,8 @@ pub(crate) fn preprocessed_commitment<F, Com>(common: &SharedData<F, Com>) -> Op
     }
 }
 
-// The shape of the script of a batch of these AIRs, with these bits for the two grindings.
-pub(crate) fn batch_shape<F: Field, A: Air<F>, Com>(
+/// The shape of the script of a batch of these AIRs, with these bits for the two grindings (own). The only error is running out of memory.
+pub fn batch_shape<F: Field, A: Air<F>, Com>(
     alloc: Global,
     airs: &[A],
     common: &SharedData<F, Com>,

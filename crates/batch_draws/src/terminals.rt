@@ -6,8 +6,8 @@ use p3_field::{Field, FieldCore, Mem, RingCore};
 use p3_lookup::LookupTerminal;
 use std::alloc::Global;
 
-// The terminals that are there, in order.
-pub(crate) fn terminals_there<E: Field>(
+/// The terminals that are there, in order (own). The only error is running out of memory.
+pub fn terminals_there<E: Field>(
     alloc: Global,
     terminals: &[Option<LookupTerminal<E>>],
 ) -> Mem<Vec<E>>

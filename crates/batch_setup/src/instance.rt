@@ -92,8 +92,8 @@ impl<'a, F: Field, A> TableInstance<'a, F, A> {
     }
 }
 
-// The AIRs of instances, lent, in order.
-pub(crate) fn lent_airs<'a, F, A>(
+/// The AIRs of instances, lent, in order (own). The only error is running out of memory.
+pub fn lent_airs<'a, F, A>(
     alloc: Global,
     instances: &[TableInstance<'a, F, A>],
 ) -> Mem<Vec<LentAir<'a, A>>>
@@ -115,8 +115,9 @@ fn bits_of_trace<F>(trace: &RowMajorMatrix<F>, masks: usize) -> usize
     log2_strict_usize(trace.height()) + masks
 }
 
-// The degree bits of instances, in order.
-pub(crate) fn degree_bits<F, A>(
+/// The degree bits of instances, in order (own): the logarithm of each trace's height, and one more where the backend masks. Each height is a
+/// power of two. The only error is running out of memory.
+pub fn degree_bits<F, A>(
     alloc: Global,
     instances: &[TableInstance<F, A>],
     masks: usize,

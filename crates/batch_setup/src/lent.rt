@@ -7,9 +7,9 @@ use p3_matrix::RowMajorMatrix;
 use std::alloc::Global;
 use std::marker::Model;
 
-/// An AIR behind a reference. It answers as that AIR does, and a contract sees it as that AIR.
+/// An AIR behind a reference (own). It answers as that AIR does, and a contract sees it as that AIR.
 #[derive(Drop)]
-pub(crate) struct LentAir<'a, A> {
+pub struct LentAir<'a, A> {
     air: &'a A,
 }
 
@@ -20,8 +20,8 @@ impl<'a, A> Model for LentAir<'a, A> {
 }
 
 impl<'a, A> LentAir<'a, A> {
-    // This AIR, lent.
-    pub(crate) fn new(air: &'a A) -> Self
+    /// This AIR, lent.
+    pub fn new(air: &'a A) -> Self
         ensures { result ≡ air.now }
     {
         LentAir { air }

@@ -16,5 +16,7 @@ mod prover_data;
 mod setup;
 
 pub use error::{ProverPhase, SetupError};
-pub use instance::{StarkInstance, TableInstance};
+pub use instance::{StarkInstance, TableInstance, degree_bits, lent_airs};
+pub use lent::LentAir;
+pub use preprocessed::natural_domain;
 pub use prover_data::{Committed, KeptData, ProverData, ProverOnlyData, SetupData};

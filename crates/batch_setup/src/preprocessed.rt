@@ -93,8 +93,8 @@ fn tables_with_entry(alloc: Global, entries: &[Option<PreprocessedInstanceMeta>]
     Ok(tables)
 }
 
-// The subgroup of size 2^`log`, as a domain of the backend.
-fn natural_domain<SC: StarkGenericConfig>(config: &SC, log: usize) -> Domain<SC>
+/// The subgroup of size 2^`log`, as a domain of the backend (own). There is one: `log` is at most the field's two-adicity, and below 64.
+pub fn natural_domain<SC: StarkGenericConfig>(config: &SC, log: usize) -> Domain<SC>
     requires fits { log < 64 }
     requires two_adic { log ≤ SC.Val.TWO_ADICITY }
     ensures { result ≡ natural SC.Val.ring.one log }
