@@ -1,0 +1,156 @@
+//! The prover of a batch.
+ghost use Rattle.std.specs.Prelude.{◌≡◌, ◌++◌, ◌<◌, ℕ, false, IfOk, length, option_map};
+ghost use Rattle.p3_commit.specs.Commitments.{IsCommitment};
+ghost use Rattle.p3_field.specs.Checks.{in_turn};
+ghost use Rattle.batch_transcript.specs.BatchScript.{from_lookup};
+ghost use Rattle.batch_validity.specs.Valid.{Valid};
+ghost use Rattle.batch_verifier.specs.BatchChecks.{Accepted};
+ghost use Rattle.honest_acceptance.specs.Honest.{IsOutside};
+ghost use Rattle.honest_proofs.specs.HonestProof.{IsHonest};
+ghost use Rattle.batch_proving.specs.Batch.{IsKeptWith, IsTracedAll, batch_of, main_matrices, preprocessed_all, table_at, table_count};
+ghost use Rattle.batch_proving.specs.Proving.{AvoidsExcluded, IsProved, extension_part, fraction_part, lookup_part, ood_part, opening_part, permutation_part, proving_checks, quotient_part};
+ghost use Rattle.batch_proving.specs.Verdict.{IsProverVerdict};
+ghost use Rattle.batch_prover.specs.Stages.{main_of, pair_state, point_of, shape_of};
+
+use crate::lookups::{LookupStage, lookup_stage};
+use crate::opened::opening_stage;
+use crate::quotients::{QuotientStage, quotient_stage};
+use crate::transcript::{Transcript, bound_transcript};
+use batch_proving::{ProverSettings, ProvingError};
+use batch_setting::Settings;
+use batch_setup::{Committed, ProverData, StarkInstance, degree_bits};
+use batch_statement::{BatchCommitments, BatchOpenedValues, BatchProof, TablesProof};
+use p3_air::{Air, BaseAir};
+use p3_challenger::{CanObserve, CanSample, CanSampleBits, GrindingChallenger};
+use p3_commit::{CosetPcs, Pcs, PolynomialSpace, UnivariateStarkPcs};
+use p3_field::{
+    BasedVectorSpace, ExtensionField, Field, FieldCore, PrimeCharacteristicRing, PrimeCore64,
+    PrimeField64, RingCore, TwoAdicCore, TwoAdicField,
+};
+use p3_uni_stark::{Commitment, PcsProverError, StarkGenericConfig, Val};
+use prover_permutations::{check_bound, commit_traces};
+use std::alloc::Global;
+
+// Proves a batch along its transcript, from the draw of the lookups' pair on.
+fn proved_along<SC: StarkGenericConfig, A: Air<Val<SC>>>(
+    alloc: Global,
+    config: &SC,
+    instances: &[StarkInstance<'_, SC, A>],
+    prover_data: &ProverData<SC>,
+    bits: Vec<usize>,
+    main: (Commitment<SC>, Committed<SC>),
+    transcript: &mut Transcript<SC>,
+) -> Result<BatchProof<SC>, ProvingError<PcsProverError<SC>>>
+    requires plain { SC.Pcs.ZK ≡ false }
+    requires traced { let b = batch_of (⟦<SC as Settings>⟧.setting config.now) (⟦<SC as ProverSettings>⟧.prover config.now) A.declaration A.trees instances.now prover_data.now.common in IsTracedAll b }
+    requires kept { let b = batch_of (⟦<SC as Settings>⟧.setting config.now) (⟦<SC as ProverSettings>⟧.prover config.now) A.declaration A.trees instances.now prover_data.now.common in
+        IsKeptWith (λ es c. IsCommitment SC.Val.ring ⟦<<SC::Pcs as Pcs<SC::Challenge, SC::Challenger>>::Domain as PolynomialSpace>⟧.points ⟦<<SC::Pcs as Pcs<SC::Challenge, SC::Challenger>>::Domain as PolynomialSpace>⟧.point_at (SC.Pcs.commits (SC.pcs_of config.now)) (SC.Pcs.made (SC.pcs_of config.now)) (SC.Pcs.holds (SC.pcs_of config.now)) es c) (preprocessed_all b) b.statement.common.preprocessed prover_data.now.prover_only.preprocessed_prover_data }
+    requires bits { let b = batch_of (⟦<SC as Settings>⟧.setting config.now) (⟦<SC as ProverSettings>⟧.prover config.now) A.declaration A.trees instances.now prover_data.now.common in bits.items ≡ b.degree_bits }
+    requires main { let b = batch_of (⟦<SC as Settings>⟧.setting config.now) (⟦<SC as ProverSettings>⟧.prover config.now) A.declaration A.trees instances.now prover_data.now.common in (λ es c. IsCommitment SC.Val.ring ⟦<<SC::Pcs as Pcs<SC::Challenge, SC::Challenger>>::Domain as PolynomialSpace>⟧.points ⟦<<SC::Pcs as Pcs<SC::Challenge, SC::Challenger>>::Domain as PolynomialSpace>⟧.point_at (SC.Pcs.commits (SC.pcs_of config.now)) (SC.Pcs.made (SC.pcs_of config.now)) (SC.Pcs.holds (SC.pcs_of config.now)) es c) (main_matrices b) main }
+    requires commitment { let b = batch_of (⟦<SC as Settings>⟧.setting config.now) (⟦<SC as ProverSettings>⟧.prover config.now) A.declaration A.trees instances.now prover_data.now.common in main.0 ≡ main_of b }
+    requires turn { transcript.old.remaining ≡ from_lookup SC.Challenge.DIMENSION transcript.old.shape }
+    requires shape { let b = batch_of (⟦<SC as Settings>⟧.setting config.now) (⟦<SC as ProverSettings>⟧.prover config.now) A.declaration A.trees instances.now prover_data.now.common in transcript.old.shape ≡ shape_of b }
+    requires state { let b = batch_of (⟦<SC as Settings>⟧.setting config.now) (⟦<SC as ProverSettings>⟧.prover config.now) A.declaration A.trees instances.now prover_data.now.common in transcript.old.state ≡ pair_state b }
+    ensures verdict { let b = batch_of (⟦<SC as Settings>⟧.setting config.now) (⟦<SC as ProverSettings>⟧.prover config.now) A.declaration A.trees instances.now prover_data.now.common in let k = ⟦<SC as ProverSettings>⟧.prover_backend config.now in
+        IsProverVerdict (lookup_part b ++ (fraction_part b ++ (permutation_part k b ++ (in_turn (table_count b) (extension_part k b) ++ (quotient_part k b ++ (ood_part b ++ opening_part k b)))))) result }
+    ensures proved { let b = batch_of (⟦<SC as Settings>⟧.setting config.now) (⟦<SC as ProverSettings>⟧.prover config.now) A.declaration A.trees instances.now prover_data.now.common in let k = ⟦<SC as ProverSettings>⟧.prover_backend config.now in IfOk result (IsProved k b) }
+    ensures taken { let b = batch_of (⟦<SC as Settings>⟧.setting config.now) (⟦<SC as ProverSettings>⟧.prover config.now) A.declaration A.trees instances.now prover_data.now.common in let k = ⟦<SC as ProverSettings>⟧.prover_backend config.now in
+        IfOk result (λ q. AvoidsExcluded k b q.lookup_pow_witness q.ood_pow_witness → IsHonest b.setting b.prover b.statement b.traces b.degree_bits (⟦<SC as Settings>⟧.backend config.now) q) }
+{
+    let common = &prover_data.common;
+    let preprocessed = prover_data.prover_only.preprocessed_prover_data.as_ref();
+    let (main, main_data) = main;
+    let lookups = lookup_stage(alloc, config, instances, common, transcript)?;
+    let quotients = quotient_stage(
+        alloc,
+        config,
+        instances,
+        common,
+        preprocessed,
+        &main_data,
+        &lookups,
+        transcript,
+    )?;
+    let (opened, opening_proof) = opening_stage(
+        alloc,
+        config,
+        instances,
+        common,
+        preprocessed,
+        &main_data,
+        &lookups,
+        &quotients,
+        transcript,
+    )?;
+    Ok(TablesProof {
+        commitments: BatchCommitments {
+            main,
+            permutation: lookups.permutation.map(|(commitment, _)| commitment),
+            quotient_chunks: quotients.commitment,
+            random: None,
+        },
+        opened_values: BatchOpenedValues { instances: opened },
+        opening_proof,
+        lookup_terminals: lookups.terminals,
+        degree_bits: bits,
+        lookup_pow_witness: lookups.witness,
+        ood_pow_witness: quotients.witness,
+    })
+}
+
+/// Proves a batch of tables (`prove_batch` of `p3-batch-stark`).
+///
+/// The answer is the refusal of the first check that fails, in the order of the work (`verdict`, `proving_checks`):
+///
+/// - `MultiplicityBound`: on this bus, and on none before it, the counts, each as large as it is trusted to be, may add up to the
+///   order of the field;
+/// - `Pcs` of `TraceCommitment`: the backend refuses to commit to the traces;
+/// - `WitnessNotFound` of `Lookup`: some table has lookups, and no element passes the grinding before their challenges;
+/// - `LookupDenominatorZero`: a denominator is zero, the first by tables and then by rows;
+/// - `Pcs` of `PermutationCommitment`, of `QuotientEvaluations` and of `QuotientCommitment`: the backend refuses to commit to the
+///   permutation columns, to extend the chunks of a table's quotient, or to commit to these;
+/// - `WitnessNotFound` of `Ood`: no element passes the grinding before the point is drawn;
+/// - `Pcs` of `Opening`: the backend refuses to open.
+///
+/// Where none fails it is the honest proof, with the backend's proof of its openings (`proved`): so of a valid statement it is a proof
+/// that `verify_batch` accepts, unless the point lies on the rows of a table, or the point or a next point is one that the backend
+/// excludes (`accepted`). Out of memory may come in place of any answer.
+///
+/// The backend masks nothing. The batch is traced: the common data is well-formed, with these tables' degree bits and the commitment
+/// to their preprocessed traces; widths, heights and numbers of public values are as declared; heights are powers of two within the
+/// backend's bounds; periodic columns fit; the quotients' domains exist. The prover data belongs to that commitment. The constraints need
+/// not hold: what is proved then is not accepted, or only by chance.
+pub fn prove_batch<SC: StarkGenericConfig, A: Air<Val<SC>>>(
+    alloc: Global,
+    config: &SC,
+    instances: &[StarkInstance<'_, SC, A>],
+    prover_data: &ProverData<SC>,
+) -> Result<BatchProof<SC>, ProvingError<PcsProverError<SC>>>
+    requires plain { SC.Pcs.ZK ≡ false }
+    requires traced { let b = batch_of (⟦<SC as Settings>⟧.setting config.now) (⟦<SC as ProverSettings>⟧.prover config.now) A.declaration A.trees instances.now prover_data.now.common in IsTracedAll b }
+    requires kept { let b = batch_of (⟦<SC as Settings>⟧.setting config.now) (⟦<SC as ProverSettings>⟧.prover config.now) A.declaration A.trees instances.now prover_data.now.common in
+        IsKeptWith (λ es c. IsCommitment SC.Val.ring ⟦<<SC::Pcs as Pcs<SC::Challenge, SC::Challenger>>::Domain as PolynomialSpace>⟧.points ⟦<<SC::Pcs as Pcs<SC::Challenge, SC::Challenger>>::Domain as PolynomialSpace>⟧.point_at (SC.Pcs.commits (SC.pcs_of config.now)) (SC.Pcs.made (SC.pcs_of config.now)) (SC.Pcs.holds (SC.pcs_of config.now)) es c) (preprocessed_all b) b.statement.common.preprocessed prover_data.now.prover_only.preprocessed_prover_data }
+    ensures verdict { let b = batch_of (⟦<SC as Settings>⟧.setting config.now) (⟦<SC as ProverSettings>⟧.prover config.now) A.declaration A.trees instances.now prover_data.now.common in let k = ⟦<SC as ProverSettings>⟧.prover_backend config.now in IsProverVerdict (proving_checks k b) result }
+    ensures proved { let b = batch_of (⟦<SC as Settings>⟧.setting config.now) (⟦<SC as ProverSettings>⟧.prover config.now) A.declaration A.trees instances.now prover_data.now.common in let k = ⟦<SC as ProverSettings>⟧.prover_backend config.now in IfOk result (IsProved k b) }
+    ensures accepted { let b = batch_of (⟦<SC as Settings>⟧.setting config.now) (⟦<SC as ProverSettings>⟧.prover config.now) A.declaration A.trees instances.now prover_data.now.common in let k = ⟦<SC as ProverSettings>⟧.prover_backend config.now in
+        IfOk result (λ q. SC.Val.TWO_ADICITY < 63 → Valid b.setting SC.Val.eq b.prover.commitment_of b.statement b.traces b.degree_bits
+        → ((i : ℕ) → i < length instances.now → IsOutside b.setting (table_at b i) (point_of b q.lookup_pow_witness q.ood_pow_witness))
+        → AvoidsExcluded k b q.lookup_pow_witness q.ood_pow_witness → Accepted b.setting (⟦<SC as Settings>⟧.backend config.now) b.statement q) }
+{
+    let common = &prover_data.common;
+    check_bound(alloc, config, instances, common)?;
+    let main = commit_traces(alloc, config, instances, common)?;
+    let bits = degree_bits(alloc, instances, config.is_zk())?;
+    let mut transcript = bound_transcript(alloc, config, instances, common, &bits, &main.0)?;
+    let proof = proved_along(
+        alloc,
+        config,
+        instances,
+        prover_data,
+        bits,
+        main,
+        &mut transcript,
+    );
+    let _challenger = transcript.abort();
+    proof
+}
