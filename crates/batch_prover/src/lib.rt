@@ -10,4 +10,4 @@ mod prover;
 mod quotients;
 mod transcript;
 
-pub use prover::prove_batch;
+pub use prover::{prove_batch, prove_batch_with_point};

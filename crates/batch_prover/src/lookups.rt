@@ -1,7 +1,6 @@
 //! The prover's stage of the lookups: their challenges, the permutation columns, and the challenge that folds the constraints.
 ghost use Rattle.std.specs.Prelude.{◌≡◌, ◌++◌, ◌⊎◌, false, IfOk, map, option_map};
 ghost use Rattle.std.specs.Option.{option_copied};
-ghost use Rattle.p3_commit.specs.Commitments.{IsCommitment};
 ghost use Rattle.batch_transcript.specs.BatchScript.{from_lookup, from_quotient};
 ghost use Rattle.batch_proving.specs.Batch.{CommitsToSome, IsTracedAll, all_challenges, all_permutations, batch_of, folding};
 ghost use Rattle.batch_proving.specs.Proving.{IsPairGroundOf, fraction_part, lookup_part, permutation_part};
@@ -98,7 +97,7 @@ pub(crate) fn lookup_stage<SC: StarkGenericConfig, A: Air<Val<SC>>>(
     ensures challenges { let b = batch_of (⟦<SC as Settings>⟧.setting config.now) (⟦<SC as ProverSettings>⟧.prover config.now) A.declaration A.trees instances.now common.now in IfOk result (λ r. map (λ v. v.items) r.challenges.items ≡ all_challenges b r.witness) }
     ensures terminals { let b = batch_of (⟦<SC as Settings>⟧.setting config.now) (⟦<SC as ProverSettings>⟧.prover config.now) A.declaration A.trees instances.now common.now in IfOk result (λ r. map (option_map (λ t. t.0)) r.terminals.items ≡ terminals_of b r.witness) }
     ensures committed { let b = batch_of (⟦<SC as Settings>⟧.setting config.now) (⟦<SC as ProverSettings>⟧.prover config.now) A.declaration A.trees instances.now common.now in
-        IfOk result (λ r. CommitsToSome (λ es c. IsCommitment SC.Val.ring ⟦<<SC::Pcs as Pcs<SC::Challenge, SC::Challenger>>::Domain as PolynomialSpace>⟧.points ⟦<<SC::Pcs as Pcs<SC::Challenge, SC::Challenger>>::Domain as PolynomialSpace>⟧.point_at (SC.Pcs.commits (SC.pcs_of config.now)) (SC.Pcs.made (SC.pcs_of config.now)) (SC.Pcs.holds (SC.pcs_of config.now)) es c) (all_permutations b r.witness) r.permutation) }
+        IfOk result (λ r. CommitsToSome (⟦<SC as ProverSettings>⟧.commits_to config.now) (all_permutations b r.witness) r.permutation) }
     ensures permutation { let b = batch_of (⟦<SC as Settings>⟧.setting config.now) (⟦<SC as ProverSettings>⟧.prover config.now) A.declaration A.trees instances.now common.now in IfOk result (λ r. option_map (λ c. c.0) r.permutation ≡ permutation_of b r.witness) }
     ensures alpha { let b = batch_of (⟦<SC as Settings>⟧.setting config.now) (⟦<SC as ProverSettings>⟧.prover config.now) A.declaration A.trees instances.now common.now in IfOk result (λ r. r.alpha ≡ folding b r.witness) }
     ensures state { let b = batch_of (⟦<SC as Settings>⟧.setting config.now) (⟦<SC as ProverSettings>⟧.prover config.now) A.declaration A.trees instances.now common.now in IfOk result (λ r. transcript.new.state ≡ quotient_state b r.witness) }

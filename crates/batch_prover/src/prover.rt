@@ -1,6 +1,5 @@
 //! The prover of a batch.
-ghost use Rattle.std.specs.Prelude.{◌≡◌, ◌++◌, ◌<◌, ℕ, false, IfOk, length, option_map};
-ghost use Rattle.p3_commit.specs.Commitments.{IsCommitment};
+ghost use Rattle.std.specs.Prelude.{◌≡◌, ◌++◌, ◌<◌, ℕ, false, IfOk, None, length, map, option_map};
 ghost use Rattle.p3_field.specs.Checks.{in_turn};
 ghost use Rattle.batch_transcript.specs.BatchScript.{from_lookup};
 ghost use Rattle.batch_validity.specs.Valid.{Valid};
@@ -19,7 +18,9 @@ use crate::transcript::{Transcript, bound_transcript};
 use batch_proving::{ProverSettings, ProvingError};
 use batch_setting::Settings;
 use batch_setup::{Committed, ProverData, StarkInstance, degree_bits};
-use batch_statement::{BatchCommitments, BatchOpenedValues, BatchProof, TablesProof};
+use batch_statement::{
+    BatchCommitments, BatchOpenedValues, BatchProof, OpenedValuesWithLookups, TablesProof,
+};
 use p3_air::{Air, BaseAir};
 use p3_challenger::{CanObserve, CanSample, CanSampleBits, GrindingChallenger};
 use p3_commit::{CosetPcs, Pcs, PolynomialSpace, UnivariateStarkPcs};
@@ -27,9 +28,44 @@ use p3_field::{
     BasedVectorSpace, ExtensionField, Field, FieldCore, PrimeCharacteristicRing, PrimeCore64,
     PrimeField64, RingCore, TwoAdicCore, TwoAdicField,
 };
-use p3_uni_stark::{Commitment, PcsProverError, StarkGenericConfig, Val};
+use p3_uni_stark::{Challenge, Commitment, PcsProverError, StarkGenericConfig, Val};
 use prover_permutations::{check_bound, commit_traces};
 use std::alloc::Global;
+
+// The proof of what the stages gave.
+fn assembled<F, E, Com, PD: Drop, Opening>(
+    bits: Vec<usize>,
+    main: Com,
+    lookups: LookupStage<F, E, Com, PD>,
+    quotients: QuotientStage<F, E, Com, PD>,
+    opened: Vec<OpenedValuesWithLookups<E>>,
+    opening_proof: Opening,
+) -> TablesProof<F, E, Com, Opening>
+    ensures { result ≡ record {
+      commitments = record { main = main; permutation = option_map (λ c. c.0) lookups.permutation; quotient_chunks = quotients.commitment; random = None };
+      instances = opened.items;
+      opening_proof = opening_proof;
+      lookup_terminals = map (option_map (λ t. t.0)) lookups.terminals.items;
+      degree_bits = bits.items;
+      lookup_pow_witness = lookups.witness;
+      ood_pow_witness = quotients.witness;
+    } }
+{
+    TablesProof {
+        commitments: BatchCommitments {
+            main,
+            permutation: lookups.permutation.map(|(commitment, _)| commitment),
+            quotient_chunks: quotients.commitment,
+            random: None,
+        },
+        opened_values: BatchOpenedValues { instances: opened },
+        opening_proof,
+        lookup_terminals: lookups.terminals,
+        degree_bits: bits,
+        lookup_pow_witness: lookups.witness,
+        ood_pow_witness: quotients.witness,
+    }
+}
 
 // Proves a batch along its transcript, from the draw of the lookups' pair on.
 fn proved_along<SC: StarkGenericConfig, A: Air<Val<SC>>>(
@@ -40,22 +76,23 @@ fn proved_along<SC: StarkGenericConfig, A: Air<Val<SC>>>(
     bits: Vec<usize>,
     main: (Commitment<SC>, Committed<SC>),
     transcript: &mut Transcript<SC>,
-) -> Result<BatchProof<SC>, ProvingError<PcsProverError<SC>>>
+) -> Result<(BatchProof<SC>, Challenge<SC>), ProvingError<PcsProverError<SC>>>
     requires plain { SC.Pcs.ZK ≡ false }
     requires traced { let b = batch_of (⟦<SC as Settings>⟧.setting config.now) (⟦<SC as ProverSettings>⟧.prover config.now) A.declaration A.trees instances.now prover_data.now.common in IsTracedAll b }
     requires kept { let b = batch_of (⟦<SC as Settings>⟧.setting config.now) (⟦<SC as ProverSettings>⟧.prover config.now) A.declaration A.trees instances.now prover_data.now.common in
-        IsKeptWith (λ es c. IsCommitment SC.Val.ring ⟦<<SC::Pcs as Pcs<SC::Challenge, SC::Challenger>>::Domain as PolynomialSpace>⟧.points ⟦<<SC::Pcs as Pcs<SC::Challenge, SC::Challenger>>::Domain as PolynomialSpace>⟧.point_at (SC.Pcs.commits (SC.pcs_of config.now)) (SC.Pcs.made (SC.pcs_of config.now)) (SC.Pcs.holds (SC.pcs_of config.now)) es c) (preprocessed_all b) b.statement.common.preprocessed prover_data.now.prover_only.preprocessed_prover_data }
+        IsKeptWith (⟦<SC as ProverSettings>⟧.commits_to config.now) (preprocessed_all b) b.statement.common.preprocessed prover_data.now.prover_only.preprocessed_prover_data }
     requires bits { let b = batch_of (⟦<SC as Settings>⟧.setting config.now) (⟦<SC as ProverSettings>⟧.prover config.now) A.declaration A.trees instances.now prover_data.now.common in bits.items ≡ b.degree_bits }
-    requires main { let b = batch_of (⟦<SC as Settings>⟧.setting config.now) (⟦<SC as ProverSettings>⟧.prover config.now) A.declaration A.trees instances.now prover_data.now.common in (λ es c. IsCommitment SC.Val.ring ⟦<<SC::Pcs as Pcs<SC::Challenge, SC::Challenger>>::Domain as PolynomialSpace>⟧.points ⟦<<SC::Pcs as Pcs<SC::Challenge, SC::Challenger>>::Domain as PolynomialSpace>⟧.point_at (SC.Pcs.commits (SC.pcs_of config.now)) (SC.Pcs.made (SC.pcs_of config.now)) (SC.Pcs.holds (SC.pcs_of config.now)) es c) (main_matrices b) main }
+    requires main { let b = batch_of (⟦<SC as Settings>⟧.setting config.now) (⟦<SC as ProverSettings>⟧.prover config.now) A.declaration A.trees instances.now prover_data.now.common in (⟦<SC as ProverSettings>⟧.commits_to config.now) (main_matrices b) main }
     requires commitment { let b = batch_of (⟦<SC as Settings>⟧.setting config.now) (⟦<SC as ProverSettings>⟧.prover config.now) A.declaration A.trees instances.now prover_data.now.common in main.0 ≡ main_of b }
     requires turn { transcript.old.remaining ≡ from_lookup SC.Challenge.DIMENSION transcript.old.shape }
     requires shape { let b = batch_of (⟦<SC as Settings>⟧.setting config.now) (⟦<SC as ProverSettings>⟧.prover config.now) A.declaration A.trees instances.now prover_data.now.common in transcript.old.shape ≡ shape_of b }
     requires state { let b = batch_of (⟦<SC as Settings>⟧.setting config.now) (⟦<SC as ProverSettings>⟧.prover config.now) A.declaration A.trees instances.now prover_data.now.common in transcript.old.state ≡ pair_state b }
     ensures verdict { let b = batch_of (⟦<SC as Settings>⟧.setting config.now) (⟦<SC as ProverSettings>⟧.prover config.now) A.declaration A.trees instances.now prover_data.now.common in let k = ⟦<SC as ProverSettings>⟧.prover_backend config.now in
         IsProverVerdict (lookup_part b ++ (fraction_part b ++ (permutation_part k b ++ (in_turn (table_count b) (extension_part k b) ++ (quotient_part k b ++ (ood_part b ++ opening_part k b)))))) result }
-    ensures proved { let b = batch_of (⟦<SC as Settings>⟧.setting config.now) (⟦<SC as ProverSettings>⟧.prover config.now) A.declaration A.trees instances.now prover_data.now.common in let k = ⟦<SC as ProverSettings>⟧.prover_backend config.now in IfOk result (IsProved k b) }
+    ensures proved { let b = batch_of (⟦<SC as Settings>⟧.setting config.now) (⟦<SC as ProverSettings>⟧.prover config.now) A.declaration A.trees instances.now prover_data.now.common in let k = ⟦<SC as ProverSettings>⟧.prover_backend config.now in IfOk result (λ r. IsProved k b r.0) }
     ensures taken { let b = batch_of (⟦<SC as Settings>⟧.setting config.now) (⟦<SC as ProverSettings>⟧.prover config.now) A.declaration A.trees instances.now prover_data.now.common in let k = ⟦<SC as ProverSettings>⟧.prover_backend config.now in
-        IfOk result (λ q. AvoidsExcluded k b q.lookup_pow_witness q.ood_pow_witness → IsHonest b.setting b.prover b.statement b.traces b.degree_bits (⟦<SC as Settings>⟧.backend config.now) q) }
+        IfOk result (λ r. AvoidsExcluded k b r.0.lookup_pow_witness r.0.ood_pow_witness → IsHonest b.setting b.prover b.statement b.traces b.degree_bits (⟦<SC as Settings>⟧.backend config.now) r.0) }
+    ensures point { let b = batch_of (⟦<SC as Settings>⟧.setting config.now) (⟦<SC as ProverSettings>⟧.prover config.now) A.declaration A.trees instances.now prover_data.now.common in IfOk result (λ r. r.1 ≡ point_of b r.0.lookup_pow_witness r.0.ood_pow_witness) }
 {
     let common = &prover_data.common;
     let preprocessed = prover_data.prover_only.preprocessed_prover_data.as_ref();
@@ -82,20 +119,47 @@ fn proved_along<SC: StarkGenericConfig, A: Air<Val<SC>>>(
         &quotients,
         transcript,
     )?;
-    Ok(TablesProof {
-        commitments: BatchCommitments {
-            main,
-            permutation: lookups.permutation.map(|(commitment, _)| commitment),
-            quotient_chunks: quotients.commitment,
-            random: None,
-        },
-        opened_values: BatchOpenedValues { instances: opened },
-        opening_proof,
-        lookup_terminals: lookups.terminals,
-        degree_bits: bits,
-        lookup_pow_witness: lookups.witness,
-        ood_pow_witness: quotients.witness,
-    })
+    let zeta = quotients.zeta;
+    let proof = assembled(bits, main, lookups, quotients, opened, opening_proof);
+    Ok((proof, zeta))
+}
+
+/// Proves a batch of tables as `prove_batch` does, and gives with the proof the point of its openings (own), which a caller may look at
+/// without drawing it again.
+pub fn prove_batch_with_point<SC: StarkGenericConfig, A: Air<Val<SC>>>(
+    alloc: Global,
+    config: &SC,
+    instances: &[StarkInstance<'_, SC, A>],
+    prover_data: &ProverData<SC>,
+) -> Result<(BatchProof<SC>, Challenge<SC>), ProvingError<PcsProverError<SC>>>
+    requires plain { SC.Pcs.ZK ≡ false }
+    requires traced { let b = batch_of (⟦<SC as Settings>⟧.setting config.now) (⟦<SC as ProverSettings>⟧.prover config.now) A.declaration A.trees instances.now prover_data.now.common in IsTracedAll b }
+    requires kept { let b = batch_of (⟦<SC as Settings>⟧.setting config.now) (⟦<SC as ProverSettings>⟧.prover config.now) A.declaration A.trees instances.now prover_data.now.common in
+        IsKeptWith (⟦<SC as ProverSettings>⟧.commits_to config.now) (preprocessed_all b) b.statement.common.preprocessed prover_data.now.prover_only.preprocessed_prover_data }
+    ensures verdict { let b = batch_of (⟦<SC as Settings>⟧.setting config.now) (⟦<SC as ProverSettings>⟧.prover config.now) A.declaration A.trees instances.now prover_data.now.common in let k = ⟦<SC as ProverSettings>⟧.prover_backend config.now in IsProverVerdict (proving_checks k b) result }
+    ensures proved { let b = batch_of (⟦<SC as Settings>⟧.setting config.now) (⟦<SC as ProverSettings>⟧.prover config.now) A.declaration A.trees instances.now prover_data.now.common in let k = ⟦<SC as ProverSettings>⟧.prover_backend config.now in IfOk result (λ r. IsProved k b r.0) }
+    ensures accepted { let b = batch_of (⟦<SC as Settings>⟧.setting config.now) (⟦<SC as ProverSettings>⟧.prover config.now) A.declaration A.trees instances.now prover_data.now.common in let k = ⟦<SC as ProverSettings>⟧.prover_backend config.now in
+        IfOk result (λ r. SC.Val.TWO_ADICITY < 63 → Valid b.setting SC.Val.eq b.prover.commitment_of b.statement b.traces b.degree_bits
+        → ((i : ℕ) → i < length instances.now → IsOutside b.setting (table_at b i) (point_of b r.0.lookup_pow_witness r.0.ood_pow_witness))
+        → AvoidsExcluded k b r.0.lookup_pow_witness r.0.ood_pow_witness → Accepted b.setting (⟦<SC as Settings>⟧.backend config.now) b.statement r.0) }
+    ensures point { let b = batch_of (⟦<SC as Settings>⟧.setting config.now) (⟦<SC as ProverSettings>⟧.prover config.now) A.declaration A.trees instances.now prover_data.now.common in IfOk result (λ r. r.1 ≡ point_of b r.0.lookup_pow_witness r.0.ood_pow_witness) }
+{
+    let common = &prover_data.common;
+    check_bound(alloc, config, instances, common)?;
+    let main = commit_traces(alloc, config, instances, common)?;
+    let bits = degree_bits(alloc, instances, config.is_zk())?;
+    let mut transcript = bound_transcript(alloc, config, instances, common, &bits, &main.0)?;
+    let proof = proved_along(
+        alloc,
+        config,
+        instances,
+        prover_data,
+        bits,
+        main,
+        &mut transcript,
+    );
+    let _challenger = transcript.abort();
+    proof
 }
 
 /// Proves a batch of tables (`prove_batch` of `p3-batch-stark`).
@@ -129,7 +193,7 @@ pub fn prove_batch<SC: StarkGenericConfig, A: Air<Val<SC>>>(
     requires plain { SC.Pcs.ZK ≡ false }
     requires traced { let b = batch_of (⟦<SC as Settings>⟧.setting config.now) (⟦<SC as ProverSettings>⟧.prover config.now) A.declaration A.trees instances.now prover_data.now.common in IsTracedAll b }
     requires kept { let b = batch_of (⟦<SC as Settings>⟧.setting config.now) (⟦<SC as ProverSettings>⟧.prover config.now) A.declaration A.trees instances.now prover_data.now.common in
-        IsKeptWith (λ es c. IsCommitment SC.Val.ring ⟦<<SC::Pcs as Pcs<SC::Challenge, SC::Challenger>>::Domain as PolynomialSpace>⟧.points ⟦<<SC::Pcs as Pcs<SC::Challenge, SC::Challenger>>::Domain as PolynomialSpace>⟧.point_at (SC.Pcs.commits (SC.pcs_of config.now)) (SC.Pcs.made (SC.pcs_of config.now)) (SC.Pcs.holds (SC.pcs_of config.now)) es c) (preprocessed_all b) b.statement.common.preprocessed prover_data.now.prover_only.preprocessed_prover_data }
+        IsKeptWith (⟦<SC as ProverSettings>⟧.commits_to config.now) (preprocessed_all b) b.statement.common.preprocessed prover_data.now.prover_only.preprocessed_prover_data }
     ensures verdict { let b = batch_of (⟦<SC as Settings>⟧.setting config.now) (⟦<SC as ProverSettings>⟧.prover config.now) A.declaration A.trees instances.now prover_data.now.common in let k = ⟦<SC as ProverSettings>⟧.prover_backend config.now in IsProverVerdict (proving_checks k b) result }
     ensures proved { let b = batch_of (⟦<SC as Settings>⟧.setting config.now) (⟦<SC as ProverSettings>⟧.prover config.now) A.declaration A.trees instances.now prover_data.now.common in let k = ⟦<SC as ProverSettings>⟧.prover_backend config.now in IfOk result (IsProved k b) }
     ensures accepted { let b = batch_of (⟦<SC as Settings>⟧.setting config.now) (⟦<SC as ProverSettings>⟧.prover config.now) A.declaration A.trees instances.now prover_data.now.common in let k = ⟦<SC as ProverSettings>⟧.prover_backend config.now in
@@ -137,20 +201,6 @@ pub fn prove_batch<SC: StarkGenericConfig, A: Air<Val<SC>>>(
         → ((i : ℕ) → i < length instances.now → IsOutside b.setting (table_at b i) (point_of b q.lookup_pow_witness q.ood_pow_witness))
         → AvoidsExcluded k b q.lookup_pow_witness q.ood_pow_witness → Accepted b.setting (⟦<SC as Settings>⟧.backend config.now) b.statement q) }
 {
-    let common = &prover_data.common;
-    check_bound(alloc, config, instances, common)?;
-    let main = commit_traces(alloc, config, instances, common)?;
-    let bits = degree_bits(alloc, instances, config.is_zk())?;
-    let mut transcript = bound_transcript(alloc, config, instances, common, &bits, &main.0)?;
-    let proof = proved_along(
-        alloc,
-        config,
-        instances,
-        prover_data,
-        bits,
-        main,
-        &mut transcript,
-    );
-    let _challenger = transcript.abort();
-    proof
+    let (proof, _point) = prove_batch_with_point(alloc, config, instances, prover_data)?;
+    Ok(proof)
 }

@@ -1,0 +1,80 @@
+-- What `prove` answers for a job: a status and a text.
+use Rattle.std.specs.Prelude.{◌≡◌, ◌⊎◌, ℕ, ◌<◌, List, [], ◌∷◌, length, map, codes}
+use Rattle.p3_field.specs.BabyBear.{bear_eq}
+use Rattle.p3_field.specs.declared.baby_bear.BabyBear.{BabyBear}
+use Rattle.line_format.specs.Texts.{line_text}
+use Rattle.honest_acceptance.specs.Honest.{IsOutside}
+use Rattle.honest_proofs.specs.HonestProof.{IsBuilt, IsDenominatorZero, LacksLookupGround, LacksOodGround, zeta}
+use Rattle.batch_proving.specs.Batch.{table_at}
+use Rattle.proof_files.specs.Files.{FileData, FileWithin, file_words}
+use Rattle.proof_text.specs.ProofText.{ToolProofData}
+use Rattle.tool_jobs.specs.Balance.{IsFirstUnbalanced}
+use Rattle.tool_jobs.specs.Jobs.{statement_of}
+use Rattle.tool_validity.specs.Job.{IsBalancedJob, JobTable}
+use Rattle.tool_verifier.specs.FileAnswer.{IsFileAnswer}
+use Rattle.tool_verifier.specs.Refusals.{refused_text}
+use Rattle.tool_verifier.specs.declared.status.Status.{Status}
+use Rattle.tool_verifier.specs.declared.status.Status.TheVariants.{Done, Refused, Usage, BadInput, ReadFault, WriteFault, OutOfMemory, TooLarge}
+use Rattle.tool_prover.specs.JobBatch.{job_batch}
+
+-- the proof file of a job: version 1, what is stated of its tables, and a proof
+abbrev pub file_of : List (JobTable BabyBear) → ToolProofData → FileData
+file_of job q = record { version = 1; tables = map statement_of job; proof = q }
+
+module _ (job : List (JobTable BabyBear)) where
+  -- the proof is the honest one of the job's traces
+  abbrev pub IsJobProof : ToolProofData → Type 0
+  IsJobProof q = let b = job_batch job in IsBuilt b.setting b.prover b.statement b.traces b.degree_bits q
+
+  -- the point of its openings lies on the rows of no table
+  abbrev pub DrawsOutside : ToolProofData → Type 0
+  DrawsOutside q = let b = job_batch job in
+      (i : ℕ) → i < length job → IsOutside b.setting (table_at b i) (zeta b.setting b.prover b.statement b.traces b.degree_bits q.lookup_pow_witness q.ood_pow_witness)
+
+  -- The text is that of the job's honest proof, whose point lies outside. It is a proof file's text, for which `verify` writes `accepted`.
+  pub record IsProvedText (text : List ℕ) : Type 0 where
+    pub balanced : IsBalancedJob bear_eq job
+    pub proof : ToolProofData
+    pub honest : IsJobProof proof
+    pub outside : DrawsOutside proof
+    pub within : FileWithin (file_of job proof)
+    pub text_is : text ≡ line_text (file_words (file_of job proof))
+    pub accepted : IsFileAnswer (map statement_of job) proof Done (codes "accepted\n")
+
+  -- Why there is none, as the line that says so. The least value that isn't taken as often as it is given:
+  abbrev pub IsUnbalancedText : List ℕ → Type 0
+  IsUnbalancedText text = (v : BabyBear) × IsFirstUnbalanced job v × (text ≡ refused_text (codes "Unbalanced") (v.value ∷ []))
+
+  -- or of a balanced job: no number passes the grind before the lookups' pair;
+  abbrev pub LacksLookupText : List ℕ → Type 0
+  LacksLookupText text = let b = job_batch job in
+      LacksLookupGround b.setting b.prover b.statement b.traces b.degree_bits × (text ≡ codes "refused WitnessNotFound lookup\n")
+
+  -- a denominator is zero, by its table and its row;
+  abbrev pub IsZeroText : List ℕ → Type 0
+  IsZeroText text = let b = job_batch job in
+      (i : ℕ) × (row : ℕ) × IsDenominatorZero b.setting b.prover b.statement b.traces b.degree_bits i row × (text ≡ refused_text (codes "LookupDenominatorZero") (i ∷ row ∷ []))
+
+  -- no number passes the grind before the point is drawn;
+  abbrev pub LacksOodText : List ℕ → Type 0
+  LacksOodText text = let b = job_batch job in
+      LacksOodGround b.setting b.prover b.statement b.traces b.degree_bits × (text ≡ codes "refused WitnessNotFound ood\n")
+
+  -- the point of the honest proof lies on the rows of a table
+  abbrev pub IsInsideText : List ℕ → Type 0
+  IsInsideText text = (q : ToolProofData) × IsJobProof q × (DrawsOutside q → ⊥) × (text ≡ codes "refused OodPointInDomain\n")
+
+  abbrev pub IsRefusedText : List ℕ → Type 0
+  IsRefusedText text =
+      IsUnbalancedText text ⊎ (IsBalancedJob bear_eq job × (LacksLookupText text ⊎ (IsZeroText text ⊎ (LacksOodText text ⊎ IsInsideText text))))
+
+  -- the status and the text
+  unfoldable pub IsJobAnswer : Status → List ℕ → Type 0
+  IsJobAnswer Done text = IsProvedText text
+  IsJobAnswer Refused text = IsRefusedText text
+  IsJobAnswer Usage text = ⊥
+  IsJobAnswer BadInput text = ⊥
+  IsJobAnswer ReadFault text = ⊥
+  IsJobAnswer WriteFault text = ⊥
+  IsJobAnswer OutOfMemory text = ⊥
+  IsJobAnswer TooLarge text = ⊥

@@ -1,0 +1,3 @@
+pub mod JobBatch
+pub mod JobAnswer
+pub mod Laws
