@@ -38,6 +38,9 @@ module _ {S F E C : Type 0} (b : Batch S F E C) where
   abbrev pub HaveFractionsFor : Option F → Type 0
   HaveFractionsFor w = HaveFractions b.setting b.prover b.statement b.traces b.degree_bits w
 
+  abbrev pub IsGroundOf : Option F → F → Type 0
+  IsGroundOf w z = IsPairGroundOf w × IsOodGround b.setting b.prover b.statement b.traces b.degree_bits w z
+
   -- The checks that ask nothing of the backend. On no bus do the counts, each as large as it is trusted to be, add up to the order of the field:
   abbrev pub bound_part : {R : Type 0} → List (Check (ProvingError R))
   bound_part =
@@ -46,7 +49,10 @@ module _ {S F E C : Type 0} (b : Batch S F E C) where
 
   -- some number below the order passes the grind before the lookups' pair;
   abbrev pub lookup_part : {R : Type 0} → List (Check (ProvingError R))
-  lookup_part = check (WitnessNotFound Lookup) (LacksLookupGround b.setting b.prover b.statement b.traces b.degree_bits → ⊥) ∷ []
+  lookup_part = record {
+    refusal = λ e. (e ≡ WitnessNotFound Lookup) × LacksLookupGround b.setting b.prover b.statement b.traces b.degree_bits;
+    holds = LacksLookupGround b.setting b.prover b.statement b.traces b.degree_bits → ⊥;
+  } ∷ []
 
   -- no denominator is zero;
   abbrev pub fraction_part : {R : Type 0} → List (Check (ProvingError R))
@@ -57,7 +63,10 @@ module _ {S F E C : Type 0} (b : Batch S F E C) where
 
   -- some number below the order passes the grind before zeta.
   abbrev pub ood_part : {R : Type 0} → List (Check (ProvingError R))
-  ood_part = check (WitnessNotFound Ood) (LacksOodGround b.setting b.prover b.statement b.traces b.degree_bits → ⊥) ∷ []
+  ood_part = record {
+    refusal = λ e. (e ≡ WitnessNotFound Ood) × LacksOodGround b.setting b.prover b.statement b.traces b.degree_bits;
+    holds = LacksOodGround b.setting b.prover b.statement b.traces b.degree_bits → ⊥;
+  } ∷ []
 
 module _ {S F E C D P R : Type 0} (k : ProverBackend S F E C D P R) (b : Batch S F E C) where
   -- The checks of what the backend is asked: to commit to the traces,
@@ -91,14 +100,11 @@ module _ {S F E C D P R : Type 0} (k : ProverBackend S F E C D P R) (b : Batch S
     pub made : All (λ r. k.made r.prover_data) requests
     pub held : AreHeld k.holds requests (held_of (honest_rounds b.setting b.prover b.statement b.traces b.degree_bits w z))
 
-  abbrev pub IsGroundOf : Option F → F → Type 0
-  IsGroundOf w z = IsPairGroundOf b w × IsOodGround b.setting b.prover b.statement b.traces b.degree_bits w z
-
   -- and the check that it is opened
   abbrev pub opening_part : List (Check (ProvingError R))
   opening_part = record {
-    refusal = λ e. (w : Option F) × (z : F) × IsGroundOf w z × ((requests : List (Request D E)) × AreAsked w z requests × IsPcsRefusal Opening (k.open_fault requests) e);
-    holds = (w : Option F) (z : F) → IsGroundOf w z → (requests : List (Request D E)) × AreAsked w z requests × NoneOf (k.open_fault requests);
+    refusal = λ e. (w : Option F) × (z : F) × IsGroundOf b w z × ((requests : List (Request D E)) × AreAsked w z requests × IsPcsRefusal Opening (k.open_fault requests) e);
+    holds = (w : Option F) (z : F) → IsGroundOf b w z → (requests : List (Request D E)) × AreAsked w z requests × NoneOf (k.open_fault requests);
   } ∷ []
 
   -- none of the points of the openings is excluded
