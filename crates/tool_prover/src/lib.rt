@@ -4,6 +4,7 @@
 #![tactic(auto)]
 
 mod answer;
+mod outside;
 mod proving;
 
 pub use answer::answer_prove;
