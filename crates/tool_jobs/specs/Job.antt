@@ -1,0 +1,96 @@
+-- The program's jobs of four kinds of tables, with their traces and what is stated of them; when a job is balanced. All of this is the
+-- program's own.
+use Rattle.std.specs.Int.{IsPowerOfTwo}
+use Rattle.std.specs.Prelude.{zero, suc, nat_lt, ◌+◌, ◌≡◌, ℕ, ◌%◌, ◌^◌, ◌<◌, ◌≤◌, ◌==◌, Bool, if◌then◌else◌, cond, List, [], ◌∷◌, length, map, All, count_by, sum_by}
+use Rattle.std.specs.Prelude.{slice_index_or as get_or}
+use Rattle.std.specs.List.{flat_map}
+use Rattle.p3_field.specs.Poly.{table}
+use Rattle.p3_field.specs.Ring.{Ring, of_nat}
+use Rattle.p3_matrix.specs.Matrix.{Rows}
+
+-- TEMPORARY COPY until tool_validity is built here
+abbrev pub number_in : {F : Type 0} → Ring F → ℕ → F
+number_in r i = of_nat r (i + 1)
+
+abbrev pub turns : {F : Type 0} → Ring F → List F
+turns r = of_nat r 3 ∷ of_nat r 5 ∷ []
+
+unfoldable pub powers_below : (k n : ℕ) → ℕ
+powers_below zero n = 0
+powers_below (suc k) n = powers_below k n + cond (nat_lt (2 ^ k) n) 1 0
+
+unfoldable pub log_of : ℕ → ℕ
+log_of n = powers_below n n
+
+-- a table of a job: 2^k rows that swap, beginning with (a, b); a wheel of 2^k rows; words to take; words with how often each is given
+pub data JobTable (F : Type 0) : Type 0 where
+  swap_of : ℕ → F → F → JobTable F
+  wheel_of : ℕ → JobTable F
+  take_of : List F → JobTable F
+  give_of : List (F × ℕ) → JobTable F
+
+-- the sizes that a job's tables may have
+abbrev pub IsWithin : {F : Type 0} → JobTable F → Type 0
+IsWithin (swap_of k a b) = k ≤ 10
+IsWithin (wheel_of k) = (0 < k) × (k ≤ 10)
+IsWithin (take_of words) = IsPowerOfTwo (length words) × (length words ≤ 1024)
+IsWithin (give_of pairs) = IsPowerOfTwo (length pairs) × (length pairs ≤ 1024) × All (λ p. p.1 ≤ 1024) pairs
+
+-- how many rows of take tables take a word, where the test finds it
+abbrev pub times_taken : {F : Type 0} → (F → Bool) → JobTable F → ℕ
+times_taken test (swap_of k a b) = 0
+times_taken test (wheel_of k) = 0
+times_taken test (take_of words) = count_by test words
+times_taken test (give_of pairs) = 0
+
+-- how often rows of give tables give it
+abbrev pub times_given : {F : Type 0} → (F → Bool) → JobTable F → ℕ
+times_given test (swap_of k a b) = 0
+times_given test (wheel_of k) = 0
+times_given test (take_of words) = 0
+times_given test (give_of pairs) = sum_by (λ p. cond (test p.0) p.1 0) pairs
+
+-- each word is taken as often as it is given, where words are equal by `eq`
+abbrev pub IsBalancedJob : {F : Type 0} → (F → F → Bool) → List (JobTable F) → Type 0
+IsBalancedJob {F = F} eq job = (v : F) → sum_by (times_taken (λ x. eq x v)) job ≡ sum_by (times_given (λ x. eq x v)) job
+
+-- a job: at most eight tables, each within the sizes, and balanced
+pub record IsJob {F : Type 0} (eq : F → F → Bool) (job : List (JobTable F)) : Type 0 where
+  pub few : length job ≤ 8
+  pub within : All IsWithin job
+  pub balanced : IsBalancedJob eq job
+
+-- row i of a swap table
+abbrev pub swap_row : {F : Type 0} → F → F → ℕ → List F
+swap_row a b i = if i % 2 == 0 then a ∷ b ∷ [] else b ∷ a ∷ []
+
+-- the right cell of the last of 2^k rows
+abbrev pub last_right : {F : Type 0} → ℕ → F → F → F
+last_right k a b = if k == 0 then b else a
+
+-- the cell in row i of a wheel: i + 1, times 3 and 5 in turn
+abbrev pub wheel_cell : {F : Type 0} → Ring F → ℕ → F
+wheel_cell r i = r.mul (number_in r i) (get_or (turns r) (i % 2) r.zero)
+
+-- the row of a word that is given so often
+abbrev pub give_row : {F : Type 0} → Ring F → F × ℕ → List F
+give_row r p = p.0 ∷ of_nat r p.1 ∷ []
+
+-- the logarithm of a table's number of rows, its trace, and its public values
+abbrev pub log_height_of : {F : Type 0} → JobTable F → ℕ
+log_height_of (swap_of k a b) = k
+log_height_of (wheel_of k) = k
+log_height_of (take_of words) = log_of (length words)
+log_height_of (give_of pairs) = log_of (length pairs)
+
+abbrev pub trace_of : {F : Type 0} → Ring F → JobTable F → Rows F
+trace_of r (swap_of k a b) = record { values = flat_map (swap_row a b) (table (2 ^ k) (λ i. i)); width = 2 }
+trace_of r (wheel_of k) = record { values = table (2 ^ k) (wheel_cell r); width = 1 }
+trace_of r (take_of words) = record { values = words; width = 1 }
+trace_of r (give_of pairs) = record { values = flat_map (give_row r) pairs; width = 2 }
+
+abbrev pub publics_of : {F : Type 0} → JobTable F → List F
+publics_of (swap_of k a b) = a ∷ b ∷ last_right k a b ∷ []
+publics_of (wheel_of k) = []
+publics_of (take_of words) = []
+publics_of (give_of pairs) = []

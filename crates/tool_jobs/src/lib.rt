@@ -1,0 +1,12 @@
+//! The program's jobs of four kinds of tables: their text, their traces, what is stated of them, and whether they are balanced.
+//!
+//! The definitions that contracts cite are in `specs/`: how a job is seen as plain data, its limits and its words (`Jobs`), and the least
+//! value that is unbalanced (`Balance`). Traces and balance themselves are defined in `tool_validity`.
+#![tactic(auto)]
+
+mod counts;
+mod table;
+mod text;
+
+pub use table::{GivenWord, JobTable};
+pub use text::{WholeJob, read_job, write_job};
