@@ -7,6 +7,7 @@
 mod counts;
 mod table;
 mod text;
+mod trace;
 
-pub use table::{GivenWord, JobTable};
+pub use table::{GivenWord, JobTable, traces_of};
 pub use text::{WholeJob, read_job, write_job};

@@ -1,5 +1,13 @@
 //! The tables of a job.
-use p3_field::BabyBear;
+ghost use Rattle.std.specs.Prelude.{◌≡◌, All, IfOk, map};
+ghost use Rattle.p3_field.specs.BabyBear.{bear_ring};
+ghost use Rattle.tool_jobs.specs.Job.{IsWithin, trace_of};
+ghost use Rattle.tool_jobs.specs.Jobs.{read_table, read_tables};
+
+use crate::trace::{give_trace, swap_trace, wheel_trace};
+use p3_field::{BabyBear, Mem};
+use p3_matrix::RowMajorMatrix;
+use std::alloc::Global;
 
 /// A word that a table gives, and how often (own).
 #[derive(Clone, Copy, Debug, PartialEq, Eq)]
@@ -37,4 +45,34 @@ pub enum JobTable {
         /// The words with their counts, whose number is a power of two up to 1024.
         words: Vec<GivenWord>,
     },
+}
+
+impl JobTable {
+    /// The table's trace (own), row by row. The only error is running out of memory.
+    pub fn trace(&self, alloc: Global) -> Mem<RowMajorMatrix<BabyBear>>
+        requires { IsWithin (read_table self.now) }
+        ensures { IfOk result (λ m. m ≡ trace_of bear_ring (read_table self.now)) }
+    {
+        match self {
+            JobTable::Swap { k, a, b } => swap_trace(alloc, *k as usize, *a, *b),
+            JobTable::Wheel { k } => wheel_trace(alloc, *k as usize),
+            JobTable::Take { words } => {
+                let values = Vec::from_slice(alloc, words)?;
+                Ok(RowMajorMatrix::new_col(values))
+            }
+            JobTable::Give { words } => give_trace(alloc, words),
+        }
+    }
+}
+
+/// The traces of a job's tables in order (own). The only error is running out of memory.
+pub fn traces_of(alloc: Global, job: &[JobTable]) -> Mem<Vec<RowMajorMatrix<BabyBear>>>
+    requires { All IsWithin (read_tables job.now) }
+    ensures { IfOk result (λ v. v.items ≡ map (trace_of bear_ring) (read_tables job.now)) }
+{
+    let mut traces = Vec::with_capacity(alloc, job.len())?;
+    for table in job {
+        traces.push(table.trace(alloc)?)?;
+    }
+    Ok(traces)
 }
