@@ -1,2 +1,4 @@
 mod Readings
 mod Traces
+mod Runs
+mod Counted
