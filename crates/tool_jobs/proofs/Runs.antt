@@ -34,8 +34,8 @@ module _ (rows : List Tally) where
       let f : Tally → ℕ = λ t. cond (t.number == v) (often t) 0 in
       let whole : sum_by f (take i rows) + sum_by f (drop i rows) ≡ sum_by f rows = sum_by-take-drop f rows i in
       let behind : times often v (drop i rows) ≡ 0 = none often v (drop i rows) (λ k d h.
-        let room : i + k < length rows = omega (arith, h, length-drop i rows) in
-        subst (λ (t : Tally). t.number ≡ v → ⊥) (sym (get_or-drop i rows k d)) (other (i + k) d (omega arith) room)) in
+      let room : i + k < length rows = omega (arith, h, length-drop i rows) in
+      subst (λ (t : Tally). t.number ≡ v → ⊥) (sym (get_or-drop i rows k d)) (other (i + k) d (omega arith) room)) in
       omega (arith, whole, behind)
 
   -- Of the first i rows: the greatest number with its sums; lesser numbers are taken as often as given, greater ones aren't there; and
@@ -68,7 +68,7 @@ module _ (rows : List Tally) where
   unequal_at : {i number taken given : ℕ} → Seen i number taken given → (taken ≡ given → ⊥) → ((k : ℕ) (d : Tally) → i ≤ k → k < length rows → number < (get_or rows k d).number) → IsFirstUnequal rows number
   unequal_at {i} {number} {taken} {given} s other far =
       let whole : (often : Tally → ℕ) (v : ℕ) → v ≤ number → times often v rows ≡ times often v (take i rows) =
-          λ often v low. rest-none often v i (λ k d h l e. let f = far k d h l in omega (arith, low, f, e)) in
+      λ often v low. rest-none often v i (λ k d h l e. let f = far k d h l in omega (arith, low, f, e)) in
       record {
         unequal = λ e. let a = s.taken_is in let b = s.given_is in
             other (a ∙ (sym (whole (λ t. t.taken) number (omega arith)) ∙ (e ∙ (whole (λ t. t.given) number (omega arith) ∙ sym b))));

@@ -13,3 +13,6 @@ mod trace;
 pub use balance::first_unbalanced;
 pub use table::{GivenWord, JobTable, traces_of};
 pub use text::{WholeJob, read_job, write_job};
+
+#[cfg(test)]
+mod tests;

@@ -24,11 +24,11 @@ loop-tally-preserved c =
     let is = get_or_default rows i nothing t c.loop-tally-test.true in
     elim c.if-tally-number.branch [
       | then-tally-number w ↦ seen-as rows w.number-is w.taken-is w.given-is
-        (seen-same rows c.requires i c.loop-tally.number c.loop-tally.taken c.loop-tally.given t c.loop-tally-test.true is c.loop-tally.invariant
-        (omega arith) (omega arith) w.if-tally-number.true)
+          (seen-same rows c.requires i c.loop-tally.number c.loop-tally.taken c.loop-tally.given t c.loop-tally-test.true is c.loop-tally.invariant
+          (omega arith) (omega arith) w.if-tally-number.true)
       | else-tally-number+then-taken-given w ↦ seen-as rows w.number-is w.taken-is w.given-is
-        (seen-next rows c.requires i c.loop-tally.number c.loop-tally.taken c.loop-tally.given t c.loop-tally-test.true is c.loop-tally.invariant
-        (omega arith) (omega arith) w.if-tally-number.false w.if-taken-given.true)
+          (seen-next rows c.requires i c.loop-tally.number c.loop-tally.taken c.loop-tally.given t c.loop-tally-test.true is c.loop-tally.invariant
+          (omega arith) (omega arith) w.if-tally-number.false w.if-taken-given.true)
     ]
 
 pub returns-then-taken-given-2 : goal.returns-then-taken-given-2
