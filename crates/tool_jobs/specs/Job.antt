@@ -7,13 +7,22 @@ use Rattle.std.specs.List.{flat_map}
 use Rattle.p3_field.specs.Poly.{table}
 use Rattle.p3_field.specs.Ring.{Ring, of_nat}
 use Rattle.p3_matrix.specs.Matrix.{Rows}
+use Rattle.p3_air.specs.Shape.{Declaration}
+use Rattle.p3_air.specs.Tree.{Tree, Interaction}
+use Rattle.batch_tables.specs.Swap.{swap_declaration, swap_trees}
+use Rattle.tool_tables.specs.Wheel.{number_in, turns, wheel_declaration, wheel_trees}
+use Rattle.tool_tables.specs.Words.{give_interactions, take_interactions, words_declaration}
+use Rattle.tool_tables.specs.declared.tool.ToolAir.{ToolAir}
+use Rattle.tool_tables.specs.declared.tool.ToolAir.TheVariants.{Swap, Wheel, Take, Give}
 
 -- TEMPORARY COPY until tool_validity is built here
-abbrev pub number_in : {F : Type 0} → Ring F → ℕ → F
-number_in r i = of_nat r (i + 1)
+pub record Source (F : Type 0) : Type 0 where
+  pub declaration : Declaration F
+  pub trees : List (Tree F)
+  pub interactions : List (Interaction F)
 
-abbrev pub turns : {F : Type 0} → Ring F → List F
-turns r = of_nat r 3 ∷ of_nat r 5 ∷ []
+abbrev pub source_of : {A F : Type 0} → (A → Declaration F) → (A → List (Tree F)) → (A → List (Interaction F)) → A → Source F
+source_of declaration trees interactions a = record { declaration = declaration a; trees = trees a; interactions = interactions a }
 
 unfoldable pub powers_below : (k n : ℕ) → ℕ
 powers_below zero n = 0
@@ -94,3 +103,25 @@ publics_of (swap_of k a b) = a ∷ b ∷ last_right k a b ∷ []
 publics_of (wheel_of k) = []
 publics_of (take_of words) = []
 publics_of (give_of pairs) = []
+
+-- its AIR's declaration, constraints and interactions
+abbrev pub source_of_job : {F : Type 0} → Ring F → JobTable F → Source F
+source_of_job r (swap_of k a b) = record { declaration = swap_declaration; trees = swap_trees; interactions = [] }
+source_of_job r (wheel_of k) = record { declaration = wheel_declaration r k; trees = wheel_trees; interactions = [] }
+source_of_job r (take_of words) = record { declaration = words_declaration 1; trees = []; interactions = take_interactions r }
+source_of_job r (give_of pairs) = record { declaration = words_declaration 2; trees = []; interactions = give_interactions r }
+
+-- the AIRs that its program makes for it
+abbrev pub IsAirOf : {F : Type 0} → Ring F → JobTable F → ToolAir F → Type 0
+IsAirOf r (swap_of k a b) (Swap air) = Unit {0}
+IsAirOf r (wheel_of k) (Wheel air) = (air.log_height ≡ k) × (map (λ v. v.items) air.periodic.items ≡ turns r ∷ [])
+IsAirOf r (take_of words) (Take air) = Unit {0}
+IsAirOf r (give_of pairs) (Give air) = Unit {0}
+IsAirOf r j air = ⊥
+
+-- the AIRs of a job, table by table
+abbrev pub AreAirsOf : {F : Type 0} → Ring F → List (JobTable F) → List (ToolAir F) → Type 0
+AreAirsOf r [] [] = Unit {0}
+AreAirsOf r [] (air ∷ airs) = ⊥
+AreAirsOf r (j ∷ job) [] = ⊥
+AreAirsOf r (j ∷ job) (air ∷ airs) = IsAirOf r j air × AreAirsOf r job airs

@@ -2,3 +2,4 @@
 pub mod Counts
 pub mod Kinds
 pub mod Texts
+pub mod Airs

@@ -6,11 +6,13 @@
 
 mod balance;
 mod counts;
+mod meanings;
 mod table;
 mod text;
 mod trace;
 
 pub use balance::first_unbalanced;
+pub use meanings::airs_are_the_jobs;
 pub use table::{GivenWord, JobTable, traces_of};
 pub use text::{WholeJob, read_job, write_job};
 
