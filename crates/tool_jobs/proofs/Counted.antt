@@ -11,7 +11,7 @@ use Rattle.p3_field.specs.BabyBear.{bear_ring}
 use Rattle.p3_field.specs.Laws.BearLaws.{bear_of_nat_value}
 use Rattle.p3_field.specs.Ring.{of_nat}
 use Rattle.p3_field.specs.declared.baby_bear.BabyBear.{BabyBear}
-use Rattle.tool_jobs.specs.Job.{IsBalancedJob, JobTable, swap_of, wheel_of, take_of, give_of, times_given, times_taken}
+use Rattle.tool_validity.specs.Job.{IsBalancedJob, JobTable, swap_of, wheel_of, take_of, give_of, times_given, times_taken}
 use Rattle.tool_jobs.specs.Tallies.{IsFirstUnequal, given_in, given_often, taken_in, taken_once, tallies_of, times}
 use Rattle.tool_jobs.specs.Unbalanced.{IsFirstUnbalanced, same_word}
 use Rattle.tool_jobs.specs.declared.balance.Tally.{Tally}

@@ -9,7 +9,7 @@ use Rattle.line_format.specs.Laws.Lines.{same-line}
 use Rattle.line_format.specs.Laws.Stops.{pair-first, pair-reads, pair-second, same-reads, same-stops}
 use Rattle.line_format.specs.declared.texts.ItemError.{ItemError}
 use Rattle.p3_field.specs.declared.baby_bear.BabyBear.{BabyBear}
-use Rattle.tool_jobs.specs.Job.{IsWithin, JobTable}
+use Rattle.tool_validity.specs.Job.{IsWithin, JobTable}
 use Rattle.tool_jobs.specs.Jobs.{table_words}
 use Rattle.tool_jobs.specs.Laws.Counts.{IsCount, PowersWithin, count-grammar, one-counts, same-powers}
 use Rattle.tool_jobs.specs.Laws.Kinds.{KindWithin, body_words}

@@ -2,7 +2,7 @@
 use Rattle.std.specs.Prelude.{ℕ, List, [], ◌∷◌, map}
 use Rattle.p3_field.specs.declared.baby_bear.BabyBear.{BabyBear}
 use Rattle.line_format.specs.Texts.{ListWithin, element_words, list_words}
-use Rattle.tool_jobs.specs.Job.{IsWithin, JobTable, swap_of, wheel_of, take_of, give_of}
+use Rattle.tool_validity.specs.Job.{IsWithin, JobTable, swap_of, wheel_of, take_of, give_of}
 use Rattle.tool_jobs.specs.declared.table.GivenWord.{GivenWord}
 use Rattle.tool_jobs.specs.declared.table.JobTable.{JobTable as Table}
 use Rattle.tool_jobs.specs.declared.table.JobTable.TheVariants.{Swap, Wheel, Take, Give}

@@ -3,3 +3,4 @@ pub mod Counts
 pub mod Kinds
 pub mod Texts
 pub mod Airs
+pub mod Statements

@@ -1,5 +1,5 @@
-pub mod Job
 pub mod Jobs
+pub mod Stated
 pub mod Unbalanced
 pub mod Tallies
 pub mod Laws

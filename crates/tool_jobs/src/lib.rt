@@ -6,14 +6,16 @@
 
 mod balance;
 mod counts;
+mod job;
 mod meanings;
 mod table;
 mod text;
 mod trace;
 
 pub use balance::first_unbalanced;
+pub use job::{statements_of, traces_of};
 pub use meanings::airs_are_the_jobs;
-pub use table::{GivenWord, JobTable, traces_of};
+pub use table::{GivenWord, JobTable};
 pub use text::{WholeJob, read_job, write_job};
 
 #[cfg(test)]

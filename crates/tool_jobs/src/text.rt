@@ -125,7 +125,7 @@ impl Form for JobTable {
     type Value = JobTable;
 
     ghost use Rattle.p3_field.specs.declared.baby_bear.BabyBear.{BabyBear as Element};
-    ghost use Rattle.tool_jobs.specs.Job.{IsWithin, JobTable as TableData};
+    ghost use Rattle.tool_validity.specs.Job.{IsWithin, JobTable as TableData};
     ghost use Rattle.tool_jobs.specs.Jobs.{read_table, table_words};
     ghost use Rattle.tool_jobs.specs.Laws.Texts.{table-grammar};
 
@@ -176,7 +176,7 @@ impl Form for WholeJob {
 
     ghost use Rattle.std.specs.Prelude.{List, map};
     ghost use Rattle.p3_field.specs.declared.baby_bear.BabyBear.{BabyBear as Element};
-    ghost use Rattle.tool_jobs.specs.Job.{JobTable as TableData};
+    ghost use Rattle.tool_validity.specs.Job.{JobTable as TableData};
     ghost use Rattle.tool_jobs.specs.Jobs.{JobWithin, job_words, read_tables};
     ghost use Rattle.tool_jobs.specs.Laws.Texts.{job-grammar};
 

@@ -2,8 +2,8 @@
 ghost use Rattle.std.specs.Prelude.{◌≡◌, ◌%◌, ◌^◌, ◌≤◌, ◌++◌, ◌∷◌, [], IfOk, OnOk, length, map};
 ghost use Rattle.std.specs.Prelude.{slice_index_or as get_or};
 ghost use Rattle.p3_field.specs.BabyBear.{bear_ring};
-ghost use Rattle.tool_jobs.specs.Job.{swap_row, trace_of, wheel_cell as wheel_cell_of};
-ghost use Rattle.tool_jobs.specs.Job.{swap_of, wheel_of, give_of};
+ghost use Rattle.tool_validity.specs.Job.{swap_row, trace_of, wheel_cell as wheel_cell_of};
+ghost use Rattle.tool_validity.specs.Job.{swap_of, wheel_of, give_of};
 ghost use Rattle.tool_jobs.specs.Jobs.{read_given};
 ghost use Rattle.tool_tables.specs.Wheel.{turns};
 

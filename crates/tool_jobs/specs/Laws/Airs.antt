@@ -9,7 +9,8 @@ use Rattle.tool_tables.specs.Tool.{tool_declaration, tool_interactions, tool_tre
 use Rattle.tool_tables.specs.Wheel.{number_in, numbers_to, wheel_declaration, wheel_over}
 use Rattle.tool_tables.specs.declared.tool.ToolAir.{ToolAir}
 use Rattle.tool_tables.specs.declared.tool.ToolAir.TheVariants.{Swap, Wheel, Take, Give}
-use Rattle.tool_jobs.specs.Job.{AreAirsOf, IsAirOf, JobTable, swap_of, wheel_of, take_of, give_of, Source, source_of, source_of_job}
+use Rattle.tool_validity.specs.Job.{AreAirsOf, IsAirOf, JobTable, swap_of, wheel_of, take_of, give_of, source_of_job}
+use Rattle.batch_setup.specs.Packed.{Source, source_of}
 
 -- whether there is a preprocessed trace, and how many values it has
 present : {F : Type 0} → Option (Rows F) → ℕ

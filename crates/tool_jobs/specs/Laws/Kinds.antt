@@ -3,7 +3,7 @@ use Rattle.std.proofs.Common.{◌≡◌, ℕ, zero, suc, ◌<◌, ◌≤◌, Lis
 use Rattle.p3_field.specs.declared.baby_bear.BabyBear.{BabyBear}
 use Rattle.line_format.specs.Texts.{Between, Grammar, Unlimited, element_words, list_words, number_words}
 use Rattle.line_format.specs.Laws.Grammars.{SameTexts, ThenWithin, TwoWithin, element-grammar, number-grammar, pair_words, same-grammar, then-grammar, two-grammar, two_words}
-use Rattle.tool_jobs.specs.Job.{IsWithin, JobTable, swap_of, wheel_of, take_of, give_of}
+use Rattle.tool_validity.specs.Job.{IsWithin, JobTable, swap_of, wheel_of, take_of, give_of}
 use Rattle.tool_jobs.specs.Jobs.{given_words}
 use Rattle.tool_jobs.specs.Laws.Counts.{PowersWithin, powers-grammar}
 

@@ -3,7 +3,7 @@ use Rattle.std.proofs.Common.{◌≡◌, ℕ, List, ◌∷◌, refl, arith}
 use Rattle.p3_field.specs.declared.baby_bear.BabyBear.{BabyBear}
 use Rattle.line_format.specs.Texts.{Between, Grammar, number_words}
 use Rattle.line_format.specs.Laws.Grammars.{PairWithin, SameTexts, list-grammar, number-grammar, pair-grammar, pair_words, same-grammar}
-use Rattle.tool_jobs.specs.Job.{IsWithin, JobTable, swap_of, wheel_of, take_of, give_of}
+use Rattle.tool_validity.specs.Job.{IsWithin, JobTable, swap_of, wheel_of, take_of, give_of}
 use Rattle.tool_jobs.specs.Jobs.{JobWithin, job_words, table_words}
 use Rattle.tool_jobs.specs.Laws.Kinds.{KindWithin, body_words, kind-grammar, kind_of}
 

@@ -1,5 +1,5 @@
 use Rattle.line_format.specs.Laws.Stops.{handed-on, pair-first, same-stops}
-use Rattle.tool_jobs.specs.Job.{IsWithin}
+use Rattle.tool_validity.specs.Job.{IsWithin}
 use Rattle.tool_jobs.specs.Jobs.{read_table, table_words}
 use Rattle.tool_jobs.specs.Laws.Kinds.{KindWithin, kind-grammar}
 use Rattle.tool_jobs.specs.Laws.Texts.{same-table}
