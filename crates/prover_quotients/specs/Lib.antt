@@ -1,0 +1,4 @@
+pub mod Places
+pub mod Held
+pub mod Tables
+pub mod Asked
