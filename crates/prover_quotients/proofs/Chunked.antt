@@ -1,7 +1,8 @@
 -- Chunks of the honest quotient's values are those of the honest proof.
-use Rattle.std.proofs.Common.{◌≡◌, ℕ, ◌+◌, ◌*◌, ◌^◌, ◌<◌, List, length, get_or, All, sym, ◌∙◌, ap, arith}
+use Rattle.std.proofs.Common.{◌≡◌, ℕ, ◌+◌, ◌*◌, ◌^◌, ◌<◌, List, length, get_or, All, sym, ◌∙◌, ap, subst, arith}
 use Rattle.std.proofs.lemmas.Option.{slice_get-get_or}
 use Rattle.p3_field.specs.Domain.{CosetData}
+use Rattle.p3_field.specs.Field.{Extension, TwoAdic}
 use Rattle.p3_field.specs.Laws.SubgroupSelectors.{subgroup}
 use Rattle.p3_field.specs.Laws.Tables.{get_or-table, length-table, table_of_items, table_same}
 use Rattle.p3_field.specs.Poly.{table}
@@ -9,7 +10,9 @@ use Rattle.p3_matrix.specs.Matrix.{FillsRows, Rows, cell_at, column, height}
 use Rattle.p3_matrix.specs.Laws.Cells.{same_matrix}
 use Rattle.p3_matrix.specs.Laws.Transposed.{get_or-row_at}
 use Rattle.p3_commit.specs.Space.{EachOf}
+use Rattle.p3_air.specs.Tree.{Tree}
 use Rattle.batch_quotient.specs.Chunks.{IsChunk}
+use Rattle.batch_quotient.specs.Evaluations.{quotient_values_on}
 use Rattle.batch_setting.specs.Setting.{Setting}
 use Rattle.committed_tables.specs.Committed.{CommittedTable}
 use Rattle.committed_tables.specs.Fields.{FieldsLaws}
@@ -17,6 +20,11 @@ use Rattle.committed_tables.specs.Quotient.{chunk_cell, chunk_domain}
 use Rattle.batch_validity.specs.Laws.Columns.{pieces_height, pieces_row, pieces_tall}
 use Rattle.batch_validity.specs.Traced.{TracedTable, constraints, log_parts, log_rows, no_rows, quotient_shift}
 use Rattle.honest_proofs.specs.HonestProof.{Prover, chunk_matrices, chunk_rows, committed_table, quotient_row}
+
+-- a quotient has a value for each point
+pub values_count : {F E : Type 0} (f : TwoAdic F) (e : Extension F E) (t : CommittedTable F E) (trees : List (Tree F)) (alpha : E) (d : CosetData F) (values : List E)
+    → values ≡ quotient_values_on f e t trees alpha d → length values ≡ 2 ^ d.log_size
+values_count f e t trees alpha d values are = ap length are ∙ length-table (2 ^ d.log_size) _
 
 module _ {S F E C : Type 0} (c : Setting S F E C) (p : Prover F E C) (t : TracedTable F) (challenges : List E) (L : FieldsLaws c.field c.extension c.two_adicity p.inverse) (alpha : E) where
   abbrev k : CommittedTable F E
@@ -80,3 +88,18 @@ module _ {S F E C : Type 0} (c : Setting S F E C) (p : Prover F E C) (t : Traced
       ∙ table_same parts (λ n. get_or pieces n none) chunk (λ n b.
       let inside : n < length pieces = let q = A.count in omega (arith, b, q) in
       one_chunk n (get_or pieces n none) (fill n none inside) (A.each n (get_or pieces n none) (slice_get-get_or pieces n none inside)))
+
+  -- the chunks of what are the honest quotient's values
+  pub chunks_from : (pieces : List (CosetData F × Rows F)) (d : CosetData F) (m : ℕ) (values : List E) → d ≡ record { shift = quotient_shift c; log_size = log_rows c t + log_parts c t } → m ≡ log_parts c t
+      → values ≡ quotient_values_on c.field c.extension k (constraints c t) alpha d → All (λ (e : CosetData F × Rows F). FillsRows e.1.values e.1.width) pieces
+      → ((u : CommittedTable F E) (trees : List (Tree F)) (folding : E) → d.log_size ≡ u.log_height + m → values ≡ quotient_values_on c.field c.extension u trees folding d
+      → EachOf (2 ^ m) pieces (IsChunk c.field c.extension u d.shift m trees folding))
+      → pieces ≡ chunk_matrices c p t challenges alpha
+  unfolding committed_table
+  chunks_from pieces d m values place size are fill given =
+      let high : d.log_size ≡ log_rows c t + m = ap (λ x. x.log_size) place ∙ ap (λ n. log_rows c t + n) (sym size) in
+      let own = given k (constraints c t) alpha high are in
+      chunks_are pieces
+      (subst (λ (n : ℕ). EachOf (2 ^ n) pieces (IsChunk c.field c.extension k (quotient_shift c) n (constraints c t) alpha)) size
+      (subst (λ (x : F). EachOf (2 ^ m) pieces (IsChunk c.field c.extension k x m (constraints c t) alpha)) (ap (λ x. x.shift) place) own))
+      fill

@@ -1,7 +1,9 @@
 pub mod Chunked
 pub mod Offered
 pub mod Shapes
+pub mod Valued
 pub mod Items
+pub mod Counted
 pub mod Kept
 pub mod Given
 pub mod Verdicts

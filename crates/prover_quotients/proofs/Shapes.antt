@@ -1,5 +1,5 @@
 -- What is given of a table's columns on its quotient's domain has the shapes that the quotient's values ask for, and is the table's.
-use Rattle.std.proofs.Common.{◌≡◌, ℕ, zero, suc, ◌+◌, ◌*◌, ◌^◌, ◌<◌, List, [], ◌∷◌, length, Option, None, Some, refl, sym, ◌∙◌, ap, subst, arith}
+use Rattle.std.proofs.Common.{◌≡◌, ℕ, zero, suc, ◌+◌, ◌*◌, ◌^◌, ◌<◌, List, [], ◌∷◌, length, Option, None, Some, Result, Ok, Err, IfOk, refl, sym, ◌∙◌, ap, subst, arith}
 use Rattle.std.specs.Prelude.{IfSome, option_to_list}
 use Rattle.p3_field.specs.Domain.{CosetData, point}
 use Rattle.p3_field.specs.Field.{TwoAdic}
@@ -20,6 +20,15 @@ use Rattle.honest_proofs.specs.HonestProof.{Prover, committed_table, terminal_of
 use Rattle.prover_quotients.specs.Held.{AreSomeValues, AreValues, HaveValues}
 use Rattle.prover_quotients.specs.Tables.{IsTracedTable}
 use Rattle.prover_quotients.specs.declared.columns.TableColumns.{TableColumns}
+
+-- of an Ok answer, what follows from what holds of it
+pub follows : {X Y : Type 0} (r : Result X Y) (P Q : X → Type 0) → IfOk r P → ((x : X) → P x → Q x) → IfOk r Q
+follows (Ok x) P Q h k = k x h
+follows (Err e) P Q h k = h
+
+pub follows_both : {X Y : Type 0} (r : Result X Y) (P Q R : X → Type 0) → IfOk r P → IfOk r Q → ((x : X) → P x → Q x → R x) → IfOk r R
+follows_both (Ok x) P Q R h i k = k x h i
+follows_both (Err e) P Q R h i k = h
 
 -- values that a backend gives at the points of its domain
 pub values_are : {F : Type 0} (f : TwoAdic F) (d : CosetData F) (points size : ℕ) (point_at : ℕ → F) (polynomials : List (List F)) (m : Rows F) → points ≡ 2 ^ d.log_size → ((i : ℕ) → point_at i ≡ point f.ring f.root d i)

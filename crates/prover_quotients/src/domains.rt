@@ -1,16 +1,13 @@
 //! The domains of a table's quotient.
 ghost use Rattle.std.specs.Prelude.{◌≡◌, ◌+◌, ◌^◌, ◌<◌, ◌≤◌};
 ghost use Rattle.std.specs.Int.{IsPowerOfTwo};
-ghost use Rattle.batch_validity.specs.Traced.{quotient_shift};
+ghost use Rattle.batch_setting.specs.Domains.{offered};
 
-use batch_setting::Settings;
-use batch_setup::natural_domain;
-use p3_commit::{CosetPcs, Pcs, PolynomialSpace, UnivariateStarkPcs};
+use p3_commit::PolynomialSpace;
 use p3_field::{
-    BasedVectorSpace, ExtensionField, Field, FieldCore, PrimeCharacteristicRing, PrimeCore64,
-    PrimeField64, RingCore, TwoAdicCore, TwoAdicField,
+    FieldCore, PrimeCharacteristicRing, RingCore, TwoAdicCore, TwoAdicField,
+    TwoAdicMultiplicativeCoset,
 };
-use p3_uni_stark::{Domain, StarkGenericConfig};
 
 // 2^`log`.
 fn shifted(log: usize) -> usize
@@ -29,15 +26,13 @@ pub(crate) fn power_of_two(log: usize) -> usize
     shifted(log)
 }
 
-// The domain of the quotient of a table with 2^`log_rows` rows that is split in 2^`log_parts` chunks: it is disjoint from the rows.
-pub(crate) fn quotient_domain<SC: StarkGenericConfig>(
-    config: &SC,
-    log_rows: usize,
+// The domain of a quotient: it is disjoint from that of the rows, and 2^`log_parts` times as large.
+pub(crate) fn quotient_domain<F: TwoAdicField>(
+    rows: TwoAdicMultiplicativeCoset<F>,
     log_parts: usize,
-) -> Domain<SC>
-    requires { log_rows + log_parts ≤ SC.Val.TWO_ADICITY }
-    ensures { result ≡ record { shift = quotient_shift (⟦<SC as Settings>⟧.setting config.now); log_size = log_rows + log_parts } }
+) -> TwoAdicMultiplicativeCoset<F>
+    requires { rows.log_size + log_parts ≤ F.TWO_ADICITY }
+    ensures { result ≡ offered F.ring F.GENERATOR rows log_parts }
 {
-    let rows = natural_domain(config, log_rows);
-    rows.create_disjoint_domain(power_of_two(log_rows + log_parts))
+    rows.create_disjoint_domain(power_of_two(rows.log_size() + log_parts))
 }

@@ -1,5 +1,5 @@
 //! Where the matrices of each table stand among those that are committed to.
-ghost use Rattle.std.specs.Prelude.{◌≡◌, ℕ, ◌<◌, IfOk, length, map};
+ghost use Rattle.std.specs.Prelude.{◌≡◌, ℕ, ◌<◌, IfOk, cond, length, map};
 ghost use Rattle.p3_field.specs.Poly.{table};
 ghost use Rattle.p3_lookup.specs.Written.{read_all};
 ghost use Rattle.batch_shape_checks.specs.ShapeChecks.{HasEntries, has_some};
@@ -56,6 +56,20 @@ fn has_lookups<F>(lookups: &Lookups<F>) -> bool
     !lookups.as_slice().is_empty()
 }
 
+// This place, where a table has lookups.
+fn place_where(own: bool, next: usize) -> Option<usize>
+    ensures { result ≡ cond own (Some next) None }
+{
+    if own { Some(next) } else { None }
+}
+
+// One where a table has lookups, else zero.
+fn count_where(own: bool) -> usize
+    ensures { result ≡ cond own 1 0 }
+{
+    if own { 1 } else { 0 }
+}
+
 // The places of the permutation columns of all tables.
 pub(crate) fn permutation_places<F>(
     alloc: Global,
@@ -66,12 +80,9 @@ pub(crate) fn permutation_places<F>(
     let mut places = Vec::with_capacity(alloc, lookups.len())?;
     let mut next: usize = 0;
     for table in lookups {
-        if has_lookups(table) {
-            places.push(Some(next))?;
-            next += 1;
-        } else {
-            places.push(None)?;
-        }
+        let own = has_lookups(table);
+        places.push(place_where(own, next))?;
+        next += count_where(own);
     }
     Ok(places)
 }

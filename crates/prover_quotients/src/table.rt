@@ -8,7 +8,6 @@ ghost use Rattle.p3_air.specs.Tree.{Tree};
 ghost use Rattle.p3_commit.specs.Space.{EachOf};
 ghost use Rattle.p3_lookup.specs.Written.{read_all};
 ghost use Rattle.committed_tables.specs.Committed.{CommittedTable};
-ghost use Rattle.committed_tables.specs.Quotient.{quotient_domain as domain_of};
 ghost use Rattle.batch_quotient.specs.Chunks.{IsChunk};
 ghost use Rattle.batch_quotient.specs.Evaluations.{quotient_values_on};
 ghost use Rattle.batch_validity.specs.Traced.{constraints, log_parts as log_parts_of, log_rows as log_rows_of, quotient_shift};
@@ -198,7 +197,8 @@ pub(crate) fn table_chunks<SC: StarkGenericConfig, A: Air<Val<SC>>>(
         IfOk result (λ v. v.items ≡ chunk_matrices c (⟦<SC as ProverSettings>⟧.prover config.now) t challenges.now alpha) }
 {
     let parts = log_parts(alloc, config, instance, lookups)?;
-    let domain = quotient_domain(config, log_rows(config, instance, lookups), parts);
+    let rows = natural_domain(config, log_rows(config, instance, lookups));
+    let domain = quotient_domain(rows, parts);
     let columns = columns_on(
         alloc,
         config,
