@@ -4,15 +4,20 @@ use Rattle.std.specs.Prelude.{count_by}
 use Rattle.p3_field.specs.Domain.{CosetData, point}
 use Rattle.p3_field.specs.Laws.Tables.{get_or-table, length-table}
 use Rattle.p3_field.specs.Poly.{table}
+use Rattle.p3_field.specs.Ring.{Ring}
 use Rattle.p3_matrix.specs.Matrix.{Rows}
-use Rattle.p3_air.specs.Shape.{HasColumns}
-use Rattle.p3_commit.specs.Commitments.{IsCommitment}
+use Rattle.std.proofs.lemmas.List.Elements.{All-map}
+use Rattle.p3_air.specs.Shape.{Declaration, HasColumns}
+use Rattle.p3_air.specs.Tree.{Tree}
+use Rattle.p3_commit.specs.Commitments.{Committed, IsCommitment}
 use Rattle.batch_proving.specs.Backend.{ProverBackend}
 use Rattle.batch_proving.specs.Batch.{Batch, IsKeptWith, IsTracedAll, all_challenges, all_permutations, main_matrices, preprocessed_all, table_at, table_count}
-use Rattle.batch_shape_checks.specs.ShapeChecks.{has_some}
+use Rattle.batch_shape_checks.specs.ShapeChecks.{has_some, no_table}
+use Rattle.batch_statement.specs.Statement.{Table, tables_of}
 use Rattle.batch_verifier.proofs.Challenges.{challenge_count}
 use Rattle.committed_tables.specs.Fields.{FieldsLaws}
 use Rattle.batch_validity.specs.Traced.{declared}
+use Rattle.honest_acceptance.specs.Laws.Opened.{kept_on}
 use Rattle.honest_proofs.specs.HonestProof.{challenges_at, committed_table, terminal_of, terminals}
 use Rattle.honest_proofs.specs.Laws.Draws.{drawn_along_it, same_challenges}
 use Rattle.prover_quotients.specs.Held.{HoldsTable}
@@ -60,3 +65,19 @@ module _ {S F E C D P R : Type 0} (b : Batch S F E C) (L : FieldsLaws b.setting.
             permutation_held = permutation_here b.setting b.prover b.statement b.traces b.degree_bits L B plain w k points point_at sizes at_points commits i lt permutation kept_last;
           });
     }
+
+-- what a backend commits to by the points of its domains it commits to by those of the cosets
+pub commitment_on : {F C D : Type 0} (r : Ring F) (root : ℕ → F) (points : CosetData F → ℕ) (point_at : CosetData F → ℕ → F) (commits : List (CosetData F × Rows F) → C → Type 0) (made : D → Type 0) (holds : D → C → List (Committed F) → Type 0)
+    → ((d : CosetData F) → points d ≡ 2 ^ d.log_size) → ((d : CosetData F) (i : ℕ) → point_at d i ≡ point r root d i) → (es : List (CosetData F × Rows F)) (x : C × D)
+    → IsCommitment r points point_at commits made holds es x → IsCommitment r (λ (d : CosetData F). 2 ^ d.log_size) (point r root) commits made holds es x
+commitment_on r root points point_at commits made holds sizes places es x K = record {
+  commitment_is = K.commitment_is;
+  made_is = K.made_is;
+  held = (K.held.0, kept_on r root points point_at sizes places es K.held.0 K.held.1, K.held.2);
+}
+
+-- AIRs have no preprocessed trace without a column
+pub columns_there : {A F : Type 0} (declaration : A → Declaration F) (trees : A → List (Tree F)) → ((a : A) → HasColumns (declaration a).preprocessed) → (airs : List A) (i : ℕ) → i < length (tables_of declaration trees airs)
+    → HasColumns (get_or (tables_of declaration trees airs) i no_table).declaration.preprocessed
+columns_there {A} {F} declaration trees columns airs i l =
+    All-map (λ (t : Table F). HasColumns t.declaration.preprocessed) (λ (a : A). record { declaration = declaration a; trees = trees a }) airs (λ j a m. columns (get_or airs j a)) i no_table l

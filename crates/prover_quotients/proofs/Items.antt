@@ -3,6 +3,8 @@ use Rattle.std.proofs.Common.{◌≡◌, ℕ, ◌+◌, ◌*◌, ◌<◌, ◌≤�
 use Rattle.std.specs.Option.{option_map}
 use Rattle.std.proofs.lemmas.List.{get_or-map, length-map}
 use Rattle.p3_field.specs.Domain.{CosetData}
+use Rattle.p3_field.specs.Laws.Tables.{get_or-table, length-table}
+use Rattle.p3_field.specs.Poly.{table}
 use Rattle.p3_matrix.specs.Matrix.{Rows, height}
 use Rattle.p3_air.specs.Shape.{Declaration}
 use Rattle.p3_air.specs.Tree.{Tree}
@@ -30,12 +32,29 @@ image_at f xs i n m x d long same h is = let k = length-map xs f in sym (item_of
 pub many : {F A : Type 0} (declaration : A → Declaration F) (trees : A → List (Tree F)) (instances : List (Instance A F)) → length (tables_of declaration trees (airs_of instances)) ≡ length instances
 many declaration trees instances = length-map (airs_of instances) (λ a. record { declaration = declaration a; trees = trees a }) ∙ length-map instances (λ i. i.air)
 
+-- as many lists of lookups
+pub lookups_long : {F A : Type 0} (declaration : A → Declaration F) (trees : A → List (Tree F)) (instances : List (Instance A F)) (lists : List (List (Written F)))
+    → length (map (read_all {F = F}) lists) ≡ length (tables_of declaration trees (airs_of instances)) → length lists ≡ length instances
+lookups_long {F = F} declaration trees instances lists long = sym (length-map lists (read_all {F = F})) ∙ (long ∙ many declaration trees instances)
+
+-- a table's place among those of the permutation columns
+pub place_at : {F C : Type 0} (view common : WrittenCommon F C) (seen : view ≡ common) (lists : List (List (Written F))) (same : lists ≡ view.lookups) (places : List (Option ℕ))
+    → places ≡ table (length lists) (permutation_place (map (read_all {F = F}) lists)) → (i n : ℕ) (x : Option ℕ) → x ≡ get_or places i x → length common.lookups ≡ n → i < n
+    → x ≡ permutation_place (map (read_all {F = F}) common.lookups) i
+place_at {F} {C} view common seen lists same places are i n x is long lt =
+    let all : lists ≡ common.lookups = same ∙ ap (λ (w : WrittenCommon F C). w.lookups) seen in
+    let inside : i < length lists = let q = ap length all in omega (arith, q, long, lt) in
+    is ∙ (ap (λ l. get_or l i x) are ∙ (get_or-table (length lists) (permutation_place (map (read_all {F = F}) lists)) i x inside ∙ ap (λ l. permutation_place (map (read_all {F = F}) l) i) all))
+
+pub place_inside : {F C : Type 0} (view common : WrittenCommon F C) (seen : view ≡ common) (lists : List (List (Written F))) (same : lists ≡ view.lookups) (places : List (Option ℕ))
+    → places ≡ table (length lists) (permutation_place (map (read_all {F = F}) lists)) → (i n : ℕ) → length common.lookups ≡ n → i < n → i < length places
+place_inside {F} {C} view common seen lists same places are i n long lt =
+    let q = ap length are ∙ (length-table (length lists) (permutation_place (map (read_all {F = F}) lists)) ∙ (ap length same ∙ ap (λ (w : WrittenCommon F C). length w.lookups) seen)) in
+    omega (arith, q, long, lt)
+
 module _ {S F E C A : Type 0} (c : Setting S F E C) (p : Prover F E C) (declaration : A → Declaration F) (trees : A → List (Tree F)) (instances : List (Instance A F)) (common : WrittenCommon F C) where
   abbrev b : Batch S F E C
   b = batch_of c p declaration trees instances common
-
-  pub lists_long : IsTracedAll b → length common.lookups ≡ length instances
-  lists_long B = sym (length-map common.lookups (read_all {F = F})) ∙ (B.lists.lookups_long ∙ many declaration trees instances)
 
   module _ (B : IsTracedAll b) (i : ℕ) (inside : i < length instances) (one : Instance A F) (is_one : one ≡ get_or instances i one)
       (view : WrittenCommon F C) (seen : view ≡ common) (lookups : List (Written F)) (is_list : lookups ≡ get_or view.lookups i lookups) where
@@ -51,7 +70,7 @@ module _ {S F E C A : Type 0} (c : Setting S F E C) (p : Prover F E C) (declarat
     table_here : table_at b i ≡ t
     table_here =
         let in_airs : i < length (airs_of instances) = let n = length-map instances (λ i. i.air) in omega (arith, n, inside) in
-        let in_lists : i < length common.lookups = let n = lists_long B in omega (arith, n, inside) in
+        let in_lists : i < length common.lookups = let n = lookups_long declaration trees instances common.lookups B.lists.lookups_long in omega (arith, n, inside) in
         let air = item_of_map (λ (x : Instance A F). x.air) instances i one one.air inside is_one in
         let own = get_or-map made (airs_of instances) i one.air no_table in_airs ∙ ap made air in
         let reads = item_of_map (read_all {F = F}) common.lookups i lookups [] in_lists (is_list ∙ ap (λ (w : WrittenCommon F C). get_or w.lookups i lookups) seen) in

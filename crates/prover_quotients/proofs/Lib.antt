@@ -6,4 +6,5 @@ pub mod Items
 pub mod Counted
 pub mod Kept
 pub mod Given
+pub mod Extended
 pub mod Verdicts

@@ -235,20 +235,20 @@ pub fn commit_quotients<SC: StarkGenericConfig, A: Air<Val<SC>>>(
     requires traced { let b = batch_of (⟦<SC as Settings>⟧.setting config.now) (⟦<SC as ProverSettings>⟧.prover config.now) A.declaration A.trees instances.now common.now in
         IsTracedAll b }
     requires preprocessed { let b = batch_of (⟦<SC as Settings>⟧.setting config.now) (⟦<SC as ProverSettings>⟧.prover config.now) A.declaration A.trees instances.now common.now in
-        IsKeptWith (λ es c. IsCommitment SC.Val.ring ⟦<<SC::Pcs as Pcs<SC::Challenge, SC::Challenger>>::Domain as PolynomialSpace>⟧.points ⟦<<SC::Pcs as Pcs<SC::Challenge, SC::Challenger>>::Domain as PolynomialSpace>⟧.point_at (SC.Pcs.commits (SC.pcs_of config.now)) (SC.Pcs.made (SC.pcs_of config.now)) (SC.Pcs.holds (SC.pcs_of config.now)) es c)
+        IsKeptWith (⟦<SC as ProverSettings>⟧.commits_to config.now)
         (preprocessed_all b) b.statement.common.preprocessed (option_map (λ d. d.now) preprocessed) }
     requires main { let b = batch_of (⟦<SC as Settings>⟧.setting config.now) (⟦<SC as ProverSettings>⟧.prover config.now) A.declaration A.trees instances.now common.now in
-        (commitment : SC.Pcs.Commitment) × IsCommitment SC.Val.ring ⟦<<SC::Pcs as Pcs<SC::Challenge, SC::Challenger>>::Domain as PolynomialSpace>⟧.points ⟦<<SC::Pcs as Pcs<SC::Challenge, SC::Challenger>>::Domain as PolynomialSpace>⟧.point_at (SC.Pcs.commits (SC.pcs_of config.now)) (SC.Pcs.made (SC.pcs_of config.now)) (SC.Pcs.holds (SC.pcs_of config.now)) (main_matrices b) (commitment, main.now) }
+        (commitment : SC.Pcs.Commitment) × ⟦<SC as ProverSettings>⟧.commits_to config.now (main_matrices b) (commitment, main.now) }
     requires drawn { let b = batch_of (⟦<SC as Settings>⟧.setting config.now) (⟦<SC as ProverSettings>⟧.prover config.now) A.declaration A.trees instances.now common.now in
         (w : Option SC.Val) × IsPairGroundOf b w × (map (λ v. v.items) challenges.now ≡ all_challenges b w) × (map (option_map (λ t. t.0)) terminals.now ≡ honest_terminals b.setting b.prover b.statement b.traces b.degree_bits w) × (alpha ≡ folding b w)
-        × KeepsSome (λ es c. IsCommitment SC.Val.ring ⟦<<SC::Pcs as Pcs<SC::Challenge, SC::Challenger>>::Domain as PolynomialSpace>⟧.points ⟦<<SC::Pcs as Pcs<SC::Challenge, SC::Challenger>>::Domain as PolynomialSpace>⟧.point_at (SC.Pcs.commits (SC.pcs_of config.now)) (SC.Pcs.made (SC.pcs_of config.now)) (SC.Pcs.holds (SC.pcs_of config.now)) es c)
+        × KeepsSome (⟦<SC as ProverSettings>⟧.commits_to config.now)
         (all_permutations b w) (option_map (λ d. d.now) permutation) }
     ensures verdict { let b = batch_of (⟦<SC as Settings>⟧.setting config.now) (⟦<SC as ProverSettings>⟧.prover config.now) A.declaration A.trees instances.now common.now in
         let k = ⟦<SC as ProverSettings>⟧.prover_backend config.now in
         IsVerdictAlong (in_turn (table_count b) (extension_part k b)) (ExtendAll k b) (committing k) result }
     ensures committed { let b = batch_of (⟦<SC as Settings>⟧.setting config.now) (⟦<SC as ProverSettings>⟧.prover config.now) A.declaration A.trees instances.now common.now in
         IfOk result (λ c. (w : Option SC.Val) → IsPairGroundOf b w
-        → IsCommitment SC.Val.ring ⟦<<SC::Pcs as Pcs<SC::Challenge, SC::Challenger>>::Domain as PolynomialSpace>⟧.points ⟦<<SC::Pcs as Pcs<SC::Challenge, SC::Challenger>>::Domain as PolynomialSpace>⟧.point_at (SC.Pcs.commits (SC.pcs_of config.now)) (SC.Pcs.made (SC.pcs_of config.now)) (SC.Pcs.holds (SC.pcs_of config.now)) (all_chunks b w) c) }
+        → ⟦<SC as ProverSettings>⟧.commits_to config.now (all_chunks b w) c) }
 {
     let ldes = all_extensions(
         alloc,
