@@ -1,5 +1,6 @@
 -- The refusal of the first check that fails tells its fact.
-use Rattle.std.proofs.Common.{◌≡◌, ℕ, zero, suc, ◌+◌, ◌<◌, ◌≤◌, List, [], ◌∷◌, ◌++◌, refl, sym, subst, arith}
+use Rattle.std.proofs.Common.{◌≡◌, ℕ, zero, suc, ◌+◌, ◌<◌, ◌≤◌, List, [], ◌∷◌, ◌++◌, refl, sym, subst, inl, inr, arith}
+use Rattle.std.proofs.lemmas.Bool.{cases_lt}
 use Rattle.p3_field.specs.Checks.{Check, FirstFails, in_turn}
 use Rattle.p3_lookup.specs.Bound.{bus_load, capped}
 use Rattle.p3_lookup.specs.Bus.{batch_buses, bus_count}
@@ -13,7 +14,7 @@ use Rattle.batch_proving.specs.Telling.{Tells}
 use Rattle.batch_proving.specs.declared.error.ProvingError.{ProvingError}
 
 -- where each check's refusal tells a fact, the first that fails does
-EachTells : {R : Type 0} (T : R → Type 0) → List (Check R) → Type 0
+abbrev EachTells : {R : Type 0} (T : R → Type 0) → List (Check R) → Type 0
 EachTells T [] = Unit {0}
 EachTells {R} T (c ∷ cs) = ((e : R) → (c.holds → ⊥) → c.refusal e → T e) × EachTells T cs
 
