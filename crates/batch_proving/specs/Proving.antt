@@ -2,7 +2,6 @@
 -- fails. After Plonky3's p3-batch-stark (prove_batch).
 use Rattle.std.specs.Prelude.{◌≡◌, ℕ, ◌^◌, ◌<◌, List, [], ◌∷◌, ◌++◌, All, Option}
 use Rattle.p3_field.specs.Checks.{Check, check, in_turn}
-use Rattle.p3_field.specs.Domain.{CosetData}
 use Rattle.p3_matrix.specs.Matrix.{Rows}
 use Rattle.p3_commit.specs.Claims.{Request}
 use Rattle.p3_commit.specs.Commitments.{AreExtensions, AreHeld}

@@ -1,8 +1,8 @@
 -- Answers for lists of checks behind each other, and for checks in turn.
-use Rattle.std.proofs.Common.{◌≡◌, ℕ, ◌<◌, List, [], ◌∷◌, ◌++◌, Result, Ok, Err, sym, subst}
+use Rattle.std.proofs.Common.{◌≡◌, ℕ, ◌<◌, List, ◌++◌, Result, Ok, Err, sym, subst}
 use Rattle.std.specs.Result.{IsErrAnd}
 use Rattle.p3_field.specs.Checks.{Check, NoneFails, FirstFails, in_turn}
-use Rattle.p3_field.specs.Laws.Checks.{none_append, first_stops, first_after, first_here, refused_in_turn}
+use Rattle.p3_field.specs.Laws.Checks.{none_append, first_stops, first_after, refused_in_turn}
 use Rattle.batch_proving.specs.Verdict.{IsProverVerdict, IsProverRefusal}
 use Rattle.batch_proving.specs.declared.error.ProvingError.{ProvingError}
 use Rattle.batch_proving.specs.declared.error.ProvingError.TheVariants.{Pcs, MultiplicityBound, LookupDenominatorZero, WitnessNotFound, OutOfMemory}
