@@ -1,5 +1,5 @@
 -- What is stated of a job's table fits the table.
-use Rattle.std.proofs.Common.{◌≡◌, ℕ, ◌<◌, ◌≤◌, ◌^◌, List, [], ◌∷◌, length, map, get_or, All, zero, suc, refl, sym, ap, subst, arith}
+use Rattle.std.proofs.Common.{◌≡◌, ℕ, ◌<◌, ◌≤◌, ◌^◌, List, [], ◌∷◌, length, map, get_or, All, refl, sym, subst, arith}
 use Rattle.std.specs.Int.{IsPowerOfTwo}
 use Rattle.std.proofs.lemmas.List.{get_or-map, length-map}
 use Rattle.p3_field.specs.BabyBear.{bear_ring}
@@ -8,7 +8,6 @@ use Rattle.p3_matrix.specs.Laws.Powers.{power_le_cancel}
 use Rattle.batch_setup.specs.Laws.Logarithms.{log_of_power}
 use Rattle.batch_setup.specs.Setup.{log_of}
 use Rattle.tool_statement.specs.StatedTables.{TableWithin, log_height_of, log_heights_of, publics_lists, publics_of, source_of_table, sources_of}
-use Rattle.tool_statement.specs.declared.table.TableStatement.{TableStatement}
 use Rattle.tool_validity.specs.Job.{IsWithin, JobTable, swap_of, wheel_of, take_of, give_of, source_of_job}
 use Rattle.tool_validity.specs.Job.{log_height_of as rows_log_of, publics_of as table_publics}
 use Rattle.tool_jobs.specs.Stated.{statement_of, statements_for}

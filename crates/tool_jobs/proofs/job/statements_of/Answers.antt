@@ -1,4 +1,4 @@
-use Rattle.std.proofs.Common.{◌≡◌, List, All, map, sym, ◌∙◌, ap, subst}
+use Rattle.std.proofs.Common.{List, All, sym, ◌∙◌, ap, subst}
 use Rattle.std.proofs.lemmas.Result.{IfOk-weaker}
 use Rattle.tool_statement.specs.StatedTables.{TableWithin, log_heights_of, publics_lists, sources_of}
 use Rattle.tool_statement.specs.declared.table.TableStatement.{TableStatement}
