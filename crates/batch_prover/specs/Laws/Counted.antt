@@ -1,5 +1,5 @@
 -- How many terminals there are, and that permutation columns are committed to exactly where there are some.
-use Rattle.std.proofs.Common.{◌≡◌, ℕ, zero, suc, ◌+◌, ◌<◌, List, [], ◌∷◌, length, get_or, Option, None, Some, refl, sym, ◌∙◌, ap, subst, arith}
+use Rattle.std.proofs.Common.{◌≡◌, ℕ, zero, suc, ◌+◌, ◌<◌, List, [], ◌∷◌, length, get_or, Option, None, Some, refl, sym, ◌∙◌, ap, subst, zero-add, arith}
 use Rattle.std.specs.Prelude.{count_by, is_some}
 use Rattle.std.specs.List.{filter_map}
 use Rattle.p3_field.specs.Domain.{CosetData}

@@ -16,7 +16,7 @@ use Rattle.batch_transcript.specs.Buses.{batch_layout}
 use Rattle.batch_transcript.specs.Grinding.{IsGround, IsPairGround}
 use Rattle.batch_transcript.specs.Running.{Plays, Running, drawn_along}
 use Rattle.batch_validity.specs.Valid.{IsTracedBatch}
-use Rattle.honest_proofs.specs.HonestProof.{Prover, alpha, challenges_at, opening_state, pair, permutation_part, quotient_part, shape, state_at_ood, state_at_pair, state_at_permutation, state_at_quotient, terminals, zeta}
+use Rattle.honest_proofs.specs.HonestProof.{Prover, alpha, behind, challenges_at, first_drawn, opening_state, pair, permutation_part, quotient_part, shape, state_at_ood, state_at_pair, state_at_permutation, state_at_quotient, terminals, zeta}
 
 -- the layout has a list for each table
 layout_long : {F E : Type 0} (e : Ring E) (drawn : List E) (tables : List (List (LookupData F))) → length (batch_layout e drawn tables) ≡ length tables
@@ -39,8 +39,34 @@ module _ {S F E C : Type 0} (c : Setting S F E C) (p : Prover F E C) (s : Statem
   -- the states, one behind the other, and what is drawn between them
   pub behind_pair : (w : Option F) (x y : Running S) (drawn : List E) → Plays c.challenger (pairs w) x y drawn → x.state ≡ state_at_pair c p s traces degree_bits → y.state ≡ state_at_permutation c p s traces degree_bits w
   unfolding state_at_permutation
-  behind_pair w x y drawn P here = P.state ∙ ap (λ z. (behind_of z)) here
-    where
-      behind_of : S → S
-      behind_of z = ?
+  behind_pair w x y drawn P here = P.state ∙ ap (λ z. behind c.challenger z (pairs w)) here
 
+  module _ (w : Option F) (columns : Option C) (ends : List E) (are : columns ≡ permutation_part c p s traces degree_bits w) (end : ends ≡ filter_map (λ t. t) (terminals c p s traces degree_bits w))
+      (x y : Running S) (a : E) (P : Plays c.challenger (permutation_script c.extension.dimension columns ends) x y (a ∷ [])) (here : x.state ≡ state_at_permutation c p s traces degree_bits w) where
+    abbrev folds : List (Played F E C)
+    folds = permutation_script c.extension.dimension (permutation_part c p s traces degree_bits w) (filter_map (λ t. t) (terminals c p s traces degree_bits w))
+
+    same_folds : permutation_script c.extension.dimension columns ends ≡ folds
+    same_folds = λ i. permutation_script c.extension.dimension (are i) (end i)
+
+    pub alpha_is : a ≡ alpha c p s traces degree_bits w
+    unfolding alpha
+    alpha_is = ap (λ l. get_or l 0 c.extension.ring.zero) P.challenges ∙ (λ i. first_drawn c.challenger c.extension.ring.zero (here i) (same_folds i))
+
+    pub behind_alpha : y.state ≡ state_at_quotient c p s traces degree_bits w
+    unfolding state_at_quotient
+    behind_alpha = P.state ∙ (λ i. behind c.challenger (here i) (same_folds i))
+
+  pub behind_quotient : (w : Option F) (q : C) (x y : Running S) → q ≡ quotient_part c p s traces degree_bits w → Plays c.challenger (quotient_script q None) x y []
+      → x.state ≡ state_at_quotient c p s traces degree_bits w → y.state ≡ state_at_ood c p s traces degree_bits w
+  unfolding state_at_ood
+  behind_quotient w q x y is P here = P.state ∙ (λ i. behind c.challenger (here i) (quotient_script (is i) None))
+
+  module _ (w : Option F) (z : F) (x y : Running S) (point : E) (P : Plays c.challenger (ood_script c.extension.dimension c.ood_bits z) x y (point ∷ [])) (here : x.state ≡ state_at_ood c p s traces degree_bits w) where
+    pub zeta_is : point ≡ zeta c p s traces degree_bits w z
+    unfolding zeta
+    zeta_is = ap (λ l. get_or l 0 c.extension.ring.zero) P.challenges ∙ (λ i. first_drawn c.challenger c.extension.ring.zero (here i) (ood_script c.extension.dimension c.ood_bits z))
+
+    pub behind_zeta : y.state ≡ opening_state c p s traces degree_bits w z
+    unfolding opening_state
+    behind_zeta = P.state ∙ (λ i. behind c.challenger (here i) (ood_script c.extension.dimension c.ood_bits z))
