@@ -1,6 +1,6 @@
 //! Proofs of swap tables by a prover that knows its challenges before it commits to anything. Its quotient is a constant, which fits the
 //! identity at one point.
-ghost use Rattle.std.specs.Prelude.{◌≡◌, ◌*◌, ◌/◌, length};
+ghost use Rattle.std.specs.Prelude.{◌≡◌};
 ghost use Rattle.p3_field.specs.Quartic.{quartic_ring};
 
 use crate::callers::verified;
