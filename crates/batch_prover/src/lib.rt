@@ -4,10 +4,4 @@
 //! of their own; here they are put together along the prover's transcript.
 #![tactic(auto)]
 
-mod lookups;
-mod opened;
-mod prover;
-mod quotients;
-mod transcript;
-
-pub use prover::{prove_batch, prove_batch_with_point};
+pub mod transcript;

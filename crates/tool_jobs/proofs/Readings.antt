@@ -1,10 +1,10 @@
 -- How the reading stops of a list whose number of items is a power of two, and of a table behind its kind.
-use Rattle.std.proofs.Common.{◌≡◌, ℕ, suc, ◌+◌, ◌<◌, ◌≤◌, ◌^◌, List, [], ◌∷◌, ◌++◌, length, refl, sym, ◌∙◌, ap, subst, arith, append_assoc, Result, Ok, Err}
+use Rattle.std.proofs.Common.{◌≡◌, ℕ, suc, ◌<◌, ◌≤◌, ◌^◌, List, [], ◌∷◌, ◌++◌, length, refl, sym, ◌∙◌, ap, subst, arith, append_assoc, Result, Ok, Err}
 use Rattle.std.specs.Int.{IsPowerOfTwo}
-use Rattle.std.specs.Prelude.{decimal, map}
+use Rattle.std.specs.Prelude.{decimal}
 use Rattle.std.proofs.lemmas.Nat.{pow_pos}
 use Rattle.line_format.specs.Texts.{Between, Grammar, ItemsWithin, Reads, ReadsKnown, ReadsOne, Stops, items_words, line_text, list_words, number_words}
-use Rattle.line_format.specs.Laws.Grammars.{head-same, items-grammar, tail-same}
+use Rattle.line_format.specs.Laws.Grammars.{head-same, items-grammar}
 use Rattle.line_format.specs.Laws.Lines.{same-line}
 use Rattle.line_format.specs.Laws.Stops.{pair-first, pair-reads, pair-second, same-reads, same-stops}
 use Rattle.line_format.specs.declared.texts.ItemError.{ItemError}

@@ -1,5 +1,5 @@
 -- The least value that a job takes in another number than it gives.
-use Rattle.std.specs.Prelude.{◌≡◌, ℕ, ◌<◌, ◌==◌, Bool, List, sum_by}
+use Rattle.std.specs.Prelude.{◌≡◌, ◌<◌, ◌==◌, Bool, List, sum_by}
 use Rattle.p3_field.specs.declared.baby_bear.BabyBear.{BabyBear}
 use Rattle.tool_validity.specs.Job.{JobTable, times_given, times_taken}
 

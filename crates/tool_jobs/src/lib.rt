@@ -1,7 +1,8 @@
 //! The program's jobs of four kinds of tables: their text, their traces, what is stated of them, and whether they are balanced.
 //!
-//! The definitions that contracts cite are in `specs/`: how a job is seen as plain data, its limits and its words (`Jobs`), and the least
-//! value that is unbalanced (`Unbalanced`). Traces and balance themselves are defined in `tool_validity`.
+//! The definitions that contracts cite are in `specs/`: how a job is seen as plain data, its limits and its words (`Jobs`), what is stated
+//! of a table (`Stated`), and the least value that is unbalanced (`Unbalanced`). Jobs themselves, their traces and when they are balanced
+//! are defined in `tool_validity`.
 #![tactic(auto)]
 
 mod balance;

@@ -57,7 +57,8 @@ pub enum JobTable {
 fn log_of_words(count: usize) -> u8
     requires power { IsPowerOfTwo count }
     requires few { count ≤ 1024 }
-    ensures { result ≡ log_of count }
+    ensures value { result ≡ log_of count }
+    ensures few { result ≤ 10 }
 {
     log2_strict_usize(count) as u8
 }

@@ -2,10 +2,12 @@
 use super::*;
 use line_format::TextError;
 use p3_field::{BabyBear, RingCore};
+use std::alloc::Global;
 use std::test::Fail;
+use tool_statement::TableStatement;
 
 // The line of the text's fault.
-fn fault(alloc: std::alloc::Global, text: &[u8]) -> Option<u64> {
+fn fault(alloc: Global, text: &[u8]) -> Option<u64> {
     match read_job(alloc, text) {
         Err(TextError::Malformed { line }) => Some(line),
         _ => None,
@@ -96,5 +98,33 @@ fn traces_row_by_row(rt: HostRuntime) -> Result<(), Fail> {
             .collect::<Vec<_>>(alloc)?;
         assert_eq!(rt; traces[i].as_slice(), cells.as_slice());
     }
+    Ok(())
+}
+
+#[test]
+fn what_is_stated(rt: HostRuntime) -> Result<(), Fail> {
+    let alloc = rt.alloc();
+    let text = "5\n1\n0\n5\n7\n1\n1\n5\n7\n2\n3\n3\n4\n5\n6\n7\n8\n4\n1\n5\n2\n";
+    let job = read_job(alloc, text.as_bytes()).ok().ok_or("a job")?;
+    let five = BabyBear::from_u64(5);
+    let seven = BabyBear::from_u64(7);
+    let wanted = [
+        TableStatement::Swap {
+            k: 0,
+            a: five,
+            b: seven,
+            x: seven,
+        },
+        TableStatement::Swap {
+            k: 1,
+            a: five,
+            b: seven,
+            x: five,
+        },
+        TableStatement::Wheel { k: 3 },
+        TableStatement::Take { k: 2 },
+        TableStatement::Give { k: 0 },
+    ];
+    assert_eq!(rt; statements_of(alloc, &job)?.as_slice(), wanted.as_slice());
     Ok(())
 }

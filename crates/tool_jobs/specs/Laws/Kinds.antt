@@ -1,5 +1,5 @@
 -- The words of a table behind its kind tell the table, kind by kind.
-use Rattle.std.proofs.Common.{◌≡◌, ℕ, zero, suc, ◌<◌, ◌≤◌, List, [], ◌∷◌, refl, arith}
+use Rattle.std.proofs.Common.{◌≡◌, ℕ, zero, suc, ◌≤◌, List, [], ◌∷◌, refl, arith}
 use Rattle.p3_field.specs.declared.baby_bear.BabyBear.{BabyBear}
 use Rattle.line_format.specs.Texts.{Between, Grammar, Unlimited, element_words, list_words, number_words}
 use Rattle.line_format.specs.Laws.Grammars.{SameTexts, ThenWithin, TwoWithin, element-grammar, number-grammar, pair_words, same-grammar, then-grammar, two-grammar, two_words}

@@ -2,7 +2,6 @@ use Rattle.std.proofs.Common.{List, rules, sym, subst}
 use Rattle.std.specs.List.Sorted.{IsNonDecreasingBy, IsPermutation}
 use Rattle.std.proofs.lemmas.List.Sorted.{IsNonDecreasingBy-from_sort_by_key}
 use Rattle.tool_jobs.specs.Jobs.{read_tables}
-use Rattle.tool_jobs.specs.Tallies.{tallies_of}
 use Rattle.tool_jobs.specs.declared.balance.Tally.{Tally}
 use Rattle.tool_jobs.proofs.Counted.{answered-none, answered-some}
 use Rattle.tool_jobs.proofs.balance.first_unbalanced.Goals as goal

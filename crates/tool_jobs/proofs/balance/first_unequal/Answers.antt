@@ -1,4 +1,4 @@
-use Rattle.std.proofs.Common.{◌≤◌, get_or, arith}
+use Rattle.std.proofs.Common.{get_or, arith}
 use Rattle.std.proofs.lemmas.List.{get_or_default}
 use Rattle.tool_jobs.specs.declared.balance.Tally.{Tally}
 use Rattle.tool_jobs.proofs.Runs.{end-equal, end-unequal, seen-as, seen-next, seen-same, seen-stops}

@@ -1,4 +1,4 @@
-use Rattle.std.proofs.Common.{◌≡◌, List, ◌++◌, ◌∷◌, [], map, take, ◌∙◌, ap, refl}
+use Rattle.std.proofs.Common.{◌++◌, ◌∷◌, [], map, take, ◌∙◌, ap, refl}
 use Rattle.p3_field.specs.BabyBear.{bear_ring}
 use Rattle.p3_field.specs.declared.baby_bear.BabyBear.{BabyBear}
 use Rattle.tool_validity.specs.Job.{give_row}
