@@ -1,9 +1,10 @@
--- The answers for the tables of a batch are those for the challenges that an honest proof has.
-use Rattle.std.proofs.Common.{◌≡◌, ℕ, zero, suc, ◌+◌, ◌^◌, ◌<◌, List, [], ◌∷◌, ◌++◌, get_or, Option, inl, inr, refl, sym, ◌∙◌, ap, subst, arith}
+-- The answers of what the backend is asked for the quotients of a batch, whose challenges are those of an honest proof.
+use Rattle.std.proofs.Common.{◌≡◌, ℕ, zero, suc, ◌+◌, ◌^◌, ◌<◌, List, [], ◌∷◌, ◌++◌, get_or, Option, Result, Ok, Err, inl, inr, refl, sym, ◌∙◌, ap, subst, arith}
 use Rattle.std.specs.List.{flat_map}
+use Rattle.std.specs.Result.{IsErrAnd}
 use Rattle.p3_field.specs.Checks.{Check, FirstFails, NoneFails, in_turn}
 use Rattle.p3_field.specs.Domain.{CosetData}
-use Rattle.p3_field.specs.Laws.Checks.{first_after, first_parted, first_stops, none_at, none_of_each}
+use Rattle.p3_field.specs.Laws.Checks.{first_after, first_parted, first_stops, none_append, none_at, none_of_each}
 use Rattle.p3_field.specs.Laws.Tables.{get_or-table}
 use Rattle.p3_field.specs.Poly.{table}
 use Rattle.p3_matrix.specs.Matrix.{Rows}
@@ -11,14 +12,14 @@ use Rattle.p3_commit.specs.Commitments.{AreExtensions}
 use Rattle.p3_commit.specs.Failure.{NoneOf}
 use Rattle.batch_proving.specs.Backend.{ProverBackend}
 use Rattle.batch_proving.specs.Batch.{Batch, all_challenges, all_chunks, chunks_of, folding, log_parts_at, table_at, table_count}
-use Rattle.batch_proving.specs.Laws.Verdicts.{refusal_along}
-use Rattle.batch_proving.specs.Proving.{IsPairGroundOf, IsPcsRefusal, extension_part}
-use Rattle.batch_proving.specs.Verdict.{IsProverRefusal}
+use Rattle.batch_proving.specs.Laws.Verdicts.{answer_along, answer_before, answer_behind, answer_exits, refusal_along, refusal_is}
+use Rattle.batch_proving.specs.Proving.{IsPairGroundOf, IsPcsRefusal, extension_part, quotient_part}
+use Rattle.batch_proving.specs.Verdict.{FirstRefused, IsProverAnswer, IsProverRefusal, IsProverVerdict}
 use Rattle.batch_proving.specs.declared.error.ProvingError.{ProvingError}
 use Rattle.batch_setup.specs.declared.error.ProverPhase.TheVariants.{QuotientEvaluations}
 use Rattle.honest_proofs.specs.HonestProof.{AreCanonical, challenges_at, chunk_matrices}
 use Rattle.honest_proofs.specs.Laws.Ground.{one_lookup}
-use Rattle.prover_quotients.specs.Asked.{ExtendAll, extending_at}
+use Rattle.prover_quotients.specs.Asked.{committing, extending_at}
 use Rattle.prover_quotients.specs.Tables.{chunks_below, chunks_by}
 
 -- checks of n things in turn, each of which fails where the other does
@@ -66,20 +67,49 @@ module _ {S F E C D P R : Type 0} (k : ProverBackend S F E C D P R) (b : Batch S
   ]
 
   -- none of the tables is refused
-  pub none_of_all : (n : ℕ) → n ≡ table_count b → NoneFails (in_turn n (extending_at k b challenges alpha)) → NoneFails (in_turn (table_count b) (extension_part k b))
+  none_of_all : (n : ℕ) → n ≡ table_count b → NoneFails (in_turn n (extending_at k b challenges alpha)) → NoneFails (in_turn (table_count b) (extension_part k b))
   none_of_all n many h =
       none_as (extending_at k b challenges alpha) (extension_part k b) (table_count b) none_here
       (subst (λ m. NoneFails (in_turn m (extending_at k b challenges alpha))) many h)
 
   -- or one is
-  pub refusal_of_all : (n : ℕ) (e : ProvingError R) → n ≡ table_count b → IsProverRefusal (in_turn n (extending_at k b challenges alpha)) e → IsProverRefusal (in_turn (table_count b) (extension_part k b)) e
+  refusal_of_all : (n : ℕ) (e : ProvingError R) → n ≡ table_count b → IsProverRefusal (in_turn n (extending_at k b challenges alpha)) e → IsProverRefusal (in_turn (table_count b) (extension_part k b)) e
   refusal_of_all n e many v =
       let f = extending_at k b challenges alpha in
       refusal_along (in_turn (table_count b) f) (in_turn (table_count b) (extension_part k b)) e (λ d. first_as f (extension_part k b) (table_count b) d none_here (λ i l. first_here i d l))
       (subst (λ m. IsProverRefusal (in_turn m f) e) many v)
 
-  -- the extensions of all chunks
-  pub extend_all : (n : ℕ) (ldes : List (Rows F)) → n ≡ table_count b → AreExtensions k.extends (chunks_below b challenges alpha n) ldes → ExtendAll k b ldes
+  -- these are extensions of the chunks of all quotients
+  abbrev pub ExtendAll : List (Rows F) → Type 0
+  ExtendAll ldes = (v : Option F) → IsPairGroundOf b v → AreExtensions k.extends (all_chunks b v) ldes
+
+  pub extend_all : (n : ℕ) (ldes : List (Rows F)) → n ≡ table_count b → AreExtensions k.extends (chunks_below b challenges alpha n) ldes → ExtendAll ldes
   extend_all n ldes many A = λ v H.
       let same : chunks_below b challenges alpha (table_count b) ≡ all_chunks b v = sym (flat_same (chunks_of b v) (chunks_by b challenges alpha) (table_count b) (λ i. i) (same_chunks v H)) in
       subst (λ ms. AreExtensions k.extends ms ldes) same (subst (λ m. AreExtensions k.extends (chunks_below b challenges alpha m) ldes) many A)
+
+  -- the answer where a table is refused
+  pub answer_refused : {T : Type 0} (n : ℕ) (e : ProvingError R) (r : Result T (ProvingError R)) → n ≡ table_count b → IsErrAnd r (λ y. y ≡ e) → IsProverRefusal (in_turn n (extending_at k b challenges alpha)) e
+      → IsProverAnswer (in_turn (table_count b) (extension_part k b) ++ quotient_part k b) r
+  answer_refused n e r many exit v =
+      let xs = in_turn (table_count b) (extension_part k b) in
+      answer_exits (xs ++ quotient_part k b) e r exit (answer_before xs (quotient_part k b) e (refusal_is xs e (refusal_of_all n e many v)))
+
+  -- and where none is: that of the commitment to what extends all
+  committed_refused : (ldes : List (Rows F)) → ExtendAll ldes → (e : ProvingError R) → FirstRefused (committing k ldes) e → FirstRefused (quotient_part k b) e
+  unfolding FirstRefused
+  committed_refused ldes A e f = elim f [
+    | inl later ↦ absurd later.1
+    | inr here ↦ inr (w, G, (ldes, A w G, here))
+  ]
+
+  committed_granted : (ldes : List (Rows F)) → ExtendAll ldes → NoneFails (committing k ldes) → NoneFails (quotient_part k b)
+  unfolding NoneFails
+  committed_granted ldes A h = ((λ v H. (ldes, A v H, h.0)), tt)
+
+  pub answer_granted : {T : Type 0} (n : ℕ) (ldes : List (Rows F)) (r : Result T (ProvingError R)) → n ≡ table_count b → NoneFails (in_turn n (extending_at k b challenges alpha)) → ExtendAll ldes
+      → IsProverVerdict (committing k ldes) r → IsProverAnswer (in_turn (table_count b) (extension_part k b) ++ quotient_part k b) r
+  answer_granted n ldes (Ok t) many none A v = none_append (in_turn (table_count b) (extension_part k b)) (quotient_part k b) (none_of_all n many none) (committed_granted ldes A v)
+  answer_granted n ldes (Err e) many none A v =
+      let xs = in_turn (table_count b) (extension_part k b) in
+      answer_behind xs (quotient_part k b) e (none_of_all n many none) (answer_along (committing k ldes) (quotient_part k b) e (committed_refused ldes A) (refusal_is (committing k ldes) e v))

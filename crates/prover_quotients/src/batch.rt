@@ -1,5 +1,5 @@
 //! The quotients of a batch, and their commitment.
-ghost use Rattle.std.specs.Prelude.{◌≡◌, ℕ, ◌<◌, [], IfOk, length, map, Option, false};
+ghost use Rattle.std.specs.Prelude.{◌≡◌, ℕ, ◌<◌, ◌++◌, [], IfOk, length, map, Option, false};
 ghost use Rattle.std.specs.Option.{option_map};
 ghost use Rattle.p3_field.specs.Checks.{in_turn};
 ghost use Rattle.p3_commit.specs.Commitments.{AreExtensions, IsCommitment};
@@ -9,9 +9,9 @@ ghost use Rattle.p3_matrix.specs.Matrix.{Rows};
 ghost use Rattle.std.specs.Prelude.{List};
 ghost use Rattle.honest_proofs.specs.HonestProof.{terminals as honest_terminals};
 ghost use Rattle.batch_proving.specs.Batch.{IsKeptWith, IsTracedAll, all_challenges, all_chunks, all_permutations, batch_of, folding, log_parts_at, main_matrices, preprocessed_all, table_count};
-ghost use Rattle.batch_proving.specs.Proving.{IsPairGroundOf, extension_part};
-ghost use Rattle.batch_proving.specs.Verdict.{IsProverVerdict};
-ghost use Rattle.prover_quotients.specs.Asked.{ExtendAll, IsVerdictAlong, committing, extending, extending_at};
+ghost use Rattle.batch_proving.specs.Proving.{IsPairGroundOf, extension_part, quotient_part};
+ghost use Rattle.batch_proving.specs.Verdict.{IsProverAnswer, IsProverVerdict};
+ghost use Rattle.prover_quotients.specs.Asked.{committing, extending, extending_at};
 ghost use Rattle.prover_quotients.specs.Places.{permutation_place};
 ghost use Rattle.prover_quotients.specs.Tables.{AreGiven, KeepsSome, chunks_below, chunks_by};
 
@@ -245,7 +245,7 @@ pub fn commit_quotients<SC: StarkGenericConfig, A: Air<Val<SC>>>(
         (all_permutations b w) (option_map (λ d. d.now) permutation) }
     ensures verdict { let b = batch_of (⟦<SC as Settings>⟧.setting config.now) (⟦<SC as ProverSettings>⟧.prover config.now) A.declaration A.trees instances.now common.now in
         let k = ⟦<SC as ProverSettings>⟧.prover_backend config.now in
-        IsVerdictAlong (in_turn (table_count b) (extension_part k b)) (ExtendAll k b) (committing k) result }
+        IsProverAnswer (in_turn (table_count b) (extension_part k b) ++ quotient_part k b) result }
     ensures committed { let b = batch_of (⟦<SC as Settings>⟧.setting config.now) (⟦<SC as ProverSettings>⟧.prover config.now) A.declaration A.trees instances.now common.now in
         IfOk result (λ c. (w : Option SC.Val) → IsPairGroundOf b w
         → ⟦<SC as ProverSettings>⟧.commits_to config.now (all_chunks b w) c) }

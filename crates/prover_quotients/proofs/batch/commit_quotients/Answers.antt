@@ -5,11 +5,10 @@ use Rattle.p3_field.specs.Laws.TwoAdic.{decide_by}
 use Rattle.batch_proving.specs.Backend.{ProverBackend}
 use Rattle.batch_setup.specs.Setup.{airs_of}
 use Rattle.honest_proofs.specs.HonestProof.{AreCanonical}
-use Rattle.prover_quotients.specs.Laws.Along.{along_after, along_refused}
 use Rattle.prover_quotients.proofs.Given.{are_given, columns_there, commitment_on}
 use Rattle.prover_quotients.proofs.Items.{many}
 use Rattle.prover_quotients.proofs.Shapes.{follows}
-use Rattle.prover_quotients.proofs.Verdicts.{extend_all, none_of_all, refusal_of_all}
+use Rattle.prover_quotients.proofs.Verdicts.{answer_granted, answer_refused, extend_all}
 use Rattle.prover_quotients.proofs.batch.commit_quotients.Given.{Over}
 use Rattle.prover_quotients.proofs.batch.commit_quotients.Goals as goal
 
@@ -59,16 +58,14 @@ unfolding backend
 returns-in_err-ldes-clause-verdict g c =
     let drawn = c.requires.drawn in
     let count = sym (many g.A.BaseAir.declaration g.A.Air.trees c.args.instances.now) in
-    along_refused _ _ _ _ _ c.from_residual.ensures.1
-    (refusal_of_all (backend g c.args.config.now) _ (numbers g) drawn.0 drawn.1 _ _ drawn.2 drawn.4 _ _ count c.in_err-ldes.ensures.verdict)
+    answer_refused (backend g c.args.config.now) _ (numbers g) drawn.0 drawn.1 _ _ drawn.2 drawn.4 _ _ _ count c.from_residual.ensures.1 c.in_err-ldes.ensures.verdict
 
 pub returns-clause-verdict : goal.returns-clause-verdict
 unfolding backend
 returns-clause-verdict g c =
     let drawn = c.requires.drawn in
     let count = sym (many g.A.BaseAir.declaration g.A.Air.trees c.args.instances.now) in
-    along_after _ _ _ c.in_ok-ldes.ldes.items c.committed.result
-    (none_of_all (backend g c.args.config.now) _ (numbers g) drawn.0 drawn.1 _ _ drawn.2 drawn.4 _ count c.in_ok-ldes.ensures.verdict)
+    answer_granted (backend g c.args.config.now) _ (numbers g) drawn.0 drawn.1 _ _ drawn.2 drawn.4 _ c.in_ok-ldes.ldes.items c.committed.result count c.in_ok-ldes.ensures.verdict
     (extend_all (backend g c.args.config.now) _ (numbers g) drawn.0 drawn.1 _ _ drawn.2 drawn.4 _ c.in_ok-ldes.ldes.items count c.in_ok-ldes.ensures.extensions) c.committed.ensures.verdict
 
 pub returns-clause-committed : goal.returns-clause-committed
