@@ -1,9 +1,8 @@
 -- What is given of a traced batch when its quotients are made.
-use Rattle.std.proofs.Common.{◌≡◌, ℕ, ◌*◌, ◌^◌, ◌<◌, ◌≤◌, List, [], length, map, get_or, Option, None, false, refl, sym, ◌∙◌, ap, subst, arith}
+use Rattle.std.proofs.Common.{◌≡◌, ℕ, ◌*◌, ◌^◌, ◌<◌, List, [], length, get_or, Option, None, false, refl, sym, ◌∙◌, ap, subst, arith}
 use Rattle.std.specs.Prelude.{count_by}
 use Rattle.p3_field.specs.Domain.{CosetData, point}
 use Rattle.p3_field.specs.Laws.Tables.{get_or-table, length-table}
-use Rattle.p3_field.specs.Poly.{table}
 use Rattle.p3_field.specs.Ring.{Ring}
 use Rattle.p3_matrix.specs.Matrix.{Rows}
 use Rattle.std.proofs.lemmas.List.Elements.{All-map}

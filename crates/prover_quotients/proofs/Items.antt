@@ -1,18 +1,17 @@
 -- One table of a batch by its items in the lists that are given.
-use Rattle.std.proofs.Common.{◌≡◌, ℕ, ◌+◌, ◌*◌, ◌<◌, ◌≤◌, List, [], length, map, get_or, Option, None, refl, sym, ◌∙◌, ap, subst, arith}
+use Rattle.std.proofs.Common.{◌≡◌, ℕ, ◌+◌, ◌*◌, ◌<◌, ◌≤◌, List, [], length, map, get_or, Option, None, sym, ◌∙◌, ap, subst, arith}
 use Rattle.std.specs.Option.{option_map}
 use Rattle.std.proofs.lemmas.List.{get_or-map, length-map}
-use Rattle.p3_field.specs.Domain.{CosetData}
 use Rattle.p3_field.specs.Laws.Tables.{get_or-table, length-table}
 use Rattle.p3_field.specs.Poly.{table}
-use Rattle.p3_matrix.specs.Matrix.{Rows, height}
+use Rattle.p3_matrix.specs.Matrix.{height}
 use Rattle.p3_air.specs.Shape.{Declaration}
 use Rattle.p3_air.specs.Tree.{Tree}
 use Rattle.p3_lookup.specs.Written.{Written, read, read_all}
 use Rattle.batch_proving.specs.Backend.{ProverBackend}
 use Rattle.batch_proving.specs.Batch.{Batch, IsTracedAll, batch_of, table_at, table_count}
 use Rattle.batch_setting.specs.Setting.{Setting, masks}
-use Rattle.batch_setup.specs.Setup.{Instance, airs_of, bits_of, log_of}
+use Rattle.batch_setup.specs.Setup.{Instance, airs_of, log_of}
 use Rattle.batch_shape_checks.proofs.Items.{item_of_map}
 use Rattle.batch_shape_checks.specs.ShapeChecks.{no_table}
 use Rattle.batch_statement.specs.Statement.{Table, WrittenCommon, entry_of, tables_of}

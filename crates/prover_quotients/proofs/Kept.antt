@@ -12,7 +12,6 @@ use Rattle.p3_field.specs.Poly.{table}
 use Rattle.p3_matrix.specs.Matrix.{Rows}
 use Rattle.p3_air.specs.Shape.{Declaration, HasColumns, width_of}
 use Rattle.p3_commit.specs.Commitments.{AreCommitted, Committed, IsCommitment}
-use Rattle.p3_lookup.specs.Lookup.{LookupData}
 use Rattle.batch_claims.specs.Claims.{declared_at, matrix_tables}
 use Rattle.batch_setting.specs.Setting.{Setting}
 use Rattle.batch_shape_checks.specs.ShapeChecks.{has_some, no_table, permutation_width}
@@ -29,10 +28,10 @@ use Rattle.committed_tables.specs.Rows.{CommitsTo, InterpolateSome}
 use Rattle.honest_acceptance.specs.Laws.Kept.{mains_kept, permutations_kept, preprocesseds_kept}
 use Rattle.honest_acceptance.specs.Laws.Lengths.{honest_commits, permutation_count}
 use Rattle.honest_acceptance.specs.Laws.Opened.{kept_on}
-use Rattle.honest_acceptance.specs.Rounds.{OpenedMatrix, committed_of, main_opened, of_table, permutation_opened, permutations, preprocessed_opened}
+use Rattle.honest_acceptance.specs.Rounds.{OpenedMatrix, committed_of, main_opened, of_table, permutation_opened, preprocessed_opened}
 use Rattle.honest_proofs.specs.HonestProof.{Prover, challenges_at, committed_at, permutation_columns, permutation_matrices, where_some}
-use Rattle.prover_quotients.specs.Held.{HoldsAt, HoldsSome, HoldsTable}
-use Rattle.prover_quotients.specs.Places.{permutation_place, places_at}
+use Rattle.prover_quotients.specs.Held.{HoldsAt, HoldsSome}
+use Rattle.prover_quotients.specs.Places.{permutation_place}
 use Rattle.prover_quotients.specs.Tables.{KeepsSome}
 
 -- an item of a table's image

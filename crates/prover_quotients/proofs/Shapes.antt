@@ -1,12 +1,12 @@
 -- What is given of a table's columns on its quotient's domain has the shapes that the quotient's values ask for, and is the table's.
-use Rattle.std.proofs.Common.{◌≡◌, ℕ, zero, suc, ◌+◌, ◌*◌, ◌^◌, ◌<◌, List, [], ◌∷◌, length, Option, None, Some, Result, Ok, Err, IfOk, refl, sym, ◌∙◌, ap, subst, arith}
+use Rattle.std.proofs.Common.{◌≡◌, ℕ, zero, suc, ◌*◌, ◌^◌, ◌<◌, List, [], ◌∷◌, length, Option, None, Some, Result, Ok, Err, IfOk, refl, sym, ◌∙◌, ap, arith}
 use Rattle.std.specs.Prelude.{IfSome, option_to_list}
 use Rattle.p3_field.specs.Domain.{CosetData, point}
 use Rattle.p3_field.specs.Field.{TwoAdic}
 use Rattle.p3_matrix.specs.Matrix.{Rows, height}
 use Rattle.p3_air.specs.Shape.{width_of}
 use Rattle.p3_commit.specs.Commitments.{IsEvaluated}
-use Rattle.batch_quotient.specs.Evaluations.{EvaluatedSome, Evaluations, IsReadOn}
+use Rattle.batch_quotient.specs.Evaluations.{EvaluatedSome, IsReadOn}
 use Rattle.batch_quotient.specs.QuotientRows.{permutation_columns as columns_for}
 use Rattle.batch_quotient.specs.Laws.Given.{evaluated_along, evaluated_tall}
 use Rattle.batch_setting.specs.Setting.{Setting}

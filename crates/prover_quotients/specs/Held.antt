@@ -11,18 +11,18 @@ use Rattle.prover_quotients.specs.declared.places.Places.{Places}
 
 module _ {S F E C D P R : Type 0} (k : ProverBackend S F E C D P R) where
   -- the backend made the prover data, whose matrix of this number holds these polynomials, at least one
-  pub record HoldsAt (data_held : D) (index : ℕ) (polynomials : List (List F)) : Type 0 where
-    pub made_is : k.made data_held
+  pub record HoldsAt (kept : D) (index : ℕ) (polynomials : List (List F)) : Type 0 where
+    pub made_is : k.made kept
     pub commitment : C
     pub matrices : List (Committed F)
-    pub holds_are : k.holds data_held commitment matrices
+    pub holds_are : k.holds kept commitment matrices
     pub size : ℕ
     pub place_is : slice_get matrices index ≡ Some (record { size = size; polynomials = polynomials })
     pub some : 0 < length polynomials
 
   -- the same of a matrix that may be absent: then there is no polynomial
   abbrev pub HoldsSome : Option ℕ → Option D → List (List F) → Type 0
-  HoldsSome None data_held polynomials = polynomials ≡ []
+  HoldsSome None kept polynomials = polynomials ≡ []
   HoldsSome (Some index) None polynomials = ⊥
   HoldsSome (Some index) (Some d) polynomials = HoldsAt d index polynomials
 

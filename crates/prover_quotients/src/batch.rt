@@ -217,8 +217,9 @@ fn committed<SC: StarkGenericConfig>(
 /// is what is kept of the permutation columns, where there are some. The challenges of the tables' lookups, the terminals and `alpha` are those
 /// of an honest proof for the grinding value before the lookups' pair, which is one.
 ///
-/// The answer is `Pcs` with `QuotientEvaluations` exactly for the first table whose chunks the backend doesn't extend, else `Pcs` with
-/// `QuotientCommitment` exactly where it doesn't commit to the extensions that it gave (`verdict`).
+/// The answer is `Pcs` with `QuotientEvaluations` for the first table whose chunks the backend refuses to extend, and where it extends all,
+/// `Pcs` with `QuotientCommitment` where it refuses to commit to the extensions that it gave (`verdict`). Out of memory may come in place of any
+/// answer.
 pub fn commit_quotients<SC: StarkGenericConfig, A: Air<Val<SC>>>(
     alloc: Global,
     config: &SC,

@@ -1,4 +1,4 @@
-use Rattle.std.proofs.Common.{[], None, get_or, map, sym, ◌∙◌, ap, arith}
+use Rattle.std.proofs.Common.{[], None, ◌∙◌}
 use Rattle.std.specs.Option.{option_map}
 use Rattle.p3_field.specs.Laws.TwoAdic.{decide_by}
 use Rattle.prover_quotients.proofs.Items.{chunks_here, held_here, image_at, many, pairs_here, terminal_here, traced_here}

@@ -1,4 +1,4 @@
-use Rattle.std.proofs.Common.{◌^◌, refl, sym, ◌∙◌}
+use Rattle.std.proofs.Common.{◌^◌, refl, sym}
 use Rattle.std.specs.Option.{option_map}
 use Rattle.p3_field.specs.Domain.{point}
 use Rattle.p3_field.specs.Laws.TwoAdic.{decide_by}

@@ -1,4 +1,4 @@
-use Rattle.std.proofs.Common.{◌≡◌, [], length, map, get_or, take, None, Some, cond, refl, sym, ◌∙◌, ap, subst, arith}
+use Rattle.std.proofs.Common.{◌≡◌, [], length, map, get_or, None, Some, cond, refl, sym, ◌∙◌, ap, subst, arith}
 use Rattle.p3_field.specs.Laws.Tables.{table_push}
 use Rattle.p3_field.specs.Poly.{table}
 use Rattle.p3_lookup.specs.Written.{read_all}

@@ -1,4 +1,4 @@
-use Rattle.std.proofs.Common.{ℕ, ◌≡◌, get_or, sym, subst, arith}
+use Rattle.std.proofs.Common.{arith}
 use Rattle.p3_matrix.specs.Matrix.{FillsRows, Rows}
 use Rattle.batch_shape_checks.proofs.Items.{all_more}
 use Rattle.prover_quotients.proofs.table.matrices_fill.Goals as goal

@@ -1,7 +1,5 @@
-use Rattle.std.proofs.Common.{◌≡◌, sym, ◌∙◌, ap}
+use Rattle.std.proofs.Common.{◌∙◌, ap}
 use Rattle.std.specs.Prelude.{option_to_list}
-use Rattle.p3_field.specs.Domain.{CosetData}
-use Rattle.p3_field.specs.Field.{TwoAdic, Extension}
 use Rattle.p3_field.specs.Laws.TwoAdic.{decide_by}
 use Rattle.committed_tables.specs.Fields.{FieldsLaws}
 use Rattle.prover_quotients.proofs.Shapes.{follows}
