@@ -1,8 +1,7 @@
 -- What a prover of a batch answers: the checks in the order of its work, each with the refusal that names it, and the proof that it gives where none
 -- fails. After Plonky3's p3-batch-stark (prove_batch).
-use Rattle.std.specs.Prelude.{◌≡◌, ℕ, ◌^◌, ◌<◌, List, [], ◌∷◌, ◌++◌, All, Option}
-use Rattle.p3_field.specs.Checks.{Check, check, in_turn}
-use Rattle.p3_field.specs.Domain.{CosetData}
+use Rattle.std.specs.Prelude.{◌≡◌, ℕ, ◌^◌, ◌<◌, ◌≤◌, List, [], ◌∷◌, ◌++◌, All, Option}
+use Rattle.p3_field.specs.Checks.{Check, in_turn}
 use Rattle.p3_matrix.specs.Matrix.{Rows}
 use Rattle.p3_commit.specs.Claims.{Request}
 use Rattle.p3_commit.specs.Commitments.{AreExtensions, AreHeld}
@@ -38,15 +37,22 @@ module _ {S F E C : Type 0} (b : Batch S F E C) where
   abbrev pub HaveFractionsFor : Option F → Type 0
   HaveFractionsFor w = HaveFractions b.setting b.prover b.statement b.traces b.degree_bits w
 
+  abbrev pub IsGroundOf : Option F → F → Type 0
+  IsGroundOf w z = IsPairGroundOf w × IsOodGround b.setting b.prover b.statement b.traces b.degree_bits w z
+
   -- The checks that ask nothing of the backend. On no bus do the counts, each as large as it is trusted to be, add up to the order of the field:
   abbrev pub bound_part : {R : Type 0} → List (Check (ProvingError R))
   bound_part =
       let lookups = b.statement.common.lookups in
-      in_turn (bus_count (batch_buses lookups)) (λ bus. check (MultiplicityBound (capped bus)) (bus_load lookups (heights_of (masks b.setting) b.degree_bits (table_count b)) bus < b.setting.order) ∷ [])
+      let load = bus_load lookups (heights_of (masks b.setting) b.degree_bits (table_count b)) in
+      in_turn (bus_count (batch_buses lookups)) (λ bus. record { refusal = λ e. (e ≡ MultiplicityBound (capped bus)) × (b.setting.order ≤ load bus); holds = load bus < b.setting.order } ∷ [])
 
   -- some number below the order passes the grind before the lookups' pair;
   abbrev pub lookup_part : {R : Type 0} → List (Check (ProvingError R))
-  lookup_part = check (WitnessNotFound Lookup) (LacksLookupGround b.setting b.prover b.statement b.traces b.degree_bits → ⊥) ∷ []
+  lookup_part = record {
+    refusal = λ e. (e ≡ WitnessNotFound Lookup) × LacksLookupGround b.setting b.prover b.statement b.traces b.degree_bits;
+    holds = LacksLookupGround b.setting b.prover b.statement b.traces b.degree_bits → ⊥;
+  } ∷ []
 
   -- no denominator is zero;
   abbrev pub fraction_part : {R : Type 0} → List (Check (ProvingError R))
@@ -57,7 +63,10 @@ module _ {S F E C : Type 0} (b : Batch S F E C) where
 
   -- some number below the order passes the grind before zeta.
   abbrev pub ood_part : {R : Type 0} → List (Check (ProvingError R))
-  ood_part = check (WitnessNotFound Ood) (LacksOodGround b.setting b.prover b.statement b.traces b.degree_bits → ⊥) ∷ []
+  ood_part = record {
+    refusal = λ e. (e ≡ WitnessNotFound Ood) × LacksOodGround b.setting b.prover b.statement b.traces b.degree_bits;
+    holds = LacksOodGround b.setting b.prover b.statement b.traces b.degree_bits → ⊥;
+  } ∷ []
 
 module _ {S F E C D P R : Type 0} (k : ProverBackend S F E C D P R) (b : Batch S F E C) where
   -- The checks of what the backend is asked: to commit to the traces,
@@ -91,14 +100,11 @@ module _ {S F E C D P R : Type 0} (k : ProverBackend S F E C D P R) (b : Batch S
     pub made : All (λ r. k.made r.prover_data) requests
     pub held : AreHeld k.holds requests (held_of (honest_rounds b.setting b.prover b.statement b.traces b.degree_bits w z))
 
-  abbrev pub IsGroundOf : Option F → F → Type 0
-  IsGroundOf w z = IsPairGroundOf b w × IsOodGround b.setting b.prover b.statement b.traces b.degree_bits w z
-
   -- and the check that it is opened
   abbrev pub opening_part : List (Check (ProvingError R))
   opening_part = record {
-    refusal = λ e. (w : Option F) × (z : F) × IsGroundOf w z × ((requests : List (Request D E)) × AreAsked w z requests × IsPcsRefusal Opening (k.open_fault requests) e);
-    holds = (w : Option F) (z : F) → IsGroundOf w z → (requests : List (Request D E)) × AreAsked w z requests × NoneOf (k.open_fault requests);
+    refusal = λ e. (w : Option F) × (z : F) × IsGroundOf b w z × ((requests : List (Request D E)) × AreAsked w z requests × IsPcsRefusal Opening (k.open_fault requests) e);
+    holds = (w : Option F) (z : F) → IsGroundOf b w z → (requests : List (Request D E)) × AreAsked w z requests × NoneOf (k.open_fault requests);
   } ∷ []
 
   -- none of the points of the openings is excluded

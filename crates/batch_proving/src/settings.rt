@@ -1,4 +1,8 @@
 //! A configuration's prover as plain data.
+ghost use Rattle.std.specs.Prelude.{List};
+ghost use Rattle.p3_field.specs.Domain.{CosetData};
+ghost use Rattle.p3_matrix.specs.Matrix.{Rows};
+ghost use Rattle.p3_commit.specs.Commitments.{IsCommitment};
 ghost use Rattle.honest_proofs.specs.HonestProof.{Prover};
 ghost use Rattle.batch_proving.specs.Backend.{ProverBackend};
 
@@ -14,12 +18,17 @@ pub trait ProverSettings: StarkGenericConfig {
     // the inverses, the canonical numbers, and the backend's commitment to matrices on domains
     ghost prover: { Self → Prover Self.Val Self.Challenge Self.Pcs.Commitment };
 
+    // this is what the backend gives where it commits to these matrices on these domains: a commitment with its prover data
+    ghost commits_to: { Self → List (CosetData Self.Val × Rows Self.Val) → Self.Pcs.Commitment × Self.Pcs.ProverData → Type 0 };
+
     // the prover's side of the backend
     ghost prover_backend: { Self → ProverBackend Self.Challenger Self.Val Self.Challenge Self.Pcs.Commitment Self.Pcs.ProverData Self.Pcs.Proof Self.Pcs.ProverError };
 }
 
 impl<SC: StarkGenericConfig> ProverSettings for SC {
     ghost prover = { λ config. record { inverse = SC.Challenge.inv; canonical = SC.Val.canonical; commitment_of = SC.Pcs.commitment_of (SC.pcs_of config) } };
+
+    ghost commits_to = { λ config es w. IsCommitment SC.Val.ring ⟦<<SC::Pcs as Pcs<SC::Challenge, SC::Challenger>>::Domain as PolynomialSpace>⟧.points ⟦<<SC::Pcs as Pcs<SC::Challenge, SC::Challenger>>::Domain as PolynomialSpace>⟧.point_at (SC.Pcs.commits (SC.pcs_of config)) (SC.Pcs.made (SC.pcs_of config)) (SC.Pcs.holds (SC.pcs_of config)) es w };
 
     ghost prover_backend = { λ config. record {
       commit_fault = SC.Pcs.commit_fault (SC.pcs_of config);

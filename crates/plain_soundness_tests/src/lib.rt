@@ -3,5 +3,11 @@
 
 pub mod callers;
 #[cfg(test)]
+mod fixed_challenger;
+#[cfg(test)]
+mod forged;
+#[cfg(test)]
 mod numbers;
 pub mod swaps;
+#[cfg(test)]
+mod unlucky;

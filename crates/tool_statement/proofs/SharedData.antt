@@ -8,7 +8,7 @@ use Rattle.p3_field.specs.declared.baby_bear.BabyBear.{BabyBear}
 use Rattle.p3_matrix.specs.Matrix.{Rows}
 use Rattle.p3_lookup.specs.Lookup.{LookupData}
 use Rattle.plain_pcs.specs.Extension.{commitment_of}
-use Rattle.plain_pcs.specs.Scheme.{Blowup, PlainCommitmentData, scheme}
+use Rattle.plain_pcs.specs.Scheme.{Blowup, PlainCommitmentData, Scheme, scheme}
 use Rattle.p3_commit.specs.Commitments.{Committed, IsCommitment}
 use Rattle.batch_statement.specs.Statement.{PreprocessedTracesData}
 use Rattle.batch_statement.specs.declared.preprocessed.PreprocessedInstanceMeta.{PreprocessedInstanceMeta}
@@ -75,6 +75,22 @@ module _ (tables : List TableStatement) (airs : List (ToolAir BabyBear)) (same :
       let looked : lookups ≡ table (length tables) (packed_at bear_ring 0 (sources_of tables) (log_heights_of tables) (replicate (length tables) 0))
       = l ∙ (λ i. table (n i) (packed_at bear_ring 0 (same i) (b i) (replicate (n i) 0))) in
       λ i. record { preprocessed = made i; lookups = looked i }
+
+  -- and what is kept beside it is what the plain scheme keeps of the tables' preprocessed traces
+  pub kept_is : {P : Type 0} (bits : List ℕ) (p : Option (PreprocessedTracesData (PlainCommitmentData BabyBear))) (kept : Option P)
+      (points : CosetData BabyBear → ℕ) (point_at : CosetData BabyBear → ℕ → BabyBear) (made : P → Type 0) (holds : Scheme BabyBear → P → PlainCommitmentData BabyBear → List (Committed BabyBear) → Type 0) (b : Blowup) → b ≡ record { log_blowup = 1 }
+      → bits ≡ log_heights_of tables
+      → IsPrepared (Commits points point_at made (holds (scheme bear_ring bear_inv bear_root (reduce 31) 27 b)) b) (table (length airs) (entry_at bear_ring.one (map (source_of (tool_declaration bear_ring) tool_trees (tool_interactions bear_ring)) airs) bits))
+      (committed_below bear_ring.one (map (source_of (tool_declaration bear_ring) tool_trees (tool_interactions bear_ring)) airs) bits (length airs)) p kept
+      → IsPrepared (λ es w. IsCommitment bear_ring points point_at (λ es c. c ≡ commitment_of tool_scheme es) made (holds tool_scheme) es w) (entries_of tables) (preprocessed_traces tables) p kept
+  kept_is {P} bits p kept points point_at made holds blowup e l h =
+      let n = as_many in
+      let commits : Blowup → traces → PlainCommitmentData BabyBear × P → Type 0 = λ s es w. Commits points point_at made (holds (scheme bear_ring bear_inv bear_root (reduce 31) 27 s)) s es w in
+      let Prepared : Blowup → List (Source BabyBear) → List ℕ → ℕ → Type 0 = λ s sources bits count. IsPrepared (commits s) (table count (entry_at bear_ring.one sources bits)) (committed_below bear_ring.one sources bits count) p kept in
+      subst (λ (s : Blowup). Prepared s (sources_of tables) (log_heights_of tables) (length tables)) e
+      (subst (λ (s : List (Source BabyBear)). Prepared blowup s (log_heights_of tables) (length tables)) same
+      (subst (λ (k : List ℕ). Prepared blowup (map (source_of (tool_declaration bear_ring) tool_trees (tool_interactions bear_ring)) airs) k (length tables)) l
+      (subst (λ (k : ℕ). Prepared blowup (map (source_of (tool_declaration bear_ring) tool_trees (tool_interactions bear_ring)) airs) bits k) n h)))
 
   -- and the setup refuses none of them
   pub not_refused : All TableWithin tables → (bits : List ℕ) → bits ≡ log_heights_of tables → (b : Blowup) → b ≡ record { log_blowup = 1 } → (e : SetupError PlainProverError)

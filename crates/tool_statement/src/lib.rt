@@ -9,5 +9,5 @@ mod shared;
 mod table;
 
 pub use config::{ToolConfig, tool_config};
-pub use shared::{ToolCommon, airs_of, public_values_of, shared_data};
+pub use shared::{ToolCommon, airs_of, prover_data, public_values_of, shared_data};
 pub use table::TableStatement;

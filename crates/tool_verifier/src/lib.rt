@@ -15,5 +15,6 @@ mod tables;
 
 pub use answer::{Answer, answer_tables};
 pub use laws::there_is_one_answer;
+pub use refusal::refusal_line;
 pub use status::Status;
 pub use tables::verify_tables;

@@ -10,15 +10,23 @@ use p3_field::Mem;
 use plain_pcs::PlainError;
 use std::alloc::{AllocError, Global};
 
+/// The line of a refusal (own): `refused`, its name, and its numbers in decimal, each behind a space. The only error is running out of memory.
+pub fn refusal_line(alloc: Global, name: &[u8], numbers: &[usize]) -> Mem<Vec<u8>>
+    ensures { IfOk result (λ v. v.items ≡ refused_text name.now numbers.now) }
+{
+    let mut line = Vec::new(alloc);
+    line.extend_from_slice(b"refused ")?;
+    line.extend_from_slice(name)?;
+    push_spaced(&mut line, numbers)?;
+    line.push(b'\n')?;
+    Ok(line)
+}
+
 /// The line of a table whose height isn't the proof's: `refused HeightMismatch` and its number. The only error is running out of memory.
 pub fn mismatch_line(alloc: Global, table: usize) -> Mem<Vec<u8>>
     ensures { IfOk result (λ v. v.items ≡ mismatch_text table) }
 {
-    let mut line = Vec::new(alloc);
-    line.extend_from_slice(b"refused HeightMismatch")?;
-    push_spaced(&mut line, &[table])?;
-    line.push(b'\n')?;
-    Ok(line)
+    refusal_line(alloc, b"HeightMismatch", &[table])
 }
 
 /// The line of a check of the batch verifier: `refused`, its name and its numbers. The only error is running out of memory: out of memory

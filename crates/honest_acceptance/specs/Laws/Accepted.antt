@@ -86,7 +86,7 @@ module _ {S F E C P : Type 0} (c : Setting S F E C) (p : Prover F E C) (eq : F �
         let same_opened : get_or (table n opened) i no_opened ≡ opened i = get_or-table n opened i no_opened h in
         subst NoneFails (sym (λ j. at_table i (same_ch j) (same_end j) (same_parts j) (D.alpha_is j) (D.zeta_is j) (same_opened j)))
         (identity_pass c p (at i) (challenges_at c p s traces degree_bits w i) L (V.batch.domains i h) (V.batch.traced i h) a x (H i h).reads
-        (lookups_declared c eq p.commitment_of s traces degree_bits p.inverse L V i h)
+        (lookups_declared c p.commitment_of s traces degree_bits p.inverse L V.batch i h)
         (valid_identity c p eq s traces degree_bits L V w fractions i h (H i h).reads a x (H i h).small) (outside i h) R i))
 
     -- the backend opens the claims

@@ -1,5 +1,5 @@
 -- What a backend opens of an honest proof's commitments are its opened values, and the proof that it gives is taken.
-use Rattle.std.proofs.Common.{◌≡◌, ℕ, ◌^◌, Bool, false, List, [], ◌∷◌, map, Option, refl, ◌∙◌, ap, subst}
+use Rattle.std.proofs.Common.{◌≡◌, ℕ, ◌^◌, false, List, [], ◌∷◌, map, Option, refl, ◌∙◌, ap, subst}
 use Rattle.std.specs.Prelude.{zip}
 use Rattle.p3_field.specs.Domain.{CosetData, point}
 use Rattle.p3_field.specs.Ring.{Ring}

@@ -17,7 +17,7 @@ use Rattle.batch_openings.specs.OpeningChecks.{bounds_of}
 use Rattle.committed_tables.specs.Fields.{FieldsLaws}
 use Rattle.committed_tables.specs.Laws.Degrees.{all_table}
 use Rattle.batch_validity.specs.Traced.{TracedTable, declared, log_parts, traced_at}
-use Rattle.batch_validity.specs.Valid.{Valid}
+use Rattle.batch_validity.specs.Valid.{IsTracedBatch, Valid}
 use Rattle.honest_proofs.specs.HonestProof.{Prover, alpha, challenges_at, committed_where, honest_proof, opened_of, permutation_matrices, permutation_part, terminal_of, where_some, zeta}
 use Rattle.honest_acceptance.specs.Laws.Lengths.{table_pass}
 
@@ -41,6 +41,20 @@ some_of_all g (x ∷ xs) = some_append (g x) (flat_map g xs) ∙ ap (λ b. has_s
 any_table : {A : Type 0} (q : A → Bool) (r : ℕ → Bool) (n : ℕ) (u : ℕ → A) (h : ℕ → ℕ) → ((i : ℕ) → i < n → r (h i) ≡ q (u i)) → list_any r (table n h) ≡ list_any q (table n u)
 any_table q r zero u h same = refl
 any_table q r (suc n) u h same = λ j. same zero (omega arith) j || any_table q r n (λ i. u (suc i)) (λ i. h (suc i)) (λ i l. same (suc i) (omega (arith, l))) j
+
+module _ {S F E C : Type 0} (c : Setting S F E C) (p : Prover F E C) (s : Statement F C) (traces : List (Rows F)) (degree_bits : List ℕ) (B : IsTracedBatch c p.commitment_of s traces degree_bits) (w : Option F) where
+  abbrev traced : ℕ → TracedTable F
+  traced i = traced_at s traces degree_bits i
+
+  -- permutation columns are committed to exactly where some table has lookups
+  pub permutation_there : is_there (permutation_part c p s traces degree_bits w) ≡ list_any has_some s.common.lookups
+  permutation_there =
+      let n = length s.tables in
+      let made = λ (i : ℕ). permutation_matrices c p (traced i) (challenges_at c p s traces degree_bits w i) in
+      committed_there p.commitment_of (flat_map made (table n (λ i. i)))
+      ∙ (some_of_all made (table n (λ i. i))
+      ∙ (any_table has_some (λ i. has_some (made i)) n (λ i. (traced i).lookups) (λ i. i) (λ i h. some_there (traced i).lookups _)
+      ∙ ap (list_any has_some) (sym (table_of_items [] s.common.lookups n B.lists.lookups_long))))
 
 module _ {S F E C P : Type 0} (c : Setting S F E C) (p : Prover F E C) (eq : F → F → Bool) (s : Statement F C) (traces : List (Rows F)) (degree_bits : List ℕ)
     (L : FieldsLaws c.field c.extension c.two_adicity p.inverse) (V : Valid c eq p.commitment_of s traces degree_bits) (w : Option F) (z : F) (opening : P)
@@ -99,17 +113,9 @@ module _ {S F E C P : Type 0} (c : Setting S F E C) (p : Prover F E C) (eq : F �
       subst NoneFails (sym (λ j. own (there j) (is_there (last j))))
       (table_pass c p (at i) (challenges_at c p s traces degree_bits w i) L (V.batch.domains i h) (V.batch.traced i h) (columns i h) (alpha c p s traces degree_bits w) (zeta c p s traces degree_bits w z) R i))
 
-  permutation_there : is_there (permutation_part c p s traces degree_bits w) ≡ list_any has_some s.common.lookups
-  permutation_there =
-      let made = λ (i : ℕ). permutation_matrices c p (at i) (challenges_at c p s traces degree_bits w i) in
-      committed_there p.commitment_of (flat_map made (table n (λ i. i)))
-      ∙ (some_of_all made (table n (λ i. i))
-      ∙ (any_table has_some (λ i. has_some (made i)) n (λ i. (at i).lookups) (λ i. i) (λ i h. some_there (at i).lookups _)
-      ∙ ap (list_any has_some) (sym (table_of_items [] s.common.lookups n V.batch.lists.lookups_long))))
-
   permutation_pass : NoneFails (permutation_check {R = R} s proof)
   unfolding honest_proof
-  permutation_pass = none_alone _ permutation_there
+  permutation_pass = none_alone _ (permutation_there c p s traces degree_bits V.batch w)
 
   -- no check of the shape fails
   pub shape_pass : NoneFails (shape_checks {R = R} c.field.ring (bounds_of c) s proof)

@@ -1,10 +1,11 @@
 use Rattle.std.proofs.Common.{◌-◌, sym, ◌∙◌, subst}
+use Rattle.plain_pcs.specs.Holding.{AreHolding}
 use Rattle.plain_pcs.specs.Scheme.{Blowup}
 use Rattle.batch_setup.specs.SetupChecks.{AreBounded}
 use Rattle.tool_statement.proofs.Granted.{bounded}
-use Rattle.tool_statement.proofs.SharedData.{common_is, not_refused}
+use Rattle.tool_statement.proofs.SharedData.{common_is, kept_is, not_refused}
 use Rattle.batch_setup.specs.Verdict.{IsSetupRefusal}
-use Rattle.tool_statement.proofs.shared.shared_data.Goals as goal
+use Rattle.tool_statement.proofs.shared.prover_data.Goals as goal
 
 pub from_airs_and_degrees-requires-clause-bits : goal.from_airs_and_degrees-requires-clause-bits
 from_airs_and_degrees-requires-clause-bits c =
@@ -16,6 +17,11 @@ pub returns-in-Ok-clause-common : goal.returns-in-Ok-clause-common
 returns-in-Ok-clause-common c =
     common_is c.args.tables.now c.args.airs.now c.requires.airs c.deref.result.now _ _ _ _ _ _ _ _ c.requires.scheme
     (c.deref.ensures.value ∙ c.in_ok-bits.ensures) c.in-Ok.ensures.lookups c.in-Ok.ensures.preprocessed
+
+pub returns-in-Ok-clause-kept : goal.returns-in-Ok-clause-kept
+returns-in-Ok-clause-kept c =
+    kept_is c.args.tables.now c.args.airs.now c.requires.airs c.deref.result.now _ _ _ _ _ AreHolding _ c.requires.scheme
+    (c.deref.ensures.value ∙ c.in_ok-bits.ensures) c.in-Ok.ensures.preprocessed
 
 pub from_airs_and_degrees-requires-clause-widths : goal.from_airs_and_degrees-requires-clause-widths
 from_airs_and_degrees-requires-clause-widths c = c.tables_send_one_width.ensures c.args.airs.now

@@ -1,0 +1,4 @@
+mod Readings
+mod Traces
+mod Runs
+mod Counted

@@ -1,0 +1,88 @@
+-- How the reading stops of a list whose number of items is a power of two, and of a table behind its kind.
+use Rattle.std.proofs.Common.{◌≡◌, ℕ, suc, ◌<◌, ◌≤◌, ◌^◌, List, [], ◌∷◌, ◌++◌, length, refl, sym, ◌∙◌, ap, subst, arith, append_assoc, Result, Ok, Err}
+use Rattle.std.specs.Int.{IsPowerOfTwo}
+use Rattle.std.specs.Prelude.{decimal}
+use Rattle.std.proofs.lemmas.Nat.{pow_pos}
+use Rattle.line_format.specs.Texts.{Between, Grammar, ItemsWithin, Reads, ReadsKnown, ReadsOne, Stops, items_words, line_text, list_words, number_words}
+use Rattle.line_format.specs.Laws.Grammars.{head-same, items-grammar}
+use Rattle.line_format.specs.Laws.Lines.{same-line}
+use Rattle.line_format.specs.Laws.Stops.{pair-first, pair-reads, pair-second, same-reads, same-stops}
+use Rattle.line_format.specs.declared.texts.ItemError.{ItemError}
+use Rattle.p3_field.specs.declared.baby_bear.BabyBear.{BabyBear}
+use Rattle.tool_validity.specs.Job.{IsWithin, JobTable}
+use Rattle.tool_jobs.specs.Jobs.{table_words}
+use Rattle.tool_jobs.specs.Laws.Counts.{IsCount, PowersWithin, count-grammar, one-counts, same-powers}
+use Rattle.tool_jobs.specs.Laws.Kinds.{KindWithin, body_words}
+use Rattle.tool_jobs.specs.Laws.Texts.{same-table, tag-grammar}
+
+-- one number has no numbers before it
+front-none : (m n : ℕ) (front missing : List ℕ) → m ∷ [] ≡ front ++ n ∷ missing → front ≡ []
+front-none m n [] missing e = refl
+front-none m n (x ∷ []) missing e = absurd (let t : 1 ≡ suc (suc (length missing)) = ap (λ (l : List ℕ). length l) e in omega (arith, t))
+front-none m n (x ∷ y ∷ front) missing e =
+    absurd (let t : 1 ≡ suc (suc (length (front ++ n ∷ missing))) = ap (λ (l : List ℕ). length l) e in omega (arith, t))
+
+-- where no number of a range is next, what is left is what was there, and no line is one of the range
+pub unread : {old new : List ℕ} {least most : ℕ} → Stops (Between least most) number_words old new
+    → (n : ℕ) (rest : List ℕ) → old ≡ decimal n ++ 10 ∷ rest → Between least most n → ⊥
+unread {old} {new} {least} {most} s n rest e h =
+    let none = front-none s.some s.next s.read s.missing s.begins in
+    let same : old ≡ new = subst (λ (l : List ℕ). old ≡ line_text l ++ new) none s.text in
+    s.stuck n rest (sym same ∙ e) n h [] [] (subst (λ (l : List ℕ). n ∷ [] ≡ l ++ n ∷ []) (sym none) refl)
+
+-- a power of two isn't below 1
+above : (n : ℕ) → IsPowerOfTwo n → 1 ≤ n
+above n p = let e = p.1 in let q : 0 < 2 ^ p.0 = pow_pos p.0 in omega (arith, e, q)
+
+-- no line of a power of two is next
+none-next : (bytes : List ℕ) → ((n : ℕ) (rest : List ℕ) → bytes ≡ decimal n ++ 10 ∷ rest → IsCount n → ⊥) → Stops IsCount number_words bytes bytes
+none-next bytes none = record {
+  read = [];
+  text = refl;
+  some = 1;
+  some_fits = one-counts;
+  next = 1;
+  missing = [];
+  begins = refl;
+  stuck = λ n rest e v fits x y same. none n rest e (subst (λ (k : ℕ). IsCount k) (head-same v n x y same) fits);
+}
+
+pub count-missing : {old new : List ℕ} → Stops (Between 1 1024) number_words old new → Stops IsCount number_words old old
+count-missing {old} s = none-next old (λ n rest e h. unread s n rest e (above n h.0, h.1))
+
+pub count-refused : {old rest : List ℕ} {n : ℕ} → Reads (Between 1 1024) number_words old rest n → (IsPowerOfTwo n → ⊥) → Stops IsCount number_words old old
+count-refused {old} {rest} {n} r other = none-next old (λ m after e h.
+    let few = h.1 in
+    let most = r.fits.1 in
+    let same = same-line n m rest after (omega (arith, most)) (omega (arith, few)) (sym (append_assoc (decimal n) (10 ∷ []) rest) ∙ (sym r.text ∙ e)) in
+    other (subst IsPowerOfTwo (sym same.0) h.0))
+
+-- the number that was seen to be next is read
+pub count-again : (old rest new : List ℕ) (n : ℕ) (result : Result ℕ ItemError) → Reads IsCount number_words old rest n → ReadsKnown (Between n n) number_words old new result
+    → ReadsKnown IsCount number_words old new result
+count-again old rest new n (Ok v) r k =
+    let low = k.fits.0 in
+    let high = k.fits.1 in
+    record { fits = subst IsCount (let e : n ≡ v = omega (arith, low, high) in e) r.fits; text = k.text }
+count-again old rest new n (Err x) r k = absurd (unread k.1 n rest (r.text ∙ append_assoc (decimal n) (10 ∷ []) rest) (omega arith, omega arith))
+
+-- a list whose count can't be read
+pub powers-count : {A : Type 0} {within : A → Type 0} {words : A → List ℕ} {old new : List ℕ} → Grammar within words
+    → Stops IsCount number_words old new → Stops (PowersWithin within) (list_words words) old new
+powers-count {A} {within} {words} g s =
+    same-stops (same-powers within words) (pair-first (λ n. ItemsWithin n within) (λ n _. items-grammar n g) s)
+
+-- a list whose count was read
+pub powers-behind : {V A : Type 0} (data_of : V → List A) (within : A → Type 0) (words : A → List ℕ) (old mid new : List ℕ) (count : ℕ) (r : Result V ItemError)
+    → Reads IsCount number_words old mid count → ReadsOne data_of (ItemsWithin count within) (items_words words) mid new r
+    → ReadsOne data_of (PowersWithin within) (list_words words) old new r
+unfolding same-powers
+powers-behind data_of within words old mid new count (Ok v) n s = same-reads (same-powers within words) (pair-reads (λ k. ItemsWithin k within) n s)
+powers-behind data_of within words old mid new count (Err e) n s = λ m. same-stops (same-powers within words) (pair-second (λ k. ItemsWithin k within) count-grammar n (s m))
+
+-- a table whose kind was read
+pub table-behind : {V : Type 0} (data_of : V → JobTable BabyBear) (old mid new : List ℕ) (kind : ℕ) (r : Result V ItemError)
+    → Reads (Between 1 4) number_words old mid kind → ReadsOne data_of (KindWithin kind) body_words mid new r → ReadsOne data_of IsWithin table_words old new r
+unfolding same-table
+table-behind data_of old mid new kind (Ok v) n s = same-reads same-table (pair-reads KindWithin n s)
+table-behind data_of old mid new kind (Err e) n s = λ m. same-stops same-table (pair-second KindWithin tag-grammar n (s m))

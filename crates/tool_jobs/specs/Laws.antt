@@ -1,0 +1,6 @@
+-- What is proved of the definitions, by subject.
+pub mod Counts
+pub mod Kinds
+pub mod Texts
+pub mod Airs
+pub mod Statements

@@ -1,0 +1,111 @@
+-- The words of a table behind its kind tell the table, kind by kind.
+use Rattle.std.proofs.Common.{◌≡◌, ℕ, zero, suc, ◌≤◌, List, [], ◌∷◌, refl, arith}
+use Rattle.p3_field.specs.declared.baby_bear.BabyBear.{BabyBear}
+use Rattle.line_format.specs.Texts.{Between, Grammar, Unlimited, element_words, list_words, number_words}
+use Rattle.line_format.specs.Laws.Grammars.{SameTexts, ThenWithin, TwoWithin, element-grammar, number-grammar, pair_words, same-grammar, then-grammar, two-grammar, two_words}
+use Rattle.tool_validity.specs.Job.{IsWithin, JobTable, swap_of, wheel_of, take_of, give_of}
+use Rattle.tool_jobs.specs.Jobs.{given_words}
+use Rattle.tool_jobs.specs.Laws.Counts.{PowersWithin, powers-grammar}
+
+-- a table's kind, and its words behind it
+abbrev pub kind_of : JobTable BabyBear → ℕ
+kind_of (swap_of k a b) = 1
+kind_of (wheel_of k) = 2
+kind_of (take_of words) = 3
+kind_of (give_of pairs) = 4
+
+abbrev pub body_words : JobTable BabyBear → List ℕ
+body_words (swap_of k a b) = k ∷ a.value ∷ b.value ∷ []
+body_words (wheel_of k) = k ∷ []
+body_words (take_of words) = list_words element_words words
+body_words (give_of pairs) = list_words given_words pairs
+
+-- a table of this kind, within its limits
+abbrev pub KindWithin : ℕ → JobTable BabyBear → Type 0
+KindWithin kind t = (kind_of t ≡ kind) × IsWithin t
+
+-- a swap table is seen as the logarithm of its rows and its first row
+abbrev pub SwapWithin : ℕ × (BabyBear × BabyBear) → Type 0
+SwapWithin = ThenWithin (Between 0 10) TwoWithin
+
+abbrev pub swap_words : ℕ × (BabyBear × BabyBear) → List ℕ
+swap_words = pair_words number_words two_words
+
+unfoldable pub same-swap : SameTexts SwapWithin swap_words (KindWithin 1) body_words
+same-swap = record { to = to; to_fits = λ p h. (refl, h.0.1); to_words = λ p h. refl; whole = whole }
+  where
+    to : ℕ × (BabyBear × BabyBear) → JobTable BabyBear
+    to p = swap_of p.0 p.1.0 p.1.1
+
+    whole : (t : JobTable BabyBear) → KindWithin 1 t → (p : ℕ × (BabyBear × BabyBear)) × SwapWithin p × (swap_of p.0 p.1.0 p.1.1 ≡ t)
+    whole (swap_of k a b) h = ((k, (a, b)), ((omega arith, h.1), (tt, tt)), refl)
+    whole (wheel_of k) h = absurd (let e = h.0 in omega (arith, e))
+    whole (take_of words) h = absurd (let e = h.0 in omega (arith, e))
+    whole (give_of pairs) h = absurd (let e = h.0 in omega (arith, e))
+
+pub log_rows-grammar : Grammar (Between 0 10) number_words
+log_rows-grammar = number-grammar 0 10 (omega arith) (omega arith)
+
+pub swap-grammar : Grammar (KindWithin 1) body_words
+swap-grammar = same-grammar same-swap (then-grammar log_rows-grammar two-grammar)
+
+-- a wheel is seen as the logarithm of its rows
+unfoldable pub same-wheel : SameTexts (Between 1 10) number_words (KindWithin 2) body_words
+same-wheel = record { to = wheel_of; to_fits = λ k h. (refl, h); to_words = λ k h. refl; whole = whole }
+  where
+    whole : (t : JobTable BabyBear) → KindWithin 2 t → (k : ℕ) × Between 1 10 k × (wheel_of k ≡ t)
+    whole (swap_of k a b) h = absurd (let e = h.0 in omega (arith, e))
+    whole (wheel_of k) h = (k, h.1, refl)
+    whole (take_of words) h = absurd (let e = h.0 in omega (arith, e))
+    whole (give_of pairs) h = absurd (let e = h.0 in omega (arith, e))
+
+pub wheel-grammar : Grammar (KindWithin 2) body_words
+wheel-grammar = same-grammar same-wheel (number-grammar 1 10 (omega arith) (omega arith))
+
+-- a table that takes words is seen as these
+unfoldable pub same-take : SameTexts (PowersWithin Unlimited) (list_words element_words) (KindWithin 3) body_words
+same-take = record { to = take_of; to_fits = λ words h. (refl, h.0); to_words = λ words h. refl; whole = whole }
+  where
+    whole : (t : JobTable BabyBear) → KindWithin 3 t → (words : List BabyBear) × PowersWithin Unlimited words × (take_of words ≡ t)
+    whole (swap_of k a b) h = absurd (let e = h.0 in omega (arith, e))
+    whole (wheel_of k) h = absurd (let e = h.0 in omega (arith, e))
+    whole (take_of words) h = (words, (h.1, λ i d l. tt), refl)
+    whole (give_of pairs) h = absurd (let e = h.0 in omega (arith, e))
+
+pub take-grammar : Grammar (KindWithin 3) body_words
+take-grammar = same-grammar same-take (powers-grammar element-grammar)
+
+-- a word, and how often it is given
+abbrev pub GivenWithin : BabyBear × ℕ → Type 0
+GivenWithin p = p.1 ≤ 1024
+
+unfoldable pub same-given : SameTexts (ThenWithin Unlimited (Between 0 1024)) (pair_words element_words number_words) GivenWithin given_words
+same-given = record { to = λ p. p; to_fits = λ p h. h.1.1; to_words = λ p h. refl; whole = λ p h. (p, (tt, (omega arith, h)), refl) }
+
+pub times-grammar : Grammar (Between 0 1024) number_words
+times-grammar = number-grammar 0 1024 (omega arith) (omega arith)
+
+pub given-grammar : Grammar GivenWithin given_words
+given-grammar = same-grammar same-given (then-grammar element-grammar times-grammar)
+
+-- a table that gives words is seen as these with their counts
+unfoldable pub same-give : SameTexts (PowersWithin GivenWithin) (list_words given_words) (KindWithin 4) body_words
+same-give = record { to = give_of; to_fits = λ pairs h. (refl, (h.0.0, h.0.1, h.1)); to_words = λ pairs h. refl; whole = whole }
+  where
+    whole : (t : JobTable BabyBear) → KindWithin 4 t → (pairs : List (BabyBear × ℕ)) × PowersWithin GivenWithin pairs × (give_of pairs ≡ t)
+    whole (swap_of k a b) h = absurd (let e = h.0 in omega (arith, e))
+    whole (wheel_of k) h = absurd (let e = h.0 in omega (arith, e))
+    whole (take_of words) h = absurd (let e = h.0 in omega (arith, e))
+    whole (give_of pairs) h = (pairs, ((h.1.0, h.1.1), h.1.2), refl)
+
+pub give-grammar : Grammar (KindWithin 4) body_words
+give-grammar = same-grammar same-give (powers-grammar given-grammar)
+
+-- the same of each kind
+pub kind-grammar : (kind : ℕ) → Between 1 4 kind → Grammar (KindWithin kind) body_words
+kind-grammar zero h = absurd (let l = h.0 in omega (arith, l))
+kind-grammar (suc zero) h = swap-grammar
+kind-grammar (suc (suc zero)) h = wheel-grammar
+kind-grammar (suc (suc (suc zero))) h = take-grammar
+kind-grammar (suc (suc (suc (suc zero)))) h = give-grammar
+kind-grammar (suc (suc (suc (suc (suc n))))) h = absurd (let l = h.1 in omega (arith, l))

@@ -1,0 +1,116 @@
+//! The tables of a job.
+ghost use Rattle.std.specs.Int.{IsPowerOfTwo};
+ghost use Rattle.std.specs.Prelude.{◌≡◌, ◌≤◌, IfOk};
+ghost use Rattle.p3_field.specs.BabyBear.{bear_ring};
+ghost use Rattle.batch_setup.specs.Setup.{log_of};
+ghost use Rattle.tool_statement.specs.StatedTables.{TableWithin, log_height_of, publics_of, source_of_table};
+ghost use Rattle.tool_validity.specs.Job.{IsWithin, source_of_job, trace_of};
+ghost use Rattle.tool_validity.specs.Job.{last_right as last_right_of, log_height_of as rows_log_of, publics_of as table_publics};
+ghost use Rattle.tool_jobs.specs.Jobs.{read_table};
+ghost use Rattle.tool_jobs.specs.Stated.{statement_of};
+
+use crate::trace::{give_trace, swap_trace, wheel_trace};
+use p3_field::{BabyBear, Mem};
+use p3_matrix::{RowMajorMatrix, log2_strict_usize};
+use std::alloc::Global;
+use tool_statement::TableStatement;
+
+/// A word that a table gives, and how often (own).
+#[derive(Clone, Copy, Debug, PartialEq, Eq)]
+pub struct GivenWord {
+    /// The word.
+    pub word: BabyBear,
+    /// How often it is given, 0 to 1024.
+    pub count: u16,
+}
+
+/// A table of a job (own). Contracts see it as plain data by `read_table` of `specs/Jobs.antt`.
+#[derive(Drop)]
+pub enum JobTable {
+    /// A swap table: rows of two cells, (a, b) in the rows of even number and (b, a) in those of odd number.
+    Swap {
+        /// The base-2 logarithm of the number of rows, 0 to 10.
+        k: u8,
+        /// The left cell of the first row.
+        a: BabyBear,
+        /// The right cell of the first row.
+        b: BabyBear,
+    },
+    /// A wheel: i + 1 in row i, times 3 and 5 in turn.
+    Wheel {
+        /// The base-2 logarithm of the number of rows, 1 to 10.
+        k: u8,
+    },
+    /// A table that takes words, each as often as it stands here.
+    Take {
+        /// The words, whose number is a power of two up to 1024.
+        words: Vec<BabyBear>,
+    },
+    /// A table that gives words.
+    Give {
+        /// The words with their counts, whose number is a power of two up to 1024.
+        words: Vec<GivenWord>,
+    },
+}
+
+// The logarithm of a table's number of words.
+fn log_of_words(count: usize) -> u8
+    requires power { IsPowerOfTwo count }
+    requires few { count ≤ 1024 }
+    ensures value { result ≡ log_of count }
+    ensures few { result ≤ 10 }
+{
+    log2_strict_usize(count) as u8
+}
+
+// The right cell of the last row of a swap table: b in a table of one row, else a.
+fn last_right(k: u8, a: BabyBear, b: BabyBear) -> BabyBear
+    ensures { result ≡ last_right_of k a b }
+{
+    if k == 0 { b } else { a }
+}
+
+impl JobTable {
+    /// What is stated of the table (own): its kind, the base-2 logarithm of its rows and, of a swap table, its first row and last right
+    /// cell.
+    pub fn statement(&self) -> TableStatement
+        requires { IsWithin (read_table self.now) }
+        ensures stated { result ≡ statement_of (read_table self.now) }
+        ensures within { TableWithin result }
+        ensures height { log_height_of result ≡ rows_log_of (read_table self.now) }
+        ensures publics { publics_of result ≡ table_publics (read_table self.now) }
+        ensures source { source_of_table result ≡ source_of_job bear_ring (read_table self.now) }
+    {
+        match self {
+            JobTable::Swap { k, a, b } => TableStatement::Swap {
+                k: *k,
+                a: *a,
+                b: *b,
+                x: last_right(*k, *a, *b),
+            },
+            JobTable::Wheel { k } => TableStatement::Wheel { k: *k },
+            JobTable::Take { words } => TableStatement::Take {
+                k: log_of_words(words.len()),
+            },
+            JobTable::Give { words } => TableStatement::Give {
+                k: log_of_words(words.len()),
+            },
+        }
+    }
+
+    /// The table's trace (own), row by row. The only error is running out of memory.
+    pub fn trace(&self, alloc: Global) -> Mem<RowMajorMatrix<BabyBear>>
+        requires { IsWithin (read_table self.now) }
+        ensures { IfOk result (λ m. m ≡ trace_of bear_ring (read_table self.now)) }
+    {
+        match self {
+            JobTable::Swap { k, a, b } => swap_trace(alloc, *k as usize, *a, *b),
+            JobTable::Wheel { k } => wheel_trace(alloc, *k as usize),
+            JobTable::Take { words } => {
+                let values = Vec::from_slice(alloc, words)?;
+                Ok(RowMajorMatrix::new_col(values))
+            }
+            JobTable::Give { words } => give_trace(alloc, words),
+        }
+    }
+}

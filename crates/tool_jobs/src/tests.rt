@@ -1,0 +1,130 @@
+// Jobs that are read and printed, the lines of faults, traces, statements, and unbalanced values.
+use super::*;
+use line_format::TextError;
+use p3_field::{BabyBear, RingCore};
+use std::alloc::Global;
+use std::test::Fail;
+use tool_statement::TableStatement;
+
+// The line of the text's fault.
+fn fault(alloc: Global, text: &[u8]) -> Option<u64> {
+    match read_job(alloc, text) {
+        Err(TextError::Malformed { line }) => Some(line),
+        _ => None,
+    }
+}
+
+#[test]
+fn a_fault_has_its_line(rt: HostRuntime) {
+    let faults = [
+        ("", 1),
+        ("0\n", 1),
+        ("9\n", 1),
+        ("1\n1\n03\n0\n1\n", 3),
+        ("1\n1\n11\n0\n1\n", 3),
+        ("1\n1\n3\n2013265921\n1\n", 4),
+        ("1\n1\n3\n", 4),
+        ("1\n1\n3\n0\n1", 5),
+        ("1\n1\n3\n0\n1\n7\n", 6),
+        ("1\n2\n0\n", 3),
+        ("1\n3\n3\n5\n5\n5\n", 3),
+        ("1\n3\n0\n", 3),
+        ("1\n3\n2048\n", 3),
+        ("1\n4\n1\n5\n1025\n", 5),
+        ("1\n5\n1\n", 2),
+    ];
+    for (text, line) in faults {
+        assert_eq!(rt;
+            fault(rt.alloc(), text.as_bytes()),
+            Some(line),
+            "of {text:?}"
+        );
+    }
+}
+
+#[test]
+fn a_job_is_read_and_printed(rt: HostRuntime) -> Result<(), Fail> {
+    let alloc = rt.alloc();
+    let texts = [
+        "2\n3\n2\n5\n5\n4\n2\n5\n2\n0\n0\n",
+        "4\n1\n3\n0\n1\n2\n1\n3\n2\n5\n5\n4\n2\n5\n2\n0\n0\n",
+        "1\n1\n2\n2013265920\n77\n",
+        "1\n2\n1\n",
+    ];
+    for text in texts {
+        let job = read_job(alloc, text.as_bytes()).ok().ok_or("a job")?;
+        let printed = write_job(alloc, &job)?;
+        assert_eq!(rt; printed.as_slice(), text.as_bytes(), "of {text:?}");
+    }
+    Ok(())
+}
+
+#[test]
+fn the_least_unbalanced_value(rt: HostRuntime) -> Result<(), Fail> {
+    let alloc = rt.alloc();
+    let jobs = [
+        ("2\n3\n2\n5\n5\n4\n2\n5\n2\n0\n0\n", None),
+        ("2\n3\n2\n5\n5\n4\n2\n5\n1\n0\n0\n", Some(5)),
+        ("2\n3\n2\n7\n5\n4\n2\n9\n2\n3\n0\n", Some(5)),
+        ("1\n3\n1\n0\n", Some(0)),
+        ("3\n3\n1\n4\n4\n1\n4\n1\n4\n1\n8\n1\n", Some(8)),
+        ("1\n1\n3\n0\n1\n", None),
+    ];
+    for (text, least) in jobs {
+        let job = read_job(alloc, text.as_bytes()).ok().ok_or("a job")?;
+        let value = least.map(|n: u64| BabyBear::from_u64(n));
+        assert_eq!(rt; first_unbalanced(alloc, &job)?, value, "of {text:?}");
+    }
+    Ok(())
+}
+
+#[test]
+fn traces_row_by_row(rt: HostRuntime) -> Result<(), Fail> {
+    let alloc = rt.alloc();
+    let text = "4\n1\n2\n0\n1\n2\n2\n3\n2\n5\n6\n4\n2\n5\n2\n0\n9\n";
+    let job = read_job(alloc, text.as_bytes()).ok().ok_or("a job")?;
+    let wanted: [&[u64]; 4] = [
+        &[0, 1, 1, 0, 0, 1, 1, 0],
+        &[3, 10, 9, 20],
+        &[5, 6],
+        &[5, 2, 0, 9],
+    ];
+    let traces = traces_of(alloc, &job)?;
+    assert_eq!(rt; traces.len(), 4);
+    for i in 0..4 {
+        let cells = wanted[i]
+            .iter()
+            .map(|n| BabyBear::from_u64(*n))
+            .collect::<Vec<_>>(alloc)?;
+        assert_eq!(rt; traces[i].as_slice(), cells.as_slice());
+    }
+    Ok(())
+}
+
+#[test]
+fn what_is_stated(rt: HostRuntime) -> Result<(), Fail> {
+    let alloc = rt.alloc();
+    let text = "5\n1\n0\n5\n7\n1\n1\n5\n7\n2\n3\n3\n4\n5\n6\n7\n8\n4\n1\n5\n2\n";
+    let job = read_job(alloc, text.as_bytes()).ok().ok_or("a job")?;
+    let five = BabyBear::from_u64(5);
+    let seven = BabyBear::from_u64(7);
+    let wanted = [
+        TableStatement::Swap {
+            k: 0,
+            a: five,
+            b: seven,
+            x: seven,
+        },
+        TableStatement::Swap {
+            k: 1,
+            a: five,
+            b: seven,
+            x: five,
+        },
+        TableStatement::Wheel { k: 3 },
+        TableStatement::Take { k: 2 },
+        TableStatement::Give { k: 0 },
+    ];
+    assert_eq!(rt; statements_of(alloc, &job)?.as_slice(), wanted.as_slice());
+    Ok(())
+}

@@ -1,0 +1,219 @@
+//! The text of jobs.
+ghost use Rattle.std.specs.Prelude.{◌≡◌, ◌≤◌, IfOk};
+ghost use Rattle.line_format.specs.Texts.{ReadsOne, line_text};
+ghost use Rattle.line_format.specs.WholeText.{ReadsText};
+ghost use Rattle.tool_jobs.specs.Jobs.{JobWithin, job_words, read_table, read_tables};
+ghost use Rattle.tool_jobs.specs.Laws.Kinds.{KindWithin, body_words};
+
+use crate::counts::read_powers;
+use crate::table::{GivenWord, JobTable};
+use line_format::{
+    Form, ItemError, Reader, TextError, print_list, push_number, read_list, read_text,
+};
+use p3_field::{BabyBear, Mem};
+use std::alloc::Global;
+
+/// The first line of a swap table's text.
+const SWAP: u32 = 1;
+
+/// The first line of a wheel's text.
+const WHEEL: u32 = 2;
+
+/// The first line of the text of a table that takes words.
+const TAKE: u32 = 3;
+
+/// The first line of the text of a table that gives words.
+const GIVE: u32 = 4;
+
+/// The most that the base-2 logarithm of a table's rows may be.
+const MOST_LOG_ROWS: u32 = 10;
+
+/// The most that a word may be given.
+const MOST_TIMES: u32 = 1024;
+
+/// The most tables of a job.
+const MOST_TABLES: u32 = 8;
+
+/// Two lines: the word, and how often it is given.
+impl Form for GivenWord {
+    type Value = GivenWord;
+
+    ghost use Rattle.std.specs.Prelude.{ℕ};
+    ghost use Rattle.p3_field.specs.declared.baby_bear.BabyBear.{BabyBear as Element};
+    ghost use Rattle.tool_jobs.specs.Jobs.{given_words, read_given};
+    ghost use Rattle.tool_jobs.specs.Laws.Kinds.{GivenWithin, given-grammar};
+
+    ghost Data = { Element × ℕ };
+
+    ghost data_of = { read_given };
+
+    ghost within = { GivenWithin };
+
+    ghost words = { given_words };
+
+    ghost grammar = { given-grammar };
+
+    fn read(alloc: Global, reader: &mut Reader) -> Result<GivenWord, ItemError> {
+        let word = BabyBear::read(alloc, reader)?;
+        let count = reader.number(0, MOST_TIMES)?;
+        Ok(GivenWord {
+            word,
+            count: count as u16,
+        })
+    }
+
+    fn print(value: &GivenWord, out: &mut Vec<u8>) -> Mem<()> {
+        BabyBear::print(&value.word, out)?;
+        push_number(out, value.count as u64)
+    }
+}
+
+// Reads a swap table behind its kind: the logarithm of its rows, and its first row.
+fn read_swap(alloc: Global, reader: &mut Reader) -> Result<JobTable, ItemError>
+    ensures { ReadsOne read_table (KindWithin 1) body_words reader.old reader.new result }
+{
+    let k = reader.number(0, MOST_LOG_ROWS)?;
+    let a = BabyBear::read(alloc, reader)?;
+    let b = BabyBear::read(alloc, reader)?;
+    Ok(JobTable::Swap { k: k as u8, a, b })
+}
+
+// Reads a wheel behind its kind: the logarithm of its rows.
+fn read_wheel(reader: &mut Reader) -> Result<JobTable, ItemError>
+    ensures { ReadsOne read_table (KindWithin 2) body_words reader.old reader.new result }
+{
+    let k = reader.number(1, MOST_LOG_ROWS)?;
+    Ok(JobTable::Wheel { k: k as u8 })
+}
+
+// Reads a table that takes words, behind its kind: the list of the words.
+fn read_take(alloc: Global, reader: &mut Reader) -> Result<JobTable, ItemError>
+    ensures { ReadsOne read_table (KindWithin 3) body_words reader.old reader.new result }
+{
+    let words = read_powers::<BabyBear>(alloc, reader)?;
+    Ok(JobTable::Take { words })
+}
+
+// Reads a table that gives words, behind its kind: the list of the words with their counts.
+fn read_give(alloc: Global, reader: &mut Reader) -> Result<JobTable, ItemError>
+    ensures { ReadsOne read_table (KindWithin 4) body_words reader.old reader.new result }
+{
+    let words = read_powers::<GivenWord>(alloc, reader)?;
+    Ok(JobTable::Give { words })
+}
+
+// Reads a table of this kind behind its kind.
+fn read_kind(alloc: Global, reader: &mut Reader, kind: u32) -> Result<JobTable, ItemError>
+    requires least { 1 ≤ kind }
+    requires most { kind ≤ 4 }
+    ensures { ReadsOne read_table (KindWithin kind) body_words reader.old reader.new result }
+{
+    if kind == SWAP {
+        read_swap(alloc, reader)
+    } else if kind == WHEEL {
+        read_wheel(reader)
+    } else if kind == TAKE {
+        read_take(alloc, reader)
+    } else {
+        read_give(alloc, reader)
+    }
+}
+
+/// The kind, 1 for a swap table, 2 for a wheel, 3 for one that takes words, 4 for one that gives words; then the base-2 logarithm of
+/// the rows and, of a swap table, the first row; or the list of the words, whose count is a power of two up to 1024.
+impl Form for JobTable {
+    type Value = JobTable;
+
+    ghost use Rattle.p3_field.specs.declared.baby_bear.BabyBear.{BabyBear as Element};
+    ghost use Rattle.tool_validity.specs.Job.{IsWithin, JobTable as TableData};
+    ghost use Rattle.tool_jobs.specs.Jobs.{read_table, table_words};
+    ghost use Rattle.tool_jobs.specs.Laws.Texts.{table-grammar};
+
+    ghost Data = { TableData Element };
+
+    ghost data_of = { read_table };
+
+    ghost within = { IsWithin };
+
+    ghost words = { table_words };
+
+    ghost grammar = { table-grammar };
+
+    fn read(alloc: Global, reader: &mut Reader) -> Result<JobTable, ItemError> {
+        let kind = reader.number(SWAP, GIVE)?;
+        read_kind(alloc, reader, kind)
+    }
+
+    fn print(value: &JobTable, out: &mut Vec<u8>) -> Mem<()> {
+        match value {
+            JobTable::Swap { k, a, b } => {
+                push_number(out, 1)?;
+                push_number(out, *k as u64)?;
+                BabyBear::print(a, out)?;
+                BabyBear::print(b, out)
+            }
+            JobTable::Wheel { k } => {
+                push_number(out, 2)?;
+                push_number(out, *k as u64)
+            }
+            JobTable::Take { words } => {
+                push_number(out, 3)?;
+                print_list::<BabyBear>(words, out)
+            }
+            JobTable::Give { words } => {
+                push_number(out, 4)?;
+                print_list::<GivenWord>(words, out)
+            }
+        }
+    }
+}
+
+/// The form of a job: a list of one to eight tables.
+pub struct WholeJob;
+
+impl Form for WholeJob {
+    type Value = Vec<JobTable>;
+
+    ghost use Rattle.std.specs.Prelude.{List, map};
+    ghost use Rattle.p3_field.specs.declared.baby_bear.BabyBear.{BabyBear as Element};
+    ghost use Rattle.tool_validity.specs.Job.{JobTable as TableData};
+    ghost use Rattle.tool_jobs.specs.Jobs.{JobWithin, job_words, read_tables};
+    ghost use Rattle.tool_jobs.specs.Laws.Texts.{job-grammar};
+
+    ghost Data = { List (TableData Element) };
+
+    ghost data_of = { λ v. read_tables v.items };
+
+    ghost within = { JobWithin };
+
+    ghost words = { job_words };
+
+    ghost grammar = { job-grammar };
+
+    fn read(alloc: Global, reader: &mut Reader) -> Result<Vec<JobTable>, ItemError> {
+        read_list::<JobTable>(alloc, reader, 1, MOST_TABLES)
+    }
+
+    fn print(value: &Vec<JobTable>, out: &mut Vec<u8>) -> Mem<()> {
+        print_list::<JobTable>(value, out)
+    }
+}
+
+/// The job whose text the bytes are (own).
+///
+/// It is `Malformed` exactly where they are no job's text, with the line of the fault: one more than the greatest number of whole lines
+/// at their start that begin some job's text. No memory is taken for a count before its items are read.
+pub fn read_job(alloc: Global, bytes: &[u8]) -> Result<Vec<JobTable>, TextError>
+    ensures { ReadsText (λ v. read_tables v.items) JobWithin job_words bytes.now result }
+{
+    read_text::<WholeJob>(alloc, bytes)
+}
+
+/// The text of a job (own). The only error is running out of memory.
+pub fn write_job(alloc: Global, job: &[JobTable]) -> Mem<Vec<u8>>
+    ensures { IfOk result (λ v. v.items ≡ line_text (job_words (read_tables job.now))) }
+{
+    let mut text = Vec::new(alloc);
+    print_list::<JobTable>(job, &mut text)?;
+    Ok(text)
+}

@@ -1,0 +1,103 @@
+-- What `prove` answers for a job: a status and a text.
+use Rattle.std.specs.Prelude.{◌≡◌, ◌⊎◌, ℕ, ◌<◌, List, [], ◌∷◌, length, map, codes, ⊤}
+use Rattle.p3_field.specs.declared.baby_bear.BabyBear.{BabyBear}
+use Rattle.line_format.specs.Texts.{line_text}
+use Rattle.honest_acceptance.specs.Honest.{IsOutside}
+use Rattle.honest_proofs.specs.HonestProof.{IsBuilt, IsDenominatorZero, LacksLookupGround, LacksOodGround, zeta}
+use Rattle.p3_field.specs.declared.quartic.QuarticExtension.{QuarticExtension}
+use Rattle.plain_pcs.specs.declared.error.PlainProverError.{PlainProverError}
+use Rattle.batch_transcript.specs.declared.failure.GrindStep.TheVariants.{Lookup, Ood}
+use Rattle.batch_verifier.specs.BatchChecks.{Accepted}
+use Rattle.batch_proving.specs.Batch.{table_at}
+use Rattle.batch_proving.specs.declared.error.ProvingError.{ProvingError}
+use Rattle.batch_proving.specs.declared.error.ProvingError.TheVariants.{LookupDenominatorZero, MultiplicityBound, OutOfMemory, Pcs, WitnessNotFound}
+use Rattle.tool_statement.specs.Config.{tool_backend, tool_setting}
+use Rattle.tool_statement.specs.StatedTables.{tool_statement}
+use Rattle.proof_files.specs.Files.{FileData, FileWithin, file_words}
+use Rattle.proof_text.specs.ProofText.{ToolProofData}
+use Rattle.tool_jobs.specs.Unbalanced.{IsFirstUnbalanced, same_word}
+use Rattle.tool_jobs.specs.Jobs.{statement_of}
+use Rattle.tool_validity.specs.Job.{IsBalancedJob, JobTable}
+use Rattle.tool_verifier.specs.FileAnswer.{IsFileAnswer}
+use Rattle.tool_verifier.specs.Refusals.{refused_text}
+use Rattle.tool_verifier.specs.declared.status.Status.{Status}
+use Rattle.tool_verifier.specs.declared.status.Status.TheVariants.{Done, Refused, Usage, BadInput, ReadFault, WriteFault, TooLarge, OutOfMemory as NoMemory}
+use Rattle.tool_prover.specs.JobBatch.{job_batch}
+
+-- the proof file of a job: version 1, what is stated of its tables, and a proof
+abbrev pub file_of : List (JobTable BabyBear) → ToolProofData → FileData
+file_of job q = record { version = 1; tables = map statement_of job; proof = q }
+
+module _ (job : List (JobTable BabyBear)) where
+  -- the proof is the honest one of the job's traces
+  abbrev pub IsJobProof : ToolProofData → Type 0
+  IsJobProof q = let b = job_batch job in IsBuilt b.setting b.prover b.statement b.traces b.degree_bits q
+
+  -- the point of its openings
+  abbrev pub drawn_point : ToolProofData → QuarticExtension
+  drawn_point q = let b = job_batch job in zeta b.setting b.prover b.statement b.traces b.degree_bits q.lookup_pow_witness q.ood_pow_witness
+
+  -- which lies on the rows of no table
+  abbrev pub DrawsOutside : ToolProofData → Type 0
+  DrawsOutside q = (i : ℕ) → i < length job → IsOutside tool_setting (table_at (job_batch job) i) (drawn_point q)
+
+  -- if it does so, the batch verifier accepts the proof
+  abbrev pub MeansAccepted : ToolProofData → Type 0
+  MeansAccepted q = DrawsOutside q → Accepted tool_setting tool_backend (tool_statement (map statement_of job)) q
+
+  -- The text is that of the job's honest proof, whose point lies outside. It is a proof file's text, for which `verify` writes `accepted`.
+  pub record IsProvedText (text : List ℕ) : Type 0 where
+    pub balanced : IsBalancedJob same_word job
+    pub proof : ToolProofData
+    pub honest : IsJobProof proof
+    pub outside : DrawsOutside proof
+    pub within : FileWithin (file_of job proof)
+    pub text_is : text ≡ line_text (file_words (file_of job proof))
+    pub accepted : IsFileAnswer (map statement_of job) proof Done (codes "accepted\n")
+
+  -- Why there is none, as the line that says so. The least value that isn't taken as often as it is given:
+  abbrev pub IsUnbalancedText : List ℕ → Type 0
+  IsUnbalancedText text = (v : BabyBear) × IsFirstUnbalanced job v × (text ≡ refused_text (codes "Unbalanced") (v.value ∷ []))
+
+  -- or of a balanced job: no number passes the grind before the lookups' pair;
+  abbrev pub LacksLookupText : List ℕ → Type 0
+  LacksLookupText text = let b = job_batch job in
+      LacksLookupGround b.setting b.prover b.statement b.traces b.degree_bits × (text ≡ codes "refused WitnessNotFound lookup\n")
+
+  -- a denominator is zero, by its table and its row;
+  abbrev pub IsZeroText : List ℕ → Type 0
+  IsZeroText text = let b = job_batch job in
+      (i : ℕ) × (row : ℕ) × IsDenominatorZero b.setting b.prover b.statement b.traces b.degree_bits i row × (text ≡ refused_text (codes "LookupDenominatorZero") (i ∷ row ∷ []))
+
+  -- no number passes the grind before the point is drawn;
+  abbrev pub LacksOodText : List ℕ → Type 0
+  LacksOodText text = let b = job_batch job in
+      LacksOodGround b.setting b.prover b.statement b.traces b.degree_bits × (text ≡ codes "refused WitnessNotFound ood\n")
+
+  -- the point of the honest proof lies on the rows of a table
+  abbrev pub IsInsideText : List ℕ → Type 0
+  IsInsideText text = (q : ToolProofData) × IsJobProof q × (DrawsOutside q → ⊥) × (text ≡ codes "refused OodPointInDomain\n")
+
+  abbrev pub IsRefusedText : List ℕ → Type 0
+  IsRefusedText text =
+      IsUnbalancedText text ⊎ (IsBalancedJob same_word job × (LacksLookupText text ⊎ (IsZeroText text ⊎ (LacksOodText text ⊎ IsInsideText text))))
+
+  -- what a prover's refusal of a balanced job tells: one of the events, with its place
+  abbrev pub IsTold : ProvingError PlainProverError → Type 0
+  IsTold (Pcs phase source) = ⊥
+  IsTold (MultiplicityBound bus) = ⊥
+  IsTold (LookupDenominatorZero i row) = let b = job_batch job in IsDenominatorZero b.setting b.prover b.statement b.traces b.degree_bits i row
+  IsTold (WitnessNotFound Lookup) = let b = job_batch job in LacksLookupGround b.setting b.prover b.statement b.traces b.degree_bits
+  IsTold (WitnessNotFound Ood) = let b = job_batch job in LacksOodGround b.setting b.prover b.statement b.traces b.degree_bits
+  IsTold OutOfMemory = ⊤
+
+  -- the status and the text
+  unfoldable pub IsJobAnswer : Status → List ℕ → Type 0
+  IsJobAnswer Done text = IsProvedText text
+  IsJobAnswer Refused text = IsRefusedText text
+  IsJobAnswer Usage text = ⊥
+  IsJobAnswer BadInput text = ⊥
+  IsJobAnswer ReadFault text = ⊥
+  IsJobAnswer WriteFault text = ⊥
+  IsJobAnswer NoMemory text = ⊥
+  IsJobAnswer TooLarge text = ⊥

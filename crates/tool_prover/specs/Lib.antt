@@ -1,0 +1,4 @@
+pub mod Outside
+pub mod JobBatch
+pub mod JobAnswer
+pub mod Laws
