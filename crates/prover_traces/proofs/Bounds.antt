@@ -1,7 +1,7 @@
 -- The checks of the buses of a traced batch, by what the check of multiplicities answers.
-use Rattle.std.proofs.Common.{◌≡◌, ℕ, ◌<◌, List, [], ◌∷◌, length, map, sym, ◌∙◌, ap, subst, arith}
+use Rattle.std.proofs.Common.{◌≡◌, ℕ, ◌<◌, ◌≤◌, List, [], ◌∷◌, length, map, sym, ◌∙◌, ap, subst, arith}
 use Rattle.std.proofs.lemmas.List.{length-map}
-use Rattle.p3_field.specs.Checks.{Check, FirstFails, NoneFails, check, in_turn}
+use Rattle.p3_field.specs.Checks.{Check, FirstFails, NoneFails, in_turn}
 use Rattle.p3_field.specs.Laws.Checks.{first_by, first_here, none_alone, none_by}
 use Rattle.p3_air.specs.Shape.{Declaration}
 use Rattle.p3_air.specs.Tree.{Tree}
@@ -23,7 +23,7 @@ use Rattle.prover_traces.specs.Laws.Instances.{counted, heights_are}
 
 module _ {F R : Type 0} (named : ℕ → R) (order : ℕ) (lookups : List (List (LookupData F))) (heights : List ℕ) where
   abbrev bus_check : ℕ → Check R
-  bus_check bus = check (named (capped bus)) (bus_load lookups heights bus < order)
+  bus_check bus = record { refusal = λ e. (e ≡ named (capped bus)) × (order ≤ bus_load lookups heights bus); holds = bus_load lookups heights bus < order }
 
   abbrev bus_checks : List (Check R)
   bus_checks = in_turn (bus_count (batch_buses lookups)) (λ bus. bus_check bus ∷ [])
@@ -35,7 +35,7 @@ module _ {F R : Type 0} (named : ℕ → R) (order : ℕ) (lookups : List (List 
   first_overloaded bus h =
       first_by (λ bus. bus_check bus ∷ []) (λ bus. bus_load lookups heights bus < order) (bus_count (batch_buses lookups)) h.number (named bus)
       (λ b l q. none_alone (bus_check b) q)
-      (λ over. first_here (bus_check h.number) [] (named bus) over (ap named h.named))
+      (λ over. first_here (bus_check h.number) [] (named bus) over (ap named h.named, h.reaches))
       (record { within = h.within; fails = (λ l. let r = h.reaches in omega (arith, r, l)); earlier = h.before })
 
 -- of a traced batch, where these are its lookups and its heights

@@ -1,10 +1,9 @@
 //! What a backend answers when it is asked to commit to matrices.
 ghost use Rattle.std.specs.Prelude.{◌≡◌, IfOk};
-ghost use Rattle.p3_commit.specs.Commitments.{IsCommitment};
 ghost use Rattle.batch_proving.specs.Verdict.{IsProverVerdict};
 ghost use Rattle.prover_traces.specs.Commitment.{commit_part};
 
-use batch_proving::ProvingError;
+use batch_proving::{ProverSettings, ProvingError};
 use batch_setup::{Committed, ProverPhase};
 use p3_commit::{CosetPcs, Pcs, PcsFailure, PolynomialSpace, UnivariateStarkPcs};
 use p3_field::{
@@ -25,7 +24,7 @@ pub fn commit_matrices<SC: StarkGenericConfig>(
     evaluations: Vec<(Domain<SC>, RowMajorMatrix<Val<SC>>)>,
 ) -> Result<(Commitment<SC>, Committed<SC>), ProvingError<PcsProverError<SC>>>
     ensures verdict { IsProverVerdict (commit_part phase (SC.Pcs.commit_fault (SC.pcs_of config.now)) evaluations.items) result }
-    ensures committed { IfOk result (λ w. IsCommitment SC.Val.ring ⟦<<SC::Pcs as Pcs<SC::Challenge, SC::Challenger>>::Domain as PolynomialSpace>⟧.points ⟦<<SC::Pcs as Pcs<SC::Challenge, SC::Challenger>>::Domain as PolynomialSpace>⟧.point_at (SC.Pcs.commits (SC.pcs_of config.now)) (SC.Pcs.made (SC.pcs_of config.now)) (SC.Pcs.holds (SC.pcs_of config.now)) evaluations.items w) }
+    ensures committed { IfOk result (⟦<SC as ProverSettings>⟧.commits_to config.now evaluations.items) }
 {
     match config.pcs().commit(alloc, evaluations) {
         Ok(committed) => Ok(committed),

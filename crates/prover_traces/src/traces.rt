@@ -1,7 +1,6 @@
 //! The commitment to the traces of a batch.
 ghost use Rattle.std.specs.Prelude.{◌≡◌, ◌^◌, ◌≤◌, false, map, All, IfOk};
 ghost use Rattle.std.specs.Int.{IsPowerOfTwo};
-ghost use Rattle.p3_commit.specs.Commitments.{IsCommitment};
 ghost use Rattle.p3_field.specs.Laws.SubgroupSelectors.{subgroup};
 ghost use Rattle.p3_matrix.specs.Matrix.{height};
 ghost use Rattle.batch_setup.specs.Setup.{ArePowers, log_of};
@@ -72,7 +71,7 @@ pub fn commit_traces<SC: StarkGenericConfig, A: Air<Val<SC>>>(
     ensures verdict { let b = batch_of (⟦<SC as Settings>⟧.setting config.now) (⟦<SC as ProverSettings>⟧.prover config.now) A.declaration A.trees instances.now common.now in
         IsProverVerdict (trace_part (⟦<SC as ProverSettings>⟧.prover_backend config.now) b) result }
     ensures committed { let b = batch_of (⟦<SC as Settings>⟧.setting config.now) (⟦<SC as ProverSettings>⟧.prover config.now) A.declaration A.trees instances.now common.now in
-        IfOk result (λ w. IsCommitment SC.Val.ring ⟦<<SC::Pcs as Pcs<SC::Challenge, SC::Challenger>>::Domain as PolynomialSpace>⟧.points ⟦<<SC::Pcs as Pcs<SC::Challenge, SC::Challenger>>::Domain as PolynomialSpace>⟧.point_at (SC.Pcs.commits (SC.pcs_of config.now)) (SC.Pcs.made (SC.pcs_of config.now)) (SC.Pcs.holds (SC.pcs_of config.now)) (main_matrices b) w) }
+        IfOk result (⟦<SC as ProverSettings>⟧.commits_to config.now (main_matrices b)) }
 {
     let traces = traces_on_rows(alloc, config, instances)?;
     commit_matrices(alloc, config, ProverPhase::TraceCommitment, traces)
