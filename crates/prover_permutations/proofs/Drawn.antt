@@ -1,5 +1,5 @@
 -- The checks of a commitment to what may be nothing, and to permutation columns for the value that is ground.
-use Rattle.std.proofs.Common.{◌≡◌, List, [], ◌∷◌, length, Option, Result, Ok, Err, inl, inr, refl, sym, ◌∙◌, ap, subst, arith}
+use Rattle.std.proofs.Common.{◌≡◌, List, [], ◌∷◌, length, Option, Some, Result, Ok, Err, inl, inr, refl, sym, ◌∙◌, ap, subst, arith}
 use Rattle.std.specs.Prelude.{IfOk}
 use Rattle.p3_field.specs.Checks.{Check, FirstFails, NoneFails}
 use Rattle.p3_field.specs.Domain.{CosetData}
@@ -9,7 +9,7 @@ use Rattle.batch_setup.specs.declared.error.ProverPhase.{ProverPhase}
 use Rattle.batch_setup.specs.declared.error.ProverPhase.TheVariants.{PermutationCommitment}
 use Rattle.honest_proofs.specs.HonestProof.{AreCanonical}
 use Rattle.honest_proofs.specs.Laws.Ground.{one_lookup}
-use Rattle.batch_proving.specs.Batch.{Batch, all_permutations}
+use Rattle.batch_proving.specs.Batch.{Batch, CommitsToSome, all_permutations}
 use Rattle.batch_proving.specs.Proving.{IsPairGroundOf, IsPcsRefusal, fault_of_some}
 use Rattle.batch_proving.specs.Verdict.{IsProverRefusal, IsProverVerdict}
 use Rattle.batch_proving.specs.Laws.Verdicts.{refusal_along}
@@ -32,6 +32,10 @@ module _ {M R : Type 0} (phase : ProverPhase) (fault : List M → R → Type 0) 
   pub refused_of_some : (ms : List M) (e : ProvingError R) → (length ms ≡ 0 → ⊥) → IsProverRefusal (commit_part phase fault ms) e → IsProverRefusal (commit_part phase (fault_of_some fault) ms) e
   refused_of_some [] e some h = absurd (some refl)
   refused_of_some (m ∷ ms) e some h = h
+
+pub some_kept : {M X : Type 0} (commits : List M → X → Type 0) (ms : List M) (x : X) → (length ms ≡ 0 → ⊥) → commits ms x → CommitsToSome commits ms (Some x)
+some_kept commits [] x some h = absurd (some refl)
+some_kept commits (m ∷ ms) x some h = h
 
 module _ {S F E C R : Type 0} (b : Batch S F E C) (fault : List (CosetData F × Rows F) → R → Type 0) (K : AreCanonical b.setting.field.ring b.setting.order b.prover.canonical) (columns : List (CosetData F × Rows F))
     (w : Option F) (found : IsPairGroundOf b w) (own : columns ≡ all_permutations b w) where

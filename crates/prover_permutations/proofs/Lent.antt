@@ -1,4 +1,4 @@
--- What is behind references that may be there.
+-- What is behind references that may be there, and what is generated for equal traces.
 use Rattle.std.proofs.Common.{◌≡◌, ℕ, List, Option, None, Some, refl, subst}
 use Rattle.std.specs.Prelude.{IfSome}
 use Rattle.std.specs.Option.{option_copied, option_map}

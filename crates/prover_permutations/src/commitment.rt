@@ -1,6 +1,5 @@
 //! The commitment to the permutation columns of a batch.
 ghost use Rattle.std.specs.Prelude.{◌≡◌, Option, IfOk};
-ghost use Rattle.p3_commit.specs.Commitments.{IsCommitment};
 ghost use Rattle.batch_proving.specs.Batch.{CommitsToSome, all_permutations, batch_of};
 ghost use Rattle.batch_proving.specs.Proving.{IsPairGroundOf, fault_of_some, permutation_part};
 ghost use Rattle.batch_proving.specs.Verdict.{IsProverVerdict};
@@ -28,7 +27,7 @@ fn commit_some<SC: StarkGenericConfig>(
     columns: Vec<(Domain<SC>, RowMajorMatrix<Val<SC>>)>,
 ) -> Result<Option<(Commitment<SC>, Committed<SC>)>, ProvingError<PcsProverError<SC>>>
     ensures verdict { IsProverVerdict (commit_part ProverPhase.PermutationCommitment (fault_of_some (SC.Pcs.commit_fault (SC.pcs_of config.now))) columns.items) result }
-    ensures committed { IfOk result (CommitsToSome (λ es w. IsCommitment SC.Val.ring ⟦<<SC::Pcs as Pcs<SC::Challenge, SC::Challenger>>::Domain as PolynomialSpace>⟧.points ⟦<<SC::Pcs as Pcs<SC::Challenge, SC::Challenger>>::Domain as PolynomialSpace>⟧.point_at (SC.Pcs.commits (SC.pcs_of config.now)) (SC.Pcs.made (SC.pcs_of config.now)) (SC.Pcs.holds (SC.pcs_of config.now)) es w) columns.items) }
+    ensures committed { IfOk result (CommitsToSome (⟦<SC as ProverSettings>⟧.commits_to config.now) columns.items) }
 {
     if columns.is_empty() {
         return Ok(None);
@@ -52,7 +51,7 @@ pub fn commit_permutations<SC: StarkGenericConfig, A: Air<Val<SC>>>(
     ensures verdict { let b = batch_of (⟦<SC as Settings>⟧.setting config.now) (⟦<SC as ProverSettings>⟧.prover config.now) A.declaration A.trees instances.now common.now in
         IsProverVerdict (permutation_part (⟦<SC as ProverSettings>⟧.prover_backend config.now) b) result }
     ensures committed { let b = batch_of (⟦<SC as Settings>⟧.setting config.now) (⟦<SC as ProverSettings>⟧.prover config.now) A.declaration A.trees instances.now common.now in
-        IfOk result (λ o. (w : Option SC.Val) → IsPairGroundOf b w → CommitsToSome (λ es w. IsCommitment SC.Val.ring ⟦<<SC::Pcs as Pcs<SC::Challenge, SC::Challenger>>::Domain as PolynomialSpace>⟧.points ⟦<<SC::Pcs as Pcs<SC::Challenge, SC::Challenger>>::Domain as PolynomialSpace>⟧.point_at (SC.Pcs.commits (SC.pcs_of config.now)) (SC.Pcs.made (SC.pcs_of config.now)) (SC.Pcs.holds (SC.pcs_of config.now)) es w) (all_permutations b w) o) }
+        IfOk result (λ o. (w : Option SC.Val) → IsPairGroundOf b w → CommitsToSome (⟦<SC as ProverSettings>⟧.commits_to config.now) (all_permutations b w) o) }
 {
     commit_some(alloc, config, columns)
 }
