@@ -46,7 +46,8 @@ module _ {S F E C : Type 0} (c : Setting S F E C) (p : Prover F E C) (t : Traced
   made_some ready some m terminal fills G d f on flat =
       let tall = ready.rows in
       let own = columns_are c p t challenges some tall m terminal fills G in
-      let there : where_some t.lookups (subgroup c.field.ring t.degree_bits, flattened_matrix c.extension (permutation_columns c p t challenges)) ≡ Some (subgroup c.field.ring t.degree_bits, flattened_matrix c.extension (permutation_columns c p t challenges)) = where_there t.lookups (subgroup c.field.ring t.degree_bits, flattened_matrix c.extension (permutation_columns c p t challenges)) some in
+      let whole : CosetData F × Rows F = (subgroup c.field.ring t.degree_bits, flattened_matrix c.extension (permutation_columns c p t challenges)) in
+      let there : where_some t.lookups whole ≡ Some whole = where_there t.lookups whole some in
       record {
         fractions = λ row l. G.4 row (omega (arith, l, tall));
         matrix = (λ k. (on k, (flat ∙ ap (flattened_matrix c.extension) own) k) ∷ []) ∙ ap option_to_list (sym there);
