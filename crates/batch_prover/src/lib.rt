@@ -4,4 +4,9 @@
 //! of their own; here they are put together along the prover's transcript.
 #![tactic(auto)]
 
-pub mod transcript;
+mod lookups;
+mod prover;
+mod quotients;
+mod transcript;
+
+pub use prover::{prove_batch, prove_batch_with_point};

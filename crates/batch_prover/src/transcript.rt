@@ -1,6 +1,8 @@
 //! A prover's transcript of a batch as far as the challenges of its lookups.
-ghost use Rattle.std.specs.Prelude.{◌≡◌, IfOk, length, map};
-ghost use Rattle.batch_transcript.specs.BatchScript.{from_lookup};
+ghost use Rattle.std.specs.Prelude.{◌≡◌, ◌^◌, ◌<◌, [], IfOk, is_some, map};
+ghost use Rattle.std.specs.Option.{option_copied};
+ghost use Rattle.batch_transcript.specs.BatchScript.{from_lookup, from_ood, from_quotient, quotient_script};
+ghost use Rattle.batch_transcript.specs.Running.{Plays};
 ghost use Rattle.batch_proving.specs.Batch.{IsTracedAll, batch_of};
 ghost use Rattle.batch_prover.specs.Stages.{main_of, pair_state, shape_of};
 
@@ -9,7 +11,7 @@ use batch_proving::ProverSettings;
 use batch_setting::Settings;
 use batch_setup::{StarkInstance, lent_airs};
 use batch_statement::CommonData;
-use batch_transcript::BatchProverTranscript;
+use batch_transcript::{BatchChallenger, BatchProverTranscript};
 use p3_air::{Air, BaseAir};
 use p3_challenger::{CanObserve, CanSample, CanSampleBits, GrindingChallenger};
 use p3_commit::{CosetPcs, Pcs, PolynomialSpace, UnivariateStarkPcs};
@@ -58,6 +60,8 @@ pub(crate) fn bound_transcript<SC: StarkGenericConfig, A: Air<Val<SC>>>(
     ensures state { let b = batch_of (⟦<SC as Settings>⟧.setting config.now) (⟦<SC as ProverSettings>⟧.prover config.now) A.declaration A.trees instances.now common.now in IfOk result (λ t. t.state ≡ pair_state b) }
     ensures turn { IfOk result (λ t. t.remaining ≡ from_lookup SC.Challenge.DIMENSION t.shape) }
     ensures shape { let b = batch_of (⟦<SC as Settings>⟧.setting config.now) (⟦<SC as ProverSettings>⟧.prover config.now) A.declaration A.trees instances.now common.now in IfOk result (λ t. t.shape ≡ shape_of b) }
+    ensures few_lookup { IfOk result (λ t. 2 ^ t.shape.lookup_pow_bits < SC.Val.ORDER_U64) }
+    ensures few_ood { IfOk result (λ t. 2 ^ t.shape.ood_pow_bits < SC.Val.ORDER_U64) }
 {
     let airs = lent_airs(alloc, instances)?;
     let values = public_values(alloc, instances)?;
@@ -69,4 +73,28 @@ pub(crate) fn bound_transcript<SC: StarkGenericConfig, A: Air<Val<SC>>>(
     transcript.main_phase(main, &values);
     transcript.preprocessed_phase(preprocessed_commitment(common));
     Ok(transcript)
+}
+
+// Binds the commitment to the quotients, then the randomization's, where there is one; both are lent alike.
+pub(crate) fn bind_quotient<
+    'a,
+    F: PrimeField64,
+    EF: ExtensionField<F>,
+    Com,
+    C: GrindingChallenger<Witness = F>
+        + CanObserve<EF>
+        + CanObserve<Com>
+        + CanSample<F>
+        + CanSample<EF>,
+>(
+    transcript: &mut BatchProverTranscript<C, F, EF, Com>,
+    quotient: &'a Com,
+    randomization: Option<&'a Com>,
+)
+    requires turn { transcript.old.remaining ≡ from_quotient EF.DIMENSION transcript.old.shape }
+    requires count { is_some randomization ≡ transcript.old.shape.has_randomization_commitment }
+    ensures plays { Plays (⟦<C as BatchChallenger<F, EF, Com>>⟧.functions) (quotient_script quotient.now (option_copied randomization.entry)) transcript.old transcript.new [] }
+    ensures turn { transcript.new.remaining ≡ from_ood EF.DIMENSION transcript.new.shape }
+{
+    transcript.quotient_phase(quotient, randomization);
 }
