@@ -1,7 +1,7 @@
 -- What a prover of a batch answers: the checks in the order of its work, each with the refusal that names it, and the proof that it gives where none
 -- fails. After Plonky3's p3-batch-stark (prove_batch).
-use Rattle.std.specs.Prelude.{◌≡◌, ℕ, ◌^◌, ◌<◌, List, [], ◌∷◌, ◌++◌, All, Option}
-use Rattle.p3_field.specs.Checks.{Check, check, in_turn}
+use Rattle.std.specs.Prelude.{◌≡◌, ℕ, ◌^◌, ◌<◌, ◌≤◌, List, [], ◌∷◌, ◌++◌, All, Option}
+use Rattle.p3_field.specs.Checks.{Check, in_turn}
 use Rattle.p3_matrix.specs.Matrix.{Rows}
 use Rattle.p3_commit.specs.Claims.{Request}
 use Rattle.p3_commit.specs.Commitments.{AreExtensions, AreHeld}
@@ -44,7 +44,8 @@ module _ {S F E C : Type 0} (b : Batch S F E C) where
   abbrev pub bound_part : {R : Type 0} → List (Check (ProvingError R))
   bound_part =
       let lookups = b.statement.common.lookups in
-      in_turn (bus_count (batch_buses lookups)) (λ bus. check (MultiplicityBound (capped bus)) (bus_load lookups (heights_of (masks b.setting) b.degree_bits (table_count b)) bus < b.setting.order) ∷ [])
+      let load = bus_load lookups (heights_of (masks b.setting) b.degree_bits (table_count b)) in
+      in_turn (bus_count (batch_buses lookups)) (λ bus. record { refusal = λ e. (e ≡ MultiplicityBound (capped bus)) × (b.setting.order ≤ load bus); holds = load bus < b.setting.order } ∷ [])
 
   -- some number below the order passes the grind before the lookups' pair;
   abbrev pub lookup_part : {R : Type 0} → List (Check (ProvingError R))

@@ -1,5 +1,5 @@
 -- Answers of a prover, for checks in order.
-use Rattle.std.specs.Prelude.{List, Result, Ok, Err, ⊤}
+use Rattle.std.specs.Prelude.{List, [], ◌∷◌, Result, Ok, Err, ◌⊎◌, ⊤}
 use Rattle.p3_field.specs.Checks.{Check, NoneFails, FirstFails}
 use Rattle.batch_proving.specs.declared.error.ProvingError.{ProvingError}
 use Rattle.batch_proving.specs.declared.error.ProvingError.TheVariants.{Pcs, MultiplicityBound, LookupDenominatorZero, WitnessNotFound, OutOfMemory}
@@ -16,3 +16,21 @@ IsProverRefusal cs OutOfMemory = ⊤
 abbrev pub IsProverVerdict : {T R : Type 0} → List (Check (ProvingError R)) → Result T (ProvingError R) → Type 0
 IsProverVerdict cs (Ok x) = NoneFails cs
 IsProverVerdict cs (Err e) = IsProverRefusal cs e
+
+-- The checks before one hold, and it is refused with e, which says why. A check that speaks of what some prover data is asked holds where there is such data
+-- that isn't refused, and is refused where there is such data that is.
+unfoldable pub FirstRefused : {R : Type 0} → List (Check R) → R → Type 0
+FirstRefused [] e = ⊥
+FirstRefused (c ∷ cs) e = (c.holds × FirstRefused cs e) ⊎ c.refusal e
+
+abbrev pub IsAnswerRefusal : {R : Type 0} → List (Check (ProvingError R)) → ProvingError R → Type 0
+IsAnswerRefusal cs (Pcs phase source) = FirstRefused cs (Pcs phase source)
+IsAnswerRefusal cs (MultiplicityBound bus) = FirstRefused cs (MultiplicityBound bus)
+IsAnswerRefusal cs (LookupDenominatorZero instance row) = FirstRefused cs (LookupDenominatorZero instance row)
+IsAnswerRefusal cs (WitnessNotFound step) = FirstRefused cs (WitnessNotFound step)
+IsAnswerRefusal cs OutOfMemory = ⊤
+
+-- the answer of the whole work: Ok where the checks hold, and else the refusal of one behind checks that hold
+abbrev pub IsProverAnswer : {T R : Type 0} → List (Check (ProvingError R)) → Result T (ProvingError R) → Type 0
+IsProverAnswer cs (Ok x) = NoneFails cs
+IsProverAnswer cs (Err e) = IsAnswerRefusal cs e

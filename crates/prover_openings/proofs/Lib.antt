@@ -1,0 +1,10 @@
+pub mod Asking
+pub mod Counting
+pub mod Given
+pub mod Left
+pub mod Lists
+pub mod Places
+pub mod AllAsked
+pub mod Sized
+pub mod Taking
+pub mod Whole

@@ -1,0 +1,46 @@
+-- The check that a batch is opened, and what a prover has before it.
+use Rattle.std.specs.Prelude.{◌≡◌, List, [], ◌∷◌, Option, None, Some, Result}
+use Rattle.p3_field.specs.Checks.{Check}
+use Rattle.p3_field.specs.Domain.{CosetData}
+use Rattle.p3_matrix.specs.Matrix.{Rows}
+use Rattle.p3_commit.specs.Failure.{NoneOf}
+use Rattle.batch_proving.specs.Backend.{ProverBackend}
+use Rattle.batch_proving.specs.Batch.{Batch, all_chunks, all_permutations, main_matrices}
+use Rattle.batch_proving.specs.Proving.{AreAsked, IsGroundOf, IsPcsRefusal}
+use Rattle.batch_proving.specs.Verdict.{IsProverVerdict}
+use Rattle.batch_proving.specs.declared.error.ProvingError.{ProvingError}
+use Rattle.batch_setup.specs.declared.error.ProverPhase.TheVariants.{Opening}
+use Rattle.honest_proofs.specs.HonestProof.{main_part, opening_state, permutation_part, quotient_part, zeta}
+use Rattle.prover_openings.specs.Asked.{KeptRounds, asked_of}
+
+-- both are there, and in the relation, or neither is
+abbrev pub AreBoth : {X Y : Type 0} → (X → Y → Type 0) → Option X → Option Y → Type 0
+AreBoth R None None = Unit {0}
+AreBoth R None (Some y) = ⊥
+AreBoth R (Some x) None = ⊥
+AreBoth R (Some x) (Some y) = R x y
+
+-- the answer of an opening: it is refused exactly where there is a cause
+abbrev pub IsOpenedBy : {T R : Type 0} → (R → Type 0) → Result T (ProvingError R) → Type 0
+IsOpenedBy faults result = IsProverVerdict (record { refusal = IsPcsRefusal Opening faults; holds = NoneOf faults } ∷ []) result
+
+module _ {S F E C D P R : Type 0} (k : ProverBackend S F E C D P R) (b : Batch S F E C) (kept : KeptRounds D) where
+  -- The check that what is asked, of these prover data, is opened. It is what an honest prover asks, and the backend has no cause to refuse it, or the refusal
+  -- names the cause.
+  abbrev pub opening_checks : List (Check (ProvingError R))
+  opening_checks = record {
+    refusal = λ e. (w : Option F) × (z : F) × IsGroundOf b w z × AreAsked k b w z (asked_of b kept w z) × IsPcsRefusal Opening (k.open_fault (asked_of b kept w z)) e;
+    holds = (w : Option F) (z : F) → IsGroundOf b w z → AreAsked k b w z (asked_of b kept w z) × NoneOf (k.open_fault (asked_of b kept w z));
+  } ∷ []
+
+  -- What a prover has where it opens: two grinding values, zeta, the challenger's state, and prover data that belongs to the commitments to the traces, to the
+  -- quotients' chunks, and to the permutation columns, where there are such.
+  pub record IsReady (commits : List (CosetData F × Rows F) → C × D → Type 0) (point : E) (state : S) : Type 0 where
+    pub lookup_witness : Option F
+    pub ood_witness : F
+    pub is_ground : IsGroundOf b lookup_witness ood_witness
+    pub point_is : point ≡ zeta b.setting b.prover b.statement b.traces b.degree_bits lookup_witness ood_witness
+    pub state_is : state ≡ opening_state b.setting b.prover b.statement b.traces b.degree_bits lookup_witness ood_witness
+    pub main : commits (main_matrices b) (main_part b.setting b.prover b.statement b.traces b.degree_bits, kept.main)
+    pub quotient : commits (all_chunks b lookup_witness) (quotient_part b.setting b.prover b.statement b.traces b.degree_bits lookup_witness, kept.quotient)
+    pub permutation : AreBoth (λ c d. commits (all_permutations b lookup_witness) (c, d)) (permutation_part b.setting b.prover b.statement b.traces b.degree_bits lookup_witness) kept.permutation

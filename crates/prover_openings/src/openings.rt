@@ -1,0 +1,130 @@
+//! The openings of a batch.
+ghost use Rattle.std.specs.Prelude.{◌≡◌, ℕ, ◌^◌, false, List, Option, All, IfOk, map, option_map};
+ghost use Rattle.p3_field.specs.Poly.{table};
+ghost use Rattle.p3_commit.specs.Commitments.{AreHeld, Held, IsOpening, nested};
+ghost use Rattle.batch_proving.specs.Batch.{IsKeptWith, IsTracedAll, batch_of, log_parts_at, preprocessed_all, table_at, table_count};
+ghost use Rattle.batch_proving.specs.Proving.{AreAsked, AvoidsExcluded, IsGroundOf};
+ghost use Rattle.batch_proving.specs.Verdict.{IsProverVerdict};
+ghost use Rattle.honest_proofs.specs.HonestProof.{alpha, challenges_at, honest_claims, opened_of, opening_state, zeta as honest_zeta};
+ghost use Rattle.prover_openings.specs.Asked.{asked_of};
+ghost use Rattle.prover_openings.specs.Check.{IsOpenedBy, IsReady, opening_checks};
+
+use crate::requests::all_requests;
+use crate::tables::opened_tables;
+use batch_proving::{ProverPhase, ProverSettings, ProvingError};
+use batch_setting::Settings;
+use batch_setup::{Committed, StarkInstance};
+use batch_statement::{CommonData, OpenedValuesWithLookups};
+use p3_air::{Air, BaseAir};
+use p3_commit::{
+    CosetPcs, OpenedValues, OpeningRequest, Pcs, PcsFailure, PolynomialSpace, UnivariateStarkPcs,
+};
+use p3_field::{
+    BasedVectorSpace, ExtensionField, Field, FieldCore, PrimeCharacteristicRing, PrimeCore64,
+    PrimeField64, RingCore, TwoAdicCore, TwoAdicField,
+};
+use p3_uni_stark::{Challenge, Challenger, PcsProof, PcsProverError, StarkGenericConfig, Val};
+use std::alloc::Global;
+
+// What the backend opens of requests, of which the one at this place is that of preprocessed matrices. The answer is `Pcs`
+// exactly where the backend refuses.
+#[tactic(auto, unfolding(p3_field::specs::Checks::NoneFails, p3_field::specs::Checks::FirstFails))]
+fn opened_requests<SC: StarkGenericConfig>(
+    alloc: Global,
+    config: &SC,
+    requests: Vec<OpeningRequest<'_, Committed<SC>, Challenge<SC>>>,
+    preprocessed: Option<usize>,
+    challenger: &mut Challenger<SC>,
+) -> Result<(OpenedValues<Challenge<SC>>, PcsProof<SC>), ProvingError<PcsProverError<SC>>>
+    requires plain { SC.Pcs.ZK ≡ false }
+    requires made { All (λ r. SC.Pcs.made (SC.pcs_of config.now) r.prover_data) requests.items }
+    ensures verdict { IsOpenedBy (SC.Pcs.open_fault (SC.pcs_of config.now) requests.entry.items) result }
+    ensures proof { IfOk result (λ w. SC.Pcs.proves (SC.pcs_of config.now) challenger.old requests.entry.items w.1) }
+    ensures opening { IfOk result (λ w. (held : List (Held SC.Pcs.Commitment SC.Val)) → AreHeld (SC.Pcs.holds (SC.pcs_of config.now)) requests.entry.items held
+        → IsOpening SC.Challenge.ring SC.Challenge.embed ⟦<<SC::Pcs as Pcs<SC::Challenge, SC::Challenger>>::Domain as PolynomialSpace>⟧.points (SC.Pcs.excludes (SC.pcs_of config.now)) (λ claims. SC.Pcs.opens (SC.pcs_of config.now) challenger.old claims w.1) requests.entry.items (nested w.0) held) }
+{
+    match config
+        .pcs()
+        .open_with_preprocessing(alloc, requests, challenger, preprocessed)
+    {
+        Ok(opening) => Ok(opening),
+        Err(PcsFailure::OutOfMemory) => Err(ProvingError::OutOfMemory),
+        Err(PcsFailure::Refused(source)) => Err(ProvingError::Pcs {
+            phase: ProverPhase::Opening,
+            source,
+        }),
+    }
+}
+
+// The place of the request for preprocessed matrices, where their prover data is there.
+fn place_of<D>(preprocessed: Option<&D>) -> Option<usize> {
+    match preprocessed {
+        None => None,
+        Some(_) => Some(2),
+    }
+}
+
+// Opens what a batch's prover committed to, where the degree bits and the numbers of the quotients' chunks are known.
+pub(crate) fn open_counted<SC: StarkGenericConfig, A: Air<Val<SC>>>(
+    alloc: Global,
+    config: &SC,
+    instances: &[StarkInstance<'_, SC, A>],
+    common: &CommonData<SC>,
+    preprocessed: Option<&Committed<SC>>,
+    main: &Committed<SC>,
+    permutation: Option<&Committed<SC>>,
+    quotient: &Committed<SC>,
+    degree_bits: &[usize],
+    chunk_counts: &[usize],
+    zeta: Challenge<SC>,
+    challenger: &mut Challenger<SC>,
+) -> Result<
+    (Vec<OpenedValuesWithLookups<Challenge<SC>>>, PcsProof<SC>),
+    ProvingError<PcsProverError<SC>>,
+>
+    requires plain { SC.Pcs.ZK ≡ false }
+    requires traced { let b = batch_of (⟦<SC as Settings>⟧.setting config.now) (⟦<SC as ProverSettings>⟧.prover config.now) A.declaration A.trees instances.now common.now in
+        IsTracedAll b }
+    requires bits { let b = batch_of (⟦<SC as Settings>⟧.setting config.now) (⟦<SC as ProverSettings>⟧.prover config.now) A.declaration A.trees instances.now common.now in
+        degree_bits.now ≡ b.degree_bits }
+    requires chunks { let b = batch_of (⟦<SC as Settings>⟧.setting config.now) (⟦<SC as ProverSettings>⟧.prover config.now) A.declaration A.trees instances.now common.now in
+        chunk_counts.now ≡ table (table_count b) (λ i. 2 ^ log_parts_at b i) }
+    requires preprocessed { let b = batch_of (⟦<SC as Settings>⟧.setting config.now) (⟦<SC as ProverSettings>⟧.prover config.now) A.declaration A.trees instances.now common.now in
+        IsKeptWith (⟦<SC as ProverSettings>⟧.commits_to config.now) (preprocessed_all b) b.statement.common.preprocessed (option_map (λ d. d.now) preprocessed) }
+    requires ready { let b = batch_of (⟦<SC as Settings>⟧.setting config.now) (⟦<SC as ProverSettings>⟧.prover config.now) A.declaration A.trees instances.now common.now in
+        let k = ⟦<SC as ProverSettings>⟧.prover_backend config.now in
+        IsReady k b (record { main = main.now; quotient = quotient.now; preprocessed = option_map (λ d. d.now) preprocessed; permutation = option_map (λ d. d.now) permutation }) (⟦<SC as ProverSettings>⟧.commits_to config.now) zeta challenger.old }
+    ensures verdict { let b = batch_of (⟦<SC as Settings>⟧.setting config.now) (⟦<SC as ProverSettings>⟧.prover config.now) A.declaration A.trees instances.now common.now in
+        let k = ⟦<SC as ProverSettings>⟧.prover_backend config.now in
+        IsProverVerdict (opening_checks k b (record { main = main.now; quotient = quotient.now; preprocessed = option_map (λ d. d.now) preprocessed.entry; permutation = option_map (λ d. d.now) permutation.entry })) result }
+    ensures opened { let b = batch_of (⟦<SC as Settings>⟧.setting config.now) (⟦<SC as ProverSettings>⟧.prover config.now) A.declaration A.trees instances.now common.now in
+        IfOk result (λ r. (w : Option SC.Val) (z : SC.Val) → IsGroundOf b w z
+        → r.0.items ≡ table (table_count b) (λ i. opened_of b.setting b.prover (table_at b i) (challenges_at b.setting b.prover b.statement b.traces b.degree_bits w i) (alpha b.setting b.prover b.statement b.traces b.degree_bits w) (honest_zeta b.setting b.prover b.statement b.traces b.degree_bits w z))) }
+    ensures proves { let b = batch_of (⟦<SC as Settings>⟧.setting config.now) (⟦<SC as ProverSettings>⟧.prover config.now) A.declaration A.trees instances.now common.now in
+        let k = ⟦<SC as ProverSettings>⟧.prover_backend config.now in
+        IfOk result (λ r. (w : Option SC.Val) (z : SC.Val) → IsGroundOf b w z
+        → AreAsked k b w z (asked_of b (record { main = main.now; quotient = quotient.now; preprocessed = option_map (λ d. d.now) preprocessed.entry; permutation = option_map (λ d. d.now) permutation.entry }) w z) × SC.Pcs.proves (SC.pcs_of config.now) (opening_state b.setting b.prover b.statement b.traces b.degree_bits w z) (asked_of b (record { main = main.now; quotient = quotient.now; preprocessed = option_map (λ d. d.now) preprocessed.entry; permutation = option_map (λ d. d.now) permutation.entry }) w z) r.1) }
+    ensures taken { let b = batch_of (⟦<SC as Settings>⟧.setting config.now) (⟦<SC as ProverSettings>⟧.prover config.now) A.declaration A.trees instances.now common.now in
+        let k = ⟦<SC as ProverSettings>⟧.prover_backend config.now in
+        IfOk result (λ r. (w : Option SC.Val) (z : SC.Val) → IsGroundOf b w z → AvoidsExcluded k b w z
+        → SC.Pcs.opens (SC.pcs_of config.now) (opening_state b.setting b.prover b.statement b.traces b.degree_bits w z) (honest_claims b.setting b.prover b.statement b.traces b.degree_bits w z r.1) r.1) }
+{
+    let masks = config.is_zk();
+    let requests = all_requests(
+        alloc,
+        main,
+        quotient,
+        preprocessed,
+        permutation,
+        instances,
+        common,
+        degree_bits,
+        chunk_counts,
+        masks,
+        zeta,
+    )?;
+    let place = place_of(preprocessed);
+    let (values, proof) = opened_requests(alloc, config, requests, place, challenger)?;
+    let tables = opened_tables(alloc, values, preprocessed.is_some(), common, chunk_counts)?;
+    Ok((tables, proof))
+}

@@ -1,0 +1,228 @@
+-- What is made of all tables of a batch, for the challenges that are drawn.
+use Rattle.std.proofs.Common.{◌≡◌, ℕ, zero, suc, ◌+◌, ◌*◌, ◌^◌, ◌<◌, List, [], ◌∷◌, ◌++◌, length, get_or, map, Option, None, Some, Result, Ok, Err, inl, inr, refl, sym, ◌∙◌, ap, subst, arith}
+use Rattle.std.specs.Prelude.{IfOk, IfSome, option_map, option_to_list, count_by, cond}
+use Rattle.std.specs.List.{flat_map}
+use Rattle.std.specs.Result.{IsErrAnd}
+use Rattle.std.proofs.lemmas.Bool.{cases_lt}
+use Rattle.std.proofs.lemmas.Grind.{flat_map-append}
+use Rattle.std.proofs.lemmas.List.{map-append}
+use Rattle.std.proofs.lemmas.List.Sums.{sum_by-cons}
+use Rattle.p3_field.specs.Checks.{FirstFails, NoneFails}
+use Rattle.p3_field.specs.Domain.{CosetData}
+use Rattle.p3_field.specs.Laws.Tables.{get_or-table, table_more, table_push, table_same}
+use Rattle.p3_field.specs.Poly.{table}
+use Rattle.p3_field.specs.Ring.{Ring}
+use Rattle.p3_matrix.specs.Matrix.{Rows, height}
+use Rattle.p3_air.specs.Shape.{HasColumns}
+use Rattle.p3_lookup.specs.Generated.{IsFirstZeroOf}
+use Rattle.p3_lookup.specs.declared.terminal.LookupTerminal.{LookupTerminal}
+use Rattle.p3_lookup.specs.Batch.{laid_out}
+use Rattle.p3_lookup.specs.Bus.{batch_buses, bus_count, widest}
+use Rattle.p3_lookup.specs.Challenge.{ChallengesData, challenges_with}
+use Rattle.p3_lookup.specs.Lookup.{LookupData}
+use Rattle.batch_transcript.specs.Buses.{batch_layout, instance_challenges}
+use Rattle.batch_setting.specs.Setting.{masks}
+use Rattle.batch_shape_checks.specs.ShapeChecks.{has_some}
+use Rattle.batch_validity.specs.Laws.Held.{lookups_fit}
+use Rattle.batch_validity.specs.Traced.{declared, log_rows}
+use Rattle.committed_tables.specs.Fields.{FieldsLaws}
+use Rattle.committed_tables.specs.Traces.{IsSomeTall}
+use Rattle.honest_proofs.specs.HonestProof.{AreCanonical, HasFractions, IsDenominatorZero, argument_of, challenges_at, pair, permutation_matrices, state_at_pair, terminal_of, terminals}
+use Rattle.honest_proofs.specs.Laws.Answered.{fault_is}
+use Rattle.honest_proofs.specs.Laws.Ground.{denominator_event, one_lookup}
+use Rattle.honest_proofs.specs.Laws.Staged.{IsPair, one_pair}
+use Rattle.batch_proving.specs.Batch.{Batch, IsTracedAll, all_challenges, all_permutations, table_at, table_count}
+use Rattle.batch_proving.specs.Proving.{HaveFractionsFor, IsPairGroundOf, fraction_part}
+use Rattle.batch_proving.specs.Verdict.{IsProverRefusal, IsProverVerdict}
+use Rattle.batch_proving.specs.declared.error.ProvingError.{ProvingError}
+use Rattle.batch_proving.specs.declared.error.ProvingError.TheVariants.{LookupDenominatorZero, MultiplicityBound, OutOfMemory, Pcs, WitnessNotFound}
+use Rattle.prover_permutations.specs.Columns.{AreMade, FractionsOf, IsFirstZeroIn, IsAllMade, IsMade, IsMadeMore, IsReady, IsZeroAt, NoneMade, challenges_of}
+
+append_nothing : {A : Type 0} (xs : List A) → xs ++ [] ≡ xs
+append_nothing [] = refl
+append_nothing (x ∷ xs) = ap (λ ys. x ∷ ys) (append_nothing xs)
+
+-- lists that are joined, and one behind them
+joined_more : {Y : Type 0} (f : ℕ → List Y) (n : ℕ) → flat_map f (table n (λ i. i)) ++ f n ≡ flat_map f (table (n + 1) (λ i. i))
+joined_more f n =
+    ap (λ ys. flat_map f (table n (λ i. i)) ++ ys) (sym (append_nothing (f n)))
+    ∙ (sym (flat_map-append f (table n (λ i. i)) (n ∷ [])) ∙ ap (flat_map f) (table_more n (λ i. i)))
+
+-- the same lists are joined
+joined_same : {Y : Type 0} (f g : ℕ → List Y) (n : ℕ) (q : ℕ → ℕ) → ((i : ℕ) → i < n → f (q i) ≡ g (q i)) → flat_map f (table n q) ≡ flat_map g (table n q)
+joined_same f g zero q h = refl
+joined_same f g (suc n) q h = λ k. h zero (omega arith) k ++ joined_same f g n (λ i. q (suc i)) (λ i l. h (suc i) (omega (arith, l))) k
+
+-- what is made of no table, and of one table more
+module _ {S F E C : Type 0} (b : Batch S F E C) (challenges : List (List E)) where
+  pub made_of_none : AreMade b challenges 0 [] []
+  made_of_none = record { fractions = λ i h. absurd (omega (arith, h)); columns_are = refl; terminals_are = refl }
+
+  pub made_more : (n : ℕ) (columns more : List (CosetData F × Rows F)) (terminals later : List (Option (LookupTerminal E))) (matrix : Option (CosetData F × Rows F)) (terminal : Option (LookupTerminal E))
+      → AreMade b challenges n columns terminals → IsMade b.setting b.prover (table_at b n) (challenges_of b challenges n) (matrix, terminal)
+      → more ≡ columns ++ option_to_list matrix → later ≡ terminals ++ terminal ∷ [] → AreMade b challenges (n + 1) more later
+  made_more n columns more terminals later matrix terminal A M added pushed =
+      let f = λ (i : ℕ). permutation_matrices b.setting b.prover (table_at b i) (challenges_of b challenges i) in
+      let t = λ (i : ℕ). terminal_of b.setting b.prover (table_at b i) (challenges_of b challenges i) in
+      let value : Option (LookupTerminal E) → Option E = option_map (λ x. x.0) in
+      record {
+        fractions = λ i h. elim (cases_lt i n) [
+          | inl less ↦ A.fractions i less
+          | inr over ↦ let e : n ≡ i = omega (arith, over, h) in subst (FractionsOf b challenges) e M.fractions
+        ];
+        columns_are = added ∙ ((λ k. A.columns_are k ++ M.matrix k) ∙ joined_more f n);
+        terminals_are = ap (map value) pushed ∙ (map-append value terminals (terminal ∷ []) ∙ table_push n t (map value terminals) (value terminal) A.terminals_are M.terminal);
+      }
+
+  pub made_until : (m n : ℕ) (columns : List (CosetData F × Rows F)) (terminals : List (Option (LookupTerminal E))) → AreMade b challenges m columns terminals → m ≡ n → AreMade b challenges n columns terminals
+  made_until m n columns terminals A e = subst (λ k. AreMade b challenges k columns terminals) e A
+
+  -- what the exit of a `?` returns is the error of the call before it
+  pub made_exit : {T R : Type 0} (m n : ℕ) (e : ProvingError R) (r : Result T (ProvingError R)) (columns : T → List (CosetData F × Rows F)) (ts : T → List (Option (LookupTerminal E)))
+      → IsErrAnd r (λ y. y ≡ e) → NoneMade b challenges m e → IsMadeMore b challenges m n columns ts r
+  made_exit m n e (Err y) columns ts p z = subst (NoneMade b challenges m) (sym p) z
+  made_exit m n e (Ok x) columns ts p z = absurd p
+
+  pub all_made_until : {T R : Type 0} (m n : ℕ) (r : Result T (ProvingError R)) (columns : T → List (CosetData F × Rows F)) (terminals : T → List (Option (LookupTerminal E)))
+      → IsAllMade b challenges m columns terminals r → m ≡ n → IsAllMade b challenges n columns terminals r
+  all_made_until m n r columns terminals A e = subst (λ k. IsAllMade b challenges k columns terminals r) e A
+
+  -- the zero denominator of table n is the first
+  pub zero_of_table : {R : Type 0} (m n : ℕ) (e : ProvingError R) → n < m → ((i : ℕ) → i < n → FractionsOf b challenges i)
+      → IsZeroAt (argument_of b.setting b.prover (table_at b n) (challenges_of b challenges n)) (height (table_at b n).trace) n e → NoneMade b challenges m e
+  zero_of_table m n (Pcs phase source) h before z = z
+  zero_of_table m n (MultiplicityBound bus) h before z = z
+  zero_of_table m n (LookupDenominatorZero i row) h before z =
+      subst (λ k. IsFirstZeroIn b challenges m k row) (sym z.0) (record { within = h; before = before; lookup = z.1.0; tuple = z.1.1; first = z.1.2 })
+  zero_of_table m n (WitnessNotFound step) h before z = z
+  zero_of_table m n OutOfMemory h before z = tt
+
+-- two challenges are laid out for each lookup
+laid_out_length : {E : Type 0} (z : E) (d : ChallengesData E) (bus : ℕ → ℕ) (n m : ℕ) → length (laid_out z d bus n m) ≡ 2 * m
+laid_out_length z d bus n zero = refl
+laid_out_length z d bus n (suc m) = let h = laid_out_length z d bus (suc n) m in omega (arith, h)
+
+none_has : {A : Type 0} (ls : List (List A)) (i : ℕ) → count_by has_some ls ≡ 0 → length (get_or ls i []) ≡ 0
+none_has [] i h = refl
+none_has ([] ∷ ls) zero h = refl
+none_has {A} ([] ∷ ls) (suc i) h =
+    let e : count_by has_some ([] ∷ ls) ≡ 0 + count_by has_some ls = sum_by-cons (λ (x : List A). cond (has_some x) 1 0) [] ls in
+    none_has ls i (omega (arith, e, h))
+none_has {A} ((x ∷ xs) ∷ ls) i h =
+    let e : count_by has_some ((x ∷ xs) ∷ ls) ≡ 1 + count_by has_some ls = sum_by-cons (λ (y : List A). cond (has_some y) 1 0) (x ∷ xs) ls in
+    absurd (omega (arith, e, h))
+
+-- no challenges
+abbrev nothing : {A E : Type 0} → A → List E
+nothing x = []
+
+nowhere : {A : Type 0} (E : Type 0) (ls : List A) (i : ℕ) → length (get_or (map (nothing {A = A} {E = E}) ls) i []) ≡ 0
+nowhere E [] i = refl
+nowhere E (x ∷ xs) zero = refl
+nowhere E (x ∷ xs) (suc i) = nowhere E xs i
+
+layout_long : {F E : Type 0} (e : Ring E) (pair : List E) (n : ℕ) (ls : List (List (LookupData F))) (i : ℕ) → count_by has_some ls ≡ n → IsPair n pair → i < length ls
+    → length (get_or (batch_layout e pair ls) i []) ≡ 2 * length (get_or ls i [])
+layout_long {F} {E} e pair zero ls i p none l =
+    let off = none_has ls i p in
+    let empty = nowhere E ls i in
+    ap (λ q. length (get_or (batch_layout e q ls) i [])) none ∙ omega (arith, off, empty)
+layout_long e pair (suc n) ls i p (alpha, beta, two) l =
+    let d = challenges_with e alpha beta (widest ls) (bus_count (batch_buses ls)) in
+    ap (λ q. length (get_or (batch_layout e q ls) i [])) two
+    ∙ (ap length (get_or-table (length ls) (instance_challenges e d ls) i [] l) ∙ laid_out_length e.zero d _ 0 (length (get_or ls i [])))
+
+module _ {S F E C : Type 0} (b : Batch S F E C) where
+  -- the challenges of a table of a traced batch are two for each of its lookups
+  pub challenges_long : IsTracedAll b → (w : Option F) (i : ℕ) → i < table_count b → length (challenges_at b.setting b.prover b.statement b.traces b.degree_bits w i) ≡ 2 * length (table_at b i).lookups
+  unfolding pair
+  challenges_long B w i h =
+      let c = b.setting in
+      let n = count_by has_some b.statement.common.lookups in
+      layout_long c.extension.ring (pair c b.prover b.statement b.traces b.degree_bits w) n b.statement.common.lookups i refl
+      (one_pair c.challenger c.extension.dimension n c.lookup_bits w (state_at_pair c b.prover b.statement b.traces b.degree_bits)) (let q = B.lists.lookups_long in omega (arith, h, q))
+
+  -- the preprocessed trace of a traced table has its rows
+  some_tall : (o : Option (Rows F)) (n m : ℕ) → m ≡ n → HasColumns o → IsSomeTall n o → IfSome o (λ r. height r ≡ m)
+  some_tall None n m e some tall = tt
+  some_tall (Some r) n m e some tall = tall.tall some ∙ sym e
+
+  -- so its permutation columns can be asked for
+  pub ready : (L : FieldsLaws b.setting.field b.setting.extension b.setting.two_adicity b.prover.inverse) (B : IsTracedAll b) → masks b.setting ≡ 0 → (i : ℕ) (own : List E) → i < table_count b
+      → HasColumns (declared (table_at b i)).preprocessed → length own ≡ 2 * length (table_at b i).lookups → IsReady b.setting (table_at b i) own
+  ready L B plain i own h some long =
+      let t = table_at b i in
+      let T = B.traced i h in
+      let small = (B.domains i h).fits in
+      let rows = T.rows.tall in
+      record {
+        rows = rows;
+        unmasked = omega (arith, plain);
+        fits = omega (arith, plain, small);
+        preprocessed = some_tall (declared t).preprocessed (2 ^ log_rows b.setting t) (height t.trace) rows some T.rows.preprocessed;
+        lookups = lookups_fit b.setting b.prover.commitment_of b.statement b.traces b.degree_bits b.prover.inverse L B i h;
+        challenges_long = long;
+      }
+
+-- for the challenges that are drawn behind the value that is ground
+module _ {S F E C : Type 0} (b : Batch S F E C) (B : IsTracedAll b) (K : AreCanonical b.setting.field.ring b.setting.order b.prover.canonical) (challenges : List (List E)) (w : Option F) (found : IsPairGroundOf b w)
+    (drawn : challenges ≡ all_challenges b w) where
+  abbrev drawn_at : Option F → ℕ → List E
+  drawn_at v i = challenges_at b.setting b.prover b.statement b.traces b.degree_bits v i
+
+  -- each table's are its own, whatever value is ground
+  own : (v : Option F) → IsPairGroundOf b v → (i : ℕ) → i < table_count b → challenges_of b challenges i ≡ drawn_at v i
+  own v also i h =
+      let one = one_lookup b.setting b.prover b.statement b.traces b.degree_bits K w v found also in
+      ap (λ l. get_or l i []) drawn ∙ (get_or-table (table_count b) (drawn_at w) i [] h ∙ ap (λ u. drawn_at u i) one)
+
+  all_own : ((i : ℕ) → i < table_count b → FractionsOf b challenges i) → (v : Option F) → IsPairGroundOf b v → HaveFractionsFor b v
+  all_own all v also i h = subst (λ (l : List E). HasFractions b.setting b.prover (table_at b i) l) (own v also i h) (all i h)
+
+  columns_drawn : (columns : List (CosetData F × Rows F)) (ts : List (Option (LookupTerminal E))) → AreMade b challenges (table_count b) columns ts → (v : Option F) → IsPairGroundOf b v → columns ≡ all_permutations b v
+  columns_drawn columns ts A v also =
+      A.columns_are
+      ∙ joined_same (λ i. permutation_matrices b.setting b.prover (table_at b i) (challenges_of b challenges i)) (λ i. permutation_matrices b.setting b.prover (table_at b i) (drawn_at v i)) (table_count b) (λ i. i)
+      (λ i h. ap (permutation_matrices b.setting b.prover (table_at b i)) (own v also i h))
+
+  terminals_drawn : (columns : List (CosetData F × Rows F)) (ts : List (Option (LookupTerminal E))) → AreMade b challenges (table_count b) columns ts → (v : Option F) → IsPairGroundOf b v
+      → map (option_map (λ t. t.0)) ts ≡ terminals b.setting b.prover b.statement b.traces b.degree_bits v
+  terminals_drawn columns ts A v also =
+      A.terminals_are
+      ∙ table_same (table_count b) (λ i. terminal_of b.setting b.prover (table_at b i) (challenges_of b challenges i)) (λ i. terminal_of b.setting b.prover (table_at b i) (drawn_at v i))
+      (λ i h. ap (terminal_of b.setting b.prover (table_at b i)) (own v also i h))
+
+  -- the first zero denominator is the event
+  event : (i row : ℕ) → IsFirstZeroIn b challenges (table_count b) i row → IsDenominatorZero b.setting b.prover b.statement b.traces b.degree_bits i row
+  event i row Z =
+      let at = λ (j : ℕ) (l : j < i). own w found j (let h = Z.within in omega (arith, h, l)) in
+      fault_is b.setting b.prover b.statement b.traces b.degree_bits w i row Z.lookup Z.tuple found Z.within
+      (λ j l. subst (λ (ch : List E). HasFractions b.setting b.prover (table_at b j) ch) (at j l) (Z.before j l))
+      (B.traced i Z.within).rows.tall
+      (subst (λ (ch : List E). IsFirstZeroOf (argument_of b.setting b.prover (table_at b i) ch) (height (table_at b i).trace) row Z.lookup Z.tuple) (own w found i Z.within) Z.first)
+
+  -- so the answer is that of the check
+  pub verdict : {T R : Type 0} (r : Result T (ProvingError R)) (columns : T → List (CosetData F × Rows F)) (ts : T → List (Option (LookupTerminal E)))
+      → IsAllMade b challenges (table_count b) columns ts r → IsProverVerdict (fraction_part b) r
+  unfolding NoneFails FirstFails
+  verdict (Ok x) columns ts A = (all_own A.fractions, tt)
+  verdict {R = R} (Err e) columns ts Z = refused e Z
+    where
+      refused : (e : ProvingError R) → NoneMade b challenges (table_count b) e → IsProverRefusal (fraction_part b) e
+      refused (Pcs phase source) z = absurd z
+      refused (MultiplicityBound bus) z = absurd z
+      refused (LookupDenominatorZero i row) z =
+          let Z = event i row z in
+          inr ((λ holds. denominator_event b.setting b.prover b.statement b.traces b.degree_bits K i row w Z found (holds w found)), (i, row, refl, Z))
+      refused (WitnessNotFound step) z = absurd z
+      refused OutOfMemory z = tt
+
+  pub columns_answer : {T R : Type 0} (r : Result T (ProvingError R)) (columns : T → List (CosetData F × Rows F)) (ts : T → List (Option (LookupTerminal E)))
+      → IsAllMade b challenges (table_count b) columns ts r → IfOk r (λ x. (v : Option F) → IsPairGroundOf b v → columns x ≡ all_permutations b v)
+  columns_answer (Ok x) columns ts A = columns_drawn (columns x) (ts x) A
+  columns_answer (Err e) columns ts Z = tt
+
+  pub terminals_answer : {T R : Type 0} (r : Result T (ProvingError R)) (columns : T → List (CosetData F × Rows F)) (ts : T → List (Option (LookupTerminal E)))
+      → IsAllMade b challenges (table_count b) columns ts r → IfOk r (λ x. (v : Option F) → IsPairGroundOf b v → map (option_map (λ t. t.0)) (ts x) ≡ terminals b.setting b.prover b.statement b.traces b.degree_bits v)
+  terminals_answer (Ok x) columns ts A = terminals_drawn (columns x) (ts x) A
+  terminals_answer (Err e) columns ts Z = tt

@@ -1,0 +1,82 @@
+-- What is given of a traced batch when its quotients are made.
+use Rattle.std.proofs.Common.{◌≡◌, ℕ, ◌*◌, ◌^◌, ◌<◌, List, [], length, get_or, Option, None, false, refl, sym, ◌∙◌, ap, subst, arith}
+use Rattle.std.specs.Prelude.{count_by}
+use Rattle.p3_field.specs.Domain.{CosetData, point}
+use Rattle.p3_field.specs.Laws.Tables.{get_or-table, length-table}
+use Rattle.p3_field.specs.Ring.{Ring}
+use Rattle.p3_matrix.specs.Matrix.{Rows}
+use Rattle.std.proofs.lemmas.List.Elements.{All-map}
+use Rattle.p3_air.specs.Shape.{Declaration, HasColumns}
+use Rattle.p3_air.specs.Tree.{Tree}
+use Rattle.p3_commit.specs.Commitments.{Committed, IsCommitment}
+use Rattle.batch_proving.specs.Backend.{ProverBackend}
+use Rattle.batch_proving.specs.Batch.{Batch, IsKeptWith, IsTracedAll, all_challenges, all_permutations, main_matrices, preprocessed_all, table_at, table_count}
+use Rattle.batch_shape_checks.specs.ShapeChecks.{has_some, no_table}
+use Rattle.batch_statement.specs.Statement.{Table, tables_of}
+use Rattle.batch_verifier.proofs.Challenges.{challenge_count}
+use Rattle.committed_tables.specs.Fields.{FieldsLaws}
+use Rattle.batch_validity.specs.Traced.{declared}
+use Rattle.honest_acceptance.specs.Laws.Opened.{kept_on}
+use Rattle.honest_proofs.specs.HonestProof.{challenges_at, committed_table, terminal_of, terminals}
+use Rattle.honest_proofs.specs.Laws.Draws.{drawn_along_it, same_challenges}
+use Rattle.prover_quotients.specs.Held.{HoldsTable}
+use Rattle.prover_quotients.specs.Places.{places_at}
+use Rattle.prover_quotients.specs.Tables.{AreGiven, KeepsSome}
+use Rattle.prover_quotients.proofs.Kept.{main_here, permutation_here, preprocessed_here}
+
+module _ {S F E C D P R : Type 0} (b : Batch S F E C) (L : FieldsLaws b.setting.field b.setting.extension b.setting.two_adicity b.prover.inverse) (B : IsTracedAll b) (plain : b.setting.zk ≡ false)
+    (w : Option F) (k : ProverBackend S F E C D P R) where
+  abbrev chosen : ℕ → List E
+  chosen i = challenges_at b.setting b.prover b.statement b.traces b.degree_bits w i
+
+  -- a table has two challenges for each of its lookups
+  pair_long : (i : ℕ) → i < table_count b → length (chosen i) ≡ 2 * length (table_at b i).lookups
+  pair_long i lt =
+      let ls = b.statement.common.lookups in
+      let d = drawn_along_it {P = Unit {0}} b.setting b.prover b.statement b.traces b.degree_bits w b.setting.field.ring.zero tt in
+      ap length (sym (same_challenges {P = Unit {0}} b.setting b.prover b.statement b.traces b.degree_bits w b.setting.field.ring.zero tt i))
+      ∙ challenge_count b.setting.extension.ring d ls (count_by has_some ls) i refl (let e = B.lists.lookups_long in omega (arith, lt, e))
+
+  module _ (challenges : List (List E)) (sums : List (Option E)) (drawn : challenges ≡ all_challenges b w) (ends : sums ≡ terminals b.setting b.prover b.statement b.traces b.degree_bits w) where
+    own : (i : ℕ) → i < table_count b → get_or challenges i [] ≡ chosen i
+    own i lt = ap (λ l. get_or l i []) drawn ∙ get_or-table (table_count b) chosen i [] lt
+
+    pub are_given : (points : CosetData F → ℕ) (point_at : CosetData F → ℕ → F) (sizes : (d : CosetData F) → points d ≡ 2 ^ d.log_size)
+        (at_points : (d : CosetData F) (i : ℕ) → point_at d i ≡ point b.setting.field.ring b.setting.field.root d i) (commits : List (CosetData F × Rows F) → C → Type 0)
+        (preprocessed : Option D) (main : D) (permutation : Option D) → ((i : ℕ) → i < table_count b → HasColumns (declared (table_at b i)).preprocessed)
+        → IsKeptWith (λ es x. IsCommitment b.setting.field.ring points point_at commits k.made k.holds es x) (preprocessed_all b) b.statement.common.preprocessed preprocessed
+        → (commitment : C) × IsCommitment b.setting.field.ring points point_at commits k.made k.holds (main_matrices b) (commitment, main)
+        → KeepsSome (λ es x. IsCommitment b.setting.field.ring points point_at commits k.made k.holds es x) (all_permutations b w) permutation
+        → AreGiven b challenges k preprocessed main permutation sums
+    are_given points point_at sizes at_points commits preprocessed main permutation has_columns kept_first kept_main kept_last = record {
+      challenges_long = ap length drawn ∙ length-table (table_count b) chosen;
+      terminals_long = ap length ends ∙ length-table (table_count b) _;
+      pairs = λ i lt. let e = ap length (own i lt) ∙ pair_long i lt in omega (arith, e);
+      terminals_are = λ i lt.
+          ap (λ l. get_or l i None) ends
+          ∙ (get_or-table (table_count b) (λ j. terminal_of b.setting b.prover (table_at b j) (chosen j)) i None lt
+          ∙ ap (terminal_of b.setting b.prover (table_at b i)) (sym (own i lt)));
+      held = λ i lt.
+          subst (λ l. HoldsTable k (places_at b.statement.common i) preprocessed main permutation (committed_table b.setting b.prover (table_at b i) l)) (sym (own i lt))
+          (record {
+            main_held = main_here b.setting b.prover b.statement b.traces b.degree_bits L B plain w k points point_at sizes at_points commits i lt kept_main.0 main kept_main.1;
+            preprocessed_held = preprocessed_here b.setting b.prover b.statement b.traces b.degree_bits L B plain w k points point_at sizes at_points commits i lt has_columns preprocessed kept_first;
+            permutation_held = permutation_here b.setting b.prover b.statement b.traces b.degree_bits L B plain w k points point_at sizes at_points commits i lt permutation kept_last;
+          });
+    }
+
+-- what a backend commits to by the points of its domains it commits to by those of the cosets
+pub commitment_on : {F C D : Type 0} (r : Ring F) (root : ℕ → F) (points : CosetData F → ℕ) (point_at : CosetData F → ℕ → F) (commits : List (CosetData F × Rows F) → C → Type 0) (made : D → Type 0) (holds : D → C → List (Committed F) → Type 0)
+    → ((d : CosetData F) → points d ≡ 2 ^ d.log_size) → ((d : CosetData F) (i : ℕ) → point_at d i ≡ point r root d i) → (es : List (CosetData F × Rows F)) (x : C × D)
+    → IsCommitment r points point_at commits made holds es x → IsCommitment r (λ (d : CosetData F). 2 ^ d.log_size) (point r root) commits made holds es x
+commitment_on r root points point_at commits made holds sizes places es x K = record {
+  commitment_is = K.commitment_is;
+  made_is = K.made_is;
+  held = (K.held.0, kept_on r root points point_at sizes places es K.held.0 K.held.1, K.held.2);
+}
+
+-- AIRs have no preprocessed trace without a column
+pub columns_there : {A F : Type 0} (declaration : A → Declaration F) (trees : A → List (Tree F)) → ((a : A) → HasColumns (declaration a).preprocessed) → (airs : List A) (i : ℕ) → i < length (tables_of declaration trees airs)
+    → HasColumns (get_or (tables_of declaration trees airs) i no_table).declaration.preprocessed
+columns_there {A} {F} declaration trees columns airs i l =
+    All-map (λ (t : Table F). HasColumns t.declaration.preprocessed) (λ (a : A). record { declaration = declaration a; trees = trees a }) airs (λ j a m. columns (get_or airs j a)) i no_table l

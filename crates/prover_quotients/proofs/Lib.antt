@@ -1,0 +1,10 @@
+pub mod Chunked
+pub mod Offered
+pub mod Shapes
+pub mod Valued
+pub mod Items
+pub mod Counted
+pub mod Kept
+pub mod Given
+pub mod Extended
+pub mod Verdicts

@@ -1,0 +1,4 @@
+pub mod Binding
+pub mod Counted
+pub mod Drawing
+pub mod Stage

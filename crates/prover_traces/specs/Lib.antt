@@ -1,0 +1,3 @@
+pub mod Commitment
+pub mod Instances
+pub mod Laws
