@@ -1,5 +1,5 @@
 -- The answer of the whole work from the answers of its stages, in order.
-use Rattle.std.proofs.Common.{List, ◌++◌, ◌≡◌, ◌∙◌, ap, sym, subst}
+use Rattle.std.proofs.Common.{List, ◌++◌, ◌≡◌, ◌∙◌, ap, subst}
 use Rattle.std.proofs.lemmas.List.{append_assoc}
 use Rattle.p3_field.specs.Checks.{Check, FirstFails, NoneFails, in_turn}
 use Rattle.p3_field.specs.Laws.Checks.{none_append}
@@ -36,13 +36,13 @@ module _ {S F E C D P R : Type 0} (k : ProverBackend S F E C D P R) (b : Batch S
       ap (λ xs. xs ++ opening_part k b) first ∙ append_assoc extensions (quotient_part k b ++ ood_part b) (opening_part k b) in
       ap (λ xs. bound_part b ++ (trace_part k b ++ (lookup_part b ++ (fraction_part b ++ (permutation_part k b ++ xs))))) second
 
-  pub bound_refused : (e : ProvingError R) → IsProverRefusal (bound_part b) e → IsAnswerRefusal (proving_checks k b) e
+  pub bound_refused : (e : ProvingError R) → IsProverRefusal (bound_part b {R = R}) e → IsAnswerRefusal (proving_checks k b) e
   bound_refused e v = answer_before (bound_part b) _ e (refusal_is (bound_part b) e v)
 
-  pub trace_refused : (e : ProvingError R) → NoneFails (bound_part b) → IsProverRefusal (trace_part k b) e → IsAnswerRefusal (proving_checks k b) e
+  pub trace_refused : (e : ProvingError R) → NoneFails (bound_part b {R = R}) → IsProverRefusal (trace_part k b) e → IsAnswerRefusal (proving_checks k b) e
   trace_refused e bounded v = answer_behind (bound_part b) _ e bounded (answer_before (trace_part k b) _ e (refusal_is (trace_part k b) e v))
 
-  pub drawn_refused : (e : ProvingError R) → NoneFails (bound_part b) → NoneFails (trace_part k b) → IsAnswerRefusal drawn_part e → IsAnswerRefusal (proving_checks k b) e
+  pub drawn_refused : (e : ProvingError R) → NoneFails (bound_part b {R = R}) → NoneFails (trace_part k b) → IsAnswerRefusal drawn_part e → IsAnswerRefusal (proving_checks k b) e
   drawn_refused e bounded committed v =
       subst (λ cs. IsAnswerRefusal cs e) in_order (answer_behind (bound_part b) _ e bounded (answer_behind (trace_part k b) _ e committed (answer_before drawn_part _ e v)))
 
@@ -50,11 +50,11 @@ module _ {S F E C D P R : Type 0} (k : ProverBackend S F E C D P R) (b : Batch S
     opening_told : (e : ProvingError R) → IsProverRefusal (opening_checks k b kept) e → IsAnswerRefusal (opening_part k b) e
     opening_told e v = told_along (opening_checks k b kept) (opening_part k b) e (λ d f. refused_here _ _ d (opening_refused k b kept d f)) v
 
-    pub open_refused : (e : ProvingError R) → NoneFails (bound_part b) → NoneFails (trace_part k b) → NoneFails drawn_part → IsProverRefusal (opening_checks k b kept) e → IsAnswerRefusal (proving_checks k b) e
+    pub open_refused : (e : ProvingError R) → NoneFails (bound_part b {R = R}) → NoneFails (trace_part k b) → NoneFails drawn_part → IsProverRefusal (opening_checks k b kept) e → IsAnswerRefusal (proving_checks k b) e
     open_refused e bounded committed drawn v =
         subst (λ cs. IsAnswerRefusal cs e) in_order
         (answer_behind (bound_part b) _ e bounded (answer_behind (trace_part k b) _ e committed (answer_behind drawn_part _ e drawn (opening_told e v))))
 
-    pub all_granted : NoneFails (bound_part b) → NoneFails (trace_part k b) → NoneFails drawn_part → NoneFails (opening_checks k b kept) → NoneFails (proving_checks k b)
+    pub all_granted : NoneFails (bound_part b {R = R}) → NoneFails (trace_part k b) → NoneFails drawn_part → NoneFails (opening_checks k b kept) → NoneFails (proving_checks k b)
     all_granted bounded committed drawn opened =
         subst NoneFails in_order (none_append (bound_part b) _ bounded (none_append (trace_part k b) _ committed (none_append drawn_part _ drawn (opening_granted k b kept opened))))

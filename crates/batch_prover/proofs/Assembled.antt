@@ -1,9 +1,8 @@
 -- A proof that is put together of what the stages give is the honest one.
-use Rattle.std.proofs.Common.{◌≡◌, ℕ, ◌<◌, List, [], ◌∷◌, length, Option, None, Some, Bool, true, false, refl, sym, ◌∙◌, ap, subst, arith}
+use Rattle.std.proofs.Common.{◌≡◌, ℕ, List, [], ◌∷◌, Option, None, Some, sym, subst}
 use Rattle.std.specs.Prelude.{option_map}
 use Rattle.p3_commit.specs.Claims.{Request}
 use Rattle.batch_statement.specs.Proof.{OpenedWithLookups, ProofData}
-use Rattle.batch_verifier.specs.BatchChecks.{Accepted}
 use Rattle.batch_setting.specs.Setting.{Backend}
 use Rattle.honest_proofs.specs.HonestProof.{IsBuilt, IsHonest, honest_claims, honest_proof}
 use Rattle.honest_proofs.specs.Laws.Generated.{traced_heights}

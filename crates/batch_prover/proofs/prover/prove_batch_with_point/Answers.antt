@@ -1,4 +1,4 @@
-use Rattle.std.proofs.Common.{◌≡◌, ◌^◌, ◌<◌, List, length, map, option_map, sym, ◌∙◌, ap, subst, arith}
+use Rattle.std.proofs.Common.{◌^◌, List, option_map, sym, ◌∙◌, ap, subst, arith}
 use Rattle.std.proofs.lemmas.List.{length-map}
 use Rattle.p3_field.specs.Domain.{CosetData, point}
 use Rattle.p3_field.specs.Laws.TwoAdic.{decide_by}
@@ -6,11 +6,12 @@ use Rattle.p3_matrix.specs.Matrix.{Rows}
 use Rattle.p3_commit.specs.Commitments.{IsCommitment}
 use Rattle.batch_setup.specs.Setup.{Instance, bits_of}
 use Rattle.batch_statement.specs.Statement.{WrittenCommon}
+use Rattle.honest_proofs.specs.HonestProof.{Prover}
 use Rattle.honest_acceptance.specs.Laws.Airs.{airs_accepted}
 use Rattle.batch_proving.specs.Backend.{ProverBackend}
 use Rattle.batch_proving.specs.Batch.{Batch, all_chunks, batch_of, main_matrices}
 use Rattle.batch_proving.specs.Laws.Verdicts.{answer_exits}
-use Rattle.prover_openings.specs.Asked.{asked_of}
+use Rattle.prover_openings.specs.Asked.{KeptRounds}
 use Rattle.prover_traces.specs.Laws.Instances.{powers}
 use Rattle.batch_prover.proofs.Answered.{all_granted, bound_refused, drawn_refused, open_refused, trace_refused}
 use Rattle.batch_prover.proofs.Assembled.{both_of, built_of, honest_of, proved_of}
@@ -74,7 +75,9 @@ returns-in_err-main-clause-verdict g c =
     answer_exits _ _ _ c.from_residual-in_err-main.ensures.1 (trace_refused (backend_of g c.args.config.now) b _ c.in_ok-check_bound.ensures c.in_err-main.ensures.verdict)
 
 pub degree_bits-requires-clause-powers : goal.degree_bits-requires-clause-powers
-degree_bits-requires-clause-powers g c = powers _ _ g.A.BaseAir.declaration g.A.Air.trees c.args.instances.now c.args.prover_data.now.common c.requires.traced
+degree_bits-requires-clause-powers g c =
+    let p : Prover g.row.SC-Val.Denot g.row.SC-Challenge.Denot g.row.SC-Pcs-Commitment.Denot = record { inverse = g.SC.Challenge.FieldCore.inv; canonical = g.SC.Val.PrimeCore64.canonical; commitment_of = g.SC-Pcs-UnivariateStarkPcs.commitment_of (g.SC.StarkGenericConfig.pcs_of c.args.config.now) } in
+    powers _ p g.A.BaseAir.declaration g.A.Air.trees c.args.instances.now c.args.prover_data.now.common c.requires.traced
 
 pub bound_transcript-requires-clause-main : goal.bound_transcript-requires-clause-main
 bound_transcript-requires-clause-main g c = g.SC-Pcs-UnivariateStarkPcs-met.one_commitment (g.SC.StarkGenericConfig.pcs_of c.args.config.now) _ _ c.requires.plain (c.in_ok-main.ensures.committed).commitment_is
@@ -112,14 +115,14 @@ open_batch-requires-clause-ready g c =
 pub returns-in_err-opened-clause-verdict : goal.returns-in_err-opened-clause-verdict
 returns-in_err-opened-clause-verdict g c =
     let b = batch_is g c.args.config.now c.args.instances.now c.args.prover_data.now.common in
-    let kept = record { main = c.in_ok-main.main_data; quotient = c.in_ok-lookups.quotients.data; preprocessed = option_map (λ d. d.now) c.as_ref.result; permutation = option_map (λ d. d.now) c.data_of.result } in
+    let kept : KeptRounds g.row.SC-Pcs-ProverData.Denot = record { main = c.in_ok-main.main_data; quotient = c.in_ok-lookups.quotients.data; preprocessed = option_map (λ d. d.now) c.as_ref.result; permutation = option_map (λ d. d.now) c.data_of.result } in
     answer_exits _ _ _ c.from_residual-in_err-opened.ensures.1
     (open_refused (backend_of g c.args.config.now) b kept _ c.in_ok-check_bound.ensures c.in_ok-main.ensures.verdict c.in_ok-lookups.ensures.verdict c.in_err-opened.ensures.verdict)
 
 pub returns-clause-verdict : goal.returns-clause-verdict
 returns-clause-verdict g c =
     let b = batch_is g c.args.config.now c.args.instances.now c.args.prover_data.now.common in
-    let kept = record { main = c.in_ok-main.main_data; quotient = c.in_ok-lookups.quotients.data; preprocessed = option_map (λ d. d.now) c.as_ref.result; permutation = option_map (λ d. d.now) c.data_of.result } in
+    let kept : KeptRounds g.row.SC-Pcs-ProverData.Denot = record { main = c.in_ok-main.main_data; quotient = c.in_ok-lookups.quotients.data; preprocessed = option_map (λ d. d.now) c.as_ref.result; permutation = option_map (λ d. d.now) c.data_of.result } in
     all_granted (backend_of g c.args.config.now) b kept c.in_ok-check_bound.ensures c.in_ok-main.ensures.verdict c.in_ok-lookups.ensures.verdict c.in_ok-opened.ensures.verdict
 
 pub returns-clause-proved : goal.returns-clause-proved
