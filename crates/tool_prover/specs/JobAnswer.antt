@@ -16,7 +16,7 @@ use Rattle.tool_statement.specs.StatedTables.{tool_statement}
 use Rattle.proof_files.specs.Files.{FileData, FileWithin, file_words}
 use Rattle.proof_text.specs.ProofText.{ToolProofData}
 use Rattle.tool_jobs.specs.Unbalanced.{IsFirstUnbalanced, same_word}
-use Rattle.tool_jobs.specs.Jobs.{statement_of}
+use Rattle.tool_jobs.specs.Stated.{statement_of}
 use Rattle.tool_validity.specs.Job.{IsBalancedJob, JobTable}
 use Rattle.tool_verifier.specs.FileAnswer.{IsFileAnswer}
 use Rattle.tool_verifier.specs.Refusals.{refused_text}
@@ -41,9 +41,9 @@ module _ (job : List (JobTable BabyBear)) where
   abbrev pub DrawsOutside : ToolProofData → Type 0
   DrawsOutside q = (i : ℕ) → i < length job → IsOutside tool_setting (table_at (job_batch job) i) (drawn_point q)
 
-  -- if it does so, the batch verifier accepts the proof
+  -- if it does so, `verify` writes `accepted` for it
   abbrev pub MeansAccepted : ToolProofData → Type 0
-  MeansAccepted q = DrawsOutside q → Accepted tool_setting tool_backend (tool_statement (map statement_of job)) q
+  MeansAccepted q = DrawsOutside q → IsFileAnswer (map statement_of job) q Done (codes "accepted\n")
 
   -- The text is that of the job's honest proof, whose point lies outside. It is a proof file's text, for which `verify` writes `accepted`.
   pub record IsProvedText (text : List ℕ) : Type 0 where

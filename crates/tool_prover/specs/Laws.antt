@@ -1,0 +1,5 @@
+pub mod Sized
+pub mod Granted
+pub mod JobTables
+pub mod OpenedSizes
+pub mod Within
