@@ -3,3 +3,5 @@ pub mod Granted
 pub mod JobTables
 pub mod OpenedSizes
 pub mod Within
+pub mod Drawn
+pub mod OneAnswer
