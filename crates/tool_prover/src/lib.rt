@@ -4,4 +4,7 @@
 //! (`Outside`), and a job's answer (`JobAnswer`).
 #![tactic(auto)]
 
+mod laws;
 mod outside;
+
+pub use laws::there_is_one_answer;

@@ -31,6 +31,11 @@ use Rattle.tool_statement.specs.Config.{tool_scheme, tool_setting}
 use Rattle.tool_validity.specs.Job.{IsWithin, JobTable, take_of, log_height_of}
 use Rattle.tool_validity.specs.Laws.Tables.{small_height}
 use Rattle.batch_proving.specs.Batch.{all_chunks, all_permutations, chunks_of, log_parts_at, main_matrices, table_at, table_count}
+use Rattle.proof_files.specs.Files.{FileWithin}
+use Rattle.tool_jobs.specs.Jobs.{JobWithin}
+use Rattle.tool_jobs.specs.Laws.Statements.{statements-within}
+use Rattle.tool_jobs.specs.Stated.{statement_of}
+use Rattle.tool_prover.specs.JobAnswer.{IsJobProof, file_of}
 use Rattle.tool_prover.specs.JobBatch.{job_batch, tool_prover}
 use Rattle.tool_prover.specs.Laws.Granted.{all_chunks_sized, all_permutations_sized, mains_sized}
 use Rattle.tool_prover.specs.Laws.JobTables.{IsSmall, as_many, tables_divided, tables_sized, tables_traced, tool_serves}
@@ -85,11 +90,19 @@ any_option : {A : Type 0} (o : Option A) → OptionWithin Unlimited o
 any_option None = tt
 any_option (Some x) = tt
 
+-- a value of the extension has four coefficients, and nothing is masked
+pub four : tool_setting.extension.dimension ≤ 4
+unfolding tool_setting
+four = omega arith
+
+pub unmasked : tool_setting.zk ≡ false
+unmasked = tool_serves.plain
+
 module _ (job : List (JobTable BabyBear)) (many : length job ≤ 8) (within : All IsWithin job) where
   few_tables : table_count (job_batch job) ≤ 8
   few_tables = let n = as_many job in omega (arith, n, many)
 
-  fields : FieldsLaws tool_setting.field tool_setting.extension tool_setting.two_adicity (job_batch job).prover.inverse
+  pub fields : FieldsLaws tool_setting.field tool_setting.extension tool_setting.two_adicity (job_batch job).prover.inverse
   unfolding tool_prover
   fields = tool_serves.fields
 
@@ -104,22 +117,15 @@ module _ (job : List (JobTable BabyBear)) (many : length job ≤ 8) (within : Al
             (omega arith, omega (arith, e, low)),
       )
 
-  low : (i : ℕ) → i < table_count (job_batch job) → (table_at (job_batch job) i).degree_bits ≤ 10
+  pub low : (i : ℕ) → i < table_count (job_batch job) → (table_at (job_batch job) i).degree_bits ≤ 10
   low i l = (tables_sized job within i l).rows
 
-  narrow : (i : ℕ) → i < table_count (job_batch job) → (declared (table_at (job_batch job) i)).width ≤ 8
+  pub narrow : (i : ℕ) → i < table_count (job_batch job) → (declared (table_at (job_batch job) i)).width ≤ 8
   narrow i l = let n = (tables_sized job within i l).columns in omega (arith, n)
 
-  few_flat : (i : ℕ) → i < table_count (job_batch job) → (length (table_at (job_batch job) i).lookups + 1) * tool_setting.extension.dimension ≤ 8
+  pub few_flat : (i : ℕ) → i < table_count (job_batch job) → (length (table_at (job_batch job) i).lookups + 1) * tool_setting.extension.dimension ≤ 8
   unfolding tool_setting
   few_flat i l = let n = (tables_sized job within i l).lookups in omega (arith, n)
-
-  four : tool_setting.extension.dimension ≤ 4
-  unfolding tool_setting
-  four = omega arith
-
-  unmasked : tool_setting.zk ≡ false
-  unmasked = tool_serves.plain
 
   mains : All (IsSized 10 8) (main_matrices (job_batch job))
   unfolding tool_setting
@@ -198,3 +204,13 @@ module _ (job : List (JobTable BabyBear)) (many : length job ≤ 8) (within : Al
   -- so is a proof that is built honestly
   pub proof_within : (q : ToolProofData) → (let b = job_batch job in IsBuilt b.setting b.prover b.statement b.traces b.degree_bits q) → ProofWithin q
   proof_within q B = subst ProofWithin (sym B.proof_is) (built_within q.lookup_pow_witness q.ood_pow_witness q.opening_proof)
+
+-- so is the proof file
+pub job_proof_within : (job : List (JobTable BabyBear)) → JobWithin job → (q : ToolProofData) → IsJobProof job q → FileWithin (file_of job q)
+job_proof_within job h q B =
+    let n = length-map job statement_of in
+    record {
+      version = refl;
+      tables = ((let l = h.0.0 in omega (arith, n, l), let l = h.0.1 in omega (arith, n, l)), statements-within job h.1);
+      proof = proof_within job h.0.1 h.1 q B;
+    }
