@@ -97,19 +97,19 @@ module _ (job : List (JobTable BabyBear)) where
   event_once x y (inl a) (inl b) = a.1 ∙ sym b.1
   event_once x y (inl a) (inr (inl z)) = absurd (lookup_or_zero a.0 z.0 z.1 z.2)
   event_once x y (inl a) (inr (inr (inl o))) = absurd (lookup_or_ood a.0 o.0)
-  event_once x y (inl a) (inr (inr (inr p))) = absurd (lookup_or_proof p.0 a.0 p.1)
+  event_once x y (inl a) (inr (inr (inr p))) = absurd (lookup_or_proof p.0.0 a.0 p.0.1)
   event_once x y (inr (inl z)) (inl a) = absurd (lookup_or_zero a.0 z.0 z.1 z.2)
   event_once x y (inr (inl z)) (inr (inl w)) = zero_once x y z w
   event_once x y (inr (inl z)) (inr (inr (inl o))) = absurd (zero_or_ood z.0 z.1 z.2 o.0)
-  event_once x y (inr (inl z)) (inr (inr (inr p))) = absurd (zero_or_proof p.0 z.0 z.1 z.2 p.1)
+  event_once x y (inr (inl z)) (inr (inr (inr p))) = absurd (zero_or_proof p.0.0 z.0 z.1 z.2 p.0.1)
   event_once x y (inr (inr (inl o))) (inl a) = absurd (lookup_or_ood a.0 o.0)
   event_once x y (inr (inr (inl o))) (inr (inl z)) = absurd (zero_or_ood z.0 z.1 z.2 o.0)
   event_once x y (inr (inr (inl o))) (inr (inr (inl w))) = o.1 ∙ sym w.1
-  event_once x y (inr (inr (inl o))) (inr (inr (inr p))) = absurd (ood_or_proof p.0 o.0 p.1)
-  event_once x y (inr (inr (inr p))) (inl a) = absurd (lookup_or_proof p.0 a.0 p.1)
-  event_once x y (inr (inr (inr p))) (inr (inl z)) = absurd (zero_or_proof p.0 z.0 z.1 z.2 p.1)
-  event_once x y (inr (inr (inr p))) (inr (inr (inl o))) = absurd (ood_or_proof p.0 o.0 p.1)
-  event_once x y (inr (inr (inr p))) (inr (inr (inr r))) = p.3 ∙ sym r.3
+  event_once x y (inr (inr (inl o))) (inr (inr (inr p))) = absurd (ood_or_proof p.0.0 o.0 p.0.1)
+  event_once x y (inr (inr (inr p))) (inl a) = absurd (lookup_or_proof p.0.0 a.0 p.0.1)
+  event_once x y (inr (inr (inr p))) (inr (inl z)) = absurd (zero_or_proof p.0.0 z.0 z.1 z.2 p.0.1)
+  event_once x y (inr (inr (inr p))) (inr (inr (inl o))) = absurd (ood_or_proof p.0.0 o.0 p.0.1)
+  event_once x y (inr (inr (inr p))) (inr (inr (inr r))) = p.1 ∙ sym r.1
 
   refused_once : (x y : List ℕ) → IsRefusedText job x → IsRefusedText job y → x ≡ y
   refused_once x y (inl a) (inl b) = unbalanced_once x y a b
@@ -122,7 +122,7 @@ module _ (job : List (JobTable BabyBear)) where
   event_or_proof x y (inl a) P = lookup_or_proof P.proof a.0 P.honest
   event_or_proof x y (inr (inl z)) P = zero_or_proof P.proof z.0 z.1 z.2 P.honest
   event_or_proof x y (inr (inr (inl o))) P = ood_or_proof P.proof o.0 P.honest
-  event_or_proof x y (inr (inr (inr p))) P = p.2 (subst (DrawsOutside job) (one_proof P.proof p.0 P.honest p.1) P.outside)
+  event_or_proof x y (inr (inr (inr p))) P = p.0.2 (subst (DrawsOutside job) (one_proof P.proof p.0.0 P.honest p.0.1) P.outside)
 
   refused_or_proof : (x y : List ℕ) → IsRefusedText job x → IsProvedText job y → ⊥
   refused_or_proof x y (inl a) P = not_both x a P.balanced
