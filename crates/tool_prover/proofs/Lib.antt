@@ -1,1 +1,5 @@
 mod Points
+mod Setup
+mod Meaning
+mod Outcome
+mod Answering

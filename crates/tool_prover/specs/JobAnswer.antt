@@ -7,12 +7,10 @@ use Rattle.honest_proofs.specs.HonestProof.{IsBuilt, IsDenominatorZero, LacksLoo
 use Rattle.p3_field.specs.declared.quartic.QuarticExtension.{QuarticExtension}
 use Rattle.plain_pcs.specs.declared.error.PlainProverError.{PlainProverError}
 use Rattle.batch_transcript.specs.declared.failure.GrindStep.TheVariants.{Lookup, Ood}
-use Rattle.batch_verifier.specs.BatchChecks.{Accepted}
 use Rattle.batch_proving.specs.Batch.{table_at}
 use Rattle.batch_proving.specs.declared.error.ProvingError.{ProvingError}
 use Rattle.batch_proving.specs.declared.error.ProvingError.TheVariants.{LookupDenominatorZero, MultiplicityBound, OutOfMemory, Pcs, WitnessNotFound}
-use Rattle.tool_statement.specs.Config.{tool_backend, tool_setting}
-use Rattle.tool_statement.specs.StatedTables.{tool_statement}
+use Rattle.tool_statement.specs.Config.{tool_setting}
 use Rattle.proof_files.specs.Files.{FileData, FileWithin, file_words}
 use Rattle.proof_text.specs.ProofText.{ToolProofData}
 use Rattle.tool_jobs.specs.Unbalanced.{IsFirstUnbalanced, same_word}

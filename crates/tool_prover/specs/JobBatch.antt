@@ -1,5 +1,5 @@
 -- A job as a batch that is proved, over the program's configuration.
-use Rattle.std.specs.Prelude.{ℕ, List, map}
+use Rattle.std.specs.Prelude.{List, map}
 use Rattle.p3_field.specs.BabyBear.{bear_ring}
 use Rattle.p3_field.specs.Quartic.{quartic_inv}
 use Rattle.p3_field.specs.declared.baby_bear.BabyBear.{BabyBear}

@@ -4,7 +4,10 @@
 //! (`Outside`), and a job's answer (`JobAnswer`).
 #![tactic(auto)]
 
+mod answer;
 mod laws;
 mod outside;
+mod proving;
 
+pub use answer::answer_prove;
 pub use laws::there_is_one_answer;

@@ -1,5 +1,5 @@
 -- The plain scheme refuses nothing that a prover of a traced batch asks of it, where its subgroups are large enough.
-use Rattle.std.proofs.Common.{◌≡◌, ℕ, ◌+◌, ◌*◌, ◌^◌, ◌<◌, ◌≤◌, false, List, [], ◌∷◌, Some, length, map, Option, refl, sym, ◌∙◌, ap, subst, arith}
+use Rattle.std.proofs.Common.{◌≡◌, ℕ, ◌+◌, ◌*◌, ◌<◌, ◌≤◌, false, List, [], ◌∷◌, Some, length, map, Option, sym, ◌∙◌, ap, subst, arith}
 use Rattle.std.specs.Prelude.{All, option_map, slice_get}
 use Rattle.std.proofs.lemmas.List.{length-map}
 use Rattle.std.proofs.lemmas.Option.{slice_get-map, slice_get_within}
@@ -7,18 +7,17 @@ use Rattle.p3_field.specs.Domain.{CosetData}
 use Rattle.p3_field.specs.Checks.{IsFirstWithout}
 use Rattle.p3_field.specs.Field.{FieldLaws, TwoAdicLaws}
 use Rattle.p3_field.specs.Laws.SubgroupSelectors.{map_table, subgroup}
-use Rattle.p3_field.specs.Poly.{table}
 use Rattle.p3_field.specs.Ring.{RingLaws}
 use Rattle.p3_matrix.specs.Matrix.{Rows}
 use Rattle.p3_air.specs.Laws.Lists.{all_table}
 use Rattle.p3_commit.specs.Claims.{Request}
-use Rattle.p3_commit.specs.Commitments.{AreExtensions, Held}
+use Rattle.p3_commit.specs.Commitments.{Held}
 use Rattle.p3_lookup.specs.Bound.{AreBounded}
 use Rattle.plain_pcs.specs.Extension.{Extends, IsCommittable}
 use Rattle.plain_pcs.specs.Holding.{AreHolding, IsMade}
 use Rattle.plain_pcs.specs.Laws.Extensions.{extended_height}
 use Rattle.plain_pcs.specs.Laws.Held.{holding_count}
-use Rattle.plain_pcs.specs.Laws.Listed.{all_items, item_at, item_has, lacking}
+use Rattle.plain_pcs.specs.Laws.Listed.{item_at, item_has, lacking}
 use Rattle.plain_pcs.specs.Refusals.{CommitFault, ExtensionsFault, HasSubgroupHeight, OpenFault}
 use Rattle.plain_pcs.specs.Scheme.{PlainCommitmentData, Scheme}
 use Rattle.plain_pcs.specs.declared.commitment.PlainProof.{PlainProof}
@@ -31,12 +30,11 @@ use Rattle.batch_shape_checks.specs.ShapeChecks.{heights_of}
 use Rattle.batch_validity.specs.Traced.{TracedTable, declared}
 use Rattle.batch_validity.specs.Valid.{IsTraced}
 use Rattle.batch_proving.specs.Backend.{ProverBackend}
-use Rattle.batch_proving.specs.Batch.{Batch, all_chunks, all_permutations, chunks_of, log_parts_at, main_matrices, table_at, table_count}
+use Rattle.batch_proving.specs.Batch.{Batch, all_chunks, all_permutations, chunks_of, main_matrices, table_at, table_count}
 use Rattle.batch_proving.specs.Proving.{AreAsked, fault_of_some}
-use Rattle.batch_proving.specs.Telling.{IsOverloaded, PhaseTells, Tells}
-use Rattle.batch_proving.specs.declared.error.ProvingError.TheVariants.{MultiplicityBound, Pcs}
+use Rattle.batch_proving.specs.Telling.{IsOverloaded, PhaseTells}
 use Rattle.committed_tables.specs.Fields.{FieldsLaws}
-use Rattle.honest_acceptance.specs.Rounds.{OpenedMatrix, Round, committed_of, held_of, honest_rounds}
+use Rattle.honest_acceptance.specs.Rounds.{OpenedMatrix, Round, committed_of, honest_rounds}
 use Rattle.honest_proofs.specs.HonestProof.{alpha, challenges_at}
 use Rattle.tool_prover.specs.Laws.Sized.{IsSized, all_flat, chunks_sized, main_sized, permutations_sized}
 

@@ -1,5 +1,5 @@
 -- The tables of a job's batch are those of the job: each is traced, has the sizes that the program allows, and a quotient of one chunk.
-use Rattle.std.proofs.Common.{◌≡◌, ℕ, ◌+◌, ◌*◌, ◌^◌, ◌<◌, ◌≤◌, false, cond, List, [], ◌∷◌, length, get_or, map, replicate, refl, sym, ◌∙◌, ap, subst, arith}
+use Rattle.std.proofs.Common.{◌≡◌, ℕ, ◌^◌, ◌<◌, ◌≤◌, List, [], ◌∷◌, length, get_or, map, replicate, refl, sym, ◌∙◌, ap, subst, arith}
 use Rattle.std.specs.Prelude.{All}
 use Rattle.std.proofs.lemmas.List.{get_or-map, length-map}
 use Rattle.std.proofs.lemmas.Nat.{pow_pos}
@@ -10,28 +10,27 @@ use Rattle.p3_field.specs.Quartic.{quartic_inv}
 use Rattle.p3_field.specs.declared.baby_bear.BabyBear.{BabyBear}
 use Rattle.p3_challenger.specs.Sha256Functions.{sha256_functions}
 use Rattle.p3_air.specs.Shape.{width_of}
-use Rattle.p3_lookup.specs.Lookup.{LookupData}
 use Rattle.plain_pcs.specs.Observing.{commitment_elements}
 use Rattle.batch_setting.specs.Setting.{masks}
 use Rattle.batch_setup.specs.Packed.{Source, no_source, packed_at, packed_lookups}
-use Rattle.batch_shape_checks.specs.ShapeChecks.{chunks_of_table, no_table}
+use Rattle.batch_shape_checks.specs.ShapeChecks.{no_table}
 use Rattle.batch_statement.specs.Statement.{Table}
 use Rattle.batch_validity.specs.Traced.{TracedTable, declared, log_parts, log_rows, no_rows}
 use Rattle.batch_validity.specs.Valid.{HasQuotientDomain, IsTraced}
 use Rattle.tool_statement.specs.Config.{tool_setting}
-use Rattle.tool_statement.specs.StatedTables.{log_heights_of, lookups_at, publics_lists, publics_of, sources_of, table_of, tool_common}
+use Rattle.tool_statement.specs.StatedTables.{log_heights_of, table_of, tool_common}
 use Rattle.tool_statement.specs.declared.table.TableStatement.{TableStatement}
 use Rattle.tool_validity.specs.Job.{IsWithin, JobTable, swap_of, wheel_of, take_of, give_of, job_table, log_height_of, source_of_job, trace_of, traced_job}
 use Rattle.tool_validity.specs.Job.{publics_of as table_publics}
 use Rattle.tool_validity.specs.Laws.Bear.{bear_serves}
 use Rattle.tool_validity.specs.Laws.Fits.{job_chunks}
 use Rattle.tool_validity.specs.Laws.Messages.{own_lookups}
-use Rattle.tool_validity.specs.Laws.Tables.{job_domain, job_traced, rows_are, small_height}
+use Rattle.tool_validity.specs.Laws.Tables.{job_domain, job_traced, small_height}
 use Rattle.tool_validity.specs.Serves.{ServesJobs}
-use Rattle.batch_proving.specs.Batch.{Batch, table_at, table_count}
+use Rattle.batch_proving.specs.Batch.{table_at, table_count}
 use Rattle.tool_prover.specs.JobBatch.{job_batch}
 use Rattle.tool_jobs.specs.Stated.{statement_of}
-use Rattle.tool_jobs.specs.Laws.Statements.{statements-heights, statements-publics, statements-sources}
+use Rattle.tool_jobs.specs.Laws.Statements.{statements-publics, statements-sources}
 
 -- the program's configuration serves for jobs
 pub tool_serves : ServesJobs tool_setting quartic_inv

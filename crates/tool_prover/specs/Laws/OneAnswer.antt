@@ -1,5 +1,5 @@
 -- A job has one answer.
-use Rattle.std.proofs.Common.{◌≡◌, ◌⊎◌, ℕ, inl, inr, List, [], ◌∷◌, map, codes, refl, sym, ◌∙◌, ap, subst, arith}
+use Rattle.std.proofs.Common.{◌≡◌, ◌⊎◌, ℕ, inl, inr, List, [], ◌∷◌, codes, refl, sym, ◌∙◌, ap, subst, arith}
 use Rattle.std.proofs.lemmas.Bool.{cases_lt}
 use Rattle.p3_field.specs.BabyBear.{bear_ring}
 use Rattle.p3_field.specs.Laws.BearField.{bear_of_canonical}
@@ -7,11 +7,11 @@ use Rattle.p3_field.specs.declared.baby_bear.BabyBear.{BabyBear}
 use Rattle.line_format.specs.Texts.{line_text}
 use Rattle.proof_files.specs.Files.{file_words}
 use Rattle.proof_text.specs.ProofText.{ToolProofData}
-use Rattle.honest_proofs.specs.HonestProof.{AreCanonical, IsBuilt, IsDenominatorZero, LacksLookupGround, LacksOodGround}
+use Rattle.honest_proofs.specs.HonestProof.{AreCanonical, IsDenominatorZero, LacksLookupGround, LacksOodGround}
 use Rattle.honest_proofs.specs.Laws.Events.{lookup_alone, one_place, zero_alone}
 use Rattle.honest_proofs.specs.Laws.Ground.{denominator_event, lookup_event, one_built, ood_event}
 use Rattle.tool_statement.specs.Config.{tool_setting}
-use Rattle.tool_jobs.specs.Unbalanced.{IsBalancedAt, IsFirstUnbalanced, same_word}
+use Rattle.tool_jobs.specs.Unbalanced.{IsFirstUnbalanced, same_word}
 use Rattle.tool_validity.specs.Job.{IsBalancedJob, JobTable}
 use Rattle.tool_verifier.specs.FileAnswer.{SameAnswer}
 use Rattle.tool_verifier.specs.Refusals.{refused_text}

@@ -1,16 +1,14 @@
 -- What an honest proof opens of a small table is within the limits of a proof's text.
-use Rattle.std.proofs.Common.{◌≡◌, ℕ, zero, suc, ◌+◌, ◌*◌, ◌^◌, ◌<◌, ◌≤◌, List, [], ◌∷◌, length, map, Option, None, Some, refl, sym, ◌∙◌, ap, subst, arith}
-use Rattle.std.specs.Prelude.{All, option_map}
+use Rattle.std.proofs.Common.{◌≡◌, ℕ, zero, suc, ◌+◌, ◌*◌, ◌^◌, ◌≤◌, List, [], ◌∷◌, length, map, Option, None, Some, ap, arith}
+use Rattle.std.specs.Prelude.{option_map}
 use Rattle.std.proofs.lemmas.List.{length-map}
-use Rattle.p3_field.specs.Field.{TwoAdic}
 use Rattle.p3_field.specs.Laws.Tables.{length-table}
 use Rattle.p3_field.specs.Poly.{table, val_in}
-use Rattle.p3_field.specs.declared.baby_bear.BabyBear.{BabyBear}
 use Rattle.p3_field.specs.declared.quartic.QuarticExtension.{QuarticExtension}
 use Rattle.p3_matrix.specs.Matrix.{Rows}
 use Rattle.p3_air.specs.Shape.{width_of}
 use Rattle.line_format.specs.Texts.{ListWithin, OptionWithin}
-use Rattle.proof_text.specs.Openings.{InstanceWithin, OpenedWithin, PreprocessedWithin, ValuesWithin}
+use Rattle.proof_text.specs.Openings.{InstanceWithin, PreprocessedWithin, ValuesWithin}
 use Rattle.batch_setting.specs.Domains.{next_by}
 use Rattle.batch_setting.specs.Setting.{Setting, masks}
 use Rattle.batch_shape_checks.specs.ShapeChecks.{permutation_width}

@@ -1,5 +1,5 @@
 -- Why a balanced job has no proof: the plain scheme refuses nothing, and no bus is loaded too much, so an event came.
-use Rattle.std.proofs.Common.{◌≡◌, ℕ, ◌<◌, ◌≤◌, List, length, map, arith}
+use Rattle.std.proofs.Common.{◌≤◌, List, length, arith}
 use Rattle.std.specs.Prelude.{All}
 use Rattle.p3_field.specs.declared.baby_bear.BabyBear.{BabyBear}
 use Rattle.p3_lookup.specs.Bound.{AreBounded}

@@ -1,5 +1,5 @@
 -- The honest proof of a job within its limits is within those of proof files.
-use Rattle.std.proofs.Common.{◌≡◌, ℕ, zero, suc, ◌+◌, ◌*◌, ◌^◌, ◌<◌, ◌≤◌, false, List, [], ◌∷◌, ◌++◌, length, get_or, map, Option, None, Some, refl, sym, ◌∙◌, ap, subst, arith}
+use Rattle.std.proofs.Common.{◌≡◌, ℕ, zero, suc, ◌+◌, ◌*◌, ◌^◌, ◌<◌, ◌≤◌, false, List, [], ◌∷◌, length, get_or, map, Option, None, Some, refl, sym, ap, subst, arith}
 use Rattle.std.specs.Prelude.{All, option_to_list}
 use Rattle.std.specs.List.{flat_map}
 use Rattle.std.proofs.lemmas.List.{get_or-map, length-append, length-map}
@@ -8,10 +8,9 @@ use Rattle.p3_field.specs.Domain.{CosetData}
 use Rattle.p3_field.specs.Laws.SubgroupSelectors.{subgroup}
 use Rattle.p3_field.specs.Laws.Tables.{length-table}
 use Rattle.p3_field.specs.Poly.{table}
-use Rattle.p3_field.specs.Quartic.{quartic_inv}
 use Rattle.p3_field.specs.declared.baby_bear.BabyBear.{BabyBear}
 use Rattle.p3_field.specs.declared.quartic.QuarticExtension.{QuarticExtension}
-use Rattle.p3_matrix.specs.Matrix.{FillsRows, Rows, height}
+use Rattle.p3_matrix.specs.Matrix.{Rows}
 use Rattle.p3_air.specs.Laws.Lists.{all_table}
 use Rattle.line_format.specs.Texts.{Between, ListWithin, OptionWithin, Unlimited}
 use Rattle.proof_text.specs.Matrices.{MatrixWithin}
@@ -21,7 +20,6 @@ use Rattle.plain_pcs.specs.Extension.{IsCommittable, commitment_of, extended_dom
 use Rattle.plain_pcs.specs.Laws.Evaluations.{evaluations-fill}
 use Rattle.plain_pcs.specs.Laws.Extensions.{height-extension, length-polynomials, polynomials, width-extension}
 use Rattle.plain_pcs.specs.Laws.Held.{power_within}
-use Rattle.plain_pcs.specs.Scheme.{PlainCommitmentData}
 use Rattle.plain_pcs.specs.declared.commitment.PlainProof.{PlainProof}
 use Rattle.batch_validity.specs.Traced.{TracedTable, declared}
 use Rattle.committed_tables.specs.Fields.{FieldsLaws}
@@ -38,7 +36,7 @@ use Rattle.tool_jobs.specs.Stated.{statement_of}
 use Rattle.tool_prover.specs.JobAnswer.{IsJobProof, file_of}
 use Rattle.tool_prover.specs.JobBatch.{job_batch, tool_prover}
 use Rattle.tool_prover.specs.Laws.Granted.{all_chunks_sized, all_permutations_sized, mains_sized}
-use Rattle.tool_prover.specs.Laws.JobTables.{IsSmall, as_many, tables_divided, tables_sized, tables_traced, tool_serves}
+use Rattle.tool_prover.specs.Laws.JobTables.{as_many, tables_divided, tables_sized, tables_traced, tool_serves}
 use Rattle.tool_prover.specs.Laws.OpenedSizes.{opened_within}
 use Rattle.tool_prover.specs.Laws.Sized.{IsSized}
 

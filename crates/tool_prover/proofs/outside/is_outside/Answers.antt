@@ -1,4 +1,4 @@
-use Rattle.std.proofs.Common.{◌<◌, length, arith, sym, refl}
+use Rattle.std.proofs.Common.{◌<◌, length, arith, refl}
 use Rattle.std.proofs.lemmas.List.{length-map}
 use Rattle.tool_statement.specs.StatedTables.{log_height_of, log_heights_of}
 use Rattle.tool_prover.proofs.Points.{height_there, on_none, on_some, one_further}
