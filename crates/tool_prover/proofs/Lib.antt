@@ -1,5 +1,4 @@
 mod Points
 mod Setup
-mod Meaning
 mod Outcome
 mod Answering

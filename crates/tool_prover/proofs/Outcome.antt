@@ -49,8 +49,8 @@ use Rattle.tool_prover.specs.Outside.{AvoidsRows}
 use Rattle.tool_prover.specs.Laws.Drawn.{outside_is}
 use Rattle.tool_prover.specs.Laws.Granted.{plain_backend}
 use Rattle.tool_prover.specs.Laws.Refused.{told}
-use Rattle.tool_prover.proofs.Meaning.{EndsAt, ends_are, meant_is}
-use Rattle.tool_prover.proofs.Setup.{ToolSetting, airs_in_them, instances_long, kept_there, one_bit, prover_with, publics_in_them, same_batch, same_tables, scheme_with, source_of_air, statement_is, valid}
+use Rattle.tool_verifier.specs.Laws.Stated.{EndsAt, ToolSetting, ends_are, meant_is, same_tables}
+use Rattle.tool_prover.proofs.Setup.{airs_in_them, instances_long, kept_there, one_bit, prover_with, publics_in_them, same_batch, scheme_with, source_of_air, statement_is, valid}
 
 -- the prover's side of the plain scheme with this blowup
 abbrev pub backend_with : Blowup → ProverBackend Sha256Challenger BabyBear QuarticExtension (PlainCommitmentData BabyBear) (List (CosetData BabyBear × Rows BabyBear)) PlainProof PlainProverError

@@ -2,7 +2,6 @@
 use Rattle.std.proofs.Common.{◌≡◌, ℕ, zero, suc, ◌+◌, ◌<◌, cond, List, [], ◌∷◌, length, get_or, map, replicate, Option, None, Some, refl, sym, ◌∙◌, ap, subst, arith}
 use Rattle.std.specs.Prelude.{All}
 use Rattle.std.proofs.lemmas.List.{get_or-map, length-map}
-use Rattle.p3_challenger.specs.declared.sha256_challenger.Sha256Challenger.{Sha256Challenger}
 use Rattle.p3_field.specs.BabyBear.{bear_inv, bear_ring, bear_root, reduce}
 use Rattle.p3_field.specs.Domain.{CosetData}
 use Rattle.p3_field.specs.Poly.{table}
@@ -13,14 +12,14 @@ use Rattle.p3_matrix.specs.Matrix.{Rows, height}
 use Rattle.p3_commit.specs.Commitments.{Committed, IsCommitment}
 use Rattle.plain_pcs.specs.Extension.{commitment_of}
 use Rattle.plain_pcs.specs.Scheme.{Blowup, PlainCommitmentData, Scheme, scheme}
-use Rattle.batch_setting.specs.Setting.{Setting, masks}
+use Rattle.batch_setting.specs.Setting.{masks}
 use Rattle.batch_setup.specs.Laws.Logarithms.{log_of_power}
 use Rattle.batch_setup.specs.Packed.{Source, no_source, packed_at, source_of}
 use Rattle.batch_setup.specs.Preprocessed.{IsPrepared, committed_at, committed_below, entry_at, on_domain}
 use Rattle.batch_setup.specs.Setup.{Instance, bits_of, instances_of, log_of}
 use Rattle.batch_setup.specs.Setup.{airs_of as airs_in}
 use Rattle.batch_shape_checks.specs.ShapeChecks.{stated}
-use Rattle.batch_statement.specs.Statement.{Common, PreprocessedTracesData, Statement, Table, WellFormed, WrittenCommon, read_common, tables_of}
+use Rattle.batch_statement.specs.Statement.{Common, PreprocessedTracesData, Statement, WellFormed, WrittenCommon, read_common, tables_of}
 use Rattle.batch_statement.specs.declared.preprocessed.PreprocessedInstanceMeta.{PreprocessedInstanceMeta}
 use Rattle.batch_validity.specs.Laws.Made.{matrices_are}
 use Rattle.batch_validity.specs.Traced.{TracedTable, declared, preprocessed_matrices}
@@ -37,14 +36,12 @@ use Rattle.tool_statement.specs.StatedTables.{entries_of, log_heights_of, prepro
 use Rattle.tool_statement.specs.declared.table.TableStatement.{TableStatement}
 use Rattle.tool_tables.specs.Tool.{tool_declaration, tool_interactions, tool_trees}
 use Rattle.tool_tables.specs.declared.tool.ToolAir.{ToolAir}
+use Rattle.tool_verifier.specs.Laws.Stated.{ToolSetting, same_tables}
 use Rattle.tool_validity.specs.Job.{AreAirsOf, IsBalancedJob, IsWithin, JobTable, take_of, log_height_of, publics_of, source_of_job, trace_of}
 use Rattle.tool_validity.specs.Laws.Program.{set_up_is_valid}
 use Rattle.tool_validity.specs.Laws.Traced.{job_rows}
 use Rattle.tool_prover.specs.JobBatch.{job_batch, tool_prover}
 use Rattle.tool_prover.specs.Laws.JobTables.{table_is, tool_serves}
-
-abbrev pub ToolSetting : Type 0
-ToolSetting = Setting Sha256Challenger BabyBear QuarticExtension (PlainCommitmentData BabyBear)
 
 -- the plain scheme with this blowup, and the prover over it
 abbrev pub scheme_with : Blowup → Scheme BabyBear
@@ -96,21 +93,6 @@ kept_with commits entries [] p kept h = subst (λ q. IsKeptWith commits [] q kep
 kept_with commits entries (e ∷ es) None kept h = absurd h
 kept_with commits entries (e ∷ es) (Some g) None h = absurd h
 kept_with commits entries (e ∷ es) (Some g) (Some d) h = h.2
-
--- the AIRs' tables are those of the statement
-abbrev as_table : Source BabyBear → Table BabyBear
-as_table s = record { declaration = s.declaration; trees = s.trees }
-
-of_airs : (airs : List (ToolAir BabyBear)) → tables_of (tool_declaration bear_ring) tool_trees airs ≡ map as_table (map source_of_air airs)
-of_airs [] = refl
-of_airs (a ∷ airs) = ap (λ (ts : List (Table BabyBear)). record { declaration = tool_declaration bear_ring a; trees = tool_trees a } ∷ ts) (of_airs airs)
-
-of_tables : (tables : List TableStatement) → map as_table (sources_of tables) ≡ map table_of tables
-of_tables [] = refl
-of_tables (t ∷ tables) = ap (λ (ts : List (Table BabyBear)). table_of t ∷ ts) (of_tables tables)
-
-pub same_tables : (tables : List TableStatement) (airs : List (ToolAir BabyBear)) → map source_of_air airs ≡ sources_of tables → tables_of (tool_declaration bear_ring) tool_trees airs ≡ map table_of tables
-same_tables tables airs e = of_airs airs ∙ (ap (map as_table) e ∙ of_tables tables)
 
 pub same_prover : (b : Blowup) → b ≡ one_bit → prover_with b ≡ tool_prover
 unfolding tool_prover
