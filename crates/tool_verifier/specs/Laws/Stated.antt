@@ -1,5 +1,5 @@
 -- What the verifier says of AIRs and data that are made of a statement's tables, it says of the tables.
-use Rattle.std.proofs.Common.{◌≡◌, ℕ, zero, suc, ◌<◌, List, [], ◌∷◌, length, get_or, map, Option, None, Some, Result, Err, refl, sym, ◌∙◌, ap, subst, arith}
+use Rattle.std.proofs.Common.{◌≡◌, ℕ, zero, suc, ◌<◌, List, [], ◌∷◌, length, get_or, map, Some, Result, Err, refl, sym, ◌∙◌, ap, subst, arith}
 use Rattle.std.specs.Prelude.{slice_get}
 use Rattle.std.proofs.lemmas.List.{get_or-map, length-map}
 use Rattle.std.proofs.lemmas.Option.{none-some, same_Some}
@@ -30,7 +30,7 @@ use Rattle.tool_statement.specs.declared.table.TableStatement.TheVariants.{Swap,
 use Rattle.proof_text.specs.ProofText.{ToolProofData}
 
 -- a source as a table
-abbrev as_table : Source BabyBear → Table BabyBear
+abbrev pub as_table : Source BabyBear → Table BabyBear
 as_table s = record { declaration = s.declaration; trees = s.trees }
 
 of_airs : (airs : List (ToolAir BabyBear)) → tables_of (tool_declaration bear_ring) tool_trees airs ≡ map as_table (map (source_of (tool_declaration bear_ring) tool_trees (tool_interactions bear_ring)) airs)
@@ -46,7 +46,7 @@ pub same_tables : (tables : List TableStatement) (airs : List (ToolAir BabyBear)
     → tables_of (tool_declaration bear_ring) tool_trees airs ≡ map table_of tables
 same_tables tables airs e = of_airs airs ∙ (ap (map as_table) e ∙ of_tables tables)
 
-abbrev ToolSetting : Type 0
+abbrev pub ToolSetting : Type 0
 ToolSetting = Setting Sha256Challenger BabyBear QuarticExtension (PlainCommitmentData BabyBear)
 
 -- the checks of a configuration that is the program's
@@ -98,7 +98,7 @@ inside (u ∷ us) zero t e = omega arith
 inside (u ∷ us) (suc i) t e = let h = inside us i t e in omega (arith, h)
 
 -- the swap tables of such a statement
-abbrev EndsAt : ToolSetting → ℕ → Statement BabyBear (PlainCommitmentData BabyBear) → ToolProofData → List (ToolAir BabyBear) → Type 0
+abbrev pub EndsAt : ToolSetting → ℕ → Statement BabyBear (PlainCommitmentData BabyBear) → ToolProofData → List (ToolAir BabyBear) → Type 0
 EndsAt c b s p airs =
     (IsAlphaUnlucky c b s p → ⊥) → (IsZetaUnlucky c b s p → ⊥)
     → (i : ℕ) (air : ToolAir BabyBear) (a d x : BabyBear) → i < length airs → tool_trees (get_or airs i air) ≡ swap_trees → get_or s.publics i [] ≡ swap_publics a d x
