@@ -80,9 +80,10 @@ fn proved_answer(
         tables,
         proof,
     };
+    let text = write_proof_file(alloc, &file)?;
     Ok(Answer {
         status: Status::Done,
-        text: write_proof_file(alloc, &file)?,
+        text,
     })
 }
 

@@ -7,4 +7,4 @@ write_proof_file-requires c = within_is (read_tables c.args.job.now) c.requires.
 
 pub returns : goal.returns
 returns c =
-    proved_is (read_tables c.args.job.now) c.requires.balanced c.requires.within c.args.tables.items c.args.proof c.in_ok-write_proof_file.field-0.items c.requires.tables c.requires.outcome c.in_ok-write_proof_file.ensures
+    proved_is (read_tables c.args.job.now) c.requires.balanced c.requires.within c.args.tables.items c.args.proof c.in_ok-text.text.items c.requires.tables c.requires.outcome c.in_ok-text.ensures
