@@ -1,0 +1,71 @@
+-- What the tables declare is whole, and what they read is declared.
+use Rattle.std.proofs.Common.{◌≡◌, ℕ, zero, suc, ◌+◌, ◌<◌, ◌≤◌, [], ◌∷◌, length, map, All, Some, rules, arith}
+use Rattle.std.proofs.lemmas.List.Elements.{All-nil, All-cons, All-append}
+use Rattle.p3_field.specs.Ring.{Ring, of_nat}
+use Rattle.p3_field.specs.Poly.{table}
+use Rattle.p3_field.specs.Laws.Tables.{length-table}
+use Rattle.p3_matrix.specs.Matrix.{FillsRows}
+use Rattle.p3_matrix.specs.Laws.Grids.{product_fills}
+use Rattle.p3_air.specs.Shape.{HasColumns, HasWholeRows, ReadsDeclared, IsInteraction, declared_shape, width_of}
+use Rattle.p3_air.specs.Laws.Declared.{counts-none}
+use Rattle.p3_air.specs.Gadgets.{packed}
+use Rattle.p3_air.specs.Tree.{Tree, bool_tree, difference}
+use Rattle.example_air.specs.Bytes.{all_bytes, bits_trees, column, example_declaration, example_interactions, example_trees}
+use Rattle.example_air.specs.declared.air.ExampleAir.{ExampleAir}
+use Rattle.example_air.specs.declared.air.ExampleAir.TheVariants.{Bits, Bytes}
+
+module _ {F : Type 0} (r : Ring F) where
+  abbrev R : Tree F → Type 0
+  R = ReadsDeclared (declared_shape (example_declaration r Bits))
+
+  pub bytes_fill : FillsRows (all_bytes r) 1
+  unfolding all_bytes
+  bytes_fill = product_fills (all_bytes r) 256 1 (length-table {A = F} 256 (of_nat r))
+
+  pub example-has_columns : (a : ExampleAir) → HasColumns (example_declaration r a).preprocessed
+  example-has_columns Bits = search rules
+  example-has_columns Bytes = search rules
+
+  pub example-whole : (a : ExampleAir) → HasWholeRows (example_declaration r a).preprocessed
+  example-whole Bits = search rules
+  example-whole Bytes = bytes_fill
+
+  pub example-next : (a : ExampleAir) → All (λ c. c < (example_declaration r a).width) (example_declaration r a).main_next
+  example-next Bits = search rules
+  example-next Bytes = search rules
+
+  pub example-preprocessed_next : (a : ExampleAir) → All (λ c. c < width_of (example_declaration r a).preprocessed) (example_declaration r a).preprocessed_next
+  example-preprocessed_next Bits = search rules
+  example-preprocessed_next Bytes = search rules
+
+  pub example-counts : (a : ExampleAir) (n : ℕ) → (example_declaration r a).constraints ≡ Some n → n ≡ length (example_trees r a)
+  example-counts Bits n e = counts-none n (length (bits_trees r)) e
+  example-counts Bytes n e = counts-none n 0 e
+
+  reads_column : (k : ℕ) → k < 9 → R (column k)
+  reads_column k h = (h, λ e. absurd (cc e))
+
+  reads_packed : (k n : ℕ) → k + n ≤ 9 → R (packed r column k n)
+  unfolding packed
+  reads_packed k zero h = tt
+  reads_packed k (suc n) h = (reads_column k (omega (arith, h)), (tt, reads_packed (suc k) n (omega (arith, h))))
+
+  reads_bools : (n : ℕ) (t : ℕ → Tree F) → ((k : ℕ) → k < n → R (t k)) → All R (map (bool_tree r.one) (table n t))
+  reads_bools zero t h = All-nil R
+  reads_bools (suc n) t h =
+      All-cons R (bool_tree r.one (t zero)) (map (bool_tree r.one) (table n (λ i. t (suc i)))) (h zero (omega arith), (h zero (omega arith), tt)) (reads_bools n (λ i. t (suc i)) (λ k lt. h (suc k) (omega (arith, lt))))
+
+  reads_bits : All R (bits_trees r)
+  unfolding bits_trees
+  reads_bits =
+      let number = difference (column 8) (packed r column 0 8) in
+      All-append R (map (bool_tree r.one) (table 8 column)) (number ∷ []) (reads_bools 8 column (λ k h. reads_column k (omega (arith, h))))
+      (All-cons R number [] (reads_column 8 (omega arith), reads_packed 0 8 (omega arith)) (All-nil R))
+
+  pub example-read : (a : ExampleAir) → All (ReadsDeclared (declared_shape (example_declaration r a))) (example_trees r a)
+  example-read Bits = reads_bits
+  example-read Bytes = search rules
+
+  pub example-interactions_read : (a : ExampleAir) → All (IsInteraction (declared_shape (example_declaration r a))) (example_interactions r a)
+  example-interactions_read Bits = search rules
+  example-interactions_read Bytes = search rules

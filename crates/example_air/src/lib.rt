@@ -1,0 +1,9 @@
+//! How to add an AIR of one's own: bytes with their bits, beside a table of all bytes, joined by a lookup; and how to prove and verify such
+//! tables.
+//!
+//! The definitions that contracts cite are in `specs/`: the tables, and their traces (`Bytes`).
+#![tactic(auto)]
+
+mod air;
+
+pub use air::ExampleAir;
