@@ -5,5 +5,7 @@
 #![tactic(auto)]
 
 mod air;
+mod traces;
 
 pub use air::ExampleAir;
+pub use traces::{bits_trace, bytes_trace};
