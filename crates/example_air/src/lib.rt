@@ -5,7 +5,9 @@
 #![tactic(auto)]
 
 mod air;
+mod meanings;
 mod traces;
 
 pub use air::ExampleAir;
+pub use meanings::rows_are_bytes;
 pub use traces::{bits_trace, bytes_trace};

@@ -8,6 +8,7 @@ use Rattle.p3_matrix.specs.Matrix.{FillsRows}
 use Rattle.p3_matrix.specs.Laws.Grids.{product_fills}
 use Rattle.p3_air.specs.Shape.{HasColumns, HasWholeRows, ReadsDeclared, IsInteraction, declared_shape, width_of}
 use Rattle.p3_air.specs.Laws.Declared.{counts-none}
+use Rattle.p3_air.specs.Laws.Lists.{all_mapped}
 use Rattle.p3_air.specs.Gadgets.{packed}
 use Rattle.p3_air.specs.Tree.{Tree, bool_tree, difference}
 use Rattle.example_air.specs.Bytes.{all_bytes, bits_trees, column, example_declaration, example_interactions, example_trees}
@@ -50,16 +51,11 @@ module _ {F : Type 0} (r : Ring F) where
   reads_packed k zero h = tt
   reads_packed k (suc n) h = (reads_column k (omega (arith, h)), (tt, reads_packed (suc k) n (omega (arith, h))))
 
-  reads_bools : (n : ℕ) (t : ℕ → Tree F) → ((k : ℕ) → k < n → R (t k)) → All R (map (bool_tree r.one) (table n t))
-  reads_bools zero t h = All-nil R
-  reads_bools (suc n) t h =
-      All-cons R (bool_tree r.one (t zero)) (map (bool_tree r.one) (table n (λ i. t (suc i)))) (h zero (omega arith), (h zero (omega arith), tt)) (reads_bools n (λ i. t (suc i)) (λ k lt. h (suc k) (omega (arith, lt))))
-
   reads_bits : All R (bits_trees r)
   unfolding bits_trees
   reads_bits =
       let number = difference (column 8) (packed r column 0 8) in
-      All-append R (map (bool_tree r.one) (table 8 column)) (number ∷ []) (reads_bools 8 column (λ k h. reads_column k (omega (arith, h))))
+      All-append R (map (bool_tree r.one) (table 8 column)) (number ∷ []) (all_mapped R (bool_tree r.one) 8 column (λ k h. (reads_column k (omega (arith, h)), (reads_column k (omega (arith, h)), tt))))
       (All-cons R number [] (reads_column 8 (omega arith), reads_packed 0 8 (omega arith)) (All-nil R))
 
   pub example-read : (a : ExampleAir) → All (ReadsDeclared (declared_shape (example_declaration r a))) (example_trees r a)
