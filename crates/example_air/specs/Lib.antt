@@ -1,3 +1,4 @@
 pub mod Bytes
 pub mod Meanings
+pub mod Statement
 pub mod Laws

@@ -6,6 +6,7 @@
 
 mod air;
 mod meanings;
+mod statement;
 mod traces;
 
 pub use air::ExampleAir;

@@ -1,0 +1,89 @@
+-- What the setup makes of the two tables is what they share, and it refuses none of them.
+use Rattle.std.proofs.Common.{◌≡◌, ℕ, ◌-◌, ◌^◌, ◌<◌, ◌≤◌, List, [], ◌∷◌, ◌++◌, length, get_or, Option, None, Some, refl, sym, ◌∙◌, ap, subst, arith}
+use Rattle.std.specs.Prelude.{slice_get, IfSome, replicate}
+use Rattle.p3_field.specs.BabyBear.{bear_ring, bear_inv, bear_root, reduce}
+use Rattle.p3_field.specs.Checks.{FirstFails, NoneFails, in_turn}
+use Rattle.p3_field.specs.Domain.{CosetData}
+use Rattle.p3_field.specs.Laws.Checks.{none_append, none_alone, none_first}
+use Rattle.p3_field.specs.Laws.Tables.{length-table}
+use Rattle.p3_field.specs.Poly.{table}
+use Rattle.p3_field.specs.Ring.{of_nat}
+use Rattle.p3_field.specs.declared.baby_bear.BabyBear.{BabyBear}
+use Rattle.p3_matrix.specs.Matrix.{Rows, height}
+use Rattle.p3_matrix.specs.Laws.Grids.{product_height}
+use Rattle.p3_commit.specs.Commitments.{Committed, IsCommitment}
+use Rattle.p3_commit.specs.Failure.{NoneOf}
+use Rattle.p3_lookup.specs.Lookup.{LookupData}
+use Rattle.plain_pcs.specs.Extension.{IsCommittable, commitment_of}
+use Rattle.plain_pcs.specs.Refusals.{CommitFault}
+use Rattle.plain_pcs.specs.Scheme.{Blowup, PlainCommitmentData, Scheme, scheme}
+use Rattle.plain_pcs.specs.declared.error.PlainProverError.{PlainProverError}
+use Rattle.plain_pcs.specs.declared.error.PlainProverError.TheVariants.{Commit, Open}
+use Rattle.batch_setup.specs.Packed.{Source, packed_at, source_of}
+use Rattle.batch_setup.specs.Preprocessed.{IsPrepared, committed_below, entry_at, natural}
+use Rattle.batch_setup.specs.SetupChecks.{AreBounded, degree_checks, trace_checks}
+use Rattle.batch_setup.specs.declared.error.SetupError.{SetupError}
+use Rattle.batch_statement.specs.Statement.{Common, PreprocessedTracesData}
+use Rattle.tool_statement.specs.Config.{tool_scheme}
+use Rattle.example_air.specs.Bytes.{all_bytes, example_declaration, example_interactions, example_trees}
+use Rattle.example_air.specs.Statement.{example_common}
+use Rattle.example_air.specs.declared.air.ExampleAir.{ExampleAir}
+use Rattle.example_air.specs.declared.air.ExampleAir.TheVariants.{Bits, Bytes}
+
+abbrev Traces : Type 0
+Traces = List (CosetData BabyBear × Rows BabyBear)
+
+-- the column of all bytes, on the subgroup of its size
+abbrev all : CosetData BabyBear × Rows BabyBear
+all = (natural bear_ring.one 8, record { values = all_bytes bear_ring; width = 1 })
+
+-- what the two AIRs make their tables from
+abbrev sources : List (Source BabyBear)
+sources =
+    source_of (example_declaration bear_ring) (example_trees bear_ring) (example_interactions bear_ring) Bits
+    ∷ source_of (example_declaration bear_ring) (example_trees bear_ring) (example_interactions bear_ring) Bytes
+    ∷ []
+
+all_high : height all.1 ≡ 2 ^ 8
+unfolding all_bytes
+all_high = product_height (all_bytes bear_ring) 256 1 (length-table {A = BabyBear} 256 (of_nat bear_ring)) (omega arith)
+
+can_commit : IsCommittable tool_scheme all.0 all.1
+can_commit = record { has_columns = omega arith; height_is = all_high; fits = omega arith }
+
+not_refused : NoneOf (CommitFault tool_scheme (all ∷ []))
+not_refused (Commit i) f =
+    let first : i ≡ 0 = let h = f.within in omega (arith, h) in
+    f.fails (subst (λ k. IfSome (slice_get (all ∷ []) k) (λ e. IsCommittable tool_scheme e.0 e.1)) (sym first) can_commit)
+not_refused (Open i) f = f
+
+none_fails : (log_rows : ℕ) → NoneFails (degree_checks {E = PlainProverError} 2 2 ++ trace_checks bear_ring.one 0 (CommitFault tool_scheme) sources (log_rows ∷ 8 ∷ []) 2)
+unfolding NoneFails in_turn
+none_fails log_rows = (refl, (all_high, (not_refused, tt)))
+
+abbrev own_scheme : Blowup → Scheme BabyBear
+own_scheme b = scheme bear_ring bear_inv bear_root (reduce 31) 27 b
+
+-- the setup refuses nothing
+pub granted : (log_rows : ℕ) (b : Blowup) → b ≡ record { log_blowup = 1 } → (e : SetupError PlainProverError)
+    → FirstFails (degree_checks 2 2 ++ trace_checks bear_ring.one 0 (CommitFault (own_scheme b)) sources (log_rows ∷ 8 ∷ []) 2) e → ⊥
+granted log_rows b p e f =
+    none_first _ e
+    (subst (λ (s : Blowup). NoneFails (degree_checks {E = PlainProverError} 2 2 ++ trace_checks bear_ring.one 0 (CommitFault (own_scheme s)) sources (log_rows ∷ 8 ∷ []) 2)) (sym p)
+    (none_fails log_rows)) f
+
+-- what it makes is what the tables share
+pub common_is : {P : Type 0} (log_rows : ℕ) (lookups : List (List (LookupData BabyBear))) (p : Option (PreprocessedTracesData (PlainCommitmentData BabyBear))) (kept : Option P)
+    (points : CosetData BabyBear → ℕ) (point_at : CosetData BabyBear → ℕ → BabyBear) (made : P → Type 0) (holds : P → PlainCommitmentData BabyBear → List (Committed BabyBear) → Type 0) (b : Blowup)
+    → b ≡ record { log_blowup = 1 }
+    → lookups ≡ table 2 (packed_at bear_ring 0 sources (log_rows ∷ 8 ∷ []) (replicate 2 0))
+    → IsPrepared (λ es w. IsCommitment bear_ring points point_at (λ es c. c ≡ commitment_of (own_scheme b) es) made holds es w) (table 2 (entry_at bear_ring.one sources (log_rows ∷ 8 ∷ []))) (committed_below bear_ring.one sources (log_rows ∷ 8 ∷ []) 2) p kept
+    → record { preprocessed = p; lookups = lookups } ≡ example_common
+unfolding example_common
+common_is log_rows lookups None kept points point_at made holds b e l h = absurd h
+common_is log_rows lookups (Some g) None points point_at made holds b e l h = absurd h
+common_is log_rows lookups (Some g) (Some d) points point_at made holds b e l h =
+    let commitment = h.2.commitment_is ∙ ap (λ (s : Blowup). commitment_of (own_scheme s) (all ∷ [])) e in
+    let instances = h.0 in
+    let listed = h.1 in
+    λ i. record { preprocessed = Some (record { commitment = commitment i; instances = instances i; matrix_to_instance = listed i }); lookups = l i }
