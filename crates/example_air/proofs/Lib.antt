@@ -1,2 +1,3 @@
 mod Pushed
 mod Shared
+mod Stated

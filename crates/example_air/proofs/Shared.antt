@@ -1,10 +1,10 @@
 -- What the setup makes of the two tables is what they share, and it refuses none of them.
-use Rattle.std.proofs.Common.{◌≡◌, ℕ, ◌-◌, ◌^◌, ◌<◌, ◌≤◌, List, [], ◌∷◌, ◌++◌, length, get_or, Option, None, Some, refl, sym, ◌∙◌, ap, subst, arith}
+use Rattle.std.proofs.Common.{◌≡◌, ℕ, ◌^◌, List, [], ◌∷◌, ◌++◌, Option, None, Some, refl, sym, ◌∙◌, ap, subst, arith}
 use Rattle.std.specs.Prelude.{slice_get, IfSome, replicate}
 use Rattle.p3_field.specs.BabyBear.{bear_ring, bear_inv, bear_root, reduce}
 use Rattle.p3_field.specs.Checks.{FirstFails, NoneFails, in_turn}
 use Rattle.p3_field.specs.Domain.{CosetData}
-use Rattle.p3_field.specs.Laws.Checks.{none_append, none_alone, none_first}
+use Rattle.p3_field.specs.Laws.Checks.{none_first}
 use Rattle.p3_field.specs.Laws.Tables.{length-table}
 use Rattle.p3_field.specs.Poly.{table}
 use Rattle.p3_field.specs.Ring.{of_nat}
@@ -21,13 +21,12 @@ use Rattle.plain_pcs.specs.declared.error.PlainProverError.{PlainProverError}
 use Rattle.plain_pcs.specs.declared.error.PlainProverError.TheVariants.{Commit, Open}
 use Rattle.batch_setup.specs.Packed.{Source, packed_at, source_of}
 use Rattle.batch_setup.specs.Preprocessed.{IsPrepared, committed_below, entry_at, natural}
-use Rattle.batch_setup.specs.SetupChecks.{AreBounded, degree_checks, trace_checks}
+use Rattle.batch_setup.specs.SetupChecks.{degree_checks, trace_checks}
 use Rattle.batch_setup.specs.declared.error.SetupError.{SetupError}
-use Rattle.batch_statement.specs.Statement.{Common, PreprocessedTracesData}
+use Rattle.batch_statement.specs.Statement.{PreprocessedTracesData}
 use Rattle.tool_statement.specs.Config.{tool_scheme}
 use Rattle.example_air.specs.Bytes.{all_bytes, example_declaration, example_interactions, example_trees}
 use Rattle.example_air.specs.Statement.{example_common}
-use Rattle.example_air.specs.declared.air.ExampleAir.{ExampleAir}
 use Rattle.example_air.specs.declared.air.ExampleAir.TheVariants.{Bits, Bytes}
 
 abbrev Traces : Type 0
