@@ -1,12 +1,9 @@
 //! The prover of batches: `prove_batch` of Plonky3's `p3-batch-stark`.
 //!
 //! The definitions that its contract cites are those of `batch_proving`, `honest_proofs` and `batch_validity`. The stages of the work are crates
-//! of their own; here they are put together along the prover's transcript.
+//! of their own; here they are put together.
 #![tactic(auto)]
 
-mod lookups;
 mod prover;
-mod quotients;
-mod transcript;
 
 pub use prover::{prove_batch, prove_batch_with_point};

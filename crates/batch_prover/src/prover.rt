@@ -9,11 +9,8 @@ ghost use Rattle.honest_proofs.specs.HonestProof.{IsHonest};
 ghost use Rattle.batch_proving.specs.Batch.{CommitsToSome, IsKeptWith, IsTracedAll, all_chunks, all_permutations, batch_of, main_matrices, preprocessed_all, table_at, table_count};
 ghost use Rattle.batch_proving.specs.Proving.{AvoidsExcluded, HaveFractionsFor, IsGroundOf, IsProved, extension_part, fraction_part, lookup_part, ood_part, opening_part, permutation_part, proving_checks, quotient_part};
 ghost use Rattle.batch_proving.specs.Verdict.{IsProverAnswer};
-ghost use Rattle.batch_prover.specs.Stages.{main_of, pair_state, permutation_of, point_of, quotient_of, shape_of, state_of_opening, terminals_of};
+ghost use Rattle.prover_stages.specs.Stages.{main_of, pair_state, permutation_of, point_of, quotient_of, shape_of, state_of_opening, terminals_of};
 
-use crate::lookups::{LookupStage, data_of, lookup_stage};
-use crate::quotients::{QuotientStage, quotient_stage};
-use crate::transcript::{Transcript, bound_transcript};
 use batch_proving::{ProverSettings, ProvingError};
 use batch_setting::Settings;
 use batch_setup::{Committed, ProverData, StarkInstance, degree_bits};
@@ -29,14 +26,9 @@ use p3_field::{
 };
 use p3_uni_stark::{Challenge, Commitment, PcsProverError, StarkGenericConfig, Val};
 use prover_openings::open_batch;
+use prover_stages::{LookupStage, QuotientStage, bound_transcript, data_of, drawn_stages};
 use prover_traces::{check_bound, commit_traces};
 use std::alloc::Global;
-
-/// What the stages of the lookups and of the quotients give, over a configuration.
-type Stages<SC> = (
-    LookupStage<Val<SC>, Challenge<SC>, Commitment<SC>, Committed<SC>>,
-    QuotientStage<Val<SC>, Challenge<SC>, Commitment<SC>, Committed<SC>>,
-);
 
 // The proof of what the stages gave.
 fn assembled<F: Drop, E: Drop, Com: Drop, PD: Drop, Opening>(
@@ -71,53 +63,6 @@ fn assembled<F: Drop, E: Drop, Com: Drop, PD: Drop, Opening>(
         lookup_pow_witness: lookups.witness,
         ood_pow_witness: quotients.witness,
     }
-}
-
-// The stages of a batch's proof along its transcript, from the draw of the lookups' pair to that of the point of the openings.
-fn drawn_stages<SC: StarkGenericConfig, A: Air<Val<SC>>>(
-    alloc: Global,
-    config: &SC,
-    instances: &[StarkInstance<'_, SC, A>],
-    prover_data: &ProverData<SC>,
-    main: &Committed<SC>,
-    transcript: &mut Transcript<SC>,
-) -> Result<Stages<SC>, ProvingError<PcsProverError<SC>>>
-    requires plain { SC.Pcs.ZK ≡ false }
-    requires traced { let b = batch_of (⟦<SC as Settings>⟧.setting config.now) (⟦<SC as ProverSettings>⟧.prover config.now) A.declaration A.trees instances.now prover_data.now.common in IsTracedAll b }
-    requires kept { let b = batch_of (⟦<SC as Settings>⟧.setting config.now) (⟦<SC as ProverSettings>⟧.prover config.now) A.declaration A.trees instances.now prover_data.now.common in
-        IsKeptWith (⟦<SC as ProverSettings>⟧.commits_to config.now) (preprocessed_all b) b.statement.common.preprocessed prover_data.now.prover_only.preprocessed_prover_data }
-    requires main { let b = batch_of (⟦<SC as Settings>⟧.setting config.now) (⟦<SC as ProverSettings>⟧.prover config.now) A.declaration A.trees instances.now prover_data.now.common in ⟦<SC as ProverSettings>⟧.commits_to config.now (main_matrices b) (main_of b, main.now) }
-    requires turn { transcript.old.remaining ≡ from_lookup SC.Challenge.DIMENSION transcript.old.shape }
-    requires shape { let b = batch_of (⟦<SC as Settings>⟧.setting config.now) (⟦<SC as ProverSettings>⟧.prover config.now) A.declaration A.trees instances.now prover_data.now.common in transcript.old.shape ≡ shape_of b }
-    requires few_lookup { 2 ^ transcript.old.shape.lookup_pow_bits < SC.Val.ORDER_U64 }
-    requires few_ood { 2 ^ transcript.old.shape.ood_pow_bits < SC.Val.ORDER_U64 }
-    requires state { let b = batch_of (⟦<SC as Settings>⟧.setting config.now) (⟦<SC as ProverSettings>⟧.prover config.now) A.declaration A.trees instances.now prover_data.now.common in transcript.old.state ≡ pair_state b }
-    ensures verdict { let b = batch_of (⟦<SC as Settings>⟧.setting config.now) (⟦<SC as ProverSettings>⟧.prover config.now) A.declaration A.trees instances.now prover_data.now.common in let k = ⟦<SC as ProverSettings>⟧.prover_backend config.now in
-        IsProverAnswer ((lookup_part b ++ (fraction_part b ++ permutation_part k b)) ++ ((in_turn (table_count b) (extension_part k b) ++ quotient_part k b) ++ ood_part b)) result }
-    ensures ground { let b = batch_of (⟦<SC as Settings>⟧.setting config.now) (⟦<SC as ProverSettings>⟧.prover config.now) A.declaration A.trees instances.now prover_data.now.common in IfOk result (λ r. IsGroundOf b r.0.witness r.1.witness) }
-    ensures terminals { let b = batch_of (⟦<SC as Settings>⟧.setting config.now) (⟦<SC as ProverSettings>⟧.prover config.now) A.declaration A.trees instances.now prover_data.now.common in IfOk result (λ r. map (option_map (λ t. t.0)) r.0.terminals.items ≡ terminals_of b r.0.witness) }
-    ensures permutation { let b = batch_of (⟦<SC as Settings>⟧.setting config.now) (⟦<SC as ProverSettings>⟧.prover config.now) A.declaration A.trees instances.now prover_data.now.common in IfOk result (λ r. CommitsToSome (⟦<SC as ProverSettings>⟧.commits_to config.now) (all_permutations b r.0.witness) r.0.permutation) }
-    ensures columns { let b = batch_of (⟦<SC as Settings>⟧.setting config.now) (⟦<SC as ProverSettings>⟧.prover config.now) A.declaration A.trees instances.now prover_data.now.common in IfOk result (λ r. option_map (λ c. c.0) r.0.permutation ≡ permutation_of b r.0.witness) }
-    ensures quotient { let b = batch_of (⟦<SC as Settings>⟧.setting config.now) (⟦<SC as ProverSettings>⟧.prover config.now) A.declaration A.trees instances.now prover_data.now.common in IfOk result (λ r. ⟦<SC as ProverSettings>⟧.commits_to config.now (all_chunks b r.0.witness) (r.1.commitment, r.1.data)) }
-    ensures chunks { let b = batch_of (⟦<SC as Settings>⟧.setting config.now) (⟦<SC as ProverSettings>⟧.prover config.now) A.declaration A.trees instances.now prover_data.now.common in IfOk result (λ r. r.1.commitment ≡ quotient_of b r.0.witness) }
-    ensures fractions { let b = batch_of (⟦<SC as Settings>⟧.setting config.now) (⟦<SC as ProverSettings>⟧.prover config.now) A.declaration A.trees instances.now prover_data.now.common in IfOk result (λ r. HaveFractionsFor b r.0.witness) }
-    ensures zeta { let b = batch_of (⟦<SC as Settings>⟧.setting config.now) (⟦<SC as ProverSettings>⟧.prover config.now) A.declaration A.trees instances.now prover_data.now.common in IfOk result (λ r. r.1.zeta ≡ point_of b r.0.witness r.1.witness) }
-    ensures state { let b = batch_of (⟦<SC as Settings>⟧.setting config.now) (⟦<SC as ProverSettings>⟧.prover config.now) A.declaration A.trees instances.now prover_data.now.common in IfOk result (λ r. transcript.new.state ≡ state_of_opening b r.0.witness r.1.witness) }
-{
-    let common = &prover_data.common;
-    let preprocessed = prover_data.prover_only.preprocessed_prover_data.as_ref();
-    let lookups = lookup_stage(alloc, config, instances, common, transcript)?;
-    let quotients = quotient_stage(
-        alloc,
-        config,
-        instances,
-        common,
-        preprocessed,
-        main,
-        &lookups,
-        transcript,
-    )?;
-    Ok((lookups, quotients))
 }
 
 /// Proves a batch of tables as `prove_batch` does, and gives with the proof the point of its openings (own), which a caller may look at

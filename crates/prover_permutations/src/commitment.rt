@@ -1,15 +1,13 @@
 //! The commitment to the permutation columns of a batch.
-ghost use Rattle.std.specs.Prelude.{◌≡◌, Option, IfOk};
-ghost use Rattle.batch_proving.specs.Batch.{CommitsToSome, all_permutations, batch_of};
-ghost use Rattle.batch_proving.specs.Proving.{IsPairGroundOf, fault_of_some, permutation_part};
+ghost use Rattle.std.specs.Prelude.{IfOk};
+ghost use Rattle.batch_proving.specs.Batch.{CommitsToSome};
+ghost use Rattle.batch_proving.specs.Proving.{fault_of_some};
 ghost use Rattle.batch_proving.specs.Verdict.{IsProverVerdict};
 ghost use Rattle.prover_traces.specs.Commitment.{commit_part};
 
 use batch_proving::{ProverSettings, ProvingError};
 use batch_setting::Settings;
-use batch_setup::{Committed, ProverPhase, StarkInstance};
-use batch_statement::CommonData;
-use p3_air::{Air, BaseAir};
+use batch_setup::{Committed, ProverPhase};
 use p3_commit::{CosetPcs, Pcs, PolynomialSpace, UnivariateStarkPcs};
 use p3_field::{
     BasedVectorSpace, ExtensionField, Field, FieldCore, PrimeCharacteristicRing, PrimeCore64,
@@ -20,8 +18,10 @@ use p3_uni_stark::{Commitment, Domain, PcsProverError, StarkGenericConfig, Val};
 use prover_traces::commit_matrices;
 use std::alloc::Global;
 
-// The backend's commitment to permutation columns, where there are some.
-fn commit_some<SC: StarkGenericConfig>(
+/// The commitment to the permutation columns of a batch, as `permutation_columns` gives them, and what the backend keeps of them
+/// (`prove_batch` of `p3-batch-stark`). Where no table has lookups there is none, and nothing is asked of the backend. The answer is `Pcs`
+/// with the phase `PermutationCommitment` exactly where the backend refuses. Only out of memory is free.
+pub fn commit_permutations<SC: StarkGenericConfig>(
     alloc: Global,
     config: &SC,
     columns: Vec<(Domain<SC>, RowMajorMatrix<Val<SC>>)>,
@@ -34,24 +34,4 @@ fn commit_some<SC: StarkGenericConfig>(
     }
     let committed = commit_matrices(alloc, config, ProverPhase::PermutationCommitment, columns)?;
     Ok(Some(committed))
-}
-
-/// The commitment to the permutation columns of a batch, as `permutation_columns` gives them, and what the backend keeps of them
-/// (`prove_batch` of `p3-batch-stark`). Where no table has lookups there is none, and nothing is asked of the backend. The answer is `Pcs`
-/// with the phase `PermutationCommitment` exactly where the backend refuses. Only out of memory is free.
-pub fn commit_permutations<SC: StarkGenericConfig, A: Air<Val<SC>>>(
-    alloc: Global,
-    config: &SC,
-    instances: &[StarkInstance<'_, SC, A>],
-    common: &CommonData<SC>,
-    columns: Vec<(Domain<SC>, RowMajorMatrix<Val<SC>>)>,
-) -> Result<Option<(Commitment<SC>, Committed<SC>)>, ProvingError<PcsProverError<SC>>>
-    requires { let b = batch_of (⟦<SC as Settings>⟧.setting config.now) (⟦<SC as ProverSettings>⟧.prover config.now) A.declaration A.trees instances.now common.now in
-        (w : Option SC.Val) × IsPairGroundOf b w × (columns.items ≡ all_permutations b w) }
-    ensures verdict { let b = batch_of (⟦<SC as Settings>⟧.setting config.now) (⟦<SC as ProverSettings>⟧.prover config.now) A.declaration A.trees instances.now common.now in
-        IsProverVerdict (permutation_part (⟦<SC as ProverSettings>⟧.prover_backend config.now) b) result }
-    ensures committed { let b = batch_of (⟦<SC as Settings>⟧.setting config.now) (⟦<SC as ProverSettings>⟧.prover config.now) A.declaration A.trees instances.now common.now in
-        IfOk result (λ o. (w : Option SC.Val) → IsPairGroundOf b w → CommitsToSome (⟦<SC as ProverSettings>⟧.commits_to config.now) (all_permutations b w) o) }
-{
-    commit_some(alloc, config, columns)
 }

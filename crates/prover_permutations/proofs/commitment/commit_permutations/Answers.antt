@@ -1,21 +1,38 @@
-use Rattle.std.proofs.Common.{◌^◌}
+use Rattle.std.proofs.Common.{◌≡◌, ◌^◌, true, false, vec_len, sym, ◌∙◌, arith}
 use Rattle.p3_commit.specs.Commitments.{IsCommitment}
 use Rattle.p3_field.specs.Domain.{CosetData, point}
-use Rattle.batch_proving.specs.Batch.{CommitsToSome, batch_of}
-use Rattle.honest_proofs.specs.HonestProof.{Prover}
-use Rattle.prover_permutations.proofs.Drawn.{drawn_kept, drawn_verdict}
+use Rattle.std.proofs.lemmas.Bool.{eqb-true, eq-eqb}
+use Rattle.batch_setup.specs.declared.error.ProverPhase.TheVariants.{PermutationCommitment}
+use Rattle.batch_proving.specs.Laws.Verdicts.{exits}
+use Rattle.prover_permutations.proofs.Drawn.{none_of_nothing, none_of_some, refused_of_some, some_kept}
 use Rattle.prover_permutations.proofs.commitment.commit_permutations.Goals as goal
+
+pub returns-then-is_empty-clause-verdict : goal.returns-then-is_empty-clause-verdict
+returns-then-is_empty-clause-verdict g c =
+    let ms = c.args.columns in
+    let none : vec_len ms ≡ 0 = eqb-true (vec_len ms) 0 (sym c.is_empty.ensures ∙ c.if-is_empty.true) in
+    none_of_nothing PermutationCommitment (g.SC-Pcs-Pcs.commit_fault (g.SC.StarkGenericConfig.pcs_of c.args.config.now)) ms.items (omega (arith, none, ms.ok.0))
+
+pub returns-in_err-committed-clause-verdict : goal.returns-in_err-committed-clause-verdict
+returns-in_err-committed-clause-verdict g c =
+    let ms = c.args.columns in
+    exits _ _ _ c.from_residual.ensures.1
+    (refused_of_some PermutationCommitment (g.SC-Pcs-Pcs.commit_fault (g.SC.StarkGenericConfig.pcs_of c.args.config.now)) ms.items _
+    (λ e.
+    let v : vec_len ms ≡ 0 = omega (arith, e, ms.ok.0) in
+    let t : true ≡ false = sym (c.is_empty.ensures ∙ eq-eqb (vec_len ms) 0 v) ∙ c.if-is_empty.false in cc)
+    c.in_err-committed.ensures.verdict)
 
 pub returns-clause-verdict : goal.returns-clause-verdict
 returns-clause-verdict g c =
-    let p : Prover g.row.SC-Val.Denot g.row.SC-Challenge.Denot g.row.SC-Pcs-Commitment.Denot = record { inverse = g.SC.Challenge.FieldCore.inv; canonical = g.SC.Val.PrimeCore64.canonical; commitment_of = g.SC-Pcs-UnivariateStarkPcs.commitment_of (g.SC.StarkGenericConfig.pcs_of c.args.config.now) } in
-    drawn_verdict (batch_of _ p g.A.BaseAir.declaration g.A.Air.trees c.args.instances.now c.args.common.now) (g.SC-Pcs-Pcs.commit_fault (g.SC.StarkGenericConfig.pcs_of c.args.config.now))
-    (record { ones = g.met.SC.Val.PrimeCore64.of_canonical; below = g.met.SC.Val.PrimeCore64.canonical_below }) c.args.columns.items c.requires.0 c.requires.1 c.requires.2 c.commit_some.result c.commit_some.ensures.verdict
+    none_of_some PermutationCommitment (g.SC-Pcs-Pcs.commit_fault (g.SC.StarkGenericConfig.pcs_of c.args.config.now)) c.args.columns.items c.in_ok-committed.ensures.verdict
 
 pub returns-clause-committed : goal.returns-clause-committed
 returns-clause-committed g c =
-    let p : Prover g.row.SC-Val.Denot g.row.SC-Challenge.Denot g.row.SC-Pcs-Commitment.Denot = record { inverse = g.SC.Challenge.FieldCore.inv; canonical = g.SC.Val.PrimeCore64.canonical; commitment_of = g.SC-Pcs-UnivariateStarkPcs.commitment_of (g.SC.StarkGenericConfig.pcs_of c.args.config.now) } in
+    let ms = c.args.columns in
     let pcs = g.SC.StarkGenericConfig.pcs_of c.args.config.now in
-    drawn_kept (batch_of _ p g.A.BaseAir.declaration g.A.Air.trees c.args.instances.now c.args.common.now) (g.SC-Pcs-Pcs.commit_fault (g.SC.StarkGenericConfig.pcs_of c.args.config.now))
-    (record { ones = g.met.SC.Val.PrimeCore64.of_canonical; below = g.met.SC.Val.PrimeCore64.canonical_below }) c.args.columns.items c.requires.0 c.requires.1 c.requires.2
-    (CommitsToSome (λ es w. IsCommitment g.SC.Val.RingCore.ring (λ (d : CosetData g.row.SC-Val.Denot). 2 ^ d.log_size) (point g.SC.Val.RingCore.ring g.SC.Val.TwoAdicCore.root) (g.SC-Pcs-Pcs.commits pcs) (g.SC-Pcs-Pcs.made pcs) (g.SC-Pcs-Pcs.holds pcs) es w)) c.commit_some.result c.commit_some.ensures.committed
+    some_kept (IsCommitment g.SC.Val.RingCore.ring (λ (d : CosetData g.row.SC-Val.Denot). 2 ^ d.log_size) (point g.SC.Val.RingCore.ring g.SC.Val.TwoAdicCore.root) (g.SC-Pcs-Pcs.commits pcs) (g.SC-Pcs-Pcs.made pcs) (g.SC-Pcs-Pcs.holds pcs)) ms.items c.in_ok-committed.committed
+    (λ e.
+    let v : vec_len ms ≡ 0 = omega (arith, e, ms.ok.0) in
+    let t : true ≡ false = sym (c.is_empty.ensures ∙ eq-eqb (vec_len ms) 0 v) ∙ c.if-is_empty.false in cc)
+    c.in_ok-committed.ensures.committed

@@ -5,7 +5,7 @@ ghost use Rattle.batch_transcript.specs.BatchScript.{from_opening, from_quotient
 ghost use Rattle.batch_proving.specs.Batch.{CommitsToSome, IsKeptWith, IsTracedAll, all_challenges, all_chunks, all_permutations, batch_of, folding, main_matrices, preprocessed_all, table_count};
 ghost use Rattle.batch_proving.specs.Proving.{HaveFractionsFor, IsGroundOf, IsPairGroundOf, extension_part, ood_part, quotient_part};
 ghost use Rattle.batch_proving.specs.Verdict.{IsProverAnswer};
-ghost use Rattle.batch_prover.specs.Stages.{point_of, quotient_of, quotient_state, shape_of, state_of_opening, terminals_of};
+ghost use Rattle.prover_stages.specs.Stages.{point_of, quotient_of, quotient_state, shape_of, state_of_opening, terminals_of};
 
 use crate::lookups::{LookupStage, data_of};
 use crate::transcript::{Transcript, bind_quotient};
@@ -26,7 +26,7 @@ use std::alloc::Global;
 
 /// What a prover has behind the stage of the quotients.
 #[derive(Drop)]
-pub(crate) struct QuotientStage<F, E, Com, PD> {
+pub struct QuotientStage<F, E, Com, PD> {
     /// The commitment to all chunks.
     pub commitment: Com,
     /// Its prover data.

@@ -4,7 +4,7 @@ ghost use Rattle.std.specs.Option.{option_copied};
 ghost use Rattle.batch_transcript.specs.BatchScript.{from_lookup, from_ood, from_quotient, quotient_script};
 ghost use Rattle.batch_transcript.specs.Running.{Plays};
 ghost use Rattle.batch_proving.specs.Batch.{IsTracedAll, batch_of};
-ghost use Rattle.batch_prover.specs.Stages.{main_of, pair_state, shape_of};
+ghost use Rattle.prover_stages.specs.Stages.{main_of, pair_state, shape_of};
 
 use batch_draws::{batch_shape, preprocessed_commitment};
 use batch_proving::ProverSettings;
@@ -23,7 +23,7 @@ use p3_uni_stark::{Challenge, Challenger, Commitment, StarkGenericConfig, Val};
 use std::alloc::Global;
 
 /// A prover's transcript over a configuration.
-pub(crate) type Transcript<SC> = BatchProverTranscript<
+pub type Transcript<SC> = BatchProverTranscript<
     Challenger<SC>,
     Val<SC>,
     Challenge<SC>,
@@ -44,9 +44,10 @@ fn public_values<F: Field, A>(
     Ok(values)
 }
 
-// The transcript of a batch behind its degree bits, the commitment to its traces, its public values and the commitment to its preprocessed
-// traces.
-pub(crate) fn bound_transcript<SC: StarkGenericConfig, A: Air<Val<SC>>>(
+/// The transcript of a batch behind its degree bits, the commitment to its traces, its public values and the commitment to its preprocessed
+/// traces (`prove_batch` of `p3-batch-stark`): there the lookups' pair is drawn. The batch is traced, and these are its degree bits and
+/// the commitment to its traces. The one error is want of memory.
+pub fn bound_transcript<SC: StarkGenericConfig, A: Air<Val<SC>>>(
     alloc: Global,
     config: &SC,
     instances: &[StarkInstance<'_, SC, A>],

@@ -7,8 +7,8 @@ use Rattle.batch_shape_checks.specs.ShapeChecks.{stated}
 use Rattle.batch_statement.specs.Statement.{tables_of}
 use Rattle.batch_transcript.specs.BatchScript.{bindings_script, main_script, preprocessed_script, seeded}
 use Rattle.batch_transcript.specs.Running.{Plays}
-use Rattle.batch_prover.specs.Laws.Binding.{bound_state, publics_counted}
-use Rattle.batch_prover.proofs.transcript.bound_transcript.Goals as goal
+use Rattle.prover_stages.specs.Laws.Binding.{bound_state, publics_counted}
+use Rattle.prover_stages.proofs.transcript.bound_transcript.Goals as goal
 
 pub main_phase-requires-clause-count : goal.main_phase-requires-clause-count
 main_phase-requires-clause-count g c =

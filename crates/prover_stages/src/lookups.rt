@@ -3,9 +3,9 @@ ghost use Rattle.std.specs.Prelude.{◌≡◌, ◌^◌, ◌<◌, ◌++◌, ◌�
 ghost use Rattle.std.specs.Option.{option_copied};
 ghost use Rattle.batch_transcript.specs.BatchScript.{from_lookup, from_quotient};
 ghost use Rattle.batch_proving.specs.Batch.{CommitsToSome, IsTracedAll, all_challenges, all_permutations, batch_of, folding};
-ghost use Rattle.batch_proving.specs.Proving.{IsPairGroundOf, fraction_part, lookup_part, permutation_part};
+ghost use Rattle.batch_proving.specs.Proving.{HaveFractionsFor, IsPairGroundOf, fraction_part, lookup_part, permutation_part};
 ghost use Rattle.batch_proving.specs.Verdict.{IsProverAnswer};
-ghost use Rattle.batch_prover.specs.Stages.{pair_state, permutation_of, quotient_state, shape_of, terminals_of};
+ghost use Rattle.prover_stages.specs.Stages.{pair_state, permutation_of, quotient_state, shape_of, terminals_of};
 
 use crate::transcript::Transcript;
 use batch_draws::terminals_there;
@@ -28,7 +28,7 @@ use std::alloc::Global;
 
 /// What a prover has behind the stage of the lookups, over fields, commitments and prover data of these types.
 #[derive(Drop)]
-pub(crate) struct LookupStage<F, E, Com, PD> {
+pub struct LookupStage<F, E, Com, PD> {
     /// The grinding value before the lookups' pair: None where no table has lookups.
     pub witness: Option<F>,
     /// For each table the challenges of its lookups.
@@ -67,8 +67,8 @@ pub(crate) fn commitment_of<Com, PD>(committed: &Option<(Com, PD)>) -> Option<&C
     }
 }
 
-// The prover data, where something is committed.
-pub(crate) fn data_of<Com, PD>(committed: &Option<(Com, PD)>) -> Option<&PD>
+/// The prover data, where something is committed.
+pub fn data_of<Com, PD>(committed: &Option<(Com, PD)>) -> Option<&PD>
     ensures { option_map (λ d. d.now) result ≡ option_map (λ c. c.1) committed.now }
 {
     match committed {
@@ -99,6 +99,7 @@ pub(crate) fn lookup_stage<SC: StarkGenericConfig, A: Air<Val<SC>>>(
     ensures witness { let b = batch_of (⟦<SC as Settings>⟧.setting config.now) (⟦<SC as ProverSettings>⟧.prover config.now) A.declaration A.trees instances.now common.now in IfOk result (λ r. IsPairGroundOf b r.witness) }
     ensures challenges { let b = batch_of (⟦<SC as Settings>⟧.setting config.now) (⟦<SC as ProverSettings>⟧.prover config.now) A.declaration A.trees instances.now common.now in IfOk result (λ r. map (λ v. v.items) r.challenges.items ≡ all_challenges b r.witness) }
     ensures terminals { let b = batch_of (⟦<SC as Settings>⟧.setting config.now) (⟦<SC as ProverSettings>⟧.prover config.now) A.declaration A.trees instances.now common.now in IfOk result (λ r. map (option_map (λ t. t.0)) r.terminals.items ≡ terminals_of b r.witness) }
+    ensures fractions { let b = batch_of (⟦<SC as Settings>⟧.setting config.now) (⟦<SC as ProverSettings>⟧.prover config.now) A.declaration A.trees instances.now common.now in IfOk result (λ r. HaveFractionsFor b r.witness) }
     ensures committed { let b = batch_of (⟦<SC as Settings>⟧.setting config.now) (⟦<SC as ProverSettings>⟧.prover config.now) A.declaration A.trees instances.now common.now in
         IfOk result (λ r. CommitsToSome (⟦<SC as ProverSettings>⟧.commits_to config.now) (all_permutations b r.witness) r.permutation) }
     ensures permutation { let b = batch_of (⟦<SC as Settings>⟧.setting config.now) (⟦<SC as ProverSettings>⟧.prover config.now) A.declaration A.trees instances.now common.now in IfOk result (λ r. option_map (λ c. c.0) r.permutation ≡ permutation_of b r.witness) }
@@ -122,7 +123,7 @@ pub(crate) fn lookup_stage<SC: StarkGenericConfig, A: Air<Val<SC>>>(
         common,
         &challenges,
     )?;
-    let permutation = commit_permutations(alloc, config, instances, common, columns)?;
+    let permutation = commit_permutations(alloc, config, columns)?;
     let present = terminals_there(alloc, &terminals)?;
     let alpha = transcript.permutation_phase(commitment_of(&permutation), &present);
     Ok(LookupStage {

@@ -3,9 +3,9 @@ use Rattle.std.specs.Prelude.{option_map}
 use Rattle.p3_field.specs.Laws.Checks.{none_append}
 use Rattle.honest_proofs.specs.HonestProof.{AreCanonical}
 use Rattle.batch_proving.specs.Laws.Verdicts.{answer_before, answer_exits}
-use Rattle.batch_prover.specs.Laws.Drawing.{behind_quotient, behind_zeta, zeta_is}
-use Rattle.batch_prover.specs.Laws.Stage.{kept_part, ood_ground, ood_passes, ood_refused_behind}
-use Rattle.batch_prover.proofs.quotients.quotient_stage.Goals as goal
+use Rattle.prover_stages.specs.Laws.Drawing.{behind_quotient, behind_zeta, zeta_is}
+use Rattle.prover_stages.specs.Laws.Stage.{kept_part, ood_ground, ood_passes, ood_refused_behind}
+use Rattle.prover_stages.proofs.quotients.quotient_stage.Goals as goal
 
 pub commit_quotients-requires-clause-drawn : goal.commit_quotients-requires-clause-drawn
 commit_quotients-requires-clause-drawn g c = (
