@@ -62,7 +62,7 @@ times-few bytes counts n k m lt inside few e =
     let is : get_or counts k 0 ≡ times (take n bytes) k = ap (λ (l : List ℕ). get_or l k 0) e ∙ get_or-table 256 (times (take n bytes)) k 0 lt in
     omega (arith, is, count_by-le-length (λ x. x == k) (take n bytes), length-take n bytes, inside, few)
 
-row-long : {A : Type 0} (r : Ring A) (byte : ℕ) → length (bits_row r byte) ≡ 9
+pub row-long : {A : Type 0} (r : Ring A) (byte : ℕ) → length (bits_row r byte) ≡ 9
 unfolding bits_row
 row-long r byte = refl
 

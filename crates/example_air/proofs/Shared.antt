@@ -20,21 +20,18 @@ use Rattle.plain_pcs.specs.Scheme.{Blowup, PlainCommitmentData, Scheme, scheme}
 use Rattle.plain_pcs.specs.declared.error.PlainProverError.{PlainProverError}
 use Rattle.plain_pcs.specs.declared.error.PlainProverError.TheVariants.{Commit, Open}
 use Rattle.batch_setup.specs.Packed.{Source, packed_at, source_of}
-use Rattle.batch_setup.specs.Preprocessed.{IsPrepared, committed_below, entry_at, natural}
+use Rattle.batch_setup.specs.Preprocessed.{IsPrepared, committed_below, entry_at}
 use Rattle.batch_setup.specs.SetupChecks.{degree_checks, trace_checks}
 use Rattle.batch_setup.specs.declared.error.SetupError.{SetupError}
 use Rattle.batch_statement.specs.Statement.{PreprocessedTracesData}
 use Rattle.tool_statement.specs.Config.{tool_scheme}
 use Rattle.example_air.specs.Bytes.{all_bytes, example_declaration, example_interactions, example_trees}
-use Rattle.example_air.specs.Statement.{example_common}
+use Rattle.example_air.specs.Proving.{IsKept, commits_over}
+use Rattle.example_air.specs.Statement.{bytes_column, example_common}
 use Rattle.example_air.specs.declared.air.ExampleAir.TheVariants.{Bits, Bytes}
 
 abbrev Traces : Type 0
 Traces = List (CosetData BabyBear × Rows BabyBear)
-
--- the column of all bytes, on the subgroup of its size
-abbrev all : CosetData BabyBear × Rows BabyBear
-all = (natural bear_ring.one 8, record { values = all_bytes bear_ring; width = 1 })
 
 -- what the two AIRs make their tables from
 abbrev sources : List (Source BabyBear)
@@ -43,17 +40,17 @@ sources =
     ∷ source_of (example_declaration bear_ring) (example_trees bear_ring) (example_interactions bear_ring) Bytes
     ∷ []
 
-all_high : height all.1 ≡ 2 ^ 8
+all_high : height bytes_column.1 ≡ 2 ^ 8
 unfolding all_bytes
 all_high = product_height (all_bytes bear_ring) 256 1 (length-table {A = BabyBear} 256 (of_nat bear_ring)) (omega arith)
 
-can_commit : IsCommittable tool_scheme all.0 all.1
+can_commit : IsCommittable tool_scheme bytes_column.0 bytes_column.1
 can_commit = record { has_columns = omega arith; height_is = all_high; fits = omega arith }
 
-not_refused : NoneOf (CommitFault tool_scheme (all ∷ []))
+not_refused : NoneOf (CommitFault tool_scheme (bytes_column ∷ []))
 not_refused (Commit i) f =
     let first : i ≡ 0 = let h = f.within in omega (arith, h) in
-    f.fails (subst (λ k. IfSome (slice_get (all ∷ []) k) (λ e. IsCommittable tool_scheme e.0 e.1)) (sym first) can_commit)
+    f.fails (subst (λ k. IfSome (slice_get (bytes_column ∷ []) k) (λ e. IsCommittable tool_scheme e.0 e.1)) (sym first) can_commit)
 not_refused (Open i) f = f
 
 none_fails : (log_rows : ℕ) → NoneFails (degree_checks {E = PlainProverError} 2 2 ++ trace_checks bear_ring.one 0 (CommitFault tool_scheme) sources (log_rows ∷ 8 ∷ []) 2)
@@ -82,7 +79,14 @@ unfolding example_common
 common_is log_rows lookups None kept points point_at made holds b e l h = absurd h
 common_is log_rows lookups (Some g) None points point_at made holds b e l h = absurd h
 common_is log_rows lookups (Some g) (Some d) points point_at made holds b e l h =
-    let commitment = h.2.commitment_is ∙ ap (λ (s : Blowup). commitment_of (own_scheme s) (all ∷ [])) e in
+    let commitment = h.2.commitment_is ∙ ap (λ (s : Blowup). commitment_of (own_scheme s) (bytes_column ∷ [])) e in
     let instances = h.0 in
     let listed = h.1 in
     λ i. record { preprocessed = Some (record { commitment = commitment i; instances = instances i; matrix_to_instance = listed i }); lookups = l i }
+
+-- and what it keeps beside is what the plain scheme keeps of the column
+pub kept_is : (log_rows : ℕ) (p : Option (PreprocessedTracesData (PlainCommitmentData BabyBear))) (kept : Option (List (CosetData BabyBear × Rows BabyBear))) (b : Blowup) → b ≡ record { log_blowup = 1 }
+    → IsPrepared (commits_over (own_scheme b)) (table 2 (entry_at bear_ring.one sources (log_rows ∷ 8 ∷ []))) (committed_below bear_ring.one sources (log_rows ∷ 8 ∷ []) 2) p kept → IsKept p kept
+kept_is log_rows None kept b e h = absurd h
+kept_is log_rows (Some g) None b e h = absurd h
+kept_is log_rows (Some g) (Some d) b e h = subst (λ (s : Blowup). commits_over (own_scheme s) (bytes_column ∷ []) (g.commitment, d)) e h.2

@@ -2,9 +2,11 @@
 use Rattle.std.specs.Prelude.{◌≡◌, ℕ, ◌^◌, ◌<◌, ◌⊎◌, [], ◌∷◌, None, Some}
 use Rattle.p3_field.specs.BabyBear.{bear_ring}
 use Rattle.p3_field.specs.Checks.{Check}
+use Rattle.p3_field.specs.Domain.{CosetData}
 use Rattle.p3_field.specs.declared.baby_bear.BabyBear.{BabyBear}
 use Rattle.p3_field.specs.declared.quartic.QuarticExtension.{QuarticExtension}
 use Rattle.p3_lookup.specs.Lookup.{lookups_of}
+use Rattle.p3_matrix.specs.Matrix.{Rows}
 use Rattle.p3_uni_stark.specs.declared.error.InvalidProofShapeError.TheVariants.{DegreeBitsTooSmall, DegreeBitsTooLarge}
 use Rattle.p3_uni_stark.specs.declared.error.VerificationError.TheVariants.{InvalidProofShape}
 use Rattle.plain_pcs.specs.Extension.{commitment_of}
@@ -32,11 +34,15 @@ BytesProof = ProofData BabyBear QuarticExtension (PlainCommitmentData BabyBear) 
 abbrev pub table_of : ExampleAir → Table BabyBear
 table_of a = record { declaration = example_declaration bear_ring a; trees = example_trees bear_ring a }
 
+-- the column of all bytes, on the subgroup of its size
+abbrev pub bytes_column : CosetData BabyBear × Rows BabyBear
+bytes_column = (natural bear_ring.one 8, record { values = all_bytes bear_ring; width = 1 })
+
 -- What prover and verifier share: the commitment to the column of all bytes, which has 2^8 rows and belongs to the second table; and each table's lookup.
 unfoldable pub example_common : Common BabyBear (PlainCommitmentData BabyBear)
 example_common = record {
   preprocessed = Some (record {
-    commitment = commitment_of tool_scheme ((natural bear_ring.one 8, record { values = all_bytes bear_ring; width = 1 }) ∷ []);
+    commitment = commitment_of tool_scheme (bytes_column ∷ []);
     instances = None ∷ Some (record { matrix_index = 0; width = 1; degree_bits = 8 }) ∷ [];
     matrix_to_instance = 1 ∷ [];
   });

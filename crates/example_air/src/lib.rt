@@ -6,11 +6,13 @@
 
 mod air;
 mod meanings;
+mod prove;
 mod statement;
 mod traces;
 mod verify;
 
 pub use air::ExampleAir;
 pub use meanings::rows_are_bytes;
+pub use prove::prove_bytes;
 pub use traces::{bits_trace, bytes_trace};
 pub use verify::verify_bytes;

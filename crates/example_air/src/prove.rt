@@ -5,8 +5,8 @@ ghost use Rattle.example_air.specs.Proving.{IsBytesProof, LacksBytesProof};
 
 use crate::air::ExampleAir;
 use crate::statement::prover_data;
-use crate::stub::prove_batch;
 use crate::traces::{bits_trace, bytes_trace};
+use batch_prover::prove_batch;
 use batch_proving::{ProverSettings, ProvingError};
 use batch_setting::Settings;
 use batch_setup::TableInstance;

@@ -7,6 +7,7 @@ ghost use Rattle.plain_pcs.specs.Holding.{AreHolding, IsMade};
 ghost use Rattle.batch_statement.specs.Statement.{WellFormed, read_common};
 ghost use Rattle.tool_statement.specs.Config.{tool_scheme};
 ghost use Rattle.example_air.specs.Bytes.{example_declaration};
+ghost use Rattle.example_air.specs.Proving.{IsKept};
 ghost use Rattle.example_air.specs.Statement.{example_common};
 
 use crate::air::ExampleAir;
@@ -27,6 +28,7 @@ pub(crate) fn prover_data(
     requires scheme { config.now.pcs ≡ record { log_blowup = 1 } }
     ensures common { IfOk result (λ d. read_common d.common ≡ example_common) }
     ensures formed { IfOk result (λ d. WellFormed (map (example_declaration bear_ring) (ExampleAir.Bits ∷ ExampleAir.Bytes ∷ [])) (read_common d.common)) }
+    ensures kept { IfOk result (λ d. IsKept d.common.preprocessed d.prover_only.preprocessed_prover_data) }
 {
     let airs = [ExampleAir::Bits, ExampleAir::Bytes];
     match ProverData::<ToolConfig>::from_airs_and_degrees(alloc, config, &airs, &[log_rows, 8]) {

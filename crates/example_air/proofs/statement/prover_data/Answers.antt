@@ -1,6 +1,6 @@
 use Rattle.std.proofs.Common.{subst}
 use Rattle.batch_setup.specs.Verdict.{IsSetupRefusal}
-use Rattle.example_air.proofs.Shared.{common_is, granted}
+use Rattle.example_air.proofs.Shared.{common_is, granted, kept_is}
 use Rattle.example_air.proofs.statement.prover_data.Goals as goal
 
 pub returns-in-Ok-clause-common : goal.returns-in-Ok-clause-common
@@ -18,3 +18,6 @@ unreachable-requires-in-Err-Pcs c = granted c.args.log_rows _ c.requires.scheme 
 
 pub unreachable-requires-in-Err-LookupBudget : goal.unreachable-requires-in-Err-LookupBudget
 unreachable-requires-in-Err-LookupBudget c = granted c.args.log_rows _ c.requires.scheme _ (subst (IsSetupRefusal _) c.in-Err-LookupBudget.field-0-is c.in-Err-LookupBudget.ensures.verdict)
+
+pub returns-in-Ok-clause-kept : goal.returns-in-Ok-clause-kept
+returns-in-Ok-clause-kept c = kept_is c.args.log_rows _ _ _ c.requires.scheme c.in-Ok.ensures.preprocessed
