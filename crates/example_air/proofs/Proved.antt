@@ -1,4 +1,4 @@
--- What is set up for a list of bytes is its batch, and what the prover of batches says of it.
+-- What is set up for two traces is their batch, and what the prover of batches says of it.
 use Rattle.std.specs.Int.{IsPowerOfTwo}
 use Rattle.std.proofs.Common.{◌≡◌, ℕ, ◌+◌, ◌^◌, ◌≤◌, List, [], ◌∷◌, length, Option, Result, Ok, Err, sym, ◌∙◌, ap, subst, arith}
 use Rattle.std.specs.Prelude.{IfErr}
@@ -7,7 +7,7 @@ use Rattle.p3_field.specs.Domain.{CosetData}
 use Rattle.p3_field.specs.declared.baby_bear.BabyBear.{BabyBear}
 use Rattle.p3_field.specs.declared.quartic.QuarticExtension.{QuarticExtension}
 use Rattle.p3_challenger.specs.declared.sha256_challenger.Sha256Challenger.{Sha256Challenger}
-use Rattle.p3_matrix.specs.Matrix.{Rows, height}
+use Rattle.p3_matrix.specs.Matrix.{FillsRows, Rows, height}
 use Rattle.plain_pcs.specs.Scheme.{Blowup, PlainCommitmentData, Scheme, scheme}
 use Rattle.plain_pcs.specs.declared.error.PlainProverError.{PlainProverError}
 use Rattle.batch_setting.specs.Setting.{Setting, masks}
@@ -22,12 +22,12 @@ use Rattle.batch_proving.specs.Verdict.{IsAnswerRefusal, IsProverAnswer}
 use Rattle.batch_proving.specs.declared.error.ProvingError.{ProvingError}
 use Rattle.batch_proving.specs.declared.error.ProvingError.TheVariants.{LookupDenominatorZero, MultiplicityBound, OutOfMemory, Pcs, WitnessNotFound}
 use Rattle.tool_statement.specs.Config.{tool_setting}
-use Rattle.example_air.specs.Bytes.{bits_rows, bytes_rows, example_declaration, example_trees}
-use Rattle.example_air.specs.Proving.{IsBytesProof, IsKept, LacksBytesProof, backend_over, bytes_batch, commits_over, prover_over}
+use Rattle.example_air.specs.Bytes.{example_declaration, example_trees}
+use Rattle.example_air.specs.Proving.{AreTables, IsKept, IsTablesProof, LacksTablesProof, backend_over, commits_over, prover_over, tables_batch}
 use Rattle.example_air.specs.Statement.{BytesProof, example_common, table_of}
 use Rattle.example_air.specs.declared.air.ExampleAir.{ExampleAir}
 use Rattle.example_air.specs.declared.air.ExampleAir.TheVariants.{Bits, Bytes}
-use Rattle.example_air.proofs.Traced.{bits_high, bytes_high, small_log, traced}
+use Rattle.example_air.proofs.Traced.{small_log, traced}
 
 abbrev ToolSetting : Type 0
 ToolSetting = Setting Sha256Challenger BabyBear QuarticExtension (PlainCommitmentData BabyBear)
@@ -41,13 +41,13 @@ one_bit = record { log_blowup = 1 }
 abbrev scheme_with : Blowup → Scheme BabyBear
 scheme_with b = scheme bear_ring bear_inv bear_root (reduce 31) 27 b
 
--- the logarithm of the number of bytes
-pub few_rows : (n k : ℕ) → IsPowerOfTwo n → n ≤ 1024 → n ≡ 2 ^ k → k ≤ 10
-few_rows n k power few e = let q = small_log n power few in let l = log_of_power n k e in omega (arith, q, l)
+-- the logarithm of the number of rows
+pub few_rows : (t u : Rows BabyBear) → AreTables t u → (k : ℕ) → height t ≡ 2 ^ k → k ≤ 10
+few_rows t u A k e = let q = small_log (height t) A.power A.few in let l = log_of_power (height t) k e in omega (arith, q, l)
 
 -- what is set up: the configuration, the traces, the public values, and the common data
-module _ (bytes : List ℕ) (c : ToolSetting) (b : Blowup) (t u : Rows BabyBear) (p q : List BabyBear) (written : WrittenCommon BabyBear (PlainCommitmentData BabyBear))
-    (setting_is : c ≡ tool_setting) (scheme_is : b ≡ one_bit) (bits_are : t ≡ bits_rows bear_ring bytes) (bytes_are : u ≡ bytes_rows bear_ring bytes) (no_p : p ≡ []) (no_q : q ≡ []) (common_is : read_common written ≡ example_common) where
+module _ (t u : Rows BabyBear) (t_fills : FillsRows t.values t.width) (A : AreTables t u) (c : ToolSetting) (b : Blowup) (p q : List BabyBear) (written : WrittenCommon BabyBear (PlainCommitmentData BabyBear))
+    (setting_is : c ≡ tool_setting) (scheme_is : b ≡ one_bit) (no_p : p ≡ []) (no_q : q ≡ []) (common_is : read_common written ≡ example_common) where
   abbrev instances : List (Instance ExampleAir BabyBear)
   instances = record { air = Bits; trace = t; public_values = p } ∷ record { air = Bytes; trace = u; public_values = q } ∷ []
 
@@ -58,43 +58,43 @@ module _ (bytes : List ℕ) (c : ToolSetting) (b : Blowup) (t u : Rows BabyBear)
   unfolding tool_setting
   none_masked = ap (λ (d : ToolSetting). masks d) setting_is
 
-  first_bits : log_of (height t) + masks c ≡ log_of (length bytes)
-  first_bits = let same = ap (λ m. log_of (height m)) bits_are ∙ ap log_of (bits_high bytes) in let m = none_masked in omega (arith, same, m)
+  first_bits : log_of (height t) + masks c ≡ log_of (height t)
+  first_bits = let m = none_masked in omega (arith, m)
 
   second_bits : log_of (height u) + masks c ≡ 8
-  second_bits = let same = ap (λ m. log_of (height m)) bytes_are ∙ log_of_power (height (bytes_rows bear_ring bytes)) 8 (bytes_high bytes) in let m = none_masked in omega (arith, same, m)
+  second_bits = let m = none_masked in let l = log_of_power (height u) 8 A.times_height in omega (arith, l, m)
 
-  same_batch : batch ≡ bytes_batch bytes
+  same_batch : batch ≡ tables_batch t u
   same_batch = λ i. record {
     setting = setting_is i;
     prover = prover_over (scheme_with (scheme_is i));
     statement = record { tables = table_of Bits ∷ table_of Bytes ∷ []; publics = no_p i ∷ no_q i ∷ []; common = common_is i };
-    traces = bits_are i ∷ bytes_are i ∷ [];
+    traces = t ∷ u ∷ [];
     degree_bits = first_bits i ∷ second_bits i ∷ [];
   }
 
-  pub traced_there : IsPowerOfTwo (length bytes) → length bytes ≤ 1024 → WellFormed (example_declaration bear_ring Bits ∷ example_declaration bear_ring Bytes ∷ []) (read_common written) → IsTracedAll batch
-  traced_there power few formed =
+  pub traced_there : WellFormed (example_declaration bear_ring Bits ∷ example_declaration bear_ring Bytes ∷ []) (read_common written) → IsTracedAll batch
+  traced_there formed =
       subst (λ (B : ToolBatch). IsTracedAll B) (sym same_batch)
-      (traced bytes power few (subst (WellFormed (example_declaration bear_ring Bits ∷ example_declaration bear_ring Bytes ∷ [])) common_is formed))
+      (traced t u t_fills A (subst (WellFormed (example_declaration bear_ring Bits ∷ example_declaration bear_ring Bytes ∷ [])) common_is formed))
 
   pub kept_there : (kept : Option (List (CosetData BabyBear × Rows BabyBear))) → IsKept written.preprocessed kept → IsKeptWith (commits_over (scheme_with b)) (preprocessed_all batch) batch.statement.common.preprocessed kept
   unfolding tool_setting
   kept_there kept K =
       subst (λ (B : ToolBatch). IsKeptWith (commits_over (scheme_with b)) (preprocessed_all B) written.preprocessed kept) (sym same_batch)
-      (subst (λ x. IsKeptWith (commits_over (scheme_with x)) (preprocessed_all (bytes_batch bytes)) written.preprocessed kept) (sym scheme_is) K)
+      (subst (λ x. IsKeptWith (commits_over (scheme_with x)) (preprocessed_all (tables_batch t u)) written.preprocessed kept) (sym scheme_is) K)
 
-  pub proof_there : (proof : BytesProof) → IsProved (backend_over (scheme_with b)) batch proof → IsBytesProof bytes proof
+  pub proof_there : (proof : BytesProof) → IsProved (backend_over (scheme_with b)) batch proof → IsTablesProof t u proof
   proof_there proof P = subst (λ (B : ToolBatch). IsBuilt B.setting B.prover B.statement B.traces B.degree_bits proof) same_batch P.built
 
-  told : (e : ProvingError PlainProverError) → IsAnswerRefusal (proving_checks (backend_over (scheme_with one_bit)) (bytes_batch bytes)) e → LacksBytesProof bytes e
-  told (Pcs phase source) h = refusal_tells (backend_over (scheme_with one_bit)) (bytes_batch bytes) (Pcs phase source) h
-  told (MultiplicityBound bus) h = refusal_tells (backend_over (scheme_with one_bit)) (bytes_batch bytes) (MultiplicityBound bus) h
-  told (LookupDenominatorZero i row) h = refusal_tells (backend_over (scheme_with one_bit)) (bytes_batch bytes) (LookupDenominatorZero i row) h
-  told (WitnessNotFound step) h = refusal_tells (backend_over (scheme_with one_bit)) (bytes_batch bytes) (WitnessNotFound step) h
+  told : (e : ProvingError PlainProverError) → IsAnswerRefusal (proving_checks (backend_over (scheme_with one_bit)) (tables_batch t u)) e → LacksTablesProof t u e
+  told (Pcs phase source) h = refusal_tells (backend_over (scheme_with one_bit)) (tables_batch t u) (Pcs phase source) h
+  told (MultiplicityBound bus) h = refusal_tells (backend_over (scheme_with one_bit)) (tables_batch t u) (MultiplicityBound bus) h
+  told (LookupDenominatorZero i row) h = refusal_tells (backend_over (scheme_with one_bit)) (tables_batch t u) (LookupDenominatorZero i row) h
+  told (WitnessNotFound step) h = refusal_tells (backend_over (scheme_with one_bit)) (tables_batch t u) (WitnessNotFound step) h
   told OutOfMemory h = tt
 
-  pub refusal_there : {T : Type 0} (r : Result T (ProvingError PlainProverError)) → IsProverAnswer (proving_checks (backend_over (scheme_with b)) batch) r → IfErr r (LacksBytesProof bytes)
+  pub refusal_there : {T : Type 0} (r : Result T (ProvingError PlainProverError)) → IsProverAnswer (proving_checks (backend_over (scheme_with b)) batch) r → IfErr r (LacksTablesProof t u)
   refusal_there (Ok x) h = tt
   refusal_there (Err e) h =
       told e

@@ -1,11 +1,12 @@
--- The two tables of a list of bytes as a batch that is proved.
-use Rattle.std.specs.Prelude.{◌≡◌, ℕ, ◌^◌, List, [], ◌∷◌, length, Option}
+-- The two tables as a batch that is proved.
+use Rattle.std.specs.Int.{IsPowerOfTwo}
+use Rattle.std.specs.Prelude.{◌≡◌, ◌^◌, ◌≤◌, List, [], ◌∷◌, Option}
 use Rattle.p3_field.specs.BabyBear.{bear_ring, bear_root}
 use Rattle.p3_field.specs.Domain.{CosetData, point}
 use Rattle.p3_field.specs.Quartic.{quartic_inv}
 use Rattle.p3_field.specs.declared.baby_bear.BabyBear.{BabyBear}
 use Rattle.p3_field.specs.declared.quartic.QuarticExtension.{QuarticExtension}
-use Rattle.p3_matrix.specs.Matrix.{Rows}
+use Rattle.p3_matrix.specs.Matrix.{Rows, height}
 use Rattle.p3_commit.specs.Commitments.{IsCommitment}
 use Rattle.p3_challenger.specs.declared.sha256_challenger.Sha256Challenger.{Sha256Challenger}
 use Rattle.plain_pcs.specs.Extension.{Extends, commitment_of}
@@ -22,7 +23,6 @@ use Rattle.batch_proving.specs.Batch.{Batch, IsKeptWith}
 use Rattle.batch_proving.specs.Telling.{Tells}
 use Rattle.batch_proving.specs.declared.error.ProvingError.{ProvingError}
 use Rattle.tool_statement.specs.Config.{tool_scheme, tool_setting}
-use Rattle.example_air.specs.Bytes.{bits_rows, bytes_rows}
 use Rattle.example_air.specs.Statement.{BytesProof, bytes_column, example_statement}
 
 -- inverses in the extension, a value's canonical number, and the plain scheme's commitments
@@ -51,20 +51,28 @@ commits_over s es w = IsCommitment bear_ring (λ d. 2 ^ d.log_size) (λ d i. poi
 abbrev pub IsKept : Option (PreprocessedTracesData (PlainCommitmentData BabyBear)) → Option (List (CosetData BabyBear × Rows BabyBear)) → Type 0
 IsKept shared kept = IsKeptWith (commits_over tool_scheme) (bytes_column ∷ []) shared kept
 
--- the two tables with their traces, over the program's configuration
-abbrev pub bytes_batch : List ℕ → Batch Sha256Challenger BabyBear QuarticExtension (PlainCommitmentData BabyBear)
-bytes_batch bytes = record {
+-- the two tables with these traces, over the program's configuration
+abbrev pub tables_batch : (bits times : Rows BabyBear) → Batch Sha256Challenger BabyBear QuarticExtension (PlainCommitmentData BabyBear)
+tables_batch bits times = record {
   setting = tool_setting;
   prover = prover_over tool_scheme;
   statement = example_statement;
-  traces = bits_rows bear_ring bytes ∷ bytes_rows bear_ring bytes ∷ [];
-  degree_bits = log_of (length bytes) ∷ 8 ∷ [];
+  traces = bits ∷ times ∷ [];
+  degree_bits = log_of (height bits) ∷ 8 ∷ [];
 }
 
 -- the proof is the honest one of these traces
-abbrev pub IsBytesProof : List ℕ → BytesProof → Type 0
-IsBytesProof bytes q = let b = bytes_batch bytes in IsBuilt b.setting b.prover b.statement b.traces b.degree_bits q
+abbrev pub IsTablesProof : (bits times : Rows BabyBear) → BytesProof → Type 0
+IsTablesProof bits times q = let b = tables_batch bits times in IsBuilt b.setting b.prover b.statement b.traces b.degree_bits q
 
 -- there is none, for this reason
-abbrev pub LacksBytesProof : List ℕ → ProvingError PlainProverError → Type 0
-LacksBytesProof bytes e = Tells (backend_over tool_scheme) (bytes_batch bytes) e
+abbrev pub LacksTablesProof : (bits times : Rows BabyBear) → ProvingError PlainProverError → Type 0
+LacksTablesProof bits times e = Tells (backend_over tool_scheme) (tables_batch bits times) e
+
+-- a table of bits has nine columns and a power of two of rows, up to 1024; a table of all bytes has one column of 256 rows
+pub record AreTables (bits times : Rows BabyBear) : Type 0 where
+  pub bits_width : bits.width ≡ 9
+  pub power : IsPowerOfTwo (height bits)
+  pub few : height bits ≤ 1024
+  pub times_width : times.width ≡ 1
+  pub times_height : height times ≡ 256

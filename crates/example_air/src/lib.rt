@@ -8,11 +8,13 @@ mod air;
 mod meanings;
 mod prove;
 mod statement;
+#[cfg(test)]
+mod tests;
 mod traces;
 mod verify;
 
 pub use air::ExampleAir;
 pub use meanings::rows_are_bytes;
-pub use prove::prove_bytes;
+pub use prove::{prove_bytes, prove_tables};
 pub use traces::{bits_trace, bytes_trace};
 pub use verify::verify_bytes;

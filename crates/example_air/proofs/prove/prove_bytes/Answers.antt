@@ -1,29 +1,5 @@
-use Rattle.std.proofs.Common.{length}
-use Rattle.std.proofs.lemmas.Result.{IfOk-weaker}
-use Rattle.example_air.proofs.Proved.{few_rows, kept_there, proof_there, refusal_there, traced_there}
+use Rattle.example_air.proofs.Traced.{are_tables}
 use Rattle.example_air.proofs.prove.prove_bytes.Goals as goal
 
-pub prover_data-requires-clause-rows : goal.prover_data-requires-clause-rows
-prover_data-requires-clause-rows c = few_rows (length c.args.bytes.now) c.log2_strict_usize.result c.requires.power c.requires.few c.log2_strict_usize.ensures
-
-pub prove_batch-requires-clause-traced : goal.prove_batch-requires-clause-traced
-prove_batch-requires-clause-traced c =
-    traced_there c.args.bytes.now _ c.tool_config-config.result.pcs _ _ _ _ c.in_ok-data.data.common c.tool_config-config.ensures.setting c.tool_config-config.ensures.scheme c.in_ok-bits.ensures c.in_ok-times.ensures c.new.ensures.items c.new-2.ensures.items
-    c.in_ok-data.ensures.common c.requires.power c.requires.few c.in_ok-data.ensures.formed
-
-pub prove_batch-requires-clause-kept : goal.prove_batch-requires-clause-kept
-prove_batch-requires-clause-kept c =
-    kept_there c.args.bytes.now _ c.tool_config-config.result.pcs _ _ _ _ c.in_ok-data.data.common c.tool_config-config.ensures.setting c.tool_config-config.ensures.scheme c.in_ok-bits.ensures c.in_ok-times.ensures c.new.ensures.items c.new-2.ensures.items
-    c.in_ok-data.ensures.common _ c.in_ok-data.ensures.kept
-
-pub returns-clause-proved : goal.returns-clause-proved
-returns-clause-proved c =
-    IfOk-weaker _ _ _
-    (λ proof P. proof_there c.args.bytes.now _ c.tool_config-config.result.pcs _ _ _ _ c.in_ok-data.data.common c.tool_config-config.ensures.setting c.tool_config-config.ensures.scheme c.in_ok-bits.ensures c.in_ok-times.ensures c.new.ensures.items
-    c.new-2.ensures.items c.in_ok-data.ensures.common proof P)
-    c.prove_batch.ensures.proved
-
-pub returns-clause-refusal : goal.returns-clause-refusal
-returns-clause-refusal c =
-    refusal_there c.args.bytes.now _ c.tool_config-config.result.pcs _ _ _ _ c.in_ok-data.data.common c.tool_config-config.ensures.setting c.tool_config-config.ensures.scheme c.in_ok-bits.ensures c.in_ok-times.ensures c.new.ensures.items
-    c.new-2.ensures.items c.in_ok-data.ensures.common _ c.prove_batch.ensures.verdict
+pub prove_tables-requires : goal.prove_tables-requires
+prove_tables-requires c = are_tables c.args.bytes.now _ _ c.in_ok-bits.ensures c.in_ok-times.ensures c.requires.power c.requires.few
