@@ -1,6 +1,5 @@
 -- What is set up for two traces is their batch, and what the prover of batches says of it.
-use Rattle.std.specs.Int.{IsPowerOfTwo}
-use Rattle.std.proofs.Common.{◌≡◌, ℕ, ◌+◌, ◌^◌, ◌≤◌, List, [], ◌∷◌, length, Option, Result, Ok, Err, sym, ◌∙◌, ap, subst, arith}
+use Rattle.std.proofs.Common.{◌≡◌, ℕ, ◌+◌, ◌^◌, ◌≤◌, List, [], ◌∷◌, Option, Result, Ok, Err, sym, ap, subst, arith}
 use Rattle.std.specs.Prelude.{IfErr}
 use Rattle.p3_field.specs.BabyBear.{bear_ring, bear_inv, bear_root, reduce}
 use Rattle.p3_field.specs.Domain.{CosetData}

@@ -172,3 +172,13 @@ are_tables bytes t u e f power few =
       times_width = ap (λ (m : Rows BabyBear). m.width) f ∙ bytes_wide bytes;
       times_height = ap (λ m. height m) f ∙ bytes_high bytes;
     }
+
+-- and so are others of their sizes
+pub of_same_size : (t u v w : Rows BabyBear) → AreTables t u → v.width ≡ t.width → height v ≡ height t → w.width ≡ u.width → height w ≡ height u → AreTables v w
+of_same_size t u v w A a b c d = record {
+  bits_width = a ∙ A.bits_width;
+  power = subst IsPowerOfTwo (sym b) A.power;
+  few = let few = A.few in omega (arith, b, few);
+  times_width = c ∙ A.times_width;
+  times_height = d ∙ A.times_height;
+}

@@ -33,14 +33,51 @@ fn changed(
     Ok(RowMajorMatrix::new(values, matrix.width()))
 }
 
+// The proof of the traces of the bytes, in each of which this value stands at a place.
+fn proof_with(
+    alloc: Global,
+    in_bits: (usize, u64),
+    in_times: (usize, u64),
+) -> Result<BatchProof<ToolConfig>, Fail> {
+    let bits = changed(alloc, &bits_trace(alloc, &BYTES)?, in_bits.0, in_bits.1)?;
+    let times = changed(alloc, &bytes_trace(alloc, &BYTES)?, in_times.0, in_times.1)?;
+    Ok(prove_tables(alloc, &bits, &times).ok().ok_or("a proof")?)
+}
+
 #[test]
 fn bytes_are_accepted(rt: HostRuntime) -> Result<(), Fail> {
     let alloc = rt.alloc();
     let proof = prove_bytes(alloc, &BYTES).ok().ok_or("a proof")?;
     assert!(rt; verify_bytes(alloc, 3, &proof).is_ok());
+    let proof = proof_with(alloc, (0, 0), (0, 1))?;
+    assert!(rt; verify_bytes(alloc, 3, &proof).is_ok(), "as they are");
     assert!(rt;
         verify_bytes(alloc, 4, &proof).is_err(),
         "of another height"
+    );
+    Ok(())
+}
+
+#[test]
+fn wrong_traces_are_refused(rt: HostRuntime) -> Result<(), Fail> {
+    let alloc = rt.alloc();
+    // The third row's number is 6 in place of 7.
+    let number = proof_with(alloc, (26, 6), (0, 1))?;
+    assert!(rt;
+        matches!(
+            verify_bytes(alloc, 3, &number),
+            Err(BatchVerificationError::Verification(VerificationError::OodEvaluationMismatch {
+                index: Some(0)
+            }))
+        )
+    );
+    // The byte 7 is counted twice, and stands there three times.
+    let count = proof_with(alloc, (0, 0), (7, 2))?;
+    assert!(rt;
+        matches!(
+            verify_bytes(alloc, 3, &count),
+            Err(BatchVerificationError::Lookup(LookupError::TerminalSum))
+        )
     );
     Ok(())
 }
