@@ -1,0 +1,5 @@
+mod Pushed
+mod Shared
+mod Stated
+mod Traced
+mod Proved

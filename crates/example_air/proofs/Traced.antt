@@ -1,0 +1,184 @@
+-- The two tables are traced.
+use Rattle.std.specs.Int.{IsPowerOfTwo}
+use Rattle.std.proofs.Common.{◌≡◌, ℕ, zero, suc, ◌+◌, ◌-◌, ◌^◌, ◌<◌, ◌≤◌, inl, inr, max, List, [], ◌∷◌, length, refl, sym, ◌∙◌, ap, subst, arith}
+use Rattle.std.specs.Prelude.{All}
+use Rattle.std.proofs.Math.Pow.{pow-lt}
+use Rattle.std.proofs.lemmas.Bool.{cases_lt}
+use Rattle.p3_field.specs.BabyBear.{bear_ring, reduce}
+use Rattle.p3_field.specs.Laws.Algebra.{one_mul}
+use Rattle.p3_field.specs.Laws.BearField.{bear_31, bear_31_power}
+use Rattle.p3_field.specs.Laws.BearLaws.{bear_laws}
+use Rattle.p3_field.specs.Laws.Tables.{length-table}
+use Rattle.p3_field.specs.Poly.{table}
+use Rattle.p3_field.specs.Quartic.{quartic_inv}
+use Rattle.p3_field.specs.Ring.{of_nat, pow}
+use Rattle.p3_field.specs.declared.baby_bear.BabyBear.{BabyBear}
+use Rattle.p3_field.specs.declared.quartic.QuarticExtension.{QuarticExtension}
+use Rattle.p3_matrix.specs.Matrix.{FillsRows, Rows, height}
+use Rattle.p3_matrix.specs.Laws.Grids.{product_fills}
+use Rattle.p3_air.specs.Gadgets.{packed}
+use Rattle.p3_commit.specs.Periodic.{IsPeriod}
+use Rattle.p3_lookup.specs.Lookup.{lookups_of}
+use Rattle.batch_constraints.specs.Sizing.{log_chunks}
+use Rattle.batch_constraints.specs.Laws.Logarithms.{log_ceil_least}
+use Rattle.batch_setup.specs.Setup.{log_of}
+use Rattle.batch_setup.specs.Laws.Logarithms.{log_of_power}
+use Rattle.batch_shape_checks.specs.ShapeChecks.{chunks_of_table}
+use Rattle.batch_claims.specs.ClaimChecks.{HasBits}
+use Rattle.batch_setting.specs.Setting.{masks}
+use Rattle.batch_statement.specs.Statement.{WellFormed, entry_of}
+use Rattle.batch_validity.specs.Traced.{TracedTable, committed_alone, log_parts, log_rows, no_rows, quotient_shift, traces_of}
+use Rattle.batch_validity.specs.Valid.{HasQuotientDomain, IsTraced}
+use Rattle.batch_validity.specs.Laws.Columns.{column_height, column_tall, pieces_height}
+use Rattle.batch_validity.specs.Laws.Committed.{no_rows_tall}
+use Rattle.committed_tables.specs.Laws.BearFields.{bear_fields}
+use Rattle.committed_tables.specs.Laws.Disjoint.{shift_gives_domain}
+use Rattle.committed_tables.specs.Traces.{HaveRows}
+use Rattle.batch_proving.specs.Batch.{IsTracedAll, table_at}
+use Rattle.tool_statement.specs.Config.{tool_setting}
+use Rattle.example_air.specs.Bytes.{all_bytes, bits_row, bits_rows, bits_trees, bytes_rows, example_declaration, example_interactions, times}
+use Rattle.example_air.specs.Proving.{AreTables, tables_batch}
+use Rattle.example_air.specs.Statement.{example_common, table_of}
+use Rattle.example_air.specs.declared.air.ExampleAir.{ExampleAir}
+use Rattle.example_air.specs.declared.air.ExampleAir.TheVariants.{Bits, Bytes}
+use Rattle.example_air.proofs.Pushed.{row-long}
+
+-- each table of the batch
+abbrev traced_with : ExampleAir → Rows BabyBear → ℕ → TracedTable BabyBear
+traced_with a trace bits = record { table = table_of a; lookups = lookups_of (example_interactions bear_ring a); publics = []; trace = trace; degree_bits = bits }
+
+-- the degree of the constraints is at most two, so that the quotients have one chunk
+one_chunk : (degree : ℕ) → degree ≤ 2 → log_chunks 0 degree ≤ 0
+one_chunk degree h = log_ceil_least (max (degree + 0) 2 - 1) 0 (omega (arith, h))
+
+chunks_are : (a : ExampleAir) (n : ℕ) → chunks_of_table bear_ring 0 n (table_of a) (lookups_of (example_interactions bear_ring a)) ≤ 0
+unfolding bits_trees packed
+chunks_are Bits n = one_chunk 2 (omega arith)
+chunks_are Bytes n = one_chunk 2 (omega arith)
+
+-- a power of two up to 2^10
+pub small_log : (n : ℕ) → IsPowerOfTwo n → n ≤ 1024 → log_of n ≤ 10
+small_log n (k, e) h = elim (cases_lt 10 k) [
+  | inl above ↦ let q : 2 ^ 10 < 2 ^ k = pow-lt above in absurd (omega (arith, q, e, h))
+  | inr fine ↦ let q = log_of_power n k e in omega (arith, q, fine)
+]
+
+power_of_log : (n : ℕ) → IsPowerOfTwo n → n ≡ 2 ^ log_of n
+power_of_log n (k, e) = e ∙ ap (λ j. 2 ^ j) (sym (log_of_power n k e))
+
+no_periods : (n : ℕ) → All (λ (column : List BabyBear). IsPeriod n (length column)) []
+no_periods n = λ i d l. absurd (omega (arith, l))
+
+-- traces as high as they should be
+bits_have : (t : Rows BabyBear) → FillsRows t.values t.width → IsPowerOfTwo (height t) → HaveRows {E = QuarticExtension} (2 ^ log_of (height t)) (traces_of (traced_with Bits t (log_of (height t)))) no_rows
+bits_have t fills power =
+    let n = 2 ^ log_of (height t) in
+    let l = power_of_log (height t) power in
+    record { tall = l; main = record { fills = fills; tall = λ _. l }; preprocessed = tt; permutation = no_rows_tall n; periods = no_periods n }
+
+bytes_have : (u : Rows BabyBear) → FillsRows u.values u.width → height u ≡ 256 → HaveRows {E = QuarticExtension} (2 ^ 8) (traces_of (traced_with Bytes u 8)) no_rows
+unfolding all_bytes
+bytes_have u fills high = record {
+  tall = high;
+  main = record { fills = fills; tall = λ _. high };
+  preprocessed = column_tall 256 (table 256 (of_nat bear_ring)) (length-table {A = BabyBear} 256 (of_nat bear_ring));
+  permutation = no_rows_tall 256;
+  periods = no_periods 256;
+}
+
+-- each quotient has its domain
+domain_is : (t : TracedTable BabyBear) → t.degree_bits ≤ 10 → ((n : ℕ) → chunks_of_table bear_ring 0 n t.table t.lookups ≤ 0) → HasQuotientDomain tool_setting t
+unfolding tool_setting
+domain_is t low few =
+    let shift_is = sym (one_mul bear_ring bear_laws (reduce 31)) in
+    let none : masks tool_setting ≡ 0 = refl in
+    let one : chunks_of_table tool_setting.field.ring (masks tool_setting) (2 ^ log_rows tool_setting t) t.table t.lookups ≤ 0 = few (2 ^ log_rows tool_setting t) in
+    let size : log_rows tool_setting t + log_parts tool_setting t ≤ 10 = omega (arith, low, none, one) in
+    shift_gives_domain tool_setting.field tool_setting.extension 27 quartic_inv bear_fields (committed_alone tool_setting t) (quotient_shift tool_setting) (log_parts tool_setting t) (omega (arith, size))
+    (subst (λ x. x ≡ bear_ring.zero → ⊥) shift_is bear_31)
+    (subst (λ x. pow bear_ring x (2 ^ (log_rows tool_setting t + log_parts tool_setting t)) ≡ bear_ring.one → ⊥) shift_is (bear_31_power (log_rows tool_setting t + log_parts tool_setting t) (omega (arith, size))))
+
+module _ (t u : Rows BabyBear) (t_fills : FillsRows t.values t.width) (A : AreTables t u) where
+  abbrev table_of_bits : TracedTable BabyBear
+  table_of_bits = traced_with Bits t (log_of (height t))
+
+  abbrev table_of_bytes : TracedTable BabyBear
+  table_of_bytes = traced_with Bytes u 8
+
+  -- each list fills rows of one value
+  u_fills : FillsRows u.values u.width
+  u_fills = subst (FillsRows u.values) (sym A.times_width) (product_fills u.values (length u.values) 1 (omega arith))
+
+  low : log_of (height t) ≤ 10
+  low = small_log (height t) A.power A.few
+
+  bits_traced : IsTraced tool_setting table_of_bits
+  unfolding tool_setting
+  bits_traced =
+      let none : masks tool_setting ≡ 0 = refl in
+      let same : log_rows tool_setting table_of_bits ≡ log_of (height t) = omega (arith, none) in
+      let rows = subst (λ n. HaveRows {E = QuarticExtension} (2 ^ n) (traces_of table_of_bits) no_rows) (sym same) (bits_have t t_fills A.power) in
+      record { width = A.bits_width; some = omega arith; rows = rows; least = omega arith; most = let h = low in omega (arith, h); publics = refl }
+
+  bytes_traced : IsTraced tool_setting table_of_bytes
+  unfolding tool_setting
+  bytes_traced = record { width = A.times_width; some = omega arith; rows = bytes_have u u_fills A.times_height; least = omega arith; most = omega arith; publics = refl }
+
+  -- what holds of both tables
+  both : (P : TracedTable BabyBear → Type 0) → P table_of_bits → P table_of_bytes → (i : ℕ) → i < 2 → P (table_at (tables_batch t u) i)
+  unfolding example_common
+  both P a b zero h = a
+  both P a b (suc zero) h = b
+  both P a b (suc (suc i)) h = absurd (omega (arith, h))
+
+  entries : (i : ℕ) → i < 2 → HasBits (table_at (tables_batch t u) i).degree_bits (entry_of example_common.preprocessed i)
+  unfolding example_common
+  entries zero h = tt
+  entries (suc zero) h = refl
+  entries (suc (suc i)) h = absurd (omega (arith, h))
+
+  pub traced : WellFormed (example_declaration bear_ring Bits ∷ example_declaration bear_ring Bytes ∷ []) example_common → IsTracedAll (tables_batch t u)
+  unfolding example_common tool_setting
+  traced formed = record {
+    formed = formed;
+    lists = record { publics_long = refl; lookups_long = refl; entries_long = refl; traces_long = refl; bits_long = refl };
+    committed = refl;
+    entries = entries;
+    traced = both (IsTraced tool_setting) bits_traced bytes_traced;
+    domains = both (HasQuotientDomain tool_setting) (domain_is table_of_bits low (chunks_are Bits)) (domain_is table_of_bytes (omega arith) (chunks_are Bytes));
+  }
+
+-- the traces of a list of bytes are such tables
+bits_high : (bytes : List ℕ) → height (bits_rows bear_ring bytes) ≡ length bytes
+bits_high bytes = pieces_height (bits_row bear_ring) 9 (row-long bear_ring) (omega arith) bytes
+
+bytes_high : (bytes : List ℕ) → height (bytes_rows bear_ring bytes) ≡ 256
+unfolding bytes_rows
+bytes_high bytes =
+    column_height {A = BabyBear} (table 256 (λ byte. of_nat bear_ring (times bytes byte)))
+    ∙ length-table {A = BabyBear} 256 (λ byte. of_nat bear_ring (times bytes byte))
+
+bytes_wide : (bytes : List ℕ) → (bytes_rows bear_ring bytes).width ≡ 1
+unfolding bytes_rows
+bytes_wide bytes = refl
+
+pub are_tables : (bytes : List ℕ) (t u : Rows BabyBear) → t ≡ bits_rows bear_ring bytes → u ≡ bytes_rows bear_ring bytes → IsPowerOfTwo (length bytes) → length bytes ≤ 1024 → AreTables t u
+are_tables bytes t u e f power few =
+    let high : height t ≡ length bytes = ap (λ m. height m) e ∙ bits_high bytes in
+    record {
+      bits_width = ap (λ (m : Rows BabyBear). m.width) e;
+      power = subst IsPowerOfTwo (sym high) power;
+      few = omega (arith, high, few);
+      times_width = ap (λ (m : Rows BabyBear). m.width) f ∙ bytes_wide bytes;
+      times_height = ap (λ m. height m) f ∙ bytes_high bytes;
+    }
+
+-- and so are others of their sizes
+pub of_same_size : (t u v w : Rows BabyBear) → AreTables t u → v.width ≡ t.width → height v ≡ height t → w.width ≡ u.width → height w ≡ height u → AreTables v w
+of_same_size t u v w A a b c d = record {
+  bits_width = a ∙ A.bits_width;
+  power = subst IsPowerOfTwo (sym b) A.power;
+  few = let few = A.few in omega (arith, b, few);
+  times_width = c ∙ A.times_width;
+  times_height = d ∙ A.times_height;
+}

@@ -1,0 +1,14 @@
+use Rattle.p3_air.specs.Words.{PrimeFieldLaws}
+use Rattle.example_air.specs.Laws.Rows.{row_means}
+use Rattle.example_air.proofs.meanings.rows_are_bytes.Goals as goal
+
+pub returns : goal.returns
+returns g c =
+    let P : PrimeFieldLaws g.F.RingCore.ring g.F.FieldCore.inv g.F.PrimeCore64.ORDER_U64 g.F.PrimeCore64.canonical = record {
+      ring_laws = g.met.F.RingCore.ring_laws;
+      field_laws = g.met.F.FieldCore.field_laws;
+      canonical_below = g.met.F.PrimeCore64.canonical_below;
+      of_canonical = g.met.F.PrimeCore64.of_canonical;
+      canonical_of = g.met.F.PrimeCore64.canonical_of;
+    } in
+    row_means g.F.RingCore.ring g.F.FieldCore.inv g.F.PrimeCore64.ORDER_U64 g.F.PrimeCore64.canonical P c.requires

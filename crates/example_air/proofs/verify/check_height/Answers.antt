@@ -1,0 +1,39 @@
+use Rattle.std.proofs.Common.{◌≡◌, ℕ, ◌<◌, ◌∷◌, [], inl, inr, Some, ◌∙◌, ap, arith}
+use Rattle.p3_field.specs.Checks.{FirstFails}
+use Rattle.p3_field.specs.Laws.Checks.{first_here, none_alone}
+use Rattle.p3_uni_stark.specs.declared.error.InvalidProofShapeError.TheVariants.{DegreeBitsTooSmall, DegreeBitsTooLarge}
+use Rattle.p3_uni_stark.specs.declared.error.VerificationError.TheVariants.{InvalidProofShape}
+use Rattle.plain_pcs.specs.declared.error.PlainError.{PlainError}
+use Rattle.batch_claims.specs.Claims.{bits_at}
+use Rattle.batch_statement.specs.declared.error.BatchVerificationError.{BatchVerificationError}
+use Rattle.batch_statement.specs.declared.error.BatchVerificationError.TheVariants.{Verification}
+use Rattle.example_air.specs.Statement.{BytesProof, height_check}
+use Rattle.example_air.proofs.verify.check_height.Goals as goal
+
+abbrev small : ℕ → ℕ → BatchVerificationError PlainError
+small log_rows got = Verification (InvalidProofShape (DegreeBitsTooSmall (Some 0) log_rows got))
+
+abbrev large : ℕ → ℕ → BatchVerificationError PlainError
+large log_rows got = Verification (InvalidProofShape (DegreeBitsTooLarge (Some 0) log_rows got))
+
+too_small : (log_rows got : ℕ) (p : BytesProof) (e : BatchVerificationError PlainError) → got ≡ bits_at p.degree_bits 0 → got < log_rows → e ≡ small log_rows got → FirstFails (height_check log_rows p ∷ []) e
+too_small log_rows got p e is less named =
+    first_here (height_check log_rows p) [] e (λ same. absurd (omega (arith, is, less, same))) (inl (omega (arith, is, less), named ∙ ap (small log_rows) is))
+
+too_large : (log_rows got : ℕ) (p : BytesProof) (e : BatchVerificationError PlainError) → got ≡ bits_at p.degree_bits 0 → log_rows < got → e ≡ large log_rows got → FirstFails (height_check log_rows p ∷ []) e
+too_large log_rows got p e is more named =
+    first_here (height_check log_rows p) [] e (λ same. absurd (omega (arith, is, more, same))) (inr (omega (arith, is, more), named ∙ ap (large log_rows) is))
+
+pub returns-then-got-log_rows : goal.returns-then-got-log_rows
+returns-then-got-log_rows c = too_small c.args.log_rows c.stated_log_rows-got.result c.args.proof.now _ c.stated_log_rows-got.ensures c.if-got-log_rows.true c.into.ensures
+
+pub returns-then-log_rows-got : goal.returns-then-log_rows-got
+returns-then-log_rows-got c =
+    too_large c.args.log_rows c.stated_log_rows-got.result c.args.proof.now _ c.stated_log_rows-got.ensures c.if-log_rows-got.true c.into-then-log_rows-got.ensures
+
+pub returns-else-log_rows-got : goal.returns-else-log_rows-got
+returns-else-log_rows-got c =
+    let is = c.stated_log_rows-got.ensures in
+    let least = c.if-got-log_rows.false in
+    let most = c.if-log_rows-got.false in
+    none_alone (height_check c.args.log_rows c.args.proof.now) (omega (arith, is, least, most))

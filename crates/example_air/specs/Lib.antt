@@ -1,0 +1,5 @@
+pub mod Bytes
+pub mod Meanings
+pub mod Statement
+pub mod Proving
+pub mod Laws
