@@ -1,10 +1,11 @@
 -- The statuses of the answers to jobs and files.
 use Rattle.std.specs.Prelude.{ℕ, List, ⊤}
-use Rattle.batch_tool.specs.Prove.{IsJobAnswer}
+use Rattle.p3_field.specs.declared.baby_bear.BabyBear.{BabyBear}
+use Rattle.tool_validity.specs.Job.{JobTable}
+use Rattle.tool_prover.specs.JobAnswer.{IsJobAnswer}
 use Rattle.tool_statement.specs.declared.table.TableStatement.{TableStatement}
 use Rattle.proof_text.specs.ProofText.{ToolProofData}
 use Rattle.tool_verifier.specs.FileAnswer.{IsFileAnswer}
-use Rattle.batch_tool.specs.declared.job.SwapTable.{SwapTable}
 use Rattle.tool_verifier.specs.declared.status.Status.{Status}
 use Rattle.tool_verifier.specs.declared.status.Status.TheVariants.{Done, Refused, Usage, BadInput, ReadFault, WriteFault, OutOfMemory, TooLarge}
 
@@ -14,16 +15,16 @@ IsJobStatus Done = ⊤
 IsJobStatus Refused = ⊤
 IsJobStatus other = ⊥
 
-pub job-status : (table : SwapTable) (status : Status) (text : List ℕ) → IsJobAnswer table status text → IsJobStatus status
+pub job-status : (job : List (JobTable BabyBear)) (status : Status) (text : List ℕ) → IsJobAnswer job status text → IsJobStatus status
 unfolding IsJobAnswer
-job-status table Done text a = tt
-job-status table Refused text a = tt
-job-status table Usage text a = a
-job-status table BadInput text a = a
-job-status table ReadFault text a = a
-job-status table WriteFault text a = a
-job-status table OutOfMemory text a = a
-job-status table TooLarge text a = a
+job-status job Done text a = tt
+job-status job Refused text a = tt
+job-status job Usage text a = a
+job-status job BadInput text a = a
+job-status job ReadFault text a = a
+job-status job WriteFault text a = a
+job-status job OutOfMemory text a = a
+job-status job TooLarge text a = a
 
 pub file-status : (tables : List TableStatement) (p : ToolProofData) (status : Status) (text : List ℕ) → IsFileAnswer tables p status text → IsJobStatus status
 unfolding IsFileAnswer

@@ -1,13 +1,14 @@
 -- What a run answers, from what its parts do.
-use Rattle.std.proofs.Common.{◌≡◌, ℕ, ◌<◌, ◌≤◌, List, [], ◌∷◌, length, take, get_or, refl, sym, ap, subst, arith, map, String, Global, Option, Vec, Result, Ok, Err}
+use Rattle.std.proofs.Common.{◌≡◌, ℕ, ◌<◌, ◌≤◌, List, [], ◌∷◌, length, take, get_or, refl, sym, ap, subst, arith, map, String, Global, Option, Result, Ok, Err}
 use Rattle.std.proofs.lemmas.Bool.{false≢true}
-use Rattle.std.specs.Prelude.{string_bytes, IfOk, IsErr, ⊤}
+use Rattle.std.specs.Prelude.{string_bytes, codes, IfOk, IsErr, ⊤}
 use Rattle.std.specs.Io.KnownBytes.{Consumes, Appends, IsAtEnd}
 use Rattle.std.specs.declared.alloc.AllocError.{AllocError}
-use Rattle.batch_tool.specs.Limits.{most_log_rows}
 use Rattle.line_format.specs.Texts.{line_text}
-use Rattle.batch_tool.specs.Job.{JobWithin, job_words}
-use Rattle.batch_tool.specs.Prove.{IsJobAnswer}
+use Rattle.p3_field.specs.declared.baby_bear.BabyBear.{BabyBear}
+use Rattle.tool_validity.specs.Job.{JobTable}
+use Rattle.tool_jobs.specs.Jobs.{JobWithin, job_words}
+use Rattle.tool_prover.specs.JobAnswer.{IsJobAnswer, file_of}
 use Rattle.line_format.specs.WholeText.{ReadsText}
 use Rattle.line_format.specs.declared.parse.TextError.{TextError}
 use Rattle.line_format.specs.declared.parse.TextError.TheVariants.{Malformed, OutOfMemory as NoMemory}
@@ -17,7 +18,6 @@ use Rattle.proof_files.specs.Files.{FileData, FileWithin, file_words}
 use Rattle.batch_tool.specs.Answer.{Names, IsBadInput, bad_input_text, IsProveAnswer, IsVerifyAnswer, IsCommandAnswer, Answers, IsOutcome, IsSilent, Outcome}
 use Rattle.batch_tool.specs.declared.command.Command.{Command}
 use Rattle.batch_tool.specs.declared.command.Command.TheVariants.{Prove, Verify}
-use Rattle.batch_tool.specs.declared.job.Job.{Job}
 use Rattle.tool_verifier.specs.declared.status.Status.{Status}
 use Rattle.tool_verifier.specs.declared.status.Status.TheVariants.{Done, Refused, Usage, BadInput, ReadFault, WriteFault, OutOfMemory, TooLarge}
 use Rattle.batch_tool.proofs.JobAnswers.{job-status, file-status}
@@ -28,20 +28,25 @@ one-word [] w a b e = absurd (omega arith)
 one-word (x ∷ []) w a b e = ap (λ (t : String Global). string_bytes t ∷ []) (sym e)
 one-word (x ∷ y ∷ ws) w a b e = absurd (omega arith)
 
+-- the text of a proved job is that of a proof file, for which `verify` writes `accepted`
+proved-accepted : (job : List (JobTable BabyBear)) (text : List ℕ) → IsJobAnswer job Done text → IsVerifyAnswer text Done (codes "accepted\n")
+unfolding IsJobAnswer
+proved-accepted job text a = (file_of job a.proof, a.within, a.text_is, a.accepted)
+
 -- the answer to a job is the answer of `prove`
-pub prove-answers : (bytes : List ℕ) (job : Job) (status : Status) (text : List ℕ) → JobWithin most_log_rows job → bytes ≡ line_text (job_words job)
-    → IsJobAnswer job.table status text → IsProveAnswer bytes status text
-prove-answers bytes job Done text fits e a = (job, fits, e, a)
+pub prove-answers : (bytes : List ℕ) (job : List (JobTable BabyBear)) (status : Status) (text : List ℕ) → JobWithin job → bytes ≡ line_text (job_words job)
+    → IsJobAnswer job status text → IsProveAnswer bytes status text
+prove-answers bytes job Done text fits e a = ((job, fits, e, a), proved-accepted job text a)
 prove-answers bytes job Refused text fits e a = (job, fits, e, a)
 prove-answers bytes job Usage text fits e a = (job, fits, e, a)
-prove-answers bytes job BadInput text fits e a = absurd (job-status job.table BadInput text a)
+prove-answers bytes job BadInput text fits e a = absurd (job-status job BadInput text a)
 prove-answers bytes job ReadFault text fits e a = (job, fits, e, a)
 prove-answers bytes job WriteFault text fits e a = (job, fits, e, a)
 prove-answers bytes job OutOfMemory text fits e a = (job, fits, e, a)
 prove-answers bytes job TooLarge text fits e a = (job, fits, e, a)
 
-pub prove-answers-ok : (bytes : List ℕ) (job : Job) (r : Result Answer AllocError) → JobWithin most_log_rows job → bytes ≡ line_text (job_words job)
-    → IfOk r (λ a. IsJobAnswer job.table a.status a.text.items) → IfOk r (λ a. IsProveAnswer bytes a.status a.text.items)
+pub prove-answers-ok : (bytes : List ℕ) (job : List (JobTable BabyBear)) (r : Result Answer AllocError) → JobWithin job → bytes ≡ line_text (job_words job)
+    → IfOk r (λ a. IsJobAnswer job a.status a.text.items) → IfOk r (λ a. IsProveAnswer bytes a.status a.text.items)
 prove-answers-ok bytes job (Ok a) fits e h = prove-answers bytes job a.status a.text.items fits e h
 prove-answers-ok bytes job (Err x) fits e h = tt
 
@@ -71,7 +76,7 @@ bad-answers data_of within words bytes (Malformed line) (Ok a) read bad memory =
 bad-answers data_of within words bytes NoMemory (Ok a) read bad memory = absurd (false≢true (memory refl))
 bad-answers data_of within words bytes e (Err x) read bad memory = tt
 
-pub bad-job : (bytes : List ℕ) (r : Result Answer AllocError) → IfOk r (λ a. (a.status ≡ BadInput) × IsBadInput (JobWithin most_log_rows) job_words bytes a.text.items)
+pub bad-job : (bytes : List ℕ) (r : Result Answer AllocError) → IfOk r (λ a. (a.status ≡ BadInput) × IsBadInput JobWithin job_words bytes a.text.items)
     → IfOk r (λ a. IsProveAnswer bytes a.status a.text.items)
 bad-job bytes (Ok a) h = subst (λ (s : Status). IsProveAnswer bytes s a.text.items) (sym h.0) h.1
 bad-job bytes (Err x) h = tt
@@ -92,11 +97,11 @@ pub answer-status : (command : Command) (bytes : List ℕ) (status : Status) (te
 answer-status Prove bytes Done text a = tt
 answer-status Prove bytes Refused text a = tt
 answer-status Prove bytes BadInput text a = tt
-answer-status Prove bytes Usage text a = job-status a.0.table Usage text a.3
-answer-status Prove bytes ReadFault text a = job-status a.0.table ReadFault text a.3
-answer-status Prove bytes WriteFault text a = job-status a.0.table WriteFault text a.3
-answer-status Prove bytes OutOfMemory text a = job-status a.0.table OutOfMemory text a.3
-answer-status Prove bytes TooLarge text a = job-status a.0.table TooLarge text a.3
+answer-status Prove bytes Usage text a = job-status a.0 Usage text a.3
+answer-status Prove bytes ReadFault text a = job-status a.0 ReadFault text a.3
+answer-status Prove bytes WriteFault text a = job-status a.0 WriteFault text a.3
+answer-status Prove bytes OutOfMemory text a = job-status a.0 OutOfMemory text a.3
+answer-status Prove bytes TooLarge text a = job-status a.0 TooLarge text a.3
 answer-status Verify bytes Done text a = tt
 answer-status Verify bytes Refused text a = tt
 answer-status Verify bytes BadInput text a = tt

@@ -1,18 +1,18 @@
 -- What a run answers.
 use Rattle.std.specs.Prelude.{◌≡◌, ◌≤◌, ◌<◌, ◌+◌, ℕ, List, [], ◌∷◌, ◌++◌, length, take, codes, decimal, Option, ⊤}
 use Rattle.std.specs.Io.KnownBytes.{Consumes, Appends, IsAtEnd}
-use Rattle.batch_tool.specs.Limits.{most_log_rows}
+use Rattle.p3_field.specs.declared.baby_bear.BabyBear.{BabyBear}
 use Rattle.line_format.specs.Texts.{line_text}
 use Rattle.line_format.specs.WholeText.{IsNoText, IsFaultLine}
-use Rattle.batch_tool.specs.Job.{JobWithin, job_words}
-use Rattle.batch_tool.specs.Prove.{IsJobAnswer}
+use Rattle.tool_validity.specs.Job.{JobTable}
+use Rattle.tool_jobs.specs.Jobs.{JobWithin, job_words}
+use Rattle.tool_prover.specs.JobAnswer.{IsJobAnswer}
 use Rattle.tool_verifier.specs.FileAnswer.{IsFileAnswer}
 use Rattle.proof_files.specs.Files.{FileData, FileWithin, file_words}
 use Rattle.batch_tool.specs.declared.command.Command.{Command}
 use Rattle.batch_tool.specs.declared.command.Command.TheVariants.{Prove, Verify}
-use Rattle.batch_tool.specs.declared.job.Job.{Job}
 use Rattle.tool_verifier.specs.declared.status.Status.{Status}
-use Rattle.tool_verifier.specs.declared.status.Status.TheVariants.{Usage, BadInput, ReadFault, WriteFault, OutOfMemory, TooLarge}
+use Rattle.tool_verifier.specs.declared.status.Status.TheVariants.{Done, Usage, BadInput, ReadFault, WriteFault, OutOfMemory, TooLarge}
 
 -- the words name this command
 abbrev pub Names : List (List ℕ) → Command → Type 0
@@ -31,15 +31,20 @@ bad_input_text line = codes "bad input at line " ++ decimal line ++ 10 ∷ []
 abbrev pub IsBadInput : {A : Type 0} (within : A → Type 0) (words : A → List ℕ) → List ℕ → List ℕ → Type 0
 IsBadInput within words bytes text = IsNoText within words bytes × ((line : ℕ) × IsFaultLine within words bytes line × (text ≡ bad_input_text line))
 
--- the status and the text of `prove` for all the bytes of an input
-abbrev pub IsProveAnswer : List ℕ → Status → List ℕ → Type 0
-IsProveAnswer bytes BadInput text = IsBadInput (JobWithin most_log_rows) job_words bytes text
-IsProveAnswer bytes status text = (job : Job) × JobWithin most_log_rows job × (bytes ≡ line_text (job_words job)) × IsJobAnswer job.table status text
-
 -- the status and the text of `verify` for all the bytes of an input
 abbrev pub IsVerifyAnswer : List ℕ → Status → List ℕ → Type 0
 IsVerifyAnswer bytes BadInput text = IsBadInput FileWithin file_words bytes text
 IsVerifyAnswer bytes status text = (file : FileData) × FileWithin file × (bytes ≡ line_text (file_words file)) × IsFileAnswer file.tables file.proof status text
+
+-- the bytes are the text of a job, of which these are the status and the text
+abbrev pub AnswersJob : List ℕ → Status → List ℕ → Type 0
+AnswersJob bytes status text = (job : List (JobTable BabyBear)) × JobWithin job × (bytes ≡ line_text (job_words job)) × IsJobAnswer job status text
+
+-- The status and the text of `prove` for all the bytes of an input. For each text that it writes with the status `Done`, `verify` writes `accepted`.
+abbrev pub IsProveAnswer : List ℕ → Status → List ℕ → Type 0
+IsProveAnswer bytes BadInput text = IsBadInput JobWithin job_words bytes text
+IsProveAnswer bytes Done text = AnswersJob bytes Done text × IsVerifyAnswer text Done (codes "accepted\n")
+IsProveAnswer bytes status text = AnswersJob bytes status text
 
 -- the status and the text of a command for all the bytes of an input
 abbrev pub IsCommandAnswer : Command → List ℕ → Status → List ℕ → Type 0

@@ -1,5 +1,3 @@
 -- What is proved of the definitions, by subject.
-pub mod Drawn
-pub mod Jobs
 pub mod OneAnswer
-pub mod OneProof
+pub mod Played

@@ -7,14 +7,13 @@ ghost use Rattle.byte_io.specs.Limits.{most_bytes};
 ghost use Rattle.batch_tool.specs.Answer.{IsCommandAnswer, IsProveAnswer, IsSilent, IsVerifyAnswer, NamesSome, Outcome, bad_input_text};
 
 use crate::command::Command;
-use crate::job::read_job;
-use crate::line::Line;
-use crate::prove::prove;
 use byte_io::{Failed, InputError, Sink, Source, read_whole, write_whole};
 use line_format::{TextError, push_number};
 use p3_field::Mem;
 use proof_files::{answer_verify, read_proof_file};
 use std::alloc::{AllocError, Global};
+use tool_jobs::read_job;
+use tool_prover::answer_prove;
 use tool_verifier::{Answer, Status};
 
 const USAGE: &[u8] = b"usage: batch_tool prove | verify | demo N\n";
@@ -85,10 +84,7 @@ fn job_answer(alloc: Global, bytes: &[u8]) -> Mem<Answer>
     ensures { IfOk result (λ a. IsProveAnswer bytes.now a.status a.text.items) }
 {
     match read_job(alloc, bytes) {
-        Ok(job) => {
-            let (status, text) = prove(alloc, &job.table, Line::new(alloc)?)?;
-            Ok(Answer { status, text })
-        }
+        Ok(job) => answer_prove(alloc, &job),
         Err(error) => bad_input(alloc, error),
     }
 }

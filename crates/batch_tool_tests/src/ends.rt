@@ -1,30 +1,7 @@
-// Runs over ends in memory that fail, take a few bytes a call, or give too many; words that name no command; jobs that are none.
+// Runs over ends in memory that fail, take a few bytes a call, or give too many; words that name no command.
 use crate::runs::{answers, words_of};
 use batch_tool::{MemorySink, MemorySource, run};
 use std::test::Fail;
-
-#[test]
-fn bytes_that_are_no_job_are_bad_input(rt: HostRuntime) -> Result<(), Fail> {
-    // Each with its line at fault.
-    let inputs = [
-        ("", 1),
-        ("1\n1\n03\n0\n1\n", 3),
-        ("1\n1\n3\n2013265921\n1\n", 4),
-        ("1\n1\n3\n", 4),
-        ("1\n1\n0\n5\n", 5),
-        ("1\n1\n3\n0\n1", 5),
-        ("1\n1\n3\n0\n1\n7\n", 6),
-        ("1\n1\n11\n5\n7\n", 3),
-        ("1\n1\n0\n5\n\n", 5),
-        ("1\n1\n0\n5\n+7\n", 5),
-        ("1\n1\n0\n5\n7\r\n", 5),
-    ];
-    for (input, line) in inputs {
-        let text = format!(in rt.alloc(); "bad input at line {line}\n")?;
-        answers(&rt, rt.alloc(), &["prove"], input, 3, &text)?;
-    }
-    Ok(())
-}
 
 #[test]
 fn words_that_name_no_command_get_the_usage(rt: HostRuntime) -> Result<(), Fail> {

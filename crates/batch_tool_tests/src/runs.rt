@@ -31,7 +31,7 @@ pub fn answers(
     number: u8,
     text: &str,
 ) -> Mem<()> {
-    let (status, written) = ran(alloc, words, input.as_bytes(), 2000)?;
+    let (status, written) = ran(alloc, words, input.as_bytes(), 5000)?;
     assert_eq!(rt; status, number, "of {input:?}");
     assert_eq!(rt; &written[..], text.as_bytes(), "of {input:?}");
     Ok(())
@@ -46,6 +46,12 @@ pub fn verified(alloc: Global, input: &[u8]) -> Mem<(u8, Vec<u8>)> {
 pub fn is_answered(alloc: Global, input: &[u8], status: u8, text: &str) -> Mem<bool> {
     let (number, written) = verified(alloc, input)?;
     Ok(number == status && &written[..] == text.as_bytes())
+}
+
+/// Whether `prove` writes a proof file for this job, for which `verify` writes `accepted`.
+pub fn is_proved_and_accepted(alloc: Global, job: &str) -> Mem<bool> {
+    let (status, file) = ran(alloc, &["prove"], job.as_bytes(), 200_000)?;
+    Ok(status == 0 && is_answered(alloc, &file, 0, "accepted\n")?)
 }
 
 /// A text in which each line of this number, from 1, has these lines in its place, each with its end: none removes the line.

@@ -14,6 +14,8 @@
 //! | the identity of one table at the drawn point | `batch_identity` |
 //! | whether a batch proof is accepted | `batch_verifier` |
 //! | instances, and the data that a prover is given | `batch_setup` |
+//! | what a prover answers | `batch_proving` |
+//! | the proof of a batch | `batch_prover` |
 #![tactic(auto)]
 
 pub use batch_claims::{OpeningArgumentWithQuotientDomains, commitments_with_opening_points};
@@ -23,9 +25,11 @@ pub use batch_constraints::{
     num_batched_openings,
 };
 pub use batch_identity::{IdentityData, VerifierData};
+pub use batch_prover::{prove_batch, prove_batch_with_point};
 pub use batch_prover_folder::{
     ProverConstraintFolderWithLookups, ProverFolderWithLookups, prover_fold_with_lookups,
 };
+pub use batch_proving::{ProverSettings, ProvingError};
 pub use batch_quotient::{quotient_chunks, quotient_values};
 pub use batch_setting::Settings;
 pub use batch_setup::{

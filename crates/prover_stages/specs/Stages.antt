@@ -1,5 +1,5 @@
 -- The stages of a batch's honest proof, each named of the batch.
-use Rattle.std.specs.Prelude.{ℕ, List, Option}
+use Rattle.std.specs.Prelude.{List, Option}
 use Rattle.p3_field.specs.Poly.{table}
 use Rattle.batch_statement.specs.Proof.{OpenedWithLookups}
 use Rattle.batch_transcript.specs.BatchScript.{Shape}

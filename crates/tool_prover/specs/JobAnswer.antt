@@ -1,5 +1,5 @@
 -- What `prove` answers for a job: a status and a text.
-use Rattle.std.specs.Prelude.{◌≡◌, ◌⊎◌, ℕ, ◌<◌, List, [], ◌∷◌, length, map, codes, ⊤}
+use Rattle.std.specs.Prelude.{◌≡◌, ◌⊎◌, ℕ, ◌<◌, List, [], ◌∷◌, length, map, codes, Option, None, Some, ⊤}
 use Rattle.p3_field.specs.declared.baby_bear.BabyBear.{BabyBear}
 use Rattle.line_format.specs.Texts.{line_text}
 use Rattle.honest_acceptance.specs.Honest.{IsOutside}
@@ -7,16 +7,14 @@ use Rattle.honest_proofs.specs.HonestProof.{IsBuilt, IsDenominatorZero, LacksLoo
 use Rattle.p3_field.specs.declared.quartic.QuarticExtension.{QuarticExtension}
 use Rattle.plain_pcs.specs.declared.error.PlainProverError.{PlainProverError}
 use Rattle.batch_transcript.specs.declared.failure.GrindStep.TheVariants.{Lookup, Ood}
-use Rattle.batch_verifier.specs.BatchChecks.{Accepted}
 use Rattle.batch_proving.specs.Batch.{table_at}
 use Rattle.batch_proving.specs.declared.error.ProvingError.{ProvingError}
 use Rattle.batch_proving.specs.declared.error.ProvingError.TheVariants.{LookupDenominatorZero, MultiplicityBound, OutOfMemory, Pcs, WitnessNotFound}
-use Rattle.tool_statement.specs.Config.{tool_backend, tool_setting}
-use Rattle.tool_statement.specs.StatedTables.{tool_statement}
+use Rattle.tool_statement.specs.Config.{tool_setting}
 use Rattle.proof_files.specs.Files.{FileData, FileWithin, file_words}
 use Rattle.proof_text.specs.ProofText.{ToolProofData}
 use Rattle.tool_jobs.specs.Unbalanced.{IsFirstUnbalanced, same_word}
-use Rattle.tool_jobs.specs.Jobs.{statement_of}
+use Rattle.tool_jobs.specs.Stated.{statement_of}
 use Rattle.tool_validity.specs.Job.{IsBalancedJob, JobTable}
 use Rattle.tool_verifier.specs.FileAnswer.{IsFileAnswer}
 use Rattle.tool_verifier.specs.Refusals.{refused_text}
@@ -41,9 +39,9 @@ module _ (job : List (JobTable BabyBear)) where
   abbrev pub DrawsOutside : ToolProofData → Type 0
   DrawsOutside q = (i : ℕ) → i < length job → IsOutside tool_setting (table_at (job_batch job) i) (drawn_point q)
 
-  -- if it does so, the batch verifier accepts the proof
-  abbrev pub MeansAccepted : ToolProofData → Type 0
-  MeansAccepted q = DrawsOutside q → Accepted tool_setting tool_backend (tool_statement (map statement_of job)) q
+  -- there is an honest proof, whose point lies on the rows of a table
+  abbrev pub DrawsInside : Type 0
+  DrawsInside = (q : ToolProofData) × IsJobProof q × (DrawsOutside q → ⊥)
 
   -- The text is that of the job's honest proof, whose point lies outside. It is a proof file's text, for which `verify` writes `accepted`.
   pub record IsProvedText (text : List ℕ) : Type 0 where
@@ -76,7 +74,7 @@ module _ (job : List (JobTable BabyBear)) where
 
   -- the point of the honest proof lies on the rows of a table
   abbrev pub IsInsideText : List ℕ → Type 0
-  IsInsideText text = (q : ToolProofData) × IsJobProof q × (DrawsOutside q → ⊥) × (text ≡ codes "refused OodPointInDomain\n")
+  IsInsideText text = DrawsInside × (text ≡ codes "refused OodPointInDomain\n")
 
   abbrev pub IsRefusedText : List ℕ → Type 0
   IsRefusedText text =
@@ -90,6 +88,11 @@ module _ (job : List (JobTable BabyBear)) where
   IsTold (WitnessNotFound Lookup) = let b = job_batch job in LacksLookupGround b.setting b.prover b.statement b.traces b.degree_bits
   IsTold (WitnessNotFound Ood) = let b = job_batch job in LacksOodGround b.setting b.prover b.statement b.traces b.degree_bits
   IsTold OutOfMemory = ⊤
+
+  -- what comes of proving a balanced job where there is an honest proof: this, for which `verify` writes `accepted`, or nothing
+  abbrev pub IsOutcome : Option ToolProofData → Type 0
+  IsOutcome None = DrawsInside
+  IsOutcome (Some q) = IsJobProof q × DrawsOutside q × IsFileAnswer (map statement_of job) q Done (codes "accepted\n")
 
   -- the status and the text
   unfoldable pub IsJobAnswer : Status → List ℕ → Type 0

@@ -1,5 +1,5 @@
 -- A job as a batch that is proved, over the program's configuration.
-use Rattle.std.specs.Prelude.{ℕ, List, map}
+use Rattle.std.specs.Prelude.{List, map}
 use Rattle.p3_field.specs.BabyBear.{bear_ring}
 use Rattle.p3_field.specs.Quartic.{quartic_inv}
 use Rattle.p3_field.specs.declared.baby_bear.BabyBear.{BabyBear}
@@ -9,7 +9,7 @@ use Rattle.plain_pcs.specs.Extension.{commitment_of}
 use Rattle.plain_pcs.specs.Scheme.{PlainCommitmentData}
 use Rattle.honest_proofs.specs.HonestProof.{Prover}
 use Rattle.batch_proving.specs.Batch.{Batch}
-use Rattle.tool_jobs.specs.Jobs.{statement_of}
+use Rattle.tool_jobs.specs.Stated.{statement_of}
 use Rattle.tool_statement.specs.Config.{tool_scheme, tool_setting}
 use Rattle.tool_statement.specs.StatedTables.{tool_statement}
 use Rattle.tool_validity.specs.Job.{JobTable, log_height_of, trace_of}

@@ -1,15 +1,15 @@
 //! What `prove` answers for a job.
-ghost use Rattle.std.specs.Prelude.{◌≡◌, IfOk, map};
-ghost use Rattle.tool_jobs.specs.Jobs.{JobWithin, read_tables, statement_of};
+ghost use Rattle.std.specs.Prelude.{◌≡◌, IfOk, Some};
+ghost use Rattle.tool_jobs.specs.Jobs.{JobWithin, read_tables};
+ghost use Rattle.tool_jobs.specs.Stated.{statements_for};
 ghost use Rattle.tool_jobs.specs.Unbalanced.{same_word};
 ghost use Rattle.tool_validity.specs.Job.{IsBalancedJob};
 ghost use Rattle.tool_verifier.specs.Refusals.{refused_text};
-ghost use Rattle.tool_prover.specs.JobAnswer.{IsJobAnswer, IsJobProof, IsTold, MeansAccepted, drawn_point};
+ghost use Rattle.tool_prover.specs.JobAnswer.{IsJobAnswer, IsOutcome, IsTold};
 
-use crate::outside::is_outside;
 use crate::proving::prove_job;
 use batch_proving::{GrindStep, ProvingError};
-use p3_field::{Mem, PrimeCore64, QuarticExtension};
+use p3_field::{Mem, PrimeCore64};
 use plain_pcs::PlainProverError;
 use proof_files::{ProofFile, write_proof_file};
 use proof_text::ToolProof;
@@ -29,6 +29,18 @@ fn refused(alloc: Global, name: &[u8], numbers: &[usize]) -> Mem<Answer>
     })
 }
 
+// The answer where no number passes this grinding of a balanced job.
+fn refused_grinding(alloc: Global, job: &[JobTable], step: GrindStep) -> Mem<Answer>
+    requires balanced { IsBalancedJob same_word (read_tables job.now) }
+    requires told { IsTold (read_tables job.now) (ProvingError.WitnessNotFound step) }
+    ensures { IfOk result (λ a. IsJobAnswer (read_tables job.now) a.status a.text.items) }
+{
+    match step {
+        GrindStep::Lookup => refused(alloc, b"WitnessNotFound lookup", &[]),
+        GrindStep::Ood => refused(alloc, b"WitnessNotFound ood", &[]),
+    }
+}
+
 // The answer where a balanced job has no proof.
 fn refused_proof(
     alloc: Global,
@@ -40,12 +52,7 @@ fn refused_proof(
     ensures { IfOk result (λ a. IsJobAnswer (read_tables job.now) a.status a.text.items) }
 {
     match error {
-        ProvingError::WitnessNotFound {
-            step: GrindStep::Lookup,
-        } => { refused(alloc, b"WitnessNotFound lookup", &[]) }
-        ProvingError::WitnessNotFound {
-            step: GrindStep::Ood,
-        } => { refused(alloc, b"WitnessNotFound ood", &[]) }
+        ProvingError::WitnessNotFound { step } => refused_grinding(alloc, job, step),
         ProvingError::LookupDenominatorZero { instance, row } => {
             refused(alloc, b"LookupDenominatorZero", &[instance, row])
         }
@@ -55,33 +62,28 @@ fn refused_proof(
     }
 }
 
-// The answer where a balanced job has an honest proof, whose point of the openings this is.
+// The answer where a balanced job has this honest proof, whose point lies on the rows of no table.
 fn proved_answer(
     alloc: Global,
     job: &[JobTable],
     tables: Vec<TableStatement>,
     proof: ToolProof,
-    point: QuarticExtension,
 ) -> Mem<Answer>
     requires within { JobWithin (read_tables job.now) }
     requires balanced { IsBalancedJob same_word (read_tables job.now) }
-    requires tables { tables.items ≡ map statement_of (read_tables job.now) }
-    requires proof { IsJobProof (read_tables job.now) proof }
-    requires point { point ≡ drawn_point (read_tables job.now) proof }
-    requires accepted { MeansAccepted (read_tables job.now) proof }
+    requires tables { tables.items ≡ statements_for (read_tables job.now) }
+    requires outcome { IsOutcome (read_tables job.now) (Some proof) }
     ensures { IfOk result (λ a. IsJobAnswer (read_tables job.now) a.status a.text.items) }
 {
-    if !is_outside(&tables, point) {
-        return refused(alloc, b"OodPointInDomain", &[]);
-    }
     let file = ProofFile {
         version: 1,
         tables,
         proof,
     };
+    let text = write_proof_file(alloc, &file)?;
     Ok(Answer {
         status: Status::Done,
-        text: write_proof_file(alloc, &file)?,
+        text,
     })
 }
 
@@ -99,7 +101,8 @@ pub fn answer_prove(alloc: Global, job: &[JobTable]) -> Mem<Answer>
     }
     let tables = statements_of(alloc, job)?;
     match prove_job(alloc, job, &tables) {
-        Ok((proof, point)) => proved_answer(alloc, job, tables, proof, point),
+        Ok(Some(proof)) => proved_answer(alloc, job, tables, proof),
+        Ok(None) => refused(alloc, b"OodPointInDomain", &[]),
         Err(error) => refused_proof(alloc, job, error),
     }
 }

@@ -1,20 +1,25 @@
 //! The honest proof of a balanced job.
-ghost use Rattle.std.specs.Prelude.{◌≡◌, IfErr, IfOk, map};
-ghost use Rattle.batch_proving.specs.declared.error.ProvingError.{ProvingError};
-ghost use Rattle.tool_jobs.specs.Jobs.{JobWithin, read_tables, statement_of};
+ghost use Rattle.std.specs.Prelude.{◌≡◌, IfErr, IfOk, length, map};
+ghost use Rattle.batch_setup.specs.Setup.{instances_of as paired};
+ghost use Rattle.tool_jobs.specs.Jobs.{JobWithin, read_tables};
+ghost use Rattle.tool_jobs.specs.Stated.{statements_for};
 ghost use Rattle.tool_jobs.specs.Unbalanced.{same_word};
 ghost use Rattle.tool_validity.specs.Job.{IsBalancedJob};
-ghost use Rattle.tool_prover.specs.JobAnswer.{IsJobProof, IsTold, MeansAccepted, drawn_point};
+ghost use Rattle.tool_prover.specs.JobAnswer.{IsOutcome, IsTold};
 
+use crate::outside::is_outside;
 use batch_prover::prove_batch_with_point;
-use batch_proving::ProvingError;
+use batch_proving::{ProverSettings, ProvingError};
+use batch_setting::Settings;
 use batch_setup::{SetupError, StarkInstance, TableInstance};
+use p3_air::{Air, BaseAir};
 use p3_commit::UnivariateStarkPcs;
-use p3_field::{BabyBear, QuarticExtension, RingCore, TwoAdicCore};
+use p3_field::{BabyBear, FieldCore, Mem, QuarticExtension, RingCore, TwoAdicCore};
 use p3_matrix::RowMajorMatrix;
 use plain_pcs::PlainProverError;
+use plain_soundness::{accepted_holds, accepted_swaps_end};
 use proof_text::ToolProof;
-use std::alloc::Global;
+use std::alloc::{AllocError, Global};
 use tool_jobs::{JobTable, traces_of};
 use tool_statement::{
     TableStatement, ToolConfig, airs_of, prover_data, public_values_of, tool_config,
@@ -30,29 +35,31 @@ fn instances_of<'a>(
 ) -> Mem<Vec<StarkInstance<'a, ToolConfig, ToolAir<BabyBear>>>>
     requires traces { length traces.now ≡ length airs.now }
     requires public_values { length public_values.now ≡ length airs.now }
-    ensures { IfOk result (λ v. v.items ≡ instances_of airs.now traces.now (map (λ p. p.items) public_values.now)) }
+    ensures { IfOk result (λ v. v.items ≡ paired airs.now traces.now (map (λ p. p.items) public_values.now)) }
 {
     match TableInstance::new_multiple::<PlainProverError>(alloc, airs, traces, public_values) {
         Ok(instances) => Ok(instances),
         Err(SetupError::OutOfMemory) => Err(AllocError),
-        Err(_) => unreachable!(),
+        Err(SetupError::LengthMismatch) => unreachable!(),
+        Err(SetupError::PreprocessedHeight { .. }) => unreachable!(),
+        Err(SetupError::Pcs { .. }) => unreachable!(),
+        Err(SetupError::LookupBudget { .. }) => unreachable!(),
     }
 }
 
-/// The honest proof of a balanced job over the program's configuration, with the point of its openings, or why there is none: no
-/// element passes a grinding, or a denominator is zero. The backend never refuses, and no bus may carry too much. `tables` is what
-/// is stated of the job's tables. Out of memory may come in place of any answer.
+/// The honest proof of a balanced job over the program's configuration, for which `verify` writes `accepted`; None where the point of its
+/// openings lies on the rows of a table (`outcome`). The error says why there is no honest proof: no element passes a grinding, or a
+/// denominator is zero; the backend never refuses, and no bus may carry too much (`refusal`). `tables` is what is stated of the job's
+/// tables. Out of memory may come in place of any answer.
 pub(crate) fn prove_job(
     alloc: Global,
     job: &[JobTable],
     tables: &[TableStatement],
-) -> Result<(ToolProof, QuarticExtension), ProvingError<PlainProverError>>
+) -> Result<Option<ToolProof>, ProvingError<PlainProverError>>
     requires within { JobWithin (read_tables job.now) }
     requires balanced { IsBalancedJob same_word (read_tables job.now) }
-    requires tables { tables.now ≡ map statement_of (read_tables job.now) }
-    ensures proof { IfOk result (λ r. IsJobProof (read_tables job.now) r.0) }
-    ensures point { IfOk result (λ r. r.1 ≡ drawn_point (read_tables job.now) r.0) }
-    ensures accepted { IfOk result (λ r. MeansAccepted (read_tables job.now) r.0) }
+    requires tables { tables.now ≡ statements_for (read_tables job.now) }
+    ensures outcome { IfOk result (IsOutcome (read_tables job.now)) }
     ensures refusal { IfErr result (IsTold (read_tables job.now)) }
 {
     let config = tool_config();
@@ -61,5 +68,11 @@ pub(crate) fn prove_job(
     let traces = traces_of(alloc, job)?;
     let public_values = public_values_of(alloc, tables)?;
     let instances = instances_of(alloc, &airs, &traces, &public_values)?;
-    prove_batch_with_point(alloc, &config, &instances, &data)
+    let (proof, point) = prove_batch_with_point(alloc, &config, &instances, &data)?;
+    if !is_outside(tables, point) {
+        return Ok(None);
+    }
+    accepted_holds(&config, &airs, &proof, &public_values, &data.common);
+    accepted_swaps_end(&config, &airs, &proof, &public_values, &data.common);
+    Ok(Some(proof))
 }

@@ -1,3 +1,4 @@
 pub mod FileAnswer
 pub mod Refusals
 pub mod Status
+pub mod Laws

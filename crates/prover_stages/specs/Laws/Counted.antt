@@ -1,8 +1,7 @@
 -- How many terminals there are, and that permutation columns are committed to exactly where there are some.
-use Rattle.std.proofs.Common.{◌≡◌, ℕ, zero, suc, ◌+◌, ◌<◌, List, [], ◌∷◌, length, get_or, Option, None, Some, refl, sym, ◌∙◌, ap, subst, zero-add, arith}
+use Rattle.std.proofs.Common.{◌≡◌, ℕ, suc, List, [], ◌∷◌, length, get_or, Option, None, Some, refl, sym, ◌∙◌, ap, zero-add}
 use Rattle.std.specs.Prelude.{count_by, is_some}
 use Rattle.std.specs.List.{filter_map}
-use Rattle.p3_field.specs.Domain.{CosetData}
 use Rattle.p3_field.specs.Poly.{table}
 use Rattle.p3_matrix.specs.Matrix.{Rows}
 use Rattle.batch_draws.specs.Laws.Singles.{counts_more, counts_some}

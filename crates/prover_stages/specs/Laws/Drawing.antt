@@ -1,19 +1,17 @@
 -- What is drawn along a prover's transcript is what the honest proof is made of.
-use Rattle.std.proofs.Common.{◌≡◌, ℕ, zero, suc, ◌<◌, List, [], ◌∷◌, length, get_or, map, Option, None, refl, sym, ◌∙◌, ap, subst, arith}
+use Rattle.std.proofs.Common.{◌≡◌, ℕ, List, [], ◌∷◌, length, get_or, Option, None, ◌∙◌, ap}
 use Rattle.std.specs.List.{filter_map}
 use Rattle.std.proofs.lemmas.List.{length-map}
-use Rattle.p3_field.specs.Domain.{CosetData}
 use Rattle.p3_field.specs.Laws.Tables.{length-table, table_of_items}
 use Rattle.p3_field.specs.Poly.{table}
 use Rattle.p3_field.specs.Ring.{Ring}
 use Rattle.p3_matrix.specs.Matrix.{Rows}
-use Rattle.p3_challenger.specs.Script.{ChallengerOf, Played}
+use Rattle.p3_challenger.specs.Script.{Played}
 use Rattle.p3_lookup.specs.Lookup.{LookupData}
 use Rattle.batch_setting.specs.Setting.{Setting}
 use Rattle.batch_statement.specs.Statement.{Statement}
 use Rattle.batch_transcript.specs.BatchScript.{ood_script, pair_script, permutation_script, quotient_script}
 use Rattle.batch_transcript.specs.Buses.{batch_layout}
-use Rattle.batch_transcript.specs.Grinding.{IsGround, IsPairGround}
 use Rattle.batch_transcript.specs.Running.{Plays, Running, drawn_along}
 use Rattle.batch_validity.specs.Valid.{IsTracedBatch}
 use Rattle.honest_proofs.specs.HonestProof.{Prover, alpha, behind, challenges_at, first_drawn, opening_state, pair, permutation_part, quotient_part, shape, state_at_ood, state_at_pair, state_at_permutation, state_at_quotient, terminals, zeta}

@@ -1,11 +1,8 @@
 -- The facts of a prover's stages, over a batch: what was asked and answered is what the honest proof is made of.
-use Rattle.std.proofs.Common.{◌≡◌, ℕ, ◌+◌, ◌^◌, ◌<◌, List, [], ◌∷◌, ◌++◌, length, map, Option, None, Some, refl, sym, ◌∙◌, ap, subst}
+use Rattle.std.proofs.Common.{◌≡◌, ℕ, List, [], ◌∷◌, ◌++◌, Option, None, Some, refl, sym, ap, subst}
 use Rattle.std.specs.Prelude.{option_map}
-use Rattle.std.specs.List.{filter_map}
 use Rattle.p3_field.specs.Checks.{Check, NoneFails}
-use Rattle.p3_field.specs.Domain.{CosetData}
 use Rattle.p3_field.specs.Laws.Checks.{none_alone}
-use Rattle.p3_field.specs.Poly.{table}
 use Rattle.p3_commit.specs.Commitments.{Committed, IsCommitment}
 use Rattle.p3_field.specs.Ring.{Ring}
 use Rattle.p3_matrix.specs.Matrix.{Rows}

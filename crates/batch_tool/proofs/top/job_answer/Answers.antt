@@ -1,13 +1,17 @@
-use Rattle.batch_tool.specs.Job.{JobWithin, job_words}
-use Rattle.batch_tool.specs.Limits.{most_log_rows}
-use Rattle.batch_tool.proofs.Runs.{bad-answers, bad-job, prove-answers}
+use Rattle.std.proofs.Common.{List, Global, Vec, subst}
+use Rattle.std.specs.Prelude.{IfOk}
+use Rattle.tool_jobs.specs.Jobs.{JobWithin, job_words, read_tables}
+use Rattle.tool_jobs.specs.declared.table.JobTable.{JobTable}
+use Rattle.tool_prover.specs.JobAnswer.{IsJobAnswer}
+use Rattle.batch_tool.proofs.Runs.{bad-answers, bad-job, prove-answers-ok}
 use Rattle.batch_tool.proofs.top.job_answer.Goals as goal
+
+pub returns-in-Ok : goal.returns-in-Ok
+returns-in-Ok c =
+    let P : List JobTable → Type 0 = λ l. IfOk c.answer_prove.result (λ a. IsJobAnswer (read_tables l) a.status a.text.items) in
+    prove-answers-ok c.args.bytes.now (read_tables c.in-Ok.job.items) c.answer_prove.result c.in-Ok.ensures.0 c.in-Ok.ensures.1 (subst P c.deref.ensures.value c.answer_prove.ensures)
 
 pub returns-in-Err : goal.returns-in-Err
 returns-in-Err c =
     bad-job c.args.bytes.now c.bad_input.result
-    (bad-answers (λ j. j) (JobWithin most_log_rows) job_words c.args.bytes.now c.in-Err.error c.bad_input.result c.in-Err.ensures c.bad_input.ensures.malformed c.bad_input.ensures.memory)
-
-pub returns-in_ok-status-in-Ok : goal.returns-in_ok-status-in-Ok
-returns-in_ok-status-in-Ok c =
-    prove-answers c.args.bytes.now c.in-Ok.job c.in_ok-status-in-Ok.status c.in_ok-status-in-Ok.text.items c.in-Ok.ensures.0 c.in-Ok.ensures.1 c.in_ok-status-in-Ok.ensures
+    (bad-answers (λ (v : Vec JobTable Global). read_tables v.items) JobWithin job_words c.args.bytes.now c.in-Err.error c.bad_input.result c.in-Err.ensures c.bad_input.ensures.malformed c.bad_input.ensures.memory)

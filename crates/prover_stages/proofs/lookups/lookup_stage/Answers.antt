@@ -1,4 +1,4 @@
-use Rattle.std.proofs.Common.{◌≡◌, ◌^◌, [], map, length, sym, ◌∙◌, ap, subst}
+use Rattle.std.proofs.Common.{◌^◌, map, length, sym, ◌∙◌, ap, subst}
 use Rattle.std.specs.Prelude.{is_some, option_map}
 use Rattle.std.specs.List.{filter_map}
 use Rattle.p3_field.specs.Laws.Checks.{holds_alone, none_append}

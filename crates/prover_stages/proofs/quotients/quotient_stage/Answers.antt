@@ -1,4 +1,4 @@
-use Rattle.std.proofs.Common.{◌≡◌, ◌^◌, ◌<◌, [], map, length, sym, ◌∙◌, ap, subst}
+use Rattle.std.proofs.Common.{map, sym, ◌∙◌, ap}
 use Rattle.std.specs.Prelude.{option_map}
 use Rattle.p3_field.specs.Laws.Checks.{none_append}
 use Rattle.honest_proofs.specs.HonestProof.{AreCanonical}

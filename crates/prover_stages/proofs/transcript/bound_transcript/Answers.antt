@@ -1,6 +1,4 @@
-use Rattle.std.proofs.Common.{◌≡◌, [], map, length, sym, ◌∙◌, ap, subst}
-use Rattle.std.specs.Prelude.{option_map}
-use Rattle.std.specs.Option.{option_copied}
+use Rattle.std.proofs.Common.{[], map, length, sym, ◌∙◌, ap, subst}
 use Rattle.p3_challenger.specs.Script.{ChallengerOf}
 use Rattle.batch_draws.specs.Draws.{script_shape}
 use Rattle.batch_shape_checks.specs.ShapeChecks.{stated}

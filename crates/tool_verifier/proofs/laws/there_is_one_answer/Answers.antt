@@ -1,6 +1,6 @@
 use Rattle.tool_statement.specs.StatedTables.{tool_statement}
 use Rattle.tool_verifier.proofs.OneAnswer.{same_answer}
-use Rattle.tool_verifier.proofs.Stated.{single_is}
+use Rattle.tool_verifier.specs.Laws.Stated.{single_is}
 use Rattle.tool_verifier.proofs.laws.there_is_one_answer.Goals as goal
 
 pub returns : goal.returns

@@ -5,7 +5,7 @@ use Rattle.plain_pcs.specs.Scheme.{Blowup}
 use Rattle.batch_setup.specs.Packed.{source_of}
 use Rattle.batch_shape_checks.specs.Laws.Verdicts.{exits}
 use Rattle.tool_tables.specs.Tool.{tool_declaration, tool_interactions, tool_trees}
-use Rattle.tool_verifier.proofs.Stated.{ends_are, meant_is, refusal_is, same_tables, verdict_is}
+use Rattle.tool_verifier.specs.Laws.Stated.{ends_are, meant_is, refusal_is, same_tables, verdict_is}
 use Rattle.tool_verifier.proofs.tables.verify_tables.Goals as goal
 
 pub returns-in_err-verify_batch-clause-verdict : goal.returns-in_err-verify_batch-clause-verdict

@@ -1,0 +1,4 @@
+mod Points
+mod Setup
+mod Outcome
+mod Answering

@@ -1,0 +1,97 @@
+-- What an honest proof opens of a small table is within the limits of a proof's text.
+use Rattle.std.proofs.Common.{◌≡◌, ℕ, zero, suc, ◌+◌, ◌*◌, ◌^◌, ◌≤◌, List, [], ◌∷◌, length, map, Option, None, Some, ap, arith}
+use Rattle.std.specs.Prelude.{option_map}
+use Rattle.std.proofs.lemmas.List.{length-map}
+use Rattle.p3_field.specs.Laws.Tables.{length-table}
+use Rattle.p3_field.specs.Poly.{table, val_in}
+use Rattle.p3_field.specs.declared.quartic.QuarticExtension.{QuarticExtension}
+use Rattle.p3_matrix.specs.Matrix.{Rows}
+use Rattle.p3_air.specs.Shape.{width_of}
+use Rattle.line_format.specs.Texts.{ListWithin, OptionWithin}
+use Rattle.proof_text.specs.Openings.{InstanceWithin, PreprocessedWithin, ValuesWithin}
+use Rattle.batch_setting.specs.Domains.{next_by}
+use Rattle.batch_setting.specs.Setting.{Setting, masks}
+use Rattle.batch_shape_checks.specs.ShapeChecks.{permutation_width}
+use Rattle.batch_validity.specs.Traced.{TracedTable, constraints, declared, log_parts, quotient_shift}
+use Rattle.batch_validity.specs.Valid.{HasQuotientDomain, IsTraced}
+use Rattle.committed_tables.specs.Committed.{CommittedTable, columns_at, trace_domain}
+use Rattle.committed_tables.specs.Fields.{FieldsLaws}
+use Rattle.committed_tables.specs.Quotient.{honest_chunk}
+use Rattle.committed_tables.specs.Rows.{InterpolateSome}
+use Rattle.committed_tables.specs.Laws.Degrees.{all_images, all_table}
+use Rattle.honest_proofs.specs.HonestProof.{Prover, committed_table, opened_of, where_some}
+use Rattle.honest_acceptance.specs.Laws.Lengths.{honest_commits, permutation_count}
+
+-- a list of values, of which there are few
+values_within : (xs : List QuarticExtension) → length xs ≤ 65536 → ValuesWithin xs
+values_within xs h = ((omega arith, h), λ i d l. tt)
+
+next_within : (ns : List ℕ) (xs : List QuarticExtension) → length xs ≤ 65536 → OptionWithin ValuesWithin (where_some ns xs)
+next_within [] xs h = tt
+next_within (n ∷ ns) xs h = values_within xs h
+
+-- as many values as columns
+at_columns : {F E : Type 0} (g : List F → E) (columns : List (List F)) (n : ℕ) → length columns ≤ n → length (map g columns) ≤ n
+at_columns g columns n h = omega (arith, length-map columns g, h)
+
+few_permuted : (n d : ℕ) → n ≤ 1 → d ≤ 4 → permutation_width n d ≤ 8
+few_permuted zero d a b = omega arith
+few_permuted (suc n) d a b = (let none : n ≡ 0 = omega (arith, a) in let two : (suc n + 1) * d ≡ 2 * d = ap (λ m. (suc m + 1) * d) none in omega (arith, two, b))
+
+module _ {S F C : Type 0} (c : Setting S F QuarticExtension C) (p : Prover F QuarticExtension C) (t : TracedTable F) (challenges : List QuarticExtension)
+    (L : FieldsLaws c.field c.extension c.two_adicity p.inverse) (Q : HasQuotientDomain c t) (T : IsTraced c t) (dimension : c.extension.dimension ≤ 4)
+    (columns : (declared t).width ≤ 2) (prepared : width_of (declared t).preprocessed ≤ 1) (lookups : length t.lookups ≤ 1) (parts : log_parts c t ≡ 0) where
+  abbrev k : CommittedTable F QuarticExtension
+  k = committed_table c p t challenges
+
+  main_few : length k.main ≤ 2
+  main_few = let n = (honest_commits c p t challenges L Q T).main.count in let w = T.width in omega (arith, n, w, columns)
+
+  permutation_few : length k.permutation ≤ 8
+  permutation_few = let n = permutation_count c p t challenges L Q T in let m = few_permuted (length t.lookups) c.extension.dimension lookups dimension in omega (arith, n, m)
+
+  by_trace : (m : Option (Rows F)) → width_of m ≤ 1 → InterpolateSome c.field (trace_domain c.field c.extension k) m k.preprocessed → (ns : List ℕ) (x y : QuarticExtension)
+      → OptionWithin PreprocessedWithin (option_map (λ m. record { local = columns_at c.field c.extension k k.preprocessed x; next = where_some ns (columns_at c.field c.extension k k.preprocessed y) }) m)
+  by_trace None few I ns x y = tt
+  by_trace (Some m) few I ns x y =
+      let few_there : length k.preprocessed ≤ 65536 = let n = I.count in omega (arith, n, few) in
+      record {
+        local = values_within (columns_at c.field c.extension k k.preprocessed x) (at_columns _ k.preprocessed 65536 few_there);
+        next = next_within ns (columns_at c.field c.extension k k.preprocessed y) (at_columns _ k.preprocessed 65536 few_there);
+      }
+
+  module _ (alpha zeta : QuarticExtension) where
+    abbrev after : QuarticExtension
+    after = next_by c.extension.ring c.extension.embed c.field.root (masks c) zeta t.degree_bits
+
+    few_values : (polys : List (List F)) (x : QuarticExtension) → length polys ≤ 8 → length (columns_at c.field c.extension k polys x) ≤ 65536
+    few_values polys x h = let n = at_columns (λ (g : List F). val_in c.extension g x) polys 8 h in omega (arith, n)
+
+    chunks_within : ListWithin 0 1024 ValuesWithin (opened_of c p t challenges alpha zeta).base.quotient_chunks
+    unfolding opened_of honest_chunk
+    chunks_within =
+        let u = honest_chunk c.field c.extension k (quotient_shift c) (log_parts c t) (constraints c t) alpha in
+        let values = λ (gs : List (List F)). map (λ (g : List F). val_in c.extension g zeta) gs in
+        let one : 2 ^ log_parts c t ≡ 1 = ap (λ n. 2 ^ n) parts in
+        let long = length-table (2 ^ log_parts c t) u in
+        let many = length-map (table (2 ^ log_parts c t) u) values in (
+          (omega arith, omega (arith, one, long, many)),
+          all_images (λ (gs : List (List F)). length gs ≤ 8) ValuesWithin values (λ gs h. values_within (values gs) (few_values gs zeta h)) (table (2 ^ log_parts c t) u)
+              (all_table (λ (gs : List (List F)). length gs ≤ 8) (2 ^ log_parts c t) u (λ j. (let n : length (u j) ≡ c.extension.dimension = length-table c.extension.dimension _ in omega (arith, n, dimension)))),
+        )
+
+    pub opened_within : InstanceWithin (opened_of c p t challenges alpha zeta)
+    unfolding opened_of
+    opened_within =
+        let main : length k.main ≤ 8 = let m = main_few in omega (arith, m) in
+        record {
+          base = record {
+            trace_local = values_within _ (few_values k.main zeta main);
+            trace_next = next_within (declared t).main_next _ (few_values k.main after main);
+            preprocessed = by_trace (declared t).preprocessed prepared (honest_commits c p t challenges L Q T).preprocessed (declared t).preprocessed_next zeta after;
+            quotient_chunks = chunks_within;
+            random = tt;
+          };
+          permutation_local = values_within _ (few_values k.permutation zeta permutation_few);
+          permutation_next = values_within _ (few_values k.permutation after permutation_few);
+        }
