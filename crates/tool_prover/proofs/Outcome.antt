@@ -105,7 +105,7 @@ module _ (job : List (JobTable BabyBear)) (tables : List TableStatement) (c : To
 
   -- the batch
   abbrev pub batch : ToolBatch
-  batch = batch_of c (prover_with b) (tool_declaration bear_ring) tool_trees instances written
+  batch = batch_of c (prover_with b) (tool_declaration bear_ring) (tool_trees bear_ring) instances written
 
   batch_is : batch ≡ job_batch job
   batch_is = same_batch job U.within airs airs_there traces U.traces_are publics publics_there written common_there instances U.instances_are c U.setting_is b U.scheme_is
@@ -184,10 +184,10 @@ module _ (job : List (JobTable BabyBear)) (tables : List TableStatement) (c : To
   accepted_batch q h d = h (omega arith) batch_valid (outside_in q d) (λ i o l j p m k x n f. f)
 
   abbrev about : List (ToolAir BabyBear) → List (List BabyBear) → Statement BabyBear (PlainCommitmentData BabyBear)
-  about xs ps = stated (tables_of (tool_declaration bear_ring) tool_trees xs) ps written
+  about xs ps = stated (tables_of (tool_declaration bear_ring) (tool_trees bear_ring) xs) ps written
 
   pub accepted_airs : (q : ToolProofData) → AcceptsThen q → DrawsOutside job q → (xs : List (ToolAir BabyBear)) → xs ≡ airs → (ps : List (List BabyBear)) → ps ≡ publics
-      → Accepted c (backend_of (scheme_with b)) (stated (tables_of (tool_declaration bear_ring) tool_trees xs) ps written) q
+      → Accepted c (backend_of (scheme_with b)) (stated (tables_of (tool_declaration bear_ring) (tool_trees bear_ring) xs) ps written) q
   accepted_airs q h d xs e ps f =
       let own = airs_in_them job U.within airs airs_there traces U.traces_are publics publics_there written common_there instances U.instances_are c U.setting_is b U.scheme_is in
       let said = publics_in_them job U.within airs airs_there traces U.traces_are publics publics_there written common_there instances U.instances_are c U.setting_is b U.scheme_is in
@@ -210,8 +210,8 @@ module _ (job : List (JobTable BabyBear)) (tables : List TableStatement) (c : To
 
   -- so `verify` writes `accepted` for it
   pub outcome_there : (q : ToolProofData) → IsProved (backend_with b) batch q → DrawsOutside job q → AcceptsThen q
-      → (xs : List (ToolAir BabyBear)) → xs ≡ airs → (ps : List (List BabyBear)) → ps ≡ publics → HoldUnlessUnlucky c b.log_blowup (stated (tables_of (tool_declaration bear_ring) tool_trees xs) ps written) q
-      → (ys : List (ToolAir BabyBear)) → ys ≡ airs → (rs : List (List BabyBear)) → rs ≡ publics → EndsAt c b.log_blowup (stated (tables_of (tool_declaration bear_ring) tool_trees ys) rs written) q ys
+      → (xs : List (ToolAir BabyBear)) → xs ≡ airs → (ps : List (List BabyBear)) → ps ≡ publics → HoldUnlessUnlucky c b.log_blowup (stated (tables_of (tool_declaration bear_ring) (tool_trees bear_ring) xs) ps written) q
+      → (ys : List (ToolAir BabyBear)) → ys ≡ airs → (rs : List (List BabyBear)) → rs ≡ publics → EndsAt c b.log_blowup (stated (tables_of (tool_declaration bear_ring) (tool_trees bear_ring) ys) rs written) q ys
       → IsOutcome job (Some q)
   unfolding IsFileAnswer
   outcome_there q P d h xs e ps f holds ys g rs k ends =

@@ -54,7 +54,7 @@ abbrev pub one_bit : Blowup
 one_bit = record { log_blowup = 1 }
 
 abbrev pub source_of_air : ToolAir BabyBear → Source BabyBear
-source_of_air = source_of (tool_declaration bear_ring) tool_trees (tool_interactions bear_ring)
+source_of_air = source_of (tool_declaration bear_ring) (tool_trees bear_ring) (tool_interactions bear_ring)
 
 -- the AIRs, traces and public values of instances of as many
 airs_back : {A F : Type 0} (airs : List A) (traces : List (Rows F)) (publics : List (List F)) → length traces ≡ length airs → length publics ≡ length airs → airs_in (instances_of airs traces publics) ≡ airs
@@ -164,7 +164,7 @@ module _ (job : List (JobTable BabyBear)) (within : JobWithin job) where
         unfolding tool_setting tool_prover
         valid balanced formed =
             let s : Statement BabyBear (PlainCommitmentData BabyBear) = tool_statement tables in
-            let same : record { tables = tables_of (tool_declaration bear_ring) tool_trees airs; publics = map publics_of job; common = common } ≡ s =
+            let same : record { tables = tables_of (tool_declaration bear_ring) (tool_trees bear_ring) airs; publics = map publics_of job; common = common } ≡ s =
             λ i. record { tables = same_tables tables airs airs_are i; publics = sym (statements-publics job) i; common = common_is i } in
             subst (λ (u : Statement BabyBear (PlainCommitmentData BabyBear)). Valid tool_setting same_word (commitment_of tool_scheme) u (map (trace_of bear_ring) job) bits) same
             (set_up_is_valid tool_setting quartic_inv tool_serves same_word job (record { few = within.0.1; within = within.1; balanced = balanced }) airs job_airs (replicate (length tables) 0) points point_at
@@ -213,12 +213,12 @@ module _ (job : List (JobTable BabyBear)) (within : JobWithin job) (airs : List 
       ap (λ m. bits_of m instances) none_masked
       ∙ (bits_map 0 instances ∙ (ap (map (λ t. log_of (height t) + 0)) traces_in_them ∙ all_bits job within.1))
 
-  pub statement_is : stated (tables_of (tool_declaration bear_ring) tool_trees (airs_in instances)) (map (λ i. i.public_values) instances) written ≡ tool_statement (map statement_of job)
+  pub statement_is : stated (tables_of (tool_declaration bear_ring) (tool_trees bear_ring) (airs_in instances)) (map (λ i. i.public_values) instances) written ≡ tool_statement (map statement_of job)
   statement_is = λ i. record {
-    tables = (ap (tables_of (tool_declaration bear_ring) tool_trees) airs_in_them ∙ same_tables (map statement_of job) airs airs_are) i;
+    tables = (ap (tables_of (tool_declaration bear_ring) (tool_trees bear_ring)) airs_in_them ∙ same_tables (map statement_of job) airs airs_are) i;
     publics = (publics_in_them ∙ publics_are) i;
     common = common_is i;
   }
 
-  pub same_batch : batch_of c (prover_with b) (tool_declaration bear_ring) tool_trees instances written ≡ job_batch job
+  pub same_batch : batch_of c (prover_with b) (tool_declaration bear_ring) (tool_trees bear_ring) instances written ≡ job_batch job
   same_batch = λ i. record { setting = c_is i; prover = same_prover b b_is i; statement = statement_is i; traces = traces_in_them i; degree_bits = bits_in_them i }

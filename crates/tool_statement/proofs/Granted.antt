@@ -24,7 +24,7 @@ use Rattle.tool_tables.specs.Wheel.{numbers_to}
 use Rattle.tool_statement.specs.Config.{tool_scheme}
 use Rattle.tool_statement.specs.StatedTables.{TableWithin, log_height_of, log_heights_of, source_of_table, sources_of}
 use Rattle.tool_statement.specs.declared.table.TableStatement.{TableStatement}
-use Rattle.tool_statement.specs.declared.table.TableStatement.TheVariants.{Swap, Wheel, Take, Give}
+use Rattle.tool_statement.specs.declared.table.TableStatement.TheVariants.{Swap, Wheel, Take, Give, Hash}
 
 abbrev Fault : Type 0
 Fault = SetupError PlainProverError
@@ -45,6 +45,7 @@ high_enough i (Swap k a b x) = tt
 high_enough i (Wheel k) = (let e : k ≡ k - 0 = omega arith in wheel_height k ∙ ap (λ n. 2 ^ n) e, tt)
 high_enough i (Take k) = tt
 high_enough i (Give k) = tt
+high_enough i (Hash k) = tt
 
 can_commit : (t : TableStatement) → TableWithin t → All CanCommit (on_domain bear_ring.one (log_height_of t) (source_of_table t).declaration.preprocessed)
 can_commit (Swap k a b x) w i d h = absurd (omega (arith, h))
@@ -52,6 +53,7 @@ can_commit (Wheel k) w zero d h = record { has_columns = omega arith; height_is 
 can_commit (Wheel k) w (suc i) d h = absurd (omega (arith, h))
 can_commit (Take k) w i d h = absurd (omega (arith, h))
 can_commit (Give k) w i d h = absurd (omega (arith, h))
+can_commit (Hash k) w i d h = absurd (omega (arith, h))
 
 no_items : {X : Type 0} (P : X → Type 0) → All P []
 no_items P i d h = absurd (omega (arith, h))
@@ -120,6 +122,7 @@ small (Swap k a b x) w = omega (arith, w)
 small (Wheel k) w = let b = w.1 in omega (arith, b)
 small (Take k) w = omega (arith, w)
 small (Give k) w = omega (arith, w)
+small (Hash k) w = omega (arith, w)
 
 pub bounded : (tables : List TableStatement) → All TableWithin tables → AreBounded 0 26 (log_heights_of tables)
 bounded tables w i h =

@@ -52,24 +52,24 @@ committed : {P : Type 0} (points : CosetData BabyBear → ℕ) (point_at : Coset
     → (es : traces) (w : PlainCommitmentData BabyBear × P) → Commits points point_at made holds b es w → w.0 ≡ commitment_of tool_scheme es
 committed points point_at made holds b e es w f = f.commitment_is ∙ ap (λ (s : Blowup). commitment_of (scheme bear_ring bear_inv bear_root (reduce 31) 27 s) es) e
 
-module _ (tables : List TableStatement) (airs : List (ToolAir BabyBear)) (same : map (source_of (tool_declaration bear_ring) tool_trees (tool_interactions bear_ring)) airs ≡ sources_of tables) where
+module _ (tables : List TableStatement) (airs : List (ToolAir BabyBear)) (same : map (source_of (tool_declaration bear_ring) (tool_trees bear_ring) (tool_interactions bear_ring)) airs ≡ sources_of tables) where
   pub as_many : length airs ≡ length tables
-  as_many = sym (length-map airs (source_of (tool_declaration bear_ring) tool_trees (tool_interactions bear_ring))) ∙ (ap length same ∙ length-map tables source_of_table)
+  as_many = sym (length-map airs (source_of (tool_declaration bear_ring) (tool_trees bear_ring) (tool_interactions bear_ring))) ∙ (ap length same ∙ length-map tables source_of_table)
 
   -- so the shared data is that of the tables
   pub common_is : {P : Type 0} (bits : List ℕ) (lookups : List (List (LookupData BabyBear))) (p : Option (PreprocessedTracesData (PlainCommitmentData BabyBear))) (kept : Option P)
       (points : CosetData BabyBear → ℕ) (point_at : CosetData BabyBear → ℕ → BabyBear) (made : P → Type 0) (holds : P → PlainCommitmentData BabyBear → List (Committed BabyBear) → Type 0) (b : Blowup) → b ≡ record { log_blowup = 1 }
       → bits ≡ log_heights_of tables
-      → lookups ≡ table (length airs) (packed_at bear_ring 0 (map (source_of (tool_declaration bear_ring) tool_trees (tool_interactions bear_ring)) airs) bits (replicate (length airs) 0))
-      → IsPrepared (Commits points point_at made holds b) (table (length airs) (entry_at bear_ring.one (map (source_of (tool_declaration bear_ring) tool_trees (tool_interactions bear_ring)) airs) bits))
-      (committed_below bear_ring.one (map (source_of (tool_declaration bear_ring) tool_trees (tool_interactions bear_ring)) airs) bits (length airs)) p kept
+      → lookups ≡ table (length airs) (packed_at bear_ring 0 (map (source_of (tool_declaration bear_ring) (tool_trees bear_ring) (tool_interactions bear_ring)) airs) bits (replicate (length airs) 0))
+      → IsPrepared (Commits points point_at made holds b) (table (length airs) (entry_at bear_ring.one (map (source_of (tool_declaration bear_ring) (tool_trees bear_ring) (tool_interactions bear_ring)) airs) bits))
+      (committed_below bear_ring.one (map (source_of (tool_declaration bear_ring) (tool_trees bear_ring) (tool_interactions bear_ring)) airs) bits (length airs)) p kept
       → record { preprocessed = p; lookups = lookups } ≡ tool_common tables
   unfolding tool_common
   common_is bits lookups p kept points point_at made holds blowup e b l h =
       let n = as_many in
-      let entries : table (length airs) (entry_at bear_ring.one (map (source_of (tool_declaration bear_ring) tool_trees (tool_interactions bear_ring)) airs) bits) ≡ entries_of tables
+      let entries : table (length airs) (entry_at bear_ring.one (map (source_of (tool_declaration bear_ring) (tool_trees bear_ring) (tool_interactions bear_ring)) airs) bits) ≡ entries_of tables
       = λ i. table (n i) (entry_at bear_ring.one (same i) (b i)) in
-      let given : committed_below bear_ring.one (map (source_of (tool_declaration bear_ring) tool_trees (tool_interactions bear_ring)) airs) bits (length airs) ≡ preprocessed_traces tables
+      let given : committed_below bear_ring.one (map (source_of (tool_declaration bear_ring) (tool_trees bear_ring) (tool_interactions bear_ring)) airs) bits (length airs) ≡ preprocessed_traces tables
       = λ i. committed_below bear_ring.one (same i) (b i) (n i) in
       let made : p ≡ preprocessed_of (entries_of tables) (preprocessed_traces tables) = prepared_is (Commits points point_at made holds blowup) (λ es w f. committed points point_at made holds blowup e es w f) _ _ p kept h ∙ (λ i. preprocessed_of (entries i) (given i)) in
       let looked : lookups ≡ table (length tables) (packed_at bear_ring 0 (sources_of tables) (log_heights_of tables) (replicate (length tables) 0))
@@ -80,8 +80,8 @@ module _ (tables : List TableStatement) (airs : List (ToolAir BabyBear)) (same :
   pub kept_is : {P : Type 0} (bits : List ℕ) (p : Option (PreprocessedTracesData (PlainCommitmentData BabyBear))) (kept : Option P)
       (points : CosetData BabyBear → ℕ) (point_at : CosetData BabyBear → ℕ → BabyBear) (made : P → Type 0) (holds : Scheme BabyBear → P → PlainCommitmentData BabyBear → List (Committed BabyBear) → Type 0) (b : Blowup) → b ≡ record { log_blowup = 1 }
       → bits ≡ log_heights_of tables
-      → IsPrepared (Commits points point_at made (holds (scheme bear_ring bear_inv bear_root (reduce 31) 27 b)) b) (table (length airs) (entry_at bear_ring.one (map (source_of (tool_declaration bear_ring) tool_trees (tool_interactions bear_ring)) airs) bits))
-      (committed_below bear_ring.one (map (source_of (tool_declaration bear_ring) tool_trees (tool_interactions bear_ring)) airs) bits (length airs)) p kept
+      → IsPrepared (Commits points point_at made (holds (scheme bear_ring bear_inv bear_root (reduce 31) 27 b)) b) (table (length airs) (entry_at bear_ring.one (map (source_of (tool_declaration bear_ring) (tool_trees bear_ring) (tool_interactions bear_ring)) airs) bits))
+      (committed_below bear_ring.one (map (source_of (tool_declaration bear_ring) (tool_trees bear_ring) (tool_interactions bear_ring)) airs) bits (length airs)) p kept
       → IsPrepared (λ es w. IsCommitment bear_ring points point_at (λ es c. c ≡ commitment_of tool_scheme es) made (holds tool_scheme) es w) (entries_of tables) (preprocessed_traces tables) p kept
   kept_is {P} bits p kept points point_at made holds blowup e l h =
       let n = as_many in
@@ -89,13 +89,13 @@ module _ (tables : List TableStatement) (airs : List (ToolAir BabyBear)) (same :
       let Prepared : Blowup → List (Source BabyBear) → List ℕ → ℕ → Type 0 = λ s sources bits count. IsPrepared (commits s) (table count (entry_at bear_ring.one sources bits)) (committed_below bear_ring.one sources bits count) p kept in
       subst (λ (s : Blowup). Prepared s (sources_of tables) (log_heights_of tables) (length tables)) e
       (subst (λ (s : List (Source BabyBear)). Prepared blowup s (log_heights_of tables) (length tables)) same
-      (subst (λ (k : List ℕ). Prepared blowup (map (source_of (tool_declaration bear_ring) tool_trees (tool_interactions bear_ring)) airs) k (length tables)) l
-      (subst (λ (k : ℕ). Prepared blowup (map (source_of (tool_declaration bear_ring) tool_trees (tool_interactions bear_ring)) airs) bits k) n h)))
+      (subst (λ (k : List ℕ). Prepared blowup (map (source_of (tool_declaration bear_ring) (tool_trees bear_ring) (tool_interactions bear_ring)) airs) k (length tables)) l
+      (subst (λ (k : ℕ). Prepared blowup (map (source_of (tool_declaration bear_ring) (tool_trees bear_ring) (tool_interactions bear_ring)) airs) bits k) n h)))
 
   -- and the setup refuses none of them
   pub not_refused : All TableWithin tables → (bits : List ℕ) → bits ≡ log_heights_of tables → (b : Blowup) → b ≡ record { log_blowup = 1 } → (e : SetupError PlainProverError)
       → FirstFails (degree_checks (length airs) (length bits)
-      ++ trace_checks bear_ring.one 0 (CommitFault (scheme bear_ring bear_inv bear_root (reduce 31) 27 b)) (map (source_of (tool_declaration bear_ring) tool_trees (tool_interactions bear_ring)) airs) bits (length airs)) e → ⊥
+      ++ trace_checks bear_ring.one 0 (CommitFault (scheme bear_ring bear_inv bear_root (reduce 31) 27 b)) (map (source_of (tool_declaration bear_ring) (tool_trees bear_ring) (tool_interactions bear_ring)) airs) bits (length airs)) e → ⊥
   not_refused within bits l b p e f =
       let n = as_many in
       none_first _ e

@@ -7,6 +7,7 @@ use Rattle.p3_field.specs.Domain.{CosetData}
 use Rattle.p3_field.specs.declared.baby_bear.BabyBear.{BabyBear}
 use Rattle.p3_matrix.specs.Matrix.{Rows}
 use Rattle.p3_lookup.specs.Lookup.{LookupData}
+use Rattle.p3_blake3_air.specs.Trees.{blake3_declaration, blake3_trees}
 use Rattle.plain_pcs.specs.Scheme.{PlainCommitmentData}
 use Rattle.plain_pcs.specs.Extension.{commitment_of}
 use Rattle.batch_tables.specs.Swap.{swap_declaration, swap_trees}
@@ -18,7 +19,7 @@ use Rattle.batch_setup.specs.Packed.{Source, packed_at}
 use Rattle.batch_setup.specs.Preprocessed.{committed_below, entry_at}
 use Rattle.tool_statement.specs.Config.{tool_scheme}
 use Rattle.tool_statement.specs.declared.table.TableStatement.{TableStatement}
-use Rattle.tool_statement.specs.declared.table.TableStatement.TheVariants.{Swap, Wheel, Take, Give}
+use Rattle.tool_statement.specs.declared.table.TableStatement.TheVariants.{Swap, Wheel, Take, Give, Hash}
 
 -- the logarithm of the table's height
 abbrev pub log_height_of : TableStatement → ℕ
@@ -26,19 +27,22 @@ log_height_of (Swap k a b x) = k
 log_height_of (Wheel k) = k
 log_height_of (Take k) = k
 log_height_of (Give k) = k
+log_height_of (Hash k) = k
 
--- a table has up to 2^10 rows, and a wheel at least two
+-- a table has up to 2^10 rows, a wheel at least two, and a table of compressions up to 2^3
 abbrev pub TableWithin : TableStatement → Type 0
 TableWithin (Swap k a b x) = k ≤ 10
 TableWithin (Wheel k) = (1 ≤ k) × (k ≤ 10)
 TableWithin (Take k) = k ≤ 10
 TableWithin (Give k) = k ≤ 10
+TableWithin (Hash k) = k ≤ 3
 
 abbrev pub publics_of : TableStatement → List BabyBear
 publics_of (Swap k a b x) = a ∷ b ∷ x ∷ []
 publics_of (Wheel k) = []
 publics_of (Take k) = []
 publics_of (Give k) = []
+publics_of (Hash k) = []
 
 -- what the table's AIR declares, its constraints and its interactions
 abbrev pub source_of_table : TableStatement → Source BabyBear
@@ -46,6 +50,7 @@ source_of_table (Swap k a b x) = record { declaration = swap_declaration; trees 
 source_of_table (Wheel k) = record { declaration = wheel_declaration bear_ring k; trees = wheel_trees; interactions = [] }
 source_of_table (Take k) = record { declaration = words_declaration 1; trees = []; interactions = take_interactions bear_ring }
 source_of_table (Give k) = record { declaration = words_declaration 2; trees = []; interactions = give_interactions bear_ring }
+source_of_table (Hash k) = record { declaration = blake3_declaration; trees = blake3_trees bear_ring; interactions = [] }
 
 abbrev pub sources_of : List TableStatement → List (Source BabyBear)
 sources_of tables = map source_of_table tables

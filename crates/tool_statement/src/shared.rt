@@ -28,7 +28,7 @@ pub type ToolCommon = SharedData<BabyBear, PlainCommitment<BabyBear>>;
 /// The tables' AIRs in order. The only error is running out of memory.
 pub fn airs_of(alloc: Global, tables: &[TableStatement]) -> Mem<Vec<ToolAir<BabyBear>>>
     requires { All TableWithin tables.now }
-    ensures { IfOk result (λ v. map (source_of (tool_declaration bear_ring) tool_trees (tool_interactions bear_ring)) v.items ≡ sources_of tables.now) }
+    ensures { IfOk result (λ v. map (source_of (tool_declaration bear_ring) (tool_trees bear_ring) (tool_interactions bear_ring)) v.items ≡ sources_of tables.now) }
 {
     let mut airs = Vec::new(alloc);
     for table in tables {
@@ -69,7 +69,7 @@ pub fn prover_data(
 ) -> Mem<ProverData<ToolConfig>>
     requires within { All TableWithin tables.now }
     requires scheme { config.now.pcs ≡ record { log_blowup = 1 } }
-    requires airs { map (source_of (tool_declaration bear_ring) tool_trees (tool_interactions bear_ring)) airs.now ≡ sources_of tables.now }
+    requires airs { map (source_of (tool_declaration bear_ring) (tool_trees bear_ring) (tool_interactions bear_ring)) airs.now ≡ sources_of tables.now }
     ensures common { IfOk result (λ d. read_common d.common ≡ tool_common tables.now) }
     ensures formed { IfOk result (λ d. WellFormed (map (tool_declaration bear_ring) airs.now) (read_common d.common)) }
     ensures kept { IfOk result (λ d. IsPrepared (λ es p. IsCommitment bear_ring ⟦<TwoAdicMultiplicativeCoset<BabyBear> as PolynomialSpace>⟧.points ⟦<TwoAdicMultiplicativeCoset<BabyBear> as PolynomialSpace>⟧.point_at
@@ -97,7 +97,7 @@ pub fn shared_data(
 ) -> Mem<ToolCommon>
     requires within { All TableWithin tables.now }
     requires scheme { config.now.pcs ≡ record { log_blowup = 1 } }
-    requires airs { map (source_of (tool_declaration bear_ring) tool_trees (tool_interactions bear_ring)) airs.now ≡ sources_of tables.now }
+    requires airs { map (source_of (tool_declaration bear_ring) (tool_trees bear_ring) (tool_interactions bear_ring)) airs.now ≡ sources_of tables.now }
     ensures common { IfOk result (λ c. read_common c ≡ tool_common tables.now) }
     ensures formed { IfOk result (λ c. WellFormed (map (tool_declaration bear_ring) airs.now) (read_common c)) }
 {

@@ -6,12 +6,13 @@ ghost use Rattle.tool_tables.specs.Tool.{tool_declaration, tool_interactions, to
 ghost use Rattle.tool_statement.specs.StatedTables.{TableWithin, log_height_of, publics_of, source_of_table};
 
 use batch_tables::SwapAir;
+use p3_blake3_air::Blake3Air;
 use p3_field::{BabyBear, Mem};
 use std::alloc::Global;
 use tool_tables::{GiveAir, TakeAir, ToolAir, WheelAir};
 
 /// What a proof file states of a table (own): its kind, the base-2 logarithm `k` of its number of rows, and its public values. `k` is 0 to
-/// 10, of a wheel 1 to 10.
+/// 10, of a wheel 1 to 10, of a table of compressions 0 to 3.
 #[derive(Clone, Copy, Debug, PartialEq, Eq)]
 pub enum TableStatement {
     /// A swap table.
@@ -40,6 +41,11 @@ pub enum TableStatement {
         /// The base-2 logarithm of the number of rows.
         k: u8,
     },
+    /// A table of compressions of BLAKE3.
+    Hash {
+        /// The base-2 logarithm of the number of rows.
+        k: u8,
+    },
 }
 
 impl TableStatement {
@@ -52,19 +58,21 @@ impl TableStatement {
             TableStatement::Wheel { k } => *k as usize,
             TableStatement::Take { k } => *k as usize,
             TableStatement::Give { k } => *k as usize,
+            TableStatement::Hash { k } => *k as usize,
         }
     }
 
     /// The table's AIR. The only error is running out of memory.
     pub fn air(&self, alloc: Global) -> Mem<ToolAir<BabyBear>>
         requires { TableWithin self.now }
-        ensures { IfOk result (λ a. source_of (tool_declaration bear_ring) tool_trees (tool_interactions bear_ring) a ≡ source_of_table self.now) }
+        ensures { IfOk result (λ a. source_of (tool_declaration bear_ring) (tool_trees bear_ring) (tool_interactions bear_ring) a ≡ source_of_table self.now) }
     {
         match self {
             TableStatement::Swap { .. } => Ok(ToolAir::Swap(SwapAir)),
             TableStatement::Wheel { k } => Ok(ToolAir::Wheel(WheelAir::new(alloc, *k as usize)?)),
             TableStatement::Take { .. } => Ok(ToolAir::Take(TakeAir)),
             TableStatement::Give { .. } => Ok(ToolAir::Give(GiveAir)),
+            TableStatement::Hash { .. } => Ok(ToolAir::Hash(Blake3Air {})),
         }
     }
 
@@ -77,6 +85,7 @@ impl TableStatement {
             TableStatement::Wheel { .. } => Ok(Vec::new(alloc)),
             TableStatement::Take { .. } => Ok(Vec::new(alloc)),
             TableStatement::Give { .. } => Ok(Vec::new(alloc)),
+            TableStatement::Hash { .. } => Ok(Vec::new(alloc)),
         }
     }
 }

@@ -8,6 +8,7 @@ use crate::take::TakeAir;
 use crate::wheel::WheelAir;
 use batch_tables::SwapAir;
 use p3_air::{Air, BaseAir, InteractionBuilder};
+use p3_blake3_air::Blake3Air;
 use p3_field::{Field, FieldCore, Mem, RingCore};
 use p3_matrix::RowMajorMatrix;
 use std::alloc::Global;
@@ -23,6 +24,8 @@ pub enum ToolAir<F> {
     Take(TakeAir),
     /// A table that gives words.
     Give(GiveAir),
+    /// A table of compressions.
+    Hash(Blake3Air),
 }
 
 impl<F: Field> BaseAir<F> for ToolAir<F> {
@@ -34,6 +37,7 @@ impl<F: Field> BaseAir<F> for ToolAir<F> {
             ToolAir::Wheel(air) => BaseAir::<F>::width(air),
             ToolAir::Take(air) => BaseAir::<F>::width(air),
             ToolAir::Give(air) => BaseAir::<F>::width(air),
+            ToolAir::Hash(air) => BaseAir::<F>::width(air),
         }
     }
 
@@ -43,6 +47,7 @@ impl<F: Field> BaseAir<F> for ToolAir<F> {
             ToolAir::Wheel(air) => air.preprocessed_trace(alloc),
             ToolAir::Take(air) => air.preprocessed_trace(alloc),
             ToolAir::Give(air) => air.preprocessed_trace(alloc),
+            ToolAir::Hash(air) => air.preprocessed_trace(alloc),
         }
     }
 
@@ -52,6 +57,7 @@ impl<F: Field> BaseAir<F> for ToolAir<F> {
             ToolAir::Wheel(air) => BaseAir::<F>::preprocessed_width(air),
             ToolAir::Take(air) => BaseAir::<F>::preprocessed_width(air),
             ToolAir::Give(air) => BaseAir::<F>::preprocessed_width(air),
+            ToolAir::Hash(air) => BaseAir::<F>::preprocessed_width(air),
         }
     }
 
@@ -61,6 +67,7 @@ impl<F: Field> BaseAir<F> for ToolAir<F> {
             ToolAir::Wheel(air) => BaseAir::<F>::main_next_row_columns(air),
             ToolAir::Take(air) => BaseAir::<F>::main_next_row_columns(air),
             ToolAir::Give(air) => BaseAir::<F>::main_next_row_columns(air),
+            ToolAir::Hash(air) => BaseAir::<F>::main_next_row_columns(air),
         }
     }
 
@@ -70,6 +77,7 @@ impl<F: Field> BaseAir<F> for ToolAir<F> {
             ToolAir::Wheel(air) => BaseAir::<F>::preprocessed_next_row_columns(air),
             ToolAir::Take(air) => BaseAir::<F>::preprocessed_next_row_columns(air),
             ToolAir::Give(air) => BaseAir::<F>::preprocessed_next_row_columns(air),
+            ToolAir::Hash(air) => BaseAir::<F>::preprocessed_next_row_columns(air),
         }
     }
 
@@ -79,6 +87,7 @@ impl<F: Field> BaseAir<F> for ToolAir<F> {
             ToolAir::Wheel(air) => BaseAir::<F>::num_public_values(air),
             ToolAir::Take(air) => BaseAir::<F>::num_public_values(air),
             ToolAir::Give(air) => BaseAir::<F>::num_public_values(air),
+            ToolAir::Hash(air) => BaseAir::<F>::num_public_values(air),
         }
     }
 
@@ -88,6 +97,7 @@ impl<F: Field> BaseAir<F> for ToolAir<F> {
             ToolAir::Wheel(air) => air.periodic_columns(),
             ToolAir::Take(air) => air.periodic_columns(),
             ToolAir::Give(air) => air.periodic_columns(),
+            ToolAir::Hash(air) => air.periodic_columns(),
         }
     }
 
@@ -97,6 +107,7 @@ impl<F: Field> BaseAir<F> for ToolAir<F> {
             ToolAir::Wheel(air) => BaseAir::<F>::num_constraints(air),
             ToolAir::Take(air) => BaseAir::<F>::num_constraints(air),
             ToolAir::Give(air) => BaseAir::<F>::num_constraints(air),
+            ToolAir::Hash(air) => BaseAir::<F>::num_constraints(air),
         }
     }
 
@@ -106,6 +117,7 @@ impl<F: Field> BaseAir<F> for ToolAir<F> {
             ToolAir::Wheel(air) => BaseAir::<F>::max_constraint_degree(air),
             ToolAir::Take(air) => BaseAir::<F>::max_constraint_degree(air),
             ToolAir::Give(air) => BaseAir::<F>::max_constraint_degree(air),
+            ToolAir::Hash(air) => BaseAir::<F>::max_constraint_degree(air),
         }
     }
 
@@ -115,6 +127,7 @@ impl<F: Field> BaseAir<F> for ToolAir<F> {
             ToolAir::Wheel(air) => BaseAir::<F>::assumes_boolean_trace(air),
             ToolAir::Take(air) => BaseAir::<F>::assumes_boolean_trace(air),
             ToolAir::Give(air) => BaseAir::<F>::assumes_boolean_trace(air),
+            ToolAir::Hash(air) => BaseAir::<F>::assumes_boolean_trace(air),
         }
     }
 
@@ -128,7 +141,7 @@ impl<F: Field> BaseAir<F> for ToolAir<F> {
 }
 
 impl<F: Field> Air<F> for ToolAir<F> {
-    ghost trees = { tool_trees };
+    ghost trees = { tool_trees F.ring };
 
     ghost interactions = { tool_interactions F.ring };
 
@@ -138,6 +151,7 @@ impl<F: Field> Air<F> for ToolAir<F> {
             ToolAir::Wheel(air) => air.eval(builder),
             ToolAir::Take(air) => air.eval(builder),
             ToolAir::Give(air) => air.eval(builder),
+            ToolAir::Hash(air) => air.eval(builder),
         }
     }
 

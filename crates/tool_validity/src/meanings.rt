@@ -55,9 +55,9 @@ pub fn a_jobs_table_fits<F>()
 pub fn every_job_is_valid<C, F, E, Com, PD>()
     ensures { (c : Setting C F E Com) (inverse : E → E) (eq : F → F → Bool) (job : List (JobTable F)) (airs : List (ToolAir F)) (budgets : List ℕ) (commitment_of : List (CosetData F × Rows F) → Com) (common : Common F Com) (kept : Option PD)
         → ServesJobs c inverse → IsJob eq job → AreAirsOf c.field.ring job airs
-        → let sources = map (source_of (tool_declaration c.field.ring) tool_trees (tool_interactions c.field.ring)) airs in let bits = map log_height_of job in
+        → let sources = map (source_of (tool_declaration c.field.ring) (tool_trees c.field.ring) (tool_interactions c.field.ring)) airs in let bits = map log_height_of job in
         common.lookups ≡ table (length airs) (packed_at c.field.ring 0 sources bits budgets)
         → IsPrepared {P = PD} (λ es w. w.0 ≡ commitment_of es) (table (length airs) (entry_at c.field.ring.one sources bits)) (committed_below c.field.ring.one sources bits (length airs)) common.preprocessed kept
         → WellFormed (map (tool_declaration c.field.ring) airs) common
-        → Valid c eq commitment_of (record { tables = tables_of (tool_declaration c.field.ring) tool_trees airs; publics = map publics_of job; common = common }) (map (trace_of c.field.ring) job) bits }
+        → Valid c eq commitment_of (record { tables = tables_of (tool_declaration c.field.ring) (tool_trees c.field.ring) airs; publics = map publics_of job; common = common }) (map (trace_of c.field.ring) job) bits }
 {}

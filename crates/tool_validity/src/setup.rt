@@ -24,10 +24,10 @@ use p3_uni_stark::{StarkGenericConfig, Val};
 pub fn every_job_that_is_set_up_is_valid<SC: StarkGenericConfig>()
     ensures { (config : SC) (job : List (JobTable SC.Val)) (airs : List (ToolAir SC.Val)) (budgets : List ℕ) (common : Common SC.Val SC.Pcs.Commitment) (kept : Option SC.Pcs.ProverData)
         → let c = ⟦<SC as Settings>⟧.setting config in ServesJobs c SC.Challenge.inv → IsJob SC.Val.eq job → AreAirsOf SC.Val.ring job airs
-        → let sources = map (source_of (tool_declaration SC.Val.ring) tool_trees (tool_interactions SC.Val.ring)) airs in let bits = map log_height_of job in
+        → let sources = map (source_of (tool_declaration SC.Val.ring) (tool_trees SC.Val.ring) (tool_interactions SC.Val.ring)) airs in let bits = map log_height_of job in
         common.lookups ≡ table (length airs) (packed_at SC.Val.ring 0 sources bits budgets)
         → IsPrepared (λ es p. IsCommitment SC.Val.ring ⟦<<SC::Pcs as Pcs<SC::Challenge, SC::Challenger>>::Domain as PolynomialSpace>⟧.points ⟦<<SC::Pcs as Pcs<SC::Challenge, SC::Challenger>>::Domain as PolynomialSpace>⟧.point_at (SC.Pcs.commits (SC.pcs_of config)) (SC.Pcs.made (SC.pcs_of config)) (SC.Pcs.holds (SC.pcs_of config)) es p)
         (table (length airs) (entry_at SC.Val.ring.one sources bits)) (committed_below SC.Val.ring.one sources bits (length airs)) common.preprocessed kept
         → WellFormed (map (tool_declaration SC.Val.ring) airs) common
-        → Valid c SC.Val.eq (SC.Pcs.commitment_of (SC.pcs_of config)) (record { tables = tables_of (tool_declaration SC.Val.ring) tool_trees airs; publics = map publics_of job; common = common }) (map (trace_of SC.Val.ring) job) bits }
+        → Valid c SC.Val.eq (SC.Pcs.commitment_of (SC.pcs_of config)) (record { tables = tables_of (tool_declaration SC.Val.ring) (tool_trees SC.Val.ring) airs; publics = map publics_of job; common = common }) (map (trace_of SC.Val.ring) job) bits }
 {}

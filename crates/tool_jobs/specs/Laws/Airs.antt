@@ -23,7 +23,7 @@ cells (Some m) = length m.values
 
 module _ {F : Type 0} (r : Ring F) where
   abbrev pub source_of_air : ToolAir F → Source F
-  source_of_air = source_of (tool_declaration r) tool_trees (tool_interactions r)
+  source_of_air = source_of (tool_declaration r) (tool_trees r) (tool_interactions r)
 
   same-width : {a b : Source F} → a ≡ b → a.declaration.width ≡ b.declaration.width
   same-width e = ap (λ (s : Source F). s.declaration.width) e

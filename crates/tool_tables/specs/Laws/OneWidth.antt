@@ -7,7 +7,7 @@ use Rattle.p3_lookup.specs.Bus.{HaveOneWidth}
 use Rattle.p3_lookup.specs.Lookup.{LookupData, lookups_of}
 use Rattle.tool_tables.specs.Tool.{tool_interactions}
 use Rattle.tool_tables.specs.declared.tool.ToolAir.{ToolAir}
-use Rattle.tool_tables.specs.declared.tool.ToolAir.TheVariants.{Swap, Wheel, Take, Give}
+use Rattle.tool_tables.specs.declared.tool.ToolAir.TheVariants.{Swap, Wheel, Take, Give, Hash}
 
 -- lookups whose tuples have one field
 abbrev pub SendsWords : {F : Type 0} → LookupData F → Type 0
@@ -22,6 +22,7 @@ module _ {F : Type 0} (r : Ring F) where
   sends_words (Wheel a) = search rules
   sends_words (Take a) = search rules
   sends_words (Give a) = search rules
+  sends_words (Hash a) = search rules
 
   all_send_words : (airs : List (ToolAir F)) → All SendsWords (flat_map (λ a. lookups_of (tool_interactions r a)) airs)
   all_send_words [] = All-nil SendsWords

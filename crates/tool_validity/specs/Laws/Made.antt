@@ -15,9 +15,9 @@ use Rattle.tool_validity.specs.Laws.Messages.{own_lookups}
 
 module _ {F : Type 0} (r : Ring F) where
   abbrev pub sources : List (ToolAir F) → List (Source F)
-  sources airs = map (source_of (tool_declaration r) tool_trees (tool_interactions r)) airs
+  sources airs = map (source_of (tool_declaration r) (tool_trees r) (tool_interactions r)) airs
 
-  air_source : (j : JobTable F) (air : ToolAir F) → IsAirOf r j air → source_of (tool_declaration r) tool_trees (tool_interactions r) air ≡ source_of_job r j
+  air_source : (j : JobTable F) (air : ToolAir F) → IsAirOf r j air → source_of (tool_declaration r) (tool_trees r) (tool_interactions r) air ≡ source_of_job r j
   air_source (swap_of k a b) (Swap air) h = refl
   air_source (wheel_of k) (Wheel air) h = λ i. record { declaration = wheel_over r (h.0 i) (h.1 i); trees = wheel_trees; interactions = [] }
   air_source (take_of words) (Take air) h = refl
@@ -30,7 +30,7 @@ module _ {F : Type 0} (r : Ring F) where
   sources_are (j ∷ job) [] h = absurd h
   sources_are (j ∷ job) (air ∷ airs) h = λ i. air_source j air h.0 i ∷ sources_are job airs h.1 i
 
-  pub tables_are : (job : List (JobTable F)) (airs : List (ToolAir F)) → AreAirsOf r job airs → tables_of (tool_declaration r) tool_trees airs ≡ map (job_table r) job
+  pub tables_are : (job : List (JobTable F)) (airs : List (ToolAir F)) → AreAirsOf r job airs → tables_of (tool_declaration r) (tool_trees r) airs ≡ map (job_table r) job
   tables_are [] [] h = refl
   tables_are [] (air ∷ airs) h = absurd h
   tables_are (j ∷ job) [] h = absurd h
@@ -38,7 +38,7 @@ module _ {F : Type 0} (r : Ring F) where
 
   pub as_many : (job : List (JobTable F)) (airs : List (ToolAir F)) → AreAirsOf r job airs → length airs ≡ length job
   as_many job airs h =
-      sym (length-map airs (source_of (tool_declaration r) tool_trees (tool_interactions r))) ∙ (ap length (sources_are job airs h) ∙ length-map job (source_of_job r))
+      sym (length-map airs (source_of (tool_declaration r) (tool_trees r) (tool_interactions r))) ∙ (ap length (sources_are job airs h) ∙ length-map job (source_of_job r))
 
   -- one lookup at most is packed as it is
   own_packed : (j : JobTable F) (masks bits asked : ℕ) → packed_lookups r masks bits asked (source_of_job r j) ≡ own_lookups r j

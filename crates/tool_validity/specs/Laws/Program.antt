@@ -84,10 +84,10 @@ module _ {S F E C P : Type 0} (c : Setting S F E C) (inverse : E → E) (Z : Ser
       formed_there : WellFormed (map (λ (t : Table F). t.declaration) s.tables) common
       formed_there =
           subst (λ ds. WellFormed ds common)
-          (sym (maps (λ (t : Table F). t.declaration) (λ (a : ToolAir F). record { declaration = tool_declaration r a; trees = tool_trees a }) (tool_declaration r) (λ a. refl) airs)
+          (sym (maps (λ (t : Table F). t.declaration) (λ (a : ToolAir F). record { declaration = tool_declaration r a; trees = tool_trees r a }) (tool_declaration r) (λ a. refl) airs)
           ∙ ap (map (λ (t : Table F). t.declaration)) (tables_are r job airs A)) formed
 
-      pub program_is_valid : Valid c eq commitment_of (stated_with (tables_of (tool_declaration r) tool_trees airs)) traces bits
+      pub program_is_valid : Valid c eq commitment_of (stated_with (tables_of (tool_declaration r) (tool_trees r) airs)) traces bits
       program_is_valid =
           subst (λ tables. Valid c eq commitment_of (stated_with tables) traces bits) (sym (tables_are r job airs A))
           (job_is_valid c inverse Z eq job J common (lookups ∙ packed_are r job airs 0 bits budgets A) commitment_of formed_there committed counted listed)
@@ -98,6 +98,6 @@ pub set_up_is_valid : {S F E C P : Type 0} (c : Setting S F E C) (inverse : E �
     (commitment_of : List (CosetData F × Rows F) → C) (one_commitment : (es : List (CosetData F × Rows F)) (w : C) → commits es w → w ≡ commitment_of es) (common : Common F C) (kept : Option P)
     → IsPrepared (λ es w. IsCommitment c.field.ring points point_at commits made holds es w) (table (length airs) (entry_at c.field.ring.one (sources c.field.ring airs) (map log_height_of job))) (committed_below c.field.ring.one (sources c.field.ring airs) (map log_height_of job) (length airs)) common.preprocessed kept
     → common.lookups ≡ table (length airs) (packed_at c.field.ring 0 (sources c.field.ring airs) (map log_height_of job) budgets) → WellFormed (map (tool_declaration c.field.ring) airs) common
-    → Valid c eq commitment_of (record { tables = tables_of (tool_declaration c.field.ring) tool_trees airs; publics = map publics_of job; common = common }) (map (trace_of c.field.ring) job) (map log_height_of job)
+    → Valid c eq commitment_of (record { tables = tables_of (tool_declaration c.field.ring) (tool_trees c.field.ring) airs; publics = map publics_of job; common = common }) (map (trace_of c.field.ring) job) (map log_height_of job)
 set_up_is_valid c inverse Z eq job J airs A budgets points point_at commits made holds commitment_of one_commitment common kept prepared lookups formed =
     program_is_valid c inverse Z eq job J airs A budgets (λ es w. IsCommitment c.field.ring points point_at commits made holds es w) commitment_of (λ es w K. one_commitment es w.0 K.commitment_is) common kept prepared lookups formed

@@ -33,17 +33,17 @@ use Rattle.proof_text.specs.ProofText.{ToolProofData}
 abbrev pub as_table : Source BabyBear → Table BabyBear
 as_table s = record { declaration = s.declaration; trees = s.trees }
 
-of_airs : (airs : List (ToolAir BabyBear)) → tables_of (tool_declaration bear_ring) tool_trees airs ≡ map as_table (map (source_of (tool_declaration bear_ring) tool_trees (tool_interactions bear_ring)) airs)
+of_airs : (airs : List (ToolAir BabyBear)) → tables_of (tool_declaration bear_ring) (tool_trees bear_ring) airs ≡ map as_table (map (source_of (tool_declaration bear_ring) (tool_trees bear_ring) (tool_interactions bear_ring)) airs)
 of_airs [] = refl
-of_airs (a ∷ airs) = ap (λ (ts : List (Table BabyBear)). record { declaration = tool_declaration bear_ring a; trees = tool_trees a } ∷ ts) (of_airs airs)
+of_airs (a ∷ airs) = ap (λ (ts : List (Table BabyBear)). record { declaration = tool_declaration bear_ring a; trees = tool_trees bear_ring a } ∷ ts) (of_airs airs)
 
 of_tables : (tables : List TableStatement) → map as_table (sources_of tables) ≡ map table_of tables
 of_tables [] = refl
 of_tables (t ∷ tables) = ap (λ (ts : List (Table BabyBear)). table_of t ∷ ts) (of_tables tables)
 
 -- the AIRs' tables are those of the statement
-pub same_tables : (tables : List TableStatement) (airs : List (ToolAir BabyBear)) → map (source_of (tool_declaration bear_ring) tool_trees (tool_interactions bear_ring)) airs ≡ sources_of tables
-    → tables_of (tool_declaration bear_ring) tool_trees airs ≡ map table_of tables
+pub same_tables : (tables : List TableStatement) (airs : List (ToolAir BabyBear)) → map (source_of (tool_declaration bear_ring) (tool_trees bear_ring) (tool_interactions bear_ring)) airs ≡ sources_of tables
+    → tables_of (tool_declaration bear_ring) (tool_trees bear_ring) airs ≡ map table_of tables
 same_tables tables airs e = of_airs airs ∙ (ap (map as_table) e ∙ of_tables tables)
 
 abbrev pub ToolSetting : Type 0
@@ -101,11 +101,11 @@ inside (u ∷ us) (suc i) t e = let h = inside us i t e in omega (arith, h)
 abbrev pub EndsAt : ToolSetting → ℕ → Statement BabyBear (PlainCommitmentData BabyBear) → ToolProofData → List (ToolAir BabyBear) → Type 0
 EndsAt c b s p airs =
     (IsAlphaUnlucky c b s p → ⊥) → (IsZetaUnlucky c b s p → ⊥)
-    → (i : ℕ) (air : ToolAir BabyBear) (a d x : BabyBear) → i < length airs → tool_trees (get_or airs i air) ≡ swap_trees → get_or s.publics i [] ≡ swap_publics a d x
+    → (i : ℕ) (air : ToolAir BabyBear) (a d x : BabyBear) → i < length airs → tool_trees bear_ring (get_or airs i air) ≡ swap_trees → get_or s.publics i [] ≡ swap_publics a d x
     → EndsSwapped (get_or p.degree_bits i 0) a d x
 
 pub ends_are : (c : ToolSetting) (b : ℕ) (tables : List TableStatement) (airs : List (ToolAir BabyBear)) (ts : List (Table BabyBear)) (ps : List (List BabyBear)) (m : Common BabyBear (PlainCommitmentData BabyBear)) (p : ToolProofData)
-    → c ≡ tool_setting → b ≡ 1 → map (source_of (tool_declaration bear_ring) tool_trees (tool_interactions bear_ring)) airs ≡ sources_of tables
+    → c ≡ tool_setting → b ≡ 1 → map (source_of (tool_declaration bear_ring) (tool_trees bear_ring) (tool_interactions bear_ring)) airs ≡ sources_of tables
     → ts ≡ map table_of tables → ps ≡ publics_lists tables → m ≡ tool_common tables
     → EndsAt c b (record { tables = ts; publics = ps; common = m }) p airs → SwapsEnd tables p
 ends_are c b tables airs ts ps m p e f same t q k h na nz i l a d x at =
@@ -113,11 +113,11 @@ ends_are c b tables airs ts ps m p e f same t q k h na nz i l a d x at =
     let ends = subst (λ (u : Statement BabyBear (PlainCommitmentData BabyBear)). EndsAt tool_setting 1 u p airs) s
     (subst (λ (u : ToolSetting). EndsAt u 1 (record { tables = ts; publics = ps; common = m }) p airs) e
     (subst (λ (v : ℕ). EndsAt c v (record { tables = ts; publics = ps; common = m }) p airs) f h)) in
-    let long : length airs ≡ length tables = sym (length-map airs (source_of (tool_declaration bear_ring) tool_trees (tool_interactions bear_ring))) ∙ (ap length same ∙ length-map tables source_of_table) in
+    let long : length airs ≡ length tables = sym (length-map airs (source_of (tool_declaration bear_ring) (tool_trees bear_ring) (tool_interactions bear_ring))) ∙ (ap length same ∙ length-map tables source_of_table) in
     let here : get_or tables i (Take 0) ≡ Swap l a d x = found tables i (Swap l a d x) at in
     let within : i < length tables = inside tables i (Swap l a d x) at in
     let room : i < length airs = omega (arith, within, long) in
-    let source : source_of (tool_declaration bear_ring) tool_trees (tool_interactions bear_ring) (get_or airs i (GiveTable (record {}))) ≡ source_of_table (Swap l a d x) =
-    sym (get_or-map (source_of (tool_declaration bear_ring) tool_trees (tool_interactions bear_ring)) airs i (GiveTable (record {})) no_source room)
+    let source : source_of (tool_declaration bear_ring) (tool_trees bear_ring) (tool_interactions bear_ring) (get_or airs i (GiveTable (record {}))) ≡ source_of_table (Swap l a d x) =
+    sym (get_or-map (source_of (tool_declaration bear_ring) (tool_trees bear_ring) (tool_interactions bear_ring)) airs i (GiveTable (record {})) no_source room)
     ∙ (ap (λ (us : List (Source BabyBear)). get_or us i no_source) same ∙ (get_or-map source_of_table tables i (Take 0) no_source within ∙ ap source_of_table here)) in
     ends na nz i (GiveTable (record {})) a d x room (ap (λ (u : Source BabyBear). u.trees) source) (get_or-map publics_of tables i (Take 0) [] within ∙ ap publics_of here)

@@ -6,4 +6,4 @@ use Rattle.tool_statement.specs.StatedTables.{sources_of}
 use Rattle.tool_statement.proofs.shared.airs_of.Given as goal
 
 abbrev pub invariant-loop-table : goal.invariant-loop-table
-invariant-loop-table l = map (source_of (tool_declaration bear_ring) tool_trees (tool_interactions bear_ring)) l.airs.items ≡ sources_of (take l.table-index l.tables)
+invariant-loop-table l = map (source_of (tool_declaration bear_ring) (tool_trees bear_ring) (tool_interactions bear_ring)) l.airs.items ≡ sources_of (take l.table-index l.tables)
