@@ -37,7 +37,7 @@ constraints_here : {F : Type 0} (f : TwoAdic F) → All ReadsMainHere (blake3_tr
 constraints_here f = reads_all f.ring IsMainHere (λ _. ⊥) (λ k lt. tt)
 
 -- where a table of 9168 columns holds with these constraints, each of its rows is that of one compression
-row_is_compression : {F E : Type 0} (f : TwoAdic F) (e : Extension F E) (top : ℕ) (inverse : E → E) (L : FieldsLaws f e top inverse) (t : CommittedTable F E) → RowMeans f.ring
+pub row_is_compression : {F E : Type 0} (f : TwoAdic F) (e : Extension F E) (top : ℕ) (inverse : E → E) (L : FieldsLaws f e top inverse) (t : CommittedTable F E) → RowMeans f.ring
     → length t.main ≡ 9168 → Holds f e t (blake3_trees f.ring) → (i : ℕ) → i < rows_of t → (x : Input) × AreWords x × (main_row f t i ≡ trace_row f.ring x)
 row_is_compression {F = F} f e top inverse L t means wide holds i below =
     let at = λ (g : List F). val f.ring g (point f.ring f.root (subgroup f.ring t.log_height) i) in
