@@ -37,19 +37,19 @@ use Rattle.tool_jobs.specs.Laws.Statements.{statements-heights}
 use Rattle.tool_jobs.specs.Stated.{statement_of}
 use Rattle.tool_jobs.specs.Unbalanced.{same_word}
 use Rattle.tool_statement.specs.Config.{backend_of, tool_backend, tool_scheme, tool_setting}
-use Rattle.tool_statement.specs.StatedTables.{entries_of, log_heights_of, preprocessed_traces, publics_lists, sources_of, tool_common, tool_statement}
+use Rattle.tool_statement.specs.StatedTables.{entries_of, log_heights_of, preprocessed_traces, publics_lists, sources_of, table_of, tool_common, tool_statement}
 use Rattle.tool_statement.specs.declared.table.TableStatement.{TableStatement}
 use Rattle.tool_tables.specs.Tool.{tool_declaration, tool_trees}
 use Rattle.tool_tables.specs.declared.tool.ToolAir.{ToolAir}
 use Rattle.tool_validity.specs.Job.{IsBalancedJob, JobTable, log_height_of, trace_of}
-use Rattle.tool_verifier.specs.FileAnswer.{HaveStatedHeights, IsFileAnswer}
+use Rattle.tool_verifier.specs.FileAnswer.{HaveStatedHeights, IsFileAnswer, PrintCompressions, SwapsEnd}
 use Rattle.tool_prover.specs.JobAnswer.{DrawsInside, DrawsOutside, IsJobProof, IsOutcome, IsTold, drawn_point}
 use Rattle.tool_prover.specs.JobBatch.{job_batch}
 use Rattle.tool_prover.specs.Outside.{AvoidsRows}
 use Rattle.tool_prover.specs.Laws.Drawn.{outside_is}
 use Rattle.tool_prover.specs.Laws.Granted.{plain_backend}
 use Rattle.tool_prover.specs.Laws.Refused.{told}
-use Rattle.tool_verifier.specs.Laws.Stated.{EndsAt, ToolSetting, ends_are, meant_is, same_tables}
+use Rattle.tool_verifier.specs.Laws.Stated.{ToolSetting, formed_is}
 use Rattle.tool_prover.proofs.Setup.{airs_in_them, instances_long, kept_there, one_bit, prover_with, publics_in_them, same_batch, scheme_with, source_of_air, statement_is, valid}
 
 -- the prover's side of the plain scheme with this blowup
@@ -183,16 +183,6 @@ module _ (job : List (JobTable BabyBear)) (tables : List TableStatement) (c : To
   accepted_batch : (q : ToolProofData) → AcceptsThen q → DrawsOutside job q → Accepted c (backend_of (scheme_with b)) batch.statement q
   accepted_batch q h d = h (omega arith) batch_valid (outside_in q d) (λ i o l j p m k x n f. f)
 
-  abbrev about : List (ToolAir BabyBear) → List (List BabyBear) → Statement BabyBear (PlainCommitmentData BabyBear)
-  about xs ps = stated (tables_of (tool_declaration bear_ring) (tool_trees bear_ring) xs) ps written
-
-  pub accepted_airs : (q : ToolProofData) → AcceptsThen q → DrawsOutside job q → (xs : List (ToolAir BabyBear)) → xs ≡ airs → (ps : List (List BabyBear)) → ps ≡ publics
-      → Accepted c (backend_of (scheme_with b)) (stated (tables_of (tool_declaration bear_ring) (tool_trees bear_ring) xs) ps written) q
-  accepted_airs q h d xs e ps f =
-      let own = airs_in_them job U.within airs airs_there traces U.traces_are publics publics_there written common_there instances U.instances_are c U.setting_is b U.scheme_is in
-      let said = publics_in_them job U.within airs airs_there traces U.traces_are publics publics_there written common_there instances U.instances_are c U.setting_is b U.scheme_is in
-      subst (λ (s : Statement BabyBear (PlainCommitmentData BabyBear)). Accepted c (backend_of (scheme_with b)) s q) (λ i. about ((own ∙ sym e) i) ((said ∙ sym f) i)) (accepted_batch q h d)
-
   accepted_there : (q : ToolProofData) → AcceptsThen q → DrawsOutside job q → Accepted tool_setting tool_backend (tool_statement (map statement_of job)) q
   unfolding tool_backend
   accepted_there q h d =
@@ -208,24 +198,29 @@ module _ (job : List (JobTable BabyBear)) (tables : List TableStatement) (c : To
       let bits : q.degree_bits ≡ map log_height_of job = ap (λ (r : ToolProofData). r.degree_bits) B.proof_is in
       ap (λ (hs : List ℕ). get_or hs j 0) (statements-heights job ∙ sym bits)
 
+  -- what the common data is well-formed for
+  pub formed_there : WellFormed (map (λ t. t.declaration) (map table_of tables)) (tool_common tables)
+  formed_there = formed_is tables airs (read_common written) (tool_common tables) U.airs_are U.common_is U.formed
+
+  pub accepted_for : (q : ToolProofData) → AcceptsThen q → DrawsOutside job q → Accepted tool_setting tool_backend (tool_statement tables) q
+  accepted_for q h d = subst (λ ts. Accepted tool_setting tool_backend (tool_statement ts) q) (sym U.tables_are) (accepted_there q h d)
+
   -- so `verify` writes `accepted` for it
   pub outcome_there : (q : ToolProofData) → IsProved (backend_with b) batch q → DrawsOutside job q → AcceptsThen q
-      → (xs : List (ToolAir BabyBear)) → xs ≡ airs → (ps : List (List BabyBear)) → ps ≡ publics → HoldUnlessUnlucky c b.log_blowup (stated (tables_of (tool_declaration bear_ring) (tool_trees bear_ring) xs) ps written) q
-      → (ys : List (ToolAir BabyBear)) → ys ≡ airs → (rs : List (List BabyBear)) → rs ≡ publics → EndsAt c b.log_blowup (stated (tables_of (tool_declaration bear_ring) (tool_trees bear_ring) ys) rs written) q ys
-      → IsOutcome job (Some q)
+      → HoldUnlessUnlucky tool_setting 1 (tool_statement tables) q → SwapsEnd tables q → (HaveStatedHeights tables q.degree_bits → PrintCompressions tables q) → IsOutcome job (Some q)
   unfolding IsFileAnswer
-  outcome_there q P d h xs e ps f holds ys g rs k ends =
-      let one : b.log_blowup ≡ 1 = ap (λ (x : Blowup). x.log_blowup) U.scheme_is in
-      let first : map source_of_air xs ≡ sources_of (map statement_of job) = ap (map source_of_air) e ∙ airs_there in
-      let second : map source_of_air ys ≡ sources_of (map statement_of job) = ap (map source_of_air) g ∙ airs_there in
-      let B = proof_there q P in (
+  outcome_there q P d h holds swaps hashes =
+      let B = proof_there q P in
+      let heights = heights_there q B in
+      let same : tables ≡ map statement_of job = U.tables_are in (
         B,
         d,
         (
-          (heights_there q B, accepted_there q h d),
+          (heights, accepted_there q h d),
           record {
-            holds = meant_is c b.log_blowup _ _ _ _ _ _ q U.setting_is one (same_tables (map statement_of job) xs first) (f ∙ publics_there) common_there holds;
-            swaps = ends_are c b.log_blowup (map statement_of job) ys _ _ _ q U.setting_is one second (same_tables (map statement_of job) ys second) (k ∙ publics_there) common_there ends;
+            holds = subst (λ ts. HoldUnlessUnlucky tool_setting 1 (tool_statement ts) q) same holds;
+            swaps = subst (λ ts. SwapsEnd ts q) same swaps;
+            hashes = subst (λ ts. HaveStatedHeights ts q.degree_bits → PrintCompressions ts q) same hashes heights;
           },
           refl,
         ),
