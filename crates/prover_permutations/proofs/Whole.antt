@@ -4,12 +4,11 @@ use Rattle.std.specs.Prelude.{IfOk, IfSome, option_map, option_to_list, count_by
 use Rattle.std.specs.List.{flat_map}
 use Rattle.std.specs.Result.{IsErrAnd}
 use Rattle.std.proofs.lemmas.Bool.{cases_lt}
-use Rattle.std.proofs.lemmas.Grind.{flat_map-append}
 use Rattle.std.proofs.lemmas.List.{map-append}
 use Rattle.std.proofs.lemmas.List.Sums.{sum_by-cons}
 use Rattle.p3_field.specs.Checks.{FirstFails, NoneFails}
 use Rattle.p3_field.specs.Domain.{CosetData}
-use Rattle.p3_field.specs.Laws.Tables.{get_or-table, table_more, table_push, table_same}
+use Rattle.p3_field.specs.Laws.Tables.{get_or-table, table_push, table_same}
 use Rattle.p3_field.specs.Poly.{table}
 use Rattle.p3_field.specs.Ring.{Ring}
 use Rattle.p3_matrix.specs.Matrix.{Rows, height}
@@ -29,6 +28,7 @@ use Rattle.committed_tables.specs.Fields.{FieldsLaws}
 use Rattle.committed_tables.specs.Traces.{IsSomeTall}
 use Rattle.honest_proofs.specs.HonestProof.{AreCanonical, HasFractions, IsDenominatorZero, argument_of, challenges_at, pair, permutation_matrices, state_at_pair, terminal_of, terminals}
 use Rattle.honest_proofs.specs.Laws.Answered.{fault_is}
+use Rattle.honest_proofs.specs.Laws.Flat.{flat_more, flat_same}
 use Rattle.honest_proofs.specs.Laws.Ground.{denominator_event, one_lookup}
 use Rattle.honest_proofs.specs.Laws.Staged.{IsPair, one_pair}
 use Rattle.batch_proving.specs.Batch.{Batch, IsTracedAll, all_challenges, all_permutations, table_at, table_count}
@@ -37,21 +37,6 @@ use Rattle.batch_proving.specs.Verdict.{IsProverRefusal, IsProverVerdict}
 use Rattle.batch_proving.specs.declared.error.ProvingError.{ProvingError}
 use Rattle.batch_proving.specs.declared.error.ProvingError.TheVariants.{LookupDenominatorZero, MultiplicityBound, OutOfMemory, Pcs, WitnessNotFound}
 use Rattle.prover_permutations.specs.Columns.{AreMade, FractionsOf, IsFirstZeroIn, IsAllMade, IsMade, IsMadeMore, IsReady, IsZeroAt, NoneMade, challenges_of}
-
-append_nothing : {A : Type 0} (xs : List A) → xs ++ [] ≡ xs
-append_nothing [] = refl
-append_nothing (x ∷ xs) = ap (λ ys. x ∷ ys) (append_nothing xs)
-
--- lists that are joined, and one behind them
-joined_more : {Y : Type 0} (f : ℕ → List Y) (n : ℕ) → flat_map f (table n (λ i. i)) ++ f n ≡ flat_map f (table (n + 1) (λ i. i))
-joined_more f n =
-    ap (λ ys. flat_map f (table n (λ i. i)) ++ ys) (sym (append_nothing (f n)))
-    ∙ (sym (flat_map-append f (table n (λ i. i)) (n ∷ [])) ∙ ap (flat_map f) (table_more n (λ i. i)))
-
--- the same lists are joined
-joined_same : {Y : Type 0} (f g : ℕ → List Y) (n : ℕ) (q : ℕ → ℕ) → ((i : ℕ) → i < n → f (q i) ≡ g (q i)) → flat_map f (table n q) ≡ flat_map g (table n q)
-joined_same f g zero q h = refl
-joined_same f g (suc n) q h = λ k. h zero (omega arith) k ++ joined_same f g n (λ i. q (suc i)) (λ i l. h (suc i) (omega (arith, l))) k
 
 -- what is made of no table, and of one table more
 module _ {S F E C : Type 0} (b : Batch S F E C) (challenges : List (List E)) where
@@ -70,7 +55,7 @@ module _ {S F E C : Type 0} (b : Batch S F E C) (challenges : List (List E)) whe
           | inl less ↦ A.fractions i less
           | inr over ↦ let e : n ≡ i = omega (arith, over, h) in subst (FractionsOf b challenges) e M.fractions
         ];
-        columns_are = added ∙ ((λ k. A.columns_are k ++ M.matrix k) ∙ joined_more f n);
+        columns_are = added ∙ ((λ k. A.columns_are k ++ M.matrix k) ∙ flat_more f n);
         terminals_are = ap (map value) pushed ∙ (map-append value terminals (terminal ∷ []) ∙ table_push n t (map value terminals) (value terminal) A.terminals_are M.terminal);
       }
 
@@ -182,7 +167,7 @@ module _ {S F E C : Type 0} (b : Batch S F E C) (B : IsTracedAll b) (K : AreCano
   columns_drawn : (columns : List (CosetData F × Rows F)) (ts : List (Option (LookupTerminal E))) → AreMade b challenges (table_count b) columns ts → (v : Option F) → IsPairGroundOf b v → columns ≡ all_permutations b v
   columns_drawn columns ts A v also =
       A.columns_are
-      ∙ joined_same (λ i. permutation_matrices b.setting b.prover (table_at b i) (challenges_of b challenges i)) (λ i. permutation_matrices b.setting b.prover (table_at b i) (drawn_at v i)) (table_count b) (λ i. i)
+      ∙ flat_same (λ i. permutation_matrices b.setting b.prover (table_at b i) (challenges_of b challenges i)) (λ i. permutation_matrices b.setting b.prover (table_at b i) (drawn_at v i)) (table_count b) (λ i. i)
       (λ i h. ap (permutation_matrices b.setting b.prover (table_at b i)) (own v also i h))
 
   terminals_drawn : (columns : List (CosetData F × Rows F)) (ts : List (Option (LookupTerminal E))) → AreMade b challenges (table_count b) columns ts → (v : Option F) → IsPairGroundOf b v
