@@ -1,36 +1,25 @@
 -- What is made of all tables of a batch, for the challenges that are drawn.
-use Rattle.std.proofs.Common.{◌≡◌, ℕ, zero, suc, ◌+◌, ◌*◌, ◌^◌, ◌<◌, List, [], ◌∷◌, ◌++◌, length, get_or, map, Option, None, Some, Result, Ok, Err, inl, inr, refl, sym, ◌∙◌, ap, subst, arith}
-use Rattle.std.specs.Prelude.{IfOk, IfSome, option_map, option_to_list, count_by, cond}
-use Rattle.std.specs.List.{flat_map}
+use Rattle.std.proofs.Common.{◌≡◌, ℕ, ◌+◌, ◌*◌, ◌^◌, ◌<◌, List, [], ◌∷◌, ◌++◌, length, get_or, map, Option, None, Some, Result, Ok, Err, inl, inr, refl, sym, ◌∙◌, ap, subst, arith}
+use Rattle.std.specs.Prelude.{IfOk, IfSome, option_map, option_to_list}
 use Rattle.std.specs.Result.{IsErrAnd}
 use Rattle.std.proofs.lemmas.Bool.{cases_lt}
 use Rattle.std.proofs.lemmas.List.{map-append}
-use Rattle.std.proofs.lemmas.List.Sums.{sum_by-cons}
 use Rattle.p3_field.specs.Checks.{FirstFails, NoneFails}
 use Rattle.p3_field.specs.Domain.{CosetData}
 use Rattle.p3_field.specs.Laws.Tables.{get_or-table, table_push, table_same}
-use Rattle.p3_field.specs.Poly.{table}
-use Rattle.p3_field.specs.Ring.{Ring}
 use Rattle.p3_matrix.specs.Matrix.{Rows, height}
 use Rattle.p3_air.specs.Shape.{HasColumns}
 use Rattle.p3_lookup.specs.Generated.{IsFirstZeroOf}
 use Rattle.p3_lookup.specs.declared.terminal.LookupTerminal.{LookupTerminal}
-use Rattle.p3_lookup.specs.Batch.{laid_out}
-use Rattle.p3_lookup.specs.Bus.{batch_buses, bus_count, widest}
-use Rattle.p3_lookup.specs.Challenge.{ChallengesData, challenges_with}
-use Rattle.p3_lookup.specs.Lookup.{LookupData}
-use Rattle.batch_transcript.specs.Buses.{batch_layout, instance_challenges}
 use Rattle.batch_setting.specs.Setting.{masks}
-use Rattle.batch_shape_checks.specs.ShapeChecks.{has_some}
 use Rattle.batch_validity.specs.Laws.Held.{lookups_fit}
 use Rattle.batch_validity.specs.Traced.{declared, log_rows}
 use Rattle.committed_tables.specs.Fields.{FieldsLaws}
 use Rattle.committed_tables.specs.Traces.{IsSomeTall}
-use Rattle.honest_proofs.specs.HonestProof.{AreCanonical, HasFractions, IsDenominatorZero, argument_of, challenges_at, pair, permutation_matrices, state_at_pair, terminal_of, terminals}
+use Rattle.honest_proofs.specs.HonestProof.{AreCanonical, HasFractions, IsDenominatorZero, argument_of, challenges_at, permutation_matrices, terminal_of, terminals}
 use Rattle.honest_proofs.specs.Laws.Answered.{fault_is}
 use Rattle.honest_proofs.specs.Laws.Flat.{flat_more, flat_same}
 use Rattle.honest_proofs.specs.Laws.Ground.{denominator_event, one_lookup}
-use Rattle.honest_proofs.specs.Laws.Staged.{IsPair, one_pair}
 use Rattle.batch_proving.specs.Batch.{Batch, IsTracedAll, all_challenges, all_permutations, table_at, table_count}
 use Rattle.batch_proving.specs.Proving.{HaveFractionsFor, IsPairGroundOf, fraction_part}
 use Rattle.batch_proving.specs.Verdict.{IsProverRefusal, IsProverVerdict}
@@ -82,51 +71,7 @@ module _ {S F E C : Type 0} (b : Batch S F E C) (challenges : List (List E)) whe
   zero_of_table m n (WitnessNotFound step) h before z = z
   zero_of_table m n OutOfMemory h before z = tt
 
--- two challenges are laid out for each lookup
-laid_out_length : {E : Type 0} (z : E) (d : ChallengesData E) (bus : ℕ → ℕ) (n m : ℕ) → length (laid_out z d bus n m) ≡ 2 * m
-laid_out_length z d bus n zero = refl
-laid_out_length z d bus n (suc m) = let h = laid_out_length z d bus (suc n) m in omega (arith, h)
-
-none_has : {A : Type 0} (ls : List (List A)) (i : ℕ) → count_by has_some ls ≡ 0 → length (get_or ls i []) ≡ 0
-none_has [] i h = refl
-none_has ([] ∷ ls) zero h = refl
-none_has {A} ([] ∷ ls) (suc i) h =
-    let e : count_by has_some ([] ∷ ls) ≡ 0 + count_by has_some ls = sum_by-cons (λ (x : List A). cond (has_some x) 1 0) [] ls in
-    none_has ls i (omega (arith, e, h))
-none_has {A} ((x ∷ xs) ∷ ls) i h =
-    let e : count_by has_some ((x ∷ xs) ∷ ls) ≡ 1 + count_by has_some ls = sum_by-cons (λ (y : List A). cond (has_some y) 1 0) (x ∷ xs) ls in
-    absurd (omega (arith, e, h))
-
--- no challenges
-abbrev nothing : {A E : Type 0} → A → List E
-nothing x = []
-
-nowhere : {A : Type 0} (E : Type 0) (ls : List A) (i : ℕ) → length (get_or (map (nothing {A = A} {E = E}) ls) i []) ≡ 0
-nowhere E [] i = refl
-nowhere E (x ∷ xs) zero = refl
-nowhere E (x ∷ xs) (suc i) = nowhere E xs i
-
-layout_long : {F E : Type 0} (e : Ring E) (pair : List E) (n : ℕ) (ls : List (List (LookupData F))) (i : ℕ) → count_by has_some ls ≡ n → IsPair n pair → i < length ls
-    → length (get_or (batch_layout e pair ls) i []) ≡ 2 * length (get_or ls i [])
-layout_long {F} {E} e pair zero ls i p none l =
-    let off = none_has ls i p in
-    let empty = nowhere E ls i in
-    ap (λ q. length (get_or (batch_layout e q ls) i [])) none ∙ omega (arith, off, empty)
-layout_long e pair (suc n) ls i p (alpha, beta, two) l =
-    let d = challenges_with e alpha beta (widest ls) (bus_count (batch_buses ls)) in
-    ap (λ q. length (get_or (batch_layout e q ls) i [])) two
-    ∙ (ap length (get_or-table (length ls) (instance_challenges e d ls) i [] l) ∙ laid_out_length e.zero d _ 0 (length (get_or ls i [])))
-
 module _ {S F E C : Type 0} (b : Batch S F E C) where
-  -- the challenges of a table of a traced batch are two for each of its lookups
-  pub challenges_long : IsTracedAll b → (w : Option F) (i : ℕ) → i < table_count b → length (challenges_at b.setting b.prover b.statement b.traces b.degree_bits w i) ≡ 2 * length (table_at b i).lookups
-  unfolding pair
-  challenges_long B w i h =
-      let c = b.setting in
-      let n = count_by has_some b.statement.common.lookups in
-      layout_long c.extension.ring (pair c b.prover b.statement b.traces b.degree_bits w) n b.statement.common.lookups i refl
-      (one_pair c.challenger c.extension.dimension n c.lookup_bits w (state_at_pair c b.prover b.statement b.traces b.degree_bits)) (let q = B.lists.lookups_long in omega (arith, h, q))
-
   -- the preprocessed trace of a traced table has its rows
   some_tall : (o : Option (Rows F)) (n m : ℕ) → m ≡ n → HasColumns o → IsSomeTall n o → IfSome o (λ r. height r ≡ m)
   some_tall None n m e some tall = tt

@@ -1,11 +1,9 @@
 -- The answers of what the backend is asked for the quotients of a batch, whose challenges are those of an honest proof.
-use Rattle.std.proofs.Common.{◌≡◌, ℕ, zero, suc, ◌^◌, ◌<◌, List, [], ◌++◌, get_or, Option, Result, Ok, Err, inl, inr, refl, sym, ◌∙◌, ap, subst, arith}
-use Rattle.std.specs.List.{flat_map}
+use Rattle.std.proofs.Common.{◌≡◌, ℕ, zero, suc, ◌^◌, ◌<◌, List, [], ◌++◌, get_or, Option, Result, Ok, Err, inl, inr, sym, ◌∙◌, ap, subst, arith}
 use Rattle.std.specs.Result.{IsErrAnd}
 use Rattle.p3_field.specs.Checks.{Check, FirstFails, NoneFails, in_turn}
 use Rattle.p3_field.specs.Laws.Checks.{first_after, first_parted, first_stops, none_append, none_at, none_of_each}
 use Rattle.p3_field.specs.Laws.Tables.{get_or-table}
-use Rattle.p3_field.specs.Poly.{table}
 use Rattle.p3_matrix.specs.Matrix.{Rows}
 use Rattle.p3_commit.specs.Commitments.{AreExtensions}
 use Rattle.p3_commit.specs.Failure.{NoneOf}

@@ -1,5 +1,5 @@
 -- The preprocessed matrices of a batch are those of the tables that have an entry, in order.
-use Rattle.std.proofs.Common.{◌≡◌, ℕ, zero, suc, ◌<◌, List, [], ◌∷◌, length, get_or, map, take, Option, None, Some, refl, sym, ◌∙◌, ap}
+use Rattle.std.proofs.Common.{◌≡◌, ℕ, zero, suc, List, [], ◌∷◌, length, get_or, map, take, Option, None, Some, refl, sym, ◌∙◌, ap}
 use Rattle.std.proofs.Math.Seq.{take-length}
 use Rattle.p3_field.specs.Laws.SubgroupSelectors.{map_table}
 use Rattle.p3_field.specs.Laws.Tables.{table_of_items}
