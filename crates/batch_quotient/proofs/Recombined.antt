@@ -10,7 +10,7 @@ use Rattle.p3_matrix.specs.Matrix.{Rows, height}
 use Rattle.p3_matrix.specs.Laws.Flattened.{height-pieces}
 use Rattle.p3_air.specs.Shape.{width_of}
 use Rattle.p3_commit.specs.Periodic.{IsPeriod}
-use Rattle.batch_constraints.proofs.Nonzero.{all_of_map}
+use Rattle.batch_constraints.specs.Laws.Images.{all_of_map}
 use Rattle.committed_tables.specs.Rows.{flattened_matrix}
 use Rattle.batch_quotient.specs.QuotientRows.{permutation_columns}
 
