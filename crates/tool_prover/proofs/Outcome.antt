@@ -8,7 +8,6 @@ use Rattle.p3_field.specs.Domain.{CosetData, point}
 use Rattle.p3_field.specs.declared.baby_bear.BabyBear.{BabyBear}
 use Rattle.p3_field.specs.declared.quartic.QuarticExtension.{QuarticExtension}
 use Rattle.p3_matrix.specs.Matrix.{Rows}
-use Rattle.p3_commit.specs.Commitments.{IsCommitment}
 use Rattle.plain_pcs.specs.Extension.{commitment_of}
 use Rattle.plain_pcs.specs.Holding.{AreHolding, IsMade}
 use Rattle.plain_pcs.specs.Scheme.{Blowup, PlainCommitmentData}
@@ -26,6 +25,7 @@ use Rattle.plain_soundness.specs.Meaning.{HoldUnlessUnlucky}
 use Rattle.batch_proving.specs.Backend.{ProverBackend}
 use Rattle.batch_proving.specs.Batch.{Batch, IsKeptWith, IsTracedAll, batch_of, preprocessed_all, table_at}
 use Rattle.batch_proving.specs.Laws.Telling.{refusal_tells}
+use Rattle.batch_proving.specs.PlainBackend.{plain_commits, plain_prover_backend}
 use Rattle.batch_proving.specs.Proving.{AvoidsExcluded, IsProved, proving_checks}
 use Rattle.batch_proving.specs.Telling.{Tells}
 use Rattle.batch_proving.specs.Verdict.{IsAnswerRefusal}
@@ -47,14 +47,13 @@ use Rattle.tool_prover.specs.JobAnswer.{DrawsInside, DrawsOutside, IsJobProof, I
 use Rattle.tool_prover.specs.JobBatch.{job_batch}
 use Rattle.tool_prover.specs.Outside.{AvoidsRows}
 use Rattle.tool_prover.specs.Laws.Drawn.{outside_is}
-use Rattle.tool_prover.specs.Laws.Granted.{plain_backend}
 use Rattle.tool_prover.specs.Laws.Refused.{told}
 use Rattle.tool_verifier.specs.Laws.Stated.{ToolSetting, formed_is}
 use Rattle.tool_prover.proofs.Setup.{airs_in_them, instances_long, kept_there, one_bit, prover_with, publics_in_them, same_batch, scheme_with, source_of_air, statement_is, valid}
 
 -- the prover's side of the plain scheme with this blowup
 abbrev pub backend_with : Blowup → ProverBackend Sha256Challenger BabyBear QuarticExtension (PlainCommitmentData BabyBear) (List (CosetData BabyBear × Rows BabyBear)) PlainProof PlainProverError
-backend_with b = plain_backend (scheme_with b)
+backend_with b = plain_prover_backend (scheme_with b)
 
 abbrev ToolBatch : Type 0
 ToolBatch = Batch Sha256Challenger BabyBear QuarticExtension (PlainCommitmentData BabyBear)
@@ -68,7 +67,7 @@ point_at d i = point bear_ring bear_root d i
 
 -- what commits to matrices: a commitment with prover data that holds them
 abbrev pub commits_with : Blowup → List (CosetData BabyBear × Rows BabyBear) → PlainCommitmentData BabyBear × List (CosetData BabyBear × Rows BabyBear) → Type 0
-commits_with b es w = IsCommitment bear_ring points point_at (λ es c. c ≡ commitment_of (scheme_with b) es) IsMade (AreHolding (scheme_with b)) es w
+commits_with b = plain_commits (scheme_with b)
 
 -- What is set up for a job: the configuration, AIRs, traces, public values, common data with what is kept of it, and instances.
 pub record IsSetUp (job : List (JobTable BabyBear)) (tables : List TableStatement) (c : ToolSetting) (b : Blowup) (airs : List (ToolAir BabyBear)) (traces : List (Rows BabyBear)) (publics : List (List BabyBear))
@@ -126,11 +125,11 @@ module _ (job : List (JobTable BabyBear)) (tables : List TableStatement) (c : To
       (kept_there job U.within airs airs_there (read_common written) common_there points point_at IsMade (AreHolding tool_scheme) kept prepared_there))
 
   -- its refusal tells why
-  answer_tells : (B : ToolBatch) (e : ProvingError PlainProverError) → IsAnswerRefusal (proving_checks (plain_backend tool_scheme) B) e → Tells (plain_backend tool_scheme) B e
-  answer_tells B (Pcs phase source) h = refusal_tells (plain_backend tool_scheme) B (Pcs phase source) h
-  answer_tells B (MultiplicityBound bus) h = refusal_tells (plain_backend tool_scheme) B (MultiplicityBound bus) h
-  answer_tells B (LookupDenominatorZero i row) h = refusal_tells (plain_backend tool_scheme) B (LookupDenominatorZero i row) h
-  answer_tells B (WitnessNotFound step) h = refusal_tells (plain_backend tool_scheme) B (WitnessNotFound step) h
+  answer_tells : (B : ToolBatch) (e : ProvingError PlainProverError) → IsAnswerRefusal (proving_checks (plain_prover_backend tool_scheme) B) e → Tells (plain_prover_backend tool_scheme) B e
+  answer_tells B (Pcs phase source) h = refusal_tells (plain_prover_backend tool_scheme) B (Pcs phase source) h
+  answer_tells B (MultiplicityBound bus) h = refusal_tells (plain_prover_backend tool_scheme) B (MultiplicityBound bus) h
+  answer_tells B (LookupDenominatorZero i row) h = refusal_tells (plain_prover_backend tool_scheme) B (LookupDenominatorZero i row) h
+  answer_tells B (WitnessNotFound step) h = refusal_tells (plain_prover_backend tool_scheme) B (WitnessNotFound step) h
   answer_tells B OutOfMemory h = tt
 
   told_there : (e : ProvingError PlainProverError) → IsAnswerRefusal (proving_checks (backend_with b) batch) e → IsTold job e
