@@ -1,0 +1,5 @@
+pub mod Columns
+pub mod Laws
+pub mod RowText
+pub mod RowWords
+pub mod TempBits
