@@ -1,7 +1,8 @@
 -- A word from its highest bit down.
 use Rattle.std.proofs.Common.{◌≡◌, ℕ, zero, suc, ◌+◌, ◌-◌, ◌*◌, ◌^◌, ◌<◌, ◌≤◌, sym, ◌∙◌, ap, arith}
 use Rattle.std.proofs.Math.Pow.{pow_mono}
-use Rattle.hash_lines.specs.TempBits.{bits_number, bits_number_below}
+use Rattle.p3_air.specs.Laws.Words.{bits_number_below}
+use Rattle.p3_air.specs.Words.{bits_number}
 
 -- what a loop down from bit 32 has read at bit k
 abbrev pub HasRead : (f : ℕ → ℕ) (k number : ℕ) → Type 0

@@ -2,4 +2,3 @@ pub mod Columns
 pub mod Laws
 pub mod RowText
 pub mod RowWords
-pub mod TempBits

@@ -2,7 +2,7 @@ use Rattle.std.proofs.Common.{◌≡◌, ◌<◌, ◌≤◌, ◌+◌, ◌-◌, �
 use Rattle.std.proofs.lemmas.Bool.{cases_eq}
 use Rattle.hash_lines.specs.Columns.{cells_at}
 use Rattle.hash_lines.specs.RowWords.{cell_number, word_at}
-use Rattle.hash_lines.specs.TempBits.{bits_number}
+use Rattle.p3_air.specs.Words.{bits_number}
 use Rattle.hash_lines.proofs.Digits.{nothing_read, number_below, one_digit_more}
 use Rattle.hash_lines.proofs.words.word.Goals as goal
 
