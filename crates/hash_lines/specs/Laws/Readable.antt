@@ -25,7 +25,7 @@ readable_decided cells =
 pub readable_line : (row : ℕ) (cells : List BabyBear) → IsReadable cells → row_line row cells ≡ words_line (printed_words cells)
 readable_line row cells h = ap (λ b. if b then words_line (printed_words cells) else unreadable_line row) ((readable_decided cells).1 h)
 
-not_true : (b : Bool) → (b ≡ true → ⊥) → b ≡ false
+pub not_true : (b : Bool) → (b ≡ true → ⊥) → b ≡ false
 not_true true h = absurd (h refl)
 not_true false h = refl
 
