@@ -8,8 +8,8 @@ ghost use Rattle.tool_jobs.specs.Laws.Kinds.{KindWithin, body_words};
 use crate::counts::read_powers;
 use crate::table::{GivenWord, JobTable};
 use line_format::{
-    Form, ItemError, Reader, TextError, print_items, print_list, push_number, read_items, read_list,
-    read_text,
+    Form, ItemError, Reader, TextError, print_items, print_list, push_number, read_items,
+    read_list, read_text,
 };
 use p3_field::{BabyBear, Mem};
 use std::alloc::Global;
