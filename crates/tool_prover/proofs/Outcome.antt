@@ -37,12 +37,12 @@ use Rattle.tool_jobs.specs.Laws.Statements.{statements-heights}
 use Rattle.tool_jobs.specs.Stated.{statement_of}
 use Rattle.tool_jobs.specs.Unbalanced.{same_word}
 use Rattle.tool_statement.specs.Config.{backend_of, tool_backend, tool_scheme, tool_setting}
-use Rattle.tool_statement.specs.StatedTables.{entries_of, log_heights_of, preprocessed_traces, publics_lists, sources_of, table_of, tool_common, tool_statement}
+use Rattle.tool_statement.specs.StatedTables.{HaveStatedHeights, entries_of, log_heights_of, preprocessed_traces, publics_lists, sources_of, table_of, tool_common, tool_statement}
 use Rattle.tool_statement.specs.declared.table.TableStatement.{TableStatement}
 use Rattle.tool_tables.specs.Tool.{tool_declaration, tool_trees}
 use Rattle.tool_tables.specs.declared.tool.ToolAir.{ToolAir}
 use Rattle.tool_validity.specs.Job.{IsBalancedJob, JobTable, log_height_of, trace_of}
-use Rattle.tool_verifier.specs.FileAnswer.{HaveStatedHeights, IsFileAnswer, PrintCompressions, SwapsEnd}
+use Rattle.tool_verifier.specs.FileAnswer.{IsFileAnswer, PrintCompressions, SwapsEnd}
 use Rattle.tool_prover.specs.JobAnswer.{DrawsInside, DrawsOutside, IsJobProof, IsOutcome, IsTold, drawn_point}
 use Rattle.tool_prover.specs.JobBatch.{job_batch}
 use Rattle.tool_prover.specs.Outside.{AvoidsRows}

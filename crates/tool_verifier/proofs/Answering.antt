@@ -8,10 +8,10 @@ use Rattle.batch_statement.specs.declared.error.BatchVerificationError.TheVarian
 use Rattle.batch_shape_checks.specs.Verdict.{IsRefusal}
 use Rattle.batch_verifier.specs.BatchChecks.{FirstFault, checks}
 use Rattle.tool_statement.specs.Config.{tool_setting, tool_backend}
-use Rattle.tool_statement.specs.StatedTables.{tool_statement}
+use Rattle.tool_statement.specs.StatedTables.{HasStatedHeight, HaveStatedHeights, tool_statement}
 use Rattle.tool_statement.specs.declared.table.TableStatement.{TableStatement}
 use Rattle.proof_text.specs.ProofText.{ToolProofData}
-use Rattle.tool_verifier.specs.FileAnswer.{HasStatedHeight, HaveStatedHeights, IsFileAnswer, IsMeant, accepted_text, mismatch_text}
+use Rattle.tool_verifier.specs.FileAnswer.{IsFileAnswer, IsMeant, accepted_text, mismatch_text}
 use Rattle.tool_verifier.specs.Refusals.{fault_text}
 use Rattle.tool_verifier.specs.declared.status.Status.{Status}
 use Rattle.tool_verifier.specs.declared.status.Status.TheVariants.{Done, Refused}

@@ -5,10 +5,10 @@ ghost use Rattle.batch_verifier.specs.BatchChecks.{Accepted};
 ghost use Rattle.hash_lines.specs.PrintedRows.{HasHashMatrices};
 ghost use Rattle.plain_soundness.specs.Meaning.{HoldUnlessUnlucky};
 ghost use Rattle.tool_statement.specs.Config.{tool_backend, tool_setting};
-ghost use Rattle.tool_statement.specs.StatedTables.{table_of, tool_common, tool_statement};
-ghost use Rattle.tool_verifier.specs.FileAnswer.{HaveStatedHeights, PrintCompressions, SwapsEnd};
+ghost use Rattle.tool_statement.specs.StatedTables.{HaveStatedHeights, table_of, tool_common, tool_statement};
+ghost use Rattle.tool_verifier.specs.FileAnswer.{PrintCompressions, SwapsEnd};
 
-use p3_blake3::meanings::half_rounds_are_rounds;
+use committed_tables::fields::baby_bear_has_laws;
 use p3_blake3_air::meanings::row_means;
 use p3_field::{BabyBear, QuarticExtension};
 use plain_pcs::opened_claims_bind;
@@ -26,7 +26,7 @@ pub fn accepted_means(tables: &[TableStatement], proof: &ToolProof)
     ensures hashes { HaveStatedHeights tables.now proof.now.degree_bits → PrintCompressions tables.now proof.now }
     ensures matrices { HaveStatedHeights tables.now proof.now.degree_bits → HasHashMatrices tables.now proof.now }
 {
+    baby_bear_has_laws();
     opened_claims_bind::<BabyBear, QuarticExtension>();
     row_means::<BabyBear>();
-    half_rounds_are_rounds();
 }

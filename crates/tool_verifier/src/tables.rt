@@ -3,10 +3,10 @@ ghost use Rattle.std.specs.Prelude.{All, IfOk};
 ghost use Rattle.batch_shape_checks.specs.Verdict.{IsVerdict};
 ghost use Rattle.batch_verifier.specs.BatchChecks.{checks};
 ghost use Rattle.plain_soundness.specs.Meaning.{HoldUnlessUnlucky};
-ghost use Rattle.tool_verifier.specs.FileAnswer.{HaveStatedHeights, PrintCompressions, SwapsEnd};
+ghost use Rattle.tool_verifier.specs.FileAnswer.{PrintCompressions, SwapsEnd};
+ghost use Rattle.tool_statement.specs.StatedTables.{HaveStatedHeights, TableWithin, tool_statement};
 ghost use Rattle.hash_lines.specs.PrintedRows.{HasHashMatrices};
 ghost use Rattle.tool_statement.specs.Config.{tool_backend, tool_setting};
-ghost use Rattle.tool_statement.specs.StatedTables.{TableWithin, tool_statement};
 
 use crate::meaning::accepted_means;
 use batch_setting::Settings;
