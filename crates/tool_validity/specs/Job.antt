@@ -105,6 +105,14 @@ publics_of (take_of words) = []
 publics_of (give_of pairs) = []
 publics_of (hash_of rows) = []
 
+-- the logarithm of the number of chunks of its quotient: two for compressions, whose constraints have degree three, and one for the others
+abbrev pub log_parts_of : {F : Type 0} → JobTable F → ℕ
+log_parts_of (swap_of k a b) = 0
+log_parts_of (wheel_of k) = 0
+log_parts_of (take_of words) = 0
+log_parts_of (give_of pairs) = 0
+log_parts_of (hash_of rows) = 1
+
 -- its AIR's declaration, constraints and interactions
 abbrev pub source_of_job : {F : Type 0} → Ring F → JobTable F → Source F
 source_of_job r (swap_of k a b) = record { declaration = swap_declaration; trees = swap_trees; interactions = [] }

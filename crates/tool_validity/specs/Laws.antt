@@ -2,6 +2,7 @@
 pub mod Traced
 pub mod Swap
 pub mod Wheel
+pub mod Compressions
 pub mod Fits
 pub mod Messages
 pub mod Loads

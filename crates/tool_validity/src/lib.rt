@@ -1,4 +1,4 @@
-//! Every balanced job of the program's four kinds of tables is valid: an honest prover's proof of it is accepted. It is stated over data
+//! Every balanced job of the program's five kinds of tables is valid: an honest prover's proof of it is accepted. It is stated over data
 //! alone, and nothing is computed.
 //!
 //! The definitions are in `specs/`: jobs with their traces, and when they are balanced (`Job`); configurations that serve for them

@@ -14,6 +14,7 @@ ghost use Rattle.batch_constraints.specs.Sizing.{periods_of};
 ghost use Rattle.batch_setting.specs.Setting.{Setting};
 ghost use Rattle.batch_setup.specs.Packed.{packed_at, source_of};
 ghost use Rattle.batch_setup.specs.Preprocessed.{IsPrepared, committed_below, entry_at};
+ghost use Rattle.batch_shape_checks.specs.ShapeChecks.{chunks_of_table};
 ghost use Rattle.batch_statement.specs.Statement.{Common, WellFormed, tables_of};
 ghost use Rattle.committed_tables.specs.Committed.{Holds};
 ghost use Rattle.committed_tables.specs.Fields.{FieldsLaws};
@@ -22,8 +23,8 @@ ghost use Rattle.batch_validity.specs.Traced.{no_rows, traces_of};
 ghost use Rattle.batch_validity.specs.Valid.{Valid};
 ghost use Rattle.tool_tables.specs.Tool.{tool_declaration, tool_interactions, tool_trees};
 ghost use Rattle.tool_tables.specs.declared.tool.ToolAir.{ToolAir};
-ghost use Rattle.tool_validity.specs.Job.{AreAirsOf, IsJob, IsWithin, JobTable, log_height_of, publics_of, source_of_job, trace_of, traced_job};
-ghost use Rattle.tool_validity.specs.Serves.{ServesJobs, bear_setting};
+ghost use Rattle.tool_validity.specs.Job.{AreAirsOf, IsJob, IsWithin, JobTable, job_table, log_height_of, log_parts_of, publics_of, source_of_job, trace_of, traced_job};
+ghost use Rattle.tool_validity.specs.Serves.{ServesJobs, ServesTable, bear_setting};
 
 use p3_field::{BabyBear, QuarticExtension};
 
@@ -35,17 +36,22 @@ pub fn baby_bear_serves_jobs<C, Com>()
 {}
 
 /// The traces of a job's table meet its AIR's constraints: each is zero on each row of the table that is committed to as the
-/// interpolants of their columns. So rows that swap meet those of a swap table, and the numbers times 3 and 5 in turn that of
-/// a wheel; the tables of words have none.
+/// interpolants of their columns. So rows that swap meet those of a swap table, the numbers times 3 and 5 in turn that of
+/// a wheel, and rows of compressions those of a hash table; the tables of words have none. Of a hash table alone it is a premise that
+/// the constraints of compressions mean compressions over the field (`ServesTable`): `row_means` of `p3_blake3_air` has that for each
+/// prime field of more than 2^20 elements.
 pub fn a_jobs_table_holds<F, E>()
-    ensures { (f : TwoAdic F) (e : Extension F E) (top : ℕ) (inverse : E → E) (j : JobTable F) → FieldsLaws f e top inverse → IsWithin j → log_height_of j ≤ top
+    ensures { (f : TwoAdic F) (e : Extension F E) (top : ℕ) (inverse : E → E) (j : JobTable F) → FieldsLaws f e top inverse → IsWithin j → ServesTable f.ring j → log_height_of j ≤ top
         → Holds f e (committed_traces f e (traces_of (traced_job f.ring j)) no_rows [] [] (log_height_of j)) (source_of_job f.ring j).trees }
 {}
 
-/// All constraints of a job's table, those of its lookups among them, fit any number of chunks, over any number of rows.
+/// All constraints of a job's table, those of its lookups among them, fit any number of chunks from that of the table's sizing on,
+/// over any number of rows (`fits`). The sizing is two chunks for a hash table and one for the others (`sized`), so these fit any
+/// number of chunks but none.
 pub fn a_jobs_table_fits<F>()
-    ensures { (r : Ring F) (j : JobTable F) (n chunks : ℕ) → 0 < n → 0 < chunks
+    ensures fits { (r : Ring F) (j : JobTable F) (n chunks : ℕ) → 0 < n → 2 ^ chunks_of_table r 0 n (job_table r j) (lookups_of (source_of_job r j).interactions) ≤ chunks
         → All (FitsChunks n (periods_of (source_of_job r j).declaration) chunks) (table_trees r (source_of_job r j).trees (lookups_of (source_of_job r j).interactions)) }
+    ensures sized { (r : Ring F) (j : JobTable F) (n : ℕ) → 0 < n → chunks_of_table r 0 n (job_table r j) (lookups_of (source_of_job r j).interactions) ≡ log_parts_of j }
 {}
 
 /// Every job is valid: at most eight tables within the limits, in which each word is taken as often as it is given. The AIRs are

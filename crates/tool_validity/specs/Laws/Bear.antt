@@ -1,17 +1,33 @@
 -- Configurations over BabyBear serve for jobs; and what is made for a job's AIRs is valid.
 use Rattle.std.proofs.Common.{◌≡◌, ℕ, ◌^◌, ◌≤◌, refl, sym, subst, arith}
 use Rattle.p3_challenger.specs.Script.{ChallengerOf}
-use Rattle.p3_field.specs.BabyBear.{bear_ring}
+use Rattle.p3_field.specs.BabyBear.{bear_inv, bear_ring}
 use Rattle.p3_field.specs.Laws.Algebra.{one_mul}
-use Rattle.p3_field.specs.Laws.BearField.{bear_31, bear_31_power}
+use Rattle.p3_field.specs.Laws.BearField.{bear_31, bear_31_power, bear_canonical_of, bear_field_laws, bear_of_canonical}
 use Rattle.p3_field.specs.Laws.BearLaws.{bear_laws}
 use Rattle.p3_field.specs.Quartic.{quartic_inv}
 use Rattle.p3_field.specs.Ring.{pow}
 use Rattle.p3_field.specs.declared.baby_bear.BabyBear.{BabyBear}
 use Rattle.p3_field.specs.declared.quartic.QuarticExtension.{QuarticExtension}
+use Rattle.p3_air.specs.Words.{PrimeFieldLaws}
+use Rattle.p3_blake3_air.specs.Meanings.{RowMeans}
+use Rattle.p3_blake3_air.specs.Laws.TraceRow.{row_means}
 use Rattle.committed_tables.specs.Fields.{bear_field}
 use Rattle.committed_tables.specs.Laws.BearFields.{bear_fields}
 use Rattle.tool_validity.specs.Serves.{ServesJobs, bear_setting}
+
+-- BabyBear is a prime field of more than 2^20 elements, so the constraints of compressions mean compressions there
+bear_prime : PrimeFieldLaws bear_ring bear_inv 2013265921 (λ (x : BabyBear). x.value)
+bear_prime = record {
+  ring_laws = bear_laws;
+  field_laws = bear_field_laws;
+  canonical_below = λ x. x.in_range;
+  of_canonical = bear_of_canonical;
+  canonical_of = bear_canonical_of;
+}
+
+bear_compressions : RowMeans bear_ring
+bear_compressions = row_means bear_ring bear_inv 2013265921 (λ (x : BabyBear). x.value) bear_prime (omega arith)
 
 module _ {S C : Type 0} (challenger : ChallengerOf S BabyBear QuarticExtension C) (initial : S) (log_max lookup_bits ood_bits : ℕ) where
   -- the shift is the generator
@@ -28,4 +44,5 @@ module _ {S C : Type 0} (challenger : ChallengerOf S BabyBear QuarticExtension C
     order = omega arith;
     shift = subst (λ x. x ≡ bear_ring.zero → ⊥) shift_is bear_31;
     shifted = λ k h. subst (λ x. pow bear_ring x (2 ^ k) ≡ bear_ring.one → ⊥) shift_is (bear_31_power k (omega (arith, h)));
+    compressions = bear_compressions;
   }

@@ -1,6 +1,6 @@
--- The constraints of a job's tables fit one chunk, and their quotients have one.
+-- The constraints of a job's tables fit the chunks of their quotients: two for compressions, one for the others.
 use Rattle.std.specs.Int.{div_ceil}
-use Rattle.std.proofs.Common.{◌≡◌, ℕ, zero, suc, ◌+◌, ◌-◌, ◌*◌, ◌/◌, ◌^◌, ◌<◌, ◌≤◌, inl, inr, Bool, true, false, max, min, List, [], ◌∷◌, refl, arith}
+use Rattle.std.proofs.Common.{◌≡◌, ℕ, zero, suc, ◌+◌, ◌-◌, ◌*◌, ◌/◌, ◌^◌, ◌<◌, ◌≤◌, inl, inr, Bool, true, false, max, min, List, [], ◌∷◌, refl, sym, subst, arith}
 use Rattle.std.specs.Prelude.{All, nat_le, nat_lt, ◌&&◌}
 use Rattle.std.specs.List.{list_all}
 use Rattle.std.proofs.Math.Nat.{mul-le-mul_right}
@@ -17,7 +17,8 @@ use Rattle.batch_constraints.specs.Laws.Fits.{few_transitions_fit}
 use Rattle.batch_constraints.specs.Laws.Logarithms.{log_ceil_least}
 use Rattle.batch_shape_checks.specs.ShapeChecks.{chunks_of_table}
 use Rattle.tool_tables.specs.Wheel.{wheel_trees}
-use Rattle.tool_validity.specs.Job.{JobTable, swap_of, wheel_of, take_of, give_of, job_table, source_of_job}
+use Rattle.tool_validity.specs.Job.{JobTable, swap_of, wheel_of, take_of, give_of, hash_of, job_table, log_parts_of, source_of_job}
+use Rattle.tool_validity.specs.Laws.Compressions.{compressions_chunks, compressions_fit}
 
 -- a constraint of degree two at most, with one transition factor at most
 abbrev is_low : {F : Type 0} → Tree F → Bool
@@ -61,17 +62,9 @@ module _ {F : Type 0} (r : Ring F) where
       omega (arith, less, one)
   wheel_fits n c pos some (suc j) d l = absurd (omega (arith, l))
 
-  -- all constraints of a job's table fit any number of chunks
-  pub job_fits : (j : JobTable F) (n c : ℕ) → 0 < n → 0 < c
-      → All (FitsChunks n (periods_of (source_of_job r j).declaration) c) (table_trees r (source_of_job r j).trees (lookups_of (source_of_job r j).interactions))
-  job_fits (swap_of k a b) n c pos some = all_low_fit n c pos some (table_trees r (source_of_job r (swap_of k a b)).trees []) refl
-  job_fits (wheel_of k) n c pos some = wheel_fits n c pos some
-  job_fits (take_of words) n c pos some = all_low_fit n c pos some (table_trees r [] (lookups_of (source_of_job r (take_of words)).interactions)) refl
-  job_fits (give_of pairs) n c pos some = all_low_fit n c pos some (table_trees r [] (lookups_of (source_of_job r (give_of pairs)).interactions)) refl
-
   -- a table of degree two at most has one chunk
-  one_chunk : (degree : ℕ) → degree ≤ 2 → log_chunks 0 degree ≤ 0
-  one_chunk degree h = log_ceil_least (max (degree + 0) 2 - 1) 0 (omega (arith, h))
+  one_chunk : (degree : ℕ) → degree ≤ 2 → log_chunks 0 degree ≡ 0
+  one_chunk degree h = let q = log_ceil_least (max (degree + 0) 2 - 1) 0 (omega (arith, h)) in omega (arith, q)
 
   wheel_constraint : (n : ℕ) → 0 < n → div_ceil (max 0 (max (n - 1) (min (n - 1 + (2 - 1) * (n / 2)) (2 ^ 64 - 1)))) n ≤ 2
   wheel_constraint n pos =
@@ -79,8 +72,35 @@ module _ {F : Type 0} (r : Ring F) where
       let less : x < n * 2 = let q = wheel_degree n pos in omega (arith, q) in
       two_at_most (div_ceil x n) n x pos less (div_ceil_times x n pos).1
 
-  pub job_chunks : (j : JobTable F) (n : ℕ) → 0 < n → chunks_of_table r 0 n (job_table r j) (lookups_of (source_of_job r j).interactions) ≤ 0
-  job_chunks (swap_of k a b) n pos = one_chunk 2 (omega arith)
-  job_chunks (wheel_of k) n pos = one_chunk _ (let q = wheel_constraint n pos in omega (arith, q))
-  job_chunks (take_of words) n pos = one_chunk 2 (omega arith)
-  job_chunks (give_of pairs) n pos = one_chunk 2 (omega arith)
+  -- so each kind has its number of chunks, over any number of rows
+  pub job_sized : (j : JobTable F) (n : ℕ) → 0 < n → chunks_of_table r 0 n (job_table r j) (lookups_of (source_of_job r j).interactions) ≡ log_parts_of j
+  job_sized (swap_of k a b) n pos = one_chunk 2 (omega arith)
+  job_sized (wheel_of k) n pos = one_chunk _ (let q = wheel_constraint n pos in omega (arith, q))
+  job_sized (take_of words) n pos = one_chunk 2 (omega arith)
+  job_sized (give_of pairs) n pos = one_chunk 2 (omega arith)
+  job_sized (hash_of rows) n pos = compressions_chunks r
+
+  few_parts : (j : JobTable F) → log_parts_of j ≤ 1
+  few_parts (swap_of k a b) = omega arith
+  few_parts (wheel_of k) = omega arith
+  few_parts (take_of words) = omega arith
+  few_parts (give_of pairs) = omega arith
+  few_parts (hash_of rows) = omega arith
+
+  -- two at most
+  pub job_chunks : (j : JobTable F) (n : ℕ) → 0 < n → chunks_of_table r 0 n (job_table r j) (lookups_of (source_of_job r j).interactions) ≤ 1
+  job_chunks j n pos = subst (λ k. k ≤ 1) (sym (job_sized j n pos)) (few_parts j)
+
+  -- all constraints of a kind fit any number of chunks from its own on
+  kind_fits : (j : JobTable F) (n c : ℕ) → 0 < n → 2 ^ log_parts_of j ≤ c
+      → All (FitsChunks n (periods_of (source_of_job r j).declaration) c) (table_trees r (source_of_job r j).trees (lookups_of (source_of_job r j).interactions))
+  kind_fits (swap_of k a b) n c pos enough = all_low_fit n c pos (omega (arith, enough)) (table_trees r (source_of_job r (swap_of k a b)).trees []) refl
+  kind_fits (wheel_of k) n c pos enough = wheel_fits n c pos (omega (arith, enough))
+  kind_fits (take_of words) n c pos enough = all_low_fit n c pos (omega (arith, enough)) (table_trees r [] (lookups_of (source_of_job r (take_of words)).interactions)) refl
+  kind_fits (give_of pairs) n c pos enough = all_low_fit n c pos (omega (arith, enough)) (table_trees r [] (lookups_of (source_of_job r (give_of pairs)).interactions)) refl
+  kind_fits (hash_of rows) n c pos enough = compressions_fit r n c pos (omega (arith, enough))
+
+  -- which is that of the table's sizing
+  pub job_fits : (j : JobTable F) (n c : ℕ) → 0 < n → 2 ^ chunks_of_table r 0 n (job_table r j) (lookups_of (source_of_job r j).interactions) ≤ c
+      → All (FitsChunks n (periods_of (source_of_job r j).declaration) c) (table_trees r (source_of_job r j).trees (lookups_of (source_of_job r j).interactions))
+  job_fits j n c pos enough = kind_fits j n c pos (subst (λ k. 2 ^ k ≤ c) (job_sized j n pos) enough)

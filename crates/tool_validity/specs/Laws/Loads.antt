@@ -5,7 +5,7 @@ use Rattle.p3_field.specs.Ring.{Ring}
 use Rattle.p3_lookup.specs.Bound.{AreBounded, batch_loads, load_where}
 use Rattle.p3_lookup.specs.Bus.{batch_buses, bounds_of, bus_number}
 use Rattle.p3_lookup.specs.Lookup.{LookupData}
-use Rattle.tool_validity.specs.Job.{JobTable, swap_of, wheel_of, take_of, give_of}
+use Rattle.tool_validity.specs.Job.{JobTable, swap_of, wheel_of, take_of, give_of, hash_of}
 use Rattle.tool_validity.specs.Laws.Messages.{own_lookups}
 
 -- the sum of a list of loads
@@ -33,6 +33,7 @@ module _ {F : Type 0} (r : Ring F) where
   own_load (wheel_of k) h few = omega arith
   own_load (take_of words) h few = omega (arith, few)
   own_load (give_of pairs) h few = omega (arith, few)
+  own_load (hash_of rows) h few = omega arith
 
   loads_below : (job : List (JobTable F)) (hs : List ℕ) → ((i : ℕ) → i < length hs → get_or hs i 0 ≤ 1024) → total (batch_loads (map (own_lookups r) job) hs) ≤ length job * 1048576
   loads_below [] hs few = omega arith

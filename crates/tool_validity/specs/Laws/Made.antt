@@ -9,8 +9,8 @@ use Rattle.batch_statement.specs.Statement.{tables_of}
 use Rattle.tool_tables.specs.Tool.{tool_declaration, tool_interactions, tool_trees}
 use Rattle.tool_tables.specs.Wheel.{wheel_over, wheel_trees}
 use Rattle.tool_tables.specs.declared.tool.ToolAir.{ToolAir}
-use Rattle.tool_tables.specs.declared.tool.ToolAir.TheVariants.{Swap, Wheel, Take, Give}
-use Rattle.tool_validity.specs.Job.{AreAirsOf, IsAirOf, JobTable, swap_of, wheel_of, take_of, give_of, job_table, source_of_job}
+use Rattle.tool_tables.specs.declared.tool.ToolAir.TheVariants.{Swap, Wheel, Take, Give, Hash}
+use Rattle.tool_validity.specs.Job.{AreAirsOf, IsAirOf, JobTable, swap_of, wheel_of, take_of, give_of, hash_of, job_table, source_of_job}
 use Rattle.tool_validity.specs.Laws.Messages.{own_lookups}
 
 module _ {F : Type 0} (r : Ring F) where
@@ -22,6 +22,7 @@ module _ {F : Type 0} (r : Ring F) where
   air_source (wheel_of k) (Wheel air) h = λ i. record { declaration = wheel_over r (h.0 i) (h.1 i); trees = wheel_trees; interactions = [] }
   air_source (take_of words) (Take air) h = refl
   air_source (give_of pairs) (Give air) h = refl
+  air_source (hash_of rows) (Hash air) h = refl
   air_source j air h = absurd h
 
   pub sources_are : (job : List (JobTable F)) (airs : List (ToolAir F)) → AreAirsOf r job airs → sources airs ≡ map (source_of_job r) job
@@ -46,6 +47,7 @@ module _ {F : Type 0} (r : Ring F) where
   own_packed (wheel_of k) masks bits asked = refl
   own_packed (take_of words) masks bits asked = refl
   own_packed (give_of pairs) masks bits asked = refl
+  own_packed (hash_of rows) masks bits asked = refl
 
   pub packed_are : (job : List (JobTable F)) (airs : List (ToolAir F)) (masks : ℕ) (bits budgets : List ℕ) → AreAirsOf r job airs
       → table (length airs) (packed_at r masks (sources airs) bits budgets) ≡ map (own_lookups r) job

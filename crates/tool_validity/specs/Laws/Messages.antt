@@ -22,7 +22,7 @@ use Rattle.p3_lookup.specs.Term.{sum_of}
 use Rattle.p3_lookup.specs.Laws.Places.{place_within}
 use Rattle.p3_lookup.specs.Laws.Terms.{sum_append}
 use Rattle.tool_tables.specs.Words.{words_bus}
-use Rattle.tool_validity.specs.Job.{JobTable, swap_of, wheel_of, take_of, give_of, give_row, publics_of, source_of_job, times_given, times_taken, trace_of}
+use Rattle.tool_validity.specs.Job.{JobTable, swap_of, wheel_of, take_of, give_of, hash_of, give_row, publics_of, source_of_job, times_given, times_taken, trace_of}
 use Rattle.batch_validity.specs.Laws.Columns.{column_row, pieces_row}
 
 -- rows that send one message for each item of a list
@@ -62,6 +62,7 @@ module _ {F : Type 0} (r : Ring F) where
   own_messages (wheel_of k) = []
   own_messages (take_of words) = map take_message words
   own_messages (give_of pairs) = map give_message pairs
+  own_messages (hash_of rows) = []
 
   abbrev pub own_sender : JobTable F → (bus : ℕ → ℕ) → (rows : ℕ) → Sender F
   own_sender j bus rows = record { lookups = own_lookups j; bus = bus; rows = rows; value = own_value j }
@@ -72,6 +73,7 @@ module _ {F : Type 0} (r : Ring F) where
   HasItems (wheel_of k) rows = Unit {0}
   HasItems (take_of words) rows = rows ≡ length words
   HasItems (give_of pairs) rows = rows ≡ length pairs
+  HasItems (hash_of inputs) rows = Unit {0}
 
   sends_own : (j : JobTable F) (bus : ℕ → ℕ) (rows : ℕ) → (0 < length (own_lookups j) → bus 0 ≡ 0) → HasItems j rows → table_messages (own_sender j bus rows) ≡ own_messages j
   sends_own (swap_of k a b) bus rows on e = no_messages (table rows (λ i. i))
@@ -91,6 +93,7 @@ module _ {F : Type 0} (r : Ring F) where
       ∙ rows_are_items g give_message (r.zero, 0) pairs (λ i. i) (λ i l.
       let row : row_at (trace_of r j) i ≡ give_row r (get_or pairs i (r.zero, 0)) = pieces_row (give_row r) 2 (λ p. refl) pairs i (r.zero, 0) l in
       λ q. record { bus = here q; tuple = get_or (row q) 0 r.zero ∷ []; count = sub r r.zero (get_or (row q) 1 r.zero) } ∷ [])
+  sends_own (hash_of inputs) bus rows on e = no_messages (table rows (λ i. i))
 
   module _ (L : RingLaws r) (eq : F → F → Bool) (b : ℕ) (t : List F) where
     -- whether a word is the tuple on this bus
@@ -154,6 +157,7 @@ module _ {F : Type 0} (r : Ring F) where
     own_net (wheel_of k) = nothing
     own_net (take_of words) = taken words ∙ only_taken (count_by found words)
     own_net (give_of pairs) = given pairs ∙ only_given (sum_by (λ p. cond (found p.0) p.1 0) pairs)
+    own_net (hash_of rows) = nothing
 
     -- the tables of a job as senders, on buses whose numbers are those from table n on, and with so many rows each
     module _ (rows : JobTable F → ℕ) where
@@ -188,6 +192,7 @@ module _ {F : Type 0} (r : Ring F) where
   own_words (take_of words) (suc i) d l = absurd (omega (arith, l))
   own_words (give_of pairs) zero d l = refl
   own_words (give_of pairs) (suc i) d l = absurd (omega (arith, l))
+  own_words (hash_of rows) i d l = absurd (omega (arith, l))
 
   job_words : (job : List (JobTable F)) → All IsWords (batch_buses (map own_lookups job))
   job_words [] = λ i d l. absurd (omega (arith, l))

@@ -1,21 +1,24 @@
 -- The traces of a job's tables have rows.
 use Rattle.std.specs.Int.{IsPowerOfTwo, ◌∣◌}
-use Rattle.std.proofs.Common.{◌≡◌, ℕ, zero, suc, ◌*◌, ◌%◌, ◌^◌, ◌<◌, Bool, true, false, cond, List, [], ◌∷◌, length, refl, sym, ◌∙◌, ap, subst, arith}
+use Rattle.std.proofs.Common.{◌≡◌, ℕ, zero, suc, ◌*◌, ◌/◌, ◌%◌, ◌^◌, ◌<◌, Bool, true, false, cond, List, [], ◌∷◌, length, map, refl, sym, ◌∙◌, ap, subst, arith}
 use Rattle.std.specs.Prelude.{◌==◌, All}
 use Rattle.std.proofs.Math.Nat.{dvd-mul_right}
+use Rattle.std.proofs.lemmas.List.{length-map}
 use Rattle.p3_field.specs.Poly.{table}
-use Rattle.p3_field.specs.Ring.{Ring}
+use Rattle.p3_field.specs.Ring.{Ring, of_nat}
 use Rattle.p3_field.specs.Laws.Coset.{double_power}
 use Rattle.p3_field.specs.Laws.Tables.{length-table, get_or-table}
 use Rattle.p3_matrix.specs.Matrix.{row_at}
 use Rattle.p3_commit.specs.Periodic.{IsPeriod}
+use Rattle.p3_blake3_air.specs.Rows.{rows_cells}
+use Rattle.p3_blake3_air.specs.Laws.Generated.{length-rows_cells}
 use Rattle.committed_tables.specs.Traces.{HaveRows}
 use Rattle.batch_setup.specs.Laws.Logarithms.{log_of_power}
 use Rattle.batch_setup.specs.Setup.{log_of}
 use Rattle.batch_validity.specs.Traced.{no_rows, traces_of}
 use Rattle.batch_validity.specs.Laws.Committed.{no_rows_tall}
 use Rattle.tool_tables.specs.Wheel.{number_in, numbers_to, turns}
-use Rattle.tool_validity.specs.Job.{IsWithin, JobTable, swap_of, wheel_of, take_of, give_of, give_row, log_height_of, swap_row, trace_of, traced_job, wheel_cell}
+use Rattle.tool_validity.specs.Job.{IsWithin, JobTable, swap_of, wheel_of, take_of, give_of, hash_of, give_row, log_height_of, swap_row, trace_of, traced_job, wheel_cell}
 use Rattle.batch_validity.specs.Laws.Columns.{column_height, column_row, column_tall, one_column, pieces_height, pieces_row, pieces_tall}
 
 either_long : {F : Type 0} (p : Bool) (a b : F) → length (cond p (a ∷ b ∷ []) (b ∷ a ∷ [])) ≡ 2
@@ -98,6 +101,20 @@ module _ {F : Type 0} (r : Ring F) where
         periods = no_periods (2 ^ log_of (length pairs));
       }
 
+  pub hash_rows : {E : Type 0} (rows : List (List ℕ)) → IsPowerOfTwo (length rows) → HaveRows {E = E} (2 ^ log_of (length rows)) (traces_of (traced_job r (hash_of rows))) no_rows
+  hash_rows rows power =
+      let n = 2 ^ log_of (length rows) in
+      let long : length (map (of_nat r) (rows_cells rows)) ≡ 9168 * length rows = length-map (rows_cells rows) (of_nat r) ∙ length-rows_cells rows in
+      let high : length (map (of_nat r) (rows_cells rows)) / 9168 ≡ length rows = omega (arith, long) in
+      let tall : length (map (of_nat r) (rows_cells rows)) / 9168 ≡ n = high ∙ power_of_log (length rows) power in
+      record {
+        tall = tall;
+        main = record { fills = omega (arith, long); tall = λ _. tall };
+        preprocessed = tt;
+        permutation = no_rows_tall n;
+        periods = no_periods n;
+      }
+
   -- two goes into each power of two but one
   two_divides : (k : ℕ) → 0 < k → IsPeriod (2 ^ k) 2
   two_divides zero pos = absurd (omega (arith, pos))
@@ -110,3 +127,4 @@ module _ {F : Type 0} (r : Ring F) where
   job_rows (wheel_of k) w = wheel_rows k (two_divides k w.0)
   job_rows (take_of words) w = take_rows words w.0
   job_rows (give_of pairs) w = give_rows pairs w.0
+  job_rows (hash_of rows) w = hash_rows rows w.0

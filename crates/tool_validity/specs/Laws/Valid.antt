@@ -21,7 +21,7 @@ use Rattle.batch_statement.specs.Statement.{Common, Statement, WellFormed, entry
 use Rattle.committed_tables.specs.Laws.Values.{maps}
 use Rattle.batch_validity.specs.Traced.{TracedTable, all_traced, log_rows, no_rows, preprocessed_matrices, sender, traced_at}
 use Rattle.batch_validity.specs.Valid.{AllFit, AreBalanced, CommitsToMatrices, HasQuotientDomain, IsTraced, OwnHold, Valid}
-use Rattle.tool_validity.specs.Job.{IsBalancedJob, IsJob, IsWithin, JobTable, swap_of, wheel_of, take_of, give_of, job_table, log_height_of, publics_of, times_given, times_taken, trace_of, traced_job}
+use Rattle.tool_validity.specs.Job.{IsBalancedJob, IsJob, IsWithin, JobTable, swap_of, wheel_of, take_of, give_of, hash_of, job_table, log_height_of, publics_of, times_given, times_taken, trace_of, traced_job}
 use Rattle.tool_validity.specs.Serves.{ServesJobs}
 use Rattle.tool_validity.specs.Laws.Loads.{job_bounded}
 use Rattle.tool_validity.specs.Laws.Messages.{HasItems, found, job_bus, job_net, own_lookups, own_table}
@@ -50,12 +50,14 @@ never_taken test absent (swap_of k a b) = refl
 never_taken test absent (wheel_of k) = refl
 never_taken test absent (take_of words) = never_counted test absent words
 never_taken test absent (give_of pairs) = refl
+never_taken test absent (hash_of rows) = refl
 
 never_given : {F : Type 0} (test : F → Bool) → ((x : F) → test x ≡ false) → (j : JobTable F) → times_given test j ≡ 0
 never_given test absent (swap_of k a b) = refl
 never_given test absent (wheel_of k) = refl
 never_given test absent (take_of words) = refl
 never_given test absent (give_of pairs) = never_summed test absent pairs
+never_given test absent (hash_of rows) = refl
 
 all_zero : {X : Type 0} (g : X → ℕ) → ((x : X) → g x ≡ 0) → (xs : List X) → sum_by g xs ≡ 0
 all_zero g z [] = refl
@@ -162,6 +164,7 @@ module _ {S F E C : Type 0} (c : Setting S F E C) (inverse : E → E) (Z : Serve
   items (wheel_of k) W = tt
   items (take_of words) W = ap (λ n. 2 ^ n) (rows_are c inverse Z (take_of words) W) ∙ sym (power_of_log (length words) W.0)
   items (give_of pairs) W = ap (λ n. 2 ^ n) (rows_are c inverse Z (give_of pairs) W) ∙ sym (power_of_log (length pairs) W.0)
+  items (hash_of inputs) W = tt
 
   buses_balanced : AreBalanced c eq (all_traced s traces bits)
   buses_balanced =
