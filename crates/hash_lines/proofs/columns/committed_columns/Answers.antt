@@ -20,6 +20,6 @@ returns c =
     let given = c.args.commitment.now in
     let i = c.args.matrix in
     let At : Vec (Vec BabyBear Global) Global → Type 0 = λ v. (m : Rows BabyBear) (k : ℕ) → slice_get given.matrices i ≡ Some m → height m ≡ 2 ^ k
-        → EachOf m.width v.items (λ j f. IsInterpolant bear_ring (coset_point bear_ring (reduce 31) (bear_root k)) (column bear_ring.zero m j) f.items) in
+    → EachOf m.width v.items (λ j f. IsInterpolant bear_ring (coset_point bear_ring (reduce 31) (bear_root k)) (column bear_ring.zero m j) f.items) in
     let Are : Vec (Vec BabyBear Global) Global → Type 0 = λ v. (k : ℕ) → k + 1 ≤ 27 → height (matrix_at given i) ≡ 2 ^ (k + 1) → map (λ f. f.items) v.items ≡ polynomials_at tool_scheme k given i in
     IfOk-weaker c.committed.result At Are (λ v h k fits high. columns_are given i k fits high v.items (h (matrix_at given i) (k + 1) (slice_get-get_or given.matrices i no_matrix c.requires.exists) high)) c.committed.ensures
