@@ -1,8 +1,8 @@
 -- The places of a list's values that aren't zero, as far as a loop has come.
-use Rattle.std.proofs.Common.{◌≡◌, ℕ, ◌+◌, ◌<◌, ◌⊎◌, inl, inr, List, [], ◌∷◌, ◌++◌, length, get_or, sym, ◌∙◌, ap, subst, arith, length-append, map}
+use Rattle.std.proofs.Common.{◌≡◌, ℕ, ◌+◌, ◌<◌, ◌⊎◌, inl, inr, List, [], ◌∷◌, ◌++◌, length, get_or, ◌∙◌, ap, subst, arith, length-append}
 use Rattle.std.specs.Prelude.{All, Contains}
 use Rattle.std.proofs.lemmas.Bool.{cases_lt}
-use Rattle.std.proofs.lemmas.List.{get_or_append_left, get_or_push, get_or_default, get_or-map, length-map}
+use Rattle.std.proofs.lemmas.List.{get_or_append_left, get_or_push, get_or_default}
 use Rattle.std.proofs.lemmas.List.Elements.{All-push, All-weaker, Contains-append_left, Contains-push}
 use Rattle.p3_field.specs.Ring.{Ring}
 use Rattle.p3_air.specs.Check.{AreNonzero}
@@ -63,13 +63,6 @@ module _ {A : Type 0} (r : Ring A) (values : List A) where
     | inl c ↦ let b = c.1 in absurd (omega (arith, b, e))
     | inr z ↦ get_or_default values k d r.zero lt ∙ z
   ]
-
--- what holds of each image holds of each item's image
-pub all_of_map : {X Y : Type 0} (Q : Y → Type 0) (f : X → Y) (xs : List X) (ys : List Y) → map f xs ≡ ys → All Q ys → All (λ x. Q (f x)) xs
-all_of_map {Y = Y} Q f xs ys e h = λ k d lt.
-    let P : List Y → Type 0 = λ l. All Q l in
-    let there : k < length (map f xs) = omega (arith, length-map xs f, lt) in
-    subst Q (get_or-map f xs k d (f d) lt) (subst P (sym e) h k (f d) there)
 
 -- a place among them is that of a value that isn't zero
 pub nonzero_fails : {A : Type 0} (r : Ring A) (values : List A) (places : List ℕ) → AreNonzero r values places → 0 < length places → All (λ x. x ≡ r.zero) values → ⊥

@@ -11,3 +11,4 @@ pub mod Fits
 pub mod Fractions
 pub mod Packing
 pub mod Folders
+pub mod Images

@@ -1,2 +1,3 @@
 -- What is proved of the definitions, by subject.
 pub mod Singles
+pub mod Challenges

@@ -2,7 +2,7 @@
 use Rattle.std.proofs.Common.{◌≡◌, ℕ, zero, suc, ◌+◌, ◌*◌, ◌/◌, ◌^◌, ◌<◌, ◌≤◌, Option, Some, None, List, length, map, refl, sym, ◌∙◌, ap, subst, arith}
 use Rattle.std.specs.Prelude.{IfSome}
 use Rattle.std.specs.List.{All}
-use Rattle.std.specs.Option.{option_map, option_copied}
+use Rattle.std.specs.Option.{option_map}
 use Rattle.std.proofs.Math.Nat.{div-zero, mul-div_cancel, pow-le-pow_right}
 use denote.Bor.{Bor}
 use Rattle.p3_field.specs.Field.{Extension, VectorLaws}
@@ -10,15 +10,11 @@ use Rattle.p3_matrix.specs.Matrix.{Rows, height}
 use Rattle.p3_matrix.specs.Laws.Flattened.{height-pieces}
 use Rattle.p3_air.specs.Shape.{width_of}
 use Rattle.p3_commit.specs.Periodic.{IsPeriod}
-use Rattle.batch_constraints.proofs.Nonzero.{all_of_map}
+use Rattle.batch_constraints.specs.Laws.Images.{all_of_map}
 use Rattle.committed_tables.specs.Rows.{flattened_matrix}
 use Rattle.batch_quotient.specs.QuotientRows.{permutation_columns}
 
--- what a reference to what may be there points to
-pub copied_is : {X : Type 0} (o : Option (Bor X)) → option_copied o ≡ option_map (λ m. m.now) o
-copied_is None = refl
-copied_is (Some m) = refl
-
+-- what holds of what is behind a reference that may be there
 pub behind_reference : {X : Type 0} (P : X → Type 0) (o : Option (Bor X)) → IfSome (option_map (λ m. m.now) o) P → IfSome o (λ m. P m.now)
 behind_reference P None h = h
 behind_reference P (Some m) h = h

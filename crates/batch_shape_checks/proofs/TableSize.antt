@@ -7,7 +7,7 @@ use Rattle.p3_lookup.specs.Written.{Written, read_all}
 use Rattle.batch_constraints.specs.BatchTrees.{AreLookupsOf}
 use Rattle.batch_statement.specs.Statement.{Table, tables_of}
 use Rattle.batch_shape_checks.specs.ShapeChecks.{chunks_at, chunks_of_table, no_table}
-use Rattle.batch_shape_checks.proofs.Items.{item_at, item_of_map}
+use Rattle.batch_shape_checks.specs.Laws.Items.{item_at, item_of_map}
 
 module _ {A F : Type 0} (declaration : A → Declaration F) (trees : A → List (Tree F)) (airs : List A) (lookups : List (List (Written F))) (i : ℕ) (a : A) (ls : List (Written F))
     (in_airs : i < length airs) (is_air : a ≡ get_or airs i a) (in_lookups : i < length lookups) (is_list : ls ≡ get_or lookups i ls) where

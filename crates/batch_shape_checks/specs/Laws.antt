@@ -2,3 +2,4 @@
 pub mod Verdicts
 pub mod Parts
 pub mod Reads
+pub mod Items

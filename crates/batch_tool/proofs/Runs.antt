@@ -15,7 +15,9 @@ use Rattle.line_format.specs.declared.parse.TextError.TheVariants.{Malformed, Ou
 use Rattle.tool_verifier.specs.FileAnswer.{IsFileAnswer}
 use Rattle.tool_verifier.specs.declared.answer.Answer.{Answer}
 use Rattle.proof_files.specs.Files.{FileData, FileWithin, file_words}
-use Rattle.batch_tool.specs.Answer.{Names, IsBadInput, bad_input_text, IsProveAnswer, IsVerifyAnswer, IsCommandAnswer, Answers, IsOutcome, IsSilent, Outcome}
+use Rattle.hash_lines.specs.PrintedRows.{printed_rows}
+use Rattle.tool_jobs.specs.Stated.{statement_of}
+use Rattle.batch_tool.specs.Answer.{IsAcceptedText, Names, IsBadInput, bad_input_text, IsProveAnswer, IsVerifyAnswer, IsCommandAnswer, Answers, IsOutcome, IsSilent, Outcome}
 use Rattle.batch_tool.specs.declared.command.Command.{Command}
 use Rattle.batch_tool.specs.declared.command.Command.TheVariants.{Prove, Verify}
 use Rattle.tool_verifier.specs.declared.status.Status.{Status}
@@ -29,9 +31,9 @@ one-word (x ∷ []) w a b e = ap (λ (t : String Global). string_bytes t ∷ [])
 one-word (x ∷ y ∷ ws) w a b e = absurd (omega arith)
 
 -- the text of a proved job is that of a proof file, for which `verify` writes `accepted`
-proved-accepted : (job : List (JobTable BabyBear)) (text : List ℕ) → IsJobAnswer job Done text → IsVerifyAnswer text Done (codes "accepted\n")
+proved-accepted : (job : List (JobTable BabyBear)) (text : List ℕ) → IsJobAnswer job Done text → IsAcceptedText text
 unfolding IsJobAnswer
-proved-accepted job text a = (file_of job a.proof, a.within, a.text_is, a.accepted)
+proved-accepted job text a = (printed_rows (map statement_of job) a.proof, (file_of job a.proof, a.within, a.text_is, a.accepted))
 
 -- the answer to a job is the answer of `prove`
 pub prove-answers : (bytes : List ℕ) (job : List (JobTable BabyBear)) (status : Status) (text : List ℕ) → JobWithin job → bytes ≡ line_text (job_words job)

@@ -40,10 +40,14 @@ IsVerifyAnswer bytes status text = (file : FileData) × FileWithin file × (byte
 abbrev pub AnswersJob : List ℕ → Status → List ℕ → Type 0
 AnswersJob bytes status text = (job : List (JobTable BabyBear)) × JobWithin job × (bytes ≡ line_text (job_words job)) × IsJobAnswer job status text
 
+-- `verify` writes `accepted` for this text, and rows of hash tables behind it
+abbrev pub IsAcceptedText : List ℕ → Type 0
+IsAcceptedText text = (rows : List ℕ) × IsVerifyAnswer text Done (codes "accepted\n" ++ rows)
+
 -- The status and the text of `prove` for all the bytes of an input. For each text that it writes with the status `Done`, `verify` writes `accepted`.
 abbrev pub IsProveAnswer : List ℕ → Status → List ℕ → Type 0
 IsProveAnswer bytes BadInput text = IsBadInput JobWithin job_words bytes text
-IsProveAnswer bytes Done text = AnswersJob bytes Done text × IsVerifyAnswer text Done (codes "accepted\n")
+IsProveAnswer bytes Done text = AnswersJob bytes Done text × IsAcceptedText text
 IsProveAnswer bytes status text = AnswersJob bytes status text
 
 -- the status and the text of a command for all the bytes of an input

@@ -37,8 +37,9 @@ fn bytes_that_are_no_job_are_bad_input(rt: HostRuntime) -> Result<(), Fail> {
 
 #[test]
 fn tables_beyond_their_limits_are_bad_input(rt: HostRuntime) -> Result<(), Fail> {
-    // No table, and nine; a kind that there isn't; a wheel of one row, and one of too many; lists whose count is no power of two or too great;
-    // a word that is given too often; a list that is cut; a table that is missing.
+    // No table, and nine; a kind that there isn't; a row of compressions that is cut, a count of rows that is no power of two, one that is too
+    // great, and a word of more than 32 bits; a wheel of one row, and one of too many; lists whose count is no power of two or too great; a word
+    // that is given too often; a list that is cut; a table that is missing.
     let inputs = [
         ("0\n", 1),
         (
@@ -46,7 +47,11 @@ fn tables_beyond_their_limits_are_bad_input(rt: HostRuntime) -> Result<(), Fail>
             1,
         ),
         ("1\n0\n3\n0\n1\n", 2),
-        ("1\n5\n1\n1\n2\n3\n4\n", 2),
+        ("1\n6\n1\n1\n2\n3\n4\n", 2),
+        ("1\n5\n1\n1\n2\n3\n4\n", 8),
+        ("1\n5\n3\n1\n", 3),
+        ("1\n5\n16\n1\n", 3),
+        ("1\n5\n1\n4294967296\n", 4),
         ("1\n2\n0\n", 3),
         ("1\n2\n11\n", 3),
         ("1\n3\n0\n", 3),

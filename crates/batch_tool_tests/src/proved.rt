@@ -1,7 +1,7 @@
 // Runs of `prove` whose whole output another program, written apart from this one, gives; what `verify` answers for them.
 use crate::files::{EIGHT_ROWS, FOUR_KINDS, FOUR_ROWS, ONE_ROW, TAKE_GIVE, WHEEL};
 use crate::jobs::TAKES_AND_GIVES;
-use crate::runs::{answers, is_proved_and_accepted, ran, words_of};
+use crate::runs::{answers, fnv_1a, is_proved_and_accepted, ran, words_of};
 use batch_tool::{MemorySink, MemorySource, read_proof_file, run, write_proof_file};
 use p3_field::Mem;
 use std::alloc::Global;
@@ -24,15 +24,6 @@ fn a_job_gets_its_one_proof_file(rt: HostRuntime) -> Result<(), Fail> {
         answers(&rt, rt.alloc(), &["prove"], job, 0, file)?;
     }
     Ok(())
-}
-
-/// The 64-bit FNV-1a hash of bytes.
-fn fnv_1a(bytes: &[u8]) -> u64 {
-    let mut hash: u64 = 0xcbf2_9ce4_8422_2325;
-    for byte in bytes {
-        hash = (hash ^ *byte as u64).wrapping_mul(0x100_0000_01b3);
-    }
-    hash
 }
 
 #[test]

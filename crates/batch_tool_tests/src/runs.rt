@@ -106,3 +106,12 @@ pub fn line_at_fault(text: &[u8]) -> u64 {
     }
     number
 }
+
+/// The 64-bit FNV-1a hash of bytes.
+pub fn fnv_1a(bytes: &[u8]) -> u64 {
+    let mut hash: u64 = 0xcbf2_9ce4_8422_2325;
+    for byte in bytes {
+        hash = (hash ^ *byte as u64).wrapping_mul(0x100_0000_01b3);
+    }
+    hash
+}

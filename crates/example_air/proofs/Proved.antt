@@ -16,13 +16,14 @@ use Rattle.batch_statement.specs.Statement.{WellFormed, WrittenCommon, read_comm
 use Rattle.honest_proofs.specs.HonestProof.{IsBuilt}
 use Rattle.batch_proving.specs.Batch.{Batch, IsKeptWith, IsTracedAll, batch_of, preprocessed_all}
 use Rattle.batch_proving.specs.Laws.Telling.{refusal_tells}
+use Rattle.batch_proving.specs.PlainBackend.{bear_prover, plain_commits, plain_prover_backend}
 use Rattle.batch_proving.specs.Proving.{IsProved, proving_checks}
 use Rattle.batch_proving.specs.Verdict.{IsAnswerRefusal, IsProverAnswer}
 use Rattle.batch_proving.specs.declared.error.ProvingError.{ProvingError}
 use Rattle.batch_proving.specs.declared.error.ProvingError.TheVariants.{LookupDenominatorZero, MultiplicityBound, OutOfMemory, Pcs, WitnessNotFound}
 use Rattle.tool_statement.specs.Config.{tool_setting}
 use Rattle.example_air.specs.Bytes.{example_declaration, example_trees}
-use Rattle.example_air.specs.Proving.{AreTables, IsKept, IsTablesProof, LacksTablesProof, backend_over, commits_over, prover_over, tables_batch}
+use Rattle.example_air.specs.Proving.{AreTables, IsKept, IsTablesProof, LacksTablesProof, tables_batch}
 use Rattle.example_air.specs.Statement.{BytesProof, example_common, table_of}
 use Rattle.example_air.specs.declared.air.ExampleAir.{ExampleAir}
 use Rattle.example_air.specs.declared.air.ExampleAir.TheVariants.{Bits, Bytes}
@@ -51,7 +52,7 @@ module _ (t u : Rows BabyBear) (t_fills : FillsRows t.values t.width) (A : AreTa
   instances = record { air = Bits; trace = t; public_values = p } ∷ record { air = Bytes; trace = u; public_values = q } ∷ []
 
   abbrev batch : ToolBatch
-  batch = batch_of c (prover_over (scheme_with b)) (example_declaration bear_ring) (example_trees bear_ring) instances written
+  batch = batch_of c (bear_prover (scheme_with b)) (example_declaration bear_ring) (example_trees bear_ring) instances written
 
   none_masked : masks c ≡ 0
   unfolding tool_setting
@@ -66,7 +67,7 @@ module _ (t u : Rows BabyBear) (t_fills : FillsRows t.values t.width) (A : AreTa
   same_batch : batch ≡ tables_batch t u
   same_batch = λ i. record {
     setting = setting_is i;
-    prover = prover_over (scheme_with (scheme_is i));
+    prover = bear_prover (scheme_with (scheme_is i));
     statement = record { tables = table_of Bits ∷ table_of Bytes ∷ []; publics = no_p i ∷ no_q i ∷ []; common = common_is i };
     traces = t ∷ u ∷ [];
     degree_bits = first_bits i ∷ second_bits i ∷ [];
@@ -77,25 +78,25 @@ module _ (t u : Rows BabyBear) (t_fills : FillsRows t.values t.width) (A : AreTa
       subst (λ (B : ToolBatch). IsTracedAll B) (sym same_batch)
       (traced t u t_fills A (subst (WellFormed (example_declaration bear_ring Bits ∷ example_declaration bear_ring Bytes ∷ [])) common_is formed))
 
-  pub kept_there : (kept : Option (List (CosetData BabyBear × Rows BabyBear))) → IsKept written.preprocessed kept → IsKeptWith (commits_over (scheme_with b)) (preprocessed_all batch) batch.statement.common.preprocessed kept
+  pub kept_there : (kept : Option (List (CosetData BabyBear × Rows BabyBear))) → IsKept written.preprocessed kept → IsKeptWith (plain_commits (scheme_with b)) (preprocessed_all batch) batch.statement.common.preprocessed kept
   unfolding tool_setting
   kept_there kept K =
-      subst (λ (B : ToolBatch). IsKeptWith (commits_over (scheme_with b)) (preprocessed_all B) written.preprocessed kept) (sym same_batch)
-      (subst (λ x. IsKeptWith (commits_over (scheme_with x)) (preprocessed_all (tables_batch t u)) written.preprocessed kept) (sym scheme_is) K)
+      subst (λ (B : ToolBatch). IsKeptWith (plain_commits (scheme_with b)) (preprocessed_all B) written.preprocessed kept) (sym same_batch)
+      (subst (λ x. IsKeptWith (plain_commits (scheme_with x)) (preprocessed_all (tables_batch t u)) written.preprocessed kept) (sym scheme_is) K)
 
-  pub proof_there : (proof : BytesProof) → IsProved (backend_over (scheme_with b)) batch proof → IsTablesProof t u proof
+  pub proof_there : (proof : BytesProof) → IsProved (plain_prover_backend (scheme_with b)) batch proof → IsTablesProof t u proof
   proof_there proof P = subst (λ (B : ToolBatch). IsBuilt B.setting B.prover B.statement B.traces B.degree_bits proof) same_batch P.built
 
-  told : (e : ProvingError PlainProverError) → IsAnswerRefusal (proving_checks (backend_over (scheme_with one_bit)) (tables_batch t u)) e → LacksTablesProof t u e
-  told (Pcs phase source) h = refusal_tells (backend_over (scheme_with one_bit)) (tables_batch t u) (Pcs phase source) h
-  told (MultiplicityBound bus) h = refusal_tells (backend_over (scheme_with one_bit)) (tables_batch t u) (MultiplicityBound bus) h
-  told (LookupDenominatorZero i row) h = refusal_tells (backend_over (scheme_with one_bit)) (tables_batch t u) (LookupDenominatorZero i row) h
-  told (WitnessNotFound step) h = refusal_tells (backend_over (scheme_with one_bit)) (tables_batch t u) (WitnessNotFound step) h
+  told : (e : ProvingError PlainProverError) → IsAnswerRefusal (proving_checks (plain_prover_backend (scheme_with one_bit)) (tables_batch t u)) e → LacksTablesProof t u e
+  told (Pcs phase source) h = refusal_tells (plain_prover_backend (scheme_with one_bit)) (tables_batch t u) (Pcs phase source) h
+  told (MultiplicityBound bus) h = refusal_tells (plain_prover_backend (scheme_with one_bit)) (tables_batch t u) (MultiplicityBound bus) h
+  told (LookupDenominatorZero i row) h = refusal_tells (plain_prover_backend (scheme_with one_bit)) (tables_batch t u) (LookupDenominatorZero i row) h
+  told (WitnessNotFound step) h = refusal_tells (plain_prover_backend (scheme_with one_bit)) (tables_batch t u) (WitnessNotFound step) h
   told OutOfMemory h = tt
 
-  pub refusal_there : {T : Type 0} (r : Result T (ProvingError PlainProverError)) → IsProverAnswer (proving_checks (backend_over (scheme_with b)) batch) r → IfErr r (LacksTablesProof t u)
+  pub refusal_there : {T : Type 0} (r : Result T (ProvingError PlainProverError)) → IsProverAnswer (proving_checks (plain_prover_backend (scheme_with b)) batch) r → IfErr r (LacksTablesProof t u)
   refusal_there (Ok x) h = tt
   refusal_there (Err e) h =
       told e
-      (subst (λ (B : ToolBatch). IsAnswerRefusal (proving_checks (backend_over (scheme_with one_bit)) B) e) same_batch
-      (subst (λ x. IsAnswerRefusal (proving_checks (backend_over (scheme_with x)) batch) e) scheme_is h))
+      (subst (λ (B : ToolBatch). IsAnswerRefusal (proving_checks (plain_prover_backend (scheme_with one_bit)) B) e) same_batch
+      (subst (λ x. IsAnswerRefusal (proving_checks (plain_prover_backend (scheme_with x)) batch) e) scheme_is h))

@@ -24,9 +24,10 @@ use Rattle.batch_setup.specs.Preprocessed.{IsPrepared, committed_below, entry_at
 use Rattle.batch_setup.specs.SetupChecks.{degree_checks, trace_checks}
 use Rattle.batch_setup.specs.declared.error.SetupError.{SetupError}
 use Rattle.batch_statement.specs.Statement.{PreprocessedTracesData}
+use Rattle.batch_proving.specs.PlainBackend.{plain_commits}
 use Rattle.tool_statement.specs.Config.{tool_scheme}
 use Rattle.example_air.specs.Bytes.{all_bytes, example_declaration, example_interactions, example_trees}
-use Rattle.example_air.specs.Proving.{IsKept, commits_over}
+use Rattle.example_air.specs.Proving.{IsKept}
 use Rattle.example_air.specs.Statement.{bytes_column, example_common}
 use Rattle.example_air.specs.declared.air.ExampleAir.TheVariants.{Bits, Bytes}
 
@@ -86,7 +87,7 @@ common_is log_rows lookups (Some g) (Some d) points point_at made holds b e l h 
 
 -- and what it keeps beside is what the plain scheme keeps of the column
 pub kept_is : (log_rows : ℕ) (p : Option (PreprocessedTracesData (PlainCommitmentData BabyBear))) (kept : Option (List (CosetData BabyBear × Rows BabyBear))) (b : Blowup) → b ≡ record { log_blowup = 1 }
-    → IsPrepared (commits_over (own_scheme b)) (table 2 (entry_at bear_ring.one sources (log_rows ∷ 8 ∷ []))) (committed_below bear_ring.one sources (log_rows ∷ 8 ∷ []) 2) p kept → IsKept p kept
+    → IsPrepared (plain_commits (own_scheme b)) (table 2 (entry_at bear_ring.one sources (log_rows ∷ 8 ∷ []))) (committed_below bear_ring.one sources (log_rows ∷ 8 ∷ []) 2) p kept → IsKept p kept
 kept_is log_rows None kept b e h = absurd h
 kept_is log_rows (Some g) None b e h = absurd h
-kept_is log_rows (Some g) (Some d) b e h = subst (λ (s : Blowup). commits_over (own_scheme s) (bytes_column ∷ []) (g.commitment, d)) e h.2
+kept_is log_rows (Some g) (Some d) b e h = subst (λ (s : Blowup). plain_commits (own_scheme s) (bytes_column ∷ []) (g.commitment, d)) e h.2

@@ -1,15 +1,10 @@
 -- What the verifier says of the data that is made of the two tables, it says of their statement; and what the rows of the table of bits are.
-use Rattle.std.proofs.Common.{◌≡◌, ℕ, ◌^◌, ◌<◌, List, [], ◌∷◌, false, length, Result, Err, refl, sym, ◌∙◌, subst}
-use Rattle.std.proofs.lemmas.List.{length-map}
+use Rattle.std.proofs.Common.{◌≡◌, ℕ, ◌^◌, ◌<◌, List, [], ◌∷◌, length, Result, Err, sym, subst}
 use Rattle.p3_field.specs.BabyBear.{bear_ring, bear_inv, bear_root, reduce}
-use Rattle.p3_field.specs.Domain.{point}
-use Rattle.p3_field.specs.Laws.SubgroupSelectors.{subgroup}
-use Rattle.p3_field.specs.Poly.{val}
 use Rattle.p3_field.specs.Quartic.{quartic_inv}
 use Rattle.p3_field.specs.declared.baby_bear.BabyBear.{BabyBear}
 use Rattle.p3_field.specs.declared.quartic.QuarticExtension.{QuarticExtension}
 use Rattle.p3_challenger.specs.declared.sha256_challenger.Sha256Challenger.{Sha256Challenger}
-use Rattle.p3_air.specs.RowCheck.{Row}
 use Rattle.plain_pcs.specs.Scheme.{Blowup, PlainCommitmentData, scheme}
 use Rattle.plain_pcs.specs.declared.error.PlainError.{PlainError}
 use Rattle.committed_tables.specs.Committed.{CommittedTable, Holds, rows_of}
@@ -22,7 +17,7 @@ use Rattle.batch_statement.specs.declared.error.BatchVerificationError.{BatchVer
 use Rattle.batch_verifier.specs.BatchChecks.{checks}
 use Rattle.plain_soundness.specs.BaseRows.{IsMainHere, main_row}
 use Rattle.plain_soundness.specs.CommittedBatch.{committed_table}
-use Rattle.plain_soundness.specs.Laws.BaseRows.{zero_below}
+use Rattle.plain_soundness.specs.Laws.BaseRows.{rows_mean}
 use Rattle.plain_soundness.specs.Laws.SwapTables.{first_of}
 use Rattle.plain_soundness.specs.Meaning.{CommittedTablesHold, HoldUnlessUnlucky, IsAlphaUnlucky, IsZetaUnlucky}
 use Rattle.tool_statement.specs.Config.{backend_of, tool_backend, tool_setting}
@@ -75,23 +70,8 @@ meant_is c b ps m p e f q k h = carried (λ d a s. HoldUnlessUnlucky d a s p) c 
 row_is_byte : FieldsLaws bear_field quartic_extension 27 quartic_inv → RowMeans bear_ring → (t : CommittedTable BabyBear QuarticExtension) → length t.main ≡ 9 → Holds bear_field quartic_extension t (bits_trees bear_ring)
     → (i : ℕ) → i < rows_of t → (byte : ℕ) × (byte < 256) × (main_row bear_field t i ≡ bits_row bear_ring byte)
 row_is_byte L means t wide holds i below =
-    let at = λ (g : List BabyBear). val bear_ring g (point bear_ring bear_root (subgroup bear_ring t.log_height) i) in
-    let row : Row BabyBear BabyBear = record {
-      main_local = main_row bear_field t i;
-      main_next = [];
-      preprocessed_local = [];
-      preprocessed_next = [];
-      periodic = [];
-      public_values = [];
-      is_first_row = false;
-      is_last_row = false;
-      permutation_local = [];
-      permutation_next = [];
-      challenges = [];
-      terminals = [];
-    } in
-    (means row (length-map t.main at ∙ wide)).0
-    (zero_below bear_field quartic_extension 27 quartic_inv L t i row refl (bits_trees bear_ring) holds below (reads_bits bear_ring IsMainHere (λ _. ⊥) (λ k lt. tt)))
+    rows_mean bear_field quartic_extension 27 quartic_inv L t (bits_trees bear_ring) (λ cells. (byte : ℕ) × (byte < 256) × (cells ≡ bits_row bear_ring byte)) 9 (λ row w vanish. (means row w).0 vanish)
+    (reads_bits bear_ring IsMainHere (λ _. ⊥) (λ k lt. tt)) wide holds i below
 
 abbrev RowsAt : ToolSetting → ℕ → ToolStatement → (log_rows : ℕ) → BytesProof → Type 0
 RowsAt c b s log_rows p =

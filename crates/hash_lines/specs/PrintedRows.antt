@@ -1,5 +1,5 @@
 -- The lines that `verify` prints of a statement's hash tables.
-use Rattle.std.specs.Prelude.{◌≡◌, ℕ, ◌+◌, ◌^◌, ◌<◌, ◌≤◌, min, List, [], length, Some, slice_get}
+use Rattle.std.specs.Prelude.{◌≡◌, ℕ, ◌+◌, ◌^◌, ◌<◌, ◌≤◌, List, [], length, Some, slice_get}
 use Rattle.std.specs.Prelude.{slice_index_or as get_or}
 use Rattle.p3_air.specs.Joined.{joined}
 use Rattle.p3_field.specs.declared.baby_bear.BabyBear.{BabyBear}
@@ -9,7 +9,7 @@ use Rattle.plain_soundness.specs.Commitment.{matrix_at}
 use Rattle.plain_soundness.specs.CommittedBatch.{committed_table}
 use Rattle.proof_text.specs.ProofText.{ToolProofData}
 use Rattle.tool_statement.specs.Config.{tool_setting}
-use Rattle.tool_statement.specs.StatedTables.{log_heights_of, tool_statement}
+use Rattle.tool_statement.specs.StatedTables.{tool_statement}
 use Rattle.tool_statement.specs.declared.table.TableStatement.{TableStatement}
 use Rattle.tool_statement.specs.declared.table.TableStatement.TheVariants.{Swap, Wheel, Take, Give, Hash}
 use Rattle.hash_lines.specs.RowText.{row_line}
@@ -42,7 +42,3 @@ pub record HasHashMatrix (p : ToolProofData) (i k : ℕ) : Type 0 where
 -- so of each hash table
 abbrev pub HasHashMatrices : List TableStatement → ToolProofData → Type 0
 HasHashMatrices tables p = (i k : ℕ) → slice_get tables i ≡ Some (Hash k) → HasHashMatrix p i k
-
--- the degree bits of each table, below both lengths, are the stated logarithm of its height
-abbrev pub HaveStatedBits : List TableStatement → (degree_bits : List ℕ) → Type 0
-HaveStatedBits tables degree_bits = (i : ℕ) → i < min (length tables) (length degree_bits) → get_or (log_heights_of tables) i 0 ≡ get_or degree_bits i 0

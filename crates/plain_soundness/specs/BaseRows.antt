@@ -1,7 +1,8 @@
 -- The rows of a committed table over the base field (own).
-use Rattle.std.specs.Prelude.{ℕ, true, false, List, map}
+use Rattle.std.specs.Prelude.{ℕ, true, false, List, [], map}
 use Rattle.p3_air.specs.declared.cells.Cell.{Cell}
 use Rattle.p3_air.specs.declared.cells.Cell.TheVariants.{Main, Preprocessed, Periodic, Public, FirstRow, LastRow, Transition}
+use Rattle.p3_air.specs.RowCheck.{Row}
 use Rattle.p3_air.specs.Shape.{ReadsIn}
 use Rattle.p3_air.specs.Tree.{Tree}
 use Rattle.p3_field.specs.Domain.{point}
@@ -13,6 +14,23 @@ use Rattle.committed_tables.specs.Committed.{CommittedTable}
 -- row i of the main columns: the values of their polynomials at the row's point
 abbrev pub main_row : {F E : Type 0} → TwoAdic F → CommittedTable F E → ℕ → List F
 main_row f t i = map (λ g. val f.ring g (point f.ring f.root (subgroup f.ring t.log_height) i)) t.main
+
+-- a row of these cells alone
+abbrev pub row_here : {F E : Type 0} → TwoAdic F → CommittedTable F E → ℕ → Row F F
+row_here f t i = record {
+  main_local = main_row f t i;
+  main_next = [];
+  preprocessed_local = [];
+  preprocessed_next = [];
+  periodic = [];
+  public_values = [];
+  is_first_row = false;
+  is_last_row = false;
+  permutation_local = [];
+  permutation_next = [];
+  challenges = [];
+  terminals = [];
+}
 
 -- the cell is one of this row's main cells
 abbrev pub IsMainHere : Cell → Type 0

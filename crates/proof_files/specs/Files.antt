@@ -6,7 +6,7 @@ use Rattle.p3_field.specs.declared.baby_bear.BabyBear.{BabyBear}
 use Rattle.line_format.specs.Texts.{ListWithin, list_words}
 use Rattle.tool_statement.specs.StatedTables.{TableWithin}
 use Rattle.tool_statement.specs.declared.table.TableStatement.{TableStatement}
-use Rattle.tool_statement.specs.declared.table.TableStatement.TheVariants.{Swap, Wheel, Take, Give}
+use Rattle.tool_statement.specs.declared.table.TableStatement.TheVariants.{Swap, Wheel, Take, Give, Hash}
 use Rattle.proof_text.specs.ProofText.{ProofWithin, ToolProofData, proof_words}
 
 -- a table's statement: its kind, the logarithm of its rows, and a swap table's public values
@@ -15,10 +15,15 @@ statement_words (Swap k a b x) = 1 ∷ k ∷ a.value ∷ b.value ∷ x.value ∷
 statement_words (Wheel k) = 2 ∷ k ∷ []
 statement_words (Take k) = 3 ∷ k ∷ []
 statement_words (Give k) = 4 ∷ k ∷ []
+statement_words (Hash k) = 5 ∷ k ∷ []
 
--- by the kind: the least logarithm of the rows, the number of public values, and the statement with this logarithm and these values
+-- by the kind: the least and the greatest logarithm of the rows, the number of public values, and the statement with this logarithm and these
+-- values
 abbrev pub least_log_rows : ℕ → ℕ
 least_log_rows kind = if kind == 2 then 1 else 0
+
+abbrev pub most_log_rows : ℕ → ℕ
+most_log_rows kind = if kind == 5 then 3 else 10
 
 abbrev pub public_count : ℕ → ℕ
 public_count kind = if kind == 1 then 3 else 0
@@ -28,7 +33,8 @@ stated kind k values =
     if kind == 1 then Swap k (get_or values 0 bear_ring.zero) (get_or values 1 bear_ring.zero) (get_or values 2 bear_ring.zero)
     else if kind == 2 then Wheel k
     else if kind == 3 then Take k
-    else Give k
+    else if kind == 4 then Give k
+    else Hash k
 
 -- a proof file as plain data
 pub record FileData : Type 0 where

@@ -1,6 +1,6 @@
 //! The text of a table's statement.
 ghost use Rattle.std.specs.Prelude.{◌≡◌, ◌≤◌, length};
-ghost use Rattle.proof_files.specs.Files.{least_log_rows, public_count, stated};
+ghost use Rattle.proof_files.specs.Files.{least_log_rows, most_log_rows, public_count, stated};
 
 use line_format::{Form, ItemError, Reader, push_number, read_items};
 use p3_field::{BabyBear, Mem};
@@ -19,14 +19,31 @@ const TAKE: u32 = 3;
 /// The first line of the text of a table that gives words.
 const GIVE: u32 = 4;
 
-/// The most that the base-2 logarithm of a table's rows may be.
+/// The first line of the text of a table of compressions.
+const HASH: u32 = 5;
+
+/// The most that the base-2 logarithm of a table's rows may be, but for tables of compressions.
 const MOST_LOG_ROWS: u32 = 10;
+
+/// The most that the base-2 logarithm of the rows of a table of compressions may be.
+const MOST_LOG_HASHES: u32 = 3;
 
 // The least logarithm of the rows of a table of this kind.
 fn least_rows(kind: u32) -> u32
     ensures { result ≡ least_log_rows kind }
 {
     if kind == WHEEL { 1 } else { 0 }
+}
+
+// The greatest logarithm of the rows of a table of this kind.
+fn most_rows(kind: u32) -> u32
+    ensures { result ≡ most_log_rows kind }
+{
+    if kind == HASH {
+        MOST_LOG_HASHES
+    } else {
+        MOST_LOG_ROWS
+    }
 }
 
 // How many public values a table of this kind has.
@@ -52,13 +69,15 @@ fn table_of(kind: u32, k: u8, values: &[BabyBear]) -> TableStatement
         TableStatement::Wheel { k }
     } else if kind == TAKE {
         TableStatement::Take { k }
-    } else {
+    } else if kind == GIVE {
         TableStatement::Give { k }
+    } else {
+        TableStatement::Hash { k }
     }
 }
 
-/// The form of a table's statement: its kind, 1 for a swap table, 2 for a wheel, 3 for one that takes words, 4 for one that gives words; the
-/// base-2 logarithm of its rows; and a, b and x of a swap table.
+/// The form of a table's statement: its kind, 1 for a swap table, 2 for a wheel, 3 for one that takes words, 4 for one that gives words, 5
+/// for one of compressions of BLAKE3; the base-2 logarithm of its rows; and a, b and x of a swap table.
 pub struct StatedTable;
 
 impl Form for StatedTable {
@@ -80,8 +99,8 @@ impl Form for StatedTable {
     ghost grammar = { table-grammar };
 
     fn read(alloc: Global, reader: &mut Reader) -> Result<TableStatement, ItemError> {
-        let kind = reader.number(SWAP, GIVE)?;
-        let k = reader.number(least_rows(kind), MOST_LOG_ROWS)?;
+        let kind = reader.number(SWAP, HASH)?;
+        let k = reader.number(least_rows(kind), most_rows(kind))?;
         let values = read_items::<BabyBear>(alloc, reader, public_values(kind))?;
         Ok(table_of(kind, k as u8, &values))
     }
@@ -105,6 +124,10 @@ impl Form for StatedTable {
             }
             TableStatement::Give { k } => {
                 push_number(out, 4)?;
+                push_number(out, *k as u64)
+            }
+            TableStatement::Hash { k } => {
+                push_number(out, 5)?;
                 push_number(out, *k as u64)
             }
         }

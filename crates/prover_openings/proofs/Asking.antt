@@ -1,10 +1,11 @@
 -- What is asked of a batch are the rounds of an honest proof, by prover data that hold what the rounds do.
-use Rattle.std.proofs.Common.{◌≡◌, ℕ, ◌^◌, ◌<◌, false, List, [], ◌∷◌, ◌++◌, length, get_or, map, Option, None, Some, refl, sym, ◌∙◌, ap, subst, arith}
+use Rattle.std.proofs.Common.{◌≡◌, ℕ, ◌^◌, ◌<◌, false, List, [], ◌∷◌, ◌++◌, length, get_or, map, Option, None, Some, sym, ◌∙◌, ap, subst, arith}
 use Rattle.std.specs.Prelude.{All, option_to_list}
 use Rattle.std.specs.List.{flat_map}
 use Rattle.std.proofs.lemmas.List.{get_or-map, length-map}
 use Rattle.std.proofs.lemmas.List.Elements.{All-cons}
 use Rattle.p3_field.specs.Domain.{CosetData, point}
+use Rattle.p3_field.specs.Laws.SubgroupSelectors.{map_table}
 use Rattle.p3_field.specs.Laws.Tables.{get_or-table, table_same}
 use Rattle.p3_field.specs.Poly.{table}
 use Rattle.p3_matrix.specs.Matrix.{Rows}
@@ -21,13 +22,13 @@ use Rattle.batch_statement.specs.Statement.{PreprocessedTracesData, Table}
 use Rattle.committed_tables.specs.Fields.{FieldsLaws}
 use Rattle.batch_validity.specs.Traced.{declared}
 use Rattle.honest_proofs.specs.HonestProof.{alpha, challenges_at, main_part, permutation_part, quotient_part, where_some, zeta}
+use Rattle.honest_proofs.specs.Laws.Flat.{flat_same, map_flat, map_where}
 use Rattle.honest_acceptance.specs.Rounds.{AskFor, OpenedMatrix, Round, chunk_opened, chunks, chunks_opened, committed_of, held_of, honest_rounds, main_opened, mains, of_table, permutation_opened, permutations, points_with, preprocessed_opened, preprocesseds, round_of}
 use Rattle.honest_acceptance.specs.Laws.Kept.{chunks_kept, mains_kept, permutations_kept, preprocesseds_kept}
 use Rattle.honest_acceptance.specs.Laws.Opened.{kept_on}
 use Rattle.honest_acceptance.specs.Laws.Rounds.{ArePaired, each_paired, paired_append}
 use Rattle.prover_openings.specs.Asked.{KeptRounds, asked_of, chunk_points, main_points, permutation_points, plan_in, preprocessed_points, request_where}
 use Rattle.prover_openings.specs.Check.{AreBoth}
-use Rattle.prover_openings.proofs.Lists.{flat_same, map_flat, map_table}
 
 -- a request asks for a round, by prover data that was made and holds what the round does
 record AsksFor {F E C D : Type 0} (made : D → Type 0) (holds : D → C → List (Committed F) → Type 0) (r : Round F E C) (q : Request D E) : Type 0 where
@@ -77,10 +78,6 @@ kept_both commits ms None None h = tt
 kept_both commits ms None (Some d) h = h
 kept_both commits ms (Some g) None h = h
 kept_both commits ms (Some g) (Some d) h = h
-
-map_where_some : {A B X : Type 0} (g : B → X) (ls : List A) (y : B) → map g (option_to_list (where_some ls y)) ≡ option_to_list (where_some ls (g y))
-map_where_some g [] y = refl
-map_where_some g (l ∷ ls) y = refl
 
 module _ {S F E C : Type 0} (b : Batch S F E C) (L : FieldsLaws b.setting.field b.setting.extension b.setting.two_adicity b.prover.inverse) (B : IsTracedAll b) (w : Option F) (z : F) where
   abbrev n : ℕ
@@ -149,7 +146,7 @@ module _ {S F E C : Type 0} (b : Batch S F E C) (L : FieldsLaws b.setting.field 
       let v = λ (i : ℕ). option_to_list (where_some (get_or b.statement.common.lookups i []) (x ∷ after (table_at b i).degree_bits ∷ [])) in
       let u = λ (i : ℕ). points_in (permutation_at i) in
       ap (λ m. flat_map v (table m (λ i. i))) long
-      ∙ (flat_same v u n (λ i. i) (λ i h. sym (map_where_some (λ (o : OpenedMatrix F E). o.points) (get_or b.statement.common.lookups i []) _))
+      ∙ (flat_same v u n (λ i. i) (λ i h. sym (map_where (λ (o : OpenedMatrix F E). o.points) (get_or b.statement.common.lookups i []) _))
       ∙ sym (map_flat (λ (o : OpenedMatrix F E). o.points) permutation_at (table n (λ i. i))))
 
   module _ {D : Type 0} (plain : b.setting.zk ≡ false) (columns : (i : ℕ) → i < n → HasColumns (declared (table_at b i)).preprocessed)

@@ -9,10 +9,10 @@ use Rattle.p3_lookup.specs.Written.{Written, read_all}
 use Rattle.batch_constraints.specs.BatchTrees.{AreLookupsOf}
 use Rattle.batch_setup.specs.Setup.{Instance, airs_of}
 use Rattle.batch_shape_checks.specs.ShapeChecks.{chunks_of_table, no_table}
+use Rattle.batch_shape_checks.specs.Laws.Items.{item_of_map}
 use Rattle.batch_statement.specs.Statement.{Table, tables_of}
 use Rattle.batch_validity.specs.Traced.{no_rows}
 use Rattle.prover_openings.specs.Counts.{IsCountable, log_count_at}
-use Rattle.prover_openings.proofs.Lists.{item_of_map}
 
 module _ {F A : Type 0} (r : Ring F) (declaration : A → Declaration F) (trees : A → List (Tree F)) (instances : List (Instance A F)) (lookups : List (List (Written F))) (i : ℕ) (x : Instance A F) (ls : List (Written F)) (air : A) (rows : ℕ)
     (b : i < length instances) (at : x ≡ get_or instances i x) (d : i < length lookups) (listed : ls ≡ get_or lookups i ls) (own : air ≡ x.air) (tall : rows ≡ height x.trace) where

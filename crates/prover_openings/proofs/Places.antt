@@ -1,17 +1,16 @@
 -- The places of tables' items in lists of all items, table by table.
-use Rattle.std.proofs.Common.{◌≡◌, ℕ, zero, suc, ◌+◌, ◌<◌, true, List, [], ◌∷◌, ◌++◌, length, get_or, map, take, Option, None, Some, refl, sym, ◌∙◌, ap, arith}
+use Rattle.std.proofs.Common.{◌≡◌, ℕ, zero, suc, ◌+◌, ◌<◌, true, List, [], ◌∷◌, ◌++◌, length, get_or, map, Option, None, Some, refl, sym, ◌∙◌, ap, arith}
 use Rattle.std.specs.List.{flat_map}
 use Rattle.std.proofs.Math.ListN.{get_or-append}
-use Rattle.std.proofs.Math.Seq.{take-length}
 use Rattle.std.proofs.lemmas.List.{get_or-append-add}
-use Rattle.p3_field.specs.Laws.Tables.{table_of_items}
 use Rattle.p3_field.specs.Poly.{table}
 use Rattle.batch_claims.specs.Claims.{matrix_tables}
 use Rattle.batch_shape_checks.specs.ShapeChecks.{HasEntries, is_there}
 use Rattle.batch_statement.specs.Statement.{ListsEntries, PreprocessedTracesData, entry_of, with_entry}
 use Rattle.batch_statement.specs.declared.preprocessed.PreprocessedInstanceMeta.{PreprocessedInstanceMeta}
 use Rattle.prover_openings.specs.Taken.{count_below, one_where}
-use Rattle.prover_openings.proofs.Lists.{flat_same, map_table}
+use Rattle.honest_proofs.specs.Laws.Flat.{flat_over, flat_same}
+use Rattle.honest_acceptance.specs.Laws.Entries.{listed_is, map_items}
 
 -- the numbers below, of the first and of those behind it
 pub count_front : (f : ℕ → ℕ) (i : ℕ) → count_below f (suc i) ≡ f zero + count_below (λ k. f (suc k)) i
@@ -63,10 +62,6 @@ pub one_there : {Y : Type 0} (o : Option PreprocessedInstanceMeta) (y d : Y) →
 one_there None y d h = cc
 one_there (Some m) y d h = refl
 
-flat_over : {B : Type 0} (g : ℕ → List B) (n : ℕ) (q : ℕ → ℕ) → flat_map g (table n (λ i. suc (q i))) ≡ flat_map (λ i. g (suc i)) (table n q)
-flat_over g zero q = refl
-flat_over g (suc n) q = ap (λ l. g (suc (q zero)) ++ l) (flat_over g n (λ i. q (suc i)))
-
 with_first : {Y : Type 0} (v : ℕ → Y) (o : Option PreprocessedInstanceMeta) (es : List (Option PreprocessedInstanceMeta)) (k : ℕ) → map v (with_entry k (o ∷ es)) ≡ one_of o (v k) ++ map v (with_entry (suc k) es)
 with_first v None es k = refl
 with_first v (Some m) es k = refl
@@ -82,18 +77,7 @@ entries_flat v e (suc n) k =
     ∙ ap (λ l. g zero ++ l)
     (entries_flat v (λ j. e (suc j)) n (suc k)
     ∙ (flat_same h (λ j. g (suc j)) n (λ j. j) (λ j l. let q : suc k + j ≡ k + suc j = omega arith in ap (λ m. one_of (e (suc j)) (v m)) q)
-    ∙ sym (flat_over g n (λ j. j)))))
-
-no_entries : (n i : ℕ) (o : ℕ → Option PreprocessedInstanceMeta) → ((j : ℕ) → o j ≡ None) → with_entry i (table n o) ≡ []
-no_entries zero i o none = refl
-no_entries (suc n) i o none = ap (λ e. with_entry i (e ∷ table n (λ j. o (suc j)))) (none zero) ∙ no_entries n (suc i) (λ j. o (suc j)) (λ j. none (suc j))
-
-listed_is : {C : Type 0} (g : Option (PreprocessedTracesData C)) (n : ℕ) → HasEntries n g → ListsEntries n g → matrix_tables g ≡ with_entry 0 (table n (entry_of g))
-listed_is {C} None n long l = sym (no_entries n 0 (entry_of {C = C} None) (λ j. refl))
-listed_is (Some g) n long l = l ∙ ap (with_entry 0) ((λ i. take (sym long i) g.instances) ∙ (take-length g.instances ∙ table_of_items None g.instances n long))
-
-map_items : {B : Type 0} (v : ℕ → B) (ms : List ℕ) → map v ms ≡ table (length ms) (λ m. v (get_or ms m 0))
-map_items v ms = ap (map v) (table_of_items 0 ms (length ms) refl) ∙ map_table v (length ms) (λ m. get_or ms m 0)
+    ∙ sym (flat_over g n (λ i. suc i) (λ j. j)))))
 
 -- what there is for each preprocessed matrix stands in the order of the tables with an entry
 pub by_entries : {C Y : Type 0} (g : Option (PreprocessedTracesData C)) (n : ℕ) (v : ℕ → Y) → HasEntries n g → ListsEntries n g

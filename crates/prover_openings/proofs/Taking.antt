@@ -3,6 +3,7 @@ use Rattle.std.proofs.Common.{◌≡◌, ℕ, zero, suc, ◌+◌, ◌^◌, ◌<�
 use Rattle.std.specs.Prelude.{option_map, option_to_list}
 use Rattle.std.specs.List.{flat_map}
 use Rattle.std.proofs.lemmas.List.{get_or-map, length-map}
+use Rattle.p3_field.specs.Laws.SubgroupSelectors.{map_table}
 use Rattle.p3_field.specs.Laws.Tables.{get_or-table, length-table, table_same}
 use Rattle.p3_field.specs.Poly.{table, val_in}
 use Rattle.p3_field.specs.Ring.{Ring}
@@ -24,11 +25,11 @@ use Rattle.batch_validity.specs.Laws.Held.{all_counted}
 use Rattle.batch_validity.specs.Traced.{TracedTable, constraints, declared, log_parts, quotient_shift}
 use Rattle.batch_validity.specs.Valid.{HasQuotientDomain, IsTraced}
 use Rattle.honest_proofs.specs.HonestProof.{Prover, alpha, challenges_at, committed_table, committed_where, opened_of, permutation_matrices, permutation_part, quotient_part, main_part, where_some, zeta}
+use Rattle.honest_proofs.specs.Laws.Flat.{map_flat}
 use Rattle.honest_acceptance.specs.Rounds.{OpenedMatrix, chunk_opened, chunks, chunks_opened, honest_rounds, main_opened, mains, permutation_opened, permutations, point_after, points_with, preprocessed_opened, preprocesseds, round_of, values_in_rounds}
 use Rattle.honest_acceptance.specs.Laws.Lengths.{permutation_count}
 use Rattle.prover_openings.specs.Rows.{first_of, rows_in, second_of, values_of_row}
 use Rattle.prover_openings.specs.Taken.{RoundValues, count_below, one_where, round_values, taken_at, taken_table}
-use Rattle.prover_openings.proofs.Lists.{map_flat, map_table}
 use Rattle.prover_openings.proofs.Places.{by_entries, first_item_at, item_at, one_long, one_of, one_there}
 
 -- the rows of a matrix that is opened at zeta, and at the next point where next columns are declared

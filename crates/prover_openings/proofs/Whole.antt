@@ -1,14 +1,11 @@
 -- What a prover asks to be opened for the one pair of grinding values, and what it gets.
-use Rattle.std.proofs.Common.{◌≡◌, ℕ, ◌^◌, ◌<◌, inl, inr, suc, Bool, true, false, List, [], ◌∷◌, map, Option, sym, ◌∙◌, ap, subst, arith}
+use Rattle.std.proofs.Common.{◌≡◌, ℕ, ◌^◌, ◌<◌, inl, inr, suc, Bool, false, List, [], ◌∷◌, map, Option, sym, ◌∙◌, subst, arith}
 use Rattle.std.specs.Prelude.{All}
-use Rattle.std.proofs.lemmas.Bool.{cases_lt}
 use Rattle.std.proofs.lemmas.List.Elements.{All-cons, All-map}
-use Rattle.p3_challenger.specs.Grind.{IsLeast}
 use Rattle.p3_field.specs.Domain.{CosetData, point}
 use Rattle.p3_field.specs.Checks.{FirstFails, NoneFails}
 use Rattle.p3_field.specs.Laws.Checks.{holds_alone, none_alone}
 use Rattle.p3_field.specs.Poly.{table}
-use Rattle.p3_field.specs.Ring.{Ring, of_nat}
 use Rattle.p3_matrix.specs.Matrix.{Rows}
 use Rattle.p3_air.specs.Shape.{HasColumns}
 use Rattle.p3_commit.specs.Claims.{CommitmentClaim, Request}
@@ -23,11 +20,10 @@ use Rattle.batch_proving.specs.declared.error.ProvingError.{ProvingError}
 use Rattle.batch_setup.specs.declared.error.ProverPhase.TheVariants.{Opening}
 use Rattle.batch_shape_checks.specs.ShapeChecks.{is_there}
 use Rattle.batch_statement.specs.Proof.{OpenedWithLookups}
-use Rattle.batch_transcript.specs.Grinding.{number_passes}
 use Rattle.batch_validity.specs.Traced.{declared}
 use Rattle.committed_tables.specs.Fields.{FieldsLaws}
-use Rattle.honest_proofs.specs.HonestProof.{AreCanonical, IsOodGround, alpha, challenges_at, honest_claims, opened_of, opening_state, state_at_ood, zeta}
-use Rattle.honest_proofs.specs.Laws.Ground.{one_lookup}
+use Rattle.honest_proofs.specs.HonestProof.{AreCanonical, alpha, challenges_at, honest_claims, opened_of, opening_state, zeta}
+use Rattle.honest_proofs.specs.Laws.Ground.{one_lookup, one_ood}
 use Rattle.honest_acceptance.specs.Rounds.{AskFor, OpenedMatrix, Round, honest_rounds, values_in_rounds}
 use Rattle.honest_acceptance.specs.Laws.Opened.{opening_taken, opening_values}
 use Rattle.honest_acceptance.specs.Laws.Rounds.{ArePaired, paired_from}
@@ -37,19 +33,6 @@ use Rattle.prover_openings.specs.Taken.{round_values, taken_at}
 use Rattle.prover_openings.proofs.Asking.{ask, held_all, made_all}
 use Rattle.prover_openings.proofs.Given.{kept_there}
 use Rattle.prover_openings.proofs.Taking.{tables_opened}
-
--- the least number is one, and so is the value whose canonical number it is
-one_least : (P : ℕ → Type 0) (m n : ℕ) → IsLeast P m → IsLeast P n → m ≡ n
-one_least P m n a b = elim (cases_lt m n) [
-  | inl less ↦ absurd (b.none_below m less a.meets)
-  | inr more ↦ elim (cases_lt n m) [
-    | inl less ↦ absurd (a.none_below n less b.meets)
-    | inr same ↦ omega (arith, more, same)
-  ]
-]
-
-one_value : {F : Type 0} (r : Ring F) (order : ℕ) (canonical : F → ℕ) (K : AreCanonical r order canonical) (x y : F) → canonical x ≡ canonical y → x ≡ y
-one_value r order canonical K x y e = sym (K.ones x) ∙ (ap (of_nat r) e ∙ K.ones y)
 
 -- points that rounds avoid are avoided by what asks for them
 avoided : {F E C D : Type 0} (excludes : E → Type 0) (rs : List (Round F E C)) (qs : List (Request D E)) → ArePaired (λ (r : Round F E C) (q : Request D E). q.points ≡ map (λ (o : OpenedMatrix F E). o.points) r.matrices) rs qs
@@ -80,11 +63,7 @@ module _ {S F E C D P R : Type 0} (k : ProverBackend S F E C D P R) (b : Batch S
   same_lookup w z G = one_lookup b.setting b.prover b.statement b.traces b.degree_bits K Y.lookup_witness w Y.is_ground.0 G.0
 
   same_ood : (w : Option F) (z : F) → IsGroundOf b w z → Y.ood_witness ≡ z
-  same_ood w z G =
-      let c = b.setting in
-      let own = subst (λ u. IsOodGround c b.prover b.statement b.traces b.degree_bits u Y.ood_witness) (same_lookup w z G) Y.is_ground.1 in
-      one_value c.field.ring c.order b.prover.canonical K Y.ood_witness z
-      (one_least (λ n. number_passes c.challenger c.field.ring (state_at_ood c b.prover b.statement b.traces b.degree_bits w) c.ood_bits n ≡ true) (b.prover.canonical Y.ood_witness) (b.prover.canonical z) own G.1)
+  same_ood w z G = one_ood b.setting b.prover b.statement b.traces b.degree_bits K Y.lookup_witness w Y.ood_witness z (same_lookup w z G) Y.is_ground.1 G.1
 
   -- so what holds of them holds of all
   pub of_own : (Q : Option F → F → Type 0) → Q Y.lookup_witness Y.ood_witness → (w : Option F) (z : F) → IsGroundOf b w z → Q w z

@@ -12,10 +12,11 @@ use Rattle.batch_shape_checks.specs.ShapeChecks.{no_table}
 use Rattle.batch_statement.specs.Statement.{Table, WrittenCommon}
 use Rattle.committed_tables.specs.Fields.{FieldsLaws}
 use Rattle.honest_proofs.specs.HonestProof.{Prover, challenges_at}
+use Rattle.honest_proofs.specs.Laws.Draws.{challenges_count}
 use Rattle.batch_proving.specs.Batch.{Batch, IsTracedAll, all_challenges, batch_of, table_count}
 use Rattle.prover_traces.specs.Laws.Instances.{counted}
 use Rattle.prover_permutations.specs.Columns.{AreReady}
-use Rattle.prover_permutations.proofs.Whole.{challenges_long, ready}
+use Rattle.prover_permutations.proofs.Whole.{ready}
 
 module _ {S F E C A : Type 0} (c : Setting S F E C) (p : Prover F E C) (declaration : A → Declaration F) (trees : A → List (Tree F)) (instances : List (Instance A F)) (common : WrittenCommon F C)
     (B : IsTracedAll (batch_of c p declaration trees instances common)) (w : Option F) where
@@ -39,4 +40,4 @@ module _ {S F E C A : Type 0} (c : Setting S F E C) (p : Prover F E C) (declarat
       let Wide : Table F → Type 0 = λ t. HasColumns t.declaration.preprocessed in
       let wide : All Wide b.statement.tables = All-map Wide (λ (a : A). record { declaration = declaration a; trees = trees a }) (airs_of instances) (λ j a k. has (get_or (airs_of instances) j a)) in
       ready b L B plain i (get_or challenges i []) h (wide i no_table h)
-      (ap length (ap (λ (l : List (List E)). get_or l i []) drawn ∙ get_or-table (table_count b) own i [] h) ∙ challenges_long b B w i h)
+      (ap length (ap (λ (l : List (List E)). get_or l i []) drawn ∙ get_or-table (table_count b) own i [] h) ∙ challenges_count b.setting b.prover b.statement b.traces b.degree_bits B w i h)

@@ -1,16 +1,12 @@
 -- What is behind references that may be there, and what is generated for equal traces.
-use Rattle.std.proofs.Common.{◌≡◌, ℕ, List, Option, None, Some, refl, subst}
+use Rattle.std.proofs.Common.{◌≡◌, ℕ, List, Option, None, Some, subst}
 use Rattle.std.specs.Prelude.{IfSome}
-use Rattle.std.specs.Option.{option_copied, option_map}
+use Rattle.std.specs.Option.{option_map}
 use denote.Bor.{Bor}
 use Rattle.p3_field.specs.Ring.{Ring}
 use Rattle.p3_matrix.specs.Matrix.{Rows, height}
 use Rattle.p3_lookup.specs.Generated.{IsFirstZeroOf, argument_over}
 use Rattle.p3_lookup.specs.Lookup.{LookupData}
-
-pub copied_is : {X : Type 0} (o : Option (Bor X)) → option_copied o ≡ option_map (λ m. m.now) o
-copied_is None = refl
-copied_is (Some m) = refl
 
 pub behind_reference : {X : Type 0} (P : X → Type 0) (o : Option (Bor X)) → IfSome (option_map (λ m. m.now) o) P → IfSome o (λ m. P m.now)
 behind_reference P None h = h

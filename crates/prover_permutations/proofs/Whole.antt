@@ -1,57 +1,31 @@
 -- What is made of all tables of a batch, for the challenges that are drawn.
-use Rattle.std.proofs.Common.{◌≡◌, ℕ, zero, suc, ◌+◌, ◌*◌, ◌^◌, ◌<◌, List, [], ◌∷◌, ◌++◌, length, get_or, map, Option, None, Some, Result, Ok, Err, inl, inr, refl, sym, ◌∙◌, ap, subst, arith}
-use Rattle.std.specs.Prelude.{IfOk, IfSome, option_map, option_to_list, count_by, cond}
-use Rattle.std.specs.List.{flat_map}
+use Rattle.std.proofs.Common.{◌≡◌, ℕ, ◌+◌, ◌*◌, ◌^◌, ◌<◌, List, [], ◌∷◌, ◌++◌, length, get_or, map, Option, None, Some, Result, Ok, Err, inl, inr, refl, sym, ◌∙◌, ap, subst, arith}
+use Rattle.std.specs.Prelude.{IfOk, IfSome, option_map, option_to_list}
 use Rattle.std.specs.Result.{IsErrAnd}
 use Rattle.std.proofs.lemmas.Bool.{cases_lt}
-use Rattle.std.proofs.lemmas.Grind.{flat_map-append}
 use Rattle.std.proofs.lemmas.List.{map-append}
-use Rattle.std.proofs.lemmas.List.Sums.{sum_by-cons}
 use Rattle.p3_field.specs.Checks.{FirstFails, NoneFails}
 use Rattle.p3_field.specs.Domain.{CosetData}
-use Rattle.p3_field.specs.Laws.Tables.{get_or-table, table_more, table_push, table_same}
-use Rattle.p3_field.specs.Poly.{table}
-use Rattle.p3_field.specs.Ring.{Ring}
+use Rattle.p3_field.specs.Laws.Tables.{get_or-table, table_push, table_same}
 use Rattle.p3_matrix.specs.Matrix.{Rows, height}
 use Rattle.p3_air.specs.Shape.{HasColumns}
 use Rattle.p3_lookup.specs.Generated.{IsFirstZeroOf}
 use Rattle.p3_lookup.specs.declared.terminal.LookupTerminal.{LookupTerminal}
-use Rattle.p3_lookup.specs.Batch.{laid_out}
-use Rattle.p3_lookup.specs.Bus.{batch_buses, bus_count, widest}
-use Rattle.p3_lookup.specs.Challenge.{ChallengesData, challenges_with}
-use Rattle.p3_lookup.specs.Lookup.{LookupData}
-use Rattle.batch_transcript.specs.Buses.{batch_layout, instance_challenges}
 use Rattle.batch_setting.specs.Setting.{masks}
-use Rattle.batch_shape_checks.specs.ShapeChecks.{has_some}
 use Rattle.batch_validity.specs.Laws.Held.{lookups_fit}
 use Rattle.batch_validity.specs.Traced.{declared, log_rows}
 use Rattle.committed_tables.specs.Fields.{FieldsLaws}
 use Rattle.committed_tables.specs.Traces.{IsSomeTall}
-use Rattle.honest_proofs.specs.HonestProof.{AreCanonical, HasFractions, IsDenominatorZero, argument_of, challenges_at, pair, permutation_matrices, state_at_pair, terminal_of, terminals}
+use Rattle.honest_proofs.specs.HonestProof.{AreCanonical, HasFractions, IsDenominatorZero, argument_of, challenges_at, permutation_matrices, terminal_of, terminals}
 use Rattle.honest_proofs.specs.Laws.Answered.{fault_is}
+use Rattle.honest_proofs.specs.Laws.Flat.{flat_more, flat_same}
 use Rattle.honest_proofs.specs.Laws.Ground.{denominator_event, one_lookup}
-use Rattle.honest_proofs.specs.Laws.Staged.{IsPair, one_pair}
 use Rattle.batch_proving.specs.Batch.{Batch, IsTracedAll, all_challenges, all_permutations, table_at, table_count}
 use Rattle.batch_proving.specs.Proving.{HaveFractionsFor, IsPairGroundOf, fraction_part}
 use Rattle.batch_proving.specs.Verdict.{IsProverRefusal, IsProverVerdict}
 use Rattle.batch_proving.specs.declared.error.ProvingError.{ProvingError}
 use Rattle.batch_proving.specs.declared.error.ProvingError.TheVariants.{LookupDenominatorZero, MultiplicityBound, OutOfMemory, Pcs, WitnessNotFound}
 use Rattle.prover_permutations.specs.Columns.{AreMade, FractionsOf, IsFirstZeroIn, IsAllMade, IsMade, IsMadeMore, IsReady, IsZeroAt, NoneMade, challenges_of}
-
-append_nothing : {A : Type 0} (xs : List A) → xs ++ [] ≡ xs
-append_nothing [] = refl
-append_nothing (x ∷ xs) = ap (λ ys. x ∷ ys) (append_nothing xs)
-
--- lists that are joined, and one behind them
-joined_more : {Y : Type 0} (f : ℕ → List Y) (n : ℕ) → flat_map f (table n (λ i. i)) ++ f n ≡ flat_map f (table (n + 1) (λ i. i))
-joined_more f n =
-    ap (λ ys. flat_map f (table n (λ i. i)) ++ ys) (sym (append_nothing (f n)))
-    ∙ (sym (flat_map-append f (table n (λ i. i)) (n ∷ [])) ∙ ap (flat_map f) (table_more n (λ i. i)))
-
--- the same lists are joined
-joined_same : {Y : Type 0} (f g : ℕ → List Y) (n : ℕ) (q : ℕ → ℕ) → ((i : ℕ) → i < n → f (q i) ≡ g (q i)) → flat_map f (table n q) ≡ flat_map g (table n q)
-joined_same f g zero q h = refl
-joined_same f g (suc n) q h = λ k. h zero (omega arith) k ++ joined_same f g n (λ i. q (suc i)) (λ i l. h (suc i) (omega (arith, l))) k
 
 -- what is made of no table, and of one table more
 module _ {S F E C : Type 0} (b : Batch S F E C) (challenges : List (List E)) where
@@ -70,7 +44,7 @@ module _ {S F E C : Type 0} (b : Batch S F E C) (challenges : List (List E)) whe
           | inl less ↦ A.fractions i less
           | inr over ↦ let e : n ≡ i = omega (arith, over, h) in subst (FractionsOf b challenges) e M.fractions
         ];
-        columns_are = added ∙ ((λ k. A.columns_are k ++ M.matrix k) ∙ joined_more f n);
+        columns_are = added ∙ ((λ k. A.columns_are k ++ M.matrix k) ∙ flat_more f n);
         terminals_are = ap (map value) pushed ∙ (map-append value terminals (terminal ∷ []) ∙ table_push n t (map value terminals) (value terminal) A.terminals_are M.terminal);
       }
 
@@ -97,51 +71,7 @@ module _ {S F E C : Type 0} (b : Batch S F E C) (challenges : List (List E)) whe
   zero_of_table m n (WitnessNotFound step) h before z = z
   zero_of_table m n OutOfMemory h before z = tt
 
--- two challenges are laid out for each lookup
-laid_out_length : {E : Type 0} (z : E) (d : ChallengesData E) (bus : ℕ → ℕ) (n m : ℕ) → length (laid_out z d bus n m) ≡ 2 * m
-laid_out_length z d bus n zero = refl
-laid_out_length z d bus n (suc m) = let h = laid_out_length z d bus (suc n) m in omega (arith, h)
-
-none_has : {A : Type 0} (ls : List (List A)) (i : ℕ) → count_by has_some ls ≡ 0 → length (get_or ls i []) ≡ 0
-none_has [] i h = refl
-none_has ([] ∷ ls) zero h = refl
-none_has {A} ([] ∷ ls) (suc i) h =
-    let e : count_by has_some ([] ∷ ls) ≡ 0 + count_by has_some ls = sum_by-cons (λ (x : List A). cond (has_some x) 1 0) [] ls in
-    none_has ls i (omega (arith, e, h))
-none_has {A} ((x ∷ xs) ∷ ls) i h =
-    let e : count_by has_some ((x ∷ xs) ∷ ls) ≡ 1 + count_by has_some ls = sum_by-cons (λ (y : List A). cond (has_some y) 1 0) (x ∷ xs) ls in
-    absurd (omega (arith, e, h))
-
--- no challenges
-abbrev nothing : {A E : Type 0} → A → List E
-nothing x = []
-
-nowhere : {A : Type 0} (E : Type 0) (ls : List A) (i : ℕ) → length (get_or (map (nothing {A = A} {E = E}) ls) i []) ≡ 0
-nowhere E [] i = refl
-nowhere E (x ∷ xs) zero = refl
-nowhere E (x ∷ xs) (suc i) = nowhere E xs i
-
-layout_long : {F E : Type 0} (e : Ring E) (pair : List E) (n : ℕ) (ls : List (List (LookupData F))) (i : ℕ) → count_by has_some ls ≡ n → IsPair n pair → i < length ls
-    → length (get_or (batch_layout e pair ls) i []) ≡ 2 * length (get_or ls i [])
-layout_long {F} {E} e pair zero ls i p none l =
-    let off = none_has ls i p in
-    let empty = nowhere E ls i in
-    ap (λ q. length (get_or (batch_layout e q ls) i [])) none ∙ omega (arith, off, empty)
-layout_long e pair (suc n) ls i p (alpha, beta, two) l =
-    let d = challenges_with e alpha beta (widest ls) (bus_count (batch_buses ls)) in
-    ap (λ q. length (get_or (batch_layout e q ls) i [])) two
-    ∙ (ap length (get_or-table (length ls) (instance_challenges e d ls) i [] l) ∙ laid_out_length e.zero d _ 0 (length (get_or ls i [])))
-
 module _ {S F E C : Type 0} (b : Batch S F E C) where
-  -- the challenges of a table of a traced batch are two for each of its lookups
-  pub challenges_long : IsTracedAll b → (w : Option F) (i : ℕ) → i < table_count b → length (challenges_at b.setting b.prover b.statement b.traces b.degree_bits w i) ≡ 2 * length (table_at b i).lookups
-  unfolding pair
-  challenges_long B w i h =
-      let c = b.setting in
-      let n = count_by has_some b.statement.common.lookups in
-      layout_long c.extension.ring (pair c b.prover b.statement b.traces b.degree_bits w) n b.statement.common.lookups i refl
-      (one_pair c.challenger c.extension.dimension n c.lookup_bits w (state_at_pair c b.prover b.statement b.traces b.degree_bits)) (let q = B.lists.lookups_long in omega (arith, h, q))
-
   -- the preprocessed trace of a traced table has its rows
   some_tall : (o : Option (Rows F)) (n m : ℕ) → m ≡ n → HasColumns o → IsSomeTall n o → IfSome o (λ r. height r ≡ m)
   some_tall None n m e some tall = tt
@@ -182,7 +112,7 @@ module _ {S F E C : Type 0} (b : Batch S F E C) (B : IsTracedAll b) (K : AreCano
   columns_drawn : (columns : List (CosetData F × Rows F)) (ts : List (Option (LookupTerminal E))) → AreMade b challenges (table_count b) columns ts → (v : Option F) → IsPairGroundOf b v → columns ≡ all_permutations b v
   columns_drawn columns ts A v also =
       A.columns_are
-      ∙ joined_same (λ i. permutation_matrices b.setting b.prover (table_at b i) (challenges_of b challenges i)) (λ i. permutation_matrices b.setting b.prover (table_at b i) (drawn_at v i)) (table_count b) (λ i. i)
+      ∙ flat_same (λ i. permutation_matrices b.setting b.prover (table_at b i) (challenges_of b challenges i)) (λ i. permutation_matrices b.setting b.prover (table_at b i) (drawn_at v i)) (table_count b) (λ i. i)
       (λ i h. ap (permutation_matrices b.setting b.prover (table_at b i)) (own v also i h))
 
   terminals_drawn : (columns : List (CosetData F × Rows F)) (ts : List (Option (LookupTerminal E))) → AreMade b challenges (table_count b) columns ts → (v : Option F) → IsPairGroundOf b v

@@ -1,14 +1,12 @@
 -- Chunks of the honest quotient's values are those of the honest proof.
-use Rattle.std.proofs.Common.{◌≡◌, ℕ, ◌+◌, ◌*◌, ◌^◌, ◌<◌, List, length, get_or, All, sym, ◌∙◌, ap, subst, arith}
+use Rattle.std.proofs.Common.{◌≡◌, ℕ, ◌+◌, ◌^◌, ◌<◌, List, length, get_or, All, sym, ◌∙◌, ap, subst, arith}
 use Rattle.std.proofs.lemmas.Option.{slice_get-get_or}
 use Rattle.p3_field.specs.Domain.{CosetData}
 use Rattle.p3_field.specs.Field.{Extension, TwoAdic}
 use Rattle.p3_field.specs.Laws.SubgroupSelectors.{subgroup}
-use Rattle.p3_field.specs.Laws.Tables.{get_or-table, length-table, table_of_items, table_same}
-use Rattle.p3_field.specs.Poly.{table}
-use Rattle.p3_matrix.specs.Matrix.{FillsRows, Rows, cell_at, column, height}
+use Rattle.p3_field.specs.Laws.Tables.{length-table, table_of_items, table_same}
+use Rattle.p3_matrix.specs.Matrix.{FillsRows, Rows}
 use Rattle.p3_matrix.specs.Laws.Cells.{same_matrix}
-use Rattle.p3_matrix.specs.Laws.Transposed.{get_or-row_at}
 use Rattle.p3_commit.specs.Space.{EachOf}
 use Rattle.p3_air.specs.Tree.{Tree}
 use Rattle.batch_quotient.specs.Chunks.{IsChunk}
@@ -16,10 +14,10 @@ use Rattle.batch_quotient.specs.Evaluations.{quotient_values_on}
 use Rattle.batch_setting.specs.Setting.{Setting}
 use Rattle.committed_tables.specs.Committed.{CommittedTable}
 use Rattle.committed_tables.specs.Fields.{FieldsLaws}
-use Rattle.committed_tables.specs.Quotient.{chunk_cell, chunk_domain}
-use Rattle.batch_validity.specs.Laws.Columns.{pieces_height, pieces_row, pieces_tall}
+use Rattle.committed_tables.specs.Quotient.{chunk_domain}
 use Rattle.batch_validity.specs.Traced.{TracedTable, constraints, log_parts, log_rows, no_rows, quotient_shift}
-use Rattle.honest_proofs.specs.HonestProof.{Prover, chunk_matrices, chunk_rows, committed_table, quotient_row}
+use Rattle.honest_proofs.specs.HonestProof.{Prover, chunk_matrices, chunk_rows, committed_table}
+use Rattle.honest_proofs.specs.Laws.ChunkRows.{chunk_column, chunk_fills, chunk_tall}
 
 -- a quotient has a value for each point
 pub values_count : {F E : Type 0} (f : TwoAdic F) (e : Extension F E) (t : CommittedTable F E) (trees : List (Tree F)) (alpha : E) (d : CosetData F) (values : List E)
@@ -30,42 +28,8 @@ module _ {S F E C : Type 0} (c : Setting S F E C) (p : Prover F E C) (t : Traced
   abbrev k : CommittedTable F E
   k = committed_table c p t challenges
 
-  abbrev rows : ℕ
-  rows = 2 ^ log_rows c t
-
   abbrev parts : ℕ
   parts = 2 ^ log_parts c t
-
-  abbrev row_of_chunk : ℕ → ℕ → List F
-  row_of_chunk n j = quotient_row c p t challenges alpha (n + parts * j)
-
-  row_long : (n j : ℕ) → length (row_of_chunk n j) ≡ c.extension.dimension
-  row_long n j = L.vector.parts_length _
-
-  abbrev places : List ℕ
-  places = table rows (λ j. j)
-
-  counted : length places ≡ rows
-  counted = length-table rows (λ j. j)
-
-  chunk_tall : (n : ℕ) → height (chunk_rows c p t challenges alpha n) ≡ rows
-  chunk_tall n = pieces_height (row_of_chunk n) c.extension.dimension (row_long n) L.vector.positive places ∙ counted
-
-  chunk_fills : (n : ℕ) → FillsRows (chunk_rows c p t challenges alpha n).values (chunk_rows c p t challenges alpha n).width
-  chunk_fills n = (pieces_tall (row_of_chunk n) c.extension.dimension (row_long n) L.vector.positive rows places counted).fills
-
-  chunk_column : (n i : ℕ) → i < c.extension.dimension
-      → column c.field.ring.zero (chunk_rows c p t challenges alpha n) i ≡ table rows (chunk_cell c.field c.extension k (quotient_shift c) (log_parts c t) (constraints c t) alpha n i)
-  unfolding column
-  chunk_column n i below =
-      let m = chunk_rows c p t challenges alpha n in
-      let z = c.field.ring.zero in
-      ap (λ h. table h (λ j. cell_at z m j i)) (chunk_tall n)
-      ∙ table_same rows (λ j. cell_at z m j i) (λ j. get_or (row_of_chunk n j) i z) (λ j b.
-      sym (get_or-row_at m j i z below)
-      ∙ ap (λ r. get_or r i z)
-      (pieces_row (row_of_chunk n) c.extension.dimension (row_long n) places j 0 (let q = counted in omega (arith, b, q))
-      ∙ ap (row_of_chunk n) (get_or-table rows (λ j. j) j 0 b)))
 
   abbrev chunk : ℕ → CosetData F × Rows F
   chunk n = (chunk_domain c.field c.extension k (quotient_shift c) (log_parts c t) n, chunk_rows c p t challenges alpha n)
@@ -75,8 +39,8 @@ module _ {S F E C : Type 0} (c : Setting S F E C) (p : Prover F E C) (t : Traced
   unfolding committed_table
   one_chunk n x fills K =
       let m : x.1 ≡ chunk_rows c p t challenges alpha n =
-      same_matrix c.field.ring.zero (chunk_rows c p t challenges alpha n) x.1 (chunk_fills n) fills K.width (K.height ∙ sym (chunk_tall n))
-      (λ j l. K.cells j l ∙ sym (chunk_column n j l)) in
+      same_matrix c.field.ring.zero (chunk_rows c p t challenges alpha n) x.1 (chunk_fills c p t challenges L alpha n) fills K.width (K.height ∙ sym (chunk_tall c p t challenges L alpha n))
+      (λ j l. K.cells j l ∙ sym (chunk_column c p t challenges L alpha n j l)) in
       λ i. (K.domain i, m i)
 
   -- chunks whose matrices fill their rows are the honest ones

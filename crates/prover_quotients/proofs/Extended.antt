@@ -1,11 +1,9 @@
 -- The extensions of the chunks of some first tables.
-use Rattle.std.proofs.Common.{◌≡◌, ℕ, ◌+◌, ◌^◌, List, [], ◌∷◌, ◌++◌, length, Result, IfOk, refl, sym, ◌∙◌, ap, subst}
-use Rattle.std.specs.List.{flat_map}
-use Rattle.std.proofs.lemmas.Grind.{flat_map-append}
+use Rattle.std.proofs.Common.{◌≡◌, ℕ, ◌+◌, ◌^◌, List, [], ◌∷◌, ◌++◌, length, Result, IfOk, sym, ◌∙◌, ap, subst}
 use Rattle.p3_field.specs.Checks.{Check, NoneFails, in_turn}
 use Rattle.p3_field.specs.Domain.{CosetData}
 use Rattle.p3_field.specs.Laws.Checks.{none_in_turn, none_of_none}
-use Rattle.p3_field.specs.Laws.Tables.{length-table, table_more}
+use Rattle.p3_field.specs.Laws.Tables.{length-table}
 use Rattle.p3_field.specs.Poly.{table}
 use Rattle.p3_matrix.specs.Matrix.{Rows}
 use Rattle.p3_commit.specs.Commitments.{AreExtensions}
@@ -16,12 +14,9 @@ use Rattle.batch_proving.specs.Verdict.{IsProverVerdict}
 use Rattle.batch_proving.specs.declared.error.ProvingError.{ProvingError}
 use Rattle.batch_setup.specs.declared.error.ProverPhase.{ProverPhase}
 use Rattle.batch_setup.specs.declared.error.ProverPhase.TheVariants.{QuotientEvaluations}
+use Rattle.honest_proofs.specs.Laws.Flat.{flat_more}
 use Rattle.honest_acceptance.specs.Laws.Rounds.{each_paired, paired_append, paired_from}
 use Rattle.prover_quotients.specs.Tables.{chunks_below, chunks_by}
-
-append_nothing : {A : Type 0} (xs : List A) → xs ++ [] ≡ xs
-append_nothing [] = refl
-append_nothing (x ∷ xs) = ap (λ ys. x ∷ ys) (append_nothing xs)
 
 -- the extensions of two lists of matrices behind each other
 extensions_append : {F D : Type 0} (extends : D → Rows F → Rows F → Type 0) (es fs : List (D × Rows F)) (ls ks : List (Rows F)) → AreExtensions extends es ls → AreExtensions extends fs ks → AreExtensions extends (es ++ fs) (ls ++ ks)
@@ -66,9 +61,7 @@ module _ {S F E C R : Type 0} (fault : List (CosetData F × Rows F) → ℕ → 
   pub more_extended : (n : ℕ) (ldes own all : List (Rows F)) → AreExtended n ldes → NoneFails (extended_by n) → AreExtensions extends (chunks_by b challenges alpha n) own → all ≡ ldes ++ own → AreExtended (n + 1) all
   more_extended n ldes own all H none A is =
       let f = chunks_by b challenges alpha in
-      let whole : chunks_below b challenges alpha n ++ f n ≡ chunks_below b challenges alpha (n + 1) =
-      (λ j. chunks_below b challenges alpha n ++ sym (append_nothing (f n)) j)
-      ∙ (sym (flat_map-append f (table n (λ i. i)) (n ∷ [])) ∙ ap (flat_map f) (table_more n (λ i. i))) in
+      let whole : chunks_below b challenges alpha n ++ f n ≡ chunks_below b challenges alpha (n + 1) = flat_more f n in
       record {
         none = none_in_turn extended_by n H.none none;
         extensions =

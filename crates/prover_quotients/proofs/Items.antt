@@ -12,7 +12,7 @@ use Rattle.batch_proving.specs.Backend.{ProverBackend}
 use Rattle.batch_proving.specs.Batch.{Batch, IsTracedAll, batch_of, table_at, table_count}
 use Rattle.batch_setting.specs.Setting.{Setting, masks}
 use Rattle.batch_setup.specs.Setup.{Instance, airs_of, log_of}
-use Rattle.batch_shape_checks.proofs.Items.{item_of_map}
+use Rattle.batch_shape_checks.specs.Laws.Items.{item_of_map}
 use Rattle.batch_shape_checks.specs.ShapeChecks.{no_table}
 use Rattle.batch_statement.specs.Statement.{Table, WrittenCommon, entry_of, tables_of}
 use Rattle.batch_validity.specs.Laws.Held.{lookups_declared}

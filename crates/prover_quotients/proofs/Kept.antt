@@ -30,6 +30,7 @@ use Rattle.honest_acceptance.specs.Laws.Lengths.{honest_commits, permutation_cou
 use Rattle.honest_acceptance.specs.Laws.Opened.{kept_on}
 use Rattle.honest_acceptance.specs.Rounds.{OpenedMatrix, committed_of, main_opened, of_table, permutation_opened, preprocessed_opened}
 use Rattle.honest_proofs.specs.HonestProof.{Prover, challenges_at, committed_at, permutation_columns, permutation_matrices, where_some}
+use Rattle.honest_proofs.specs.Laws.Flat.{map_flat, map_where}
 use Rattle.prover_quotients.specs.Held.{HoldsAt, HoldsSome}
 use Rattle.prover_quotients.specs.Places.{permutation_place}
 use Rattle.prover_quotients.specs.Tables.{KeepsSome}
@@ -58,10 +59,6 @@ item_where_some {A} ((a ∷ l) ∷ ls) g x q (suc i) is h some =
     let same : count_by has_some ((a ∷ l) ∷ take i ls) ≡ suc (count_by has_some (take i ls)) = omega (arith, count) in
     (λ j. slice_get (is zero (omega arith) j ++ flat_map g (table (length ls) (λ j. q (suc j)))) (same j))
     ∙ item_where_some ls g (λ j. x (suc j)) (λ j. q (suc j)) i (λ j l. is (suc j) (omega (arith, l))) (omega (arith, h)) some
-
-map_where : {A B C : Type 0} (g : B → C) (ls : List A) (y : B) → map g (option_to_list (where_some ls y)) ≡ option_to_list (where_some ls (g y))
-map_where g [] y = refl
-map_where g (l ∷ ls) y = refl
 
 empty_list : {X : Type 0} (xs : List X) → length xs ≡ 0 → xs ≡ []
 empty_list [] e = refl
@@ -225,23 +222,13 @@ module _ {S F E C D P R : Type 0} (c : Setting S F E C) (p : Prover F E C) (s : 
           size = 2 ^ (at i).degree_bits;
           place_is =
               ap (λ l. slice_get l place) (permutations_kept c p s traces degree_bits L B plain w z K.held.0 (on_cosets _ K.held.0 K.held.1))
-              ∙ (ap (λ l. slice_get l place) (map_all n (λ j. j))
+              ∙ (ap (λ l. slice_get l place) (map_flat (λ (o : OpenedMatrix F E). o.committed) (of (permutation_opened c p)) (table n (λ j. j)))
               ∙ (ap (λ m. slice_get (flat_map (λ j. committed_of (of (permutation_opened c p) j)) (table m (λ j. j))) place) many
               ∙ item_where_some ls (λ j. committed_of (of (permutation_opened c p) j)) (λ j. record { size = 2 ^ (at j).degree_bits; polynomials = (own j).permutation }) (λ j. j) i
               (λ j l. map_where (λ (o : OpenedMatrix F E). o.committed) (at j).lookups _) inside e));
           some = (let q = some_wide (length (at i).lookups) c.extension.dimension (has_something (get_or ls i []) e) L.vector.positive in omega (arith, permutation_long, q));
         } in
         subst (λ o. HoldsSome k (Some place) o (own i).permutation) (sym there.1) held
-      where
-        append_map : {X Y : Type 0} (g : X → Y) (xs ys : List X) → map g (xs ++ ys) ≡ map g xs ++ map g ys
-        append_map g [] ys = refl
-        append_map g (x ∷ xs) ys = ap (λ l. g x ∷ l) (append_map g xs ys)
-
-        map_all : (m : ℕ) (q : ℕ → ℕ) → map (λ (o : OpenedMatrix F E). o.committed) (flat_map (of (permutation_opened c p)) (table m q)) ≡ flat_map (λ j. committed_of (of (permutation_opened c p) j)) (table m q)
-        map_all zero q = refl
-        map_all (suc m) q =
-            append_map (λ (o : OpenedMatrix F E). o.committed) (of (permutation_opened c p) (q zero)) (flat_map (of (permutation_opened c p)) (table m (λ j. q (suc j))))
-            ∙ ap (λ l. committed_of (of (permutation_opened c p) (q zero)) ++ l) (map_all m (λ j. q (suc j)))
 
     pub permutation_here : (kept : Option D) → KeepsSome IsCom all_columns kept → HoldsSome k (permutation_place s.common.lookups i) kept (own i).permutation
     permutation_here kept h = by_lookups kept h (has_some (get_or s.common.lookups i [])) refl

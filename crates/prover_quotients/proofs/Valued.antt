@@ -11,7 +11,6 @@ use Rattle.p3_air.specs.Tree.{Tree}
 use Rattle.p3_commit.specs.Periodic.{IsPeriod}
 use Rattle.p3_lookup.specs.Written.{Written, read, read_all}
 use Rattle.batch_constraints.specs.BatchTrees.{table_trees}
-use Rattle.batch_quotient.proofs.Recombined.{copied_is}
 use Rattle.batch_quotient.specs.Evaluations.{Evaluations, IsReadOn, quotient_values_on}
 use Rattle.batch_quotient.specs.QuotientRows.{permutation_columns as columns_for}
 use Rattle.batch_setting.specs.Setting.{Setting}
@@ -52,20 +51,16 @@ module _ {S F E C A : Type 0} (c : Setting S F E C) (p : Prover F E C) (declarat
     values : HaveValues c.field d (committed_table c p (table_of i) challenges) v
     values = subst (λ x. HaveValues c.field d (committed_table c p (table_of x) challenges) v) (sym same) H
 
-    -- what is behind references
-    behind : (m : Option (Bor (Rows F))) (o : Option (Rows F)) → option_copied m ≡ o → option_map (λ r. r.now) m ≡ o
-    behind m o e = sym (copied_is m) ∙ e
-
     pub main_here : v.main.width ≡ (declaration i.air).width
     main_here = main_wide c p (table_of i) challenges L own d v values
 
     pub preprocessed_here : (m : Option (Bor (Rows F))) → option_copied m ≡ v.preprocessed → width_of (option_map (λ r. r.now) m) ≡ width_of (declaration i.air).preprocessed
-    preprocessed_here m e = ap width_of (behind m v.preprocessed e) ∙ preprocessed_wide c p (table_of i) challenges L own d v values
+    preprocessed_here m e = ap width_of e ∙ preprocessed_wide c p (table_of i) challenges L own d v values
 
     pub permutation_here : (m : Option (Bor (Rows F))) (ls : List (Written F)) → option_copied m ≡ v.permutation → ls ≡ lookups → width_of (option_map (λ r. r.now) m) ≡ columns_for (length ls) * c.extension.dimension
     permutation_here m ls e all =
         let reads : length (read_all lookups) ≡ length ls = length-map lookups (read {F = F}) ∙ sym (ap length all) in
-        ap width_of (behind m v.permutation e)
+        ap width_of e
         ∙ (permutation_wide c p (table_of i) challenges L own d v values ∙ ap (λ n. columns_for n * c.extension.dimension) reads)
 
     -- what is given is read on the table, whose quotient's values follow
@@ -98,8 +93,8 @@ module _ {S F E C A : Type 0} (c : Setting S F E C) (p : Prover F E C) (declarat
         } in
         let plain : IsReadOn c.field k d (reading v.preprocessed v.permutation) = columns_read c p (table_of i) challenges L own d v values publics sums (sym own_values) sum_here in
         let read_on : IsReadOn c.field k d (reading (option_map (λ r. r.now) n) (option_map (λ r. r.now) m)) =
-        subst (λ a. IsReadOn c.field k d (reading a (option_map (λ r. r.now) m))) (sym (behind n v.preprocessed second))
-        (subst (λ b. IsReadOn c.field k d (reading v.preprocessed b)) (sym (behind m v.permutation first)) plain) in
+        subst (λ a. IsReadOn c.field k d (reading a (option_map (λ r. r.now) m))) (sym second)
+        (subst (λ b. IsReadOn c.field k d (reading v.preprocessed b)) (sym first) plain) in
         given k (ap (λ x. log_rows c (table_of x)) same ∙ sym size) read_on
         ∙ ((λ q. quotient_values_on c.field c.extension k (table_trees c.field.ring (trees i.air) (read_all (all q))) alpha d)
         ∙ (λ q. quotient_values_on c.field c.extension (committed_table c p (table_of (same q)) challenges) (constraints c (table_of (same q))) alpha d))

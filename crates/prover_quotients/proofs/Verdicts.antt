@@ -1,11 +1,9 @@
 -- The answers of what the backend is asked for the quotients of a batch, whose challenges are those of an honest proof.
-use Rattle.std.proofs.Common.{◌≡◌, ℕ, zero, suc, ◌^◌, ◌<◌, List, [], ◌++◌, get_or, Option, Result, Ok, Err, inl, inr, refl, sym, ◌∙◌, ap, subst, arith}
-use Rattle.std.specs.List.{flat_map}
+use Rattle.std.proofs.Common.{◌≡◌, ℕ, zero, suc, ◌^◌, ◌<◌, List, [], ◌++◌, get_or, Option, Result, Ok, Err, inl, inr, sym, ◌∙◌, ap, subst, arith}
 use Rattle.std.specs.Result.{IsErrAnd}
 use Rattle.p3_field.specs.Checks.{Check, FirstFails, NoneFails, in_turn}
 use Rattle.p3_field.specs.Laws.Checks.{first_after, first_parted, first_stops, none_append, none_at, none_of_each}
 use Rattle.p3_field.specs.Laws.Tables.{get_or-table}
-use Rattle.p3_field.specs.Poly.{table}
 use Rattle.p3_matrix.specs.Matrix.{Rows}
 use Rattle.p3_commit.specs.Commitments.{AreExtensions}
 use Rattle.p3_commit.specs.Failure.{NoneOf}
@@ -17,6 +15,7 @@ use Rattle.batch_proving.specs.Verdict.{FirstRefused, IsProverAnswer, IsProverRe
 use Rattle.batch_proving.specs.declared.error.ProvingError.{ProvingError}
 use Rattle.batch_setup.specs.declared.error.ProverPhase.TheVariants.{QuotientEvaluations}
 use Rattle.honest_proofs.specs.HonestProof.{AreCanonical, challenges_at, chunk_matrices}
+use Rattle.honest_proofs.specs.Laws.Flat.{flat_same}
 use Rattle.honest_proofs.specs.Laws.Ground.{one_lookup}
 use Rattle.prover_quotients.specs.Asked.{committing, extending_at}
 use Rattle.prover_quotients.specs.Tables.{chunks_below, chunks_by}
@@ -33,11 +32,6 @@ module _ {R : Type 0} (f g : ℕ → List (Check R)) where
     | inl before ↦ first_stops (in_turn n g) (g n) e (first_as n e (λ i b. none i (omega (arith, b))) (λ i b. first i (omega (arith, b))) before)
     | inr here ↦ first_after (in_turn n g) (g n) e (none_as n (λ i b. none i (omega (arith, b))) here.0) (first n (omega arith) here.1)
   ]
-
--- lists behind each other, of which each is that of another name
-flat_same : {X : Type 0} (g h : ℕ → List X) (n : ℕ) (q : ℕ → ℕ) → ((i : ℕ) → i < n → g (q i) ≡ h (q i)) → flat_map g (table n q) ≡ flat_map h (table n q)
-flat_same g h zero q same = refl
-flat_same g h (suc n) q same = λ j. same zero (omega arith) j ++ flat_same g h n (λ i. q (suc i)) (λ i l. same (suc i) (omega (arith, l))) j
 
 module _ {S F E C D P R : Type 0} (k : ProverBackend S F E C D P R) (b : Batch S F E C) (K : AreCanonical b.setting.field.ring b.setting.order b.prover.canonical) (w : Option F) (G : IsPairGroundOf b w)
     (challenges : List (List E)) (alpha : E) (drawn : challenges ≡ all_challenges b w) (folds : alpha ≡ folding b w) where

@@ -11,7 +11,7 @@ use Rattle.p3_field.specs.BabyBear.{bear_ring}
 use Rattle.p3_field.specs.Laws.BearLaws.{bear_of_nat_value}
 use Rattle.p3_field.specs.Ring.{of_nat}
 use Rattle.p3_field.specs.declared.baby_bear.BabyBear.{BabyBear}
-use Rattle.tool_validity.specs.Job.{IsBalancedJob, JobTable, swap_of, wheel_of, take_of, give_of, times_given, times_taken}
+use Rattle.tool_validity.specs.Job.{IsBalancedJob, JobTable, swap_of, wheel_of, take_of, give_of, hash_of, times_given, times_taken}
 use Rattle.tool_jobs.specs.Tallies.{IsFirstUnequal, given_in, given_often, taken_in, taken_once, tallies_of, times}
 use Rattle.tool_jobs.specs.Unbalanced.{IsFirstUnbalanced, same_word}
 use Rattle.tool_jobs.specs.declared.balance.Tally.{Tally}
@@ -47,6 +47,7 @@ taken-table v (wheel_of k) = refl
 taken-table v (take_of words) = sym (sum_by-map (λ t. cond (t.number == v) t.taken 0) taken_once words)
 taken-table v (give_of pairs) =
     sym (sum_by-map (λ t. cond (t.number == v) t.taken 0) given_often pairs ∙ sum_by-zero (λ p. cond (p.0.value == v) 0 0) (λ p. cond-zero (p.0.value == v)) pairs)
+taken-table v (hash_of rows) = refl
 
 given-table : (v : ℕ) (t : JobTable BabyBear) → times_given (λ x. x.value == v) t ≡ given_in v (tallies_of t)
 given-table v (swap_of k a b) = refl
@@ -54,6 +55,7 @@ given-table v (wheel_of k) = refl
 given-table v (take_of words) =
     sym (sum_by-map (λ t. cond (t.number == v) t.given 0) taken_once words ∙ sum_by-zero (λ (x : BabyBear). cond (x.value == v) 0 0) (λ x. cond-zero (x.value == v)) words)
 given-table v (give_of pairs) = sym (sum_by-map (λ t. cond (t.number == v) t.given 0) given_often pairs)
+given-table v (hash_of rows) = refl
 
 module _ (job : List (JobTable BabyBear)) (sorted : List Tally) (moved : IsPermutation (flat_map tallies_of job) sorted) where
   taken-job : (v : ℕ) → sum_by (times_taken (λ x. x.value == v)) job ≡ taken_in v sorted
@@ -87,6 +89,7 @@ module _ (job : List (JobTable BabyBear)) (sorted : List Tally) (moved : IsPermu
       table one (wheel_of k) = refl
       table one (take_of words) = sum_by-map f' taken_once words ∙ sum_by-zero (λ x. f' (taken_once x)) (λ x. miss x.value v (often (taken_once x)) (one x)) words
       table one (give_of pairs) = sum_by-map f' given_often pairs ∙ sum_by-zero (λ p. f' (given_often p)) (λ p. miss p.0.value v (often (given_often p)) (one p.0)) pairs
+      table one (hash_of rows) = refl
 
   is-number : (n : ℕ) → IsFirstUnequal sorted n → n < 2013265921
   is-number n h = elim (cases_lt n 2013265921) [

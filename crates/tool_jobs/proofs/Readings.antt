@@ -35,54 +35,57 @@ above : (n : ℕ) → IsPowerOfTwo n → 1 ≤ n
 above n p = let e = p.1 in let q : 0 < 2 ^ p.0 = pow_pos p.0 in omega (arith, e, q)
 
 -- no line of a power of two is next
-none-next : (bytes : List ℕ) → ((n : ℕ) (rest : List ℕ) → bytes ≡ decimal n ++ 10 ∷ rest → IsCount n → ⊥) → Stops IsCount number_words bytes bytes
-none-next bytes none = record {
+none-next : (most : ℕ) (bytes : List ℕ) → 1 ≤ most → ((n : ℕ) (rest : List ℕ) → bytes ≡ decimal n ++ 10 ∷ rest → IsCount most n → ⊥)
+    → Stops (IsCount most) number_words bytes bytes
+none-next most bytes room none = record {
   read = [];
   text = refl;
   some = 1;
-  some_fits = one-counts;
+  some_fits = one-counts most room;
   next = 1;
   missing = [];
   begins = refl;
-  stuck = λ n rest e v fits x y same. none n rest e (subst (λ (k : ℕ). IsCount k) (head-same v n x y same) fits);
+  stuck = λ n rest e v fits x y same. none n rest e (subst (λ (k : ℕ). IsCount most k) (head-same v n x y same) fits);
 }
 
-pub count-missing : {old new : List ℕ} → Stops (Between 1 1024) number_words old new → Stops IsCount number_words old old
-count-missing {old} s = none-next old (λ n rest e h. unread s n rest e (above n h.0, h.1))
+pub count-missing : {old new : List ℕ} (most : ℕ) → 1 ≤ most → Stops (Between 1 most) number_words old new → Stops (IsCount most) number_words old old
+count-missing {old} most room s = none-next most old room (λ n rest e h. unread s n rest e (above n h.0, h.1))
 
-pub count-refused : {old rest : List ℕ} {n : ℕ} → Reads (Between 1 1024) number_words old rest n → (IsPowerOfTwo n → ⊥) → Stops IsCount number_words old old
-count-refused {old} {rest} {n} r other = none-next old (λ m after e h.
+pub count-refused : {old rest : List ℕ} {n : ℕ} (most : ℕ) → 1 ≤ most → most < 2 ^ 64 → Reads (Between 1 most) number_words old rest n → (IsPowerOfTwo n → ⊥)
+    → Stops (IsCount most) number_words old old
+count-refused {old} {rest} {n} most room small r other = none-next most old room (λ m after e h.
     let few = h.1 in
-    let most = r.fits.1 in
-    let same = same-line n m rest after (omega (arith, most)) (omega (arith, few)) (sym (append_assoc (decimal n) (10 ∷ []) rest) ∙ (sym r.text ∙ e)) in
+    let high = r.fits.1 in
+    let same = same-line n m rest after (omega (arith, high, small)) (omega (arith, few, small)) (sym (append_assoc (decimal n) (10 ∷ []) rest) ∙ (sym r.text ∙ e)) in
     other (subst IsPowerOfTwo (sym same.0) h.0))
 
 -- the number that was seen to be next is read
-pub count-again : (old rest new : List ℕ) (n : ℕ) (result : Result ℕ ItemError) → Reads IsCount number_words old rest n → ReadsKnown (Between n n) number_words old new result
-    → ReadsKnown IsCount number_words old new result
-count-again old rest new n (Ok v) r k =
+pub count-again : (most : ℕ) (old rest new : List ℕ) (n : ℕ) (result : Result ℕ ItemError) → Reads (IsCount most) number_words old rest n
+    → ReadsKnown (Between n n) number_words old new result → ReadsKnown (IsCount most) number_words old new result
+count-again most old rest new n (Ok v) r k =
     let low = k.fits.0 in
     let high = k.fits.1 in
-    record { fits = subst IsCount (let e : n ≡ v = omega (arith, low, high) in e) r.fits; text = k.text }
-count-again old rest new n (Err x) r k = absurd (unread k.1 n rest (r.text ∙ append_assoc (decimal n) (10 ∷ []) rest) (omega arith, omega arith))
+    record { fits = subst (IsCount most) (let e : n ≡ v = omega (arith, low, high) in e) r.fits; text = k.text }
+count-again most old rest new n (Err x) r k = absurd (unread k.1 n rest (r.text ∙ append_assoc (decimal n) (10 ∷ []) rest) (omega arith, omega arith))
 
 -- a list whose count can't be read
-pub powers-count : {A : Type 0} {within : A → Type 0} {words : A → List ℕ} {old new : List ℕ} → Grammar within words
-    → Stops IsCount number_words old new → Stops (PowersWithin within) (list_words words) old new
-powers-count {A} {within} {words} g s =
-    same-stops (same-powers within words) (pair-first (λ n. ItemsWithin n within) (λ n _. items-grammar n g) s)
+pub powers-count : {A : Type 0} {within : A → Type 0} {words : A → List ℕ} {old new : List ℕ} (most : ℕ) → Grammar within words
+    → Stops (IsCount most) number_words old new → Stops (PowersWithin most within) (list_words words) old new
+powers-count {A} {within} {words} most g s =
+    same-stops (same-powers most within words) (pair-first (λ n. ItemsWithin n within) (λ n _. items-grammar n g) s)
 
 -- a list whose count was read
-pub powers-behind : {V A : Type 0} (data_of : V → List A) (within : A → Type 0) (words : A → List ℕ) (old mid new : List ℕ) (count : ℕ) (r : Result V ItemError)
-    → Reads IsCount number_words old mid count → ReadsOne data_of (ItemsWithin count within) (items_words words) mid new r
-    → ReadsOne data_of (PowersWithin within) (list_words words) old new r
+pub powers-behind : {V A : Type 0} (most : ℕ) → 1 ≤ most → most < 2 ^ 64 → (data_of : V → List A) (within : A → Type 0) (words : A → List ℕ) (old mid new : List ℕ) (count : ℕ)
+    (r : Result V ItemError) → Reads (IsCount most) number_words old mid count → ReadsOne data_of (ItemsWithin count within) (items_words words) mid new r
+    → ReadsOne data_of (PowersWithin most within) (list_words words) old new r
 unfolding same-powers
-powers-behind data_of within words old mid new count (Ok v) n s = same-reads (same-powers within words) (pair-reads (λ k. ItemsWithin k within) n s)
-powers-behind data_of within words old mid new count (Err e) n s = λ m. same-stops (same-powers within words) (pair-second (λ k. ItemsWithin k within) count-grammar n (s m))
+powers-behind most room few data_of within words old mid new count (Ok v) n s = same-reads (same-powers most within words) (pair-reads (λ k. ItemsWithin k within) n s)
+powers-behind most room few data_of within words old mid new count (Err e) n s = λ m.
+    same-stops (same-powers most within words) (pair-second (λ k. ItemsWithin k within) (count-grammar most room few) n (s m))
 
 -- a table whose kind was read
 pub table-behind : {V : Type 0} (data_of : V → JobTable BabyBear) (old mid new : List ℕ) (kind : ℕ) (r : Result V ItemError)
-    → Reads (Between 1 4) number_words old mid kind → ReadsOne data_of (KindWithin kind) body_words mid new r → ReadsOne data_of IsWithin table_words old new r
+    → Reads (Between 1 5) number_words old mid kind → ReadsOne data_of (KindWithin kind) body_words mid new r → ReadsOne data_of IsWithin table_words old new r
 unfolding same-table
 table-behind data_of old mid new kind (Ok v) n s = same-reads same-table (pair-reads KindWithin n s)
 table-behind data_of old mid new kind (Err e) n s = λ m. same-stops same-table (pair-second KindWithin tag-grammar n (s m))

@@ -2,10 +2,10 @@
 use Rattle.std.specs.Prelude.{ℕ, List, [], ◌∷◌, map}
 use Rattle.p3_field.specs.declared.baby_bear.BabyBear.{BabyBear}
 use Rattle.line_format.specs.Texts.{ListWithin, element_words, list_words}
-use Rattle.tool_validity.specs.Job.{IsWithin, JobTable, swap_of, wheel_of, take_of, give_of}
+use Rattle.tool_validity.specs.Job.{IsWithin, JobTable, swap_of, wheel_of, take_of, give_of, hash_of}
 use Rattle.tool_jobs.specs.declared.table.GivenWord.{GivenWord}
 use Rattle.tool_jobs.specs.declared.table.JobTable.{JobTable as Table}
-use Rattle.tool_jobs.specs.declared.table.JobTable.TheVariants.{Swap, Wheel, Take, Give}
+use Rattle.tool_jobs.specs.declared.table.JobTable.TheVariants.{Swap, Wheel, Take, Give, Hash}
 
 -- a table as plain data
 abbrev pub read_given : GivenWord → BabyBear × ℕ
@@ -16,6 +16,7 @@ read_table (Swap k a b) = swap_of k a b
 read_table (Wheel k) = wheel_of k
 read_table (Take words) = take_of words.items
 read_table (Give words) = give_of (map read_given words.items)
+read_table (Hash rows) = hash_of rows.items
 
 -- a job as plain data
 abbrev pub read_tables : List Table → List (JobTable BabyBear)
@@ -25,12 +26,17 @@ read_tables tables = map read_table tables
 abbrev pub given_words : BabyBear × ℕ → List ℕ
 given_words p = p.0.value ∷ p.1 ∷ []
 
--- a table: its kind; the logarithm of its rows, or the list of its words; and a swap table's first row
+-- a row of compressions: its 24 words
+abbrev pub row_words : List ℕ → List ℕ
+row_words row = row
+
+-- a table: its kind; the logarithm of its rows, or the list of its words or rows; and a swap table's first row
 abbrev pub table_words : JobTable BabyBear → List ℕ
 table_words (swap_of k a b) = 1 ∷ k ∷ a.value ∷ b.value ∷ []
 table_words (wheel_of k) = 2 ∷ k ∷ []
 table_words (take_of words) = 3 ∷ list_words element_words words
 table_words (give_of pairs) = 4 ∷ list_words given_words pairs
+table_words (hash_of rows) = 5 ∷ list_words row_words rows
 
 -- a job: a list of one to eight tables, each within its limits
 abbrev pub JobWithin : List (JobTable BabyBear) → Type 0

@@ -59,6 +59,7 @@ fn push_table(tallies: &mut Vec<Tally>, table: &JobTable) -> Mem<()>
         JobTable::Wheel { .. } => Ok(()),
         JobTable::Take { words } => push_taken(tallies, words),
         JobTable::Give { words } => push_given(tallies, words),
+        JobTable::Hash { .. } => Ok(()),
     }
 }
 

@@ -1,5 +1,5 @@
 //! Lists whose number of items is a power of two.
-ghost use Rattle.std.specs.Prelude.{List, ℕ, MatchOption, map};
+ghost use Rattle.std.specs.Prelude.{List, ℕ, ◌≤◌, MatchOption, map};
 ghost use Rattle.line_format.specs.Texts.{Reads, ReadsKnown, ReadsOne, Stops, list_words, number_words};
 ghost use Rattle.tool_jobs.specs.Laws.Counts.{IsCount, PowersWithin};
 
@@ -7,15 +7,13 @@ use line_format::{Form, ItemError, Reader, read_items};
 use p3_matrix::is_power_of_two;
 use std::alloc::Global;
 
-/// The most items that such a list may have.
-const MOST_ITEMS: u32 = 1024;
-
-// The number on the next line, if that is a power of two up to 1024. Nothing is read.
-fn next_count(reader: &Reader) -> Option<u32>
-    ensures { MatchOption result (Stops IsCount number_words reader.now reader.now) (λ n. (rest : List ℕ) × Reads IsCount number_words reader.now rest n) }
+// The number on the next line, if that is a power of two up to `most`. Nothing is read.
+fn next_count(reader: &Reader, most: u32) -> Option<u32>
+    requires { 1 ≤ most }
+    ensures { MatchOption result (Stops (IsCount most) number_words reader.now reader.now) (λ n. (rest : List ℕ) × Reads (IsCount most) number_words reader.now rest n) }
 {
     let mut ahead = Reader::new(reader.rest());
-    match ahead.number(1, MOST_ITEMS) {
+    match ahead.number(1, most) {
         Ok(count) => {
             if is_power_of_two(count as usize) {
                 Some(count)
@@ -27,26 +25,29 @@ fn next_count(reader: &Reader) -> Option<u32>
     }
 }
 
-// Reads the number of a list's items, which is a power of two up to 1024. It is `Malformed` exactly where no such line is next, and
+// Reads the number of a list's items, which is a power of two up to `most`. It is `Malformed` exactly where no such line is next, and
 // then nothing is read.
-fn read_count(reader: &mut Reader) -> Result<u32, ItemError>
-    ensures { ReadsKnown IsCount number_words reader.old reader.new result }
+fn read_count(reader: &mut Reader, most: u32) -> Result<u32, ItemError>
+    requires { 1 ≤ most }
+    ensures { ReadsKnown (IsCount most) number_words reader.old reader.new result }
 {
-    match next_count(reader) {
+    match next_count(reader, most) {
         Some(count) => reader.number(count, count),
         None => Err(ItemError::Malformed),
     }
 }
 
-/// Reads a list whose number of items is a power of two up to 1024: the line of its count, and the items.
+/// Reads a list whose number of items is a power of two up to `most`: the line of its count, and the items.
 ///
 /// It is `Malformed` exactly where the text's front is no such list's text. No memory is taken for the count before its items are read.
 pub(crate) fn read_powers<T: Form>(
     alloc: Global,
     reader: &mut Reader,
+    most: u32,
 ) -> Result<Vec<T::Value>, ItemError>
-    ensures { ReadsOne (λ v. map T.data_of v.items) (PowersWithin T.within) (list_words T.words) reader.old reader.new result }
+    requires { 1 ≤ most }
+    ensures { ReadsOne (λ v. map T.data_of v.items) (PowersWithin most T.within) (list_words T.words) reader.old reader.new result }
 {
-    let count = read_count(reader)?;
+    let count = read_count(reader, most)?;
     read_items::<T>(alloc, reader, count as usize)
 }

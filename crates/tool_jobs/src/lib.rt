@@ -1,4 +1,4 @@
-//! The program's jobs of four kinds of tables: their text, their traces, what is stated of them, and whether they are balanced.
+//! The program's jobs of five kinds of tables: their text, their traces, what is stated of them, and whether they are balanced.
 //!
 //! The definitions that contracts cite are in `specs/`: how a job is seen as plain data, its limits and its words (`Jobs`), what is stated
 //! of a table (`Stated`), and the least value that is unbalanced (`Unbalanced`). Jobs themselves, their traces and when they are balanced

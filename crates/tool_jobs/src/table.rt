@@ -9,7 +9,7 @@ ghost use Rattle.tool_validity.specs.Job.{last_right as last_right_of, log_heigh
 ghost use Rattle.tool_jobs.specs.Jobs.{read_table};
 ghost use Rattle.tool_jobs.specs.Stated.{statement_of};
 
-use crate::trace::{give_trace, swap_trace, wheel_trace};
+use crate::trace::{give_trace, hash_trace, swap_trace, wheel_trace};
 use p3_field::{BabyBear, Mem};
 use p3_matrix::{RowMajorMatrix, log2_strict_usize};
 use std::alloc::Global;
@@ -51,14 +51,20 @@ pub enum JobTable {
         /// The words with their counts, whose number is a power of two up to 1024.
         words: Vec<GivenWord>,
     },
+    /// A table of compressions of BLAKE3.
+    Hash {
+        /// The rows, whose number is a power of two up to 8: the 16 words of a block, then the 8 of a chaining value.
+        rows: Vec<[u32; 24]>,
+    },
 }
 
-// The logarithm of a table's number of words.
-fn log_of_words(count: usize) -> u8
+// The logarithm of a table's number of words or rows.
+fn log_of_items(count: usize) -> u8
     requires power { IsPowerOfTwo count }
     requires few { count ≤ 1024 }
     ensures value { result ≡ log_of count }
     ensures few { result ≤ 10 }
+    ensures fewer { count ≤ 8 → result ≤ 3 }
 {
     log2_strict_usize(count) as u8
 }
@@ -90,10 +96,13 @@ impl JobTable {
             },
             JobTable::Wheel { k } => TableStatement::Wheel { k: *k },
             JobTable::Take { words } => TableStatement::Take {
-                k: log_of_words(words.len()),
+                k: log_of_items(words.len()),
             },
             JobTable::Give { words } => TableStatement::Give {
-                k: log_of_words(words.len()),
+                k: log_of_items(words.len()),
+            },
+            JobTable::Hash { rows } => TableStatement::Hash {
+                k: log_of_items(rows.len()),
             },
         }
     }
@@ -111,6 +120,7 @@ impl JobTable {
                 Ok(RowMajorMatrix::new_col(values))
             }
             JobTable::Give { words } => give_trace(alloc, words),
+            JobTable::Hash { rows } => hash_trace(alloc, rows),
         }
     }
 }

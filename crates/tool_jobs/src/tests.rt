@@ -1,7 +1,7 @@
 // Jobs that are read and printed, the lines of faults, traces, statements, and unbalanced values.
 use super::*;
 use line_format::TextError;
-use p3_field::{BabyBear, RingCore};
+use p3_field::{BabyBear, Mem, RingCore};
 use std::alloc::Global;
 use std::test::Fail;
 use tool_statement::TableStatement;
@@ -31,7 +31,11 @@ fn a_fault_has_its_line(rt: HostRuntime) {
         ("1\n3\n0\n", 3),
         ("1\n3\n2048\n", 3),
         ("1\n4\n1\n5\n1025\n", 5),
-        ("1\n5\n1\n", 2),
+        ("1\n5\n1\n", 4),
+        ("1\n5\n3\n", 3),
+        ("1\n5\n16\n", 3),
+        ("1\n5\n1\n4294967296\n", 4),
+        ("1\n6\n1\n", 2),
     ];
     for (text, line) in faults {
         assert_eq!(rt;
@@ -126,5 +130,49 @@ fn what_is_stated(rt: HostRuntime) -> Result<(), Fail> {
         TableStatement::Give { k: 0 },
     ];
     assert_eq!(rt; statements_of(alloc, &job)?.as_slice(), wanted.as_slice());
+    Ok(())
+}
+
+// The 24 words of a row of compressions, a line each.
+const ROW: &str =
+    "5\n4294967295\n2\n3\n4\n5\n6\n7\n8\n9\n10\n11\n12\n13\n14\n15\n16\n17\n18\n19\n20\n21\n22\n23\n";
+
+// The text of a job of one table of compressions, of two equal rows.
+fn two_hashes(alloc: Global) -> Mem<String> {
+    let mut text = String::from_str(alloc, "1\n5\n2\n")?;
+    text.push_str(ROW)?;
+    text.push_str(ROW)?;
+    Ok(text)
+}
+
+#[test]
+fn a_table_of_compressions(rt: HostRuntime) -> Result<(), Fail> {
+    let alloc = rt.alloc();
+    let text = two_hashes(alloc)?;
+    let job = read_job(alloc, text.as_bytes()).ok().ok_or("a job")?;
+    assert_eq!(rt; write_job(alloc, &job)?.as_slice(), text.as_bytes());
+    let wanted = [TableStatement::Hash { k: 1 }];
+    assert_eq!(rt; statements_of(alloc, &job)?.as_slice(), wanted.as_slice());
+    assert_eq!(rt; first_unbalanced(alloc, &job)?, None);
+    let traces = traces_of(alloc, &job)?;
+    assert_eq!(rt; traces.len(), 1);
+    let cells = traces[0].as_slice();
+    assert_eq!(rt; cells.len(), 18336);
+    // The bits of the first word, 5; the counter, which is the row's number; the length, 2; and the first word of the second row.
+    let bits: [(usize, u64); 9] = [
+        (0, 1),
+        (1, 0),
+        (2, 1),
+        (3, 0),
+        (768, 0),
+        (832, 0),
+        (833, 1),
+        (9168, 1),
+        (9936, 1),
+    ];
+    for (place, bit) in bits {
+        let wanted = BabyBear::from_u64(bit);
+        assert_eq!(rt; cells.get(place).copied(), Some(wanted), "at {place}");
+    }
     Ok(())
 }

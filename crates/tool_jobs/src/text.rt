@@ -8,7 +8,8 @@ ghost use Rattle.tool_jobs.specs.Laws.Kinds.{KindWithin, body_words};
 use crate::counts::read_powers;
 use crate::table::{GivenWord, JobTable};
 use line_format::{
-    Form, ItemError, Reader, TextError, print_list, push_number, read_list, read_text,
+    Form, ItemError, Reader, TextError, print_items, print_list, push_number, read_items,
+    read_list, read_text,
 };
 use p3_field::{BabyBear, Mem};
 use std::alloc::Global;
@@ -25,8 +26,20 @@ const TAKE: u32 = 3;
 /// The first line of the text of a table that gives words.
 const GIVE: u32 = 4;
 
-/// The most that the base-2 logarithm of a table's rows may be.
+/// The first line of the text of a table of compressions.
+const HASH: u32 = 5;
+
+/// The most that the base-2 logarithm of the rows of a swap table or a wheel may be.
 const MOST_LOG_ROWS: u32 = 10;
+
+/// The most words that a table may take, or give.
+const MOST_WORDS: u32 = 1024;
+
+/// The most rows of a table of compressions.
+const MOST_HASHES: u32 = 8;
+
+/// The words of a row of compressions: a block of 16, and a chaining value of 8.
+const ROW_WORDS: usize = 24;
 
 /// The most that a word may be given.
 const MOST_TIMES: u32 = 1024;
@@ -68,6 +81,68 @@ impl Form for GivenWord {
     }
 }
 
+/// The form of a number of 32 bits: one line.
+struct WordLine;
+
+impl Form for WordLine {
+    type Value = u32;
+
+    ghost use Rattle.std.specs.Prelude.{ℕ};
+    ghost use Rattle.line_format.specs.Texts.{Between, number_words};
+    ghost use Rattle.tool_jobs.specs.Laws.Kinds.{word-grammar};
+
+    ghost Data = { ℕ };
+
+    ghost data_of = { λ n. n };
+
+    ghost within = { Between 0 4294967295 };
+
+    ghost words = { number_words };
+
+    ghost grammar = { word-grammar };
+
+    fn read(_alloc: Global, reader: &mut Reader) -> Result<u32, ItemError> {
+        reader.number(0, u32::MAX)
+    }
+
+    fn print(value: &u32, out: &mut Vec<u8>) -> Mem<()> {
+        push_number(out, *value as u64)
+    }
+}
+
+/// The form of a row of compressions: a line for each word of its block, and then for each of its chaining value.
+struct HashRow;
+
+impl Form for HashRow {
+    type Value = [u32; 24];
+
+    ghost use Rattle.std.specs.Prelude.{List, ℕ};
+    ghost use Rattle.tool_validity.specs.Job.{IsHashRow};
+    ghost use Rattle.tool_jobs.specs.Jobs.{row_words};
+    ghost use Rattle.tool_jobs.specs.Laws.Kinds.{row-grammar};
+
+    ghost Data = { List ℕ };
+
+    ghost data_of = { λ row. row };
+
+    ghost within = { IsHashRow };
+
+    ghost words = { row_words };
+
+    ghost grammar = { row-grammar };
+
+    fn read(alloc: Global, reader: &mut Reader) -> Result<[u32; 24], ItemError> {
+        let words = read_items::<WordLine>(alloc, reader, ROW_WORDS)?;
+        let mut row = [0; 24];
+        row.copy_from_slice(&words);
+        Ok(row)
+    }
+
+    fn print(value: &[u32; 24], out: &mut Vec<u8>) -> Mem<()> {
+        print_items::<WordLine>(value, out)
+    }
+}
+
 // Reads a swap table behind its kind: the logarithm of its rows, and its first row.
 fn read_swap(alloc: Global, reader: &mut Reader) -> Result<JobTable, ItemError>
     ensures { ReadsOne read_table (KindWithin 1) body_words reader.old reader.new result }
@@ -90,7 +165,7 @@ fn read_wheel(reader: &mut Reader) -> Result<JobTable, ItemError>
 fn read_take(alloc: Global, reader: &mut Reader) -> Result<JobTable, ItemError>
     ensures { ReadsOne read_table (KindWithin 3) body_words reader.old reader.new result }
 {
-    let words = read_powers::<BabyBear>(alloc, reader)?;
+    let words = read_powers::<BabyBear>(alloc, reader, MOST_WORDS)?;
     Ok(JobTable::Take { words })
 }
 
@@ -98,14 +173,22 @@ fn read_take(alloc: Global, reader: &mut Reader) -> Result<JobTable, ItemError>
 fn read_give(alloc: Global, reader: &mut Reader) -> Result<JobTable, ItemError>
     ensures { ReadsOne read_table (KindWithin 4) body_words reader.old reader.new result }
 {
-    let words = read_powers::<GivenWord>(alloc, reader)?;
+    let words = read_powers::<GivenWord>(alloc, reader, MOST_WORDS)?;
     Ok(JobTable::Give { words })
+}
+
+// Reads a table of compressions, behind its kind: the list of its rows.
+fn read_hash(alloc: Global, reader: &mut Reader) -> Result<JobTable, ItemError>
+    ensures { ReadsOne read_table (KindWithin 5) body_words reader.old reader.new result }
+{
+    let rows = read_powers::<HashRow>(alloc, reader, MOST_HASHES)?;
+    Ok(JobTable::Hash { rows })
 }
 
 // Reads a table of this kind behind its kind.
 fn read_kind(alloc: Global, reader: &mut Reader, kind: u32) -> Result<JobTable, ItemError>
     requires least { 1 ≤ kind }
-    requires most { kind ≤ 4 }
+    requires most { kind ≤ 5 }
     ensures { ReadsOne read_table (KindWithin kind) body_words reader.old reader.new result }
 {
     if kind == SWAP {
@@ -114,13 +197,16 @@ fn read_kind(alloc: Global, reader: &mut Reader, kind: u32) -> Result<JobTable, 
         read_wheel(reader)
     } else if kind == TAKE {
         read_take(alloc, reader)
-    } else {
+    } else if kind == GIVE {
         read_give(alloc, reader)
+    } else {
+        read_hash(alloc, reader)
     }
 }
 
-/// The kind, 1 for a swap table, 2 for a wheel, 3 for one that takes words, 4 for one that gives words; then the base-2 logarithm of
-/// the rows and, of a swap table, the first row; or the list of the words, whose count is a power of two up to 1024.
+/// The kind, 1 for a swap table, 2 for a wheel, 3 for one that takes words, 4 for one that gives words, 5 for one of compressions; then
+/// the base-2 logarithm of the rows and, of a swap table, the first row; or the list of the words, whose count is a power of two up to
+/// 1024; or the list of the rows of 24 words, whose count is a power of two up to 8.
 impl Form for JobTable {
     type Value = JobTable;
 
@@ -140,7 +226,7 @@ impl Form for JobTable {
     ghost grammar = { table-grammar };
 
     fn read(alloc: Global, reader: &mut Reader) -> Result<JobTable, ItemError> {
-        let kind = reader.number(SWAP, GIVE)?;
+        let kind = reader.number(SWAP, HASH)?;
         read_kind(alloc, reader, kind)
     }
 
@@ -163,6 +249,10 @@ impl Form for JobTable {
             JobTable::Give { words } => {
                 push_number(out, 4)?;
                 print_list::<GivenWord>(words, out)
+            }
+            JobTable::Hash { rows } => {
+                push_number(out, 5)?;
+                print_list::<HashRow>(rows, out)
             }
         }
     }

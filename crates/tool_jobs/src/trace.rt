@@ -1,16 +1,18 @@
 //! The traces of a job's tables, each in one buffer that is made as large as it will be.
+ghost use Rattle.std.specs.Int.{IsPowerOfTwo};
 ghost use Rattle.std.specs.Prelude.{◌≡◌, ◌%◌, ◌^◌, ◌≤◌, ◌++◌, ◌∷◌, [], IfOk, OnOk, length, map};
 ghost use Rattle.std.specs.Prelude.{slice_index_or as get_or};
 ghost use Rattle.p3_field.specs.BabyBear.{bear_ring};
 ghost use Rattle.tool_validity.specs.Job.{swap_row, trace_of, wheel_cell as wheel_cell_of};
-ghost use Rattle.tool_validity.specs.Job.{swap_of, wheel_of, give_of};
+ghost use Rattle.tool_validity.specs.Job.{swap_of, wheel_of, give_of, hash_of};
 ghost use Rattle.tool_jobs.specs.Jobs.{read_given};
 ghost use Rattle.tool_tables.specs.Wheel.{turns};
 
 use crate::table::GivenWord;
+use p3_blake3_air::{TraceError, generate_trace_rows};
 use p3_field::{BabyBear, Mem, RingCore};
 use p3_matrix::RowMajorMatrix;
-use std::alloc::Global;
+use std::alloc::{AllocError, Global};
 
 // 2^`k`.
 fn rows_of(k: usize) -> usize
@@ -97,4 +99,20 @@ pub(crate) fn give_trace(alloc: Global, words: &[GivenWord]) -> Mem<RowMajorMatr
         )?;
     }
     Ok(RowMajorMatrix::new(values, 2))
+}
+
+// The trace of a table of these compressions. Of the refusals of `generate_trace_rows` only running out of memory can come.
+pub(crate) fn hash_trace(alloc: Global, rows: &[[u32; 24]]) -> Mem<RowMajorMatrix<BabyBear>>
+    requires power { IsPowerOfTwo (length rows.now) }
+    requires few { length rows.now ≤ 8 }
+    ensures { IfOk result (λ m. m ≡ trace_of bear_ring (hash_of rows.now)) }
+{
+    match generate_trace_rows(alloc, rows, 0) {
+        Ok(trace) => Ok(trace),
+        Err(TraceError::OutOfMemory) => Err(AllocError),
+        Err(TraceError::NotPowerOfTwo) => unreachable!(),
+        Err(TraceError::TooLong) => unreachable!(),
+        Err(TraceError::WrongCharacteristic) => unreachable!(),
+        Err(TraceError::NoInput) => unreachable!(),
+    }
 }

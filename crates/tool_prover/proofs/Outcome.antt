@@ -8,7 +8,6 @@ use Rattle.p3_field.specs.Domain.{CosetData, point}
 use Rattle.p3_field.specs.declared.baby_bear.BabyBear.{BabyBear}
 use Rattle.p3_field.specs.declared.quartic.QuarticExtension.{QuarticExtension}
 use Rattle.p3_matrix.specs.Matrix.{Rows}
-use Rattle.p3_commit.specs.Commitments.{IsCommitment}
 use Rattle.plain_pcs.specs.Extension.{commitment_of}
 use Rattle.plain_pcs.specs.Holding.{AreHolding, IsMade}
 use Rattle.plain_pcs.specs.Scheme.{Blowup, PlainCommitmentData}
@@ -26,6 +25,7 @@ use Rattle.plain_soundness.specs.Meaning.{HoldUnlessUnlucky}
 use Rattle.batch_proving.specs.Backend.{ProverBackend}
 use Rattle.batch_proving.specs.Batch.{Batch, IsKeptWith, IsTracedAll, batch_of, preprocessed_all, table_at}
 use Rattle.batch_proving.specs.Laws.Telling.{refusal_tells}
+use Rattle.batch_proving.specs.PlainBackend.{plain_commits, plain_prover_backend}
 use Rattle.batch_proving.specs.Proving.{AvoidsExcluded, IsProved, proving_checks}
 use Rattle.batch_proving.specs.Telling.{Tells}
 use Rattle.batch_proving.specs.Verdict.{IsAnswerRefusal}
@@ -37,24 +37,23 @@ use Rattle.tool_jobs.specs.Laws.Statements.{statements-heights}
 use Rattle.tool_jobs.specs.Stated.{statement_of}
 use Rattle.tool_jobs.specs.Unbalanced.{same_word}
 use Rattle.tool_statement.specs.Config.{backend_of, tool_backend, tool_scheme, tool_setting}
-use Rattle.tool_statement.specs.StatedTables.{entries_of, log_heights_of, preprocessed_traces, publics_lists, sources_of, tool_common, tool_statement}
+use Rattle.tool_statement.specs.StatedTables.{HaveStatedHeights, entries_of, log_heights_of, preprocessed_traces, publics_lists, sources_of, table_of, tool_common, tool_statement}
 use Rattle.tool_statement.specs.declared.table.TableStatement.{TableStatement}
 use Rattle.tool_tables.specs.Tool.{tool_declaration, tool_trees}
 use Rattle.tool_tables.specs.declared.tool.ToolAir.{ToolAir}
 use Rattle.tool_validity.specs.Job.{IsBalancedJob, JobTable, log_height_of, trace_of}
-use Rattle.tool_verifier.specs.FileAnswer.{HaveStatedHeights, IsFileAnswer}
+use Rattle.tool_verifier.specs.FileAnswer.{IsFileAnswer, PrintCompressions, SwapsEnd}
 use Rattle.tool_prover.specs.JobAnswer.{DrawsInside, DrawsOutside, IsJobProof, IsOutcome, IsTold, drawn_point}
 use Rattle.tool_prover.specs.JobBatch.{job_batch}
 use Rattle.tool_prover.specs.Outside.{AvoidsRows}
 use Rattle.tool_prover.specs.Laws.Drawn.{outside_is}
-use Rattle.tool_prover.specs.Laws.Granted.{plain_backend}
 use Rattle.tool_prover.specs.Laws.Refused.{told}
-use Rattle.tool_verifier.specs.Laws.Stated.{EndsAt, ToolSetting, ends_are, meant_is, same_tables}
+use Rattle.tool_verifier.specs.Laws.Stated.{ToolSetting, formed_is}
 use Rattle.tool_prover.proofs.Setup.{airs_in_them, instances_long, kept_there, one_bit, prover_with, publics_in_them, same_batch, scheme_with, source_of_air, statement_is, valid}
 
 -- the prover's side of the plain scheme with this blowup
 abbrev pub backend_with : Blowup → ProverBackend Sha256Challenger BabyBear QuarticExtension (PlainCommitmentData BabyBear) (List (CosetData BabyBear × Rows BabyBear)) PlainProof PlainProverError
-backend_with b = plain_backend (scheme_with b)
+backend_with b = plain_prover_backend (scheme_with b)
 
 abbrev ToolBatch : Type 0
 ToolBatch = Batch Sha256Challenger BabyBear QuarticExtension (PlainCommitmentData BabyBear)
@@ -68,7 +67,7 @@ point_at d i = point bear_ring bear_root d i
 
 -- what commits to matrices: a commitment with prover data that holds them
 abbrev pub commits_with : Blowup → List (CosetData BabyBear × Rows BabyBear) → PlainCommitmentData BabyBear × List (CosetData BabyBear × Rows BabyBear) → Type 0
-commits_with b es w = IsCommitment bear_ring points point_at (λ es c. c ≡ commitment_of (scheme_with b) es) IsMade (AreHolding (scheme_with b)) es w
+commits_with b = plain_commits (scheme_with b)
 
 -- What is set up for a job: the configuration, AIRs, traces, public values, common data with what is kept of it, and instances.
 pub record IsSetUp (job : List (JobTable BabyBear)) (tables : List TableStatement) (c : ToolSetting) (b : Blowup) (airs : List (ToolAir BabyBear)) (traces : List (Rows BabyBear)) (publics : List (List BabyBear))
@@ -126,11 +125,11 @@ module _ (job : List (JobTable BabyBear)) (tables : List TableStatement) (c : To
       (kept_there job U.within airs airs_there (read_common written) common_there points point_at IsMade (AreHolding tool_scheme) kept prepared_there))
 
   -- its refusal tells why
-  answer_tells : (B : ToolBatch) (e : ProvingError PlainProverError) → IsAnswerRefusal (proving_checks (plain_backend tool_scheme) B) e → Tells (plain_backend tool_scheme) B e
-  answer_tells B (Pcs phase source) h = refusal_tells (plain_backend tool_scheme) B (Pcs phase source) h
-  answer_tells B (MultiplicityBound bus) h = refusal_tells (plain_backend tool_scheme) B (MultiplicityBound bus) h
-  answer_tells B (LookupDenominatorZero i row) h = refusal_tells (plain_backend tool_scheme) B (LookupDenominatorZero i row) h
-  answer_tells B (WitnessNotFound step) h = refusal_tells (plain_backend tool_scheme) B (WitnessNotFound step) h
+  answer_tells : (B : ToolBatch) (e : ProvingError PlainProverError) → IsAnswerRefusal (proving_checks (plain_prover_backend tool_scheme) B) e → Tells (plain_prover_backend tool_scheme) B e
+  answer_tells B (Pcs phase source) h = refusal_tells (plain_prover_backend tool_scheme) B (Pcs phase source) h
+  answer_tells B (MultiplicityBound bus) h = refusal_tells (plain_prover_backend tool_scheme) B (MultiplicityBound bus) h
+  answer_tells B (LookupDenominatorZero i row) h = refusal_tells (plain_prover_backend tool_scheme) B (LookupDenominatorZero i row) h
+  answer_tells B (WitnessNotFound step) h = refusal_tells (plain_prover_backend tool_scheme) B (WitnessNotFound step) h
   answer_tells B OutOfMemory h = tt
 
   told_there : (e : ProvingError PlainProverError) → IsAnswerRefusal (proving_checks (backend_with b) batch) e → IsTold job e
@@ -183,16 +182,6 @@ module _ (job : List (JobTable BabyBear)) (tables : List TableStatement) (c : To
   accepted_batch : (q : ToolProofData) → AcceptsThen q → DrawsOutside job q → Accepted c (backend_of (scheme_with b)) batch.statement q
   accepted_batch q h d = h (omega arith) batch_valid (outside_in q d) (λ i o l j p m k x n f. f)
 
-  abbrev about : List (ToolAir BabyBear) → List (List BabyBear) → Statement BabyBear (PlainCommitmentData BabyBear)
-  about xs ps = stated (tables_of (tool_declaration bear_ring) (tool_trees bear_ring) xs) ps written
-
-  pub accepted_airs : (q : ToolProofData) → AcceptsThen q → DrawsOutside job q → (xs : List (ToolAir BabyBear)) → xs ≡ airs → (ps : List (List BabyBear)) → ps ≡ publics
-      → Accepted c (backend_of (scheme_with b)) (stated (tables_of (tool_declaration bear_ring) (tool_trees bear_ring) xs) ps written) q
-  accepted_airs q h d xs e ps f =
-      let own = airs_in_them job U.within airs airs_there traces U.traces_are publics publics_there written common_there instances U.instances_are c U.setting_is b U.scheme_is in
-      let said = publics_in_them job U.within airs airs_there traces U.traces_are publics publics_there written common_there instances U.instances_are c U.setting_is b U.scheme_is in
-      subst (λ (s : Statement BabyBear (PlainCommitmentData BabyBear)). Accepted c (backend_of (scheme_with b)) s q) (λ i. about ((own ∙ sym e) i) ((said ∙ sym f) i)) (accepted_batch q h d)
-
   accepted_there : (q : ToolProofData) → AcceptsThen q → DrawsOutside job q → Accepted tool_setting tool_backend (tool_statement (map statement_of job)) q
   unfolding tool_backend
   accepted_there q h d =
@@ -208,24 +197,29 @@ module _ (job : List (JobTable BabyBear)) (tables : List TableStatement) (c : To
       let bits : q.degree_bits ≡ map log_height_of job = ap (λ (r : ToolProofData). r.degree_bits) B.proof_is in
       ap (λ (hs : List ℕ). get_or hs j 0) (statements-heights job ∙ sym bits)
 
+  -- what the common data is well-formed for
+  pub formed_there : WellFormed (map (λ t. t.declaration) (map table_of tables)) (tool_common tables)
+  formed_there = formed_is tables airs (read_common written) (tool_common tables) U.airs_are U.common_is U.formed
+
+  pub accepted_for : (q : ToolProofData) → AcceptsThen q → DrawsOutside job q → Accepted tool_setting tool_backend (tool_statement tables) q
+  accepted_for q h d = subst (λ ts. Accepted tool_setting tool_backend (tool_statement ts) q) (sym U.tables_are) (accepted_there q h d)
+
   -- so `verify` writes `accepted` for it
   pub outcome_there : (q : ToolProofData) → IsProved (backend_with b) batch q → DrawsOutside job q → AcceptsThen q
-      → (xs : List (ToolAir BabyBear)) → xs ≡ airs → (ps : List (List BabyBear)) → ps ≡ publics → HoldUnlessUnlucky c b.log_blowup (stated (tables_of (tool_declaration bear_ring) (tool_trees bear_ring) xs) ps written) q
-      → (ys : List (ToolAir BabyBear)) → ys ≡ airs → (rs : List (List BabyBear)) → rs ≡ publics → EndsAt c b.log_blowup (stated (tables_of (tool_declaration bear_ring) (tool_trees bear_ring) ys) rs written) q ys
-      → IsOutcome job (Some q)
+      → HoldUnlessUnlucky tool_setting 1 (tool_statement tables) q → SwapsEnd tables q → (HaveStatedHeights tables q.degree_bits → PrintCompressions tables q) → IsOutcome job (Some q)
   unfolding IsFileAnswer
-  outcome_there q P d h xs e ps f holds ys g rs k ends =
-      let one : b.log_blowup ≡ 1 = ap (λ (x : Blowup). x.log_blowup) U.scheme_is in
-      let first : map source_of_air xs ≡ sources_of (map statement_of job) = ap (map source_of_air) e ∙ airs_there in
-      let second : map source_of_air ys ≡ sources_of (map statement_of job) = ap (map source_of_air) g ∙ airs_there in
-      let B = proof_there q P in (
+  outcome_there q P d h holds swaps hashes =
+      let B = proof_there q P in
+      let heights = heights_there q B in
+      let same : tables ≡ map statement_of job = U.tables_are in (
         B,
         d,
         (
-          (heights_there q B, accepted_there q h d),
+          (heights, accepted_there q h d),
           record {
-            holds = meant_is c b.log_blowup _ _ _ _ _ _ q U.setting_is one (same_tables (map statement_of job) xs first) (f ∙ publics_there) common_there holds;
-            swaps = ends_are c b.log_blowup (map statement_of job) ys _ _ _ q U.setting_is one second (same_tables (map statement_of job) ys second) (k ∙ publics_there) common_there ends;
+            holds = subst (λ ts. HoldUnlessUnlucky tool_setting 1 (tool_statement ts) q) same holds;
+            swaps = subst (λ ts. SwapsEnd ts q) same swaps;
+            hashes = subst (λ ts. HaveStatedHeights ts q.degree_bits → PrintCompressions ts q) same hashes heights;
           },
           refl,
         ),

@@ -26,6 +26,7 @@ use Rattle.batch_validity.specs.Traced.{TracedTable, declared, preprocessed_matr
 use Rattle.batch_validity.specs.Valid.{Valid}
 use Rattle.honest_proofs.specs.HonestProof.{Prover}
 use Rattle.batch_proving.specs.Batch.{IsKeptWith, batch_of, preprocessed_all, table_at}
+use Rattle.batch_proving.specs.PlainBackend.{bear_prover}
 use Rattle.tool_jobs.specs.Jobs.{JobWithin}
 use Rattle.tool_jobs.specs.Laws.Airs.{are-airs}
 use Rattle.tool_jobs.specs.Laws.Statements.{statements-heights, statements-publics, statements-sources}
@@ -48,7 +49,7 @@ abbrev pub scheme_with : Blowup → Scheme BabyBear
 scheme_with b = scheme bear_ring bear_inv bear_root (reduce 31) 27 b
 
 abbrev pub prover_with : Blowup → Prover BabyBear QuarticExtension (PlainCommitmentData BabyBear)
-prover_with b = record { inverse = quartic_inv; canonical = λ x. x.value; commitment_of = λ es. commitment_of (scheme_with b) es }
+prover_with b = bear_prover (scheme_with b)
 
 abbrev pub one_bit : Blowup
 one_bit = record { log_blowup = 1 }

@@ -16,7 +16,7 @@ use Rattle.proof_text.specs.ProofText.{ToolProofData}
 use Rattle.tool_jobs.specs.Unbalanced.{IsFirstUnbalanced, same_word}
 use Rattle.tool_jobs.specs.Stated.{statement_of}
 use Rattle.tool_validity.specs.Job.{IsBalancedJob, JobTable}
-use Rattle.tool_verifier.specs.FileAnswer.{IsFileAnswer}
+use Rattle.tool_verifier.specs.FileAnswer.{IsFileAnswer, accepted_text}
 use Rattle.tool_verifier.specs.Refusals.{refused_text}
 use Rattle.tool_verifier.specs.declared.status.Status.{Status}
 use Rattle.tool_verifier.specs.declared.status.Status.TheVariants.{Done, Refused, Usage, BadInput, ReadFault, WriteFault, TooLarge, OutOfMemory as NoMemory}
@@ -51,7 +51,7 @@ module _ (job : List (JobTable BabyBear)) where
     pub outside : DrawsOutside proof
     pub within : FileWithin (file_of job proof)
     pub text_is : text ≡ line_text (file_words (file_of job proof))
-    pub accepted : IsFileAnswer (map statement_of job) proof Done (codes "accepted\n")
+    pub accepted : IsFileAnswer (map statement_of job) proof Done (accepted_text (map statement_of job) proof)
 
   -- Why there is none, as the line that says so. The least value that isn't taken as often as it is given:
   abbrev pub IsUnbalancedText : List ℕ → Type 0
@@ -92,7 +92,7 @@ module _ (job : List (JobTable BabyBear)) where
   -- what comes of proving a balanced job where there is an honest proof: this, for which `verify` writes `accepted`, or nothing
   abbrev pub IsOutcome : Option ToolProofData → Type 0
   IsOutcome None = DrawsInside
-  IsOutcome (Some q) = IsJobProof q × DrawsOutside q × IsFileAnswer (map statement_of job) q Done (codes "accepted\n")
+  IsOutcome (Some q) = IsJobProof q × DrawsOutside q × IsFileAnswer (map statement_of job) q Done (accepted_text (map statement_of job) q)
 
   -- the status and the text
   unfoldable pub IsJobAnswer : Status → List ℕ → Type 0

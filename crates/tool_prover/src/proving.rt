@@ -17,7 +17,6 @@ use p3_commit::UnivariateStarkPcs;
 use p3_field::{BabyBear, FieldCore, Mem, QuarticExtension, RingCore, TwoAdicCore};
 use p3_matrix::RowMajorMatrix;
 use plain_pcs::PlainProverError;
-use plain_soundness::{accepted_holds, accepted_swaps_end};
 use proof_text::ToolProof;
 use std::alloc::{AllocError, Global};
 use tool_jobs::{JobTable, traces_of};
@@ -25,6 +24,7 @@ use tool_statement::{
     TableStatement, ToolConfig, airs_of, prover_data, public_values_of, tool_config,
 };
 use tool_tables::ToolAir;
+use tool_verifier::accepted_means;
 
 // The instances of as many AIRs, traces and lists of public values. The only error is running out of memory.
 fn instances_of<'a>(
@@ -72,7 +72,6 @@ pub(crate) fn prove_job(
     if !is_outside(tables, point) {
         return Ok(None);
     }
-    accepted_holds(&config, &airs, &proof, &public_values, &data.common);
-    accepted_swaps_end(&config, &airs, &proof, &public_values, &data.common);
+    accepted_means(tables, &proof);
     Ok(Some(proof))
 }

@@ -1,6 +1,8 @@
 -- The tables of a statement, and what they fix: what their AIRs declare and constrain, public values, and the data that prover and verifier
 -- share.
-use Rattle.std.specs.Prelude.{ℕ, ◌≤◌, List, [], ◌∷◌, length, map, replicate, Option, None, Some}
+use Rattle.std.specs.Prelude.{◌≡◌, ℕ, ◌≤◌, List, [], ◌∷◌, length, map, min, replicate, Option, None, Some}
+use Rattle.std.specs.Prelude.{slice_index_or as get_or}
+use Rattle.p3_field.specs.Checks.{FirstFailing, IsFirstFailing}
 use Rattle.p3_field.specs.Poly.{table}
 use Rattle.p3_field.specs.BabyBear.{bear_ring}
 use Rattle.p3_field.specs.Domain.{CosetData}
@@ -57,6 +59,18 @@ sources_of tables = map source_of_table tables
 
 abbrev pub log_heights_of : List TableStatement → List ℕ
 log_heights_of tables = map log_height_of tables
+
+-- a proof's degree bits of table i are the stated logarithm of its height
+abbrev pub HasStatedHeight : List TableStatement → (degree_bits : List ℕ) → ℕ → Type 0
+HasStatedHeight tables degree_bits i = get_or (log_heights_of tables) i 0 ≡ get_or degree_bits i 0
+
+-- table i is the first, below both lengths, of which that isn't so
+abbrev pub IsMismatch : List TableStatement → (degree_bits : List ℕ) → ℕ → Type 0
+IsMismatch tables degree_bits i = IsFirstFailing (min (length tables) (length degree_bits)) (HasStatedHeight tables degree_bits) i
+
+-- it is so of all
+abbrev pub HaveStatedHeights : List TableStatement → (degree_bits : List ℕ) → Type 0
+HaveStatedHeights tables degree_bits = FirstFailing (min (length tables) (length degree_bits)) (HasStatedHeight tables degree_bits) None
 
 abbrev pub publics_lists : List TableStatement → List (List BabyBear)
 publics_lists tables = map publics_of tables

@@ -1,6 +1,6 @@
 -- What `verify` answers, from what its parts found.
 use Rattle.std.proofs.Common.{◌≡◌, ℕ, List, length, None, Some, inl, inr, refl, sym, subst}
-use Rattle.std.specs.Prelude.{min, codes}
+use Rattle.std.specs.Prelude.{min}
 use Rattle.p3_field.specs.Checks.{FirstFailing, NoneFails}
 use Rattle.plain_pcs.specs.declared.error.PlainError.{PlainError}
 use Rattle.batch_statement.specs.declared.error.BatchVerificationError.{BatchVerificationError}
@@ -8,10 +8,10 @@ use Rattle.batch_statement.specs.declared.error.BatchVerificationError.TheVarian
 use Rattle.batch_shape_checks.specs.Verdict.{IsRefusal}
 use Rattle.batch_verifier.specs.BatchChecks.{FirstFault, checks}
 use Rattle.tool_statement.specs.Config.{tool_setting, tool_backend}
-use Rattle.tool_statement.specs.StatedTables.{tool_statement}
+use Rattle.tool_statement.specs.StatedTables.{HasStatedHeight, HaveStatedHeights, tool_statement}
 use Rattle.tool_statement.specs.declared.table.TableStatement.{TableStatement}
 use Rattle.proof_text.specs.ProofText.{ToolProofData}
-use Rattle.tool_verifier.specs.FileAnswer.{HasStatedHeight, HaveStatedHeights, IsFileAnswer, IsMeant, mismatch_text}
+use Rattle.tool_verifier.specs.FileAnswer.{IsFileAnswer, IsMeant, accepted_text, mismatch_text}
 use Rattle.tool_verifier.specs.Refusals.{fault_text}
 use Rattle.tool_verifier.specs.declared.status.Status.{Status}
 use Rattle.tool_verifier.specs.declared.status.Status.TheVariants.{Done, Refused}
@@ -25,11 +25,11 @@ mismatched tables p bits e i f s x r t =
     (inl (i, subst (λ (b : List ℕ). FirstFailing (min (length tables) (length b)) (HasStatedHeight tables b) (Some i)) e f, t))
 
 module _ (tables : List TableStatement) (p : ToolProofData) (bits : List ℕ) (e : bits ≡ p.degree_bits) (h : FirstFailing (min (length tables) (length bits)) (HasStatedHeight tables bits) None) where
-  heights : HaveStatedHeights tables p.degree_bits
+  pub heights : HaveStatedHeights tables p.degree_bits
   heights = subst (λ (b : List ℕ). FirstFailing (min (length tables) (length b)) (HasStatedHeight tables b) None) e h
 
   -- no check fails
-  pub accepted : NoneFails (checks tool_setting tool_backend (tool_statement tables) p) → IsMeant tables p → (x : List ℕ) → x ≡ codes "accepted\n" → IsFileAnswer tables p Done x
+  pub accepted : NoneFails (checks tool_setting tool_backend (tool_statement tables) p) → IsMeant tables p → (x : List ℕ) → x ≡ accepted_text tables p → IsFileAnswer tables p Done x
   unfolding IsFileAnswer
   accepted a m x t = ((heights, a), m, t)
 

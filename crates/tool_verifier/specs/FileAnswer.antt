@@ -1,33 +1,25 @@
 -- What `verify` answers for a proof file: a status and a text.
-use Rattle.std.specs.Prelude.{◌≡◌, ◌⊎◌, ℕ, List, [], ◌∷◌, length, min, codes, slice_get, None, Some}
+use Rattle.std.specs.Prelude.{◌≡◌, ◌⊎◌, ℕ, ◌^◌, ◌<◌, List, [], ◌∷◌, ◌++◌, codes, slice_get, Some}
 use Rattle.std.specs.Prelude.{slice_index_or as get_or}
-use Rattle.p3_field.specs.Checks.{FirstFailing, IsFirstFailing}
+use Rattle.p3_blake3.specs.Compress.{Input}
+use Rattle.p3_blake3.specs.TraceRow.{AreWords}
 use Rattle.p3_field.specs.declared.baby_bear.BabyBear.{BabyBear}
 use Rattle.plain_pcs.specs.declared.error.PlainError.{PlainError}
+use Rattle.hash_lines.specs.Compressions.{compression_words}
+use Rattle.hash_lines.specs.PrintedRows.{committed_cells, printed_rows}
+use Rattle.hash_lines.specs.RowText.{row_line, words_line}
 use Rattle.batch_statement.specs.declared.error.BatchVerificationError.{BatchVerificationError}
 use Rattle.batch_verifier.specs.BatchChecks.{Accepted, FirstFault}
 use Rattle.plain_soundness.specs.Meaning.{HoldUnlessUnlucky, IsAlphaUnlucky, IsZetaUnlucky}
 use Rattle.plain_soundness.specs.Swapped.{EndsSwapped}
 use Rattle.proof_text.specs.ProofText.{ToolProofData}
 use Rattle.tool_statement.specs.Config.{tool_setting, tool_backend}
-use Rattle.tool_statement.specs.StatedTables.{log_heights_of, tool_statement}
+use Rattle.tool_statement.specs.StatedTables.{HaveStatedHeights, IsMismatch, tool_statement}
 use Rattle.tool_statement.specs.declared.table.TableStatement.{TableStatement}
-use Rattle.tool_statement.specs.declared.table.TableStatement.TheVariants.{Swap}
+use Rattle.tool_statement.specs.declared.table.TableStatement.TheVariants.{Swap, Hash}
 use Rattle.tool_verifier.specs.Refusals.{fault_text, refused_text}
 use Rattle.tool_verifier.specs.declared.status.Status.{Status}
 use Rattle.tool_verifier.specs.declared.status.Status.TheVariants.{Done, Refused, Usage, BadInput, ReadFault, WriteFault, OutOfMemory, TooLarge}
-
--- the degree bits of table i are the stated logarithm of its height
-abbrev pub HasStatedHeight : List TableStatement → (degree_bits : List ℕ) → ℕ → Type 0
-HasStatedHeight tables degree_bits i = get_or (log_heights_of tables) i 0 ≡ get_or degree_bits i 0
-
--- table i is the first, below both lengths, of which that isn't so
-abbrev pub IsMismatch : List TableStatement → (degree_bits : List ℕ) → ℕ → Type 0
-IsMismatch tables degree_bits i = IsFirstFailing (min (length tables) (length degree_bits)) (HasStatedHeight tables degree_bits) i
-
--- it is so of all
-abbrev pub HaveStatedHeights : List TableStatement → (degree_bits : List ℕ) → Type 0
-HaveStatedHeights tables degree_bits = FirstFailing (min (length tables) (length degree_bits)) (HasStatedHeight tables degree_bits) None
 
 abbrev pub mismatch_text : ℕ → List ℕ
 mismatch_text i = refused_text (codes "HeightMismatch") (i ∷ [])
@@ -43,11 +35,23 @@ SwapsEnd tables p =
     (IsAlphaUnlucky tool_setting 1 (tool_statement tables) p → ⊥) → (IsZetaUnlucky tool_setting 1 (tool_statement tables) p → ⊥)
     → (i k : ℕ) (a b x : BabyBear) → slice_get tables i ≡ Some (Swap k a b x) → EndsSwapped (get_or p.degree_bits i 0) a b x
 
+-- Where neither drawn challenge is unlucky, each printed row of a hash table is readable, and its last 16 words are the compression of its first 28.
+abbrev pub PrintCompressions : List TableStatement → ToolProofData → Type 0
+PrintCompressions tables p =
+    (IsAlphaUnlucky tool_setting 1 (tool_statement tables) p → ⊥) → (IsZetaUnlucky tool_setting 1 (tool_statement tables) p → ⊥)
+    → (i k row : ℕ) → slice_get tables i ≡ Some (Hash k) → row < 2 ^ k
+    → (x : Input) × AreWords x × (row_line row (committed_cells tables p i row) ≡ words_line (compression_words x))
+
 -- What an accepted proof means: every constraint of every table is zero on each row of the committed polynomials, or the drawn alpha or the drawn zeta
--- is unlucky; and where neither is, swap tables end as they should. The scheme's blowup is two to the power of one.
+-- is unlucky; and where neither is, swap tables end as they should, and what is printed are compressions. The scheme's blowup is two to the power of one.
 pub record IsMeant (tables : List TableStatement) (p : ToolProofData) : Type 0 where
   pub holds : HoldUnlessUnlucky tool_setting 1 (tool_statement tables) p
   pub swaps : SwapsEnd tables p
+  pub hashes : PrintCompressions tables p
+
+-- the text where the proof is accepted: `accepted`, and the rows of hash tables
+abbrev pub accepted_text : List TableStatement → ToolProofData → List ℕ
+accepted_text tables p = codes "accepted\n" ++ printed_rows tables p
 
 -- why it isn't accepted, as the line that says so: the first table with another height, or else the first check that fails
 abbrev pub IsRefusedWith : List TableStatement → ToolProofData → List ℕ → Type 0
@@ -57,7 +61,7 @@ IsRefusedWith tables p text =
 
 -- The status and the text. What `accepted` means follows from the checks, and is said here since it is what a reader of the text relies on.
 unfoldable pub IsFileAnswer : List TableStatement → ToolProofData → Status → List ℕ → Type 0
-IsFileAnswer tables p Done text = IsAccepted tables p × IsMeant tables p × (text ≡ codes "accepted\n")
+IsFileAnswer tables p Done text = IsAccepted tables p × IsMeant tables p × (text ≡ accepted_text tables p)
 IsFileAnswer tables p Refused text = IsRefusedWith tables p text
 IsFileAnswer tables p Usage text = ⊥
 IsFileAnswer tables p BadInput text = ⊥

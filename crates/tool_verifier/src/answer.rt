@@ -1,12 +1,14 @@
 //! What `verify` answers for a proof file.
 ghost use Rattle.std.specs.Prelude.{◌≡◌, All, IfOk};
 ghost use Rattle.tool_statement.specs.StatedTables.{TableWithin};
-ghost use Rattle.tool_verifier.specs.FileAnswer.{IsFileAnswer};
+ghost use Rattle.hash_lines.specs.PrintedRows.{HasHashMatrices};
+ghost use Rattle.tool_verifier.specs.FileAnswer.{IsFileAnswer, accepted_text as text_of_accepted};
 
 use crate::heights::first_mismatch;
 use crate::refusal::{fault_line, mismatch_line};
 use crate::status::Status;
 use crate::tables::verify_tables;
+use hash_lines::hash_lines;
 use p3_field::Mem;
 use proof_text::ToolProof;
 use std::alloc::Global;
@@ -32,9 +34,20 @@ fn refused(text: Vec<u8>) -> Answer
     }
 }
 
+// The text where the proof is accepted: `accepted`, and the rows of hash tables.
+fn accepted_text(alloc: Global, tables: &[TableStatement], proof: &ToolProof) -> Mem<Vec<u8>>
+    requires { HasHashMatrices tables.now proof.now }
+    ensures { IfOk result (λ v. v.items ≡ text_of_accepted tables.now proof.now) }
+{
+    let lines = hash_lines(alloc, tables, proof)?;
+    let mut text = Vec::from_slice(alloc, b"accepted\n")?;
+    text.extend_from_slice(&lines)?;
+    Ok(text)
+}
+
 /// What `verify` answers for the proof of these tables (own), the first of: `Refused` with `HeightMismatch` for the first table, below both
 /// lengths, whose degree bits in the proof aren't the stated logarithm of its height; `Refused` with the name and the numbers of the first
-/// check of the batch verifier that fails; and `Done` with `accepted`. The only error is running out of memory.
+/// check of the batch verifier that fails; and `Done` with `accepted` and the rows of the hash tables. The only error is running out of memory.
 pub fn answer_tables(alloc: Global, tables: &[TableStatement], proof: &ToolProof) -> Mem<Answer>
     requires { All TableWithin tables.now }
     ensures { IfOk result (λ a. IsFileAnswer tables.now proof.now a.status a.text.items) }
@@ -45,7 +58,7 @@ pub fn answer_tables(alloc: Global, tables: &[TableStatement], proof: &ToolProof
     match verify_tables(alloc, tables, proof) {
         Ok(()) => Ok(Answer {
             status: Status::Done,
-            text: Vec::from_slice(alloc, b"accepted\n")?,
+            text: accepted_text(alloc, tables, proof)?,
         }),
         Err(error) => Ok(refused(fault_line(alloc, &error)?)),
     }

@@ -1,7 +1,7 @@
 //! Whether the heights of the stated tables are those of the proof.
 ghost use Rattle.std.specs.Prelude.{length, min};
 ghost use Rattle.p3_field.specs.Checks.{FirstFailing};
-ghost use Rattle.tool_verifier.specs.FileAnswer.{HasStatedHeight};
+ghost use Rattle.tool_statement.specs.StatedTables.{HasStatedHeight};
 
 use tool_statement::TableStatement;
 

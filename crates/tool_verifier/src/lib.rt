@@ -1,7 +1,7 @@
 //! What the program's `verify` answers for a proof file: whether the stated tables' heights are those of the proof, whether the batch
 //! verifier accepts it, and the text that says so.
 //!
-//! The definitions that contracts cite are in `specs/`: a file's answer (`FileAnswer`), the texts of refusals (`Refusals`).
+//! The definitions that contracts cite are in `specs/`: a file's answer and what it means (`FileAnswer`), the texts of refusals (`Refusals`).
 #![tactic(auto)]
 
 mod answer;
@@ -9,12 +9,14 @@ mod fault_names;
 mod fault_numbers;
 mod heights;
 mod laws;
+mod meaning;
 mod refusal;
 mod status;
 mod tables;
 
 pub use answer::{Answer, answer_tables};
 pub use laws::there_is_one_answer;
+pub use meaning::accepted_means;
 pub use refusal::refusal_line;
 pub use status::Status;
 pub use tables::verify_tables;

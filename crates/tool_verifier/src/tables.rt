@@ -3,16 +3,17 @@ ghost use Rattle.std.specs.Prelude.{All, IfOk};
 ghost use Rattle.batch_shape_checks.specs.Verdict.{IsVerdict};
 ghost use Rattle.batch_verifier.specs.BatchChecks.{checks};
 ghost use Rattle.plain_soundness.specs.Meaning.{HoldUnlessUnlucky};
-ghost use Rattle.tool_verifier.specs.FileAnswer.{SwapsEnd};
+ghost use Rattle.tool_verifier.specs.FileAnswer.{PrintCompressions, SwapsEnd};
+ghost use Rattle.tool_statement.specs.StatedTables.{HaveStatedHeights, TableWithin, tool_statement};
+ghost use Rattle.hash_lines.specs.PrintedRows.{HasHashMatrices};
 ghost use Rattle.tool_statement.specs.Config.{tool_backend, tool_setting};
-ghost use Rattle.tool_statement.specs.StatedTables.{TableWithin, tool_statement};
 
+use crate::meaning::accepted_means;
 use batch_setting::Settings;
 use batch_statement::BatchVerificationError;
 use batch_verifier::verify_batch;
 use p3_air::{Air, BaseAir};
 use plain_pcs::PlainError;
-use plain_soundness::{accepted_holds, accepted_swaps_end};
 use proof_text::ToolProof;
 use std::alloc::Global;
 use tool_statement::{TableStatement, airs_of, public_values_of, shared_data, tool_config};
@@ -23,7 +24,8 @@ use tool_statement::{TableStatement, airs_of, public_values_of, shared_data, too
 ///
 /// Where it is Ok, every constraint of every table is zero on each row of the committed polynomials, or the drawn alpha or the drawn zeta is
 /// unlucky (`holds`); and where neither is, each swap table's last right cell is its second public value in a table of one row, and else its
-/// first (`swaps`).
+/// first (`swaps`), and with the stated heights each row of a hash table is printed as a compression (`hashes`). With these heights the matrices of hash
+/// tables are as large as is stated (`matrices`).
 pub fn verify_tables(
     alloc: Global,
     tables: &[TableStatement],
@@ -33,13 +35,14 @@ pub fn verify_tables(
     ensures verdict { IsVerdict (checks tool_setting tool_backend (tool_statement tables.now) proof.now) result }
     ensures holds { IfOk result (λ _. HoldUnlessUnlucky tool_setting 1 (tool_statement tables.now) proof.now) }
     ensures swaps { IfOk result (λ _. SwapsEnd tables.now proof.now) }
+    ensures hashes { IfOk result (λ _. HaveStatedHeights tables.now proof.now.degree_bits → PrintCompressions tables.now proof.now) }
+    ensures matrices { IfOk result (λ _. HaveStatedHeights tables.now proof.now.degree_bits → HasHashMatrices tables.now proof.now) }
 {
     let config = tool_config();
     let airs = airs_of(alloc, tables)?;
     let public_values = public_values_of(alloc, tables)?;
     let common = shared_data(alloc, &config, tables, &airs)?;
     verify_batch(alloc, &config, &airs, proof, &public_values, &common)?;
-    accepted_holds(&config, &airs, proof, &public_values, &common);
-    accepted_swaps_end(&config, &airs, proof, &public_values, &common);
+    accepted_means(tables, proof);
     Ok(())
 }

@@ -1,5 +1,5 @@
 -- The main matrices of an accepted proof, and those of hash tables.
-use Rattle.std.proofs.Common.{◌≡◌, ℕ, ◌+◌, ◌^◌, ◌<◌, ◌≤◌, min, List, [], ◌∷◌, Some, length, get_or, map, refl, sym, ◌∙◌, ap, subst, arith, inl, inr}
+use Rattle.std.proofs.Common.{◌≡◌, ℕ, ◌+◌, ◌^◌, ◌<◌, ◌≤◌, min, List, Some, length, get_or, map, refl, sym, ◌∙◌, ap, subst, arith, inl, inr}
 use Rattle.std.specs.Prelude.{slice_get}
 use Rattle.std.proofs.lemmas.Bool.{cases_lt}
 use Rattle.std.proofs.lemmas.List.{get_or-map, get_or_default, length-map}
@@ -9,14 +9,12 @@ use Rattle.p3_field.specs.Laws.Tables.{length-table}
 use Rattle.p3_field.specs.Quartic.{of_bear_value, quartic_ring}
 use Rattle.p3_field.specs.declared.baby_bear.BabyBear.{BabyBear}
 use Rattle.p3_field.specs.declared.quartic.QuarticExtension.{QuarticExtension}
-use Rattle.p3_air.specs.Shape.{Declaration}
 use Rattle.p3_matrix.specs.Matrix.{column, height}
 use Rattle.plain_pcs.specs.Checks.{Opens}
 use Rattle.plain_pcs.specs.Extension.{columns, extended_domain, interpolant}
 use Rattle.plain_pcs.specs.Scheme.{PlainCommitmentData}
 use Rattle.committed_tables.specs.Fields.{FieldsLaws, bear_field, quartic_extension}
 use Rattle.batch_setting.specs.Setting.{Setting, Backend}
-use Rattle.batch_setup.specs.Packed.{Source, source_of}
 use Rattle.batch_statement.specs.Proof.{ProofData}
 use Rattle.batch_statement.specs.Statement.{Statement, Table, WellFormed}
 use Rattle.batch_shape_checks.specs.ShapeChecks.{no_table}
@@ -31,13 +29,11 @@ use Rattle.plain_soundness.specs.Laws.Opened.{columns_declared, counts}
 use Rattle.plain_soundness.specs.Laws.Rounds.{main_bound}
 use Rattle.plain_soundness.specs.PlainSetting.{IsPlain, plain_scheme}
 use Rattle.proof_text.specs.ProofText.{ToolProofData}
-use Rattle.tool_tables.specs.Tool.{tool_declaration, tool_interactions, tool_trees}
-use Rattle.tool_tables.specs.declared.tool.ToolAir.{ToolAir}
 use Rattle.tool_statement.specs.Config.{tool_backend, tool_scheme, tool_setting}
-use Rattle.tool_statement.specs.StatedTables.{log_height_of, log_heights_of, source_of_table, sources_of, table_of, tool_common, tool_statement}
+use Rattle.tool_statement.specs.StatedTables.{HaveStatedHeights, log_height_of, source_of_table, table_of, tool_common, tool_statement}
 use Rattle.tool_statement.specs.declared.table.TableStatement.{TableStatement}
 use Rattle.tool_statement.specs.declared.table.TableStatement.TheVariants.{Hash, Take}
-use Rattle.hash_lines.specs.PrintedRows.{HasHashMatrices, HaveStatedBits}
+use Rattle.hash_lines.specs.PrintedRows.{HasHashMatrices}
 
 -- a matrix with columns is there
 is_there : {F : Type 0} (c : PlainCommitmentData F) (i w : ℕ) → (matrix_at c i).width ≡ w → 0 < w → i < length c.matrices
@@ -78,15 +74,15 @@ module _ {S F E P R : Type 0} (c : Setting S F E (PlainCommitmentData F)) (b : B
       ∙ (columns_declared c b log_blowup s p inverse L plain binds formed accepted i below).main
 
 -- the program's configuration is over the plain scheme
-plain_tool : IsPlain tool_setting tool_backend 1
+pub plain_tool : IsPlain tool_setting tool_backend 1
 unfolding tool_setting tool_backend
 plain_tool = record { unmasked = refl; opens = λ state claims proof o. o }
 
-laws_of_tool : (inverse : QuarticExtension → QuarticExtension) → FieldsLaws bear_field quartic_extension 27 inverse → FieldsLaws tool_setting.field tool_setting.extension tool_setting.two_adicity inverse
+pub laws_of_tool : (inverse : QuarticExtension → QuarticExtension) → FieldsLaws bear_field quartic_extension 27 inverse → FieldsLaws tool_setting.field tool_setting.extension tool_setting.two_adicity inverse
 unfolding tool_setting
 laws_of_tool inverse L = L
 
-binds_of_tool : Binds tool_scheme quartic_ring of_bear_value → Binds (plain_scheme tool_setting 1) tool_setting.extension.ring tool_setting.extension.embed
+pub binds_of_tool : Binds tool_scheme quartic_ring of_bear_value → Binds (plain_scheme tool_setting 1) tool_setting.extension.ring tool_setting.extension.embed
 unfolding tool_setting
 binds_of_tool B = B
 
@@ -94,26 +90,11 @@ two_adicity_is : tool_setting.two_adicity ≡ 27
 unfolding tool_setting
 two_adicity_is = refl
 
--- what AIRs declare, and what tables do
-declared_airs : (airs : List (ToolAir BabyBear)) → map (tool_declaration bear_ring) airs ≡ map (λ (s : Source BabyBear). s.declaration) (map (source_of (tool_declaration bear_ring) (tool_trees bear_ring) (tool_interactions bear_ring)) airs)
-declared_airs [] = refl
-declared_airs (a ∷ airs) = ap (λ ds. tool_declaration bear_ring a ∷ ds) (declared_airs airs)
-
-declared_tables : (tables : List TableStatement) → map (λ (s : Source BabyBear). s.declaration) (sources_of tables) ≡ map (λ (t : Table BabyBear). t.declaration) (map table_of tables)
-declared_tables [] = refl
-declared_tables (t ∷ tables) = ap (λ ds. (source_of_table t).declaration ∷ ds) (declared_tables tables)
-
-module _ (tables : List TableStatement) (airs : List (ToolAir BabyBear)) (p : ToolProofData) (inverse : QuarticExtension → QuarticExtension) (L : FieldsLaws bear_field quartic_extension 27 inverse)
-    (binds : Binds tool_scheme quartic_ring of_bear_value) (same : map (source_of (tool_declaration bear_ring) (tool_trees bear_ring) (tool_interactions bear_ring)) airs ≡ sources_of tables)
-    (formed : WellFormed (map (tool_declaration bear_ring) airs) (tool_common tables)) (accepted : Accepted tool_setting tool_backend (tool_statement tables) p) (bits : HaveStatedBits tables p.degree_bits) where
-  formed_tables : WellFormed (map (λ (t : Table BabyBear). t.declaration) (map table_of tables)) (tool_common tables)
-  formed_tables =
-      let e : map (tool_declaration bear_ring) airs ≡ map (λ (t : Table BabyBear). t.declaration) (map table_of tables) =
-      declared_airs airs ∙ (ap (map (λ (s : Source BabyBear). s.declaration)) same ∙ declared_tables tables) in
-      subst (λ (ds : List (Declaration BabyBear)). WellFormed ds (tool_common tables)) e formed
-
+module _ (tables : List TableStatement) (p : ToolProofData) (inverse : QuarticExtension → QuarticExtension) (L : FieldsLaws bear_field quartic_extension 27 inverse)
+    (binds : Binds tool_scheme quartic_ring of_bear_value) (formed : WellFormed (map (λ (t : Table BabyBear). t.declaration) (map table_of tables)) (tool_common tables))
+    (accepted : Accepted tool_setting tool_backend (tool_statement tables) p) (bits : HaveStatedHeights tables p.degree_bits) where
   module _ (i k : ℕ) (at : slice_get tables i ≡ Some (Hash k)) where
-    within : i < length tables
+    pub within : i < length tables
     within = slice_get_within tables i (Hash k) at
 
     here : get_or tables i (Take 0) ≡ Hash k
@@ -123,26 +104,26 @@ module _ (tables : List TableStatement) (airs : List (ToolAir BabyBear)) (p : To
     below = subst (λ n. i < n) (sym (length-map tables table_of)) within
 
     -- its degree bits are those that are stated
-    degree : bits_at p.degree_bits i ≡ k
+    pub degree : bits_at p.degree_bits i ≡ k
     degree =
         let many : length p.degree_bits ≡ length tables =
-        (counts tool_setting tool_backend 1 (tool_statement tables) p inverse (laws_of_tool inverse L) plain_tool (binds_of_tool binds) formed_tables accepted).degree_bits ∙ length-map tables table_of in
+        (counts tool_setting tool_backend 1 (tool_statement tables) p inverse (laws_of_tool inverse L) plain_tool (binds_of_tool binds) formed accepted).degree_bits ∙ length-map tables table_of in
         let inside : i < min (length tables) (length p.degree_bits) = omega (arith, within, many) in
         sym (bits i inside) ∙ (get_or-map log_height_of tables i (Take 0) 0 within ∙ ap log_height_of here)
 
     wide : (matrix_at p.commitments.main i).width ≡ 9168
     wide =
-        main_wide tool_setting tool_backend 1 (tool_statement tables) p inverse (laws_of_tool inverse L) plain_tool (binds_of_tool binds) formed_tables accepted i below
+        main_wide tool_setting tool_backend 1 (tool_statement tables) p inverse (laws_of_tool inverse L) plain_tool (binds_of_tool binds) formed accepted i below
         ∙ (ap (λ (t : Table BabyBear). t.declaration.width) (get_or-map table_of tables i (Take 0) no_table within) ∙ ap (λ (t : TableStatement). (source_of_table t).declaration.width) here)
 
     high : height (matrix_at p.commitments.main i) ≡ 2 ^ (k + 1)
     high =
-        main_high tool_setting tool_backend 1 (tool_statement tables) p inverse (laws_of_tool inverse L) plain_tool (binds_of_tool binds) formed_tables accepted i below
+        main_high tool_setting tool_backend 1 (tool_statement tables) p inverse (laws_of_tool inverse L) plain_tool (binds_of_tool binds) formed accepted i below
         ∙ ap (λ n. 2 ^ (n + 1)) degree
 
     fits : k + 1 ≤ 27
     fits =
-        let h = main_fits tool_setting tool_backend 1 (tool_statement tables) p inverse (laws_of_tool inverse L) plain_tool (binds_of_tool binds) formed_tables accepted i below in
+        let h = main_fits tool_setting tool_backend 1 (tool_statement tables) p inverse (laws_of_tool inverse L) plain_tool (binds_of_tool binds) formed accepted i below in
         omega (arith, h, degree, two_adicity_is)
 
   -- each hash table has its matrix

@@ -1,37 +1,37 @@
 -- What a backend keeps of an honest proof's matrices, which it reads as polynomials, is what the rounds say.
-use Rattle.std.proofs.Common.{◌≡◌, ℕ, zero, suc, ◌+◌, ◌*◌, ◌^◌, ◌<◌, ◌≤◌, false, cond, List, [], ◌∷◌, ◌++◌, length, get_or, map, take, Option, None, Some, refl, sym, ◌∙◌, ap, subst, arith}
+use Rattle.std.proofs.Common.{◌≡◌, ℕ, zero, suc, ◌+◌, ◌^◌, ◌<◌, ◌≤◌, false, cond, List, [], ◌∷◌, ◌++◌, length, get_or, map, Option, None, Some, refl, sym, ◌∙◌, ap, subst, arith}
 use Rattle.std.specs.Prelude.{option_to_list}
 use Rattle.std.specs.List.{flat_map}
-use Rattle.std.proofs.Math.Seq.{take-length}
-use Rattle.std.proofs.lemmas.List.{ext_get_or, get_or-map, map-append}
+use Rattle.std.proofs.lemmas.List.{ext_get_or, get_or-map}
 use Rattle.p3_field.specs.Domain.{CosetData, IsInterpolant, point}
 use Rattle.p3_field.specs.Field.{TwoAdic, Extension}
 use Rattle.p3_field.specs.Laws.Interpolants.{interpolant_unique, points_apart}
-use Rattle.p3_field.specs.Laws.SubgroupSelectors.{subgroup}
-use Rattle.p3_field.specs.Laws.Tables.{get_or-table, length-table, table_of_items, table_same}
+use Rattle.p3_field.specs.Laws.SubgroupSelectors.{map_table, subgroup}
+use Rattle.p3_field.specs.Laws.Tables.{get_or-table, length-table}
 use Rattle.p3_field.specs.Poly.{Apart, table}
-use Rattle.p3_matrix.specs.Matrix.{Rows, cell_at, column, height}
+use Rattle.p3_matrix.specs.Matrix.{Rows, column}
 use Rattle.p3_matrix.specs.Laws.Cells.{length-column}
-use Rattle.p3_matrix.specs.Laws.Transposed.{get_or-row_at}
 use Rattle.p3_air.specs.Shape.{Declaration, HasColumns, width_of}
 use Rattle.p3_commit.specs.Commitments.{AreCommitted, Committed, IsCommitted}
 use Rattle.batch_setting.specs.Setting.{Setting, masks}
-use Rattle.batch_shape_checks.specs.ShapeChecks.{HasEntries, no_table}
-use Rattle.batch_statement.specs.Statement.{Statement, Table, PreprocessedTracesData, HasEntryOf, ListsEntries, entry_of, with_entry}
+use Rattle.batch_shape_checks.specs.ShapeChecks.{no_table}
+use Rattle.batch_statement.specs.Statement.{Statement, Table, HasEntryOf, ListsEntries, entry_of, with_entry}
 use Rattle.batch_statement.specs.declared.preprocessed.PreprocessedInstanceMeta.{PreprocessedInstanceMeta}
 use Rattle.batch_setup.specs.Preprocessed.{natural, on_domain}
 use Rattle.batch_claims.specs.Claims.{declared_at, matrix_tables}
 use Rattle.committed_tables.specs.Committed.{CommittedTable, trace_domain}
 use Rattle.committed_tables.specs.Fields.{FieldsLaws}
-use Rattle.committed_tables.specs.Quotient.{chunk_cell, chunk_domain, honest_chunk}
+use Rattle.committed_tables.specs.Quotient.{chunk_domain, honest_chunk}
 use Rattle.committed_tables.specs.Rows.{InterpolateColumns, InterpolateSome, flattened_matrix}
 use Rattle.committed_tables.specs.Laws.Quotient.{one_chunk_polynomial}
-use Rattle.batch_validity.specs.Laws.Columns.{pieces_height, pieces_row}
 use Rattle.batch_validity.specs.Laws.Held.{all_counted, domain_beside}
 use Rattle.batch_validity.specs.Traced.{TracedTable, all_traced, constraints, declared, log_parts, log_rows, preprocessed_matrices, quotient_shift, traced_at}
 use Rattle.batch_validity.specs.Valid.{HasQuotientDomain, IsTraced, IsTracedBatch}
-use Rattle.honest_proofs.specs.HonestProof.{Prover, alpha, challenges_at, chunk_matrices, chunk_rows, committed_table, permutation_columns, permutation_matrices, quotient_row, terminal_of, where_some, zeta}
+use Rattle.honest_proofs.specs.HonestProof.{Prover, alpha, challenges_at, chunk_matrices, chunk_rows, committed_table, permutation_columns, permutation_matrices, terminal_of, where_some, zeta}
+use Rattle.honest_proofs.specs.Laws.ChunkRows.{chunk_column}
+use Rattle.honest_proofs.specs.Laws.Flat.{flat_over, map_flat, map_where}
 use Rattle.honest_acceptance.specs.Rounds.{OpenedMatrix, chunk_opened, chunks, chunks_opened, committed_of, main_opened, mains, of_table, permutation_opened, permutations, preprocessed_opened, preprocesseds}
+use Rattle.honest_acceptance.specs.Laws.Entries.{listed_is, map_items}
 use Rattle.honest_acceptance.specs.Laws.Lengths.{honest_commits}
 use Rattle.honest_acceptance.specs.Laws.Rounds.{ArePaired, paired_from}
 
@@ -72,18 +72,6 @@ paired_where R [] x y (b ∷ part) one h = absurd h
 paired_where R (l ∷ ls) x y [] one h = absurd h
 paired_where R (l ∷ ls) x y (b ∷ []) one h = ap (λ v. v ∷ []) (one b h.0)
 paired_where R (l ∷ ls) x y (b ∷ u ∷ part) one h = absurd h.1
-
-map_where : {A B C : Type 0} (g : B → C) (ls : List A) (y : B) → map g (option_to_list (where_some ls y)) ≡ option_to_list (where_some ls (g y))
-map_where g [] y = refl
-map_where g (l ∷ ls) y = refl
-
-map_flat : {A B C : Type 0} (m : B → C) (g : A → List B) (xs : List A) → map m (flat_map g xs) ≡ flat_map (λ x. map m (g x)) xs
-map_flat m g [] = refl
-map_flat m g (x ∷ xs) = map-append m (g x) (flat_map g xs) ∙ ap (λ l. map m (g x) ++ l) (map_flat m g xs)
-
-map_table : {A B : Type 0} (g : A → B) (n : ℕ) (u : ℕ → A) → map g (table n u) ≡ table n (λ i. g (u i))
-map_table g zero u = refl
-map_table g (suc n) u = ap (λ l. g (u zero) ∷ l) (map_table g n (λ i. u (suc i)))
 
 -- a is what is kept of a matrix on a domain
 abbrev Keeps : {F : Type 0} → TwoAdic F → (CosetData F × Rows F) → Committed F → Type 0
@@ -141,31 +129,6 @@ module _ {S F E C : Type 0} (c : Setting S F E C) (p : Prover F E C) (t : Traced
       ∙ sym (map_where (λ (o : OpenedMatrix F E). o.committed) t.lookups _)
 
   -- of a chunk
-  row_long : (i : ℕ) → length (quotient_row c p t challenges folding i) ≡ c.extension.dimension
-  row_long i = L.vector.parts_length _
-
-  places : List ℕ
-  places = table (2 ^ log_rows c t) (λ j. j)
-
-  chunk_tall : (n : ℕ) → height (chunk_rows c p t challenges folding n) ≡ 2 ^ log_rows c t
-  chunk_tall n =
-      pieces_height (λ j. quotient_row c p t challenges folding (n + 2 ^ log_parts c t * j)) c.extension.dimension (λ j. row_long (n + 2 ^ log_parts c t * j)) L.vector.positive (table (2 ^ log_rows c t) (λ j. j))
-      ∙ length-table (2 ^ log_rows c t) (λ j. j)
-
-  chunk_column : (n i : ℕ) → i < c.extension.dimension
-      → column c.field.ring.zero (chunk_rows c p t challenges folding n) i ≡ table (2 ^ log_rows c t) (chunk_cell c.field c.extension k (quotient_shift c) (log_parts c t) (constraints c t) folding n i)
-  unfolding column
-  chunk_column n i below =
-      let m = chunk_rows c p t challenges folding n in
-      let z = c.field.ring.zero in
-      let row = λ (j : ℕ). quotient_row c p t challenges folding (n + 2 ^ log_parts c t * j) in
-      ap (λ h. table h (λ j. cell_at z m j i)) (chunk_tall n)
-      ∙ table_same (2 ^ log_rows c t) (λ j. cell_at z m j i) (λ j. get_or (row j) i z) (λ j b.
-      sym (get_or-row_at m j i z below)
-      ∙ ap (λ r. get_or r i z)
-      (pieces_row row c.extension.dimension (λ j. row_long (n + 2 ^ log_parts c t * j)) (table (2 ^ log_rows c t) (λ j. j)) j 0 (let q = length-table (2 ^ log_rows c t) (λ j. j) in omega (arith, b, q))
-      ∙ ap row (get_or-table (2 ^ log_rows c t) (λ j. j) j 0 b)))
-
   chunk_kept : (n : ℕ) (a : Committed F) → Keeps c.field (chunk_domain c.field c.extension k (quotient_shift c) (log_parts c t) n, chunk_rows c p t challenges folding n) a → a ≡ (chunk_opened c p t challenges folding x n).committed
   unfolding committed_table honest_chunk
   chunk_kept n a K =
@@ -177,7 +140,7 @@ module _ {S F E C : Type 0} (c : Setting S F E C) (p : Prover F E C) (t : Traced
       ext_get_or [] a.polynomials polys (K.count ∙ sym long) (λ i b.
       let inside : i < c.extension.dimension = let q = K.count in omega (arith, b, q) in
       one_chunk_polynomial c.field c.extension c.two_adicity p.inverse L k (constraints c t) folding (quotient_shift c) (log_parts c t) Q' n i (get_or a.polynomials i []) inside
-      (subst (λ v. IsInterpolant c.field.ring (point c.field.ring c.field.root d) v (get_or a.polynomials i [])) (chunk_column n i inside) (K.each i inside))) in
+      (subst (λ v. IsInterpolant c.field.ring (point c.field.ring c.field.root d) v (get_or a.polynomials i [])) (chunk_column c p t challenges L folding n i inside) (K.each i inside))) in
       λ j. record { size = K.size_is j; polynomials = same j }
 
   chunks_kept_of : (part : List (Committed F)) → ArePaired (Keeps c.field) (chunk_matrices c p t challenges folding) part → part ≡ committed_of (chunks_opened c p t challenges folding x)
@@ -211,22 +174,6 @@ entries_kept R g v (suc n) i q (Some m ∷ es) part long at one h =
     first_kept R O.0 (v i) (flat_map g (table n (λ j. q (suc j)))) (map v (with_entry (suc i) es)) part (λ b k. O.2 b k ∙ ap v here)
     (λ rest. entries_kept R g v n (suc i) (λ j. q (suc j)) es rest (omega (arith, long)) (λ j l. let a = at (suc j) (omega (arith, l)) in omega (arith, a)) (λ j l. one (suc j) (omega (arith, l))))
     (subst (λ xs. ArePaired R (xs ++ flat_map g (table n (λ j. q (suc j)))) part) O.1 h)
-
-flat_over : {A B : Type 0} (g : A → List B) (n : ℕ) (u : ℕ → A) (q : ℕ → ℕ) → flat_map g (table n (λ i. u (q i))) ≡ flat_map (λ i. g (u i)) (table n q)
-flat_over g zero u q = refl
-flat_over g (suc n) u q = ap (λ l. g (u (q zero)) ++ l) (flat_over g n u (λ i. q (suc i)))
-
-no_entries : (n i : ℕ) (o : ℕ → Option PreprocessedInstanceMeta) → ((j : ℕ) → o j ≡ None) → with_entry i (table n o) ≡ []
-no_entries zero i o none = refl
-no_entries (suc n) i o none = ap (λ e. with_entry i (e ∷ table n (λ j. o (suc j)))) (none zero) ∙ no_entries n (suc i) (λ j. o (suc j)) (λ j. none (suc j))
-
-listed_is : {C : Type 0} (g : Option (PreprocessedTracesData C)) (n : ℕ) → HasEntries n g → ListsEntries n g → matrix_tables g ≡ with_entry 0 (table n (entry_of g))
-listed_is {C} None n long l = sym (no_entries n 0 (entry_of {C = C} None) (λ j. refl))
-listed_is (Some g) n long l = l ∙ ap (with_entry 0) ((λ i. take (sym long i) g.instances) ∙ (take-length g.instances ∙ table_of_items None g.instances n long))
-
--- the items of a list, one by one
-map_items : {B : Type 0} (v : ℕ → B) (ms : List ℕ) → map v ms ≡ table (length ms) (λ m. v (get_or ms m 0))
-map_items v ms = ap (map v) (table_of_items 0 ms (length ms) refl) ∙ map_table v (length ms) (λ m. get_or ms m 0)
 
 module _ {S F E C : Type 0} (c : Setting S F E C) (p : Prover F E C) (t : TracedTable F) (challenges : List E)
     (L : FieldsLaws c.field c.extension c.two_adicity p.inverse) (Q : HasQuotientDomain c t) (T : IsTraced c t) (plain : c.zk ≡ false) (folding x : E) where

@@ -7,9 +7,8 @@ use Rattle.std.proofs.lemmas.Nat.{pow-add}
 use Rattle.std.proofs.lemmas.Option.{slice_get-get_or}
 use Rattle.p3_field.specs.Domain.{CosetData}
 use Rattle.p3_field.specs.Laws.SubgroupSelectors.{subgroup}
-use Rattle.p3_field.specs.Laws.Tables.{get_or-table, length-table, table_of_items, table_same}
-use Rattle.p3_field.specs.Poly.{table}
-use Rattle.p3_matrix.specs.Matrix.{FillsRows, Rows, height}
+use Rattle.p3_field.specs.Laws.Tables.{table_of_items, table_same}
+use Rattle.p3_matrix.specs.Matrix.{FillsRows, Rows}
 use Rattle.p3_commit.specs.Commitments.{AreParts}
 use Rattle.p3_commit.specs.Laws.Parts.{one_split}
 use Rattle.p3_commit.specs.Space.{IsPart, IsSplit}
@@ -17,9 +16,9 @@ use Rattle.batch_setting.specs.Setting.{Setting}
 use Rattle.committed_tables.specs.Committed.{CommittedTable}
 use Rattle.committed_tables.specs.Fields.{FieldsLaws}
 use Rattle.committed_tables.specs.Quotient.{chunk_domain, quotient_domain}
-use Rattle.batch_validity.specs.Laws.Columns.{pieces_height, pieces_row, pieces_tall}
 use Rattle.batch_validity.specs.Traced.{TracedTable, log_parts, log_rows, no_rows, quotient_shift}
-use Rattle.honest_proofs.specs.HonestProof.{HasQuotientRows, Prover, chunk_matrices, chunk_rows, committed_table, quotient_row}
+use Rattle.honest_proofs.specs.HonestProof.{HasQuotientRows, Prover, chunk_matrices, chunk_rows, committed_table}
+use Rattle.honest_proofs.specs.Laws.ChunkRows.{chunk_fills, chunk_row, chunk_tall}
 
 -- powers of two of one size have one exponent
 one_exponent : (a b : ℕ) → 2 ^ a ≡ 2 ^ b → a ≡ b
@@ -51,34 +50,14 @@ module _ {S F E C : Type 0} (c : Setting S F E C) (p : Prover F E C) (t : Traced
   abbrev whole : CosetData F
   whole = quotient_domain c.field c.extension k (quotient_shift c) (log_parts c t)
 
-  abbrev row_of_chunk : ℕ → ℕ → List F
-  row_of_chunk n j = quotient_row c p t challenges alpha (n + parts * j)
-
-  row_long : (n j : ℕ) → length (row_of_chunk n j) ≡ c.extension.dimension
-  row_long n j = L.vector.parts_length _
-
-  abbrev places : List ℕ
-  places = table rows (λ j. j)
-
-  counted : length places ≡ rows
-  counted = length-table rows (λ j. j)
-
-  chunk_tall : (n : ℕ) → height (chunk_rows c p t challenges alpha n) ≡ rows
-  chunk_tall n = pieces_height (row_of_chunk n) c.extension.dimension (row_long n) L.vector.positive places ∙ counted
-
-  chunk_fills : (n : ℕ) → FillsRows (chunk_rows c p t challenges alpha n).values (chunk_rows c p t challenges alpha n).width
-  chunk_fills n = (pieces_tall (row_of_chunk n) c.extension.dimension (row_long n) L.vector.positive rows places counted).fills
-
   -- a chunk is a part of the quotient's values
   chunk_split : (m : Rows F) → HasQuotientRows c p t challenges alpha m → (n : ℕ) → n < parts → IsSplit m parts n (chunk_rows c p t challenges alpha n)
   chunk_split m H n low = record {
     width_is = sym H.width_is;
-    height_is = ap (λ h. h * parts) (chunk_tall n) ∙ sym H.height_is;
+    height_is = ap (λ h. h * parts) (chunk_tall c p t challenges L alpha n) ∙ sym H.height_is;
     row_is = λ j b.
-        let inside : j < rows = let q = chunk_tall n in omega (arith, b, q) in
-        pieces_row (row_of_chunk n) c.extension.dimension (row_long n) places j 0 (let q = counted in omega (arith, inside, q))
-        ∙ (ap (row_of_chunk n) (get_or-table rows (λ j. j) j 0 inside)
-        ∙ sym (H.row_is (n + parts * j) (below n j rows parts low inside)));
+        let inside : j < rows = let q = chunk_tall c p t challenges L alpha n in omega (arith, b, q) in
+        chunk_row c p t challenges L alpha n j inside ∙ sym (H.row_is (n + parts * j) (below n j rows parts low inside));
   }
 
   -- on its part of the quotient's domain
@@ -100,5 +79,5 @@ module _ {S F E C : Type 0} (c : Setting S F E C) (p : Prover F E C) (t : Traced
       let inside : n < length pieces = let q = A.count in omega (arith, b, q) in
       let P = A.each n (get_or pieces n none) (slice_get-get_or pieces n none inside) in
       let domain = one_domain n (get_or pieces n none).0 P.0 in
-      let rows_same = one_split m (get_or pieces n none).1 (chunk_rows c p t challenges alpha n) parts n c.field.ring.zero (omega (arith, b)) (fill n none inside) (chunk_fills n) P.1 (chunk_split m H n b) in
+      let rows_same = one_split m (get_or pieces n none).1 (chunk_rows c p t challenges alpha n) parts n c.field.ring.zero (omega (arith, b)) (fill n none inside) (chunk_fills c p t challenges L alpha n) P.1 (chunk_split m H n b) in
       λ i. (domain i, rows_same i))

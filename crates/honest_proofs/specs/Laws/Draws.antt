@@ -1,5 +1,5 @@
 -- What a verifier draws along an honest proof are the draws by which it was made.
-use Rattle.std.proofs.Common.{◌≡◌, ℕ, zero, suc, true, List, [], ◌∷◌, get_or, Option, refl, sym, ap}
+use Rattle.std.proofs.Common.{◌≡◌, ℕ, zero, suc, ◌*◌, ◌<◌, true, List, [], ◌∷◌, length, get_or, Option, refl, sym, ◌∙◌, ap, arith}
 use Rattle.std.specs.Prelude.{count_by}
 use Rattle.p3_challenger.specs.Script.{Elements, passes}
 use Rattle.p3_matrix.specs.Matrix.{Rows}
@@ -9,6 +9,9 @@ use Rattle.batch_setting.specs.Setting.{Setting}
 use Rattle.batch_statement.specs.Statement.{Statement}
 use Rattle.batch_shape_checks.specs.ShapeChecks.{has_some}
 use Rattle.batch_draws.specs.Draws.{drawn, drawn_pair, given_of, table_challenges}
+use Rattle.batch_draws.specs.Laws.Challenges.{challenge_count}
+use Rattle.batch_validity.specs.Traced.{traced_at}
+use Rattle.batch_validity.specs.Valid.{IsTracedBatch}
 use Rattle.honest_proofs.specs.HonestProof.{Prover, alpha, challenges_at, honest_proof, opening_state, pair, shape, state_at_ood, state_at_pair, state_at_permutation, state_at_quotient, zeta}
 use Rattle.honest_proofs.specs.Laws.Staged.{Reads, staged, staged_ood, staged_pair}
 
@@ -40,3 +43,13 @@ module _ {S F E C P : Type 0} (c : Setting S F E C) (p : Prover F E C) (s : Stat
   pub same_lookup : is_positive (count_by has_some s.common.lookups) ≡ true → drawn_along_it.lookup_passed ≡ passes c.challenger (state_at_pair c p s traces degree_bits) c.lookup_bits (ground w)
   unfolding drawn honest_proof state_at_pair
   same_lookup h = staged_pair c.challenger c.field.ring c.extension.ring c.extension.dimension c.initial (shape c p s traces degree_bits) (given_of s (honest_proof c p s traces degree_bits w z opening)) h
+
+module _ {S F E C : Type 0} (c : Setting S F E C) (p : Prover F E C) (s : Statement F C) (traces : List (Rows F)) (degree_bits : List ℕ) where
+  -- a table of a traced batch has two challenges for each of its lookups
+  pub challenges_count : IsTracedBatch c p.commitment_of s traces degree_bits → (w : Option F) (i : ℕ) → i < length s.tables
+      → length (challenges_at c p s traces degree_bits w i) ≡ 2 * length (traced_at s traces degree_bits i).lookups
+  challenges_count B w i h =
+      let ls = s.common.lookups in
+      let d = drawn_along_it {P = Unit {0}} c p s traces degree_bits w c.field.ring.zero tt in
+      ap length (sym (same_challenges {P = Unit {0}} c p s traces degree_bits w c.field.ring.zero tt i))
+      ∙ challenge_count c.extension.ring d ls (count_by has_some ls) i refl (let e = B.lists.lookups_long in omega (arith, h, e))

@@ -1,6 +1,7 @@
 -- The permutation columns and the terminal of an honest proof are those that are generated; so a valid table's constraints hold with them.
 use Rattle.std.proofs.Common.{◌≡◌, ℕ, zero, suc, ◌+◌, ◌*◌, ◌^◌, ◌<◌, Bool, List, [], ◌∷◌, ◌++◌, length, get_or, Option, refl, sym, ◌∙◌, ap, subst, arith}
 use Rattle.std.specs.Prelude.{All, Ok, option_to_list}
+use Rattle.std.proofs.lemmas.List.{append-nil}
 use Rattle.p3_field.specs.Poly.{table}
 use Rattle.p3_field.specs.Laws.Tables.{get_or-table, length-table}
 use Rattle.p3_matrix.specs.Matrix.{Rows, cell_at, height, row_at}
@@ -28,10 +29,6 @@ use Rattle.honest_proofs.specs.HonestProof.{AreLogHeights, HasFractions, HaveFra
 -- the value of a sum of fractions as a terminal
 abbrev terminal_with : {E : Type 0} → E → LookupTerminal E
 terminal_with x = record { 0 = x }
-
-append_nothing : {A : Type 0} (xs : List A) → xs ++ [] ≡ xs
-append_nothing [] = refl
-append_nothing (x ∷ xs) = ap (λ ys. x ∷ ys) (append_nothing xs)
 
 module _ {S F E C : Type 0} (c : Setting S F E C) (p : Prover F E C) (t : TracedTable F) (challenges : List E) where
   abbrev arg : Argument F E
@@ -86,7 +83,7 @@ module _ {S F E C : Type 0} (c : Setting S F E C) (p : Prover F E C) (t : Traced
 
     without : t.lookups ≡ [] → HoldsWith no_rows []
     without none =
-        let same : t.table.trees ≡ constraints c t = sym (append_nothing t.table.trees) ∙ ap (λ ls. t.table.trees ++ lookup_trees c.field.ring ls) (sym none) in
+        let same : t.table.trees ≡ constraints c t = sym (append-nil t.table.trees) ∙ ap (λ ls. t.table.trees ++ lookup_trees c.field.ring ls) (sym none) in
         subst (λ trees. Holds c.field c.extension (committed_with c t no_rows challenges []) trees) same
         (holds_beside c.field c.extension (traces_of t) (log_rows c t) no_rows challenges [] (declared t) t.table.trees reads own)
 

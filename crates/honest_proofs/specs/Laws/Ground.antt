@@ -95,7 +95,7 @@ module _ {S F E C : Type 0} (c : Setting S F E C) (p : Prover F E C) (s : Statem
   pub one_lookup : (v w : Option F) → IsLookupGround c p s traces degree_bits v → IsLookupGround c p s traces degree_bits w → v ≡ w
   one_lookup v w a b = one_pair_ground c.challenger c.field.ring c.order p.canonical K (state_at_pair c p s traces degree_bits) (shape c p s traces degree_bits).num_lookup_instances c.lookup_bits v w a b
 
-  one_ood : (v w : Option F) (x y : F) → v ≡ w → IsOodGround c p s traces degree_bits v x → IsOodGround c p s traces degree_bits w y → x ≡ y
+  pub one_ood : (v w : Option F) (x y : F) → v ≡ w → IsOodGround c p s traces degree_bits v x → IsOodGround c p s traces degree_bits w y → x ≡ y
   one_ood v w x y e a b =
       one_ground c.challenger c.field.ring c.order p.canonical K (state_at_ood c p s traces degree_bits w) c.ood_bits x y
       (subst (λ u. IsOodGround c p s traces degree_bits u x) e a) b

@@ -7,6 +7,7 @@ use Rattle.std.proofs.lemmas.List.Sums.{sum_by-cons}
 use Rattle.p3_field.specs.Poly.{table, total}
 use Rattle.p3_field.specs.Ring.{Ring, RingLaws}
 use Rattle.p3_field.specs.Laws.Algebra.{zero_add}
+use Rattle.p3_field.specs.Laws.SubgroupSelectors.{map_table}
 use Rattle.p3_field.specs.Laws.Tables.{get_or-table, table_of_items, table_same}
 use Rattle.p3_field.specs.Domain.{CosetData}
 use Rattle.p3_matrix.specs.Matrix.{Rows}
@@ -62,10 +63,6 @@ sent_by g bus k (suc n) u =
     ∙ table_same n (λ i. g (record { lookups = (u (suc i)).lookups; bus = bus (suc k + i); rows = (u (suc i)).rows; value = (u (suc i)).value }))
     (λ i. g (record { lookups = (u (suc i)).lookups; bus = bus (k + suc i); rows = (u (suc i)).rows; value = (u (suc i)).value }))
     (λ i l. ap (λ m. g (record { lookups = (u (suc i)).lookups; bus = bus m; rows = (u (suc i)).rows; value = (u (suc i)).value })) (next i))) q
-
-map_table : {A B : Type 0} (g : A → B) (n : ℕ) (u : ℕ → A) → map g (table n u) ≡ table n (λ i. g (u i))
-map_table g zero u = refl
-map_table g (suc n) u = ap (λ l. g (u zero) ∷ l) (map_table g n (λ i. u (suc i)))
 
 one_off : (b : Bool) (n : ℕ) → cond b 1 0 + n ≡ 0 → b ≡ false
 one_off true n h = absurd (omega (arith, h))

@@ -1,6 +1,6 @@
 -- Where no check of a proof over the plain scheme fails, each constraint of each table is zero on each row of the committed polynomials, or one of two drawn challenges is
 -- unlucky.
-use Rattle.std.proofs.Common.{◌≡◌, ℕ, ◌-◌, ◌^◌, ◌<◌, ◌≤◌, ◌⊎◌, List, [], None, length, get_or, map, subst, arith}
+use Rattle.std.proofs.Common.{◌≡◌, ℕ, ◌-◌, ◌^◌, ◌<◌, ◌≤◌, ◌⊎◌, List, [], None, length, get_or, map, refl, subst, arith}
 use Rattle.std.specs.Prelude.{All}
 use Rattle.std.proofs.lemmas.List.Elements.{All-get_or}
 use Rattle.p3_field.specs.Checks.{NoneFails}
@@ -27,7 +27,7 @@ use Rattle.batch_verifier.specs.BatchChecks.{Accepted, drawn_of, table_challenge
 use Rattle.plain_soundness.specs.CommittedBatch.{ReadDeclared, committed_at, committed_batch, committed_quotient, committed_table, constraints_at, lookups_at, stated_table}
 use Rattle.plain_soundness.specs.PlainSetting.{IsPlain, plain_scheme}
 use Rattle.plain_soundness.specs.Laws.Bound.{Binds}
-use Rattle.plain_soundness.specs.Laws.Counts.{all_of_mapped}
+use Rattle.batch_constraints.specs.Laws.Images.{all_of_map}
 use Rattle.plain_soundness.specs.Laws.Checked.{domains_fit, identity_holds, periods_fit, table_accepted}
 use Rattle.plain_soundness.specs.Laws.Opened.{columns_bounded, declared_is, fixed_bounded, inside, local_wide, no_masks, quotient_bounded, sums_bounded, values_opened}
 use Rattle.plain_soundness.specs.Laws.Read.{identity_is_committed}
@@ -93,7 +93,7 @@ module _ {S F E P R : Type 0} (c : Setting S F E (PlainCommitmentData F)) (b : B
       main = columns_bounded c b log_blowup s p inverse L plain binds formed accepted i below;
       preprocessed = fixed_bounded c b log_blowup s p inverse L plain binds formed accepted i below;
       permutation = sums_bounded c b log_blowup s p inverse L plain binds formed accepted i below;
-      periodic = all_of_mapped (IsPeriod (2 ^ k)) (λ (column : List F). length column) d.periodic
+      periodic = all_of_map (IsPeriod (2 ^ k)) (λ (column : List F). length column) d.periodic (map (λ (column : List F). length column) d.periodic) refl
           (periods_fit R c.field c.extension i k (stated_table s i) (lookups_at s i) (get_or s.publics i []) (table_challenges_of c s p i) (get_or p.lookup_terminals i None)
           (chunk_domains c k (log_chunks c s p i)) alpha zeta (get_or p.instances i no_opened) own_checks);
     }

@@ -1,7 +1,8 @@
 -- Where a committed table holds, constraints that read this row's main cells alone are zero over the base field. It belongs into committed_tables.
-use Rattle.std.proofs.Common.{◌≡◌, ℕ, ◌<◌, inl, inr, true, false, List, [], get_or, sym, ◌∙◌, ap}
+use Rattle.std.proofs.Common.{◌≡◌, ℕ, ◌<◌, inl, inr, true, false, List, [], length, get_or, refl, sym, ◌∙◌, ap}
 use Rattle.std.specs.Prelude.{All}
 use Rattle.std.proofs.Math.ListN.{get_or-map}
+use Rattle.std.proofs.lemmas.List.{length-map}
 use Rattle.p3_air.specs.declared.cells.Cell.{Cell}
 use Rattle.p3_air.specs.declared.cells.Cell.TheVariants.{Main, Preprocessed, Periodic, Public, FirstRow, LastRow, Transition}
 use Rattle.p3_air.specs.CellValues.{cell_in, ext_cell_in}
@@ -12,10 +13,11 @@ use Rattle.p3_air.specs.Tree.{Tree, ev}
 use Rattle.p3_field.specs.Domain.{point}
 use Rattle.p3_field.specs.Field.{TwoAdic, Extension}
 use Rattle.p3_field.specs.Laws.Extended.{hom_differs, map_val}
+use Rattle.p3_field.specs.Laws.SubgroupSelectors.{subgroup}
 use Rattle.p3_field.specs.Poly.{val, val_in}
 use Rattle.committed_tables.specs.Committed.{CommittedTable, Holds, reading, row_point, rows_of, trace_domain, values_at}
 use Rattle.committed_tables.specs.Fields.{FieldsLaws}
-use Rattle.plain_soundness.specs.BaseRows.{IsMainHere, ReadsMainHere, main_row}
+use Rattle.plain_soundness.specs.BaseRows.{IsMainHere, ReadsMainHere, main_row, row_here}
 
 module _ {F E : Type 0} (f : TwoAdic F) (e : Extension F E) (top : ℕ) (inverse : E → E) (L : FieldsLaws f e top inverse) (t : CommittedTable F E) where
   known : (y z : F) → e.embed y ≡ e.embed z → y ≡ z
@@ -62,3 +64,10 @@ module _ {F E : Type 0} (f : TwoAdic F) (e : Extension F E) (top : ℕ) (inverse
     zero_below trees holds below reads k d l =
         let tree = get_or trees k d in
         known (value_at f.ring f.ring (λ y. y) row tree) f.ring.zero (value_below tree (reads k d l) ∙ (holds i below k d l ∙ sym L.embeds.keeps_zero))
+
+  -- where it is known what they mean of a row of so many cells, each row of the table means that
+  pub rows_mean : (trees : List (Tree F)) (Means : List F → Type 0) (width : ℕ)
+      → ((row : Row F F) → length row.main_local ≡ width → All (λ tree. value_at f.ring f.ring (λ y. y) row tree ≡ f.ring.zero) trees → Means row.main_local)
+      → All ReadsMainHere trees → length t.main ≡ width → Holds f e t trees → (i : ℕ) → i < rows_of t → Means (main_row f t i)
+  rows_mean trees Means width meant reads wide holds i below =
+      meant (row_here f t i) (length-map t.main (λ (g : List F). val f.ring g (point f.ring f.root (subgroup f.ring t.log_height) i)) ∙ wide) (zero_below i (row_here f t i) refl trees holds below reads)

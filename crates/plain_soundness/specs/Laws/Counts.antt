@@ -1,10 +1,10 @@
 -- How few challenges are unlucky for the tables of a batch.
-use Rattle.std.proofs.Common.{ℕ, ◌<◌, ◌≤◌, List, length, get_or, map, subst, arith}
+use Rattle.std.proofs.Common.{ℕ, ◌<◌, ◌≤◌, List, length, get_or, map, refl, subst, arith}
 use Rattle.std.specs.Prelude.{All, Contains, sum}
-use Rattle.std.proofs.lemmas.List.{length-map, get_or-map}
 use Rattle.p3_air.specs.Degree.{full_polynomial_degree}
 use Rattle.p3_field.specs.Field.{TwoAdic, Extension}
 use Rattle.batch_constraints.specs.Laws.Degrees.{all_below_greatest}
+use Rattle.batch_constraints.specs.Laws.Images.{all_of_map}
 use Rattle.committed_tables.specs.Batch.{DividedTable, IsUnluckyAlphaOfBatch, IsUnluckyZetaOfBatch}
 use Rattle.committed_tables.specs.Committed.{periods_of, rows_of}
 use Rattle.committed_tables.specs.Fields.{FieldsLaws}
@@ -12,12 +12,6 @@ use Rattle.committed_tables.specs.Laws.Counts.{few_alphas, few_alphas_at, few_ze
 use Rattle.committed_tables.specs.Unlucky.{AreDistinct, IsUnluckyAlpha, IsUnluckyAlphaAt, IsUnluckyZeta}
 use Rattle.plain_soundness.specs.Laws.Split.{few_of_some}
 use Rattle.plain_soundness.specs.UnluckyCounts.{IsLow, largest_degree, most_alphas, most_zetas}
-
--- what holds of each image holds of each item
-pub all_of_mapped : {X Y : Type 0} (Q : Y → Type 0) (f : X → Y) (xs : List X) → All Q (map f xs) → All (λ x. Q (f x)) xs
-all_of_mapped Q f xs h k d l =
-    let long = length-map xs f in
-    subst Q (get_or-map f xs k d (f d) l) (h k (f d) (omega (arith, l, long)))
 
 module _ {F E : Type 0} (f : TwoAdic F) (e : Extension F E) (top : ℕ) (inverse : E → E) (L : FieldsLaws f e top inverse) where
   -- of one table
@@ -32,7 +26,7 @@ module _ {F E : Type 0} (f : TwoAdic F) (e : Extension F E) (top : ℕ) (inverse
   degrees_below : (t : DividedTable F E) → All (λ tree. full_polynomial_degree (rows_of t.table) (periods_of t.table) tree ≤ largest_degree t) t.trees
   degrees_below t =
       let degree = full_polynomial_degree (rows_of t.table) (periods_of t.table) in
-      all_of_mapped (λ n. n ≤ largest_degree t) degree t.trees (all_below_greatest 0 (map degree t.trees) (largest_degree t) (omega arith))
+      all_of_map (λ n. n ≤ largest_degree t) degree t.trees (map degree t.trees) refl (all_below_greatest 0 (map degree t.trees) (largest_degree t) (omega arith))
 
   pub few_table_zetas : (t : DividedTable F E) (alpha : E) (zetas : List E) → t.table.log_height ≤ top → IsLow f t → AreDistinct e.ring.zero zetas
       → All (IsUnluckyZeta f e t.table t.trees t.quotient alpha) zetas → length zetas ≤ most_zetas t

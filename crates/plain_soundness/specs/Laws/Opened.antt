@@ -32,7 +32,7 @@ use Rattle.plain_soundness.specs.CommittedBatch.{chunk_count, columns_of, commit
 use Rattle.plain_soundness.specs.PlainSetting.{IsPlain, plain_scheme}
 use Rattle.plain_soundness.specs.Laws.Bound.{Binds}
 use Rattle.plain_soundness.specs.Laws.Checked.{chunks_counted, chunks_wide, claims_opened, columns_counted, counts_hold, fixed_counted, no_preprocessed, permutation_there, publics_counted, rows_wide, shape_accepted, table_opened, terminals_counted}
-use Rattle.plain_soundness.specs.Laws.Counts.{all_of_mapped}
+use Rattle.batch_constraints.specs.Laws.Images.{all_of_map}
 use Rattle.plain_soundness.specs.Laws.Parts.{all_within, entry_names, fixed_has, no_columns, none_long, sums_have}
 use Rattle.plain_soundness.specs.Laws.Rounds.{after, chunk_bound, chunks_opened, fixed_bound, fixed_local_opened, fixed_next_opened, main_bound, main_local_opened, main_next_opened, opened_count, sums_bound, sums_local_opened, sums_next_opened}
 use Rattle.plain_soundness.specs.OpenedBatch.{AreCommittedValues, HasDeclaredColumns}
@@ -224,7 +224,7 @@ module _ {S F E P R : Type 0} (c : Setting S F E (PlainCommitmentData F)) (b : B
           public_values = publics_counted R i _ _ _ _ _ _ _ shape;
           terminals = terminals_counted R i _ _ _ _ _ _ _ shape (get_or p.lookup_terminals i None) refl;
           chunks = All-weaker (λ gs. length (map at gs) ≡ c.extension.dimension) (λ gs. length gs ≡ c.extension.dimension) (λ gs h. sym (length-map gs at) ∙ h) q.chunks
-              (all_of_mapped (λ vs. length vs ≡ c.extension.dimension) (map at) q.chunks
+              (all_of_map (λ vs. length vs ≡ c.extension.dimension) (map at) q.chunks (map (map at) q.chunks) refl
               (subst (All (λ vs. length vs ≡ c.extension.dimension)) V.chunks (chunks_wide R i _ _ _ _ _ _ _ shape)));
         }
 

@@ -1,8 +1,7 @@
 -- The rows of a committed table of compressions.
-use Rattle.std.proofs.Common.{◌≡◌, ℕ, ◌^◌, ◌<◌, List, [], false, length, get_or, map, refl, sym, ◌∙◌, ap, subst}
+use Rattle.std.proofs.Common.{◌≡◌, ℕ, ◌^◌, ◌<◌, List, length, get_or, map, sym, ◌∙◌, ap, subst}
 use Rattle.std.specs.Prelude.{All}
 use Rattle.std.proofs.lemmas.List.{get_or-map, length-map}
-use Rattle.p3_air.specs.RowCheck.{Row}
 use Rattle.p3_air.specs.Shape.{Declaration, ReadsDeclared, declared_shape}
 use Rattle.p3_air.specs.Tree.{Tree}
 use Rattle.p3_blake3.specs.Compress.{Input}
@@ -10,10 +9,7 @@ use Rattle.p3_blake3.specs.TraceRow.{AreWords, trace_row}
 use Rattle.p3_blake3_air.specs.Laws.Reads.{reads_all}
 use Rattle.p3_blake3_air.specs.Meanings.{RowMeans}
 use Rattle.p3_blake3_air.specs.Trees.{blake3_trees}
-use Rattle.p3_field.specs.Domain.{point}
 use Rattle.p3_field.specs.Field.{TwoAdic, Extension}
-use Rattle.p3_field.specs.Laws.SubgroupSelectors.{subgroup}
-use Rattle.p3_field.specs.Poly.{val}
 use Rattle.plain_pcs.specs.Scheme.{PlainCommitmentData}
 use Rattle.committed_tables.specs.Committed.{CommittedTable, Holds, rows_of}
 use Rattle.committed_tables.specs.Fields.{FieldsLaws}
@@ -26,7 +22,7 @@ use Rattle.batch_verifier.specs.BatchChecks.{Accepted}
 use Rattle.plain_soundness.specs.BaseRows.{IsMainHere, ReadsMainHere, main_row}
 use Rattle.plain_soundness.specs.CommittedBatch.{committed_table}
 use Rattle.plain_soundness.specs.Laws.Airs.{about, airs_columns, airs_hold, airs_own}
-use Rattle.plain_soundness.specs.Laws.BaseRows.{zero_below}
+use Rattle.plain_soundness.specs.Laws.BaseRows.{rows_mean}
 use Rattle.plain_soundness.specs.Laws.Bound.{Binds}
 use Rattle.plain_soundness.specs.Laws.SwapTables.{first_of}
 use Rattle.plain_soundness.specs.Meaning.{IsAlphaUnlucky, IsZetaUnlucky}
@@ -37,25 +33,10 @@ constraints_here : {F : Type 0} (f : TwoAdic F) → All ReadsMainHere (blake3_tr
 constraints_here f = reads_all f.ring IsMainHere (λ _. ⊥) (λ k lt. tt)
 
 -- where a table of 9168 columns holds with these constraints, each of its rows is that of one compression
-row_is_compression : {F E : Type 0} (f : TwoAdic F) (e : Extension F E) (top : ℕ) (inverse : E → E) (L : FieldsLaws f e top inverse) (t : CommittedTable F E) → RowMeans f.ring
+pub row_is_compression : {F E : Type 0} (f : TwoAdic F) (e : Extension F E) (top : ℕ) (inverse : E → E) (L : FieldsLaws f e top inverse) (t : CommittedTable F E) → RowMeans f.ring
     → length t.main ≡ 9168 → Holds f e t (blake3_trees f.ring) → (i : ℕ) → i < rows_of t → (x : Input) × AreWords x × (main_row f t i ≡ trace_row f.ring x)
-row_is_compression {F = F} f e top inverse L t means wide holds i below =
-    let at = λ (g : List F). val f.ring g (point f.ring f.root (subgroup f.ring t.log_height) i) in
-    let row : Row F F = record {
-      main_local = main_row f t i;
-      main_next = [];
-      preprocessed_local = [];
-      preprocessed_next = [];
-      periodic = [];
-      public_values = [];
-      is_first_row = false;
-      is_last_row = false;
-      permutation_local = [];
-      permutation_next = [];
-      challenges = [];
-      terminals = [];
-    } in
-    (means row (length-map t.main at ∙ wide)).0 (zero_below f e top inverse L t i row refl (blake3_trees f.ring) holds below (constraints_here f))
+row_is_compression f e top inverse L t means wide holds i below =
+    rows_mean f e top inverse L t (blake3_trees f.ring) (λ cells. (x : Input) × AreWords x × (cells ≡ trace_row f.ring x)) 9168 (λ row w vanish. (means row w).0 vanish) (constraints_here f) wide holds i below
 
 module _ {S A F E P R : Type 0} (c : Setting S F E (PlainCommitmentData F)) (b : Backend S F E (PlainCommitmentData F) P R) (log_blowup : ℕ) (declaration : A → Declaration F)
     (trees : A → List (Tree F)) (airs : List A) (publics : List (List F)) (common : WrittenCommon F (PlainCommitmentData F)) (p : ProofData F E (PlainCommitmentData F) P) (inverse : E → E)

@@ -6,12 +6,12 @@ use Rattle.line_format.specs.Texts.{Between, Grammar, ItemsWithin, Unlimited, el
 use Rattle.line_format.specs.Laws.Grammars.{PairWithin, ThenWithin, SameTexts, element-grammar, items-grammar, number-grammar, pair-grammar, pair_words, same-grammar, then-grammar}
 use Rattle.tool_statement.specs.StatedTables.{TableWithin}
 use Rattle.tool_statement.specs.declared.table.TableStatement.{TableStatement}
-use Rattle.tool_statement.specs.declared.table.TableStatement.TheVariants.{Swap, Wheel, Take, Give}
-use Rattle.proof_files.specs.Files.{least_log_rows, public_count, stated, statement_words}
+use Rattle.tool_statement.specs.declared.table.TableStatement.TheVariants.{Swap, Wheel, Take, Give, Hash}
+use Rattle.proof_files.specs.Files.{least_log_rows, most_log_rows, public_count, stated, statement_words}
 
 -- a table is seen as its kind, the logarithm of its rows, and its public values
 abbrev pub RowsWithin : ℕ → ℕ → Type 0
-RowsWithin kind = Between (least_log_rows kind) 10
+RowsWithin kind = Between (least_log_rows kind) (most_log_rows kind)
 
 abbrev pub ValuesWithin : ℕ → List BabyBear → Type 0
 ValuesWithin kind = ItemsWithin (public_count kind) Unlimited
@@ -23,7 +23,7 @@ abbrev pub rest_words : ℕ × List BabyBear → List ℕ
 rest_words = pair_words number_words (items_words element_words)
 
 abbrev pub SeenWithin : ℕ × (ℕ × List BabyBear) → Type 0
-SeenWithin = PairWithin (Between 1 4) RestWithin
+SeenWithin = PairWithin (Between 1 5) RestWithin
 
 abbrev pub seen_words : ℕ × (ℕ × List BabyBear) → List ℕ
 seen_words = pair_words number_words rest_words
@@ -40,7 +40,8 @@ fits (suc zero) k xs h = h.1.0.1
 fits (suc (suc zero)) k xs h = h.1.0
 fits (suc (suc (suc zero))) k xs h = h.1.0.1
 fits (suc (suc (suc (suc zero)))) k xs h = h.1.0.1
-fits (suc (suc (suc (suc (suc n))))) k xs h = absurd (let l = h.0.1 in omega (arith, l))
+fits (suc (suc (suc (suc (suc zero))))) k xs h = h.1.0.1
+fits (suc (suc (suc (suc (suc (suc n)))))) k xs h = absurd (let l = h.0.1 in omega (arith, l))
 
 pub three : (k : ℕ) (xs : List BabyBear) → length xs ≡ 3 → statement_words (stated 1 k xs) ≡ 1 ∷ k ∷ items_words element_words xs
 three k [] e = absurd (omega (arith, e))
@@ -59,13 +60,15 @@ words (suc zero) k xs h = three k xs h.1.1.0
 words (suc (suc zero)) k xs h = none 2 k xs h.1.1.0
 words (suc (suc (suc zero))) k xs h = none 3 k xs h.1.1.0
 words (suc (suc (suc (suc zero)))) k xs h = none 4 k xs h.1.1.0
-words (suc (suc (suc (suc (suc n))))) k xs h = absurd (let l = h.0.1 in omega (arith, l))
+words (suc (suc (suc (suc (suc zero))))) k xs h = none 5 k xs h.1.1.0
+words (suc (suc (suc (suc (suc (suc n)))))) k xs h = absurd (let l = h.0.1 in omega (arith, l))
 
 pub whole : (t : TableStatement) → TableWithin t → (p : ℕ × (ℕ × List BabyBear)) × SeenWithin p × (to p ≡ t)
 whole (Swap k a b x) h = ((1, (k, a ∷ b ∷ x ∷ [])), ((omega arith, omega arith), ((omega arith, h), (refl, λ i d l. tt))), refl)
 whole (Wheel k) h = ((2, (k, [])), ((omega arith, omega arith), (h, (refl, no_values Unlimited))), refl)
 whole (Take k) h = ((3, (k, [])), ((omega arith, omega arith), ((omega arith, h), (refl, no_values Unlimited))), refl)
 whole (Give k) h = ((4, (k, [])), ((omega arith, omega arith), ((omega arith, h), (refl, no_values Unlimited))), refl)
+whole (Hash k) h = ((5, (k, [])), ((omega arith, omega arith), ((omega arith, h), (refl, no_values Unlimited))), refl)
 
 unfoldable pub same-table : SameTexts SeenWithin seen_words TableWithin statement_words
 same-table = record {
@@ -75,18 +78,29 @@ same-table = record {
   whole = whole;
 }
 
-few_of : (b : Bool) → (if b then 1 else 0) ≤ 10
-few_of true = omega arith
-few_of false = omega arith
+-- the least logarithm of a kind isn't above the greatest, which is a number of 32 bits
+least_of : (b : Bool) → (if b then 1 else 0) ≤ 1
+least_of true = omega arith
+least_of false = omega arith
 
-few : (kind : ℕ) → least_log_rows kind ≤ 10
-few kind = few_of (kind == 2)
+most_of : (b : Bool) → let n : ℕ = if b then 3 else 10 in (3 ≤ n) × (n ≤ 10)
+most_of true = (omega arith, omega arith)
+most_of false = (omega arith, omega arith)
 
-pub kind-grammar : Grammar (Between 1 4) number_words
-kind-grammar = number-grammar 1 4 (omega arith) (omega arith)
+pub ordered_rows : (kind : ℕ) → least_log_rows kind ≤ most_log_rows kind
+ordered_rows kind =
+    let low = least_of (kind == 2) in
+    let high = (most_of (kind == 5)).0 in
+    omega (arith, low, high)
+
+pub few_rows : (kind : ℕ) → most_log_rows kind ≤ 10
+few_rows kind = (most_of (kind == 5)).1
+
+pub kind-grammar : Grammar (Between 1 5) number_words
+kind-grammar = number-grammar 1 5 (omega arith) (omega arith)
 
 pub rows-grammar : (kind : ℕ) → Grammar (RowsWithin kind) number_words
-rows-grammar kind = number-grammar (least_log_rows kind) 10 (few kind) (omega arith)
+rows-grammar kind = let few = few_rows kind in number-grammar (least_log_rows kind) (most_log_rows kind) (ordered_rows kind) (omega (arith, few))
 
 pub values-grammar : (kind : ℕ) → Grammar (ValuesWithin kind) (items_words element_words)
 values-grammar kind = items-grammar (public_count kind) element-grammar

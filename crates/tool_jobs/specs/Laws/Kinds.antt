@@ -1,10 +1,10 @@
 -- The words of a table behind its kind tell the table, kind by kind.
 use Rattle.std.proofs.Common.{◌≡◌, ℕ, zero, suc, ◌≤◌, List, [], ◌∷◌, refl, arith}
 use Rattle.p3_field.specs.declared.baby_bear.BabyBear.{BabyBear}
-use Rattle.line_format.specs.Texts.{Between, Grammar, Unlimited, element_words, list_words, number_words}
-use Rattle.line_format.specs.Laws.Grammars.{SameTexts, ThenWithin, TwoWithin, element-grammar, number-grammar, pair_words, same-grammar, then-grammar, two-grammar, two_words}
-use Rattle.tool_validity.specs.Job.{IsWithin, JobTable, swap_of, wheel_of, take_of, give_of}
-use Rattle.tool_jobs.specs.Jobs.{given_words}
+use Rattle.line_format.specs.Texts.{Between, Grammar, ItemsWithin, Unlimited, element_words, items_words, list_words, number_words}
+use Rattle.line_format.specs.Laws.Grammars.{SameTexts, ThenWithin, TwoWithin, element-grammar, items-grammar, number-grammar, pair_words, same-grammar, then-grammar, two-grammar, two_words}
+use Rattle.tool_validity.specs.Job.{IsHashRow, IsWithin, JobTable, swap_of, wheel_of, take_of, give_of, hash_of}
+use Rattle.tool_jobs.specs.Jobs.{given_words, row_words}
 use Rattle.tool_jobs.specs.Laws.Counts.{PowersWithin, powers-grammar}
 
 -- a table's kind, and its words behind it
@@ -13,12 +13,14 @@ kind_of (swap_of k a b) = 1
 kind_of (wheel_of k) = 2
 kind_of (take_of words) = 3
 kind_of (give_of pairs) = 4
+kind_of (hash_of rows) = 5
 
 abbrev pub body_words : JobTable BabyBear → List ℕ
 body_words (swap_of k a b) = k ∷ a.value ∷ b.value ∷ []
 body_words (wheel_of k) = k ∷ []
 body_words (take_of words) = list_words element_words words
 body_words (give_of pairs) = list_words given_words pairs
+body_words (hash_of rows) = list_words row_words rows
 
 -- a table of this kind, within its limits
 abbrev pub KindWithin : ℕ → JobTable BabyBear → Type 0
@@ -42,6 +44,7 @@ same-swap = record { to = to; to_fits = λ p h. (refl, h.0.1); to_words = λ p h
     whole (wheel_of k) h = absurd (let e = h.0 in omega (arith, e))
     whole (take_of words) h = absurd (let e = h.0 in omega (arith, e))
     whole (give_of pairs) h = absurd (let e = h.0 in omega (arith, e))
+    whole (hash_of rows) h = absurd (let e = h.0 in omega (arith, e))
 
 pub log_rows-grammar : Grammar (Between 0 10) number_words
 log_rows-grammar = number-grammar 0 10 (omega arith) (omega arith)
@@ -58,22 +61,24 @@ same-wheel = record { to = wheel_of; to_fits = λ k h. (refl, h); to_words = λ 
     whole (wheel_of k) h = (k, h.1, refl)
     whole (take_of words) h = absurd (let e = h.0 in omega (arith, e))
     whole (give_of pairs) h = absurd (let e = h.0 in omega (arith, e))
+    whole (hash_of rows) h = absurd (let e = h.0 in omega (arith, e))
 
 pub wheel-grammar : Grammar (KindWithin 2) body_words
 wheel-grammar = same-grammar same-wheel (number-grammar 1 10 (omega arith) (omega arith))
 
 -- a table that takes words is seen as these
-unfoldable pub same-take : SameTexts (PowersWithin Unlimited) (list_words element_words) (KindWithin 3) body_words
+unfoldable pub same-take : SameTexts (PowersWithin 1024 Unlimited) (list_words element_words) (KindWithin 3) body_words
 same-take = record { to = take_of; to_fits = λ words h. (refl, h.0); to_words = λ words h. refl; whole = whole }
   where
-    whole : (t : JobTable BabyBear) → KindWithin 3 t → (words : List BabyBear) × PowersWithin Unlimited words × (take_of words ≡ t)
+    whole : (t : JobTable BabyBear) → KindWithin 3 t → (words : List BabyBear) × PowersWithin 1024 Unlimited words × (take_of words ≡ t)
     whole (swap_of k a b) h = absurd (let e = h.0 in omega (arith, e))
     whole (wheel_of k) h = absurd (let e = h.0 in omega (arith, e))
     whole (take_of words) h = (words, (h.1, λ i d l. tt), refl)
     whole (give_of pairs) h = absurd (let e = h.0 in omega (arith, e))
+    whole (hash_of rows) h = absurd (let e = h.0 in omega (arith, e))
 
 pub take-grammar : Grammar (KindWithin 3) body_words
-take-grammar = same-grammar same-take (powers-grammar element-grammar)
+take-grammar = same-grammar same-take (powers-grammar 1024 (omega arith) (omega arith) element-grammar)
 
 -- a word, and how often it is given
 abbrev pub GivenWithin : BabyBear × ℕ → Type 0
@@ -89,23 +94,62 @@ pub given-grammar : Grammar GivenWithin given_words
 given-grammar = same-grammar same-given (then-grammar element-grammar times-grammar)
 
 -- a table that gives words is seen as these with their counts
-unfoldable pub same-give : SameTexts (PowersWithin GivenWithin) (list_words given_words) (KindWithin 4) body_words
+unfoldable pub same-give : SameTexts (PowersWithin 1024 GivenWithin) (list_words given_words) (KindWithin 4) body_words
 same-give = record { to = give_of; to_fits = λ pairs h. (refl, (h.0.0, h.0.1, h.1)); to_words = λ pairs h. refl; whole = whole }
   where
-    whole : (t : JobTable BabyBear) → KindWithin 4 t → (pairs : List (BabyBear × ℕ)) × PowersWithin GivenWithin pairs × (give_of pairs ≡ t)
+    whole : (t : JobTable BabyBear) → KindWithin 4 t → (pairs : List (BabyBear × ℕ)) × PowersWithin 1024 GivenWithin pairs × (give_of pairs ≡ t)
     whole (swap_of k a b) h = absurd (let e = h.0 in omega (arith, e))
     whole (wheel_of k) h = absurd (let e = h.0 in omega (arith, e))
     whole (take_of words) h = absurd (let e = h.0 in omega (arith, e))
     whole (give_of pairs) h = (pairs, ((h.1.0, h.1.1), h.1.2), refl)
+    whole (hash_of rows) h = absurd (let e = h.0 in omega (arith, e))
 
 pub give-grammar : Grammar (KindWithin 4) body_words
-give-grammar = same-grammar same-give (powers-grammar given-grammar)
+give-grammar = same-grammar same-give (powers-grammar 1024 (omega arith) (omega arith) given-grammar)
+
+-- a row's numbers are its words
+pub numbers-own : (xs : List ℕ) → row_words xs ≡ items_words number_words xs
+numbers-own [] = refl
+numbers-own (x ∷ xs) = λ i. x ∷ numbers-own xs i
+
+-- a row of compressions is seen as 24 numbers of 32 bits
+abbrev pub WordsWithin : List ℕ → Type 0
+WordsWithin = ItemsWithin 24 (Between 0 4294967295)
+
+unfoldable pub same-row : SameTexts WordsWithin (items_words number_words) IsHashRow row_words
+same-row = record {
+  to = λ row. row;
+  to_fits = λ row h. (h.0, λ i d l. let w = (h.1 i d l).1 in omega (arith, w));
+  to_words = λ row h. numbers-own row;
+  whole = λ row h. (row, (h.0, λ i d l. let w = h.1 i d l in (omega arith, omega (arith, w))), refl);
+}
+
+pub word-grammar : Grammar (Between 0 4294967295) number_words
+word-grammar = number-grammar 0 4294967295 (omega arith) (omega arith)
+
+pub row-grammar : Grammar IsHashRow row_words
+row-grammar = same-grammar same-row (items-grammar 24 word-grammar)
+
+-- a table of compressions is seen as its rows
+unfoldable pub same-hash : SameTexts (PowersWithin 8 IsHashRow) (list_words row_words) (KindWithin 5) body_words
+same-hash = record { to = hash_of; to_fits = λ rows h. (refl, (h.0.0, h.0.1, h.1)); to_words = λ rows h. refl; whole = whole }
+  where
+    whole : (t : JobTable BabyBear) → KindWithin 5 t → (rows : List (List ℕ)) × PowersWithin 8 IsHashRow rows × (hash_of rows ≡ t)
+    whole (swap_of k a b) h = absurd (let e = h.0 in omega (arith, e))
+    whole (wheel_of k) h = absurd (let e = h.0 in omega (arith, e))
+    whole (take_of words) h = absurd (let e = h.0 in omega (arith, e))
+    whole (give_of pairs) h = absurd (let e = h.0 in omega (arith, e))
+    whole (hash_of rows) h = (rows, ((h.1.0, h.1.1), h.1.2), refl)
+
+pub hash-grammar : Grammar (KindWithin 5) body_words
+hash-grammar = same-grammar same-hash (powers-grammar 8 (omega arith) (omega arith) row-grammar)
 
 -- the same of each kind
-pub kind-grammar : (kind : ℕ) → Between 1 4 kind → Grammar (KindWithin kind) body_words
+pub kind-grammar : (kind : ℕ) → Between 1 5 kind → Grammar (KindWithin kind) body_words
 kind-grammar zero h = absurd (let l = h.0 in omega (arith, l))
 kind-grammar (suc zero) h = swap-grammar
 kind-grammar (suc (suc zero)) h = wheel-grammar
 kind-grammar (suc (suc (suc zero))) h = take-grammar
 kind-grammar (suc (suc (suc (suc zero)))) h = give-grammar
-kind-grammar (suc (suc (suc (suc (suc n))))) h = absurd (let l = h.1 in omega (arith, l))
+kind-grammar (suc (suc (suc (suc (suc zero))))) h = hash-grammar
+kind-grammar (suc (suc (suc (suc (suc (suc n)))))) h = absurd (let l = h.1 in omega (arith, l))

@@ -3,13 +3,13 @@ use Rattle.std.proofs.Common.{◌≡◌, ℕ, List, ◌∷◌, refl, arith}
 use Rattle.p3_field.specs.declared.baby_bear.BabyBear.{BabyBear}
 use Rattle.line_format.specs.Texts.{Between, Grammar, number_words}
 use Rattle.line_format.specs.Laws.Grammars.{PairWithin, SameTexts, list-grammar, number-grammar, pair-grammar, pair_words, same-grammar}
-use Rattle.tool_validity.specs.Job.{IsWithin, JobTable, swap_of, wheel_of, take_of, give_of}
+use Rattle.tool_validity.specs.Job.{IsWithin, JobTable, swap_of, wheel_of, take_of, give_of, hash_of}
 use Rattle.tool_jobs.specs.Jobs.{JobWithin, job_words, table_words}
 use Rattle.tool_jobs.specs.Laws.Kinds.{KindWithin, body_words, kind-grammar, kind_of}
 
 -- a table is seen as its kind, and the table
 abbrev pub TaggedWithin : ℕ × JobTable BabyBear → Type 0
-TaggedWithin = PairWithin (Between 1 4) KindWithin
+TaggedWithin = PairWithin (Between 1 5) KindWithin
 
 abbrev pub tagged_words : ℕ × JobTable BabyBear → List ℕ
 tagged_words = pair_words number_words body_words
@@ -22,18 +22,20 @@ same-table = record { to = λ p. p.1; to_fits = λ p h. h.1.1; to_words = λ p h
     words kind (wheel_of k) h = λ i. h.1.0 i ∷ body_words (wheel_of k)
     words kind (take_of ws) h = λ i. h.1.0 i ∷ body_words (take_of ws)
     words kind (give_of pairs) h = λ i. h.1.0 i ∷ body_words (give_of pairs)
+    words kind (hash_of rows) h = λ i. h.1.0 i ∷ body_words (hash_of rows)
 
-    known : (t : JobTable BabyBear) → Between 1 4 (kind_of t)
+    known : (t : JobTable BabyBear) → Between 1 5 (kind_of t)
     known (swap_of k a b) = (omega arith, omega arith)
     known (wheel_of k) = (omega arith, omega arith)
     known (take_of ws) = (omega arith, omega arith)
     known (give_of pairs) = (omega arith, omega arith)
+    known (hash_of rows) = (omega arith, omega arith)
 
     whole : (t : JobTable BabyBear) → IsWithin t → (p : ℕ × JobTable BabyBear) × TaggedWithin p × (p.1 ≡ t)
     whole t h = ((kind_of t, t), (known t, (refl, h)), refl)
 
-pub tag-grammar : Grammar (Between 1 4) number_words
-tag-grammar = number-grammar 1 4 (omega arith) (omega arith)
+pub tag-grammar : Grammar (Between 1 5) number_words
+tag-grammar = number-grammar 1 5 (omega arith) (omega arith)
 
 pub table-grammar : Grammar IsWithin table_words
 table-grammar = same-grammar same-table (pair-grammar KindWithin tag-grammar kind-grammar)

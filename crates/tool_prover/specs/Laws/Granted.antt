@@ -13,8 +13,7 @@ use Rattle.p3_air.specs.Laws.Lists.{all_table}
 use Rattle.p3_commit.specs.Claims.{Request}
 use Rattle.p3_commit.specs.Commitments.{Held}
 use Rattle.p3_lookup.specs.Bound.{AreBounded}
-use Rattle.plain_pcs.specs.Extension.{Extends, IsCommittable}
-use Rattle.plain_pcs.specs.Holding.{AreHolding, IsMade}
+use Rattle.plain_pcs.specs.Extension.{IsCommittable}
 use Rattle.plain_pcs.specs.Laws.Extensions.{extended_height}
 use Rattle.plain_pcs.specs.Laws.Held.{holding_count}
 use Rattle.plain_pcs.specs.Laws.Listed.{item_at, item_has, lacking}
@@ -31,26 +30,13 @@ use Rattle.batch_validity.specs.Traced.{TracedTable, declared}
 use Rattle.batch_validity.specs.Valid.{IsTraced}
 use Rattle.batch_proving.specs.Backend.{ProverBackend}
 use Rattle.batch_proving.specs.Batch.{Batch, all_chunks, all_permutations, chunks_of, main_matrices, table_at, table_count}
+use Rattle.batch_proving.specs.PlainBackend.{plain_prover_backend}
 use Rattle.batch_proving.specs.Proving.{AreAsked, fault_of_some}
 use Rattle.batch_proving.specs.Telling.{IsOverloaded, PhaseTells}
 use Rattle.committed_tables.specs.Fields.{FieldsLaws}
 use Rattle.honest_acceptance.specs.Rounds.{OpenedMatrix, Round, committed_of, honest_rounds}
 use Rattle.honest_proofs.specs.HonestProof.{alpha, challenges_at}
 use Rattle.tool_prover.specs.Laws.Sized.{IsSized, all_flat, chunks_sized, main_sized, permutations_sized}
-
--- the prover's side of the plain scheme
-abbrev pub plain_backend : {S F E : Type 0} → Scheme F → ProverBackend S F E (PlainCommitmentData F) (List (CosetData F × Rows F)) PlainProof PlainProverError
-plain_backend s = record {
-  commit_fault = λ es e. CommitFault s es e;
-  extension_fault = λ es n e. CommitFault s es e;
-  extends = λ d m l. Extends s d m l;
-  ldes_fault = λ ls e. ExtensionsFault s ls e;
-  made = λ d. IsMade d;
-  holds = λ d c cs. AreHolding s d c cs;
-  open_fault = λ rs e. OpenFault rs e;
-  proves = λ t rs p. p ≡ record {};
-  excludes = λ x. ⊥;
-}
 
 -- no item is the first that lacks what all have
 none_without : {X : Type 0} (P : X → Type 0) (xs : List X) (i : ℕ) → All P xs → IsFirstWithout P xs i → ⊥
@@ -87,7 +73,7 @@ module _ {S F E : Type 0} (s : Scheme F) (rings : RingLaws s.field.ring) (fields
     (narrow : (i : ℕ) → i < table_count b → (declared (table_at b i)).width ≤ widest) (few : (i : ℕ) → i < table_count b → (length (table_at b i).lookups + 1) * b.setting.extension.dimension ≤ widest)
     (dimension : b.setting.extension.dimension ≤ widest) where
   abbrev k : ProverBackend S F E (PlainCommitmentData F) (List (CosetData F × Rows F)) PlainProof PlainProverError
-  k = plain_backend s
+  k = plain_prover_backend s
 
   -- the matrices of a batch
   pub mains_sized : All (IsSized most widest) (main_matrices b)

@@ -1,4 +1,4 @@
--- The tables of a job's batch are those of the job: each is traced, has the sizes that the program allows, and a quotient of one chunk.
+-- The tables of a job's batch are those of the job: each is traced, has the sizes that the program allows, and a quotient of one chunk or two.
 use Rattle.std.proofs.Common.{◌≡◌, ℕ, ◌^◌, ◌<◌, ◌≤◌, List, [], ◌∷◌, length, get_or, map, replicate, refl, sym, ◌∙◌, ap, subst, arith}
 use Rattle.std.specs.Prelude.{All}
 use Rattle.std.proofs.lemmas.List.{get_or-map, length-map}
@@ -20,7 +20,7 @@ use Rattle.batch_validity.specs.Valid.{HasQuotientDomain, IsTraced}
 use Rattle.tool_statement.specs.Config.{tool_setting}
 use Rattle.tool_statement.specs.StatedTables.{log_heights_of, table_of, tool_common}
 use Rattle.tool_statement.specs.declared.table.TableStatement.{TableStatement}
-use Rattle.tool_validity.specs.Job.{IsWithin, JobTable, swap_of, wheel_of, take_of, give_of, job_table, log_height_of, source_of_job, trace_of, traced_job}
+use Rattle.tool_validity.specs.Job.{IsWithin, JobTable, swap_of, wheel_of, take_of, give_of, hash_of, job_table, log_height_of, source_of_job, trace_of, traced_job}
 use Rattle.tool_validity.specs.Job.{publics_of as table_publics}
 use Rattle.tool_validity.specs.Laws.Bear.{bear_serves}
 use Rattle.tool_validity.specs.Laws.Fits.{job_chunks}
@@ -43,6 +43,7 @@ own_packed (swap_of k a b) masks bits asked = refl
 own_packed (wheel_of k) masks bits asked = refl
 own_packed (take_of words) masks bits asked = refl
 own_packed (give_of pairs) masks bits asked = refl
+own_packed (hash_of rows) masks bits asked = refl
 
 abbrev source_table : Source BabyBear → Table BabyBear
 source_table x = record { declaration = x.declaration; trees = x.trees }
@@ -56,43 +57,47 @@ own_tables (j ∷ job) = λ i. own_table j i ∷ own_tables job i
     own_table (wheel_of k) = refl
     own_table (take_of words) = refl
     own_table (give_of pairs) = refl
+    own_table (hash_of rows) = refl
 
--- at most one lookup, and at most two columns
+-- at most one lookup, and at most as many columns as a compression has
 few_lookups : (j : JobTable BabyBear) → length (traced_job bear_ring j).lookups ≤ 1
 few_lookups (swap_of k a b) = omega arith
 few_lookups (wheel_of k) = omega arith
 few_lookups (take_of words) = omega arith
 few_lookups (give_of pairs) = omega arith
+few_lookups (hash_of rows) = omega arith
 
-few_columns : (j : JobTable BabyBear) → (declared (traced_job bear_ring j)).width ≤ 2
+few_columns : (j : JobTable BabyBear) → (declared (traced_job bear_ring j)).width ≤ 9168
 few_columns (swap_of k a b) = omega arith
 few_columns (wheel_of k) = omega arith
 few_columns (take_of words) = omega arith
 few_columns (give_of pairs) = omega arith
+few_columns (hash_of rows) = omega arith
 
 -- what bounds a table of a job: its rows, its columns, its lookups, and the chunks of its quotient
 pub record IsSmall (t : TracedTable BabyBear) : Type 0 where
   pub rows : t.degree_bits ≤ 10
-  pub columns : (declared t).width ≤ 2
+  pub columns : (declared t).width ≤ 9168
   pub preprocessed : width_of (declared t).preprocessed ≤ 1
   pub lookups : length t.lookups ≤ 1
-  pub parts : log_parts tool_setting t ≡ 0
+  pub parts : log_parts tool_setting t ≤ 1
 
 few_prepared : (j : JobTable BabyBear) → width_of (declared (traced_job bear_ring j)).preprocessed ≤ 1
 few_prepared (swap_of k a b) = omega arith
 few_prepared (wheel_of k) = omega arith
 few_prepared (take_of words) = omega arith
 few_prepared (give_of pairs) = omega arith
+few_prepared (hash_of rows) = omega arith
 
-one_part : (j : JobTable BabyBear) → log_parts tool_setting (traced_job bear_ring j) ≡ 0
+few_parts : (j : JobTable BabyBear) → log_parts tool_setting (traced_job bear_ring j) ≤ 1
 unfolding tool_setting
-one_part j =
+few_parts j =
     let t = traced_job bear_ring j in
     let few = job_chunks bear_ring j (2 ^ log_rows tool_setting t) (pow_pos (log_rows tool_setting t)) in
     omega (arith, few)
 
 job_small : (j : JobTable BabyBear) → IsWithin j → IsSmall (traced_job bear_ring j)
-job_small j W = record { rows = small_height j W; columns = few_columns j; preprocessed = few_prepared j; lookups = few_lookups j; parts = one_part j }
+job_small j W = record { rows = small_height j W; columns = few_columns j; preprocessed = few_prepared j; lookups = few_lookups j; parts = few_parts j }
 
 module _ (job : List (JobTable BabyBear)) where
   abbrev stated : List TableStatement

@@ -9,6 +9,7 @@ use Rattle.p3_matrix.specs.Matrix.{Rows}
 use Rattle.p3_air.specs.Shape.{width_of}
 use Rattle.line_format.specs.Texts.{ListWithin, OptionWithin}
 use Rattle.proof_text.specs.Openings.{InstanceWithin, PreprocessedWithin, ValuesWithin}
+use Rattle.plain_pcs.specs.Laws.Held.{power_within}
 use Rattle.batch_setting.specs.Domains.{next_by}
 use Rattle.batch_setting.specs.Setting.{Setting, masks}
 use Rattle.batch_shape_checks.specs.ShapeChecks.{permutation_width}
@@ -40,11 +41,11 @@ few_permuted (suc n) d a b = (let none : n ≡ 0 = omega (arith, a) in let two :
 
 module _ {S F C : Type 0} (c : Setting S F QuarticExtension C) (p : Prover F QuarticExtension C) (t : TracedTable F) (challenges : List QuarticExtension)
     (L : FieldsLaws c.field c.extension c.two_adicity p.inverse) (Q : HasQuotientDomain c t) (T : IsTraced c t) (dimension : c.extension.dimension ≤ 4)
-    (columns : (declared t).width ≤ 2) (prepared : width_of (declared t).preprocessed ≤ 1) (lookups : length t.lookups ≤ 1) (parts : log_parts c t ≡ 0) where
+    (columns : (declared t).width ≤ 9168) (prepared : width_of (declared t).preprocessed ≤ 1) (lookups : length t.lookups ≤ 1) (parts : log_parts c t ≤ 1) where
   abbrev k : CommittedTable F QuarticExtension
   k = committed_table c p t challenges
 
-  main_few : length k.main ≤ 2
+  main_few : length k.main ≤ 9168
   main_few = let n = (honest_commits c p t challenges L Q T).main.count in let w = T.width in omega (arith, n, w, columns)
 
   permutation_few : length k.permutation ≤ 8
@@ -64,34 +65,34 @@ module _ {S F C : Type 0} (c : Setting S F QuarticExtension C) (p : Prover F Qua
     abbrev after : QuarticExtension
     after = next_by c.extension.ring c.extension.embed c.field.root (masks c) zeta t.degree_bits
 
-    few_values : (polys : List (List F)) (x : QuarticExtension) → length polys ≤ 8 → length (columns_at c.field c.extension k polys x) ≤ 65536
-    few_values polys x h = let n = at_columns (λ (g : List F). val_in c.extension g x) polys 8 h in omega (arith, n)
+    few_values : (polys : List (List F)) (x : QuarticExtension) → length polys ≤ 9168 → length (columns_at c.field c.extension k polys x) ≤ 65536
+    few_values polys x h = let n = at_columns (λ (g : List F). val_in c.extension g x) polys 9168 h in omega (arith, n)
 
     chunks_within : ListWithin 0 1024 ValuesWithin (opened_of c p t challenges alpha zeta).base.quotient_chunks
     unfolding opened_of honest_chunk
     chunks_within =
         let u = honest_chunk c.field c.extension k (quotient_shift c) (log_parts c t) (constraints c t) alpha in
         let values = λ (gs : List (List F)). map (λ (g : List F). val_in c.extension g zeta) gs in
-        let one : 2 ^ log_parts c t ≡ 1 = ap (λ n. 2 ^ n) parts in
+        let two : 2 ^ log_parts c t ≤ 2 ^ 1 = power_within (log_parts c t) 1 parts in
         let long = length-table (2 ^ log_parts c t) u in
         let many = length-map (table (2 ^ log_parts c t) u) values in (
-          (omega arith, omega (arith, one, long, many)),
-          all_images (λ (gs : List (List F)). length gs ≤ 8) ValuesWithin values (λ gs h. values_within (values gs) (few_values gs zeta h)) (table (2 ^ log_parts c t) u)
+          (omega arith, omega (arith, two, long, many)),
+          all_images (λ (gs : List (List F)). length gs ≤ 8) ValuesWithin values (λ gs h. values_within (values gs) (few_values gs zeta (omega (arith, h)))) (table (2 ^ log_parts c t) u)
               (all_table (λ (gs : List (List F)). length gs ≤ 8) (2 ^ log_parts c t) u (λ j. (let n : length (u j) ≡ c.extension.dimension = length-table c.extension.dimension _ in omega (arith, n, dimension)))),
         )
 
     pub opened_within : InstanceWithin (opened_of c p t challenges alpha zeta)
     unfolding opened_of
     opened_within =
-        let main : length k.main ≤ 8 = let m = main_few in omega (arith, m) in
+        let permuted : length k.permutation ≤ 9168 = let m = permutation_few in omega (arith, m) in
         record {
           base = record {
-            trace_local = values_within _ (few_values k.main zeta main);
-            trace_next = next_within (declared t).main_next _ (few_values k.main after main);
+            trace_local = values_within _ (few_values k.main zeta main_few);
+            trace_next = next_within (declared t).main_next _ (few_values k.main after main_few);
             preprocessed = by_trace (declared t).preprocessed prepared (honest_commits c p t challenges L Q T).preprocessed (declared t).preprocessed_next zeta after;
             quotient_chunks = chunks_within;
             random = tt;
           };
-          permutation_local = values_within _ (few_values k.permutation zeta permutation_few);
-          permutation_next = values_within _ (few_values k.permutation after permutation_few);
+          permutation_local = values_within _ (few_values k.permutation zeta permuted);
+          permutation_next = values_within _ (few_values k.permutation after permuted);
         }

@@ -40,8 +40,8 @@ use Rattle.tool_prover.specs.Laws.JobTables.{as_many, tables_divided, tables_siz
 use Rattle.tool_prover.specs.Laws.OpenedSizes.{opened_within}
 use Rattle.tool_prover.specs.Laws.Sized.{IsSized}
 
--- the extension of a matrix of one to eight columns and up to 2^10 rows
-matrix_within : (e : CosetData BabyBear × Rows BabyBear) → IsSized 10 8 e → MatrixWithin (extension_of tool_scheme e.0 e.1)
+-- the extension of a matrix of one to 9168 columns and up to 2^10 rows
+matrix_within : (e : CosetData BabyBear × Rows BabyBear) → IsSized 10 9168 e → MatrixWithin (extension_of tool_scheme e.0 e.1)
 unfolding tool_setting extension_of
 matrix_within e Z =
     let s = tool_scheme in
@@ -62,25 +62,25 @@ matrix_within e Z =
     }
 
 -- a commitment to such matrices
-commitment_within : (es : List (CosetData BabyBear × Rows BabyBear)) → length es ≤ 8 → All (IsSized 10 8) es → CommitmentWithin (commitment_of tool_scheme es)
+commitment_within : (es : List (CosetData BabyBear × Rows BabyBear)) → length es ≤ 16 → All (IsSized 10 9168) es → CommitmentWithin (commitment_of tool_scheme es)
 commitment_within es few all =
     let ext : CosetData BabyBear × Rows BabyBear → Rows BabyBear = λ e. extension_of tool_scheme e.0 e.1 in
     let long = length-map es ext in
-    ((omega arith, omega (arith, long, few)), all_images (IsSized 10 8) MatrixWithin ext matrix_within es all)
+    ((omega arith, omega (arith, long, few)), all_images (IsSized 10 9168) MatrixWithin ext matrix_within es all)
 
-some_within : (es : List (CosetData BabyBear × Rows BabyBear)) → length es ≤ 8 → All (IsSized 10 8) es → OptionWithin CommitmentWithin (committed_where (commitment_of tool_scheme) es)
+some_within : (es : List (CosetData BabyBear × Rows BabyBear)) → length es ≤ 16 → All (IsSized 10 9168) es → OptionWithin CommitmentWithin (committed_where (commitment_of tool_scheme) es)
 some_within [] few all = tt
 some_within (e ∷ es) few all = commitment_within (e ∷ es) few all
 
--- lists of at most one item, one for each table
-flat_few : {Y : Type 0} (g : ℕ → List Y) (n : ℕ) (q : ℕ → ℕ) → ((i : ℕ) → i < n → length (g (q i)) ≤ 1) → length (flat_map g (table n q)) ≤ n
+-- lists of at most two items, one for each table
+flat_few : {Y : Type 0} (g : ℕ → List Y) (n : ℕ) (q : ℕ → ℕ) → ((i : ℕ) → i < n → length (g (q i)) ≤ 2) → length (flat_map g (table n q)) ≤ 2 * n
 flat_few g zero q h = omega arith
 flat_few g (suc n) q h =
     let first = h zero (omega arith) in
     let rest = flat_few g n (λ i. q (suc i)) (λ i l. h (suc i) (omega (arith, l))) in
     omega (arith, first, rest, length-append (g (q zero)) (flat_map g (table n (λ i. q (suc i)))))
 
-where_few : {A Y : Type 0} (ls : List A) (y : Y) → length (option_to_list (where_some ls y)) ≤ 1
+where_few : {A Y : Type 0} (ls : List A) (y : Y) → length (option_to_list (where_some ls y)) ≤ 2
 where_few [] y = omega arith
 where_few (l ∷ ls) y = omega arith
 
@@ -118,19 +118,19 @@ module _ (job : List (JobTable BabyBear)) (many : length job ≤ 8) (within : Al
   pub low : (i : ℕ) → i < table_count (job_batch job) → (table_at (job_batch job) i).degree_bits ≤ 10
   low i l = (tables_sized job within i l).rows
 
-  pub narrow : (i : ℕ) → i < table_count (job_batch job) → (declared (table_at (job_batch job) i)).width ≤ 8
+  pub narrow : (i : ℕ) → i < table_count (job_batch job) → (declared (table_at (job_batch job) i)).width ≤ 9168
   narrow i l = let n = (tables_sized job within i l).columns in omega (arith, n)
 
-  pub few_flat : (i : ℕ) → i < table_count (job_batch job) → (length (table_at (job_batch job) i).lookups + 1) * tool_setting.extension.dimension ≤ 8
+  pub few_flat : (i : ℕ) → i < table_count (job_batch job) → (length (table_at (job_batch job) i).lookups + 1) * tool_setting.extension.dimension ≤ 9168
   unfolding tool_setting
   few_flat i l = let n = (tables_sized job within i l).lookups in omega (arith, n)
 
-  mains : All (IsSized 10 8) (main_matrices (job_batch job))
+  mains : All (IsSized 10 9168) (main_matrices (job_batch job))
   unfolding tool_setting
   mains =
-      mains_sized tool_scheme tool_serves.fields.below tool_serves.fields.below_field tool_serves.fields.roots (job_batch job) fields unmasked (tables_traced job within) 10 8 (omega arith) low narrow few_flat (let n = four in omega (arith, n))
+      mains_sized tool_scheme tool_serves.fields.below tool_serves.fields.below_field tool_serves.fields.roots (job_batch job) fields unmasked (tables_traced job within) 10 9168 (omega arith) low narrow few_flat (let n = four in omega (arith, n))
 
-  mains_few : length (main_matrices (job_batch job)) ≤ 8
+  mains_few : length (main_matrices (job_batch job)) ≤ 16
   mains_few =
       let n = few_tables in
       let at : ℕ → TracedTable BabyBear = table_at (job_batch job) in
@@ -155,30 +155,30 @@ module _ (job : List (JobTable BabyBear)) (many : length job ≤ 8) (within : Al
         opened_within tool_setting (job_batch job).prover (table_at (job_batch job) i) (challenges i) fields (tables_divided job within i l) (tables_traced job within i l) four small.columns small.preprocessed small.lookups small.parts
         folding drawn
 
-    permutations : All (IsSized 10 8) (all_permutations (job_batch job) w)
+    permutations : All (IsSized 10 9168) (all_permutations (job_batch job) w)
     unfolding tool_setting
     permutations =
-        all_permutations_sized tool_scheme tool_serves.fields.below tool_serves.fields.below_field tool_serves.fields.roots (job_batch job) fields unmasked (tables_traced job within) 10 8 (omega arith) low narrow few_flat (let n = four in omega (arith, n)) w
+        all_permutations_sized tool_scheme tool_serves.fields.below tool_serves.fields.below_field tool_serves.fields.roots (job_batch job) fields unmasked (tables_traced job within) 10 9168 (omega arith) low narrow few_flat (let n = four in omega (arith, n)) w
 
-    permutations_few : length (all_permutations (job_batch job) w) ≤ 8
+    permutations_few : length (all_permutations (job_batch job) w) ≤ 16
     permutations_few =
         let n = few_tables in
-        let m : length (all_permutations (job_batch job) w) ≤ table_count (job_batch job) = flat_few _ (table_count (job_batch job)) (λ i. i) (λ i l. where_few (table_at (job_batch job) i).lookups _) in
+        let m : length (all_permutations (job_batch job) w) ≤ 2 * table_count (job_batch job) = flat_few _ (table_count (job_batch job)) (λ i. i) (λ i l. where_few (table_at (job_batch job) i).lookups _) in
         omega (arith, n, m)
 
-    chunks : All (IsSized 10 8) (all_chunks (job_batch job) w)
+    chunks : All (IsSized 10 9168) (all_chunks (job_batch job) w)
     unfolding tool_setting
     chunks =
-        all_chunks_sized tool_scheme tool_serves.fields.below tool_serves.fields.below_field tool_serves.fields.roots (job_batch job) fields unmasked (tables_traced job within) 10 8 (omega arith) low narrow few_flat (let n = four in omega (arith, n)) w
+        all_chunks_sized tool_scheme tool_serves.fields.below tool_serves.fields.below_field tool_serves.fields.roots (job_batch job) fields unmasked (tables_traced job within) 10 9168 (omega arith) low narrow few_flat (let n = four in omega (arith, n)) w
 
-    one_chunk : (i : ℕ) → i < table_count (job_batch job) → length (chunks_of (job_batch job) w i) ≤ 1
-    one_chunk i l =
-        let one : 2 ^ log_parts_at (job_batch job) i ≡ 1 = ap (λ n. 2 ^ n) (tables_sized job within i l).parts in
+    few_chunks : (i : ℕ) → i < table_count (job_batch job) → length (chunks_of (job_batch job) w i) ≤ 2
+    few_chunks i l =
+        let two : 2 ^ log_parts_at (job_batch job) i ≤ 2 ^ 1 = power_within (log_parts_at (job_batch job) i) 1 (tables_sized job within i l).parts in
         let n : length (chunks_of (job_batch job) w i) ≡ 2 ^ log_parts_at (job_batch job) i = length-table (2 ^ log_parts_at (job_batch job) i) _ in
-        omega (arith, one, n)
+        omega (arith, two, n)
 
-    chunks_few : length (all_chunks (job_batch job) w) ≤ 8
-    chunks_few = let n = few_tables in let m = flat_few (chunks_of (job_batch job) w) (table_count (job_batch job)) (λ i. i) one_chunk in omega (arith, n, m)
+    chunks_few : length (all_chunks (job_batch job) w) ≤ 16
+    chunks_few = let n = few_tables in let m = flat_few (chunks_of (job_batch job) w) (table_count (job_batch job)) (λ i. i) few_chunks in omega (arith, n, m)
 
     built_within : (opening : PlainProof) → ProofWithin (let b = job_batch job in honest_proof b.setting b.prover b.statement b.traces b.degree_bits w z opening)
     unfolding honest_proof tool_prover

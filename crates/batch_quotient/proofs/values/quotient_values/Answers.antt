@@ -13,7 +13,7 @@ use Rattle.committed_tables.specs.Committed.{CommittedTable}
 use Rattle.committed_tables.specs.Rows.{flattened_matrix}
 use Rattle.batch_quotient.specs.Evaluations.{IsReadOn, quotient_values_on}
 use Rattle.batch_quotient.specs.QuotientRows.{permutation_columns}
-use Rattle.batch_quotient.proofs.Recombined.{behind_reference, copied_is, in_front, periods_along, points_fewer, some_wide, unflattened_tall, unflattened_wide}
+use Rattle.batch_quotient.proofs.Recombined.{behind_reference, in_front, periods_along, points_fewer, some_wide, unflattened_tall, unflattened_wide}
 use Rattle.batch_quotient.proofs.values.quotient_values.Goals as goal
 
 -- a table over the same points and columns
@@ -58,7 +58,7 @@ quotient_on-requires-clause-permutation_width g c =
     let flat = c.args.opt_permutation_on_quotient_domain in
     let p = c.in_ok-permutation.permutation in
     let N = 2 ^ c.args.quotient_domain.log_size in
-    let lent : option_map (λ m. m.now) c.as_ref.result ≡ p = sym (copied_is c.as_ref.result) ∙ c.as_ref.ensures.value in
+    let lent : option_map (λ m. m.now) c.as_ref.result ≡ p = c.as_ref.ensures.value in
     let n = permutation_columns (length c.args.lookups.now) in
     ap width_of lent ∙ unflattened_wide e V p n (ap width_of (sym c.in_ok-permutation.ensures) ∙ c.requires.permutation_width)
 
@@ -69,7 +69,7 @@ quotient_on-requires-clause-permutation_height g c =
     let flat = c.args.opt_permutation_on_quotient_domain in
     let p = c.in_ok-permutation.permutation in
     let N = 2 ^ c.args.quotient_domain.log_size in
-    let lent : option_map (λ m. m.now) c.as_ref.result ≡ p = sym (copied_is c.as_ref.result) ∙ c.as_ref.ensures.value in
+    let lent : option_map (λ m. m.now) c.as_ref.result ≡ p = c.as_ref.ensures.value in
     let tall = subst (λ (o : Option (Rows g.row.SC-Val.Denot)). IfSome o (λ r. height r ≡ N)) c.in_ok-permutation.ensures (in_front (λ r. height r ≡ N) flat c.requires.permutation_height) in
     behind_reference (λ r. height r ≡ N) c.as_ref.result (subst (λ (o : Option (Rows g.row.SC-Challenge.Denot)). IfSome o (λ r. height r ≡ N)) (sym lent) (unflattened_tall e V p N tall))
 
@@ -86,7 +86,7 @@ returns g c =
     let flat = c.args.opt_permutation_on_quotient_domain in
     let p = c.in_ok-permutation.permutation in
     let N = 2 ^ c.args.quotient_domain.log_size in
-    let lent : option_map (λ m. m.now) c.as_ref.result ≡ p = sym (copied_is c.as_ref.result) ∙ c.as_ref.ensures.value in
+    let lent : option_map (λ m. m.now) c.as_ref.result ≡ p = c.as_ref.ensures.value in
     let trees = table_trees g.SC.Val.RingCore.ring (g.A.Air.trees c.args.air.now) (read_all c.args.lookups.now) in
     let same : option_map (flattened_matrix e) (option_map (λ m. m.now) c.as_ref.result) ≡ option_map (λ m. m.now) flat = ap (option_map (flattened_matrix e)) lent ∙ sym c.in_ok-permutation.ensures in
     subst (λ (o : Option (Rows g.row.SC-Val.Denot)). IfOk c.quotient_on.result (λ v. (t : CommittedTable g.row.SC-Val.Denot g.row.SC-Challenge.Denot) → t.log_height ≡ c.args.trace_domain.log_size

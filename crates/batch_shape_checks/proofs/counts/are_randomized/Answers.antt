@@ -1,6 +1,7 @@
 use Rattle.std.proofs.Common.{◌≡◌, ℕ, ◌<◌, get_or, arith, refl, sym, ◌∙◌}
 use Rattle.batch_shape_checks.specs.ShapeChecks.{is_there}
-use Rattle.batch_shape_checks.proofs.Items.{all_more, same_bits}
+use Rattle.batch_shape_checks.specs.Laws.Items.{all_more}
+use Rattle.batch_shape_checks.proofs.Items.{same_bits}
 use Rattle.batch_shape_checks.proofs.counts.are_randomized.Goals as goal
 
 pub loop-opened-preserved : goal.loop-opened-preserved

@@ -4,7 +4,7 @@ use Rattle.std.proofs.lemmas.List.{length-map, take_all}
 use Rattle.std.proofs.lemmas.List.Folds.{list_any_at, list_any_more}
 use Rattle.p3_lookup.specs.Written.{read_all}
 use Rattle.batch_shape_checks.specs.ShapeChecks.{has_some}
-use Rattle.batch_shape_checks.proofs.Items.{item_of_map}
+use Rattle.batch_shape_checks.specs.Laws.Items.{item_of_map}
 use Rattle.batch_shape_checks.proofs.counts.some_have_lookups.Goals as goal
 
 pub returns-then-has_lookups : goal.returns-then-has_lookups

@@ -2,7 +2,8 @@ use Rattle.std.proofs.Common.{◌≡◌, ℕ, ◌+◌, ◌<◌, length, map, [],
 use borrow.Author.Count.{below_more}
 use Rattle.std.proofs.lemmas.List.Elements.{All-from_get_or}
 use Rattle.std.proofs.lemmas.List.{length-map}
-use Rattle.batch_shape_checks.proofs.Items.{item_of_map, not_all}
+use Rattle.batch_shape_checks.specs.Laws.Items.{item_of_map}
+use Rattle.batch_shape_checks.proofs.Items.{not_all}
 use Rattle.batch_shape_checks.proofs.opened.all_have.Goals as goal
 
 pub returns-then-len-values : goal.returns-then-len-values

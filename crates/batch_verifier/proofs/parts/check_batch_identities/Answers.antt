@@ -5,7 +5,7 @@ use Rattle.p3_field.specs.Laws.Tables.{length-table}
 use Rattle.p3_lookup.specs.Written.{read_all}
 use Rattle.batch_shape_checks.specs.ShapeChecks.{has_some, stated}
 use Rattle.batch_statement.specs.Statement.{Table, tables_of}
-use Rattle.batch_verifier.proofs.Challenges.{challenge_count}
+use Rattle.batch_draws.specs.Laws.Challenges.{challenge_count}
 use Rattle.batch_verifier.proofs.Sizes.{item_lengths, masked_domains, shape_counted}
 use Rattle.batch_verifier.proofs.parts.check_batch_identities.Goals as goal
 

@@ -3,5 +3,5 @@ use Rattle.hash_lines.specs.Laws.Matrices.{hash_matrices}
 use Rattle.hash_lines.proofs.laws.accepted_hash_matrices.Goals as goal
 
 pub returns : goal.returns
-returns c = λ tables airs p same formed accepted bits.
-    hash_matrices tables airs p quartic_inv c.baby_bear_has_laws.ensures (c.opened_claims_bind.ensures (record { log_blowup = 1 })) same formed accepted bits
+returns c = λ tables p formed accepted heights.
+    hash_matrices tables p quartic_inv c.baby_bear_has_laws.ensures (c.opened_claims_bind.ensures (record { log_blowup = 1 })) formed accepted heights

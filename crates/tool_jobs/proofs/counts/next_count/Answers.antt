@@ -1,4 +1,4 @@
-use Rattle.std.proofs.Common.{List, ℕ, ◌∙◌, sym, subst}
+use Rattle.std.proofs.Common.{List, ℕ, ◌∙◌, sym, subst, arith}
 use Rattle.std.specs.Int.{IsPowerOfTwo}
 use Rattle.line_format.specs.Texts.{Stops, number_words}
 use Rattle.tool_jobs.proofs.Readings.{count-missing, count-refused}
@@ -8,7 +8,10 @@ use Rattle.tool_jobs.proofs.counts.next_count.Goals as goal
 pub returns-else-is_power_of_two : goal.returns-else-is_power_of_two
 returns-else-is_power_of_two c =
     let other : IsPowerOfTwo c.in-Ok.count → ⊥ = λ p. let e = sym c.if-is_power_of_two.false ∙ c.is_power_of_two.ensures.1 p in cc in
-    subst (λ (l : List ℕ). Stops IsCount number_words l l) (c.new-ahead.ensures ∙ c.rest.ensures) (count-refused c.in-Ok.ensures other)
+    let room = c.requires in
+    let small = c.ranges.most in
+    subst (λ (l : List ℕ). Stops (IsCount c.args.most) number_words l l) (c.new-ahead.ensures ∙ c.rest.ensures)
+    (count-refused c.args.most room (omega (arith, small)) c.in-Ok.ensures other)
 
 pub returns-in-Err : goal.returns-in-Err
-returns-in-Err c = subst (λ (l : List ℕ). Stops IsCount number_words l l) (c.new-ahead.ensures ∙ c.rest.ensures) (count-missing c.in-Err.ensures.1)
+returns-in-Err c = subst (λ (l : List ℕ). Stops (IsCount c.args.most) number_words l l) (c.new-ahead.ensures ∙ c.rest.ensures) (count-missing c.args.most c.requires c.in-Err.ensures.1)

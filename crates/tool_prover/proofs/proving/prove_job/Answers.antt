@@ -10,7 +10,7 @@ use Rattle.tool_statement.specs.StatedTables.{TableWithin, publics_lists, source
 use Rattle.tool_tables.specs.Tool.{tool_declaration}
 use Rattle.tool_tables.specs.declared.tool.ToolAir.{ToolAir}
 use Rattle.std.specs.Prelude.{All}
-use Rattle.tool_prover.proofs.Outcome.{IsSetUp, accepted_airs, batch_kept, batch_traced, inside_there, outcome_there, outside_there, refusal_there}
+use Rattle.tool_prover.proofs.Outcome.{IsSetUp, accepted_for, batch_kept, batch_traced, formed_there, inside_there, outcome_there, outside_there, refusal_there}
 use Rattle.tool_prover.proofs.Setup.{airs_count, publics_count, traces_count}
 use Rattle.tool_prover.proofs.proving.prove_job.Goals as goal
 
@@ -115,8 +115,8 @@ returns-then-not-is_outside-clause-outcome c =
     } in
     inside_there _ _ _ _ _ _ _ _ _ _ U c.in_ok-proof.proof c.in_ok-proof.point c.in_ok-proof.ensures.proved c.in_ok-proof.ensures.point c.if-not-is_outside.ensures
 
-pub accepted_holds-requires-clause-accepted : goal.accepted_holds-requires-clause-accepted
-accepted_holds-requires-clause-accepted c =
+pub accepted_means-requires-clause-accepted : goal.accepted_means-requires-clause-accepted
+accepted_means-requires-clause-accepted c =
     let U : IsSetUp (read_tables c.args.job.now) c.args.tables.now _ c.tool_config-config.result.pcs c.in_ok-airs.airs.items c.in_ok-traces.traces.items (map items c.in_ok-public_values.public_values.items) c.in_ok-data.data.common
     c.in_ok-data.data.prover_only.preprocessed_prover_data c.deref-5.result.now = record {
       within = c.requires.within;
@@ -132,12 +132,11 @@ accepted_holds-requires-clause-accepted c =
       prepared = c.in_ok-data.ensures.kept;
       instances_are = c.deref-5.ensures.value ∙ (c.in_ok-instances.ensures ∙ (λ i. instances_of (c.deref-2.ensures.value i) (c.deref-3.ensures.value i) (map items (c.deref-4.ensures.value i))));
     } in
-    accepted_airs _ _ _ _ _ _ _ _ _ _ U c.in_ok-proof.proof c.in_ok-proof.ensures.accepted
+    accepted_for _ _ _ _ _ _ _ _ _ _ U c.in_ok-proof.proof c.in_ok-proof.ensures.accepted
     (outside_there _ _ _ _ _ _ _ _ _ _ U c.in_ok-proof.proof c.in_ok-proof.point c.in_ok-proof.ensures.point c.if-not-is_outside.ensures)
-    c.deref-6.result.now c.deref-6.ensures.value (map items c.deref-7.result.now) (ap (map items) c.deref-7.ensures.value)
 
-pub accepted_swaps_end-requires-clause-accepted : goal.accepted_swaps_end-requires-clause-accepted
-accepted_swaps_end-requires-clause-accepted c =
+pub accepted_means-requires-clause-formed : goal.accepted_means-requires-clause-formed
+accepted_means-requires-clause-formed c =
     let U : IsSetUp (read_tables c.args.job.now) c.args.tables.now _ c.tool_config-config.result.pcs c.in_ok-airs.airs.items c.in_ok-traces.traces.items (map items c.in_ok-public_values.public_values.items) c.in_ok-data.data.common
     c.in_ok-data.data.prover_only.preprocessed_prover_data c.deref-5.result.now = record {
       within = c.requires.within;
@@ -153,9 +152,7 @@ accepted_swaps_end-requires-clause-accepted c =
       prepared = c.in_ok-data.ensures.kept;
       instances_are = c.deref-5.ensures.value ∙ (c.in_ok-instances.ensures ∙ (λ i. instances_of (c.deref-2.ensures.value i) (c.deref-3.ensures.value i) (map items (c.deref-4.ensures.value i))));
     } in
-    accepted_airs _ _ _ _ _ _ _ _ _ _ U c.in_ok-proof.proof c.in_ok-proof.ensures.accepted
-    (outside_there _ _ _ _ _ _ _ _ _ _ U c.in_ok-proof.proof c.in_ok-proof.point c.in_ok-proof.ensures.point c.if-not-is_outside.ensures)
-    c.deref-8.result.now c.deref-8.ensures.value (map items c.deref-9.result.now) (ap (map items) c.deref-9.ensures.value)
+    formed_there _ _ _ _ _ _ _ _ _ _ U
 
 pub returns-clause-outcome : goal.returns-clause-outcome
 returns-clause-outcome c =
@@ -176,5 +173,4 @@ returns-clause-outcome c =
     } in
     outcome_there _ _ _ _ _ _ _ _ _ _ U c.in_ok-proof.proof c.in_ok-proof.ensures.proved
     (outside_there _ _ _ _ _ _ _ _ _ _ U c.in_ok-proof.proof c.in_ok-proof.point c.in_ok-proof.ensures.point c.if-not-is_outside.ensures) c.in_ok-proof.ensures.accepted
-    c.deref-6.result.now c.deref-6.ensures.value (map items c.deref-7.result.now) (ap (map items) c.deref-7.ensures.value) c.accepted_holds.ensures.holds
-    c.deref-8.result.now c.deref-8.ensures.value (map items c.deref-9.result.now) (ap (map items) c.deref-9.ensures.value) c.accepted_swaps_end.ensures
+    c.accepted_means.ensures.holds c.accepted_means.ensures.swaps c.accepted_means.ensures.hashes

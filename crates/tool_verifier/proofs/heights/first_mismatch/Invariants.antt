@@ -1,5 +1,5 @@
 use Rattle.std.proofs.Common.{◌<◌, ℕ}
-use Rattle.tool_verifier.specs.FileAnswer.{HasStatedHeight}
+use Rattle.tool_statement.specs.StatedTables.{HasStatedHeight}
 use Rattle.tool_verifier.proofs.heights.first_mismatch.Given as goal
 
 abbrev pub invariant-loop-i : goal.invariant-loop-i

@@ -5,7 +5,7 @@ use Rattle.plain_pcs.specs.Scheme.{Blowup}
 use Rattle.batch_setup.specs.Packed.{source_of}
 use Rattle.batch_shape_checks.specs.Laws.Verdicts.{exits}
 use Rattle.tool_tables.specs.Tool.{tool_declaration, tool_interactions, tool_trees}
-use Rattle.tool_verifier.specs.Laws.Stated.{ends_are, meant_is, refusal_is, same_tables, verdict_is}
+use Rattle.tool_verifier.specs.Laws.Stated.{formed_is, refusal_is, same_tables, verdict_is}
 use Rattle.tool_verifier.proofs.tables.verify_tables.Goals as goal
 
 pub returns-in_err-verify_batch-clause-verdict : goal.returns-in_err-verify_batch-clause-verdict
@@ -23,16 +23,12 @@ returns-clause-verdict c =
     verdict_is _ c.tool_config-config.result.pcs _ _ _ _ _ _ c.args.proof.now (Ok c.in_ok-verify_batch.field-0) c.tool_config-config.ensures.setting c.tool_config-config.ensures.scheme
     (same_tables c.args.tables.now c.deref-2.result.now airs) publics c.in_ok-common.ensures.common c.in_ok-verify_batch.ensures.verdict
 
-pub returns-clause-holds : goal.returns-clause-holds
-returns-clause-holds c =
-    let airs = ap (map (source_of (tool_declaration bear_ring) (tool_trees bear_ring) (tool_interactions bear_ring))) c.deref-4.ensures.value ∙ c.in_ok-airs.ensures in
-    let publics = ap (map (λ (v : Vec BabyBear Global). v.items)) c.deref-5.ensures.value ∙ c.in_ok-public_values.ensures in
-    meant_is _ c.tool_config-config.result.pcs.log_blowup _ _ _ _ _ _ c.args.proof.now c.tool_config-config.ensures.setting (ap (λ (b : Blowup). b.log_blowup) c.tool_config-config.ensures.scheme)
-    (same_tables c.args.tables.now c.deref-4.result.now airs) publics c.in_ok-common.ensures.common c.accepted_holds.ensures.holds
+pub accepted_means-requires-clause-accepted : goal.accepted_means-requires-clause-accepted
+accepted_means-requires-clause-accepted c =
+    let airs = ap (map (source_of (tool_declaration bear_ring) (tool_trees bear_ring) (tool_interactions bear_ring))) c.deref-2.ensures.value ∙ c.in_ok-airs.ensures in
+    let publics = ap (map (λ (v : Vec BabyBear Global). v.items)) c.deref-3.ensures.value ∙ c.in_ok-public_values.ensures in
+    verdict_is _ c.tool_config-config.result.pcs _ _ _ _ _ _ c.args.proof.now (Ok c.in_ok-verify_batch.field-0) c.tool_config-config.ensures.setting c.tool_config-config.ensures.scheme
+    (same_tables c.args.tables.now c.deref-2.result.now airs) publics c.in_ok-common.ensures.common c.in_ok-verify_batch.ensures.verdict
 
-pub returns-clause-swaps : goal.returns-clause-swaps
-returns-clause-swaps c =
-    let airs = ap (map (source_of (tool_declaration bear_ring) (tool_trees bear_ring) (tool_interactions bear_ring))) c.deref-6.ensures.value ∙ c.in_ok-airs.ensures in
-    let publics = ap (map (λ (v : Vec BabyBear Global). v.items)) c.deref-7.ensures.value ∙ c.in_ok-public_values.ensures in
-    ends_are _ c.tool_config-config.result.pcs.log_blowup c.args.tables.now c.deref-6.result.now _ _ _ c.args.proof.now c.tool_config-config.ensures.setting (ap (λ (b : Blowup). b.log_blowup) c.tool_config-config.ensures.scheme)
-    airs (same_tables c.args.tables.now c.deref-6.result.now airs) publics c.in_ok-common.ensures.common c.accepted_swaps_end.ensures
+pub accepted_means-requires-clause-formed : goal.accepted_means-requires-clause-formed
+accepted_means-requires-clause-formed c = formed_is c.args.tables.now _ _ _ c.in_ok-airs.ensures c.in_ok-common.ensures.common c.in_ok-common.ensures.formed
