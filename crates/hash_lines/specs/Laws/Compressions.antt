@@ -62,17 +62,17 @@ module _ (cells : List BabyBear) (x : Input) (words : AreWords x) (is : cells �
   reads_input : (w : ℕ) → w < 28 → HasBits cells (word_column w) × (word_at cells (word_column w) ≡ x w)
   reads_input w h =
       let cell : (b : ℕ) → b < 32 → get_or cells (32 * w + b) bear_ring.zero ≡ of_nat bear_ring (bit_at (x w) b) = λ b l.
-          let at : 32 * w + b ≡ 0 + 32 * w + b = omega arith in
-          ap (λ ys. get_or ys (32 * w + b) bear_ring.zero) is
-          ∙ (trace_cell bear_ring x (32 * w + b) bear_ring.zero (omega (arith, h, l))
-          ∙ ap (of_nat bear_ring) (ap (λ n. get_or (row_cells x) n 0) at ∙ bit_cell (row_cells x) 0 28 x (where_cells x).input w b h l)) in
+      let at : 32 * w + b ≡ 0 + 32 * w + b = omega arith in
+      ap (λ ys. get_or ys (32 * w + b) bear_ring.zero) is
+      ∙ (trace_cell bear_ring x (32 * w + b) bear_ring.zero (omega (arith, h, l))
+      ∙ ap (of_nat bear_ring) (ap (λ n. get_or (row_cells x) n 0) at ∙ bit_cell (row_cells x) 0 28 x (where_cells x).input w b h l)) in
       subst (λ c. HasBits cells c × (word_at cells c ≡ x w)) (sym (input_column w h)) (reads_word cells (32 * w) (x w) (words w h) cell)
 
   -- the output's
   reads_output : (i : ℕ) → i < 16 → HasBits cells (word_column (28 + i)) × (word_at cells (word_column (28 + i)) ≡ output_word x i)
   reads_output i h =
       let cell : (b : ℕ) → b < 32 → get_or cells (8656 + 32 * i + b) bear_ring.zero ≡ of_nat bear_ring (bit_at (output_word x i) b) = λ b l.
-          output_cell bear_ring x cells is i b bear_ring.zero h l in
+      output_cell bear_ring x cells is i b bear_ring.zero h l in
       subst (λ c. HasBits cells c × (word_at cells c ≡ output_word x i)) (sym (output_column i))
       (reads_word cells (8656 + 32 * i) (output_word x i) (output_below x words (i / 4) (i % 4) (omega arith)) cell)
 

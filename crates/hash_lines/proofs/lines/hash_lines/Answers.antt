@@ -5,6 +5,10 @@ use Rattle.hash_lines.proofs.Appending.{one_more}
 use Rattle.hash_lines.specs.PrintedRows.{printed_rows, table_lines}
 use Rattle.hash_lines.proofs.lines.hash_lines.Goals as goal
 
+pub loop-table-init : goal.loop-table-init
+unfolding joined
+loop-table-init c = c.new-text.ensures.items
+
 pub loop-table-preserved : goal.loop-table-preserved
 loop-table-preserved c =
     let line = λ (i : ℕ). table_lines c.args.tables.now c.args.proof.now i (get_or c.args.tables.now i (Take 0)) in

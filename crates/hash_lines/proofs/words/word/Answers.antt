@@ -48,7 +48,8 @@ overflow_cast-result c =
 pub returns : goal.returns
 unfolding word_at
 returns c =
-    let done : c.loop-bit.bit ≡ 0 = omega arith in
-    (λ b h. c.loop-bit.invariant.bits b (omega (arith, done)) h,
-     subst (λ (k : ℕ). (n : ℕ) → k + n ≡ 32 → c.loop-bit.number ≡ bits_number (λ b. cell_number (cells_at (map (λ f. f.items) c.args.polynomials.now) c.args.point) (c.args.column + b)) k n)
-     done c.loop-bit.invariant.so_far 32 (omega arith))
+    let done : c.loop-bit.bit ≡ 0 = omega arith in (
+      λ b h. c.loop-bit.invariant.bits b (omega (arith, done)) h,
+      subst (λ (k : ℕ). (n : ℕ) → k + n ≡ 32 → c.loop-bit.number ≡ bits_number (λ b. cell_number (cells_at (map (λ f. f.items) c.args.polynomials.now) c.args.point) (c.args.column + b)) k n)
+          done c.loop-bit.invariant.so_far 32 (omega arith),
+    )
