@@ -60,12 +60,7 @@ fn the_largest_tables_are_proved_and_their_compressions_printed(
 /// with this grinding value.
 fn turned(alloc: Global, file: &str, grinding: u64) -> Mem<(u8, Vec<u8>)> {
     let value = format!(in alloc; "{grinding}")?;
-    let lines: [(usize, &str); 4] = [
-        (8664, "1"),
-        (17832, "1"),
-        (52993, "1"),
-        (55086, &value),
-    ];
+    let lines: [(usize, &str); 4] = [(8664, "1"), (17832, "1"), (52993, "1"), (55086, &value)];
     let changed = damaged(alloc, file, &lines)?;
     ran(alloc, &["verify"], &changed, 1000)
 }

@@ -96,6 +96,12 @@ module _ (tables : List TableStatement) (p : ToolProofData) (L : FieldsLaws bear
       swaps_end tool_setting 1 s p quartic_inv fields (first_of tables_hold no_alpha no_zeta) (heights_fit tool_setting tool_backend 1 s p quartic_inv fields plain_tool binds formed accepted) i a b x
       (placed i (Swap k a b x) at) (ap (λ (t : Table BabyBear). t.trees) (stated_is i (Swap k a b x) at)) (publics_are i (Swap k a b x) at)
 
+  -- the constraints of a hash table
+  trees_of_hash : (i k : ℕ) → slice_get tables i ≡ Some (Hash k) → Holds tool_setting.field tool_setting.extension (committed_table tool_setting 1 s p i) (stated_table s i).trees
+      → Holds tool_setting.field tool_setting.extension (committed_table tool_setting 1 s p i) (blake3_trees tool_setting.field.ring)
+  unfolding tool_setting
+  trees_of_hash i k at h = subst (λ (u : Table BabyBear). Holds tool_setting.field tool_setting.extension (committed_table tool_setting 1 s p i) u.trees) (stated_is i (Hash k) at) h
+
   -- rows of hash tables
   rows_are_compressions : RowMeans tool_setting.field.ring → HaveStatedHeights tables p.degree_bits
       → (IsAlphaUnlucky tool_setting 1 s p → ⊥) → (IsZetaUnlucky tool_setting 1 s p → ⊥) → (i k row : ℕ) → slice_get tables i ≡ Some (Hash k) → row < 2 ^ k
@@ -110,11 +116,6 @@ module _ (tables : List TableStatement) (p : ToolProofData) (L : FieldsLaws bear
       let wide = ap (λ (u : Table BabyBear). u.declaration.width) (stated_is i (Hash k) at) in
       row_is_compression tool_setting.field tool_setting.extension tool_setting.two_adicity quartic_inv fields t means (columns ∙ wide) (trees_of_hash i k at first) row
       (subst (λ n. row < 2 ^ n) (sym (degree tables p quartic_inv L B formed accepted heights i k at)) inside)
-    where
-      trees_of_hash : (i k : ℕ) → slice_get tables i ≡ Some (Hash k) → Holds tool_setting.field tool_setting.extension (committed_table tool_setting 1 s p i) (stated_table s i).trees
-          → Holds tool_setting.field tool_setting.extension (committed_table tool_setting 1 s p i) (blake3_trees tool_setting.field.ring)
-      unfolding tool_setting
-      trees_of_hash i k at h = subst (λ (u : Table BabyBear). Holds tool_setting.field tool_setting.extension (committed_table tool_setting 1 s p i) u.trees) (stated_is i (Hash k) at) h
 
   -- so each is printed as a compression
   pub hashes : RowMeans bear_ring → HaveStatedHeights tables p.degree_bits → PrintCompressions tables p
