@@ -2,7 +2,7 @@
 use Rattle.std.proofs.Common.{◌≡◌, ℕ, ◌+◌, ◌^◌, ◌<◌, ◌≤◌, min, List, Some, length, get_or, map, refl, sym, ◌∙◌, ap, subst, arith, inl, inr}
 use Rattle.std.specs.Prelude.{slice_get}
 use Rattle.std.proofs.lemmas.Bool.{cases_lt}
-use Rattle.std.proofs.lemmas.List.{get_or-map, get_or_default, length-map}
+use Rattle.std.proofs.lemmas.List.{get_or-map, get_or_past, length-map}
 use Rattle.std.proofs.lemmas.Option.{get_or_from_slice_get, slice_get_within}
 use Rattle.p3_field.specs.BabyBear.{bear_ring}
 use Rattle.p3_field.specs.Laws.Tables.{length-table}
@@ -40,7 +40,7 @@ is_there : {F : Type 0} (c : PlainCommitmentData F) (i w : ℕ) → (matrix_at c
 is_there c i w e pos = elim (cases_lt i (length c.matrices)) [
   | inl h ↦ h
   | inr h ↦
-      let past : (matrix_at c i).width ≡ 0 = ap (λ m. m.width) (get_or_default c.matrices i no_matrix h) in
+      let past : (matrix_at c i).width ≡ 0 = ap (λ m. m.width) (get_or_past c.matrices i no_matrix h) in
       absurd (omega (arith, past, e, pos))
 ]
 
