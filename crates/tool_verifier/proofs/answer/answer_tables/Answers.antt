@@ -1,6 +1,6 @@
 use Rattle.std.proofs.Common.{◌∙◌, ap}
 use Rattle.proof_text.specs.ProofText.{ToolProofData}
-use Rattle.tool_verifier.proofs.Answering.{accepted, faulted, mismatched}
+use Rattle.tool_verifier.proofs.Answering.{accepted, faulted, heights, mismatched}
 use Rattle.tool_verifier.proofs.answer.answer_tables.Goals as goal
 
 pub returns-in-Some : goal.returns-in-Some
@@ -8,9 +8,16 @@ returns-in-Some c =
     mismatched c.args.tables.now c.args.proof.now c.deref.result.now (c.deref.ensures.value ∙ ap (λ (q : ToolProofData). q.degree_bits) c.proof.view_is) c.in-Some.table c.in-Some.ensures _ _ c.refused.ensures.status
     (ap (λ v. v.items) c.refused.ensures.text ∙ c.in_ok-mismatch_line.ensures)
 
-pub returns-in_ok-from_slice-in-Ok : goal.returns-in_ok-from_slice-in-Ok
-returns-in_ok-from_slice-in-Ok c =
-    accepted c.args.tables.now c.args.proof.now c.deref.result.now (c.deref.ensures.value ∙ ap (λ (q : ToolProofData). q.degree_bits) c.proof.view_is) c.in_default.ensures c.in-Ok.ensures.verdict (record { holds = c.in-Ok.ensures.holds; swaps = c.in-Ok.ensures.swaps }) _ c.in_ok-from_slice-in-Ok.ensures.items
+pub accepted_text-requires : goal.accepted_text-requires
+accepted_text-requires c =
+    c.in-Ok.ensures.matrices (heights c.args.tables.now c.args.proof.now c.deref.result.now (c.deref.ensures.value ∙ ap (λ (q : ToolProofData). q.degree_bits) c.proof.view_is) c.in_default.ensures)
+
+pub returns-in_ok-accepted_text-in-Ok : goal.returns-in_ok-accepted_text-in-Ok
+returns-in_ok-accepted_text-in-Ok c =
+    let same = c.deref.ensures.value ∙ ap (λ (q : ToolProofData). q.degree_bits) c.proof.view_is in
+    let stated = heights c.args.tables.now c.args.proof.now c.deref.result.now same c.in_default.ensures in
+    accepted c.args.tables.now c.args.proof.now c.deref.result.now same c.in_default.ensures c.in-Ok.ensures.verdict
+    (record { holds = c.in-Ok.ensures.holds; swaps = c.in-Ok.ensures.swaps; hashes = c.in-Ok.ensures.hashes stated }) _ c.in_ok-accepted_text-in-Ok.ensures
 
 pub returns-in_ok-fault_line-in-Err : goal.returns-in_ok-fault_line-in-Err
 returns-in_ok-fault_line-in-Err c =

@@ -31,4 +31,6 @@ accepted_means-requires-clause-accepted c =
     (same_tables c.args.tables.now c.deref-2.result.now airs) publics c.in_ok-common.ensures.common c.in_ok-verify_batch.ensures.verdict
 
 pub accepted_means-requires-clause-formed : goal.accepted_means-requires-clause-formed
-accepted_means-requires-clause-formed c = formed_is c.args.tables.now _ _ _ c.in_ok-airs.ensures c.in_ok-common.ensures.common c.in_ok-common.ensures.formed
+accepted_means-requires-clause-formed c =
+    let airs = ap (map (source_of (tool_declaration bear_ring) (tool_trees bear_ring) (tool_interactions bear_ring))) c.deref.ensures.value ∙ c.in_ok-airs.ensures in
+    formed_is c.args.tables.now c.deref.result.now _ _ airs c.in_ok-common.ensures.common c.in_ok-common.ensures.formed
