@@ -1,5 +1,5 @@
 -- The cells of a committed row, off the polynomials that its table is committed to by.
-use Rattle.std.proofs.Common.{◌≡◌, ℕ, ◌+◌, ◌^◌, ◌<◌, List, Some, length, get_or, refl, sym, ◌∙◌, ap}
+use Rattle.std.proofs.Common.{◌≡◌, ℕ, ◌^◌, ◌<◌, List, Some, length, get_or, refl, sym, ◌∙◌, ap}
 use Rattle.std.proofs.lemmas.Option.{get_or_from_slice_get, slice_get-get_or, slice_get_read}
 use Rattle.p3_air.specs.Joined.{joined}
 use Rattle.p3_field.specs.BabyBear.{bear_ring, bear_root}

@@ -1,5 +1,5 @@
 -- The words that are printed of a row of a hash table.
-use Rattle.std.specs.Prelude.{◌≡◌, ℕ, zero, suc, ◌+◌, ◌-◌, ◌*◌, ◌<◌, List, Bool, true, ◌&&◌, nat_lt, if◌then◌else◌}
+use Rattle.std.specs.Prelude.{ℕ, zero, suc, ◌+◌, ◌-◌, ◌*◌, ◌<◌, List, Bool, true, ◌&&◌, nat_lt, if◌then◌else◌}
 use Rattle.std.specs.Prelude.{slice_index_or as get_or}
 use Rattle.p3_air.specs.Words.{bits_word}
 use Rattle.p3_field.specs.BabyBear.{bear_ring}

@@ -1,4 +1,4 @@
-use Rattle.std.proofs.Common.{◌≡◌, ℕ, [], length, get_or, refl, ◌∙◌, ap, arith}
+use Rattle.std.proofs.Common.{◌≡◌, ℕ, [], length, get_or, ◌∙◌, ap, arith}
 use Rattle.p3_air.specs.Joined.{joined}
 use Rattle.tool_statement.specs.declared.table.TableStatement.TheVariants.{Take}
 use Rattle.hash_lines.proofs.Appending.{one_more}

@@ -1,8 +1,7 @@
-use Rattle.std.proofs.Common.{◌≡◌, ℕ, ◌<◌, List, ◌++◌, OnOk, length, map, sym, ◌∙◌, ap, subst, arith}
+use Rattle.std.proofs.Common.{◌≡◌, ℕ, List, ◌++◌, OnOk, length, map, sym, ◌∙◌, ap, subst, arith}
 use Rattle.hash_lines.specs.Columns.{cells_at}
 use Rattle.hash_lines.specs.Laws.Readable.{length-printed_words, readable_line, unreadable_is}
 use Rattle.hash_lines.specs.RowText.{row_line, words_line}
-use Rattle.hash_lines.specs.RowWords.{printed_words}
 use Rattle.hash_lines.proofs.rows.push_row.Goals as goal
 
 pub push_words-requires : goal.push_words-requires

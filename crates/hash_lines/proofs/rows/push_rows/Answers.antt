@@ -1,4 +1,4 @@
-use Rattle.std.proofs.Common.{◌≡◌, ℕ, ◌+◌, ◌^◌, List, ◌++◌, map, sym, ◌∙◌, ap, subst, arith}
+use Rattle.std.proofs.Common.{◌≡◌, ℕ, ◌^◌, ◌++◌, map, sym, ◌∙◌, ap, arith}
 use Rattle.std.proofs.lemmas.List.{append-nil}
 use Rattle.p3_air.specs.Joined.{joined}
 use Rattle.p3_field.specs.BabyBear.{bear_ring, bear_root}

@@ -1,4 +1,4 @@
-use Rattle.std.proofs.Common.{◌≡◌, ◌<◌, ◌+◌, ℕ, map, ap, sym, ◌∙◌, subst, below_more, arith}
+use Rattle.std.proofs.Common.{◌≡◌, ◌<◌, ℕ, map, ◌∙◌, subst, below_more, arith}
 use Rattle.p3_field.specs.Poly.{table}
 use Rattle.p3_field.specs.Laws.Tables.{table_push}
 use Rattle.hash_lines.specs.Columns.{cells_at}

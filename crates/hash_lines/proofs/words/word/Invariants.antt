@@ -1,5 +1,4 @@
 use Rattle.std.proofs.Common.{◌≡◌, ℕ, ◌+◌, ◌≤◌, ◌<◌, map}
-use Rattle.p3_field.specs.declared.baby_bear.BabyBear.{BabyBear}
 use Rattle.p3_air.specs.Words.{bits_number}
 use Rattle.hash_lines.specs.Columns.{cells_at}
 use Rattle.hash_lines.specs.RowWords.{cell_number}
