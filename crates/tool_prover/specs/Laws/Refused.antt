@@ -8,6 +8,7 @@ use Rattle.batch_setting.specs.Setting.{masks}
 use Rattle.batch_shape_checks.specs.ShapeChecks.{heights_of}
 use Rattle.batch_transcript.specs.declared.failure.GrindStep.TheVariants.{Lookup, Ood}
 use Rattle.batch_proving.specs.Batch.{table_count}
+use Rattle.batch_proving.specs.PlainBackend.{plain_prover_backend}
 use Rattle.batch_proving.specs.Telling.{Tells}
 use Rattle.batch_proving.specs.declared.error.ProvingError.{ProvingError}
 use Rattle.batch_proving.specs.declared.error.ProvingError.TheVariants.{LookupDenominatorZero, MultiplicityBound, OutOfMemory, Pcs, WitnessNotFound}
@@ -25,10 +26,10 @@ module _ (job : List (JobTable BabyBear)) (many : length job ≤ 8) (within : Al
   pub told : (e : ProvingError PlainProverError) → Tells (plain_prover_backend tool_scheme) (job_batch job) e → IsTold job e
   unfolding tool_setting
   told (Pcs phase source) h =
-      phase_granted tool_scheme tool_serves.fields.below tool_serves.fields.below_field tool_serves.fields.roots (job_batch job) (fields job many within) unmasked (tables_traced job within) 10 8 (omega arith) (low job many within)
+      phase_granted tool_scheme tool_serves.fields.below tool_serves.fields.below_field tool_serves.fields.roots (job_batch job) (fields job many within) unmasked (tables_traced job within) 10 9168 (omega arith) (low job many within)
       (narrow job many within) (few_flat job many within) (let n = four in omega (arith, n)) phase source h
   told (MultiplicityBound bus) h =
-      none_overloaded tool_scheme tool_serves.fields.below tool_serves.fields.below_field tool_serves.fields.roots (job_batch job) (fields job many within) unmasked (tables_traced job within) 10 8 (omega arith) (low job many within)
+      none_overloaded tool_scheme tool_serves.fields.below tool_serves.fields.below_field tool_serves.fields.roots (job_batch job) (fields job many within) unmasked (tables_traced job within) 10 9168 (omega arith) (low job many within)
       (narrow job many within) (few_flat job many within) (let n = four in omega (arith, n)) bounded bus h
   told (LookupDenominatorZero i row) h = h
   told (WitnessNotFound Lookup) h = h
