@@ -60,7 +60,7 @@ pub fn run<S: Source, K: Sink>(
         Err(InputError::TooLarge) => return Status::TooLarge,
         Err(InputError::OutOfMemory) => return Status::OutOfMemory,
     };
-    let Ok(answer) = answer(alloc, command, &bytes) else {
+    let Ok(answer) = answer(alloc, command, bytes) else {
         return Status::OutOfMemory;
     };
     match write_whole(sink, &answer.text) {
@@ -69,9 +69,9 @@ pub fn run<S: Source, K: Sink>(
     }
 }
 
-/// What a command answers for all the bytes of an input.
-fn answer(alloc: Global, command: Command, bytes: &[u8]) -> Mem<Answer>
-    ensures { IfOk result (λ a. IsCommandAnswer command bytes.now a.status a.text.items) }
+/// What a command answers for all the bytes of an input, which are let go once they are read.
+fn answer(alloc: Global, command: Command, bytes: Vec<u8>) -> Mem<Answer>
+    ensures { IfOk result (λ a. IsCommandAnswer command bytes.items a.status a.text.items) }
 {
     match command {
         Command::Prove => job_answer(alloc, bytes),
@@ -80,20 +80,24 @@ fn answer(alloc: Global, command: Command, bytes: &[u8]) -> Mem<Answer>
 }
 
 /// The same of `prove`.
-fn job_answer(alloc: Global, bytes: &[u8]) -> Mem<Answer>
-    ensures { IfOk result (λ a. IsProveAnswer bytes.now a.status a.text.items) }
+fn job_answer(alloc: Global, bytes: Vec<u8>) -> Mem<Answer>
+    ensures { IfOk result (λ a. IsProveAnswer bytes.items a.status a.text.items) }
 {
-    match read_job(alloc, bytes) {
+    let read = read_job(alloc, &bytes);
+    drop(bytes);
+    match read {
         Ok(job) => answer_prove(alloc, &job),
         Err(error) => bad_input(alloc, error),
     }
 }
 
 /// The same of `verify`.
-fn file_answer(alloc: Global, bytes: &[u8]) -> Mem<Answer>
-    ensures { IfOk result (λ a. IsVerifyAnswer bytes.now a.status a.text.items) }
+fn file_answer(alloc: Global, bytes: Vec<u8>) -> Mem<Answer>
+    ensures { IfOk result (λ a. IsVerifyAnswer bytes.items a.status a.text.items) }
 {
-    match read_proof_file(alloc, bytes) {
+    let read = read_proof_file(alloc, &bytes);
+    drop(bytes);
+    match read {
         Ok(file) => answer_verify(alloc, &file),
         Err(error) => bad_input(alloc, error),
     }

@@ -14,35 +14,35 @@ returns-in-Err-clause-outcome g c =
 pub returns-in-Ok-write_whole-clause-outcome : goal.returns-in-Ok-write_whole-clause-outcome
 returns-in-Ok-write_whole-clause-outcome g c =
     let read = c.in-Ok-read_whole.ensures.bytes in
-    let whole : c.deref.result.now ≡ read.taken = c.deref.ensures.value ∙ read.answer.0 in
+    let whole : c.in-Ok-read_whole.bytes.items ≡ read.taken = read.answer.0 in
     let text = c.in-Ok-answer.answer.text.items in
     let a = subst (λ (l : List ℕ). IsCommandAnswer c.in-Some.command l c.in-Ok-answer.answer.status text) whole c.in-Ok-answer.ensures in
     record {
       read = read.taken;
       consumed = read.consumed;
       wrote = text;
-      appended = subst (λ (l : List ℕ). Appends (g.K.Sink.written c.args.sink.now) (g.K.Sink.written c.write_whole-2.new.sink) l) c.deref-2.ensures.value c.in-Ok-write_whole.ensures.text;
+      appended = subst (λ (l : List ℕ). Appends (g.K.Sink.written c.args.sink.now) (g.K.Sink.written c.write_whole-2.new.sink) l) c.deref.ensures.value c.in-Ok-write_whole.ensures.text;
       outcome = written-whole _ _ _ _ c.in-Ok-answer.answer.status text (answer-status _ _ _ _ a)
           (command-answers _ _ _ _ c.in-Some.command c.in-Ok-answer.answer.status text c.in-Some.ensures read.answer.2 read.answer.1 a);
     }
 
 pub returns-in-Ok-write_whole-clause-read_fault : goal.returns-in-Ok-write_whole-clause-read_fault
 returns-in-Ok-write_whole-clause-read_fault g c e = absurd
-    (no-answer c.in-Some.command c.deref.result.now c.in-Ok-answer.answer.status ReadFault c.in-Ok-answer.answer.text.items (λ none. none) c.in-Ok-answer.ensures e)
+    (no-answer c.in-Some.command c.in-Ok-read_whole.bytes.items c.in-Ok-answer.answer.status ReadFault c.in-Ok-answer.answer.text.items (λ none. none) c.in-Ok-answer.ensures e)
 
 pub returns-in-Ok-write_whole-clause-write_fault : goal.returns-in-Ok-write_whole-clause-write_fault
 returns-in-Ok-write_whole-clause-write_fault g c e = absurd
-    (no-answer c.in-Some.command c.deref.result.now c.in-Ok-answer.answer.status WriteFault c.in-Ok-answer.answer.text.items (λ none. none) c.in-Ok-answer.ensures e)
+    (no-answer c.in-Some.command c.in-Ok-read_whole.bytes.items c.in-Ok-answer.answer.status WriteFault c.in-Ok-answer.answer.text.items (λ none. none) c.in-Ok-answer.ensures e)
 
 pub returns-clause-outcome : goal.returns-clause-outcome
 returns-clause-outcome g c =
     let read = c.in-Ok-read_whole.ensures.bytes in
-    let whole : c.deref.result.now ≡ read.taken = c.deref.ensures.value ∙ read.answer.0 in
+    let whole : c.in-Ok-read_whole.bytes.items ≡ read.taken = read.answer.0 in
     let text = c.in-Ok-answer.answer.text.items in
     let a = subst (λ (l : List ℕ). IsCommandAnswer c.in-Some.command l c.in-Ok-answer.answer.status text) whole c.in-Ok-answer.ensures in
     let part : (n : ℕ) × (n < length text) × Appends (g.K.Sink.written c.args.sink.now) (g.K.Sink.written c.write_whole-2.new.sink) (take n text)
     = subst (λ (l : List ℕ). (n : ℕ) × (n < length l) × Appends (g.K.Sink.written c.args.sink.now) (g.K.Sink.written c.write_whole-2.new.sink) (take n l))
-    c.deref-2.ensures.value c.in-Err-write_whole.ensures.text in
+    c.deref.ensures.value c.in-Err-write_whole.ensures.text in
     cut-short _ _ _ _ _ _ c.in-Ok-answer.answer.status read.taken text part.0 read.consumed
     (command-answers _ _ _ _ c.in-Some.command c.in-Ok-answer.answer.status text c.in-Some.ensures read.answer.2 read.answer.1 a) part.1 part.2
 
@@ -51,7 +51,7 @@ returns-in-Ok-write_whole-clause-unread g c none = absurd (none (c.in-Some.comma
 
 pub returns-in-Ok-write_whole-clause-unwritten : goal.returns-in-Ok-write_whole-clause-unwritten
 returns-in-Ok-write_whole-clause-unwritten g c silent = absurd
-    (not-silent c.in-Ok-answer.answer.status (answer-status c.in-Some.command c.deref.result.now c.in-Ok-answer.answer.status c.in-Ok-answer.answer.text.items c.in-Ok-answer.ensures) silent)
+    (not-silent c.in-Ok-answer.answer.status (answer-status c.in-Some.command c.in-Ok-read_whole.bytes.items c.in-Ok-answer.answer.status c.in-Ok-answer.answer.text.items c.in-Ok-answer.ensures) silent)
 
 pub returns-clause-unread : goal.returns-clause-unread
 returns-clause-unread g c none = absurd (none (c.in-Some.command, c.in-Some.ensures))
