@@ -9,7 +9,7 @@ use Rattle.p3_lookup.specs.declared.terminal.LookupError.{LookupError}
 use Rattle.batch_statement.specs.declared.error.BatchVerificationError.{BatchVerificationError}
 use Rattle.batch_statement.specs.declared.error.BatchVerificationError.TheVariants.{Verification, Lookup, OutOfMemory}
 use Rattle.batch_shape_checks.specs.ShapeChecks.{is_there}
-use Rattle.batch_claims.specs.ClaimChecks.{bits_between, bits_of, chunks_counted, counts_of, first_made, listed_of, made_by, matrices_of, matrix_fits, entries_in, next_opened, nexts_of, random_of, rows_of, rows_paired, sizes_fit, sizes_of}
+use Rattle.batch_claims.specs.ClaimChecks.{bits_between, degree_bits_of, chunks_counted, counts_of, first_made, listed_of, made_by, matrices_of, matrix_fits, entries_in, next_opened_check, nexts_of, random_of, permutation_rows_of, rows_paired, sizes_fit, sizes_of}
 use Rattle.batch_claims.specs.Claims.{Claimed, matrix_tables}
 
 -- an answer that is none of a list's refusals is none of longer lists' either
@@ -49,13 +49,13 @@ module _ {F E C : Type 0} (R : Type 0) (q : Claimed F E C) (w : List ℕ) where
   unfolding first_made
   not_first least most =
       let l = listed_of q {R = R} w in
-      let b = bits_of q {R = R} least most in
+      let b = degree_bits_of q {R = R} least most in
       let d = random_of q {R = R} in
       not_of_both OutOfMemory (l ++ b ++ d) (nexts_of q {R = R})
       (not_of_both OutOfMemory (l ++ b) d
       (not_of_both OutOfMemory l b (alone _ _) (not_in_turn OutOfMemory (bits_between {R = R} least most q.degree_bits) (length q.declarations) (λ i. before _ _ _ (alone _ _))))
       (alone _ _))
-      (not_in_turn OutOfMemory (next_opened {R = R} q.declarations q.instances) (length q.declarations) (λ i. alone _ _))
+      (not_in_turn OutOfMemory (next_opened_check {R = R} q.declarations q.instances) (length q.declarations) (λ i. alone _ _))
 
   -- none of all checks
   pub not_made : (masks least most two : ℕ) → FirstFails (made_by {R = R} masks least most two q w) OutOfMemory → ⊥
@@ -65,7 +65,7 @@ module _ {F E C : Type 0} (R : Type 0) (q : Claimed F E C) (w : List ℕ) where
       let s = sizes_of q {R = R} masks most two in
       let c = counts_of q {R = R} masks in
       let m = matrices_of q {R = R} w in
-      not_of_both OutOfMemory (a ++ s ++ c ++ m) (rows_of q {R = R})
+      not_of_both OutOfMemory (a ++ s ++ c ++ m) (permutation_rows_of q {R = R})
       (not_of_both OutOfMemory (a ++ s ++ c) m
       (not_of_both OutOfMemory (a ++ s) c
       (not_of_both OutOfMemory a s (not_first least most)
@@ -76,15 +76,15 @@ module _ {F E C : Type 0} (R : Type 0) (q : Claimed F E C) (w : List ℕ) where
       (not_in_turn OutOfMemory (rows_paired {R = R} (is_there q.commitments.permutation) q.instances) (length q.declarations)
       (λ i. not_of_check OutOfMemory _ _ [] (not_lookup _) (not_of_none OutOfMemory)))
 
--- so memory runs out only where no check fails: at the exit of a refused check, and behind all checks
+-- so memory runs out only where no check fails: at the exit of a refused check, and after all checks
 pub refused_in_memory : {T R : Type 0} (cs : List (Check (BatchVerificationError R))) (e : BatchVerificationError R) (r : Result T (BatchVerificationError R))
     → (FirstFails cs OutOfMemory → ⊥) → IsErrAnd r (λ y. y ≡ e) → FirstFails cs e → IfErr r (λ y. y ≡ OutOfMemory → NoneFails cs)
 refused_in_memory cs e (Err y) n p v = λ o. absurd (n (subst (FirstFails cs) (sym p ∙ o) v))
 refused_in_memory cs e (Ok t) n p v = tt
 
-pub behind_all : {T R : Type 0} (cs : List (Check (BatchVerificationError R))) (r : Result T (BatchVerificationError R)) → NoneFails cs → IfErr r (λ y. y ≡ OutOfMemory → NoneFails cs)
-behind_all cs (Err y) h = λ o. h
-behind_all cs (Ok t) h = tt
+pub after_all : {T R : Type 0} (cs : List (Check (BatchVerificationError R))) (r : Result T (BatchVerificationError R)) → NoneFails cs → IfErr r (λ y. y ≡ OutOfMemory → NoneFails cs)
+after_all cs (Err y) h = λ o. h
+after_all cs (Ok t) h = tt
 
 -- what the exit of a `?` returns is the error of the call before it
 pub exits_in_memory : {T R : Type 0} (cs : List (Check (BatchVerificationError R))) (e : BatchVerificationError R) (r : Result T (BatchVerificationError R))

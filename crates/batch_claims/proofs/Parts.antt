@@ -4,7 +4,7 @@ use Rattle.std.proofs.lemmas.Nat.{pow-add}
 use Rattle.std.proofs.lemmas.Option.{slice_get-get_or}
 use Rattle.p3_field.specs.Ring.{Ring}
 use Rattle.p3_field.specs.Domain.{CosetData, point}
-use Rattle.p3_field.specs.Laws.Tables.{table_of_items, table_same}
+use Rattle.p3_field.specs.Laws.Tabulate.{tabulate_items, tabulate_same}
 use Rattle.p3_matrix.specs.Laws.Powers.{power_cancel, power_le_cancel}
 use Rattle.p3_commit.specs.Space.{EachOf, IsPart, IsOffered}
 use Rattle.batch_setting.specs.Domains.{offered, parts_of}
@@ -23,8 +23,8 @@ parts_are : {F : Type 0} (r : Ring F) (root : ℕ → F) (d : CosetData F) (k : 
     → es ≡ parts_of r root d k
 parts_are r root d k es e =
     let z = record d { log_size = 0 } in
-    table_of_items z es (2 ^ k) e.count
-    ∙ table_same (2 ^ k) (λ i. get_or es i z) (λ i. record { shift = point r root d i; log_size = d.log_size - k })
+    tabulate_items z es (2 ^ k) e.count
+    ∙ tabulate_same (2 ^ k) (λ i. get_or es i z) (λ i. record { shift = point r root d i; log_size = d.log_size - k })
     (λ i b. part_is r root d k i (get_or es i z) (e.each i (get_or es i z) (slice_get-get_or es i z (omega (arith, e.count)))))
 
 -- the domain that is offered with 2^(log + k) points

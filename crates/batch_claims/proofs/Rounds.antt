@@ -1,15 +1,15 @@
--- The rounds of claims behind each other.
+-- The rounds of claims one after another.
 use Rattle.std.proofs.Common.{◌≡◌, ℕ, List, ◌++◌, Option, Some, length, sym, ◌∙◌, ap, subst}
 use Rattle.std.specs.List.{flat_map}
 use Rattle.p3_field.specs.Ring.{Ring}
-use Rattle.p3_field.specs.Poly.{table}
+use Rattle.p3_field.specs.Poly.{tabulate}
 use Rattle.p3_field.specs.Domain.{CosetData}
 use Rattle.p3_air.specs.Shape.{Declaration}
 use Rattle.p3_commit.specs.Claims.{CommitmentClaim}
 use Rattle.batch_statement.specs.declared.commitments.BatchCommitments.{BatchCommitments}
 use Rattle.batch_claims.specs.ClaimChecks.{AreSized}
 use Rattle.batch_setting.specs.Domains.{next_by}
-use Rattle.batch_claims.specs.Claims.{round, random_claim, main_claim, chunk_claims, matrix_claim, permutation_claims, claims_by}
+use Rattle.batch_claims.specs.Claims.{claims_of_round, random_claim, main_claim, chunk_claims, preprocessed_matrix_claim, permutation_claims, claims_by}
 use Rattle.batch_statement.specs.Proof.{OpenedWithLookups}
 
 -- lists that grow by five
@@ -21,26 +21,26 @@ pub rounds_are : {F E C : Type 0} (r : Ring F) (zeta : E) (after : ℕ → E) (m
     (declarations : List (Declaration F)) (commitments : BatchCommitments C) (preprocessed : Option C) (matrices : List ℕ) (degree_bits : List ℕ) (instances : List (OpenedWithLookups E))
     (m n k : ℕ) (v w x y z : List (CommitmentClaim E C (CosetData F)))
     → m ≡ length declarations → n ≡ length declarations → k ≡ length declarations
-    → v ≡ round commitments.random (table m (random_claim r zeta degree_bits instances))
-    → w ≡ v ++ round (Some commitments.main) (table n (main_claim r zeta after declarations degree_bits instances))
-    → x ≡ w ++ round (Some commitments.quotient_chunks) (flat_map (chunk_claims r zeta masks domains instances) (table k (λ i. i)))
-    → y ≡ x ++ round preprocessed (table (length matrices) (matrix_claim r zeta after declarations degree_bits instances matrices))
-    → z ≡ y ++ round commitments.permutation (flat_map (permutation_claims r zeta after degree_bits instances) (table m (λ i. i)))
+    → v ≡ claims_of_round commitments.random (tabulate m (random_claim r zeta degree_bits instances))
+    → w ≡ v ++ claims_of_round (Some commitments.main) (tabulate n (main_claim r zeta after declarations degree_bits instances))
+    → x ≡ w ++ claims_of_round (Some commitments.quotient_chunks) (flat_map (chunk_claims r zeta masks domains instances) (tabulate k (λ i. i)))
+    → y ≡ x ++ claims_of_round preprocessed (tabulate (length matrices) (preprocessed_matrix_claim r zeta after declarations degree_bits instances matrices))
+    → z ≡ y ++ claims_of_round commitments.permutation (flat_map (permutation_claims r zeta after degree_bits instances) (tabulate m (λ i. i)))
     → z ≡ claims_by r zeta after masks domains declarations commitments preprocessed matrices degree_bits instances
 unfolding claims_by
 rounds_are r zeta after masks domains declarations commitments preprocessed matrices degree_bits instances m n k v w x y z a b c p q s t u =
     five_joined
-    (round commitments.random (table (length declarations) (random_claim r zeta degree_bits instances)))
-    (round (Some commitments.main) (table (length declarations) (main_claim r zeta after declarations degree_bits instances)))
-    (round (Some commitments.quotient_chunks) (flat_map (chunk_claims r zeta masks domains instances) (table (length declarations) (λ i. i))))
-    (round preprocessed (table (length matrices) (matrix_claim r zeta after declarations degree_bits instances matrices)))
-    (round commitments.permutation (flat_map (permutation_claims r zeta after degree_bits instances) (table (length declarations) (λ i. i))))
+    (claims_of_round commitments.random (tabulate (length declarations) (random_claim r zeta degree_bits instances)))
+    (claims_of_round (Some commitments.main) (tabulate (length declarations) (main_claim r zeta after declarations degree_bits instances)))
+    (claims_of_round (Some commitments.quotient_chunks) (flat_map (chunk_claims r zeta masks domains instances) (tabulate (length declarations) (λ i. i))))
+    (claims_of_round preprocessed (tabulate (length matrices) (preprocessed_matrix_claim r zeta after declarations degree_bits instances matrices)))
+    (claims_of_round commitments.permutation (flat_map (permutation_claims r zeta after degree_bits instances) (tabulate (length declarations) (λ i. i))))
     v w x y z
-    (p ∙ ap (λ l. round commitments.random (table l (random_claim r zeta degree_bits instances))) a)
-    (q ∙ ap (λ l. v ++ round (Some commitments.main) (table l (main_claim r zeta after declarations degree_bits instances))) b)
-    (s ∙ ap (λ l. w ++ round (Some commitments.quotient_chunks) (flat_map (chunk_claims r zeta masks domains instances) (table l (λ i. i)))) c)
+    (p ∙ ap (λ l. claims_of_round commitments.random (tabulate l (random_claim r zeta degree_bits instances))) a)
+    (q ∙ ap (λ l. v ++ claims_of_round (Some commitments.main) (tabulate l (main_claim r zeta after declarations degree_bits instances))) b)
+    (s ∙ ap (λ l. w ++ claims_of_round (Some commitments.quotient_chunks) (flat_map (chunk_claims r zeta masks domains instances) (tabulate l (λ i. i)))) c)
     t
-    (u ∙ ap (λ l. y ++ round commitments.permutation (flat_map (permutation_claims r zeta after degree_bits instances) (table l (λ i. i)))) a)
+    (u ∙ ap (λ l. y ++ claims_of_round commitments.permutation (flat_map (permutation_claims r zeta after degree_bits instances) (tabulate l (λ i. i)))) a)
 
 -- the same claims, of lists that are equal
 pub claims_agree : {F E C : Type 0} (r : Ring F) (zeta : E) (t : Ring E) (embed : F → E) (root : ℕ → F) (declarations : List (Declaration F)) (degree_bits : List ℕ)
@@ -59,5 +59,5 @@ sized_agree two n degree_bits a b v w d e p q r z =
     subst (λ k. AreSized k two n degree_bits w e) (sym p) (subst (λ k. AreSized a two n degree_bits k e) (sym q) (subst (λ k. AreSized a two n degree_bits v k) (sym r) z))
 
 -- a table of as many items
-pub table_until : {X : Type 0} (t : ℕ → X) (n m : ℕ) (d : List X) → n ≡ m → d ≡ table n t → d ≡ table m t
-table_until t n m d e h = h ∙ ap (λ k. table k t) e
+pub tabulate_until : {X : Type 0} (t : ℕ → X) (n m : ℕ) (d : List X) → n ≡ m → d ≡ tabulate n t → d ≡ tabulate m t
+tabulate_until t n m d e h = h ∙ ap (λ k. tabulate k t) e

@@ -3,7 +3,7 @@ use Rattle.std.specs.Prelude.{ℕ, ◌+◌, List, [], ◌∷◌, ◌++◌, lengt
 use Rattle.std.specs.Prelude.{slice_index_or as get_or}
 use Rattle.std.specs.List.{flat_map}
 use Rattle.p3_field.specs.Ring.{Ring}
-use Rattle.p3_field.specs.Poly.{table}
+use Rattle.p3_field.specs.Poly.{tabulate}
 use Rattle.p3_field.specs.Domain.{CosetData}
 use Rattle.p3_field.specs.Laws.SubgroupSelectors.{subgroup}
 use Rattle.p3_air.specs.Shape.{Declaration}
@@ -37,7 +37,7 @@ claimed_of declaration airs preprocessed commitments instances degree_bits log_c
   log_chunks = log_chunks;
 }
 
--- the items of table i; behind the end of a list stands what is never read
+-- the items of table i; past the end of a list stands what is never read
 abbrev pub declared_at : {F : Type 0} → List (Declaration F) → ℕ → Declaration F
 declared_at {F = F} declarations i = get_or declarations i (no_table {F = F}).declaration
 
@@ -56,17 +56,17 @@ abbrev pub commitment_in : {C : Type 0} → Option (PreprocessedTracesData C) �
 commitment_in p = option_map (λ g. g.commitment) p
 
 -- a row that is absent has no values
-abbrev pub values_in : {E : Type 0} → Option (List E) → List E
-values_in None = []
-values_in (Some xs) = xs
+abbrev pub values_where_there : {E : Type 0} → Option (List E) → List E
+values_where_there None = []
+values_where_there (Some xs) = xs
 
 -- the current preprocessed row, and the next one
-abbrev pub local_row : {E : Type 0} → Option (PreprocessedData E) → List E
-local_row None = []
-local_row (Some p) = p.local
+abbrev pub preprocessed_local_row : {E : Type 0} → Option (PreprocessedData E) → List E
+preprocessed_local_row None = []
+preprocessed_local_row (Some p) = p.local
 
-abbrev pub next_row : {E : Type 0} → Option (PreprocessedData E) → List E
-next_row p = values_in (preprocessed_next_of p)
+abbrev pub preprocessed_next_row : {E : Type 0} → Option (PreprocessedData E) → List E
+preprocessed_next_row p = values_where_there (preprocessed_next_of p)
 
 -- a row has these values at the point
 abbrev pub at_point : {E : Type 0} → E → List E → PointClaim E
@@ -82,14 +82,14 @@ abbrev pub on_subgroup : {F E : Type 0} → Ring F → (bits : ℕ) → List (Po
 on_subgroup r bits points = record { domain = subgroup r bits; points = points }
 
 -- the claims on a commitment, where there is one
-abbrev pub round : {E C D : Type 0} → Option C → List (MatrixClaim E D) → List (CommitmentClaim E C D)
-round None claims = []
-round (Some commitment) claims = record { commitment = commitment; matrices = claims } ∷ []
+abbrev pub claims_of_round : {E C D : Type 0} → Option C → List (MatrixClaim E D) → List (CommitmentClaim E C D)
+claims_of_round None claims = []
+claims_of_round (Some commitment) claims = record { commitment = commitment; matrices = claims } ∷ []
 
 module _ {F E : Type 0} (r : Ring F) (zeta : E) where
   -- what is random of table i, at zeta
   abbrev pub random_claim : (degree_bits : List ℕ) → List (OpenedWithLookups E) → ℕ → MatrixClaim E (CosetData F)
-  random_claim degree_bits instances i = on_subgroup r (bits_at degree_bits i) (at_point zeta (values_in (instance_at instances i).base.random) ∷ [])
+  random_claim degree_bits instances i = on_subgroup r (bits_at degree_bits i) (at_point zeta (values_where_there (instance_at instances i).base.random) ∷ [])
 
   -- chunk j, at zeta: on the natural domain of the size of its own, times two where the backend masks
   abbrev pub chunk_claim : (masks : ℕ) → List (CosetData F) → List (List E) → ℕ → MatrixClaim E (CosetData F)
@@ -98,7 +98,7 @@ module _ {F E : Type 0} (r : Ring F) (zeta : E) where
   -- all chunks of table i, whose domains are listed
   abbrev pub chunk_claims : (masks : ℕ) → List (List (CosetData F)) → List (OpenedWithLookups E) → ℕ → List (MatrixClaim E (CosetData F))
   chunk_claims masks domains instances i =
-      table (length (get_or domains i [])) (chunk_claim masks (get_or domains i []) (instance_at instances i).base.quotient_chunks)
+      tabulate (length (get_or domains i [])) (chunk_claim masks (get_or domains i []) (instance_at instances i).base.quotient_chunks)
 
   -- permutation columns, where the current row has a value: at zeta and at the next point
   abbrev pub where_opened : (after : E) → (bits : ℕ) → (local next : List E) → List (MatrixClaim E (CosetData F))
@@ -111,18 +111,18 @@ module _ {F E : Type 0} (r : Ring F) (zeta : E) (after : ℕ → E) where
   abbrev pub main_claim : List (Declaration F) → (degree_bits : List ℕ) → List (OpenedWithLookups E) → ℕ → MatrixClaim E (CosetData F)
   main_claim declarations degree_bits instances i =
       on_subgroup r (bits_at degree_bits i) (at_point zeta (instance_at instances i).base.trace_local
-      ∷ where_declared (declared_at declarations i).main_next (at_point (after (bits_at degree_bits i)) (values_in (instance_at instances i).base.trace_next)))
+      ∷ where_declared (declared_at declarations i).main_next (at_point (after (bits_at degree_bits i)) (values_where_there (instance_at instances i).base.trace_next)))
 
   -- its preprocessed columns, likewise
   abbrev pub preprocessed_claim : List (Declaration F) → (degree_bits : List ℕ) → List (OpenedWithLookups E) → ℕ → MatrixClaim E (CosetData F)
   preprocessed_claim declarations degree_bits instances i =
-      on_subgroup r (bits_at degree_bits i) (at_point zeta (local_row (instance_at instances i).base.preprocessed)
+      on_subgroup r (bits_at degree_bits i) (at_point zeta (preprocessed_local_row (instance_at instances i).base.preprocessed)
       ∷ where_declared (declared_at declarations i).preprocessed_next
-      (at_point (after (bits_at degree_bits i)) (next_row (instance_at instances i).base.preprocessed)))
+      (at_point (after (bits_at degree_bits i)) (preprocessed_next_row (instance_at instances i).base.preprocessed)))
 
   -- those of the table of preprocessed matrix m
-  abbrev pub matrix_claim : List (Declaration F) → (degree_bits : List ℕ) → List (OpenedWithLookups E) → (matrices : List ℕ) → ℕ → MatrixClaim E (CosetData F)
-  matrix_claim declarations degree_bits instances matrices m = preprocessed_claim declarations degree_bits instances (get_or matrices m 0)
+  abbrev pub preprocessed_matrix_claim : List (Declaration F) → (degree_bits : List ℕ) → List (OpenedWithLookups E) → (matrices : List ℕ) → ℕ → MatrixClaim E (CosetData F)
+  preprocessed_matrix_claim declarations degree_bits instances matrices m = preprocessed_claim declarations degree_bits instances (get_or matrices m 0)
 
   -- the permutation columns of table i
   abbrev pub permutation_claims : (degree_bits : List ℕ) → List (OpenedWithLookups E) → ℕ → List (MatrixClaim E (CosetData F))
@@ -139,18 +139,18 @@ unfoldable pub claims_by : {F E C : Type 0} → Ring F → (zeta : E) → (after
     → List (Declaration F) → BatchCommitments C → (preprocessed : Option C) → (matrices : List ℕ) → (degree_bits : List ℕ) → List (OpenedWithLookups E)
     → List (CommitmentClaim E C (CosetData F))
 claims_by r zeta after masks domains declarations commitments preprocessed matrices degree_bits instances =
-    round commitments.random (table (length declarations) (random_claim r zeta degree_bits instances))
-    ++ round (Some commitments.main) (table (length declarations) (main_claim r zeta after declarations degree_bits instances))
-    ++ round (Some commitments.quotient_chunks) (flat_map (chunk_claims r zeta masks domains instances) (table (length declarations) (λ i. i)))
-    ++ round preprocessed (table (length matrices) (matrix_claim r zeta after declarations degree_bits instances matrices))
-    ++ round commitments.permutation (flat_map (permutation_claims r zeta after degree_bits instances) (table (length declarations) (λ i. i)))
+    claims_of_round commitments.random (tabulate (length declarations) (random_claim r zeta degree_bits instances))
+    ++ claims_of_round (Some commitments.main) (tabulate (length declarations) (main_claim r zeta after declarations degree_bits instances))
+    ++ claims_of_round (Some commitments.quotient_chunks) (flat_map (chunk_claims r zeta masks domains instances) (tabulate (length declarations) (λ i. i)))
+    ++ claims_of_round preprocessed (tabulate (length matrices) (preprocessed_matrix_claim r zeta after declarations degree_bits instances matrices))
+    ++ claims_of_round commitments.permutation (flat_map (permutation_claims r zeta after degree_bits instances) (tabulate (length declarations) (λ i. i)))
 
 -- the same over a configuration
 module _ {S F E C : Type 0} (c : Setting S F E C) (q : Claimed F E C) where
   -- the domains of each table's chunks
   abbrev pub all_chunk_domains : List (List (CosetData F))
   all_chunk_domains =
-      table (length q.declarations) (chunk_domains_at c.field.ring c.field.root c.field.generator (masks c) q.degree_bits q.log_chunks)
+      tabulate (length q.declarations) (chunk_domains_at c.field.ring c.field.root c.field.generator (masks c) q.degree_bits q.log_chunks)
 
   -- the claims of a proof at zeta
   abbrev pub claims : (zeta : E) → List (CommitmentClaim E C (CosetData F))

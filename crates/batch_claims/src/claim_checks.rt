@@ -2,7 +2,7 @@
 ghost use Rattle.std.specs.Prelude.{◌≡◌, ℕ, ◌+◌, ◌<◌, ◌↔◌, IsTrue, All, Some, None, true, length, map};
 ghost use Rattle.std.specs.Prelude.{slice_index_or as get_or};
 ghost use Rattle.p3_field.specs.Checks.{in_turn};
-ghost use Rattle.batch_claims.specs.ClaimChecks.{AreListed, listed_check, bits_between, random_check, next_opened, chunks_counted, columns_fit, entries_in, matrix_fits, rows_paired};
+ghost use Rattle.batch_claims.specs.ClaimChecks.{HaveClaimLengths, listed_check, bits_between, random_check, next_opened_check, chunks_counted, columns_fit, entries_in, matrix_fits, rows_paired};
 ghost use Rattle.batch_claims.specs.Claims.{matrix_tables};
 ghost use Rattle.batch_shape_checks.specs.ShapeChecks.{HasEntries, is_there};
 ghost use Rattle.batch_shape_checks.specs.Verdict.{IsDecided};
@@ -31,7 +31,7 @@ fn are_listed<Com>(
     widths: usize,
     chunks: usize,
 ) -> bool
-    ensures { IsTrue result ↔ AreListed tables preprocessed.now instances degree_bits widths chunks }
+    ensures { IsTrue result ↔ HaveClaimLengths tables preprocessed.now instances degree_bits widths chunks }
 {
     instances == tables
         && degree_bits == tables
@@ -138,7 +138,7 @@ fn next_at_index<F: FieldCore, A: BaseAir<F>, E, R>(
 ) -> Result<(), BatchVerificationError<R>>
     requires airs { index < length airs.now }
     requires instances { index < length instances.now }
-    ensures { IsDecided (next_opened (map A.declaration airs.now) instances.now index) result }
+    ensures { IsDecided (next_opened_check (map A.declaration airs.now) instances.now index) result }
 {
     if declares_next(&airs[index]) && !has_next(&instances[index]) {
         return Err(InvalidProofShapeError::TraceNextMismatch { air: Some(index) }.into());
@@ -152,7 +152,7 @@ pub(crate) fn all_next<F: FieldCore, A: BaseAir<F>, E, R>(
     instances: &[OpenedValuesWithLookups<E>],
 ) -> Result<(), BatchVerificationError<R>>
     requires instances { length instances.now ≡ length airs.now }
-    ensures { IsDecided (in_turn (length airs.now) (next_opened (map A.declaration airs.now) instances.now)) result }
+    ensures { IsDecided (in_turn (length airs.now) (next_opened_check (map A.declaration airs.now) instances.now)) result }
 {
     for index in 0..airs.len() {
         next_at_index(index, airs, instances)?;
@@ -293,7 +293,8 @@ pub(crate) fn all_matrices<F: FieldCore, A: BaseAir<F>, E, Com, R>(
     requires bits { length degree_bits.now ≡ length airs.now }
     requires widths { length widths.now ≡ length airs.now }
     requires instances { length instances.now ≡ length airs.now }
-    ensures { IsDecided (in_turn (length (matrix_tables preprocessed.now)) (matrix_fits (map A.declaration airs.now) (matrix_tables preprocessed.now) (entries_in preprocessed.now) degree_bits.now widths.now instances.now)) result }
+    ensures { IsDecided (in_turn (length (matrix_tables preprocessed.now))
+        (matrix_fits (map A.declaration airs.now) (matrix_tables preprocessed.now) (entries_in preprocessed.now) degree_bits.now widths.now instances.now)) result }
 {
     match preprocessed {
         None => Ok(()),

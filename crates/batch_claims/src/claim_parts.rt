@@ -3,9 +3,9 @@ ghost use Rattle.std.specs.Prelude.{◌≡◌, ℕ, ◌+◌, ◌<◌, ◌≤◌,
 ghost use Rattle.std.specs.Prelude.{slice_index_or as get_or};
 ghost use Rattle.std.specs.List.{flat_map};
 ghost use Rattle.p3_field.specs.Checks.{NoneFails};
-ghost use Rattle.p3_field.specs.Poly.{table};
+ghost use Rattle.p3_field.specs.Poly.{tabulate};
 ghost use Rattle.batch_claims.specs.ClaimChecks.{AreSized, first_made, made_by};
-ghost use Rattle.batch_claims.specs.Claims.{bits_at, chunk_claims, chunk_domains_at, claimed_of, claims_by, instance_at, main_claim, matrix_claim, matrix_tables, permutation_claims, random_claim, round};
+ghost use Rattle.batch_claims.specs.Claims.{bits_at, chunk_claims, chunk_domains_at, claimed_of, claims_by, instance_at, main_claim, preprocessed_matrix_claim, matrix_tables, permutation_claims, random_claim, claims_of_round};
 ghost use Rattle.batch_setting.specs.Domains.{next_by};
 ghost use Rattle.batch_shape_checks.specs.Verdict.{IsDecided, IsVerdict};
 
@@ -102,9 +102,11 @@ pub(crate) fn made<F: TwoAdicField, A: BaseAir<F>, E, Com, R>(
     requires masked { masks ≤ least }
     requires fits { most ≤ F.TWO_ADICITY }
     requires listed { All (λ i. i < length airs.now) (matrix_tables preprocessed.now) }
-    ensures verdict { IsVerdict (made_by masks least most F.TWO_ADICITY (claimed_of A.declaration airs.now preprocessed.now commitments.now instances.now degree_bits.now log_chunks.now) widths.now) result }
-    ensures memory { IfErr result (λ e. e ≡ BatchVerificationError.OutOfMemory → NoneFails (made_by {R = R} masks least most F.TWO_ADICITY (claimed_of A.declaration airs.now preprocessed.now commitments.now instances.now degree_bits.now log_chunks.now) widths.now)) }
-    ensures domains { IfOk result (λ v. map (λ d. d.items) v.items ≡ table (length airs.now) (chunk_domains_at F.ring F.root F.GENERATOR masks degree_bits.now log_chunks.now)) }
+    ensures verdict { IsVerdict (made_by masks least most F.TWO_ADICITY
+        (claimed_of A.declaration airs.now preprocessed.now commitments.now instances.now degree_bits.now log_chunks.now) widths.now) result }
+    ensures memory { IfErr result (λ e. e ≡ BatchVerificationError.OutOfMemory
+        → NoneFails (made_by {R = R} masks least most F.TWO_ADICITY (claimed_of A.declaration airs.now preprocessed.now commitments.now instances.now degree_bits.now log_chunks.now) widths.now)) }
+    ensures domains { IfOk result (λ v. map (λ d. d.items) v.items ≡ tabulate (length airs.now) (chunk_domains_at F.ring F.root F.GENERATOR masks degree_bits.now log_chunks.now)) }
     ensures sized { IfOk result (λ v. AreSized masks F.TWO_ADICITY (length airs.now) degree_bits.now instances.now (map (λ d. d.items) v.items)) }
 {
     all_checks::<F, A, E, Com, R>(
@@ -123,7 +125,7 @@ pub(crate) fn made<F: TwoAdicField, A: BaseAir<F>, E, Com, R>(
     Ok(domains)
 }
 
-// The claims on a commitment, behind others.
+// The claims on a commitment, after others.
 fn with_round<D, E, Com>(
     alloc: Global,
     made: Vec<CommitmentOpening<E, Com, D>>,
@@ -134,7 +136,7 @@ where
     D: Drop,
     E: Drop,
     Com: Drop,
-    ensures { IfOk result (λ v. v.items ≡ made.items ++ round (Some commitment) matrices.items) }
+    ensures { IfOk result (λ v. v.items ≡ made.items ++ claims_of_round (Some commitment) matrices.items) }
 {
     let mut claims = made;
     claims.push(CommitmentOpening {
@@ -154,7 +156,7 @@ fn random_round<F: TwoAdicField, E: RingCore, Com: Drop>(
 ) -> Mem<Vec<CommitmentOpening<E, Com, TwoAdicMultiplicativeCoset<F>>>>
     requires instances { length instances.now ≡ length degree_bits.now }
     requires fits { (i : ℕ) → i < length degree_bits.now → bits_at degree_bits.now i ≤ F.TWO_ADICITY }
-    ensures { IfOk result (λ v. v.items ≡ round commitment (table (length degree_bits.now) (random_claim F.ring zeta degree_bits.now instances.now))) }
+    ensures { IfOk result (λ v. v.items ≡ claims_of_round commitment (tabulate (length degree_bits.now) (random_claim F.ring zeta degree_bits.now instances.now))) }
 {
     match commitment {
         None => Ok(Vec::new(alloc)),
@@ -165,7 +167,7 @@ fn random_round<F: TwoAdicField, E: RingCore, Com: Drop>(
     }
 }
 
-// The claims on the commitment to preprocessed columns, where there is one, behind others.
+// The claims on the commitment to preprocessed columns, where there is one, after others.
 fn with_preprocessed_round<F: TwoAdicField, A: BaseAir<F>, E: ExtensionField<F>, Com: Drop>(
     alloc: Global,
     made: Vec<CommitmentOpening<E, Com, TwoAdicMultiplicativeCoset<F>>>,
@@ -182,7 +184,9 @@ fn with_preprocessed_round<F: TwoAdicField, A: BaseAir<F>, E: ExtensionField<F>,
     requires instances { length instances.now ≡ length airs.now }
     requires masked { (i : ℕ) → i < length airs.now → masks ≤ bits_at degree_bits.now i }
     requires fits { (i : ℕ) → i < length airs.now → bits_at degree_bits.now i ≤ F.TWO_ADICITY }
-    ensures { IfOk result (λ v. v.items ≡ made.items ++ round commitment (table (length matrices.now) (matrix_claim F.ring zeta (next_by E.ring E.embed F.root masks zeta) (map A.declaration airs.now) degree_bits.now instances.now matrices.now))) }
+    ensures { IfOk result (λ v. v.items
+        ≡ made.items ++ claims_of_round commitment
+        (tabulate (length matrices.now) (preprocessed_matrix_claim F.ring zeta (next_by E.ring E.embed F.root masks zeta) (map A.declaration airs.now) degree_bits.now instances.now matrices.now))) }
 {
     match commitment {
         None => Ok(made),
@@ -201,7 +205,7 @@ fn with_preprocessed_round<F: TwoAdicField, A: BaseAir<F>, E: ExtensionField<F>,
     }
 }
 
-// The claims on the commitment to permutation columns, where there is one, behind others.
+// The claims on the commitment to permutation columns, where there is one, after others.
 fn with_permutation_round<F: TwoAdicField, E: ExtensionField<F>, Com: Drop>(
     alloc: Global,
     made: Vec<CommitmentOpening<E, Com, TwoAdicMultiplicativeCoset<F>>>,
@@ -214,7 +218,9 @@ fn with_permutation_round<F: TwoAdicField, E: ExtensionField<F>, Com: Drop>(
     requires instances { length instances.now ≡ length degree_bits.now }
     requires masked { (i : ℕ) → i < length degree_bits.now → masks ≤ bits_at degree_bits.now i }
     requires fits { (i : ℕ) → i < length degree_bits.now → bits_at degree_bits.now i ≤ F.TWO_ADICITY }
-    ensures { IfOk result (λ v. v.items ≡ made.items ++ round commitment (flat_map (permutation_claims F.ring zeta (next_by E.ring E.embed F.root masks zeta) degree_bits.now instances.now) (table (length degree_bits.now) (λ i. i)))) }
+    ensures { IfOk result (λ v. v.items
+        ≡ made.items ++ claims_of_round commitment
+        (flat_map (permutation_claims F.ring zeta (next_by E.ring E.embed F.root masks zeta) degree_bits.now instances.now) (tabulate (length degree_bits.now) (λ i. i)))) }
 {
     match commitment {
         None => Ok(made),
@@ -246,7 +252,9 @@ fn rounds<F: TwoAdicField, A: BaseAir<F>, E: ExtensionField<F>, Com: Drop>(
     requires fits { (i : ℕ) → i < length airs.now → bits_at degree_bits.now i ≤ F.TWO_ADICITY }
     requires count { (i : ℕ) → i < length airs.now → length (instance_at instances.now i).base.quotient_chunks ≡ length (get_or (map (λ v. v.items) domains.now) i []) }
     requires chunks { (i : ℕ) → i < length airs.now → All (λ d. d.log_size + masks ≤ F.TWO_ADICITY) (get_or (map (λ v. v.items) domains.now) i []) }
-    ensures { IfOk result (λ v. v.items ≡ claims_by F.ring zeta (next_by E.ring E.embed F.root masks zeta) masks (map (λ v. v.items) domains.now) (map A.declaration airs.now) commitments preprocessed matrices.now degree_bits.now instances.now) }
+    ensures { IfOk result (λ v. v.items
+        ≡ claims_by F.ring zeta (next_by E.ring E.embed F.root masks zeta) masks (map (λ v. v.items) domains.now)
+        (map A.declaration airs.now) commitments preprocessed matrices.now degree_bits.now instances.now) }
 {
     let BatchCommitments {
         main,
@@ -297,7 +305,9 @@ pub(crate) fn rounds_over<F: TwoAdicField, A: BaseAir<F>, E: ExtensionField<F>, 
 ) -> Mem<Vec<CommitmentOpening<E, Com, TwoAdicMultiplicativeCoset<F>>>>
     requires listed { All (λ i. i < length airs.now) matrices.now }
     requires sized { AreSized masks F.TWO_ADICITY (length airs.now) degree_bits.now instances.now (map (λ v. v.items) domains.now) }
-    ensures { IfOk result (λ v. v.items ≡ claims_by F.ring zeta (next_by E.ring E.embed F.root masks zeta) masks (map (λ v. v.items) domains.now) (map A.declaration airs.now) commitments preprocessed matrices.now degree_bits.now instances.now) }
+    ensures { IfOk result (λ v. v.items
+        ≡ claims_by F.ring zeta (next_by E.ring E.embed F.root masks zeta) masks (map (λ v. v.items) domains.now)
+        (map A.declaration airs.now) commitments preprocessed matrices.now degree_bits.now instances.now) }
 {
     rounds(
         alloc,

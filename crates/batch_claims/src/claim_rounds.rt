@@ -2,8 +2,8 @@
 ghost use Rattle.std.specs.Prelude.{◌≡◌, ℕ, ◌+◌, ◌<◌, ◌≤◌, ◌++◌, [], ◌∷◌, All, length, map, IfOk, option_map};
 ghost use Rattle.std.specs.Prelude.{slice_index_or as get_or};
 ghost use Rattle.std.specs.List.{flat_map};
-ghost use Rattle.p3_field.specs.Poly.{table};
-ghost use Rattle.batch_claims.specs.Claims.{at_point, bits_at, chunk_claim, chunk_claims, instance_at, local_row, main_claim, matrix_claim, next_row, on_subgroup, permutation_claims, preprocessed_claim, random_claim, values_in, where_declared, where_opened};
+ghost use Rattle.p3_field.specs.Poly.{tabulate};
+ghost use Rattle.batch_claims.specs.Claims.{at_point, bits_at, chunk_claim, chunk_claims, instance_at, preprocessed_local_row, main_claim, preprocessed_matrix_claim, preprocessed_next_row, on_subgroup, permutation_claims, preprocessed_claim, random_claim, values_where_there, where_declared, where_opened};
 ghost use Rattle.batch_setting.specs.Domains.{next_by};
 
 use crate::domains::extended_domain;
@@ -28,7 +28,7 @@ fn point_claim<E: RingCore>(alloc: Global, point: E, row: &[E]) -> Mem<PointOpen
 
 // The same of a row that may be absent, and then has no values.
 fn present_claim<E: RingCore>(alloc: Global, point: E, row: &Option<Vec<E>>) -> Mem<PointOpening<E>>
-    ensures { IfOk result (λ c. c ≡ at_point point (values_in (option_map (λ v. v.items) row.now))) }
+    ensures { IfOk result (λ c. c ≡ at_point point (values_where_there (option_map (λ v. v.items) row.now))) }
 {
     match row {
         None => point_claim(alloc, point, &[]),
@@ -89,7 +89,7 @@ pub(crate) fn random_claims<F: TwoAdicField, E: RingCore>(
 ) -> Mem<Vec<MatrixOpening<E, TwoAdicMultiplicativeCoset<F>>>>
     requires instances { length instances.now ≡ length degree_bits.now }
     requires fits { (i : ℕ) → i < length degree_bits.now → bits_at degree_bits.now i ≤ F.TWO_ADICITY }
-    ensures { IfOk result (λ v. v.items ≡ table (length degree_bits.now) (random_claim F.ring zeta degree_bits.now instances.now)) }
+    ensures { IfOk result (λ v. v.items ≡ tabulate (length degree_bits.now) (random_claim F.ring zeta degree_bits.now instances.now)) }
 {
     let mut claims = Vec::new(alloc);
     for index in 0..degree_bits.len() {
@@ -99,7 +99,7 @@ pub(crate) fn random_claims<F: TwoAdicField, E: RingCore>(
     Ok(claims)
 }
 
-// The claims at the next point, where next columns are declared, behind others.
+// The claims at the next point, where next columns are declared, after others.
 fn with_next<E: RingCore>(
     alloc: Global,
     points: Vec<PointOpening<E>>,
@@ -107,7 +107,7 @@ fn with_next<E: RingCore>(
     after: E,
     row: &Option<Vec<E>>,
 ) -> Mem<Vec<PointOpening<E>>>
-    ensures { IfOk result (λ v. v.items ≡ points.items ++ where_declared declared.now (at_point after (values_in (option_map (λ v. v.items) row.now)))) }
+    ensures { IfOk result (λ v. v.items ≡ points.items ++ where_declared declared.now (at_point after (values_where_there (option_map (λ v. v.items) row.now)))) }
 {
     if declared.is_empty() {
         return Ok(points);
@@ -128,7 +128,8 @@ fn main_of<F: TwoAdicField, A: BaseAir<F>, E: RingCore>(
     after: E,
 ) -> Mem<MatrixOpening<E, TwoAdicMultiplicativeCoset<F>>>
     requires { bits ≤ F.TWO_ADICITY }
-    ensures { IfOk result (λ m. m ≡ on_subgroup F.ring bits (at_point zeta opened.now.base.trace_local ∷ where_declared (A.declaration air.now).main_next (at_point after (values_in opened.now.base.trace_next)))) }
+    ensures { IfOk result (λ m. m ≡ on_subgroup F.ring bits
+        (at_point zeta opened.now.base.trace_local ∷ where_declared (A.declaration air.now).main_next (at_point after (values_where_there opened.now.base.trace_next)))) }
 {
     let base = &opened.base_opened_values;
     let mut points = Vec::new(alloc);
@@ -182,7 +183,7 @@ pub(crate) fn main_claims<F: TwoAdicField, A: BaseAir<F>, E: ExtensionField<F>>(
     requires instances { length instances.now ≡ length airs.now }
     requires masked { (i : ℕ) → i < length airs.now → masks ≤ bits_at degree_bits.now i }
     requires fits { (i : ℕ) → i < length airs.now → bits_at degree_bits.now i ≤ F.TWO_ADICITY }
-    ensures { IfOk result (λ v. v.items ≡ table (length airs.now) (main_claim F.ring zeta (next_by E.ring E.embed F.root masks zeta) (map A.declaration airs.now) degree_bits.now instances.now)) }
+    ensures { IfOk result (λ v. v.items ≡ tabulate (length airs.now) (main_claim F.ring zeta (next_by E.ring E.embed F.root masks zeta) (map A.declaration airs.now) degree_bits.now instances.now)) }
 {
     let mut claims = Vec::new(alloc);
     for index in 0..airs.len() {
@@ -211,7 +212,7 @@ fn chunk_at<F: TwoAdicField, E: RingCore>(
     one_point(alloc, domain.log_size() + masks, claim)
 }
 
-// The claims on one table's chunks, behind others.
+// The claims on one table's chunks, after others.
 fn with_chunks<F: TwoAdicField, E: RingCore>(
     alloc: Global,
     made: Vec<MatrixOpening<E, TwoAdicMultiplicativeCoset<F>>>,
@@ -222,7 +223,7 @@ fn with_chunks<F: TwoAdicField, E: RingCore>(
 ) -> Mem<Vec<MatrixOpening<E, TwoAdicMultiplicativeCoset<F>>>>
     requires count { length chunks.now ≡ length domains.now }
     requires fits { All (λ d. d.log_size + masks ≤ F.TWO_ADICITY) domains.now }
-    ensures { IfOk result (λ v. v.items ≡ made.items ++ table (length domains.now) (chunk_claim F.ring zeta masks domains.now (map (λ v. v.items) chunks.now))) }
+    ensures { IfOk result (λ v. v.items ≡ made.items ++ tabulate (length domains.now) (chunk_claim F.ring zeta masks domains.now (map (λ v. v.items) chunks.now))) }
 {
     let mut claims = made;
     for index in 0..domains.len() {
@@ -232,7 +233,7 @@ fn with_chunks<F: TwoAdicField, E: RingCore>(
     Ok(claims)
 }
 
-// The claims on one table's chunks, behind those of the tables before.
+// The claims on one table's chunks, after those of the tables before.
 fn with_chunks_at<F: TwoAdicField, E: RingCore>(
     alloc: Global,
     made: Vec<MatrixOpening<E, TwoAdicMultiplicativeCoset<F>>>,
@@ -263,7 +264,7 @@ pub(crate) fn all_chunk_claims<F: TwoAdicField, E: RingCore>(
     requires instances { length instances.now ≡ length domains.now }
     requires count { (i : ℕ) → i < length domains.now → length (instance_at instances.now i).base.quotient_chunks ≡ length (get_or (map (λ v. v.items) domains.now) i []) }
     requires fits { (i : ℕ) → i < length domains.now → All (λ d. d.log_size + masks ≤ F.TWO_ADICITY) (get_or (map (λ v. v.items) domains.now) i []) }
-    ensures { IfOk result (λ v. v.items ≡ flat_map (chunk_claims F.ring zeta masks (map (λ v. v.items) domains.now) instances.now) (table (length domains.now) (λ i. i))) }
+    ensures { IfOk result (λ v. v.items ≡ flat_map (chunk_claims F.ring zeta masks (map (λ v. v.items) domains.now) instances.now) (tabulate (length domains.now) (λ i. i))) }
 {
     let mut claims = Vec::new(alloc);
     for index in 0..domains.len() {
@@ -278,7 +279,7 @@ fn preprocessed_claim_of<E: RingCore>(
     point: E,
     rows: &Option<PreprocessedOpenedValues<E>>,
 ) -> Mem<PointOpening<E>>
-    ensures { IfOk result (λ c. c ≡ at_point point (local_row rows.now)) }
+    ensures { IfOk result (λ c. c ≡ at_point point (preprocessed_local_row rows.now)) }
 {
     match rows {
         None => point_claim(alloc, point, &[]),
@@ -292,7 +293,7 @@ fn preprocessed_next_of<E: RingCore>(
     point: E,
     rows: &Option<PreprocessedOpenedValues<E>>,
 ) -> Mem<PointOpening<E>>
-    ensures { IfOk result (λ c. c ≡ at_point point (next_row rows.now)) }
+    ensures { IfOk result (λ c. c ≡ at_point point (preprocessed_next_row rows.now)) }
 {
     match rows {
         None => point_claim(alloc, point, &[]),
@@ -300,7 +301,7 @@ fn preprocessed_next_of<E: RingCore>(
     }
 }
 
-// The claims on preprocessed rows at the next point, where next columns are declared, behind others.
+// The claims on preprocessed rows at the next point, where next columns are declared, after others.
 fn with_preprocessed_next<E: RingCore>(
     alloc: Global,
     points: Vec<PointOpening<E>>,
@@ -308,7 +309,7 @@ fn with_preprocessed_next<E: RingCore>(
     after: E,
     rows: &Option<PreprocessedOpenedValues<E>>,
 ) -> Mem<Vec<PointOpening<E>>>
-    ensures { IfOk result (λ v. v.items ≡ points.items ++ where_declared declared.now (at_point after (next_row rows.now))) }
+    ensures { IfOk result (λ v. v.items ≡ points.items ++ where_declared declared.now (at_point after (preprocessed_next_row rows.now))) }
 {
     if declared.is_empty() {
         return Ok(points);
@@ -329,7 +330,9 @@ fn preprocessed_of<F: TwoAdicField, A: BaseAir<F>, E: RingCore>(
     after: E,
 ) -> Mem<MatrixOpening<E, TwoAdicMultiplicativeCoset<F>>>
     requires { bits ≤ F.TWO_ADICITY }
-    ensures { IfOk result (λ m. m ≡ on_subgroup F.ring bits (at_point zeta (local_row opened.now.base.preprocessed) ∷ where_declared (A.declaration air.now).preprocessed_next (at_point after (next_row opened.now.base.preprocessed)))) }
+    ensures { IfOk result (λ m. m ≡ on_subgroup F.ring bits
+        (at_point zeta (preprocessed_local_row opened.now.base.preprocessed) ∷ where_declared (A.declaration air.now).preprocessed_next
+        (at_point after (preprocessed_next_row opened.now.base.preprocessed)))) }
 {
     let base = &opened.base_opened_values;
     let mut points = Vec::new(alloc);
@@ -387,7 +390,7 @@ fn matrix_at<F: TwoAdicField, A: BaseAir<F>, E: ExtensionField<F>>(
     requires instances { length instances.now ≡ length airs.now }
     requires masked { (i : ℕ) → i < length airs.now → masks ≤ bits_at degree_bits.now i }
     requires fits { (i : ℕ) → i < length airs.now → bits_at degree_bits.now i ≤ F.TWO_ADICITY }
-    ensures { IfOk result (λ m. m ≡ matrix_claim F.ring zeta (next_by E.ring E.embed F.root masks zeta) (map A.declaration airs.now) degree_bits.now instances.now matrices.now matrix) }
+    ensures { IfOk result (λ m. m ≡ preprocessed_matrix_claim F.ring zeta (next_by E.ring E.embed F.root masks zeta) (map A.declaration airs.now) degree_bits.now instances.now matrices.now matrix) }
 {
     let index = matrices[matrix];
     preprocessed_at(alloc, index, zeta, masks, airs, degree_bits, instances)
@@ -408,7 +411,8 @@ pub(crate) fn all_matrix_claims<F: TwoAdicField, A: BaseAir<F>, E: ExtensionFiel
     requires instances { length instances.now ≡ length airs.now }
     requires masked { (i : ℕ) → i < length airs.now → masks ≤ bits_at degree_bits.now i }
     requires fits { (i : ℕ) → i < length airs.now → bits_at degree_bits.now i ≤ F.TWO_ADICITY }
-    ensures { IfOk result (λ v. v.items ≡ table (length matrices.now) (matrix_claim F.ring zeta (next_by E.ring E.embed F.root masks zeta) (map A.declaration airs.now) degree_bits.now instances.now matrices.now)) }
+    ensures { IfOk result (λ v. v.items
+        ≡ tabulate (length matrices.now) (preprocessed_matrix_claim F.ring zeta (next_by E.ring E.embed F.root masks zeta) (map A.declaration airs.now) degree_bits.now instances.now matrices.now)) }
 {
     let mut claims = Vec::new(alloc);
     for matrix in 0..matrices.len() {
@@ -427,7 +431,7 @@ pub(crate) fn all_matrix_claims<F: TwoAdicField, A: BaseAir<F>, E: ExtensionFiel
     Ok(claims)
 }
 
-// The claim on a table's permutation columns, where a row of them is opened, behind others.
+// The claim on a table's permutation columns, where a row of them is opened, after others.
 fn with_permutation<F: TwoAdicField, E: RingCore>(
     alloc: Global,
     made: Vec<MatrixOpening<E, TwoAdicMultiplicativeCoset<F>>>,
@@ -497,7 +501,8 @@ pub(crate) fn all_permutation_claims<F: TwoAdicField, E: ExtensionField<F>>(
     requires instances { length instances.now ≡ length degree_bits.now }
     requires masked { (i : ℕ) → i < length degree_bits.now → masks ≤ bits_at degree_bits.now i }
     requires fits { (i : ℕ) → i < length degree_bits.now → bits_at degree_bits.now i ≤ F.TWO_ADICITY }
-    ensures { IfOk result (λ v. v.items ≡ flat_map (permutation_claims F.ring zeta (next_by E.ring E.embed F.root masks zeta) degree_bits.now instances.now) (table (length degree_bits.now) (λ i. i))) }
+    ensures { IfOk result (λ v. v.items
+        ≡ flat_map (permutation_claims F.ring zeta (next_by E.ring E.embed F.root masks zeta) degree_bits.now instances.now) (tabulate (length degree_bits.now) (λ i. i))) }
 {
     let mut claims = Vec::new(alloc);
     for index in 0..degree_bits.len() {

@@ -2,7 +2,7 @@
 ghost use Rattle.std.specs.Prelude.{◌≡◌, ◌<◌, Some, None, map, length, IfErr, IfOk};
 ghost use Rattle.std.specs.Prelude.{slice_index_or as get_or};
 ghost use Rattle.p3_field.specs.Checks.{NoneFails};
-ghost use Rattle.p3_field.specs.Poly.{table};
+ghost use Rattle.p3_field.specs.Poly.{tabulate};
 ghost use Rattle.batch_claims.specs.ClaimChecks.{AreSized, made_checks};
 ghost use Rattle.batch_claims.specs.Claims.{bits_at, chunk_domains_at, claimed_of, claims, commitment_in, place_of_preprocessed, rounds_before};
 ghost use Rattle.batch_setting.specs.Domains.{chunk_domains};
@@ -144,7 +144,8 @@ fn made_at<SC: StarkGenericConfig, A: BaseAir<Val<SC>>>(
         IsVerdict (made_checks (⟦<SC as Settings>⟧.setting config.now) claimed preprocessed_widths.now) result }
     ensures memory { let claimed = claimed_of A.declaration airs.now common.now.preprocessed commitments.now opened_values.now degree_bits.now log_num_quotient_chunks.now in
         IfErr result (λ e. e ≡ BatchVerificationError.OutOfMemory → NoneFails (made_checks {R = SC.Pcs.Error} (⟦<SC as Settings>⟧.setting config.now) claimed preprocessed_widths.now)) }
-    ensures domains { IfOk result (λ v. map (λ d. d.items) v.items ≡ table (length airs.now) (chunk_domains_at SC.Val.ring SC.Val.root SC.Val.GENERATOR (masks (⟦<SC as Settings>⟧.setting config.now)) degree_bits.now log_num_quotient_chunks.now)) }
+    ensures domains { IfOk result (λ v. map (λ d. d.items) v.items
+        ≡ tabulate (length airs.now) (chunk_domains_at SC.Val.ring SC.Val.root SC.Val.GENERATOR (masks (⟦<SC as Settings>⟧.setting config.now)) degree_bits.now log_num_quotient_chunks.now)) }
     ensures sized { IfOk result (λ v. AreSized (masks (⟦<SC as Settings>⟧.setting config.now)) SC.Val.TWO_ADICITY (length airs.now) degree_bits.now opened_values.now (map (λ d. d.items) v.items)) }
 {
     let pcs = config.pcs();
@@ -171,10 +172,10 @@ fn made_at<SC: StarkGenericConfig, A: BaseAir<Val<SC>>>(
 ///
 /// Up to five rounds, in this order: what is random, the main columns, the quotients' chunks, the preprocessed columns, the
 /// permutation columns. A round is there where its commitment is. It has a matrix for each AIR, in the AIRs' order; the
-/// chunks' round has each table's chunks behind each other, the preprocessed round has a matrix for each committed one, and
+/// chunks' round has each table's chunks one after another, the preprocessed round has a matrix for each committed one, and
 /// the permutation round leaves out a table whose current row has no value. A matrix has its values at `zeta`, and at
 /// the next point where next columns are declared and for permutation columns. The domains are, for each AIR, those of its
-/// 2^(log chunks + masks) chunks. The place is 2, or 3 behind a random commitment, and None where nothing is preprocessed.
+/// 2^(log chunks + masks) chunks. The place is 2, or 3 after a random commitment, and None where nothing is preprocessed.
 ///
 /// Refused, the first in this order: `InstanceCountMismatch` where a list or the preprocessed entries haven't one item for
 /// each AIR; per table `DegreeBitsTooSmall`, `DegreeBitsTooLarge`; `RandomizationError` where there is a random commitment
@@ -185,7 +186,7 @@ fn made_at<SC: StarkGenericConfig, A: BaseAir<Val<SC>>>(
 /// next row is absent; `PermutationLengthMismatch` where permutation columns are committed to and a table's two rows differ
 /// in length. Out of memory comes only where none of these does.
 ///
-/// The checks allocate nothing. Behind all of them the domains are made, and each claimed row and each commitment is copied
+/// The checks allocate nothing. After all of them the domains are made, and each claimed row and each commitment is copied
 /// once. The common data is well-formed for the AIRs.
 pub fn commitments_with_opening_points<SC: StarkGenericConfig, A: BaseAir<Val<SC>>>(
     alloc: Global,
@@ -206,7 +207,8 @@ pub fn commitments_with_opening_points<SC: StarkGenericConfig, A: BaseAir<Val<SC
         IfErr result (λ e. e ≡ BatchVerificationError.OutOfMemory → NoneFails (made_checks {R = SC.Pcs.Error} (⟦<SC as Settings>⟧.setting config.now) claimed preprocessed_widths.now)) }
     ensures claims { let claimed = claimed_of A.declaration airs.now common.now.preprocessed commitments.now opened_values.now degree_bits.now log_num_quotient_chunks.now in
         IfOk result (λ answer. answer.0.items ≡ claims (⟦<SC as Settings>⟧.setting config.now) claimed zeta) }
-    ensures domains { IfOk result (λ answer. map (λ chunks. chunks.items) answer.1.items ≡ table (length airs.now) (λ i. chunk_domains (⟦<SC as Settings>⟧.setting config.now) (bits_at degree_bits.now i) (get_or log_num_quotient_chunks.now i 0))) }
+    ensures domains { IfOk result (λ answer. map (λ chunks. chunks.items) answer.1.items
+        ≡ tabulate (length airs.now) (λ i. chunk_domains (⟦<SC as Settings>⟧.setting config.now) (bits_at degree_bits.now i) (get_or log_num_quotient_chunks.now i 0))) }
     ensures place { IfOk result (λ answer. answer.2 ≡ place_of_preprocessed commitments.now common.now.preprocessed) }
 {
     let domains = made_at(

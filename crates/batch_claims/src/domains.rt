@@ -4,7 +4,7 @@ ghost use Rattle.std.specs.Prelude.{slice_index_or as get_or};
 ghost use Rattle.std.specs.Int.{IsPowerOfTwo};
 ghost use Rattle.p3_field.specs.Checks.{in_turn};
 ghost use Rattle.p3_field.specs.Laws.SubgroupSelectors.{subgroup};
-ghost use Rattle.p3_field.specs.Poly.{table};
+ghost use Rattle.p3_field.specs.Poly.{tabulate};
 ghost use Rattle.p3_uni_stark.specs.declared.error.InvalidProofShapeError.TheVariants.{QuotientDomainTooLarge};
 ghost use Rattle.p3_uni_stark.specs.declared.error.VerificationError.TheVariants.{InvalidProofShape};
 ghost use Rattle.batch_claims.specs.ClaimChecks.{domain_by, sizes_fit};
@@ -148,7 +148,7 @@ pub(crate) fn all_domains<F: TwoAdicField>(
     requires masked { (i : ℕ) → i < length degree_bits.now → masks ≤ bits_at degree_bits.now i }
     requires fits { (i : ℕ) → i < length degree_bits.now → bits_at degree_bits.now i + get_or log_chunks.now i 0 ≤ F.TWO_ADICITY }
     requires short { (i : ℕ) → i < length degree_bits.now → bits_at degree_bits.now i + get_or log_chunks.now i 0 < 64 }
-    ensures { IfOk result (λ v. map (λ d. d.items) v.items ≡ table (length degree_bits.now) (chunk_domains_at F.ring F.root F.GENERATOR masks degree_bits.now log_chunks.now)) }
+    ensures { IfOk result (λ v. map (λ d. d.items) v.items ≡ tabulate (length degree_bits.now) (chunk_domains_at F.ring F.root F.GENERATOR masks degree_bits.now log_chunks.now)) }
 {
     let mut domains = Vec::new(alloc);
     for index in 0..degree_bits.len() {

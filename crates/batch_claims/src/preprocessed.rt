@@ -1,6 +1,6 @@
 //! What is committed of a batch's preprocessed columns, and what AIRs declare of next rows.
 ghost use Rattle.std.specs.Prelude.{◌≡◌, ◌↔◌, IsTrue};
-ghost use Rattle.batch_claims.specs.ClaimChecks.{HasBits};
+ghost use Rattle.batch_claims.specs.ClaimChecks.{HasDegreeBits};
 ghost use Rattle.batch_claims.specs.Claims.{matrix_tables};
 ghost use Rattle.batch_shape_checks.specs.ShapeChecks.{HasEntries, has_some};
 
@@ -47,7 +47,7 @@ pub(crate) fn has_entries<Com>(
 
 // Whether what was committed of a table was made for these degree bits.
 pub(crate) fn has_bits(entry: &Option<PreprocessedInstanceMeta>, bits: usize) -> bool
-    ensures { IsTrue result ↔ HasBits bits entry.now }
+    ensures { IsTrue result ↔ HasDegreeBits bits entry.now }
 {
     match entry {
         None => true,

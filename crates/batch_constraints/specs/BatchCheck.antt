@@ -4,8 +4,8 @@ use Rattle.std.specs.Prelude.{◌≡◌, ℕ, zero, suc, ◌+◌, ◌%◌, ◌<�
 use Rattle.p3_field.specs.Ring.{Ring}
 use Rattle.p3_field.specs.Checks.{IsFirstFailing, FirstFailing}
 use Rattle.p3_matrix.specs.Matrix.{Rows, height, row_at}
-use Rattle.p3_air.specs.Check.{Table, preprocessed_row, periodic_row, HasHeight, AreNonzero}
-use Rattle.p3_air.specs.RowCheck.{Row, value_at}
+use Rattle.p3_air.specs.Check.{TableTraces, preprocessed_row, periodic_row, HasHeight, AreNonzero}
+use Rattle.p3_air.specs.RowCheck.{Row, tree_value_at_row}
 use Rattle.p3_air.specs.Tree.{Tree}
 use Rattle.p3_lookup.specs.Lookup.{LookupData}
 use Rattle.batch_constraints.specs.declared.check.CheckFailure.{CheckFailure}
@@ -13,15 +13,15 @@ use Rattle.batch_constraints.specs.declared.check.CheckFailure.TheVariants.{Prep
 use Rattle.batch_constraints.specs.BatchTrees.{table_trees}
 
 -- a table, its lookups, their permutation columns and challenges, and the terminal
-pub record BatchTable (F E : Type 0) : Type 0 where
-  pub own : Table F
+pub record CheckedTable (F E : Type 0) : Type 0 where
+  pub own : TableTraces F
   pub lookups : List (LookupData F)
   pub columns : Rows E
   pub challenges : List E
   pub terminals : List E
 
-abbrev pub batch_table : {F E : Type 0} → Table F → List (LookupData F) → Rows E → List E → List E → BatchTable F E
-batch_table own lookups columns challenges terminals = record { own = own; lookups = lookups; columns = columns; challenges = challenges; terminals = terminals }
+abbrev pub checked_table : {F E : Type 0} → TableTraces F → List (LookupData F) → Rows E → List E → List E → CheckedTable F E
+checked_table own lookups columns challenges terminals = record { own = own; lookups = lookups; columns = columns; challenges = challenges; terminals = terminals }
 
 -- row i of the permutation columns, where there are so many lookups: without lookups there are no columns
 abbrev pub columns_row : {E : Type 0} → ℕ → Rows E → ℕ → List E
@@ -29,7 +29,7 @@ columns_row zero m i = []
 columns_row (suc n) m i = row_at m i
 
 -- what the constraints read at row i
-abbrev pub batch_row : {F E : Type 0} → F → BatchTable F E → ℕ → Row F E
+abbrev pub batch_row : {F E : Type 0} → F → CheckedTable F E → ℕ → Row F E
 batch_row d t i = record {
   main_local = row_at t.own.main i;
   main_next = row_at t.own.main ((i + 1) % height t.own.main);
@@ -45,26 +45,26 @@ batch_row d t i = record {
   terminals = t.terminals;
 }
 
--- the values at row i of the constraints, where the AIR has these trees: those of the lookups behind the AIR's
-abbrev pub batch_values : {F E : Type 0} → Ring F → Ring E → (F → E) → BatchTable F E → List (Tree F) → ℕ → List E
-batch_values f e embed t trees i = map (value_at f e embed (batch_row f.zero t i)) (table_trees f trees t.lookups)
+-- the values at row i of the constraints, where the AIR has these trees: those of the lookups after the AIR's
+abbrev pub batch_values : {F E : Type 0} → Ring F → Ring E → (F → E) → CheckedTable F E → List (Tree F) → ℕ → List E
+batch_values f e embed t trees i = map (tree_value_at_row f e embed (batch_row f.zero t i)) (table_trees f trees t.lookups)
 
 -- all constraints are zero at row i
-abbrev pub HoldsInRow : {F E : Type 0} → Ring F → Ring E → (F → E) → BatchTable F E → List (Tree F) → ℕ → Type 0
+abbrev pub HoldsInRow : {F E : Type 0} → Ring F → Ring E → (F → E) → CheckedTable F E → List (Tree F) → ℕ → Type 0
 HoldsInRow f e embed t trees i = All (λ x. x ≡ e.zero) (batch_values f e embed t trees i)
 
 -- the permutation columns, where there are lookups, have the height of the main trace
-abbrev pub HaveHeight : {F E : Type 0} → BatchTable F E → Type 0
+abbrev pub HaveHeight : {F E : Type 0} → CheckedTable F E → Type 0
 HaveHeight t = 0 < length t.lookups → height t.columns ≡ height t.own.main
 
 -- both heights are that of the main trace
-abbrev pub HasHeights : {F E : Type 0} → BatchTable F E → Type 0
+abbrev pub HasHeights : {F E : Type 0} → CheckedTable F E → Type 0
 HasHeights t = HasHeight t.own.preprocessed (height t.own.main) × HaveHeight t
 
 -- The answer for a table whose AIR has these trees: the height of the preprocessed trace, then that of the permutation
 -- columns, then the first row with a constraint that isn't zero, with the places of all such constraints there. Heights that
 -- differ are found without memory, so out of memory comes only where they agree.
-abbrev pub IsBatchChecked : {F E : Type 0} → Ring F → Ring E → (F → E) → BatchTable F E → List (Tree F) → Result (Unit {0}) CheckFailure → Type 0
+abbrev pub IsBatchChecked : {F E : Type 0} → Ring F → Ring E → (F → E) → CheckedTable F E → List (Tree F) → Result (Unit {0}) CheckFailure → Type 0
 IsBatchChecked f e embed t trees (Ok x) = HasHeights t × FirstFailing (height t.own.main) (HoldsInRow f e embed t trees) None
 IsBatchChecked f e embed t trees (Err PreprocessedHeight) = HasHeight t.own.preprocessed (height t.own.main) → ⊥
 IsBatchChecked f e embed t trees (Err PermutationHeight) = HasHeight t.own.preprocessed (height t.own.main) × (HaveHeight t → ⊥)

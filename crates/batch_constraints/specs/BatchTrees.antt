@@ -1,8 +1,8 @@
--- The constraints of a table with lookups: the AIR's, and behind them those of its lookups. After Plonky3's p3-batch-stark
+-- The constraints of a table with lookups: the AIR's, and after them those of its lookups. After Plonky3's p3-batch-stark
 -- (get_symbolic_constraints, get_constraint_layout).
 use Rattle.std.specs.Prelude.{ℕ, zero, suc, ◌+◌, ◌*◌, List, ◌++◌, map, All}
 use Rattle.p3_field.specs.Ring.{Ring}
-use Rattle.p3_field.specs.Poly.{table}
+use Rattle.p3_field.specs.Poly.{tabulate}
 use Rattle.p3_air.specs.declared.layout.AirLayout.{AirLayout}
 use Rattle.p3_air.specs.Layout.{Places}
 use Rattle.p3_air.specs.Shape.{Declaration, declared_shape}
@@ -29,6 +29,6 @@ abbrev pub layout_with : AirLayout → ℕ → AirLayout
 layout_with l zero = record l { permutation_width = 0; num_permutation_challenges = 0; num_permutation_values = 0 }
 layout_with l (suc n) = record l { permutation_width = suc n + 1; num_permutation_challenges = suc n * 2; num_permutation_values = 1 }
 
--- the places of n constraints over the base field and of m behind them over the extension
+-- the places of n constraints over the base field and of m after them over the extension
 abbrev pub places_of : ℕ → ℕ → Places
-places_of n m = record { base_indices = table n (λ i. i); ext_indices = table m (λ i. n + i) }
+places_of n m = record { base_indices = tabulate n (λ i. i); ext_indices = tabulate m (λ i. n + i) }

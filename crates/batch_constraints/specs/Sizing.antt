@@ -6,7 +6,8 @@ use Rattle.p3_field.specs.Ring.{Ring}
 use Rattle.p3_air.specs.Degree.{multiple, polynomial_degree}
 use Rattle.p3_air.specs.Shape.{Declaration}
 use Rattle.p3_air.specs.Tree.{Tree}
-use Rattle.p3_lookup.specs.Lookup.{LookupData, greatest}
+use Rattle.p3_lookup.specs.Lookup.{LookupData}
+use Rattle.p3_air.specs.Degree.{greatest}
 use Rattle.batch_constraints.specs.BatchTrees.{table_trees}
 
 -- the largest multiple of the height, where the transition selector has degree t; zero without constraints

@@ -3,10 +3,10 @@ ghost use Rattle.std.specs.Prelude.{◌≡◌, ℕ, ◌+◌, ◌*◌, ◌%◌, �
 ghost use Rattle.std.specs.Option.{option_map};
 ghost use Rattle.p3_matrix.specs.Matrix.{height};
 ghost use Rattle.p3_air.specs.Shape.{width_of};
-ghost use Rattle.p3_air.specs.Check.{table_of, AreNonzero, HasHeight, periodic_row};
+ghost use Rattle.p3_air.specs.Check.{table_traces, AreNonzero, HasHeight, periodic_row};
 ghost use Rattle.p3_lookup.specs.Written.{read, read_all};
 ghost use Rattle.batch_constraints.specs.BatchTrees.{AreLookupsOf};
-ghost use Rattle.batch_constraints.specs.BatchCheck.{batch_table, batch_row, batch_values, columns_row, IsBatchChecked};
+ghost use Rattle.batch_constraints.specs.BatchCheck.{checked_table, batch_row, batch_values, columns_row, IsBatchChecked};
 ghost use Rattle.batch_constraints.specs.declared.check.CheckFailure.TheVariants.{OutOfMemory};
 
 use p3_air::{Air, BaseAir, DebugConstraintBuilder, RowValues, preprocessed_at};
@@ -16,7 +16,7 @@ use p3_matrix::RowMajorMatrix;
 use std::alloc::{AllocError, Global};
 use thiserror::Error;
 
-/// Why a table with lookups doesn't meet its constraints, or couldn't be checked (own).
+/// Why a table with lookups doesn't meet its constraints, or couldn't be checked (not in Plonky3).
 #[derive(Debug, Drop, Error)]
 pub enum CheckFailure {
     /// The preprocessed trace hasn't the height of the main trace.
@@ -126,7 +126,8 @@ fn row_of<'a, F: Field, EF: ExtensionField<F>>(
     ensures challenges { result.challenges ≡ challenges.now }
     ensures terminals { result.terminals ≡ terminals.now }
     ensures row { (periods : List (List F)) → periodic.now ≡ periodic_row F.ring.zero periods row
-        → result ≡ batch_row F.ring.zero (batch_table (table_of main.now (option_map (λ m. m.now) preprocessed.entry) periods public_values.now) (read_all lookups.now) columns.now challenges.now terminals.now) row }
+        → result ≡ batch_row F.ring.zero
+        (checked_table (table_traces main.now (option_map (λ m. m.now) preprocessed.entry) periods public_values.now) (read_all lookups.now) columns.now challenges.now terminals.now) row }
 {
     let height = main.height();
     let next = (row + 1) % height;
@@ -171,7 +172,8 @@ fn failing_places<F: Field, EF: ExtensionField<F>, A: Air<F>, LG: LookupProtocol
     requires columns_width { 0 < length lookups.now → columns.now.width ≡ length lookups.now + 1 }
     requires challenges { length challenges.now ≡ 2 * length lookups.now }
     requires terminals { 0 < length lookups.now → length terminals.now ≡ 1 }
-    ensures { let table = batch_table (table_of main.now (option_map (λ m. m.now) preprocessed.entry) (A.declaration air.now).periodic public_values.now) (read_all lookups.now) columns.now challenges.now terminals.now in
+    ensures { let table = checked_table (table_traces main.now (option_map (λ m. m.now) preprocessed.entry) (A.declaration air.now).periodic public_values.now)
+        (read_all lookups.now) columns.now challenges.now terminals.now in
         IfOk result (λ v. AreNonzero EF.ring (batch_values F.ring EF.ring EF.embed table (A.trees air.now) row) v.items) }
 {
     let periodic = periodic_at(alloc, air.periodic_columns(), row)?;
@@ -225,7 +227,8 @@ pub fn check_constraints<F: Field, EF: ExtensionField<F>, A: Air<F>, LG: LookupP
     requires permutation_width { 0 < length lookups.now → permutation.now.width ≡ length lookups.now + 1 }
     requires challenges { length permutation_challenges.now ≡ 2 * length lookups.now }
     requires terminals { 0 < length lookups.now → length permutation_values.now ≡ 1 }
-    ensures { let table = batch_table (table_of main.now (option_map (λ m. m.now) preprocessed.entry) (A.declaration air.now).periodic public_values.now) (read_all lookups.now) permutation.now permutation_challenges.now permutation_values.now in
+    ensures { let table = checked_table (table_traces main.now (option_map (λ m. m.now) preprocessed.entry) (A.declaration air.now).periodic public_values.now)
+        (read_all lookups.now) permutation.now permutation_challenges.now permutation_values.now in
         IsBatchChecked F.ring EF.ring EF.embed table (A.trees air.now) result }
 {
     let height = main.height();

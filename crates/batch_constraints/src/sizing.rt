@@ -1,56 +1,20 @@
 //! The degree of a table's constraints, and into how many chunks its quotient is split.
-ghost use Rattle.std.specs.Prelude.{◌≡◌, ℕ, ◌+◌, ◌-◌, ◌^◌, ◌<◌, ◌≤◌, List, [], ◌++◌, max, length, map, All, IfOk};
-ghost use Rattle.p3_air.specs.Degree.{multiple, polynomial_degree, HasPeriod};
+ghost use Rattle.std.specs.Prelude.{◌≡◌, ℕ, ◌+◌, ◌-◌, ◌^◌, ◌<◌, ◌≤◌, List, [], ◌++◌, max, length, map, IfOk};
 ghost use Rattle.p3_air.specs.Layout.{layout_of};
-ghost use Rattle.p3_air.specs.Shape.{ReadsIn};
-ghost use Rattle.p3_air.specs.Symbolic.{tree_of};
-ghost use Rattle.p3_lookup.specs.Lookup.{greatest};
 ghost use Rattle.p3_lookup.specs.Written.{read, read_all};
 ghost use Rattle.batch_constraints.specs.BatchTrees.{table_trees, AreLookupsOf};
 ghost use Rattle.batch_constraints.specs.Fitting.{FewTransitionsFit};
 ghost use Rattle.batch_constraints.specs.Sizing.{largest_multiple, largest_degree, constraint_degree, domain_degree, periods_of, hint_of, with_hint, log_chunks};
 
-use crate::symbolic::get_symbolic_constraints;
-use p3_air::{Air, AirLayout, BaseAir, SymbolicExpression, constraint_degree_from_poly_degree};
+use crate::symbolic::recorded;
+use p3_air::{
+    Air, AirLayout, BaseAir, InteractionSymbolicBuilder, constraint_degree_from_poly_degree,
+};
 use p3_commit::PolynomialSpace;
 use p3_field::{Field, FieldCore, Mem, RingCore};
 use p3_lookup::{Lookup, LookupProtocol};
 use p3_matrix::log2_ceil_usize;
 use std::alloc::Global;
-
-// The largest of a number and the constraints' degrees as multiples of the height, where the transition selector has
-// degree `t`.
-fn multiple_from<F: FieldCore>(
-    start: usize,
-    constraints: &[SymbolicExpression<F>],
-    t: usize,
-) -> usize
-    ensures { result ≡ greatest start (map (multiple t) (map tree_of constraints.now)) }
-{
-    let mut degree = start;
-    for constraint in constraints {
-        degree = degree.max(constraint.degree_multiple_with_transition(t));
-    }
-    degree
-}
-
-// The largest of a number and the degrees of the constraints' polynomials over so many rows.
-fn degree_from<F: FieldCore>(
-    start: usize,
-    constraints: &[SymbolicExpression<F>],
-    rows: usize,
-    periods: &[usize],
-) -> usize
-    requires rows { 0 < rows }
-    requires periods { All (ReadsIn (HasPeriod periods.now) (λ _. Unit {0})) (map tree_of constraints.now) }
-    ensures { result ≡ greatest start (map (polynomial_degree rows periods.now) (map tree_of constraints.now)) }
-{
-    let mut degree = start;
-    for constraint in constraints {
-        degree = degree.max(constraint.poly_degree(rows, periods));
-    }
-    degree
-}
 
 // How many values each column repeats.
 fn lengths<F: FieldCore>(alloc: Global, columns: &[Vec<F>]) -> Mem<Vec<usize>>
@@ -76,9 +40,8 @@ fn table_multiple<F: Field, A: Air<F>, LG: LookupProtocol>(
     requires lookups { AreLookupsOf (A.declaration air.now) (read_all contexts.now) }
     ensures { IfOk result (λ d. d ≡ largest_multiple t (table_trees F.ring (A.trees air.now) (read_all contexts.now))) }
 {
-    let constraints = get_symbolic_constraints(alloc, air, layout, contexts, lookup_gadget)?;
-    let degree = multiple_from(0, &constraints.0, t);
-    Ok(multiple_from(degree, &constraints.1, t))
+    let builder = recorded(alloc, air, layout, contexts, lookup_gadget)?;
+    builder.largest_degree_multiple(t)
 }
 
 // The largest degree of the polynomials of a table's constraints.
@@ -95,10 +58,9 @@ fn table_degree<F: Field, A: Air<F>, LG: LookupProtocol>(
     requires rows { 0 < trace_len }
     ensures { IfOk result (λ d. d ≡ largest_degree trace_len (periods_of (A.declaration air.now)) (table_trees F.ring (A.trees air.now) (read_all contexts.now))) }
 {
-    let constraints = get_symbolic_constraints(alloc, air, layout, contexts, lookup_gadget)?;
+    let builder = recorded(alloc, air, layout, contexts, lookup_gadget)?;
     let periods = lengths(alloc, air.periodic_columns())?;
-    let degree = degree_from(0, &constraints.0, trace_len, &periods);
-    Ok(degree_from(degree, &constraints.1, trace_len, &periods))
+    builder.largest_poly_degree(trace_len, &periods)
 }
 
 /// The degree of a table's constraints over so many rows, as a multiple of the height: of the AIR's and of those of its

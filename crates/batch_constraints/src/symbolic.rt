@@ -29,7 +29,7 @@ fn with_lookups<LG: LookupProtocol>(layout: AirLayout, count: usize, gadget: &LG
 }
 
 // All constraints of a table, recorded.
-fn recorded<F: Field, A: Air<F>, LG: LookupProtocol>(
+pub(crate) fn recorded<F: Field, A: Air<F>, LG: LookupProtocol>(
     alloc: Global,
     air: &A,
     layout: AirLayout,
@@ -70,7 +70,7 @@ pub fn get_symbolic_constraints<F: Field, A: Air<F>, LG: LookupProtocol>(
 }
 
 /// The places of a table's constraints among all, in the order in which they are asserted: those of the AIR, over the base
-/// field, come first, and those of the lookups, over the extension, behind them (`get_constraint_layout` of
+/// field, come first, and those of the lookups, over the extension, after them (`get_constraint_layout` of
 /// `p3-batch-stark`). The conditions are those of `get_symbolic_constraints`.
 pub fn get_constraint_layout<F: Field, A: Air<F>, LG: LookupProtocol>(
     alloc: Global,

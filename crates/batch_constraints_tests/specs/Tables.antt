@@ -4,12 +4,12 @@ use Rattle.p3_air.specs.declared.cells.Cell.TheVariants.{Main}
 use Rattle.p3_air.specs.Shape.{Declaration}
 use Rattle.p3_air.specs.Tree.{Tree, constant, cell, product, Interaction, global}
 
-abbrev pub column : {F : Type 0} → Tree F
-column = cell (Main false 0)
+abbrev pub first_column : {F : Type 0} → Tree F
+first_column = cell (Main false 0)
 
 -- the constraint that the cell's cube is zero
 abbrev pub cube_trees : {F : Type 0} → List (Tree F)
-cube_trees = product (product column column) column ∷ []
+cube_trees = product (product first_column first_column) first_column ∷ []
 
 -- the AIR hints at degree 1
 abbrev pub cube_declaration : {F : Type 0} → Declaration F
@@ -30,10 +30,10 @@ abbrev pub values_bus : List ℕ
 values_bus = 118 ∷ 97 ∷ 108 ∷ 117 ∷ 101 ∷ 115 ∷ []
 
 -- the cell on the bus, once
-abbrev pub taken : {F : Type 0} → F → Interaction F
-taken one = record {
+abbrev pub cell_taken : {F : Type 0} → F → Interaction F
+cell_taken one = record {
   bus = global values_bus;
-  fields = column ∷ [];
+  fields = first_column ∷ [];
   counts = record { value = constant one; bound = 1 } ∷ [];
 }
 

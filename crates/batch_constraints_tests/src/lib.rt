@@ -6,9 +6,9 @@ mod checks;
 pub mod cube;
 #[cfg(test)]
 mod degrees;
-pub mod post;
+pub mod sending;
 #[cfg(test)]
-mod post_checks;
+mod sending_checks;
 #[cfg(test)]
 mod sizes;
 pub mod take;

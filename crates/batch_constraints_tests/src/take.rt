@@ -2,11 +2,11 @@
 ghost use Rattle.std.proofs.Common.{rules};
 ghost use Rattle.std.specs.Prelude.{◌≡◌, [], ◌∷◌, IfOk, length};
 ghost use Rattle.p3_field.specs.Ring.{of_nat};
-ghost use Rattle.p3_field.specs.BabyBear.{bear_ring};
+ghost use Rattle.p3_field.specs.BabyBear.{baby_bear_ring};
 ghost use Rattle.p3_air.specs.Laws.Declared.{counts-none};
 ghost use Rattle.p3_lookup.specs.Written.{read_all};
 ghost use Rattle.batch_constraints.specs.BatchTrees.{AreLookupsOf};
-ghost use Rattle.batch_constraints_tests.specs.Tables.{taken, take_declaration};
+ghost use Rattle.batch_constraints_tests.specs.Tables.{cell_taken, take_declaration};
 
 use p3_air::{Air, AirBuilder, BaseAir, Cell, Count, InteractionBuilder};
 use p3_air_tests::support::bear;
@@ -74,7 +74,7 @@ impl BaseAir<BabyBear> for Take {
 impl Air<BabyBear> for Take {
     ghost trees = { λ _. [] };
 
-    ghost interactions = { λ _. taken (of_nat bear_ring 1) ∷ [] };
+    ghost interactions = { λ _. cell_taken (of_nat baby_bear_ring 1) ∷ [] };
 
     fn eval<AB: InteractionBuilder<F = BabyBear>>(&self, builder: &mut AB) -> Mem<()> {
         let x = builder.cell(Cell::Main {

@@ -3,7 +3,7 @@ ghost use Rattle.std.proofs.Common.{rules};
 ghost use Rattle.std.proofs.lemmas.Grind.{common_steps};
 ghost use Rattle.std.specs.Prelude.{◌≡◌, ◌<◌, List, [], ◌∷◌, IfOk, Some, None, false, length, map};
 ghost use Rattle.p3_field.specs.Ring.{of_nat};
-ghost use Rattle.p3_field.specs.BabyBear.{bear_ring};
+ghost use Rattle.p3_field.specs.BabyBear.{baby_bear_ring};
 ghost use Rattle.p3_air.specs.declared.cells.Cell.TheVariants.{Main, Preprocessed, Periodic};
 ghost use Rattle.p3_matrix.specs.Matrix.{height};
 ghost use Rattle.p3_air.specs.Tree.{cell, difference, product};
@@ -22,11 +22,21 @@ use std::test::Fail;
 #[derive(Drop)]
 struct Wheel {
     columns: Vec<Vec<BabyBear>>,
-    ghost one: { map (λ c. c.items) columns.items ≡ (of_nat bear_ring 3 ∷ of_nat bear_ring 5 ∷ []) ∷ [] },
+    ghost one: { map (λ c. c.items) columns.items ≡ (of_nat baby_bear_ring 3 ∷ of_nat baby_bear_ring 5 ∷ []) ∷ [] },
 }
 
 impl BaseAir<BabyBear> for Wheel {
-    ghost declaration = { λ _. record { width = 1; preprocessed = Some (record { values = of_nat bear_ring 1 ∷ of_nat bear_ring 2 ∷ of_nat bear_ring 3 ∷ of_nat bear_ring 4 ∷ []; width = 1 }); main_next = []; preprocessed_next = []; public_values = 0; periodic = (of_nat bear_ring 3 ∷ of_nat bear_ring 5 ∷ []) ∷ []; constraints = None; degree_hint = None; boolean_trace = false } };
+    ghost declaration = { λ _. record {
+      width = 1;
+      preprocessed = Some (record { values = of_nat baby_bear_ring 1 ∷ of_nat baby_bear_ring 2 ∷ of_nat baby_bear_ring 3 ∷ of_nat baby_bear_ring 4 ∷ []; width = 1 });
+      main_next = [];
+      preprocessed_next = [];
+      public_values = 0;
+      periodic = (of_nat baby_bear_ring 3 ∷ of_nat baby_bear_ring 5 ∷ []) ∷ [];
+      constraints = None;
+      degree_hint = None;
+      boolean_trace = false;
+    } };
 
     fn width(&self) -> usize {
         1
@@ -105,7 +115,7 @@ impl Air<BabyBear> for Wheel {
     ghost interactions_read = { λ _. Prim.search rules };
 }
 
-// The wheel, or None where memory is wanting.
+// The wheel, or None where memory runs out.
 fn make_wheel(alloc: Global) -> Mem<Wheel> {
     let column = Vec::from_array(alloc, [bear(3), bear(5)])?;
     let mut columns = Vec::new(alloc);

@@ -1,9 +1,9 @@
--- A verifier's phases one behind the other, and the lookups' pair that they draw.
+-- A verifier's phases one after the other, and the lookups' pair that they draw.
 use Rattle.std.proofs.Common.{◌≡◌, ℕ, zero, suc, List, [], ◌∷◌, ◌++◌, refl, ap, sym, ◌∙◌, Option, append_assoc, subst, get_or}
 use Rattle.std.proofs.lemmas.List.{append-nil}
 use Rattle.p3_field.specs.Ring.{Ring}
 use Rattle.p3_challenger.specs.Script.{ChallengerOf, Transcript, play, begun}
-use Rattle.batch_transcript.specs.BatchScript.{Shape, Given, draws, draws_of, script_to_lookup, script_to_ood, script_to_opening, seeded, bindings_script, main_script, preprocessed_script, pair_script, permutation_script, quotient_script, ood_script}
+use Rattle.batch_transcript.specs.BatchScript.{BatchShapeData, Given, draws, draws_of, script_to_lookup, script_to_ood, script_to_opening, seeded, bindings_script, main_script, preprocessed_script, pair_script, permutation_script, quotient_script, ood_script}
 use Rattle.batch_transcript.specs.Running.{Running, Plays, drawn_along}
 use Rattle.batch_transcript.specs.Laws.Draws.{plays-chain, run-draws}
 use Rattle.batch_draws.specs.Draws.{drawn_pair}
@@ -30,7 +30,7 @@ module _ {S F E M : Type 0} (c : ChallengerOf S F E M) where
       plays-chain c (s1 ++ s2) (preprocessed_script g.preprocessed) x0 x2 x3 [] [] (plays-chain c s1 s2 x0 x1 x2 [] [] p1 p2) p3
 
   -- as far as zeta's
-  pub to_ood : (r : Ring E) (d : ℕ) (s : Shape) (g : Given F E M) (x0 x3 x4 x5 x6 : Running S) (alpha : E)
+  pub to_ood : (r : Ring E) (d : ℕ) (s : BatchShapeData) (g : Given F E M) (x0 x3 x4 x5 x6 : Running S) (alpha : E)
       → x3.shape ≡ s
       → Plays c (script_to_lookup r d g) x0 x3 []
       → (let p = pair_script d x3.shape.num_lookup_instances x3.shape.lookup_pow_bits g.lookup_witness in Plays c p x3 x4 (drawn_along c x3.state p))
@@ -49,7 +49,7 @@ module _ {S F E M : Type 0} (c : ChallengerOf S F E M) where
       plays-chain c (front ++ s4 ++ s5) (quotient_script g.quotient g.randomization) x0 x5 x6 (pair ++ alpha ∷ []) [] q5 p6
 
   -- a run of all phases has drawn the pair that the fold draws
-  pub run-pair : (f : Ring F) (r : Ring E) (d : ℕ) (initial : S) (s : Shape) (g : Given F E M) (x0 x3 x6 x7 : Running S) (alpha zeta : E)
+  pub run-pair : (f : Ring F) (r : Ring E) (d : ℕ) (initial : S) (s : BatchShapeData) (g : Given F E M) (x0 x3 x6 x7 : Running S) (alpha zeta : E)
       → x0.state ≡ seeded c f d s initial
       → x3.shape ≡ s
       → x6.shape ≡ s

@@ -4,13 +4,13 @@ use Rattle.p3_field.specs.Checks.{NoneFails, FirstFails}
 use Rattle.p3_field.specs.Laws.Checks.{first_stops, first_after, none_append}
 use Rattle.p3_field.specs.Ring.{Ring}
 use Rattle.p3_challenger.specs.Script.{ChallengerOf}
-use Rattle.batch_transcript.specs.BatchScript.{Shape, Given, draws, seeded, script_to_lookup, script_to_ood}
+use Rattle.batch_transcript.specs.BatchScript.{BatchShapeData, Given, draws, seeded, script_to_lookup, script_to_ood}
 use Rattle.batch_transcript.specs.Grinding.{IsTaken, IsPairTaken, OodRefusal, PairRefusal, VerifierFails}
 use Rattle.batch_transcript.specs.Running.{Running, Plays}
 use Rattle.batch_transcript.specs.Laws.Runs.{tells-tests}
 use Rattle.batch_transcript.specs.declared.failure.BatchTranscriptFailure.{BatchTranscriptFailure}
 use Rattle.batch_transcript.specs.declared.failure.TranscriptError.{TranscriptError}
-use Rattle.batch_transcript.specs.declared.failure.TranscriptError.TheVariants.{WitnessNotFound, Failure, OutOfMemory as Wanting}
+use Rattle.batch_transcript.specs.declared.failure.TranscriptError.TheVariants.{WitnessNotFound, Failure, OutOfMemory as NoMemory}
 use Rattle.batch_statement.specs.declared.error.BatchVerificationError.{BatchVerificationError}
 use Rattle.batch_statement.specs.declared.error.BatchVerificationError.TheVariants.{Transcript}
 use Rattle.batch_shape_checks.specs.Verdict.{IsRefusal}
@@ -18,7 +18,7 @@ use Rattle.batch_draws.specs.Draws.{lookup_grinding, ood_grinding, grinding_by}
 use Rattle.batch_draws.specs.Refused.{refusal_of}
 use Rattle.batch_draws.proofs.Refusals.{refused_pair, taken_pair, refused_ood, taken_ood}
 
-module _ {S F E M : Type 0} (R : Type 0) (c : ChallengerOf S F E M) (f : Ring F) (r : Ring E) (d : ℕ) (initial : S) (s : Shape) (g : Given F E M) where
+module _ {S F E M : Type 0} (R : Type 0) (c : ChallengerOf S F E M) (f : Ring F) (r : Ring E) (d : ℕ) (initial : S) (s : BatchShapeData) (g : Given F E M) where
   -- the lookups' value is refused
   pub lookup_refused : (x0 x3 : Running S) → x0.state ≡ seeded c f d s initial → x3.shape ≡ s → Plays c (script_to_lookup r d g) x0 x3 []
       → (error : TranscriptError) (e : BatchVerificationError R)
@@ -32,7 +32,7 @@ module _ {S F E M : Type 0} (R : Type 0) (c : ChallengerOf S F E M) (f : Ring F)
       (first_stops (lookup_grinding f.zero s.num_lookup_instances s.lookup_pow_bits g.lookup_witness v.lookup_passed) (ood_grinding f.zero s.ood_pow_bits g.ood_witness v.ood_passed) (Transcript x)
       (refused_pair R c f x3.state s.num_lookup_instances s.lookup_pow_bits g.lookup_witness x v.lookup_passed ((tells-tests c f r d initial s g).lookup x0 x3 [] h q3) k3))
   lookup_refused x0 x3 h shape q3 WitnessNotFound e k q = absurd k
-  lookup_refused x0 x3 h shape q3 Wanting e k q = subst (IsRefusal (grinding_by f.zero s g.lookup_witness g.ood_witness (draws c f r d initial s g))) (sym q) tt
+  lookup_refused x0 x3 h shape q3 NoMemory e k q = subst (IsRefusal (grinding_by f.zero s g.lookup_witness g.ood_witness (draws c f r d initial s g))) (sym q) tt
 
   -- it is taken, and the value before zeta refused
   pub ood_refused : (x0 x3 x6 : Running S) (drawn : List E) → x0.state ≡ seeded c f d s initial → x3.shape ≡ s → x6.shape ≡ s

@@ -4,13 +4,13 @@ use Rattle.std.specs.Prelude.{count_by, is_some, option_map}
 use Rattle.std.specs.List.{filter_map, list_any}
 use Rattle.std.proofs.lemmas.List.{length-map, get_or-map, ext_get_or}
 use Rattle.p3_field.specs.Checks.{NoneFails}
-use Rattle.p3_field.specs.Laws.Checks.{none_before, none_behind, none_at, holds_alone}
+use Rattle.p3_field.specs.Laws.Checks.{none_before, none_after, none_at, holds_alone}
 use Rattle.p3_field.specs.Ring.{Ring}
 use Rattle.p3_air.specs.Shape.{Declaration, width_of}
 use Rattle.batch_transcript.specs.Fits.{FitsShape}
 use Rattle.batch_statement.specs.Proof.{OpenedWithLookups, ProofData}
-use Rattle.batch_statement.specs.Statement.{Statement, Table}
-use Rattle.batch_shape_checks.specs.ShapeChecks.{AreCounted, Bounds, IsRandomized, bound_part, count_checks, has_some, is_there, is_some as is_some_number, no_table, opened_checks, opened_part, permutation_check, shape_checks, size_part, table_checks, main_checks, chunk_checks, preprocessed_checks, lookup_checks}
+use Rattle.batch_statement.specs.Statement.{Statement, AirTable}
+use Rattle.batch_shape_checks.specs.ShapeChecks.{HaveItemForEachTable, Bounds, IsRandomized, bus_bound_part, count_checks, has_some, is_there, is_some as is_some_number, no_table, opened_checks, opened_part, permutation_check, shape_checks, size_part, table_checks, main_checks, chunk_checks, preprocessed_checks, lookup_checks}
 use Rattle.batch_draws.specs.Draws.{given_of, script_shape}
 use Rattle.batch_draws.specs.Laws.Singles.{counts_more, counts_some}
 
@@ -30,7 +30,7 @@ terminals_counted (Some t ∷ ts) ([] ∷ xs) e h = let k = h 0 (omega arith) in
 terminals_counted (Some t ∷ ts) ((y ∷ ys) ∷ xs) e h = let k = terminals_counted ts xs (omega (arith, e)) (λ i b. h (suc i) (omega arith)) in ap suc k ∙ sym (counts_more xs y ys)
 
 -- each table has its number of public values
-publics_counted : {F : Type 0} (tables : List (Table F)) (publics : List (List F)) → length publics ≡ length tables
+publics_counted : {F : Type 0} (tables : List (AirTable F)) (publics : List (List F)) → length publics ≡ length tables
     → ((i : ℕ) → i < length tables → length (get_or publics i []) ≡ (get_or tables i no_table).declaration.public_values)
     → map length publics ≡ map (λ t. t.declaration.public_values) tables
 publics_counted tables publics e h =
@@ -51,7 +51,7 @@ terminal_fits : {F E : Type 0} (R : Type 0) (i : ℕ) (d : Declaration F) (publi
     → NoneFails (table_checks {R = R} i d publics chunks dimension lookups o terminal) → terminal ≡ is_some_number lookups
 unfolding table_checks NoneFails
 terminal_fits R i d publics chunks dimension lookups o terminal h =
-    let k = none_behind
+    let k = none_after
     (main_checks {R = R} i d publics o.base ++ chunk_checks {R = R} i chunks dimension o.base ++ preprocessed_checks {R = R} i (width_of d.preprocessed) d.preprocessed_next o.base.preprocessed)
     (lookup_checks {R = R} i lookups dimension o terminal) h in
     k.1.0
@@ -61,7 +61,7 @@ some_mapped f None = refl
 some_mapped f (Some x) = refl
 
 module _ {F E C P : Type 0} (R : Type 0) (f : Ring F) (b : Bounds) (s : Statement F C) (p : ProofData F E C P) where
-  pub counts_right : NoneFails (shape_checks {R = R} f b s p) → AreCounted s p
+  pub counts_right : NoneFails (shape_checks {R = R} f b s p) → HaveItemForEachTable s p
   unfolding shape_checks NoneFails
   counts_right h = h.0
 
@@ -72,13 +72,13 @@ module _ {F E C P : Type 0} (R : Type 0) (f : Ring F) (b : Bounds) (s : Statemen
   opened : NoneFails (shape_checks {R = R} f b s p) → NoneFails (opened_part {R = R} f b s p)
   unfolding shape_checks
   opened h =
-      let first = count_checks {R = R} b.zk s p ++ size_part {R = R} f b s p ++ bound_part {R = R} b s p in
-      none_behind first (opened_part {R = R} f b s p) (none_before (first ++ opened_part {R = R} f b s p) (permutation_check {R = R} s p) h)
+      let first = count_checks {R = R} b.zk s p ++ size_part {R = R} f b s p ++ bus_bound_part {R = R} b s p in
+      none_after first (opened_part {R = R} f b s p) (none_before (first ++ opened_part {R = R} f b s p) (permutation_check {R = R} s p) h)
 
   permuted : NoneFails (shape_checks {R = R} f b s p) → is_there p.commitments.permutation ≡ list_any has_some s.common.lookups
   unfolding shape_checks
   permuted h =
-      holds_alone _ (none_behind (count_checks {R = R} b.zk s p ++ size_part {R = R} f b s p ++ bound_part {R = R} b s p ++ opened_part {R = R} f b s p) (permutation_check {R = R} s p) h)
+      holds_alone _ (none_after (count_checks {R = R} b.zk s p ++ size_part {R = R} f b s p ++ bus_bound_part {R = R} b s p ++ opened_part {R = R} f b s p) (permutation_check {R = R} s p) h)
 
   opened_table : NoneFails (shape_checks {R = R} f b s p) → (i : ℕ) → i < length s.tables → NoneFails (opened_checks {R = R} f b.masks b.dimension s p i)
   opened_table h i l = none_at (opened_checks {R = R} f b.masks b.dimension s p) (length s.tables) i l (opened h)

@@ -1,9 +1,9 @@
 -- The layout of the lookups' challenges, table by table.
 use Rattle.std.proofs.Common.{◌≡◌, ℕ, List, [], ◌∷◌, length, get_or, ◌∙◌}
 use Rattle.std.proofs.lemmas.List.{length-map}
-use Rattle.p3_field.specs.Poly.{table}
+use Rattle.p3_field.specs.Poly.{tabulate}
 use Rattle.p3_field.specs.Ring.{Ring}
-use Rattle.p3_field.specs.Laws.Tables.{length-table, table_of_items}
+use Rattle.p3_field.specs.Laws.Tabulate.{length-tabulate, tabulate_items}
 use Rattle.p3_lookup.specs.Lookup.{LookupData}
 use Rattle.p3_lookup.specs.Bus.{bus_count, batch_buses, widest}
 use Rattle.p3_lookup.specs.Challenge.{challenges_with}
@@ -13,9 +13,9 @@ pub length-batch_layout : {F E : Type 0} (e : Ring E) (drawn : List E) (tables :
 length-batch_layout {E = E} e [] tables = length-map {B = List E} tables (λ _. [])
 length-batch_layout {E = E} e (x ∷ []) tables = length-map {B = List E} tables (λ _. [])
 length-batch_layout e (alpha ∷ beta ∷ rest) tables =
-    length-table (length tables) (instance_challenges e (challenges_with e alpha beta (widest tables) (bus_count (batch_buses tables))) tables)
+    length-tabulate (length tables) (instance_challenges e (challenges_with e alpha beta (widest tables) (bus_count (batch_buses tables))) tables)
 
 -- as many lists of challenges as tables with lookups are listed for, each read at its place
 pub laid_out_by_table : {F E : Type 0} (e : Ring E) (drawn : List E) (tables : List (List (LookupData F))) (n : ℕ) → length tables ≡ n
-    → batch_layout e drawn tables ≡ table n (λ i. get_or (batch_layout e drawn tables) i [])
-laid_out_by_table e drawn tables n h = table_of_items [] (batch_layout e drawn tables) n (length-batch_layout e drawn tables ∙ h)
+    → batch_layout e drawn tables ≡ tabulate n (λ i. get_or (batch_layout e drawn tables) i [])
+laid_out_by_table e drawn tables n h = tabulate_items [] (batch_layout e drawn tables) n (length-batch_layout e drawn tables ∙ h)

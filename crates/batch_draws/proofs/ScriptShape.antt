@@ -6,8 +6,8 @@ use Rattle.std.proofs.lemmas.Simd.{map-map}
 use Rattle.p3_air.specs.Shape.{Declaration, width_of}
 use Rattle.p3_air.specs.Tree.{Tree}
 use Rattle.p3_lookup.specs.Written.{read_all}
-use Rattle.batch_statement.specs.Statement.{Table, WrittenCommon, tables_of}
-use Rattle.batch_shape_checks.specs.ShapeChecks.{has_some, stated}
+use Rattle.batch_statement.specs.Statement.{AirTable, WrittenCommon, tables_of}
+use Rattle.batch_shape_checks.specs.ShapeChecks.{has_some, statement_with}
 use Rattle.batch_draws.specs.Draws.{script_shape}
 
 count_by-map : {A B : Type 0} (p : B → Bool) (f : A → B) (xs : List A) → count_by p (map f xs) ≡ count_by (λ x. p (f x)) xs
@@ -20,8 +20,8 @@ count_by-map {A} {B} p f (x ∷ xs) =
 of_tables : {A F : Type 0} (declaration : A → Declaration F) (trees : A → List (Tree F)) (airs : List A) (read : Declaration F → ℕ) (ns : List ℕ)
     → ns ≡ map (λ a. read (declaration a)) airs → ns ≡ map (λ t. read t.declaration) (tables_of declaration trees airs)
 of_tables {A} {F} declaration trees airs read ns e =
-    let made : A → Table F = λ a. record { declaration = declaration a; trees = trees a } in
-    e ∙ sym (map-map (λ (t : Table F). read t.declaration) made airs)
+    let made : A → AirTable F = λ a. record { declaration = declaration a; trees = trees a } in
+    e ∙ sym (map-map (λ (t : AirTable F). read t.declaration) made airs)
 
 module _ {A F C : Type 0} (declaration : A → Declaration F) (trees : A → List (Tree F)) (airs : List A) (common : WrittenCommon F C) where
   pub shape_is : (zk : Bool) (lookup_bits ood_bits : ℕ) (widths counts preprocessed : List ℕ) (there : Bool) (n : ℕ)
@@ -39,7 +39,7 @@ module _ {A F C : Type 0} (declaration : A → Declaration F) (trees : A → Lis
         lookup_pow_bits = lookup_bits;
         has_randomization_commitment = zk;
         ood_pow_bits = ood_bits;
-      } ≡ script_shape zk lookup_bits ood_bits (stated (tables_of declaration trees airs) [] common)
+      } ≡ script_shape zk lookup_bits ood_bits (statement_with (tables_of declaration trees airs) [] common)
   shape_is zk lookup_bits ood_bits widths counts preprocessed there n a b e h k =
       let w = of_tables declaration trees airs (λ d. d.width) widths a in
       let p = of_tables declaration trees airs (λ d. d.public_values) counts b in

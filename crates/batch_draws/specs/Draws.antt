@@ -8,7 +8,7 @@ use Rattle.p3_field.specs.Checks.{Check, check}
 use Rattle.p3_field.specs.Ring.{Ring}
 use Rattle.p3_challenger.specs.Script.{ChallengerOf}
 use Rattle.p3_air.specs.Shape.{width_of}
-use Rattle.batch_transcript.specs.BatchScript.{Shape, Given, Draws, draws}
+use Rattle.batch_transcript.specs.BatchScript.{BatchShapeData, Given, Draws, draws}
 use Rattle.batch_transcript.specs.Buses.{batch_layout}
 use Rattle.batch_transcript.specs.declared.failure.BatchTranscriptFailure.TheVariants.{LookupPowWitness, MissingLookupPowWitness, UnexpectedLookupPowWitness, NonCanonicalLookupPowWitness, OodPowWitness, NonCanonicalOodPowWitness}
 use Rattle.batch_statement.specs.Proof.{ProofData}
@@ -18,7 +18,7 @@ use Rattle.batch_statement.specs.declared.error.BatchVerificationError.TheVarian
 use Rattle.batch_shape_checks.specs.ShapeChecks.{has_some}
 
 -- the shape of the script of a statement's proofs, with so many bits for each grinding, where the backend masks or doesn't
-abbrev pub script_shape : {F C : Type 0} → (zk : Bool) → (lookup_bits ood_bits : ℕ) → Statement F C → Shape
+abbrev pub script_shape : {F C : Type 0} → (zk : Bool) → (lookup_bits ood_bits : ℕ) → Statement F C → BatchShapeData
 script_shape zk lookup_bits ood_bits s = record {
   trace_widths = map (λ t. t.declaration.width) s.tables;
   public_value_counts = map (λ t. t.declaration.public_values) s.tables;
@@ -72,7 +72,7 @@ ood_grinding z bits w passed =
     ∷ []
 
 -- those of both in a batch of this shape, by the answers among what was drawn
-abbrev pub grinding_by : {S F E R : Type 0} → (z : F) → Shape → Option F → F → Draws S E → List (Check (BatchVerificationError R))
+abbrev pub grinding_by : {S F E R : Type 0} → (z : F) → BatchShapeData → Option F → F → Draws S E → List (Check (BatchVerificationError R))
 grinding_by z s lookup ood d =
     lookup_grinding z s.num_lookup_instances s.lookup_pow_bits lookup d.lookup_passed
     ++ ood_grinding z s.ood_pow_bits ood d.ood_passed

@@ -1,9 +1,9 @@
 //! What is drawn along a proof.
 ghost use Rattle.std.specs.Prelude.{◌≡◌, ◌^◌, ◌<◌, map, length, IfOk};
 ghost use Rattle.p3_field.specs.Checks.{NoneFails};
-ghost use Rattle.p3_field.specs.Poly.{table};
+ghost use Rattle.p3_field.specs.Poly.{tabulate};
 ghost use Rattle.batch_statement.specs.Statement.{tables_of};
-ghost use Rattle.batch_shape_checks.specs.ShapeChecks.{bounds_with, shape_checks, stated};
+ghost use Rattle.batch_shape_checks.specs.ShapeChecks.{bounds_with, shape_checks, statement_with};
 ghost use Rattle.batch_shape_checks.specs.Verdict.{IsVerdict};
 ghost use Rattle.batch_draws.specs.Draws.{drawn, grinding_checks, table_challenges};
 
@@ -18,8 +18,8 @@ use p3_challenger::{CanObserve, CanSample, GrindingChallenger};
 use p3_field::{BasedVectorSpace, ExtensionField, PrimeCore64, PrimeField64, RingCore};
 use std::alloc::Global;
 
-/// What is drawn along a proof (own): the challenges of each table's lookups, those that the verifier draws for all tables, and
-/// the challenger behind them.
+/// What is drawn along a proof (not in Plonky3): the challenges of each table's lookups, those that the verifier draws for all
+/// tables, and the challenger after them.
 #[derive(Drop)]
 pub struct Drawn<E, C> {
     /// For each table the challenges of its lookups: for each lookup the base of its bus, then beta.
@@ -33,7 +33,7 @@ pub struct Drawn<E, C> {
 }
 
 /// Draws what a verifier draws along a proof whose shape was found right, and checks its two grinding values (the first steps
-/// behind the shape's checks in `verify_batch` of Plonky3's `p3-batch-stark`).
+/// after the shape's checks in `verify_batch` of Plonky3's `p3-batch-stark`).
 ///
 /// The answer is the refusal of the first check of `grinding_checks` that fails: `UnexpectedLookupPowWitness` where no table has
 /// lookups and there is a value before their challenges; where some table has lookups `MissingLookupPowWitness` where there is
@@ -66,18 +66,21 @@ pub fn check_draws<
     lookup_bits: usize,
     ood_bits: usize,
 ) -> Result<Drawn<EF, C>, BatchVerificationError<R>>
-    requires shape { NoneFails (shape_checks {R = R} F.ring (bounds_with F.ORDER_U64 bounds) (stated (tables_of A.declaration A.trees airs.now) (map (λ v. v.items) public_values.now) common.now) proof.now) }
+    requires shape { NoneFails (shape_checks {R = R} F.ring (bounds_with F.ORDER_U64 bounds)
+        (statement_with (tables_of A.declaration A.trees airs.now) (map (λ v. v.items) public_values.now) common.now) proof.now) }
     requires lookup { 2 ^ lookup_bits < F.ORDER_U64 }
     requires ood { 2 ^ ood_bits < F.ORDER_U64 }
-    ensures verdict { let s = stated (tables_of A.declaration A.trees airs.now) (map (λ v. v.items) public_values.now) common.now in
+    ensures verdict { let s = statement_with (tables_of A.declaration A.trees airs.now) (map (λ v. v.items) public_values.now) common.now in
         IsVerdict (grinding_checks (⟦<C as BatchChallenger<F, EF, Com>>⟧.functions) F.ring EF.ring EF.DIMENSION challenger bounds.zk lookup_bits ood_bits s proof.now) result }
-    ensures challenges { let s = stated (tables_of A.declaration A.trees airs.now) (map (λ v. v.items) public_values.now) common.now in
-        IfOk result (λ d. map (λ v. v.items) d.challenges.items ≡ table (length airs.now) (table_challenges EF.ring (drawn (⟦<C as BatchChallenger<F, EF, Com>>⟧.functions) F.ring EF.ring EF.DIMENSION challenger bounds.zk lookup_bits ood_bits s proof.now) s)) }
-    ensures alpha { let s = stated (tables_of A.declaration A.trees airs.now) (map (λ v. v.items) public_values.now) common.now in
+    ensures challenges { let s = statement_with (tables_of A.declaration A.trees airs.now) (map (λ v. v.items) public_values.now) common.now in
+        IfOk result (λ d. map (λ v. v.items) d.challenges.items
+        ≡ tabulate (length airs.now) (table_challenges EF.ring
+        (drawn (⟦<C as BatchChallenger<F, EF, Com>>⟧.functions) F.ring EF.ring EF.DIMENSION challenger bounds.zk lookup_bits ood_bits s proof.now) s)) }
+    ensures alpha { let s = statement_with (tables_of A.declaration A.trees airs.now) (map (λ v. v.items) public_values.now) common.now in
         IfOk result (λ d. d.alpha ≡ (drawn (⟦<C as BatchChallenger<F, EF, Com>>⟧.functions) F.ring EF.ring EF.DIMENSION challenger bounds.zk lookup_bits ood_bits s proof.now).alpha) }
-    ensures zeta { let s = stated (tables_of A.declaration A.trees airs.now) (map (λ v. v.items) public_values.now) common.now in
+    ensures zeta { let s = statement_with (tables_of A.declaration A.trees airs.now) (map (λ v. v.items) public_values.now) common.now in
         IfOk result (λ d. d.zeta ≡ (drawn (⟦<C as BatchChallenger<F, EF, Com>>⟧.functions) F.ring EF.ring EF.DIMENSION challenger bounds.zk lookup_bits ood_bits s proof.now).zeta) }
-    ensures state { let s = stated (tables_of A.declaration A.trees airs.now) (map (λ v. v.items) public_values.now) common.now in
+    ensures state { let s = statement_with (tables_of A.declaration A.trees airs.now) (map (λ v. v.items) public_values.now) common.now in
         IfOk result (λ d. d.challenger ≡ (drawn (⟦<C as BatchChallenger<F, EF, Com>>⟧.functions) F.ring EF.ring EF.DIMENSION challenger bounds.zk lookup_bits ood_bits s proof.now).opening) }
 {
     let shape = batch_shape(alloc, airs, common, bounds.zk, lookup_bits, ood_bits)?;

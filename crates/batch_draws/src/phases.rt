@@ -78,7 +78,8 @@ pub(crate) fn play_phases<
       ood_witness = ood_witness;
     }) in
         IsVerdict (grinding_by F.ring.zero shape lookup_witness ood_witness d) result
-        × IfOk result (λ run. (run.alpha ≡ d.alpha) × (run.zeta ≡ d.zeta) × (run.challenger ≡ d.opening) × (lists run.challenges.items ≡ batch_layout EF.ring (drawn_pair shape.num_lookup_instances d) (map read_all lookups.now))) }
+        × IfOk result (λ run. (run.alpha ≡ d.alpha) × (run.zeta ≡ d.zeta) × (run.challenger ≡ d.opening)
+        × (lists run.challenges.items ≡ batch_layout EF.ring (drawn_pair shape.num_lookup_instances d) (map read_all lookups.now))) }
 {
     let mut t = BatchVerifierTranscript::<C, F, EF, Com>::new(alloc, challenger, shape)?;
     t.instance_bindings(degree_bits);

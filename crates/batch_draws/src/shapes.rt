@@ -4,7 +4,7 @@ ghost use Rattle.std.specs.Option.{option_copied};
 ghost use Rattle.p3_air.specs.Shape.{width_of};
 ghost use Rattle.p3_lookup.specs.Written.{read_all};
 ghost use Rattle.batch_statement.specs.Statement.{tables_of};
-ghost use Rattle.batch_shape_checks.specs.ShapeChecks.{has_some, stated};
+ghost use Rattle.batch_shape_checks.specs.ShapeChecks.{has_some, statement_with};
 ghost use Rattle.batch_draws.specs.Draws.{script_shape};
 
 use batch_statement::SharedData;
@@ -61,7 +61,7 @@ fn tables_with_lookups<F>(lookups: &[Lookups<F>]) -> usize
     lookups.iter().filter(|table| has_lookups(table)).count()
 }
 
-/// The commitment to the preprocessed traces, where there are such (own).
+/// The commitment to the preprocessed traces, where there are such (not in Plonky3).
 pub fn preprocessed_commitment<F, Com>(common: &SharedData<F, Com>) -> Option<&Com>
     ensures value { option_copied result ≡ option_map (λ g. g.commitment) common.now.preprocessed }
     ensures variant { is_some result ≡ is_some common.now.preprocessed }
@@ -72,7 +72,8 @@ pub fn preprocessed_commitment<F, Com>(common: &SharedData<F, Com>) -> Option<&C
     }
 }
 
-/// The shape of the script of a batch of these AIRs, with these bits for the two grindings (own). The only error is running out of memory.
+/// The shape of the script of a batch of these AIRs, with these bits for the two grindings (not in Plonky3). The only error is running out
+/// of memory.
 pub fn batch_shape<F: Field, A: Air<F>, Com>(
     alloc: Global,
     airs: &[A],
@@ -81,7 +82,7 @@ pub fn batch_shape<F: Field, A: Air<F>, Com>(
     lookup_bits: usize,
     ood_bits: usize,
 ) -> Mem<BatchShape>
-    ensures { IfOk result (λ s. s ≡ script_shape zk lookup_bits ood_bits (stated (tables_of A.declaration A.trees airs.now) [] common.now)) }
+    ensures { IfOk result (λ s. s ≡ script_shape zk lookup_bits ood_bits (statement_with (tables_of A.declaration A.trees airs.now) [] common.now)) }
 {
     Ok(BatchShape {
         trace_widths: trace_widths(alloc, airs)?,

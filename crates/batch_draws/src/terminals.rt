@@ -6,7 +6,7 @@ use p3_field::{Field, FieldCore, Mem, RingCore};
 use p3_lookup::LookupTerminal;
 use std::alloc::Global;
 
-/// The terminals that are there, in order (own). The only error is running out of memory.
+/// The terminals that are there, in order (not in Plonky3). The only error is running out of memory.
 pub fn terminals_there<E: Field>(
     alloc: Global,
     terminals: &[Option<LookupTerminal<E>>],

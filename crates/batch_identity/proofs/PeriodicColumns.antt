@@ -10,7 +10,7 @@ use Rattle.std.proofs.lemmas.Option.{slice_get_within, slice_get-map, get_or_fro
 use Rattle.std.specs.Option.{option_map}
 use Rattle.p3_field.specs.Ring.{RingLaws}
 use Rattle.p3_field.specs.Field.{TwoAdic, Extension, FieldLaws, TwoAdicLaws}
-use Rattle.p3_field.specs.Poly.{Apart, val_in}
+use Rattle.p3_field.specs.Poly.{Apart, eval_poly_in}
 use Rattle.p3_field.specs.Newton.{newton}
 use Rattle.p3_field.specs.Domain.{CosetData, point}
 use Rattle.p3_field.specs.Laws.Interpolants.{interpolant_exists, interpolant_unique, points_apart}
@@ -53,7 +53,7 @@ module _ {F E : Type 0} (f : TwoAdic F) (e : Extension F E) (L : RingLaws f.ring
       let long : length v ≡ n = over_all_rows d.log_size column P in
       let apart = subst (λ m. Apart m p) (sym long) (points_apart f.ring L f.inv W top f.root T d fits nz) in
       let same = interpolant_unique f.ring L f.inv W p v I.interpolant (newton f.ring f.inv (length v) p (λ i. get_or v i f.ring.zero)) apart I.interpolates (interpolant_exists f.ring L f.inv W p v apart) in
-      I.value_is ∙ (ap (λ g. val_in e g zeta) same ∙ ap (λ m. val_in e (newton f.ring f.inv m p (λ i. get_or v i f.ring.zero)) zeta) long)
+      I.value_is ∙ (ap (λ g. eval_poly_in e g zeta) same ∙ ap (λ m. eval_poly_in e (newton f.ring f.inv m p (λ i. get_or v i f.ring.zero)) zeta) long)
 
   -- and so of all columns
   pub values_are : {V : Type 0} (items : V → List F) (d : CosetData F) (zeta : E) (columns : List V) (height : ℕ) (ys : List E) → d.log_size ≤ top → (d.shift ≡ f.ring.zero → ⊥)

@@ -5,10 +5,10 @@ use Rattle.p3_field.specs.Checks.{NoneFails, FirstFails}
 use Rattle.p3_field.specs.Ring.{RingLaws}
 use Rattle.p3_field.specs.Field.{TwoAdic, Extension, FieldLaws}
 use Rattle.p3_field.specs.Domain.{CosetData}
-use Rattle.p3_air.specs.Tree.{Tree, ev}
+use Rattle.p3_air.specs.Tree.{Tree, eval_tree}
 use Rattle.p3_uni_stark.specs.Fold.{fold}
 use Rattle.p3_uni_stark.specs.declared.error.VerificationError.TheVariants.{OodPointInDomain, OodEvaluationMismatch}
-use Rattle.batch_verifier_folder.specs.FolderState.{OpenedWithLookups, reading_of}
+use Rattle.batch_verifier_folder.specs.FolderState.{FolderValuesWithLookups, reading_of}
 use Rattle.batch_identity.specs.Identity.{OpenedTable, vanishing_at, IsInDomain, opened_at, folded_at, Identity, identity_checks}
 use Rattle.batch_identity.proofs.Quotients.{quotient_is, not_both}
 
@@ -33,14 +33,14 @@ module _ {F E : Type 0} (f : TwoAdic F) (e : Extension F E) (d : CosetData F) (a
   outside_is value told is tells not_told h = not_both told not_told (tells (is ∙ h))
 
   -- a folder that reads the opened values folds what the identity says
-  folded_is : (p : OpenedWithLookups F E) (folded : E) → p ≡ opened_at f e d alpha zeta o → folded ≡ fold e.ring p.opened.alpha (map (ev (reading_of e.ring e.embed p)) trees)
+  folded_is : (p : FolderValuesWithLookups F E) (folded : E) → p ≡ opened_at f e d alpha zeta o → folded ≡ fold e.ring p.opened.alpha (map (eval_tree (reading_of e.ring e.embed p)) trees)
       → folded ≡ folded_at f e d alpha zeta o trees
   unfolding folded_at
-  folded_is p folded h k = k ∙ ap (λ (q : OpenedWithLookups F E). fold e.ring q.opened.alpha (map (ev (reading_of e.ring e.embed q)) trees)) h
+  folded_is p folded h k = k ∙ ap (λ (q : FolderValuesWithLookups F E). fold e.ring q.opened.alpha (map (eval_tree (reading_of e.ring e.embed q)) trees)) h
 
   -- the fold over the vanishing polynomial's value is the quotient exactly where the identity holds
-  pub divided_is : RingLaws e.ring → (inv : E → E) → FieldLaws e.ring inv → (p : OpenedWithLookups F E) (folded inverse divided : E) → (IsInDomain f e d zeta → ⊥)
-      → p ≡ opened_at f e d alpha zeta o → folded ≡ fold e.ring p.opened.alpha (map (ev (reading_of e.ring e.embed p)) trees) → inverse ≡ inv (vanishing_at f e d zeta)
+  pub divided_is : RingLaws e.ring → (inv : E → E) → FieldLaws e.ring inv → (p : FolderValuesWithLookups F E) (folded inverse divided : E) → (IsInDomain f e d zeta → ⊥)
+      → p ≡ opened_at f e d alpha zeta o → folded ≡ fold e.ring p.opened.alpha (map (eval_tree (reading_of e.ring e.embed p)) trees) → inverse ≡ inv (vanishing_at f e d zeta)
       → divided ≡ e.ring.mul folded inverse → (divided ≡ quotient) ↔ Identity f e d alpha zeta o trees quotient
   divided_is L inv W p folded inverse divided outside reads folds inverts divides =
       let v = vanishing_at f e d zeta in

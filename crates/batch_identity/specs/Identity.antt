@@ -2,16 +2,16 @@
 use Rattle.std.specs.Prelude.{◌≡◌, ℕ, ◌+◌, ◌*◌, ◌<◌, ◌≤◌, List, [], ◌∷◌, length, map, min, nat_lt, Option}
 use Rattle.p3_field.specs.Checks.{Check, check}
 use Rattle.p3_field.specs.Field.{TwoAdic, Extension}
-use Rattle.p3_field.specs.Poly.{val_in}
-use Rattle.p3_field.specs.Domain.{CosetData, van, first_selector, last_selector, transition_selector}
+use Rattle.p3_field.specs.Poly.{eval_poly_in}
+use Rattle.p3_field.specs.Domain.{CosetData, vanishing_polynomial, first_selector, last_selector, transition_selector}
 use Rattle.p3_air.specs.Shape.{Shape, Declaration, Fits, declared_shape, width_of}
-use Rattle.p3_air.specs.Tree.{Tree, ev}
+use Rattle.p3_air.specs.Tree.{Tree, eval_tree}
 use Rattle.p3_lookup.specs.Lookup.{LookupData}
 use Rattle.p3_uni_stark.specs.Fold.{fold}
 use Rattle.p3_uni_stark.specs.declared.error.VerificationError.{VerificationError}
 use Rattle.p3_uni_stark.specs.declared.error.VerificationError.TheVariants.{OodPointInDomain, OodEvaluationMismatch}
 use Rattle.batch_constraints.specs.BatchTrees.{AreLookupsOf}
-use Rattle.batch_verifier_folder.specs.FolderState.{OpenedWithLookups, reading_of}
+use Rattle.batch_verifier_folder.specs.FolderState.{FolderValuesWithLookups, reading_of}
 
 -- What is opened of a table at a point: the values of its columns there and at the next point, those of its periodic columns, and its public values;
 -- and of its lookups the values of the permutation columns over E, their challenges, and the terminals, none or one.
@@ -30,14 +30,14 @@ pub record OpenedTable (F E : Type 0) : Type 0 where
 module _ {F E : Type 0} (f : TwoAdic F) (e : Extension F E) where
   -- the value at a point of the polynomial that vanishes on a domain
   abbrev pub vanishing_at : CosetData F → E → E
-  vanishing_at d zeta = val_in e (van f.ring f.inv d) zeta
+  vanishing_at d zeta = eval_poly_in e (vanishing_polynomial f.ring f.inv d) zeta
 
   -- the point is one of the domain's: the vanishing polynomial is zero there
   abbrev pub IsInDomain : CosetData F → E → Type 0
   IsInDomain d zeta = vanishing_at d zeta ≡ e.ring.zero
 
   -- what a verifier's folder reads at zeta: the opened values, and the values there of the domain's selectors
-  abbrev pub opened_at : CosetData F → (alpha zeta : E) → OpenedTable F E → OpenedWithLookups F E
+  abbrev pub opened_at : CosetData F → (alpha zeta : E) → OpenedTable F E → FolderValuesWithLookups F E
   opened_at d alpha zeta o = record {
     opened = record {
       values = record {
@@ -47,9 +47,9 @@ module _ {F E : Type 0} (f : TwoAdic F) (e : Extension F E) where
         preprocessed_next = o.preprocessed_next;
         periodic = o.periodic;
         public = o.public;
-        first_row = val_in e (first_selector f.ring f.inv d) zeta;
-        last_row = val_in e (last_selector f.ring f.inv f.root d) zeta;
-        transition = val_in e (transition_selector f.ring f.inv f.root d) zeta;
+        first_row = eval_poly_in e (first_selector f.ring f.inv d) zeta;
+        last_row = eval_poly_in e (last_selector f.ring f.inv f.root d) zeta;
+        transition = eval_poly_in e (transition_selector f.ring f.inv f.root d) zeta;
       };
       alpha = alpha;
     };
@@ -61,7 +61,7 @@ module _ {F E : Type 0} (f : TwoAdic F) (e : Extension F E) where
 
   -- the fold by alpha of constraints that read these values
   unfoldable pub folded_at : CosetData F → (alpha zeta : E) → OpenedTable F E → List (Tree F) → E
-  folded_at d alpha zeta o trees = fold e.ring alpha (map (ev (reading_of e.ring e.embed (opened_at d alpha zeta o))) trees)
+  folded_at d alpha zeta o trees = fold e.ring alpha (map (eval_tree (reading_of e.ring e.embed (opened_at d alpha zeta o))) trees)
 
   -- the identity at zeta: the fold of the constraints is the vanishing polynomial's value times the quotient's
   abbrev pub Identity : CosetData F → (alpha zeta : E) → OpenedTable F E → List (Tree F) → (quotient : E) → Type 0
@@ -89,7 +89,7 @@ opened_shape o = record {
 
 -- Each cell that a table with these lookups reads is opened, and the lookups read what the table may send. Where there are lookups, both permutation rows
 -- have a column for the running sum and one for each lookup, and there is a terminal. There are two challenges for each lookup.
-pub record IsOpened {F E : Type 0} (d : Declaration F) (lookups : List (LookupData F)) (o : OpenedTable F E) : Type 0 where
+pub record OpensWhatIsRead {F E : Type 0} (d : Declaration F) (lookups : List (LookupData F)) (o : OpenedTable F E) : Type 0 where
   pub declared : Fits (declared_shape d) (opened_shape o)
   pub lookups_of : AreLookupsOf d lookups
   pub columns : 0 < length lookups → length lookups < (opened_shape o).permutation

@@ -2,8 +2,8 @@
 use Rattle.batch_identity.specs.declared.identity.IdentityData.{IdentityData}
 use Rattle.batch_identity.specs.Identity.{OpenedTable}
 
-abbrev pub opened_of : {F E : Type 0} → IdentityData F E → OpenedTable F E
-opened_of v = record {
+abbrev pub identity_opened_of : {F E : Type 0} → IdentityData F E → OpenedTable F E
+identity_opened_of v = record {
   trace_local = v.trace_local.now;
   trace_next = v.trace_next.now;
   preprocessed_local = v.preprocessed_local.now;

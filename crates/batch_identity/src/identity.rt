@@ -2,12 +2,12 @@
 ghost use Rattle.std.specs.Prelude.{◌≡◌, List, None, MatchResult, map};
 ghost use Rattle.p3_field.specs.Checks.{NoneFails, FirstFails};
 ghost use Rattle.p3_field.specs.Field.{TwoAdic, Extension};
-ghost use Rattle.p3_field.specs.Poly.{val};
+ghost use Rattle.p3_field.specs.Poly.{eval_poly};
 ghost use Rattle.p3_field.specs.Domain.{first_selector, last_selector, transition_selector};
 ghost use Rattle.p3_lookup.specs.Written.{read_all};
 ghost use Rattle.batch_constraints.specs.BatchTrees.{table_trees};
 ghost use Rattle.batch_verifier_folder.specs.FolderState.{all_opened};
-ghost use Rattle.batch_identity.specs.Identity.{IsInDomain, IsOpened, folded_at, identity_checks, opened_at};
+ghost use Rattle.batch_identity.specs.Identity.{IsInDomain, OpensWhatIsRead, folded_at, identity_checks, opened_at};
 
 use batch_verifier_folder::{VerifierFolderWithLookups, verifier_fold_with_lookups};
 use p3_air::{Air, BaseAir};
@@ -59,17 +59,17 @@ pub struct IdentityData<'a, F: TwoAdicCore, E> {
 pub type VerifierData<'a, SC> = IdentityData<'a, Val<SC>, Challenge<SC>>;
 
 impl<'a, F: TwoAdicField, E: ExtensionField<F>> IdentityData<'a, F, E> {
-    ghost use Rattle.batch_identity.specs.VerifierData.{opened_of};
+    ghost use Rattle.batch_identity.specs.VerifierData.{identity_opened_of};
 
     // The folder over the opened values and these selectors, which has folded nothing yet.
     fn folder(&self, selectors: &LagrangeSelectors<E>) -> VerifierFolderWithLookups<'a, F, E>
-        requires first { selectors.now.is_first_row ≡ val E.ring (map E.embed (first_selector F.ring F.inv self.now.trace_domain)) self.now.zeta }
-        requires last { selectors.now.is_last_row ≡ val E.ring (map E.embed (last_selector F.ring F.inv F.root self.now.trace_domain)) self.now.zeta }
-        requires transition { selectors.now.is_transition ≡ val E.ring (map E.embed (transition_selector F.ring F.inv F.root self.now.trace_domain)) self.now.zeta }
+        requires first { selectors.now.is_first_row ≡ eval_poly E.ring (map E.embed (first_selector F.ring F.inv self.now.trace_domain)) self.now.zeta }
+        requires last { selectors.now.is_last_row ≡ eval_poly E.ring (map E.embed (last_selector F.ring F.inv F.root self.now.trace_domain)) self.now.zeta }
+        requires transition { selectors.now.is_transition ≡ eval_poly E.ring (map E.embed (transition_selector F.ring F.inv F.root self.now.trace_domain)) self.now.zeta }
         ensures zero { result.inner.accumulator ≡ E.ring.zero }
         ensures reads { let f : TwoAdic F = record { ring = F.ring; inv = F.inv; root = F.root; generator = F.GENERATOR } in
-            let e : Extension F E = record { ring = E.ring; embed = E.embed; dimension = E.DIMENSION; basis = E.basis; parts = E.parts; whole = E.whole } in
-            all_opened result ≡ opened_at f e self.now.trace_domain self.now.alpha self.now.zeta (opened_of self.now) }
+            let e : Extension F E = record { ring = E.ring; embed = E.embed; dimension = E.DIMENSION; basis = E.basis; coefficients = E.coefficients; from_coefficients = E.from_coefficients } in
+            all_opened result ≡ opened_at f e self.now.trace_domain self.now.alpha self.now.zeta (identity_opened_of self.now) }
     {
         VerifierFolderWithLookups {
             inner: VerifierFolder {
@@ -93,7 +93,7 @@ impl<'a, F: TwoAdicField, E: ExtensionField<F>> IdentityData<'a, F, E> {
     }
 
     /// Whether the identity holds at the point (`verify_constraints_with_lookups` of `p3-batch-stark`): the fold of the
-    /// table's constraints, the AIR's and behind them those of its lookups, is the vanishing polynomial's value times the
+    /// table's constraints, the AIR's and after them those of its lookups, is the vanishing polynomial's value times the
     /// quotient's. It takes no memory.
     ///
     /// `OodPointInDomain` comes exactly where the point is one of the domain's, and then nothing else is read; else
@@ -103,12 +103,20 @@ impl<'a, F: TwoAdicField, E: ExtensionField<F>> IdentityData<'a, F, E> {
         air: &A,
         lookup_gadget: &LG,
     ) -> Result<(), VerificationError<PcsErr>>
-        requires { (IsInDomain (record { ring = F.ring; inv = F.inv; root = F.root; generator = F.GENERATOR }) (record { ring = E.ring; embed = E.embed; dimension = E.DIMENSION; basis = E.basis; parts = E.parts; whole = E.whole }) self.now.trace_domain self.now.zeta → ⊥)
-            → IsOpened (A.declaration air.now) (read_all self.now.lookups.now) (opened_of self.now) }
+        requires { (IsInDomain (record { ring = F.ring; inv = F.inv; root = F.root; generator = F.GENERATOR })
+            (record {
+              ring = E.ring;
+              embed = E.embed;
+              dimension = E.DIMENSION;
+              basis = E.basis;
+              coefficients = E.coefficients;
+              from_coefficients = E.from_coefficients;
+            }) self.now.trace_domain self.now.zeta → ⊥)
+            → OpensWhatIsRead (A.declaration air.now) (read_all self.now.lookups.now) (identity_opened_of self.now) }
         ensures { let f : TwoAdic F = record { ring = F.ring; inv = F.inv; root = F.root; generator = F.GENERATOR } in
-            let e : Extension F E = record { ring = E.ring; embed = E.embed; dimension = E.DIMENSION; basis = E.basis; parts = E.parts; whole = E.whole } in
+            let e : Extension F E = record { ring = E.ring; embed = E.embed; dimension = E.DIMENSION; basis = E.basis; coefficients = E.coefficients; from_coefficients = E.from_coefficients } in
             let trees = table_trees F.ring (A.trees air.now) (read_all self.now.lookups.now) in
-            let checks = identity_checks f e None self.now.trace_domain self.now.alpha self.now.zeta (opened_of self.now) trees self.now.quotient in
+            let checks = identity_checks f e None self.now.trace_domain self.now.alpha self.now.zeta (identity_opened_of self.now) trees self.now.quotient in
             MatchResult result (λ _. NoneFails checks) (FirstFails checks) }
     {
         if self

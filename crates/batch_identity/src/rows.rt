@@ -16,7 +16,15 @@ pub fn recombined_row<F: Field, E: ExtensionField<F>>(
     columns: usize,
 ) -> Mem<Vec<E>>
     requires { length row.now ≡ columns * E.DIMENSION }
-    ensures { IfOk result (λ v. v.items ≡ recombined_row (record { ring = E.ring; embed = E.embed; dimension = E.DIMENSION; basis = E.basis; parts = E.parts; whole = E.whole }) row.now columns) }
+    ensures { IfOk result (λ v. v.items
+        ≡ recombined_row (record {
+          ring = E.ring;
+          embed = E.embed;
+          dimension = E.DIMENSION;
+          basis = E.basis;
+          coefficients = E.coefficients;
+          from_coefficients = E.from_coefficients;
+        }) row.now columns) }
 {
     let mut values = Vec::with_capacity(alloc, columns)?;
     for j in 0..columns {

@@ -7,8 +7,8 @@ use Rattle.p3_field.specs.Domain.{CosetData, point}
 use Rattle.p3_field.specs.Field.{TwoAdic, FieldLaws, TwoAdicLaws}
 use Rattle.p3_field.specs.Laws.Algebra.{one_mul}
 use Rattle.p3_field.specs.Laws.SubgroupSelectors.{subgroup}
-use Rattle.p3_field.specs.Laws.Tables.{get_or-table, length-table}
-use Rattle.p3_field.specs.Poly.{table}
+use Rattle.p3_field.specs.Laws.Tabulate.{get_or-tabulate, length-tabulate}
+use Rattle.p3_field.specs.Poly.{tabulate}
 use Rattle.p3_field.specs.Ring.{RingLaws}
 use Rattle.p3_commit.specs.Space.{EachOf, IsPart}
 use Rattle.p3_uni_stark.specs.Laws.Parts.{parts_all_disjoint}
@@ -16,11 +16,11 @@ use Rattle.p3_uni_stark.specs.Recombine.{AllDisjoint}
 use Rattle.batch_setting.specs.Domains.{chunks_over, offered}
 
 -- the item of a table at a place
-item_is : {X : Type 0} (n : ℕ) (t : ℕ → X) (i : ℕ) (x : X) → slice_get (table n t) i ≡ Some x → t i ≡ x
+item_is : {X : Type 0} (n : ℕ) (t : ℕ → X) (i : ℕ) (x : X) → slice_get (tabulate n t) i ≡ Some x → t i ≡ x
 item_is n t i x e =
-    let within = slice_get_within (table n t) i x e in
-    let low : i < n = omega (arith, within, length-table n t) in
-    sym (get_or-table n t i x low) ∙ get_or_from_slice_get (table n t) i x x e
+    let within = slice_get_within (tabulate n t) i x e in
+    let low : i < n = omega (arith, within, length-tabulate n t) in
+    sym (get_or-tabulate n t i x low) ∙ get_or_from_slice_get (tabulate n t) i x x e
 
 parts_size : (m k : ℕ) → k ≤ m → 2 ^ (m - k) * 2 ^ k ≡ 2 ^ m
 parts_size m k h =
@@ -32,7 +32,7 @@ module _ {F : Type 0} (f : TwoAdic F) (masks bits chunks : ℕ) where
   pub chunks_count : length (chunks_over f.ring f.root f.generator masks bits chunks) ≡ 2 ^ (chunks + masks)
   chunks_count =
       let whole = offered f.ring f.generator (subgroup f.ring bits) chunks in
-      length-table (2 ^ (chunks + masks)) (λ i. record { shift = point f.ring f.root whole i; log_size = whole.log_size - (chunks + masks) })
+      length-tabulate (2 ^ (chunks + masks)) (λ i. record { shift = point f.ring f.root whole i; log_size = whole.log_size - (chunks + masks) })
 
   chunks_parts : masks ≤ bits
       → EachOf (2 ^ (chunks + masks)) (chunks_over f.ring f.root f.generator masks bits chunks) (IsPart f.ring f.root (offered f.ring f.generator (subgroup f.ring bits) chunks) (2 ^ (chunks + masks)))

@@ -18,6 +18,6 @@ lengths_fit items height columns declared e h =
 pub image_at : {X Y : Type 0} (f : X → Y) (xs : List X) (i : ℕ) (x : X) (d : Y) → i < length xs → x ≡ get_or xs i x → f x ≡ get_or (map f xs) i d
 image_at f xs i x d b e = sym (get_or-map f xs i x d b ∙ ap f (sym e))
 
--- the item at a place, whatever stands behind the end
+-- the item at a place, whatever stands past the end
 pub item_at : {X : Type 0} (xs : List X) (i : ℕ) (d x : X) → i < length xs → x ≡ get_or xs i x → x ≡ get_or xs i d
 item_at xs i d x b e = sym (get_or_default xs i d x b ∙ sym e)

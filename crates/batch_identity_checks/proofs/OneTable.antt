@@ -11,10 +11,10 @@ use Rattle.p3_lookup.specs.Written.{Written, read, read_all}
 use Rattle.p3_lookup.specs.declared.terminal.LookupTerminal.{LookupTerminal}
 use Rattle.p3_uni_stark.specs.Recombine.{recombined}
 use Rattle.batch_constraints.specs.BatchTrees.{AreLookupsOf, table_trees}
-use Rattle.batch_identity.specs.Identity.{IsOpened, OpenedTable, identity_checks}
+use Rattle.batch_identity.specs.Identity.{OpensWhatIsRead, OpenedTable, identity_checks}
 use Rattle.batch_identity.specs.Laws.Opened.{declared_lengths_enough}
 use Rattle.batch_statement.specs.Proof.{OpenedWithLookups}
-use Rattle.batch_statement.specs.Statement.{Table}
+use Rattle.batch_statement.specs.Statement.{AirTable}
 use Rattle.batch_statement.specs.declared.error.BatchVerificationError.{BatchVerificationError}
 use Rattle.batch_shape_checks.specs.Laws.Verdicts.{refused, refused_before, verdict, verdict_after}
 use Rattle.batch_shape_checks.specs.ShapeChecks.{is_there, table_checks}
@@ -25,7 +25,7 @@ use Rattle.batch_identity_checks.proofs.Lengths.{declared_lengths}
 same_presence : {E : Type 0} (t : Option (LookupTerminal E)) → is_there t ≡ is_there (option_map (λ u. u.0) t)
 same_presence t = elim t as (λ v. is_there v ≡ is_there (option_map (λ u. u.0) v)) [ None ↦ refl | Some u ↦ refl ]
 
-module _ {F E : Type 0} (R : Type 0) (f : TwoAdic F) (e : Extension F E) (i log_height : ℕ) (t : Table F) (written : List (Written F)) (publics : List F) (challenges : List E)
+module _ {F E : Type 0} (R : Type 0) (f : TwoAdic F) (e : Extension F E) (i log_height : ℕ) (t : AirTable F) (written : List (Written F)) (publics : List F) (challenges : List E)
     (terminal : Option (LookupTerminal E)) (domains : List (CosetData F)) (alpha zeta : E) (o : OpenedWithLookups E) where
   -- its periodic columns
   pub columns_refused : (height : ℕ) (x : BatchVerificationError R) → height ≡ 2 ^ log_height → FirstFails (periods_check {R = R} height (map length t.declaration.periodic)) x
@@ -44,15 +44,15 @@ module _ {F E : Type 0} (R : Type 0) (f : TwoAdic F) (e : Extension F E) (i log_
     pub all_are_opened : (ls : List (Written F)) → ls ≡ written → All (λ c. c < t.declaration.width) t.declaration.main_next
         → All (λ c. c < width_of t.declaration.preprocessed) t.declaration.preprocessed_next → AreLookupsOf t.declaration (read_all written)
         → NoneFails (table_checks {R = R} i t.declaration (length publics) (length domains) e.dimension (length (read_all written)) o (is_there terminal))
-        → length challenges ≡ 2 * length (read_all written) → IsOpened t.declaration (read_all ls) reads
+        → length challenges ≡ 2 * length (read_all written) → OpensWhatIsRead t.declaration (read_all ls) reads
     all_are_opened ls same main preprocessed are shape pairs =
         let lookups = read_all written in
         let lengths = declared_lengths R i t.declaration (length publics) (length domains) e.dimension (length lookups) o (is_there terminal) shape
         f e (subgroup f.ring log_height) publics challenges (option_map (λ u. u.0) terminal) zeta refl (same_presence terminal) pairs in
         let values = opened_table f e (subgroup f.ring log_height) t.declaration (length lookups) publics challenges (option_to_list (option_map (λ u. u.0) terminal)) zeta o in
-        let opened : IsOpened t.declaration lookups values = declared_lengths_enough t.declaration lookups values main preprocessed are lengths in
+        let opened : OpensWhatIsRead t.declaration lookups values = declared_lengths_enough t.declaration lookups values main preprocessed are lengths in
         let back : values ≡ reads = sym read_is in
-        subst (λ (x : OpenedTable F E). IsOpened t.declaration (read_all ls) x) back (subst (λ (ws : List (Written F)). IsOpened t.declaration (read_all ws) values) (sym same) opened)
+        subst (λ (x : OpenedTable F E). OpensWhatIsRead t.declaration (read_all ls) x) back (subst (λ (ws : List (Written F)). OpensWhatIsRead t.declaration (read_all ws) values) (sym same) opened)
 
     -- the verdict on its identity is that of all its checks where its periodic columns fit
     pub decided : {T : Type 0} (height : ℕ) (d : CosetData F) (a x : E) (ls : List (Written F)) (quotient : E) (r : Result T (BatchVerificationError R)) → height ≡ 2 ^ log_height → d ≡ domain

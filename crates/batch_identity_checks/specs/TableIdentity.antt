@@ -21,7 +21,7 @@ use Rattle.batch_identity.specs.Identity.{OpenedTable, identity_checks}
 use Rattle.batch_identity.specs.OpenedRows.{recombined_row}
 use Rattle.batch_identity.specs.PeriodicValues.{periodic_value}
 use Rattle.batch_statement.specs.Proof.{OpenedWithLookups}
-use Rattle.batch_statement.specs.Statement.{Statement, Table}
+use Rattle.batch_statement.specs.Statement.{Statement, AirTable}
 use Rattle.batch_statement.specs.declared.error.BatchVerificationError.{BatchVerificationError}
 use Rattle.batch_statement.specs.declared.error.BatchVerificationError.TheVariants.{Verification, Lookup}
 use Rattle.batch_shape_checks.specs.ShapeChecks.{no_opened, no_table, preprocessed_next_of}
@@ -31,9 +31,9 @@ abbrev pub verified : {R : Type 0} → Check (VerificationError R) → Check (Ba
 verified {R} c = record { refusal = λ e. (x : VerificationError R) × c.refusal x × (e ≡ Verification x); holds = c.holds }
 
 -- the next row that is read: what is opened where next columns are declared, else the zeros
-abbrev pub next_row : {E : Type 0} → (zeros : List E) → List ℕ → Option (List E) → List E
-next_row zeros [] opened = zeros
-next_row zeros (c ∷ cs) opened = unwrap_or opened []
+abbrev pub next_row_or_zeros : {E : Type 0} → (zeros : List E) → List ℕ → Option (List E) → List E
+next_row_or_zeros zeros [] opened = zeros
+next_row_or_zeros zeros (c ∷ cs) opened = unwrap_or opened []
 
 -- the preprocessed columns' values that are opened
 abbrev pub preprocessed_local_of : {E : Type 0} → Option (PreprocessedData E) → List E
@@ -41,9 +41,9 @@ preprocessed_local_of None = []
 preprocessed_local_of (Some p) = p.local
 
 -- how many permutation columns there are with so many lookups: one for the running sum and one for each lookup
-abbrev pub permutation_columns : ℕ → ℕ
-permutation_columns zero = 0
-permutation_columns (suc n) = suc n + 1
+abbrev pub permutation_column_count : ℕ → ℕ
+permutation_column_count zero = 0
+permutation_column_count (suc n) = suc n + 1
 
 -- What a table that declares d reads at zeta of what is opened: it has so many lookups, and these public values, challenges and terminals. A next row
 -- of which no column is declared is a row of zeros; periodic columns have the values of their interpolants on the domain of the table's rows.
@@ -51,13 +51,13 @@ abbrev pub opened_table : {F E : Type 0} → TwoAdic F → Extension F E → Cos
     → OpenedWithLookups E → OpenedTable F E
 opened_table f e domain d lookups publics challenges terminals zeta o = record {
   trace_local = o.base.trace_local;
-  trace_next = next_row (replicate d.width e.ring.zero) d.main_next o.base.trace_next;
+  trace_next = next_row_or_zeros (replicate d.width e.ring.zero) d.main_next o.base.trace_next;
   preprocessed_local = preprocessed_local_of o.base.preprocessed;
-  preprocessed_next = next_row (replicate (width_of d.preprocessed) e.ring.zero) d.preprocessed_next (preprocessed_next_of o.base.preprocessed);
+  preprocessed_next = next_row_or_zeros (replicate (width_of d.preprocessed) e.ring.zero) d.preprocessed_next (preprocessed_next_of o.base.preprocessed);
   periodic = map (periodic_value f e domain zeta) d.periodic;
   public = publics;
-  permutation_local = recombined_row e o.permutation_local (permutation_columns lookups);
-  permutation_next = recombined_row e o.permutation_next (permutation_columns lookups);
+  permutation_local = recombined_row e o.permutation_local (permutation_column_count lookups);
+  permutation_next = recombined_row e o.permutation_next (permutation_column_count lookups);
   challenges = challenges;
   terminals = terminals;
 }
@@ -71,7 +71,7 @@ periods_check height lengths = record {
 
 -- The checks of table i at zeta, in order: its periodic columns fit its rows, of which there are 2^log_height, zeta isn't one of the points of their
 -- domain, and the identity holds there, with the quotient recombined from its chunks on these domains.
-abbrev pub identity_of_table : {F E R : Type 0} → TwoAdic F → Extension F E → (i log_height : ℕ) → Table F → List (LookupData F) → (publics : List F) → (challenges : List E)
+abbrev pub identity_of_table : {F E R : Type 0} → TwoAdic F → Extension F E → (i log_height : ℕ) → AirTable F → List (LookupData F) → (publics : List F) → (challenges : List E)
     → (terminal : Option E) → (domains : List (CosetData F)) → (alpha zeta : E) → OpenedWithLookups E → List (Check (BatchVerificationError R))
 identity_of_table {R = R} f e i log_height t lookups publics challenges terminal domains alpha zeta o =
     let domain = subgroup f.ring log_height in
@@ -81,7 +81,7 @@ identity_of_table {R = R} f e i log_height t lookups publics challenges terminal
     (table_trees f.ring t.trees lookups) (recombined f e domains o.base.quotient_chunks zeta))
 
 -- the same of table i of a batch, by the lists of all tables
-abbrev pub identity_by : {F E R : Type 0} → TwoAdic F → Extension F E → (masks : ℕ) → List (Table F) → List (List F) → List (List (LookupData F)) → List (OpenedWithLookups E)
+abbrev pub identity_by : {F E R : Type 0} → TwoAdic F → Extension F E → (masks : ℕ) → List (AirTable F) → List (List F) → List (List (LookupData F)) → List (OpenedWithLookups E)
     → (terminals : List (Option E)) → (degree_bits : List ℕ) → (challenges : List (List E)) → (domains : List (List (CosetData F))) → (alpha zeta : E) → ℕ
     → List (Check (BatchVerificationError R))
 identity_by f e masks tables publics lookups instances terminals degree_bits challenges domains alpha zeta i =

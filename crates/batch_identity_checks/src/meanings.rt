@@ -12,6 +12,7 @@ ghost use Rattle.batch_identity_checks.specs.TableIdentity.{identity_at, termina
 /// verdict on them.
 pub fn there_is_one_verdict<F, E, Com, R>()
     ensures identities { (f : TwoAdic F) (e : Extension F E) (masks : ℕ) (s : Statement F Com) (instances : List (OpenedWithLookups E)) (terminals : List (Option E)) (degree_bits : List ℕ)
-        (challenges : List (List E)) (domains : List (List (CosetData F))) (alpha zeta : E) (i : ℕ) → AreSingle (identity_at {R = R} f e masks s instances terminals degree_bits challenges domains alpha zeta i) }
+        (challenges : List (List E)) (domains : List (List (CosetData F))) (alpha zeta : E) (i : ℕ)
+        → AreSingle (identity_at {R = R} f e masks s instances terminals degree_bits challenges domains alpha zeta i) }
     ensures terminals { (r : Ring E) (terminals : List (Option E)) → AreSingle (terminal_check {R = R} r terminals) }
 {}

@@ -6,8 +6,8 @@ ghost use Rattle.p3_field.specs.Laws.SubgroupSelectors.{subgroup};
 ghost use Rattle.p3_lookup.specs.Written.{read_all};
 ghost use Rattle.p3_uni_stark.specs.Recombine.{AllDisjoint, recombined};
 ghost use Rattle.batch_constraints.specs.BatchTrees.{AreLookupsOf, table_trees};
-ghost use Rattle.batch_identity.specs.Identity.{IsOpened, identity_checks};
-ghost use Rattle.batch_identity.specs.VerifierData.{opened_of};
+ghost use Rattle.batch_identity.specs.Identity.{OpensWhatIsRead, identity_checks};
+ghost use Rattle.batch_identity.specs.VerifierData.{identity_opened_of};
 ghost use Rattle.batch_shape_checks.specs.ShapeChecks.{is_there, table_checks};
 ghost use Rattle.batch_shape_checks.specs.Verdict.{IsDecided, IsVerdict};
 ghost use Rattle.p3_uni_stark.specs.declared.error.VerificationError.TheVariants.{OodEvaluationMismatch, OodPointInDomain};
@@ -63,7 +63,7 @@ fn quotient_at<F: TwoAdicField, E: ExtensionField<F>>(
     requires dimension { All (λ c. length c ≡ E.DIMENSION) opened.now.base.quotient_chunks }
     requires disjoint { AllDisjoint (record { ring = F.ring; inv = F.inv; root = F.root; generator = F.GENERATOR }) domains.now }
     ensures { let f : TwoAdic F = record { ring = F.ring; inv = F.inv; root = F.root; generator = F.GENERATOR } in
-        let e : Extension F E = record { ring = E.ring; embed = E.embed; dimension = E.DIMENSION; basis = E.basis; parts = E.parts; whole = E.whole } in
+        let e : Extension F E = record { ring = E.ring; embed = E.embed; dimension = E.DIMENSION; basis = E.basis; coefficients = E.coefficients; from_coefficients = E.from_coefficients } in
         result ≡ recombined f e domains.now opened.now.base.quotient_chunks zeta }
 {
     let base = &opened.base_opened_values;
@@ -85,7 +85,7 @@ fn table_data<'a, F: TwoAdicField, E: ExtensionField<F>, A: BaseAir<F>>(
     zeta: E,
 ) -> IdentityData<'a, F, E>
     requires { let f : TwoAdic F = record { ring = F.ring; inv = F.inv; root = F.root; generator = F.GENERATOR } in
-        let e : Extension F E = record { ring = E.ring; embed = E.embed; dimension = E.DIMENSION; basis = E.basis; parts = E.parts; whole = E.whole } in
+        let e : Extension F E = record { ring = E.ring; embed = E.embed; dimension = E.DIMENSION; basis = E.basis; coefficients = E.coefficients; from_coefficients = E.from_coefficients } in
         AreMade f e domain (A.declaration air.now) (length lookups.now) zeta opened.now made.now }
     ensures zeta { result.zeta ≡ zeta }
     ensures alpha { result.alpha ≡ alpha }
@@ -93,8 +93,8 @@ fn table_data<'a, F: TwoAdicField, E: ExtensionField<F>, A: BaseAir<F>>(
     ensures domain { result.trace_domain ≡ domain }
     ensures quotient { result.quotient ≡ quotient }
     ensures opened { let f : TwoAdic F = record { ring = F.ring; inv = F.inv; root = F.root; generator = F.GENERATOR } in
-        let e : Extension F E = record { ring = E.ring; embed = E.embed; dimension = E.DIMENSION; basis = E.basis; parts = E.parts; whole = E.whole } in
-        opened_of result ≡ opened_table f e domain (A.declaration air.now) (length lookups.now) public_values.now challenges.now terminals.now zeta opened.now }
+        let e : Extension F E = record { ring = E.ring; embed = E.embed; dimension = E.DIMENSION; basis = E.basis; coefficients = E.coefficients; from_coefficients = E.from_coefficients } in
+        identity_opened_of result ≡ opened_table f e domain (A.declaration air.now) (length lookups.now) public_values.now challenges.now terminals.now zeta opened.now }
 {
     let base = &opened.base_opened_values;
     IdentityData {
@@ -142,11 +142,11 @@ fn decide<F: TwoAdicField, E: ExtensionField<F>, A: Air<F>, R>(
     air: &A,
     given: &IdentityData<'_, F, E>,
 ) -> Result<(), BatchVerificationError<R>>
-    requires { IsOpened (A.declaration air.now) (read_all given.now.lookups.now) (opened_of given.now) }
+    requires { OpensWhatIsRead (A.declaration air.now) (read_all given.now.lookups.now) (identity_opened_of given.now) }
     ensures { let f : TwoAdic F = record { ring = F.ring; inv = F.inv; root = F.root; generator = F.GENERATOR } in
-        let e : Extension F E = record { ring = E.ring; embed = E.embed; dimension = E.DIMENSION; basis = E.basis; parts = E.parts; whole = E.whole } in
+        let e : Extension F E = record { ring = E.ring; embed = E.embed; dimension = E.DIMENSION; basis = E.basis; coefficients = E.coefficients; from_coefficients = E.from_coefficients } in
         let trees = table_trees F.ring (A.trees air.now) (read_all given.now.lookups.now) in
-        IsDecided (map verified (identity_checks f e {R = R} (Some index) given.now.trace_domain given.now.alpha given.now.zeta (opened_of given.now) trees given.now.quotient)) result }
+        IsDecided (map verified (identity_checks f e {R = R} (Some index) given.now.trace_domain given.now.alpha given.now.zeta (identity_opened_of given.now) trees given.now.quotient)) result }
 {
     match given.verify_constraints_with_lookups::<A, LogUpGadget, ()>(air, &LogUpGadget::new()) {
         Ok(()) => Ok(()),
@@ -170,14 +170,16 @@ pub(crate) fn check_table<F: TwoAdicField, E: ExtensionField<F>, A: Air<F>, R>(
     alpha: E,
     zeta: E,
 ) -> Result<(), BatchVerificationError<R>>
-    requires shape { NoneFails (table_checks {R = R} index (A.declaration air.now) (length public_values.now) (length domains.now) E.DIMENSION (length (read_all lookups.now)) opened.now (is_there terminal.now)) }
+    requires shape { NoneFails (table_checks {R = R} index (A.declaration air.now) (length public_values.now) (length domains.now) E.DIMENSION
+        (length (read_all lookups.now)) opened.now (is_there terminal.now)) }
     requires reads { AreLookupsOf (A.declaration air.now) (read_all lookups.now) }
     requires challenges { length challenges.now ≡ 2 * length (read_all lookups.now) }
     requires disjoint { AllDisjoint (record { ring = F.ring; inv = F.inv; root = F.root; generator = F.GENERATOR }) domains.now }
     requires fits { log_height ≤ F.TWO_ADICITY }
     ensures { let f : TwoAdic F = record { ring = F.ring; inv = F.inv; root = F.root; generator = F.GENERATOR } in
-        let e : Extension F E = record { ring = E.ring; embed = E.embed; dimension = E.DIMENSION; basis = E.basis; parts = E.parts; whole = E.whole } in
-        IsVerdict (identity_of_table f e index log_height (record { declaration = A.declaration air.now; trees = A.trees air.now }) (read_all lookups.now) public_values.now challenges.now (option_map (λ t. t.0) terminal.now) domains.now alpha zeta opened.now) result }
+        let e : Extension F E = record { ring = E.ring; embed = E.embed; dimension = E.DIMENSION; basis = E.basis; coefficients = E.coefficients; from_coefficients = E.from_coefficients } in
+        IsVerdict (identity_of_table f e index log_height (record { declaration = A.declaration air.now; trees = A.trees air.now })
+        (read_all lookups.now) public_values.now challenges.now (option_map (λ t. t.0) terminal.now) domains.now alpha zeta opened.now) result }
 {
     let domain = rows_domain::<F>(log_height);
     let columns = fitting_columns(air, domain.size())?;

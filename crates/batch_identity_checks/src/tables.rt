@@ -7,7 +7,7 @@ ghost use Rattle.p3_lookup.specs.Written.{read_all};
 ghost use Rattle.p3_uni_stark.specs.Recombine.{AllDisjoint};
 ghost use Rattle.batch_constraints.specs.BatchTrees.{AreLookupsOf};
 ghost use Rattle.batch_statement.specs.Statement.{tables_of};
-ghost use Rattle.batch_shape_checks.specs.ShapeChecks.{opened_at};
+ghost use Rattle.batch_shape_checks.specs.ShapeChecks.{opened_checks_at};
 ghost use Rattle.batch_shape_checks.specs.Verdict.{IsVerdict};
 ghost use Rattle.batch_identity_checks.specs.TableIdentity.{identity_by};
 
@@ -46,13 +46,15 @@ fn table_at<F: TwoAdicField, E: ExtensionField<F>, A: Air<F>, R>(
     requires challenges { index < length challenges.now }
     requires domains { index < length domains.now }
     requires reads { (a : A) → AreLookupsOf (A.declaration (get_or airs.now index a)) (read_all (get_or lookups.now index [])) }
-    requires shape { NoneFails (opened_at {R = R} (tables_of A.declaration A.trees airs.now) (map (λ v. v.items) public_values.now) (map read_all lookups.now) instances.now (map (option_map (λ t. t.0)) terminals.now) (length (get_or (map (λ v. v.items) domains.now) index [])) E.DIMENSION index) }
+    requires shape { NoneFails (opened_checks_at {R = R} (tables_of A.declaration A.trees airs.now) (map (λ v. v.items) public_values.now)
+        (map read_all lookups.now) instances.now (map (option_map (λ t. t.0)) terminals.now) (length (get_or (map (λ v. v.items) domains.now) index [])) E.DIMENSION index) }
     requires pairs { length (get_or (map (λ v. v.items) challenges.now) index []) ≡ 2 * length (get_or (map read_all lookups.now) index []) }
     requires disjoint { AllDisjoint (record { ring = F.ring; inv = F.inv; root = F.root; generator = F.GENERATOR }) (get_or (map (λ v. v.items) domains.now) index []) }
     requires fits { get_or degree_bits.now index 0 - masks ≤ F.TWO_ADICITY }
     ensures { let f : TwoAdic F = record { ring = F.ring; inv = F.inv; root = F.root; generator = F.GENERATOR } in
-        let e : Extension F E = record { ring = E.ring; embed = E.embed; dimension = E.DIMENSION; basis = E.basis; parts = E.parts; whole = E.whole } in
-        IsVerdict (identity_by f e masks (tables_of A.declaration A.trees airs.now) (map (λ v. v.items) public_values.now) (map read_all lookups.now) instances.now (map (option_map (λ t. t.0)) terminals.now) degree_bits.now (map (λ v. v.items) challenges.now) (map (λ v. v.items) domains.now) alpha zeta index) result }
+        let e : Extension F E = record { ring = E.ring; embed = E.embed; dimension = E.DIMENSION; basis = E.basis; coefficients = E.coefficients; from_coefficients = E.from_coefficients } in
+        IsVerdict (identity_by f e masks (tables_of A.declaration A.trees airs.now) (map (λ v. v.items) public_values.now) (map read_all lookups.now) instances.now
+        (map (option_map (λ t. t.0)) terminals.now) degree_bits.now (map (λ v. v.items) challenges.now) (map (λ v. v.items) domains.now) alpha zeta index) result }
 {
     let table = &lookups[index];
     check_table(
@@ -94,13 +96,17 @@ pub(crate) fn check_tables<F: TwoAdicField, E: ExtensionField<F>, A: Air<F>, R>(
     requires challenges { length challenges.now ≡ length airs.now }
     requires domains { length domains.now ≡ length airs.now }
     requires reads { (i : ℕ) (a : A) → i < length airs.now → AreLookupsOf (A.declaration (get_or airs.now i a)) (read_all (get_or lookups.now i [])) }
-    requires shape { (i : ℕ) → i < length airs.now → NoneFails (opened_at {R = R} (tables_of A.declaration A.trees airs.now) (map (λ v. v.items) public_values.now) (map read_all lookups.now) instances.now (map (option_map (λ t. t.0)) terminals.now) (length (get_or (map (λ v. v.items) domains.now) i [])) E.DIMENSION i) }
+    requires shape { (i : ℕ) → i < length airs.now
+        → NoneFails (opened_checks_at {R = R} (tables_of A.declaration A.trees airs.now) (map (λ v. v.items) public_values.now) (map read_all lookups.now) instances.now
+        (map (option_map (λ t. t.0)) terminals.now) (length (get_or (map (λ v. v.items) domains.now) i [])) E.DIMENSION i) }
     requires pairs { (i : ℕ) → i < length airs.now → length (get_or (map (λ v. v.items) challenges.now) i []) ≡ 2 * length (get_or (map read_all lookups.now) i []) }
     requires disjoint { (i : ℕ) → i < length airs.now → AllDisjoint (record { ring = F.ring; inv = F.inv; root = F.root; generator = F.GENERATOR }) (get_or (map (λ v. v.items) domains.now) i []) }
     requires fits { (i : ℕ) → i < length airs.now → get_or degree_bits.now i 0 - masks ≤ F.TWO_ADICITY }
     ensures { let f : TwoAdic F = record { ring = F.ring; inv = F.inv; root = F.root; generator = F.GENERATOR } in
-        let e : Extension F E = record { ring = E.ring; embed = E.embed; dimension = E.DIMENSION; basis = E.basis; parts = E.parts; whole = E.whole } in
-        IsVerdict (in_turn (length airs.now) (identity_by f e masks (tables_of A.declaration A.trees airs.now) (map (λ v. v.items) public_values.now) (map read_all lookups.now) instances.now (map (option_map (λ t. t.0)) terminals.now) degree_bits.now (map (λ v. v.items) challenges.now) (map (λ v. v.items) domains.now) alpha zeta)) result }
+        let e : Extension F E = record { ring = E.ring; embed = E.embed; dimension = E.DIMENSION; basis = E.basis; coefficients = E.coefficients; from_coefficients = E.from_coefficients } in
+        IsVerdict (in_turn (length airs.now)
+        (identity_by f e masks (tables_of A.declaration A.trees airs.now) (map (λ v. v.items) public_values.now) (map read_all lookups.now) instances.now
+        (map (option_map (λ t. t.0)) terminals.now) degree_bits.now (map (λ v. v.items) challenges.now) (map (λ v. v.items) domains.now) alpha zeta)) result }
 {
     for index in 0..airs.len() {
         table_at(

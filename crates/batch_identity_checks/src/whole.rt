@@ -3,12 +3,12 @@ ghost use Rattle.std.specs.Prelude.{◌≡◌, ℕ, ◌+◌, ◌-◌, ◌*◌, �
 ghost use Rattle.std.specs.Prelude.{slice_index_or as get_or};
 ghost use Rattle.p3_field.specs.Field.{TwoAdic, Extension};
 ghost use Rattle.p3_field.specs.Checks.{NoneFails, in_turn};
-ghost use Rattle.p3_field.specs.Poly.{table};
+ghost use Rattle.p3_field.specs.Poly.{tabulate};
 ghost use Rattle.p3_lookup.specs.Written.{read_all};
 ghost use Rattle.p3_uni_stark.specs.Recombine.{AllDisjoint};
 ghost use Rattle.batch_statement.specs.Statement.{Statement, WellFormed, read_common, tables_of};
 ghost use Rattle.batch_setting.specs.Domains.{chunks_over};
-ghost use Rattle.batch_shape_checks.specs.ShapeChecks.{AreCounted, bounds_with, chunks_at, opened_at, shape_checks, stated};
+ghost use Rattle.batch_shape_checks.specs.ShapeChecks.{HaveItemForEachTable, bounds_with, log_chunks_at, opened_checks_at, shape_checks, statement_with};
 ghost use Rattle.batch_shape_checks.specs.Verdict.{IsVerdict};
 ghost use Rattle.batch_identity_checks.specs.TableIdentity.{identity_at};
 
@@ -36,17 +36,20 @@ fn batch_identities<F: TwoAdicField, E: ExtensionField<F>, A: Air<F>, Com, Openi
     zeta: E,
 ) -> Result<(), BatchVerificationError<R>>
     requires formed { WellFormed (map A.declaration airs.now) (read_common common.now) }
-    requires counted { AreCounted (stated (tables_of A.declaration A.trees airs.now) (map (λ v. v.items) public_values.now) common.now) proof.now }
+    requires counted { HaveItemForEachTable (statement_with (tables_of A.declaration A.trees airs.now) (map (λ v. v.items) public_values.now) common.now) proof.now }
     requires lists { length challenges.now ≡ length airs.now }
     requires domains { length domains.now ≡ length airs.now }
-    requires shape { (i : ℕ) → i < length airs.now → NoneFails (opened_at {R = R} (tables_of A.declaration A.trees airs.now) (map (λ v. v.items) public_values.now) (map read_all common.now.lookups) proof.now.instances proof.now.lookup_terminals (length (get_or (map (λ v. v.items) domains.now) i [])) E.DIMENSION i) }
+    requires shape { (i : ℕ) → i < length airs.now
+        → NoneFails (opened_checks_at {R = R} (tables_of A.declaration A.trees airs.now) (map (λ v. v.items) public_values.now)
+        (map read_all common.now.lookups) proof.now.instances proof.now.lookup_terminals (length (get_or (map (λ v. v.items) domains.now) i [])) E.DIMENSION i) }
     requires pairs { (i : ℕ) → i < length airs.now → length (get_or (map (λ v. v.items) challenges.now) i []) ≡ 2 * length (get_or (map read_all common.now.lookups) i []) }
     requires disjoint { (i : ℕ) → i < length airs.now → AllDisjoint (record { ring = F.ring; inv = F.inv; root = F.root; generator = F.GENERATOR }) (get_or (map (λ v. v.items) domains.now) i []) }
     requires fits { (i : ℕ) → i < length airs.now → get_or proof.now.degree_bits i 0 - masks ≤ F.TWO_ADICITY }
     ensures { let f : TwoAdic F = record { ring = F.ring; inv = F.inv; root = F.root; generator = F.GENERATOR } in
-        let e : Extension F E = record { ring = E.ring; embed = E.embed; dimension = E.DIMENSION; basis = E.basis; parts = E.parts; whole = E.whole } in
-        let s = stated (tables_of A.declaration A.trees airs.now) (map (λ v. v.items) public_values.now) common.now in
-        IsVerdict (in_turn (length airs.now) (identity_at f e masks s proof.now.instances proof.now.lookup_terminals proof.now.degree_bits (map (λ v. v.items) challenges.now) (map (λ v. v.items) domains.now) alpha zeta)) result }
+        let e : Extension F E = record { ring = E.ring; embed = E.embed; dimension = E.DIMENSION; basis = E.basis; coefficients = E.coefficients; from_coefficients = E.from_coefficients } in
+        let s = statement_with (tables_of A.declaration A.trees airs.now) (map (λ v. v.items) public_values.now) common.now in
+        IsVerdict (in_turn (length airs.now)
+        (identity_at f e masks s proof.now.instances proof.now.lookup_terminals proof.now.degree_bits (map (λ v. v.items) challenges.now) (map (λ v. v.items) domains.now) alpha zeta)) result }
 {
     check_tables(
         alloc,
@@ -92,17 +95,22 @@ pub fn check_identities<
     zeta: E,
 ) -> Result<(), BatchVerificationError<R>>
     requires formed { WellFormed (map A.declaration airs.now) (read_common common.now) }
-    requires shape { NoneFails (shape_checks {R = R} F.ring (bounds_with F.ORDER_U64 bounds) (stated (tables_of A.declaration A.trees airs.now) (map (λ v. v.items) public_values.now) common.now) proof.now) }
+    requires shape { NoneFails (shape_checks {R = R} F.ring (bounds_with F.ORDER_U64 bounds)
+        (statement_with (tables_of A.declaration A.trees airs.now) (map (λ v. v.items) public_values.now) common.now) proof.now) }
     requires lists { length challenges.now ≡ length airs.now }
     requires challenges { (i : ℕ) → i < length airs.now → length (get_or (map (λ v. v.items) challenges.now) i []) ≡ 2 * length (get_or (map read_all common.now.lookups) i []) }
-    requires domains { map (λ v. v.items) domains.now ≡ table (length airs.now) (λ i. chunks_over F.ring F.root F.GENERATOR bounds.masks (get_or proof.now.degree_bits i 0) (chunks_at F.ring bounds.masks (tables_of A.declaration A.trees airs.now) (map read_all common.now.lookups) proof.now.degree_bits i)) }
-    requires fits { (i : ℕ) → i < length airs.now → get_or proof.now.degree_bits i 0 + chunks_at F.ring bounds.masks (tables_of A.declaration A.trees airs.now) (map read_all common.now.lookups) proof.now.degree_bits i ≤ F.TWO_ADICITY }
+    requires domains { map (λ v. v.items) domains.now
+        ≡ tabulate (length airs.now) (λ i. chunks_over F.ring F.root F.GENERATOR bounds.masks (get_or proof.now.degree_bits i 0)
+        (log_chunks_at F.ring bounds.masks (tables_of A.declaration A.trees airs.now) (map read_all common.now.lookups) proof.now.degree_bits i)) }
+    requires fits { (i : ℕ) → i < length airs.now
+        → get_or proof.now.degree_bits i 0 + log_chunks_at F.ring bounds.masks (tables_of A.declaration A.trees airs.now) (map read_all common.now.lookups) proof.now.degree_bits i ≤ F.TWO_ADICITY }
     requires dimension { bounds.dimension ≡ E.DIMENSION }
     requires masked { bounds.masks ≤ bounds.least }
     ensures { let f : TwoAdic F = record { ring = F.ring; inv = F.inv; root = F.root; generator = F.GENERATOR } in
-        let e : Extension F E = record { ring = E.ring; embed = E.embed; dimension = E.DIMENSION; basis = E.basis; parts = E.parts; whole = E.whole } in
-        let s = stated (tables_of A.declaration A.trees airs.now) (map (λ v. v.items) public_values.now) common.now in
-        IsVerdict (in_turn (length airs.now) (identity_at f e bounds.masks s proof.now.instances proof.now.lookup_terminals proof.now.degree_bits (map (λ v. v.items) challenges.now) (map (λ v. v.items) domains.now) alpha zeta)) result }
+        let e : Extension F E = record { ring = E.ring; embed = E.embed; dimension = E.DIMENSION; basis = E.basis; coefficients = E.coefficients; from_coefficients = E.from_coefficients } in
+        let s = statement_with (tables_of A.declaration A.trees airs.now) (map (λ v. v.items) public_values.now) common.now in
+        IsVerdict (in_turn (length airs.now)
+        (identity_at f e bounds.masks s proof.now.instances proof.now.lookup_terminals proof.now.degree_bits (map (λ v. v.items) challenges.now) (map (λ v. v.items) domains.now) alpha zeta)) result }
 {
     batch_identities(
         alloc,

@@ -9,7 +9,7 @@ ghost use Rattle.batch_constraints_tests.specs.Tables.{take_declaration};
 use crate::blank::Blank;
 use batch_constraints_tests::take::{Take, take_lookups};
 use batch_identity::{IdentityData, periodic_values_at, zero_row};
-use batch_tables::{PostAir, SwapAir};
+use batch_tables::{SendingAir, SwapAir};
 use p3_air_tests::support::bear;
 use p3_commit::PeriodicColumns;
 use p3_field::{BabyBear, FieldCore, Mem, QuarticExtension, RingCore, TwoAdicMultiplicativeCoset};
@@ -139,16 +139,16 @@ fn identity_with_a_lookup(rt: HostRuntime) -> Result<(), Fail> {
     Ok(())
 }
 
-// The answer for the post table at the cell 19, where the preprocessed column has the value 3, and the periodic column is
-// 5, 9.
-fn post_answer(alloc: Global, trace_domain: Domain, quotient: QuarticExtension) -> Mem<Answer>
+// The answer for the sending table at the cell 19, where the preprocessed column has the value 3, and the periodic column
+// is 5, 9.
+fn sending_answer(alloc: Global, trace_domain: Domain, quotient: QuarticExtension) -> Mem<Answer>
     requires { trace_domain.log_size ≡ 1 }
 {
     let column = Vec::from_array(alloc, [bear(5), bear(9)])?;
     let mut periodic = Vec::new(alloc);
     periodic.push(column)?;
     let steps = Vec::from_array(alloc, [bear(1), bear(1)])?;
-    let air = PostAir { steps, periodic };
+    let air = SendingAir { steps, periodic };
     let columns = match PeriodicColumns::new(&air.periodic, 2) {
         Ok(columns) => columns,
         Err(e) => return Ok(Err(VerificationError::PeriodicColumn(e))),
@@ -181,8 +181,8 @@ fn identity_with_a_preprocessed_and_a_periodic_column(rt: HostRuntime) -> Result
     let alloc = rt.alloc();
     match Domain::new(bear(1), 1) {
         Some(domain) => {
-            assert!(rt; post_answer(alloc, domain, quartic(2))?.is_ok());
-            assert!(rt; is_mismatch(post_answer(alloc, domain, quartic(3))?));
+            assert!(rt; sending_answer(alloc, domain, quartic(2))?.is_ok());
+            assert!(rt; is_mismatch(sending_answer(alloc, domain, quartic(3))?));
         }
         None => assert!(rt; false),
     }

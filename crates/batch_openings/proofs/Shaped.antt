@@ -2,11 +2,11 @@
 use Rattle.std.proofs.Common.{◌≡◌, ℕ, zero, suc, ◌+◌, ◌<◌, ◌≤◌, Bool, true, cond, List, [], ◌∷◌, ◌++◌, Option, None, Some, length, get_or, refl, sym, ◌∙◌, ap, arith}
 use Rattle.p3_air.specs.Shape.{Declaration, width_of}
 use Rattle.p3_field.specs.Checks.{NoneFails}
-use Rattle.p3_field.specs.Laws.Checks.{none_at, none_before, none_behind}
+use Rattle.p3_field.specs.Laws.Checks.{none_at, none_before, none_after}
 use Rattle.p3_field.specs.Ring.{Ring}
 use Rattle.p3_uni_stark.specs.Opened.{PreprocessedData}
 use Rattle.batch_shape_checks.specs.Laws.Parts.{counted}
-use Rattle.batch_shape_checks.specs.ShapeChecks.{AreCounted, Bounds, IsRandomized, bound_part, chunk_checks, chunks_at, count_checks, has_some, is_there, lookup_checks, main_checks, next_check, next_length, opened_checks, opened_part, permutation_check, preprocessed_checks, preprocessed_next_of, shape_checks, size_part, sizes_at, table_checks}
+use Rattle.batch_shape_checks.specs.ShapeChecks.{HaveItemForEachTable, Bounds, IsRandomized, bus_bound_part, chunk_checks, log_chunks_at, count_checks, has_some, is_there, lookup_checks, main_checks, next_check, next_length, opened_checks, opened_part, permutation_check, preprocessed_checks, preprocessed_next_of, shape_checks, size_part, sizes_at, table_checks}
 use Rattle.batch_statement.specs.Proof.{OpenedWithLookups, ProofData}
 use Rattle.batch_statement.specs.Statement.{Statement}
 
@@ -52,7 +52,7 @@ module _ {F E : Type 0} (R : Type 0) (i : ℕ) (d : Declaration F) (publics chun
       let a = main_checks {R = R} i d publics o.base in
       let b = chunk_checks {R = R} i chunks dimension o.base in
       let e = preprocessed_checks {R = R} i (width_of d.preprocessed) d.preprocessed_next o.base.preprocessed in
-      none_behind a b (none_before (a ++ b) e (none_before (a ++ b ++ e) (lookup_checks {R = R} i lookups dimension o terminal) h))
+      none_after a b (none_before (a ++ b) e (none_before (a ++ b ++ e) (lookup_checks {R = R} i lookups dimension o terminal) h))
 
   preprocessed_part : NoneFails (preprocessed_checks {R = R} i (width_of d.preprocessed) d.preprocessed_next o.base.preprocessed)
   unfolding table_checks
@@ -60,7 +60,7 @@ module _ {F E : Type 0} (R : Type 0) (i : ℕ) (d : Declaration F) (publics chun
       let a = main_checks {R = R} i d publics o.base in
       let b = chunk_checks {R = R} i chunks dimension o.base in
       let e = preprocessed_checks {R = R} i (width_of d.preprocessed) d.preprocessed_next o.base.preprocessed in
-      none_behind (a ++ b) e (none_before (a ++ b ++ e) (lookup_checks {R = R} i lookups dimension o terminal) h)
+      none_after (a ++ b) e (none_before (a ++ b ++ e) (lookup_checks {R = R} i lookups dimension o terminal) h)
 
   lookup_part : NoneFails (lookup_checks {R = R} i lookups dimension o terminal)
   unfolding table_checks
@@ -68,7 +68,7 @@ module _ {F E : Type 0} (R : Type 0) (i : ℕ) (d : Declaration F) (publics chun
       let a = main_checks {R = R} i d publics o.base in
       let b = chunk_checks {R = R} i chunks dimension o.base in
       let e = preprocessed_checks {R = R} i (width_of d.preprocessed) d.preprocessed_next o.base.preprocessed in
-      none_behind (a ++ b ++ e) (lookup_checks {R = R} i lookups dimension o terminal) h
+      none_after (a ++ b ++ e) (lookup_checks {R = R} i lookups dimension o terminal) h
 
   pub declared_next_is_there : has_some d.main_next ≡ true → is_there o.base.trace_next ≡ true
   unfolding NoneFails
@@ -95,7 +95,7 @@ module _ {F E C P : Type 0} (R : Type 0) (f : Ring F) (b : Bounds) (s : Statemen
   count_part =
       let k = count_checks {R = R} b.zk s p in
       let l = size_part {R = R} f b s p in
-      let m = bound_part {R = R} b s p in
+      let m = bus_bound_part {R = R} b s p in
       let n = opened_part {R = R} f b s p in
       none_before k l (none_before (k ++ l) m (none_before (k ++ l ++ m) n (none_before (k ++ l ++ m ++ n) (permutation_check {R = R} s p) h)))
 
@@ -104,20 +104,20 @@ module _ {F E C P : Type 0} (R : Type 0) (f : Ring F) (b : Bounds) (s : Statemen
   sizes_part =
       let k = count_checks {R = R} b.zk s p in
       let l = size_part {R = R} f b s p in
-      let m = bound_part {R = R} b s p in
+      let m = bus_bound_part {R = R} b s p in
       let n = opened_part {R = R} f b s p in
-      none_behind k l (none_before (k ++ l) m (none_before (k ++ l ++ m) n (none_before (k ++ l ++ m ++ n) (permutation_check {R = R} s p) h)))
+      none_after k l (none_before (k ++ l) m (none_before (k ++ l ++ m) n (none_before (k ++ l ++ m ++ n) (permutation_check {R = R} s p) h)))
 
   tables_part : NoneFails (opened_part {R = R} f b s p)
   unfolding shape_checks
   tables_part =
       let k = count_checks {R = R} b.zk s p in
       let l = size_part {R = R} f b s p in
-      let m = bound_part {R = R} b s p in
+      let m = bus_bound_part {R = R} b s p in
       let n = opened_part {R = R} f b s p in
-      none_behind (k ++ l ++ m) n (none_before (k ++ l ++ m ++ n) (permutation_check {R = R} s p) h)
+      none_after (k ++ l ++ m) n (none_before (k ++ l ++ m ++ n) (permutation_check {R = R} s p) h)
 
-  pub counts_agree : AreCounted s p
+  pub counts_agree : HaveItemForEachTable s p
   counts_agree = counted R b.zk s p count_part
 
   pub is_randomized : IsRandomized b.zk p
@@ -125,7 +125,7 @@ module _ {F E C P : Type 0} (R : Type 0) (f : Ring F) (b : Bounds) (s : Statemen
   is_randomized = count_part.1.0
 
   pub size_fits : (i : ℕ) → i < length s.tables
-      → (b.least ≤ get_or p.degree_bits i 0) × (get_or p.degree_bits i 0 ≤ b.most) × (chunks_at f b.masks s.tables s.common.lookups p.degree_bits i + b.masks < 64)
+      → (b.least ≤ get_or p.degree_bits i 0) × (get_or p.degree_bits i 0 ≤ b.most) × (log_chunks_at f b.masks s.tables s.common.lookups p.degree_bits i + b.masks < 64)
   unfolding NoneFails
   size_fits i l =
       let k = none_at (sizes_at {R = R} f b.least b.most b.masks s.tables s.common.lookups p.degree_bits) (length s.tables) i l sizes_part in

@@ -1,7 +1,7 @@
 -- Lists of checks without some that hold.
 use Rattle.std.proofs.Common.{ℕ, zero, suc, ◌<◌, List, [], ◌∷◌, ◌++◌, inl, inr, arith}
 use Rattle.p3_field.specs.Checks.{Check, NoneFails, FirstFails, in_turn}
-use Rattle.p3_field.specs.Laws.Checks.{none_append, none_before, none_behind, first_stops, first_after, first_parted, none_first}
+use Rattle.p3_field.specs.Laws.Checks.{none_append, none_before, none_after, first_stops, first_after, first_parted, none_first}
 
 -- the second list answers as the first does
 pub record Thins {R : Type 0} (xs ys : List (Check R)) : Type 0 where
@@ -15,19 +15,19 @@ module _ {R : Type 0} where
 
   pub thins_append : (xs ys us vs : List (Check R)) → Thins xs us → Thins ys vs → Thins (xs ++ ys) (us ++ vs)
   thins_append xs ys us vs a b = record {
-    none = λ h. none_append xs ys (a.none (none_before us vs h)) (b.none (none_behind us vs h));
-    kept = λ h. none_append us vs (a.kept (none_before xs ys h)) (b.kept (none_behind xs ys h));
+    none = λ h. none_append xs ys (a.none (none_before us vs h)) (b.none (none_after us vs h));
+    kept = λ h. none_append us vs (a.kept (none_before xs ys h)) (b.kept (none_after xs ys h));
     first = λ e f. elim (first_parted xs ys e f) [
       | inl t ↦ first_stops us vs e (a.first e t)
       | inr t ↦ first_after us vs e (a.kept t.0) (b.first e t.1)
     ];
   }
 
-  -- lists that hold as a whole are left out, before others and behind them
-  pub thins_behind : (xs ys us : List (Check R)) → NoneFails xs → Thins ys us → Thins (xs ++ ys) us
-  thins_behind xs ys us n b = record {
+  -- lists that hold as a whole are left out, before others and after them
+  pub thins_after : (xs ys us : List (Check R)) → NoneFails xs → Thins ys us → Thins (xs ++ ys) us
+  thins_after xs ys us n b = record {
     none = λ h. none_append xs ys n (b.none h);
-    kept = λ h. b.kept (none_behind xs ys h);
+    kept = λ h. b.kept (none_after xs ys h);
     first = λ e f. elim (first_parted xs ys e f) [
       | inl t ↦ absurd (none_first xs e n t)
       | inr t ↦ b.first e t.1

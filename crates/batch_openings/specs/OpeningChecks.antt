@@ -3,7 +3,7 @@ use Rattle.std.specs.Prelude.{◌≡◌, ℕ, ◌+◌, List, [], ◌∷◌, ◌+
 use Rattle.std.specs.Prelude.{slice_index_or as get_or}
 use Rattle.p3_field.specs.Checks.{Check, in_turn}
 use Rattle.p3_field.specs.Domain.{CosetData}
-use Rattle.p3_field.specs.Poly.{table}
+use Rattle.p3_field.specs.Poly.{tabulate}
 use Rattle.p3_air.specs.Shape.{Declaration, width_of}
 use Rattle.p3_commit.specs.Claims.{CommitmentClaim}
 use Rattle.p3_uni_stark.specs.declared.error.VerificationError.TheVariants.{InvalidOpeningArgument}
@@ -12,13 +12,13 @@ use Rattle.batch_statement.specs.Proof.{ProofData}
 use Rattle.batch_statement.specs.Statement.{Statement, entry_of}
 use Rattle.batch_statement.specs.declared.error.BatchVerificationError.{BatchVerificationError}
 use Rattle.batch_statement.specs.declared.error.BatchVerificationError.TheVariants.{Verification}
-use Rattle.batch_shape_checks.specs.ShapeChecks.{Bounds, chunks_at}
+use Rattle.batch_shape_checks.specs.ShapeChecks.{Bounds, log_chunks_at}
 use Rattle.batch_claims.specs.Claims.{Claimed, bits_at, claims, matrix_tables}
 use Rattle.batch_claims.specs.ClaimChecks.{bits_listed, domain_by}
 
 -- the numbers of a configuration that a proof's shape depends on
-abbrev pub bounds_of : {S F E C : Type 0} → Setting S F E C → Bounds
-bounds_of c = record {
+abbrev pub shape_bounds_of : {S F E C : Type 0} → Setting S F E C → Bounds
+shape_bounds_of c = record {
   zk = c.zk;
   masks = masks c;
   least = c.log_min + masks c;
@@ -40,8 +40,8 @@ opens_check {R = R} b state made proof = record {
 
 module _ {S F E C P : Type 0} (c : Setting S F E C) (s : Statement F C) (p : ProofData F E C P) where
   -- the logarithm of the number of chunks of table i's quotient, before masking
-  abbrev pub log_chunks : ℕ → ℕ
-  log_chunks i = chunks_at c.field.ring (masks c) s.tables s.common.lookups p.degree_bits i
+  abbrev pub log_chunks_of_table : ℕ → ℕ
+  log_chunks_of_table i = log_chunks_at c.field.ring (masks c) s.tables s.common.lookups p.degree_bits i
 
   -- what the proof's claims are made of
   abbrev pub claimed : Claimed F E C
@@ -51,12 +51,12 @@ module _ {S F E C P : Type 0} (c : Setting S F E C) (s : Statement F C) (p : Pro
     commitments = p.commitments;
     instances = p.instances;
     degree_bits = p.degree_bits;
-    log_chunks = table (length s.tables) log_chunks;
+    log_chunks = tabulate (length s.tables) log_chunks_of_table;
   }
 
   -- there is a domain for the quotient of table i
   abbrev pub domain_checks : {R : Type 0} → ℕ → List (Check (BatchVerificationError R))
-  domain_checks i = domain_by i (bits_at p.degree_bits i) (log_chunks i) c.log_max c.two_adicity
+  domain_checks i = domain_by i (bits_at p.degree_bits i) (log_chunks_of_table i) c.log_max c.two_adicity
 
   -- preprocessed matrix m was committed for its table's height
   abbrev pub metadata_check : {R : Type 0} → ℕ → List (Check (BatchVerificationError R))

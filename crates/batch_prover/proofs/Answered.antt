@@ -7,11 +7,11 @@ use Rattle.batch_proving.specs.Backend.{ProverBackend}
 use Rattle.batch_proving.specs.Batch.{Batch, table_count}
 use Rattle.batch_proving.specs.Proving.{bound_part, extension_part, fraction_part, lookup_part, ood_part, opening_part, permutation_part, proving_checks, quotient_part, trace_part}
 use Rattle.batch_proving.specs.Verdict.{FirstRefused, IsAnswerRefusal, IsProverRefusal}
-use Rattle.batch_proving.specs.Laws.Verdicts.{answer_before, answer_behind, refused_here, refusal_is}
+use Rattle.batch_proving.specs.Laws.Verdicts.{answer_before, answer_past, refused_here, refusal_is}
 use Rattle.batch_proving.specs.declared.error.ProvingError.{ProvingError}
 use Rattle.batch_proving.specs.declared.error.ProvingError.TheVariants.{Pcs, MultiplicityBound, LookupDenominatorZero, WitnessNotFound, OutOfMemory}
-use Rattle.prover_openings.specs.Asked.{KeptRounds}
-use Rattle.prover_openings.specs.Check.{opening_checks}
+use Rattle.prover_openings.specs.Asked.{RoundsProverData}
+use Rattle.prover_openings.specs.Check.{opening_request_checks}
 use Rattle.prover_openings.specs.Laws.Openings.{opening_granted, opening_refused}
 
 -- where what first fails of some checks is a refusal of others, so is the answer
@@ -40,21 +40,21 @@ module _ {S F E C D P R : Type 0} (k : ProverBackend S F E C D P R) (b : Batch S
   bound_refused e v = answer_before (bound_part b) _ e (refusal_is (bound_part b) e v)
 
   pub trace_refused : (e : ProvingError R) → NoneFails (bound_part b {R = R}) → IsProverRefusal (trace_part k b) e → IsAnswerRefusal (proving_checks k b) e
-  trace_refused e bounded v = answer_behind (bound_part b) _ e bounded (answer_before (trace_part k b) _ e (refusal_is (trace_part k b) e v))
+  trace_refused e bounded v = answer_past (bound_part b) _ e bounded (answer_before (trace_part k b) _ e (refusal_is (trace_part k b) e v))
 
   pub drawn_refused : (e : ProvingError R) → NoneFails (bound_part b {R = R}) → NoneFails (trace_part k b) → IsAnswerRefusal drawn_part e → IsAnswerRefusal (proving_checks k b) e
   drawn_refused e bounded committed v =
-      subst (λ cs. IsAnswerRefusal cs e) in_order (answer_behind (bound_part b) _ e bounded (answer_behind (trace_part k b) _ e committed (answer_before drawn_part _ e v)))
+      subst (λ cs. IsAnswerRefusal cs e) in_order (answer_past (bound_part b) _ e bounded (answer_past (trace_part k b) _ e committed (answer_before drawn_part _ e v)))
 
-  module _ (kept : KeptRounds D) where
-    opening_told : (e : ProvingError R) → IsProverRefusal (opening_checks k b kept) e → IsAnswerRefusal (opening_part k b) e
-    opening_told e v = told_along (opening_checks k b kept) (opening_part k b) e (λ d f. refused_here _ _ d (opening_refused k b kept d f)) v
+  module _ (kept : RoundsProverData D) where
+    opening_told : (e : ProvingError R) → IsProverRefusal (opening_request_checks k b kept) e → IsAnswerRefusal (opening_part k b) e
+    opening_told e v = told_along (opening_request_checks k b kept) (opening_part k b) e (λ d f. refused_here _ _ d (opening_refused k b kept d f)) v
 
-    pub open_refused : (e : ProvingError R) → NoneFails (bound_part b {R = R}) → NoneFails (trace_part k b) → NoneFails drawn_part → IsProverRefusal (opening_checks k b kept) e → IsAnswerRefusal (proving_checks k b) e
+    pub open_refused : (e : ProvingError R) → NoneFails (bound_part b {R = R}) → NoneFails (trace_part k b) → NoneFails drawn_part → IsProverRefusal (opening_request_checks k b kept) e → IsAnswerRefusal (proving_checks k b) e
     open_refused e bounded committed drawn v =
         subst (λ cs. IsAnswerRefusal cs e) in_order
-        (answer_behind (bound_part b) _ e bounded (answer_behind (trace_part k b) _ e committed (answer_behind drawn_part _ e drawn (opening_told e v))))
+        (answer_past (bound_part b) _ e bounded (answer_past (trace_part k b) _ e committed (answer_past drawn_part _ e drawn (opening_told e v))))
 
-    pub all_granted : NoneFails (bound_part b {R = R}) → NoneFails (trace_part k b) → NoneFails drawn_part → NoneFails (opening_checks k b kept) → NoneFails (proving_checks k b)
+    pub all_granted : NoneFails (bound_part b {R = R}) → NoneFails (trace_part k b) → NoneFails drawn_part → NoneFails (opening_request_checks k b kept) → NoneFails (proving_checks k b)
     all_granted bounded committed drawn opened =
         subst NoneFails in_order (none_append (bound_part b) _ bounded (none_append (trace_part k b) _ committed (none_append drawn_part _ drawn (opening_granted k b kept opened))))

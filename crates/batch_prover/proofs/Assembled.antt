@@ -8,9 +8,9 @@ use Rattle.honest_proofs.specs.HonestProof.{IsBuilt, IsHonest, honest_claims, ho
 use Rattle.honest_proofs.specs.Laws.Generated.{traced_heights}
 use Rattle.batch_proving.specs.Backend.{ProverBackend}
 use Rattle.batch_proving.specs.Batch.{Batch, CommitsToSome, IsTracedAll}
-use Rattle.batch_proving.specs.Proving.{AreAsked, AvoidsExcluded, HaveFractionsFor, IsGroundOf, IsProved}
+use Rattle.batch_proving.specs.Proving.{AreAsked, AvoidsExcluded, HaveFractionsFor, IsGroundOf, IsHonestProof}
 use Rattle.prover_openings.specs.Check.{AreBoth}
-use Rattle.prover_stages.specs.Stages.{main_of, opened_tables, permutation_of, quotient_of, state_of_opening, terminals_of}
+use Rattle.prover_stages.specs.Stages.{main_of, opened_tables, permutation_commitment, quotient_of, state_of_opening, terminals_of}
 
 -- a commitment that is there, and what is kept beside it
 pub both_of : {M C D : Type 0} (commits : List M → C × D → Type 0) (ms : List M) (o : Option (C × D)) (x : Option C) (y : Option D)
@@ -39,7 +39,7 @@ module _ {S F E C : Type 0} (b : Batch S F E C) where
   }
 
   pub built_of : {P : Type 0} (main : C) (permutation : Option C) (quotient : C) (opened : List (OpenedWithLookups E)) (opening : P) (ends : List (Option E)) (bits : List ℕ) (w : Option F) (z : F)
-      → IsTracedAll b → main ≡ main_of b → permutation ≡ permutation_of b w → quotient ≡ quotient_of b w → opened ≡ opened_tables b w z → ends ≡ terminals_of b w → bits ≡ b.degree_bits → IsGroundOf b w z → HaveFractionsFor b w
+      → IsTracedAll b → main ≡ main_of b → permutation ≡ permutation_commitment b w → quotient ≡ quotient_of b w → opened ≡ opened_tables b w z → ends ≡ terminals_of b w → bits ≡ b.degree_bits → IsGroundOf b w z → HaveFractionsFor b w
       → IsBuilt b.setting b.prover b.statement b.traces b.degree_bits (put_together main permutation quotient opened opening ends bits w z)
   unfolding honest_proof
   built_of main permutation quotient opened opening ends bits w z B m p q o t d ground fractions = record {
@@ -62,8 +62,8 @@ module _ {S F E C D P R : Type 0} (k : ProverBackend S F E C D P R) (b : Batch S
     (built : IsBuilt b.setting b.prover b.statement b.traces b.degree_bits (put_together b main permutation quotient opened opening ends bits w z)) where
   -- so is one that equals it, with what proves its openings
   pub proved_of : (q : ProofData F E C P) → q ≡ put_together b main permutation quotient opened opening ends bits w z
-      → (requests : List (Request D E)) → AreAsked k b w z requests → k.proves (state_of_opening b w z) requests opening → IsProved k b q
-  proved_of q e requests asked proves = subst (IsProved k b) (sym e) (record { built = built; requests = requests; asked = asked; proves = proves })
+      → (requests : List (Request D E)) → AreAsked k b w z requests → k.proves (state_of_opening b w z) requests opening → IsHonestProof k b q
+  proved_of q e requests asked proves = subst (IsHonestProof k b) (sym e) (record { built = built; requests = requests; asked = asked; proves = proves })
 
   -- and where the backend takes these, it is honest
   pub honest_of : {X : Type 0} (backend : Backend S F E C P X) (q : ProofData F E C P) → q ≡ put_together b main permutation quotient opened opening ends bits w z

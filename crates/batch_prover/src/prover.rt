@@ -4,12 +4,12 @@ ghost use Rattle.p3_field.specs.Checks.{in_turn};
 ghost use Rattle.batch_transcript.specs.BatchScript.{from_lookup};
 ghost use Rattle.batch_validity.specs.Valid.{Valid};
 ghost use Rattle.batch_verifier.specs.BatchChecks.{Accepted};
-ghost use Rattle.honest_acceptance.specs.Honest.{IsOutside};
+ghost use Rattle.honest_acceptance.specs.Honest.{IsOutsideRows};
 ghost use Rattle.honest_proofs.specs.HonestProof.{IsHonest};
-ghost use Rattle.batch_proving.specs.Batch.{CommitsToSome, IsKeptWith, IsTracedAll, all_chunks, all_permutations, batch_of, main_matrices, preprocessed_all, table_at, table_count};
-ghost use Rattle.batch_proving.specs.Proving.{AvoidsExcluded, HaveFractionsFor, IsGroundOf, IsProved, extension_part, fraction_part, lookup_part, ood_part, opening_part, permutation_part, proving_checks, quotient_part};
+ghost use Rattle.batch_proving.specs.Batch.{CommitsToSome, HasProverData, IsTracedAll, all_chunks, all_permutations, batch_of, main_matrices, preprocessed_all, table_at, table_count};
+ghost use Rattle.batch_proving.specs.Proving.{AvoidsExcluded, HaveFractionsFor, IsGroundOf, IsHonestProof, extension_part, fraction_part, lookup_part, ood_part, opening_part, permutation_part, proving_checks, quotient_part};
 ghost use Rattle.batch_proving.specs.Verdict.{IsProverAnswer};
-ghost use Rattle.prover_stages.specs.Stages.{main_of, pair_state, permutation_of, point_of, quotient_of, shape_of, state_of_opening, terminals_of};
+ghost use Rattle.prover_stages.specs.Stages.{main_of, pair_state, permutation_commitment, point_of, quotient_of, shape_of, state_of_opening, terminals_of};
 
 use batch_proving::{ProverSettings, ProvingError};
 use batch_setting::Settings;
@@ -65,8 +65,8 @@ fn assembled<F: Drop, E: Drop, Com: Drop, PD: Drop, Opening>(
     }
 }
 
-/// Proves a batch of tables as `prove_batch` does, and gives with the proof the point of its openings (own), which a caller may look at
-/// without drawing it again.
+/// Proves a batch of tables as `prove_batch` does, and gives with the proof the point of its openings (not in Plonky3), which a caller
+/// may look at without drawing it again.
 pub fn prove_batch_with_point<SC: StarkGenericConfig, A: Air<Val<SC>>>(
     alloc: Global,
     config: &SC,
@@ -74,16 +74,23 @@ pub fn prove_batch_with_point<SC: StarkGenericConfig, A: Air<Val<SC>>>(
     prover_data: &ProverData<SC>,
 ) -> Result<(BatchProof<SC>, Challenge<SC>), ProvingError<PcsProverError<SC>>>
     requires plain { SC.Pcs.ZK ≡ false }
-    requires traced { let b = batch_of (⟦<SC as Settings>⟧.setting config.now) (⟦<SC as ProverSettings>⟧.prover config.now) A.declaration A.trees instances.now prover_data.now.common in IsTracedAll b }
-    requires kept { let b = batch_of (⟦<SC as Settings>⟧.setting config.now) (⟦<SC as ProverSettings>⟧.prover config.now) A.declaration A.trees instances.now prover_data.now.common in
-        IsKeptWith (⟦<SC as ProverSettings>⟧.commits_to config.now) (preprocessed_all b) b.statement.common.preprocessed prover_data.now.prover_only.preprocessed_prover_data }
-    ensures verdict { let b = batch_of (⟦<SC as Settings>⟧.setting config.now) (⟦<SC as ProverSettings>⟧.prover config.now) A.declaration A.trees instances.now prover_data.now.common in let k = ⟦<SC as ProverSettings>⟧.prover_backend config.now in IsProverAnswer (proving_checks k b) result }
-    ensures proved { let b = batch_of (⟦<SC as Settings>⟧.setting config.now) (⟦<SC as ProverSettings>⟧.prover config.now) A.declaration A.trees instances.now prover_data.now.common in let k = ⟦<SC as ProverSettings>⟧.prover_backend config.now in IfOk result (λ r. IsProved k b r.0) }
-    ensures accepted { let b = batch_of (⟦<SC as Settings>⟧.setting config.now) (⟦<SC as ProverSettings>⟧.prover config.now) A.declaration A.trees instances.now prover_data.now.common in let k = ⟦<SC as ProverSettings>⟧.prover_backend config.now in
+    requires traced { let b = batch_of (⟦<SC as Settings>⟧.setting config.now)
+        (⟦<SC as ProverSettings>⟧.prover config.now) A.declaration A.trees instances.now prover_data.now.common in IsTracedAll b }
+    requires prover_data { let b = batch_of (⟦<SC as Settings>⟧.setting config.now) (⟦<SC as ProverSettings>⟧.prover config.now) A.declaration A.trees instances.now prover_data.now.common in
+        HasProverData (⟦<SC as ProverSettings>⟧.commits_to config.now) (preprocessed_all b) b.statement.common.preprocessed prover_data.now.prover_only.preprocessed_prover_data }
+    ensures verdict { let b = batch_of (⟦<SC as Settings>⟧.setting config.now)
+        (⟦<SC as ProverSettings>⟧.prover config.now) A.declaration A.trees instances.now prover_data.now.common in
+        let k = ⟦<SC as ProverSettings>⟧.prover_backend config.now in IsProverAnswer (proving_checks k b) result }
+    ensures proved { let b = batch_of (⟦<SC as Settings>⟧.setting config.now)
+        (⟦<SC as ProverSettings>⟧.prover config.now) A.declaration A.trees instances.now prover_data.now.common in
+        let k = ⟦<SC as ProverSettings>⟧.prover_backend config.now in IfOk result (λ r. IsHonestProof k b r.0) }
+    ensures accepted { let b = batch_of (⟦<SC as Settings>⟧.setting config.now)
+        (⟦<SC as ProverSettings>⟧.prover config.now) A.declaration A.trees instances.now prover_data.now.common in let k = ⟦<SC as ProverSettings>⟧.prover_backend config.now in
         IfOk result (λ r. SC.Val.TWO_ADICITY < 63 → Valid b.setting SC.Val.eq b.prover.commitment_of b.statement b.traces b.degree_bits
-        → ((i : ℕ) → i < length instances.now → IsOutside b.setting (table_at b i) (point_of b r.0.lookup_pow_witness r.0.ood_pow_witness))
+        → ((i : ℕ) → i < length instances.now → IsOutsideRows b.setting (table_at b i) (point_of b r.0.lookup_pow_witness r.0.ood_pow_witness))
         → AvoidsExcluded k b r.0.lookup_pow_witness r.0.ood_pow_witness → Accepted b.setting (⟦<SC as Settings>⟧.backend config.now) b.statement r.0) }
-    ensures point { let b = batch_of (⟦<SC as Settings>⟧.setting config.now) (⟦<SC as ProverSettings>⟧.prover config.now) A.declaration A.trees instances.now prover_data.now.common in IfOk result (λ r. r.1 ≡ point_of b r.0.lookup_pow_witness r.0.ood_pow_witness) }
+    ensures point { let b = batch_of (⟦<SC as Settings>⟧.setting config.now)
+        (⟦<SC as ProverSettings>⟧.prover config.now) A.declaration A.trees instances.now prover_data.now.common in IfOk result (λ r. r.1 ≡ point_of b r.0.lookup_pow_witness r.0.ood_pow_witness) }
 {
     let common = &prover_data.common;
     check_bound(alloc, config, instances, common)?;
@@ -133,7 +140,7 @@ pub fn prove_batch_with_point<SC: StarkGenericConfig, A: Air<Val<SC>>>(
 ///
 /// Where none fails it is the honest proof, with the backend's proof of its openings (`proved`): so of a valid statement it is a proof
 /// that `verify_batch` accepts, unless the point lies on the rows of a table, or the point or a next point is one that the backend
-/// excludes (`accepted`). Out of memory may come in place of any answer.
+/// excludes (`accepted`), in a field whose two-adicity is below 63. Out of memory may come in place of any answer.
 ///
 /// The backend masks nothing. The batch is traced: the common data is well-formed, with these tables' degree bits and the commitment
 /// to their preprocessed traces; widths, heights and numbers of public values are as declared; heights are powers of two within the
@@ -146,14 +153,20 @@ pub fn prove_batch<SC: StarkGenericConfig, A: Air<Val<SC>>>(
     prover_data: &ProverData<SC>,
 ) -> Result<BatchProof<SC>, ProvingError<PcsProverError<SC>>>
     requires plain { SC.Pcs.ZK ≡ false }
-    requires traced { let b = batch_of (⟦<SC as Settings>⟧.setting config.now) (⟦<SC as ProverSettings>⟧.prover config.now) A.declaration A.trees instances.now prover_data.now.common in IsTracedAll b }
-    requires kept { let b = batch_of (⟦<SC as Settings>⟧.setting config.now) (⟦<SC as ProverSettings>⟧.prover config.now) A.declaration A.trees instances.now prover_data.now.common in
-        IsKeptWith (⟦<SC as ProverSettings>⟧.commits_to config.now) (preprocessed_all b) b.statement.common.preprocessed prover_data.now.prover_only.preprocessed_prover_data }
-    ensures verdict { let b = batch_of (⟦<SC as Settings>⟧.setting config.now) (⟦<SC as ProverSettings>⟧.prover config.now) A.declaration A.trees instances.now prover_data.now.common in let k = ⟦<SC as ProverSettings>⟧.prover_backend config.now in IsProverAnswer (proving_checks k b) result }
-    ensures proved { let b = batch_of (⟦<SC as Settings>⟧.setting config.now) (⟦<SC as ProverSettings>⟧.prover config.now) A.declaration A.trees instances.now prover_data.now.common in let k = ⟦<SC as ProverSettings>⟧.prover_backend config.now in IfOk result (IsProved k b) }
-    ensures accepted { let b = batch_of (⟦<SC as Settings>⟧.setting config.now) (⟦<SC as ProverSettings>⟧.prover config.now) A.declaration A.trees instances.now prover_data.now.common in let k = ⟦<SC as ProverSettings>⟧.prover_backend config.now in
+    requires traced { let b = batch_of (⟦<SC as Settings>⟧.setting config.now)
+        (⟦<SC as ProverSettings>⟧.prover config.now) A.declaration A.trees instances.now prover_data.now.common in IsTracedAll b }
+    requires prover_data { let b = batch_of (⟦<SC as Settings>⟧.setting config.now) (⟦<SC as ProverSettings>⟧.prover config.now) A.declaration A.trees instances.now prover_data.now.common in
+        HasProverData (⟦<SC as ProverSettings>⟧.commits_to config.now) (preprocessed_all b) b.statement.common.preprocessed prover_data.now.prover_only.preprocessed_prover_data }
+    ensures verdict { let b = batch_of (⟦<SC as Settings>⟧.setting config.now)
+        (⟦<SC as ProverSettings>⟧.prover config.now) A.declaration A.trees instances.now prover_data.now.common in
+        let k = ⟦<SC as ProverSettings>⟧.prover_backend config.now in IsProverAnswer (proving_checks k b) result }
+    ensures proved { let b = batch_of (⟦<SC as Settings>⟧.setting config.now)
+        (⟦<SC as ProverSettings>⟧.prover config.now) A.declaration A.trees instances.now prover_data.now.common in
+        let k = ⟦<SC as ProverSettings>⟧.prover_backend config.now in IfOk result (IsHonestProof k b) }
+    ensures accepted { let b = batch_of (⟦<SC as Settings>⟧.setting config.now)
+        (⟦<SC as ProverSettings>⟧.prover config.now) A.declaration A.trees instances.now prover_data.now.common in let k = ⟦<SC as ProverSettings>⟧.prover_backend config.now in
         IfOk result (λ q. SC.Val.TWO_ADICITY < 63 → Valid b.setting SC.Val.eq b.prover.commitment_of b.statement b.traces b.degree_bits
-        → ((i : ℕ) → i < length instances.now → IsOutside b.setting (table_at b i) (point_of b q.lookup_pow_witness q.ood_pow_witness))
+        → ((i : ℕ) → i < length instances.now → IsOutsideRows b.setting (table_at b i) (point_of b q.lookup_pow_witness q.ood_pow_witness))
         → AvoidsExcluded k b q.lookup_pow_witness q.ood_pow_witness → Accepted b.setting (⟦<SC as Settings>⟧.backend config.now) b.statement q) }
 {
     let (proof, _point) = prove_batch_with_point(alloc, config, instances, prover_data)?;

@@ -8,7 +8,7 @@ use Rattle.p3_uni_stark.specs.Laws.Folds.{weighed_fold, weighed_zero}
 use Rattle.batch_constraints.specs.Laws.Rows.{asserted_values}
 
 module _ {F E : Type 0} (s : Ring E) (L : RingLaws s) (value : Tree F → E) (own others : List (Tree F)) where
-  -- constraints over the base field and others over the extension behind them, weighed from nothing
+  -- constraints over the base field and others over the extension after them, weighed from nothing
   pub weighed_trees : (powers : List E) (old new : Sum E) → old ≡ record { left = powers; total = s.zero }
       → new ≡ weighed_from s old (map (λ a. value a.tree) (map over_base own ++ map over_extension others)) → new.total ≡ weighed s powers (map value (own ++ others))
   weighed_trees powers old new h k =

@@ -3,12 +3,12 @@ use Rattle.std.specs.Prelude.{List, length, min}
 use Rattle.p3_air.specs.CellValues.{CellValues}
 use Rattle.p3_air.specs.Shape.{Shape}
 use Rattle.p3_uni_stark.specs.Point.{point_cells, point_shape, embedded}
-use Rattle.p3_uni_stark.specs.ProverState.{Given, given_of}
+use Rattle.p3_uni_stark.specs.ProverState.{FolderInputs, folder_inputs_of}
 use Rattle.batch_prover_folder.specs.declared.folder.ProverFolderWithLookups.{ProverFolderWithLookups}
 
 -- what no call changes: what the plain folder is given, and the values over the extension
 pub record GivenWithLookups (F E : Type 0) : Type 0 where
-  pub plain : Given F E
+  pub plain : FolderInputs F E
   pub permutation_local : List E
   pub permutation_next : List E
   pub challenges : List E
@@ -16,7 +16,7 @@ pub record GivenWithLookups (F E : Type 0) : Type 0 where
 
 abbrev pub given_with : {F E : Type 0} → ProverFolderWithLookups F E → GivenWithLookups F E
 given_with b = record {
-  plain = given_of b.inner;
+  plain = folder_inputs_of b.inner;
   permutation_local = b.permutation_local.now;
   permutation_next = b.permutation_next.now;
   challenges = b.permutation_challenges.now;
@@ -32,8 +32,8 @@ given_cells zero embed g = record (point_cells zero embed (embedded embed g.plai
   terminals = g.terminals;
 }
 
-abbrev pub cells_of : {F E : Type 0} → E → (F → E) → ProverFolderWithLookups F E → CellValues E
-cells_of zero embed b = given_cells zero embed (given_with b)
+abbrev pub prover_cells_of : {F E : Type 0} → E → (F → E) → ProverFolderWithLookups F E → CellValues E
+prover_cells_of zero embed b = given_cells zero embed (given_with b)
 
 -- the cells that are there: permutation columns that both rows have
 abbrev pub given_shape : {F E : Type 0} → GivenWithLookups F E → Shape
@@ -43,5 +43,5 @@ given_shape g = record (point_shape g.plain.values) {
   terminals = length g.terminals;
 }
 
-abbrev pub shape_of : {F E : Type 0} → ProverFolderWithLookups F E → Shape
-shape_of b = given_shape (given_with b)
+abbrev pub prover_shape_of : {F E : Type 0} → ProverFolderWithLookups F E → Shape
+prover_shape_of b = given_shape (given_with b)

@@ -3,7 +3,7 @@ ghost use Rattle.std.specs.Prelude.{◌≡◌, List, [], IfOk, OnErr, IsOk, IsTr
 ghost use Rattle.std.proofs.Common.{◌∙◌, ap};
 ghost use Rattle.p3_air.specs.CellValues.{reading_at};
 ghost use Rattle.p3_air.specs.Operation.{value_by};
-ghost use Rattle.p3_air.specs.Tree.{Tree, ev, ev_asserted, Stand};
+ghost use Rattle.p3_air.specs.Tree.{Tree, eval_tree, eval_asserted, Represent};
 ghost use Rattle.p3_uni_stark.specs.Fold.{added_to, weighed_from};
 ghost use Rattle.p3_uni_stark.specs.Laws.Folders.{value_persists, weighed_along};
 ghost use Rattle.batch_constraints.specs.Laws.Folders.{value_by_persists};
@@ -35,38 +35,41 @@ pub struct ProverFolderWithLookups<'a, F, E> {
 }
 
 impl<'a, F: Field, E: ExtensionField<F>> ProverFolderWithLookups<'a, F, E> {
-    ghost use Rattle.p3_uni_stark.specs.ProverState.{sum_of, powers_of};
+    ghost use Rattle.p3_uni_stark.specs.ProverState.{folder_sum_of, power_count};
     ghost use Rattle.batch_prover_folder.specs.FolderState.{given_with};
 
     // Folds one more value in, as the plain folder does.
     fn fold_in(&mut self, x: E)
-        ensures same { given_with self.new ≡ given_with self.old }
-        ensures sum { sum_of self.new.inner ≡ added_to E.ring (sum_of self.old.inner).left self.old.inner.accumulator x }
-        ensures index { powers_of self.new.inner ≡ powers_of self.old.inner }
+        ensures unchanged { given_with self.new ≡ given_with self.old }
+        ensures sum { folder_sum_of self.new.inner ≡ added_to E.ring (folder_sum_of self.old.inner).left self.old.inner.accumulator x }
+        ensures index { power_count self.new.inner ≡ power_count self.old.inner }
     {
         self.inner.fold_in(x);
     }
 }
 
 impl<'a, F: Field, E: ExtensionField<F>> AirBuilder for ProverFolderWithLookups<'a, F, E> {
-    ghost use Rattle.p3_uni_stark.specs.ProverState.{sum_of, powers_of};
-    ghost use Rattle.batch_prover_folder.specs.FolderState.{given_with, given_cells, cells_of, shape_of};
+    ghost use Rattle.p3_uni_stark.specs.ProverState.{folder_sum_of, power_count};
+    ghost use Rattle.batch_prover_folder.specs.FolderState.{given_with, given_cells, prover_cells_of, prover_shape_of};
 
     type F = F;
 
     type Expr = F;
 
-    ghost stands = { λ b e t. E.embed e ≡ ev (reading_at E.ring E.embed (cells_of E.ring.zero E.embed b)) t };
+    ghost represents = { λ b e t. E.embed e ≡ eval_tree (reading_at E.ring E.embed (prover_cells_of E.ring.zero E.embed b)) t };
 
     ghost later = { λ a b. given_with b ≡ given_with a };
 
-    ghost grows = { λ a b ts is. (given_with b ≡ given_with a) × (sum_of b.inner ≡ weighed_from E.ring (sum_of a.inner) (map (ev_asserted (reading_at E.ring E.embed (cells_of E.ring.zero E.embed a))) ts)) × (powers_of b.inner ≡ powers_of a.inner) };
+    ghost appends = { λ a b ts is. (given_with b ≡ given_with a)
+        × (folder_sum_of b.inner ≡ weighed_from E.ring (folder_sum_of a.inner)
+        (map (eval_asserted (reading_at E.ring E.embed (prover_cells_of E.ring.zero E.embed a))) ts)) × (power_count b.inner ≡ power_count a.inner) };
 
-    ghost asserts = { λ a x b. (given_with b ≡ given_with a) × (sum_of b.inner ≡ added_to E.ring (sum_of a.inner).left a.inner.accumulator (E.embed x)) × (powers_of b.inner ≡ powers_of a.inner) };
+    ghost asserts = { λ a x b. (given_with b ≡ given_with a) × (folder_sum_of b.inner ≡ added_to E.ring (folder_sum_of a.inner).left a.inner.accumulator (E.embed x))
+        × (power_count b.inner ≡ power_count a.inner) };
 
     ghost computes = { λ a op x y b e. e ≡ value_by F.ring op x y };
 
-    ghost shape = { λ b. shape_of b };
+    ghost shape = { λ b. prover_shape_of b };
 
     ghost never_fails = { true };
 
@@ -107,28 +110,35 @@ impl<'a, F: Field, E: ExtensionField<F>> AirBuilder for ProverFolderWithLookups<
 
     ghost persists = { λ a b h e t k. value_persists (λ o. reading_at E.ring E.embed (given_cells E.ring.zero E.embed o)) (given_with a) (given_with b) (E.embed e) t h k };
 
-    ghost grows_same = { λ a. (refl, refl, refl) };
+    ghost appends_none = { λ a. (refl, refl, refl) };
 
-    ghost grows_later = { λ a b t i h. h.0 };
+    ghost appends_later = { λ a b t i h. h.0 };
 
-    ghost grows_along = { λ a b c s t i j p q. (q.0 ∙ p.0, weighed_along E.ring (λ o. reading_at E.ring E.embed (given_cells E.ring.zero E.embed o)) (given_with a) (given_with b) (sum_of a.inner) (sum_of b.inner) (sum_of c.inner) s t p.0 p.1 q.1, q.2 ∙ p.2) };
+    ghost appends_along = { λ a b c s t i j p q. (
+      q.0 ∙ p.0,
+      weighed_along E.ring (λ o. reading_at E.ring E.embed (given_cells E.ring.zero E.embed o)) (given_with a)
+          (given_with b) (folder_sum_of a.inner) (folder_sum_of b.inner) (folder_sum_of c.inner) s t p.0 p.1 q.1,
+      q.2 ∙ p.2,
+    ) };
 
     ghost never_fails_sure = { λ h. h };
 
-    ghost computes_stands = { λ a b h op x y e s t k l q. base_value_by_persists F.ring F.ring_laws E.ring E.ring_laws E.embed E.embed_laws (λ o. given_cells E.ring.zero E.embed o) (given_with a) (given_with b) op x y e s t h k l q };
+    ghost computes_represents = { λ a b h op x y e s t k l q. base_value_by_persists F.ring F.ring_laws E.ring E.ring_laws E.embed E.embed_laws
+        (λ o. given_cells E.ring.zero E.embed o) (given_with a) (given_with b) op x y e s t h k l q };
 
-    ghost asserts_grows = { λ a b x t h k. (k.0, k.1 ∙ ap (added_to E.ring (sum_of a.inner).left a.inner.accumulator) h, k.2) };
+    ghost asserts_appends = { λ a b x t h k. (k.0, k.1 ∙ ap (added_to E.ring (folder_sum_of a.inner).left a.inner.accumulator) h, k.2) };
 }
 
 impl<'a, F: Field, E: ExtensionField<F>> ExtensionBuilder for ProverFolderWithLookups<'a, F, E> {
-    ghost use Rattle.p3_uni_stark.specs.ProverState.{sum_of, powers_of};
-    ghost use Rattle.batch_prover_folder.specs.FolderState.{given_with, given_cells, cells_of};
+    ghost use Rattle.p3_uni_stark.specs.ProverState.{folder_sum_of, power_count};
+    ghost use Rattle.batch_prover_folder.specs.FolderState.{given_with, given_cells, prover_cells_of};
 
     type ExprEF = E;
 
-    ghost stands_ext = { λ b e t. e ≡ ev (reading_at E.ring E.embed (cells_of E.ring.zero E.embed b)) t };
+    ghost represents_ext = { λ b e t. e ≡ eval_tree (reading_at E.ring E.embed (prover_cells_of E.ring.zero E.embed b)) t };
 
-    ghost asserts_ext = { λ a x b. (given_with b ≡ given_with a) × (sum_of b.inner ≡ added_to E.ring (sum_of a.inner).left a.inner.accumulator x) × (powers_of b.inner ≡ powers_of a.inner) };
+    ghost asserts_ext = { λ a x b. (given_with b ≡ given_with a) × (folder_sum_of b.inner ≡ added_to E.ring (folder_sum_of a.inner).left a.inner.accumulator x)
+        × (power_count b.inner ≡ power_count a.inner) };
 
     ghost computes_ext = { λ a op x y b e. e ≡ value_by E.ring op x y };
 
@@ -159,11 +169,11 @@ impl<'a, F: Field, E: ExtensionField<F>> ExtensionBuilder for ProverFolderWithLo
 
     ghost persists_ext = { λ a b h e t k. value_persists (λ o. reading_at E.ring E.embed (given_cells E.ring.zero E.embed o)) (given_with a) (given_with b) e t h k };
 
-    ghost computes_ext_stands = { λ a b h op x y e s t k l q. value_by_persists E.ring E.embed (λ o. given_cells E.ring.zero E.embed o) (given_with a) (given_with b) op x y e s t h k l q };
+    ghost computes_ext_represents = { λ a b h op x y e s t k l q. value_by_persists E.ring E.embed (λ o. given_cells E.ring.zero E.embed o) (given_with a) (given_with b) op x y e s t h k l q };
 
-    ghost lifts_stands = { λ a b h x e t k q. value_persists (λ o. reading_at E.ring E.embed (given_cells E.ring.zero E.embed o)) (given_with a) (given_with b) e t h (q ∙ k) };
+    ghost lifts_represents = { λ a b h x e t k q. value_persists (λ o. reading_at E.ring E.embed (given_cells E.ring.zero E.embed o)) (given_with a) (given_with b) e t h (q ∙ k) };
 
-    ghost asserts_ext_grows = { λ a b x t h k. (k.0, k.1 ∙ ap (added_to E.ring (sum_of a.inner).left a.inner.accumulator) h, k.2) };
+    ghost asserts_ext_appends = { λ a b x t h k. (k.0, k.1 ∙ ap (added_to E.ring (folder_sum_of a.inner).left a.inner.accumulator) h, k.2) };
 }
 
 impl<'a, F: Field, E: ExtensionField<F>> PermutationAirBuilder
@@ -183,20 +193,25 @@ impl<'a, F: Field, E: ExtensionField<F>> PermutationAirBuilder
 }
 
 impl<'a, F: Field, E: ExtensionField<F>> InteractionBuilder for ProverFolderWithLookups<'a, F, E> {
-    ghost use Rattle.p3_uni_stark.specs.ProverState.{sum_of, powers_of};
-    ghost use Rattle.batch_prover_folder.specs.FolderState.{given_with, cells_of, shape_of};
+    ghost use Rattle.p3_uni_stark.specs.ProverState.{folder_sum_of, power_count};
+    ghost use Rattle.batch_prover_folder.specs.FolderState.{given_with, prover_cells_of, prover_shape_of};
 
-    ghost sends = { λ a bus xs cs b. (given_with b ≡ given_with a) × (sum_of b.inner ≡ sum_of a.inner) × (powers_of b.inner ≡ powers_of a.inner) };
+    ghost sends = { λ a bus xs cs b. (given_with b ≡ given_with a) × (folder_sum_of b.inner ≡ folder_sum_of a.inner) × (power_count b.inner ≡ power_count a.inner) };
 
     fn push_interaction(&mut self, _bus_name: &str, fields: &[F], count: Count<F>) -> Mem<()>
         ensures later { given_with self.new ≡ given_with self.old }
-        ensures same { shape_of self.new ≡ shape_of self.old }
+        ensures keeps_shape { prover_shape_of self.new ≡ prover_shape_of self.old }
         ensures answers { IsTrue true → IsOk result }
-        ensures grows { (fs : List (Tree F)) (v : Tree F) → Stand (λ e t. E.embed e ≡ ev (reading_at E.ring E.embed (cells_of E.ring.zero E.embed self.old)) t) fields.now fs → E.embed count.value ≡ ev (reading_at E.ring E.embed (cells_of E.ring.zero E.embed self.old)) v
-            → IfOk result (λ _. (given_with self.new ≡ given_with self.old) × (sum_of self.new.inner ≡ weighed_from E.ring (sum_of self.old.inner) []) × (powers_of self.new.inner ≡ powers_of self.old.inner)) }
+        ensures appends { (fs : List (Tree F)) (v : Tree F)
+            → Represent (λ e t. E.embed e ≡ eval_tree (reading_at E.ring E.embed (prover_cells_of E.ring.zero E.embed self.old)) t) fields.now fs → E.embed count.value
+            ≡ eval_tree (reading_at E.ring E.embed (prover_cells_of E.ring.zero E.embed self.old)) v
+            → IfOk result (λ _. (given_with self.new ≡ given_with self.old) × (folder_sum_of self.new.inner ≡ weighed_from E.ring (folder_sum_of self.old.inner) [])
+            × (power_count self.new.inner ≡ power_count self.old.inner)) }
         ensures sure { IsTrue true → IsOk result }
-        ensures sends { IfOk result (λ _. (given_with self.new ≡ given_with self.old) × (sum_of self.new.inner ≡ sum_of self.old.inner) × (powers_of self.new.inner ≡ powers_of self.old.inner)) }
-        ensures refused { OnErr result ((given_with self.new ≡ given_with self.old) × (sum_of self.new.inner ≡ weighed_from E.ring (sum_of self.old.inner) []) × (powers_of self.new.inner ≡ powers_of self.old.inner)) }
+        ensures sends { IfOk result (λ _. (given_with self.new ≡ given_with self.old) × (folder_sum_of self.new.inner ≡ folder_sum_of self.old.inner)
+            × (power_count self.new.inner ≡ power_count self.old.inner)) }
+        ensures on_error { OnErr result ((given_with self.new ≡ given_with self.old)
+            × (folder_sum_of self.new.inner ≡ weighed_from E.ring (folder_sum_of self.old.inner) []) × (power_count self.new.inner ≡ power_count self.old.inner)) }
     {
         Ok(())
     }
@@ -205,5 +220,5 @@ impl<'a, F: Field, E: ExtensionField<F>> InteractionBuilder for ProverFolderWith
         Ok(())
     }
 
-    ghost sends_grows = { λ a b bus xs cs fs vs h k e. e };
+    ghost sends_appends = { λ a b bus xs cs fs vs h k e. e };
 }

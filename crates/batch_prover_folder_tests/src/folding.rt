@@ -2,7 +2,7 @@
 ghost use Rattle.std.specs.Prelude.{◌≡◌};
 ghost use Rattle.p3_field.specs.Quartic.{quartic_ring};
 
-use batch_constraints_tests::post::{post, post_lookups};
+use batch_constraints_tests::sending::{sending_air, sending_lookups};
 use batch_constraints_tests::take::{Take, take_lookups};
 use batch_prover_folder::{ProverFolderWithLookups, prover_fold_with_lookups};
 use batch_tables::SwapAir;
@@ -78,8 +78,8 @@ fn fold_of_take(rt: HostRuntime) -> Result<(), Fail> {
 // terminal 15, so the others have 6, 19 - 6 - (3 + 2) = 8 and 15 - 6 - (3 + 2) = 4.
 #[test]
 fn fold_of_two_lookups(rt: HostRuntime) -> Result<(), Fail> {
-    let air = post(rt.alloc())?;
-    let lookups = post_lookups(rt.alloc(), &air)?;
+    let air = sending_air(rt.alloc())?;
+    let lookups = sending_lookups(rt.alloc(), &air)?;
     let (local, steps, turns) = ([bear(7)], [bear(2)], [bear(3)]);
     let public_values = [bear(4)];
     let powers = [100000, 10000, 1000, 100, 10, 1].map(quartic);

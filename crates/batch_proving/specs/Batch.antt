@@ -4,13 +4,13 @@ use Rattle.std.specs.Prelude.{ℕ, List, [], ◌∷◌, length, map, Option, Non
 use Rattle.std.specs.List.{flat_map}
 use Rattle.p3_field.specs.Domain.{CosetData}
 use Rattle.p3_field.specs.Laws.SubgroupSelectors.{subgroup}
-use Rattle.p3_field.specs.Poly.{table}
+use Rattle.p3_field.specs.Poly.{tabulate}
 use Rattle.p3_matrix.specs.Matrix.{Rows}
 use Rattle.p3_air.specs.Shape.{Declaration}
 use Rattle.p3_air.specs.Tree.{Tree}
 use Rattle.batch_setting.specs.Setting.{Setting, masks}
 use Rattle.batch_setup.specs.Setup.{Instance, airs_of, bits_of}
-use Rattle.batch_shape_checks.specs.ShapeChecks.{stated}
+use Rattle.batch_shape_checks.specs.ShapeChecks.{statement_with}
 use Rattle.batch_statement.specs.Statement.{PreprocessedTracesData, Statement, WrittenCommon, tables_of}
 use Rattle.batch_validity.specs.Traced.{TracedTable, all_traced, log_parts, preprocessed_matrices, traced_at}
 use Rattle.batch_validity.specs.Valid.{IsTracedBatch}
@@ -28,7 +28,7 @@ abbrev pub batch_of : {S F E C A : Type 0} → Setting S F E C → Prover F E C 
 batch_of c p declaration trees instances common = record {
   setting = c;
   prover = p;
-  statement = stated (tables_of declaration trees (airs_of instances)) (map (λ i. i.public_values) instances) common;
+  statement = statement_with (tables_of declaration trees (airs_of instances)) (map (λ i. i.public_values) instances) common;
   traces = map (λ i. i.trace) instances;
   degree_bits = bits_of (masks c) instances;
 }
@@ -41,11 +41,11 @@ CommitsToSome commits (m ∷ ms) None = ⊥
 CommitsToSome commits (m ∷ ms) (Some x) = commits (m ∷ ms) x
 
 -- the commitment to preprocessed matrices, where there is one, with the prover data that belongs to it
-abbrev pub IsKeptWith : {M C D : Type 0} → (List M → C × D → Type 0) → List M → Option (PreprocessedTracesData C) → Option D → Type 0
-IsKeptWith commits ms None None = Unit {0}
-IsKeptWith commits ms None (Some d) = ⊥
-IsKeptWith commits ms (Some g) None = ⊥
-IsKeptWith commits ms (Some g) (Some d) = commits ms (g.commitment, d)
+abbrev pub HasProverData : {M C D : Type 0} → (List M → C × D → Type 0) → List M → Option (PreprocessedTracesData C) → Option D → Type 0
+HasProverData commits ms None None = Unit {0}
+HasProverData commits ms None (Some d) = ⊥
+HasProverData commits ms (Some g) None = ⊥
+HasProverData commits ms (Some g) (Some d) = commits ms (g.commitment, d)
 
 module _ {S F E C : Type 0} (b : Batch S F E C) where
   abbrev pub table_count : ℕ
@@ -71,12 +71,12 @@ module _ {S F E C : Type 0} (b : Batch S F E C) where
   module _ (lookup_witness : Option F) where
     -- the challenges of each table's lookups
     abbrev pub all_challenges : List (List E)
-    all_challenges = table table_count (challenges_at b.setting b.prover b.statement b.traces b.degree_bits lookup_witness)
+    all_challenges = tabulate table_count (challenges_at b.setting b.prover b.statement b.traces b.degree_bits lookup_witness)
 
     -- the permutation columns of all tables that have some
     abbrev pub all_permutations : List (CosetData F × Rows F)
     all_permutations =
-        flat_map (λ i. permutation_matrices b.setting b.prover (table_at i) (challenges_at b.setting b.prover b.statement b.traces b.degree_bits lookup_witness i)) (table table_count (λ i. i))
+        flat_map (λ i. permutation_matrices b.setting b.prover (table_at i) (challenges_at b.setting b.prover b.statement b.traces b.degree_bits lookup_witness i)) (tabulate table_count (λ i. i))
 
     -- the challenge that folds the constraints, the chunks of table i's quotient, and those of all quotients
     abbrev pub folding : E
@@ -86,7 +86,7 @@ module _ {S F E C : Type 0} (b : Batch S F E C) where
     chunks_of i = chunk_matrices b.setting b.prover (table_at i) (challenges_at b.setting b.prover b.statement b.traces b.degree_bits lookup_witness i) folding
 
     abbrev pub all_chunks : List (CosetData F × Rows F)
-    all_chunks = flat_map chunks_of (table table_count (λ i. i))
+    all_chunks = flat_map chunks_of (tabulate table_count (λ i. i))
 
   -- the number of chunks of table i's quotient
   abbrev pub log_parts_at : ℕ → ℕ

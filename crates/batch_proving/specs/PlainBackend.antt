@@ -1,4 +1,4 @@
--- The prover's side of the plain scheme, as plain data (own).
+-- The prover's side of the plain scheme, as plain data (not in Plonky3).
 use Rattle.std.specs.Prelude.{◌≡◌, ◌^◌, List}
 use Rattle.p3_field.specs.Domain.{CosetData, point}
 use Rattle.p3_field.specs.Quartic.{quartic_inv}
@@ -34,5 +34,5 @@ abbrev pub plain_commits : {F : Type 0} → Scheme F → List (CosetData F × Ro
 plain_commits s es w = IsCommitment s.field.ring (λ d. 2 ^ d.log_size) (λ d i. point s.field.ring s.field.root d i) (λ ms c. c ≡ commitment_of s ms) IsMade (AreHolding s) es w
 
 -- what fixes a prover over BabyBear and its quartic extension: inverses in the extension, a value's canonical number, and the plain scheme's commitments
-abbrev pub bear_prover : Scheme BabyBear → Prover BabyBear QuarticExtension (PlainCommitmentData BabyBear)
-bear_prover s = record { inverse = quartic_inv; canonical = λ x. x.value; commitment_of = λ es. commitment_of s es }
+abbrev pub baby_bear_prover : Scheme BabyBear → Prover BabyBear QuarticExtension (PlainCommitmentData BabyBear)
+baby_bear_prover s = record { inverse = quartic_inv; canonical = λ x. x.value; commitment_of = λ es. commitment_of s es }

@@ -4,7 +4,7 @@ use Rattle.std.specs.Prelude.{◌≡◌, ℕ, ◌^◌, ◌<◌, ◌≤◌, List,
 use Rattle.p3_field.specs.Checks.{Check, in_turn}
 use Rattle.p3_matrix.specs.Matrix.{Rows}
 use Rattle.p3_commit.specs.Claims.{Request}
-use Rattle.p3_commit.specs.Commitments.{AreExtensions, AreHeld}
+use Rattle.p3_commit.specs.Commitments.{AreExtensions, AreOpenedCommitments}
 use Rattle.p3_commit.specs.Failure.{NoneOf}
 use Rattle.p3_lookup.specs.Bound.{bus_load, capped}
 use Rattle.p3_lookup.specs.Bus.{batch_buses, bus_count}
@@ -15,7 +15,7 @@ use Rattle.batch_shape_checks.specs.ShapeChecks.{heights_of}
 use Rattle.batch_statement.specs.Proof.{ProofData}
 use Rattle.batch_transcript.specs.declared.failure.GrindStep.TheVariants.{Lookup, Ood}
 use Rattle.honest_proofs.specs.HonestProof.{HaveFractions, IsBuilt, IsDenominatorZero, IsLookupGround, IsOodGround, LacksLookupGround, LacksOodGround, opening_state}
-use Rattle.honest_acceptance.specs.Rounds.{AskFor, held_of, honest_rounds}
+use Rattle.honest_acceptance.specs.Rounds.{AskFor, opened_commitments_of, honest_rounds}
 use Rattle.batch_proving.specs.Backend.{ProverBackend}
 use Rattle.batch_proving.specs.Batch.{Batch, all_chunks, all_permutations, chunks_of, log_parts_at, main_matrices, table_count}
 use Rattle.batch_proving.specs.declared.error.ProvingError.{ProvingError}
@@ -98,7 +98,7 @@ module _ {S F E C D P R : Type 0} (k : ProverBackend S F E C D P R) (b : Batch S
   pub record AreAsked (w : Option F) (z : F) (requests : List (Request D E)) : Type 0 where
     pub ask : AskFor (honest_rounds b.setting b.prover b.statement b.traces b.degree_bits w z) requests
     pub made : All (λ r. k.made r.prover_data) requests
-    pub held : AreHeld k.holds requests (held_of (honest_rounds b.setting b.prover b.statement b.traces b.degree_bits w z))
+    pub held : AreOpenedCommitments k.holds requests (opened_commitments_of (honest_rounds b.setting b.prover b.statement b.traces b.degree_bits w z))
 
   -- and the check that it is opened
   abbrev pub opening_part : List (Check (ProvingError R))
@@ -122,7 +122,7 @@ module _ {S F E C D P R : Type 0} (k : ProverBackend S F E C D P R) (b : Batch S
 
   -- The proof that is given where none fails: it is built honestly, and the proof of its openings is what the backend gives for what it is asked, from the
   -- state of the openings.
-  pub record IsProved (q : ProofData F E C P) : Type 0 where
+  pub record IsHonestProof (q : ProofData F E C P) : Type 0 where
     pub built : IsBuilt b.setting b.prover b.statement b.traces b.degree_bits q
     pub requests : List (Request D E)
     pub asked : AreAsked q.lookup_pow_witness q.ood_pow_witness requests

@@ -30,7 +30,7 @@ IsAnswerRefusal cs (LookupDenominatorZero instance row) = FirstRefused cs (Looku
 IsAnswerRefusal cs (WitnessNotFound step) = FirstRefused cs (WitnessNotFound step)
 IsAnswerRefusal cs OutOfMemory = ⊤
 
--- the answer of the whole work: Ok where the checks hold, and else the refusal of one behind checks that hold
+-- the answer of the whole work: Ok where the checks hold, and else the refusal of one after checks that hold
 abbrev pub IsProverAnswer : {T R : Type 0} → List (Check (ProvingError R)) → Result T (ProvingError R) → Type 0
 IsProverAnswer cs (Ok x) = NoneFails cs
 IsProverAnswer cs (Err e) = IsAnswerRefusal cs e

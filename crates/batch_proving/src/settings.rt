@@ -13,7 +13,7 @@ use p3_field::{
 };
 use p3_uni_stark::StarkGenericConfig;
 
-/// A configuration's prover as plain data (own). Each configuration has it.
+/// A configuration's prover as plain data (not in Plonky3). Each configuration has it.
 pub trait ProverSettings: StarkGenericConfig {
     // the inverses, the canonical numbers, and the backend's commitment to matrices on domains
     ghost prover: { Self → Prover Self.Val Self.Challenge Self.Pcs.Commitment };
@@ -28,7 +28,9 @@ pub trait ProverSettings: StarkGenericConfig {
 impl<SC: StarkGenericConfig> ProverSettings for SC {
     ghost prover = { λ config. record { inverse = SC.Challenge.inv; canonical = SC.Val.canonical; commitment_of = SC.Pcs.commitment_of (SC.pcs_of config) } };
 
-    ghost commits_to = { λ config es w. IsCommitment SC.Val.ring ⟦<<SC::Pcs as Pcs<SC::Challenge, SC::Challenger>>::Domain as PolynomialSpace>⟧.points ⟦<<SC::Pcs as Pcs<SC::Challenge, SC::Challenger>>::Domain as PolynomialSpace>⟧.point_at (SC.Pcs.commits (SC.pcs_of config)) (SC.Pcs.made (SC.pcs_of config)) (SC.Pcs.holds (SC.pcs_of config)) es w };
+    ghost commits_to = { λ config es w. IsCommitment SC.Val.ring ⟦<<SC::Pcs as Pcs<SC::Challenge, SC::Challenger>>::Domain as PolynomialSpace>⟧.points
+        ⟦<<SC::Pcs as Pcs<SC::Challenge, SC::Challenger>>::Domain as PolynomialSpace>⟧.point_at (SC.Pcs.commits (SC.pcs_of config)) (SC.Pcs.made (SC.pcs_of config))
+        (SC.Pcs.holds (SC.pcs_of config)) es w };
 
     ghost prover_backend = { λ config. record {
       commit_fault = SC.Pcs.commit_fault (SC.pcs_of config);

@@ -12,30 +12,30 @@ use Rattle.p3_air.specs.Shape.{width_of}
 use Rattle.p3_commit.specs.Periodic.{IsPeriod}
 use Rattle.batch_constraints.specs.Laws.Images.{all_of_map}
 use Rattle.committed_tables.specs.Rows.{flattened_matrix}
-use Rattle.batch_quotient.specs.QuotientRows.{permutation_columns}
+use Rattle.batch_quotient.specs.QuotientRows.{permutation_column_count}
 
 -- what holds of what is behind a reference that may be there
-pub behind_reference : {X : Type 0} (P : X → Type 0) (o : Option (Bor X)) → IfSome (option_map (λ m. m.now) o) P → IfSome o (λ m. P m.now)
-behind_reference P None h = h
-behind_reference P (Some m) h = h
+pub of_reference : {X : Type 0} (P : X → Type 0) (o : Option (Bor X)) → IfSome (option_map (λ m. m.now) o) P → IfSome o (λ m. P m.now)
+of_reference P None h = h
+of_reference P (Some m) h = h
 
 pub in_front : {X : Type 0} (P : X → Type 0) (o : Option (Bor X)) → IfSome o (λ m. P m.now) → IfSome (option_map (λ m. m.now) o) P
 in_front P None h = h
 in_front P (Some m) h = h
 
 -- the numbers of rows and columns of a matrix, from those of its flattened one
-pub unflattened_tall : {F E : Type 0} (e : Extension F E) → VectorLaws e.dimension e.parts e.whole → (m : Option (Rows E)) (n : ℕ) → IfSome (option_map (flattened_matrix e) m) (λ r. height r ≡ n)
+pub unflattened_tall : {F E : Type 0} (e : Extension F E) → VectorLaws e.dimension e.coefficients e.from_coefficients → (m : Option (Rows E)) (n : ℕ) → IfSome (option_map (flattened_matrix e) m) (λ r. height r ≡ n)
     → IfSome m (λ r. height r ≡ n)
 unflattened_tall e V None n h = h
-unflattened_tall e V (Some m) n h = sym (height-pieces e.parts e.dimension V.parts_length V.positive m (flattened_matrix e m) refl refl) ∙ h
+unflattened_tall e V (Some m) n h = sym (height-pieces e.coefficients e.dimension V.coefficients_length V.positive m (flattened_matrix e m) refl refl) ∙ h
 
-pub unflattened_wide : {F E : Type 0} (e : Extension F E) → VectorLaws e.dimension e.parts e.whole → (m : Option (Rows E)) (n : ℕ) → width_of (option_map (flattened_matrix e) m) ≡ n * e.dimension
+pub unflattened_wide : {F E : Type 0} (e : Extension F E) → VectorLaws e.dimension e.coefficients e.from_coefficients → (m : Option (Rows E)) (n : ℕ) → width_of (option_map (flattened_matrix e) m) ≡ n * e.dimension
     → width_of m ≡ n
 unflattened_wide e V None n h = let z : 0 * e.dimension ≡ n * e.dimension = omega (arith, h) in sym (mul-div_cancel 0 V.positive) ∙ (ap (λ k. k / e.dimension) z ∙ mul-div_cancel n V.positive)
 unflattened_wide e V (Some m) n h = sym (mul-div_cancel m.width V.positive) ∙ (ap (λ k. k / e.dimension) h ∙ mul-div_cancel n V.positive)
 
 -- a matrix with rows has a column for the running sum and one for each lookup
-pub some_wide : {F : Type 0} (m : Option (Rows F)) (lookups d N : ℕ) → 0 < N → IfSome m (λ r. height r ≡ N) → width_of m ≡ permutation_columns lookups * d → IfSome m (λ r. r.width ≡ (lookups + 1) * d)
+pub some_wide : {F : Type 0} (m : Option (Rows F)) (lookups d N : ℕ) → 0 < N → IfSome m (λ r. height r ≡ N) → width_of m ≡ permutation_column_count lookups * d → IfSome m (λ r. r.width ≡ (lookups + 1) * d)
 some_wide None lookups d N pos tall wide = tt
 some_wide (Some m) zero d N pos tall wide =
     let none : m.width ≡ 0 = omega (arith, wide) in

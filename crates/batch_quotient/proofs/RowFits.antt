@@ -9,7 +9,7 @@ use Rattle.p3_matrix.specs.Matrix.{Rows, height}
 use Rattle.p3_air.specs.Check.{preprocessed_row}
 use Rattle.p3_air.specs.Shape.{Declaration, Fits, declared_shape, has, width_of}
 use Rattle.batch_prover_folder.specs.FolderState.{given_shape}
-use Rattle.batch_quotient.specs.QuotientRows.{QuotientRows, given_at, permutation_columns}
+use Rattle.batch_quotient.specs.QuotientRows.{QuotientRows, given_at, permutation_column_count}
 use Rattle.batch_quotient.specs.Laws.Reads.{row_long}
 
 differs_above : (m n w : ℕ) → m < w → w ≤ n → nat_eq m n ≡ false
@@ -53,7 +53,7 @@ module _ {F E : Type 0} (d : Declaration F) (z : F) (q : QuotientRows F E) (peri
       }
 
   -- and the permutation columns that so many lookups read
-  pub columns_fit : (lookups : ℕ) → IfSome q.permutation (λ r. height r ≡ n) → width_of q.permutation ≡ permutation_columns lookups → 0 < lookups
+  pub columns_fit : (lookups : ℕ) → IfSome q.permutation (λ r. height r ≡ n) → width_of q.permutation ≡ permutation_column_count lookups → 0 < lookups
       → lookups < (given_shape (given_at z q periodic powers i j)).permutation
   columns_fit zero tall wide some = absurd (omega (arith, some))
   columns_fit (suc lookups) tall wide some = omega (arith, some_long q.permutation n i tall low, some_long q.permutation n j tall next, wide)

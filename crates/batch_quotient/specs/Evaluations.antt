@@ -2,12 +2,12 @@
 -- follow. After Plonky3's p3-batch-stark (quotient_values).
 use Rattle.std.specs.Prelude.{◌≡◌, ℕ, ◌-◌, ◌^◌, List, [], Option, None, Some}
 use Rattle.p3_field.specs.Field.{TwoAdic, Extension}
-use Rattle.p3_field.specs.Poly.{table}
+use Rattle.p3_field.specs.Poly.{tabulate}
 use Rattle.p3_field.specs.Domain.{CosetData, point}
 use Rattle.p3_matrix.specs.Matrix.{Rows}
 use Rattle.p3_air.specs.Tree.{Tree}
 use Rattle.p3_commit.specs.Commitments.{Committed, IsEvaluated}
-use Rattle.committed_tables.specs.Committed.{CommittedTable, rows_of}
+use Rattle.committed_tables.specs.Committed.{CommittedTable, row_count_of}
 use Rattle.committed_tables.specs.Quotient.{quotient_value}
 
 -- the values of a table's columns on a domain, a row for each point: the main, the preprocessed and the flattened permutation
@@ -29,9 +29,9 @@ EvaluatedSome f n p c (Some m) = IsEvaluated f.ring n p c m
 -- What is given is the table's: each matrix has the values on the domain of the polynomials that the table commits to, and all
 -- else is its own.
 pub record IsReadOn {F E : Type 0} (f : TwoAdic F) (t : CommittedTable F E) (d : CosetData F) (v : Evaluations F E) : Type 0 where
-  pub main : IsEvaluated f.ring (2 ^ d.log_size) (point f.ring f.root d) (record { size = rows_of t; polynomials = t.main }) v.main
-  pub preprocessed : EvaluatedSome f (2 ^ d.log_size) (point f.ring f.root d) (record { size = rows_of t; polynomials = t.preprocessed }) v.preprocessed
-  pub permutation : EvaluatedSome f (2 ^ d.log_size) (point f.ring f.root d) (record { size = rows_of t; polynomials = t.permutation }) v.permutation
+  pub main : IsEvaluated f.ring (2 ^ d.log_size) (point f.ring f.root d) (record { size = row_count_of t; polynomials = t.main }) v.main
+  pub preprocessed : EvaluatedSome f (2 ^ d.log_size) (point f.ring f.root d) (record { size = row_count_of t; polynomials = t.preprocessed }) v.preprocessed
+  pub permutation : EvaluatedSome f (2 ^ d.log_size) (point f.ring f.root d) (record { size = row_count_of t; polynomials = t.permutation }) v.permutation
   pub public_values : t.public_values ≡ v.public_values
   pub periodic : t.periodic ≡ v.periodic
   pub challenges : t.challenges ≡ v.challenges
@@ -40,4 +40,4 @@ pub record IsReadOn {F E : Type 0} (f : TwoAdic F) (t : CommittedTable F E) (d :
 -- the values of the table's quotient at the points of the domain, in order
 abbrev pub quotient_values_on : {F E : Type 0} → TwoAdic F → Extension F E → CommittedTable F E → List (Tree F) → E → CosetData F → List E
 quotient_values_on f e t trees alpha d =
-    table (2 ^ d.log_size) (λ i. quotient_value f e t d.shift (d.log_size - t.log_height) trees alpha (point f.ring f.root d i))
+    tabulate (2 ^ d.log_size) (λ i. quotient_value f e t d.shift (d.log_size - t.log_height) trees alpha (point f.ring f.root d i))

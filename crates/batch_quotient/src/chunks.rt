@@ -29,9 +29,9 @@ fn paired<X: Copy, Y: Drop>(alloc: Global, xs: &[X], ys: Vec<Y>) -> Mem<Vec<(X, 
 }
 
 /// The chunks of a quotient, of which the values at the points of its domain are given: chunk i is a matrix whose row j has the
-/// coefficients of value i + `num_chunks` j, with the part of the domain that begins at point i. To these a prover commits (own;
-/// `p3-batch-stark`'s prover does it in place). Where the values are those of a table's quotient, the chunks are those of the
-/// honest one. The only error is running out of memory.
+/// coefficients of value i + `num_chunks` j, with the part of the domain that begins at point i. To these a prover commits (not
+/// in Plonky3; `p3-batch-stark`'s prover does it in place). Where the values are those of a table's quotient, the chunks are
+/// those of the honest one. The only error is running out of memory.
 ///
 /// There is a value for each point, and `num_chunks` is a power of two and at most the number of points.
 pub fn quotient_chunks<F: TwoAdicField, E: ExtensionField<F>>(
@@ -44,7 +44,7 @@ pub fn quotient_chunks<F: TwoAdicField, E: ExtensionField<F>>(
     requires fits { num_chunks ≤ 2 ^ quotient_domain.log_size }
     requires count { length values.now ≡ 2 ^ quotient_domain.log_size }
     ensures { let f : TwoAdic F = record { ring = F.ring; inv = F.inv; root = F.root; generator = F.GENERATOR } in
-        let e : Extension F E = record { ring = E.ring; embed = E.embed; dimension = E.DIMENSION; basis = E.basis; parts = E.parts; whole = E.whole } in
+        let e : Extension F E = record { ring = E.ring; embed = E.embed; dimension = E.DIMENSION; basis = E.basis; coefficients = E.coefficients; from_coefficients = E.from_coefficients } in
         IfOk result (λ v. (t : CommittedTable F E) (trees : List (Tree F)) (alpha : E) (log_chunks : ℕ) → num_chunks ≡ 2 ^ log_chunks → quotient_domain.log_size ≡ t.log_height + log_chunks
         → values.now ≡ quotient_values_on f e t trees alpha quotient_domain → EachOf (2 ^ log_chunks) v.items (IsChunk f e t quotient_domain.shift log_chunks trees alpha)) }
 {

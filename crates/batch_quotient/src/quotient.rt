@@ -14,7 +14,7 @@ ghost use Rattle.committed_tables.specs.Committed.{CommittedTable};
 ghost use Rattle.committed_tables.specs.Rows.{flattened_matrix};
 ghost use Rattle.batch_prover_folder.specs.FolderState.{given_with};
 ghost use Rattle.batch_quotient.specs.Evaluations.{Evaluations, IsReadOn, quotient_values_on};
-ghost use Rattle.batch_quotient.specs.QuotientRows.{QuotientRows, given_at, periodic_at, permutation_columns};
+ghost use Rattle.batch_quotient.specs.QuotientRows.{QuotientRows, given_at, periodic_at, permutation_column_count};
 
 use crate::columns::read_periodic;
 use crate::powers::falling_powers;
@@ -115,7 +115,7 @@ pub(crate) fn quotient_on<F: TwoAdicField, E: ExtensionField<F>, A: Air<F>, LG: 
     requires disjoint { AreDisjoint (2 ^ trace_domain.log_size) (point F.ring F.root trace_domain) (2 ^ quotient_domain.log_size) (point F.ring F.root quotient_domain) }
     requires width { main.now.width ≡ (A.declaration air.now).width }
     requires height { height main.now ≡ 2 ^ quotient_domain.log_size }
-    requires permutation_width { width_of (option_map (λ m. m.now) permutation) ≡ permutation_columns (length lookups.now) }
+    requires permutation_width { width_of (option_map (λ m. m.now) permutation) ≡ permutation_column_count (length lookups.now) }
     requires permutation_height { IfSome permutation (λ m. height m.now ≡ 2 ^ quotient_domain.log_size) }
     requires preprocessed_width { width_of (option_map (λ m. m.now) preprocessed) ≡ width_of (A.declaration air.now).preprocessed }
     requires preprocessed_height { IfSome preprocessed (λ m. height m.now ≡ 2 ^ quotient_domain.log_size) }
@@ -124,9 +124,10 @@ pub(crate) fn quotient_on<F: TwoAdicField, E: ExtensionField<F>, A: Air<F>, LG: 
     requires challenges { 2 * length lookups.now ≤ length challenges.now }
     requires terminals { 0 < length lookups.now → 0 < length terminals.now }
     requires periods { All (λ c. IsPeriod (2 ^ trace_domain.log_size) (length c)) (A.declaration air.now).periodic }
-    requires periodic { IsPeriodicTable F.ring (2 ^ trace_domain.log_size) (point F.ring F.root trace_domain) (2 ^ quotient_domain.log_size) (point F.ring F.root quotient_domain) (A.declaration air.now).periodic periodic.now }
+    requires periodic { IsPeriodicTable F.ring (2 ^ trace_domain.log_size) (point F.ring F.root trace_domain) (2 ^ quotient_domain.log_size)
+        (point F.ring F.root quotient_domain) (A.declaration air.now).periodic periodic.now }
     ensures { let f : TwoAdic F = record { ring = F.ring; inv = F.inv; root = F.root; generator = F.GENERATOR } in
-        let e : Extension F E = record { ring = E.ring; embed = E.embed; dimension = E.DIMENSION; basis = E.basis; parts = E.parts; whole = E.whole } in
+        let e : Extension F E = record { ring = E.ring; embed = E.embed; dimension = E.DIMENSION; basis = E.basis; coefficients = E.coefficients; from_coefficients = E.from_coefficients } in
         let given : Evaluations F E = record {
           main = main.now;
           preprocessed = option_map (λ m. m.now) preprocessed.entry;

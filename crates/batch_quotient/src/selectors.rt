@@ -1,8 +1,8 @@
 //! The selectors of a table's rows on its quotient domain, and one over the polynomial that vanishes on the rows.
 ghost use Rattle.std.specs.Prelude.{◌≡◌, ℕ, ◌-◌, ◌*◌, ◌%◌, ◌^◌, ◌<◌, ◌≤◌, length, get_or, IfOk};
 ghost use Rattle.p3_field.specs.Ring.{sub};
-ghost use Rattle.p3_field.specs.Poly.{val, table};
-ghost use Rattle.p3_field.specs.Domain.{coset_point, point, van, first_selector, last_selector, transition_selector};
+ghost use Rattle.p3_field.specs.Poly.{eval_poly, tabulate};
+ghost use Rattle.p3_field.specs.Domain.{coset_point, point, vanishing_polynomial, first_selector, last_selector, transition_selector};
 ghost use Rattle.p3_commit.specs.Space.{AreDisjoint};
 
 use p3_commit::PolynomialSpace;
@@ -41,7 +41,7 @@ pub(crate) fn expansion<F: TwoAdicField>(
 
 // first - minus, first * step - minus, ..
 fn shifted_powers<F: Field>(alloc: Global, first: F, step: F, size: usize, minus: F) -> Mem<Vec<F>>
-    ensures { IfOk result (λ v. v.items ≡ table size (λ i. sub F.ring (coset_point F.ring first step i) minus)) }
+    ensures { IfOk result (λ v. v.items ≡ tabulate size (λ i. sub F.ring (coset_point F.ring first step i) minus)) }
 {
     let mut values = Vec::with_capacity(alloc, size)?;
     let mut power = first;
@@ -56,7 +56,7 @@ fn shifted_powers<F: Field>(alloc: Global, first: F, step: F, size: usize, minus
 fn repeated_quotients<F: Field>(alloc: Global, dividends: &[F], divisors: &[F]) -> Mem<Vec<F>>
     requires some { 0 < length dividends.now }
     requires nonzero { (i : ℕ) → i < length divisors.now → get_or divisors.now i F.ring.zero ≡ F.ring.zero → ⊥ }
-    ensures { IfOk result (λ v. v.items ≡ table (length divisors.now) (λ i. F.ring.mul (get_or dividends.now (i % length dividends.now) F.ring.zero) (F.inv (get_or divisors.now i F.ring.zero)))) }
+    ensures { IfOk result (λ v. v.items ≡ tabulate (length divisors.now) (λ i. F.ring.mul (get_or dividends.now (i % length dividends.now) F.ring.zero) (F.inv (get_or divisors.now i F.ring.zero)))) }
 {
     let inverses = batch_multiplicative_inverse(alloc, divisors)?;
     let mut values = Vec::with_capacity(alloc, divisors.len())?;
@@ -73,7 +73,9 @@ fn distances<F: TwoAdicField>(
     quotient_domain: &TwoAdicMultiplicativeCoset<F>,
     minus: F,
 ) -> Mem<Vec<F>>
-    ensures { IfOk result (λ v. v.items ≡ table (2 ^ quotient_domain.now.log_size) (λ i. sub F.ring (coset_point F.ring (F.ring.mul (F.inv trace_domain.now.shift) quotient_domain.now.shift) (F.root quotient_domain.now.log_size) i) minus)) }
+    ensures { IfOk result (λ v. v.items
+        ≡ tabulate (2 ^ quotient_domain.now.log_size)
+        (λ i. sub F.ring (coset_point F.ring (F.ring.mul (F.inv trace_domain.now.shift) quotient_domain.now.shift) (F.root quotient_domain.now.log_size) i) minus)) }
 {
     trace_domain.valid();
     quotient_domain.valid();
@@ -89,7 +91,9 @@ fn vanishing_values<F: TwoAdicField>(
     quotient_domain: &TwoAdicMultiplicativeCoset<F>,
 ) -> Mem<Vec<F>>
     requires { trace_domain.now.log_size ≤ quotient_domain.now.log_size }
-    ensures { IfOk result (λ v. v.items ≡ table (2 ^ (quotient_domain.now.log_size - trace_domain.now.log_size)) (λ i. val F.ring (van F.ring F.inv trace_domain.now) (point F.ring F.root quotient_domain.now i))) }
+    ensures { IfOk result (λ v. v.items
+        ≡ tabulate (2 ^ (quotient_domain.now.log_size - trace_domain.now.log_size))
+        (λ i. eval_poly F.ring (vanishing_polynomial F.ring F.inv trace_domain.now) (point F.ring F.root quotient_domain.now i))) }
 {
     trace_domain.valid();
     quotient_domain.valid();
@@ -110,10 +114,15 @@ pub(crate) fn row_selectors<F: TwoAdicField>(
 ) -> Mem<RowSelectors<F>>
     requires larger { trace_domain.now.log_size ≤ quotient_domain.now.log_size }
     requires disjoint { AreDisjoint (2 ^ trace_domain.now.log_size) (point F.ring F.root trace_domain.now) (2 ^ quotient_domain.now.log_size) (point F.ring F.root quotient_domain.now) }
-    ensures first { IfOk result (λ s. s.is_first_row.items ≡ table (2 ^ quotient_domain.now.log_size) (λ i. val F.ring (first_selector F.ring F.inv trace_domain.now) (point F.ring F.root quotient_domain.now i))) }
-    ensures last { IfOk result (λ s. s.is_last_row.items ≡ table (2 ^ quotient_domain.now.log_size) (λ i. val F.ring (last_selector F.ring F.inv F.root trace_domain.now) (point F.ring F.root quotient_domain.now i))) }
-    ensures transition { IfOk result (λ s. s.is_transition.items ≡ table (2 ^ quotient_domain.now.log_size) (λ i. val F.ring (transition_selector F.ring F.inv F.root trace_domain.now) (point F.ring F.root quotient_domain.now i))) }
-    ensures inverse { IfOk result (λ s. s.inv_vanishing.items ≡ table (2 ^ (quotient_domain.now.log_size - trace_domain.now.log_size)) (λ i. F.inv (val F.ring (van F.ring F.inv trace_domain.now) (point F.ring F.root quotient_domain.now i)))) }
+    ensures first { IfOk result (λ s. s.is_first_row.items
+        ≡ tabulate (2 ^ quotient_domain.now.log_size) (λ i. eval_poly F.ring (first_selector F.ring F.inv trace_domain.now) (point F.ring F.root quotient_domain.now i))) }
+    ensures last { IfOk result (λ s. s.is_last_row.items
+        ≡ tabulate (2 ^ quotient_domain.now.log_size) (λ i. eval_poly F.ring (last_selector F.ring F.inv F.root trace_domain.now) (point F.ring F.root quotient_domain.now i))) }
+    ensures transition { IfOk result (λ s. s.is_transition.items
+        ≡ tabulate (2 ^ quotient_domain.now.log_size) (λ i. eval_poly F.ring (transition_selector F.ring F.inv F.root trace_domain.now) (point F.ring F.root quotient_domain.now i))) }
+    ensures inverse { IfOk result (λ s. s.inv_vanishing.items
+        ≡ tabulate (2 ^ (quotient_domain.now.log_size - trace_domain.now.log_size))
+        (λ i. F.inv (eval_poly F.ring (vanishing_polynomial F.ring F.inv trace_domain.now) (point F.ring F.root quotient_domain.now i)))) }
 {
     trace_domain.valid();
     quotient_domain.valid();

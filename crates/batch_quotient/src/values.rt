@@ -12,7 +12,7 @@ ghost use Rattle.p3_lookup.specs.Written.{read_all};
 ghost use Rattle.batch_constraints.specs.BatchTrees.{AreLookupsOf, table_trees};
 ghost use Rattle.committed_tables.specs.Committed.{CommittedTable};
 ghost use Rattle.batch_quotient.specs.Evaluations.{Evaluations, IsReadOn, quotient_values_on};
-ghost use Rattle.batch_quotient.specs.QuotientRows.{permutation_columns};
+ghost use Rattle.batch_quotient.specs.QuotientRows.{permutation_column_count};
 
 use crate::columns::recombined_columns;
 use crate::quotient::quotient_on;
@@ -28,7 +28,7 @@ use p3_uni_stark::{Challenge, Domain, StarkGenericConfig, Val};
 use std::alloc::Global;
 
 /// The values of a table's quotient at the points of its domain, in order (`quotient_values` of `p3-batch-stark`): at each point the
-/// fold by alpha of the table's constraints, the AIR's and behind them those of its lookups, over the value there of the polynomial
+/// fold by alpha of the table's constraints, the AIR's and after them those of its lookups, over the value there of the polynomial
 /// that vanishes on the rows. The constraints read the row of that point, and as the next row the one that is (quotient size / trace
 /// size) further, modulo the quotient size. The only error is running out of memory.
 ///
@@ -61,7 +61,7 @@ pub fn quotient_values<SC: StarkGenericConfig, A: Air<Val<SC>>, LG: LookupProtoc
     requires disjoint { AreDisjoint (2 ^ trace_domain.log_size) (point SC.Val.ring SC.Val.root trace_domain) (2 ^ quotient_domain.log_size) (point SC.Val.ring SC.Val.root quotient_domain) }
     requires width { trace_on_quotient_domain.now.width ≡ (A.declaration air.now).width }
     requires height { height trace_on_quotient_domain.now ≡ 2 ^ quotient_domain.log_size }
-    requires permutation_width { width_of (option_map (λ m. m.now) opt_permutation_on_quotient_domain) ≡ permutation_columns (length lookups.now) * SC.Challenge.DIMENSION }
+    requires permutation_width { width_of (option_map (λ m. m.now) opt_permutation_on_quotient_domain) ≡ permutation_column_count (length lookups.now) * SC.Challenge.DIMENSION }
     requires permutation_height { IfSome opt_permutation_on_quotient_domain (λ m. height m.now ≡ 2 ^ quotient_domain.log_size) }
     requires preprocessed_width { width_of (option_map (λ m. m.now) preprocessed_on_quotient_domain) ≡ width_of (A.declaration air.now).preprocessed }
     requires preprocessed_height { IfSome preprocessed_on_quotient_domain (λ m. height m.now ≡ 2 ^ quotient_domain.log_size) }
@@ -71,7 +71,14 @@ pub fn quotient_values<SC: StarkGenericConfig, A: Air<Val<SC>>, LG: LookupProtoc
     requires terminals { 0 < length lookups.now → 0 < length permutation_vals.now }
     requires periods { All (λ c. IsPeriod (2 ^ trace_domain.log_size) (length c)) (A.declaration air.now).periodic }
     ensures { let f : TwoAdic SC.Val = record { ring = SC.Val.ring; inv = SC.Val.inv; root = SC.Val.root; generator = SC.Val.GENERATOR } in
-        let e : Extension SC.Val SC.Challenge = record { ring = SC.Challenge.ring; embed = SC.Challenge.embed; dimension = SC.Challenge.DIMENSION; basis = SC.Challenge.basis; parts = SC.Challenge.parts; whole = SC.Challenge.whole } in
+        let e : Extension SC.Val SC.Challenge = record {
+          ring = SC.Challenge.ring;
+          embed = SC.Challenge.embed;
+          dimension = SC.Challenge.DIMENSION;
+          basis = SC.Challenge.basis;
+          coefficients = SC.Challenge.coefficients;
+          from_coefficients = SC.Challenge.from_coefficients;
+        } in
         let given : Evaluations SC.Val SC.Challenge = record {
           main = trace_on_quotient_domain.now;
           preprocessed = option_map (λ m. m.now) preprocessed_on_quotient_domain.entry;

@@ -17,7 +17,17 @@ use std::test::Fail;
 struct CellAir;
 
 impl BaseAir<BabyBear> for CellAir {
-    ghost declaration = { λ _. record { width = 1; preprocessed = None; main_next = []; preprocessed_next = []; public_values = 0; periodic = []; constraints = None; degree_hint = None; boolean_trace = false } };
+    ghost declaration = { λ _. record {
+      width = 1;
+      preprocessed = None;
+      main_next = [];
+      preprocessed_next = [];
+      public_values = 0;
+      periodic = [];
+      constraints = None;
+      degree_hint = None;
+      boolean_trace = false;
+    } };
 
     fn width(&self) -> usize {
         1

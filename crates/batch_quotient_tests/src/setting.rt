@@ -1,11 +1,11 @@
 //! The program's configuration, and the quotient's values over it of a table whose columns are made by a rule.
 ghost use Rattle.std.specs.Prelude.{◌≡◌, ◌*◌, ◌≤◌, IfOk, IfSome, IsTrue, All, length};
 ghost use Rattle.std.specs.Option.{option_map};
-ghost use Rattle.p3_field.specs.BabyBear.{bear_ring};
+ghost use Rattle.p3_field.specs.BabyBear.{baby_bear_ring};
 ghost use Rattle.p3_matrix.specs.Matrix.{height};
 ghost use Rattle.p3_air.specs.Shape.{width_of};
 ghost use Rattle.p3_commit.specs.Periodic.{IsPeriod};
-ghost use Rattle.batch_quotient.specs.QuotientRows.{permutation_columns};
+ghost use Rattle.batch_quotient.specs.QuotientRows.{permutation_column_count};
 
 use crate::traces::{BearCoset, on_domain, trace};
 use batch_quotient::quotient_values;
@@ -99,7 +99,7 @@ fn rows_of<F: TwoAdicField>(log_rows: usize) -> Result<TwoAdicMultiplicativeCose
 // How many flattened permutation columns a table with so many lookups has.
 fn flattened_width(lookups: usize) -> usize
     requires { lookups ≤ 2 }
-    ensures { result ≡ permutation_columns lookups * 4 }
+    ensures { result ≡ permutation_column_count lookups * 4 }
 {
     if lookups == 0 { 0 } else { (lookups + 1) * 4 }
 }
@@ -122,7 +122,7 @@ fn values_on<A: Air<BabyBear>>(
     public_values: &[BabyBear],
     alpha: QuarticExtension,
 ) -> Result<Vec<QuarticExtension>, Fail>
-    requires { rows.shift ≡ bear_ring.one }
+    requires { rows.shift ≡ baby_bear_ring.one }
 {
     let lookups = Lookups::from_air(alloc, air)?;
     let challenges = [

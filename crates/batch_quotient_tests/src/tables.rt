@@ -2,7 +2,7 @@
 //! selectors and constraints written out. Each row has the logarithms of a height and of a number of chunks, and the digest of the values.
 
 use crate::setting::{digest, quartic, values};
-use batch_constraints_tests::post::post;
+use batch_constraints_tests::sending::sending_air;
 use batch_tables::SwapAir;
 use p3_air::{Air, BaseAir};
 use p3_air_tests::support::bear;
@@ -143,7 +143,7 @@ fn tables_that_give(rt: HostRuntime) -> Result<(), Fail> {
 // A table with a preprocessed and a periodic column, a public value and two lookups, of which one has two tuples.
 #[test]
 fn two_lookups(rt: HostRuntime) -> Result<(), Fail> {
-    let air = post(rt.alloc())?;
+    let air = sending_air(rt.alloc())?;
     let public_values = [bear(4)];
     for wanted in POST {
         assert!(rt; is_wanted(rt.alloc(), &air, &public_values, [7, 8], wanted)?);

@@ -2,7 +2,7 @@
 -- Plonky3's p3-batch-stark (commitments_with_opening_points).
 use Rattle.std.specs.Prelude.{ℕ, ◌+◌, ◌-◌, ◌^◌, List}
 use Rattle.p3_field.specs.Ring.{Ring}
-use Rattle.p3_field.specs.Poly.{table}
+use Rattle.p3_field.specs.Poly.{tabulate}
 use Rattle.p3_field.specs.Domain.{CosetData, point}
 use Rattle.p3_field.specs.Laws.SubgroupSelectors.{subgroup}
 use Rattle.batch_setting.specs.Setting.{Setting, masks}
@@ -17,7 +17,7 @@ offered r generator d k = record { shift = r.mul d.shift generator; log_size = d
 
 -- the parts of a domain that is split in 2^k: part i begins at point i
 abbrev pub parts_of : {F : Type 0} → Ring F → (ℕ → F) → CosetData F → ℕ → List (CosetData F)
-parts_of r root d k = table (2 ^ k) (λ i. record { shift = point r root d i; log_size = d.log_size - k })
+parts_of r root d k = tabulate (2 ^ k) (λ i. record { shift = point r root d i; log_size = d.log_size - k })
 
 -- the domains of a quotient's 2^(chunks + masks) chunks: the parts of the domain that is 2^chunks times as large as the subgroup of size 2^bits
 abbrev pub chunks_over : {F : Type 0} → Ring F → (ℕ → F) → F → (masks bits chunks : ℕ) → List (CosetData F)

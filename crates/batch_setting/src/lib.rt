@@ -14,7 +14,7 @@ use p3_field::{
 };
 use p3_uni_stark::{Commitment, StarkGenericConfig};
 
-/// A configuration as plain data (own). Each configuration has it.
+/// A configuration as plain data (not in Plonky3). Each configuration has it.
 pub trait Settings: StarkGenericConfig {
     // the fields, the challenger, the backend's bounds, and the bits of grinding
     ghost setting: { Self → Setting Self.Challenger Self.Val Self.Challenge Self.Pcs.Commitment };
@@ -28,7 +28,14 @@ impl<SC: StarkGenericConfig> Settings for SC {
       field = record { ring = SC.Val.ring; inv = SC.Val.inv; root = SC.Val.root; generator = SC.Val.GENERATOR };
       two_adicity = SC.Val.TWO_ADICITY;
       order = SC.Val.ORDER_U64;
-      extension = record { ring = SC.Challenge.ring; embed = SC.Challenge.embed; dimension = SC.Challenge.DIMENSION; basis = SC.Challenge.basis; parts = SC.Challenge.parts; whole = SC.Challenge.whole };
+      extension = record {
+        ring = SC.Challenge.ring;
+        embed = SC.Challenge.embed;
+        dimension = SC.Challenge.DIMENSION;
+        basis = SC.Challenge.basis;
+        coefficients = SC.Challenge.coefficients;
+        from_coefficients = SC.Challenge.from_coefficients;
+      };
       challenger = ⟦<SC::Challenger as BatchChallenger<SC::Val, SC::Challenge, Commitment<SC>>>⟧.functions;
       initial = SC.initial_of config;
       zk = SC.Pcs.ZK;

@@ -3,7 +3,7 @@ use Rattle.std.proofs.Common.{◌≡◌, ℕ, zero, suc, ◌+◌, ◌<◌, List,
 use Rattle.p3_matrix.specs.Matrix.{Rows}
 use Rattle.batch_setup.specs.Setup.{instances_of}
 
--- the instances from place i on are that at i and those behind it
+-- the instances from place i on are that at i and those after it
 pub next : {A F X : Type 0} (f : X → List F) (bs : List A) (ts : List (Rows F)) (ps : List X) (i : ℕ) (a : A) (t : Rows F) (p : X)
     → i < length bs → i < length ts → i < length ps → a ≡ get_or bs i a → t ≡ get_or ts i t → p ≡ get_or ps i p
     → instances_of (drop i bs) (drop i ts) (drop i (map f ps)) ≡ record { air = a; trace = t; public_values = f p } ∷ instances_of (drop (i + 1) bs) (drop (i + 1) ts) (drop (i + 1) (map f ps))

@@ -2,7 +2,7 @@
 use Rattle.std.proofs.Common.{◌≡◌, ℕ, ◌^◌, sym, ◌∙◌}
 use Rattle.p3_field.specs.Ring.{Ring, RingLaws, pow}
 use Rattle.p3_field.specs.Domain.{CosetData, point}
-use Rattle.p3_field.specs.Laws.Tables.{first_coset_point}
+use Rattle.p3_field.specs.Laws.Tabulate.{first_coset_point}
 use Rattle.p3_matrix.specs.Laws.Powers.{power_cancel}
 use Rattle.batch_setup.specs.Preprocessed.{natural}
 

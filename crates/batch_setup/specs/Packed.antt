@@ -22,7 +22,7 @@ pub record Source (F : Type 0) : Type 0 where
 abbrev pub source_of : {A F : Type 0} → (A → Declaration F) → (A → List (Tree F)) → (A → List (Interaction F)) → A → Source F
 source_of declaration trees interactions a = record { declaration = declaration a; trees = trees a; interactions = interactions a }
 
--- a source behind the end of a list
+-- a source past the end of a list
 abbrev pub no_source : {F : Type 0} → Source F
 no_source = record {
   declaration = record { width = 0; preprocessed = None; main_next = []; preprocessed_next = []; public_values = 0; periodic = []; constraints = None; degree_hint = None; boolean_trace = false };
@@ -31,8 +31,8 @@ no_source = record {
 }
 
 -- the lookups before packing
-abbrev pub own_lookups : {F : Type 0} → Source F → List (LookupData F)
-own_lookups s = lookups_of s.interactions
+abbrev pub unpacked_lookups : {F : Type 0} → Source F → List (LookupData F)
+unpacked_lookups s = lookups_of s.interactions
 
 -- The logarithm of the number of chunks of a table with these lookups and degree bits, before masking. It has
 -- 2^(degree bits - masks) rows.
@@ -41,11 +41,11 @@ log_chunks_with f masks bits s lookups = table_log_chunks f s.declaration s.tree
 
 -- the budget that leaves the number of chunks as it is without packing
 abbrev pub own_budget : {F : Type 0} → Ring F → (masks bits : ℕ) → Source F → ℕ
-own_budget f masks bits s = free_budget masks (log_chunks_with f masks bits s (own_lookups s))
+own_budget f masks bits s = free_budget masks (log_chunks_with f masks bits s (unpacked_lookups s))
 
 -- the lookups packed within the larger of that budget and of the one that is asked for
 abbrev pub packed_lookups : {F : Type 0} → Ring F → (masks bits asked : ℕ) → Source F → List (LookupData F)
-packed_lookups f masks bits asked s = packed f 0 (max (own_budget f masks bits s) asked) (own_lookups s)
+packed_lookups f masks bits asked s = packed f 0 (max (own_budget f masks bits s) asked) (unpacked_lookups s)
 
 -- the logarithm of the number of chunks with these lookups, before masking
 abbrev pub packed_log_chunks : {F : Type 0} → Ring F → (masks bits asked : ℕ) → Source F → ℕ
@@ -53,8 +53,8 @@ packed_log_chunks f masks bits asked s = log_chunks_with f masks bits s (packed_
 
 -- The number of chunks, with masking, is at most that of the backend's blowup. The number in the refusal stops at the greatest
 -- usize.
-abbrev pub chunk_checks : {E : Type 0} → (masks log_blowup instance log_chunks : ℕ) → List (Check (SetupError E))
-chunk_checks masks log_blowup instance log_chunks =
+abbrev pub chunk_count_checks : {E : Type 0} → (masks log_blowup instance log_chunks : ℕ) → List (Check (SetupError E))
+chunk_count_checks masks log_blowup instance log_chunks =
     check (LookupBudget instance (capped_sum log_chunks masks) log_blowup) (log_chunks + masks ≤ log_blowup) ∷ []
 
 -- where the budget that is asked for is above the table's own

@@ -34,20 +34,20 @@ abbrev pub on_domain : {F : Type 0} → F → (bits : ℕ) → Option (Rows F) �
 on_domain one bits None = []
 on_domain one bits (Some m) = (natural one bits, m) ∷ []
 
-abbrev pub committed_at : {F : Type 0} → F → List (Source F) → (degree_bits : List ℕ) → ℕ → List (CosetData F × Rows F)
-committed_at one sources degree_bits i = on_domain one (get_or degree_bits i 0) (trace_at sources i)
+abbrev pub committed_trace_at : {F : Type 0} → F → List (Source F) → (degree_bits : List ℕ) → ℕ → List (CosetData F × Rows F)
+committed_trace_at one sources degree_bits i = on_domain one (get_or degree_bits i 0) (trace_at sources i)
 
 -- what is committed of the first n tables, in order
 abbrev pub committed_below : {F : Type 0} → F → List (Source F) → (degree_bits : List ℕ) → ℕ → List (CosetData F × Rows F)
 committed_below one sources degree_bits zero = []
-committed_below one sources degree_bits (suc n) = committed_below one sources degree_bits n ++ committed_at one sources degree_bits n
+committed_below one sources degree_bits (suc n) = committed_below one sources degree_bits n ++ committed_trace_at one sources degree_bits n
 
 -- the entry of a table with such a trace, which is the matrix at this place
 abbrev pub entry_with : {F : Type 0} → (matrix_index bits : ℕ) → Option (Rows F) → Option PreprocessedInstanceMeta
 entry_with matrix_index bits None = None
 entry_with matrix_index bits (Some m) = Some (record { matrix_index = matrix_index; width = m.width; degree_bits = bits })
 
--- the entry of table i of a batch: its matrix comes behind those of the tables before it
+-- the entry of table i of a batch: its matrix comes after those of the tables before it
 abbrev pub entry_at : {F : Type 0} → F → List (Source F) → (degree_bits : List ℕ) → ℕ → Option PreprocessedInstanceMeta
 entry_at one sources degree_bits i = entry_with (length (committed_below one sources degree_bits i)) (get_or degree_bits i 0) (trace_at sources i)
 
@@ -69,7 +69,7 @@ abbrev pub commit_checks : {T E : Type 0} → (List T → E → Type 0) → List
 commit_checks fault [] = []
 commit_checks fault (e ∷ es) = record { refusal = IsCommitRefusal (fault (e ∷ es)); holds = NoneOf (fault (e ∷ es)) } ∷ []
 
--- The commitment to what is given, with these entries, and what the backend keeps of it. Of nothing there is neither.
+-- The commitment to what is given, with these entries, and the prover data of it. Of nothing there is neither.
 abbrev pub IsPrepared : {T C P : Type 0} → (List T → C × P → Type 0) → List (Option PreprocessedInstanceMeta) → List T → Option (PreprocessedTracesData C) → Option P → Type 0
 IsPrepared commits entries [] traces kept = (traces ≡ None) × (kept ≡ None)
 IsPrepared commits entries (e ∷ es) None kept = ⊥

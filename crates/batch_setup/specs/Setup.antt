@@ -24,12 +24,12 @@ pub record HaveOneLength {A F : Type 0} (airs : List A) (traces : List (Rows F))
   pub publics_long : length publics ≡ length airs
 
 -- the refusal of lists that differ in their lengths; out of memory is free
-abbrev pub IsMismatch : {A F E : Type 0} → List A → List (Rows F) → List (List F) → SetupError E → Type 0
-IsMismatch airs traces publics LengthMismatch = HaveOneLength airs traces publics → ⊥
-IsMismatch airs traces publics (PreprocessedHeight instance) = ⊥
-IsMismatch airs traces publics (Pcs phase source) = ⊥
-IsMismatch airs traces publics (LookupBudget instance log_chunks log_blowup) = ⊥
-IsMismatch airs traces publics OutOfMemory = Unit {0}
+abbrev pub IsLengthMismatch : {A F E : Type 0} → List A → List (Rows F) → List (List F) → SetupError E → Type 0
+IsLengthMismatch airs traces publics LengthMismatch = HaveOneLength airs traces publics → ⊥
+IsLengthMismatch airs traces publics (PreprocessedHeight instance) = ⊥
+IsLengthMismatch airs traces publics (Pcs phase source) = ⊥
+IsLengthMismatch airs traces publics (LookupBudget instance log_chunks log_blowup) = ⊥
+IsLengthMismatch airs traces publics OutOfMemory = Unit {0}
 
 -- the AIRs of instances, in order
 abbrev pub airs_of : {A F : Type 0} → List (Instance A F) → List A
@@ -40,13 +40,13 @@ abbrev pub ArePowers : {A F : Type 0} → List (Instance A F) → Type 0
 ArePowers instances = All (λ i. IsPowerOfTwo (height i.trace)) instances
 
 -- how many of the first k powers of two are below n
-unfoldable pub powers_below : (k n : ℕ) → ℕ
-powers_below zero n = 0
-powers_below (suc k) n = powers_below k n + cond (nat_lt (2 ^ k) n) 1 0
+unfoldable pub powers_of_two_below : (k n : ℕ) → ℕ
+powers_of_two_below zero n = 0
+powers_of_two_below (suc k) n = powers_of_two_below k n + cond (nat_lt (2 ^ k) n) 1 0
 
 -- the logarithm of a power of two: how many powers of two are below it
 unfoldable pub log_of : ℕ → ℕ
-log_of n = powers_below n n
+log_of n = powers_of_two_below n n
 
 -- the degree bits of instances: the logarithm of each trace's height, and one more where the backend masks
 abbrev pub bits_of : {A F : Type 0} → (masks : ℕ) → List (Instance A F) → List ℕ

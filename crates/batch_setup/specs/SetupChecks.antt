@@ -23,10 +23,11 @@ abbrev pub trace_checks : {F E : Type 0} → F → (masks : ℕ) → (List (Cose
 trace_checks one masks fault sources degree_bits n = in_turn n (height_at masks sources degree_bits) ++ commit_checks fault (committed_below one sources degree_bits n)
 
 -- the same, and each budget that is asked for leaves the number of chunks within the blowup
-abbrev pub table_checks : {F E : Type 0} → Ring F → (masks log_blowup : ℕ) → (List (CosetData F × Rows F) → E → Type 0) → List (Source F) → (degree_bits budgets : List ℕ) → ℕ → List (Check (SetupError E))
-table_checks f masks log_blowup fault sources degree_bits budgets n =
+abbrev pub table_setup_checks : {F E : Type 0} → Ring F → (masks log_blowup : ℕ) → (List (CosetData F × Rows F) → E → Type 0) → List (Source F)
+    → (degree_bits budgets : List ℕ) → ℕ → List (Check (SetupError E))
+table_setup_checks f masks log_blowup fault sources degree_bits budgets n =
     trace_checks f.one masks fault sources degree_bits n ++ in_turn n (budget_at f masks log_blowup sources degree_bits budgets)
 
 -- the degree bits lie within the backend's bounds, of which the least is at least what masking adds
-abbrev pub AreBounded : (least most : ℕ) → (degree_bits : List ℕ) → Type 0
-AreBounded least most degree_bits = (i : ℕ) → i < length degree_bits → (least ≤ get_or degree_bits i 0) × (get_or degree_bits i 0 ≤ most)
+abbrev pub AreWithinBounds : (least most : ℕ) → (degree_bits : List ℕ) → Type 0
+AreWithinBounds least most degree_bits = (i : ℕ) → i < length degree_bits → (least ≤ get_or degree_bits i 0) × (get_or degree_bits i 0 ≤ most)

@@ -6,7 +6,7 @@ use std::alloc::{AllocError, AllocFailed};
 use std::fmt::Display;
 use thiserror::Error;
 
-/// What a prover asks of the backend, in the order of the work (own: the Rust has a text).
+/// What a prover asks of the backend, in the order of the work (not in Plonky3: the Rust has a text).
 #[derive(Clone, Copy, Debug)]
 pub enum ProverPhase {
     /// To commit to the preprocessed traces, before a proof.
@@ -23,7 +23,8 @@ pub enum ProverPhase {
     Opening,
 }
 
-/// Why prover data or instances can't be made (own: the Rust asserts); `E` is the backend's error.
+/// Why prover data or instances can't be made (not in Plonky3: the Rust asserts); `E` is the backend's
+/// error.
 #[derive(Debug, Drop, Error)]
 #[error_bound(E: Display)]
 pub enum SetupError<E> {

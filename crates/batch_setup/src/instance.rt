@@ -2,7 +2,7 @@
 ghost use Rattle.std.specs.Int.{IsPowerOfTwo};
 ghost use Rattle.std.specs.Prelude.{◌≡◌, ◌+◌, ◌≤◌, length, map, IfOk, MatchResult};
 ghost use Rattle.p3_matrix.specs.Matrix.{height};
-ghost use Rattle.batch_setup.specs.Setup.{instances_of, airs_of, bits_of, log_of, ArePowers, HaveOneLength, IsMismatch};
+ghost use Rattle.batch_setup.specs.Setup.{instances_of, airs_of, bits_of, log_of, ArePowers, HaveOneLength, IsLengthMismatch};
 
 use crate::error::SetupError;
 use crate::lent::LentAir;
@@ -79,7 +79,7 @@ impl<'a, F: Field, A> TableInstance<'a, F, A> {
         public_values: &[Vec<F>],
     ) -> Result<Vec<Self>, SetupError<E>>
         ensures { let publics = map (λ p. p.items) public_values.now in
-            MatchResult result (λ v. HaveOneLength airs.now traces.now publics × (v.items ≡ instances_of airs.now traces.now publics)) (λ e. IsMismatch airs.now traces.now publics e) }
+            MatchResult result (λ v. HaveOneLength airs.now traces.now publics × (v.items ≡ instances_of airs.now traces.now publics)) (λ e. IsLengthMismatch airs.now traces.now publics e) }
     {
         if traces.len() != airs.len() {
             return Err(SetupError::LengthMismatch);
@@ -92,7 +92,7 @@ impl<'a, F: Field, A> TableInstance<'a, F, A> {
     }
 }
 
-/// The AIRs of instances, lent, in order (own). The only error is running out of memory.
+/// The AIRs of instances, lent, in order (not in Plonky3). The only error is running out of memory.
 pub fn lent_airs<'a, F, A>(
     alloc: Global,
     instances: &[TableInstance<'a, F, A>],
@@ -115,8 +115,8 @@ fn bits_of_trace<F>(trace: &RowMajorMatrix<F>, masks: usize) -> usize
     log2_strict_usize(trace.height()) + masks
 }
 
-/// The degree bits of instances, in order (own): the logarithm of each trace's height, and one more where the backend masks. Each height is a
-/// power of two. The only error is running out of memory.
+/// The degree bits of instances, in order (not in Plonky3): the logarithm of each trace's height, and one more where the backend masks. Each
+/// height is a power of two. The only error is running out of memory.
 pub fn degree_bits<F, A>(
     alloc: Global,
     instances: &[TableInstance<F, A>],

@@ -7,7 +7,8 @@ use p3_matrix::RowMajorMatrix;
 use std::alloc::Global;
 use std::marker::Model;
 
-/// An AIR behind a reference (own). It answers as that AIR does, and a contract sees it as that AIR.
+/// An AIR behind a reference (not in Plonky3). It answers as that AIR does, and a contract sees it as
+/// that AIR.
 #[derive(Drop)]
 pub struct LentAir<'a, A> {
     air: &'a A,

@@ -19,4 +19,4 @@ pub use error::{ProverPhase, SetupError};
 pub use instance::{StarkInstance, TableInstance, degree_bits, lent_airs};
 pub use lent::LentAir;
 pub use preprocessed::natural_domain;
-pub use prover_data::{Committed, KeptData, ProverData, ProverOnlyData, SetupData};
+pub use prover_data::{Committed, PreprocessedProverData, ProverData, ProverOnlyData, SetupData};

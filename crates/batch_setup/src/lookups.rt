@@ -2,13 +2,13 @@
 ghost use Rattle.std.specs.Prelude.{◌≡◌, ℕ, ◌+◌, ◌-◌, ◌^◌, ◌<◌, ◌≤◌, max, min, length, map, IfOk};
 ghost use Rattle.std.specs.Prelude.{slice_index_or as get_or};
 ghost use Rattle.p3_field.specs.Checks.{in_turn};
-ghost use Rattle.p3_field.specs.Poly.{table};
+ghost use Rattle.p3_field.specs.Poly.{tabulate};
 ghost use Rattle.p3_lookup.specs.Lookup.{lookups_of};
 ghost use Rattle.p3_lookup.specs.Packing.{packed};
 ghost use Rattle.p3_lookup.specs.Written.{read_all};
 ghost use Rattle.batch_constraints.specs.BatchTrees.{AreLookupsOf};
 ghost use Rattle.batch_constraints.specs.Sizing.{table_log_chunks, free_budget as free_budget_of};
-ghost use Rattle.batch_setup.specs.Packed.{source_of, log_chunks_with, own_budget, packed_lookups as packed_lookups_of, chunk_checks, limit_checks, budget_checks, packed_at, budget_at};
+ghost use Rattle.batch_setup.specs.Packed.{source_of, log_chunks_with, own_budget, packed_lookups as packed_lookups_of, chunk_count_checks, limit_checks, budget_checks, packed_at, budget_at};
 ghost use Rattle.batch_setup.specs.Verdict.{IsSetUp};
 
 use crate::error::SetupError;
@@ -99,7 +99,7 @@ fn check_chunks<E>(
     masks: usize,
     log_blowup: usize,
 ) -> Result<(), SetupError<E>>
-    ensures { IsSetUp (chunk_checks masks log_blowup instance log_chunks) result }
+    ensures { IsSetUp (chunk_count_checks masks log_blowup instance log_chunks) result }
 {
     if log_blowup < masks || log_chunks > log_blowup - masks {
         return Err(SetupError::LookupBudget {
@@ -206,7 +206,8 @@ pub(crate) fn batch_lookups<F: Field, A: Air<F>, E>(
     requires fits { (i : ℕ) → i < length airs.now → get_or degree_bits.now i 0 < 64 }
     requires masks { masks ≤ 1 }
     ensures verdict { IsSetUp (in_turn (length airs.now) (budget_at F.ring masks log_blowup (map (source_of A.declaration A.trees A.interactions) airs.now) degree_bits.now budgets.now)) result }
-    ensures lookups { IfOk result (λ v. map read_all v.items ≡ table (length airs.now) (packed_at F.ring masks (map (source_of A.declaration A.trees A.interactions) airs.now) degree_bits.now budgets.now)) }
+    ensures lookups { IfOk result (λ v. map read_all v.items
+        ≡ tabulate (length airs.now) (packed_at F.ring masks (map (source_of A.declaration A.trees A.interactions) airs.now) degree_bits.now budgets.now)) }
 {
     let mut lookups = Vec::new(alloc);
     for instance in 0..airs.len() {

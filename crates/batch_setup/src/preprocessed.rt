@@ -2,7 +2,7 @@
 ghost use Rattle.std.specs.Prelude.{◌≡◌, ℕ, ◌-◌, ◌^◌, ◌<◌, ◌≤◌, ◌++◌, length, map, IfOk};
 ghost use Rattle.std.specs.Prelude.{slice_index_or as get_or};
 ghost use Rattle.p3_field.specs.Checks.{in_turn};
-ghost use Rattle.p3_field.specs.Poly.{table};
+ghost use Rattle.p3_field.specs.Poly.{tabulate};
 ghost use Rattle.p3_commit.specs.Commitments.{IsCommitment};
 ghost use Rattle.batch_statement.specs.Statement.{with_entry};
 ghost use Rattle.batch_setup.specs.Packed.{source_of};
@@ -93,7 +93,8 @@ fn tables_with_entry(alloc: Global, entries: &[Option<PreprocessedInstanceMeta>]
     Ok(tables)
 }
 
-/// The subgroup of size 2^`log`, as a domain of the backend (own). There is one: `log` is at most the field's two-adicity, and below 64.
+/// The subgroup of size 2^`log`, as a domain of the backend (not in Plonky3). There is one: `log` is at most the field's two-adicity,
+/// and below 64.
 pub fn natural_domain<SC: StarkGenericConfig>(config: &SC, log: usize) -> Domain<SC>
     requires fits { log < 64 }
     requires two_adic { log ≤ SC.Val.TWO_ADICITY }
@@ -102,7 +103,7 @@ pub fn natural_domain<SC: StarkGenericConfig>(config: &SC, log: usize) -> Domain
     config.pcs().natural_domain_for_degree(power_of_two(log))
 }
 
-// What is committed, and behind it the trace, where there is one, on the natural domain of its extended degree.
+// What is committed, and after it the trace, where there is one, on the natural domain of its extended degree.
 fn with_trace<SC: StarkGenericConfig>(
     config: &SC,
     evaluations: Vec<(Domain<SC>, RowMajorMatrix<Val<SC>>)>,
@@ -166,7 +167,7 @@ fn batch_traces<SC: StarkGenericConfig, A: Air<Val<SC>>, R>(
     requires fits { (i : ℕ) → i < length airs.now → get_or degree_bits.now i 0 < 64 }
     requires two_adic { (i : ℕ) → i < length airs.now → get_or degree_bits.now i 0 ≤ SC.Val.TWO_ADICITY }
     ensures verdict { IsSetUp (in_turn (length airs.now) (height_at masks (map (source_of A.declaration A.trees A.interactions) airs.now) degree_bits.now)) result }
-    ensures entries { IfOk result (λ p. p.0.items ≡ table (length airs.now) (entry_at SC.Val.ring.one (map (source_of A.declaration A.trees A.interactions) airs.now) degree_bits.now)) }
+    ensures entries { IfOk result (λ p. p.0.items ≡ tabulate (length airs.now) (entry_at SC.Val.ring.one (map (source_of A.declaration A.trees A.interactions) airs.now) degree_bits.now)) }
     ensures committed { IfOk result (λ p. p.1.items ≡ committed_below SC.Val.ring.one (map (source_of A.declaration A.trees A.interactions) airs.now) degree_bits.now (length airs.now)) }
 {
     let mut entries = Vec::new(alloc);
@@ -180,7 +181,7 @@ fn batch_traces<SC: StarkGenericConfig, A: Air<Val<SC>>, R>(
     Ok((entries, evaluations))
 }
 
-// The commitment to what is given, with these entries, and what the backend keeps. Of nothing there is neither. The answer is
+// The commitment to what is given, with these entries, and its prover data. Of nothing there is neither. The answer is
 // `Pcs` exactly where the backend refuses.
 fn committed<SC: StarkGenericConfig>(
     alloc: Global,
@@ -195,7 +196,10 @@ fn committed<SC: StarkGenericConfig>(
     SetupError<PcsProverError<SC>>,
 >
     ensures verdict { IsSetUp (commit_checks (SC.Pcs.commit_fault (SC.pcs_of config.now)) evaluations.items) result }
-    ensures data { IfOk result (λ w. IsPrepared (λ es p. IsCommitment SC.Val.ring ⟦<<SC::Pcs as Pcs<SC::Challenge, SC::Challenger>>::Domain as PolynomialSpace>⟧.points ⟦<<SC::Pcs as Pcs<SC::Challenge, SC::Challenger>>::Domain as PolynomialSpace>⟧.point_at (SC.Pcs.commits (SC.pcs_of config.now)) (SC.Pcs.made (SC.pcs_of config.now)) (SC.Pcs.holds (SC.pcs_of config.now)) es p) entries.items evaluations.items w.0 w.1) }
+    ensures data { IfOk result (λ w. IsPrepared
+        (λ es p. IsCommitment SC.Val.ring ⟦<<SC::Pcs as Pcs<SC::Challenge, SC::Challenger>>::Domain as PolynomialSpace>⟧.points
+        ⟦<<SC::Pcs as Pcs<SC::Challenge, SC::Challenger>>::Domain as PolynomialSpace>⟧.point_at (SC.Pcs.commits (SC.pcs_of config.now))
+        (SC.Pcs.made (SC.pcs_of config.now)) (SC.Pcs.holds (SC.pcs_of config.now)) es p) entries.items evaluations.items w.0 w.1) }
 {
     if evaluations.is_empty() {
         return Ok((None, None));
@@ -218,7 +222,7 @@ fn committed<SC: StarkGenericConfig>(
     }
 }
 
-// The commitment to the preprocessed traces of a batch's tables, and what the backend keeps.
+// The commitment to the preprocessed traces of a batch's tables, and its prover data.
 pub(crate) fn prepared<SC: StarkGenericConfig, A: Air<Val<SC>>>(
     alloc: Global,
     config: &SC,
@@ -236,10 +240,13 @@ pub(crate) fn prepared<SC: StarkGenericConfig, A: Air<Val<SC>>>(
     requires fits { (i : ℕ) → i < length airs.now → get_or degree_bits.now i 0 < 64 }
     requires two_adic { (i : ℕ) → i < length airs.now → get_or degree_bits.now i 0 ≤ SC.Val.TWO_ADICITY }
     ensures verdict { let sources = map (source_of A.declaration A.trees A.interactions) airs.now in
-        IsSetUp (in_turn (length airs.now) (height_at masks sources degree_bits.now) ++ commit_checks (SC.Pcs.commit_fault (SC.pcs_of config.now)) (committed_below SC.Val.ring.one sources degree_bits.now (length airs.now))) result }
+        IsSetUp (in_turn (length airs.now) (height_at masks sources degree_bits.now) ++ commit_checks (SC.Pcs.commit_fault (SC.pcs_of config.now))
+        (committed_below SC.Val.ring.one sources degree_bits.now (length airs.now))) result }
     ensures data { let sources = map (source_of A.declaration A.trees A.interactions) airs.now in
-        IfOk result (λ w. IsPrepared (λ es p. IsCommitment SC.Val.ring ⟦<<SC::Pcs as Pcs<SC::Challenge, SC::Challenger>>::Domain as PolynomialSpace>⟧.points ⟦<<SC::Pcs as Pcs<SC::Challenge, SC::Challenger>>::Domain as PolynomialSpace>⟧.point_at (SC.Pcs.commits (SC.pcs_of config.now)) (SC.Pcs.made (SC.pcs_of config.now)) (SC.Pcs.holds (SC.pcs_of config.now)) es p)
-        (table (length airs.now) (entry_at SC.Val.ring.one sources degree_bits.now)) (committed_below SC.Val.ring.one sources degree_bits.now (length airs.now)) w.0 w.1) }
+        IfOk result (λ w. IsPrepared (λ es p. IsCommitment SC.Val.ring ⟦<<SC::Pcs as Pcs<SC::Challenge, SC::Challenger>>::Domain as PolynomialSpace>⟧.points
+        ⟦<<SC::Pcs as Pcs<SC::Challenge, SC::Challenger>>::Domain as PolynomialSpace>⟧.point_at (SC.Pcs.commits (SC.pcs_of config.now))
+        (SC.Pcs.made (SC.pcs_of config.now)) (SC.Pcs.holds (SC.pcs_of config.now)) es p)
+        (tabulate (length airs.now) (entry_at SC.Val.ring.one sources degree_bits.now)) (committed_below SC.Val.ring.one sources degree_bits.now (length airs.now)) w.0 w.1) }
 {
     let (entries, evaluations) = batch_traces(alloc, config, airs, degree_bits, masks)?;
     committed(alloc, config, entries, evaluations)

@@ -9,7 +9,7 @@ use std::alloc::Global;
 
 /// What a prover keeps for itself.
 #[derive(Drop)]
-pub struct KeptData<PD> {
+pub struct PreprocessedProverData<PD> {
     /// The backend's prover data of the preprocessed traces: None where no table has any.
     pub preprocessed_prover_data: Option<PD>,
 }
@@ -21,7 +21,7 @@ pub type Committed<SC> = <<SC as StarkGenericConfig>::Pcs as Pcs<
 >>::ProverData;
 
 /// What a prover keeps for itself, over a configuration (`ProverOnlyData` of `p3-batch-stark`).
-pub type ProverOnlyData<SC> = KeptData<Committed<SC>>;
+pub type ProverOnlyData<SC> = PreprocessedProverData<Committed<SC>>;
 
 /// What a prover shares with the verifier, and what it keeps.
 #[derive(Drop)]
@@ -29,18 +29,18 @@ pub struct SetupData<F, Com, PD> {
     /// What it shares.
     pub common: SharedData<F, Com>,
     /// What it keeps.
-    pub prover_only: KeptData<PD>,
+    pub prover_only: PreprocessedProverData<PD>,
 }
 
 /// A prover's data over a configuration (`ProverData` of `p3-batch-stark`).
 pub type ProverData<SC> = SetupData<Val<SC>, Commitment<SC>, Committed<SC>>;
 
-impl<PD> KeptData<PD> {
+impl<PD> PreprocessedProverData<PD> {
     /// The data where no table has a preprocessed trace (`ProverOnlyData::empty`).
     pub fn empty() -> Self
         ensures { result.preprocessed_prover_data ≡ None }
     {
-        KeptData {
+        PreprocessedProverData {
             preprocessed_prover_data: None,
         }
     }
@@ -50,10 +50,10 @@ impl<F: Field, Com, PD> SetupData<F, Com, PD> {
     /// The data of so many tables without preprocessed columns and without lookups (`ProverData::empty`).
     pub fn empty(alloc: Global, n: usize) -> Mem<Self>
         ensures common { IfOk result (λ d. d.common ≡ record { preprocessed = None; lookups = replicate n [] }) }
-        ensures kept { IfOk result (λ d. d.prover_only.preprocessed_prover_data ≡ None) }
+        ensures prover_data { IfOk result (λ d. d.prover_only.preprocessed_prover_data ≡ None) }
     {
         let common = SharedData::empty(alloc, n)?;
-        let prover_only = KeptData::empty();
+        let prover_only = PreprocessedProverData::empty();
         Ok(SetupData {
             common,
             prover_only,

@@ -1,7 +1,7 @@
 //! The constructors of prover data.
 ghost use Rattle.std.specs.Prelude.{◌≡◌, ℕ, ◌+◌, ◌<◌, ◌≤◌, ◌++◌, cond, flat_map, length, map, replicate, IfOk};
 ghost use Rattle.std.specs.Prelude.{slice_index_or as get_or};
-ghost use Rattle.p3_field.specs.Poly.{table};
+ghost use Rattle.p3_field.specs.Poly.{tabulate};
 ghost use Rattle.p3_commit.specs.Commitments.{IsCommitment};
 ghost use Rattle.p3_lookup.specs.Bus.{HaveOneWidth};
 ghost use Rattle.p3_lookup.specs.Lookup.{lookups_of};
@@ -10,14 +10,14 @@ ghost use Rattle.batch_statement.specs.Statement.{WellFormed, read_common};
 ghost use Rattle.batch_setup.specs.Packed.{source_of, packed_at};
 ghost use Rattle.batch_setup.specs.Preprocessed.{committed_below, entry_at, IsPrepared};
 ghost use Rattle.batch_setup.specs.Setup.{airs_of, bits_of, ArePowers};
-ghost use Rattle.batch_setup.specs.SetupChecks.{degree_checks, length_checks, trace_checks, table_checks, AreBounded};
+ghost use Rattle.batch_setup.specs.SetupChecks.{degree_checks, length_checks, trace_checks, table_setup_checks, AreWithinBounds};
 ghost use Rattle.batch_setup.specs.Verdict.{IsSetUp};
 
 use crate::error::SetupError;
 use crate::instance::{StarkInstance, degree_bits, lent_airs};
 use crate::lookups::batch_lookups;
 use crate::preprocessed::prepared;
-use crate::prover_data::{KeptData, ProverData, SetupData};
+use crate::prover_data::{PreprocessedProverData, ProverData, SetupData};
 use batch_statement::SharedData;
 use p3_air::{Air, BaseAir};
 use p3_commit::{CosetPcs, Pcs, PolynomialSpace, UnivariateStarkPcs};
@@ -68,19 +68,22 @@ fn tables_data<SC: StarkGenericConfig, A: Air<Val<SC>>>(
     requires two_adic { (i : ℕ) → i < length airs.now → get_or degree_bits.now i 0 ≤ SC.Val.TWO_ADICITY }
     requires widths { HaveOneWidth (flat_map (λ a. lookups_of (A.interactions a)) airs.now) }
     ensures verdict { let sources = map (source_of A.declaration A.trees A.interactions) airs.now in
-        IsSetUp (table_checks SC.Val.ring masks log_blowup (SC.Pcs.commit_fault (SC.pcs_of config.now)) sources degree_bits.now budgets.now (length airs.now)) result }
+        IsSetUp (table_setup_checks SC.Val.ring masks log_blowup (SC.Pcs.commit_fault (SC.pcs_of config.now)) sources degree_bits.now budgets.now (length airs.now)) result }
     ensures lookups { let sources = map (source_of A.declaration A.trees A.interactions) airs.now in
-        IfOk result (λ d. map read_all d.common.lookups ≡ table (length airs.now) (packed_at SC.Val.ring masks sources degree_bits.now budgets.now)) }
+        IfOk result (λ d. map read_all d.common.lookups ≡ tabulate (length airs.now) (packed_at SC.Val.ring masks sources degree_bits.now budgets.now)) }
     ensures preprocessed { let sources = map (source_of A.declaration A.trees A.interactions) airs.now in
-        IfOk result (λ d. IsPrepared (λ es p. IsCommitment SC.Val.ring ⟦<<SC::Pcs as Pcs<SC::Challenge, SC::Challenger>>::Domain as PolynomialSpace>⟧.points ⟦<<SC::Pcs as Pcs<SC::Challenge, SC::Challenger>>::Domain as PolynomialSpace>⟧.point_at (SC.Pcs.commits (SC.pcs_of config.now)) (SC.Pcs.made (SC.pcs_of config.now)) (SC.Pcs.holds (SC.pcs_of config.now)) es p)
-        (table (length airs.now) (entry_at SC.Val.ring.one sources degree_bits.now)) (committed_below SC.Val.ring.one sources degree_bits.now (length airs.now)) d.common.preprocessed d.prover_only.preprocessed_prover_data) }
+        IfOk result (λ d. IsPrepared (λ es p. IsCommitment SC.Val.ring ⟦<<SC::Pcs as Pcs<SC::Challenge, SC::Challenger>>::Domain as PolynomialSpace>⟧.points
+        ⟦<<SC::Pcs as Pcs<SC::Challenge, SC::Challenger>>::Domain as PolynomialSpace>⟧.point_at (SC.Pcs.commits (SC.pcs_of config.now))
+        (SC.Pcs.made (SC.pcs_of config.now)) (SC.Pcs.holds (SC.pcs_of config.now)) es p)
+        (tabulate (length airs.now) (entry_at SC.Val.ring.one sources degree_bits.now))
+        (committed_below SC.Val.ring.one sources degree_bits.now (length airs.now)) d.common.preprocessed d.prover_only.preprocessed_prover_data) }
     ensures formed { IfOk result (λ d. WellFormed (map A.declaration airs.now) (read_common d.common)) }
 {
-    let (preprocessed, kept) = prepared(alloc, config, airs, degree_bits, masks)?;
+    let (preprocessed, made_prover_data) = prepared(alloc, config, airs, degree_bits, masks)?;
     let lookups = batch_lookups(alloc, airs, degree_bits, budgets, masks, log_blowup)?;
     let common = SharedData::new(preprocessed, lookups);
-    let prover_only = KeptData {
-        preprocessed_prover_data: kept,
+    let prover_only = PreprocessedProverData {
+        preprocessed_prover_data: made_prover_data,
     };
     Ok(SetupData {
         common,
@@ -114,16 +117,20 @@ impl<F, Com, PD> SetupData<F, Com, PD> {
         lookup_budget_overrides: &[usize],
         log_blowup: usize,
     ) -> Result<ProverData<SC>, SetupError<PcsProverError<SC>>>
-        requires bits { AreBounded (SC.Pcs.log_min (SC.pcs_of config.now) + cond SC.Pcs.ZK 1 0) (SC.Pcs.log_max (SC.pcs_of config.now)) trace_ext_degree_bits.now }
+        requires bits { AreWithinBounds (SC.Pcs.log_min (SC.pcs_of config.now) + cond SC.Pcs.ZK 1 0) (SC.Pcs.log_max (SC.pcs_of config.now)) trace_ext_degree_bits.now }
         requires widths { HaveOneWidth (flat_map (λ a. lookups_of (A.interactions a)) airs.now) }
         ensures verdict { let sources = map (source_of A.declaration A.trees A.interactions) airs.now in
             IsSetUp (length_checks (length airs.now) (length trace_ext_degree_bits.now) (length lookup_budget_overrides.now)
-            ++ table_checks SC.Val.ring (cond SC.Pcs.ZK 1 0) log_blowup (SC.Pcs.commit_fault (SC.pcs_of config.now)) sources trace_ext_degree_bits.now lookup_budget_overrides.now (length airs.now)) result }
+            ++ table_setup_checks SC.Val.ring (cond SC.Pcs.ZK 1 0) log_blowup
+            (SC.Pcs.commit_fault (SC.pcs_of config.now)) sources trace_ext_degree_bits.now lookup_budget_overrides.now (length airs.now)) result }
         ensures lookups { let sources = map (source_of A.declaration A.trees A.interactions) airs.now in
-            IfOk result (λ d. map read_all d.common.lookups ≡ table (length airs.now) (packed_at SC.Val.ring (cond SC.Pcs.ZK 1 0) sources trace_ext_degree_bits.now lookup_budget_overrides.now)) }
+            IfOk result (λ d. map read_all d.common.lookups ≡ tabulate (length airs.now) (packed_at SC.Val.ring (cond SC.Pcs.ZK 1 0) sources trace_ext_degree_bits.now lookup_budget_overrides.now)) }
         ensures preprocessed { let sources = map (source_of A.declaration A.trees A.interactions) airs.now in
-            IfOk result (λ d. IsPrepared (λ es p. IsCommitment SC.Val.ring ⟦<<SC::Pcs as Pcs<SC::Challenge, SC::Challenger>>::Domain as PolynomialSpace>⟧.points ⟦<<SC::Pcs as Pcs<SC::Challenge, SC::Challenger>>::Domain as PolynomialSpace>⟧.point_at (SC.Pcs.commits (SC.pcs_of config.now)) (SC.Pcs.made (SC.pcs_of config.now)) (SC.Pcs.holds (SC.pcs_of config.now)) es p)
-            (table (length airs.now) (entry_at SC.Val.ring.one sources trace_ext_degree_bits.now)) (committed_below SC.Val.ring.one sources trace_ext_degree_bits.now (length airs.now)) d.common.preprocessed d.prover_only.preprocessed_prover_data) }
+            IfOk result (λ d. IsPrepared (λ es p. IsCommitment SC.Val.ring ⟦<<SC::Pcs as Pcs<SC::Challenge, SC::Challenger>>::Domain as PolynomialSpace>⟧.points
+            ⟦<<SC::Pcs as Pcs<SC::Challenge, SC::Challenger>>::Domain as PolynomialSpace>⟧.point_at (SC.Pcs.commits (SC.pcs_of config.now))
+            (SC.Pcs.made (SC.pcs_of config.now)) (SC.Pcs.holds (SC.pcs_of config.now)) es p)
+            (tabulate (length airs.now) (entry_at SC.Val.ring.one sources trace_ext_degree_bits.now))
+            (committed_below SC.Val.ring.one sources trace_ext_degree_bits.now (length airs.now)) d.common.preprocessed d.prover_only.preprocessed_prover_data) }
         ensures formed { IfOk result (λ d. WellFormed (map A.declaration airs.now) (read_common d.common)) }
     {
         check_lengths(airs, trace_ext_degree_bits, lookup_budget_overrides)?;
@@ -148,16 +155,20 @@ impl<F, Com, PD> SetupData<F, Com, PD> {
         airs: &[A],
         trace_ext_degree_bits: &[usize],
     ) -> Result<ProverData<SC>, SetupError<PcsProverError<SC>>>
-        requires bits { AreBounded (SC.Pcs.log_min (SC.pcs_of config.now) + cond SC.Pcs.ZK 1 0) (SC.Pcs.log_max (SC.pcs_of config.now)) trace_ext_degree_bits.now }
+        requires bits { AreWithinBounds (SC.Pcs.log_min (SC.pcs_of config.now) + cond SC.Pcs.ZK 1 0) (SC.Pcs.log_max (SC.pcs_of config.now)) trace_ext_degree_bits.now }
         requires widths { HaveOneWidth (flat_map (λ a. lookups_of (A.interactions a)) airs.now) }
         ensures verdict { let sources = map (source_of A.declaration A.trees A.interactions) airs.now in
             IsSetUp (degree_checks (length airs.now) (length trace_ext_degree_bits.now)
             ++ trace_checks SC.Val.ring.one (cond SC.Pcs.ZK 1 0) (SC.Pcs.commit_fault (SC.pcs_of config.now)) sources trace_ext_degree_bits.now (length airs.now)) result }
         ensures lookups { let sources = map (source_of A.declaration A.trees A.interactions) airs.now in
-            IfOk result (λ d. map read_all d.common.lookups ≡ table (length airs.now) (packed_at SC.Val.ring (cond SC.Pcs.ZK 1 0) sources trace_ext_degree_bits.now (replicate (length airs.now) 0))) }
+            IfOk result (λ d. map read_all d.common.lookups
+            ≡ tabulate (length airs.now) (packed_at SC.Val.ring (cond SC.Pcs.ZK 1 0) sources trace_ext_degree_bits.now (replicate (length airs.now) 0))) }
         ensures preprocessed { let sources = map (source_of A.declaration A.trees A.interactions) airs.now in
-            IfOk result (λ d. IsPrepared (λ es p. IsCommitment SC.Val.ring ⟦<<SC::Pcs as Pcs<SC::Challenge, SC::Challenger>>::Domain as PolynomialSpace>⟧.points ⟦<<SC::Pcs as Pcs<SC::Challenge, SC::Challenger>>::Domain as PolynomialSpace>⟧.point_at (SC.Pcs.commits (SC.pcs_of config.now)) (SC.Pcs.made (SC.pcs_of config.now)) (SC.Pcs.holds (SC.pcs_of config.now)) es p)
-            (table (length airs.now) (entry_at SC.Val.ring.one sources trace_ext_degree_bits.now)) (committed_below SC.Val.ring.one sources trace_ext_degree_bits.now (length airs.now)) d.common.preprocessed d.prover_only.preprocessed_prover_data) }
+            IfOk result (λ d. IsPrepared (λ es p. IsCommitment SC.Val.ring ⟦<<SC::Pcs as Pcs<SC::Challenge, SC::Challenger>>::Domain as PolynomialSpace>⟧.points
+            ⟦<<SC::Pcs as Pcs<SC::Challenge, SC::Challenger>>::Domain as PolynomialSpace>⟧.point_at (SC.Pcs.commits (SC.pcs_of config.now))
+            (SC.Pcs.made (SC.pcs_of config.now)) (SC.Pcs.holds (SC.pcs_of config.now)) es p)
+            (tabulate (length airs.now) (entry_at SC.Val.ring.one sources trace_ext_degree_bits.now))
+            (committed_below SC.Val.ring.one sources trace_ext_degree_bits.now (length airs.now)) d.common.preprocessed d.prover_only.preprocessed_prover_data) }
         ensures formed { IfOk result (λ d. WellFormed (map A.declaration airs.now) (read_common d.common)) }
     {
         let budgets = zeros(alloc, airs.len())?;
@@ -182,19 +193,23 @@ impl<F, Com, PD> SetupData<F, Com, PD> {
         instances: &[StarkInstance<'_, SC, A>],
     ) -> Result<ProverData<SC>, SetupError<PcsProverError<SC>>>
         requires powers { ArePowers instances.now }
-        requires bits { AreBounded (SC.Pcs.log_min (SC.pcs_of config.now) + cond SC.Pcs.ZK 1 0) (SC.Pcs.log_max (SC.pcs_of config.now)) (bits_of (cond SC.Pcs.ZK 1 0) instances.now) }
+        requires bits { AreWithinBounds (SC.Pcs.log_min (SC.pcs_of config.now) + cond SC.Pcs.ZK 1 0) (SC.Pcs.log_max (SC.pcs_of config.now)) (bits_of (cond SC.Pcs.ZK 1 0) instances.now) }
         requires widths { HaveOneWidth (flat_map (λ a. lookups_of (A.interactions a)) (airs_of instances.now)) }
         ensures verdict { let airs = airs_of instances.now in
             let sources = map (source_of A.declaration A.trees A.interactions) airs in
             IsSetUp (trace_checks SC.Val.ring.one (cond SC.Pcs.ZK 1 0) (SC.Pcs.commit_fault (SC.pcs_of config.now)) sources (bits_of (cond SC.Pcs.ZK 1 0) instances.now) (length airs)) result }
         ensures lookups { let airs = airs_of instances.now in
             let sources = map (source_of A.declaration A.trees A.interactions) airs in
-            IfOk result (λ d. map read_all d.common.lookups ≡ table (length airs) (packed_at SC.Val.ring (cond SC.Pcs.ZK 1 0) sources (bits_of (cond SC.Pcs.ZK 1 0) instances.now) (replicate (length airs) 0))) }
+            IfOk result (λ d. map read_all d.common.lookups
+            ≡ tabulate (length airs) (packed_at SC.Val.ring (cond SC.Pcs.ZK 1 0) sources (bits_of (cond SC.Pcs.ZK 1 0) instances.now) (replicate (length airs) 0))) }
         ensures preprocessed { let airs = airs_of instances.now in
             let sources = map (source_of A.declaration A.trees A.interactions) airs in
             let bits = bits_of (cond SC.Pcs.ZK 1 0) instances.now in
-            IfOk result (λ d. IsPrepared (λ es p. IsCommitment SC.Val.ring ⟦<<SC::Pcs as Pcs<SC::Challenge, SC::Challenger>>::Domain as PolynomialSpace>⟧.points ⟦<<SC::Pcs as Pcs<SC::Challenge, SC::Challenger>>::Domain as PolynomialSpace>⟧.point_at (SC.Pcs.commits (SC.pcs_of config.now)) (SC.Pcs.made (SC.pcs_of config.now)) (SC.Pcs.holds (SC.pcs_of config.now)) es p)
-            (table (length airs) (entry_at SC.Val.ring.one sources bits)) (committed_below SC.Val.ring.one sources bits (length airs)) d.common.preprocessed d.prover_only.preprocessed_prover_data) }
+            IfOk result (λ d. IsPrepared (λ es p. IsCommitment SC.Val.ring ⟦<<SC::Pcs as Pcs<SC::Challenge, SC::Challenger>>::Domain as PolynomialSpace>⟧.points
+            ⟦<<SC::Pcs as Pcs<SC::Challenge, SC::Challenger>>::Domain as PolynomialSpace>⟧.point_at (SC.Pcs.commits (SC.pcs_of config.now))
+            (SC.Pcs.made (SC.pcs_of config.now)) (SC.Pcs.holds (SC.pcs_of config.now)) es p)
+            (tabulate (length airs) (entry_at SC.Val.ring.one sources bits))
+            (committed_below SC.Val.ring.one sources bits (length airs)) d.common.preprocessed d.prover_only.preprocessed_prover_data) }
         ensures formed { IfOk result (λ d. WellFormed (map A.declaration (airs_of instances.now)) (read_common d.common)) }
     {
         let airs = lent_airs(alloc, instances)?;

@@ -1,6 +1,6 @@
 //! Instances of two swap tables, and data of two tables without preprocessed columns and lookups.
 
-use batch_setup::{KeptData, SetupData, SetupError, TableInstance};
+use batch_setup::{PreprocessedProverData, SetupData, SetupError, TableInstance};
 use batch_tables::SwapAir;
 use p3_air_tests::support::bear;
 use p3_field::{BabyBear, FieldCore, Mem, RingCore};
@@ -59,7 +59,7 @@ fn empty_data(rt: HostRuntime) -> Result<(), Fail> {
     }
     assert!(rt; data.common.preprocessed.is_none());
     assert!(rt; data.prover_only.preprocessed_prover_data.is_none());
-    let kept: KeptData<u8> = KeptData::empty();
+    let kept: PreprocessedProverData<u8> = PreprocessedProverData::empty();
     assert!(rt; kept.preprocessed_prover_data.is_none());
     Ok(())
 }

@@ -5,8 +5,8 @@ use Rattle.p3_air.specs.Shape.{Declaration}
 use Rattle.p3_air.specs.Tree.{Tree}
 use Rattle.p3_lookup.specs.Written.{Written, read_all}
 use Rattle.batch_constraints.specs.BatchTrees.{AreLookupsOf}
-use Rattle.batch_statement.specs.Statement.{Table, tables_of}
-use Rattle.batch_shape_checks.specs.ShapeChecks.{chunks_at, chunks_of_table, no_table}
+use Rattle.batch_statement.specs.Statement.{AirTable, tables_of}
+use Rattle.batch_shape_checks.specs.ShapeChecks.{log_chunks_at, chunks_of_table, no_table}
 use Rattle.batch_shape_checks.specs.Laws.Items.{item_at, item_of_map}
 
 module _ {A F : Type 0} (declaration : A → Declaration F) (trees : A → List (Tree F)) (airs : List A) (lookups : List (List (Written F))) (i : ℕ) (a : A) (ls : List (Written F))
@@ -14,9 +14,9 @@ module _ {A F : Type 0} (declaration : A → Declaration F) (trees : A → List 
   -- the number of its chunks, by the batch's lists
   pub chunks_here : (f : Ring F) (masks : ℕ) (bits : List ℕ)
       → chunks_of_table f masks (2 ^ (get_or bits i 0 - masks)) (record { declaration = declaration a; trees = trees a }) (read_all ls)
-      ≡ chunks_at f masks (tables_of declaration trees airs) (map read_all lookups) bits i
+      ≡ log_chunks_at f masks (tables_of declaration trees airs) (map read_all lookups) bits i
   chunks_here f masks bits =
-      let table_of : A → Table F = λ x. record { declaration = declaration x; trees = trees x } in
+      let table_of : A → AirTable F = λ x. record { declaration = declaration x; trees = trees x } in
       let p = sym (item_of_map table_of airs i a no_table in_airs is_air) in
       let q = sym (item_of_map read_all lookups i ls [] in_lookups is_list) in
       λ j. chunks_of_table f masks (2 ^ (get_or bits i 0 - masks)) (p j) (q j)

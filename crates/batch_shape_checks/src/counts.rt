@@ -3,7 +3,7 @@ ghost use Rattle.std.specs.Prelude.{◌≡◌, ◌↔◌, IsTrue, All, map};
 ghost use Rattle.std.specs.List.{list_any};
 ghost use Rattle.p3_lookup.specs.Written.{read_all};
 ghost use Rattle.batch_statement.specs.Statement.{Statement, read_common, tables_of};
-ghost use Rattle.batch_shape_checks.specs.ShapeChecks.{AreCounted, HasEntries, IsRandomized, count_checks, has_some, is_there, permutation_check, stated};
+ghost use Rattle.batch_shape_checks.specs.ShapeChecks.{HaveItemForEachTable, HasEntries, IsRandomized, count_checks, has_some, is_there, permutation_check, statement_with};
 ghost use Rattle.batch_shape_checks.specs.Verdict.{IsDecided};
 
 use batch_statement::{
@@ -31,7 +31,7 @@ fn are_counted<F: Field, A: Air<F>, E, Com, Opening>(
     common: &SharedData<F, Com>,
     proof: &TablesProof<F, E, Com, Opening>,
 ) -> bool
-    ensures { IsTrue result ↔ AreCounted (stated (tables_of A.declaration A.trees airs.now) (map (λ v. v.items) public_values.now) common.now) proof.now }
+    ensures { IsTrue result ↔ HaveItemForEachTable (statement_with (tables_of A.declaration A.trees airs.now) (map (λ v. v.items) public_values.now) common.now) proof.now }
 {
     let tables = airs.len();
     let opened = &proof.opened_values;
@@ -82,7 +82,7 @@ pub fn check_counts<F: Field, A: Air<F>, E, Com, Opening, R>(
     proof: &TablesProof<F, E, Com, Opening>,
     zk: bool,
 ) -> Result<(), BatchVerificationError<R>>
-    ensures { IsDecided (count_checks zk (stated (tables_of A.declaration A.trees airs.now) (map (λ v. v.items) public_values.now) common.now) proof.now) result }
+    ensures { IsDecided (count_checks zk (statement_with (tables_of A.declaration A.trees airs.now) (map (λ v. v.items) public_values.now) common.now) proof.now) result }
 {
     if !are_counted(airs, public_values, common, proof) {
         return Err(BatchVerificationError::Verification(VerificationError::InvalidProofShape(
@@ -123,7 +123,7 @@ pub fn check_permutation<F: Field, A: Air<F>, E, Com, Opening, R>(
     common: &SharedData<F, Com>,
     proof: &TablesProof<F, E, Com, Opening>,
 ) -> Result<(), BatchVerificationError<R>>
-    ensures { IsDecided (permutation_check (stated (tables_of A.declaration A.trees airs.now) (map (λ v. v.items) public_values.now) common.now) proof.now) result }
+    ensures { IsDecided (permutation_check (statement_with (tables_of A.declaration A.trees airs.now) (map (λ v. v.items) public_values.now) common.now) proof.now) result }
 {
     if proof.commitments.permutation.is_some() != some_have_lookups(&common.lookups) {
         return Err(BatchVerificationError::Lookup(LookupError::CommitmentMismatch));

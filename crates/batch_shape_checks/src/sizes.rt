@@ -2,11 +2,11 @@
 ghost use Rattle.std.specs.Prelude.{◌≡◌, ℕ, ◌+◌, ◌-◌, ◌^◌, ◌<◌, ◌≤◌, [], length, map, All, IfOk};
 ghost use Rattle.std.specs.Prelude.{slice_index_or as get_or};
 ghost use Rattle.p3_field.specs.Checks.{in_turn};
-ghost use Rattle.p3_field.specs.Poly.{table};
+ghost use Rattle.p3_field.specs.Poly.{tabulate};
 ghost use Rattle.p3_lookup.specs.Written.{read_all};
 ghost use Rattle.batch_constraints.specs.BatchTrees.{AreLookupsOf};
-ghost use Rattle.batch_statement.specs.Statement.{Table, tables_of};
-ghost use Rattle.batch_shape_checks.specs.ShapeChecks.{chunks_at, chunks_of_table, size_checks, sizes_at};
+ghost use Rattle.batch_statement.specs.Statement.{AirTable, tables_of};
+ghost use Rattle.batch_shape_checks.specs.ShapeChecks.{log_chunks_at, chunks_of_table, size_checks, sizes_at};
 ghost use Rattle.batch_shape_checks.specs.Verdict.{IsVerdict};
 
 use crate::powers::power_of_two;
@@ -60,7 +60,8 @@ fn table_size<F: Field, A: Air<F>, R>(
     requires masked { masks ≤ least }
     requires masks { masks ≤ 1 }
     requires lookups { AreLookupsOf (A.declaration air.now) (read_all lookups.now) }
-    ensures verdict { IsVerdict (size_checks index least most bits (chunks_of_table F.ring masks (2 ^ (bits - masks)) (record { declaration = A.declaration air.now; trees = A.trees air.now }) (read_all lookups.now)) masks) result }
+    ensures verdict { IsVerdict (size_checks index least most bits
+        (chunks_of_table F.ring masks (2 ^ (bits - masks)) (record { declaration = A.declaration air.now; trees = A.trees air.now }) (read_all lookups.now)) masks) result }
     ensures chunks { IfOk result (λ k. k ≡ chunks_of_table F.ring masks (2 ^ (bits - masks)) (record { declaration = A.declaration air.now; trees = A.trees air.now }) (read_all lookups.now)) }
 {
     if bits < least {
@@ -120,7 +121,7 @@ fn size_at<F: Field, A: Air<F>, R>(
     requires bits { index < length degree_bits.now }
     requires reads { (a : A) → AreLookupsOf (A.declaration (get_or airs.now index a)) (read_all (get_or lookups.now index [])) }
     ensures verdict { IsVerdict (sizes_at F.ring least most masks (tables_of A.declaration A.trees airs.now) (map read_all lookups.now) degree_bits.now index) result }
-    ensures chunks { IfOk result (λ n. n ≡ chunks_at F.ring masks (tables_of A.declaration A.trees airs.now) (map read_all lookups.now) degree_bits.now index) }
+    ensures chunks { IfOk result (λ n. n ≡ log_chunks_at F.ring masks (tables_of A.declaration A.trees airs.now) (map read_all lookups.now) degree_bits.now index) }
 {
     table_size(
         alloc,
@@ -152,7 +153,7 @@ pub(crate) fn check_sizes<F: Field, A: Air<F>, R>(
     requires bits { length degree_bits.now ≡ length airs.now }
     requires reads { (i : ℕ) (a : A) → i < length airs.now → AreLookupsOf (A.declaration (get_or airs.now i a)) (read_all (get_or lookups.now i [])) }
     ensures verdict { IsVerdict (in_turn (length airs.now) (sizes_at F.ring least most masks (tables_of A.declaration A.trees airs.now) (map read_all lookups.now) degree_bits.now)) result }
-    ensures chunks { IfOk result (λ v. v.items ≡ table (length airs.now) (chunks_at F.ring masks (tables_of A.declaration A.trees airs.now) (map read_all lookups.now) degree_bits.now)) }
+    ensures chunks { IfOk result (λ v. v.items ≡ tabulate (length airs.now) (log_chunks_at F.ring masks (tables_of A.declaration A.trees airs.now) (map read_all lookups.now) degree_bits.now)) }
 {
     let mut chunks = Vec::new(alloc);
     for index in 0..airs.len() {

@@ -3,8 +3,8 @@ ghost use Rattle.std.specs.Prelude.{◌≡◌, ℕ, ◌+◌, ◌^◌, ◌<◌, l
 ghost use Rattle.std.specs.Prelude.{slice_index_or as get_or};
 ghost use Rattle.p3_field.specs.Checks.{in_turn};
 ghost use Rattle.p3_lookup.specs.Written.{read_all};
-ghost use Rattle.batch_statement.specs.Statement.{Table, tables_of};
-ghost use Rattle.batch_shape_checks.specs.ShapeChecks.{opened_at, opened_by};
+ghost use Rattle.batch_statement.specs.Statement.{AirTable, tables_of};
+ghost use Rattle.batch_shape_checks.specs.ShapeChecks.{opened_checks_at, opened_by};
 ghost use Rattle.batch_shape_checks.specs.Verdict.{IsDecided};
 
 use crate::opened::check_opened;
@@ -31,7 +31,8 @@ fn check_table<F: Field, A: Air<F>, E, R>(
     requires lookups { index < length lookups.now }
     requires instances { index < length instances.now }
     requires terminals { index < length terminals.now }
-    ensures { IsDecided (opened_at (tables_of A.declaration A.trees airs.now) (map (λ v. v.items) public_values.now) (map read_all lookups.now) instances.now (map (option_map (λ t. t.0)) terminals.now) (2 ^ log_chunks) dimension index) result }
+    ensures { IsDecided (opened_checks_at (tables_of A.declaration A.trees airs.now) (map (λ v. v.items) public_values.now) (map read_all lookups.now) instances.now
+        (map (option_map (λ t. t.0)) terminals.now) (2 ^ log_chunks) dimension index) result }
 {
     let table = &lookups[index];
     check_opened(
@@ -64,7 +65,9 @@ pub(crate) fn check_tables<F: Field, A: Air<F>, E, R>(
     requires terminals { length terminals.now ≡ length airs.now }
     requires chunks { length chunks.now ≡ length airs.now }
     requires fits { (i : ℕ) → i < length airs.now → get_or chunks.now i 0 + masks < 64 }
-    ensures { IsDecided (in_turn (length airs.now) (opened_by (tables_of A.declaration A.trees airs.now) (map (λ v. v.items) public_values.now) (map read_all lookups.now) instances.now (map (option_map (λ t. t.0)) terminals.now) chunks.now masks dimension)) result }
+    ensures { IsDecided (in_turn (length airs.now)
+        (opened_by (tables_of A.declaration A.trees airs.now) (map (λ v. v.items) public_values.now) (map read_all lookups.now) instances.now
+        (map (option_map (λ t. t.0)) terminals.now) chunks.now masks dimension)) result }
 {
     for index in 0..airs.len() {
         let log_chunks = chunks[index] + masks;

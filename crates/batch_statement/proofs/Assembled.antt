@@ -4,7 +4,7 @@ use Rattle.std.specs.Prelude.{flat_map}
 use Rattle.std.proofs.lemmas.List.{length-map, take-map}
 use Rattle.std.proofs.lemmas.List.Elements.{All-weaker}
 use Rattle.p3_air.specs.Shape.{Declaration, declared_shape}
-use Rattle.p3_lookup.specs.Lookup.{LookupData, IsCounted, ReadsSent, IsLookup}
+use Rattle.p3_lookup.specs.Lookup.{LookupData, HasCountForEach, ReadsSent, IsLookup}
 use Rattle.p3_lookup.specs.Bus.{HaveOneWidth}
 use Rattle.p3_lookup.specs.Written.{Written, read_all}
 use Rattle.batch_statement.specs.Statement.{PreprocessedTracesData, WrittenCommon, WellFormed, read_common, instance_count, within_entries}
@@ -46,7 +46,7 @@ well_formed {F = F} ds w n e lookups widths traces =
     record {
       reads = λ i h d. All-weaker (IsLookup (declared_shape (get_or ds i d))) (ReadsSent (declared_shape (get_or ds i d))) (λ l p. p.reads) (get_or (map read_all w.lookups) i []) (own i h d);
       counted = λ i h. let d = some_declaration ds i (omega (arith, h, within)) in
-          All-weaker (IsLookup (declared_shape (get_or ds i d))) IsCounted (λ l p. p.counted) (get_or (map read_all w.lookups) i []) (own i h d);
+          All-weaker (IsLookup (declared_shape (get_or ds i d))) HasCountForEach (λ l p. p.counted) (get_or (map read_all w.lookups) i []) (own i h d);
       one_width = subst S (sym (take-map (read_all {F = F}) m w.lookups)) (subst Q e widths);
       entries = fitting.entries;
       listed = fitting.listed;

@@ -4,18 +4,18 @@ use Rattle.std.specs.Prelude.{◌≡◌, ℕ, suc, ◌<◌, min, List, [], ◌�
 use Rattle.std.specs.Prelude.{slice_index_or as get_or, slice_get}
 use Rattle.p3_air.specs.Tree.{Tree}
 use Rattle.p3_air.specs.Shape.{Declaration, declared_shape, width_of}
-use Rattle.p3_lookup.specs.Lookup.{LookupData, IsCounted, ReadsSent}
+use Rattle.p3_lookup.specs.Lookup.{LookupData, HasCountForEach, ReadsSent}
 use Rattle.p3_lookup.specs.Bus.{HaveOneWidth}
 use Rattle.p3_lookup.specs.Written.{Written, read_all}
 use Rattle.batch_statement.specs.declared.preprocessed.PreprocessedInstanceMeta.{PreprocessedInstanceMeta}
 
 -- a table: what its AIR declares, and its constraints
-pub record Table (F : Type 0) : Type 0 where
+pub record AirTable (F : Type 0) : Type 0 where
   pub declaration : Declaration F
   pub trees : List (Tree F)
 
 -- the tables of AIRs with these declarations and these constraints
-abbrev pub tables_of : {A F : Type 0} → (A → Declaration F) → (A → List (Tree F)) → List A → List (Table F)
+abbrev pub tables_of : {A F : Type 0} → (A → Declaration F) → (A → List (Tree F)) → List A → List (AirTable F)
 tables_of declaration trees airs = map (λ a. record { declaration = declaration a; trees = trees a }) airs
 
 -- the commitment to all preprocessed traces, for each table its entry, and for each committed matrix its table
@@ -39,7 +39,7 @@ read_common w = record { preprocessed = w.preprocessed; lookups = map read_all w
 
 -- what a proof is of: tables, a list of public values for each, and common data
 pub record Statement (F C : Type 0) : Type 0 where
-  pub tables : List (Table F)
+  pub tables : List (AirTable F)
   pub publics : List (List F)
   pub common : Common F C
 
@@ -88,7 +88,7 @@ pub record WellFormed {F C : Type 0} (ds : List (Declaration F)) (c : Common F C
   -- declares, and next cells only of declared next columns;
   pub reads : (i : ℕ) → i < instance_count ds c → (d : Declaration F) → All (ReadsSent (declared_shape (get_or ds i d))) (get_or c.lookups i [])
   -- each lookup has as many multiplicities as tuples;
-  pub counted : (i : ℕ) → i < instance_count ds c → All IsCounted (get_or c.lookups i [])
+  pub counted : (i : ℕ) → i < instance_count ds c → All HasCountForEach (get_or c.lookups i [])
   -- all tuples on one bus have one width;
   pub one_width : HaveOneWidth (flat_map (λ ls. ls) (take (instance_count ds c) c.lookups))
   -- an instance has an entry exactly where its preprocessed width isn't zero, and the entry has that width;

@@ -42,8 +42,8 @@ impl<F, Com> SharedData<F, Com> {
 }
 
 impl<F: Field, Com> SharedData<F, Com> {
-    /// Whether the data is well-formed for tables with these AIRs (own), an instance being a number below the lengths of
-    /// `airs`, of the lookups and, where there are preprocessed traces, of their entries:
+    /// Whether the data is well-formed for tables with these AIRs (not in Plonky3), an instance being a number below the
+    /// lengths of `airs`, of the lookups and, where there are preprocessed traces, of their entries:
     ///
     /// - an instance's lookups read only constants and those public values, main cells and preprocessed cells that its AIR
     ///   declares, and next cells only of declared next columns;

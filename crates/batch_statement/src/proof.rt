@@ -85,7 +85,7 @@ impl<F, E, Com, Opening> Model for TablesProof<F, E, Com, Opening> {
 }
 
 impl<F, E, Com, Opening> TablesProof<F, E, Com, Opening> {
-    /// The values that are opened of each table (own).
+    /// The values that are opened of each table (not in Plonky3).
     pub fn instances(&self) -> &[OpenedValuesWithLookups<E>]
         ensures { result.now ≡ self.now.instances }
     {
@@ -93,7 +93,7 @@ impl<F, E, Com, Opening> TablesProof<F, E, Com, Opening> {
         &opened.instances
     }
 
-    /// The terminals of the tables (own).
+    /// The terminals of the tables (not in Plonky3).
     pub fn terminals(&self) -> &[Option<LookupTerminal<E>>]
         ensures { map (option_map (λ t. t.0)) result.now ≡ self.now.lookup_terminals }
     {

@@ -1,7 +1,7 @@
 //! Common data that fits its tables, and data that doesn't.
 
 use batch_statement::{PreprocessedInstanceMeta, PreprocessedTraces, SharedData};
-use batch_tables::PostAir;
+use batch_tables::SendingAir;
 use p3_air::{Cell, Count};
 use p3_air_tests::support::{bear, of_cell};
 use p3_field::{BabyBear, FieldCore, Mem, RingCore};
@@ -10,12 +10,12 @@ use std::alloc::Global;
 use std::test::Fail;
 
 // A table of two rows with one main, one preprocessed and one periodic column and one public value.
-fn post(alloc: Global) -> Mem<PostAir<BabyBear>> {
+fn sending_air(alloc: Global) -> Mem<SendingAir<BabyBear>> {
     let steps = Vec::from_array(alloc, [bear(1), bear(2)])?;
     let column = Vec::from_array(alloc, [bear(3), bear(5)])?;
     let mut periodic = Vec::new(alloc);
     periodic.push(column)?;
-    Ok(PostAir { steps, periodic })
+    Ok(SendingAir { steps, periodic })
 }
 
 // The entry of a trace of two rows.
@@ -84,7 +84,7 @@ fn fits_with(
     let mut tables = Vec::new(alloc);
     tables.push(Lookups::new(lookups))?;
     let data = SharedData::new(traces, tables);
-    let airs = [post(alloc)?];
+    let airs = [sending_air(alloc)?];
     data.fits(alloc, &airs)
 }
 
@@ -164,7 +164,7 @@ fn fit_together(alloc: Global, first: (&str, usize), second: (&str, usize)) -> M
         matrix_to_instance: Vec::from_array(alloc, [0, 1])?,
     };
     let data = SharedData::new(Some(traces), tables);
-    let airs = [post(alloc)?, post(alloc)?];
+    let airs = [sending_air(alloc)?, sending_air(alloc)?];
     data.fits(alloc, &airs)
 }
 

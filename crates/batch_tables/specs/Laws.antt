@@ -1,2 +1,2 @@
 -- What is proved of the definitions, by table.
-pub mod Post
+pub mod Sending

@@ -1,3 +1,3 @@
 pub mod Swap
-pub mod Post
+pub mod Sending
 pub mod Laws

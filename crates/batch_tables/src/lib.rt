@@ -1,12 +1,12 @@
-//! The program's tables, each as an AIR.
+//! The swap table, which the program has, and the sending table, which tests use, each as an AIR.
 //!
 //! Each module has one table. Its declaration, its constraint trees and its interactions are definitions of `specs/`,
 //! and the `impl`s of `BaseAir` and `Air` are proved to answer and to append exactly these. `README.md` says what each
 //! table is for.
 #![tactic(auto)]
 
-mod post;
+mod sending;
 mod swap;
 
-pub use post::PostAir;
+pub use sending::SendingAir;
 pub use swap::SwapAir;

@@ -19,10 +19,10 @@ fn difference_of_cells<AB: AirBuilder>(builder: &mut AB, x: Cell, y: Cell) -> Me
     requires left { Declares (AB.shape builder.old) x }
     requires right { Declares (AB.shape builder.old) y }
     ensures later { AB.later builder.old builder.new }
-    ensures same { AB.shape builder.new ≡ AB.shape builder.old }
+    ensures keeps_shape { AB.shape builder.new ≡ AB.shape builder.old }
     ensures answers { IsTrue AB.never_fails → IsOk result }
-    ensures grows { AB.grows builder.old builder.new [] [] }
-    ensures stands { IfOk result (λ e. AB.stands builder.new e (difference (cell_tree x) (cell_tree y))) }
+    ensures appends { AB.appends builder.old builder.new [] [] }
+    ensures represents { IfOk result (λ e. AB.represents builder.new e (difference (cell_tree x) (cell_tree y))) }
 {
     let a = builder.cell(x)?;
     let b = builder.cell(y)?;
@@ -35,10 +35,10 @@ fn assert_equal_when<AB: AirBuilder>(builder: &mut AB, selector: Cell, x: Cell, 
     requires left { Declares (AB.shape builder.old) x }
     requires right { Declares (AB.shape builder.old) y }
     ensures later { AB.later builder.old builder.new }
-    ensures same { AB.shape builder.new ≡ AB.shape builder.old }
+    ensures keeps_shape { AB.shape builder.new ≡ AB.shape builder.old }
     ensures answers { IsTrue AB.never_fails → IsOk result }
-    ensures grows { IfOk result (λ _. AB.grows builder.old builder.new (over_base (equal_when selector x y) ∷ []) []) }
-    ensures refused { OnErr result (AB.grows builder.old builder.new [] []) }
+    ensures appends { IfOk result (λ _. AB.appends builder.old builder.new (over_base (equal_when selector x y) ∷ []) []) }
+    ensures on_error { OnErr result (AB.appends builder.old builder.new [] []) }
 {
     let s = builder.cell(selector)?;
     let d = difference_of_cells(builder, x, y)?;
@@ -47,7 +47,7 @@ fn assert_equal_when<AB: AirBuilder>(builder: &mut AB, selector: Cell, x: Cell, 
 }
 
 /// Two columns l and r of 2^k rows, (a, b) and (b, a) in turn. The public values are a, b and the last right cell
-/// (own).
+/// (not in Plonky3).
 #[derive(Clone, Copy)]
 pub struct SwapAir;
 

@@ -7,14 +7,14 @@ use Rattle.std.specs.declared.alloc.AllocError.{AllocError}
 use Rattle.line_format.specs.Texts.{line_text}
 use Rattle.p3_field.specs.declared.baby_bear.BabyBear.{BabyBear}
 use Rattle.tool_validity.specs.Job.{JobTable}
-use Rattle.tool_jobs.specs.Jobs.{JobWithin, job_words}
+use Rattle.tool_jobs.specs.Jobs.{JobWithin, job_numbers}
 use Rattle.tool_prover.specs.JobAnswer.{IsJobAnswer, file_of}
 use Rattle.line_format.specs.WholeText.{ReadsText}
 use Rattle.line_format.specs.declared.parse.TextError.{TextError}
 use Rattle.line_format.specs.declared.parse.TextError.TheVariants.{Malformed, OutOfMemory as NoMemory}
 use Rattle.tool_verifier.specs.FileAnswer.{IsFileAnswer}
 use Rattle.tool_verifier.specs.declared.answer.Answer.{Answer}
-use Rattle.proof_files.specs.Files.{FileData, FileWithin, file_words}
+use Rattle.proof_files.specs.Files.{FileData, FileWithin, file_numbers}
 use Rattle.hash_lines.specs.PrintedRows.{printed_rows}
 use Rattle.tool_jobs.specs.Stated.{statement_of}
 use Rattle.batch_tool.specs.Answer.{IsAcceptedText, Names, IsBadInput, bad_input_text, IsProveAnswer, IsVerifyAnswer, IsCommandAnswer, Answers, IsOutcome, IsSilent, Outcome}
@@ -36,7 +36,7 @@ unfolding IsJobAnswer
 proved-accepted job text a = (printed_rows (map statement_of job) a.proof, (file_of job a.proof, a.within, a.text_is, a.accepted))
 
 -- the answer to a job is the answer of `prove`
-pub prove-answers : (bytes : List ℕ) (job : List (JobTable BabyBear)) (status : Status) (text : List ℕ) → JobWithin job → bytes ≡ line_text (job_words job)
+pub prove-answers : (bytes : List ℕ) (job : List (JobTable BabyBear)) (status : Status) (text : List ℕ) → JobWithin job → bytes ≡ line_text (job_numbers job)
     → IsJobAnswer job status text → IsProveAnswer bytes status text
 prove-answers bytes job Done text fits e a = ((job, fits, e, a), proved-accepted job text a)
 prove-answers bytes job Refused text fits e a = (job, fits, e, a)
@@ -47,13 +47,13 @@ prove-answers bytes job WriteFault text fits e a = (job, fits, e, a)
 prove-answers bytes job OutOfMemory text fits e a = (job, fits, e, a)
 prove-answers bytes job TooLarge text fits e a = (job, fits, e, a)
 
-pub prove-answers-ok : (bytes : List ℕ) (job : List (JobTable BabyBear)) (r : Result Answer AllocError) → JobWithin job → bytes ≡ line_text (job_words job)
+pub prove-answers-ok : (bytes : List ℕ) (job : List (JobTable BabyBear)) (r : Result Answer AllocError) → JobWithin job → bytes ≡ line_text (job_numbers job)
     → IfOk r (λ a. IsJobAnswer job a.status a.text.items) → IfOk r (λ a. IsProveAnswer bytes a.status a.text.items)
 prove-answers-ok bytes job (Ok a) fits e h = prove-answers bytes job a.status a.text.items fits e h
 prove-answers-ok bytes job (Err x) fits e h = tt
 
 -- the same of `verify`
-pub verify-answers : (bytes : List ℕ) (file : FileData) (status : Status) (text : List ℕ) → FileWithin file → bytes ≡ line_text (file_words file)
+pub verify-answers : (bytes : List ℕ) (file : FileData) (status : Status) (text : List ℕ) → FileWithin file → bytes ≡ line_text (file_numbers file)
     → IsFileAnswer file.tables file.proof status text → IsVerifyAnswer bytes status text
 verify-answers bytes file Done text fits e a = (file, fits, e, a)
 verify-answers bytes file Refused text fits e a = (file, fits, e, a)
@@ -64,7 +64,7 @@ verify-answers bytes file WriteFault text fits e a = (file, fits, e, a)
 verify-answers bytes file OutOfMemory text fits e a = (file, fits, e, a)
 verify-answers bytes file TooLarge text fits e a = (file, fits, e, a)
 
-pub verify-answers-ok : (bytes : List ℕ) (file : FileData) (r : Result Answer AllocError) → FileWithin file → bytes ≡ line_text (file_words file)
+pub verify-answers-ok : (bytes : List ℕ) (file : FileData) (r : Result Answer AllocError) → FileWithin file → bytes ≡ line_text (file_numbers file)
     → IfOk r (λ a. IsFileAnswer file.tables file.proof a.status a.text.items) → IfOk r (λ a. IsVerifyAnswer bytes a.status a.text.items)
 verify-answers-ok bytes file (Ok a) fits e h = verify-answers bytes file a.status a.text.items fits e h
 verify-answers-ok bytes file (Err x) fits e h = tt
@@ -78,12 +78,12 @@ bad-answers data_of within words bytes (Malformed line) (Ok a) read bad memory =
 bad-answers data_of within words bytes NoMemory (Ok a) read bad memory = absurd (false≢true (memory refl))
 bad-answers data_of within words bytes e (Err x) read bad memory = tt
 
-pub bad-job : (bytes : List ℕ) (r : Result Answer AllocError) → IfOk r (λ a. (a.status ≡ BadInput) × IsBadInput JobWithin job_words bytes a.text.items)
+pub bad-job : (bytes : List ℕ) (r : Result Answer AllocError) → IfOk r (λ a. (a.status ≡ BadInput) × IsBadInput JobWithin job_numbers bytes a.text.items)
     → IfOk r (λ a. IsProveAnswer bytes a.status a.text.items)
 bad-job bytes (Ok a) h = subst (λ (s : Status). IsProveAnswer bytes s a.text.items) (sym h.0) h.1
 bad-job bytes (Err x) h = tt
 
-pub bad-file : (bytes : List ℕ) (r : Result Answer AllocError) → IfOk r (λ a. (a.status ≡ BadInput) × IsBadInput FileWithin file_words bytes a.text.items)
+pub bad-file : (bytes : List ℕ) (r : Result Answer AllocError) → IfOk r (λ a. (a.status ≡ BadInput) × IsBadInput FileWithin file_numbers bytes a.text.items)
     → IfOk r (λ a. IsVerifyAnswer bytes a.status a.text.items)
 bad-file bytes (Ok a) h = subst (λ (s : Status). IsVerifyAnswer bytes s a.text.items) (sym h.0) h.1
 bad-file bytes (Err x) h = tt

@@ -5,10 +5,10 @@ use Rattle.p3_field.specs.declared.baby_bear.BabyBear.{BabyBear}
 use Rattle.line_format.specs.Texts.{line_text}
 use Rattle.line_format.specs.WholeText.{IsNoText, IsFaultLine}
 use Rattle.tool_validity.specs.Job.{JobTable}
-use Rattle.tool_jobs.specs.Jobs.{JobWithin, job_words}
+use Rattle.tool_jobs.specs.Jobs.{JobWithin, job_numbers}
 use Rattle.tool_prover.specs.JobAnswer.{IsJobAnswer}
 use Rattle.tool_verifier.specs.FileAnswer.{IsFileAnswer}
-use Rattle.proof_files.specs.Files.{FileData, FileWithin, file_words}
+use Rattle.proof_files.specs.Files.{FileData, FileWithin, file_numbers}
 use Rattle.batch_tool.specs.declared.command.Command.{Command}
 use Rattle.batch_tool.specs.declared.command.Command.TheVariants.{Prove, Verify}
 use Rattle.tool_verifier.specs.declared.status.Status.{Status}
@@ -33,20 +33,20 @@ IsBadInput within words bytes text = IsNoText within words bytes × ((line : ℕ
 
 -- the status and the text of `verify` for all the bytes of an input
 abbrev pub IsVerifyAnswer : List ℕ → Status → List ℕ → Type 0
-IsVerifyAnswer bytes BadInput text = IsBadInput FileWithin file_words bytes text
-IsVerifyAnswer bytes status text = (file : FileData) × FileWithin file × (bytes ≡ line_text (file_words file)) × IsFileAnswer file.tables file.proof status text
+IsVerifyAnswer bytes BadInput text = IsBadInput FileWithin file_numbers bytes text
+IsVerifyAnswer bytes status text = (file : FileData) × FileWithin file × (bytes ≡ line_text (file_numbers file)) × IsFileAnswer file.tables file.proof status text
 
 -- the bytes are the text of a job, of which these are the status and the text
 abbrev pub AnswersJob : List ℕ → Status → List ℕ → Type 0
-AnswersJob bytes status text = (job : List (JobTable BabyBear)) × JobWithin job × (bytes ≡ line_text (job_words job)) × IsJobAnswer job status text
+AnswersJob bytes status text = (job : List (JobTable BabyBear)) × JobWithin job × (bytes ≡ line_text (job_numbers job)) × IsJobAnswer job status text
 
--- `verify` writes `accepted` for this text, and rows of hash tables behind it
+-- `verify` writes `accepted` for this text, and rows of hash tables after it
 abbrev pub IsAcceptedText : List ℕ → Type 0
 IsAcceptedText text = (rows : List ℕ) × IsVerifyAnswer text Done (codes "accepted\n" ++ rows)
 
 -- The status and the text of `prove` for all the bytes of an input. For each text that it writes with the status `Done`, `verify` writes `accepted`.
 abbrev pub IsProveAnswer : List ℕ → Status → List ℕ → Type 0
-IsProveAnswer bytes BadInput text = IsBadInput JobWithin job_words bytes text
+IsProveAnswer bytes BadInput text = IsBadInput JobWithin job_numbers bytes text
 IsProveAnswer bytes Done text = AnswersJob bytes Done text × IsAcceptedText text
 IsProveAnswer bytes status text = AnswersJob bytes status text
 
@@ -79,7 +79,7 @@ IsOutcome most words read ended written TooLarge = NamesSome words × (length re
 IsOutcome most words read ended written WriteFault = (status : Status) × (text : List ℕ) × Answers most words read ended status text × IsCutShort written text
 IsOutcome most words read ended written status = Answers most words read ended status written
 
--- what a run took of the bytes that were left, and put behind what was written
+-- what a run took of the bytes that were left, and put after what was written
 pub record Outcome (most : ℕ) (words : List (List ℕ)) (left left_new written written_new : Option (List ℕ)) (status : Status) : Type 0 where
   pub read : List ℕ
   pub consumed : Consumes left left_new read

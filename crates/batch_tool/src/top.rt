@@ -24,7 +24,7 @@ const BAD_INPUT: &[u8] = b"bad input at line ";
 /// and then writes one text.
 ///
 /// The text is built whole before the first write. The word `prove` reads a job and answers it,
-/// the word `verify` reads a proof file and answers it. All others are `Usage` (own).
+/// the word `verify` reads a proof file and answers it. All others are `Usage` (not in Plonky3).
 ///
 /// `ReadFault` and `WriteFault` come only where the source's or the sink's count of faults rose, `TooLarge` where one byte
 /// more than [`MAX_BYTES`](crate::MAX_BYTES) was read, and `OutOfMemory` where out of memory. What is said of bytes holds of ends

@@ -121,7 +121,7 @@ fn an_element_is_below_the_order_and_written_in_one_way(rt: HostRuntime) -> Resu
 }
 
 #[test]
-fn a_file_cut_behind_a_line_is_at_fault_there(rt: HostRuntime) -> Result<(), Fail> {
+fn a_file_cut_after_a_line_is_at_fault_there(rt: HostRuntime) -> Result<(), Fail> {
     let alloc = rt.alloc();
     let mut cut = Vec::new(alloc);
     for (number, line) in FOUR_KINDS.lines().enumerate() {
@@ -135,7 +135,7 @@ fn a_file_cut_behind_a_line_is_at_fault_there(rt: HostRuntime) -> Result<(), Fai
 }
 
 #[test]
-fn what_stands_behind_a_file_is_at_fault(rt: HostRuntime) -> Result<(), Fail> {
+fn what_comes_after_a_file_is_at_fault(rt: HostRuntime) -> Result<(), Fail> {
     let alloc = rt.alloc();
     for more in ["0\n", "\n", "1"] {
         let mut longer = ONE_ROW.as_bytes().to_vec(alloc)?;

@@ -38,7 +38,7 @@ fn the_first_failing_check_is_named(rt: HostRuntime) -> Result<(), Fail> {
 #[test]
 fn a_damaged_proof_gets_its_first_refusal(rt: HostRuntime) -> Result<(), Fail> {
     let alloc = rt.alloc();
-    // Of the proof of one row. A public value and a grinding value, behind which the grinding fails; a committed cell with all that
+    // Of the proof of one row. A public value and a grinding value, after which the grinding fails; a committed cell with all that
     // follows from it; a quotient raised by one with all that follows from it. Another program, written apart from this one, made them.
     let public: [(usize, &str); 1] = [(7, "8")];
     let grinding: [(usize, &str); 1] = [(75, "36")];

@@ -5,8 +5,8 @@ use Rattle.std.proofs.lemmas.List.{length-append, length-map, get_or-map, map-ap
 use Rattle.std.specs.Prelude.{Vec}
 use Rattle.std.proofs.lemmas.List.Elements.{All-from_get_or}
 use Rattle.p3_field.specs.Ring.{Ring}
-use Rattle.p3_field.specs.Poly.{table}
-use Rattle.p3_field.specs.Laws.Tables.{length-table, get_or-table, table_push}
+use Rattle.p3_field.specs.Poly.{tabulate}
+use Rattle.p3_field.specs.Laws.Tabulate.{length-tabulate, get_or-tabulate, tabulate_push}
 use Rattle.std.proofs.lemmas.Simd.{map-map}
 use Rattle.p3_lookup.specs.Lookup.{LookupData}
 use Rattle.p3_lookup.specs.Written.{Written, read, read_all}
@@ -19,13 +19,13 @@ use Rattle.p3_lookup.specs.Laws.Buses.{number_below}
 use Rattle.p3_lookup.specs.Laws.Places.{before_more}
 
 -- each number is one of the batch
-pub numbers-below : {F : Type 0} (tables : List (List (LookupData F))) (numbers : List ℕ) → numbers ≡ table (length (batch_buses tables)) (bus_number (batch_buses tables))
+pub numbers-below : {F : Type 0} (tables : List (List (LookupData F))) (numbers : List ℕ) → numbers ≡ tabulate (length (batch_buses tables)) (bus_number (batch_buses tables))
     → All (λ b. b < bus_count (batch_buses tables)) numbers
 numbers-below tables numbers e =
     let bs = batch_buses tables in
     All-from_get_or (λ b. b < bus_count (batch_buses tables)) numbers 0 (λ i lt.
-    let within : i < length bs = omega (arith, lt, ap length e, length-table (length bs) (bus_number bs)) in
-    subst (λ n. n < bus_count bs) (sym (ap (λ l. get_or l i 0) e ∙ get_or-table (length bs) (bus_number bs) i 0 within)) (number_below bs i within))
+    let within : i < length bs = omega (arith, lt, ap length e, length-tabulate (length bs) (bus_number bs)) in
+    subst (λ n. n < bus_count bs) (sym (ap (λ l. get_or l i 0) e ∙ get_or-tabulate (length bs) (bus_number bs) i 0 within)) (number_below bs i within))
 
 -- so many numbers from a place on, laid out
 laid-slice : {E : Type 0} (z : E) (c : ChallengesData E) (g : ℕ → ℕ) (numbers : List ℕ) (m s n : ℕ) → s + m ≤ length numbers → ((k : ℕ) → k < m → get_or numbers (s + k) 0 ≡ g (n + k))
@@ -43,17 +43,17 @@ laid-slice z c g numbers (suc m) s n le at =
 
 -- the numbers of an instance's lookups, laid out
 pub instance-laid : {F E : Type 0} (z : E) (c : ChallengesData E) (tables : List (List (LookupData F))) (numbers : List ℕ) (t start m : ℕ)
-    → numbers ≡ table (length (batch_buses tables)) (bus_number (batch_buses tables)) → start ≡ lookups_before tables t → start + m ≤ length (batch_buses tables)
+    → numbers ≡ tabulate (length (batch_buses tables)) (bus_number (batch_buses tables)) → start ≡ lookups_before tables t → start + m ≤ length (batch_buses tables)
     → flat_map (λ b. get_or c.bus_prefix b z ∷ c.beta ∷ []) (slice_range numbers start (start + m)) ≡ laid_out z c (bus_in tables t) 0 m
 instance-laid z c tables numbers t start m e at le =
     let bs = batch_buses tables in
-    let long : length numbers ≡ length bs = ap length e ∙ length-table (length bs) (bus_number bs) in
+    let long : length numbers ≡ length bs = ap length e ∙ length-tabulate (length bs) (bus_number bs) in
     let many : (start + m) - start ≡ m = omega arith in
     ap (λ n. flat_map (λ b. get_or c.bus_prefix b z ∷ c.beta ∷ []) (take n (drop start numbers))) many
     ∙ laid-slice z c (bus_in tables t) numbers m start 0 (omega (arith, le, long)) (λ k lt.
     let within : start + k < length bs = omega (arith, lt, le) in
     let p : start + k ≡ lookups_before tables t + (0 + k) = omega (arith, at) in
-    ap (λ l. get_or l (start + k) 0) e ∙ get_or-table (length bs) (bus_number bs) (start + k) 0 within ∙ ap (bus_number bs) p)
+    ap (λ l. get_or l (start + k) 0) e ∙ get_or-tabulate (length bs) (bus_number bs) (start + k) 0 within ∙ ap (bus_number bs) p)
 
 -- the lookups before an instance are among the batch's
 pub before-within : {F : Type 0} (tables : List (List (LookupData F))) (t : ℕ) → lookups_before tables t ≤ length (batch_buses tables)
@@ -81,12 +81,12 @@ module _ {F : Type 0} (ws : List (List (Written F))) (t : ℕ) (item own : List 
 
   -- one instance more
   pub one-laid : {E A : Type 0} (e : Ring E) (c : ChallengesData E) (numbers : List ℕ) (start : ℕ) (all more : List (Vec E A)) (v : Vec E A)
-      → numbers ≡ table (length (batch_buses (map read_all ws))) (bus_number (batch_buses (map read_all ws))) → start ≡ lookups_before (map read_all ws) t
-      → lists all ≡ table t (instance_challenges e c (map read_all ws)) → more ≡ all ++ v ∷ []
+      → numbers ≡ tabulate (length (batch_buses (map read_all ws))) (bus_number (batch_buses (map read_all ws))) → start ≡ lookups_before (map read_all ws) t
+      → lists all ≡ tabulate t (instance_challenges e c (map read_all ws)) → more ≡ all ++ v ∷ []
       → v.items ≡ flat_map (λ b. get_or c.bus_prefix b e.zero ∷ c.beta ∷ []) (slice_range numbers start (start + length own))
-      → lists more ≡ table (t + 1) (instance_challenges e c (map read_all ws))
+      → lists more ≡ tabulate (t + 1) (instance_challenges e c (map read_all ws))
   one-laid e c numbers start all more v n s before pushed laid =
       let tables = map read_all ws in
       let here : v.items ≡ instance_challenges e c tables t =
       laid ∙ instance-laid e.zero c tables numbers t start (length own) n s (own-within start s) ∙ ap (laid_out e.zero c (bus_in tables t) 0) (sym own-long) in
-      ap lists pushed ∙ map-append (λ v. v.items) all (v ∷ []) ∙ table_push t (instance_challenges e c tables) (lists all) v.items before here
+      ap lists pushed ∙ map-append (λ v. v.items) all (v ∷ []) ∙ tabulate_push t (instance_challenges e c tables) (lists all) v.items before here

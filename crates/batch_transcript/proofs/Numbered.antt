@@ -9,8 +9,8 @@ use Rattle.std.proofs.lemmas.Bool.{cases_lt}
 use Rattle.std.proofs.lemmas.List.{get_or-map}
 use Rattle.std.proofs.lemmas.List.Sums.{position_or_len_is, passes_at_first}
 use Rattle.std.proofs.lemmas.Bool.Decides.{nat_tests}
-use Rattle.p3_field.specs.Poly.{table}
-use Rattle.p3_field.specs.Laws.Tables.{length-table, get_or-table, table_push}
+use Rattle.p3_field.specs.Poly.{tabulate}
+use Rattle.p3_field.specs.Laws.Tabulate.{length-tabulate, get_or-tabulate, tabulate_push}
 use Rattle.p3_air.specs.Tree.{Bus, local, global}
 use Rattle.p3_lookup.specs.Bus.{is_named, opener_of, opener, opened_below, bus_number, NameOneBus}
 use Rattle.batch_transcript.specs.Buses.{OpensBy}
@@ -109,7 +109,7 @@ opener-names bs i h lt = by (get_or bs i local) refl lt
 
 -- the numbers of the first n lookups' buses, and how many buses these open
 pub record AreNumbered (bs : List Bus) (n : ℕ) (numbers : List ℕ) (count : ℕ) : Type 0 where
-  pub are : numbers ≡ table n (bus_number bs)
+  pub are : numbers ≡ tabulate n (bus_number bs)
   pub opened : count ≡ opened_below bs n
   pub few : count ≤ n
 
@@ -120,10 +120,10 @@ numbered-later bs n count o x k numbers ys s h is lt at pushed kept =
     let below : opener bs n < n = omega (arith, is, lt) in
     let apart : (opener bs n == n) ≡ false = grind (arith, nat_tests, below) in
     let number : x ≡ bus_number bs n =
-    at ∙ ap (λ l. get_or l o x) s.are ∙ get_or-table n (bus_number bs) o x lt ∙ ap (bus_number bs) is
+    at ∙ ap (λ l. get_or l o x) s.are ∙ get_or-tabulate n (bus_number bs) o x lt ∙ ap (bus_number bs) is
     ∙ sym ((shares_by_name bs n (opener bs n) h (omega (arith, below, h)) (λ e. absurd (omega (arith, below, e)))).1 (opener-names bs n h below)) in
     record {
-      are = pushed ∙ table_push n (bus_number bs) numbers x s.are number;
+      are = pushed ∙ tabulate_push n (bus_number bs) numbers x s.are number;
       opened = kept ∙ s.opened ∙ sym (opens_none bs n apart);
       few = omega (arith, s.few, kept);
     }
@@ -135,7 +135,7 @@ numbered-new bs n count o k numbers ys s h is le unless pushed kept =
       | inl less ↦ absurd (unless less)
       | inr ge ↦ omega (arith, ge, le, is)
     ] in record {
-      are = pushed ∙ table_push n (bus_number bs) numbers count s.are (s.opened ∙ ap (opened_below bs) (sym itself));
+      are = pushed ∙ tabulate_push n (bus_number bs) numbers count s.are (s.opened ∙ ap (opened_below bs) (sym itself));
       opened = kept ∙ ap (λ k. k + 1) s.opened ∙ sym (opens_one bs n itself);
       few = omega (arith, s.few, kept);
     }
@@ -146,7 +146,7 @@ unfolding opened_below
 none-numbered bs ys e = record { are = e; opened = refl; few = omega arith }
 
 pub numbers-long : (bs : List Bus) (n count : ℕ) (ys : List ℕ) → AreNumbered bs n ys count → length ys ≡ n
-numbers-long bs n count ys s = ap length s.are ∙ length-table n (bus_number bs)
+numbers-long bs n count ys s = ap length s.are ∙ length-tabulate n (bus_number bs)
 
 -- an item's image at its place
 pub mapped-at : {X Y : Type 0} (f : X → Y) (xs : List X) (i : ℕ) (x : X) (d : Y) → i < length xs → x ≡ get_or xs i x → get_or (map f xs) i d ≡ f x

@@ -17,7 +17,7 @@ use Rattle.p3_challenger.specs.declared.script.Interaction.{Interaction}
 
 -- the shape of a batch: per instance the widths of its trace and preprocessed columns and its number of public values; which
 -- commitments there are, how many instances have lookups, and the bits of both grindings
-pub record Shape : Type 0 where
+pub record BatchShapeData : Type 0 where
   pub trace_widths : List ℕ
   pub public_value_counts : List ℕ
   pub preprocessed_widths : List ℕ
@@ -100,7 +100,7 @@ abbrev pub closing_steps : ℕ → ℕ → List Interaction
 closing_steps d bits = ood_pow_step bits ∷ zeta_step d ∷ opening_step Begin ∷ opening_step End ∷ []
 
 -- the pattern of a batch from each phase on
-module _ (d : ℕ) (s : Shape) where
+module _ (d : ℕ) (s : BatchShapeData) where
   unfoldable pub from_opening : List Interaction
   from_opening = opening_step Begin ∷ opening_step End ∷ []
 
@@ -127,10 +127,10 @@ module _ (d : ℕ) (s : Shape) where
   pattern = map (λ _. degree_bits_step d) s.trace_widths ++ from_main
 
 -- the instance label: the number of instances, then each trace width, then each preprocessed width
-unfoldable pub instance_label : Shape → List ℕ
+unfoldable pub instance_label : BatchShapeData → List ℕ
 instance_label s = eight_bytes (length s.trace_widths) ++ flat_map eight_bytes s.trace_widths ++ flat_map eight_bytes s.preprocessed_widths
 
-unfoldable pub separator : ℕ → Shape → Separator
+unfoldable pub separator : ℕ → BatchShapeData → Separator
 separator d s = record { version = 1; name = codes "p3-batch-stark"; steps = pattern d s; instance = instance_label s }
 
 -- what statement and proof give to the steps; a lookup's parts are there where instances have lookups
@@ -195,22 +195,22 @@ module _ {F E M : Type 0} where
   abbrev pub script_to_lookup : Ring E → (d : ℕ) → Given F E M → List (Played F E M)
   script_to_lookup r d g = bindings_script r d g.degree_bits ++ main_script g.main g.publics ++ preprocessed_script g.preprocessed
 
-  abbrev pub script_to_ood : Ring E → (d : ℕ) → Shape → Given F E M → List (Played F E M)
+  abbrev pub script_to_ood : Ring E → (d : ℕ) → BatchShapeData → Given F E M → List (Played F E M)
   script_to_ood r d s g =
       script_to_lookup r d g
       ++ pair_script d s.num_lookup_instances s.lookup_pow_bits g.lookup_witness
       ++ permutation_script d g.permutation g.terminals
       ++ quotient_script g.quotient g.randomization
 
-  abbrev pub script_to_opening : Ring E → (d : ℕ) → Shape → Given F E M → List (Played F E M)
+  abbrev pub script_to_opening : Ring E → (d : ℕ) → BatchShapeData → Given F E M → List (Played F E M)
   script_to_opening r d s g = script_to_ood r d s g ++ ood_script d s.ood_pow_bits g.ood_witness
 
   -- the whole script
-  unfoldable pub script : Ring E → (d : ℕ) → Shape → Given F E M → List (Played F E M)
+  unfoldable pub script : Ring E → (d : ℕ) → BatchShapeData → Given F E M → List (Played F E M)
   script r d s g = script_to_opening r d s g ++ opening_script
 
--- the challenger's state behind the separator's encoding, each byte observed as one base element
-unfoldable pub seeded : {S F E M : Type 0} → ChallengerOf S F E M → Ring F → ℕ → Shape → S → S
+-- the challenger's state after the separator's encoding, each byte observed as one base element
+unfoldable pub seeded : {S F E M : Type 0} → ChallengerOf S F E M → Ring F → ℕ → BatchShapeData → S → S
 seeded c r d s initial = fold c.observe initial (map (of_nat r) (encoding (separator d s)))
 
 -- what is drawn along a script: the pair of the lookups (zeros where no instance has one), alpha, zeta, the state at the opening, and
@@ -244,7 +244,7 @@ draws_of r (suc n) t = record {
   opening = t.state;
 }
 
--- the draws of a statement and a proof, from this state of the challenger. A bracket observes nothing, so the state behind the whole
+-- the draws of a statement and a proof, from this state of the challenger. A bracket observes nothing, so the state after the whole
 -- script is the one at the opening.
-unfoldable pub draws : {S F E M : Type 0} → ChallengerOf S F E M → Ring F → Ring E → ℕ → S → Shape → Given F E M → Draws S E
+unfoldable pub draws : {S F E M : Type 0} → ChallengerOf S F E M → Ring F → Ring E → ℕ → S → BatchShapeData → Given F E M → Draws S E
 draws {E = E} c f r d initial s g = draws_of r s.num_lookup_instances (play c (begun E (seeded c f d s initial)) (script r d s g))

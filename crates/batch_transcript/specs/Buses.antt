@@ -5,7 +5,7 @@ use Rattle.std.specs.Prelude.{slice_index_or as get_or}
 use Rattle.std.specs.Option.{unwrap_or}
 use Rattle.std.specs.Map.{update}
 use Rattle.p3_field.specs.Ring.{Ring}
-use Rattle.p3_field.specs.Poly.{table}
+use Rattle.p3_field.specs.Poly.{tabulate}
 use Rattle.p3_air.specs.Tree.{Bus, local, global}
 use Rattle.p3_lookup.specs.Lookup.{LookupData}
 use Rattle.p3_lookup.specs.Bus.{bus_in, bus_count, batch_buses, widest}
@@ -18,7 +18,7 @@ instance_challenges e c tables t = laid_out e.zero c (bus_in tables t) 0 (length
 
 -- the challenges of each instance, these being the lookups instance by instance, from what was drawn for them: nothing, or the pair
 abbrev pub batch_layout : {F E : Type 0} → Ring E → List E → List (List (LookupData F)) → List (List E)
-batch_layout e (alpha ∷ beta ∷ rest) tables = table (length tables) (instance_challenges e (challenges_with e alpha beta (widest tables) (bus_count (batch_buses tables))) tables)
+batch_layout e (alpha ∷ beta ∷ rest) tables = tabulate (length tables) (instance_challenges e (challenges_with e alpha beta (widest tables) (bus_count (batch_buses tables))) tables)
 batch_layout e drawn tables = map (λ _. []) tables
 
 -- in the layout of a drawn pair, lookup k of instance t has the base of its bus, and beta, which is the same for all

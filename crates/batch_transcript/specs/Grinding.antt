@@ -66,22 +66,23 @@ module _ {S F E M : Type 0} (c : ChallengerOf S F E M) (f : Ring F) where
   PairRefusal s (suc n) bits (Some w) (LookupPowWitness b) = (b ≡ bits) × (value_passes s bits w ≡ false)
   PairRefusal s n bits w e = ⊥
 
--- the state that the verifier's refusals leave: behind the challenger's own test where that was made, else the old one
+-- the state that the verifier's refusals leave: after the challenger's own test where that was made, else the old one
 module _ {S F E M : Type 0} (c : ChallengerOf S F E M) where
-  abbrev pub behind_test : S → ℕ → F → S
-  behind_test s bits w = checked_state c.observe c.after_bits s bits w
+  abbrev pub after_test : S → ℕ → F → S
+  after_test s bits w = checked_state c.observe c.after_bits s bits w
 
   abbrev pub OodLeft : S → ℕ → F → S → BatchTranscriptFailure → Type 0
   OodLeft s bits w left NonCanonicalOodPowWitness = left ≡ s
-  OodLeft s bits w left (OodPowWitness b) = left ≡ behind_test s bits w
+  OodLeft s bits w left (OodPowWitness b) = left ≡ after_test s bits w
   OodLeft s bits w left e = ⊥
 
   abbrev pub PairLeft : S → ℕ → Option F → S → BatchTranscriptFailure → Type 0
-  PairLeft s bits (Some w) left (LookupPowWitness b) = left ≡ behind_test s bits w
+  PairLeft s bits (Some w) left (LookupPowWitness b) = left ≡ after_test s bits w
   PairLeft s bits None left (LookupPowWitness b) = ⊥
   PairLeft s bits w left e = left ≡ s
 
--- a prover's lookup phase fails only for want of a grinding value or of memory; a verifier's for a refusal or want of memory
+-- a prover's lookup phase fails only where no grinding value is found or memory runs out; a verifier's where a value is
+-- refused or memory runs out
 abbrev pub ProverFails : Type 0 → TranscriptError → Type 0
 ProverFails lacks WitnessNotFound = lacks
 ProverFails lacks (Failure e) = ⊥

@@ -2,7 +2,7 @@
 use Rattle.std.specs.Prelude.{◌≡◌, ℕ, true, List, [], ◌∷◌, ◌++◌, map, Vec}
 use Rattle.p3_challenger.specs.Script.{Played, ChallengerOf, Elements, play, passes, begun, steps_of}
 use Rattle.p3_challenger.specs.declared.script.Interaction.{Interaction}
-use Rattle.batch_transcript.specs.BatchScript.{Shape, Given, seeded, ground, is_positive, script_to_lookup, script_to_ood, script_to_opening, draws, draws_of}
+use Rattle.batch_transcript.specs.BatchScript.{BatchShapeData, Given, seeded, ground, is_positive, script_to_lookup, script_to_ood, script_to_opening, draws, draws_of}
 use Rattle.p3_field.specs.Ring.{Ring}
 
 -- the contents of vectors
@@ -13,7 +13,7 @@ lists vs = map (λ v. v.items) vs
 pub record Running (S : Type 0) : Type 0 where
   pub state : S
   pub remaining : List Interaction
-  pub shape : Shape
+  pub shape : BatchShapeData
 
 -- a phase played this script, and drew these challenges
 pub record Plays {S F E M : Type 0} (c : ChallengerOf S F E M) (script : List (Played F E M)) (old new : Running S) (drawn : List E) : Type 0 where
@@ -26,7 +26,7 @@ pub record Plays {S F E M : Type 0} (c : ChallengerOf S F E M) (script : List (P
 abbrev pub drawn_along : {S F E M : Type 0} → ChallengerOf S F E M → S → List (Played F E M) → List E
 drawn_along {E = E} c s script = (play c (begun E s) script).challenges
 
--- two phases one behind the other are one
+-- two phases one after the other are one
 abbrev pub PlaysChain : {S F E M : Type 0} → ChallengerOf S F E M → Type 0
 PlaysChain {S} {F} {E} {M} c = (ps qs : List (Played F E M)) (x y z : Running S) (ds es : List E) → Plays c ps x y ds → Plays c qs y z es → Plays c (ps ++ qs) x z (ds ++ es)
 
@@ -38,7 +38,7 @@ IsOneFold {S} {F} {E} {M} c =
 -- who plays the script as far as the opening, from the seeded state on, has drawn what `draws` says, and stands at its state at the opening
 abbrev pub TellsDraws : {S F E M : Type 0} → ChallengerOf S F E M → Ring F → Ring E → ℕ → Type 0
 TellsDraws {S} {F} {E} {M} c f r d =
-    (initial : S) (s : Shape) (g : Given F E M) (x y : Running S) (drawn : List E)
+    (initial : S) (s : BatchShapeData) (g : Given F E M) (x y : Running S) (drawn : List E)
     → x.state ≡ seeded c f d s initial
     → Plays c (script_to_opening r d s g) x y drawn
     → draws c f r d initial s g
@@ -46,11 +46,11 @@ TellsDraws {S} {F} {E} {M} c f r d =
 
 -- the answers that `draws` has of the two grinding tests are the challenger's own, at the states where the grinding phases begin: that of the
 -- lookups' value, where instances have lookups, and that of the value before zeta
-pub record TestsAreOwn {S F E M : Type 0} (c : ChallengerOf S F E M) (f : Ring F) (r : Ring E) (d : ℕ) (initial : S) (s : Shape) (g : Given F E M) : Type 0 where
+pub record TestsAreOwn {S F E M : Type 0} (c : ChallengerOf S F E M) (f : Ring F) (r : Ring E) (d : ℕ) (initial : S) (s : BatchShapeData) (g : Given F E M) : Type 0 where
   pub lookup : (x y : Running S) (drawn : List E) → x.state ≡ seeded c f d s initial → Plays c (script_to_lookup r d g) x y drawn
       → is_positive s.num_lookup_instances ≡ true → (draws c f r d initial s g).lookup_passed ≡ passes c y.state s.lookup_pow_bits (ground g.lookup_witness)
   pub ood : (x y : Running S) (drawn : List E) → x.state ≡ seeded c f d s initial → Plays c (script_to_ood r d s g) x y drawn
       → (draws c f r d initial s g).ood_passed ≡ passes c y.state s.ood_pow_bits (Elements (g.ood_witness ∷ []))
 
 abbrev pub TellsTests : {S F E M : Type 0} → ChallengerOf S F E M → Ring F → Ring E → ℕ → Type 0
-TellsTests {S} {F} {E} {M} c f r d = (initial : S) (s : Shape) (g : Given F E M) → TestsAreOwn c f r d initial s g
+TellsTests {S} {F} {E} {M} c f r d = (initial : S) (s : BatchShapeData) (g : Given F E M) → TestsAreOwn c f r d initial s g

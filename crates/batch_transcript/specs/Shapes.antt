@@ -3,10 +3,10 @@ use Rattle.std.specs.Prelude.{◌≡◌, ◌↔◌, ℕ, ◌<◌, ◌^◌, Bool,
 use Rattle.std.specs.Bool.{beq}
 use Rattle.std.specs.Ordering.{on, eq_of_both}
 use Rattle.std.specs.Cmp.Lexicographic.{pointwise}
-use Rattle.batch_transcript.specs.BatchScript.{Shape, pattern, instance_label, is_positive}
+use Rattle.batch_transcript.specs.BatchScript.{BatchShapeData, pattern, instance_label, is_positive}
 
 -- a shape within the bounds of the separator's numbers: one of each number per instance, and each below 2^64
-pub record IsWithin (s : Shape) : Type 0 where
+pub record IsShapeWithin (s : BatchShapeData) : Type 0 where
   pub publics : length s.public_value_counts ≡ length s.trace_widths
   pub preprocessed : length s.preprocessed_widths ≡ length s.trace_widths
   pub instances : length s.trace_widths < 2 ^ 64
@@ -14,7 +14,7 @@ pub record IsWithin (s : Shape) : Type 0 where
   pub preprocessed_fits : All (λ n. n < 2 ^ 64) s.preprocessed_widths
 
 -- two shapes are equal, but for the bits of a grinding that isn't there
-pub record AreSame (s t : Shape) : Type 0 where
+pub record AreSame (s t : BatchShapeData) : Type 0 where
   pub trace_widths : s.trace_widths ≡ t.trace_widths
   pub public_value_counts : s.public_value_counts ≡ t.public_value_counts
   pub preprocessed_widths : s.preprocessed_widths ≡ t.preprocessed_widths
@@ -26,10 +26,10 @@ pub record AreSame (s t : Shape) : Type 0 where
 
 -- within the bounds, pattern and instance label are equal exactly if the shapes are
 abbrev pub TellsShapes : ℕ → Type 0
-TellsShapes d = (s t : Shape) → IsWithin s → IsWithin t → ((pattern d s ≡ pattern d t) × (instance_label s ≡ instance_label t)) ↔ AreSame s t
+TellsShapes d = (s t : BatchShapeData) → IsShapeWithin s → IsShapeWithin t → ((pattern d s ≡ pattern d t) × (instance_label s ≡ instance_label t)) ↔ AreSame s t
 
 -- whether two shapes are equal, number by number
-abbrev pub shape_eq : Shape → Shape → Bool
+abbrev pub shape_eq : BatchShapeData → BatchShapeData → Bool
 shape_eq =
     eq_of_both (on (λ s. s.trace_widths) (pointwise nat_eq))
     (eq_of_both (on (λ s. s.public_value_counts) (pointwise nat_eq))

@@ -4,10 +4,10 @@ use Rattle.p3_field.specs.Ring.{Ring, of_nat}
 use Rattle.p3_challenger.specs.Elements.{PlayedElements, flat}
 use Rattle.p3_challenger.specs.declared.script.Interaction.{Interaction}
 use Rattle.p3_challenger.specs.declared.script.Hierarchy.TheVariants.{Begin, End}
-use Rattle.batch_transcript.specs.BatchScript.{Shape, Given, pattern, script, degree_bits_step, main_commitment_step, public_values_step, constraint_challenge_step, quotient_commitment_step, ood_pow_step, zeta_step, opening_step}
+use Rattle.batch_transcript.specs.BatchScript.{BatchShapeData, Given, pattern, script, degree_bits_step, main_commitment_step, public_values_step, constraint_challenge_step, quotient_commitment_step, ood_pow_step, zeta_step, opening_step}
 
 -- the shape of such a batch, and what its statement and proof give
-abbrev pub single_shape : (width public_values bits : ℕ) → Shape
+abbrev pub single_shape : (width public_values bits : ℕ) → BatchShapeData
 single_shape width public_values bits = record {
   trace_widths = width ∷ [];
   public_value_counts = public_values ∷ [];

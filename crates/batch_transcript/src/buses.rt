@@ -3,7 +3,7 @@
 ghost use Rattle.std.specs.Prelude.{◌≡◌, ℕ, ◌≤◌, ◌<◌, max, List, [], ◌∷◌, ◌++◌, map, flat_map, length, get_or, IfOk, OnOk, All};
 ghost use Rattle.std.specs.List.{fold};
 ghost use Rattle.std.specs.BTreeMap.{get_by_text};
-ghost use Rattle.p3_field.specs.Poly.{table};
+ghost use Rattle.p3_field.specs.Poly.{tabulate};
 ghost use Rattle.p3_lookup.specs.Written.{bus_of_kind, read, read_all};
 ghost use Rattle.p3_lookup.specs.Bus.{bus_number, bus_count, batch_buses, widest, widest_of};
 ghost use Rattle.p3_lookup.specs.Challenge.{challenges_with};
@@ -78,7 +78,7 @@ fn opener_place(
 
 /// The number of each lookup's bus: how many buses are opened before it. A lookup that opens none has the number of the one that opened its bus.
 fn bus_numbers(alloc: Global, kinds: &[Kind]) -> Mem<BusNumbers>
-    ensures { IfOk result (λ b. let buses = map bus_of_kind kinds.now in (b.numbers.items ≡ table (length buses) (bus_number buses)) × (b.count ≡ bus_count buses)) }
+    ensures { IfOk result (λ b. let buses = map bus_of_kind kinds.now in (b.numbers.items ≡ tabulate (length buses) (bus_number buses)) × (b.count ≡ bus_count buses)) }
 {
     let mut openers = BTreeMap::new(alloc);
     let mut numbers = Vec::new(alloc);
@@ -160,9 +160,9 @@ fn each_layout<F: Field, EF: Field>(
     numbers: &[usize],
     challenges: &Challenges<EF>,
 ) -> Mem<Vec<Vec<EF>>>
-    requires numbers { let buses = batch_buses (map read_all lookups.now) in numbers.now ≡ table (length buses) (bus_number buses) }
+    requires numbers { let buses = batch_buses (map read_all lookups.now) in numbers.now ≡ tabulate (length buses) (bus_number buses) }
     requires bases { length challenges.now.bus_prefix ≡ bus_count (batch_buses (map read_all lookups.now)) }
-    ensures { IfOk result (λ v. let tables = map read_all lookups.now in lists v.items ≡ table (length tables) (instance_challenges EF.ring challenges.now tables)) }
+    ensures { IfOk result (λ v. let tables = map read_all lookups.now in lists v.items ≡ tabulate (length tables) (instance_challenges EF.ring challenges.now tables)) }
 {
     let mut all = Vec::new(alloc);
     let mut start = 0;

@@ -5,7 +5,7 @@ use p3_challenger::{CanObserve, CanSample, GrindingChallenger};
 use p3_field::{ExtensionField, PrimeField64};
 
 /// A challenger that a batch can be played with: it observes elements of both fields and commitments, draws elements of both fields,
-/// and grinds elements of the base field (own). Each challenger with these parts has it.
+/// and grinds elements of the base field (not in Plonky3). Each challenger with these parts has it.
 ///
 /// `functions` gives its ghost functions as one record, of which the script's fold speaks.
 pub trait BatchChallenger<F, EF, Com> {

@@ -37,7 +37,7 @@ pub enum BatchTranscriptFailure {
     NonCanonicalOodPowWitness,
 }
 
-/// Which grinding it is that no element passes (own).
+/// Which grinding it is that no element passes (not in Plonky3).
 #[derive(Clone, Copy, Debug)]
 pub enum GrindStep {
     /// The one before the lookups' challenges.
@@ -46,7 +46,7 @@ pub enum GrindStep {
     Ood,
 }
 
-/// Why a phase of a transcript fails (own).
+/// Why a phase of a transcript fails (not in Plonky3).
 #[derive(Debug, Drop, Error)]
 pub enum TranscriptError {
     /// No element passes the grinding; from the prover's calls alone.
@@ -55,7 +55,7 @@ pub enum TranscriptError {
     /// A grinding value is refused; from the verifier's calls alone.
     #[error("{0}")]
     Failure(BatchTranscriptFailure),
-    /// Memory is wanting.
+    /// Memory ran out.
     #[error("out of memory")]
     OutOfMemory,
 }

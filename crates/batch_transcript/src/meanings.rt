@@ -2,7 +2,7 @@
 
 ghost use Rattle.std.specs.Prelude.{ℕ, ◌≡◌, ◌↔◌, List, true};
 ghost use Rattle.p3_challenger.specs.Script.{steps_of};
-ghost use Rattle.batch_transcript.specs.BatchScript.{Shape, Given, script, pattern};
+ghost use Rattle.batch_transcript.specs.BatchScript.{BatchShapeData, Given, script, pattern};
 ghost use Rattle.batch_transcript.specs.Shapes.{TellsShapes, shape_eq};
 ghost use Rattle.batch_transcript.specs.Running.{PlaysChain, IsOneFold, TellsDraws, TellsTests};
 ghost use Rattle.batch_transcript.specs.Fits.{FitsShape};
@@ -19,10 +19,10 @@ use p3_field::{BasedVectorSpace, ExtensionField, Field, PrimeField64, RingCore};
 /// lookup grinding where no instance has lookups. `==` of shapes is true exactly where they are equal.
 pub fn shapes_are_told()
     ensures told { (d : ℕ) → TellsShapes d }
-    ensures equality { (s t : Shape) → (shape_eq s t ≡ true) ↔ (s ≡ t) }
+    ensures equality { (s t : BatchShapeData) → (shape_eq s t ≡ true) ↔ (s ≡ t) }
 {}
 
-/// Prover's and verifier's transcripts are one fold: phases one behind the other are one, from equal states one script draws the same and leaves
+/// Prover's and verifier's transcripts are one fold: phases one after the other are one, from equal states one script draws the same and leaves
 /// equal states whoever plays it, and a whole run has drawn what `draws` says. Its two answers on grinding values are the challenger's own tests at the
 /// states where the grinding phases begin. The steps of a script are the pattern's, where its values fit the shape.
 pub fn transcripts_are_one_fold<
@@ -39,7 +39,7 @@ pub fn transcripts_are_one_fold<
     ensures fold { IsOneFold (⟦<C as BatchChallenger<F, EF, Com>>⟧.functions) }
     ensures draws { TellsDraws (⟦<C as BatchChallenger<F, EF, Com>>⟧.functions) F.ring EF.ring EF.DIMENSION }
     ensures tests { TellsTests (⟦<C as BatchChallenger<F, EF, Com>>⟧.functions) F.ring EF.ring EF.DIMENSION }
-    ensures steps { (s : Shape) (g : Given F EF Com) → FitsShape s g → steps_of (script EF.ring EF.DIMENSION s g) ≡ pattern EF.DIMENSION s }
+    ensures steps { (s : BatchShapeData) (g : Given F EF Com) → FitsShape s g → steps_of (script EF.ring EF.DIMENSION s g) ≡ pattern EF.DIMENSION s }
 {}
 
 /// In the layout of a drawn pair each lookup has the base of its bus and the one combiner, and two different lookups of a batch are on one bus
@@ -53,5 +53,5 @@ pub fn lookups_are_laid_out<F: Field, EF: Field>()
 /// base elements.
 pub fn single_batch<F: PrimeField64, EF: ExtensionField<F>, Com>()
     ensures steps { HasNineSteps EF.DIMENSION }
-    ensures values { HasNineValues Com EF.ring EF.parts EF.DIMENSION }
+    ensures values { HasNineValues Com EF.ring EF.coefficients EF.DIMENSION }
 {}

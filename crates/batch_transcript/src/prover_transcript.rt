@@ -6,7 +6,7 @@ ghost use Rattle.std.specs.Option.{option_copied, option_map_or};
 ghost use Rattle.p3_challenger.specs.States.{NextIs, IsStep, played};
 ghost use Rattle.p3_field.specs.Ring.{of_nat};
 ghost use Rattle.p3_lookup.specs.Written.{read_all};
-ghost use Rattle.batch_transcript.specs.BatchScript.{Shape, seeded, pattern, from_main, from_preprocessed, from_lookup, from_permutation, from_quotient, from_ood, from_opening, is_positive};
+ghost use Rattle.batch_transcript.specs.BatchScript.{BatchShapeData, seeded, pattern, from_main, from_preprocessed, from_lookup, from_permutation, from_quotient, from_ood, from_opening, is_positive};
 ghost use Rattle.batch_transcript.specs.BatchScript.{bindings_script, main_script, preprocessed_script, pair_script, permutation_script, quotient_script, ood_script, opening_script};
 ghost use Rattle.batch_transcript.specs.Grinding.{IsGround, NonePasses, IsPairGround, LacksPairGround, ProverFails};
 ghost use Rattle.batch_transcript.specs.Buses.{batch_layout};
@@ -58,13 +58,17 @@ impl<
         + CanSample<F>
         + CanSample<EF>,
 > BatchProverTranscript<C, F, EF, Com> {
-    /// A transcript before its first step: the challenger observes the separator of the shape. Where memory is wanting the challenger
+    /// A transcript before its first step: the challenger observes the separator of the shape. Where memory runs out the challenger
     /// is dropped.
     #[tactic(auto, unfolding(crate::specs::BatchScript::seeded, crate::specs::BatchScript::separator))]
     pub fn new(alloc: Global, challenger: C, shape: BatchShape) -> Mem<Self>
     where
         C: Drop,
-        ensures { IfOk result (λ t. t ≡ record { state = seeded (⟦<C as BatchChallenger<F, EF, Com>>⟧.functions) F.ring EF.DIMENSION shape challenger; remaining = pattern EF.DIMENSION shape; shape = shape }) }
+        ensures { IfOk result (λ t. t ≡ record {
+          state = seeded (⟦<C as BatchChallenger<F, EF, Com>>⟧.functions) F.ring EF.DIMENSION shape challenger;
+          remaining = pattern EF.DIMENSION shape;
+          shape = shape;
+        }) }
     {
         let separator = shape.domain_separator::<F, EF>(alloc)?;
         let state = ProverState::new::<F>(alloc, challenger, &separator)?;
@@ -126,10 +130,13 @@ impl<
     ) -> Result<(Vec<Vec<EF>>, Option<F>), TranscriptError>
         requires turn { self.old.remaining ≡ from_lookup EF.DIMENSION self.old.shape }
         requires few { 2 ^ self.old.shape.lookup_pow_bits < F.ORDER_U64 }
-        ensures ground { IfOk result (λ p. IsPairGround (⟦<C as BatchChallenger<F, EF, Com>>⟧.functions) F.ring F.canonical self.old.state self.old.shape.num_lookup_instances self.old.shape.lookup_pow_bits p.1) }
-        ensures refused { IfErr result (ProverFails (LacksPairGround (⟦<C as BatchChallenger<F, EF, Com>>⟧.functions) F.ring F.ORDER_U64 self.old.state self.old.shape.num_lookup_instances self.old.shape.lookup_pow_bits)) }
+        ensures ground { IfOk result (λ p. IsPairGround
+            (⟦<C as BatchChallenger<F, EF, Com>>⟧.functions) F.ring F.canonical self.old.state self.old.shape.num_lookup_instances self.old.shape.lookup_pow_bits p.1) }
+        ensures refused { IfErr result (ProverFails
+            (LacksPairGround (⟦<C as BatchChallenger<F, EF, Com>>⟧.functions) F.ring F.ORDER_U64 self.old.state self.old.shape.num_lookup_instances self.old.shape.lookup_pow_bits)) }
         ensures left { IfErr result (λ e. e ≡ TranscriptError.WitnessNotFound → self.new.state ≡ self.old.state) }
-        ensures memory { IfErr result (λ e. e ≡ TranscriptError.OutOfMemory → (w : Option F) × IsPairGround (⟦<C as BatchChallenger<F, EF, Com>>⟧.functions) F.ring F.canonical self.old.state self.old.shape.num_lookup_instances self.old.shape.lookup_pow_bits w) }
+        ensures memory { IfErr result (λ e. e ≡ TranscriptError.OutOfMemory → (w : Option F)
+            × IsPairGround (⟦<C as BatchChallenger<F, EF, Com>>⟧.functions) F.ring F.canonical self.old.state self.old.shape.num_lookup_instances self.old.shape.lookup_pow_bits w) }
         ensures plays { IfOk result (λ p. let script = pair_script EF.DIMENSION self.old.shape.num_lookup_instances self.old.shape.lookup_pow_bits p.1 in
             let c = ⟦<C as BatchChallenger<F, EF, Com>>⟧.functions in
             Plays c script self.old self.new (drawn_along c self.old.state script)

@@ -205,7 +205,7 @@ fn push_closing(
     push_bracket(steps, alloc, Hierarchy::End)
 }
 
-/// Numbers that fix the transcript of one batch, as Plonky3's `batch_transcript::BatchShape`. Contracts see a `Shape`.
+/// Numbers that fix the transcript of one batch, as Plonky3's `batch_transcript::BatchShape`. Contracts see a `BatchShapeData`.
 #[derive(Drop)]
 pub struct BatchShape {
     /// The trace width of each instance.
@@ -227,9 +227,9 @@ pub struct BatchShape {
 }
 
 impl Model for BatchShape {
-    ghost use Rattle.batch_transcript.specs.BatchScript.{Shape};
+    ghost use Rattle.batch_transcript.specs.BatchScript.{BatchShapeData};
 
-    ghost Value = { Shape };
+    ghost Value = { BatchShapeData };
 
     ghost view = { λ s. record {
       trace_widths = s.trace_widths.items;

@@ -6,7 +6,7 @@ ghost use Rattle.std.specs.Option.{option_copied, option_map_or};
 ghost use Rattle.p3_challenger.specs.States.{NextIs, IsStep, played};
 ghost use Rattle.p3_field.specs.Ring.{of_nat};
 ghost use Rattle.p3_lookup.specs.Written.{read_all};
-ghost use Rattle.batch_transcript.specs.BatchScript.{Shape, seeded, pattern, from_main, from_preprocessed, from_lookup, from_permutation, from_quotient, from_ood, from_opening, is_positive};
+ghost use Rattle.batch_transcript.specs.BatchScript.{BatchShapeData, seeded, pattern, from_main, from_preprocessed, from_lookup, from_permutation, from_quotient, from_ood, from_opening, is_positive};
 ghost use Rattle.batch_transcript.specs.BatchScript.{bindings_script, main_script, preprocessed_script, pair_script, permutation_script, quotient_script, ood_script, opening_script};
 ghost use Rattle.batch_transcript.specs.Grinding.{IsCanonicalAt, IsTaken, IsPairTaken, OodRefusal, PairRefusal, VerifierFails, OodLeft, PairLeft};
 ghost use Rattle.batch_transcript.specs.Buses.{batch_layout};
@@ -66,13 +66,17 @@ impl<
         + CanSample<F>
         + CanSample<EF>,
 > BatchVerifierTranscript<C, F, EF, Com> {
-    /// A transcript before its first step: the challenger observes the separator of the shape. Where memory is wanting the challenger
+    /// A transcript before its first step: the challenger observes the separator of the shape. Where memory runs out the challenger
     /// is dropped.
     #[tactic(auto, unfolding(crate::specs::BatchScript::seeded, crate::specs::BatchScript::separator))]
     pub fn new(alloc: Global, challenger: C, shape: BatchShape) -> Mem<Self>
     where
         C: Drop,
-        ensures { IfOk result (λ t. t ≡ record { state = seeded (⟦<C as BatchChallenger<F, EF, Com>>⟧.functions) F.ring EF.DIMENSION shape challenger; remaining = pattern EF.DIMENSION shape; shape = shape }) }
+        ensures { IfOk result (λ t. t ≡ record {
+          state = seeded (⟦<C as BatchChallenger<F, EF, Com>>⟧.functions) F.ring EF.DIMENSION shape challenger;
+          remaining = pattern EF.DIMENSION shape;
+          shape = shape;
+        }) }
     {
         let separator = shape.domain_separator::<F, EF>(alloc)?;
         let state = VerifierState::new::<F>(alloc, challenger, &separator)?;
@@ -124,7 +128,7 @@ impl<
     }
 
     /// Tests the grinding value, draws the lookups' pair, and lays it out for the buses of each instance's lookups, where instances
-    /// have lookups. A value that fails the test leaves the challenger behind that test, and any other refusal as it was.
+    /// have lookups. A value that fails the test leaves the challenger after that test, and any other refusal as it was.
     #[tactic(auto, unfolding(crate::specs::BatchScript::from_lookup, crate::specs::BatchScript::pair_script, p3_challenger::specs::Script::play), using(crate::specs::Laws::Phases::pair_cases))]
     pub fn lookup_phase<LG: LookupProtocol>(
         &mut self,
@@ -135,10 +139,13 @@ impl<
     ) -> Result<Vec<Vec<EF>>, TranscriptError>
         requires turn { self.old.remaining ≡ from_lookup EF.DIMENSION self.old.shape }
         requires few { 2 ^ self.old.shape.lookup_pow_bits < F.ORDER_U64 }
-        ensures taken { IfOk result (λ _. IsPairTaken (⟦<C as BatchChallenger<F, EF, Com>>⟧.functions) F.ring self.old.state self.old.shape.num_lookup_instances self.old.shape.lookup_pow_bits witness) }
-        ensures refused { IfErr result (VerifierFails (PairRefusal (⟦<C as BatchChallenger<F, EF, Com>>⟧.functions) F.ring self.old.state self.old.shape.num_lookup_instances self.old.shape.lookup_pow_bits witness)) }
+        ensures taken { IfOk result (λ _. IsPairTaken
+            (⟦<C as BatchChallenger<F, EF, Com>>⟧.functions) F.ring self.old.state self.old.shape.num_lookup_instances self.old.shape.lookup_pow_bits witness) }
+        ensures refused { IfErr result (VerifierFails
+            (PairRefusal (⟦<C as BatchChallenger<F, EF, Com>>⟧.functions) F.ring self.old.state self.old.shape.num_lookup_instances self.old.shape.lookup_pow_bits witness)) }
         ensures left { IfErr result (VerifierFails (PairLeft (⟦<C as BatchChallenger<F, EF, Com>>⟧.functions) self.old.state self.old.shape.lookup_pow_bits witness self.new.state)) }
-        ensures memory { IfErr result (λ e. e ≡ TranscriptError.OutOfMemory → IsPairTaken (⟦<C as BatchChallenger<F, EF, Com>>⟧.functions) F.ring self.old.state self.old.shape.num_lookup_instances self.old.shape.lookup_pow_bits witness) }
+        ensures memory { IfErr result (λ e. e ≡ TranscriptError.OutOfMemory
+            → IsPairTaken (⟦<C as BatchChallenger<F, EF, Com>>⟧.functions) F.ring self.old.state self.old.shape.num_lookup_instances self.old.shape.lookup_pow_bits witness) }
         ensures plays { IfOk result (λ v. let script = pair_script EF.DIMENSION self.old.shape.num_lookup_instances self.old.shape.lookup_pow_bits witness in
             let c = ⟦<C as BatchChallenger<F, EF, Com>>⟧.functions in
             Plays c script self.old self.new (drawn_along c self.old.state script)
@@ -200,7 +207,7 @@ impl<
         }
     }
 
-    /// Tests the grinding value, and draws zeta. A value that fails the test leaves the challenger behind that test; the other refusal
+    /// Tests the grinding value, and draws zeta. A value that fails the test leaves the challenger after that test; the other refusal
     /// leaves it as it was.
     #[tactic(auto, unfolding(crate::specs::BatchScript::from_ood, crate::specs::BatchScript::ood_script, p3_challenger::specs::Script::play))]
     pub fn ood_phase(&mut self, witness: F) -> Result<EF, BatchTranscriptFailure>

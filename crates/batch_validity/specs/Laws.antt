@@ -1,5 +1,5 @@
 -- What is proved of the definitions, by subject.
 pub mod Columns
 pub mod Committed
-pub mod Held
+pub mod Holding
 pub mod Made

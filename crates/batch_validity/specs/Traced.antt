@@ -2,20 +2,20 @@
 use Rattle.std.specs.Prelude.{slice_index_or as get_or}
 use Rattle.std.specs.Prelude.{ℕ, ◌+◌, ◌-◌, ◌^◌, List, [], length}
 use Rattle.std.specs.List.{flat_map}
-use Rattle.p3_field.specs.Poly.{table}
+use Rattle.p3_field.specs.Poly.{tabulate}
 use Rattle.p3_field.specs.Domain.{CosetData}
 use Rattle.p3_field.specs.Laws.SubgroupSelectors.{subgroup}
 use Rattle.p3_matrix.specs.Matrix.{Rows}
-use Rattle.p3_air.specs.Check.{Table as Traces, row_of, table_of}
-use Rattle.p3_air.specs.RowCheck.{value_at}
+use Rattle.p3_air.specs.Check.{TableTraces as Traces, table_row, table_traces}
+use Rattle.p3_air.specs.RowCheck.{tree_value_at_row}
 use Rattle.p3_air.specs.Shape.{Declaration}
 use Rattle.p3_air.specs.Tree.{Tree}
-use Rattle.p3_lookup.specs.Batch.{BatchTable}
+use Rattle.p3_lookup.specs.Batch.{SendingTable}
 use Rattle.p3_lookup.specs.Lookup.{LookupData}
 use Rattle.batch_constraints.specs.BatchTrees.{table_trees}
 use Rattle.batch_setting.specs.Domains.{offered}
 use Rattle.batch_setting.specs.Setting.{Setting, masks}
-use Rattle.batch_statement.specs.Statement.{Statement, Table}
+use Rattle.batch_statement.specs.Statement.{Statement, AirTable}
 use Rattle.batch_shape_checks.specs.ShapeChecks.{chunks_of_table, no_table}
 use Rattle.batch_setup.specs.Preprocessed.{on_domain}
 use Rattle.committed_tables.specs.Committed.{CommittedTable}
@@ -23,7 +23,7 @@ use Rattle.committed_tables.specs.Traces.{committed_traces}
 
 -- a table to be proved: its AIR's declaration and constraints, its lookups, its public values, its trace, and its degree bits
 pub record TracedTable (F : Type 0) : Type 0 where
-  pub table : Table F
+  pub table : AirTable F
   pub lookups : List (LookupData F)
   pub publics : List F
   pub trace : Rows F
@@ -33,7 +33,7 @@ pub record TracedTable (F : Type 0) : Type 0 where
 abbrev pub no_rows : {A : Type 0} → Rows A
 no_rows = record { values = []; width = 0 }
 
--- table i of a statement with traces and degree bits; behind the end of a list stands what is never read
+-- table i of a statement with traces and degree bits; past the end of a list stands what is never read
 abbrev pub traced_at : {F C : Type 0} → Statement F C → (traces : List (Rows F)) → (degree_bits : List ℕ) → ℕ → TracedTable F
 traced_at s traces degree_bits i = record {
   table = get_or s.tables i no_table;
@@ -44,14 +44,14 @@ traced_at s traces degree_bits i = record {
 }
 
 abbrev pub all_traced : {F C : Type 0} → Statement F C → (traces : List (Rows F)) → (degree_bits : List ℕ) → List (TracedTable F)
-all_traced s traces degree_bits = table (length s.tables) (traced_at s traces degree_bits)
+all_traced s traces degree_bits = tabulate (length s.tables) (traced_at s traces degree_bits)
 
 -- its declaration, and its trace with the AIR's preprocessed trace and periodic columns and with its public values
 abbrev pub declared : {F : Type 0} → TracedTable F → Declaration F
 declared t = t.table.declaration
 
 abbrev pub traces_of : {F : Type 0} → TracedTable F → Traces F
-traces_of t = table_of t.trace (declared t).preprocessed (declared t).periodic t.publics
+traces_of t = table_traces t.trace (declared t).preprocessed (declared t).periodic t.publics
 
 module _ {S F E C : Type 0} (c : Setting S F E C) (t : TracedTable F) where
   -- all its constraints: the AIR's, and those of its lookups
@@ -75,11 +75,11 @@ module _ {S F E C : Type 0} (c : Setting S F E C) (t : TracedTable F) where
   committed_alone = committed_with no_rows [] []
 
   -- the table as far as it sends: its lookups, its rows, and the value of a tree in each
-  abbrev pub sender : BatchTable F
+  abbrev pub sender : SendingTable F
   sender = record {
     lookups = t.lookups;
     rows = 2 ^ log_rows;
-    value = λ row tree. value_at c.field.ring c.field.ring (λ x. x) (row_of c.field.ring.zero (table_of t.trace (declared t).preprocessed [] t.publics) row) tree;
+    value = λ row tree. tree_value_at_row c.field.ring c.field.ring (λ x. x) (table_row c.field.ring.zero (table_traces t.trace (declared t).preprocessed [] t.publics) row) tree;
   }
 
 -- the preprocessed traces of tables, in order, each on the subgroup of its degree bits

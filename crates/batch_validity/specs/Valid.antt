@@ -4,9 +4,9 @@ use Rattle.std.specs.Prelude.{◌≡◌, ℕ, ◌+◌, ◌^◌, ◌<◌, ◌≤�
 use Rattle.p3_field.specs.Domain.{CosetData}
 use Rattle.p3_matrix.specs.Matrix.{Rows}
 use Rattle.p3_lookup.specs.Batch.{senders}
-use Rattle.p3_lookup.specs.Bound.{AreBounded}
+use Rattle.p3_lookup.specs.Bound.{HaveLoadsBelow}
 use Rattle.p3_lookup.specs.Messages.{IsBalanced, batch_messages}
-use Rattle.batch_claims.specs.ClaimChecks.{HasBits}
+use Rattle.batch_claims.specs.ClaimChecks.{HasDegreeBits}
 use Rattle.batch_constraints.specs.Fitting.{FitsChunks}
 use Rattle.batch_constraints.specs.Sizing.{periods_of}
 use Rattle.batch_setting.specs.Setting.{Setting, masks}
@@ -14,11 +14,11 @@ use Rattle.batch_shape_checks.specs.ShapeChecks.{HasEntries, heights_of}
 use Rattle.batch_statement.specs.Statement.{PreprocessedTracesData, Statement, WellFormed, entry_of}
 use Rattle.committed_tables.specs.Committed.{Holds}
 use Rattle.committed_tables.specs.Quotient.{IsQuotientDomain}
-use Rattle.committed_tables.specs.Traces.{HaveRows}
+use Rattle.committed_tables.specs.Traces.{HaveTraceRows}
 use Rattle.batch_validity.specs.Traced.{TracedTable, all_traced, committed_alone, constraints, declared, log_parts, log_rows, no_rows, preprocessed_matrices, quotient_shift, sender, traced_at, traces_of}
 
 -- each list has an item for each table
-pub record AreListed {F C : Type 0} (s : Statement F C) (traces : List (Rows F)) (degree_bits : List ℕ) : Type 0 where
+pub record ListsEachTable {F C : Type 0} (s : Statement F C) (traces : List (Rows F)) (degree_bits : List ℕ) : Type 0 where
   pub publics_long : length s.publics ≡ length s.tables
   pub lookups_long : length s.common.lookups ≡ length s.tables
   pub entries_long : HasEntries (length s.tables) s.common.preprocessed
@@ -37,7 +37,7 @@ module _ {S F E C : Type 0} (c : Setting S F E C) where
     pub width : t.trace.width ≡ (declared t).width
     pub some : 0 < (declared t).width
     -- its traces have a number of rows that is a power of two, by its degree bits, and each periodic column fits them;
-    pub rows : HaveRows {E = E} (2 ^ log_rows c t) (traces_of t) no_rows
+    pub rows : HaveTraceRows {E = E} (2 ^ log_rows c t) (traces_of t) no_rows
     -- the degree bits lie in the backend's bounds;
     pub least : c.log_min + masks c ≤ t.degree_bits
     pub most : t.degree_bits ≤ c.log_max
@@ -65,10 +65,10 @@ module _ {S F E C : Type 0} (c : Setting S F E C) where
   pub record IsTracedBatch (commitment_of : List (CosetData F × Rows F) → C) (s : Statement F C) (traces : List (Rows F)) (degree_bits : List ℕ) : Type 0 where
     -- The common data is well-formed, and each list has an item for each table;
     pub formed : WellFormed (map (λ t. t.declaration) s.tables) s.common
-    pub lists : AreListed s traces degree_bits
+    pub lists : ListsEachTable s traces degree_bits
     -- the preprocessed commitment is that to the AIRs' preprocessed traces, and each entry has its table's degree bits;
     pub committed : CommitsToMatrices commitment_of (preprocessed_matrices c.field.ring.one (all_traced s traces degree_bits)) s.common.preprocessed
-    pub entries : (i : ℕ) → i < length s.tables → HasBits (traced_at s traces degree_bits i).degree_bits (entry_of s.common.preprocessed i)
+    pub entries : (i : ℕ) → i < length s.tables → HasDegreeBits (traced_at s traces degree_bits i).degree_bits (entry_of s.common.preprocessed i)
     -- each table is traced, and there are the quotients' domains
     pub traced : (i : ℕ) → i < length s.tables → IsTraced (traced_at s traces degree_bits i)
     pub domains : (i : ℕ) → i < length s.tables → HasQuotientDomain (traced_at s traces degree_bits i)
@@ -81,5 +81,5 @@ module _ {S F E C : Type 0} (c : Setting S F E C) where
     pub holds : (i : ℕ) → i < length s.tables → OwnHold (traced_at s traces degree_bits i)
     pub fits : (i : ℕ) → i < length s.tables → AllFit (traced_at s traces degree_bits i)
     -- no bus may carry counts that add up to the order of the field, and all are balanced
-    pub bounded : AreBounded c.order s.common.lookups (heights_of (masks c) degree_bits (length s.tables))
+    pub bounded : HaveLoadsBelow c.order s.common.lookups (heights_of (masks c) degree_bits (length s.tables))
     pub balanced : AreBalanced eq (all_traced s traces degree_bits)

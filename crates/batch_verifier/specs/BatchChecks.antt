@@ -2,7 +2,7 @@
 use Rattle.std.specs.Prelude.{ℕ, List, ◌++◌, length}
 use Rattle.p3_field.specs.Checks.{Check, NoneFails, FirstFails, in_turn}
 use Rattle.p3_field.specs.Domain.{CosetData}
-use Rattle.p3_field.specs.Poly.{table}
+use Rattle.p3_field.specs.Poly.{tabulate}
 use Rattle.batch_transcript.specs.BatchScript.{Draws}
 use Rattle.batch_setting.specs.Domains.{chunk_domains}
 use Rattle.batch_setting.specs.Setting.{Setting, Backend, masks}
@@ -12,7 +12,7 @@ use Rattle.batch_statement.specs.declared.error.BatchVerificationError.{BatchVer
 use Rattle.batch_shape_checks.specs.ShapeChecks.{shape_checks}
 use Rattle.batch_draws.specs.Draws.{drawn, grinding_checks, table_challenges}
 use Rattle.batch_claims.specs.Claims.{bits_at}
-use Rattle.batch_openings.specs.OpeningChecks.{bounds_of, log_chunks, opening_checks}
+use Rattle.batch_openings.specs.OpeningChecks.{shape_bounds_of, log_chunks_of_table, opening_checks}
 use Rattle.batch_identity_checks.specs.TableIdentity.{identity_at, terminal_check}
 
 -- of a configuration with its backend, and of a statement and a proof
@@ -25,12 +25,12 @@ module _ {S F E C P : Type 0} (c : Setting S F E C) (s : Statement F C) (p : Pro
   abbrev pub table_challenges_of : ℕ → List E
   table_challenges_of i = table_challenges c.extension.ring drawn_of s i
 
-  abbrev pub challenges_of : List (List E)
-  challenges_of = table (length s.tables) table_challenges_of
+  abbrev pub all_lookup_challenges : List (List E)
+  all_lookup_challenges = tabulate (length s.tables) table_challenges_of
 
   -- the domains of the chunks of each table's quotient
   abbrev pub domains_of : List (List (CosetData F))
-  domains_of = table (length s.tables) (λ i. chunk_domains c (bits_at p.degree_bits i) (log_chunks c s p i))
+  domains_of = tabulate (length s.tables) (λ i. chunk_domains c (bits_at p.degree_bits i) (log_chunks_of_table c s p i))
 
   -- the checks of the grinding values
   abbrev pub draw_part : {R : Type 0} → List (Check (BatchVerificationError R))
@@ -43,13 +43,13 @@ module _ {S F E C P : Type 0} (c : Setting S F E C) (s : Statement F C) (p : Pro
 
   -- those of each table at the drawn point
   abbrev pub identity_part : {R : Type 0} → List (Check (BatchVerificationError R))
-  identity_part = in_turn (length s.tables) (identities_at challenges_of domains_of drawn_of.alpha drawn_of.zeta)
+  identity_part = in_turn (length s.tables) (identities_at all_lookup_challenges domains_of drawn_of.alpha drawn_of.zeta)
 
 -- All checks in order: the proof's shape; the grinding values; what is opened, at the drawn point and in the challenger's state there; each table's
 -- identity; and the terminals' sum.
 unfoldable pub checks : {S F E C P R : Type 0} → Setting S F E C → Backend S F E C P R → Statement F C → ProofData F E C P → List (Check (BatchVerificationError R))
 checks c b s p =
-    shape_checks c.field.ring (bounds_of c) s p
+    shape_checks c.field.ring (shape_bounds_of c) s p
     ++ draw_part c s p
     ++ opening_checks c b s p (drawn_of c s p).zeta (drawn_of c s p).opening
     ++ identity_part c s p

@@ -21,7 +21,8 @@ pub fn there_is_one_verdict<SC: StarkGenericConfig>()
     ensures single { (config : SC) (s : Statement SC.Val SC.Pcs.Commitment) (p : ProofData SC.Val SC.Challenge SC.Pcs.Commitment SC.Pcs.Proof)
         → AreSingle (checks (⟦<SC as Settings>⟧.setting config) (⟦<SC as Settings>⟧.backend config) s p) }
     ensures one { (config : SC) (s : Statement SC.Val SC.Pcs.Commitment) (p : ProofData SC.Val SC.Challenge SC.Pcs.Commitment SC.Pcs.Proof) (d e : Option (BatchVerificationError SC.Pcs.Error))
-        → FirstRefusal (checks (⟦<SC as Settings>⟧.setting config) (⟦<SC as Settings>⟧.backend config) s p) d → FirstRefusal (checks (⟦<SC as Settings>⟧.setting config) (⟦<SC as Settings>⟧.backend config) s p) e → d ≡ e }
+        → FirstRefusal (checks (⟦<SC as Settings>⟧.setting config) (⟦<SC as Settings>⟧.backend config) s p) d
+        → FirstRefusal (checks (⟦<SC as Settings>⟧.setting config) (⟦<SC as Settings>⟧.backend config) s p) e → d ≡ e }
     ensures some { (config : SC) (s : Statement SC.Val SC.Pcs.Commitment) (p : ProofData SC.Val SC.Challenge SC.Pcs.Commitment SC.Pcs.Proof)
         → ((e : Option (BatchVerificationError SC.Pcs.Error)) → FirstRefusal (checks (⟦<SC as Settings>⟧.setting config) (⟦<SC as Settings>⟧.backend config) s p) e → ⊥) → ⊥ }
     ensures named { (config : SC) (s : Statement SC.Val SC.Pcs.Commitment) (p : ProofData SC.Val SC.Challenge SC.Pcs.Commitment SC.Pcs.Proof)

@@ -1,15 +1,15 @@
 //! The parts of a batch's verification, over a configuration.
 ghost use Rattle.std.specs.Prelude.{◌≡◌, ℕ, ◌+◌, ◌<◌, ◌≤◌, length, map, IfOk, IfErr};
 ghost use Rattle.p3_field.specs.Checks.{NoneFails, in_turn};
-ghost use Rattle.p3_field.specs.Poly.{table};
+ghost use Rattle.p3_field.specs.Poly.{tabulate};
 ghost use Rattle.batch_claims.specs.Claims.{bits_at};
-ghost use Rattle.batch_openings.specs.OpeningChecks.{bounds_of, log_chunks};
+ghost use Rattle.batch_openings.specs.OpeningChecks.{shape_bounds_of, log_chunks_of_table};
 ghost use Rattle.batch_setting.specs.Domains.{chunk_domains};
 ghost use Rattle.batch_setting.specs.Setting.{masks as masks_of};
-ghost use Rattle.batch_shape_checks.specs.ShapeChecks.{bounds_with, count_checks, shape_checks, stated};
+ghost use Rattle.batch_shape_checks.specs.ShapeChecks.{bounds_with, count_checks, shape_checks, statement_with};
 ghost use Rattle.batch_shape_checks.specs.Verdict.{IsVerdict};
 ghost use Rattle.batch_statement.specs.Statement.{WellFormed, read_common, tables_of};
-ghost use Rattle.batch_verifier.specs.BatchChecks.{challenges_of, draw_part, drawn_of, identities_at, table_challenges_of};
+ghost use Rattle.batch_verifier.specs.BatchChecks.{all_lookup_challenges, draw_part, drawn_of, identities_at, table_challenges_of};
 
 use batch_draws::{Drawn, check_draws};
 use batch_identity_checks::check_identities;
@@ -28,7 +28,7 @@ use std::alloc::Global;
 
 // The numbers of a configuration that a proof's shape depends on.
 fn shape_bounds<SC: StarkGenericConfig>(config: &SC) -> ShapeBounds
-    ensures bounds { bounds_with SC.Val.ORDER_U64 result ≡ bounds_of (⟦<SC as Settings>⟧.setting config.now) }
+    ensures bounds { bounds_with SC.Val.ORDER_U64 result ≡ shape_bounds_of (⟦<SC as Settings>⟧.setting config.now) }
     ensures zk { result.zk ≡ SC.Pcs.ZK }
     ensures masks { result.masks ≡ masks_of (⟦<SC as Settings>⟧.setting config.now) }
     ensures dimension { result.dimension ≡ SC.Challenge.DIMENSION }
@@ -57,10 +57,12 @@ pub(crate) fn check_batch_shape<SC: StarkGenericConfig, A: Air<Val<SC>>>(
     common: &CommonData<SC>,
 ) -> Result<Vec<usize>, BatchVerificationError<PcsError<SC>>>
     requires { WellFormed (map A.declaration airs.now) (read_common common.now) }
-    ensures verdict { IsVerdict (shape_checks SC.Val.ring (bounds_of (⟦<SC as Settings>⟧.setting config.now)) (stated (tables_of A.declaration A.trees airs.now) (map (λ v. v.items) public_values.now) common.now) proof.now) result }
-    ensures chunks { let s = stated (tables_of A.declaration A.trees airs.now) (map (λ v. v.items) public_values.now) common.now in
-        IfOk result (λ v. v.items ≡ table (length airs.now) (log_chunks (⟦<SC as Settings>⟧.setting config.now) s proof.now)) }
-    ensures memory { IfErr result (λ e. e ≡ BatchVerificationError.OutOfMemory → NoneFails (count_checks {R = SC.Pcs.Error} SC.Pcs.ZK (stated (tables_of A.declaration A.trees airs.now) (map (λ v. v.items) public_values.now) common.now) proof.now)) }
+    ensures verdict { IsVerdict (shape_checks SC.Val.ring (shape_bounds_of (⟦<SC as Settings>⟧.setting config.now))
+        (statement_with (tables_of A.declaration A.trees airs.now) (map (λ v. v.items) public_values.now) common.now) proof.now) result }
+    ensures chunks { let s = statement_with (tables_of A.declaration A.trees airs.now) (map (λ v. v.items) public_values.now) common.now in
+        IfOk result (λ v. v.items ≡ tabulate (length airs.now) (log_chunks_of_table (⟦<SC as Settings>⟧.setting config.now) s proof.now)) }
+    ensures memory { IfErr result (λ e. e ≡ BatchVerificationError.OutOfMemory
+        → NoneFails (count_checks {R = SC.Pcs.Error} SC.Pcs.ZK (statement_with (tables_of A.declaration A.trees airs.now) (map (λ v. v.items) public_values.now) common.now) proof.now)) }
 {
     check_shape(
         alloc,
@@ -81,13 +83,18 @@ pub(crate) fn check_batch_draws<SC: StarkGenericConfig, A: Air<Val<SC>>>(
     public_values: &[Vec<Val<SC>>],
     common: &CommonData<SC>,
 ) -> Result<Drawn<Challenge<SC>, Challenger<SC>>, BatchVerificationError<PcsError<SC>>>
-    requires { NoneFails (shape_checks {R = SC.Pcs.Error} SC.Val.ring (bounds_of (⟦<SC as Settings>⟧.setting config.now)) (stated (tables_of A.declaration A.trees airs.now) (map (λ v. v.items) public_values.now) common.now) proof.now) }
-    ensures verdict { IsVerdict (draw_part (⟦<SC as Settings>⟧.setting config.now) (stated (tables_of A.declaration A.trees airs.now) (map (λ v. v.items) public_values.now) common.now) proof.now) result }
-    ensures challenges { let s = stated (tables_of A.declaration A.trees airs.now) (map (λ v. v.items) public_values.now) common.now in
-        IfOk result (λ d. map (λ v. v.items) d.challenges.items ≡ table (length airs.now) (table_challenges_of (⟦<SC as Settings>⟧.setting config.now) s proof.now)) }
-    ensures alpha { IfOk result (λ d. d.alpha ≡ (drawn_of (⟦<SC as Settings>⟧.setting config.now) (stated (tables_of A.declaration A.trees airs.now) (map (λ v. v.items) public_values.now) common.now) proof.now).alpha) }
-    ensures zeta { IfOk result (λ d. d.zeta ≡ (drawn_of (⟦<SC as Settings>⟧.setting config.now) (stated (tables_of A.declaration A.trees airs.now) (map (λ v. v.items) public_values.now) common.now) proof.now).zeta) }
-    ensures state { IfOk result (λ d. d.challenger ≡ (drawn_of (⟦<SC as Settings>⟧.setting config.now) (stated (tables_of A.declaration A.trees airs.now) (map (λ v. v.items) public_values.now) common.now) proof.now).opening) }
+    requires { NoneFails (shape_checks {R = SC.Pcs.Error} SC.Val.ring (shape_bounds_of (⟦<SC as Settings>⟧.setting config.now))
+        (statement_with (tables_of A.declaration A.trees airs.now) (map (λ v. v.items) public_values.now) common.now) proof.now) }
+    ensures verdict { IsVerdict (draw_part (⟦<SC as Settings>⟧.setting config.now)
+        (statement_with (tables_of A.declaration A.trees airs.now) (map (λ v. v.items) public_values.now) common.now) proof.now) result }
+    ensures challenges { let s = statement_with (tables_of A.declaration A.trees airs.now) (map (λ v. v.items) public_values.now) common.now in
+        IfOk result (λ d. map (λ v. v.items) d.challenges.items ≡ tabulate (length airs.now) (table_challenges_of (⟦<SC as Settings>⟧.setting config.now) s proof.now)) }
+    ensures alpha { IfOk result (λ d. d.alpha
+        ≡ (drawn_of (⟦<SC as Settings>⟧.setting config.now) (statement_with (tables_of A.declaration A.trees airs.now) (map (λ v. v.items) public_values.now) common.now) proof.now).alpha) }
+    ensures zeta { IfOk result (λ d. d.zeta
+        ≡ (drawn_of (⟦<SC as Settings>⟧.setting config.now) (statement_with (tables_of A.declaration A.trees airs.now) (map (λ v. v.items) public_values.now) common.now) proof.now).zeta) }
+    ensures state { IfOk result (λ d. d.challenger
+        ≡ (drawn_of (⟦<SC as Settings>⟧.setting config.now) (statement_with (tables_of A.declaration A.trees airs.now) (map (λ v. v.items) public_values.now) common.now) proof.now).opening) }
 {
     check_draws(
         alloc,
@@ -116,16 +123,18 @@ pub(crate) fn check_batch_identities<SC: StarkGenericConfig, A: Air<Val<SC>>>(
     zeta: Challenge<SC>,
 ) -> Result<(), BatchVerificationError<PcsError<SC>>>
     requires formed { WellFormed (map A.declaration airs.now) (read_common common.now) }
-    requires shape { NoneFails (shape_checks {R = SC.Pcs.Error} SC.Val.ring (bounds_of (⟦<SC as Settings>⟧.setting config.now)) (stated (tables_of A.declaration A.trees airs.now) (map (λ v. v.items) public_values.now) common.now) proof.now) }
-    requires challenges { let s = stated (tables_of A.declaration A.trees airs.now) (map (λ v. v.items) public_values.now) common.now in
-        map (λ v. v.items) challenges.now ≡ table (length airs.now) (table_challenges_of (⟦<SC as Settings>⟧.setting config.now) s proof.now) }
+    requires shape { NoneFails (shape_checks {R = SC.Pcs.Error} SC.Val.ring (shape_bounds_of (⟦<SC as Settings>⟧.setting config.now))
+        (statement_with (tables_of A.declaration A.trees airs.now) (map (λ v. v.items) public_values.now) common.now) proof.now) }
+    requires challenges { let s = statement_with (tables_of A.declaration A.trees airs.now) (map (λ v. v.items) public_values.now) common.now in
+        map (λ v. v.items) challenges.now ≡ tabulate (length airs.now) (table_challenges_of (⟦<SC as Settings>⟧.setting config.now) s proof.now) }
     requires domains { let c = ⟦<SC as Settings>⟧.setting config.now in
-        let s = stated (tables_of A.declaration A.trees airs.now) (map (λ v. v.items) public_values.now) common.now in
-        map (λ v. v.items) domains.now ≡ table (length airs.now) (λ i. chunk_domains c (bits_at proof.now.degree_bits i) (log_chunks c s proof.now i)) }
-    requires fits { let s = stated (tables_of A.declaration A.trees airs.now) (map (λ v. v.items) public_values.now) common.now in
-        (i : ℕ) → i < length airs.now → bits_at proof.now.degree_bits i + log_chunks (⟦<SC as Settings>⟧.setting config.now) s proof.now i ≤ SC.Val.TWO_ADICITY }
-    ensures { let s = stated (tables_of A.declaration A.trees airs.now) (map (λ v. v.items) public_values.now) common.now in
-        IsVerdict (in_turn (length airs.now) (identities_at (⟦<SC as Settings>⟧.setting config.now) s proof.now (map (λ v. v.items) challenges.now) (map (λ v. v.items) domains.now) alpha zeta)) result }
+        let s = statement_with (tables_of A.declaration A.trees airs.now) (map (λ v. v.items) public_values.now) common.now in
+        map (λ v. v.items) domains.now ≡ tabulate (length airs.now) (λ i. chunk_domains c (bits_at proof.now.degree_bits i) (log_chunks_of_table c s proof.now i)) }
+    requires fits { let s = statement_with (tables_of A.declaration A.trees airs.now) (map (λ v. v.items) public_values.now) common.now in
+        (i : ℕ) → i < length airs.now → bits_at proof.now.degree_bits i + log_chunks_of_table (⟦<SC as Settings>⟧.setting config.now) s proof.now i ≤ SC.Val.TWO_ADICITY }
+    ensures { let s = statement_with (tables_of A.declaration A.trees airs.now) (map (λ v. v.items) public_values.now) common.now in
+        IsVerdict (in_turn (length airs.now)
+        (identities_at (⟦<SC as Settings>⟧.setting config.now) s proof.now (map (λ v. v.items) challenges.now) (map (λ v. v.items) domains.now) alpha zeta)) result }
 {
     check_identities(
         alloc,

@@ -2,7 +2,7 @@
 ghost use Rattle.std.specs.Prelude.{◌≡◌, map, IfErr};
 ghost use Rattle.p3_field.specs.Checks.{NoneFails};
 ghost use Rattle.batch_statement.specs.Statement.{WellFormed, read_common, tables_of};
-ghost use Rattle.batch_shape_checks.specs.ShapeChecks.{count_checks, stated};
+ghost use Rattle.batch_shape_checks.specs.ShapeChecks.{count_checks, statement_with};
 ghost use Rattle.batch_shape_checks.specs.Verdict.{IsVerdict};
 ghost use Rattle.batch_verifier.specs.BatchChecks.{checks};
 
@@ -47,6 +47,8 @@ use std::alloc::Global;
 ///
 /// Out of memory may come in place of any answer, but only where the first two checks hold (`memory`).
 ///
+/// The tables' heights are the proof's own degree bits: a caller that expects heights compares `degree_bits` with them.
+///
 /// The shared data is well-formed for the AIRs (test: `fits`). Nothing is asked of the proof: whatever its lists' lengths and
 /// numbers are, there is an answer.
 pub fn verify_batch<SC: StarkGenericConfig, A: Air<Val<SC>>>(
@@ -58,8 +60,10 @@ pub fn verify_batch<SC: StarkGenericConfig, A: Air<Val<SC>>>(
     common: &CommonData<SC>,
 ) -> Result<(), BatchVerificationError<PcsError<SC>>>
     requires { WellFormed (map A.declaration airs.now) (read_common common.now) }
-    ensures verdict { IsVerdict (checks (⟦<SC as Settings>⟧.setting config.now) (⟦<SC as Settings>⟧.backend config.now) (stated (tables_of A.declaration A.trees airs.now) (map (λ v. v.items) public_values.now) common.now) proof.now) result }
-    ensures memory { IfErr result (λ e. e ≡ BatchVerificationError.OutOfMemory → NoneFails (count_checks {R = SC.Pcs.Error} SC.Pcs.ZK (stated (tables_of A.declaration A.trees airs.now) (map (λ v. v.items) public_values.now) common.now) proof.now)) }
+    ensures verdict { IsVerdict (checks (⟦<SC as Settings>⟧.setting config.now) (⟦<SC as Settings>⟧.backend config.now)
+        (statement_with (tables_of A.declaration A.trees airs.now) (map (λ v. v.items) public_values.now) common.now) proof.now) result }
+    ensures memory { IfErr result (λ e. e ≡ BatchVerificationError.OutOfMemory
+        → NoneFails (count_checks {R = SC.Pcs.Error} SC.Pcs.ZK (statement_with (tables_of A.declaration A.trees airs.now) (map (λ v. v.items) public_values.now) common.now) proof.now)) }
 {
     let chunks = check_batch_shape(alloc, config, airs, proof, public_values, common)?;
     let Drawn {

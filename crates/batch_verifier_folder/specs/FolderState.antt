@@ -6,20 +6,20 @@ use Rattle.p3_air.specs.CellValues.{CellValues, reading_at}
 use Rattle.p3_air.specs.PointValues.{point_cells, point_shape}
 use Rattle.p3_air.specs.Shape.{Shape}
 use Rattle.p3_air.specs.Tree.{Reading}
-use Rattle.p3_uni_stark.specs.VerifierState.{Opened, opened_of}
+use Rattle.p3_uni_stark.specs.VerifierState.{Opened, folder_opened_of}
 use Rattle.batch_verifier_folder.specs.declared.verifier_folder.VerifierFolderWithLookups.{VerifierFolderWithLookups}
 
 -- the values of the base field's cells with the folding challenge, and the permutation columns, the lookups' challenges and the terminals
-pub record OpenedWithLookups (F E : Type 0) : Type 0 where
+pub record FolderValuesWithLookups (F E : Type 0) : Type 0 where
   pub opened : Opened F E
   pub permutation_local : List E
   pub permutation_next : List E
   pub challenges : List E
   pub terminals : List E
 
-abbrev pub all_opened : {F E : Type 0} → VerifierFolderWithLookups F E → OpenedWithLookups F E
+abbrev pub all_opened : {F E : Type 0} → VerifierFolderWithLookups F E → FolderValuesWithLookups F E
 all_opened b = record {
-  opened = opened_of b.inner;
+  opened = folder_opened_of b.inner;
   permutation_local = b.permutation_local.now;
   permutation_next = b.permutation_next.now;
   challenges = b.permutation_challenges.now;
@@ -27,8 +27,8 @@ all_opened b = record {
 }
 
 -- the value of each cell, where public values go into E by `embed`
-abbrev pub cells_of : {F E : Type 0} → E → (F → E) → OpenedWithLookups F E → CellValues E
-cells_of zero embed o = record (point_cells zero embed o.opened.values) {
+abbrev pub verifier_cells_of : {F E : Type 0} → E → (F → E) → FolderValuesWithLookups F E → CellValues E
+verifier_cells_of zero embed o = record (point_cells zero embed o.opened.values) {
   permutation_local = o.permutation_local;
   permutation_next = o.permutation_next;
   challenges = o.challenges;
@@ -36,12 +36,12 @@ cells_of zero embed o = record (point_cells zero embed o.opened.values) {
 }
 
 -- the reading of constraints at these values; a cell that isn't there reads as zero
-abbrev pub reading_of : {F E : Type 0} → Ring E → (F → E) → OpenedWithLookups F E → Reading F E
-reading_of r embed o = reading_at r embed (cells_of r.zero embed o)
+abbrev pub reading_of : {F E : Type 0} → Ring E → (F → E) → FolderValuesWithLookups F E → Reading F E
+reading_of r embed o = reading_at r embed (verifier_cells_of r.zero embed o)
 
 -- the cells that are there: a permutation column where both rows have it
-abbrev pub shape_of : {F E : Type 0} → OpenedWithLookups F E → Shape
-shape_of o = record (point_shape o.opened.values) {
+abbrev pub verifier_shape_of : {F E : Type 0} → FolderValuesWithLookups F E → Shape
+verifier_shape_of o = record (point_shape o.opened.values) {
   permutation = min (length o.permutation_local) (length o.permutation_next);
   challenges = length o.challenges;
   terminals = length o.terminals;

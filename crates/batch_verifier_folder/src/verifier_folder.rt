@@ -1,12 +1,12 @@
 //! The verifier's constraint folder of a table with lookups.
 ghost use Rattle.std.specs.Prelude.{◌≡◌, List, [], ◌∷◌, ◌%◌, ◌<◌, IfOk, OnErr, IsOk, IsTrue, true, length, map, refl};
 ghost use Rattle.std.proofs.Common.{◌∙◌, ap};
-ghost use Rattle.p3_air.specs.Tree.{Tree, ev, ev_asserted, Stand, StandCount};
+ghost use Rattle.p3_air.specs.Tree.{Tree, eval_tree, eval_asserted, Represent, RepresentsCount};
 ghost use Rattle.p3_air.specs.Operation.{value_by};
 ghost use Rattle.p3_uni_stark.specs.Fold.{fold_from};
 ghost use Rattle.p3_uni_stark.specs.Laws.Folders.{value_persists, folded_along};
 ghost use Rattle.batch_constraints.specs.Laws.Folders.{value_by_persists};
-ghost use Rattle.batch_verifier_folder.specs.FolderState.{OpenedWithLookups, cells_of, reading_of, shape_of};
+ghost use Rattle.batch_verifier_folder.specs.FolderState.{FolderValuesWithLookups, verifier_cells_of, reading_of, verifier_shape_of};
 
 use p3_air::{
     AirBuilder, Cell, Count, ExtCell, ExtensionBuilder, InteractionBuilder, PermutationAirBuilder,
@@ -39,17 +39,18 @@ impl<'a, F: Field, E: ExtensionField<F>> AirBuilder for VerifierFolderWithLookup
 
     type Expr = E;
 
-    ghost stands = { λ b e t. e ≡ ev (reading_of E.ring E.embed (all_opened b)) t };
+    ghost represents = { λ b e t. e ≡ eval_tree (reading_of E.ring E.embed (all_opened b)) t };
 
     ghost later = { λ a b. all_opened b ≡ all_opened a };
 
-    ghost grows = { λ a b ts is. (all_opened b ≡ all_opened a) × (b.inner.accumulator ≡ fold_from E.ring a.inner.alpha a.inner.accumulator (map (ev_asserted (reading_of E.ring E.embed (all_opened a))) ts)) };
+    ghost appends = { λ a b ts is. (all_opened b ≡ all_opened a)
+        × (b.inner.accumulator ≡ fold_from E.ring a.inner.alpha a.inner.accumulator (map (eval_asserted (reading_of E.ring E.embed (all_opened a))) ts)) };
 
     ghost asserts = { λ a x b. (all_opened b ≡ all_opened a) × (b.inner.accumulator ≡ E.ring.add (E.ring.mul a.inner.accumulator a.inner.alpha) x) };
 
     ghost computes = { λ a op x y b e. e ≡ value_by E.ring op x y };
 
-    ghost shape = { λ b. shape_of (all_opened b) };
+    ghost shape = { λ b. verifier_shape_of (all_opened b) };
 
     ghost never_fails = { true };
 
@@ -86,21 +87,25 @@ impl<'a, F: Field, E: ExtensionField<F>> AirBuilder for VerifierFolderWithLookup
 
     ghost later_along = { λ a b c p q. q ∙ p };
 
-    ghost later_shape = { λ a b p. ap (λ (o : OpenedWithLookups F E). shape_of o) p };
+    ghost later_shape = { λ a b p. ap (λ (o : FolderValuesWithLookups F E). verifier_shape_of o) p };
 
     ghost persists = { λ a b h e t k. value_persists (λ o. reading_of E.ring E.embed o) (all_opened a) (all_opened b) e t h k };
 
-    ghost grows_same = { λ a. (refl, refl) };
+    ghost appends_none = { λ a. (refl, refl) };
 
-    ghost grows_later = { λ a b t i h. h.0 };
+    ghost appends_later = { λ a b t i h. h.0 };
 
-    ghost grows_along = { λ a b c s t i j p q. (q.0 ∙ p.0, folded_along E.ring (λ o. reading_of E.ring E.embed o) (λ o. o.opened.alpha) (all_opened a) (all_opened b) a.inner.accumulator b.inner.accumulator c.inner.accumulator s t p.0 p.1 q.1) };
+    ghost appends_along = { λ a b c s t i j p q. (
+      q.0 ∙ p.0,
+      folded_along E.ring (λ o. reading_of E.ring E.embed o) (λ o. o.opened.alpha) (all_opened a)
+          (all_opened b) a.inner.accumulator b.inner.accumulator c.inner.accumulator s t p.0 p.1 q.1,
+    ) };
 
     ghost never_fails_sure = { λ h. h };
 
-    ghost computes_stands = { λ a b h op x y e s t k l q. value_by_persists E.ring E.embed (λ o. cells_of E.ring.zero E.embed o) (all_opened a) (all_opened b) op x y e s t h k l q };
+    ghost computes_represents = { λ a b h op x y e s t k l q. value_by_persists E.ring E.embed (λ o. verifier_cells_of E.ring.zero E.embed o) (all_opened a) (all_opened b) op x y e s t h k l q };
 
-    ghost asserts_grows = { λ a b x t h k. (k.0, k.1 ∙ ap (E.ring.add (E.ring.mul a.inner.accumulator a.inner.alpha)) h) };
+    ghost asserts_appends = { λ a b x t h k. (k.0, k.1 ∙ ap (E.ring.add (E.ring.mul a.inner.accumulator a.inner.alpha)) h) };
 }
 
 impl<'a, F: Field, E: ExtensionField<F>> ExtensionBuilder for VerifierFolderWithLookups<'a, F, E> {
@@ -108,7 +113,7 @@ impl<'a, F: Field, E: ExtensionField<F>> ExtensionBuilder for VerifierFolderWith
 
     type ExprEF = E;
 
-    ghost stands_ext = { λ b e t. e ≡ ev (reading_of E.ring E.embed (all_opened b)) t };
+    ghost represents_ext = { λ b e t. e ≡ eval_tree (reading_of E.ring E.embed (all_opened b)) t };
 
     ghost asserts_ext = { λ a x b. (all_opened b ≡ all_opened a) × (b.inner.accumulator ≡ E.ring.add (E.ring.mul a.inner.accumulator a.inner.alpha) x) };
 
@@ -141,11 +146,11 @@ impl<'a, F: Field, E: ExtensionField<F>> ExtensionBuilder for VerifierFolderWith
 
     ghost persists_ext = { λ a b h e t k. value_persists (λ o. reading_of E.ring E.embed o) (all_opened a) (all_opened b) e t h k };
 
-    ghost computes_ext_stands = { λ a b h op x y e s t k l q. value_by_persists E.ring E.embed (λ o. cells_of E.ring.zero E.embed o) (all_opened a) (all_opened b) op x y e s t h k l q };
+    ghost computes_ext_represents = { λ a b h op x y e s t k l q. value_by_persists E.ring E.embed (λ o. verifier_cells_of E.ring.zero E.embed o) (all_opened a) (all_opened b) op x y e s t h k l q };
 
-    ghost lifts_stands = { λ a b h x e t k q. value_persists (λ o. reading_of E.ring E.embed o) (all_opened a) (all_opened b) e t h (q ∙ k) };
+    ghost lifts_represents = { λ a b h x e t k q. value_persists (λ o. reading_of E.ring E.embed o) (all_opened a) (all_opened b) e t h (q ∙ k) };
 
-    ghost asserts_ext_grows = { λ a b x t h k. (k.0, k.1 ∙ ap (E.ring.add (E.ring.mul a.inner.accumulator a.inner.alpha)) h) };
+    ghost asserts_ext_appends = { λ a b x t h k. (k.0, k.1 ∙ ap (E.ring.add (E.ring.mul a.inner.accumulator a.inner.alpha)) h) };
 }
 
 impl<'a, F: Field, E: ExtensionField<F>> PermutationAirBuilder
@@ -172,13 +177,14 @@ impl<'a, F: Field, E: ExtensionField<F>> InteractionBuilder
 
     fn push_interaction(&mut self, _bus_name: &str, fields: &[E], count: Count<E>) -> Mem<()>
         ensures later { all_opened self.new ≡ all_opened self.old }
-        ensures same { shape_of (all_opened self.new) ≡ shape_of (all_opened self.old) }
+        ensures keeps_shape { verifier_shape_of (all_opened self.new) ≡ verifier_shape_of (all_opened self.old) }
         ensures answers { IsTrue true → IsOk result }
-        ensures grows { (fs : List (Tree F)) (v : Tree F) → Stand (λ e t. e ≡ ev (reading_of E.ring E.embed (all_opened self.old)) t) fields.now fs → count.value ≡ ev (reading_of E.ring E.embed (all_opened self.old)) v
+        ensures appends { (fs : List (Tree F)) (v : Tree F) → Represent (λ e t. e ≡ eval_tree (reading_of E.ring E.embed (all_opened self.old)) t) fields.now fs
+            → count.value ≡ eval_tree (reading_of E.ring E.embed (all_opened self.old)) v
             → IfOk result (λ _. (all_opened self.new ≡ all_opened self.old) × (self.new.inner.accumulator ≡ fold_from E.ring self.old.inner.alpha self.old.inner.accumulator [])) }
         ensures sure { IsTrue true → IsOk result }
         ensures sends { IfOk result (λ _. (all_opened self.new ≡ all_opened self.old) × (self.new.inner.accumulator ≡ self.old.inner.accumulator)) }
-        ensures refused { OnErr result ((all_opened self.new ≡ all_opened self.old) × (self.new.inner.accumulator ≡ fold_from E.ring self.old.inner.alpha self.old.inner.accumulator [])) }
+        ensures on_error { OnErr result ((all_opened self.new ≡ all_opened self.old) × (self.new.inner.accumulator ≡ fold_from E.ring self.old.inner.alpha self.old.inner.accumulator [])) }
     {
         Ok(())
     }
@@ -187,5 +193,5 @@ impl<'a, F: Field, E: ExtensionField<F>> InteractionBuilder
         Ok(())
     }
 
-    ghost sends_grows = { λ a b bus xs cs fs vs h k e. e };
+    ghost sends_appends = { λ a b bus xs cs fs vs h k e. e };
 }

@@ -2,7 +2,7 @@
 ghost use Rattle.std.specs.Prelude.{◌≡◌};
 ghost use Rattle.p3_field.specs.Quartic.{quartic_ring};
 
-use batch_constraints_tests::post::{post, post_lookups};
+use batch_constraints_tests::sending::{sending_air, sending_lookups};
 use batch_constraints_tests::take::{Take, take_lookups};
 use batch_tables::SwapAir;
 use batch_verifier_folder::{VerifierFolderWithLookups, verifier_fold_with_lookups};
@@ -74,8 +74,8 @@ fn fold_of_take(rt: HostRuntime) -> Result<(), Fail> {
 // terminal 15, so the others have 6, 19 - 6 - (3 + 2) = 8 and 15 - 6 - (3 + 2) = 4.
 #[test]
 fn fold_of_two_lookups(rt: HostRuntime) -> Result<(), Fail> {
-    let air = post(rt.alloc())?;
-    let lookups = post_lookups(rt.alloc(), &air)?;
+    let air = sending_air(rt.alloc())?;
+    let lookups = sending_lookups(rt.alloc(), &air)?;
     let (local, steps, turns) = ([quartic(7)], [quartic(2)], [quartic(3)]);
     let public_values = [bear(4)];
     let columns = [quartic(6), quartic(3), quartic(2)];

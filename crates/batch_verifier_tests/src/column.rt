@@ -21,7 +21,17 @@ struct Column {
 }
 
 impl BaseAir<BabyBear> for Column {
-    ghost declaration = { λ a. record { width = 1; preprocessed = None; main_next = []; preprocessed_next = []; public_values = 0; periodic = []; constraints = None; degree_hint = Some a.hint; boolean_trace = false } };
+    ghost declaration = { λ a. record {
+      width = 1;
+      preprocessed = None;
+      main_next = [];
+      preprocessed_next = [];
+      public_values = 0;
+      periodic = [];
+      constraints = None;
+      degree_hint = Some a.hint;
+      boolean_trace = false;
+    } };
 
     fn width(&self) -> usize {
         1
@@ -92,7 +102,7 @@ impl Air<BabyBear> for Column {
 #[derive(Clone, Copy)]
 struct Hinted(usize, Edit, &'static str);
 
-// Too many chunks by the shape alone, which is checked before the draws, and too many at the table's height, which is checked behind them.
+// Too many chunks by the shape alone, which is checked before the draws, and too many at the table's height, which is checked after them.
 static HINTS: [Hinted; 5] = [
     Hinted(
         usize::MAX,

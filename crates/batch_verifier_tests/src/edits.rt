@@ -13,22 +13,22 @@ pub const SAME: Edit = Edit(0, 0, &[]);
 /// The numbers with this edit made.
 pub fn edited(alloc: Global, numbers: &[u32], edit: Edit) -> Result<Vec<u32>, Fail> {
     let Edit(at, removed, inserted) = edit;
-    let behind = at.checked_add(removed).ok_or("too far")?;
+    let after = at.checked_add(removed).ok_or("too far")?;
     let mut all = Vec::from_slice(alloc, numbers.get(..at).ok_or("too short")?)?;
     all.extend_from_slice(inserted)?;
-    all.extend_from_slice(numbers.get(behind..).ok_or("too short")?)?;
+    all.extend_from_slice(numbers.get(after..).ok_or("too short")?)?;
     Ok(all)
 }
 
-// The numbers with two edits made, of which the second is behind the first.
+// The numbers with two edits made, of which the second is after the first.
 fn edited_in_order(
     alloc: Global,
     numbers: &[u32],
     first: Edit,
     second: Edit,
 ) -> Result<Vec<u32>, Fail> {
-    let behind = first.0.checked_add(first.1).ok_or("too far")?;
-    if behind > second.0 {
+    let after = first.0.checked_add(first.1).ok_or("too far")?;
+    if after > second.0 {
         return Err("the edits overlap".into());
     }
     let later = edited(alloc, numbers, second)?;

@@ -62,7 +62,7 @@ impl<'a> Numbers<'a> {
         }
     }
 
-    // A row of the larger field's elements, behind its length.
+    // A row of the larger field's elements, after its length.
     fn row<E: ExtensionField<BabyBear>>(&mut self, alloc: Global) -> Result<Vec<E>, Fail> {
         let count = self.count()?;
         let mut values = Vec::new(alloc);
@@ -88,7 +88,7 @@ impl<'a> Numbers<'a> {
         Ok(None)
     }
 
-    // Rows, behind their number.
+    // Rows, after their number.
     fn rows<E: ExtensionField<BabyBear>>(&mut self, alloc: Global) -> Result<Vec<Vec<E>>, Fail> {
         let count = self.count()?;
         let mut rows = Vec::new(alloc);
@@ -110,7 +110,7 @@ impl<'a> Numbers<'a> {
         Ok(RowMajorMatrix::new(values, width))
     }
 
-    // A commitment: its matrices, behind their number.
+    // A commitment: its matrices, after their number.
     fn commitment(&mut self, alloc: Global) -> Result<PlainCommitment<BabyBear>, Fail> {
         let count = self.count()?;
         let mut matrices = Vec::new(alloc);

@@ -1,4 +1,4 @@
-//! The numbers of proofs, in the order of a proof file behind its statement. The first two were written by an independent program; the others were worked
+//! The numbers of proofs, in the order of a proof file after its statement. The first two were written by an independent program; the others were worked
 //! out by a model in another language, over the smaller configuration, where every committed column is constant.
 
 /// A swap table of one row, 5 and 7.

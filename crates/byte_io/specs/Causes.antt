@@ -20,6 +20,6 @@ abbrev pub Fails : {X : Type 0} → (before now : ℕ) → Result ℕ X → Type
 Fails before now result = IsErrAnd result (λ _. ⊤) × (now ≡ next_count before)
 
 -- what a call answers where a stream below it gives this, and how the count moves: a number of at least `least` is the answer
-abbrev pub IsCounted : {E X : Type 0} → Result ℕ E → (least before now : ℕ) → Result ℕ X → Type 0
-IsCounted (Ok n) least before now result = (least ≤ n → (result ≡ Ok n) × (now ≡ before)) × (n < least → Fails before now result)
-IsCounted (Err e) least before now result = Fails before now result
+abbrev pub CountsFault : {E X : Type 0} → Result ℕ E → (least before now : ℕ) → Result ℕ X → Type 0
+CountsFault (Ok n) least before now result = (least ≤ n → (result ≡ Ok n) × (now ≡ before)) × (n < least → Fails before now result)
+CountsFault (Err e) least before now result = Fails before now result

@@ -9,7 +9,8 @@ use std::alloc::Allocator;
 use std::io;
 use std::io::{AsBytes, Cursor, Print, Printer, Read, StdinLock, Write};
 
-/// A reader of std, and what its calls may answer (own). Std's `Read` alone doesn't say that an answer is the reader's.
+/// A reader of std, and what its calls may answer (not in Plonky3). Std's `Read` alone doesn't say that an answer is
+/// the reader's.
 pub trait InputStream: Read {
     /// A call that finds the reader in the first state, and leaves it in the second and the buffer so, may answer this.
     ghost answers: { Self → Self → List ℕ → Result ℕ Error → Type 0 };
@@ -48,7 +49,7 @@ impl InputStream for StdinLock<'static> {
     }
 }
 
-/// A writer of std, and what its calls may answer (own).
+/// A writer of std, and what its calls may answer (not in Plonky3).
 pub trait OutputStream: Write {
     /// A call that finds the writer in the first state, leaves it in the second, and is given this piece may answer this.
     ghost answers: { Self → Self → List ℕ → Result ℕ Error → Type 0 };

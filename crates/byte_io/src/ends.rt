@@ -18,7 +18,7 @@ pub enum InputError {
     ReadFault,
     /// The input has more than [`MAX_BYTES`](crate::MAX_BYTES) bytes.
     TooLarge,
-    /// Memory was wanting.
+    /// Memory ran out.
     OutOfMemory,
 }
 
@@ -32,7 +32,7 @@ impl From<AllocError> for InputError {
     }
 }
 
-/// Where bytes come from (own).
+/// Where bytes come from (not in Plonky3).
 pub trait Source {
     /// The bytes that are left, where the source tells them.
     ghost left: { Self → Option (List ℕ) };
@@ -51,7 +51,7 @@ pub trait Source {
         ensures cause { HasCause (faults self.old) (faults self.new) result };
 }
 
-/// Where a text goes (own).
+/// Where a text goes (not in Plonky3).
 pub trait Sink {
     /// The bytes that were written, where the sink tells them.
     ghost written: { Self → Option (List ℕ) };

@@ -10,7 +10,7 @@ use crate::ends::{Failed, Sink, Source};
 use std::alloc::{AllocError, Global};
 use std::marker::Model;
 
-/// A source of bytes in memory, which tells them, and fails at the listed calls (own).
+/// A source of bytes in memory, which tells them, and fails at the listed calls (not in Plonky3).
 #[derive(Drop)]
 pub struct MemorySource {
     bytes: Vec<u8>,
@@ -74,7 +74,7 @@ impl Source for MemorySource {
     }
 }
 
-/// A sink in memory, which tells what was written, and fails at the listed calls (own).
+/// A sink in memory, which tells what was written, and fails at the listed calls (not in Plonky3).
 #[derive(Drop)]
 pub struct MemorySink {
     bytes: Vec<u8>,

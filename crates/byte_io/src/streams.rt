@@ -3,7 +3,7 @@
 ghost use Rattle.std.specs.Prelude.{◌≡◌, ◌<◌, ◌≤◌, ◌^◌, ℕ, Result, length, IfOk};
 ghost use Rattle.std.specs.Io.{ReadsAtMost, WritesAtMost};
 ghost use Rattle.std.specs.Io.KnownBytes.{ReadConsumes, WriteAppends};
-ghost use Rattle.byte_io.specs.Causes.{HasCause, IsCounted};
+ghost use Rattle.byte_io.specs.Causes.{HasCause, CountsFault};
 ghost use Rattle.std.specs.declared.io.Error.{Error};
 
 use crate::answers::{InputStream, OutputStream};
@@ -11,9 +11,9 @@ use crate::ends::{Failed, Sink, Source};
 use std::io;
 
 /// What an end answers where std's stream answers this: the number, where it is at least `least`, and else `Failed`. The
-/// count of faults rises by one where the end fails, and else stays as it was (own).
+/// count of faults rises by one where the end fails, and else stays as it was (not in Plonky3).
 fn counted(answer: io::Result<usize>, least: usize, faults: &mut u64) -> Result<usize, Failed>
-    ensures { IsCounted answer least faults.old faults.new result }
+    ensures { CountsFault answer least faults.old faults.new result }
 {
     match answer {
         Ok(count) if count >= least => Ok(count),
@@ -24,7 +24,8 @@ fn counted(answer: io::Result<usize>, least: usize, faults: &mut u64) -> Result<
     }
 }
 
-/// A source over a reader of std, as standard input is. It tells the bytes that the reader tells: standard input tells none (own).
+/// A source over a reader of std, as standard input is. It tells the bytes that the reader tells: standard input tells none (not
+/// in Plonky3).
 #[derive(Drop)]
 pub struct StdSource<R> {
     reader: R,
@@ -57,13 +58,14 @@ impl<R: InputStream> Source for StdSource<R> {
 
         // The reader was asked, and its answer is counted: `Failed` comes exactly where the reader answered an error.
         ensures answer { (answer : Result ℕ Error) × R.answers (reader_of self.old) (reader_of self.new) buf.new answer
-            × IsCounted answer 0 (source_faults self.old) (source_faults self.new) result }
+            × CountsFault answer 0 (source_faults self.old) (source_faults self.new) result }
     {
         counted(self.reader.read_some(buf), 0, &mut self.faults)
     }
 }
 
-/// A sink over a writer of std, as standard output is. It tells the bytes that the writer tells: standard output tells none (own).
+/// A sink over a writer of std, as standard output is. It tells the bytes that the writer tells: standard output tells none (not
+/// in Plonky3).
 #[derive(Drop)]
 pub struct StdSink<W> {
     writer: W,
@@ -97,7 +99,7 @@ impl<W: OutputStream> Sink for StdSink<W> {
 
         // The writer was asked, and its answer is counted: `Failed` comes exactly where the writer answered an error or took nothing.
         ensures answer { (answer : Result ℕ Error) × W.answers (writer_of self.old) (writer_of self.new) piece.now answer
-            × IsCounted answer 1 (sink_faults self.old) (sink_faults self.new) result }
+            × CountsFault answer 1 (sink_faults self.old) (sink_faults self.new) result }
     {
         counted(self.writer.write_some(piece), 1, &mut self.faults)
     }

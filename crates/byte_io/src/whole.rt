@@ -14,7 +14,7 @@ pub const MAX_BYTES: usize = 67_108_864;
 const PIECE_BYTES: usize = 65_536;
 
 /// Reads all bytes up to the end of the input, and never more than one above [`MAX_BYTES`], of a source that tells its
-/// bytes (own).
+/// bytes (not in Plonky3).
 ///
 /// `ReadFault` comes only where the source's count of faults rose in this call, `TooLarge` exactly where that one byte more
 /// was read, and `OutOfMemory` where out of memory.

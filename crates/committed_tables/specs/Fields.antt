@@ -1,8 +1,8 @@
 -- The laws of the two fields that a proof is over, in one place: those of a two-adic field, of a field above it, and of the
 -- coefficients by which the larger one's values are written.
 use Rattle.std.specs.Prelude.{◌≡◌, ◌⊎◌, ℕ, map}
-use Rattle.p3_field.specs.BabyBear.{reduce, bear_ring, bear_inv, bear_root}
-use Rattle.p3_field.specs.Quartic.{quartic_ring, of_bear_value, quartic_basis, quartic_parts, quartic_whole}
+use Rattle.p3_field.specs.BabyBear.{reduce, baby_bear_ring, baby_bear_inv, baby_bear_root}
+use Rattle.p3_field.specs.Quartic.{quartic_ring, of_baby_bear_value, quartic_basis, quartic_coefficients, quartic_from_coefficients}
 use Rattle.p3_field.specs.declared.baby_bear.BabyBear.{BabyBear}
 use Rattle.p3_field.specs.declared.quartic.QuarticExtension.{QuarticExtension}
 use Rattle.p3_field.specs.Ring.{RingLaws}
@@ -22,12 +22,12 @@ pub record FieldsLaws {F E : Type 0} (f : TwoAdic F) (e : Extension F E) (top : 
   pub above_field : FieldLaws e.ring inverse
   pub above_decided : AreDecided E
   pub embeds : RingHom f.ring e.ring e.embed
-  pub vector : VectorLaws e.dimension e.parts e.whole
-  pub spans : (x : E) → combine e.ring e.basis 0 (map e.embed (e.parts x)) ≡ x
+  pub vector : VectorLaws e.dimension e.coefficients e.from_coefficients
+  pub spans : (x : E) → combine e.ring e.basis 0 (map e.embed (e.coefficients x)) ≡ x
 
 -- BabyBear and its quartic extension as data
-abbrev pub bear_field : TwoAdic BabyBear
-bear_field = record { ring = bear_ring; inv = bear_inv; root = bear_root; generator = reduce 31 }
+abbrev pub baby_bear_field : TwoAdic BabyBear
+baby_bear_field = record { ring = baby_bear_ring; inv = baby_bear_inv; root = baby_bear_root; generator = reduce 31 }
 
 abbrev pub quartic_extension : Extension BabyBear QuarticExtension
-quartic_extension = record { ring = quartic_ring; embed = of_bear_value; dimension = 4; basis = quartic_basis; parts = quartic_parts; whole = quartic_whole }
+quartic_extension = record { ring = quartic_ring; embed = of_baby_bear_value; dimension = 4; basis = quartic_basis; coefficients = quartic_coefficients; from_coefficients = quartic_from_coefficients }

@@ -13,5 +13,5 @@ pub mod Batch
 pub mod Opened
 pub mod Quotient
 pub mod Disjoint
-pub mod BearFields
+pub mod BabyBearFields
 pub mod Lookups

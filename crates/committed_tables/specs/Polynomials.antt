@@ -1,11 +1,11 @@
 -- A committed table's cells and constraints as polynomials over the larger field.
 use Rattle.std.specs.Prelude.{ℕ, ◌+◌, List, [], ◌∷◌, map}
 use Rattle.p3_field.specs.Field.{TwoAdic, Extension}
-use Rattle.p3_field.specs.Poly.{table, add_poly, scale_poly, shift_arg}
+use Rattle.p3_field.specs.Poly.{tabulate, add_poly, scale_poly, shift_arg}
 use Rattle.p3_field.specs.Domain.{first_selector, last_selector, transition_selector}
 use Rattle.p3_air.specs.CellValues.{CellValues, poly_reading}
-use Rattle.p3_air.specs.Tree.{Tree, ev}
-use Rattle.committed_tables.specs.Committed.{CommittedTable, trace_domain, periodic_poly, permutation_width, flattened}
+use Rattle.p3_air.specs.Tree.{Tree, eval_tree}
+use Rattle.committed_tables.specs.Committed.{CommittedTable, trace_domain, periodic_poly, flattened_width, flattened}
 
 -- a polynomial over F as one over E
 abbrev pub over : {F E : Type 0} → Extension F E → List F → List E
@@ -37,12 +37,12 @@ module _ {F E : Type 0} (f : TwoAdic F) (e : Extension F E) (t : CommittedTable 
     first_row = over e (first_selector f.ring f.inv (trace_domain f e t));
     last_row = over e (last_selector f.ring f.inv f.root (trace_domain f e t));
     transition = over e (transition_selector f.ring f.inv f.root (trace_domain f e t));
-    permutation_local = table (permutation_width f e t) permutation_poly;
-    permutation_next = table (permutation_width f e t) (λ j. next_poly (permutation_poly j));
+    permutation_local = tabulate (flattened_width f e t) permutation_poly;
+    permutation_next = tabulate (flattened_width f e t) (λ j. next_poly (permutation_poly j));
     challenges = map (λ x. x ∷ []) t.challenges;
     terminals = map (λ x. x ∷ []) t.terminals;
   }
 
   -- a tree's polynomial
   abbrev pub tree_poly : Tree F → List E
-  tree_poly tree = ev (poly_reading e.ring e.embed cell_polys) tree
+  tree_poly tree = eval_tree (poly_reading e.ring e.embed cell_polys) tree

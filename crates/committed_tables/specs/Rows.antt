@@ -5,10 +5,10 @@ use Rattle.p3_field.specs.Field.{TwoAdic, Extension}
 use Rattle.p3_field.specs.Domain.{CosetData, IsInterpolant, point}
 use Rattle.p3_matrix.specs.Matrix.{Rows, FillsRows, column, height, row_at}
 use Rattle.p3_air.specs.CellValues.{CellValues}
-use Rattle.p3_air.specs.Check.{Table, preprocessed_row, periodic_row}
+use Rattle.p3_air.specs.Check.{TableTraces, preprocessed_row, periodic_row}
 use Rattle.p3_air.specs.RowCheck.{Row}
 use Rattle.p3_commit.specs.Periodic.{IsPeriod}
-use Rattle.committed_tables.specs.Committed.{CommittedTable, rows_of, trace_domain}
+use Rattle.committed_tables.specs.Committed.{CommittedTable, row_count_of, trace_domain}
 
 -- the polynomials are the interpolants of the matrix's columns on a domain with a point for each row; without columns the matrix
 -- has no rows
@@ -25,23 +25,23 @@ InterpolateSome f d (Some m) polys = InterpolateColumns f d m polys
 
 -- a matrix over the larger field with the coefficients of each value in its place
 abbrev pub flattened_matrix : {F E : Type 0} → Extension F E → Rows E → Rows F
-flattened_matrix e m = record { values = flat_map e.parts m.values; width = m.width * e.dimension }
+flattened_matrix e m = record { values = flat_map e.coefficients m.values; width = m.width * e.dimension }
 
 -- the committed table is that of these traces and permutation columns: its polynomials are the interpolants of their columns,
 -- flattened ones for the permutation's, and it has the traces' public values and periodic columns, which fit its height
-pub record CommitsTo {F E : Type 0} (f : TwoAdic F) (e : Extension F E) (t : CommittedTable F E) (traces : Table F) (columns : Rows E) : Type 0 where
-  pub tall : height traces.main ≡ rows_of t
+pub record CommitsTo {F E : Type 0} (f : TwoAdic F) (e : Extension F E) (t : CommittedTable F E) (traces : TableTraces F) (columns : Rows E) : Type 0 where
+  pub tall : height traces.main ≡ row_count_of t
   pub main : InterpolateColumns f (trace_domain f e t) traces.main t.main
   pub preprocessed : InterpolateSome f (trace_domain f e t) traces.preprocessed t.preprocessed
   pub fills : FillsRows columns.values columns.width
   pub permutation : InterpolateColumns f (trace_domain f e t) (flattened_matrix e columns) t.permutation
   pub public_values : t.public_values ≡ traces.public_values
   pub periodic : t.periodic ≡ traces.periodic
-  pub periods : All (λ column. IsPeriod (rows_of t) (length column)) traces.periodic
+  pub periods : All (λ column. IsPeriod (row_count_of t) (length column)) traces.periodic
 
 -- row i of traces with these permutation columns, challenges and terminals, as a check of rows reads it
-abbrev pub trace_row : {F E : Type 0} → F → Table F → Rows E → List E → List E → ℕ → Row F E
-trace_row d traces columns challenges terminals i = record {
+abbrev pub row_of_traces : {F E : Type 0} → F → TableTraces F → Rows E → List E → List E → ℕ → Row F E
+row_of_traces d traces columns challenges terminals i = record {
   main_local = row_at traces.main i;
   main_next = row_at traces.main ((i + 1) % height traces.main);
   preprocessed_local = preprocessed_row traces.preprocessed i;

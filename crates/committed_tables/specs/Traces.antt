@@ -1,12 +1,12 @@
 -- The table that an honest prover commits to: the interpolants of its traces' columns.
 use Rattle.std.specs.Prelude.{◌≡◌, ℕ, ◌<◌, List, [], length, get_or, map, All, Option, None, Some}
 use Rattle.p3_field.specs.Field.{TwoAdic, Extension}
-use Rattle.p3_field.specs.Poly.{table}
+use Rattle.p3_field.specs.Poly.{tabulate}
 use Rattle.p3_field.specs.Newton.{newton}
 use Rattle.p3_field.specs.Domain.{CosetData, point}
 use Rattle.p3_field.specs.Laws.SubgroupSelectors.{subgroup}
 use Rattle.p3_matrix.specs.Matrix.{Rows, FillsRows, column, height}
-use Rattle.p3_air.specs.Check.{Table}
+use Rattle.p3_air.specs.Check.{TableTraces}
 use Rattle.p3_commit.specs.Periodic.{IsPeriod}
 use Rattle.committed_tables.specs.Committed.{CommittedTable}
 use Rattle.committed_tables.specs.Rows.{flattened_matrix}
@@ -17,7 +17,7 @@ interpolant f d v = newton f.ring f.inv (length v) (point f.ring f.root d) (λ i
 
 -- those of a matrix's columns
 abbrev pub interpolants : {F : Type 0} → TwoAdic F → CosetData F → Rows F → List (List F)
-interpolants f d m = map (interpolant f d) (table m.width (column f.ring.zero m))
+interpolants f d m = map (interpolant f d) (tabulate m.width (column f.ring.zero m))
 
 -- and of a matrix that may be absent
 abbrev pub some_interpolants : {F : Type 0} → TwoAdic F → CosetData F → Option (Rows F) → List (List F)
@@ -25,7 +25,7 @@ some_interpolants f d None = []
 some_interpolants f d (Some m) = interpolants f d m
 
 -- traces of 2^k rows as a committed table, with these permutation columns, challenges and terminals
-abbrev pub committed_traces : {F E : Type 0} → TwoAdic F → Extension F E → Table F → Rows E → List E → List E → ℕ → CommittedTable F E
+abbrev pub committed_traces : {F E : Type 0} → TwoAdic F → Extension F E → TableTraces F → Rows E → List E → List E → ℕ → CommittedTable F E
 committed_traces f e traces columns challenges terminals k = record {
   main = interpolants f (subgroup f.ring k) traces.main;
   preprocessed = some_interpolants f (subgroup f.ring k) traces.preprocessed;
@@ -48,7 +48,7 @@ IsSomeTall n None = Unit {0}
 IsSomeTall n (Some m) = IsTall n m
 
 -- the traces and permutation columns have n rows, and each periodic column fits them
-pub record HaveRows {F E : Type 0} (n : ℕ) (traces : Table F) (columns : Rows E) : Type 0 where
+pub record HaveTraceRows {F E : Type 0} (n : ℕ) (traces : TableTraces F) (columns : Rows E) : Type 0 where
   pub tall : height traces.main ≡ n
   pub main : IsTall n traces.main
   pub preprocessed : IsSomeTall n traces.preprocessed

@@ -5,9 +5,9 @@ ghost use Rattle.p3_field.specs.Field.{TwoAdic, Extension};
 ghost use Rattle.p3_air.specs.Degree.{full_polynomial_degree};
 ghost use Rattle.p3_air.specs.Tree.{Tree};
 ghost use Rattle.committed_tables.specs.Batch.{AllHold, AreIdentities, DividedTable, IsUnluckyAlphaOfBatch, IsUnluckyZetaOfBatch};
-ghost use Rattle.committed_tables.specs.Committed.{CommittedTable, Holds, IsBounded, periods_of, rows_of};
+ghost use Rattle.committed_tables.specs.Committed.{CommittedTable, Holds, IsBounded, table_periods_of, row_count_of};
 ghost use Rattle.committed_tables.specs.Fields.{FieldsLaws};
-ghost use Rattle.committed_tables.specs.Identity.{CommittedIdentity, CommittedQuotient, IsBoundedQuotient, chunks_of};
+ghost use Rattle.committed_tables.specs.Identity.{CommittedIdentity, CommittedQuotient, IsBoundedQuotient, chunk_count_of};
 ghost use Rattle.committed_tables.specs.Unlucky.{AreDistinct, IsUnluckyAlpha, IsUnluckyAlphaAt, IsUnluckyZeta};
 
 /// Where the identity of a committed table holds at zeta, each of its trees is zero on each of its rows, or alpha is unlucky,
@@ -34,14 +34,15 @@ pub fn few_alphas_are_unlucky<F, E>()
     ensures none { (f : TwoAdic F) (e : Extension F E) (t : CommittedTable F E) (trees : List (Tree F)) (alpha : E)
         → length trees ≡ 0 → IsUnluckyAlpha f e t trees alpha → ⊥ }
     ensures rows { (f : TwoAdic F) (e : Extension F E) (top : ℕ) (inverse : E → E) (t : CommittedTable F E) (trees : List (Tree F)) (alphas : List E) → FieldsLaws f e top inverse
-        → AreDistinct e.ring.zero alphas → All (IsUnluckyAlpha f e t trees) alphas → length alphas ≤ rows_of t * (length trees - 1) }
+        → AreDistinct e.ring.zero alphas → All (IsUnluckyAlpha f e t trees) alphas → length alphas ≤ row_count_of t * (length trees - 1) }
 {}
 
 /// For a bounded table of n rows and a bounded quotient of C chunks at most the larger of p and n (C + 1) - 1 zetas are
 /// unlucky, where no tree's degree over the rows is above p; these degrees don't stop at the greatest `usize`.
 pub fn few_zetas_are_unlucky<F, E>()
-    ensures { (f : TwoAdic F) (e : Extension F E) (top : ℕ) (inverse : E → E) (t : CommittedTable F E) (trees : List (Tree F)) (q : CommittedQuotient F) (alpha : E) (p : ℕ) (zetas : List E) → FieldsLaws f e top inverse
-        → t.log_height ≤ top → IsBounded f t → IsBoundedQuotient f t q → All (λ tree. full_polynomial_degree (rows_of t) (periods_of t) tree ≤ p) trees
+    ensures { (f : TwoAdic F) (e : Extension F E) (top : ℕ) (inverse : E → E) (t : CommittedTable F E) (trees : List (Tree F)) (q : CommittedQuotient F) (alpha : E)
+        (p : ℕ) (zetas : List E) → FieldsLaws f e top inverse
+        → t.log_height ≤ top → IsBounded f t → IsBoundedQuotient f t q → All (λ tree. full_polynomial_degree (row_count_of t) (table_periods_of t) tree ≤ p) trees
         → AreDistinct e.ring.zero zetas → All (IsUnluckyZeta f e t trees q alpha) zetas
-        → length zetas ≤ max p (rows_of t * (chunks_of q + 1) - 1) }
+        → length zetas ≤ max p (row_count_of t * (chunk_count_of q + 1) - 1) }
 {}

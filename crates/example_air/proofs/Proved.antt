@@ -1,7 +1,7 @@
 -- What is set up for two traces is their batch, and what the prover of batches says of it.
 use Rattle.std.proofs.Common.{◌≡◌, ℕ, ◌+◌, ◌^◌, ◌≤◌, List, [], ◌∷◌, Option, Result, Ok, Err, sym, ap, subst, arith}
 use Rattle.std.specs.Prelude.{IfErr}
-use Rattle.p3_field.specs.BabyBear.{bear_ring, bear_inv, bear_root, reduce}
+use Rattle.p3_field.specs.BabyBear.{baby_bear_ring, baby_bear_inv, baby_bear_root, reduce}
 use Rattle.p3_field.specs.Domain.{CosetData}
 use Rattle.p3_field.specs.declared.baby_bear.BabyBear.{BabyBear}
 use Rattle.p3_field.specs.declared.quartic.QuarticExtension.{QuarticExtension}
@@ -14,17 +14,17 @@ use Rattle.batch_setup.specs.Setup.{Instance, log_of}
 use Rattle.batch_setup.specs.Laws.Logarithms.{log_of_power}
 use Rattle.batch_statement.specs.Statement.{WellFormed, WrittenCommon, read_common}
 use Rattle.honest_proofs.specs.HonestProof.{IsBuilt}
-use Rattle.batch_proving.specs.Batch.{Batch, IsKeptWith, IsTracedAll, batch_of, preprocessed_all}
+use Rattle.batch_proving.specs.Batch.{Batch, HasProverData, IsTracedAll, batch_of, preprocessed_all}
 use Rattle.batch_proving.specs.Laws.Telling.{refusal_tells}
-use Rattle.batch_proving.specs.PlainBackend.{bear_prover, plain_commits, plain_prover_backend}
-use Rattle.batch_proving.specs.Proving.{IsProved, proving_checks}
+use Rattle.batch_proving.specs.PlainBackend.{baby_bear_prover, plain_commits, plain_prover_backend}
+use Rattle.batch_proving.specs.Proving.{IsHonestProof, proving_checks}
 use Rattle.batch_proving.specs.Verdict.{IsAnswerRefusal, IsProverAnswer}
 use Rattle.batch_proving.specs.declared.error.ProvingError.{ProvingError}
 use Rattle.batch_proving.specs.declared.error.ProvingError.TheVariants.{LookupDenominatorZero, MultiplicityBound, OutOfMemory, Pcs, WitnessNotFound}
 use Rattle.tool_statement.specs.Config.{tool_setting}
 use Rattle.example_air.specs.Bytes.{example_declaration, example_trees}
-use Rattle.example_air.specs.Proving.{AreTables, IsKept, IsTablesProof, LacksTablesProof, tables_batch}
-use Rattle.example_air.specs.Statement.{BytesProof, example_common, table_of}
+use Rattle.example_air.specs.Proving.{AreTables, IsBytesProverData, IsTablesProof, LacksTablesProof, tables_batch}
+use Rattle.example_air.specs.Statement.{BytesProof, example_common, example_table_of}
 use Rattle.example_air.specs.declared.air.ExampleAir.{ExampleAir}
 use Rattle.example_air.specs.declared.air.ExampleAir.TheVariants.{Bits, Bytes}
 use Rattle.example_air.proofs.Traced.{small_log, traced}
@@ -39,7 +39,7 @@ abbrev one_bit : Blowup
 one_bit = record { log_blowup = 1 }
 
 abbrev scheme_with : Blowup → Scheme BabyBear
-scheme_with b = scheme bear_ring bear_inv bear_root (reduce 31) 27 b
+scheme_with b = scheme baby_bear_ring baby_bear_inv baby_bear_root (reduce 31) 27 b
 
 -- the logarithm of the number of rows
 pub few_rows : (t u : Rows BabyBear) → AreTables t u → (k : ℕ) → height t ≡ 2 ^ k → k ≤ 10
@@ -52,7 +52,7 @@ module _ (t u : Rows BabyBear) (t_fills : FillsRows t.values t.width) (A : AreTa
   instances = record { air = Bits; trace = t; public_values = p } ∷ record { air = Bytes; trace = u; public_values = q } ∷ []
 
   abbrev batch : ToolBatch
-  batch = batch_of c (bear_prover (scheme_with b)) (example_declaration bear_ring) (example_trees bear_ring) instances written
+  batch = batch_of c (baby_bear_prover (scheme_with b)) (example_declaration baby_bear_ring) (example_trees baby_bear_ring) instances written
 
   none_masked : masks c ≡ 0
   unfolding tool_setting
@@ -67,24 +67,24 @@ module _ (t u : Rows BabyBear) (t_fills : FillsRows t.values t.width) (A : AreTa
   same_batch : batch ≡ tables_batch t u
   same_batch = λ i. record {
     setting = setting_is i;
-    prover = bear_prover (scheme_with (scheme_is i));
-    statement = record { tables = table_of Bits ∷ table_of Bytes ∷ []; publics = no_p i ∷ no_q i ∷ []; common = common_is i };
+    prover = baby_bear_prover (scheme_with (scheme_is i));
+    statement = record { tables = example_table_of Bits ∷ example_table_of Bytes ∷ []; publics = no_p i ∷ no_q i ∷ []; common = common_is i };
     traces = t ∷ u ∷ [];
     degree_bits = first_bits i ∷ second_bits i ∷ [];
   }
 
-  pub traced_there : WellFormed (example_declaration bear_ring Bits ∷ example_declaration bear_ring Bytes ∷ []) (read_common written) → IsTracedAll batch
+  pub traced_there : WellFormed (example_declaration baby_bear_ring Bits ∷ example_declaration baby_bear_ring Bytes ∷ []) (read_common written) → IsTracedAll batch
   traced_there formed =
       subst (λ (B : ToolBatch). IsTracedAll B) (sym same_batch)
-      (traced t u t_fills A (subst (WellFormed (example_declaration bear_ring Bits ∷ example_declaration bear_ring Bytes ∷ [])) common_is formed))
+      (traced t u t_fills A (subst (WellFormed (example_declaration baby_bear_ring Bits ∷ example_declaration baby_bear_ring Bytes ∷ [])) common_is formed))
 
-  pub kept_there : (kept : Option (List (CosetData BabyBear × Rows BabyBear))) → IsKept written.preprocessed kept → IsKeptWith (plain_commits (scheme_with b)) (preprocessed_all batch) batch.statement.common.preprocessed kept
+  pub kept_there : (kept : Option (List (CosetData BabyBear × Rows BabyBear))) → IsBytesProverData written.preprocessed kept → HasProverData (plain_commits (scheme_with b)) (preprocessed_all batch) batch.statement.common.preprocessed kept
   unfolding tool_setting
   kept_there kept K =
-      subst (λ (B : ToolBatch). IsKeptWith (plain_commits (scheme_with b)) (preprocessed_all B) written.preprocessed kept) (sym same_batch)
-      (subst (λ x. IsKeptWith (plain_commits (scheme_with x)) (preprocessed_all (tables_batch t u)) written.preprocessed kept) (sym scheme_is) K)
+      subst (λ (B : ToolBatch). HasProverData (plain_commits (scheme_with b)) (preprocessed_all B) written.preprocessed kept) (sym same_batch)
+      (subst (λ x. HasProverData (plain_commits (scheme_with x)) (preprocessed_all (tables_batch t u)) written.preprocessed kept) (sym scheme_is) K)
 
-  pub proof_there : (proof : BytesProof) → IsProved (plain_prover_backend (scheme_with b)) batch proof → IsTablesProof t u proof
+  pub proof_there : (proof : BytesProof) → IsHonestProof (plain_prover_backend (scheme_with b)) batch proof → IsTablesProof t u proof
   proof_there proof P = subst (λ (B : ToolBatch). IsBuilt B.setting B.prover B.statement B.traces B.degree_bits proof) same_batch P.built
 
   told : (e : ProvingError PlainProverError) → IsAnswerRefusal (proving_checks (plain_prover_backend (scheme_with one_bit)) (tables_batch t u)) e → LacksTablesProof t u e

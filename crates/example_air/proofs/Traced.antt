@@ -4,19 +4,19 @@ use Rattle.std.proofs.Common.{◌≡◌, ℕ, zero, suc, ◌+◌, ◌-◌, ◌^�
 use Rattle.std.specs.Prelude.{All}
 use Rattle.std.proofs.Math.Pow.{pow-lt}
 use Rattle.std.proofs.lemmas.Bool.{cases_lt}
-use Rattle.p3_field.specs.BabyBear.{bear_ring, reduce}
+use Rattle.p3_field.specs.BabyBear.{baby_bear_ring, reduce}
 use Rattle.p3_field.specs.Laws.Algebra.{one_mul}
-use Rattle.p3_field.specs.Laws.BearField.{bear_31, bear_31_power}
-use Rattle.p3_field.specs.Laws.BearLaws.{bear_laws}
-use Rattle.p3_field.specs.Laws.Tables.{length-table}
-use Rattle.p3_field.specs.Poly.{table}
+use Rattle.p3_field.specs.Laws.BabyBearField.{baby_bear_31, baby_bear_31_power}
+use Rattle.p3_field.specs.Laws.BabyBearLaws.{baby_bear_laws}
+use Rattle.p3_field.specs.Laws.Tabulate.{length-tabulate}
+use Rattle.p3_field.specs.Poly.{tabulate}
 use Rattle.p3_field.specs.Quartic.{quartic_inv}
 use Rattle.p3_field.specs.Ring.{of_nat, pow}
 use Rattle.p3_field.specs.declared.baby_bear.BabyBear.{BabyBear}
 use Rattle.p3_field.specs.declared.quartic.QuarticExtension.{QuarticExtension}
 use Rattle.p3_matrix.specs.Matrix.{FillsRows, Rows, height}
 use Rattle.p3_matrix.specs.Laws.Grids.{product_fills}
-use Rattle.p3_air.specs.Gadgets.{packed}
+use Rattle.p3_air.specs.Gadgets.{packed_bits}
 use Rattle.p3_commit.specs.Periodic.{IsPeriod}
 use Rattle.p3_lookup.specs.Lookup.{lookups_of}
 use Rattle.batch_constraints.specs.Sizing.{log_chunks}
@@ -24,35 +24,35 @@ use Rattle.batch_constraints.specs.Laws.Logarithms.{log_ceil_least}
 use Rattle.batch_setup.specs.Setup.{log_of}
 use Rattle.batch_setup.specs.Laws.Logarithms.{log_of_power}
 use Rattle.batch_shape_checks.specs.ShapeChecks.{chunks_of_table}
-use Rattle.batch_claims.specs.ClaimChecks.{HasBits}
+use Rattle.batch_claims.specs.ClaimChecks.{HasDegreeBits}
 use Rattle.batch_setting.specs.Setting.{masks}
 use Rattle.batch_statement.specs.Statement.{WellFormed, entry_of}
 use Rattle.batch_validity.specs.Traced.{TracedTable, committed_alone, log_parts, log_rows, no_rows, quotient_shift, traces_of}
 use Rattle.batch_validity.specs.Valid.{HasQuotientDomain, IsTraced}
 use Rattle.batch_validity.specs.Laws.Columns.{column_height, column_tall, pieces_height}
 use Rattle.batch_validity.specs.Laws.Committed.{no_rows_tall}
-use Rattle.committed_tables.specs.Laws.BearFields.{bear_fields}
+use Rattle.committed_tables.specs.Laws.BabyBearFields.{baby_bear_fields}
 use Rattle.committed_tables.specs.Laws.Disjoint.{shift_gives_domain}
-use Rattle.committed_tables.specs.Traces.{HaveRows}
+use Rattle.committed_tables.specs.Traces.{HaveTraceRows}
 use Rattle.batch_proving.specs.Batch.{IsTracedAll, table_at}
 use Rattle.tool_statement.specs.Config.{tool_setting}
-use Rattle.example_air.specs.Bytes.{all_bytes, bits_row, bits_rows, bits_trees, bytes_rows, example_declaration, example_interactions, times}
+use Rattle.example_air.specs.Bytes.{all_bytes, bits_row, bits_rows, byte_row_trees, bytes_rows, example_declaration, example_interactions, byte_times}
 use Rattle.example_air.specs.Proving.{AreTables, tables_batch}
-use Rattle.example_air.specs.Statement.{example_common, table_of}
+use Rattle.example_air.specs.Statement.{example_common, example_table_of}
 use Rattle.example_air.specs.declared.air.ExampleAir.{ExampleAir}
 use Rattle.example_air.specs.declared.air.ExampleAir.TheVariants.{Bits, Bytes}
 use Rattle.example_air.proofs.Pushed.{row-long}
 
 -- each table of the batch
 abbrev traced_with : ExampleAir → Rows BabyBear → ℕ → TracedTable BabyBear
-traced_with a trace bits = record { table = table_of a; lookups = lookups_of (example_interactions bear_ring a); publics = []; trace = trace; degree_bits = bits }
+traced_with a trace bits = record { table = example_table_of a; lookups = lookups_of (example_interactions baby_bear_ring a); publics = []; trace = trace; degree_bits = bits }
 
 -- the degree of the constraints is at most two, so that the quotients have one chunk
 one_chunk : (degree : ℕ) → degree ≤ 2 → log_chunks 0 degree ≤ 0
 one_chunk degree h = log_ceil_least (max (degree + 0) 2 - 1) 0 (omega (arith, h))
 
-chunks_are : (a : ExampleAir) (n : ℕ) → chunks_of_table bear_ring 0 n (table_of a) (lookups_of (example_interactions bear_ring a)) ≤ 0
-unfolding bits_trees packed
+chunks_are : (a : ExampleAir) (n : ℕ) → chunks_of_table baby_bear_ring 0 n (example_table_of a) (lookups_of (example_interactions baby_bear_ring a)) ≤ 0
+unfolding byte_row_trees packed_bits
 chunks_are Bits n = one_chunk 2 (omega arith)
 chunks_are Bytes n = one_chunk 2 (omega arith)
 
@@ -70,33 +70,33 @@ no_periods : (n : ℕ) → All (λ (column : List BabyBear). IsPeriod n (length 
 no_periods n = λ i d l. absurd (omega (arith, l))
 
 -- traces as high as they should be
-bits_have : (t : Rows BabyBear) → FillsRows t.values t.width → IsPowerOfTwo (height t) → HaveRows {E = QuarticExtension} (2 ^ log_of (height t)) (traces_of (traced_with Bits t (log_of (height t)))) no_rows
+bits_have : (t : Rows BabyBear) → FillsRows t.values t.width → IsPowerOfTwo (height t) → HaveTraceRows {E = QuarticExtension} (2 ^ log_of (height t)) (traces_of (traced_with Bits t (log_of (height t)))) no_rows
 bits_have t fills power =
     let n = 2 ^ log_of (height t) in
     let l = power_of_log (height t) power in
     record { tall = l; main = record { fills = fills; tall = λ _. l }; preprocessed = tt; permutation = no_rows_tall n; periods = no_periods n }
 
-bytes_have : (u : Rows BabyBear) → FillsRows u.values u.width → height u ≡ 256 → HaveRows {E = QuarticExtension} (2 ^ 8) (traces_of (traced_with Bytes u 8)) no_rows
+bytes_have : (u : Rows BabyBear) → FillsRows u.values u.width → height u ≡ 256 → HaveTraceRows {E = QuarticExtension} (2 ^ 8) (traces_of (traced_with Bytes u 8)) no_rows
 unfolding all_bytes
 bytes_have u fills high = record {
   tall = high;
   main = record { fills = fills; tall = λ _. high };
-  preprocessed = column_tall 256 (table 256 (of_nat bear_ring)) (length-table {A = BabyBear} 256 (of_nat bear_ring));
+  preprocessed = column_tall 256 (tabulate 256 (of_nat baby_bear_ring)) (length-tabulate {A = BabyBear} 256 (of_nat baby_bear_ring));
   permutation = no_rows_tall 256;
   periods = no_periods 256;
 }
 
 -- each quotient has its domain
-domain_is : (t : TracedTable BabyBear) → t.degree_bits ≤ 10 → ((n : ℕ) → chunks_of_table bear_ring 0 n t.table t.lookups ≤ 0) → HasQuotientDomain tool_setting t
+domain_is : (t : TracedTable BabyBear) → t.degree_bits ≤ 10 → ((n : ℕ) → chunks_of_table baby_bear_ring 0 n t.table t.lookups ≤ 0) → HasQuotientDomain tool_setting t
 unfolding tool_setting
 domain_is t low few =
-    let shift_is = sym (one_mul bear_ring bear_laws (reduce 31)) in
+    let shift_is = sym (one_mul baby_bear_ring baby_bear_laws (reduce 31)) in
     let none : masks tool_setting ≡ 0 = refl in
     let one : chunks_of_table tool_setting.field.ring (masks tool_setting) (2 ^ log_rows tool_setting t) t.table t.lookups ≤ 0 = few (2 ^ log_rows tool_setting t) in
     let size : log_rows tool_setting t + log_parts tool_setting t ≤ 10 = omega (arith, low, none, one) in
-    shift_gives_domain tool_setting.field tool_setting.extension 27 quartic_inv bear_fields (committed_alone tool_setting t) (quotient_shift tool_setting) (log_parts tool_setting t) (omega (arith, size))
-    (subst (λ x. x ≡ bear_ring.zero → ⊥) shift_is bear_31)
-    (subst (λ x. pow bear_ring x (2 ^ (log_rows tool_setting t + log_parts tool_setting t)) ≡ bear_ring.one → ⊥) shift_is (bear_31_power (log_rows tool_setting t + log_parts tool_setting t) (omega (arith, size))))
+    shift_gives_domain tool_setting.field tool_setting.extension 27 quartic_inv baby_bear_fields (committed_alone tool_setting t) (quotient_shift tool_setting) (log_parts tool_setting t) (omega (arith, size))
+    (subst (λ x. x ≡ baby_bear_ring.zero → ⊥) shift_is baby_bear_31)
+    (subst (λ x. pow baby_bear_ring x (2 ^ (log_rows tool_setting t + log_parts tool_setting t)) ≡ baby_bear_ring.one → ⊥) shift_is (baby_bear_31_power (log_rows tool_setting t + log_parts tool_setting t) (omega (arith, size))))
 
 module _ (t u : Rows BabyBear) (t_fills : FillsRows t.values t.width) (A : AreTables t u) where
   abbrev table_of_bits : TracedTable BabyBear
@@ -117,7 +117,7 @@ module _ (t u : Rows BabyBear) (t_fills : FillsRows t.values t.width) (A : AreTa
   bits_traced =
       let none : masks tool_setting ≡ 0 = refl in
       let same : log_rows tool_setting table_of_bits ≡ log_of (height t) = omega (arith, none) in
-      let rows = subst (λ n. HaveRows {E = QuarticExtension} (2 ^ n) (traces_of table_of_bits) no_rows) (sym same) (bits_have t t_fills A.power) in
+      let rows = subst (λ n. HaveTraceRows {E = QuarticExtension} (2 ^ n) (traces_of table_of_bits) no_rows) (sym same) (bits_have t t_fills A.power) in
       record { width = A.bits_width; some = omega arith; rows = rows; least = omega arith; most = let h = low in omega (arith, h); publics = refl }
 
   bytes_traced : IsTraced tool_setting table_of_bytes
@@ -131,13 +131,13 @@ module _ (t u : Rows BabyBear) (t_fills : FillsRows t.values t.width) (A : AreTa
   both P a b (suc zero) h = b
   both P a b (suc (suc i)) h = absurd (omega (arith, h))
 
-  entries : (i : ℕ) → i < 2 → HasBits (table_at (tables_batch t u) i).degree_bits (entry_of example_common.preprocessed i)
+  entries : (i : ℕ) → i < 2 → HasDegreeBits (table_at (tables_batch t u) i).degree_bits (entry_of example_common.preprocessed i)
   unfolding example_common
   entries zero h = tt
   entries (suc zero) h = refl
   entries (suc (suc i)) h = absurd (omega (arith, h))
 
-  pub traced : WellFormed (example_declaration bear_ring Bits ∷ example_declaration bear_ring Bytes ∷ []) example_common → IsTracedAll (tables_batch t u)
+  pub traced : WellFormed (example_declaration baby_bear_ring Bits ∷ example_declaration baby_bear_ring Bytes ∷ []) example_common → IsTracedAll (tables_batch t u)
   unfolding example_common tool_setting
   traced formed = record {
     formed = formed;
@@ -149,20 +149,20 @@ module _ (t u : Rows BabyBear) (t_fills : FillsRows t.values t.width) (A : AreTa
   }
 
 -- the traces of a list of bytes are such tables
-bits_high : (bytes : List ℕ) → height (bits_rows bear_ring bytes) ≡ length bytes
-bits_high bytes = pieces_height (bits_row bear_ring) 9 (row-long bear_ring) (omega arith) bytes
+bits_high : (bytes : List ℕ) → height (bits_rows baby_bear_ring bytes) ≡ length bytes
+bits_high bytes = pieces_height (bits_row baby_bear_ring) 9 (row-long baby_bear_ring) (omega arith) bytes
 
-bytes_high : (bytes : List ℕ) → height (bytes_rows bear_ring bytes) ≡ 256
+bytes_high : (bytes : List ℕ) → height (bytes_rows baby_bear_ring bytes) ≡ 256
 unfolding bytes_rows
 bytes_high bytes =
-    column_height {A = BabyBear} (table 256 (λ byte. of_nat bear_ring (times bytes byte)))
-    ∙ length-table {A = BabyBear} 256 (λ byte. of_nat bear_ring (times bytes byte))
+    column_height {A = BabyBear} (tabulate 256 (λ byte. of_nat baby_bear_ring (byte_times bytes byte)))
+    ∙ length-tabulate {A = BabyBear} 256 (λ byte. of_nat baby_bear_ring (byte_times bytes byte))
 
-bytes_wide : (bytes : List ℕ) → (bytes_rows bear_ring bytes).width ≡ 1
+bytes_wide : (bytes : List ℕ) → (bytes_rows baby_bear_ring bytes).width ≡ 1
 unfolding bytes_rows
 bytes_wide bytes = refl
 
-pub are_tables : (bytes : List ℕ) (t u : Rows BabyBear) → t ≡ bits_rows bear_ring bytes → u ≡ bytes_rows bear_ring bytes → IsPowerOfTwo (length bytes) → length bytes ≤ 1024 → AreTables t u
+pub are_tables : (bytes : List ℕ) (t u : Rows BabyBear) → t ≡ bits_rows baby_bear_ring bytes → u ≡ bytes_rows baby_bear_ring bytes → IsPowerOfTwo (length bytes) → length bytes ≤ 1024 → AreTables t u
 are_tables bytes t u e f power few =
     let high : height t ≡ length bytes = ap (λ m. height m) e ∙ bits_high bytes in
     record {

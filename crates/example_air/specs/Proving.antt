@@ -11,22 +11,22 @@ use Rattle.plain_pcs.specs.declared.error.PlainProverError.{PlainProverError}
 use Rattle.batch_setup.specs.Setup.{log_of}
 use Rattle.batch_statement.specs.Statement.{PreprocessedTracesData}
 use Rattle.honest_proofs.specs.HonestProof.{IsBuilt}
-use Rattle.batch_proving.specs.Batch.{Batch, IsKeptWith}
-use Rattle.batch_proving.specs.PlainBackend.{bear_prover, plain_commits, plain_prover_backend}
+use Rattle.batch_proving.specs.Batch.{Batch, HasProverData}
+use Rattle.batch_proving.specs.PlainBackend.{baby_bear_prover, plain_commits, plain_prover_backend}
 use Rattle.batch_proving.specs.Telling.{Tells}
 use Rattle.batch_proving.specs.declared.error.ProvingError.{ProvingError}
 use Rattle.tool_statement.specs.Config.{tool_scheme, tool_setting}
 use Rattle.example_air.specs.Statement.{BytesProof, bytes_column, example_statement}
 
 -- the commitment to the column of all bytes with the prover data that belongs to it
-abbrev pub IsKept : Option (PreprocessedTracesData (PlainCommitmentData BabyBear)) → Option (List (CosetData BabyBear × Rows BabyBear)) → Type 0
-IsKept shared kept = IsKeptWith (plain_commits tool_scheme) (bytes_column ∷ []) shared kept
+abbrev pub IsBytesProverData : Option (PreprocessedTracesData (PlainCommitmentData BabyBear)) → Option (List (CosetData BabyBear × Rows BabyBear)) → Type 0
+IsBytesProverData shared prover_data = HasProverData (plain_commits tool_scheme) (bytes_column ∷ []) shared prover_data
 
 -- the two tables with these traces, over the program's configuration
 abbrev pub tables_batch : (bits times : Rows BabyBear) → Batch Sha256Challenger BabyBear QuarticExtension (PlainCommitmentData BabyBear)
 tables_batch bits times = record {
   setting = tool_setting;
-  prover = bear_prover tool_scheme;
+  prover = baby_bear_prover tool_scheme;
   statement = example_statement;
   traces = bits ∷ times ∷ [];
   degree_bits = log_of (height bits) ∷ 8 ∷ [];

@@ -1,6 +1,6 @@
 -- What is stated of the two tables over the program's configuration, and what an accepted proof of them means.
 use Rattle.std.specs.Prelude.{◌≡◌, ℕ, ◌^◌, ◌<◌, ◌⊎◌, [], ◌∷◌, None, Some}
-use Rattle.p3_field.specs.BabyBear.{bear_ring}
+use Rattle.p3_field.specs.BabyBear.{baby_bear_ring}
 use Rattle.p3_field.specs.Checks.{Check}
 use Rattle.p3_field.specs.Domain.{CosetData}
 use Rattle.p3_field.specs.declared.baby_bear.BabyBear.{BabyBear}
@@ -13,15 +13,15 @@ use Rattle.plain_pcs.specs.Extension.{commitment_of}
 use Rattle.plain_pcs.specs.Scheme.{PlainCommitmentData}
 use Rattle.plain_pcs.specs.declared.commitment.PlainProof.{PlainProof}
 use Rattle.plain_pcs.specs.declared.error.PlainError.{PlainError}
-use Rattle.committed_tables.specs.Fields.{bear_field}
+use Rattle.committed_tables.specs.Fields.{baby_bear_field}
 use Rattle.batch_claims.specs.Claims.{bits_at}
 use Rattle.batch_setup.specs.Preprocessed.{natural}
 use Rattle.batch_statement.specs.Proof.{ProofData}
-use Rattle.batch_statement.specs.Statement.{Common, Statement, Table}
+use Rattle.batch_statement.specs.Statement.{Common, Statement, AirTable}
 use Rattle.batch_statement.specs.declared.error.BatchVerificationError.{BatchVerificationError}
 use Rattle.batch_statement.specs.declared.error.BatchVerificationError.TheVariants.{Verification}
 use Rattle.plain_soundness.specs.BaseRows.{main_row}
-use Rattle.plain_soundness.specs.CommittedBatch.{committed_table}
+use Rattle.plain_soundness.specs.CommittedBatch.{committed_table_at}
 use Rattle.plain_soundness.specs.Meaning.{IsAlphaUnlucky, IsZetaUnlucky}
 use Rattle.tool_statement.specs.Config.{tool_scheme, tool_setting}
 use Rattle.example_air.specs.Bytes.{all_bytes, bits_row, example_declaration, example_interactions, example_trees}
@@ -31,12 +31,12 @@ use Rattle.example_air.specs.declared.air.ExampleAir.TheVariants.{Bits, Bytes}
 abbrev pub BytesProof : Type 0
 BytesProof = ProofData BabyBear QuarticExtension (PlainCommitmentData BabyBear) PlainProof
 
-abbrev pub table_of : ExampleAir → Table BabyBear
-table_of a = record { declaration = example_declaration bear_ring a; trees = example_trees bear_ring a }
+abbrev pub example_table_of : ExampleAir → AirTable BabyBear
+example_table_of a = record { declaration = example_declaration baby_bear_ring a; trees = example_trees baby_bear_ring a }
 
 -- the column of all bytes, on the subgroup of its size
 abbrev pub bytes_column : CosetData BabyBear × Rows BabyBear
-bytes_column = (natural bear_ring.one 8, record { values = all_bytes bear_ring; width = 1 })
+bytes_column = (natural baby_bear_ring.one 8, record { values = all_bytes baby_bear_ring; width = 1 })
 
 -- What prover and verifier share: the commitment to the column of all bytes, which has 2^8 rows and belongs to the second table; and each table's lookup.
 unfoldable pub example_common : Common BabyBear (PlainCommitmentData BabyBear)
@@ -46,12 +46,12 @@ example_common = record {
     instances = None ∷ Some (record { matrix_index = 0; width = 1; degree_bits = 8 }) ∷ [];
     matrix_to_instance = 1 ∷ [];
   });
-  lookups = lookups_of (example_interactions bear_ring Bits) ∷ lookups_of (example_interactions bear_ring Bytes) ∷ [];
+  lookups = lookups_of (example_interactions baby_bear_ring Bits) ∷ lookups_of (example_interactions baby_bear_ring Bytes) ∷ [];
 }
 
 -- the two tables, without public values
 abbrev pub example_statement : Statement BabyBear (PlainCommitmentData BabyBear)
-example_statement = record { tables = table_of Bits ∷ table_of Bytes ∷ []; publics = [] ∷ [] ∷ []; common = example_common }
+example_statement = record { tables = example_table_of Bits ∷ example_table_of Bytes ∷ []; publics = [] ∷ [] ∷ []; common = example_common }
 
 -- the table of bits has 2^log_rows rows, by the proof's degree bits
 abbrev pub height_check : (log_rows : ℕ) → BytesProof → Check (BatchVerificationError PlainError)
@@ -67,4 +67,4 @@ height_check log_rows p =
 abbrev pub RowsAreBytes : (log_rows : ℕ) → BytesProof → Type 0
 RowsAreBytes log_rows p =
     (IsAlphaUnlucky tool_setting 1 example_statement p → ⊥) → (IsZetaUnlucky tool_setting 1 example_statement p → ⊥)
-    → (i : ℕ) → i < 2 ^ log_rows → (byte : ℕ) × (byte < 256) × (main_row bear_field (committed_table tool_setting 1 example_statement p 0) i ≡ bits_row bear_ring byte)
+    → (i : ℕ) → i < 2 ^ log_rows → (byte : ℕ) × (byte < 256) × (main_row baby_bear_field (committed_table_at tool_setting 1 example_statement p 0) i ≡ bits_row baby_bear_ring byte)

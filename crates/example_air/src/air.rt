@@ -1,10 +1,10 @@
 //! The two tables as AIRs.
 ghost use Rattle.std.specs.Prelude.{◌≡◌, ◌<◌, ◌≤◌, false, [], ◌∷◌, IfOk, IsOk, IsTrue, OnErr, map};
-ghost use Rattle.p3_field.specs.Poly.{table};
+ghost use Rattle.p3_field.specs.Poly.{tabulate};
 ghost use Rattle.p3_air.specs.declared.cells.Cell.TheVariants.{Preprocessed};
-ghost use Rattle.p3_air.specs.Gadgets.{StandAt};
+ghost use Rattle.p3_air.specs.Gadgets.{RepresentAt};
 ghost use Rattle.p3_air.specs.Tree.{SomeFirst, cell as cell_tree, constant, difference, over_base};
-ghost use Rattle.example_air.specs.Bytes.{all_bytes, bits_trees, byte_sent, column as column_tree, example_declaration, example_interactions, example_trees};
+ghost use Rattle.example_air.specs.Bytes.{all_bytes, byte_row_trees, byte_sent, main_column as column_tree, example_declaration, example_interactions, example_trees};
 ghost use Rattle.example_air.specs.Laws.Reads.{example-counts, example-has_columns, example-interactions_read, example-next, example-preprocessed_next, example-read, example-whole};
 
 use p3_air::{Air, AirBuilder, BaseAir, Cell, Count, InteractionBuilder, pack_bits_le};
@@ -12,7 +12,7 @@ use p3_field::{Field, FieldCore, Mem, RingCore};
 use p3_matrix::RowMajorMatrix;
 use std::alloc::Global;
 
-/// One of the two tables (own), so that both are of one type and can stand in one batch.
+/// One of the two tables (not in Plonky3), so that both are of one type and can stand in one batch.
 #[derive(Clone, Copy)]
 pub enum ExampleAir {
     /// A row is a byte: eight columns with its bits, the lowest first, and a ninth with their number, which is sent on the bus `bytes`
@@ -98,10 +98,10 @@ impl<F: Field> BaseAir<F> for ExampleAir {
 // The cell of this row in a main column.
 fn column<AB: AirBuilder>(builder: &mut AB, column: usize) -> Mem<AB::Expr>
     requires { column < (AB.shape builder.old).main }
-    ensures same { AB.shape builder.new ≡ AB.shape builder.old }
-    ensures grows { AB.grows builder.old builder.new [] [] }
+    ensures keeps_shape { AB.shape builder.new ≡ AB.shape builder.old }
+    ensures appends { AB.appends builder.old builder.new [] [] }
     ensures answers { IsTrue AB.never_fails → IsOk result }
-    ensures stands { IfOk result (λ e. AB.stands builder.new e (column_tree column)) }
+    ensures represents { IfOk result (λ e. AB.represents builder.new e (column_tree column)) }
 {
     builder.cell(Cell::Main {
         next: false,
@@ -112,10 +112,10 @@ fn column<AB: AirBuilder>(builder: &mut AB, column: usize) -> Mem<AB::Expr>
 // The cells of the first eight columns.
 fn bits<AB: AirBuilder>(builder: &mut AB) -> Mem<[AB::Expr; 8]>
     requires { 9 ≤ (AB.shape builder.old).main }
-    ensures same { AB.shape builder.new ≡ AB.shape builder.old }
-    ensures grows { AB.grows builder.old builder.new [] [] }
+    ensures keeps_shape { AB.shape builder.new ≡ AB.shape builder.old }
+    ensures appends { AB.appends builder.old builder.new [] [] }
     ensures answers { IsTrue AB.never_fails → IsOk result }
-    ensures stands { IfOk result (λ es. StandAt (AB.stands builder.new) es column_tree) }
+    ensures represents { IfOk result (λ es. RepresentAt (AB.represents builder.new) es column_tree) }
 {
     let first = column(builder, 0)?;
     let mut cells = [first; 8];
@@ -129,10 +129,10 @@ fn bits<AB: AirBuilder>(builder: &mut AB) -> Mem<[AB::Expr; 8]>
 fn assert_bits<AB: AirBuilder>(builder: &mut AB) -> Mem<()>
     requires { 9 ≤ (AB.shape builder.old).main }
     ensures later { AB.later builder.old builder.new }
-    ensures same { AB.shape builder.new ≡ AB.shape builder.old }
+    ensures keeps_shape { AB.shape builder.new ≡ AB.shape builder.old }
     ensures answers { IsTrue AB.never_fails → IsOk result }
-    ensures grows { IfOk result (λ _. AB.grows builder.old builder.new (map over_base (bits_trees AB.F.ring)) []) }
-    ensures refused { OnErr result (SomeFirst (AB.grows builder.old builder.new) (map over_base (bits_trees AB.F.ring)) []) }
+    ensures appends { IfOk result (λ _. AB.appends builder.old builder.new (map over_base (byte_row_trees AB.F.ring)) []) }
+    ensures on_error { OnErr result (SomeFirst (AB.appends builder.old builder.new) (map over_base (byte_row_trees AB.F.ring)) []) }
 {
     let bits = bits(builder)?;
     builder.assert_bools(&bits)?;
@@ -146,10 +146,10 @@ fn assert_bits<AB: AirBuilder>(builder: &mut AB) -> Mem<()>
 fn send_number<AB: InteractionBuilder>(builder: &mut AB, one: AB::F) -> Mem<()>
     requires { 9 ≤ (AB.shape builder.old).main }
     ensures later { AB.later builder.old builder.new }
-    ensures same { AB.shape builder.new ≡ AB.shape builder.old }
+    ensures keeps_shape { AB.shape builder.new ≡ AB.shape builder.old }
     ensures answers { IsTrue AB.never_fails → IsOk result }
-    ensures grows { IfOk result (λ _. AB.grows builder.old builder.new [] (byte_sent (column_tree 8) (constant one) 1 ∷ [])) }
-    ensures refused { OnErr result (AB.grows builder.old builder.new [] []) }
+    ensures appends { IfOk result (λ _. AB.appends builder.old builder.new [] (byte_sent (column_tree 8) (constant one) 1 ∷ [])) }
+    ensures on_error { OnErr result (AB.appends builder.old builder.new [] []) }
 {
     let number = column(builder, 8)?;
     let value = builder.constant(one)?;
@@ -161,10 +161,10 @@ fn send_byte<AB: InteractionBuilder>(builder: &mut AB, nothing: AB::F) -> Mem<()
     requires main { 1 ≤ (AB.shape builder.old).main }
     requires preprocessed { 1 ≤ (AB.shape builder.old).preprocessed }
     ensures later { AB.later builder.old builder.new }
-    ensures same { AB.shape builder.new ≡ AB.shape builder.old }
+    ensures keeps_shape { AB.shape builder.new ≡ AB.shape builder.old }
     ensures answers { IsTrue AB.never_fails → IsOk result }
-    ensures grows { IfOk result (λ _. AB.grows builder.old builder.new [] (byte_sent (cell_tree (Preprocessed false 0)) (difference (constant nothing) (column_tree 0)) 1024 ∷ [])) }
-    ensures refused { OnErr result (AB.grows builder.old builder.new [] []) }
+    ensures appends { IfOk result (λ _. AB.appends builder.old builder.new [] (byte_sent (cell_tree (Preprocessed false 0)) (difference (constant nothing) (column_tree 0)) 1024 ∷ [])) }
+    ensures on_error { OnErr result (AB.appends builder.old builder.new [] []) }
 {
     let byte = builder.cell(Cell::Preprocessed {
         next: false,

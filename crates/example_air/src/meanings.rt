@@ -1,6 +1,6 @@
 //! What the constraints mean: a law as the contract of a function that computes nothing.
 ghost use Rattle.std.specs.Prelude.{◌^◌, ◌<◌};
-ghost use Rattle.example_air.specs.Meanings.{RowMeans};
+ghost use Rattle.example_air.specs.Meanings.{ByteRowMeans};
 
 use p3_field::PrimeField64;
 
@@ -8,5 +8,5 @@ use p3_field::PrimeField64;
 /// byte. The order of the field is above 2^20.
 pub fn rows_are_bytes<F: PrimeField64>()
     requires { 2 ^ 20 < F.ORDER_U64 }
-    ensures { RowMeans F.ring }
+    ensures { ByteRowMeans F.ring }
 {}

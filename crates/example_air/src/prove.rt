@@ -1,7 +1,7 @@
 //! Proofs of the two tables.
 ghost use Rattle.std.specs.Int.{IsPowerOfTwo};
 ghost use Rattle.std.specs.Prelude.{◌≤◌, IfErr, IfOk, length};
-ghost use Rattle.p3_field.specs.BabyBear.{bear_ring};
+ghost use Rattle.p3_field.specs.BabyBear.{baby_bear_ring};
 ghost use Rattle.example_air.specs.Bytes.{bits_rows, bytes_rows};
 ghost use Rattle.example_air.specs.Proving.{AreTables, IsTablesProof, LacksTablesProof};
 
@@ -57,8 +57,8 @@ pub fn prove_bytes(
 ) -> Result<BatchProof<ToolConfig>, ProvingError<PlainProverError>>
     requires power { IsPowerOfTwo (length bytes.now) }
     requires few { length bytes.now ≤ 1024 }
-    ensures proved { IfOk result (IsTablesProof (bits_rows bear_ring bytes.now) (bytes_rows bear_ring bytes.now)) }
-    ensures refusal { IfErr result (LacksTablesProof (bits_rows bear_ring bytes.now) (bytes_rows bear_ring bytes.now)) }
+    ensures proved { IfOk result (IsTablesProof (bits_rows baby_bear_ring bytes.now) (bytes_rows baby_bear_ring bytes.now)) }
+    ensures refusal { IfErr result (LacksTablesProof (bits_rows baby_bear_ring bytes.now) (bytes_rows baby_bear_ring bytes.now)) }
 {
     let bits = bits_trace(alloc, bytes)?;
     let times = bytes_trace(alloc, bytes)?;

@@ -1,13 +1,13 @@
 //! What prover and verifier share of the two tables.
 ghost use Rattle.std.specs.Prelude.{◌≡◌, ◌≤◌, [], ◌∷◌, IfOk, map};
-ghost use Rattle.p3_field.specs.BabyBear.{bear_ring};
+ghost use Rattle.p3_field.specs.BabyBear.{baby_bear_ring};
 ghost use Rattle.p3_commit.specs.Commitments.{IsCommitment};
 ghost use Rattle.plain_pcs.specs.Extension.{commitment_of};
 ghost use Rattle.plain_pcs.specs.Holding.{AreHolding, IsMade};
 ghost use Rattle.batch_statement.specs.Statement.{WellFormed, read_common};
 ghost use Rattle.tool_statement.specs.Config.{tool_scheme};
 ghost use Rattle.example_air.specs.Bytes.{example_declaration};
-ghost use Rattle.example_air.specs.Proving.{IsKept};
+ghost use Rattle.example_air.specs.Proving.{IsBytesProverData};
 ghost use Rattle.example_air.specs.Statement.{example_common};
 
 use crate::air::ExampleAir;
@@ -27,8 +27,8 @@ pub(crate) fn prover_data(
     requires rows { log_rows ≤ 10 }
     requires scheme { config.now.pcs ≡ record { log_blowup = 1 } }
     ensures common { IfOk result (λ d. read_common d.common ≡ example_common) }
-    ensures formed { IfOk result (λ d. WellFormed (map (example_declaration bear_ring) (ExampleAir.Bits ∷ ExampleAir.Bytes ∷ [])) (read_common d.common)) }
-    ensures kept { IfOk result (λ d. IsKept d.common.preprocessed d.prover_only.preprocessed_prover_data) }
+    ensures formed { IfOk result (λ d. WellFormed (map (example_declaration baby_bear_ring) (ExampleAir.Bits ∷ ExampleAir.Bytes ∷ [])) (read_common d.common)) }
+    ensures prover_data { IfOk result (λ d. IsBytesProverData d.common.preprocessed d.prover_only.preprocessed_prover_data) }
 {
     let airs = [ExampleAir::Bits, ExampleAir::Bytes];
     match ProverData::<ToolConfig>::from_airs_and_degrees(alloc, config, &airs, &[log_rows, 8]) {

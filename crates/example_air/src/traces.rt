@@ -1,8 +1,8 @@
 //! The traces of a list of bytes.
 ghost use Rattle.std.specs.Prelude.{◌≡◌, ◌+◌, ◌<◌, ◌≤◌, ◌++◌, IfOk, OnOk, length};
-ghost use Rattle.p3_field.specs.BabyBear.{bear_ring};
-ghost use Rattle.p3_field.specs.Poly.{table};
-ghost use Rattle.example_air.specs.Bytes.{bits_row, bits_rows, bytes_rows, times};
+ghost use Rattle.p3_field.specs.BabyBear.{baby_bear_ring};
+ghost use Rattle.p3_field.specs.Poly.{tabulate};
+ghost use Rattle.example_air.specs.Bytes.{bits_row, bits_rows, bytes_rows, byte_times};
 
 use p3_field::{BabyBear, Mem, RingCore};
 use p3_matrix::RowMajorMatrix;
@@ -10,7 +10,7 @@ use std::alloc::Global;
 
 // Appends the row of a byte: its bits, the lowest first, and the byte.
 fn push_row(values: &mut Vec<BabyBear>, byte: u8) -> Mem<()>
-    ensures { OnOk result (values.new.items ≡ values.old.items ++ bits_row bear_ring byte) }
+    ensures { OnOk result (values.new.items ≡ values.old.items ++ bits_row baby_bear_ring byte) }
 {
     for i in 0..8usize {
         values.push(BabyBear::from_u64((byte >> i) as u64 % 2))?;
@@ -23,7 +23,7 @@ fn push_row(values: &mut Vec<BabyBear>, byte: u8) -> Mem<()>
 /// of memory.
 pub fn bits_trace(alloc: Global, bytes: &[u8]) -> Mem<RowMajorMatrix<BabyBear>>
     requires { length bytes.now ≤ 1024 }
-    ensures { IfOk result (λ m. m ≡ bits_rows bear_ring bytes.now) }
+    ensures { IfOk result (λ m. m ≡ bits_rows baby_bear_ring bytes.now) }
 {
     let mut values = Vec::with_capacity(alloc, 9 * bytes.len())?;
     for byte in bytes {
@@ -35,7 +35,7 @@ pub fn bits_trace(alloc: Global, bytes: &[u8]) -> Mem<RowMajorMatrix<BabyBear>>
 // How often each byte stands there.
 fn times_of(bytes: &[u8]) -> [u64; 256]
     requires { length bytes.now ≤ 1024 }
-    ensures { result ≡ table 256 (times bytes.now) }
+    ensures { result ≡ tabulate 256 (byte_times bytes.now) }
 {
     let mut counts = [0; 256];
     for byte in bytes {
@@ -47,7 +47,7 @@ fn times_of(bytes: &[u8]) -> [u64; 256]
 /// The table of all bytes for a list of up to 1024: in row b how often b stands in the list. The only error is running out of memory.
 pub fn bytes_trace(alloc: Global, bytes: &[u8]) -> Mem<RowMajorMatrix<BabyBear>>
     requires { length bytes.now ≤ 1024 }
-    ensures { IfOk result (λ m. m ≡ bytes_rows bear_ring bytes.now) }
+    ensures { IfOk result (λ m. m ≡ bytes_rows baby_bear_ring bytes.now) }
 {
     let counts = times_of(bytes);
     let mut values = Vec::with_capacity(alloc, 256)?;

@@ -7,7 +7,7 @@ use Rattle.p3_air.specs.Joined.{joined}
 use Rattle.hash_lines.specs.Laws.RowText.{words_line_is}
 use Rattle.hash_lines.specs.RowText.{word_text, words_line}
 
--- the first word, all others behind spaces, and an LF
+-- the first word, all others after spaces, and an LF
 pub line_made : (ws : List ℕ) (old a b new : List ℕ) (i : ℕ) → 0 < length ws → a ≡ old ++ word_text (get_or ws 0 0)
     → b ≡ a ++ flat_map (λ v. 32 ∷ word_text v) (take i (take (length ws - 1) (drop 1 ws))) → length (take (length ws - 1) (drop 1 ws)) ≤ i → new ≡ b ++ 10 ∷ [] → new ≡ old ++ words_line ws
 line_made [] old a b new i pos e f le g = absurd (omega (arith, pos))

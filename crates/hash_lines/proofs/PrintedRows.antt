@@ -2,7 +2,7 @@
 use Rattle.std.proofs.Common.{◌≡◌, ℕ, ◌^◌, ◌<◌, List, Some, length, get_or, refl, sym, ◌∙◌, ap}
 use Rattle.std.proofs.lemmas.Option.{get_or_from_slice_get, slice_get-get_or, slice_get_read}
 use Rattle.p3_air.specs.Joined.{joined}
-use Rattle.p3_field.specs.BabyBear.{bear_ring, bear_root}
+use Rattle.p3_field.specs.BabyBear.{baby_bear_ring, baby_bear_root}
 use Rattle.p3_field.specs.Domain.{point}
 use Rattle.p3_field.specs.Laws.SubgroupSelectors.{subgroup}
 use Rattle.p3_field.specs.declared.baby_bear.BabyBear.{BabyBear}
@@ -11,21 +11,21 @@ use Rattle.proof_text.specs.ProofText.{ToolProofData}
 use Rattle.tool_statement.specs.Config.{tool_scheme, tool_setting}
 use Rattle.tool_statement.specs.declared.table.TableStatement.{TableStatement}
 use Rattle.tool_statement.specs.declared.table.TableStatement.TheVariants.{Hash, Take}
-use Rattle.hash_lines.specs.Columns.{cells_at}
+use Rattle.hash_lines.specs.Columns.{polynomial_cells_at}
 use Rattle.hash_lines.specs.PrintedRows.{HasHashMatrices, HasHashMatrix, committed_cells, table_lines}
 use Rattle.hash_lines.specs.RowText.{row_line}
 
 module _ (tables : List TableStatement) (p : ToolProofData) (i k : ℕ) (degree : get_or p.degree_bits i 0 ≡ k) where
-  cells_are : (row : ℕ) → committed_cells tables p i row ≡ cells_at (polynomials_at tool_scheme k p.commitments.main i) (point bear_ring bear_root (subgroup bear_ring k) row)
+  cells_are : (row : ℕ) → committed_cells tables p i row ≡ polynomial_cells_at (polynomials_at tool_scheme k p.commitments.main i) (point baby_bear_ring baby_bear_root (subgroup baby_bear_ring k) row)
   unfolding tool_setting
-  cells_are row = ap (λ n. cells_at (polynomials_at tool_scheme n p.commitments.main i) (point bear_ring bear_root (subgroup bear_ring n) row)) degree
+  cells_are row = ap (λ n. polynomial_cells_at (polynomials_at tool_scheme n p.commitments.main i) (point baby_bear_ring baby_bear_root (subgroup baby_bear_ring n) row)) degree
 
   -- the lines of a hash table, off polynomials that are these
   pub lines_are : (fs : List (List BabyBear)) → fs ≡ polynomials_at tool_scheme k p.commitments.main i → get_or tables i (Take 0) ≡ Hash k
-      → joined (2 ^ k) (λ row. row_line row (cells_at fs (point bear_ring bear_root (subgroup bear_ring k) row))) ≡ table_lines tables p i (get_or tables i (Take 0))
+      → joined (2 ^ k) (λ row. row_line row (polynomial_cells_at fs (point baby_bear_ring baby_bear_root (subgroup baby_bear_ring k) row))) ≡ table_lines tables p i (get_or tables i (Take 0))
   lines_are fs e here =
-      let off : joined (2 ^ k) (λ row. row_line row (cells_at fs (point bear_ring bear_root (subgroup bear_ring k) row))) ≡ table_lines tables p i (Hash k)
-      = ap (λ gs. joined (2 ^ k) (λ row. row_line row (cells_at gs (point bear_ring bear_root (subgroup bear_ring k) row)))) e ∙ (λ j. joined (2 ^ k) (λ row. row_line row (sym (cells_are row) j))) in
+      let off : joined (2 ^ k) (λ row. row_line row (polynomial_cells_at fs (point baby_bear_ring baby_bear_root (subgroup baby_bear_ring k) row))) ≡ table_lines tables p i (Hash k)
+      = ap (λ gs. joined (2 ^ k) (λ row. row_line row (polynomial_cells_at gs (point baby_bear_ring baby_bear_root (subgroup baby_bear_ring k) row)))) e ∙ (λ j. joined (2 ^ k) (λ row. row_line row (sym (cells_are row) j))) in
       off ∙ ap (table_lines tables p i) (sym here)
 
 -- a table that is read at its place

@@ -3,15 +3,15 @@ use Rattle.std.specs.Prelude.{◌≡◌, ℕ, List, ◌++◌}
 use Rattle.p3_blake3.specs.Compress.{Input, compress}
 use Rattle.p3_blake3.specs.Generated.{words_of}
 use Rattle.p3_blake3.specs.TraceRow.{AreWords, trace_row}
-use Rattle.p3_field.specs.BabyBear.{bear_ring}
-use Rattle.p3_field.specs.Poly.{table}
+use Rattle.p3_field.specs.BabyBear.{baby_bear_ring}
+use Rattle.p3_field.specs.Poly.{tabulate}
 use Rattle.p3_field.specs.declared.baby_bear.BabyBear.{BabyBear}
 use Rattle.hash_lines.specs.RowText.{row_line, words_line}
 
 -- the 28 words that are compressed, and the 16 of the compression
-unfoldable pub compression_words : Input → List ℕ
-compression_words x = table 28 x ++ words_of (compress x)
+unfoldable pub printed_compression_words : Input → List ℕ
+printed_compression_words x = tabulate 28 x ++ words_of (compress x)
 
 -- The law of a row that is one compression's: it is readable, and its line is that of these words.
 abbrev pub PrintsCompressions : Type 0
-PrintsCompressions = (row : ℕ) (cells : List BabyBear) (x : Input) → AreWords x → cells ≡ trace_row bear_ring x → row_line row cells ≡ words_line (compression_words x)
+PrintsCompressions = (row : ℕ) (cells : List BabyBear) (x : Input) → AreWords x → cells ≡ trace_row baby_bear_ring x → row_line row cells ≡ words_line (printed_compression_words x)

@@ -6,7 +6,7 @@ use Rattle.p3_field.specs.declared.baby_bear.BabyBear.{BabyBear}
 use Rattle.p3_matrix.specs.Matrix.{height}
 use Rattle.plain_soundness.specs.BaseRows.{main_row}
 use Rattle.plain_soundness.specs.Commitment.{matrix_at}
-use Rattle.plain_soundness.specs.CommittedBatch.{committed_table}
+use Rattle.plain_soundness.specs.CommittedBatch.{committed_table_at}
 use Rattle.proof_text.specs.ProofText.{ToolProofData}
 use Rattle.tool_statement.specs.Config.{tool_setting}
 use Rattle.tool_statement.specs.StatedTables.{tool_statement}
@@ -16,7 +16,7 @@ use Rattle.hash_lines.specs.RowText.{row_line}
 
 -- the cells of a row of table i: the values of its committed columns over the base field at the row's point
 abbrev pub committed_cells : List TableStatement → ToolProofData → (i row : ℕ) → List BabyBear
-committed_cells tables p i row = main_row tool_setting.field (committed_table tool_setting 1 (tool_statement tables) p i) row
+committed_cells tables p i row = main_row tool_setting.field (committed_table_at tool_setting 1 (tool_statement tables) p i) row
 
 -- the lines of table i, where it is stated as this: of a hash table one for each row, and none of others
 abbrev pub table_lines : List TableStatement → ToolProofData → (i : ℕ) → TableStatement → List ℕ
@@ -26,7 +26,7 @@ table_lines tables p i (Take k) = []
 table_lines tables p i (Give k) = []
 table_lines tables p i (Hash k) = joined (2 ^ k) (λ row. row_line row (committed_cells tables p i row))
 
--- the lines of all tables in order; no place behind the last is read
+-- the lines of all tables in order; no place after the last is read
 unfoldable pub printed_rows : List TableStatement → ToolProofData → List ℕ
 printed_rows tables p = joined (length tables) (λ i. table_lines tables p i (get_or tables i (Take 0)))
 

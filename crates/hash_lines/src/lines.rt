@@ -34,10 +34,10 @@ fn push_table(
     }
 }
 
-/// The lines of the rows of a statement's hash tables (own), table by table and row by row, off the polynomials that the proof commits to, at the points
-/// of each table's trace domain. A row's line has 44 words of 8 lower-case hexadecimal digits with a space between two: the 28 words that a compression
-/// takes, and the 16 that it gives. A row that has a cell among theirs that is neither zero nor one has the line `row i unreadable`, where i is
-/// its number in its table.
+/// The lines of the rows of a statement's hash tables (not in Plonky3), table by table and row by row, off the polynomials that the proof commits to, at
+/// the points of each table's trace domain. A row's line has 44 words of 8 lower-case hexadecimal digits with a space between two: the 28 words that a
+/// compression takes, and the 16 that it gives. A row that has a cell among theirs that is neither zero nor one has the line `row i unreadable`, where i
+/// is its number in its table.
 ///
 /// The proof has a matrix for each hash table, of the stated height and of 9168 columns, as an accepted proof does
 /// ([`accepted_hash_matrices`](crate::accepted_hash_matrices)). The only error is running out of memory.

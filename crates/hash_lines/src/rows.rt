@@ -1,10 +1,10 @@
 //! The lines of the rows of a table, off the polynomials of its columns.
 ghost use Rattle.std.specs.Prelude.{◌≡◌, ◌≤◌, ◌^◌, ◌++◌, OnOk, length, map};
 ghost use Rattle.p3_air.specs.Joined.{joined};
-ghost use Rattle.p3_field.specs.BabyBear.{bear_ring, bear_root};
+ghost use Rattle.p3_field.specs.BabyBear.{baby_bear_ring, baby_bear_root};
 ghost use Rattle.p3_field.specs.Domain.{point};
 ghost use Rattle.p3_field.specs.Laws.SubgroupSelectors.{subgroup};
-ghost use Rattle.hash_lines.specs.Columns.{cells_at};
+ghost use Rattle.hash_lines.specs.Columns.{polynomial_cells_at};
 ghost use Rattle.hash_lines.specs.RowText.{row_line};
 
 use crate::text::{push_unreadable, push_words};
@@ -21,7 +21,7 @@ fn push_row(
     row: usize,
 ) -> Mem<()>
     requires { length polynomials.now ≡ 9168 }
-    ensures { OnOk result (text.new.items ≡ text.old.items ++ row_line row (cells_at (map (λ f. f.items) polynomials.now) point)) }
+    ensures { OnOk result (text.new.items ≡ text.old.items ++ row_line row (polynomial_cells_at (map (λ f. f.items) polynomials.now) point)) }
 {
     match row_words(alloc, polynomials, point)? {
         Some(words) => push_words(alloc, text, &words),
@@ -32,7 +32,7 @@ fn push_row(
 // The domain of a table of 2^`k` rows.
 fn trace_domain(k: usize) -> TwoAdicMultiplicativeCoset<BabyBear>
     requires { k ≤ 27 }
-    ensures { result ≡ subgroup bear_ring k }
+    ensures { result ≡ subgroup baby_bear_ring k }
 {
     match TwoAdicMultiplicativeCoset::new(BabyBear::ONE, k) {
         Some(domain) => domain,
@@ -50,7 +50,8 @@ pub(crate) fn push_rows(
 ) -> Mem<()>
     requires wide { length polynomials.now ≡ 9168 }
     requires high { k ≤ 27 }
-    ensures { OnOk result (text.new.items ≡ text.old.items ++ joined (2 ^ k) (λ row. row_line row (cells_at (map (λ f. f.items) polynomials.now) (point bear_ring bear_root (subgroup bear_ring k) row)))) }
+    ensures { OnOk result (text.new.items
+        ≡ text.old.items ++ joined (2 ^ k) (λ row. row_line row (polynomial_cells_at (map (λ f. f.items) polynomials.now) (point baby_bear_ring baby_bear_root (subgroup baby_bear_ring k) row)))) }
 {
     let domain = trace_domain(k);
     for row in 0..domain.size() {

@@ -1,9 +1,9 @@
 //! The words of a row, off the polynomials of a table's columns.
 ghost use Rattle.std.specs.Prelude.{◌≡◌, ◌+◌, ◌≤◌, ◌<◌, IfOk, MatchOption, if◌then◌else◌, length, map};
-ghost use Rattle.p3_field.specs.BabyBear.{bear_ring};
-ghost use Rattle.p3_field.specs.Poly.{table};
-ghost use Rattle.hash_lines.specs.Columns.{cells_at};
-ghost use Rattle.hash_lines.specs.RowWords.{HasBits, IsReadable, cell_number, printed_words, word_at, word_column};
+ghost use Rattle.p3_field.specs.BabyBear.{baby_bear_ring};
+ghost use Rattle.p3_field.specs.Poly.{tabulate};
+ghost use Rattle.hash_lines.specs.Columns.{polynomial_cells_at};
+ghost use Rattle.hash_lines.specs.RowWords.{HasBitCells, IsReadable, cell_number, printed_words, word_at, word_column};
 
 use p3_dft::polynomial_value;
 use p3_field::{BabyBear, FieldCore, Mem, PrimeCore64, RingCore};
@@ -12,7 +12,7 @@ use std::alloc::Global;
 // The canonical number of the cell in a column at a point.
 fn cell(polynomials: &[Vec<BabyBear>], point: BabyBear, column: usize) -> u64
     requires { column < length polynomials.now }
-    ensures { result ≡ cell_number (cells_at (map (λ f. f.items) polynomials.now) point) column }
+    ensures { result ≡ cell_number (polynomial_cells_at (map (λ f. f.items) polynomials.now) point) column }
 {
     let value: BabyBear = polynomial_value(&polynomials[column], point);
     value.as_canonical_u64()
@@ -21,8 +21,8 @@ fn cell(polynomials: &[Vec<BabyBear>], point: BabyBear, column: usize) -> u64
 // The word whose bits are the 32 cells from a column on, the lowest first; None exactly where one of these isn't zero or one.
 fn word(polynomials: &[Vec<BabyBear>], point: BabyBear, column: usize) -> Option<u32>
     requires { column + 32 ≤ length polynomials.now }
-    ensures { let cells = cells_at (map (λ f. f.items) polynomials.now) point in
-        MatchOption result (HasBits cells column → ⊥) (λ w. HasBits cells column × (w ≡ word_at cells column)) }
+    ensures { let cells = polynomial_cells_at (map (λ f. f.items) polynomials.now) point in
+        MatchOption result (HasBitCells cells column → ⊥) (λ w. HasBitCells cells column × (w ≡ word_at cells column)) }
 {
     let mut number: u64 = 0;
     let mut bit = 32;
@@ -56,7 +56,7 @@ pub(crate) fn row_words(
     point: BabyBear,
 ) -> Mem<Option<Vec<u32>>>
     requires { length polynomials.now ≡ 9168 }
-    ensures { let cells = cells_at (map (λ f. f.items) polynomials.now) point in
+    ensures { let cells = polynomial_cells_at (map (λ f. f.items) polynomials.now) point in
         IfOk result (λ o. MatchOption o (IsReadable cells → ⊥) (λ v. IsReadable cells × (v.items ≡ printed_words cells))) }
 {
     let mut words = Vec::with_capacity(alloc, 44)?;

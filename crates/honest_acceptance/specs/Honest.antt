@@ -19,5 +19,5 @@ abbrev pub AreRegular : {S F E C : Type 0} → Setting S F E C → Statement F C
 AreRegular c s traces degree_bits = (i : ℕ) → i < length s.tables → IsRegular c (traced_at s traces degree_bits i)
 
 -- the point isn't one of the domain of the table's rows
-abbrev pub IsOutside : {S F E C : Type 0} → Setting S F E C → TracedTable F → E → Type 0
-IsOutside c t x = IsInDomain c.field c.extension (subgroup c.field.ring (log_rows c t)) x → ⊥
+abbrev pub IsOutsideRows : {S F E C : Type 0} → Setting S F E C → TracedTable F → E → Type 0
+IsOutsideRows c t x = IsInDomain c.field c.extension (subgroup c.field.ring (log_rows c t)) x → ⊥

@@ -2,7 +2,7 @@
 pub mod Lengths
 pub mod Rounds
 pub mod Entries
-pub mod Kept
+pub mod HonestMatrices
 pub mod Opened
 pub mod Shape
 pub mod Identity

@@ -4,11 +4,11 @@ use Rattle.std.specs.Prelude.{slice_index_or as get_or}
 use Rattle.std.specs.Prelude.{◌≡◌, ℕ, ◌^◌, List, [], ◌∷◌, ◌++◌, length, map, Option, None, Some, option_to_list}
 use Rattle.std.specs.List.{flat_map}
 use Rattle.p3_field.specs.Domain.{CosetData}
-use Rattle.p3_field.specs.Poly.{table}
+use Rattle.p3_field.specs.Poly.{tabulate}
 use Rattle.p3_field.specs.Ring.{Ring}
 use Rattle.p3_matrix.specs.Matrix.{Rows}
 use Rattle.p3_commit.specs.Claims.{CommitmentClaim, Request}
-use Rattle.p3_commit.specs.Commitments.{Committed, Held, IsMatrixClaim, values_of}
+use Rattle.p3_commit.specs.Commitments.{Committed, OpenedCommitment, IsMatrixClaim, values_of}
 use Rattle.p3_commit.specs.Periodic.{EachFrom}
 use Rattle.batch_claims.specs.Claims.{commitment_in, matrix_tables}
 use Rattle.batch_setting.specs.Domains.{next_by}
@@ -16,7 +16,7 @@ use Rattle.batch_setting.specs.Setting.{Setting, masks}
 use Rattle.batch_statement.specs.Statement.{Statement}
 use Rattle.committed_tables.specs.Quotient.{honest_chunk}
 use Rattle.batch_validity.specs.Traced.{TracedTable, constraints, declared, log_parts, log_rows, quotient_shift, traced_at}
-use Rattle.honest_proofs.specs.HonestProof.{Prover, alpha, challenges_at, committed_table, main_part, permutation_part, quotient_part, where_some, zeta}
+use Rattle.honest_proofs.specs.HonestProof.{Prover, alpha, challenges_at, committed_table, honest_main_commitment, honest_permutation_commitment, honest_quotient_commitment, where_some, zeta}
 
 -- a committed matrix, by the size of its columns' domain and their polynomials, with the points at which it is opened
 pub record OpenedMatrix (F E : Type 0) : Type 0 where
@@ -59,7 +59,7 @@ module _ {S F E C : Type 0} (c : Setting S F E C) (p : Prover F E C) (t : Traced
   }
 
   abbrev pub chunks_opened : List (OpenedMatrix F E)
-  chunks_opened = table (2 ^ log_parts c t) chunk_opened
+  chunks_opened = tabulate (2 ^ log_parts c t) chunk_opened
 
   abbrev pub permutation_opened : List (OpenedMatrix F E)
   permutation_opened = option_to_list (where_some t.lookups (record {
@@ -75,24 +75,24 @@ module _ {S F E C : Type 0} (c : Setting S F E C) (p : Prover F E C) (s : Statem
   -- the matrices of each round: the main columns, the quotients' chunks, the preprocessed columns in the order in which common data lists them, and
   -- the permutation columns where there are lookups
   abbrev pub mains : List (OpenedMatrix F E)
-  mains = table (length s.tables) (of_table (main_opened c p))
+  mains = tabulate (length s.tables) (of_table (main_opened c p))
 
   abbrev pub chunks : List (OpenedMatrix F E)
-  chunks = flat_map (of_table (chunks_opened c p)) (table (length s.tables) (λ i. i))
+  chunks = flat_map (of_table (chunks_opened c p)) (tabulate (length s.tables) (λ i. i))
 
   abbrev pub preprocesseds : List (OpenedMatrix F E)
-  preprocesseds = table (length (matrix_tables s.common.preprocessed)) (λ m. of_table (preprocessed_opened c p) (get_or (matrix_tables s.common.preprocessed) m 0))
+  preprocesseds = tabulate (length (matrix_tables s.common.preprocessed)) (λ m. of_table (preprocessed_opened c p) (get_or (matrix_tables s.common.preprocessed) m 0))
 
   abbrev pub permutations : List (OpenedMatrix F E)
-  permutations = flat_map (of_table (permutation_opened c p)) (table (length s.tables) (λ i. i))
+  permutations = flat_map (of_table (permutation_opened c p)) (tabulate (length s.tables) (λ i. i))
 
   -- all rounds in order
   abbrev pub honest_rounds : List (Round F E C)
   honest_rounds =
-      round_of (Some (main_part c p s traces degree_bits)) mains
-      ++ round_of (Some (quotient_part c p s traces degree_bits w)) chunks
+      round_of (Some (honest_main_commitment c p s traces degree_bits)) mains
+      ++ round_of (Some (honest_quotient_commitment c p s traces degree_bits w)) chunks
       ++ round_of (commitment_in s.common.preprocessed) preprocesseds
-      ++ round_of (permutation_part c p s traces degree_bits w) permutations
+      ++ round_of (honest_permutation_commitment c p s traces degree_bits w) permutations
 
 -- what is held of a round's matrices
 abbrev pub committed_of : {F E : Type 0} → List (OpenedMatrix F E) → List (Committed F)
@@ -104,8 +104,8 @@ pub record IsRoundOf {S F E C : Type 0} (c : Setting S F E C) (r : Round F E C) 
   pub matrices_are : EachFrom r.matrices d.matrices (λ o m. IsMatrixClaim c.extension.ring c.extension.embed (λ (e : CosetData F). 2 ^ e.log_size) o.committed o.points m)
 
 -- what rounds hold, and requests for their matrices at their points, each with some prover data
-abbrev pub held_of : {F E C : Type 0} → List (Round F E C) → List (Held C F)
-held_of rounds = map (λ r. record { commitment = r.commitment; matrices = committed_of r.matrices }) rounds
+abbrev pub opened_commitments_of : {F E C : Type 0} → List (Round F E C) → List (OpenedCommitment C F)
+opened_commitments_of rounds = map (λ r. record { commitment = r.commitment; matrices = committed_of r.matrices }) rounds
 
 abbrev pub AskFor : {F E C D : Type 0} → List (Round F E C) → List (Request D E) → Type 0
 AskFor rounds requests = EachFrom rounds requests (λ r q. q.points ≡ map (λ o. o.points) r.matrices)

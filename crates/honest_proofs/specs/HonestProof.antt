@@ -3,7 +3,7 @@
 use Rattle.std.specs.Prelude.{slice_index_or as get_or}
 use Rattle.std.specs.Prelude.{◌≡◌, ℕ, zero, suc, ◌+◌, ◌*◌, ◌^◌, ◌<◌, List, [], ◌∷◌, ◌++◌, length, map, Option, None, Some, option_map, option_to_list}
 use Rattle.std.specs.List.{filter_map, flat_map}
-use Rattle.p3_field.specs.Poly.{table}
+use Rattle.p3_field.specs.Poly.{tabulate}
 use Rattle.p3_field.specs.Ring.{Ring, of_nat}
 use Rattle.p3_field.specs.Domain.{CosetData, point}
 use Rattle.p3_field.specs.Laws.SubgroupSelectors.{subgroup}
@@ -12,7 +12,7 @@ use Rattle.p3_challenger.specs.Script.{ChallengerOf, Played, begun, play}
 use Rattle.p3_commit.specs.Claims.{CommitmentClaim}
 use Rattle.p3_lookup.specs.Generated.{IsFirstZeroOf, argument_over}
 use Rattle.p3_lookup.specs.Honest.{Argument, RowHasInverses, honest_cell, running_sum}
-use Rattle.batch_transcript.specs.BatchScript.{Shape, bindings_script, main_script, ood_script, pair_script, permutation_script, preprocessed_script, quotient_script, seeded}
+use Rattle.batch_transcript.specs.BatchScript.{BatchShapeData, bindings_script, main_script, ood_script, pair_script, permutation_script, preprocessed_script, quotient_script, seeded}
 use Rattle.batch_transcript.specs.Buses.{batch_layout}
 use Rattle.batch_transcript.specs.Grinding.{IsGround, IsPairGround, LacksPairGround, NonePasses}
 use Rattle.batch_transcript.specs.Running.{drawn_along}
@@ -42,9 +42,9 @@ pub record AreCanonical {F : Type 0} (r : Ring F) (order : ℕ) (canonical : F �
   pub below : (x : F) → canonical x < order
 
 module _ {S F E M : Type 0} (c : ChallengerOf S F E M) where
-  -- the challenger's state behind a script, and the first challenge that is drawn along it, where one is
-  abbrev pub behind : S → List (Played F E M) → S
-  behind s script = (play c (begun E s) script).state
+  -- the challenger's state after a script, and the first challenge that is drawn along it, where one is
+  abbrev pub state_after_script : S → List (Played F E M) → S
+  state_after_script s script = (play c (begun E s) script).state
 
   abbrev pub first_drawn : E → S → List (Played F E M) → E
   first_drawn z s script = get_or (drawn_along c s script) 0 z
@@ -62,29 +62,29 @@ committed_where commitment_of (x ∷ xs) = Some (commitment_of (x ∷ xs))
 -- of a table by itself, for the challenges of its lookups
 module _ {S F E C : Type 0} (c : Setting S F E C) (p : Prover F E C) (t : TracedTable F) (challenges : List E) where
   -- what fixes its permutation columns
-  abbrev pub argument_of : Argument F E
-  argument_of =
+  abbrev pub argument_of_table : Argument F E
+  argument_of_table =
       argument_over c.field.ring c.extension.ring p.inverse c.extension.embed t.trace (declared t).preprocessed t.publics t.lookups challenges
 
   -- no denominator of its fractions is zero
   abbrev pub HasFractions : Type 0
-  HasFractions = (row : ℕ) → row < 2 ^ log_rows c t → RowHasInverses argument_of row
+  HasFractions = (row : ℕ) → row < 2 ^ log_rows c t → RowHasInverses argument_of_table row
 
   -- its permutation columns: the running sum of the fractions, which begins at zero, and the fractions; none without lookups
   abbrev pub columns_for : ℕ → Rows E
   columns_for zero = no_rows
-  columns_for (suc n) = record { values = flat_map (λ row. table (suc n + 1) (honest_cell argument_of row)) (table (2 ^ log_rows c t) (λ row. row)); width = suc n + 1 }
+  columns_for (suc n) = record { values = flat_map (λ row. tabulate (suc n + 1) (honest_cell argument_of_table row)) (tabulate (2 ^ log_rows c t) (λ row. row)); width = suc n + 1 }
 
   unfoldable pub permutation_columns : Rows E
   permutation_columns = columns_for (length t.lookups)
 
   -- its terminal, the sum of all fractions, where it has lookups
-  unfoldable pub terminal_of : Option E
-  terminal_of = where_some t.lookups (running_sum argument_of (2 ^ log_rows c t))
+  unfoldable pub honest_terminal : Option E
+  honest_terminal = where_some t.lookups (running_sum argument_of_table (2 ^ log_rows c t))
 
   -- the table that is committed to
   unfoldable pub committed_table : CommittedTable F E
-  committed_table = committed_with c t permutation_columns challenges (option_to_list terminal_of)
+  committed_table = committed_with c t permutation_columns challenges (option_to_list honest_terminal)
 
   -- what is committed of its permutation columns: their coefficients, on the rows' domain
   abbrev pub permutation_matrices : List (CosetData F × Rows F)
@@ -95,7 +95,7 @@ module _ {S F E C : Type 0} (c : Setting S F E C) (p : Prover F E C) (t : Traced
     -- the quotient's value at point i of its domain, as coefficients
     abbrev pub quotient_row : ℕ → List F
     quotient_row i =
-        c.extension.parts (quotient_value c.field c.extension committed_table (quotient_shift c) (log_parts c t) (constraints c t) alpha
+        c.extension.coefficients (quotient_value c.field c.extension committed_table (quotient_shift c) (log_parts c t) (constraints c t) alpha
         (point c.field.ring c.field.root (quotient_domain c.field c.extension committed_table (quotient_shift c) (log_parts c t)) i))
 
     -- a matrix has all these values, row by row
@@ -106,12 +106,12 @@ module _ {S F E C : Type 0} (c : Setting S F E C) (p : Prover F E C) (t : Traced
 
     -- chunk n: row j is row n + C j of the quotient, which has C chunks
     abbrev pub chunk_rows : ℕ → Rows F
-    chunk_rows n = record { values = flat_map (λ j. quotient_row (n + 2 ^ log_parts c t * j)) (table (2 ^ log_rows c t) (λ j. j)); width = c.extension.dimension }
+    chunk_rows n = record { values = flat_map (λ j. quotient_row (n + 2 ^ log_parts c t * j)) (tabulate (2 ^ log_rows c t) (λ j. j)); width = c.extension.dimension }
 
     -- the chunks, each on its part of the quotient's domain
     abbrev pub chunk_matrices : List (CosetData F × Rows F)
     chunk_matrices =
-        table (2 ^ log_parts c t) (λ n. (chunk_domain c.field c.extension committed_table (quotient_shift c) (log_parts c t) n, chunk_rows n))
+        tabulate (2 ^ log_parts c t) (λ n. (chunk_domain c.field c.extension committed_table (quotient_shift c) (log_parts c t) n, chunk_rows n))
 
     -- What is opened at zeta, and at the next point where next columns are declared: the committed polynomials' values.
     unfoldable pub opened_of : (zeta : E) → OpenedWithLookups E
@@ -143,17 +143,17 @@ module _ {S F E C : Type 0} (c : Setting S F E C) (p : Prover F E C) (s : Statem
     pub traces_long : length traces ≡ length s.tables
     pub each : (i : ℕ) → i < length s.tables → height (traced_at s traces degree_bits i).trace ≡ 2 ^ log_rows c (traced_at s traces degree_bits i)
 
-  abbrev pub shape : Shape
+  abbrev pub shape : BatchShapeData
   shape = script_shape c.zk c.lookup_bits c.ood_bits s
 
-  -- The commitment to the traces, each on the rows' domain; and the state behind it, the public values and the preprocessed commitment
-  abbrev pub main_part : C
-  main_part = p.commitment_of (map (λ t. (subgroup c.field.ring t.degree_bits, t.trace)) tables)
+  -- The commitment to the traces, each on the rows' domain; and the state after it, the public values and the preprocessed commitment
+  abbrev pub honest_main_commitment : C
+  honest_main_commitment = p.commitment_of (map (λ t. (subgroup c.field.ring t.degree_bits, t.trace)) tables)
 
   unfoldable pub state_at_pair : S
   state_at_pair =
-      behind c.challenger (seeded c.challenger c.field.ring c.extension.dimension shape c.initial)
-      (bindings_script c.extension.ring c.extension.dimension degree_bits ++ main_script main_part s.publics ++ preprocessed_script (option_map (λ g. g.commitment) s.common.preprocessed))
+      state_after_script c.challenger (seeded c.challenger c.field.ring c.extension.dimension shape c.initial)
+      (bindings_script c.extension.ring c.extension.dimension degree_bits ++ main_script honest_main_commitment s.publics ++ preprocessed_script (option_map (λ g. g.commitment) s.common.preprocessed))
 
   -- the grinding value before the lookups' pair is the least that passes, and there is none without lookups
   abbrev pub IsLookupGround : Option F → Type 0
@@ -161,53 +161,53 @@ module _ {S F E C : Type 0} (c : Setting S F E C) (p : Prover F E C) (s : Statem
 
   -- for this value:
   module _ (lookup_witness : Option F) where
-    abbrev pub pair_steps : List (Played F E C)
-    pair_steps = pair_script c.extension.dimension shape.num_lookup_instances c.lookup_bits lookup_witness
+    abbrev pub played_pair_steps : List (Played F E C)
+    played_pair_steps = pair_script c.extension.dimension shape.num_lookup_instances c.lookup_bits lookup_witness
 
     -- the pair that is drawn for the lookups, and table i's challenges: for each lookup the base of its bus, then beta
     unfoldable pub pair : List E
-    pair = drawn_along c.challenger state_at_pair pair_steps
+    pair = drawn_along c.challenger state_at_pair played_pair_steps
 
     abbrev pub challenges_at : ℕ → List E
     challenges_at i = get_or (batch_layout c.extension.ring pair s.common.lookups) i []
 
     unfoldable pub state_at_permutation : S
-    state_at_permutation = behind c.challenger state_at_pair pair_steps
+    state_at_permutation = state_after_script c.challenger state_at_pair played_pair_steps
 
     -- what is made of table i for its challenges
     abbrev pub argument_at : ℕ → Argument F E
-    argument_at i = argument_of c p (traced_at s traces degree_bits i) (challenges_at i)
+    argument_at i = argument_of_table c p (traced_at s traces degree_bits i) (challenges_at i)
 
     abbrev pub FractionsAt : ℕ → Type 0
     FractionsAt i = HasFractions c p (traced_at s traces degree_bits i) (challenges_at i)
 
-    abbrev pub committed_at : ℕ → CommittedTable F E
-    committed_at i = committed_table c p (traced_at s traces degree_bits i) (challenges_at i)
+    abbrev pub honest_committed_at : ℕ → CommittedTable F E
+    honest_committed_at i = committed_table c p (traced_at s traces degree_bits i) (challenges_at i)
 
     -- the terminals, and the commitment to the permutation columns of the tables with lookups
     abbrev pub terminals : List (Option E)
-    terminals = table (length s.tables) (λ i. terminal_of c p (traced_at s traces degree_bits i) (challenges_at i))
+    terminals = tabulate (length s.tables) (λ i. honest_terminal c p (traced_at s traces degree_bits i) (challenges_at i))
 
-    abbrev pub permutation_part : Option C
-    permutation_part =
-        committed_where p.commitment_of (flat_map (λ i. permutation_matrices c p (traced_at s traces degree_bits i) (challenges_at i)) (table (length s.tables) (λ i. i)))
+    abbrev pub honest_permutation_commitment : Option C
+    honest_permutation_commitment =
+        committed_where p.commitment_of (flat_map (λ i. permutation_matrices c p (traced_at s traces degree_bits i) (challenges_at i)) (tabulate (length s.tables) (λ i. i)))
 
     abbrev pub alpha_steps : List (Played F E C)
-    alpha_steps = permutation_script c.extension.dimension permutation_part (filter_map (λ t. t) terminals)
+    alpha_steps = permutation_script c.extension.dimension honest_permutation_commitment (filter_map (λ t. t) terminals)
 
     -- the challenge that folds the constraints
     unfoldable pub alpha : E
     alpha = first_drawn c.challenger c.extension.ring.zero state_at_permutation alpha_steps
 
     unfoldable pub state_at_quotient : S
-    state_at_quotient = behind c.challenger state_at_permutation alpha_steps
+    state_at_quotient = state_after_script c.challenger state_at_permutation alpha_steps
 
     -- the commitment to the chunks of all quotients
-    abbrev pub quotient_part : C
-    quotient_part = p.commitment_of (flat_map (λ i. chunk_matrices c p (traced_at s traces degree_bits i) (challenges_at i) alpha) (table (length s.tables) (λ i. i)))
+    abbrev pub honest_quotient_commitment : C
+    honest_quotient_commitment = p.commitment_of (flat_map (λ i. chunk_matrices c p (traced_at s traces degree_bits i) (challenges_at i) alpha) (tabulate (length s.tables) (λ i. i)))
 
     unfoldable pub state_at_ood : S
-    state_at_ood = behind c.challenger state_at_quotient (quotient_script quotient_part None)
+    state_at_ood = state_after_script c.challenger state_at_quotient (quotient_script honest_quotient_commitment None)
 
     -- the grinding value before zeta is the least that passes
     abbrev pub IsOodGround : F → Type 0
@@ -223,13 +223,13 @@ module _ {S F E C : Type 0} (c : Setting S F E C) (p : Prover F E C) (s : Statem
       zeta = first_drawn c.challenger c.extension.ring.zero state_at_ood zeta_steps
 
       unfoldable pub opening_state : S
-      opening_state = behind c.challenger state_at_ood zeta_steps
+      opening_state = state_after_script c.challenger state_at_ood zeta_steps
 
       -- the proof, with this proof of its openings
       unfoldable pub honest_proof : {P : Type 0} → P → ProofData F E C P
       honest_proof opening = record {
-        commitments = record { main = main_part; permutation = permutation_part; quotient_chunks = quotient_part; random = None };
-        instances = table (length s.tables) (λ i. opened_of c p (traced_at s traces degree_bits i) (challenges_at i) alpha zeta);
+        commitments = record { main = honest_main_commitment; permutation = honest_permutation_commitment; quotient_chunks = honest_quotient_commitment; random = None };
+        instances = tabulate (length s.tables) (λ i. opened_of c p (traced_at s traces degree_bits i) (challenges_at i) alpha zeta);
         opening_proof = opening;
         lookup_terminals = terminals;
         degree_bits = degree_bits;

@@ -22,23 +22,30 @@ ghost use Rattle.committed_tables.specs.Identity.{CommittedIdentity};
 ghost use Rattle.committed_tables.specs.Quotient.{honest_quotient, quotient_domain};
 ghost use Rattle.batch_validity.specs.Traced.{TracedTable, constraints, declared, log_parts, log_rows, quotient_shift, traced_at};
 ghost use Rattle.batch_validity.specs.Valid.{IsTracedBatch, Valid};
-ghost use Rattle.honest_proofs.specs.HonestProof.{AreCanonical, AreLogHeights, CanBeBuilt, FractionsAt, HasZeroDenominator, HasQuotientRows, HaveFractions, IsBuilt, IsDenominatorZero, IsLookupGround, IsOodGround, LacksLookupGround, LacksOodGround, Prover, alpha, argument_of, challenges_at, chunk_matrices, committed_at, committed_table, honest_proof, opening_state, permutation_columns, terminal_of, terminals, zeta};
+ghost use Rattle.honest_proofs.specs.HonestProof.{AreCanonical, AreLogHeights, CanBeBuilt, FractionsAt, HasZeroDenominator, HasQuotientRows, HaveFractions, IsBuilt, IsDenominatorZero, IsLookupGround, IsOodGround, LacksLookupGround, LacksOodGround, Prover, alpha, argument_of_table, challenges_at, chunk_matrices, honest_committed_at, committed_table, honest_proof, opening_state, permutation_columns, honest_terminal, terminals, zeta};
 
 /// What a verifier draws along an honest proof is what its parts were made of, each draw over the parts before it: the challenges
 /// of each table's lookups (`challenges`), the challenge that folds the constraints (`alpha`), the point of the openings
 /// (`zeta`), and the challenger's state in which they are proved (`opening`).
 pub fn an_honest_proofs_draws_are_its_own<C, F, E, Com, Opening>()
-    ensures challenges { (c : Setting C F E Com) (p : Prover F E Com) (s : Statement F Com) (traces : List (Rows F)) (degree_bits : List ℕ) (lookup_witness : Option F) (ood_witness : F) (opening : Opening) (i : ℕ)
-        → table_challenges c.extension.ring (drawn c.challenger c.field.ring c.extension.ring c.extension.dimension c.initial c.zk c.lookup_bits c.ood_bits s (honest_proof c p s traces degree_bits lookup_witness ood_witness opening)) s i
+    ensures challenges { (c : Setting C F E Com) (p : Prover F E Com) (s : Statement F Com) (traces : List (Rows F)) (degree_bits : List ℕ) (lookup_witness : Option F)
+        (ood_witness : F) (opening : Opening) (i : ℕ)
+        → table_challenges c.extension.ring
+        (drawn c.challenger c.field.ring c.extension.ring c.extension.dimension c.initial c.zk c.lookup_bits c.ood_bits s
+        (honest_proof c p s traces degree_bits lookup_witness ood_witness opening)) s i
         ≡ challenges_at c p s traces degree_bits lookup_witness i }
     ensures alpha { (c : Setting C F E Com) (p : Prover F E Com) (s : Statement F Com) (traces : List (Rows F)) (degree_bits : List ℕ) (lookup_witness : Option F) (ood_witness : F) (opening : Opening)
-        → (drawn c.challenger c.field.ring c.extension.ring c.extension.dimension c.initial c.zk c.lookup_bits c.ood_bits s (honest_proof c p s traces degree_bits lookup_witness ood_witness opening)).alpha
+        → (drawn c.challenger c.field.ring c.extension.ring c.extension.dimension c.initial c.zk c.lookup_bits c.ood_bits s
+        (honest_proof c p s traces degree_bits lookup_witness ood_witness opening)).alpha
         ≡ alpha c p s traces degree_bits lookup_witness }
     ensures zeta { (c : Setting C F E Com) (p : Prover F E Com) (s : Statement F Com) (traces : List (Rows F)) (degree_bits : List ℕ) (lookup_witness : Option F) (ood_witness : F) (opening : Opening)
-        → (drawn c.challenger c.field.ring c.extension.ring c.extension.dimension c.initial c.zk c.lookup_bits c.ood_bits s (honest_proof c p s traces degree_bits lookup_witness ood_witness opening)).zeta
+        → (drawn c.challenger c.field.ring c.extension.ring c.extension.dimension c.initial c.zk c.lookup_bits c.ood_bits s
+        (honest_proof c p s traces degree_bits lookup_witness ood_witness opening)).zeta
         ≡ zeta c p s traces degree_bits lookup_witness ood_witness }
-    ensures opening { (c : Setting C F E Com) (p : Prover F E Com) (s : Statement F Com) (traces : List (Rows F)) (degree_bits : List ℕ) (lookup_witness : Option F) (ood_witness : F) (opening : Opening)
-        → (drawn c.challenger c.field.ring c.extension.ring c.extension.dimension c.initial c.zk c.lookup_bits c.ood_bits s (honest_proof c p s traces degree_bits lookup_witness ood_witness opening)).opening
+    ensures opening { (c : Setting C F E Com) (p : Prover F E Com) (s : Statement F Com) (traces : List (Rows F)) (degree_bits : List ℕ) (lookup_witness : Option F)
+        (ood_witness : F) (opening : Opening)
+        → (drawn c.challenger c.field.ring c.extension.ring c.extension.dimension c.initial c.zk c.lookup_bits c.ood_bits s
+        (honest_proof c p s traces degree_bits lookup_witness ood_witness opening)).opening
         ≡ opening_state c p s traces degree_bits lookup_witness ood_witness }
 {}
 
@@ -48,7 +55,8 @@ pub fn an_honest_proofs_grinding_is_taken<C, F, E, Com, Opening, R>()
     ensures { (c : Setting C F E Com) (p : Prover F E Com) (s : Statement F Com) (traces : List (Rows F)) (degree_bits : List ℕ) (lookup_witness : Option F) (ood_witness : F) (opening : Opening)
         → AreCanonical c.field.ring c.order p.canonical
         → IsLookupGround c p s traces degree_bits lookup_witness → IsOodGround c p s traces degree_bits lookup_witness ood_witness
-        → NoneFails (grinding_checks c.challenger c.field.ring c.extension.ring c.extension.dimension c.initial c.zk c.lookup_bits c.ood_bits s (honest_proof c p s traces degree_bits lookup_witness ood_witness opening) {R = R}) }
+        → NoneFails (grinding_checks c.challenger c.field.ring c.extension.ring c.extension.dimension c.initial c.zk c.lookup_bits c.ood_bits s
+        (honest_proof c p s traces degree_bits lookup_witness ood_witness opening) {R = R}) }
 {}
 
 /// Configuration, statement, traces and the proof of the openings fix the honest proof: two that are built so are one
@@ -70,7 +78,7 @@ pub fn an_event_comes_or_a_proof_is_built<C, F, E, Com, Opening>()
         → LacksLookupGround c p s traces degree_bits ⊎ (HasZeroDenominator c p s traces degree_bits ⊎ (LacksOodGround c p s traces degree_bits ⊎ CanBeBuilt c p s traces degree_bits Opening)) }
 {}
 
-/// One event comes at most: a grind without a value excludes the events behind it (`lookup`), a zero denominator the grind before
+/// One event comes at most: a grind without a value excludes the events after it (`lookup`), a zero denominator the grind before
 /// zeta (`denominator`); and a zero denominator has one place (`place`).
 pub fn one_event_comes_at_most<C, F, E, Com>()
     ensures lookup { (c : Setting C F E Com) (p : Prover F E Com) (s : Statement F Com) (traces : List (Rows F)) (degree_bits : List ℕ)
@@ -107,12 +115,13 @@ pub fn honest_tables_hold<C, F, E, Com>()
     ensures holds { (c : Setting C F E Com) (p : Prover F E Com) (eq : F → F → Bool) (s : Statement F Com) (traces : List (Rows F)) (degree_bits : List ℕ) (lookup_witness : Option F) (i : ℕ)
         → FieldsLaws c.field c.extension c.two_adicity p.inverse → Valid c eq p.commitment_of s traces degree_bits → i < length s.tables
         → let t = traced_at s traces degree_bits i in All (ReadsDeclared (declared_shape (declared t))) t.table.trees
-        → HaveFractions c p s traces degree_bits lookup_witness → Holds c.field c.extension (committed_at c p s traces degree_bits lookup_witness i) (constraints c t) }
-    ensures identity { (c : Setting C F E Com) (p : Prover F E Com) (eq : F → F → Bool) (s : Statement F Com) (traces : List (Rows F)) (degree_bits : List ℕ) (lookup_witness : Option F) (i : ℕ) (folding x : E)
+        → HaveFractions c p s traces degree_bits lookup_witness → Holds c.field c.extension (honest_committed_at c p s traces degree_bits lookup_witness i) (constraints c t) }
+    ensures identity { (c : Setting C F E Com) (p : Prover F E Com) (eq : F → F → Bool) (s : Statement F Com) (traces : List (Rows F)) (degree_bits : List ℕ)
+        (lookup_witness : Option F) (i : ℕ) (folding x : E)
         → FieldsLaws c.field c.extension c.two_adicity p.inverse → Valid c eq p.commitment_of s traces degree_bits → i < length s.tables
         → let t = traced_at s traces degree_bits i in All (ReadsDeclared (declared_shape (declared t))) t.table.trees
         → HaveFractions c p s traces degree_bits lookup_witness → 2 ^ log_rows c t * (2 ^ log_parts c t + 1) < 2 ^ 64
-        → let k = committed_at c p s traces degree_bits lookup_witness i in
+        → let k = honest_committed_at c p s traces degree_bits lookup_witness i in
         CommittedIdentity c.field c.extension k (constraints c t) (honest_quotient c.field c.extension k (quotient_shift c) (log_parts c t) (constraints c t) folding) folding x }
 {}
 
@@ -131,7 +140,8 @@ pub fn a_split_quotient_is_its_chunks<C, F, E, Com>()
     ensures { (c : Setting C F E Com) (p : Prover F E Com) (t : TracedTable F) (challenges : List E) (folding : E) (m : Rows F) (pieces : List (CosetData F × Rows F))
         → FieldsLaws c.field c.extension c.two_adicity p.inverse → HasQuotientRows c p t challenges folding m
         → All (λ (e : CosetData F × Rows F). FillsRows e.1.values e.1.width) pieces
-        → AreParts (λ (n : ℕ) (d : CosetData F). IsPart c.field.ring c.field.root (quotient_domain c.field c.extension (committed_table c p t challenges) (quotient_shift c) (log_parts c t)) (2 ^ log_parts c t) n d) m (2 ^ log_parts c t) pieces
+        → AreParts (λ (n : ℕ) (d : CosetData F). IsPart c.field.ring c.field.root
+        (quotient_domain c.field c.extension (committed_table c p t challenges) (quotient_shift c) (log_parts c t)) (2 ^ log_parts c t) n d) m (2 ^ log_parts c t) pieces
         → pieces ≡ chunk_matrices c p t challenges folding }
 {}
 
@@ -141,13 +151,13 @@ pub fn a_split_quotient_is_its_chunks<C, F, E, Com>()
 pub fn what_is_generated_is_honest<C, F, E, Com>()
     ensures columns { (c : Setting C F E Com) (p : Prover F E Com) (t : TracedTable F) (challenges : List E) (m : Rows E) (terminal : LookupTerminal E)
         → 0 < length t.lookups → height t.trace ≡ 2 ^ log_rows c t → FillsRows m.values m.width
-        → IsGenerated (argument_of c p t challenges) (height t.trace) (Ok (m, terminal)) → m ≡ permutation_columns c p t challenges }
+        → IsGenerated (argument_of_table c p t challenges) (height t.trace) (Ok (m, terminal)) → m ≡ permutation_columns c p t challenges }
     ensures terminal { (c : Setting C F E Com) (p : Prover F E Com) (t : TracedTable F) (challenges : List E) (m : Rows E) (terminal : LookupTerminal E)
         → 0 < length t.lookups → height t.trace ≡ 2 ^ log_rows c t → FillsRows m.values m.width
-        → IsGenerated (argument_of c p t challenges) (height t.trace) (Ok (m, terminal)) → Some terminal.0 ≡ terminal_of c p t challenges }
+        → IsGenerated (argument_of_table c p t challenges) (height t.trace) (Ok (m, terminal)) → Some terminal.0 ≡ honest_terminal c p t challenges }
     ensures fault { (c : Setting C F E Com) (p : Prover F E Com) (s : Statement F Com) (traces : List (Rows F)) (degree_bits : List ℕ) (w : Option F) (i row lookup tuple : ℕ)
         → IsLookupGround c p s traces degree_bits w → i < length s.tables → ((j : ℕ) → j < i → FractionsAt c p s traces degree_bits w j)
         → let t = traced_at s traces degree_bits i in height t.trace ≡ 2 ^ log_rows c t
-        → IsGenerated (argument_of c p t (challenges_at c p s traces degree_bits w i)) (height t.trace) (Err (DenominatorZero row lookup tuple))
+        → IsGenerated (argument_of_table c p t (challenges_at c p s traces degree_bits w i)) (height t.trace) (Err (DenominatorZero row lookup tuple))
         → IsDenominatorZero c p s traces degree_bits i row }
 {}

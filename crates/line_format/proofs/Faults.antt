@@ -12,8 +12,8 @@ use Rattle.line_format.specs.declared.parse.TextError.TheVariants.{Malformed, Ou
 use Rattle.line_format.specs.Laws.Lines.{Longer, lines-tell}
 use Rattle.line_format.proofs.Lines.{small-front, count-read}
 
-nothing-behind : (n : ℕ) (xs ys : List ℕ) → [] ≡ xs ++ n ∷ ys → ⊥
-nothing-behind n xs ys e = let l : 0 ≡ length (xs ++ n ∷ ys) = ap (λ (t : List ℕ). length t) e in grind (arith, common_steps, l)
+nothing-after : (n : ℕ) (xs ys : List ℕ) → [] ≡ xs ++ n ∷ ys → ⊥
+nothing-after n xs ys e = let l : 0 ≡ length (xs ++ n ∷ ys) = ap (λ (t : List ℕ). length t) e in grind (arith, common_steps, l)
 
 begins-small : {A : Type 0} {within : A → Type 0} {words : A → List ℕ} → Grammar within words → (lines : List ℕ) → Begins within words lines → Small lines
 begins-small g lines b = small-front lines b.missing (subst (λ (l : List ℕ). Small l) b.begins (g.small b.some b.fits))
@@ -61,7 +61,7 @@ stop-is-no-text {A} {within} {words} {bytes} {new} g s v fits e =
     let t = lines-tell (words v) s.read [] new (g.small v fits) (begins-small g s.read fault.begins) short (sym text ∙ s.text) in
     let same : words s.some ++ [] ≡ words v ++ (t.more ++ s.next ∷ s.missing)
     = append-nil (words s.some) ∙ (s.begins ∙ (ap (λ (l : List ℕ). l ++ s.next ∷ s.missing) t.numbers ∙ append_assoc (words v) t.more (s.next ∷ s.missing))) in
-    nothing-behind s.next t.more s.missing (g.tells s.some v [] (t.more ++ s.next ∷ s.missing) s.some_fits fits same).1
+    nothing-after s.next t.more s.missing (g.tells s.some v [] (t.more ++ s.next ∷ s.missing) s.some_fits fits same).1
 
 longer-reads : {A : Type 0} {within : A → Type 0} {words : A → List ℕ} → Grammar within words → (new : List ℕ) (v : A) → within v → (more after : List ℕ)
     → Begins within words more → Longer (words v) more new after → length (words v) < length more → ⊥
@@ -72,9 +72,9 @@ longer-reads {A} {within} {words} g new v fits more after m t h = go t.more t.nu
     go (n ∷ zs) e =
         let same : words m.some ++ [] ≡ words v ++ (n ∷ (zs ++ m.missing))
         = append-nil (words m.some) ∙ (m.begins ∙ (ap (λ (l : List ℕ). l ++ m.missing) e ∙ append_assoc (words v) (n ∷ zs) m.missing)) in
-        nothing-behind n [] (zs ++ m.missing) (g.tells m.some v [] (n ∷ (zs ++ m.missing)) m.fits fits same).1
+        nothing-after n [] (zs ++ m.missing) (g.tells m.some v [] (n ∷ (zs ++ m.missing)) m.fits fits same).1
 
--- where something stands behind a text
+-- where something stands after a text
 pub rest-is-fault : {A : Type 0} {within : A → Type 0} {words : A → List ℕ} {bytes new : List ℕ} {v : A} → Grammar within words → Reads within words bytes new v
     → IsFaultLine within words bytes (length (words v) + 1)
 rest-is-fault {A} {within} {words} {bytes} {new} {v} g r = record {
@@ -90,7 +90,7 @@ rest-is-fault {A} {within} {words} {bytes} {new} {v} g r = record {
       grind (arith, far);
 }
 
--- what has something behind it is no text
+-- what has something after it is no text
 pub rest-is-no-text : {A : Type 0} {within : A → Type 0} {words : A → List ℕ} {bytes new : List ℕ} {v : A} → Grammar within words → Reads within words bytes new v
     → (new ≡ [] → ⊥) → IsNoText within words bytes
 unfolding rest-is-fault
@@ -121,7 +121,7 @@ count-from bytes rest ns from line room text small e =
     ∙ (sum_by-append (λ b. cond (b == 10) 1 0) (take from bytes) (take (length part - length rest) part) ∙ ap (λ (n : ℕ). lines_before bytes from + n) read)) in
     omega (arith, e, count)
 
--- the fault by the number of the line behind the lines that were read
+-- the fault by the number of the line after the lines that were read
 pub stop-faults : {A : Type 0} {within : A → Type 0} {words : A → List ℕ} {old new : List ℕ} (bytes rest : List ℕ) (from line : ℕ) → from ≤ length bytes
     → old ≡ take (length bytes - from) (drop from bytes) → rest ≡ new → Grammar within words → Stops within words old new
     → line ≡ count_by (λ b. b == 10) (take (length bytes - length rest) bytes) + 1

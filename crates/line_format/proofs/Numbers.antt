@@ -20,7 +20,7 @@ not-empty bytes rest n small end e =
     let r : IsInRange 48 57 (get_or bytes 0 0) = line.digit 0 line.nonempty in
     omega (arith, r, end)
 
--- behind digits stands a digit or the line's end
+-- after digits stands a digit or the line's end
 pub not-digit : (bytes rest : List ℕ) (n i : ℕ) → n < 2 ^ 64 → AllDigits 10 (take i bytes) → i < length bytes
     → get_or bytes i 0 ≢ 10 → (IsInRange 48 57 (get_or bytes i 0) → ⊥) → bytes ≡ decimal n ++ 10 ∷ rest → ⊥
 not-digit bytes rest n i small digits room other bad e =

@@ -4,7 +4,7 @@ use Rattle.std.specs.Prelude.{decimal, All, map}
 use Rattle.std.proofs.lemmas.List.{append-nil, map-append}
 use Rattle.std.proofs.lemmas.Grind.{common_steps, flat_map-append}
 use Rattle.std.proofs.lemmas.List.Elements.{All-append, All-replicate}
-use Rattle.line_format.specs.Texts.{line_text, Reads, Stops, Between, Grammar, number_words, items_words, ItemsWithin, list_words, ListWithin, OptionWithin, option_words, ReadsOne}
+use Rattle.line_format.specs.Texts.{line_text, Reads, Stops, Between, Grammar, one_number, items_numbers, ItemsWithin, list_numbers, ListWithin, OptionWithin, option_numbers, ReadsOne}
 use Rattle.line_format.specs.Laws.Grammars.{head-same, tail-same, zero-not-one, number-grammar, items-grammar, same-list}
 use Rattle.line_format.specs.declared.texts.ItemError.{ItemError}
 use Rattle.line_format.specs.Laws.Lines.{lines-more, same-line}
@@ -13,7 +13,7 @@ use Rattle.line_format.specs.Laws.Stops.{pair-first, pair-second, pair-reads, sa
 -- no line of a number in the range
 pub number-stops : (least most : ℕ) (bytes : List ℕ) → least ≤ most
     → ((n : ℕ) (rest : List ℕ) → n ≤ most → bytes ≡ decimal n ++ 10 ∷ rest → ⊥)
-    → Stops (Between least most) number_words bytes bytes
+    → Stops (Between least most) one_number bytes bytes
 number-stops least most bytes room none = record {
   read = [];
   text = refl;
@@ -27,7 +27,7 @@ number-stops least most bytes room none = record {
 
 -- a line of a number below the range
 pub below-stops : (least most value : ℕ) (bytes rest : List ℕ) → least ≤ most → most < 2 ^ 64 → value < least
-    → bytes ≡ decimal value ++ 10 ∷ rest → Stops (Between least most) number_words bytes bytes
+    → bytes ≡ decimal value ++ 10 ∷ rest → Stops (Between least most) one_number bytes bytes
 below-stops least most value bytes rest room small below e = record {
   read = [];
   text = refl;
@@ -49,30 +49,30 @@ front-none m n (x ∷ front) missing e =
     let t : 0 ≡ length (front ++ n ∷ missing) = ap (λ (l : List ℕ). length l) (tail-same m x [] (front ++ n ∷ missing) e) in
     absurd (grind (arith, common_steps, t))
 
--- the items that stand behind the first ones
+-- the items that stand after the first ones
 rest-of : {A : Type 0} {within : A → Type 0} {words : A → List ℕ} → Grammar within words
     → (done a : List A) (x y : List ℕ) → All within done → All within a → length done < length a
-    → items_words words a ++ x ≡ items_words words done ++ y → (b : A) × within b × (z : List ℕ) × (words b ++ z ≡ y)
+    → items_numbers words a ++ x ≡ items_numbers words done ++ y → (b : A) × within b × (z : List ℕ) × (words b ++ z ≡ y)
 rest-of g done [] x y d h room e = absurd (omega (arith, room))
 rest-of {A} {within} {words} g [] (b ∷ bs) x y d h room e =
-    (b, h 0 b (omega arith), items_words words bs ++ x, sym (append_assoc (words b) (items_words words bs) x) ∙ e)
+    (b, h 0 b (omega arith), items_numbers words bs ++ x, sym (append_assoc (words b) (items_numbers words bs) x) ∙ e)
 rest-of {A} {within} {words} g (c ∷ cs) (b ∷ bs) x y d h room e =
-    let same : words b ++ (items_words words bs ++ x) ≡ words c ++ (items_words words cs ++ y)
-    = sym (append_assoc (words b) (items_words words bs) x) ∙ (e ∙ append_assoc (words c) (items_words words cs) y) in
+    let same : words b ++ (items_numbers words bs ++ x) ≡ words c ++ (items_numbers words cs ++ y)
+    = sym (append_assoc (words b) (items_numbers words bs) x) ∙ (e ∙ append_assoc (words c) (items_numbers words cs) y) in
     rest-of g cs bs x y (λ k q r. d (suc k) q (omega arith)) (λ k q r. h (suc k) q (omega arith)) (omega arith)
-    (g.tells b c (items_words words bs ++ x) (items_words words cs ++ y) (h 0 b (omega arith)) (d 0 c (omega arith)) same).1
+    (g.tells b c (items_numbers words bs ++ x) (items_numbers words cs ++ y) (h 0 b (omega arith)) (d 0 c (omega arith)) same).1
 
 -- so many items, of which one can't be read
 pub item-stops : {A : Type 0} {within : A → Type 0} {words : A → List ℕ} {mid new : List ℕ} → Grammar within words
     → (count : ℕ) (done : List A) (old : List ℕ) → All within done → length done < count
-    → old ≡ line_text (items_words words done) ++ mid → Stops within words mid new
-    → Stops (ItemsWithin count within) (items_words words) old new
+    → old ≡ line_text (items_numbers words done) ++ mid → Stops within words mid new
+    → Stops (ItemsWithin count within) (items_numbers words) old new
 item-stops {A} {within} {words} {mid} {new} g count done old d room text s =
-    let before = items_words words done in
+    let before = items_numbers words done in
     let more = replicate (count - length done - 1) s.some in
     let all = done ++ (s.some ∷ more) in
     let len : length all ≡ count = grind (arith, common_steps) in
-    let items : items_words words all ≡ before ++ (words s.some ++ items_words words more) = flat_map-append words done (s.some ∷ more) in
+    let items : items_numbers words all ≡ before ++ (words s.some ++ items_numbers words more) = flat_map-append words done (s.some ∷ more) in
     record {
       read = before ++ s.read;
       text = lines-more before s.read old mid new text s.text;
@@ -83,7 +83,7 @@ item-stops {A} {within} {words} {mid} {new} g count done old d room text s =
             (All-replicate within 1 s.some s.some_fits) (All-replicate within (count - length done - 1) s.some s.some_fits)),
       );
       next = s.next;
-      missing = s.missing ++ items_words words more;
+      missing = s.missing ++ items_numbers words more;
       begins = rw (items, s.begins) (simp append_assoc refl);
       stuck = λ n after e v fits x y same.
           let r = rest-of g done v x (s.read ++ n ∷ y) d fits.1 (omega (arith, fits.0, room)) (same ∙ append_assoc before s.read (n ∷ y)) in
@@ -96,23 +96,23 @@ map-pushed f xs ys x e = ap (λ (l : List _). map f l) e ∙ map-append f xs (x 
 
 -- one more item
 pub items-grow : {A : Type 0} (words : A → List ℕ) (done : List A) (b : A) (old mid new : List ℕ)
-    → old ≡ line_text (items_words words done) ++ mid → mid ≡ line_text (words b) ++ new
-    → old ≡ line_text (items_words words (done ++ b ∷ [])) ++ new
+    → old ≡ line_text (items_numbers words done) ++ mid → mid ≡ line_text (words b) ++ new
+    → old ≡ line_text (items_numbers words (done ++ b ∷ [])) ++ new
 items-grow words done b old mid new e f =
-    let same : items_words words (done ++ b ∷ []) ≡ items_words words done ++ words b
-    = flat_map-append words done (b ∷ []) ∙ ap (λ (l : List ℕ). items_words words done ++ l) (append-nil (words b)) in
-    rw same (lines-more (items_words words done) (words b) old mid new e f)
+    let same : items_numbers words (done ++ b ∷ []) ≡ items_numbers words done ++ words b
+    = flat_map-append words done (b ∷ []) ∙ ap (λ (l : List ℕ). items_numbers words done ++ l) (append-nil (words b)) in
+    rw same (lines-more (items_numbers words done) (words b) old mid new e f)
 
 -- a list whose count can't be read
 pub count-stops : {A : Type 0} {within : A → Type 0} {words : A → List ℕ} {old new : List ℕ} (least most : ℕ) → Grammar within words
-    → Stops (Between least most) number_words old new → Stops (ListWithin least most within) (list_words words) old new
+    → Stops (Between least most) one_number old new → Stops (ListWithin least most within) (list_numbers words) old new
 count-stops {A} {within} {words} least most g s =
     same-stops (same-list least most within words) (pair-first (λ n. ItemsWithin n within) (λ n _. items-grammar n g) s)
 
 -- a list whose count was read
 pub list-after-count : {V A : Type 0} (data_of : V → List A) (least most : ℕ) (within : A → Type 0) (words : A → List ℕ) (old mid new : List ℕ) (count : ℕ) (r : Result V ItemError)
-    → least ≤ most → most < 2 ^ 64 → Reads (Between least most) number_words old mid count → ReadsOne data_of (ItemsWithin count within) (items_words words) mid new r
-    → ReadsOne data_of (ListWithin least most within) (list_words words) old new r
+    → least ≤ most → most < 2 ^ 64 → Reads (Between least most) one_number old mid count → ReadsOne data_of (ItemsWithin count within) (items_numbers words) mid new r
+    → ReadsOne data_of (ListWithin least most within) (list_numbers words) old new r
 unfolding same-list
 list-after-count data_of least most within words old mid new count (Ok v) room few n s =
     same-reads (same-list least most within words) (pair-reads (λ n. ItemsWithin n within) n s)
@@ -121,7 +121,7 @@ list-after-count data_of least most within words old mid new count (Err e) room 
 
 -- a value that may be absent, whose tag can't be read
 pub tag-stops : {A : Type 0} (within : A → Type 0) (words : A → List ℕ) (old new : List ℕ)
-    → Stops (Between 0 1) number_words old new → Stops (OptionWithin within) (option_words words) old new
+    → Stops (Between 0 1) one_number old new → Stops (OptionWithin within) (option_numbers words) old new
 tag-stops {A} within words old new s =
     let none : s.read ≡ [] = front-none s.some s.next s.read s.missing s.begins in
     record {
@@ -135,13 +135,13 @@ tag-stops {A} within words old new s =
       stuck = λ n rest h v fits x y same. go n rest h v x y same;
     }
   where
-    go : (n : ℕ) (rest : List ℕ) → new ≡ decimal n ++ 10 ∷ rest → (v : Option A) (x y : List ℕ) → option_words words v ++ x ≡ s.read ++ n ∷ y → ⊥
+    go : (n : ℕ) (rest : List ℕ) → new ≡ decimal n ++ 10 ∷ rest → (v : Option A) (x y : List ℕ) → option_numbers words v ++ x ≡ s.read ++ n ∷ y → ⊥
     go n rest h None x y same = s.stuck n rest h 0 (omega arith, omega arith) x y same
     go n rest h (Some a) x y same = s.stuck n rest h 1 (omega arith, omega arith) (words a ++ x) y same
 
 -- the tag was 1, and the value can't be read
 pub value-stops : {A : Type 0} (within : A → Type 0) (words : A → List ℕ) (old mid new : List ℕ) → old ≡ line_text (1 ∷ []) ++ mid
-    → Stops within words mid new → Stops (OptionWithin within) (option_words words) old new
+    → Stops within words mid new → Stops (OptionWithin within) (option_numbers words) old new
 value-stops {A} within words old mid new text s =
     record {
       read = 1 ∷ s.read;
@@ -154,12 +154,12 @@ value-stops {A} within words old mid new text s =
       stuck = λ n after e v fits x y same. go n after e v fits x y same;
     }
   where
-    go : (n : ℕ) (after : List ℕ) → new ≡ decimal n ++ 10 ∷ after → (v : Option A) → OptionWithin within v → (x y : List ℕ) → option_words words v ++ x ≡ (1 ∷ s.read) ++ n ∷ y → ⊥
+    go : (n : ℕ) (after : List ℕ) → new ≡ decimal n ++ 10 ∷ after → (v : Option A) → OptionWithin within v → (x y : List ℕ) → option_numbers words v ++ x ≡ (1 ∷ s.read) ++ n ∷ y → ⊥
     go n after e None fits x y same = zero-not-one x (s.read ++ n ∷ y) same
     go n after e (Some b) fits x y same = s.stuck n after e b fits x y (tail-same 1 1 (words b ++ x) (s.read ++ n ∷ y) same)
 
 -- the tag was 1
-pub one-tag : (tag : ℕ) (old mid : List ℕ) → (tag ≡ 0 → ⊥) → Reads (Between 0 1) number_words old mid tag → old ≡ line_text (1 ∷ []) ++ mid
+pub one-tag : (tag : ℕ) (old mid : List ℕ) → (tag ≡ 0 → ⊥) → Reads (Between 0 1) one_number old mid tag → old ≡ line_text (1 ∷ []) ++ mid
 one-tag tag old mid other r =
     let fits : tag ≤ 1 = r.fits.1 in
     let one : tag ≡ 1 = grind (arith, other, fits) in

@@ -11,45 +11,45 @@ line_text [] = []
 line_text (n ∷ ns) = decimal n ++ 10 ∷ line_text ns
 
 -- one number
-abbrev pub number_words : ℕ → List ℕ
-number_words n = n ∷ []
+abbrev pub one_number : ℕ → List ℕ
+one_number n = n ∷ []
 
 -- a number from `least` to `most`
 abbrev pub Between : ℕ → ℕ → ℕ → Type 0
 Between least most n = (least ≤ n) × (n ≤ most)
 
 -- a field element: its canonical number
-abbrev pub element_words : BabyBear → List ℕ
-element_words x = x.value ∷ []
+abbrev pub element_numbers : BabyBear → List ℕ
+element_numbers x = x.value ∷ []
 
 -- an element of the extension: its four coefficients
-abbrev pub extension_words : QuarticExtension → List ℕ
-extension_words x = x.c0.value ∷ x.c1.value ∷ x.c2.value ∷ x.c3.value ∷ []
+abbrev pub extension_numbers : QuarticExtension → List ℕ
+extension_numbers x = x.c0.value ∷ x.c1.value ∷ x.c2.value ∷ x.c3.value ∷ []
 
 -- every value of a type is within its limits
 abbrev pub Unlimited : {A : Type 0} → A → Type 0
 Unlimited x = ⊤
 
 -- items, one after the other
-abbrev pub items_words : {A : Type 0} → (A → List ℕ) → List A → List ℕ
-items_words words xs = flat_map words xs
+abbrev pub items_numbers : {A : Type 0} → (A → List ℕ) → List A → List ℕ
+items_numbers words xs = flat_map words xs
 
 -- so many items, each within its limits
 abbrev pub ItemsWithin : {A : Type 0} → ℕ → (A → Type 0) → List A → Type 0
 ItemsWithin count within xs = (length xs ≡ count) × All within xs
 
 -- a list: its count and its items
-abbrev pub list_words : {A : Type 0} → (A → List ℕ) → List A → List ℕ
-list_words words xs = length xs ∷ items_words words xs
+abbrev pub list_numbers : {A : Type 0} → (A → List ℕ) → List A → List ℕ
+list_numbers words xs = length xs ∷ items_numbers words xs
 
 -- a list of `least` to `most` items, each within its limits
 abbrev pub ListWithin : {A : Type 0} → ℕ → ℕ → (A → Type 0) → List A → Type 0
 ListWithin least most within xs = Between least most (length xs) × All within xs
 
 -- a value that may be absent: 0, or 1 and the value
-abbrev pub option_words : {A : Type 0} → (A → List ℕ) → Option A → List ℕ
-option_words words None = 0 ∷ []
-option_words words (Some x) = 1 ∷ words x
+abbrev pub option_numbers : {A : Type 0} → (A → List ℕ) → Option A → List ℕ
+option_numbers words None = 0 ∷ []
+option_numbers words (Some x) = 1 ∷ words x
 
 abbrev pub OptionWithin : {A : Type 0} → (A → Type 0) → Option A → Type 0
 OptionWithin within None = ⊤

@@ -2,7 +2,7 @@
 
 ghost use Rattle.std.specs.Prelude.{map};
 ghost use Rattle.line_format.specs.Texts.{ReadsKnown, ReadsOne, ItemsWithin, Unlimited};
-ghost use Rattle.line_format.specs.Fixed.{fixed_words, headed_words};
+ghost use Rattle.line_format.specs.Fixed.{fixed_numbers, headed_numbers};
 
 use crate::forms::Form;
 use crate::lists::read_items;
@@ -13,7 +13,7 @@ use std::alloc::Global;
 ///
 /// It is `Malformed` exactly where the text's front is not their lines.
 pub fn read_fixed(reader: &mut Reader, numbers: &[u32]) -> Result<(), ItemError>
-    ensures { ReadsKnown Unlimited (fixed_words numbers.now) reader.old reader.new result }
+    ensures { ReadsKnown Unlimited (fixed_numbers numbers.now) reader.old reader.new result }
 {
     for number in numbers {
         reader.number(*number, *number)?;
@@ -30,7 +30,7 @@ pub fn read_headed<T: Form>(
     head: &[u32],
     count: usize,
 ) -> Result<Vec<T::Value>, ItemError>
-    ensures { ReadsOne (λ v. map T.data_of v.items) (ItemsWithin count T.within) (headed_words head.now T.words) reader.old reader.new result }
+    ensures { ReadsOne (λ v. map T.data_of v.items) (ItemsWithin count T.within) (headed_numbers head.now T.numbers) reader.old reader.new result }
 {
     read_fixed(reader, head)?;
     read_items::<T>(alloc, reader, count)

@@ -10,7 +10,7 @@ use std::alloc::Global;
 /// The greatest canonical number of a [`BabyBear`].
 const LAST_ELEMENT: u32 = 2_013_265_920;
 
-/// A form of text: how the values of a type are written, each as one text (own).
+/// A form of text: how the values of a type are written, each as one text (not in Plonky3).
 ///
 /// The type that has the form may be the values' own, or a name alone, of which there are no values.
 pub trait Form {
@@ -26,20 +26,20 @@ pub trait Form {
     ghost within: { Self.Data → Type 0 };
 
     /// The numbers of a value, one for each line of its text.
-    ghost words: { Self.Data → List ℕ };
+    ghost numbers: { Self.Data → List ℕ };
 
     /// Reads a value off the front of what is left.
     ///
     /// It is `Malformed` exactly where the text's front is no value's text. Then the lines that begin some value's text are read.
     fn read(alloc: Global, reader: &mut Reader) -> Result<Self::Value, ItemError>
-        ensures { ReadsOne data_of within words reader.old reader.new result };
+        ensures { ReadsOne data_of within numbers reader.old reader.new result };
 
     /// Prints a value's lines. On an error a part of them may stand.
     fn print(value: &Self::Value, out: &mut Vec<u8>) -> Mem<()>
-        ensures { OnOk result (out.new.items ≡ out.old.items ++ line_text (words (data_of value.now))) };
+        ensures { OnOk result (out.new.items ≡ out.old.items ++ line_text (numbers (data_of value.now))) };
 
     /// The lines of a value tell the value, and where they end.
-    ghost grammar: { Grammar within words };
+    ghost grammar: { Grammar within numbers };
 }
 
 /// One line, the canonical number.
@@ -47,7 +47,7 @@ impl Form for BabyBear {
     type Value = BabyBear;
 
     ghost use Rattle.p3_field.specs.declared.baby_bear.BabyBear.{BabyBear as Element};
-    ghost use Rattle.line_format.specs.Texts.{Unlimited, element_words};
+    ghost use Rattle.line_format.specs.Texts.{Unlimited, element_numbers};
     ghost use Rattle.line_format.specs.Laws.Grammars.{element-grammar};
 
     ghost Data = { Element };
@@ -56,7 +56,7 @@ impl Form for BabyBear {
 
     ghost within = { Unlimited };
 
-    ghost words = { element_words };
+    ghost numbers = { element_numbers };
 
     ghost grammar = { element-grammar };
 
@@ -75,7 +75,7 @@ impl Form for QuarticExtension {
     type Value = QuarticExtension;
 
     ghost use Rattle.p3_field.specs.declared.quartic.QuarticExtension.{QuarticExtension as Extension};
-    ghost use Rattle.line_format.specs.Texts.{Unlimited, extension_words};
+    ghost use Rattle.line_format.specs.Texts.{Unlimited, extension_numbers};
     ghost use Rattle.line_format.specs.Laws.Grammars.{extension-grammar};
 
     ghost Data = { Extension };
@@ -84,7 +84,7 @@ impl Form for QuarticExtension {
 
     ghost within = { Unlimited };
 
-    ghost words = { extension_words };
+    ghost numbers = { extension_numbers };
 
     ghost grammar = { extension-grammar };
 

@@ -1,7 +1,7 @@
 //! Lists of values, and values that may be absent.
 
 ghost use Rattle.std.specs.Prelude.{◌≡◌, ◌≤◌, ◌++◌, OnOk, map, option_map};
-ghost use Rattle.line_format.specs.Texts.{ReadsOne, ItemsWithin, items_words, ListWithin, list_words, OptionWithin, option_words, line_text};
+ghost use Rattle.line_format.specs.Texts.{ReadsOne, ItemsWithin, items_numbers, ListWithin, list_numbers, OptionWithin, option_numbers, line_text};
 
 use crate::forms::Form;
 use crate::texts::{ItemError, Reader, push_number};
@@ -17,7 +17,7 @@ pub fn read_items<T: Form>(
     reader: &mut Reader,
     count: usize,
 ) -> Result<Vec<T::Value>, ItemError>
-    ensures { ReadsOne (λ v. map T.data_of v.items) (ItemsWithin count T.within) (items_words T.words) reader.old reader.new result }
+    ensures { ReadsOne (λ v. map T.data_of v.items) (ItemsWithin count T.within) (items_numbers T.numbers) reader.old reader.new result }
 {
     let mut items = Vec::new(alloc);
     for _ in 0..count {
@@ -28,7 +28,7 @@ pub fn read_items<T: Form>(
 
 /// Prints values, one after the other. On an error a part of them may stand.
 pub fn print_items<T: Form>(items: &[T::Value], out: &mut Vec<u8>) -> Mem<()>
-    ensures { OnOk result (out.new.items ≡ out.old.items ++ line_text (items_words T.words (map T.data_of items.now))) }
+    ensures { OnOk result (out.new.items ≡ out.old.items ++ line_text (items_numbers T.numbers (map T.data_of items.now))) }
 {
     for item in items {
         T::print(item, out)?;
@@ -46,7 +46,7 @@ pub fn read_list<T: Form>(
     most: u32,
 ) -> Result<Vec<T::Value>, ItemError>
     requires { least ≤ most }
-    ensures { ReadsOne (λ v. map T.data_of v.items) (ListWithin least most T.within) (list_words T.words) reader.old reader.new result }
+    ensures { ReadsOne (λ v. map T.data_of v.items) (ListWithin least most T.within) (list_numbers T.numbers) reader.old reader.new result }
 {
     let count = reader.number(least, most)?;
     read_items::<T>(alloc, reader, count as usize)
@@ -54,7 +54,7 @@ pub fn read_list<T: Form>(
 
 /// Prints a list: the line of its count, and the values. On an error a part of them may stand.
 pub fn print_list<T: Form>(items: &[T::Value], out: &mut Vec<u8>) -> Mem<()>
-    ensures { OnOk result (out.new.items ≡ out.old.items ++ line_text (list_words T.words (map T.data_of items.now))) }
+    ensures { OnOk result (out.new.items ≡ out.old.items ++ line_text (list_numbers T.numbers (map T.data_of items.now))) }
 {
     push_number(out, items.len() as u64)?;
     print_items::<T>(items, out)
@@ -69,7 +69,7 @@ impl<T: Form, const MOST: u32> Form for ListOf<T, MOST> {
     type Value = Vec<T::Value>;
 
     ghost use Rattle.std.specs.Prelude.{List, map};
-    ghost use Rattle.line_format.specs.Texts.{ListWithin, list_words};
+    ghost use Rattle.line_format.specs.Texts.{ListWithin, list_numbers};
     ghost use Rattle.line_format.specs.Laws.Grammars.{at_most-grammar};
 
     ghost Data = { List T.Data };
@@ -78,7 +78,7 @@ impl<T: Form, const MOST: u32> Form for ListOf<T, MOST> {
 
     ghost within = { ListWithin 0 MOST T.within };
 
-    ghost words = { list_words T.words };
+    ghost numbers = { list_numbers T.numbers };
 
     ghost grammar = { at_most-grammar MOST MOST-fits T.grammar };
 
@@ -96,7 +96,7 @@ impl<T: Form> Form for Option<T> {
     type Value = Option<T::Value>;
 
     ghost use Rattle.std.specs.Prelude.{Option, option_map};
-    ghost use Rattle.line_format.specs.Texts.{OptionWithin, option_words};
+    ghost use Rattle.line_format.specs.Texts.{OptionWithin, option_numbers};
     ghost use Rattle.line_format.specs.Laws.Grammars.{option-grammar};
 
     ghost Data = { Option T.Data };
@@ -105,7 +105,7 @@ impl<T: Form> Form for Option<T> {
 
     ghost within = { OptionWithin T.within };
 
-    ghost words = { option_words T.words };
+    ghost numbers = { option_numbers T.numbers };
 
     ghost grammar = { option-grammar T.grammar };
 

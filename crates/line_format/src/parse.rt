@@ -13,7 +13,7 @@ pub enum TextError {
     /// The bytes are no value's text. `line` is one more than the greatest number of whole lines at their start that
     /// begin some value's text.
     Malformed { line: u64 },
-    /// Memory was wanting.
+    /// Memory ran out.
     OutOfMemory,
 }
 
@@ -21,7 +21,7 @@ pub enum TextError {
 ///
 /// It is `Malformed` exactly where they are no value's text.
 pub fn read_text<T: Form>(alloc: Global, bytes: &[u8]) -> Result<T::Value, TextError>
-    ensures { ReadsText T.data_of T.within T.words bytes.now result }
+    ensures { ReadsText T.data_of T.within T.numbers bytes.now result }
 {
     read_text_from::<T>(alloc, bytes, 0)
 }
@@ -35,7 +35,7 @@ pub fn read_text_from<T: Form>(
     from: usize,
 ) -> Result<T::Value, TextError>
     requires { from ≤ length bytes.now }
-    ensures { ReadsTextFrom T.data_of T.within T.words bytes.now from result }
+    ensures { ReadsTextFrom T.data_of T.within T.numbers bytes.now from result }
 {
     let mut reader = Reader::new(&bytes[from..]);
     match T::read(alloc, &mut reader) {
@@ -49,12 +49,12 @@ pub fn read_text_from<T: Form>(
     }
     let read = bytes.len() - reader.rest().len();
     Err(TextError::Malformed {
-        line: line_behind(&bytes[..read]),
+        line: line_after(&bytes[..read]),
     })
 }
 
-/// The number of the line behind these whole lines, counted from 1.
-fn line_behind(lines: &[u8]) -> u64
+/// The number of the line after these whole lines, counted from 1.
+fn line_after(lines: &[u8]) -> u64
     ensures { result ≡ count_by (λ b. b == 10) lines.now + 1 }
 {
     lines.iter().filter(|byte| **byte == b'\n').count() as u64 + 1

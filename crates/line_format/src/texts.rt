@@ -1,7 +1,7 @@
 //! Texts of numbers, a line for each: how one line is read, and how one is printed.
 
 ghost use Rattle.std.specs.Prelude.{◌≡◌, ◌≢◌, ◌≤◌, ◌++◌, ◌∷◌, [], List, ℕ, length, drop, decimal, MatchOption, OnOk, IsTrue, ◌↔◌};
-ghost use Rattle.line_format.specs.Texts.{ReadsKnown, Between, number_words, line_text};
+ghost use Rattle.line_format.specs.Texts.{ReadsKnown, Between, one_number, line_text};
 
 use itoa::Buffer;
 use p3_field::Mem;
@@ -13,7 +13,7 @@ use std::marker::Model;
 pub enum ItemError {
     /// The first line that is left goes on from the lines before it in no text.
     Malformed,
-    /// Memory was wanting.
+    /// Memory ran out.
     OutOfMemory,
 }
 
@@ -37,7 +37,7 @@ impl<T: Drop> From<AllocFailed<T>> for ItemError {
     }
 }
 
-/// What is left of a text (own). Contracts see its bytes.
+/// What is left of a text (not in Plonky3). Contracts see its bytes.
 #[derive(Drop)]
 pub struct Reader<'a> {
     rest: &'a [u8],
@@ -71,7 +71,7 @@ impl<'a> Reader<'a> {
     /// It is `Malformed` exactly where no such line is next, and then nothing is read.
     pub fn number(&mut self, least: u32, most: u32) -> Result<u32, ItemError>
         requires { least ≤ most }
-        ensures { ReadsKnown (Between least most) number_words self.old self.new result }
+        ensures { ReadsKnown (Between least most) one_number self.old self.new result }
     {
         match first_number(self.rest, most) {
             None => Err(ItemError::Malformed),

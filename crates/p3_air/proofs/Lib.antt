@@ -1,2 +1,3 @@
 pub mod NodeDegrees
 pub mod Nonzero
+pub mod Asserted

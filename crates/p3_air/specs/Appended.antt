@@ -1,4 +1,4 @@
--- What a call appends to a builder, over the relation `grows` between its states: all of some trees over the base
+-- What a call appends to a builder, over the relation `appends` between its states: all of some trees over the base
 -- field and no interaction, or some of the first of them.
 use Rattle.std.specs.Prelude.{List, [], map, Result, OnErr}
 use Rattle.p3_air.specs.Tree.{Tree, Asserted, Interaction, SomeFirst, over_base}

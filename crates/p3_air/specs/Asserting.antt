@@ -1,4 +1,4 @@
--- What calls assert one after another, over any states and expressions: also where an expression stands for no tree.
+-- What calls assert one after another, over any states and expressions: also where an expression represents no tree.
 use Rattle.std.specs.Prelude.{◌≡◌, ◌≤◌, ℕ, List, [], ◌∷◌, length, take}
 use Rattle.p3_air.specs.Tree.{Tree, constant}
 use Rattle.p3_air.specs.Operation.{Operation, minus, times}
@@ -11,14 +11,14 @@ pub record AssertsOne {S E : Type 0} (gives : S → E → Type 0) (asserts : S �
   pub asserted : asserts before expression b
 
 -- in the state b, e is what x (x - 1) was computed as: from an expression for one x - 1, and from this the product
-pub record ComputesBool {S E F : Type 0} (stands : S → E → Tree F → Type 0) (computes : S → Operation → E → E → S → E → Type 0) (one : F) (x : E) (b : S) (e : E) : Type 0 where
+pub record ComputesBool {S E F : Type 0} (represents : S → E → Tree F → Type 0) (computes : S → Operation → E → E → S → E → Type 0) (one : F) (x : E) (b : S) (e : E) : Type 0 where
   pub first : S
   pub second : S
   pub unit : E
-  pub less : E
-  pub unit_stands : stands first unit (constant one)
-  pub less_computed : computes first minus x unit second less
-  pub product_computed : computes second times x less b e
+  pub less_one : E
+  pub unit_represents : represents first unit (constant one)
+  pub less_one_computed : computes first minus x unit second less_one
+  pub product_computed : computes second times x less_one b e
 
 -- each item was asserted in turn, from the first state to the last
 abbrev pub AssertsEach : {S E : Type 0} → (S → E → S → Type 0) → List E → S → S → Type 0

@@ -8,17 +8,17 @@ use Rattle.p3_matrix.specs.Matrix.{Rows, height, row_at}
 use Rattle.p3_air.specs.declared.check.CheckFailure.{CheckFailure}
 use Rattle.p3_air.specs.declared.check.CheckFailure.TheVariants.{PreprocessedHeight, Failing, OutOfMemory}
 use Rattle.p3_air.specs.Tree.{Tree}
-use Rattle.p3_air.specs.RowCheck.{Row, value_at}
+use Rattle.p3_air.specs.RowCheck.{Row, tree_value_at_row}
 
 -- the traces of a table, its periodic columns and its public values
-pub record Table (F : Type 0) : Type 0 where
+pub record TableTraces (F : Type 0) : Type 0 where
   pub main : Rows F
   pub preprocessed : Option (Rows F)
   pub periodic : List (List F)
   pub public_values : List F
 
-abbrev pub table_of : {F : Type 0} → Rows F → Option (Rows F) → List (List F) → List F → Table F
-table_of main preprocessed periodic public_values = record { main = main; preprocessed = preprocessed; periodic = periodic; public_values = public_values }
+abbrev pub table_traces : {F : Type 0} → Rows F → Option (Rows F) → List (List F) → List F → TableTraces F
+table_traces main preprocessed periodic public_values = record { main = main; preprocessed = preprocessed; periodic = periodic; public_values = public_values }
 
 -- row i of the preprocessed trace, which is empty where there is none
 abbrev pub preprocessed_row : {F : Type 0} → Option (Rows F) → ℕ → List F
@@ -30,8 +30,8 @@ abbrev pub periodic_row : {F : Type 0} → F → List (List F) → ℕ → List 
 periodic_row d columns i = map (λ c. get_or c (i % length c) d) columns
 
 -- what the constraints read at row i, without lookups
-abbrev pub row_of : {F : Type 0} → F → Table F → ℕ → Row F F
-row_of d t i = record {
+abbrev pub table_row : {F : Type 0} → F → TableTraces F → ℕ → Row F F
+table_row d t i = record {
   main_local = row_at t.main i;
   main_next = row_at t.main ((i + 1) % height t.main);
   preprocessed_local = preprocessed_row t.preprocessed i;
@@ -47,11 +47,11 @@ row_of d t i = record {
 }
 
 -- the values of the trees at row i
-abbrev pub row_values : {F : Type 0} → Ring F → Table F → List (Tree F) → ℕ → List F
-row_values r t ts i = map (value_at r r (λ x. x) (row_of r.zero t i)) ts
+abbrev pub row_values : {F : Type 0} → Ring F → TableTraces F → List (Tree F) → ℕ → List F
+row_values r t ts i = map (tree_value_at_row r r (λ x. x) (table_row r.zero t i)) ts
 
 -- all trees are zero at row i
-abbrev pub HoldsAtRow : {F : Type 0} → Ring F → Table F → List (Tree F) → ℕ → Type 0
+abbrev pub HoldsAtRow : {F : Type 0} → Ring F → TableTraces F → List (Tree F) → ℕ → Type 0
 HoldsAtRow r t ts i = All (λ x. x ≡ r.zero) (row_values r t ts i)
 
 -- the places of the values that aren't zero, in order
@@ -67,7 +67,7 @@ HasHeight (Some m) n = height m ≡ n
 
 -- The answer for a table whose constraints are these trees: after the height of the preprocessed trace the first row with a tree that isn't zero, with the
 -- places of all such trees there. Heights that differ are found without memory, so out of memory comes only where they agree.
-abbrev pub IsChecked : {F : Type 0} → Ring F → Table F → List (Tree F) → Result (Unit {0}) CheckFailure → Type 0
+abbrev pub IsChecked : {F : Type 0} → Ring F → TableTraces F → List (Tree F) → Result (Unit {0}) CheckFailure → Type 0
 IsChecked r t ts (Ok x) = HasHeight t.preprocessed (height t.main) × FirstFailing (height t.main) (HoldsAtRow r t ts) None
 IsChecked r t ts (Err PreprocessedHeight) = HasHeight t.preprocessed (height t.main) → ⊥
 IsChecked r t ts (Err (Failing row places)) = HasHeight t.preprocessed (height t.main) × IsFirstFailing (height t.main) (HoldsAtRow r t ts) row × AreNonzero r (row_values r t ts row) places.items

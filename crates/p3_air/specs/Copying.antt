@@ -9,15 +9,15 @@ pub record IsCopied {F : Type 0} (nodes copies : List (Node F)) (copy_of : ℕ �
   pub trees : (i p : ℕ) → copy_of i ≡ Some p → (p < length copies) × (tree_at copies p ≡ tree_at nodes i)
 
 -- how many of the first n places have a copy
-abbrev pub counted : Option ℕ → ℕ
-counted None = 0
-counted (Some p) = 1
+abbrev pub count_of_copy : Option ℕ → ℕ
+count_of_copy None = 0
+count_of_copy (Some p) = 1
 
 abbrev pub copied_below : (ℕ → Option ℕ) → ℕ → ℕ
 copied_below copy_of zero = 0
-copied_below copy_of (suc n) = copied_below copy_of n + counted (copy_of n)
+copied_below copy_of (suc n) = copied_below copy_of n + count_of_copy (copy_of n)
 
--- The copies grew, and p is the place of the copy of a place; a copy that was made is the last one. No place behind
+-- The copies grew, and p is the place of the copy of a place; a copy that was made is the last one. No place after
 -- this one got a copy, and there are as many new copies as places that got one.
 pub record CopiesTo {F : Type 0} (nodes old new : List (Node F)) (before after : ℕ → Option ℕ) (place p : ℕ) : Type 0 where
   pub copied : IsCopied nodes new after

@@ -1,6 +1,6 @@
 -- The degrees of constraint trees, by Plonky3's p3-air (symbolic expressions): as multiples of the trace's height,
 -- and as degrees of polynomials, which take the selectors and periodic columns exactly.
-use Rattle.std.specs.Prelude.{ℕ, ◌+◌, ◌-◌, ◌*◌, ◌/◌, ◌^◌, ◌<◌, min, max, List, length, slice_index}
+use Rattle.std.specs.Prelude.{ℕ, ◌+◌, ◌-◌, ◌*◌, ◌/◌, ◌^◌, ◌<◌, min, max, List, [], ◌∷◌, length, slice_index}
 use Rattle.p3_air.specs.declared.cells.Cell.{Cell}
 use Rattle.p3_air.specs.declared.cells.Cell.TheVariants.{Main, Preprocessed, Periodic, Public, FirstRow, LastRow, Transition}
 use Rattle.p3_air.specs.declared.cells.ExtCell.{ExtCell}
@@ -95,3 +95,8 @@ HasPeriod periods (Public i) = Unit {0}
 HasPeriod periods FirstRow = Unit {0}
 HasPeriod periods LastRow = Unit {0}
 HasPeriod periods Transition = Unit {0}
+
+-- the greatest of some numbers, at least the first one
+abbrev pub greatest : ℕ → List ℕ → ℕ
+greatest n [] = n
+greatest n (k ∷ ks) = greatest (max n k) ks

@@ -6,10 +6,10 @@ pub mod Packing
 pub mod Appended
 pub mod Gadgets
 pub mod Words
-pub mod Stand
+pub mod Represent
 pub mod Operation
 pub mod Asserting
-pub mod Growth
+pub mod Appending
 pub mod Declared
 pub mod RowCheck
 pub mod PointValues
@@ -21,3 +21,4 @@ pub mod Copying
 pub mod Maps
 pub mod CellValues
 pub mod Degrees
+pub mod Greatest

@@ -37,13 +37,13 @@ pub record Places : Type 0 where
   pub base_indices : List ℕ
   pub ext_indices : List ℕ
 
-abbrev pub total : Places → ℕ
-total p = length p.base_indices + length p.ext_indices
+abbrev pub place_count : Places → ℕ
+place_count p = length p.base_indices + length p.ext_indices
 
 -- Each listed place's power of the challenge: constraint i of n has the power n - 1 - i, so that the sum of the
 -- constraints times their powers is the value that Horner's rule gives.
-abbrev pub powers_of : {E : Type 0} → Ring E → E → ℕ → List ℕ → List E
-powers_of r alpha n places = map (λ i. pow r alpha (n - 1 - i)) places
+abbrev pub folding_powers : {E : Type 0} → Ring E → E → ℕ → List ℕ → List E
+folding_powers r alpha n places = map (λ i. pow r alpha (n - 1 - i)) places
 
 -- the list has each number below n once, and no other
 pub record HasEachOnce (n : ℕ) (is : List ℕ) : Type 0 where
@@ -52,7 +52,7 @@ pub record HasEachOnce (n : ℕ) (is : List ℕ) : Type 0 where
 
 -- each constraint has its place once, in one of both lists
 abbrev pub ListsEachOnce : Places → Type 0
-ListsEachOnce p = HasEachOnce (total p) (p.base_indices ++ p.ext_indices)
+ListsEachOnce p = HasEachOnce (place_count p) (p.base_indices ++ p.ext_indices)
 
 -- each number of the list is above those before it
 abbrev pub Ascends : List ℕ → Type 0

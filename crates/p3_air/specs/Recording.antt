@@ -1,4 +1,4 @@
--- What a recording builder holds, and the trees and interactions that it stands for.
+-- What a recording builder holds, and the trees and interactions that it represents.
 use Rattle.std.specs.Prelude.{◌≡◌, ℕ, ◌<◌, ◌%◌, ◌++◌, suc, Bool, nat_lt, cond, not, List, [], ◌∷◌, length, map, filter, All, Option, Some, None}
 use Rattle.std.specs.Prelude.{slice_index_or as get_or}
 use Rattle.p3_air.specs.declared.cells.Count.{Count}
@@ -59,38 +59,38 @@ pub record IsRecording {F : Type 0} (r : Recording F) : Type 0 where
   pub interactions : All (PlacedBelow (length r.nodes)) r.interactions
 
 -- the node at this place is there, and has this tree
-pub record StandsAt {F : Type 0} (ns : List (Node F)) (e : ℕ) (t : Tree F) : Type 0 where
+pub record RepresentsAt {F : Type 0} (ns : List (Node F)) (e : ℕ) (t : Tree F) : Type 0 where
   pub within : e < length ns
   pub has_tree : tree_at ns e ≡ t
 
--- the second recording has the first one's layout, and its nodes with others behind them
+-- the second recording has the first one's layout, and its nodes with others after them
 pub record IsLater {F : Type 0} (a b : Recording F) : Type 0 where
   pub layout : b.layout ≡ a.layout
   pub more : List (Node F)
   pub extends : b.nodes ≡ a.nodes ++ more
 
 -- the second recording is later than the first, with these trees asserted and these interactions sent since
-pub record Grows {F : Type 0} (a b : Recording F) (ts : List (Asserted F)) (is : List (Interaction F)) : Type 0 where
+pub record HasAppended {F : Type 0} (a b : Recording F) (ts : List (Asserted F)) (is : List (Interaction F)) : Type 0 where
   pub later : IsLater a b
   pub trees : asserted_at b.nodes b.asserted ≡ asserted_at a.nodes a.asserted ++ ts
   pub sent : sent_at b.nodes b.interactions ≡ sent_at a.nodes a.interactions ++ is
 
 -- The place of an expression among n nodes. One that is not among them, which some other builder gave, is taken for
 -- the first node, the constant zero.
-abbrev pub known_place : ℕ → ℕ → ℕ
-known_place n x = cond (nat_lt x n) x 0
+abbrev pub place_or_zero : ℕ → ℕ → ℕ
+place_or_zero n x = cond (nat_lt x n) x 0
 
 -- the tree that an expression is read as: one that is not among the nodes is the constant zero
-abbrev pub known_tree : {F : Type 0} → List (Node F) → ℕ → Tree F
-known_tree ns x = tree_at ns (known_place (length ns) x)
+abbrev pub tree_or_zero : {F : Type 0} → List (Node F) → ℕ → Tree F
+tree_or_zero ns x = tree_at ns (place_or_zero (length ns) x)
 
 -- in the second recording the last expression has the tree of this operation on the others, read in the first
 abbrev pub Computes : {F : Type 0} → Recording F → Operation → ℕ → ℕ → Recording F → ℕ → Type 0
-Computes a op x y b e = StandsAt b.nodes e (tree_by op (known_tree a.nodes x) (known_tree a.nodes y))
+Computes a op x y b e = RepresentsAt b.nodes e (tree_by op (tree_or_zero a.nodes x) (tree_or_zero a.nodes y))
 
 -- The recording after this expression was asserted: one that is not among its nodes is asserted as the constant zero.
 abbrev pub asserting : {F : Type 0} → Recording F → ℕ → Bool → Recording F
-asserting r x in_extension = record r { asserted = r.asserted ++ record { place = known_place (length r.nodes) x; in_extension = in_extension } ∷ [] }
+asserting r x in_extension = record r { asserted = r.asserted ++ record { place = place_or_zero (length r.nodes) x; in_extension = in_extension } ∷ [] }
 
 -- the assertion was made over the extension, or, where that is what is asked, over the base field
 abbrev pub is_in : Bool → Assertion → Bool
@@ -118,8 +118,8 @@ is_over extension a = cond a.in_extension extension (not extension)
 abbrev pub trees_over : {F : Type 0} → Bool → List (Asserted F) → List (Tree F)
 trees_over extension ts = map (λ a. a.tree) (filter (is_over extension) ts)
 
-abbrev pub known_count : ℕ → Count ℕ → Count ℕ
-known_count n c = record { value = known_place n c.value; bound = c.bound }
+abbrev pub count_or_zero : ℕ → Count ℕ → Count ℕ
+count_or_zero n c = record { value = place_or_zero n c.value; bound = c.bound }
 
 -- the name of a bus, or none for a local interaction
 abbrev pub name_of : Bus → Option (List ℕ)
@@ -129,4 +129,4 @@ name_of (global name) = Some name
 -- The recording after these fields and counts were sent on the bus of this name, or locally: an expression that is
 -- not among its nodes is sent as the constant zero.
 abbrev pub sending : {F : Type 0} → Recording F → Option (List ℕ) → List ℕ → List (Count ℕ) → Recording F
-sending r bus xs cs = record r { interactions = r.interactions ++ record { bus = bus; fields = map (known_place (length r.nodes)) xs; counts = map (known_count (length r.nodes)) cs } ∷ [] }
+sending r bus xs cs = record r { interactions = r.interactions ++ record { bus = bus; fields = map (place_or_zero (length r.nodes)) xs; counts = map (count_or_zero (length r.nodes)) cs } ∷ [] }

@@ -7,7 +7,7 @@ use Rattle.p3_air.specs.declared.cells.Cell.TheVariants.{Main, Preprocessed, Per
 use Rattle.p3_air.specs.declared.cells.ExtCell.{ExtCell}
 use Rattle.p3_air.specs.declared.cells.ExtCell.TheVariants.{Permutation, Challenge, Terminal}
 use Rattle.p3_air.specs.Shape.{Shape}
-use Rattle.p3_air.specs.Tree.{Tree, Asserted, Reading, ev}
+use Rattle.p3_air.specs.Tree.{Tree, Asserted, Reading, eval_tree}
 
 -- the values of the cells at one row of a table: over the base field, and over the extension
 pub record Row (F E : Type 0) : Type 0 where
@@ -55,8 +55,8 @@ row_reading f e embed r = record {
 }
 
 -- the value of a tree at the row
-abbrev pub value_at : {F E : Type 0} → Ring F → Ring E → (F → E) → Row F E → Tree F → E
-value_at f e embed r t = ev (row_reading f e embed r) t
+abbrev pub tree_value_at_row : {F E : Type 0} → Ring F → Ring E → (F → E) → Row F E → Tree F → E
+tree_value_at_row f e embed r t = eval_tree (row_reading f e embed r) t
 
 -- the cells that the row has
 abbrev pub row_shape : {F E : Type 0} → Row F E → Shape
@@ -73,17 +73,17 @@ row_shape r = record {
 }
 
 -- the current and the next row have the same columns
-pub record IsRow {F E : Type 0} (r : Row F E) : Type 0 where
+pub record HasRowsOfOneWidth {F E : Type 0} (r : Row F E) : Type 0 where
   pub main : length r.main_next ≡ length r.main_local
   pub preprocessed : length r.preprocessed_next ≡ length r.preprocessed_local
   pub permutation : length r.permutation_next ≡ length r.permutation_local
 
 -- a row, and the values of the asserted trees there, in order
-pub record Checked (F E : Type 0) : Type 0 where
+pub record CheckedRow (F E : Type 0) : Type 0 where
   pub row : Row F E
   pub values : List E
 
--- the second has the first one's row, and the values of these trees behind its values
-pub record Adds {F E : Type 0} (f : Ring F) (e : Ring E) (embed : F → E) (a b : Checked F E) (ts : List (Asserted F)) : Type 0 where
+-- the second has the first one's row, and the values of these trees after its values
+pub record Adds {F E : Type 0} (f : Ring F) (e : Ring E) (embed : F → E) (a b : CheckedRow F E) (ts : List (Asserted F)) : Type 0 where
   pub row : b.row ≡ a.row
-  pub values : b.values ≡ a.values ++ map (λ t. value_at f e embed a.row t.tree) ts
+  pub values : b.values ≡ a.values ++ map (λ t. tree_value_at_row f e embed a.row t.tree) ts

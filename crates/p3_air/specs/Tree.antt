@@ -26,13 +26,13 @@ pub record Reading (F E : Type 0) : Type 0 where
   pub at_ext : ExtCell → E
 
 -- the value of a tree
-abbrev pub ev : {F E : Type 0} → Reading F E → Tree F → E
-ev r (constant x) = r.from x
-ev r (cell c) = r.at c
-ev r (ext_cell c) = r.at_ext c
-ev r (sum x y) = r.add (ev r x) (ev r y)
-ev r (difference x y) = r.sub (ev r x) (ev r y)
-ev r (product x y) = r.mul (ev r x) (ev r y)
+abbrev pub eval_tree : {F E : Type 0} → Reading F E → Tree F → E
+eval_tree r (constant x) = r.from x
+eval_tree r (cell c) = r.at c
+eval_tree r (ext_cell c) = r.at_ext c
+eval_tree r (sum x y) = r.add (eval_tree r x) (eval_tree r y)
+eval_tree r (difference x y) = r.sub (eval_tree r x) (eval_tree r y)
+eval_tree r (product x y) = r.mul (eval_tree r x) (eval_tree r y)
 
 -- an asserted tree, and whether it was asserted over the extension
 pub record Asserted (F : Type 0) : Type 0 where
@@ -46,8 +46,8 @@ abbrev pub over_extension : {F : Type 0} → Tree F → Asserted F
 over_extension t = record { tree = t; in_extension = true }
 
 -- the value of an asserted tree, over whichever field it was asserted
-abbrev pub ev_asserted : {F E : Type 0} → Reading F E → Asserted F → E
-ev_asserted r a = ev r a.tree
+abbrev pub eval_asserted : {F E : Type 0} → Reading F E → Asserted F → E
+eval_asserted r a = eval_tree r a.tree
 
 -- whom an interaction speaks to: its own table alone, or all that use the bus of this name (its UTF-8 bytes)
 pub data Bus : Type 0 where
@@ -70,13 +70,13 @@ abbrev pub tuple_at : {F : Type 0} → Interaction F → ℕ → List (Tree F)
 tuple_at i k = slice_range i.fields (k * tuple_width i) (k * tuple_width i + tuple_width i)
 
 -- the lists have one length, and each expression is in the relation with the tree at its place
-pub record Stand {E T : Type 0} (P : E → T → Type 0) (es : List E) (ts : List T) : Type 0 where
+pub record Represent {E T : Type 0} (P : E → T → Type 0) (es : List E) (ts : List T) : Type 0 where
   pub long : length ts ≡ length es
   pub each : (k : ℕ) (d : E) (u : T) → k < length es → P (get_or es k d) (get_or ts k u)
 
 -- the count's value is in the relation with the tree's, and their bounds are one
-abbrev pub StandCount : {E T : Type 0} → (E → T → Type 0) → Count E → Count T → Type 0
-StandCount P c v = P c.value v.value × (v.bound ≡ c.bound)
+abbrev pub RepresentsCount : {E T : Type 0} → (E → T → Type 0) → Count E → Count T → Type 0
+RepresentsCount P c v = P c.value v.value × (v.bound ≡ c.bound)
 
 -- x (x - 1), which is zero where x is zero or one
 abbrev pub bool_tree : {F : Type 0} → F → Tree F → Tree F

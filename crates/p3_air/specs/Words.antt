@@ -1,5 +1,5 @@
 -- What the gadgets' trees mean: words of 32 bits as numbers, given by limbs of 16 bits or by bits, the lowest first,
--- and elements of a prime field that stand for these. The rules are those of Plonky3's p3-air (utils).
+-- and elements of a prime field that represent these. The rules are those of Plonky3's p3-air (utils).
 use Rattle.std.specs.Prelude.{◌≡◌, ℕ, zero, suc, ◌+◌, ◌*◌, ◌/◌, ◌%◌, ◌^◌, ◌<◌, List, All, bit_xor, ◌↔◌, ◌⊎◌}
 use Rattle.std.specs.Int.{rotate_left, bit_at}
 use Rattle.std.specs.Int.{w32}
@@ -8,8 +8,8 @@ use Rattle.p3_field.specs.Field.{FieldLaws}
 use Rattle.p3_field.specs.Poly.{total}
 use Rattle.p3_air.specs.declared.cells.Cell.{Cell}
 use Rattle.p3_air.specs.declared.cells.ExtCell.{ExtCell}
-use Rattle.p3_air.specs.Tree.{Tree, Reading, ev, bool_tree}
-use Rattle.p3_air.specs.Gadgets.{add2_trees, add3_trees, packed, xor_tree, xor_shift_trees}
+use Rattle.p3_air.specs.Tree.{Tree, Reading, eval_tree, bool_tree}
+use Rattle.p3_air.specs.Gadgets.{add2_trees, add3_trees, packed_bits, xor_tree, xor_shift_trees}
 
 -- a prime field as data: each element is the sum of as many ones as its canonical number, which is below the order
 pub record PrimeFieldLaws {A : Type 0} (r : Ring A) (inv : A → A) (order : ℕ) (canonical : A → ℕ) : Type 0 where
@@ -25,11 +25,11 @@ cells_reading r at at_ext = record { from = λ x. x; add = r.add; sub = sub r; m
 
 -- all the trees are zero
 abbrev pub Vanish : {A : Type 0} → Ring A → Reading A A → List (Tree A) → Type 0
-Vanish r rd ts = All (λ t. ev rd t ≡ r.zero) ts
+Vanish r rd ts = All (λ t. eval_tree rd t ≡ r.zero) ts
 
 -- the trees at the first n places are these numbers, as elements
-abbrev pub HaveValues : {A : Type 0} → Ring A → Reading A A → ℕ → (ℕ → Tree A) → (ℕ → ℕ) → Type 0
-HaveValues r rd n t f = (k : ℕ) → k < n → ev rd (t k) ≡ of_nat r (f k)
+abbrev pub HaveNumbers : {A : Type 0} → Ring A → Reading A A → ℕ → (ℕ → Tree A) → (ℕ → ℕ) → Type 0
+HaveNumbers r rd n t f = (k : ℕ) → k < n → eval_tree rd (t k) ≡ of_nat r (f k)
 
 -- the first n numbers are below m
 abbrev pub AreBelow : ℕ → ℕ → (ℕ → ℕ) → Type 0
@@ -62,35 +62,35 @@ bits_word f = bits_number f 0 32
 -- Of limbs in range the trees of `add2` are zero exactly where a is b + c modulo 2^32.
 abbrev pub Add2Means : {A : Type 0} → Ring A → Reading A A → Type 0
 Add2Means {A} r rd = (s t u : ℕ → Tree A) (a b c : ℕ → ℕ) → AreLimbs a → AreLimbs b → AreLimbs c
-    → HaveValues r rd 2 s a → HaveValues r rd 2 t b → HaveValues r rd 2 u c
+    → HaveNumbers r rd 2 s a → HaveNumbers r rd 2 t b → HaveNumbers r rd 2 u c
     → Vanish r rd (add2_trees r s t u) ↔ (limbs_word a ≡ (limbs_word b + limbs_word c) % 2 ^ 32)
 
 -- Of limbs in range the trees of `add3` are zero exactly where a is b + c + d modulo 2^32.
 abbrev pub Add3Means : {A : Type 0} → Ring A → Reading A A → Type 0
 Add3Means {A} r rd = (s t u v : ℕ → Tree A) (a b c d : ℕ → ℕ) → AreLimbs a → AreLimbs b → AreLimbs c → AreLimbs d
-    → HaveValues r rd 2 s a → HaveValues r rd 2 t b → HaveValues r rd 2 u c → HaveValues r rd 2 v d
+    → HaveNumbers r rd 2 s a → HaveNumbers r rd 2 t b → HaveNumbers r rd 2 u c → HaveNumbers r rd 2 v d
     → Vanish r rd (add3_trees r s t u v) ↔ (limbs_word a ≡ (limbs_word b + limbs_word c + limbs_word d) % 2 ^ 32)
 
 -- the trees of c have bits, and those of a the limbs of b xor (c rotated to the left by s)
 pub record IsXorShift {A : Type 0} (r : Ring A) (rd : Reading A A) (ta : ℕ → Tree A) (b : ℕ → ℕ) (tc : ℕ → Tree A) (s : ℕ) : Type 0 where
   pub c : ℕ → ℕ
   pub c_bits : AreBits c
-  pub c_values : HaveValues r rd 32 tc c
-  pub a_values : HaveValues r rd 2 ta (limb (bit_xor (bits_word b) (rotate_left w32 (bits_word c) s)))
+  pub c_values : HaveNumbers r rd 32 tc c
+  pub a_values : HaveNumbers r rd 2 ta (limb (bit_xor (bits_word b) (rotate_left w32 (bits_word c) s)))
 
 -- Where b has bits, the trees of `xor_32_shift` are zero exactly where c has bits and a is b xor (c rotated to the
 -- left by s).
 abbrev pub XorShiftMeans : {A : Type 0} → Ring A → Reading A A → Type 0
-XorShiftMeans {A} r rd = (ta tb tc : ℕ → Tree A) (b : ℕ → ℕ) (s : ℕ) → AreBits b → HaveValues r rd 32 tb b
+XorShiftMeans {A} r rd = (ta tb tc : ℕ → Tree A) (b : ℕ → ℕ) (s : ℕ) → AreBits b → HaveNumbers r rd 32 tb b
     → Vanish r rd (xor_shift_trees r ta tb tc s) ↔ IsXorShift r rd ta b tc s
 
 -- The tree of `pack_bits_le` is the number of the bits.
 abbrev pub PackMeans : {A : Type 0} → Ring A → Reading A A → Type 0
-PackMeans {A} r rd = (t : ℕ → Tree A) (f : ℕ → ℕ) (n : ℕ) → HaveValues r rd n t f → ev rd (packed r t 0 n) ≡ of_nat r (bits_number f 0 n)
+PackMeans {A} r rd = (t : ℕ → Tree A) (f : ℕ → ℕ) (n : ℕ) → HaveNumbers r rd n t f → eval_tree rd (packed_bits r t 0 n) ≡ of_nat r (bits_number f 0 n)
 
 -- The tree of `pack_bits_le` is the sum of the values at the n places, that at place i times 2^i.
 abbrev pub PackSums : {A : Type 0} → Ring A → Reading A A → Type 0
-PackSums {A} r rd = (t : ℕ → Tree A) (n : ℕ) → ev rd (packed r t 0 n) ≡ total r n (λ i. r.mul (of_nat r (2 ^ i)) (ev rd (t i)))
+PackSums {A} r rd = (t : ℕ → Tree A) (n : ℕ) → eval_tree rd (packed_bits r t 0 n) ≡ total r n (λ i. r.mul (of_nat r (2 ^ i)) (eval_tree rd (t i)))
 
 -- The bits of a word are bits, and the word is the number of its bits.
 abbrev pub BitsMean : ℕ → Type 0
@@ -102,16 +102,16 @@ IsBit r x = (x ≡ r.zero) ⊎ (x ≡ r.one)
 
 -- The tree of `assert_bool` is zero exactly where the value is zero or one.
 abbrev pub BoolMeans : {A : Type 0} → Ring A → Reading A A → Type 0
-BoolMeans {A} r rd = (t : Tree A) → (ev rd (bool_tree r.one t) ≡ r.zero) ↔ IsBit r (ev rd t)
+BoolMeans {A} r rd = (t : Tree A) → (eval_tree rd (bool_tree r.one t) ≡ r.zero) ↔ IsBit r (eval_tree rd t)
 
 -- The tree of `xor` is, of bits as numbers, the number of their exclusive or.
 abbrev pub XorMeans : {A : Type 0} → Ring A → Reading A A → Type 0
-XorMeans {A} r rd = (s t : Tree A) (m n : ℕ) → m < 2 → n < 2 → ev rd s ≡ of_nat r m → ev rd t ≡ of_nat r n → ev rd (xor_tree r s t) ≡ of_nat r (bit_xor m n)
+XorMeans {A} r rd = (s t : Tree A) (m n : ℕ) → m < 2 → n < 2 → eval_tree rd s ≡ of_nat r m → eval_tree rd t ≡ of_nat r n → eval_tree rd (xor_tree r s t) ≡ of_nat r (bit_xor m n)
 
 -- z is zero and x and y are equal, or z is one and they differ
-abbrev pub Tells : {A : Type 0} → Ring A → (x y z : A) → Type 0
-Tells r x y z = ((x ≡ y) × (z ≡ r.zero)) ⊎ ((x ≡ y → ⊥) × (z ≡ r.one))
+abbrev pub TellsDifference : {A : Type 0} → Ring A → (x y z : A) → Type 0
+TellsDifference r x y z = ((x ≡ y) × (z ≡ r.zero)) ⊎ ((x ≡ y → ⊥) × (z ≡ r.one))
 
 -- The tree of `xor` is, of values that are zero or one, zero where they are equal and else one.
 abbrev pub XorTells : {A : Type 0} → Ring A → Reading A A → Type 0
-XorTells {A} r rd = (s t : Tree A) → IsBit r (ev rd s) → IsBit r (ev rd t) → Tells r (ev rd s) (ev rd t) (ev rd (xor_tree r s t))
+XorTells {A} r rd = (s t : Tree A) → IsBit r (eval_tree rd s) → IsBit r (eval_tree rd t) → TellsDifference r (eval_tree rd s) (eval_tree rd t) (eval_tree rd (xor_tree r s t))

@@ -76,15 +76,15 @@ pub trait Air<F: FieldCore>: BaseAir<F> {
 
     /// Appends exactly the AIR's trees, over the base field, and interactions to a builder, in order. The builder
     /// declares every cell that the AIR declares. Over a builder that never fails the answer is Ok. On an error some of
-    /// the first trees and some of the first interactions were appended and nothing else (`refused`), and the builder's
+    /// the first trees and some of the first interactions were appended and nothing else (`on_error`), and the builder's
     /// expressions keep their meaning.
     fn eval<AB: InteractionBuilder<F = F>>(&self, builder: &mut AB) -> Mem<()>
         requires { Fits (declared_shape (Self.declaration self.now)) (AB.shape builder.old) }
         ensures later { AB.later builder.old builder.new }
-        ensures same { AB.shape builder.new ≡ AB.shape builder.old }
+        ensures keeps_shape { AB.shape builder.new ≡ AB.shape builder.old }
         ensures answers { IsTrue AB.never_fails → IsOk result }
-        ensures grows { IfOk result (λ _. AB.grows builder.old builder.new (map over_base (trees self.now)) (interactions self.now)) }
-        ensures refused { OnErr result (SomeFirst (AB.grows builder.old builder.new) (map over_base (trees self.now)) (interactions self.now)) };
+        ensures appends { IfOk result (λ _. AB.appends builder.old builder.new (map over_base (trees self.now)) (interactions self.now)) }
+        ensures on_error { OnErr result (SomeFirst (AB.appends builder.old builder.new) (map over_base (trees self.now)) (interactions self.now)) };
 
     // The declared number of constraints, where there is one, is that of the trees.
     ghost counts: { (a : Self) (n : ℕ) → (Self.declaration a).constraints ≡ Some n → n ≡ length (trees a) };

@@ -8,8 +8,8 @@ use p3_field::{ExtensionField, Field, FieldCore, RingCore};
 use std::marker::Model;
 
 /// The values of the base field's cells at one place, be it a row or a point above the field: those of columns and
-/// selectors in `E`, and public values in `F` (own). The builders that read values all read them here. A contract
-/// sees it as the record `PointValues`.
+/// selectors in `E`, and public values in `F` (not in Plonky3). The builders that read values all read them here.
+/// A contract sees it as the record `PointValues`.
 #[derive(Drop)]
 pub struct BaseCells<'a, F, E> {
     /// The main columns' values, one for each column.
@@ -37,7 +37,17 @@ impl<'a, F, E> Model for BaseCells<'a, F, E> {
 
     ghost Value = { PointValues F E };
 
-    ghost view = { λ c. record { main_local = c.main_local.now; main_next = c.main_next.now; preprocessed_local = c.preprocessed_local.now; preprocessed_next = c.preprocessed_next.now; periodic = c.periodic.now; public = c.public_values.now; first_row = c.first_row; last_row = c.last_row; transition = c.transition } };
+    ghost view = { λ c. record {
+      main_local = c.main_local.now;
+      main_next = c.main_next.now;
+      preprocessed_local = c.preprocessed_local.now;
+      preprocessed_next = c.preprocessed_next.now;
+      periodic = c.periodic.now;
+      public = c.public_values.now;
+      first_row = c.first_row;
+      last_row = c.last_row;
+      transition = c.transition;
+    } };
 }
 
 impl<'a, F: Field, E: ExtensionField<F>> BaseCells<'a, F, E> {

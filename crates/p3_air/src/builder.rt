@@ -5,20 +5,20 @@ ghost use denote.Param.{layout};
 ghost use Rattle.p3_air.specs.Shape.{Shape, Declares, DeclaresExt};
 ghost use Rattle.p3_air.specs.Asserting.{AssertsOne, AssertsEach, AssertsFirst, ComputesBool};
 ghost use Rattle.p3_air.specs.Operation.{Operation, plus, minus, times, tree_by};
-ghost use Rattle.p3_air.specs.Tree.{Tree, Asserted, Interaction, Bus, Stand, StandCount, SomeFirst, constant as constant_tree, cell as cell_tree, ext_cell as ext_cell_tree, sum, difference, product, bool_tree, over_base, over_extension, local, global};
+ghost use Rattle.p3_air.specs.Tree.{Tree, Asserted, Interaction, Bus, Represent, RepresentsCount, SomeFirst, constant as constant_tree, cell as cell_tree, ext_cell as ext_cell_tree, sum, difference, product, bool_tree, over_base, over_extension, local, global};
 ghost use Rattle.p3_air.specs.declared.cells.Count.{Count as CountOf};
 
 use crate::cells::{Cell, Count, ExtCell};
 use p3_field::{FieldCore, Mem, RingCore};
 
-/// Takes constraints (`p3_air::AirBuilder`). An expression stands for a constraint tree, and `assert_zero` appends
+/// Takes constraints (`p3_air::AirBuilder`). An expression represents a constraint tree, and `assert_zero` appends
 /// its expression's tree to the list of asserted trees.
 ///
 /// The list of asserted trees, each with the field over which it was asserted, and that of interactions are meanings:
-/// no builder need keep them. `grows` says what a state has in the two lists beyond an earlier one. On an error a call
-/// has appended nothing, or, of several constraints, some of the first (`refused`, `some`).
+/// no builder need keep them. `appends` says what a state has in the two lists beyond an earlier one. On an error a call
+/// has appended nothing, or, of several constraints, some of the first (`on_error`, `some`).
 ///
-/// An expression may stand for no tree, as one that some other builder gave. `computes` and `asserts` say what an
+/// An expression may represent no tree, as one that some other builder gave. `computes` and `asserts` say what an
 /// operation on it gives and what asserting it does all the same: each builder says by them what exactly that is.
 pub trait AirBuilder {
     /// The field of the trace.
@@ -27,20 +27,20 @@ pub trait AirBuilder {
     /// Expressions over the cells.
     type Expr: Copy;
 
-    // This expression stands for this tree in this state.
-    ghost stands: { Self → Self.Expr → Tree Self.F → Type 0 };
+    // This expression represents this tree in this state.
+    ghost represents: { Self → Self.Expr → Tree Self.F → Type 0 };
 
     // The second state is the first one or comes after it.
     ghost later: { Self → Self → Type 0 };
 
     // The second state comes after the first, with these asserted trees and interactions appended since.
-    ghost grows: { Self → Self → List (Asserted Self.F) → List (Interaction Self.F) → Type 0 };
+    ghost appends: { Self → Self → List (Asserted Self.F) → List (Interaction Self.F) → Type 0 };
 
-    // The second state is the first one after exactly this expression was asserted, whatever it stands for.
+    // The second state is the first one after exactly this expression was asserted, whatever it represents.
     ghost asserts: { Self → Self.Expr → Self → Type 0 };
 
     // In the second state the last expression is what this operation on the others gives, which are read in the first
-    // state, whatever they stand for.
+    // state, whatever they represent.
     ghost computes: { Self → Operation → Self.Expr → Self.Expr → Self → Self.Expr → Type 0 };
 
     // The cells that are declared. No call changes them.
@@ -55,64 +55,64 @@ pub trait AirBuilder {
     /// The value of a declared cell.
     fn cell(&mut self, c: Cell) -> Mem<Self::Expr>
         requires { Declares (shape self.old) c }
-        ensures same { shape self.new ≡ shape self.old }
-        ensures grows { grows self.old self.new [] [] }
+        ensures keeps_shape { shape self.new ≡ shape self.old }
+        ensures appends { appends self.old self.new [] [] }
         ensures answers { IsTrue never_fails → IsOk result }
         ensures sure { IsTrue only_asserting_fails → IsOk result }
-        ensures stands { IfOk result (λ e. stands self.new e (cell_tree c)) };
+        ensures represents { IfOk result (λ e. represents self.new e (cell_tree c)) };
 
     /// A constant.
     fn constant(&mut self, x: Self::F) -> Mem<Self::Expr>
-        ensures same { shape self.new ≡ shape self.old }
-        ensures grows { grows self.old self.new [] [] }
+        ensures keeps_shape { shape self.new ≡ shape self.old }
+        ensures appends { appends self.old self.new [] [] }
         ensures answers { IsTrue never_fails → IsOk result }
         ensures sure { IsTrue only_asserting_fails → IsOk result }
-        ensures stands { IfOk result (λ e. stands self.new e (constant_tree x)) };
+        ensures represents { IfOk result (λ e. represents self.new e (constant_tree x)) };
 
     /// The sum x + y.
     fn add(&mut self, x: Self::Expr, y: Self::Expr) -> Mem<Self::Expr>
-        ensures same { shape self.new ≡ shape self.old }
-        ensures grows { grows self.old self.new [] [] }
+        ensures keeps_shape { shape self.new ≡ shape self.old }
+        ensures appends { appends self.old self.new [] [] }
         ensures answers { IsTrue never_fails → IsOk result }
         ensures sure { IsTrue only_asserting_fails → IsOk result }
         ensures computes { IfOk result (λ e. computes self.old plus x y self.new e) }
-        ensures stands { (s t : Tree Self.F) → stands self.old x s → stands self.old y t → IfOk result (λ e. stands self.new e (sum s t)) };
+        ensures represents { (s t : Tree Self.F) → represents self.old x s → represents self.old y t → IfOk result (λ e. represents self.new e (sum s t)) };
 
     /// The difference x - y.
     fn sub(&mut self, x: Self::Expr, y: Self::Expr) -> Mem<Self::Expr>
-        ensures same { shape self.new ≡ shape self.old }
-        ensures grows { grows self.old self.new [] [] }
+        ensures keeps_shape { shape self.new ≡ shape self.old }
+        ensures appends { appends self.old self.new [] [] }
         ensures answers { IsTrue never_fails → IsOk result }
         ensures sure { IsTrue only_asserting_fails → IsOk result }
         ensures computes { IfOk result (λ e. computes self.old minus x y self.new e) }
-        ensures stands { (s t : Tree Self.F) → stands self.old x s → stands self.old y t → IfOk result (λ e. stands self.new e (difference s t)) };
+        ensures represents { (s t : Tree Self.F) → represents self.old x s → represents self.old y t → IfOk result (λ e. represents self.new e (difference s t)) };
 
     /// The product x * y.
     fn mul(&mut self, x: Self::Expr, y: Self::Expr) -> Mem<Self::Expr>
-        ensures same { shape self.new ≡ shape self.old }
-        ensures grows { grows self.old self.new [] [] }
+        ensures keeps_shape { shape self.new ≡ shape self.old }
+        ensures appends { appends self.old self.new [] [] }
         ensures answers { IsTrue never_fails → IsOk result }
         ensures sure { IsTrue only_asserting_fails → IsOk result }
         ensures computes { IfOk result (λ e. computes self.old times x y self.new e) }
-        ensures stands { (s t : Tree Self.F) → stands self.old x s → stands self.old y t → IfOk result (λ e. stands self.new e (product s t)) };
+        ensures represents { (s t : Tree Self.F) → represents self.old x s → represents self.old y t → IfOk result (λ e. represents self.new e (product s t)) };
 
     /// Asserts that x is zero in every row.
     fn assert_zero(&mut self, x: Self::Expr) -> Mem<()>
         ensures later { later self.old self.new }
-        ensures same { shape self.new ≡ shape self.old }
+        ensures keeps_shape { shape self.new ≡ shape self.old }
         ensures answers { IsTrue never_fails → IsOk result }
-        ensures grows { (t : Tree Self.F) → stands self.old x t → IfOk result (λ _. grows self.old self.new (over_base t ∷ []) []) }
+        ensures appends { (t : Tree Self.F) → represents self.old x t → IfOk result (λ _. appends self.old self.new (over_base t ∷ []) []) }
         ensures asserts { IfOk result (λ _. asserts self.old x self.new) }
-        ensures refused { OnErr result (grows self.old self.new [] []) };
+        ensures on_error { OnErr result (appends self.old self.new [] []) };
 
     /// Asserts that x - y is zero in every row.
     fn assert_eq(&mut self, x: Self::Expr, y: Self::Expr) -> Mem<()>
         ensures later { later self.old self.new }
-        ensures same { shape self.new ≡ shape self.old }
+        ensures keeps_shape { shape self.new ≡ shape self.old }
         ensures answers { IsTrue never_fails → IsOk result }
-        ensures grows { (s t : Tree Self.F) → stands self.old x s → stands self.old y t → IfOk result (λ _. grows self.old self.new (over_base (difference s t) ∷ []) []) }
-        ensures asserts { IfOk result (λ _. AssertsOne (λ m e. grows self.old m [] [] × computes self.old minus x y m e) asserts self.new) }
-        ensures refused { OnErr result (grows self.old self.new [] []) }
+        ensures appends { (s t : Tree Self.F) → represents self.old x s → represents self.old y t → IfOk result (λ _. appends self.old self.new (over_base (difference s t) ∷ []) []) }
+        ensures asserts { IfOk result (λ _. AssertsOne (λ m e. appends self.old m [] [] × computes self.old minus x y m e) asserts self.new) }
+        ensures on_error { OnErr result (appends self.old self.new [] []) }
     {
         let difference = self.sub(x, y)?;
         self.assert_zero(difference)
@@ -121,27 +121,27 @@ pub trait AirBuilder {
     /// Asserts that x * (x - 1) is zero in every row: that x is zero or one.
     fn assert_bool(&mut self, x: Self::Expr) -> Mem<()>
         ensures later { later self.old self.new }
-        ensures same { shape self.new ≡ shape self.old }
+        ensures keeps_shape { shape self.new ≡ shape self.old }
         ensures answers { IsTrue never_fails → IsOk result }
-        ensures grows { (t : Tree Self.F) → stands self.old x t → IfOk result (λ _. grows self.old self.new (over_base (bool_tree Self.F.ring.one t) ∷ []) []) }
-        ensures asserts { IfOk result (λ _. AssertsOne (λ m e. grows self.old m [] [] × ComputesBool stands computes Self.F.ring.one x m e) asserts self.new) }
-        ensures refused { OnErr result (grows self.old self.new [] []) }
+        ensures appends { (t : Tree Self.F) → represents self.old x t → IfOk result (λ _. appends self.old self.new (over_base (bool_tree Self.F.ring.one t) ∷ []) []) }
+        ensures asserts { IfOk result (λ _. AssertsOne (λ m e. appends self.old m [] [] × ComputesBool represents computes Self.F.ring.one x m e) asserts self.new) }
+        ensures on_error { OnErr result (appends self.old self.new [] []) }
     {
         let one = self.constant(<Self::F as RingCore>::ONE)?;
-        let less = self.sub(x, one)?;
-        let product = self.mul(x, less)?;
+        let less_one = self.sub(x, one)?;
+        let product = self.mul(x, less_one)?;
         self.assert_zero(product)
     }
 
     /// Asserts that each of `xs` is zero in every row, in order.
     fn assert_zeros(&mut self, xs: &[Self::Expr]) -> Mem<()>
         ensures later { later self.old self.new }
-        ensures same { shape self.new ≡ shape self.old }
+        ensures keeps_shape { shape self.new ≡ shape self.old }
         ensures answers { IsTrue never_fails → IsOk result }
-        ensures grows { (ts : List (Tree Self.F)) → Stand (stands self.old) xs.now ts → IfOk result (λ _. grows self.old self.new (map over_base ts) []) }
-        ensures refused { (ts : List (Tree Self.F)) → Stand (stands self.old) xs.now ts → OnErr result (SomeFirst (grows self.old self.new) (map over_base ts) []) }
+        ensures appends { (ts : List (Tree Self.F)) → Represent (represents self.old) xs.now ts → IfOk result (λ _. appends self.old self.new (map over_base ts) []) }
+        ensures on_error { (ts : List (Tree Self.F)) → Represent (represents self.old) xs.now ts → OnErr result (SomeFirst (appends self.old self.new) (map over_base ts) []) }
         ensures asserts { IfOk result (λ _. AssertsEach asserts xs.now self.old self.new) }
-        ensures some { OnErr result (AssertsFirst (λ a b. grows a b [] []) asserts xs.now self.old self.new) }
+        ensures some { OnErr result (AssertsFirst (λ a b. appends a b [] []) asserts xs.now self.old self.new) }
     {
         for x in xs {
             self.assert_zero(*x)?;
@@ -152,12 +152,14 @@ pub trait AirBuilder {
     /// Asserts that x * (x - 1) is zero in every row for each x of `xs`, in order.
     fn assert_bools(&mut self, xs: &[Self::Expr]) -> Mem<()>
         ensures later { later self.old self.new }
-        ensures same { shape self.new ≡ shape self.old }
+        ensures keeps_shape { shape self.new ≡ shape self.old }
         ensures answers { IsTrue never_fails → IsOk result }
-        ensures grows { (ts : List (Tree Self.F)) → Stand (stands self.old) xs.now ts → IfOk result (λ _. grows self.old self.new (map over_base (map (bool_tree Self.F.ring.one) ts)) []) }
-        ensures refused { (ts : List (Tree Self.F)) → Stand (stands self.old) xs.now ts → OnErr result (SomeFirst (grows self.old self.new) (map over_base (map (bool_tree Self.F.ring.one) ts)) []) }
-        ensures asserts { IfOk result (λ _. AssertsEach (λ a x b. AssertsOne (λ m e. grows a m [] [] × ComputesBool stands computes Self.F.ring.one x m e) asserts b) xs.now self.old self.new) }
-        ensures some { OnErr result (AssertsFirst (λ a b. grows a b [] []) (λ a x b. AssertsOne (λ m e. grows a m [] [] × ComputesBool stands computes Self.F.ring.one x m e) asserts b) xs.now self.old self.new) }
+        ensures appends { (ts : List (Tree Self.F)) → Represent (represents self.old) xs.now ts → IfOk result (λ _. appends self.old self.new (map over_base (map (bool_tree Self.F.ring.one) ts)) []) }
+        ensures on_error { (ts : List (Tree Self.F)) → Represent (represents self.old) xs.now ts
+            → OnErr result (SomeFirst (appends self.old self.new) (map over_base (map (bool_tree Self.F.ring.one) ts)) []) }
+        ensures asserts { IfOk result (λ _. AssertsEach (λ a x b. AssertsOne (λ m e. appends a m [] [] × ComputesBool represents computes Self.F.ring.one x m e) asserts b) xs.now self.old self.new) }
+        ensures some { OnErr result (AssertsFirst (λ a b. appends a b [] [])
+            (λ a x b. AssertsOne (λ m e. appends a m [] [] × ComputesBool represents computes Self.F.ring.one x m e) asserts b) xs.now self.old self.new) }
     {
         for x in xs {
             self.assert_bool(*x)?;
@@ -174,23 +176,24 @@ pub trait AirBuilder {
 
     ghost later_shape: { (a b : Self) → later a b → shape b ≡ shape a };
 
-    // What stands for a tree in a state stands for it in every later state.
-    ghost persists: { (a b : Self) → later a b → (e : Self.Expr) (t : Tree Self.F) → stands a e t → stands b e t };
+    // What represents a tree in a state represents it in every later state.
+    ghost persists: { (a b : Self) → later a b → (e : Self.Expr) (t : Tree Self.F) → represents a e t → represents b e t };
 
-    ghost grows_same: { (a : Self) → grows a a [] [] };
+    ghost appends_none: { (a : Self) → appends a a [] [] };
 
-    ghost grows_later: { (a b : Self) (ts : List (Asserted Self.F)) (is : List (Interaction Self.F)) → grows a b ts is → later a b };
+    ghost appends_later: { (a b : Self) (ts : List (Asserted Self.F)) (is : List (Interaction Self.F)) → appends a b ts is → later a b };
 
-    ghost grows_along: { (a b c : Self) (s t : List (Asserted Self.F)) (i j : List (Interaction Self.F)) → grows a b s i → grows b c t j → grows a c (s ++ t) (i ++ j) };
+    ghost appends_along: { (a b c : Self) (s t : List (Asserted Self.F)) (i j : List (Interaction Self.F)) → appends a b s i → appends b c t j → appends a c (s ++ t) (i ++ j) };
 
     // A builder no call of which fails has none that fails but those that assert.
     ghost never_fails_sure: { IsTrue never_fails → IsTrue only_asserting_fails };
 
-    // What operations on expressions that stand for trees give stands for the operation's tree.
-    ghost computes_stands: { (a b : Self) → later a b → (op : Operation) (x y e : Self.Expr) (s t : Tree Self.F) → stands a x s → stands a y t → computes a op x y b e → stands b e (tree_by op s t) };
+    // What operations on expressions that represent trees give represents the operation's tree.
+    ghost computes_represents: { (a b : Self) → later a b → (op : Operation) (x y e : Self.Expr) (s t : Tree Self.F) → represents a x s → represents a y t
+        → computes a op x y b e → represents b e (tree_by op s t) };
 
-    // What is asserted is the tree that it stands for.
-    ghost asserts_grows: { (a b : Self) (x : Self.Expr) (t : Tree Self.F) → stands a x t → asserts a x b → grows a b (over_base t ∷ []) [] };
+    // What is asserted is the tree that it represents.
+    ghost asserts_appends: { (a b : Self) (x : Self.Expr) (t : Tree Self.F) → represents a x t → asserts a x b → appends a b (over_base t ∷ []) [] };
 }
 
 /// Takes constraints over an extension of the field too (`p3_air::ExtensionBuilder`).
@@ -198,79 +201,80 @@ pub trait ExtensionBuilder: AirBuilder {
     /// Expressions with values in the extension.
     type ExprEF: Copy;
 
-    // This expression of the extension stands for this tree in this state.
-    ghost stands_ext: { Self → Self.ExprEF → Tree Self.F → Type 0 };
+    // This expression of the extension represents this tree in this state.
+    ghost represents_ext: { Self → Self.ExprEF → Tree Self.F → Type 0 };
 
     // The second state is the first one after exactly this expression of the extension was asserted.
     ghost asserts_ext: { Self → Self.ExprEF → Self → Type 0 };
 
     // In the second state the last expression is what this operation on the others gives, which are read in the first
-    // state, whatever they stand for.
+    // state, whatever they represent.
     ghost computes_ext: { Self → Operation → Self.ExprEF → Self.ExprEF → Self → Self.ExprEF → Type 0 };
 
     // In the second state the expression of the extension is the first one as one of the extension, read in the first
-    // state, whatever it stands for.
+    // state, whatever it represents.
     ghost lifts: { Self → Self.Expr → Self → Self.ExprEF → Type 0 };
 
     /// An expression of the base as one of the extension: the same tree.
     fn lift(&mut self, x: Self::Expr) -> Mem<Self::ExprEF>
-        ensures same { Self.shape self.new ≡ Self.shape self.old }
-        ensures grows { Self.grows self.old self.new [] [] }
+        ensures keeps_shape { Self.shape self.new ≡ Self.shape self.old }
+        ensures appends { Self.appends self.old self.new [] [] }
         ensures answers { IsTrue Self.never_fails → IsOk result }
         ensures sure { IsTrue Self.only_asserting_fails → IsOk result }
         ensures lifts { IfOk result (λ e. lifts self.old x self.new e) }
-        ensures stands { (t : Tree Self.F) → Self.stands self.old x t → IfOk result (λ e. stands_ext self.new e t) };
+        ensures represents { (t : Tree Self.F) → Self.represents self.old x t → IfOk result (λ e. represents_ext self.new e t) };
 
     /// The sum x + y.
     fn add_ext(&mut self, x: Self::ExprEF, y: Self::ExprEF) -> Mem<Self::ExprEF>
-        ensures same { Self.shape self.new ≡ Self.shape self.old }
-        ensures grows { Self.grows self.old self.new [] [] }
+        ensures keeps_shape { Self.shape self.new ≡ Self.shape self.old }
+        ensures appends { Self.appends self.old self.new [] [] }
         ensures answers { IsTrue Self.never_fails → IsOk result }
         ensures sure { IsTrue Self.only_asserting_fails → IsOk result }
         ensures computes { IfOk result (λ e. computes_ext self.old plus x y self.new e) }
-        ensures stands { (s t : Tree Self.F) → stands_ext self.old x s → stands_ext self.old y t → IfOk result (λ e. stands_ext self.new e (sum s t)) };
+        ensures represents { (s t : Tree Self.F) → represents_ext self.old x s → represents_ext self.old y t → IfOk result (λ e. represents_ext self.new e (sum s t)) };
 
     /// The difference x - y.
     fn sub_ext(&mut self, x: Self::ExprEF, y: Self::ExprEF) -> Mem<Self::ExprEF>
-        ensures same { Self.shape self.new ≡ Self.shape self.old }
-        ensures grows { Self.grows self.old self.new [] [] }
+        ensures keeps_shape { Self.shape self.new ≡ Self.shape self.old }
+        ensures appends { Self.appends self.old self.new [] [] }
         ensures answers { IsTrue Self.never_fails → IsOk result }
         ensures sure { IsTrue Self.only_asserting_fails → IsOk result }
         ensures computes { IfOk result (λ e. computes_ext self.old minus x y self.new e) }
-        ensures stands { (s t : Tree Self.F) → stands_ext self.old x s → stands_ext self.old y t → IfOk result (λ e. stands_ext self.new e (difference s t)) };
+        ensures represents { (s t : Tree Self.F) → represents_ext self.old x s → represents_ext self.old y t → IfOk result (λ e. represents_ext self.new e (difference s t)) };
 
     /// The product x * y.
     fn mul_ext(&mut self, x: Self::ExprEF, y: Self::ExprEF) -> Mem<Self::ExprEF>
-        ensures same { Self.shape self.new ≡ Self.shape self.old }
-        ensures grows { Self.grows self.old self.new [] [] }
+        ensures keeps_shape { Self.shape self.new ≡ Self.shape self.old }
+        ensures appends { Self.appends self.old self.new [] [] }
         ensures answers { IsTrue Self.never_fails → IsOk result }
         ensures sure { IsTrue Self.only_asserting_fails → IsOk result }
         ensures computes { IfOk result (λ e. computes_ext self.old times x y self.new e) }
-        ensures stands { (s t : Tree Self.F) → stands_ext self.old x s → stands_ext self.old y t → IfOk result (λ e. stands_ext self.new e (product s t)) };
+        ensures represents { (s t : Tree Self.F) → represents_ext self.old x s → represents_ext self.old y t → IfOk result (λ e. represents_ext self.new e (product s t)) };
 
     /// Asserts that x is zero in every row.
     fn assert_zero_ext(&mut self, x: Self::ExprEF) -> Mem<()>
         ensures later { Self.later self.old self.new }
-        ensures same { Self.shape self.new ≡ Self.shape self.old }
+        ensures keeps_shape { Self.shape self.new ≡ Self.shape self.old }
         ensures answers { IsTrue Self.never_fails → IsOk result }
-        ensures grows { (t : Tree Self.F) → stands_ext self.old x t → IfOk result (λ _. Self.grows self.old self.new (over_extension t ∷ []) []) }
+        ensures appends { (t : Tree Self.F) → represents_ext self.old x t → IfOk result (λ _. Self.appends self.old self.new (over_extension t ∷ []) []) }
         ensures asserts { IfOk result (λ _. asserts_ext self.old x self.new) }
-        ensures refused { OnErr result (Self.grows self.old self.new [] []) };
+        ensures on_error { OnErr result (Self.appends self.old self.new [] []) };
 
     // Generic code keeps expressions of the extension in arrays: one of 1,024 takes less than 2^63 bytes.
     ghost arrays_fit_ext: { 1024 * (size (layout Self.ExprEF.row) + align (layout Self.ExprEF.row)) < 2 ^ 62 };
 
-    // What stands for a tree in a state stands for it in every later state.
-    ghost persists_ext: { (a b : Self) → Self.later a b → (e : Self.ExprEF) (t : Tree Self.F) → stands_ext a e t → stands_ext b e t };
+    // What represents a tree in a state represents it in every later state.
+    ghost persists_ext: { (a b : Self) → Self.later a b → (e : Self.ExprEF) (t : Tree Self.F) → represents_ext a e t → represents_ext b e t };
 
-    // What operations on expressions that stand for trees give stands for the operation's tree.
-    ghost computes_ext_stands: { (a b : Self) → Self.later a b → (op : Operation) (x y e : Self.ExprEF) (s t : Tree Self.F) → stands_ext a x s → stands_ext a y t → computes_ext a op x y b e → stands_ext b e (tree_by op s t) };
+    // What operations on expressions that represent trees give represents the operation's tree.
+    ghost computes_ext_represents: { (a b : Self) → Self.later a b → (op : Operation) (x y e : Self.ExprEF) (s t : Tree Self.F) → represents_ext a x s
+        → represents_ext a y t → computes_ext a op x y b e → represents_ext b e (tree_by op s t) };
 
     // What is lifted keeps its tree.
-    ghost lifts_stands: { (a b : Self) → Self.later a b → (x : Self.Expr) (e : Self.ExprEF) (t : Tree Self.F) → Self.stands a x t → lifts a x b e → stands_ext b e t };
+    ghost lifts_represents: { (a b : Self) → Self.later a b → (x : Self.Expr) (e : Self.ExprEF) (t : Tree Self.F) → Self.represents a x t → lifts a x b e → represents_ext b e t };
 
-    // What is asserted is the tree that it stands for.
-    ghost asserts_ext_grows: { (a b : Self) (x : Self.ExprEF) (t : Tree Self.F) → stands_ext a x t → asserts_ext a x b → Self.grows a b (over_extension t ∷ []) [] };
+    // What is asserted is the tree that it represents.
+    ghost asserts_ext_appends: { (a b : Self) (x : Self.ExprEF) (t : Tree Self.F) → represents_ext a x t → asserts_ext a x b → Self.appends a b (over_extension t ∷ []) [] };
 }
 
 /// Takes constraints over the permutation trace of lookups too (`p3_air::PermutationAirBuilder`).
@@ -278,16 +282,16 @@ pub trait PermutationAirBuilder: ExtensionBuilder {
     /// The value of a declared cell of the extension.
     fn ext_cell(&mut self, c: ExtCell) -> Mem<Self::ExprEF>
         requires { DeclaresExt (Self.shape self.old) c }
-        ensures same { Self.shape self.new ≡ Self.shape self.old }
-        ensures grows { Self.grows self.old self.new [] [] }
+        ensures keeps_shape { Self.shape self.new ≡ Self.shape self.old }
+        ensures appends { Self.appends self.old self.new [] [] }
         ensures answers { IsTrue Self.never_fails → IsOk result }
         ensures sure { IsTrue Self.only_asserting_fails → IsOk result }
-        ensures stands { IfOk result (λ e. Self.stands_ext self.new e (ext_cell_tree c)) };
+        ensures represents { IfOk result (λ e. Self.represents_ext self.new e (ext_cell_tree c)) };
 }
 
 /// Takes interactions too (`p3_lookup::InteractionBuilder`).
 pub trait InteractionBuilder: PermutationAirBuilder {
-    // The second state is the first one after exactly these fields and counts were sent, whatever they stand for.
+    // The second state is the first one after exactly these fields and counts were sent, whatever they represent.
     ghost sends: { Self → Bus → List Self.Expr → List (CountOf Self.Expr) → Self → Type 0 };
 
     /// Sends the tuple of `fields` on the bus of this name, as often as `count` says.
@@ -298,13 +302,13 @@ pub trait InteractionBuilder: PermutationAirBuilder {
         count: Count<Self::Expr>,
     ) -> Mem<()>
         ensures later { Self.later self.old self.new }
-        ensures same { Self.shape self.new ≡ Self.shape self.old }
+        ensures keeps_shape { Self.shape self.new ≡ Self.shape self.old }
         ensures answers { IsTrue Self.never_fails → IsOk result }
         ensures sure { IsTrue Self.only_asserting_fails → IsOk result }
-        ensures grows { (fs : List (Tree Self.F)) (v : Tree Self.F) → Stand (Self.stands self.old) fields.now fs → Self.stands self.old count.value v
-            → IfOk result (λ _. Self.grows self.old self.new [] (record { bus = global bus_name.now; fields = fs; counts = record { value = v; bound = count.bound } ∷ [] } ∷ [])) }
+        ensures appends { (fs : List (Tree Self.F)) (v : Tree Self.F) → Represent (Self.represents self.old) fields.now fs → Self.represents self.old count.value v
+            → IfOk result (λ _. Self.appends self.old self.new [] (record { bus = global bus_name.now; fields = fs; counts = record { value = v; bound = count.bound } ∷ [] } ∷ [])) }
         ensures sends { IfOk result (λ _. sends self.old (global bus_name.now) fields.now (count ∷ []) self.new) }
-        ensures refused { OnErr result (Self.grows self.old self.new [] []) };
+        ensures on_error { OnErr result (Self.appends self.old self.new [] []) };
 
     /// Sends tuples within the table itself: `fields` has the tuples one after another, all of one width, as many as
     /// there are counts, and tuple k is sent as often as count k says. There is at least one count, and the number of
@@ -317,16 +321,17 @@ pub trait InteractionBuilder: PermutationAirBuilder {
         requires counted { 0 < length counts.now }
         requires whole { length fields.now % length counts.now ≡ 0 }
         ensures later { Self.later self.old self.new }
-        ensures same { Self.shape self.new ≡ Self.shape self.old }
+        ensures keeps_shape { Self.shape self.new ≡ Self.shape self.old }
         ensures answers { IsTrue Self.never_fails → IsOk result }
         ensures sure { IsTrue Self.only_asserting_fails → IsOk result }
-        ensures grows { (fs : List (Tree Self.F)) (vs : List (CountOf (Tree Self.F))) → Stand (Self.stands self.old) fields.now fs
-            → Stand (StandCount (Self.stands self.old)) counts.now vs
-            → IfOk result (λ _. Self.grows self.old self.new [] (record { bus = local; fields = fs; counts = vs } ∷ [])) }
+        ensures appends { (fs : List (Tree Self.F)) (vs : List (CountOf (Tree Self.F))) → Represent (Self.represents self.old) fields.now fs
+            → Represent (RepresentsCount (Self.represents self.old)) counts.now vs
+            → IfOk result (λ _. Self.appends self.old self.new [] (record { bus = local; fields = fs; counts = vs } ∷ [])) }
         ensures sends { IfOk result (λ _. sends self.old local fields.now counts.now self.new) }
-        ensures refused { OnErr result (Self.grows self.old self.new [] []) };
+        ensures on_error { OnErr result (Self.appends self.old self.new [] []) };
 
-    // What is sent are the trees that the expressions stand for.
-    ghost sends_grows: { (a b : Self) (bus : Bus) (xs : List Self.Expr) (cs : List (CountOf Self.Expr)) (fs : List (Tree Self.F)) (vs : List (CountOf (Tree Self.F)))
-        → Stand (Self.stands a) xs fs → Stand (StandCount (Self.stands a)) cs vs → sends a bus xs cs b → Self.grows a b [] (record { bus = bus; fields = fs; counts = vs } ∷ []) };
+    // What is sent are the trees that the expressions represent.
+    ghost sends_appends: { (a b : Self) (bus : Bus) (xs : List Self.Expr) (cs : List (CountOf Self.Expr)) (fs : List (Tree Self.F)) (vs : List (CountOf (Tree Self.F)))
+        → Represent (Self.represents a) xs fs → Represent (RepresentsCount (Self.represents a)) cs vs → sends a bus xs cs b
+        → Self.appends a b [] (record { bus = bus; fields = fs; counts = vs } ∷ []) };
 }

@@ -46,11 +46,12 @@ pub enum ExtCell {
     Terminal,
 }
 
-/// How often a row sends a tuple: an expression, and a bound that its value, as a number, is trusted to keep.
+/// How often a row sends a tuple: an expression, and a bound that its value, as a number, is trusted to keep. No constraint
+/// keeps it: it is a promise of whoever writes the AIR.
 #[derive(Clone, Copy, PartialEq, Eq, Debug)]
 pub struct Count<E> {
     /// The count.
     pub value: E,
-    /// The greatest number that the count stands for.
+    /// The greatest number that the count represents.
     pub bound: u32,
 }

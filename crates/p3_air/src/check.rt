@@ -3,7 +3,7 @@ ghost use Rattle.std.specs.Prelude.{◌≡◌, ℕ, ◌+◌, ◌%◌, ◌<◌, �
 ghost use Rattle.std.specs.Option.{option_map};
 ghost use Rattle.p3_matrix.specs.Matrix.{height};
 ghost use Rattle.p3_air.specs.Shape.{width_of};
-ghost use Rattle.p3_air.specs.Check.{table_of, AreNonzero, IsChecked, HasHeight, HoldsAtRow, periodic_row, preprocessed_row, row_values};
+ghost use Rattle.p3_air.specs.Check.{table_traces, AreNonzero, IsChecked, HasHeight, HoldsAtRow, periodic_row, preprocessed_row, row_values};
 ghost use Rattle.p3_air.specs.declared.check.CheckFailure.TheVariants.{OutOfMemory};
 
 use crate::base::Air;
@@ -13,7 +13,7 @@ use p3_matrix::RowMajorMatrix;
 use std::alloc::{AllocError, Global};
 use thiserror::Error;
 
-/// Why a table doesn't meet its constraints, or couldn't be checked (own).
+/// Why a table doesn't meet its constraints, or couldn't be checked (not in Plonky3).
 #[derive(Debug, Drop, Error)]
 pub enum CheckFailure {
     /// The preprocessed trace hasn't the height of the main trace.
@@ -67,7 +67,7 @@ fn periodic_at<F: Field>(alloc: Global, columns: &[Vec<F>], row: usize) -> Mem<V
 }
 
 /// A row of a preprocessed trace: empty where there is none, so that it has as many values as the trace has columns
-/// (own; upstream's callers take the row of the optional trace in place).
+/// (not in Plonky3; upstream's callers take the row of the optional trace in place).
 pub fn preprocessed_at<'a, F>(trace: Option<&'a RowMajorMatrix<F>>, row: usize) -> &'a [F]
     requires { IfSome trace (λ m. row < height m.now) }
     ensures values { result.now ≡ preprocessed_row (option_map (λ m. m.now) trace.entry) row }
@@ -104,7 +104,7 @@ fn failing_places<F: Field, A: Air<F>>(
     requires preprocessed_width { width_of (option_map (λ m. m.now) preprocessed) ≡ width_of (A.declaration air.now).preprocessed }
     requires public { length public_values.now ≡ (A.declaration air.now).public_values }
     requires periodic { All (λ c. 0 < length c) (A.declaration air.now).periodic }
-    ensures { let table = table_of main.now (option_map (λ m. m.now) preprocessed.entry) (A.declaration air.now).periodic public_values.now in
+    ensures { let table = table_traces main.now (option_map (λ m. m.now) preprocessed.entry) (A.declaration air.now).periodic public_values.now in
         IfOk result (λ v. AreNonzero F.ring (row_values F.ring table (A.trees air.now) row) v.items) }
 {
     let height = main.height();
@@ -150,7 +150,7 @@ pub fn check_constraints<F: Field, A: Air<F>>(
     requires preprocessed_width { width_of (option_map (λ m. m.now) preprocessed) ≡ width_of (A.declaration air.now).preprocessed }
     requires public { length public_values.now ≡ (A.declaration air.now).public_values }
     requires periodic { All (λ c. 0 < length c) (A.declaration air.now).periodic }
-    ensures { let table = table_of main.now (option_map (λ m. m.now) preprocessed.entry) (A.declaration air.now).periodic public_values.now in
+    ensures { let table = table_traces main.now (option_map (λ m. m.now) preprocessed.entry) (A.declaration air.now).periodic public_values.now in
         IsChecked F.ring table (A.trees air.now) result }
 {
     let height = main.height();

@@ -1,8 +1,8 @@
 //! The builder that evaluates constraints at a row.
 ghost use Rattle.std.specs.Prelude.{◌≡◌, ℕ, ◌<◌, ◌%◌, ◌++◌, List, [], ◌∷◌, length, IfOk, OnErr, IsTrue, IsOk, false, true, refl};
 ghost use Rattle.p3_air.specs.Shape.{Declares, DeclaresExt};
-ghost use Rattle.p3_air.specs.Tree.{Tree, Stand, StandCount, over_base, over_extension};
-ghost use Rattle.p3_air.specs.RowCheck.{Checked, Row, Adds, value_at, cell_value, ext_cell_value, row_shape};
+ghost use Rattle.p3_air.specs.Tree.{Tree, Represent, RepresentsCount, over_base, over_extension};
+ghost use Rattle.p3_air.specs.RowCheck.{CheckedRow, Row, Adds, tree_value_at_row, cell_value, ext_cell_value, row_shape};
 ghost use Rattle.p3_air.specs.declared.cells.Count.{Count as CountOf};
 ghost use Rattle.std.proofs.Common.{◌∙◌};
 ghost use Rattle.p3_air.specs.Operation.{value_by};
@@ -15,7 +15,7 @@ use p3_field::{ExtensionField, Field, FieldCore, Mem, PrimeCharacteristicRing, R
 use std::alloc::Global;
 use std::marker::Model;
 
-/// The values of the cells at one row (own). A contract sees them as the record `Row`.
+/// The values of the cells at one row (not in Plonky3). A contract sees them as the record `Row`.
 #[derive(Drop)]
 pub struct RowValues<'a, F, EF> {
     /// The current row of the main trace, one value for each column.
@@ -45,13 +45,40 @@ pub struct RowValues<'a, F, EF> {
 }
 
 impl<'a, F, EF> Model for RowValues<'a, F, EF> {
-    ghost use Rattle.p3_air.specs.RowCheck.{Row, IsRow};
+    ghost use Rattle.p3_air.specs.RowCheck.{Row, HasRowsOfOneWidth};
 
     ghost Value = { Row F EF };
 
-    ghost view = { λ r. record { main_local = r.main_local.now; main_next = r.main_next.now; preprocessed_local = r.preprocessed_local.now; preprocessed_next = r.preprocessed_next.now; periodic = r.periodic.now; public_values = r.public_values.now; is_first_row = r.is_first_row; is_last_row = r.is_last_row; permutation_local = r.permutation_local.now; permutation_next = r.permutation_next.now; challenges = r.challenges.now; terminals = r.terminals.now } };
+    ghost view = { λ r. record {
+      main_local = r.main_local.now;
+      main_next = r.main_next.now;
+      preprocessed_local = r.preprocessed_local.now;
+      preprocessed_next = r.preprocessed_next.now;
+      periodic = r.periodic.now;
+      public_values = r.public_values.now;
+      is_first_row = r.is_first_row;
+      is_last_row = r.is_last_row;
+      permutation_local = r.permutation_local.now;
+      permutation_next = r.permutation_next.now;
+      challenges = r.challenges.now;
+      terminals = r.terminals.now;
+    } };
 
-    ghost invariant = { λ r. IsRow (record { main_local = r.main_local.now; main_next = r.main_next.now; preprocessed_local = r.preprocessed_local.now; preprocessed_next = r.preprocessed_next.now; periodic = r.periodic.now; public_values = r.public_values.now; is_first_row = r.is_first_row; is_last_row = r.is_last_row; permutation_local = r.permutation_local.now; permutation_next = r.permutation_next.now; challenges = r.challenges.now; terminals = r.terminals.now }) };
+    ghost invariant = { λ r. HasRowsOfOneWidth
+        (record {
+          main_local = r.main_local.now;
+          main_next = r.main_next.now;
+          preprocessed_local = r.preprocessed_local.now;
+          preprocessed_next = r.preprocessed_next.now;
+          periodic = r.periodic.now;
+          public_values = r.public_values.now;
+          is_first_row = r.is_first_row;
+          is_last_row = r.is_last_row;
+          permutation_local = r.permutation_local.now;
+          permutation_next = r.permutation_next.now;
+          challenges = r.challenges.now;
+          terminals = r.terminals.now;
+        }) };
 }
 
 impl<'a, F: Field, EF: ExtensionField<F>> RowValues<'a, F, EF> {
@@ -93,7 +120,7 @@ impl<'a, F: Field, EF: ExtensionField<F>> RowValues<'a, F, EF> {
 
 /// Evaluates the constraints that it is handed at one row (`p3_air::DebugConstraintBuilder`), and keeps the values of
 /// the asserted ones, in order: those over the base field as values of the extension. It ignores interactions. A
-/// contract sees it as the record `Checked`.
+/// contract sees it as the record `CheckedRow`.
 #[derive(Drop)]
 pub struct DebugConstraintBuilder<'a, F, EF> {
     row: RowValues<'a, F, EF>,
@@ -101,9 +128,9 @@ pub struct DebugConstraintBuilder<'a, F, EF> {
 }
 
 impl<'a, F, EF> Model for DebugConstraintBuilder<'a, F, EF> {
-    ghost use Rattle.p3_air.specs.RowCheck.{Checked};
+    ghost use Rattle.p3_air.specs.RowCheck.{CheckedRow};
 
-    ghost Value = { Checked F EF };
+    ghost Value = { CheckedRow F EF };
 
     ghost view = { λ b. record { row = b.row; values = b.values.items } };
 }
@@ -129,9 +156,9 @@ impl<'a, F: Field, EF: ExtensionField<F>> DebugConstraintBuilder<'a, F, EF> {
 
     // Keeps a value.
     fn keep(&mut self, x: EF) -> Mem<()>
-        ensures kept { IfOk result (λ _. self.new ≡ record self.old { values = self.old.values ++ x ∷ [] }) }
-        ensures same { OnErr result (self.new ≡ self.old) }
-        ensures refused { OnErr result (Adds F.ring EF.ring EF.embed self.old self.new []) }
+        ensures appended { IfOk result (λ _. self.new ≡ record self.old { values = self.old.values ++ x ∷ [] }) }
+        ensures unchanged { OnErr result (self.new ≡ self.old) }
+        ensures on_error { OnErr result (Adds F.ring EF.ring EF.embed self.old self.new []) }
     {
         self.values.push(x)?;
         Ok(())
@@ -145,11 +172,11 @@ impl<'a, F: Field, EF: ExtensionField<F>> AirBuilder for DebugConstraintBuilder<
 
     type Expr = F;
 
-    ghost stands = { λ b x t. EF.embed x ≡ value_at F.ring EF.ring EF.embed b.row t };
+    ghost represents = { λ b x t. EF.embed x ≡ tree_value_at_row F.ring EF.ring EF.embed b.row t };
 
     ghost later = { λ a b. b.row ≡ a.row };
 
-    ghost grows = { λ a b ts is. Adds F.ring EF.ring EF.embed a b ts };
+    ghost appends = { λ a b ts is. Adds F.ring EF.ring EF.embed a b ts };
 
     ghost asserts = { λ a x b. b ≡ record a { values = a.values ++ EF.embed x ∷ [] } };
 
@@ -195,17 +222,17 @@ impl<'a, F: Field, EF: ExtensionField<F>> AirBuilder for DebugConstraintBuilder<
 
     ghost persists = { λ a b h x t k. value_at-row F.ring EF.ring EF.embed a b h (EF.embed x) t k };
 
-    ghost grows_same = { adds-same F.ring EF.ring EF.embed };
+    ghost appends_none = { adds-same F.ring EF.ring EF.embed };
 
-    ghost grows_later = { λ a b t i h. h.row };
+    ghost appends_later = { λ a b t i h. h.row };
 
-    ghost grows_along = { λ a b c s t i j h k. adds-along F.ring EF.ring EF.embed a b c s t h k };
+    ghost appends_along = { λ a b c s t i j h k. adds-along F.ring EF.ring EF.embed a b c s t h k };
 
     ghost never_fails_sure = { λ _. refl };
 
-    ghost computes_stands = { λ a b h op x y e s t k l q. embedded-value_at F.ring F.ring_laws EF.ring EF.ring_laws EF.embed EF.embed_laws a b h op x y e s t k l q };
+    ghost computes_represents = { λ a b h op x y e s t k l q. embedded-value_at F.ring F.ring_laws EF.ring EF.ring_laws EF.embed EF.embed_laws a b h op x y e s t k l q };
 
-    ghost asserts_grows = { λ a b x t h e. keeping-adds F.ring EF.ring EF.embed a b (EF.embed x) (over_base t) h e };
+    ghost asserts_appends = { λ a b x t h e. keeping-adds F.ring EF.ring EF.embed a b (EF.embed x) (over_base t) h e };
 }
 
 impl<'a, F: Field, EF: ExtensionField<F>> ExtensionBuilder for DebugConstraintBuilder<'a, F, EF> {
@@ -213,7 +240,7 @@ impl<'a, F: Field, EF: ExtensionField<F>> ExtensionBuilder for DebugConstraintBu
 
     type ExprEF = EF;
 
-    ghost stands_ext = { λ b x t. x ≡ value_at F.ring EF.ring EF.embed b.row t };
+    ghost represents_ext = { λ b x t. x ≡ tree_value_at_row F.ring EF.ring EF.embed b.row t };
 
     ghost asserts_ext = { λ a x b. b ≡ record a { values = a.values ++ x ∷ [] } };
 
@@ -245,11 +272,11 @@ impl<'a, F: Field, EF: ExtensionField<F>> ExtensionBuilder for DebugConstraintBu
 
     ghost persists_ext = { λ a b h x t k. value_at-row F.ring EF.ring EF.embed a b h x t k };
 
-    ghost computes_ext_stands = { λ a b h op x y e s t k l q. value_by-at F.ring EF.ring EF.embed a b h op x y e s t k l q };
+    ghost computes_ext_represents = { λ a b h op x y e s t k l q. value_by-at F.ring EF.ring EF.embed a b h op x y e s t k l q };
 
-    ghost lifts_stands = { λ a b h x e t k q. value_at-row F.ring EF.ring EF.embed a b h e t (q ∙ k) };
+    ghost lifts_represents = { λ a b h x e t k q. value_at-row F.ring EF.ring EF.embed a b h e t (q ∙ k) };
 
-    ghost asserts_ext_grows = { λ a b x t h e. keeping-adds F.ring EF.ring EF.embed a b x (over_extension t) h e };
+    ghost asserts_ext_appends = { λ a b x t h e. keeping-adds F.ring EF.ring EF.embed a b x (over_extension t) h e };
 }
 
 impl<'a, F: Field, EF: ExtensionField<F>> PermutationAirBuilder
@@ -266,13 +293,14 @@ impl<'a, F: Field, EF: ExtensionField<F>> InteractionBuilder for DebugConstraint
 
     fn push_interaction(&mut self, _bus_name: &str, fields: &[F], count: Count<F>) -> Mem<()>
         ensures later { self.new.row ≡ self.old.row }
-        ensures same { row_shape self.new.row ≡ row_shape self.old.row }
+        ensures keeps_shape { row_shape self.new.row ≡ row_shape self.old.row }
         ensures answers { IsTrue false → IsOk result }
-        ensures grows { (fs : List (Tree F)) (v : Tree F) → Stand (λ x t. EF.embed x ≡ value_at F.ring EF.ring EF.embed self.old.row t) fields.now fs → EF.embed count.value ≡ value_at F.ring EF.ring EF.embed self.old.row v
+        ensures appends { (fs : List (Tree F)) (v : Tree F) → Represent (λ x t. EF.embed x ≡ tree_value_at_row F.ring EF.ring EF.embed self.old.row t) fields.now fs
+            → EF.embed count.value ≡ tree_value_at_row F.ring EF.ring EF.embed self.old.row v
             → IfOk result (λ _. Adds F.ring EF.ring EF.embed self.old self.new []) }
         ensures sure { IsTrue true → IsOk result }
         ensures sends { IfOk result (λ _. self.new ≡ self.old) }
-        ensures refused { OnErr result (Adds F.ring EF.ring EF.embed self.old self.new []) }
+        ensures on_error { OnErr result (Adds F.ring EF.ring EF.embed self.old self.new []) }
     {
         Ok(())
     }
@@ -281,17 +309,17 @@ impl<'a, F: Field, EF: ExtensionField<F>> InteractionBuilder for DebugConstraint
         requires counted { 0 < length counts.now }
         requires whole { length fields.now % length counts.now ≡ 0 }
         ensures later { self.new.row ≡ self.old.row }
-        ensures same { row_shape self.new.row ≡ row_shape self.old.row }
+        ensures keeps_shape { row_shape self.new.row ≡ row_shape self.old.row }
         ensures answers { IsTrue false → IsOk result }
-        ensures grows { (fs : List (Tree F)) (vs : List (CountOf (Tree F))) → Stand (λ x t. EF.embed x ≡ value_at F.ring EF.ring EF.embed self.old.row t) fields.now fs
-            → Stand (StandCount (λ x t. EF.embed x ≡ value_at F.ring EF.ring EF.embed self.old.row t)) counts.now vs
+        ensures appends { (fs : List (Tree F)) (vs : List (CountOf (Tree F))) → Represent (λ x t. EF.embed x ≡ tree_value_at_row F.ring EF.ring EF.embed self.old.row t) fields.now fs
+            → Represent (RepresentsCount (λ x t. EF.embed x ≡ tree_value_at_row F.ring EF.ring EF.embed self.old.row t)) counts.now vs
             → IfOk result (λ _. Adds F.ring EF.ring EF.embed self.old self.new []) }
         ensures sure { IsTrue true → IsOk result }
         ensures sends { IfOk result (λ _. self.new ≡ self.old) }
-        ensures refused { OnErr result (Adds F.ring EF.ring EF.embed self.old self.new []) }
+        ensures on_error { OnErr result (Adds F.ring EF.ring EF.embed self.old self.new []) }
     {
         Ok(())
     }
 
-    ghost sends_grows = { λ a b bus xs cs fs vs h k e. unchanged-adds F.ring EF.ring EF.embed a b e };
+    ghost sends_appends = { λ a b bus xs cs fs vs h k e. unchanged-adds F.ring EF.ring EF.embed a b e };
 }

@@ -1,12 +1,14 @@
 //! The degree of a list's last tree, by the degrees of cells.
-ghost use Rattle.std.specs.Prelude.{◌≡◌, ℕ, ◌<◌, max, length, map, [], IfOk};
-ghost use Rattle.p3_air.specs.Degree.{capped_sum, degree, node_degree};
+ghost use Rattle.std.specs.Prelude.{◌≡◌, ℕ, ◌<◌, max, length, map, [], All, IfOk};
+ghost use Rattle.p3_air.specs.Degree.{capped_sum, degree, greatest, node_degree};
+ghost use Rattle.p3_air.specs.Recording.{trees_at};
 ghost use Rattle.p3_air.specs.Symbolic.{tree_at, tree_of, trees_after, Ordered, OperandsBelow, IsExpression};
 ghost use Rattle.p3_air.specs.declared.cells.Cell.{Cell as CellOf};
 ghost use Rattle.p3_air.specs.declared.cells.ExtCell.{ExtCell as ExtCellOf};
 
 use crate::cells::{Cell, ExtCell};
 use crate::node::Node;
+use crate::recorded::Assertion;
 use p3_field::{FieldCore, Mem, RingCore};
 use std::alloc::Global;
 
@@ -38,6 +40,26 @@ pub fn root_degree<F: FieldCore, D: CellDegrees>(nodes: &Vec<Node<F>>, cells: &D
         Ok(degrees) => degrees[root],
         Err(_) => degree_at(nodes, root, cells),
     }
+}
+
+/// The largest degree of the asserted trees, or zero where none is asserted. The nodes' degrees are computed in order, each
+/// once, and no tree is copied.
+pub fn largest_degree<F: FieldCore, D: CellDegrees>(
+    alloc: Global,
+    nodes: &[Node<F>],
+    asserted: &[Assertion],
+    cells: &D,
+) -> Mem<usize>
+    requires ordered { Ordered nodes.now }
+    requires asserted { All (λ a. a.place < length nodes.now) asserted.now }
+    ensures { IfOk result (λ d. d ≡ greatest 0 (map (degree (D.base cells.now) (D.extension cells.now)) (trees_at nodes.now asserted.now))) }
+{
+    let degrees = degrees_in_order(alloc, nodes, cells)?;
+    let mut largest: usize = 0;
+    for assertion in asserted {
+        largest = largest.max(degrees[assertion.place]);
+    }
+    Ok(largest)
 }
 
 // The degree of a node whose operands have these degrees.

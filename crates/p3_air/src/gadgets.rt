@@ -4,30 +4,31 @@
 ghost use Rattle.std.specs.Prelude.{◌≡◌, ℕ, ◌+◌, ◌-◌, ◌*◌, ◌%◌, ◌^◌, ◌<◌, ◌≤◌, List, [], ◌∷◌, ◌++◌, IfOk, OnErr, IsOk, IsTrue, length, map};
 ghost use Rattle.p3_field.specs.Ring.{of_nat};
 ghost use Rattle.p3_air.specs.Tree.{Tree, SomeFirst, sum, product, over_base};
-ghost use Rattle.p3_air.specs.Gadgets.{StandAt, number, less_two, less_three, with_high, zero_or_one, zero_to_two, add2_trees, add3_trees, packed, xor_tree, xor_shift_bit, xor_shift_trees, rotated_place, word_bits};
+ghost use Rattle.p3_air.specs.Gadgets.{RepresentAt, number, difference_of_three, difference_of_four, with_high, zero_or_minus, zero_to_minus_twice, add2_trees, add3_trees, packed_bits, xor_tree, xor_shift_bit, xor_shift_trees, rotated_place, word_bits};
 
 use crate::builder::AirBuilder;
 use p3_field::{Mem, PrimeCharacteristicRing, RingCore};
 
 // x - y - z.
-fn less_two<AB: AirBuilder>(
+fn difference_of_three<AB: AirBuilder>(
     builder: &mut AB,
     x: AB::Expr,
     y: AB::Expr,
     z: AB::Expr,
 ) -> Mem<AB::Expr>
     ensures later { AB.later builder.old builder.new }
-    ensures same { AB.shape builder.new ≡ AB.shape builder.old }
+    ensures keeps_shape { AB.shape builder.new ≡ AB.shape builder.old }
     ensures answers { IsTrue AB.never_fails → IsOk result }
-    ensures grows { AB.grows builder.old builder.new [] [] }
-    ensures stands { (s t u : Tree AB.F) → AB.stands builder.old x s → AB.stands builder.old y t → AB.stands builder.old z u → IfOk result (λ e. AB.stands builder.new e (less_two s t u)) }
+    ensures appends { AB.appends builder.old builder.new [] [] }
+    ensures represents { (s t u : Tree AB.F) → AB.represents builder.old x s → AB.represents builder.old y t → AB.represents builder.old z u
+        → IfOk result (λ e. AB.represents builder.new e (difference_of_three s t u)) }
 {
     let first = builder.sub(x, y)?;
     builder.sub(first, z)
 }
 
 // x - y - z - w.
-fn less_three<AB: AirBuilder>(
+fn difference_of_four<AB: AirBuilder>(
     builder: &mut AB,
     x: AB::Expr,
     y: AB::Expr,
@@ -35,22 +36,23 @@ fn less_three<AB: AirBuilder>(
     w: AB::Expr,
 ) -> Mem<AB::Expr>
     ensures later { AB.later builder.old builder.new }
-    ensures same { AB.shape builder.new ≡ AB.shape builder.old }
+    ensures keeps_shape { AB.shape builder.new ≡ AB.shape builder.old }
     ensures answers { IsTrue AB.never_fails → IsOk result }
-    ensures grows { AB.grows builder.old builder.new [] [] }
-    ensures stands { (s t u v : Tree AB.F) → AB.stands builder.old x s → AB.stands builder.old y t → AB.stands builder.old z u → AB.stands builder.old w v → IfOk result (λ e. AB.stands builder.new e (less_three s t u v)) }
+    ensures appends { AB.appends builder.old builder.new [] [] }
+    ensures represents { (s t u v : Tree AB.F) → AB.represents builder.old x s → AB.represents builder.old y t → AB.represents builder.old z u
+        → AB.represents builder.old w v → IfOk result (λ e. AB.represents builder.new e (difference_of_four s t u v)) }
 {
-    let first = less_two(builder, x, y, z)?;
+    let first = difference_of_three(builder, x, y, z)?;
     builder.sub(first, w)
 }
 
 // low + 2^16 high.
 fn with_high<AB: AirBuilder>(builder: &mut AB, low: AB::Expr, high: AB::Expr) -> Mem<AB::Expr>
     ensures later { AB.later builder.old builder.new }
-    ensures same { AB.shape builder.new ≡ AB.shape builder.old }
+    ensures keeps_shape { AB.shape builder.new ≡ AB.shape builder.old }
     ensures answers { IsTrue AB.never_fails → IsOk result }
-    ensures grows { AB.grows builder.old builder.new [] [] }
-    ensures stands { (s t : Tree AB.F) → AB.stands builder.old low s → AB.stands builder.old high t → IfOk result (λ e. AB.stands builder.new e (with_high AB.F.ring s t)) }
+    ensures appends { AB.appends builder.old builder.new [] [] }
+    ensures represents { (s t : Tree AB.F) → AB.represents builder.old low s → AB.represents builder.old high t → IfOk result (λ e. AB.represents builder.new e (with_high AB.F.ring s t)) }
 {
     let weight = builder.constant(<AB::F as RingCore>::from_u64(1 << 16))?;
     let weighed = builder.mul(weight, high)?;
@@ -60,10 +62,10 @@ fn with_high<AB: AirBuilder>(builder: &mut AB, low: AB::Expr, high: AB::Expr) ->
 // y (x + n).
 fn times_more<AB: AirBuilder>(builder: &mut AB, y: AB::Expr, x: AB::Expr, n: u64) -> Mem<AB::Expr>
     ensures later { AB.later builder.old builder.new }
-    ensures same { AB.shape builder.new ≡ AB.shape builder.old }
+    ensures keeps_shape { AB.shape builder.new ≡ AB.shape builder.old }
     ensures answers { IsTrue AB.never_fails → IsOk result }
-    ensures grows { AB.grows builder.old builder.new [] [] }
-    ensures stands { (s t : Tree AB.F) → AB.stands builder.old y s → AB.stands builder.old x t → IfOk result (λ e. AB.stands builder.new e (product s (sum t (number AB.F.ring n)))) }
+    ensures appends { AB.appends builder.old builder.new [] [] }
+    ensures represents { (s t : Tree AB.F) → AB.represents builder.old y s → AB.represents builder.old x t → IfOk result (λ e. AB.represents builder.new e (product s (sum t (number AB.F.ring n)))) }
 {
     let carry = builder.constant(<AB::F as RingCore>::from_u64(n))?;
     let more = builder.add(x, carry)?;
@@ -73,10 +75,10 @@ fn times_more<AB: AirBuilder>(builder: &mut AB, y: AB::Expr, x: AB::Expr, n: u64
 // Asserts that x (x + n) is zero.
 fn assert_zero_or_one<AB: AirBuilder>(builder: &mut AB, n: u64, x: AB::Expr) -> Mem<()>
     ensures later { AB.later builder.old builder.new }
-    ensures same { AB.shape builder.new ≡ AB.shape builder.old }
+    ensures keeps_shape { AB.shape builder.new ≡ AB.shape builder.old }
     ensures answers { IsTrue AB.never_fails → IsOk result }
-    ensures grows { (t : Tree AB.F) → AB.stands builder.old x t → IfOk result (λ _. AB.grows builder.old builder.new (over_base (zero_or_one AB.F.ring n t) ∷ []) []) }
-    ensures refused { OnErr result (AB.grows builder.old builder.new [] []) }
+    ensures appends { (t : Tree AB.F) → AB.represents builder.old x t → IfOk result (λ _. AB.appends builder.old builder.new (over_base (zero_or_minus AB.F.ring n t) ∷ []) []) }
+    ensures on_error { OnErr result (AB.appends builder.old builder.new [] []) }
 {
     let both = times_more(builder, x, x, n)?;
     builder.assert_zero(both)
@@ -86,10 +88,10 @@ fn assert_zero_or_one<AB: AirBuilder>(builder: &mut AB, n: u64, x: AB::Expr) -> 
 fn assert_zero_to_two<AB: AirBuilder>(builder: &mut AB, n: u64, x: AB::Expr) -> Mem<()>
     requires { n < 2 ^ 63 }
     ensures later { AB.later builder.old builder.new }
-    ensures same { AB.shape builder.new ≡ AB.shape builder.old }
+    ensures keeps_shape { AB.shape builder.new ≡ AB.shape builder.old }
     ensures answers { IsTrue AB.never_fails → IsOk result }
-    ensures grows { (t : Tree AB.F) → AB.stands builder.old x t → IfOk result (λ _. AB.grows builder.old builder.new (over_base (zero_to_two AB.F.ring n t) ∷ []) []) }
-    ensures refused { OnErr result (AB.grows builder.old builder.new [] []) }
+    ensures appends { (t : Tree AB.F) → AB.represents builder.old x t → IfOk result (λ _. AB.appends builder.old builder.new (over_base (zero_to_minus_twice AB.F.ring n t) ∷ []) []) }
+    ensures on_error { OnErr result (AB.appends builder.old builder.new [] []) }
 {
     let both = times_more(builder, x, x, n)?;
     let all = times_more(builder, both, x, 2 * n)?;
@@ -109,15 +111,15 @@ pub fn add2<AB: AirBuilder>(
     c: [AB::Expr; 2],
 ) -> Mem<()>
     ensures later { AB.later builder.old builder.new }
-    ensures same { AB.shape builder.new ≡ AB.shape builder.old }
+    ensures keeps_shape { AB.shape builder.new ≡ AB.shape builder.old }
     ensures answers { IsTrue AB.never_fails → IsOk result }
-    ensures grows { (s t u : ℕ → Tree AB.F) → StandAt (AB.stands builder.old) a s → StandAt (AB.stands builder.old) b t → StandAt (AB.stands builder.old) c u
-        → IfOk result (λ _. AB.grows builder.old builder.new (map over_base (add2_trees AB.F.ring s t u)) []) }
-    ensures refused { (s t u : ℕ → Tree AB.F) → StandAt (AB.stands builder.old) a s → StandAt (AB.stands builder.old) b t → StandAt (AB.stands builder.old) c u
-        → OnErr result (SomeFirst (AB.grows builder.old builder.new) (map over_base (add2_trees AB.F.ring s t u)) []) }
+    ensures appends { (s t u : ℕ → Tree AB.F) → RepresentAt (AB.represents builder.old) a s → RepresentAt (AB.represents builder.old) b t → RepresentAt (AB.represents builder.old) c u
+        → IfOk result (λ _. AB.appends builder.old builder.new (map over_base (add2_trees AB.F.ring s t u)) []) }
+    ensures on_error { (s t u : ℕ → Tree AB.F) → RepresentAt (AB.represents builder.old) a s → RepresentAt (AB.represents builder.old) b t → RepresentAt (AB.represents builder.old) c u
+        → OnErr result (SomeFirst (AB.appends builder.old builder.new) (map over_base (add2_trees AB.F.ring s t u)) []) }
 {
-    let low = less_two(builder, a[0], b[0], c[0])?;
-    let high = less_two(builder, a[1], b[1], c[1])?;
+    let low = difference_of_three(builder, a[0], b[0], c[0])?;
+    let high = difference_of_three(builder, a[1], b[1], c[1])?;
     let whole = with_high(builder, low, high)?;
     assert_zero_or_one(builder, 1 << 32, whole)?;
     assert_zero_or_one(builder, 1 << 16, low)
@@ -138,15 +140,17 @@ pub fn add3<AB: AirBuilder>(
     d: [AB::Expr; 2],
 ) -> Mem<()>
     ensures later { AB.later builder.old builder.new }
-    ensures same { AB.shape builder.new ≡ AB.shape builder.old }
+    ensures keeps_shape { AB.shape builder.new ≡ AB.shape builder.old }
     ensures answers { IsTrue AB.never_fails → IsOk result }
-    ensures grows { (s t u v : ℕ → Tree AB.F) → StandAt (AB.stands builder.old) a s → StandAt (AB.stands builder.old) b t → StandAt (AB.stands builder.old) c u → StandAt (AB.stands builder.old) d v
-        → IfOk result (λ _. AB.grows builder.old builder.new (map over_base (add3_trees AB.F.ring s t u v)) []) }
-    ensures refused { (s t u v : ℕ → Tree AB.F) → StandAt (AB.stands builder.old) a s → StandAt (AB.stands builder.old) b t → StandAt (AB.stands builder.old) c u → StandAt (AB.stands builder.old) d v
-        → OnErr result (SomeFirst (AB.grows builder.old builder.new) (map over_base (add3_trees AB.F.ring s t u v)) []) }
+    ensures appends { (s t u v : ℕ → Tree AB.F) → RepresentAt (AB.represents builder.old) a s → RepresentAt (AB.represents builder.old) b t
+        → RepresentAt (AB.represents builder.old) c u → RepresentAt (AB.represents builder.old) d v
+        → IfOk result (λ _. AB.appends builder.old builder.new (map over_base (add3_trees AB.F.ring s t u v)) []) }
+    ensures on_error { (s t u v : ℕ → Tree AB.F) → RepresentAt (AB.represents builder.old) a s → RepresentAt (AB.represents builder.old) b t
+        → RepresentAt (AB.represents builder.old) c u → RepresentAt (AB.represents builder.old) d v
+        → OnErr result (SomeFirst (AB.appends builder.old builder.new) (map over_base (add3_trees AB.F.ring s t u v)) []) }
 {
-    let low = less_three(builder, a[0], b[0], c[0], d[0])?;
-    let high = less_three(builder, a[1], b[1], c[1], d[1])?;
+    let low = difference_of_four(builder, a[0], b[0], c[0], d[0])?;
+    let high = difference_of_four(builder, a[1], b[1], c[1], d[1])?;
     let whole = with_high(builder, low, high)?;
     assert_zero_to_two(builder, 1 << 32, whole)?;
     assert_zero_to_two(builder, 1 << 16, low)
@@ -156,10 +160,10 @@ pub fn add3<AB: AirBuilder>(
 /// nothing, on an error neither.
 pub fn pack_bits_le<AB: AirBuilder>(builder: &mut AB, bits: &[AB::Expr]) -> Mem<AB::Expr>
     ensures later { AB.later builder.old builder.new }
-    ensures same { AB.shape builder.new ≡ AB.shape builder.old }
+    ensures keeps_shape { AB.shape builder.new ≡ AB.shape builder.old }
     ensures answers { IsTrue AB.never_fails → IsOk result }
-    ensures grows { AB.grows builder.old builder.new [] [] }
-    ensures stands { (t : ℕ → Tree AB.F) → StandAt (AB.stands builder.old) bits.now t → IfOk result (λ e. AB.stands builder.new e (packed AB.F.ring t 0 (length bits.now))) }
+    ensures appends { AB.appends builder.old builder.new [] [] }
+    ensures represents { (t : ℕ → Tree AB.F) → RepresentAt (AB.represents builder.old) bits.now t → IfOk result (λ e. AB.represents builder.new e (packed_bits AB.F.ring t 0 (length bits.now))) }
 {
     let two = builder.constant(<AB::F as RingCore>::from_u64(2))?;
     let mut sum = builder.constant(<AB::F as RingCore>::from_u64(0))?;
@@ -170,14 +174,14 @@ pub fn pack_bits_le<AB: AirBuilder>(builder: &mut AB, bits: &[AB::Expr]) -> Mem<
     Ok(sum)
 }
 
-/// x + y - 2xy, over any field: of values that are zero or one their exclusive or (own). It appends nothing, on an error
-/// neither.
+/// x + y - 2xy, over any field: of values that are zero or one their exclusive or (not in Plonky3). It appends nothing,
+/// on an error neither.
 pub fn xor<AB: AirBuilder>(builder: &mut AB, x: AB::Expr, y: AB::Expr) -> Mem<AB::Expr>
     ensures later { AB.later builder.old builder.new }
-    ensures same { AB.shape builder.new ≡ AB.shape builder.old }
+    ensures keeps_shape { AB.shape builder.new ≡ AB.shape builder.old }
     ensures answers { IsTrue AB.never_fails → IsOk result }
-    ensures grows { AB.grows builder.old builder.new [] [] }
-    ensures stands { (s t : Tree AB.F) → AB.stands builder.old x s → AB.stands builder.old y t → IfOk result (λ e. AB.stands builder.new e (xor_tree AB.F.ring s t)) }
+    ensures appends { AB.appends builder.old builder.new [] [] }
+    ensures represents { (s t : Tree AB.F) → AB.represents builder.old x s → AB.represents builder.old y t → IfOk result (λ e. AB.represents builder.new e (xor_tree AB.F.ring s t)) }
 {
     let sum = builder.add(x, y)?;
     let two = builder.constant(<AB::F as RingCore>::from_u64(2))?;
@@ -195,11 +199,11 @@ fn xor_shift_bits<AB: AirBuilder>(
     s: usize,
 ) -> Mem<[AB::Expr; 32]>
     ensures later { AB.later builder.old builder.new }
-    ensures same { AB.shape builder.new ≡ AB.shape builder.old }
+    ensures keeps_shape { AB.shape builder.new ≡ AB.shape builder.old }
     ensures answers { IsTrue AB.never_fails → IsOk result }
-    ensures grows { AB.grows builder.old builder.new [] [] }
-    ensures stands { (t u : ℕ → Tree AB.F) → StandAt (AB.stands builder.old) b t → StandAt (AB.stands builder.old) c u
-        → IfOk result (λ es. StandAt (AB.stands builder.new) es (xor_shift_bit AB.F.ring t u s)) }
+    ensures appends { AB.appends builder.old builder.new [] [] }
+    ensures represents { (t u : ℕ → Tree AB.F) → RepresentAt (AB.represents builder.old) b t → RepresentAt (AB.represents builder.old) c u
+        → IfOk result (λ es. RepresentAt (AB.represents builder.new) es (xor_shift_bit AB.F.ring t u s)) }
 {
     let mut bits = [b[0]; 32];
     for i in 0..32 {
@@ -216,11 +220,12 @@ fn xor_shift_limbs<AB: AirBuilder>(
     s: usize,
 ) -> Mem<(AB::Expr, AB::Expr)>
     ensures later { AB.later builder.old builder.new }
-    ensures same { AB.shape builder.new ≡ AB.shape builder.old }
+    ensures keeps_shape { AB.shape builder.new ≡ AB.shape builder.old }
     ensures answers { IsTrue AB.never_fails → IsOk result }
-    ensures grows { AB.grows builder.old builder.new [] [] }
-    ensures stands { (t u : ℕ → Tree AB.F) → StandAt (AB.stands builder.old) b t → StandAt (AB.stands builder.old) c u
-        → IfOk result (λ p. AB.stands builder.new p.0 (packed AB.F.ring (xor_shift_bit AB.F.ring t u s) 0 16) × AB.stands builder.new p.1 (packed AB.F.ring (xor_shift_bit AB.F.ring t u s) 16 16)) }
+    ensures appends { AB.appends builder.old builder.new [] [] }
+    ensures represents { (t u : ℕ → Tree AB.F) → RepresentAt (AB.represents builder.old) b t → RepresentAt (AB.represents builder.old) c u
+        → IfOk result (λ p. AB.represents builder.new p.0 (packed_bits AB.F.ring (xor_shift_bit AB.F.ring t u s) 0 16)
+        × AB.represents builder.new p.1 (packed_bits AB.F.ring (xor_shift_bit AB.F.ring t u s) 16 16)) }
 {
     let bits = xor_shift_bits(builder, b, c, s)?;
     let all = &bits[..];
@@ -243,12 +248,12 @@ pub fn xor_32_shift<AB: AirBuilder>(
     s: usize,
 ) -> Mem<()>
     ensures later { AB.later builder.old builder.new }
-    ensures same { AB.shape builder.new ≡ AB.shape builder.old }
+    ensures keeps_shape { AB.shape builder.new ≡ AB.shape builder.old }
     ensures answers { IsTrue AB.never_fails → IsOk result }
-    ensures grows { (t u v : ℕ → Tree AB.F) → StandAt (AB.stands builder.old) a t → StandAt (AB.stands builder.old) b u → StandAt (AB.stands builder.old) c v
-        → IfOk result (λ _. AB.grows builder.old builder.new (map over_base (xor_shift_trees AB.F.ring t u v s)) []) }
-    ensures refused { (t u v : ℕ → Tree AB.F) → StandAt (AB.stands builder.old) a t → StandAt (AB.stands builder.old) b u → StandAt (AB.stands builder.old) c v
-        → OnErr result (SomeFirst (AB.grows builder.old builder.new) (map over_base (xor_shift_trees AB.F.ring t u v s)) []) }
+    ensures appends { (t u v : ℕ → Tree AB.F) → RepresentAt (AB.represents builder.old) a t → RepresentAt (AB.represents builder.old) b u → RepresentAt (AB.represents builder.old) c v
+        → IfOk result (λ _. AB.appends builder.old builder.new (map over_base (xor_shift_trees AB.F.ring t u v s)) []) }
+    ensures on_error { (t u v : ℕ → Tree AB.F) → RepresentAt (AB.represents builder.old) a t → RepresentAt (AB.represents builder.old) b u → RepresentAt (AB.represents builder.old) c v
+        → OnErr result (SomeFirst (AB.appends builder.old builder.new) (map over_base (xor_shift_trees AB.F.ring t u v s)) []) }
 {
     builder.assert_bools(&c)?;
     let (low, high) = xor_shift_limbs(builder, b, c, s)?;

@@ -1,6 +1,6 @@
 //! Layouts of AIRs and of their constraints.
 ghost use Rattle.std.specs.Prelude.{◌≡◌, ℕ, ◌+◌, ◌-◌, ◌<◌, length, All, IfOk};
-ghost use Rattle.p3_air.specs.Layout.{layout_of, Places, total, powers_of};
+ghost use Rattle.p3_air.specs.Layout.{layout_of, Places, place_count, folding_powers};
 
 use crate::base::BaseAir;
 use p3_field::{Field, FieldCore, Mem, PrimeCharacteristicRing, RingCore};
@@ -62,7 +62,7 @@ impl Model for ConstraintLayout {
 impl ConstraintLayout {
     /// How many constraints there are.
     pub fn total_constraints(&self) -> usize
-        ensures { result ≡ total self.now }
+        ensures { result ≡ place_count self.now }
     {
         self.base_indices.len() + self.ext_indices.len()
     }
@@ -70,10 +70,10 @@ impl ConstraintLayout {
     /// The power of `alpha` of each constraint, of those over the base field and of those over the extension:
     /// constraint i of n in the order of assertion has alpha^(n-1-i). Each listed place is below n.
     pub fn decompose_alpha<EF: Field>(&self, alloc: Global, alpha: EF) -> Mem<(Vec<EF>, Vec<EF>)>
-        requires base { All (λ i. i < total self.now) self.now.base_indices }
-        requires extension { All (λ i. i < total self.now) self.now.ext_indices }
-        ensures base { IfOk result (λ p. p.0.items ≡ powers_of EF.ring alpha (total self.now) self.now.base_indices) }
-        ensures extension { IfOk result (λ p. p.1.items ≡ powers_of EF.ring alpha (total self.now) self.now.ext_indices) }
+        requires base { All (λ i. i < place_count self.now) self.now.base_indices }
+        requires extension { All (λ i. i < place_count self.now) self.now.ext_indices }
+        ensures base { IfOk result (λ p. p.0.items ≡ folding_powers EF.ring alpha (place_count self.now) self.now.base_indices) }
+        ensures extension { IfOk result (λ p. p.1.items ≡ folding_powers EF.ring alpha (place_count self.now) self.now.ext_indices) }
     {
         let total = self.total_constraints();
         let base = powers_at(alloc, alpha, total, &self.base_indices)?;
@@ -85,7 +85,7 @@ impl ConstraintLayout {
 // The power of alpha of each of these places among `total` constraints.
 fn powers_at<EF: Field>(alloc: Global, alpha: EF, total: usize, places: &[usize]) -> Mem<Vec<EF>>
     requires { All (λ i. i < total) places.now }
-    ensures { IfOk result (λ v. v.items ≡ powers_of EF.ring alpha total places.now) }
+    ensures { IfOk result (λ v. v.items ≡ folding_powers EF.ring alpha total places.now) }
 {
     let mut powers = Vec::with_capacity(alloc, places.len())?;
     for place in places {

@@ -99,7 +99,8 @@ impl<'a> CellDegrees for Strangers<'a> {
 }
 
 impl<F: Field> SymbolicExpression<F> {
-    /// Whether the constraint reads only cells that the AIR declares, and next cells only in declared next columns (own).
+    /// Whether the constraint reads only cells that the AIR declares, and next cells only in declared next columns (not
+    /// in Plonky3).
     pub fn reads_declared<A: BaseAir<F>>(&self, air: &A) -> bool
         ensures { IsTrue result ↔ ReadsDeclared (declared_shape (A.declaration air.now)) (tree_of self.now) }
     {
@@ -111,7 +112,7 @@ impl<F: Field> SymbolicExpression<F> {
     }
 
     /// Whether the expression reads only what an interaction of the AIR may read: constants, and public values, main and
-    /// preprocessed cells that it declares, next cells only in declared next columns (own).
+    /// preprocessed cells that it declares, next cells only in declared next columns (not in Plonky3).
     pub fn reads_sendable<A: BaseAir<F>>(&self, air: &A) -> bool
         ensures { IsTrue result ↔ ReadsSendable (declared_shape (A.declaration air.now)) (tree_of self.now) }
     {

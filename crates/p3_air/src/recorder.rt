@@ -4,12 +4,13 @@ ghost use Rattle.std.specs.Option.{option_map};
 ghost use Rattle.std.proofs.Common.{lit<};
 ghost use Rattle.p3_air.specs.Layout.{layout_shape};
 ghost use Rattle.p3_air.specs.Symbolic.{node_tree, trees_after, OperandsBelow};
-ghost use Rattle.p3_air.specs.Recording.{Recording, IsLater, Grows, StandsAt, Computes, known_place, known_tree, bus_of, name_of, known_count, asserting, sending};
-ghost use Rattle.p3_air.specs.Tree.{Tree, Interaction, Stand, StandCount, sum, difference, product, global, local};
+ghost use Rattle.p3_air.specs.Recording.{Recording, IsLater, HasAppended, RepresentsAt, Computes, place_or_zero, tree_or_zero, bus_of, name_of, count_or_zero, asserting, sending};
+ghost use Rattle.p3_air.specs.Tree.{Tree, Interaction, Represent, RepresentsCount, sum, difference, product, global, local};
 ghost use Rattle.p3_air.specs.declared.cells.Count.{Count as CountOf};
 ghost use Rattle.p3_air.specs.declared.node.Node.TheVariants.{Constant};
-ghost use Rattle.p3_air.specs.Laws.Recording.{later-same, later-along, later-shape, stands-later, grows-same, grows-along, asserting-grows, sending-grows, computes-stands, lifts-stands};
+ghost use Rattle.p3_air.specs.Laws.Recording.{later-same, later-along, later-shape, represents-later, appends-none, appends-along, asserting-appends, sending-appends, computes-represents, lifts-represents};
 
+mod largest;
 mod read;
 mod sent;
 
@@ -47,7 +48,7 @@ impl<F> Model for InteractionSymbolicBuilder<F> {
 // The place of an expression among `count` nodes, or that of the first node.
 fn known(count: usize, x: usize) -> usize
     requires { 0 < count }
-    ensures place { result ≡ known_place count x }
+    ensures place { result ≡ place_or_zero count x }
     ensures within { result < count }
 {
     if x < count { x } else { 0 }
@@ -56,7 +57,7 @@ fn known(count: usize, x: usize) -> usize
 // The places of expressions among `count` nodes.
 fn known_all(alloc: Global, count: usize, xs: &[usize]) -> Mem<Vec<usize>>
     requires { 0 < count }
-    ensures { IfOk result (λ v. v.items ≡ map (known_place count) xs.now) }
+    ensures { IfOk result (λ v. v.items ≡ map (place_or_zero count) xs.now) }
 {
     let mut places = Vec::with_capacity(alloc, xs.len())?;
     for x in xs {
@@ -68,7 +69,7 @@ fn known_all(alloc: Global, count: usize, xs: &[usize]) -> Mem<Vec<usize>>
 // The counts, by their places among `count` nodes.
 fn known_counts(alloc: Global, count: usize, xs: &[Count<usize>]) -> Mem<Vec<Count<usize>>>
     requires { 0 < count }
-    ensures { IfOk result (λ v. v.items ≡ map (known_count count) xs.now) }
+    ensures { IfOk result (λ v. v.items ≡ map (count_or_zero count) xs.now) }
 {
     let mut counts = Vec::with_capacity(alloc, xs.len())?;
     for x in xs {
@@ -102,8 +103,8 @@ impl<F: Field> InteractionSymbolicBuilder<F> {
     // Adds a node whose operands are among the nodes.
     fn push(&mut self, node: Node<F>) -> Mem<usize>
         requires { OperandsBelow (length self.old.nodes) node }
-        ensures grows { Grows self.old self.new [] [] }
-        ensures stands { IfOk result (λ e. StandsAt self.new.nodes e (node_tree (trees_after [] self.old.nodes) node)) }
+        ensures appends { HasAppended self.old self.new [] [] }
+        ensures represents { IfOk result (λ e. RepresentsAt self.new.nodes e (node_tree (trees_after [] self.old.nodes) node)) }
     {
         let place = self.nodes.len();
         self.nodes.push(node)?;
@@ -112,7 +113,7 @@ impl<F: Field> InteractionSymbolicBuilder<F> {
 
     // The place of an expression.
     fn place(&self, x: usize) -> usize
-        ensures place { result ≡ known_place (length self.now.nodes) x }
+        ensures place { result ≡ place_or_zero (length self.now.nodes) x }
         ensures within { result < length self.now.nodes }
     {
         known(self.nodes.len(), x)
@@ -120,9 +121,9 @@ impl<F: Field> InteractionSymbolicBuilder<F> {
 
     // Adds the sum of two expressions.
     fn push_sum(&mut self, x: usize, y: usize) -> Mem<usize>
-        ensures grows { Grows self.old self.new [] [] }
-        ensures stands { (s t : Tree F) → StandsAt self.old.nodes x s → StandsAt self.old.nodes y t → IfOk result (λ e. StandsAt self.new.nodes e (sum s t)) }
-        ensures known { IfOk result (λ e. StandsAt self.new.nodes e (sum (known_tree self.old.nodes x) (known_tree self.old.nodes y))) }
+        ensures appends { HasAppended self.old self.new [] [] }
+        ensures represents { (s t : Tree F) → RepresentsAt self.old.nodes x s → RepresentsAt self.old.nodes y t → IfOk result (λ e. RepresentsAt self.new.nodes e (sum s t)) }
+        ensures known { IfOk result (λ e. RepresentsAt self.new.nodes e (sum (tree_or_zero self.old.nodes x) (tree_or_zero self.old.nodes y))) }
     {
         let left = self.place(x);
         let right = self.place(y);
@@ -131,9 +132,9 @@ impl<F: Field> InteractionSymbolicBuilder<F> {
 
     // Adds the difference of two expressions.
     fn push_difference(&mut self, x: usize, y: usize) -> Mem<usize>
-        ensures grows { Grows self.old self.new [] [] }
-        ensures stands { (s t : Tree F) → StandsAt self.old.nodes x s → StandsAt self.old.nodes y t → IfOk result (λ e. StandsAt self.new.nodes e (difference s t)) }
-        ensures known { IfOk result (λ e. StandsAt self.new.nodes e (difference (known_tree self.old.nodes x) (known_tree self.old.nodes y))) }
+        ensures appends { HasAppended self.old self.new [] [] }
+        ensures represents { (s t : Tree F) → RepresentsAt self.old.nodes x s → RepresentsAt self.old.nodes y t → IfOk result (λ e. RepresentsAt self.new.nodes e (difference s t)) }
+        ensures known { IfOk result (λ e. RepresentsAt self.new.nodes e (difference (tree_or_zero self.old.nodes x) (tree_or_zero self.old.nodes y))) }
     {
         let left = self.place(x);
         let right = self.place(y);
@@ -142,9 +143,9 @@ impl<F: Field> InteractionSymbolicBuilder<F> {
 
     // Adds the product of two expressions.
     fn push_product(&mut self, x: usize, y: usize) -> Mem<usize>
-        ensures grows { Grows self.old self.new [] [] }
-        ensures stands { (s t : Tree F) → StandsAt self.old.nodes x s → StandsAt self.old.nodes y t → IfOk result (λ e. StandsAt self.new.nodes e (product s t)) }
-        ensures known { IfOk result (λ e. StandsAt self.new.nodes e (product (known_tree self.old.nodes x) (known_tree self.old.nodes y))) }
+        ensures appends { HasAppended self.old self.new [] [] }
+        ensures represents { (s t : Tree F) → RepresentsAt self.old.nodes x s → RepresentsAt self.old.nodes y t → IfOk result (λ e. RepresentsAt self.new.nodes e (product s t)) }
+        ensures known { IfOk result (λ e. RepresentsAt self.new.nodes e (product (tree_or_zero self.old.nodes x) (tree_or_zero self.old.nodes y))) }
     {
         let left = self.place(x);
         let right = self.place(y);
@@ -153,10 +154,10 @@ impl<F: Field> InteractionSymbolicBuilder<F> {
 
     // Appends an assertion.
     fn assert(&mut self, x: usize, in_extension: bool) -> Mem<()>
-        ensures grows { (t : Tree F) → StandsAt self.old.nodes x t → IfOk result (λ _. Grows self.old self.new (record { tree = t; in_extension = in_extension } ∷ []) []) }
+        ensures appends { (t : Tree F) → RepresentsAt self.old.nodes x t → IfOk result (λ _. HasAppended self.old self.new (record { tree = t; in_extension = in_extension } ∷ []) []) }
         ensures asserted { IfOk result (λ _. self.new ≡ asserting self.old x in_extension) }
-        ensures same { OnErr result (self.new ≡ self.old) }
-        ensures refused { OnErr result (Grows self.old self.new [] []) }
+        ensures keeps_shape { OnErr result (self.new ≡ self.old) }
+        ensures on_error { OnErr result (HasAppended self.old self.new [] []) }
     {
         let place = self.place(x);
         self.asserted.push(Assertion {
@@ -171,7 +172,7 @@ impl<F: Field> InteractionSymbolicBuilder<F> {
         requires counted { 0 < length counts.now }
         requires whole { length fields.now % length counts.now ≡ 0 }
         ensures sent { IfOk result (λ _. self.new ≡ sending self.old (option_map string_bytes bus) fields.now counts.now) }
-        ensures same { OnErr result (self.new ≡ self.old) }
+        ensures keeps_shape { OnErr result (self.new ≡ self.old) }
     {
         let fields = known_all(self.alloc, self.nodes.len(), fields)?;
         let counts = known_counts(self.alloc, self.nodes.len(), counts)?;
@@ -188,10 +189,11 @@ impl<F: Field> InteractionSymbolicBuilder<F> {
         requires counted { 0 < length counts.now }
         requires whole { length fields.now % length counts.now ≡ 0 }
         ensures later { IsLater self.old self.new }
-        ensures grows { (fs : List (Tree F)) (vs : List (CountOf (Tree F))) → Stand (StandsAt self.old.nodes) fields.now fs → Stand (StandCount (StandsAt self.old.nodes)) counts.now vs
-            → IfOk result (λ _. Grows self.old self.new [] (record { bus = bus_of (option_map string_bytes bus); fields = fs; counts = vs } ∷ [])) }
+        ensures appends { (fs : List (Tree F)) (vs : List (CountOf (Tree F))) → Represent (RepresentsAt self.old.nodes) fields.now fs
+            → Represent (RepresentsCount (RepresentsAt self.old.nodes)) counts.now vs
+            → IfOk result (λ _. HasAppended self.old self.new [] (record { bus = bus_of (option_map string_bytes bus); fields = fs; counts = vs } ∷ [])) }
         ensures sent { IfOk result (λ _. self.new ≡ sending self.old (option_map string_bytes bus) fields.now counts.now) }
-        ensures refused { OnErr result (Grows self.old self.new [] []) }
+        ensures on_error { OnErr result (HasAppended self.old self.new [] []) }
     {
         self.keep(bus, fields, counts)
     }
@@ -202,11 +204,11 @@ impl<F: Field> AirBuilder for InteractionSymbolicBuilder<F> {
 
     type Expr = usize;
 
-    ghost stands = { λ b e t. StandsAt b.nodes e t };
+    ghost represents = { λ b e t. RepresentsAt b.nodes e t };
 
     ghost later = { IsLater };
 
-    ghost grows = { Grows };
+    ghost appends = { HasAppended };
 
     ghost asserts = { λ a x b. b ≡ asserting a x false };
 
@@ -250,31 +252,31 @@ impl<F: Field> AirBuilder for InteractionSymbolicBuilder<F> {
 
     ghost later_shape = { later-shape };
 
-    ghost persists = { stands-later };
+    ghost persists = { represents-later };
 
-    ghost grows_same = { grows-same };
+    ghost appends_none = { appends-none };
 
-    ghost grows_later = { λ a b t i h. h.later };
+    ghost appends_later = { λ a b t i h. h.later };
 
-    ghost grows_along = { grows-along };
+    ghost appends_along = { appends-along };
 
     ghost never_fails_sure = { λ h. h };
 
-    ghost computes_stands = { computes-stands };
+    ghost computes_represents = { computes-represents };
 
-    ghost asserts_grows = { λ a b x t h e. asserting-grows a b x false t h e };
+    ghost asserts_appends = { λ a b x t h e. asserting-appends a b x false t h e };
 }
 
 impl<F: Field> ExtensionBuilder for InteractionSymbolicBuilder<F> {
     type ExprEF = usize;
 
-    ghost stands_ext = { λ b e t. StandsAt b.nodes e t };
+    ghost represents_ext = { λ b e t. RepresentsAt b.nodes e t };
 
     ghost asserts_ext = { λ a x b. b ≡ asserting a x true };
 
     ghost computes_ext = { Computes };
 
-    ghost lifts = { λ a x b e. StandsAt b.nodes e (known_tree a.nodes x) };
+    ghost lifts = { λ a x b e. RepresentsAt b.nodes e (tree_or_zero a.nodes x) };
 
     fn lift(&mut self, x: usize) -> Mem<usize> {
         Ok(self.place(x))
@@ -298,13 +300,13 @@ impl<F: Field> ExtensionBuilder for InteractionSymbolicBuilder<F> {
 
     ghost arrays_fit_ext = { lit< tt };
 
-    ghost persists_ext = { stands-later };
+    ghost persists_ext = { represents-later };
 
-    ghost computes_ext_stands = { computes-stands };
+    ghost computes_ext_represents = { computes-represents };
 
-    ghost lifts_stands = { lifts-stands };
+    ghost lifts_represents = { lifts-represents };
 
-    ghost asserts_ext_grows = { λ a b x t h e. asserting-grows a b x true t h e };
+    ghost asserts_ext_appends = { λ a b x t h e. asserting-appends a b x true t h e };
 }
 
 impl<F: Field> PermutationAirBuilder for InteractionSymbolicBuilder<F> {
@@ -318,13 +320,13 @@ impl<F: Field> InteractionBuilder for InteractionSymbolicBuilder<F> {
 
     fn push_interaction(&mut self, bus_name: &str, fields: &[usize], count: Count<usize>) -> Mem<()>
         ensures later { IsLater self.old self.new }
-        ensures same { layout_shape self.new.layout ≡ layout_shape self.old.layout }
+        ensures keeps_shape { layout_shape self.new.layout ≡ layout_shape self.old.layout }
         ensures answers { IsTrue false → IsOk result }
-        ensures grows { (fs : List (Tree F)) (v : Tree F) → Stand (StandsAt self.old.nodes) fields.now fs → StandsAt self.old.nodes count.value v
-            → IfOk result (λ _. Grows self.old self.new [] (record { bus = global bus_name.now; fields = fs; counts = record { value = v; bound = count.bound } ∷ [] } ∷ [])) }
+        ensures appends { (fs : List (Tree F)) (v : Tree F) → Represent (RepresentsAt self.old.nodes) fields.now fs → RepresentsAt self.old.nodes count.value v
+            → IfOk result (λ _. HasAppended self.old self.new [] (record { bus = global bus_name.now; fields = fs; counts = record { value = v; bound = count.bound } ∷ [] } ∷ [])) }
         ensures sure { IsTrue false → IsOk result }
         ensures sends { IfOk result (λ _. self.new ≡ sending self.old (name_of (global bus_name.now)) fields.now (count ∷ [])) }
-        ensures refused { OnErr result (Grows self.old self.new [] []) }
+        ensures on_error { OnErr result (HasAppended self.old self.new [] []) }
     {
         let bus = String::from_str(self.alloc, bus_name)?;
         self.send(Some(bus), fields, &[count])
@@ -334,16 +336,17 @@ impl<F: Field> InteractionBuilder for InteractionSymbolicBuilder<F> {
         requires counted { 0 < length counts.now }
         requires whole { length fields.now % length counts.now ≡ 0 }
         ensures later { IsLater self.old self.new }
-        ensures same { layout_shape self.new.layout ≡ layout_shape self.old.layout }
+        ensures keeps_shape { layout_shape self.new.layout ≡ layout_shape self.old.layout }
         ensures answers { IsTrue false → IsOk result }
-        ensures grows { (fs : List (Tree F)) (vs : List (CountOf (Tree F))) → Stand (StandsAt self.old.nodes) fields.now fs → Stand (StandCount (StandsAt self.old.nodes)) counts.now vs
-            → IfOk result (λ _. Grows self.old self.new [] (record { bus = local; fields = fs; counts = vs } ∷ [])) }
+        ensures appends { (fs : List (Tree F)) (vs : List (CountOf (Tree F))) → Represent (RepresentsAt self.old.nodes) fields.now fs
+            → Represent (RepresentsCount (RepresentsAt self.old.nodes)) counts.now vs
+            → IfOk result (λ _. HasAppended self.old self.new [] (record { bus = local; fields = fs; counts = vs } ∷ [])) }
         ensures sure { IsTrue false → IsOk result }
         ensures sends { IfOk result (λ _. self.new ≡ sending self.old (name_of local) fields.now counts.now) }
-        ensures refused { OnErr result (Grows self.old self.new [] []) }
+        ensures on_error { OnErr result (HasAppended self.old self.new [] []) }
     {
         self.send(None, fields, counts)
     }
 
-    ghost sends_grows = { sending-grows };
+    ghost sends_appends = { sending-appends };
 }

@@ -101,7 +101,7 @@ impl<F: FieldCore> SymbolicExpression<F> {
 }
 
 /// The least degree d' for which d' times the height `n` is at least the degree `d` of a polynomial: d / n rounded
-/// up. The height isn't zero (own).
+/// up. The height isn't zero (not in Plonky3).
 pub fn constraint_degree_from_poly_degree(d: usize, n: usize) -> usize
     requires { 0 < n }
     ensures enough { d ≤ result * n }
@@ -112,8 +112,8 @@ pub fn constraint_degree_from_poly_degree(d: usize, n: usize) -> usize
 
 // Degrees as multiples of the height, where the transition selector has this one.
 #[derive(Clone, Copy)]
-struct Multiples {
-    transition: usize,
+pub(crate) struct Multiples {
+    pub(crate) transition: usize,
 }
 
 impl CellDegrees for Multiples {
@@ -141,9 +141,9 @@ impl CellDegrees for Multiples {
 
 // Degrees of polynomials over so many rows, where the periodic columns have these periods.
 #[derive(Clone, Copy)]
-struct OverRows<'a> {
-    rows: usize,
-    periods: &'a [usize],
+pub(crate) struct OverRows<'a> {
+    pub(crate) rows: usize,
+    pub(crate) periods: &'a [usize],
 }
 
 impl<'a> CellDegrees for OverRows<'a> {

@@ -179,8 +179,8 @@ fn texts_of_failures(rt: HostRuntime) -> Result<(), Fail> {
         format!(in alloc; "{failing}")?.as_str(),
         "in row 2 the constraints [0, 3] aren't zero"
     );
-    let wanting: CheckFailure = AllocError.into();
-    assert_eq!(rt; format!(in alloc; "{wanting}")?.as_str(), "out of memory");
+    let no_memory: CheckFailure = AllocError.into();
+    assert_eq!(rt; format!(in alloc; "{no_memory}")?.as_str(), "out of memory");
     Ok(())
 }
 

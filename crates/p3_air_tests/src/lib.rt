@@ -4,9 +4,9 @@
 #[cfg(test)]
 mod gadgets;
 #[cfg(test)]
-mod post;
-#[cfg(test)]
 mod reads;
+#[cfg(test)]
+mod sending;
 pub mod support;
 #[cfg(test)]
 mod symbolic;

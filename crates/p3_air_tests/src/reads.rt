@@ -46,7 +46,8 @@ fn cells_of_swap(rt: HostRuntime) -> Result<(), Fail> {
 
 // A builder of one main column and one public value.
 fn narrow(alloc: Global) -> Mem<InteractionSymbolicBuilder<BabyBear>>
-    ensures { IfOk result (λ b. b.layout ≡ record { preprocessed_width = 0; main_width = 1; num_public_values = 1; num_periodic_columns = 1; permutation_width = 0; num_permutation_challenges = 0; num_permutation_values = 0 }) }
+    ensures { IfOk result (λ b. b.layout
+        ≡ record { preprocessed_width = 0; main_width = 1; num_public_values = 1; num_periodic_columns = 1; permutation_width = 0; num_permutation_challenges = 0; num_permutation_values = 0 }) }
 {
     let layout = AirLayout {
         preprocessed_width: 0,

@@ -1,7 +1,7 @@
 //! What several tests share, also those of crates above.
 ghost use Rattle.std.specs.Prelude.{◌≡◌, [], ◌∷◌, IfOk, IsTrue, IsOk};
 ghost use Rattle.p3_field.specs.Ring.{of_nat};
-ghost use Rattle.p3_field.specs.BabyBear.{bear_ring};
+ghost use Rattle.p3_field.specs.BabyBear.{baby_bear_ring};
 ghost use Rattle.p3_air.specs.declared.node.Node.TheVariants.{Base};
 
 use p3_air::{AirBuilder, Cell, Node, SymbolicExpression};
@@ -10,7 +10,7 @@ use std::alloc::Global;
 
 /// The element of this number.
 pub fn bear(n: u64) -> BabyBear
-    ensures { result ≡ of_nat bear_ring n }
+    ensures { result ≡ of_nat baby_bear_ring n }
 {
     BabyBear::from_u64(n)
 }
@@ -18,7 +18,7 @@ pub fn bear(n: u64) -> BabyBear
 /// Asserts that x + 3 is x, that x is a bit, and that x and x + 3 are zero.
 pub fn assert_in_all_ways<AB: AirBuilder>(builder: &mut AB, x: AB::Expr) -> Mem<()>
     ensures later { AB.later builder.old builder.new }
-    ensures same { AB.shape builder.new ≡ AB.shape builder.old }
+    ensures keeps_shape { AB.shape builder.new ≡ AB.shape builder.old }
     ensures answers { IsTrue AB.never_fails → IsOk result }
 {
     let three = builder.constant(<AB::F as RingCore>::from_u64(3))?;

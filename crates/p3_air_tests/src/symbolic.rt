@@ -19,7 +19,15 @@ use std::test::Fail;
 
 // One cell of each kind.
 fn one_of_each() -> AirLayout
-    ensures { result ≡ record { preprocessed_width = 1; main_width = 1; num_public_values = 1; num_periodic_columns = 1; permutation_width = 1; num_permutation_challenges = 1; num_permutation_values = 1 } }
+    ensures { result ≡ record {
+      preprocessed_width = 1;
+      main_width = 1;
+      num_public_values = 1;
+      num_periodic_columns = 1;
+      permutation_width = 1;
+      num_permutation_challenges = 1;
+      num_permutation_values = 1;
+    } }
 {
     AirLayout {
         preprocessed_width: 1,
@@ -42,7 +50,8 @@ fn degrees(constraints: &[SymbolicExpression<BabyBear>]) -> Option<(usize, usize
 
 // The degrees of a cell, recorded as the only constraint.
 fn cell_degrees(alloc: Global, cell: Cell) -> Mem<Option<(usize, usize)>>
-    requires { Declares (layout_shape (record { preprocessed_width = 1; main_width = 1; num_public_values = 1; num_periodic_columns = 1; permutation_width = 1; num_permutation_challenges = 1; num_permutation_values = 1 })) cell }
+    requires { Declares (layout_shape
+        (record { preprocessed_width = 1; main_width = 1; num_public_values = 1; num_periodic_columns = 1; permutation_width = 1; num_permutation_challenges = 1; num_permutation_values = 1 })) cell }
 {
     let mut builder = InteractionSymbolicBuilder::<BabyBear>::new(alloc, one_of_each())?;
     let x = builder.cell(cell)?;
@@ -53,7 +62,8 @@ fn cell_degrees(alloc: Global, cell: Cell) -> Mem<Option<(usize, usize)>>
 
 // The same of a cell of the extension.
 fn ext_cell_degrees(alloc: Global, cell: ExtCell) -> Mem<Option<(usize, usize)>>
-    requires { DeclaresExt (layout_shape (record { preprocessed_width = 1; main_width = 1; num_public_values = 1; num_periodic_columns = 1; permutation_width = 1; num_permutation_challenges = 1; num_permutation_values = 1 })) cell }
+    requires { DeclaresExt (layout_shape
+        (record { preprocessed_width = 1; main_width = 1; num_public_values = 1; num_periodic_columns = 1; permutation_width = 1; num_permutation_challenges = 1; num_permutation_values = 1 })) cell }
 {
     let mut builder = InteractionSymbolicBuilder::<BabyBear>::new(alloc, one_of_each())?;
     let x = builder.ext_cell(cell)?;

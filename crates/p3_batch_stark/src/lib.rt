@@ -33,8 +33,8 @@ pub use batch_proving::{ProverSettings, ProvingError};
 pub use batch_quotient::{quotient_chunks, quotient_values};
 pub use batch_setting::Settings;
 pub use batch_setup::{
-    Committed, KeptData, ProverData, ProverOnlyData, ProverPhase, SetupData, SetupError,
-    StarkInstance, TableInstance,
+    Committed, PreprocessedProverData, ProverData, ProverOnlyData, ProverPhase, SetupData,
+    SetupError, StarkInstance, TableInstance,
 };
 pub use batch_statement::{
     BatchCommitments, BatchOpenedValues, BatchProof, BatchVerificationError, CommonData,

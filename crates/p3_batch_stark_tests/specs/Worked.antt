@@ -1,9 +1,9 @@
 -- The worked batch: two instances.
 use Rattle.std.specs.Prelude.{ℕ, [], ◌∷◌, Bool}
-use Rattle.batch_transcript.specs.BatchScript.{Shape}
+use Rattle.batch_transcript.specs.BatchScript.{BatchShapeData}
 
 -- so many instances have lookups, whether there are commitments to preprocessed columns and of a randomization, and the bits of both grindings
-abbrev pub worked_shape : (instances : ℕ) → (committed : Bool) → (lookup_bits ood_bits : ℕ) → Shape
+abbrev pub worked_shape : (instances : ℕ) → (committed : Bool) → (lookup_bits ood_bits : ℕ) → BatchShapeData
 worked_shape instances committed lookup_bits ood_bits = record {
   trace_widths = 2 ∷ 3 ∷ [];
   public_value_counts = 0 ∷ 1 ∷ [];

@@ -8,7 +8,7 @@ use p3_field::{BabyBear, RingCore};
 use std::test::Fail;
 
 #[test]
-fn both_sides_begin_behind_the_separator(rt: HostRuntime) -> Result<(), Fail> {
+fn both_sides_begin_after_the_separator(rt: HostRuntime) -> Result<(), Fail> {
     let pattern = InteractionPattern::new(rt.alloc(), Vec::new(rt.alloc()))?;
     let mut separator = DomainSeparator::new(rt.alloc(), 1, b"a", pattern)?;
     separator.instance(&[7])?;

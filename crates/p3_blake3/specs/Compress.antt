@@ -43,12 +43,12 @@ unfoldable pub half_b : ℕ → ℕ → Quarter → ℕ → ℕ
 half_b s t q m = rotate_right w32 (bit_xor q.b (half_c s q m)) t
 
 -- A half of G, which takes in one message word and turns d by s and b by t.
-abbrev pub half : ℕ → ℕ → Quarter → ℕ → Quarter
-half s t q m = record { a = half_a q m; b = half_b s t q m; c = half_c s q m; d = half_d s q m }
+abbrev pub half_quarter_round : ℕ → ℕ → Quarter → ℕ → Quarter
+half_quarter_round s t q m = record { a = half_a q m; b = half_b s t q m; c = half_c s q m; d = half_d s q m }
 
 -- G, which takes in two message words.
-abbrev pub G : Quarter → ℕ → ℕ → Quarter
-G q x y = half 8 7 (half 16 12 q x) y
+abbrev pub quarter_round : Quarter → ℕ → ℕ → Quarter
+quarter_round q x y = half_quarter_round 8 7 (half_quarter_round 16 12 q x) y
 
 -- Step g takes a column, or a diagonal: row i's word of step g stands in column g + t i, with t = 0 for columns and
 -- t = 1 for diagonals.
@@ -56,20 +56,20 @@ abbrev pub column_of : ℕ → ℕ → ℕ → ℕ
 column_of t row g = (g + t * row) % 4
 
 -- the step that takes the word of this row and column
-abbrev pub step_of : ℕ → ℕ → ℕ → ℕ
-step_of t row column = (column + 3 * (t * row)) % 4
+abbrev pub step_of_word : ℕ → ℕ → ℕ → ℕ
+step_of_word t row column = (column + 3 * (t * row)) % 4
 
 -- the words that step g takes
-abbrev pub taken : ℕ → State → ℕ → Quarter
-taken t v g = record { a = v 0 (column_of t 0 g); b = v 1 (column_of t 1 g); c = v 2 (column_of t 2 g); d = v 3 (column_of t 3 g) }
+abbrev pub words_taken : ℕ → State → ℕ → Quarter
+words_taken t v g = record { a = v 0 (column_of t 0 g); b = v 1 (column_of t 1 g); c = v 2 (column_of t 2 g); d = v 3 (column_of t 3 g) }
 
 -- the state after four column or diagonal steps, where step g makes these words of those that it takes
 abbrev pub steps : ℕ → (ℕ → Quarter → Quarter) → State → State
-steps t f v row column = word (f (step_of t row column) (taken t v (step_of t row column))) row
+steps t f v row column = word (f (step_of_word t row column) (words_taken t v (step_of_word t row column))) row
 
 -- A round: four column steps, then four diagonal steps. Steps g, of all eight, takes message words 2g and 2g + 1.
 abbrev pub round : (ℕ → ℕ) → State → State
-round m v = steps 1 (λ g q. G q (m (8 + 2 * g)) (m (9 + 2 * g))) (steps 0 (λ g q. G q (m (2 * g)) (m (1 + 2 * g))) v)
+round m v = steps 1 (λ g q. quarter_round q (m (8 + 2 * g)) (m (9 + 2 * g))) (steps 0 (λ g q. quarter_round q (m (2 * g)) (m (1 + 2 * g))) v)
 
 -- between rounds word i becomes word `permuted i`
 abbrev pub permuted : ℕ → ℕ

@@ -2,7 +2,7 @@
 use Rattle.std.specs.Prelude.{◌≡◌, ℕ, ◌<◌, List, ◌++◌, map}
 use Rattle.std.specs.Prelude.{slice_index_or as get_or}
 use Rattle.p3_field.specs.Ring.{Ring, of_nat}
-use Rattle.p3_field.specs.Poly.{table}
+use Rattle.p3_field.specs.Poly.{tabulate}
 use Rattle.p3_blake3.specs.declared.words.FourWords.{FourWords}
 use Rattle.p3_blake3.specs.declared.words.StateWords.{StateWords}
 use Rattle.p3_blake3.specs.Compress.{Quarter, State, Input}
@@ -18,10 +18,10 @@ AreFirst block x = (i : ℕ) → i < 16 → get_or block i 0 ≡ x i
 
 -- the rows are those of the state
 pub record IsState (s : StateWords) (v : State) : Type 0 where
-  pub rows0 : s.row0 ≡ table 4 (v 0)
-  pub rows1 : s.row1 ≡ table 4 (v 1)
-  pub rows2 : s.row2 ≡ table 4 (v 2)
-  pub rows3 : s.row3 ≡ table 4 (v 3)
+  pub rows0 : s.row0 ≡ tabulate 4 (v 0)
+  pub rows1 : s.row1 ≡ tabulate 4 (v 1)
+  pub rows2 : s.row2 ≡ tabulate 4 (v 2)
+  pub rows3 : s.row3 ≡ tabulate 4 (v 3)
 
 -- the input with these 28 words
 abbrev pub input_of : List ℕ → Input
@@ -33,4 +33,4 @@ pub record Pushed {F : Type 0} (r : Ring F) (a b : List F) (cells : List ℕ) : 
 
 -- the 16 words of an output, group after group
 abbrev pub words_of : (ℕ → ℕ → ℕ) → List ℕ
-words_of f = joined 4 (λ k. table 4 (f k))
+words_of f = joined 4 (λ k. tabulate 4 (f k))

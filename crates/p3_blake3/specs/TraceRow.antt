@@ -2,18 +2,18 @@
 use Rattle.std.specs.Prelude.{ℕ, zero, suc, ◌+◌, ◌-◌, ◌*◌, ◌/◌, ◌%◌, ◌^◌, ◌<◌, List, ◌++◌, map}
 use Rattle.std.specs.Int.{bit_at}
 use Rattle.p3_field.specs.Ring.{Ring, of_nat}
-use Rattle.p3_field.specs.Poly.{table}
+use Rattle.p3_field.specs.Poly.{tabulate}
 use Rattle.p3_air.specs.Joined.{joined}
 use Rattle.p3_air.specs.Words.{limb}
-use Rattle.p3_blake3.specs.Compress.{State, Input, taken, half, step_of, word, first_state, scheduled, output_of}
+use Rattle.p3_blake3.specs.Compress.{State, Input, words_taken, half_quarter_round, step_of_word, word, first_state, scheduled, output_of}
 
 -- n words by their bits
 abbrev pub bit_cells : ℕ → (ℕ → ℕ) → List ℕ
-bit_cells n w = joined n (λ i. table 32 (bit_at (w i)))
+bit_cells n w = joined n (λ i. tabulate 32 (bit_at (w i)))
 
 -- n words by their limbs
 abbrev pub limb_cells : ℕ → (ℕ → ℕ) → List ℕ
-limb_cells n w = joined n (λ i. table 2 (limb (w i)))
+limb_cells n w = joined n (λ i. tabulate 2 (limb (w i)))
 
 -- A round has four half rounds: the first and the second half of the column steps, then of the diagonal steps. This
 -- is what half round n, counted over all rounds, takes: columns or diagonals,
@@ -34,7 +34,7 @@ message_of n g = scheduled (n / 4) (8 * turn_of n + 2 * g + n % 2)
 -- half a round
 abbrev pub half_round : Input → ℕ → State → State
 half_round x n v row column =
-    word (half (d_turn n) (b_turn n) (taken (turn_of n) v (step_of (turn_of n) row column)) (x (message_of n (step_of (turn_of n) row column)))) row
+    word (half_quarter_round (d_turn n) (b_turn n) (words_taken (turn_of n) v (step_of_word (turn_of n) row column)) (x (message_of n (step_of_word (turn_of n) row column)))) row
 
 -- the state after n half rounds
 unfoldable pub state : Input → ℕ → State

@@ -1,6 +1,6 @@
 //! The whole compression.
 ghost use Rattle.std.specs.Prelude.{◌≡◌, ℕ};
-ghost use Rattle.p3_field.specs.Poly.{table};
+ghost use Rattle.p3_field.specs.Poly.{tabulate};
 ghost use Rattle.p3_blake3.specs.Compress.{Input, first_state, compress};
 ghost use Rattle.p3_blake3.specs.TraceRow.{state};
 ghost use Rattle.p3_blake3.specs.Generated.{AreFirst, IsState, input_of, words_of};
@@ -20,7 +20,7 @@ fn last_state(words: &[u32; 28], first: StateWords) -> StateWords
 
 // Four groups of four words, one after another.
 fn four_groups(a: &[u32; 4], b: &[u32; 4], c: &[u32; 4], d: &[u32; 4]) -> [u32; 16]
-    ensures { (f : ℕ → ℕ → ℕ) → a.now ≡ table 4 (f 0) → b.now ≡ table 4 (f 1) → c.now ≡ table 4 (f 2) → d.now ≡ table 4 (f 3) → result ≡ words_of f }
+    ensures { (f : ℕ → ℕ → ℕ) → a.now ≡ tabulate 4 (f 0) → b.now ≡ tabulate 4 (f 1) → c.now ≡ tabulate 4 (f 2) → d.now ≡ tabulate 4 (f 3) → result ≡ words_of f }
 {
     [
         a[0], a[1], a[2], a[3], b[0], b[1], b[2], b[3], c[0], c[1], c[2], c[3], d[0], d[1], d[2],

@@ -5,7 +5,8 @@ ghost use Rattle.p3_blake3.specs.declared.error.TraceError.TheVariants.{OutOfMem
 use std::alloc::AllocError;
 use thiserror::Error;
 
-/// Why there is no trace of some compressions (own). Each generator says which of these it answers, and when.
+/// Why there is no trace of some compressions (not in Plonky3). Each generator says which of these it
+/// answers, and when.
 #[derive(Debug, Drop, Error)]
 pub enum TraceError {
     /// One and one isn't zero in the field, where the table needs that.
@@ -20,7 +21,7 @@ pub enum TraceError {
     /// The cells, with the room that was asked for, are more than `usize` counts.
     #[error("the trace is too long")]
     TooLong,
-    /// Memory was wanting.
+    /// Memory ran out.
     #[error("out of memory")]
     OutOfMemory,
 }

@@ -1,7 +1,7 @@
 //! Words pushed to a row, by their bits or by their limbs, the lowest first.
 ghost use Rattle.std.specs.Prelude.{◌≡◌, ℕ, ◌^◌, List, IfOk, length};
 ghost use Rattle.std.specs.Int.{bit_at};
-ghost use Rattle.p3_field.specs.Poly.{table};
+ghost use Rattle.p3_field.specs.Poly.{tabulate};
 ghost use Rattle.p3_air.specs.Words.{limb};
 ghost use Rattle.p3_blake3.specs.TraceRow.{bit_cells, limb_cells};
 ghost use Rattle.p3_blake3.specs.Generated.{input_of, Pushed};
@@ -11,7 +11,7 @@ use p3_field::{Mem, PrimeCharacteristicRing, RingCore};
 
 /// Pushes the 32 bits of a word as elements.
 pub fn push_bits<F: PrimeCharacteristicRing>(values: &mut Vec<F>, word: u32) -> Mem<()>
-    ensures { IfOk result (λ _. Pushed F.ring values.old.items values.new.items (table 32 (bit_at word))) }
+    ensures { IfOk result (λ _. Pushed F.ring values.old.items values.new.items (tabulate 32 (bit_at word))) }
 {
     let bits: [F; 32] = u32_to_bits_le(word);
     values.extend_from_slice(&bits)?;
@@ -20,7 +20,7 @@ pub fn push_bits<F: PrimeCharacteristicRing>(values: &mut Vec<F>, word: u32) -> 
 
 /// Pushes the two limbs of 16 bits of a word as elements.
 pub fn push_limbs<F: PrimeCharacteristicRing>(values: &mut Vec<F>, word: u32) -> Mem<()>
-    ensures { IfOk result (λ _. Pushed F.ring values.old.items values.new.items (table 2 (limb word))) }
+    ensures { IfOk result (λ _. Pushed F.ring values.old.items values.new.items (tabulate 2 (limb word))) }
 {
     values.push(<F as RingCore>::from_u64((word % 65536) as u64))?;
     values.push(<F as RingCore>::from_u64((word / 65536) as u64))?;

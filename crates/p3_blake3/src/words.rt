@@ -1,8 +1,8 @@
 //! The compression on words, half a round at a time.
 ghost use Rattle.std.specs.Prelude.{◌≡◌, ℕ, ◌+◌, ◌-◌, ◌*◌, ◌/◌, ◌%◌, ◌^◌, ◌<◌, ◌≤◌, List, [], ◌∷◌, length};
 ghost use Rattle.std.specs.Prelude.{bit_xor};
-ghost use Rattle.p3_field.specs.Poly.{table};
-ghost use Rattle.p3_blake3.specs.Compress.{Input, State, first_state, half, half_a, half_b, half_c, half_d, taken};
+ghost use Rattle.p3_field.specs.Poly.{tabulate};
+ghost use Rattle.p3_blake3.specs.Compress.{Input, State, first_state, half_quarter_round, half_a, half_b, half_c, half_d, words_taken};
 ghost use Rattle.p3_blake3.specs.TraceRow.{turn_of, d_turn, b_turn, message_of, half_round};
 ghost use Rattle.p3_blake3.specs.Generated.{quarter_of, AreFirst, IsState, input_of};
 
@@ -54,7 +54,7 @@ fn half_step(s: u32, t: u32, q: FourWords, message: u32) -> FourWords
 /// The words that step g of half round n takes: a column, or in the second half of a round a diagonal.
 pub fn taken_words(n: usize, state: &StateWords, g: usize) -> FourWords
     requires steps { g < 4 }
-    ensures { (v : State) → IsState state.now v → quarter_of result ≡ taken (turn_of n) v g }
+    ensures { (v : State) → IsState state.now v → quarter_of result ≡ words_taken (turn_of n) v g }
 {
     let turn = n % 4 / 2;
     FourWords {
@@ -70,7 +70,7 @@ pub fn made_words(n: usize, block: &[u32; 28], state: &StateWords, g: usize) -> 
     requires halves { n < 28 }
     requires steps { g < 4 }
     ensures { (x : Input) (v : State) → AreFirst block.now x → IsState state.now v
-        → quarter_of result ≡ half (d_turn n) (b_turn n) (taken (turn_of n) v g) (x (message_of n g)) }
+        → quarter_of result ≡ half_quarter_round (d_turn n) (b_turn n) (words_taken (turn_of n) v g) (x (message_of n g)) }
 {
     let words = taken_words(n, state, g);
     let message = block[scheduled_word(n / 4, 8 * (n % 4 / 2) + 2 * g + n % 2)];
@@ -96,7 +96,7 @@ pub fn first_words(words: &[u32; 28]) -> StateWords
 
 /// The exclusive or of four words each.
 pub fn xor_words(a: &[u32; 4], b: &[u32; 4]) -> [u32; 4]
-    ensures { (v w : ℕ → ℕ) → a.now ≡ table 4 v → b.now ≡ table 4 w → result ≡ table 4 (λ i. bit_xor (v i) (w i)) }
+    ensures { (v w : ℕ → ℕ) → a.now ≡ tabulate 4 v → b.now ≡ tabulate 4 w → result ≡ tabulate 4 (λ i. bit_xor (v i) (w i)) }
 {
     [a[0] ^ b[0], a[1] ^ b[1], a[2] ^ b[2], a[3] ^ b[3]]
 }

@@ -1,11 +1,11 @@
 -- The constraints of the AIR over prime fields, and where the row's words stand. After Plonky3's p3-blake3-air.
 use Rattle.std.specs.Prelude.{ℕ, zero, suc, ◌+◌, ◌*◌, List, [], ◌++◌, false, None, Some}
 use Rattle.p3_field.specs.Ring.{Ring}
-use Rattle.p3_field.specs.Poly.{table}
+use Rattle.p3_field.specs.Poly.{tabulate}
 use Rattle.p3_air.specs.declared.cells.Cell.TheVariants.{Main}
 use Rattle.p3_air.specs.Tree.{Tree, cell, difference, bool_tree}
 use Rattle.p3_air.specs.Shape.{Declaration}
-use Rattle.p3_air.specs.Gadgets.{number, add2_trees, add3_trees, packed, xor_tree, xor_shift_trees}
+use Rattle.p3_air.specs.Gadgets.{number, add2_trees, add3_trees, packed_bits, xor_tree, xor_shift_trees}
 use Rattle.p3_air.specs.Words.{limb}
 use Rattle.p3_blake3_air.specs.declared.places.Place.{Place}
 use Rattle.p3_blake3_air.specs.declared.places.Columns.{Columns}
@@ -19,7 +19,7 @@ from_column column k = cell (Main false (column + k))
 
 -- the limbs of a word that is given by its bits
 abbrev pub packed_limbs : {F : Type 0} → Ring F → (ℕ → Tree F) → ℕ → Tree F
-packed_limbs r t k = packed r t (16 * k) 16
+packed_limbs r t k = packed_bits r t (16 * k) 16
 
 -- where the state after n half rounds stands
 abbrev pub place_of : ℕ → Place
@@ -33,8 +33,8 @@ half_trees r s t a b c d m a' b' c' d' =
     ++ (add2_trees r c' c (packed_limbs r d') ++ xor_shift_trees r c' b b' t)
 
 -- where the words of step g stand, by columns or by diagonals
-abbrev pub columns_of : Place → ℕ → ℕ → Columns
-columns_of p t g = record {
+abbrev pub columns_of_step : Place → ℕ → ℕ → Columns
+columns_of_step p t g = record {
   a = p.row0 + 2 * column_of t 0 g;
   b = p.row1 + 32 * column_of t 1 g;
   c = p.row2 + 2 * column_of t 2 g;
@@ -50,7 +50,7 @@ columns_trees r s t before m after =
 -- step g of half round n
 unfoldable pub step_half_trees : {F : Type 0} → Ring F → ℕ → ℕ → List (Tree F)
 step_half_trees r n g =
-    columns_trees r (d_turn n) (b_turn n) (columns_of (place_of n) (turn_of n) g) (32 * message_of n g) (columns_of (place_of (suc n)) (turn_of n) g)
+    columns_trees r (d_turn n) (b_turn n) (columns_of_step (place_of n) (turn_of n) g) (32 * message_of n g) (columns_of_step (place_of (suc n)) (turn_of n) g)
 
 -- a step: both its halves
 unfoldable pub step_trees : {F : Type 0} → Ring F → ℕ → ℕ → List (Tree F)
@@ -66,11 +66,11 @@ rounds_trees r = joined 14 (steps_trees r)
 
 -- the cells are bits
 unfoldable pub bits_trees : {F : Type 0} → Ring F → ℕ → ℕ → List (Tree F)
-bits_trees r column n = table n (λ i. bool_tree r.one (from_column column i))
+bits_trees r column n = tabulate n (λ i. bool_tree r.one (from_column column i))
 
 -- the packed limbs of the bits from one column on are the limbs from another on
 unfoldable pub packed_trees : {F : Type 0} → Ring F → ℕ → ℕ → List (Tree F)
-packed_trees r column limbs = table 2 (λ k. difference (packed_limbs r (from_column column) k) (from_column limbs k))
+packed_trees r column limbs = tabulate 2 (λ k. difference (packed_limbs r (from_column column) k) (from_column limbs k))
 
 -- those of four words
 unfoldable pub limbs_trees : {F : Type 0} → Ring F → ℕ → ℕ → List (Tree F)
@@ -78,7 +78,7 @@ limbs_trees r column limbs = joined 4 (λ i. packed_trees r (column + 32 * i) (l
 
 -- the limbs from a column on are those of a word
 unfoldable pub word_trees : {F : Type 0} → Ring F → ℕ → ℕ → List (Tree F)
-word_trees r column w = table 2 (λ k. difference (from_column column k) (number r (limb w k)))
+word_trees r column w = tabulate 2 (λ k. difference (from_column column k) (number r (limb w k)))
 
 -- four words by limbs are those of the initial value
 unfoldable pub iv_trees : {F : Type 0} → Ring F → ℕ → List (Tree F)
@@ -90,7 +90,7 @@ masked_trees r limbs bits mask = joined 4 (λ i. xor_shift_trees r (from_column 
 
 -- 128 cells are bit by bit the exclusive or of others
 unfoldable pub xor_trees : {F : Type 0} → Ring F → ℕ → ℕ → ℕ → List (Tree F)
-xor_trees r column left right = table 128 (λ i. difference (from_column column i) (xor_tree r (from_column left i) (from_column right i)))
+xor_trees r column left right = tabulate 128 (λ i. difference (from_column column i) (xor_tree r (from_column left i) (from_column right i)))
 
 -- the constraints before the rounds: the input is bits, and the first state is the input's
 unfoldable pub first_trees : {F : Type 0} → Ring F → List (Tree F)

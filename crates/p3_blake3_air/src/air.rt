@@ -24,10 +24,10 @@ pub struct Blake3Air {}
 fn assert_row<AB: AirBuilder>(builder: &mut AB) -> Mem<()>
     requires wide { 9168 ≤ (AB.shape builder.old).main }
     ensures later { AB.later builder.old builder.new }
-    ensures same { AB.shape builder.new ≡ AB.shape builder.old }
+    ensures keeps_shape { AB.shape builder.new ≡ AB.shape builder.old }
     ensures answers { IsTrue AB.never_fails → IsOk result }
-    ensures grows { IfOk result (λ _. Appended AB.grows builder.old builder.new (blake3_trees AB.F.ring)) }
-    ensures refused { OnFailure result (AppendedSome AB.grows builder.old builder.new (blake3_trees AB.F.ring)) }
+    ensures appends { IfOk result (λ _. Appended AB.appends builder.old builder.new (blake3_trees AB.F.ring)) }
+    ensures on_error { OnFailure result (AppendedSome AB.appends builder.old builder.new (blake3_trees AB.F.ring)) }
 {
     assert_first(builder)?;
     assert_rounds(builder)?;

@@ -232,7 +232,7 @@ impl<'a, T> Blake3State<'a, T> {
     }
 }
 
-// The bit that an element stands for.
+// The bit that an element represents.
 fn bit_of<F: Field>(x: F) -> u32
     ensures below { result < 2 }
     ensures bit { (b : ℕ) → b < 2 → x ≡ of_nat F.ring b → result ≡ b }
@@ -255,7 +255,8 @@ fn word_at<F: Field>(row: &[F], at: usize) -> u32
 
 impl<'a, F: Field> Blake3Cols<'a, F> {
     /// The 16 words of the output: those whose bits the cells are (`words`). So of a compression's row they are the
-    /// compression of its 28 words (`compressed`). Where the cells are no bits, one that isn't zero counts as one (own).
+    /// compression of its 28 words (`compressed`). Where the cells are no bits, one that isn't zero counts as one (not
+    /// in Plonky3).
     pub fn output_words(&self) -> [u32; 16]
         ensures words { (w : ℕ → ℕ) → ((i : ℕ) → i < 16 → w i < 2 ^ 32)
             → ((i k : ℕ) (d : F) → i < 16 → k < 32 → slice_index_or self.now.row.now (8656 + 32 * i + k) d ≡ of_nat F.ring (bit_at (w i) k))

@@ -2,7 +2,7 @@
 ghost use Rattle.std.specs.Prelude.{◌≡◌, ℕ, ◌+◌, ◌*◌, ◌^◌, ◌<◌, ◌≤◌, List, [], ◌∷◌, ◌++◌, IfOk, OnErr, IsOk, IsTrue, false, length, map};
 ghost use Rattle.p3_air.specs.declared.cells.Cell.TheVariants.{Main as MainCell};
 ghost use Rattle.p3_air.specs.Tree.{Tree, bool_tree, difference, cell as cell_tree};
-ghost use Rattle.p3_air.specs.Gadgets.{StandAt, number, xor_tree};
+ghost use Rattle.p3_air.specs.Gadgets.{RepresentAt, number, xor_tree};
 ghost use Rattle.p3_air.specs.Words.{limb};
 ghost use Rattle.p3_blake3.specs.Compress.{iv};
 ghost use Rattle.p3_air.specs.Joined.{joined};
@@ -20,10 +20,10 @@ fn assert_bit<AB: AirBuilder>(builder: &mut AB, column: usize) -> Mem<()>
     requires wide { 9168 ≤ (AB.shape builder.old).main }
     requires within_column { column < 9168 }
     ensures later { AB.later builder.old builder.new }
-    ensures same { AB.shape builder.new ≡ AB.shape builder.old }
+    ensures keeps_shape { AB.shape builder.new ≡ AB.shape builder.old }
     ensures answers { IsTrue AB.never_fails → IsOk result }
-    ensures grows { IfOk result (λ _. Appended AB.grows builder.old builder.new (bool_tree AB.F.ring.one (cell_tree (MainCell false column)) ∷ [])) }
-    ensures refused { OnFailure result (AppendedSome AB.grows builder.old builder.new (bool_tree AB.F.ring.one (cell_tree (MainCell false column)) ∷ [])) }
+    ensures appends { IfOk result (λ _. Appended AB.appends builder.old builder.new (bool_tree AB.F.ring.one (cell_tree (MainCell false column)) ∷ [])) }
+    ensures on_error { OnFailure result (AppendedSome AB.appends builder.old builder.new (bool_tree AB.F.ring.one (cell_tree (MainCell false column)) ∷ [])) }
 {
     let cell = cell_at(builder, column)?;
     builder.assert_bool(cell)?;
@@ -35,10 +35,10 @@ pub fn assert_bits<AB: AirBuilder>(builder: &mut AB, column: usize, n: usize) ->
     requires wide { 9168 ≤ (AB.shape builder.old).main }
     requires within_column { column + n ≤ 9168 }
     ensures later { AB.later builder.old builder.new }
-    ensures same { AB.shape builder.new ≡ AB.shape builder.old }
+    ensures keeps_shape { AB.shape builder.new ≡ AB.shape builder.old }
     ensures answers { IsTrue AB.never_fails → IsOk result }
-    ensures grows { IfOk result (λ _. Appended AB.grows builder.old builder.new (bits_trees AB.F.ring column n)) }
-    ensures refused { OnFailure result (AppendedSome AB.grows builder.old builder.new (bits_trees AB.F.ring column n)) }
+    ensures appends { IfOk result (λ _. Appended AB.appends builder.old builder.new (bits_trees AB.F.ring column n)) }
+    ensures on_error { OnFailure result (AppendedSome AB.appends builder.old builder.new (bits_trees AB.F.ring column n)) }
 {
     for i in 0..n {
         assert_bit(builder, column + i)?;
@@ -52,10 +52,10 @@ fn assert_packed<AB: AirBuilder>(builder: &mut AB, column: usize, limbs: usize) 
     requires within_column { column + 32 ≤ 9168 }
     requires within_limbs { limbs + 2 ≤ 9168 }
     ensures later { AB.later builder.old builder.new }
-    ensures same { AB.shape builder.new ≡ AB.shape builder.old }
+    ensures keeps_shape { AB.shape builder.new ≡ AB.shape builder.old }
     ensures answers { IsTrue AB.never_fails → IsOk result }
-    ensures grows { IfOk result (λ _. Appended AB.grows builder.old builder.new (packed_trees AB.F.ring column limbs)) }
-    ensures refused { OnFailure result (AppendedSome AB.grows builder.old builder.new (packed_trees AB.F.ring column limbs)) }
+    ensures appends { IfOk result (λ _. Appended AB.appends builder.old builder.new (packed_trees AB.F.ring column limbs)) }
+    ensures on_error { OnFailure result (AppendedSome AB.appends builder.old builder.new (packed_trees AB.F.ring column limbs)) }
 {
     let packed = packed_at(builder, column)?;
     let cells = limbs_at(builder, limbs)?;
@@ -70,10 +70,10 @@ pub fn assert_limbs<AB: AirBuilder>(builder: &mut AB, column: usize, limbs: usiz
     requires within_column { column + 128 ≤ 9168 }
     requires within_limbs { limbs + 8 ≤ 9168 }
     ensures later { AB.later builder.old builder.new }
-    ensures same { AB.shape builder.new ≡ AB.shape builder.old }
+    ensures keeps_shape { AB.shape builder.new ≡ AB.shape builder.old }
     ensures answers { IsTrue AB.never_fails → IsOk result }
-    ensures grows { IfOk result (λ _. Appended AB.grows builder.old builder.new (limbs_trees AB.F.ring column limbs)) }
-    ensures refused { OnFailure result (AppendedSome AB.grows builder.old builder.new (limbs_trees AB.F.ring column limbs)) }
+    ensures appends { IfOk result (λ _. Appended AB.appends builder.old builder.new (limbs_trees AB.F.ring column limbs)) }
+    ensures on_error { OnFailure result (AppendedSome AB.appends builder.old builder.new (limbs_trees AB.F.ring column limbs)) }
 {
     for i in 0..4 {
         assert_packed(builder, column + 32 * i, limbs + 2 * i)?;
@@ -84,10 +84,10 @@ pub fn assert_limbs<AB: AirBuilder>(builder: &mut AB, column: usize, limbs: usiz
 // The limbs of a word as constants.
 fn word_limbs<AB: AirBuilder>(builder: &mut AB, word: u32) -> Mem<[AB::Expr; 2]>
     ensures later { AB.later builder.old builder.new }
-    ensures same { AB.shape builder.new ≡ AB.shape builder.old }
+    ensures keeps_shape { AB.shape builder.new ≡ AB.shape builder.old }
     ensures answers { IsTrue AB.never_fails → IsOk result }
-    ensures grows { AB.grows builder.old builder.new [] [] }
-    ensures stands { IfOk result (λ es. StandAt (AB.stands builder.new) es (λ k. number AB.F.ring (limb word k))) }
+    ensures appends { AB.appends builder.old builder.new [] [] }
+    ensures represents { IfOk result (λ es. RepresentAt (AB.represents builder.new) es (λ k. number AB.F.ring (limb word k))) }
 {
     let low = builder.constant(<AB::F as RingCore>::from_u64((word % 65536) as u64))?;
     let high = builder.constant(<AB::F as RingCore>::from_u64((word / 65536) as u64))?;
@@ -99,10 +99,10 @@ fn assert_word<AB: AirBuilder>(builder: &mut AB, column: usize, word: u32) -> Me
     requires wide { 9168 ≤ (AB.shape builder.old).main }
     requires within_column { column + 2 ≤ 9168 }
     ensures later { AB.later builder.old builder.new }
-    ensures same { AB.shape builder.new ≡ AB.shape builder.old }
+    ensures keeps_shape { AB.shape builder.new ≡ AB.shape builder.old }
     ensures answers { IsTrue AB.never_fails → IsOk result }
-    ensures grows { IfOk result (λ _. Appended AB.grows builder.old builder.new (word_trees AB.F.ring column word)) }
-    ensures refused { OnFailure result (AppendedSome AB.grows builder.old builder.new (word_trees AB.F.ring column word)) }
+    ensures appends { IfOk result (λ _. Appended AB.appends builder.old builder.new (word_trees AB.F.ring column word)) }
+    ensures on_error { OnFailure result (AppendedSome AB.appends builder.old builder.new (word_trees AB.F.ring column word)) }
 {
     let cells = limbs_at(builder, column)?;
     let limbs = word_limbs(builder, word)?;
@@ -116,10 +116,10 @@ pub fn assert_iv<AB: AirBuilder>(builder: &mut AB, column: usize) -> Mem<()>
     requires wide { 9168 ≤ (AB.shape builder.old).main }
     requires within_column { column + 8 ≤ 9168 }
     ensures later { AB.later builder.old builder.new }
-    ensures same { AB.shape builder.new ≡ AB.shape builder.old }
+    ensures keeps_shape { AB.shape builder.new ≡ AB.shape builder.old }
     ensures answers { IsTrue AB.never_fails → IsOk result }
-    ensures grows { IfOk result (λ _. Appended AB.grows builder.old builder.new (iv_trees AB.F.ring column)) }
-    ensures refused { OnFailure result (AppendedSome AB.grows builder.old builder.new (iv_trees AB.F.ring column)) }
+    ensures appends { IfOk result (λ _. Appended AB.appends builder.old builder.new (iv_trees AB.F.ring column)) }
+    ensures on_error { OnFailure result (AppendedSome AB.appends builder.old builder.new (iv_trees AB.F.ring column)) }
 {
     for i in 0..4 {
         assert_word(builder, column + 2 * i, IV[i])?;
@@ -139,10 +139,10 @@ pub fn assert_masked<AB: AirBuilder>(
     requires within_bits { bits + 128 ≤ 9168 }
     requires within_mask { mask + 128 ≤ 9168 }
     ensures later { AB.later builder.old builder.new }
-    ensures same { AB.shape builder.new ≡ AB.shape builder.old }
+    ensures keeps_shape { AB.shape builder.new ≡ AB.shape builder.old }
     ensures answers { IsTrue AB.never_fails → IsOk result }
-    ensures grows { IfOk result (λ _. Appended AB.grows builder.old builder.new (masked_trees AB.F.ring limbs bits mask)) }
-    ensures refused { OnFailure result (AppendedSome AB.grows builder.old builder.new (masked_trees AB.F.ring limbs bits mask)) }
+    ensures appends { IfOk result (λ _. Appended AB.appends builder.old builder.new (masked_trees AB.F.ring limbs bits mask)) }
+    ensures on_error { OnFailure result (AppendedSome AB.appends builder.old builder.new (masked_trees AB.F.ring limbs bits mask)) }
 {
     for i in 0..4 {
         assert_turned(builder, limbs + 2 * i, bits + 32 * i, mask + 32 * i, 0)?;
@@ -157,10 +157,13 @@ fn assert_xor<AB: AirBuilder>(builder: &mut AB, column: usize, left: usize, righ
     requires within_left { left < 9168 }
     requires within_right { right < 9168 }
     ensures later { AB.later builder.old builder.new }
-    ensures same { AB.shape builder.new ≡ AB.shape builder.old }
+    ensures keeps_shape { AB.shape builder.new ≡ AB.shape builder.old }
     ensures answers { IsTrue AB.never_fails → IsOk result }
-    ensures grows { IfOk result (λ _. Appended AB.grows builder.old builder.new (difference (cell_tree (MainCell false column)) (xor_tree AB.F.ring (cell_tree (MainCell false left)) (cell_tree (MainCell false right))) ∷ [])) }
-    ensures refused { OnFailure result (AppendedSome AB.grows builder.old builder.new (difference (cell_tree (MainCell false column)) (xor_tree AB.F.ring (cell_tree (MainCell false left)) (cell_tree (MainCell false right))) ∷ [])) }
+    ensures appends { IfOk result (λ _. Appended AB.appends builder.old builder.new
+        (difference (cell_tree (MainCell false column)) (xor_tree AB.F.ring (cell_tree (MainCell false left)) (cell_tree (MainCell false right))) ∷ [])) }
+    ensures on_error { OnFailure result
+        (AppendedSome AB.appends builder.old builder.new
+        (difference (cell_tree (MainCell false column)) (xor_tree AB.F.ring (cell_tree (MainCell false left)) (cell_tree (MainCell false right))) ∷ [])) }
 {
     let cell = cell_at(builder, column)?;
     let x = cell_at(builder, left)?;
@@ -182,10 +185,10 @@ pub fn assert_xors<AB: AirBuilder>(
     requires within_left { left + 128 ≤ 9168 }
     requires within_right { right + 128 ≤ 9168 }
     ensures later { AB.later builder.old builder.new }
-    ensures same { AB.shape builder.new ≡ AB.shape builder.old }
+    ensures keeps_shape { AB.shape builder.new ≡ AB.shape builder.old }
     ensures answers { IsTrue AB.never_fails → IsOk result }
-    ensures grows { IfOk result (λ _. Appended AB.grows builder.old builder.new (xor_trees AB.F.ring column left right)) }
-    ensures refused { OnFailure result (AppendedSome AB.grows builder.old builder.new (xor_trees AB.F.ring column left right)) }
+    ensures appends { IfOk result (λ _. Appended AB.appends builder.old builder.new (xor_trees AB.F.ring column left right)) }
+    ensures on_error { OnFailure result (AppendedSome AB.appends builder.old builder.new (xor_trees AB.F.ring column left right)) }
 {
     for i in 0..128 {
         assert_xor(builder, column + i, left + i, right + i)?;
@@ -197,10 +200,10 @@ pub fn assert_xors<AB: AirBuilder>(
 pub fn assert_first<AB: AirBuilder>(builder: &mut AB) -> Mem<()>
     requires wide { 9168 ≤ (AB.shape builder.old).main }
     ensures later { AB.later builder.old builder.new }
-    ensures same { AB.shape builder.new ≡ AB.shape builder.old }
+    ensures keeps_shape { AB.shape builder.new ≡ AB.shape builder.old }
     ensures answers { IsTrue AB.never_fails → IsOk result }
-    ensures grows { IfOk result (λ _. Appended AB.grows builder.old builder.new (first_trees AB.F.ring)) }
-    ensures refused { OnFailure result (AppendedSome AB.grows builder.old builder.new (first_trees AB.F.ring)) }
+    ensures appends { IfOk result (λ _. Appended AB.appends builder.old builder.new (first_trees AB.F.ring)) }
+    ensures on_error { OnFailure result (AppendedSome AB.appends builder.old builder.new (first_trees AB.F.ring)) }
 {
     assert_bits(builder, 0, 896)?;
     assert_limbs(builder, 512, 896)?;
@@ -212,10 +215,10 @@ pub fn assert_first<AB: AirBuilder>(builder: &mut AB) -> Mem<()>
 fn assert_first_output<AB: AirBuilder>(builder: &mut AB) -> Mem<()>
     requires wide { 9168 ≤ (AB.shape builder.old).main }
     ensures later { AB.later builder.old builder.new }
-    ensures same { AB.shape builder.new ≡ AB.shape builder.old }
+    ensures keeps_shape { AB.shape builder.new ≡ AB.shape builder.old }
     ensures answers { IsTrue AB.never_fails → IsOk result }
-    ensures grows { IfOk result (λ _. Appended AB.grows builder.old builder.new (first_output_trees AB.F.ring)) }
-    ensures refused { OnFailure result (AppendedSome AB.grows builder.old builder.new (first_output_trees AB.F.ring)) }
+    ensures appends { IfOk result (λ _. Appended AB.appends builder.old builder.new (first_output_trees AB.F.ring)) }
+    ensures on_error { OnFailure result (AppendedSome AB.appends builder.old builder.new (first_output_trees AB.F.ring)) }
 {
     assert_limbs(builder, 8528, 8392)?;
     assert_bits(builder, 8656, 128)?;
@@ -227,10 +230,10 @@ fn assert_first_output<AB: AirBuilder>(builder: &mut AB) -> Mem<()>
 fn assert_other_output<AB: AirBuilder>(builder: &mut AB) -> Mem<()>
     requires wide { 9168 ≤ (AB.shape builder.old).main }
     ensures later { AB.later builder.old builder.new }
-    ensures same { AB.shape builder.new ≡ AB.shape builder.old }
+    ensures keeps_shape { AB.shape builder.new ≡ AB.shape builder.old }
     ensures answers { IsTrue AB.never_fails → IsOk result }
-    ensures grows { IfOk result (λ _. Appended AB.grows builder.old builder.new (other_output_trees AB.F.ring)) }
-    ensures refused { OnFailure result (AppendedSome AB.grows builder.old builder.new (other_output_trees AB.F.ring)) }
+    ensures appends { IfOk result (λ _. Appended AB.appends builder.old builder.new (other_output_trees AB.F.ring)) }
+    ensures on_error { OnFailure result (AppendedSome AB.appends builder.old builder.new (other_output_trees AB.F.ring)) }
 {
     assert_xors(builder, 8784, 8264, 8400)?;
     assert_xors(builder, 8912, 512, 8528)?;
@@ -242,10 +245,10 @@ fn assert_other_output<AB: AirBuilder>(builder: &mut AB) -> Mem<()>
 pub fn assert_last<AB: AirBuilder>(builder: &mut AB) -> Mem<()>
     requires wide { 9168 ≤ (AB.shape builder.old).main }
     ensures later { AB.later builder.old builder.new }
-    ensures same { AB.shape builder.new ≡ AB.shape builder.old }
+    ensures keeps_shape { AB.shape builder.new ≡ AB.shape builder.old }
     ensures answers { IsTrue AB.never_fails → IsOk result }
-    ensures grows { IfOk result (λ _. Appended AB.grows builder.old builder.new (last_trees AB.F.ring)) }
-    ensures refused { OnFailure result (AppendedSome AB.grows builder.old builder.new (last_trees AB.F.ring)) }
+    ensures appends { IfOk result (λ _. Appended AB.appends builder.old builder.new (last_trees AB.F.ring)) }
+    ensures on_error { OnFailure result (AppendedSome AB.appends builder.old builder.new (last_trees AB.F.ring)) }
 {
     assert_first_output(builder)?;
     assert_other_output(builder)?;

@@ -5,7 +5,7 @@ ghost use Rattle.p3_air.specs.Joined.{joined};
 ghost use Rattle.p3_blake3.specs.TraceRow.{bit_cells, state_cells, state, row_cells, trace_row};
 ghost use Rattle.p3_matrix.specs.Matrix.{height, row_at};
 ghost use Rattle.p3_blake3.specs.Generated.{AreFirst, IsState, input_of, Pushed};
-ghost use Rattle.p3_blake3_air.specs.Rows.{row_words, rows_cells, IsTooLong};
+ghost use Rattle.p3_blake3_air.specs.Rows.{compression_input, rows_cells, IsTooLong};
 ghost use Rattle.p3_blake3.specs.declared.error.TraceError.TheVariants.{WrongCharacteristic, NoInput, NotPowerOfTwo, TooLong};
 ghost use Rattle.std.specs.Int.{IsPowerOfTwo};
 ghost use Rattle.p3_field.specs.Ring.{of_nat};
@@ -79,7 +79,7 @@ fn push_row<F: PrimeField64>(values: &mut Vec<F>, words: &[u32; 28]) -> Mem<()>
 // The 28 words of row i of n.
 fn row_words(inputs: &[[u32; 24]], i: usize) -> [u32; 28]
     requires { i < length inputs.now }
-    ensures { result ≡ row_words inputs.now i }
+    ensures { result ≡ compression_input inputs.now i }
 {
     let counter = (i % 4294967296) as u32;
     let high = (i / 4294967296 % 4294967296) as u32;
@@ -143,7 +143,7 @@ pub fn generate_trace_rows<F: PrimeField64>(
 ) -> Result<RowMajorMatrix<F>, TraceError>
     ensures rows { IfOk result (λ m. m ≡ record { values = map (of_nat F.ring) (rows_cells inputs.now); width = 9168 }) }
     ensures height { IfOk result (λ m. height m ≡ length inputs.now) }
-    ensures row { IfOk result (λ m. (i : ℕ) → i < length inputs.now → row_at m i ≡ trace_row F.ring (input_of (row_words inputs.now i))) }
+    ensures row { IfOk result (λ m. (i : ℕ) → i < length inputs.now → row_at m i ≡ trace_row F.ring (input_of (compression_input inputs.now i))) }
     ensures done { IfOk result (λ m. IsPowerOfTwo (length inputs.now) × (IsTooLong (length inputs.now) extra_capacity_bits → ⊥)) }
     ensures not_power { (result ≡ Err NotPowerOfTwo) ↔ (IsPowerOfTwo (length inputs.now) → ⊥) }
     ensures too_long { (result ≡ Err TooLong) ↔ (IsPowerOfTwo (length inputs.now) × IsTooLong (length inputs.now) extra_capacity_bits) }

@@ -23,10 +23,13 @@ fn assert_sum_of_three<AB: AirBuilder>(
     requires within_b { b + 32 ≤ 9168 }
     requires within_message { message + 32 ≤ 9168 }
     ensures later { AB.later builder.old builder.new }
-    ensures same { AB.shape builder.new ≡ AB.shape builder.old }
+    ensures keeps_shape { AB.shape builder.new ≡ AB.shape builder.old }
     ensures answers { IsTrue AB.never_fails → IsOk result }
-    ensures grows { IfOk result (λ _. Appended AB.grows builder.old builder.new (add3_trees AB.F.ring (from_column sum) (from_column a) (packed_limbs AB.F.ring (from_column b)) (packed_limbs AB.F.ring (from_column message)))) }
-    ensures refused { OnFailure result (AppendedSome AB.grows builder.old builder.new (add3_trees AB.F.ring (from_column sum) (from_column a) (packed_limbs AB.F.ring (from_column b)) (packed_limbs AB.F.ring (from_column message)))) }
+    ensures appends { IfOk result (λ _. Appended AB.appends builder.old builder.new
+        (add3_trees AB.F.ring (from_column sum) (from_column a) (packed_limbs AB.F.ring (from_column b)) (packed_limbs AB.F.ring (from_column message)))) }
+    ensures on_error { OnFailure result
+        (AppendedSome AB.appends builder.old builder.new
+        (add3_trees AB.F.ring (from_column sum) (from_column a) (packed_limbs AB.F.ring (from_column b)) (packed_limbs AB.F.ring (from_column message)))) }
 {
     let all = limbs_at(builder, sum)?;
     let first = limbs_at(builder, a)?;
@@ -43,10 +46,10 @@ fn assert_sum_of_two<AB: AirBuilder>(builder: &mut AB, sum: usize, c: usize, d: 
     requires within_c { c + 2 ≤ 9168 }
     requires within_d { d + 32 ≤ 9168 }
     ensures later { AB.later builder.old builder.new }
-    ensures same { AB.shape builder.new ≡ AB.shape builder.old }
+    ensures keeps_shape { AB.shape builder.new ≡ AB.shape builder.old }
     ensures answers { IsTrue AB.never_fails → IsOk result }
-    ensures grows { IfOk result (λ _. Appended AB.grows builder.old builder.new (add2_trees AB.F.ring (from_column sum) (from_column c) (packed_limbs AB.F.ring (from_column d)))) }
-    ensures refused { OnFailure result (AppendedSome AB.grows builder.old builder.new (add2_trees AB.F.ring (from_column sum) (from_column c) (packed_limbs AB.F.ring (from_column d)))) }
+    ensures appends { IfOk result (λ _. Appended AB.appends builder.old builder.new (add2_trees AB.F.ring (from_column sum) (from_column c) (packed_limbs AB.F.ring (from_column d)))) }
+    ensures on_error { OnFailure result (AppendedSome AB.appends builder.old builder.new (add2_trees AB.F.ring (from_column sum) (from_column c) (packed_limbs AB.F.ring (from_column d)))) }
 {
     let all = limbs_at(builder, sum)?;
     let first = limbs_at(builder, c)?;
@@ -69,10 +72,10 @@ pub fn assert_turned<AB: AirBuilder>(
     requires within_d { d + 32 ≤ 9168 }
     requires within_turned { turned + 32 ≤ 9168 }
     ensures later { AB.later builder.old builder.new }
-    ensures same { AB.shape builder.new ≡ AB.shape builder.old }
+    ensures keeps_shape { AB.shape builder.new ≡ AB.shape builder.old }
     ensures answers { IsTrue AB.never_fails → IsOk result }
-    ensures grows { IfOk result (λ _. Appended AB.grows builder.old builder.new (xor_shift_trees AB.F.ring (from_column a) (from_column d) (from_column turned) s)) }
-    ensures refused { OnFailure result (AppendedSome AB.grows builder.old builder.new (xor_shift_trees AB.F.ring (from_column a) (from_column d) (from_column turned) s)) }
+    ensures appends { IfOk result (λ _. Appended AB.appends builder.old builder.new (xor_shift_trees AB.F.ring (from_column a) (from_column d) (from_column turned) s)) }
+    ensures on_error { OnFailure result (AppendedSome AB.appends builder.old builder.new (xor_shift_trees AB.F.ring (from_column a) (from_column d) (from_column turned) s)) }
 {
     let limbs = limbs_at(builder, a)?;
     let bits = bits_at(builder, d)?;
@@ -101,10 +104,15 @@ pub fn assert_half<AB: AirBuilder>(
     requires within_after_d { after.d + 32 ≤ 9168 }
     requires within_message { message + 32 ≤ 9168 }
     ensures later { AB.later builder.old builder.new }
-    ensures same { AB.shape builder.new ≡ AB.shape builder.old }
+    ensures keeps_shape { AB.shape builder.new ≡ AB.shape builder.old }
     ensures answers { IsTrue AB.never_fails → IsOk result }
-    ensures grows { IfOk result (λ _. Appended AB.grows builder.old builder.new (half_trees AB.F.ring s t (from_column before.a) (from_column before.b) (from_column before.c) (from_column before.d) (from_column message) (from_column after.a) (from_column after.b) (from_column after.c) (from_column after.d))) }
-    ensures refused { OnFailure result (AppendedSome AB.grows builder.old builder.new (half_trees AB.F.ring s t (from_column before.a) (from_column before.b) (from_column before.c) (from_column before.d) (from_column message) (from_column after.a) (from_column after.b) (from_column after.c) (from_column after.d))) }
+    ensures appends { IfOk result (λ _. Appended AB.appends builder.old builder.new
+        (half_trees AB.F.ring s t (from_column before.a) (from_column before.b) (from_column before.c) (from_column before.d) (from_column message) (from_column after.a)
+        (from_column after.b) (from_column after.c) (from_column after.d))) }
+    ensures on_error { OnFailure result
+        (AppendedSome AB.appends builder.old builder.new
+        (half_trees AB.F.ring s t (from_column before.a) (from_column before.b) (from_column before.c) (from_column before.d) (from_column message) (from_column after.a)
+        (from_column after.b) (from_column after.c) (from_column after.d))) }
 {
     assert_sum_of_three(builder, after.a, before.a, before.b, message)?;
     assert_turned(builder, after.a, before.d, after.d, s)?;

@@ -1,7 +1,7 @@
 //! Where the words of the row stand.
 ghost use Rattle.std.specs.Prelude.{◌≡◌, ℕ, ◌+◌, ◌-◌, ◌*◌, ◌/◌, ◌%◌, ◌^◌, ◌<◌, ◌≤◌, List, [], ◌∷◌, length};
 ghost use Rattle.p3_blake3.specs.TraceRow.{turn_of, d_turn, b_turn, message_of};
-ghost use Rattle.p3_blake3_air.specs.Trees.{place_of, columns_of};
+ghost use Rattle.p3_blake3_air.specs.Trees.{place_of, columns_of_step};
 
 use p3_blake3::scheduled_word;
 
@@ -72,7 +72,7 @@ pub fn step_columns(m: usize, turn: usize, g: usize) -> Columns
     requires steps { g < 4 }
     requires states { m ≤ 28 }
     requires turns { turn < 2 }
-    ensures columns { result ≡ columns_of (place_of m) turn g }
+    ensures columns { result ≡ columns_of_step (place_of m) turn g }
     ensures a { result.a + 2 ≤ 9168 }
     ensures b { result.b + 32 ≤ 9168 }
     ensures c { result.c + 2 ≤ 9168 }

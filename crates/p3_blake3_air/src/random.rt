@@ -6,7 +6,7 @@ ghost use Rattle.p3_matrix.specs.Matrix.{height, row_at};
 ghost use Rattle.p3_blake3.specs.TraceRow.{trace_row};
 ghost use Rattle.p3_blake3.specs.Generated.{input_of};
 ghost use Rattle.p3_blake3.specs.declared.error.TraceError.TheVariants.{WrongCharacteristic, NoInput, NotPowerOfTwo, TooLong};
-ghost use Rattle.p3_blake3_air.specs.Rows.{row_words, rows_cells, IsTooLong};
+ghost use Rattle.p3_blake3_air.specs.Rows.{compression_input, rows_cells, IsTooLong};
 ghost use Rattle.p3_blake3_air.specs.Random.{state_after, random_word, random_input, random_inputs};
 
 use crate::air::Blake3Air;
@@ -66,7 +66,7 @@ impl Blake3Air {
     ) -> Result<RowMajorMatrix<F>, TraceError>
         ensures rows { IfOk result (λ m. m ≡ record { values = map (of_nat F.ring) (rows_cells (random_inputs num_hashes)); width = 9168 }) }
         ensures height { IfOk result (λ m. height m ≡ num_hashes) }
-        ensures row { IfOk result (λ m. (i : ℕ) → i < num_hashes → row_at m i ≡ trace_row F.ring (input_of (row_words (random_inputs num_hashes) i))) }
+        ensures row { IfOk result (λ m. (i : ℕ) → i < num_hashes → row_at m i ≡ trace_row F.ring (input_of (compression_input (random_inputs num_hashes) i))) }
         ensures done { IfOk result (λ m. IsPowerOfTwo num_hashes × (IsTooLong num_hashes extra_capacity_bits → ⊥)) }
         ensures not_power { (result ≡ Err NotPowerOfTwo) ↔ (IsPowerOfTwo num_hashes → ⊥) }
         ensures too_long { (result ≡ Err TooLong) ↔ (IsPowerOfTwo num_hashes × IsTooLong num_hashes extra_capacity_bits) }

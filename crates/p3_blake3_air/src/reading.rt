@@ -2,7 +2,7 @@
 ghost use Rattle.std.specs.Prelude.{◌≡◌, ℕ, ◌+◌, ◌*◌, ◌^◌, ◌<◌, ◌≤◌, List, [], ◌∷◌, IfOk, OnErr, IsOk, IsTrue, false, length, map};
 ghost use Rattle.p3_air.specs.declared.cells.Cell.TheVariants.{Main as MainCell};
 ghost use Rattle.p3_air.specs.Tree.{cell as cell_tree};
-ghost use Rattle.p3_air.specs.Gadgets.{StandAt};
+ghost use Rattle.p3_air.specs.Gadgets.{RepresentAt};
 ghost use Rattle.p3_blake3_air.specs.Trees.{from_column, packed_limbs};
 
 use p3_air::{AirBuilder, Cell, pack_bits_le};
@@ -12,10 +12,10 @@ use p3_field::Mem;
 pub fn cell_at<AB: AirBuilder>(builder: &mut AB, column: usize) -> Mem<AB::Expr>
     requires { column < (AB.shape builder.old).main }
     ensures later { AB.later builder.old builder.new }
-    ensures same { AB.shape builder.new ≡ AB.shape builder.old }
+    ensures keeps_shape { AB.shape builder.new ≡ AB.shape builder.old }
     ensures answers { IsTrue AB.never_fails → IsOk result }
-    ensures grows { AB.grows builder.old builder.new [] [] }
-    ensures stands { IfOk result (λ e. AB.stands builder.new e (cell_tree (MainCell false column))) }
+    ensures appends { AB.appends builder.old builder.new [] [] }
+    ensures represents { IfOk result (λ e. AB.represents builder.new e (cell_tree (MainCell false column))) }
 {
     builder.cell(Cell::Main {
         next: false,
@@ -28,10 +28,10 @@ pub fn limbs_at<AB: AirBuilder>(builder: &mut AB, column: usize) -> Mem<[AB::Exp
     requires wide { 9168 ≤ (AB.shape builder.old).main }
     requires within { column + 2 ≤ 9168 }
     ensures later { AB.later builder.old builder.new }
-    ensures same { AB.shape builder.new ≡ AB.shape builder.old }
+    ensures keeps_shape { AB.shape builder.new ≡ AB.shape builder.old }
     ensures answers { IsTrue AB.never_fails → IsOk result }
-    ensures grows { AB.grows builder.old builder.new [] [] }
-    ensures stands { IfOk result (λ es. StandAt (AB.stands builder.new) es (from_column column)) }
+    ensures appends { AB.appends builder.old builder.new [] [] }
+    ensures represents { IfOk result (λ es. RepresentAt (AB.represents builder.new) es (from_column column)) }
 {
     let first = cell_at(builder, column)?;
     let mut cells = [first; 2];
@@ -46,10 +46,10 @@ pub fn bits_at<AB: AirBuilder>(builder: &mut AB, column: usize) -> Mem<[AB::Expr
     requires wide { 9168 ≤ (AB.shape builder.old).main }
     requires within { column + 32 ≤ 9168 }
     ensures later { AB.later builder.old builder.new }
-    ensures same { AB.shape builder.new ≡ AB.shape builder.old }
+    ensures keeps_shape { AB.shape builder.new ≡ AB.shape builder.old }
     ensures answers { IsTrue AB.never_fails → IsOk result }
-    ensures grows { AB.grows builder.old builder.new [] [] }
-    ensures stands { IfOk result (λ es. StandAt (AB.stands builder.new) es (from_column column)) }
+    ensures appends { AB.appends builder.old builder.new [] [] }
+    ensures represents { IfOk result (λ es. RepresentAt (AB.represents builder.new) es (from_column column)) }
 {
     let first = cell_at(builder, column)?;
     let mut cells = [first; 32];
@@ -64,10 +64,10 @@ pub fn packed_at<AB: AirBuilder>(builder: &mut AB, column: usize) -> Mem<[AB::Ex
     requires wide { 9168 ≤ (AB.shape builder.old).main }
     requires within { column + 32 ≤ 9168 }
     ensures later { AB.later builder.old builder.new }
-    ensures same { AB.shape builder.new ≡ AB.shape builder.old }
+    ensures keeps_shape { AB.shape builder.new ≡ AB.shape builder.old }
     ensures answers { IsTrue AB.never_fails → IsOk result }
-    ensures grows { AB.grows builder.old builder.new [] [] }
-    ensures stands { IfOk result (λ es. StandAt (AB.stands builder.new) es (packed_limbs AB.F.ring (from_column column))) }
+    ensures appends { AB.appends builder.old builder.new [] [] }
+    ensures represents { IfOk result (λ es. RepresentAt (AB.represents builder.new) es (packed_limbs AB.F.ring (from_column column))) }
 {
     let bits = bits_at(builder, column)?;
     let all = &bits[..];

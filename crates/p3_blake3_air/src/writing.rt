@@ -7,7 +7,8 @@ ghost use Rattle.p3_air.specs.Words.{limb};
 use p3_air::u32_to_bits_le;
 use p3_field::{Field, RingCore};
 
-/// Writes the 32 bits of a word from place `at` on, the lowest first (own). All other cells stay.
+/// Writes the 32 bits of a word from place `at` on, the lowest first (not in Plonky3). All other cells
+/// stay.
 pub fn write_word<F: Field>(row: &mut [F], at: usize, word: u32)
     requires { at + 32 ≤ length row.old }
     ensures length { length row.new ≡ length row.old }
@@ -20,7 +21,8 @@ pub fn write_word<F: Field>(row: &mut [F], at: usize, word: u32)
     }
 }
 
-/// Writes the two limbs of 16 bits of a word from place `at` on, the low one first (own). All other cells stay.
+/// Writes the two limbs of 16 bits of a word from place `at` on, the low one first (not in Plonky3). All other
+/// cells stay.
 pub fn write_limbs<F: Field>(row: &mut [F], at: usize, word: u32)
     requires { at + 2 ≤ length row.old }
     ensures length { length row.new ≡ length row.old }

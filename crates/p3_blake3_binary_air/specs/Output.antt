@@ -3,7 +3,7 @@ use Rattle.std.specs.Prelude.{◌≡◌, ℕ, ◌+◌, ◌*◌, ◌^◌, ◌<◌
 use Rattle.std.specs.Prelude.{slice_index_or as get_or}
 use Rattle.std.specs.Int.{bit_at, rotate_left, w32}
 use Rattle.p3_field.specs.Ring.{Ring, of_nat}
-use Rattle.p3_blake3.specs.Compress.{Quarter, State, Input, chaining, word, step_of}
+use Rattle.p3_blake3.specs.Compress.{Quarter, State, Input, chaining, word, step_of_word}
 use Rattle.p3_blake3_binary_air.specs.Trees.{half_column}
 
 -- the cells from a column on are the bits of this word
@@ -16,7 +16,7 @@ step_words d1 b1 d2 b2 = record { a = bit_xor d1 (rotate_left w32 d2 8); b = b2;
 
 -- the last state, by these words of the last four steps, which are diagonals
 abbrev pub state_read : (d1 b1 d2 b2 : ℕ → ℕ) → State
-state_read d1 b1 d2 b2 row i = let g = step_of 1 row i in word (step_words (d1 g) (b1 g) (d2 g) (b2 g)) row
+state_read d1 b1 d2 b2 row i = let g = step_of_word 1 row i in word (step_words (d1 g) (b1 g) (d2 g) (b2 g)) row
 
 -- the cells that are read are the bits of these words
 pub record AreRead {F : Type 0} (r : Ring F) (row : List F) (x : Input) (d1 b1 d2 b2 : ℕ → ℕ) : Type 0 where

@@ -5,7 +5,7 @@ use Rattle.p3_field.specs.Ring.{Ring}
 use Rattle.p3_air.specs.Tree.{Tree}
 use Rattle.p3_air.specs.Gadgets.{number}
 use Rattle.p3_air.specs.Joined.{joined}
-use Rattle.p3_blake3.specs.Compress.{iv, column_of, step_of}
+use Rattle.p3_blake3.specs.Compress.{iv, column_of, step_of_word}
 use Rattle.p3_blake3.specs.TraceRow.{turn_of, d_turn, b_turn}
 use Rattle.p3_blake3_binary_air.specs.declared.words.Word.{Word}
 use Rattle.p3_blake3_binary_air.specs.declared.words.Word.TheVariants.{Column, Constant, Turned}
@@ -19,19 +19,19 @@ word_bit r (Constant w) = λ i. number r (bit_at w i)
 word_bit r (Turned x y s) = turned (from_column x) (from_column y) s
 
 -- they stand within the row
-abbrev pub IsWithin : Word → Type 0
-IsWithin (Column c) = c + 32 ≤ 11536
-IsWithin (Constant w) = 0 ≤ w
-IsWithin (Turned x y s) = (x + 32 ≤ 11536) × (y + 32 ≤ 11536)
+abbrev pub IsInRow : Word → Type 0
+IsInRow (Column c) = c + 32 ≤ 11536
+IsInRow (Constant w) = 0 ≤ w
+IsInRow (Turned x y s) = (x + 32 ≤ 11536) × (y + 32 ≤ 11536)
 
 -- where b and d stand after n half rounds
 abbrev pub b_place : ℕ → ℕ → ℕ
 b_place zero column = 128 + 32 * column
-b_place (suc n) column = half_column n (step_of (turn_of n) 1 column) + 63
+b_place (suc n) column = half_column n (step_of_word (turn_of n) 1 column) + 63
 
 abbrev pub d_place : ℕ → ℕ → ℕ
 d_place zero column = 768 + 32 * column
-d_place (suc n) column = half_column n (step_of (turn_of n) 3 column) + 31
+d_place (suc n) column = half_column n (step_of_word (turn_of n) 3 column) + 31
 
 -- a after it is d before it xor (d after it, turned back), and c likewise by b
 abbrev pub a_turned : ℕ → ℕ → Word
@@ -42,11 +42,11 @@ c_turned n g = Turned (b_place n (column_of (turn_of n) 1 g)) (half_column n g +
 
 abbrev pub a_word : ℕ → ℕ → Word
 a_word zero column = Column (32 * column)
-a_word (suc n) column = a_turned n (step_of (turn_of n) 0 column)
+a_word (suc n) column = a_turned n (step_of_word (turn_of n) 0 column)
 
 abbrev pub c_word : ℕ → ℕ → Word
 c_word zero column = Constant (iv column)
-c_word (suc n) column = c_turned n (step_of (turn_of n) 2 column)
+c_word (suc n) column = c_turned n (step_of_word (turn_of n) 2 column)
 
 -- the two sums of half a step on words in these places, where its own cells stand from k on: a + b and the message word,
 -- then c + d
@@ -63,5 +63,5 @@ unfoldable pub placed_trees : {F : Type 0} → Ring F → ℕ → ℕ → Word �
 placed_trees r s t a b c d m k = first_sum_trees r s a b d m k ++ second_sum_trees r t c b k
 
 -- step k of the 56: its two halves
-unfoldable pub step_trees : {F : Type 0} → Ring F → ℕ → List (Tree F)
-step_trees r k = joined 2 (λ h. half_step_trees r (2 * (k / 4) + h) (k % 4))
+unfoldable pub binary_step_trees : {F : Type 0} → Ring F → ℕ → List (Tree F)
+binary_step_trees r k = joined 2 (λ h. half_step_trees r (2 * (k / 4) + h) (k % 4))

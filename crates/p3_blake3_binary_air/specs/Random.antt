@@ -1,7 +1,7 @@
 -- The words that the random inputs are made of: those of the generator xoshiro256++ from the seed 1, each cut to its low
 -- 32 bits, in order.
 use Rattle.std.specs.Prelude.{ℕ, zero, suc, ◌+◌, ◌*◌, ◌%◌, ◌^◌, List}
-use Rattle.p3_field.specs.Poly.{table}
+use Rattle.p3_field.specs.Poly.{tabulate}
 use Rattle.rand_xoshiro.specs.SplitMix64.{splitmix_seed}
 use Rattle.rand_xoshiro.specs.Xoshiro256.{of_seed, plus_plus}
 use Rattle.p3_blake3_binary_air.specs.declared.input.Blake3CompressionInput.{Blake3CompressionInput}
@@ -17,13 +17,13 @@ random_word n = (plus_plus (state_after n)).0 % 2 ^ 32
 
 -- the words from word n on
 abbrev pub random_words : ℕ → ℕ → List ℕ
-random_words n many = table many (λ k. random_word (n + k))
+random_words n many = tabulate many (λ k. random_word (n + k))
 
 -- compression i: the next 8 words are the chaining value, the 16 after these the block, the counter is i, the block is whole
 -- (64 bytes), and there are no flags
-abbrev pub random_input : ℕ → Blake3CompressionInput
-random_input i = record { chaining_value = random_words (24 * i) 8; block = random_words (24 * i + 8) 16; counter = i; block_len = 64; flags = 0 }
+abbrev pub binary_random_input : ℕ → Blake3CompressionInput
+binary_random_input i = record { chaining_value = random_words (24 * i) 8; block = random_words (24 * i + 8) 16; counter = i; block_len = 64; flags = 0 }
 
 -- the inputs of so many compressions
-abbrev pub random_inputs : ℕ → List Blake3CompressionInput
-random_inputs rows = table rows random_input
+abbrev pub binary_random_inputs : ℕ → List Blake3CompressionInput
+binary_random_inputs rows = tabulate rows binary_random_input

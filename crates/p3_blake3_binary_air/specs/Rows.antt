@@ -1,7 +1,7 @@
 -- The rows that the generators give.
 use Rattle.std.specs.Prelude.{ℕ, ◌*◌, ◌/◌, ◌%◌, ◌^◌, ◌≤◌, List, [], ◌∷◌, ◌++◌, length}
 use Rattle.std.specs.Prelude.{slice_index_or as get_or}
-use Rattle.p3_field.specs.Poly.{table}
+use Rattle.p3_field.specs.Poly.{tabulate}
 use Rattle.p3_air.specs.Joined.{joined}
 use Rattle.p3_blake3.specs.Compress.{Input}
 use Rattle.p3_blake3.specs.Generated.{input_of}
@@ -15,8 +15,8 @@ nothing = record { chaining_value = []; block = []; counter = 0; block_len = 0; 
 -- the 28 words of a compression: the block, the chaining value, the counter by halves, the length and the flags
 abbrev pub compression_words : Blake3CompressionInput → List ℕ
 compression_words i =
-    table 16 (λ k. get_or i.block k 0)
-    ++ table 8 (λ k. get_or i.chaining_value k 0)
+    tabulate 16 (λ k. get_or i.block k 0)
+    ++ tabulate 8 (λ k. get_or i.chaining_value k 0)
     ++ i.counter % 2 ^ 32 ∷ i.counter / 2 ^ 32 % 2 ^ 32 ∷ i.block_len ∷ i.flags ∷ []
 
 -- what compression i compresses
@@ -28,5 +28,5 @@ unfoldable pub binary_rows : List Blake3CompressionInput → List ℕ
 binary_rows inputs = joined (length inputs) (λ i. binary_cells (compression inputs i))
 
 -- the cells of so many rows times 2^extra are more than 64 bits count
-abbrev pub IsTooLong : ℕ → ℕ → Type 0
-IsTooLong rows extra = 2 ^ 64 ≤ rows * 11536 * 2 ^ extra
+abbrev pub IsBinaryTooLong : ℕ → ℕ → Type 0
+IsBinaryTooLong rows extra = 2 ^ 64 ≤ rows * 11536 * 2 ^ extra

@@ -1,8 +1,8 @@
 //! Sums of words by bits as constraints, where one and one is zero. Each function takes the bits as expressions.
 ghost use Rattle.std.specs.Prelude.{◌≡◌, ℕ, suc, ◌+◌, ◌-◌, ◌%◌, ◌<◌, List, [], ◌∷◌, ◌++◌, IfOk, OnErr, IsOk, IsTrue, length, map};
-ghost use Rattle.p3_field.specs.Poly.{table};
+ghost use Rattle.p3_field.specs.Poly.{tabulate};
 ghost use Rattle.p3_air.specs.Tree.{Tree, sum, product, over_base};
-ghost use Rattle.p3_air.specs.Gadgets.{StandAt};
+ghost use Rattle.p3_air.specs.Gadgets.{RepresentAt};
 ghost use Rattle.p3_air.specs.Joined.{joined};
 ghost use Rattle.p3_air.specs.Appended.{Appended, AppendedSome, OnFailure};
 ghost use Rattle.p3_blake3_binary_air.specs.Sums.{majority, carry_in, with_carries, carries_trees, sum2_trees, sum3_trees, turned};
@@ -18,10 +18,11 @@ fn majority<AB: AirBuilder>(
     z: AB::Expr,
 ) -> Mem<AB::Expr>
     ensures later { AB.later builder.old builder.new }
-    ensures same { AB.shape builder.new ≡ AB.shape builder.old }
+    ensures keeps_shape { AB.shape builder.new ≡ AB.shape builder.old }
     ensures answers { IsTrue AB.never_fails → IsOk result }
-    ensures grows { AB.grows builder.old builder.new [] [] }
-    ensures stands { (s t u : Tree AB.F) → AB.stands builder.old x s → AB.stands builder.old y t → AB.stands builder.old z u → IfOk result (λ e. AB.stands builder.new e (majority s t u)) }
+    ensures appends { AB.appends builder.old builder.new [] [] }
+    ensures represents { (s t u : Tree AB.F) → AB.represents builder.old x s → AB.represents builder.old y t → AB.represents builder.old z u
+        → IfOk result (λ e. AB.represents builder.new e (majority s t u)) }
 {
     let first = builder.add(x, z)?;
     let second = builder.add(y, z)?;
@@ -38,10 +39,11 @@ fn sum_of_three<AB: AirBuilder>(
     z: AB::Expr,
 ) -> Mem<AB::Expr>
     ensures later { AB.later builder.old builder.new }
-    ensures same { AB.shape builder.new ≡ AB.shape builder.old }
+    ensures keeps_shape { AB.shape builder.new ≡ AB.shape builder.old }
     ensures answers { IsTrue AB.never_fails → IsOk result }
-    ensures grows { AB.grows builder.old builder.new [] [] }
-    ensures stands { (s t u : Tree AB.F) → AB.stands builder.old x s → AB.stands builder.old y t → AB.stands builder.old z u → IfOk result (λ e. AB.stands builder.new e (sum (sum s t) u)) }
+    ensures appends { AB.appends builder.old builder.new [] [] }
+    ensures represents { (s t u : Tree AB.F) → AB.represents builder.old x s → AB.represents builder.old y t → AB.represents builder.old z u
+        → IfOk result (λ e. AB.represents builder.new e (sum (sum s t) u)) }
 {
     let first = builder.add(x, y)?;
     let all = builder.add(first, z)?;
@@ -56,11 +58,11 @@ pub fn turned_bits<AB: AirBuilder>(
     s: usize,
 ) -> Mem<[AB::Expr; 32]>
     ensures later { AB.later builder.old builder.new }
-    ensures same { AB.shape builder.new ≡ AB.shape builder.old }
+    ensures keeps_shape { AB.shape builder.new ≡ AB.shape builder.old }
     ensures answers { IsTrue AB.never_fails → IsOk result }
-    ensures grows { AB.grows builder.old builder.new [] [] }
-    ensures stands { (t u : ℕ → Tree AB.F) → StandAt (AB.stands builder.old) x t → StandAt (AB.stands builder.old) y u
-        → IfOk result (λ es. StandAt (AB.stands builder.new) es (turned t u s)) }
+    ensures appends { AB.appends builder.old builder.new [] [] }
+    ensures represents { (t u : ℕ → Tree AB.F) → RepresentAt (AB.represents builder.old) x t → RepresentAt (AB.represents builder.old) y u
+        → IfOk result (λ es. RepresentAt (AB.represents builder.new) es (turned t u s)) }
 {
     let mut bits = [x[0]; 32];
     for i in 0..32 {
@@ -77,11 +79,11 @@ fn carries_in<AB: AirBuilder>(
     s: [AB::Expr; 32],
 ) -> Mem<[AB::Expr; 32]>
     ensures later { AB.later builder.old builder.new }
-    ensures same { AB.shape builder.new ≡ AB.shape builder.old }
+    ensures keeps_shape { AB.shape builder.new ≡ AB.shape builder.old }
     ensures answers { IsTrue AB.never_fails → IsOk result }
-    ensures grows { AB.grows builder.old builder.new [] [] }
-    ensures stands { (t u v : ℕ → Tree AB.F) → StandAt (AB.stands builder.old) x t → StandAt (AB.stands builder.old) y u → StandAt (AB.stands builder.old) s v
-        → IfOk result (λ es. StandAt (AB.stands builder.new) es (carry_in t u v)) }
+    ensures appends { AB.appends builder.old builder.new [] [] }
+    ensures represents { (t u v : ℕ → Tree AB.F) → RepresentAt (AB.represents builder.old) x t → RepresentAt (AB.represents builder.old) y u → RepresentAt (AB.represents builder.old) s v
+        → IfOk result (λ es. RepresentAt (AB.represents builder.new) es (carry_in t u v)) }
 {
     let mut carries = [s[0]; 32];
     for i in 0..32 {
@@ -100,11 +102,11 @@ fn carried_bit<AB: AirBuilder>(
 ) -> Mem<AB::Expr>
     requires { i < 32 }
     ensures later { AB.later builder.old builder.new }
-    ensures same { AB.shape builder.new ≡ AB.shape builder.old }
+    ensures keeps_shape { AB.shape builder.new ≡ AB.shape builder.old }
     ensures answers { IsTrue AB.never_fails → IsOk result }
-    ensures grows { AB.grows builder.old builder.new [] [] }
-    ensures stands { (t u v : ℕ → Tree AB.F) → StandAt (AB.stands builder.old) x.now t → StandAt (AB.stands builder.old) y.now u → StandAt (AB.stands builder.old) k.now v
-        → IfOk result (λ e. AB.stands builder.new e (with_carries t u v i)) }
+    ensures appends { AB.appends builder.old builder.new [] [] }
+    ensures represents { (t u v : ℕ → Tree AB.F) → RepresentAt (AB.represents builder.old) x.now t → RepresentAt (AB.represents builder.old) y.now u → RepresentAt (AB.represents builder.old) k.now v
+        → IfOk result (λ e. AB.represents builder.new e (with_carries t u v i)) }
 {
     if i == 0 {
         builder.add(x[0], y[0])
@@ -121,11 +123,11 @@ fn carried_bits<AB: AirBuilder>(
     k: [AB::Expr; 31],
 ) -> Mem<[AB::Expr; 32]>
     ensures later { AB.later builder.old builder.new }
-    ensures same { AB.shape builder.new ≡ AB.shape builder.old }
+    ensures keeps_shape { AB.shape builder.new ≡ AB.shape builder.old }
     ensures answers { IsTrue AB.never_fails → IsOk result }
-    ensures grows { AB.grows builder.old builder.new [] [] }
-    ensures stands { (t u v : ℕ → Tree AB.F) → StandAt (AB.stands builder.old) x t → StandAt (AB.stands builder.old) y u → StandAt (AB.stands builder.old) k v
-        → IfOk result (λ es. StandAt (AB.stands builder.new) es (with_carries t u v)) }
+    ensures appends { AB.appends builder.old builder.new [] [] }
+    ensures represents { (t u v : ℕ → Tree AB.F) → RepresentAt (AB.represents builder.old) x t → RepresentAt (AB.represents builder.old) y u → RepresentAt (AB.represents builder.old) k v
+        → IfOk result (λ es. RepresentAt (AB.represents builder.new) es (with_carries t u v)) }
 {
     let mut bits = [x[0]; 32];
     for i in 0..32 {
@@ -143,11 +145,11 @@ fn assert_next<AB: AirBuilder>(
     next: AB::Expr,
 ) -> Mem<()>
     ensures later { AB.later builder.old builder.new }
-    ensures same { AB.shape builder.new ≡ AB.shape builder.old }
+    ensures keeps_shape { AB.shape builder.new ≡ AB.shape builder.old }
     ensures answers { IsTrue AB.never_fails → IsOk result }
-    ensures grows { (s t u v : Tree AB.F) → AB.stands builder.old x s → AB.stands builder.old y t → AB.stands builder.old carry u → AB.stands builder.old next v
-        → IfOk result (λ _. AB.grows builder.old builder.new (over_base (sum (majority s t u) v) ∷ []) []) }
-    ensures refused { OnErr result (AB.grows builder.old builder.new [] []) }
+    ensures appends { (s t u v : Tree AB.F) → AB.represents builder.old x s → AB.represents builder.old y t → AB.represents builder.old carry u → AB.represents builder.old next v
+        → IfOk result (λ _. AB.appends builder.old builder.new (over_base (sum (majority s t u) v) ∷ []) []) }
+    ensures on_error { OnErr result (AB.appends builder.old builder.new [] []) }
 {
     let both = majority(builder, x, y, carry)?;
     let all = builder.add(both, next)?;
@@ -163,12 +165,12 @@ fn assert_carries_in<AB: AirBuilder>(
     carries: [AB::Expr; 32],
 ) -> Mem<()>
     ensures later { AB.later builder.old builder.new }
-    ensures same { AB.shape builder.new ≡ AB.shape builder.old }
+    ensures keeps_shape { AB.shape builder.new ≡ AB.shape builder.old }
     ensures answers { IsTrue AB.never_fails → IsOk result }
-    ensures grows { (t u v : ℕ → Tree AB.F) → StandAt (AB.stands builder.old) x t → StandAt (AB.stands builder.old) y u → StandAt (AB.stands builder.old) carries v
-        → IfOk result (λ _. Appended AB.grows builder.old builder.new (table 31 (λ i. sum (majority (t i) (u i) (v i)) (v (suc i))))) }
-    ensures refused { (t u v : ℕ → Tree AB.F) → StandAt (AB.stands builder.old) x t → StandAt (AB.stands builder.old) y u → StandAt (AB.stands builder.old) carries v
-        → OnFailure result (AppendedSome AB.grows builder.old builder.new (table 31 (λ i. sum (majority (t i) (u i) (v i)) (v (suc i))))) }
+    ensures appends { (t u v : ℕ → Tree AB.F) → RepresentAt (AB.represents builder.old) x t → RepresentAt (AB.represents builder.old) y u → RepresentAt (AB.represents builder.old) carries v
+        → IfOk result (λ _. Appended AB.appends builder.old builder.new (tabulate 31 (λ i. sum (majority (t i) (u i) (v i)) (v (suc i))))) }
+    ensures on_error { (t u v : ℕ → Tree AB.F) → RepresentAt (AB.represents builder.old) x t → RepresentAt (AB.represents builder.old) y u → RepresentAt (AB.represents builder.old) carries v
+        → OnFailure result (AppendedSome AB.appends builder.old builder.new (tabulate 31 (λ i. sum (majority (t i) (u i) (v i)) (v (suc i))))) }
 {
     for i in 0..31 {
         assert_next(builder, x[i], y[i], carries[i], carries[i + 1])?;
@@ -185,12 +187,12 @@ pub fn assert_sum2<AB: AirBuilder>(
     s: [AB::Expr; 32],
 ) -> Mem<()>
     ensures later { AB.later builder.old builder.new }
-    ensures same { AB.shape builder.new ≡ AB.shape builder.old }
+    ensures keeps_shape { AB.shape builder.new ≡ AB.shape builder.old }
     ensures answers { IsTrue AB.never_fails → IsOk result }
-    ensures grows { (t u v : ℕ → Tree AB.F) → StandAt (AB.stands builder.old) x t → StandAt (AB.stands builder.old) y u → StandAt (AB.stands builder.old) s v
-        → IfOk result (λ _. Appended AB.grows builder.old builder.new (sum2_trees t u v)) }
-    ensures refused { (t u v : ℕ → Tree AB.F) → StandAt (AB.stands builder.old) x t → StandAt (AB.stands builder.old) y u → StandAt (AB.stands builder.old) s v
-        → OnFailure result (AppendedSome AB.grows builder.old builder.new (sum2_trees t u v)) }
+    ensures appends { (t u v : ℕ → Tree AB.F) → RepresentAt (AB.represents builder.old) x t → RepresentAt (AB.represents builder.old) y u → RepresentAt (AB.represents builder.old) s v
+        → IfOk result (λ _. Appended AB.appends builder.old builder.new (sum2_trees t u v)) }
+    ensures on_error { (t u v : ℕ → Tree AB.F) → RepresentAt (AB.represents builder.old) x t → RepresentAt (AB.represents builder.old) y u → RepresentAt (AB.represents builder.old) s v
+        → OnFailure result (AppendedSome AB.appends builder.old builder.new (sum2_trees t u v)) }
 {
     let carries = carries_in(builder, x, y, s)?;
     builder.assert_zero(carries[0])?;
@@ -206,11 +208,11 @@ fn assert_first_carry<AB: AirBuilder>(
     carry: AB::Expr,
 ) -> Mem<()>
     ensures later { AB.later builder.old builder.new }
-    ensures same { AB.shape builder.new ≡ AB.shape builder.old }
+    ensures keeps_shape { AB.shape builder.new ≡ AB.shape builder.old }
     ensures answers { IsTrue AB.never_fails → IsOk result }
-    ensures grows { (s t u : Tree AB.F) → AB.stands builder.old x s → AB.stands builder.old y t → AB.stands builder.old carry u
-        → IfOk result (λ _. AB.grows builder.old builder.new (over_base (sum (product s t) u) ∷ []) []) }
-    ensures refused { OnErr result (AB.grows builder.old builder.new [] []) }
+    ensures appends { (s t u : Tree AB.F) → AB.represents builder.old x s → AB.represents builder.old y t → AB.represents builder.old carry u
+        → IfOk result (λ _. AB.appends builder.old builder.new (over_base (sum (product s t) u) ∷ []) []) }
+    ensures on_error { OnErr result (AB.appends builder.old builder.new [] []) }
 {
     let both = builder.mul(x, y)?;
     let all = builder.add(both, carry)?;
@@ -226,12 +228,12 @@ fn assert_later_carries<AB: AirBuilder>(
     k: [AB::Expr; 31],
 ) -> Mem<()>
     ensures later { AB.later builder.old builder.new }
-    ensures same { AB.shape builder.new ≡ AB.shape builder.old }
+    ensures keeps_shape { AB.shape builder.new ≡ AB.shape builder.old }
     ensures answers { IsTrue AB.never_fails → IsOk result }
-    ensures grows { (t u v : ℕ → Tree AB.F) → StandAt (AB.stands builder.old) x t → StandAt (AB.stands builder.old) y u → StandAt (AB.stands builder.old) k v
-        → IfOk result (λ _. Appended AB.grows builder.old builder.new (table 30 (λ i. sum (majority (t (suc i)) (u (suc i)) (v i)) (v (suc i))))) }
-    ensures refused { (t u v : ℕ → Tree AB.F) → StandAt (AB.stands builder.old) x t → StandAt (AB.stands builder.old) y u → StandAt (AB.stands builder.old) k v
-        → OnFailure result (AppendedSome AB.grows builder.old builder.new (table 30 (λ i. sum (majority (t (suc i)) (u (suc i)) (v i)) (v (suc i))))) }
+    ensures appends { (t u v : ℕ → Tree AB.F) → RepresentAt (AB.represents builder.old) x t → RepresentAt (AB.represents builder.old) y u → RepresentAt (AB.represents builder.old) k v
+        → IfOk result (λ _. Appended AB.appends builder.old builder.new (tabulate 30 (λ i. sum (majority (t (suc i)) (u (suc i)) (v i)) (v (suc i))))) }
+    ensures on_error { (t u v : ℕ → Tree AB.F) → RepresentAt (AB.represents builder.old) x t → RepresentAt (AB.represents builder.old) y u → RepresentAt (AB.represents builder.old) k v
+        → OnFailure result (AppendedSome AB.appends builder.old builder.new (tabulate 30 (λ i. sum (majority (t (suc i)) (u (suc i)) (v i)) (v (suc i))))) }
 {
     for i in 0..30 {
         assert_next(builder, x[i + 1], y[i + 1], k[i], k[i + 1])?;
@@ -247,12 +249,12 @@ fn assert_carries<AB: AirBuilder>(
     k: [AB::Expr; 31],
 ) -> Mem<()>
     ensures later { AB.later builder.old builder.new }
-    ensures same { AB.shape builder.new ≡ AB.shape builder.old }
+    ensures keeps_shape { AB.shape builder.new ≡ AB.shape builder.old }
     ensures answers { IsTrue AB.never_fails → IsOk result }
-    ensures grows { (t u v : ℕ → Tree AB.F) → StandAt (AB.stands builder.old) x t → StandAt (AB.stands builder.old) y u → StandAt (AB.stands builder.old) k v
-        → IfOk result (λ _. Appended AB.grows builder.old builder.new (carries_trees t u v)) }
-    ensures refused { (t u v : ℕ → Tree AB.F) → StandAt (AB.stands builder.old) x t → StandAt (AB.stands builder.old) y u → StandAt (AB.stands builder.old) k v
-        → OnFailure result (AppendedSome AB.grows builder.old builder.new (carries_trees t u v)) }
+    ensures appends { (t u v : ℕ → Tree AB.F) → RepresentAt (AB.represents builder.old) x t → RepresentAt (AB.represents builder.old) y u → RepresentAt (AB.represents builder.old) k v
+        → IfOk result (λ _. Appended AB.appends builder.old builder.new (carries_trees t u v)) }
+    ensures on_error { (t u v : ℕ → Tree AB.F) → RepresentAt (AB.represents builder.old) x t → RepresentAt (AB.represents builder.old) y u → RepresentAt (AB.represents builder.old) k v
+        → OnFailure result (AppendedSome AB.appends builder.old builder.new (carries_trees t u v)) }
 {
     assert_first_carry(builder, x[0], y[0], k[0])?;
     assert_later_carries(builder, x, y, k)?;
@@ -269,14 +271,14 @@ pub fn assert_sum3<AB: AirBuilder>(
     s: [AB::Expr; 32],
 ) -> Mem<()>
     ensures later { AB.later builder.old builder.new }
-    ensures same { AB.shape builder.new ≡ AB.shape builder.old }
+    ensures keeps_shape { AB.shape builder.new ≡ AB.shape builder.old }
     ensures answers { IsTrue AB.never_fails → IsOk result }
-    ensures grows { (t u v w p : ℕ → Tree AB.F) → StandAt (AB.stands builder.old) x t → StandAt (AB.stands builder.old) y u → StandAt (AB.stands builder.old) z v
-        → StandAt (AB.stands builder.old) k w → StandAt (AB.stands builder.old) s p
-        → IfOk result (λ _. Appended AB.grows builder.old builder.new (sum3_trees t u v w p)) }
-    ensures refused { (t u v w p : ℕ → Tree AB.F) → StandAt (AB.stands builder.old) x t → StandAt (AB.stands builder.old) y u → StandAt (AB.stands builder.old) z v
-        → StandAt (AB.stands builder.old) k w → StandAt (AB.stands builder.old) s p
-        → OnFailure result (AppendedSome AB.grows builder.old builder.new (sum3_trees t u v w p)) }
+    ensures appends { (t u v w p : ℕ → Tree AB.F) → RepresentAt (AB.represents builder.old) x t → RepresentAt (AB.represents builder.old) y u → RepresentAt (AB.represents builder.old) z v
+        → RepresentAt (AB.represents builder.old) k w → RepresentAt (AB.represents builder.old) s p
+        → IfOk result (λ _. Appended AB.appends builder.old builder.new (sum3_trees t u v w p)) }
+    ensures on_error { (t u v w p : ℕ → Tree AB.F) → RepresentAt (AB.represents builder.old) x t → RepresentAt (AB.represents builder.old) y u → RepresentAt (AB.represents builder.old) z v
+        → RepresentAt (AB.represents builder.old) k w → RepresentAt (AB.represents builder.old) s p
+        → OnFailure result (AppendedSome AB.appends builder.old builder.new (sum3_trees t u v w p)) }
 {
     assert_carries(builder, x, y, k)?;
     let both = carried_bits(builder, x, y, k)?;

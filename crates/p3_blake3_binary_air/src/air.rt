@@ -51,10 +51,10 @@ fn assert_bit<AB: AirBuilder>(builder: &mut AB, column: usize) -> Mem<()>
     requires wide { 11536 ≤ (AB.shape builder.old).main }
     requires within_column { column < 11536 }
     ensures later { AB.later builder.old builder.new }
-    ensures same { AB.shape builder.new ≡ AB.shape builder.old }
+    ensures keeps_shape { AB.shape builder.new ≡ AB.shape builder.old }
     ensures answers { IsTrue AB.never_fails → IsOk result }
-    ensures grows { IfOk result (λ _. Appended AB.grows builder.old builder.new (bool_tree AB.F.ring.one (cell_tree (MainCell false column)) ∷ [])) }
-    ensures refused { OnFailure result (AppendedSome AB.grows builder.old builder.new (bool_tree AB.F.ring.one (cell_tree (MainCell false column)) ∷ [])) }
+    ensures appends { IfOk result (λ _. Appended AB.appends builder.old builder.new (bool_tree AB.F.ring.one (cell_tree (MainCell false column)) ∷ [])) }
+    ensures on_error { OnFailure result (AppendedSome AB.appends builder.old builder.new (bool_tree AB.F.ring.one (cell_tree (MainCell false column)) ∷ [])) }
 {
     let cell = cell_at(builder, column)?;
     builder.assert_bool(cell)?;
@@ -66,10 +66,10 @@ fn assert_bits<AB: AirBuilder>(builder: &mut AB, column: usize, n: usize) -> Mem
     requires wide { 11536 ≤ (AB.shape builder.old).main }
     requires within_column { column + n ≤ 11536 }
     ensures later { AB.later builder.old builder.new }
-    ensures same { AB.shape builder.new ≡ AB.shape builder.old }
+    ensures keeps_shape { AB.shape builder.new ≡ AB.shape builder.old }
     ensures answers { IsTrue AB.never_fails → IsOk result }
-    ensures grows { IfOk result (λ _. Appended AB.grows builder.old builder.new (bits_trees AB.F.ring column n)) }
-    ensures refused { OnFailure result (AppendedSome AB.grows builder.old builder.new (bits_trees AB.F.ring column n)) }
+    ensures appends { IfOk result (λ _. Appended AB.appends builder.old builder.new (bits_trees AB.F.ring column n)) }
+    ensures on_error { OnFailure result (AppendedSome AB.appends builder.old builder.new (bits_trees AB.F.ring column n)) }
 {
     for i in 0..n {
         assert_bit(builder, column + i)?;
@@ -81,10 +81,10 @@ fn assert_bits<AB: AirBuilder>(builder: &mut AB, column: usize, n: usize) -> Mem
 fn assert_all<AB: AirBuilder>(builder: &mut AB) -> Mem<()>
     requires wide { 11536 ≤ (AB.shape builder.old).main }
     ensures later { AB.later builder.old builder.new }
-    ensures same { AB.shape builder.new ≡ AB.shape builder.old }
+    ensures keeps_shape { AB.shape builder.new ≡ AB.shape builder.old }
     ensures answers { IsTrue AB.never_fails → IsOk result }
-    ensures grows { IfOk result (λ _. Appended AB.grows builder.old builder.new (binary_trees AB.F.ring)) }
-    ensures refused { OnFailure result (AppendedSome AB.grows builder.old builder.new (binary_trees AB.F.ring)) }
+    ensures appends { IfOk result (λ _. Appended AB.appends builder.old builder.new (binary_trees AB.F.ring)) }
+    ensures on_error { OnFailure result (AppendedSome AB.appends builder.old builder.new (binary_trees AB.F.ring)) }
 {
     assert_bits(builder, 0, 896)?;
     assert_steps(builder)?;
@@ -95,10 +95,10 @@ fn assert_all<AB: AirBuilder>(builder: &mut AB) -> Mem<()>
 fn assert_chosen<AB: AirBuilder>(builder: &mut AB, boolean_trace: bool) -> Mem<()>
     requires wide { 11536 ≤ (AB.shape builder.old).main }
     ensures later { AB.later builder.old builder.new }
-    ensures same { AB.shape builder.new ≡ AB.shape builder.old }
+    ensures keeps_shape { AB.shape builder.new ≡ AB.shape builder.old }
     ensures answers { IsTrue AB.never_fails → IsOk result }
-    ensures grows { IfOk result (λ _. Appended AB.grows builder.old builder.new (air_trees AB.F.ring boolean_trace)) }
-    ensures refused { OnFailure result (AppendedSome AB.grows builder.old builder.new (air_trees AB.F.ring boolean_trace)) }
+    ensures appends { IfOk result (λ _. Appended AB.appends builder.old builder.new (air_trees AB.F.ring boolean_trace)) }
+    ensures on_error { OnFailure result (AppendedSome AB.appends builder.old builder.new (air_trees AB.F.ring boolean_trace)) }
 {
     if boolean_trace {
         assert_steps(builder)

@@ -154,7 +154,7 @@ impl<'a, T> Blake3BinaryGCols<'a, T> {
     }
 }
 
-// The bit that an element stands for.
+// The bit that an element represents.
 fn bit_of<F: Field>(x: F) -> u32
     ensures below { result < 2 }
     ensures bit { (b : ℕ) → b < 2 → x ≡ of_nat F.ring b → result ≡ b }
@@ -206,7 +206,7 @@ fn chaining_word<F: Field>(row: &[F], i: usize) -> u32
 impl<'a, F: Field> Blake3BinaryCols<'a, F> {
     /// The 16 words of the output: where the cells of the chaining value and of d and b in the last four steps are the bits of
     /// words, those that these words give (`words`). So of a compression's row they are the compression of its 28 words
-    /// (`compressed`). Where the cells are no bits, one that isn't zero counts as one (own).
+    /// (`compressed`). Where the cells are no bits, one that isn't zero counts as one (not in Plonky3).
     pub fn compression_output(&self) -> [u32; 16]
         ensures words { (x : Input) (d1 b1 d2 b2 : ℕ → ℕ) → AreRead F.ring self.now.row.now x d1 b1 d2 b2
             → result ≡ words_of (output_of x (state_read d1 b1 d2 b2)) }

@@ -2,17 +2,17 @@
 ghost use Rattle.std.specs.Prelude.{◌≡◌, ℕ, ◌+◌, ◌*◌, ◌^◌, ◌<◌, ◌≤◌, suc, List, [], ◌∷◌, ◌++◌, IfOk, MatchOption, MatchResult, Err, ◌↔◌, ◌⊎◌, slice_index_or, length, map};
 ghost use Rattle.std.specs.Int.{bit_at, IsPowerOfTwo};
 ghost use Rattle.p3_field.specs.Ring.{of_nat};
-ghost use Rattle.p3_field.specs.Poly.{table};
+ghost use Rattle.p3_field.specs.Poly.{tabulate};
 ghost use Rattle.p3_matrix.specs.Matrix.{height, row_at};
 ghost use Rattle.p3_air.specs.Joined.{joined};
-ghost use Rattle.p3_blake3.specs.Compress.{Input, State, first_state, taken, half};
+ghost use Rattle.p3_blake3.specs.Compress.{Input, State, first_state, words_taken, half_quarter_round};
 ghost use Rattle.p3_blake3.specs.TraceRow.{bit_cells, turn_of, d_turn, b_turn, message_of, state};
 ghost use Rattle.p3_blake3.specs.Generated.{AreFirst, IsState, input_of, Pushed};
 ghost use Rattle.p3_blake3.specs.declared.error.TraceError.TheVariants.{WrongCharacteristic, NoInput, NotPowerOfTwo, TooLong, OutOfMemory};
 ghost use Rattle.p3_blake3_binary_air.specs.Sums.{carry};
 ghost use Rattle.p3_blake3_binary_air.specs.Trees.{laid};
 ghost use Rattle.p3_blake3_binary_air.specs.Row.{quarter_cells, half_cells, binary_cells, binary_trace_row};
-ghost use Rattle.p3_blake3_binary_air.specs.Rows.{compression_words, compression, nothing, binary_rows, IsTooLong};
+ghost use Rattle.p3_blake3_binary_air.specs.Rows.{compression_words, compression, nothing, binary_rows, IsBinaryTooLong};
 
 use crate::input::Blake3CompressionInput;
 use p3_blake3::{
@@ -40,7 +40,7 @@ fn carry_word(a: u32, b: u32) -> u32
 
 // Pushes the carries of a sum into places 1 to 31.
 fn push_carries<F: Field>(values: &mut Vec<F>, a: u32, b: u32) -> Mem<()>
-    ensures { IfOk result (λ _. Pushed F.ring values.old.items values.new.items (table 31 (λ i. carry a b (suc i)))) }
+    ensures { IfOk result (λ _. Pushed F.ring values.old.items values.new.items (tabulate 31 (λ i. carry a b (suc i)))) }
 {
     let carries = carry_word(a, b);
     for i in 0..31 {
@@ -71,7 +71,8 @@ fn push_half<F: Field>(
     requires halves { n < 28 }
     requires steps { g < 4 }
     ensures { (x : Input) (v : State) → AreFirst words.now x → IsState state.now v
-        → IfOk result (λ _. Pushed F.ring values.old.items values.new.items (quarter_cells (taken (turn_of n) v g) (half (d_turn n) (b_turn n) (taken (turn_of n) v g) (x (message_of n g))))) }
+        → IfOk result (λ _. Pushed F.ring values.old.items values.new.items
+        (quarter_cells (words_taken (turn_of n) v g) (half_quarter_round (d_turn n) (b_turn n) (words_taken (turn_of n) v g) (x (message_of n g))))) }
 {
     let before = taken_words(n, state, g);
     let after = made_words(n, words, state, g);
@@ -175,7 +176,7 @@ fn rows_of<F: Field>(alloc: Global, inputs: &[Blake3CompressionInput], room: usi
 // The number of cells of so many rows times 2^extra; None exactly where it passes `usize`.
 fn room_for(rows: usize, extra: usize) -> Option<usize>
     requires { 0 < rows }
-    ensures { MatchOption result (IsTooLong rows extra) (λ n. n ≡ rows * 11536 * 2 ^ extra) }
+    ensures { MatchOption result (IsBinaryTooLong rows extra) (λ n. n ≡ rows * 11536 * 2 ^ extra) }
 {
     if extra >= 64 {
         return None;
@@ -186,12 +187,12 @@ fn room_for(rows: usize, extra: usize) -> Option<usize>
 
 /// The number of cells of so many rows times 2^extra, or why there is no trace of them over this field.
 pub fn room_of<F: Field>(rows: usize, extra: usize) -> Result<usize, TraceError>
-    ensures answers { MatchResult result (λ n. (F.TWO ≡ F.ring.zero) × (0 < rows) × IsPowerOfTwo rows × (IsTooLong rows extra → ⊥))
+    ensures answers { MatchResult result (λ n. (F.TWO ≡ F.ring.zero) × (0 < rows) × IsPowerOfTwo rows × (IsBinaryTooLong rows extra → ⊥))
         (λ e. (e ≡ WrongCharacteristic) ⊎ (e ≡ NoInput) ⊎ (e ≡ NotPowerOfTwo) ⊎ (e ≡ TooLong)) }
     ensures characteristic { (result ≡ Err WrongCharacteristic) ↔ (F.TWO ≡ F.ring.zero → ⊥) }
     ensures no_input { (result ≡ Err NoInput) ↔ ((F.TWO ≡ F.ring.zero) × (rows ≡ 0)) }
     ensures not_power { (result ≡ Err NotPowerOfTwo) ↔ ((F.TWO ≡ F.ring.zero) × (0 < rows) × (IsPowerOfTwo rows → ⊥)) }
-    ensures too_long { (result ≡ Err TooLong) ↔ ((F.TWO ≡ F.ring.zero) × (0 < rows) × IsPowerOfTwo rows × IsTooLong rows extra) }
+    ensures too_long { (result ≡ Err TooLong) ↔ ((F.TWO ≡ F.ring.zero) × (0 < rows) × IsPowerOfTwo rows × IsBinaryTooLong rows extra) }
 {
     if !<F as FieldCore>::is_zero(&<F as RingCore>::TWO) {
         return Err(TraceError::WrongCharacteristic);
@@ -222,11 +223,11 @@ pub fn generate_binary_trace_rows<F: Field>(
     ensures rows { IfOk result (λ m. m ≡ record { values = map (of_nat F.ring) (binary_rows inputs.now); width = 11536 }) }
     ensures height { IfOk result (λ m. height m ≡ length inputs.now) }
     ensures row { IfOk result (λ m. (i : ℕ) → i < length inputs.now → row_at m i ≡ binary_trace_row F.ring (compression inputs.now i)) }
-    ensures done { IfOk result (λ m. (F.TWO ≡ F.ring.zero) × (0 < length inputs.now) × IsPowerOfTwo (length inputs.now) × (IsTooLong (length inputs.now) extra_capacity_bits → ⊥)) }
+    ensures done { IfOk result (λ m. (F.TWO ≡ F.ring.zero) × (0 < length inputs.now) × IsPowerOfTwo (length inputs.now) × (IsBinaryTooLong (length inputs.now) extra_capacity_bits → ⊥)) }
     ensures characteristic { (result ≡ Err WrongCharacteristic) ↔ (F.TWO ≡ F.ring.zero → ⊥) }
     ensures no_input { (result ≡ Err NoInput) ↔ ((F.TWO ≡ F.ring.zero) × (length inputs.now ≡ 0)) }
     ensures not_power { (result ≡ Err NotPowerOfTwo) ↔ ((F.TWO ≡ F.ring.zero) × (0 < length inputs.now) × (IsPowerOfTwo (length inputs.now) → ⊥)) }
-    ensures too_long { (result ≡ Err TooLong) ↔ ((F.TWO ≡ F.ring.zero) × (0 < length inputs.now) × IsPowerOfTwo (length inputs.now) × IsTooLong (length inputs.now) extra_capacity_bits) }
+    ensures too_long { (result ≡ Err TooLong) ↔ ((F.TWO ≡ F.ring.zero) × (0 < length inputs.now) × IsPowerOfTwo (length inputs.now) × IsBinaryTooLong (length inputs.now) extra_capacity_bits) }
 {
     let room = room_of::<F>(inputs.len(), extra_capacity_bits)?;
     let values = rows_of(alloc, inputs, room)?;

@@ -7,9 +7,9 @@ ghost use Rattle.p3_air.specs.declared.cells.Cell.{Cell};
 ghost use Rattle.p3_air.specs.declared.cells.ExtCell.{ExtCell};
 ghost use Rattle.p3_air.specs.Degree.{multiple};
 ghost use Rattle.p3_air.specs.Words.{cells_reading};
-ghost use Rattle.p3_field.specs.Gf256.{gf_ring};
+ghost use Rattle.p3_field.specs.Gf256.{gf256_ring};
 ghost use Rattle.p3_blake3_binary_air.specs.Trees.{binary_trees};
-ghost use Rattle.p3_blake3_binary_air.specs.Meanings.{Sum2Means, Sum3Means, StepMeans, RowMeans, WordsAreDetermined, OneCompletion, AreCounted};
+ghost use Rattle.p3_blake3_binary_air.specs.Meanings.{Sum2Means, Sum3Means, BinaryStepMeans, BinaryRowMeans, BinaryWordsAreDetermined, OneCompletion, ConstraintCounts};
 
 use p3_field::{Field, Gf256};
 
@@ -20,15 +20,15 @@ pub fn step_means<F: Field>()
     requires { F.ring.add F.ring.one F.ring.one ≡ F.ring.zero }
     ensures sum2 { (at : Cell → F) (at_ext : ExtCell → F) → Sum2Means F.ring (cells_reading F.ring at at_ext) }
     ensures sum3 { (at : Cell → F) (at_ext : ExtCell → F) → Sum3Means F.ring (cells_reading F.ring at at_ext) }
-    ensures step { (at : Cell → F) (at_ext : ExtCell → F) → StepMeans F.ring (cells_reading F.ring at at_ext) }
+    ensures step { (at : Cell → F) (at_ext : ExtCell → F) → BinaryStepMeans F.ring (cells_reading F.ring at at_ext) }
 {}
 
 /// A row of 11536 cells meets all constraints exactly when it is the row of one compression (`exact`), and that compression's
 /// 28 words are determined by the row (`one`).
 pub fn row_means<F: Field>()
     requires { F.ring.add F.ring.one F.ring.one ≡ F.ring.zero }
-    ensures exact { RowMeans F.ring }
-    ensures one { WordsAreDetermined F.ring }
+    ensures exact { BinaryRowMeans F.ring }
+    ensures one { BinaryWordsAreDetermined F.ring }
 {}
 
 /// Each choice of the input's 896 cells, of any values, has exactly one completion that meets the constraints of the
@@ -40,7 +40,7 @@ pub fn one_completion<F: Field>()
 
 /// There are 11536 constraints, and 10640 without those that the input's cells are bits.
 pub fn constraints_are_counted<F: Field>()
-    ensures { AreCounted F.ring }
+    ensures { ConstraintCounts F.ring }
 {}
 
 /// The constraints have degree at most 2, whatever degree the transition selector has.
@@ -50,8 +50,8 @@ pub fn degree_is_two<F: Field>()
 
 /// The field of 256 elements meets the premise: exactness and the one completion hold over it.
 pub fn means_over_gf256()
-    ensures rows { RowMeans gf_ring }
-    ensures completion { OneCompletion gf_ring }
+    ensures rows { BinaryRowMeans gf256_ring }
+    ensures completion { OneCompletion gf256_ring }
 {
     row_means::<Gf256>();
     one_completion::<Gf256>();

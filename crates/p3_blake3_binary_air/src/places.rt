@@ -2,7 +2,7 @@
 ghost use Rattle.std.specs.Prelude.{◌≡◌, ℕ, ◌+◌, ◌*◌, ◌/◌, ◌%◌, ◌<◌, ◌≤◌};
 ghost use Rattle.p3_blake3.specs.TraceRow.{message_of};
 ghost use Rattle.p3_blake3_binary_air.specs.Trees.{half_column};
-ghost use Rattle.p3_blake3_binary_air.specs.Places.{IsWithin, a_word, b_place, c_word, d_place};
+ghost use Rattle.p3_blake3_binary_air.specs.Places.{IsInRow, a_word, b_place, c_word, d_place};
 
 use crate::words::Word;
 use p3_blake3::{IV, scheduled_word};
@@ -60,7 +60,7 @@ pub fn a_word(n: usize, column: usize) -> Word
     requires halves { n ≤ 28 }
     requires columns { column < 4 }
     ensures word { result ≡ a_word n column }
-    ensures within { IsWithin result }
+    ensures within { IsInRow result }
 {
     if n == 0 {
         return Word::Column {
@@ -81,7 +81,7 @@ pub fn c_word(n: usize, column: usize) -> Word
     requires halves { n ≤ 28 }
     requires columns { column < 4 }
     ensures word { result ≡ c_word n column }
-    ensures within { IsWithin result }
+    ensures within { IsInRow result }
 {
     if n == 0 {
         return Word::Constant { word: IV[column] };

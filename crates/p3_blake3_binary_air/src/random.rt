@@ -5,8 +5,8 @@ ghost use Rattle.p3_field.specs.Ring.{of_nat};
 ghost use Rattle.p3_matrix.specs.Matrix.{height, row_at};
 ghost use Rattle.p3_blake3.specs.declared.error.TraceError.TheVariants.{WrongCharacteristic, NoInput, NotPowerOfTwo, TooLong};
 ghost use Rattle.p3_blake3_binary_air.specs.Row.{binary_trace_row};
-ghost use Rattle.p3_blake3_binary_air.specs.Rows.{compression, binary_rows, IsTooLong};
-ghost use Rattle.p3_blake3_binary_air.specs.Random.{state_after, random_word, random_words, random_input, random_inputs};
+ghost use Rattle.p3_blake3_binary_air.specs.Rows.{compression, binary_rows, IsBinaryTooLong};
+ghost use Rattle.p3_blake3_binary_air.specs.Random.{state_after, random_word, random_words, binary_random_input, binary_random_inputs};
 
 use crate::air::Blake3BinaryAir;
 use crate::generation::{generate_binary_trace_rows, room_of};
@@ -53,7 +53,7 @@ fn next_block(generator: &mut Xoshiro256PlusPlus) -> [u32; 16]
 
 // Compression i.
 fn next_input(generator: &mut Xoshiro256PlusPlus, i: usize) -> Blake3CompressionInput
-    ensures input { generator.old ≡ state_after (24 * i) → result ≡ random_input i }
+    ensures input { generator.old ≡ state_after (24 * i) → result ≡ binary_random_input i }
     ensures state { generator.old ≡ state_after (24 * i) → generator.new ≡ state_after (24 * (i + 1)) }
 {
     let chaining_value = next_chaining_value(generator);
@@ -69,7 +69,7 @@ fn next_input(generator: &mut Xoshiro256PlusPlus, i: usize) -> Blake3Compression
 
 // The inputs of so many compressions.
 fn random_inputs(alloc: Global, rows: usize) -> Mem<Vec<Blake3CompressionInput>>
-    ensures { IfOk result (λ v. v.items ≡ random_inputs rows) }
+    ensures { IfOk result (λ v. v.items ≡ binary_random_inputs rows) }
 {
     let mut generator = Xoshiro256PlusPlus::seed_from_u64(1);
     let mut inputs = Vec::new(alloc);
@@ -94,14 +94,14 @@ impl Blake3BinaryAir {
         num_hashes: usize,
         extra_capacity_bits: usize,
     ) -> Result<RowMajorMatrix<F>, TraceError>
-        ensures rows { IfOk result (λ m. m ≡ record { values = map (of_nat F.ring) (binary_rows (random_inputs num_hashes)); width = 11536 }) }
+        ensures rows { IfOk result (λ m. m ≡ record { values = map (of_nat F.ring) (binary_rows (binary_random_inputs num_hashes)); width = 11536 }) }
         ensures height { IfOk result (λ m. height m ≡ num_hashes) }
-        ensures row { IfOk result (λ m. (i : ℕ) → i < num_hashes → row_at m i ≡ binary_trace_row F.ring (compression (random_inputs num_hashes) i)) }
-        ensures done { IfOk result (λ m. (F.TWO ≡ F.ring.zero) × (0 < num_hashes) × IsPowerOfTwo num_hashes × (IsTooLong num_hashes extra_capacity_bits → ⊥)) }
+        ensures row { IfOk result (λ m. (i : ℕ) → i < num_hashes → row_at m i ≡ binary_trace_row F.ring (compression (binary_random_inputs num_hashes) i)) }
+        ensures done { IfOk result (λ m. (F.TWO ≡ F.ring.zero) × (0 < num_hashes) × IsPowerOfTwo num_hashes × (IsBinaryTooLong num_hashes extra_capacity_bits → ⊥)) }
         ensures characteristic { (result ≡ Err WrongCharacteristic) ↔ (F.TWO ≡ F.ring.zero → ⊥) }
         ensures no_input { (result ≡ Err NoInput) ↔ ((F.TWO ≡ F.ring.zero) × (num_hashes ≡ 0)) }
         ensures not_power { (result ≡ Err NotPowerOfTwo) ↔ ((F.TWO ≡ F.ring.zero) × (0 < num_hashes) × (IsPowerOfTwo num_hashes → ⊥)) }
-        ensures too_long { (result ≡ Err TooLong) ↔ ((F.TWO ≡ F.ring.zero) × (0 < num_hashes) × IsPowerOfTwo num_hashes × IsTooLong num_hashes extra_capacity_bits) }
+        ensures too_long { (result ≡ Err TooLong) ↔ ((F.TWO ≡ F.ring.zero) × (0 < num_hashes) × IsPowerOfTwo num_hashes × IsBinaryTooLong num_hashes extra_capacity_bits) }
     {
         room_of::<F>(num_hashes, extra_capacity_bits)?;
         let inputs = random_inputs(alloc, num_hashes)?;

@@ -3,7 +3,7 @@ ghost use Rattle.std.specs.Prelude.{◌≡◌, ℕ, ◌+◌, ◌%◌, ◌^◌, �
 ghost use Rattle.std.specs.Int.{bit_at};
 ghost use Rattle.p3_air.specs.declared.cells.Cell.TheVariants.{Main as MainCell};
 ghost use Rattle.p3_air.specs.Tree.{cell as cell_tree};
-ghost use Rattle.p3_air.specs.Gadgets.{StandAt, number};
+ghost use Rattle.p3_air.specs.Gadgets.{RepresentAt, number};
 ghost use Rattle.p3_blake3_binary_air.specs.Trees.{from_column};
 
 use p3_air::{AirBuilder, Cell};
@@ -13,10 +13,10 @@ use p3_field::{Mem, RingCore};
 pub fn cell_at<AB: AirBuilder>(builder: &mut AB, column: usize) -> Mem<AB::Expr>
     requires { column < (AB.shape builder.old).main }
     ensures later { AB.later builder.old builder.new }
-    ensures same { AB.shape builder.new ≡ AB.shape builder.old }
+    ensures keeps_shape { AB.shape builder.new ≡ AB.shape builder.old }
     ensures answers { IsTrue AB.never_fails → IsOk result }
-    ensures grows { AB.grows builder.old builder.new [] [] }
-    ensures stands { IfOk result (λ e. AB.stands builder.new e (cell_tree (MainCell false column))) }
+    ensures appends { AB.appends builder.old builder.new [] [] }
+    ensures represents { IfOk result (λ e. AB.represents builder.new e (cell_tree (MainCell false column))) }
 {
     builder.cell(Cell::Main {
         next: false,
@@ -29,10 +29,10 @@ pub fn bits_at<AB: AirBuilder>(builder: &mut AB, column: usize) -> Mem<[AB::Expr
     requires wide { 11536 ≤ (AB.shape builder.old).main }
     requires within { column + 32 ≤ 11536 }
     ensures later { AB.later builder.old builder.new }
-    ensures same { AB.shape builder.new ≡ AB.shape builder.old }
+    ensures keeps_shape { AB.shape builder.new ≡ AB.shape builder.old }
     ensures answers { IsTrue AB.never_fails → IsOk result }
-    ensures grows { AB.grows builder.old builder.new [] [] }
-    ensures stands { IfOk result (λ es. StandAt (AB.stands builder.new) es (from_column column)) }
+    ensures appends { AB.appends builder.old builder.new [] [] }
+    ensures represents { IfOk result (λ es. RepresentAt (AB.represents builder.new) es (from_column column)) }
 {
     let first = cell_at(builder, column)?;
     let mut cells = [first; 32];
@@ -47,10 +47,10 @@ pub fn carries_at<AB: AirBuilder>(builder: &mut AB, column: usize) -> Mem<[AB::E
     requires wide { 11536 ≤ (AB.shape builder.old).main }
     requires within { column + 31 ≤ 11536 }
     ensures later { AB.later builder.old builder.new }
-    ensures same { AB.shape builder.new ≡ AB.shape builder.old }
+    ensures keeps_shape { AB.shape builder.new ≡ AB.shape builder.old }
     ensures answers { IsTrue AB.never_fails → IsOk result }
-    ensures grows { AB.grows builder.old builder.new [] [] }
-    ensures stands { IfOk result (λ es. StandAt (AB.stands builder.new) es (from_column column)) }
+    ensures appends { AB.appends builder.old builder.new [] [] }
+    ensures represents { IfOk result (λ es. RepresentAt (AB.represents builder.new) es (from_column column)) }
 {
     let first = cell_at(builder, column)?;
     let mut cells = [first; 31];
@@ -64,10 +64,10 @@ pub fn carries_at<AB: AirBuilder>(builder: &mut AB, column: usize) -> Mem<[AB::E
 fn constant_bit<AB: AirBuilder>(builder: &mut AB, word: u32, i: usize) -> Mem<AB::Expr>
     requires bits { i < 32 }
     ensures later { AB.later builder.old builder.new }
-    ensures same { AB.shape builder.new ≡ AB.shape builder.old }
+    ensures keeps_shape { AB.shape builder.new ≡ AB.shape builder.old }
     ensures answers { IsTrue AB.never_fails → IsOk result }
-    ensures grows { AB.grows builder.old builder.new [] [] }
-    ensures stands { IfOk result (λ e. AB.stands builder.new e (number AB.F.ring (bit_at word i))) }
+    ensures appends { AB.appends builder.old builder.new [] [] }
+    ensures represents { IfOk result (λ e. AB.represents builder.new e (number AB.F.ring (bit_at word i))) }
 {
     let bit = builder.constant(<AB::F as RingCore>::from_u64((word >> (i as u32) & 1) as u64))?;
     Ok(bit)
@@ -76,10 +76,10 @@ fn constant_bit<AB: AirBuilder>(builder: &mut AB, word: u32, i: usize) -> Mem<AB
 // The 32 bits of a word, as constants.
 pub fn constant_bits<AB: AirBuilder>(builder: &mut AB, word: u32) -> Mem<[AB::Expr; 32]>
     ensures later { AB.later builder.old builder.new }
-    ensures same { AB.shape builder.new ≡ AB.shape builder.old }
+    ensures keeps_shape { AB.shape builder.new ≡ AB.shape builder.old }
     ensures answers { IsTrue AB.never_fails → IsOk result }
-    ensures grows { AB.grows builder.old builder.new [] [] }
-    ensures stands { IfOk result (λ es. StandAt (AB.stands builder.new) es (λ i. number AB.F.ring (bit_at word i))) }
+    ensures appends { AB.appends builder.old builder.new [] [] }
+    ensures represents { IfOk result (λ es. RepresentAt (AB.represents builder.new) es (λ i. number AB.F.ring (bit_at word i))) }
 {
     let first = constant_bit(builder, word, 0)?;
     let mut bits = [first; 32];

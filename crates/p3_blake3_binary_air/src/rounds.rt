@@ -2,8 +2,8 @@
 ghost use Rattle.std.specs.Prelude.{◌≡◌, ℕ, ◌+◌, ◌-◌, ◌*◌, ◌/◌, ◌%◌, ◌<◌, ◌≤◌, List, [], ◌∷◌, ◌++◌, IfOk, OnErr, IsOk, IsTrue, length, map};
 ghost use Rattle.p3_air.specs.Joined.{joined};
 ghost use Rattle.p3_air.specs.Appended.{Appended, AppendedSome, OnFailure};
-ghost use Rattle.p3_blake3_binary_air.specs.Trees.{half_step_trees, steps_trees};
-ghost use Rattle.p3_blake3_binary_air.specs.Places.{IsWithin, first_sum_trees, second_sum_trees, placed_trees, step_trees};
+ghost use Rattle.p3_blake3_binary_air.specs.Trees.{half_step_trees, binary_steps_trees};
+ghost use Rattle.p3_blake3_binary_air.specs.Places.{IsInRow, first_sum_trees, second_sum_trees, placed_trees, binary_step_trees};
 
 use crate::adding::{assert_sum2, assert_sum3};
 use crate::places::{a_word, b_place, c_word, d_place, half_column, message_column};
@@ -24,16 +24,16 @@ fn assert_first_sum<AB: AirBuilder>(
     cells: usize,
 ) -> Mem<()>
     requires wide { 11536 ≤ (AB.shape builder.old).main }
-    requires within_a { IsWithin a }
+    requires within_a { IsInRow a }
     requires within_b { b + 32 ≤ 11536 }
     requires within_d { d + 32 ≤ 11536 }
     requires within_message { message + 32 ≤ 11536 }
     requires within_cells { cells + 95 ≤ 11536 }
     ensures later { AB.later builder.old builder.new }
-    ensures same { AB.shape builder.new ≡ AB.shape builder.old }
+    ensures keeps_shape { AB.shape builder.new ≡ AB.shape builder.old }
     ensures answers { IsTrue AB.never_fails → IsOk result }
-    ensures grows { IfOk result (λ _. Appended AB.grows builder.old builder.new (first_sum_trees AB.F.ring s a b d message cells)) }
-    ensures refused { OnFailure result (AppendedSome AB.grows builder.old builder.new (first_sum_trees AB.F.ring s a b d message cells)) }
+    ensures appends { IfOk result (λ _. Appended AB.appends builder.old builder.new (first_sum_trees AB.F.ring s a b d message cells)) }
+    ensures on_error { OnFailure result (AppendedSome AB.appends builder.old builder.new (first_sum_trees AB.F.ring s a b d message cells)) }
 {
     let x = word_at(builder, a)?;
     let y = bits_at(builder, b)?;
@@ -53,14 +53,14 @@ fn assert_second_sum<AB: AirBuilder>(
     cells: usize,
 ) -> Mem<()>
     requires wide { 11536 ≤ (AB.shape builder.old).main }
-    requires within_c { IsWithin c }
+    requires within_c { IsInRow c }
     requires within_b { b + 32 ≤ 11536 }
     requires within_cells { cells + 95 ≤ 11536 }
     ensures later { AB.later builder.old builder.new }
-    ensures same { AB.shape builder.new ≡ AB.shape builder.old }
+    ensures keeps_shape { AB.shape builder.new ≡ AB.shape builder.old }
     ensures answers { IsTrue AB.never_fails → IsOk result }
-    ensures grows { IfOk result (λ _. Appended AB.grows builder.old builder.new (second_sum_trees AB.F.ring t c b cells)) }
-    ensures refused { OnFailure result (AppendedSome AB.grows builder.old builder.new (second_sum_trees AB.F.ring t c b cells)) }
+    ensures appends { IfOk result (λ _. Appended AB.appends builder.old builder.new (second_sum_trees AB.F.ring t c b cells)) }
+    ensures on_error { OnFailure result (AppendedSome AB.appends builder.old builder.new (second_sum_trees AB.F.ring t c b cells)) }
 {
     let x = word_at(builder, c)?;
     let y = bits_at(builder, cells + 31)?;
@@ -82,17 +82,17 @@ fn assert_placed<AB: AirBuilder>(
     cells: usize,
 ) -> Mem<()>
     requires wide { 11536 ≤ (AB.shape builder.old).main }
-    requires within_a { IsWithin a }
+    requires within_a { IsInRow a }
     requires within_b { b + 32 ≤ 11536 }
-    requires within_c { IsWithin c }
+    requires within_c { IsInRow c }
     requires within_d { d + 32 ≤ 11536 }
     requires within_message { message + 32 ≤ 11536 }
     requires within_cells { cells + 95 ≤ 11536 }
     ensures later { AB.later builder.old builder.new }
-    ensures same { AB.shape builder.new ≡ AB.shape builder.old }
+    ensures keeps_shape { AB.shape builder.new ≡ AB.shape builder.old }
     ensures answers { IsTrue AB.never_fails → IsOk result }
-    ensures grows { IfOk result (λ _. Appended AB.grows builder.old builder.new (placed_trees AB.F.ring s t a b c d message cells)) }
-    ensures refused { OnFailure result (AppendedSome AB.grows builder.old builder.new (placed_trees AB.F.ring s t a b c d message cells)) }
+    ensures appends { IfOk result (λ _. Appended AB.appends builder.old builder.new (placed_trees AB.F.ring s t a b c d message cells)) }
+    ensures on_error { OnFailure result (AppendedSome AB.appends builder.old builder.new (placed_trees AB.F.ring s t a b c d message cells)) }
 {
     assert_first_sum(builder, s, a, b, d, message, cells)?;
     assert_second_sum(builder, t, c, b, cells)?;
@@ -105,10 +105,10 @@ fn assert_half_step<AB: AirBuilder>(builder: &mut AB, n: usize, g: usize) -> Mem
     requires halves { n < 28 }
     requires steps { g < 4 }
     ensures later { AB.later builder.old builder.new }
-    ensures same { AB.shape builder.new ≡ AB.shape builder.old }
+    ensures keeps_shape { AB.shape builder.new ≡ AB.shape builder.old }
     ensures answers { IsTrue AB.never_fails → IsOk result }
-    ensures grows { IfOk result (λ _. Appended AB.grows builder.old builder.new (half_step_trees AB.F.ring n g)) }
-    ensures refused { OnFailure result (AppendedSome AB.grows builder.old builder.new (half_step_trees AB.F.ring n g)) }
+    ensures appends { IfOk result (λ _. Appended AB.appends builder.old builder.new (half_step_trees AB.F.ring n g)) }
+    ensures on_error { OnFailure result (AppendedSome AB.appends builder.old builder.new (half_step_trees AB.F.ring n g)) }
 {
     let turn = n % 4 / 2;
     let a = a_word(n, g % 4);
@@ -136,10 +136,10 @@ fn assert_step<AB: AirBuilder>(builder: &mut AB, k: usize) -> Mem<()>
     requires wide { 11536 ≤ (AB.shape builder.old).main }
     requires steps { k < 56 }
     ensures later { AB.later builder.old builder.new }
-    ensures same { AB.shape builder.new ≡ AB.shape builder.old }
+    ensures keeps_shape { AB.shape builder.new ≡ AB.shape builder.old }
     ensures answers { IsTrue AB.never_fails → IsOk result }
-    ensures grows { IfOk result (λ _. Appended AB.grows builder.old builder.new (step_trees AB.F.ring k)) }
-    ensures refused { OnFailure result (AppendedSome AB.grows builder.old builder.new (step_trees AB.F.ring k)) }
+    ensures appends { IfOk result (λ _. Appended AB.appends builder.old builder.new (binary_step_trees AB.F.ring k)) }
+    ensures on_error { OnFailure result (AppendedSome AB.appends builder.old builder.new (binary_step_trees AB.F.ring k)) }
 {
     for h in 0..2 {
         assert_half_step(builder, 2 * (k / 4) + h, k % 4)?;
@@ -151,10 +151,10 @@ fn assert_step<AB: AirBuilder>(builder: &mut AB, k: usize) -> Mem<()>
 pub fn assert_steps<AB: AirBuilder>(builder: &mut AB) -> Mem<()>
     requires wide { 11536 ≤ (AB.shape builder.old).main }
     ensures later { AB.later builder.old builder.new }
-    ensures same { AB.shape builder.new ≡ AB.shape builder.old }
+    ensures keeps_shape { AB.shape builder.new ≡ AB.shape builder.old }
     ensures answers { IsTrue AB.never_fails → IsOk result }
-    ensures grows { IfOk result (λ _. Appended AB.grows builder.old builder.new (steps_trees AB.F.ring)) }
-    ensures refused { OnFailure result (AppendedSome AB.grows builder.old builder.new (steps_trees AB.F.ring)) }
+    ensures appends { IfOk result (λ _. Appended AB.appends builder.old builder.new (binary_steps_trees AB.F.ring)) }
+    ensures on_error { OnFailure result (AppendedSome AB.appends builder.old builder.new (binary_steps_trees AB.F.ring)) }
 {
     for k in 0..56 {
         assert_step(builder, k)?;

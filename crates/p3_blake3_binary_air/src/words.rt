@@ -1,9 +1,9 @@
 //! Words of the state as expressions.
 ghost use Rattle.std.specs.Prelude.{◌≡◌, ℕ, ◌+◌, ◌%◌, ◌<◌, ◌≤◌, List, [], ◌∷◌, IfOk, IsOk, IsTrue, length};
-ghost use Rattle.p3_air.specs.Gadgets.{StandAt};
+ghost use Rattle.p3_air.specs.Gadgets.{RepresentAt};
 ghost use Rattle.p3_blake3_binary_air.specs.Sums.{turned};
 ghost use Rattle.p3_blake3_binary_air.specs.Trees.{from_column};
-ghost use Rattle.p3_blake3_binary_air.specs.Places.{word_bit, IsWithin};
+ghost use Rattle.p3_blake3_binary_air.specs.Places.{word_bit, IsInRow};
 
 use crate::adding::turned_bits;
 use crate::reading::{bits_at, constant_bits};
@@ -45,10 +45,10 @@ pub fn turned_at<AB: AirBuilder>(
     requires within_left { left + 32 ≤ 11536 }
     requires within_right { right + 32 ≤ 11536 }
     ensures later { AB.later builder.old builder.new }
-    ensures same { AB.shape builder.new ≡ AB.shape builder.old }
+    ensures keeps_shape { AB.shape builder.new ≡ AB.shape builder.old }
     ensures answers { IsTrue AB.never_fails → IsOk result }
-    ensures grows { AB.grows builder.old builder.new [] [] }
-    ensures stands { IfOk result (λ es. StandAt (AB.stands builder.new) es (turned (from_column left) (from_column right) shift)) }
+    ensures appends { AB.appends builder.old builder.new [] [] }
+    ensures represents { IfOk result (λ es. RepresentAt (AB.represents builder.new) es (turned (from_column left) (from_column right) shift)) }
 {
     let x = bits_at(builder, left)?;
     let y = bits_at(builder, right)?;
@@ -59,12 +59,12 @@ pub fn turned_at<AB: AirBuilder>(
 /// The bits of a word.
 pub fn word_at<AB: AirBuilder>(builder: &mut AB, word: Word) -> Mem<[AB::Expr; 32]>
     requires wide { 11536 ≤ (AB.shape builder.old).main }
-    requires within { IsWithin word }
+    requires within { IsInRow word }
     ensures later { AB.later builder.old builder.new }
-    ensures same { AB.shape builder.new ≡ AB.shape builder.old }
+    ensures keeps_shape { AB.shape builder.new ≡ AB.shape builder.old }
     ensures answers { IsTrue AB.never_fails → IsOk result }
-    ensures grows { AB.grows builder.old builder.new [] [] }
-    ensures stands { IfOk result (λ es. StandAt (AB.stands builder.new) es (word_bit AB.F.ring word)) }
+    ensures appends { AB.appends builder.old builder.new [] [] }
+    ensures represents { IfOk result (λ es. RepresentAt (AB.represents builder.new) es (word_bit AB.F.ring word)) }
 {
     match word {
         Word::Column { column } => bits_at(builder, column),

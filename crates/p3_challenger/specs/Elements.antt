@@ -20,7 +20,7 @@ pub record PlayedElements (F : Type 0) : Type 0 where
   pub step : Interaction
   pub value : List F
 
--- so many draws in a row, and the state behind them
+-- so many draws in a row, and the state after them
 unfoldable pub draw_all : {S F : Type 0} → ElementChallenger S F → S → ℕ → List F
 draw_all c s zero = []
 draw_all c s (suc n) = c.draw s ∷ draw_all c (c.after_draw s) n
@@ -56,11 +56,11 @@ module _ {S F : Type 0} (c : ElementChallenger S F) where
   play_elements t (p ∷ ps) = play_elements (play_elements_kind p.step.kind t p) ps
 
 -- the base elements of a value, by those of an extension element and of an opaque value
-module _ {F E M : Type 0} (parts : E → List F) (opaque : M → List F) where
+module _ {F E M : Type 0} (coefficients : E → List F) (opaque : M → List F) where
   abbrev pub flat_value : Value F E M → List F
   flat_value NoValue = []
   flat_value (Elements xs) = xs
-  flat_value (Extended x) = parts x
+  flat_value (Extended x) = coefficients x
   flat_value (Sealed m) = opaque m
 
   abbrev pub flat : List (Played F E M) → List (PlayedElements F)
@@ -68,7 +68,7 @@ module _ {F E M : Type 0} (parts : E → List F) (opaque : M → List F) where
 
 -- a transcript with each challenge as its base elements
 abbrev pub flat_transcript : {S F E : Type 0} → (E → List F) → Transcript S E → Transcript S (List F)
-flat_transcript parts t = record { state = t.state; challenges = map parts t.challenges; passed = t.passed }
+flat_transcript coefficients t = record { state = t.state; challenges = map coefficients t.challenges; passed = t.passed }
 
 -- each challenge of a script has this dimension
 abbrev pub DrawsAt : {F E M : Type 0} → ℕ → Played F E M → Type 0
@@ -76,17 +76,17 @@ DrawsAt dimension p = p.step.kind ≡ Challenge → elements p.step.value ≡ di
 
 -- a typed challenger observes and draws base elements: an extension element as its parts, an opaque value as its elements; a challenge
 -- is so many draws
-pub record IsOver {S F E M : Type 0} (c : ChallengerOf S F E M) (b : ElementChallenger S F) (parts : E → List F) (opaque : M → List F) (dimension : ℕ) : Type 0 where
+pub record IsOverElements {S F E M : Type 0} (c : ChallengerOf S F E M) (b : ElementChallenger S F) (coefficients : E → List F) (opaque : M → List F) (dimension : ℕ) : Type 0 where
   pub observes : (s : S) (x : F) → c.observe s x ≡ b.observe s x
-  pub observes_extension : (s : S) (x : E) → c.observe_extension s x ≡ fold b.observe s (parts x)
+  pub observes_extension : (s : S) (x : E) → c.observe_extension s x ≡ fold b.observe s (coefficients x)
   pub observes_opaque : (s : S) (m : M) → c.observe_opaque s m ≡ fold b.observe s (opaque m)
-  pub draws : (s : S) → parts (c.draw s) ≡ draw_all b s dimension
+  pub draws : (s : S) → coefficients (c.draw s) ≡ draw_all b s dimension
   pub leaves : (s : S) → c.after_draw s ≡ after_draws b s dimension
   pub draws_bits : (s : S) (n : ℕ) → c.draw_bits s n ≡ b.draw_bits s n
   pub leaves_bits : (s : S) (n : ℕ) → c.after_bits s n ≡ b.after_bits s n
 
 -- playing a typed script is playing its base elements
 abbrev pub PlaysFlat : {S F E M : Type 0} → ChallengerOf S F E M → ElementChallenger S F → (E → List F) → (M → List F) → ℕ → Type 0
-PlaysFlat {S} {F} {E} {M} c b parts opaque dimension =
+PlaysFlat {S} {F} {E} {M} c b coefficients opaque dimension =
     (t : Transcript S E) (ps : List (Played F E M)) → All (DrawsAt dimension) ps
-    → flat_transcript parts (play c t ps) ≡ play_elements b (flat_transcript parts t) (flat parts opaque ps)
+    → flat_transcript coefficients (play c t ps) ≡ play_elements b (flat_transcript coefficients t) (flat coefficients opaque ps)

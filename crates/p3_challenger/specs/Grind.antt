@@ -2,10 +2,10 @@
 -- `GrindingChallenger`, over any challenger's functions on its states.
 use Rattle.std.specs.Prelude.{◌≡◌, ℕ, zero, suc, ◌<◌}
 
--- the witness passes: at zero bits each does, else the bits drawn behind it are zero
-abbrev pub Checked : {S W : Type 0} → (S → W → S) → (S → ℕ → ℕ) → S → ℕ → W → Type 0
-Checked observed bits_drawn s zero w = Unit {0}
-Checked observed bits_drawn s (suc n) w = bits_drawn (observed s w) (suc n) ≡ 0
+-- the witness passes: at zero bits each does, else the bits drawn after it are zero
+abbrev pub PassesGrinding : {S W : Type 0} → (S → W → S) → (S → ℕ → ℕ) → S → ℕ → W → Type 0
+PassesGrinding observed bits_drawn s zero w = Unit {0}
+PassesGrinding observed bits_drawn s (suc n) w = bits_drawn (observed s w) (suc n) ≡ 0
 
 -- the state after a witness's check, whether or not it passes
 abbrev pub checked_state : {S W : Type 0} → (S → W → S) → (S → ℕ → S) → S → ℕ → W → S

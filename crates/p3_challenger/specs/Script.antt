@@ -55,7 +55,7 @@ amount Scalar = 1
 amount (Fixed n) = n
 
 module _ {S F E M : Type 0} (c : ChallengerOf S F E M) where
-  -- the state behind a value; base elements are observed in order
+  -- the state after a value; base elements are observed in order
   abbrev pub observe_value : S → Value F E M → S
   observe_value s NoValue = s
   observe_value s (Elements xs) = fold c.observe s xs
@@ -67,7 +67,7 @@ module _ {S F E M : Type 0} (c : ChallengerOf S F E M) where
   passes s zero w = true
   passes s (suc n) w = c.draw_bits (observe_value s w) (suc n) == 0
 
-  -- the state behind that test, also where the value fails
+  -- the state after that test, also where the value fails
   abbrev pub after_grinding : S → ℕ → Value F E M → S
   after_grinding s zero w = s
   after_grinding s (suc n) w = c.after_bits (observe_value s w) (suc n)
@@ -97,13 +97,13 @@ begun E s = record { state = s; challenges = []; passed = [] }
 abbrev pub steps_of : {F E M : Type 0} → List (Played F E M) → List Interaction
 steps_of ps = map (λ p. p.step) ps
 
--- a step leads from the labels of the open brackets to those behind it: Begin opens one, End closes the one opened last
+-- a step leads from the labels of the open brackets to those after it: Begin opens one, End closes the one opened last
 abbrev pub Leads : Hierarchy → List ℕ → List (List ℕ) → List (List ℕ) → Type 0
 Leads Atomic label before after = after ≡ before
 Leads Begin label before after = after ≡ label ∷ before
 Leads End label before after = before ≡ label ∷ after
 
--- brackets match, behind steps that opened these
+-- brackets match, after steps that opened these
 abbrev pub AreMatched : List (List ℕ) → List Interaction → Type 0
 AreMatched opened [] = opened ≡ []
 AreMatched opened (s ∷ rest) = (after : List (List ℕ)) × Leads s.hierarchy s.label opened after × AreMatched after rest

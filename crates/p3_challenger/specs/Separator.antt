@@ -39,15 +39,15 @@ length_byte NoLength = 0
 length_byte Scalar = 1
 length_byte (Fixed n) = 2
 
--- a text behind its length
-unfoldable pub counted : List ℕ → List ℕ
-counted bytes = eight_bytes (length bytes) ++ bytes
+-- a text after its length
+unfoldable pub length_prefixed : List ℕ → List ℕ
+length_prefixed bytes = eight_bytes (length bytes) ++ bytes
 
 -- a step: hierarchy, kind, value and its dimension, label, length and its number
 unfoldable pub step_bytes : Interaction → List ℕ
 step_bytes s =
     hierarchy_byte s.hierarchy ∷ kind_byte s.kind ∷ value_byte s.value ∷ []
-    ++ eight_bytes (elements s.value) ++ counted s.label ++ length_byte s.length ∷ [] ++ eight_bytes (amount s.length)
+    ++ eight_bytes (elements s.value) ++ length_prefixed s.label ++ length_byte s.length ∷ [] ++ eight_bytes (amount s.length)
 
 -- a separator's parts
 pub record Separator : Type 0 where
@@ -58,4 +58,4 @@ pub record Separator : Type 0 where
 
 -- its encoding: version byte, name, number of steps, the steps, instance label
 unfoldable pub encoding : Separator → List ℕ
-encoding s = s.version ∷ [] ++ counted s.name ++ eight_bytes (length s.steps) ++ flat_map step_bytes s.steps ++ counted s.instance
+encoding s = s.version ∷ [] ++ length_prefixed s.name ++ eight_bytes (length s.steps) ++ flat_map step_bytes s.steps ++ length_prefixed s.instance

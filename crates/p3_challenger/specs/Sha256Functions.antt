@@ -5,7 +5,7 @@ use Rattle.p3_field.specs.declared.baby_bear.BabyBear.{BabyBear}
 use Rattle.p3_field.specs.declared.quartic.QuarticExtension.{QuarticExtension}
 use Rattle.p3_challenger.specs.Script.{ChallengerOf}
 use Rattle.p3_challenger.specs.Elements.{ElementChallenger}
-use Rattle.p3_challenger.specs.Sha256.{observed, observed_extension, drawn, after_draw, drawn_extension, after_extension_draw, bits_drawn}
+use Rattle.p3_challenger.specs.Sha256.{observed, observed_extension, drawn_element, after_draw, drawn_extension, after_extension_draw, bits_drawn}
 use Rattle.p3_challenger.specs.declared.sha256_challenger.Sha256Challenger.{Sha256Challenger}
 
 -- the challenger's functions, opaque values being observed as these elements
@@ -21,4 +21,4 @@ sha256_functions opaque = record {
 }
 
 abbrev pub sha256_elements : ElementChallenger Sha256Challenger BabyBear
-sha256_elements = record { observe = observed; draw = drawn; after_draw = after_draw; draw_bits = bits_drawn; after_bits = λ s b. after_draw s }
+sha256_elements = record { observe = observed; draw = drawn_element; after_draw = after_draw; draw_bits = bits_drawn; after_bits = λ s b. after_draw s }

@@ -27,16 +27,16 @@ IsStepOf kind length s = (s.hierarchy ≡ Atomic) × (s.kind ≡ kind) × (s.len
 abbrev pub IsBracket : Interaction → Type 0
 IsBracket s = (s.hierarchy ≡ Begin) ⊎ (s.hierarchy ≡ End)
 
--- the steps behind the next one
-abbrev pub behind : List Interaction → List Interaction
-behind [] = []
-behind (s ∷ rest) = rest
+-- the steps after the next one
+abbrev pub steps_after_next : List Interaction → List Interaction
+steps_after_next [] = []
+steps_after_next (s ∷ rest) = rest
 
 -- the bits of the next step, where it is a grinding
 abbrev pub next_bits : List Interaction → ℕ
 next_bits [] = 0
 next_bits (s ∷ rest) = amount s.length
 
--- one step played: the challenger is left as said, and the step is behind
+-- one step played: the challenger is left as said, and the step has been played
 abbrev pub played : {S : Type 0} → Playing S → S → Playing S
-played old s = record { state = s; remaining = behind old.remaining }
+played old s = record { state = s; remaining = steps_after_next old.remaining }

@@ -12,7 +12,7 @@
 ghost use Rattle.std.specs.Prelude.{map, ◌≡◌, ℕ, ◌<◌, ◌^◌, IsTrue, ◌↔◌, MatchOption};
 ghost use Rattle.std.specs.List.{fold};
 ghost use Rattle.p3_field.specs.Ring.{of_nat};
-ghost use Rattle.p3_challenger.specs.Grind.{Checked, checked_state, IsLeast};
+ghost use Rattle.p3_challenger.specs.Grind.{PassesGrinding, checked_state, IsLeast};
 
 use p3_field::{PrimeCore64, RingCore};
 
@@ -103,7 +103,7 @@ pub trait GrindingChallenger: CanSampleBits + CanObserve<Self::Witness> {
     /// where it does not.
     fn check_witness(&mut self, bits: usize, value: Self::Witness) -> bool
         requires { 2 ^ bits < Self.Witness.ORDER_U64 }
-        ensures answer { IsTrue result ↔ Checked Self.observed Self.bits_drawn self.old bits value }
+        ensures answer { IsTrue result ↔ PassesGrinding Self.observed Self.bits_drawn self.old bits value }
         ensures state { self.new ≡ checked_state Self.observed Self.after_bits self.old bits value };
 
     /// The witness of least canonical value that passes, with the state after its check, where `2 ^ bits` is below the
@@ -111,8 +111,8 @@ pub trait GrindingChallenger: CanSampleBits + CanObserve<Self::Witness> {
     fn grind(&mut self, bits: usize) -> Option<Self::Witness>
         requires { 2 ^ bits < Self.Witness.ORDER_U64 }
         ensures answer { MatchOption result
-            ((n : ℕ) → n < Self.Witness.ORDER_U64 → Checked Self.observed Self.bits_drawn self.old bits (of_nat Self.Witness.ring n) → ⊥)
-            (λ w. IsLeast (λ n. Checked Self.observed Self.bits_drawn self.old bits (of_nat Self.Witness.ring n)) (Self.Witness.canonical w)) }
+            ((n : ℕ) → n < Self.Witness.ORDER_U64 → PassesGrinding Self.observed Self.bits_drawn self.old bits (of_nat Self.Witness.ring n) → ⊥)
+            (λ w. IsLeast (λ n. PassesGrinding Self.observed Self.bits_drawn self.old bits (of_nat Self.Witness.ring n)) (Self.Witness.canonical w)) }
         ensures state { MatchOption result
             (self.new ≡ self.old)
             (λ w. self.new ≡ checked_state Self.observed Self.after_bits self.old bits w) };
@@ -121,7 +121,7 @@ pub trait GrindingChallenger: CanSampleBits + CanObserve<Self::Witness> {
     ghost same_order: { Self.order ≡ Self.Witness.ORDER_U64 };
 }
 
-/// Takes in each byte as one field element, by `from_u64`, the first one first (own).
+/// Takes in each byte as one field element, by `from_u64`, the first one first (not in Plonky3).
 pub fn observe_bytes<F: RingCore, C: CanObserve<F>>(challenger: &mut C, bytes: &[u8])
     ensures { challenger.new ≡ fold C.observed challenger.old (map (of_nat F.ring) bytes.now) }
 {

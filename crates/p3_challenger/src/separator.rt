@@ -1,7 +1,7 @@
 //! The separator: the bytes that fix a transcript's protocol, pattern and instance before anything else is observed.
 
 ghost use Rattle.std.specs.Prelude.{◌≡◌, ◌++◌, ◌∷◌, [], List, ℕ, OnOk, IfOk, length, flat_map};
-ghost use Rattle.p3_challenger.specs.Separator.{eight_bytes, counted, step_bytes, encoding};
+ghost use Rattle.p3_challenger.specs.Separator.{eight_bytes, length_prefixed, step_bytes, encoding};
 
 use crate::script::{Interaction, InteractionPattern};
 use p3_field::Mem;
@@ -54,8 +54,8 @@ impl DomainSeparator {
         self.pattern.steps()
     }
 
-    /// The encoding: the version byte, the name behind its length, the number of steps, each step, and the instance label behind its length. A
-    /// step is a byte each for its hierarchy, its kind and its value's kind, the value's dimension, the label behind its length, a byte for
+    /// The encoding: the version byte, the name after its length, the number of steps, each step, and the instance label after its length. A
+    /// step is a byte each for its hierarchy, its kind and its value's kind, the value's dimension, the label after its length, a byte for
     /// the kind of its length, and the number of that length. Lengths, dimensions and numbers are 8 big-endian bytes.
     #[tactic(auto, unfolding(crate::specs::Separator::encoding))]
     pub fn encode(&self, alloc: Global) -> Mem<Vec<u8>>
@@ -72,7 +72,8 @@ impl DomainSeparator {
     }
 }
 
-/// Appends a number as 8 big-endian bytes (own): the form of each number in an encoding and in an instance label.
+/// Appends a number as 8 big-endian bytes (not in Plonky3): the form of each number in an encoding and in an
+/// instance label.
 #[tactic(auto, unfolding(crate::specs::Separator::eight_bytes))]
 pub fn push_eight_bytes(out: &mut Vec<u8>, number: usize) -> Mem<()>
     ensures { OnOk result (out.new.items ≡ out.old.items ++ eight_bytes number) }
@@ -80,10 +81,10 @@ pub fn push_eight_bytes(out: &mut Vec<u8>, number: usize) -> Mem<()>
     out.extend_from_slice(&number.to_be_bytes())
 }
 
-/// Appends a text behind its length.
-#[tactic(auto, unfolding(crate::specs::Separator::counted))]
+/// Appends a text after its length.
+#[tactic(auto, unfolding(crate::specs::Separator::length_prefixed))]
 fn push_counted(out: &mut Vec<u8>, bytes: &[u8]) -> Mem<()>
-    ensures { OnOk result (out.new.items ≡ out.old.items ++ counted bytes.now) }
+    ensures { OnOk result (out.new.items ≡ out.old.items ++ length_prefixed bytes.now) }
 {
     push_eight_bytes(out, bytes.len())?;
     out.extend_from_slice(bytes)?;

@@ -1,7 +1,7 @@
 //! The challenger over SHA-256.
 ghost use Rattle.std.specs.Prelude.{◌≡◌, ℕ, ◌%◌, ◌^◌, replicate, refl};
 ghost use Rattle.p3_field.specs.BabyBear.{reduce};
-ghost use Rattle.p3_challenger.specs.Sha256.{observed, observed_extension, drawn, after_draw, drawn_extension, after_extension_draw, bits_drawn};
+ghost use Rattle.p3_challenger.specs.Sha256.{observed, observed_extension, drawn_element, after_draw, drawn_extension, after_extension_draw, bits_drawn};
 ghost use Rattle.p3_challenger.specs.Laws.Draws.{bits_drawn_below};
 
 use crate::{CanObserve, CanSample, CanSampleBits, GrindingChallenger};
@@ -10,7 +10,7 @@ use sha2::{Digest, Sha256};
 
 /// A challenger over SHA-256 (FIPS 180-4): a chain of 32 bytes, and how many draws are left in it.
 ///
-/// An observed element's value is hashed behind the chain as 4 little-endian bytes, and leaves no
+/// An observed element's value is hashed after the chain as 4 little-endian bytes, and leaves no
 /// draw. A draw is the next 16 bytes of the chain, as a little-endian number modulo the order; where
 /// no draw is left the chain is hashed first, and then has two. An extension element is observed and
 /// drawn as its four coefficients, in basis order. The rule is this project's own, and not that of
@@ -64,9 +64,9 @@ fn reduced(number: u128) -> BabyBear
     BabyBear::from_u64(high * 1_172_168_163 + low)
 }
 
-#[tactic(auto, unfolding(crate::specs::Sha256::drawn, crate::specs::Sha256::after_draw))]
+#[tactic(auto, unfolding(crate::specs::Sha256::drawn_element, crate::specs::Sha256::after_draw))]
 impl CanSample<BabyBear> for Sha256Challenger {
-    ghost drawn = { drawn };
+    ghost drawn = { drawn_element };
 
     ghost after_draw = { after_draw };
 

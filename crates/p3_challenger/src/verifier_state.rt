@@ -4,7 +4,7 @@ ghost use Rattle.std.specs.Prelude.{◌≡◌, ℕ, [], map, IfOk, IsTrue, ◌�
 ghost use Rattle.std.specs.List.{fold};
 ghost use Rattle.std.specs.Fn.{FnOnceReturnsAtMut};
 ghost use Rattle.p3_field.specs.Ring.{of_nat};
-ghost use Rattle.p3_challenger.specs.Grind.{Checked, checked_state};
+ghost use Rattle.p3_challenger.specs.Grind.{PassesGrinding, checked_state};
 ghost use Rattle.p3_challenger.specs.Separator.{encoding};
 ghost use Rattle.p3_challenger.specs.States.{NextIs, IsStep, IsStepOf, IsBracket, next_bits, played};
 
@@ -20,7 +20,7 @@ use std::marker::Model;
 /// The verifier's challenger with the steps that it has still to play, as Plonky3's `p3_challenger::fs::VerifierState`. Contracts see a
 /// `Playing`.
 ///
-/// Each call but `delegate` plays one step: its condition is that the next step is of its kind, and behind it that step is played. The kind of a
+/// Each call but `delegate` plays one step: its condition is that the next step is of its kind, and after it that step is played. The kind of a
 /// step's value is not tested. A state is spent by `finalize` or `abort` alone, which hand the challenger back as it stands. No call but `new`
 /// takes memory.
 pub struct VerifierState<C> {
@@ -38,7 +38,7 @@ impl<C> Model for VerifierState<C> {
 
 impl<C> VerifierState<C> {
     /// A state before the first step. The challenger observes each byte of the separator's encoding as one field element, by `from_u64`.
-    /// Where memory is wanting the challenger is dropped.
+    /// Where memory runs out the challenger is dropped.
     pub fn new<F: Field>(alloc: Global, challenger: C, separator: &DomainSeparator) -> Mem<Self>
     where
         C: CanObserve<F> + Drop,
@@ -103,7 +103,7 @@ impl<C> VerifierState<C> {
         C: GrindingChallenger,
         requires turn { NextIs (IsStep InteractionKind.Pow) self.old.remaining }
         requires few { 2 ^ next_bits self.old.remaining < C.Witness.ORDER_U64 }
-        ensures answer { IsTrue result ↔ Checked C.observed C.bits_drawn self.old.state (next_bits self.old.remaining) value }
+        ensures answer { IsTrue result ↔ PassesGrinding C.observed C.bits_drawn self.old.state (next_bits self.old.remaining) value }
         ensures state { self.new ≡ played self.old (checked_state C.observed C.after_bits self.old.state (next_bits self.old.remaining) value) }
     {
         let passes = self

@@ -3,7 +3,7 @@
 ghost use Rattle.std.specs.Prelude.{◌≡◌, map, length, IfOk, IfSome, IsTrue, ◌↔◌, ◌<◌, ◌^◌};
 ghost use Rattle.std.specs.List.{fold};
 ghost use Rattle.p3_field.specs.Ring.{of_nat};
-ghost use Rattle.p3_challenger.specs.Grind.{Checked, checked_state};
+ghost use Rattle.p3_challenger.specs.Grind.{PassesGrinding, checked_state};
 ghost use Rattle.p3_challenger.specs.Separator.{encoding};
 ghost use Rattle.p3_challenger_tests.specs.Worked.{worked_steps, told};
 
@@ -76,7 +76,7 @@ pub fn verifier_side<F: PrimeField64, C: GrindingChallenger<Witness = F> + CanSa
     requires steps { separator.now.steps ≡ worked_steps (length known.now) bits }
     requires few { 2 ^ bits < F.ORDER_U64 }
     ensures passes { IfOk result (λ s. let begun = fold C.observed challenger (map (of_nat F.ring) (encoding separator.now)) in
-        IsTrue s.passes ↔ Checked C.observed C.bits_drawn (told C.observed begun sent known.now) bits witness) }
+        IsTrue s.passes ↔ PassesGrinding C.observed C.bits_drawn (told C.observed begun sent known.now) bits witness) }
     ensures drawn { IfOk result (λ s. let begun = fold C.observed challenger (map (of_nat F.ring) (encoding separator.now)) in
         s.drawn ≡ C.drawn (checked_state C.observed C.after_bits (told C.observed begun sent known.now) bits witness)) }
     ensures state { IfOk result (λ s. let begun = fold C.observed challenger (map (of_nat F.ring) (encoding separator.now)) in

@@ -1,7 +1,7 @@
 //! A worked pattern.
 
 ghost use Rattle.std.specs.Prelude.{◌≡◌, IfOk, OnOk, ◌++◌, ◌∷◌, []};
-ghost use Rattle.p3_challenger_tests.specs.Worked.{step_of, worked_steps};
+ghost use Rattle.p3_challenger_tests.specs.Worked.{worked_step, worked_steps};
 
 use p3_challenger::{
     Hierarchy, Interaction, InteractionKind, InteractionPattern, Label, Length, StepValue,
@@ -19,7 +19,7 @@ fn push_step(
     label: &str,
     length: Length,
 ) -> Mem<()>
-    ensures { OnOk result (steps.new.items ≡ steps.old.items ++ step_of hierarchy kind value label.now length ∷ []) }
+    ensures { OnOk result (steps.new.items ≡ steps.old.items ++ worked_step hierarchy kind value label.now length ∷ []) }
 {
     steps.push(Interaction {
         hierarchy,

@@ -10,8 +10,8 @@ use Rattle.p3_field.specs.Laws.Algebra.{one_mul}
 use Rattle.p3_field.specs.Laws.Order.{one_pow, pow_times}
 use Rattle.p3_field.specs.Laws.Roots.{field_no_zero_divisors}
 use Rattle.p3_field.specs.Laws.Coset.{two_adic_order, pow_mul}
-use Rattle.p3_field.specs.Laws.Vanishing.{coset_only}
-use Rattle.p3_field.specs.Laws.Tables.{first_coset_point}
+use Rattle.p3_field.specs.Laws.Binomials.{coset_only}
+use Rattle.p3_field.specs.Laws.Tabulate.{first_coset_point}
 use Rattle.p3_commit.specs.Space.{AreDisjoint}
 use Rattle.p3_commit.specs.Laws.Cosets.{opposite, in_larger, larger}
 

@@ -1,5 +1,4 @@
 pub mod Logarithms
-pub mod SelectorLaws
 pub mod Disjoint
 pub mod Periods
 pub mod Padded

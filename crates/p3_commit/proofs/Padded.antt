@@ -8,15 +8,15 @@ use Rattle.std.proofs.lemmas.Bool.{cases_lt}
 use Rattle.std.proofs.lemmas.List.{length-append, get_or_append_left, get_or_past}
 use Rattle.std.proofs.lemmas.Nat.{pow-add}
 use Rattle.p3_field.specs.Ring.{Ring, RingLaws}
-use Rattle.p3_field.specs.Poly.{val, coeff, SamePoly, table}
+use Rattle.p3_field.specs.Poly.{eval_poly, coeff, SamePoly, tabulate}
 use Rattle.p3_field.specs.Domain.{coset_point}
-use Rattle.p3_field.specs.Laws.Values.{val_same}
-use Rattle.p3_field.specs.Laws.Tables.{length-table, get_or-table, table_same}
+use Rattle.p3_field.specs.Laws.Values.{eval_same}
+use Rattle.p3_field.specs.Laws.Tabulate.{length-tabulate, get_or-tabulate, tabulate_same}
 use Rattle.p3_matrix.specs.Matrix.{Rows, FillsRows, height, cell_at, column}
 use Rattle.p3_matrix.specs.Laws.Cells.{length-column, get_or-column}
 use Rattle.p3_matrix.specs.Laws.Grids.{in_matrix}
 use Rattle.p3_matrix.specs.Laws.Powers.{one_shifted_left}
-use Rattle.p3_dft.specs.Transform.{values_at, HasValuesOf}
+use Rattle.p3_dft.specs.Transform.{values_at, IsTransformOf}
 use Rattle.p3_commit.specs.Encoder.{IsCodeOf}
 use Rattle.p3_commit.specs.Laws.Codes.{width_positive}
 use Rattle.p3_commit.specs.declared.encoder.EncodeError.{EncodeError}
@@ -48,38 +48,38 @@ code_rows m rate count w p fills e width = ap (λ k. count / k) width ∙ code_h
 pub subgroup_size : (t top : ℕ) → t ≡ top → top < 64 → 1 * 2 ^ t % 18446744073709551616 ≡ 2 ^ top
 subgroup_size t top e h = ap (λ k. 1 * 2 ^ k % 18446744073709551616) e ∙ one_shifted_left top h
 
--- want of memory is no other refusal
+-- running out of memory is no other refusal
 pub other_error : {T : Type 0} (x : Result T EncodeError) → IsErrAnd x (λ e. e ≡ OutOfMemory) → IsErrOf x NoSubgroup → ⊥
 other_error (Ok y) p q = absurd p
 other_error (Err e) p q = cc
 
 module _ {A : Type 0} (r : Ring A) (L : RingLaws r) (m p : Rows A) (n count : ℕ) (pos : 0 < m.width) (some : 0 < n) (fills : FillsRows m.values m.width)
-    (total : count ≡ length m.values * n) (more : length m.values ≤ count) (width : p.width ≡ m.width) (values : p.values ≡ m.values ++ table (count - length m.values) (λ _. r.zero)) where
+    (total : count ≡ length m.values * n) (more : length m.values ≤ count) (width : p.width ≡ m.width) (values : p.values ≡ m.values ++ tabulate (count - length m.values) (λ _. r.zero)) where
   padded_count : length p.values ≡ count
   padded_count =
-      let zeros = table (count - length m.values) (λ _. r.zero) in
-      omega (arith, ap length values, length-append m.values zeros, length-table (count - length m.values) (λ _. r.zero))
+      let zeros = tabulate (count - length m.values) (λ _. r.zero) in
+      omega (arith, ap length values, length-append m.values zeros, length-tabulate (count - length m.values) (λ _. r.zero))
 
   pub padded_height : height p ≡ height m * n
   padded_height = ap (λ w. length p.values / w) width ∙ (ap (λ k. k / m.width) padded_count ∙ code_height m n count pos fills total)
 
   -- the cells below are zeros
-  zero_item : (k i : ℕ) → get_or (table k (λ _. r.zero)) i r.zero ≡ r.zero
+  zero_item : (k i : ℕ) → get_or (tabulate k (λ _. r.zero)) i r.zero ≡ r.zero
   zero_item k i = elim (cases_lt i k) [
-    | inl a ↦ get_or-table k (λ _. r.zero) i r.zero a
-    | inr a ↦ get_or_past (table k (λ _. r.zero)) i r.zero (omega (arith, length-table k (λ _. r.zero)))
+    | inl a ↦ get_or-tabulate k (λ _. r.zero) i r.zero a
+    | inr a ↦ get_or_past (tabulate k (λ _. r.zero)) i r.zero (omega (arith, length-tabulate k (λ _. r.zero)))
   ]
 
   cell_above : (i j : ℕ) → i < height m → j < m.width → cell_at r.zero p i j ≡ cell_at r.zero m i j
   cell_above i j a b =
-      let zeros = table (count - length m.values) (λ _. r.zero) in
+      let zeros = tabulate (count - length m.values) (λ _. r.zero) in
       ap (λ w. get_or p.values (i * w + j) r.zero) width
       ∙ (ap (λ l. get_or l (i * m.width + j) r.zero) values
       ∙ get_or_append_left m.values zeros r.zero (i * m.width + j) (in_matrix m i j fills a b))
 
   cell_below : (i j : ℕ) → height m ≤ i → cell_at r.zero p i j ≡ r.zero
   cell_below i j a =
-      let zeros = table (count - length m.values) (λ _. r.zero) in
+      let zeros = tabulate (count - length m.values) (λ _. r.zero) in
       let past : length m.values ≤ i * m.width + j = past_rows (height m) i m.width j (length m.values) fills a in
       ap (λ w. get_or p.values (i * w + j) r.zero) width
       ∙ (ap (λ l. get_or l (i * m.width + j) r.zero) values
@@ -106,7 +106,7 @@ module _ {A : Type 0} (r : Ring A) (L : RingLaws r) (m p : Rows A) (n count : �
       below_more i h zero k a pos e = absurd (omega arith)
       below_more i h (suc n) k a pos e = omega arith
 
-  pub padded_code : (root : ℕ → A) (rate : ℕ) (v : Rows A) → n ≡ 2 ^ rate → HasValuesOf r root p v → IsCodeOf r root m rate v
+  pub padded_code : (root : ℕ → A) (rate : ℕ) (v : Rows A) → n ≡ 2 ^ rate → IsTransformOf r root p v → IsCodeOf r root m rate v
   unfolding values_at
   padded_code root rate v e V = record {
     width_is = V.width_is ∙ width;
@@ -115,6 +115,6 @@ module _ {A : Type 0} (r : Ring A) (L : RingLaws r) (m p : Rows A) (n count : �
         let inside : j < p.width = omega (arith, width) in
         let high : height p ≡ 2 ^ k = padded_height ∙ (ap (λ t. height m * t) e ∙ h) in
         V.column_is j k inside high
-        ∙ table_same (2 ^ k) (λ i. val r (column r.zero p j) (q i)) (λ i. val r (column r.zero m j) (q i))
-        (λ i c. val_same r L (column r.zero p j) (column r.zero m j) (q i) (same_column j b));
+        ∙ tabulate_same (2 ^ k) (λ i. eval_poly r (column r.zero p j) (q i)) (λ i. eval_poly r (column r.zero m j) (q i))
+        (λ i c. eval_same r L (column r.zero p j) (column r.zero m j) (q i) (same_column j b));
   }

@@ -1,7 +1,7 @@
 -- Commitments to polynomials and their openings. The rules are those of Plonky3's p3-commit (Pcs, UnivariateStarkPcs).
 use Rattle.std.specs.Prelude.{◌≡◌, ℕ, ◌<◌, ◌^◌, List, [], length, map, get_or, zip, All, Vec}
 use Rattle.p3_field.specs.Ring.{Ring, pow}
-use Rattle.p3_field.specs.Poly.{val}
+use Rattle.p3_field.specs.Poly.{eval_poly}
 use Rattle.p3_field.specs.Domain.{IsInterpolant}
 use Rattle.p3_matrix.specs.Matrix.{Rows, height, column}
 use Rattle.p3_dft.specs.Transform.{values_at}
@@ -42,28 +42,28 @@ pub record IsEvaluated {F : Type 0} (r : Ring F) (n : ℕ) (p : ℕ → F) (c : 
   pub width_is : m.width ≡ length c.polynomials
   pub column_is : (j : ℕ) → j < m.width → column r.zero m j ≡ values_at r p n (get_or c.polynomials j [])
 
--- a commitment with what it holds of each matrix
-pub record Held (C F : Type 0) : Type 0 where
+-- a commitment that is opened, with what it holds of each matrix
+pub record OpenedCommitment (C F : Type 0) : Type 0 where
   pub commitment : C
   pub matrices : List (Committed F)
 
 -- each request's prover data belongs to the commitment that stands at its place and holds the polynomials there
-abbrev pub AreHeld : {P E C F : Type 0} → (P → C → List (Committed F) → Type 0) → List (Request P E) → List (Held C F) → Type 0
-AreHeld holds requests held = EachFrom requests held (λ r h. holds r.prover_data h.commitment h.matrices)
+abbrev pub AreOpenedCommitments : {P E C F : Type 0} → (P → C → List (Committed F) → Type 0) → List (Request P E) → List (OpenedCommitment C F) → Type 0
+AreOpenedCommitments holds requests held = EachFrom requests held (λ r h. holds r.prover_data h.commitment h.matrices)
 
 -- each request has one list of points per matrix
-abbrev pub HavePoints : {P E C F : Type 0} → List (Held C F) → List (Request P E) → Type 0
+abbrev pub HavePoints : {P E C F : Type 0} → List (OpenedCommitment C F) → List (Request P E) → Type 0
 HavePoints held requests = EachFrom held requests (λ h r. length r.points ≡ length h.matrices)
 
 -- the values of the polynomials at a point above their field
 abbrev pub values_of : {F E : Type 0} → Ring E → (F → E) → Committed F → E → List E
-values_of s embed c x = map (λ f. val s (map embed f) x) c.polynomials
+values_of s embed c x = map (λ f. eval_poly s (map embed f) x) c.polynomials
 
 -- the values that are asked for, in the order of the requests, of their matrices, of their points, and of the columns
-abbrev pub opened_round : {P E C F : Type 0} → Ring E → (F → E) → Held C F → Request P E → List (List (List E))
+abbrev pub opened_round : {P E C F : Type 0} → Ring E → (F → E) → OpenedCommitment C F → Request P E → List (List (List E))
 opened_round s embed h r = map (λ p. map (values_of s embed p.0) p.1) (zip h.matrices r.points)
 
-abbrev pub opened : {P E C F : Type 0} → Ring E → (F → E) → List (Held C F) → List (Request P E) → List (List (List (List E)))
+abbrev pub opened : {P E C F : Type 0} → Ring E → (F → E) → List (OpenedCommitment C F) → List (Request P E) → List (List (List (List E)))
 opened s embed held requests = map (λ p. opened_round s embed p.0 p.1) (zip held requests)
 
 -- opened values as lists
@@ -76,12 +76,12 @@ pub record IsMatrixClaim {E F D : Type 0} (s : Ring E) (embed : F → E) (points
   pub points_are : m.points ≡ map (λ x. record { point = x; values = values_of s embed c x }) xs
 
 -- the claims that a commitment's matrices have these values at the points of a request
-pub record IsRoundClaim {P E C F D : Type 0} (s : Ring E) (embed : F → E) (points : D → ℕ) (h : Held C F) (r : Request P E) (c : CommitmentClaim E C D) : Type 0 where
+pub record IsRoundClaim {P E C F D : Type 0} (s : Ring E) (embed : F → E) (points : D → ℕ) (h : OpenedCommitment C F) (r : Request P E) (c : CommitmentClaim E C D) : Type 0 where
   pub commitment_is : c.commitment ≡ h.commitment
   pub matrices_are : EachFrom (zip h.matrices r.points) c.matrices (λ p m. IsMatrixClaim s embed points p.0 p.1 m)
 
 -- the claims that hold of what was asked for, in its order
-abbrev pub AreClaims : {P E C F D : Type 0} → Ring E → (F → E) → (D → ℕ) → List (Held C F) → List (Request P E) → List (CommitmentClaim E C D) → Type 0
+abbrev pub AreClaims : {P E C F D : Type 0} → Ring E → (F → E) → (D → ℕ) → List (OpenedCommitment C F) → List (Request P E) → List (CommitmentClaim E C D) → Type 0
 AreClaims s embed points held requests claims = EachFrom (zip held requests) claims (λ p c. IsRoundClaim s embed points p.0 p.1 c)
 
 -- none of the points that are asked for is excluded
@@ -90,7 +90,8 @@ AvoidAll excludes requests = All (λ r. All (λ xs. All (λ x. excludes x → �
 
 -- What an opening of held polynomials gives: each request has one list of points per matrix, the values are the
 -- polynomials', and the claims with these values are accepted, unless a point is excluded.
-pub record IsOpening {P E C F D : Type 0} (s : Ring E) (embed : F → E) (points : D → ℕ) (excludes : E → Type 0) (accepts : List (CommitmentClaim E C D) → Type 0) (requests : List (Request P E)) (values : List (List (List (List E)))) (held : List (Held C F)) : Type 0 where
+pub record IsOpening {P E C F D : Type 0} (s : Ring E) (embed : F → E) (points : D → ℕ) (excludes : E → Type 0) (accepts : List (CommitmentClaim E C D) → Type 0)
+    (requests : List (Request P E)) (values : List (List (List (List E)))) (held : List (OpenedCommitment C F)) : Type 0 where
   pub lists_are : HavePoints held requests
   pub values_are : values ≡ opened s embed held requests
   pub accepted : (claims : List (CommitmentClaim E C D)) → AreClaims s embed points held requests claims → AvoidAll excludes requests → accepts claims

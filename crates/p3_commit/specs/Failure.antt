@@ -11,7 +11,8 @@ NoneOf faults = (e : _) → faults e → ⊥
 abbrev pub FaultUnless : {E : Type 0} → Type 0 → (E → Type 0) → Type 0
 FaultUnless holds faults = (holds → ⊥) → NoneOf faults → ⊥
 
--- The answer is a refusal exactly where there is a cause, and names it. Want of memory may come in place of any answer.
+-- The answer is a refusal exactly where there is a cause, and names it. Running out of memory may come in place of any
+-- answer.
 abbrev pub RefusedBy : {T E : Type 0} → (E → Type 0) → Result T (PcsFailure E) → Type 0
 RefusedBy faults (Ok w) = NoneOf faults
 RefusedBy faults (Err OutOfMemory) = ⊤

@@ -10,3 +10,4 @@ pub mod FlatBatches
 pub mod Options
 pub mod OneItem
 pub mod Degrees
+pub mod SelectorLaws

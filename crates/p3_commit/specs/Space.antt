@@ -20,8 +20,8 @@ pub record IsOffered {A : Type 0} (r : Ring A) (generator : A) (d : CosetData A)
   pub least : (k : ℕ) → m ≤ 2 ^ k → e.log_size ≤ k
 
 -- the field's generator is no power of the generator of the larger of two subgroups
-abbrev pub IsOutside : {A : Type 0} → Ring A → (ℕ → A) → A → CosetData A → CosetData A → Type 0
-IsOutside r root generator d e = (i : ℕ) → pow r (root (max d.log_size e.log_size)) i ≡ generator → ⊥
+abbrev pub IsGeneratorOutside : {A : Type 0} → Ring A → (ℕ → A) → A → CosetData A → CosetData A → Type 0
+IsGeneratorOutside r root generator d e = (i : ℕ) → pow r (root (max d.log_size e.log_size)) i ≡ generator → ⊥
 
 -- e is part i of d split in c: it begins at point i, and has a c-th of the points
 pub record IsPart {A : Type 0} (r : Ring A) (root : ℕ → A) (d : CosetData A) (c i : ℕ) (e : CosetData A) : Type 0 where

@@ -122,7 +122,7 @@ pub type CommitmentWithOpeningPoints<Challenge, Commitment, Domain> = Commitment
 /// Prover data and, for each of its matrices, the points at which it is to be opened (`OpeningRequest` of `p3-commit`).
 #[derive(Drop)]
 pub struct OpeningRequest<'a, ProverData, Challenge> {
-    /// What the prover keeps of a commitment.
+    /// The prover data of a commitment.
     pub prover_data: &'a ProverData,
     /// A list of points for each matrix.
     pub points: Vec<Vec<Challenge>>,

@@ -10,9 +10,9 @@ use p3_field::{
     TwoAdicMultiplicativeCoset,
 };
 
-/// A scheme whose domains are the cosets of a two-adic field (own): its contracts see a domain's points as the coset's,
-/// in the order of the generator's powers. So what `natural_domain_for_degree` gives is known whole, and so is each part
-/// of a split.
+/// A scheme whose domains are the cosets of a two-adic field (not in Plonky3): its contracts see a domain's points as
+/// the coset's, in the order of the generator's powers. So what `natural_domain_for_degree` gives is known whole, and so
+/// is each part of a split.
 pub trait CosetPcs<Challenge, Challenger>: UnivariateStarkPcs<
     Challenge,
     Challenger,

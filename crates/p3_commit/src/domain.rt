@@ -2,11 +2,11 @@
 ghost use Rattle.std.specs.Prelude.{◌≡◌, ℕ, ◌+◌, ◌*◌, ◌^◌, ◌<◌, ◌≤◌, ◌↔◌, IsTrue, map, List, Some, length, IfOk, MatchOption};
 ghost use Rattle.std.specs.Int.{IsPowerOfTwo};
 ghost use Rattle.p3_field.specs.Ring.{Ring, pow, sub};
-ghost use Rattle.p3_field.specs.Poly.{val, table, Apart};
-ghost use Rattle.p3_field.specs.Domain.{point, van, first_selector, last_selector, transition_selector};
+ghost use Rattle.p3_field.specs.Poly.{eval_poly, tabulate, Apart};
+ghost use Rattle.p3_field.specs.Domain.{point, vanishing_polynomial, first_selector, last_selector, transition_selector};
 ghost use Rattle.p3_matrix.specs.Matrix.{Rows, height};
 ghost use Rattle.p3_matrix.specs.Interpolation.{IsInterpolatedAt};
-ghost use Rattle.p3_commit.specs.Space.{IsPoint, AreDisjoint, IsOffered, IsOutside, IsPart, IsSplit, EachOf};
+ghost use Rattle.p3_commit.specs.Space.{IsPoint, AreDisjoint, IsOffered, IsGeneratorOutside, IsPart, IsSplit, EachOf};
 ghost use Rattle.p3_commit.specs.Periodic.{IsPeriod, IsPeriodicAt, EachFrom};
 ghost use Rattle.p3_field.specs.Laws.Interpolants.{points_apart};
 ghost use Rattle.p3_commit.specs.Laws.Cosets.{point_after, disjoint_where_outside, points_of_part};
@@ -121,7 +121,7 @@ pub trait PolynomialSpace: Copy {
 
     /// The value at a point of the polynomial that vanishes on this space: zero exactly at its points.
     fn vanishing_poly_at_point<Ext: ExtensionField<Self::Val>>(&self, point: Ext) -> Ext
-        ensures value { result ≡ val Ext.ring (map Ext.embed (vanishing_poly self.now)) point }
+        ensures value { result ≡ eval_poly Ext.ring (map Ext.embed (vanishing_poly self.now)) point }
         ensures zero { (result ≡ Ext.ring.zero) ↔ IsPoint (points self.now) (point_at self.now) Ext.embed point };
 
     /// The values of the selectors at a point outside of this space, and one over that of the vanishing polynomial.
@@ -130,10 +130,10 @@ pub trait PolynomialSpace: Copy {
         point: Ext,
     ) -> LagrangeSelectors<Ext>
         requires { IsPoint (points self.now) (point_at self.now) Ext.embed point → ⊥ }
-        ensures first { result.is_first_row ≡ val Ext.ring (map Ext.embed (first_row_poly self.now)) point }
-        ensures last { result.is_last_row ≡ val Ext.ring (map Ext.embed (last_row_poly self.now)) point }
-        ensures transition { result.is_transition ≡ val Ext.ring (map Ext.embed (transition_poly self.now)) point }
-        ensures inverse { result.inv_vanishing ≡ Ext.inv (val Ext.ring (map Ext.embed (vanishing_poly self.now)) point) };
+        ensures first { result.is_first_row ≡ eval_poly Ext.ring (map Ext.embed (first_row_poly self.now)) point }
+        ensures last { result.is_last_row ≡ eval_poly Ext.ring (map Ext.embed (last_row_poly self.now)) point }
+        ensures transition { result.is_transition ≡ eval_poly Ext.ring (map Ext.embed (transition_poly self.now)) point }
+        ensures inverse { result.inv_vanishing ≡ Ext.inv (eval_poly Ext.ring (map Ext.embed (vanishing_poly self.now)) point) };
 
     /// The same at each point of a space that is disjoint from this one.
     fn selectors_on_coset(
@@ -142,10 +142,10 @@ pub trait PolynomialSpace: Copy {
         coset: Self,
     ) -> Mem<LagrangeSelectors<Vec<Self::Val>>>
         requires { AreDisjoint (points self.now) (point_at self.now) (points coset) (point_at coset) }
-        ensures first { IfOk result (λ s. s.is_first_row.items ≡ table (points coset) (λ i. val Self.Val.ring (first_row_poly self.now) (point_at coset i))) }
-        ensures last { IfOk result (λ s. s.is_last_row.items ≡ table (points coset) (λ i. val Self.Val.ring (last_row_poly self.now) (point_at coset i))) }
-        ensures transition { IfOk result (λ s. s.is_transition.items ≡ table (points coset) (λ i. val Self.Val.ring (transition_poly self.now) (point_at coset i))) }
-        ensures inverse { IfOk result (λ s. s.inv_vanishing.items ≡ table (points coset) (λ i. Self.Val.inv (val Self.Val.ring (vanishing_poly self.now) (point_at coset i)))) };
+        ensures first { IfOk result (λ s. s.is_first_row.items ≡ tabulate (points coset) (λ i. eval_poly Self.Val.ring (first_row_poly self.now) (point_at coset i))) }
+        ensures last { IfOk result (λ s. s.is_last_row.items ≡ tabulate (points coset) (λ i. eval_poly Self.Val.ring (last_row_poly self.now) (point_at coset i))) }
+        ensures transition { IfOk result (λ s. s.is_transition.items ≡ tabulate (points coset) (λ i. eval_poly Self.Val.ring (transition_poly self.now) (point_at coset i))) }
+        ensures inverse { IfOk result (λ s. s.inv_vanishing.items ≡ tabulate (points coset) (λ i. Self.Val.inv (eval_poly Self.Val.ring (vanishing_poly self.now) (point_at coset i)))) };
 
     /// The value at a point of a column's interpolant on this space: the polynomial of degree below the number of points
     /// whose value at point i is `evals[i]`. There must be a value for each point. `point` may also lie in this space.
@@ -190,8 +190,8 @@ pub trait PolynomialSpace: Copy {
     ghost part_size: { (d e : Self) (c i : ℕ) → part d c i e → points e * c ≡ points d };
 }
 
-/// Whether two cosets have no point in common (own): they have one exactly where the ratio of their shifts lies in the
-/// larger of their subgroups.
+/// Whether two cosets have no point in common (not in Plonky3): they have one exactly where the ratio of their shifts
+/// lies in the larger of their subgroups.
 pub fn are_disjoint<F: TwoAdicField>(
     first: &TwoAdicMultiplicativeCoset<F>,
     second: &TwoAdicMultiplicativeCoset<F>,
@@ -218,7 +218,7 @@ impl<F: TwoAdicField> PolynomialSpace for TwoAdicMultiplicativeCoset<F> {
 
     ghost transition_degree = { λ _. 0 };
 
-    ghost vanishing_poly = { λ c. van F.ring F.inv c };
+    ghost vanishing_poly = { λ c. vanishing_polynomial F.ring F.inv c };
 
     ghost first_row_poly = { λ c. first_selector F.ring F.inv c };
 
@@ -230,7 +230,7 @@ impl<F: TwoAdicField> PolynomialSpace for TwoAdicMultiplicativeCoset<F> {
 
     ghost offered = { λ c m d. IsOffered F.ring F.GENERATOR c m d };
 
-    ghost outside = { λ c d. IsOutside F.ring F.root F.GENERATOR c d };
+    ghost outside = { λ c d. IsGeneratorOutside F.ring F.root F.GENERATOR c d };
 
     ghost part = { λ c n i d. IsPart F.ring F.root c n i d };
 

@@ -2,7 +2,7 @@
 ghost use Rattle.std.specs.Prelude.{◌≡◌, ℕ, ◌+◌, ◌-◌, ◌*◌, ◌/◌, ◌^◌, ◌<◌, ◌≤◌, ◌↔◌, length, IfOk, MatchOption, IsErrOf, List, ◌++◌};
 ghost use Rattle.std.specs.Int.{IsPowerOfTwo};
 ghost use Rattle.p3_field.specs.Ring.{Ring};
-ghost use Rattle.p3_field.specs.Poly.{table};
+ghost use Rattle.p3_field.specs.Poly.{tabulate};
 ghost use Rattle.p3_matrix.specs.Matrix.{Rows, FillsRows, height};
 ghost use Rattle.p3_commit.specs.Encoder.{IsCodeOf, IsPadded};
 ghost use Rattle.p3_commit.specs.Laws.Codes.{code_shape as shape_of_code};
@@ -23,7 +23,7 @@ pub enum EncodeError {
     /// No subgroup is as large as a codeword is long.
     #[error("no subgroup is as large as a codeword is long")]
     NoSubgroup,
-    /// Memory was wanting.
+    /// Memory ran out.
     #[error("out of memory")]
     OutOfMemory,
 }
@@ -37,7 +37,7 @@ impl From<AllocError> for EncodeError {
 }
 
 /// A linear code, applied to each column of a matrix (`Encoder` of `p3-commit`). A codeword is 2^`log_inv_rate` times
-/// as long as its message. Want of memory may come in place of a code.
+/// as long as its message. Running out of memory may come in place of a code.
 pub trait Encoder<F: Field> {
     // the logarithm to base 2 of the greatest length of a codeword
     ghost log_limit: { ℕ };
@@ -155,7 +155,7 @@ fn padded<F: RingCore>(message: RowMajorMatrix<F>, count: usize) -> Mem<RowMajor
     requires more { length message.values ≤ count }
     requires rows { (k : ℕ) × (count ≡ k * message.width) }
     ensures width { IfOk result (λ p. p.width ≡ message.width) }
-    ensures values { IfOk result (λ p. p.values ≡ message.values ++ table (count - length message.values) (λ _. F.ring.zero)) }
+    ensures values { IfOk result (λ p. p.values ≡ message.values ++ tabulate (count - length message.values) (λ _. F.ring.zero)) }
 {
     let width = message.width;
     let mut values = message.values;

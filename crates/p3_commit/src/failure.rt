@@ -4,10 +4,11 @@ ghost use Rattle.p3_commit.specs.declared.failure.PcsFailure.TheVariants.{OutOfM
 
 use std::alloc::{AllocError, AllocFailed};
 
-/// Why a call of a commitment scheme gave nothing (own: the Rust has `E` alone, since it stops where memory is wanting).
+/// Why a call of a commitment scheme gave nothing (not in Plonky3: the Rust has `E` alone, since it stops where memory
+/// runs out).
 #[derive(Debug, Drop)]
 pub enum PcsFailure<E> {
-    /// Memory is wanting. It may come in place of any other answer.
+    /// Memory ran out. It may come in place of any other answer.
     OutOfMemory,
     /// The scheme refuses, for this cause.
     Refused(E),

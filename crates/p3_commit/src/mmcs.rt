@@ -18,7 +18,7 @@ use std::alloc::{AllocError, Global};
 /// A row is named by its number in the highest matrix. In a matrix of height h it is the row of that number without its
 /// lowest bits, so many that h rows are left.
 pub trait Mmcs<T: Copy + Eq> {
-    /// What the prover keeps of committed matrices.
+    /// The prover data of committed matrices.
     type ProverData: Drop;
 
     /// What a verifier gets of them.
@@ -53,7 +53,7 @@ pub trait Mmcs<T: Copy + Eq> {
 
     ghost multi_fault: { Self → Self.Commitment → List Dimensions → List ℕ → List (List (List T)) → Self.MultiProof → Self.Error → Type 0 };
 
-    /// Commits to at least one matrix, of heights that are powers of two. Memory alone can be wanting.
+    /// Commits to at least one matrix, of heights that are powers of two. Only memory can run out.
     fn commit(
         &self,
         alloc: Global,
@@ -64,8 +64,8 @@ pub trait Mmcs<T: Copy + Eq> {
         ensures matrices { IfOk result (λ w. matrices w.1 ≡ inputs.items) }
         ensures belongs { IfOk result (λ w. belongs self.now w.1 w.0) };
 
-    /// Opens one row of each matrix: of the highest that with this number, which is below its height. Memory alone can be
-    /// wanting.
+    /// Opens one row of each matrix: of the highest that with this number, which is below its height. Only memory can run
+    /// out.
     fn open_batch(
         &self,
         alloc: Global,
@@ -168,22 +168,27 @@ pub trait Mmcs<T: Copy + Eq> {
     // an opening that is accepted has no fault
     ghost opens_faultless: { (s : Self) (c : Self.Commitment) (ds : List Dimensions) (i : ℕ) (rows : List (List T)) (p : Self.Proof) → opens s c ds i rows p → NoneOf (fault s c ds i rows p) };
 
-    ghost multi_opens_faultless: { (s : Self) (c : Self.Commitment) (ds : List Dimensions) (is : List ℕ) (rows : List (List (List T))) (p : Self.MultiProof) → multi_opens s c ds is rows p → NoneOf (multi_fault s c ds is rows p) };
+    ghost multi_opens_faultless: { (s : Self) (c : Self.Commitment) (ds : List Dimensions) (is : List ℕ) (rows : List (List (List T))) (p : Self.MultiProof)
+        → multi_opens s c ds is rows p → NoneOf (multi_fault s c ds is rows p) };
 
     // one that isn't has a first fault
     ghost some_fault: { (s : Self) (c : Self.Commitment) (ds : List Dimensions) (i : ℕ) (rows : List (List T)) (p : Self.Proof) → FaultUnless (opens s c ds i rows p) (fault s c ds i rows p) };
 
-    ghost multi_some_fault: { (s : Self) (c : Self.Commitment) (ds : List Dimensions) (is : List ℕ) (rows : List (List (List T))) (p : Self.MultiProof) → FaultUnless (multi_opens s c ds is rows p) (multi_fault s c ds is rows p) };
+    ghost multi_some_fault: { (s : Self) (c : Self.Commitment) (ds : List Dimensions) (is : List ℕ) (rows : List (List (List T))) (p : Self.MultiProof)
+        → FaultUnless (multi_opens s c ds is rows p) (multi_fault s c ds is rows p) };
 
     // the first fault is one
-    ghost one_fault: { (s : Self) (c : Self.Commitment) (ds : List Dimensions) (i : ℕ) (rows : List (List T)) (p : Self.Proof) (e g : Self.Error) → fault s c ds i rows p e → fault s c ds i rows p g → e ≡ g };
+    ghost one_fault: { (s : Self) (c : Self.Commitment) (ds : List Dimensions) (i : ℕ) (rows : List (List T)) (p : Self.Proof) (e g : Self.Error)
+        → fault s c ds i rows p e → fault s c ds i rows p g → e ≡ g };
 
-    ghost multi_one_fault: { (s : Self) (c : Self.Commitment) (ds : List Dimensions) (is : List ℕ) (rows : List (List (List T))) (p : Self.MultiProof) (e g : Self.Error) → multi_fault s c ds is rows p e → multi_fault s c ds is rows p g → e ≡ g };
+    ghost multi_one_fault: { (s : Self) (c : Self.Commitment) (ds : List Dimensions) (is : List ℕ) (rows : List (List (List T))) (p : Self.MultiProof) (e g : Self.Error)
+        → multi_fault s c ds is rows p e → multi_fault s c ds is rows p g → e ≡ g };
 
     // rows that are accepted have their matrices' widths
     ghost opened_widths: { (s : Self) (c : Self.Commitment) (ds : List Dimensions) (i : ℕ) (rows : List (List T)) (p : Self.Proof) → opens s c ds i rows p → HaveWidths ds rows };
 
-    ghost multi_opened_widths: { (s : Self) (c : Self.Commitment) (ds : List Dimensions) (is : List ℕ) (rows : List (List (List T))) (p : Self.MultiProof) → multi_opens s c ds is rows p → All (HaveWidths ds) rows };
+    ghost multi_opened_widths: { (s : Self) (c : Self.Commitment) (ds : List Dimensions) (is : List ℕ) (rows : List (List (List T))) (p : Self.MultiProof)
+        → multi_opens s c ds is rows p → All (HaveWidths ds) rows };
 }
 
 /// The rows opened of a batch of matrices, one each, with the proof that they are the committed ones (`BatchOpening` of
@@ -290,7 +295,7 @@ fn heights_of<T>(alloc: Global, matrices: &[RowMajorMatrix<T>]) -> Mem<Vec<usize
     matrices.iter().map(|m| m.height()).collect(alloc)
 }
 
-/// The height of the highest matrix (own), and None exactly where there is no matrix.
+/// The height of the highest matrix (not in Plonky3), and None exactly where there is no matrix.
 pub fn greatest_height<T>(matrices: &[RowMajorMatrix<T>]) -> Option<usize>
     ensures { MatchOption result (length matrices.now ≡ 0) (IsGreatest (map (λ m. height m) matrices.now)) }
 {

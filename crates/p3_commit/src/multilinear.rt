@@ -20,7 +20,7 @@ where
     /// What a verifier gets of a witness.
     type Commitment: Drop;
 
-    /// What the prover keeps of it.
+    /// The prover data of it.
     type ProverData: Drop;
 
     /// A proof of what is opened.

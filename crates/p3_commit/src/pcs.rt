@@ -4,7 +4,7 @@ ghost use Rattle.std.specs.Int.{IsPowerOfTwo};
 ghost use Rattle.p3_matrix.specs.Matrix.{Rows};
 ghost use Rattle.p3_commit.specs.Claims.{CommitmentClaim, Request};
 ghost use Rattle.p3_commit.specs.Failure.{NoneOf, FaultUnless, RefusedBy, IfRefused, VerifiedBy};
-ghost use Rattle.p3_commit.specs.Commitments.{IsSubgroup, Committed, IsCommitment, Held, AreHeld, nested, AreClaims, IsOpening};
+ghost use Rattle.p3_commit.specs.Commitments.{IsSubgroup, Committed, IsCommitment, OpenedCommitment, AreOpenedCommitments, nested, AreClaims, IsOpening};
 
 use crate::claims::{CommitmentOpening, OpenedValues, OpeningRequest};
 use crate::domain::PolynomialSpace;
@@ -34,7 +34,7 @@ where
     /// What a verifier gets of committed matrices.
     type Commitment: Drop;
 
-    /// What the prover keeps of them.
+    /// The prover data of them.
     type ProverData: Drop;
 
     /// A proof of opened values.
@@ -115,7 +115,7 @@ where
         ensures unchanged { IfRefused result (λ _. challenger.new ≡ challenger.old) }
         ensures proof { IfOk result (λ w. proves self.now challenger.old requests.entry.items w.1) }
         ensures after { IfOk result (λ w. challenger.new ≡ after_open self.now challenger.old requests.entry.items w.1) }
-        ensures opening { IfOk result (λ w. (held : List (Held Self.Commitment Self.Val)) → AreHeld (holds self.now) requests.entry.items held
+        ensures opening { IfOk result (λ w. (held : List (OpenedCommitment Self.Commitment Self.Val)) → AreOpenedCommitments (holds self.now) requests.entry.items held
             → IsOpening Challenge.ring Challenge.embed Self.Domain.points (excludes self.now) (λ claims. opens self.now challenger.old claims w.1) requests.entry.items (nested w.0) held) };
 
     /// Whether the proof opens the claims from the challenger's state: Ok exactly where it does (`opens`), and else
@@ -144,7 +144,8 @@ where
     ghost some_fault: { (s : Self) (t : Challenger) (claims : List (CommitmentClaim Challenge Self.Commitment Self.Domain)) (p : Self.Proof) → FaultUnless (opens s t claims p) (fault s t claims p) };
 
     // the first fault is one
-    ghost one_fault: { (s : Self) (t : Challenger) (claims : List (CommitmentClaim Challenge Self.Commitment Self.Domain)) (p : Self.Proof) (e g : Self.Error) → fault s t claims p e → fault s t claims p g → e ≡ g };
+    ghost one_fault: { (s : Self) (t : Challenger) (claims : List (CommitmentClaim Challenge Self.Commitment Self.Domain)) (p : Self.Proof) (e g : Self.Error)
+        → fault s t claims p e → fault s t claims p g → e ≡ g };
 
     // and so is the cause to refuse to commit, and to open
     ghost one_commit_fault: { (s : Self) (es : List (Self.Domain × Rows Self.Val)) (e g : Self.ProverError) → commit_fault s es e → commit_fault s es g → e ≡ g };
@@ -153,7 +154,8 @@ where
 
     // Where the proof of an opening opens the claims of what was asked for, the verification leaves the challenger as the
     // opening did.
-    ghost one_state: { (s : Self) (t : Challenger) (requests : List (Request Self.ProverData Challenge)) (held : List (Held Self.Commitment Self.Val)) (claims : List (CommitmentClaim Challenge Self.Commitment Self.Domain)) (p : Self.Proof)
-        → proves s t requests p → AreHeld (holds s) requests held → AreClaims Challenge.ring Challenge.embed Self.Domain.points held requests claims → opens s t claims p
+    ghost one_state: { (s : Self) (t : Challenger) (requests : List (Request Self.ProverData Challenge)) (held : List (OpenedCommitment Self.Commitment Self.Val))
+        (claims : List (CommitmentClaim Challenge Self.Commitment Self.Domain)) (p : Self.Proof)
+        → proves s t requests p → AreOpenedCommitments (holds s) requests held → AreClaims Challenge.ring Challenge.embed Self.Domain.points held requests claims → opens s t claims p
         → after_open s t requests p ≡ after_verify s t claims p };
 }

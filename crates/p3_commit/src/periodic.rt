@@ -57,7 +57,8 @@ impl<'a, F> PeriodicColumns<'a, F> {
     /// is a power of two, so not zero, and divides the height; every length divides height 0. Otherwise the error
     /// names the first column that doesn't fit.
     pub fn new(columns: &'a [Vec<F>], height: usize) -> Result<Self, PeriodicColumnShapeError>
-        ensures { MatchResult result (λ p. (p.columns.now ≡ columns.now) × (p.height ≡ height) × All (λ c. IsPeriod height (length c.items)) columns.now) (NamesFirstUnfit height (map (λ c. length c.items) columns.now)) }
+        ensures { MatchResult result (λ p. (p.columns.now ≡ columns.now) × (p.height ≡ height) × All (λ c. IsPeriod height (length c.items)) columns.now)
+            (NamesFirstUnfit height (map (λ c. length c.items) columns.now)) }
     {
         for (index, column) in columns.iter().enumerate() {
             let length = column.len();

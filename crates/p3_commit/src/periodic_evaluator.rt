@@ -22,7 +22,8 @@ pub trait PeriodicEvaluator<F: Field, D: PolynomialSpace<Val = F>> {
         lde_domain: &D,
     ) -> Mem<PeriodicLdeTable<F>>
         requires { takes trace_domain.now (map (λ c. c.items) periodic_table.now) }
-        ensures { IfOk result (IsPeriodicTable F.ring (D.points trace_domain.now) (D.point_at trace_domain.now) (D.points lde_domain.now) (D.point_at lde_domain.now) (map (λ c. c.items) periodic_table.now)) };
+        ensures { IfOk result (IsPeriodicTable F.ring (D.points trace_domain.now) (D.point_at trace_domain.now) (D.points lde_domain.now) (D.point_at lde_domain.now)
+            (map (λ c. c.items) periodic_table.now)) };
 
     /// The columns' values at a point, in order.
     fn eval_at_point<EF: ExtensionField<F>>(

@@ -1,8 +1,8 @@
 //! The selectors of a coset's rows.
 ghost use Rattle.std.specs.Prelude.{◌≡◌, ℕ, ◌+◌, ◌*◌, ◌^◌, ◌<◌, ◌≤◌, map, length, get_or, IfOk};
 ghost use Rattle.p3_field.specs.Ring.{Ring, pow, sub};
-ghost use Rattle.p3_field.specs.Poly.{val, table};
-ghost use Rattle.p3_field.specs.Domain.{coset_point, point, van, first_selector, last_selector, transition_selector};
+ghost use Rattle.p3_field.specs.Poly.{eval_poly, tabulate};
+ghost use Rattle.p3_field.specs.Domain.{coset_point, point, vanishing_polynomial, first_selector, last_selector, transition_selector};
 ghost use Rattle.p3_commit.specs.Space.{IsPoint, AreDisjoint};
 
 use p3_field::{
@@ -32,10 +32,10 @@ pub(crate) fn selectors_at<F: TwoAdicField, EF: ExtensionField<F>>(
     x: EF,
 ) -> LagrangeSelectors<EF>
     requires { IsPoint (2 ^ domain.now.log_size) (point F.ring F.root domain.now) EF.embed x → ⊥ }
-    ensures first { result.is_first_row ≡ val EF.ring (map EF.embed (first_selector F.ring F.inv domain.now)) x }
-    ensures last { result.is_last_row ≡ val EF.ring (map EF.embed (last_selector F.ring F.inv F.root domain.now)) x }
-    ensures transition { result.is_transition ≡ val EF.ring (map EF.embed (transition_selector F.ring F.inv F.root domain.now)) x }
-    ensures inverse { result.inv_vanishing ≡ EF.inv (val EF.ring (map EF.embed (van F.ring F.inv domain.now)) x) }
+    ensures first { result.is_first_row ≡ eval_poly EF.ring (map EF.embed (first_selector F.ring F.inv domain.now)) x }
+    ensures last { result.is_last_row ≡ eval_poly EF.ring (map EF.embed (last_selector F.ring F.inv F.root domain.now)) x }
+    ensures transition { result.is_transition ≡ eval_poly EF.ring (map EF.embed (transition_selector F.ring F.inv F.root domain.now)) x }
+    ensures inverse { result.inv_vanishing ≡ EF.inv (eval_poly EF.ring (map EF.embed (vanishing_polynomial F.ring F.inv domain.now)) x) }
 {
     domain.valid();
     let ratio = EF::from_base(domain.shift_inverse()) * x;
@@ -52,7 +52,7 @@ pub(crate) fn selectors_at<F: TwoAdicField, EF: ExtensionField<F>>(
 
 // first - minus, first * step - minus, ..
 fn shifted_powers<F: Field>(alloc: Global, first: F, step: F, size: usize, minus: F) -> Mem<Vec<F>>
-    ensures { IfOk result (λ v. v.items ≡ table size (λ i. sub F.ring (coset_point F.ring first step i) minus)) }
+    ensures { IfOk result (λ v. v.items ≡ tabulate size (λ i. sub F.ring (coset_point F.ring first step i) minus)) }
 {
     let mut values = Vec::with_capacity(alloc, size)?;
     let mut power = first;
@@ -67,7 +67,7 @@ fn shifted_powers<F: Field>(alloc: Global, first: F, step: F, size: usize, minus
 fn quotients<F: Field>(alloc: Global, dividends: &[F], divisors: &[F]) -> Mem<Vec<F>>
     requires same { length dividends.now ≡ length divisors.now }
     requires nonzero { (i : ℕ) → i < length divisors.now → get_or divisors.now i F.ring.zero ≡ F.ring.zero → ⊥ }
-    ensures { IfOk result (λ v. v.items ≡ table (length dividends.now) (λ i. F.ring.mul (get_or dividends.now i F.ring.zero) (F.inv (get_or divisors.now i F.ring.zero)))) }
+    ensures { IfOk result (λ v. v.items ≡ tabulate (length dividends.now) (λ i. F.ring.mul (get_or dividends.now i F.ring.zero) (F.inv (get_or divisors.now i F.ring.zero)))) }
 {
     let inverses = batch_multiplicative_inverse(alloc, divisors)?;
     let mut values = Vec::with_capacity(alloc, dividends.len())?;
@@ -84,10 +84,12 @@ pub(crate) fn selectors_on<F: TwoAdicField>(
     coset: &TwoAdicMultiplicativeCoset<F>,
 ) -> Mem<LagrangeSelectors<Vec<F>>>
     requires { AreDisjoint (2 ^ domain.now.log_size) (point F.ring F.root domain.now) (2 ^ coset.now.log_size) (point F.ring F.root coset.now) }
-    ensures first { IfOk result (λ s. s.is_first_row.items ≡ table (2 ^ coset.now.log_size) (λ i. val F.ring (first_selector F.ring F.inv domain.now) (point F.ring F.root coset.now i))) }
-    ensures last { IfOk result (λ s. s.is_last_row.items ≡ table (2 ^ coset.now.log_size) (λ i. val F.ring (last_selector F.ring F.inv F.root domain.now) (point F.ring F.root coset.now i))) }
-    ensures transition { IfOk result (λ s. s.is_transition.items ≡ table (2 ^ coset.now.log_size) (λ i. val F.ring (transition_selector F.ring F.inv F.root domain.now) (point F.ring F.root coset.now i))) }
-    ensures inverse { IfOk result (λ s. s.inv_vanishing.items ≡ table (2 ^ coset.now.log_size) (λ i. F.inv (val F.ring (van F.ring F.inv domain.now) (point F.ring F.root coset.now i)))) }
+    ensures first { IfOk result (λ s. s.is_first_row.items ≡ tabulate (2 ^ coset.now.log_size) (λ i. eval_poly F.ring (first_selector F.ring F.inv domain.now) (point F.ring F.root coset.now i))) }
+    ensures last { IfOk result (λ s. s.is_last_row.items ≡ tabulate (2 ^ coset.now.log_size) (λ i. eval_poly F.ring (last_selector F.ring F.inv F.root domain.now) (point F.ring F.root coset.now i))) }
+    ensures transition { IfOk result (λ s. s.is_transition.items
+        ≡ tabulate (2 ^ coset.now.log_size) (λ i. eval_poly F.ring (transition_selector F.ring F.inv F.root domain.now) (point F.ring F.root coset.now i))) }
+    ensures inverse { IfOk result (λ s. s.inv_vanishing.items
+        ≡ tabulate (2 ^ coset.now.log_size) (λ i. F.inv (eval_poly F.ring (vanishing_polynomial F.ring F.inv domain.now) (point F.ring F.root coset.now i)))) }
 {
     domain.valid();
     let log_size = domain.log_size();
@@ -112,26 +114,26 @@ pub(crate) fn selectors_on<F: TwoAdicField>(
     })
 }
 
-/// The first selector of a trace domain, whose shift is one, at a point u (own): the product of 1 + u^(2^j) for j
-/// below the logarithm of the size. It needs no inverse.
+/// The first selector of a trace domain, whose shift is one, at a point u (not in Plonky3): the product of 1 +
+/// u^(2^j) for j below the logarithm of the size. It needs no inverse.
 pub fn first_selector_at<F: TwoAdicField, EF: ExtensionField<F>>(
     domain: &TwoAdicMultiplicativeCoset<F>,
     point: EF,
 ) -> EF
     requires { domain.now.shift ≡ F.ring.one }
-    ensures { result ≡ val EF.ring (map EF.embed (first_selector F.ring F.inv domain.now)) point }
+    ensures { result ≡ eval_poly EF.ring (map EF.embed (first_selector F.ring F.inv domain.now)) point }
 {
     sum_of_powers(point, domain.log_size())
 }
 
-/// The last selector of a trace domain, whose shift is one, at a point u (own): with its generator h, h times the
-/// first selector at h * u. It needs no inverse.
+/// The last selector of a trace domain, whose shift is one, at a point u (not in Plonky3): with its generator h,
+/// h times the first selector at h * u. It needs no inverse.
 pub fn last_selector_at<F: TwoAdicField, EF: ExtensionField<F>>(
     domain: &TwoAdicMultiplicativeCoset<F>,
     point: EF,
 ) -> EF
     requires { domain.now.shift ≡ F.ring.one }
-    ensures { result ≡ val EF.ring (map EF.embed (last_selector F.ring F.inv F.root domain.now)) point }
+    ensures { result ≡ eval_poly EF.ring (map EF.embed (last_selector F.ring F.inv F.root domain.now)) point }
 {
     domain.valid();
     let generator = EF::from_base(domain.subgroup_generator());

@@ -62,9 +62,9 @@ pub(crate) fn split_rows<F: Copy>(
     Ok(parts)
 }
 
-/// Every stride-th row of a matrix from row `first` on (own): row j of the answer is row first + stride j. `first` is
-/// below `stride`, and `stride` divides the matrix's height; the answer is as wide as the matrix and has height / stride
-/// rows. The only error is want of memory.
+/// Every stride-th row of a matrix from row `first` on (not in Plonky3): row j of the answer is row first + stride j.
+/// `first` is below `stride`, and `stride` divides the matrix's height; the answer is as wide as the matrix and has
+/// height / stride rows. The only error is running out of memory.
 pub fn rows_from<F: Copy>(
     alloc: Global,
     m: &RowMajorMatrix<F>,

@@ -5,7 +5,7 @@ ghost use Rattle.p3_matrix.specs.Matrix.{Rows, height};
 ghost use Rattle.p3_commit.specs.Periodic.{IsPeriod, IsPeriodicTable};
 ghost use Rattle.p3_commit.specs.Claims.{CommitmentClaim, Request};
 ghost use Rattle.p3_commit.specs.Failure.{NoneOf, RefusedBy, FaultInTurn, NoneInTurn, IfRefused, VerifiedBy};
-ghost use Rattle.p3_commit.specs.Commitments.{Committed, IsCommitment, IsEvaluated, Held, AreHeld, nested, IsOpening, AreParts, AreExtensions};
+ghost use Rattle.p3_commit.specs.Commitments.{Committed, IsCommitment, IsEvaluated, OpenedCommitment, AreOpenedCommitments, nested, IsOpening, AreParts, AreExtensions};
 
 use crate::claims::{CommitmentOpening, OpenedValues, OpeningRequest};
 use crate::domain::PolynomialSpace;
@@ -98,7 +98,8 @@ where
     ) -> Mem<RowMajorMatrix<Self::Val>>
         requires made { Self.made self.now prover_data.now }
         requires index { idx < Self.matrix_count self.now prover_data.now }
-        ensures { IfOk result (λ m. (commitment : Self.Commitment) (cs : List (Committed Self.Val)) (c : Committed Self.Val) → Self.holds self.now prover_data.now commitment cs → slice_get cs idx ≡ Some c
+        ensures { IfOk result (λ m. (commitment : Self.Commitment) (cs : List (Committed Self.Val)) (c : Committed Self.Val)
+            → Self.holds self.now prover_data.now commitment cs → slice_get cs idx ≡ Some c
             → IsEvaluated Self.Val.ring (Self.Domain.points domain) (Self.Domain.point_at domain) c m) };
 
     /// The same without masking, under the same conditions.
@@ -111,7 +112,8 @@ where
     ) -> Mem<RowMajorMatrix<Self::Val>>
         requires made { Self.made self.now prover_data.now }
         requires index { idx < Self.matrix_count self.now prover_data.now }
-        ensures { IfOk result (λ m. (commitment : Self.Commitment) (cs : List (Committed Self.Val)) (c : Committed Self.Val) → Self.holds self.now prover_data.now commitment cs → slice_get cs idx ≡ Some c
+        ensures { IfOk result (λ m. (commitment : Self.Commitment) (cs : List (Committed Self.Val)) (c : Committed Self.Val)
+            → Self.holds self.now prover_data.now commitment cs → slice_get cs idx ≡ Some c
             → IsEvaluated Self.Val.ring (Self.Domain.points domain) (Self.Domain.point_at domain) c m) }
     {
         self.get_evaluations_on_domain(alloc, prover_data, idx, domain)
@@ -130,7 +132,8 @@ where
         requires fit { All (λ c. IsPeriod (Self.Domain.points trace_domain) (length c.items)) periodic_cols.now }
         requires shift { Self.Domain.point_at trace_domain 0 ≡ Self.Val.ring.one }
         requires larger { Self.Domain.points trace_domain ≤ Self.Domain.points quotient_domain }
-        ensures { IfOk result (IsPeriodicTable Self.Val.ring (Self.Domain.points trace_domain) (Self.Domain.point_at trace_domain) (Self.Domain.points quotient_domain) (Self.Domain.point_at quotient_domain) (map (λ c. c.items) periodic_cols.now)) };
+        ensures { IfOk result (IsPeriodicTable Self.Val.ring (Self.Domain.points trace_domain) (Self.Domain.point_at trace_domain) (Self.Domain.points quotient_domain)
+            (Self.Domain.point_at quotient_domain) (map (λ c. c.items) periodic_cols.now)) };
 
     /// A commitment to polynomials of random values, which a scheme that masks nothing lacks.
     fn get_opt_randomization_poly_commitment(
@@ -199,7 +202,7 @@ where
         ensures unchanged { IfRefused result (λ _. challenger.new ≡ challenger.old) }
         ensures proof { IfOk result (λ w. Self.proves self.now challenger.old requests.entry.items w.1) }
         ensures after { IfOk result (λ w. challenger.new ≡ Self.after_open self.now challenger.old requests.entry.items w.1) }
-        ensures opening { IfOk result (λ w. (held : List (Held Self.Commitment Self.Val)) → AreHeld (Self.holds self.now) requests.entry.items held
+        ensures opening { IfOk result (λ w. (held : List (OpenedCommitment Self.Commitment Self.Val)) → AreOpenedCommitments (Self.holds self.now) requests.entry.items held
             → IsOpening Challenge.ring Challenge.embed Self.Domain.points (Self.excludes self.now) (λ claims. Self.opens self.now challenger.old claims w.1) requests.entry.items (nested w.0) held) }
     {
         self.open(alloc, requests, challenger)
@@ -228,11 +231,13 @@ where
 
     // The causes to refuse a quotient are those to refuse its parts: a cause to extend them, or else to commit to what may be
     // their extensions, is one.
-    ghost quotient_refused: { (s : Self) (d : Self.Domain) (m : Rows Self.Val) (n : ℕ) (parts : List (Self.Domain × Rows Self.Val)) (e : Self.ProverError) → IsPowerOfTwo n → n ≤ Self.Domain.points d → height m ≡ Self.Domain.points d
+    ghost quotient_refused: { (s : Self) (d : Self.Domain) (m : Rows Self.Val) (n : ℕ) (parts : List (Self.Domain × Rows Self.Val)) (e : Self.ProverError)
+        → IsPowerOfTwo n → n ≤ Self.Domain.points d → height m ≡ Self.Domain.points d
         → AreParts (Self.Domain.part d n) m n parts → FaultInTurn (extension_fault s parts n) (AreExtensions (extends s) parts) (ldes_fault s) e → quotient_fault s d m n e };
 
     // where the parts have no cause, and some extensions of them have none, the quotient has none
-    ghost quotient_granted: { (s : Self) (d : Self.Domain) (m : Rows Self.Val) (n : ℕ) (parts : List (Self.Domain × Rows Self.Val)) → IsPowerOfTwo n → n ≤ Self.Domain.points d → height m ≡ Self.Domain.points d
+    ghost quotient_granted: { (s : Self) (d : Self.Domain) (m : Rows Self.Val) (n : ℕ) (parts : List (Self.Domain × Rows Self.Val)) → IsPowerOfTwo n
+        → n ≤ Self.Domain.points d → height m ≡ Self.Domain.points d
         → AreParts (Self.Domain.part d n) m n parts → NoneInTurn (extension_fault s parts n) (AreExtensions (extends s) parts) (ldes_fault s) → NoneOf (quotient_fault s d m n) };
 
     // the cause to refuse to extend, to commit to extensions, and to commit to a quotient, is one

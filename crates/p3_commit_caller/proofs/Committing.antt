@@ -3,7 +3,7 @@ use Rattle.std.proofs.Common.{◌≡◌, ◌∙◌, ℕ, List, [], ◌∷◌, le
 use Rattle.std.specs.Prelude.{Result, Ok, Err, IsErrAnd}
 use Rattle.std.proofs.lemmas.List.{length-map, get_or-map}
 use Rattle.p3_field.specs.Ring.{Ring}
-use Rattle.p3_field.specs.Poly.{val}
+use Rattle.p3_field.specs.Poly.{eval_poly}
 use Rattle.p3_matrix.specs.Matrix.{Rows}
 use Rattle.p3_commit.specs.Commitments.{Committed, IsCommitment, IsCommitted, AreCommitted, values_of}
 use Rattle.p3_commit.specs.Failure.{IfRefused}
@@ -37,7 +37,7 @@ values_of_committed {F = F} {E = E} r s embed n p m c x ys q e = record {
 }
   where
     f : List F → E
-    f g = val s (map embed g) x
+    f g = eval_poly s (map embed g) x
 
 -- a refusal that is handed on, with what its cause leads to
 pub open_refused : {T E : Type 0} (V : Type 0) (P Q : E → Type 0) → ((e : E) → P e → Q e) → (r : Result T (PcsFailure E)) (f : PcsFailure E) → IsErrAnd r (λ x. x ≡ f) → IfRefused {T = V} (Err f) P → IfRefused r Q

@@ -8,7 +8,7 @@ use Rattle.p3_commit.specs.Periodic.{EachFrom}
 use Rattle.p3_commit.specs.Failure.{NoneOf, RefusedBy, IfRefused, FaultInTurn}
 use Rattle.p3_commit.specs.declared.failure.PcsFailure.{PcsFailure}
 use Rattle.p3_commit.specs.declared.failure.PcsFailure.TheVariants.{OutOfMemory, Refused}
-use Rattle.p3_commit_caller.specs.Causes.{IsCause, FirstRefused}
+use Rattle.p3_commit_caller.specs.Causes.{IsCause, IsCauseOfFirstRefused}
 use Rattle.p3_commit_caller.proofs.Lists.{each_yielded, same_item}
 
 pub cause_is : {E : Type 0} (faults : E → Type 0) (e : E) → ((f g : E) → faults f → faults g → f ≡ g) → faults e → IsCause faults e
@@ -73,19 +73,19 @@ module _ {X E : Type 0} (faults : X → E → Type 0) where
         subst (λ v. NoneOf (faults v)) (sym same) here
   ]
 
-  pub none_refused : (xs : List X) (n : ℕ) → n ≡ length xs → NoneBefore xs n → NoneOf (FirstRefused faults xs)
+  pub none_refused : (xs : List X) (n : ℕ) → n ≡ length xs → NoneBefore xs n → NoneOf (IsCauseOfFirstRefused faults xs)
   none_refused xs n m before = λ e r. before r.place r.item (omega (arith, m, slice_get_within xs r.place r.item r.is_item)) r.is_item e r.cause
 
-  pub all_granted : (xs : List X) → NoneOf (FirstRefused faults xs) → (n : ℕ) → NoneBefore xs n
+  pub all_granted : (xs : List X) → NoneOf (IsCauseOfFirstRefused faults xs) → (n : ℕ) → NoneBefore xs n
   all_granted xs none zero = λ j x l q. absurd (omega arith)
   all_granted xs none (suc n) = λ j x l q e f.
       none e (record { place = j; item = x; is_item = q; cause = f; earlier = λ k y b r. all_granted xs none n k y (omega arith) r })
 
-  pub refused_at : (xs : List X) (n : ℕ) (x : X) (e : E) → slice_get xs n ≡ Some x → NoneBefore xs n → faults x e → FirstRefused faults xs e
+  pub refused_at : (xs : List X) (n : ℕ) (x : X) (e : E) → slice_get xs n ≡ Some x → NoneBefore xs n → faults x e → IsCauseOfFirstRefused faults xs e
   refused_at xs n x e q before f = record { place = n; item = x; is_item = q; cause = f; earlier = before }
 
   -- with one item more
-  pub refused_earlier : (xs : List X) (y : X) (e : E) → FirstRefused faults xs e → FirstRefused faults (xs ++ y ∷ []) e
+  pub refused_earlier : (xs : List X) (y : X) (e : E) → IsCauseOfFirstRefused faults xs e → IsCauseOfFirstRefused faults (xs ++ y ∷ []) e
   refused_earlier xs y e r = record {
     place = r.place;
     item = r.item;
@@ -94,7 +94,7 @@ module _ {X E : Type 0} (faults : X → E → Type 0) where
     earlier = λ j x l q. r.earlier j x l (below_end xs y j x (omega (arith, slice_get_within xs r.place r.item r.is_item)) q);
   }
 
-  pub refused_last : (xs : List X) (y : X) (e : E) → NoneOf (FirstRefused faults xs) → faults y e → FirstRefused faults (xs ++ y ∷ []) e
+  pub refused_last : (xs : List X) (y : X) (e : E) → NoneOf (IsCauseOfFirstRefused faults xs) → faults y e → IsCauseOfFirstRefused faults (xs ++ y ∷ []) e
   refused_last xs y e none f = record {
     place = length xs;
     item = y;
@@ -103,7 +103,7 @@ module _ {X E : Type 0} (faults : X → E → Type 0) where
     earlier = λ j x l q. all_granted xs none (length xs) j x l (below_end xs y j x l q);
   }
 
-  pub none_pushed : (xs : List X) (y : X) → NoneOf (FirstRefused faults xs) → NoneOf (faults y) → NoneOf (FirstRefused faults (xs ++ y ∷ []))
+  pub none_pushed : (xs : List X) (y : X) → NoneOf (IsCauseOfFirstRefused faults xs) → NoneOf (faults y) → NoneOf (IsCauseOfFirstRefused faults (xs ++ y ∷ []))
   none_pushed xs y none here = λ e r. elim (cases_lt r.place (length xs)) [
     | inl a ↦ all_granted xs none (length xs) r.place r.item a (below_end xs y r.place r.item a r.is_item) e r.cause
     | inr a ↦

@@ -6,12 +6,12 @@ use Rattle.std.proofs.lemmas.Option.{slice_get_within}
 use Rattle.p3_field.specs.Ring.{Ring}
 use Rattle.p3_matrix.specs.Matrix.{Rows}
 use Rattle.p3_commit.specs.Claims.{CommitmentClaim, Request}
-use Rattle.p3_commit.specs.Commitments.{Committed, AreCommitted, Held, AreHeld, HavePoints, IsMatrixClaim, IsRoundClaim, AreClaims, AvoidAll, IsOpening, values_of, opened_round, opened}
+use Rattle.p3_commit.specs.Commitments.{Committed, AreCommitted, OpenedCommitment, AreOpenedCommitments, HavePoints, IsMatrixClaim, IsRoundClaim, AreClaims, AvoidAll, IsOpening, values_of, opened_round, opened}
 use Rattle.p3_commit.specs.Periodic.{EachFrom}
 use Rattle.p3_commit.specs.Laws.OneItem.{round_in}
 use Rattle.p3_commit.specs.Laws.Pairs.{length-zip, slice_get-zip}
 use Rattle.p3_commit_caller.specs.Single.{AreValues}
-use Rattle.p3_commit_caller.specs.Rounds.{RoundData, KeptRound, IsKept, request_of, requests_of, claims_at, matrix_claim, matrix_claims, round_claim, round_claims, HaveShape, IsClaimed, IsRoundClaimed, AreFree}
+use Rattle.p3_commit_caller.specs.Rounds.{RoundData, CommittedRoundData, IsCommittedRound, request_of, requests_of, claims_at, claim_of_matrix, matrix_claims, round_claim, round_claims, HaveRoundShape, IsClaimed, IsRoundClaimed, AreFree}
 use Rattle.p3_commit_caller.proofs.Committing.{values_of_committed}
 use Rattle.p3_commit_caller.proofs.Lists.{item_at, same_item, all_items, item_has, map_item, mapped_item, zip_item, each_paired, each_from_paired, each_map, chosen}
 
@@ -21,42 +21,42 @@ claims_of_map f [] = refl
 claims_of_map f (x ∷ xs) = ap (λ l. record { point = x; values = f x } ∷ l) (claims_of_map f xs)
 
 -- along equations of what is kept and of the opened values
-pub requests_along : {D E C P : Type 0} (reqs : List (Request P E)) (ls ks : List (KeptRound D E C P)) → reqs ≡ requests_of ls → ls ≡ ks → reqs ≡ requests_of ks
+pub requests_along : {D E C P : Type 0} (reqs : List (Request P E)) (ls ks : List (CommittedRoundData D E C P)) → reqs ≡ requests_of ls → ls ≡ ks → reqs ≡ requests_of ks
 requests_along reqs ls ks e h = e ∙ ap requests_of h
 
-pub claims_of_along : {D E C P A : Type 0} (claims : List (CommitmentClaim E C D)) (ls ks : List (KeptRound D E C P)) (ws vs : List (Vec (Vec (Vec E A) A) A)) → claims ≡ round_claims ls (map round_in ws) → ls ≡ ks → ws ≡ vs → claims ≡ round_claims ks (map round_in vs)
+pub claims_of_along : {D E C P A : Type 0} (claims : List (CommitmentClaim E C D)) (ls ks : List (CommittedRoundData D E C P)) (ws vs : List (Vec (Vec (Vec E A) A) A)) → claims ≡ round_claims ls (map round_in ws) → ls ≡ ks → ws ≡ vs → claims ≡ round_claims ks (map round_in vs)
 claims_of_along claims ls ks ws vs e h k = e ∙ (ap (λ l. round_claims l (map round_in ws)) h ∙ ap (λ l. round_claims ks (map round_in l)) k)
 
-pub shapes_along : {D E C P A : Type 0} (ls ks : List (KeptRound D E C P)) (ws vs : List (Vec (Vec (Vec E A) A) A)) → ls ≡ ks → ws ≡ vs → EachFrom ks (map round_in vs) (λ k ys. HaveShape k.domains k.points ys)
-    → EachFrom ls (map round_in ws) (λ k ys. HaveShape k.domains k.points ys)
+pub shapes_along : {D E C P A : Type 0} (ls ks : List (CommittedRoundData D E C P)) (ws vs : List (Vec (Vec (Vec E A) A) A)) → ls ≡ ks → ws ≡ vs → EachFrom ks (map round_in vs) (λ k ys. HaveRoundShape k.domains k.points ys)
+    → EachFrom ls (map round_in ws) (λ k ys. HaveRoundShape k.domains k.points ys)
 shapes_along {D} {E} {C} {P} {A} ls ks ws vs h k S =
-    subst (λ (l : List (KeptRound D E C P)). EachFrom l (map round_in ws) (λ k ys. HaveShape k.domains k.points ys)) (sym h)
-    (subst (λ (l : List (Vec (Vec (Vec E A) A) A)). EachFrom ks (map round_in l) (λ k ys. HaveShape k.domains k.points ys)) (sym k) S)
+    subst (λ (l : List (CommittedRoundData D E C P)). EachFrom l (map round_in ws) (λ k ys. HaveRoundShape k.domains k.points ys)) (sym h)
+    (subst (λ (l : List (Vec (Vec (Vec E A) A) A)). EachFrom ks (map round_in l) (λ k ys. HaveRoundShape k.domains k.points ys)) (sym k) S)
 
 -- h holds the polynomials of a round that was committed to
-pub record IsHeldRound {D F E C P : Type 0} (r : Ring F) (points : D → ℕ) (point_at : D → ℕ → F) (commits : List (D × Rows F) → C → Type 0) (made : P → Type 0) (holds : P → C → List (Committed F) → Type 0) (round : RoundData D F E) (k : KeptRound D E C P) (h : Held C F) : Type 0 where
-  pub kept : IsKept r points point_at commits made holds round k
+pub record IsOpenedRound {D F E C P : Type 0} (r : Ring F) (points : D → ℕ) (point_at : D → ℕ → F) (commits : List (D × Rows F) → C → Type 0) (made : P → Type 0) (holds : P → C → List (Committed F) → Type 0) (round : RoundData D F E) (k : CommittedRoundData D E C P) (h : OpenedCommitment C F) : Type 0 where
+  pub prover_rounds : IsCommittedRound r points point_at commits made holds round k
   pub commitment_is : h.commitment ≡ k.commitment
   pub are : AreCommitted r points point_at round.evaluations h.matrices
   pub held : holds k.prover_data h.commitment h.matrices
 
 module _ {D F E C P : Type 0} (r : Ring F) (s : Ring E) (embed : F → E) (points : D → ℕ) (point_at : D → ℕ → F) (commits : List (D × Rows F) → C → Type 0) (made : P → Type 0) (holds : P → C → List (Committed F) → Type 0) where
-  abbrev OfRound : RoundData D F E → KeptRound D E C P → Held C F → Type 0
-  OfRound x k h = IsHeldRound r points point_at commits made holds x k h
+  abbrev OfRound : RoundData D F E → CommittedRoundData D E C P → OpenedCommitment C F → Type 0
+  OfRound x k h = IsOpenedRound r points point_at commits made holds x k h
 
   -- the values opened of one round
-  abbrev values_in : KeptRound D E C P → Held C F → List (List (List E))
+  abbrev values_in : CommittedRoundData D E C P → OpenedCommitment C F → List (List (List E))
   values_in k h = opened_round s embed h (request_of k)
 
   abbrev of_matrix : Committed F × List E → List (List E)
   of_matrix p = map (values_of s embed p.0) p.1
 
-  module _ (x : RoundData D F E) (k : KeptRound D E C P) (h : Held C F) (H : OfRound x k h) (lists : length k.points ≡ length h.matrices) where
+  module _ (x : RoundData D F E) (k : CommittedRoundData D E C P) (h : OpenedCommitment C F) (H : OfRound x k h) (lists : length k.points ≡ length h.matrices) where
     long : length (values_in k h) ≡ length h.matrices
     long = length-map (zip h.matrices k.points) of_matrix ∙ (length-zip h.matrices k.points (omega arith) ∙ lists)
 
     domains : length k.domains ≡ length h.matrices
-    domains = ap length H.kept.domains_are ∙ (length-map x.evaluations (λ e. e.0) ∙ sym H.are.count)
+    domains = ap length H.prover_rounds.domains_are ∙ (length-map x.evaluations (λ e. e.0) ∙ sym H.are.count)
 
     -- the values of a matrix
     values_are : (i : ℕ) (c : Committed F) (xs : List E) (ws : List (List E)) → slice_get h.matrices i ≡ Some c → slice_get k.points i ≡ Some xs → slice_get (values_in k h) i ≡ Some ws → ws ≡ map (values_of s embed c) xs
@@ -75,9 +75,9 @@ module _ {D F E C P : Type 0} (r : Ring F) (s : Ring E) (embed : F → E) (point
     domain_is : (i : ℕ) (d : D) (e : D × Rows F) → slice_get k.domains i ≡ Some d → slice_get x.evaluations i ≡ Some e → d ≡ e.0
     domain_is i d e a b =
         let f : D × Rows F → D = λ e. e.0 in
-        same_item (map f x.evaluations) i d (f e) (subst (λ l. slice_get l i ≡ Some d) H.kept.domains_are a) (map_item f x.evaluations i e b)
+        same_item (map f x.evaluations) i d (f e) (subst (λ l. slice_get l i ≡ Some d) H.prover_rounds.domains_are a) (map_item f x.evaluations i e b)
 
-    pub round_shape : HaveShape k.domains k.points (values_in k h)
+    pub round_shape : HaveRoundShape k.domains k.points (values_in k h)
     round_shape = record {
       domains = domains ∙ sym long;
       each = record {
@@ -94,7 +94,7 @@ module _ {D F E C P : Type 0} (r : Ring F) (s : Ring E) (embed : F → E) (point
     pub round_claim_holds : IsRoundClaim s embed points h (request_of k) (round_claim (k, values_in k h))
     round_claim_holds = record {
       commitment_is = sym H.commitment_is;
-      matrices_are = each_paired matrix_claim h.matrices k.points k.domains (zip k.points (values_in k h)) (λ p m. IsMatrixClaim s embed points p.0 p.1 m) lists domains zipped
+      matrices_are = each_paired claim_of_matrix h.matrices k.points k.domains (zip k.points (values_in k h)) (λ p m. IsMatrixClaim s embed points p.0 p.1 m) lists domains zipped
           (λ i c xs d w a b e f.
           let (v, g) = item_at x.evaluations i (omega (arith, slice_get_within h.matrices i c a, H.are.count)) in
           record {
@@ -105,12 +105,12 @@ module _ {D F E C P : Type 0} (r : Ring F) (s : Ring E) (embed : F → E) (point
 
     pub round_is_claimed : IsRoundClaimed r s embed point_at commits x (round_claim (k, values_in k h))
     round_is_claimed =
-        let same = H.kept.points_are in
+        let same = H.prover_rounds.points_are in
         record {
-          commits_is = H.kept.committed.commitment_is;
+          commits_is = H.prover_rounds.committed.commitment_is;
           lists_are = ap length (sym same) ∙ (lists ∙ H.are.count);
           matrices_are = subst (λ ps. EachFrom (zip x.evaluations ps) (matrix_claims k.domains k.points (values_in k h)) (λ p m. IsClaimed r s embed point_at p.0 p.1 m)) same
-              (each_paired matrix_claim x.evaluations k.points k.domains (zip k.points (values_in k h)) (λ p m. IsClaimed r s embed point_at p.0 p.1 m)
+              (each_paired claim_of_matrix x.evaluations k.points k.domains (zip k.points (values_in k h)) (λ p m. IsClaimed r s embed point_at p.0 p.1 m)
               (lists ∙ H.are.count) (domains ∙ H.are.count) (zipped ∙ H.are.count)
               (λ i v xs d w g b e f.
               let (c, a) = item_at h.matrices i (omega (arith, slice_get_within x.evaluations i v g, H.are.count)) in
@@ -123,31 +123,31 @@ module _ {D F E C P : Type 0} (r : Ring F) (s : Ring E) (embed : F → E) (point
         }
 
   -- held polynomials of all rounds
-  pub record AreHeldRounds (rounds : List (RoundData D F E)) (ks : List (KeptRound D E C P)) (held : List (Held C F)) : Type 0 where
-    pub kept_count : length ks ≡ length rounds
+  pub record AreOpenedRounds (rounds : List (RoundData D F E)) (ks : List (CommittedRoundData D E C P)) (held : List (OpenedCommitment C F)) : Type 0 where
+    pub prover_rounds_count : length ks ≡ length rounds
     pub held_count : length held ≡ length rounds
-    pub each : (i : ℕ) (x : RoundData D F E) (k : KeptRound D E C P) (h : Held C F) → slice_get rounds i ≡ Some x → slice_get ks i ≡ Some k → slice_get held i ≡ Some h → OfRound x k h
+    pub each : (i : ℕ) (x : RoundData D F E) (k : CommittedRoundData D E C P) (h : OpenedCommitment C F) → slice_get rounds i ≡ Some x → slice_get ks i ≡ Some k → slice_get held i ≡ Some h → OfRound x k h
 
-  pub held_rounds : (rounds : List (RoundData D F E)) (ks : List (KeptRound D E C P)) → EachFrom rounds ks (IsKept r points point_at commits made holds) → (held : List (Held C F)) × AreHeldRounds rounds ks held
+  pub held_rounds : (rounds : List (RoundData D F E)) (ks : List (CommittedRoundData D E C P)) → EachFrom rounds ks (IsCommittedRound r points point_at commits made holds) → (held : List (OpenedCommitment C F)) × AreOpenedRounds rounds ks held
   held_rounds rounds ks K =
-      let some : EachFrom rounds ks (λ x k. (h : Held C F) × OfRound x k h) = record {
+      let some : EachFrom rounds ks (λ x k. (h : OpenedCommitment C F) × OfRound x k h) = record {
         count = K.count;
         each = λ i k q x e.
             let here = K.each i k q x e in
             let (cs, are, h) = here.committed.held in
-            (record { commitment = k.commitment; matrices = cs }, record { kept = here; commitment_is = refl; are = are; held = h });
+            (record { commitment = k.commitment; matrices = cs }, record { prover_rounds = here; commitment_is = refl; are = are; held = h });
       } in
       let (held, n, f) = chosen OfRound rounds ks some in
-      (held, record { kept_count = K.count; held_count = n; each = f })
+      (held, record { prover_rounds_count = K.count; held_count = n; each = f })
 
-  pub made_all : (rounds : List (RoundData D F E)) (ks : List (KeptRound D E C P)) → EachFrom rounds ks (IsKept r points point_at commits made holds) → All (λ (q : Request P E). made q.prover_data) (requests_of ks)
+  pub made_all : (rounds : List (RoundData D F E)) (ks : List (CommittedRoundData D E C P)) → EachFrom rounds ks (IsCommittedRound r points point_at commits made holds) → All (λ (q : Request P E). made q.prover_data) (requests_of ks)
   made_all rounds ks K = all_items (λ (q : Request P E). made q.prover_data) (requests_of ks)
       (λ i q e.
       let (k, a, b) = mapped_item request_of ks i q e in
       let (x, g) = item_at rounds i (omega (arith, slice_get_within ks i k a, K.count)) in
       subst (λ (v : Request P E). made v.prover_data) (sym b) (K.each i k a x g).committed.made_is)
 
-  pub free_points : (excludes : E → Type 0) (rounds : List (RoundData D F E)) (ks : List (KeptRound D E C P)) → EachFrom rounds ks (IsKept r points point_at commits made holds) → AreFree excludes rounds → AvoidAll excludes (requests_of ks)
+  pub free_points : (excludes : E → Type 0) (rounds : List (RoundData D F E)) (ks : List (CommittedRoundData D E C P)) → EachFrom rounds ks (IsCommittedRound r points point_at commits made holds) → AreFree excludes rounds → AvoidAll excludes (requests_of ks)
   free_points excludes rounds ks K free =
       let Free : List (List E) → Type 0 = λ ps. All (λ xs. All (λ x. excludes x → ⊥) xs) ps in
       all_items (λ (q : Request P E). Free q.points) (requests_of ks)
@@ -157,11 +157,11 @@ module _ {D F E C P : Type 0} (r : Ring F) (s : Ring E) (embed : F → E) (point
       let here = item_has (λ (q : RoundData D F E). Free q.points) rounds i x free g in
       subst Free (sym (K.each i k a x g).points_are ∙ sym (ap (λ (v : Request P E). v.points) b)) here)
 
-  module _ (rounds : List (RoundData D F E)) (ks : List (KeptRound D E C P)) (held : List (Held C F)) (H : AreHeldRounds rounds ks held) where
+  module _ (rounds : List (RoundData D F E)) (ks : List (CommittedRoundData D E C P)) (held : List (OpenedCommitment C F)) (H : AreOpenedRounds rounds ks held) where
     requests_count : length (requests_of ks) ≡ length held
-    requests_count = length-map ks request_of ∙ (H.kept_count ∙ sym H.held_count)
+    requests_count = length-map ks request_of ∙ (H.prover_rounds_count ∙ sym H.held_count)
 
-    pub are_held : AreHeld holds (requests_of ks) held
+    pub are_held : AreOpenedCommitments holds (requests_of ks) held
     are_held = record {
       count = sym requests_count;
       each = λ i h q req e.
@@ -171,56 +171,56 @@ module _ {D F E C P : Type 0} (r : Ring F) (s : Ring E) (embed : F → E) (point
     }
 
     module _ (lists : HavePoints held (requests_of ks)) (vs : List (List (List (List E)))) (values : vs ≡ opened s embed held (requests_of ks)) where
-      abbrev of_round : Held C F × Request P E → List (List (List E))
+      abbrev of_round : OpenedCommitment C F × Request P E → List (List (List E))
       of_round p = opened_round s embed p.0 p.1
 
       values_count : length vs ≡ length held
       values_count = ap length values ∙ (length-map (zip held (requests_of ks)) of_round ∙ (length-zip held (requests_of ks) (omega (arith, requests_count)) ∙ requests_count))
 
-      round_values : (i : ℕ) (k : KeptRound D E C P) (h : Held C F) (ys : List (List (List E))) → slice_get ks i ≡ Some k → slice_get held i ≡ Some h → slice_get vs i ≡ Some ys → ys ≡ values_in k h
+      round_values : (i : ℕ) (k : CommittedRoundData D E C P) (h : OpenedCommitment C F) (ys : List (List (List E))) → slice_get ks i ≡ Some k → slice_get held i ≡ Some h → slice_get vs i ≡ Some ys → ys ≡ values_in k h
       round_values i k h ys a b e =
           same_item vs i ys (values_in k h) e
           (subst (λ l. slice_get l i ≡ Some (values_in k h)) (sym values)
           (map_item of_round (zip held (requests_of ks)) i (h, request_of k) (zip_item held (requests_of ks) i h (request_of k) b (map_item request_of ks i k a))))
 
-      points_count : (i : ℕ) (k : KeptRound D E C P) (h : Held C F) → slice_get ks i ≡ Some k → slice_get held i ≡ Some h → length k.points ≡ length h.matrices
+      points_count : (i : ℕ) (k : CommittedRoundData D E C P) (h : OpenedCommitment C F) → slice_get ks i ≡ Some k → slice_get held i ≡ Some h → length k.points ≡ length h.matrices
       points_count i k h a b = lists.each i (request_of k) (map_item request_of ks i k a) h b
 
-      pub shapes : EachFrom ks vs (λ k ys. HaveShape k.domains k.points ys)
+      pub shapes : EachFrom ks vs (λ k ys. HaveRoundShape k.domains k.points ys)
       shapes = record {
-        count = values_count ∙ (H.held_count ∙ sym H.kept_count);
+        count = values_count ∙ (H.held_count ∙ sym H.prover_rounds_count);
         each = λ i ys q k e.
-            let (x, g) = item_at rounds i (omega (arith, slice_get_within ks i k e, H.kept_count)) in
-            let (h, a) = item_at held i (omega (arith, slice_get_within ks i k e, H.kept_count, H.held_count)) in
-            subst (HaveShape k.domains k.points) (sym (round_values i k h ys e a q)) (round_shape x k h (H.each i x k h g e a) (points_count i k h e a));
+            let (x, g) = item_at rounds i (omega (arith, slice_get_within ks i k e, H.prover_rounds_count)) in
+            let (h, a) = item_at held i (omega (arith, slice_get_within ks i k e, H.prover_rounds_count, H.held_count)) in
+            subst (HaveRoundShape k.domains k.points) (sym (round_values i k h ys e a q)) (round_shape x k h (H.each i x k h g e a) (points_count i k h e a));
       }
 
       pub opened_claims : AreClaims s embed points held (requests_of ks) (round_claims ks vs)
-      opened_claims = each_paired round_claim held (requests_of ks) ks vs (λ p c. IsRoundClaim s embed points p.0 p.1 c) requests_count (H.kept_count ∙ sym H.held_count) values_count
+      opened_claims = each_paired round_claim held (requests_of ks) ks vs (λ p c. IsRoundClaim s embed points p.0 p.1 c) requests_count (H.prover_rounds_count ∙ sym H.held_count) values_count
           (λ i h req k ys a b e f.
-          let (x, g) = item_at rounds i (omega (arith, slice_get_within ks i k e, H.kept_count)) in
+          let (x, g) = item_at rounds i (omega (arith, slice_get_within ks i k e, H.prover_rounds_count)) in
           let one : request_of k ≡ req = same_item (requests_of ks) i (request_of k) req (map_item request_of ks i k e) b in
           let two : values_in k h ≡ ys = sym (round_values i k h ys e a f) in
           subst (λ v. IsRoundClaim s embed points h v (round_claim (k, ys))) one
           (subst (λ v. IsRoundClaim s embed points h (request_of k) (round_claim (k, v))) two (round_claim_holds x k h (H.each i x k h g e a) (points_count i k h e a))))
 
       pub rounds_claimed : EachFrom rounds (round_claims ks vs) (IsRoundClaimed r s embed point_at commits)
-      rounds_claimed = each_from_paired round_claim rounds ks vs (IsRoundClaimed r s embed point_at commits) H.kept_count (values_count ∙ H.held_count)
+      rounds_claimed = each_from_paired round_claim rounds ks vs (IsRoundClaimed r s embed point_at commits) H.prover_rounds_count (values_count ∙ H.held_count)
           (λ i x k ys g e f.
-          let (h, a) = item_at held i (omega (arith, slice_get_within ks i k e, H.kept_count, H.held_count)) in
+          let (h, a) = item_at held i (omega (arith, slice_get_within ks i k e, H.prover_rounds_count, H.held_count)) in
           subst (λ v. IsRoundClaimed r s embed point_at commits x (round_claim (k, v))) (sym (round_values i k h ys e a f)) (round_is_claimed x k h (H.each i x k h g e a) (points_count i k h e a)))
 
   -- what an opening of all rounds leads to
-  module _ (rounds : List (RoundData D F E)) (ks : List (KeptRound D E C P)) (K : EachFrom rounds ks (IsKept r points point_at commits made holds)) (reqs : List (Request P E)) (asked : reqs ≡ requests_of ks) where
+  module _ (rounds : List (RoundData D F E)) (ks : List (CommittedRoundData D E C P)) (K : EachFrom rounds ks (IsCommittedRound r points point_at commits made holds)) (reqs : List (Request P E)) (asked : reqs ≡ requests_of ks) where
     pub all_made : All (λ (q : Request P E). made q.prover_data) reqs
     all_made = subst (λ l. All (λ (q : Request P E). made q.prover_data) l) (sym asked) (made_all rounds ks K)
 
     module _ (vs : List (List (List (List E)))) (excludes : E → Type 0) (accepts : List (CommitmentClaim E C D) → Type 0)
-        (opening : (held : List (Held C F)) → AreHeld holds reqs held → IsOpening s embed points excludes accepts reqs vs held) where
-      opening_of : (held : List (Held C F)) → AreHeldRounds rounds ks held → IsOpening s embed points excludes accepts (requests_of ks) vs held
-      opening_of held H = subst (λ l. AreHeld holds l held → IsOpening s embed points excludes accepts l vs held) asked (opening held) (are_held rounds ks held H)
+        (opening : (held : List (OpenedCommitment C F)) → AreOpenedCommitments holds reqs held → IsOpening s embed points excludes accepts reqs vs held) where
+      opening_of : (held : List (OpenedCommitment C F)) → AreOpenedRounds rounds ks held → IsOpening s embed points excludes accepts (requests_of ks) vs held
+      opening_of held H = subst (λ l. AreOpenedCommitments holds l held → IsOpening s embed points excludes accepts l vs held) asked (opening held) (are_held rounds ks held H)
 
-      pub opened_shapes : EachFrom ks vs (λ k ys. HaveShape k.domains k.points ys)
+      pub opened_shapes : EachFrom ks vs (λ k ys. HaveRoundShape k.domains k.points ys)
       opened_shapes =
           let (held, H) = held_rounds rounds ks K in
           let o = opening_of held H in
@@ -239,11 +239,11 @@ module _ {D F E C P : Type 0} (r : Ring F) (s : Ring E) (embed : F → E) (point
           o.accepted (round_claims ks vs) (opened_claims rounds ks held H o.lists_are vs o.values_are) (free_points excludes rounds ks K free)
 
       -- and that the claims hold, for the law on the challenger's states
-      pub opened_held : (held : List (Held C F)) × AreHeld holds reqs held × AreClaims s embed points held reqs (round_claims ks vs)
+      pub opened_held : (held : List (OpenedCommitment C F)) × AreOpenedCommitments holds reqs held × AreClaims s embed points held reqs (round_claims ks vs)
       opened_held =
           let (held, H) = held_rounds rounds ks K in
           let o = opening_of held H in (
             held,
-            subst (λ l. AreHeld holds l held) (sym asked) (are_held rounds ks held H),
+            subst (λ l. AreOpenedCommitments holds l held) (sym asked) (are_held rounds ks held H),
             subst (λ l. AreClaims s embed points held l (round_claims ks vs)) (sym asked) (opened_claims rounds ks held H o.lists_are vs o.values_are),
           )

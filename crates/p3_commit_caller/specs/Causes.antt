@@ -13,7 +13,7 @@ abbrev pub CauseInTurn : {U E : Type 0} → (E → Type 0) → (U → Type 0) �
 CauseInTurn first gives second e = IsCause first e ⊎ (NoneOf first × ((u : _) × gives u × IsCause (second u) e))
 
 -- e is the cause for the first item that is refused
-pub record FirstRefused {X E : Type 0} (faults : X → E → Type 0) (xs : List X) (e : E) : Type 0 where
+pub record IsCauseOfFirstRefused {X E : Type 0} (faults : X → E → Type 0) (xs : List X) (e : E) : Type 0 where
   pub place : ℕ
   pub item : X
   pub is_item : slice_get xs place ≡ Some item

@@ -10,10 +10,10 @@ use p3_field::{
 use p3_matrix::RowMajorMatrix;
 use std::alloc::Global;
 
-/// Commits to the first matrices by `commit` and to the second by `commit_preprocessing` (own): the two commitments. Where
-/// nothing is masked, each is the scheme's one function of its matrices, so that equal matrices have equal commitments.
-/// `Refused` comes exactly where the scheme refuses to commit to the first, or else to the second.
-pub fn committed_alike<E: ExtensionField<P::Val>, C, P: UnivariateStarkPcs<E, C>>(
+/// Commits to the first matrices by `commit` and to the second by `commit_preprocessing` (not in Plonky3): the two
+/// commitments. Where nothing is masked, each is the scheme's one function of its matrices, so that equal matrices have
+/// equal commitments. `Refused` comes exactly where the scheme refuses to commit to the first, or else to the second.
+pub fn committed_both_ways<E: ExtensionField<P::Val>, C, P: UnivariateStarkPcs<E, C>>(
     alloc: Global,
     pcs: &P,
     first: Vec<(P::Domain, RowMajorMatrix<P::Val>)>,

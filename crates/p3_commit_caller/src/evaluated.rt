@@ -12,9 +12,9 @@ use p3_field::{
 use p3_matrix::RowMajorMatrix;
 use std::alloc::Global;
 
-/// Commits to matrices on their domains, and evaluates the polynomials of one of them on another domain (own): the
-/// commitment, and the values, which are those of the interpolants of the matrix's columns, column by column. `Refused`
-/// comes exactly where the scheme refuses to commit. `OutOfMemory` may come in place of any answer.
+/// Commits to matrices on their domains, and evaluates the polynomials of one of them on another domain (not in
+/// Plonky3): the commitment, and the values, which are those of the interpolants of the matrix's columns, column by
+/// column. `Refused` comes exactly where the scheme refuses to commit. `OutOfMemory` may come in place of any answer.
 pub fn committed_and_evaluated<E: ExtensionField<P::Val>, C, P: UnivariateStarkPcs<E, C>>(
     alloc: Global,
     pcs: &P,

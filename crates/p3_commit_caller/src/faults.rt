@@ -12,9 +12,9 @@ use p3_field::{
 use p3_matrix::Dimensions;
 use std::alloc::Global;
 
-/// Why the verifier refuses claims (own): None exactly where the proof opens them from the challenger's state, and else the
-/// first fault, which is the only one. Where it opens them, the challenger is then in the state that `after_verify` names.
-/// The only error is want of memory.
+/// Why the verifier refuses claims (not in Plonky3): None exactly where the proof opens them from the challenger's state,
+/// and else the first fault, which is the only one. Where it opens them, the challenger is then in the state that
+/// `after_verify` names. The only error is running out of memory.
 pub fn fault_of_claims<E: ExtensionField<P::Val>, C, P: Pcs<E, C>>(
     alloc: Global,
     pcs: &P,
@@ -33,8 +33,8 @@ pub fn fault_of_claims<E: ExtensionField<P::Val>, C, P: Pcs<E, C>>(
     }
 }
 
-/// Why the verifier refuses rows (own): None exactly where the proof shows them, and else the first fault, which is the only
-/// one. The only error is want of memory.
+/// Why the verifier refuses rows (not in Plonky3): None exactly where the proof shows them, and else the first fault, which
+/// is the only one. The only error is running out of memory.
 pub fn fault_of_rows<T: Copy + Eq, M: Mmcs<T>>(
     alloc: Global,
     mmcs: &M,
@@ -54,7 +54,7 @@ pub fn fault_of_rows<T: Copy + Eq, M: Mmcs<T>>(
     }
 }
 
-/// Verifies rows twice (own): the first fault of each time, or None. Both answers are one.
+/// Verifies rows twice (not in Plonky3): the first fault of each time, or None. Both answers are one.
 pub fn rows_verified_twice<T: Copy + Eq, M: Mmcs<T>>(
     alloc: Global,
     mmcs: &M,

@@ -18,10 +18,10 @@ ghost use Rattle.p3_matrix.specs.Matrix.{Rows, column};
 ghost use Rattle.p3_matrix.specs.Interpolation.{IsInterpolatedAt};
 ghost use Rattle.p3_commit.specs.Claims.{CommitmentClaim, Request};
 ghost use Rattle.p3_commit.specs.Failure.{IfRefused};
-ghost use Rattle.p3_commit.specs.Commitments.{Committed, IsCommitment, Held, nested, values_of};
+ghost use Rattle.p3_commit.specs.Commitments.{Committed, IsCommitment, OpenedCommitment, nested, values_of};
 ghost use Rattle.p3_commit_caller.specs.Single.{claim_of, AreValues};
 
-pub use agreeing::committed_alike;
+pub use agreeing::committed_both_ways;
 pub use evaluated::committed_and_evaluated;
 pub use faults::{fault_of_claims, fault_of_rows, rows_verified_twice};
 use p3_commit::{
@@ -129,7 +129,8 @@ fn verified<E: ExtensionField<P::Val>, C, P: Pcs<E, C>>(
     }
 }
 
-/// The values at one point of the polynomials of a committed matrix, with the proof that a verifier accepted (own).
+/// The values at one point of the polynomials of a committed matrix, with the proof that a verifier accepted (not
+/// in Plonky3).
 #[derive(Drop)]
 pub struct VerifiedValues<E, Commitment, Proof> {
     /// The commitment to the matrix.
@@ -140,10 +141,10 @@ pub struct VerifiedValues<E, Commitment, Proof> {
     pub proof: Proof,
 }
 
-/// Commits to a matrix on a domain, opens it at a point, and verifies the opening (own): what was opened, or None where the
-/// verifier refuses it. It refuses only at a point that the scheme excludes. The values are those of the interpolants of
-/// the matrix's columns, one for each column. `challenger` is the transcript's state before the opening, from which the
-/// proof opens the claim that the commitment's matrix, on `domain`, has these values at the point.
+/// Commits to a matrix on a domain, opens it at a point, and verifies the opening (not in Plonky3): what was opened, or
+/// None where the verifier refuses it. It refuses only at a point that the scheme excludes. The values are those of the
+/// interpolants of the matrix's columns, one for each column. `challenger` is the transcript's state before the opening,
+/// from which the proof opens the claim that the commitment's matrix, on `domain`, has these values at the point.
 ///
 /// `Refused` comes only where the scheme refuses to commit to the matrix, or to open what it gave for a commitment to it.
 /// `OutOfMemory` may come in place of any answer.

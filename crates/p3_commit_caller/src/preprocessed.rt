@@ -2,10 +2,10 @@
 ghost use Rattle.std.specs.Prelude.{◌≡◌, ◌↔◌, Option, None, List, [], ◌∷◌, ◌++◌, IsFalse, IfOk, IsSome, IfSome};
 ghost use Rattle.p3_commit.specs.Failure.{NoneOf, RefusedBy, FaultInTurn, NoneInTurn, IfRefused};
 ghost use Rattle.p3_commit.specs.Periodic.{EachFrom};
-ghost use Rattle.p3_commit_caller.specs.Causes.{FirstRefused};
-ghost use Rattle.p3_commit_caller.specs.Rounds.{RoundData, KeptRound, IsKept, requests_of, IsRoundClaimed, AreFree};
+ghost use Rattle.p3_commit_caller.specs.Causes.{IsCauseOfFirstRefused};
+ghost use Rattle.p3_commit_caller.specs.Rounds.{RoundData, CommittedRoundData, IsCommittedRound, requests_of, IsRoundClaimed, AreFree};
 
-use crate::rounds::{Kept, Round, claims_of, committed_rounds, domains_of, requests};
+use crate::rounds::{CommittedRound, Round, claims_of, committed_rounds, domains_of, requests};
 use crate::several::VerifiedRounds;
 use p3_commit::{CommitmentOpening, Pcs, PcsFailure, PolynomialSpace, UnivariateStarkPcs};
 use p3_field::{
@@ -20,13 +20,17 @@ fn committed_with_preprocessing<E: ExtensionField<P::Val>, C, P: UnivariateStark
     pcs: &P,
     rounds: Vec<Round<P::Domain, P::Val, E>>,
     preprocessed: Round<P::Domain, P::Val, E>,
-) -> Result<Vec<Kept<P::Domain, E, P::Commitment, P::ProverData>>, PcsFailure<P::ProverError>>
-    ensures refusal { RefusedBy (FirstRefused (λ q. P.commit_fault pcs.now q.evaluations) (rounds.items ++ preprocessed ∷ [])) result }
-    ensures kept { IfOk result (λ v. EachFrom (rounds.items ++ preprocessed ∷ []) v.items (IsKept P.Val.ring P.Domain.points P.Domain.point_at (P.commits pcs.now) (P.made pcs.now) (P.holds pcs.now))) }
+) -> Result<
+    Vec<CommittedRound<P::Domain, E, P::Commitment, P::ProverData>>,
+    PcsFailure<P::ProverError>,
+>
+    ensures refusal { RefusedBy (IsCauseOfFirstRefused (λ q. P.commit_fault pcs.now q.evaluations) (rounds.items ++ preprocessed ∷ [])) result }
+    ensures prover_rounds { IfOk result
+        (λ v. EachFrom (rounds.items ++ preprocessed ∷ []) v.items (IsCommittedRound P.Val.ring P.Domain.points P.Domain.point_at (P.commits pcs.now) (P.made pcs.now) (P.holds pcs.now))) }
 {
-    let mut kept = committed_rounds(alloc, pcs, rounds)?;
-    kept.push(committed_preprocessing(alloc, pcs, preprocessed)?)?;
-    Ok(kept)
+    let mut prover_rounds = committed_rounds(alloc, pcs, rounds)?;
+    prover_rounds.push(committed_preprocessing(alloc, pcs, preprocessed)?)?;
+    Ok(prover_rounds)
 }
 
 // Commits to the matrices of a round of preprocessed columns.
@@ -34,9 +38,9 @@ fn committed_preprocessing<E: ExtensionField<P::Val>, C, P: UnivariateStarkPcs<E
     alloc: Global,
     pcs: &P,
     round: Round<P::Domain, P::Val, E>,
-) -> Result<Kept<P::Domain, E, P::Commitment, P::ProverData>, PcsFailure<P::ProverError>>
+) -> Result<CommittedRound<P::Domain, E, P::Commitment, P::ProverData>, PcsFailure<P::ProverError>>
     ensures refusal { RefusedBy (P.commit_fault pcs.now round.evaluations) result }
-    ensures kept { IfOk result (IsKept P.Val.ring P.Domain.points P.Domain.point_at (P.commits pcs.now) (P.made pcs.now) (P.holds pcs.now) round) }
+    ensures prover_rounds { IfOk result (IsCommittedRound P.Val.ring P.Domain.points P.Domain.point_at (P.commits pcs.now) (P.made pcs.now) (P.holds pcs.now) round) }
 {
     let Round {
         evaluations,
@@ -44,7 +48,7 @@ fn committed_preprocessing<E: ExtensionField<P::Val>, C, P: UnivariateStarkPcs<E
     } = round;
     let domains = domains_of(alloc, &evaluations)?;
     let (commitment, prover_data) = pcs.commit_preprocessing(alloc, evaluations)?;
-    Ok(Kept {
+    Ok(CommittedRound {
         commitment,
         prover_data,
         domains,
@@ -72,10 +76,10 @@ fn fault_with_preprocessing<E: ExtensionField<P::Val>, C, P: UnivariateStarkPcs<
 }
 
 // Opens what is kept of rounds, of which the one with this number has preprocessed columns, and verifies the opening.
-fn kept_verified<E: ExtensionField<P::Val>, C: Copy, P: UnivariateStarkPcs<E, C>>(
+fn committed_verified<E: ExtensionField<P::Val>, C: Copy, P: UnivariateStarkPcs<E, C>>(
     alloc: Global,
     pcs: &P,
-    kept: Vec<Kept<P::Domain, E, P::Commitment, P::ProverData>>,
+    prover_rounds: Vec<CommittedRound<P::Domain, E, P::Commitment, P::ProverData>>,
     place: Option<usize>,
     challenger: C,
 ) -> Result<
@@ -83,22 +87,25 @@ fn kept_verified<E: ExtensionField<P::Val>, C: Copy, P: UnivariateStarkPcs<E, C>
     PcsFailure<P::ProverError>,
 >
     requires masks { IsFalse P.ZK }
-    requires kept { (rs : List (RoundData P.Domain P.Val E)) × EachFrom rs kept.items (IsKept P.Val.ring P.Domain.points P.Domain.point_at (P.commits pcs.now) (P.made pcs.now) (P.holds pcs.now)) }
-    ensures refused { IfRefused result (P.open_fault pcs.now (requests_of kept.items)) }
-    ensures granted { IfOk result (λ _. NoneOf (P.open_fault pcs.now (requests_of kept.items))) }
-    ensures accepted { IfOk result (λ o. (rs : List (RoundData P.Domain P.Val E)) → EachFrom rs kept.items (IsKept P.Val.ring P.Domain.points P.Domain.point_at (P.commits pcs.now) (P.made pcs.now) (P.holds pcs.now))
+    requires prover_rounds { (rs : List (RoundData P.Domain P.Val E))
+        × EachFrom rs prover_rounds.items (IsCommittedRound P.Val.ring P.Domain.points P.Domain.point_at (P.commits pcs.now) (P.made pcs.now) (P.holds pcs.now)) }
+    ensures refused { IfRefused result (P.open_fault pcs.now (requests_of prover_rounds.items)) }
+    ensures granted { IfOk result (λ _. NoneOf (P.open_fault pcs.now (requests_of prover_rounds.items))) }
+    ensures accepted { IfOk result (λ o. (rs : List (RoundData P.Domain P.Val E))
+        → EachFrom rs prover_rounds.items (IsCommittedRound P.Val.ring P.Domain.points P.Domain.point_at (P.commits pcs.now) (P.made pcs.now) (P.holds pcs.now))
         → AreFree (P.excludes pcs.now) rs → IsSome o) }
-    ensures claimed { IfOk result (λ o. (rs : List (RoundData P.Domain P.Val E)) → EachFrom rs kept.items (IsKept P.Val.ring P.Domain.points P.Domain.point_at (P.commits pcs.now) (P.made pcs.now) (P.holds pcs.now))
+    ensures claimed { IfOk result (λ o. (rs : List (RoundData P.Domain P.Val E))
+        → EachFrom rs prover_rounds.items (IsCommittedRound P.Val.ring P.Domain.points P.Domain.point_at (P.commits pcs.now) (P.made pcs.now) (P.holds pcs.now))
         → IfSome o (λ v. EachFrom rs v.claims.items (IsRoundClaimed P.Val.ring E.ring E.embed P.Domain.point_at (P.commits pcs.now)))) }
     ensures opens { IfOk result (λ o. IfSome o (λ v. P.opens pcs.now challenger v.claims.items v.proof)) }
     ensures verifier { IfOk result (λ o. IfSome o (λ v. v.verifier ≡ P.after_verify pcs.now challenger v.claims.items v.proof)) }
     ensures one_state { IfOk result (λ o. IfSome o (λ v. v.prover ≡ v.verifier)) }
 {
-    let requests = requests(alloc, &kept)?;
+    let requests = requests(alloc, &prover_rounds)?;
     let mut prover = challenger;
     let (values, proof) = pcs.open_with_preprocessing(alloc, requests, &mut prover, place)?;
-    let claims = claims_of(alloc, pcs, &kept, &values)?;
-    let asked = claims_of(alloc, pcs, &kept, &values)?;
+    let claims = claims_of(alloc, pcs, &prover_rounds, &values)?;
+    let asked = claims_of(alloc, pcs, &prover_rounds, &values)?;
     let mut verifier = challenger;
     match fault_with_preprocessing(alloc, pcs, asked, &proof, &mut verifier, place)? {
         None => Ok(Some(VerifiedRounds {
@@ -112,9 +119,9 @@ fn kept_verified<E: ExtensionField<P::Val>, C: Copy, P: UnivariateStarkPcs<E, C>
 }
 
 /// Commits to the matrices of each round, and to preprocessed ones by `commit_preprocessing`, opens all of them at their
-/// points by `open_with_preprocessing`, and verifies the opening by `verify_with_preprocessing` (own): what was claimed, or
-/// None where the verifier refuses it. The preprocessed round is the last. The contract is that of `rounds_verified` over
-/// all rounds. The scheme masks nothing.
+/// points by `open_with_preprocessing`, and verifies the opening by `verify_with_preprocessing` (not in Plonky3): what was
+/// claimed, or None where the verifier refuses it. The preprocessed round is the last. The contract is that of
+/// `rounds_verified` over all rounds. The scheme masks nothing.
 pub fn preprocessed_verified<E: ExtensionField<P::Val>, C: Copy, P: UnivariateStarkPcs<E, C>>(
     alloc: Global,
     pcs: &P,
@@ -126,10 +133,12 @@ pub fn preprocessed_verified<E: ExtensionField<P::Val>, C: Copy, P: UnivariateSt
     PcsFailure<P::ProverError>,
 >
     requires { IsFalse P.ZK }
-    ensures refused { IfRefused result (FaultInTurn (FirstRefused (λ q. P.commit_fault pcs.now q.evaluations) (rounds.items ++ preprocessed ∷ []))
-        (λ ks. EachFrom (rounds.items ++ preprocessed ∷ []) ks (IsKept P.Val.ring P.Domain.points P.Domain.point_at (P.commits pcs.now) (P.made pcs.now) (P.holds pcs.now))) (λ ks. P.open_fault pcs.now (requests_of ks))) }
-    ensures granted { IfOk result (λ _. NoneInTurn (FirstRefused (λ q. P.commit_fault pcs.now q.evaluations) (rounds.items ++ preprocessed ∷ []))
-        (λ ks. EachFrom (rounds.items ++ preprocessed ∷ []) ks (IsKept P.Val.ring P.Domain.points P.Domain.point_at (P.commits pcs.now) (P.made pcs.now) (P.holds pcs.now))) (λ ks. P.open_fault pcs.now (requests_of ks))) }
+    ensures refused { IfRefused result (FaultInTurn (IsCauseOfFirstRefused (λ q. P.commit_fault pcs.now q.evaluations) (rounds.items ++ preprocessed ∷ []))
+        (λ ks. EachFrom (rounds.items ++ preprocessed ∷ []) ks
+        (IsCommittedRound P.Val.ring P.Domain.points P.Domain.point_at (P.commits pcs.now) (P.made pcs.now) (P.holds pcs.now))) (λ ks. P.open_fault pcs.now (requests_of ks))) }
+    ensures granted { IfOk result (λ _. NoneInTurn (IsCauseOfFirstRefused (λ q. P.commit_fault pcs.now q.evaluations) (rounds.items ++ preprocessed ∷ []))
+        (λ ks. EachFrom (rounds.items ++ preprocessed ∷ []) ks
+        (IsCommittedRound P.Val.ring P.Domain.points P.Domain.point_at (P.commits pcs.now) (P.made pcs.now) (P.holds pcs.now))) (λ ks. P.open_fault pcs.now (requests_of ks))) }
     ensures accepted { AreFree (P.excludes pcs.now) (rounds.items ++ preprocessed ∷ []) → IfOk result IsSome }
     ensures claimed { IfOk result (λ o. IfSome o (λ v. EachFrom (rounds.items ++ preprocessed ∷ []) v.claims.items (IsRoundClaimed P.Val.ring E.ring E.embed P.Domain.point_at (P.commits pcs.now)))) }
     ensures opens { IfOk result (λ o. IfSome o (λ v. P.opens pcs.now challenger v.claims.items v.proof)) }
@@ -137,6 +146,6 @@ pub fn preprocessed_verified<E: ExtensionField<P::Val>, C: Copy, P: UnivariateSt
     ensures one_state { IfOk result (λ o. IfSome o (λ v. v.prover ≡ v.verifier)) }
 {
     let place = Some(rounds.len());
-    let kept = committed_with_preprocessing(alloc, pcs, rounds, preprocessed)?;
-    kept_verified(alloc, pcs, kept, place, challenger)
+    let prover_rounds = committed_with_preprocessing(alloc, pcs, rounds, preprocessed)?;
+    committed_verified(alloc, pcs, prover_rounds, place, challenger)
 }

@@ -64,8 +64,8 @@ fn committed_by_parts<E: ExtensionField<P::Val>, C, P: UnivariateStarkPcs<E, C>>
 }
 
 /// Commits to the parts of a quotient, which is given by its values on a domain, by the calls for each step, and again by
-/// `commit_quotient` (own): the two commitments, each to parts of the domain with their rows. Where nothing is masked, each
-/// is the scheme's one function of such parts.
+/// `commit_quotient` (not in Plonky3): the two commitments, each to parts of the domain with their rows. Where nothing is
+/// masked, each is the scheme's one function of such parts.
 ///
 /// `Refused` comes exactly where `quotient_fault` names a cause: both ways are refused alike. `OutOfMemory` may come in
 /// place of any answer.

@@ -1,10 +1,10 @@
-//! Rounds of matrices: what a prover keeps of them, and the claims on what is opened.
+//! Rounds of matrices: the prover data of them, and the claims on what is opened.
 ghost use Rattle.std.specs.Prelude.{◌≡◌, List, length, map, IfOk};
 ghost use Rattle.p3_commit.specs.Failure.{RefusedBy};
 ghost use Rattle.p3_commit.specs.Periodic.{EachFrom};
 ghost use Rattle.p3_commit.specs.Laws.OneItem.{matrix_in, round_in};
-ghost use Rattle.p3_commit_caller.specs.Causes.{FirstRefused};
-ghost use Rattle.p3_commit_caller.specs.Rounds.{RoundData, KeptRound, IsKept, requests_of, claims_at as point_claims, matrix_claims, round_claims, HaveShape};
+ghost use Rattle.p3_commit_caller.specs.Causes.{IsCauseOfFirstRefused};
+ghost use Rattle.p3_commit_caller.specs.Rounds.{RoundData, CommittedRoundData, IsCommittedRound, requests_of, claims_at as point_claims, matrix_claims, round_claims, HaveRoundShape};
 
 use p3_commit::{
     CommitmentOpening, MatrixOpening, OpeningRequest, Pcs, PcsFailure, PointOpening,
@@ -18,7 +18,7 @@ use p3_matrix::RowMajorMatrix;
 use std::alloc::Global;
 use std::marker::Model;
 
-/// Matrices that are committed to together, and the points at which each is opened (own).
+/// Matrices that are committed to together, and the points at which each is opened (not in Plonky3).
 #[derive(Drop)]
 pub struct Round<D, F, E> {
     /// The matrices, each with its domain.
@@ -33,17 +33,17 @@ impl<D, F, E> Model for Round<D, F, E> {
     ghost view = { λ s. record { evaluations = s.evaluations.items; points = map (λ v. v.items) s.points.items } };
 }
 
-// What the prover keeps of a round that it committed to.
+// The prover data of a round that it committed to.
 #[derive(Drop)]
-pub(crate) struct Kept<D, E, Commitment, ProverData> {
+pub(crate) struct CommittedRound<D, E, Commitment, ProverData> {
     pub commitment: Commitment,
     pub prover_data: ProverData,
     pub domains: Vec<D>,
     pub points: Vec<Vec<E>>,
 }
 
-impl<D, E, Commitment, ProverData> Model for Kept<D, E, Commitment, ProverData> {
-    ghost Value = { KeptRound D E Commitment ProverData };
+impl<D, E, Commitment, ProverData> Model for CommittedRound<D, E, Commitment, ProverData> {
+    ghost Value = { CommittedRoundData D E Commitment ProverData };
 
     ghost view = { λ s. record { commitment = s.commitment; prover_data = s.prover_data; domains = s.domains.items; points = map (λ v. v.items) s.points.items } };
 }
@@ -63,9 +63,9 @@ fn committed_round<E: ExtensionField<P::Val>, C, P: Pcs<E, C>>(
     alloc: Global,
     pcs: &P,
     round: Round<P::Domain, P::Val, E>,
-) -> Result<Kept<P::Domain, E, P::Commitment, P::ProverData>, PcsFailure<P::ProverError>>
+) -> Result<CommittedRound<P::Domain, E, P::Commitment, P::ProverData>, PcsFailure<P::ProverError>>
     ensures refusal { RefusedBy (P.commit_fault pcs.now round.evaluations) result }
-    ensures kept { IfOk result (IsKept P.Val.ring P.Domain.points P.Domain.point_at (P.commits pcs.now) (P.made pcs.now) (P.holds pcs.now) round) }
+    ensures prover_rounds { IfOk result (IsCommittedRound P.Val.ring P.Domain.points P.Domain.point_at (P.commits pcs.now) (P.made pcs.now) (P.holds pcs.now) round) }
 {
     let Round {
         evaluations,
@@ -73,7 +73,7 @@ fn committed_round<E: ExtensionField<P::Val>, C, P: Pcs<E, C>>(
     } = round;
     let domains = domains_of(alloc, &evaluations)?;
     let (commitment, prover_data) = pcs.commit(alloc, evaluations)?;
-    Ok(Kept {
+    Ok(CommittedRound {
         commitment,
         prover_data,
         domains,
@@ -86,26 +86,29 @@ pub(crate) fn committed_rounds<E: ExtensionField<P::Val>, C, P: Pcs<E, C>>(
     alloc: Global,
     pcs: &P,
     rounds: Vec<Round<P::Domain, P::Val, E>>,
-) -> Result<Vec<Kept<P::Domain, E, P::Commitment, P::ProverData>>, PcsFailure<P::ProverError>>
-    ensures refusal { RefusedBy (FirstRefused (λ q. P.commit_fault pcs.now q.evaluations) rounds.items) result }
-    ensures kept { IfOk result (λ v. EachFrom rounds.items v.items (IsKept P.Val.ring P.Domain.points P.Domain.point_at (P.commits pcs.now) (P.made pcs.now) (P.holds pcs.now))) }
+) -> Result<
+    Vec<CommittedRound<P::Domain, E, P::Commitment, P::ProverData>>,
+    PcsFailure<P::ProverError>,
+>
+    ensures refusal { RefusedBy (IsCauseOfFirstRefused (λ q. P.commit_fault pcs.now q.evaluations) rounds.items) result }
+    ensures prover_rounds { IfOk result (λ v. EachFrom rounds.items v.items (IsCommittedRound P.Val.ring P.Domain.points P.Domain.point_at (P.commits pcs.now) (P.made pcs.now) (P.holds pcs.now))) }
 {
-    let mut kept = Vec::with_capacity(alloc, rounds.len())?;
+    let mut prover_rounds = Vec::with_capacity(alloc, rounds.len())?;
     for round in rounds {
-        kept.push(committed_round(alloc, pcs, round)?)?;
+        prover_rounds.push(committed_round(alloc, pcs, round)?)?;
     }
-    Ok(kept)
+    Ok(prover_rounds)
 }
 
 // The requests to open what is kept at the rounds' points.
 pub(crate) fn requests<D: Drop, E: Copy, Commitment: Drop, ProverData: Drop>(
     alloc: Global,
-    kept: &[Kept<D, E, Commitment, ProverData>],
+    prover_rounds: &[CommittedRound<D, E, Commitment, ProverData>],
 ) -> Mem<Vec<OpeningRequest<'_, ProverData, E>>>
-    ensures { IfOk result (λ v. v.items ≡ requests_of kept.now) }
+    ensures { IfOk result (λ v. v.items ≡ requests_of prover_rounds.now) }
 {
-    let mut requests = Vec::with_capacity(alloc, kept.len())?;
-    for round in kept {
+    let mut requests = Vec::with_capacity(alloc, prover_rounds.len())?;
+    for round in prover_rounds {
         let points = copied(alloc, &round.points)?;
         requests.push(OpeningRequest {
             prover_data: &round.prover_data,
@@ -149,7 +152,7 @@ fn claims_on<D: Copy, E: Copy>(
     points: &[Vec<E>],
     values: &[Vec<Vec<E>>],
 ) -> Mem<Vec<MatrixOpening<E, D>>>
-    requires { HaveShape domains.now (map (λ v. v.items) points.now) (map matrix_in values.now) }
+    requires { HaveRoundShape domains.now (map (λ v. v.items) points.now) (map matrix_in values.now) }
     ensures { IfOk result (λ v. v.items ≡ matrix_claims domains.now (map (λ v. v.items) points.now) (map matrix_in values.now)) }
 {
     let mut matrices = Vec::with_capacity(alloc, values.len())?;
@@ -167,15 +170,15 @@ fn claims_on<D: Copy, E: Copy>(
 pub(crate) fn claims_of<E: ExtensionField<P::Val>, C, P: Pcs<E, C>>(
     alloc: Global,
     pcs: &P,
-    kept: &[Kept<P::Domain, E, P::Commitment, P::ProverData>],
+    prover_rounds: &[CommittedRound<P::Domain, E, P::Commitment, P::ProverData>],
     values: &[Vec<Vec<Vec<E>>>],
 ) -> Mem<Vec<CommitmentOpening<E, P::Commitment, P::Domain>>>
-    requires { EachFrom kept.now (map round_in values.now) (λ k ys. HaveShape k.domains k.points ys) }
-    ensures { IfOk result (λ v. v.items ≡ round_claims kept.now (map round_in values.now)) }
+    requires { EachFrom prover_rounds.now (map round_in values.now) (λ k ys. HaveRoundShape k.domains k.points ys) }
+    ensures { IfOk result (λ v. v.items ≡ round_claims prover_rounds.now (map round_in values.now)) }
 {
     let mut claims = Vec::with_capacity(alloc, values.len())?;
     for (index, opened) in values.iter().enumerate() {
-        let round = &kept[index];
+        let round = &prover_rounds[index];
         let matrices = claims_on(alloc, &round.domains, &round.points, opened)?;
         let commitment = pcs.clone_commitment(alloc, &round.commitment)?;
         claims.push(CommitmentOpening {

@@ -9,7 +9,7 @@ use p3_field::Mem;
 use p3_matrix::{Dimensions, RowMajorMatrix};
 use std::alloc::Global;
 
-/// A row opened of a committed matrix, and what the verifier said of it (own).
+/// A row opened of a committed matrix, and what the verifier said of it (not in Plonky3).
 #[derive(Drop)]
 pub struct OpenedRow<T: Copy + Eq, M: Mmcs<T>> {
     /// The commitment to the matrix.
@@ -21,8 +21,8 @@ pub struct OpenedRow<T: Copy + Eq, M: Mmcs<T>> {
 }
 
 /// Commits to a matrix, opens the row with the number `index`, and verifies that it is the row with the number `claimed`
-/// (own). `accepted` is true exactly where the proof shows it, and so where the numbers are equal. The only error is want
-/// of memory.
+/// (not in Plonky3). `accepted` is true exactly where the proof shows it, and so where the numbers are equal. The only
+/// error is running out of memory.
 pub fn committed_and_opened<T: Copy + Eq, M: Mmcs<T>>(
     alloc: Global,
     mmcs: &M,

@@ -6,7 +6,7 @@ use Rattle.p3_field.specs.Domain.{coset_point, IsInterpolant}
 use Rattle.p3_matrix.specs.Matrix.{Rows, FillsRows, height, row_at, cell_at, column}
 use Rattle.p3_matrix.specs.Laws.Powers.{power_le_cancel, power_cancel}
 use Rattle.p3_matrix.specs.Laws.Transposed.{height-transposed, column-transposed, row_at-transposed}
-use Rattle.p3_dft.specs.Transform.{values_at, HasValuesOf, HasCoefficientsOf, IsExtensionOf}
+use Rattle.p3_dft.specs.Transform.{values_at, IsTransformOf, IsInverseTransformOf, IsExtensionOf}
 
 -- t is m transposed
 pub record IsTransposed {A : Type 0} (m t : Rows A) : Type 0 where
@@ -44,7 +44,7 @@ module _ {A : Type 0} (d : A) (m c v t : Rows A) (first : IsTransposed m c) (las
   column_in j b = row_at-transposed d m c first.fills first.width first.count (first.cells d) j positive_height b
 
 module _ {A : Type 0} (r : Ring A) (root : ℕ → A) (m c v t : Rows A) (first : IsTransposed m c) (last : IsTransposed v t) (k : ℕ) (size : height m ≡ 2 ^ k) (rows : height v ≡ height c) where
-  pub values_by_rows : (s : A) → s ≡ r.one → ((i : ℕ) → i < height c → row_at v i ≡ values_at r (coset_point r s (root k)) (2 ^ k) (row_at c i)) → HasValuesOf r root m t
+  pub values_by_rows : (s : A) → s ≡ r.one → ((i : ℕ) → i < height c → row_at v i ≡ values_at r (coset_point r s (root k)) (2 ^ k) (row_at c i)) → IsTransformOf r root m t
   values_by_rows s one e = record {
     width_is = same_width r.zero m c v t first last k size rows;
     column_is = λ j l b h.
@@ -58,7 +58,7 @@ module _ {A : Type 0} (r : Ring A) (root : ℕ → A) (m c v t : Rows A) (first 
         ∙ cc (one, same)));
   }
 
-  pub coefficients_by_rows : ((i : ℕ) → i < height c → IsInterpolant r (coset_point r r.one (root k)) (row_at c i) (row_at v i)) → HasCoefficientsOf r root m t
+  pub coefficients_by_rows : ((i : ℕ) → i < height c → IsInterpolant r (coset_point r r.one (root k)) (row_at c i) (row_at v i)) → IsInverseTransformOf r root m t
   coefficients_by_rows e = record {
     width_is = same_width r.zero m c v t first last k size rows;
     column_is = λ j l b h.

@@ -4,7 +4,7 @@ ghost use Rattle.std.specs.Int.{IsPowerOfTwo};
 ghost use Rattle.p3_field.specs.Ring.{Ring, pow};
 ghost use Rattle.p3_field.specs.Domain.{coset_point, IsInterpolant};
 ghost use Rattle.p3_matrix.specs.Matrix.{Rows, FillsRows, height, row_at};
-ghost use Rattle.p3_dft.specs.Transform.{values_at, HasValuesOf, HasCoefficientsOf, IsExtensionOf};
+ghost use Rattle.p3_dft.specs.Transform.{values_at, IsTransformOf, IsInverseTransformOf, IsExtensionOf};
 
 use crate::column::{ColumnTransform, coset_interpolant, coset_values};
 use crate::naive::NaiveDft;
@@ -23,13 +23,13 @@ pub trait TwoAdicSubgroupDft<F: TwoAdicCore> {
     fn dft_batch(&self, alloc: Global, m: RowMajorMatrix<F>) -> Mem<RowMajorMatrix<F>>
         requires power { IsPowerOfTwo (height m) }
         requires subgroup { height m ≤ 2 ^ F.TWO_ADICITY }
-        ensures { IfOk result (HasValuesOf F.ring F.root m) };
+        ensures { IfOk result (IsTransformOf F.ring F.root m) };
 
     /// Takes a column's values on the subgroup to the coefficients of their interpolant.
     fn idft_batch(&self, alloc: Global, m: RowMajorMatrix<F>) -> Mem<RowMajorMatrix<F>>
         requires power { IsPowerOfTwo (height m) }
         requires subgroup { height m ≤ 2 ^ F.TWO_ADICITY }
-        ensures { IfOk result (HasCoefficientsOf F.ring F.root m) };
+        ensures { IfOk result (IsInverseTransformOf F.ring F.root m) };
 
     /// Takes a column's values on the subgroup to the interpolant's values on the coset with this shift of the
     /// subgroup that is 2^added_bits times as large. The result has 2^added_bits times as many rows, which are at most
@@ -98,7 +98,7 @@ fn dft_columns<F: TwoAdicField, T: ColumnTransform>(
 ) -> Mem<RowMajorMatrix<F>>
     requires power { IsPowerOfTwo (height m.now) }
     requires subgroup { height m.now ≤ 2 ^ F.TWO_ADICITY }
-    ensures { IfOk result (HasValuesOf F.ring F.root m.now) }
+    ensures { IfOk result (IsTransformOf F.ring F.root m.now) }
 {
     let columns = m.transpose(alloc)?;
     let values = evaluated_rows(
@@ -119,7 +119,7 @@ fn idft_columns<F: TwoAdicField, T: ColumnTransform>(
 ) -> Mem<RowMajorMatrix<F>>
     requires power { IsPowerOfTwo (height m.now) }
     requires subgroup { height m.now ≤ 2 ^ F.TWO_ADICITY }
-    ensures { IfOk result (HasCoefficientsOf F.ring F.root m.now) }
+    ensures { IfOk result (IsInverseTransformOf F.ring F.root m.now) }
 {
     let columns = m.transpose(alloc)?;
     let coefficients = interpolated_rows(
@@ -162,7 +162,7 @@ impl<F: TwoAdicField> TwoAdicSubgroupDft<F> for NaiveDft {
     fn dft_batch(&self, alloc: Global, m: RowMajorMatrix<F>) -> Mem<RowMajorMatrix<F>>
         requires power { IsPowerOfTwo (height m) }
         requires subgroup { height m ≤ 2 ^ F.TWO_ADICITY }
-        ensures { IfOk result (HasValuesOf F.ring F.root m) }
+        ensures { IfOk result (IsTransformOf F.ring F.root m) }
     {
         dft_columns(self, alloc, &m)
     }
@@ -170,7 +170,7 @@ impl<F: TwoAdicField> TwoAdicSubgroupDft<F> for NaiveDft {
     fn idft_batch(&self, alloc: Global, m: RowMajorMatrix<F>) -> Mem<RowMajorMatrix<F>>
         requires power { IsPowerOfTwo (height m) }
         requires subgroup { height m ≤ 2 ^ F.TWO_ADICITY }
-        ensures { IfOk result (HasCoefficientsOf F.ring F.root m) }
+        ensures { IfOk result (IsInverseTransformOf F.ring F.root m) }
     {
         idft_columns(self, alloc, &m)
     }
@@ -195,7 +195,7 @@ impl<F: TwoAdicField> TwoAdicSubgroupDft<F> for Radix2Dit {
     fn dft_batch(&self, alloc: Global, m: RowMajorMatrix<F>) -> Mem<RowMajorMatrix<F>>
         requires power { IsPowerOfTwo (height m) }
         requires subgroup { height m ≤ 2 ^ F.TWO_ADICITY }
-        ensures { IfOk result (HasValuesOf F.ring F.root m) }
+        ensures { IfOk result (IsTransformOf F.ring F.root m) }
     {
         dft_columns(self, alloc, &m)
     }
@@ -203,7 +203,7 @@ impl<F: TwoAdicField> TwoAdicSubgroupDft<F> for Radix2Dit {
     fn idft_batch(&self, alloc: Global, m: RowMajorMatrix<F>) -> Mem<RowMajorMatrix<F>>
         requires power { IsPowerOfTwo (height m) }
         requires subgroup { height m ≤ 2 ^ F.TWO_ADICITY }
-        ensures { IfOk result (HasCoefficientsOf F.ring F.root m) }
+        ensures { IfOk result (IsInverseTransformOf F.ring F.root m) }
     {
         idft_columns(self, alloc, &m)
     }

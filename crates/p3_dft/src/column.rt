@@ -88,7 +88,7 @@ pub(crate) fn coset_interpolant<F: TwoAdicField, T: ColumnTransform>(
 /// The values of the polynomial with these coefficients, lowest first, at the 2^log_size points of a coset:
 /// value i is that at shift * h^i, where h is `two_adic_generator(log_size)`. There are at most 2^log_size
 /// coefficients, and log_size is at most `TWO_ADICITY`. The cost is that of a radix-2 transform, which no clause says
-/// (own; `p3_dft` has it by the columns of a batch).
+/// (not in Plonky3; `p3_dft` has it by the columns of a batch).
 pub fn values_on_coset<F: TwoAdicField>(
     alloc: Global,
     coefficients: &[F],
@@ -104,8 +104,8 @@ pub fn values_on_coset<F: TwoAdicField>(
 
 /// The coefficients, lowest first, of the interpolant of 2^log_size values on a coset: the only polynomial of that
 /// many coefficients with value i at shift * h^i, where h is `two_adic_generator(log_size)`. The shift isn't zero, and
-/// log_size is at most `TWO_ADICITY`. The cost is that of a radix-2 transform, which no clause says (own; `p3_dft` has
-/// it by the columns of a batch).
+/// log_size is at most `TWO_ADICITY`. The cost is that of a radix-2 transform, which no clause says (not in Plonky3;
+/// `p3_dft` has it by the columns of a batch).
 pub fn interpolant_on_coset<F: TwoAdicField>(
     alloc: Global,
     values: &[F],

@@ -1,7 +1,7 @@
 //! The transform by its definition.
 ghost use Rattle.std.specs.Prelude.{◌≡◌, ℕ, ◌+◌, ◌*◌, ◌^◌, ◌<◌, ◌≤◌, length, map, IfOk};
 ghost use Rattle.p3_field.specs.Ring.{Ring, pow};
-ghost use Rattle.p3_field.specs.Poly.{val};
+ghost use Rattle.p3_field.specs.Poly.{eval_poly};
 ghost use Rattle.p3_field.specs.Domain.{coset_point};
 ghost use Rattle.p3_dft.specs.Transform.{values_at};
 
@@ -35,9 +35,9 @@ impl ColumnTransform for NaiveDft {
 }
 
 /// The value at a point of an extension field, or of the field itself, of the polynomial with these coefficients, lowest
-/// first, by Horner's rule (own).
+/// first, by Horner's rule (not in Plonky3).
 pub fn polynomial_value<F: Field, EF: ExtensionField<F>>(coefficients: &[F], point: EF) -> EF
-    ensures { result ≡ val EF.ring (map EF.embed coefficients.now) point }
+    ensures { result ≡ eval_poly EF.ring (map EF.embed coefficients.now) point }
 {
     let mut sum = EF::ZERO;
     let mut i = coefficients.len();

@@ -14,8 +14,8 @@ abbrev pub reduce : ℕ → BabyBear
 reduce n = record { value = n % 2013265921; in_range = mod_below n 2013265921 (lit< tt) }
 
 -- sums, products and opposites modulo p
-unfoldable pub bear_ring : Ring BabyBear
-bear_ring = record {
+unfoldable pub baby_bear_ring : Ring BabyBear
+baby_bear_ring = record {
   zero = reduce 0;
   one = reduce 1;
   add = λ x y. reduce (x.value + y.value);
@@ -24,9 +24,9 @@ bear_ring = record {
 }
 
 -- the inverse of a value that isn't zero, by Fermat: x^(p-2)
-unfoldable pub bear_inv : BabyBear → BabyBear
-bear_inv x = pow bear_ring x 2013265919
+unfoldable pub baby_bear_inv : BabyBear → BabyBear
+baby_bear_inv x = pow baby_bear_ring x 2013265919
 
 -- the generator of the subgroup of size 2^k, for k up to 27: 31^(15 * 2^(27-k))
-unfoldable pub bear_root : ℕ → BabyBear
-bear_root k = pow bear_ring (reduce 31) (15 * 2 ^ (27 - k))
+unfoldable pub baby_bear_root : ℕ → BabyBear
+baby_bear_root k = pow baby_bear_ring (reduce 31) (15 * 2 ^ (27 - k))

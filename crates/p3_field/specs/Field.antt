@@ -23,16 +23,16 @@ pub record TwoAdicLaws {A : Type 0} (r : Ring A) (top : ℕ) (gen : ℕ → A) :
   pub minus_one_differs : 0 < top → gen 1 ≡ r.one → ⊥
 
 -- each value of `B` has exactly one list of `dimension` coefficients in `A`, and each such list one value
-pub record VectorLaws {A B : Type 0} (dimension : ℕ) (parts : B → List A) (whole : List A → B) : Type 0 where
+pub record VectorLaws {A B : Type 0} (dimension : ℕ) (coefficients : B → List A) (from_coefficients : List A → B) : Type 0 where
   pub positive : 0 < dimension
-  pub parts_length : (x : B) → length (parts x) ≡ dimension
-  pub whole_parts : (x : B) → whole (parts x) ≡ x
-  pub parts_whole : (c : List A) → length c ≡ dimension → parts (whole c) ≡ c
+  pub coefficients_length : (x : B) → length (coefficients x) ≡ dimension
+  pub from_coefficients_of_coefficients : (x : B) → from_coefficients (coefficients x) ≡ x
+  pub coefficients_of_from_coefficients : (c : List A) → length c ≡ dimension → coefficients (from_coefficients c) ≡ c
 
 -- a field over itself: the value of a list of one coefficient is that coefficient; of no coefficient it is z
-abbrev pub own_whole : {A : Type 0} → A → List A → A
-own_whole z [] = z
-own_whole z (x ∷ xs) = x
+abbrev pub own_from_coefficients : {A : Type 0} → A → List A → A
+own_from_coefficients z [] = z
+own_from_coefficients z (x ∷ xs) = x
 
 -- the sum of c_i times e_(k+i)
 abbrev pub combine : {A : Type 0} → Ring A → (ℕ → A) → ℕ → List A → A
@@ -52,5 +52,5 @@ pub record Extension (F E : Type 0) : Type 0 where
   pub embed : F → E
   pub dimension : ℕ
   pub basis : ℕ → E
-  pub parts : E → List F
-  pub whole : List F → E
+  pub coefficients : E → List F
+  pub from_coefficients : List F → E

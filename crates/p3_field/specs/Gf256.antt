@@ -20,8 +20,8 @@ abbrev pub of_byte : ℕ → Gf256
 of_byte n = record { value = n % 256; in_range = mod_below n 256 (lit< tt) }
 
 -- sums are bitwise, each value is its own opposite, and products are those of polynomials
-unfoldable pub gf_ring : Ring Gf256
-gf_ring = record {
+unfoldable pub gf256_ring : Ring Gf256
+gf256_ring = record {
   zero = of_byte 0;
   one = of_byte 1;
   add = λ x y. of_byte (bit_xor x.value y.value);
@@ -30,5 +30,5 @@ gf_ring = record {
 }
 
 -- the inverse of a value that isn't zero: x^254, since x^255 is one
-unfoldable pub gf_inv : Gf256 → Gf256
-gf_inv x = pow gf_ring x 254
+unfoldable pub gf256_inv : Gf256 → Gf256
+gf256_inv x = pow gf256_ring x 254

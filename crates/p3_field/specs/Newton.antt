@@ -1,7 +1,7 @@
 -- Newton's form of a polynomial of degree below n with given values at n points.
 use Rattle.std.specs.Prelude.{ℕ, zero, suc, List, [], ◌∷◌}
 use Rattle.p3_field.specs.Ring.{Ring, sub}
-use Rattle.p3_field.specs.Poly.{val, add_poly, scale_poly}
+use Rattle.p3_field.specs.Poly.{eval_poly, add_poly, scale_poly}
 
 -- (X - a) f
 abbrev pub times_linear : {A : Type 0} → Ring A → A → List A → List A
@@ -14,7 +14,7 @@ root_product r (suc n) p = times_linear r (p n) (root_product r n p)
 
 -- one more point `x` with the value `y`, where `f` serves the points that are roots of `g`
 abbrev pub newton_step : {A : Type 0} → Ring A → (A → A) → List A → List A → A → A → List A
-newton_step r inv f g x y = add_poly r f (scale_poly r (r.mul (sub r y (val r f x)) (inv (val r g x))) g)
+newton_step r inv f g x y = add_poly r f (scale_poly r (r.mul (sub r y (eval_poly r f x)) (inv (eval_poly r g x))) g)
 
 -- the polynomial with the values v i at p i, i < n
 abbrev pub newton : {A : Type 0} → Ring A → (A → A) → ℕ → (ℕ → A) → (ℕ → A) → List A

@@ -4,13 +4,13 @@ use Rattle.p3_field.specs.Ring.{Ring}
 use Rattle.p3_field.specs.Field.{Extension}
 
 -- the value at `x` of the polynomial with these coefficients, lowest first
-abbrev pub val : {A : Type 0} → Ring A → List A → A → A
-val r [] x = r.zero
-val r (c ∷ cs) x = r.add c (r.mul x (val r cs x))
+abbrev pub eval_poly : {A : Type 0} → Ring A → List A → A → A
+eval_poly r [] x = r.zero
+eval_poly r (c ∷ cs) x = r.add c (r.mul x (eval_poly r cs x))
 
 -- the value of a polynomial over F at a point above F
-abbrev pub val_in : {F E : Type 0} → Extension F E → List F → E → E
-val_in e f x = val e.ring (map e.embed f) x
+abbrev pub eval_poly_in : {F E : Type 0} → Extension F E → List F → E → E
+eval_poly_in e f x = eval_poly e.ring (map e.embed f) x
 
 -- the coefficient of X^i, zero past the end
 abbrev pub coeff : {A : Type 0} → Ring A → List A → ℕ → A
@@ -78,7 +78,7 @@ odd_part (c ∷ d ∷ cs) = d ∷ odd_part cs
 -- the values at `a` of the list and of its tails, but for the empty one
 abbrev pub tail_values : {A : Type 0} → Ring A → List A → A → List A
 tail_values r [] a = []
-tail_values r (d ∷ ds) a = r.add d (r.mul a (val r ds a)) ∷ tail_values r ds a
+tail_values r (d ∷ ds) a = r.add d (r.mul a (eval_poly r ds a)) ∷ tail_values r ds a
 
 -- the quotient of f by X - a
 abbrev pub quotient : {A : Type 0} → Ring A → List A → A → List A
@@ -86,9 +86,9 @@ quotient r [] a = []
 quotient r (c ∷ cs) a = tail_values r cs a
 
 -- the coefficients t 0, .., t (n - 1)
-abbrev pub table : {A : Type 0} → ℕ → (ℕ → A) → List A
-table zero t = []
-table (suc n) t = t zero ∷ table n (λ i. t (suc i))
+abbrev pub tabulate : {A : Type 0} → ℕ → (ℕ → A) → List A
+tabulate zero t = []
+tabulate (suc n) t = t zero ∷ tabulate n (λ i. t (suc i))
 
 -- t 0 + .. + t (n - 1)
 abbrev pub total : {A : Type 0} → Ring A → ℕ → (ℕ → A) → A

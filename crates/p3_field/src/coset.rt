@@ -53,7 +53,7 @@ impl<F: TwoAdicCore> TwoAdicMultiplicativeCoset<F> {
     }
 
     /// Does nothing, and tells the caller's proof what every coset meets, which a proof can't read from the type alone
-    /// (own).
+    /// (not in Plonky3).
     pub fn valid(&self)
         ensures { (self.now.shift ≡ F.ring.zero → ⊥) × (self.now.log_size ≤ F.TWO_ADICITY) }
     {

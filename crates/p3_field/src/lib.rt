@@ -1,10 +1,10 @@
 //! Fields: their traits with their laws, the BabyBear field, its quartic extension, and cosets of
 //! two-adic subgroups.
 //!
-//! The traits, types and calls are those of Plonky3's `p3-field` and `p3-baby-bear`; `Gf256` is this project's own. "Own"
-//! in a comment, here and in the other crates, says so: Plonky3 has no original.
-//! Each field trait has a core without operators: a bound of an associated type, or of a trait's
-//! parameter, names the core (`FieldCore`), and functions name the trait above it (`Field`).
+//! The traits, types and calls are those of Plonky3's `p3-field` and `p3-baby-bear`; `Gf256` is this project's own. "Not
+//! in Plonky3" in a comment, here and in the other crates, says so. Each field trait has a core without operators: a
+//! bound of an associated type, or of a trait's parameter, names the core (`FieldCore`), and functions name the trait
+//! above it (`Field`).
 //!
 //! The definitions that the contracts cite are in `specs/`: rings and fields as plain data with
 //! laws (`Ring`, `Field`), polynomials as lists of coefficients (`Poly`), those with given values
@@ -35,7 +35,7 @@ pub use coset::TwoAdicMultiplicativeCoset;
 pub use gf256::Gf256;
 pub use quartic::QuarticExtension;
 
-/// A result whose only error is want of memory (own).
+/// A result whose only error is running out of memory (not in Plonky3).
 pub type Mem<T> = Result<T, AllocError>;
 
 /// A commutative ring without its operators: the core of `PrimeCharacteristicRing`.
@@ -101,7 +101,7 @@ pub trait FieldCore: RingCore + Eq {
 
     /// A fixed value that isn't zero, by which a coset is shifted off its subgroup
     /// (`Field::GENERATOR` of `p3-field`, which generates the multiplicative group). That it lies outside of each two-adic
-    /// subgroup is a law for `BabyBear` (`bear_31_power`), and none of this trait.
+    /// subgroup is a law for `BabyBear` (`baby_bear_31_power`), and none of this trait.
     const GENERATOR: Self;
 
     /// Whether this is zero.
@@ -242,16 +242,16 @@ impl<T: Field + TwoAdicCore> TwoAdicField for T {}
 
 /// Values with `DIMENSION` coefficients in the field `F` (`BasedVectorSpace` of `p3-field`).
 ///
-/// `parts` is a value's list of coefficients, and `whole` the value of such a list.
+/// `coefficients` is a value's list of coefficients, and `from_coefficients` the value of such a list.
 pub trait BasedVectorSpace<F: FieldCore>: Copy {
     // The constant, as the clauses name it.
     ghost DIMENSION: { ℕ };
 
     // A value's coefficients, in basis order.
-    ghost parts: { Self → List F };
+    ghost coefficients: { Self → List F };
 
     // The value of a list of coefficients.
-    ghost whole: { List F → Self };
+    ghost from_coefficients: { List F → Self };
 
     /// The number of coefficients; it isn't zero.
     const DIMENSION: usize;
@@ -259,20 +259,20 @@ pub trait BasedVectorSpace<F: FieldCore>: Copy {
     /// Coefficient `i`, for `i` below `DIMENSION`.
     fn basis_coefficient(&self, i: usize) -> F
         requires { i < DIMENSION }
-        ensures { result ≡ get_or (parts self.now) i F.ring.zero };
+        ensures { result ≡ get_or (coefficients self.now) i F.ring.zero };
 
     /// The coefficients of the first value, then those of the second, and so on.
     fn flatten_to_base(alloc: Global, values: &[Self]) -> Mem<Vec<F>>
-        ensures { IfOk result (λ v. v.items ≡ flat_map parts values.now) };
+        ensures { IfOk result (λ v. v.items ≡ flat_map coefficients values.now) };
 
     /// The values of which `flatten_to_base` gives `values`, whose number is a multiple of
     /// `DIMENSION`.
     fn reconstitute_from_base(alloc: Global, values: &[F]) -> Mem<Vec<Self>>
         requires { length values.now % DIMENSION ≡ 0 }
-        ensures { IfOk result (λ v. flat_map parts v.items ≡ values.now) };
+        ensures { IfOk result (λ v. flat_map coefficients v.items ≡ values.now) };
 
     // Each value has one list of `DIMENSION` coefficients, each such list one value, and there is a coefficient.
-    ghost vector_laws: { VectorLaws DIMENSION parts whole };
+    ghost vector_laws: { VectorLaws DIMENSION coefficients from_coefficients };
 }
 
 /// A field above `F` with a basis of `DIMENSION` elements (`ExtensionField` of `p3-field`).
@@ -299,5 +299,5 @@ pub trait ExtensionField<F: FieldCore>: Field + BasedVectorSpace<F> {
     ghost embed_laws: { RingHom F.ring Self.ring embed };
 
     // A value is the sum of its coefficients times the basis elements.
-    ghost basis_laws: { (x : Self) → combine Self.ring basis 0 (map embed (Self.parts x)) ≡ x };
+    ghost basis_laws: { (x : Self) → combine Self.ring basis 0 (map embed (Self.coefficients x)) ≡ x };
 }

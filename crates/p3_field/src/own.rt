@@ -1,6 +1,6 @@
 //! Each field is an extension of dimension 1 of itself.
 ghost use Rattle.std.specs.Prelude.{◌≡◌, ℕ, ◌+◌, ◌-◌, ◌*◌, ◌/◌, ◌%◌, ◌^◌, ◌<◌, ◌≤◌, length, get_or, List, [], ◌∷◌, refl};
-ghost use Rattle.p3_field.specs.Field.{own_whole};
+ghost use Rattle.p3_field.specs.Field.{own_from_coefficients};
 ghost use Rattle.p3_field.specs.Laws.Own.{own_laws, own_hom, own_spans};
 
 use crate::{BasedVectorSpace, ExtensionField, Field, FieldCore, Mem, RingCore};
@@ -10,9 +10,9 @@ use std::alloc::Global;
 impl<F: FieldCore> BasedVectorSpace<F> for F {
     ghost DIMENSION = { 1 };
 
-    ghost parts = { λ x. x ∷ [] };
+    ghost coefficients = { λ x. x ∷ [] };
 
-    ghost whole = { own_whole F.ring.zero };
+    ghost from_coefficients = { own_from_coefficients F.ring.zero };
 
     const DIMENSION: usize = 1;
 

@@ -1,4 +1,4 @@
--- Turns of the loops that put terms behind each other.
+-- Turns of the loops that put terms one after another.
 use Rattle.std.proofs.Common.{◌≡◌, ℕ, zero, suc, ◌+◌, ◌<◌, ◌≤◌, inl, inr, List, [], ◌∷◌, ◌++◌, length, get_or, take, refl, sym, ◌∙◌, ap, subst, arith, append-nil, append_assoc}
 use Rattle.std.specs.Prelude.{All, Err}
 use Rattle.std.proofs.lemmas.List.{take_more, take_all}
@@ -10,7 +10,7 @@ use Rattle.p3_lookup.specs.Term.{Term, HasInverses}
 use Rattle.p3_lookup.specs.declared.terminal.GenerateError.{GenerateError}
 use Rattle.p3_lookup.specs.declared.terminal.GenerateError.TheVariants.{DenominatorZero, OutOfMemory}
 use Rattle.p3_lookup.specs.Honest.{Argument, row_terms, RowHasInverses}
-use Rattle.p3_lookup.specs.Generated.{IsFirstZero, IsFirstZeroIn, IsFault}
+use Rattle.p3_lookup.specs.Generated.{IsFirstZero, IsFirstZeroIn, IsGenerateFault}
 use Rattle.p3_lookup.specs.RowTerms.{AreTermsAdded, AreRowTermsAdded, flat_terms, table_terms}
 
 -- the first i terms of a lookup are there, and none of their denominators is zero
@@ -106,8 +106,8 @@ module _ {F E : Type 0} (p : Argument F E) where
   table_start = record { items = refl; nonzero = λ k h. absurd (omega (arith, h)) }
 
   module _ (i : ℕ) (new : List (Term E)) (s : AreTableTermsAt p new i) where
-    pub table_more : (newer : List (Term E)) → newer ≡ new ++ flat_terms (row_terms p i) → RowHasInverses p i → AreTableTermsAt p newer (i + 1)
-    table_more newer e n = record {
+    pub tabulate_more : (newer : List (Term E)) → newer ≡ new ++ flat_terms (row_terms p i) → RowHasInverses p i → AreTableTermsAt p newer (i + 1)
+    tabulate_more newer e n = record {
       items =
           let one : suc i ≡ i + 1 = omega arith in
           e ∙ ap (λ l. l ++ flat_terms (row_terms p i)) s.items ∙ ap (table_terms p) one;
@@ -120,9 +120,9 @@ module _ {F E : Type 0} (p : Argument F E) where
     }
 
     -- what goes wrong in a row goes wrong in the table
-    pub table_fault : (n : ℕ) (before after : List (Term E)) (e : GenerateError) → i < n → AreRowTermsAdded p.ring (row_terms p i) i before after (Err e) → IsFault p n e
+    pub table_fault : (n : ℕ) (before after : List (Term E)) (e : GenerateError) → i < n → AreRowTermsAdded p.ring (row_terms p i) i before after (Err e) → IsGenerateFault p n e
     table_fault n before after (DenominatorZero x l j) h f =
-        let P : ℕ → Type 0 = λ m. IsFault p n (DenominatorZero m l j) in
+        let P : ℕ → Type 0 = λ m. IsGenerateFault p n (DenominatorZero m l j) in
         subst P (sym f.0) (record { within = h; first = f.1; before = s.nonzero })
     table_fault n before after OutOfMemory h f = tt
 

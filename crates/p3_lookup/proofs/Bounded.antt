@@ -10,7 +10,7 @@ use Rattle.p3_air.specs.declared.cells.Count.{Count}
 use Rattle.p3_air.specs.declared.node.Node.{Node}
 use Rattle.p3_air.specs.Tree.{Tree, Bus, local}
 use Rattle.p3_lookup.specs.Lookup.{LookupData}
-use Rattle.p3_lookup.specs.Bus.{opener, batch_buses, lookups_before, bounds_of}
+use Rattle.p3_lookup.specs.Bus.{opener, batch_buses, lookups_before, sum_of_bounds}
 use Rattle.p3_lookup.specs.Bound.{batch_loads}
 use Rattle.p3_lookup.specs.Packing.{same_name}
 use Rattle.p3_lookup.specs.Written.{Written, read, read_all, tree_count}
@@ -30,19 +30,19 @@ any_more p xs i x h at e none = list_any_more p xs i x h ∙ or_from (list_any p
 pub limited : (limit load x rest next whole : ℕ) → next ≡ min limit (load + x) → min limit (load + (x + rest)) ≡ whole → min limit (next + rest) ≡ whole
 limited limit load x rest next whole e h = omega (arith, e, h)
 
--- a count's bound times the height, and those of the counts behind it
-pub bounds_turn : {E : Type 0} (cs : List (Count E)) (i h : ℕ) (c : Count E) → i < length cs → get_or cs i c ≡ c → bounds_of (drop i cs) * h ≡ c.bound * h + bounds_of (drop (i + 1) cs) * h
+-- a count's bound times the height, and those of the counts after it
+pub bounds_turn : {E : Type 0} (cs : List (Count E)) (i h : ℕ) (c : Count E) → i < length cs → get_or cs i c ≡ c → sum_of_bounds (drop i cs) * h ≡ c.bound * h + sum_of_bounds (drop (i + 1) cs) * h
 bounds_turn {E = E} cs i h c lt at =
-    let one : bounds_of (drop i cs) ≡ c.bound + bounds_of (drop (i + 1) cs) =
-    sum_by-drop_more (λ k. k.bound) cs i c lt ∙ ap (λ (k : Count E). k.bound + bounds_of (drop (i + 1) cs)) at in
-    ap (λ k. k * h) one ∙ spread c.bound (bounds_of (drop (i + 1) cs)) h
+    let one : sum_of_bounds (drop i cs) ≡ c.bound + sum_of_bounds (drop (i + 1) cs) =
+    sum_by-drop_more (λ k. k.bound) cs i c lt ∙ ap (λ (k : Count E). k.bound + sum_of_bounds (drop (i + 1) cs)) at in
+    ap (λ k. k * h) one ∙ spread c.bound (sum_of_bounds (drop (i + 1) cs)) h
   where
     spread : (a b k : ℕ) → (a + b) * k ≡ a * k + b * k
     spread a b k = omega arith
 
--- the loads of a lookup, and of those behind it
+-- the loads of a lookup, and of those after it
 pub loads_turn : {F : Type 0} (b : Bus) (h : ℕ) (ls : List (LookupData F)) (i : ℕ) (l : LookupData F) → i < length ls → get_or ls i l ≡ l
-    → named_load b h (drop i ls) ≡ cond (same_name b l.bus) (bounds_of l.counts * h) 0 + named_load b h (drop (i + 1) ls)
+    → named_load b h (drop i ls) ≡ cond (same_name b l.bus) (sum_of_bounds l.counts * h) 0 + named_load b h (drop (i + 1) ls)
 loads_turn b h ls i l lt at = ap (named_load b h) (drop_more ls i l lt ∙ ap (λ k. k ∷ drop (i + 1) ls) at)
 
 pub tables_turn : {F : Type 0} (b : Bus) (tables : List (List (LookupData F))) (hs : List ℕ) (i : ℕ) (ls : List (LookupData F)) → i < length tables → i < length hs → get_or tables i [] ≡ ls
@@ -52,7 +52,7 @@ tables_turn b tables hs i ls lt in-hs at =
     ∙ ap (λ l. named_loads b (ls ∷ drop (i + 1) tables) l) (drop_more hs i 0 in-hs)
 
 -- the bounds are those of the counts as trees
-pub bounds_read : {F : Type 0} (cs : List (Count (List (Node F)))) → bounds_of (map tree_count cs) ≡ bounds_of cs
+pub bounds_read : {F : Type 0} (cs : List (Count (List (Node F)))) → sum_of_bounds (map tree_count cs) ≡ sum_of_bounds cs
 bounds_read {F = F} cs = fold-map (λ (a : ℕ) (k : Count (Tree F)). a + k.bound) tree_count 0 cs
 
 -- the lookup at a place of a batch as a program holds it
@@ -78,10 +78,10 @@ module _ {F : Type 0} (ws : List (List (Written F))) (t k : ℕ) (own : List (Wr
   pub bus_is : get_or (batch_buses tables) (lookups_before tables t + k) local ≡ x.bus
   bus_is = bus_at tables t k (read x) table_within inside ∙ ap (λ (l : LookupData F). l.bus) item_is
 
-  pub load_is : (hs : List ℕ) → length hs ≡ length ws → get_or (batch_loads tables hs) (lookups_before tables t + k) 0 ≡ bounds_of x.multiplicities * get_or hs t 0
+  pub load_is : (hs : List ℕ) → length hs ≡ length ws → get_or (batch_loads tables hs) (lookups_before tables t + k) 0 ≡ sum_of_bounds x.multiplicities * get_or hs t 0
   load_is hs e =
       load_at_place tables hs t k (read x) table_within (omega (arith, e, length-map ws (read_all {F = F}))) inside
-      ∙ ap (λ (l : LookupData F). bounds_of l.counts * get_or hs t 0) item_is
+      ∙ ap (λ (l : LookupData F). sum_of_bounds l.counts * get_or hs t 0) item_is
       ∙ ap (λ b. b * get_or hs t 0) (bounds_read x.multiplicities)
 
   pub opens_is : (opener (batch_buses tables) (lookups_before tables t + k) == lookups_before tables t + k)

@@ -1,7 +1,7 @@
 -- Degrees of the trees of a tuple and of terms.
 use Rattle.std.proofs.Common.{◌≡◌, ℕ, ◌<◌, ◌^◌, max, List, ◌∷◌, sym, ◌∙◌, ap, arith}
 use Rattle.p3_field.specs.Ring.{Ring}
-use Rattle.p3_field.specs.Poly.{val}
+use Rattle.p3_field.specs.Poly.{eval_poly}
 use Rattle.p3_air.specs.Degree.{multiple, capped_sum}
 use Rattle.p3_air.specs.Tree.{Tree}
 use Rattle.p3_lookup.specs.Lookup.{LookupData, Sent, sent}
@@ -15,17 +15,17 @@ pub capped_zero : (z d : ℕ) → z ≡ 0 → d < 2 ^ 64 → capped_sum z d ≡ 
 capped_zero z d e h = omega (arith, e, h)
 
 -- one item more of a tuple's sum
-pub sum_degree : {F : Type 0} (f : Ring F) (t : ℕ) (x : Tree F) (rest : List (Tree F)) (b : Tree F) (m d n : ℕ) → multiple t b ≡ 0 → m ≡ multiple t x → d ≡ multiple t (val (trees f) rest b) → d < 2 ^ 64
-    → n ≡ max m d → n ≡ multiple t (val (trees f) (x ∷ rest) b)
+pub sum_degree : {F : Type 0} (f : Ring F) (t : ℕ) (x : Tree F) (rest : List (Tree F)) (b : Tree F) (m d n : ℕ) → multiple t b ≡ 0 → m ≡ multiple t x → d ≡ multiple t (eval_poly (trees f) rest b) → d < 2 ^ 64
+    → n ≡ max m d → n ≡ multiple t (eval_poly (trees f) (x ∷ rest) b)
 sum_degree f t x rest b m d n h p q lt s =
-    let c : capped_sum (multiple t b) (multiple t (val (trees f) rest b)) ≡ d = ap (capped_sum (multiple t b)) (sym q) ∙ capped_zero (multiple t b) d h lt in
+    let c : capped_sum (multiple t b) (multiple t (eval_poly (trees f) rest b)) ≡ d = ap (capped_sum (multiple t b)) (sym q) ∙ capped_zero (multiple t b) d h lt in
     cc (c, p, s)
 
 -- one term more
-pub term_degrees : {F : Type 0} (f : Ring F) (t : ℕ) (a b : Tree F) (s : Sent (Tree F)) (ss : List (Sent (Tree F))) (m d c n : ℕ) → multiple t a ≡ 0 → m ≡ multiple t s.count → d ≡ multiple t (val (trees f) s.tuple b)
+pub term_degrees : {F : Type 0} (f : Ring F) (t : ℕ) (a b : Tree F) (s : Sent (Tree F)) (ss : List (Sent (Tree F))) (m d c n : ℕ) → multiple t a ≡ 0 → m ≡ multiple t s.count → d ≡ multiple t (eval_poly (trees f) s.tuple b)
     → AreDegreesOf f t a b (c, n) ss → AreDegreesOf f t a b (capped_sum d c, max (capped_sum m c) (capped_sum d n)) (s ∷ ss)
 term_degrees f t a b s ss m d c n h p q r =
-    let e : max (multiple t a) (multiple t (val (trees f) s.tuple b)) ≡ d = ap (λ k. max k (multiple t (val (trees f) s.tuple b))) h ∙ ap (max 0) (sym q) ∙ zero_max d in
+    let e : max (multiple t a) (multiple t (eval_poly (trees f) s.tuple b)) ≡ d = ap (λ k. max k (multiple t (eval_poly (trees f) s.tuple b))) h ∙ ap (max 0) (sym q) ∙ zero_max d in
     (cc (e, r.0), cc (e, p, r.0, r.1))
   where
     zero_max : (k : ℕ) → max 0 k ≡ k

@@ -2,13 +2,13 @@
 use Rattle.std.proofs.Common.{◌≡◌, ℕ, zero, suc, ◌+◌, ◌-◌, ◌*◌, ◌/◌, List, [], ◌∷◌, length, map, take, drop, refl, sym, ◌∙◌, ap}
 use Rattle.std.specs.Prelude.{slice_range}
 use Rattle.std.proofs.lemmas.List.{length-map, take-map}
-use Rattle.p3_field.specs.Poly.{table}
-use Rattle.p3_field.specs.Laws.Tables.{table_same}
+use Rattle.p3_field.specs.Poly.{tabulate}
+use Rattle.p3_field.specs.Laws.Tabulate.{tabulate_same}
 use Rattle.p3_air.specs.declared.cells.Count.{Count}
 
-map-table : {X Y : Type 0} (f : X → Y) (n : ℕ) (t : ℕ → X) → map f (table n t) ≡ table n (λ k. f (t k))
-map-table f zero t = refl
-map-table f (suc n) t = ap (λ l. f (t zero) ∷ l) (map-table f n (λ k. t (suc k)))
+map-tabulate : {X Y : Type 0} (f : X → Y) (n : ℕ) (t : ℕ → X) → map f (tabulate n t) ≡ tabulate n (λ k. f (t k))
+map-tabulate f zero t = refl
+map-tabulate f (suc n) t = ap (λ l. f (t zero) ∷ l) (map-tabulate f n (λ k. t (suc k)))
 
 drop-map : {X Y : Type 0} (f : X → Y) (n : ℕ) (xs : List X) → drop n (map f xs) ≡ map f (drop n xs)
 drop-map f zero xs = refl
@@ -20,16 +20,16 @@ map-range f xs a b = sym (take-map f (b - a) (drop a xs)) ∙ ap (take (b - a)) 
 
 -- the tuples of mapped fields
 pub tuples_read : {X Y : Type 0} (f : X → Y) (xs : List X) (ys : List Y) (n m : ℕ) → n ≡ m → map f xs ≡ ys
-    → map (map f) (table n (λ k. slice_range xs (k * (length xs / n)) (k * (length xs / n) + length xs / n)))
-    ≡ table m (λ k. slice_range ys (k * (length ys / m)) (k * (length ys / m) + length ys / m))
+    → map (map f) (tabulate n (λ k. slice_range xs (k * (length xs / n)) (k * (length xs / n) + length xs / n)))
+    ≡ tabulate m (λ k. slice_range ys (k * (length ys / m)) (k * (length ys / m) + length ys / m))
 tuples_read f xs ys n m e h =
-    map-table (map f) n (λ k. slice_range xs (k * (length xs / n)) (k * (length xs / n) + length xs / n))
-    ∙ table_same n (λ k. map f (slice_range xs (k * (length xs / n)) (k * (length xs / n) + length xs / n)))
+    map-tabulate (map f) n (λ k. slice_range xs (k * (length xs / n)) (k * (length xs / n) + length xs / n))
+    ∙ tabulate_same n (λ k. map f (slice_range xs (k * (length xs / n)) (k * (length xs / n) + length xs / n)))
     (λ k. slice_range (map f xs) (k * (length xs / n)) (k * (length xs / n) + length xs / n))
     (λ k lt. map-range f xs (k * (length xs / n)) (k * (length xs / n) + length xs / n))
-    ∙ ap (λ w. table n (λ k. slice_range (map f xs) (k * (w / n)) (k * (w / n) + w / n))) (sym (length-map xs f))
-    ∙ ap (λ l. table n (λ k. slice_range l (k * (length l / n)) (k * (length l / n) + length l / n))) h
-    ∙ ap (λ w. table w (λ k. slice_range ys (k * (length ys / w)) (k * (length ys / w) + length ys / w))) e
+    ∙ ap (λ w. tabulate n (λ k. slice_range (map f xs) (k * (w / n)) (k * (w / n) + w / n))) (sym (length-map xs f))
+    ∙ ap (λ l. tabulate n (λ k. slice_range l (k * (length l / n)) (k * (length l / n) + length l / n))) h
+    ∙ ap (λ w. tabulate w (λ k. slice_range ys (k * (length ys / w)) (k * (length ys / w) + length ys / w))) e
 
 abbrev pub map_count : {X Z : Type 0} → (X → Z) → Count X → Count Z
 map_count f c = record { value = f c.value; bound = c.bound }

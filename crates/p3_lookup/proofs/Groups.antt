@@ -8,10 +8,10 @@ use Rattle.std.proofs.lemmas.Bool.{cases_lt}
 use Rattle.p3_field.specs.Ring.{Ring, RingLaws}
 use Rattle.p3_field.specs.Poly.{total}
 use Rattle.p3_field.specs.Laws.Sums.{total_same}
-use Rattle.p3_field.specs.Laws.Tables.{total_more}
+use Rattle.p3_field.specs.Laws.Tabulate.{total_more}
 use Rattle.p3_matrix.specs.Matrix.{Rows, height}
 use Rattle.p3_matrix.specs.Laws.Grids.{next_row, product_height}
-use Rattle.p3_lookup.specs.Term.{Term, sum_of, quotient, fraction, HasInverses}
+use Rattle.p3_lookup.specs.Term.{Term, sum_of, term_value, fraction, HasInverses}
 use Rattle.p3_lookup.specs.Honest.{Argument, row_terms, row_fractions, running_sum, honest_cell, RowHasInverses}
 use Rattle.p3_lookup.specs.RowTerms.{flat_terms, table_terms, row_size, group_sums, IsRowAdded, column_cell, AreColumns}
 
@@ -23,10 +23,10 @@ module _ {E : Type 0} (r : Ring E) (inv : E → E) (ts : List (Term E)) where
 
   -- the first i inverses have become quotients
   abbrev pub AreScaled : List E → ℕ → Type 0
-  AreScaled xs i = xs ≡ map (quotient r inv) (take i ts) ++ drop i inverses
+  AreScaled xs i = xs ≡ map (term_value r inv) (take i ts) ++ drop i inverses
 
-  length_front : (i : ℕ) → i < length ts → length (map (quotient r inv) (take i ts)) ≡ i
-  length_front i h = length-map (take i ts) (quotient r inv) ∙ length-take-le i ts (omega (arith, h))
+  length_front : (i : ℕ) → i < length ts → length (map (term_value r inv) (take i ts)) ≡ i
+  length_front i h = length-map (take i ts) (term_value r inv) ∙ length-take-le i ts (omega (arith, h))
 
   module _ (i : ℕ) (t : Term E) (h : i < length ts) (at : t ≡ get_or ts i t) where
     rest : drop i inverses ≡ inv t.denominator ∷ drop (i + 1) inverses
@@ -40,23 +40,23 @@ module _ {E : Type 0} (r : Ring E) (inv : E → E) (ts : List (Term E)) where
 
     pub scaled_read : (xs : List E) (d : E) → AreScaled xs i → get_or xs i d ≡ inv t.denominator
     scaled_read xs d s =
-        let front = map (quotient r inv) (take i ts) in
+        let front = map (term_value r inv) (take i ts) in
         ap (λ l. get_or l i d) (s ∙ ap (λ l. front ++ l) rest) ∙ get_or_at front (inv t.denominator) (drop (i + 1) inverses) d i (length_front i h)
 
-    pub scaled_more : (xs : List E) (y : E) → y ≡ quotient r inv t → AreScaled xs i → AreScaled (set xs i y) (i + 1)
+    pub scaled_more : (xs : List E) (y : E) → y ≡ term_value r inv t → AreScaled xs i → AreScaled (set xs i y) (i + 1)
     scaled_more xs y e s =
-        let front = map (quotient r inv) (take i ts) in
+        let front = map (term_value r inv) (take i ts) in
         ap (λ l. set l i y) (s ∙ ap (λ l. front ++ l) rest)
         ∙ set_at front (inv t.denominator) (drop (i + 1) inverses) y i (length_front i h)
-        ∙ ap (λ z. front ++ z ∷ drop (i + 1) inverses) (e ∙ ap (quotient r inv) at)
-        ∙ sym (append_assoc front (quotient r inv (get_or ts i t) ∷ []) (drop (i + 1) inverses))
-        ∙ ap (λ l. l ++ drop (i + 1) inverses) (sym (map_more (quotient r inv) ts i t h))
+        ∙ ap (λ z. front ++ z ∷ drop (i + 1) inverses) (e ∙ ap (term_value r inv) at)
+        ∙ sym (append_assoc front (term_value r inv (get_or ts i t) ∷ []) (drop (i + 1) inverses))
+        ∙ ap (λ l. l ++ drop (i + 1) inverses) (sym (map_more (term_value r inv) ts i t h))
 
-  pub scaled_end : (xs : List E) (i : ℕ) → length ts ≤ i → AreScaled xs i → xs ≡ map (quotient r inv) ts
+  pub scaled_end : (xs : List E) (i : ℕ) → length ts ≤ i → AreScaled xs i → xs ≡ map (term_value r inv) ts
   scaled_end xs i h s =
       let long : length inverses ≤ i = omega (arith, h, length-map ts (λ (u : Term E). u.denominator), length-map (map (λ (u : Term E). u.denominator) ts) inv) in
-      s ∙ ap (λ l. map (quotient r inv) (take i ts) ++ l) (drop_all i inverses long)
-      ∙ append-nil (map (quotient r inv) (take i ts)) ∙ ap (map (quotient r inv)) (take_all i ts h)
+      s ∙ ap (λ l. map (term_value r inv) (take i ts) ++ l) (drop_all i inverses long)
+      ∙ append-nil (map (term_value r inv) (take i ts)) ∙ ap (map (term_value r inv)) (take_all i ts h)
 
   pub scaled_start : (xs : List E) → xs ≡ inverses → AreScaled xs 0
   scaled_start xs e = e
@@ -65,8 +65,8 @@ module _ {E : Type 0} (r : Ring E) (inv : E → E) (ts : List (Term E)) where
   scaled_length xs i h s = omega (
     arith,
     ap length s,
-    length-append (map (quotient r inv) (take i ts)) (drop i inverses),
-    length-map (take i ts) (quotient r inv),
+    length-append (map (term_value r inv) (take i ts)) (drop i inverses),
+    length-map (take i ts) (term_value r inv),
     length-take-le i ts h,
     length-drop i inverses,
     length-map ts (λ (u : Term E). u.denominator),
@@ -80,7 +80,7 @@ module _ {E : Type 0} (r : Ring E) (inv : E → E) (ts : List (Term E)) where
       let within : i < length ts = omega (arith, lt, ap length e, length-map ts (λ (u : Term E). u.denominator)) in
       h i d within (sym (get_or-map (λ (u : Term E). u.denominator) ts i d r.zero within) ∙ ap (λ l. get_or l i r.zero) (sym e) ∙ z)
 
--- one row: what is behind the values now, and what is to come, are together the whole row
+-- one row: what is after the values now, and what is to come, are together the whole row
 
 pub record IsRowAt {E : Type 0} (r : Ring E) (ns : List ℕ) (xs : List E) (running : E) (old now : List E) (i start place : ℕ) (sum : E) : Type 0 where
   pub values : now ++ group_sums r (drop i ns) (drop place xs) ≡ old ++ running ∷ group_sums r ns (drop start xs)
@@ -137,7 +137,7 @@ length_groups : {E : Type 0} (r : Ring E) (ns : List ℕ) (xs : List E) → leng
 length_groups r [] xs = refl
 length_groups r (n ∷ ns) xs = ap suc (length_groups r ns (drop n xs))
 
--- the first rows are there, and the place behind their quotients
+-- the first rows are there, and the place after their quotients
 pub record AreRowsAt {E : Type 0} (r : Ring E) (ns : List ℕ) (xs : List E) (values : List E) (row place : ℕ) (running : E) : Type 0 where
   pub columns : AreColumns r (λ i. group_sums r ns (drop (i * row_size ns) xs)) (length ns) values row running
   pub at : place ≡ row * row_size ns
@@ -172,15 +172,15 @@ module _ {E : Type 0} (r : Ring E) (ns : List ℕ) (xs : List E) where
 
 -- the fractions of the rows are those of the argument
 
--- groups of the sizes of lists that stand behind each other are these lists
-groups_are : {E : Type 0} (r : Ring E) (inv : E → E) (tss : List (List (Term E))) (more : List E) → group_sums r (map length tss) (map (quotient r inv) (flat_terms tss) ++ more) ≡ map (fraction r inv) tss
+-- groups of the sizes of lists that stand one after another are these lists
+groups_are : {E : Type 0} (r : Ring E) (inv : E → E) (tss : List (List (Term E))) (more : List E) → group_sums r (map length tss) (map (term_value r inv) (flat_terms tss) ++ more) ≡ map (fraction r inv) tss
 groups_are r inv [] more = refl
 groups_are r inv (ts ∷ tss) more =
-    let q = map (quotient r inv) ts in
-    let rest = map (quotient r inv) (flat_terms tss) ++ more in
-    let split : map (quotient r inv) (ts ++ flat_terms tss) ++ more ≡ q ++ rest =
-    ap (λ l. l ++ more) (map-append (quotient r inv) ts (flat_terms tss)) ∙ append_assoc q (map (quotient r inv) (flat_terms tss)) more in
-    let long : length q ≡ length ts = length-map ts (quotient r inv) in
+    let q = map (term_value r inv) ts in
+    let rest = map (term_value r inv) (flat_terms tss) ++ more in
+    let split : map (term_value r inv) (ts ++ flat_terms tss) ++ more ≡ q ++ rest =
+    ap (λ l. l ++ more) (map-append (term_value r inv) ts (flat_terms tss)) ∙ append_assoc q (map (term_value r inv) (flat_terms tss)) more in
+    let long : length q ≡ length ts = length-map ts (term_value r inv) in
     ap (λ l. sum_of r (take (length ts) l) ∷ group_sums r (map length tss) (drop (length ts) l)) split
     ∙ ap (λ l. sum_of r l ∷ group_sums r (map length tss) (drop (length ts) (q ++ rest))) (take_at q rest (length ts) long)
     ∙ ap (λ l. sum_of r q ∷ group_sums r (map length tss) l) (drop_at q rest (length ts) long)
@@ -196,12 +196,12 @@ module _ {F E : Type 0} (p : Argument F E) (ns : List ℕ) (same : (i : ℕ) →
   length_table (suc n) =
       omega (arith, length-append (table_terms p n) (flat_terms (row_terms p n)), length_table n, length_flat (row_terms p n), ap row_size (same n))
 
-  -- a row's terms stand behind those of the rows before
-  row_behind : (n i : ℕ) → i < n → (more : List (Term E)) × (table_terms p n ≡ table_terms p i ++ (flat_terms (row_terms p i) ++ more))
-  row_behind zero i h = absurd (omega (arith, h))
-  row_behind (suc n) i h = elim (cases_lt i n) [
+  -- a row's terms stand after those of the rows before
+  row_after : (n i : ℕ) → i < n → (more : List (Term E)) × (table_terms p n ≡ table_terms p i ++ (flat_terms (row_terms p i) ++ more))
+  row_after zero i h = absurd (omega (arith, h))
+  row_after (suc n) i h = elim (cases_lt i n) [
     | inl less ↦
-        let past = row_behind n i less in
+        let past = row_after n i less in
         let own = flat_terms (row_terms p n) in (
           past.0 ++ own,
           ap (λ l. l ++ own) past.1 ∙ append_assoc (table_terms p i) (flat_terms (row_terms p i) ++ past.0) own
@@ -214,10 +214,10 @@ module _ {F E : Type 0} (p : Argument F E) (ns : List ℕ) (same : (i : ℕ) →
         )
   ]
 
-  pub fractions_are : (n i : ℕ) (xs : List E) → i < n → xs ≡ map (quotient p.ring p.inv) (table_terms p n) → group_sums p.ring ns (drop (i * row_size ns) xs) ≡ row_fractions p i
+  pub fractions_are : (n i : ℕ) (xs : List E) → i < n → xs ≡ map (term_value p.ring p.inv) (table_terms p n) → group_sums p.ring ns (drop (i * row_size ns) xs) ≡ row_fractions p i
   fractions_are n i xs h e =
-      let q = quotient p.ring p.inv in
-      let past = row_behind n i h in
+      let q = term_value p.ring p.inv in
+      let past = row_after n i h in
       let front = map q (table_terms p i) in
       let own = map q (flat_terms (row_terms p i)) in
       let more = map q past.0 in
@@ -232,7 +232,7 @@ module _ {F E : Type 0} (p : Argument F E) (ns : List ℕ) (same : (i : ℕ) →
 -- the whole answer
 
 module _ {F E : Type 0} (p : Argument F E) (L : RingLaws p.ring) (ns : List ℕ) (same : (i : ℕ) → map length (row_terms p i) ≡ ns) (lookups : length ns ≡ length p.lookups) where
-  pub generated : (n : ℕ) (xs values : List E) (running : E) (m : Rows E) → xs ≡ map (quotient p.ring p.inv) (table_terms p n) → ((i : ℕ) → i < n → RowHasInverses p i)
+  pub generated : (n : ℕ) (xs values : List E) (running : E) (m : Rows E) → xs ≡ map (term_value p.ring p.inv) (table_terms p n) → ((i : ℕ) → i < n → RowHasInverses p i)
       → AreColumns p.ring (λ i. group_sums p.ring ns (drop (i * row_size ns) xs)) (length p.lookups) values n running → m ≡ record { values = values; width = length p.lookups + 1 }
       → (m.width ≡ length p.lookups + 1)
       × (height m ≡ n)

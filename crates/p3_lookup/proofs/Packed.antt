@@ -4,14 +4,14 @@ use Rattle.std.proofs.lemmas.List.{map-append, length-append, take_more, take_al
 use Rattle.std.proofs.Math.ListN.{set}
 use Rattle.p3_field.specs.Ring.{Ring}
 use Rattle.p3_air.specs.Symbolic.{tree_of}
-use Rattle.p3_lookup.specs.Lookup.{LookupData, IsCounted}
+use Rattle.p3_lookup.specs.Lookup.{LookupData, HasCountForEach}
 use Rattle.p3_lookup.specs.Written.{Written, read, tree_count, merged_written}
 use Rattle.p3_lookup.specs.Packing.{merged, takes_in, with_lookup}
 
 pub read_merged : {F : Type 0} (k l : Written F) → read (merged_written k l) ≡ merged (read k) (read l)
 read_merged k l = cc (map-append (map tree_of) k.elements l.elements, map-append tree_count k.multiplicities l.multiplicities)
 
-pub merged_counted : {F : Type 0} (k l : LookupData F) → IsCounted k → IsCounted l → IsCounted (merged k l)
+pub merged_counted : {F : Type 0} (k l : LookupData F) → HasCountForEach k → HasCountForEach l → HasCountForEach (merged k l)
 merged_counted k l h g = omega (arith, h, g, length-append k.counts l.counts, length-append k.tuples l.tuples)
 
 -- where the loop has come to: no lookup before place i takes the new one in

@@ -3,7 +3,7 @@ use Rattle.std.proofs.Common.{◌≡◌, ℕ, zero, suc, ◌+◌, ◌<◌, false
 use Rattle.std.specs.Prelude.{All, ◌==◌}
 use Rattle.std.proofs.lemmas.List.{length-map, map-append}
 use Rattle.p3_field.specs.Ring.{Ring}
-use Rattle.p3_field.specs.Poly.{val}
+use Rattle.p3_field.specs.Poly.{eval_poly}
 use Rattle.p3_air.specs.declared.cells.Count.{Count}
 use Rattle.p3_air.specs.Tree.{Tree, sum, over_extension}
 use Rattle.p3_lookup.specs.Lookup.{LookupData, pair_up}
@@ -20,7 +20,7 @@ at_item P f xs i x h e all =
     let lt : i < length (map f xs) = omega (arith, h, length-map xs f) in
     subst P (mapped_item f xs i x (f x) h e) (all i (f x) lt)
 
--- an item, and those behind it
+-- an item, and those after it
 pub dropped : {X Y : Type 0} (f : X → Y) (xs : List X) (i j : ℕ) (x : X) → suc j ≡ i → j < length xs → x ≡ get_or xs j x → drop j (map f xs) ≡ f x ∷ drop i (map f xs)
 dropped f [] i j x s h e = absurd (omega (arith, h))
 dropped f (y ∷ ys) i zero x s h e = let one : i ≡ suc zero = sym s in ap (λ z. f z ∷ map f ys) (sym e) ∙ ap (λ k. f x ∷ drop k (f y ∷ map f ys)) (sym one)
@@ -28,11 +28,11 @@ dropped f (y ∷ ys) i (suc j) x s h e =
     let two : suc (suc j) ≡ i = s in
     dropped f ys (suc j) j x refl (omega (arith, h)) e ∙ ap (λ k. f x ∷ drop k (f y ∷ map f ys)) two
 
-pub val_turn : {X A : Type 0} (r : Ring A) (f : X → A) (xs : List X) (i j : ℕ) (x : X) (b : A) → suc j ≡ i → j < length xs → x ≡ get_or xs j x
-    → r.add (f x) (r.mul b (val r (drop i (map f xs)) b)) ≡ val r (drop j (map f xs)) b
-val_turn r f xs i j x b s h e = ap (λ l. val r l b) (sym (dropped f xs i j x s h e))
+pub eval_turn : {X A : Type 0} (r : Ring A) (f : X → A) (xs : List X) (i j : ℕ) (x : X) (b : A) → suc j ≡ i → j < length xs → x ≡ get_or xs j x
+    → r.add (f x) (r.mul b (eval_poly r (drop i (map f xs)) b)) ≡ eval_poly r (drop j (map f xs)) b
+eval_turn r f xs i j x b s h e = ap (λ l. eval_poly r l b) (sym (dropped f xs i j x s h e))
 
--- a tuple with its count, and those behind it
+-- a tuple with its count, and those after it
 pub pairs_turn : {F : Type 0} (T : List (List (Tree F))) (C : List (Count (Tree F))) (i j : ℕ) (t : List (Tree F)) (c : Count (Tree F))
     → drop j T ≡ t ∷ drop i T → drop j C ≡ c ∷ drop i C
     → record { tuple = t; count = c.value } ∷ pair_up (drop i T) (drop i C) ≡ pair_up (drop j T) (drop j C)

@@ -4,13 +4,13 @@ use Rattle.std.specs.Prelude.{◌≡◌, ℕ, suc, ◌+◌, ◌-◌, ◌*◌, �
 use Rattle.p3_lookup.specs.declared.terminal.LookupError.{LookupError}
 use Rattle.p3_lookup.specs.declared.terminal.LookupError.TheVariants.{MultiplicityBound, PermutationWidthMismatch, PermutationLengthMismatch, TerminalPresenceMismatch, CommitmentMismatch, TerminalSum}
 use Rattle.p3_lookup.specs.Lookup.{LookupData}
-use Rattle.p3_lookup.specs.Bus.{bus_number, bus_count, batch_buses, bounds_of}
+use Rattle.p3_lookup.specs.Bus.{bus_number, bus_count, batch_buses, sum_of_bounds}
 
 -- the load of each lookup of a batch, table after table: the sum of its bounds times its table's height
 abbrev pub batch_loads : {F : Type 0} → List (List (LookupData F)) → List ℕ → List ℕ
 batch_loads [] hs = []
 batch_loads (ls ∷ tables) [] = []
-batch_loads (ls ∷ tables) (h ∷ hs) = map (λ l. bounds_of l.counts * h) ls ++ batch_loads tables hs
+batch_loads (ls ∷ tables) (h ∷ hs) = map (λ l. sum_of_bounds l.counts * h) ls ++ batch_loads tables hs
 
 -- of loads that are numbered from n on, the sum of those whose number passes the test
 abbrev pub load_where : (ℕ → Bool) → ℕ → List ℕ → ℕ
@@ -22,8 +22,8 @@ abbrev pub bus_load : {F : Type 0} → List (List (LookupData F)) → List ℕ �
 bus_load tables heights b = load_where (λ n. bus_number (batch_buses tables) n == b) 0 (batch_loads tables heights)
 
 -- each bus's load is below the order
-abbrev pub AreBounded : {F : Type 0} → ℕ → List (List (LookupData F)) → List ℕ → Type 0
-AreBounded order tables heights = (b : ℕ) → b < bus_count (batch_buses tables) → bus_load tables heights b < order
+abbrev pub HaveLoadsBelow : {F : Type 0} → ℕ → List (List (LookupData F)) → List ℕ → Type 0
+HaveLoadsBelow order tables heights = (b : ℕ) → b < bus_count (batch_buses tables) → bus_load tables heights b < order
 
 -- the number of a bus as a usize, which stops at the greatest one
 abbrev pub capped : ℕ → ℕ
@@ -39,7 +39,7 @@ pub record IsFirstOverload {F : Type 0} (order : ℕ) (tables : List (List (Look
 
 -- the answer for a batch: Ok exactly where each load is below the order, and else the first bus whose load isn't
 abbrev pub IsBoundChecked : {F : Type 0} → ℕ → List (List (LookupData F)) → List ℕ → Result (Unit {0}) LookupError → Type 0
-IsBoundChecked order tables heights (Ok x) = AreBounded order tables heights
+IsBoundChecked order tables heights (Ok x) = HaveLoadsBelow order tables heights
 IsBoundChecked order tables heights (Err (MultiplicityBound bus)) = IsFirstOverload order tables heights bus
 IsBoundChecked order tables heights (Err (PermutationWidthMismatch air expected)) = ⊥
 IsBoundChecked order tables heights (Err (PermutationLengthMismatch air)) = ⊥

@@ -57,8 +57,8 @@ abbrev pub widest : {F : Type 0} → List (List (LookupData F)) → ℕ
 widest tables = widest_of 1 (flat_map (flat_map (λ l. l.tuples)) tables)
 
 -- the sum of a lookup's bounds
-abbrev pub bounds_of : {A : Type 0} → List (Count A) → ℕ
-bounds_of cs = sum_by (λ c. c.bound) cs
+abbrev pub sum_of_bounds : {A : Type 0} → List (Count A) → ℕ
+sum_of_bounds cs = sum_by (λ c. c.bound) cs
 
 -- the lookups at these places name one bus
 pub record NameOneBus (bs : List Bus) (i j : ℕ) : Type 0 where

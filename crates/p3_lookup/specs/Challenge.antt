@@ -2,7 +2,7 @@
 -- own.
 use Rattle.std.specs.Prelude.{ℕ, ◌+◌, List}
 use Rattle.p3_field.specs.Ring.{Ring, pow, of_nat}
-use Rattle.p3_field.specs.Poly.{table}
+use Rattle.p3_field.specs.Poly.{tabulate}
 
 -- the base of bus b: alpha + (b + 1) beta^width, which no two buses share unless beta^width is zero
 abbrev pub bus_base : {E : Type 0} → Ring E → E → E → ℕ → ℕ → E
@@ -15,4 +15,4 @@ pub record ChallengesData (E : Type 0) : Type 0 where
   pub bus_prefix : List E
 
 abbrev pub challenges_with : {E : Type 0} → Ring E → E → E → ℕ → ℕ → ChallengesData E
-challenges_with e alpha beta width buses = record { alpha = alpha; beta = beta; bus_prefix = table buses (bus_base e alpha beta width) }
+challenges_with e alpha beta width buses = record { alpha = alpha; beta = beta; bus_prefix = tabulate buses (bus_base e alpha beta width) }

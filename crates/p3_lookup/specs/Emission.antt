@@ -1,4 +1,4 @@
--- What private functions of the gadget hand on: expressions that stand for parts of a constraint.
+-- What private functions of the gadget hand on: expressions that represent parts of a constraint.
 use Rattle.std.specs.Prelude.{◌≡◌, ℕ, List, map}
 use Rattle.p3_field.specs.Ring.{Ring}
 use Rattle.p3_air.specs.Degree.{multiple}
@@ -7,7 +7,7 @@ use Rattle.p3_lookup.specs.Lookup.{Sent}
 use Rattle.p3_lookup.specs.Term.{common, numerator}
 use Rattle.p3_lookup.specs.Trees.{trees, term_tree}
 
--- the first expression stands for the common denominator of what is sent under this base and beta, and the second for
+-- the first expression represents the common denominator of what is sent under this base and beta, and the second for
 -- the numerator
 abbrev pub ArePartsOf : {X F : Type 0} → (X → Tree F → Type 0) → Ring F → Tree F → Tree F → X × X → List (Sent (Tree F)) → Type 0
 ArePartsOf P f base beta p ss = P p.0 (common (trees f) (map (term_tree f base beta) ss)) × P p.1 (numerator (trees f) (map (term_tree f base beta) ss))

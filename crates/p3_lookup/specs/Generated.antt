@@ -5,8 +5,8 @@ use Rattle.p3_field.specs.Ring.{Ring}
 use Rattle.p3_matrix.specs.Matrix.{Rows, height, cell_at}
 use Rattle.p3_air.specs.Tree.{Tree}
 use Rattle.p3_air.specs.Shape.{Shape, width_of}
-use Rattle.p3_air.specs.RowCheck.{Row, value_at}
-use Rattle.p3_air.specs.Check.{table_of, row_of}
+use Rattle.p3_air.specs.RowCheck.{Row, tree_value_at_row}
+use Rattle.p3_air.specs.Check.{table_traces, table_row}
 use Rattle.p3_lookup.specs.Lookup.{LookupData}
 use Rattle.p3_lookup.specs.Term.{Term, HasInverses}
 use Rattle.p3_lookup.specs.Honest.{Argument, argument, row_terms, honest_cell, running_sum, RowHasInverses}
@@ -16,7 +16,7 @@ use Rattle.p3_lookup.specs.declared.terminal.GenerateError.TheVariants.{Denomina
 
 -- the value in the extension of a tree over the base field at a row
 abbrev pub embedded_at : {F E : Type 0} → Ring F → (F → E) → Row F F → Tree F → E
-embedded_at f embed r t = embed (value_at f f (λ x. x) r t)
+embedded_at f embed r t = embed (tree_value_at_row f f (λ x. x) r t)
 
 -- the cells of a table that its lookups may read
 abbrev pub sent_shape : {F : Type 0} → Rows F → Option (Rows F) → List F → Shape
@@ -35,7 +35,7 @@ sent_shape main preprocessed public_values = record {
 -- what fixes the permutation columns of a table with these traces, public values, lookups and challenges
 abbrev pub argument_over : {F E : Type 0} → Ring F → Ring E → (E → E) → (F → E) → Rows F → Option (Rows F) → List F → List (LookupData F) → List E → Argument F E
 argument_over f e inv embed main preprocessed public_values lookups challenges =
-    argument e inv challenges lookups (λ i t. embedded_at f embed (row_of f.zero (table_of main preprocessed [] public_values) i) t)
+    argument e inv challenges lookups (λ i t. embedded_at f embed (table_row f.zero (table_traces main preprocessed [] public_values) i) t)
 
 -- the first denominator that is zero stands at this place
 pub record IsFirstZero {E : Type 0} (r : Ring E) (ts : List (Term E)) (j : ℕ) : Type 0 where
@@ -55,10 +55,11 @@ pub record IsFirstZeroOf {F E : Type 0} (p : Argument F E) (n row lookup tuple :
   pub first : IsFirstZeroIn p.ring (row_terms p row) lookup tuple
   pub before : (i : ℕ) → i < row → RowHasInverses p i
 
--- why there are no columns for a table of n rows: the first denominator that is zero, or want of memory
-abbrev pub IsFault : {F E : Type 0} → Argument F E → ℕ → GenerateError → Type 0
-IsFault p n (DenominatorZero row lookup tuple) = IsFirstZeroOf p n row lookup tuple
-IsFault p n OutOfMemory = Unit {0}
+-- why there are no columns for a table of n rows: the first denominator that is zero, or running out of
+-- memory
+abbrev pub IsGenerateFault : {F E : Type 0} → Argument F E → ℕ → GenerateError → Type 0
+IsGenerateFault p n (DenominatorZero row lookup tuple) = IsFirstZeroOf p n row lookup tuple
+IsGenerateFault p n OutOfMemory = Unit {0}
 
 -- the answer for a table of n rows: the honest columns and the terminal, or the first denominator that is zero
 abbrev pub IsGenerated : {F E : Type 0} → Argument F E → ℕ → Result (Rows E × LookupTerminal E) GenerateError → Type 0
@@ -68,4 +69,4 @@ IsGenerated p n (Ok (m, t)) =
     × ((i j : ℕ) → i < n → j < length p.lookups + 1 → cell_at p.ring.zero m i j ≡ honest_cell p i j)
     × (t.0 ≡ running_sum p n)
     × ((i : ℕ) → i < n → RowHasInverses p i)
-IsGenerated p n (Err e) = IsFault p n e
+IsGenerated p n (Err e) = IsGenerateFault p n e

@@ -3,7 +3,7 @@ use Rattle.std.specs.Prelude.{◌≡◌, ℕ, ◌+◌, ◌*◌, ◌<◌, cond, B
 use Rattle.std.specs.List.{list_any}
 use Rattle.p3_air.specs.Tree.{Bus}
 use Rattle.p3_lookup.specs.Lookup.{LookupData}
-use Rattle.p3_lookup.specs.Bus.{opened_below, batch_buses, bounds_of}
+use Rattle.p3_lookup.specs.Bus.{opened_below, batch_buses, sum_of_bounds}
 use Rattle.p3_lookup.specs.Packing.{same_name}
 use Rattle.p3_lookup.specs.Bound.{bus_load, capped}
 
@@ -14,7 +14,7 @@ is_named_among b ls = list_any (λ l. same_name b l.bus) ls
 -- the loads of those lookups of a table of height h that are on this bus, which has a name
 abbrev pub named_load : {F : Type 0} → Bus → ℕ → List (LookupData F) → ℕ
 named_load b h [] = 0
-named_load b h (l ∷ ls) = cond (same_name b l.bus) (bounds_of l.counts * h) 0 + named_load b h ls
+named_load b h (l ∷ ls) = cond (same_name b l.bus) (sum_of_bounds l.counts * h) 0 + named_load b h ls
 
 -- the same of all tables of a batch
 abbrev pub named_loads : {F : Type 0} → Bus → List (List (LookupData F)) → List ℕ → ℕ

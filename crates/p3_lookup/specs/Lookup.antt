@@ -1,6 +1,6 @@
 -- Lookups as data: the tuples that a table sends on a bus, and how often. After Plonky3's p3-lookup (Lookup).
-use Rattle.std.specs.Prelude.{◌≡◌, ℕ, ◌*◌, ◌<◌, ◌≤◌, List, [], ◌∷◌, length, map, All, max}
-use Rattle.p3_field.specs.Poly.{table}
+use Rattle.std.specs.Prelude.{◌≡◌, ℕ, ◌*◌, ◌<◌, ◌≤◌, List, [], ◌∷◌, length, map, All}
+use Rattle.p3_field.specs.Poly.{tabulate}
 use Rattle.p3_air.specs.declared.cells.Count.{Count}
 use Rattle.p3_air.specs.Tree.{Tree, Bus, Interaction, tuple_at}
 use Rattle.p3_air.specs.Shape.{Shape, ReadsSendable}
@@ -12,8 +12,8 @@ pub record LookupData (F : Type 0) : Type 0 where
   pub counts : List (Count (Tree F))
 
 -- there is one count for each tuple
-abbrev pub IsCounted : {F : Type 0} → LookupData F → Type 0
-IsCounted l = length l.counts ≡ length l.tuples
+abbrev pub HasCountForEach : {F : Type 0} → LookupData F → Type 0
+HasCountForEach l = length l.counts ≡ length l.tuples
 
 -- the lookup reads constants and what a table of this shape may send: public values, main and preprocessed cells
 pub record ReadsSent {F : Type 0} (s : Shape) (l : LookupData F) : Type 0 where
@@ -22,12 +22,12 @@ pub record ReadsSent {F : Type 0} (s : Shape) (l : LookupData F) : Type 0 where
 
 -- a lookup of a well-formed table
 pub record IsLookup {F : Type 0} (s : Shape) (l : LookupData F) : Type 0 where
-  pub counted : IsCounted l
+  pub counted : HasCountForEach l
   pub reads : ReadsSent s l
 
 -- the lookup of an interaction: its tuples one by one
 abbrev pub lookup_of : {F : Type 0} → Interaction F → LookupData F
-lookup_of i = record { bus = i.bus; tuples = table (length i.counts) (tuple_at i); counts = i.counts }
+lookup_of i = record { bus = i.bus; tuples = tabulate (length i.counts) (tuple_at i); counts = i.counts }
 
 -- a table's lookups: one for each of its interactions, in order
 abbrev pub lookups_of : {F : Type 0} → List (Interaction F) → List (LookupData F)
@@ -50,11 +50,6 @@ pair_up (t ∷ ts) (c ∷ cs) = record { tuple = t; count = c.value } ∷ pair_u
 -- what the lookup sends, tuple by tuple
 abbrev pub sent : {F : Type 0} → LookupData F → List (Sent (Tree F))
 sent l = pair_up l.tuples l.counts
-
--- the greatest of some numbers, at least the first one
-abbrev pub greatest : ℕ → List ℕ → ℕ
-greatest n [] = n
-greatest n (k ∷ ks) = greatest (max n k) ks
 
 -- a builder of this shape has what the constraints of these lookups read: a permutation column for the running sum and
 -- one for each lookup, two challenges for each, and the terminal

@@ -3,7 +3,7 @@ use Rattle.std.specs.Prelude.{◌≡◌, ℕ, zero, suc, ◌+◌, ◌*◌, ◌<�
 use Rattle.std.specs.Prelude.{slice_index_or as get_or}
 use Rattle.std.specs.Cmp.Lexicographic.{pointwise}
 use Rattle.p3_field.specs.Ring.{Ring}
-use Rattle.p3_field.specs.Poly.{table}
+use Rattle.p3_field.specs.Poly.{tabulate}
 use Rattle.p3_air.specs.Tree.{Tree}
 use Rattle.p3_lookup.specs.Lookup.{LookupData, Sent, sent}
 use Rattle.p3_lookup.specs.Term.{sum_of, denominator}
@@ -32,7 +32,7 @@ messages_from v bus n (l ∷ ls) = map (message v (bus n)) (sent l) ++ messages_
 
 -- one message for each row and tuple
 abbrev pub table_messages : {F : Type 0} → Sender F → List (Message F)
-table_messages s = flat_map (λ i. messages_from (s.value i) s.bus 0 s.lookups) (table s.rows (λ i. i))
+table_messages s = flat_map (λ i. messages_from (s.value i) s.bus 0 s.lookups) (tabulate s.rows (λ i. i))
 
 -- the messages of all tables of a batch
 abbrev pub batch_messages : {F : Type 0} → List (Sender F) → List (Message F)

@@ -5,7 +5,8 @@ use Rattle.p3_field.specs.Ring.{Ring}
 use Rattle.p3_air.specs.declared.cells.Count.{Count}
 use Rattle.p3_air.specs.Tree.{Tree, Bus, local, global}
 use Rattle.p3_air.specs.Degree.{multiple}
-use Rattle.p3_lookup.specs.Lookup.{LookupData, greatest}
+use Rattle.p3_lookup.specs.Lookup.{LookupData}
+use Rattle.p3_air.specs.Degree.{greatest}
 use Rattle.p3_lookup.specs.Trees.{lookup_trees}
 
 -- the largest degree of the constraints of a table with this lookup alone, where the transition selector has degree t
@@ -26,7 +27,7 @@ same_name (global name) (global other) = bytes_eq name other
 abbrev pub takes_in : {F : Type 0} → Ring F → ℕ → ℕ → LookupData F → LookupData F → Bool
 takes_in f t budget k l = same_name k.bus l.bus && nat_le (lookup_degree f t (merged k l)) budget
 
--- the lookup is merged into the first kept one that takes it in, or else kept behind them
+-- the lookup is merged into the first kept one that takes it in, or else kept after them
 abbrev pub with_lookup : {F : Type 0} → Ring F → ℕ → ℕ → List (LookupData F) → LookupData F → List (LookupData F)
 with_lookup f t budget [] l = l ∷ []
 with_lookup f t budget (k ∷ ks) l = cond (takes_in f t budget k l) (merged k l ∷ ks) (k ∷ with_lookup f t budget ks l)

@@ -11,7 +11,7 @@ use Rattle.p3_lookup.specs.Lookup.{LookupData}
 use Rattle.p3_lookup.specs.Honest.{Argument, row_terms}
 use Rattle.p3_lookup.specs.Generated.{IsFirstZero, IsFirstZeroIn}
 
--- The answer of a call that puts the terms of a lookup behind others: they are there, and no denominator is zero, or the
+-- The answer of a call that puts the terms of a lookup after others: they are there, and no denominator is zero, or the
 -- first that is, with this row and this lookup.
 abbrev pub AreTermsAdded : {E : Type 0} → Ring E → List (Term E) → ℕ → ℕ → List (Term E) → List (Term E) → Result (Unit {0}) GenerateError → Type 0
 AreTermsAdded r ts row lookup old new (Ok x) = (new ≡ old ++ ts) × HasInverses r ts
@@ -47,7 +47,7 @@ abbrev pub group_sums : {E : Type 0} → Ring E → List ℕ → List E → List
 group_sums r [] xs = []
 group_sums r (n ∷ ns) xs = sum_of r (take n xs) ∷ group_sums r ns (drop n xs)
 
--- a row stands behind the values: the running sum, then these fractions; and the next row's running sum
+-- a row stands after the values: the running sum, then these fractions; and the next row's running sum
 pub record IsRowAdded {E : Type 0} (r : Ring E) (fractions : List E) (running : E) (old new : List E) (next : E) : Type 0 where
   pub values : new ≡ old ++ running ∷ fractions
   pub next_is : next ≡ r.add running (sum_of r fractions)

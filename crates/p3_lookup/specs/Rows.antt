@@ -7,7 +7,7 @@ use Rattle.p3_air.specs.declared.cells.Cell.{Cell}
 use Rattle.p3_air.specs.declared.cells.Cell.TheVariants.{FirstRow, LastRow, Transition}
 use Rattle.p3_air.specs.declared.cells.ExtCell.{ExtCell}
 use Rattle.p3_air.specs.declared.cells.ExtCell.TheVariants.{Permutation, Challenge, Terminal}
-use Rattle.p3_air.specs.Tree.{Tree, Reading, ev}
+use Rattle.p3_air.specs.Tree.{Tree, Reading, eval_tree}
 use Rattle.p3_lookup.specs.Lookup.{Sent, sent}
 use Rattle.p3_lookup.specs.Honest.{Argument, honest_cell, running_sum, RowHasInverses}
 use Rattle.p3_lookup.specs.Trees.{lookup_trees}
@@ -31,18 +31,18 @@ pub record IsHonestRow {F E : Type 0} (p : Argument F E) (n i : ℕ) (at_ext : E
   pub terminal : at_ext Terminal ≡ running_sum p n
 
 -- two ways to give trees a value agree on what is sent
-abbrev pub AgreeOn : {F E : Type 0} → (Tree F → E) → (Tree F → E) → Sent (Tree F) → Type 0
-AgreeOn v w s = All (λ t. v t ≡ w t) s.tuple × (v s.count ≡ w s.count)
+abbrev pub AgreeOnSent : {F E : Type 0} → (Tree F → E) → (Tree F → E) → Sent (Tree F) → Type 0
+AgreeOnSent v w s = All (λ t. v t ≡ w t) s.tuple × (v s.count ≡ w s.count)
 
 -- the values are those of n rows of a table whose permutation columns are honest
 pub record AreHonestRows {F E : Type 0} (embed : F → E) (p : Argument F E) (n : ℕ) (at : ℕ → Cell → E) (at_ext : ℕ → ExtCell → E) : Type 0 where
   pub selectors : AreSelectors p.ring.zero n at
   pub honest : (i : ℕ) → i < n → IsHonestRow p n i (at_ext i)
-  pub agrees : (i : ℕ) → i < n → All (λ l. All (AgreeOn (p.value i) (ev (reading_with p.ring embed (at i) (at_ext i)))) (sent l)) p.lookups
+  pub agrees : (i : ℕ) → i < n → All (λ l. All (AgreeOnSent (p.value i) (eval_tree (reading_with p.ring embed (at i) (at_ext i)))) (sent l)) p.lookups
 
 -- Where the permutation columns are honest and no denominator is zero, each constraint of the lookups is zero in each
 -- row.
 abbrev pub HonestColumnsVanish : {F E : Type 0} → Ring F → (F → E) → Argument F E → Type 0
 HonestColumnsVanish {F = F} {E = E} f embed p =
     (n : ℕ) (at : ℕ → Cell → E) (at_ext : ℕ → ExtCell → E) → AreHonestRows embed p n at at_ext → (i : ℕ) → i < n → RowHasInverses p i
-    → All (λ t. ev (reading_with p.ring embed (at i) (at_ext i)) t ≡ p.ring.zero) (lookup_trees f p.lookups)
+    → All (λ t. eval_tree (reading_with p.ring embed (at i) (at_ext i)) t ≡ p.ring.zero) (lookup_trees f p.lookups)

@@ -2,7 +2,7 @@
 -- (LogUpGadget); the order is this project's own.
 use Rattle.std.specs.Prelude.{ℕ, zero, suc, ◌+◌, ◌*◌, true, false, Bool, List, [], ◌∷◌, ◌++◌, length, map}
 use Rattle.p3_field.specs.Ring.{Ring}
-use Rattle.p3_field.specs.Poly.{val}
+use Rattle.p3_field.specs.Poly.{eval_poly}
 use Rattle.p3_air.specs.declared.cells.Cell.TheVariants.{FirstRow, LastRow, Transition}
 use Rattle.p3_air.specs.declared.cells.ExtCell.TheVariants.{Permutation, Challenge, Terminal}
 use Rattle.p3_air.specs.Tree.{Tree, constant, cell, ext_cell, sum, difference, product}
@@ -26,7 +26,7 @@ beta_tree n = ext_cell (Challenge (2 * n + 1))
 
 -- the term of a tuple, where these trees are the base and beta
 abbrev pub term_tree : {F : Type 0} → Ring F → Tree F → Tree F → Sent (Tree F) → Term (Tree F)
-term_tree f base beta s = record { count = s.count; denominator = difference base (val (trees f) s.tuple beta) }
+term_tree f base beta s = record { count = s.count; denominator = difference base (eval_poly (trees f) s.tuple beta) }
 
 -- the terms of lookup n
 abbrev pub term_trees : {F : Type 0} → Ring F → ℕ → LookupData F → List (Term (Tree F))

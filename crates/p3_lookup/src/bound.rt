@@ -1,6 +1,6 @@
 //! The bound on multiplicities.
 ghost use Rattle.std.specs.Prelude.{◌≡◌, ℕ, ◌+◌, ◌*◌, ◌<◌, ◌≤◌, ◌==◌, min, List, [], length, map, take, get_or, Result, MatchResult};
-ghost use Rattle.p3_lookup.specs.Bus.{bounds_of, opener, batch_buses, lookups_before, bus_in};
+ghost use Rattle.p3_lookup.specs.Bus.{sum_of_bounds, opener, batch_buses, lookups_before, bus_in};
 ghost use Rattle.p3_lookup.specs.Bound.{bus_load, IsFirstOverload, IsBoundChecked};
 ghost use Rattle.p3_lookup.specs.Loads.{is_named_among, named_load, named_loads, AreBoundedBelow};
 ghost use Rattle.p3_lookup.specs.Written.{Written, bus_of_kind, read_all};
@@ -49,7 +49,7 @@ fn opens_bus<F>(lookups: &[Lookups<F>], table: usize, index: usize) -> bool
 // A load with a lookup's bounds times its table's height, at most the limit.
 fn with_bounds<E>(load: u64, counts: &[Count<E>], height: usize, limit: u64) -> u64
     requires { load ≤ limit }
-    ensures { result ≡ min limit (load + bounds_of counts.now * height) }
+    ensures { result ≡ min limit (load + sum_of_bounds counts.now * height) }
 {
     let mut load = load;
     for count in counts {
@@ -111,7 +111,7 @@ fn load_at<F>(
     }
 }
 
-// The number of buses that are open behind a table's lookups, where so many were open before them, or the first of these
+// The number of buses that are open after a table's lookups, where so many were open before them, or the first of these
 // buses whose load reaches the limit.
 fn opened_by<F>(
     lookups: &[Lookups<F>],

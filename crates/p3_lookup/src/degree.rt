@@ -1,10 +1,10 @@
 //! Degrees of the constraints of lookups.
 ghost use Rattle.std.specs.Prelude.{◌≡◌, ℕ, List, length, map};
-ghost use Rattle.p3_field.specs.Poly.{val};
+ghost use Rattle.p3_field.specs.Poly.{eval_poly};
 ghost use Rattle.p3_air.specs.Degree.{multiple};
 ghost use Rattle.p3_air.specs.Tree.{Tree};
 ghost use Rattle.p3_air.specs.Symbolic.{tree_of};
-ghost use Rattle.p3_lookup.specs.Lookup.{IsCounted, pair_up};
+ghost use Rattle.p3_lookup.specs.Lookup.{HasCountForEach, pair_up};
 ghost use Rattle.p3_lookup.specs.Written.{read, tree_count};
 ghost use Rattle.p3_lookup.specs.Trees.{trees};
 ghost use Rattle.p3_lookup.specs.Packing.{lookup_degree};
@@ -16,7 +16,7 @@ use p3_field::{Field, FieldCore, RingCore};
 
 // The degree of a tuple's sum, where beta has degree zero.
 fn tuple_degree<F: Field>(tuple: &[SymbolicExpression<F>], t: usize) -> usize
-    ensures { (b : Tree F) → multiple t b ≡ 0 → result ≡ multiple t (val (trees F.ring) (map tree_of tuple.now) b) }
+    ensures { (b : Tree F) → multiple t b ≡ 0 → result ≡ multiple t (eval_poly (trees F.ring) (map tree_of tuple.now) b) }
 {
     let mut degree = 0usize;
     for i in (0..tuple.len()).rev() {
@@ -33,7 +33,8 @@ fn parts_degrees<F: Field>(
     t: usize,
 ) -> (usize, usize)
     requires counted { length multiplicities.now ≡ length elements.now }
-    ensures { (a b : Tree F) → multiple t a ≡ 0 → multiple t b ≡ 0 → AreDegreesOf F.ring t a b result (pair_up (map (map tree_of) (map (λ v. v.items) elements.now)) (map tree_count multiplicities.now)) }
+    ensures { (a b : Tree F) → multiple t a ≡ 0 → multiple t b ≡ 0
+        → AreDegreesOf F.ring t a b result (pair_up (map (map tree_of) (map (λ v. v.items) elements.now)) (map tree_count multiplicities.now)) }
 {
     let mut common = 0usize;
     let mut numerator = 0usize;
@@ -49,7 +50,7 @@ fn parts_degrees<F: Field>(
 
 // The largest degree of the constraints of a table with this lookup alone.
 pub(crate) fn degree_of<F: Field>(lookup: &Lookup<F>, t: usize) -> usize
-    requires counted { IsCounted (read lookup.now) }
+    requires counted { HasCountForEach (read lookup.now) }
     ensures { result ≡ lookup_degree F.ring t (read lookup.now) }
 {
     let (common, numerator) = parts_degrees(&lookup.elements, &lookup.multiplicities, t);

@@ -18,10 +18,10 @@ fn lookup_challenges<AB: PermutationAirBuilder>(
 ) -> Mem<(AB::ExprEF, AB::ExprEF)>
     requires declared { 2 * index + 1 < (AB.shape builder.old).challenges }
     requires small { index < 2 ^ 62 }
-    ensures same { AB.shape builder.new ≡ AB.shape builder.old }
+    ensures keeps_shape { AB.shape builder.new ≡ AB.shape builder.old }
     ensures answers { IsTrue AB.never_fails → IsOk result }
-    ensures grows { AB.grows builder.old builder.new [] [] }
-    ensures stands { IfOk result (λ p. AB.stands_ext builder.new p.0 (base_tree index) × AB.stands_ext builder.new p.1 (beta_tree index)) }
+    ensures appends { AB.appends builder.old builder.new [] [] }
+    ensures represents { IfOk result (λ p. AB.represents_ext builder.new p.0 (base_tree index) × AB.represents_ext builder.new p.1 (beta_tree index)) }
 {
     let base = builder.ext_cell(ExtCell::Challenge(2 * index))?;
     let beta = builder.ext_cell(ExtCell::Challenge(2 * index + 1))?;
@@ -36,10 +36,11 @@ fn scaled_less<AB: PermutationAirBuilder>(
     z: AB::ExprEF,
 ) -> Mem<AB::ExprEF>
     requires declared { column < (AB.shape builder.old).permutation }
-    ensures same { AB.shape builder.new ≡ AB.shape builder.old }
+    ensures keeps_shape { AB.shape builder.new ≡ AB.shape builder.old }
     ensures answers { IsTrue AB.never_fails → IsOk result }
-    ensures grows { AB.grows builder.old builder.new [] [] }
-    ensures stands { (s t : Tree AB.F) → AB.stands_ext builder.old y s → AB.stands_ext builder.old z t → IfOk result (λ e. AB.stands_ext builder.new e (difference (product (column_tree false column) s) t)) }
+    ensures appends { AB.appends builder.old builder.new [] [] }
+    ensures represents { (s t : Tree AB.F) → AB.represents_ext builder.old y s → AB.represents_ext builder.old z t
+        → IfOk result (λ e. AB.represents_ext builder.new e (difference (product (column_tree false column) s) t)) }
 {
     let x = builder.ext_cell(ExtCell::Permutation {
         next: false,
@@ -60,10 +61,10 @@ fn assert_fraction<AB: PermutationAirBuilder>(
     requires small { index < 2 ^ 62 }
     requires lookup { IsLookup (AB.shape builder.old) (read lookup.now) }
     ensures later { AB.later builder.old builder.new }
-    ensures same { AB.shape builder.new ≡ AB.shape builder.old }
+    ensures keeps_shape { AB.shape builder.new ≡ AB.shape builder.old }
     ensures answers { IsTrue AB.never_fails → IsOk result }
-    ensures grows { IfOk result (λ _. AB.grows builder.old builder.new (over_extension (fraction_tree AB.F.ring index (read lookup.now)) ∷ []) []) }
-    ensures refused { OnErr result (AB.grows builder.old builder.new [] []) }
+    ensures appends { IfOk result (λ _. AB.appends builder.old builder.new (over_extension (fraction_tree AB.F.ring index (read lookup.now)) ∷ []) []) }
+    ensures on_error { OnErr result (AB.appends builder.old builder.new [] []) }
 {
     let challenges = lookup_challenges(builder, index)?;
     let parts = fraction_parts(
@@ -85,10 +86,10 @@ pub(crate) fn assert_fractions<AB: PermutationAirBuilder>(
     requires challenges { 2 * length lookups.now ≤ (AB.shape builder.old).challenges }
     requires lookups { All (IsLookup (AB.shape builder.old)) (read_all lookups.now) }
     ensures later { AB.later builder.old builder.new }
-    ensures same { AB.shape builder.new ≡ AB.shape builder.old }
+    ensures keeps_shape { AB.shape builder.new ≡ AB.shape builder.old }
     ensures answers { IsTrue AB.never_fails → IsOk result }
-    ensures grows { IfOk result (λ _. AB.grows builder.old builder.new (map over_extension (fraction_trees AB.F.ring 0 (read_all lookups.now))) []) }
-    ensures refused { OnErr result (SomeFirst (AB.grows builder.old builder.new) (map over_extension (fraction_trees AB.F.ring 0 (read_all lookups.now))) []) }
+    ensures appends { IfOk result (λ _. AB.appends builder.old builder.new (map over_extension (fraction_trees AB.F.ring 0 (read_all lookups.now))) []) }
+    ensures on_error { OnErr result (SomeFirst (AB.appends builder.old builder.new) (map over_extension (fraction_trees AB.F.ring 0 (read_all lookups.now))) []) }
 {
     for i in 0..lookups.len() {
         assert_fraction(builder, &lookups[i], i)?;
@@ -103,10 +104,10 @@ fn with_column<AB: PermutationAirBuilder>(
     column: usize,
 ) -> Mem<AB::ExprEF>
     requires declared { column < (AB.shape builder.old).permutation }
-    ensures same { AB.shape builder.new ≡ AB.shape builder.old }
+    ensures keeps_shape { AB.shape builder.new ≡ AB.shape builder.old }
     ensures answers { IsTrue AB.never_fails → IsOk result }
-    ensures grows { AB.grows builder.old builder.new [] [] }
-    ensures stands { (s : Tree AB.F) → AB.stands_ext builder.old x s → IfOk result (λ e. AB.stands_ext builder.new e (sum s (column_tree false column))) }
+    ensures appends { AB.appends builder.old builder.new [] [] }
+    ensures represents { (s : Tree AB.F) → AB.represents_ext builder.old x s → IfOk result (λ e. AB.represents_ext builder.new e (sum s (column_tree false column))) }
 {
     let fraction = builder.ext_cell(ExtCell::Permutation {
         next: false,
@@ -118,10 +119,10 @@ fn with_column<AB: PermutationAirBuilder>(
 // The sum of the first fractions.
 fn sum_of_fractions<AB: PermutationAirBuilder>(builder: &mut AB, count: usize) -> Mem<AB::ExprEF>
     requires declared { count < (AB.shape builder.old).permutation }
-    ensures same { AB.shape builder.new ≡ AB.shape builder.old }
+    ensures keeps_shape { AB.shape builder.new ≡ AB.shape builder.old }
     ensures answers { IsTrue AB.never_fails → IsOk result }
-    ensures grows { AB.grows builder.old builder.new [] [] }
-    ensures stands { IfOk result (λ e. AB.stands_ext builder.new e (sum_tree AB.F.ring count)) }
+    ensures appends { AB.appends builder.old builder.new [] [] }
+    ensures represents { IfOk result (λ e. AB.represents_ext builder.new e (sum_tree AB.F.ring count)) }
 {
     let mut sum = constant_ext(builder, <AB::F as RingCore>::ZERO)?;
     for i in 0..count {
@@ -137,10 +138,10 @@ fn selected<AB: ExtensionBuilder>(
     x: AB::ExprEF,
 ) -> Mem<AB::ExprEF>
     requires declared { Declares (AB.shape builder.old) selector }
-    ensures same { AB.shape builder.new ≡ AB.shape builder.old }
+    ensures keeps_shape { AB.shape builder.new ≡ AB.shape builder.old }
     ensures answers { IsTrue AB.never_fails → IsOk result }
-    ensures grows { AB.grows builder.old builder.new [] [] }
-    ensures stands { (t : Tree AB.F) → AB.stands_ext builder.old x t → IfOk result (λ e. AB.stands_ext builder.new e (product (cell_tree selector) t)) }
+    ensures appends { AB.appends builder.old builder.new [] [] }
+    ensures represents { (t : Tree AB.F) → AB.represents_ext builder.old x t → IfOk result (λ e. AB.represents_ext builder.new e (product (cell_tree selector) t)) }
 {
     let cell = builder.cell(selector)?;
     let factor = builder.lift(cell)?;
@@ -151,10 +152,10 @@ fn selected<AB: ExtensionBuilder>(
 fn assert_selected<AB: ExtensionBuilder>(builder: &mut AB, selector: Cell, x: AB::ExprEF) -> Mem<()>
     requires declared { Declares (AB.shape builder.old) selector }
     ensures later { AB.later builder.old builder.new }
-    ensures same { AB.shape builder.new ≡ AB.shape builder.old }
+    ensures keeps_shape { AB.shape builder.new ≡ AB.shape builder.old }
     ensures answers { IsTrue AB.never_fails → IsOk result }
-    ensures grows { (t : Tree AB.F) → AB.stands_ext builder.old x t → IfOk result (λ _. AB.grows builder.old builder.new (over_extension (product (cell_tree selector) t) ∷ []) []) }
-    ensures refused { OnErr result (AB.grows builder.old builder.new [] []) }
+    ensures appends { (t : Tree AB.F) → AB.represents_ext builder.old x t → IfOk result (λ _. AB.appends builder.old builder.new (over_extension (product (cell_tree selector) t) ∷ []) []) }
+    ensures on_error { OnErr result (AB.appends builder.old builder.new [] []) }
 {
     let chosen = selected(builder, selector, x)?;
     builder.assert_zero_ext(chosen)
@@ -164,10 +165,10 @@ fn assert_selected<AB: ExtensionBuilder>(builder: &mut AB, selector: Cell, x: AB
 fn assert_first<AB: PermutationAirBuilder>(builder: &mut AB) -> Mem<()>
     requires declared { 0 < (AB.shape builder.old).permutation }
     ensures later { AB.later builder.old builder.new }
-    ensures same { AB.shape builder.new ≡ AB.shape builder.old }
+    ensures keeps_shape { AB.shape builder.new ≡ AB.shape builder.old }
     ensures answers { IsTrue AB.never_fails → IsOk result }
-    ensures grows { IfOk result (λ _. AB.grows builder.old builder.new (over_extension first_tree ∷ []) []) }
-    ensures refused { OnErr result (AB.grows builder.old builder.new [] []) }
+    ensures appends { IfOk result (λ _. AB.appends builder.old builder.new (over_extension first_tree ∷ []) []) }
+    ensures on_error { OnErr result (AB.appends builder.old builder.new [] []) }
 {
     let running = builder.ext_cell(ExtCell::Permutation {
         next: false,
@@ -184,10 +185,11 @@ fn excess<AB: PermutationAirBuilder>(
 ) -> Mem<AB::ExprEF>
     requires declared { 0 < (AB.shape builder.old).permutation }
     requires end { DeclaresExt (AB.shape builder.old) end }
-    ensures same { AB.shape builder.new ≡ AB.shape builder.old }
+    ensures keeps_shape { AB.shape builder.new ≡ AB.shape builder.old }
     ensures answers { IsTrue AB.never_fails → IsOk result }
-    ensures grows { AB.grows builder.old builder.new [] [] }
-    ensures stands { (t : Tree AB.F) → AB.stands_ext builder.old x t → IfOk result (λ e. AB.stands_ext builder.new e (difference (difference (ext_cell_tree end) (column_tree false 0)) t)) }
+    ensures appends { AB.appends builder.old builder.new [] [] }
+    ensures represents { (t : Tree AB.F) → AB.represents_ext builder.old x t
+        → IfOk result (λ e. AB.represents_ext builder.new e (difference (difference (ext_cell_tree end) (column_tree false 0)) t)) }
 {
     let to = builder.ext_cell(end)?;
     let from = builder.ext_cell(ExtCell::Permutation {
@@ -209,10 +211,11 @@ fn assert_step<AB: PermutationAirBuilder>(
     requires selector { Declares (AB.shape builder.old) selector }
     requires end { DeclaresExt (AB.shape builder.old) end }
     ensures later { AB.later builder.old builder.new }
-    ensures same { AB.shape builder.new ≡ AB.shape builder.old }
+    ensures keeps_shape { AB.shape builder.new ≡ AB.shape builder.old }
     ensures answers { IsTrue AB.never_fails → IsOk result }
-    ensures grows { (t : Tree AB.F) → AB.stands_ext builder.old x t → IfOk result (λ _. AB.grows builder.old builder.new (over_extension (product (cell_tree selector) (difference (difference (ext_cell_tree end) (column_tree false 0)) t)) ∷ []) []) }
-    ensures refused { OnErr result (AB.grows builder.old builder.new [] []) }
+    ensures appends { (t : Tree AB.F) → AB.represents_ext builder.old x t
+        → IfOk result (λ _. AB.appends builder.old builder.new (over_extension (product (cell_tree selector) (difference (difference (ext_cell_tree end) (column_tree false 0)) t)) ∷ []) []) }
+    ensures on_error { OnErr result (AB.appends builder.old builder.new [] []) }
 {
     let rest = excess(builder, end, x)?;
     assert_selected(builder, selector, rest)
@@ -223,10 +226,10 @@ pub(crate) fn assert_running<AB: PermutationAirBuilder>(builder: &mut AB, count:
     requires declared { count < (AB.shape builder.old).permutation }
     requires terminal { 0 < (AB.shape builder.old).terminals }
     ensures later { AB.later builder.old builder.new }
-    ensures same { AB.shape builder.new ≡ AB.shape builder.old }
+    ensures keeps_shape { AB.shape builder.new ≡ AB.shape builder.old }
     ensures answers { IsTrue AB.never_fails → IsOk result }
-    ensures grows { IfOk result (λ _. AB.grows builder.old builder.new (map over_extension (running_trees AB.F.ring count)) []) }
-    ensures refused { OnErr result (SomeFirst (AB.grows builder.old builder.new) (map over_extension (running_trees AB.F.ring count)) []) }
+    ensures appends { IfOk result (λ _. AB.appends builder.old builder.new (map over_extension (running_trees AB.F.ring count)) []) }
+    ensures on_error { OnErr result (SomeFirst (AB.appends builder.old builder.new) (map over_extension (running_trees AB.F.ring count)) []) }
 {
     assert_first(builder)?;
     let sum = sum_of_fractions(builder, count)?;

@@ -1,6 +1,6 @@
 //! Expressions of lookups, handed to a builder.
 ghost use Rattle.std.specs.Prelude.{◌≡◌, ◌<◌, ◌-◌, List, [], length, map, All, IfOk, IsOk, IsTrue};
-ghost use Rattle.p3_field.specs.Poly.{val};
+ghost use Rattle.p3_field.specs.Poly.{eval_poly};
 ghost use Rattle.p3_air.specs.Tree.{Tree};
 ghost use Rattle.p3_air.specs.Shape.{Declares, ReadsIn, ReadsSendable};
 ghost use Rattle.p3_air.specs.Symbolic.{tree_at, tree_of, Ordered};
@@ -9,7 +9,7 @@ ghost use Rattle.p3_lookup.specs.Trees.{trees};
 use p3_air::{AirBuilder, ExtensionBuilder, Node, SymbolicExpression};
 use p3_field::{FieldCore, Mem, RingCore};
 
-// The expression that stands for the tree at a place, whose cells are all of the base field.
+// The expression that represents the tree at a place, whose cells are all of the base field.
 fn expression_at<AB: AirBuilder>(
     builder: &mut AB,
     nodes: &[Node<AB::F>],
@@ -18,10 +18,10 @@ fn expression_at<AB: AirBuilder>(
     requires within { place < length nodes.now }
     requires ordered { Ordered nodes.now }
     requires reads { ReadsSendable (AB.shape builder.old) (tree_at nodes.now place) }
-    ensures same { AB.shape builder.new ≡ AB.shape builder.old }
+    ensures keeps_shape { AB.shape builder.new ≡ AB.shape builder.old }
     ensures answers { IsTrue AB.never_fails → IsOk result }
-    ensures grows { AB.grows builder.old builder.new [] [] }
-    ensures stands { IfOk result (λ e. AB.stands builder.new e (tree_at nodes.now place)) }
+    ensures appends { AB.appends builder.old builder.new [] [] }
+    ensures represents { IfOk result (λ e. AB.represents builder.new e (tree_at nodes.now place)) }
 {
     match nodes[place] {
         Node::Constant(x) => builder.constant(x),
@@ -45,16 +45,16 @@ fn expression_at<AB: AirBuilder>(
     }
 }
 
-// The expression of the extension that stands for a symbolic expression's tree.
+// The expression of the extension that represents a symbolic expression's tree.
 pub(crate) fn lifted<AB: ExtensionBuilder>(
     builder: &mut AB,
     x: &SymbolicExpression<AB::F>,
 ) -> Mem<AB::ExprEF>
     requires reads { ReadsSendable (AB.shape builder.old) (tree_of x.now) }
-    ensures same { AB.shape builder.new ≡ AB.shape builder.old }
+    ensures keeps_shape { AB.shape builder.new ≡ AB.shape builder.old }
     ensures answers { IsTrue AB.never_fails → IsOk result }
-    ensures grows { AB.grows builder.old builder.new [] [] }
-    ensures stands { IfOk result (λ e. AB.stands_ext builder.new e (tree_of x.now)) }
+    ensures appends { AB.appends builder.old builder.new [] [] }
+    ensures represents { IfOk result (λ e. AB.represents_ext builder.new e (tree_of x.now)) }
 {
     let nodes = x.nodes();
     let base = expression_at(builder, nodes, nodes.len() - 1)?;

@@ -1,10 +1,10 @@
 //! The constraint of a lookup's fraction, handed to a builder.
 ghost use Rattle.std.specs.Prelude.{◌≡◌, ℕ, ◌+◌, ◌*◌, ◌<◌, ◌≤◌, suc, false, List, [], ◌∷◌, length, map, All, IfOk, OnErr, IsOk, IsTrue};
-ghost use Rattle.p3_field.specs.Poly.{val};
+ghost use Rattle.p3_field.specs.Poly.{eval_poly};
 ghost use Rattle.p3_air.specs.Tree.{Tree, sum, difference, product, over_extension, constant as constant_tree};
 ghost use Rattle.p3_air.specs.Shape.{ReadsSendable};
 ghost use Rattle.p3_air.specs.Symbolic.{tree_of};
-ghost use Rattle.p3_lookup.specs.Lookup.{IsCounted, ReadsSent, sent, pair_up};
+ghost use Rattle.p3_lookup.specs.Lookup.{HasCountForEach, ReadsSent, sent, pair_up};
 ghost use Rattle.p3_lookup.specs.Written.{read, tree_count};
 ghost use Rattle.p3_lookup.specs.Term.{common, numerator};
 ghost use Rattle.p3_lookup.specs.Trees.{trees, term_tree, fraction_tree};
@@ -25,10 +25,11 @@ fn combined_step<AB: ExtensionBuilder>(
     rest: AB::ExprEF,
 ) -> Mem<AB::ExprEF>
     requires reads { ReadsSendable (AB.shape builder.old) (tree_of x.now) }
-    ensures same { AB.shape builder.new ≡ AB.shape builder.old }
+    ensures keeps_shape { AB.shape builder.new ≡ AB.shape builder.old }
     ensures answers { IsTrue AB.never_fails → IsOk result }
-    ensures grows { AB.grows builder.old builder.new [] [] }
-    ensures stands { (b s : Tree AB.F) → AB.stands_ext builder.old beta b → AB.stands_ext builder.old rest s → IfOk result (λ e. AB.stands_ext builder.new e (sum (tree_of x.now) (product b s))) }
+    ensures appends { AB.appends builder.old builder.new [] [] }
+    ensures represents { (b s : Tree AB.F) → AB.represents_ext builder.old beta b → AB.represents_ext builder.old rest s
+        → IfOk result (λ e. AB.represents_ext builder.new e (sum (tree_of x.now) (product b s))) }
 {
     let first = lifted(builder, x)?;
     let others = builder.mul_ext(beta, rest)?;
@@ -37,10 +38,10 @@ fn combined_step<AB: ExtensionBuilder>(
 
 // The constant zero or one.
 pub(crate) fn constant_ext<AB: ExtensionBuilder>(builder: &mut AB, x: AB::F) -> Mem<AB::ExprEF>
-    ensures same { AB.shape builder.new ≡ AB.shape builder.old }
+    ensures keeps_shape { AB.shape builder.new ≡ AB.shape builder.old }
     ensures answers { IsTrue AB.never_fails → IsOk result }
-    ensures grows { AB.grows builder.old builder.new [] [] }
-    ensures stands { IfOk result (λ e. AB.stands_ext builder.new e (constant_tree x)) }
+    ensures appends { AB.appends builder.old builder.new [] [] }
+    ensures represents { IfOk result (λ e. AB.represents_ext builder.new e (constant_tree x)) }
 {
     let constant = builder.constant(x)?;
     builder.lift(constant)
@@ -53,10 +54,10 @@ fn combined<AB: ExtensionBuilder>(
     beta: AB::ExprEF,
 ) -> Mem<AB::ExprEF>
     requires reads { All (ReadsSendable (AB.shape builder.old)) (map tree_of tuple.now) }
-    ensures same { AB.shape builder.new ≡ AB.shape builder.old }
+    ensures keeps_shape { AB.shape builder.new ≡ AB.shape builder.old }
     ensures answers { IsTrue AB.never_fails → IsOk result }
-    ensures grows { AB.grows builder.old builder.new [] [] }
-    ensures stands { (b : Tree AB.F) → AB.stands_ext builder.old beta b → IfOk result (λ e. AB.stands_ext builder.new e (val (trees AB.F.ring) (map tree_of tuple.now) b)) }
+    ensures appends { AB.appends builder.old builder.new [] [] }
+    ensures represents { (b : Tree AB.F) → AB.represents_ext builder.old beta b → IfOk result (λ e. AB.represents_ext builder.new e (eval_poly (trees AB.F.ring) (map tree_of tuple.now) b)) }
 {
     let mut sum = constant_ext(builder, <AB::F as RingCore>::ZERO)?;
     for i in (0..tuple.len()).rev() {
@@ -73,11 +74,11 @@ fn denominator_of<AB: ExtensionBuilder>(
     beta: AB::ExprEF,
 ) -> Mem<AB::ExprEF>
     requires reads { All (ReadsSendable (AB.shape builder.old)) (map tree_of tuple.now) }
-    ensures same { AB.shape builder.new ≡ AB.shape builder.old }
+    ensures keeps_shape { AB.shape builder.new ≡ AB.shape builder.old }
     ensures answers { IsTrue AB.never_fails → IsOk result }
-    ensures grows { AB.grows builder.old builder.new [] [] }
-    ensures stands { (a b : Tree AB.F) → AB.stands_ext builder.old base a → AB.stands_ext builder.old beta b
-        → IfOk result (λ e. AB.stands_ext builder.new e (difference a (val (trees AB.F.ring) (map tree_of tuple.now) b))) }
+    ensures appends { AB.appends builder.old builder.new [] [] }
+    ensures represents { (a b : Tree AB.F) → AB.represents_ext builder.old base a → AB.represents_ext builder.old beta b
+        → IfOk result (λ e. AB.represents_ext builder.new e (difference a (eval_poly (trees AB.F.ring) (map tree_of tuple.now) b))) }
 {
     let sum = combined(builder, tuple, beta)?;
     builder.sub_ext(base, sum)
@@ -91,11 +92,12 @@ fn with_term<AB: ExtensionBuilder>(
     common: AB::ExprEF,
     numerator: AB::ExprEF,
 ) -> Mem<(AB::ExprEF, AB::ExprEF)>
-    ensures same { AB.shape builder.new ≡ AB.shape builder.old }
+    ensures keeps_shape { AB.shape builder.new ≡ AB.shape builder.old }
     ensures answers { IsTrue AB.never_fails → IsOk result }
-    ensures grows { AB.grows builder.old builder.new [] [] }
-    ensures stands { (m d c n : Tree AB.F) → AB.stands_ext builder.old count m → AB.stands_ext builder.old denominator d → AB.stands_ext builder.old common c → AB.stands_ext builder.old numerator n
-        → IfOk result (λ p. AB.stands_ext builder.new p.0 (product d c) × AB.stands_ext builder.new p.1 (sum (product m c) (product d n))) }
+    ensures appends { AB.appends builder.old builder.new [] [] }
+    ensures represents { (m d c n : Tree AB.F) → AB.represents_ext builder.old count m → AB.represents_ext builder.old denominator d
+        → AB.represents_ext builder.old common c → AB.represents_ext builder.old numerator n
+        → IfOk result (λ p. AB.represents_ext builder.new p.0 (product d c) × AB.represents_ext builder.new p.1 (sum (product m c) (product d n))) }
 {
     let own = builder.mul_ext(count, common)?;
     let others = builder.mul_ext(denominator, numerator)?;
@@ -114,12 +116,13 @@ fn with_tuple<AB: ExtensionBuilder>(
 ) -> Mem<(AB::ExprEF, AB::ExprEF)>
     requires tuple { All (ReadsSendable (AB.shape builder.old)) (map tree_of tuple.now) }
     requires count { ReadsSendable (AB.shape builder.old) (tree_of count.now) }
-    ensures same { AB.shape builder.new ≡ AB.shape builder.old }
+    ensures keeps_shape { AB.shape builder.new ≡ AB.shape builder.old }
     ensures answers { IsTrue AB.never_fails → IsOk result }
-    ensures grows { AB.grows builder.old builder.new [] [] }
-    ensures stands { (a b c n : Tree AB.F) → AB.stands_ext builder.old challenges.0 a → AB.stands_ext builder.old challenges.1 b → AB.stands_ext builder.old parts.0 c → AB.stands_ext builder.old parts.1 n
-        → IfOk result (λ p. AB.stands_ext builder.new p.0 (product (difference a (val (trees AB.F.ring) (map tree_of tuple.now) b)) c)
-        × AB.stands_ext builder.new p.1 (sum (product (tree_of count.now) c) (product (difference a (val (trees AB.F.ring) (map tree_of tuple.now) b)) n))) }
+    ensures appends { AB.appends builder.old builder.new [] [] }
+    ensures represents { (a b c n : Tree AB.F) → AB.represents_ext builder.old challenges.0 a → AB.represents_ext builder.old challenges.1 b
+        → AB.represents_ext builder.old parts.0 c → AB.represents_ext builder.old parts.1 n
+        → IfOk result (λ p. AB.represents_ext builder.new p.0 (product (difference a (eval_poly (trees AB.F.ring) (map tree_of tuple.now) b)) c)
+        × AB.represents_ext builder.new p.1 (sum (product (tree_of count.now) c) (product (difference a (eval_poly (trees AB.F.ring) (map tree_of tuple.now) b)) n))) }
 {
     let denominator = denominator_of(builder, tuple, challenges.0, challenges.1)?;
     let times = lifted(builder, count)?;
@@ -136,11 +139,11 @@ pub(crate) fn fraction_parts<AB: ExtensionBuilder>(
     requires counted { length multiplicities.now ≡ length elements.now }
     requires tuples { All (All (ReadsSendable (AB.shape builder.old))) (map (map tree_of) (map (λ v. v.items) elements.now)) }
     requires counts { All (λ c. ReadsSendable (AB.shape builder.old) c.value) (map tree_count multiplicities.now) }
-    ensures same { AB.shape builder.new ≡ AB.shape builder.old }
+    ensures keeps_shape { AB.shape builder.new ≡ AB.shape builder.old }
     ensures answers { IsTrue AB.never_fails → IsOk result }
-    ensures grows { AB.grows builder.old builder.new [] [] }
-    ensures stands { (a b : Tree AB.F) → AB.stands_ext builder.old challenges.0 a → AB.stands_ext builder.old challenges.1 b
-        → IfOk result (λ p. ArePartsOf (AB.stands_ext builder.new) AB.F.ring a b p (pair_up (map (map tree_of) (map (λ v. v.items) elements.now)) (map tree_count multiplicities.now))) }
+    ensures appends { AB.appends builder.old builder.new [] [] }
+    ensures represents { (a b : Tree AB.F) → AB.represents_ext builder.old challenges.0 a → AB.represents_ext builder.old challenges.1 b
+        → IfOk result (λ p. ArePartsOf (AB.represents_ext builder.new) AB.F.ring a b p (pair_up (map (map tree_of) (map (λ v. v.items) elements.now)) (map tree_count multiplicities.now))) }
 {
     let mut common = constant_ext(builder, <AB::F as RingCore>::ONE)?;
     let mut numerator = constant_ext(builder, <AB::F as RingCore>::ZERO)?;

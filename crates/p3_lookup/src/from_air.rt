@@ -1,6 +1,6 @@
 //! The lookups that an AIR's interactions make.
 ghost use Rattle.std.specs.Prelude.{◌≡◌, ℕ, ◌+◌, ◌*◌, ◌/◌, ◌%◌, ◌<◌, ◌≤◌, List, [], length, map, get_or, All, IfOk, slice_range};
-ghost use Rattle.p3_field.specs.Poly.{table};
+ghost use Rattle.p3_field.specs.Poly.{tabulate};
 ghost use Rattle.p3_air.specs.Tree.{Interaction, tuple_at};
 ghost use Rattle.std.specs.Option.{option_copied};
 ghost use Rattle.p3_air.specs.Placed.{Placed};
@@ -36,7 +36,8 @@ fn tuples_of<F: Field>(
     count: usize,
 ) -> Mem<Vec<Vec<SymbolicExpression<F>>>>
     requires counted { 0 < count }
-    ensures { IfOk result (λ v. map (λ t. t.items) v.items ≡ table count (λ k. slice_range fields.now (k * (length fields.now / count)) (k * (length fields.now / count) + length fields.now / count))) }
+    ensures { IfOk result (λ v. map (λ t. t.items) v.items
+        ≡ tabulate count (λ k. slice_range fields.now (k * (length fields.now / count)) (k * (length fields.now / count) + length fields.now / count))) }
 {
     let width = fields.len() / count;
     let mut tuples = Vec::with_capacity(alloc, count)?;

@@ -5,7 +5,7 @@ ghost use Rattle.p3_matrix.specs.Matrix.{height};
 ghost use Rattle.p3_lookup.specs.Generated.{sent_shape, argument_over, IsGenerated};
 ghost use Rattle.p3_air.specs.Tree.{over_base, over_extension, SomeFirst};
 ghost use Rattle.p3_air.specs.Shape.{Fits, declared_shape};
-ghost use Rattle.p3_lookup.specs.Lookup.{FitLookups, IsCounted, IsLookup};
+ghost use Rattle.p3_lookup.specs.Lookup.{FitLookups, HasCountForEach, IsLookup};
 ghost use Rattle.p3_lookup.specs.Packing.{lookup_degree};
 ghost use Rattle.p3_lookup.specs.Written.{read, read_all};
 ghost use Rattle.p3_lookup.specs.Trees.{lookup_trees};
@@ -27,10 +27,10 @@ use std::alloc::Global;
 fn assert_lookups<AB: PermutationAirBuilder>(builder: &mut AB, lookups: &[Lookup<AB::F>]) -> Mem<()>
     requires lookups { FitLookups (AB.shape builder.old) (read_all lookups.now) }
     ensures later { AB.later builder.old builder.new }
-    ensures same { AB.shape builder.new ≡ AB.shape builder.old }
+    ensures keeps_shape { AB.shape builder.new ≡ AB.shape builder.old }
     ensures answers { IsTrue AB.never_fails → IsOk result }
-    ensures grows { IfOk result (λ _. AB.grows builder.old builder.new (map over_extension (lookup_trees AB.F.ring (read_all lookups.now))) []) }
-    ensures refused { OnErr result (SomeFirst (AB.grows builder.old builder.new) (map over_extension (lookup_trees AB.F.ring (read_all lookups.now))) []) }
+    ensures appends { IfOk result (λ _. AB.appends builder.old builder.new (map over_extension (lookup_trees AB.F.ring (read_all lookups.now))) []) }
+    ensures on_error { OnErr result (SomeFirst (AB.appends builder.old builder.new) (map over_extension (lookup_trees AB.F.ring (read_all lookups.now))) []) }
 {
     if lookups.is_empty() {
         return Ok(());
@@ -48,7 +48,7 @@ pub trait LookupProtocol {
     /// The largest degree, as a multiple of the height, of the constraints of a table with this lookup alone, where the
     /// transition selector has degree `t`.
     fn constraint_degree_with_transition<F: Field>(&self, lookup: &Lookup<F>, t: usize) -> usize
-        requires { IsCounted (read lookup.now) }
+        requires { HasCountForEach (read lookup.now) }
         ensures { result ≡ lookup_degree F.ring t (read lookup.now) };
 
     /// Appends an AIR's constraints and interactions, then the constraints of its lookups. Over a builder that never
@@ -62,10 +62,12 @@ pub trait LookupProtocol {
         requires air { Fits (declared_shape (A.declaration air.now)) (AB.shape builder.old) }
         requires lookups { FitLookups (AB.shape builder.old) (read_all lookups.now) }
         ensures later { AB.later builder.old builder.new }
-        ensures same { AB.shape builder.new ≡ AB.shape builder.old }
+        ensures keeps_shape { AB.shape builder.new ≡ AB.shape builder.old }
         ensures answers { IsTrue AB.never_fails → IsOk result }
-        ensures grows { IfOk result (λ _. AB.grows builder.old builder.new (map over_base (A.trees air.now) ++ map over_extension (lookup_trees AB.F.ring (read_all lookups.now))) (A.interactions air.now)) }
-        ensures refused { OnErr result (SomeFirst (AB.grows builder.old builder.new) (map over_base (A.trees air.now) ++ map over_extension (lookup_trees AB.F.ring (read_all lookups.now))) (A.interactions air.now)) };
+        ensures appends { IfOk result (λ _. AB.appends builder.old builder.new
+            (map over_base (A.trees air.now) ++ map over_extension (lookup_trees AB.F.ring (read_all lookups.now))) (A.interactions air.now)) }
+        ensures on_error { OnErr result
+            (SomeFirst (AB.appends builder.old builder.new) (map over_base (A.trees air.now) ++ map over_extension (lookup_trees AB.F.ring (read_all lookups.now))) (A.interactions air.now)) };
 
     /// The honest permutation columns of a table and their terminal: per row the running sum of all fractions in the rows
     /// before, then the fraction of each lookup. The answer is `DenominatorZero` exactly where a denominator is zero, and

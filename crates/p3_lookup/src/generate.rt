@@ -5,9 +5,9 @@ ghost use Rattle.p3_matrix.specs.Matrix.{height};
 ghost use Rattle.p3_air.specs.RowCheck.{row_shape};
 ghost use Rattle.p3_lookup.specs.Lookup.{IsLookup, sent};
 ghost use Rattle.p3_lookup.specs.Written.{read, read_all};
-ghost use Rattle.p3_lookup.specs.Term.{sum_of, quotient, HasInverses};
+ghost use Rattle.p3_lookup.specs.Term.{sum_of, term_value, HasInverses};
 ghost use Rattle.p3_lookup.specs.Honest.{terms_of, terms_from, row_terms, RowHasInverses};
-ghost use Rattle.p3_lookup.specs.Generated.{embedded_at, sent_shape, argument_over, IsGenerated, IsFault};
+ghost use Rattle.p3_lookup.specs.Generated.{embedded_at, sent_shape, argument_over, IsGenerated, IsGenerateFault};
 ghost use Rattle.p3_lookup.specs.RowTerms.{AreTermsAdded, AreRowTermsAdded, table_terms, sizes, row_size, group_sums, IsRowAdded, AreColumns};
 
 use crate::lookup::Lookup;
@@ -29,7 +29,8 @@ fn push_lookup<'a, F: Field, EF: ExtensionField<F>>(
     place: (usize, usize),
 ) -> Result<(), GenerateError>
     requires lookup { IsLookup (row_shape cells.now) (read lookup.now) }
-    ensures { AreTermsAdded EF.ring (terms_of EF.ring challenges.0 challenges.1 (embedded_at F.ring EF.embed cells.now) (sent (read lookup.now))) place.0 place.1 terms.old.items terms.new.items result }
+    ensures { AreTermsAdded EF.ring
+        (terms_of EF.ring challenges.0 challenges.1 (embedded_at F.ring EF.embed cells.now) (sent (read lookup.now))) place.0 place.1 terms.old.items terms.new.items result }
 {
     push_terms(
         terms,
@@ -109,7 +110,7 @@ fn terms_of_table<F: Field, EF: ExtensionField<F>>(
     requires lookups { All (IsLookup (sent_shape main.now (option_map (λ m. m.now) preprocessed) public_values.now)) (read_all lookups.now) }
     requires challenges { length challenges.now ≡ 2 * length lookups.now }
     ensures { let p = argument_over F.ring EF.ring EF.inv EF.embed main.now (option_map (λ m. m.now) preprocessed.entry) public_values.now (read_all lookups.now) challenges.now in
-        MatchResult result (λ v. (v.items ≡ table_terms p (height main.now)) × ((i : ℕ) → i < height main.now → RowHasInverses p i)) (IsFault p (height main.now)) }
+        MatchResult result (λ v. (v.items ≡ table_terms p (height main.now)) × ((i : ℕ) → i < height main.now → RowHasInverses p i)) (IsGenerateFault p (height main.now)) }
 {
     let mut terms = Vec::new(alloc);
     for row in 0..main.height() {
@@ -141,7 +142,7 @@ fn denominators_of<EF: Field>(alloc: Global, terms: &[Term<EF>]) -> Mem<Vec<EF>>
 // The count of each term over its denominator, none of which is zero, by one inversion for all.
 fn quotients_of<EF: Field>(alloc: Global, terms: &[Term<EF>]) -> Mem<Vec<EF>>
     requires { HasInverses EF.ring terms.now }
-    ensures { IfOk result (λ v. v.items ≡ map (quotient EF.ring EF.inv) terms.now) }
+    ensures { IfOk result (λ v. v.items ≡ map (term_value EF.ring EF.inv) terms.now) }
 {
     let denominators = denominators_of(alloc, terms)?;
     let mut quotients = batch_multiplicative_inverse(alloc, &denominators)?;
@@ -164,7 +165,7 @@ fn total<EF: Field>(values: &[EF]) -> EF
 }
 
 // Appends a row: the running sum, and each lookup's fraction, which is the sum of its quotients. Those of the row begin at
-// `start`. Gives the place behind them, and the running sum of the next row.
+// `start`. Gives the place after them, and the running sum of the next row.
 fn push_row<F, EF: Field>(
     values: &mut Vec<EF>,
     lookups: &[Lookup<F>],
@@ -200,7 +201,8 @@ fn rows_of<F, EF: Field>(
     height: usize,
 ) -> Mem<(Vec<EF>, EF)>
     requires { height * row_size (sizes (read_all lookups.now)) ≤ length quotients.now }
-    ensures { IfOk result (λ p. AreColumns EF.ring (λ i. group_sums EF.ring (sizes (read_all lookups.now)) (drop (i * row_size (sizes (read_all lookups.now))) quotients.now)) (length lookups.now) p.0.items height p.1) }
+    ensures { IfOk result (λ p. AreColumns EF.ring
+        (λ i. group_sums EF.ring (sizes (read_all lookups.now)) (drop (i * row_size (sizes (read_all lookups.now))) quotients.now)) (length lookups.now) p.0.items height p.1) }
 {
     let mut values = Vec::new(alloc);
     let mut place = 0;

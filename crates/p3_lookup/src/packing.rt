@@ -1,7 +1,7 @@
 //! Lookups of one name packed into fewer ones.
 ghost use Rattle.std.specs.Prelude.{◌≡◌, ℕ, ◌≤◌, ◌++◌, List, [], ◌∷◌, length, map, All, ◌<◌, IfOk, IfSome, MatchOption, slice_set, true, false};
 ghost use Rattle.p3_air.specs.Tree.{Bus};
-ghost use Rattle.p3_lookup.specs.Lookup.{IsCounted};
+ghost use Rattle.p3_lookup.specs.Lookup.{HasCountForEach};
 ghost use Rattle.p3_lookup.specs.Written.{Written, read, read_all, merged_written};
 ghost use Rattle.p3_lookup.specs.Packing.{merged, takes_in, with_lookup, packed_onto, packed, SendTheSame};
 
@@ -35,9 +35,10 @@ fn taken_in<F: Field>(
     budget: usize,
     t: usize,
 ) -> Mem<Option<Lookup<F>>>
-    requires first { IsCounted (read k.now) }
-    requires second { IsCounted (read l.now) }
-    ensures { IfOk result (λ o. MatchOption o (takes_in F.ring t budget (read k.now) (read l.now) ≡ false) (λ m. (read m ≡ merged (read k.now) (read l.now)) × (takes_in F.ring t budget (read k.now) (read l.now) ≡ true))) }
+    requires first { HasCountForEach (read k.now) }
+    requires second { HasCountForEach (read l.now) }
+    ensures { IfOk result (λ o. MatchOption o (takes_in F.ring t budget (read k.now) (read l.now) ≡ false) (λ m. (read m ≡ merged (read k.now) (read l.now))
+        × (takes_in F.ring t budget (read k.now) (read l.now) ≡ true))) }
 {
     if !have_one_name(&k.kind, &l.kind) {
         return Ok(None);
@@ -58,10 +59,11 @@ fn taker<F: Field>(
     budget: usize,
     t: usize,
 ) -> Mem<Option<(usize, Lookup<F>)>>
-    requires kept { All IsCounted (read_all kept.now) }
-    requires lookup { IsCounted (read lookup.now) }
+    requires kept { All HasCountForEach (read_all kept.now) }
+    requires lookup { HasCountForEach (read lookup.now) }
     ensures within { IfOk result (λ o. IfSome o (λ p. p.0 < length kept.now)) }
-    ensures placed { IfOk result (λ o. MatchOption o (read_all kept.now ++ read lookup.now ∷ [] ≡ with_lookup F.ring t budget (read_all kept.now) (read lookup.now)) (λ p. slice_set (read_all kept.now) p.0 (read p.1) ≡ with_lookup F.ring t budget (read_all kept.now) (read lookup.now))) }
+    ensures placed { IfOk result (λ o. MatchOption o (read_all kept.now ++ read lookup.now ∷ [] ≡ with_lookup F.ring t budget (read_all kept.now) (read lookup.now))
+        (λ p. slice_set (read_all kept.now) p.0 (read p.1) ≡ with_lookup F.ring t budget (read_all kept.now) (read lookup.now))) }
 {
     for i in 0..kept.len() {
         if let Some(both) = taken_in(alloc, &kept[i], lookup, budget, t)? {
@@ -79,8 +81,8 @@ fn placed<F: Field>(
     budget: usize,
     t: usize,
 ) -> Mem<Vec<Lookup<F>>>
-    requires kept { All IsCounted (read_all kept.items) }
-    requires lookup { IsCounted (read lookup.now) }
+    requires kept { All HasCountForEach (read_all kept.items) }
+    requires lookup { HasCountForEach (read lookup.now) }
     ensures { IfOk result (λ v. read_all v.items ≡ with_lookup F.ring t budget (read_all kept.items) (read lookup.now)) }
 {
     let mut kept = kept;
@@ -108,7 +110,7 @@ impl<F: Field> Lookups<F> {
         _gadget: &LogUpGadget,
         transition: usize,
     ) -> Mem<Self>
-        requires { All IsCounted (read_all self) }
+        requires { All HasCountForEach (read_all self) }
         ensures packed { IfOk result (λ l. read_all l ≡ packed F.ring transition budget (read_all self)) }
         ensures same { IfOk result (λ l. SendTheSame (read_all self) (read_all l)) }
     {
@@ -124,7 +126,7 @@ fn all_placed<F: Field>(
     budget: usize,
     t: usize,
 ) -> Mem<Vec<Lookup<F>>>
-    requires { All IsCounted (read_all lookups.now) }
+    requires { All HasCountForEach (read_all lookups.now) }
     ensures { IfOk result (λ v. read_all v.items ≡ packed F.ring t budget (read_all lookups.now)) }
 {
     let mut kept = Vec::new(alloc);

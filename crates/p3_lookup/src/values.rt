@@ -1,9 +1,9 @@
 //! Values of lookups at a row.
 ghost use Rattle.std.specs.Prelude.{◌≡◌, ℕ, ◌+◌, ◌*◌, ◌<◌, List, [], length, map, All};
-ghost use Rattle.p3_field.specs.Poly.{val};
+ghost use Rattle.p3_field.specs.Poly.{eval_poly};
 ghost use Rattle.p3_air.specs.Shape.{ReadsSendable};
 ghost use Rattle.p3_air.specs.Symbolic.{tree_at, tree_of, Ordered};
-ghost use Rattle.p3_air.specs.RowCheck.{value_at, row_shape};
+ghost use Rattle.p3_air.specs.RowCheck.{tree_value_at_row, row_shape};
 ghost use Rattle.p3_lookup.specs.Lookup.{map_sent, pair_up};
 ghost use Rattle.p3_lookup.specs.Written.{tree_count};
 ghost use Rattle.p3_lookup.specs.Term.{term};
@@ -21,7 +21,7 @@ fn value_in<'a, F: Field>(nodes: &[Node<F>], place: usize, row: &RowValues<'a, F
     requires within { place < length nodes.now }
     requires ordered { Ordered nodes.now }
     requires reads { ReadsSendable (row_shape row.now) (tree_at nodes.now place) }
-    ensures { result ≡ value_at F.ring F.ring (λ x. x) row.now (tree_at nodes.now place) }
+    ensures { result ≡ tree_value_at_row F.ring F.ring (λ x. x) row.now (tree_at nodes.now place) }
 {
     match nodes[place] {
         Node::Constant(x) => x,
@@ -61,7 +61,7 @@ fn combined_value<'a, F: Field, EF: ExtensionField<F>>(
     beta: EF,
 ) -> EF
     requires reads { All (ReadsSendable (row_shape row.now)) (map tree_of tuple.now) }
-    ensures { result ≡ val EF.ring (map (embedded_at F.ring EF.embed row.now) (map tree_of tuple.now)) beta }
+    ensures { result ≡ eval_poly EF.ring (map (embedded_at F.ring EF.embed row.now) (map tree_of tuple.now)) beta }
 {
     let mut sum = EF::ZERO;
     for i in (0..tuple.len()).rev() {
@@ -100,7 +100,9 @@ pub(crate) fn push_terms<'a, F: Field, EF: ExtensionField<F>>(
     requires counted { length multiplicities.now ≡ length elements.now }
     requires tuples { All (All (ReadsSendable (row_shape row.now))) (map (map tree_of) (map (λ v. v.items) elements.now)) }
     requires counts { All (λ c. ReadsSendable (row_shape row.now) c.value) (map tree_count multiplicities.now) }
-    ensures { AreTermsAdded EF.ring (terms_of EF.ring challenges.0 challenges.1 (embedded_at F.ring EF.embed row.now) (pair_up (map (map tree_of) (map (λ v. v.items) elements.now)) (map tree_count multiplicities.now))) place.0 place.1 terms.old.items terms.new.items result }
+    ensures { AreTermsAdded EF.ring
+        (terms_of EF.ring challenges.0 challenges.1 (embedded_at F.ring EF.embed row.now)
+        (pair_up (map (map tree_of) (map (λ v. v.items) elements.now)) (map tree_count multiplicities.now))) place.0 place.1 terms.old.items terms.new.items result }
 {
     for i in 0..elements.len() {
         let term = term_value(&elements[i], &multiplicities[i].value, row, challenges);

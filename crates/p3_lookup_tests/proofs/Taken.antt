@@ -4,8 +4,8 @@ use Rattle.std.specs.Prelude.{All}
 use Rattle.std.proofs.lemmas.List.{length-map}
 use Rattle.std.proofs.lemmas.List.Elements.{All-map, All-cons}
 use Rattle.p3_field.specs.declared.baby_bear.BabyBear.{BabyBear}
-use Rattle.p3_field.specs.Poly.{table}
-use Rattle.p3_field.specs.Laws.Tables.{length-table}
+use Rattle.p3_field.specs.Poly.{tabulate}
+use Rattle.p3_field.specs.Laws.Tabulate.{length-tabulate}
 use Rattle.p3_air.specs.declared.cells.Cell.TheVariants.{Main}
 use Rattle.p3_air.specs.declared.cells.Count.{Count}
 use Rattle.p3_air.specs.declared.node.Node.{Node}
@@ -13,15 +13,15 @@ use Rattle.p3_air.specs.declared.node.Node.TheVariants.{Base, Constant}
 use Rattle.p3_air.specs.Shape.{Shape, ReadsSendable}
 use Rattle.p3_air.specs.Symbolic.{tree_of, trees_after}
 use Rattle.p3_air.specs.Tree.{Bus, Interaction, tuple_at}
-use Rattle.p3_lookup.specs.Lookup.{FitLookups, IsLookup, IsCounted, lookup_of, lookups_of}
+use Rattle.p3_lookup.specs.Lookup.{FitLookups, IsLookup, HasCountForEach, lookup_of, lookups_of}
 use Rattle.p3_lookup.specs.Written.{Written, read, read_all, tree_count}
-use Rattle.p3_lookup_tests.specs.Taken.{HasColumn, IsSendable, IsTaken}
+use Rattle.p3_lookup_tests.specs.Taken.{HasColumn, IsSendableByColumn, IsTakenLookup}
 
-pub cell_sendable : (next : Bool) → IsSendable (Base (Main next 0) ∷ [])
+pub cell_sendable : (next : Bool) → IsSendableByColumn (Base (Main next 0) ∷ [])
 unfolding trees_after
 cell_sendable next s h = ((h.column, λ e. h.next), tt)
 
-pub constant_sendable : (x : BabyBear) → IsSendable (Constant x ∷ [])
+pub constant_sendable : (x : BabyBear) → IsSendableByColumn (Constant x ∷ [])
 unfolding trees_after
 constant_sendable x s h = tt
 
@@ -37,7 +37,7 @@ two_of P x y p q = All-cons P x (y ∷ []) p (one_of P y q)
 
 -- a lookup of tuples and counts that may be read
 pub taken_of : (bus : Bus) (es : List (List (List (Node BabyBear)))) (ms : List (Count (List (Node BabyBear)))) → length ms ≡ length es
-    → All (All IsSendable) es → All (λ c. IsSendable c.value) ms → IsTaken (record { bus = bus; elements = es; multiplicities = ms })
+    → All (All IsSendableByColumn) es → All (λ c. IsSendableByColumn c.value) ms → IsTakenLookup (record { bus = bus; elements = es; multiplicities = ms })
 taken_of bus es ms e he hm s h = record {
   counted = counted_of;
   reads = record {
@@ -50,11 +50,11 @@ taken_of bus es ms e he hm s h = record {
     counted_of = omega (arith, e, length-map ms tree_count, length-map es (map tree_of))
 
 -- what holds of lookups that are taken wherever there is a first column
-pub all_taken : (s : Shape) → HasColumn s → (ls : List (Written BabyBear)) → All IsTaken ls → All (IsLookup s) (read_all ls)
+pub all_taken : (s : Shape) → HasColumn s → (ls : List (Written BabyBear)) → All IsTakenLookup ls → All (IsLookup s) (read_all ls)
 all_taken s h ls all = All-map (IsLookup s) read ls (λ k d l. all k d l s h)
 
 -- so their constraints read cells of the shape, where it has their columns, challenges and terminal
-pub fit_taken : (s : Shape) → HasColumn s → (ls : List (Written BabyBear)) → All IsTaken ls
+pub fit_taken : (s : Shape) → HasColumn s → (ls : List (Written BabyBear)) → All IsTakenLookup ls
     → (0 < length ls → length ls < s.permutation) → 2 * length ls ≤ s.challenges → (0 < length ls → 0 < s.terminals) → FitLookups s (read_all ls)
 fit_taken s h ls all columns challenges terminal =
     let e : length (read_all ls) ≡ length ls = length-map ls read in
@@ -78,17 +78,17 @@ one_column = record {
   terminals = 0;
 }
 
-pub taken_counted : (l : Written BabyBear) → IsTaken l → IsCounted (read l)
+pub taken_counted : (l : Written BabyBear) → IsTakenLookup l → HasCountForEach (read l)
 unfolding one_column
 taken_counted l h = (h one_column (record { column = lit< tt; next = refl })).counted
 
-pub all_counted : (ls : List (Written BabyBear)) → All IsTaken ls → All IsCounted (read_all ls)
+pub all_counted : (ls : List (Written BabyBear)) → All IsTakenLookup ls → All HasCountForEach (read_all ls)
 unfolding one_column
-all_counted ls all = All-map IsCounted read ls (λ k d l. (all k d l one_column (record { column = lit< tt; next = refl })).counted)
+all_counted ls all = All-map HasCountForEach read ls (λ k d l. (all k d l one_column (record { column = lit< tt; next = refl })).counted)
 
 -- the lookups of interactions have a count for each tuple
-pub sends_counted : (is : List (Interaction BabyBear)) → All IsCounted (lookups_of is)
-sends_counted is = All-map IsCounted lookup_of is (λ k d l. sym (length-table _ _))
+pub sends_counted : (is : List (Interaction BabyBear)) → All HasCountForEach (lookups_of is)
+sends_counted is = All-map HasCountForEach lookup_of is (λ k d l. sym (length-tabulate _ _))
 
 -- the right side of an equation
 abbrev pub right_of : {X : Type 0} {x y : X} → x ≡ y → X

@@ -13,9 +13,9 @@ pub record HasColumn (s : Shape) : Type 0 where
   pub next : IsTrue (s.main_next 0)
 
 -- a lookup may read the expression wherever there is a first column
-abbrev pub IsSendable : List (Node BabyBear) → Type 0
-IsSendable e = (s : Shape) → HasColumn s → ReadsSendable s (tree_of e)
+abbrev pub IsSendableByColumn : List (Node BabyBear) → Type 0
+IsSendableByColumn e = (s : Shape) → HasColumn s → ReadsSendable s (tree_of e)
 
 -- the lookup is well-formed wherever there is a first column
-abbrev pub IsTaken : Written BabyBear → Type 0
-IsTaken l = (s : Shape) → HasColumn s → IsLookup s (read l)
+abbrev pub IsTakenLookup : Written BabyBear → Type 0
+IsTakenLookup l = (s : Shape) → HasColumn s → IsLookup s (read l)

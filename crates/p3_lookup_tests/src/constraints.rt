@@ -1,7 +1,7 @@
 //! The constraints of lookups, recorded, and evaluated on what is generated.
 ghost use Rattle.std.specs.Prelude.{◌≡◌, ◌+◌, ◌*◌, ◌<◌, All, IfOk, IsTrue, length};
 ghost use Rattle.p3_matrix.specs.Matrix.{height};
-ghost use Rattle.p3_lookup_tests.specs.Taken.{IsTaken};
+ghost use Rattle.p3_lookup_tests.specs.Taken.{IsTakenLookup};
 
 use crate::support::{bear, bears, generated, on_bus, take, take_both};
 use crate::two_sends::TwoSends;
@@ -14,7 +14,15 @@ use std::test::Fail;
 
 // The layout of a table of one column with one lookup.
 fn layout_with_one_lookup() -> AirLayout
-    ensures { result ≡ record { preprocessed_width = 0; main_width = 1; num_public_values = 0; num_periodic_columns = 0; permutation_width = 2; num_permutation_challenges = 2; num_permutation_values = 1 } }
+    ensures { result ≡ record {
+      preprocessed_width = 0;
+      main_width = 1;
+      num_public_values = 0;
+      num_periodic_columns = 0;
+      permutation_width = 2;
+      num_permutation_challenges = 2;
+      num_permutation_values = 1;
+    } }
 {
     AirLayout {
         preprocessed_width: 0,
@@ -29,7 +37,7 @@ fn layout_with_one_lookup() -> AirLayout
 
 // The constraints of the table that sends its cell twice, with one lookup.
 fn recorded(alloc: Global, lookup: Lookup<BabyBear>) -> Mem<InteractionSymbolicBuilder<BabyBear>>
-    requires { IsTaken lookup }
+    requires { IsTakenLookup lookup }
 {
     let mut builder = InteractionSymbolicBuilder::new(alloc, layout_with_one_lookup())?;
     let lookups = vec![in alloc; lookup]?;
@@ -61,7 +69,8 @@ fn are_beside(
     row: usize,
 ) -> bool
     requires { length lookups.now < 100 }
-    ensures { IsTrue result → (row < height main.now) × (main.now.width ≡ 1) × (height columns.now ≡ height main.now) × (columns.now.width ≡ length lookups.now + 1) × (length challenges.now ≡ 2 * length lookups.now) }
+    ensures { IsTrue result → (row < height main.now) × (main.now.width ≡ 1) × (height columns.now ≡ height main.now) × (columns.now.width ≡ length lookups.now + 1)
+        × (length challenges.now ≡ 2 * length lookups.now) }
 {
     row < main.height()
         && main.width() == 1
@@ -81,7 +90,7 @@ fn values_in(
     row: usize,
 ) -> Mem<Vec<BabyBear>>
     requires few { length lookups.now < 100 }
-    requires taken { All IsTaken lookups.now }
+    requires taken { All IsTakenLookup lookups.now }
 {
     let fits = are_beside(main, columns, lookups, challenges, row);
     if !fits {

@@ -1,10 +1,10 @@
 //! The lookups that AIRs' interactions make, and copies of them.
 ghost use Rattle.std.specs.Prelude.{◌≡◌, ◌<◌, IfOk, length};
-ghost use Rattle.p3_lookup_tests.specs.Taken.{IsTaken};
+ghost use Rattle.p3_lookup_tests.specs.Taken.{IsTakenLookup};
 
 use crate::support::{take, take_both};
 use crate::two_sends::TwoSends;
-use batch_tables::PostAir;
+use batch_tables::SendingAir;
 use p3_air::{Cell, Count, Node, SymbolicExpression};
 use p3_field::{BabyBear, FieldCore, Mem, RingCore};
 use p3_lookup::{Kind, LogUpGadget, Lookup, LookupProtocol, Lookups};
@@ -74,13 +74,14 @@ fn a_cell_sent_twice(rt: HostRuntime) -> Result<(), Fail> {
     Ok(())
 }
 
-// The post table sends its cell with its public value on the bus `words`, and then both apart within the table.
+// The sending table sends its cell with its public value on the bus `words`, and then both apart within the
+// table.
 #[test]
-fn lookups_of_the_post_table(rt: HostRuntime) -> Result<(), Fail> {
+fn lookups_of_the_sending_table(rt: HostRuntime) -> Result<(), Fail> {
     let alloc = rt.alloc();
     let steps = vec![in alloc; BabyBear::ONE, BabyBear::TWO]?;
     let periodic = vec![in alloc; vec![in alloc; BabyBear::ONE]?]?;
-    let lookups = Lookups::from_air(alloc, &PostAir { steps, periodic })?;
+    let lookups = Lookups::from_air(alloc, &SendingAir { steps, periodic })?;
     assert_eq!(rt; lookups.as_slice().len(), 2);
     let words = lookups.as_slice().first().ok_or("no lookup")?;
     assert!(rt; matches!(&words.kind, Kind::Global(name) if name.as_str() == "words"));
@@ -109,7 +110,7 @@ fn lookups_of_the_post_table(rt: HostRuntime) -> Result<(), Fail> {
 
 // The degree of a lookup's constraints.
 fn degree(lookup: &Lookup<BabyBear>, transition: usize) -> usize
-    requires { IsTaken lookup.now }
+    requires { IsTakenLookup lookup.now }
 {
     LogUpGadget::new().constraint_degree_with_transition(lookup, transition)
 }

@@ -1,8 +1,8 @@
 //! Lookups packed into fewer ones.
 ghost use Rattle.std.specs.Prelude.{◌≡◌, ◌<◌, All, IfOk, length, map};
-ghost use Rattle.p3_lookup.specs.Lookup.{IsCounted};
+ghost use Rattle.p3_lookup.specs.Lookup.{HasCountForEach};
 ghost use Rattle.p3_lookup.specs.Written.{read_all};
-ghost use Rattle.p3_lookup_tests.specs.Taken.{IsTaken};
+ghost use Rattle.p3_lookup_tests.specs.Taken.{IsTakenLookup};
 
 use crate::support::{on_bus, take};
 use crate::two_sends::TwoSends;
@@ -22,7 +22,7 @@ fn sizes(alloc: Global, lookups: &Lookups<BabyBear>) -> Mem<Vec<usize>> {
 
 // The lookups of the table that sends its cell twice.
 fn both_sent(alloc: Global) -> Mem<Lookups<BabyBear>>
-    ensures { IfOk result (λ l. All IsCounted (read_all l)) }
+    ensures { IfOk result (λ l. All HasCountForEach (read_all l)) }
 {
     let lookups = Lookups::from_air(alloc, &TwoSends)?;
     Ok(lookups)
@@ -30,7 +30,7 @@ fn both_sent(alloc: Global) -> Mem<Lookups<BabyBear>>
 
 // The sizes of these lookups when they are packed.
 fn packed_sizes(alloc: Global, lookups: Vec<Lookup<BabyBear>>, budget: usize) -> Mem<Vec<usize>>
-    requires { All IsTaken lookups.items }
+    requires { All IsTakenLookup lookups.items }
 {
     let gadget = LogUpGadget::new();
     let packed = Lookups::new(lookups).pack_same_bus_with_degree(alloc, budget, &gadget, 0)?;

@@ -1,9 +1,9 @@
 //! What several tests share.
 ghost use Rattle.std.specs.Prelude.{◌≡◌, ◌*◌, ◌<◌, [], ◌∷◌, List, All, IfOk, false, length};
 ghost use Rattle.p3_field.specs.Ring.{of_nat};
-ghost use Rattle.p3_field.specs.BabyBear.{bear_ring};
+ghost use Rattle.p3_field.specs.BabyBear.{baby_bear_ring};
 ghost use Rattle.p3_air.specs.Symbolic.{OperandsBelow};
-ghost use Rattle.p3_lookup_tests.specs.Taken.{IsSendable, IsTaken};
+ghost use Rattle.p3_lookup_tests.specs.Taken.{IsSendableByColumn, IsTakenLookup};
 ghost use Rattle.p3_matrix.specs.Matrix.{height};
 
 use p3_air::{Cell, Count, Node, SymbolicExpression};
@@ -14,7 +14,7 @@ use std::alloc::Global;
 
 /// The element of this number.
 pub fn bear(n: u64) -> BabyBear
-    ensures { result ≡ of_nat bear_ring n }
+    ensures { result ≡ of_nat baby_bear_ring n }
 {
     BabyBear::from_u64(n)
 }
@@ -42,7 +42,7 @@ fn leaf(alloc: Global, node: Node<BabyBear>) -> Mem<SymbolicExpression<BabyBear>
 
 /// The cell of the first column, in the current row or in the next.
 pub fn cell(alloc: Global, next: bool) -> Mem<SymbolicExpression<BabyBear>>
-    ensures { IfOk result IsSendable }
+    ensures { IfOk result IsSendableByColumn }
 {
     let expression = leaf(alloc, Node::Base(Cell::Main { next, column: 0 }))?;
     Ok(expression)
@@ -50,7 +50,7 @@ pub fn cell(alloc: Global, next: bool) -> Mem<SymbolicExpression<BabyBear>>
 
 /// A count of so many, with this bound.
 pub fn count(alloc: Global, times: u64, bound: u32) -> Mem<Count<SymbolicExpression<BabyBear>>>
-    ensures { IfOk result (λ c. IsSendable c.value) }
+    ensures { IfOk result (λ c. IsSendableByColumn c.value) }
 {
     let value = leaf(alloc, Node::Constant(bear(times)))?;
     Ok(Count { value, bound })
@@ -63,8 +63,8 @@ pub fn single(
     tuple: Vec<SymbolicExpression<BabyBear>>,
     times: u64,
 ) -> Mem<Lookup<BabyBear>>
-    requires { All IsSendable tuple.items }
-    ensures { IfOk result IsTaken }
+    requires { All IsSendableByColumn tuple.items }
+    ensures { IfOk result IsTakenLookup }
 {
     let multiplicities = vec![in alloc; count(alloc, times, 1)?]?;
     Ok(Lookup::new(kind, vec![in alloc; tuple]?, multiplicities))
@@ -72,7 +72,7 @@ pub fn single(
 
 /// The lookup that sends the cell of the first column so often.
 pub fn take(alloc: Global, kind: Kind, times: u64) -> Mem<Lookup<BabyBear>>
-    ensures { IfOk result IsTaken }
+    ensures { IfOk result IsTakenLookup }
 {
     let tuple = vec![in alloc; cell(alloc, false)?]?;
     single(alloc, kind, tuple, times)
@@ -80,7 +80,7 @@ pub fn take(alloc: Global, kind: Kind, times: u64) -> Mem<Lookup<BabyBear>>
 
 /// The lookup that sends the cell of the first column and that of the next row, each so often.
 pub fn take_both(alloc: Global, kind: Kind, times: u64) -> Mem<Lookup<BabyBear>>
-    ensures { IfOk result IsTaken }
+    ensures { IfOk result IsTakenLookup }
 {
     let own = vec![in alloc; cell(alloc, false)?]?;
     let next = vec![in alloc; cell(alloc, true)?]?;
@@ -101,7 +101,7 @@ pub fn generated(
     lookups: &[Lookup<BabyBear>],
     challenges: &[BabyBear],
 ) -> Result<(RowMajorMatrix<BabyBear>, LookupTerminal<BabyBear>), GenerateError>
-    requires taken { All IsTaken lookups.now }
+    requires taken { All IsTakenLookup lookups.now }
     requires challenges { length challenges.now ≡ 2 * length lookups.now }
 {
     let main = RowMajorMatrix::new_col(bears(alloc, column)?);

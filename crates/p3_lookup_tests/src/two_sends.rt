@@ -2,7 +2,7 @@
 ghost use Rattle.std.proofs.Common.{rules};
 ghost use Rattle.std.specs.Prelude.{◌≡◌, [], ◌∷◌, IfOk, OnErr, IsOk, IsTrue, false};
 ghost use Rattle.p3_field.specs.Ring.{of_nat};
-ghost use Rattle.p3_field.specs.BabyBear.{bear_ring};
+ghost use Rattle.p3_field.specs.BabyBear.{baby_bear_ring};
 ghost use Rattle.p3_air.specs.Shape.{Declares};
 ghost use Rattle.p3_air.specs.declared.cells.Cell.TheVariants.{Main};
 ghost use Rattle.p3_air.specs.Laws.Declared.{counts-none};
@@ -74,10 +74,10 @@ impl BaseAir<BabyBear> for TwoSends {
 fn send<AB: InteractionBuilder<F = BabyBear>>(builder: &mut AB) -> Mem<()>
     requires { Declares (AB.shape builder.old) (Main false 0) }
     ensures later { AB.later builder.old builder.new }
-    ensures same { AB.shape builder.new ≡ AB.shape builder.old }
+    ensures keeps_shape { AB.shape builder.new ≡ AB.shape builder.old }
     ensures answers { IsTrue AB.never_fails → IsOk result }
-    ensures grows { IfOk result (λ _. AB.grows builder.old builder.new [] (value_sent (of_nat bear_ring 1) ∷ [])) }
-    ensures refused { OnErr result (AB.grows builder.old builder.new [] []) }
+    ensures appends { IfOk result (λ _. AB.appends builder.old builder.new [] (value_sent (of_nat baby_bear_ring 1) ∷ [])) }
+    ensures on_error { OnErr result (AB.appends builder.old builder.new [] []) }
 {
     let x = builder.cell(Cell::Main {
         next: false,
@@ -90,7 +90,7 @@ fn send<AB: InteractionBuilder<F = BabyBear>>(builder: &mut AB) -> Mem<()>
 impl Air<BabyBear> for TwoSends {
     ghost trees = { λ _. [] };
 
-    ghost interactions = { λ _. two_sends (of_nat bear_ring 1) };
+    ghost interactions = { λ _. two_sends (of_nat baby_bear_ring 1) };
 
     fn eval<AB: InteractionBuilder<F = BabyBear>>(&self, builder: &mut AB) -> Mem<()> {
         send(builder)?;

@@ -1,7 +1,7 @@
 -- Matrices by rows, as plain data. The rules are those of Plonky3's p3-matrix (RowMajorMatrix).
 use Rattle.std.specs.Prelude.{◌≡◌, ℕ, ◌+◌, ◌*◌, ◌/◌, List, length, slice_range}
 use Rattle.std.specs.Prelude.{slice_index_or as get_or}
-use Rattle.p3_field.specs.Poly.{table}
+use Rattle.p3_field.specs.Poly.{tabulate}
 
 -- the values row after row, and how many a row has
 pub record Rows (F : Type 0) : Type 0 where
@@ -26,4 +26,4 @@ cell_at d m i j = get_or m.values (i * m.width + j) d
 
 -- column j, from the first row to the last
 unfoldable pub column : {F : Type 0} → F → Rows F → ℕ → List F
-column d m j = table (height m) (λ i. cell_at d m i j)
+column d m j = tabulate (height m) (λ i. cell_at d m i j)

@@ -68,7 +68,7 @@ impl<F> RowMajorMatrix<F> {
         }
     }
 
-    /// All values, row after row (own).
+    /// All values, row after row (not in Plonky3).
     pub fn as_slice(&self) -> &[F]
         ensures values { result.now ≡ self.now.values }
         ensures fills { FillsRows self.now.values self.now.width }
@@ -76,7 +76,7 @@ impl<F> RowMajorMatrix<F> {
         &self.values
     }
 
-    /// The values of a row below the height (own: `row_slice` without the test).
+    /// The values of a row below the height (not in Plonky3: `row_slice` without the test).
     pub fn row(&self, row: usize) -> &[F]
         requires { row < height self.now }
         ensures values { result.now ≡ row_at self.now row }
@@ -121,7 +121,7 @@ impl<F: Copy> RowMajorMatrix<F> {
         })
     }
 
-    /// The values of a column below the width, from the first row to the last (own).
+    /// The values of a column below the width, from the first row to the last (not in Plonky3).
     pub fn column(&self, alloc: Global, column: usize) -> Mem<Vec<F>>
         requires { column < self.now.width }
         ensures count { IfOk result (λ v. length v.items ≡ height self.now) }

@@ -2,7 +2,7 @@
 ghost use Rattle.std.specs.Prelude.{◌≡◌, ℕ, ◌+◌, ◌*◌, ◌/◌, ◌^◌, ◌<◌, ◌≤◌, length, get_or, IfOk};
 ghost use Rattle.std.specs.Int.{IsPowerOfTwo};
 ghost use Rattle.p3_field.specs.Ring.{Ring, pow, of_nat};
-ghost use Rattle.p3_field.specs.Poly.{table, total};
+ghost use Rattle.p3_field.specs.Poly.{tabulate, total};
 ghost use Rattle.p3_field.specs.Domain.{coset_point};
 ghost use Rattle.p3_matrix.specs.Matrix.{Rows, height, cell_at, column};
 ghost use Rattle.p3_matrix.specs.Interpolation.{IsInterpolatedAt, weight_at, ratio_minus_one};
@@ -16,7 +16,7 @@ use p3_field::{
 };
 use std::alloc::Global;
 
-/// 1 + x + .. + x^(2^bits - 1), as the product of 1 + x^(2^j) for j below `bits` (own).
+/// 1 + x + .. + x^(2^bits - 1), as the product of 1 + x^(2^j) for j below `bits` (not in Plonky3).
 pub fn sum_of_powers<F: PrimeCharacteristicRing>(x: F, bits: usize) -> F
     ensures { result ≡ total F.ring (2 ^ bits) (λ i. pow F.ring x i) }
 {
@@ -39,7 +39,9 @@ fn interpolation_weights<F: TwoAdicField, EF: ExtensionField<F>>(
 ) -> Mem<Vec<EF>>
     requires subgroup { log_size ≤ F.TWO_ADICITY }
     requires shift { shift ≡ F.ring.zero → ⊥ }
-    ensures { IfOk result (λ v. v.items ≡ table (2 ^ log_size) (weight_at EF.ring (2 ^ log_size) (EF.embed (F.inv (of_nat F.ring (2 ^ log_size)))) (EF.embed (F.inv (F.root log_size))) (EF.ring.mul (EF.embed (F.inv shift)) point))) }
+    ensures { IfOk result (λ v. v.items
+        ≡ tabulate (2 ^ log_size) (weight_at EF.ring (2 ^ log_size) (EF.embed (F.inv (of_nat F.ring (2 ^ log_size)))) (EF.embed (F.inv (F.root log_size)))
+        (EF.ring.mul (EF.embed (F.inv shift)) point))) }
 {
     let size: usize = 1 << log_size;
     let scale = EF::from_base(F::from_u64(size as u64).inverse());
@@ -63,7 +65,7 @@ fn weights_by_sums<F: Field>(
     ratio: F,
 ) -> Mem<Vec<F>>
     requires { log_size < 64 }
-    ensures { IfOk result (λ v. v.items ≡ table (2 ^ log_size) (weight_at F.ring (2 ^ log_size) scale step ratio)) }
+    ensures { IfOk result (λ v. v.items ≡ tabulate (2 ^ log_size) (weight_at F.ring (2 ^ log_size) scale step ratio)) }
 {
     let size: usize = 1 << log_size;
     let mut turned = ratio;
@@ -77,7 +79,7 @@ fn weights_by_sums<F: Field>(
 
 // The ratio times each of the first `size` powers of the step, minus one.
 fn ratios_minus_one<F: Field>(alloc: Global, size: usize, step: F, ratio: F) -> Mem<Vec<F>>
-    ensures { IfOk result (λ v. v.items ≡ table size (ratio_minus_one F.ring step ratio)) }
+    ensures { IfOk result (λ v. v.items ≡ tabulate size (ratio_minus_one F.ring step ratio)) }
 {
     let mut turned = ratio;
     let mut divisors = Vec::with_capacity(alloc, size)?;
@@ -118,7 +120,8 @@ pub fn interpolate_coset<F: TwoAdicField, EF: ExtensionField<F>>(
     requires subgroup { height m.now ≤ 2 ^ F.TWO_ADICITY }
     requires shift { shift ≡ F.ring.zero → ⊥ }
     ensures width { IfOk result (λ v. length v.items ≡ m.now.width) }
-    ensures values { IfOk result (λ v. (j k : ℕ) → j < m.now.width → height m.now ≡ 2 ^ k → IsInterpolatedAt F.ring EF.ring EF.embed (coset_point F.ring shift (F.root k)) (column F.ring.zero m.now j) point (get_or v.items j EF.ring.zero)) }
+    ensures values { IfOk result (λ v. (j k : ℕ) → j < m.now.width → height m.now ≡ 2 ^ k
+        → IsInterpolatedAt F.ring EF.ring EF.embed (coset_point F.ring shift (F.root k)) (column F.ring.zero m.now j) point (get_or v.items j EF.ring.zero)) }
 {
     let weights = interpolation_weights(alloc, log2_strict_usize(m.height()), shift, point)?;
     let mut values = Vec::with_capacity(alloc, m.width())?;

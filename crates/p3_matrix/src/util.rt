@@ -2,7 +2,7 @@
 ghost use Rattle.std.specs.Prelude.{◌≡◌, ℕ, ◌+◌, ◌^◌, ◌<◌, ◌≤◌, ◌↔◌, IsTrue, MatchOption};
 ghost use Rattle.std.specs.Int.{IsPowerOfTwo};
 
-/// Whether n is a power of two. Zero is none (own).
+/// Whether n is a power of two. Zero is none (not in Plonky3).
 pub fn is_power_of_two(n: usize) -> bool
     ensures { IsTrue result ↔ IsPowerOfTwo n }
 {

@@ -47,11 +47,11 @@ module _ {A : Type 0} (r : Ring A) (L : RingLaws r) where
           let q : ℕ → B = λ j. p (suc i + j) in
           let v : ℕ → A = λ j. u (suc i + j) in
           let before : s.mul x (f (inv U)) ≡ product s i (λ j. s.mul (p j) (f (inv (u j)))) = (λ k. s.mul (at_x k) (f (inv (at_U k)))) ∙ quotients i p u (λ e. a (at_U ∙ e)) in
-          let behind : s.mul y (f (inv V)) ≡ product s m (λ j. s.mul (q j) (f (inv (v j)))) = (λ k. s.mul (at_y k) (f (inv (at_V k)))) ∙ quotients m q v (λ e. b (at_V ∙ e)) in
+          let after : s.mul y (f (inv V)) ≡ product s m (λ j. s.mul (q j) (f (inv (v j)))) = (λ k. s.mul (at_y k) (f (inv (at_V k)))) ∙ quotients m q v (λ e. b (at_V ∙ e)) in
           ap (λ z. s.mul (s.mul x y) (f z)) (inv_mul U V a b)
           ∙ (ap (s.mul (s.mul x y)) (H.keeps_mul (inv U) (inv V))
           ∙ (mul_swap s M x y (f (inv U)) (f (inv V))
-          ∙ (λ k. s.mul (before k) (behind k))))
+          ∙ (λ k. s.mul (before k) (after k))))
 
 -- the first point of a domain lies in no other
 pub first_outside : {F : Type 0} (f : TwoAdic F) (ds : List (CosetData F)) (i j : ℕ) (x : F) (d : CosetData F) → i < length ds → j < length ds → (i ≡ j → ⊥) → AllDisjoint f ds
@@ -69,10 +69,10 @@ before_is r s M ds i w h =
     ap (λ m. product s m (λ j. w (domain_at r (take i ds) j))) n
     ∙ product_same s M i (λ j. w (domain_at r (take i ds) j)) (λ j. w (domain_at r ds j)) (λ j k. ap w (get_or-take i ds j _ k))
 
--- the product over the domains behind domain i
-pub behind_is : {F B : Type 0} (r : Ring F) (s : Ring B) (M : RingLaws s) (ds : List (CosetData F)) (i : ℕ) (w : CosetData F → B) → i < length ds
+-- the product over the domains after domain i
+pub after_is : {F B : Type 0} (r : Ring F) (s : Ring B) (M : RingLaws s) (ds : List (CosetData F)) (i : ℕ) (w : CosetData F → B) → i < length ds
     → product s (length (slice_range ds (i + 1) (length ds))) (λ j. w (domain_at r (slice_range ds (i + 1) (length ds)) j)) ≡ product s (length ds - suc i) (λ j. w (domain_at r ds (suc i + j)))
-behind_is {F = F} r s M ds i w h =
+after_is {F = F} r s M ds i w h =
     let m = length ds - (i + 1) in
     let rest = drop (i + 1) ds in
     let n : length (take m rest) ≡ m = length-take-le m rest (omega (arith, length-drop (i + 1) ds)) in
@@ -83,10 +83,10 @@ behind_is {F = F} r s M ds i w h =
     (λ j k. ap w (get_or-take m rest j d k ∙ (get_or-drop (i + 1) ds j d ∙ (let e : i + 1 + j ≡ suc i + j = omega arith in ap (λ a. get_or ds a d) e))))
     ∙ ap (λ k. product s k (λ j. w (domain_at r ds (suc i + j)))) count)
 
--- where the domains behind domain i stand
-pub behind_at : {X : Type 0} (ds : List X) (i j : ℕ) (d : X) → j < length (slice_range ds (i + 1) (length ds))
+-- where the domains after domain i stand
+pub after_at : {X : Type 0} (ds : List X) (i j : ℕ) (d : X) → j < length (slice_range ds (i + 1) (length ds))
     → (suc i + j < length ds) × (get_or (slice_range ds (i + 1) (length ds)) j d ≡ get_or ds (suc i + j) d)
-behind_at ds i j d h =
+after_at ds i j d h =
     let m = length ds - (i + 1) in
     let rest = drop (i + 1) ds in
     let n : length (take m rest) ≡ m = length-take-le m rest (omega (arith, length-drop (i + 1) ds)) in

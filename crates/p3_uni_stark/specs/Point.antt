@@ -7,8 +7,8 @@ use Rattle.p3_air.specs.Tree.{Reading}
 pub use Rattle.p3_air.specs.PointValues.{PointValues, point_cells, point_shape}
 
 -- the reading of constraints at the point; a cell that isn't there reads as zero
-abbrev pub reading : {F E : Type 0} → Ring E → (F → E) → PointValues F E → Reading F E
-reading r embed p = reading_at r embed (point_cells r.zero embed p)
+abbrev pub point_reading : {F E : Type 0} → Ring E → (F → E) → PointValues F E → Reading F E
+point_reading r embed p = reading_at r embed (point_cells r.zero embed p)
 
 -- values over F as values over E
 abbrev pub embedded : {F E : Type 0} → (F → E) → PointValues F F → PointValues F E

@@ -4,8 +4,8 @@ use Rattle.p3_uni_stark.specs.declared.prover_folder.ProverFolder.{ProverFolder}
 use Rattle.p3_uni_stark.specs.Fold.{Sum}
 use Rattle.p3_uni_stark.specs.Point.{PointValues}
 
-abbrev pub values_of : {F E : Type 0} → ProverFolder F E → PointValues F F
-values_of b = record {
+abbrev pub folder_values_of : {F E : Type 0} → ProverFolder F E → PointValues F F
+folder_values_of b = record {
   main_local = b.main_local.now;
   main_next = b.main_next.now;
   preprocessed_local = b.preprocessed_local.now;
@@ -18,17 +18,17 @@ values_of b = record {
 }
 
 -- what no call changes: the values that are read, and the powers, also those that are taken
-pub record Given (F E : Type 0) : Type 0 where
+pub record FolderInputs (F E : Type 0) : Type 0 where
   pub values : PointValues F F
   pub powers : List E
 
-abbrev pub given_of : {F E : Type 0} → ProverFolder F E → Given F E
-given_of b = record { values = values_of b; powers = b.alpha_powers.now }
+abbrev pub folder_inputs_of : {F E : Type 0} → ProverFolder F E → FolderInputs F E
+folder_inputs_of b = record { values = folder_values_of b; powers = b.alpha_powers.now }
 
-abbrev pub sum_of : {F E : Type 0} → ProverFolder F E → Sum E
-sum_of b = record { left = drop b.constraint_index b.alpha_powers.now; total = b.accumulator }
+abbrev pub folder_sum_of : {F E : Type 0} → ProverFolder F E → Sum E
+folder_sum_of b = record { left = drop b.constraint_index b.alpha_powers.now; total = b.accumulator }
 
 -- How many powers are taken and left together. While this stays, the folder counts a constraint only where it takes
 -- a power.
-abbrev pub powers_of : {F E : Type 0} → ProverFolder F E → ℕ
-powers_of b = b.constraint_index + length (sum_of b).left
+abbrev pub power_count : {F E : Type 0} → ProverFolder F E → ℕ
+power_count b = b.constraint_index + length (folder_sum_of b).left

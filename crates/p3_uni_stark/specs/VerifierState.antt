@@ -7,8 +7,8 @@ pub record Opened (F E : Type 0) : Type 0 where
   pub values : PointValues F E
   pub alpha : E
 
-abbrev pub opened_of : {F E : Type 0} → VerifierFolder F E → Opened F E
-opened_of b = record {
+abbrev pub folder_opened_of : {F E : Type 0} → VerifierFolder F E → Opened F E
+folder_opened_of b = record {
   values = record {
     main_local = b.main_local.now;
     main_next = b.main_next.now;

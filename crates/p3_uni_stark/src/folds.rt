@@ -1,11 +1,11 @@
 //! The folds of an AIR's constraints, from the laws of builders alone.
 ghost use Rattle.std.specs.Prelude.{◌≡◌, length, map};
 ghost use Rattle.p3_air.specs.Shape.{Fits, declared_shape};
-ghost use Rattle.p3_air.specs.Tree.{ev};
+ghost use Rattle.p3_air.specs.Tree.{eval_tree};
 ghost use Rattle.p3_uni_stark.specs.Fold.{fold, fold_powers, weighed};
-ghost use Rattle.p3_uni_stark.specs.Point.{reading, embedded, point_shape};
-ghost use Rattle.p3_uni_stark.specs.VerifierState.{opened_of};
-ghost use Rattle.p3_uni_stark.specs.ProverState.{values_of};
+ghost use Rattle.p3_uni_stark.specs.Point.{point_reading, embedded, point_shape};
+ghost use Rattle.p3_uni_stark.specs.VerifierState.{folder_opened_of};
+ghost use Rattle.p3_uni_stark.specs.ProverState.{folder_values_of};
 
 use crate::config::{Challenge, StarkGenericConfig, Val};
 use crate::prover_folder::ProverFolder;
@@ -26,8 +26,8 @@ pub fn verifier_fold<F: Field, E: ExtensionField<F>, A: Air<F>>(
     folder: VerifierFolder<'_, F, E>,
 ) -> E
     requires zero { folder.accumulator ≡ E.ring.zero }
-    requires declared { Fits (declared_shape (A.declaration air.now)) (point_shape (opened_of folder).values) }
-    ensures { result ≡ fold E.ring folder.entry.alpha (map (ev (reading E.ring E.embed (opened_of folder.entry).values)) (A.trees air.now)) }
+    requires declared { Fits (declared_shape (A.declaration air.now)) (point_shape (folder_opened_of folder).values) }
+    ensures { result ≡ fold E.ring folder.entry.alpha (map (eval_tree (point_reading E.ring E.embed (folder_opened_of folder.entry).values)) (A.trees air.now)) }
 {
     let mut folder = folder;
     match air.eval(&mut folder) {
@@ -45,10 +45,10 @@ pub fn prover_fold<F: Field, E: ExtensionField<F>, A: Air<F>>(
 ) -> E
     requires zero { folder.accumulator ≡ E.ring.zero }
     requires first { folder.constraint_index ≡ 0 }
-    requires declared { Fits (declared_shape (A.declaration air.now)) (point_shape (values_of folder)) }
-    ensures weighed { result ≡ weighed E.ring folder.entry.alpha_powers.now (map (ev (reading E.ring E.embed (embedded E.embed (values_of folder.entry)))) (A.trees air.now)) }
+    requires declared { Fits (declared_shape (A.declaration air.now)) (point_shape (folder_values_of folder)) }
+    ensures weighed { result ≡ weighed E.ring folder.entry.alpha_powers.now (map (eval_tree (point_reading E.ring E.embed (embedded E.embed (folder_values_of folder.entry)))) (A.trees air.now)) }
     ensures fold { (alpha : E) → folder.entry.alpha_powers.now ≡ fold_powers E.ring alpha (length (A.trees air.now))
-        → result ≡ fold E.ring alpha (map (ev (reading E.ring E.embed (embedded E.embed (values_of folder.entry)))) (A.trees air.now)) }
+        → result ≡ fold E.ring alpha (map (eval_tree (point_reading E.ring E.embed (embedded E.embed (folder_values_of folder.entry)))) (A.trees air.now)) }
 {
     let mut folder = folder;
     match air.eval(&mut folder) {

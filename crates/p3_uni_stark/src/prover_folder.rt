@@ -1,10 +1,10 @@
 //! The prover's constraint folder.
 ghost use Rattle.std.specs.Prelude.{◌≡◌, List, [], ◌∷◌, ◌%◌, ◌<◌, IfOk, OnErr, IsOk, IsTrue, true, length, map, refl};
 ghost use Rattle.std.proofs.Common.{◌∙◌, ap};
-ghost use Rattle.p3_air.specs.Tree.{Tree, ev, ev_asserted, Stand, StandCount};
+ghost use Rattle.p3_air.specs.Tree.{Tree, eval_tree, eval_asserted, Represent, RepresentsCount};
 ghost use Rattle.p3_air.specs.declared.cells.Count.{Count as CountOf};
 ghost use Rattle.p3_uni_stark.specs.Fold.{added_to, weighed_from};
-ghost use Rattle.p3_uni_stark.specs.Point.{reading, embedded, point_shape};
+ghost use Rattle.p3_uni_stark.specs.Point.{point_reading, embedded, point_shape};
 ghost use Rattle.p3_uni_stark.specs.Laws.Folders.{shape_along, value_persists, value_by_persists, base_value_by_persists, weighed_along};
 ghost use Rattle.p3_air.specs.Operation.{value_by};
 
@@ -48,11 +48,11 @@ pub struct ProverFolder<'a, F, E> {
 }
 
 impl<'a, F: Field, E: ExtensionField<F>> ProverFolder<'a, F, E> {
-    ghost use Rattle.p3_uni_stark.specs.ProverState.{values_of, given_of, sum_of, powers_of};
+    ghost use Rattle.p3_uni_stark.specs.ProverState.{folder_values_of, folder_inputs_of, folder_sum_of, power_count};
 
     // The values that it reads.
     fn cells(&self) -> BaseCells<'a, F, F>
-        ensures { result ≡ values_of self.now }
+        ensures { result ≡ folder_values_of self.now }
     {
         BaseCells {
             main_local: self.main_local,
@@ -68,12 +68,12 @@ impl<'a, F: Field, E: ExtensionField<F>> ProverFolder<'a, F, E> {
     }
 
     /// Folds one more value in, be it a constraint's value or not: it is added times the next power, which
-    /// is then taken. Past the last power it adds nothing (own). A folder that wraps this one takes its constraints in
-    /// by this call.
+    /// is then taken. Past the last power it adds nothing (not in Plonky3). A folder that wraps this one takes its
+    /// constraints in by this call.
     pub fn fold_in(&mut self, x: E)
-        ensures same { given_of self.new ≡ given_of self.old }
-        ensures sum { sum_of self.new ≡ added_to E.ring (sum_of self.old).left self.old.accumulator x }
-        ensures index { powers_of self.new ≡ powers_of self.old }
+        ensures unchanged { folder_inputs_of self.new ≡ folder_inputs_of self.old }
+        ensures sum { folder_sum_of self.new ≡ added_to E.ring (folder_sum_of self.old).left self.old.accumulator x }
+        ensures index { power_count self.new ≡ power_count self.old }
     {
         if self.constraint_index < self.alpha_powers.len() {
             let power = self.alpha_powers[self.constraint_index];
@@ -84,23 +84,24 @@ impl<'a, F: Field, E: ExtensionField<F>> ProverFolder<'a, F, E> {
 }
 
 impl<'a, F: Field, E: ExtensionField<F>> AirBuilder for ProverFolder<'a, F, E> {
-    ghost use Rattle.p3_uni_stark.specs.ProverState.{values_of, given_of, sum_of, powers_of};
+    ghost use Rattle.p3_uni_stark.specs.ProverState.{folder_values_of, folder_inputs_of, folder_sum_of, power_count};
 
     type F = F;
 
     type Expr = F;
 
-    ghost stands = { λ b e t. E.embed e ≡ ev (reading E.ring E.embed (embedded E.embed (values_of b))) t };
+    ghost represents = { λ b e t. E.embed e ≡ eval_tree (point_reading E.ring E.embed (embedded E.embed (folder_values_of b))) t };
 
-    ghost later = { λ a b. given_of b ≡ given_of a };
+    ghost later = { λ a b. folder_inputs_of b ≡ folder_inputs_of a };
 
-    ghost grows = { λ a b ts is. (given_of b ≡ given_of a) × (sum_of b ≡ weighed_from E.ring (sum_of a) (map (ev_asserted (reading E.ring E.embed (embedded E.embed (values_of a)))) ts)) × (powers_of b ≡ powers_of a) };
+    ghost appends = { λ a b ts is. (folder_inputs_of b ≡ folder_inputs_of a)
+        × (folder_sum_of b ≡ weighed_from E.ring (folder_sum_of a) (map (eval_asserted (point_reading E.ring E.embed (embedded E.embed (folder_values_of a)))) ts)) × (power_count b ≡ power_count a) };
 
-    ghost asserts = { λ a x b. (given_of b ≡ given_of a) × (sum_of b ≡ added_to E.ring (sum_of a).left a.accumulator (E.embed x)) × (powers_of b ≡ powers_of a) };
+    ghost asserts = { λ a x b. (folder_inputs_of b ≡ folder_inputs_of a) × (folder_sum_of b ≡ added_to E.ring (folder_sum_of a).left a.accumulator (E.embed x)) × (power_count b ≡ power_count a) };
 
     ghost computes = { λ a op x y b e. e ≡ value_by F.ring op x y };
 
-    ghost shape = { λ b. point_shape (values_of b) };
+    ghost shape = { λ b. point_shape (folder_values_of b) };
 
     ghost never_fails = { true };
 
@@ -137,31 +138,37 @@ impl<'a, F: Field, E: ExtensionField<F>> AirBuilder for ProverFolder<'a, F, E> {
 
     ghost later_along = { λ a b c p q. q ∙ p };
 
-    ghost later_shape = { λ a b p. shape_along (λ o. o.values) (given_of a) (given_of b) p };
+    ghost later_shape = { λ a b p. shape_along (λ o. o.values) (folder_inputs_of a) (folder_inputs_of b) p };
 
-    ghost persists = { λ a b h e t k. value_persists (λ o. reading E.ring E.embed (embedded E.embed o.values)) (given_of a) (given_of b) (E.embed e) t h k };
+    ghost persists = { λ a b h e t k. value_persists (λ o. point_reading E.ring E.embed (embedded E.embed o.values)) (folder_inputs_of a) (folder_inputs_of b) (E.embed e) t h k };
 
-    ghost grows_same = { λ a. (refl, refl, refl) };
+    ghost appends_none = { λ a. (refl, refl, refl) };
 
-    ghost grows_later = { λ a b t i h. h.0 };
+    ghost appends_later = { λ a b t i h. h.0 };
 
-    ghost grows_along = { λ a b c s t i j p q. (q.0 ∙ p.0, weighed_along E.ring (λ o. reading E.ring E.embed (embedded E.embed o.values)) (given_of a) (given_of b) (sum_of a) (sum_of b) (sum_of c) s t p.0 p.1 q.1, q.2 ∙ p.2) };
+    ghost appends_along = { λ a b c s t i j p q. (
+      q.0 ∙ p.0,
+      weighed_along E.ring (λ o. point_reading E.ring E.embed (embedded E.embed o.values)) (folder_inputs_of a)
+          (folder_inputs_of b) (folder_sum_of a) (folder_sum_of b) (folder_sum_of c) s t p.0 p.1 q.1,
+      q.2 ∙ p.2,
+    ) };
 
     ghost never_fails_sure = { λ h. h };
 
-    ghost computes_stands = { λ a b h op x y e s t k l q. base_value_by_persists F.ring F.ring_laws E.ring E.ring_laws E.embed E.embed_laws (λ o. embedded E.embed o.values) (given_of a) (given_of b) op x y e s t h k l q };
+    ghost computes_represents = { λ a b h op x y e s t k l q. base_value_by_persists F.ring F.ring_laws E.ring E.ring_laws E.embed E.embed_laws
+        (λ o. embedded E.embed o.values) (folder_inputs_of a) (folder_inputs_of b) op x y e s t h k l q };
 
-    ghost asserts_grows = { λ a b x t h k. (k.0, k.1 ∙ ap (added_to E.ring (sum_of a).left a.accumulator) h, k.2) };
+    ghost asserts_appends = { λ a b x t h k. (k.0, k.1 ∙ ap (added_to E.ring (folder_sum_of a).left a.accumulator) h, k.2) };
 }
 
 impl<'a, F: Field, E: ExtensionField<F>> ExtensionBuilder for ProverFolder<'a, F, E> {
-    ghost use Rattle.p3_uni_stark.specs.ProverState.{values_of, given_of, sum_of, powers_of};
+    ghost use Rattle.p3_uni_stark.specs.ProverState.{folder_values_of, folder_inputs_of, folder_sum_of, power_count};
 
     type ExprEF = E;
 
-    ghost stands_ext = { λ b e t. e ≡ ev (reading E.ring E.embed (embedded E.embed (values_of b))) t };
+    ghost represents_ext = { λ b e t. e ≡ eval_tree (point_reading E.ring E.embed (embedded E.embed (folder_values_of b))) t };
 
-    ghost asserts_ext = { λ a x b. (given_of b ≡ given_of a) × (sum_of b ≡ added_to E.ring (sum_of a).left a.accumulator x) × (powers_of b ≡ powers_of a) };
+    ghost asserts_ext = { λ a x b. (folder_inputs_of b ≡ folder_inputs_of a) × (folder_sum_of b ≡ added_to E.ring (folder_sum_of a).left a.accumulator x) × (power_count b ≡ power_count a) };
 
     ghost computes_ext = { λ a op x y b e. e ≡ value_by E.ring op x y };
 
@@ -190,13 +197,13 @@ impl<'a, F: Field, E: ExtensionField<F>> ExtensionBuilder for ProverFolder<'a, F
 
     ghost arrays_fit_ext = { E.arrays_fit };
 
-    ghost persists_ext = { λ a b h e t k. value_persists (λ o. reading E.ring E.embed (embedded E.embed o.values)) (given_of a) (given_of b) e t h k };
+    ghost persists_ext = { λ a b h e t k. value_persists (λ o. point_reading E.ring E.embed (embedded E.embed o.values)) (folder_inputs_of a) (folder_inputs_of b) e t h k };
 
-    ghost computes_ext_stands = { λ a b h op x y e s t k l q. value_by_persists E.ring E.embed (λ o. embedded E.embed o.values) (given_of a) (given_of b) op x y e s t h k l q };
+    ghost computes_ext_represents = { λ a b h op x y e s t k l q. value_by_persists E.ring E.embed (λ o. embedded E.embed o.values) (folder_inputs_of a) (folder_inputs_of b) op x y e s t h k l q };
 
-    ghost lifts_stands = { λ a b h x e t k q. value_persists (λ o. reading E.ring E.embed (embedded E.embed o.values)) (given_of a) (given_of b) e t h (q ∙ k) };
+    ghost lifts_represents = { λ a b h x e t k q. value_persists (λ o. point_reading E.ring E.embed (embedded E.embed o.values)) (folder_inputs_of a) (folder_inputs_of b) e t h (q ∙ k) };
 
-    ghost asserts_ext_grows = { λ a b x t h k. (k.0, k.1 ∙ ap (added_to E.ring (sum_of a).left a.accumulator) h, k.2) };
+    ghost asserts_ext_appends = { λ a b x t h k. (k.0, k.1 ∙ ap (added_to E.ring (folder_sum_of a).left a.accumulator) h, k.2) };
 }
 
 impl<'a, F: Field, E: ExtensionField<F>> PermutationAirBuilder for ProverFolder<'a, F, E> {
@@ -206,19 +213,23 @@ impl<'a, F: Field, E: ExtensionField<F>> PermutationAirBuilder for ProverFolder<
 }
 
 impl<'a, F: Field, E: ExtensionField<F>> InteractionBuilder for ProverFolder<'a, F, E> {
-    ghost use Rattle.p3_uni_stark.specs.ProverState.{values_of, given_of, sum_of, powers_of};
+    ghost use Rattle.p3_uni_stark.specs.ProverState.{folder_values_of, folder_inputs_of, folder_sum_of, power_count};
 
-    ghost sends = { λ a bus xs cs b. (given_of b ≡ given_of a) × (sum_of b ≡ sum_of a) × (powers_of b ≡ powers_of a) };
+    ghost sends = { λ a bus xs cs b. (folder_inputs_of b ≡ folder_inputs_of a) × (folder_sum_of b ≡ folder_sum_of a) × (power_count b ≡ power_count a) };
 
     fn push_interaction(&mut self, _bus_name: &str, fields: &[F], count: Count<F>) -> Mem<()>
-        ensures later { given_of self.new ≡ given_of self.old }
-        ensures same { point_shape (values_of self.new) ≡ point_shape (values_of self.old) }
+        ensures later { folder_inputs_of self.new ≡ folder_inputs_of self.old }
+        ensures keeps_shape { point_shape (folder_values_of self.new) ≡ point_shape (folder_values_of self.old) }
         ensures answers { IsTrue true → IsOk result }
-        ensures grows { (fs : List (Tree F)) (v : Tree F) → Stand (λ e t. E.embed e ≡ ev (reading E.ring E.embed (embedded E.embed (values_of self.old))) t) fields.now fs → E.embed count.value ≡ ev (reading E.ring E.embed (embedded E.embed (values_of self.old))) v
-            → IfOk result (λ _. (given_of self.new ≡ given_of self.old) × (sum_of self.new ≡ weighed_from E.ring (sum_of self.old) []) × (powers_of self.new ≡ powers_of self.old)) }
+        ensures appends { (fs : List (Tree F)) (v : Tree F)
+            → Represent (λ e t. E.embed e ≡ eval_tree (point_reading E.ring E.embed (embedded E.embed (folder_values_of self.old))) t) fields.now fs → E.embed count.value
+            ≡ eval_tree (point_reading E.ring E.embed (embedded E.embed (folder_values_of self.old))) v
+            → IfOk result (λ _. (folder_inputs_of self.new ≡ folder_inputs_of self.old) × (folder_sum_of self.new ≡ weighed_from E.ring (folder_sum_of self.old) [])
+            × (power_count self.new ≡ power_count self.old)) }
         ensures sure { IsTrue true → IsOk result }
-        ensures sends { IfOk result (λ _. (given_of self.new ≡ given_of self.old) × (sum_of self.new ≡ sum_of self.old) × (powers_of self.new ≡ powers_of self.old)) }
-        ensures refused { OnErr result ((given_of self.new ≡ given_of self.old) × (sum_of self.new ≡ weighed_from E.ring (sum_of self.old) []) × (powers_of self.new ≡ powers_of self.old)) }
+        ensures sends { IfOk result (λ _. (folder_inputs_of self.new ≡ folder_inputs_of self.old) × (folder_sum_of self.new ≡ folder_sum_of self.old) × (power_count self.new ≡ power_count self.old)) }
+        ensures on_error { OnErr result ((folder_inputs_of self.new ≡ folder_inputs_of self.old)
+            × (folder_sum_of self.new ≡ weighed_from E.ring (folder_sum_of self.old) []) × (power_count self.new ≡ power_count self.old)) }
     {
         Ok(())
     }
@@ -227,5 +238,5 @@ impl<'a, F: Field, E: ExtensionField<F>> InteractionBuilder for ProverFolder<'a,
         Ok(())
     }
 
-    ghost sends_grows = { λ a b bus xs cs fs vs h k e. e };
+    ghost sends_appends = { λ a b bus xs cs fs vs h k e. e };
 }

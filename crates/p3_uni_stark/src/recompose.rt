@@ -2,8 +2,8 @@
 ghost use Rattle.std.specs.Prelude.{◌≡◌, ℕ, ◌+◌, ◌<◌, ◌^◌, ◌↔◌, IsTrue, length, map, get_or};
 ghost use Rattle.std.specs.List.{All};
 ghost use Rattle.p3_field.specs.Field.{combine};
-ghost use Rattle.p3_field.specs.Poly.{val, product};
-ghost use Rattle.p3_field.specs.Domain.{van, point};
+ghost use Rattle.p3_field.specs.Poly.{eval_poly, product};
+ghost use Rattle.p3_field.specs.Domain.{vanishing_polynomial, point};
 ghost use Rattle.p3_commit.specs.Space.{IsPoint};
 ghost use Rattle.p3_uni_stark.specs.Recombine.{domain_at, IsDisjointFrom, AllDisjoint, chunk_weight, recombined};
 
@@ -30,7 +30,7 @@ fn is_disjoint_from_others<F: TwoAdicField>(
     true
 }
 
-/// Whether no two domains of the list share a point (own).
+/// Whether no two domains of the list share a point (not in Plonky3).
 pub fn are_all_disjoint<F: TwoAdicField>(domains: &[TwoAdicMultiplicativeCoset<F>]) -> bool
     ensures { IsTrue result ↔ AllDisjoint (record { ring = F.ring; inv = F.inv; root = F.root; generator = F.GENERATOR }) domains.now }
 {
@@ -47,8 +47,9 @@ fn vanishing_product<F: TwoAdicField, EF: ExtensionField<F>>(
     domains: &[TwoAdicMultiplicativeCoset<F>],
     x: EF,
 ) -> EF
-    ensures value { result ≡ product EF.ring (length domains.now) (λ j. val EF.ring (map EF.embed (van F.ring F.inv (domain_at F.ring domains.now j))) x) }
-    ensures nonzero { ((j : ℕ) → j < length domains.now → IsPoint (2 ^ (domain_at F.ring domains.now j).log_size) (point F.ring F.root (domain_at F.ring domains.now j)) EF.embed x → ⊥) → result ≡ EF.ring.zero → ⊥ }
+    ensures value { result ≡ product EF.ring (length domains.now) (λ j. eval_poly EF.ring (map EF.embed (vanishing_polynomial F.ring F.inv (domain_at F.ring domains.now j))) x) }
+    ensures nonzero { ((j : ℕ) → j < length domains.now
+        → IsPoint (2 ^ (domain_at F.ring domains.now j).log_size) (point F.ring F.root (domain_at F.ring domains.now j)) EF.embed x → ⊥) → result ≡ EF.ring.zero → ⊥ }
 {
     let mut product = EF::ONE;
     for domain in domains {
@@ -65,13 +66,14 @@ fn weight_at<F: TwoAdicField, EF: ExtensionField<F>>(
 ) -> EF
     requires chunk { chunk < length domains.now }
     requires disjoint { AllDisjoint (record { ring = F.ring; inv = F.inv; root = F.root; generator = F.GENERATOR }) domains.now }
-    ensures { result ≡ chunk_weight (record { ring = F.ring; inv = F.inv; root = F.root; generator = F.GENERATOR }) (record { ring = EF.ring; embed = EF.embed; dimension = EF.DIMENSION; basis = EF.basis; parts = EF.parts; whole = EF.whole }) domains.now chunk x }
+    ensures { result ≡ chunk_weight (record { ring = F.ring; inv = F.inv; root = F.root; generator = F.GENERATOR })
+        (record { ring = EF.ring; embed = EF.embed; dimension = EF.DIMENSION; basis = EF.basis; coefficients = EF.coefficients; from_coefficients = EF.from_coefficients }) domains.now chunk x }
 {
     let before = &domains[..chunk];
-    let behind = &domains[chunk + 1..];
+    let after = &domains[chunk + 1..];
     let first = domains[chunk].first_point();
-    let scale = vanishing_product(before, first) * vanishing_product(behind, first);
-    vanishing_product(before, x) * vanishing_product(behind, x) * EF::from_base(scale.inverse())
+    let scale = vanishing_product(before, first) * vanishing_product(after, first);
+    vanishing_product(before, x) * vanishing_product(after, x) * EF::from_base(scale.inverse())
 }
 
 // The value of a chunk, from those of its coefficient columns.
@@ -97,7 +99,15 @@ pub fn recomposed_quotient<F: TwoAdicField, EF: ExtensionField<F>>(
     requires one_for_each { length chunks.now ≡ length domains.now }
     requires disjoint { AllDisjoint (record { ring = F.ring; inv = F.inv; root = F.root; generator = F.GENERATOR }) domains.now }
     requires dimension { All (λ c. length c.items ≡ EF.DIMENSION) chunks.now }
-    ensures { result ≡ recombined (record { ring = F.ring; inv = F.inv; root = F.root; generator = F.GENERATOR }) (record { ring = EF.ring; embed = EF.embed; dimension = EF.DIMENSION; basis = EF.basis; parts = EF.parts; whole = EF.whole }) domains.now (map (λ c. c.items) chunks.now) x }
+    ensures { result ≡ recombined (record { ring = F.ring; inv = F.inv; root = F.root; generator = F.GENERATOR })
+        (record {
+          ring = EF.ring;
+          embed = EF.embed;
+          dimension = EF.DIMENSION;
+          basis = EF.basis;
+          coefficients = EF.coefficients;
+          from_coefficients = EF.from_coefficients;
+        }) domains.now (map (λ c. c.items) chunks.now) x }
 {
     let mut sum = EF::ZERO;
     for (chunk, values) in chunks.iter().enumerate() {
@@ -115,7 +125,15 @@ pub fn recompose_quotient_from_chunks<SC: StarkGenericConfig>(
     requires one_for_each { length chunks.now ≡ length domains.now }
     requires disjoint { AllDisjoint (record { ring = SC.Val.ring; inv = SC.Val.inv; root = SC.Val.root; generator = SC.Val.GENERATOR }) domains.now }
     requires dimension { All (λ c. length c.items ≡ SC.Challenge.DIMENSION) chunks.now }
-    ensures { result ≡ recombined (record { ring = SC.Val.ring; inv = SC.Val.inv; root = SC.Val.root; generator = SC.Val.GENERATOR }) (record { ring = SC.Challenge.ring; embed = SC.Challenge.embed; dimension = SC.Challenge.DIMENSION; basis = SC.Challenge.basis; parts = SC.Challenge.parts; whole = SC.Challenge.whole }) domains.now (map (λ c. c.items) chunks.now) zeta }
+    ensures { result ≡ recombined (record { ring = SC.Val.ring; inv = SC.Val.inv; root = SC.Val.root; generator = SC.Val.GENERATOR })
+        (record {
+          ring = SC.Challenge.ring;
+          embed = SC.Challenge.embed;
+          dimension = SC.Challenge.DIMENSION;
+          basis = SC.Challenge.basis;
+          coefficients = SC.Challenge.coefficients;
+          from_coefficients = SC.Challenge.from_coefficients;
+        }) domains.now (map (λ c. c.items) chunks.now) zeta }
 {
     recomposed_quotient(domains, chunks, zeta)
 }

@@ -1,10 +1,10 @@
 //! The verifier's constraint folder.
 ghost use Rattle.std.specs.Prelude.{◌≡◌, List, [], ◌∷◌, ◌%◌, ◌<◌, IfOk, OnErr, IsOk, IsTrue, true, length, map, refl};
 ghost use Rattle.std.proofs.Common.{◌∙◌, ap};
-ghost use Rattle.p3_air.specs.Tree.{Tree, ev, ev_asserted, Stand, StandCount};
+ghost use Rattle.p3_air.specs.Tree.{Tree, eval_tree, eval_asserted, Represent, RepresentsCount};
 ghost use Rattle.p3_air.specs.declared.cells.Count.{Count as CountOf};
 ghost use Rattle.p3_uni_stark.specs.Fold.{fold_from};
-ghost use Rattle.p3_uni_stark.specs.Point.{reading, point_shape};
+ghost use Rattle.p3_uni_stark.specs.Point.{point_reading, point_shape};
 ghost use Rattle.p3_uni_stark.specs.Laws.Folders.{shape_along, value_persists, value_by_persists, folded_along};
 ghost use Rattle.p3_air.specs.Operation.{value_by};
 
@@ -44,11 +44,11 @@ pub struct VerifierFolder<'a, F, E> {
 }
 
 impl<'a, F: Field, E: ExtensionField<F>> VerifierFolder<'a, F, E> {
-    ghost use Rattle.p3_uni_stark.specs.VerifierState.{opened_of};
+    ghost use Rattle.p3_uni_stark.specs.VerifierState.{folder_opened_of};
 
     // The values that it reads.
     fn cells(&self) -> BaseCells<'a, F, E>
-        ensures { result ≡ (opened_of self.now).values }
+        ensures { result ≡ (folder_opened_of self.now).values }
     {
         BaseCells {
             main_local: self.main_local,
@@ -64,9 +64,9 @@ impl<'a, F: Field, E: ExtensionField<F>> VerifierFolder<'a, F, E> {
     }
 
     /// Folds one more value in, be it a constraint's value or not: the sum times the challenge, plus the
-    /// value (own). A folder that wraps this one takes its constraints in by this call.
+    /// value (not in Plonky3). A folder that wraps this one takes its constraints in by this call.
     pub fn fold_in(&mut self, x: E)
-        ensures same { opened_of self.new ≡ opened_of self.old }
+        ensures unchanged { folder_opened_of self.new ≡ folder_opened_of self.old }
         ensures sum { self.new.accumulator ≡ E.ring.add (E.ring.mul self.old.accumulator self.old.alpha) x }
     {
         self.accumulator = self.accumulator * self.alpha + x;
@@ -74,23 +74,24 @@ impl<'a, F: Field, E: ExtensionField<F>> VerifierFolder<'a, F, E> {
 }
 
 impl<'a, F: Field, E: ExtensionField<F>> AirBuilder for VerifierFolder<'a, F, E> {
-    ghost use Rattle.p3_uni_stark.specs.VerifierState.{opened_of};
+    ghost use Rattle.p3_uni_stark.specs.VerifierState.{folder_opened_of};
 
     type F = F;
 
     type Expr = E;
 
-    ghost stands = { λ b e t. e ≡ ev (reading E.ring E.embed (opened_of b).values) t };
+    ghost represents = { λ b e t. e ≡ eval_tree (point_reading E.ring E.embed (folder_opened_of b).values) t };
 
-    ghost later = { λ a b. opened_of b ≡ opened_of a };
+    ghost later = { λ a b. folder_opened_of b ≡ folder_opened_of a };
 
-    ghost grows = { λ a b ts is. (opened_of b ≡ opened_of a) × (b.accumulator ≡ fold_from E.ring a.alpha a.accumulator (map (ev_asserted (reading E.ring E.embed (opened_of a).values)) ts)) };
+    ghost appends = { λ a b ts is. (folder_opened_of b ≡ folder_opened_of a)
+        × (b.accumulator ≡ fold_from E.ring a.alpha a.accumulator (map (eval_asserted (point_reading E.ring E.embed (folder_opened_of a).values)) ts)) };
 
-    ghost asserts = { λ a x b. (opened_of b ≡ opened_of a) × (b.accumulator ≡ E.ring.add (E.ring.mul a.accumulator a.alpha) x) };
+    ghost asserts = { λ a x b. (folder_opened_of b ≡ folder_opened_of a) × (b.accumulator ≡ E.ring.add (E.ring.mul a.accumulator a.alpha) x) };
 
     ghost computes = { λ a op x y b e. e ≡ value_by E.ring op x y };
 
-    ghost shape = { λ b. point_shape (opened_of b).values };
+    ghost shape = { λ b. point_shape (folder_opened_of b).values };
 
     ghost never_fails = { true };
 
@@ -127,31 +128,35 @@ impl<'a, F: Field, E: ExtensionField<F>> AirBuilder for VerifierFolder<'a, F, E>
 
     ghost later_along = { λ a b c p q. q ∙ p };
 
-    ghost later_shape = { λ a b p. shape_along (λ o. o.values) (opened_of a) (opened_of b) p };
+    ghost later_shape = { λ a b p. shape_along (λ o. o.values) (folder_opened_of a) (folder_opened_of b) p };
 
-    ghost persists = { λ a b h e t k. value_persists (λ o. reading E.ring E.embed o.values) (opened_of a) (opened_of b) e t h k };
+    ghost persists = { λ a b h e t k. value_persists (λ o. point_reading E.ring E.embed o.values) (folder_opened_of a) (folder_opened_of b) e t h k };
 
-    ghost grows_same = { λ a. (refl, refl) };
+    ghost appends_none = { λ a. (refl, refl) };
 
-    ghost grows_later = { λ a b t i h. h.0 };
+    ghost appends_later = { λ a b t i h. h.0 };
 
-    ghost grows_along = { λ a b c s t i j p q. (q.0 ∙ p.0, folded_along E.ring (λ o. reading E.ring E.embed o.values) (λ o. o.alpha) (opened_of a) (opened_of b) a.accumulator b.accumulator c.accumulator s t p.0 p.1 q.1) };
+    ghost appends_along = { λ a b c s t i j p q. (
+      q.0 ∙ p.0,
+      folded_along E.ring (λ o. point_reading E.ring E.embed o.values) (λ o. o.alpha) (folder_opened_of a)
+          (folder_opened_of b) a.accumulator b.accumulator c.accumulator s t p.0 p.1 q.1,
+    ) };
 
     ghost never_fails_sure = { λ h. h };
 
-    ghost computes_stands = { λ a b h op x y e s t k l q. value_by_persists E.ring E.embed (λ o. o.values) (opened_of a) (opened_of b) op x y e s t h k l q };
+    ghost computes_represents = { λ a b h op x y e s t k l q. value_by_persists E.ring E.embed (λ o. o.values) (folder_opened_of a) (folder_opened_of b) op x y e s t h k l q };
 
-    ghost asserts_grows = { λ a b x t h k. (k.0, k.1 ∙ ap (E.ring.add (E.ring.mul a.accumulator a.alpha)) h) };
+    ghost asserts_appends = { λ a b x t h k. (k.0, k.1 ∙ ap (E.ring.add (E.ring.mul a.accumulator a.alpha)) h) };
 }
 
 impl<'a, F: Field, E: ExtensionField<F>> ExtensionBuilder for VerifierFolder<'a, F, E> {
-    ghost use Rattle.p3_uni_stark.specs.VerifierState.{opened_of};
+    ghost use Rattle.p3_uni_stark.specs.VerifierState.{folder_opened_of};
 
     type ExprEF = E;
 
-    ghost stands_ext = { λ b e t. e ≡ ev (reading E.ring E.embed (opened_of b).values) t };
+    ghost represents_ext = { λ b e t. e ≡ eval_tree (point_reading E.ring E.embed (folder_opened_of b).values) t };
 
-    ghost asserts_ext = { λ a x b. (opened_of b ≡ opened_of a) × (b.accumulator ≡ E.ring.add (E.ring.mul a.accumulator a.alpha) x) };
+    ghost asserts_ext = { λ a x b. (folder_opened_of b ≡ folder_opened_of a) × (b.accumulator ≡ E.ring.add (E.ring.mul a.accumulator a.alpha) x) };
 
     ghost computes_ext = { λ a op x y b e. e ≡ value_by E.ring op x y };
 
@@ -180,13 +185,13 @@ impl<'a, F: Field, E: ExtensionField<F>> ExtensionBuilder for VerifierFolder<'a,
 
     ghost arrays_fit_ext = { E.arrays_fit };
 
-    ghost persists_ext = { λ a b h e t k. value_persists (λ o. reading E.ring E.embed o.values) (opened_of a) (opened_of b) e t h k };
+    ghost persists_ext = { λ a b h e t k. value_persists (λ o. point_reading E.ring E.embed o.values) (folder_opened_of a) (folder_opened_of b) e t h k };
 
-    ghost computes_ext_stands = { λ a b h op x y e s t k l q. value_by_persists E.ring E.embed (λ o. o.values) (opened_of a) (opened_of b) op x y e s t h k l q };
+    ghost computes_ext_represents = { λ a b h op x y e s t k l q. value_by_persists E.ring E.embed (λ o. o.values) (folder_opened_of a) (folder_opened_of b) op x y e s t h k l q };
 
-    ghost lifts_stands = { λ a b h x e t k q. value_persists (λ o. reading E.ring E.embed o.values) (opened_of a) (opened_of b) e t h (q ∙ k) };
+    ghost lifts_represents = { λ a b h x e t k q. value_persists (λ o. point_reading E.ring E.embed o.values) (folder_opened_of a) (folder_opened_of b) e t h (q ∙ k) };
 
-    ghost asserts_ext_grows = { λ a b x t h k. (k.0, k.1 ∙ ap (E.ring.add (E.ring.mul a.accumulator a.alpha)) h) };
+    ghost asserts_ext_appends = { λ a b x t h k. (k.0, k.1 ∙ ap (E.ring.add (E.ring.mul a.accumulator a.alpha)) h) };
 }
 
 impl<'a, F: Field, E: ExtensionField<F>> PermutationAirBuilder for VerifierFolder<'a, F, E> {
@@ -196,19 +201,21 @@ impl<'a, F: Field, E: ExtensionField<F>> PermutationAirBuilder for VerifierFolde
 }
 
 impl<'a, F: Field, E: ExtensionField<F>> InteractionBuilder for VerifierFolder<'a, F, E> {
-    ghost use Rattle.p3_uni_stark.specs.VerifierState.{opened_of};
+    ghost use Rattle.p3_uni_stark.specs.VerifierState.{folder_opened_of};
 
-    ghost sends = { λ a bus xs cs b. (opened_of b ≡ opened_of a) × (b.accumulator ≡ a.accumulator) };
+    ghost sends = { λ a bus xs cs b. (folder_opened_of b ≡ folder_opened_of a) × (b.accumulator ≡ a.accumulator) };
 
     fn push_interaction(&mut self, _bus_name: &str, fields: &[E], count: Count<E>) -> Mem<()>
-        ensures later { opened_of self.new ≡ opened_of self.old }
-        ensures same { point_shape (opened_of self.new).values ≡ point_shape (opened_of self.old).values }
+        ensures later { folder_opened_of self.new ≡ folder_opened_of self.old }
+        ensures keeps_shape { point_shape (folder_opened_of self.new).values ≡ point_shape (folder_opened_of self.old).values }
         ensures answers { IsTrue true → IsOk result }
-        ensures grows { (fs : List (Tree F)) (v : Tree F) → Stand (λ e t. e ≡ ev (reading E.ring E.embed (opened_of self.old).values) t) fields.now fs → count.value ≡ ev (reading E.ring E.embed (opened_of self.old).values) v
-            → IfOk result (λ _. (opened_of self.new ≡ opened_of self.old) × (self.new.accumulator ≡ fold_from E.ring self.old.alpha self.old.accumulator [])) }
+        ensures appends { (fs : List (Tree F)) (v : Tree F)
+            → Represent (λ e t. e ≡ eval_tree (point_reading E.ring E.embed (folder_opened_of self.old).values) t) fields.now fs → count.value
+            ≡ eval_tree (point_reading E.ring E.embed (folder_opened_of self.old).values) v
+            → IfOk result (λ _. (folder_opened_of self.new ≡ folder_opened_of self.old) × (self.new.accumulator ≡ fold_from E.ring self.old.alpha self.old.accumulator [])) }
         ensures sure { IsTrue true → IsOk result }
-        ensures sends { IfOk result (λ _. (opened_of self.new ≡ opened_of self.old) × (self.new.accumulator ≡ self.old.accumulator)) }
-        ensures refused { OnErr result ((opened_of self.new ≡ opened_of self.old) × (self.new.accumulator ≡ fold_from E.ring self.old.alpha self.old.accumulator [])) }
+        ensures sends { IfOk result (λ _. (folder_opened_of self.new ≡ folder_opened_of self.old) × (self.new.accumulator ≡ self.old.accumulator)) }
+        ensures on_error { OnErr result ((folder_opened_of self.new ≡ folder_opened_of self.old) × (self.new.accumulator ≡ fold_from E.ring self.old.alpha self.old.accumulator [])) }
     {
         Ok(())
     }
@@ -217,5 +224,5 @@ impl<'a, F: Field, E: ExtensionField<F>> InteractionBuilder for VerifierFolder<'
         Ok(())
     }
 
-    ghost sends_grows = { λ a b bus xs cs fs vs h k e. e };
+    ghost sends_appends = { λ a b bus xs cs fs vs h k e. e };
 }

@@ -5,10 +5,10 @@ use Rattle.std.proofs.lemmas.List.{length-map, get_or-map, get_or_default, ext_g
 use Rattle.std.proofs.lemmas.Option.{slice_get-get_or}
 use Rattle.p3_field.specs.Ring.{Ring, RingLaws}
 use Rattle.p3_field.specs.Field.{FieldLaws, TwoAdicLaws}
-use Rattle.p3_field.specs.Poly.{val, Apart, DegreeBelow}
+use Rattle.p3_field.specs.Poly.{eval_poly, Apart, DegreeBelow}
 use Rattle.p3_field.specs.Checks.{check, NoneFails, in_turn, of_items}
 use Rattle.p3_field.specs.Domain.{CosetData, point}
-use Rattle.p3_field.specs.Laws.Checks.{none_before, none_behind, holds_alone, none_at, none_at_item}
+use Rattle.p3_field.specs.Laws.Checks.{none_before, none_after, holds_alone, none_at, none_at_item}
 use Rattle.p3_field.specs.Laws.Interpolants.{interpolant_unique, points_apart}
 use Rattle.p3_matrix.specs.Matrix.{Rows, height, column}
 use Rattle.p3_matrix.specs.Laws.Cells.{length-column}
@@ -16,7 +16,7 @@ use Rattle.p3_commit.specs.Claims.{PointClaim, MatrixClaim, CommitmentClaim}
 use Rattle.plain_pcs.specs.Scheme.{Scheme, PlainCommitmentData}
 use Rattle.plain_pcs.specs.Extension.{extended_domain, interpolant}
 use Rattle.plain_pcs.specs.Checks.{HasDimensions, IsColumnPolynomial, HasLowDegree, HasValue, Opens}
-use Rattle.plain_pcs.specs.Checks.{degree_check, value_check, point_checks, matrix_checks, round_checks, checks}
+use Rattle.plain_pcs.specs.Checks.{degree_check, value_check, point_checks, matrix_checks, round_checks, opening_claim_checks}
 use Rattle.plain_pcs.specs.Binding.{IsBound}
 use Rattle.plain_pcs.specs.Laws.Extensions.{polynomials, length-polynomials, get_or-polynomials, is_interpolant}
 use Rattle.plain_pcs.specs.Laws.Listed.{zip_item}
@@ -52,10 +52,10 @@ module _ {F E : Type 0} (s : Scheme F) (ring : Ring E) (embed : F → E)
 
     valued : (p : PointClaim E) → length p.values ≡ m.width
         → ((j : ℕ) → j < m.width → HasValue s ring embed m d.domain.log_size j p.point (get_or p.values j ring.zero))
-        → p.values ≡ map (λ f. val ring (map embed f) p.point) fs
+        → p.values ≡ map (λ f. eval_poly ring (map embed f) p.point) fs
     valued p wide value =
         let k = d.domain.log_size in
-        let at = λ (f : List F). val ring (map embed f) p.point in
+        let at = λ (f : List F). eval_poly ring (map embed f) p.point in
         let long = length-polynomials s (extended_domain s k) m in
         ext_get_or ring.zero p.values (map at fs) (wide ∙ sym (length-map fs at ∙ long)) (λ j h.
         let b : j < m.width = omega (arith, h, wide) in
@@ -66,7 +66,7 @@ module _ {F E : Type 0} (s : Scheme F) (ring : Ring E) (embed : F → E)
   pub opened_bound : (claims : List (CommitmentClaim E (PlainCommitmentData F) (CosetData F))) → Opens s ring embed claims
       → (round i : ℕ) (c : CommitmentClaim E (PlainCommitmentData F) (CosetData F)) (m : Rows F) (d : MatrixClaim E (CosetData F))
       → slice_get claims round ≡ Some c → slice_get c.commitment.matrices i ≡ Some m → slice_get c.matrices i ≡ Some d → IsBound s ring embed m d
-  unfolding NoneFails checks
+  unfolding NoneFails opening_claim_checks
   opened_bound claims opens round i c m d at_round at_matrix at_claim =
       let k = d.domain.log_size in
       let whole = none_at_item (round_checks s ring embed) claims round c at_round opens in
@@ -81,7 +81,7 @@ module _ {F E : Type 0} (s : Scheme F) (ring : Ring E) (embed : F → E)
             (none_at (degree_check s ring embed round i m k) m.width j b (none_before degrees values here.1)));
         values_are = λ a e h.
             let p = get_or d.points a e in
-            let part = none_at_item (point_checks s ring embed round i m k) d.points a p (slice_get-get_or d.points a e h) (none_behind degrees values here.1) in
+            let part = none_at_item (point_checks s ring embed round i m k) d.points a p (slice_get-get_or d.points a e h) (none_after degrees values here.1) in
             valued m d here.0 p (here.0.widths_are a e h) (λ j b. holds_alone (check (Value round i a j) (HasValue s ring embed m k j p.point (get_or p.values j ring.zero)))
             (none_at (value_check s ring embed round i m k a p) m.width j b part));
       }

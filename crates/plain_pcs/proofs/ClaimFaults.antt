@@ -5,20 +5,20 @@ use Rattle.p3_field.specs.Ring.{Ring}
 use Rattle.p3_field.specs.Checks.{Check, check, in_turn, IsFirstFailing}
 use Rattle.p3_field.specs.Laws.Checks.{first_here, first_stops, first_after, refusal_later, none_alone, first_by}
 use Rattle.plain_pcs.specs.Multilinear.{multilinear_value}
-use Rattle.plain_pcs.specs.PlainMultilinear.{HasValues, HaveCoordinates, IsFirstUnfit, IsFirstDifferent, values_at, point_check, value_check, IsClaimFault}
+use Rattle.plain_pcs.specs.PlainMultilinear.{HasValues, HaveCoordinates, IsFirstUnfit, IsFirstDifferent, multilinear_values_at, point_check, multilinear_value_check, IsClaimFault}
 use Rattle.plain_pcs.specs.Laws.Claims.{points_pass}
 use Rattle.plain_pcs.specs.declared.plain_multilinear.PlainMultilinearError.{PlainMultilinearError}
 use Rattle.plain_pcs.specs.declared.plain_multilinear.PlainMultilinearError.TheVariants.{Length, PointLength, Count, Value}
 
 module _ {F E : Type 0} (s : Ring E) (embed : F → E) (m : ℕ) (vs : List F) (points : List (List E)) (ys : List E) where
   abbrev zs : List E
-  zs = values_at s embed vs points
+  zs = multilinear_values_at s embed vs points
 
   abbrev pointed : List (Check PlainMultilinearError)
   pointed = in_turn (length points) (point_check m points)
 
   abbrev valued : List (Check PlainMultilinearError)
-  valued = in_turn (length points) (value_check s ys zs)
+  valued = in_turn (length points) (multilinear_value_check s ys zs)
 
   abbrev count : Check PlainMultilinearError
   count = check Count (length ys ≡ length points)
@@ -39,7 +39,7 @@ module _ {F E : Type 0} (s : Ring E) (embed : F → E) (m : ℕ) (vs : List F) (
       refusal_later (check Length (HasValues m vs)) (pointed ++ count ∷ valued) (Some Count) h
       (first_after pointed (count ∷ valued) Count (points_pass m points c) (first_here count valued Count n refl))
 
-  pub value_fault : (i : ℕ) → HasValues m vs → HaveCoordinates m points → length ys ≡ length points → IsFirstDifferent s ys (values_at s embed vs points) i
+  pub value_fault : (i : ℕ) → HasValues m vs → HaveCoordinates m points → length ys ≡ length points → IsFirstDifferent s ys (multilinear_values_at s embed vs points) i
       → IsClaimFault s embed m vs points ys (Value i)
   value_fault i h c e d =
       let D : IsFirstFailing (length points) (λ j. get_or ys j s.zero ≡ get_or zs j s.zero) i =
@@ -47,6 +47,6 @@ module _ {F E : Type 0} (s : Ring E) (embed : F → E) (m : ℕ) (vs : List F) (
       refusal_later (check Length (HasValues m vs)) (pointed ++ count ∷ valued) (Some (Value i)) h
       (first_after pointed (count ∷ valued) (Value i) (points_pass m points c)
       (refusal_later count valued (Some (Value i)) e
-      (first_by (value_check s ys zs) (λ j. get_or ys j s.zero ≡ get_or zs j s.zero) (length points) i (Value i)
+      (first_by (multilinear_value_check s ys zs) (λ j. get_or ys j s.zero ≡ get_or zs j s.zero) (length points) i (Value i)
       (λ j b p. none_alone (check (Value j) (get_or ys j s.zero ≡ get_or zs j s.zero)) p)
       (λ l. first_here (check (Value i) (get_or ys i s.zero ≡ get_or zs i s.zero)) [] (Value i) l refl) D)))

@@ -21,7 +21,7 @@ use Rattle.p3_commit.specs.Laws.Codes.{width_positive}
 use Rattle.plain_pcs.specs.Scheme.{Scheme, PlainCommitmentData}
 use Rattle.plain_pcs.specs.Extension.{extended_domain, extension_of, commitment_of, IsCommittable, Extends}
 use Rattle.plain_pcs.specs.Holding.{IsMade, IsHolding, AreHolding}
-use Rattle.plain_pcs.specs.Refusals.{CommitFault, ExtensionsFault, HasSubgroupHeight, IfWanting}
+use Rattle.plain_pcs.specs.Refusals.{CommitFault, ExtensionsFault, HasSubgroupHeight, IfOutOfMemory}
 use Rattle.plain_pcs.specs.declared.error.PlainProverError.TheVariants.{Commit, Open}
 use Rattle.plain_pcs.specs.Cosets.{IsOnCoset}
 use Rattle.plain_pcs.specs.Laws.Extensions.{polynomials, length-polynomials, get_or-polynomials, is_interpolant, width-extension, height-extension, column-extension}
@@ -34,11 +34,11 @@ values_of_interpolant r p n v f size I =
     ext_get_or r.zero v (values_at r p n f) (size ∙ sym (length-values_at r p n f))
     (λ i b. sym (I.value_is i b) ∙ sym (get_or-values_at r p n f i r.zero (omega arith)))
 
--- what holds anyway, holds where memory is wanting
-pub if_wanting : {T E : Type 0} (r : Result T (PcsFailure E)) (P : Type 0) → P → IfWanting r P
-if_wanting (Ok w) P p = tt
-if_wanting (Err OutOfMemory) P p = p
-if_wanting (Err (Refused e)) P p = tt
+-- what holds anyway, holds where memory runs out
+pub if_out_of_memory : {T E : Type 0} (r : Result T (PcsFailure E)) (P : Type 0) → P → IfOutOfMemory r P
+if_out_of_memory (Ok w) P p = tt
+if_out_of_memory (Err OutOfMemory) P p = p
+if_out_of_memory (Err (Refused e)) P p = tt
 
 -- where all matrices can be committed to, there is no cause to refuse
 pub no_commit_fault : {F : Type 0} (s : Scheme F) (xs : List (CosetData F × Rows F)) → All (λ e. IsCommittable s e.0 e.1) xs → NoneOf (CommitFault s xs)
@@ -65,8 +65,8 @@ cosets_made {F} g top ms kept all E = λ k d b.
 
 module _ {F : Type 0} (s : Scheme F) where
   -- what is held of a matrix on a domain
-  abbrev pub held_of : CosetData F × Rows F → Committed F
-  held_of e = record { size = 2 ^ e.0.log_size; polynomials = polynomials s e.0 e.1 }
+  abbrev pub opened_commitments_of : CosetData F × Rows F → Committed F
+  opened_commitments_of e = record { size = 2 ^ e.0.log_size; polynomials = polynomials s e.0 e.1 }
 
   coset_is : (d : CosetData F) (g : F) (n : ℕ) → d.shift ≡ g → d.log_size ≡ n → d ≡ record { shift = g; log_size = n }
   coset_is d g n e f = ap (λ a. let c : CosetData F = record { shift = a; log_size = d.log_size } in c) e ∙ ap (λ k. let c : CosetData F = record { shift = g; log_size = k } in c) f
@@ -91,7 +91,7 @@ module _ {F : Type 0} (s : Scheme F) where
         let I = interpolates d m l E j inside in
         ap length (sym same) ∙ (I.length_is ∙ (length-column s.field.ring.zero m j ∙ E.committable.height_is))
 
-    pub is_committed : (d : CosetData F) (m l : Rows F) → Extends s d m l → IsCommitted s.field.ring (2 ^ d.log_size) (point s.field.ring s.field.root d) m (held_of (d, m))
+    pub is_committed : (d : CosetData F) (m l : Rows F) → Extends s d m l → IsCommitted s.field.ring (2 ^ d.log_size) (point s.field.ring s.field.root d) m (opened_commitments_of (d, m))
     is_committed d m l E = record {
       size_is = refl;
       count = length-polynomials s d m;
@@ -100,7 +100,7 @@ module _ {F : Type 0} (s : Scheme F) where
     }
 
     -- prover data that holds the matrix itself
-    pub holding_given : (d : CosetData F) (m l : Rows F) → Extends s d m l → IsHolding s (d, m) l (held_of (d, m))
+    pub holding_given : (d : CosetData F) (m l : Rows F) → Extends s d m l → IsHolding s (d, m) l (opened_commitments_of (d, m))
     unfolding extension_of
     holding_given d m l E = record {
       log_size = d.log_size;
@@ -116,7 +116,7 @@ module _ {F : Type 0} (s : Scheme F) where
     }
 
     -- prover data that holds the extension
-    holding_whole : (d : CosetData F) (m l : Rows F) → Extends s d m l → IsHolding s (extended_domain s d.log_size, extension_of s d m) l (held_of (d, m))
+    holding_whole : (d : CosetData F) (m l : Rows F) → Extends s d m l → IsHolding s (extended_domain s d.log_size, extension_of s d m) l (opened_commitments_of (d, m))
     unfolding extension_of
     holding_whole d m l E = record {
       log_size = d.log_size;
@@ -129,7 +129,7 @@ module _ {F : Type 0} (s : Scheme F) where
       extension_is = E.extension_is;
     }
 
-    pub holding_extension : (d : CosetData F) (m l : Rows F) (e : CosetData F × Rows F) → Extends s d m l → IsOnCoset s.field.generator l e → IsHolding s e l (held_of (d, m))
+    pub holding_extension : (d : CosetData F) (m l : Rows F) (e : CosetData F × Rows F) → Extends s d m l → IsOnCoset s.field.generator l e → IsHolding s e l (opened_commitments_of (d, m))
     holding_extension d m l e E on =
         let n = d.log_size + s.log_blowup in
         let high : height l ≡ 2 ^ n = ap (λ (v : Rows F). height v) E.extension_is ∙ height-extension s L W T d m E.committable in
@@ -137,11 +137,11 @@ module _ {F : Type 0} (s : Scheme F) where
         let domain : e.0 ≡ extended_domain s d.log_size = coset_is e.0 s.field.generator n on.shift_is log in
         let matrix : e.1 ≡ extension_of s d m = on.matrix_is ∙ E.extension_is in
         let same : e ≡ (extended_domain s d.log_size, extension_of s d m) = pair_is e (extended_domain s d.log_size) (extension_of s d m) domain matrix in
-        subst (λ (p : CosetData F × Rows F). IsHolding s p l (held_of (d, m))) (sym same) (holding_whole d m l E)
+        subst (λ (p : CosetData F × Rows F). IsHolding s p l (opened_commitments_of (d, m))) (sym same) (holding_whole d m l E)
 
     -- extensions and prover data that holds the polynomials are a commitment
     pub is_commitment : (evaluated kept : List (CosetData F × Rows F)) (ls : List (Rows F)) → AreExtensions (Extends s) evaluated ls → length kept ≡ length ls → IsMade kept
-        → ((i : ℕ) (x e : CosetData F × Rows F) (l : Rows F) → slice_get evaluated i ≡ Some x → slice_get kept i ≡ Some e → slice_get ls i ≡ Some l → IsHolding s e l (held_of x))
+        → ((i : ℕ) (x e : CosetData F × Rows F) (l : Rows F) → slice_get evaluated i ≡ Some x → slice_get kept i ≡ Some e → slice_get ls i ≡ Some l → IsHolding s e l (opened_commitments_of x))
         → IsCommitment s.field.ring (λ (d : CosetData F). 2 ^ d.log_size) (λ (d : CosetData F). point s.field.ring s.field.root d) (λ es (c : PlainCommitmentData F). c ≡ commitment_of s es) IsMade (AreHolding s) evaluated (record { matrices = ls }, kept)
     is_commitment evaluated kept ls E n made holds = record {
       commitment_is =
@@ -149,11 +149,11 @@ module _ {F : Type 0} (s : Scheme F) where
           ap (λ ms. let c : PlainCommitmentData F = record { matrices = ms } in c) all;
       made_is = made;
       held = (
-        map held_of evaluated,
-        each_mapped held_of evaluated ls (λ e l. Extends s e.0 e.1 l) (λ e c. IsCommitted s.field.ring (2 ^ e.0.log_size) (point s.field.ring s.field.root e.0) e.1 c) E (λ x l X. is_committed x.0 x.1 l X),
+        map opened_commitments_of evaluated,
+        each_mapped opened_commitments_of evaluated ls (λ e l. Extends s e.0 e.1 l) (λ e c. IsCommitted s.field.ring (2 ^ e.0.log_size) (point s.field.ring s.field.root e.0) e.1 c) E (λ x l X. is_committed x.0 x.1 l X),
         record {
           count = n;
-          each = each_zipped held_of evaluated kept ls (λ p c. IsHolding s p.0 p.1 c) E.count n holds;
+          each = each_zipped opened_commitments_of evaluated kept ls (λ p c. IsHolding s p.0 p.1 c) E.count n holds;
         },
       );
     }
@@ -164,7 +164,7 @@ module _ {F : Type 0} (s : Scheme F) where
         is_commitment evaluated evaluated ls E (sym E.count) (committable_made s evaluated all)
         (λ i x e l a b c.
         let same : x ≡ e = same_item evaluated i x e a b in
-        subst (λ (p : CosetData F × Rows F). IsHolding s p l (held_of x)) same (holding_given x.0 x.1 l (E.each i l c x a)))
+        subst (λ (p : CosetData F × Rows F). IsHolding s p l (opened_commitments_of x)) same (holding_given x.0 x.1 l (E.each i l c x a)))
 
     pub commitment_extended : (chunks kept : List (CosetData F × Rows F)) (ls : List (Rows F)) → AreExtensions (Extends s) chunks ls → IsMade kept → EachFrom ls kept (λ m e. IsOnCoset s.field.generator m e)
         → IsCommitment s.field.ring (λ (d : CosetData F). 2 ^ d.log_size) (λ (d : CosetData F). point s.field.ring s.field.root d) (λ es (c : PlainCommitmentData F). c ≡ commitment_of s es) IsMade (AreHolding s) chunks (record { matrices = ls }, kept)

@@ -19,7 +19,7 @@ use Rattle.p3_matrix.specs.Laws.Powers.{power_divides}
 use Rattle.p3_commit.specs.Space.{EachOf}
 use Rattle.p3_commit.specs.Periodic.{IsGreatest, EachFrom}
 use Rattle.p3_commit.specs.Batches.{lists, IsRowOf, AreRowsAt, row_in, dimensions_of, HaveWidths}
-use Rattle.plain_pcs.specs.PlainMmcs.{IsRow, AreTheRows, AreDimensions, IsOpened, AreOpened}
+use Rattle.plain_pcs.specs.PlainMmcs.{IsRowByEq, AreTheRows, AreDimensions, IsRowOpening, AreRowOpenings}
 use Rattle.plain_pcs.proofs.Places.{each_mapped, source, mapped_at}
 
 power_positive : (n : ℕ) → IsPowerOfTwo n → 0 < n
@@ -59,19 +59,19 @@ abbrev size_of : {T : Type 0} → Rows T → Dimensions
 size_of m = record { width = m.width; height = height m }
 
 module _ {T : Type 0} (ms : List (Rows T)) (i : ℕ) where
-  pub the_rows_at_greatest : (eq : T → T → Bool) (most : ℕ) (rows : List (List T)) → IsGreatest (map (λ m. height m) ms) most → EachFrom ms rows (λ m row. IsRow eq (row_in most (height m) i) m row) → AreTheRows eq ms i rows
+  pub the_rows_at_greatest : (eq : T → T → Bool) (most : ℕ) (rows : List (List T)) → IsGreatest (map (λ m. height m) ms) most → EachFrom ms rows (λ m row. IsRowByEq eq (row_in most (height m) i) m row) → AreTheRows eq ms i rows
   the_rows_at_greatest eq most rows G e n H =
-      let P : ℕ → Type 0 = λ k. EachFrom ms rows (λ m row. IsRow eq (row_in k (height m) i) m row) in
+      let P : ℕ → Type 0 = λ k. EachFrom ms rows (λ m row. IsRowByEq eq (row_in k (height m) i) m row) in
       subst P (one_greatest (map (λ (m : Rows T). height m) ms) most n G H) e
 
   -- rows that are the committed ones are so by ==
   pub equal_rows : (eq : T → T → Bool) (rows : List (List T)) → IsEquivalence eq → AreRowsAt ms i rows → AreTheRows eq ms i rows
   equal_rows eq rows E at most G =
       let row : Rows T → List T = λ m. row_at m (row_in most (height m) i) in
-      let P : List (List T) → Type 0 = λ l. EachFrom ms l (λ m r. IsRow eq (row_in most (height m) i) m r) in
-      subst P (sym (at most G)) (each_mapped ms row (λ m r. IsRow eq (row_in most (height m) i) m r) (λ j m h. (lists_equiv E).refl (row (get_or ms j m))))
+      let P : List (List T) → Type 0 = λ l. EachFrom ms l (λ m r. IsRowByEq eq (row_in most (height m) i) m r) in
+      subst P (sym (at most G)) (each_mapped ms row (λ m r. IsRowByEq eq (row_in most (height m) i) m r) (λ j m h. (lists_equiv E).refl (row (get_or ms j m))))
 
-  pub opened_rows_accepted : (eq : T → T → Bool) (rows : List (List T)) → IsEquivalence eq → All (λ m. IsPowerOfTwo (height m)) ms → IsRowOf ms i → AreRowsAt ms i rows → HaveWidths (dimensions_of ms) rows → IsOpened eq ms (dimensions_of ms) i rows
+  pub opened_rows_accepted : (eq : T → T → Bool) (rows : List (List T)) → IsEquivalence eq → All (λ m. IsPowerOfTwo (height m)) ms → IsRowOf ms i → AreRowsAt ms i rows → HaveWidths (dimensions_of ms) rows → IsRowOpening eq ms (dimensions_of ms) i rows
   opened_rows_accepted eq rows E powers place at widths = record {
     shape = record { dimensions = record { same = refl; powers = powers }; widths = widths };
     place = place;
@@ -117,7 +117,7 @@ tested_row eq a row b at t p q e =
 module _ {T : Type 0} (ms : List (Rows T)) where
   -- several openings of the committed rows
   pub all_opened_accepted : (eq : T → T → Bool) (is : List ℕ) (openings : List (List (List T))) → IsEquivalence eq → All (λ m. IsPowerOfTwo (height m)) ms → All (IsRowOf ms) is
-      → EachFrom is openings (AreRowsAt ms) → All (HaveWidths (dimensions_of ms)) openings → AreOpened eq ms (dimensions_of ms) is openings
+      → EachFrom is openings (AreRowsAt ms) → All (HaveWidths (dimensions_of ms)) openings → AreRowOpenings eq ms (dimensions_of ms) is openings
   all_opened_accepted eq is openings E powers places at widths = record {
     shape = record { dimensions = record { same = refl; powers = powers }; count = at.count; widths = widths };
     places = places;

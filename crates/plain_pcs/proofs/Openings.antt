@@ -4,20 +4,20 @@ use Rattle.std.specs.Prelude.{zip, Vec}
 use Rattle.std.proofs.lemmas.List.{map_push, map_more, ext_get_or, length-map, get_or-map, take_all}
 use Rattle.std.proofs.lemmas.Option.{slice_get-get_or, slice_get_read}
 use Rattle.p3_commit.specs.Claims.{Request}
-use Rattle.p3_commit.specs.Commitments.{Committed, Held, values_of, opened_round, opened}
+use Rattle.p3_commit.specs.Commitments.{Committed, OpenedCommitment, values_of, opened_round, opened}
 use Rattle.p3_commit.specs.Periodic.{EachFrom}
 use Rattle.p3_commit.specs.Laws.OneItem.{matrix_in, round_in}
 use Rattle.p3_commit.specs.Laws.Pairs.{length-zip}
 use Rattle.p3_field.specs.Ring.{Ring, RingLaws}
 use Rattle.p3_field.specs.Field.{FieldLaws, TwoAdicLaws, RingHom}
-use Rattle.p3_field.specs.Poly.{val}
+use Rattle.p3_field.specs.Poly.{eval_poly}
 use Rattle.p3_field.specs.Domain.{CosetData, coset_point, point}
 use Rattle.p3_field.specs.Laws.Roots.{field_no_zero_divisors}
 use Rattle.p3_field.specs.Laws.Interpolants.{points_apart}
 use Rattle.p3_matrix.specs.Matrix.{Rows, height, column}
 use Rattle.p3_matrix.specs.Interpolation.{IsInterpolatedAt}
 use Rattle.plain_pcs.specs.Scheme.{PlainCommitmentData}
-use Rattle.plain_pcs.specs.Opening.{HaveValues, EachHasValues, opened_each}
+use Rattle.plain_pcs.specs.Opening.{HaveMatrixValues, EachHasValues, opened_each}
 use Rattle.plain_pcs.specs.Laws.Short.{value_of_short}
 
 -- one result more
@@ -36,12 +36,12 @@ module _ {F E : Type 0} (r : Ring F) (L : RingLaws r) (inv : F → F) (W : Field
     (s : Ring E) (M : RingLaws s) (embed : F → E) (H : RingHom r s embed) where
   -- the interpolants' values at a point are those of the polynomials that have the matrix's values
   pub opened_values : (d : CosetData F) (m : Rows F) (c : Committed F) (x : E) (v : List E) (t : F) → (d.shift ≡ r.zero → ⊥) → d.log_size ≤ top → height m ≡ 2 ^ d.log_size
-      → HaveValues r root d m c.polynomials → length v ≡ m.width → t ≡ d.shift
+      → HaveMatrixValues r root d m c.polynomials → length v ≡ m.width → t ≡ d.shift
       → ((j k : ℕ) → j < m.width → height m ≡ 2 ^ k → IsInterpolatedAt r s embed (coset_point r t (root k)) (column r.zero m j) x (get_or v j s.zero))
       → v ≡ values_of s embed c x
   opened_values d m c x v t nz fits high V long shift I =
       let fs = c.polynomials in
-      let f : List F → E = λ g. val s (map embed g) x in
+      let f : List F → E = λ g. eval_poly s (map embed g) x in
       let n : length v ≡ length (map f fs) = long ∙ (sym V.count ∙ sym (length-map fs f)) in
       ext_get_or s.zero v (map f fs) n
       (λ j h.
@@ -62,19 +62,19 @@ module _ {F E : Type 0} (r : Ring F) (root : ℕ → F) (s : Ring E) (embed : F 
       now ∙ ap (map (λ (p : Committed F × List E). map (values_of s embed p.0) p.1)) (take_all i (zip cs points) end)
 
   -- all requests
-  pub all_requests : (requests : List (Request (List (CosetData F × Rows F)) E)) (held : List (Held (PlainCommitmentData F) F)) (i : ℕ) (ws : List (List (List (List E)))) → length requests ≤ i
+  pub all_requests : (requests : List (Request (List (CosetData F × Rows F)) E)) (held : List (OpenedCommitment (PlainCommitmentData F) F)) (i : ℕ) (ws : List (List (List (List E)))) → length requests ≤ i
       → EachFrom requests held (λ q h. EachHasValues r root q.prover_data h.matrices) → ws ≡ map (λ p. opened_round s embed p.0 p.1) (take i (zip held requests)) → ws ≡ opened s embed held requests
   all_requests requests held i ws past H now =
       let le : length requests ≤ length held = omega (arith, H.count) in
       let end : length (zip held requests) ≤ i = omega (arith, length-zip held requests le) in
-      now ∙ ap (map (λ (p : Held (PlainCommitmentData F) F × Request (List (CosetData F × Rows F)) E). opened_round s embed p.0 p.1)) (take_all i (zip held requests) end)
+      now ∙ ap (map (λ (p : OpenedCommitment (PlainCommitmentData F) F × Request (List (CosetData F × Rows F)) E). opened_round s embed p.0 p.1)) (take_all i (zip held requests) end)
 
 module _ {F E A : Type 0} (r : Ring F) (root : ℕ → F) (s : Ring E) (embed : F → E) where
   -- one matrix more
   pub next_matrix : (stored kept : List (CosetData F × Rows F)) (lists : List (Vec E A)) (cs : List (Committed F)) (i : ℕ) (ws zs : List (Vec (Vec E A) A)) (w : Vec (Vec E A) A) (e : CosetData F × Rows F) (l : Vec E A) (xs : List E)
       → length lists ≡ length kept → i < length lists → EachHasValues r root kept cs → stored ≡ kept → e ≡ get_or stored i e → l ≡ get_or lists i l → xs ≡ l.items
       → map matrix_in ws ≡ map (λ p. map (values_of s embed p.0) p.1) (take i (zip cs (map (λ v. v.items) lists))) → zs ≡ ws ++ w ∷ []
-      → ((c : Committed F) → HaveValues r root e.0 e.1 c.polynomials → matrix_in w ≡ map (values_of s embed c) xs)
+      → ((c : Committed F) → HaveMatrixValues r root e.0 e.1 c.polynomials → matrix_in w ≡ map (values_of s embed c) xs)
       → map matrix_in zs ≡ map (λ p. map (values_of s embed p.0) p.1) (take (i + 1) (zip cs (map (λ v. v.items) lists)))
   next_matrix stored kept lists cs i ws zs w e l xs long h H view read item q now more told =
       let at : e ≡ get_or kept i e = read ∙ ap (λ k. get_or k i e) view in
@@ -87,22 +87,22 @@ module _ {F E A : Type 0} (r : Ring F) (root : ℕ → F) (s : Ring E) (embed : 
       let le : length pts ≤ length cs = omega (arith, H.count) in
       let inside : i < length (zip cs pts) = omega (arith, length-zip cs pts le) in
       let c = get_or cs i none in
-      let V : HaveValues r root e.0 e.1 c.polynomials = H.each i c (slice_get-get_or cs i none a) e (slice_get_read kept (length kept) i e refl (omega arith) at) in
+      let V : HaveMatrixValues r root e.0 e.1 c.polynomials = H.each i c (slice_get-get_or cs i none a) e (slice_get_read kept (length kept) i e refl (omega arith) at) in
       let same : get_or pts i [] ≡ xs = get_or-map (λ v. v.items) lists i l [] h ∙ (ap (λ (v : Vec E A). v.items) (sym item) ∙ sym q) in
       let value : matrix_in w ≡ f (get_or (zip cs pts) i (none, [])) =
       told c V ∙ (ap (map (values_of s embed c)) (sym same) ∙ ap f (sym (get_or-zip cs pts i none [] a b))) in
       one_more matrix_in f ws zs w (zip cs pts) i (none, []) now more inside value
 
   -- one request more
-  pub next_request : (requests : List (Request (List (CosetData F × Rows F)) E)) (held : List (Held (PlainCommitmentData F) F)) (i : ℕ) (ws zs : List (Vec (Vec (Vec E A) A) A)) (w : Vec (Vec (Vec E A) A) A)
+  pub next_request : (requests : List (Request (List (CosetData F × Rows F)) E)) (held : List (OpenedCommitment (PlainCommitmentData F) F)) (i : ℕ) (ws zs : List (Vec (Vec (Vec E A) A) A)) (w : Vec (Vec (Vec E A) A) A)
       (e : Request (List (CosetData F × Rows F)) E) (kept : List (CosetData F × Rows F)) (points : List (List E))
       → i < length requests → EachFrom requests held (λ q h. EachHasValues r root q.prover_data h.matrices) → e ≡ get_or requests i e → kept ≡ e.prover_data → points ≡ e.points
       → map round_in ws ≡ map (λ p. opened_round s embed p.0 p.1) (take i (zip held requests)) → zs ≡ ws ++ w ∷ []
       → ((cs : List (Committed F)) → EachHasValues r root kept cs → round_in w ≡ opened_each s embed cs points)
       → map round_in zs ≡ map (λ p. opened_round s embed p.0 p.1) (take (i + 1) (zip held requests))
   next_request requests held i ws zs w e kept points h H at same lists now more told =
-      let f : Held (PlainCommitmentData F) F × Request (List (CosetData F × Rows F)) E → List (List (List E)) = λ p. opened_round s embed p.0 p.1 in
-      let none : Held (PlainCommitmentData F) F = record { commitment = record { matrices = [] }; matrices = [] } in
+      let f : OpenedCommitment (PlainCommitmentData F) F × Request (List (CosetData F × Rows F)) E → List (List (List E)) = λ p. opened_round s embed p.0 p.1 in
+      let none : OpenedCommitment (PlainCommitmentData F) F = record { commitment = record { matrices = [] }; matrices = [] } in
       let a : i < length held = omega (arith, H.count) in
       let le : length requests ≤ length held = omega (arith, H.count) in
       let inside : i < length (zip held requests) = omega (arith, length-zip held requests le) in

@@ -6,7 +6,7 @@ use Rattle.std.proofs.lemmas.List.{length-map, get_or-map}
 use Rattle.std.proofs.lemmas.Option.{same_Some, slice_get-map, get_or_from_slice_get}
 use Rattle.p3_field.specs.Ring.{Ring, RingLaws}
 use Rattle.p3_field.specs.Field.{FieldLaws, TwoAdicLaws}
-use Rattle.p3_field.specs.Poly.{val, Apart, DegreeBelow}
+use Rattle.p3_field.specs.Poly.{eval_poly, Apart, DegreeBelow}
 use Rattle.p3_field.specs.Checks.{Check, check, NoneFails, FirstFails, FirstRefusal, in_turn, of_items, FirstFailing}
 use Rattle.p3_field.specs.Laws.Checks.{first_here, first_stops, refusal_later, refusal_after, none_alone, none_by, first_by}
 use Rattle.p3_field.specs.Domain.{CosetData, coset_point, point, IsInterpolant}
@@ -103,26 +103,26 @@ module _ {F E : Type 0} (s : Scheme F) (ring : Ring E) (embed : F → E) (m : Ro
 
   module _ (round number at : ℕ) (p : PointClaim E) where
     abbrev Claimed : List E → ℕ → Type 0
-    Claimed ys j = val ring (map embed (get_or fs j [])) p.point ≡ get_or ys j ring.zero
+    Claimed ys j = eval_poly ring (map embed (get_or fs j [])) p.point ≡ get_or ys j ring.zero
 
     value_same : (j : ℕ) → j < m.width → Claimed p.values j ↔ HasValue s ring embed m k j p.point (get_or p.values j ring.zero)
-    value_same j lt = by_polynomial s m k fs j (λ f. val ring (map embed f) p.point ≡ get_or p.values j ring.zero) A lt
+    value_same j lt = by_polynomial s m k fs j (λ f. eval_poly ring (map embed f) p.point ≡ get_or p.values j ring.zero) A lt
 
     value_here : (n : ℕ) (x : E) (ys : List E) (a : Option ℕ) → n ≡ length fs → x ≡ p.point → ys ≡ p.values
-        → FirstFailing n (λ j. val ring (map embed (get_or fs j [])) x ≡ get_or ys j ring.zero) a → FirstFailing m.width (Claimed p.values) a
+        → FirstFailing n (λ j. eval_poly ring (map embed (get_or fs j [])) x ≡ get_or ys j ring.zero) a → FirstFailing m.width (Claimed p.values) a
     value_here n x ys a e d f h =
         subst (λ l. FirstFailing m.width (Claimed l) a) f
-        (subst (λ v. FirstFailing m.width (λ j. val ring (map embed (get_or fs j [])) v ≡ get_or ys j ring.zero) a) d
-        (subst (λ n. FirstFailing n (λ j. val ring (map embed (get_or fs j [])) x ≡ get_or ys j ring.zero) a) (e ∙ A.count) h))
+        (subst (λ v. FirstFailing m.width (λ j. eval_poly ring (map embed (get_or fs j [])) v ≡ get_or ys j ring.zero) a) d
+        (subst (λ n. FirstFailing n (λ j. eval_poly ring (map embed (get_or fs j [])) x ≡ get_or ys j ring.zero) a) (e ∙ A.count) h))
 
     pub no_wrong_value : (n : ℕ) (x : E) (ys : List E) → n ≡ length fs → x ≡ p.point → ys ≡ p.values
-        → FirstFailing n (λ j. val ring (map embed (get_or fs j [])) x ≡ get_or ys j ring.zero) None → NoneFails (point_checks s ring embed round number m k at p)
+        → FirstFailing n (λ j. eval_poly ring (map embed (get_or fs j [])) x ≡ get_or ys j ring.zero) None → NoneFails (point_checks s ring embed round number m k at p)
     no_wrong_value n x ys e d f h =
         none_by (value_check s ring embed round number m k at p) (Claimed p.values) m.width
         (λ j b q. none_alone (check (Value round number at j) (HasValue s ring embed m k j p.point (get_or p.values j ring.zero))) ((value_same j b).0 q)) (value_here n x ys None e d f h)
 
     pub wrong_value : (n : ℕ) (x : E) (ys : List E) (j : ℕ) → n ≡ length fs → x ≡ p.point → ys ≡ p.values
-        → FirstFailing n (λ j. val ring (map embed (get_or fs j [])) x ≡ get_or ys j ring.zero) (Some j)
+        → FirstFailing n (λ j. eval_poly ring (map embed (get_or fs j [])) x ≡ get_or ys j ring.zero) (Some j)
         → FirstFails (point_checks s ring embed round number m k at p) (Value round number at j)
     wrong_value n x ys j e d f h =
         let F = value_here n x ys (Some j) e d f h in

@@ -9,7 +9,7 @@ use Rattle.std.proofs.lemmas.List.{ext_get_or, map-id, length-map}
 use Rattle.std.proofs.lemmas.Option.{slice_get_within}
 use Rattle.p3_field.specs.Ring.{Ring, RingLaws}
 use Rattle.p3_field.specs.Field.{FieldLaws, TwoAdicLaws}
-use Rattle.p3_field.specs.Poly.{val, Apart}
+use Rattle.p3_field.specs.Poly.{eval_poly, Apart}
 use Rattle.p3_field.specs.Domain.{CosetData, point, IsInterpolant}
 use Rattle.p3_field.specs.Newton.{newton}
 use Rattle.p3_field.specs.Laws.Interpolants.{interpolant_exists, points_apart}
@@ -73,7 +73,7 @@ module _ {A : Type 0} (r : Ring A) (L : RingLaws r) (inv : A → A) (W : FieldLa
             ap (λ k. cell_at r.zero v k j) (mod-eq_of_lt tall)
             ∙ (sym (get_or-column r.zero v j i tall)
             ∙ (ap (λ l. get_or l i r.zero) after
-            ∙ (get_or-values_at r (point r root e) (2 ^ e.log_size) f i r.zero b ∙ ap (λ l. val r l (point r root e i)) (sym (map-id f)))));
+            ∙ (get_or-values_at r (point r root e) (2 ^ e.log_size) f i r.zero b ∙ ap (λ l. eval_poly r l (point r root e i)) (sym (map-id f)))));
       }
 
   pub table_by_transfer : (d e : CosetData A) (columns : List (List A)) (m v : Rows A) → d.log_size ≤ top → (d.shift ≡ r.zero → ⊥) → All (λ c. IsPeriod (2 ^ d.log_size) (length c)) columns

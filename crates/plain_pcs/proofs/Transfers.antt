@@ -6,14 +6,14 @@ use Rattle.std.proofs.lemmas.Nat.{pow-add, pow_pos}
 use Rattle.std.proofs.lemmas.List.{ext_get_or}
 use Rattle.p3_field.specs.Ring.{Ring, RingLaws, pow}
 use Rattle.p3_field.specs.Field.{FieldLaws, TwoAdicLaws}
-use Rattle.p3_field.specs.Poly.{val, SamePoly, shift_arg}
+use Rattle.p3_field.specs.Poly.{eval_poly, SamePoly, shift_arg}
 use Rattle.p3_field.specs.Domain.{CosetData, coset_point, point, IsInterpolant}
 use Rattle.p3_field.specs.Laws.Algebra.{one_mul, mul_zero}
 use Rattle.p3_field.specs.Laws.Coeffs.{degree_length_le, length_shift_arg}
-use Rattle.p3_field.specs.Laws.Values.{val_same, val_shift_arg}
+use Rattle.p3_field.specs.Laws.Values.{eval_same, eval_shift_arg}
 use Rattle.p3_field.specs.Laws.Roots.{field_no_zero_divisors, same_values}
 use Rattle.p3_field.specs.Laws.Coset.{coset_apart, two_adic_order}
-use Rattle.p3_field.specs.Laws.Tables.{table_same, first_coset_point}
+use Rattle.p3_field.specs.Laws.Tabulate.{tabulate_same, first_coset_point}
 use Rattle.p3_matrix.specs.Matrix.{Rows, height, column}
 use Rattle.p3_matrix.specs.Laws.Cells.{length-column, get_or-column}
 use Rattle.p3_matrix.specs.Laws.Transposed.{get_or-row_at}
@@ -43,8 +43,8 @@ stride_divides h k l e a =
 
 module _ {A : Type 0} (r : Ring A) (L : RingLaws r) where
   -- the polynomial that has on a subgroup the values that f has on its coset with shift a
-  at_subgroup : (a x : A) (f : List A) → val r (shift_arg r a f) (r.mul r.one x) ≡ val r f (r.mul a x)
-  at_subgroup a x f = val_shift_arg r L a f (r.mul r.one x) ∙ ap (λ y. val r f (r.mul a y)) (one_mul r L x)
+  at_subgroup : (a x : A) (f : List A) → eval_poly r (shift_arg r a f) (r.mul r.one x) ≡ eval_poly r f (r.mul a x)
+  at_subgroup a x f = eval_shift_arg r L a f (r.mul r.one x) ∙ ap (λ y. eval_poly r f (r.mul a y)) (one_mul r L x)
 
 module _ {A : Type 0} (r : Ring A) (L : RingLaws r) (inv : A → A) (W : FieldLaws r inv) (top : ℕ) (root : ℕ → A) (T : TwoAdicLaws r top root) where
   -- the shift s / a, times a
@@ -82,12 +82,12 @@ module _ {A : Type 0} (r : Ring A) (L : RingLaws r) (inv : A → A) (W : FieldLa
       → values_at r (coset_point r t h) n g ≡ values_at r (coset_point r s h) n f
   unfolding values_at
   shifted_values n a s t h f g nz shift same =
-      table_same n (λ i. val r g (coset_point r t h i)) (λ i. val r f (coset_point r s h i))
+      tabulate_same n (λ i. eval_poly r g (coset_point r t h i)) (λ i. eval_poly r f (coset_point r s h i))
       (λ i b.
       let x = pow r h i in
-      val_same r L g (shift_arg r a f) (r.mul t x) same
-      ∙ (val_shift_arg r L a f (r.mul t x)
-      ∙ (ap (λ z. val r f (r.mul a (r.mul z x))) shift ∙ ap (val r f) (divided a s x nz))))
+      eval_same r L g (shift_arg r a f) (r.mul t x) same
+      ∙ (eval_shift_arg r L a f (r.mul t x)
+      ∙ (ap (λ z. eval_poly r f (r.mul a (r.mul z x))) shift ∙ ap (eval_poly r f) (divided a s x nz))))
 
   -- a transform with the shift e / d leads from d to e, which is as large or larger
   pub transfer : (d e : CosetData A) (c : ℕ) (x y s : A) (m v : Rows A) → d.log_size ≤ top → (d.shift ≡ r.zero → ⊥) → height m ≡ 2 ^ d.log_size → d.log_size + c ≡ e.log_size
@@ -137,7 +137,7 @@ module _ {A : Type 0} (r : Ring A) (L : RingLaws r) (inv : A → A) (W : FieldLa
       ∙ (sym (get_or-column r.zero v j (0 + 2 ^ c * i) under)
       ∙ (ap (λ l. get_or l (0 + 2 ^ c * i) r.zero) is
       ∙ (get_or-values_at r (point r root w) (2 ^ w.log_size) f (0 + 2 ^ c * i) r.zero at
-      ∙ (ap (val r f) (sampled e w c i fits sum shift) ∙ sym (get_or-values_at r q (2 ^ e.log_size) f i r.zero below)))))))))
+      ∙ (ap (eval_poly r f) (sampled e w c i fits sum shift) ∙ sym (get_or-values_at r q (2 ^ e.log_size) f i r.zero below)))))))))
     where
       scaled : (n m i : ℕ) → 0 < n → i < m → n * i < n * m
       scaled n m i pos h = mul-lt-mul_of_pos_left h pos

@@ -2,7 +2,7 @@
 -- are the values of.
 use Rattle.std.specs.Prelude.{◌≡◌, ℕ, ◌+◌, ◌^◌, ◌≤◌, List, [], ◌∷◌, ◌++◌, length, map, zip, get_or, All}
 use Rattle.p3_field.specs.Ring.{Ring}
-use Rattle.p3_field.specs.Poly.{val, DegreeBelow}
+use Rattle.p3_field.specs.Poly.{eval_poly, DegreeBelow}
 use Rattle.p3_field.specs.Checks.{Check, check, NoneFails, FirstFails, in_turn, of_items}
 use Rattle.p3_field.specs.Domain.{CosetData, point, IsInterpolant}
 use Rattle.p3_matrix.specs.Matrix.{Rows, height, column}
@@ -30,7 +30,7 @@ module _ {F E : Type 0} (s : Scheme F) (ring : Ring E) (embed : F → E) where
 
   -- and it has this value at this point
   abbrev pub HasValue : Rows F → (k column : ℕ) → (point value : E) → Type 0
-  HasValue m k j x y = (f : List F) × IsColumnPolynomial m k j f × (val ring (map embed f) x ≡ y)
+  HasValue m k j x y = (f : List F) × IsColumnPolynomial m k j f × (eval_poly ring (map embed f) x ≡ y)
 
   abbrev pub degree_check : (round matrix : ℕ) → Rows F → (k column : ℕ) → List (Check PlainError)
   degree_check round matrix m k j = check (Degree round matrix j) (HasLowDegree m k j) ∷ []
@@ -55,13 +55,13 @@ module _ {F E : Type 0} (s : Scheme F) (ring : Ring E) (embed : F → E) where
       check (RoundShape round) (length c.commitment.matrices ≡ length c.matrices) ∷ of_items (matrix_checks round) (zip c.commitment.matrices c.matrices)
 
   -- the checks of all claims, round by round
-  unfoldable pub checks : List (CommitmentClaim E (PlainCommitmentData F) (CosetData F)) → List (Check PlainError)
-  checks claims = of_items round_checks claims
+  unfoldable pub opening_claim_checks : List (CommitmentClaim E (PlainCommitmentData F) (CosetData F)) → List (Check PlainError)
+  opening_claim_checks claims = of_items round_checks claims
 
 -- the commitments open the claims: no check fails
 abbrev pub Opens : {F E : Type 0} → Scheme F → Ring E → (F → E) → List (CommitmentClaim E (PlainCommitmentData F) (CosetData F)) → Type 0
-Opens s ring embed claims = NoneFails (checks s ring embed claims)
+Opens s ring embed claims = NoneFails (opening_claim_checks s ring embed claims)
 
 -- the first fault of claims that they don't
 abbrev pub Fault : {F E : Type 0} → Scheme F → Ring E → (F → E) → List (CommitmentClaim E (PlainCommitmentData F) (CosetData F)) → PlainError → Type 0
-Fault s ring embed claims e = FirstFails (checks s ring embed claims) e
+Fault s ring embed claims e = FirstFails (opening_claim_checks s ring embed claims) e

@@ -2,7 +2,7 @@
 -- any hashing).
 use Rattle.std.specs.Prelude.{◌≡◌, ℕ, zero, suc, ◌+◌, ◌^◌, ◌<◌, ◌≤◌, List, [], ◌++◌, length, map, get_or}
 use Rattle.p3_field.specs.Field.{TwoAdic}
-use Rattle.p3_field.specs.Poly.{val, table}
+use Rattle.p3_field.specs.Poly.{eval_poly, tabulate}
 use Rattle.p3_field.specs.Domain.{CosetData, point}
 use Rattle.p3_field.specs.Newton.{newton}
 use Rattle.p3_matrix.specs.Matrix.{Rows, height, column}
@@ -10,7 +10,7 @@ use Rattle.plain_pcs.specs.Scheme.{Scheme, PlainCommitmentData}
 
 -- the columns of a matrix; z, which no cell in range reads, is the answer past the end
 abbrev pub columns : {F : Type 0} → F → Rows F → List (List F)
-columns z m = table m.width (column z m)
+columns z m = tabulate m.width (column z m)
 
 -- the rows 0 to n - 1, one after another
 unfoldable pub row_major : {A : Type 0} → ℕ → (ℕ → List A) → List A
@@ -20,7 +20,7 @@ row_major (suc n) row = row_major n row ++ row n
 -- the values of polynomials on a domain: a row for each point, a column for each polynomial
 unfoldable pub evaluations : {F : Type 0} → TwoAdic F → CosetData F → List (List F) → Rows F
 evaluations t d fs = record {
-  values = row_major (2 ^ d.log_size) (λ i. map (λ f. val t.ring f (point t.ring t.root d i)) fs);
+  values = row_major (2 ^ d.log_size) (λ i. map (λ f. eval_poly t.ring f (point t.ring t.root d i)) fs);
   width = length fs;
 }
 

@@ -26,6 +26,6 @@ pub record IsHolding {F : Type 0} (s : Scheme F) (e : CosetData F × Rows F) (l 
   pub extension_is : l ≡ evaluations s.field (extended_domain s log_size) c.polynomials
 
 -- prover data belongs to a commitment, and holds these polynomials
-pub record AreHolding {F : Type 0} (s : Scheme F) (kept : List (CosetData F × Rows F)) (commitment : PlainCommitmentData F) (cs : List (Committed F)) : Type 0 where
-  pub count : length kept ≡ length commitment.matrices
-  pub each : EachFrom (zip kept commitment.matrices) cs (λ p c. IsHolding s p.0 p.1 c)
+pub record AreHolding {F : Type 0} (s : Scheme F) (prover_data : List (CosetData F × Rows F)) (commitment : PlainCommitmentData F) (cs : List (Committed F)) : Type 0 where
+  pub count : length prover_data ≡ length commitment.matrices
+  pub each : EachFrom (zip prover_data commitment.matrices) cs (λ p c. IsHolding s p.0 p.1 c)

@@ -8,7 +8,7 @@ pub mod Extensions
 pub mod Quotients
 pub mod Listed
 pub mod Short
-pub mod Held
+pub mod OpenedCommitments
 pub mod Honest
 pub mod Faults
 pub mod Claims

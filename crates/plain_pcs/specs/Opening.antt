@@ -9,14 +9,14 @@ use Rattle.p3_commit.specs.Periodic.{EachFrom}
 
 -- the polynomials, one for each column, have the matrix's values on the domain, and no more coefficients than that has
 -- points; so no others do, but for zeros at the end
-pub record HaveValues {F : Type 0} (r : Ring F) (root : ℕ → F) (d : CosetData F) (m : Rows F) (fs : List (List F)) : Type 0 where
+pub record HaveMatrixValues {F : Type 0} (r : Ring F) (root : ℕ → F) (d : CosetData F) (m : Rows F) (fs : List (List F)) : Type 0 where
   pub count : length fs ≡ m.width
   pub short : All (λ f. length f ≤ 2 ^ d.log_size) fs
   pub values_are : (j : ℕ) → j < m.width → column r.zero m j ≡ values_at r (point r root d) (2 ^ d.log_size) (get_or fs j [])
 
 -- the polynomials of each matrix have its values
 abbrev pub EachHasValues : {F : Type 0} → Ring F → (ℕ → F) → List (CosetData F × Rows F) → List (Committed F) → Type 0
-EachHasValues r root evaluated cs = EachFrom evaluated cs (λ e c. HaveValues r root e.0 e.1 c.polynomials)
+EachHasValues r root evaluated cs = EachFrom evaluated cs (λ e c. HaveMatrixValues r root e.0 e.1 c.polynomials)
 
 -- the values of each matrix's polynomials at its points
 abbrev pub opened_each : {F E : Type 0} → Ring E → (F → E) → List (Committed F) → List (List E) → List (List (List E))

@@ -16,44 +16,44 @@ pub record AreDimensions {T : Type 0} (ms : List (Rows T)) (ds : List Size) : Ty
   pub powers : All (λ m. IsPowerOfTwo (height m)) ms
 
 -- the shape of an opening is that of the matrices: the dimensions, and a row for each, as long as it is wide
-pub record HasShape {T : Type 0} (ms : List (Rows T)) (ds : List Size) (rows : List (List T)) : Type 0 where
+pub record HasOpeningShape {T : Type 0} (ms : List (Rows T)) (ds : List Size) (rows : List (List T)) : Type 0 where
   pub dimensions : AreDimensions ms ds
   pub widths : HaveWidths ds rows
 
 -- the values of a row are those of row i of the matrix, by their ==
-abbrev pub IsRow : {T : Type 0} → (T → T → Bool) → ℕ → Rows T → List T → Type 0
-IsRow eq i m row = IsTrue (pointwise eq row (row_at m i))
+abbrev pub IsRowByEq : {T : Type 0} → (T → T → Bool) → ℕ → Rows T → List T → Type 0
+IsRowByEq eq i m row = IsTrue (pointwise eq row (row_at m i))
 
 -- the rows are of each matrix the one that belongs to row i of the highest
 abbrev pub AreTheRows : {T : Type 0} → (T → T → Bool) → List (Rows T) → ℕ → List (List T) → Type 0
-AreTheRows eq ms i rows = (most : ℕ) → IsGreatest (map (λ m. height m) ms) most → EachFrom ms rows (λ m row. IsRow eq (row_in most (height m) i) m row)
+AreTheRows eq ms i rows = (most : ℕ) → IsGreatest (map (λ m. height m) ms) most → EachFrom ms rows (λ m row. IsRowByEq eq (row_in most (height m) i) m row)
 
 -- the opening of row i is that of the matrices
-pub record IsOpened {T : Type 0} (eq : T → T → Bool) (ms : List (Rows T)) (ds : List Size) (i : ℕ) (rows : List (List T)) : Type 0 where
-  pub shape : HasShape ms ds rows
+pub record IsRowOpening {T : Type 0} (eq : T → T → Bool) (ms : List (Rows T)) (ds : List Size) (i : ℕ) (rows : List (List T)) : Type 0 where
+  pub shape : HasOpeningShape ms ds rows
   pub place : IsRowOf ms i
   pub values : AreTheRows eq ms i rows
 
 -- the checks of an opening: its shape, its place, and its values
-abbrev pub opening_checks : Type 0 → Type 0 → Type 0 → List (Check PlainMmcsError)
-opening_checks Shape Place Values = check Dimensions Shape ∷ check Index Place ∷ check Value Values ∷ []
+abbrev pub row_opening_checks : Type 0 → Type 0 → Type 0 → List (Check PlainMmcsError)
+row_opening_checks Shape Place Values = check Dimensions Shape ∷ check Index Place ∷ check Value Values ∷ []
 
 -- the fault of an opening
-abbrev pub IsFault : {T : Type 0} → (T → T → Bool) → List (Rows T) → List Size → ℕ → List (List T) → PlainMmcsError → Type 0
-IsFault eq ms ds i rows e = FirstFails (opening_checks (HasShape ms ds rows) (IsRowOf ms i) (AreTheRows eq ms i rows)) e
+abbrev pub IsOpeningFault : {T : Type 0} → (T → T → Bool) → List (Rows T) → List Size → ℕ → List (List T) → PlainMmcsError → Type 0
+IsOpeningFault eq ms ds i rows e = FirstFails (row_opening_checks (HasOpeningShape ms ds rows) (IsRowOf ms i) (AreTheRows eq ms i rows)) e
 
 -- the shape of several openings
-pub record HaveShape {T : Type 0} (ms : List (Rows T)) (ds : List Size) (is : List ℕ) (openings : List (List (List T))) : Type 0 where
+pub record HaveOpeningShapes {T : Type 0} (ms : List (Rows T)) (ds : List Size) (is : List ℕ) (openings : List (List (List T))) : Type 0 where
   pub dimensions : AreDimensions ms ds
   pub count : length openings ≡ length is
   pub widths : All (HaveWidths ds) openings
 
 -- the openings of these rows are those of the matrices
-pub record AreOpened {T : Type 0} (eq : T → T → Bool) (ms : List (Rows T)) (ds : List Size) (is : List ℕ) (openings : List (List (List T))) : Type 0 where
-  pub shape : HaveShape ms ds is openings
+pub record AreRowOpenings {T : Type 0} (eq : T → T → Bool) (ms : List (Rows T)) (ds : List Size) (is : List ℕ) (openings : List (List (List T))) : Type 0 where
+  pub shape : HaveOpeningShapes ms ds is openings
   pub places : All (IsRowOf ms) is
   pub values : EachFrom is openings (AreTheRows eq ms)
 
 -- the fault of several openings
-abbrev pub IsFaultOfAll : {T : Type 0} → (T → T → Bool) → List (Rows T) → List Size → List ℕ → List (List (List T)) → PlainMmcsError → Type 0
-IsFaultOfAll eq ms ds is openings e = FirstFails (opening_checks (HaveShape ms ds is openings) (All (IsRowOf ms) is) (EachFrom is openings (AreTheRows eq ms))) e
+abbrev pub IsFaultOfOpenings : {T : Type 0} → (T → T → Bool) → List (Rows T) → List Size → List ℕ → List (List (List T)) → PlainMmcsError → Type 0
+IsFaultOfOpenings eq ms ds is openings e = FirstFails (row_opening_checks (HaveOpeningShapes ms ds is openings) (All (IsRowOf ms) is) (EachFrom is openings (AreTheRows eq ms))) e

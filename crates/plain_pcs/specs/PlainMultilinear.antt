@@ -27,14 +27,14 @@ abbrev pub IsFirstUnfit : {E : Type 0} → ℕ → List (List E) → ℕ → Typ
 IsFirstUnfit m points i = IsFirstFailing (length points) (λ j. length (get_or points j []) ≡ m) i
 
 -- the values at the points
-abbrev pub values_at : {F E : Type 0} → Ring E → (F → E) → List F → List (List E) → List E
-values_at s embed vs points = map (multilinear_value s (map embed vs)) points
+abbrev pub multilinear_values_at : {F E : Type 0} → Ring E → (F → E) → List F → List (List E) → List E
+multilinear_values_at s embed vs points = map (multilinear_value s (map embed vs)) points
 
 -- the claimed values are those at the points
 pub record AreValuesAt {F E : Type 0} (s : Ring E) (embed : F → E) (m : ℕ) (vs : List F) (points : List (List E)) (ys : List E) : Type 0 where
   pub has_values : HasValues m vs
   pub coordinates : HaveCoordinates m points
-  pub values : ys ≡ values_at s embed vs points
+  pub values : ys ≡ multilinear_values_at s embed vs points
 
 -- claimed value i is the first of two lists of the same length that differs
 abbrev pub IsFirstDifferent : {E : Type 0} → Ring E → List E → List E → ℕ → Type 0
@@ -44,17 +44,17 @@ IsFirstDifferent s ys zs i = IsFirstFailing (length zs) (λ j. get_or ys j s.zer
 abbrev pub point_check : {E : Type 0} → ℕ → List (List E) → ℕ → List (Check PlainMultilinearError)
 point_check m points i = check (PointLength i) (length (get_or points i []) ≡ m) ∷ []
 
-abbrev pub value_check : {E : Type 0} → Ring E → List E → List E → ℕ → List (Check PlainMultilinearError)
-value_check s ys zs i = check (Value i) (get_or ys i s.zero ≡ get_or zs i s.zero) ∷ []
+abbrev pub multilinear_value_check : {E : Type 0} → Ring E → List E → List E → ℕ → List (Check PlainMultilinearError)
+multilinear_value_check s ys zs i = check (Value i) (get_or ys i s.zero ≡ get_or zs i s.zero) ∷ []
 
-abbrev pub claim_checks : {F E : Type 0} → Ring E → (F → E) → ℕ → List F → List (List E) → List E → List (Check PlainMultilinearError)
-claim_checks s embed m vs points ys =
+abbrev pub multilinear_claim_checks : {F E : Type 0} → Ring E → (F → E) → ℕ → List F → List (List E) → List E → List (Check PlainMultilinearError)
+multilinear_claim_checks s embed m vs points ys =
     check Length (HasValues m vs) ∷ in_turn (length points) (point_check m points)
-    ++ check Count (length ys ≡ length points) ∷ in_turn (length points) (value_check s ys (values_at s embed vs points))
+    ++ check Count (length ys ≡ length points) ∷ in_turn (length points) (multilinear_value_check s ys (multilinear_values_at s embed vs points))
 
 -- the first fault of claimed values
 abbrev pub IsClaimFault : {F E : Type 0} → Ring E → (F → E) → ℕ → List F → List (List E) → List E → PlainMultilinearError → Type 0
-IsClaimFault s embed m vs points ys e = FirstFails (claim_checks s embed m vs points ys) e
+IsClaimFault s embed m vs points ys e = FirstFails (multilinear_claim_checks s embed m vs points ys) e
 
 -- why a list isn't committed to: it has another length
 abbrev pub IsCommitFault : {F : Type 0} → ℕ → List F → PlainMultilinearProverError → Type 0

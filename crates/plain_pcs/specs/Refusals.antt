@@ -44,8 +44,8 @@ abbrev pub OpenFault : {F E : Type 0} → List (Request (List (CosetData F × Ro
 OpenFault requests (Commit i) = ⊥
 OpenFault requests (Open i) = IsFirstWithout (λ r. length r.points ≡ length r.prover_data) requests i
 
--- What holds where memory is wanting. A call that looks for causes to refuse before it takes any memory then has none.
-abbrev pub IfWanting : {T E : Type 0} → Result T (PcsFailure E) → Type 0 → Type 0
-IfWanting (Ok w) p = ⊤
-IfWanting (Err OutOfMemory) p = p
-IfWanting (Err (Refused e)) p = ⊤
+-- What holds where memory runs out. A call that looks for causes to refuse before it takes any memory then has none.
+abbrev pub IfOutOfMemory : {T E : Type 0} → Result T (PcsFailure E) → Type 0 → Type 0
+IfOutOfMemory (Ok w) p = ⊤
+IfOutOfMemory (Err OutOfMemory) p = p
+IfOutOfMemory (Err (Refused e)) p = ⊤

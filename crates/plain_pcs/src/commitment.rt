@@ -6,8 +6,8 @@ use p3_matrix::RowMajorMatrix;
 use std::alloc::Global;
 use std::marker::Model;
 
-/// A commitment of the plain scheme (own): per committed matrix the values of its columns' polynomials on the coset whose
-/// shift is the field's GENERATOR, 2^`log_blowup` times as large as the matrix's domain; row i is at point i.
+/// A commitment of the plain scheme (not in Plonky3): per committed matrix the values of its columns' polynomials on the
+/// coset whose shift is the field's GENERATOR, 2^`log_blowup` times as large as the matrix's domain; row i is at point i.
 #[derive(Drop)]
 pub struct PlainCommitment<F> {
     /// The extensions, in the order of the matrices.
@@ -46,8 +46,8 @@ pub(crate) fn copied_matrices<F: Copy>(
     Ok(copies)
 }
 
-/// What the plain scheme's prover keeps (own): the committed values, each matrix with its domain. From `commit_ldes` it keeps
-/// the extensions, each with the coset of shift GENERATOR of its height.
+/// The plain scheme's prover data (not in Plonky3): the committed values, each matrix with its domain. From `commit_ldes` it
+/// keeps the extensions, each with the coset of shift GENERATOR of its height.
 #[derive(Drop)]
 pub struct PlainProverData<F: TwoAdicCore> {
     pub(crate) evaluated: Vec<(TwoAdicMultiplicativeCoset<F>, RowMajorMatrix<F>)>,
@@ -63,7 +63,7 @@ impl<F: TwoAdicCore> Model for PlainProverData<F> {
     ghost view = { λ d. d.evaluated.items };
 }
 
-/// A proof of opened values (own). A verifier of the plain scheme has all that it needs in the commitment, so there is
-/// nothing in it.
+/// A proof of opened values (not in Plonky3). A verifier of the plain scheme has all that it needs in the commitment,
+/// so there is nothing in it.
 #[derive(Clone, Copy, Debug, PartialEq, Eq)]
 pub struct PlainProof;

@@ -11,7 +11,7 @@ ghost use Rattle.plain_pcs.specs.Extension.{Extends, commitment_of};
 ghost use Rattle.plain_pcs.specs.Holding.{IsMade, AreHolding};
 ghost use Rattle.plain_pcs.specs.Cosets.{IsOnCoset};
 ghost use Rattle.p3_field.specs.Checks.{IsFirstWithout};
-ghost use Rattle.plain_pcs.specs.Refusals.{CommitFault, ExtensionsFault, HasSubgroupHeight, IfWanting};
+ghost use Rattle.plain_pcs.specs.Refusals.{CommitFault, ExtensionsFault, HasSubgroupHeight, IfOutOfMemory};
 
 use crate::commitment::{PlainCommitment, PlainProverData, copied_matrices};
 use crate::error::PlainProverError;
@@ -22,9 +22,9 @@ use p3_field::{FieldCore, Mem, TwoAdicCore, TwoAdicField, TwoAdicMultiplicativeC
 use p3_matrix::{RowMajorMatrix, is_power_of_two, log2_strict_usize};
 use std::alloc::Global;
 
-/// Commits to the columns of matrices on domains (own): the commitment is their extensions, and the prover keeps what it
-/// was given. Each matrix is copied once, for the transform that extends it. `Refused` names the first matrix that can't
-/// be committed to, and comes exactly where there is one.
+/// Commits to the columns of matrices on domains (not in Plonky3): the commitment is their extensions, and the prover
+/// keeps what it was given. Each matrix is copied once, for the transform that extends it. `Refused` names the first
+/// matrix that can't be committed to, and comes exactly where there is one.
 pub(crate) fn commit<F: TwoAdicField, D: TwoAdicSubgroupDft<F>>(
     alloc: Global,
     dft: &D,
@@ -33,7 +33,7 @@ pub(crate) fn commit<F: TwoAdicField, D: TwoAdicSubgroupDft<F>>(
 ) -> Result<(PlainCommitment<F>, PlainProverData<F>), PcsFailure<PlainProverError>>
     requires { log_blowup ≤ F.TWO_ADICITY }
     ensures refusal { RefusedBy (CommitFault (scheme F.ring F.inv F.root F.GENERATOR F.TWO_ADICITY (record { log_blowup = log_blowup })) evaluations.items) result }
-    ensures searched { IfWanting result (NoneOf (CommitFault (scheme F.ring F.inv F.root F.GENERATOR F.TWO_ADICITY (record { log_blowup = log_blowup })) evaluations.items)) }
+    ensures searched { IfOutOfMemory result (NoneOf (CommitFault (scheme F.ring F.inv F.root F.GENERATOR F.TWO_ADICITY (record { log_blowup = log_blowup })) evaluations.items)) }
     ensures committed { IfOk result (IsCommitment F.ring (λ (d : CosetData F). 2 ^ d.log_size) (λ (d : CosetData F). point F.ring F.root d)
         (λ es c. c ≡ commitment_of (scheme F.ring F.inv F.root F.GENERATOR F.TWO_ADICITY (record { log_blowup = log_blowup })) es)
         IsMade (AreHolding (scheme F.ring F.inv F.root F.GENERATOR F.TWO_ADICITY (record { log_blowup = log_blowup }))) evaluations.items) }
@@ -50,8 +50,8 @@ pub(crate) fn commit<F: TwoAdicField, D: TwoAdicSubgroupDft<F>>(
     ))
 }
 
-/// The extensions of matrices on domains (own), without a copy of any. `Refused` names the first matrix that can't be
-/// committed to, and comes exactly where there is one.
+/// The extensions of matrices on domains (not in Plonky3), without a copy of any. `Refused` names the first matrix
+/// that can't be committed to, and comes exactly where there is one.
 pub(crate) fn extensions<F: TwoAdicField, D: TwoAdicSubgroupDft<F>>(
     alloc: Global,
     dft: &D,
@@ -60,7 +60,7 @@ pub(crate) fn extensions<F: TwoAdicField, D: TwoAdicSubgroupDft<F>>(
 ) -> Result<Vec<RowMajorMatrix<F>>, PcsFailure<PlainProverError>>
     requires { log_blowup ≤ F.TWO_ADICITY }
     ensures refusal { RefusedBy (CommitFault (scheme F.ring F.inv F.root F.GENERATOR F.TWO_ADICITY (record { log_blowup = log_blowup })) evaluations.items) result }
-    ensures searched { IfWanting result (NoneOf (CommitFault (scheme F.ring F.inv F.root F.GENERATOR F.TWO_ADICITY (record { log_blowup = log_blowup })) evaluations.items)) }
+    ensures searched { IfOutOfMemory result (NoneOf (CommitFault (scheme F.ring F.inv F.root F.GENERATOR F.TWO_ADICITY (record { log_blowup = log_blowup })) evaluations.items)) }
     ensures extensions { IfOk result (λ v. AreExtensions (Extends (scheme F.ring F.inv F.root F.GENERATOR F.TWO_ADICITY (record { log_blowup = log_blowup }))) evaluations.items v.items) }
 {
     if let Some(matrix) = first_not_committable(log_blowup, &evaluations) {
@@ -116,9 +116,9 @@ fn with_cosets<F: TwoAdicField>(
     Ok(evaluated)
 }
 
-/// Commits to the columns of which these are extensions that `extensions` gave (own): the commitment is the extensions,
-/// and the prover keeps them, each with its coset. They are copied once. `Refused` names the first matrix whose height
-/// isn't the size of a subgroup, and comes exactly where there is one.
+/// Commits to the columns of which these are extensions that `extensions` gave (not in Plonky3): the commitment is the
+/// extensions, and the prover keeps them, each with its coset. They are copied once. `Refused` names the first matrix
+/// whose height isn't the size of a subgroup, and comes exactly where there is one.
 pub(crate) fn commit_extensions<F: TwoAdicField>(
     alloc: Global,
     log_blowup: usize,
@@ -126,7 +126,7 @@ pub(crate) fn commit_extensions<F: TwoAdicField>(
 ) -> Result<(PlainCommitment<F>, PlainProverData<F>), PcsFailure<PlainProverError>>
     requires { log_blowup ≤ F.TWO_ADICITY }
     ensures refusal { RefusedBy (ExtensionsFault (scheme F.ring F.inv F.root F.GENERATOR F.TWO_ADICITY (record { log_blowup = log_blowup })) ldes.items) result }
-    ensures searched { IfWanting result (NoneOf (ExtensionsFault (scheme F.ring F.inv F.root F.GENERATOR F.TWO_ADICITY (record { log_blowup = log_blowup })) ldes.items)) }
+    ensures searched { IfOutOfMemory result (NoneOf (ExtensionsFault (scheme F.ring F.inv F.root F.GENERATOR F.TWO_ADICITY (record { log_blowup = log_blowup })) ldes.items)) }
     ensures commitment { IfOk result (λ w. w.0 ≡ record { matrices = ldes.items }) }
     ensures made { IfOk result (λ w. IsMade w.1) }
     ensures count { IfOk result (λ w. length w.1 ≡ length ldes.items) }
@@ -163,9 +163,9 @@ pub(crate) fn column_polynomials<F: TwoAdicField>(
     Ok(polynomials)
 }
 
-/// The polynomials of the columns of a committed matrix whose height is the size of a subgroup (own): for each column its
-/// coefficients, lowest first, as many as there are rows. The value at point i of the coset with shift GENERATOR is the
-/// column's value in row i.
+/// The polynomials of the columns of a committed matrix whose height is the size of a subgroup (not in Plonky3): for each
+/// column its coefficients, lowest first, as many as there are rows. The value at point i of the coset with shift
+/// GENERATOR is the column's value in row i.
 pub(crate) fn committed<F: TwoAdicField>(
     alloc: Global,
     commitment: &PlainCommitment<F>,

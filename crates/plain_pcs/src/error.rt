@@ -1,8 +1,8 @@
 //! Why the plain scheme refuses.
 use thiserror::Error;
 
-/// Why a plain scheme's verifier refuses claims (own): the first check that fails. Checks go round by round, a round for
-/// each commitment, and in a round matrix by matrix.
+/// Why a plain scheme's verifier refuses claims (not in Plonky3): the first check that fails. Checks go round by round,
+/// a round for each commitment, and in a round matrix by matrix.
 #[derive(Clone, Copy, Debug, PartialEq, Eq, Error)]
 pub enum PlainError {
     /// The claims on a commitment aren't one per matrix.
@@ -44,7 +44,7 @@ pub enum PlainError {
     },
 }
 
-/// Why a plain scheme's prover refuses (own).
+/// Why a plain scheme's prover refuses (not in Plonky3).
 #[derive(Clone, Copy, Debug, PartialEq, Eq, Error)]
 pub enum PlainProverError {
     /// The scheme can't commit to this matrix, the first such: it has no columns, its height isn't its domain's size, or its

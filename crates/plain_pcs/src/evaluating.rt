@@ -18,10 +18,10 @@ use p3_matrix::RowMajorMatrix;
 use std::alloc::Global;
 
 /// The values of the polynomials of the matrix at place `idx` on a domain, a row for each point and a column for each
-/// polynomial (own).
+/// polynomial (not in Plonky3).
 ///
-/// Prover data holds the polynomials' values on a domain of its own, and one transform leads from there. Memory alone can
-/// be wanting.
+/// Prover data holds the polynomials' values on a domain of its own, and one transform leads from there. Only memory can
+/// run out.
 pub(crate) fn evaluations_on_domain<F: TwoAdicField, D: TwoAdicSubgroupDft<F>>(
     alloc: Global,
     dft: &D,
@@ -31,7 +31,8 @@ pub(crate) fn evaluations_on_domain<F: TwoAdicField, D: TwoAdicSubgroupDft<F>>(
 ) -> Mem<RowMajorMatrix<F>>
     requires made { IsMade prover_data.now }
     requires index { idx < length prover_data.now }
-    ensures { IfOk result (λ m. (b : Blowup) (commitment : PlainCommitmentData F) (cs : List (Committed F)) (c : Committed F) → AreHolding (scheme F.ring F.inv F.root F.GENERATOR F.TWO_ADICITY b) prover_data.now commitment cs → slice_get cs idx ≡ Some c
+    ensures { IfOk result (λ m. (b : Blowup) (commitment : PlainCommitmentData F) (cs : List (Committed F)) (c : Committed F)
+        → AreHolding (scheme F.ring F.inv F.root F.GENERATOR F.TWO_ADICITY b) prover_data.now commitment cs → slice_get cs idx ≡ Some c
         → IsEvaluated F.ring (2 ^ domain.log_size) (point F.ring F.root domain) c m) }
 {
     let evaluated = &prover_data.evaluated[idx];
@@ -41,8 +42,8 @@ pub(crate) fn evaluations_on_domain<F: TwoAdicField, D: TwoAdicSubgroupDft<F>>(
 }
 
 /// The table of periodic columns on a quotient domain: a column for each, laid over the trace domain, and a row for each
-/// point of the quotient domain, with the values that the columns' interpolants have there (own). Without columns it is
-/// empty. Memory alone can be wanting.
+/// point of the quotient domain, with the values that the columns' interpolants have there (not in Plonky3). Without
+/// columns it is empty. Only memory can run out.
 pub(crate) fn periodic_table<F: TwoAdicField, D: TwoAdicSubgroupDft<F>>(
     alloc: Global,
     dft: &D,
@@ -53,7 +54,8 @@ pub(crate) fn periodic_table<F: TwoAdicField, D: TwoAdicSubgroupDft<F>>(
     requires fit { All (λ c. IsPeriod (2 ^ trace_domain.log_size) (length c.items)) periodic_cols.now }
     requires shift { point F.ring F.root trace_domain 0 ≡ F.ring.one }
     requires larger { 2 ^ trace_domain.log_size ≤ 2 ^ quotient_domain.log_size }
-    ensures table { IfOk result (IsPeriodicTable F.ring (2 ^ trace_domain.log_size) (point F.ring F.root trace_domain) (2 ^ quotient_domain.log_size) (point F.ring F.root quotient_domain) (map (λ c. c.items) periodic_cols.now)) }
+    ensures table { IfOk result (IsPeriodicTable F.ring (2 ^ trace_domain.log_size) (point F.ring F.root trace_domain) (2 ^ quotient_domain.log_size)
+        (point F.ring F.root quotient_domain) (map (λ c. c.items) periodic_cols.now)) }
     ensures height { IfOk result (λ t. 0 < length periodic_cols.now → height t ≡ 2 ^ quotient_domain.log_size) }
 {
     if periodic_cols.is_empty() {

@@ -2,7 +2,7 @@
 ghost use Rattle.std.specs.Prelude.{◌≡◌, ℕ, ◌+◌, ◌*◌, ◌/◌, ◌^◌, ◌<◌, List, ◌∷◌, length, map, All, IfOk, MatchOption};
 ghost use Rattle.p3_commit.specs.Batches.{lists};
 ghost use Rattle.plain_pcs.specs.Multilinear.{multilinear_value};
-ghost use Rattle.plain_pcs.specs.PlainMultilinear.{after_values, HasValues, HaveCoordinates, IsFirstUnfit, IsFirstDifferent, values_at as values_at_points};
+ghost use Rattle.plain_pcs.specs.PlainMultilinear.{after_values, HasValues, HaveCoordinates, IsFirstUnfit, IsFirstDifferent, multilinear_values_at as values_at_points};
 
 use p3_challenger::CanObserve;
 use p3_field::{

@@ -13,8 +13,8 @@ use p3_field::{
 use p3_matrix::RowMajorMatrix;
 use std::alloc::Global;
 
-/// The extension of a matrix on a domain (own): the values of its columns' polynomials on the coset whose shift is the
-/// field's GENERATOR and which is 2^`log_blowup` times as large as the domain.
+/// The extension of a matrix on a domain (not in Plonky3): the values of its columns' polynomials on the coset whose
+/// shift is the field's GENERATOR and which is 2^`log_blowup` times as large as the domain.
 pub(crate) fn extension<F: TwoAdicField, D: TwoAdicSubgroupDft<F>>(
     alloc: Global,
     dft: &D,

@@ -1,5 +1,6 @@
-//! Commitment schemes without hashing (own): a commitment is what is committed to, or its low-degree extension. So they
-//! neither hide nor compress, and a verifier checks values itself. "Own" says of an item that it has no original in Plonky3.
+//! Commitment schemes without hashing (not in Plonky3): a commitment is what is committed to, or its low-degree extension.
+//! So they neither hide nor compress, and a verifier checks values itself. "Own" says of an item that it has no original in
+//! Plonky3.
 //!
 //! `PlainPcs` commits to polynomials, `PlainMmcs` to matrices, and `PlainMultilinear` to multilinear polynomials. The
 //! definitions that the contracts cite are in `specs/`.

@@ -16,10 +16,10 @@ use p3_field::{
     TwoAdicCore, TwoAdicField,
 };
 
-/// Within its bounds the plain scheme has no cause to refuse (own): to commit to matrices that have columns, a row for each
-/// point of their domain and at most 2^`log_max_trace_height` rows, or to extend them; to commit to extensions that it
-/// gave; to commit to a quotient whose parts have at most so many rows; to open where each request has one list of points
-/// per matrix.
+/// Within its bounds the plain scheme has no cause to refuse (not in Plonky3): to commit to matrices that have columns, a
+/// row for each point of their domain and at most 2^`log_max_trace_height` rows, or to extend them; to commit to extensions
+/// that it gave; to commit to a quotient whose parts have at most so many rows; to open where each request has one list of
+/// points per matrix.
 pub fn nothing_is_refused_within_bounds<F: TwoAdicField, E>()
     ensures commit { (b : Blowup) (evaluated : List (CosetData F × Rows F)) → b.log_blowup ≤ F.TWO_ADICITY
         → All (IsWithinBounds (scheme F.ring F.inv F.root F.GENERATOR F.TWO_ADICITY b)) evaluated
@@ -35,8 +35,8 @@ pub fn nothing_is_refused_within_bounds<F: TwoAdicField, E>()
 {}
 
 /// Where the plain scheme opens claims, the claim on each matrix speaks of one polynomial for each of its columns, which the
-/// commitment alone fixes (own): the degree is below the size of the claim's domain, and the claimed values at each point
-/// are those of the polynomials.
+/// commitment alone fixes (not in Plonky3): the degree is below the size of the claim's domain, and the claimed values at
+/// each point are those of the polynomials.
 pub fn opened_claims_bind<F: TwoAdicField, E: ExtensionField<F>>()
     ensures { (b : Blowup) (claims : List (CommitmentClaim E (PlainCommitmentData F) (CosetData F)))
         → Opens (scheme F.ring F.inv F.root F.GENERATOR F.TWO_ADICITY b) E.ring E.embed claims

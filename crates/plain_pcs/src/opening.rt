@@ -3,14 +3,14 @@ ghost use Rattle.std.specs.Prelude.{◌≡◌, ℕ, ◌^◌, ◌<◌, ◌≤◌,
 ghost use Rattle.p3_field.specs.Domain.{CosetData};
 ghost use Rattle.p3_matrix.specs.Matrix.{Rows, height};
 ghost use Rattle.p3_commit.specs.Failure.{NoneOf, RefusedBy};
-ghost use Rattle.p3_commit.specs.Commitments.{Committed, Held, AreHeld, IsOpening, nested, opened, values_of};
+ghost use Rattle.p3_commit.specs.Commitments.{Committed, OpenedCommitment, AreOpenedCommitments, IsOpening, nested, opened, values_of};
 ghost use Rattle.p3_commit.specs.Periodic.{EachFrom};
 ghost use Rattle.plain_pcs.specs.Scheme.{PlainCommitmentData, scheme};
 ghost use Rattle.plain_pcs.specs.Checks.{Opens};
 ghost use Rattle.plain_pcs.specs.Holding.{IsMade, AreHolding};
 ghost use Rattle.p3_field.specs.Checks.{IsFirstWithout};
-ghost use Rattle.plain_pcs.specs.Refusals.{OpenFault, IfWanting};
-ghost use Rattle.plain_pcs.specs.Opening.{HaveValues, EachHasValues, opened_each};
+ghost use Rattle.plain_pcs.specs.Refusals.{OpenFault, IfOutOfMemory};
+ghost use Rattle.plain_pcs.specs.Opening.{HaveMatrixValues, EachHasValues, opened_each};
 
 use crate::commitment::PlainProverData;
 use crate::error::PlainProverError;
@@ -24,8 +24,8 @@ use p3_field::{
 use p3_matrix::{RowMajorMatrix, interpolate_coset};
 use std::alloc::Global;
 
-/// The values of committed polynomials at points (own), in the order of the requests, of their matrices, of the points,
-/// and of the columns. `Refused` names the first request whose lists of points aren't one per matrix.
+/// The values of committed polynomials at points (not in Plonky3), in the order of the requests, of their matrices, of
+/// the points, and of the columns. `Refused` names the first request whose lists of points aren't one per matrix.
 pub(crate) fn open<F: TwoAdicField, E: ExtensionField<F>>(
     alloc: Global,
     log_blowup: usize,
@@ -33,9 +33,11 @@ pub(crate) fn open<F: TwoAdicField, E: ExtensionField<F>>(
 ) -> Result<OpenedValues<E>, PcsFailure<PlainProverError>>
     requires made { All (λ r. IsMade r.prover_data) requests.now }
     ensures refusal { RefusedBy (OpenFault requests.now) result }
-    ensures searched { IfWanting result (NoneOf (OpenFault requests.now)) }
-    ensures opening { IfOk result (λ w. (held : List (Held (PlainCommitmentData F) F)) → AreHeld (AreHolding (scheme F.ring F.inv F.root F.GENERATOR F.TWO_ADICITY (record { log_blowup = log_blowup }))) requests.now held
-        → IsOpening E.ring E.embed (λ (d : CosetData F). 2 ^ d.log_size) (λ (x : E). ⊥) (Opens (scheme F.ring F.inv F.root F.GENERATOR F.TWO_ADICITY (record { log_blowup = log_blowup })) E.ring E.embed) requests.now (nested w) held) }
+    ensures searched { IfOutOfMemory result (NoneOf (OpenFault requests.now)) }
+    ensures opening { IfOk result (λ w. (held : List (OpenedCommitment (PlainCommitmentData F) F))
+        → AreOpenedCommitments (AreHolding (scheme F.ring F.inv F.root F.GENERATOR F.TWO_ADICITY (record { log_blowup = log_blowup }))) requests.now held
+        → IsOpening E.ring E.embed (λ (d : CosetData F). 2 ^ d.log_size) (λ (x : E). ⊥)
+        (Opens (scheme F.ring F.inv F.root F.GENERATOR F.TWO_ADICITY (record { log_blowup = log_blowup })) E.ring E.embed) requests.now (nested w) held) }
 {
     if let Some(request) = first_unfit(requests) {
         return Err(PcsFailure::Refused(PlainProverError::Open { request }));
@@ -68,7 +70,8 @@ fn opened_requests<F: TwoAdicField, E: ExtensionField<F>>(
 ) -> Mem<OpenedValues<E>>
     requires made { All (λ r. IsMade r.prover_data) requests.now }
     requires lists { All (λ r. length r.points ≡ length r.prover_data) requests.now }
-    ensures { IfOk result (λ w. (held : List (Held (PlainCommitmentData F) F)) → EachFrom requests.now held (λ r h. EachHasValues F.ring F.root r.prover_data h.matrices) → nested w ≡ opened E.ring E.embed held requests.now) }
+    ensures { IfOk result (λ w. (held : List (OpenedCommitment (PlainCommitmentData F) F))
+        → EachFrom requests.now held (λ r h. EachHasValues F.ring F.root r.prover_data h.matrices) → nested w ≡ opened E.ring E.embed held requests.now) }
 {
     let mut rounds = Vec::with_capacity(alloc, requests.len())?;
     for request in requests {
@@ -85,7 +88,8 @@ fn opened_matrices<F: TwoAdicField, E: ExtensionField<F>>(
 ) -> Mem<OpenedValuesForRound<E>>
     requires made { IsMade prover_data.now }
     requires lists { length points.now ≡ length prover_data.now }
-    ensures { IfOk result (λ w. (cs : List (Committed F)) → EachHasValues F.ring F.root prover_data.now cs → map (λ m. map (λ v. v.items) m.items) w.items ≡ opened_each E.ring E.embed cs (map (λ v. v.items) points.now)) }
+    ensures { IfOk result (λ w. (cs : List (Committed F)) → EachHasValues F.ring F.root prover_data.now cs → map (λ m. map (λ v. v.items) m.items) w.items
+        ≡ opened_each E.ring E.embed cs (map (λ v. v.items) points.now)) }
 {
     let mut matrices = Vec::with_capacity(alloc, points.len())?;
     for (index, list) in points.iter().enumerate() {
@@ -103,7 +107,7 @@ fn opened_matrix<F: TwoAdicField, E: ExtensionField<F>>(
     points: &[E],
 ) -> Mem<OpenedValuesForMatrix<E>>
     requires { height matrix.now ≡ 2 ^ domain.now.log_size }
-    ensures { IfOk result (λ w. (c : Committed F) → HaveValues F.ring F.root domain.now matrix.now c.polynomials → map (λ v. v.items) w.items ≡ map (values_of E.ring E.embed c) points.now) }
+    ensures { IfOk result (λ w. (c : Committed F) → HaveMatrixValues F.ring F.root domain.now matrix.now c.polynomials → map (λ v. v.items) w.items ≡ map (values_of E.ring E.embed c) points.now) }
 {
     let mut values = Vec::with_capacity(alloc, points.len())?;
     for point in points {
@@ -120,7 +124,7 @@ fn opened_at<F: TwoAdicField, E: ExtensionField<F>>(
     point: E,
 ) -> Mem<Vec<E>>
     requires { height matrix.now ≡ 2 ^ domain.now.log_size }
-    ensures { IfOk result (λ v. (c : Committed F) → HaveValues F.ring F.root domain.now matrix.now c.polynomials → v.items ≡ values_of E.ring E.embed c point) }
+    ensures { IfOk result (λ v. (c : Committed F) → HaveMatrixValues F.ring F.root domain.now matrix.now c.polynomials → v.items ≡ values_of E.ring E.embed c point) }
 {
     domain.valid();
     let values = interpolate_coset(alloc, matrix, domain.shift(), point)?;

@@ -6,7 +6,7 @@ ghost use Rattle.p3_commit.specs.Periodic.{IsGreatest, EachFrom};
 ghost use Rattle.p3_commit.specs.Batches.{lists, IsBatch, IsRowOf, HaveWidths};
 ghost use Rattle.p3_commit.specs.Failure.{VerifiedBy};
 ghost use Rattle.plain_pcs.specs.Laws.Faults.{opened_faultless, all_opened_faultless, some_opening_fault, some_fault_of_all, one_opening_fault, one_fault_of_all};
-ghost use Rattle.plain_pcs.specs.PlainMmcs.{AreTheRows, HasShape, HaveShape, IsOpened, IsFault, AreOpened, IsFaultOfAll};
+ghost use Rattle.plain_pcs.specs.PlainMmcs.{AreTheRows, HasOpeningShape, HaveOpeningShapes, IsRowOpening, IsOpeningFault, AreRowOpenings, IsFaultOfOpenings};
 
 use crate::rows::{are_dimensions, are_the_rows, have_widths, is_row, opened_rows};
 use p3_commit::{BatchOpening, BatchOpeningRef, Mmcs, PcsFailure};
@@ -16,8 +16,8 @@ use std::alloc::Global;
 use std::marker::Model;
 use thiserror::Error;
 
-/// A scheme whose commitment is the matrices themselves (own). Committing copies each matrix once, since the commitment
-/// and what the prover keeps are two values. Values are compared by their `==`.
+/// A scheme whose commitment is the matrices themselves (not in Plonky3). Committing copies each matrix once, since the
+/// commitment and the prover data are two values. Values are compared by their `==`.
 #[derive(Clone, Copy, Debug)]
 pub struct PlainMmcs;
 
@@ -35,11 +35,12 @@ impl<T> Model for PlainMmcsData<T> {
     ghost invariant = { λ s. IsBatch s.matrices.items };
 }
 
-/// The proof of an opening of a `PlainMmcs`, of one row or of several (own): the verifier has the matrices, and needs none.
+/// The proof of an opening of a `PlainMmcs`, of one row or of several (not in Plonky3): the verifier has the matrices, and
+/// needs none.
 #[derive(Clone, Copy, Debug)]
 pub struct PlainMmcsProof;
 
-/// Why a `PlainMmcs` refuses an opening, the first that comes (own).
+/// Why a `PlainMmcs` refuses an opening, the first that comes (not in Plonky3).
 #[derive(Debug, Drop, Error)]
 pub enum PlainMmcsError {
     /// The dimensions aren't those of the committed matrices, a committed height is no power of two, or what is opened
@@ -71,13 +72,13 @@ impl<T: Copy + Eq> Mmcs<T> for PlainMmcs {
 
     ghost belongs = { λ s d c. c.items ≡ d };
 
-    ghost opens = { λ s c ds i rows p. IsOpened T.eq c.items ds i rows };
+    ghost opens = { λ s c ds i rows p. IsRowOpening T.eq c.items ds i rows };
 
-    ghost fault = { λ s c ds i rows p e. IsFault T.eq c.items ds i rows e };
+    ghost fault = { λ s c ds i rows p e. IsOpeningFault T.eq c.items ds i rows e };
 
-    ghost multi_opens = { λ s c ds is rows p. AreOpened T.eq c.items ds is rows };
+    ghost multi_opens = { λ s c ds is rows p. AreRowOpenings T.eq c.items ds is rows };
 
-    ghost multi_fault = { λ s c ds is rows p e. IsFaultOfAll T.eq c.items ds is rows e };
+    ghost multi_fault = { λ s c ds is rows p e. IsFaultOfOpenings T.eq c.items ds is rows e };
 
     /// Copies each matrix once, for the commitment.
     fn commit(
@@ -117,7 +118,7 @@ impl<T: Copy + Eq> Mmcs<T> for PlainMmcs {
     }
 
     /// Compares the rows with the committed ones, one for each matrix, as long as it is wide. It allocates nothing, so memory
-    /// is never wanting. Where a committed height is no power of two, it is `Dimensions` for all rows.
+    /// never runs out. Where a committed height is no power of two, it is `Dimensions` for all rows.
     fn verify_batch(
         &self,
         _alloc: Global,
@@ -127,8 +128,8 @@ impl<T: Copy + Eq> Mmcs<T> for PlainMmcs {
         opening: BatchOpeningRef<'_, T, Self>,
     ) -> Result<(), PcsFailure<PlainMmcsError>>
         requires { All (λ d. ⊤) dimensions.now }
-        ensures verdict { VerifiedBy (IsOpened T.eq commit.now.items dimensions.now index (lists opening.entry.opened_values.now))
-            (IsFault T.eq commit.now.items dimensions.now index (lists opening.entry.opened_values.now)) result }
+        ensures verdict { VerifiedBy (IsRowOpening T.eq commit.now.items dimensions.now index (lists opening.entry.opened_values.now))
+            (IsOpeningFault T.eq commit.now.items dimensions.now index (lists opening.entry.opened_values.now)) result }
         ensures decided { result ≢ Err PcsFailure.OutOfMemory }
     {
         let rows = opening.opened_values;
@@ -159,7 +160,7 @@ impl<T: Copy + Eq> Mmcs<T> for PlainMmcs {
     }
 
     /// The same for each place in its turn: the shape of all openings comes first, then the places, then the values. It
-    /// allocates nothing, so memory is never wanting.
+    /// allocates nothing, so memory never runs out.
     fn verify_multi_batch(
         &self,
         _alloc: Global,
@@ -170,8 +171,8 @@ impl<T: Copy + Eq> Mmcs<T> for PlainMmcs {
         _proof: &PlainMmcsProof,
     ) -> Result<(), PcsFailure<PlainMmcsError>>
         requires { All (λ d. ⊤) dimensions.now }
-        ensures verdict { VerifiedBy (AreOpened T.eq commit.now.items dimensions.now indices.now (map (λ rows. lists rows.items) opened_values.now))
-            (IsFaultOfAll T.eq commit.now.items dimensions.now indices.now (map (λ rows. lists rows.items) opened_values.now)) result }
+        ensures verdict { VerifiedBy (AreRowOpenings T.eq commit.now.items dimensions.now indices.now (map (λ rows. lists rows.items) opened_values.now))
+            (IsFaultOfOpenings T.eq commit.now.items dimensions.now indices.now (map (λ rows. lists rows.items) opened_values.now)) result }
         ensures decided { result ≢ Err PcsFailure.OutOfMemory }
     {
         if !have_shape(commit, dimensions, indices, opened_values) {
@@ -205,7 +206,7 @@ impl<T: Copy + Eq> Mmcs<T> for PlainMmcs {
 
 // Whether an opening has the matrices' shape.
 fn has_shape<T>(matrices: &[RowMajorMatrix<T>], dimensions: &[Dimensions], rows: &[Vec<T>]) -> bool
-    ensures { IsTrue result ↔ HasShape matrices.now dimensions.now (lists rows.now) }
+    ensures { IsTrue result ↔ HasOpeningShape matrices.now dimensions.now (lists rows.now) }
 {
     are_dimensions(matrices, dimensions) && have_widths(dimensions, rows)
 }
@@ -229,7 +230,7 @@ fn have_shape<T>(
     indices: &[usize],
     openings: &[Vec<Vec<T>>],
 ) -> bool
-    ensures { IsTrue result ↔ HaveShape matrices.now dimensions.now indices.now (map (λ rows. lists rows.items) openings.now) }
+    ensures { IsTrue result ↔ HaveOpeningShapes matrices.now dimensions.now indices.now (map (λ rows. lists rows.items) openings.now) }
 {
     are_dimensions(matrices, dimensions)
         && openings.len() == indices.len()

@@ -3,7 +3,7 @@ ghost use Rattle.std.specs.Prelude.{◌≡◌, ℕ, ◌^◌, ◌<◌, List, leng
 ghost use Rattle.p3_commit.specs.Batches.{lists};
 ghost use Rattle.p3_commit.specs.Failure.{RefusedBy, IfRefused, VerifiedBy};
 ghost use Rattle.plain_pcs.specs.PlainMultilinear.{after_values, HasValues, HaveCoordinates, AreValuesAt, IsClaimFault, IsCommitFault, IsOpenFault};
-ghost use Rattle.plain_pcs.specs.Refusals.{IfWanting};
+ghost use Rattle.plain_pcs.specs.Refusals.{IfOutOfMemory};
 ghost use Rattle.plain_pcs.specs.Laws.Claims.{claims_faultless, some_claim_fault, one_claim_fault, one_commit_cause, one_open_cause};
 
 use crate::evaluations::{first_different, first_unfit, observe_values, values_at};
@@ -17,7 +17,7 @@ use std::marker::{Model, PhantomData};
 use thiserror::Error;
 
 /// A scheme whose commitment to a multilinear polynomial is its values on all points of zeros and ones: bit j of a value's
-/// place is variable j (own). Contracts see it as the number of variables.
+/// place is variable j (not in Plonky3). Contracts see it as the number of variables.
 #[derive(Drop)]
 pub struct PlainMultilinear<F> {
     num_vars: usize,
@@ -45,14 +45,15 @@ impl<F> PlainMultilinear<F> {
     }
 }
 
-/// The values of a multilinear polynomial, as a commitment to it and as what its prover keeps (own).
+/// The values of a multilinear polynomial, as a commitment to it and as its prover data (not in
+/// Plonky3).
 #[derive(Drop)]
 pub struct PlainEvaluations<F> {
     /// The values. Bit j of a value's place is variable j.
     pub values: Vec<F>,
 }
 
-/// Why a `PlainMultilinear` refuses to commit or to open (own).
+/// Why a `PlainMultilinear` refuses to commit or to open (not in Plonky3).
 #[derive(Debug, Drop, Error)]
 pub enum PlainMultilinearProverError {
     /// The number of values isn't 2 to the number of variables.
@@ -66,7 +67,7 @@ pub enum PlainMultilinearProverError {
     },
 }
 
-/// Why a `PlainMultilinear` refuses values, the first that comes (own).
+/// Why a `PlainMultilinear` refuses values, the first that comes (not in Plonky3).
 #[derive(Debug, Drop, Error)]
 pub enum PlainMultilinearError {
     /// The commitment's number of values isn't 2 to the number of variables.
@@ -130,7 +131,8 @@ impl<F: Field, EF: ExtensionField<F>, C: CanObserve<F>> MultilinearPcs<EF, C>
     }
 
     /// The values are copied once, for the commitment. The challenger takes in how many they are, and then each; it stays as
-    /// it was where nothing is committed to, also for want of memory. `Length` comes exactly for another number of values.
+    /// it was where nothing is committed to, also where memory runs out. `Length` comes exactly for another number of
+    /// values.
     fn commit(
         &self,
         alloc: Global,
@@ -138,7 +140,7 @@ impl<F: Field, EF: ExtensionField<F>, C: CanObserve<F>> MultilinearPcs<EF, C>
         challenger: &mut C,
     ) -> Result<(PlainEvaluations<F>, PlainEvaluations<F>), PcsFailure<PlainMultilinearProverError>>
         ensures refusal { RefusedBy (IsCommitFault self.now witness.items) result }
-        ensures searched { IfWanting result (HasValues self.now witness.items) }
+        ensures searched { IfOutOfMemory result (HasValues self.now witness.items) }
         ensures unchanged { IfRefused result (λ _. challenger.new ≡ challenger.old) }
         ensures unchanged_by_failure { IfErr result (λ _. challenger.new ≡ challenger.old) }
         ensures observed { IfOk result (λ w. challenger.new ≡ after_values F.ring C.observed w.0.values.items challenger.old) }
@@ -170,7 +172,7 @@ impl<F: Field, EF: ExtensionField<F>, C: CanObserve<F>> MultilinearPcs<EF, C>
         _challenger: &mut C,
     ) -> Result<Vec<EF>, PcsFailure<PlainMultilinearProverError>>
         ensures refusal { RefusedBy (IsOpenFault self.now prover_data.values.items (lists protocol.now.items)) result }
-        ensures searched { IfWanting result (HasValues self.now prover_data.values.items × HaveCoordinates self.now (lists protocol.now.items)) }
+        ensures searched { IfOutOfMemory result (HasValues self.now prover_data.values.items × HaveCoordinates self.now (lists protocol.now.items)) }
         ensures unchanged { IfRefused result (λ _. _challenger.new ≡ _challenger.old) }
         ensures challenger { _challenger.new ≡ _challenger.old }
         ensures accepted { IfOk result (λ p. (c : PlainEvaluations F) (w : Vec F Global) → HasValues self.now w.items × (prover_data.values.items ≡ w.items) × (c.values.items ≡ w.items)
@@ -198,7 +200,8 @@ impl<F: Field, EF: ExtensionField<F>, C: CanObserve<F>> MultilinearPcs<EF, C>
     ) -> Result<(), PcsFailure<PlainMultilinearError>>
         ensures verdict { VerifiedBy (AreValuesAt EF.ring EF.embed self.now commitment.now.values.items (lists protocol.now.items) proof.now.items)
             (IsClaimFault EF.ring EF.embed self.now commitment.now.values.items (lists protocol.now.items) proof.now.items) result }
-        ensures searched { IfWanting result (HasValues self.now commitment.now.values.items × HaveCoordinates self.now (lists protocol.now.items) × (length proof.now.items ≡ length protocol.now.items)) }
+        ensures searched { IfOutOfMemory result (HasValues self.now commitment.now.values.items × HaveCoordinates self.now (lists protocol.now.items)
+            × (length proof.now.items ≡ length protocol.now.items)) }
         ensures challenger { _challenger.new ≡ _challenger.old }
     {
         if commitment.values.len() != 1 << self.num_vars {

@@ -6,12 +6,12 @@ ghost use Rattle.p3_matrix.specs.Matrix.{Rows, height, column};
 ghost use Rattle.p3_commit.specs.Space.{EachOf};
 ghost use Rattle.p3_commit.specs.Periodic.{IsPeriod, IsPeriodicTable};
 ghost use Rattle.p3_commit.specs.Failure.{RefusedBy, IfRefused, VerifiedBy, NoneOf};
-ghost use Rattle.p3_commit.specs.Commitments.{IsSubgroup, Committed, IsCommitment, IsEvaluated, Held, AreHeld, nested, IsOpening, AreExtensions};
+ghost use Rattle.p3_commit.specs.Commitments.{IsSubgroup, Committed, IsCommitment, IsEvaluated, OpenedCommitment, AreOpenedCommitments, nested, IsOpening, AreExtensions};
 ghost use Rattle.plain_pcs.specs.Scheme.{Blowup, scheme, PlainCommitmentData};
 ghost use Rattle.plain_pcs.specs.Extension.{commitment_of, Extends};
 ghost use Rattle.plain_pcs.specs.Checks.{Opens, Fault};
 ghost use Rattle.plain_pcs.specs.Holding.{IsMade, AreHolding};
-ghost use Rattle.plain_pcs.specs.Refusals.{CommitFault, HasSubgroupHeight, ExtensionsFault, QuotientFault, OpenFault, IfWanting};
+ghost use Rattle.plain_pcs.specs.Refusals.{CommitFault, HasSubgroupHeight, ExtensionsFault, QuotientFault, OpenFault, IfOutOfMemory};
 ghost use Rattle.plain_pcs.specs.Laws.Scheme.{held_count, none_below_zero, not_hidden, difference_fits};
 ghost use Rattle.plain_pcs.specs.Laws.Quotients.{refused_by_parts, granted_by_parts};
 ghost use Rattle.plain_pcs.specs.Laws.Checks.{opens_faultless as faultless_where_opens, some_fault as fault_where_not, one_fault as first_fault_is_one};
@@ -35,9 +35,9 @@ use p3_matrix::{RowMajorMatrix, log2_strict_usize};
 use std::alloc::Global;
 use std::marker::{Model, PhantomData};
 
-/// The plain scheme over the field `F`, with the transform `D` (own). Extensions are 2^`log_blowup` times as large as their
-/// columns' domain. A contract sees the scheme as its `log_blowup` alone: which transform runs makes no difference to an
-/// answer.
+/// The plain scheme over the field `F`, with the transform `D` (not in Plonky3). Extensions are 2^`log_blowup` times as
+/// large as their columns' domain. A contract sees the scheme as its `log_blowup` alone: which transform runs makes no
+/// difference to an answer.
 #[derive(Drop)]
 pub struct PlainPcs<F: TwoAdicCore, D> {
     dft: D,
@@ -163,8 +163,10 @@ impl<F: TwoAdicField, D: TwoAdicSubgroupDft<F>, E: ExtensionField<F>, C> Pcs<E, 
         evaluations: Vec<(TwoAdicMultiplicativeCoset<F>, RowMajorMatrix<F>)>,
     ) -> Result<(PlainCommitment<F>, PlainProverData<F>), PcsFailure<PlainProverError>>
         ensures refusal { RefusedBy (CommitFault (scheme F.ring F.inv F.root F.GENERATOR F.TWO_ADICITY self.now) evaluations.items) result }
-        ensures searched { IfWanting result (NoneOf (CommitFault (scheme F.ring F.inv F.root F.GENERATOR F.TWO_ADICITY self.now) evaluations.items)) }
-        ensures committed { IfOk result (IsCommitment F.ring (λ (d : CosetData F). 2 ^ d.log_size) (λ (d : CosetData F). point F.ring F.root d) (λ es c. c ≡ commitment_of (scheme F.ring F.inv F.root F.GENERATOR F.TWO_ADICITY self.now) es) IsMade (AreHolding (scheme F.ring F.inv F.root F.GENERATOR F.TWO_ADICITY self.now)) evaluations.items) }
+        ensures searched { IfOutOfMemory result (NoneOf (CommitFault (scheme F.ring F.inv F.root F.GENERATOR F.TWO_ADICITY self.now) evaluations.items)) }
+        ensures committed { IfOk result
+            (IsCommitment F.ring (λ (d : CosetData F). 2 ^ d.log_size) (λ (d : CosetData F). point F.ring F.root d) (λ es c. c
+            ≡ commitment_of (scheme F.ring F.inv F.root F.GENERATOR F.TWO_ADICITY self.now) es) IsMade (AreHolding (scheme F.ring F.inv F.root F.GENERATOR F.TWO_ADICITY self.now)) evaluations.items) }
     {
         commit(alloc, &self.dft, self.log_blowup, evaluations)
     }
@@ -179,13 +181,15 @@ impl<F: TwoAdicField, D: TwoAdicSubgroupDft<F>, E: ExtensionField<F>, C> Pcs<E, 
     ) -> Result<(OpenedValues<E>, PlainProof), PcsFailure<PlainProverError>>
         requires { All (λ r. IsMade r.prover_data) requests.items }
         ensures refusal { RefusedBy (OpenFault requests.entry.items) result }
-        ensures searched { IfWanting result (NoneOf (OpenFault requests.entry.items)) }
+        ensures searched { IfOutOfMemory result (NoneOf (OpenFault requests.entry.items)) }
         ensures unchanged { IfRefused result (λ _. challenger.new ≡ challenger.old) }
         ensures challenger { challenger.new ≡ challenger.old }
         ensures proof { IfOk result (λ w. w.1 ≡ record {}) }
         ensures after { IfOk result (λ _. challenger.new ≡ challenger.old) }
-        ensures opening { IfOk result (λ w. (held : List (Held (PlainCommitmentData F) F)) → AreHeld (AreHolding (scheme F.ring F.inv F.root F.GENERATOR F.TWO_ADICITY self.now)) requests.entry.items held
-            → IsOpening E.ring E.embed (λ (d : CosetData F). 2 ^ d.log_size) (λ (x : E). ⊥) (Opens (scheme F.ring F.inv F.root F.GENERATOR F.TWO_ADICITY self.now) E.ring E.embed) requests.entry.items (nested w.0) held) }
+        ensures opening { IfOk result (λ w. (held : List (OpenedCommitment (PlainCommitmentData F) F))
+            → AreOpenedCommitments (AreHolding (scheme F.ring F.inv F.root F.GENERATOR F.TWO_ADICITY self.now)) requests.entry.items held
+            → IsOpening E.ring E.embed (λ (d : CosetData F). 2 ^ d.log_size) (λ (x : E). ⊥)
+            (Opens (scheme F.ring F.inv F.root F.GENERATOR F.TWO_ADICITY self.now) E.ring E.embed) requests.entry.items (nested w.0) held) }
     {
         let values = open(alloc, self.log_blowup, &requests)?;
         Ok((values, PlainProof))
@@ -269,7 +273,7 @@ impl<F: TwoAdicField, D: TwoAdicSubgroupDft<F>, E: ExtensionField<F>, C> Univari
         num_chunks: usize,
     ) -> Result<Vec<RowMajorMatrix<F>>, PcsFailure<PlainProverError>>
         ensures refusal { RefusedBy (CommitFault (scheme F.ring F.inv F.root F.GENERATOR F.TWO_ADICITY self.now) evaluations.items) result }
-        ensures searched { IfWanting result (NoneOf (CommitFault (scheme F.ring F.inv F.root F.GENERATOR F.TWO_ADICITY self.now) evaluations.items)) }
+        ensures searched { IfOutOfMemory result (NoneOf (CommitFault (scheme F.ring F.inv F.root F.GENERATOR F.TWO_ADICITY self.now) evaluations.items)) }
         ensures extensions { IfOk result (λ v. AreExtensions (Extends (scheme F.ring F.inv F.root F.GENERATOR F.TWO_ADICITY self.now)) evaluations.items v.items) }
     {
         extensions(alloc, &self.dft, self.log_blowup, evaluations)
@@ -283,12 +287,13 @@ impl<F: TwoAdicField, D: TwoAdicSubgroupDft<F>, E: ExtensionField<F>, C> Univari
         ldes: Vec<RowMajorMatrix<F>>,
     ) -> Result<(PlainCommitment<F>, PlainProverData<F>), PcsFailure<PlainProverError>>
         ensures refusal { RefusedBy (ExtensionsFault (scheme F.ring F.inv F.root F.GENERATOR F.TWO_ADICITY self.now) ldes.items) result }
-        ensures searched { IfWanting result (NoneOf (ExtensionsFault (scheme F.ring F.inv F.root F.GENERATOR F.TWO_ADICITY self.now) ldes.items)) }
+        ensures searched { IfOutOfMemory result (NoneOf (ExtensionsFault (scheme F.ring F.inv F.root F.GENERATOR F.TWO_ADICITY self.now) ldes.items)) }
         ensures commitment { IfOk result (λ w. w.0 ≡ record { matrices = ldes.items }) }
         ensures made { IfOk result (λ w. IsMade w.1) }
         ensures count { IfOk result (λ w. length w.1 ≡ length ldes.items) }
         ensures committed { IfOk result (λ w. (chunks : List (CosetData F × Rows F)) → AreExtensions (Extends (scheme F.ring F.inv F.root F.GENERATOR F.TWO_ADICITY self.now)) chunks ldes.items
-            → IsCommitment F.ring (λ (d : CosetData F). 2 ^ d.log_size) (λ (d : CosetData F). point F.ring F.root d) (λ es c. c ≡ commitment_of (scheme F.ring F.inv F.root F.GENERATOR F.TWO_ADICITY self.now) es) IsMade (AreHolding (scheme F.ring F.inv F.root F.GENERATOR F.TWO_ADICITY self.now)) chunks w) }
+            → IsCommitment F.ring (λ (d : CosetData F). 2 ^ d.log_size) (λ (d : CosetData F). point F.ring F.root d) (λ es c. c
+            ≡ commitment_of (scheme F.ring F.inv F.root F.GENERATOR F.TWO_ADICITY self.now) es) IsMade (AreHolding (scheme F.ring F.inv F.root F.GENERATOR F.TWO_ADICITY self.now)) chunks w) }
     {
         commit_extensions(alloc, self.log_blowup, ldes)
     }
@@ -315,7 +320,8 @@ impl<F: TwoAdicField, D: TwoAdicSubgroupDft<F>, E: ExtensionField<F>, C> Univari
         requires fit { All (λ c. IsPeriod (2 ^ trace_domain.log_size) (length c.items)) periodic_cols.now }
         requires shift { point F.ring F.root trace_domain 0 ≡ F.ring.one }
         requires larger { 2 ^ trace_domain.log_size ≤ 2 ^ quotient_domain.log_size }
-        ensures table { IfOk result (IsPeriodicTable F.ring (2 ^ trace_domain.log_size) (point F.ring F.root trace_domain) (2 ^ quotient_domain.log_size) (point F.ring F.root quotient_domain) (map (λ c. c.items) periodic_cols.now)) }
+        ensures table { IfOk result (IsPeriodicTable F.ring (2 ^ trace_domain.log_size) (point F.ring F.root trace_domain) (2 ^ quotient_domain.log_size)
+            (point F.ring F.root quotient_domain) (map (λ c. c.items) periodic_cols.now)) }
         ensures height { IfOk result (λ t. 0 < length periodic_cols.now → height t ≡ 2 ^ quotient_domain.log_size) }
     {
         periodic_table(
@@ -333,7 +339,8 @@ impl<F: TwoAdicField, D: TwoAdicSubgroupDft<F>, E: ExtensionField<F>, C> Univari
 
     ghost heights_fit = { λ s. difference_fits F.TWO_ADICITY s.log_blowup };
 
-    ghost quotient_refused = { λ s d m n parts e power fits rows are fault. refused_by_parts (scheme F.ring F.inv F.root F.GENERATOR F.TWO_ADICITY s) d m n parts power rows are F.ring_laws F.field_laws F.root_laws e fault };
+    ghost quotient_refused = { λ s d m n parts e power fits rows are fault. refused_by_parts
+        (scheme F.ring F.inv F.root F.GENERATOR F.TWO_ADICITY s) d m n parts power rows are F.ring_laws F.field_laws F.root_laws e fault };
 
     ghost quotient_granted = { λ s d m n parts power fits rows are none. granted_by_parts (scheme F.ring F.inv F.root F.GENERATOR F.TWO_ADICITY s) d m n parts power rows are none };
 

@@ -4,7 +4,7 @@ ghost use Rattle.std.specs.Int.{IsPowerOfTwo};
 ghost use Rattle.p3_matrix.specs.Matrix.{Rows, height, row_at};
 ghost use Rattle.p3_commit.specs.Periodic.{IsGreatest, EachFrom};
 ghost use Rattle.p3_commit.specs.Batches.{lists, row_in, IsRowOf, AreRowsAt, HaveWidths};
-ghost use Rattle.plain_pcs.specs.PlainMmcs.{AreDimensions, IsRow, AreTheRows};
+ghost use Rattle.plain_pcs.specs.PlainMmcs.{AreDimensions, IsRowByEq, AreTheRows};
 
 use p3_commit::greatest_height;
 use p3_field::Mem;
@@ -124,7 +124,7 @@ fn are_rows<T: Copy + Eq>(
     requires greatest { IsGreatest (map (λ m. height m) matrices.now) most }
     requires row { index < most }
     requires count { length rows.now ≡ length matrices.now }
-    ensures { IsTrue result ↔ EachFrom matrices.now (lists rows.now) (λ m row. IsRow T.eq (row_in most (height m) index) m row) }
+    ensures { IsTrue result ↔ EachFrom matrices.now (lists rows.now) (λ m row. IsRowByEq T.eq (row_in most (height m) index) m row) }
 {
     for (i, matrix) in matrices.iter().enumerate() {
         if rows[i].as_slice() != row_of(matrix, most, index) {

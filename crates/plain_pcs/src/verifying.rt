@@ -1,10 +1,10 @@
 //! The search for the first check of claims that fails.
 ghost use Rattle.std.specs.Prelude.{◌≡◌, ℕ, ◌+◌, ◌*◌, ◌^◌, ◌<◌, ◌≤◌, ◌↔◌, IsTrue, IfOk, List, [], All, length, map, get_or, zip};
-ghost use Rattle.p3_field.specs.Poly.{val, DegreeBelow};
+ghost use Rattle.p3_field.specs.Poly.{eval_poly, DegreeBelow};
 ghost use Rattle.p3_field.specs.Checks.{FirstFailing, FirstRefusal, of_items};
 ghost use Rattle.p3_matrix.specs.Matrix.{Rows, height};
 ghost use Rattle.plain_pcs.specs.Scheme.{Scheme, scheme};
-ghost use Rattle.plain_pcs.specs.Checks.{HasDimensions, point_checks, matrix_checks, round_checks, checks};
+ghost use Rattle.plain_pcs.specs.Checks.{HasDimensions, point_checks, matrix_checks, round_checks, opening_claim_checks};
 ghost use Rattle.plain_pcs.specs.Faults.{AreColumnPolynomials};
 
 use crate::commitment::PlainCommitment;
@@ -51,7 +51,7 @@ fn first_wrong_value<F: TwoAdicField, E: ExtensionField<F>>(
     claimed: &[E],
 ) -> Option<usize>
     requires { length claimed.now ≡ length polynomials.now }
-    ensures { FirstFailing (length polynomials.now) (λ j. val E.ring (map E.embed (get_or (map (λ f. f.items) polynomials.now) j [])) point ≡ get_or claimed.now j E.ring.zero) result }
+    ensures { FirstFailing (length polynomials.now) (λ j. eval_poly E.ring (map E.embed (get_or (map (λ f. f.items) polynomials.now) j [])) point ≡ get_or claimed.now j E.ring.zero) result }
 {
     for (j, polynomial) in polynomials.iter().enumerate() {
         if polynomial_value(polynomial, point) != claimed[j] {
@@ -127,7 +127,8 @@ fn matrix_fault<F: TwoAdicField, E: ExtensionField<F>>(
     claim: &MatrixOpening<E, TwoAdicMultiplicativeCoset<F>>,
 ) -> Mem<Option<PlainError>>
     requires { log_blowup ≤ F.TWO_ADICITY }
-    ensures { IfOk result (FirstRefusal (matrix_checks (scheme F.ring F.inv F.root F.GENERATOR F.TWO_ADICITY (record { log_blowup = log_blowup })) E.ring E.embed round number (matrix.now, claim.now))) }
+    ensures { IfOk result (FirstRefusal
+        (matrix_checks (scheme F.ring F.inv F.root F.GENERATOR F.TWO_ADICITY (record { log_blowup = log_blowup })) E.ring E.embed round number (matrix.now, claim.now))) }
 {
     if !has_dimensions(log_blowup, matrix, claim) {
         return Ok(Some(PlainError::Dimensions {
@@ -156,7 +157,8 @@ fn matrices_fault<F: TwoAdicField, E: ExtensionField<F>>(
 ) -> Mem<Option<PlainError>>
     requires blowup { log_blowup ≤ F.TWO_ADICITY }
     requires count { length matrices.now ≡ length claims.now }
-    ensures { IfOk result (FirstRefusal (of_items (matrix_checks (scheme F.ring F.inv F.root F.GENERATOR F.TWO_ADICITY (record { log_blowup = log_blowup })) E.ring E.embed round) (zip matrices.now claims.now))) }
+    ensures { IfOk result (FirstRefusal
+        (of_items (matrix_checks (scheme F.ring F.inv F.root F.GENERATOR F.TWO_ADICITY (record { log_blowup = log_blowup })) E.ring E.embed round) (zip matrices.now claims.now))) }
 {
     for (number, claim) in claims.iter().enumerate() {
         let matrix = &matrices[number];
@@ -176,7 +178,9 @@ fn round_fault<F: TwoAdicField, E: ExtensionField<F>>(
     claims: &[MatrixOpening<E, TwoAdicMultiplicativeCoset<F>>],
 ) -> Mem<Option<PlainError>>
     requires { log_blowup ≤ F.TWO_ADICITY }
-    ensures { IfOk result (FirstRefusal (round_checks (scheme F.ring F.inv F.root F.GENERATOR F.TWO_ADICITY (record { log_blowup = log_blowup })) E.ring E.embed round (record { commitment = commitment.now; matrices = claims.now }))) }
+    ensures { IfOk result (FirstRefusal
+        (round_checks (scheme F.ring F.inv F.root F.GENERATOR F.TWO_ADICITY (record { log_blowup = log_blowup })) E.ring E.embed round
+        (record { commitment = commitment.now; matrices = claims.now }))) }
 {
     if commitment.matrices.len() != claims.len() {
         return Ok(Some(PlainError::RoundShape { round }));
@@ -184,15 +188,15 @@ fn round_fault<F: TwoAdicField, E: ExtensionField<F>>(
     matrices_fault(alloc, log_blowup, round, &commitment.matrices, claims)
 }
 
-/// The first check of the claims that fails, or None (own): the claims on a commitment are one per matrix; then, matrix
-/// by matrix, its dimensions, the degrees of its columns' polynomials, and their values point by point.
+/// The first check of the claims that fails, or None (not in Plonky3): the claims on a commitment are one per matrix;
+/// then, matrix by matrix, its dimensions, the degrees of its columns' polynomials, and their values point by point.
 pub(crate) fn first_fault<F: TwoAdicField, E: ExtensionField<F>>(
     alloc: Global,
     log_blowup: usize,
     claims: &[CommitmentOpening<E, PlainCommitment<F>, TwoAdicMultiplicativeCoset<F>>],
 ) -> Mem<Option<PlainError>>
     requires { log_blowup ≤ F.TWO_ADICITY }
-    ensures { IfOk result (FirstRefusal (checks (scheme F.ring F.inv F.root F.GENERATOR F.TWO_ADICITY (record { log_blowup = log_blowup })) E.ring E.embed claims.now)) }
+    ensures { IfOk result (FirstRefusal (opening_claim_checks (scheme F.ring F.inv F.root F.GENERATOR F.TWO_ADICITY (record { log_blowup = log_blowup })) E.ring E.embed claims.now)) }
 {
     for (round, claim) in claims.iter().enumerate() {
         let matrices = &claim.matrices;

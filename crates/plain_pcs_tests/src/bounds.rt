@@ -28,7 +28,7 @@ type Claims = Vec<
     CommitmentOpening<BabyBear, PlainCommitment<BabyBear>, TwoAdicMultiplicativeCoset<BabyBear>>,
 >;
 
-// Commits within the bounds, so that memory alone can be wanting.
+// Commits within the bounds, so that only memory can run out.
 fn committed<F: TwoAdicField, D: TwoAdicSubgroupDft<F> + Drop>(
     alloc: Global,
     pcs: &PlainPcs<F, D>,

@@ -5,7 +5,7 @@ ghost use Rattle.p3_matrix.specs.Matrix.{height};
 use p3_challenger::Sha256Challenger;
 use p3_commit::{BatchOpeningRef, ExtensionMmcs, Mmcs, PcsFailure};
 use p3_commit_caller::{
-    committed_alike, committed_and_opened, committed_and_verified, rows_verified_twice,
+    committed_and_opened, committed_and_verified, committed_both_ways, rows_verified_twice,
 };
 use p3_dft::{NaiveDft, Radix2Dit, TwoAdicSubgroupDft};
 use p3_field::{
@@ -89,7 +89,7 @@ fn committed_twice(
     let scheme = PlainPcs::<BabyBear, Radix2Dit>::new(Radix2Dit, 1).ok_or("no scheme")?;
     let first = on_domain(alloc, 1)?;
     let second = on_domain(alloc, log_second)?;
-    match committed_alike::<QuarticExtension, Sha256Challenger, PlainPcs<BabyBear, Radix2Dit>>(
+    match committed_both_ways::<QuarticExtension, Sha256Challenger, PlainPcs<BabyBear, Radix2Dit>>(
         alloc, &scheme, first, second,
     ) {
         Ok((commitment, again)) => Ok(Ok((first_value(&commitment), first_value(&again)))),
@@ -99,7 +99,7 @@ fn committed_twice(
 }
 
 #[test]
-fn a_column_committed_alike(rt: HostRuntime) -> Result<(), Fail> {
+fn a_column_committed_both_ways(rt: HostRuntime) -> Result<(), Fail> {
     let alloc = rt.alloc();
     let both = (Some(-bear(55)), Some(-bear(55)));
     assert_eq!(rt; committed_twice(alloc, 1)?, Ok(both));

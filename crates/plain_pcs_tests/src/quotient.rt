@@ -1,6 +1,6 @@
 //! The column 5, 9 on the points 31 and -31 in two parts and in one, and the periodic column 5, 9 on a larger domain.
 ghost use Rattle.std.specs.Prelude.{◌≡◌, ◌<◌, IfOk, All, length};
-ghost use Rattle.p3_field.specs.BabyBear.{bear_ring};
+ghost use Rattle.p3_field.specs.BabyBear.{baby_bear_ring};
 ghost use Rattle.p3_matrix.specs.Matrix.{height};
 
 use crate::scheme::{Coset, Plain, bear, only_values, pair, scheme};
@@ -110,7 +110,7 @@ fn a_part_too_large(rt: HostRuntime) -> Result<(), Fail> {
 
 // The trace domain of four rows.
 fn four_rows() -> Result<Coset, Fail>
-    ensures shift { IfOk result (λ d. d.shift ≡ bear_ring.one) }
+    ensures shift { IfOk result (λ d. d.shift ≡ baby_bear_ring.one) }
     ensures size { IfOk result (λ d. d.log_size ≡ 2) }
 {
     match Coset::new(BabyBear::ONE, 2) {
@@ -129,7 +129,7 @@ fn table_of(
 ) -> Mem<PeriodicLdeTable<BabyBear>>
     requires some { 0 < length columns.now }
     requires period { All (λ c. length c.items ≡ 2) columns.now }
-    requires shift { trace_domain.shift ≡ bear_ring.one }
+    requires shift { trace_domain.shift ≡ baby_bear_ring.one }
     requires trace { trace_domain.log_size ≡ 2 }
     requires quotient { quotient_domain.log_size ≡ 3 }
     ensures filled { IfOk result (λ t. 0 < height t) }
@@ -199,7 +199,7 @@ fn table_of_none(
     trace_domain: Coset,
     quotient_domain: Coset,
 ) -> Mem<PeriodicLdeTable<BabyBear>>
-    requires shift { trace_domain.shift ≡ bear_ring.one }
+    requires shift { trace_domain.shift ≡ baby_bear_ring.one }
     requires trace { trace_domain.log_size ≡ 2 }
     requires quotient { quotient_domain.log_size ≡ 3 }
     ensures { IfOk result (λ t. t.width ≡ 0) }

@@ -58,7 +58,7 @@ fn fault_of(alloc: Global, claim: Claim) -> Result<Option<PlainError>, Fail> {
     match scheme.verify(alloc, claims, &PlainProof, &mut challenger) {
         Ok(()) => Ok(None),
         Err(PcsFailure::Refused(fault)) => Ok(Some(fault)),
-        Err(PcsFailure::OutOfMemory) => Err("memory is wanting".into()),
+        Err(PcsFailure::OutOfMemory) => Err("out of memory".into()),
     }
 }
 

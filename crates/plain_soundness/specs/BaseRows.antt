@@ -1,4 +1,4 @@
--- The rows of a committed table over the base field (own).
+-- The rows of a committed table over the base field (not in Plonky3).
 use Rattle.std.specs.Prelude.{ℕ, true, false, List, [], map}
 use Rattle.p3_air.specs.declared.cells.Cell.{Cell}
 use Rattle.p3_air.specs.declared.cells.Cell.TheVariants.{Main, Preprocessed, Periodic, Public, FirstRow, LastRow, Transition}
@@ -8,12 +8,12 @@ use Rattle.p3_air.specs.Tree.{Tree}
 use Rattle.p3_field.specs.Domain.{point}
 use Rattle.p3_field.specs.Field.{TwoAdic}
 use Rattle.p3_field.specs.Laws.SubgroupSelectors.{subgroup}
-use Rattle.p3_field.specs.Poly.{val}
+use Rattle.p3_field.specs.Poly.{eval_poly}
 use Rattle.committed_tables.specs.Committed.{CommittedTable}
 
 -- row i of the main columns: the values of their polynomials at the row's point
 abbrev pub main_row : {F E : Type 0} → TwoAdic F → CommittedTable F E → ℕ → List F
-main_row f t i = map (λ g. val f.ring g (point f.ring f.root (subgroup f.ring t.log_height) i)) t.main
+main_row f t i = map (λ g. eval_poly f.ring g (point f.ring f.root (subgroup f.ring t.log_height) i)) t.main
 
 -- a row of these cells alone
 abbrev pub row_here : {F E : Type 0} → TwoAdic F → CommittedTable F E → ℕ → Row F F

@@ -1,11 +1,12 @@
--- What a commitment of the plain scheme binds to: polynomials that can be read off it (own).
+-- What a commitment of the plain scheme binds to: polynomials that can be read off it (not in
+-- Plonky3).
 use Rattle.std.specs.Prelude.{ℕ, List, []}
 use Rattle.std.specs.Prelude.{slice_index_or as get_or}
 use Rattle.p3_matrix.specs.Matrix.{Rows}
 use Rattle.plain_pcs.specs.Binding.{committed_polynomials}
 use Rattle.plain_pcs.specs.Scheme.{Scheme, PlainCommitmentData}
 
--- a matrix behind the end of a commitment, which no table has
+-- a matrix past the end of a commitment, which no table has
 abbrev pub no_matrix : {F : Type 0} → Rows F
 no_matrix = record { values = []; width = 0 }
 

@@ -1,7 +1,8 @@
--- The tables of a batch as a proof commits to them, over the plain scheme (own). What the proof opens has no part in it.
+-- The tables of a batch as a proof commits to them, over the plain scheme (not in Plonky3). What the proof opens has no
+-- part in it.
 use Rattle.std.specs.Prelude.{ℕ, zero, suc, ◌+◌, ◌^◌, List, [], length, sum, All, Option, None, Some, option_to_list}
 use Rattle.std.specs.Prelude.{slice_index_or as get_or}
-use Rattle.p3_field.specs.Poly.{table}
+use Rattle.p3_field.specs.Poly.{tabulate}
 use Rattle.p3_air.specs.Shape.{ReadsDeclared, declared_shape}
 use Rattle.p3_air.specs.Tree.{Tree}
 use Rattle.p3_lookup.specs.Lookup.{LookupData}
@@ -13,18 +14,18 @@ use Rattle.batch_constraints.specs.BatchTrees.{table_trees}
 use Rattle.batch_setting.specs.Domains.{chunk_domains}
 use Rattle.batch_setting.specs.Setting.{Setting}
 use Rattle.batch_statement.specs.Proof.{ProofData}
-use Rattle.batch_statement.specs.Statement.{PreprocessedTracesData, Statement, Table}
+use Rattle.batch_statement.specs.Statement.{PreprocessedTracesData, Statement, AirTable}
 use Rattle.batch_statement.specs.declared.preprocessed.PreprocessedInstanceMeta.{PreprocessedInstanceMeta}
 use Rattle.batch_shape_checks.specs.ShapeChecks.{no_table}
 use Rattle.batch_claims.specs.Claims.{bits_at}
-use Rattle.batch_openings.specs.OpeningChecks.{log_chunks}
+use Rattle.batch_openings.specs.OpeningChecks.{log_chunks_of_table}
 use Rattle.batch_verifier.specs.BatchChecks.{table_challenges_of}
 use Rattle.plain_soundness.specs.Commitment.{polynomials_at}
 use Rattle.plain_soundness.specs.PlainSetting.{plain_scheme}
 
 -- how many matrices the tables before table i have in a commitment, where table j has `count j` there
 abbrev pub matrices_before : (count : ℕ → ℕ) → ℕ → ℕ
-matrices_before count i = sum (table i count)
+matrices_before count i = sum (tabulate i count)
 
 -- a table with lookups has one permutation matrix
 abbrev pub permutation_count : (lookups : ℕ) → ℕ
@@ -48,7 +49,7 @@ module _ {F : Type 0} (s : Scheme F) (log_height : ℕ) where
   permutation_of (Some c) place (suc n) = polynomials_at s log_height c place
 
 -- table i of a statement, and its lookups
-abbrev pub stated_table : {F C : Type 0} → Statement F C → ℕ → Table F
+abbrev pub stated_table : {F C : Type 0} → Statement F C → ℕ → AirTable F
 stated_table s i = get_or s.tables i no_table
 
 abbrev pub lookups_at : {F C : Type 0} → Statement F C → ℕ → List (LookupData F)
@@ -60,9 +61,9 @@ ReadDeclared s = All (λ t. All (ReadsDeclared (declared_shape t.declaration)) t
 
 -- how many chunks its quotient has in a proof
 abbrev pub chunk_count : {S F E C P : Type 0} → Setting S F E C → Statement F C → ProofData F E C P → ℕ → ℕ
-chunk_count c s p i = 2 ^ log_chunks c s p i
+chunk_count c s p i = 2 ^ log_chunks_of_table c s p i
 
--- its constraints: those of its AIR, and behind them those of its lookups
+-- its constraints: those of its AIR, and after them those of its lookups
 abbrev pub constraints_at : {S F E C : Type 0} → Setting S F E C → Statement F C → ℕ → List (Tree F)
 constraints_at c s i = table_trees c.field.ring (stated_table s i).trees (lookups_at s i)
 
@@ -77,9 +78,9 @@ module _ {S F E P : Type 0} (c : Setting S F E (PlainCommitmentData F)) (log_blo
   permutation_place i = matrices_before (λ j. permutation_count (length (lookups_at s j))) i
 
   -- Table i as it is committed to. Its main matrix is number i of the main commitment, its preprocessed one is the one that the common data names, and its
-  -- permutation matrix stands behind those of the tables before it. Its challenges are drawn, and its height is that of its degree bits.
-  abbrev pub committed_table : ℕ → CommittedTable F E
-  committed_table i = record {
+  -- permutation matrix stands after those of the tables before it. Its challenges are drawn, and its height is that of its degree bits.
+  abbrev pub committed_table_at : ℕ → CommittedTable F E
+  committed_table_at i = record {
     main = columns_of i p.commitments.main i;
     preprocessed = preprocessed_of (plain_scheme c log_blowup) (bits_at p.degree_bits i) s.common.preprocessed i;
     permutation = permutation_of (plain_scheme c log_blowup) (bits_at p.degree_bits i) p.commitments.permutation (permutation_place i) (length (lookups_at s i));
@@ -90,16 +91,16 @@ module _ {S F E P : Type 0} (c : Setting S F E (PlainCommitmentData F)) (log_blo
     log_height = bits_at p.degree_bits i;
   }
 
-  -- Its quotient: chunk j is matrix number j behind the chunks of the tables before it.
+  -- Its quotient: chunk j is matrix number j after the chunks of the tables before it.
   abbrev pub committed_quotient : ℕ → CommittedQuotient F
   committed_quotient i = record {
-    domains = chunk_domains c (bits_at p.degree_bits i) (log_chunks c s p i);
-    chunks = table (chunk_count c s p i) (λ j. columns_of i p.commitments.quotient_chunks (matrices_before (chunk_count c s p) i + j));
+    domains = chunk_domains c (bits_at p.degree_bits i) (log_chunks_of_table c s p i);
+    chunks = tabulate (chunk_count c s p i) (λ j. columns_of i p.commitments.quotient_chunks (matrices_before (chunk_count c s p) i + j));
   }
 
   -- all tables with their constraints and quotients
   abbrev pub committed_at : ℕ → DividedTable F E
-  committed_at i = record { table = committed_table i; trees = constraints_at c s i; quotient = committed_quotient i }
+  committed_at i = record { table = committed_table_at i; trees = constraints_at c s i; quotient = committed_quotient i }
 
   abbrev pub committed_batch : List (DividedTable F E)
-  committed_batch = table (length s.tables) committed_at
+  committed_batch = tabulate (length s.tables) committed_at

@@ -1,4 +1,4 @@
--- What an accepted proof over the plain scheme means (own).
+-- What an accepted proof over the plain scheme means (not in Plonky3).
 use Rattle.std.specs.Prelude.{ℕ, ◌⊎◌}
 use Rattle.plain_pcs.specs.Scheme.{PlainCommitmentData}
 use Rattle.committed_tables.specs.Batch.{AllHold, IsUnluckyAlphaOfBatch, IsUnluckyZetaOfBatch}

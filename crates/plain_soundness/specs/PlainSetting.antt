@@ -1,4 +1,4 @@
--- Configurations over the plain scheme, as plain data (own).
+-- Configurations over the plain scheme, as plain data (not in Plonky3).
 use Rattle.std.specs.Prelude.{◌≡◌, ℕ, false, List}
 use Rattle.p3_field.specs.Domain.{CosetData}
 use Rattle.p3_field.specs.Field.{TwoAdic, Extension}
@@ -26,7 +26,7 @@ plain_backend c log_blowup = record {
 }
 
 -- the configuration is over these fields
-pub record IsOver {S F E C : Type 0} (f : TwoAdic F) (e : Extension F E) (two_adicity : ℕ) (c : Setting S F E C) : Type 0 where
+pub record IsOverFields {S F E C : Type 0} (f : TwoAdic F) (e : Extension F E) (two_adicity : ℕ) (c : Setting S F E C) : Type 0 where
   pub field_is : c.field ≡ f
   pub extension_is : c.extension ≡ e
   pub two_adicity_is : c.two_adicity ≡ two_adicity

@@ -1,4 +1,4 @@
--- What a table's last right cell is, where its rows are swaps of its first (own).
+-- What a table's last right cell is, where its rows are swaps of its first (not in Plonky3).
 use Rattle.std.specs.Prelude.{◌≡◌, ℕ, zero, suc, List, [], ◌∷◌}
 
 -- the public values of a swap table: its first row, and the last right cell

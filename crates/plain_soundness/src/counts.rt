@@ -1,9 +1,9 @@
 //! How few challenges are unlucky for an accepted proof: laws as the contract of a function that computes nothing.
 ghost use Rattle.std.specs.Prelude.{◌≡◌, ℕ, ◌<◌, ◌≤◌, List, All, Contains, map, length, sum};
 ghost use Rattle.committed_tables.specs.Batch.{DividedTable, IsUnluckyAlphaOfBatch, IsUnluckyZetaOfBatch};
-ghost use Rattle.committed_tables.specs.Identity.{chunks_of};
+ghost use Rattle.committed_tables.specs.Identity.{chunk_count_of};
 ghost use Rattle.committed_tables.specs.Unlucky.{AreDistinct, IsUnluckyAlpha, IsUnluckyAlphaAt, IsUnluckyZeta};
-ghost use Rattle.batch_shape_checks.specs.ShapeChecks.{stated};
+ghost use Rattle.batch_shape_checks.specs.ShapeChecks.{statement_with};
 ghost use Rattle.batch_statement.specs.Statement.{WellFormed, read_common, tables_of};
 ghost use Rattle.batch_verifier.specs.BatchChecks.{Accepted};
 ghost use Rattle.plain_soundness.specs.CommittedBatch.{chunk_count, committed_batch, committed_quotient};
@@ -24,7 +24,7 @@ use p3_field::{
 use p3_uni_stark::StarkGenericConfig;
 use plain_pcs::{PlainCommitment, PlainPcs, opened_claims_bind};
 
-/// How many challenges are unlucky at most for the tables that an accepted proof commits to (own). Counts are of lists without
+/// How many challenges are unlucky at most for the tables that an accepted proof commits to (not in Plonky3). Counts are of lists without
 /// repetitions.
 ///
 /// At one row of a table fewer alphas are than it has constraints (`row_alphas`), and none without constraints (`none`). For one table of
@@ -50,33 +50,33 @@ where
         + CanObserve<PlainCommitment<F>>,
     A: Air<F>,
     requires formed { WellFormed (map A.declaration airs.now) (read_common common.now) }
-    requires accepted { let s = stated (tables_of A.declaration A.trees airs.now) (map (λ v. v.items) public_values.now) common.now in
+    requires accepted { let s = statement_with (tables_of A.declaration A.trees airs.now) (map (λ v. v.items) public_values.now) common.now in
         Accepted (⟦<PlainConfig<F, D, E, C> as Settings>⟧.setting config.now) (⟦<PlainConfig<F, D, E, C> as Settings>⟧.backend config.now) s proof.now }
     ensures row_alphas { let c = ⟦<PlainConfig<F, D, E, C> as Settings>⟧.setting config.now in
-        let s = stated (tables_of A.declaration A.trees airs.now) (map (λ v. v.items) public_values.now) common.now in
+        let s = statement_with (tables_of A.declaration A.trees airs.now) (map (λ v. v.items) public_values.now) common.now in
         (t : DividedTable F E) (row : ℕ) (alphas : List E) → Contains (committed_batch c config.now.pcs.log_blowup s proof.now) t → 0 < length t.trees → AreDistinct c.extension.ring.zero alphas
         → All (IsUnluckyAlphaAt c.field c.extension t.table t.trees row) alphas → length alphas < length t.trees }
     ensures none { let c = ⟦<PlainConfig<F, D, E, C> as Settings>⟧.setting config.now in
-        let s = stated (tables_of A.declaration A.trees airs.now) (map (λ v. v.items) public_values.now) common.now in
+        let s = statement_with (tables_of A.declaration A.trees airs.now) (map (λ v. v.items) public_values.now) common.now in
         (t : DividedTable F E) (alpha : E) → Contains (committed_batch c config.now.pcs.log_blowup s proof.now) t → length t.trees ≡ 0
         → IsUnluckyAlpha c.field c.extension t.table t.trees alpha → ⊥ }
     ensures table_alphas { let c = ⟦<PlainConfig<F, D, E, C> as Settings>⟧.setting config.now in
-        let s = stated (tables_of A.declaration A.trees airs.now) (map (λ v. v.items) public_values.now) common.now in
+        let s = statement_with (tables_of A.declaration A.trees airs.now) (map (λ v. v.items) public_values.now) common.now in
         (t : DividedTable F E) (alphas : List E) → Contains (committed_batch c config.now.pcs.log_blowup s proof.now) t → AreDistinct c.extension.ring.zero alphas
         → All (IsUnluckyAlpha c.field c.extension t.table t.trees) alphas → length alphas ≤ most_alphas t }
     ensures table_zetas { let c = ⟦<PlainConfig<F, D, E, C> as Settings>⟧.setting config.now in
-        let s = stated (tables_of A.declaration A.trees airs.now) (map (λ v. v.items) public_values.now) common.now in
+        let s = statement_with (tables_of A.declaration A.trees airs.now) (map (λ v. v.items) public_values.now) common.now in
         (t : DividedTable F E) (alpha : E) (zetas : List E) → Contains (committed_batch c config.now.pcs.log_blowup s proof.now) t → AreDistinct c.extension.ring.zero zetas
         → All (IsUnluckyZeta c.field c.extension t.table t.trees t.quotient alpha) zetas → length zetas ≤ most_zetas t }
     ensures chunks { let c = ⟦<PlainConfig<F, D, E, C> as Settings>⟧.setting config.now in
-        let s = stated (tables_of A.declaration A.trees airs.now) (map (λ v. v.items) public_values.now) common.now in
-        (i : ℕ) → i < length airs.now → chunks_of (committed_quotient c config.now.pcs.log_blowup s proof.now i) ≡ chunk_count c s proof.now i }
+        let s = statement_with (tables_of A.declaration A.trees airs.now) (map (λ v. v.items) public_values.now) common.now in
+        (i : ℕ) → i < length airs.now → chunk_count_of (committed_quotient c config.now.pcs.log_blowup s proof.now i) ≡ chunk_count c s proof.now i }
     ensures alphas { let c = ⟦<PlainConfig<F, D, E, C> as Settings>⟧.setting config.now in
-        let s = stated (tables_of A.declaration A.trees airs.now) (map (λ v. v.items) public_values.now) common.now in
+        let s = statement_with (tables_of A.declaration A.trees airs.now) (map (λ v. v.items) public_values.now) common.now in
         let batch = committed_batch c config.now.pcs.log_blowup s proof.now in
         (alphas : List E) → AreDistinct c.extension.ring.zero alphas → All (IsUnluckyAlphaOfBatch c.field c.extension batch) alphas → length alphas ≤ sum (map most_alphas batch) }
     ensures zetas { let c = ⟦<PlainConfig<F, D, E, C> as Settings>⟧.setting config.now in
-        let s = stated (tables_of A.declaration A.trees airs.now) (map (λ v. v.items) public_values.now) common.now in
+        let s = statement_with (tables_of A.declaration A.trees airs.now) (map (λ v. v.items) public_values.now) common.now in
         let batch = committed_batch c config.now.pcs.log_blowup s proof.now in
         (alpha : E) (zetas : List E) → AreDistinct c.extension.ring.zero zetas → All (IsUnluckyZetaOfBatch c.field c.extension batch alpha) zetas → length zetas ≤ sum (map most_zetas batch) }
 {

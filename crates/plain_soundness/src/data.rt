@@ -7,10 +7,10 @@ ghost use Rattle.batch_statement.specs.Proof.{ProofData};
 ghost use Rattle.batch_statement.specs.Statement.{Statement, WellFormed};
 ghost use Rattle.batch_verifier.specs.BatchChecks.{Accepted, drawn_of};
 ghost use Rattle.plain_soundness.specs.CommittedBatch.{ReadDeclared, committed_batch};
-ghost use Rattle.plain_soundness.specs.PlainSetting.{IsOver, plain_backend};
+ghost use Rattle.plain_soundness.specs.PlainSetting.{IsOverFields, plain_backend};
 ghost use Rattle.plain_soundness.specs.Meaning.{HoldUnlessUnlucky};
 ghost use Rattle.plain_soundness.specs.OpenedBatch.{AllCommittedValues, AllHaveColumns};
-ghost use Rattle.plain_soundness.specs.UnluckyCounts.{IsLow};
+ghost use Rattle.plain_soundness.specs.UnluckyCounts.{HasLowDegrees};
 
 use committed_tables::fields::fields_have_laws;
 use p3_field::{
@@ -24,23 +24,27 @@ use plain_pcs::opened_claims_bind;
 /// holds of configurations of other types too, where their backend is this.
 pub fn accepted_batches_hold<S, F: TwoAdicField, E: ExtensionField<F>, P>()
     ensures opened { let f : TwoAdic F = record { ring = F.ring; inv = F.inv; root = F.root; generator = F.GENERATOR } in
-        let e : Extension F E = record { ring = E.ring; embed = E.embed; dimension = E.DIMENSION; basis = E.basis; parts = E.parts; whole = E.whole } in
-        (c : Setting S F E (PlainCommitmentData F)) (log_blowup : ℕ) (s : Statement F (PlainCommitmentData F)) (p : ProofData F E (PlainCommitmentData F) P) → IsOver f e F.TWO_ADICITY c → c.zk ≡ false
+        let e : Extension F E = record { ring = E.ring; embed = E.embed; dimension = E.DIMENSION; basis = E.basis; coefficients = E.coefficients; from_coefficients = E.from_coefficients } in
+        (c : Setting S F E (PlainCommitmentData F)) (log_blowup : ℕ) (s : Statement F (PlainCommitmentData F)) (p : ProofData F E (PlainCommitmentData F) P)
+        → IsOverFields f e F.TWO_ADICITY c → c.zk ≡ false
         → WellFormed (map (λ t. t.declaration) s.tables) s.common → Accepted c (plain_backend c log_blowup) s p
         → AllCommittedValues c log_blowup s p (drawn_of c s p).zeta }
     ensures columns { let f : TwoAdic F = record { ring = F.ring; inv = F.inv; root = F.root; generator = F.GENERATOR } in
-        let e : Extension F E = record { ring = E.ring; embed = E.embed; dimension = E.DIMENSION; basis = E.basis; parts = E.parts; whole = E.whole } in
-        (c : Setting S F E (PlainCommitmentData F)) (log_blowup : ℕ) (s : Statement F (PlainCommitmentData F)) (p : ProofData F E (PlainCommitmentData F) P) → IsOver f e F.TWO_ADICITY c → c.zk ≡ false
+        let e : Extension F E = record { ring = E.ring; embed = E.embed; dimension = E.DIMENSION; basis = E.basis; coefficients = E.coefficients; from_coefficients = E.from_coefficients } in
+        (c : Setting S F E (PlainCommitmentData F)) (log_blowup : ℕ) (s : Statement F (PlainCommitmentData F)) (p : ProofData F E (PlainCommitmentData F) P)
+        → IsOverFields f e F.TWO_ADICITY c → c.zk ≡ false
         → WellFormed (map (λ t. t.declaration) s.tables) s.common → Accepted c (plain_backend c log_blowup) s p
         → AllHaveColumns c log_blowup s p }
     ensures low { let f : TwoAdic F = record { ring = F.ring; inv = F.inv; root = F.root; generator = F.GENERATOR } in
-        let e : Extension F E = record { ring = E.ring; embed = E.embed; dimension = E.DIMENSION; basis = E.basis; parts = E.parts; whole = E.whole } in
-        (c : Setting S F E (PlainCommitmentData F)) (log_blowup : ℕ) (s : Statement F (PlainCommitmentData F)) (p : ProofData F E (PlainCommitmentData F) P) → IsOver f e F.TWO_ADICITY c → c.zk ≡ false
+        let e : Extension F E = record { ring = E.ring; embed = E.embed; dimension = E.DIMENSION; basis = E.basis; coefficients = E.coefficients; from_coefficients = E.from_coefficients } in
+        (c : Setting S F E (PlainCommitmentData F)) (log_blowup : ℕ) (s : Statement F (PlainCommitmentData F)) (p : ProofData F E (PlainCommitmentData F) P)
+        → IsOverFields f e F.TWO_ADICITY c → c.zk ≡ false
         → WellFormed (map (λ t. t.declaration) s.tables) s.common → Accepted c (plain_backend c log_blowup) s p
-        → All (IsLow c.field) (committed_batch c log_blowup s p) }
+        → All (HasLowDegrees c.field) (committed_batch c log_blowup s p) }
     ensures holds { let f : TwoAdic F = record { ring = F.ring; inv = F.inv; root = F.root; generator = F.GENERATOR } in
-        let e : Extension F E = record { ring = E.ring; embed = E.embed; dimension = E.DIMENSION; basis = E.basis; parts = E.parts; whole = E.whole } in
-        (c : Setting S F E (PlainCommitmentData F)) (log_blowup : ℕ) (s : Statement F (PlainCommitmentData F)) (p : ProofData F E (PlainCommitmentData F) P) → IsOver f e F.TWO_ADICITY c → c.zk ≡ false
+        let e : Extension F E = record { ring = E.ring; embed = E.embed; dimension = E.DIMENSION; basis = E.basis; coefficients = E.coefficients; from_coefficients = E.from_coefficients } in
+        (c : Setting S F E (PlainCommitmentData F)) (log_blowup : ℕ) (s : Statement F (PlainCommitmentData F)) (p : ProofData F E (PlainCommitmentData F) P)
+        → IsOverFields f e F.TWO_ADICITY c → c.zk ≡ false
         → WellFormed (map (λ t. t.declaration) s.tables) s.common → ReadDeclared s → Accepted c (plain_backend c log_blowup) s p
         → HoldUnlessUnlucky c log_blowup s p }
 {

@@ -15,6 +15,6 @@ mod swaps;
 
 pub use counts::few_challenges_are_unlucky;
 pub use data::accepted_batches_hold;
-pub use rows::held_rows_hold_below;
+pub use rows::rows_hold_below;
 pub use soundness::{PlainConfig, accepted_holds};
 pub use swaps::accepted_swaps_end;

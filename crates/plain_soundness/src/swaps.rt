@@ -3,7 +3,7 @@ ghost use Rattle.std.specs.Prelude.{◌≡◌, ℕ, ◌<◌, List, [], map, leng
 ghost use Rattle.std.specs.Prelude.{slice_index_or as get_or};
 ghost use Rattle.batch_tables.specs.Swap.{swap_trees};
 ghost use Rattle.batch_claims.specs.Claims.{bits_at};
-ghost use Rattle.batch_shape_checks.specs.ShapeChecks.{stated};
+ghost use Rattle.batch_shape_checks.specs.ShapeChecks.{statement_with};
 ghost use Rattle.batch_statement.specs.Statement.{WellFormed, read_common, tables_of};
 ghost use Rattle.batch_verifier.specs.BatchChecks.{Accepted};
 ghost use Rattle.plain_soundness.specs.Meaning.{IsAlphaUnlucky, IsZetaUnlucky};
@@ -25,7 +25,7 @@ use p3_uni_stark::StarkGenericConfig;
 use plain_pcs::{PlainCommitment, PlainPcs, opened_claims_bind};
 
 /// Where a proof is accepted and neither the drawn alpha nor the drawn zeta is unlucky, each swap table's statement is true: its third
-/// public value is the second where the table has one row, and else the first (own). A swap table is one whose AIR has the
+/// public value is the second where the table has one row, and else the first (not in Plonky3). A swap table is one whose AIR has the
 /// constraints of `SwapAir`; it may have lookups too.
 pub fn accepted_swaps_end<F, D, E, C, A>(
     config: &PlainConfig<F, D, E, C>,
@@ -46,10 +46,10 @@ where
         + CanObserve<PlainCommitment<F>>,
     A: Air<F>,
     requires formed { WellFormed (map A.declaration airs.now) (read_common common.now) }
-    requires accepted { let s = stated (tables_of A.declaration A.trees airs.now) (map (λ v. v.items) public_values.now) common.now in
+    requires accepted { let s = statement_with (tables_of A.declaration A.trees airs.now) (map (λ v. v.items) public_values.now) common.now in
         Accepted (⟦<PlainConfig<F, D, E, C> as Settings>⟧.setting config.now) (⟦<PlainConfig<F, D, E, C> as Settings>⟧.backend config.now) s proof.now }
     ensures { let c = ⟦<PlainConfig<F, D, E, C> as Settings>⟧.setting config.now in
-        let s = stated (tables_of A.declaration A.trees airs.now) (map (λ v. v.items) public_values.now) common.now in
+        let s = statement_with (tables_of A.declaration A.trees airs.now) (map (λ v. v.items) public_values.now) common.now in
         (IsAlphaUnlucky c config.now.pcs.log_blowup s proof.now → ⊥) → (IsZetaUnlucky c config.now.pcs.log_blowup s proof.now → ⊥)
         → (i : ℕ) (air : A) (a b x : F) → i < length airs.now → A.trees (get_or airs.now i air) ≡ swap_trees → get_or s.publics i [] ≡ swap_publics a b x
         → EndsSwapped (bits_at proof.now.degree_bits i) a b x }

@@ -5,11 +5,11 @@ ghost use Rattle.p3_blake3.specs.Compress.{Input};
 ghost use Rattle.p3_blake3.specs.TraceRow.{AreWords, trace_row};
 ghost use Rattle.p3_blake3_air.specs.Trees.{blake3_trees};
 ghost use Rattle.batch_claims.specs.Claims.{bits_at};
-ghost use Rattle.batch_shape_checks.specs.ShapeChecks.{stated};
+ghost use Rattle.batch_shape_checks.specs.ShapeChecks.{statement_with};
 ghost use Rattle.batch_statement.specs.Statement.{WellFormed, read_common, tables_of};
 ghost use Rattle.batch_verifier.specs.BatchChecks.{Accepted};
 ghost use Rattle.plain_soundness.specs.BaseRows.{main_row};
-ghost use Rattle.plain_soundness.specs.CommittedBatch.{committed_table};
+ghost use Rattle.plain_soundness.specs.CommittedBatch.{committed_table_at};
 ghost use Rattle.plain_soundness.specs.Meaning.{IsAlphaUnlucky, IsZetaUnlucky};
 
 use batch_setting::Settings;
@@ -29,8 +29,8 @@ use plain_pcs::{PlainCommitment, PlainPcs, opened_claims_bind};
 use plain_soundness::PlainConfig;
 
 /// Where a proof is accepted and neither the drawn alpha nor the drawn zeta is unlucky, each committed row of a hash table is that of one
-/// compression of 28 words (own). A hash table is one whose AIR has the constraints and the columns of `Blake3Air`; it may have lookups
-/// too. A row are the values of the main columns over the base field at the row's point (`main_row`).
+/// compression of 28 words (not in Plonky3). A hash table is one whose AIR has the constraints and the columns of `Blake3Air`; it may
+/// have lookups too. A row are the values of the main columns over the base field at the row's point (`main_row`).
 ///
 /// The order of the field is above 2^20.
 pub fn accepted_hashes_are_compressions<F, D, E, C, A>(
@@ -53,13 +53,13 @@ where
     A: Air<F>,
     requires order { 2 ^ 20 < F.ORDER_U64 }
     requires formed { WellFormed (map A.declaration airs.now) (read_common common.now) }
-    requires accepted { let s = stated (tables_of A.declaration A.trees airs.now) (map (λ v. v.items) public_values.now) common.now in
+    requires accepted { let s = statement_with (tables_of A.declaration A.trees airs.now) (map (λ v. v.items) public_values.now) common.now in
         Accepted (⟦<PlainConfig<F, D, E, C> as Settings>⟧.setting config.now) (⟦<PlainConfig<F, D, E, C> as Settings>⟧.backend config.now) s proof.now }
     ensures { let c = ⟦<PlainConfig<F, D, E, C> as Settings>⟧.setting config.now in
-        let s = stated (tables_of A.declaration A.trees airs.now) (map (λ v. v.items) public_values.now) common.now in
+        let s = statement_with (tables_of A.declaration A.trees airs.now) (map (λ v. v.items) public_values.now) common.now in
         (IsAlphaUnlucky c config.now.pcs.log_blowup s proof.now → ⊥) → (IsZetaUnlucky c config.now.pcs.log_blowup s proof.now → ⊥) → (i row : ℕ) (air : A) → i < length airs.now
         → A.trees (get_or airs.now i air) ≡ blake3_trees F.ring → (A.declaration (get_or airs.now i air)).width ≡ 9168 → row < 2 ^ bits_at proof.now.degree_bits i
-        → (x : Input) × AreWords x × (main_row c.field (committed_table c config.now.pcs.log_blowup s proof.now i) row ≡ trace_row F.ring x) }
+        → (x : Input) × AreWords x × (main_row c.field (committed_table_at c config.now.pcs.log_blowup s proof.now i) row ≡ trace_row F.ring x) }
 {
     opened_claims_bind::<F, E>();
     fields_have_laws::<F, E>();

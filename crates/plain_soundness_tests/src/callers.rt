@@ -1,6 +1,6 @@
 //! Callers of the verifier that know what an Ok means.
 ghost use Rattle.std.specs.Prelude.{map, IsOk};
-ghost use Rattle.batch_shape_checks.specs.ShapeChecks.{stated};
+ghost use Rattle.batch_shape_checks.specs.ShapeChecks.{statement_with};
 ghost use Rattle.batch_statement.specs.Statement.{WellFormed, read_common, tables_of};
 ghost use Rattle.plain_soundness.specs.Meaning.{HoldUnlessUnlucky};
 
@@ -43,7 +43,7 @@ where
     A: Air<F>,
     requires { WellFormed (map A.declaration airs.now) (read_common common.now) }
     ensures { let c = ⟦<PlainConfig<F, D, E, C> as Settings>⟧.setting config.now in
-        let s = stated (tables_of A.declaration A.trees airs.now) (map (λ v. v.items) public_values.now) common.now in
+        let s = statement_with (tables_of A.declaration A.trees airs.now) (map (λ v. v.items) public_values.now) common.now in
         IsOk result → HoldUnlessUnlucky c config.now.pcs.log_blowup s proof.now }
 {
     verify_batch(alloc, config, airs, proof, public_values, common)?;

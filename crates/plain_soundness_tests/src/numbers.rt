@@ -4,7 +4,7 @@ ghost use Rattle.std.specs.Prelude.{◌≡◌, ◌+◌, ◌-◌, ◌*◌, ◌^�
 ghost use Rattle.p3_air.specs.Degree.{HasPeriod, polynomial_degree};
 ghost use Rattle.p3_air.specs.Shape.{ReadsIn};
 ghost use Rattle.p3_air.specs.Symbolic.{tree_of};
-ghost use Rattle.p3_lookup.specs.Lookup.{greatest};
+ghost use Rattle.p3_air.specs.Degree.{greatest};
 
 use batch_constraints::{get_log_num_quotient_chunks, get_symbolic_constraints};
 use batch_tables::SwapAir;

@@ -2,7 +2,7 @@
 ghost use Rattle.std.specs.Prelude.{◌≡◌, ℕ, ◌<◌, [], map, length, IsOk};
 ghost use Rattle.std.specs.Prelude.{slice_index_or as get_or};
 ghost use Rattle.batch_claims.specs.Claims.{bits_at};
-ghost use Rattle.batch_shape_checks.specs.ShapeChecks.{stated};
+ghost use Rattle.batch_shape_checks.specs.ShapeChecks.{statement_with};
 ghost use Rattle.batch_statement.specs.Statement.{WellFormed, read_common, tables_of};
 ghost use Rattle.plain_soundness.specs.Meaning.{IsAlphaUnlucky, IsZetaUnlucky};
 ghost use Rattle.plain_soundness.specs.Swapped.{EndsSwapped, swap_publics};
@@ -34,7 +34,7 @@ pub fn verified_swaps(
 ) -> Result<(), BatchVerificationError<PlainError>>
     requires { WellFormed (map ⟦<SwapAir as BaseAir<BabyBear>>⟧.declaration airs.now) (read_common common.now) }
     ensures { let c = ⟦<ToolConfig as Settings>⟧.setting config.now in
-        let s = stated (tables_of ⟦<SwapAir as BaseAir<BabyBear>>⟧.declaration ⟦<SwapAir as Air<BabyBear>>⟧.trees airs.now) (map (λ v. v.items) public_values.now) common.now in
+        let s = statement_with (tables_of ⟦<SwapAir as BaseAir<BabyBear>>⟧.declaration ⟦<SwapAir as Air<BabyBear>>⟧.trees airs.now) (map (λ v. v.items) public_values.now) common.now in
         IsOk result → (IsAlphaUnlucky c config.now.pcs.log_blowup s proof.now → ⊥) → (IsZetaUnlucky c config.now.pcs.log_blowup s proof.now → ⊥)
         → (i : ℕ) (a b x : BabyBear) → i < length airs.now → get_or s.publics i [] ≡ swap_publics a b x → EndsSwapped (bits_at proof.now.degree_bits i) a b x }
 {

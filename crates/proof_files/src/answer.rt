@@ -8,9 +8,9 @@ use p3_field::Mem;
 use std::alloc::Global;
 use tool_verifier::{Answer, answer_tables};
 
-/// What `verify` answers for this file (own), which is within its limits: `Refused` with `HeightMismatch` for the first table whose stated
-/// height isn't the proof's, `Refused` with the first check of the batch verifier that fails, or `Done` with `accepted`. The only error is
-/// running out of memory.
+/// What `verify` answers for this file (not in Plonky3), which is within its limits: `Refused` with `HeightMismatch` for the first table
+/// whose stated height isn't the proof's, `Refused` with the first check of the batch verifier that fails, or `Done` with `accepted`. The
+/// only error is running out of memory.
 pub fn answer_verify(alloc: Global, file: &ProofFile) -> Mem<Answer>
     requires { FileWithin file.now }
     ensures { IfOk result (λ a. IsFileAnswer file.now.tables file.now.proof a.status a.text.items) }

@@ -2,7 +2,7 @@
 ghost use Rattle.std.specs.Prelude.{◌≡◌, IfOk};
 ghost use Rattle.line_format.specs.Texts.{line_text};
 ghost use Rattle.line_format.specs.WholeText.{ReadsText};
-ghost use Rattle.proof_files.specs.Files.{FileWithin, file_words};
+ghost use Rattle.proof_files.specs.Files.{FileWithin, file_numbers};
 
 use crate::table::StatedTable;
 use line_format::{
@@ -14,7 +14,8 @@ use std::alloc::Global;
 use std::marker::Model;
 use tool_statement::TableStatement;
 
-/// A proof file (own): what is stated, and the proof of it. A contract sees it as the record `FileData`.
+/// A proof file (not in Plonky3): what is stated, and the proof of it. A contract sees it as the record
+/// `FileData`.
 #[derive(Drop)]
 pub struct ProofFile {
     /// The version of the transcript, which is 1.
@@ -39,7 +40,7 @@ pub struct WholeFile;
 impl Form for WholeFile {
     type Value = ProofFile;
 
-    ghost use Rattle.proof_files.specs.Files.{FileData, FileWithin, file_words};
+    ghost use Rattle.proof_files.specs.Files.{FileData, FileWithin, file_numbers};
     ghost use Rattle.proof_files.specs.Laws.Files.{file-grammar};
 
     ghost Data = { FileData };
@@ -48,7 +49,7 @@ impl Form for WholeFile {
 
     ghost within = { FileWithin };
 
-    ghost words = { file_words };
+    ghost numbers = { file_numbers };
 
     ghost grammar = { file-grammar };
 
@@ -71,20 +72,21 @@ impl Form for WholeFile {
     }
 }
 
-/// The proof file whose text the bytes are (own).
+/// The proof file whose text the bytes are (not in Plonky3).
 ///
 /// It is `Malformed` exactly where they are no proof file's text, with the line of the fault: one more than the greatest number of whole
 /// lines at their start that begin some proof file's text. No memory is taken for a count before its items are read.
 pub fn read_proof_file(alloc: Global, bytes: &[u8]) -> Result<ProofFile, TextError>
-    ensures { ReadsText (λ f. f) FileWithin file_words bytes.now result }
+    ensures { ReadsText (λ f. f) FileWithin file_numbers bytes.now result }
 {
     read_text::<WholeFile>(alloc, bytes)
 }
 
-/// The text of a proof file, which is within its limits (own). The only error is running out of memory.
+/// The text of a proof file, which is within its limits (not in Plonky3). The only error is running out
+/// of memory.
 pub fn write_proof_file(alloc: Global, file: &ProofFile) -> Mem<Vec<u8>>
     requires { FileWithin file.now }
-    ensures { IfOk result (λ v. v.items ≡ line_text (file_words file.now)) }
+    ensures { IfOk result (λ v. v.items ≡ line_text (file_numbers file.now)) }
 {
     let mut text = Vec::new(alloc);
     WholeFile::print(file, &mut text)?;

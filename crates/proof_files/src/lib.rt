@@ -1,6 +1,6 @@
 //! The program's proof files: a version, the tables that are stated, and a batch proof of them; and what `verify` answers for one.
 //!
-//! The definitions that contracts cite are in `specs/`: a file's limits and its words (`Files`).
+//! The definitions that contracts cite are in `specs/`: a file's limits and its numbers (`Files`).
 #![tactic(auto)]
 
 mod answer;

@@ -1,6 +1,6 @@
 //! The text of a table's statement.
 ghost use Rattle.std.specs.Prelude.{◌≡◌, ◌≤◌, length};
-ghost use Rattle.proof_files.specs.Files.{least_log_rows, most_log_rows, public_count, stated};
+ghost use Rattle.proof_files.specs.Files.{least_log_rows, most_log_rows, public_count, table_statement};
 
 use line_format::{Form, ItemError, Reader, push_number, read_items};
 use p3_field::{BabyBear, Mem};
@@ -56,7 +56,7 @@ fn public_values(kind: u32) -> usize
 // The table of this kind.
 fn table_of(kind: u32, k: u8, values: &[BabyBear]) -> TableStatement
     requires { length values.now ≡ public_count kind }
-    ensures { result ≡ stated kind k values.now }
+    ensures { result ≡ table_statement kind k values.now }
 {
     if kind == SWAP {
         TableStatement::Swap {
@@ -85,7 +85,7 @@ impl Form for StatedTable {
 
     ghost use Rattle.tool_statement.specs.declared.table.TableStatement.{TableStatement as Stated};
     ghost use Rattle.tool_statement.specs.StatedTables.{TableWithin};
-    ghost use Rattle.proof_files.specs.Files.{statement_words};
+    ghost use Rattle.proof_files.specs.Files.{statement_numbers};
     ghost use Rattle.proof_files.specs.Laws.Tables.{table-grammar};
 
     ghost Data = { Stated };
@@ -94,7 +94,7 @@ impl Form for StatedTable {
 
     ghost within = { TableWithin };
 
-    ghost words = { statement_words };
+    ghost numbers = { statement_numbers };
 
     ghost grammar = { table-grammar };
 

@@ -2,11 +2,11 @@
 use Rattle.std.specs.Prelude.{◌≡◌, ℕ, zero, suc, ◌≤◌, ◌↔◌, List, ◌∷◌}
 use Rattle.p3_field.specs.declared.baby_bear.BabyBear.{BabyBear}
 use Rattle.p3_matrix.specs.Matrix.{Rows, FillsRows, height}
-use Rattle.line_format.specs.Texts.{items_words, element_words}
+use Rattle.line_format.specs.Texts.{items_numbers, element_numbers}
 
 -- its width, its height, and its elements row by row
-abbrev pub matrix_words : Rows BabyBear → List ℕ
-matrix_words m = m.width ∷ height m ∷ items_words element_words m.values
+abbrev pub matrix_numbers : Rows BabyBear → List ℕ
+matrix_numbers m = m.width ∷ height m ∷ items_numbers element_numbers m.values
 
 -- at most 16384 columns and at most 4096 rows, which the elements fill, and no rows exactly where there are no columns
 pub record MatrixWithin (m : Rows BabyBear) : Type 0 where

@@ -6,22 +6,22 @@ use Rattle.plain_pcs.specs.Scheme.{PlainCommitmentData}
 use Rattle.plain_pcs.specs.declared.commitment.PlainProof.{PlainProof}
 use Rattle.batch_statement.specs.Proof.{ProofData}
 use Rattle.batch_statement.specs.declared.commitments.BatchCommitments.{BatchCommitments}
-use Rattle.line_format.specs.Texts.{number_words, element_words, extension_words, list_words, option_words, Between, Unlimited, ListWithin, OptionWithin}
-use Rattle.proof_text.specs.Matrices.{matrix_words, MatrixWithin}
-use Rattle.proof_text.specs.Openings.{instance_words, InstanceWithin}
+use Rattle.line_format.specs.Texts.{one_number, element_numbers, extension_numbers, list_numbers, option_numbers, Between, Unlimited, ListWithin, OptionWithin}
+use Rattle.proof_text.specs.Matrices.{matrix_numbers, MatrixWithin}
+use Rattle.proof_text.specs.Openings.{instance_numbers, InstanceWithin}
 
 -- a commitment of the plain backend: at most 1024 matrices
-abbrev pub commitment_words : PlainCommitmentData BabyBear → List ℕ
-commitment_words c = list_words matrix_words c.matrices
+abbrev pub commitment_numbers : PlainCommitmentData BabyBear → List ℕ
+commitment_numbers c = list_numbers matrix_numbers c.matrices
 
 abbrev pub CommitmentWithin : PlainCommitmentData BabyBear → Type 0
 CommitmentWithin c = ListWithin 0 1024 MatrixWithin c.matrices
 
 -- the commitments of a batch proof
-abbrev pub commitments_words : BatchCommitments (PlainCommitmentData BabyBear) → List ℕ
-commitments_words c =
-    commitment_words c.main ++ option_words commitment_words c.permutation ++ commitment_words c.quotient_chunks
-    ++ option_words commitment_words c.random
+abbrev pub commitments_numbers : BatchCommitments (PlainCommitmentData BabyBear) → List ℕ
+commitments_numbers c =
+    commitment_numbers c.main ++ option_numbers commitment_numbers c.permutation ++ commitment_numbers c.quotient_chunks
+    ++ option_numbers commitment_numbers c.random
 
 pub record CommitmentsWithin (c : BatchCommitments (PlainCommitmentData BabyBear)) : Type 0 where
   pub main : CommitmentWithin c.main
@@ -34,10 +34,10 @@ abbrev pub ToolProofData : Type 0
 ToolProofData = ProofData BabyBear QuarticExtension (PlainCommitmentData BabyBear) PlainProof
 
 -- its parts in order: the opening proof, in which there is nothing, has no lines
-unfoldable pub proof_words : ToolProofData → List ℕ
-proof_words p =
-    commitments_words p.commitments ++ list_words instance_words p.instances ++ list_words (option_words extension_words) p.lookup_terminals
-    ++ list_words number_words p.degree_bits ++ option_words element_words p.lookup_pow_witness ++ element_words p.ood_pow_witness
+unfoldable pub proof_numbers : ToolProofData → List ℕ
+proof_numbers p =
+    commitments_numbers p.commitments ++ list_numbers instance_numbers p.instances ++ list_numbers (option_numbers extension_numbers) p.lookup_terminals
+    ++ list_numbers one_number p.degree_bits ++ option_numbers element_numbers p.lookup_pow_witness ++ element_numbers p.ood_pow_witness
 
 -- at most 1024 tables, and degree bits of at most 255
 pub record ProofWithin (p : ToolProofData) : Type 0 where

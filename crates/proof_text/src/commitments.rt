@@ -10,7 +10,7 @@ use std::alloc::Global;
 /// At most 1024 matrices.
 type MatricesText = ListOf<MatrixText, 1024>;
 
-/// The form of a commitment's text (own): a list of at most 1024 matrices.
+/// The form of a commitment's text (not in Plonky3): a list of at most 1024 matrices.
 pub struct CommitmentText;
 
 impl Form for CommitmentText {
@@ -18,7 +18,7 @@ impl Form for CommitmentText {
 
     ghost use Rattle.p3_field.specs.declared.baby_bear.BabyBear.{BabyBear as Element};
     ghost use Rattle.plain_pcs.specs.Scheme.{PlainCommitmentData};
-    ghost use Rattle.proof_text.specs.ProofText.{CommitmentWithin, commitment_words};
+    ghost use Rattle.proof_text.specs.ProofText.{CommitmentWithin, commitment_numbers};
     ghost use Rattle.proof_text.specs.Laws.Commitments.{commitment-grammar};
 
     ghost Data = { PlainCommitmentData Element };
@@ -27,7 +27,7 @@ impl Form for CommitmentText {
 
     ghost within = { CommitmentWithin };
 
-    ghost words = { commitment_words };
+    ghost numbers = { commitment_numbers };
 
     ghost grammar = { commitment-grammar };
 
@@ -42,8 +42,8 @@ impl Form for CommitmentText {
     }
 }
 
-/// The form of the text of a proof's commitments (own): that to the main traces, that to the permutation traces, which may be
-/// absent, that to the quotient chunks, and that to random polynomials, which may be absent.
+/// The form of the text of a proof's commitments (not in Plonky3): that to the main traces, that to the permutation traces,
+/// which may be absent, that to the quotient chunks, and that to random polynomials, which may be absent.
 pub struct CommitmentsText;
 
 impl Form for CommitmentsText {
@@ -52,7 +52,7 @@ impl Form for CommitmentsText {
     ghost use Rattle.p3_field.specs.declared.baby_bear.BabyBear.{BabyBear as Element};
     ghost use Rattle.plain_pcs.specs.Scheme.{PlainCommitmentData};
     ghost use Rattle.batch_statement.specs.declared.commitments.BatchCommitments.{BatchCommitments as Commitments};
-    ghost use Rattle.proof_text.specs.ProofText.{CommitmentsWithin, commitments_words};
+    ghost use Rattle.proof_text.specs.ProofText.{CommitmentsWithin, commitments_numbers};
     ghost use Rattle.proof_text.specs.Laws.Commitments.{commitments-grammar};
 
     ghost Data = { Commitments (PlainCommitmentData Element) };
@@ -61,7 +61,7 @@ impl Form for CommitmentsText {
 
     ghost within = { CommitmentsWithin };
 
-    ghost words = { commitments_words };
+    ghost numbers = { commitments_numbers };
 
     ghost grammar = { commitments-grammar };
 

@@ -14,7 +14,8 @@ const MOST_WIDTH: u32 = 16384;
 /// The most rows of a matrix.
 const MOST_HEIGHT: u32 = 4096;
 
-/// The form of a matrix's text (own): its width, its height, and its elements row by row, a line for each.
+/// The form of a matrix's text (not in Plonky3): its width, its height, and its elements row by row, a
+/// line for each.
 ///
 /// The width is at most 16384 and the height at most 4096. The height is 0 exactly where the width is.
 pub struct MatrixText;
@@ -24,7 +25,7 @@ impl Form for MatrixText {
 
     ghost use Rattle.p3_field.specs.declared.baby_bear.BabyBear.{BabyBear as Element};
     ghost use Rattle.p3_matrix.specs.Matrix.{Rows};
-    ghost use Rattle.proof_text.specs.Matrices.{MatrixWithin, matrix_words};
+    ghost use Rattle.proof_text.specs.Matrices.{MatrixWithin, matrix_numbers};
     ghost use Rattle.proof_text.specs.Laws.Matrices.{matrix-grammar};
 
     ghost Data = { Rows Element };
@@ -33,7 +34,7 @@ impl Form for MatrixText {
 
     ghost within = { MatrixWithin };
 
-    ghost words = { matrix_words };
+    ghost numbers = { matrix_numbers };
 
     ghost grammar = { matrix-grammar };
 

@@ -12,7 +12,7 @@ type ElementsText = ListOf<QuarticExtension, 65536>;
 /// At most 1024 quotient chunks.
 type ChunksText = ListOf<ValuesText, 1024>;
 
-/// The form of the text of values (own): a list of at most 65536 elements of the extension.
+/// The form of the text of values (not in Plonky3): a list of at most 65536 elements of the extension.
 pub struct ValuesText;
 
 impl Form for ValuesText {
@@ -20,7 +20,7 @@ impl Form for ValuesText {
 
     ghost use Rattle.std.specs.Prelude.{List};
     ghost use Rattle.p3_field.specs.declared.quartic.QuarticExtension.{QuarticExtension as Extension};
-    ghost use Rattle.proof_text.specs.Openings.{ValuesWithin, values_words};
+    ghost use Rattle.proof_text.specs.Openings.{ValuesWithin, values_numbers};
     ghost use Rattle.proof_text.specs.Laws.Openings.{values-grammar};
 
     ghost Data = { List Extension };
@@ -29,7 +29,7 @@ impl Form for ValuesText {
 
     ghost within = { ValuesWithin };
 
-    ghost words = { values_words };
+    ghost numbers = { values_numbers };
 
     ghost grammar = { values-grammar };
 
@@ -43,8 +43,8 @@ impl Form for ValuesText {
     }
 }
 
-/// The form of the text of the preprocessed columns' values (own): those at the drawn point, and those at the next, which may
-/// be absent.
+/// The form of the text of the preprocessed columns' values (not in Plonky3): those at the drawn point, and those at the
+/// next, which may be absent.
 pub struct PreprocessedText;
 
 impl Form for PreprocessedText {
@@ -52,7 +52,7 @@ impl Form for PreprocessedText {
 
     ghost use Rattle.p3_field.specs.declared.quartic.QuarticExtension.{QuarticExtension as Extension};
     ghost use Rattle.p3_uni_stark.specs.Opened.{PreprocessedData};
-    ghost use Rattle.proof_text.specs.Openings.{PreprocessedWithin, preprocessed_words};
+    ghost use Rattle.proof_text.specs.Openings.{PreprocessedWithin, preprocessed_numbers};
     ghost use Rattle.proof_text.specs.Laws.Openings.{preprocessed-grammar};
 
     ghost Data = { PreprocessedData Extension };
@@ -61,7 +61,7 @@ impl Form for PreprocessedText {
 
     ghost within = { PreprocessedWithin };
 
-    ghost words = { preprocessed_words };
+    ghost numbers = { preprocessed_numbers };
 
     ghost grammar = { preprocessed-grammar };
 
@@ -81,9 +81,9 @@ impl Form for PreprocessedText {
     }
 }
 
-/// The form of the text of what a proof of one table alone opens (own): the main columns' values at the drawn point and at the
-/// next, the preprocessed columns', those of at most 1024 quotient chunks, and the random polynomials'. All but the first and
-/// the chunks may be absent.
+/// The form of the text of what a proof of one table alone opens (not in Plonky3): the main columns' values at the drawn point
+/// and at the next, the preprocessed columns', those of at most 1024 quotient chunks, and the random polynomials'. All but the
+/// first and the chunks may be absent.
 pub struct OpenedText;
 
 impl Form for OpenedText {
@@ -91,7 +91,7 @@ impl Form for OpenedText {
 
     ghost use Rattle.p3_field.specs.declared.quartic.QuarticExtension.{QuarticExtension as Extension};
     ghost use Rattle.p3_uni_stark.specs.Opened.{OpenedData};
-    ghost use Rattle.proof_text.specs.Openings.{OpenedWithin, opened_words};
+    ghost use Rattle.proof_text.specs.Openings.{OpenedWithin, opened_numbers};
     ghost use Rattle.proof_text.specs.Laws.Openings.{opened-grammar};
 
     ghost Data = { OpenedData Extension };
@@ -100,7 +100,7 @@ impl Form for OpenedText {
 
     ghost within = { OpenedWithin };
 
-    ghost words = { opened_words };
+    ghost numbers = { opened_numbers };
 
     ghost grammar = { opened-grammar };
 
@@ -132,8 +132,8 @@ impl Form for OpenedText {
     }
 }
 
-/// The form of the text of what is opened of one table of a batch (own): what a proof of the table alone opens, and the
-/// permutation columns' values at the drawn point and at the next.
+/// The form of the text of what is opened of one table of a batch (not in Plonky3): what a proof of the table alone
+/// opens, and the permutation columns' values at the drawn point and at the next.
 pub struct InstanceText;
 
 impl Form for InstanceText {
@@ -141,7 +141,7 @@ impl Form for InstanceText {
 
     ghost use Rattle.p3_field.specs.declared.quartic.QuarticExtension.{QuarticExtension as Extension};
     ghost use Rattle.batch_statement.specs.Proof.{OpenedWithLookups};
-    ghost use Rattle.proof_text.specs.Openings.{InstanceWithin, instance_words};
+    ghost use Rattle.proof_text.specs.Openings.{InstanceWithin, instance_numbers};
     ghost use Rattle.proof_text.specs.Laws.Openings.{instance-grammar};
 
     ghost Data = { OpenedWithLookups Extension };
@@ -150,7 +150,7 @@ impl Form for InstanceText {
 
     ghost within = { InstanceWithin };
 
-    ghost words = { instance_words };
+    ghost numbers = { instance_numbers };
 
     ghost grammar = { instance-grammar };
 

@@ -1,10 +1,10 @@
 //! The text of a batch proof.
 
 ghost use Rattle.std.specs.Prelude.{◌≡◌, ◌≤◌, ◌++◌, OnOk, length};
-ghost use Rattle.line_format.specs.Texts.{line_text, list_words};
+ghost use Rattle.line_format.specs.Texts.{line_text, list_numbers};
 ghost use Rattle.line_format.specs.WholeText.{ReadsTextFrom};
-ghost use Rattle.proof_text.specs.Openings.{instance_words};
-ghost use Rattle.proof_text.specs.ProofText.{ProofWithin, proof_words};
+ghost use Rattle.proof_text.specs.Openings.{instance_numbers};
+ghost use Rattle.proof_text.specs.ProofText.{ProofWithin, proof_numbers};
 
 use crate::commitments::CommitmentsText;
 use crate::openings::InstanceText;
@@ -15,7 +15,8 @@ use p3_lookup::LookupTerminal;
 use plain_pcs::{PlainCommitment, PlainProof};
 use std::alloc::Global;
 
-/// A batch proof over the program's fields and the plain backend (own): `BatchProof` over a configuration of these.
+/// A batch proof over the program's fields and the plain backend (not in Plonky3): `BatchProof` over a
+/// configuration of these.
 pub type ToolProof = TablesProof<BabyBear, QuarticExtension, PlainCommitment<BabyBear>, PlainProof>;
 
 /// At most 1024 tables' opened values.
@@ -30,14 +31,14 @@ type DegreesText = ListOf<DegreeText, 1024>;
 /// The most that a table's degree bits may be.
 const MOST_DEGREE_BITS: u32 = 255;
 
-/// The form of a terminal's text (own): that of its value.
+/// The form of a terminal's text (not in Plonky3): that of its value.
 pub struct TerminalText;
 
 impl Form for TerminalText {
     type Value = LookupTerminal<QuarticExtension>;
 
     ghost use Rattle.p3_field.specs.declared.quartic.QuarticExtension.{QuarticExtension as Extension};
-    ghost use Rattle.line_format.specs.Texts.{Unlimited, extension_words};
+    ghost use Rattle.line_format.specs.Texts.{Unlimited, extension_numbers};
     ghost use Rattle.line_format.specs.Laws.Grammars.{extension-grammar};
 
     ghost Data = { Extension };
@@ -46,7 +47,7 @@ impl Form for TerminalText {
 
     ghost within = { Unlimited };
 
-    ghost words = { extension_words };
+    ghost numbers = { extension_numbers };
 
     ghost grammar = { extension-grammar };
 
@@ -63,14 +64,14 @@ impl Form for TerminalText {
     }
 }
 
-/// The form of the text of a table's degree bits (own): a line, a number of at most 255.
+/// The form of the text of a table's degree bits (not in Plonky3): a line, a number of at most 255.
 pub struct DegreeText;
 
 impl Form for DegreeText {
     type Value = usize;
 
     ghost use Rattle.std.specs.Prelude.{ℕ};
-    ghost use Rattle.line_format.specs.Texts.{Between, number_words};
+    ghost use Rattle.line_format.specs.Texts.{Between, one_number};
     ghost use Rattle.proof_text.specs.Laws.Proofs.{degree-grammar};
 
     ghost Data = { ℕ };
@@ -79,7 +80,7 @@ impl Form for DegreeText {
 
     ghost within = { Between 0 255 };
 
-    ghost words = { number_words };
+    ghost numbers = { one_number };
 
     ghost grammar = { degree-grammar };
 
@@ -93,15 +94,15 @@ impl Form for DegreeText {
     }
 }
 
-/// The form of a batch proof's text (own): the commitments, the opened values of at most 1024 tables, as many terminals, which
-/// may be absent, as many degree bits, the grinding value before the lookups' challenges, which may be absent, and that before
-/// the point is drawn. The opening proof has no lines, since there is nothing in it.
+/// The form of a batch proof's text (not in Plonky3): the commitments, the opened values of at most 1024 tables, as many
+/// terminals, which may be absent, as many degree bits, the grinding value before the lookups' challenges, which may be
+/// absent, and that before the point is drawn. The opening proof has no lines, since there is nothing in it.
 pub struct ProofText;
 
 impl Form for ProofText {
     type Value = ToolProof;
 
-    ghost use Rattle.proof_text.specs.ProofText.{ToolProofData, ProofWithin, proof_words};
+    ghost use Rattle.proof_text.specs.ProofText.{ToolProofData, ProofWithin, proof_numbers};
     ghost use Rattle.proof_text.specs.Laws.Proofs.{proof-grammar};
 
     ghost Data = { ToolProofData };
@@ -110,7 +111,7 @@ impl Form for ProofText {
 
     ghost within = { ProofWithin };
 
-    ghost words = { proof_words };
+    ghost numbers = { proof_numbers };
 
     ghost grammar = { proof-grammar };
 
@@ -145,7 +146,7 @@ impl Form for ProofText {
 
 /// Prints the tables' opened values. On an error a part of them may stand.
 fn print_instances(values: &BatchOpenedValues<QuarticExtension>, out: &mut Vec<u8>) -> Mem<()>
-    ensures { OnOk result (out.new.items ≡ out.old.items ++ line_text (list_words instance_words values.now)) }
+    ensures { OnOk result (out.new.items ≡ out.old.items ++ line_text (list_numbers instance_numbers values.now)) }
 {
     InstancesText::print(&values.instances, out)?;
     Ok(())
@@ -157,7 +158,7 @@ fn print_instances(values: &BatchOpenedValues<QuarticExtension>, out: &mut Vec<u
 /// `from` is to be a place where a line begins.
 pub fn read_proof_part(alloc: Global, bytes: &[u8], from: usize) -> Result<ToolProof, TextError>
     requires { from ≤ length bytes.now }
-    ensures { ReadsTextFrom (λ p. p) ProofWithin proof_words bytes.now from result }
+    ensures { ReadsTextFrom (λ p. p) ProofWithin proof_numbers bytes.now from result }
 {
     read_text_from::<ProofText>(alloc, bytes, from)
 }
@@ -165,7 +166,7 @@ pub fn read_proof_part(alloc: Global, bytes: &[u8], from: usize) -> Result<ToolP
 /// Appends a proof's text: of a proof within the limits the one that [`read_proof_part`] reads. On an error a part of it may
 /// stand.
 pub fn write_proof_part(proof: &ToolProof, out: &mut Vec<u8>) -> Mem<()>
-    ensures { OnOk result (out.new.items ≡ out.old.items ++ line_text (proof_words proof.now)) }
+    ensures { OnOk result (out.new.items ≡ out.old.items ++ line_text (proof_numbers proof.now)) }
 {
     ProofText::print(proof, out)
 }

@@ -12,7 +12,7 @@ fn fault(alloc: Global, bytes: &[u8]) -> Option<TextError> {
     read_proof_part(alloc, bytes, 0).err()
 }
 
-// The whole proof's text with another number in the line behind so many lines.
+// The whole proof's text with another number in the line after so many lines.
 fn with_line(alloc: Global, before: usize, number: &str) -> Mem<Vec<u8>> {
     let mut text = Vec::new(alloc);
     for (place, line) in WHOLE.lines().enumerate() {
@@ -48,7 +48,7 @@ fn a_count_that_is_one_too_low_or_too_high(rt: HostRuntime) -> Result<(), Fail> 
         assert_eq!(rt;
             fault(rt.alloc(), &text),
             Some(TextError::Malformed { line }),
-            "of {number} behind {before} lines"
+            "of {number} after {before} lines"
         );
     }
     Ok(())

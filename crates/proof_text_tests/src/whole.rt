@@ -12,7 +12,7 @@ use std::alloc::Global;
 use std::test::Fail;
 
 /// The text of the proof in which every part is present, 75 lines: in order the four commitments, the number of tables, the two
-/// tables' opened values, the first table's chunks behind a break, the terminals, the degree bits, and the grinding values.
+/// tables' opened values, the first table's chunks after a break, the terminals, the degree bits, and the grinding values.
 pub const WHOLE: &str = "1\n2\n1\n5\n7\n\
     1\n2\n1\n2\n1\n2013265920\n0\n0\n\
     0\n\
@@ -156,7 +156,7 @@ fn a_whole_proof_is_read(rt: HostRuntime) -> Result<(), Fail> {
 }
 
 #[test]
-fn a_proof_behind_other_lines_is_read(rt: HostRuntime) -> Result<(), Fail> {
+fn a_proof_after_other_lines_is_read(rt: HostRuntime) -> Result<(), Fail> {
     let alloc = rt.alloc();
     let bytes = b"1\nhead\n0\n0\n0\n0\n0\n0\n0\n0\n3\n";
     let proof = read_proof_part(alloc, bytes, 7)?;

@@ -5,29 +5,29 @@ use Rattle.std.specs.List.{flat_map}
 use Rattle.std.proofs.lemmas.List.{get_or-map, length-map}
 use Rattle.std.proofs.lemmas.List.Elements.{All-cons}
 use Rattle.p3_field.specs.Domain.{CosetData, point}
-use Rattle.p3_field.specs.Laws.SubgroupSelectors.{map_table}
-use Rattle.p3_field.specs.Laws.Tables.{get_or-table, table_same}
-use Rattle.p3_field.specs.Poly.{table}
+use Rattle.p3_field.specs.Laws.SubgroupSelectors.{map_tabulate}
+use Rattle.p3_field.specs.Laws.Tabulate.{get_or-tabulate, tabulate_same}
+use Rattle.p3_field.specs.Poly.{tabulate}
 use Rattle.p3_matrix.specs.Matrix.{Rows}
 use Rattle.p3_air.specs.Shape.{Declaration, HasColumns}
 use Rattle.p3_commit.specs.Claims.{Request}
-use Rattle.p3_commit.specs.Commitments.{AreCommitted, AreHeld, Committed, Held, IsCommitment}
+use Rattle.p3_commit.specs.Commitments.{AreCommitted, AreOpenedCommitments, Committed, OpenedCommitment, IsCommitment}
 use Rattle.batch_claims.specs.Claims.{commitment_in, declared_at, matrix_tables}
 use Rattle.batch_claims.specs.Laws.Listed.{listed_below}
-use Rattle.batch_proving.specs.Batch.{Batch, IsKeptWith, IsTracedAll, all_chunks, all_permutations, log_parts_at, main_matrices, preprocessed_all, table_at, table_count}
+use Rattle.batch_proving.specs.Batch.{Batch, HasProverData, IsTracedAll, all_chunks, all_permutations, log_parts_at, main_matrices, preprocessed_all, table_at, table_count}
 use Rattle.batch_setting.specs.Domains.{next_by}
 use Rattle.batch_setting.specs.Setting.{masks}
 use Rattle.batch_shape_checks.specs.ShapeChecks.{no_table}
-use Rattle.batch_statement.specs.Statement.{PreprocessedTracesData, Table}
+use Rattle.batch_statement.specs.Statement.{PreprocessedTracesData, AirTable}
 use Rattle.committed_tables.specs.Fields.{FieldsLaws}
 use Rattle.batch_validity.specs.Traced.{declared}
-use Rattle.honest_proofs.specs.HonestProof.{alpha, challenges_at, main_part, permutation_part, quotient_part, where_some, zeta}
+use Rattle.honest_proofs.specs.HonestProof.{alpha, challenges_at, honest_main_commitment, honest_permutation_commitment, honest_quotient_commitment, where_some, zeta}
 use Rattle.honest_proofs.specs.Laws.Flat.{flat_same, map_flat, map_where}
-use Rattle.honest_acceptance.specs.Rounds.{AskFor, OpenedMatrix, Round, chunk_opened, chunks, chunks_opened, committed_of, held_of, honest_rounds, main_opened, mains, of_table, permutation_opened, permutations, points_with, preprocessed_opened, preprocesseds, round_of}
-use Rattle.honest_acceptance.specs.Laws.Kept.{chunks_kept, mains_kept, permutations_kept, preprocesseds_kept}
+use Rattle.honest_acceptance.specs.Rounds.{AskFor, OpenedMatrix, Round, chunk_opened, chunks, chunks_opened, committed_of, opened_commitments_of, honest_rounds, main_opened, mains, of_table, permutation_opened, permutations, points_with, preprocessed_opened, preprocesseds, round_of}
+use Rattle.honest_acceptance.specs.Laws.HonestMatrices.{chunks_committed, mains_committed, permutations_committed, preprocesseds_committed}
 use Rattle.honest_acceptance.specs.Laws.Opened.{kept_on}
 use Rattle.honest_acceptance.specs.Laws.Rounds.{ArePaired, each_paired, paired_append}
-use Rattle.prover_openings.specs.Asked.{KeptRounds, asked_of, chunk_points, main_points, permutation_points, plan_in, preprocessed_points, request_where}
+use Rattle.prover_openings.specs.Asked.{RoundsProverData, asked_of, chunk_points, main_points, permutation_points, plan_in, preprocessed_points, request_where}
 use Rattle.prover_openings.specs.Check.{AreBoth}
 
 -- a request asks for a round, by prover data that was made and holds what the round does
@@ -66,14 +66,14 @@ module _ {F E C D : Type 0} (made : D → Type 0) (holds : D → C → List (Com
   all_made (r ∷ rs) [] h = absurd h
   all_made (r ∷ rs) (q ∷ qs) h = All-cons (λ (q : Request D E). made q.prover_data) q qs h.0.made_is (all_made rs qs h.1)
 
-  paired_held : (rs : List (Round F E C)) (qs : List (Request D E)) → ArePaired (AsksFor made holds) rs qs → ArePaired (λ (q : Request D E) (x : Held C F). holds q.prover_data x.commitment x.matrices) qs (held_of rs)
+  paired_held : (rs : List (Round F E C)) (qs : List (Request D E)) → ArePaired (AsksFor made holds) rs qs → ArePaired (λ (q : Request D E) (x : OpenedCommitment C F). holds q.prover_data x.commitment x.matrices) qs (opened_commitments_of rs)
   paired_held [] [] h = tt
   paired_held [] (q ∷ qs) h = h
   paired_held (r ∷ rs) [] h = h
   paired_held (r ∷ rs) (q ∷ qs) h = (h.0.held, paired_held rs qs h.1)
 
 -- the entry of preprocessed prover data, by the commitment alone
-kept_both : {M C D : Type 0} (commits : List M → C × D → Type 0) (ms : List M) (g : Option (PreprocessedTracesData C)) (d : Option D) → IsKeptWith commits ms g d → AreBoth (λ c x. commits ms (c, x)) (commitment_in g) d
+kept_both : {M C D : Type 0} (commits : List M → C × D → Type 0) (ms : List M) (g : Option (PreprocessedTracesData C)) (d : Option D) → HasProverData commits ms g d → AreBoth (λ c x. commits ms (c, x)) (commitment_in g) d
 kept_both commits ms None None h = tt
 kept_both commits ms None (Some d) h = h
 kept_both commits ms (Some g) None h = h
@@ -93,13 +93,13 @@ module _ {S F E C : Type 0} (b : Batch S F E C) (L : FieldsLaws b.setting.field 
   points_in ms = map (λ (o : OpenedMatrix F E). o.points) ms
 
   abbrev declarations : List (Declaration F)
-  declarations = map (λ (t : Table F). t.declaration) b.statement.tables
+  declarations = map (λ (t : AirTable F). t.declaration) b.statement.tables
 
   long : length declarations ≡ n
-  long = length-map b.statement.tables (λ (t : Table F). t.declaration)
+  long = length-map b.statement.tables (λ (t : AirTable F). t.declaration)
 
   declared_same : (i : ℕ) → i < n → declared_at declarations i ≡ declared (table_at b i)
-  declared_same i h = get_or-map (λ (t : Table F). t.declaration) b.statement.tables i no_table (no_table {F = F}).declaration h
+  declared_same i h = get_or-map (λ (t : AirTable F). t.declaration) b.statement.tables i no_table (no_table {F = F}).declaration h
 
   abbrev main_at : ℕ → OpenedMatrix F E
   main_at = of_table b.setting b.prover b.statement b.traces b.degree_bits w z (main_opened b.setting b.prover)
@@ -117,41 +117,41 @@ module _ {S F E C : Type 0} (b : Batch S F E C) (L : FieldsLaws b.setting.field 
   mains_asked : main_points (plan_in b) x after ≡ points_in (mains b.setting b.prover b.statement b.traces b.degree_bits w z)
   mains_asked =
       let v = λ (i : ℕ). points_with (declared_at declarations i).main_next x (after (table_at b i).degree_bits) in
-      ap (λ m. table m v) long
-      ∙ (table_same n v (λ i. (main_at i).points) (λ i h. ap (λ (d : Declaration F). points_with d.main_next x (after (table_at b i).degree_bits)) (declared_same i h))
-      ∙ sym (map_table (λ (o : OpenedMatrix F E). o.points) n main_at))
+      ap (λ m. tabulate m v) long
+      ∙ (tabulate_same n v (λ i. (main_at i).points) (λ i h. ap (λ (d : Declaration F). points_with d.main_next x (after (table_at b i).degree_bits)) (declared_same i h))
+      ∙ sym (map_tabulate (λ (o : OpenedMatrix F E). o.points) n main_at))
 
   chunks_asked : chunk_points (plan_in b) x after ≡ points_in (chunks b.setting b.prover b.statement b.traces b.degree_bits w z)
   chunks_asked =
       let counts = (plan_in b).chunk_counts in
-      let v = λ (i : ℕ). table (get_or counts i 0) (λ (j : ℕ). x ∷ []) in
+      let v = λ (i : ℕ). tabulate (get_or counts i 0) (λ (j : ℕ). x ∷ []) in
       let u = λ (i : ℕ). points_in (chunks_at i) in
-      ap (λ m. flat_map v (table m (λ i. i))) long
+      ap (λ m. flat_map v (tabulate m (λ i. i))) long
       ∙ (flat_same v u n (λ i. i) (λ i h.
-      ap (λ m. table m (λ (j : ℕ). x ∷ [])) (get_or-table n (λ i. 2 ^ log_parts_at b i) i 0 h)
-      ∙ sym (map_table (λ (o : OpenedMatrix F E). o.points) (2 ^ log_parts_at b i)
+      ap (λ m. tabulate m (λ (j : ℕ). x ∷ [])) (get_or-tabulate n (λ i. 2 ^ log_parts_at b i) i 0 h)
+      ∙ sym (map_tabulate (λ (o : OpenedMatrix F E). o.points) (2 ^ log_parts_at b i)
       (chunk_opened b.setting b.prover (table_at b i) (challenges_at b.setting b.prover b.statement b.traces b.degree_bits w i) (alpha b.setting b.prover b.statement b.traces b.degree_bits w) x)))
-      ∙ sym (map_flat (λ (o : OpenedMatrix F E). o.points) chunks_at (table n (λ i. i))))
+      ∙ sym (map_flat (λ (o : OpenedMatrix F E). o.points) chunks_at (tabulate n (λ i. i))))
 
   preprocesseds_asked : preprocessed_points (plan_in b) x after ≡ points_in (preprocesseds b.setting b.prover b.statement b.traces b.degree_bits w z)
   preprocesseds_asked =
       let ms = matrix_tables b.statement.common.preprocessed in
       let v = λ (m : ℕ). points_with (declared_at declarations (get_or ms m 0)).preprocessed_next x (after (table_at b (get_or ms m 0)).degree_bits) in
-      table_same (length ms) v (λ m. (preprocessed_at (get_or ms m 0)).points) (λ m h.
+      tabulate_same (length ms) v (λ m. (preprocessed_at (get_or ms m 0)).points) (λ m h.
       ap (λ (d : Declaration F). points_with d.preprocessed_next x (after (table_at b (get_or ms m 0)).degree_bits)) (declared_same (get_or ms m 0) (listed_below declarations b.statement.common n B.formed long m 0 h)))
-      ∙ sym (map_table (λ (o : OpenedMatrix F E). o.points) (length ms) (λ m. preprocessed_at (get_or ms m 0)))
+      ∙ sym (map_tabulate (λ (o : OpenedMatrix F E). o.points) (length ms) (λ m. preprocessed_at (get_or ms m 0)))
 
   permutations_asked : permutation_points (plan_in b) x after ≡ points_in (permutations b.setting b.prover b.statement b.traces b.degree_bits w z)
   permutations_asked =
       let v = λ (i : ℕ). option_to_list (where_some (get_or b.statement.common.lookups i []) (x ∷ after (table_at b i).degree_bits ∷ [])) in
       let u = λ (i : ℕ). points_in (permutation_at i) in
-      ap (λ m. flat_map v (table m (λ i. i))) long
+      ap (λ m. flat_map v (tabulate m (λ i. i))) long
       ∙ (flat_same v u n (λ i. i) (λ i h. sym (map_where (λ (o : OpenedMatrix F E). o.points) (get_or b.statement.common.lookups i []) _))
-      ∙ sym (map_flat (λ (o : OpenedMatrix F E). o.points) permutation_at (table n (λ i. i))))
+      ∙ sym (map_flat (λ (o : OpenedMatrix F E). o.points) permutation_at (tabulate n (λ i. i))))
 
   module _ {D : Type 0} (plain : b.setting.zk ≡ false) (columns : (i : ℕ) → i < n → HasColumns (declared (table_at b i)).preprocessed)
       (points : CosetData F → ℕ) (point_at : CosetData F → ℕ → F) (sizes : (d : CosetData F) → points d ≡ 2 ^ d.log_size) (places : (d : CosetData F) (i : ℕ) → point_at d i ≡ point b.setting.field.ring b.setting.field.root d i)
-      (commits : List (CosetData F × Rows F) → C → Type 0) (made : D → Type 0) (holds : D → C → List (Committed F) → Type 0) (kept : KeptRounds D) where
+      (commits : List (CosetData F × Rows F) → C → Type 0) (made : D → Type 0) (holds : D → C → List (Committed F) → Type 0) (kept : RoundsProverData D) where
     abbrev IsCom : List (CosetData F × Rows F) → C × D → Type 0
     IsCom = IsCommitment b.setting.field.ring points point_at commits made holds
 
@@ -163,10 +163,10 @@ module _ {S F E C : Type 0} (b : Batch S F E C) (L : FieldsLaws b.setting.field 
         let cs = I.held.0 in
         (I.made_is, subst (holds d c) (known cs (kept_on b.setting.field.ring b.setting.field.root points point_at sizes places es cs I.held.1)) I.held.2)
 
-    module _ (main : IsCom (main_matrices b) (main_part b.setting b.prover b.statement b.traces b.degree_bits, kept.main))
-        (quotient : IsCom (all_chunks b w) (quotient_part b.setting b.prover b.statement b.traces b.degree_bits w, kept.quotient))
-        (preprocessed : IsKeptWith IsCom (preprocessed_all b) b.statement.common.preprocessed kept.preprocessed)
-        (permutation : AreBoth (λ c d. IsCom (all_permutations b w) (c, d)) (permutation_part b.setting b.prover b.statement b.traces b.degree_bits w) kept.permutation) where
+    module _ (main : IsCom (main_matrices b) (honest_main_commitment b.setting b.prover b.statement b.traces b.degree_bits, kept.main))
+        (quotient : IsCom (all_chunks b w) (honest_quotient_commitment b.setting b.prover b.statement b.traces b.degree_bits w, kept.quotient))
+        (preprocessed : HasProverData IsCom (preprocessed_all b) b.statement.common.preprocessed kept.preprocessed)
+        (permutation : AreBoth (λ c d. IsCom (all_permutations b w) (c, d)) (honest_permutation_commitment b.setting b.prover b.statement b.traces b.degree_bits w) kept.permutation) where
       rounds_asked : ArePaired (AsksFor made holds) (honest_rounds b.setting b.prover b.statement b.traces b.degree_bits w z) (asked_of b kept w z)
       rounds_asked =
           let c = b.setting in
@@ -175,10 +175,10 @@ module _ {S F E C : Type 0} (b : Batch S F E C) (L : FieldsLaws b.setting.field 
           let ts = b.traces in
           let bits = b.degree_bits in
           let R = AsksFor {E = E} made holds in
-          let o1 = Some (main_part c p s ts bits) in
-          let o2 = Some (quotient_part c p s ts bits w) in
+          let o1 = Some (honest_main_commitment c p s ts bits) in
+          let o2 = Some (honest_quotient_commitment c p s ts bits w) in
           let o3 = commitment_in s.common.preprocessed in
-          let o4 = permutation_part c p s ts bits w in
+          let o4 = honest_permutation_commitment c p s ts bits w in
           let m1 = mains c p s ts bits w z in
           let m2 = chunks c p s ts bits w z in
           let m3 = preprocesseds c p s ts bits w z in
@@ -188,14 +188,14 @@ module _ {S F E C : Type 0} (b : Batch S F E C) (L : FieldsLaws b.setting.field 
           let p3 = preprocessed_points (plan_in b) x after in
           let p4 = permutation_points (plan_in b) x after in
           let a1 = asks_where made holds o1 (Some kept.main) m1 p1 mains_asked
-          (of_commitment (main_matrices b) m1 (mains_kept c p s ts bits L B plain w z) (main_part c p s ts bits) kept.main main) in
+          (of_commitment (main_matrices b) m1 (mains_committed c p s ts bits L B plain w z) (honest_main_commitment c p s ts bits) kept.main main) in
           let a2 = asks_where made holds o2 (Some kept.quotient) m2 p2 chunks_asked
-          (of_commitment (all_chunks b w) m2 (chunks_kept c p s ts bits L B plain w z) (quotient_part c p s ts bits w) kept.quotient quotient) in
+          (of_commitment (all_chunks b w) m2 (chunks_committed c p s ts bits L B plain w z) (honest_quotient_commitment c p s ts bits w) kept.quotient quotient) in
           let a3 = asks_where made holds o3 kept.preprocessed m3 p3 preprocesseds_asked
-          (both_more (λ c d. IsCom (preprocessed_all b) (c, d)) (IsOf made holds m3) (of_commitment (preprocessed_all b) m3 (preprocesseds_kept c p s ts bits L B plain w z columns)) o3 kept.preprocessed
+          (both_more (λ c d. IsCom (preprocessed_all b) (c, d)) (IsOf made holds m3) (of_commitment (preprocessed_all b) m3 (preprocesseds_committed c p s ts bits L B plain w z columns)) o3 kept.preprocessed
           (kept_both IsCom (preprocessed_all b) s.common.preprocessed kept.preprocessed preprocessed)) in
           let a4 = asks_where made holds o4 kept.permutation m4 p4 permutations_asked
-          (both_more (λ c d. IsCom (all_permutations b w) (c, d)) (IsOf made holds m4) (of_commitment (all_permutations b w) m4 (permutations_kept c p s ts bits L B plain w z)) o4 kept.permutation permutation) in
+          (both_more (λ c d. IsCom (all_permutations b w) (c, d)) (IsOf made holds m4) (of_commitment (all_permutations b w) m4 (permutations_committed c p s ts bits L B plain w z)) o4 kept.permutation permutation) in
           let q1 = request_where (Some kept.main) p1 in
           let q2 = request_where (Some kept.quotient) p2 in
           let q3 = request_where kept.preprocessed p3 in
@@ -211,7 +211,7 @@ module _ {S F E C : Type 0} (b : Batch S F E C) (L : FieldsLaws b.setting.field 
       pub made_all : All (λ (q : Request D E). made q.prover_data) (asked_of b kept w z)
       made_all = all_made made holds (honest_rounds b.setting b.prover b.statement b.traces b.degree_bits w z) (asked_of b kept w z) rounds_asked
 
-      pub held_all : AreHeld holds (asked_of b kept w z) (held_of (honest_rounds b.setting b.prover b.statement b.traces b.degree_bits w z))
+      pub held_all : AreOpenedCommitments holds (asked_of b kept w z) (opened_commitments_of (honest_rounds b.setting b.prover b.statement b.traces b.degree_bits w z))
       held_all =
-          each_paired (λ (q : Request D E) (x : Held C F). holds q.prover_data x.commitment x.matrices) (asked_of b kept w z) (held_of (honest_rounds b.setting b.prover b.statement b.traces b.degree_bits w z))
+          each_paired (λ (q : Request D E) (x : OpenedCommitment C F). holds q.prover_data x.commitment x.matrices) (asked_of b kept w z) (opened_commitments_of (honest_rounds b.setting b.prover b.statement b.traces b.degree_bits w z))
           (paired_held made holds (honest_rounds b.setting b.prover b.statement b.traces b.degree_bits w z) (asked_of b kept w z) rounds_asked)

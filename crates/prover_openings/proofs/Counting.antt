@@ -10,13 +10,13 @@ use Rattle.batch_constraints.specs.BatchTrees.{AreLookupsOf}
 use Rattle.batch_setup.specs.Setup.{Instance, airs_of}
 use Rattle.batch_shape_checks.specs.ShapeChecks.{chunks_of_table, no_table}
 use Rattle.batch_shape_checks.specs.Laws.Items.{item_of_map}
-use Rattle.batch_statement.specs.Statement.{Table, tables_of}
+use Rattle.batch_statement.specs.Statement.{AirTable, tables_of}
 use Rattle.batch_validity.specs.Traced.{no_rows}
 use Rattle.prover_openings.specs.Counts.{IsCountable, log_count_at}
 
 module _ {F A : Type 0} (r : Ring F) (declaration : A → Declaration F) (trees : A → List (Tree F)) (instances : List (Instance A F)) (lookups : List (List (Written F))) (i : ℕ) (x : Instance A F) (ls : List (Written F)) (air : A) (rows : ℕ)
     (b : i < length instances) (at : x ≡ get_or instances i x) (d : i < length lookups) (listed : ls ≡ get_or lookups i ls) (own : air ≡ x.air) (tall : rows ≡ height x.trace) where
-  abbrev own_table : Table F
+  abbrev own_table : AirTable F
   own_table = record { declaration = declaration air; trees = trees air }
 
   table_there : get_or (tables_of declaration trees (airs_of instances)) i no_table ≡ own_table
@@ -35,4 +35,4 @@ module _ {F A : Type 0} (r : Ring F) (declaration : A → Declaration F) (trees 
   count_there = λ k. chunks_of_table r 0 (rows_there k) (table_there k) (lookups_there k)
 
   pub own_lookups : IsCountable r (tables_of declaration trees (airs_of instances)) (map (λ j. j.trace) instances) (map read_all lookups) i → AreLookupsOf (declaration air) (read_all ls)
-  own_lookups C = subst (λ l. AreLookupsOf (declaration air) l) lookups_there (subst (λ (t : Table F). AreLookupsOf t.declaration (get_or (map read_all lookups) i [])) table_there C.lookups_are)
+  own_lookups C = subst (λ l. AreLookupsOf (declaration air) l) lookups_there (subst (λ (t : AirTable F). AreLookupsOf t.declaration (get_or (map read_all lookups) i [])) table_there C.lookups_are)

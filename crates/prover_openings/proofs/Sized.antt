@@ -3,17 +3,17 @@ use Rattle.std.proofs.Common.{◌≡◌, ℕ, ◌^◌, ◌<◌, false, cond, Lis
 use Rattle.std.proofs.lemmas.List.{get_or-map}
 use Rattle.std.proofs.lemmas.Nat.{pow_pos}
 use Rattle.p3_field.specs.Domain.{CosetData}
-use Rattle.p3_field.specs.Laws.Tables.{table_same}
-use Rattle.p3_field.specs.Poly.{table}
+use Rattle.p3_field.specs.Laws.Tabulate.{tabulate_same}
+use Rattle.p3_field.specs.Poly.{tabulate}
 use Rattle.p3_matrix.specs.Matrix.{Rows, height}
 use Rattle.p3_air.specs.Shape.{Declaration}
 use Rattle.p3_air.specs.Tree.{Tree}
 use Rattle.p3_lookup.specs.Written.{Written, read_all}
 use Rattle.batch_setting.specs.Setting.{Setting, masks}
 use Rattle.batch_setup.specs.Setup.{ArePowers, Instance, airs_of, bits_of}
-use Rattle.batch_shape_checks.specs.ShapeChecks.{chunks_of_table, stated}
+use Rattle.batch_shape_checks.specs.ShapeChecks.{chunks_of_table, statement_with}
 use Rattle.batch_statement.specs.Statement.{Statement, WrittenCommon, tables_of}
-use Rattle.batch_validity.specs.Laws.Held.{lookups_declared}
+use Rattle.batch_validity.specs.Laws.Holding.{lookups_declared}
 use Rattle.batch_validity.specs.Traced.{TracedTable, log_parts, log_rows, no_rows, traced_at}
 use Rattle.batch_validity.specs.Valid.{IsTracedBatch}
 use Rattle.committed_tables.specs.Fields.{FieldsLaws}
@@ -21,9 +21,9 @@ use Rattle.prover_openings.specs.Counts.{IsCountable, log_count_at}
 use Rattle.prover_openings.proofs.Given.{count_is}
 
 module _ {S F E C A : Type 0} (c : Setting S F E C) (commitment_of : List (CosetData F × Rows F) → C) (declaration : A → Declaration F) (trees : A → List (Tree F)) (instances : List (Instance A F)) (common : WrittenCommon F C)
-    (B : IsTracedBatch c commitment_of (stated (tables_of declaration trees (airs_of instances)) (map (λ i. i.public_values) instances) common) (map (λ i. i.trace) instances) (bits_of (masks c) instances)) (plain : c.zk ≡ false) where
+    (B : IsTracedBatch c commitment_of (statement_with (tables_of declaration trees (airs_of instances)) (map (λ i. i.public_values) instances) common) (map (λ i. i.trace) instances) (bits_of (masks c) instances)) (plain : c.zk ≡ false) where
   abbrev s : Statement F C
-  s = stated (tables_of declaration trees (airs_of instances)) (map (λ i. i.public_values) instances) common
+  s = statement_with (tables_of declaration trees (airs_of instances)) (map (λ i. i.public_values) instances) common
 
   abbrev traces : List (Rows F)
   traces = map (λ i. i.trace) instances
@@ -59,12 +59,12 @@ module _ {S F E C A : Type 0} (c : Setting S F E C) (commitment_of : List (Coset
       omega (arith, same, m)
 
   -- so are the numbers of chunks that are computed of these lookups
-  pub counts_are : (ls : List (List (Written F))) → ls ≡ common.lookups → (counts : List ℕ) → counts ≡ table (length instances) (λ i. 2 ^ log_count_at c.field.ring s.tables traces (map read_all ls) i) → counts ≡ table table_count (λ i. 2 ^ log_parts c (table_at i))
+  pub counts_are : (ls : List (List (Written F))) → ls ≡ common.lookups → (counts : List ℕ) → counts ≡ tabulate (length instances) (λ i. 2 ^ log_count_at c.field.ring s.tables traces (map read_all ls) i) → counts ≡ tabulate table_count (λ i. 2 ^ log_parts c (table_at i))
   counts_are ls same counts e =
       e
-      ∙ ((λ k. table (length instances) (λ i. 2 ^ log_count_at c.field.ring s.tables traces (map read_all (same k)) i))
-      ∙ (ap (λ m. table m (λ i. 2 ^ log_count_at c.field.ring s.tables traces s.common.lookups i)) (sym n)
-      ∙ table_same table_count (λ i. 2 ^ log_count_at c.field.ring s.tables traces s.common.lookups i) (λ i. 2 ^ log_parts c (table_at i)) (λ i h. ap (λ k. 2 ^ k) (log_count_is i h))))
+      ∙ ((λ k. tabulate (length instances) (λ i. 2 ^ log_count_at c.field.ring s.tables traces (map read_all (same k)) i))
+      ∙ (ap (λ m. tabulate m (λ i. 2 ^ log_count_at c.field.ring s.tables traces s.common.lookups i)) (sym n)
+      ∙ tabulate_same table_count (λ i. 2 ^ log_count_at c.field.ring s.tables traces s.common.lookups i) (λ i. 2 ^ log_parts c (table_at i)) (λ i h. ap (λ k. 2 ^ k) (log_count_is i h))))
 
   countable_own : (inverse : E → E) → FieldsLaws c.field c.extension c.two_adicity inverse → c.two_adicity < 64 → (i : ℕ) → i < length instances
       → IsCountable c.field.ring s.tables traces s.common.lookups i

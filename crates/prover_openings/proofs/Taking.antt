@@ -3,9 +3,9 @@ use Rattle.std.proofs.Common.{◌≡◌, ℕ, zero, suc, ◌+◌, ◌^◌, ◌<�
 use Rattle.std.specs.Prelude.{option_map, option_to_list}
 use Rattle.std.specs.List.{flat_map}
 use Rattle.std.proofs.lemmas.List.{get_or-map, length-map}
-use Rattle.p3_field.specs.Laws.SubgroupSelectors.{map_table}
-use Rattle.p3_field.specs.Laws.Tables.{get_or-table, length-table, table_same}
-use Rattle.p3_field.specs.Poly.{table, val_in}
+use Rattle.p3_field.specs.Laws.SubgroupSelectors.{map_tabulate}
+use Rattle.p3_field.specs.Laws.Tabulate.{get_or-tabulate, length-tabulate, tabulate_same}
+use Rattle.p3_field.specs.Poly.{tabulate, eval_poly_in}
 use Rattle.p3_field.specs.Ring.{Ring}
 use Rattle.p3_matrix.specs.Matrix.{Rows}
 use Rattle.p3_air.specs.Shape.{Declaration, HasColumns, width_of}
@@ -16,19 +16,19 @@ use Rattle.batch_proving.specs.Batch.{Batch, IsTracedAll, log_parts_at, table_at
 use Rattle.batch_setting.specs.Setting.{Setting}
 use Rattle.batch_shape_checks.specs.ShapeChecks.{has_some, is_there, no_table, permutation_width}
 use Rattle.batch_statement.specs.Proof.{OpenedWithLookups}
-use Rattle.batch_statement.specs.Statement.{HasEntryOf, ListsEntries, PreprocessedTracesData, Table, entry_of}
+use Rattle.batch_statement.specs.Statement.{HasEntryOf, ListsEntries, PreprocessedTracesData, AirTable, entry_of}
 use Rattle.batch_statement.specs.declared.preprocessed.PreprocessedInstanceMeta.{PreprocessedInstanceMeta}
 use Rattle.committed_tables.specs.Committed.{CommittedTable, columns_at}
 use Rattle.committed_tables.specs.Fields.{FieldsLaws}
 use Rattle.committed_tables.specs.Quotient.{honest_chunk}
-use Rattle.batch_validity.specs.Laws.Held.{all_counted}
+use Rattle.batch_validity.specs.Laws.Holding.{all_counted}
 use Rattle.batch_validity.specs.Traced.{TracedTable, constraints, declared, log_parts, quotient_shift}
 use Rattle.batch_validity.specs.Valid.{HasQuotientDomain, IsTraced}
-use Rattle.honest_proofs.specs.HonestProof.{Prover, alpha, challenges_at, committed_table, committed_where, opened_of, permutation_matrices, permutation_part, quotient_part, main_part, where_some, zeta}
+use Rattle.honest_proofs.specs.HonestProof.{Prover, alpha, challenges_at, committed_table, committed_where, opened_of, permutation_matrices, honest_permutation_commitment, honest_quotient_commitment, honest_main_commitment, where_some, zeta}
 use Rattle.honest_proofs.specs.Laws.Flat.{map_flat}
 use Rattle.honest_acceptance.specs.Rounds.{OpenedMatrix, chunk_opened, chunks, chunks_opened, honest_rounds, main_opened, mains, permutation_opened, permutations, point_after, points_with, preprocessed_opened, preprocesseds, round_of, values_in_rounds}
 use Rattle.honest_acceptance.specs.Laws.Lengths.{permutation_count}
-use Rattle.prover_openings.specs.Rows.{first_of, rows_in, second_of, values_of_row}
+use Rattle.prover_openings.specs.Rows.{first_list, rows_in, second_of, values_of_row}
 use Rattle.prover_openings.specs.Taken.{RoundValues, count_below, one_where, round_values, taken_at, taken_table}
 use Rattle.prover_openings.proofs.Places.{by_entries, first_item_at, item_at, one_long, one_of, one_there}
 
@@ -86,10 +86,10 @@ module _ {S F E C : Type 0} (c : Setting S F E C) (p : Prover F E C) (t : Traced
       let pre = preprocessed_rows (declared t).preprocessed o some entry preprocessed e3 in
       let count = permutation_count c p t challenges L Q T in
       let u = honest_chunk c.field c.extension k (quotient_shift c) (log_parts c t) (constraints c t) folding in
-      let row = λ (gs : List (List F)). map (λ (g : List F). val_in c.extension g x) gs in
-      let parts : table (2 ^ log_parts c t) (λ j. first_of (chunk j)) ≡ map row (table (2 ^ log_parts c t) u) =
-      table_same (2 ^ log_parts c t) (λ j. first_of (chunk j)) (λ j. row (u j)) (λ j h. ap first_of (e2 j h)) ∙ sym (map_table row (2 ^ log_parts c t) u) in
-      let local = permutation_row x t.lookups count (first_of permutation) (λ h. ap first_of (e4 h)) in
+      let row = λ (gs : List (List F)). map (λ (g : List F). eval_poly_in c.extension g x) gs in
+      let parts : tabulate (2 ^ log_parts c t) (λ j. first_list (chunk j)) ≡ map row (tabulate (2 ^ log_parts c t) u) =
+      tabulate_same (2 ^ log_parts c t) (λ j. first_list (chunk j)) (λ j. row (u j)) (λ j h. ap first_list (e2 j h)) ∙ sym (map_tabulate row (2 ^ log_parts c t) u) in
+      let local = permutation_row x t.lookups count (first_list permutation) (λ h. ap first_list (e4 h)) in
       let next = permutation_row after t.lookups count (values_of_row (second_of permutation)) (λ h. ap (λ l. values_of_row (second_of l)) (e4 h)) in
       λ i. record {
         base = record { trace_local = (m i).local; trace_next = (m i).next; preprocessed = pre i; quotient_chunks = parts i; random = None };
@@ -111,12 +111,12 @@ some_committed : {A C : Type 0} (f : List A → C) (xs : List A) → 0 < length 
 some_committed f [] h = absurd (omega (arith, h))
 some_committed f (x ∷ xs) h = refl
 
-some_items : {A : Type 0} (g : ℕ → List A) (n : ℕ) (q : ℕ → ℕ) (i : ℕ) → i < n → 0 < length (g (q i)) → 0 < length (flat_map g (table n q))
+some_items : {A : Type 0} (g : ℕ → List A) (n : ℕ) (q : ℕ → ℕ) (i : ℕ) → i < n → 0 < length (g (q i)) → 0 < length (flat_map g (tabulate n q))
 some_items g zero q i l some = absurd (omega (arith, l))
-some_items g (suc n) q zero l some = let e = length-append (g (q zero)) (flat_map g (table n (λ k. q (suc k)))) in omega (arith, e, some)
+some_items g (suc n) q zero l some = let e = length-append (g (q zero)) (flat_map g (tabulate n (λ k. q (suc k)))) in omega (arith, e, some)
 some_items g (suc n) q (suc i) l some =
     let h = some_items g n (λ k. q (suc k)) i (omega (arith, l)) some in
-    let e = length-append (g (q zero)) (flat_map g (table n (λ k. q (suc k)))) in
+    let e = length-append (g (q zero)) (flat_map g (tabulate n (λ k. q (suc k)))) in
     omega (arith, e, h)
 
 where_some_long : {A B : Type 0} (ls : List A) (y : B) → has_some ls ≡ true → 0 < length (option_to_list (where_some ls y))
@@ -144,7 +144,7 @@ module _ {S F E C : Type 0} (b : Batch S F E C) (L : FieldsLaws b.setting.field 
   n = table_count b
 
   abbrev places : List ℕ
-  places = table n (λ i. i)
+  places = tabulate n (λ i. i)
 
   abbrev ch : ℕ → List E
   ch i = challenges_at b.setting b.prover b.statement b.traces b.degree_bits w i
@@ -162,7 +162,7 @@ module _ {S F E C : Type 0} (b : Batch S F E C) (L : FieldsLaws b.setting.field 
   lookups = b.statement.common.lookups
 
   abbrev counts : List ℕ
-  counts = table n (λ i. 2 ^ log_parts_at b i)
+  counts = tabulate n (λ i. 2 ^ log_parts_at b i)
 
   abbrev opened_values : OpenedMatrix F E → List (List E)
   opened_values = vals b.setting.extension.ring b.setting.extension.embed
@@ -188,21 +188,21 @@ module _ {S F E C : Type 0} (b : Batch S F E C) (L : FieldsLaws b.setting.field 
     main = map opened_values (mains b.setting b.prover b.statement b.traces b.degree_bits w z);
     quotient = map opened_values (chunks b.setting b.prover b.statement b.traces b.degree_bits w z);
     preprocessed = cond (is_there pre) (map opened_values (preprocesseds b.setting b.prover b.statement b.traces b.degree_bits w z)) [];
-    permutation = cond (is_there (permutation_part b.setting b.prover b.statement b.traces b.degree_bits w)) (map opened_values (permutations b.setting b.prover b.statement b.traces b.degree_bits w z)) [];
+    permutation = cond (is_there (honest_permutation_commitment b.setting b.prover b.statement b.traces b.degree_bits w)) (map opened_values (permutations b.setting b.prover b.statement b.traces b.degree_bits w z)) [];
   }
 
   rounds_are : round_values (is_there pre) all_values ≡ each_round
   rounds_are =
-      four_rounds b.setting.extension.ring b.setting.extension.embed (main_part b.setting b.prover b.statement b.traces b.degree_bits) (quotient_part b.setting b.prover b.statement b.traces b.degree_bits w) pre
-      (permutation_part b.setting b.prover b.statement b.traces b.degree_bits w) (mains b.setting b.prover b.statement b.traces b.degree_bits w z) (chunks b.setting b.prover b.statement b.traces b.degree_bits w z)
+      four_rounds b.setting.extension.ring b.setting.extension.embed (honest_main_commitment b.setting b.prover b.statement b.traces b.degree_bits) (honest_quotient_commitment b.setting b.prover b.statement b.traces b.degree_bits w) pre
+      (honest_permutation_commitment b.setting b.prover b.statement b.traces b.degree_bits w) (mains b.setting b.prover b.statement b.traces b.degree_bits w z) (chunks b.setting b.prover b.statement b.traces b.degree_bits w z)
       (preprocesseds b.setting b.prover b.statement b.traces b.degree_bits w z) (permutations b.setting b.prover b.statement b.traces b.degree_bits w z)
 
   count_is : (i : ℕ) → i < n → get_or counts i 0 ≡ 2 ^ log_parts_at b i
-  count_is i h = get_or-table n (λ i. 2 ^ log_parts_at b i) i 0 h
+  count_is i h = get_or-tabulate n (λ i. 2 ^ log_parts_at b i) i 0 h
 
   module _ (i : ℕ) (h : i < n) where
     main_there : get_or each_round.main i [] ≡ opened_values (main_at i)
-    main_there = ap (λ l. get_or l i []) (map_table opened_values n main_at) ∙ get_or-table n (λ k. opened_values (main_at k)) i [] h
+    main_there = ap (λ l. get_or l i []) (map_tabulate opened_values n main_at) ∙ get_or-tabulate n (λ k. opened_values (main_at k)) i [] h
 
     chunk_there : (j : ℕ) → j < 2 ^ log_parts_at b i → get_or each_round.quotient (count_below (λ k. get_or counts k 0) i + j) [] ≡ opened_values (chunk_opened b.setting b.prover (table_at b i) (ch i) a x j)
     chunk_there j l =
@@ -210,9 +210,9 @@ module _ {S F E C : Type 0} (b : Batch S F E C) (L : FieldsLaws b.setting.field 
         let own = count_is i h in
         ap (λ l. get_or l (count_below (λ k. get_or counts k 0) i + j) []) (map_flat opened_values chunks_of places)
         ∙ (item_at g (λ k. get_or counts k 0) n i j []
-        (λ k d. length-map (chunks_of k) opened_values ∙ (length-table (2 ^ log_parts_at b k) (chunk_opened b.setting b.prover (table_at b k) (ch k) a x) ∙ sym (count_is k d))) h (omega (arith, l, own))
-        ∙ (ap (λ l. get_or l j []) (map_table opened_values (2 ^ log_parts_at b i) (chunk_opened b.setting b.prover (table_at b i) (ch i) a x))
-        ∙ get_or-table (2 ^ log_parts_at b i) (λ j. opened_values (chunk_opened b.setting b.prover (table_at b i) (ch i) a x j)) j [] l))
+        (λ k d. length-map (chunks_of k) opened_values ∙ (length-tabulate (2 ^ log_parts_at b k) (chunk_opened b.setting b.prover (table_at b k) (ch k) a x) ∙ sym (count_is k d))) h (omega (arith, l, own))
+        ∙ (ap (λ l. get_or l j []) (map_tabulate opened_values (2 ^ log_parts_at b i) (chunk_opened b.setting b.prover (table_at b i) (ch i) a x))
+        ∙ get_or-tabulate (2 ^ log_parts_at b i) (λ j. opened_values (chunk_opened b.setting b.prover (table_at b i) (ch i) a x j)) j [] l))
 
     preprocessed_there : is_there (entry_of pre i) ≡ true → get_or each_round.preprocessed (count_below (λ k. one_where (is_there (entry_of pre k))) i) [] ≡ opened_values (preprocessed_at i)
     preprocessed_there there =
@@ -222,7 +222,7 @@ module _ {S F E C : Type 0} (b : Batch S F E C) (L : FieldsLaws b.setting.field 
         let g = λ (k : ℕ). one_of (entry_of pre k) (v k) in
         let count = all_counted b.setting b.prover.commitment_of b.statement b.traces b.degree_bits b.prover.inverse L B in
         ap (λ c. get_or (cond c (map opened_values (preprocesseds b.setting b.prover b.statement b.traces b.degree_bits w z)) []) place []) (entry_there pre i there)
-        ∙ (ap (λ l. get_or l place []) (map_table opened_values (length ms) (λ m. preprocessed_at (get_or ms m 0)) ∙ by_entries pre n v B.lists.entries_long (subst (λ m. ListsEntries m pre) count B.formed.listed))
+        ∙ (ap (λ l. get_or l place []) (map_tabulate opened_values (length ms) (λ m. preprocessed_at (get_or ms m 0)) ∙ by_entries pre n v B.lists.entries_long (subst (λ m. ListsEntries m pre) count B.formed.listed))
         ∙ (first_item_at g (λ k. one_where (is_there (entry_of pre k))) n i [] (λ k d. one_long (entry_of pre k) (v k)) h (one_more (is_there (entry_of pre i)) there)
         ∙ one_there (entry_of pre i) (v i) [] there))
 
@@ -232,7 +232,7 @@ module _ {S F E C : Type 0} (b : Batch S F E C) (L : FieldsLaws b.setting.field 
         let place = count_below (λ k. one_where (has_some (get_or lookups k []))) i in
         let g = λ (k : ℕ). map opened_values (permutation_at k) in
         let matrices = λ (k : ℕ). permutation_matrices b.setting b.prover (table_at b k) (ch k) in
-        let some : is_there (permutation_part b.setting b.prover b.statement b.traces b.degree_bits w) ≡ true =
+        let some : is_there (honest_permutation_commitment b.setting b.prover b.statement b.traces b.degree_bits w) ≡ true =
         some_committed b.prover.commitment_of (flat_map matrices places) (some_items matrices n (λ k. k) i h (where_some_long (get_or lookups i []) _ there)) in
         ap (λ c. get_or (cond c (map opened_values (permutations b.setting b.prover b.statement b.traces b.degree_bits w z)) []) place []) some
         ∙ (ap (λ l. get_or l place []) (map_flat opened_values permutation_at places)
@@ -241,8 +241,8 @@ module _ {S F E C : Type 0} (b : Batch S F E C) (L : FieldsLaws b.setting.field 
 
     pub table_opened : taken_at pre lookups counts (round_values (is_there pre) all_values) i ≡ opened_of b.setting b.prover (table_at b i) (ch i) a x
     table_opened =
-        let declarations = map (λ (t : Table F). t.declaration) b.statement.tables in
-        let same : declared_at declarations i ≡ declared (table_at b i) = get_or-map (λ (t : Table F). t.declaration) b.statement.tables i no_table (no_table {F = F}).declaration h in
+        let declarations = map (λ (t : AirTable F). t.declaration) b.statement.tables in
+        let same : declared_at declarations i ≡ declared (table_at b i) = get_or-map (λ (t : AirTable F). t.declaration) b.statement.tables i no_table (no_table {F = F}).declaration h in
         let count = all_counted b.setting b.prover.commitment_of b.statement b.traces b.degree_bits b.prover.inverse L B in
         let entry = subst (λ (d : Declaration F). HasEntryOf (width_of d.preprocessed) (entry_of pre i)) same (B.formed.entries i (omega (arith, h, count)) (no_table {F = F}).declaration) in
         let main = get_or each_round.main i [] in
@@ -254,5 +254,5 @@ module _ {S F E C : Type 0} (b : Batch S F E C) (L : FieldsLaws b.setting.field 
         ∙ table_taken b.setting b.prover (table_at b i) (ch i) a x L (B.domains i h) (B.traced i h) (entry_of pre i) (columns i h) entry main chunk preprocessed permutation main_there chunk_there preprocessed_there permutation_there)
 
   -- so it is of all tables
-  pub tables_opened : table n (taken_at pre lookups counts (round_values (is_there pre) all_values)) ≡ table n (λ i. opened_of b.setting b.prover (table_at b i) (ch i) a x)
-  tables_opened = table_same n (taken_at pre lookups counts (round_values (is_there pre) all_values)) (λ i. opened_of b.setting b.prover (table_at b i) (ch i) a x) table_opened
+  pub tables_opened : tabulate n (taken_at pre lookups counts (round_values (is_there pre) all_values)) ≡ tabulate n (λ i. opened_of b.setting b.prover (table_at b i) (ch i) a x)
+  tables_opened = tabulate_same n (taken_at pre lookups counts (round_values (is_there pre) all_values)) (λ i. opened_of b.setting b.prover (table_at b i) (ch i) a x) table_opened

@@ -5,14 +5,14 @@ use Rattle.std.proofs.lemmas.List.Elements.{All-cons, All-map}
 use Rattle.p3_field.specs.Domain.{CosetData, point}
 use Rattle.p3_field.specs.Checks.{FirstFails, NoneFails}
 use Rattle.p3_field.specs.Laws.Checks.{holds_alone, none_alone}
-use Rattle.p3_field.specs.Poly.{table}
+use Rattle.p3_field.specs.Poly.{tabulate}
 use Rattle.p3_matrix.specs.Matrix.{Rows}
 use Rattle.p3_air.specs.Shape.{HasColumns}
 use Rattle.p3_commit.specs.Claims.{CommitmentClaim, Request}
-use Rattle.p3_commit.specs.Commitments.{AreHeld, AvoidAll, Held, IsCommitment, IsOpening}
+use Rattle.p3_commit.specs.Commitments.{AreOpenedCommitments, AvoidAll, OpenedCommitment, IsCommitment, IsOpening}
 use Rattle.p3_commit.specs.Failure.{NoneOf}
 use Rattle.batch_proving.specs.Backend.{ProverBackend}
-use Rattle.batch_proving.specs.Batch.{Batch, IsKeptWith, IsTracedAll, log_parts_at, preprocessed_all, table_at, table_count}
+use Rattle.batch_proving.specs.Batch.{Batch, HasProverData, IsTracedAll, log_parts_at, preprocessed_all, table_at, table_count}
 use Rattle.batch_proving.specs.Proving.{AreAsked, AvoidsExcluded, IsGroundOf, IsPcsRefusal}
 use Rattle.batch_proving.specs.Verdict.{IsProverRefusal}
 use Rattle.batch_proving.specs.Laws.Verdicts.{refusal_along}
@@ -27,8 +27,8 @@ use Rattle.honest_proofs.specs.Laws.Ground.{one_lookup, one_ood}
 use Rattle.honest_acceptance.specs.Rounds.{AskFor, OpenedMatrix, Round, honest_rounds, values_in_rounds}
 use Rattle.honest_acceptance.specs.Laws.Opened.{opening_taken, opening_values}
 use Rattle.honest_acceptance.specs.Laws.Rounds.{ArePaired, paired_from}
-use Rattle.prover_openings.specs.Asked.{KeptRounds, asked_of}
-use Rattle.prover_openings.specs.Check.{IsReady, opening_checks}
+use Rattle.prover_openings.specs.Asked.{RoundsProverData, asked_of}
+use Rattle.prover_openings.specs.Check.{IsReady, opening_request_checks}
 use Rattle.prover_openings.specs.Taken.{round_values, taken_at}
 use Rattle.prover_openings.proofs.Asking.{ask, held_all, made_all}
 use Rattle.prover_openings.proofs.Given.{kept_there}
@@ -46,9 +46,9 @@ avoided {F} {E} excludes (r ∷ rs) (q ∷ qs) h a =
     (subst (All P) (sym h.0) (All-map P (λ (o : OpenedMatrix F E). o.points) r.matrices (λ k d l. a 0 r (omega arith) k d l)))
     (avoided excludes rs qs h.1 (λ k d l. a (suc k) d (omega (arith, l))))
 
-module _ {S F E C D P R : Type 0} (k : ProverBackend S F E C D P R) (b : Batch S F E C) (points : CosetData F → ℕ) (point_at : CosetData F → ℕ → F) (commits : List (CosetData F × Rows F) → C → Type 0) (kept : KeptRounds D) (x0 : E) (s0 : S)
+module _ {S F E C D P R : Type 0} (k : ProverBackend S F E C D P R) (b : Batch S F E C) (points : CosetData F → ℕ) (point_at : CosetData F → ℕ → F) (commits : List (CosetData F × Rows F) → C → Type 0) (kept : RoundsProverData D) (x0 : E) (s0 : S)
     (Y : IsReady k b kept (IsCommitment b.setting.field.ring points point_at commits k.made k.holds) x0 s0)
-    (pre : IsKeptWith (IsCommitment b.setting.field.ring points point_at commits k.made k.holds) (preprocessed_all b) b.statement.common.preprocessed kept.preprocessed)
+    (pre : HasProverData (IsCommitment b.setting.field.ring points point_at commits k.made k.holds) (preprocessed_all b) b.statement.common.preprocessed kept.preprocessed)
     (sizes : (d : CosetData F) → points d ≡ 2 ^ d.log_size) (places : (d : CosetData F) (i : ℕ) → point_at d i ≡ point b.setting.field.ring b.setting.field.root d i)
     (L : FieldsLaws b.setting.field b.setting.extension b.setting.two_adicity b.prover.inverse) (K : AreCanonical b.setting.field.ring b.setting.order b.prover.canonical)
     (B : IsTracedAll b) (plain : b.setting.zk ≡ false) (columns : (i : ℕ) → i < table_count b → HasColumns (declared (table_at b i)).preprocessed) where
@@ -89,7 +89,7 @@ module _ {S F E C D P R : Type 0} (k : ProverBackend S F E C D P R) (b : Batch S
   opening_holds : (requests : List (Request D E)) → requests ≡ own_requests → NoneOf (k.open_fault requests) → (w : Option F) (z : F) → IsGroundOf b w z → AreAsked k b w z (asked_of b kept w z) × NoneOf (k.open_fault (asked_of b kept w z))
   opening_holds requests e none w z G = (is_asked w z G, of_own (λ w z. NoneOf (k.open_fault (asked_of b kept w z))) (subst (λ q. NoneOf (k.open_fault q)) e none) w z G)
 
-  opening_refused : (requests : List (Request D E)) (e : ProvingError R) → requests ≡ own_requests → FirstFails (record { refusal = IsPcsRefusal Opening (k.open_fault requests); holds = NoneOf (k.open_fault requests) } ∷ []) e → FirstFails (opening_checks k b kept) e
+  opening_refused : (requests : List (Request D E)) (e : ProvingError R) → requests ≡ own_requests → FirstFails (record { refusal = IsPcsRefusal Opening (k.open_fault requests); holds = NoneOf (k.open_fault requests) } ∷ []) e → FirstFails (opening_request_checks k b kept) e
   unfolding FirstFails
   opening_refused requests e same h = elim h [
     | inl t ↦ absurd t.1
@@ -98,10 +98,10 @@ module _ {S F E C D P R : Type 0} (k : ProverBackend S F E C D P R) (b : Batch S
         inr (λ all. (all Y.lookup_witness Y.ood_witness Y.is_ground).1 t.1.0 fault, (Y.lookup_witness, Y.ood_witness, Y.is_ground, own_asked, (t.1.0, t.1.1, fault)))
   ]
 
-  pub refusal_of_batch : (requests : List (Request D E)) (e : ProvingError R) → requests ≡ own_requests → IsProverRefusal (record { refusal = IsPcsRefusal Opening (k.open_fault requests); holds = NoneOf (k.open_fault requests) } ∷ []) e → IsProverRefusal (opening_checks k b kept) e
-  refusal_of_batch requests e same h = refusal_along _ (opening_checks k b kept) e (λ d. opening_refused requests d same) h
+  pub refusal_of_batch : (requests : List (Request D E)) (e : ProvingError R) → requests ≡ own_requests → IsProverRefusal (record { refusal = IsPcsRefusal Opening (k.open_fault requests); holds = NoneOf (k.open_fault requests) } ∷ []) e → IsProverRefusal (opening_request_checks k b kept) e
+  refusal_of_batch requests e same h = refusal_along _ (opening_request_checks k b kept) e (λ d. opening_refused requests d same) h
 
-  pub granted_of_batch : (requests : List (Request D E)) → requests ≡ own_requests → NoneFails (record { refusal = IsPcsRefusal {R = R} Opening (k.open_fault requests); holds = NoneOf (k.open_fault requests) } ∷ []) → NoneFails (opening_checks k b kept)
+  pub granted_of_batch : (requests : List (Request D E)) → requests ≡ own_requests → NoneFails (record { refusal = IsPcsRefusal {R = R} Opening (k.open_fault requests); holds = NoneOf (k.open_fault requests) } ∷ []) → NoneFails (opening_request_checks k b kept)
   granted_of_batch requests same h = none_alone _ (opening_holds requests same (holds_alone _ h))
 
   -- what the backend gives for these requests
@@ -114,9 +114,9 @@ module _ {S F E C D P R : Type 0} (k : ProverBackend S F E C D P R) (b : Batch S
         (own_asked, subst (λ q. k.proves (opening_state b.setting b.prover b.statement b.traces b.degree_bits Y.lookup_witness Y.ood_witness) q proof) same state)
 
     module _ (size_of : CosetData F → ℕ) (sizes_are : (d : CosetData F) → size_of d ≡ 2 ^ d.log_size) (values : List (List (List (List E)))) (opens : S → List (CommitmentClaim E C (CosetData F)) → P → Type 0)
-        (opening : (held : List (Held C F)) → AreHeld k.holds requests held → IsOpening b.setting.extension.ring b.setting.extension.embed size_of k.excludes (λ claims. opens s0 claims proof) requests values held) where
-      on_own : (held : List (Held C F)) → AreHeld k.holds own_requests held → IsOpening b.setting.extension.ring b.setting.extension.embed size_of k.excludes (λ claims. opens s0 claims proof) own_requests values held
-      on_own = subst (λ q. (held : List (Held C F)) → AreHeld k.holds q held → IsOpening b.setting.extension.ring b.setting.extension.embed size_of k.excludes (λ claims. opens s0 claims proof) q values held) same opening
+        (opening : (held : List (OpenedCommitment C F)) → AreOpenedCommitments k.holds requests held → IsOpening b.setting.extension.ring b.setting.extension.embed size_of k.excludes (λ claims. opens s0 claims proof) requests values held) where
+      on_own : (held : List (OpenedCommitment C F)) → AreOpenedCommitments k.holds own_requests held → IsOpening b.setting.extension.ring b.setting.extension.embed size_of k.excludes (λ claims. opens s0 claims proof) own_requests values held
+      on_own = subst (λ q. (held : List (OpenedCommitment C F)) → AreOpenedCommitments k.holds q held → IsOpening b.setting.extension.ring b.setting.extension.embed size_of k.excludes (λ claims. opens s0 claims proof) q values held) same opening
 
       pub values_of_batch : values ≡ values_in_rounds b.setting.extension.ring b.setting.extension.embed (rounds Y.lookup_witness Y.ood_witness)
       values_of_batch =
@@ -136,11 +136,11 @@ module _ {S F E C D P R : Type 0} (k : ProverBackend S F E C D P R) (b : Batch S
 
       -- the tables that are taken out of the values are those that are opened
       pub opened_of_batch : (has : Bool) → has ≡ is_there kept.preprocessed → (tables : List (OpenedWithLookups E))
-          → tables ≡ table (table_count b) (taken_at b.statement.common.preprocessed b.statement.common.lookups (table (table_count b) (λ i. 2 ^ log_parts_at b i)) (round_values has values))
+          → tables ≡ tabulate (table_count b) (taken_at b.statement.common.preprocessed b.statement.common.lookups (tabulate (table_count b) (λ i. 2 ^ log_parts_at b i)) (round_values has values))
           → (w : Option F) (z : F) → IsGroundOf b w z
-          → tables ≡ table (table_count b) (λ i. opened_of b.setting b.prover (table_at b i) (challenges_at b.setting b.prover b.statement b.traces b.degree_bits w i) (alpha b.setting b.prover b.statement b.traces b.degree_bits w) (zeta b.setting b.prover b.statement b.traces b.degree_bits w z))
+          → tables ≡ tabulate (table_count b) (λ i. opened_of b.setting b.prover (table_at b i) (challenges_at b.setting b.prover b.statement b.traces b.degree_bits w i) (alpha b.setting b.prover b.statement b.traces b.degree_bits w) (zeta b.setting b.prover b.statement b.traces b.degree_bits w z))
       opened_of_batch has there tables e =
-          of_own (λ w z. tables ≡ table (table_count b) (λ i. opened_of b.setting b.prover (table_at b i) (challenges_at b.setting b.prover b.statement b.traces b.degree_bits w i) (alpha b.setting b.prover b.statement b.traces b.degree_bits w) (zeta b.setting b.prover b.statement b.traces b.degree_bits w z)))
+          of_own (λ w z. tables ≡ tabulate (table_count b) (λ i. opened_of b.setting b.prover (table_at b i) (challenges_at b.setting b.prover b.statement b.traces b.degree_bits w i) (alpha b.setting b.prover b.statement b.traces b.degree_bits w) (zeta b.setting b.prover b.statement b.traces b.degree_bits w z)))
           (e
-          ∙ ((λ i. table (table_count b) (taken_at b.statement.common.preprocessed b.statement.common.lookups (table (table_count b) (λ i. 2 ^ log_parts_at b i)) (round_values ((there ∙ kept_there (IsCommitment b.setting.field.ring points point_at commits k.made k.holds) (preprocessed_all b) b.statement.common.preprocessed kept.preprocessed pre) i) (values_of_batch i))))
+          ∙ ((λ i. tabulate (table_count b) (taken_at b.statement.common.preprocessed b.statement.common.lookups (tabulate (table_count b) (λ i. 2 ^ log_parts_at b i)) (round_values ((there ∙ kept_there (IsCommitment b.setting.field.ring points point_at commits k.made k.holds) (preprocessed_all b) b.statement.common.preprocessed kept.preprocessed pre) i) (values_of_batch i))))
           ∙ tables_opened b L B columns Y.lookup_witness Y.ood_witness))

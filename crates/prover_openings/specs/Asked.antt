@@ -2,7 +2,7 @@
 use Rattle.std.specs.Prelude.{slice_index_or as get_or}
 use Rattle.std.specs.Prelude.{ℕ, ◌^◌, List, [], ◌∷◌, ◌++◌, length, map, Option, None, Some, option_to_list}
 use Rattle.std.specs.List.{flat_map}
-use Rattle.p3_field.specs.Poly.{table}
+use Rattle.p3_field.specs.Poly.{tabulate}
 use Rattle.p3_air.specs.Shape.{Declaration}
 use Rattle.p3_commit.specs.Claims.{Request}
 use Rattle.batch_claims.specs.Claims.{bits_at, declared_at, matrix_tables}
@@ -14,9 +14,9 @@ use Rattle.batch_statement.specs.Statement.{Common, WrittenCommon, read_common}
 use Rattle.honest_acceptance.specs.Rounds.{points_with}
 use Rattle.honest_proofs.specs.HonestProof.{where_some, zeta}
 
--- what a backend keeps of the commitments of each round: of the traces, of the quotients' chunks, and, where there are such, of the preprocessed traces and of
--- the permutation columns
-pub record KeptRounds (D : Type 0) : Type 0 where
+-- the prover data of the commitments of each round: of the traces, of the quotients' chunks, and, where there are such, of the preprocessed traces and
+-- of the permutation columns
+pub record RoundsProverData (D : Type 0) : Type 0 where
   pub main : D
   pub quotient : D
   pub preprocessed : Option D
@@ -43,46 +43,47 @@ request_where None points = []
 request_where (Some d) points = record { prover_data = d; points = points } ∷ []
 
 module _ {F E C : Type 0} (q : Plan F C) (point : E) (after : ℕ → E) where
-  abbrev pub tables : List ℕ
-  tables = table (length q.declarations) (λ i. i)
+  abbrev pub table_numbers : List ℕ
+  table_numbers = tabulate (length q.declarations) (λ i. i)
 
   -- the point of table i's next row
-  abbrev pub next_point : ℕ → E
-  next_point i = after (bits_at q.degree_bits i)
+  abbrev pub next_point_of : ℕ → E
+  next_point_of i = after (bits_at q.degree_bits i)
 
   -- the main matrices: each at the point, and at that of the next row where next columns are declared
   abbrev pub main_points_at : ℕ → List E
-  main_points_at i = points_with (declared_at q.declarations i).main_next point (next_point i)
+  main_points_at i = points_with (declared_at q.declarations i).main_next point (next_point_of i)
 
   abbrev pub main_points : List (List E)
-  main_points = table (length q.declarations) main_points_at
+  main_points = tabulate (length q.declarations) main_points_at
 
   -- the chunks of the quotients, at the point
   abbrev pub chunk_points_at : ℕ → List (List E)
-  chunk_points_at i = table (get_or q.chunk_counts i 0) (λ j. point ∷ [])
+  chunk_points_at i = tabulate (get_or q.chunk_counts i 0) (λ j. point ∷ [])
 
   abbrev pub chunk_points : List (List E)
-  chunk_points = flat_map chunk_points_at tables
+  chunk_points = flat_map chunk_points_at table_numbers
 
   -- the preprocessed matrices, as the main ones
   abbrev pub preprocessed_points_at : ℕ → List E
   preprocessed_points_at m =
       let i = get_or (matrix_tables q.common.preprocessed) m 0 in
-      points_with (declared_at q.declarations i).preprocessed_next point (next_point i)
+      points_with (declared_at q.declarations i).preprocessed_next point (next_point_of i)
 
   abbrev pub preprocessed_points : List (List E)
-  preprocessed_points = table (length (matrix_tables q.common.preprocessed)) preprocessed_points_at
+  preprocessed_points = tabulate (length (matrix_tables q.common.preprocessed)) preprocessed_points_at
 
   -- and the permutation matrices of the tables with lookups, at both points
   abbrev pub permutation_points_at : ℕ → List (List E)
-  permutation_points_at i = option_to_list (where_some (get_or q.common.lookups i []) (point ∷ next_point i ∷ []))
+  permutation_points_at i = option_to_list (where_some (get_or q.common.lookups i []) (point ∷ next_point_of i ∷ []))
 
   abbrev pub permutation_points : List (List E)
-  permutation_points = flat_map permutation_points_at tables
+  permutation_points = flat_map permutation_points_at table_numbers
 
   -- all requests, round by round
-  abbrev pub asked : {D : Type 0} → KeptRounds D → List (Request D E)
-  asked kept = request_where (Some kept.main) main_points ++ request_where (Some kept.quotient) chunk_points ++ request_where kept.preprocessed preprocessed_points ++ request_where kept.permutation permutation_points
+  abbrev pub asked : {D : Type 0} → RoundsProverData D → List (Request D E)
+  asked rounds_data = request_where (Some rounds_data.main) main_points ++ request_where
+      (Some rounds_data.quotient) chunk_points ++ request_where rounds_data.preprocessed preprocessed_points ++ request_where rounds_data.permutation permutation_points
 
 -- what is asked of a batch, for these grinding values
 module _ {S F E C : Type 0} (b : Batch S F E C) where
@@ -91,11 +92,11 @@ module _ {S F E C : Type 0} (b : Batch S F E C) where
     declarations = map (λ t. t.declaration) b.statement.tables;
     common = b.statement.common;
     degree_bits = b.degree_bits;
-    chunk_counts = table (table_count b) (λ i. 2 ^ log_parts_at b i);
+    chunk_counts = tabulate (table_count b) (λ i. 2 ^ log_parts_at b i);
   }
 
-  abbrev pub asked_of : {D : Type 0} → KeptRounds D → Option F → F → List (Request D E)
-  asked_of kept w z =
+  abbrev pub asked_of : {D : Type 0} → RoundsProverData D → Option F → F → List (Request D E)
+  asked_of rounds_data w z =
       let c = b.setting in
       let x = zeta c b.prover b.statement b.traces b.degree_bits w z in
-      asked plan_in x (next_by c.extension.ring c.extension.embed c.field.root (masks c) x) kept
+      asked plan_in x (next_by c.extension.ring c.extension.embed c.field.root (masks c) x) rounds_data

@@ -10,8 +10,8 @@ use Rattle.batch_proving.specs.Proving.{AreAsked, IsGroundOf, IsPcsRefusal}
 use Rattle.batch_proving.specs.Verdict.{IsProverVerdict}
 use Rattle.batch_proving.specs.declared.error.ProvingError.{ProvingError}
 use Rattle.batch_setup.specs.declared.error.ProverPhase.TheVariants.{Opening}
-use Rattle.honest_proofs.specs.HonestProof.{main_part, opening_state, permutation_part, quotient_part, zeta}
-use Rattle.prover_openings.specs.Asked.{KeptRounds, asked_of}
+use Rattle.honest_proofs.specs.HonestProof.{honest_main_commitment, opening_state, honest_permutation_commitment, honest_quotient_commitment, zeta}
+use Rattle.prover_openings.specs.Asked.{RoundsProverData, asked_of}
 
 -- both are there, and in the relation, or neither is
 abbrev pub AreBoth : {X Y : Type 0} → (X → Y → Type 0) → Option X → Option Y → Type 0
@@ -24,11 +24,11 @@ AreBoth R (Some x) (Some y) = R x y
 abbrev pub IsOpenedBy : {T R : Type 0} → (R → Type 0) → Result T (ProvingError R) → Type 0
 IsOpenedBy faults result = IsProverVerdict (record { refusal = IsPcsRefusal Opening faults; holds = NoneOf faults } ∷ []) result
 
-module _ {S F E C D P R : Type 0} (k : ProverBackend S F E C D P R) (b : Batch S F E C) (kept : KeptRounds D) where
+module _ {S F E C D P R : Type 0} (k : ProverBackend S F E C D P R) (b : Batch S F E C) (kept : RoundsProverData D) where
   -- The check that what is asked, of these prover data, is opened. It is what an honest prover asks, and the backend has no cause to refuse it, or the refusal
   -- names the cause.
-  abbrev pub opening_checks : List (Check (ProvingError R))
-  opening_checks = record {
+  abbrev pub opening_request_checks : List (Check (ProvingError R))
+  opening_request_checks = record {
     refusal = λ e. (w : Option F) × (z : F) × IsGroundOf b w z × AreAsked k b w z (asked_of b kept w z) × IsPcsRefusal Opening (k.open_fault (asked_of b kept w z)) e;
     holds = (w : Option F) (z : F) → IsGroundOf b w z → AreAsked k b w z (asked_of b kept w z) × NoneOf (k.open_fault (asked_of b kept w z));
   } ∷ []
@@ -41,6 +41,7 @@ module _ {S F E C D P R : Type 0} (k : ProverBackend S F E C D P R) (b : Batch S
     pub is_ground : IsGroundOf b lookup_witness ood_witness
     pub point_is : point ≡ zeta b.setting b.prover b.statement b.traces b.degree_bits lookup_witness ood_witness
     pub state_is : state ≡ opening_state b.setting b.prover b.statement b.traces b.degree_bits lookup_witness ood_witness
-    pub main : commits (main_matrices b) (main_part b.setting b.prover b.statement b.traces b.degree_bits, kept.main)
-    pub quotient : commits (all_chunks b lookup_witness) (quotient_part b.setting b.prover b.statement b.traces b.degree_bits lookup_witness, kept.quotient)
-    pub permutation : AreBoth (λ c d. commits (all_permutations b lookup_witness) (c, d)) (permutation_part b.setting b.prover b.statement b.traces b.degree_bits lookup_witness) kept.permutation
+    pub main : commits (main_matrices b) (honest_main_commitment b.setting b.prover b.statement b.traces b.degree_bits, kept.main)
+    pub quotient : commits (all_chunks b lookup_witness) (honest_quotient_commitment b.setting b.prover b.statement b.traces b.degree_bits lookup_witness, kept.quotient)
+    pub permutation : AreBoth (λ c d. commits (all_permutations b lookup_witness) (c, d))
+        (honest_permutation_commitment b.setting b.prover b.statement b.traces b.degree_bits lookup_witness) kept.permutation

@@ -6,10 +6,10 @@ use Rattle.p3_matrix.specs.Matrix.{Rows, height}
 use Rattle.p3_lookup.specs.Lookup.{LookupData}
 use Rattle.batch_constraints.specs.BatchTrees.{AreLookupsOf}
 use Rattle.batch_shape_checks.specs.ShapeChecks.{chunks_of_table, no_table}
-use Rattle.batch_statement.specs.Statement.{Table}
+use Rattle.batch_statement.specs.Statement.{AirTable}
 use Rattle.batch_validity.specs.Traced.{no_rows}
 
-module _ {F : Type 0} (r : Ring F) (tables : List (Table F)) (traces : List (Rows F)) (lookups : List (List (LookupData F))) where
+module _ {F : Type 0} (r : Ring F) (tables : List (AirTable F)) (traces : List (Rows F)) (lookups : List (List (LookupData F))) where
   -- the logarithm of the number of chunks of table i's quotient
   abbrev pub log_count_at : ℕ → ℕ
   log_count_at i = chunks_of_table r 0 (height (get_or traces i no_rows)) (get_or tables i no_table) (get_or lookups i [])

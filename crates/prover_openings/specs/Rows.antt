@@ -3,9 +3,9 @@ use Rattle.std.specs.Prelude.{List, [], ◌∷◌, map, Option, None, Some, Vec}
 use Rattle.p3_uni_stark.specs.Opened.{PreprocessedData}
 
 -- the first of some lists, empty where there is none
-abbrev pub first_of : {A : Type 0} → List (List A) → List A
-first_of [] = []
-first_of (x ∷ xs) = x
+abbrev pub first_list : {A : Type 0} → List (List A) → List A
+first_list [] = []
+first_list (x ∷ xs) = x
 
 -- the second item, where there is one
 abbrev pub second_of : {A : Type 0} → List A → Option A
@@ -20,7 +20,7 @@ values_of_row (Some xs) = xs
 
 -- the rows of a matrix that is opened at zeta, or at zeta and the next point
 abbrev pub rows_in : {E : Type 0} → List (List E) → PreprocessedData E
-rows_in matrix = record { local = first_of matrix; next = second_of matrix }
+rows_in matrix = record { local = first_list matrix; next = second_of matrix }
 
 -- the rows of each matrix as lists
 abbrev pub matrices_in : {E A : Type 0} → List (Vec (Vec E A) A) → List (List (List E))

@@ -1,12 +1,12 @@
 //! The openings of a batch, as its prover makes them.
 ghost use Rattle.std.specs.Prelude.{◌≡◌, ℕ, false, List, Option, IfOk, map, option_map};
-ghost use Rattle.p3_field.specs.Poly.{table};
-ghost use Rattle.batch_proving.specs.Batch.{IsKeptWith, IsTracedAll, batch_of, preprocessed_all, table_at, table_count};
+ghost use Rattle.p3_field.specs.Poly.{tabulate};
+ghost use Rattle.batch_proving.specs.Batch.{HasProverData, IsTracedAll, batch_of, preprocessed_all, table_at, table_count};
 ghost use Rattle.batch_proving.specs.Proving.{AreAsked, AvoidsExcluded, IsGroundOf};
 ghost use Rattle.batch_proving.specs.Verdict.{IsProverVerdict};
 ghost use Rattle.honest_proofs.specs.HonestProof.{alpha, challenges_at, honest_claims, opened_of, opening_state, zeta as honest_zeta};
 ghost use Rattle.prover_openings.specs.Asked.{asked_of};
-ghost use Rattle.prover_openings.specs.Check.{IsReady, opening_checks};
+ghost use Rattle.prover_openings.specs.Check.{IsReady, opening_request_checks};
 
 use crate::counts::all_counts;
 use crate::openings::open_counted;
@@ -28,7 +28,7 @@ use std::alloc::Global;
 /// where next columns are declared (a permutation matrix always), and each chunk of a quotient at `zeta`. The answer is what is
 /// opened of each table, in order, and the backend's proof. After `prove_batch` of `p3-batch-stark`.
 ///
-/// The batch is traced, and the backend masks nothing. The prover data is what the backend keeps of the batch's commitments: to
+/// The batch is traced, and the backend masks nothing. The prover data is the prover data of the batch's commitments: to
 /// the preprocessed traces, to the traces, to the permutation columns, and to the quotients' chunks. `zeta` and the
 /// challenger's state are those of the batch's script.
 ///
@@ -56,24 +56,45 @@ pub fn open_batch<SC: StarkGenericConfig, A: Air<Val<SC>>>(
     requires traced { let b = batch_of (⟦<SC as Settings>⟧.setting config.now) (⟦<SC as ProverSettings>⟧.prover config.now) A.declaration A.trees instances.now common.now in
         IsTracedAll b }
     requires preprocessed { let b = batch_of (⟦<SC as Settings>⟧.setting config.now) (⟦<SC as ProverSettings>⟧.prover config.now) A.declaration A.trees instances.now common.now in
-        IsKeptWith (⟦<SC as ProverSettings>⟧.commits_to config.now) (preprocessed_all b) b.statement.common.preprocessed (option_map (λ d. d.now) preprocessed) }
+        HasProverData (⟦<SC as ProverSettings>⟧.commits_to config.now) (preprocessed_all b) b.statement.common.preprocessed (option_map (λ d. d.now) preprocessed) }
     requires ready { let b = batch_of (⟦<SC as Settings>⟧.setting config.now) (⟦<SC as ProverSettings>⟧.prover config.now) A.declaration A.trees instances.now common.now in
         let k = ⟦<SC as ProverSettings>⟧.prover_backend config.now in
-        IsReady k b (record { main = main.now; quotient = quotient.now; preprocessed = option_map (λ d. d.now) preprocessed; permutation = option_map (λ d. d.now) permutation }) (⟦<SC as ProverSettings>⟧.commits_to config.now) zeta challenger.old }
+        IsReady k b (record {
+          main = main.now;
+          quotient = quotient.now;
+          preprocessed = option_map (λ d. d.now) preprocessed;
+          permutation = option_map (λ d. d.now) permutation;
+        }) (⟦<SC as ProverSettings>⟧.commits_to config.now) zeta challenger.old }
     ensures verdict { let b = batch_of (⟦<SC as Settings>⟧.setting config.now) (⟦<SC as ProverSettings>⟧.prover config.now) A.declaration A.trees instances.now common.now in
         let k = ⟦<SC as ProverSettings>⟧.prover_backend config.now in
-        IsProverVerdict (opening_checks k b (record { main = main.now; quotient = quotient.now; preprocessed = option_map (λ d. d.now) preprocessed.entry; permutation = option_map (λ d. d.now) permutation.entry })) result }
+        IsProverVerdict (opening_request_checks k b
+        (record { main = main.now; quotient = quotient.now; preprocessed = option_map (λ d. d.now) preprocessed.entry; permutation = option_map (λ d. d.now) permutation.entry })) result }
     ensures opened { let b = batch_of (⟦<SC as Settings>⟧.setting config.now) (⟦<SC as ProverSettings>⟧.prover config.now) A.declaration A.trees instances.now common.now in
         IfOk result (λ r. (w : Option SC.Val) (z : SC.Val) → IsGroundOf b w z
-        → r.0.items ≡ table (table_count b) (λ i. opened_of b.setting b.prover (table_at b i) (challenges_at b.setting b.prover b.statement b.traces b.degree_bits w i) (alpha b.setting b.prover b.statement b.traces b.degree_bits w) (honest_zeta b.setting b.prover b.statement b.traces b.degree_bits w z))) }
+        → r.0.items ≡ tabulate (table_count b)
+        (λ i. opened_of b.setting b.prover (table_at b i) (challenges_at b.setting b.prover b.statement b.traces b.degree_bits w i)
+        (alpha b.setting b.prover b.statement b.traces b.degree_bits w) (honest_zeta b.setting b.prover b.statement b.traces b.degree_bits w z))) }
     ensures proves { let b = batch_of (⟦<SC as Settings>⟧.setting config.now) (⟦<SC as ProverSettings>⟧.prover config.now) A.declaration A.trees instances.now common.now in
         let k = ⟦<SC as ProverSettings>⟧.prover_backend config.now in
         IfOk result (λ r. (w : Option SC.Val) (z : SC.Val) → IsGroundOf b w z
-        → AreAsked k b w z (asked_of b (record { main = main.now; quotient = quotient.now; preprocessed = option_map (λ d. d.now) preprocessed.entry; permutation = option_map (λ d. d.now) permutation.entry }) w z) × SC.Pcs.proves (SC.pcs_of config.now) (opening_state b.setting b.prover b.statement b.traces b.degree_bits w z) (asked_of b (record { main = main.now; quotient = quotient.now; preprocessed = option_map (λ d. d.now) preprocessed.entry; permutation = option_map (λ d. d.now) permutation.entry }) w z) r.1) }
+        → AreAsked k b w z (asked_of b (record {
+          main = main.now;
+          quotient = quotient.now;
+          preprocessed = option_map (λ d. d.now) preprocessed.entry;
+          permutation = option_map (λ d. d.now) permutation.entry;
+        }) w z)
+        × SC.Pcs.proves (SC.pcs_of config.now) (opening_state b.setting b.prover b.statement b.traces b.degree_bits w z)
+        (asked_of b (record {
+          main = main.now;
+          quotient = quotient.now;
+          preprocessed = option_map (λ d. d.now) preprocessed.entry;
+          permutation = option_map (λ d. d.now) permutation.entry;
+        }) w z) r.1) }
     ensures taken { let b = batch_of (⟦<SC as Settings>⟧.setting config.now) (⟦<SC as ProverSettings>⟧.prover config.now) A.declaration A.trees instances.now common.now in
         let k = ⟦<SC as ProverSettings>⟧.prover_backend config.now in
         IfOk result (λ r. (w : Option SC.Val) (z : SC.Val) → IsGroundOf b w z → AvoidsExcluded k b w z
-        → SC.Pcs.opens (SC.pcs_of config.now) (opening_state b.setting b.prover b.statement b.traces b.degree_bits w z) (honest_claims b.setting b.prover b.statement b.traces b.degree_bits w z r.1) r.1) }
+        → SC.Pcs.opens (SC.pcs_of config.now) (opening_state b.setting b.prover b.statement b.traces b.degree_bits w z)
+        (honest_claims b.setting b.prover b.statement b.traces b.degree_bits w z r.1) r.1) }
 {
     let bits = degree_bits(alloc, instances, config.is_zk())?;
     let counts = all_counts(alloc, instances, lookups_of(common))?;

@@ -1,6 +1,6 @@
 //! The numbers of the chunks of a batch's quotients.
 ghost use Rattle.std.specs.Prelude.{◌≡◌, ℕ, ◌^◌, ◌<◌, length, map, IfOk};
-ghost use Rattle.p3_field.specs.Poly.{table};
+ghost use Rattle.p3_field.specs.Poly.{tabulate};
 ghost use Rattle.p3_matrix.specs.Matrix.{height};
 ghost use Rattle.p3_lookup.specs.Written.{read_all};
 ghost use Rattle.batch_constraints.specs.BatchTrees.{AreLookupsOf};
@@ -65,8 +65,10 @@ pub(crate) fn all_counts<F: Field, A: Air<F>>(
     lookups: &[Lookups<F>],
 ) -> Mem<Vec<usize>>
     requires lookups { length lookups.now ≡ length instances.now }
-    requires countable { (i : ℕ) → i < length instances.now → IsCountable F.ring (tables_of A.declaration A.trees (airs_of instances.now)) (map (λ i. i.trace) instances.now) (map read_all lookups.now) i }
-    ensures { IfOk result (λ v. v.items ≡ table (length instances.now) (λ i. 2 ^ log_count_at F.ring (tables_of A.declaration A.trees (airs_of instances.now)) (map (λ i. i.trace) instances.now) (map read_all lookups.now) i)) }
+    requires countable { (i : ℕ) → i < length instances.now
+        → IsCountable F.ring (tables_of A.declaration A.trees (airs_of instances.now)) (map (λ i. i.trace) instances.now) (map read_all lookups.now) i }
+    ensures { IfOk result (λ v. v.items
+        ≡ tabulate (length instances.now) (λ i. 2 ^ log_count_at F.ring (tables_of A.declaration A.trees (airs_of instances.now)) (map (λ i. i.trace) instances.now) (map read_all lookups.now) i)) }
 {
     let mut counts = Vec::with_capacity(alloc, instances.len())?;
     for index in 0..instances.len() {

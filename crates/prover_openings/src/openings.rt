@@ -1,13 +1,13 @@
 //! The openings of a batch.
 ghost use Rattle.std.specs.Prelude.{◌≡◌, ℕ, ◌^◌, false, List, Option, All, IfOk, map, option_map};
-ghost use Rattle.p3_field.specs.Poly.{table};
-ghost use Rattle.p3_commit.specs.Commitments.{AreHeld, Held, IsOpening, nested};
-ghost use Rattle.batch_proving.specs.Batch.{IsKeptWith, IsTracedAll, batch_of, log_parts_at, preprocessed_all, table_at, table_count};
+ghost use Rattle.p3_field.specs.Poly.{tabulate};
+ghost use Rattle.p3_commit.specs.Commitments.{AreOpenedCommitments, OpenedCommitment, IsOpening, nested};
+ghost use Rattle.batch_proving.specs.Batch.{HasProverData, IsTracedAll, batch_of, log_parts_at, preprocessed_all, table_at, table_count};
 ghost use Rattle.batch_proving.specs.Proving.{AreAsked, AvoidsExcluded, IsGroundOf};
 ghost use Rattle.batch_proving.specs.Verdict.{IsProverVerdict};
 ghost use Rattle.honest_proofs.specs.HonestProof.{alpha, challenges_at, honest_claims, opened_of, opening_state, zeta as honest_zeta};
 ghost use Rattle.prover_openings.specs.Asked.{asked_of};
-ghost use Rattle.prover_openings.specs.Check.{IsOpenedBy, IsReady, opening_checks};
+ghost use Rattle.prover_openings.specs.Check.{IsOpenedBy, IsReady, opening_request_checks};
 
 use crate::requests::all_requests;
 use crate::tables::opened_tables;
@@ -40,8 +40,9 @@ fn opened_requests<SC: StarkGenericConfig>(
     requires made { All (λ r. SC.Pcs.made (SC.pcs_of config.now) r.prover_data) requests.items }
     ensures verdict { IsOpenedBy (SC.Pcs.open_fault (SC.pcs_of config.now) requests.entry.items) result }
     ensures proof { IfOk result (λ w. SC.Pcs.proves (SC.pcs_of config.now) challenger.old requests.entry.items w.1) }
-    ensures opening { IfOk result (λ w. (held : List (Held SC.Pcs.Commitment SC.Val)) → AreHeld (SC.Pcs.holds (SC.pcs_of config.now)) requests.entry.items held
-        → IsOpening SC.Challenge.ring SC.Challenge.embed ⟦<<SC::Pcs as Pcs<SC::Challenge, SC::Challenger>>::Domain as PolynomialSpace>⟧.points (SC.Pcs.excludes (SC.pcs_of config.now)) (λ claims. SC.Pcs.opens (SC.pcs_of config.now) challenger.old claims w.1) requests.entry.items (nested w.0) held) }
+    ensures opening { IfOk result (λ w. (held : List (OpenedCommitment SC.Pcs.Commitment SC.Val)) → AreOpenedCommitments (SC.Pcs.holds (SC.pcs_of config.now)) requests.entry.items held
+        → IsOpening SC.Challenge.ring SC.Challenge.embed ⟦<<SC::Pcs as Pcs<SC::Challenge, SC::Challenger>>::Domain as PolynomialSpace>⟧.points
+        (SC.Pcs.excludes (SC.pcs_of config.now)) (λ claims. SC.Pcs.opens (SC.pcs_of config.now) challenger.old claims w.1) requests.entry.items (nested w.0) held) }
 {
     match config
         .pcs()
@@ -88,26 +89,47 @@ pub(crate) fn open_counted<SC: StarkGenericConfig, A: Air<Val<SC>>>(
     requires bits { let b = batch_of (⟦<SC as Settings>⟧.setting config.now) (⟦<SC as ProverSettings>⟧.prover config.now) A.declaration A.trees instances.now common.now in
         degree_bits.now ≡ b.degree_bits }
     requires chunks { let b = batch_of (⟦<SC as Settings>⟧.setting config.now) (⟦<SC as ProverSettings>⟧.prover config.now) A.declaration A.trees instances.now common.now in
-        chunk_counts.now ≡ table (table_count b) (λ i. 2 ^ log_parts_at b i) }
+        chunk_counts.now ≡ tabulate (table_count b) (λ i. 2 ^ log_parts_at b i) }
     requires preprocessed { let b = batch_of (⟦<SC as Settings>⟧.setting config.now) (⟦<SC as ProverSettings>⟧.prover config.now) A.declaration A.trees instances.now common.now in
-        IsKeptWith (⟦<SC as ProverSettings>⟧.commits_to config.now) (preprocessed_all b) b.statement.common.preprocessed (option_map (λ d. d.now) preprocessed) }
+        HasProverData (⟦<SC as ProverSettings>⟧.commits_to config.now) (preprocessed_all b) b.statement.common.preprocessed (option_map (λ d. d.now) preprocessed) }
     requires ready { let b = batch_of (⟦<SC as Settings>⟧.setting config.now) (⟦<SC as ProverSettings>⟧.prover config.now) A.declaration A.trees instances.now common.now in
         let k = ⟦<SC as ProverSettings>⟧.prover_backend config.now in
-        IsReady k b (record { main = main.now; quotient = quotient.now; preprocessed = option_map (λ d. d.now) preprocessed; permutation = option_map (λ d. d.now) permutation }) (⟦<SC as ProverSettings>⟧.commits_to config.now) zeta challenger.old }
+        IsReady k b (record {
+          main = main.now;
+          quotient = quotient.now;
+          preprocessed = option_map (λ d. d.now) preprocessed;
+          permutation = option_map (λ d. d.now) permutation;
+        }) (⟦<SC as ProverSettings>⟧.commits_to config.now) zeta challenger.old }
     ensures verdict { let b = batch_of (⟦<SC as Settings>⟧.setting config.now) (⟦<SC as ProverSettings>⟧.prover config.now) A.declaration A.trees instances.now common.now in
         let k = ⟦<SC as ProverSettings>⟧.prover_backend config.now in
-        IsProverVerdict (opening_checks k b (record { main = main.now; quotient = quotient.now; preprocessed = option_map (λ d. d.now) preprocessed.entry; permutation = option_map (λ d. d.now) permutation.entry })) result }
+        IsProverVerdict (opening_request_checks k b
+        (record { main = main.now; quotient = quotient.now; preprocessed = option_map (λ d. d.now) preprocessed.entry; permutation = option_map (λ d. d.now) permutation.entry })) result }
     ensures opened { let b = batch_of (⟦<SC as Settings>⟧.setting config.now) (⟦<SC as ProverSettings>⟧.prover config.now) A.declaration A.trees instances.now common.now in
         IfOk result (λ r. (w : Option SC.Val) (z : SC.Val) → IsGroundOf b w z
-        → r.0.items ≡ table (table_count b) (λ i. opened_of b.setting b.prover (table_at b i) (challenges_at b.setting b.prover b.statement b.traces b.degree_bits w i) (alpha b.setting b.prover b.statement b.traces b.degree_bits w) (honest_zeta b.setting b.prover b.statement b.traces b.degree_bits w z))) }
+        → r.0.items ≡ tabulate (table_count b)
+        (λ i. opened_of b.setting b.prover (table_at b i) (challenges_at b.setting b.prover b.statement b.traces b.degree_bits w i)
+        (alpha b.setting b.prover b.statement b.traces b.degree_bits w) (honest_zeta b.setting b.prover b.statement b.traces b.degree_bits w z))) }
     ensures proves { let b = batch_of (⟦<SC as Settings>⟧.setting config.now) (⟦<SC as ProverSettings>⟧.prover config.now) A.declaration A.trees instances.now common.now in
         let k = ⟦<SC as ProverSettings>⟧.prover_backend config.now in
         IfOk result (λ r. (w : Option SC.Val) (z : SC.Val) → IsGroundOf b w z
-        → AreAsked k b w z (asked_of b (record { main = main.now; quotient = quotient.now; preprocessed = option_map (λ d. d.now) preprocessed.entry; permutation = option_map (λ d. d.now) permutation.entry }) w z) × SC.Pcs.proves (SC.pcs_of config.now) (opening_state b.setting b.prover b.statement b.traces b.degree_bits w z) (asked_of b (record { main = main.now; quotient = quotient.now; preprocessed = option_map (λ d. d.now) preprocessed.entry; permutation = option_map (λ d. d.now) permutation.entry }) w z) r.1) }
+        → AreAsked k b w z (asked_of b (record {
+          main = main.now;
+          quotient = quotient.now;
+          preprocessed = option_map (λ d. d.now) preprocessed.entry;
+          permutation = option_map (λ d. d.now) permutation.entry;
+        }) w z)
+        × SC.Pcs.proves (SC.pcs_of config.now) (opening_state b.setting b.prover b.statement b.traces b.degree_bits w z)
+        (asked_of b (record {
+          main = main.now;
+          quotient = quotient.now;
+          preprocessed = option_map (λ d. d.now) preprocessed.entry;
+          permutation = option_map (λ d. d.now) permutation.entry;
+        }) w z) r.1) }
     ensures taken { let b = batch_of (⟦<SC as Settings>⟧.setting config.now) (⟦<SC as ProverSettings>⟧.prover config.now) A.declaration A.trees instances.now common.now in
         let k = ⟦<SC as ProverSettings>⟧.prover_backend config.now in
         IfOk result (λ r. (w : Option SC.Val) (z : SC.Val) → IsGroundOf b w z → AvoidsExcluded k b w z
-        → SC.Pcs.opens (SC.pcs_of config.now) (opening_state b.setting b.prover b.statement b.traces b.degree_bits w z) (honest_claims b.setting b.prover b.statement b.traces b.degree_bits w z r.1) r.1) }
+        → SC.Pcs.opens (SC.pcs_of config.now) (opening_state b.setting b.prover b.statement b.traces b.degree_bits w z)
+        (honest_claims b.setting b.prover b.statement b.traces b.degree_bits w z r.1) r.1) }
 {
     let masks = config.is_zk();
     let requests = all_requests(

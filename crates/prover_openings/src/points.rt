@@ -2,7 +2,7 @@
 ghost use Rattle.std.specs.Prelude.{◌≡◌, ℕ, ◌<◌, ◌≤◌, ◌++◌, ◌∷◌, [], All, length, map, IfOk, option_to_list};
 ghost use Rattle.std.specs.Prelude.{slice_index_or as get_or};
 ghost use Rattle.std.specs.List.{flat_map};
-ghost use Rattle.p3_field.specs.Poly.{table};
+ghost use Rattle.p3_field.specs.Poly.{tabulate};
 ghost use Rattle.p3_lookup.specs.Written.{read_all};
 ghost use Rattle.batch_claims.specs.Claims.{bits_at, declared_at};
 ghost use Rattle.batch_setting.specs.Domains.{next_by};
@@ -52,7 +52,8 @@ fn main_of_table<F: TwoAdicField, A: BaseAir<F>, E: ExtensionField<F>>(
     requires bits { index < length degree_bits.now }
     requires masked { masks ≤ bits_at degree_bits.now index }
     requires fits { bits_at degree_bits.now index ≤ F.TWO_ADICITY }
-    ensures { IfOk result (λ v. v.items ≡ points_with (declared_at (map (λ i. A.declaration i.air) instances.now) index).main_next zeta (next_by E.ring E.embed F.root masks zeta (bits_at degree_bits.now index))) }
+    ensures { IfOk result (λ v. v.items
+        ≡ points_with (declared_at (map (λ i. A.declaration i.air) instances.now) index).main_next zeta (next_by E.ring E.embed F.root masks zeta (bits_at degree_bits.now index))) }
 {
     let after = point_of_next::<F, E>(degree_bits[index], masks, zeta);
     let instance = &instances[index];
@@ -73,7 +74,8 @@ fn preprocessed_of_table<F: TwoAdicField, A: BaseAir<F>, E: ExtensionField<F>>(
     requires bits { index < length degree_bits.now }
     requires masked { masks ≤ bits_at degree_bits.now index }
     requires fits { bits_at degree_bits.now index ≤ F.TWO_ADICITY }
-    ensures { IfOk result (λ v. v.items ≡ points_with (declared_at (map (λ i. A.declaration i.air) instances.now) index).preprocessed_next zeta (next_by E.ring E.embed F.root masks zeta (bits_at degree_bits.now index))) }
+    ensures { IfOk result (λ v. v.items
+        ≡ points_with (declared_at (map (λ i. A.declaration i.air) instances.now) index).preprocessed_next zeta (next_by E.ring E.embed F.root masks zeta (bits_at degree_bits.now index))) }
 {
     let after = point_of_next::<F, E>(degree_bits[index], masks, zeta);
     let instance = &instances[index];
@@ -92,7 +94,9 @@ pub(crate) fn all_main<F: TwoAdicField, A: BaseAir<F>, E: ExtensionField<F>>(
     requires bits { length degree_bits.now ≡ length instances.now }
     requires masked { (i : ℕ) → i < length instances.now → masks ≤ bits_at degree_bits.now i }
     requires fits { (i : ℕ) → i < length instances.now → bits_at degree_bits.now i ≤ F.TWO_ADICITY }
-    ensures { IfOk result (λ v. map (λ x. x.items) v.items ≡ table (length instances.now) (λ i. points_with (declared_at (map (λ i. A.declaration i.air) instances.now) i).main_next zeta (next_by E.ring E.embed F.root masks zeta (bits_at degree_bits.now i)))) }
+    ensures { IfOk result (λ v. map (λ x. x.items) v.items
+        ≡ tabulate (length instances.now)
+        (λ i. points_with (declared_at (map (λ i. A.declaration i.air) instances.now) i).main_next zeta (next_by E.ring E.embed F.root masks zeta (bits_at degree_bits.now i)))) }
 {
     let mut points = Vec::with_capacity(alloc, instances.len())?;
     for index in 0..instances.len() {
@@ -114,7 +118,9 @@ pub(crate) fn all_preprocessed<F: TwoAdicField, A: BaseAir<F>, E: ExtensionField
     requires bits { length degree_bits.now ≡ length instances.now }
     requires masked { (i : ℕ) → i < length instances.now → masks ≤ bits_at degree_bits.now i }
     requires fits { (i : ℕ) → i < length instances.now → bits_at degree_bits.now i ≤ F.TWO_ADICITY }
-    ensures { IfOk result (λ v. map (λ x. x.items) v.items ≡ table (length matrices.now) (λ m. let i = get_or matrices.now m 0 in points_with (declared_at (map (λ i. A.declaration i.air) instances.now) i).preprocessed_next zeta (next_by E.ring E.embed F.root masks zeta (bits_at degree_bits.now i)))) }
+    ensures { IfOk result (λ v. map (λ x. x.items) v.items
+        ≡ tabulate (length matrices.now) (λ m. let i = get_or matrices.now m 0 in
+        points_with (declared_at (map (λ i. A.declaration i.air) instances.now) i).preprocessed_next zeta (next_by E.ring E.embed F.root masks zeta (bits_at degree_bits.now i)))) }
 {
     let mut points = Vec::with_capacity(alloc, matrices.len())?;
     for m in 0..matrices.len() {
@@ -124,14 +130,14 @@ pub(crate) fn all_preprocessed<F: TwoAdicField, A: BaseAir<F>, E: ExtensionField
     Ok(points)
 }
 
-// The list of one point, so many times behind other lists.
+// The list of one point, so many times after other lists.
 fn with_chunks<E: RingCore>(
     alloc: Global,
     points: Vec<Vec<E>>,
     count: usize,
     zeta: E,
 ) -> Mem<Vec<Vec<E>>>
-    ensures { IfOk result (λ v. map (λ x. x.items) v.items ≡ map (λ x. x.items) points.items ++ table count (λ j. zeta ∷ [])) }
+    ensures { IfOk result (λ v. map (λ x. x.items) v.items ≡ map (λ x. x.items) points.items ++ tabulate count (λ j. zeta ∷ [])) }
 {
     let mut points = points;
     for _j in 0..count {
@@ -146,7 +152,7 @@ pub(crate) fn all_chunks<E: RingCore>(
     zeta: E,
     chunk_counts: &[usize],
 ) -> Mem<Vec<Vec<E>>>
-    ensures { IfOk result (λ v. map (λ x. x.items) v.items ≡ flat_map (λ i. table (get_or chunk_counts.now i 0) (λ j. zeta ∷ [])) (table (length chunk_counts.now) (λ i. i))) }
+    ensures { IfOk result (λ v. map (λ x. x.items) v.items ≡ flat_map (λ i. tabulate (get_or chunk_counts.now i 0) (λ j. zeta ∷ [])) (tabulate (length chunk_counts.now) (λ i. i))) }
 {
     let mut points = Vec::new(alloc);
     for index in 0..chunk_counts.len() {
@@ -155,7 +161,7 @@ pub(crate) fn all_chunks<E: RingCore>(
     Ok(points)
 }
 
-// Both points of a table's permutation matrix, where it has lookups, behind other lists.
+// Both points of a table's permutation matrix, where it has lookups, after other lists.
 fn with_permutation<F, E: RingCore>(
     alloc: Global,
     points: Vec<Vec<E>>,
@@ -187,7 +193,9 @@ pub(crate) fn all_permutations<F: TwoAdicField, E: ExtensionField<F>>(
     requires bits { length degree_bits.now ≡ length lookups.now }
     requires masked { (i : ℕ) → i < length lookups.now → masks ≤ bits_at degree_bits.now i }
     requires fits { (i : ℕ) → i < length lookups.now → bits_at degree_bits.now i ≤ F.TWO_ADICITY }
-    ensures { IfOk result (λ v. map (λ x. x.items) v.items ≡ flat_map (λ i. option_to_list (where_some (get_or (map read_all lookups.now) i []) (zeta ∷ next_by E.ring E.embed F.root masks zeta (bits_at degree_bits.now i) ∷ []))) (table (length lookups.now) (λ i. i))) }
+    ensures { IfOk result (λ v. map (λ x. x.items) v.items
+        ≡ flat_map (λ i. option_to_list
+        (where_some (get_or (map read_all lookups.now) i []) (zeta ∷ next_by E.ring E.embed F.root masks zeta (bits_at degree_bits.now i) ∷ []))) (tabulate (length lookups.now) (λ i. i))) }
 {
     let mut points = Vec::new(alloc);
     for index in 0..lookups.len() {

@@ -34,7 +34,7 @@ pub(crate) fn lookups_of<F, Com>(common: &SharedData<F, Com>) -> &[Lookups<F>]
     &common.lookups
 }
 
-// Requests, and behind them one for these points, where its prover data is there.
+// Requests, and after them one for these points, where its prover data is there.
 fn with_request<'a, D, E: Drop>(
     requests: Vec<OpeningRequest<'a, D, E>>,
     prover_data: Option<&'a D>,
@@ -76,7 +76,9 @@ pub(crate) fn all_requests<'a, F: TwoAdicField, A: BaseAir<F>, E: ExtensionField
     requires listed { All (λ i. i < length instances.now) (matrix_tables common.now.preprocessed) }
     requires masked { (i : ℕ) → i < length instances.now → masks ≤ bits_at degree_bits.now i }
     requires fits { (i : ℕ) → i < length instances.now → bits_at degree_bits.now i ≤ F.TWO_ADICITY }
-    ensures { IfOk result (λ v. v.items ≡ asked (plan_of A.declaration instances.now common.now degree_bits.now chunk_counts.now) zeta (next_by E.ring E.embed F.root masks zeta) (record { main = main.now; quotient = quotient.now; preprocessed = option_copied preprocessed.entry; permutation = option_copied permutation.entry })) }
+    ensures { IfOk result (λ v. v.items
+        ≡ asked (plan_of A.declaration instances.now common.now degree_bits.now chunk_counts.now) zeta (next_by E.ring E.embed F.root masks zeta)
+        (record { main = main.now; quotient = quotient.now; preprocessed = option_copied preprocessed.entry; permutation = option_copied permutation.entry })) }
 {
     let mains = all_main(alloc, zeta, masks, instances, degree_bits)?;
     let chunks = all_chunks(alloc, zeta, chunk_counts)?;

@@ -2,8 +2,8 @@
 ghost use Rattle.std.specs.Prelude.{◌≡◌, ℕ, [], drop, map, IfOk};
 ghost use Rattle.std.specs.Prelude.{slice_index_or as get_or};
 ghost use Rattle.std.specs.Vec.Iter.{into_iter_items};
-ghost use Rattle.p3_field.specs.Poly.{table};
-ghost use Rattle.prover_openings.specs.Rows.{first_of, matrices_in, rows_in};
+ghost use Rattle.p3_field.specs.Poly.{tabulate};
+ghost use Rattle.prover_openings.specs.Rows.{first_list, matrices_in, rows_in};
 
 use p3_commit::OpenedValuesForMatrix;
 use p3_field::Mem;
@@ -13,7 +13,7 @@ use std::vec::IntoIter;
 
 // The list that comes next, empty where none is left.
 pub(crate) fn next_list<T: Drop>(alloc: Global, lists: &mut IntoIter<Vec<T>>) -> Vec<T>
-    ensures first { result.items ≡ first_of (map (λ v. v.items) (into_iter_items lists.old)) }
+    ensures first { result.items ≡ first_list (map (λ v. v.items) (into_iter_items lists.old)) }
     ensures rest { into_iter_items lists.new ≡ drop 1 (into_iter_items lists.old) }
 {
     match lists.next() {
@@ -27,7 +27,7 @@ pub(crate) fn next_rows<E: Drop>(
     alloc: Global,
     matrices: &mut IntoIter<OpenedValuesForMatrix<E>>,
 ) -> PreprocessedOpenedValues<E>
-    ensures rows { result ≡ rows_in (first_of (matrices_in (into_iter_items matrices.old))) }
+    ensures rows { result ≡ rows_in (first_list (matrices_in (into_iter_items matrices.old))) }
     ensures rest { into_iter_items matrices.new ≡ drop 1 (into_iter_items matrices.old) }
 {
     let matrix = next_list(alloc, matrices);
@@ -39,7 +39,7 @@ pub(crate) fn next_rows<E: Drop>(
 
 // The row at zeta of the matrix that comes next.
 fn next_row<E: Drop>(alloc: Global, matrices: &mut IntoIter<OpenedValuesForMatrix<E>>) -> Vec<E>
-    ensures row { result.items ≡ first_of (first_of (matrices_in (into_iter_items matrices.old))) }
+    ensures row { result.items ≡ first_list (first_list (matrices_in (into_iter_items matrices.old))) }
     ensures rest { into_iter_items matrices.new ≡ drop 1 (into_iter_items matrices.old) }
 {
     let matrix = next_list(alloc, matrices);
@@ -53,7 +53,7 @@ pub(crate) fn next_chunks<E: Drop>(
     matrices: &mut IntoIter<OpenedValuesForMatrix<E>>,
     count: usize,
 ) -> Mem<Vec<Vec<E>>>
-    ensures rows { IfOk result (λ v. map (λ x. x.items) v.items ≡ table count (λ j. first_of (get_or (matrices_in (into_iter_items matrices.old)) j []))) }
+    ensures rows { IfOk result (λ v. map (λ x. x.items) v.items ≡ tabulate count (λ j. first_list (get_or (matrices_in (into_iter_items matrices.old)) j []))) }
     ensures rest { IfOk result (λ _. into_iter_items matrices.new ≡ drop count (into_iter_items matrices.old)) }
 {
     let mut rows = Vec::with_capacity(alloc, count)?;

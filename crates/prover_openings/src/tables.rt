@@ -3,12 +3,12 @@ ghost use Rattle.std.specs.Prelude.{◌≡◌, ℕ, [], cond, drop, length, map,
 ghost use Rattle.std.specs.Prelude.{slice_index_or as get_or};
 ghost use Rattle.std.specs.Vec.Iter.{into_iter_items};
 ghost use Rattle.p3_commit.specs.Commitments.{nested};
-ghost use Rattle.p3_field.specs.Poly.{table};
+ghost use Rattle.p3_field.specs.Poly.{tabulate};
 ghost use Rattle.p3_lookup.specs.Written.{read_all};
 ghost use Rattle.batch_shape_checks.specs.ShapeChecks.{has_some, is_there};
 ghost use Rattle.batch_statement.specs.Statement.{entry_of};
-ghost use Rattle.prover_openings.specs.Rows.{first_of, matrices_in, rounds_in, rows_in, second_of, values_of_row};
-ghost use Rattle.prover_openings.specs.Taken.{chunks_at, has_entry_at, has_lookups_at, one_where, round_values, taken_at, taken_table};
+ghost use Rattle.prover_openings.specs.Rows.{first_list, matrices_in, rounds_in, rows_in, second_of, values_of_row};
+ghost use Rattle.prover_openings.specs.Taken.{chunk_count_at, has_entry_at, has_lookups_at, one_where, round_values, taken_at, taken_table};
 
 use crate::rows::{next_chunks, next_list, next_rows};
 use batch_statement::{OpenedValuesWithLookups, SharedData};
@@ -33,7 +33,7 @@ fn next_round<E: Drop>(
     there: bool,
     rounds: &mut IntoIter<OpenedValuesForRound<E>>,
 ) -> IntoIter<OpenedValuesForMatrix<E>>
-    ensures matrices { matrices_in (into_iter_items result) ≡ cond there (first_of (rounds_in (into_iter_items rounds.old))) [] }
+    ensures matrices { matrices_in (into_iter_items result) ≡ cond there (first_list (rounds_in (into_iter_items rounds.old))) [] }
     ensures rest { into_iter_items rounds.new ≡ drop (one_where there) (into_iter_items rounds.old) }
 {
     if there {
@@ -74,7 +74,7 @@ fn preprocessed_rows<E: Drop>(
     has_entry: bool,
     matrices: &mut IntoIter<OpenedValuesForMatrix<E>>,
 ) -> Option<PreprocessedOpenedValues<E>>
-    ensures rows { result ≡ cond has_entry (Some (rows_in (first_of (matrices_in (into_iter_items matrices.old))))) None }
+    ensures rows { result ≡ cond has_entry (Some (rows_in (first_list (matrices_in (into_iter_items matrices.old))))) None }
     ensures rest { into_iter_items matrices.new ≡ drop (one_where has_entry) (into_iter_items matrices.old) }
 {
     if has_entry {
@@ -90,8 +90,8 @@ fn permutation_rows<E: Drop>(
     has_lookups: bool,
     matrices: &mut IntoIter<OpenedValuesForMatrix<E>>,
 ) -> (Vec<E>, Vec<E>)
-    ensures local { result.0.items ≡ cond has_lookups (first_of (first_of (matrices_in (into_iter_items matrices.old)))) [] }
-    ensures next { result.1.items ≡ cond has_lookups (values_of_row (second_of (first_of (matrices_in (into_iter_items matrices.old))))) [] }
+    ensures local { result.0.items ≡ cond has_lookups (first_list (first_list (matrices_in (into_iter_items matrices.old)))) [] }
+    ensures next { result.1.items ≡ cond has_lookups (values_of_row (second_of (first_list (matrices_in (into_iter_items matrices.old))))) [] }
     ensures rest { into_iter_items matrices.new ≡ drop (one_where has_lookups) (into_iter_items matrices.old) }
 {
     if !has_lookups {
@@ -112,8 +112,9 @@ fn next_table<E: Drop>(
     has_entry: bool,
     has_lookups: bool,
 ) -> Mem<OpenedValuesWithLookups<E>>
-    ensures table { IfOk result (λ t. t ≡ taken_table chunk_count has_entry has_lookups (first_of (matrices_in (into_iter_items left.old.main))) (λ j. get_or (matrices_in (into_iter_items left.old.quotient)) j [])
-        (first_of (matrices_in (into_iter_items left.old.preprocessed))) (first_of (matrices_in (into_iter_items left.old.permutation)))) }
+    ensures table { IfOk result (λ t. t
+        ≡ taken_table chunk_count has_entry has_lookups (first_list (matrices_in (into_iter_items left.old.main))) (λ j. get_or (matrices_in (into_iter_items left.old.quotient)) j [])
+        (first_list (matrices_in (into_iter_items left.old.preprocessed))) (first_list (matrices_in (into_iter_items left.old.permutation)))) }
     ensures main { IfOk result (λ _. into_iter_items left.new.main ≡ drop 1 (into_iter_items left.old.main)) }
     ensures quotient { IfOk result (λ _. into_iter_items left.new.quotient ≡ drop chunk_count (into_iter_items left.old.quotient)) }
     ensures preprocessed { IfOk result (λ _. into_iter_items left.new.preprocessed ≡ drop (one_where has_entry) (into_iter_items left.old.preprocessed)) }
@@ -164,7 +165,15 @@ fn all_tables<F, Com, E: Drop>(
     common: &SharedData<F, Com>,
     chunk_counts: &[usize],
 ) -> Mem<Vec<OpenedValuesWithLookups<E>>>
-    ensures { IfOk result (λ v. v.items ≡ table (length chunk_counts.now) (taken_at common.now.preprocessed (map read_all common.now.lookups) chunk_counts.now (record { main = matrices_in (into_iter_items rounds.main); quotient = matrices_in (into_iter_items rounds.quotient); preprocessed = matrices_in (into_iter_items rounds.preprocessed); permutation = matrices_in (into_iter_items rounds.permutation) }))) }
+    ensures { IfOk result (λ v. v.items
+        ≡ tabulate (length chunk_counts.now)
+        (taken_at common.now.preprocessed (map read_all common.now.lookups) chunk_counts.now
+        (record {
+          main = matrices_in (into_iter_items rounds.main);
+          quotient = matrices_in (into_iter_items rounds.quotient);
+          preprocessed = matrices_in (into_iter_items rounds.preprocessed);
+          permutation = matrices_in (into_iter_items rounds.permutation);
+        }))) }
 {
     let mut left = rounds;
     let mut tables = Vec::with_capacity(alloc, chunk_counts.len())?;
@@ -185,7 +194,8 @@ pub(crate) fn opened_tables<F, Com, E: Drop>(
     common: &SharedData<F, Com>,
     chunk_counts: &[usize],
 ) -> Mem<Vec<OpenedValuesWithLookups<E>>>
-    ensures { IfOk result (λ v. v.items ≡ table (length chunk_counts.now) (taken_at common.now.preprocessed (map read_all common.now.lookups) chunk_counts.now (round_values has_preprocessed (nested values)))) }
+    ensures { IfOk result (λ v. v.items
+        ≡ tabulate (length chunk_counts.now) (taken_at common.now.preprocessed (map read_all common.now.lookups) chunk_counts.now (round_values has_preprocessed (nested values)))) }
 {
     let rounds = rounds_left(alloc, values, has_preprocessed);
     all_tables(alloc, rounds, common, chunk_counts)

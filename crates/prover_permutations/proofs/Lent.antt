@@ -8,9 +8,9 @@ use Rattle.p3_matrix.specs.Matrix.{Rows, height}
 use Rattle.p3_lookup.specs.Generated.{IsFirstZeroOf, argument_over}
 use Rattle.p3_lookup.specs.Lookup.{LookupData}
 
-pub behind_reference : {X : Type 0} (P : X → Type 0) (o : Option (Bor X)) → IfSome (option_map (λ m. m.now) o) P → IfSome o (λ m. P m.now)
-behind_reference P None h = h
-behind_reference P (Some m) h = h
+pub of_reference : {X : Type 0} (P : X → Type 0) (o : Option (Bor X)) → IfSome (option_map (λ m. m.now) o) P → IfSome o (λ m. P m.now)
+of_reference P None h = h
+of_reference P (Some m) h = h
 
 -- what is generated for equal traces and values has its first zero denominator at one place
 pub zero_along : {F E : Type 0} (f : Ring F) (e : Ring E) (inv : E → E) (embed : F → E) (lookups : List (LookupData F)) (challenges : List E) (row lookup tuple : ℕ) (t u : Rows F) (o q : Option (Rows F)) (v w : List F)

@@ -13,9 +13,9 @@ use Rattle.p3_lookup.specs.Term.{HasInverses}
 use Rattle.batch_setting.specs.Setting.{Setting}
 use Rattle.batch_validity.specs.Traced.{TracedTable, log_rows}
 use Rattle.committed_tables.specs.Rows.{flattened_matrix}
-use Rattle.honest_proofs.specs.HonestProof.{Prover, argument_of, permutation_columns, terminal_of, where_some}
+use Rattle.honest_proofs.specs.HonestProof.{Prover, argument_of_table, permutation_columns, honest_terminal, where_some}
 use Rattle.honest_proofs.specs.Laws.Answered.{columns_are, terminal_is}
-use Rattle.prover_permutations.specs.Columns.{AreFlattened, IsMade, IsReady}
+use Rattle.prover_permutations.specs.Columns.{AreFlattened, IsPermutationMade, IsReadyForColumns}
 
 nothing : {A : Type 0} (xs : List A) → length xs ≡ 0 → xs ≡ []
 nothing [] h = refl
@@ -30,19 +30,19 @@ module _ {S F E C : Type 0} (c : Setting S F E C) (p : Prover F E C) (t : Traced
   no_terms : (a : Argument F E) (row : ℕ) → a.lookups ≡ [] → RowHasInverses a row
   no_terms a row none = subst (λ (ls : List (LookupData F)). RowHasInverses (record a { lookups = ls }) row) (sym none) (All-nil (HasInverses a.ring))
 
-  pub made_none : length t.lookups ≡ 0 → IsMade c p t challenges (None, None)
-  unfolding terminal_of
+  pub made_none : length t.lookups ≡ 0 → IsPermutationMade c p t challenges (None, None)
+  unfolding honest_terminal
   made_none h =
       let none = nothing t.lookups h in
       record {
-        fractions = λ row l. no_terms (argument_of c p t challenges) row none;
+        fractions = λ row l. no_terms (argument_of_table c p t challenges) row none;
         matrix = ap (λ ls. option_to_list (where_some ls (subgroup c.field.ring t.degree_bits, flattened_matrix c.extension (permutation_columns c p t challenges)))) (sym none);
-        terminal = ap (λ ls. where_some ls (running_sum (argument_of c p t challenges) (2 ^ log_rows c t))) (sym none);
+        terminal = ap (λ ls. where_some ls (running_sum (argument_of_table c p t challenges) (2 ^ log_rows c t))) (sym none);
       }
 
-  pub made_some : IsReady c t challenges → 0 < length t.lookups → (m : Rows E) (terminal : LookupTerminal E) → FillsRows m.values m.width
-      → IsGenerated (argument_of c p t challenges) (height t.trace) (Ok (m, terminal)) → (d : CosetData F) (f : Rows F) → d ≡ subgroup c.field.ring t.degree_bits → f ≡ flattened_matrix c.extension m
-      → IsMade c p t challenges (Some (d, f), Some terminal)
+  pub made_some : IsReadyForColumns c t challenges → 0 < length t.lookups → (m : Rows E) (terminal : LookupTerminal E) → FillsRows m.values m.width
+      → IsGenerated (argument_of_table c p t challenges) (height t.trace) (Ok (m, terminal)) → (d : CosetData F) (f : Rows F) → d ≡ subgroup c.field.ring t.degree_bits → f ≡ flattened_matrix c.extension m
+      → IsPermutationMade c p t challenges (Some (d, f), Some terminal)
   made_some ready some m terminal fills G d f on flat =
       let tall = ready.rows in
       let own = columns_are c p t challenges some tall m terminal fills G in
@@ -55,8 +55,8 @@ module _ {S F E C : Type 0} (c : Setting S F E C) (p : Prover F E C) (t : Traced
       }
 
   -- so what is generated and flattened is what is made of the table
-  pub made_flattened : IsReady c t challenges → (d : CosetData F) → d ≡ subgroup c.field.ring t.degree_bits → (matrix : Option (Rows F)) (terminal : Option (LookupTerminal E))
-      → AreFlattened c.extension (argument_of c p t challenges) (height t.trace) matrix terminal → IsMade c p t challenges (option_map (λ m. (d, m)) matrix, terminal)
+  pub made_flattened : IsReadyForColumns c t challenges → (d : CosetData F) → d ≡ subgroup c.field.ring t.degree_bits → (matrix : Option (Rows F)) (terminal : Option (LookupTerminal E))
+      → AreFlattened c.extension (argument_of_table c p t challenges) (height t.trace) matrix terminal → IsPermutationMade c p t challenges (option_map (λ m. (d, m)) matrix, terminal)
   made_flattened ready d on None None A = made_none A
   made_flattened ready d on None (Some u) A = absurd A
   made_flattened ready d on (Some f) None A = absurd A

@@ -1,4 +1,4 @@
--- One table more of a batch: it can be asked for, and what is made of it comes behind what is made of the tables before it.
+-- One table more of a batch: it can be asked for, and what is made of it comes after what is made of the tables before it.
 use Rattle.std.proofs.Common.{◌≡◌, ℕ, ◌+◌, ◌*◌, ◌^◌, ◌<◌, ◌≤◌, List, [], ◌∷◌, ◌++◌, length, get_or, Option, sym, ◌∙◌, ap, subst, arith}
 use Rattle.std.specs.Int.{IsPowerOfTwo}
 use Rattle.std.specs.Prelude.{option_map, option_to_list}
@@ -17,12 +17,12 @@ use Rattle.batch_setup.specs.Laws.Logarithms.{log_of_power}
 use Rattle.batch_setup.specs.Setup.{Instance, log_of}
 use Rattle.batch_statement.specs.Statement.{WrittenCommon}
 use Rattle.batch_validity.specs.Traced.{TracedTable, log_rows}
-use Rattle.honest_proofs.specs.HonestProof.{Prover, argument_of}
+use Rattle.honest_proofs.specs.HonestProof.{Prover, argument_of_table}
 use Rattle.batch_proving.specs.Batch.{Batch, batch_of, table_at}
 use Rattle.batch_proving.specs.declared.error.ProvingError.{ProvingError}
 use Rattle.prover_traces.specs.Instances.{instance_table}
 use Rattle.prover_traces.specs.Laws.Instances.{table_is}
-use Rattle.prover_permutations.specs.Columns.{AreFlattened, AreMade, AreReady, FractionsOf, IsMade, IsReady, IsZeroAt, NoneMade}
+use Rattle.prover_permutations.specs.Columns.{AreFlattened, ArePermutationsMade, AreReady, FractionsOf, IsPermutationMade, IsReadyForColumns, IsZeroAt, NoneMade}
 use Rattle.prover_permutations.proofs.Made.{made_flattened}
 use Rattle.prover_permutations.proofs.Whole.{made_more, zero_of_table}
 
@@ -39,8 +39,8 @@ module _ {S F E C A : Type 0} (c : Setting S F E C) (p : Prover F E C) (declarat
   same = table_is c p declaration trees instances common place x (read_all lookups) within x_is (ap read_all lookups_are ∙ sym (get_or-map read_all common.lookups place none [] (omega (arith, within, long))))
 
   -- the table can be asked for
-  pub one_ready : IsReady c t own
-  one_ready = subst (λ (u : TracedTable F). IsReady c u own) same (subst (λ (l : List E). IsReady c (table_at b place) l) (sym own_is) (ready place within))
+  pub one_ready : IsReadyForColumns c t own
+  one_ready = subst (λ (u : TracedTable F). IsReadyForColumns c u own) same (subst (λ (l : List E). IsReadyForColumns c (table_at b place) l) (sym own_is) (ready place within))
 
   pub some_row : 0 < height x.trace
   some_row = let e = one_ready.rows in let h : 0 < 2 ^ log_rows c t = pow_pos (log_rows c t) in omega (arith, e, h)
@@ -55,22 +55,22 @@ module _ {S F E C A : Type 0} (c : Setting S F E C) (p : Prover F E C) (declarat
   pub fits : (n : ℕ) → n ≡ height x.trace → n ≤ 2 ^ c.two_adicity
   fits n e = subst (λ k. k ≤ 2 ^ c.two_adicity) (sym (e ∙ (one_ready.rows ∙ ap (λ k. 2 ^ k) one_ready.unmasked))) (pow_mono one_ready.fits)
 
-  -- what is made of it comes behind
-  pub added : (columns more : List (CosetData F × Rows F)) (terminals later : List (Option (LookupTerminal E))) (matrix : Option (Rows F)) (terminal : Option (LookupTerminal E)) (n : ℕ) → n ≡ height x.trace → AreMade b challenges place columns terminals
-      → AreFlattened c.extension (argument_of c p t own) (height x.trace) matrix terminal
-      → more ≡ columns ++ option_to_list (option_map (λ m. (subgroup c.field.ring (log_of n), m)) matrix) → later ≡ terminals ++ terminal ∷ [] → AreMade b challenges (place + 1) more later
+  -- what is made of it comes after
+  pub added : (columns more : List (CosetData F × Rows F)) (terminals later : List (Option (LookupTerminal E))) (matrix : Option (Rows F)) (terminal : Option (LookupTerminal E)) (n : ℕ) → n ≡ height x.trace → ArePermutationsMade b challenges place columns terminals
+      → AreFlattened c.extension (argument_of_table c p t own) (height x.trace) matrix terminal
+      → more ≡ columns ++ option_to_list (option_map (λ m. (subgroup c.field.ring (log_of n), m)) matrix) → later ≡ terminals ++ terminal ∷ [] → ArePermutationsMade b challenges (place + 1) more later
   added columns more terminals later matrix terminal n e made flat pushed ended =
       let d = subgroup c.field.ring (log_of n) in
       let on : d ≡ subgroup c.field.ring t.degree_bits = ap (subgroup c.field.ring) (log_of_power n t.degree_bits (e ∙ (one_ready.rows ∙ ap (λ k. 2 ^ k) one_ready.unmasked))) in
       let one = made_flattened c p t own one_ready d on matrix terminal flat in
       made_more b challenges place columns more terminals later (option_map (λ m. (d, m)) matrix) terminal made
-      (subst (λ (u : TracedTable F). IsMade c p u (get_or challenges place []) (option_map (λ m. (d, m)) matrix, terminal)) (sym same)
-      (subst (λ (l : List E). IsMade c p t l (option_map (λ m. (d, m)) matrix, terminal)) own_is one))
+      (subst (λ (u : TracedTable F). IsPermutationMade c p u (get_or challenges place []) (option_map (λ m. (d, m)) matrix, terminal)) (sym same)
+      (subst (λ (l : List E). IsPermutationMade c p t l (option_map (λ m. (d, m)) matrix, terminal)) own_is one))
       pushed ended
 
   -- or its zero denominator is the first
-  pub refused : {R : Type 0} (e : ProvingError R) → ((i : ℕ) → i < place → FractionsOf b challenges i) → IsZeroAt (argument_of c p t own) (height x.trace) place e → NoneMade b challenges (length instances) e
+  pub refused : {R : Type 0} (e : ProvingError R) → ((i : ℕ) → i < place → FractionsOf b challenges i) → IsZeroAt (argument_of_table c p t own) (height x.trace) place e → NoneMade b challenges (length instances) e
   refused e before z =
       zero_of_table b challenges (length instances) place e within before
-      (subst (λ (u : TracedTable F). IsZeroAt (argument_of c p u (get_or challenges place [])) (height u.trace) place e) (sym same)
-      (subst (λ (l : List E). IsZeroAt (argument_of c p t l) (height t.trace) place e) own_is z))
+      (subst (λ (u : TracedTable F). IsZeroAt (argument_of_table c p u (get_or challenges place [])) (height u.trace) place e) (sym same)
+      (subst (λ (l : List E). IsZeroAt (argument_of_table c p t l) (height t.trace) place e) own_is z))

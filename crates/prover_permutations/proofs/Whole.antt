@@ -6,17 +6,17 @@ use Rattle.std.proofs.lemmas.Bool.{cases_lt}
 use Rattle.std.proofs.lemmas.List.{map-append}
 use Rattle.p3_field.specs.Checks.{FirstFails, NoneFails}
 use Rattle.p3_field.specs.Domain.{CosetData}
-use Rattle.p3_field.specs.Laws.Tables.{get_or-table, table_push, table_same}
+use Rattle.p3_field.specs.Laws.Tabulate.{get_or-tabulate, tabulate_push, tabulate_same}
 use Rattle.p3_matrix.specs.Matrix.{Rows, height}
 use Rattle.p3_air.specs.Shape.{HasColumns}
 use Rattle.p3_lookup.specs.Generated.{IsFirstZeroOf}
 use Rattle.p3_lookup.specs.declared.terminal.LookupTerminal.{LookupTerminal}
 use Rattle.batch_setting.specs.Setting.{masks}
-use Rattle.batch_validity.specs.Laws.Held.{lookups_fit}
+use Rattle.batch_validity.specs.Laws.Holding.{lookups_fit}
 use Rattle.batch_validity.specs.Traced.{declared, log_rows}
 use Rattle.committed_tables.specs.Fields.{FieldsLaws}
 use Rattle.committed_tables.specs.Traces.{IsSomeTall}
-use Rattle.honest_proofs.specs.HonestProof.{AreCanonical, HasFractions, IsDenominatorZero, argument_of, challenges_at, permutation_matrices, terminal_of, terminals}
+use Rattle.honest_proofs.specs.HonestProof.{AreCanonical, HasFractions, IsDenominatorZero, argument_of_table, challenges_at, permutation_matrices, honest_terminal, terminals}
 use Rattle.honest_proofs.specs.Laws.Answered.{fault_is}
 use Rattle.honest_proofs.specs.Laws.Flat.{flat_more, flat_same}
 use Rattle.honest_proofs.specs.Laws.Ground.{denominator_event, one_lookup}
@@ -25,19 +25,19 @@ use Rattle.batch_proving.specs.Proving.{HaveFractionsFor, IsPairGroundOf, fracti
 use Rattle.batch_proving.specs.Verdict.{IsProverRefusal, IsProverVerdict}
 use Rattle.batch_proving.specs.declared.error.ProvingError.{ProvingError}
 use Rattle.batch_proving.specs.declared.error.ProvingError.TheVariants.{LookupDenominatorZero, MultiplicityBound, OutOfMemory, Pcs, WitnessNotFound}
-use Rattle.prover_permutations.specs.Columns.{AreMade, FractionsOf, IsFirstZeroIn, IsAllMade, IsMade, IsMadeMore, IsReady, IsZeroAt, NoneMade, challenges_of}
+use Rattle.prover_permutations.specs.Columns.{ArePermutationsMade, FractionsOf, IsFirstZeroInRow, IsAllMade, IsPermutationMade, IsMadeMore, IsReadyForColumns, IsZeroAt, NoneMade, challenges_of_table}
 
 -- what is made of no table, and of one table more
 module _ {S F E C : Type 0} (b : Batch S F E C) (challenges : List (List E)) where
-  pub made_of_none : AreMade b challenges 0 [] []
+  pub made_of_none : ArePermutationsMade b challenges 0 [] []
   made_of_none = record { fractions = λ i h. absurd (omega (arith, h)); columns_are = refl; terminals_are = refl }
 
   pub made_more : (n : ℕ) (columns more : List (CosetData F × Rows F)) (terminals later : List (Option (LookupTerminal E))) (matrix : Option (CosetData F × Rows F)) (terminal : Option (LookupTerminal E))
-      → AreMade b challenges n columns terminals → IsMade b.setting b.prover (table_at b n) (challenges_of b challenges n) (matrix, terminal)
-      → more ≡ columns ++ option_to_list matrix → later ≡ terminals ++ terminal ∷ [] → AreMade b challenges (n + 1) more later
+      → ArePermutationsMade b challenges n columns terminals → IsPermutationMade b.setting b.prover (table_at b n) (challenges_of_table b challenges n) (matrix, terminal)
+      → more ≡ columns ++ option_to_list matrix → later ≡ terminals ++ terminal ∷ [] → ArePermutationsMade b challenges (n + 1) more later
   made_more n columns more terminals later matrix terminal A M added pushed =
-      let f = λ (i : ℕ). permutation_matrices b.setting b.prover (table_at b i) (challenges_of b challenges i) in
-      let t = λ (i : ℕ). terminal_of b.setting b.prover (table_at b i) (challenges_of b challenges i) in
+      let f = λ (i : ℕ). permutation_matrices b.setting b.prover (table_at b i) (challenges_of_table b challenges i) in
+      let t = λ (i : ℕ). honest_terminal b.setting b.prover (table_at b i) (challenges_of_table b challenges i) in
       let value : Option (LookupTerminal E) → Option E = option_map (λ x. x.0) in
       record {
         fractions = λ i h. elim (cases_lt i n) [
@@ -45,11 +45,11 @@ module _ {S F E C : Type 0} (b : Batch S F E C) (challenges : List (List E)) whe
           | inr over ↦ let e : n ≡ i = omega (arith, over, h) in subst (FractionsOf b challenges) e M.fractions
         ];
         columns_are = added ∙ ((λ k. A.columns_are k ++ M.matrix k) ∙ flat_more f n);
-        terminals_are = ap (map value) pushed ∙ (map-append value terminals (terminal ∷ []) ∙ table_push n t (map value terminals) (value terminal) A.terminals_are M.terminal);
+        terminals_are = ap (map value) pushed ∙ (map-append value terminals (terminal ∷ []) ∙ tabulate_push n t (map value terminals) (value terminal) A.terminals_are M.terminal);
       }
 
-  pub made_until : (m n : ℕ) (columns : List (CosetData F × Rows F)) (terminals : List (Option (LookupTerminal E))) → AreMade b challenges m columns terminals → m ≡ n → AreMade b challenges n columns terminals
-  made_until m n columns terminals A e = subst (λ k. AreMade b challenges k columns terminals) e A
+  pub made_until : (m n : ℕ) (columns : List (CosetData F × Rows F)) (terminals : List (Option (LookupTerminal E))) → ArePermutationsMade b challenges m columns terminals → m ≡ n → ArePermutationsMade b challenges n columns terminals
+  made_until m n columns terminals A e = subst (λ k. ArePermutationsMade b challenges k columns terminals) e A
 
   -- what the exit of a `?` returns is the error of the call before it
   pub made_exit : {T R : Type 0} (m n : ℕ) (e : ProvingError R) (r : Result T (ProvingError R)) (columns : T → List (CosetData F × Rows F)) (ts : T → List (Option (LookupTerminal E)))
@@ -63,11 +63,11 @@ module _ {S F E C : Type 0} (b : Batch S F E C) (challenges : List (List E)) whe
 
   -- the zero denominator of table n is the first
   pub zero_of_table : {R : Type 0} (m n : ℕ) (e : ProvingError R) → n < m → ((i : ℕ) → i < n → FractionsOf b challenges i)
-      → IsZeroAt (argument_of b.setting b.prover (table_at b n) (challenges_of b challenges n)) (height (table_at b n).trace) n e → NoneMade b challenges m e
+      → IsZeroAt (argument_of_table b.setting b.prover (table_at b n) (challenges_of_table b challenges n)) (height (table_at b n).trace) n e → NoneMade b challenges m e
   zero_of_table m n (Pcs phase source) h before z = z
   zero_of_table m n (MultiplicityBound bus) h before z = z
   zero_of_table m n (LookupDenominatorZero i row) h before z =
-      subst (λ k. IsFirstZeroIn b challenges m k row) (sym z.0) (record { within = h; before = before; lookup = z.1.0; tuple = z.1.1; first = z.1.2 })
+      subst (λ k. IsFirstZeroInRow b challenges m k row) (sym z.0) (record { within = h; before = before; lookup = z.1.0; tuple = z.1.1; first = z.1.2 })
   zero_of_table m n (WitnessNotFound step) h before z = z
   zero_of_table m n OutOfMemory h before z = tt
 
@@ -79,7 +79,7 @@ module _ {S F E C : Type 0} (b : Batch S F E C) where
 
   -- so its permutation columns can be asked for
   pub ready : (L : FieldsLaws b.setting.field b.setting.extension b.setting.two_adicity b.prover.inverse) (B : IsTracedAll b) → masks b.setting ≡ 0 → (i : ℕ) (own : List E) → i < table_count b
-      → HasColumns (declared (table_at b i)).preprocessed → length own ≡ 2 * length (table_at b i).lookups → IsReady b.setting (table_at b i) own
+      → HasColumns (declared (table_at b i)).preprocessed → length own ≡ 2 * length (table_at b i).lookups → IsReadyForColumns b.setting (table_at b i) own
   ready L B plain i own h some long =
       let t = table_at b i in
       let T = B.traced i h in
@@ -94,42 +94,42 @@ module _ {S F E C : Type 0} (b : Batch S F E C) where
         challenges_long = long;
       }
 
--- for the challenges that are drawn behind the value that is ground
+-- for the challenges that are drawn after the value that is ground
 module _ {S F E C : Type 0} (b : Batch S F E C) (B : IsTracedAll b) (K : AreCanonical b.setting.field.ring b.setting.order b.prover.canonical) (challenges : List (List E)) (w : Option F) (found : IsPairGroundOf b w)
     (drawn : challenges ≡ all_challenges b w) where
   abbrev drawn_at : Option F → ℕ → List E
   drawn_at v i = challenges_at b.setting b.prover b.statement b.traces b.degree_bits v i
 
   -- each table's are its own, whatever value is ground
-  own : (v : Option F) → IsPairGroundOf b v → (i : ℕ) → i < table_count b → challenges_of b challenges i ≡ drawn_at v i
+  own : (v : Option F) → IsPairGroundOf b v → (i : ℕ) → i < table_count b → challenges_of_table b challenges i ≡ drawn_at v i
   own v also i h =
       let one = one_lookup b.setting b.prover b.statement b.traces b.degree_bits K w v found also in
-      ap (λ l. get_or l i []) drawn ∙ (get_or-table (table_count b) (drawn_at w) i [] h ∙ ap (λ u. drawn_at u i) one)
+      ap (λ l. get_or l i []) drawn ∙ (get_or-tabulate (table_count b) (drawn_at w) i [] h ∙ ap (λ u. drawn_at u i) one)
 
   all_own : ((i : ℕ) → i < table_count b → FractionsOf b challenges i) → (v : Option F) → IsPairGroundOf b v → HaveFractionsFor b v
   all_own all v also i h = subst (λ (l : List E). HasFractions b.setting b.prover (table_at b i) l) (own v also i h) (all i h)
 
-  columns_drawn : (columns : List (CosetData F × Rows F)) (ts : List (Option (LookupTerminal E))) → AreMade b challenges (table_count b) columns ts → (v : Option F) → IsPairGroundOf b v → columns ≡ all_permutations b v
+  columns_drawn : (columns : List (CosetData F × Rows F)) (ts : List (Option (LookupTerminal E))) → ArePermutationsMade b challenges (table_count b) columns ts → (v : Option F) → IsPairGroundOf b v → columns ≡ all_permutations b v
   columns_drawn columns ts A v also =
       A.columns_are
-      ∙ flat_same (λ i. permutation_matrices b.setting b.prover (table_at b i) (challenges_of b challenges i)) (λ i. permutation_matrices b.setting b.prover (table_at b i) (drawn_at v i)) (table_count b) (λ i. i)
+      ∙ flat_same (λ i. permutation_matrices b.setting b.prover (table_at b i) (challenges_of_table b challenges i)) (λ i. permutation_matrices b.setting b.prover (table_at b i) (drawn_at v i)) (table_count b) (λ i. i)
       (λ i h. ap (permutation_matrices b.setting b.prover (table_at b i)) (own v also i h))
 
-  terminals_drawn : (columns : List (CosetData F × Rows F)) (ts : List (Option (LookupTerminal E))) → AreMade b challenges (table_count b) columns ts → (v : Option F) → IsPairGroundOf b v
+  terminals_drawn : (columns : List (CosetData F × Rows F)) (ts : List (Option (LookupTerminal E))) → ArePermutationsMade b challenges (table_count b) columns ts → (v : Option F) → IsPairGroundOf b v
       → map (option_map (λ t. t.0)) ts ≡ terminals b.setting b.prover b.statement b.traces b.degree_bits v
   terminals_drawn columns ts A v also =
       A.terminals_are
-      ∙ table_same (table_count b) (λ i. terminal_of b.setting b.prover (table_at b i) (challenges_of b challenges i)) (λ i. terminal_of b.setting b.prover (table_at b i) (drawn_at v i))
-      (λ i h. ap (terminal_of b.setting b.prover (table_at b i)) (own v also i h))
+      ∙ tabulate_same (table_count b) (λ i. honest_terminal b.setting b.prover (table_at b i) (challenges_of_table b challenges i)) (λ i. honest_terminal b.setting b.prover (table_at b i) (drawn_at v i))
+      (λ i h. ap (honest_terminal b.setting b.prover (table_at b i)) (own v also i h))
 
   -- the first zero denominator is the event
-  event : (i row : ℕ) → IsFirstZeroIn b challenges (table_count b) i row → IsDenominatorZero b.setting b.prover b.statement b.traces b.degree_bits i row
+  event : (i row : ℕ) → IsFirstZeroInRow b challenges (table_count b) i row → IsDenominatorZero b.setting b.prover b.statement b.traces b.degree_bits i row
   event i row Z =
       let at = λ (j : ℕ) (l : j < i). own w found j (let h = Z.within in omega (arith, h, l)) in
       fault_is b.setting b.prover b.statement b.traces b.degree_bits w i row Z.lookup Z.tuple found Z.within
       (λ j l. subst (λ (ch : List E). HasFractions b.setting b.prover (table_at b j) ch) (at j l) (Z.before j l))
       (B.traced i Z.within).rows.tall
-      (subst (λ (ch : List E). IsFirstZeroOf (argument_of b.setting b.prover (table_at b i) ch) (height (table_at b i).trace) row Z.lookup Z.tuple) (own w found i Z.within) Z.first)
+      (subst (λ (ch : List E). IsFirstZeroOf (argument_of_table b.setting b.prover (table_at b i) ch) (height (table_at b i).trace) row Z.lookup Z.tuple) (own w found i Z.within) Z.first)
 
   -- so the answer is that of the check
   pub verdict : {T R : Type 0} (r : Result T (ProvingError R)) (columns : T → List (CosetData F × Rows F)) (ts : T → List (Option (LookupTerminal E)))

@@ -7,7 +7,7 @@ ghost use Rattle.batch_proving.specs.Batch.{IsTracedAll, all_challenges, all_per
 ghost use Rattle.batch_proving.specs.Proving.{IsPairGroundOf, fraction_part};
 ghost use Rattle.batch_proving.specs.Verdict.{IsProverVerdict};
 ghost use Rattle.honest_proofs.specs.HonestProof.{terminals};
-ghost use Rattle.prover_permutations.specs.Columns.{AreMade, AreReady, IsAllMade, IsMadeMore};
+ghost use Rattle.prover_permutations.specs.Columns.{ArePermutationsMade, AreReady, IsAllMade, IsMadeMore};
 
 use crate::table::table_columns;
 use batch_proving::{ProverSettings, ProvingError};
@@ -26,7 +26,7 @@ use p3_uni_stark::{Challenge, Domain, PcsProverError, StarkGenericConfig, Val};
 use prover_traces::rows_domain;
 use std::alloc::Global;
 
-/// The permutation columns of a batch, and its terminals (own).
+/// The permutation columns of a batch, and its terminals (not in Plonky3).
 #[derive(Drop)]
 pub struct Permutations<F: TwoAdicCore, E> {
     /// For each table with lookups, in order, its permutation columns: the running sum and a column for each lookup, by their coefficients,
@@ -36,7 +36,7 @@ pub struct Permutations<F: TwoAdicCore, E> {
     pub terminals: Vec<Option<LookupTerminal<E>>>,
 }
 
-// Matrices on domains, and behind them one that may be there, on the domain of so many rows.
+// Matrices on domains, and after them one that may be there, on the domain of so many rows.
 fn with_matrix<SC: StarkGenericConfig>(
     config: &SC,
     columns: Vec<(Domain<SC>, RowMajorMatrix<Val<SC>>)>,
@@ -70,9 +70,13 @@ fn with_table<SC: StarkGenericConfig, A: Air<Val<SC>>>(
     requires within { place < length instances.now }
     requires lookups { length common.now.lookups ≡ length instances.now }
     requires challenges { length challenges.now ≡ length instances.now }
-    requires ready { AreReady (batch_of (⟦<SC as Settings>⟧.setting config.now) (⟦<SC as ProverSettings>⟧.prover config.now) A.declaration A.trees instances.now common.now) (map (λ v. v.items) challenges.now) (length instances.now) }
-    requires made { AreMade (batch_of (⟦<SC as Settings>⟧.setting config.now) (⟦<SC as ProverSettings>⟧.prover config.now) A.declaration A.trees instances.now common.now) (map (λ v. v.items) challenges.now) place made.columns.items made.terminals.items }
-    ensures { IsMadeMore (batch_of (⟦<SC as Settings>⟧.setting config.now) (⟦<SC as ProverSettings>⟧.prover config.now) A.declaration A.trees instances.now common.now) (map (λ v. v.items) challenges.now) (length instances.now) place (λ r. r.columns.items) (λ r. r.terminals.items) result }
+    requires ready { AreReady (batch_of (⟦<SC as Settings>⟧.setting config.now)
+        (⟦<SC as ProverSettings>⟧.prover config.now) A.declaration A.trees instances.now common.now) (map (λ v. v.items) challenges.now) (length instances.now) }
+    requires made { ArePermutationsMade
+        (batch_of (⟦<SC as Settings>⟧.setting config.now) (⟦<SC as ProverSettings>⟧.prover config.now) A.declaration A.trees instances.now common.now)
+        (map (λ v. v.items) challenges.now) place made.columns.items made.terminals.items }
+    ensures { IsMadeMore (batch_of (⟦<SC as Settings>⟧.setting config.now) (⟦<SC as ProverSettings>⟧.prover config.now) A.declaration A.trees instances.now common.now)
+        (map (λ v. v.items) challenges.now) (length instances.now) place (λ r. r.columns.items) (λ r. r.terminals.items) result }
 {
     let instance = &instances[place];
     let lookups = common.lookups[place].as_slice();
@@ -93,8 +97,10 @@ fn columns_for<SC: StarkGenericConfig, A: Air<Val<SC>>>(
 ) -> Result<Permutations<Val<SC>, Challenge<SC>>, ProvingError<PcsProverError<SC>>>
     requires lookups { length common.now.lookups ≡ length instances.now }
     requires challenges { length challenges.now ≡ length instances.now }
-    requires ready { AreReady (batch_of (⟦<SC as Settings>⟧.setting config.now) (⟦<SC as ProverSettings>⟧.prover config.now) A.declaration A.trees instances.now common.now) (map (λ v. v.items) challenges.now) (length instances.now) }
-    ensures { IsAllMade (batch_of (⟦<SC as Settings>⟧.setting config.now) (⟦<SC as ProverSettings>⟧.prover config.now) A.declaration A.trees instances.now common.now) (map (λ v. v.items) challenges.now) (length instances.now) (λ r. r.columns.items) (λ r. r.terminals.items) result }
+    requires ready { AreReady (batch_of (⟦<SC as Settings>⟧.setting config.now)
+        (⟦<SC as ProverSettings>⟧.prover config.now) A.declaration A.trees instances.now common.now) (map (λ v. v.items) challenges.now) (length instances.now) }
+    ensures { IsAllMade (batch_of (⟦<SC as Settings>⟧.setting config.now) (⟦<SC as ProverSettings>⟧.prover config.now) A.declaration A.trees instances.now common.now)
+        (map (λ v. v.items) challenges.now) (length instances.now) (λ r. r.columns.items) (λ r. r.terminals.items) result }
 {
     let mut made = Permutations {
         columns: Vec::new(alloc),
@@ -112,7 +118,7 @@ fn columns_for<SC: StarkGenericConfig, A: Air<Val<SC>>>(
 /// tables and then by rows. Only out of memory is free.
 ///
 /// The batch is traced, the backend masks nothing, and `challenges` has for each table the challenges of its lookups, as they are drawn
-/// behind the grinding value of the lookups' pair.
+/// after the grinding value of the lookups' pair.
 pub fn permutation_columns<SC: StarkGenericConfig, A: Air<Val<SC>>>(
     alloc: Global,
     config: &SC,

@@ -18,7 +18,7 @@ use p3_uni_stark::{Commitment, Domain, PcsProverError, StarkGenericConfig, Val};
 use prover_traces::commit_matrices;
 use std::alloc::Global;
 
-/// The commitment to the permutation columns of a batch, as `permutation_columns` gives them, and what the backend keeps of them
+/// The commitment to the permutation columns of a batch, as `permutation_columns` gives them, and the prover data of them
 /// (`prove_batch` of `p3-batch-stark`). Where no table has lookups there is none, and nothing is asked of the backend. The answer is `Pcs`
 /// with the phase `PermutationCommitment` exactly where the backend refuses. Only out of memory is free.
 pub fn commit_permutations<SC: StarkGenericConfig>(

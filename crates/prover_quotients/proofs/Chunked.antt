@@ -4,7 +4,7 @@ use Rattle.std.proofs.lemmas.Option.{slice_get-get_or}
 use Rattle.p3_field.specs.Domain.{CosetData}
 use Rattle.p3_field.specs.Field.{Extension, TwoAdic}
 use Rattle.p3_field.specs.Laws.SubgroupSelectors.{subgroup}
-use Rattle.p3_field.specs.Laws.Tables.{length-table, table_of_items, table_same}
+use Rattle.p3_field.specs.Laws.Tabulate.{length-tabulate, tabulate_items, tabulate_same}
 use Rattle.p3_matrix.specs.Matrix.{FillsRows, Rows}
 use Rattle.p3_matrix.specs.Laws.Cells.{same_matrix}
 use Rattle.p3_commit.specs.Space.{EachOf}
@@ -22,7 +22,7 @@ use Rattle.honest_proofs.specs.Laws.ChunkRows.{chunk_column, chunk_fills, chunk_
 -- a quotient has a value for each point
 pub values_count : {F E : Type 0} (f : TwoAdic F) (e : Extension F E) (t : CommittedTable F E) (trees : List (Tree F)) (alpha : E) (d : CosetData F) (values : List E)
     → values ≡ quotient_values_on f e t trees alpha d → length values ≡ 2 ^ d.log_size
-values_count f e t trees alpha d values are = ap length are ∙ length-table (2 ^ d.log_size) _
+values_count f e t trees alpha d values are = ap length are ∙ length-tabulate (2 ^ d.log_size) _
 
 module _ {S F E C : Type 0} (c : Setting S F E C) (p : Prover F E C) (t : TracedTable F) (challenges : List E) (L : FieldsLaws c.field c.extension c.two_adicity p.inverse) (alpha : E) where
   abbrev k : CommittedTable F E
@@ -48,8 +48,8 @@ module _ {S F E C : Type 0} (c : Setting S F E C) (p : Prover F E C) (t : Traced
       → All (λ (e : CosetData F × Rows F). FillsRows e.1.values e.1.width) pieces → pieces ≡ chunk_matrices c p t challenges alpha
   chunks_are pieces A fill =
       let none : CosetData F × Rows F = (subgroup c.field.ring 0, no_rows) in
-      table_of_items none pieces parts A.count
-      ∙ table_same parts (λ n. get_or pieces n none) chunk (λ n b.
+      tabulate_items none pieces parts A.count
+      ∙ tabulate_same parts (λ n. get_or pieces n none) chunk (λ n b.
       let inside : n < length pieces = let q = A.count in omega (arith, b, q) in
       one_chunk n (get_or pieces n none) (fill n none inside) (A.each n (get_or pieces n none) (slice_get-get_or pieces n none inside)))
 

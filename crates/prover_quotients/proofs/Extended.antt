@@ -3,8 +3,8 @@ use Rattle.std.proofs.Common.{◌≡◌, ℕ, ◌+◌, ◌^◌, List, [], ◌∷
 use Rattle.p3_field.specs.Checks.{Check, NoneFails, in_turn}
 use Rattle.p3_field.specs.Domain.{CosetData}
 use Rattle.p3_field.specs.Laws.Checks.{none_in_turn, none_of_none}
-use Rattle.p3_field.specs.Laws.Tables.{length-table}
-use Rattle.p3_field.specs.Poly.{table}
+use Rattle.p3_field.specs.Laws.Tabulate.{length-tabulate}
+use Rattle.p3_field.specs.Poly.{tabulate}
 use Rattle.p3_matrix.specs.Matrix.{Rows}
 use Rattle.p3_commit.specs.Commitments.{AreExtensions}
 use Rattle.p3_commit.specs.Failure.{NoneOf}
@@ -18,7 +18,7 @@ use Rattle.honest_proofs.specs.Laws.Flat.{flat_more}
 use Rattle.honest_acceptance.specs.Laws.Rounds.{each_paired, paired_append, paired_from}
 use Rattle.prover_quotients.specs.Tables.{chunks_below, chunks_by}
 
--- the extensions of two lists of matrices behind each other
+-- the extensions of two lists of matrices one after another
 extensions_append : {F D : Type 0} (extends : D → Rows F → Rows F → Type 0) (es fs : List (D × Rows F)) (ls ks : List (Rows F)) → AreExtensions extends es ls → AreExtensions extends fs ks → AreExtensions extends (es ++ fs) (ls ++ ks)
 extensions_append {F} {D} extends es fs ls ks a b =
     let R : D × Rows F → Rows F → Type 0 = λ e l. extends e.0 e.1 l in
@@ -28,8 +28,8 @@ no_extensions : {F D : Type 0} (extends : D → Rows F → Rows F → Type 0) �
 no_extensions {F} {D} extends = let R : D × Rows F → Rows F → Type 0 = λ e l. extends e.0 e.1 l in each_paired R [] [] tt
 
 -- how many items a list has that is a table
-pub table_count : {A : Type 0} (n : ℕ) (u : ℕ → A) (xs : List A) → xs ≡ table n u → length xs ≡ n
-table_count n u xs e = ap length e ∙ length-table n u
+pub table_count : {A : Type 0} (n : ℕ) (u : ℕ → A) (xs : List A) → xs ≡ tabulate n u → length xs ≡ n
+table_count n u xs e = ap length e ∙ length-tabulate n u
 
 -- a check that asks for so many of some matrices, for the same matrices in other words
 pub verdict_along : {T M R : Type 0} (phase : ProverPhase) (fault : List M → ℕ → R → Type 0) (xs ys : List M) (m n : ℕ) (r : Result T (ProvingError R)) → xs ≡ ys → m ≡ n

@@ -1,7 +1,7 @@
 -- What is given of a traced batch when its quotients are made.
 use Rattle.std.proofs.Common.{◌≡◌, ℕ, ◌^◌, ◌<◌, List, [], length, get_or, Option, None, false, sym, ◌∙◌, ap, subst, arith}
 use Rattle.p3_field.specs.Domain.{CosetData, point}
-use Rattle.p3_field.specs.Laws.Tables.{get_or-table, length-table}
+use Rattle.p3_field.specs.Laws.Tabulate.{get_or-tabulate, length-tabulate}
 use Rattle.p3_field.specs.Ring.{Ring}
 use Rattle.p3_matrix.specs.Matrix.{Rows}
 use Rattle.std.proofs.lemmas.List.Elements.{All-map}
@@ -9,18 +9,18 @@ use Rattle.p3_air.specs.Shape.{Declaration, HasColumns}
 use Rattle.p3_air.specs.Tree.{Tree}
 use Rattle.p3_commit.specs.Commitments.{Committed, IsCommitment}
 use Rattle.batch_proving.specs.Backend.{ProverBackend}
-use Rattle.batch_proving.specs.Batch.{Batch, IsKeptWith, IsTracedAll, all_challenges, all_permutations, main_matrices, preprocessed_all, table_at, table_count}
+use Rattle.batch_proving.specs.Batch.{Batch, HasProverData, IsTracedAll, all_challenges, all_permutations, main_matrices, preprocessed_all, table_at, table_count}
 use Rattle.batch_shape_checks.specs.ShapeChecks.{no_table}
-use Rattle.batch_statement.specs.Statement.{Table, tables_of}
+use Rattle.batch_statement.specs.Statement.{AirTable, tables_of}
 use Rattle.committed_tables.specs.Fields.{FieldsLaws}
 use Rattle.batch_validity.specs.Traced.{declared}
 use Rattle.honest_acceptance.specs.Laws.Opened.{kept_on}
-use Rattle.honest_proofs.specs.HonestProof.{challenges_at, committed_table, terminal_of, terminals}
+use Rattle.honest_proofs.specs.HonestProof.{challenges_at, committed_table, honest_terminal, terminals}
 use Rattle.honest_proofs.specs.Laws.Draws.{challenges_count}
-use Rattle.prover_quotients.specs.Held.{HoldsTable}
+use Rattle.prover_quotients.specs.ProverData.{HoldsTable}
 use Rattle.prover_quotients.specs.Places.{places_at}
-use Rattle.prover_quotients.specs.Tables.{AreGiven, KeepsSome}
-use Rattle.prover_quotients.proofs.Kept.{main_here, permutation_here, preprocessed_here}
+use Rattle.prover_quotients.specs.Tables.{AreGiven, HasProverDataOfSome}
+use Rattle.prover_quotients.proofs.ProverData.{main_here, permutation_here, preprocessed_here}
 
 module _ {S F E C D P R : Type 0} (b : Batch S F E C) (L : FieldsLaws b.setting.field b.setting.extension b.setting.two_adicity b.prover.inverse) (B : IsTracedAll b) (plain : b.setting.zk ≡ false)
     (w : Option F) (k : ProverBackend S F E C D P R) where
@@ -29,23 +29,23 @@ module _ {S F E C D P R : Type 0} (b : Batch S F E C) (L : FieldsLaws b.setting.
 
   module _ (challenges : List (List E)) (sums : List (Option E)) (drawn : challenges ≡ all_challenges b w) (ends : sums ≡ terminals b.setting b.prover b.statement b.traces b.degree_bits w) where
     own : (i : ℕ) → i < table_count b → get_or challenges i [] ≡ chosen i
-    own i lt = ap (λ l. get_or l i []) drawn ∙ get_or-table (table_count b) chosen i [] lt
+    own i lt = ap (λ l. get_or l i []) drawn ∙ get_or-tabulate (table_count b) chosen i [] lt
 
     pub are_given : (points : CosetData F → ℕ) (point_at : CosetData F → ℕ → F) (sizes : (d : CosetData F) → points d ≡ 2 ^ d.log_size)
         (at_points : (d : CosetData F) (i : ℕ) → point_at d i ≡ point b.setting.field.ring b.setting.field.root d i) (commits : List (CosetData F × Rows F) → C → Type 0)
         (preprocessed : Option D) (main : D) (permutation : Option D) → ((i : ℕ) → i < table_count b → HasColumns (declared (table_at b i)).preprocessed)
-        → IsKeptWith (λ es x. IsCommitment b.setting.field.ring points point_at commits k.made k.holds es x) (preprocessed_all b) b.statement.common.preprocessed preprocessed
+        → HasProverData (λ es x. IsCommitment b.setting.field.ring points point_at commits k.made k.holds es x) (preprocessed_all b) b.statement.common.preprocessed preprocessed
         → (commitment : C) × IsCommitment b.setting.field.ring points point_at commits k.made k.holds (main_matrices b) (commitment, main)
-        → KeepsSome (λ es x. IsCommitment b.setting.field.ring points point_at commits k.made k.holds es x) (all_permutations b w) permutation
+        → HasProverDataOfSome (λ es x. IsCommitment b.setting.field.ring points point_at commits k.made k.holds es x) (all_permutations b w) permutation
         → AreGiven b challenges k preprocessed main permutation sums
     are_given points point_at sizes at_points commits preprocessed main permutation has_columns kept_first kept_main kept_last = record {
-      challenges_long = ap length drawn ∙ length-table (table_count b) chosen;
-      terminals_long = ap length ends ∙ length-table (table_count b) _;
+      challenges_long = ap length drawn ∙ length-tabulate (table_count b) chosen;
+      terminals_long = ap length ends ∙ length-tabulate (table_count b) _;
       pairs = λ i lt. let e = ap length (own i lt) ∙ challenges_count b.setting b.prover b.statement b.traces b.degree_bits B w i lt in omega (arith, e);
       terminals_are = λ i lt.
           ap (λ l. get_or l i None) ends
-          ∙ (get_or-table (table_count b) (λ j. terminal_of b.setting b.prover (table_at b j) (chosen j)) i None lt
-          ∙ ap (terminal_of b.setting b.prover (table_at b i)) (sym (own i lt)));
+          ∙ (get_or-tabulate (table_count b) (λ j. honest_terminal b.setting b.prover (table_at b j) (chosen j)) i None lt
+          ∙ ap (honest_terminal b.setting b.prover (table_at b i)) (sym (own i lt)));
       held = λ i lt.
           subst (λ l. HoldsTable k (places_at b.statement.common i) preprocessed main permutation (committed_table b.setting b.prover (table_at b i) l)) (sym (own i lt))
           (record {
@@ -69,4 +69,4 @@ commitment_on r root points point_at commits made holds sizes places es x K = re
 pub columns_there : {A F : Type 0} (declaration : A → Declaration F) (trees : A → List (Tree F)) → ((a : A) → HasColumns (declaration a).preprocessed) → (airs : List A) (i : ℕ) → i < length (tables_of declaration trees airs)
     → HasColumns (get_or (tables_of declaration trees airs) i no_table).declaration.preprocessed
 columns_there {A} {F} declaration trees columns airs i l =
-    All-map (λ (t : Table F). HasColumns t.declaration.preprocessed) (λ (a : A). record { declaration = declaration a; trees = trees a }) airs (λ j a m. columns (get_or airs j a)) i no_table l
+    All-map (λ (t : AirTable F). HasColumns t.declaration.preprocessed) (λ (a : A). record { declaration = declaration a; trees = trees a }) airs (λ j a m. columns (get_or airs j a)) i no_table l

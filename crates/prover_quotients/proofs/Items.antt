@@ -2,8 +2,8 @@
 use Rattle.std.proofs.Common.{◌≡◌, ℕ, ◌+◌, ◌*◌, ◌<◌, ◌≤◌, List, [], length, map, get_or, Option, None, sym, ◌∙◌, ap, subst, arith}
 use Rattle.std.specs.Option.{option_map}
 use Rattle.std.proofs.lemmas.List.{get_or-map, length-map}
-use Rattle.p3_field.specs.Laws.Tables.{get_or-table, length-table}
-use Rattle.p3_field.specs.Poly.{table}
+use Rattle.p3_field.specs.Laws.Tabulate.{get_or-tabulate, length-tabulate}
+use Rattle.p3_field.specs.Poly.{tabulate}
 use Rattle.p3_matrix.specs.Matrix.{height}
 use Rattle.p3_air.specs.Shape.{Declaration}
 use Rattle.p3_air.specs.Tree.{Tree}
@@ -14,13 +14,13 @@ use Rattle.batch_setting.specs.Setting.{Setting, masks}
 use Rattle.batch_setup.specs.Setup.{Instance, airs_of, log_of}
 use Rattle.batch_shape_checks.specs.Laws.Items.{item_of_map}
 use Rattle.batch_shape_checks.specs.ShapeChecks.{no_table}
-use Rattle.batch_statement.specs.Statement.{Table, WrittenCommon, entry_of, tables_of}
-use Rattle.batch_validity.specs.Laws.Held.{lookups_declared}
+use Rattle.batch_statement.specs.Statement.{AirTable, WrittenCommon, entry_of, tables_of}
+use Rattle.batch_validity.specs.Laws.Holding.{lookups_declared}
 use Rattle.batch_validity.specs.Traced.{TracedTable, no_rows}
 use Rattle.committed_tables.specs.Fields.{FieldsLaws}
-use Rattle.honest_proofs.specs.HonestProof.{Prover, chunk_matrices, committed_table, terminal_of}
-use Rattle.prover_quotients.specs.Held.{HoldsTable}
-use Rattle.prover_quotients.specs.Places.{permutation_place, places_at}
+use Rattle.honest_proofs.specs.HonestProof.{Prover, chunk_matrices, committed_table, honest_terminal}
+use Rattle.prover_quotients.specs.ProverData.{HoldsTable}
+use Rattle.prover_quotients.specs.Places.{permutation_matrix_place, places_at}
 use Rattle.prover_quotients.specs.Tables.{AreGiven, IsTracedTable, chunks_by, table_of_instance}
 
 -- the item of a list that has one for each of n things, by its image
@@ -38,17 +38,17 @@ lookups_long {F = F} declaration trees instances lists long = sym (length-map li
 
 -- a table's place among those of the permutation columns
 pub place_at : {F C : Type 0} (view common : WrittenCommon F C) (seen : view ≡ common) (lists : List (List (Written F))) (same : lists ≡ view.lookups) (places : List (Option ℕ))
-    → places ≡ table (length lists) (permutation_place (map (read_all {F = F}) lists)) → (i n : ℕ) (x : Option ℕ) → x ≡ get_or places i x → length common.lookups ≡ n → i < n
-    → x ≡ permutation_place (map (read_all {F = F}) common.lookups) i
+    → places ≡ tabulate (length lists) (permutation_matrix_place (map (read_all {F = F}) lists)) → (i n : ℕ) (x : Option ℕ) → x ≡ get_or places i x → length common.lookups ≡ n → i < n
+    → x ≡ permutation_matrix_place (map (read_all {F = F}) common.lookups) i
 place_at {F} {C} view common seen lists same places are i n x is long lt =
     let all : lists ≡ common.lookups = same ∙ ap (λ (w : WrittenCommon F C). w.lookups) seen in
     let inside : i < length lists = let q = ap length all in omega (arith, q, long, lt) in
-    is ∙ (ap (λ l. get_or l i x) are ∙ (get_or-table (length lists) (permutation_place (map (read_all {F = F}) lists)) i x inside ∙ ap (λ l. permutation_place (map (read_all {F = F}) l) i) all))
+    is ∙ (ap (λ l. get_or l i x) are ∙ (get_or-tabulate (length lists) (permutation_matrix_place (map (read_all {F = F}) lists)) i x inside ∙ ap (λ l. permutation_matrix_place (map (read_all {F = F}) l) i) all))
 
 pub place_inside : {F C : Type 0} (view common : WrittenCommon F C) (seen : view ≡ common) (lists : List (List (Written F))) (same : lists ≡ view.lookups) (places : List (Option ℕ))
-    → places ≡ table (length lists) (permutation_place (map (read_all {F = F}) lists)) → (i n : ℕ) → length common.lookups ≡ n → i < n → i < length places
+    → places ≡ tabulate (length lists) (permutation_matrix_place (map (read_all {F = F}) lists)) → (i n : ℕ) → length common.lookups ≡ n → i < n → i < length places
 place_inside {F} {C} view common seen lists same places are i n long lt =
-    let q = ap length are ∙ (length-table (length lists) (permutation_place (map (read_all {F = F}) lists)) ∙ (ap length same ∙ ap (λ (w : WrittenCommon F C). length w.lookups) seen)) in
+    let q = ap length are ∙ (length-tabulate (length lists) (permutation_matrix_place (map (read_all {F = F}) lists)) ∙ (ap length same ∙ ap (λ (w : WrittenCommon F C). length w.lookups) seen)) in
     omega (arith, q, long, lt)
 
 module _ {S F E C A : Type 0} (c : Setting S F E C) (p : Prover F E C) (declaration : A → Declaration F) (trees : A → List (Tree F)) (instances : List (Instance A F)) (common : WrittenCommon F C) where
@@ -57,7 +57,7 @@ module _ {S F E C A : Type 0} (c : Setting S F E C) (p : Prover F E C) (declarat
 
   module _ (B : IsTracedAll b) (i : ℕ) (inside : i < length instances) (one : Instance A F) (is_one : one ≡ get_or instances i one)
       (view : WrittenCommon F C) (seen : view ≡ common) (lookups : List (Written F)) (is_list : lookups ≡ get_or view.lookups i lookups) where
-    abbrev made : A → Table F
+    abbrev made : A → AirTable F
     made a = record { declaration = declaration a; trees = trees a }
 
     abbrev t : TracedTable F
@@ -92,10 +92,10 @@ module _ {S F E C A : Type 0} (c : Setting S F E C) (p : Prover F E C) (declarat
           let g = G.pairs i below in
           omega (arith, n, m, g)
 
-      pub terminal_here : (terminal : Option E) → terminal ≡ get_or terminals i None → terminal ≡ terminal_of c p t drawn
-      terminal_here terminal is = is ∙ (G.terminals_are i below ∙ (λ j. terminal_of c p (table_here j) (sym are_drawn j)))
+      pub terminal_here : (terminal : Option E) → terminal ≡ get_or terminals i None → terminal ≡ honest_terminal c p t drawn
+      terminal_here terminal is = is ∙ (G.terminals_are i below ∙ (λ j. honest_terminal c p (table_here j) (sym are_drawn j)))
 
-      pub held_here : (first last : Option ℕ) → first ≡ option_map (λ e. e.matrix_index) (entry_of common.preprocessed i) → last ≡ permutation_place (map (read_all {F = F}) common.lookups) i
+      pub held_here : (first last : Option ℕ) → first ≡ option_map (λ e. e.matrix_index) (entry_of common.preprocessed i) → last ≡ permutation_matrix_place (map (read_all {F = F}) common.lookups) i
           → HoldsTable k (record { main = i; preprocessed = first; permutation = last }) preprocessed main permutation (committed_table c p t drawn)
       held_here first last at_first at_last =
           subst (λ x. HoldsTable k (record { main = i; preprocessed = x; permutation = last }) preprocessed main permutation (committed_table c p t drawn)) (sym at_first)

@@ -4,7 +4,7 @@ pub mod Shapes
 pub mod Valued
 pub mod Items
 pub mod Counted
-pub mod Kept
+pub mod ProverData
 pub mod Given
 pub mod Extended
 pub mod Verdicts

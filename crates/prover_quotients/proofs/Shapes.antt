@@ -7,17 +7,17 @@ use Rattle.p3_matrix.specs.Matrix.{Rows, height}
 use Rattle.p3_air.specs.Shape.{width_of}
 use Rattle.p3_commit.specs.Commitments.{IsEvaluated}
 use Rattle.batch_quotient.specs.Evaluations.{EvaluatedSome, IsReadOn}
-use Rattle.batch_quotient.specs.QuotientRows.{permutation_columns as columns_for}
+use Rattle.batch_quotient.specs.QuotientRows.{permutation_column_count as columns_for}
 use Rattle.batch_quotient.specs.Laws.Given.{evaluated_along, evaluated_tall}
 use Rattle.batch_setting.specs.Setting.{Setting}
 use Rattle.batch_shape_checks.specs.ShapeChecks.{permutation_width}
-use Rattle.committed_tables.specs.Committed.{CommittedTable, rows_of}
+use Rattle.committed_tables.specs.Committed.{CommittedTable, row_count_of}
 use Rattle.committed_tables.specs.Fields.{FieldsLaws}
 use Rattle.committed_tables.specs.Rows.{InterpolateSome}
 use Rattle.batch_validity.specs.Traced.{TracedTable, declared}
 use Rattle.honest_acceptance.specs.Laws.Lengths.{honest_commits, permutation_count}
-use Rattle.honest_proofs.specs.HonestProof.{Prover, committed_table, terminal_of, where_some}
-use Rattle.prover_quotients.specs.Held.{AreSomeValues, AreValues, HaveValues}
+use Rattle.honest_proofs.specs.HonestProof.{Prover, committed_table, honest_terminal, where_some}
+use Rattle.prover_quotients.specs.ProverData.{AreSomeValues, AreValuesOf, HaveTableValues}
 use Rattle.prover_quotients.specs.Tables.{IsTracedTable}
 use Rattle.prover_quotients.specs.declared.columns.TableColumns.{TableColumns}
 
@@ -32,7 +32,7 @@ follows_both (Err e) P Q R h i k = h
 
 -- values that a backend gives at the points of its domain
 pub values_are : {F : Type 0} (f : TwoAdic F) (d : CosetData F) (points size : ℕ) (point_at : ℕ → F) (polynomials : List (List F)) (m : Rows F) → points ≡ 2 ^ d.log_size → ((i : ℕ) → point_at i ≡ point f.ring f.root d i)
-    → 0 < length polynomials → IsEvaluated f.ring points point_at (record { size = size; polynomials = polynomials }) m → AreValues f d polynomials m
+    → 0 < length polynomials → IsEvaluated f.ring points point_at (record { size = size; polynomials = polynomials }) m → AreValuesOf f d polynomials m
 values_are f d points size point_at polynomials m count at some I = record {
   evaluated = λ n. evaluated_along f.ring points (2 ^ d.log_size) point_at (point f.ring f.root d) (record { size = size; polynomials = polynomials }) n m count at I;
   tall = evaluated_tall f.ring points point_at (record { size = size; polynomials = polynomials }) m I (let w = I.width_is in omega (arith, w, some)) ∙ count;
@@ -65,7 +65,7 @@ terminal_there [] x h = absurd (omega (arith, h))
 terminal_there (l ∷ ls) x h = omega arith
 
 module _ {S F E C : Type 0} (c : Setting S F E C) (p : Prover F E C) (t : TracedTable F) (challenges : List E)
-    (L : FieldsLaws c.field c.extension c.two_adicity p.inverse) (T : IsTracedTable c t) (d : CosetData F) (v : TableColumns F) (H : HaveValues c.field d (committed_table c p t challenges) v) where
+    (L : FieldsLaws c.field c.extension c.two_adicity p.inverse) (T : IsTracedTable c t) (d : CosetData F) (v : TableColumns F) (H : HaveTableValues c.field d (committed_table c p t challenges) v) where
   abbrev k : CommittedTable F E
   k = committed_table c p t challenges
 
@@ -89,7 +89,7 @@ module _ {S F E C : Type 0} (c : Setting S F E C) (p : Prover F E C) (t : Traced
   permutation_tall = values_tall c.field d k.permutation v.permutation H.permutation_values
 
   -- it is what the table commits to
-  pub columns_read : (publics : List F) (terminals : List E) → t.publics ≡ publics → option_to_list (terminal_of c p t challenges) ≡ terminals
+  pub columns_read : (publics : List F) (terminals : List E) → t.publics ≡ publics → option_to_list (honest_terminal c p t challenges) ≡ terminals
       → IsReadOn c.field k d (record {
         main = v.main;
         preprocessed = v.preprocessed;
@@ -101,9 +101,9 @@ module _ {S F E C : Type 0} (c : Setting S F E C) (p : Prover F E C) (t : Traced
       })
   unfolding committed_table
   columns_read publics terminals own sum = record {
-    main = H.main_values.evaluated (rows_of k);
-    preprocessed = some_read c.field d (rows_of k) k.preprocessed v.preprocessed H.preprocessed_values;
-    permutation = some_read c.field d (rows_of k) k.permutation v.permutation H.permutation_values;
+    main = H.main_values.evaluated (row_count_of k);
+    preprocessed = some_read c.field d (row_count_of k) k.preprocessed v.preprocessed H.preprocessed_values;
+    permutation = some_read c.field d (row_count_of k) k.permutation v.permutation H.permutation_values;
     public_values = own;
     periodic = refl;
     challenges = refl;
@@ -111,6 +111,6 @@ module _ {S F E C : Type 0} (c : Setting S F E C) (p : Prover F E C) (t : Traced
   }
 
 -- a table with lookups has a terminal
-pub has_terminal : {S F E C : Type 0} (c : Setting S F E C) (p : Prover F E C) (t : TracedTable F) (challenges : List E) → 0 < length t.lookups → 0 < length (option_to_list (terminal_of c p t challenges))
-unfolding terminal_of
+pub has_terminal : {S F E C : Type 0} (c : Setting S F E C) (p : Prover F E C) (t : TracedTable F) (challenges : List E) → 0 < length t.lookups → 0 < length (option_to_list (honest_terminal c p t challenges))
+unfolding honest_terminal
 has_terminal c p t challenges some = terminal_there t.lookups _ some

@@ -12,14 +12,14 @@ use Rattle.p3_commit.specs.Periodic.{IsPeriod}
 use Rattle.p3_lookup.specs.Written.{Written, read, read_all}
 use Rattle.batch_constraints.specs.BatchTrees.{table_trees}
 use Rattle.batch_quotient.specs.Evaluations.{Evaluations, IsReadOn, quotient_values_on}
-use Rattle.batch_quotient.specs.QuotientRows.{permutation_columns as columns_for}
+use Rattle.batch_quotient.specs.QuotientRows.{permutation_column_count as columns_for}
 use Rattle.batch_setting.specs.Setting.{Setting}
 use Rattle.batch_setup.specs.Setup.{Instance}
 use Rattle.committed_tables.specs.Committed.{CommittedTable}
 use Rattle.committed_tables.specs.Fields.{FieldsLaws}
 use Rattle.batch_validity.specs.Traced.{TracedTable, constraints, log_rows}
-use Rattle.honest_proofs.specs.HonestProof.{Prover, committed_table, terminal_of}
-use Rattle.prover_quotients.specs.Held.{HaveValues}
+use Rattle.honest_proofs.specs.HonestProof.{Prover, committed_table, honest_terminal}
+use Rattle.prover_quotients.specs.ProverData.{HaveTableValues}
 use Rattle.prover_quotients.specs.Tables.{IsTracedTable, table_of_instance}
 use Rattle.prover_quotients.specs.declared.columns.TableColumns.{TableColumns}
 use Rattle.prover_quotients.proofs.Shapes.{columns_read, has_terminal, main_wide, permutation_wide, preprocessed_wide}
@@ -41,15 +41,15 @@ module _ {S F E C A : Type 0} (c : Setting S F E C) (p : Prover F E C) (declarat
   own = subst (λ x. IsTracedTable c (table_of x)) (sym same) T
 
   -- where there are lookups there is a terminal
-  pub terminals_here : (ls : List (Written F)) (sums : List E) → ls ≡ lookups → sums ≡ option_to_list (terminal_of c p (table_of j) challenges) → 0 < length ls → 0 < length sums
+  pub terminals_here : (ls : List (Written F)) (sums : List E) → ls ≡ lookups → sums ≡ option_to_list (honest_terminal c p (table_of j) challenges) → 0 < length ls → 0 < length sums
   terminals_here ls sums all ends some =
       let reads : length (read_all lookups) ≡ length ls = length-map lookups (read {F = F}) ∙ sym (ap length all) in
       let there : 0 < length (read_all lookups) = omega (arith, reads, some) in
       subst (λ (l : List E). 0 < length l) (sym ends) (has_terminal c p (table_of j) challenges there)
 
-  module _ (d : CosetData F) (v : TableColumns F) (H : HaveValues c.field d (committed_table c p (table_of j) challenges) v) where
-    values : HaveValues c.field d (committed_table c p (table_of i) challenges) v
-    values = subst (λ x. HaveValues c.field d (committed_table c p (table_of x) challenges) v) (sym same) H
+  module _ (d : CosetData F) (v : TableColumns F) (H : HaveTableValues c.field d (committed_table c p (table_of j) challenges) v) where
+    values : HaveTableValues c.field d (committed_table c p (table_of i) challenges) v
+    values = subst (λ x. HaveTableValues c.field d (committed_table c p (table_of x) challenges) v) (sym same) H
 
     pub main_here : v.main.width ≡ (declaration i.air).width
     main_here = main_wide c p (table_of i) challenges L own d v values
@@ -65,7 +65,7 @@ module _ {S F E C A : Type 0} (c : Setting S F E C) (p : Prover F E C) (declarat
 
     -- what is given is read on the table, whose quotient's values follow
     pub values_here : (rows : CosetData F) (m n : Option (Bor (Rows F))) (ls : List (Written F)) (publics : List F) (sums : List E) (alpha : E) (items : List E)
-        → publics ≡ i.public_values → option_copied m ≡ v.permutation → option_copied n ≡ v.preprocessed → ls ≡ lookups → sums ≡ option_to_list (terminal_of c p (table_of j) challenges) → rows.log_size ≡ log_rows c (table_of j)
+        → publics ≡ i.public_values → option_copied m ≡ v.permutation → option_copied n ≡ v.preprocessed → ls ≡ lookups → sums ≡ option_to_list (honest_terminal c p (table_of j) challenges) → rows.log_size ≡ log_rows c (table_of j)
         → ((k : CommittedTable F E) → k.log_height ≡ rows.log_size
         → IsReadOn c.field k d (record {
           main = v.main;
@@ -81,7 +81,7 @@ module _ {S F E C A : Type 0} (c : Setting S F E C) (p : Prover F E C) (declarat
     unfolding committed_table
     values_here rows m n ls publics sums alpha items own_values first second all ends size given =
         let k = committed_table c p (table_of i) challenges in
-        let sum_here : option_to_list (terminal_of c p (table_of i) challenges) ≡ sums = ap (λ x. option_to_list (terminal_of c p (table_of x) challenges)) same ∙ sym ends in
+        let sum_here : option_to_list (honest_terminal c p (table_of i) challenges) ≡ sums = ap (λ x. option_to_list (honest_terminal c p (table_of x) challenges)) same ∙ sym ends in
         let reading : Option (Rows F) → Option (Rows F) → Evaluations F E = λ a b. record {
           main = v.main;
           preprocessed = a;

@@ -3,13 +3,13 @@ use Rattle.std.proofs.Common.{◌≡◌, ℕ, zero, suc, ◌^◌, ◌<◌, List,
 use Rattle.std.specs.Result.{IsErrAnd}
 use Rattle.p3_field.specs.Checks.{Check, FirstFails, NoneFails, in_turn}
 use Rattle.p3_field.specs.Laws.Checks.{first_after, first_parted, first_stops, none_append, none_at, none_of_each}
-use Rattle.p3_field.specs.Laws.Tables.{get_or-table}
+use Rattle.p3_field.specs.Laws.Tabulate.{get_or-tabulate}
 use Rattle.p3_matrix.specs.Matrix.{Rows}
 use Rattle.p3_commit.specs.Commitments.{AreExtensions}
 use Rattle.p3_commit.specs.Failure.{NoneOf}
 use Rattle.batch_proving.specs.Backend.{ProverBackend}
 use Rattle.batch_proving.specs.Batch.{Batch, all_challenges, all_chunks, chunks_of, folding, log_parts_at, table_at, table_count}
-use Rattle.batch_proving.specs.Laws.Verdicts.{answer_along, answer_before, answer_behind, answer_exits, refusal_along, refusal_is}
+use Rattle.batch_proving.specs.Laws.Verdicts.{answer_along, answer_before, answer_past, answer_exits, refusal_along, refusal_is}
 use Rattle.batch_proving.specs.Proving.{IsPairGroundOf, IsPcsRefusal, extension_part, quotient_part}
 use Rattle.batch_proving.specs.Verdict.{FirstRefused, IsProverAnswer, IsProverRefusal, IsProverVerdict}
 use Rattle.batch_proving.specs.declared.error.ProvingError.{ProvingError}
@@ -40,7 +40,7 @@ module _ {S F E C D P R : Type 0} (k : ProverBackend S F E C D P R) (b : Batch S
   same_chunks v H i l =
       let one = one_lookup b.setting b.prover b.statement b.traces b.degree_bits K v w H G in
       let own : get_or challenges i [] ≡ challenges_at b.setting b.prover b.statement b.traces b.degree_bits w i =
-      ap (λ ls. get_or ls i []) drawn ∙ get_or-table (table_count b) (challenges_at b.setting b.prover b.statement b.traces b.degree_bits w) i [] l in
+      ap (λ ls. get_or ls i []) drawn ∙ get_or-tabulate (table_count b) (challenges_at b.setting b.prover b.statement b.traces b.degree_bits w) i [] l in
       (λ j. chunks_of b (one j) i) ∙ (λ j. chunk_matrices b.setting b.prover (table_at b i) (sym own j) (sym folds j))
 
   none_here : (i : ℕ) → i < table_count b → NoneFails (extending_at k b challenges alpha i) → NoneFails (extension_part k b i)
@@ -105,4 +105,4 @@ module _ {S F E C D P R : Type 0} (k : ProverBackend S F E C D P R) (b : Batch S
   answer_granted n ldes (Ok t) many none A v = none_append (in_turn (table_count b) (extension_part k b)) (quotient_part k b) (none_of_all n many none) (committed_granted ldes A v)
   answer_granted n ldes (Err e) many none A v =
       let xs = in_turn (table_count b) (extension_part k b) in
-      answer_behind xs (quotient_part k b) e (none_of_all n many none) (answer_along (committing k ldes) (quotient_part k b) e (committed_refused ldes A) (refusal_is (committing k ldes) e v))
+      answer_past xs (quotient_part k b) e (none_of_all n many none) (answer_along (committing k ldes) (quotient_part k b) e (committed_refused ldes A) (refusal_is (committing k ldes) e v))

@@ -1,5 +1,5 @@
 pub mod Places
-pub mod Held
+pub mod ProverData
 pub mod Tables
 pub mod Asked
 pub mod Laws

@@ -6,14 +6,14 @@ use Rattle.batch_shape_checks.specs.ShapeChecks.{has_some}
 use Rattle.batch_statement.specs.Statement.{Common, entry_of}
 use Rattle.prover_quotients.specs.declared.places.Places.{Places}
 
--- the permutation columns of table i stand behind those of the tables before it that have lookups; without lookups it has none
-abbrev pub permutation_place : {F : Type 0} → List (List (LookupData F)) → ℕ → Option ℕ
-permutation_place lookups i = cond (has_some (get_or lookups i [])) (Some (count_by has_some (take i lookups))) None
+-- the permutation columns of table i stand after those of the tables before it that have lookups; without lookups it has none
+abbrev pub permutation_matrix_place : {F : Type 0} → List (List (LookupData F)) → ℕ → Option ℕ
+permutation_matrix_place lookups i = cond (has_some (get_or lookups i [])) (Some (count_by has_some (take i lookups))) None
 
 -- the preprocessed columns stand where the table's entry says
 abbrev pub places_at : {F C : Type 0} → Common F C → ℕ → Places
 places_at common i = record {
   main = i;
   preprocessed = option_map (λ e. e.matrix_index) (entry_of common.preprocessed i);
-  permutation = permutation_place common.lookups i;
+  permutation = permutation_matrix_place common.lookups i;
 }

@@ -3,7 +3,7 @@ use Rattle.std.specs.Prelude.{slice_index_or as get_or}
 use Rattle.std.specs.Prelude.{◌≡◌, ℕ, ◌+◌, ◌*◌, ◌<◌, ◌≤◌, List, [], ◌∷◌, length, Option, None, Some}
 use Rattle.std.specs.List.{flat_map}
 use Rattle.p3_field.specs.Domain.{CosetData}
-use Rattle.p3_field.specs.Poly.{table}
+use Rattle.p3_field.specs.Poly.{tabulate}
 use Rattle.p3_matrix.specs.Matrix.{Rows, height}
 use Rattle.p3_air.specs.Shape.{Declaration}
 use Rattle.p3_air.specs.Tree.{Tree}
@@ -14,10 +14,10 @@ use Rattle.batch_setup.specs.Setup.{Instance, log_of}
 use Rattle.committed_tables.specs.Committed.{CommittedTable}
 use Rattle.batch_validity.specs.Traced.{TracedTable, declared}
 use Rattle.batch_validity.specs.Valid.{HasQuotientDomain, IsTraced}
-use Rattle.honest_proofs.specs.HonestProof.{chunk_matrices, committed_table, terminal_of}
+use Rattle.honest_proofs.specs.HonestProof.{chunk_matrices, committed_table, honest_terminal}
 use Rattle.batch_proving.specs.Backend.{ProverBackend}
 use Rattle.batch_proving.specs.Batch.{Batch, table_at, table_count}
-use Rattle.prover_quotients.specs.Held.{HoldsTable}
+use Rattle.prover_quotients.specs.ProverData.{HoldsTable}
 use Rattle.prover_quotients.specs.Places.{places_at}
 
 -- the table of an instance with these lookups
@@ -47,20 +47,20 @@ module _ {S F E C : Type 0} (b : Batch S F E C) (challenges : List (List E)) whe
 
   -- those of the first n tables
   abbrev pub chunks_below : E → ℕ → List (CosetData F × Rows F)
-  chunks_below alpha n = flat_map (chunks_by alpha) (table n (λ i. i))
+  chunks_below alpha n = flat_map (chunks_by alpha) (tabulate n (λ i. i))
 
-  -- What is given when the quotients are made: for each table two challenges for each of its lookups, its terminal, and what the backend keeps of
+  -- What is given when the quotients are made: for each table two challenges for each of its lookups, its terminal, and the prover data of
   -- its columns.
   pub record AreGiven {D P R : Type 0} (k : ProverBackend S F E C D P R) (preprocessed : Option D) (main : D) (permutation : Option D) (terminals : List (Option E)) : Type 0 where
     pub challenges_long : length challenges ≡ table_count b
     pub terminals_long : length terminals ≡ table_count b
     pub pairs : (i : ℕ) → i < table_count b → 2 * length (table_at b i).lookups ≤ length (get_or challenges i [])
-    pub terminals_are : (i : ℕ) → i < table_count b → get_or terminals i None ≡ terminal_of b.setting b.prover (table_at b i) (get_or challenges i [])
+    pub terminals_are : (i : ℕ) → i < table_count b → get_or terminals i None ≡ honest_terminal b.setting b.prover (table_at b i) (get_or challenges i [])
     pub held : (i : ℕ) → i < table_count b → HoldsTable k (places_at b.statement.common i) preprocessed main permutation (committed_by i)
 
--- prover data is kept of matrices, where there are some, beside a commitment to them
-abbrev pub KeepsSome : {M C D : Type 0} → (List M → C × D → Type 0) → List M → Option D → Type 0
-KeepsSome commits [] None = Unit {0}
-KeepsSome commits [] (Some d) = ⊥
-KeepsSome commits (m ∷ ms) None = ⊥
-KeepsSome {M} {C} {D} commits (m ∷ ms) (Some d) = (commitment : C) × commits (m ∷ ms) (commitment, d)
+-- there is prover data of matrices, where there are some, beside a commitment to them
+abbrev pub HasProverDataOfSome : {M C D : Type 0} → (List M → C × D → Type 0) → List M → Option D → Type 0
+HasProverDataOfSome commits [] None = Unit {0}
+HasProverDataOfSome commits [] (Some d) = ⊥
+HasProverDataOfSome commits (m ∷ ms) None = ⊥
+HasProverDataOfSome {M} {C} {D} commits (m ∷ ms) (Some d) = (commitment : C) × commits (m ∷ ms) (commitment, d)

@@ -8,12 +8,12 @@ ghost use Rattle.p3_field.specs.Domain.{CosetData};
 ghost use Rattle.p3_matrix.specs.Matrix.{Rows};
 ghost use Rattle.std.specs.Prelude.{List};
 ghost use Rattle.honest_proofs.specs.HonestProof.{terminals as honest_terminals};
-ghost use Rattle.batch_proving.specs.Batch.{IsKeptWith, IsTracedAll, all_challenges, all_chunks, all_permutations, batch_of, folding, log_parts_at, main_matrices, preprocessed_all, table_count};
+ghost use Rattle.batch_proving.specs.Batch.{HasProverData, IsTracedAll, all_challenges, all_chunks, all_permutations, batch_of, folding, log_parts_at, main_matrices, preprocessed_all, table_count};
 ghost use Rattle.batch_proving.specs.Proving.{IsPairGroundOf, extension_part, quotient_part};
 ghost use Rattle.batch_proving.specs.Verdict.{IsProverAnswer, IsProverVerdict};
 ghost use Rattle.prover_quotients.specs.Asked.{committing, extending, extending_at};
-ghost use Rattle.prover_quotients.specs.Places.{permutation_place};
-ghost use Rattle.prover_quotients.specs.Tables.{AreGiven, KeepsSome, chunks_below, chunks_by};
+ghost use Rattle.prover_quotients.specs.Places.{permutation_matrix_place};
+ghost use Rattle.prover_quotients.specs.Tables.{AreGiven, HasProverDataOfSome, chunks_below, chunks_by};
 
 use crate::places::{Places, permutation_places, preprocessed_place};
 use crate::table::table_chunks;
@@ -51,9 +51,10 @@ fn chunks_at<SC: StarkGenericConfig, A: Air<Val<SC>>>(
     requires traced { let b = batch_of (⟦<SC as Settings>⟧.setting config.now) (⟦<SC as ProverSettings>⟧.prover config.now) A.declaration A.trees instances.now common.now in
         IsTracedAll b }
     requires given { let b = batch_of (⟦<SC as Settings>⟧.setting config.now) (⟦<SC as ProverSettings>⟧.prover config.now) A.declaration A.trees instances.now common.now in
-        AreGiven b (map (λ v. v.items) challenges.now) (⟦<SC as ProverSettings>⟧.prover_backend config.now) (option_map (λ d. d.now) preprocessed) main.now (option_map (λ d. d.now) permutation) (map (option_map (λ t. t.0)) terminals.now) }
+        AreGiven b (map (λ v. v.items) challenges.now) (⟦<SC as ProverSettings>⟧.prover_backend config.now) (option_map (λ d. d.now) preprocessed) main.now
+        (option_map (λ d. d.now) permutation) (map (option_map (λ t. t.0)) terminals.now) }
     requires index { index < length instances.now }
-    requires place { place ≡ permutation_place (map read_all common.now.lookups) index }
+    requires place { place ≡ permutation_matrix_place (map read_all common.now.lookups) index }
     ensures { let b = batch_of (⟦<SC as Settings>⟧.setting config.now) (⟦<SC as ProverSettings>⟧.prover config.now) A.declaration A.trees instances.now common.now in
         IfOk result (λ v. v.items ≡ chunks_by b (map (λ v. v.items) challenges.now) alpha index) }
 {
@@ -117,9 +118,10 @@ fn extensions_at<SC: StarkGenericConfig, A: Air<Val<SC>>>(
     requires traced { let b = batch_of (⟦<SC as Settings>⟧.setting config.now) (⟦<SC as ProverSettings>⟧.prover config.now) A.declaration A.trees instances.now common.now in
         IsTracedAll b }
     requires given { let b = batch_of (⟦<SC as Settings>⟧.setting config.now) (⟦<SC as ProverSettings>⟧.prover config.now) A.declaration A.trees instances.now common.now in
-        AreGiven b (map (λ v. v.items) challenges.now) (⟦<SC as ProverSettings>⟧.prover_backend config.now) (option_map (λ d. d.now) preprocessed) main.now (option_map (λ d. d.now) permutation) (map (option_map (λ t. t.0)) terminals.now) }
+        AreGiven b (map (λ v. v.items) challenges.now) (⟦<SC as ProverSettings>⟧.prover_backend config.now) (option_map (λ d. d.now) preprocessed) main.now
+        (option_map (λ d. d.now) permutation) (map (option_map (λ t. t.0)) terminals.now) }
     requires index { index < length instances.now }
-    requires place { place ≡ permutation_place (map read_all common.now.lookups) index }
+    requires place { place ≡ permutation_matrix_place (map read_all common.now.lookups) index }
     ensures verdict { let b = batch_of (⟦<SC as Settings>⟧.setting config.now) (⟦<SC as ProverSettings>⟧.prover config.now) A.declaration A.trees instances.now common.now in
         IsProverVerdict (extending_at (⟦<SC as ProverSettings>⟧.prover_backend config.now) b (map (λ v. v.items) challenges.now) alpha index) result }
     ensures extensions { let b = batch_of (⟦<SC as Settings>⟧.setting config.now) (⟦<SC as ProverSettings>⟧.prover config.now) A.declaration A.trees instances.now common.now in
@@ -160,7 +162,8 @@ fn all_extensions<SC: StarkGenericConfig, A: Air<Val<SC>>>(
     requires traced { let b = batch_of (⟦<SC as Settings>⟧.setting config.now) (⟦<SC as ProverSettings>⟧.prover config.now) A.declaration A.trees instances.now common.now in
         IsTracedAll b }
     requires given { let b = batch_of (⟦<SC as Settings>⟧.setting config.now) (⟦<SC as ProverSettings>⟧.prover config.now) A.declaration A.trees instances.now common.now in
-        AreGiven b (map (λ v. v.items) challenges.now) (⟦<SC as ProverSettings>⟧.prover_backend config.now) (option_map (λ d. d.now) preprocessed) main.now (option_map (λ d. d.now) permutation) (map (option_map (λ t. t.0)) terminals.now) }
+        AreGiven b (map (λ v. v.items) challenges.now) (⟦<SC as ProverSettings>⟧.prover_backend config.now) (option_map (λ d. d.now) preprocessed) main.now
+        (option_map (λ d. d.now) permutation) (map (option_map (λ t. t.0)) terminals.now) }
     ensures verdict { let b = batch_of (⟦<SC as Settings>⟧.setting config.now) (⟦<SC as ProverSettings>⟧.prover config.now) A.declaration A.trees instances.now common.now in
         IsProverVerdict (in_turn (length instances.now) (extending_at (⟦<SC as ProverSettings>⟧.prover_backend config.now) b (map (λ v. v.items) challenges.now) alpha)) result }
     ensures extensions { let b = batch_of (⟦<SC as Settings>⟧.setting config.now) (⟦<SC as ProverSettings>⟧.prover config.now) A.declaration A.trees instances.now common.now in
@@ -188,7 +191,7 @@ fn all_extensions<SC: StarkGenericConfig, A: Air<Val<SC>>>(
     Ok(ldes)
 }
 
-// The commitment to these extensions, and what the backend keeps.
+// The commitment to these extensions, and its prover data.
 #[tactic(auto, unfolding(p3_field::specs::Checks::NoneFails, p3_field::specs::Checks::FirstFails))]
 fn committed<SC: StarkGenericConfig>(
     alloc: Global,
@@ -197,7 +200,9 @@ fn committed<SC: StarkGenericConfig>(
 ) -> Result<(Commitment<SC>, Committed<SC>), ProvingError<PcsProverError<SC>>>
     ensures verdict { IsProverVerdict (committing (⟦<SC as ProverSettings>⟧.prover_backend config.now) ldes.items) result }
     ensures committed { IfOk result (λ w. (chunks : List (CosetData SC.Val × Rows SC.Val)) → AreExtensions (SC.Pcs.extends (SC.pcs_of config.now)) chunks ldes.items
-        → IsCommitment SC.Val.ring ⟦<<SC::Pcs as Pcs<SC::Challenge, SC::Challenger>>::Domain as PolynomialSpace>⟧.points ⟦<<SC::Pcs as Pcs<SC::Challenge, SC::Challenger>>::Domain as PolynomialSpace>⟧.point_at (SC.Pcs.commits (SC.pcs_of config.now)) (SC.Pcs.made (SC.pcs_of config.now)) (SC.Pcs.holds (SC.pcs_of config.now)) chunks w) }
+        → IsCommitment SC.Val.ring ⟦<<SC::Pcs as Pcs<SC::Challenge, SC::Challenger>>::Domain as PolynomialSpace>⟧.points
+        ⟦<<SC::Pcs as Pcs<SC::Challenge, SC::Challenger>>::Domain as PolynomialSpace>⟧.point_at (SC.Pcs.commits (SC.pcs_of config.now))
+        (SC.Pcs.made (SC.pcs_of config.now)) (SC.Pcs.holds (SC.pcs_of config.now)) chunks w) }
 {
     match config.pcs().commit_ldes(alloc, ldes) {
         Ok(kept) => Ok(kept),
@@ -209,9 +214,10 @@ fn committed<SC: StarkGenericConfig>(
     }
 }
 
-/// The commitment to the quotients' chunks of a batch, with what the backend keeps of them (own; a part of `prove_batch` of `p3-batch-stark`):
-/// table by table the values of its columns on the domain of its quotient, the values there of the quotient, which are split in chunks, and
-/// their extensions; and one commitment to all. The chunks are those of the honest quotients, in the order of the tables (`committed`).
+/// The commitment to the quotients' chunks of a batch, with the prover data of them (not in Plonky3; a part of `prove_batch` of
+/// `p3-batch-stark`): table by table the values of its columns on the domain of its quotient, the values there of the quotient, which are split
+/// in chunks, and their extensions; and one commitment to all. The chunks are those of the honest quotients, in the order of the tables
+/// (`committed`).
 ///
 /// The batch is traced, and nothing is masked. What is kept of the preprocessed traces and of the traces is that of commitments to them, and so
 /// is what is kept of the permutation columns, where there are some. The challenges of the tables' lookups, the terminals and `alpha` are those
@@ -236,13 +242,14 @@ pub fn commit_quotients<SC: StarkGenericConfig, A: Air<Val<SC>>>(
     requires traced { let b = batch_of (⟦<SC as Settings>⟧.setting config.now) (⟦<SC as ProverSettings>⟧.prover config.now) A.declaration A.trees instances.now common.now in
         IsTracedAll b }
     requires preprocessed { let b = batch_of (⟦<SC as Settings>⟧.setting config.now) (⟦<SC as ProverSettings>⟧.prover config.now) A.declaration A.trees instances.now common.now in
-        IsKeptWith (⟦<SC as ProverSettings>⟧.commits_to config.now)
+        HasProverData (⟦<SC as ProverSettings>⟧.commits_to config.now)
         (preprocessed_all b) b.statement.common.preprocessed (option_map (λ d. d.now) preprocessed) }
     requires main { let b = batch_of (⟦<SC as Settings>⟧.setting config.now) (⟦<SC as ProverSettings>⟧.prover config.now) A.declaration A.trees instances.now common.now in
         (commitment : SC.Pcs.Commitment) × ⟦<SC as ProverSettings>⟧.commits_to config.now (main_matrices b) (commitment, main.now) }
     requires drawn { let b = batch_of (⟦<SC as Settings>⟧.setting config.now) (⟦<SC as ProverSettings>⟧.prover config.now) A.declaration A.trees instances.now common.now in
-        (w : Option SC.Val) × IsPairGroundOf b w × (map (λ v. v.items) challenges.now ≡ all_challenges b w) × (map (option_map (λ t. t.0)) terminals.now ≡ honest_terminals b.setting b.prover b.statement b.traces b.degree_bits w) × (alpha ≡ folding b w)
-        × KeepsSome (⟦<SC as ProverSettings>⟧.commits_to config.now)
+        (w : Option SC.Val) × IsPairGroundOf b w × (map (λ v. v.items) challenges.now ≡ all_challenges b w)
+        × (map (option_map (λ t. t.0)) terminals.now ≡ honest_terminals b.setting b.prover b.statement b.traces b.degree_bits w) × (alpha ≡ folding b w)
+        × HasProverDataOfSome (⟦<SC as ProverSettings>⟧.commits_to config.now)
         (all_permutations b w) (option_map (λ d. d.now) permutation) }
     ensures verdict { let b = batch_of (⟦<SC as Settings>⟧.setting config.now) (⟦<SC as ProverSettings>⟧.prover config.now) A.declaration A.trees instances.now common.now in
         let k = ⟦<SC as ProverSettings>⟧.prover_backend config.now in

@@ -1,8 +1,8 @@
-//! The values of a table's columns on a domain, from what the backend keeps.
+//! The values of a table's columns on a domain, from the prover data.
 ghost use Rattle.std.specs.Prelude.{◌≡◌, ℕ, IfOk, List};
 ghost use Rattle.std.specs.Option.{option_map};
 ghost use Rattle.committed_tables.specs.Committed.{CommittedTable};
-ghost use Rattle.prover_quotients.specs.Held.{AreSomeValues, AreValues, HaveValues, HoldsAt, HoldsSome, HoldsTable};
+ghost use Rattle.prover_quotients.specs.ProverData.{AreSomeValues, AreValuesOf, HaveTableValues, HoldsAt, HoldsSome, HoldsTable};
 
 use crate::places::Places;
 use batch_proving::ProverSettings;
@@ -38,7 +38,7 @@ fn values_on<SC: StarkGenericConfig>(
 ) -> Mem<RowMajorMatrix<Val<SC>>>
     requires { (polynomials : List (List SC.Val)) × HoldsAt (⟦<SC as ProverSettings>⟧.prover_backend config.now) held.now index polynomials }
     ensures { IfOk result (λ m. (polynomials : List (List SC.Val)) → HoldsAt (⟦<SC as ProverSettings>⟧.prover_backend config.now) held.now index polynomials
-        → AreValues (⟦<SC as Settings>⟧.setting config.now).field domain polynomials m) }
+        → AreValuesOf (⟦<SC as Settings>⟧.setting config.now).field domain polynomials m) }
 {
     config
         .pcs()
@@ -69,7 +69,7 @@ fn some_values_on<SC: StarkGenericConfig>(
     }
 }
 
-// The values on a domain of the columns of the table whose matrices stand at these places in what the backend keeps.
+// The values on a domain of the columns of the table whose matrices stand at these places in the prover data.
 pub(crate) fn columns_on<SC: StarkGenericConfig>(
     alloc: Global,
     config: &SC,
@@ -79,10 +79,11 @@ pub(crate) fn columns_on<SC: StarkGenericConfig>(
     places: Places,
     domain: Domain<SC>,
 ) -> Mem<TableColumns<Val<SC>>>
-    requires { (t : CommittedTable SC.Val SC.Challenge) × HoldsTable (⟦<SC as ProverSettings>⟧.prover_backend config.now) places (option_map (λ d. d.now) preprocessed) main.now (option_map (λ d. d.now) permutation) t }
+    requires { (t : CommittedTable SC.Val SC.Challenge)
+        × HoldsTable (⟦<SC as ProverSettings>⟧.prover_backend config.now) places (option_map (λ d. d.now) preprocessed) main.now (option_map (λ d. d.now) permutation) t }
     ensures { IfOk result (λ v. (t : CommittedTable SC.Val SC.Challenge)
         → HoldsTable (⟦<SC as ProverSettings>⟧.prover_backend config.now) places (option_map (λ d. d.now) preprocessed.entry) main.now (option_map (λ d. d.now) permutation.entry) t
-        → HaveValues (⟦<SC as Settings>⟧.setting config.now).field domain t v) }
+        → HaveTableValues (⟦<SC as Settings>⟧.setting config.now).field domain t v) }
 {
     let main = values_on(alloc, config, main, places.main, domain)?;
     let preprocessed = some_values_on(alloc, config, preprocessed, places.preprocessed, domain)?;

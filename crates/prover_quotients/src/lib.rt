@@ -2,7 +2,7 @@
 //! point. After Plonky3's `p3-batch-stark` (`prove_batch`).
 //!
 //! The definitions that the contracts cite are in `specs/`: where each table's matrices stand (`Places`), what prover data holds of a table and the
-//! values of its columns on a domain (`Held`), what is given of a batch (`Tables`), and what is answered (`Asked`).
+//! values of its columns on a domain (`OpenedCommitment`), what is given of a batch (`Tables`), and what is answered (`Asked`).
 #![tactic(auto)]
 
 mod batch;

@@ -1,11 +1,11 @@
 //! Where the matrices of each table stand among those that are committed to.
 ghost use Rattle.std.specs.Prelude.{◌≡◌, ℕ, ◌<◌, IfOk, cond, length, map};
-ghost use Rattle.p3_field.specs.Poly.{table};
+ghost use Rattle.p3_field.specs.Poly.{tabulate};
 ghost use Rattle.p3_lookup.specs.Written.{read_all};
 ghost use Rattle.batch_shape_checks.specs.ShapeChecks.{HasEntries, has_some};
 ghost use Rattle.batch_statement.specs.Statement.{entry_of};
 ghost use Rattle.std.specs.Option.{option_map};
-ghost use Rattle.prover_quotients.specs.Places.{permutation_place};
+ghost use Rattle.prover_quotients.specs.Places.{permutation_matrix_place};
 
 use batch_statement::{PreprocessedInstanceMeta, SharedData};
 use p3_field::Mem;
@@ -75,7 +75,7 @@ pub(crate) fn permutation_places<F>(
     alloc: Global,
     lookups: &[Lookups<F>],
 ) -> Mem<Vec<Option<usize>>>
-    ensures { IfOk result (λ v. v.items ≡ table (length lookups.now) (permutation_place (map read_all lookups.now))) }
+    ensures { IfOk result (λ v. v.items ≡ tabulate (length lookups.now) (permutation_matrix_place (map read_all lookups.now))) }
 {
     let mut places = Vec::with_capacity(alloc, lookups.len())?;
     let mut next: usize = 0;

@@ -11,8 +11,8 @@ ghost use Rattle.committed_tables.specs.Committed.{CommittedTable};
 ghost use Rattle.batch_quotient.specs.Chunks.{IsChunk};
 ghost use Rattle.batch_quotient.specs.Evaluations.{quotient_values_on};
 ghost use Rattle.batch_validity.specs.Traced.{constraints, log_parts as log_parts_of, log_rows as log_rows_of, quotient_shift};
-ghost use Rattle.honest_proofs.specs.HonestProof.{chunk_matrices, committed_table, terminal_of};
-ghost use Rattle.prover_quotients.specs.Held.{HaveValues, HoldsTable};
+ghost use Rattle.honest_proofs.specs.HonestProof.{chunk_matrices, committed_table, honest_terminal};
+ghost use Rattle.prover_quotients.specs.ProverData.{HaveTableValues, HoldsTable};
 ghost use Rattle.prover_quotients.specs.Tables.{IsTracedTable, table_of_instance};
 
 use crate::columns::{TableColumns, columns_on};
@@ -105,11 +105,11 @@ fn table_values<SC: StarkGenericConfig, A: Air<Val<SC>>>(
         domain ≡ record { shift = quotient_shift c; log_size = log_rows_of c t + log_parts_of c t } }
     requires columns { let c = ⟦<SC as Settings>⟧.setting config.now in
         let t = table_of_instance c A.declaration A.trees instance.now (read_all lookups.now) in
-        HaveValues c.field domain (committed_table c (⟦<SC as ProverSettings>⟧.prover config.now) t challenges.now) columns.now }
+        HaveTableValues c.field domain (committed_table c (⟦<SC as ProverSettings>⟧.prover config.now) t challenges.now) columns.now }
     requires challenges { 2 * length lookups.now ≤ length challenges.now }
     requires terminal { let c = ⟦<SC as Settings>⟧.setting config.now in
         let t = table_of_instance c A.declaration A.trees instance.now (read_all lookups.now) in
-        option_map (λ t. t.0) terminal.now ≡ terminal_of c (⟦<SC as ProverSettings>⟧.prover config.now) t challenges.now }
+        option_map (λ t. t.0) terminal.now ≡ honest_terminal c (⟦<SC as ProverSettings>⟧.prover config.now) t challenges.now }
     ensures { let c = ⟦<SC as Settings>⟧.setting config.now in
         let t = table_of_instance c A.declaration A.trees instance.now (read_all lookups.now) in
         IfOk result (λ v. v.items ≡ quotient_values_on c.field c.extension (committed_table c (⟦<SC as ProverSettings>⟧.prover config.now) t challenges.now) (constraints c t) alpha domain) }
@@ -157,7 +157,7 @@ fn chunks_of_values<F: TwoAdicField, E: ExtensionField<F>>(
     requires short { domain.log_size ≤ F.TWO_ADICITY }
     requires count { length values.now ≡ 2 ^ domain.log_size }
     ensures chunks { let f : TwoAdic F = record { ring = F.ring; inv = F.inv; root = F.root; generator = F.GENERATOR } in
-        let e : Extension F E = record { ring = E.ring; embed = E.embed; dimension = E.DIMENSION; basis = E.basis; parts = E.parts; whole = E.whole } in
+        let e : Extension F E = record { ring = E.ring; embed = E.embed; dimension = E.DIMENSION; basis = E.basis; coefficients = E.coefficients; from_coefficients = E.from_coefficients } in
         IfOk result (λ v. (t : CommittedTable F E) (trees : List (Tree F)) (alpha : E) → domain.log_size ≡ t.log_height + log_parts
         → values.now ≡ quotient_values_on f e t trees alpha domain → EachOf (2 ^ log_parts) v.items (IsChunk f e t domain.shift log_parts trees alpha)) }
     ensures fills { IfOk result (λ v. All (λ e. FillsRows e.1.values e.1.width) v.items) }
@@ -167,7 +167,7 @@ fn chunks_of_values<F: TwoAdicField, E: ExtensionField<F>>(
     Ok(chunks)
 }
 
-/// The chunks of the quotient of one table, whose matrices stand at these places in what the backend keeps.
+/// The chunks of the quotient of one table, whose matrices stand at these places in the prover data.
 pub(crate) fn table_chunks<SC: StarkGenericConfig, A: Air<Val<SC>>>(
     alloc: Global,
     config: &SC,
@@ -191,7 +191,7 @@ pub(crate) fn table_chunks<SC: StarkGenericConfig, A: Air<Val<SC>>>(
     requires challenges { 2 * length lookups.now ≤ length challenges.now }
     requires terminal { let c = ⟦<SC as Settings>⟧.setting config.now in
         let t = table_of_instance c A.declaration A.trees instance.now (read_all lookups.now) in
-        option_map (λ t. t.0) terminal.now ≡ terminal_of c (⟦<SC as ProverSettings>⟧.prover config.now) t challenges.now }
+        option_map (λ t. t.0) terminal.now ≡ honest_terminal c (⟦<SC as ProverSettings>⟧.prover config.now) t challenges.now }
     ensures { let c = ⟦<SC as Settings>⟧.setting config.now in
         let t = table_of_instance c A.declaration A.trees instance.now (read_all lookups.now) in
         IfOk result (λ v. v.items ≡ chunk_matrices c (⟦<SC as ProverSettings>⟧.prover config.now) t challenges.now alpha) }

@@ -2,7 +2,7 @@
 ghost use Rattle.std.specs.Prelude.{◌≡◌, ◌^◌, ◌<◌, ◌++◌, false, IfOk, map, option_map};
 ghost use Rattle.p3_field.specs.Checks.{in_turn};
 ghost use Rattle.batch_transcript.specs.BatchScript.{from_opening, from_quotient};
-ghost use Rattle.batch_proving.specs.Batch.{CommitsToSome, IsKeptWith, IsTracedAll, all_challenges, all_chunks, all_permutations, batch_of, folding, main_matrices, preprocessed_all, table_count};
+ghost use Rattle.batch_proving.specs.Batch.{CommitsToSome, HasProverData, IsTracedAll, all_challenges, all_chunks, all_permutations, batch_of, folding, main_matrices, preprocessed_all, table_count};
 ghost use Rattle.batch_proving.specs.Proving.{HaveFractionsFor, IsGroundOf, IsPairGroundOf, extension_part, ood_part, quotient_part};
 ghost use Rattle.batch_proving.specs.Verdict.{IsProverAnswer};
 ghost use Rattle.prover_stages.specs.Stages.{point_of, quotient_of, quotient_state, shape_of, state_of_opening, terminals_of};
@@ -24,7 +24,7 @@ use p3_uni_stark::{Challenge, Commitment, PcsProverError, StarkGenericConfig, Va
 use prover_quotients::commit_quotients;
 use std::alloc::Global;
 
-/// What a prover has behind the stage of the quotients.
+/// What a prover has after the stage of the quotients.
 #[derive(Drop)]
 pub struct QuotientStage<F, E, Com, PD> {
     /// The commitment to all chunks.
@@ -54,28 +54,41 @@ pub(crate) fn quotient_stage<SC: StarkGenericConfig, A: Air<Val<SC>>>(
     requires plain { SC.Pcs.ZK ≡ false }
     requires traced { let b = batch_of (⟦<SC as Settings>⟧.setting config.now) (⟦<SC as ProverSettings>⟧.prover config.now) A.declaration A.trees instances.now common.now in IsTracedAll b }
     requires turn { transcript.old.remaining ≡ from_quotient SC.Challenge.DIMENSION transcript.old.shape }
-    requires shape { let b = batch_of (⟦<SC as Settings>⟧.setting config.now) (⟦<SC as ProverSettings>⟧.prover config.now) A.declaration A.trees instances.now common.now in transcript.old.shape ≡ shape_of b }
+    requires shape { let b = batch_of (⟦<SC as Settings>⟧.setting config.now)
+        (⟦<SC as ProverSettings>⟧.prover config.now) A.declaration A.trees instances.now common.now in transcript.old.shape ≡ shape_of b }
     requires few { 2 ^ transcript.old.shape.ood_pow_bits < SC.Val.ORDER_U64 }
-    requires state { let b = batch_of (⟦<SC as Settings>⟧.setting config.now) (⟦<SC as ProverSettings>⟧.prover config.now) A.declaration A.trees instances.now common.now in transcript.old.state ≡ quotient_state b lookups.now.witness }
+    requires state { let b = batch_of (⟦<SC as Settings>⟧.setting config.now)
+        (⟦<SC as ProverSettings>⟧.prover config.now) A.declaration A.trees instances.now common.now in transcript.old.state ≡ quotient_state b lookups.now.witness }
     requires preprocessed { let b = batch_of (⟦<SC as Settings>⟧.setting config.now) (⟦<SC as ProverSettings>⟧.prover config.now) A.declaration A.trees instances.now common.now in
-        IsKeptWith (⟦<SC as ProverSettings>⟧.commits_to config.now) (preprocessed_all b) b.statement.common.preprocessed (option_map (λ d. d.now) preprocessed) }
+        HasProverData (⟦<SC as ProverSettings>⟧.commits_to config.now) (preprocessed_all b) b.statement.common.preprocessed (option_map (λ d. d.now) preprocessed) }
     requires main { let b = batch_of (⟦<SC as Settings>⟧.setting config.now) (⟦<SC as ProverSettings>⟧.prover config.now) A.declaration A.trees instances.now common.now in
         (root : SC.Pcs.Commitment) × (⟦<SC as ProverSettings>⟧.commits_to config.now) (main_matrices b) (root, main.now) }
-    requires witness { let b = batch_of (⟦<SC as Settings>⟧.setting config.now) (⟦<SC as ProverSettings>⟧.prover config.now) A.declaration A.trees instances.now common.now in IsPairGroundOf b lookups.now.witness }
-    requires fractions { let b = batch_of (⟦<SC as Settings>⟧.setting config.now) (⟦<SC as ProverSettings>⟧.prover config.now) A.declaration A.trees instances.now common.now in HaveFractionsFor b lookups.now.witness }
-    requires challenges { let b = batch_of (⟦<SC as Settings>⟧.setting config.now) (⟦<SC as ProverSettings>⟧.prover config.now) A.declaration A.trees instances.now common.now in map (λ v. v.items) lookups.now.challenges.items ≡ all_challenges b lookups.now.witness }
-    requires terminals { let b = batch_of (⟦<SC as Settings>⟧.setting config.now) (⟦<SC as ProverSettings>⟧.prover config.now) A.declaration A.trees instances.now common.now in map (option_map (λ t. t.0)) lookups.now.terminals.items ≡ terminals_of b lookups.now.witness }
+    requires witness { let b = batch_of (⟦<SC as Settings>⟧.setting config.now)
+        (⟦<SC as ProverSettings>⟧.prover config.now) A.declaration A.trees instances.now common.now in IsPairGroundOf b lookups.now.witness }
+    requires fractions { let b = batch_of (⟦<SC as Settings>⟧.setting config.now)
+        (⟦<SC as ProverSettings>⟧.prover config.now) A.declaration A.trees instances.now common.now in HaveFractionsFor b lookups.now.witness }
+    requires challenges { let b = batch_of (⟦<SC as Settings>⟧.setting config.now)
+        (⟦<SC as ProverSettings>⟧.prover config.now) A.declaration A.trees instances.now common.now in map (λ v. v.items) lookups.now.challenges.items ≡ all_challenges b lookups.now.witness }
+    requires terminals { let b = batch_of (⟦<SC as Settings>⟧.setting config.now)
+        (⟦<SC as ProverSettings>⟧.prover config.now) A.declaration A.trees instances.now common.now in map (option_map (λ t. t.0)) lookups.now.terminals.items ≡ terminals_of b lookups.now.witness }
     requires permutation { let b = batch_of (⟦<SC as Settings>⟧.setting config.now) (⟦<SC as ProverSettings>⟧.prover config.now) A.declaration A.trees instances.now common.now in
         CommitsToSome (⟦<SC as ProverSettings>⟧.commits_to config.now) (all_permutations b lookups.now.witness) lookups.now.permutation }
-    requires alpha { let b = batch_of (⟦<SC as Settings>⟧.setting config.now) (⟦<SC as ProverSettings>⟧.prover config.now) A.declaration A.trees instances.now common.now in lookups.now.alpha ≡ folding b lookups.now.witness }
-    ensures verdict { let b = batch_of (⟦<SC as Settings>⟧.setting config.now) (⟦<SC as ProverSettings>⟧.prover config.now) A.declaration A.trees instances.now common.now in let k = ⟦<SC as ProverSettings>⟧.prover_backend config.now in
+    requires alpha { let b = batch_of (⟦<SC as Settings>⟧.setting config.now)
+        (⟦<SC as ProverSettings>⟧.prover config.now) A.declaration A.trees instances.now common.now in lookups.now.alpha ≡ folding b lookups.now.witness }
+    ensures verdict { let b = batch_of (⟦<SC as Settings>⟧.setting config.now)
+        (⟦<SC as ProverSettings>⟧.prover config.now) A.declaration A.trees instances.now common.now in let k = ⟦<SC as ProverSettings>⟧.prover_backend config.now in
         IsProverAnswer ((in_turn (table_count b) (extension_part k b) ++ quotient_part k b) ++ ood_part b) result }
     ensures committed { let b = batch_of (⟦<SC as Settings>⟧.setting config.now) (⟦<SC as ProverSettings>⟧.prover config.now) A.declaration A.trees instances.now common.now in
         IfOk result (λ r. (⟦<SC as ProverSettings>⟧.commits_to config.now) (all_chunks b lookups.now.witness) (r.commitment, r.data)) }
-    ensures commitment { let b = batch_of (⟦<SC as Settings>⟧.setting config.now) (⟦<SC as ProverSettings>⟧.prover config.now) A.declaration A.trees instances.now common.now in IfOk result (λ r. r.commitment ≡ quotient_of b lookups.now.witness) }
-    ensures witness { let b = batch_of (⟦<SC as Settings>⟧.setting config.now) (⟦<SC as ProverSettings>⟧.prover config.now) A.declaration A.trees instances.now common.now in let k = ⟦<SC as ProverSettings>⟧.prover_backend config.now in IfOk result (λ r. IsGroundOf b lookups.now.witness r.witness) }
-    ensures zeta { let b = batch_of (⟦<SC as Settings>⟧.setting config.now) (⟦<SC as ProverSettings>⟧.prover config.now) A.declaration A.trees instances.now common.now in IfOk result (λ r. r.zeta ≡ point_of b lookups.now.witness r.witness) }
-    ensures state { let b = batch_of (⟦<SC as Settings>⟧.setting config.now) (⟦<SC as ProverSettings>⟧.prover config.now) A.declaration A.trees instances.now common.now in IfOk result (λ r. transcript.new.state ≡ state_of_opening b lookups.now.witness r.witness) }
+    ensures commitment { let b = batch_of (⟦<SC as Settings>⟧.setting config.now)
+        (⟦<SC as ProverSettings>⟧.prover config.now) A.declaration A.trees instances.now common.now in IfOk result (λ r. r.commitment ≡ quotient_of b lookups.now.witness) }
+    ensures witness { let b = batch_of (⟦<SC as Settings>⟧.setting config.now)
+        (⟦<SC as ProverSettings>⟧.prover config.now) A.declaration A.trees instances.now common.now in let k = ⟦<SC as ProverSettings>⟧.prover_backend config.now in
+        IfOk result (λ r. IsGroundOf b lookups.now.witness r.witness) }
+    ensures zeta { let b = batch_of (⟦<SC as Settings>⟧.setting config.now) (⟦<SC as ProverSettings>⟧.prover config.now) A.declaration A.trees instances.now common.now in
+        IfOk result (λ r. r.zeta ≡ point_of b lookups.now.witness r.witness) }
+    ensures state { let b = batch_of (⟦<SC as Settings>⟧.setting config.now)
+        (⟦<SC as ProverSettings>⟧.prover config.now) A.declaration A.trees instances.now common.now in IfOk result (λ r. transcript.new.state ≡ state_of_opening b lookups.now.witness r.witness) }
     ensures turn { IfOk result (λ r. transcript.new.remaining ≡ from_opening SC.Challenge.DIMENSION transcript.new.shape) }
 {
     let (commitment, data) = commit_quotients(

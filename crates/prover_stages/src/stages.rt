@@ -2,10 +2,10 @@
 ghost use Rattle.std.specs.Prelude.{◌≡◌, ◌++◌, ◌^◌, ◌<◌, false, IfOk, map, option_map};
 ghost use Rattle.p3_field.specs.Checks.{in_turn};
 ghost use Rattle.batch_transcript.specs.BatchScript.{from_lookup};
-ghost use Rattle.batch_proving.specs.Batch.{CommitsToSome, IsKeptWith, IsTracedAll, all_chunks, all_permutations, batch_of, main_matrices, preprocessed_all, table_count};
+ghost use Rattle.batch_proving.specs.Batch.{CommitsToSome, HasProverData, IsTracedAll, all_chunks, all_permutations, batch_of, main_matrices, preprocessed_all, table_count};
 ghost use Rattle.batch_proving.specs.Proving.{HaveFractionsFor, IsGroundOf, extension_part, fraction_part, lookup_part, ood_part, permutation_part, quotient_part};
 ghost use Rattle.batch_proving.specs.Verdict.{IsProverAnswer};
-ghost use Rattle.prover_stages.specs.Stages.{main_of, pair_state, permutation_of, point_of, quotient_of, shape_of, state_of_opening, terminals_of};
+ghost use Rattle.prover_stages.specs.Stages.{main_of, pair_state, permutation_commitment, point_of, quotient_of, shape_of, state_of_opening, terminals_of};
 
 use crate::lookups::{LookupStage, lookup_stage};
 use crate::quotients::{QuotientStage, quotient_stage};
@@ -37,7 +37,7 @@ pub type Stages<SC> = (
 /// `Ood`. Only out of memory is free. Where none fails it is what the honest proof is made of, for the values that are ground, and the
 /// transcript stands where the openings are proved (`state`).
 ///
-/// The backend masks nothing, the batch is traced, the prover data belongs to its commitments, and the transcript stands behind the
+/// The backend masks nothing, the batch is traced, the prover data belongs to its commitments, and the transcript stands after the
 /// commitments to the traces, as `bound_transcript` gives it.
 pub fn drawn_stages<SC: StarkGenericConfig, A: Air<Val<SC>>>(
     alloc: Global,
@@ -48,26 +48,46 @@ pub fn drawn_stages<SC: StarkGenericConfig, A: Air<Val<SC>>>(
     transcript: &mut Transcript<SC>,
 ) -> Result<Stages<SC>, ProvingError<PcsProverError<SC>>>
     requires plain { SC.Pcs.ZK ≡ false }
-    requires traced { let b = batch_of (⟦<SC as Settings>⟧.setting config.now) (⟦<SC as ProverSettings>⟧.prover config.now) A.declaration A.trees instances.now prover_data.now.common in IsTracedAll b }
-    requires kept { let b = batch_of (⟦<SC as Settings>⟧.setting config.now) (⟦<SC as ProverSettings>⟧.prover config.now) A.declaration A.trees instances.now prover_data.now.common in
-        IsKeptWith (⟦<SC as ProverSettings>⟧.commits_to config.now) (preprocessed_all b) b.statement.common.preprocessed prover_data.now.prover_only.preprocessed_prover_data }
-    requires main { let b = batch_of (⟦<SC as Settings>⟧.setting config.now) (⟦<SC as ProverSettings>⟧.prover config.now) A.declaration A.trees instances.now prover_data.now.common in ⟦<SC as ProverSettings>⟧.commits_to config.now (main_matrices b) (main_of b, main.now) }
+    requires traced { let b = batch_of (⟦<SC as Settings>⟧.setting config.now)
+        (⟦<SC as ProverSettings>⟧.prover config.now) A.declaration A.trees instances.now prover_data.now.common in IsTracedAll b }
+    requires prover_data { let b = batch_of (⟦<SC as Settings>⟧.setting config.now) (⟦<SC as ProverSettings>⟧.prover config.now) A.declaration A.trees instances.now prover_data.now.common in
+        HasProverData (⟦<SC as ProverSettings>⟧.commits_to config.now) (preprocessed_all b) b.statement.common.preprocessed prover_data.now.prover_only.preprocessed_prover_data }
+    requires main { let b = batch_of (⟦<SC as Settings>⟧.setting config.now)
+        (⟦<SC as ProverSettings>⟧.prover config.now) A.declaration A.trees instances.now prover_data.now.common in
+        ⟦<SC as ProverSettings>⟧.commits_to config.now (main_matrices b) (main_of b, main.now) }
     requires turn { transcript.old.remaining ≡ from_lookup SC.Challenge.DIMENSION transcript.old.shape }
-    requires shape { let b = batch_of (⟦<SC as Settings>⟧.setting config.now) (⟦<SC as ProverSettings>⟧.prover config.now) A.declaration A.trees instances.now prover_data.now.common in transcript.old.shape ≡ shape_of b }
+    requires shape { let b = batch_of (⟦<SC as Settings>⟧.setting config.now)
+        (⟦<SC as ProverSettings>⟧.prover config.now) A.declaration A.trees instances.now prover_data.now.common in transcript.old.shape ≡ shape_of b }
     requires few_lookup { 2 ^ transcript.old.shape.lookup_pow_bits < SC.Val.ORDER_U64 }
     requires few_ood { 2 ^ transcript.old.shape.ood_pow_bits < SC.Val.ORDER_U64 }
-    requires state { let b = batch_of (⟦<SC as Settings>⟧.setting config.now) (⟦<SC as ProverSettings>⟧.prover config.now) A.declaration A.trees instances.now prover_data.now.common in transcript.old.state ≡ pair_state b }
-    ensures verdict { let b = batch_of (⟦<SC as Settings>⟧.setting config.now) (⟦<SC as ProverSettings>⟧.prover config.now) A.declaration A.trees instances.now prover_data.now.common in let k = ⟦<SC as ProverSettings>⟧.prover_backend config.now in
+    requires state { let b = batch_of (⟦<SC as Settings>⟧.setting config.now)
+        (⟦<SC as ProverSettings>⟧.prover config.now) A.declaration A.trees instances.now prover_data.now.common in transcript.old.state ≡ pair_state b }
+    ensures verdict { let b = batch_of (⟦<SC as Settings>⟧.setting config.now)
+        (⟦<SC as ProverSettings>⟧.prover config.now) A.declaration A.trees instances.now prover_data.now.common in let k = ⟦<SC as ProverSettings>⟧.prover_backend config.now in
         IsProverAnswer ((lookup_part b ++ (fraction_part b ++ permutation_part k b)) ++ ((in_turn (table_count b) (extension_part k b) ++ quotient_part k b) ++ ood_part b)) result }
-    ensures ground { let b = batch_of (⟦<SC as Settings>⟧.setting config.now) (⟦<SC as ProverSettings>⟧.prover config.now) A.declaration A.trees instances.now prover_data.now.common in IfOk result (λ r. IsGroundOf b r.0.witness r.1.witness) }
-    ensures terminals { let b = batch_of (⟦<SC as Settings>⟧.setting config.now) (⟦<SC as ProverSettings>⟧.prover config.now) A.declaration A.trees instances.now prover_data.now.common in IfOk result (λ r. map (option_map (λ t. t.0)) r.0.terminals.items ≡ terminals_of b r.0.witness) }
-    ensures permutation { let b = batch_of (⟦<SC as Settings>⟧.setting config.now) (⟦<SC as ProverSettings>⟧.prover config.now) A.declaration A.trees instances.now prover_data.now.common in IfOk result (λ r. CommitsToSome (⟦<SC as ProverSettings>⟧.commits_to config.now) (all_permutations b r.0.witness) r.0.permutation) }
-    ensures columns { let b = batch_of (⟦<SC as Settings>⟧.setting config.now) (⟦<SC as ProverSettings>⟧.prover config.now) A.declaration A.trees instances.now prover_data.now.common in IfOk result (λ r. option_map (λ c. c.0) r.0.permutation ≡ permutation_of b r.0.witness) }
-    ensures quotient { let b = batch_of (⟦<SC as Settings>⟧.setting config.now) (⟦<SC as ProverSettings>⟧.prover config.now) A.declaration A.trees instances.now prover_data.now.common in IfOk result (λ r. ⟦<SC as ProverSettings>⟧.commits_to config.now (all_chunks b r.0.witness) (r.1.commitment, r.1.data)) }
-    ensures chunks { let b = batch_of (⟦<SC as Settings>⟧.setting config.now) (⟦<SC as ProverSettings>⟧.prover config.now) A.declaration A.trees instances.now prover_data.now.common in IfOk result (λ r. r.1.commitment ≡ quotient_of b r.0.witness) }
-    ensures fractions { let b = batch_of (⟦<SC as Settings>⟧.setting config.now) (⟦<SC as ProverSettings>⟧.prover config.now) A.declaration A.trees instances.now prover_data.now.common in IfOk result (λ r. HaveFractionsFor b r.0.witness) }
-    ensures zeta { let b = batch_of (⟦<SC as Settings>⟧.setting config.now) (⟦<SC as ProverSettings>⟧.prover config.now) A.declaration A.trees instances.now prover_data.now.common in IfOk result (λ r. r.1.zeta ≡ point_of b r.0.witness r.1.witness) }
-    ensures state { let b = batch_of (⟦<SC as Settings>⟧.setting config.now) (⟦<SC as ProverSettings>⟧.prover config.now) A.declaration A.trees instances.now prover_data.now.common in IfOk result (λ r. transcript.new.state ≡ state_of_opening b r.0.witness r.1.witness) }
+    ensures ground { let b = batch_of (⟦<SC as Settings>⟧.setting config.now)
+        (⟦<SC as ProverSettings>⟧.prover config.now) A.declaration A.trees instances.now prover_data.now.common in IfOk result (λ r. IsGroundOf b r.0.witness r.1.witness) }
+    ensures terminals { let b = batch_of (⟦<SC as Settings>⟧.setting config.now)
+        (⟦<SC as ProverSettings>⟧.prover config.now) A.declaration A.trees instances.now prover_data.now.common in
+        IfOk result (λ r. map (option_map (λ t. t.0)) r.0.terminals.items ≡ terminals_of b r.0.witness) }
+    ensures permutation { let b = batch_of (⟦<SC as Settings>⟧.setting config.now)
+        (⟦<SC as ProverSettings>⟧.prover config.now) A.declaration A.trees instances.now prover_data.now.common in
+        IfOk result (λ r. CommitsToSome (⟦<SC as ProverSettings>⟧.commits_to config.now) (all_permutations b r.0.witness) r.0.permutation) }
+    ensures columns { let b = batch_of (⟦<SC as Settings>⟧.setting config.now)
+        (⟦<SC as ProverSettings>⟧.prover config.now) A.declaration A.trees instances.now prover_data.now.common in
+        IfOk result (λ r. option_map (λ c. c.0) r.0.permutation ≡ permutation_commitment b r.0.witness) }
+    ensures quotient { let b = batch_of (⟦<SC as Settings>⟧.setting config.now)
+        (⟦<SC as ProverSettings>⟧.prover config.now) A.declaration A.trees instances.now prover_data.now.common in
+        IfOk result (λ r. ⟦<SC as ProverSettings>⟧.commits_to config.now (all_chunks b r.0.witness) (r.1.commitment, r.1.data)) }
+    ensures chunks { let b = batch_of (⟦<SC as Settings>⟧.setting config.now)
+        (⟦<SC as ProverSettings>⟧.prover config.now) A.declaration A.trees instances.now prover_data.now.common in IfOk result (λ r. r.1.commitment ≡ quotient_of b r.0.witness) }
+    ensures fractions { let b = batch_of (⟦<SC as Settings>⟧.setting config.now)
+        (⟦<SC as ProverSettings>⟧.prover config.now) A.declaration A.trees instances.now prover_data.now.common in IfOk result (λ r. HaveFractionsFor b r.0.witness) }
+    ensures zeta { let b = batch_of (⟦<SC as Settings>⟧.setting config.now)
+        (⟦<SC as ProverSettings>⟧.prover config.now) A.declaration A.trees instances.now prover_data.now.common in IfOk result (λ r. r.1.zeta ≡ point_of b r.0.witness r.1.witness) }
+    ensures state { let b = batch_of (⟦<SC as Settings>⟧.setting config.now)
+        (⟦<SC as ProverSettings>⟧.prover config.now) A.declaration A.trees instances.now prover_data.now.common in
+        IfOk result (λ r. transcript.new.state ≡ state_of_opening b r.0.witness r.1.witness) }
 {
     let common = &prover_data.common;
     let preprocessed = prover_data.prover_only.preprocessed_prover_data.as_ref();

@@ -44,9 +44,9 @@ fn public_values<F: Field, A>(
     Ok(values)
 }
 
-/// The transcript of a batch behind its degree bits, the commitment to its traces, its public values and the commitment to its preprocessed
+/// The transcript of a batch after its degree bits, the commitment to its traces, its public values and the commitment to its preprocessed
 /// traces (`prove_batch` of `p3-batch-stark`): there the lookups' pair is drawn. The batch is traced, and these are its degree bits and
-/// the commitment to its traces. The one error is want of memory.
+/// the commitment to its traces. The one error is running out of memory.
 pub fn bound_transcript<SC: StarkGenericConfig, A: Air<Val<SC>>>(
     alloc: Global,
     config: &SC,
@@ -56,11 +56,14 @@ pub fn bound_transcript<SC: StarkGenericConfig, A: Air<Val<SC>>>(
     main: &Commitment<SC>,
 ) -> Mem<Transcript<SC>>
     requires traced { let b = batch_of (⟦<SC as Settings>⟧.setting config.now) (⟦<SC as ProverSettings>⟧.prover config.now) A.declaration A.trees instances.now common.now in IsTracedAll b }
-    requires degree_bits { let b = batch_of (⟦<SC as Settings>⟧.setting config.now) (⟦<SC as ProverSettings>⟧.prover config.now) A.declaration A.trees instances.now common.now in degree_bits.now ≡ b.degree_bits }
+    requires degree_bits { let b = batch_of (⟦<SC as Settings>⟧.setting config.now)
+        (⟦<SC as ProverSettings>⟧.prover config.now) A.declaration A.trees instances.now common.now in degree_bits.now ≡ b.degree_bits }
     requires main { let b = batch_of (⟦<SC as Settings>⟧.setting config.now) (⟦<SC as ProverSettings>⟧.prover config.now) A.declaration A.trees instances.now common.now in main.now ≡ main_of b }
-    ensures state { let b = batch_of (⟦<SC as Settings>⟧.setting config.now) (⟦<SC as ProverSettings>⟧.prover config.now) A.declaration A.trees instances.now common.now in IfOk result (λ t. t.state ≡ pair_state b) }
+    ensures state { let b = batch_of (⟦<SC as Settings>⟧.setting config.now)
+        (⟦<SC as ProverSettings>⟧.prover config.now) A.declaration A.trees instances.now common.now in IfOk result (λ t. t.state ≡ pair_state b) }
     ensures turn { IfOk result (λ t. t.remaining ≡ from_lookup SC.Challenge.DIMENSION t.shape) }
-    ensures shape { let b = batch_of (⟦<SC as Settings>⟧.setting config.now) (⟦<SC as ProverSettings>⟧.prover config.now) A.declaration A.trees instances.now common.now in IfOk result (λ t. t.shape ≡ shape_of b) }
+    ensures shape { let b = batch_of (⟦<SC as Settings>⟧.setting config.now)
+        (⟦<SC as ProverSettings>⟧.prover config.now) A.declaration A.trees instances.now common.now in IfOk result (λ t. t.shape ≡ shape_of b) }
     ensures few_lookup { IfOk result (λ t. 2 ^ t.shape.lookup_pow_bits < SC.Val.ORDER_U64) }
     ensures few_ood { IfOk result (λ t. 2 ^ t.shape.ood_pow_bits < SC.Val.ORDER_U64) }
 {

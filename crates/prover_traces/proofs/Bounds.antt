@@ -5,7 +5,7 @@ use Rattle.p3_field.specs.Checks.{Check, FirstFails, NoneFails, in_turn}
 use Rattle.p3_field.specs.Laws.Checks.{first_by, first_here, none_alone, none_by}
 use Rattle.p3_air.specs.Shape.{Declaration}
 use Rattle.p3_air.specs.Tree.{Tree}
-use Rattle.p3_lookup.specs.Bound.{AreBounded, IsFirstOverload, bus_load, capped}
+use Rattle.p3_lookup.specs.Bound.{HaveLoadsBelow, IsFirstOverload, bus_load, capped}
 use Rattle.p3_lookup.specs.Bus.{batch_buses, bus_count}
 use Rattle.p3_lookup.specs.Lookup.{LookupData}
 use Rattle.p3_lookup.specs.Written.{Written, read_all}
@@ -28,7 +28,7 @@ module _ {F R : Type 0} (named : ℕ → R) (order : ℕ) (lookups : List (List 
   abbrev bus_checks : List (Check R)
   bus_checks = in_turn (bus_count (batch_buses lookups)) (λ bus. bus_check bus ∷ [])
 
-  none_overloaded : AreBounded order lookups heights → NoneFails bus_checks
+  none_overloaded : HaveLoadsBelow order lookups heights → NoneFails bus_checks
   none_overloaded h = none_by (λ bus. bus_check bus ∷ []) (λ bus. bus_load lookups heights bus < order) (bus_count (batch_buses lookups)) (λ b l q. none_alone (bus_check b) q) h
 
   first_overloaded : (bus : ℕ) → IsFirstOverload order lookups heights bus → FirstFails bus_checks (named bus)
@@ -54,11 +54,11 @@ module _ {S F E C A : Type 0} (R : Type 0) (c : Setting S F E C) (p : Prover F E
       ∙ (sym (counted c p declaration trees instances common)
       ∙ (sym B.lists.lookups_long ∙ (length-map common.lookups read_all ∙ ap length (sym own)))))
 
-  pub passes : AreBounded c.order (map read_all lookups) heights → NoneFails (bound_part batch {R = R})
+  pub passes : HaveLoadsBelow c.order (map read_all lookups) heights → NoneFails (bound_part batch {R = R})
   passes h =
       none_overloaded {F = F} {R = ProvingError R} MultiplicityBound c.order (map read_all common.lookups) (heights_of (masks c) degree_bits (table_count batch))
-      (subst (AreBounded c.order (map read_all common.lookups)) (tall ∙ heights_are c p declaration trees instances common B)
-      (subst (λ (ws : List (List (Written F))). AreBounded c.order (map read_all ws) heights) own h))
+      (subst (HaveLoadsBelow c.order (map read_all common.lookups)) (tall ∙ heights_are c p declaration trees instances common B)
+      (subst (λ (ws : List (List (Written F))). HaveLoadsBelow c.order (map read_all ws) heights) own h))
 
   pub refused : (bus : ℕ) → IsFirstOverload c.order (map read_all lookups) heights bus → FirstFails (bound_part batch {R = R}) (MultiplicityBound bus)
   refused bus h =

@@ -14,8 +14,8 @@ use p3_matrix::RowMajorMatrix;
 use p3_uni_stark::{Commitment, Domain, PcsProverError, StarkGenericConfig, Val};
 use std::alloc::Global;
 
-/// The backend's commitment to matrices on domains, and what it keeps of them (own): the answer is `Pcs` with this phase exactly where the
-/// backend refuses. Only out of memory is free.
+/// The backend's commitment to matrices on domains, and what it keeps of them (not in Plonky3): the answer is `Pcs` with this phase
+/// exactly where the backend refuses. Only out of memory is free.
 #[tactic(auto, unfolding(p3_field::specs::Checks::NoneFails, p3_field::specs::Checks::FirstFails))]
 pub fn commit_matrices<SC: StarkGenericConfig>(
     alloc: Global,

@@ -13,8 +13,8 @@ use p3_field::{
 use p3_matrix::log2_strict_usize;
 use p3_uni_stark::{Domain, StarkGenericConfig};
 
-/// The subgroup with a point for each of so many rows, as a domain of the backend (own). The number is a power of two, and such a subgroup
-/// is there.
+/// The subgroup with a point for each of so many rows, as a domain of the backend (not in Plonky3). The number is a power of two, and such
+/// a subgroup is there.
 pub fn rows_domain<SC: StarkGenericConfig>(config: &SC, height: usize) -> Domain<SC>
     requires power { IsPowerOfTwo height }
     requires fits { height ≤ 2 ^ SC.Val.TWO_ADICITY }

@@ -55,7 +55,7 @@ fn traces_on_rows<SC: StarkGenericConfig, A: Air<Val<SC>>>(
     Ok(traces)
 }
 
-/// The commitment to the traces of a batch, each on the domain of its rows, and what the backend keeps of them (`prove_batch` of
+/// The commitment to the traces of a batch, each on the domain of its rows, and the prover data of them (`prove_batch` of
 /// `p3-batch-stark`). Each trace is copied once, since the backend takes matrices by value. The answer is `Pcs` with the phase
 /// `TraceCommitment` exactly where the backend refuses. Only out of memory is free.
 ///

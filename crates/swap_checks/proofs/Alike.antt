@@ -1,7 +1,7 @@
 -- Lists of checks that come to one: where no check of the one fails, none of the other does, and the first that fails has the same refusals.
 use Rattle.std.proofs.Common.{◌≡◌, ℕ, zero, suc, ◌↔◌, inl, inr, List, [], ◌∷◌, ◌++◌, refl, sym, ap, subst, append_assoc}
 use Rattle.p3_field.specs.Checks.{Check, check, NoneFails, FirstFails, in_turn}
-use Rattle.p3_field.specs.Laws.Checks.{none_append, none_before, none_behind, first_stops, first_after, first_parted, none_first}
+use Rattle.p3_field.specs.Laws.Checks.{none_append, none_before, none_after, first_stops, first_after, first_parted, none_first}
 
 pub record Alike {R : Type 0} (xs ys : List (Check R)) : Type 0 where
   pub none : NoneFails xs ↔ NoneFails ys
@@ -36,8 +36,8 @@ module _ {R : Type 0} where
   pub alike_append : (xs ys us vs : List (Check R)) → Alike xs ys → Alike us vs → Alike (xs ++ us) (ys ++ vs)
   alike_append xs ys us vs a b = record {
     none = (
-      λ n. none_append ys vs (a.none.0 (none_before xs us n)) (b.none.0 (none_behind xs us n)),
-      λ n. none_append xs us (a.none.1 (none_before ys vs n)) (b.none.1 (none_behind ys vs n)),
+      λ n. none_append ys vs (a.none.0 (none_before xs us n)) (b.none.0 (none_after xs us n)),
+      λ n. none_append xs us (a.none.1 (none_before ys vs n)) (b.none.1 (none_after ys vs n)),
     );
     first = λ e. (half xs ys us vs a b e, half ys xs vs us (alike_turned xs ys a) (alike_turned us vs b) e);
   }
@@ -57,9 +57,9 @@ module _ {R : Type 0} where
   pub alike_before : (zs xs ys : List (Check R)) → NoneFails zs → Alike xs ys → Alike (zs ++ xs) ys
   alike_before zs xs ys n a = alike_append zs [] xs ys (alike_none zs n) a
 
-  -- or behind them
-  pub alike_behind : (xs zs ys : List (Check R)) → NoneFails zs → Alike xs ys → Alike (xs ++ zs) ys
-  alike_behind xs zs ys n a = record {
+  -- or after them
+  pub alike_after : (xs zs ys : List (Check R)) → NoneFails zs → Alike xs ys → Alike (xs ++ zs) ys
+  alike_after xs zs ys n a = record {
     none = (λ m. a.none.0 (none_before xs zs m), λ m. none_append xs zs (a.none.1 m) n);
     first = λ e. (
       λ f. elim (first_parted xs zs e f) [ inl t ↦ (a.first e).0 t | inr t ↦ absurd (none_first zs e n t.1) ],
@@ -97,8 +97,8 @@ module _ {Q R : Type 0} (V : Q → R) where
   pub stand_both : (cs ds : List (Check Q)) (rs ss : List (Check R)) → Stands V cs rs → Stands V ds ss → Stands V (cs ++ ds) (rs ++ ss)
   stand_both cs ds rs ss a b = record {
     none = (
-      λ n. none_append rs ss (a.none.0 (none_before cs ds n)) (b.none.0 (none_behind cs ds n)),
-      λ n. none_append cs ds (a.none.1 (none_before rs ss n)) (b.none.1 (none_behind rs ss n)),
+      λ n. none_append rs ss (a.none.0 (none_before cs ds n)) (b.none.0 (none_after cs ds n)),
+      λ n. none_append cs ds (a.none.1 (none_before rs ss n)) (b.none.1 (none_after rs ss n)),
     );
     to = λ q f. elim (first_parted cs ds q f) [
       | inl t ↦ first_stops rs ss (V q) (a.to q t)
@@ -113,7 +113,7 @@ module _ {Q R : Type 0} (V : Q → R) where
   -- checks that hold, before others
   pub stand_held : (zs cs : List (Check Q)) (rs : List (Check R)) → NoneFails zs → Stands V cs rs → Stands V (zs ++ cs) rs
   stand_held zs cs rs n a = record {
-    none = (λ m. a.none.0 (none_behind zs cs m), λ m. none_append zs cs n (a.none.1 m));
+    none = (λ m. a.none.0 (none_after zs cs m), λ m. none_append zs cs n (a.none.1 m));
     to = λ q f. elim (first_parted zs cs q f) [ inl t ↦ absurd (none_first zs q n t) | inr t ↦ a.to q t.1 ];
     back = λ e f. let (q, g, s) = a.back e f in (q, first_after zs cs q n g, s);
   }
@@ -122,7 +122,7 @@ module _ {Q R : Type 0} (V : Q → R) where
   unfolding FirstFails
   nothing_stands q f = f
 
-  -- none behind
+  -- none after
   pub stand_alone : (cs : List (Check Q)) (rs : List (Check R)) → Stands V cs rs → Stands V (cs ++ []) rs
   stand_alone cs rs a = record {
     none = (λ n. a.none.0 (none_before cs [] n), λ n. none_append cs [] (a.none.1 n) (no_check Q));

@@ -1,7 +1,7 @@
 -- The checks of the grinding values of a proof of one swap table come to the one of the value before zeta.
 use Rattle.std.proofs.Common.{◌≡◌, ℕ, List, [], ◌∷◌, false, refl, arith}
 use Rattle.p3_field.specs.Checks.{Check, check, NoneFails}
-use Rattle.p3_field.specs.BabyBear.{bear_ring}
+use Rattle.p3_field.specs.BabyBear.{baby_bear_ring}
 use Rattle.p3_field.specs.declared.baby_bear.BabyBear.{BabyBear}
 use Rattle.p3_field.specs.declared.quartic.QuarticExtension.{QuarticExtension}
 use Rattle.p3_matrix.specs.Matrix.{Rows}
@@ -21,7 +21,7 @@ use Rattle.swap_checks.proofs.Parts.{proof_of, swap_statement}
 abbrev held : BabyBear → List (Check Refusal)
 held witness =
     check (Transcript UnexpectedLookupPowWitness) (false ≡ false)
-    ∷ check (Transcript NonCanonicalOodPowWitness) (◌≡◌ {A = ℕ} 4 0 → witness ≡ bear_ring.zero)
+    ∷ check (Transcript NonCanonicalOodPowWitness) (◌≡◌ {A = ℕ} 4 0 → witness ≡ baby_bear_ring.zero)
     ∷ []
 
 held_none : (witness : BabyBear) → NoneFails (held witness)

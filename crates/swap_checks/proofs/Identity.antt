@@ -1,26 +1,26 @@
 -- The checks of a swap table's identity at the drawn point.
 use Rattle.std.proofs.Common.{◌≡◌, ◌↔◌, ℕ, ◌+◌, ◌-◌, ◌^◌, ◌≤◌, List, [], ◌∷◌, map, Some, inl, inr, refl, sym, ◌∙◌, ap, subst, arith}
 use Rattle.std.specs.Prelude.{◌&&◌, nat_eq, ◌⊎◌}
-use Rattle.p3_field.specs.BabyBear.{reduce, bear_ring, bear_inv, bear_root}
+use Rattle.p3_field.specs.BabyBear.{reduce, baby_bear_ring, baby_bear_inv, baby_bear_root}
 use Rattle.p3_field.specs.Checks.{check, NoneFails, FirstFails, in_turn}
-use Rattle.p3_field.specs.Domain.{CosetData, van, point}
+use Rattle.p3_field.specs.Domain.{CosetData, vanishing_polynomial, point}
 use Rattle.p3_field.specs.Field.{TwoAdic, Extension, combine}
 use Rattle.p3_field.specs.Laws.Algebra.{one_mul}
-use Rattle.p3_field.specs.Laws.BearField.{bear_field_laws, bear_root_laws}
-use Rattle.p3_field.specs.Laws.BearLaws.{bear_laws}
+use Rattle.p3_field.specs.Laws.BabyBearField.{baby_bear_field_laws, baby_bear_root_laws}
+use Rattle.p3_field.specs.Laws.BabyBearLaws.{baby_bear_laws}
 use Rattle.p3_field.specs.Laws.QuarticField.{quartic_field_laws, quartic_eq_same, quartic_same_eq}
 use Rattle.p3_field.specs.Laws.QuarticLaws.{quartic_laws, quartic_hom}
 use Rattle.p3_field.specs.Laws.Roots.{field_no_zero_divisors}
-use Rattle.p3_field.specs.Laws.Selectors.{van_vanishes, van_only}
+use Rattle.p3_field.specs.Laws.Selectors.{vanishing_polynomial_vanishes, vanishing_only_there}
 use Rattle.p3_field.specs.Laws.TwoAdic.{decide_by}
-use Rattle.p3_field.specs.Quartic.{quartic_ring, quartic_inv, of_bear_value, quartic_basis}
+use Rattle.p3_field.specs.Quartic.{quartic_ring, quartic_inv, of_baby_bear_value, quartic_basis}
 use Rattle.p3_field.specs.Ring.{RingLaws}
 use Rattle.p3_field.specs.declared.baby_bear.BabyBear.{BabyBear}
 use Rattle.p3_field.specs.declared.quartic.QuarticExtension.{QuarticExtension}
 use Rattle.p3_matrix.specs.Matrix.{Rows}
-use Rattle.p3_air.specs.Tree.{ev}
+use Rattle.p3_air.specs.Tree.{eval_tree}
 use Rattle.p3_uni_stark.specs.Fold.{fold}
-use Rattle.p3_uni_stark.specs.Point.{reading}
+use Rattle.p3_uni_stark.specs.Point.{point_reading}
 use Rattle.p3_uni_stark.specs.Recombine.{chunk_weight, recombined}
 use Rattle.p3_uni_stark.specs.declared.error.VerificationError.{VerificationError}
 use Rattle.p3_uni_stark.specs.declared.error.VerificationError.TheVariants.{OodPointInDomain, OodEvaluationMismatch}
@@ -31,10 +31,10 @@ use Rattle.batch_constraints.specs.Sizing.{log_ceil}
 use Rattle.batch_statement.specs.declared.error.BatchVerificationError.TheVariants.{Verification}
 use Rattle.batch_identity.specs.Identity.{folded_at, identity_checks}
 use Rattle.batch_identity_checks.specs.TableIdentity.{verified, periods_check}
-use Rattle.batch_verifier.specs.BatchChecks.{identities_at, challenges_of, domains_of}
+use Rattle.batch_verifier.specs.BatchChecks.{identities_at, all_lookup_challenges, domains_of}
 use Rattle.tool_statement.specs.Config.{tool_setting}
 use Rattle.swap_checks.specs.SwapShape.{SwapProof}
-use Rattle.swap_checks.specs.SwapChecks.{value_at, trace_domain, IsInTraceDomain, swap_values, SwapIdentity, point_checks}
+use Rattle.swap_checks.specs.SwapChecks.{value_at_point, swap_trace_domain, IsInTraceDomain, swap_values, SwapIdentity, zeta_checks}
 use Rattle.swap_checks.proofs.Alike.{Alike, alike_before, alike_append}
 use Rattle.swap_checks.proofs.Parts.{proof_of, swap_statement}
 
@@ -70,12 +70,12 @@ quartic_decided = decide_by
     quartic_eq_same quartic_same_eq
 
 -- the vanishing polynomial is zero on the rows' domain alone
-vanishing_tells : (k : ℕ) → k ≤ 27 → (z : QuarticExtension) → (value_at (van bear_ring bear_inv (trace_domain k)) z ≡ quartic_ring.zero) ↔ IsInTraceDomain k z
+vanishing_tells : (k : ℕ) → k ≤ 27 → (z : QuarticExtension) → (value_at_point (vanishing_polynomial baby_bear_ring baby_bear_inv (swap_trace_domain k)) z ≡ quartic_ring.zero) ↔ IsInTraceDomain k z
 vanishing_tells k fits z = (
-  (λ e. van_only bear_ring bear_laws quartic_ring quartic_laws of_bear_value quartic_hom bear_inv bear_field_laws 27 bear_root bear_root_laws quartic_decided
-      quartic_field_laws.one_differs (field_no_zero_divisors quartic_ring quartic_laws quartic_inv quartic_field_laws) (trace_domain k) z bear_field_laws.one_differs fits e),
-  (λ p. ap (value_at (van bear_ring bear_inv (trace_domain k))) p.2
-      ∙ van_vanishes bear_ring bear_laws quartic_ring quartic_laws of_bear_value quartic_hom bear_inv bear_field_laws 27 bear_root bear_root_laws (trace_domain k) p.0 bear_field_laws.one_differs fits),
+  (λ e. vanishing_only_there baby_bear_ring baby_bear_laws quartic_ring quartic_laws of_baby_bear_value quartic_hom baby_bear_inv baby_bear_field_laws 27 baby_bear_root baby_bear_root_laws quartic_decided
+      quartic_field_laws.one_differs (field_no_zero_divisors quartic_ring quartic_laws quartic_inv quartic_field_laws) (swap_trace_domain k) z baby_bear_field_laws.one_differs fits e),
+  (λ p. ap (value_at_point (vanishing_polynomial baby_bear_ring baby_bear_inv (swap_trace_domain k))) p.2
+      ∙ vanishing_polynomial_vanishes baby_bear_ring baby_bear_laws quartic_ring quartic_laws of_baby_bear_value quartic_hom baby_bear_inv baby_bear_field_laws 27 baby_bear_root baby_bear_root_laws (swap_trace_domain k) p.0 baby_bear_field_laws.one_differs fits),
 )
 
 module _ (k : ℕ) (small : k ≤ 10) (main quotient : Rows BabyBear) (local next chunk : List QuarticExtension) (opening : PlainProof) (witness : BabyBear) (a b x : BabyBear) (alpha zeta : QuarticExtension) where
@@ -88,8 +88,8 @@ module _ (k : ℕ) (small : k ≤ 10) (main quotient : Rows BabyBear) (local nex
   -- the identity over the domain of 2^n rows, with this value of the quotient
   abbrev Over : ℕ → QuarticExtension → Type 0
   Over n q =
-      fold quartic_ring alpha (map (ev (reading quartic_ring of_bear_value (swap_values n publics zeta local next))) swap_trees)
-      ≡ quartic_ring.mul (value_at (van bear_ring bear_inv (trace_domain n)) zeta) q
+      fold quartic_ring alpha (map (eval_tree (point_reading quartic_ring of_baby_bear_value (swap_values n publics zeta local next))) swap_trees)
+      ≡ quartic_ring.mul (value_at_point (vanishing_polynomial baby_bear_ring baby_bear_inv (swap_trace_domain n)) zeta) q
 
   abbrev quotient_value : QuarticExtension
   quotient_value = combine quartic_ring quartic_basis 0 chunk
@@ -101,25 +101,25 @@ module _ (k : ℕ) (small : k ≤ 10) (main quotient : Rows BabyBear) (local nex
       let Q : QuarticExtension → Type 0 = λ q. Over k q ↔ I in
       subst P (sym m) (subst Q (sym r) ((λ h. h), (λ h. h)))
 
-  outside : (n : ℕ) → n ≡ k → (value_at (van bear_ring bear_inv (trace_domain n)) zeta ≡ quartic_ring.zero → ⊥) ↔ (IsInTraceDomain k zeta → ⊥)
+  outside : (n : ℕ) → n ≡ k → (value_at_point (vanishing_polynomial baby_bear_ring baby_bear_inv (swap_trace_domain n)) zeta ≡ quartic_ring.zero → ⊥) ↔ (IsInTraceDomain k zeta → ⊥)
   outside n e =
-      let P : ℕ → Type 0 = λ n. (value_at (van bear_ring bear_inv (trace_domain n)) zeta ≡ quartic_ring.zero → ⊥) ↔ (IsInTraceDomain k zeta → ⊥) in
+      let P : ℕ → Type 0 = λ n. (value_at_point (vanishing_polynomial baby_bear_ring baby_bear_inv (swap_trace_domain n)) zeta ≡ quartic_ring.zero → ⊥) ↔ (IsInTraceDomain k zeta → ⊥) in
       let t = vanishing_tells k (omega arith) zeta in
       subst P (sym e) ((λ h i. h (t.1 i)), (λ h z. h (t.0 z)))
 
-  pub identity_alike : Alike (in_turn 1 (identities_at tool_setting (swap_statement a b x) p {R = PlainError} (challenges_of tool_setting (swap_statement a b x) p) (domains_of tool_setting (swap_statement a b x) p) alpha zeta))
-      (point_checks k publics alpha zeta local next chunk)
+  pub identity_alike : Alike (in_turn 1 (identities_at tool_setting (swap_statement a b x) p {R = PlainError} (all_lookup_challenges tool_setting (swap_statement a b x) p) (domains_of tool_setting (swap_statement a b x) p) alpha zeta))
+      (zeta_checks k publics alpha zeta local next chunk)
   unfolding identity_checks folded_at tool_setting in_turn log_ceil
   identity_alike =
       let n = k - 0 in
       let m : n ≡ k = omega arith in
-      let d : CosetData BabyBear = record { shift = point bear_ring bear_root (record { shift = bear_ring.mul bear_ring.one (reduce 31); log_size = k + 0 }) 0; log_size = k + 0 - 0 } in
+      let d : CosetData BabyBear = record { shift = point baby_bear_ring baby_bear_root (record { shift = baby_bear_ring.mul baby_bear_ring.one (reduce 31); log_size = k + 0 }) 0; log_size = k + 0 - 0 } in
       let q = recombined tool_setting.field tool_setting.extension (d ∷ []) (chunk ∷ []) zeta in
-      let P : Type 0 = value_at (van bear_ring bear_inv (trace_domain n)) zeta ≡ quartic_ring.zero → ⊥ in
+      let P : Type 0 = value_at_point (vanishing_polynomial baby_bear_ring baby_bear_inv (swap_trace_domain n)) zeta ≡ quartic_ring.zero → ⊥ in
       let I : Type 0 = SwapIdentity k publics alpha zeta local next chunk in
       let first : VerificationError PlainError = OodPointInDomain in
       let second : VerificationError PlainError = OodEvaluationMismatch (Some 0) in
-      alike_before (periods_check (2 ^ n) []) (verified (check first P) ∷ verified (check second (Over n q)) ∷ []) (point_checks k publics alpha zeta local next chunk) (periods_hold (2 ^ n))
+      alike_before (periods_check (2 ^ n) []) (verified (check first P) ∷ verified (check second (Over n q)) ∷ []) (zeta_checks k publics alpha zeta local next chunk) (periods_hold (2 ^ n))
       (alike_append (verified (check first P) ∷ []) (check (Verification first) (IsInTraceDomain k zeta → ⊥) ∷ []) (verified (check second (Over n q)) ∷ []) (check (Verification second) I ∷ [])
       (verified_alike first P (IsInTraceDomain k zeta → ⊥) (outside n m))
       (verified_alike second (Over n q) I (same_identity n q m (one_chunk tool_setting.field tool_setting.extension quartic_laws d chunk zeta))))

@@ -14,8 +14,8 @@ use Rattle.batch_statement.specs.Statement.{Statement}
 use Rattle.batch_shape_checks.specs.ShapeChecks.{no_opened}
 use Rattle.tool_statement.specs.StatedTables.{tool_common, tool_statement}
 use Rattle.tool_statement.specs.declared.table.TableStatement.TheVariants.{Swap}
-use Rattle.swap_checks.specs.SwapShape.{SwapProof, Single, HasLength, HasShape, IsSwapOpening, IsSwapShape}
-use Rattle.swap_checks.specs.SwapChecks.{matrix_of, opened_of, local_opened, next_opened, chunk_opened}
+use Rattle.swap_checks.specs.SwapShape.{SwapProof, Single, HasLength, HasWidthAndHeight, IsSwapOpening, IsSwapShape}
+use Rattle.swap_checks.specs.SwapChecks.{single_matrix_of, swap_opened_of, local_opened, next_opened, swap_chunk_opened}
 
 -- what is opened of one table
 abbrev pub opening_of : (local next chunk : List QuarticExtension) → OpenedWithLookups QuarticExtension
@@ -43,8 +43,8 @@ proof_of k main quotient local next chunk opening witness = record {
 
 -- the parts have these lengths
 pub record ArePlain (k : ℕ) (main quotient : Rows BabyBear) (local next chunk : List QuarticExtension) : Type 0 where
-  pub main_is : HasShape 2 (2 ^ (k + 1)) main
-  pub quotient_is : HasShape 4 (2 ^ (k + 1)) quotient
+  pub main_is : HasWidthAndHeight 2 (2 ^ (k + 1)) main
+  pub quotient_is : HasWidthAndHeight 4 (2 ^ (k + 1)) quotient
   pub local_is : length local ≡ 2
   pub next_is : length next ≡ 2
   pub chunk_is : length chunk ≡ 4
@@ -82,25 +82,25 @@ opening_is o h =
     }
 
 module _ (k : ℕ) (p : SwapProof) (shape : IsSwapShape k p) where
-  opened_is : IsSwapOpening (opened_of p)
+  opened_is : IsSwapOpening (swap_opened_of p)
   opened_is = the_item IsSwapOpening no_opened p.instances shape.instances
 
-  pub parts_are : ArePlain k (matrix_of p.commitments.main) (matrix_of p.commitments.quotient_chunks) (local_opened p) (next_opened p) (chunk_opened p)
+  pub parts_are : ArePlain k (single_matrix_of p.commitments.main) (single_matrix_of p.commitments.quotient_chunks) (local_opened p) (next_opened p) (swap_chunk_opened p)
   parts_are = record {
-    main_is = the_item (HasShape 2 (2 ^ (k + 1))) (record { values = []; width = 0 }) p.commitments.main.matrices shape.main;
-    quotient_is = the_item (HasShape 4 (2 ^ (k + 1))) (record { values = []; width = 0 }) p.commitments.quotient_chunks.matrices shape.quotient_chunks;
+    main_is = the_item (HasWidthAndHeight 2 (2 ^ (k + 1))) (record { values = []; width = 0 }) p.commitments.main.matrices shape.main;
+    quotient_is = the_item (HasWidthAndHeight 4 (2 ^ (k + 1))) (record { values = []; width = 0 }) p.commitments.quotient_chunks.matrices shape.quotient_chunks;
     local_is = opened_is.trace_local;
-    next_is = the_value (HasLength 2) [] (opened_of p).base.trace_next opened_is.trace_next;
-    chunk_is = the_item (HasLength 4) [] (opened_of p).base.quotient_chunks opened_is.quotient_chunks;
+    next_is = the_value (HasLength 2) [] (swap_opened_of p).base.trace_next opened_is.trace_next;
+    chunk_is = the_item (HasLength 4) [] (swap_opened_of p).base.quotient_chunks opened_is.quotient_chunks;
   }
 
-  pub proof_is : p ≡ proof_of k (matrix_of p.commitments.main) (matrix_of p.commitments.quotient_chunks) (local_opened p) (next_opened p) (chunk_opened p) p.opening_proof p.ood_pow_witness
+  pub proof_is : p ≡ proof_of k (single_matrix_of p.commitments.main) (single_matrix_of p.commitments.quotient_chunks) (local_opened p) (next_opened p) (swap_chunk_opened p) p.opening_proof p.ood_pow_witness
   proof_is =
-      let main = the_list (HasShape 2 (2 ^ (k + 1))) (record { values = []; width = 0 }) p.commitments.main.matrices shape.main in
-      let quotient = the_list (HasShape 4 (2 ^ (k + 1))) (record { values = []; width = 0 }) p.commitments.quotient_chunks.matrices shape.quotient_chunks in
+      let main = the_list (HasWidthAndHeight 2 (2 ^ (k + 1))) (record { values = []; width = 0 }) p.commitments.main.matrices shape.main in
+      let quotient = the_list (HasWidthAndHeight 4 (2 ^ (k + 1))) (record { values = []; width = 0 }) p.commitments.quotient_chunks.matrices shape.quotient_chunks in
       let permutation = shape.permutation in
       let random = shape.random in
-      let instances : p.instances ≡ opening_of (local_opened p) (next_opened p) (chunk_opened p) ∷ [] = the_list IsSwapOpening no_opened p.instances shape.instances ∙ ap (λ v. v ∷ []) (opening_is (opened_of p) opened_is) in
+      let instances : p.instances ≡ opening_of (local_opened p) (next_opened p) (swap_chunk_opened p) ∷ [] = the_list IsSwapOpening no_opened p.instances shape.instances ∙ ap (λ v. v ∷ []) (opening_is (swap_opened_of p) opened_is) in
       let terminals = shape.lookup_terminals in
       let bits = shape.degree_bits in
       let witness = shape.lookup_pow_witness in
@@ -115,7 +115,7 @@ module _ (k : ℕ) (p : SwapProof) (shape : IsSwapShape k p) where
       }
 
 -- the heights of the matrices
-pub shape_height : (columns rows : ℕ) (m : Rows BabyBear) → 1 ≤ columns → HasShape columns rows m → height m ≡ rows
+pub shape_height : (columns rows : ℕ) (m : Rows BabyBear) → 1 ≤ columns → HasWidthAndHeight columns rows m → height m ≡ rows
 shape_height columns rows m positive h =
     ap (λ w. length m.values / w) h.width ∙ product_height m.values rows columns (let e = h.values in e ∙ mul_comm columns rows) positive
 

@@ -1,7 +1,7 @@
 -- No check of a batch's shape fails on a proof of one swap table.
 use Rattle.std.proofs.Common.{◌≡◌, ℕ, zero, suc, ◌≤◌, List, [], ◌∷◌, length, All, refl, ap, Some, false, arith}
 use Rattle.p3_field.specs.Checks.{NoneFails, in_turn}
-use Rattle.p3_field.specs.BabyBear.{bear_ring}
+use Rattle.p3_field.specs.BabyBear.{baby_bear_ring}
 use Rattle.p3_field.specs.declared.baby_bear.BabyBear.{BabyBear}
 use Rattle.p3_field.specs.declared.quartic.QuarticExtension.{QuarticExtension}
 use Rattle.p3_matrix.specs.Matrix.{Rows}
@@ -11,7 +11,7 @@ use Rattle.plain_pcs.specs.declared.error.PlainError.{PlainError}
 use Rattle.batch_constraints.specs.Sizing.{log_ceil}
 use Rattle.batch_statement.specs.Proof.{OpenedWithLookups}
 use Rattle.batch_shape_checks.specs.ShapeChecks.{shape_checks, table_checks, is_there}
-use Rattle.batch_openings.specs.OpeningChecks.{bounds_of}
+use Rattle.batch_openings.specs.OpeningChecks.{shape_bounds_of}
 use Rattle.tool_statement.specs.Config.{tool_setting}
 use Rattle.swap_checks.specs.SwapShape.{SwapProof}
 use Rattle.swap_checks.proofs.Parts.{ArePlain, opening_of, proof_of, swap_statement}
@@ -26,7 +26,7 @@ module _ (k : ℕ) (small : k ≤ 10) (main quotient : Rows BabyBear) (local nex
   abbrev p : SwapProof
   p = proof_of k main quotient local next chunk opening witness
 
-  pub shape_holds : NoneFails (shape_checks {R = PlainError} bear_ring (bounds_of tool_setting) (swap_statement a b x) p)
+  pub shape_holds : NoneFails (shape_checks {R = PlainError} baby_bear_ring (shape_bounds_of tool_setting) (swap_statement a b x) p)
   unfolding shape_checks table_checks in_turn NoneFails log_ceil opened_below tool_setting
   shape_holds = (
     record { instances = refl; publics = refl; degree_bits = refl; terminals = refl; lookups = refl; entries = tt },

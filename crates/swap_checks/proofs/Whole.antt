@@ -1,6 +1,6 @@
 -- All of a batch's checks on a proof of one swap table come to `swap_checks`.
 use Rattle.std.proofs.Common.{ℕ, ◌≤◌, List, [], ◌∷◌, ◌++◌, refl, sym, subst, None}
-use Rattle.p3_field.specs.BabyBear.{bear_ring}
+use Rattle.p3_field.specs.BabyBear.{baby_bear_ring}
 use Rattle.p3_field.specs.Checks.{Check, NoneFails}
 use Rattle.p3_field.specs.Quartic.{quartic_ring}
 use Rattle.p3_field.specs.declared.baby_bear.BabyBear.{BabyBear}
@@ -13,15 +13,15 @@ use Rattle.plain_pcs.specs.declared.error.PlainError.{PlainError}
 use Rattle.batch_transcript.specs.BatchScript.{Draws}
 use Rattle.batch_statement.specs.Statement.{Statement}
 use Rattle.batch_shape_checks.specs.ShapeChecks.{shape_checks}
-use Rattle.batch_openings.specs.OpeningChecks.{bounds_of, opening_checks}
+use Rattle.batch_openings.specs.OpeningChecks.{shape_bounds_of, opening_checks}
 use Rattle.batch_identity_checks.specs.TableIdentity.{terminal_check}
 use Rattle.batch_verifier.specs.BatchChecks.{checks, drawn_of, draw_part, identity_part}
 use Rattle.tool_statement.specs.Config.{tool_setting, tool_backend}
 use Rattle.tool_statement.specs.StatedTables.{tool_statement}
 use Rattle.tool_statement.specs.declared.table.TableStatement.TheVariants.{Swap}
 use Rattle.swap_checks.specs.SwapShape.{SwapProof, IsSwapShape}
-use Rattle.swap_checks.specs.SwapChecks.{Refusal, matrix_of, local_opened, next_opened, chunk_opened, grinding_check, main_checks, quotient_checks, point_checks, checks_with, swap_checks}
-use Rattle.swap_checks.proofs.Alike.{Alike, alike_then, alike_grouped, alike_before, alike_behind, alike_append}
+use Rattle.swap_checks.specs.SwapChecks.{Refusal, single_matrix_of, local_opened, next_opened, swap_chunk_opened, grinding_check, main_column_checks, quotient_checks, zeta_checks, checks_with, swap_checks}
+use Rattle.swap_checks.proofs.Alike.{Alike, alike_then, alike_grouped, alike_before, alike_after, alike_append}
 use Rattle.swap_checks.proofs.Parts.{ArePlain, parts_are, proof_of, proof_is, statement_is, swap_statement}
 use Rattle.swap_checks.proofs.Shape.{shape_holds}
 use Rattle.swap_checks.proofs.Grinding.{grinding_alike}
@@ -47,17 +47,17 @@ module _ (k : ℕ) (small : k ≤ 10) (main quotient : Rows BabyBear) (local nex
   parts_alike : Alike (checks tool_setting tool_backend s p) (checks_with d k a b x p)
   unfolding checks tool_setting
   parts_alike =
-      let shape : List (Check Refusal) = shape_checks bear_ring (bounds_of tool_setting) s p in
+      let shape : List (Check Refusal) = shape_checks baby_bear_ring (shape_bounds_of tool_setting) s p in
       let draws : List (Check Refusal) = draw_part tool_setting s p in
       let openings : List (Check Refusal) = opening_checks tool_setting tool_backend s p d.zeta d.opening in
       let identities : List (Check Refusal) = identity_part tool_setting s p in
       let terminals : List (Check Refusal) = terminal_check quartic_ring (None ∷ []) in
       let grinding = grinding_check d.ood_passed in
-      let table = main_checks k main d.zeta local next in
+      let table = main_column_checks k main d.zeta local next in
       let quotients = quotient_checks k quotient d.zeta chunk in
       let opened = table ++ quotients in
-      let last = point_checks k (a ∷ b ∷ x ∷ []) d.alpha d.zeta local next chunk in
-      alike_behind (shape ++ draws ++ openings ++ identities) terminals (grinding ++ table ++ quotients ++ last) terminals_hold
+      let last = zeta_checks k (a ∷ b ∷ x ∷ []) d.alpha d.zeta local next chunk in
+      alike_after (shape ++ draws ++ openings ++ identities) terminals (grinding ++ table ++ quotients ++ last) terminals_hold
       (alike_append (shape ++ draws ++ openings) (grinding ++ table ++ quotients) identities last
       (alike_then (shape ++ draws ++ openings) (grinding ++ opened) (grinding ++ table ++ quotients)
       (alike_append (shape ++ draws) grinding openings opened
@@ -76,4 +76,4 @@ all_alike k a b x p small shape =
     let P : SwapProof → Type 0 = λ p. Same (swap_statement a b x) p in
     subst S (sym (statement_is k a b x))
     (subst P (sym (proof_is k p shape))
-    (parts_alike k small (matrix_of p.commitments.main) (matrix_of p.commitments.quotient_chunks) (local_opened p) (next_opened p) (chunk_opened p) p.opening_proof p.ood_pow_witness (parts_are k p shape) a b x))
+    (parts_alike k small (single_matrix_of p.commitments.main) (single_matrix_of p.commitments.quotient_chunks) (local_opened p) (next_opened p) (swap_chunk_opened p) p.opening_proof p.ood_pow_witness (parts_are k p shape) a b x))

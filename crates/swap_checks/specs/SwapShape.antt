@@ -22,7 +22,7 @@ abbrev pub HasLength : {A : Type 0} → ℕ → List A → Type 0
 HasLength n xs = length xs ≡ n
 
 -- a matrix of this width and height
-pub record HasShape (columns rows : ℕ) (m : Rows BabyBear) : Type 0 where
+pub record HasWidthAndHeight (columns rows : ℕ) (m : Rows BabyBear) : Type 0 where
   pub width : m.width ≡ columns
   pub values : length m.values ≡ columns * rows
 
@@ -39,9 +39,9 @@ pub record IsSwapOpening (o : OpenedWithLookups QuarticExtension) : Type 0 where
 -- A proof with the shape of an honest one of a swap table of 2^k rows: one matrix of two columns and one of four are committed to, whose values stand on a
 -- domain twice as large as the rows', and nothing is there of lookups or of what is random.
 pub record IsSwapShape (k : ℕ) (p : SwapProof) : Type 0 where
-  pub main : Single (HasShape 2 (2 ^ (k + 1))) p.commitments.main.matrices
+  pub main : Single (HasWidthAndHeight 2 (2 ^ (k + 1))) p.commitments.main.matrices
   pub permutation : p.commitments.permutation ≡ None
-  pub quotient_chunks : Single (HasShape 4 (2 ^ (k + 1))) p.commitments.quotient_chunks.matrices
+  pub quotient_chunks : Single (HasWidthAndHeight 4 (2 ^ (k + 1))) p.commitments.quotient_chunks.matrices
   pub random : p.commitments.random ≡ None
   pub instances : Single IsSwapOpening p.instances
   pub lookup_terminals : p.lookup_terminals ≡ None ∷ []

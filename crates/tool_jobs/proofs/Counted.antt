@@ -7,12 +7,12 @@ use Rattle.std.proofs.lemmas.Bool.{cases_lt}
 use Rattle.std.proofs.lemmas.List.Sorted.{sum_by-IsPermutation}
 use Rattle.std.proofs.lemmas.List.Sums.{sum_by-append, sum_by-cons}
 use Rattle.std.proofs.Math.Nat.{mod-eq_of_lt}
-use Rattle.p3_field.specs.BabyBear.{bear_ring}
-use Rattle.p3_field.specs.Laws.BearLaws.{bear_of_nat_value}
+use Rattle.p3_field.specs.BabyBear.{baby_bear_ring}
+use Rattle.p3_field.specs.Laws.BabyBearLaws.{baby_bear_of_nat_value}
 use Rattle.p3_field.specs.Ring.{of_nat}
 use Rattle.p3_field.specs.declared.baby_bear.BabyBear.{BabyBear}
 use Rattle.tool_validity.specs.Job.{IsBalancedJob, JobTable, swap_of, wheel_of, take_of, give_of, hash_of, times_given, times_taken}
-use Rattle.tool_jobs.specs.Tallies.{IsFirstUnequal, given_in, given_often, taken_in, taken_once, tallies_of, times}
+use Rattle.tool_jobs.specs.Tallies.{IsFirstUnequal, given_in, given_often, taken_in, taken_once, tallies_of, tally_times}
 use Rattle.tool_jobs.specs.Unbalanced.{IsFirstUnbalanced, same_word}
 use Rattle.tool_jobs.specs.declared.balance.Tally.{Tally}
 use Rattle.tool_jobs.proofs.Runs.{miss}
@@ -74,7 +74,7 @@ module _ (job : List (JobTable BabyBear)) (sorted : List Tally) (moved : IsPermu
   answered-none equal = λ w. taken-job w.value ∙ (equal w.value ∙ sym (given-job w.value))
 
   -- no word has a number from the order on
-  absent : (often : Tally → ℕ) (v : ℕ) → 2013265921 ≤ v → times often v sorted ≡ 0
+  absent : (often : Tally → ℕ) (v : ℕ) → 2013265921 ≤ v → tally_times often v sorted ≡ 0
   absent often v high =
       let f : Tally → ℕ = λ t. cond (t.number == v) (often t) 0 in
       let one : (x : BabyBear) → x.value ≡ v → ⊥ = λ x e. let h = x.in_range in omega (arith, h, e, high) in
@@ -97,9 +97,9 @@ module _ (job : List (JobTable BabyBear)) (sorted : List Tally) (moved : IsPermu
     | inr high ↦ absurd (h.unequal (absent (λ t. t.taken) n high ∙ sym (absent (λ t. t.given) n high)))
   ]
 
-  pub answered-some : (n : ℕ) (x : BabyBear) → IsFirstUnequal sorted n → x ≡ of_nat bear_ring n → IsFirstUnbalanced job x
+  pub answered-some : (n : ℕ) (x : BabyBear) → IsFirstUnequal sorted n → x ≡ of_nat baby_bear_ring n → IsFirstUnbalanced job x
   answered-some n x h e =
-      let value : n ≡ x.value = sym (mod-eq_of_lt (is-number n h)) ∙ (bear_of_nat_value n ∙ ap (λ (y : BabyBear). y.value) (sym e)) in
+      let value : n ≡ x.value = sym (mod-eq_of_lt (is-number n h)) ∙ (baby_bear_of_nat_value n ∙ ap (λ (y : BabyBear). y.value) (sym e)) in
       record {
         unbalanced = λ same. h.unequal (subst (λ m. taken_in m sorted ≡ given_in m sorted) (sym value) (sym (taken-job x.value) ∙ (same ∙ given-job x.value)));
         least = λ w less. taken-job w.value ∙ (h.least w.value (omega (arith, less, value)) ∙ sym (given-job w.value));

@@ -5,8 +5,8 @@ use Rattle.std.proofs.lemmas.List.{append-nil, get_or-map, length-map, map-appen
 use Rattle.std.proofs.lemmas.List.Concat.{flat_map-append}
 use Rattle.std.proofs.lemmas.Grind.{one_shifted}
 use Rattle.std.proofs.Math.Pow.{pow_mono}
-use Rattle.p3_field.specs.Poly.{table}
-use Rattle.p3_field.specs.Laws.Tables.{table_more}
+use Rattle.p3_field.specs.Poly.{tabulate}
+use Rattle.p3_field.specs.Laws.Tabulate.{tabulate_more}
 use Rattle.p3_matrix.specs.Matrix.{FillsRows}
 use Rattle.p3_matrix.specs.Laws.Flattened.{length-pieces}
 use Rattle.p3_matrix.specs.Laws.Grids.{product_fills}
@@ -25,8 +25,8 @@ pub rows-grow : {X A : Type 0} (f : X → List A) (xs : List X) (x : X) (old new
 rows-grow f xs x old new e h = h ∙ (ap (λ (l : List _). l ++ f x) e ∙ sym (flat_map-append f xs (x ∷ []) ∙ ap (λ (l : List _). flat_map f xs ++ l) (append-nil (f x))))
 
 -- the same of the rows with numbers below n
-pub rows-next : {A : Type 0} (f : ℕ → List A) (n : ℕ) (old new : List A) → old ≡ flat_map f (table n (λ i. i)) → new ≡ old ++ f n → new ≡ flat_map f (table (n + 1) (λ i. i))
-rows-next f n old new e h = rows-grow f (table n (λ i. i)) n old new e h ∙ ap (λ (l : List ℕ). flat_map f l) (table_more n (λ i. i))
+pub rows-next : {A : Type 0} (f : ℕ → List A) (n : ℕ) (old new : List A) → old ≡ flat_map f (tabulate n (λ i. i)) → new ≡ old ++ f n → new ≡ flat_map f (tabulate (n + 1) (λ i. i))
+rows-next f n old new e h = rows-grow f (tabulate n (λ i. i)) n old new e h ∙ ap (λ (l : List ℕ). flat_map f l) (tabulate_more n (λ i. i))
 
 -- the same of the rows of the first n items
 pub rows-more : {X Y A : Type 0} (f : Y → List A) (g : X → Y) (xs : List X) (n : ℕ) (x : X) (old new : List A) → n < length xs → x ≡ get_or xs n x

@@ -1,8 +1,8 @@
 -- Jobs as the program has them, seen as the plain data of tool_validity; the words of their text, and their limits.
 use Rattle.std.specs.Prelude.{ℕ, List, [], ◌∷◌, map}
 use Rattle.p3_field.specs.declared.baby_bear.BabyBear.{BabyBear}
-use Rattle.line_format.specs.Texts.{ListWithin, element_words, list_words}
-use Rattle.tool_validity.specs.Job.{IsWithin, JobTable, swap_of, wheel_of, take_of, give_of, hash_of}
+use Rattle.line_format.specs.Texts.{ListWithin, element_numbers, list_numbers}
+use Rattle.tool_validity.specs.Job.{IsJobTableWithin, JobTable, swap_of, wheel_of, take_of, give_of, hash_of}
 use Rattle.tool_jobs.specs.declared.table.GivenWord.{GivenWord}
 use Rattle.tool_jobs.specs.declared.table.JobTable.{JobTable as Table}
 use Rattle.tool_jobs.specs.declared.table.JobTable.TheVariants.{Swap, Wheel, Take, Give, Hash}
@@ -23,24 +23,24 @@ abbrev pub read_tables : List Table → List (JobTable BabyBear)
 read_tables tables = map read_table tables
 
 -- a word, and how often it is given
-abbrev pub given_words : BabyBear × ℕ → List ℕ
-given_words p = p.0.value ∷ p.1 ∷ []
+abbrev pub given_numbers : BabyBear × ℕ → List ℕ
+given_numbers p = p.0.value ∷ p.1 ∷ []
 
 -- a row of compressions: its 24 words
-abbrev pub row_words : List ℕ → List ℕ
-row_words row = row
+abbrev pub row_numbers : List ℕ → List ℕ
+row_numbers row = row
 
 -- a table: its kind; the logarithm of its rows, or the list of its words or rows; and a swap table's first row
-abbrev pub table_words : JobTable BabyBear → List ℕ
-table_words (swap_of k a b) = 1 ∷ k ∷ a.value ∷ b.value ∷ []
-table_words (wheel_of k) = 2 ∷ k ∷ []
-table_words (take_of words) = 3 ∷ list_words element_words words
-table_words (give_of pairs) = 4 ∷ list_words given_words pairs
-table_words (hash_of rows) = 5 ∷ list_words row_words rows
+abbrev pub table_numbers : JobTable BabyBear → List ℕ
+table_numbers (swap_of k a b) = 1 ∷ k ∷ a.value ∷ b.value ∷ []
+table_numbers (wheel_of k) = 2 ∷ k ∷ []
+table_numbers (take_of words) = 3 ∷ list_numbers element_numbers words
+table_numbers (give_of pairs) = 4 ∷ list_numbers given_numbers pairs
+table_numbers (hash_of rows) = 5 ∷ list_numbers row_numbers rows
 
 -- a job: a list of one to eight tables, each within its limits
 abbrev pub JobWithin : List (JobTable BabyBear) → Type 0
-JobWithin job = ListWithin 1 8 IsWithin job
+JobWithin job = ListWithin 1 8 IsJobTableWithin job
 
-abbrev pub job_words : List (JobTable BabyBear) → List ℕ
-job_words job = list_words table_words job
+abbrev pub job_numbers : List (JobTable BabyBear) → List ℕ
+job_numbers job = list_numbers table_numbers job

@@ -20,14 +20,14 @@ tallies_of (give_of pairs) = map given_often pairs
 tallies_of (hash_of rows) = []
 
 -- how often rows take, or give, the word with this number
-abbrev pub times : (Tally → ℕ) → ℕ → List Tally → ℕ
-times often v rows = sum_by (λ t. cond (t.number == v) (often t) 0) rows
+abbrev pub tally_times : (Tally → ℕ) → ℕ → List Tally → ℕ
+tally_times often v rows = sum_by (λ t. cond (t.number == v) (often t) 0) rows
 
 abbrev pub taken_in : ℕ → List Tally → ℕ
-taken_in v rows = times (λ t. t.taken) v rows
+taken_in v rows = tally_times (λ t. t.taken) v rows
 
 abbrev pub given_in : ℕ → List Tally → ℕ
-given_in v rows = times (λ t. t.given) v rows
+given_in v rows = tally_times (λ t. t.given) v rows
 
 -- the word with this number is taken in another number than it is given, and no word with a lesser number is
 pub record IsFirstUnequal (rows : List Tally) (number : ℕ) : Type 0 where

@@ -98,8 +98,8 @@ fn first_unequal(tallies: &[Tally]) -> Option<u64>
     if taken == given { None } else { Some(number) }
 }
 
-/// None exactly where each word of the job is taken as often as it is given (own); else the least word, by its canonical number, that
-/// isn't. The time is that of sorting the job's words. The only error is running out of memory.
+/// None exactly where each word of the job is taken as often as it is given (not in Plonky3); else the least word, by its canonical
+/// number, that isn't. The time is that of sorting the job's words. The only error is running out of memory.
 pub fn first_unbalanced(alloc: Global, job: &[JobTable]) -> Mem<Option<BabyBear>>
     ensures { IfOk result (λ o. MatchOption o (IsBalancedJob same_word (read_tables job.now)) (IsFirstUnbalanced (read_tables job.now))) }
 {

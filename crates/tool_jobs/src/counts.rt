@@ -1,6 +1,6 @@
 //! Lists whose number of items is a power of two.
 ghost use Rattle.std.specs.Prelude.{List, ℕ, ◌≤◌, MatchOption, map};
-ghost use Rattle.line_format.specs.Texts.{Reads, ReadsKnown, ReadsOne, Stops, list_words, number_words};
+ghost use Rattle.line_format.specs.Texts.{Reads, ReadsKnown, ReadsOne, Stops, list_numbers, one_number};
 ghost use Rattle.tool_jobs.specs.Laws.Counts.{IsCount, PowersWithin};
 
 use line_format::{Form, ItemError, Reader, read_items};
@@ -10,7 +10,7 @@ use std::alloc::Global;
 // The number on the next line, if that is a power of two up to `most`. Nothing is read.
 fn next_count(reader: &Reader, most: u32) -> Option<u32>
     requires { 1 ≤ most }
-    ensures { MatchOption result (Stops (IsCount most) number_words reader.now reader.now) (λ n. (rest : List ℕ) × Reads (IsCount most) number_words reader.now rest n) }
+    ensures { MatchOption result (Stops (IsCount most) one_number reader.now reader.now) (λ n. (rest : List ℕ) × Reads (IsCount most) one_number reader.now rest n) }
 {
     let mut ahead = Reader::new(reader.rest());
     match ahead.number(1, most) {
@@ -29,7 +29,7 @@ fn next_count(reader: &Reader, most: u32) -> Option<u32>
 // then nothing is read.
 fn read_count(reader: &mut Reader, most: u32) -> Result<u32, ItemError>
     requires { 1 ≤ most }
-    ensures { ReadsKnown (IsCount most) number_words reader.old reader.new result }
+    ensures { ReadsKnown (IsCount most) one_number reader.old reader.new result }
 {
     match next_count(reader, most) {
         Some(count) => reader.number(count, count),
@@ -46,7 +46,7 @@ pub(crate) fn read_powers<T: Form>(
     most: u32,
 ) -> Result<Vec<T::Value>, ItemError>
     requires { 1 ≤ most }
-    ensures { ReadsOne (λ v. map T.data_of v.items) (PowersWithin most T.within) (list_words T.words) reader.old reader.new result }
+    ensures { ReadsOne (λ v. map T.data_of v.items) (PowersWithin most T.within) (list_numbers T.numbers) reader.old reader.new result }
 {
     let count = read_count(reader, most)?;
     read_items::<T>(alloc, reader, count as usize)

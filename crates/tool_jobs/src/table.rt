@@ -1,11 +1,11 @@
 //! The tables of a job.
 ghost use Rattle.std.specs.Int.{IsPowerOfTwo};
 ghost use Rattle.std.specs.Prelude.{◌≡◌, ◌≤◌, IfOk};
-ghost use Rattle.p3_field.specs.BabyBear.{bear_ring};
+ghost use Rattle.p3_field.specs.BabyBear.{baby_bear_ring};
 ghost use Rattle.batch_setup.specs.Setup.{log_of};
 ghost use Rattle.tool_statement.specs.StatedTables.{TableWithin, log_height_of, publics_of, source_of_table};
-ghost use Rattle.tool_validity.specs.Job.{IsWithin, source_of_job, trace_of};
-ghost use Rattle.tool_validity.specs.Job.{last_right as last_right_of, log_height_of as rows_log_of, publics_of as table_publics};
+ghost use Rattle.tool_validity.specs.Job.{IsJobTableWithin, source_of_job, trace_of};
+ghost use Rattle.tool_validity.specs.Job.{last_right as last_right_of, job_log_height_of as rows_log_of, job_publics_of as table_publics};
 ghost use Rattle.tool_jobs.specs.Jobs.{read_table};
 ghost use Rattle.tool_jobs.specs.Stated.{statement_of};
 
@@ -15,7 +15,7 @@ use p3_matrix::{RowMajorMatrix, log2_strict_usize};
 use std::alloc::Global;
 use tool_statement::TableStatement;
 
-/// A word that a table gives, and how often (own).
+/// A word that a table gives, and how often (not in Plonky3).
 #[derive(Clone, Copy, Debug, PartialEq, Eq)]
 pub struct GivenWord {
     /// The word.
@@ -24,7 +24,8 @@ pub struct GivenWord {
     pub count: u16,
 }
 
-/// A table of a job (own). Contracts see it as plain data by `read_table` of `specs/Jobs.antt`.
+/// A table of a job (not in Plonky3). Contracts see it as plain data by `read_table` of
+/// `specs/Jobs.antt`.
 #[derive(Drop)]
 pub enum JobTable {
     /// A swap table: rows of two cells, (a, b) in the rows of even number and (b, a) in those of odd number.
@@ -77,15 +78,15 @@ fn last_right(k: u8, a: BabyBear, b: BabyBear) -> BabyBear
 }
 
 impl JobTable {
-    /// What is stated of the table (own): its kind, the base-2 logarithm of its rows and, of a swap table, its first row and last right
-    /// cell.
+    /// What is stated of the table (not in Plonky3): its kind, the base-2 logarithm of its rows and, of a swap table, its first row and
+    /// last right cell.
     pub fn statement(&self) -> TableStatement
-        requires { IsWithin (read_table self.now) }
+        requires { IsJobTableWithin (read_table self.now) }
         ensures stated { result ≡ statement_of (read_table self.now) }
         ensures within { TableWithin result }
         ensures height { log_height_of result ≡ rows_log_of (read_table self.now) }
         ensures publics { publics_of result ≡ table_publics (read_table self.now) }
-        ensures source { source_of_table result ≡ source_of_job bear_ring (read_table self.now) }
+        ensures source { source_of_table result ≡ source_of_job baby_bear_ring (read_table self.now) }
     {
         match self {
             JobTable::Swap { k, a, b } => TableStatement::Swap {
@@ -107,10 +108,10 @@ impl JobTable {
         }
     }
 
-    /// The table's trace (own), row by row. The only error is running out of memory.
+    /// The table's trace (not in Plonky3), row by row. The only error is running out of memory.
     pub fn trace(&self, alloc: Global) -> Mem<RowMajorMatrix<BabyBear>>
-        requires { IsWithin (read_table self.now) }
-        ensures { IfOk result (λ m. m ≡ trace_of bear_ring (read_table self.now)) }
+        requires { IsJobTableWithin (read_table self.now) }
+        ensures { IfOk result (λ m. m ≡ trace_of baby_bear_ring (read_table self.now)) }
     {
         match self {
             JobTable::Swap { k, a, b } => swap_trace(alloc, *k as usize, *a, *b),

@@ -2,8 +2,8 @@
 ghost use Rattle.std.specs.Prelude.{◌≡◌, ◌≤◌, IfOk};
 ghost use Rattle.line_format.specs.Texts.{ReadsOne, line_text};
 ghost use Rattle.line_format.specs.WholeText.{ReadsText};
-ghost use Rattle.tool_jobs.specs.Jobs.{JobWithin, job_words, read_table, read_tables};
-ghost use Rattle.tool_jobs.specs.Laws.Kinds.{KindWithin, body_words};
+ghost use Rattle.tool_jobs.specs.Jobs.{JobWithin, job_numbers, read_table, read_tables};
+ghost use Rattle.tool_jobs.specs.Laws.Kinds.{KindWithin, body_numbers};
 
 use crate::counts::read_powers;
 use crate::table::{GivenWord, JobTable};
@@ -53,7 +53,7 @@ impl Form for GivenWord {
 
     ghost use Rattle.std.specs.Prelude.{ℕ};
     ghost use Rattle.p3_field.specs.declared.baby_bear.BabyBear.{BabyBear as Element};
-    ghost use Rattle.tool_jobs.specs.Jobs.{given_words, read_given};
+    ghost use Rattle.tool_jobs.specs.Jobs.{given_numbers, read_given};
     ghost use Rattle.tool_jobs.specs.Laws.Kinds.{GivenWithin, given-grammar};
 
     ghost Data = { Element × ℕ };
@@ -62,7 +62,7 @@ impl Form for GivenWord {
 
     ghost within = { GivenWithin };
 
-    ghost words = { given_words };
+    ghost numbers = { given_numbers };
 
     ghost grammar = { given-grammar };
 
@@ -88,7 +88,7 @@ impl Form for WordLine {
     type Value = u32;
 
     ghost use Rattle.std.specs.Prelude.{ℕ};
-    ghost use Rattle.line_format.specs.Texts.{Between, number_words};
+    ghost use Rattle.line_format.specs.Texts.{Between, one_number};
     ghost use Rattle.tool_jobs.specs.Laws.Kinds.{word-grammar};
 
     ghost Data = { ℕ };
@@ -97,7 +97,7 @@ impl Form for WordLine {
 
     ghost within = { Between 0 4294967295 };
 
-    ghost words = { number_words };
+    ghost numbers = { one_number };
 
     ghost grammar = { word-grammar };
 
@@ -118,7 +118,7 @@ impl Form for HashRow {
 
     ghost use Rattle.std.specs.Prelude.{List, ℕ};
     ghost use Rattle.tool_validity.specs.Job.{IsHashRow};
-    ghost use Rattle.tool_jobs.specs.Jobs.{row_words};
+    ghost use Rattle.tool_jobs.specs.Jobs.{row_numbers};
     ghost use Rattle.tool_jobs.specs.Laws.Kinds.{row-grammar};
 
     ghost Data = { List ℕ };
@@ -127,7 +127,7 @@ impl Form for HashRow {
 
     ghost within = { IsHashRow };
 
-    ghost words = { row_words };
+    ghost numbers = { row_numbers };
 
     ghost grammar = { row-grammar };
 
@@ -143,9 +143,9 @@ impl Form for HashRow {
     }
 }
 
-// Reads a swap table behind its kind: the logarithm of its rows, and its first row.
+// Reads a swap table after its kind: the logarithm of its rows, and its first row.
 fn read_swap(alloc: Global, reader: &mut Reader) -> Result<JobTable, ItemError>
-    ensures { ReadsOne read_table (KindWithin 1) body_words reader.old reader.new result }
+    ensures { ReadsOne read_table (KindWithin 1) body_numbers reader.old reader.new result }
 {
     let k = reader.number(0, MOST_LOG_ROWS)?;
     let a = BabyBear::read(alloc, reader)?;
@@ -153,43 +153,43 @@ fn read_swap(alloc: Global, reader: &mut Reader) -> Result<JobTable, ItemError>
     Ok(JobTable::Swap { k: k as u8, a, b })
 }
 
-// Reads a wheel behind its kind: the logarithm of its rows.
+// Reads a wheel after its kind: the logarithm of its rows.
 fn read_wheel(reader: &mut Reader) -> Result<JobTable, ItemError>
-    ensures { ReadsOne read_table (KindWithin 2) body_words reader.old reader.new result }
+    ensures { ReadsOne read_table (KindWithin 2) body_numbers reader.old reader.new result }
 {
     let k = reader.number(1, MOST_LOG_ROWS)?;
     Ok(JobTable::Wheel { k: k as u8 })
 }
 
-// Reads a table that takes words, behind its kind: the list of the words.
+// Reads a table that takes words, after its kind: the list of the words.
 fn read_take(alloc: Global, reader: &mut Reader) -> Result<JobTable, ItemError>
-    ensures { ReadsOne read_table (KindWithin 3) body_words reader.old reader.new result }
+    ensures { ReadsOne read_table (KindWithin 3) body_numbers reader.old reader.new result }
 {
     let words = read_powers::<BabyBear>(alloc, reader, MOST_WORDS)?;
     Ok(JobTable::Take { words })
 }
 
-// Reads a table that gives words, behind its kind: the list of the words with their counts.
+// Reads a table that gives words, after its kind: the list of the words with their counts.
 fn read_give(alloc: Global, reader: &mut Reader) -> Result<JobTable, ItemError>
-    ensures { ReadsOne read_table (KindWithin 4) body_words reader.old reader.new result }
+    ensures { ReadsOne read_table (KindWithin 4) body_numbers reader.old reader.new result }
 {
     let words = read_powers::<GivenWord>(alloc, reader, MOST_WORDS)?;
     Ok(JobTable::Give { words })
 }
 
-// Reads a table of compressions, behind its kind: the list of its rows.
+// Reads a table of compressions, after its kind: the list of its rows.
 fn read_hash(alloc: Global, reader: &mut Reader) -> Result<JobTable, ItemError>
-    ensures { ReadsOne read_table (KindWithin 5) body_words reader.old reader.new result }
+    ensures { ReadsOne read_table (KindWithin 5) body_numbers reader.old reader.new result }
 {
     let rows = read_powers::<HashRow>(alloc, reader, MOST_HASHES)?;
     Ok(JobTable::Hash { rows })
 }
 
-// Reads a table of this kind behind its kind.
+// Reads a table of this kind after its kind.
 fn read_kind(alloc: Global, reader: &mut Reader, kind: u32) -> Result<JobTable, ItemError>
     requires least { 1 ≤ kind }
     requires most { kind ≤ 5 }
-    ensures { ReadsOne read_table (KindWithin kind) body_words reader.old reader.new result }
+    ensures { ReadsOne read_table (KindWithin kind) body_numbers reader.old reader.new result }
 {
     if kind == SWAP {
         read_swap(alloc, reader)
@@ -211,17 +211,17 @@ impl Form for JobTable {
     type Value = JobTable;
 
     ghost use Rattle.p3_field.specs.declared.baby_bear.BabyBear.{BabyBear as Element};
-    ghost use Rattle.tool_validity.specs.Job.{IsWithin, JobTable as TableData};
-    ghost use Rattle.tool_jobs.specs.Jobs.{read_table, table_words};
+    ghost use Rattle.tool_validity.specs.Job.{IsJobTableWithin, JobTable as TableData};
+    ghost use Rattle.tool_jobs.specs.Jobs.{read_table, table_numbers};
     ghost use Rattle.tool_jobs.specs.Laws.Texts.{table-grammar};
 
     ghost Data = { TableData Element };
 
     ghost data_of = { read_table };
 
-    ghost within = { IsWithin };
+    ghost within = { IsJobTableWithin };
 
-    ghost words = { table_words };
+    ghost numbers = { table_numbers };
 
     ghost grammar = { table-grammar };
 
@@ -267,7 +267,7 @@ impl Form for WholeJob {
     ghost use Rattle.std.specs.Prelude.{List, map};
     ghost use Rattle.p3_field.specs.declared.baby_bear.BabyBear.{BabyBear as Element};
     ghost use Rattle.tool_validity.specs.Job.{JobTable as TableData};
-    ghost use Rattle.tool_jobs.specs.Jobs.{JobWithin, job_words, read_tables};
+    ghost use Rattle.tool_jobs.specs.Jobs.{JobWithin, job_numbers, read_tables};
     ghost use Rattle.tool_jobs.specs.Laws.Texts.{job-grammar};
 
     ghost Data = { List (TableData Element) };
@@ -276,7 +276,7 @@ impl Form for WholeJob {
 
     ghost within = { JobWithin };
 
-    ghost words = { job_words };
+    ghost numbers = { job_numbers };
 
     ghost grammar = { job-grammar };
 
@@ -289,19 +289,19 @@ impl Form for WholeJob {
     }
 }
 
-/// The job whose text the bytes are (own).
+/// The job whose text the bytes are (not in Plonky3).
 ///
 /// It is `Malformed` exactly where they are no job's text, with the line of the fault: one more than the greatest number of whole lines
 /// at their start that begin some job's text. No memory is taken for a count before its items are read.
 pub fn read_job(alloc: Global, bytes: &[u8]) -> Result<Vec<JobTable>, TextError>
-    ensures { ReadsText (λ v. read_tables v.items) JobWithin job_words bytes.now result }
+    ensures { ReadsText (λ v. read_tables v.items) JobWithin job_numbers bytes.now result }
 {
     read_text::<WholeJob>(alloc, bytes)
 }
 
-/// The text of a job (own). The only error is running out of memory.
+/// The text of a job (not in Plonky3). The only error is running out of memory.
 pub fn write_job(alloc: Global, job: &[JobTable]) -> Mem<Vec<u8>>
-    ensures { IfOk result (λ v. v.items ≡ line_text (job_words (read_tables job.now))) }
+    ensures { IfOk result (λ v. v.items ≡ line_text (job_numbers (read_tables job.now))) }
 {
     let mut text = Vec::new(alloc);
     print_list::<JobTable>(job, &mut text)?;

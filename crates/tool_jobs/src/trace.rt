@@ -2,7 +2,7 @@
 ghost use Rattle.std.specs.Int.{IsPowerOfTwo};
 ghost use Rattle.std.specs.Prelude.{◌≡◌, ◌%◌, ◌^◌, ◌≤◌, ◌++◌, ◌∷◌, [], IfOk, OnOk, length, map};
 ghost use Rattle.std.specs.Prelude.{slice_index_or as get_or};
-ghost use Rattle.p3_field.specs.BabyBear.{bear_ring};
+ghost use Rattle.p3_field.specs.BabyBear.{baby_bear_ring};
 ghost use Rattle.tool_validity.specs.Job.{swap_row, trace_of, wheel_cell as wheel_cell_of};
 ghost use Rattle.tool_validity.specs.Job.{swap_of, wheel_of, give_of, hash_of};
 ghost use Rattle.tool_jobs.specs.Jobs.{read_given};
@@ -51,7 +51,7 @@ pub(crate) fn swap_trace(
     b: BabyBear,
 ) -> Mem<RowMajorMatrix<BabyBear>>
     requires { k ≤ 10 }
-    ensures { IfOk result (λ m. m ≡ trace_of bear_ring (swap_of k a b)) }
+    ensures { IfOk result (λ m. m ≡ trace_of baby_bear_ring (swap_of k a b)) }
 {
     let rows = rows_of(k);
     let mut values = Vec::with_capacity(alloc, 2 * rows)?;
@@ -63,7 +63,7 @@ pub(crate) fn swap_trace(
 
 // 3 in the rows of even number, 5 in those of odd number.
 fn turn(i: usize) -> BabyBear
-    ensures { result ≡ get_or (turns bear_ring) (i % 2) bear_ring.zero }
+    ensures { result ≡ get_or (turns baby_bear_ring) (i % 2) baby_bear_ring.zero }
 {
     if i % 2 == 0 {
         BabyBear::from_u64(3)
@@ -75,7 +75,7 @@ fn turn(i: usize) -> BabyBear
 // The trace of the wheel of 2^`k` rows.
 pub(crate) fn wheel_trace(alloc: Global, k: usize) -> Mem<RowMajorMatrix<BabyBear>>
     requires { k ≤ 10 }
-    ensures { IfOk result (λ m. m ≡ trace_of bear_ring (wheel_of k)) }
+    ensures { IfOk result (λ m. m ≡ trace_of baby_bear_ring (wheel_of k)) }
 {
     let rows = rows_of(k);
     let mut values = Vec::with_capacity(alloc, rows)?;
@@ -88,7 +88,7 @@ pub(crate) fn wheel_trace(alloc: Global, k: usize) -> Mem<RowMajorMatrix<BabyBea
 // The trace of a table that gives these words.
 pub(crate) fn give_trace(alloc: Global, words: &[GivenWord]) -> Mem<RowMajorMatrix<BabyBear>>
     requires { length words.now ≤ 1024 }
-    ensures { IfOk result (λ m. m ≡ trace_of bear_ring (give_of (map read_given words.now))) }
+    ensures { IfOk result (λ m. m ≡ trace_of baby_bear_ring (give_of (map read_given words.now))) }
 {
     let mut values = Vec::with_capacity(alloc, 2 * words.len())?;
     for given in words {
@@ -105,7 +105,7 @@ pub(crate) fn give_trace(alloc: Global, words: &[GivenWord]) -> Mem<RowMajorMatr
 pub(crate) fn hash_trace(alloc: Global, rows: &[[u32; 24]]) -> Mem<RowMajorMatrix<BabyBear>>
     requires power { IsPowerOfTwo (length rows.now) }
     requires few { length rows.now ≤ 8 }
-    ensures { IfOk result (λ m. m ≡ trace_of bear_ring (hash_of rows.now)) }
+    ensures { IfOk result (λ m. m ≡ trace_of baby_bear_ring (hash_of rows.now)) }
 {
     match generate_trace_rows(alloc, rows, 0) {
         Ok(trace) => Ok(trace),

@@ -9,7 +9,7 @@ use Rattle.batch_transcript.specs.declared.failure.GrindStep.TheVariants.{Lookup
 use Rattle.batch_proving.specs.declared.error.ProvingError.{ProvingError}
 use Rattle.batch_proving.specs.declared.error.ProvingError.TheVariants.{LookupDenominatorZero, WitnessNotFound}
 use Rattle.line_format.specs.Texts.{line_text}
-use Rattle.proof_files.specs.Files.{FileWithin, file_words}
+use Rattle.proof_files.specs.Files.{FileWithin, file_numbers}
 use Rattle.proof_text.specs.ProofText.{ToolProofData}
 use Rattle.tool_jobs.specs.Jobs.{JobWithin}
 use Rattle.tool_jobs.specs.Stated.{statement_of}
@@ -20,7 +20,7 @@ use Rattle.tool_verifier.specs.Refusals.{refused_text}
 use Rattle.tool_verifier.specs.declared.answer.Answer.{Answer}
 use Rattle.tool_verifier.specs.declared.status.Status.{Status}
 use Rattle.tool_verifier.specs.declared.status.Status.TheVariants.{Done, Refused}
-use Rattle.tool_prover.specs.JobAnswer.{IsJobAnswer, IsOutcome, IsRefusedText, IsTold}
+use Rattle.tool_prover.specs.JobAnswer.{IsJobAnswer, IsProvingOutcome, IsRefusedText, IsTold}
 use Rattle.tool_prover.specs.Laws.Within.{job_proof_within}
 
 module _ (job : List (JobTable BabyBear)) where
@@ -56,15 +56,15 @@ module _ (job : List (JobTable BabyBear)) where
         → IfOk r (λ a. a.status ≡ Refused) → IfOk r (λ a. a.text.items ≡ refused_text (codes "LookupDenominatorZero") (i ∷ row ∷ [])) → IfOk r (λ a. IsJobAnswer job a.status a.text.items)
     zero_is e i row r q h s t = refused_is r _ s t (inr (balanced, inr (inl (i, row, told_as e (LookupDenominatorZero i row) q h, refl))))
 
-    pub inside_is : (o : Option ToolProofData) (r : Result Answer AllocError) → IsOutcome job o → o ≡ None
+    pub inside_is : (o : Option ToolProofData) (r : Result Answer AllocError) → IsProvingOutcome job o → o ≡ None
         → IfOk r (λ a. a.status ≡ Refused) → IfOk r (λ a. a.text.items ≡ refused_text (codes "OodPointInDomain") []) → IfOk r (λ a. IsJobAnswer job a.status a.text.items)
-    inside_is o r h e s t = refused_is r _ s t (inr (balanced, inr (inr (inr (subst (IsOutcome job) e h, refl)))))
+    inside_is o r h e s t = refused_is r _ s t (inr (balanced, inr (inr (inr (subst (IsProvingOutcome job) e h, refl)))))
 
     -- a proof
-    pub within_is : JobWithin job → (tables : List TableStatement) (q : ToolProofData) → tables ≡ map statement_of job → IsOutcome job (Some q) → FileWithin (record { version = 1; tables = tables; proof = q })
+    pub within_is : JobWithin job → (tables : List TableStatement) (q : ToolProofData) → tables ≡ map statement_of job → IsProvingOutcome job (Some q) → FileWithin (record { version = 1; tables = tables; proof = q })
     within_is within tables q e h = subst (λ (ts : List TableStatement). FileWithin (record { version = 1; tables = ts; proof = q })) (sym e) (job_proof_within job within q h.0)
 
-    pub proved_is : JobWithin job → (tables : List TableStatement) (q : ToolProofData) (text : List ℕ) → tables ≡ map statement_of job → IsOutcome job (Some q) → text ≡ line_text (file_words (record { version = 1; tables = tables; proof = q }))
+    pub proved_is : JobWithin job → (tables : List TableStatement) (q : ToolProofData) (text : List ℕ) → tables ≡ map statement_of job → IsProvingOutcome job (Some q) → text ≡ line_text (file_numbers (record { version = 1; tables = tables; proof = q }))
         → IsJobAnswer job Done text
     unfolding IsJobAnswer
     proved_is within tables q text e h t = record {
@@ -73,6 +73,6 @@ module _ (job : List (JobTable BabyBear)) where
       honest = h.0;
       outside = h.1;
       within = job_proof_within job within q h.0;
-      text_is = t ∙ ap (λ (ts : List TableStatement). line_text (file_words (record { version = 1; tables = ts; proof = q }))) e;
+      text_is = t ∙ ap (λ (ts : List TableStatement). line_text (file_numbers (record { version = 1; tables = ts; proof = q }))) e;
       accepted = h.2;
     }

@@ -3,7 +3,7 @@ use Rattle.std.proofs.Common.{◌≡◌, ◌↔◌, ℕ, ◌^◌, ◌<◌, true,
 use Rattle.std.specs.Prelude.{All, IfErr}
 use Rattle.std.specs.Result.{IsErrAnd}
 use Rattle.p3_challenger.specs.declared.sha256_challenger.Sha256Challenger.{Sha256Challenger}
-use Rattle.p3_field.specs.BabyBear.{bear_ring, bear_root}
+use Rattle.p3_field.specs.BabyBear.{baby_bear_ring, baby_bear_root}
 use Rattle.p3_field.specs.Domain.{CosetData, point}
 use Rattle.p3_field.specs.declared.baby_bear.BabyBear.{BabyBear}
 use Rattle.p3_field.specs.declared.quartic.QuarticExtension.{QuarticExtension}
@@ -15,18 +15,18 @@ use Rattle.plain_pcs.specs.declared.commitment.PlainProof.{PlainProof}
 use Rattle.plain_pcs.specs.declared.error.PlainProverError.{PlainProverError}
 use Rattle.batch_setup.specs.Preprocessed.{IsPrepared}
 use Rattle.batch_setup.specs.Setup.{Instance, instances_of}
-use Rattle.batch_shape_checks.specs.ShapeChecks.{stated}
+use Rattle.batch_shape_checks.specs.ShapeChecks.{statement_with}
 use Rattle.batch_statement.specs.Statement.{Statement, WellFormed, WrittenCommon, read_common, tables_of}
 use Rattle.batch_validity.specs.Valid.{Valid}
 use Rattle.batch_verifier.specs.BatchChecks.{Accepted}
-use Rattle.honest_acceptance.specs.Honest.{IsOutside}
+use Rattle.honest_acceptance.specs.Honest.{IsOutsideRows}
 use Rattle.honest_proofs.specs.HonestProof.{IsBuilt, honest_proof, zeta}
 use Rattle.plain_soundness.specs.Meaning.{HoldUnlessUnlucky}
 use Rattle.batch_proving.specs.Backend.{ProverBackend}
-use Rattle.batch_proving.specs.Batch.{Batch, IsKeptWith, IsTracedAll, batch_of, preprocessed_all, table_at}
+use Rattle.batch_proving.specs.Batch.{Batch, HasProverData, IsTracedAll, batch_of, preprocessed_all, table_at}
 use Rattle.batch_proving.specs.Laws.Telling.{refusal_tells}
 use Rattle.batch_proving.specs.PlainBackend.{plain_commits, plain_prover_backend}
-use Rattle.batch_proving.specs.Proving.{AvoidsExcluded, IsProved, proving_checks}
+use Rattle.batch_proving.specs.Proving.{AvoidsExcluded, IsHonestProof, proving_checks}
 use Rattle.batch_proving.specs.Telling.{Tells}
 use Rattle.batch_proving.specs.Verdict.{IsAnswerRefusal}
 use Rattle.batch_proving.specs.declared.error.ProvingError.{ProvingError}
@@ -37,13 +37,13 @@ use Rattle.tool_jobs.specs.Laws.Statements.{statements-heights}
 use Rattle.tool_jobs.specs.Stated.{statement_of}
 use Rattle.tool_jobs.specs.Unbalanced.{same_word}
 use Rattle.tool_statement.specs.Config.{backend_of, tool_backend, tool_scheme, tool_setting}
-use Rattle.tool_statement.specs.StatedTables.{HaveStatedHeights, entries_of, log_heights_of, preprocessed_traces, publics_lists, sources_of, table_of, tool_common, tool_statement}
+use Rattle.tool_statement.specs.StatedTables.{HaveStatedHeights, entries_of, log_heights_of, preprocessed_traces, publics_lists, sources_of, air_table_of, tool_common, tool_statement}
 use Rattle.tool_statement.specs.declared.table.TableStatement.{TableStatement}
 use Rattle.tool_tables.specs.Tool.{tool_declaration, tool_trees}
 use Rattle.tool_tables.specs.declared.tool.ToolAir.{ToolAir}
-use Rattle.tool_validity.specs.Job.{IsBalancedJob, JobTable, log_height_of, trace_of}
+use Rattle.tool_validity.specs.Job.{IsBalancedJob, JobTable, job_log_height_of, trace_of}
 use Rattle.tool_verifier.specs.FileAnswer.{IsFileAnswer, PrintCompressions, SwapsEnd}
-use Rattle.tool_prover.specs.JobAnswer.{DrawsInside, DrawsOutside, IsJobProof, IsOutcome, IsTold, drawn_point}
+use Rattle.tool_prover.specs.JobAnswer.{DrawsInside, DrawsOutside, IsJobProof, IsProvingOutcome, IsTold, drawn_point}
 use Rattle.tool_prover.specs.JobBatch.{job_batch}
 use Rattle.tool_prover.specs.Outside.{AvoidsRows}
 use Rattle.tool_prover.specs.Laws.Drawn.{outside_is}
@@ -63,7 +63,7 @@ abbrev pub points : CosetData BabyBear → ℕ
 points d = 2 ^ d.log_size
 
 abbrev pub point_at : CosetData BabyBear → ℕ → BabyBear
-point_at d i = point bear_ring bear_root d i
+point_at d i = point baby_bear_ring baby_bear_root d i
 
 -- what commits to matrices: a commitment with prover data that holds them
 abbrev pub commits_with : Blowup → List (CosetData BabyBear × Rows BabyBear) → PlainCommitmentData BabyBear × List (CosetData BabyBear × Rows BabyBear) → Type 0
@@ -78,10 +78,10 @@ pub record IsSetUp (job : List (JobTable BabyBear)) (tables : List TableStatemen
   pub setting_is : c ≡ tool_setting
   pub scheme_is : b ≡ one_bit
   pub airs_are : map source_of_air airs ≡ sources_of tables
-  pub traces_are : traces ≡ map (trace_of bear_ring) job
+  pub traces_are : traces ≡ map (trace_of baby_bear_ring) job
   pub publics_are : publics ≡ publics_lists tables
   pub common_is : read_common written ≡ tool_common tables
-  pub formed : WellFormed (map (tool_declaration bear_ring) airs) (read_common written)
+  pub formed : WellFormed (map (tool_declaration baby_bear_ring) airs) (read_common written)
   pub prepared : IsPrepared (commits_with one_bit) (entries_of tables) (preprocessed_traces tables) written.preprocessed kept
   pub instances_are : instances ≡ instances_of airs traces publics
 
@@ -104,7 +104,7 @@ module _ (job : List (JobTable BabyBear)) (tables : List TableStatement) (c : To
 
   -- the batch
   abbrev pub batch : ToolBatch
-  batch = batch_of c (prover_with b) (tool_declaration bear_ring) (tool_trees bear_ring) instances written
+  batch = batch_of c (prover_with b) (tool_declaration baby_bear_ring) (tool_trees baby_bear_ring) instances written
 
   batch_is : batch ≡ job_batch job
   batch_is = same_batch job U.within airs airs_there traces U.traces_are publics publics_there written common_there instances U.instances_are c U.setting_is b U.scheme_is
@@ -118,10 +118,10 @@ module _ (job : List (JobTable BabyBear)) (tables : List TableStatement) (c : To
   pub batch_traced : IsTracedAll batch
   batch_traced = batch_valid.batch
 
-  pub batch_kept : IsKeptWith (commits_with b) (preprocessed_all batch) batch.statement.common.preprocessed kept
+  pub batch_kept : HasProverData (commits_with b) (preprocessed_all batch) batch.statement.common.preprocessed kept
   batch_kept =
-      subst (λ (B : ToolBatch). IsKeptWith (commits_with b) (preprocessed_all B) written.preprocessed kept) (sym batch_is)
-      (subst (λ x. IsKeptWith (commits_with x) (preprocessed_all (job_batch job)) written.preprocessed kept) (sym U.scheme_is)
+      subst (λ (B : ToolBatch). HasProverData (commits_with b) (preprocessed_all B) written.preprocessed kept) (sym batch_is)
+      (subst (λ x. HasProverData (commits_with x) (preprocessed_all (job_batch job)) written.preprocessed kept) (sym U.scheme_is)
       (kept_there job U.within airs airs_there (read_common written) common_there points point_at IsMade (AreHolding tool_scheme) kept prepared_there))
 
   -- its refusal tells why
@@ -144,7 +144,7 @@ module _ (job : List (JobTable BabyBear)) (tables : List TableStatement) (c : To
   refusal_there (Ok t) e p h = absurd p
 
   -- its proof is the job's
-  pub proof_there : (q : ToolProofData) → IsProved (backend_with b) batch q → IsJobProof job q
+  pub proof_there : (q : ToolProofData) → IsHonestProof (backend_with b) batch q → IsJobProof job q
   proof_there q P = subst (λ (B : ToolBatch). IsBuilt B.setting B.prover B.statement B.traces B.degree_bits q) batch_is P.built
 
   point_there : (q : ToolProofData) (x : QuarticExtension) → x ≡ zeta batch.setting batch.prover batch.statement batch.traces batch.degree_bits q.lookup_pow_witness q.ood_pow_witness → x ≡ drawn_point job q
@@ -157,7 +157,7 @@ module _ (job : List (JobTable BabyBear)) (tables : List TableStatement) (c : To
       (subst (λ y. DrawsOutside job q ↔ All (AvoidsRows y) (log_heights_of (map statement_of job))) (sym (point_there q x e)) (outside_is job q))
 
   -- the point lies on the rows of a table,
-  pub inside_there : (q : ToolProofData) (x : QuarticExtension) → IsProved (backend_with b) batch q → x ≡ zeta batch.setting batch.prover batch.statement batch.traces batch.degree_bits q.lookup_pow_witness q.ood_pow_witness
+  pub inside_there : (q : ToolProofData) (x : QuarticExtension) → IsHonestProof (backend_with b) batch q → x ≡ zeta batch.setting batch.prover batch.statement batch.traces batch.degree_bits q.lookup_pow_witness q.ood_pow_witness
       → IsTrue false ↔ All (AvoidsRows x) (log_heights_of tables) → DrawsInside job
   inside_there q x P e out = (q, proof_there q P, λ d. let h : false ≡ true = out.1 ((drawn_there q x e).0 d) in cc)
 
@@ -168,15 +168,15 @@ module _ (job : List (JobTable BabyBear)) (tables : List TableStatement) (c : To
 
   -- its proof is accepted where it does so
   outside_in : (q : ToolProofData) → DrawsOutside job q → (i : ℕ) → i < length instances
-      → IsOutside batch.setting (table_at batch i) (zeta batch.setting batch.prover batch.statement batch.traces batch.degree_bits q.lookup_pow_witness q.ood_pow_witness)
+      → IsOutsideRows batch.setting (table_at batch i) (zeta batch.setting batch.prover batch.statement batch.traces batch.degree_bits q.lookup_pow_witness q.ood_pow_witness)
   outside_in q d i l =
       let n = instances_long job U.within airs airs_there traces U.traces_are publics publics_there written common_there instances U.instances_are c U.setting_is b U.scheme_is in
-      subst (λ (B : ToolBatch). IsOutside B.setting (table_at B i) (zeta B.setting B.prover B.statement B.traces B.degree_bits q.lookup_pow_witness q.ood_pow_witness)) (sym batch_is) (d i (omega (arith, l, n)))
+      subst (λ (B : ToolBatch). IsOutsideRows B.setting (table_at B i) (zeta B.setting B.prover B.statement B.traces B.degree_bits q.lookup_pow_witness q.ood_pow_witness)) (sym batch_is) (d i (omega (arith, l, n)))
 
   abbrev AcceptsThen : ToolProofData → Type 0
   AcceptsThen q =
       27 < 63 → Valid batch.setting same_word batch.prover.commitment_of batch.statement batch.traces batch.degree_bits
-      → ((i : ℕ) → i < length instances → IsOutside batch.setting (table_at batch i) (zeta batch.setting batch.prover batch.statement batch.traces batch.degree_bits q.lookup_pow_witness q.ood_pow_witness))
+      → ((i : ℕ) → i < length instances → IsOutsideRows batch.setting (table_at batch i) (zeta batch.setting batch.prover batch.statement batch.traces batch.degree_bits q.lookup_pow_witness q.ood_pow_witness))
       → AvoidsExcluded (backend_with b) batch q.lookup_pow_witness q.ood_pow_witness → Accepted batch.setting (backend_of (scheme_with b)) batch.statement q
 
   accepted_batch : (q : ToolProofData) → AcceptsThen q → DrawsOutside job q → Accepted c (backend_of (scheme_with b)) batch.statement q
@@ -194,19 +194,19 @@ module _ (job : List (JobTable BabyBear)) (tables : List TableStatement) (c : To
   heights_there : (q : ToolProofData) → IsJobProof job q → HaveStatedHeights (map statement_of job) q.degree_bits
   unfolding honest_proof
   heights_there q B j l =
-      let bits : q.degree_bits ≡ map log_height_of job = ap (λ (r : ToolProofData). r.degree_bits) B.proof_is in
+      let bits : q.degree_bits ≡ map job_log_height_of job = ap (λ (r : ToolProofData). r.degree_bits) B.proof_is in
       ap (λ (hs : List ℕ). get_or hs j 0) (statements-heights job ∙ sym bits)
 
   -- what the common data is well-formed for
-  pub formed_there : WellFormed (map (λ t. t.declaration) (map table_of tables)) (tool_common tables)
+  pub formed_there : WellFormed (map (λ t. t.declaration) (map air_table_of tables)) (tool_common tables)
   formed_there = formed_is tables airs (read_common written) (tool_common tables) U.airs_are U.common_is U.formed
 
   pub accepted_for : (q : ToolProofData) → AcceptsThen q → DrawsOutside job q → Accepted tool_setting tool_backend (tool_statement tables) q
   accepted_for q h d = subst (λ ts. Accepted tool_setting tool_backend (tool_statement ts) q) (sym U.tables_are) (accepted_there q h d)
 
   -- so `verify` writes `accepted` for it
-  pub outcome_there : (q : ToolProofData) → IsProved (backend_with b) batch q → DrawsOutside job q → AcceptsThen q
-      → HoldUnlessUnlucky tool_setting 1 (tool_statement tables) q → SwapsEnd tables q → (HaveStatedHeights tables q.degree_bits → PrintCompressions tables q) → IsOutcome job (Some q)
+  pub outcome_there : (q : ToolProofData) → IsHonestProof (backend_with b) batch q → DrawsOutside job q → AcceptsThen q
+      → HoldUnlessUnlucky tool_setting 1 (tool_statement tables) q → SwapsEnd tables q → (HaveStatedHeights tables q.degree_bits → PrintCompressions tables q) → IsProvingOutcome job (Some q)
   unfolding IsFileAnswer
   outcome_there q P d h holds swaps hashes =
       let B = proof_there q P in

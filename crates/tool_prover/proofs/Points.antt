@@ -3,13 +3,13 @@ use Rattle.std.proofs.Common.{◌≡◌, ◌↔◌, ℕ, ◌+◌, ◌<◌, ◌�
 use Rattle.std.specs.Prelude.{All}
 use Rattle.std.proofs.lemmas.Bool.{cases_lt}
 use Rattle.std.proofs.lemmas.List.{get_or-map, get_or_default}
-use Rattle.p3_field.specs.BabyBear.{bear_inv, bear_ring}
-use Rattle.p3_field.specs.Domain.{CosetData, van}
-use Rattle.p3_field.specs.Laws.BearField.{bear_field_laws}
-use Rattle.p3_field.specs.Laws.BearLaws.{same_bear}
+use Rattle.p3_field.specs.BabyBear.{baby_bear_inv, baby_bear_ring}
+use Rattle.p3_field.specs.Domain.{CosetData, vanishing_polynomial}
+use Rattle.p3_field.specs.Laws.BabyBearField.{baby_bear_field_laws}
+use Rattle.p3_field.specs.Laws.BabyBearLaws.{same_baby_bear}
 use Rattle.p3_field.specs.Laws.SubgroupSelectors.{subgroup}
-use Rattle.p3_field.specs.Poly.{val}
-use Rattle.p3_field.specs.Quartic.{of_bear_value, quartic_ring}
+use Rattle.p3_field.specs.Poly.{eval_poly}
+use Rattle.p3_field.specs.Quartic.{of_baby_bear_value, quartic_ring}
 use Rattle.p3_field.specs.declared.baby_bear.BabyBear.{BabyBear}
 use Rattle.p3_field.specs.declared.quartic.QuarticExtension.{QuarticExtension}
 use Rattle.batch_identity.specs.Identity.{IsInDomain}
@@ -19,27 +19,27 @@ use Rattle.tool_statement.specs.declared.table.TableStatement.{TableStatement}
 use Rattle.tool_prover.specs.Outside.{AvoidsRows}
 
 -- the number one is one of the field
-pub number_one : (x : BabyBear) → x.value ≡ 1 → x ≡ bear_ring.one
-unfolding bear_ring
-number_one x e = same_bear x bear_ring.one e
+pub number_one : (x : BabyBear) → x.value ≡ 1 → x ≡ baby_bear_ring.one
+unfolding baby_bear_ring
+number_one x e = same_baby_bear x baby_bear_ring.one e
 
 -- subgroups of up to 2^10 elements are there
-pub small_subgroup : (log : ℕ) (one : BabyBear) → one ≡ bear_ring.one → log ≤ 10 → (27 < log) ⊎ (one ≡ bear_ring.zero) → ⊥
+pub small_subgroup : (log : ℕ) (one : BabyBear) → one ≡ baby_bear_ring.one → log ≤ 10 → (27 < log) ⊎ (one ≡ baby_bear_ring.zero) → ⊥
 small_subgroup log one e low absent = elim absent [
   | inl large ↦ omega (arith, large, low)
-  | inr none ↦ bear_field_laws.one_differs (sym e ∙ none)
+  | inr none ↦ baby_bear_field_laws.one_differs (sym e ∙ none)
 ]
 
 -- the point is on a subgroup's rows where the value of its vanishing polynomial is zero
 abbrev ValueOf : CosetData BabyBear → QuarticExtension → QuarticExtension → Type 0
-ValueOf d x y = y ≡ val quartic_ring (map of_bear_value (van bear_ring bear_inv d)) x
+ValueOf d x y = y ≡ eval_poly quartic_ring (map of_baby_bear_value (vanishing_polynomial baby_bear_ring baby_bear_inv d)) x
 
-in_subgroup : (d : CosetData BabyBear) (k : ℕ) (x y : QuarticExtension) → d.shift ≡ bear_ring.one → d.log_size ≡ k → ValueOf d x y
+in_subgroup : (d : CosetData BabyBear) (k : ℕ) (x y : QuarticExtension) → d.shift ≡ baby_bear_ring.one → d.log_size ≡ k → ValueOf d x y
     → IsInDomain tool_setting.field tool_setting.extension (subgroup tool_setting.field.ring k) x ↔ (y ≡ quartic_ring.zero)
 unfolding tool_setting
 in_subgroup d k x y shift size e =
-    let same : d ≡ subgroup bear_ring k = λ i. record { shift = shift i; log_size = size i } in
-    let f : y ≡ val quartic_ring (map of_bear_value (van bear_ring bear_inv (subgroup bear_ring k))) x = e ∙ ap (λ c. val quartic_ring (map of_bear_value (van bear_ring bear_inv c)) x) same in
+    let same : d ≡ subgroup baby_bear_ring k = λ i. record { shift = shift i; log_size = size i } in
+    let f : y ≡ eval_poly quartic_ring (map of_baby_bear_value (vanishing_polynomial baby_bear_ring baby_bear_inv (subgroup baby_bear_ring k))) x = e ∙ ap (λ c. eval_poly quartic_ring (map of_baby_bear_value (vanishing_polynomial baby_bear_ring baby_bear_inv c)) x) same in
     (λ h. f ∙ h, λ h. sym f ∙ h)
 
 -- a test that is denied
@@ -51,7 +51,7 @@ not_true : (b : Bool) → (IsTrue b → ⊥) → IsTrue (not b)
 not_true true h = absurd (h refl)
 not_true false h = refl
 
-pub avoided : (d : CosetData BabyBear) (k : ℕ) (x y : QuarticExtension) (zero : Bool) → d.shift ≡ bear_ring.one → d.log_size ≡ k → ValueOf d x y → IsTrue zero ↔ (y ≡ quartic_ring.zero) → IsTrue (not zero) ↔ AvoidsRows x k
+pub avoided : (d : CosetData BabyBear) (k : ℕ) (x y : QuarticExtension) (zero : Bool) → d.shift ≡ baby_bear_ring.one → d.log_size ≡ k → ValueOf d x y → IsTrue zero ↔ (y ≡ quartic_ring.zero) → IsTrue (not zero) ↔ AvoidsRows x k
 avoided d k x y zero shift size e z =
     let within = in_subgroup d k x y shift size e in
     (λ h w. false_is zero h (z.1 (within.0 w)), λ h. not_true zero (λ t. h (within.1 (z.0 t))))

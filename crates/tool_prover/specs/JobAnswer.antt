@@ -2,7 +2,7 @@
 use Rattle.std.specs.Prelude.{◌≡◌, ◌⊎◌, ℕ, ◌<◌, List, [], ◌∷◌, length, map, codes, Option, None, Some, ⊤}
 use Rattle.p3_field.specs.declared.baby_bear.BabyBear.{BabyBear}
 use Rattle.line_format.specs.Texts.{line_text}
-use Rattle.honest_acceptance.specs.Honest.{IsOutside}
+use Rattle.honest_acceptance.specs.Honest.{IsOutsideRows}
 use Rattle.honest_proofs.specs.HonestProof.{IsBuilt, IsDenominatorZero, LacksLookupGround, LacksOodGround, zeta}
 use Rattle.p3_field.specs.declared.quartic.QuarticExtension.{QuarticExtension}
 use Rattle.plain_pcs.specs.declared.error.PlainProverError.{PlainProverError}
@@ -11,7 +11,7 @@ use Rattle.batch_proving.specs.Batch.{table_at}
 use Rattle.batch_proving.specs.declared.error.ProvingError.{ProvingError}
 use Rattle.batch_proving.specs.declared.error.ProvingError.TheVariants.{LookupDenominatorZero, MultiplicityBound, OutOfMemory, Pcs, WitnessNotFound}
 use Rattle.tool_statement.specs.Config.{tool_setting}
-use Rattle.proof_files.specs.Files.{FileData, FileWithin, file_words}
+use Rattle.proof_files.specs.Files.{FileData, FileWithin, file_numbers}
 use Rattle.proof_text.specs.ProofText.{ToolProofData}
 use Rattle.tool_jobs.specs.Unbalanced.{IsFirstUnbalanced, same_word}
 use Rattle.tool_jobs.specs.Stated.{statement_of}
@@ -37,20 +37,20 @@ module _ (job : List (JobTable BabyBear)) where
 
   -- which lies on the rows of no table
   abbrev pub DrawsOutside : ToolProofData → Type 0
-  DrawsOutside q = (i : ℕ) → i < length job → IsOutside tool_setting (table_at (job_batch job) i) (drawn_point q)
+  DrawsOutside q = (i : ℕ) → i < length job → IsOutsideRows tool_setting (table_at (job_batch job) i) (drawn_point q)
 
   -- there is an honest proof, whose point lies on the rows of a table
   abbrev pub DrawsInside : Type 0
   DrawsInside = (q : ToolProofData) × IsJobProof q × (DrawsOutside q → ⊥)
 
   -- The text is that of the job's honest proof, whose point lies outside. It is a proof file's text, for which `verify` writes `accepted`.
-  pub record IsProvedText (text : List ℕ) : Type 0 where
+  pub record IsHonestProofFile (text : List ℕ) : Type 0 where
     pub balanced : IsBalancedJob same_word job
     pub proof : ToolProofData
     pub honest : IsJobProof proof
     pub outside : DrawsOutside proof
     pub within : FileWithin (file_of job proof)
-    pub text_is : text ≡ line_text (file_words (file_of job proof))
+    pub text_is : text ≡ line_text (file_numbers (file_of job proof))
     pub accepted : IsFileAnswer (map statement_of job) proof Done (accepted_text (map statement_of job) proof)
 
   -- Why there is none, as the line that says so. The least value that isn't taken as often as it is given:
@@ -90,13 +90,13 @@ module _ (job : List (JobTable BabyBear)) where
   IsTold OutOfMemory = ⊤
 
   -- what comes of proving a balanced job where there is an honest proof: this, for which `verify` writes `accepted`, or nothing
-  abbrev pub IsOutcome : Option ToolProofData → Type 0
-  IsOutcome None = DrawsInside
-  IsOutcome (Some q) = IsJobProof q × DrawsOutside q × IsFileAnswer (map statement_of job) q Done (accepted_text (map statement_of job) q)
+  abbrev pub IsProvingOutcome : Option ToolProofData → Type 0
+  IsProvingOutcome None = DrawsInside
+  IsProvingOutcome (Some q) = IsJobProof q × DrawsOutside q × IsFileAnswer (map statement_of job) q Done (accepted_text (map statement_of job) q)
 
   -- the status and the text
   unfoldable pub IsJobAnswer : Status → List ℕ → Type 0
-  IsJobAnswer Done text = IsProvedText text
+  IsJobAnswer Done text = IsHonestProofFile text
   IsJobAnswer Refused text = IsRefusedText text
   IsJobAnswer Usage text = ⊥
   IsJobAnswer BadInput text = ⊥

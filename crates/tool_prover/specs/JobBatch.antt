@@ -1,21 +1,21 @@
 -- A job as a batch that is proved, over the program's configuration.
 use Rattle.std.specs.Prelude.{List, map}
-use Rattle.p3_field.specs.BabyBear.{bear_ring}
+use Rattle.p3_field.specs.BabyBear.{baby_bear_ring}
 use Rattle.p3_field.specs.declared.baby_bear.BabyBear.{BabyBear}
 use Rattle.p3_field.specs.declared.quartic.QuarticExtension.{QuarticExtension}
 use Rattle.p3_challenger.specs.declared.sha256_challenger.Sha256Challenger.{Sha256Challenger}
 use Rattle.plain_pcs.specs.Scheme.{PlainCommitmentData}
 use Rattle.honest_proofs.specs.HonestProof.{Prover}
 use Rattle.batch_proving.specs.Batch.{Batch}
-use Rattle.batch_proving.specs.PlainBackend.{bear_prover}
+use Rattle.batch_proving.specs.PlainBackend.{baby_bear_prover}
 use Rattle.tool_jobs.specs.Stated.{statement_of}
 use Rattle.tool_statement.specs.Config.{tool_scheme, tool_setting}
 use Rattle.tool_statement.specs.StatedTables.{tool_statement}
-use Rattle.tool_validity.specs.Job.{JobTable, log_height_of, trace_of}
+use Rattle.tool_validity.specs.Job.{JobTable, job_log_height_of, trace_of}
 
 -- the program's prover: inverses in the extension, a value's canonical number, and the plain scheme's commitments
 unfoldable pub tool_prover : Prover BabyBear QuarticExtension (PlainCommitmentData BabyBear)
-tool_prover = bear_prover tool_scheme
+tool_prover = baby_bear_prover tool_scheme
 
 -- a job's statement, with its traces and the logarithms of their heights
 abbrev pub job_batch : List (JobTable BabyBear) → Batch Sha256Challenger BabyBear QuarticExtension (PlainCommitmentData BabyBear)
@@ -23,6 +23,6 @@ job_batch job = record {
   setting = tool_setting;
   prover = tool_prover;
   statement = tool_statement (map statement_of job);
-  traces = map (trace_of bear_ring) job;
-  degree_bits = map log_height_of job;
+  traces = map (trace_of baby_bear_ring) job;
+  degree_bits = map job_log_height_of job;
 }

@@ -5,7 +5,7 @@ ghost use Rattle.tool_jobs.specs.Stated.{statements_for};
 ghost use Rattle.tool_jobs.specs.Unbalanced.{same_word};
 ghost use Rattle.tool_validity.specs.Job.{IsBalancedJob};
 ghost use Rattle.tool_verifier.specs.Refusals.{refused_text};
-ghost use Rattle.tool_prover.specs.JobAnswer.{IsJobAnswer, IsOutcome, IsTold};
+ghost use Rattle.tool_prover.specs.JobAnswer.{IsJobAnswer, IsProvingOutcome, IsTold};
 
 use crate::proving::prove_job;
 use batch_proving::{GrindStep, ProvingError};
@@ -72,7 +72,7 @@ fn proved_answer(
     requires within { JobWithin (read_tables job.now) }
     requires balanced { IsBalancedJob same_word (read_tables job.now) }
     requires tables { tables.items ≡ statements_for (read_tables job.now) }
-    requires outcome { IsOutcome (read_tables job.now) (Some proof) }
+    requires outcome { IsProvingOutcome (read_tables job.now) (Some proof) }
     ensures { IfOk result (λ a. IsJobAnswer (read_tables job.now) a.status a.text.items) }
 {
     let file = ProofFile {
@@ -87,9 +87,9 @@ fn proved_answer(
     })
 }
 
-/// What `prove` answers for a job (own), which is within its limits, the first of: `Refused` with `Unbalanced` and the least value that
-/// isn't taken as often as it is given; of a balanced job `Refused` with `WitnessNotFound lookup`, `LookupDenominatorZero` with the table
-/// and the row, or `WitnessNotFound ood`, where one of these events comes on the challenges that are drawn; `Refused` with
+/// What `prove` answers for a job (not in Plonky3), which is within its limits, the first of: `Refused` with `Unbalanced` and the least
+/// value that isn't taken as often as it is given; of a balanced job `Refused` with `WitnessNotFound lookup`, `LookupDenominatorZero`
+/// with the table and the row, or `WitnessNotFound ood`, where one of these events comes on the challenges that are drawn; `Refused` with
 /// `OodPointInDomain`, where the drawn point lies on the rows of a table; and `Done` with the text of the job's honest proof, for which
 /// `verify` writes `accepted`. The only error is running out of memory.
 pub fn answer_prove(alloc: Global, job: &[JobTable]) -> Mem<Answer>

@@ -5,7 +5,7 @@ ghost use Rattle.tool_jobs.specs.Jobs.{JobWithin, read_tables};
 ghost use Rattle.tool_jobs.specs.Stated.{statements_for};
 ghost use Rattle.tool_jobs.specs.Unbalanced.{same_word};
 ghost use Rattle.tool_validity.specs.Job.{IsBalancedJob};
-ghost use Rattle.tool_prover.specs.JobAnswer.{IsOutcome, IsTold};
+ghost use Rattle.tool_prover.specs.JobAnswer.{IsProvingOutcome, IsTold};
 
 use crate::outside::is_outside;
 use batch_prover::prove_batch_with_point;
@@ -59,7 +59,7 @@ pub(crate) fn prove_job(
     requires within { JobWithin (read_tables job.now) }
     requires balanced { IsBalancedJob same_word (read_tables job.now) }
     requires tables { tables.now ≡ statements_for (read_tables job.now) }
-    ensures outcome { IfOk result (IsOutcome (read_tables job.now)) }
+    ensures outcome { IfOk result (IsProvingOutcome (read_tables job.now)) }
     ensures refusal { IfErr result (IsTold (read_tables job.now)) }
 {
     let config = tool_config();

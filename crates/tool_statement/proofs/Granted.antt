@@ -3,11 +3,11 @@ use Rattle.std.proofs.Common.{◌≡◌, ℕ, zero, suc, ◌-◌, ◌^◌, ◌<�
 use Rattle.std.specs.Prelude.{slice_get, IfSome}
 use Rattle.std.proofs.lemmas.List.{length-map, get_or-map}
 use Rattle.std.proofs.lemmas.List.Elements.{All-append, All-rest}
-use Rattle.p3_field.specs.BabyBear.{bear_ring}
+use Rattle.p3_field.specs.BabyBear.{baby_bear_ring}
 use Rattle.p3_field.specs.Domain.{CosetData}
 use Rattle.p3_field.specs.Checks.{NoneFails}
 use Rattle.p3_field.specs.Laws.Checks.{none_append, none_alone, none_of_each}
-use Rattle.p3_field.specs.Laws.Tables.{length-table}
+use Rattle.p3_field.specs.Laws.Tabulate.{length-tabulate}
 use Rattle.p3_field.specs.declared.baby_bear.BabyBear.{BabyBear}
 use Rattle.p3_matrix.specs.Matrix.{Rows, height}
 use Rattle.p3_matrix.specs.Laws.Grids.{product_height}
@@ -17,8 +17,8 @@ use Rattle.plain_pcs.specs.Refusals.{CommitFault}
 use Rattle.plain_pcs.specs.declared.error.PlainProverError.{PlainProverError}
 use Rattle.plain_pcs.specs.declared.error.PlainProverError.TheVariants.{Commit, Open}
 use Rattle.batch_setup.specs.Packed.{no_source}
-use Rattle.batch_setup.specs.Preprocessed.{committed_at, committed_below, commit_checks, height_at, height_checks, on_domain}
-use Rattle.batch_setup.specs.SetupChecks.{degree_checks, trace_checks, AreBounded}
+use Rattle.batch_setup.specs.Preprocessed.{committed_trace_at, committed_below, commit_checks, height_at, height_checks, on_domain}
+use Rattle.batch_setup.specs.SetupChecks.{degree_checks, trace_checks, AreWithinBounds}
 use Rattle.batch_setup.specs.declared.error.SetupError.{SetupError}
 use Rattle.tool_tables.specs.Wheel.{numbers_to}
 use Rattle.tool_statement.specs.Config.{tool_scheme}
@@ -36,8 +36,8 @@ abbrev CanCommit : CosetData BabyBear × Rows BabyBear → Type 0
 CanCommit e = IsCommittable tool_scheme e.0 e.1
 
 -- the height of a wheel's numbers
-wheel_height : (k : ℕ) → height (record { values = numbers_to bear_ring (2 ^ k); width = 1 }) ≡ 2 ^ k
-wheel_height k = product_height (numbers_to bear_ring (2 ^ k)) (2 ^ k) 1 (let e : length (numbers_to bear_ring (2 ^ k)) ≡ 2 ^ k = length-table _ _ in omega (arith, e)) (omega arith)
+wheel_height : (k : ℕ) → height (record { values = numbers_to baby_bear_ring (2 ^ k); width = 1 }) ≡ 2 ^ k
+wheel_height k = product_height (numbers_to baby_bear_ring (2 ^ k)) (2 ^ k) 1 (let e : length (numbers_to baby_bear_ring (2 ^ k)) ≡ 2 ^ k = length-tabulate _ _ in omega (arith, e)) (omega arith)
 
 high_enough : (i : ℕ) (t : TableStatement) → NoneFails (height_checks {F = BabyBear} {E = PlainProverError} 0 i (log_height_of t) (source_of_table t).declaration.preprocessed)
 unfolding NoneFails
@@ -47,7 +47,7 @@ high_enough i (Take k) = tt
 high_enough i (Give k) = tt
 high_enough i (Hash k) = tt
 
-can_commit : (t : TableStatement) → TableWithin t → All CanCommit (on_domain bear_ring.one (log_height_of t) (source_of_table t).declaration.preprocessed)
+can_commit : (t : TableStatement) → TableWithin t → All CanCommit (on_domain baby_bear_ring.one (log_height_of t) (source_of_table t).declaration.preprocessed)
 can_commit (Swap k a b x) w i d h = absurd (omega (arith, h))
 can_commit (Wheel k) w zero d h = record { has_columns = omega arith; height_is = wheel_height k; fits = let b = w.1 in omega (arith, b) }
 can_commit (Wheel k) w (suc i) d h = absurd (omega (arith, h))
@@ -76,17 +76,17 @@ module _ (tables : List TableStatement) (within : All TableWithin tables) where
       (high_enough i (table_at i)))
 
   -- and the scheme can commit to all
-  committed_one : (i : ℕ) → i < length tables → All CanCommit (committed_at bear_ring.one (sources_of tables) (log_heights_of tables) i)
+  committed_one : (i : ℕ) → i < length tables → All CanCommit (committed_trace_at baby_bear_ring.one (sources_of tables) (log_heights_of tables) i)
   committed_one i h =
-      subst (λ s. All CanCommit (on_domain bear_ring.one (get_or (log_heights_of tables) i 0) s.declaration.preprocessed)) (sym (source_at i h))
-      (subst (λ b. All CanCommit (on_domain bear_ring.one b (source_of_table (table_at i)).declaration.preprocessed)) (sym (log_height_at i h))
+      subst (λ s. All CanCommit (on_domain baby_bear_ring.one (get_or (log_heights_of tables) i 0) s.declaration.preprocessed)) (sym (source_at i h))
+      (subst (λ b. All CanCommit (on_domain baby_bear_ring.one b (source_of_table (table_at i)).declaration.preprocessed)) (sym (log_height_at i h))
       (can_commit (table_at i) (within i (Take 0) h)))
 
-  committed_all : (n : ℕ) → n ≤ length tables → All CanCommit (committed_below bear_ring.one (sources_of tables) (log_heights_of tables) n)
+  committed_all : (n : ℕ) → n ≤ length tables → All CanCommit (committed_below baby_bear_ring.one (sources_of tables) (log_heights_of tables) n)
   committed_all zero h = no_items CanCommit
   committed_all (suc n) h =
-      All-append CanCommit (committed_below bear_ring.one (sources_of tables) (log_heights_of tables) n)
-      (committed_at bear_ring.one (sources_of tables) (log_heights_of tables) n)
+      All-append CanCommit (committed_below baby_bear_ring.one (sources_of tables) (log_heights_of tables) n)
+      (committed_trace_at baby_bear_ring.one (sources_of tables) (log_heights_of tables) n)
       (committed_all n (omega (arith, h))) (committed_one n (omega (arith, h)))
 
 -- where each can be committed to, the scheme refuses none
@@ -107,11 +107,11 @@ commits_granted (t ∷ ts) h = (not_refused (t ∷ ts) h, tt)
 -- so none of the checks fails by which prover data is made of these tables
 pub granted : (tables : List TableStatement) (airs : ℕ) → All TableWithin tables → airs ≡ length tables
     → NoneFails (degree_checks {E = PlainProverError} airs (length (log_heights_of tables))
-    ++ trace_checks bear_ring.one 0 (CommitFault tool_scheme) (sources_of tables) (log_heights_of tables) airs)
+    ++ trace_checks baby_bear_ring.one 0 (CommitFault tool_scheme) (sources_of tables) (log_heights_of tables) airs)
 granted tables airs w e =
     let n = length tables in
     subst (λ m. NoneFails (degree_checks {E = PlainProverError} m (length (log_heights_of tables))
-    ++ trace_checks bear_ring.one 0 (CommitFault tool_scheme) (sources_of tables) (log_heights_of tables) m)) (sym e)
+    ++ trace_checks baby_bear_ring.one 0 (CommitFault tool_scheme) (sources_of tables) (log_heights_of tables) m)) (sym e)
     (none_append _ _ (none_alone _ (length-map tables log_height_of))
     (none_append _ _ (none_of_each _ n (λ i h. heights tables w i h))
     (commits_granted _ (committed_all tables w n (omega arith)))))
@@ -124,7 +124,7 @@ small (Take k) w = omega (arith, w)
 small (Give k) w = omega (arith, w)
 small (Hash k) w = omega (arith, w)
 
-pub bounded : (tables : List TableStatement) → All TableWithin tables → AreBounded 0 26 (log_heights_of tables)
+pub bounded : (tables : List TableStatement) → All TableWithin tables → AreWithinBounds 0 26 (log_heights_of tables)
 bounded tables w i h =
     let long = length-map tables log_height_of in
     let l : i < length tables = omega (arith, h, long) in

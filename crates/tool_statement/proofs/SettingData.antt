@@ -1,7 +1,7 @@
 -- The configuration as plain data.
 use Rattle.std.proofs.Common.{◌≡◌, ℕ, ◌-◌, false, replicate}
-use Rattle.p3_field.specs.BabyBear.{reduce, bear_ring, bear_inv, bear_root}
-use Rattle.p3_field.specs.Quartic.{quartic_ring, of_bear_value, quartic_basis, quartic_parts, quartic_whole}
+use Rattle.p3_field.specs.BabyBear.{reduce, baby_bear_ring, baby_bear_inv, baby_bear_root}
+use Rattle.p3_field.specs.Quartic.{quartic_ring, of_baby_bear_value, quartic_basis, quartic_coefficients, quartic_from_coefficients}
 use Rattle.p3_field.specs.declared.baby_bear.BabyBear.{BabyBear}
 use Rattle.p3_field.specs.declared.quartic.QuarticExtension.{QuarticExtension}
 use Rattle.p3_challenger.specs.Sha256Functions.{sha256_functions}
@@ -13,11 +13,11 @@ use Rattle.tool_statement.specs.Config.{tool_setting}
 
 abbrev pub setting_with : Blowup → Sha256Challenger → ℕ → ℕ → Setting Sha256Challenger BabyBear QuarticExtension (PlainCommitmentData BabyBear)
 setting_with b challenger lookup_bits ood_bits = record {
-  field = record { ring = bear_ring; inv = bear_inv; root = bear_root; generator = reduce 31 };
+  field = record { ring = baby_bear_ring; inv = baby_bear_inv; root = baby_bear_root; generator = reduce 31 };
   two_adicity = 27;
   order = 2013265921;
-  extension = record { ring = quartic_ring; embed = of_bear_value; dimension = 4; basis = quartic_basis; parts = quartic_parts; whole = quartic_whole };
-  challenger = sha256_functions (commitment_elements bear_ring);
+  extension = record { ring = quartic_ring; embed = of_baby_bear_value; dimension = 4; basis = quartic_basis; coefficients = quartic_coefficients; from_coefficients = quartic_from_coefficients };
+  challenger = sha256_functions (commitment_elements baby_bear_ring);
   initial = challenger;
   zk = false;
   log_min = 0;

@@ -1,7 +1,7 @@
 -- The program's configuration as plain data.
 use Rattle.std.specs.Prelude.{false, replicate}
-use Rattle.p3_field.specs.BabyBear.{reduce, bear_ring, bear_inv, bear_root}
-use Rattle.p3_field.specs.Quartic.{quartic_ring, of_bear_value, quartic_basis, quartic_parts, quartic_whole}
+use Rattle.p3_field.specs.BabyBear.{reduce, baby_bear_ring, baby_bear_inv, baby_bear_root}
+use Rattle.p3_field.specs.Quartic.{quartic_ring, of_baby_bear_value, quartic_basis, quartic_coefficients, quartic_from_coefficients}
 use Rattle.p3_field.specs.declared.baby_bear.BabyBear.{BabyBear}
 use Rattle.p3_field.specs.declared.quartic.QuarticExtension.{QuarticExtension}
 use Rattle.p3_challenger.specs.Sha256Functions.{sha256_functions}
@@ -15,17 +15,17 @@ use Rattle.batch_setting.specs.Setting.{Setting, Backend}
 
 -- the plain scheme over BabyBear, which has subgroups of sizes up to 2^27, with a blowup of two
 abbrev pub tool_scheme : Scheme BabyBear
-tool_scheme = scheme bear_ring bear_inv bear_root (reduce 31) 27 (record { log_blowup = 1 })
+tool_scheme = scheme baby_bear_ring baby_bear_inv baby_bear_root (reduce 31) 27 (record { log_blowup = 1 })
 
 -- BabyBear and its quartic extension, the SHA-256 challenger at a chain of zeros, a scheme that masks nothing and whose traces have up to 2^26 rows, four
 -- bits for each grinding
 unfoldable pub tool_setting : Setting Sha256Challenger BabyBear QuarticExtension (PlainCommitmentData BabyBear)
 tool_setting = record {
-  field = record { ring = bear_ring; inv = bear_inv; root = bear_root; generator = reduce 31 };
+  field = record { ring = baby_bear_ring; inv = baby_bear_inv; root = baby_bear_root; generator = reduce 31 };
   two_adicity = 27;
   order = 2013265921;
-  extension = record { ring = quartic_ring; embed = of_bear_value; dimension = 4; basis = quartic_basis; parts = quartic_parts; whole = quartic_whole };
-  challenger = sha256_functions (commitment_elements bear_ring);
+  extension = record { ring = quartic_ring; embed = of_baby_bear_value; dimension = 4; basis = quartic_basis; coefficients = quartic_coefficients; from_coefficients = quartic_from_coefficients };
+  challenger = sha256_functions (commitment_elements baby_bear_ring);
   initial = record { chain = replicate 32 0; left = 0 };
   zk = false;
   log_min = 0;
@@ -37,8 +37,8 @@ tool_setting = record {
 -- the plain scheme's verifier
 abbrev pub backend_of : Scheme BabyBear → Backend Sha256Challenger BabyBear QuarticExtension (PlainCommitmentData BabyBear) PlainProof PlainError
 backend_of s = record {
-  opens = λ t claims p. Opens s quartic_ring of_bear_value claims;
-  fault = λ t claims p e. Fault s quartic_ring of_bear_value claims e;
+  opens = λ t claims p. Opens s quartic_ring of_baby_bear_value claims;
+  fault = λ t claims p e. Fault s quartic_ring of_baby_bear_value claims e;
 }
 
 unfoldable pub tool_backend : Backend Sha256Challenger BabyBear QuarticExtension (PlainCommitmentData BabyBear) PlainProof PlainError

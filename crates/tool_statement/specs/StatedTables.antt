@@ -3,8 +3,8 @@
 use Rattle.std.specs.Prelude.{◌≡◌, ℕ, ◌≤◌, List, [], ◌∷◌, length, map, min, replicate, Option, None, Some}
 use Rattle.std.specs.Prelude.{slice_index_or as get_or}
 use Rattle.p3_field.specs.Checks.{FirstFailing, IsFirstFailing}
-use Rattle.p3_field.specs.Poly.{table}
-use Rattle.p3_field.specs.BabyBear.{bear_ring}
+use Rattle.p3_field.specs.Poly.{tabulate}
+use Rattle.p3_field.specs.BabyBear.{baby_bear_ring}
 use Rattle.p3_field.specs.Domain.{CosetData}
 use Rattle.p3_field.specs.declared.baby_bear.BabyBear.{BabyBear}
 use Rattle.p3_matrix.specs.Matrix.{Rows}
@@ -15,7 +15,7 @@ use Rattle.plain_pcs.specs.Extension.{commitment_of}
 use Rattle.batch_tables.specs.Swap.{swap_declaration, swap_trees}
 use Rattle.tool_tables.specs.Wheel.{wheel_declaration, wheel_trees}
 use Rattle.tool_tables.specs.Words.{words_declaration, take_interactions, give_interactions}
-use Rattle.batch_statement.specs.Statement.{Table, PreprocessedTracesData, Common, Statement, with_entry}
+use Rattle.batch_statement.specs.Statement.{AirTable, PreprocessedTracesData, Common, Statement, with_entry}
 use Rattle.batch_statement.specs.declared.preprocessed.PreprocessedInstanceMeta.{PreprocessedInstanceMeta}
 use Rattle.batch_setup.specs.Packed.{Source, packed_at}
 use Rattle.batch_setup.specs.Preprocessed.{committed_below, entry_at}
@@ -49,10 +49,10 @@ publics_of (Hash k) = []
 -- what the table's AIR declares, its constraints and its interactions
 abbrev pub source_of_table : TableStatement → Source BabyBear
 source_of_table (Swap k a b x) = record { declaration = swap_declaration; trees = swap_trees; interactions = [] }
-source_of_table (Wheel k) = record { declaration = wheel_declaration bear_ring k; trees = wheel_trees; interactions = [] }
-source_of_table (Take k) = record { declaration = words_declaration 1; trees = []; interactions = take_interactions bear_ring }
-source_of_table (Give k) = record { declaration = words_declaration 2; trees = []; interactions = give_interactions bear_ring }
-source_of_table (Hash k) = record { declaration = blake3_declaration; trees = blake3_trees bear_ring; interactions = [] }
+source_of_table (Wheel k) = record { declaration = wheel_declaration baby_bear_ring k; trees = wheel_trees; interactions = [] }
+source_of_table (Take k) = record { declaration = words_declaration 1; trees = []; interactions = take_interactions baby_bear_ring }
+source_of_table (Give k) = record { declaration = words_declaration 2; trees = []; interactions = give_interactions baby_bear_ring }
+source_of_table (Hash k) = record { declaration = blake3_declaration; trees = blake3_trees baby_bear_ring; interactions = [] }
 
 abbrev pub sources_of : List TableStatement → List (Source BabyBear)
 sources_of tables = map source_of_table tables
@@ -65,8 +65,8 @@ abbrev pub HasStatedHeight : List TableStatement → (degree_bits : List ℕ) �
 HasStatedHeight tables degree_bits i = get_or (log_heights_of tables) i 0 ≡ get_or degree_bits i 0
 
 -- table i is the first, below both lengths, of which that isn't so
-abbrev pub IsMismatch : List TableStatement → (degree_bits : List ℕ) → ℕ → Type 0
-IsMismatch tables degree_bits i = IsFirstFailing (min (length tables) (length degree_bits)) (HasStatedHeight tables degree_bits) i
+abbrev pub IsHeightMismatch : List TableStatement → (degree_bits : List ℕ) → ℕ → Type 0
+IsHeightMismatch tables degree_bits i = IsFirstFailing (min (length tables) (length degree_bits)) (HasStatedHeight tables degree_bits) i
 
 -- it is so of all
 abbrev pub HaveStatedHeights : List TableStatement → (degree_bits : List ℕ) → Type 0
@@ -76,32 +76,32 @@ abbrev pub publics_lists : List TableStatement → List (List BabyBear)
 publics_lists tables = map publics_of tables
 
 -- the lookups of table i, packed within its free budget
-abbrev pub lookups_at : List TableStatement → ℕ → List (LookupData BabyBear)
-lookups_at tables i = packed_at bear_ring 0 (sources_of tables) (log_heights_of tables) (replicate (length tables) 0) i
+abbrev pub packed_lookups_at : List TableStatement → ℕ → List (LookupData BabyBear)
+packed_lookups_at tables i = packed_at baby_bear_ring 0 (sources_of tables) (log_heights_of tables) (replicate (length tables) 0) i
 
 -- what the plain scheme commits to, which are the preprocessed traces of wheels, in order; and each table's entry
 abbrev pub preprocessed_traces : List TableStatement → List (CosetData BabyBear × Rows BabyBear)
-preprocessed_traces tables = committed_below bear_ring.one (sources_of tables) (log_heights_of tables) (length tables)
+preprocessed_traces tables = committed_below baby_bear_ring.one (sources_of tables) (log_heights_of tables) (length tables)
 
 abbrev pub entries_of : List TableStatement → List (Option PreprocessedInstanceMeta)
-entries_of tables = table (length tables) (entry_at bear_ring.one (sources_of tables) (log_heights_of tables))
+entries_of tables = tabulate (length tables) (entry_at baby_bear_ring.one (sources_of tables) (log_heights_of tables))
 
 -- the commitment to traces with these entries; none where there is no trace
-abbrev pub preprocessed_of : List (Option PreprocessedInstanceMeta) → List (CosetData BabyBear × Rows BabyBear) → Option (PreprocessedTracesData (PlainCommitmentData BabyBear))
-preprocessed_of entries [] = None
-preprocessed_of entries (t ∷ ts) = Some (record { commitment = commitment_of tool_scheme (t ∷ ts); instances = entries; matrix_to_instance = with_entry 0 entries })
+abbrev pub preprocessed_commitment_of : List (Option PreprocessedInstanceMeta) → List (CosetData BabyBear × Rows BabyBear) → Option (PreprocessedTracesData (PlainCommitmentData BabyBear))
+preprocessed_commitment_of entries [] = None
+preprocessed_commitment_of entries (t ∷ ts) = Some (record { commitment = commitment_of tool_scheme (t ∷ ts); instances = entries; matrix_to_instance = with_entry 0 entries })
 
 -- the data that prover and verifier share of these tables
 unfoldable pub tool_common : List TableStatement → Common BabyBear (PlainCommitmentData BabyBear)
 tool_common tables = record {
-  preprocessed = preprocessed_of (entries_of tables) (preprocessed_traces tables);
-  lookups = table (length tables) (lookups_at tables);
+  preprocessed = preprocessed_commitment_of (entries_of tables) (preprocessed_traces tables);
+  lookups = tabulate (length tables) (packed_lookups_at tables);
 }
 
 -- the table with its constraints
-abbrev pub table_of : TableStatement → Table BabyBear
-table_of t = record { declaration = (source_of_table t).declaration; trees = (source_of_table t).trees }
+abbrev pub air_table_of : TableStatement → AirTable BabyBear
+air_table_of t = record { declaration = (source_of_table t).declaration; trees = (source_of_table t).trees }
 
 -- what a proof of these tables is of
 abbrev pub tool_statement : List TableStatement → Statement BabyBear (PlainCommitmentData BabyBear)
-tool_statement tables = record { tables = map table_of tables; publics = publics_lists tables; common = tool_common tables }
+tool_statement tables = record { tables = map air_table_of tables; publics = publics_lists tables; common = tool_common tables }

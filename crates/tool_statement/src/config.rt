@@ -10,8 +10,8 @@ use p3_field::{BabyBear, QuarticExtension, TwoAdicCore};
 use p3_uni_stark::StarkConfig;
 use plain_pcs::PlainPcs;
 
-/// The program's configuration (own): values in `BabyBear`, challenges in its extension of degree four, a transcript over SHA-256, and the
-/// plain scheme.
+/// The program's configuration (not in Plonky3): values in `BabyBear`, challenges in its extension of degree four, a transcript over
+/// SHA-256, and the plain scheme.
 pub type ToolConfig = StarkConfig<
     PlainPcs<BabyBear, Radix2Dit>,
     QuarticExtension,

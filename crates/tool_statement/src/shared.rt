@@ -1,6 +1,6 @@
 //! What a statement's tables fix: their AIRs, their public values, and the data that prover and verifier share.
 ghost use Rattle.std.specs.Prelude.{◌≡◌, All, IfOk, map};
-ghost use Rattle.p3_field.specs.BabyBear.{bear_ring};
+ghost use Rattle.p3_field.specs.BabyBear.{baby_bear_ring};
 ghost use Rattle.p3_commit.specs.Commitments.{IsCommitment};
 ghost use Rattle.plain_pcs.specs.Extension.{commitment_of};
 ghost use Rattle.plain_pcs.specs.Holding.{AreHolding, IsMade};
@@ -22,13 +22,13 @@ use plain_pcs::PlainCommitment;
 use std::alloc::{AllocError, Global};
 use tool_tables::{ToolAir, tables_send_one_width};
 
-/// The data that prover and verifier share over the program's configuration (own).
+/// The data that prover and verifier share over the program's configuration (not in Plonky3).
 pub type ToolCommon = SharedData<BabyBear, PlainCommitment<BabyBear>>;
 
 /// The tables' AIRs in order. The only error is running out of memory.
 pub fn airs_of(alloc: Global, tables: &[TableStatement]) -> Mem<Vec<ToolAir<BabyBear>>>
     requires { All TableWithin tables.now }
-    ensures { IfOk result (λ v. map (source_of (tool_declaration bear_ring) (tool_trees bear_ring) (tool_interactions bear_ring)) v.items ≡ sources_of tables.now) }
+    ensures { IfOk result (λ v. map (source_of (tool_declaration baby_bear_ring) (tool_trees baby_bear_ring) (tool_interactions baby_bear_ring)) v.items ≡ sources_of tables.now) }
 {
     let mut airs = Vec::new(alloc);
     for table in tables {
@@ -69,11 +69,13 @@ pub fn prover_data(
 ) -> Mem<ProverData<ToolConfig>>
     requires within { All TableWithin tables.now }
     requires scheme { config.now.pcs ≡ record { log_blowup = 1 } }
-    requires airs { map (source_of (tool_declaration bear_ring) (tool_trees bear_ring) (tool_interactions bear_ring)) airs.now ≡ sources_of tables.now }
+    requires airs { map (source_of (tool_declaration baby_bear_ring) (tool_trees baby_bear_ring) (tool_interactions baby_bear_ring)) airs.now ≡ sources_of tables.now }
     ensures common { IfOk result (λ d. read_common d.common ≡ tool_common tables.now) }
-    ensures formed { IfOk result (λ d. WellFormed (map (tool_declaration bear_ring) airs.now) (read_common d.common)) }
-    ensures kept { IfOk result (λ d. IsPrepared (λ es p. IsCommitment bear_ring ⟦<TwoAdicMultiplicativeCoset<BabyBear> as PolynomialSpace>⟧.points ⟦<TwoAdicMultiplicativeCoset<BabyBear> as PolynomialSpace>⟧.point_at
-        (λ es c. c ≡ commitment_of tool_scheme es) IsMade (AreHolding tool_scheme) es p) (entries_of tables.now) (preprocessed_traces tables.now) d.common.preprocessed d.prover_only.preprocessed_prover_data) }
+    ensures formed { IfOk result (λ d. WellFormed (map (tool_declaration baby_bear_ring) airs.now) (read_common d.common)) }
+    ensures prover_data { IfOk result
+        (λ d. IsPrepared (λ es p. IsCommitment baby_bear_ring ⟦<TwoAdicMultiplicativeCoset<BabyBear> as PolynomialSpace>⟧.points ⟦<TwoAdicMultiplicativeCoset<BabyBear> as PolynomialSpace>⟧.point_at
+        (λ es c. c ≡ commitment_of tool_scheme es) IsMade (AreHolding tool_scheme) es p) (entries_of tables.now)
+        (preprocessed_traces tables.now) d.common.preprocessed d.prover_only.preprocessed_prover_data) }
 {
     tables_send_one_width::<BabyBear>();
     let bits = log_heights(alloc, tables)?;
@@ -97,9 +99,9 @@ pub fn shared_data(
 ) -> Mem<ToolCommon>
     requires within { All TableWithin tables.now }
     requires scheme { config.now.pcs ≡ record { log_blowup = 1 } }
-    requires airs { map (source_of (tool_declaration bear_ring) (tool_trees bear_ring) (tool_interactions bear_ring)) airs.now ≡ sources_of tables.now }
+    requires airs { map (source_of (tool_declaration baby_bear_ring) (tool_trees baby_bear_ring) (tool_interactions baby_bear_ring)) airs.now ≡ sources_of tables.now }
     ensures common { IfOk result (λ c. read_common c ≡ tool_common tables.now) }
-    ensures formed { IfOk result (λ c. WellFormed (map (tool_declaration bear_ring) airs.now) (read_common c)) }
+    ensures formed { IfOk result (λ c. WellFormed (map (tool_declaration baby_bear_ring) airs.now) (read_common c)) }
 {
     let data = prover_data(alloc, config, tables, airs)?;
     Ok(data.common)

@@ -1,6 +1,6 @@
 //! The tables of a statement.
 ghost use Rattle.std.specs.Prelude.{◌≡◌, IfOk};
-ghost use Rattle.p3_field.specs.BabyBear.{bear_ring};
+ghost use Rattle.p3_field.specs.BabyBear.{baby_bear_ring};
 ghost use Rattle.batch_setup.specs.Packed.{source_of};
 ghost use Rattle.tool_tables.specs.Tool.{tool_declaration, tool_interactions, tool_trees};
 ghost use Rattle.tool_statement.specs.StatedTables.{TableWithin, log_height_of, publics_of, source_of_table};
@@ -11,8 +11,8 @@ use p3_field::{BabyBear, Mem};
 use std::alloc::Global;
 use tool_tables::{GiveAir, TakeAir, ToolAir, WheelAir};
 
-/// What a proof file states of a table (own): its kind, the base-2 logarithm `k` of its number of rows, and its public values. `k` is 0 to
-/// 10, of a wheel 1 to 10, of a table of compressions 0 to 3.
+/// What a proof file states of a table (not in Plonky3): its kind, the base-2 logarithm `k` of its number of rows, and its public values.
+/// `k` is 0 to 10, of a wheel 1 to 10, of a table of compressions 0 to 3.
 #[derive(Clone, Copy, Debug, PartialEq, Eq)]
 pub enum TableStatement {
     /// A swap table.
@@ -65,7 +65,7 @@ impl TableStatement {
     /// The table's AIR. The only error is running out of memory.
     pub fn air(&self, alloc: Global) -> Mem<ToolAir<BabyBear>>
         requires { TableWithin self.now }
-        ensures { IfOk result (λ a. source_of (tool_declaration bear_ring) (tool_trees bear_ring) (tool_interactions bear_ring) a ≡ source_of_table self.now) }
+        ensures { IfOk result (λ a. source_of (tool_declaration baby_bear_ring) (tool_trees baby_bear_ring) (tool_interactions baby_bear_ring) a ≡ source_of_table self.now) }
     {
         match self {
             TableStatement::Swap { .. } => Ok(ToolAir::Swap(SwapAir)),

@@ -1,7 +1,7 @@
 -- The wheel table: what it declares, and its constraint.
 use Rattle.std.specs.Prelude.{ℕ, ◌+◌, ◌^◌, false, List, [], ◌∷◌, None, Some}
 use Rattle.p3_field.specs.Ring.{Ring, of_nat}
-use Rattle.p3_field.specs.Poly.{table}
+use Rattle.p3_field.specs.Poly.{tabulate}
 use Rattle.p3_air.specs.declared.cells.Cell.TheVariants.{Main, Preprocessed, Periodic}
 use Rattle.p3_air.specs.Shape.{Declaration}
 use Rattle.p3_air.specs.Tree.{Tree, cell, difference, product}
@@ -16,7 +16,7 @@ number_in r i = of_nat r (i + 1)
 
 -- this column of n rows
 abbrev pub numbers_to : {F : Type 0} → Ring F → ℕ → List F
-numbers_to r n = table n (number_in r)
+numbers_to r n = tabulate n (number_in r)
 
 -- the periodic column
 abbrev pub turns : {F : Type 0} → Ring F → List F

@@ -9,7 +9,8 @@ use p3_field::{Field, FieldCore, Mem, RingCore};
 use p3_matrix::RowMajorMatrix;
 use std::alloc::Global;
 
-/// One column of words without constraints. Each row sends its word on the bus `words`, once (own).
+/// One column of words without constraints. Each row sends its word on the bus `words`, once (not in
+/// Plonky3).
 #[derive(Clone, Copy)]
 pub struct TakeAir;
 

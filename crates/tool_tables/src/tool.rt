@@ -13,7 +13,8 @@ use p3_field::{Field, FieldCore, Mem, RingCore};
 use p3_matrix::RowMajorMatrix;
 use std::alloc::Global;
 
-/// One of the program's tables (own), so that a batch of several kinds is a list of one type.
+/// One of the program's tables (not in Plonky3), so that a batch of several kinds is a list of one
+/// type.
 #[derive(Drop)]
 pub enum ToolAir<F> {
     /// A swap table.

@@ -12,7 +12,8 @@ use p3_field::{Field, FieldCore, Mem, RingCore};
 use p3_matrix::RowMajorMatrix;
 use std::alloc::Global;
 
-/// One column, which is the product of a preprocessed column, i + 1 in row i, and of a periodic one, 3 and 5 in turn (own).
+/// One column, which is the product of a preprocessed column, i + 1 in row i, and of a periodic one, 3 and 5 in turn (not
+/// in Plonky3).
 #[derive(Drop)]
 pub struct WheelAir<F> {
     /// The periodic column, as the only one of its list.

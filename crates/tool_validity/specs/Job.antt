@@ -4,7 +4,7 @@ use Rattle.std.specs.Int.{IsPowerOfTwo}
 use Rattle.std.specs.Prelude.{◌≡◌, ℕ, ◌%◌, ◌^◌, ◌<◌, ◌≤◌, ◌==◌, Bool, if◌then◌else◌, cond, List, [], ◌∷◌, length, map, All, count_by, sum_by}
 use Rattle.std.specs.Prelude.{slice_index_or as get_or}
 use Rattle.std.specs.List.{flat_map}
-use Rattle.p3_field.specs.Poly.{table}
+use Rattle.p3_field.specs.Poly.{tabulate}
 use Rattle.p3_field.specs.Ring.{Ring, of_nat}
 use Rattle.p3_matrix.specs.Matrix.{Rows}
 use Rattle.p3_lookup.specs.Lookup.{lookups_of}
@@ -12,7 +12,7 @@ use Rattle.p3_blake3_air.specs.Rows.{rows_cells}
 use Rattle.p3_blake3_air.specs.Trees.{blake3_declaration, blake3_trees}
 use Rattle.batch_setup.specs.Packed.{Source}
 use Rattle.batch_setup.specs.Setup.{log_of}
-use Rattle.batch_statement.specs.Statement.{Table}
+use Rattle.batch_statement.specs.Statement.{AirTable}
 use Rattle.batch_tables.specs.Swap.{swap_declaration, swap_trees}
 use Rattle.batch_validity.specs.Traced.{TracedTable}
 use Rattle.tool_tables.specs.Wheel.{number_in, turns, wheel_declaration, wheel_trees}
@@ -34,12 +34,12 @@ abbrev pub IsHashRow : List ℕ → Type 0
 IsHashRow row = (length row ≡ 24) × All (λ w. w < 2 ^ 32) row
 
 -- the sizes that a job's tables may have
-abbrev pub IsWithin : {F : Type 0} → JobTable F → Type 0
-IsWithin (swap_of k a b) = k ≤ 10
-IsWithin (wheel_of k) = (0 < k) × (k ≤ 10)
-IsWithin (take_of words) = IsPowerOfTwo (length words) × (length words ≤ 1024)
-IsWithin (give_of pairs) = IsPowerOfTwo (length pairs) × (length pairs ≤ 1024) × All (λ p. p.1 ≤ 1024) pairs
-IsWithin (hash_of rows) = IsPowerOfTwo (length rows) × (length rows ≤ 8) × All IsHashRow rows
+abbrev pub IsJobTableWithin : {F : Type 0} → JobTable F → Type 0
+IsJobTableWithin (swap_of k a b) = k ≤ 10
+IsJobTableWithin (wheel_of k) = (0 < k) × (k ≤ 10)
+IsJobTableWithin (take_of words) = IsPowerOfTwo (length words) × (length words ≤ 1024)
+IsJobTableWithin (give_of pairs) = IsPowerOfTwo (length pairs) × (length pairs ≤ 1024) × All (λ p. p.1 ≤ 1024) pairs
+IsJobTableWithin (hash_of rows) = IsPowerOfTwo (length rows) × (length rows ≤ 8) × All IsHashRow rows
 
 -- how many rows of take tables take a word, where the test finds it
 abbrev pub times_taken : {F : Type 0} → (F → Bool) → JobTable F → ℕ
@@ -64,7 +64,7 @@ IsBalancedJob {F = F} eq job = (v : F) → sum_by (times_taken (λ x. eq x v)) j
 -- a job: at most eight tables, each within the sizes, and balanced
 pub record IsJob {F : Type 0} (eq : F → F → Bool) (job : List (JobTable F)) : Type 0 where
   pub few : length job ≤ 8
-  pub within : All IsWithin job
+  pub within : All IsJobTableWithin job
   pub balanced : IsBalancedJob eq job
 
 -- row i of a swap table
@@ -84,26 +84,26 @@ abbrev pub give_row : {F : Type 0} → Ring F → F × ℕ → List F
 give_row r p = p.0 ∷ of_nat r p.1 ∷ []
 
 -- the logarithm of a table's number of rows, its trace, and its public values
-abbrev pub log_height_of : {F : Type 0} → JobTable F → ℕ
-log_height_of (swap_of k a b) = k
-log_height_of (wheel_of k) = k
-log_height_of (take_of words) = log_of (length words)
-log_height_of (give_of pairs) = log_of (length pairs)
-log_height_of (hash_of rows) = log_of (length rows)
+abbrev pub job_log_height_of : {F : Type 0} → JobTable F → ℕ
+job_log_height_of (swap_of k a b) = k
+job_log_height_of (wheel_of k) = k
+job_log_height_of (take_of words) = log_of (length words)
+job_log_height_of (give_of pairs) = log_of (length pairs)
+job_log_height_of (hash_of rows) = log_of (length rows)
 
 abbrev pub trace_of : {F : Type 0} → Ring F → JobTable F → Rows F
-trace_of r (swap_of k a b) = record { values = flat_map (swap_row a b) (table (2 ^ k) (λ i. i)); width = 2 }
-trace_of r (wheel_of k) = record { values = table (2 ^ k) (wheel_cell r); width = 1 }
+trace_of r (swap_of k a b) = record { values = flat_map (swap_row a b) (tabulate (2 ^ k) (λ i. i)); width = 2 }
+trace_of r (wheel_of k) = record { values = tabulate (2 ^ k) (wheel_cell r); width = 1 }
 trace_of r (take_of words) = record { values = words; width = 1 }
 trace_of r (give_of pairs) = record { values = flat_map (give_row r) pairs; width = 2 }
 trace_of r (hash_of rows) = record { values = map (of_nat r) (rows_cells rows); width = 9168 }
 
-abbrev pub publics_of : {F : Type 0} → JobTable F → List F
-publics_of (swap_of k a b) = a ∷ b ∷ last_right k a b ∷ []
-publics_of (wheel_of k) = []
-publics_of (take_of words) = []
-publics_of (give_of pairs) = []
-publics_of (hash_of rows) = []
+abbrev pub job_publics_of : {F : Type 0} → JobTable F → List F
+job_publics_of (swap_of k a b) = a ∷ b ∷ last_right k a b ∷ []
+job_publics_of (wheel_of k) = []
+job_publics_of (take_of words) = []
+job_publics_of (give_of pairs) = []
+job_publics_of (hash_of rows) = []
 
 -- the logarithm of the number of chunks of its quotient: two for compressions, whose constraints have degree three, and one for the others
 abbrev pub log_parts_of : {F : Type 0} → JobTable F → ℕ
@@ -131,16 +131,16 @@ IsAirOf r (hash_of rows) (Hash air) = Unit {0}
 IsAirOf r j air = ⊥
 
 -- the table as it is proved: each of these has one lookup at most, which is its own
-abbrev pub job_table : {F : Type 0} → Ring F → JobTable F → Table F
+abbrev pub job_table : {F : Type 0} → Ring F → JobTable F → AirTable F
 job_table r j = record { declaration = (source_of_job r j).declaration; trees = (source_of_job r j).trees }
 
 abbrev pub traced_job : {F : Type 0} → Ring F → JobTable F → TracedTable F
 traced_job r j = record {
   table = job_table r j;
   lookups = lookups_of (source_of_job r j).interactions;
-  publics = publics_of j;
+  publics = job_publics_of j;
   trace = trace_of r j;
-  degree_bits = log_height_of j;
+  degree_bits = job_log_height_of j;
 }
 
 -- the AIRs of a job, table by table

@@ -9,5 +9,5 @@ pub mod Loads
 pub mod Tables
 pub mod Made
 pub mod Valid
-pub mod Bear
+pub mod BabyBear
 pub mod Program

@@ -3,7 +3,7 @@ use Rattle.std.specs.Prelude.{◌≡◌, ℕ, ◌^◌, ◌<◌, ◌≤◌, false
 use Rattle.p3_field.specs.Ring.{Ring, pow}
 use Rattle.batch_setting.specs.Setting.{Setting}
 use Rattle.batch_validity.specs.Traced.{quotient_shift}
-use Rattle.committed_tables.specs.Fields.{FieldsLaws, bear_field, quartic_extension}
+use Rattle.committed_tables.specs.Fields.{FieldsLaws, baby_bear_field, quartic_extension}
 use Rattle.p3_challenger.specs.Script.{ChallengerOf}
 use Rattle.p3_field.specs.declared.baby_bear.BabyBear.{BabyBear}
 use Rattle.p3_field.specs.declared.quartic.QuarticExtension.{QuarticExtension}
@@ -33,9 +33,9 @@ pub record ServesJobs {S F E C : Type 0} (c : Setting S F E C) (inverse : E → 
   pub compressions : RowMeans c.field.ring
 
 -- a configuration over BabyBear and its quartic extension, whose backend masks nothing and takes any trace of up to 2^log_max rows
-abbrev pub bear_setting : {S C : Type 0} → ChallengerOf S BabyBear QuarticExtension C → (initial : S) → (log_max lookup_bits ood_bits : ℕ) → Setting S BabyBear QuarticExtension C
-bear_setting challenger initial log_max lookup_bits ood_bits = record {
-  field = bear_field;
+abbrev pub baby_bear_setting : {S C : Type 0} → ChallengerOf S BabyBear QuarticExtension C → (initial : S) → (log_max lookup_bits ood_bits : ℕ) → Setting S BabyBear QuarticExtension C
+baby_bear_setting challenger initial log_max lookup_bits ood_bits = record {
+  field = baby_bear_field;
   two_adicity = 27;
   order = 2013265921;
   extension = quartic_extension;

@@ -3,7 +3,7 @@ ghost use Rattle.std.specs.Prelude.{◌≡◌, ℕ, ◌^◌, ◌<◌, ◌≤◌,
 ghost use Rattle.p3_challenger.specs.Script.{ChallengerOf};
 ghost use Rattle.p3_field.specs.Domain.{CosetData};
 ghost use Rattle.p3_field.specs.Field.{TwoAdic, Extension};
-ghost use Rattle.p3_field.specs.Poly.{table};
+ghost use Rattle.p3_field.specs.Poly.{tabulate};
 ghost use Rattle.p3_field.specs.Quartic.{quartic_inv};
 ghost use Rattle.p3_field.specs.Ring.{Ring};
 ghost use Rattle.p3_matrix.specs.Matrix.{Rows};
@@ -23,8 +23,8 @@ ghost use Rattle.batch_validity.specs.Traced.{no_rows, traces_of};
 ghost use Rattle.batch_validity.specs.Valid.{Valid};
 ghost use Rattle.tool_tables.specs.Tool.{tool_declaration, tool_interactions, tool_trees};
 ghost use Rattle.tool_tables.specs.declared.tool.ToolAir.{ToolAir};
-ghost use Rattle.tool_validity.specs.Job.{AreAirsOf, IsJob, IsWithin, JobTable, job_table, log_height_of, log_parts_of, publics_of, source_of_job, trace_of, traced_job};
-ghost use Rattle.tool_validity.specs.Serves.{ServesJobs, ServesTable, bear_setting};
+ghost use Rattle.tool_validity.specs.Job.{AreAirsOf, IsJob, IsJobTableWithin, JobTable, job_table, job_log_height_of, log_parts_of, job_publics_of, source_of_job, trace_of, traced_job};
+ghost use Rattle.tool_validity.specs.Serves.{ServesJobs, ServesTable, baby_bear_setting};
 
 use p3_field::{BabyBear, QuarticExtension};
 
@@ -32,7 +32,7 @@ use p3_field::{BabyBear, QuarticExtension};
 /// one row and of up to 2^10 rows.
 pub fn baby_bear_serves_jobs<C, Com>()
     ensures { (challenger : ChallengerOf C BabyBear QuarticExtension Com) (initial : C) (log_max lookup_bits ood_bits : ℕ) → 10 ≤ log_max
-        → ServesJobs (bear_setting challenger initial log_max lookup_bits ood_bits) quartic_inv }
+        → ServesJobs (baby_bear_setting challenger initial log_max lookup_bits ood_bits) quartic_inv }
 {}
 
 /// The traces of a job's table meet its AIR's constraints: each is zero on each row of the table that is committed to as the
@@ -41,8 +41,8 @@ pub fn baby_bear_serves_jobs<C, Com>()
 /// the constraints of compressions mean compressions over the field (`ServesTable`): `row_means` of `p3_blake3_air` has that for each
 /// prime field of more than 2^20 elements.
 pub fn a_jobs_table_holds<F, E>()
-    ensures { (f : TwoAdic F) (e : Extension F E) (top : ℕ) (inverse : E → E) (j : JobTable F) → FieldsLaws f e top inverse → IsWithin j → ServesTable f.ring j → log_height_of j ≤ top
-        → Holds f e (committed_traces f e (traces_of (traced_job f.ring j)) no_rows [] [] (log_height_of j)) (source_of_job f.ring j).trees }
+    ensures { (f : TwoAdic F) (e : Extension F E) (top : ℕ) (inverse : E → E) (j : JobTable F) → FieldsLaws f e top inverse → IsJobTableWithin j → ServesTable f.ring j → job_log_height_of j ≤ top
+        → Holds f e (committed_traces f e (traces_of (traced_job f.ring j)) no_rows [] [] (job_log_height_of j)) (source_of_job f.ring j).trees }
 {}
 
 /// All constraints of a job's table, those of its lookups among them, fit any number of chunks from that of the table's sizing on,
@@ -59,11 +59,17 @@ pub fn a_jobs_table_fits<F>()
 /// these: their lookups, packed within any budgets, the commitment to their preprocessed traces with its entries; it is
 /// well-formed. The configuration serves for jobs, and its backend's commitment is `commitment_of`, as one that masks nothing has it.
 pub fn every_job_is_valid<C, F, E, Com, PD>()
-    ensures { (c : Setting C F E Com) (inverse : E → E) (eq : F → F → Bool) (job : List (JobTable F)) (airs : List (ToolAir F)) (budgets : List ℕ) (commitment_of : List (CosetData F × Rows F) → Com) (common : Common F Com) (kept : Option PD)
+    ensures { (c : Setting C F E Com) (inverse : E → E) (eq : F → F → Bool) (job : List (JobTable F)) (airs : List (ToolAir F)) (budgets : List ℕ)
+        (commitment_of : List (CosetData F × Rows F) → Com) (common : Common F Com) (kept : Option PD)
         → ServesJobs c inverse → IsJob eq job → AreAirsOf c.field.ring job airs
-        → let sources = map (source_of (tool_declaration c.field.ring) (tool_trees c.field.ring) (tool_interactions c.field.ring)) airs in let bits = map log_height_of job in
-        common.lookups ≡ table (length airs) (packed_at c.field.ring 0 sources bits budgets)
-        → IsPrepared {P = PD} (λ es w. w.0 ≡ commitment_of es) (table (length airs) (entry_at c.field.ring.one sources bits)) (committed_below c.field.ring.one sources bits (length airs)) common.preprocessed kept
+        → let sources = map (source_of (tool_declaration c.field.ring) (tool_trees c.field.ring) (tool_interactions c.field.ring)) airs in let bits = map job_log_height_of job in
+        common.lookups ≡ tabulate (length airs) (packed_at c.field.ring 0 sources bits budgets)
+        → IsPrepared {P = PD} (λ es w. w.0 ≡ commitment_of es) (tabulate (length airs) (entry_at c.field.ring.one sources bits))
+        (committed_below c.field.ring.one sources bits (length airs)) common.preprocessed kept
         → WellFormed (map (tool_declaration c.field.ring) airs) common
-        → Valid c eq commitment_of (record { tables = tables_of (tool_declaration c.field.ring) (tool_trees c.field.ring) airs; publics = map publics_of job; common = common }) (map (trace_of c.field.ring) job) bits }
+        → Valid c eq commitment_of (record {
+          tables = tables_of (tool_declaration c.field.ring) (tool_trees c.field.ring) airs;
+          publics = map job_publics_of job;
+          common = common;
+        }) (map (trace_of c.field.ring) job) bits }
 {}

@@ -5,7 +5,7 @@ use Rattle.p3_blake3.specs.Compress.{Input}
 use Rattle.p3_blake3.specs.TraceRow.{AreWords}
 use Rattle.p3_field.specs.declared.baby_bear.BabyBear.{BabyBear}
 use Rattle.plain_pcs.specs.declared.error.PlainError.{PlainError}
-use Rattle.hash_lines.specs.Compressions.{compression_words}
+use Rattle.hash_lines.specs.Compressions.{printed_compression_words}
 use Rattle.hash_lines.specs.PrintedRows.{committed_cells, printed_rows}
 use Rattle.hash_lines.specs.RowText.{row_line, words_line}
 use Rattle.batch_statement.specs.declared.error.BatchVerificationError.{BatchVerificationError}
@@ -14,7 +14,7 @@ use Rattle.plain_soundness.specs.Meaning.{HoldUnlessUnlucky, IsAlphaUnlucky, IsZ
 use Rattle.plain_soundness.specs.Swapped.{EndsSwapped}
 use Rattle.proof_text.specs.ProofText.{ToolProofData}
 use Rattle.tool_statement.specs.Config.{tool_setting, tool_backend}
-use Rattle.tool_statement.specs.StatedTables.{HaveStatedHeights, IsMismatch, tool_statement}
+use Rattle.tool_statement.specs.StatedTables.{HaveStatedHeights, IsHeightMismatch, tool_statement}
 use Rattle.tool_statement.specs.declared.table.TableStatement.{TableStatement}
 use Rattle.tool_statement.specs.declared.table.TableStatement.TheVariants.{Swap, Hash}
 use Rattle.tool_verifier.specs.Refusals.{fault_text, refused_text}
@@ -40,7 +40,7 @@ abbrev pub PrintCompressions : List TableStatement → ToolProofData → Type 0
 PrintCompressions tables p =
     (IsAlphaUnlucky tool_setting 1 (tool_statement tables) p → ⊥) → (IsZetaUnlucky tool_setting 1 (tool_statement tables) p → ⊥)
     → (i k row : ℕ) → slice_get tables i ≡ Some (Hash k) → row < 2 ^ k
-    → (x : Input) × AreWords x × (row_line row (committed_cells tables p i row) ≡ words_line (compression_words x))
+    → (x : Input) × AreWords x × (row_line row (committed_cells tables p i row) ≡ words_line (printed_compression_words x))
 
 -- What an accepted proof means: every constraint of every table is zero on each row of the committed polynomials, or the drawn alpha or the drawn zeta
 -- is unlucky; and where neither is, swap tables end as they should, and what is printed are compressions. The scheme's blowup is two to the power of one.
@@ -56,7 +56,7 @@ accepted_text tables p = codes "accepted\n" ++ printed_rows tables p
 -- why it isn't accepted, as the line that says so: the first table with another height, or else the first check that fails
 abbrev pub IsRefusedWith : List TableStatement → ToolProofData → List ℕ → Type 0
 IsRefusedWith tables p text =
-    ((i : ℕ) × IsMismatch tables p.degree_bits i × (text ≡ mismatch_text i))
+    ((i : ℕ) × IsHeightMismatch tables p.degree_bits i × (text ≡ mismatch_text i))
     ⊎ (HaveStatedHeights tables p.degree_bits × ((e : BatchVerificationError PlainError) × FirstFault tool_setting tool_backend (tool_statement tables) p e × (text ≡ fault_text e)))
 
 -- The status and the text. What `accepted` means follows from the checks, and is said here since it is what a reader of the text relies on.

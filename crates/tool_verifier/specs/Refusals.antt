@@ -25,7 +25,7 @@ abbrev pub known : Option ℕ → List ℕ
 known None = []
 known (Some n) = n ∷ []
 
--- the plain scheme's refusals, behind the name of the openings' check
+-- the plain scheme's refusals, after the name of the openings' check
 abbrev pub plain_name : PlainError → List ℕ
 plain_name (RoundShape round) = codes "InvalidOpeningArgument RoundShape"
 plain_name (Dimensions round matrix) = codes "InvalidOpeningArgument Dimensions"
@@ -38,7 +38,7 @@ plain_numbers (Dimensions round matrix) = round ∷ matrix ∷ []
 plain_numbers (Degree round matrix column) = round ∷ matrix ∷ column ∷ []
 plain_numbers (Value round matrix at column) = round ∷ matrix ∷ at ∷ column ∷ []
 
--- the refusals of periodic columns, behind the name of their check
+-- the refusals of periodic columns, after the name of their check
 abbrev pub periodic_name : PeriodicColumnShapeError → List ℕ
 periodic_name (LengthNotPowerOfTwo index long) = codes "PeriodicColumn LengthNotPowerOfTwo"
 periodic_name (LengthNotDividingHeight index long high) = codes "PeriodicColumn LengthNotDividingHeight"

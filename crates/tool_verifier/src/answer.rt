@@ -14,7 +14,7 @@ use proof_text::ToolProof;
 use std::alloc::Global;
 use tool_statement::TableStatement;
 
-/// How a command ended, and the text that it writes (own).
+/// How a command ended, and the text that it writes (not in Plonky3).
 #[derive(Drop)]
 pub struct Answer {
     /// How it ended.
@@ -45,9 +45,10 @@ fn accepted_text(alloc: Global, tables: &[TableStatement], proof: &ToolProof) ->
     Ok(text)
 }
 
-/// What `verify` answers for the proof of these tables (own), the first of: `Refused` with `HeightMismatch` for the first table, below both
-/// lengths, whose degree bits in the proof aren't the stated logarithm of its height; `Refused` with the name and the numbers of the first
-/// check of the batch verifier that fails; and `Done` with `accepted` and the rows of the hash tables. The only error is running out of memory.
+/// What `verify` answers for the proof of these tables (not in Plonky3), the first of: `Refused` with `HeightMismatch` for the first table,
+/// below both lengths, whose degree bits in the proof aren't the stated logarithm of its height; `Refused` with the name and the numbers of the
+/// first check of the batch verifier that fails; and `Done` with `accepted` and the rows of the hash tables. The only error is running out of
+/// memory.
 pub fn answer_tables(alloc: Global, tables: &[TableStatement], proof: &ToolProof) -> Mem<Answer>
     requires { All TableWithin tables.now }
     ensures { IfOk result (λ a. IsFileAnswer tables.now proof.now a.status a.text.items) }

@@ -9,7 +9,7 @@ use p3_lookup::LookupError;
 use p3_uni_stark::{InvalidProofShapeError, VerificationError};
 use plain_pcs::PlainError;
 
-// The name of a refusal of the plain scheme, behind the name of the openings' check.
+// The name of a refusal of the plain scheme, after the name of the openings' check.
 fn plain_name(error: &PlainError) -> &'static [u8]
     ensures { result.now ≡ plain_name error.now }
 {
@@ -21,7 +21,7 @@ fn plain_name(error: &PlainError) -> &'static [u8]
     }
 }
 
-// The name of a refusal of periodic columns, behind the name of their check.
+// The name of a refusal of periodic columns, after the name of their check.
 fn periodic_name(error: &PeriodicColumnShapeError) -> &'static [u8]
     ensures { result.now ≡ periodic_name error.now }
 {

@@ -11,7 +11,7 @@ use p3_lookup::LookupError;
 use p3_uni_stark::{InvalidProofShapeError, VerificationError};
 use plain_pcs::PlainError;
 
-/// Appends each number behind a space, in decimal. On an error a part may stand.
+/// Appends each number after a space, in decimal. On an error a part may stand.
 pub fn push_spaced(out: &mut Vec<u8>, numbers: &[usize]) -> Mem<()>
     ensures { OnOk result (out.new.items ≡ out.old.items ++ spaced numbers.now) }
 {
@@ -167,7 +167,7 @@ fn push_transcript(out: &mut Vec<u8>, error: &BatchTranscriptFailure) -> Mem<()>
     }
 }
 
-/// Appends the numbers of a refusal, each behind a space. On an error a part of them may stand.
+/// Appends the numbers of a refusal, each after a space. On an error a part of them may stand.
 pub fn push_fault(out: &mut Vec<u8>, error: &BatchVerificationError<PlainError>) -> Mem<()>
     ensures { OnOk result (out.new.items ≡ out.old.items ++ spaced (fault_numbers error.now)) }
 {

@@ -5,7 +5,7 @@ ghost use Rattle.batch_verifier.specs.BatchChecks.{Accepted};
 ghost use Rattle.hash_lines.specs.PrintedRows.{HasHashMatrices};
 ghost use Rattle.plain_soundness.specs.Meaning.{HoldUnlessUnlucky};
 ghost use Rattle.tool_statement.specs.Config.{tool_backend, tool_setting};
-ghost use Rattle.tool_statement.specs.StatedTables.{HaveStatedHeights, table_of, tool_common, tool_statement};
+ghost use Rattle.tool_statement.specs.StatedTables.{HaveStatedHeights, air_table_of, tool_common, tool_statement};
 ghost use Rattle.tool_verifier.specs.FileAnswer.{PrintCompressions, SwapsEnd};
 
 use committed_tables::fields::baby_bear_has_laws;
@@ -15,11 +15,12 @@ use plain_pcs::opened_claims_bind;
 use proof_text::ToolProof;
 use tool_statement::TableStatement;
 
-/// What it means that a proof of these tables is accepted (own): every constraint of every table is zero on each row of the committed polynomials, or
-/// the drawn alpha or the drawn zeta is unlucky (`holds`). Where neither is, swap tables end as they should (`swaps`), and with the stated heights each
-/// row of a hash table is printed as a compression (`hashes`). With these heights the matrices of hash tables are as large as is stated (`matrices`).
+/// What it means that a proof of these tables is accepted (not in Plonky3): every constraint of every table is zero on each row of the committed
+/// polynomials, or the drawn alpha or the drawn zeta is unlucky (`holds`). Where neither is, swap tables end as they should (`swaps`), and with the
+/// stated heights each row of a hash table is printed as a compression (`hashes`). With these heights the matrices of hash tables are as large as is
+/// stated (`matrices`).
 pub fn accepted_means(tables: &[TableStatement], proof: &ToolProof)
-    requires formed { WellFormed (map (λ t. t.declaration) (map table_of tables.now)) (tool_common tables.now) }
+    requires formed { WellFormed (map (λ t. t.declaration) (map air_table_of tables.now)) (tool_common tables.now) }
     requires accepted { Accepted tool_setting tool_backend (tool_statement tables.now) proof.now }
     ensures holds { HoldUnlessUnlucky tool_setting 1 (tool_statement tables.now) proof.now }
     ensures swaps { SwapsEnd tables.now proof.now }

@@ -10,7 +10,8 @@ use p3_field::Mem;
 use plain_pcs::PlainError;
 use std::alloc::{AllocError, Global};
 
-/// The line of a refusal (own): `refused`, its name, and its numbers in decimal, each behind a space. The only error is running out of memory.
+/// The line of a refusal (not in Plonky3): `refused`, its name, and its numbers in decimal, each after a space. The only error is running out
+/// of memory.
 pub fn refusal_line(alloc: Global, name: &[u8], numbers: &[usize]) -> Mem<Vec<u8>>
     ensures { IfOk result (λ v. v.items ≡ refused_text name.now numbers.now) }
 {

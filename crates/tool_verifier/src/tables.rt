@@ -18,7 +18,7 @@ use proof_text::ToolProof;
 use std::alloc::Global;
 use tool_statement::{TableStatement, airs_of, public_values_of, shared_data, tool_config};
 
-/// Whether a proof is accepted over the program's configuration for these tables (own): Ok exactly where no check of the batch verifier
+/// Whether a proof is accepted over the program's configuration for these tables (not in Plonky3): Ok exactly where no check of the batch verifier
 /// fails, and else the refusal of the first that does, with its fields (`verdict`). The data that prover and verifier share is made of the
 /// tables again. Out of memory may come in place of any answer.
 ///

@@ -14,7 +14,7 @@ use Rattle.p3_air.specs.Shape.{Declaration, ReadsIn}
 use Rattle.p3_air.specs.Tree.{Tree, constant, cell, ext_cell, sum, difference, product}
 use Rattle.batch_constraints.specs.Fitting.{cell_transitions, transition_factors, FitsChunks, FewTransitionsFit}
 use Rattle.batch_constraints.specs.Sizing.{largest_multiple, constraint_degree, periods_of, with_hint, log_ceil, log_chunks}
-use Rattle.batch_constraints.specs.Laws.Degrees.{all_below_greatest}
+use Rattle.p3_air.specs.Laws.Greatest.{all_below_greatest}
 use Rattle.batch_constraints.specs.Laws.Logarithms.{log_ceil_enough}
 use Rattle.batch_constraints.specs.Laws.Periods.{at_item}
 

@@ -2,7 +2,7 @@
 use Rattle.std.proofs.Common.{◌≡◌, refl}
 use Rattle.p3_field.specs.Ring.{Ring}
 use Rattle.p3_air.specs.CellValues.{CellValues, reading_at}
-use Rattle.p3_air.specs.Tree.{Tree, ev}
+use Rattle.p3_air.specs.Tree.{Tree, eval_tree}
 use Rattle.p3_air.specs.Operation.{Operation, tree_by, value_by}
 use Rattle.p3_air.specs.Laws.Operation.{ReadsBy, value_by-tree}
 use Rattle.p3_uni_stark.specs.Laws.Folders.{value_persists}
@@ -13,7 +13,7 @@ by_ring s embed v = record { adds = λ x y. refl; subs = λ x y. refl; muls = λ
 
 -- the value of an operation on values of trees is the value of its tree in each state that reads the same
 pub value_by_persists : {F E S : Type 0} (s : Ring E) (embed : F → E) (values : S → CellValues E) (p q : S) (op : Operation) (x y z : E) (t u : Tree F) → q ≡ p
-    → x ≡ ev (reading_at s embed (values p)) t → y ≡ ev (reading_at s embed (values p)) u → z ≡ value_by s op x y → z ≡ ev (reading_at s embed (values q)) (tree_by op t u)
+    → x ≡ eval_tree (reading_at s embed (values p)) t → y ≡ eval_tree (reading_at s embed (values p)) u → z ≡ value_by s op x y → z ≡ eval_tree (reading_at s embed (values q)) (tree_by op t u)
 value_by_persists s embed values p q op x y z t u h k l e =
     value_persists (λ r. reading_at s embed (values r)) p q z (tree_by op t u) h
     (value_by-tree s (reading_at s embed (values p)) (by_ring s embed (values p)) op x y z t u k l e)

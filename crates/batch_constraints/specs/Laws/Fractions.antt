@@ -3,7 +3,7 @@
 use Rattle.std.proofs.Common.{◌≡◌, ℕ, zero, suc, ◌+◌, ◌-◌, ◌*◌, ◌^◌, ◌≤◌, Bool, true, false, List, [], ◌∷◌, ◌++◌, length, map, max, min, refl, sym, ◌∙◌, ap, subst, arith}
 use Rattle.std.proofs.lemmas.List.{map-append}
 use Rattle.p3_field.specs.Ring.{Ring}
-use Rattle.p3_field.specs.Poly.{val}
+use Rattle.p3_field.specs.Poly.{eval_poly}
 use Rattle.p3_air.specs.declared.cells.Cell.{Cell}
 use Rattle.p3_air.specs.declared.cells.Cell.TheVariants.{FirstRow, LastRow, Transition}
 use Rattle.p3_air.specs.declared.cells.Count.{Count}
@@ -11,7 +11,7 @@ use Rattle.p3_air.specs.declared.cells.ExtCell.{ExtCell}
 use Rattle.p3_air.specs.declared.cells.ExtCell.TheVariants.{Permutation, Challenge, Terminal}
 use Rattle.p3_air.specs.Degree.{capped_sum, degree}
 use Rattle.p3_air.specs.Tree.{Tree}
-use Rattle.p3_lookup.specs.Lookup.{LookupData, IsCounted, Sent, pair_up, sent}
+use Rattle.p3_lookup.specs.Lookup.{LookupData, HasCountForEach, Sent, pair_up, sent}
 use Rattle.p3_lookup.specs.Packing.{merged}
 use Rattle.p3_lookup.specs.Term.{Term, common, numerator}
 use Rattle.p3_lookup.specs.Trees.{trees, base_tree, beta_tree, term_tree, term_trees, fraction_tree, sum_tree, transition_tree, last_tree, running_trees}
@@ -21,7 +21,7 @@ pub record HasOneDegree (g : ExtCell → ℕ) : Type 0 where
   pub challenge : (i j : ℕ) → g (Challenge i) ≡ g (Challenge j)
   pub column : (next other : Bool) (i j : ℕ) → g (Permutation next i) ≡ g (Permutation other j)
 
--- the tuples of two lists with their counts, list behind list
+-- the tuples of two lists with their counts, list after list
 pair_up-append : {F : Type 0} (ts us : List (List (Tree F))) (cs ds : List (Count (Tree F))) → length cs ≡ length ts → pair_up (ts ++ us) (cs ++ ds) ≡ pair_up ts cs ++ pair_up us ds
 pair_up-append [] us [] ds h = refl
 pair_up-append [] us (c ∷ cs) ds h = absurd (omega (arith, h))
@@ -45,7 +45,7 @@ grows_past : (M c d x y v : ℕ) → y ≤ v → v ≤ M → y ≤ max (min (c +
 grows_past M c d x y v h l = omega (arith, h, l)
 
 module _ {F : Type 0} (r : Ring F) (f : Cell → ℕ) (g : ExtCell → ℕ) where
-  -- the common denominator and the numerator of some terms, and of these behind others
+  -- the common denominator and the numerator of some terms, and of these after others
   common_within : (ts : List (Term (Tree F))) → degree f g (common (trees r) ts) ≤ 2 ^ 64 - 1
   common_within [] = omega arith
   common_within (t ∷ ts) = omega arith
@@ -72,7 +72,7 @@ module _ {F : Type 0} (r : Ring F) (f : Cell → ℕ) (g : ExtCell → ℕ) wher
       grows_past (2 ^ 64 - 1) (degree f g t.count) (degree f g t.denominator) (degree f g (common (trees r) (ts ++ us))) _ _ (numerator_right ts us) (numerator_within (ts ++ us))
 
   -- a merged lookup's fraction has at least the degree of each part's
-  terms_of_merged : (n : ℕ) (k l : LookupData F) → IsCounted k → term_trees r n (merged k l) ≡ term_trees r n k ++ term_trees r n l
+  terms_of_merged : (n : ℕ) (k l : LookupData F) → HasCountForEach k → term_trees r n (merged k l) ≡ term_trees r n k ++ term_trees r n l
   terms_of_merged n k l h =
       let term = term_tree r (base_tree n) (beta_tree n) in
       ap (λ (ss : List (Sent (Tree F))). map term ss) (pair_up-append k.tuples l.tuples k.counts l.counts h) ∙ map-append term (sent k) (sent l)
@@ -80,7 +80,7 @@ module _ {F : Type 0} (r : Ring F) (f : Cell → ℕ) (g : ExtCell → ℕ) wher
   fraction_bounds : ℕ → LookupData F → ℕ → List (Term (Tree F)) → Type 0
   fraction_bounds n l b ts = b ≤ max (capped_sum (g (Permutation false (n + 1))) (degree f g (common (trees r) ts))) (degree f g (numerator (trees r) ts))
 
-  pub merged_left : (n : ℕ) (k l : LookupData F) → IsCounted k → degree f g (fraction_tree r n k) ≤ degree f g (fraction_tree r n (merged k l))
+  pub merged_left : (n : ℕ) (k l : LookupData F) → HasCountForEach k → degree f g (fraction_tree r n k) ≤ degree f g (fraction_tree r n (merged k l))
   unfolding fraction_bounds
   merged_left n k l h =
       let ts = term_trees r n k in
@@ -89,7 +89,7 @@ module _ {F : Type 0} (r : Ring F) (f : Cell → ℕ) (g : ExtCell → ℕ) wher
       let q = numerator_left ts us in
       subst (fraction_bounds n l (degree f g (fraction_tree r n k))) (sym (terms_of_merged n k l h)) (omega (arith, p, q))
 
-  pub merged_right : (n : ℕ) (k l : LookupData F) → IsCounted k → degree f g (fraction_tree r n l) ≤ degree f g (fraction_tree r n (merged k l))
+  pub merged_right : (n : ℕ) (k l : LookupData F) → HasCountForEach k → degree f g (fraction_tree r n l) ≤ degree f g (fraction_tree r n (merged k l))
   unfolding fraction_bounds
   merged_right n k l h =
       let ts = term_trees r n k in
@@ -100,7 +100,7 @@ module _ {F : Type 0} (r : Ring F) (f : Cell → ℕ) (g : ExtCell → ℕ) wher
 
   module _ (N : HasOneDegree g) where
     -- the number of a fraction
-    tuple_numbered : (n m : ℕ) (ts : List (Tree F)) → degree f g (val (trees r) ts (beta_tree n)) ≡ degree f g (val (trees r) ts (beta_tree m))
+    tuple_numbered : (n m : ℕ) (ts : List (Tree F)) → degree f g (eval_poly (trees r) ts (beta_tree n)) ≡ degree f g (eval_poly (trees r) ts (beta_tree m))
     tuple_numbered n m [] = refl
     tuple_numbered n m (t ∷ ts) = λ i. max (degree f g t) (capped_sum (N.challenge (2 * n + 1) (2 * m + 1) i) (tuple_numbered n m ts i))
 

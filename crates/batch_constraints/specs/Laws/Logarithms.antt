@@ -14,10 +14,10 @@ not_counted : (n m : ℕ) → n ≤ 2 ^ m → powers_below n (suc m) ≡ powers_
 not_counted n m h = grind (arith, nat_tests)
 
 -- at most all of them
-few : (n m : ℕ) → powers_below n m ≤ m
-few n zero = omega arith
-few n (suc m) =
-    let rest = few n m in
+at_most_all_powers : (n m : ℕ) → powers_below n m ≤ m
+at_most_all_powers n zero = omega arith
+at_most_all_powers n (suc m) =
+    let rest = at_most_all_powers n m in
     elim (cases_lt (2 ^ m) n) [
       | inl lt ↦ let e = counted n m lt in omega (arith, e, rest)
       | inr le ↦ let e = not_counted n m le in omega (arith, e, rest)
@@ -28,7 +28,7 @@ at_most : (n j m : ℕ) → n ≤ 2 ^ j → powers_below n m ≤ j
 at_most n j zero h = omega arith
 at_most n j (suc m) h =
     let rest = at_most n j m h in
-    let bound = few n m in
+    let bound = at_most_all_powers n m in
     elim (cases_lt (2 ^ m) n) [
       | inl lt ↦
           elim (cases_lt m j) [
@@ -42,7 +42,7 @@ at_most n j (suc m) h =
 reaches : (n m : ℕ) → (powers_below n m ≡ m) ⊎ (n ≤ 2 ^ powers_below n m)
 reaches n zero = inl refl
 reaches n (suc m) =
-    let bound = few n m in
+    let bound = at_most_all_powers n m in
     elim (cases_lt (2 ^ m) n) [
       | inl lt ↦
           let e = counted n m lt in

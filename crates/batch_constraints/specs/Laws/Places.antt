@@ -1,8 +1,8 @@
 -- Of asserted constraints, those over the base field and those over the extension, and their places.
 use Rattle.std.proofs.Common.{◌≡◌, ℕ, suc, ◌+◌, List, [], ◌∷◌, ◌++◌, Bool, length, map, get_or, drop, cond, not, refl, sym, ◌∙◌, ap, arith, true, false}
 use Rattle.std.specs.Prelude.{Result, Ok, Err, IfOk}
-use Rattle.p3_field.specs.Poly.{table}
-use Rattle.p3_field.specs.Laws.Tables.{table_same}
+use Rattle.p3_field.specs.Poly.{tabulate}
+use Rattle.p3_field.specs.Laws.Tabulate.{tabulate_same}
 use Rattle.p3_air.specs.declared.node.Node.{Node}
 use Rattle.p3_air.specs.declared.recorded.Assertion.{Assertion}
 use Rattle.p3_air.specs.Tree.{Tree, Asserted, over_base, over_extension}
@@ -10,7 +10,7 @@ use Rattle.p3_air.specs.Layout.{Places}
 use Rattle.p3_air.specs.Recording.{asserted_at, asserted_tree, indices_from, trees_over}
 use Rattle.batch_constraints.specs.BatchTrees.{places_of}
 
--- of trees over the base field and others over the extension behind them, each kind
+-- of trees over the base field and others over the extension after them, each kind
 pub none_over_base : {F : Type 0} (us : List (Tree F)) → trees_over false (map over_extension us) ≡ []
 none_over_base [] = refl
 none_over_base (u ∷ us) = none_over_base us
@@ -67,17 +67,17 @@ unfolding indices_from
 no_places extension k = refl
 
 -- the numbers from k on
-one_more : (k j n : ℕ) → j ≡ suc k → k ∷ table n (λ i. j + i) ≡ table (suc n) (λ i. k + i)
+one_more : (k j n : ℕ) → j ≡ suc k → k ∷ tabulate n (λ i. j + i) ≡ tabulate (suc n) (λ i. k + i)
 one_more k j n e =
-    ap (λ m. m ∷ table n (λ i. j + i)) (omega arith)
-    ∙ ap (λ l. (k + 0) ∷ l) (table_same n (λ i. j + i) (λ i. k + suc i) (λ i lt. omega (arith, e)))
+    ap (λ m. m ∷ tabulate n (λ i. j + i)) (omega arith)
+    ∙ ap (λ l. (k + 0) ∷ l) (tabulate_same n (λ i. j + i) (λ i. k + suc i) (λ i lt. omega (arith, e)))
 
-same_start : (k j n : ℕ) → j ≡ k → table n (λ i. j + i) ≡ table n (λ i. k + i)
-same_start k j n e = table_same n (λ i. j + i) (λ i. k + i) (λ i lt. omega (arith, e))
+same_start : (k j n : ℕ) → j ≡ k → tabulate n (λ i. j + i) ≡ tabulate n (λ i. k + i)
+same_start k j n e = tabulate_same n (λ i. j + i) (λ i. k + i) (λ i lt. omega (arith, e))
 
--- where trees over the base field come first and others over the extension behind them, each kind's places follow each other
+-- where trees over the base field come first and others over the extension after them, each kind's places follow each other
 pub base_places : {F : Type 0} (ns : List (Node F)) (k : ℕ) (xs : List Assertion) (ts us : List (Tree F)) → asserted_at ns xs ≡ map over_base ts ++ map over_extension us
-    → indices_from false k xs ≡ table (length ts) (λ i. k + i)
+    → indices_from false k xs ≡ tabulate (length ts) (λ i. k + i)
 base_places ns k [] [] us e = no_places false k
 base_places ns k [] (t ∷ ts) us e = absurd (no_first (over_base t) (map over_base ts ++ map over_extension us) e)
 base_places ns k (x ∷ xs) [] [] e = absurd (no_first (asserted_tree ns x) (asserted_at ns xs) (sym e))
@@ -90,7 +90,7 @@ base_places ns k (x ∷ xs) (t ∷ ts) us e =
     first_listed ns false k x xs (over_base t) bs refl e ∙ ap (λ l. k ∷ l) (base_places ns (suc k) xs ts us rest) ∙ one_more k (suc k) (length ts) refl
 
 pub extension_places : {F : Type 0} (ns : List (Node F)) (k : ℕ) (xs : List Assertion) (ts us : List (Tree F)) → asserted_at ns xs ≡ map over_base ts ++ map over_extension us
-    → indices_from true k xs ≡ table (length us) (λ i. k + length ts + i)
+    → indices_from true k xs ≡ tabulate (length us) (λ i. k + length ts + i)
 extension_places ns k [] [] [] e = no_places true k
 extension_places ns k [] [] (u ∷ us) e = absurd (no_first (over_extension u) (map over_extension us) e)
 extension_places ns k [] (t ∷ ts) us e = absurd (no_first (over_base t) (map over_base ts ++ map over_extension us) e)
@@ -98,7 +98,7 @@ extension_places ns k (x ∷ xs) [] [] e = absurd (no_first (asserted_tree ns x)
 extension_places ns k (x ∷ xs) [] (u ∷ us) e =
     let rest = others (asserted_tree ns x) (over_extension u) (asserted_at ns xs) (map over_extension us) e in
     first_listed ns true k x xs (over_extension u) (map over_extension us) refl e ∙ ap (λ l. k ∷ l) (extension_places ns (suc k) xs [] us rest)
-    ∙ ap (λ m. m ∷ table (length us) (λ i. suc k + 0 + i)) (omega arith) ∙ one_more (k + 0) (suc k + 0) (length us) (omega arith)
+    ∙ ap (λ m. m ∷ tabulate (length us) (λ i. suc k + 0 + i)) (omega arith) ∙ one_more (k + 0) (suc k + 0) (length us) (omega arith)
 extension_places ns k (x ∷ xs) (t ∷ ts) us e =
     let bs = map over_base ts ++ map over_extension us in
     let rest = others (asserted_tree ns x) (over_base t) (asserted_at ns xs) bs e in
@@ -110,9 +110,9 @@ pub places_are : {F : Type 0} (ns : List (Node F)) (xs : List Assertion) (ts us 
     → p.base_indices ≡ indices_from false 0 xs → p.ext_indices ≡ indices_from true 0 xs → p ≡ places_of (length ts) (length us)
 places_are ns xs ts us p e base extension =
     let n = length ts in
-    let first : p.base_indices ≡ table n (λ i. i) = base ∙ base_places ns 0 xs ts us e ∙ table_same n (λ i. 0 + i) (λ i. i) (λ i lt. omega arith) in
-    let second : p.ext_indices ≡ table (length us) (λ i. n + i) = extension ∙ extension_places ns 0 xs ts us e ∙ same_start n (0 + n) (length us) (omega arith) in
-    ap (λ is. record { base_indices = is; ext_indices = p.ext_indices }) first ∙ ap (λ is. record { base_indices = table n (λ i. i); ext_indices = is }) second
+    let first : p.base_indices ≡ tabulate n (λ i. i) = base ∙ base_places ns 0 xs ts us e ∙ tabulate_same n (λ i. 0 + i) (λ i. i) (λ i lt. omega arith) in
+    let second : p.ext_indices ≡ tabulate (length us) (λ i. n + i) = extension ∙ extension_places ns 0 xs ts us e ∙ same_start n (0 + n) (length us) (omega arith) in
+    ap (λ is. record { base_indices = is; ext_indices = p.ext_indices }) first ∙ ap (λ is. record { base_indices = tabulate n (λ i. i); ext_indices = is }) second
 
 -- and so where a call answers them
 pub places_in : {F E : Type 0} (r : Result Places E) (ns : List (Node F)) (xs : List Assertion) (ts us : List (Tree F)) → asserted_at ns xs ≡ map over_base ts ++ map over_extension us

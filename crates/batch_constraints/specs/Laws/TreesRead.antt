@@ -2,7 +2,7 @@
 use Rattle.std.proofs.Common.{ℕ, zero, suc, false, ◌+◌, ◌*◌, ◌<◌, ◌≤◌, List, [], ◌∷◌, length, map, All, arith}
 use Rattle.std.proofs.lemmas.List.Elements.{All-head, All-tail, All-cons, All-append}
 use Rattle.p3_field.specs.Ring.{Ring}
-use Rattle.p3_field.specs.Poly.{val}
+use Rattle.p3_field.specs.Poly.{eval_poly}
 use Rattle.p3_air.specs.declared.cells.Cell.{Cell}
 use Rattle.p3_air.specs.declared.cells.Count.{Count}
 use Rattle.p3_air.specs.declared.cells.ExtCell.{ExtCell}
@@ -24,7 +24,7 @@ module _ {F : Type 0} (f : Ring F) (s : Shape) (P : Cell → Type 0) (Q : ExtCel
   sendable_reads : (t : Tree F) → ReadsSendable s t → ReadsIn P Q t
   sendable_reads t h = reads_more (λ c. Declares s c × IsSendable c) P (λ _. ⊥) Q sends (λ c q. absurd q) t h
 
-  tuple_reads : (beta : Tree F) → ReadsIn P Q beta → (ts : List (Tree F)) → All (ReadsSendable s) ts → ReadsIn P Q (val (trees f) ts beta)
+  tuple_reads : (beta : Tree F) → ReadsIn P Q beta → (ts : List (Tree F)) → All (ReadsSendable s) ts → ReadsIn P Q (eval_poly (trees f) ts beta)
   tuple_reads beta b [] h = tt
   tuple_reads beta b (t ∷ ts) h =
       (sendable_reads t (All-head (ReadsSendable s) t ts h), (b, tuple_reads beta b ts (All-tail (ReadsSendable s) t ts h)))

@@ -3,7 +3,7 @@ use Rattle.std.proofs.Common.{◌≡◌, ℕ, zero, suc, ◌+◌, ◌*◌, ◌<�
 use Rattle.std.specs.Prelude.{count_by, cond}
 use Rattle.std.proofs.lemmas.List.Sums.{sum_by-cons}
 use Rattle.p3_field.specs.Ring.{Ring}
-use Rattle.p3_field.specs.Laws.Tables.{get_or-table}
+use Rattle.p3_field.specs.Laws.Tabulate.{get_or-tabulate}
 use Rattle.p3_lookup.specs.Batch.{laid_out}
 use Rattle.p3_lookup.specs.Bus.{batch_buses, bus_count, widest}
 use Rattle.p3_lookup.specs.Challenge.{ChallengesData, challenges_with}
@@ -47,4 +47,4 @@ challenge_count {S} {F} {E} e d ls zero i p l =
     omega (arith, none, empty)
 challenge_count e d ls (suc n) i p l =
     let c = challenges_with e d.lookup_alpha d.lookup_beta (widest ls) (bus_count (batch_buses ls)) in
-    ap length (get_or-table (length ls) (instance_challenges e c ls) i [] l) ∙ laid_out_length e.zero c _ 0 (length (get_or ls i []))
+    ap length (get_or-tabulate (length ls) (instance_challenges e c ls) i [] l) ∙ laid_out_length e.zero c _ 0 (length (get_or ls i []))

@@ -7,7 +7,7 @@ use Rattle.std.proofs.lemmas.List.Folds.{list_any_none}
 use Rattle.p3_air.specs.Shape.{Declaration, has, width_of}
 use Rattle.p3_lookup.specs.Lookup.{LookupData}
 use Rattle.batch_constraints.specs.BatchTrees.{AreLookupsOf}
-use Rattle.batch_identity.specs.Identity.{OpenedTable, HasDeclaredLengths, IsOpened}
+use Rattle.batch_identity.specs.Identity.{OpenedTable, HasDeclaredLengths, OpensWhatIsRead}
 
 differs_above : (m n w : ℕ) → m < w → w ≤ n → nat_eq m n ≡ false
 differs_above m n w h k = grind (arith, nat_tests)
@@ -26,7 +26,7 @@ has_below ns w n below h = elim (cases_lt n w) [
 
 -- values of the declared lengths are those of each cell that the table reads
 pub declared_lengths_enough : {F E : Type 0} (d : Declaration F) (lookups : List (LookupData F)) (o : OpenedTable F E) → All (λ c. c < d.width) d.main_next
-    → All (λ c. c < width_of d.preprocessed) d.preprocessed_next → AreLookupsOf d lookups → HasDeclaredLengths d (length lookups) o → IsOpened d lookups o
+    → All (λ c. c < width_of d.preprocessed) d.preprocessed_next → AreLookupsOf d lookups → HasDeclaredLengths d (length lookups) o → OpensWhatIsRead d lookups o
 declared_lengths_enough d lookups o main preprocessed are h = record {
   declared = record {
     main = omega (arith, h.trace_local);

@@ -18,7 +18,7 @@ use Rattle.p3_uni_stark.specs.Recombine.{recombined}
 use Rattle.batch_constraints.specs.BatchTrees.{table_trees}
 use Rattle.batch_identity.specs.Laws.Verdict.{identity_single}
 use Rattle.batch_statement.specs.Proof.{OpenedWithLookups}
-use Rattle.batch_statement.specs.Statement.{Table}
+use Rattle.batch_statement.specs.Statement.{AirTable}
 use Rattle.batch_statement.specs.declared.error.BatchVerificationError.{BatchVerificationError}
 use Rattle.batch_statement.specs.declared.error.BatchVerificationError.TheVariants.{Verification}
 use Rattle.batch_identity_checks.specs.TableIdentity.{verified, opened_table, periods_check, identity_of_table, terminal_check}
@@ -68,7 +68,7 @@ module _ (R : Type 0) where
   verified_single [] h = tt
   verified_single (c ∷ cs) h = (one_verified c h.0, verified_single cs h.1)
 
-  pub table_single : {F E : Type 0} (f : TwoAdic F) (e : Extension F E) (i log_height : ℕ) (t : Table F) (lookups : List (LookupData F)) (publics : List F) (challenges : List E)
+  pub table_single : {F E : Type 0} (f : TwoAdic F) (e : Extension F E) (i log_height : ℕ) (t : AirTable F) (lookups : List (LookupData F)) (publics : List F) (challenges : List E)
       (terminal : Option E) (domains : List (CosetData F)) (alpha zeta : E) (o : OpenedWithLookups E)
       → AreSingle (identity_of_table {R = R} f e i log_height t lookups publics challenges terminal domains alpha zeta o)
   table_single f e i log_height t lookups publics challenges terminal domains alpha zeta o =

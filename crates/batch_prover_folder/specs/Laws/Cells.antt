@@ -2,7 +2,7 @@
 use Rattle.std.proofs.Common.{◌≡◌, true, false, refl, ap}
 use Rattle.p3_field.specs.Ring.{Ring, RingLaws}
 use Rattle.p3_field.specs.Field.{RingHom}
-use Rattle.p3_air.specs.Tree.{Tree, ev}
+use Rattle.p3_air.specs.Tree.{Tree, eval_tree}
 use Rattle.p3_air.specs.declared.cells.Cell.{Cell}
 use Rattle.p3_air.specs.declared.cells.Cell.TheVariants.{Main, Preprocessed, Periodic, Public, FirstRow, LastRow, Transition}
 use Rattle.p3_air.specs.CellValues.{CellValues, cell_in, reading_at}
@@ -18,7 +18,7 @@ use Rattle.batch_prover_folder.specs.FolderState.{GivenWithLookups, given_cells,
 -- that reads the same
 pub base_value_by_persists : {F E S : Type 0} (f : Ring F) (L : RingLaws f) (s : Ring E) (M : RingLaws s) (embed : F → E) (H : RingHom f s embed) (values : S → CellValues E) (p q : S)
     (op : Operation) (x y z : F) (t u : Tree F) → q ≡ p
-    → embed x ≡ ev (reading_at s embed (values p)) t → embed y ≡ ev (reading_at s embed (values p)) u → z ≡ value_by f op x y → embed z ≡ ev (reading_at s embed (values q)) (tree_by op t u)
+    → embed x ≡ eval_tree (reading_at s embed (values p)) t → embed y ≡ eval_tree (reading_at s embed (values p)) u → z ≡ value_by f op x y → embed z ≡ eval_tree (reading_at s embed (values q)) (tree_by op t u)
 base_value_by_persists f L s M embed H values p q op x y z t u h k l e =
     value_persists (λ r. reading_at s embed (values r)) p q (embed z) (tree_by op t u) h
     (embedded-value_by f L s M embed H (reading_at s embed (values p)) (by_ring s embed (values p)) op x y z t u k l e)

@@ -1,4 +1,4 @@
--- Answers for lists of checks behind each other, and for checks in turn.
+-- Answers for lists of checks one after another, and for checks in turn.
 use Rattle.std.proofs.Common.{inl, inr, ◌≡◌, ℕ, ◌<◌, List, ◌∷◌, [], ◌++◌, Result, Ok, Err, sym, subst}
 use Rattle.std.specs.Result.{IsErrAnd}
 use Rattle.p3_field.specs.Checks.{Check, NoneFails, FirstFails, in_turn}
@@ -52,16 +52,16 @@ unfolding FirstRefused
 refused_stops [] ys e v = absurd v
 refused_stops (c ∷ xs) ys e v = elim v [ inl later ↦ inl (later.0, refused_stops xs ys e later.1) | inr here ↦ inr here ]
 
-refused_behind : {R : Type 0} (xs ys : List (Check R)) (e : R) → NoneFails xs → FirstRefused ys e → FirstRefused (xs ++ ys) e
+refused_past : {R : Type 0} (xs ys : List (Check R)) (e : R) → NoneFails xs → FirstRefused ys e → FirstRefused (xs ++ ys) e
 unfolding FirstRefused NoneFails
-refused_behind [] ys e f v = v
-refused_behind (c ∷ xs) ys e f v = inl (f.0, refused_behind xs ys e f.1 v)
+refused_past [] ys e f v = v
+refused_past (c ∷ xs) ys e f v = inl (f.0, refused_past xs ys e f.1 v)
 
 pub answer_before : {R : Type 0} (xs ys : List (Check (ProvingError R))) (e : ProvingError R) → IsAnswerRefusal xs e → IsAnswerRefusal (xs ++ ys) e
 answer_before xs ys e v = answer_along xs (xs ++ ys) e (λ d. refused_stops xs ys d) v
 
-pub answer_behind : {R : Type 0} (xs ys : List (Check (ProvingError R))) (e : ProvingError R) → NoneFails xs → IsAnswerRefusal ys e → IsAnswerRefusal (xs ++ ys) e
-answer_behind xs ys e f v = answer_along ys (xs ++ ys) e (λ d. refused_behind xs ys d f) v
+pub answer_past : {R : Type 0} (xs ys : List (Check (ProvingError R))) (e : ProvingError R) → NoneFails xs → IsAnswerRefusal ys e → IsAnswerRefusal (xs ++ ys) e
+answer_past xs ys e f v = answer_along ys (xs ++ ys) e (λ d. refused_past xs ys d f) v
 
 -- a check's refusal alone
 pub refused_here : {R : Type 0} (c : Check R) (cs : List (Check R)) (e : R) → c.refusal e → FirstRefused (c ∷ cs) e

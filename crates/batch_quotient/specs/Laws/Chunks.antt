@@ -9,9 +9,9 @@ use Rattle.std.proofs.lemmas.List.{ext_get_or, length-map}
 use Rattle.std.proofs.lemmas.Option.{slice_get-get_or, slice_get_within}
 use Rattle.p3_field.specs.Ring.{Ring}
 use Rattle.p3_field.specs.Field.{TwoAdic, Extension}
-use Rattle.p3_field.specs.Poly.{table}
+use Rattle.p3_field.specs.Poly.{tabulate}
 use Rattle.p3_field.specs.Domain.{CosetData, IsInterpolant, point}
-use Rattle.p3_field.specs.Laws.Tables.{length-table, get_or-table}
+use Rattle.p3_field.specs.Laws.Tabulate.{length-tabulate, get_or-tabulate}
 use Rattle.p3_matrix.specs.Matrix.{Rows, column, height, row_at}
 use Rattle.p3_matrix.specs.Laws.Cells.{get_or-column, length-column}
 use Rattle.p3_matrix.specs.Laws.Flattened.{height-pieces, row_at-pieces}
@@ -20,7 +20,7 @@ use Rattle.p3_matrix.specs.Laws.Transposed.{get_or-row_at}
 use Rattle.p3_commit.specs.Commitments.{AreCommitted, AreParts, Committed, IsCommitted}
 use Rattle.p3_commit.specs.Space.{EachOf, IsPart, IsSplit}
 use Rattle.p3_air.specs.Tree.{Tree}
-use Rattle.committed_tables.specs.Committed.{CommittedTable, rows_of}
+use Rattle.committed_tables.specs.Committed.{CommittedTable, row_count_of}
 use Rattle.committed_tables.specs.Fields.{FieldsLaws}
 use Rattle.committed_tables.specs.Quotient.{IsQuotientDomain, chunk_cell, chunk_domain, honest_chunk, honest_quotient, quotient_domain, quotient_value}
 use Rattle.committed_tables.specs.Laws.Quotient.{one_chunk_polynomial}
@@ -71,10 +71,10 @@ committed_along {F} r points points2 at at2 parts cs e h H =
     subst (λ (z : CosetData F → ℕ → F). AreCommitted r points2 z parts cs) ea (subst (λ (z : CosetData F → ℕ). AreCommitted r z at parts cs) ep H)
 
 -- a column by its cells
-column_is : {F : Type 0} (d : F) (m : Rows F) (k n : ℕ) (t : ℕ → F) → height m ≡ n → ((j : ℕ) → j < n → get_or (column d m k) j d ≡ t j) → column d m k ≡ table n t
+column_is : {F : Type 0} (d : F) (m : Rows F) (k n : ℕ) (t : ℕ → F) → height m ≡ n → ((j : ℕ) → j < n → get_or (column d m k) j d ≡ t j) → column d m k ≡ tabulate n t
 column_is d m k n t tall each =
-    ext_get_or d (column d m k) (table n t) (length-column d m k ∙ (tall ∙ sym (length-table n t)))
-    (λ j b. let inside : j < n = omega (arith, b, length-column d m k, tall) in each j inside ∙ sym (get_or-table n t j d inside))
+    ext_get_or d (column d m k) (tabulate n t) (length-column d m k ∙ (tall ∙ sym (length-tabulate n t)))
+    (λ j b. let inside : j < n = omega (arith, b, length-column d m k, tall) in each j inside ∙ sym (get_or-tabulate n t j d inside))
 
 module _ {F E : Type 0} (f : TwoAdic F) (e : Extension F E) (top : ℕ) (inverse : E → E) (L : FieldsLaws f e top inverse) (t : CommittedTable F E) (trees : List (Tree F)) (alpha : E) (log_chunks : ℕ) where
   module _ (D : CosetData F) (size : D.log_size ≡ t.log_height + log_chunks) (values : List E) (are : values ≡ quotient_values_on f e t trees alpha D) where
@@ -83,29 +83,29 @@ module _ {F E : Type 0} (f : TwoAdic F) (e : Extension F E) (top : ℕ) (inverse
 
     -- the values by their coefficients, a row for each
     abbrev flat : Rows F
-    flat = record { values = flat_map e.parts values; width = e.dimension }
+    flat = record { values = flat_map e.coefficients values; width = e.dimension }
 
-    sizes : 2 ^ D.log_size ≡ rows_of t * 2 ^ log_chunks
+    sizes : 2 ^ D.log_size ≡ row_count_of t * 2 ^ log_chunks
     sizes = ap (λ k. 2 ^ k) size ∙ pow-add 2 t.log_height log_chunks
 
     item : (m : ℕ) → m < 2 ^ D.log_size → get_or values m e.ring.zero ≡ quotient_at m
     unfolding quotient_value
-    item m h = ap (λ l. get_or l m e.ring.zero) are ∙ get_or-table (2 ^ D.log_size) (λ i. quotient_value f e t D.shift (D.log_size - t.log_height) trees alpha (point f.ring f.root D i)) m e.ring.zero h
+    item m h = ap (λ l. get_or l m e.ring.zero) are ∙ get_or-tabulate (2 ^ D.log_size) (λ i. quotient_value f e t D.shift (D.log_size - t.log_height) trees alpha (point f.ring f.root D i)) m e.ring.zero h
 
     count : length values ≡ 2 ^ D.log_size
-    count = ap length are ∙ length-table (2 ^ D.log_size) (λ i. quotient_value f e t D.shift (D.log_size - t.log_height) trees alpha (point f.ring f.root D i))
+    count = ap length are ∙ length-tabulate (2 ^ D.log_size) (λ i. quotient_value f e t D.shift (D.log_size - t.log_height) trees alpha (point f.ring f.root D i))
 
     flat_height : height flat ≡ 2 ^ D.log_size
-    flat_height = height_of_pieces e.parts e.dimension L.vector.parts_length L.vector.positive values ∙ count
+    flat_height = height_of_pieces e.coefficients e.dimension L.vector.coefficients_length L.vector.positive values ∙ count
 
-    flat_row : (m : ℕ) → m < 2 ^ D.log_size → row_at flat m ≡ e.parts (quotient_at m)
-    flat_row m h = row_of_pieces e.parts e.dimension L.vector.parts_length values m e.ring.zero (omega (arith, h, count)) ∙ ap e.parts (item m h)
+    flat_row : (m : ℕ) → m < 2 ^ D.log_size → row_at flat m ≡ e.coefficients (quotient_at m)
+    flat_row m h = row_of_pieces e.coefficients e.dimension L.vector.coefficients_length values m e.ring.zero (omega (arith, h, count)) ∙ ap e.coefficients (item m h)
 
     -- a part is the chunk of its number
     pub part_is_chunk : (i : ℕ) → i < 2 ^ log_chunks → (p : CosetData F × Rows F) → IsPart f.ring f.root D (2 ^ log_chunks) i p.0 → IsSplit flat (2 ^ log_chunks) i p.1
         → IsChunk f e t D.shift log_chunks trees alpha i p
     part_is_chunk i h p P Q =
-        let n = rows_of t in
+        let n = row_count_of t in
         let C = 2 ^ log_chunks in
         let z = f.ring.zero in
         let m = p.1 in
@@ -120,7 +120,7 @@ module _ {F E : Type 0} (f : TwoAdic F) (e : Extension F E) (top : ℕ) (inverse
         get_or-column z m k j inside
         ∙ (sym (get_or-row_at m j k z (omega (arith, a, Q.width_is)))
         ∙ (ap (λ l. get_or l k z) (Q.row_is j inside ∙ flat_row (i + C * j) below)
-        ∙ ap (λ (d : CosetData F). get_or (e.parts (quotient_value f e t D.shift log_chunks trees alpha (point f.ring f.root d (i + C * j)))) k z) whole)) in
+        ∙ ap (λ (d : CosetData F). get_or (e.coefficients (quotient_value f e t D.shift log_chunks trees alpha (point f.ring f.root d (i + C * j)))) k z) whole)) in
         record {
           domain = λ j. record { shift = start j; log_size = logs j };
           width = Q.width_is;
@@ -129,7 +129,7 @@ module _ {F E : Type 0} (f : TwoAdic F) (e : Extension F E) (top : ℕ) (inverse
         }
 
     -- so the parts are the chunks
-    pub parts_are_chunks : (n : ℕ) (m : Rows F) → n ≡ 2 ^ log_chunks → m ≡ record { values = flat_map e.parts values; width = e.dimension }
+    pub parts_are_chunks : (n : ℕ) (m : Rows F) → n ≡ 2 ^ log_chunks → m ≡ record { values = flat_map e.coefficients values; width = e.dimension }
         → (parts : List (CosetData F × Rows F)) → AreParts (IsPart f.ring f.root D n) m n parts → EachOf (2 ^ log_chunks) parts (IsChunk f e t D.shift log_chunks trees alpha)
     parts_are_chunks n m count_is is parts P =
         let C = 2 ^ log_chunks in
@@ -140,7 +140,7 @@ module _ {F E : Type 0} (f : TwoAdic F) (e : Extension F E) (top : ℕ) (inverse
   module _ (shift : F) (Q : IsQuotientDomain f e t shift log_chunks top) where
     length_chunk : (i : ℕ) → length (honest_chunk f e t shift log_chunks trees alpha i) ≡ e.dimension
     unfolding honest_chunk
-    length_chunk i = length-table e.dimension _
+    length_chunk i = length-tabulate e.dimension _
 
     -- what is held of a chunk are its honest polynomials
     pub held_is_honest : (i : ℕ) (p : CosetData F × Rows F) → IsChunk f e t shift log_chunks trees alpha i p → (c : Committed F) → IsCommitted f.ring (2 ^ p.0.log_size) (point f.ring f.root p.0) p.1 c
@@ -166,11 +166,11 @@ module _ {F E : Type 0} (f : TwoAdic F) (e : Extension F E) (top : ℕ) (inverse
         let nowhere : CosetData F × Rows F = (chunk_domain f e t shift log_chunks 0, record { values = []; width = 0 }) in
         let H = committed_along f.ring points (λ d. 2 ^ d.log_size) point_at (point f.ring f.root) parts cs counts places given in
         let many : length cs ≡ C = H.count ∙ P.count in
-        ext_get_or [] (map held cs) (table C chunk) (length-map cs held ∙ (many ∙ sym (length-table C chunk)))
+        ext_get_or [] (map held cs) (tabulate C chunk) (length-map cs held ∙ (many ∙ sym (length-tabulate C chunk)))
         (λ i b.
         let h : i < C = omega (arith, b, length-map cs held, many) in
         let c = get_or cs i none in
         let x = get_or parts i nowhere in
         let at_c : slice_get cs i ≡ Some c = slice_get-get_or cs i none (omega (arith, h, many)) in
         let at_x : slice_get parts i ≡ Some x = slice_get-get_or parts i nowhere (omega (arith, h, P.count)) in
-        get_or-map held cs i none ∙ (held_is_honest i x (P.each i x at_x) c (H.each i c at_c x at_x) ∙ sym (get_or-table C chunk i [] h)))
+        get_or-map held cs i none ∙ (held_is_honest i x (P.each i x at_x) c (H.each i c at_c x at_x) ∙ sym (get_or-tabulate C chunk i [] h)))

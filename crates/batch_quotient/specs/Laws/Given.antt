@@ -3,10 +3,10 @@ use Rattle.std.proofs.Common.{◌≡◌, ℕ, ◌^◌, ◌<◌, ◌≤◌, [], O
 use Rattle.std.proofs.lemmas.List.{length-map, get_or-map}
 use Rattle.p3_field.specs.Ring.{Ring}
 use Rattle.p3_field.specs.Field.{TwoAdic, Extension}
-use Rattle.p3_field.specs.Poly.{Apart, table, val}
+use Rattle.p3_field.specs.Poly.{Apart, tabulate, eval_poly}
 use Rattle.p3_field.specs.Domain.{CosetData, point}
 use Rattle.p3_field.specs.Laws.Interpolants.{interpolant_exists, points_apart}
-use Rattle.p3_field.specs.Laws.Tables.{length-table, get_or-table, table_of_items, table_same}
+use Rattle.p3_field.specs.Laws.Tabulate.{length-tabulate, get_or-tabulate, tabulate_items, tabulate_same}
 use Rattle.p3_dft.specs.Transform.{values_at}
 use Rattle.p3_matrix.specs.Matrix.{Rows, column, height}
 use Rattle.p3_matrix.specs.Laws.Cells.{length-column}
@@ -27,7 +27,7 @@ evaluated_along {F} r n m p q c size v e h I =
 -- and have a row for each point, unless there is no column
 pub evaluated_tall : {F : Type 0} (r : Ring F) (n : ℕ) (p : ℕ → F) (c : Committed F) (v : Rows F) → IsEvaluated r n p c v → 0 < v.width → height v ≡ n
 unfolding values_at
-evaluated_tall r n p c v I pos = sym (length-column r.zero v 0) ∙ (ap length (I.column_is 0 pos) ∙ length-table n (λ i. val r (get_or c.polynomials 0 []) (p i)))
+evaluated_tall r n p c v I pos = sym (length-column r.zero v 0) ∙ (ap length (I.column_is 0 pos) ∙ length-tabulate n (λ i. eval_poly r (get_or c.polynomials 0 []) (p i)))
 
 module _ {F E : Type 0} (f : TwoAdic F) (e : Extension F E) (top : ℕ) (inverse : E → E) (L : FieldsLaws f e top inverse) (d : CosetData F) (fits : d.log_size ≤ top) (nz : d.shift ≡ f.ring.zero → ⊥) where
   abbrev n : ℕ
@@ -41,8 +41,8 @@ module _ {F E : Type 0} (f : TwoAdic F) (e : Extension F E) (top : ℕ) (inverse
   unfolding values_at
   interpolants_read size m T =
       let z = f.ring.zero in
-      let columns = table m.width (column z m) in
-      let count : length columns ≡ m.width = length-table m.width (column z m) in
+      let columns = tabulate m.width (column z m) in
+      let count : length columns ≡ m.width = length-tabulate m.width (column z m) in
       record {
         width_is = sym (length-map columns (interpolant f d) ∙ count);
         column_is = λ j h.
@@ -50,12 +50,12 @@ module _ {F E : Type 0} (f : TwoAdic F) (e : Extension F E) (top : ℕ) (inverse
             let tall : height m ≡ n = T.tall (omega (arith, h)) in
             let long : length v ≡ n = length-column z m j ∙ tall in
             let is : get_or (interpolants f d m) j [] ≡ interpolant f d v =
-            get_or-map (interpolant f d) columns j [] [] (omega (arith, h, count)) ∙ ap (interpolant f d) (get_or-table m.width (column z m) j [] h) in
+            get_or-map (interpolant f d) columns j [] [] (omega (arith, h, count)) ∙ ap (interpolant f d) (get_or-tabulate m.width (column z m) j [] h) in
             let apart : Apart (length v) p = subst (λ k. Apart k p) (sym long) (points_apart f.ring L.below f.inv L.below_field top f.root L.roots d fits nz) in
             let I = interpolant_exists f.ring L.below f.inv L.below_field p v apart in
-            table_of_items z v n long
-            ∙ (table_same n (λ i. get_or v i z) (λ i. val f.ring (interpolant f d v) (p i)) (λ i b. sym (I.value_is i (omega (arith, b, long))))
-            ∙ ap (λ g. table n (λ i. val f.ring g (p i))) (sym is));
+            tabulate_items z v n long
+            ∙ (tabulate_same n (λ i. get_or v i z) (λ i. eval_poly f.ring (interpolant f d v) (p i)) (λ i b. sym (I.value_is i (omega (arith, b, long))))
+            ∙ ap (λ g. tabulate n (λ i. eval_poly f.ring g (p i))) (sym is));
       }
 
   some_interpolants_read : (size : ℕ) (m : Option (Rows F)) → IsSomeTall (2 ^ d.log_size) m

@@ -9,11 +9,11 @@ use Rattle.std.proofs.lemmas.List.{ext_get_or, length-drop, length-map, length-t
 use Rattle.std.proofs.lemmas.List.Concat.{get_or-flat_map}
 use Rattle.std.proofs.lemmas.Option.{slice_get-get_or}
 use Rattle.p3_field.specs.Field.{TwoAdic, Extension, combine}
-use Rattle.p3_field.specs.Poly.{val, val_in, table}
+use Rattle.p3_field.specs.Poly.{eval_poly, eval_poly_in, tabulate}
 use Rattle.p3_field.specs.Domain.{point}
-use Rattle.p3_field.specs.Laws.Extended.{map_val}
-use Rattle.p3_field.specs.Laws.SubgroupSelectors.{map_table}
-use Rattle.p3_field.specs.Laws.Tables.{length-table, get_or-table, table_same, table_of_items}
+use Rattle.p3_field.specs.Laws.Extended.{map_eval}
+use Rattle.p3_field.specs.Laws.SubgroupSelectors.{map_tabulate}
+use Rattle.p3_field.specs.Laws.Tabulate.{length-tabulate, get_or-tabulate, tabulate_same, tabulate_items}
 use Rattle.p3_matrix.specs.Matrix.{Rows, cell_at, height, row_at}
 use Rattle.p3_matrix.specs.Laws.Cells.{get_or-column}
 use Rattle.p3_matrix.specs.Laws.Flattened.{height-pieces, length-pieces, row_at-pieces}
@@ -22,7 +22,7 @@ use Rattle.p3_dft.specs.Transform.{values_at}
 use Rattle.p3_air.specs.Check.{preprocessed_row}
 use Rattle.p3_commit.specs.Commitments.{IsEvaluated}
 use Rattle.p3_commit.specs.Periodic.{IsPeriod, IsPeriodicAt, IsPeriodicTable}
-use Rattle.committed_tables.specs.Committed.{CommittedTable, columns_at, flattened, periodic_poly, permutation_at, permutation_width, rows_of, trace_domain}
+use Rattle.committed_tables.specs.Committed.{CommittedTable, columns_at, flattened, periodic_poly, permutation_at, flattened_width, row_count_of, trace_domain}
 use Rattle.committed_tables.specs.Fields.{FieldsLaws}
 use Rattle.committed_tables.specs.Rows.{flattened_matrix}
 use Rattle.committed_tables.specs.Laws.Opened.{periodic_is}
@@ -45,7 +45,7 @@ row_long m i h =
     let enough : (at + w) - at ≤ length (drop at m.values) = omega (arith, rows, all, length-drop at m.values) in
     length-take-le ((at + w) - at) (drop at m.values) enough ∙ range_width at w
 
--- an item of pieces of one length, behind one another
+-- an item of pieces of one length, one after another
 piece_item : {X Y : Type 0} (g : X → List Y) (n : ℕ) → ((x : X) → length (g x) ≡ n) → (xs : List X) (j k : ℕ) (z : X) (d : Y) → j < length xs → k < n
     → get_or (flat_map g xs) (j * n + k) d ≡ get_or (g (get_or xs j z)) k d
 piece_item g n long xs j k z d h l =
@@ -55,8 +55,8 @@ piece_item g n long xs j k z d h l =
 
 module _ {F E : Type 0} (f : TwoAdic F) (e : Extension F E) (top : ℕ) (inverse : E → E) (L : FieldsLaws f e top inverse) (n : ℕ) (p : ℕ → F) where
   -- a value over the field, read over the larger one
-  above : (g : List F) (i : ℕ) → e.embed (val f.ring g (p i)) ≡ val_in e g (e.embed (p i))
-  above g i = sym (map_val f.ring L.below e.ring L.above e.embed L.embeds g (p i))
+  above : (g : List F) (i : ℕ) → e.embed (eval_poly f.ring g (p i)) ≡ eval_poly_in e g (e.embed (p i))
+  above g i = sym (map_eval f.ring L.below e.ring L.above e.embed L.embeds g (p i))
 
   module _ (t : CommittedTable F E) where
     -- a row of a matrix of polynomials' values has their values at the point
@@ -70,18 +70,18 @@ module _ {F E : Type 0} (f : TwoAdic F) (e : Extension F E) (top : ℕ) (inverse
         let z = e.embed f.ring.zero in
         let low : i < height m = omega (arith, h, tall) in
         let long : length A ≡ m.width = length-map (row_at m i) e.embed ∙ row_long m i low in
-        let wide : length B ≡ m.width = length-map polys (λ (g : List F). val_in e g x) ∙ sym I.width_is in
+        let wide : length B ≡ m.width = length-map polys (λ (g : List F). eval_poly_in e g x) ∙ sym I.width_is in
         ext_get_or z A B (long ∙ sym wide)
         (λ j b.
         let inside : j < m.width = omega (arith, b, long) in
         let g = get_or polys j [] in
-        let there : get_or (row_at m i) j f.ring.zero ≡ val f.ring g (p i) =
+        let there : get_or (row_at m i) j f.ring.zero ≡ eval_poly f.ring g (p i) =
         get_or-row_at m i j f.ring.zero inside
         ∙ (sym (get_or-column f.ring.zero m j i low)
-        ∙ (ap (λ l. get_or l i f.ring.zero) (I.column_is j inside) ∙ get_or-table n (λ k. val f.ring g (p k)) i f.ring.zero h)) in
+        ∙ (ap (λ l. get_or l i f.ring.zero) (I.column_is j inside) ∙ get_or-tabulate n (λ k. eval_poly f.ring g (p k)) i f.ring.zero h)) in
         get_or-map e.embed (row_at m i) j f.ring.zero
         ∙ (ap e.embed there
-        ∙ (above g i ∙ sym (get_or-map-within (λ (g : List F). val_in e g x) polys j [] z (omega (arith, inside, I.width_is))))))
+        ∙ (above g i ∙ sym (get_or-map-within (λ (g : List F). eval_poly_in e g x) polys j [] z (omega (arith, inside, I.width_is))))))
 
     pub some_read : (m : Option (Rows F)) (size : ℕ) (polys : List (List F)) → EvaluatedSome f n p (record { size = size; polynomials = polys }) m → IfSome m (λ r. height r ≡ n)
         → (i : ℕ) → i < n → map e.embed (preprocessed_row m i) ≡ columns_at f e t polys (e.embed (p i))
@@ -96,61 +96,61 @@ module _ {F E : Type 0} (f : TwoAdic F) (e : Extension F E) (top : ℕ) (inverse
         let W = m.width in
         let v = flattened_matrix e m in
         let pos : 0 < D = L.vector.positive in
-        let parts_long = L.vector.parts_length in
+        let parts_long = L.vector.coefficients_length in
         let x = e.embed (p i) in
         let z = f.ring.zero in
-        let width : permutation_width f e t ≡ W = ap (λ k. k / D) (sym I.width_is) ∙ mul-div_cancel W pos in
-        let low : i < height m = omega (arith, h, tall, height-pieces e.parts D parts_long pos m v refl refl) in
+        let width : flattened_width f e t ≡ W = ap (λ k. k / D) (sym I.width_is) ∙ mul-div_cancel W pos in
+        let low : i < height m = omega (arith, h, tall, height-pieces e.coefficients D parts_long pos m v refl refl) in
         let long : length (row_at m i) ≡ W = row_long m i low in
         let item = λ (j : ℕ). combine e.ring e.basis 0 (columns_at f e t (flattened f e t j) x) in
-        let flat : columns_at f e t t.permutation x ≡ map e.embed (flat_map e.parts (row_at m i)) =
-        sym (columns_read v size t.permutation I tall i h) ∙ ap (map e.embed) (row_at-pieces e.parts D parts_long m v i refl refl) in
-        sym (ext_get_or e.ring.zero (permutation_at f e t x) (row_at m i) (length-table (permutation_width f e t) item ∙ (width ∙ sym long))
+        let flat : columns_at f e t t.permutation x ≡ map e.embed (flat_map e.coefficients (row_at m i)) =
+        sym (columns_read v size t.permutation I tall i h) ∙ ap (map e.embed) (row_at-pieces e.coefficients D parts_long m v i refl refl) in
+        sym (ext_get_or e.ring.zero (permutation_at f e t x) (row_at m i) (length-tabulate (flattened_width f e t) item ∙ (width ∙ sym long))
         (λ j b.
-        let inside : j < W = omega (arith, b, length-table (permutation_width f e t) item, width) in
+        let inside : j < W = omega (arith, b, length-tabulate (flattened_width f e t) item, width) in
         let cell = get_or (row_at m i) j e.ring.zero in
         let within : j * D + D ≤ W * D = let q : suc j * D ≤ W * D = mul-le-mul_right D inside in omega (arith, q) in
-        get_or-table (permutation_width f e t) item j e.ring.zero (omega (arith, inside, width))
+        get_or-tabulate (flattened_width f e t) item j e.ring.zero (omega (arith, inside, width))
         ∙ combined_parts f e top inverse L cell (λ k. get_or t.permutation (j * D + k) []) x (λ k l.
-        sym (get_or-map-within (λ (g : List F). val_in e g x) t.permutation (j * D + k) [] (e.embed z) (omega (arith, within, l, I.width_is)))
+        sym (get_or-map-within (λ (g : List F). eval_poly_in e g x) t.permutation (j * D + k) [] (e.embed z) (omega (arith, within, l, I.width_is)))
         ∙ (ap (λ ys. get_or ys (j * D + k) (e.embed z)) flat
-        ∙ (get_or-map e.embed (flat_map e.parts (row_at m i)) (j * D + k) z
-        ∙ ap e.embed (piece_item e.parts D parts_long (row_at m i) j k e.ring.zero z (omega (arith, inside, long)) l))))))
+        ∙ (get_or-map e.embed (flat_map e.coefficients (row_at m i)) (j * D + k) z
+        ∙ ap e.embed (piece_item e.coefficients D parts_long (row_at m i) j k e.ring.zero z (omega (arith, inside, long)) l))))))
 
     pub some_permutation_read : (m : Option (Rows E)) (size : ℕ) → EvaluatedSome f n p (record { size = size; polynomials = t.permutation }) (option_map (flattened_matrix e) m)
         → IfSome (option_map (flattened_matrix e) m) (λ r. height r ≡ n) → (i : ℕ) → i < n → preprocessed_row m i ≡ permutation_at f e t (e.embed (p i))
     some_permutation_read None size none tall i h =
-        let empty : permutation_width f e t ≡ 0 = ap (λ (ps : List (List F)). length ps / e.dimension) none ∙ no_columns e.dimension L.vector.positive in
-        ap (λ k. table k (λ j. combine e.ring e.basis 0 (columns_at f e t (flattened f e t j) (e.embed (p i))))) (sym empty)
+        let empty : flattened_width f e t ≡ 0 = ap (λ (ps : List (List F)). length ps / e.dimension) none ∙ no_columns e.dimension L.vector.positive in
+        ap (λ k. tabulate k (λ j. combine e.ring e.basis 0 (columns_at f e t (flattened f e t j) (e.embed (p i))))) (sym empty)
       where
         no_columns : (D : ℕ) → 0 < D → 0 / D ≡ 0
         no_columns D pos = omega (arith, pos)
     some_permutation_read (Some m) size I tall i h = permutation_read m size I tall i h
 
     -- a row of the periodic columns has their polynomials' values
-    pub periodic_read : t.log_height ≤ top → (columns : List (List F)) (T : Rows F) → IsPeriodicTable f.ring (rows_of t) (point f.ring f.root (trace_domain f e t)) n p columns T
-        → All (λ c. IsPeriod (rows_of t) (length c)) columns → (i : ℕ) → i < n
-        → map e.embed (periodic_at f.ring.zero T i) ≡ map (λ c. val_in e (periodic_poly f e t c) (e.embed (p i))) columns
+    pub periodic_read : t.log_height ≤ top → (columns : List (List F)) (T : Rows F) → IsPeriodicTable f.ring (row_count_of t) (point f.ring f.root (trace_domain f e t)) n p columns T
+        → All (λ c. IsPeriod (row_count_of t) (length c)) columns → (i : ℕ) → i < n
+        → map e.embed (periodic_at f.ring.zero T i) ≡ map (λ c. eval_poly_in e (periodic_poly f e t c) (e.embed (p i))) columns
     periodic_read low columns T I fit i h =
         let x = e.embed (p i) in
         let q = point f.ring f.root (trace_domain f e t) in
         let cell : ℕ → F = λ j. cell_at f.ring.zero T (i % height T) j in
-        let g : List F → E = λ c. val_in e (periodic_poly f e t c) x in
+        let g : List F → E = λ c. eval_poly_in e (periodic_poly f e t c) x in
         let each : (j : ℕ) → j < length columns → e.embed (cell j) ≡ g (get_or columns j []) = λ j b.
         let c = get_or columns j [] in
         let J = I.cell_is j c i (slice_get-get_or columns j [] b) h in
-        let K : IsPeriodicAt f.ring e.ring e.embed (rows_of t) q x c (e.embed (cell j)) = record {
+        let K : IsPeriodicAt f.ring e.ring e.embed (row_count_of t) q x c (e.embed (cell j)) = record {
           interpolant = J.interpolant;
           interpolates = J.interpolates;
-          value_is = ap e.embed (J.value_is ∙ ap (λ l. val f.ring l (p i)) (map-id J.interpolant)) ∙ above J.interpolant i;
+          value_is = ap e.embed (J.value_is ∙ ap (λ l. eval_poly f.ring l (p i)) (map-id J.interpolant)) ∙ above J.interpolant i;
         } in
         periodic_is f e top inverse L t low c x (e.embed (cell j)) (fit j [] b) K in
-        map_table e.embed T.width cell
-        ∙ (ap (λ w. table w (λ j. e.embed (cell j))) I.width_is
-        ∙ (table_same (length columns) (λ j. e.embed (cell j)) (λ j. g (get_or columns j [])) each
-        ∙ (sym (map_table g (length columns) (λ j. get_or columns j [])) ∙ ap (map g) (sym (table_of_items [] columns (length columns) refl)))))
+        map_tabulate e.embed T.width cell
+        ∙ (ap (λ w. tabulate w (λ j. e.embed (cell j))) I.width_is
+        ∙ (tabulate_same (length columns) (λ j. e.embed (cell j)) (λ j. g (get_or columns j [])) each
+        ∙ (sym (map_tabulate g (length columns) (λ j. get_or columns j [])) ∙ ap (map g) (sym (tabulate_items [] columns (length columns) refl)))))
 
   -- an item of a list of values
-  pub selector_read : (g xs : List F) → xs ≡ table n (λ i. val f.ring g (p i)) → (i : ℕ) → i < n → e.embed (get_or xs i f.ring.zero) ≡ val_in e g (e.embed (p i))
+  pub selector_read : (g xs : List F) → xs ≡ tabulate n (λ i. eval_poly f.ring g (p i)) → (i : ℕ) → i < n → e.embed (get_or xs i f.ring.zero) ≡ eval_poly_in e g (e.embed (p i))
   selector_read g xs is i h =
-      ap e.embed (ap (λ l. get_or l i f.ring.zero) is ∙ get_or-table n (λ k. val f.ring g (p k)) i f.ring.zero h) ∙ above g i
+      ap e.embed (ap (λ l. get_or l i f.ring.zero) is ∙ get_or-tabulate n (λ k. eval_poly f.ring g (p k)) i f.ring.zero h) ∙ above g i

@@ -4,11 +4,11 @@ use Rattle.std.proofs.lemmas.List.{map-id}
 use Rattle.std.proofs.lemmas.Nat.{pow_pos}
 use Rattle.p3_field.specs.Ring.{Ring, RingLaws, pow, sub}
 use Rattle.p3_field.specs.Field.{FieldLaws, TwoAdicLaws}
-use Rattle.p3_field.specs.Poly.{val}
-use Rattle.p3_field.specs.Domain.{CosetData, point, van}
+use Rattle.p3_field.specs.Poly.{eval_poly}
+use Rattle.p3_field.specs.Domain.{CosetData, point, vanishing_polynomial}
 use Rattle.p3_field.specs.Laws.Algebra.{pow_add}
 use Rattle.p3_field.specs.Laws.Coset.{two_adic_order, pow_mul}
-use Rattle.p3_field.specs.Laws.Selectors.{van_value}
+use Rattle.p3_field.specs.Laws.Selectors.{vanishing_value}
 use Rattle.p3_field.specs.Laws.Own.{own_hom}
 use Rattle.p3_field.specs.Laws.Subcosets.{row_power}
 use Rattle.p3_commit.specs.Laws.Cosets.{reduced, root_power}
@@ -40,13 +40,13 @@ module _ {A : Type 0} (r : Ring A) (L : RingLaws r) (top : ℕ) (root : ℕ → 
 
   -- So the value at a point of the polynomial that vanishes on a coset of that smaller size is the value at that place.
   pub vanishing_repeats : (inv : A → A) (W : FieldLaws r inv) (e : CosetData A) → (e.shift ≡ r.zero → ⊥) → e.log_size ≡ k → (i : ℕ)
-      → val r (van r inv e) (point r root d (i % 2 ^ c)) ≡ val r (van r inv e) (point r root d i)
+      → eval_poly r (vanishing_polynomial r inv e) (point r root d (i % 2 ^ c)) ≡ eval_poly r (vanishing_polynomial r inv e) (point r root d i)
   vanishing_repeats inv W e nz same i =
       let n = 2 ^ e.log_size in
       let a = inv e.shift in
-      let V = van r inv e in
-      let at : (x : A) → val r V x ≡ sub r (r.mul (pow r a n) (pow r x n)) r.one = λ x.
-      ap (λ l. val r l x) (sym (map-id V)) ∙ (van_value r L r L (λ y. y) (own_hom r) inv W e x nz ∙ ap (λ y. sub r y r.one) (pow_mul r L a x n)) in
+      let V = vanishing_polynomial r inv e in
+      let at : (x : A) → eval_poly r V x ≡ sub r (r.mul (pow r a n) (pow r x n)) r.one = λ x.
+      ap (λ l. eval_poly r l x) (sym (map-id V)) ∙ (vanishing_value r L r L (λ y. y) (own_hom r) inv W e x nz ∙ ap (λ y. sub r y r.one) (pow_mul r L a x n)) in
       let repeats : pow r (point r root d (i % 2 ^ c)) n ≡ pow r (point r root d i) n =
       ap (λ j. pow r (point r root d (i % 2 ^ c)) (2 ^ j)) same ∙ (sym (power_repeats i) ∙ ap (λ j. pow r (point r root d i) (2 ^ j)) (sym same)) in
       at (point r root d (i % 2 ^ c)) ∙ (ap (λ y. sub r (r.mul (pow r a n) y) r.one) repeats ∙ sym (at (point r root d i)))

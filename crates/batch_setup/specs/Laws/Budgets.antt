@@ -13,7 +13,7 @@ use Rattle.p3_air.specs.Tree.{Tree, constant, cell, ext_cell, sum, difference, p
 use Rattle.p3_lookup.specs.Lookup.{LookupData}
 use Rattle.p3_lookup.specs.Packing.{lookup_degree, merged, same_name, takes_in, with_lookup, packed_onto, packed}
 use Rattle.p3_lookup.specs.Trees.{lookup_trees}
-use Rattle.batch_constraints.specs.Laws.Degrees.{greatest_below}
+use Rattle.p3_air.specs.Laws.Greatest.{greatest_below}
 
 cell_small : (c : Cell) → cell_multiple 0 c ≤ 2 ^ 64 - 1
 cell_small (Main next column) = omega arith

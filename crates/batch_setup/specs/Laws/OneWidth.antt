@@ -5,7 +5,7 @@ use Rattle.std.specs.Cmp.Lexicographic.{bytes_decides}
 use Rattle.std.proofs.lemmas.Bool.{cases_eq}
 use Rattle.std.proofs.lemmas.List.{length-map, get_or-map, get_or_default}
 use Rattle.std.proofs.lemmas.List.Elements.{All-nil, All-head, All-tail, All-cons, All-append, All-weaker}
-use Rattle.p3_field.specs.Poly.{table}
+use Rattle.p3_field.specs.Poly.{tabulate}
 use Rattle.p3_field.specs.Ring.{Ring}
 use Rattle.p3_air.specs.Tree.{Bus, local, global}
 use Rattle.p3_lookup.specs.Bus.{HaveOneWidth, NameOneBus, bus_number}
@@ -102,12 +102,12 @@ module _ {F : Type 0} (Q : LookupData F → Type 0) (merges : (k l : LookupData 
   last_part (x ∷ xs) ys h = last_part xs ys (All-tail Q x (xs ++ ys) h)
 
   -- of the lookups of n tables
-  tables_kept : (r : Ring F) (t : ℕ) (budget : ℕ → ℕ) (own : ℕ → List (LookupData F)) (n : ℕ) → All Q (flat_map (λ ls. ls) (table n own))
-      → All Q (flat_map (λ ls. ls) (table n (λ i. packed r t (budget i) (own i))))
+  tables_kept : (r : Ring F) (t : ℕ) (budget : ℕ → ℕ) (own : ℕ → List (LookupData F)) (n : ℕ) → All Q (flat_map (λ ls. ls) (tabulate n own))
+      → All Q (flat_map (λ ls. ls) (tabulate n (λ i. packed r t (budget i) (own i))))
   tables_kept r t budget own zero h = All-nil Q
   tables_kept r t budget own (suc n) h =
-      let rest = flat_map (λ ls. ls) (table n (λ i. own (suc i))) in
-      All-append Q (packed r t (budget zero) (own zero)) (flat_map (λ ls. ls) (table n (λ i. packed r t (budget (suc i)) (own (suc i)))))
+      let rest = flat_map (λ ls. ls) (tabulate n (λ i. own (suc i))) in
+      All-append Q (packed r t (budget zero) (own zero)) (flat_map (λ ls. ls) (tabulate n (λ i. packed r t (budget (suc i)) (own (suc i)))))
       (onto_kept r t (budget zero) [] (own zero) (All-nil Q) (first_part (own zero) rest h))
       (tables_kept r t (λ i. budget (suc i)) (λ i. own (suc i)) n (last_part (own zero) rest h))
 
@@ -153,9 +153,9 @@ module _ {F : Type 0} (own new : List (LookupData F))
       by k (global n) e p q = q (ap (λ b. same_name b k.bus) e ∙ ap (same_name (global n)) e ∙ itself n)
 
 -- The lookups of n tables, packed within some budgets.
-pub packed_one_width : {F : Type 0} (r : Ring F) (t : ℕ) (budget : ℕ → ℕ) (own : ℕ → List (LookupData F)) (n : ℕ) → HaveOneWidth (flat_map (λ ls. ls) (table n own))
-    → HaveOneWidth (flat_map (λ ls. ls) (table n (λ i. packed r t (budget i) (own i))))
+pub packed_one_width : {F : Type 0} (r : Ring F) (t : ℕ) (budget : ℕ → ℕ) (own : ℕ → List (LookupData F)) (n : ℕ) → HaveOneWidth (flat_map (λ ls. ls) (tabulate n own))
+    → HaveOneWidth (flat_map (λ ls. ls) (tabulate n (λ i. packed r t (budget i) (own i))))
 packed_one_width r t budget own n h =
-    let before = flat_map (λ ls. ls) (table n own) in
-    let after = flat_map (λ ls. ls) (table n (λ i. packed r t (budget i) (own i))) in
+    let before = flat_map (λ ls. ls) (tabulate n own) in
+    let after = flat_map (λ ls. ls) (tabulate n (λ i. packed r t (budget i) (own i))) in
     one_width after (kept before after (λ Q m. tables_kept Q m r t budget own n) (uniform before h))

@@ -1,8 +1,8 @@
--- Answers for lists of checks behind each other, and for checks in turn.
+-- Answers for lists of checks one after another, and for checks in turn.
 use Rattle.std.proofs.Common.{◌≡◌, ℕ, ◌<◌, List, [], ◌∷◌, ◌++◌, Result, Ok, Err, sym, subst, inl, inr}
 use Rattle.std.specs.Result.{IsErrAnd}
 use Rattle.p3_field.specs.Checks.{Check, check, NoneFails, FirstFails, in_turn}
-use Rattle.p3_field.specs.Laws.Checks.{none_append, none_before, none_behind, none_first, first_stops, first_after, first_parted, refused_in_turn}
+use Rattle.p3_field.specs.Laws.Checks.{none_append, none_before, none_after, none_first, first_stops, first_after, first_parted, refused_in_turn}
 use Rattle.batch_setup.specs.Verdict.{IsSetUp, IsSetupRefusal}
 use Rattle.batch_setup.specs.declared.error.SetupError.{SetupError}
 use Rattle.batch_setup.specs.declared.error.SetupError.TheVariants.{LengthMismatch, PreprocessedHeight, Pcs, LookupBudget, OutOfMemory}
@@ -62,7 +62,7 @@ answer_along xs checks x y r e f v = subst (λ z. IsSetUp (xs ++ checks z) r) e 
 -- where the last checks never fail, they don't decide
 pub answer_without : {T E : Type 0} (xs zs ys us : List (Check (SetupError E))) (r : Result T (SetupError E)) → ((d : SetupError E) → FirstFails xs d → FirstFails zs d) → (NoneFails xs → NoneFails zs) → NoneFails us
     → IsSetUp (xs ++ (ys ++ us)) r → IsSetUp (zs ++ ys) r
-answer_without xs zs ys us (Ok t) f n none v = none_append zs ys (n (none_before xs (ys ++ us) v)) (none_before ys us (none_behind xs (ys ++ us) v))
+answer_without xs zs ys us (Ok t) f n none v = none_append zs ys (n (none_before xs (ys ++ us) v)) (none_before ys us (none_after xs (ys ++ us) v))
 answer_without {E = E} xs zs ys us (Err e) f n none v = refusal_along (xs ++ (ys ++ us)) (zs ++ ys) e first v
   where
     first : (d : SetupError E) → FirstFails (xs ++ (ys ++ us)) d → FirstFails (zs ++ ys) d
@@ -75,12 +75,12 @@ answer_without {E = E} xs zs ys us (Err e) f n none v = refusal_along (xs ++ (ys
     ]
 
 -- where the first checks never fail, the others decide
-pub answer_behind : {T E : Type 0} (xs ys : List (Check (SetupError E))) (r : Result T (SetupError E)) → NoneFails xs → IsSetUp (xs ++ ys) r → IsSetUp ys r
-answer_behind xs ys (Ok t) none v = none_behind xs ys v
-answer_behind {E = E} xs ys (Err e) none v = refusal_along (xs ++ ys) ys e later v
+pub answer_past : {T E : Type 0} (xs ys : List (Check (SetupError E))) (r : Result T (SetupError E)) → NoneFails xs → IsSetUp (xs ++ ys) r → IsSetUp ys r
+answer_past xs ys (Ok t) none v = none_after xs ys v
+answer_past {E = E} xs ys (Err e) none v = refusal_along (xs ++ ys) ys e later v
   where
     later : (d : SetupError E) → FirstFails (xs ++ ys) d → FirstFails ys d
     later d g = elim (first_parted xs ys d g) [
       | inl here ↦ absurd (none_first xs d none here)
-      | inr behind ↦ behind.1
+      | inr after ↦ after.1
     ]

@@ -7,7 +7,7 @@ use Rattle.std.proofs.lemmas.List.{get_or-map, get_or_default}
 pub item_of_map : {X Y : Type 0} (f : X → Y) (xs : List X) (i : ℕ) (x : X) (d : Y) → i < length xs → x ≡ get_or xs i x → get_or (map f xs) i d ≡ f x
 item_of_map f xs i x d b e = get_or-map f xs i x d b ∙ ap f (sym e)
 
--- the item at a place, whatever stands behind the end
+-- the item at a place, whatever stands past the end
 pub item_at : {X : Type 0} (xs : List X) (i : ℕ) (d x : X) → i < length xs → x ≡ get_or xs i x → get_or xs i d ≡ x
 item_at xs i d x b e = get_or_default xs i d x b ∙ sym e
 

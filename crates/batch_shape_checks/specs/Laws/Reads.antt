@@ -2,7 +2,7 @@
 use Rattle.std.proofs.Common.{◌≡◌, ℕ, ◌<◌, ◌≤◌, min, List, [], length, map, All, get_or, Option, None, Some, sym, subst, arith}
 use Rattle.std.proofs.lemmas.List.{length-map, get_or-map}
 use Rattle.p3_air.specs.Shape.{Declaration, declared_shape}
-use Rattle.p3_lookup.specs.Lookup.{LookupData, IsCounted, ReadsSent, IsLookup}
+use Rattle.p3_lookup.specs.Lookup.{LookupData, HasCountForEach, ReadsSent, IsLookup}
 use Rattle.p3_lookup.specs.Written.{Written, read_all}
 use Rattle.batch_constraints.specs.BatchTrees.{AreLookupsOf}
 use Rattle.batch_statement.specs.Statement.{PreprocessedTracesData, WellFormed, WrittenCommon, instance_count, read_common, within_entries}
@@ -31,5 +31,5 @@ module _ {A F C : Type 0} (declaration : A → Declaration F) (airs : List A) (c
       let P : Declaration F → List (LookupData F) → Type 0 = λ d ls. All (ReadsSent (declared_shape d)) ls in
       let reads : All (ReadsSent (declared_shape (declaration (get_or airs i a)))) (read_all (get_or c.lookups i [])) =
       subst (λ ls. P (declaration (get_or airs i a)) ls) list (subst (λ x. P x (get_or (map (read_all {F = F}) c.lookups) i [])) own (w.reads i inside (declaration a))) in
-      let counted : All IsCounted (read_all (get_or c.lookups i [])) = subst (All IsCounted) list (w.counted i inside) in
+      let counted : All HasCountForEach (read_all (get_or c.lookups i [])) = subst (All HasCountForEach) list (w.counted i inside) in
       record { counted = counted k d b; reads = reads k d b }

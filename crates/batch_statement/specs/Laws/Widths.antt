@@ -22,7 +22,7 @@ use Rattle.batch_statement.specs.Fitting.{tuples_agree, widths_agree, agree, agr
 abbrev Agree : {F : Type 0} → LookupData F → LookupData F → Type 0
 Agree a b = All (λ s. All (λ t. length t ≡ length s) b.tuples) a.tuples
 
--- a lookup that stands behind the end of a list and is never read
+-- a lookup that stands past the end of a list and is never read
 abbrev none : {F : Type 0} → Written F
 none = record { bus = local; elements = []; multiplicities = [] }
 

@@ -8,14 +8,14 @@ use Rattle.line_format.specs.Texts.{line_text, Grammar}
 use Rattle.line_format.specs.WholeText.{IsFaultLine}
 use Rattle.line_format.specs.Laws.Lines.{lines-tell}
 use Rattle.tool_validity.specs.Job.{JobTable}
-use Rattle.tool_jobs.specs.Jobs.{JobWithin, job_words}
+use Rattle.tool_jobs.specs.Jobs.{JobWithin, job_numbers}
 use Rattle.tool_jobs.specs.Laws.Texts.{job-grammar}
 use Rattle.tool_prover.specs.JobAnswer.{IsJobAnswer}
 use Rattle.batch_tool.specs.Answer.{Names, NamesSome, IsBadInput, IsProveAnswer, IsVerifyAnswer, IsCommandAnswer, IsAnswer, bad_input_text}
 use Rattle.tool_statement.specs.declared.table.TableStatement.{TableStatement}
 use Rattle.proof_text.specs.ProofText.{ToolProofData}
 use Rattle.tool_verifier.specs.FileAnswer.{IsFileAnswer, SameAnswer}
-use Rattle.proof_files.specs.Files.{FileWithin, file_words}
+use Rattle.proof_files.specs.Files.{FileWithin, file_numbers}
 use Rattle.proof_files.specs.Laws.Files.{file-grammar}
 use Rattle.batch_tool.specs.declared.command.Command.{Command}
 use Rattle.batch_tool.specs.declared.command.Command.TheVariants.{Prove, Verify}
@@ -68,7 +68,7 @@ one-text {A} {within} {words} answer grammar one bytes s t x y f g = elim f [
   ]
 ]
 
-prove-view : (bytes : List ℕ) (s : Status) (x : List ℕ) → IsProveAnswer bytes s x → TextAnswer JobWithin job_words IsJobAnswer bytes s x
+prove-view : (bytes : List ℕ) (s : Status) (x : List ℕ) → IsProveAnswer bytes s x → TextAnswer JobWithin job_numbers IsJobAnswer bytes s x
 prove-view bytes BadInput x a = inl (refl, a)
 prove-view bytes Done x a = let j = a.0 in inr (j.0, (j.1, (j.2, j.3)))
 prove-view bytes Refused x a = inr (a.0, (a.1, (a.2, a.3)))
@@ -78,7 +78,7 @@ prove-view bytes WriteFault x a = inr (a.0, (a.1, (a.2, a.3)))
 prove-view bytes OutOfMemory x a = inr (a.0, (a.1, (a.2, a.3)))
 prove-view bytes TooLarge x a = inr (a.0, (a.1, (a.2, a.3)))
 
-verify-view : (bytes : List ℕ) (s : Status) (x : List ℕ) → IsVerifyAnswer bytes s x → TextAnswer FileWithin file_words (λ f. IsFileAnswer f.tables f.proof) bytes s x
+verify-view : (bytes : List ℕ) (s : Status) (x : List ℕ) → IsVerifyAnswer bytes s x → TextAnswer FileWithin file_numbers (λ f. IsFileAnswer f.tables f.proof) bytes s x
 verify-view bytes BadInput x a = inl (refl, a)
 verify-view bytes Done x a = inr (a.0, (a.1, (a.2, a.3)))
 verify-view bytes Refused x a = inr (a.0, (a.1, (a.2, a.3)))

@@ -2,9 +2,9 @@
 use Rattle.std.proofs.Common.{◌≡◌, ℕ, zero, suc, List, [], ◌∷◌, ◌++◌, length, map, Option, None, Some, refl, sym, ◌∙◌}
 use Rattle.std.specs.Prelude.{All}
 use Rattle.std.proofs.lemmas.List.Elements.{All-append, All-cons, All-nil}
-use Rattle.p3_field.specs.BabyBear.{bear_ring}
+use Rattle.p3_field.specs.BabyBear.{baby_bear_ring}
 use Rattle.p3_field.specs.Ring.{Ring}
-use Rattle.p3_field.specs.Quartic.{quartic_parts}
+use Rattle.p3_field.specs.Quartic.{quartic_coefficients}
 use Rattle.p3_challenger.specs.Elements.{DrawsAt}
 use Rattle.p3_challenger.specs.Laws.Flat.{play-flat}
 use Rattle.p3_challenger.specs.Laws.Sha256Flat.{sha256-over}
@@ -13,7 +13,7 @@ use Rattle.p3_challenger.specs.Sha256Functions.{sha256_elements, sha256_function
 use Rattle.p3_challenger.specs.declared.script.Interaction.{Interaction}
 use Rattle.p3_challenger.specs.declared.script.InteractionKind.{InteractionKind}
 use Rattle.p3_challenger.specs.declared.script.InteractionKind.TheVariants.{Challenge, Message, Pow, Protocol, Public}
-use Rattle.batch_transcript.specs.BatchScript.{Given, Shape, bindings_script, lookup_terminal_step, main_script, ood_script, opening_script, pair_script, permutation_commitment_step, permutation_script, preprocessed_commitment_step, preprocessed_script, public_values_step, quotient_script, randomization_commitment_step, script, script_to_lookup, script_to_ood, sealed, with_value}
+use Rattle.batch_transcript.specs.BatchScript.{Given, BatchShapeData, bindings_script, lookup_terminal_step, main_script, ood_script, opening_script, pair_script, permutation_commitment_step, permutation_script, preprocessed_commitment_step, preprocessed_script, public_values_step, quotient_script, randomization_commitment_step, script, script_to_lookup, script_to_ood, sealed, with_value}
 use Rattle.plain_pcs.specs.Observing.{commitment_elements}
 use Rattle.batch_tool.specs.Played.{BatchGiven, PlaysByElements, batch_steps, seeded_transcript}
 use Rattle.tool_statement.specs.Config.{tool_setting}
@@ -102,19 +102,19 @@ module _ {F E M : Type 0} where
   to_lookup_draw : (r : Ring E) (g : Given F E M) → AllDraw (script_to_lookup r 4 g)
   to_lookup_draw r g = both (both (bindings_draw r g.degree_bits) (main_draw g.main g.publics)) (preprocessed_draw g.preprocessed)
 
-  to_ood_draw : (r : Ring E) (s : Shape) (g : Given F E M) → AllDraw (script_to_ood r 4 s g)
+  to_ood_draw : (r : Ring E) (s : BatchShapeData) (g : Given F E M) → AllDraw (script_to_ood r 4 s g)
   to_ood_draw r s g =
       both (both (both (to_lookup_draw r g) (pair_draw s.num_lookup_instances s.lookup_pow_bits g.lookup_witness)) (permutation_draw g.permutation g.terminals))
       (quotient_draw g.quotient g.randomization)
 
   -- each challenge of a batch has dimension four
-  script_draws : (r : Ring E) (s : Shape) (g : Given F E M) → AllDraw (script r 4 s g)
+  script_draws : (r : Ring E) (s : BatchShapeData) (g : Given F E M) → AllDraw (script r 4 s g)
   unfolding script
   script_draws r s g = both (both (to_ood_draw r s g) (ood_draw s.ood_pow_bits g.ood_witness)) opening_draw
 
-pub plays_by_elements : (s : Shape) (g : BatchGiven) → PlaysByElements s g
+pub plays_by_elements : (s : BatchShapeData) (g : BatchGiven) → PlaysByElements s g
 unfolding tool_setting
 plays_by_elements s g =
-    let opaque = commitment_elements bear_ring in
-    play-flat (sha256_functions opaque) sha256_elements quartic_parts opaque 4 (sha256-over opaque) (seeded_transcript s) (batch_steps s g)
+    let opaque = commitment_elements baby_bear_ring in
+    play-flat (sha256_functions opaque) sha256_elements quartic_coefficients opaque 4 (sha256-over opaque) (seeded_transcript s) (batch_steps s g)
     (script_draws tool_setting.extension.ring s g).all

@@ -1,7 +1,7 @@
 -- In the layout of a drawn pair each lookup has the base of its bus, and beta.
 use Rattle.std.proofs.Common.{◌≡◌, ℕ, zero, suc, ◌+◌, ◌*◌, ◌<◌, List, [], ◌∷◌, length, get_or, refl, ◌∙◌, ap, arith}
 use Rattle.p3_field.specs.Ring.{Ring}
-use Rattle.p3_field.specs.Laws.Tables.{get_or-table}
+use Rattle.p3_field.specs.Laws.Tabulate.{get_or-tabulate}
 use Rattle.p3_lookup.specs.Lookup.{LookupData}
 use Rattle.p3_lookup.specs.Bus.{bus_in, bus_count, batch_buses, widest}
 use Rattle.p3_lookup.specs.Challenge.{ChallengesData, challenges_with, bus_base}
@@ -31,12 +31,12 @@ lays-out-bases e tables alpha beta t k within lt =
     let bs = batch_buses tables in
     let c = challenges_with e alpha beta (widest tables) (bus_count bs) in
     let m = length (get_or tables t []) in
-    let own : get_or (batch_layout e (alpha ∷ beta ∷ []) tables) t [] ≡ instance_challenges e c tables t = get_or-table (length tables) (instance_challenges e c tables) t [] within in
+    let own : get_or (batch_layout e (alpha ∷ beta ∷ []) tables) t [] ≡ instance_challenges e c tables t = get_or-tabulate (length tables) (instance_challenges e c tables) t [] within in
     let below : bus_in tables t k < bus_count bs = number_below bs _ (place_within tables t k within lt) in
     let same : 0 + k ≡ k = omega arith in
     record {
       base = ap (λ l. get_or l (2 * k) e.zero) own ∙ laid-base e.zero c (bus_in tables t) 0 m k lt
           ∙ ap (λ j. get_or c.bus_prefix (bus_in tables t j) e.zero) same
-          ∙ get_or-table (bus_count bs) (bus_base e alpha beta (widest tables)) (bus_in tables t k) e.zero below;
+          ∙ get_or-tabulate (bus_count bs) (bus_base e alpha beta (widest tables)) (bus_in tables t k) e.zero below;
       combiner = ap (λ l. get_or l (2 * k + 1) e.zero) own ∙ laid-combiner e.zero c (bus_in tables t) 0 m k lt;
     }

@@ -1,22 +1,22 @@
--- Phases one behind the other, and what a whole run draws: prover's and verifier's transcripts are one fold.
+-- Phases one after the other, and what a whole run draws: prover's and verifier's transcripts are one fold.
 use Rattle.std.proofs.Common.{◌≡◌, ℕ, List, ◌++◌, refl, ap, sym, ◌∙◌, append_assoc}
 use Rattle.std.proofs.lemmas.List.{append-nil, map-append}
 use Rattle.p3_field.specs.Ring.{Ring}
 use Rattle.p3_challenger.specs.Script.{ChallengerOf, Transcript, Played, play, begun, steps_of}
-use Rattle.p3_challenger.specs.Laws.Scripts.{play-append, play-behind, behind_all}
-use Rattle.batch_transcript.specs.BatchScript.{Shape, Given, draws, draws_of, script, script_to_opening, seeded, opening_script}
+use Rattle.p3_challenger.specs.Laws.Scripts.{play-append, play-after, after_all}
+use Rattle.batch_transcript.specs.BatchScript.{BatchShapeData, Given, draws, draws_of, script, script_to_opening, seeded, opening_script}
 use Rattle.batch_transcript.specs.Running.{IsOneFold, PlaysChain, TellsDraws}
 
 module _ {S F E M : Type 0} (c : ChallengerOf S F E M) where
-  -- a script behind another starts at its state, and adds what it draws and tests
+  -- a script after another starts at its state, and adds what it draws and tests
   pub play-on : (s : S) (ps qs : List (Played F E M))
-      → play c (begun E s) (ps ++ qs) ≡ behind_all c (play c (begun E s) ps) (play c (begun E (play c (begun E s) ps).state) qs)
+      → play c (begun E s) (ps ++ qs) ≡ after_all c (play c (begun E s) ps) (play c (begun E (play c (begun E s) ps).state) qs)
   play-on s ps qs =
       let u = play c (begun E s) ps in
-      let e : behind_all c u (begun E u.state) ≡ u = λ i. record { state = u.state; challenges = append-nil u.challenges i; passed = append-nil u.passed i } in
-      play-append c (begun E s) ps qs ∙ ap (λ t. play c t qs) (sym e) ∙ play-behind c u (begun E u.state) qs
+      let e : after_all c u (begun E u.state) ≡ u = λ i. record { state = u.state; challenges = append-nil u.challenges i; passed = append-nil u.passed i } in
+      play-append c (begun E s) ps qs ∙ ap (λ t. play c t qs) (sym e) ∙ play-after c u (begun E u.state) qs
 
-  -- two phases one behind the other are one
+  -- two phases one after the other are one
   pub plays-chain : PlaysChain c
   plays-chain ps qs x y z ds es p q =
       let u = play c (begun E x.state) ps in
@@ -39,7 +39,7 @@ module _ {S F E M : Type 0} (c : ChallengerOf S F E M) where
   unfolding play opening_script
   play-opening t = refl
 
-  pub play-script : (r : Ring E) (d : ℕ) (s : Shape) (g : Given F E M) (t : Transcript S E) → play c t (script r d s g) ≡ play c t (script_to_opening r d s g)
+  pub play-script : (r : Ring E) (d : ℕ) (s : BatchShapeData) (g : Given F E M) (t : Transcript S E) → play c t (script r d s g) ≡ play c t (script_to_opening r d s g)
   unfolding script
   play-script r d s g t = play-append c t (script_to_opening r d s g) opening_script ∙ play-opening (play c t (script_to_opening r d s g))
 

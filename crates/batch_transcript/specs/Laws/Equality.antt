@@ -5,23 +5,23 @@ use Rattle.std.proofs.lemmas.Bool.Decides.{Decides-and, Decides-like}
 use Rattle.std.specs.Cmp.{IsEquivalence, IsPartialEquivalence, partial_equiv_from_equiv, and_equiv, on_equiv, nat_eq_equiv, bool_eq_equiv}
 use Rattle.std.specs.Cmp.{unsigned_Decides, booleans_Decides}
 use Rattle.std.specs.Cmp.Lexicographic.{nat_list_eq_equiv, pointwise_decides}
-use Rattle.batch_transcript.specs.BatchScript.{Shape}
+use Rattle.batch_transcript.specs.BatchScript.{BatchShapeData}
 use Rattle.batch_transcript.specs.Shapes.{shape_eq}
 
 pub shape_eq_equiv : IsEquivalence shape_eq
 shape_eq_equiv =
-    and_equiv (on_equiv (λ (s : Shape). s.trace_widths) nat_list_eq_equiv)
-    (and_equiv (on_equiv (λ (s : Shape). s.public_value_counts) nat_list_eq_equiv)
-    (and_equiv (on_equiv (λ (s : Shape). s.preprocessed_widths) nat_list_eq_equiv)
-    (and_equiv (on_equiv (λ (s : Shape). s.has_preprocessed_commitment) bool_eq_equiv)
-    (and_equiv (on_equiv (λ (s : Shape). s.num_lookup_instances) nat_eq_equiv)
-    (and_equiv (on_equiv (λ (s : Shape). s.lookup_pow_bits) nat_eq_equiv)
-    (and_equiv (on_equiv (λ (s : Shape). s.has_randomization_commitment) bool_eq_equiv) (on_equiv (λ (s : Shape). s.ood_pow_bits) nat_eq_equiv)))))))
+    and_equiv (on_equiv (λ (s : BatchShapeData). s.trace_widths) nat_list_eq_equiv)
+    (and_equiv (on_equiv (λ (s : BatchShapeData). s.public_value_counts) nat_list_eq_equiv)
+    (and_equiv (on_equiv (λ (s : BatchShapeData). s.preprocessed_widths) nat_list_eq_equiv)
+    (and_equiv (on_equiv (λ (s : BatchShapeData). s.has_preprocessed_commitment) bool_eq_equiv)
+    (and_equiv (on_equiv (λ (s : BatchShapeData). s.num_lookup_instances) nat_eq_equiv)
+    (and_equiv (on_equiv (λ (s : BatchShapeData). s.lookup_pow_bits) nat_eq_equiv)
+    (and_equiv (on_equiv (λ (s : BatchShapeData). s.has_randomization_commitment) bool_eq_equiv) (on_equiv (λ (s : BatchShapeData). s.ood_pow_bits) nat_eq_equiv)))))))
 
 pub shape_eq_per : IsPartialEquivalence shape_eq
 shape_eq_per = partial_equiv_from_equiv shape_eq_equiv
 
-pub shape_eq-tells : (s t : Shape) → (shape_eq s t ≡ true) ↔ (s ≡ t)
+pub shape_eq-tells : (s t : BatchShapeData) → (shape_eq s t ≡ true) ↔ (s ≡ t)
 shape_eq-tells s t =
     Decides-like (shape_eq s t)
     (λ h. λ i. record {
@@ -35,18 +35,18 @@ shape_eq-tells s t =
       ood_pow_bits = h.1.1.1.1.1.1.1 i;
     })
     (λ e. (
-      ap (λ (u : Shape). u.trace_widths) e,
+      ap (λ (u : BatchShapeData). u.trace_widths) e,
       (
-        ap (λ (u : Shape). u.public_value_counts) e,
+        ap (λ (u : BatchShapeData). u.public_value_counts) e,
         (
-          ap (λ (u : Shape). u.preprocessed_widths) e,
+          ap (λ (u : BatchShapeData). u.preprocessed_widths) e,
           (
-            ap (λ (u : Shape). u.has_preprocessed_commitment) e,
+            ap (λ (u : BatchShapeData). u.has_preprocessed_commitment) e,
             (
-              ap (λ (u : Shape). u.num_lookup_instances) e,
+              ap (λ (u : BatchShapeData). u.num_lookup_instances) e,
               (
-                ap (λ (u : Shape). u.lookup_pow_bits) e,
-                (ap (λ (u : Shape). u.has_randomization_commitment) e, ap (λ (u : Shape). u.ood_pow_bits) e),
+                ap (λ (u : BatchShapeData). u.lookup_pow_bits) e,
+                (ap (λ (u : BatchShapeData). u.has_randomization_commitment) e, ap (λ (u : BatchShapeData). u.ood_pow_bits) e),
               ),
             ),
           ),

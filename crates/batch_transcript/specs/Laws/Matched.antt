@@ -2,7 +2,7 @@
 use Rattle.std.proofs.Common.{◌≡◌, ℕ, zero, suc, List, [], ◌∷◌, ◌++◌, map, refl, Bool, true, false, replicate, subst, sym, append_assoc}
 use Rattle.p3_challenger.specs.Script.{AreMatched}
 use Rattle.p3_challenger.specs.declared.script.Interaction.{Interaction}
-use Rattle.batch_transcript.specs.BatchScript.{Shape, pattern, from_main, from_preprocessed, from_lookup, from_permutation, from_quotient, from_ood, from_opening, degree_bits_step, public_values_step, lookup_terminal_step, permutation_steps, pair_steps, only_with, atomic, main_commitment_step, preprocessed_commitment_step, constraint_challenge_step, quotient_commitment_step, randomization_commitment_step, closing_steps}
+use Rattle.batch_transcript.specs.BatchScript.{BatchShapeData, pattern, from_main, from_preprocessed, from_lookup, from_permutation, from_quotient, from_ood, from_opening, degree_bits_step, public_values_step, lookup_terminal_step, permutation_steps, pair_steps, only_with, atomic, main_commitment_step, preprocessed_commitment_step, constraint_challenge_step, quotient_commitment_step, randomization_commitment_step, closing_steps}
 use Rattle.p3_challenger.specs.declared.script.InteractionKind.{InteractionKind}
 use Rattle.p3_challenger.specs.declared.script.StepValue.{StepValue}
 use Rattle.p3_challenger.specs.declared.script.Length.{Length}
@@ -39,7 +39,7 @@ module _ (opened : List (List ℕ)) (rest : List Interaction) (h : AreMatched op
   matched-with true k v label l = (opened, refl, h)
   matched-with false k v label l = h
 
-pub matched-pattern : (d : ℕ) (s : Shape) → AreMatched [] (pattern d s)
+pub matched-pattern : (d : ℕ) (s : BatchShapeData) → AreMatched [] (pattern d s)
 unfolding pattern from_main from_preprocessed from_lookup from_permutation from_quotient from_ood from_opening
 matched-pattern d s =
     let closing : AreMatched [] (from_ood d s) = ([], refl, ([], refl, (_, refl, ([], refl, refl)))) in
@@ -51,11 +51,11 @@ matched-pattern d s =
     matched-degree_bits [] _ main d s.trace_widths
 
 -- the same of a list that is the pattern
-pub matched : (d : ℕ) (s : Shape) (steps : List Interaction) → steps ≡ pattern d s → AreMatched [] steps
+pub matched : (d : ℕ) (s : BatchShapeData) (steps : List Interaction) → steps ≡ pattern d s → AreMatched [] steps
 matched d s steps e = subst (λ l. AreMatched [] l) (sym e) (matched-pattern d s)
 
 -- a list that grew by the pattern's parts
-pub grown : (d : ℕ) (s : Shape) (x1 x2 x3 x4 x5 x6 x7 x8 x9 x10 : List Interaction)
+pub grown : (d : ℕ) (s : BatchShapeData) (x1 x2 x3 x4 x5 x6 x7 x8 x9 x10 : List Interaction)
     → x1 ≡ map (λ _. degree_bits_step d) s.trace_widths
     → x2 ≡ x1 ++ main_commitment_step ∷ []
     → x3 ≡ x2 ++ map public_values_step s.public_value_counts

@@ -14,7 +14,7 @@ use Rattle.batch_transcript.specs.BatchScript.{bindings_script, main_script, per
 use Rattle.std.specs.Option.{option_map_or, option_copied}
 use Rattle.std.specs.Borrow.{Bor}
 use Rattle.std.specs.Prelude.{IsTrue}
-use Rattle.p3_challenger.specs.States.{Playing, NextIs, IsStep, behind, played}
+use Rattle.p3_challenger.specs.States.{Playing, NextIs, IsStep, steps_after_next, played}
 use Rattle.p3_challenger.specs.declared.script.InteractionKind.TheVariants.{Message}
 use Rattle.batch_transcript.specs.Running.{Running, Plays, lists}
 
@@ -82,15 +82,15 @@ permutation-next d zero (Some m) rest h t = cc
 permutation-next d (suc n) (Some m) rest h t = (refl, refl)
 permutation-next d n None rest h t = cc
 
--- what is left behind it
-pub permutation-behind : {S M E : Type 0} (d n : ℕ) (o : Option M) (ts : List E) (rest : List Interaction) (p : Playing S) (f : M → S)
+-- what is left after it
+pub permutation-after : {S M E : Type 0} (d n : ℕ) (o : Option M) (ts : List E) (rest : List Interaction) (p : Playing S) (f : M → S)
     → p.remaining ≡ permutation_steps d n ++ rest → is_some o ≡ is_positive n → length ts ≡ n
     → (option_map_or (λ m. played p (f m)) o p).remaining ≡ map (λ _. lookup_terminal_step d) ts ++ rest
-permutation-behind d zero (Some m) ts rest p f e h l = cc
-permutation-behind d (suc n) None ts rest p f e h l = cc
-permutation-behind d zero None [] rest p f e h l = e
-permutation-behind d zero None (t ∷ ts) rest p f e h l = cc
-permutation-behind d (suc n) (Some m) ts rest p f e h l = ap behind e ∙ ap (λ l. l ++ rest) (replicate-terminals d (suc n) ts l)
+permutation-after d zero (Some m) ts rest p f e h l = cc
+permutation-after d (suc n) None ts rest p f e h l = cc
+permutation-after d zero None [] rest p f e h l = e
+permutation-after d zero None (t ∷ ts) rest p f e h l = cc
+permutation-after d (suc n) (Some m) ts rest p f e h l = ap steps_after_next e ∙ ap (λ l. l ++ rest) (replicate-terminals d (suc n) ts l)
 
 -- the steps of public values, by their numbers
 pub publics-steps : {F A : Type 0} (vs : List (Vec F A)) (counts : List ℕ) → map length (lists vs) ≡ counts
@@ -99,7 +99,7 @@ publics-steps vs counts h =
     ap (map public_values_step) (sym h) ∙ map-map public_values_step length (lists vs) ∙ map-map (λ v. public_values_step (length v)) (λ v. v.items) vs
 
 module _ {S F E M : Type 0} (c : ChallengerOf S F E M) where
-  -- the state behind degree bits, public values and terminals
+  -- the state after degree bits, public values and terminals
   abbrev pub after_degree_bits : Ring E → S → List ℕ → S
   after_degree_bits r s ns = fold (λ t n. c.observe_extension t (of_nat r n)) s ns
 

@@ -3,13 +3,13 @@ use Rattle.std.proofs.Common.{◌≡◌, ℕ, zero, suc, List, [], ◌∷◌, �
 use Rattle.std.proofs.lemmas.List.{append-nil}
 use Rattle.p3_field.specs.Ring.{Ring}
 use Rattle.p3_challenger.specs.Script.{ChallengerOf, Transcript, Played, NoValue, Elements, play, begun, passes}
-use Rattle.batch_transcript.specs.BatchScript.{Shape, Given, draws, draws_of, script_to_lookup, script_to_ood, script_to_opening, seeded, bindings_script, main_script, preprocessed_script, pair_script, permutation_script, quotient_script, ood_script, with_value, ground, is_positive, constraint_challenge_step}
+use Rattle.batch_transcript.specs.BatchScript.{BatchShapeData, Given, draws, draws_of, script_to_lookup, script_to_ood, script_to_opening, seeded, bindings_script, main_script, preprocessed_script, pair_script, permutation_script, quotient_script, ood_script, with_value, ground, is_positive, constraint_challenge_step}
 use Rattle.batch_transcript.specs.Running.{Running, Plays, drawn_along, TellsTests}
 use Rattle.batch_transcript.specs.Laws.Draws.{play-on, play-script, plays-chain, run-draws}
 use Rattle.batch_transcript.specs.Laws.Phases.{play-degree_bits, play-publics, play-terminals}
 
 module _ {S F E M : Type 0} (c : ChallengerOf S F E M) where
-  -- what is read behind the pair's draws
+  -- what is read after the pair's draws
   reads-alpha : (r : Ring E) (d n bits : ℕ) (w : Option F) (s : S) (t : Transcript S E) (alpha zeta : E)
       → t.challenges ≡ drawn_along c s (pair_script d n bits w) ++ alpha ∷ zeta ∷ []
       → ((draws_of r n t).alpha ≡ alpha) × ((draws_of r n t).zeta ≡ zeta) × ((draws_of r n t).opening ≡ t.state)
@@ -28,7 +28,7 @@ module _ {S F E M : Type 0} (c : ChallengerOf S F E M) where
   joined : (pair : List E) (alpha zeta : E) → pair ++ alpha ∷ [] ++ [] ++ zeta ∷ [] ≡ pair ++ alpha ∷ zeta ∷ []
   joined pair alpha zeta = rw (append-nil, append_assoc)
 
-  pub run-tells : (f : Ring F) (r : Ring E) (d : ℕ) (initial : S) (s : Shape) (g : Given F E M) (x0 x1 x2 x3 x4 x5 x6 x7 : Running S) (alpha zeta : E)
+  pub run-tells : (f : Ring F) (r : Ring E) (d : ℕ) (initial : S) (s : BatchShapeData) (g : Given F E M) (x0 x1 x2 x3 x4 x5 x6 x7 : Running S) (alpha zeta : E)
       → x0.state ≡ seeded c f d s initial → x0.shape ≡ s
       → Plays c (bindings_script r d g.degree_bits) x0 x1 []
       → Plays c (main_script g.main g.publics) x1 x2 []
@@ -67,10 +67,10 @@ module _ {S F E M : Type 0} (c : ChallengerOf S F E M) where
         ap (λ z. z.opening) e ∙ k.2,
       )
 
-  -- the answers of the tests along one script behind another
-  passed-behind : (ps qs : List (Played F E M)) (s : S)
+  -- the answers of the tests along one script after another
+  passed-after : (ps qs : List (Played F E M)) (s : S)
       → (play c (begun E s) (ps ++ qs)).passed ≡ (play c (begun E s) ps).passed ++ (play c (begun E (play c (begun E s) ps).state) qs).passed
-  passed-behind ps qs s = ap (λ t. t.passed) (play-on c s ps qs)
+  passed-after ps qs s = ap (λ t. t.passed) (play-on c s ps qs)
 
   -- phases without a grinding test nothing
   none-bindings : (r : Ring E) (d : ℕ) (ns : List ℕ) (s : S) → (play c (begun E s) (bindings_script r d ns)).passed ≡ []
@@ -108,11 +108,11 @@ module _ {S F E M : Type 0} (c : ChallengerOf S F E M) where
       let s3 = preprocessed_script g.preprocessed in
       let u = (play c (begun E s) s1).state in
       let v = (play c (begun E s) (s1 ++ s2)).state in
-      let e2 : (play c (begun E s) (s1 ++ s2)).passed ≡ [] = passed-behind s1 s2 s ∙ (λ i. none-bindings r d g.degree_bits s i ++ none-main g.main g.publics u i) in
-      passed-behind (s1 ++ s2) s3 s ∙ (λ i. e2 i ++ none-preprocessed g.preprocessed v i)
+      let e2 : (play c (begun E s) (s1 ++ s2)).passed ≡ [] = passed-after s1 s2 s ∙ (λ i. none-bindings r d g.degree_bits s i ++ none-main g.main g.publics u i) in
+      passed-after (s1 ++ s2) s3 s ∙ (λ i. e2 i ++ none-preprocessed g.preprocessed v i)
 
   -- as far as zeta's grinding the lookups' value alone is tested
-  pair-first : (r : Ring E) (d : ℕ) (s : Shape) (g : Given F E M) (b : S)
+  pair-first : (r : Ring E) (d : ℕ) (s : BatchShapeData) (g : Given F E M) (b : S)
       → (play c (begun E b) (script_to_ood r d s g)).passed
       ≡ (play c (begun E (play c (begun E b) (script_to_lookup r d g)).state) (pair_script d s.num_lookup_instances s.lookup_pow_bits g.lookup_witness)).passed
   pair-first r d s g b =
@@ -121,10 +121,10 @@ module _ {S F E M : Type 0} (c : ChallengerOf S F E M) where
       let s5 = permutation_script d g.permutation g.terminals in
       let s6 = quotient_script g.quotient g.randomization in
       let t4 = (play c (begun E (play c (begun E b) front).state) s4).passed in
-      let e4 : (play c (begun E b) (front ++ s4)).passed ≡ t4 = passed-behind front s4 b ∙ ap (λ l. l ++ t4) (none-first r d g b) in
+      let e4 : (play c (begun E b) (front ++ s4)).passed ≡ t4 = passed-after front s4 b ∙ ap (λ l. l ++ t4) (none-first r d g b) in
       let e5 : (play c (begun E b) (front ++ s4 ++ s5)).passed ≡ t4 =
-      passed-behind (front ++ s4) s5 b ∙ (λ i. e4 i ++ none-permutation d g.permutation g.terminals (play c (begun E b) (front ++ s4)).state i) ∙ append-nil t4 in
-      passed-behind (front ++ s4 ++ s5) s6 b ∙ (λ i. e5 i ++ none-quotient g.quotient g.randomization (play c (begun E b) (front ++ s4 ++ s5)).state i) ∙ append-nil t4
+      passed-after (front ++ s4) s5 b ∙ (λ i. e4 i ++ none-permutation d g.permutation g.terminals (play c (begun E b) (front ++ s4)).state i) ∙ append-nil t4 in
+      passed-after (front ++ s4 ++ s5) s6 b ∙ (λ i. e5 i ++ none-quotient g.quotient g.randomization (play c (begun E b) (front ++ s4 ++ s5)).state i) ∙ append-nil t4
 
   reads-tests : (r : Ring E) (d n bits : ℕ) (w : Option F) (s : S) (t : Transcript S E) (o : Bool)
       → t.passed ≡ (play c (begun E s) (pair_script d n bits w)).passed ++ o ∷ []
@@ -137,7 +137,7 @@ module _ {S F E M : Type 0} (c : ChallengerOf S F E M) where
   )
 
   -- both answers of the fold, at the states where the grinding phases begin
-  both-tests : (f : Ring F) (r : Ring E) (d : ℕ) (initial : S) (s : Shape) (g : Given F E M) (z : S)
+  both-tests : (f : Ring F) (r : Ring E) (d : ℕ) (initial : S) (s : BatchShapeData) (g : Given F E M) (z : S)
       → z ≡ (play c (begun E (seeded c f d s initial)) (script_to_ood r d s g)).state
       → ((draws c f r d initial s g).ood_passed ≡ passes c z s.ood_pow_bits (Elements (g.ood_witness ∷ [])))
       × (is_positive s.num_lookup_instances ≡ true → (draws c f r d initial s g).lookup_passed
@@ -152,7 +152,7 @@ module _ {S F E M : Type 0} (c : ChallengerOf S F E M) where
       let t = play c (begun E b) (script_to_opening r d s g) in
       let o = passes c z s.ood_pow_bits (Elements (g.ood_witness ∷ [])) in
       let e : t.passed ≡ (play c (begun E s3) pair).passed ++ o ∷ [] =
-      passed-behind front (ood_script d s.ood_pow_bits g.ood_witness) b
+      passed-after front (ood_script d s.ood_pow_bits g.ood_witness) b
       ∙ (λ i. pair-first r d s g b i ++ one-ood d s.ood_pow_bits g.ood_witness (play c (begun E b) front).state i)
       ∙ ap (λ y. (play c (begun E s3) pair).passed ++ passes c y s.ood_pow_bits (Elements (g.ood_witness ∷ [])) ∷ []) (sym h) in
       let k = reads-tests r d n s.lookup_pow_bits g.lookup_witness s3 t o e in

@@ -5,10 +5,10 @@ use Rattle.std.proofs.lemmas.Nat.{from_be_bytes-to_be_bytes_8}
 use Rattle.std.proofs.lemmas.List.{append_cancel_left, length-map}
 use Rattle.std.proofs.lemmas.List.Elements.{All-head, All-tail}
 use Rattle.p3_challenger.specs.Separator.{eight_bytes}
-use Rattle.p3_challenger.specs.States.{behind, next_bits}
+use Rattle.p3_challenger.specs.States.{steps_after_next, next_bits}
 use Rattle.p3_challenger.specs.declared.script.Interaction.{Interaction}
-use Rattle.batch_transcript.specs.Shapes.{IsWithin, AreSame, TellsShapes}
-use Rattle.batch_transcript.specs.BatchScript.{Shape, pattern, instance_label, from_main, from_preprocessed, from_lookup, from_permutation, from_quotient, from_ood, from_opening, degree_bits_step, main_commitment_step, public_values_step, preprocessed_commitment_step, lookup_terminal_step, constraint_challenge_step, quotient_commitment_step, randomization_commitment_step, permutation_steps, pair_steps, only_with, is_positive, closing_steps}
+use Rattle.batch_transcript.specs.Shapes.{IsShapeWithin, AreSame, TellsShapes}
+use Rattle.batch_transcript.specs.BatchScript.{BatchShapeData, pattern, instance_label, from_main, from_preprocessed, from_lookup, from_permutation, from_quotient, from_ood, from_opening, degree_bits_step, main_commitment_step, public_values_step, preprocessed_commitment_step, lookup_terminal_step, constraint_challenge_step, quotient_commitment_step, randomization_commitment_step, permutation_steps, pair_steps, only_with, is_positive, closing_steps}
 
 -- two lists whose fronts have one length are equal part by part
 pub parts-equal : {A : Type 0} (us vs xs ys : List A) → length us ≡ length vs → us ++ xs ≡ vs ++ ys → (us ≡ vs) × (xs ≡ ys)
@@ -53,36 +53,36 @@ tag (s ∷ rest) = length s.label
 
 with-inj : (x : Interaction) (b c : Bool) (R Q : List Interaction) → (tag R ≡ length x.label → ⊥) → (tag Q ≡ length x.label → ⊥)
     → only_with b x ++ R ≡ only_with c x ++ Q → (b ≡ c) × (R ≡ Q)
-with-inj x true true R Q h k e = (refl, ap behind e)
+with-inj x true true R Q h k e = (refl, ap steps_after_next e)
 with-inj x false false R Q h k e = (refl, e)
 with-inj x true false R Q h k e = absurd (k (sym (ap tag e)))
 with-inj x false true R Q h k e = absurd (h (ap tag e))
 
 terminals-inj : (d n m : ℕ) (R Q : List Interaction)
     → replicate n (lookup_terminal_step d) ++ constraint_challenge_step d ∷ R ≡ replicate m (lookup_terminal_step d) ++ constraint_challenge_step d ∷ Q → (n ≡ m) × (R ≡ Q)
-terminals-inj d zero zero R Q e = (refl, ap behind e)
+terminals-inj d zero zero R Q e = (refl, ap steps_after_next e)
 terminals-inj d zero (suc m) R Q e = let t : 20 ≡ 15 = ap tag e in absurd (omega (arith, t))
 terminals-inj d (suc n) zero R Q e = let t : 15 ≡ 20 = ap tag e in absurd (omega (arith, t))
-terminals-inj d (suc n) (suc m) R Q e = let r = terminals-inj d n m R Q (ap behind e) in (ap suc r.0, r.1)
+terminals-inj d (suc n) (suc m) R Q e = let r = terminals-inj d n m R Q (ap steps_after_next e) in (ap suc r.0, r.1)
 
 lookups-inj : (d n m b c : ℕ) (R Q : List Interaction)
     → pair_steps d n b ++ (permutation_steps d n ++ constraint_challenge_step d ∷ R) ≡ pair_steps d m c ++ (permutation_steps d m ++ constraint_challenge_step d ∷ Q)
     → (n ≡ m) × (is_positive n ≡ true → b ≡ c) × (R ≡ Q)
-lookups-inj d zero zero b c R Q e = (refl, λ h. cc, ap behind e)
+lookups-inj d zero zero b c R Q e = (refl, λ h. cc, ap steps_after_next e)
 lookups-inj d zero (suc m) b c R Q e = let t : 20 ≡ 10 = ap tag e in absurd (omega (arith, t))
 lookups-inj d (suc n) zero b c R Q e = let t : 10 ≡ 20 = ap tag e in absurd (omega (arith, t))
 lookups-inj d (suc n) (suc m) b c R Q e =
-    let r = terminals-inj d (suc n) (suc m) R Q (ap (λ l. behind (behind (behind (behind l)))) e) in
+    let r = terminals-inj d (suc n) (suc m) R Q (ap (λ l. steps_after_next (steps_after_next (steps_after_next (steps_after_next l)))) e) in
     (r.0, λ h. ap next_bits e, r.1)
 
 publics-inj : (ms ns : List ℕ) → map public_values_step ms ≡ map public_values_step ns → ms ≡ ns
 publics-inj [] [] e = refl
 publics-inj [] (n ∷ ns) e = cc
 publics-inj (m ∷ ms) [] e = cc
-publics-inj (m ∷ ms) (n ∷ ns) e = let h : m ≡ n = ap next_bits e in let r = publics-inj ms ns (ap behind e) in λ i. h i ∷ r i
+publics-inj (m ∷ ms) (n ∷ ns) e = let h : m ≡ n = ap next_bits e in let r = publics-inj ms ns (ap steps_after_next e) in λ i. h i ∷ r i
 
 -- the label gives back the number of instances and both widths of each
-pub label-tells : (s t : Shape) → IsWithin s → IsWithin t → instance_label s ≡ instance_label t
+pub label-tells : (s t : BatchShapeData) → IsShapeWithin s → IsShapeWithin t → instance_label s ≡ instance_label t
     → (s.trace_widths ≡ t.trace_widths) × (s.preprocessed_widths ≡ t.preprocessed_widths)
 unfolding instance_label
 label-tells s t hs ht e =
@@ -97,13 +97,13 @@ label-tells s t hs ht e =
     let p : flat_map eight_bytes s.preprocessed_widths ++ [] ≡ flat_map eight_bytes t.preprocessed_widths ++ [] = ap (λ x. x ++ []) w.1 in
     (w.0, (numbers-tell s.preprocessed_widths t.preprocessed_widths [] [] l hs.preprocessed_fits ht.preprocessed_fits p).0)
 
--- no step of the lookups or behind them is that of a preprocessed commitment
+-- no step of the lookups or after them is that of a preprocessed commitment
 lookup-tag : (d n b : ℕ) (R : List Interaction) → tag (pair_steps d n b ++ (permutation_steps d n ++ constraint_challenge_step d ∷ R)) ≡ length preprocessed_commitment_step.label → ⊥
 lookup-tag d zero b R e = let t : 20 ≡ 23 = e in omega (arith, t)
 lookup-tag d (suc n) b R e = let t : 10 ≡ 23 = e in omega (arith, t)
 
 -- shapes within the bounds have equal pattern and label exactly if they are equal
-pub shapes-tell : (d : ℕ) (s t : Shape) → IsWithin s → IsWithin t → pattern d s ≡ pattern d t → instance_label s ≡ instance_label t → AreSame s t
+pub shapes-tell : (d : ℕ) (s t : BatchShapeData) → IsShapeWithin s → IsShapeWithin t → pattern d s ≡ pattern d t → instance_label s ≡ instance_label t → AreSame s t
 unfolding pattern from_main from_preprocessed from_lookup from_permutation from_quotient from_ood from_opening
 shapes-tell d s t hs ht e l =
     let w = label-tells s t hs ht l in
@@ -111,12 +111,12 @@ shapes-tell d s t hs ht e l =
     append_cancel_left (map (λ _. degree_bits_step d) s.trace_widths) (from_main d s) (from_main d t) (e ∙ ap (λ x. map (λ _. degree_bits_step d) x ++ from_main d t) (sym w.0)) in
     let counts : length (map public_values_step s.public_value_counts) ≡ length (map public_values_step t.public_value_counts) =
     length-map s.public_value_counts public_values_step ∙ hs.publics ∙ ap length w.0 ∙ sym ht.publics ∙ sym (length-map t.public_value_counts public_values_step) in
-    let p = parts-equal (map public_values_step s.public_value_counts) (map public_values_step t.public_value_counts) (from_preprocessed d s) (from_preprocessed d t) counts (ap behind main) in
+    let p = parts-equal (map public_values_step s.public_value_counts) (map public_values_step t.public_value_counts) (from_preprocessed d s) (from_preprocessed d t) counts (ap steps_after_next main) in
     let q = with-inj preprocessed_commitment_step s.has_preprocessed_commitment t.has_preprocessed_commitment (from_lookup d s) (from_lookup d t)
     (lookup-tag d s.num_lookup_instances s.lookup_pow_bits (from_quotient d s)) (lookup-tag d t.num_lookup_instances t.lookup_pow_bits (from_quotient d t)) p.1 in
     let k = lookups-inj d s.num_lookup_instances t.num_lookup_instances s.lookup_pow_bits t.lookup_pow_bits (from_quotient d s) (from_quotient d t) q.1 in
     let z = with-inj randomization_commitment_step s.has_randomization_commitment t.has_randomization_commitment (from_ood d s) (from_ood d t)
-    (λ h. let c : 7 ≡ 24 = h in omega (arith, c)) (λ h. let c : 7 ≡ 24 = h in omega (arith, c)) (ap behind k.2) in record {
+    (λ h. let c : 7 ≡ 24 = h in omega (arith, c)) (λ h. let c : 7 ≡ 24 = h in omega (arith, c)) (ap steps_after_next k.2) in record {
       trace_widths = w.0;
       public_value_counts = publics-inj s.public_value_counts t.public_value_counts p.0;
       preprocessed_widths = w.1;
@@ -132,7 +132,7 @@ same-pair d zero b c h = refl
 same-pair d (suc n) b c h = ap (λ x. pair_steps d (suc n) x) (h refl)
 
 -- the other way
-pub same-pattern : (d : ℕ) (s t : Shape) → AreSame s t → pattern d s ≡ pattern d t
+pub same-pattern : (d : ℕ) (s t : BatchShapeData) → AreSame s t → pattern d s ≡ pattern d t
 unfolding pattern from_main from_preprocessed from_lookup from_permutation from_quotient from_ood from_opening
 same-pattern d s t h =
     let pair : pair_steps d s.num_lookup_instances s.lookup_pow_bits ≡ pair_steps d t.num_lookup_instances t.lookup_pow_bits =
@@ -143,7 +143,7 @@ same-pattern d s t h =
     ++ (pair i ++ (permutation_steps d (h.lookups i) ++ constraint_challenge_step d ∷ quotient_commitment_step ∷ (only_with (h.randomization i) randomization_commitment_step
     ++ closing_steps d (h.ood_bits i))))))
 
-pub same-label : (s t : Shape) → AreSame s t → instance_label s ≡ instance_label t
+pub same-label : (s t : BatchShapeData) → AreSame s t → instance_label s ≡ instance_label t
 unfolding instance_label
 same-label s t h = λ i. eight_bytes (length (h.trace_widths i)) ++ flat_map eight_bytes (h.trace_widths i) ++ flat_map eight_bytes (h.preprocessed_widths i)
 

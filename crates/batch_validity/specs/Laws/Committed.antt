@@ -4,7 +4,7 @@ use Rattle.std.proofs.Common.{◌≡◌, ℕ, true, false, List, [], get_or, ref
 use Rattle.std.specs.Prelude.{All}
 use Rattle.p3_field.specs.Field.{TwoAdic, Extension}
 use Rattle.p3_matrix.specs.Matrix.{Rows}
-use Rattle.p3_air.specs.Check.{Table as Traces}
+use Rattle.p3_air.specs.Check.{TableTraces as Traces}
 use Rattle.p3_air.specs.declared.cells.Cell.{Cell}
 use Rattle.p3_air.specs.declared.cells.Cell.TheVariants.{Main, Preprocessed, Periodic, Public, FirstRow, LastRow, Transition}
 use Rattle.p3_air.specs.declared.cells.ExtCell.{ExtCell}
@@ -13,8 +13,8 @@ use Rattle.p3_air.specs.CellValues.{cell_in, ext_cell_in}
 use Rattle.p3_air.specs.Laws.Maps.{one_declared_value}
 use Rattle.p3_air.specs.Shape.{Declaration, DeclaresExt, ReadsDeclared, declared_shape}
 use Rattle.p3_air.specs.Tree.{Tree}
-use Rattle.committed_tables.specs.Committed.{CommittedTable, Holds, periodic_poly, row_point, values_at}
-use Rattle.committed_tables.specs.Traces.{HaveRows, IsTall, committed_traces}
+use Rattle.committed_tables.specs.Committed.{CommittedTable, Holds, periodic_poly, row_point, committed_values_at}
+use Rattle.committed_tables.specs.Traces.{HaveTraceRows, IsTall, committed_traces}
 use Rattle.batch_validity.specs.Traced.{no_rows}
 
 module _ {F E : Type 0} (f : TwoAdic F) (e : Extension F E) (traces : Traces F) (k : ℕ) where
@@ -26,7 +26,7 @@ module _ {F E : Type 0} (f : TwoAdic F) (e : Extension F E) (traces : Traces F) 
     with = committed_traces f e traces columns challenges terminals k
 
     -- cells but those of the extension have the same values at a point
-    same_cells : (x : E) (c : Cell) → cell_in e.ring.zero (values_at f e alone x) c ≡ cell_in e.ring.zero (values_at f e with x) c
+    same_cells : (x : E) (c : Cell) → cell_in e.ring.zero (committed_values_at f e alone x) c ≡ cell_in e.ring.zero (committed_values_at f e with x) c
     unfolding periodic_poly
     same_cells x (Main true j) = refl
     same_cells x (Main false j) = refl
@@ -48,14 +48,14 @@ module _ {F E : Type 0} (f : TwoAdic F) (e : Extension F E) (traces : Traces F) 
     pub holds_beside : (d : Declaration F) (trees : List (Tree F)) → All (ReadsDeclared (declared_shape d)) trees → Holds f e alone trees → Holds f e with trees
     holds_beside d trees reads own i h j u l =
         let x = row_point f e alone i in
-        let v = values_at f e alone x in
-        let w = values_at f e with x in
+        let v = committed_values_at f e alone x in
+        let w = committed_values_at f e with x in
         sym (one_declared_value e.ring e.embed (cell_in e.ring.zero v) (cell_in e.ring.zero w) (ext_cell_in e.ring.zero v) (ext_cell_in e.ring.zero w) (declared_shape d) (get_or trees j u)
         (λ c _. same_cells x c) (λ c q. absurd (none_declared d c q)) (reads j u l))
         ∙ own i h j u l
 
 -- traces that have rows without permutation columns have them with columns of that height, and are committed to
-pub rows_beside : {F E : Type 0} (n : ℕ) (traces : Traces F) (columns : Rows E) → HaveRows {E = E} n traces no_rows → IsTall n columns → HaveRows n traces columns
+pub rows_beside : {F E : Type 0} (n : ℕ) (traces : Traces F) (columns : Rows E) → HaveTraceRows {E = E} n traces no_rows → IsTall n columns → HaveTraceRows n traces columns
 rows_beside n traces columns H T = record { tall = H.tall; main = H.main; preprocessed = H.preprocessed; permutation = T; periods = H.periods }
 
 pub no_rows_tall : {E : Type 0} (n : ℕ) → IsTall {F = E} n no_rows

@@ -3,12 +3,12 @@ use Rattle.std.proofs.Common.{◌≡◌, ℕ, zero, suc, ◌<◌, List, [], ◌�
 use Rattle.std.specs.List.{flat_map}
 use Rattle.std.proofs.lemmas.Grind.{flat_map-append}
 use Rattle.p3_field.specs.Domain.{CosetData}
-use Rattle.p3_field.specs.Laws.Tables.{get_or-table, table_more}
-use Rattle.p3_field.specs.Poly.{table}
+use Rattle.p3_field.specs.Laws.Tabulate.{get_or-tabulate, tabulate_more}
+use Rattle.p3_field.specs.Poly.{tabulate}
 use Rattle.p3_matrix.specs.Matrix.{Rows}
-use Rattle.batch_claims.specs.ClaimChecks.{HasBits}
+use Rattle.batch_claims.specs.ClaimChecks.{HasDegreeBits}
 use Rattle.batch_setup.specs.Packed.{Source}
-use Rattle.batch_setup.specs.Preprocessed.{IsPrepared, committed_at, committed_below, entry_at, entry_with, on_domain, trace_at}
+use Rattle.batch_setup.specs.Preprocessed.{IsPrepared, committed_trace_at, committed_below, entry_at, entry_with, on_domain, trace_at}
 use Rattle.batch_shape_checks.specs.ShapeChecks.{HasEntries}
 use Rattle.batch_statement.specs.Statement.{PreprocessedTracesData, entry_of}
 use Rattle.batch_statement.specs.declared.preprocessed.PreprocessedInstanceMeta.{PreprocessedInstanceMeta}
@@ -44,26 +44,26 @@ module _ {F C P : Type 0} (commits : List (CosetData F × Rows F) → C × P →
   made_entry Q i none each (e ∷ es) (Some g) (Some d) h = subst (λ l. Q (get_or l i None)) (sym h.0) each
 
 module _ {F : Type 0} (one : F) (sources : List (Source F)) (degree_bits : List ℕ) where
-  bits_with : (m b : ℕ) (o : Option (Rows F)) → HasBits b (entry_with m b o)
+  bits_with : (m b : ℕ) (o : Option (Rows F)) → HasDegreeBits b (entry_with m b o)
   bits_with m b None = tt
   bits_with m b (Some t) = refl
 
   -- a table's entry has its degree bits
-  pub entry_bits : (n i : ℕ) → i < n → HasBits (get_or degree_bits i 0) (get_or (table n (entry_at one sources degree_bits)) i None)
+  pub entry_bits : (n i : ℕ) → i < n → HasDegreeBits (get_or degree_bits i 0) (get_or (tabulate n (entry_at one sources degree_bits)) i None)
   entry_bits n i h =
-      subst (HasBits (get_or degree_bits i 0)) (sym (get_or-table n (entry_at one sources degree_bits) i None h))
+      subst (HasDegreeBits (get_or degree_bits i 0)) (sym (get_or-tabulate n (entry_at one sources degree_bits) i None h))
       (bits_with (length (committed_below one sources degree_bits i)) (get_or degree_bits i 0) (trace_at sources i))
 
   -- what is committed for AIRs are the preprocessed traces of their tables
-  pub matrices_are : (u : ℕ → TracedTable F) (n : ℕ) → ((i : ℕ) → i < n → on_domain one (u i).degree_bits (declared (u i)).preprocessed ≡ committed_at one sources degree_bits i)
-      → committed_below one sources degree_bits n ≡ preprocessed_matrices one (table n u)
+  pub matrices_are : (u : ℕ → TracedTable F) (n : ℕ) → ((i : ℕ) → i < n → on_domain one (u i).degree_bits (declared (u i)).preprocessed ≡ committed_trace_at one sources degree_bits i)
+      → committed_below one sources degree_bits n ≡ preprocessed_matrices one (tabulate n u)
   matrices_are u zero same = refl
   matrices_are u (suc n) same =
       let g = λ (t : TracedTable F). on_domain one t.degree_bits (declared t).preprocessed in
-      let last : committed_at one sources degree_bits n ≡ flat_map g (u n ∷ []) = sym (same n (omega arith)) ∙ sym (append_nothing (g (u n))) in
+      let last : committed_trace_at one sources degree_bits n ≡ flat_map g (u n ∷ []) = sym (same n (omega arith)) ∙ sym (append_nothing (g (u n))) in
       (λ j. matrices_are u n (λ i h. same i (omega (arith, h))) j ++ last j)
-      ∙ (sym (flat_map-append g (table n u) (u n ∷ []))
-      ∙ ap (flat_map g) (table_more n u ∙ ap (λ m. table m u) (add-one n)))
+      ∙ (sym (flat_map-append g (tabulate n u) (u n ∷ []))
+      ∙ ap (flat_map g) (tabulate_more n u ∙ ap (λ m. tabulate m u) (add-one n)))
 
 -- what is prepared by one relation of commitments is prepared by a weaker one
 pub prepared_more : {T C P : Type 0} (Q R : List T → C × P → Type 0) → ((es : List T) (w : C × P) → Q es w → R es w) → (entries : List (Option PreprocessedInstanceMeta)) (es : List T) (p : Option (PreprocessedTracesData C)) (kept : Option P)

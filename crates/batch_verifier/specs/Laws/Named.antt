@@ -10,38 +10,38 @@ use Rattle.p3_uni_stark.specs.declared.error.VerificationError.{VerificationErro
 use Rattle.batch_claims.specs.Claims.{claims, matrix_tables}
 use Rattle.batch_draws.specs.Draws.{drawn, grinding_checks, lookup_grinding, ood_grinding, script_shape}
 use Rattle.batch_identity_checks.specs.TableIdentity.{verified}
-use Rattle.batch_openings.specs.OpeningChecks.{bounds_of, claim_checks, claimed, domain_checks, metadata_check, opening_checks, opens_check}
+use Rattle.batch_openings.specs.OpeningChecks.{shape_bounds_of, claim_checks, claimed, domain_checks, metadata_check, opening_checks, opens_check}
 use Rattle.batch_setting.specs.Setting.{Setting, Backend}
-use Rattle.batch_shape_checks.specs.ShapeChecks.{Bounds, bound_at, bound_part, chunk_checks, count_checks, heights_of, lookup_checks, main_checks, next_check, no_opened, no_table, opened_checks, opened_part, permutation_check, preprocessed_checks, shape_checks, size_part, sizes_at, table_checks}
+use Rattle.batch_shape_checks.specs.ShapeChecks.{Bounds, bound_at, bus_bound_part, chunk_checks, count_checks, heights_of, lookup_checks, main_checks, next_check, no_opened, no_table, opened_checks, opened_part, permutation_check, preprocessed_checks, shape_checks, size_part, sizes_at, table_checks}
 use Rattle.batch_statement.specs.Proof.{OpenedWithLookups, ProofData}
 use Rattle.batch_statement.specs.Statement.{Statement}
 use Rattle.batch_statement.specs.declared.error.BatchVerificationError.{BatchVerificationError}
 use Rattle.batch_statement.specs.declared.error.BatchVerificationError.TheVariants.{Verification, Lookup, Transcript, OutOfMemory}
-use Rattle.batch_verifier.specs.BatchChecks.{challenges_of, checks, domains_of, draw_part, drawn_of, identities_at, identity_part}
+use Rattle.batch_verifier.specs.BatchChecks.{all_lookup_challenges, checks, domains_of, draw_part, drawn_of, identities_at, identity_part}
 use Rattle.batch_verifier.specs.Laws.Parts.{opening_part, shape_part, terminal_part}
 
 -- an error that says something of the proof
-abbrev pub IsFault : {R : Type 0} → BatchVerificationError R → Type 0
-IsFault (Verification e) = ⊤
-IsFault (Lookup e) = ⊤
-IsFault (Transcript e) = ⊤
-IsFault OutOfMemory = ⊥
+abbrev pub IsProofFault : {R : Type 0} → BatchVerificationError R → Type 0
+IsProofFault (Verification e) = ⊤
+IsProofFault (Lookup e) = ⊤
+IsProofFault (Transcript e) = ⊤
+IsProofFault OutOfMemory = ⊥
 
 -- so does each check's refusal
 unfoldable pub AreFaults : {R : Type 0} → List (Check (BatchVerificationError R)) → Type 0
 AreFaults [] = ⊤
-AreFaults {R} (c ∷ cs) = ((e : BatchVerificationError R) → c.refusal e → IsFault e) × AreFaults cs
+AreFaults {R} (c ∷ cs) = ((e : BatchVerificationError R) → c.refusal e → IsProofFault e) × AreFaults cs
 
 faults_none : (R : Type 0) → AreFaults {R = R} []
 unfolding AreFaults
 faults_none R = tt
 
 module _ {R : Type 0} where
-  faults_check : (r : BatchVerificationError R) (P : Type 0) (cs : List (Check (BatchVerificationError R))) → IsFault r → AreFaults cs → AreFaults (check r P ∷ cs)
+  faults_check : (r : BatchVerificationError R) (P : Type 0) (cs : List (Check (BatchVerificationError R))) → IsProofFault r → AreFaults cs → AreFaults (check r P ∷ cs)
   unfolding AreFaults
-  faults_check r P cs f s = (λ e same. subst IsFault (sym same) f, s)
+  faults_check r P cs f s = (λ e same. subst IsProofFault (sym same) f, s)
 
-  faults_before : (c : Check (BatchVerificationError R)) (cs : List (Check (BatchVerificationError R))) → ((e : BatchVerificationError R) → c.refusal e → IsFault e) → AreFaults cs
+  faults_before : (c : Check (BatchVerificationError R)) (cs : List (Check (BatchVerificationError R))) → ((e : BatchVerificationError R) → c.refusal e → IsProofFault e) → AreFaults cs
       → AreFaults (c ∷ cs)
   unfolding AreFaults
   faults_before c cs f s = (f, s)
@@ -57,7 +57,7 @@ module _ {R : Type 0} where
   faults_in_turn f (suc n) h = faults_append (in_turn n f) (f n) (faults_in_turn f n h) (h n)
 
   -- so does the first that fails
-  pub first_is_fault : (cs : List (Check (BatchVerificationError R))) (e : BatchVerificationError R) → AreFaults cs → FirstFails cs e → IsFault e
+  pub first_is_fault : (cs : List (Check (BatchVerificationError R))) (e : BatchVerificationError R) → AreFaults cs → FirstFails cs e → IsProofFault e
   unfolding FirstFails AreFaults
   first_is_fault [] e s f = absurd f
   first_is_fault (c ∷ cs) e s f = elim f [ inl t ↦ first_is_fault cs e s.1 t.1 | inr t ↦ s.0 e t.1 ]
@@ -104,7 +104,7 @@ module _ {F E C P : Type 0} (R : Type 0) (f : Ring F) (b : Bounds) (s : Statemen
       faults_in_turn (sizes_at {R = R} f b.least b.most b.masks s.tables s.common.lookups p.degree_bits) (length s.tables)
       (λ i. faults_check _ _ _ tt (faults_check _ _ _ tt (faults_check _ _ _ tt (faults_none _))))
 
-  buses_faults : AreFaults (bound_part {R = R} b s p)
+  buses_faults : AreFaults (bus_bound_part {R = R} b s p)
   buses_faults =
       faults_in_turn (bound_at {R = R} b.order s.common.lookups (heights_of b.masks p.degree_bits (length s.tables))) (bus_count (batch_buses s.common.lookups))
       (λ i. faults_check _ _ _ tt (faults_none _))
@@ -122,7 +122,7 @@ module _ {F E C P : Type 0} (R : Type 0) (f : Ring F) (b : Bounds) (s : Statemen
   shape_faults =
       let counts = count_checks {R = R} b.zk s p in
       let sizes = size_part {R = R} f b s p in
-      let bounds = bound_part {R = R} b s p in
+      let bounds = bus_bound_part {R = R} b s p in
       let opened = opened_part {R = R} f b s p in
       faults_append (counts ++ sizes ++ bounds ++ opened) (permutation_check s p)
       (faults_append (counts ++ sizes ++ bounds) opened (faults_append (counts ++ sizes) bounds (faults_append counts sizes counts_faults sizes_faults) buses_faults) opened_faults)
@@ -139,7 +139,7 @@ ood_faults R z bits w passed = faults_check _ _ _ tt (faults_check _ _ _ tt (fau
 -- those of a table's identity
 verified_faults : {R : Type 0} (cs : List (Check (VerificationError R))) → AreFaults (map verified cs)
 verified_faults [] = faults_none _
-verified_faults (c ∷ cs) = faults_before (verified c) (map verified cs) (λ e r. subst IsFault (sym r.2) tt) (verified_faults cs)
+verified_faults (c ∷ cs) = faults_before (verified c) (map verified cs) (λ e r. subst IsProofFault (sym r.2) tt) (verified_faults cs)
 
 -- all of them
 module _ {S F E C P R : Type 0} (c : Setting S F E C) (b : Backend S F E C P R) (s : Statement F C) (p : ProofData F E C P) where
@@ -163,12 +163,12 @@ module _ {S F E C P R : Type 0} (c : Setting S F E C) (b : Backend S F E C P R) 
   openings_faults zeta state =
       let made = claims c (claimed c s p) zeta in
       faults_append (claim_checks c s p) (opens_check b state made p.opening_proof) claims_faults
-      (faults_before _ [] (λ e r. subst IsFault (sym r.2) tt) (faults_none _))
+      (faults_before _ [] (λ e r. subst IsProofFault (sym r.2) tt) (faults_none _))
 
   tables_faults : AreFaults (identity_part c s p {R = R})
   tables_faults =
-      faults_in_turn (identities_at c s p {R = R} (challenges_of c s p) (domains_of c s p) (drawn_of c s p).alpha (drawn_of c s p).zeta) (length s.tables)
-      (λ i. faults_before _ _ (λ e r. subst IsFault (sym r.2) tt) (verified_faults _))
+      faults_in_turn (identities_at c s p {R = R} (all_lookup_challenges c s p) (domains_of c s p) (drawn_of c s p).alpha (drawn_of c s p).zeta) (length s.tables)
+      (λ i. faults_before _ _ (λ e r. subst IsProofFault (sym r.2) tt) (verified_faults _))
 
   checks_faults : AreFaults (checks c b s p)
   unfolding checks
@@ -179,7 +179,7 @@ module _ {S F E C P R : Type 0} (c : Setting S F E C) (b : Backend S F E C P R) 
       let identities = identity_part c s p {R = R} in
       faults_append (shape ++ draws ++ openings ++ identities) (terminal_part c b s p)
       (faults_append (shape ++ draws ++ openings) identities
-      (faults_append (shape ++ draws) openings (faults_append shape draws (shape_faults R c.field.ring (bounds_of c) s p) draws_faults)
+      (faults_append (shape ++ draws) openings (faults_append shape draws (shape_faults R c.field.ring (shape_bounds_of c) s p) draws_faults)
       (openings_faults (drawn_of c s p).zeta (drawn_of c s p).opening)) tables_faults)
       (faults_check _ _ _ tt (faults_none _))
 

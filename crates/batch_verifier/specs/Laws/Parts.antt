@@ -2,7 +2,7 @@
 use Rattle.std.proofs.Common.{◌≡◌, ℕ, List, length, Result, ◌∙◌, ap, subst}
 use Rattle.p3_field.specs.Checks.{Check, NoneFails, in_turn}
 use Rattle.p3_field.specs.Domain.{CosetData}
-use Rattle.p3_field.specs.Poly.{table}
+use Rattle.p3_field.specs.Poly.{tabulate}
 use Rattle.batch_claims.specs.Claims.{bits_at}
 use Rattle.batch_setting.specs.Domains.{chunk_domains}
 use Rattle.batch_setting.specs.Setting.{Setting, Backend}
@@ -12,7 +12,7 @@ use Rattle.batch_statement.specs.declared.error.BatchVerificationError.{BatchVer
 use Rattle.batch_shape_checks.specs.ShapeChecks.{shape_checks}
 use Rattle.batch_shape_checks.specs.Verdict.{IsDecided, IsVerdict, IsRefusal}
 use Rattle.batch_shape_checks.specs.Laws.Verdicts.{first_of_five, second_of_five, third_of_five, fourth_of_five, last_of_five, verdict}
-use Rattle.batch_openings.specs.OpeningChecks.{bounds_of, log_chunks, opening_checks}
+use Rattle.batch_openings.specs.OpeningChecks.{shape_bounds_of, log_chunks_of_table, opening_checks}
 use Rattle.batch_identity_checks.specs.TableIdentity.{terminal_check}
 use Rattle.batch_verifier.specs.BatchChecks.{checks, draw_part, drawn_of, identities_at, identity_part, table_challenges_of}
 
@@ -24,7 +24,7 @@ module _ {S F E C P R : Type 0} (c : Setting S F E C) (b : Backend S F E C P R) 
   terminal_part = terminal_check c.extension.ring p.lookup_terminals
 
   abbrev pub shape_part : List (Check (BatchVerificationError R))
-  shape_part = shape_checks c.field.ring (bounds_of c) s p
+  shape_part = shape_checks c.field.ring (shape_bounds_of c) s p
 
   pub refused_by_shape : (e : BatchVerificationError R) → IsRefusal shape_part e → IsRefusal (checks c b s p) e
   unfolding checks
@@ -53,13 +53,13 @@ module _ {S F E C P R : Type 0} (c : Setting S F E C) (b : Backend S F E C P R) 
   opening_same zeta state ez es = λ j. opening_checks c b s p (ez j) (es j)
 
   abbrev pub own_domains : ℕ → List (CosetData F)
-  own_domains i = chunk_domains c (bits_at p.degree_bits i) (log_chunks c s p i)
+  own_domains i = chunk_domains c (bits_at p.degree_bits i) (log_chunks_of_table c s p i)
 
-  pub identity_same : (n : ℕ) (cs : List (List E)) (ds : List (List (CosetData F))) (alpha zeta : E) → n ≡ length s.tables → cs ≡ table n (table_challenges_of c s p) → ds ≡ table n own_domains
+  pub identity_same : (n : ℕ) (cs : List (List E)) (ds : List (List (CosetData F))) (alpha zeta : E) → n ≡ length s.tables → cs ≡ tabulate n (table_challenges_of c s p) → ds ≡ tabulate n own_domains
       → alpha ≡ (drawn_of c s p).alpha → zeta ≡ (drawn_of c s p).zeta → in_turn n (identities_at c s p {R = R} cs ds alpha zeta) ≡ identity_part c s p
   identity_same n cs ds alpha zeta en ec ed ea ez =
-      let challenges = ec ∙ ap (λ k. table k (table_challenges_of c s p)) en in
-      let domains = ed ∙ ap (λ k. table k own_domains) en in
+      let challenges = ec ∙ ap (λ k. tabulate k (table_challenges_of c s p)) en in
+      let domains = ed ∙ ap (λ k. tabulate k own_domains) en in
       λ j. in_turn (en j) (identities_at c s p {R = R} (challenges j) (domains j) (ea j) (ez j))
 
   pub refused_at_openings : (zeta : E) (state : S) (e : BatchVerificationError R) → zeta ≡ (drawn_of c s p).zeta → state ≡ (drawn_of c s p).opening → NoneFails shape_part
@@ -71,13 +71,13 @@ module _ {S F E C P R : Type 0} (c : Setting S F E C) (b : Backend S F E C P R) 
 
   -- where the tables' identities are refused, and where the terminals decide
   module _ (n : ℕ) (cs : List (List E)) (ds : List (List (CosetData F))) (alpha zeta : E) (state : S) where
-    pub refused_at_identities : (e : BatchVerificationError R) → n ≡ length s.tables → cs ≡ table n (table_challenges_of c s p) → ds ≡ table n own_domains → alpha ≡ (drawn_of c s p).alpha
+    pub refused_at_identities : (e : BatchVerificationError R) → n ≡ length s.tables → cs ≡ tabulate n (table_challenges_of c s p) → ds ≡ tabulate n own_domains → alpha ≡ (drawn_of c s p).alpha
         → zeta ≡ (drawn_of c s p).zeta → state ≡ (drawn_of c s p).opening → NoneFails shape_part → NoneFails (draw_part c s p {R = R}) → NoneFails (opening_checks c b s p zeta state)
         → IsRefusal (in_turn n (identities_at c s p {R = R} cs ds alpha zeta)) e → IsRefusal (checks c b s p) e
     refused_at_identities e en ec ed ea ez es x y z v =
         refused_by_identities e x y (none_at_openings zeta state ez es z) (subst (λ ks. IsRefusal ks e) (identity_same n cs ds alpha zeta en ec ed ea ez) v)
 
-    pub decided_at_terminals : {T : Type 0} (r : Result T (BatchVerificationError R)) → n ≡ length s.tables → cs ≡ table n (table_challenges_of c s p) → ds ≡ table n own_domains → alpha ≡ (drawn_of c s p).alpha
+    pub decided_at_terminals : {T : Type 0} (r : Result T (BatchVerificationError R)) → n ≡ length s.tables → cs ≡ tabulate n (table_challenges_of c s p) → ds ≡ tabulate n own_domains → alpha ≡ (drawn_of c s p).alpha
         → zeta ≡ (drawn_of c s p).zeta → state ≡ (drawn_of c s p).opening → NoneFails shape_part → NoneFails (draw_part c s p {R = R}) → NoneFails (opening_checks c b s p zeta state)
         → NoneFails (in_turn n (identities_at c s p {R = R} cs ds alpha zeta)) → IsDecided terminal_part r → IsVerdict (checks c b s p) r
     decided_at_terminals r en ec ed ea ez es x y z w v =

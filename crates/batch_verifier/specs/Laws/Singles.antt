@@ -12,14 +12,14 @@ use Rattle.p3_uni_stark.specs.declared.error.VerificationError.TheVariants.{Inva
 use Rattle.batch_claims.specs.Claims.{claims, matrix_tables}
 use Rattle.batch_draws.specs.Laws.Singles.{grinding_single}
 use Rattle.batch_identity_checks.specs.Laws.Single.{table_single, terminals_single}
-use Rattle.batch_openings.specs.OpeningChecks.{bounds_of, claim_checks, claimed, domain_checks, metadata_check, opening_checks, opens_check}
+use Rattle.batch_openings.specs.OpeningChecks.{shape_bounds_of, claim_checks, claimed, domain_checks, metadata_check, opening_checks, opens_check}
 use Rattle.batch_setting.specs.Setting.{Setting, Backend, masks}
-use Rattle.batch_shape_checks.specs.ShapeChecks.{Bounds, bound_at, bound_part, chunk_checks, count_checks, heights_of, lookup_checks, main_checks, next_check, no_opened, no_table, opened_checks, opened_part, permutation_check, preprocessed_checks, shape_checks, size_part, sizes_at, table_checks}
+use Rattle.batch_shape_checks.specs.ShapeChecks.{Bounds, bound_at, bus_bound_part, chunk_checks, count_checks, heights_of, lookup_checks, main_checks, next_check, no_opened, no_table, opened_checks, opened_part, permutation_check, preprocessed_checks, shape_checks, size_part, sizes_at, table_checks}
 use Rattle.batch_statement.specs.Proof.{OpenedWithLookups, ProofData}
 use Rattle.batch_statement.specs.Statement.{Statement}
 use Rattle.batch_statement.specs.declared.error.BatchVerificationError.{BatchVerificationError}
 use Rattle.batch_statement.specs.declared.error.BatchVerificationError.TheVariants.{Verification}
-use Rattle.batch_verifier.specs.BatchChecks.{challenges_of, checks, domains_of, draw_part, drawn_of, identities_at, identity_part}
+use Rattle.batch_verifier.specs.BatchChecks.{all_lookup_challenges, checks, domains_of, draw_part, drawn_of, identities_at, identity_part}
 use Rattle.batch_verifier.specs.Laws.Parts.{opening_part, shape_part, terminal_part}
 
 -- a backend has exactly one fault of a proof that doesn't open the claims
@@ -69,7 +69,7 @@ module _ {F E C P : Type 0} (R : Type 0) (f : Ring F) (b : Bounds) (s : Statemen
       single_in_turn (sizes_at {R = R} f b.least b.most b.masks s.tables s.common.lookups p.degree_bits) (length s.tables)
       (λ i. check_single _ _ _ (check_single _ _ _ (check_single _ _ _ (none_single (BatchVerificationError R)))))
 
-  buses_single : AreSingle (bound_part {R = R} b s p)
+  buses_single : AreSingle (bus_bound_part {R = R} b s p)
   buses_single =
       single_in_turn (bound_at {R = R} b.order s.common.lookups (heights_of b.masks p.degree_bits (length s.tables))) (bus_count (batch_buses s.common.lookups))
       (λ i. check_single _ _ _ (none_single (BatchVerificationError R)))
@@ -87,7 +87,7 @@ module _ {F E C P : Type 0} (R : Type 0) (f : Ring F) (b : Bounds) (s : Statemen
   shape_single =
       let counts = count_checks {R = R} b.zk s p in
       let sizes = size_part {R = R} f b s p in
-      let bounds = bound_part {R = R} b s p in
+      let bounds = bus_bound_part {R = R} b s p in
       let opened = opened_part {R = R} f b s p in
       single_append (counts ++ sizes ++ bounds ++ opened) (permutation_check s p)
       (single_append (counts ++ sizes ++ bounds) opened (single_append (counts ++ sizes) bounds (single_append counts sizes counts_single sizes_single) buses_single) opened_single)
@@ -121,9 +121,9 @@ module _ {S F E C P R : Type 0} (c : Setting S F E C) (b : Backend S F E C P R) 
 
   tables_single : AreSingle (identity_part c s p {R = R})
   tables_single =
-      single_in_turn (identities_at c s p {R = R} (challenges_of c s p) (domains_of c s p) (drawn_of c s p).alpha (drawn_of c s p).zeta) (length s.tables)
+      single_in_turn (identities_at c s p {R = R} (all_lookup_challenges c s p) (domains_of c s p) (drawn_of c s p).alpha (drawn_of c s p).zeta) (length s.tables)
       (λ i. table_single R c.field c.extension i (get_or p.degree_bits i 0 - masks c) (get_or s.tables i no_table) (get_or s.common.lookups i []) (get_or s.publics i [])
-      (get_or (challenges_of c s p) i []) (get_or p.lookup_terminals i None) (get_or (domains_of c s p) i []) (drawn_of c s p).alpha (drawn_of c s p).zeta (get_or p.instances i no_opened))
+      (get_or (all_lookup_challenges c s p) i []) (get_or p.lookup_terminals i None) (get_or (domains_of c s p) i []) (drawn_of c s p).alpha (drawn_of c s p).zeta (get_or p.instances i no_opened))
 
   pub checks_single : AreSingle (checks c b s p)
   unfolding checks
@@ -134,7 +134,7 @@ module _ {S F E C P R : Type 0} (c : Setting S F E C) (b : Backend S F E C P R) 
       let identities = identity_part c s p {R = R} in
       single_append (shape ++ draws ++ openings ++ identities) (terminal_part c b s p)
       (single_append (shape ++ draws ++ openings) identities
-      (single_append (shape ++ draws) openings (single_append shape draws (shape_single R c.field.ring (bounds_of c) s p) draws_single)
+      (single_append (shape ++ draws) openings (single_append shape draws (shape_single R c.field.ring (shape_bounds_of c) s p) draws_single)
       (openings_single (drawn_of c s p).zeta (drawn_of c s p).opening)) tables_single)
       (terminals_single R c.extension.ring p.lookup_terminals)
 

@@ -7,26 +7,26 @@ use Rattle.std.proofs.lemmas.List.{length-map, length-reverse}
 use Rattle.std.proofs.lemmas.Bool.{cases_lt, cases_eq}
 use Rattle.p3_field.specs.Ring.{Ring, RingLaws}
 use Rattle.p3_field.specs.Field.{TwoAdic, Extension}
-use Rattle.p3_field.specs.Poly.{val, DegreeBelow, IsZeroPoly, mul_poly}
+use Rattle.p3_field.specs.Poly.{eval_poly, DegreeBelow, IsZeroPoly, mul_poly}
 use Rattle.p3_field.specs.Laws.Algebra.{mul_zero, zero_mul}
 use Rattle.p3_field.specs.Laws.Coeffs.{degree_more, degree_mul, degree_length, degree_length_le}
-use Rattle.p3_field.specs.Laws.Values.{val_mul}
+use Rattle.p3_field.specs.Laws.Values.{eval_mul}
 use Rattle.p3_field.specs.Laws.Roots.{NoZeroDivisors, RootsAt, field_no_zero_divisors, root_count}
 use Rattle.p3_field.specs.Laws.PolyLaws.{poly_no_zero_divisors}
 use Rattle.p3_air.specs.Degree.{full_polynomial_degree}
-use Rattle.p3_air.specs.Tree.{Tree, ev}
+use Rattle.p3_air.specs.Tree.{Tree, eval_tree}
 use Rattle.p3_uni_stark.specs.Laws.FoldPolynomials.{fold_at_challenge, zero_values}
-use Rattle.committed_tables.specs.Committed.{CommittedTable, IsBounded, periods_of, row, rows_of}
+use Rattle.committed_tables.specs.Committed.{CommittedTable, IsBounded, table_periods_of, row, row_count_of}
 use Rattle.committed_tables.specs.Fields.{FieldsLaws}
-use Rattle.committed_tables.specs.Identity.{CommittedQuotient, IsBoundedQuotient, chunks_of, identity_poly}
-use Rattle.committed_tables.specs.Unlucky.{AreDistinct, IsUnluckyZeta, IsUnluckyAlphaAt, IsUnluckyAlpha, row_values}
+use Rattle.committed_tables.specs.Identity.{CommittedQuotient, IsBoundedQuotient, chunk_count_of, identity_poly}
+use Rattle.committed_tables.specs.Unlucky.{AreDistinct, IsUnluckyZeta, IsUnluckyAlphaAt, IsUnluckyAlpha, constraint_values}
 use Rattle.committed_tables.specs.Laws.Decided.{items_decided}
 use Rattle.committed_tables.specs.Laws.IdentityDegree.{identity_degree}
 
 -- fewer roots than the bound of the degree, for a polynomial that isn't zero
-few : {E : Type 0} (s : Ring E) → RingLaws s → NoZeroDivisors s → (m : ℕ) (xs g : List E) → AreDistinct s.zero xs → DegreeBelow s m g
+few_roots_in : {E : Type 0} (s : Ring E) → RingLaws s → NoZeroDivisors s → (m : ℕ) (xs g : List E) → AreDistinct s.zero xs → DegreeBelow s m g
     → RootsAt s (length xs) (λ i. get_or xs i s.zero) g → (IsZeroPoly s g → ⊥) → length xs < m
-few s M N m xs g apart d roots nz = elim (cases_lt (length xs) m) [
+few_roots_in s M N m xs g apart d roots nz = elim (cases_lt (length xs) m) [
   | inl l ↦ l
   | inr l ↦ absurd (nz (root_count s M N (length xs) (λ i. get_or xs i s.zero) g apart (degree_more s M m (length xs) g l d) roots))
 ]
@@ -34,22 +34,22 @@ few s M N m xs g apart d roots nz = elim (cases_lt (length xs) m) [
 -- without trees no alpha is unlucky
 pub no_alphas : {F E : Type 0} (f : TwoAdic F) (e : Extension F E) (t : CommittedTable F E) (trees : List (Tree F)) (alpha : E) → length trees ≡ 0 → IsUnluckyAlpha f e t trees alpha → ⊥
 no_alphas f e t trees alpha none (i, below, u) =
-    u.differs (λ k v h. absurd (omega (arith, h, length-map trees (ev (row f e t i)), none)))
+    u.differs (λ k v h. absurd (omega (arith, h, length-map trees (eval_tree (row f e t i)), none)))
 
 module _ {F E : Type 0} (f : TwoAdic F) (e : Extension F E) (top : ℕ) (inverse : E → E) (L : FieldsLaws f e top inverse) (t : CommittedTable F E) (trees : List (Tree F)) where
   nonzero_divisors : NoZeroDivisors e.ring
   nonzero_divisors = field_no_zero_divisors e.ring L.above inverse L.above_field
 
   -- the values at row i as the coefficients of a polynomial, of which a fold is a value
-  values_long : (i : ℕ) → length (reverse (row_values f e t trees i)) ≡ length trees
-  values_long i = length-reverse (row_values f e t trees i) ∙ length-map trees (ev (row f e t i))
+  values_long : (i : ℕ) → length (reverse (constraint_values f e t trees i)) ≡ length trees
+  values_long i = length-reverse (constraint_values f e t trees i) ∙ length-map trees (eval_tree (row f e t i))
 
   -- distinct alphas that are all unlucky at row i are fewer than the trees, if there are trees
   pub few_alphas_at : (i : ℕ) (xs : List E) → 0 < length trees → AreDistinct e.ring.zero xs → All (IsUnluckyAlphaAt f e t trees i) xs → length xs < length trees
   few_alphas_at i [] some apart unlucky = some
   few_alphas_at i (x ∷ xs) some apart unlucky =
-      let cs = row_values f e t trees i in
-      few e.ring L.above nonzero_divisors (length trees) (x ∷ xs) (reverse cs) apart
+      let cs = constraint_values f e t trees i in
+      few_roots_in e.ring L.above nonzero_divisors (length trees) (x ∷ xs) (reverse cs) apart
       (degree_length_le e.ring L.above (length trees) (reverse cs) (omega (arith, values_long i)))
       (λ j h. sym (fold_at_challenge e.ring L.above (get_or (x ∷ xs) j e.ring.zero) cs) ∙ (unlucky j e.ring.zero h).vanishes)
       (λ z. (unlucky zero x (omega arith)).differs (zero_values e.ring L.above cs z))
@@ -58,7 +58,7 @@ module _ {F E : Type 0} (f : TwoAdic F) (e : Extension F E) (top : ℕ) (inverse
   record IsRuledBy (m : ℕ) (P : E → Type 0) (g : List E) : Type 0 where
     pub low : DegreeBelow e.ring (suc m) g
     pub nonzero : IsZeroPoly e.ring g → ⊥
-    pub root : (a : E) → P a → val e.ring g a ≡ e.ring.zero
+    pub root : (a : E) → P a → eval_poly e.ring g a ≡ e.ring.zero
 
   one_rules : (P : E → Type 0) → ((a : E) → P a → ⊥) → (m : ℕ) → IsRuledBy m P (e.ring.one ∷ [])
   one_rules P none m = record {
@@ -69,7 +69,7 @@ module _ {F E : Type 0} (f : TwoAdic F) (e : Extension F E) (top : ℕ) (inverse
 
   row_rules : (i : ℕ) → (g : List E) × IsRuledBy (length trees - 1) (IsUnluckyAlphaAt f e t trees i) g
   row_rules i =
-      let cs = row_values f e t trees i in
+      let cs = constraint_values f e t trees i in
       elim (items_decided e.ring.zero L.above_decided cs) [
         | inl a ↦ (e.ring.one ∷ [], one_rules (IsUnluckyAlphaAt f e t trees i) (λ alpha u. u.differs a) (length trees - 1))
         | inr d ↦ (
@@ -97,31 +97,31 @@ module _ {F E : Type 0} (f : TwoAdic F) (e : Extension F E) (top : ℕ) (inverse
         record {
           low = degree_more s L.above (suc (m * k) + k) (suc (suc m * k)) (mul_poly s g h) (omega arith) (degree_mul s L.above (suc (m * k)) k g h G.low H.low);
           nonzero = λ z. elim (poly_no_zero_divisors s L.above nonzero_divisors (λ x. L.above_decided x s.zero) g h z) [ inl a ↦ G.nonzero a | inr b ↦ H.nonzero b ];
-          root = λ a u. val_mul s L.above g h a ∙ (elim (cases_eq u.0 m) [
-            | inl w ↦ ap (s.mul (val s g a)) (H.root a (subst (λ i. IsUnluckyAlphaAt f e t trees i a) w u.2)) ∙ mul_zero s L.above (val s g a)
-            | inr w ↦ ap (λ v. s.mul v (val s h a)) (G.root a (u.0, omega (arith, u.1, w), u.2)) ∙ zero_mul s L.above (val s h a)
+          root = λ a u. eval_mul s L.above g h a ∙ (elim (cases_eq u.0 m) [
+            | inl w ↦ ap (s.mul (eval_poly s g a)) (H.root a (subst (λ i. IsUnluckyAlphaAt f e t trees i a) w u.2)) ∙ mul_zero s L.above (eval_poly s g a)
+            | inr w ↦ ap (λ v. s.mul v (eval_poly s h a)) (G.root a (u.0, omega (arith, u.1, w), u.2)) ∙ zero_mul s L.above (eval_poly s h a)
           ]);
         },
       )
 
   -- distinct alphas that are unlucky at some row are at most n (N - 1), for n rows and N trees
-  pub few_alphas : (xs : List E) → AreDistinct e.ring.zero xs → All (IsUnluckyAlpha f e t trees) xs → length xs ≤ rows_of t * (length trees - 1)
+  pub few_alphas : (xs : List E) → AreDistinct e.ring.zero xs → All (IsUnluckyAlpha f e t trees) xs → length xs ≤ row_count_of t * (length trees - 1)
   few_alphas xs apart unlucky =
-      let (g, G) = rows_rule (rows_of t) in
-      let h : length xs < suc (rows_of t * (length trees - 1)) =
-      few e.ring L.above nonzero_divisors (suc (rows_of t * (length trees - 1))) xs g apart G.low (λ j l. G.root (get_or xs j e.ring.zero) (unlucky j e.ring.zero l)) G.nonzero in
+      let (g, G) = rows_rule (row_count_of t) in
+      let h : length xs < suc (row_count_of t * (length trees - 1)) =
+      few_roots_in e.ring L.above nonzero_divisors (suc (row_count_of t * (length trees - 1))) xs g apart G.low (λ j l. G.root (get_or xs j e.ring.zero) (unlucky j e.ring.zero l)) G.nonzero in
       omega (arith, h)
 
   -- distinct zetas that are unlucky are at most the larger of p and n (C + 1) - 1, for n rows, C chunks and trees of degree at most p
   pub few_zetas : (q : CommittedQuotient F) (alpha : E) → t.log_height ≤ top → IsBounded f t → IsBoundedQuotient f t q → (p : ℕ)
-      → All (λ tree. full_polynomial_degree (rows_of t) (periods_of t) tree ≤ p) trees
+      → All (λ tree. full_polynomial_degree (row_count_of t) (table_periods_of t) tree ≤ p) trees
       → (xs : List E) → AreDistinct e.ring.zero xs → All (IsUnluckyZeta f e t trees q alpha) xs
-      → length xs ≤ max p (rows_of t * (chunks_of q + 1) - 1)
+      → length xs ≤ max p (row_count_of t * (chunk_count_of q + 1) - 1)
   few_zetas q alpha fits B Q p most [] apart unlucky = omega arith
   few_zetas q alpha fits B Q p most (x ∷ xs) apart unlucky =
-      let bound = max p (rows_of t * (chunks_of q + 1) - 1) in
+      let bound = max p (row_count_of t * (chunk_count_of q + 1) - 1) in
       let h : length (x ∷ xs) < suc bound =
-      few e.ring L.above nonzero_divisors (suc bound) (x ∷ xs) (identity_poly f e t trees q alpha) apart
+      few_roots_in e.ring L.above nonzero_divisors (suc bound) (x ∷ xs) (identity_poly f e t trees q alpha) apart
       (identity_degree f e top inverse L t q Q fits B trees alpha p most)
       (λ j l. (unlucky j e.ring.zero l).vanishes)
       (unlucky zero x (omega arith)).differs in

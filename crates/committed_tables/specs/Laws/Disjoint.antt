@@ -6,16 +6,16 @@ use Rattle.p3_field.specs.Field.{TwoAdic, Extension}
 use Rattle.p3_field.specs.Domain.{point}
 use Rattle.p3_field.specs.Laws.Order.{one_pow, pow_times}
 use Rattle.p3_field.specs.Laws.Coset.{two_adic_order}
-use Rattle.p3_field.specs.Laws.Vanishing.{coset_point_power}
+use Rattle.p3_field.specs.Laws.Binomials.{coset_point_power}
 use Rattle.p3_commit.specs.Space.{AreDisjoint}
-use Rattle.committed_tables.specs.Committed.{CommittedTable, rows_of, trace_domain}
+use Rattle.committed_tables.specs.Committed.{CommittedTable, row_count_of, trace_domain}
 use Rattle.committed_tables.specs.Fields.{FieldsLaws}
 use Rattle.committed_tables.specs.Quotient.{IsQuotientDomain, quotient_domain}
 
 module _ {F E : Type 0} (f : TwoAdic F) (e : Extension F E) (top : ℕ) (inverse : E → E) (L : FieldsLaws f e top inverse) (t : CommittedTable F E) (shift : F) (log_chunks : ℕ)
     (fits : t.log_height + log_chunks ≤ top) where
   quotient_apart : (pow f.ring shift (2 ^ (t.log_height + log_chunks)) ≡ f.ring.one → ⊥)
-      → AreDisjoint (rows_of t) (point f.ring f.root (trace_domain f e t)) (2 ^ (t.log_height + log_chunks)) (point f.ring f.root (quotient_domain f e t shift log_chunks))
+      → AreDisjoint (row_count_of t) (point f.ring f.root (trace_domain f e t)) (2 ^ (t.log_height + log_chunks)) (point f.ring f.root (quotient_domain f e t shift log_chunks))
   quotient_apart differs i j h l same =
       let r = f.ring in let k = t.log_height in let c = log_chunks in
       let p = point r f.root (trace_domain f e t) i in

@@ -11,10 +11,10 @@ use Rattle.p3_air.specs.declared.cells.Cell.{Cell}
 use Rattle.p3_air.specs.declared.cells.Cell.TheVariants.{Main, Preprocessed, Periodic, Public, FirstRow, LastRow, Transition}
 use Rattle.p3_air.specs.declared.cells.ExtCell.{ExtCell}
 use Rattle.p3_air.specs.CellValues.{cell_in, ext_cell_in}
-use Rattle.p3_air.specs.Check.{Table, row_of, table_of}
+use Rattle.p3_air.specs.Check.{TableTraces, table_row, table_traces}
 use Rattle.p3_air.specs.RowCheck.{cell_value, ext_cell_value}
 use Rattle.p3_air.specs.Shape.{Declares, IsSendable}
-use Rattle.p3_air.specs.Tree.{Tree, ev}
+use Rattle.p3_air.specs.Tree.{Tree, eval_tree}
 use Rattle.p3_lookup.specs.declared.terminal.LookupTerminal.{LookupTerminal}
 use Rattle.p3_lookup.specs.Generated.{IsGenerated, argument_over, sent_shape}
 use Rattle.p3_lookup.specs.Honest.{Argument, honest_cell}
@@ -23,14 +23,14 @@ use Rattle.p3_lookup.specs.Rows.{AreHonestRows, AreSelectors, IsHonestRow}
 use Rattle.p3_lookup.specs.Trees.{lookup_trees}
 use Rattle.p3_lookup.specs.Laws.Agreement.{agree_sent}
 use Rattle.p3_lookup.specs.Laws.Vanish.{trees_vanish}
-use Rattle.committed_tables.specs.Committed.{CommittedTable, Holds, row, row_point, rows_of, values_at}
+use Rattle.committed_tables.specs.Committed.{CommittedTable, Holds, row, row_point, row_count_of, committed_values_at}
 use Rattle.committed_tables.specs.Fields.{FieldsLaws}
-use Rattle.committed_tables.specs.Rows.{AreOfRow, CommitsTo, trace_row}
+use Rattle.committed_tables.specs.Rows.{AreOfRow, CommitsTo, row_of_traces}
 use Rattle.committed_tables.specs.Laws.Rows.{reads_rows}
 use Rattle.committed_tables.specs.Laws.Selectors.{first_elsewhere, last_elsewhere, transition_last}
 
 module _ {F E : Type 0} (f : TwoAdic F) (e : Extension F E) (top : ℕ) (inverse : E → E) (L : FieldsLaws f e top inverse) (t : CommittedTable F E) (fits : t.log_height ≤ top)
-    (traces : Table F) (columns : Rows E) (C : CommitsTo f e t traces columns) (lookups : List (LookupData F)) (terminal : LookupTerminal E) (last : t.terminals ≡ terminal.0 ∷ []) where
+    (traces : TableTraces F) (columns : Rows E) (C : CommitsTo f e t traces columns) (lookups : List (LookupData F)) (terminal : LookupTerminal E) (last : t.terminals ≡ terminal.0 ∷ []) where
   -- what fixes the permutation columns
   abbrev p : Argument F E
   p = argument_over f.ring e.ring inverse e.embed traces.main traces.preprocessed traces.public_values lookups t.challenges
@@ -39,15 +39,15 @@ module _ {F E : Type 0} (f : TwoAdic F) (e : Extension F E) (top : ℕ) (inverse
   n = height traces.main
 
   abbrev at : ℕ → Cell → E
-  at i c = cell_in e.ring.zero (values_at f e t (row_point f e t i)) c
+  at i c = cell_in e.ring.zero (committed_values_at f e t (row_point f e t i)) c
 
   abbrev at_ext : ℕ → ExtCell → E
-  at_ext i c = ext_cell_in e.ring.zero (values_at f e t (row_point f e t i)) c
+  at_ext i c = ext_cell_in e.ring.zero (committed_values_at f e t (row_point f e t i)) c
 
-  within : (i : ℕ) → i < n → i < rows_of t
+  within : (i : ℕ) → i < n → i < row_count_of t
   within i h = let r = C.tall in omega (arith, h, r)
 
-  reads : (i : ℕ) → i < n → AreOfRow e (trace_row f.ring.zero traces columns t.challenges t.terminals i) (values_at f e t (row_point f e t i))
+  reads : (i : ℕ) → i < n → AreOfRow e (row_of_traces f.ring.zero traces columns t.challenges t.terminals i) (committed_values_at f e t (row_point f e t i))
   reads i h = reads_rows f e top inverse L t fits traces columns C i (within i h)
 
   selectors : AreSelectors e.ring.zero n at
@@ -63,13 +63,13 @@ module _ {F E : Type 0} (f : TwoAdic F) (e : Extension F E) (top : ℕ) (inverse
       ap (λ l. get_or l j e.ring.zero) same ∙ (ap (get_or (map e.embed xs) j) (sym L.embeds.keeps_zero) ∙ get_or-map e.embed xs j f.ring.zero)
 
   agree : (i : ℕ) → i < n → (c : Cell) → Declares (sent_shape traces.main traces.preprocessed traces.public_values) c → IsSendable c
-      → at i c ≡ e.embed (cell_value f.ring (row_of f.ring.zero (table_of traces.main traces.preprocessed [] traces.public_values) i) c)
-  agree i h (Main true j) d s = embedded_item (values_at f e t (row_point f e t i)).main_next (row_at traces.main ((i + 1) % n)) j (reads i h).main_next
-  agree i h (Main false j) d s = embedded_item (values_at f e t (row_point f e t i)).main_local (row_at traces.main i) j (reads i h).main_local
-  agree i h (Preprocessed true j) d s = embedded_item (values_at f e t (row_point f e t i)).preprocessed_next _ j (reads i h).preprocessed_next
-  agree i h (Preprocessed false j) d s = embedded_item (values_at f e t (row_point f e t i)).preprocessed_local _ j (reads i h).preprocessed_local
+      → at i c ≡ e.embed (cell_value f.ring (table_row f.ring.zero (table_traces traces.main traces.preprocessed [] traces.public_values) i) c)
+  agree i h (Main true j) d s = embedded_item (committed_values_at f e t (row_point f e t i)).main_next (row_at traces.main ((i + 1) % n)) j (reads i h).main_next
+  agree i h (Main false j) d s = embedded_item (committed_values_at f e t (row_point f e t i)).main_local (row_at traces.main i) j (reads i h).main_local
+  agree i h (Preprocessed true j) d s = embedded_item (committed_values_at f e t (row_point f e t i)).preprocessed_next _ j (reads i h).preprocessed_next
+  agree i h (Preprocessed false j) d s = embedded_item (committed_values_at f e t (row_point f e t i)).preprocessed_local _ j (reads i h).preprocessed_local
   agree i h (Periodic j) d s = absurd s
-  agree i h (Public j) d s = embedded_item (values_at f e t (row_point f e t i)).public_values traces.public_values j (reads i h).public_values
+  agree i h (Public j) d s = embedded_item (committed_values_at f e t (row_point f e t i)).public_values traces.public_values j (reads i h).public_values
   agree i h FirstRow d s = absurd s
   agree i h LastRow d s = absurd s
   agree i h Transition d s = absurd s
@@ -91,7 +91,7 @@ module _ {F E : Type 0} (f : TwoAdic F) (e : Extension F E) (top : ℕ) (inverse
       selectors = selectors;
       honest = honest;
       agrees = λ i h k d lt.
-          let r = row_of f.ring.zero (table_of traces.main traces.preprocessed [] traces.public_values) i in
+          let r = table_row f.ring.zero (table_traces traces.main traces.preprocessed [] traces.public_values) i in
           agree_sent f.ring L.below e.ring L.above e.embed L.embeds (sent_shape traces.main traces.preprocessed traces.public_values)
           (cell_value f.ring r) (ext_cell_value f.ring.zero r) (at i) (at_ext i) (agree i h) (get_or lookups k d) (fit k d lt).reads;
     }
@@ -106,4 +106,4 @@ module _ {F E : Type 0} (f : TwoAdic F) (e : Extension F E) (top : ℕ) (inverse
     pub table_holds : (trees : List (Tree F)) → Holds f e t trees → All (IsLookup (sent_shape traces.main traces.preprocessed traces.public_values)) lookups
         → Holds f e t (trees ++ lookup_trees f.ring lookups)
     table_holds trees own fit i h =
-        All-append (λ tree. ev (row f e t i) tree ≡ e.ring.zero) trees (lookup_trees f.ring lookups) (own i h) (lookups_hold fit i h)
+        All-append (λ tree. eval_tree (row f e t i) tree ≡ e.ring.zero) trees (lookup_trees f.ring lookups) (own i h) (lookups_hold fit i h)

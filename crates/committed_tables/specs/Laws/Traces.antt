@@ -3,18 +3,18 @@ use Rattle.std.proofs.Common.{◌≡◌, ℕ, ◌*◌, ◌^◌, ◌<◌, ◌≤�
 use Rattle.std.proofs.lemmas.List.{length-map, get_or-map}
 use Rattle.std.proofs.lemmas.Bool.{cases_lt}
 use Rattle.p3_field.specs.Field.{TwoAdic, Extension}
-use Rattle.p3_field.specs.Poly.{Apart, table}
+use Rattle.p3_field.specs.Poly.{Apart, tabulate}
 use Rattle.p3_field.specs.Domain.{IsInterpolant, point}
 use Rattle.p3_field.specs.Laws.Interpolants.{interpolant_exists, points_apart}
 use Rattle.p3_field.specs.Laws.SubgroupSelectors.{subgroup}
-use Rattle.p3_field.specs.Laws.Tables.{length-table, get_or-table}
+use Rattle.p3_field.specs.Laws.Tabulate.{length-tabulate, get_or-tabulate}
 use Rattle.p3_matrix.specs.Matrix.{Rows, column}
 use Rattle.p3_matrix.specs.Laws.Cells.{length-column}
 use Rattle.p3_matrix.specs.Laws.Flattened.{height-pieces, pieces-fill}
-use Rattle.p3_air.specs.Check.{Table}
+use Rattle.p3_air.specs.Check.{TableTraces}
 use Rattle.committed_tables.specs.Fields.{FieldsLaws}
 use Rattle.committed_tables.specs.Rows.{CommitsTo, InterpolateColumns, InterpolateSome, flattened_matrix}
-use Rattle.committed_tables.specs.Traces.{HaveRows, IsSomeTall, IsTall, committed_traces, interpolant, interpolants, some_interpolants}
+use Rattle.committed_tables.specs.Traces.{HaveTraceRows, IsSomeTall, IsTall, committed_traces, interpolant, interpolants, some_interpolants}
 
 module _ {F E : Type 0} (f : TwoAdic F) (e : Extension F E) (top : ℕ) (inverse : E → E) (L : FieldsLaws f e top inverse) (k : ℕ) (fits : k ≤ top) where
   columns_interpolated : (m : Rows F) → IsTall (2 ^ k) m → InterpolateColumns f (subgroup f.ring k) m (interpolants f (subgroup f.ring k) m)
@@ -26,12 +26,12 @@ module _ {F E : Type 0} (f : TwoAdic F) (e : Extension F E) (top : ℕ) (inverse
       record {
         fills = T.fills;
         tall = T.tall;
-        count = length-map (table m.width values) (interpolant f d) ∙ length-table m.width values;
+        count = length-map (tabulate m.width values) (interpolant f d) ∙ length-tabulate m.width values;
         each = λ j h.
             let long : length (values j) ≡ 2 ^ k = length-column f.ring.zero m j ∙ T.tall (omega (arith, h)) in
             let there : get_or (interpolants f d m) j [] ≡ interpolant f d (values j) =
-            get_or-map (interpolant f d) (table m.width values) j [] [] (omega (arith, h, length-table m.width values))
-            ∙ ap (interpolant f d) (get_or-table m.width values j [] h) in
+            get_or-map (interpolant f d) (tabulate m.width values) j [] [] (omega (arith, h, length-tabulate m.width values))
+            ∙ ap (interpolant f d) (get_or-tabulate m.width values j [] h) in
             subst (IsInterpolant f.ring p (values j)) (sym there)
             (interpolant_exists f.ring L.below f.inv L.below_field p (values j) (subst (λ n. Apart n p) (sym long) apart));
       }
@@ -45,8 +45,8 @@ module _ {F E : Type 0} (f : TwoAdic F) (e : Extension F E) (top : ℕ) (inverse
       let D = e.dimension in
       let pos : 0 < D = L.vector.positive in
       record {
-        fills = pieces-fill e.parts D L.vector.parts_length pos m T.fills;
-        tall = λ h. height-pieces e.parts D L.vector.parts_length pos m (flattened_matrix e m) refl refl ∙ T.tall (some m.width D h);
+        fills = pieces-fill e.coefficients D L.vector.coefficients_length pos m T.fills;
+        tall = λ h. height-pieces e.coefficients D L.vector.coefficients_length pos m (flattened_matrix e m) refl refl ∙ T.tall (some m.width D h);
       }
     where
       some : (w D : ℕ) → 0 < w * D → 0 < w
@@ -56,7 +56,7 @@ module _ {F E : Type 0} (f : TwoAdic F) (e : Extension F E) (top : ℕ) (inverse
       ]
 
   -- the traces' own table commits to them
-  pub traces_committed : (traces : Table F) (columns : Rows E) (challenges terminals : List E) → HaveRows (2 ^ k) traces columns
+  pub traces_committed : (traces : TableTraces F) (columns : Rows E) (challenges terminals : List E) → HaveTraceRows (2 ^ k) traces columns
       → CommitsTo f e (committed_traces f e traces columns challenges terminals k) traces columns
   traces_committed traces columns challenges terminals H = record {
     tall = H.tall;

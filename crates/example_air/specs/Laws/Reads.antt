@@ -2,8 +2,8 @@
 use Rattle.std.proofs.Common.{◌≡◌, ℕ, zero, suc, ◌+◌, ◌<◌, ◌≤◌, false, [], ◌∷◌, length, map, All, Some, rules, arith}
 use Rattle.std.proofs.lemmas.List.Elements.{All-nil, All-cons, All-append}
 use Rattle.p3_field.specs.Ring.{Ring, of_nat}
-use Rattle.p3_field.specs.Poly.{table}
-use Rattle.p3_field.specs.Laws.Tables.{length-table}
+use Rattle.p3_field.specs.Poly.{tabulate}
+use Rattle.p3_field.specs.Laws.Tabulate.{length-tabulate}
 use Rattle.p3_matrix.specs.Matrix.{FillsRows}
 use Rattle.p3_matrix.specs.Laws.Grids.{product_fills}
 use Rattle.p3_air.specs.declared.cells.Cell.{Cell}
@@ -12,16 +12,16 @@ use Rattle.p3_air.specs.declared.cells.ExtCell.{ExtCell}
 use Rattle.p3_air.specs.Shape.{Declares, DeclaresExt, ReadsIn, HasColumns, HasWholeRows, ReadsDeclared, IsInteraction, declared_shape, width_of}
 use Rattle.p3_air.specs.Laws.Declared.{counts-none}
 use Rattle.p3_air.specs.Laws.Lists.{all_mapped}
-use Rattle.p3_air.specs.Gadgets.{packed}
+use Rattle.p3_air.specs.Gadgets.{packed_bits}
 use Rattle.p3_air.specs.Tree.{Tree, bool_tree, difference}
-use Rattle.example_air.specs.Bytes.{all_bytes, bits_trees, column, example_declaration, example_interactions, example_trees}
+use Rattle.example_air.specs.Bytes.{all_bytes, byte_row_trees, main_column, example_declaration, example_interactions, example_trees}
 use Rattle.example_air.specs.declared.air.ExampleAir.{ExampleAir}
 use Rattle.example_air.specs.declared.air.ExampleAir.TheVariants.{Bits, Bytes}
 
 module _ {F : Type 0} (r : Ring F) where
   pub bytes_fill : FillsRows (all_bytes r) 1
   unfolding all_bytes
-  bytes_fill = product_fills (all_bytes r) 256 1 (length-table {A = F} 256 (of_nat r))
+  bytes_fill = product_fills (all_bytes r) 256 1 (length-tabulate {A = F} 256 (of_nat r))
 
   pub example-has_columns : (a : ExampleAir) → HasColumns (example_declaration r a).preprocessed
   example-has_columns Bits = search rules
@@ -40,21 +40,21 @@ module _ {F : Type 0} (r : Ring F) where
   example-preprocessed_next Bytes = search rules
 
   pub example-counts : (a : ExampleAir) (n : ℕ) → (example_declaration r a).constraints ≡ Some n → n ≡ length (example_trees r a)
-  example-counts Bits n e = counts-none n (length (bits_trees r)) e
+  example-counts Bits n e = counts-none n (length (byte_row_trees r)) e
   example-counts Bytes n e = counts-none n 0 e
 
   module _ (P : Cell → Type 0) (Q : ExtCell → Type 0) (main : (k : ℕ) → k < 9 → P (Main false k)) where
-    reads_packed : (k n : ℕ) → k + n ≤ 9 → ReadsIn {F = F} P Q (packed r column k n)
-    unfolding packed
+    reads_packed : (k n : ℕ) → k + n ≤ 9 → ReadsIn {F = F} P Q (packed_bits r main_column k n)
+    unfolding packed_bits
     reads_packed k zero h = tt
     reads_packed k (suc n) h = (main k (omega (arith, h)), (tt, reads_packed (suc k) n (omega (arith, h))))
 
-    pub reads_bits : All (ReadsIn P Q) (bits_trees r)
-    unfolding bits_trees
+    pub reads_bits : All (ReadsIn P Q) (byte_row_trees r)
+    unfolding byte_row_trees
     reads_bits =
-        let number : Tree F = difference (column 8) (packed r column 0 8) in
-        All-append (ReadsIn P Q) (map (bool_tree r.one) (table 8 column)) (number ∷ [])
-        (all_mapped (ReadsIn P Q) (bool_tree r.one) 8 column (λ k h. (main k (omega (arith, h)), (main k (omega (arith, h)), tt))))
+        let number : Tree F = difference (main_column 8) (packed_bits r main_column 0 8) in
+        All-append (ReadsIn P Q) (map (bool_tree r.one) (tabulate 8 main_column)) (number ∷ [])
+        (all_mapped (ReadsIn P Q) (bool_tree r.one) 8 main_column (λ k h. (main k (omega (arith, h)), (main k (omega (arith, h)), tt))))
         (All-cons (ReadsIn P Q) number [] (main 8 (omega arith), reads_packed 0 8 (omega arith)) (All-nil (ReadsIn P Q)))
 
   pub example-read : (a : ExampleAir) → All (ReadsDeclared (declared_shape (example_declaration r a))) (example_trees r a)

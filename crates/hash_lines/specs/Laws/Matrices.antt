@@ -4,18 +4,18 @@ use Rattle.std.specs.Prelude.{slice_get}
 use Rattle.std.proofs.lemmas.Bool.{cases_lt}
 use Rattle.std.proofs.lemmas.List.{get_or-map, get_or_past, length-map}
 use Rattle.std.proofs.lemmas.Option.{get_or_from_slice_get, slice_get_within}
-use Rattle.p3_field.specs.Laws.Tables.{length-table}
-use Rattle.p3_field.specs.Quartic.{of_bear_value, quartic_ring}
+use Rattle.p3_field.specs.Laws.Tabulate.{length-tabulate}
+use Rattle.p3_field.specs.Quartic.{of_baby_bear_value, quartic_ring}
 use Rattle.p3_field.specs.declared.baby_bear.BabyBear.{BabyBear}
 use Rattle.p3_field.specs.declared.quartic.QuarticExtension.{QuarticExtension}
 use Rattle.p3_matrix.specs.Matrix.{column, height}
 use Rattle.plain_pcs.specs.Checks.{Opens}
 use Rattle.plain_pcs.specs.Extension.{columns, extended_domain, interpolant}
 use Rattle.plain_pcs.specs.Scheme.{PlainCommitmentData}
-use Rattle.committed_tables.specs.Fields.{FieldsLaws, bear_field, quartic_extension}
+use Rattle.committed_tables.specs.Fields.{FieldsLaws, baby_bear_field, quartic_extension}
 use Rattle.batch_setting.specs.Setting.{Setting, Backend}
 use Rattle.batch_statement.specs.Proof.{ProofData}
-use Rattle.batch_statement.specs.Statement.{Statement, Table, WellFormed}
+use Rattle.batch_statement.specs.Statement.{Statement, AirTable, WellFormed}
 use Rattle.batch_shape_checks.specs.ShapeChecks.{no_table}
 use Rattle.batch_claims.specs.Claims.{bits_at, claims}
 use Rattle.batch_openings.specs.OpeningChecks.{claimed}
@@ -29,7 +29,7 @@ use Rattle.plain_soundness.specs.Laws.Rounds.{main_bound}
 use Rattle.plain_soundness.specs.PlainSetting.{IsPlain, plain_scheme}
 use Rattle.proof_text.specs.ProofText.{ToolProofData}
 use Rattle.tool_statement.specs.Config.{tool_backend, tool_scheme, tool_setting}
-use Rattle.tool_statement.specs.StatedTables.{HaveStatedHeights, log_height_of, source_of_table, table_of, tool_common, tool_statement}
+use Rattle.tool_statement.specs.StatedTables.{HaveStatedHeights, log_height_of, source_of_table, air_table_of, tool_common, tool_statement}
 use Rattle.tool_statement.specs.declared.table.TableStatement.{TableStatement}
 use Rattle.tool_statement.specs.declared.table.TableStatement.TheVariants.{Hash, Take}
 use Rattle.hash_lines.specs.PrintedRows.{HasHashMatrices}
@@ -69,7 +69,7 @@ module _ {S F E P R : Type 0} (c : Setting S F E (PlainCommitmentData F)) (b : B
       let m = matrix_at p.commitments.main i in
       let k = bits_at p.degree_bits i in
       let made = interpolant c.field (extended_domain (plain_scheme c log_blowup) k) in
-      sym (length-map (columns c.field.ring.zero m) made ∙ length-table m.width (column c.field.ring.zero m))
+      sym (length-map (columns c.field.ring.zero m) made ∙ length-tabulate m.width (column c.field.ring.zero m))
       ∙ (columns_declared c b log_blowup s p inverse L plain binds formed accepted i below).main
 
 -- the program's configuration is over the plain scheme
@@ -77,11 +77,11 @@ pub plain_tool : IsPlain tool_setting tool_backend 1
 unfolding tool_setting tool_backend
 plain_tool = record { unmasked = refl; opens = λ state claims proof o. o }
 
-pub laws_of_tool : (inverse : QuarticExtension → QuarticExtension) → FieldsLaws bear_field quartic_extension 27 inverse → FieldsLaws tool_setting.field tool_setting.extension tool_setting.two_adicity inverse
+pub laws_of_tool : (inverse : QuarticExtension → QuarticExtension) → FieldsLaws baby_bear_field quartic_extension 27 inverse → FieldsLaws tool_setting.field tool_setting.extension tool_setting.two_adicity inverse
 unfolding tool_setting
 laws_of_tool inverse L = L
 
-pub binds_of_tool : Binds tool_scheme quartic_ring of_bear_value → Binds (plain_scheme tool_setting 1) tool_setting.extension.ring tool_setting.extension.embed
+pub binds_of_tool : Binds tool_scheme quartic_ring of_baby_bear_value → Binds (plain_scheme tool_setting 1) tool_setting.extension.ring tool_setting.extension.embed
 unfolding tool_setting
 binds_of_tool B = B
 
@@ -89,8 +89,8 @@ two_adicity_is : tool_setting.two_adicity ≡ 27
 unfolding tool_setting
 two_adicity_is = refl
 
-module _ (tables : List TableStatement) (p : ToolProofData) (inverse : QuarticExtension → QuarticExtension) (L : FieldsLaws bear_field quartic_extension 27 inverse)
-    (binds : Binds tool_scheme quartic_ring of_bear_value) (formed : WellFormed (map (λ (t : Table BabyBear). t.declaration) (map table_of tables)) (tool_common tables))
+module _ (tables : List TableStatement) (p : ToolProofData) (inverse : QuarticExtension → QuarticExtension) (L : FieldsLaws baby_bear_field quartic_extension 27 inverse)
+    (binds : Binds tool_scheme quartic_ring of_baby_bear_value) (formed : WellFormed (map (λ (t : AirTable BabyBear). t.declaration) (map air_table_of tables)) (tool_common tables))
     (accepted : Accepted tool_setting tool_backend (tool_statement tables) p) (bits : HaveStatedHeights tables p.degree_bits) where
   module _ (i k : ℕ) (at : slice_get tables i ≡ Some (Hash k)) where
     pub within : i < length tables
@@ -99,21 +99,21 @@ module _ (tables : List TableStatement) (p : ToolProofData) (inverse : QuarticEx
     here : get_or tables i (Take 0) ≡ Hash k
     here = get_or_from_slice_get tables i (Hash k) (Take 0) at
 
-    below : i < length (map table_of tables)
-    below = subst (λ n. i < n) (sym (length-map tables table_of)) within
+    below : i < length (map air_table_of tables)
+    below = subst (λ n. i < n) (sym (length-map tables air_table_of)) within
 
     -- its degree bits are those that are stated
     pub degree : bits_at p.degree_bits i ≡ k
     degree =
         let many : length p.degree_bits ≡ length tables =
-        (counts tool_setting tool_backend 1 (tool_statement tables) p inverse (laws_of_tool inverse L) plain_tool (binds_of_tool binds) formed accepted).degree_bits ∙ length-map tables table_of in
+        (counts tool_setting tool_backend 1 (tool_statement tables) p inverse (laws_of_tool inverse L) plain_tool (binds_of_tool binds) formed accepted).degree_bits ∙ length-map tables air_table_of in
         let inside : i < min (length tables) (length p.degree_bits) = omega (arith, within, many) in
         sym (bits i inside) ∙ (get_or-map log_height_of tables i (Take 0) 0 within ∙ ap log_height_of here)
 
     wide : (matrix_at p.commitments.main i).width ≡ 9168
     wide =
         main_wide tool_setting tool_backend 1 (tool_statement tables) p inverse (laws_of_tool inverse L) plain_tool (binds_of_tool binds) formed accepted i below
-        ∙ (ap (λ (t : Table BabyBear). t.declaration.width) (get_or-map table_of tables i (Take 0) no_table within) ∙ ap (λ (t : TableStatement). (source_of_table t).declaration.width) here)
+        ∙ (ap (λ (t : AirTable BabyBear). t.declaration.width) (get_or-map air_table_of tables i (Take 0) no_table within) ∙ ap (λ (t : TableStatement). (source_of_table t).declaration.width) here)
 
     high : height (matrix_at p.commitments.main i) ≡ 2 ^ (k + 1)
     high =

@@ -4,22 +4,22 @@ use Rattle.std.specs.Bool.{Decides}
 use Rattle.std.specs.Prelude.{nat_lt, if◌then◌else◌}
 use Rattle.std.proofs.lemmas.Bool.Decides.{Decides-below_and, Decides-ltb}
 use Rattle.p3_field.specs.declared.baby_bear.BabyBear.{BabyBear}
-use Rattle.p3_field.specs.Laws.Tables.{length-table}
+use Rattle.p3_field.specs.Laws.Tabulate.{length-tabulate}
 use Rattle.hash_lines.specs.RowText.{row_line, unreadable_line, words_line}
-use Rattle.hash_lines.specs.RowWords.{HasBits, IsReadable, all_below, cell_number, is_readable, printed_words, word_at, word_column}
+use Rattle.hash_lines.specs.RowWords.{HasBitCells, IsReadable, all_true_below, cell_number, is_readable, printed_words, word_at, word_column}
 
 -- the 32 cells from a column on
-bits_decided : (cells : List BabyBear) (column n : ℕ) → Decides (all_below (λ b. nat_lt (cell_number cells (column + b)) 2) n) ((b : ℕ) → b < n → cell_number cells (column + b) < 2)
+bits_decided : (cells : List BabyBear) (column n : ℕ) → Decides (all_true_below (λ b. nat_lt (cell_number cells (column + b)) 2) n) ((b : ℕ) → b < n → cell_number cells (column + b) < 2)
 bits_decided cells column n =
     let p = λ (b : ℕ). nat_lt (cell_number cells (column + b)) 2 in
-    Decides-below_and p (λ b. cell_number cells (column + b) < 2) (all_below p) (λ b. Decides-ltb (cell_number cells (column + b)) 2) refl (λ _. refl) n
+    Decides-below_and p (λ b. cell_number cells (column + b) < 2) (all_true_below p) (λ b. Decides-ltb (cell_number cells (column + b)) 2) refl (λ _. refl) n
 
 -- the test is true exactly where all cells of the printed words are bits
 pub readable_decided : (cells : List BabyBear) → Decides (is_readable cells) (IsReadable cells)
 unfolding is_readable
 readable_decided cells =
-    let p = λ (w : ℕ). all_below (λ b. nat_lt (cell_number cells (word_column w + b)) 2) 32 in
-    Decides-below_and p (λ w. HasBits cells (word_column w)) (all_below p) (λ w. bits_decided cells (word_column w) 32) refl (λ _. refl) 44
+    let p = λ (w : ℕ). all_true_below (λ b. nat_lt (cell_number cells (word_column w + b)) 2) 32 in
+    Decides-below_and p (λ w. HasBitCells cells (word_column w)) (all_true_below p) (λ w. bits_decided cells (word_column w) 32) refl (λ _. refl) 44
 
 -- the line of a row that is readable, and of one that isn't
 pub readable_line : (row : ℕ) (cells : List BabyBear) → IsReadable cells → row_line row cells ≡ words_line (printed_words cells)
@@ -36,4 +36,4 @@ unreadable_is row cells h =
 -- a row has 44 words
 pub length-printed_words : (cells : List BabyBear) → length (printed_words cells) ≡ 44
 unfolding printed_words
-length-printed_words cells = length-table 44 (λ w. word_at cells (word_column w))
+length-printed_words cells = length-tabulate 44 (λ w. word_at cells (word_column w))

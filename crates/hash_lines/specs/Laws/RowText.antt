@@ -5,7 +5,7 @@ use Rattle.std.specs.List.{join_with_byte}
 use Rattle.std.proofs.lemmas.List.{append-nil}
 use Rattle.hash_lines.specs.RowText.{word_text, words_line}
 
--- the first word, each other behind a space, and an LF
+-- the first word, each other after a space, and an LF
 joined_texts : (w : ℕ) (ws : List ℕ) → join_with_byte 32 (map word_text (w ∷ ws)) ≡ word_text w ++ flat_map (λ v. 32 ∷ word_text v) ws
 joined_texts w [] = sym (append-nil (word_text w))
 joined_texts w (v ∷ ws) = ap (λ t. word_text w ++ (32 ∷ t)) (joined_texts v ws)

@@ -4,30 +4,30 @@ use Rattle.std.proofs.lemmas.List.{length-map}
 use Rattle.p3_field.specs.Checks.{Check, NoneFails, in_turn}
 use Rattle.p3_field.specs.Domain.{CosetData}
 use Rattle.p3_field.specs.Laws.Checks.{none_append, none_of_each}
-use Rattle.p3_field.specs.Laws.Tables.{get_or-table}
-use Rattle.p3_field.specs.Poly.{table}
+use Rattle.p3_field.specs.Laws.Tabulate.{get_or-tabulate}
+use Rattle.p3_field.specs.Poly.{tabulate}
 use Rattle.p3_matrix.specs.Matrix.{Rows}
 use Rattle.batch_claims.specs.Claims.{bits_at, matrix_tables}
 use Rattle.batch_claims.specs.Laws.Listed.{listed_below}
 use Rattle.batch_identity_checks.specs.TableIdentity.{identity_of_table, terminal_check}
-use Rattle.batch_openings.specs.OpeningChecks.{bounds_of, claim_checks, domain_checks, log_chunks, metadata_check, opening_checks, opens_check}
+use Rattle.batch_openings.specs.OpeningChecks.{shape_bounds_of, claim_checks, domain_checks, log_chunks_of_table, metadata_check, opening_checks, opens_check}
 use Rattle.batch_setting.specs.Domains.{chunk_domains}
 use Rattle.batch_setting.specs.Setting.{Backend, Setting}
 use Rattle.batch_shape_checks.specs.ShapeChecks.{no_opened, shape_checks}
 use Rattle.batch_statement.specs.Proof.{OpenedWithLookups, ProofData}
-use Rattle.batch_statement.specs.Statement.{Statement, Table}
+use Rattle.batch_statement.specs.Statement.{Statement, AirTable}
 use Rattle.batch_statement.specs.declared.error.BatchVerificationError.{BatchVerificationError}
-use Rattle.batch_verifier.specs.BatchChecks.{Accepted, challenges_of, checks, domains_of, draw_part, drawn_of, identities_at, identity_part, table_challenges_of}
+use Rattle.batch_verifier.specs.BatchChecks.{Accepted, all_lookup_challenges, checks, domains_of, draw_part, drawn_of, identities_at, identity_part, table_challenges_of}
 use Rattle.committed_tables.specs.Fields.{FieldsLaws}
 use Rattle.batch_validity.specs.Traced.{TracedTable, log_parts, log_rows, traced_at}
 use Rattle.batch_validity.specs.Valid.{Valid}
-use Rattle.batch_validity.specs.Laws.Held.{lookups_declared}
-use Rattle.honest_proofs.specs.HonestProof.{AreCanonical, HaveFractions, IsHonest, IsLookupGround, IsOodGround, Prover, honest_claims, alpha, challenges_at, honest_proof, opened_of, opening_state, terminal_of, zeta}
+use Rattle.batch_validity.specs.Laws.Holding.{lookups_declared}
+use Rattle.honest_proofs.specs.HonestProof.{AreCanonical, HaveFractions, IsHonest, IsLookupGround, IsOodGround, Prover, honest_claims, alpha, challenges_at, honest_proof, opened_of, opening_state, honest_terminal, zeta}
 use Rattle.honest_proofs.specs.Laws.Draws.{reads_stages, same_challenges}
 use Rattle.honest_proofs.specs.Laws.Generated.{valid_identity}
 use Rattle.honest_proofs.specs.Laws.Ground.{ground_accepted}
 use Rattle.honest_proofs.specs.Laws.Terminals.{honest_vanish}
-use Rattle.honest_acceptance.specs.Honest.{AreRegular, IsOutside}
+use Rattle.honest_acceptance.specs.Honest.{AreRegular, IsOutsideRows}
 use Rattle.honest_acceptance.specs.Laws.Identity.{identity_pass}
 use Rattle.honest_acceptance.specs.Laws.Shape.{shape_pass}
 
@@ -57,16 +57,16 @@ module _ {S F E C P : Type 0} (c : Setting S F E C) (p : Prover F E C) (eq : F �
       (none_of_each (domain_checks c s proof {R = R}) n (λ i h.
       let Q = V.batch.domains i h in let T = V.batch.traced i h in
       let fits = Q.fits in let least = T.least in
-      let size : bits_at degree_bits i + log_chunks c s proof i ≡ log_rows c (at i) + log_parts c (at i) = omega (arith, least) in
+      let size : bits_at degree_bits i + log_chunks_of_table c s proof i ≡ log_rows c (at i) + log_parts c (at i) = omega (arith, least) in
       (omega (arith, fits, below, size), (omega (arith, fits, size), tt))))
       (none_of_each (metadata_check c s proof {R = R}) (length (matrix_tables s.common.preprocessed)) (λ m h.
       let i = get_or (matrix_tables s.common.preprocessed) m 0 in
       let within : i < n =
-      listed_below (map (λ (t : Table F). t.declaration) s.tables) s.common n V.batch.formed (length-map s.tables (λ (t : Table F). t.declaration)) m 0 h in
+      listed_below (map (λ (t : AirTable F). t.declaration) s.tables) s.common n V.batch.formed (length-map s.tables (λ (t : AirTable F). t.declaration)) m 0 h in
       (V.batch.entries i within, tt)))
 
   -- the identity of each table at the point holds
-  module _ (fractions : HaveFractions c p s traces degree_bits w) (outside : (i : ℕ) → i < n → IsOutside c (at i) x) where
+  module _ (fractions : HaveFractions c p s traces degree_bits w) (outside : (i : ℕ) → i < n → IsOutsideRows c (at i) x) where
     at_table : (i : ℕ) → List E → Option E → List (CosetData F) → (alpha zeta : E) → OpenedWithLookups E → List (Check (BatchVerificationError R))
     at_table i challenges terminal domains alpha zeta o =
         identity_of_table {R = R} c.field c.extension i (log_rows c (at i)) (at i).table (at i).lookups (at i).publics challenges terminal domains alpha zeta o
@@ -74,16 +74,16 @@ module _ {S F E C P : Type 0} (c : Setting S F E C) (p : Prover F E C) (eq : F �
     identities_pass : NoneFails (identity_part c s proof {R = R})
     unfolding at_table honest_proof
     identities_pass =
-        none_of_each (identities_at c s proof {R = R} (challenges_of c s proof) (domains_of c s proof) (drawn_of c s proof).alpha (drawn_of c s proof).zeta) n (λ i h.
+        none_of_each (identities_at c s proof {R = R} (all_lookup_challenges c s proof) (domains_of c s proof) (drawn_of c s proof).alpha (drawn_of c s proof).zeta) n (λ i h.
         let D = reads_stages c p s traces degree_bits w z opening in
-        let ends = λ (j : ℕ). terminal_of c p (at j) (challenges_at c p s traces degree_bits w j) in
+        let ends = λ (j : ℕ). honest_terminal c p (at j) (challenges_at c p s traces degree_bits w j) in
         let opened = λ (j : ℕ). opened_of c p (at j) (challenges_at c p s traces degree_bits w j) a x in
-        let parts = λ (j : ℕ). chunk_domains c (bits_at degree_bits j) (log_chunks c s proof j) in
-        let same_ch : get_or (challenges_of c s proof) i [] ≡ challenges_at c p s traces degree_bits w i =
-        get_or-table n (table_challenges_of c s proof) i [] h ∙ same_challenges c p s traces degree_bits w z opening i in
-        let same_end : get_or (table n ends) i None ≡ ends i = get_or-table n ends i None h in
-        let same_parts : get_or (table n parts) i [] ≡ parts i = get_or-table n parts i [] h in
-        let same_opened : get_or (table n opened) i no_opened ≡ opened i = get_or-table n opened i no_opened h in
+        let parts = λ (j : ℕ). chunk_domains c (bits_at degree_bits j) (log_chunks_of_table c s proof j) in
+        let same_ch : get_or (all_lookup_challenges c s proof) i [] ≡ challenges_at c p s traces degree_bits w i =
+        get_or-tabulate n (table_challenges_of c s proof) i [] h ∙ same_challenges c p s traces degree_bits w z opening i in
+        let same_end : get_or (tabulate n ends) i None ≡ ends i = get_or-tabulate n ends i None h in
+        let same_parts : get_or (tabulate n parts) i [] ≡ parts i = get_or-tabulate n parts i [] h in
+        let same_opened : get_or (tabulate n opened) i no_opened ≡ opened i = get_or-tabulate n opened i no_opened h in
         subst NoneFails (sym (λ j. at_table i (same_ch j) (same_end j) (same_parts j) (D.alpha_is j) (D.zeta_is j) (same_opened j)))
         (identity_pass c p (at i) (challenges_at c p s traces degree_bits w i) L (V.batch.domains i h) (V.batch.traced i h) a x (H i h).reads
         (lookups_declared c p.commitment_of s traces degree_bits p.inverse L V.batch i h)
@@ -109,7 +109,7 @@ module _ {S F E C P : Type 0} (c : Setting S F E C) (p : Prover F E C) (eq : F �
         → b.opens (opening_state c p s traces degree_bits w z) (honest_claims c p s traces degree_bits w z opening) opening → Accepted c b s proof
     unfolding checks
     parts_accepted b K eq_same same_eq lookup ood opened =
-        let k1 = shape_checks {R = R} c.field.ring (bounds_of c) s proof in
+        let k1 = shape_checks {R = R} c.field.ring (shape_bounds_of c) s proof in
         let k2 = draw_part c s proof {R = R} in
         let k3 = opening_checks c b s proof (drawn_of c s proof).zeta (drawn_of c s proof).opening in
         let k4 = identity_part c s proof {R = R} in
@@ -125,7 +125,7 @@ pub honest_accepted : {S F E C P R : Type 0} (c : Setting S F E C) (p : Prover F
     (L : FieldsLaws c.field c.extension c.two_adicity p.inverse) (eq_same : (x y : F) → eq x y ≡ true → x ≡ y) (same_eq : (x : F) → eq x x ≡ true) (K : AreCanonical c.field.ring c.order p.canonical)
     (V : Valid c eq p.commitment_of s traces degree_bits) (H : AreRegular c s traces degree_bits) (plain : c.zk ≡ false) (below : c.two_adicity < 64)
     (b : Backend S F E C P R) (q : ProofData F E C P) → IsHonest c p s traces degree_bits b q
-    → ((i : ℕ) → i < length s.tables → IsOutside c (traced_at s traces degree_bits i) (zeta c p s traces degree_bits q.lookup_pow_witness q.ood_pow_witness))
+    → ((i : ℕ) → i < length s.tables → IsOutsideRows c (traced_at s traces degree_bits i) (zeta c p s traces degree_bits q.lookup_pow_witness q.ood_pow_witness))
     → Accepted c b s q
 honest_accepted {R = R} c p eq s traces degree_bits L eq_same same_eq K V H plain below b q G outside =
     let B = G.built in

@@ -11,14 +11,14 @@ use Rattle.p3_air.specs.Shape.{Declaration, HasColumns, ReadsDeclared, declared_
 use Rattle.p3_air.specs.Tree.{Tree}
 use Rattle.batch_setting.specs.Setting.{Backend, Setting}
 use Rattle.batch_shape_checks.specs.ShapeChecks.{no_table}
-use Rattle.batch_statement.specs.Statement.{Common, Statement, Table, tables_of}
+use Rattle.batch_statement.specs.Statement.{Common, Statement, AirTable, tables_of}
 use Rattle.batch_validity.specs.Traced.{log_parts, log_rows, traced_at}
 use Rattle.batch_validity.specs.Valid.{IsTracedBatch, Valid}
 use Rattle.batch_statement.specs.Proof.{ProofData}
 use Rattle.batch_verifier.specs.BatchChecks.{Accepted}
 use Rattle.committed_tables.specs.Fields.{FieldsLaws}
 use Rattle.honest_proofs.specs.HonestProof.{AreCanonical, IsHonest, Prover, zeta}
-use Rattle.honest_acceptance.specs.Honest.{AreRegular, IsOutside}
+use Rattle.honest_acceptance.specs.Honest.{AreRegular, IsOutsideRows}
 use Rattle.honest_acceptance.specs.Laws.Accepted.{honest_accepted}
 
 -- below 2^63 and as much again
@@ -35,7 +35,7 @@ small_size k l top fits low =
 module _ {S F E C A : Type 0} (c : Setting S F E C) (commitment_of : List (CosetData F × Rows F) → C) (declaration : A → Declaration F) (trees : A → List (Tree F))
     (columns : (a : A) → HasColumns (declaration a).preprocessed) (reads : (a : A) → All (ReadsDeclared (declared_shape (declaration a))) (trees a)) (airs : List A)
     (s : Statement F C) (own : s.tables ≡ tables_of declaration trees airs) (traces : List (Rows F)) (degree_bits : List ℕ) (B : IsTracedBatch c commitment_of s traces degree_bits) (low : c.two_adicity < 63) where
-  abbrev Sound : Table F → Type 0
+  abbrev Sound : AirTable F → Type 0
   Sound t = HasColumns t.declaration.preprocessed × All (ReadsDeclared (declared_shape t.declaration)) t.trees
 
   all_sound : All Sound s.tables
@@ -58,7 +58,7 @@ pub airs_accepted : {S F E C P R A : Type 0} (c : Setting S F E C) (p : Prover F
     (K : AreCanonical c.field.ring c.order p.canonical) (b : Backend S F E C P R) (q : ProofData F E C P) → c.zk ≡ false → c.two_adicity < 63
     → let s : Statement F C = record { tables = tables_of declaration trees airs; publics = publics; common = common } in
     Valid c eq p.commitment_of s traces degree_bits → IsHonest c p s traces degree_bits b q
-    → ((i : ℕ) → i < length airs → IsOutside c (traced_at s traces degree_bits i) (zeta c p s traces degree_bits q.lookup_pow_witness q.ood_pow_witness)) → Accepted c b s q
+    → ((i : ℕ) → i < length airs → IsOutsideRows c (traced_at s traces degree_bits i) (zeta c p s traces degree_bits q.lookup_pow_witness q.ood_pow_witness)) → Accepted c b s q
 airs_accepted c p eq declaration trees columns reads airs publics common traces degree_bits L eq_same same_eq K b q plain low V G outside =
     let s : Statement _ _ = record { tables = tables_of declaration trees airs; publics = publics; common = common } in
     let long : length s.tables ≡ length airs = length-map airs _ in

@@ -7,7 +7,7 @@ use Rattle.p3_field.specs.Checks.{Check, NoneFails}
 use Rattle.p3_field.specs.Laws.Checks.{none_append}
 use Rattle.p3_field.specs.Domain.{CosetData, point}
 use Rattle.p3_field.specs.Laws.SubgroupSelectors.{subgroup}
-use Rattle.p3_field.specs.Poly.{table}
+use Rattle.p3_field.specs.Poly.{tabulate}
 use Rattle.p3_field.specs.Ring.{Ring}
 use Rattle.p3_matrix.specs.Matrix.{Rows}
 use Rattle.p3_air.specs.CellValues.{CellValues}
@@ -26,12 +26,12 @@ use Rattle.p3_uni_stark.specs.declared.error.VerificationError.{VerificationErro
 use Rattle.batch_constraints.specs.Laws.TreesRead.{lookup_trees_read}
 use Rattle.batch_identity.specs.Identity.{IsInDomain, OpenedTable, folded_at, identity_checks, opened_at, vanishing_at}
 use Rattle.batch_identity.specs.PeriodicValues.{periodic_value}
-use Rattle.batch_identity_checks.specs.TableIdentity.{identity_of_table, next_row, opened_table, periods_check, permutation_columns as column_count, preprocessed_local_of, verified}
+use Rattle.batch_identity_checks.specs.TableIdentity.{identity_of_table, next_row_or_zeros, opened_table, periods_check, permutation_column_count as column_count, preprocessed_local_of, verified}
 use Rattle.batch_setting.specs.Domains.{chunk_domains, next_by}
 use Rattle.batch_setting.specs.Setting.{Setting, masks}
 use Rattle.batch_shape_checks.specs.ShapeChecks.{chunks_of_table, permutation_width, preprocessed_next_of}
 use Rattle.batch_statement.specs.Proof.{OpenedWithLookups}
-use Rattle.batch_verifier_folder.specs.FolderState.{cells_of}
+use Rattle.batch_verifier_folder.specs.FolderState.{verifier_cells_of}
 use Rattle.committed_tables.specs.Committed.{CommittedTable, columns_at, next_point, periodic_poly, permutation_at}
 use Rattle.committed_tables.specs.Fields.{FieldsLaws}
 use Rattle.committed_tables.specs.Identity.{CommittedIdentity, CommittedQuotient}
@@ -42,7 +42,7 @@ use Rattle.committed_tables.specs.Laws.Degrees.{all_images}
 use Rattle.committed_tables.specs.Laws.Opened.{opened_by_rows, opened_identity, recombined_is}
 use Rattle.batch_validity.specs.Traced.{TracedTable, constraints, declared, log_parts, log_rows, quotient_shift}
 use Rattle.batch_validity.specs.Valid.{HasQuotientDomain, IsTraced}
-use Rattle.honest_proofs.specs.HonestProof.{Prover, committed_table, opened_of, terminal_of, where_some}
+use Rattle.honest_proofs.specs.HonestProof.{Prover, committed_table, opened_of, honest_terminal, where_some}
 use Rattle.honest_acceptance.specs.Laws.Lengths.{honest_commits, permutation_count}
 
 -- checks that are named as a batch's pass where they do
@@ -52,11 +52,11 @@ none_verified [] h = tt
 none_verified (k ∷ cs) h = (h.0, none_verified cs h.1)
 
 -- a next row that is declared is what is opened
-next_is : {E : Type 0} (zeros : List E) (ns : List ℕ) (xs : List E) (j : ℕ) → IsTrue (has ns j) → next_row zeros ns (where_some ns xs) ≡ xs
+next_is : {E : Type 0} (zeros : List E) (ns : List ℕ) (xs : List E) (j : ℕ) → IsTrue (has ns j) → next_row_or_zeros zeros ns (where_some ns xs) ≡ xs
 next_is zeros [] xs j h = absurd (false≢true h)
 next_is zeros (n ∷ ns) xs j h = refl
 
-next_none : {E : Type 0} (zeros : List E) (ns : List ℕ) (j : ℕ) → IsTrue (has ns j) → next_row zeros ns None ≡ []
+next_none : {E : Type 0} (zeros : List E) (ns : List ℕ) (j : ℕ) → IsTrue (has ns j) → next_row_or_zeros zeros ns None ≡ []
 next_none zeros [] j h = absurd (false≢true h)
 next_none zeros (n ∷ ns) j h = refl
 
@@ -126,10 +126,10 @@ module _ {S F E C : Type 0} (c : Setting S F E C) (p : Prover F E C) (t : Traced
 
   -- what a verifier reads of what is opened
   abbrev table_read : OpenedTable F E
-  table_read = opened_table c.field c.extension domain (declared t) (length t.lookups) t.publics challenges (option_to_list (terminal_of c p t challenges)) zeta o
+  table_read = opened_table c.field c.extension domain (declared t) (length t.lookups) t.publics challenges (option_to_list (honest_terminal c p t challenges)) zeta o
 
   abbrev values : CellValues E
-  values = cells_of c.extension.ring.zero c.extension.embed (opened_at c.field c.extension domain alpha zeta table_read)
+  values = verifier_cells_of c.extension.ring.zero c.extension.embed (opened_at c.field c.extension domain alpha zeta table_read)
 
   abbrev after : E
   after = next_by c.extension.ring c.extension.embed c.field.root (masks c) zeta t.degree_bits
@@ -147,7 +147,7 @@ module _ {S F E C : Type 0} (c : Setting S F E C) (p : Prover F E C) (t : Traced
   local_pre (Some m) polys I x y = refl
 
   next_pre : (m : Option (Rows F)) (polys : List (List F)) → InterpolateSome c.field domain m polys → (zeros : List E) (j : ℕ) → IsTrue (has (declared t).preprocessed_next j) → (x y : E)
-      → next_row zeros (declared t).preprocessed_next (preprocessed_next_of (option_map (λ m. record { local = columns_at c.field c.extension k polys x; next = where_some (declared t).preprocessed_next (columns_at c.field c.extension k polys y) }) m))
+      → next_row_or_zeros zeros (declared t).preprocessed_next (preprocessed_next_of (option_map (λ m. record { local = columns_at c.field c.extension k polys x; next = where_some (declared t).preprocessed_next (columns_at c.field c.extension k polys y) }) m))
       ≡ columns_at c.field c.extension k polys y
   next_pre None polys I zeros j h x y = next_none zeros (declared t).preprocessed_next j h ∙ sym (ap (λ ps. columns_at c.field c.extension k ps y) I)
   next_pre (Some m) polys I zeros j h x y = next_is zeros (declared t).preprocessed_next (columns_at c.field c.extension k polys y) j h
@@ -193,7 +193,7 @@ module _ {S F E C : Type 0} (c : Setting S F E C) (p : Prover F E C) (t : Traced
       let least = T.least in
       let size : t.degree_bits + log_chunks ≡ log_rows c t + log_parts c t = omega (arith, least) in
       let one : (t.degree_bits + log_chunks) - (log_chunks + masks c) ≡ log_rows c t = omega (arith, least) in
-      λ j. table (2 ^ log_parts c t) (λ i. record { shift = point c.field.ring c.field.root (record { shift = quotient_shift c; log_size = size j }) i; log_size = one j })
+      λ j. tabulate (2 ^ log_parts c t) (λ i. record { shift = point c.field.ring c.field.root (record { shift = quotient_shift c; log_size = size j }) i; log_size = one j })
 
   module _ (reads : All (ReadsDeclared (declared_shape (declared t))) t.table.trees) (are : All (IsLookup (declared_shape (declared t))) t.lookups)
       (holds : CommittedIdentity c.field c.extension k (constraints c t) quotient alpha zeta) (outside : IsInDomain c.field c.extension domain zeta → ⊥) where
@@ -207,7 +207,7 @@ module _ {S F E C : Type 0} (c : Setting S F E C) (p : Prover F E C) (t : Traced
 
     -- so no check of the table's identity fails
     pub identity_pass : (R : Type 0) (i : ℕ)
-        → NoneFails (identity_of_table {R = R} c.field c.extension i (log_rows c t) t.table t.lookups t.publics challenges (terminal_of c p t challenges) (chunk_domains c t.degree_bits log_chunks) alpha zeta o)
+        → NoneFails (identity_of_table {R = R} c.field c.extension i (log_rows c t) t.table t.lookups t.publics challenges (honest_terminal c p t challenges) (chunk_domains c t.degree_bits log_chunks) alpha zeta o)
     unfolding identity_checks folded_at NoneFails committed_table
     identity_pass R i =
         let f = c.field in let e = c.extension in

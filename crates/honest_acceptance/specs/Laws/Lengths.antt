@@ -5,8 +5,8 @@ use Rattle.std.proofs.lemmas.Bool.{false≢true}
 use Rattle.std.proofs.lemmas.List.{length-map}
 use Rattle.p3_field.specs.Checks.{NoneFails}
 use Rattle.p3_field.specs.Laws.Checks.{none_append}
-use Rattle.p3_field.specs.Laws.Tables.{length-table}
-use Rattle.p3_field.specs.Poly.{table, val_in}
+use Rattle.p3_field.specs.Laws.Tabulate.{length-tabulate}
+use Rattle.p3_field.specs.Poly.{tabulate, eval_poly_in}
 use Rattle.p3_matrix.specs.Matrix.{Rows}
 use Rattle.p3_air.specs.Shape.{HasColumns, width_of}
 use Rattle.batch_setting.specs.Domains.{next_by}
@@ -17,11 +17,11 @@ use Rattle.committed_tables.specs.Committed.{CommittedTable, columns_at, trace_d
 use Rattle.committed_tables.specs.Fields.{FieldsLaws}
 use Rattle.committed_tables.specs.Quotient.{honest_chunk}
 use Rattle.committed_tables.specs.Rows.{CommitsTo, InterpolateSome}
-use Rattle.committed_tables.specs.Laws.Degrees.{all_images, all_table}
+use Rattle.committed_tables.specs.Laws.Degrees.{all_images, all_tabulate}
 use Rattle.batch_validity.specs.Traced.{TracedTable, constraints, declared, log_parts, quotient_shift, traces_of}
 use Rattle.batch_validity.specs.Valid.{HasQuotientDomain, IsTraced}
-use Rattle.batch_validity.specs.Laws.Held.{commits_beside}
-use Rattle.honest_proofs.specs.HonestProof.{Prover, columns_for, committed_table, opened_of, permutation_columns, terminal_of, where_some}
+use Rattle.batch_validity.specs.Laws.Holding.{commits_beside}
+use Rattle.honest_proofs.specs.HonestProof.{Prover, columns_for, committed_table, opened_of, permutation_columns, honest_terminal, where_some}
 use Rattle.honest_proofs.specs.Laws.Generated.{permutation_tall}
 
 -- the next row is there where next columns are declared
@@ -61,7 +61,7 @@ module _ {S F E C : Type 0} (c : Setting S F E C) (p : Prover F E C) (t : Traced
   -- the table commits to the traces and the permutation columns
   pub honest_commits : CommitsTo c.field c.extension (committed_table c p t challenges) (traces_of t) (permutation_columns c p t challenges)
   unfolding committed_table
-  honest_commits = commits_beside c p.inverse L t Q (permutation_columns c p t challenges) challenges (option_to_list (terminal_of c p t challenges)) T (permutation_tall c p t challenges)
+  honest_commits = commits_beside c p.inverse L t Q (permutation_columns c p t challenges) challenges (option_to_list (honest_terminal c p t challenges)) T (permutation_tall c p t challenges)
 
   abbrev k : CommittedTable F E
   k = committed_table c p t challenges
@@ -89,8 +89,8 @@ module _ {S F E C : Type 0} (c : Setting S F E C) (p : Prover F E C) (t : Traced
         let after = next_by e.ring e.embed c.field.root (masks c) zeta t.degree_bits in (
           T.publics,
           (
-            columns_long (declared t).width (λ g. val_in e g zeta) k.main main_long,
-            (next_pass R i (declared t).width (declared t).main_next (columns_at c.field e k k.main after) (columns_long (declared t).width (λ g. val_in e g after) k.main main_long), tt),
+            columns_long (declared t).width (λ g. eval_poly_in e g zeta) k.main main_long,
+            (next_pass R i (declared t).width (declared t).main_next (columns_at c.field e k k.main after) (columns_long (declared t).width (λ g. eval_poly_in e g after) k.main main_long), tt),
           ),
         )
 
@@ -99,11 +99,11 @@ module _ {S F E C : Type 0} (c : Setting S F E C) (p : Prover F E C) (t : Traced
     chunk_pass R i =
         let e = c.extension in
         let u = honest_chunk c.field e k (quotient_shift c) (log_parts c t) (constraints c t) alpha in
-        let values = λ (gs : List (List F)). map (λ (g : List F). val_in e g zeta) gs in (
-          length-map (table (2 ^ log_parts c t) u) values ∙ length-table (2 ^ log_parts c t) u,
+        let values = λ (gs : List (List F)). map (λ (g : List F). eval_poly_in e g zeta) gs in (
+          length-map (tabulate (2 ^ log_parts c t) u) values ∙ length-tabulate (2 ^ log_parts c t) u,
           (
-            all_images (λ (gs : List (List F)). length gs ≡ e.dimension) (λ (ys : List E). length ys ≡ e.dimension) values (λ gs h. columns_long e.dimension (λ (g : List F). val_in e g zeta) gs h)
-                (table (2 ^ log_parts c t) u) (all_table (λ (gs : List (List F)). length gs ≡ e.dimension) (2 ^ log_parts c t) u (λ j. length-table e.dimension _)),
+            all_images (λ (gs : List (List F)). length gs ≡ e.dimension) (λ (ys : List E). length ys ≡ e.dimension) values (λ gs h. columns_long e.dimension (λ (g : List F). eval_poly_in e g zeta) gs h)
+                (tabulate (2 ^ log_parts c t) u) (all_tabulate (λ (gs : List (List F)). length gs ≡ e.dimension) (2 ^ log_parts c t) u (λ j. length-tabulate e.dimension _)),
             (tt, tt),
           ),
         )
@@ -115,31 +115,31 @@ module _ {S F E C : Type 0} (c : Setting S F E C) (p : Prover F E C) (t : Traced
     by_trace R i None h I x y = (refl, tt)
     by_trace R i (Some m) h I x y =
         preprocessed_pass R i m.width (declared t).preprocessed_next (columns_at c.field c.extension k k.preprocessed x) (columns_at c.field c.extension k k.preprocessed y) h
-        (columns_long m.width (λ g. val_in c.extension g x) k.preprocessed I.count) (columns_long m.width (λ g. val_in c.extension g y) k.preprocessed I.count)
+        (columns_long m.width (λ g. eval_poly_in c.extension g x) k.preprocessed I.count) (columns_long m.width (λ g. eval_poly_in c.extension g y) k.preprocessed I.count)
 
     preprocessed_of_pass : (R : Type 0) (i : ℕ) → NoneFails (preprocessed_checks {R = R} i (width_of (declared t).preprocessed) (declared t).preprocessed_next o.base.preprocessed)
     unfolding opened_of
     preprocessed_of_pass R i =
         by_trace R i (declared t).preprocessed has_columns honest_commits.preprocessed zeta (next_by c.extension.ring c.extension.embed c.field.root (masks c) zeta t.degree_bits)
 
-    lookup_pass : (R : Type 0) (i : ℕ) → NoneFails (lookup_checks {R = R} i (length t.lookups) c.extension.dimension o (is_there (terminal_of c p t challenges)))
-    unfolding NoneFails opened_of terminal_of
+    lookup_pass : (R : Type 0) (i : ℕ) → NoneFails (lookup_checks {R = R} i (length t.lookups) c.extension.dimension o (is_there (honest_terminal c p t challenges)))
+    unfolding NoneFails opened_of honest_terminal
     lookup_pass R i =
         let e = c.extension in
         let after = next_by e.ring e.embed c.field.root (masks c) zeta t.degree_bits in
         let w = permutation_width (length t.lookups) e.dimension in (
-          (columns_long w (λ g. val_in e g zeta) k.permutation permutation_count, columns_long w (λ g. val_in e g after) k.permutation permutation_count),
+          (columns_long w (λ g. eval_poly_in e g zeta) k.permutation permutation_count, columns_long w (λ g. eval_poly_in e g after) k.permutation permutation_count),
           (terminal_there t.lookups _, tt),
         )
 
     -- so no check of what is opened of the table fails
     pub table_pass : (R : Type 0) (i : ℕ)
-        → NoneFails (table_checks {R = R} i (declared t) (length t.publics) (2 ^ log_parts c t) c.extension.dimension (length t.lookups) o (is_there (terminal_of c p t challenges)))
+        → NoneFails (table_checks {R = R} i (declared t) (length t.publics) (2 ^ log_parts c t) c.extension.dimension (length t.lookups) o (is_there (honest_terminal c p t challenges)))
     unfolding table_checks
     table_pass R i =
         let d = declared t in
         let a = main_checks {R = R} i d (length t.publics) o.base in
         let b = chunk_checks {R = R} i (2 ^ log_parts c t) c.extension.dimension o.base in
         let q = preprocessed_checks {R = R} i (width_of d.preprocessed) d.preprocessed_next o.base.preprocessed in
-        let l = lookup_checks {R = R} i (length t.lookups) c.extension.dimension o (is_there (terminal_of c p t challenges)) in
+        let l = lookup_checks {R = R} i (length t.lookups) c.extension.dimension o (is_there (honest_terminal c p t challenges)) in
         none_append (a ++ b ++ q) l (none_append (a ++ b) q (none_append a b (main_pass R i) (chunk_pass R i)) (preprocessed_of_pass R i)) (lookup_pass R i)

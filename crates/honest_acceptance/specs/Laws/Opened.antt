@@ -5,13 +5,13 @@ use Rattle.p3_field.specs.Domain.{CosetData, point}
 use Rattle.p3_field.specs.Ring.{Ring}
 use Rattle.p3_matrix.specs.Matrix.{Rows}
 use Rattle.p3_commit.specs.Claims.{CommitmentClaim, Request}
-use Rattle.p3_commit.specs.Commitments.{AreCommitted, AreHeld, AvoidAll, Committed, Held, IsOpening, opened, values_of}
+use Rattle.p3_commit.specs.Commitments.{AreCommitted, AreOpenedCommitments, AvoidAll, Committed, OpenedCommitment, IsOpening, opened, values_of}
 use Rattle.batch_setting.specs.Setting.{Setting}
 use Rattle.batch_statement.specs.Statement.{Statement}
 use Rattle.committed_tables.specs.Fields.{FieldsLaws}
 use Rattle.batch_validity.specs.Valid.{IsTracedBatch}
 use Rattle.honest_proofs.specs.HonestProof.{Prover, honest_claims}
-use Rattle.honest_acceptance.specs.Rounds.{AskFor, OpenedMatrix, Round, committed_of, held_of, honest_rounds, values_in_rounds}
+use Rattle.honest_acceptance.specs.Rounds.{AskFor, OpenedMatrix, Round, committed_of, opened_commitments_of, honest_rounds, values_in_rounds}
 use Rattle.honest_acceptance.specs.Laws.Rounds.{ArePaired, honest_are_claims, paired_from}
 
 -- the values of matrices beside their points
@@ -21,7 +21,7 @@ matrices_opened r embed [] = refl
 matrices_opened r embed (o ∷ os) = ap (λ l. map (values_of r embed o.committed) o.points ∷ l) (matrices_opened r embed os)
 
 rounds_opened : {F E C D : Type 0} (r : Ring E) (embed : F → E) (rounds : List (Round F E C)) (requests : List (Request D E))
-    → ArePaired (λ (x : Round F E C) (q : Request D E). q.points ≡ map (λ (o : OpenedMatrix F E). o.points) x.matrices) rounds requests → opened r embed (held_of rounds) requests ≡ values_in_rounds r embed rounds
+    → ArePaired (λ (x : Round F E C) (q : Request D E). q.points ≡ map (λ (o : OpenedMatrix F E). o.points) x.matrices) rounds requests → opened r embed (opened_commitments_of rounds) requests ≡ values_in_rounds r embed rounds
 rounds_opened r embed [] [] h = refl
 rounds_opened r embed [] (q ∷ requests) h = absurd h
 rounds_opened r embed (x ∷ rounds) [] h = absurd h
@@ -34,13 +34,13 @@ module _ {S F E C D P : Type 0} (c : Setting S F E C) (p : Prover F E C) (s : St
     (L : FieldsLaws c.field c.extension c.two_adicity p.inverse) (B : IsTracedBatch c p.commitment_of s traces degree_bits) (plain : c.zk ≡ false) (w : Option F) (z : F) (opening : P)
     (points : CosetData F → ℕ) (sizes : (d : CosetData F) → points d ≡ 2 ^ d.log_size) (holds : D → C → List (Committed F) → Type 0) (excludes : E → Type 0)
     (accepts : List (CommitmentClaim E C (CosetData F)) → Type 0) (requests : List (Request D E)) (values : List (List (List (List E))))
-    (ask : AskFor (honest_rounds c p s traces degree_bits w z) requests) (held : AreHeld holds requests (held_of (honest_rounds c p s traces degree_bits w z)))
-    (opens : (held : List (Held C F)) → AreHeld holds requests held → IsOpening c.extension.ring c.extension.embed points excludes accepts requests values held) where
+    (ask : AskFor (honest_rounds c p s traces degree_bits w z) requests) (held : AreOpenedCommitments holds requests (opened_commitments_of (honest_rounds c p s traces degree_bits w z)))
+    (opens : (held : List (OpenedCommitment C F)) → AreOpenedCommitments holds requests held → IsOpening c.extension.ring c.extension.embed points excludes accepts requests values held) where
   abbrev rounds : List (Round F E C)
   rounds = honest_rounds c p s traces degree_bits w z
 
-  O : IsOpening c.extension.ring c.extension.embed (λ (d : CosetData F). 2 ^ d.log_size) excludes accepts requests values (held_of rounds)
-  O = subst (λ q. IsOpening c.extension.ring c.extension.embed q excludes accepts requests values (held_of rounds)) (λ i d. sizes d i) (opens (held_of rounds) held)
+  O : IsOpening c.extension.ring c.extension.embed (λ (d : CosetData F). 2 ^ d.log_size) excludes accepts requests values (opened_commitments_of rounds)
+  O = subst (λ q. IsOpening c.extension.ring c.extension.embed q excludes accepts requests values (opened_commitments_of rounds)) (λ i d. sizes d i) (opens (opened_commitments_of rounds) held)
 
   pub opening_taken : AvoidAll excludes requests → accepts (honest_claims c p s traces degree_bits w z opening)
   opening_taken avoid = O.accepted (honest_claims c p s traces degree_bits w z opening) (honest_are_claims c p s traces degree_bits L B plain w z opening requests ask) avoid

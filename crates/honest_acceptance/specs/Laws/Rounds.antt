@@ -5,8 +5,8 @@ use Rattle.std.specs.List.{flat_map}
 use Rattle.std.proofs.Math.Nat.{mul-le-mul_right}
 use Rattle.std.proofs.lemmas.List.{get_or-map, length-map}
 use Rattle.p3_field.specs.Domain.{CosetData}
-use Rattle.p3_field.specs.Laws.Tables.{get_or-table, length-table}
-use Rattle.p3_field.specs.Poly.{table, val_in}
+use Rattle.p3_field.specs.Laws.Tabulate.{get_or-tabulate, length-tabulate}
+use Rattle.p3_field.specs.Poly.{tabulate, eval_poly_in}
 use Rattle.p3_matrix.specs.Matrix.{Rows}
 use Rattle.p3_commit.specs.Claims.{CommitmentClaim, MatrixClaim, Request}
 use Rattle.p3_commit.specs.Commitments.{AreClaims, Committed, IsMatrixClaim, IsRoundClaim}
@@ -15,12 +15,12 @@ use Rattle.p3_lookup.specs.Lookup.{LookupData}
 use Rattle.p3_field.specs.Domain.{point}
 use Rattle.p3_field.specs.Laws.SubgroupSelectors.{subgroup}
 use Rattle.p3_air.specs.Shape.{Declaration}
-use Rattle.batch_claims.specs.Claims.{at_point, bits_at, chunk_claim, chunk_claims, chunk_domains_at, claims_by, commitment_in, declared_at, instance_at, local_row, main_claim, matrix_claim, matrix_tables, next_row, on_subgroup, permutation_claims, preprocessed_claim, round, values_in, where_declared, where_opened}
+use Rattle.batch_claims.specs.Claims.{at_point, bits_at, chunk_claim, chunk_claims, chunk_domains_at, claims_by, commitment_in, declared_at, instance_at, preprocessed_local_row, main_claim, preprocessed_matrix_claim, matrix_tables, preprocessed_next_row, on_subgroup, permutation_claims, preprocessed_claim, claims_of_round, values_where_there, where_declared, where_opened}
 use Rattle.batch_claims.specs.Laws.Listed.{listed_below}
 use Rattle.batch_setting.specs.Domains.{chunk_domains, next_by, offered}
-use Rattle.batch_statement.specs.Statement.{Statement, Table}
+use Rattle.batch_statement.specs.Statement.{Statement, AirTable}
 use Rattle.batch_setting.specs.Setting.{Setting, masks}
-use Rattle.batch_shape_checks.specs.ShapeChecks.{chunks_at, no_opened, no_table, permutation_width}
+use Rattle.batch_shape_checks.specs.ShapeChecks.{log_chunks_at, no_opened, no_table, permutation_width}
 use Rattle.batch_statement.specs.Proof.{OpenedWithLookups}
 use Rattle.committed_tables.specs.Committed.{CommittedTable, columns_at, trace_domain}
 use Rattle.committed_tables.specs.Quotient.{honest_chunk}
@@ -28,8 +28,8 @@ use Rattle.committed_tables.specs.Fields.{FieldsLaws}
 use Rattle.committed_tables.specs.Rows.{CommitsTo, InterpolateSome}
 use Rattle.batch_validity.specs.Traced.{TracedTable, constraints, declared, log_parts, log_rows, quotient_shift, traced_at, traces_of}
 use Rattle.batch_validity.specs.Valid.{IsTracedBatch}
-use Rattle.honest_proofs.specs.HonestProof.{Prover, alpha, challenges_at, committed_table, honest_claims, honest_proof, main_part, opened_of, permutation_columns, permutation_part, quotient_part, where_some, zeta}
-use Rattle.honest_acceptance.specs.Rounds.{AskFor, IsRoundOf, OpenedMatrix, Round, chunk_opened, chunks_opened, held_of, honest_rounds, main_opened, of_table, permutation_opened, point_after, points_with, preprocessed_opened, round_of}
+use Rattle.honest_proofs.specs.HonestProof.{Prover, alpha, challenges_at, committed_table, honest_claims, honest_proof, honest_main_commitment, opened_of, permutation_columns, honest_permutation_commitment, honest_quotient_commitment, where_some, zeta}
+use Rattle.honest_acceptance.specs.Rounds.{AskFor, IsRoundOf, OpenedMatrix, Round, chunk_opened, chunks_opened, opened_commitments_of, honest_rounds, main_opened, of_table, permutation_opened, point_after, points_with, preprocessed_opened, round_of}
 use Rattle.honest_acceptance.specs.Laws.Lengths.{honest_commits, permutation_count}
 
 -- lists of one length, whose items are in the relation place by place
@@ -61,9 +61,9 @@ paired_from R [] (y ∷ ys) h = let c = h.count in absurd (omega (arith, c))
 paired_from R (x ∷ xs) [] h = let c = h.count in absurd (omega (arith, c))
 paired_from R (x ∷ xs) (y ∷ ys) h = (h.each zero y refl x refl, paired_from R xs ys (record { count = (let c = h.count in omega (arith, c)); each = λ i. h.each (suc i) }))
 
-paired_table : {X Y : Type 0} (R : X → Y → Type 0) (n : ℕ) (u : ℕ → X) (v : ℕ → Y) → ((i : ℕ) → i < n → R (u i) (v i)) → ArePaired R (table n u) (table n v)
-paired_table R zero u v h = tt
-paired_table R (suc n) u v h = (h zero (omega arith), paired_table R n (λ i. u (suc i)) (λ i. v (suc i)) (λ i l. h (suc i) (omega (arith, l))))
+paired_tabulate : {X Y : Type 0} (R : X → Y → Type 0) (n : ℕ) (u : ℕ → X) (v : ℕ → Y) → ((i : ℕ) → i < n → R (u i) (v i)) → ArePaired R (tabulate n u) (tabulate n v)
+paired_tabulate R zero u v h = tt
+paired_tabulate R (suc n) u v h = (h zero (omega arith), paired_tabulate R n (λ i. u (suc i)) (λ i. v (suc i)) (λ i l. h (suc i) (omega (arith, l))))
 
 pub paired_append : {X Y : Type 0} (R : X → Y → Type 0) (xs us : List X) (ys vs : List Y) → ArePaired R xs ys → ArePaired R us vs → ArePaired R (xs ++ us) (ys ++ vs)
 paired_append R [] us [] vs h k = k
@@ -71,22 +71,22 @@ paired_append R [] us (y ∷ ys) vs h k = absurd h
 paired_append R (x ∷ xs) us [] vs h k = absurd h
 paired_append R (x ∷ xs) us (y ∷ ys) vs h k = (h.0, paired_append R xs us ys vs h.1 k)
 
-paired_flat : {X Y : Type 0} (R : X → Y → Type 0) (g : ℕ → List X) (h : ℕ → List Y) (n : ℕ) (q : ℕ → ℕ) → ((i : ℕ) → i < n → ArePaired R (g (q i)) (h (q i))) → ArePaired R (flat_map g (table n q)) (flat_map h (table n q))
+paired_flat : {X Y : Type 0} (R : X → Y → Type 0) (g : ℕ → List X) (h : ℕ → List Y) (n : ℕ) (q : ℕ → ℕ) → ((i : ℕ) → i < n → ArePaired R (g (q i)) (h (q i))) → ArePaired R (flat_map g (tabulate n q)) (flat_map h (tabulate n q))
 paired_flat R g h zero q p = tt
 paired_flat R g h (suc n) q p =
-    paired_append R (g (q zero)) (flat_map g (table n (λ i. q (suc i)))) (h (q zero)) (flat_map h (table n (λ i. q (suc i)))) (p zero (omega arith))
+    paired_append R (g (q zero)) (flat_map g (tabulate n (λ i. q (suc i)))) (h (q zero)) (flat_map h (tabulate n (λ i. q (suc i)))) (p zero (omega arith))
     (paired_flat R g h n (λ i. q (suc i)) (λ i l. p (suc i) (omega (arith, l))))
 
 -- the claims on a round that is there where its commitment is
 paired_round : {S F E C : Type 0} (c : Setting S F E C) (o : Option C) (xs : List (OpenedMatrix F E)) (ms : List (MatrixClaim E (CosetData F)))
-    → ArePaired (λ x m. IsMatrixClaim c.extension.ring c.extension.embed (λ (e : CosetData F). 2 ^ e.log_size) x.committed x.points m) xs ms → ArePaired (IsRoundOf c) (round_of o xs) (round o ms)
+    → ArePaired (λ x m. IsMatrixClaim c.extension.ring c.extension.embed (λ (e : CosetData F). 2 ^ e.log_size) x.committed x.points m) xs ms → ArePaired (IsRoundOf c) (round_of o xs) (claims_of_round o ms)
 paired_round c None xs ms h = tt
 paired_round c (Some commitment) xs ms h =
     (record { commitment_is = refl; matrices_are = each_paired (λ x m. IsMatrixClaim c.extension.ring c.extension.embed (λ e. 2 ^ e.log_size) x.committed x.points m) xs ms h }, tt)
 
 -- a claim at zeta, and at the next point where next columns are declared
 points_same : {E : Type 0} (ns : List ℕ) (V : E → List E) (x y : E)
-    → at_point x (V x) ∷ where_declared ns (at_point y (values_in (where_some ns (V y)))) ≡ map (λ u. record { point = u; values = V u }) (points_with ns x y)
+    → at_point x (V x) ∷ where_declared ns (at_point y (values_where_there (where_some ns (V y)))) ≡ map (λ u. record { point = u; values = V u }) (points_with ns x y)
 points_same [] V x y = refl
 points_same (n ∷ ns) V x y = refl
 
@@ -109,14 +109,14 @@ module _ {S F E C : Type 0} (c : Setting S F E C) (p : Prover F E C) (t : Traced
 
   -- the claim on the main columns
   main_is : IsClaimOf (main_opened c p t challenges folding point)
-      (on_subgroup c.field.ring t.degree_bits (at_point point o.base.trace_local ∷ where_declared (declared t).main_next (at_point after (values_in o.base.trace_next))))
+      (on_subgroup c.field.ring t.degree_bits (at_point point o.base.trace_local ∷ where_declared (declared t).main_next (at_point after (values_where_there o.base.trace_next))))
   unfolding opened_of
   main_is = record { size_is = refl; points_are = points_same (declared t).main_next (columns_at c.field c.extension k k.main) point after }
 
   -- that on the preprocessed columns
   preprocessed_points : (m : Option (Rows F)) → InterpolateSome c.field (trace_domain c.field c.extension k) m k.preprocessed
-      → at_point point (local_row (option_map (λ m. record { local = columns_at c.field c.extension k k.preprocessed point; next = where_some (declared t).preprocessed_next (columns_at c.field c.extension k k.preprocessed after) }) m))
-      ∷ where_declared (declared t).preprocessed_next (at_point after (next_row (option_map (λ m. record { local = columns_at c.field c.extension k k.preprocessed point; next = where_some (declared t).preprocessed_next (columns_at c.field c.extension k k.preprocessed after) }) m)))
+      → at_point point (preprocessed_local_row (option_map (λ m. record { local = columns_at c.field c.extension k k.preprocessed point; next = where_some (declared t).preprocessed_next (columns_at c.field c.extension k k.preprocessed after) }) m))
+      ∷ where_declared (declared t).preprocessed_next (at_point after (preprocessed_next_row (option_map (λ m. record { local = columns_at c.field c.extension k k.preprocessed point; next = where_some (declared t).preprocessed_next (columns_at c.field c.extension k k.preprocessed after) }) m)))
       ≡ map (λ u. record { point = u; values = columns_at c.field c.extension k k.preprocessed u }) (points_with (declared t).preprocessed_next point after)
   preprocessed_points None I = none_there (declared t).preprocessed_next ∙ ap (λ ps. map (λ u. record { point = u; values = columns_at c.field c.extension k ps u }) (points_with (declared t).preprocessed_next point after)) (sym I)
     where
@@ -126,7 +126,7 @@ module _ {S F E C : Type 0} (c : Setting S F E C) (p : Prover F E C) (t : Traced
   preprocessed_points (Some m) I = points_same (declared t).preprocessed_next (columns_at c.field c.extension k k.preprocessed) point after
 
   preprocessed_is : InterpolateSome c.field (trace_domain c.field c.extension k) (declared t).preprocessed k.preprocessed → IsClaimOf (preprocessed_opened c p t challenges folding point)
-      (on_subgroup c.field.ring t.degree_bits (at_point point (local_row o.base.preprocessed) ∷ where_declared (declared t).preprocessed_next (at_point after (next_row o.base.preprocessed))))
+      (on_subgroup c.field.ring t.degree_bits (at_point point (preprocessed_local_row o.base.preprocessed) ∷ where_declared (declared t).preprocessed_next (at_point after (preprocessed_next_row o.base.preprocessed))))
   unfolding opened_of
   preprocessed_is I = record { size_is = refl; points_are = preprocessed_points (declared t).preprocessed I }
 
@@ -135,16 +135,16 @@ module _ {S F E C : Type 0} (c : Setting S F E C) (p : Prover F E C) (t : Traced
   unfolding opened_of
   chunk_is j h size e =
       let u = honest_chunk c.field c.extension k (quotient_shift c) (log_parts c t) (constraints c t) folding in
-      let values = λ (gs : List (List F)). map (λ (g : List F). val_in c.extension g point) gs in
-      let there : get_or (map values (table (2 ^ log_parts c t) u)) j [] ≡ values (u j) =
-      get_or-map values (table (2 ^ log_parts c t) u) j [] [] (let l = length-table (2 ^ log_parts c t) u in omega (arith, h, l)) ∙ ap values (get_or-table (2 ^ log_parts c t) u j [] h) in
+      let values = λ (gs : List (List F)). map (λ (g : List F). eval_poly_in c.extension g point) gs in
+      let there : get_or (map values (tabulate (2 ^ log_parts c t) u)) j [] ≡ values (u j) =
+      get_or-map values (tabulate (2 ^ log_parts c t) u) j [] [] (let l = length-tabulate (2 ^ log_parts c t) u in omega (arith, h, l)) ∙ ap values (get_or-tabulate (2 ^ log_parts c t) u j [] h) in
       record { size_is = ap (λ m. 2 ^ m) e; points_are = λ q. at_point point (there q) ∷ [] }
 
   -- and those on the permutation columns, where there are lookups
   permutation_claims_are : length k.permutation ≡ permutation_width (length t.lookups) c.extension.dimension → 0 < c.extension.dimension
       → ArePaired IsClaimOf (permutation_opened c p t challenges folding point) (where_opened c.field.ring point after t.degree_bits o.permutation_local o.permutation_next)
   unfolding opened_of
-  permutation_claims_are count pos = by_lookups t.lookups (columns_at c.field c.extension k k.permutation point) refl (length-map k.permutation (λ g. val_in c.extension g point) ∙ count)
+  permutation_claims_are count pos = by_lookups t.lookups (columns_at c.field c.extension k k.permutation point) refl (length-map k.permutation (λ g. eval_poly_in c.extension g point) ∙ count)
     where
       by_lookups : (ls : List (LookupData F)) (row : List E) → row ≡ columns_at c.field c.extension k k.permutation point → length row ≡ permutation_width (length ls) c.extension.dimension
           → ArePaired IsClaimOf (option_to_list (where_some ls (record { committed = record { size = 2 ^ t.degree_bits; polynomials = k.permutation }; points = point ∷ after ∷ [] })))
@@ -182,7 +182,7 @@ module _ {S F E C : Type 0} (c : Setting S F E C) where
   }
 
   asked : {D : Type 0} (rs : List (Round F E C)) (qs : List (Request D E)) (ds : List (CommitmentClaim E C (CosetData F))) → ArePaired (λ r q. q.points ≡ map (λ o. o.points) r.matrices) rs qs → ArePaired (IsRoundOf c) rs ds
-      → ArePaired (λ h d. IsRoundClaim c.extension.ring c.extension.embed (λ (e : CosetData F). 2 ^ e.log_size) h.0 h.1 d) (zip (held_of rs) qs) ds
+      → ArePaired (λ h d. IsRoundClaim c.extension.ring c.extension.embed (λ (e : CosetData F). 2 ^ e.log_size) h.0 h.1 d) (zip (opened_commitments_of rs) qs) ds
   asked [] [] [] h k = tt
   asked [] [] (d ∷ ds) h k = k
   asked [] (q ∷ qs) ds h k = absurd h
@@ -208,10 +208,10 @@ module _ {S F E C P : Type 0} (c : Setting S F E C) (p : Prover F E C) (s : Stat
   x = zeta c p s traces degree_bits w z
 
   abbrev declarations : List (Declaration F)
-  declarations = map (λ (t : Table F). t.declaration) s.tables
+  declarations = map (λ (t : AirTable F). t.declaration) s.tables
 
   abbrev instances : List (OpenedWithLookups E)
-  instances = table n (λ i. opened_of c p (at i) (ch i) a x)
+  instances = tabulate n (λ i. opened_of c p (at i) (ch i) a x)
 
   abbrev next_at : ℕ → E
   next_at bits = next_by c.extension.ring c.extension.embed c.field.root (masks c) x bits
@@ -220,47 +220,47 @@ module _ {S F E C P : Type 0} (c : Setting S F E C) (p : Prover F E C) (s : Stat
   IsClaim y m = IsMatrixClaim c.extension.ring c.extension.embed (λ (e : CosetData F). 2 ^ e.log_size) y.committed y.points m
 
   long : length declarations ≡ n
-  long = length-map s.tables (λ (t : Table F). t.declaration)
+  long = length-map s.tables (λ (t : AirTable F). t.declaration)
 
   declared_same : (i : ℕ) → i < n → declared_at declarations i ≡ declared (at i)
-  declared_same i h = get_or-map (λ (t : Table F). t.declaration) s.tables i no_table (no_table {F = F}).declaration h
+  declared_same i h = get_or-map (λ (t : AirTable F). t.declaration) s.tables i no_table (no_table {F = F}).declaration h
 
   instance_same : (i : ℕ) → i < n → instance_at instances i ≡ opened_of c p (at i) (ch i) a x
-  instance_same i h = get_or-table n (λ i. opened_of c p (at i) (ch i) a x) i no_opened h
+  instance_same i h = get_or-tabulate n (λ i. opened_of c p (at i) (ch i) a x) i no_opened h
 
   commits_at : (i : ℕ) → i < n → CommitsTo c.field c.extension (committed_table c p (at i) (ch i)) (traces_of (at i)) (permutation_columns c p (at i) (ch i))
   commits_at i h = honest_commits c p (at i) (ch i) L (B.domains i h) (B.traced i h)
 
   -- the rounds one by one
-  mains : ArePaired IsClaim (table n (of_table c p s traces degree_bits w z (main_opened c p))) (table (length declarations) (main_claim c.field.ring x next_at declarations degree_bits instances))
+  mains : ArePaired IsClaim (tabulate n (of_table c p s traces degree_bits w z (main_opened c p))) (tabulate (length declarations) (main_claim c.field.ring x next_at declarations degree_bits instances))
   mains =
-      subst (λ m. ArePaired IsClaim (table n (of_table c p s traces degree_bits w z (main_opened c p))) (table m (main_claim c.field.ring x next_at declarations degree_bits instances))) (sym long)
-      (paired_table IsClaim n (of_table c p s traces degree_bits w z (main_opened c p)) (main_claim c.field.ring x next_at declarations degree_bits instances) (λ i h.
+      subst (λ m. ArePaired IsClaim (tabulate n (of_table c p s traces degree_bits w z (main_opened c p))) (tabulate m (main_claim c.field.ring x next_at declarations degree_bits instances))) (sym long)
+      (paired_tabulate IsClaim n (of_table c p s traces degree_bits w z (main_opened c p)) (main_claim c.field.ring x next_at declarations degree_bits instances) (λ i h.
       let claim = λ (d : Declaration F) (o : OpenedWithLookups E).
-      on_subgroup c.field.ring (bits_at degree_bits i) (at_point x o.base.trace_local ∷ where_declared d.main_next (at_point (next_at (bits_at degree_bits i)) (values_in o.base.trace_next))) in
+      on_subgroup c.field.ring (bits_at degree_bits i) (at_point x o.base.trace_local ∷ where_declared d.main_next (at_point (next_at (bits_at degree_bits i)) (values_where_there o.base.trace_next))) in
       subst (IsClaim (of_table c p s traces degree_bits w z (main_opened c p) i)) (sym (λ j. claim (declared_same i h j) (instance_same i h j))) (main_is c p (at i) (ch i) a x)))
 
   preprocessed_at : (i : ℕ) → i < n → IsClaim (of_table c p s traces degree_bits w z (preprocessed_opened c p) i) (preprocessed_claim c.field.ring x next_at declarations degree_bits instances i)
   preprocessed_at i h =
       let claim = λ (d : Declaration F) (o : OpenedWithLookups E).
-      on_subgroup c.field.ring (bits_at degree_bits i) (at_point x (local_row o.base.preprocessed) ∷ where_declared d.preprocessed_next (at_point (next_at (bits_at degree_bits i)) (next_row o.base.preprocessed))) in
+      on_subgroup c.field.ring (bits_at degree_bits i) (at_point x (preprocessed_local_row o.base.preprocessed) ∷ where_declared d.preprocessed_next (at_point (next_at (bits_at degree_bits i)) (preprocessed_next_row o.base.preprocessed))) in
       subst (IsClaim (of_table c p s traces degree_bits w z (preprocessed_opened c p) i)) (sym (λ j. claim (declared_same i h j) (instance_same i h j)))
       (preprocessed_is c p (at i) (ch i) a x (commits_at i h).preprocessed)
 
   preprocesseds : let ms = matrix_tables s.common.preprocessed in
-      ArePaired IsClaim (table (length ms) (λ m. of_table c p s traces degree_bits w z (preprocessed_opened c p) (get_or ms m 0)))
-      (table (length ms) (matrix_claim c.field.ring x next_at declarations degree_bits instances ms))
+      ArePaired IsClaim (tabulate (length ms) (λ m. of_table c p s traces degree_bits w z (preprocessed_opened c p) (get_or ms m 0)))
+      (tabulate (length ms) (preprocessed_matrix_claim c.field.ring x next_at declarations degree_bits instances ms))
   preprocesseds =
       let ms = matrix_tables s.common.preprocessed in
-      paired_table IsClaim (length ms) (λ m. of_table c p s traces degree_bits w z (preprocessed_opened c p) (get_or ms m 0)) (matrix_claim c.field.ring x next_at declarations degree_bits instances ms)
+      paired_tabulate IsClaim (length ms) (λ m. of_table c p s traces degree_bits w z (preprocessed_opened c p) (get_or ms m 0)) (preprocessed_matrix_claim c.field.ring x next_at declarations degree_bits instances ms)
       (λ m h. preprocessed_at (get_or ms m 0) (listed_below declarations s.common n B.formed long m 0 h))
 
-  permutations : ArePaired IsClaim (flat_map (of_table c p s traces degree_bits w z (permutation_opened c p)) (table n (λ i. i)))
-      (flat_map (permutation_claims c.field.ring x next_at degree_bits instances) (table (length declarations) (λ i. i)))
+  permutations : ArePaired IsClaim (flat_map (of_table c p s traces degree_bits w z (permutation_opened c p)) (tabulate n (λ i. i)))
+      (flat_map (permutation_claims c.field.ring x next_at degree_bits instances) (tabulate (length declarations) (λ i. i)))
   permutations =
       let g = of_table c p s traces degree_bits w z (permutation_opened c p) in
       let h = permutation_claims c.field.ring x next_at degree_bits instances in
-      subst (λ m. ArePaired IsClaim (flat_map g (table n (λ i. i))) (flat_map h (table m (λ i. i)))) (sym long)
+      subst (λ m. ArePaired IsClaim (flat_map g (tabulate n (λ i. i))) (flat_map h (tabulate m (λ i. i)))) (sym long)
       (paired_flat IsClaim g h n (λ i. i) (λ i b.
       let claim = λ (o : OpenedWithLookups E). where_opened c.field.ring x (next_at (bits_at degree_bits i)) (bits_at degree_bits i) o.permutation_local o.permutation_next in
       subst (ArePaired IsClaim (g i)) (sym (λ j. claim (instance_same i b j)))
@@ -268,41 +268,41 @@ module _ {S F E C P : Type 0} (c : Setting S F E C) (p : Prover F E C) (s : Stat
 
   -- the chunks' domains as they are listed
   abbrev chunk_logs : List ℕ
-  chunk_logs = table n (λ i. chunks_at c.field.ring (masks c) s.tables s.common.lookups degree_bits i)
+  chunk_logs = tabulate n (λ i. log_chunks_at c.field.ring (masks c) s.tables s.common.lookups degree_bits i)
 
   abbrev domains_of_chunks : List (List (CosetData F))
-  domains_of_chunks = table (length declarations) (chunk_domains_at c.field.ring c.field.root c.field.generator (masks c) degree_bits chunk_logs)
+  domains_of_chunks = tabulate (length declarations) (chunk_domains_at c.field.ring c.field.root c.field.generator (masks c) degree_bits chunk_logs)
 
   none_masked : masks c ≡ 0
   none_masked = ap (λ b. cond b 1 0) plain
 
-  domains_there : (i : ℕ) → i < n → get_or domains_of_chunks i [] ≡ chunk_domains c (bits_at degree_bits i) (chunks_at c.field.ring (masks c) s.tables s.common.lookups degree_bits i)
+  domains_there : (i : ℕ) → i < n → get_or domains_of_chunks i [] ≡ chunk_domains c (bits_at degree_bits i) (log_chunks_at c.field.ring (masks c) s.tables s.common.lookups degree_bits i)
   domains_there i h =
-      get_or-table (length declarations) (chunk_domains_at c.field.ring c.field.root c.field.generator (masks c) degree_bits chunk_logs) i [] (let e = long in omega (arith, h, e))
-      ∙ ap (chunk_domains c (bits_at degree_bits i)) (get_or-table n (λ i. chunks_at c.field.ring (masks c) s.tables s.common.lookups degree_bits i) i 0 h)
+      get_or-tabulate (length declarations) (chunk_domains_at c.field.ring c.field.root c.field.generator (masks c) degree_bits chunk_logs) i [] (let e = long in omega (arith, h, e))
+      ∙ ap (chunk_domains c (bits_at degree_bits i)) (get_or-tabulate n (λ i. log_chunks_at c.field.ring (masks c) s.tables s.common.lookups degree_bits i) i 0 h)
 
   chunks_of : (i : ℕ) → i < n → ArePaired IsClaim (of_table c p s traces degree_bits w z (chunks_opened c p) i) (chunk_claims c.field.ring x (masks c) domains_of_chunks instances i)
   chunks_of i h =
-      let m = chunks_at c.field.ring (masks c) s.tables s.common.lookups degree_bits i in
+      let m = log_chunks_at c.field.ring (masks c) s.tables s.common.lookups degree_bits i in
       let ds = chunk_domains c (bits_at degree_bits i) m in
       let d : ℕ → CosetData F = λ j. record { shift = point c.field.ring c.field.root (offered c.field.ring c.field.generator (subgroup c.field.ring (bits_at degree_bits i)) m) j; log_size = (bits_at degree_bits i + m) - (m + masks c) } in
-      let claim = λ (ds : List (CosetData F)) (o : OpenedWithLookups E). table (length ds) (chunk_claim c.field.ring x (masks c) ds o.base.quotient_chunks) in
+      let claim = λ (ds : List (CosetData F)) (o : OpenedWithLookups E). tabulate (length ds) (chunk_claim c.field.ring x (masks c) ds o.base.quotient_chunks) in
       let o = opened_of c p (at i) (ch i) a x in
       let masked = none_masked in
-      let parts : length ds ≡ 2 ^ log_parts c (at i) = length-table (2 ^ log_parts c (at i)) d in
+      let parts : length ds ≡ 2 ^ log_parts c (at i) = length-tabulate (2 ^ log_parts c (at i)) d in
       subst (ArePaired IsClaim (of_table c p s traces degree_bits w z (chunks_opened c p) i)) (sym (λ j. claim (domains_there i h j) (instance_same i h j)))
-      (subst (λ q. ArePaired IsClaim (table (2 ^ log_parts c (at i)) (chunk_opened c p (at i) (ch i) a x)) (table q (chunk_claim c.field.ring x (masks c) ds o.base.quotient_chunks))) (sym parts)
-      (paired_table IsClaim (2 ^ log_parts c (at i)) (chunk_opened c p (at i) (ch i) a x) (chunk_claim c.field.ring x (masks c) ds o.base.quotient_chunks) (λ j b.
-      let there : get_or ds j (subgroup c.field.ring 0) ≡ d j = get_or-table (2 ^ log_parts c (at i)) d j (subgroup c.field.ring 0) b in
+      (subst (λ q. ArePaired IsClaim (tabulate (2 ^ log_parts c (at i)) (chunk_opened c p (at i) (ch i) a x)) (tabulate q (chunk_claim c.field.ring x (masks c) ds o.base.quotient_chunks))) (sym parts)
+      (paired_tabulate IsClaim (2 ^ log_parts c (at i)) (chunk_opened c p (at i) (ch i) a x) (chunk_claim c.field.ring x (masks c) ds o.base.quotient_chunks) (λ j b.
+      let there : get_or ds j (subgroup c.field.ring 0) ≡ d j = get_or-tabulate (2 ^ log_parts c (at i)) d j (subgroup c.field.ring 0) b in
       let size = ap (λ (e : CosetData F). e.log_size) there in
       let least = (B.traced i h).least in
       chunk_is c p (at i) (ch i) a x j b ((get_or ds j (subgroup c.field.ring 0)).log_size + masks c) (omega (arith, size, masked)))))
 
-  quotients : ArePaired IsClaim (flat_map (of_table c p s traces degree_bits w z (chunks_opened c p)) (table n (λ i. i))) (flat_map (chunk_claims c.field.ring x (masks c) domains_of_chunks instances) (table (length declarations) (λ i. i)))
+  quotients : ArePaired IsClaim (flat_map (of_table c p s traces degree_bits w z (chunks_opened c p)) (tabulate n (λ i. i))) (flat_map (chunk_claims c.field.ring x (masks c) domains_of_chunks instances) (tabulate (length declarations) (λ i. i)))
   quotients =
       let g = of_table c p s traces degree_bits w z (chunks_opened c p) in
       let h = chunk_claims c.field.ring x (masks c) domains_of_chunks instances in
-      subst (λ m. ArePaired IsClaim (flat_map g (table n (λ i. i))) (flat_map h (table m (λ i. i)))) (sym long) (paired_flat IsClaim g h n (λ i. i) chunks_of)
+      subst (λ m. ArePaired IsClaim (flat_map g (tabulate n (λ i. i))) (flat_map h (tabulate m (λ i. i)))) (sym long) (paired_flat IsClaim g h n (λ i. i) chunks_of)
 
   all_paired : ArePaired (IsRoundOf c) (honest_rounds c p s traces degree_bits w z) (honest_claims c p s traces degree_bits w z opening)
   unfolding claims_by honest_proof
@@ -310,28 +310,28 @@ module _ {S F E C P : Type 0} (c : Setting S F E C) (p : Prover F E C) (s : Stat
       let of = of_table c p s traces degree_bits w z {A = OpenedMatrix F E} in
       let all_of = of_table c p s traces degree_bits w z {A = List (OpenedMatrix F E)} in
       let ms = matrix_tables s.common.preprocessed in
-      let places = λ (m : ℕ). table m (λ i. i) in
-      let main = table n (of (main_opened c p)) in
-      let main_claims = table (length declarations) (main_claim c.field.ring x next_at declarations degree_bits instances) in
+      let places = λ (m : ℕ). tabulate m (λ i. i) in
+      let main = tabulate n (of (main_opened c p)) in
+      let main_claims = tabulate (length declarations) (main_claim c.field.ring x next_at declarations degree_bits instances) in
       let chunks = flat_map (all_of (chunks_opened c p)) (places n) in
       let chunks_claimed = flat_map (chunk_claims c.field.ring x (masks c) domains_of_chunks instances) (places (length declarations)) in
-      let pre = table (length ms) (λ m. of (preprocessed_opened c p) (get_or ms m 0)) in
-      let pre_claims = table (length ms) (matrix_claim c.field.ring x next_at declarations degree_bits instances ms) in
+      let pre = tabulate (length ms) (λ m. of (preprocessed_opened c p) (get_or ms m 0)) in
+      let pre_claims = tabulate (length ms) (preprocessed_matrix_claim c.field.ring x next_at declarations degree_bits instances ms) in
       let columns = flat_map (all_of (permutation_opened c p)) (places n) in
       let column_claims = flat_map (permutation_claims c.field.ring x next_at degree_bits instances) (places (length declarations)) in
       let R = IsRoundOf c in
-      let o1 = Some (main_part c p s traces degree_bits) in
-      let o2 = Some (quotient_part c p s traces degree_bits w) in
+      let o1 = Some (honest_main_commitment c p s traces degree_bits) in
+      let o2 = Some (honest_quotient_commitment c p s traces degree_bits w) in
       let o3 = commitment_in s.common.preprocessed in
-      let o4 = permutation_part c p s traces degree_bits w in
-      paired_append R (round_of o1 main ++ round_of o2 chunks ++ round_of o3 pre) (round_of o4 columns) (round o1 main_claims ++ round o2 chunks_claimed ++ round o3 pre_claims) (round o4 column_claims)
-      (paired_append R (round_of o1 main ++ round_of o2 chunks) (round_of o3 pre) (round o1 main_claims ++ round o2 chunks_claimed) (round o3 pre_claims)
-      (paired_append R (round_of o1 main) (round_of o2 chunks) (round o1 main_claims) (round o2 chunks_claimed) (paired_round c o1 main main_claims mains) (paired_round c o2 chunks chunks_claimed quotients))
+      let o4 = honest_permutation_commitment c p s traces degree_bits w in
+      paired_append R (round_of o1 main ++ round_of o2 chunks ++ round_of o3 pre) (round_of o4 columns) (claims_of_round o1 main_claims ++ claims_of_round o2 chunks_claimed ++ claims_of_round o3 pre_claims) (claims_of_round o4 column_claims)
+      (paired_append R (round_of o1 main ++ round_of o2 chunks) (round_of o3 pre) (claims_of_round o1 main_claims ++ claims_of_round o2 chunks_claimed) (claims_of_round o3 pre_claims)
+      (paired_append R (round_of o1 main) (round_of o2 chunks) (claims_of_round o1 main_claims) (claims_of_round o2 chunks_claimed) (paired_round c o1 main main_claims mains) (paired_round c o2 chunks chunks_claimed quotients))
       (paired_round c o3 pre pre_claims preprocesseds)) (paired_round c o4 columns column_claims permutations)
 
   -- So the claims hold of what the commitments hold, for any requests for their matrices at their points.
   pub honest_are_claims : {D : Type 0} (requests : List (Request D E)) → AskFor (honest_rounds c p s traces degree_bits w z) requests
-      → AreClaims c.extension.ring c.extension.embed (λ (e : CosetData F). 2 ^ e.log_size) (held_of (honest_rounds c p s traces degree_bits w z)) requests (honest_claims c p s traces degree_bits w z opening)
+      → AreClaims c.extension.ring c.extension.embed (λ (e : CosetData F). 2 ^ e.log_size) (opened_commitments_of (honest_rounds c p s traces degree_bits w z)) requests (honest_claims c p s traces degree_bits w z opening)
   honest_are_claims requests ask =
       each_paired _ _ _
       (asked c (honest_rounds c p s traces degree_bits w z) requests (honest_claims c p s traces degree_bits w z opening)

@@ -1,8 +1,8 @@
 -- What is generated for a table with lookups is its honest permutation columns, with its terminal, or the zero denominator that is the event.
 use Rattle.std.proofs.Common.{◌≡◌, ℕ, suc, ◌+◌, ◌-◌, ◌^◌, ◌<◌, List, [], ◌∷◌, length, Option, Some, refl, sym, ◌∙◌, ap, subst, arith}
 use Rattle.std.specs.Prelude.{Ok}
-use Rattle.p3_field.specs.Laws.Tables.{table_same}
-use Rattle.p3_field.specs.Poly.{table}
+use Rattle.p3_field.specs.Laws.Tabulate.{tabulate_same}
+use Rattle.p3_field.specs.Poly.{tabulate}
 use Rattle.p3_matrix.specs.Matrix.{FillsRows, Rows, cell_at, column, height}
 use Rattle.p3_matrix.specs.Laws.Cells.{same_matrix}
 use Rattle.p3_lookup.specs.declared.terminal.LookupTerminal.{LookupTerminal}
@@ -11,7 +11,7 @@ use Rattle.p3_lookup.specs.Honest.{Argument, running_sum}
 use Rattle.batch_setting.specs.Setting.{Setting}
 use Rattle.batch_statement.specs.Statement.{Statement}
 use Rattle.batch_validity.specs.Traced.{TracedTable, log_rows, traced_at}
-use Rattle.honest_proofs.specs.HonestProof.{FractionsAt, IsDenominatorZero, IsLookupGround, Prover, argument_at, argument_of, columns_for, permutation_columns, terminal_of, where_some}
+use Rattle.honest_proofs.specs.HonestProof.{FractionsAt, IsDenominatorZero, IsLookupGround, Prover, argument_at, argument_of_table, columns_for, permutation_columns, honest_terminal, where_some}
 use Rattle.honest_proofs.specs.Laws.Generated.{cell_is, columns_tall}
 
 where_there : {A B : Type 0} (ls : List A) (x : B) → 0 < length ls → Some x ≡ where_some ls x
@@ -19,9 +19,9 @@ where_there [] x h = absurd (omega (arith, h))
 where_there (l ∷ ls) x h = refl
 
 module _ {S F E C : Type 0} (c : Setting S F E C) (p : Prover F E C) (t : TracedTable F) (challenges : List E) (some : 0 < length t.lookups) (tall : height t.trace ≡ 2 ^ log_rows c t)
-    (m : Rows E) (terminal : LookupTerminal E) (fills : FillsRows m.values m.width) (G : IsGenerated (argument_of c p t challenges) (height t.trace) (Ok (m, terminal))) where
+    (m : Rows E) (terminal : LookupTerminal E) (fills : FillsRows m.values m.width) (G : IsGenerated (argument_of_table c p t challenges) (height t.trace) (Ok (m, terminal))) where
   abbrev arg : Argument F E
-  arg = argument_of c p t challenges
+  arg = argument_of_table c p t challenges
 
   abbrev rows : ℕ
   rows = 2 ^ log_rows c t
@@ -45,11 +45,11 @@ module _ {S F E C : Type 0} (c : Setting S F E C) (p : Prover F E C) (t : Traced
   unfolding column
   same_column j l =
       let z = c.extension.ring.zero in
-      ap (λ h. table h (λ i. cell_at z m i j)) height_is
-      ∙ (table_same rows (λ i. cell_at z m i j) (λ i. cell_at z honest i j) (λ i b.
+      ap (λ h. tabulate h (λ i. cell_at z m i j)) height_is
+      ∙ (tabulate_same rows (λ i. cell_at z m i j) (λ i. cell_at z honest i j) (λ i b.
       let low : i < height t.trace = omega (arith, b, tall) in
       G.2 i j low (let e = counted in omega (arith, l, e)) ∙ sym (cell_is c p t challenges n i j b l))
-      ∙ ap (λ h. table h (λ i. cell_at z honest i j)) (sym honest_height))
+      ∙ ap (λ h. tabulate h (λ i. cell_at z honest i j)) (sym honest_height))
 
   same_columns : m ≡ honest
   same_columns =
@@ -60,8 +60,8 @@ module _ {S F E C : Type 0} (c : Setting S F E C) (p : Prover F E C) (t : Traced
   unfolding permutation_columns
   columns_are = same_columns ∙ ap (columns_for c p t challenges) (sym counted)
 
-  pub terminal_is : Some terminal.0 ≡ terminal_of c p t challenges
-  unfolding terminal_of
+  pub terminal_is : Some terminal.0 ≡ honest_terminal c p t challenges
+  unfolding honest_terminal
   terminal_is = ap Some (G.3 ∙ ap (running_sum arg) tall) ∙ where_there t.lookups (running_sum arg rows) some
 
 -- the answer that a denominator is zero, where the tables before have their fractions

@@ -7,7 +7,7 @@ use Rattle.std.proofs.lemmas.Nat.{pow-add}
 use Rattle.std.proofs.lemmas.Option.{slice_get-get_or}
 use Rattle.p3_field.specs.Domain.{CosetData}
 use Rattle.p3_field.specs.Laws.SubgroupSelectors.{subgroup}
-use Rattle.p3_field.specs.Laws.Tables.{table_of_items, table_same}
+use Rattle.p3_field.specs.Laws.Tabulate.{tabulate_items, tabulate_same}
 use Rattle.p3_matrix.specs.Matrix.{FillsRows, Rows}
 use Rattle.p3_commit.specs.Commitments.{AreParts}
 use Rattle.p3_commit.specs.Laws.Parts.{one_split}
@@ -74,8 +74,8 @@ module _ {S F E C : Type 0} (c : Setting S F E C) (p : Prover F E C) (t : Traced
   split_is_chunks m H pieces fill A =
       let none : CosetData F × Rows F = (subgroup c.field.ring 0, no_rows) in
       let chunk : ℕ → CosetData F × Rows F = λ n. (chunk_domain c.field c.extension k (quotient_shift c) (log_parts c t) n, chunk_rows c p t challenges alpha n) in
-      table_of_items none pieces parts A.count
-      ∙ table_same parts (λ n. get_or pieces n none) chunk (λ n b.
+      tabulate_items none pieces parts A.count
+      ∙ tabulate_same parts (λ n. get_or pieces n none) chunk (λ n b.
       let inside : n < length pieces = let q = A.count in omega (arith, b, q) in
       let P = A.each n (get_or pieces n none) (slice_get-get_or pieces n none inside) in
       let domain = one_domain n (get_or pieces n none).0 P.0 in

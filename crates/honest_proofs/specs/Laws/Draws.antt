@@ -13,10 +13,10 @@ use Rattle.batch_draws.specs.Laws.Challenges.{challenge_count}
 use Rattle.batch_validity.specs.Traced.{traced_at}
 use Rattle.batch_validity.specs.Valid.{IsTracedBatch}
 use Rattle.honest_proofs.specs.HonestProof.{Prover, alpha, challenges_at, honest_proof, opening_state, pair, shape, state_at_ood, state_at_pair, state_at_permutation, state_at_quotient, zeta}
-use Rattle.honest_proofs.specs.Laws.Staged.{Reads, staged, staged_ood, staged_pair}
+use Rattle.honest_proofs.specs.Laws.Staged.{ReadsDraws, staged, staged_ood, staged_pair}
 
 -- the pair that is read of draws
-read_pair : {S E : Type 0} (n : ℕ) (d : Draws S E) (drawn_pair_is : List E) (a b : E) (state : S) → Reads n d drawn_pair_is a b state → drawn_pair n d ≡ drawn_pair_is
+read_pair : {S E : Type 0} (n : ℕ) (d : Draws S E) (drawn_pair_is : List E) (a b : E) (state : S) → ReadsDraws n d drawn_pair_is a b state → drawn_pair n d ≡ drawn_pair_is
 read_pair zero d two a b state R = sym (R.none_is refl)
 read_pair (suc n) d two a b state R = R.pair_is refl
 
@@ -26,7 +26,7 @@ module _ {S F E C P : Type 0} (c : Setting S F E C) (p : Prover F E C) (s : Stat
   drawn_along_it =
       drawn c.challenger c.field.ring c.extension.ring c.extension.dimension c.initial c.zk c.lookup_bits c.ood_bits s (honest_proof c p s traces degree_bits w z opening)
 
-  pub reads_stages : Reads (count_by has_some s.common.lookups) drawn_along_it (pair c p s traces degree_bits w) (alpha c p s traces degree_bits w) (zeta c p s traces degree_bits w z) (opening_state c p s traces degree_bits w z)
+  pub reads_stages : ReadsDraws (count_by has_some s.common.lookups) drawn_along_it (pair c p s traces degree_bits w) (alpha c p s traces degree_bits w) (zeta c p s traces degree_bits w z) (opening_state c p s traces degree_bits w z)
   unfolding drawn honest_proof pair state_at_pair state_at_permutation alpha state_at_quotient state_at_ood zeta opening_state
   reads_stages = staged c.challenger c.field.ring c.extension.ring c.extension.dimension c.initial (shape c p s traces degree_bits) (given_of s (honest_proof c p s traces degree_bits w z opening))
 

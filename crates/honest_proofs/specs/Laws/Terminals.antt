@@ -4,14 +4,14 @@ use Rattle.std.specs.Prelude.{count_by, option_to_list}
 use Rattle.std.specs.List.{flat_map}
 use Rattle.std.proofs.lemmas.Bool.{false≢true}
 use Rattle.std.proofs.lemmas.List.Sums.{sum_by-cons}
-use Rattle.p3_field.specs.Poly.{table, total}
+use Rattle.p3_field.specs.Poly.{tabulate, total}
 use Rattle.p3_field.specs.Ring.{Ring, RingLaws}
 use Rattle.p3_field.specs.Laws.Algebra.{zero_add}
-use Rattle.p3_field.specs.Laws.SubgroupSelectors.{map_table}
-use Rattle.p3_field.specs.Laws.Tables.{get_or-table, table_of_items, table_same}
+use Rattle.p3_field.specs.Laws.SubgroupSelectors.{map_tabulate}
+use Rattle.p3_field.specs.Laws.Tabulate.{get_or-tabulate, tabulate_items, tabulate_same}
 use Rattle.p3_field.specs.Domain.{CosetData}
 use Rattle.p3_matrix.specs.Matrix.{Rows}
-use Rattle.p3_lookup.specs.Batch.{BatchTable, batch_challenges, batch_lookups, laid_out, laid_out_terminal, senders_from}
+use Rattle.p3_lookup.specs.Batch.{SendingTable, batch_challenges, batch_lookups, laid_out, laid_out_terminal, senders_from}
 use Rattle.p3_lookup.specs.Bus.{batch_buses, bus_count, bus_in, widest}
 use Rattle.p3_lookup.specs.Challenge.{challenges_with}
 use Rattle.p3_lookup.specs.Honest.{row_fractions, running_sum}
@@ -27,23 +27,23 @@ use Rattle.committed_tables.specs.Fields.{FieldsLaws}
 use Rattle.committed_tables.specs.Laws.Values.{maps}
 use Rattle.batch_validity.specs.Traced.{TracedTable, all_traced, log_rows, sender, traced_at}
 use Rattle.batch_validity.specs.Valid.{Valid}
-use Rattle.honest_proofs.specs.HonestProof.{Prover, argument_of, pair, state_at_pair, terminal_of, terminals, where_some}
+use Rattle.honest_proofs.specs.HonestProof.{Prover, argument_of_table, pair, state_at_pair, honest_terminal, terminals, where_some}
 use Rattle.honest_proofs.specs.Laws.Staged.{IsPair, one_pair}
 
 -- a value that may be there, where one that isn't stands for zero
-abbrev StandsFor : {E : Type 0} → Ring E → E → Option E → Type 0
-StandsFor r v None = v ≡ r.zero
-StandsFor r v (Some x) = v ≡ x
+abbrev IsSumOf : {E : Type 0} → Ring E → E → Option E → Type 0
+IsSumOf r v None = v ≡ r.zero
+IsSumOf r v (Some x) = v ≡ x
 
 module _ {E : Type 0} (r : Ring E) (L : RingLaws r) where
-  one_more : (o : Option E) (v : E) (rest : List E) (all : E) → StandsFor r v o → sum_of r rest ≡ all → sum_of r (option_to_list o ++ rest) ≡ r.add v all
+  one_more : (o : Option E) (v : E) (rest : List E) (all : E) → IsSumOf r v o → sum_of r rest ≡ all → sum_of r (option_to_list o ++ rest) ≡ r.add v all
   one_more None v rest all e h = h ∙ (sym (zero_add r L all) ∙ ap (λ x. r.add x all) (sym e))
   one_more (Some x) v rest all e h = λ i. r.add (sym e i) (h i)
 
-  sum_there : (n : ℕ) (o : ℕ → Option E) (v : ℕ → E) → ((i : ℕ) → i < n → StandsFor r (v i) (o i)) → sum_of r (flat_map option_to_list (table n o)) ≡ sum_of r (table n v)
+  sum_there : (n : ℕ) (o : ℕ → Option E) (v : ℕ → E) → ((i : ℕ) → i < n → IsSumOf r (v i) (o i)) → sum_of r (flat_map option_to_list (tabulate n o)) ≡ sum_of r (tabulate n v)
   sum_there zero o v h = refl
   sum_there (suc n) o v h =
-      one_more (o zero) (v zero) (flat_map option_to_list (table n (λ i. o (suc i)))) (sum_of r (table n (λ i. v (suc i)))) (h zero (omega arith))
+      one_more (o zero) (v zero) (flat_map option_to_list (tabulate n (λ i. o (suc i)))) (sum_of r (tabulate n (λ i. v (suc i)))) (h zero (omega arith))
       (sum_there n (λ i. o (suc i)) (λ i. v (suc i)) (λ i l. h (suc i) (omega (arith, l))))
 
   total_zero : (n : ℕ) (g : ℕ → E) → ((i : ℕ) → g i ≡ r.zero) → total r n g ≡ r.zero
@@ -51,8 +51,8 @@ module _ {E : Type 0} (r : Ring E) (L : RingLaws r) where
   total_zero (suc n) g h = (λ i. r.add (h zero i) (total_zero n (λ j. g (suc j)) (λ j. h (suc j)) i)) ∙ L.add_zero r.zero
 
 -- tables as senders, one by one
-sent_by : {F G : Type 0} (g : Sender F → G) (bus : ℕ → ℕ → ℕ) (k n : ℕ) (u : ℕ → BatchTable F)
-    → map g (senders_from bus k (table n u)) ≡ table n (λ i. g (record { lookups = (u i).lookups; bus = bus (k + i); rows = (u i).rows; value = (u i).value }))
+sent_by : {F G : Type 0} (g : Sender F → G) (bus : ℕ → ℕ → ℕ) (k n : ℕ) (u : ℕ → SendingTable F)
+    → map g (senders_from bus k (tabulate n u)) ≡ tabulate n (λ i. g (record { lookups = (u i).lookups; bus = bus (k + i); rows = (u i).rows; value = (u i).value }))
 sent_by g bus k zero u = refl
 sent_by g bus k (suc n) u =
     let z : k ≡ k + zero = omega arith in
@@ -60,7 +60,7 @@ sent_by g bus k (suc n) u =
     λ q.
     g (record { lookups = (u zero).lookups; bus = bus (z q); rows = (u zero).rows; value = (u zero).value })
     ∷ (sent_by g bus (suc k) n (λ i. u (suc i))
-    ∙ table_same n (λ i. g (record { lookups = (u (suc i)).lookups; bus = bus (suc k + i); rows = (u (suc i)).rows; value = (u (suc i)).value }))
+    ∙ tabulate_same n (λ i. g (record { lookups = (u (suc i)).lookups; bus = bus (suc k + i); rows = (u (suc i)).rows; value = (u (suc i)).value }))
     (λ i. g (record { lookups = (u (suc i)).lookups; bus = bus (k + suc i); rows = (u (suc i)).rows; value = (u (suc i)).value }))
     (λ i l. ap (λ m. g (record { lookups = (u (suc i)).lookups; bus = bus m; rows = (u (suc i)).rows; value = (u (suc i)).value })) (next i))) q
 
@@ -76,27 +76,27 @@ module _ {S F E C : Type 0} (c : Setting S F E C) (p : Prover F E C) (eq : F →
   abbrev at : ℕ → TracedTable F
   at i = traced_at s traces degree_bits i
 
-  abbrev senders_are : List (BatchTable F)
+  abbrev senders_are : List (SendingTable F)
   senders_are = map (sender c) (all_traced s traces degree_bits)
 
   -- a table without lookups has no fractions to sum
-  no_sum : (t : TracedTable F) (challenges : List E) (m : ℕ) → t.lookups ≡ [] → running_sum (argument_of c p t challenges) m ≡ c.extension.ring.zero
+  no_sum : (t : TracedTable F) (challenges : List E) (m : ℕ) → t.lookups ≡ [] → running_sum (argument_of_table c p t challenges) m ≡ c.extension.ring.zero
   no_sum t challenges m none =
-      total_zero c.extension.ring L.above m _ (λ i. ap (λ ls. sum_of c.extension.ring (row_fractions (record (argument_of c p t challenges) { lookups = ls }) i)) none)
+      total_zero c.extension.ring L.above m _ (λ i. ap (λ ls. sum_of c.extension.ring (row_fractions (record (argument_of_table c p t challenges) { lookups = ls }) i)) none)
 
-  stands : (t : TracedTable F) (challenges : List E) → StandsFor c.extension.ring (running_sum (argument_of c p t challenges) (2 ^ log_rows c t)) (terminal_of c p t challenges)
-  unfolding terminal_of
+  stands : (t : TracedTable F) (challenges : List E) → IsSumOf c.extension.ring (running_sum (argument_of_table c p t challenges) (2 ^ log_rows c t)) (honest_terminal c p t challenges)
+  unfolding honest_terminal
   stands t challenges = by_lookups t.lookups refl
     where
-      by_lookups : (ls : List (LookupData F)) → t.lookups ≡ ls → StandsFor c.extension.ring (running_sum (argument_of c p t challenges) (2 ^ log_rows c t)) (where_some ls (running_sum (argument_of c p t challenges) (2 ^ log_rows c t)))
+      by_lookups : (ls : List (LookupData F)) → t.lookups ≡ ls → IsSumOf c.extension.ring (running_sum (argument_of_table c p t challenges) (2 ^ log_rows c t)) (where_some ls (running_sum (argument_of_table c p t challenges) (2 ^ log_rows c t)))
       by_lookups [] e = no_sum t challenges (2 ^ log_rows c t) e
       by_lookups (l ∷ ls) e = refl
 
   -- the lookups of the batch
   lookups_same : batch_lookups senders_are ≡ s.common.lookups
   lookups_same =
-      maps (λ (t : BatchTable F). t.lookups) (sender c) (λ (t : TracedTable F). t.lookups) (λ t. refl) (all_traced s traces degree_bits)
-      ∙ (map_table (λ (t : TracedTable F). t.lookups) n at ∙ sym (table_of_items [] s.common.lookups n V.batch.lists.lookups_long))
+      maps (λ (t : SendingTable F). t.lookups) (sender c) (λ (t : TracedTable F). t.lookups) (λ t. refl) (all_traced s traces degree_bits)
+      ∙ (map_tabulate (λ (t : TracedTable F). t.lookups) n at ∙ sym (tabulate_items [] s.common.lookups n V.batch.lists.lookups_long))
 
   -- For a drawn pair each table's terminal is that of the batch's tables, which sum to zero.
   module _ (alpha beta : E) where
@@ -111,37 +111,37 @@ module _ {S F E C : Type 0} (c : Setting S F E C) (p : Prover F E C) (eq : F →
         let e = c.extension.ring in
         let tables = s.common.lookups in
         let lay = λ (ls : List (List (LookupData F))). laid_out e.zero (challenges_with e alpha beta (widest ls) (bus_count (batch_buses ls))) (bus_in ls i) 0 (length (at i).lookups) in
-        get_or-table (length tables) (instance_challenges e (challenges_with e alpha beta (widest tables) (bus_count (batch_buses tables))) tables) i [] (let q = V.batch.lists.lookups_long in omega (arith, h, q))
+        get_or-tabulate (length tables) (instance_challenges e (challenges_with e alpha beta (widest tables) (bus_count (batch_buses tables))) tables) i [] (let q = V.batch.lists.lookups_long in omega (arith, h, q))
         ∙ ap lay (sym lookups_same)
 
-    all_sums : sum_of c.extension.ring (table n (λ i. running_sum (argument_of c p (at i) (layout i)) (2 ^ log_rows c (at i)))) ≡ c.extension.ring.zero
+    all_sums : sum_of c.extension.ring (tabulate n (λ i. running_sum (argument_of_table c p (at i) (layout i)) (2 ^ log_rows c (at i)))) ≡ c.extension.ring.zero
     all_sums =
         let e = c.extension.ring in
         let bus = bus_in (batch_lookups senders_are) in
         let g = λ (i : ℕ). batch_terminal (record { lookups = (at i).lookups; bus = bus (0 + i); rows = 2 ^ log_rows c (at i); value = (sender c (at i)).value }) in
         ap (sum_of e)
-        (table_same n (λ i. running_sum (argument_of c p (at i) (layout i)) (2 ^ log_rows c (at i))) g (λ i h.
-        ap (λ l. running_sum (argument_of c p (at i) l) (2 ^ log_rows c (at i))) (own_layout i h)
+        (tabulate_same n (λ i. running_sum (argument_of_table c p (at i) (layout i)) (2 ^ log_rows c (at i))) g (λ i h.
+        ap (λ l. running_sum (argument_of_table c p (at i) l) (2 ^ log_rows c (at i))) (own_layout i h)
         ∙ (let z : i ≡ 0 + i = omega arith in
         ap (λ j. batch_terminal (record { lookups = (at i).lookups; bus = bus j; rows = 2 ^ log_rows c (at i); value = (sender c (at i)).value })) z))
         ∙ (sym (sent_by batch_terminal bus 0 n (λ i. sender c (at i)))
-        ∙ ap (λ ts. map batch_terminal (senders_from bus 0 ts)) (sym (map_table (sender c) n at))))
+        ∙ ap (λ ts. map batch_terminal (senders_from bus 0 ts)) (sym (map_tabulate (sender c) n at))))
         ∙ balanced_batch c.field.ring L.below eq eq_same same_eq e L.above p.inverse c.extension.embed L.embeds senders_are V.balanced alpha beta
 
     -- so the terminals that are there sum to zero
-    pub terminals_vanish : sum_of c.extension.ring (flat_map option_to_list (table n (λ i. terminal_of c p (at i) (layout i)))) ≡ c.extension.ring.zero
+    pub terminals_vanish : sum_of c.extension.ring (flat_map option_to_list (tabulate n (λ i. honest_terminal c p (at i) (layout i)))) ≡ c.extension.ring.zero
     terminals_vanish =
-        sum_there c.extension.ring L.above n (λ i. terminal_of c p (at i) (layout i)) (λ i. running_sum (argument_of c p (at i) (layout i)) (2 ^ log_rows c (at i))) (λ i h. stands (at i) (layout i))
+        sum_there c.extension.ring L.above n (λ i. honest_terminal c p (at i) (layout i)) (λ i. running_sum (argument_of_table c p (at i) (layout i)) (2 ^ log_rows c (at i))) (λ i h. stands (at i) (layout i))
         ∙ all_sums
 
   -- without lookups there is none
-  nothing_there : (k : ℕ) (o : ℕ → Option E) → ((i : ℕ) → i < k → o i ≡ None) → flat_map option_to_list (table k o) ≡ []
+  nothing_there : (k : ℕ) (o : ℕ → Option E) → ((i : ℕ) → i < k → o i ≡ None) → flat_map option_to_list (tabulate k o) ≡ []
   nothing_there zero o h = refl
   nothing_there (suc k) o h = λ q. option_to_list (h zero (omega arith) q) ++ nothing_there k (λ i. o (suc i)) (λ i l. h (suc i) (omega (arith, l))) q
 
-  no_terminal : (t : TracedTable F) (challenges : List E) (ls : List (LookupData F)) → t.lookups ≡ ls → has_some ls ≡ false → terminal_of c p t challenges ≡ None
-  unfolding terminal_of
-  no_terminal t challenges [] e h = ap (λ ls. where_some ls (running_sum (argument_of c p t challenges) (2 ^ log_rows c t))) e
+  no_terminal : (t : TracedTable F) (challenges : List E) (ls : List (LookupData F)) → t.lookups ≡ ls → has_some ls ≡ false → honest_terminal c p t challenges ≡ None
+  unfolding honest_terminal
+  no_terminal t challenges [] e h = ap (λ ls. where_some ls (running_sum (argument_of_table c p t challenges) (2 ^ log_rows c t))) e
   no_terminal t challenges (l ∷ ls) e h = absurd (false≢true (sym h))
 
   -- as many lists as there are none of them has an item
@@ -154,17 +154,17 @@ module _ {S F E C : Type 0} (c : Setting S F E C) (p : Prover F E C) (eq : F →
 
   -- with any pair, or none where no table has lookups
   pub pair_vanishes : (pair : List E) → IsPair (count_by has_some s.common.lookups) pair
-      → sum_of c.extension.ring (flat_map option_to_list (table n (λ i. terminal_of c p (at i) (get_or (batch_layout c.extension.ring pair s.common.lookups) i [])))) ≡ c.extension.ring.zero
+      → sum_of c.extension.ring (flat_map option_to_list (tabulate n (λ i. honest_terminal c p (at i) (get_or (batch_layout c.extension.ring pair s.common.lookups) i [])))) ≡ c.extension.ring.zero
   pair_vanishes pair is = by_count (count_by has_some s.common.lookups) refl is
     where
       by_count : (m : ℕ) → count_by has_some s.common.lookups ≡ m → IsPair m pair
-          → sum_of c.extension.ring (flat_map option_to_list (table n (λ i. terminal_of c p (at i) (get_or (batch_layout c.extension.ring pair s.common.lookups) i [])))) ≡ c.extension.ring.zero
+          → sum_of c.extension.ring (flat_map option_to_list (tabulate n (λ i. honest_terminal c p (at i) (get_or (batch_layout c.extension.ring pair s.common.lookups) i [])))) ≡ c.extension.ring.zero
       by_count zero e is =
           ap (sum_of c.extension.ring)
-          (nothing_there n (λ i. terminal_of c p (at i) (get_or (batch_layout c.extension.ring pair s.common.lookups) i []))
+          (nothing_there n (λ i. honest_terminal c p (at i) (get_or (batch_layout c.extension.ring pair s.common.lookups) i []))
           (λ i h. no_terminal (at i) (get_or (batch_layout c.extension.ring pair s.common.lookups) i []) (at i).lookups refl (none_some s.common.lookups e i (let q = V.batch.lists.lookups_long in omega (arith, h, q)))))
       by_count (suc m) e (alpha, beta, two) =
-          subst (λ l. sum_of c.extension.ring (flat_map option_to_list (table n (λ i. terminal_of c p (at i) (get_or (batch_layout c.extension.ring l s.common.lookups) i [])))) ≡ c.extension.ring.zero) (sym two)
+          subst (λ l. sum_of c.extension.ring (flat_map option_to_list (tabulate n (λ i. honest_terminal c p (at i) (get_or (batch_layout c.extension.ring l s.common.lookups) i [])))) ≡ c.extension.ring.zero) (sym two)
           (terminals_vanish alpha beta)
 
   pub honest_vanish : (w : Option F) → sum_of c.extension.ring (flat_map option_to_list (terminals c p s traces degree_bits w)) ≡ c.extension.ring.zero

@@ -85,7 +85,7 @@ lines-tell (x ∷ xs) (y ∷ ys) a b p q l e =
     let r = lines-tell xs ys a b (λ k d h. p (suc k) d (omega arith)) (λ k d h. q (suc k) d (omega arith)) (omega arith) s.1 in
     record { more = r.more; numbers = ap (λ (l : List ℕ). y ∷ l) r.numbers ∙ ap (λ (k : ℕ). k ∷ (xs ++ r.more)) (sym s.0); text = r.text }
 
--- lines behind lines
+-- lines after lines
 pub lines-more : (xs ys old mid new : List ℕ) → old ≡ line_text xs ++ mid → mid ≡ line_text ys ++ new → old ≡ line_text (xs ++ ys) ++ new
 lines-more xs ys old mid new e f =
     e ∙ (ap (λ (v : List ℕ). line_text xs ++ v) f ∙ rw (line_text-append xs ys) (sym (append_assoc (line_text xs) (line_text ys) new)))

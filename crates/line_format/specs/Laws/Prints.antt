@@ -6,7 +6,7 @@ use Rattle.std.proofs.lemmas.Iterator.Adapters.{option_map_id}
 use Rattle.line_format.specs.Texts.{line_text}
 use Rattle.line_format.specs.Laws.Lines.{line_text-append}
 
--- a part behind what stands already
+-- a part after what stands already
 pub prints-part : (front old new v w : List ℕ) → old ≡ front ++ line_text v → new ≡ old ++ line_text w → new ≡ front ++ line_text (v ++ w)
 prints-part front old new v w e f =
     f ∙ (ap (λ (l : List ℕ). l ++ line_text w) e ∙ (append_assoc front (line_text v) (line_text w) ∙ ap (λ (l : List ℕ). front ++ l) (sym (line_text-append v w))))

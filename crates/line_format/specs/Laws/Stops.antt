@@ -4,7 +4,7 @@ use Rattle.std.specs.Prelude.{IsErrAnd, map, option_map}
 use Rattle.std.proofs.lemmas.List.{map-id}
 use Rattle.std.proofs.lemmas.Iterator.Adapters.{option_map_id}
 use Rattle.line_format.specs.Texts.{line_text, Reads, Stops, Grammar, ReadsOne, ReadsKnown}
-use Rattle.line_format.specs.Laws.Grammars.{PairWithin, ThenWithin, pair_words, SameTexts, whole-words}
+use Rattle.line_format.specs.Laws.Grammars.{PairWithin, ThenWithin, pair_numbers, SameTexts, whole-numbers}
 use Rattle.line_format.specs.declared.texts.ItemError.{ItemError}
 use Rattle.line_format.specs.declared.texts.ItemError.TheVariants.{Malformed}
 use Rattle.line_format.specs.Laws.Lines.{lines-more}
@@ -24,7 +24,7 @@ known-handed-on within words old new (Err x) e h m s = (h ∙ m, s)
 -- the first of two values can't be read
 pub pair-first : {A B : Type 0} {first : A → Type 0} {first_words : A → List ℕ} {second_words : B → List ℕ} {old new : List ℕ} (second : A → B → Type 0)
     → ((a : A) → first a → Grammar (second a) second_words) → Stops first first_words old new
-    → Stops (PairWithin first second) (pair_words first_words second_words) old new
+    → Stops (PairWithin first second) (pair_numbers first_words second_words) old new
 pair-first {A} {B} {first} {first_words} {second_words} {old} {new} second h s =
     let rest = h s.some s.some_fits in
     record {
@@ -42,7 +42,7 @@ pair-first {A} {B} {first} {first_words} {second_words} {old} {new} second h s =
 -- the first was read, and the second can't be
 pub pair-second : {A B : Type 0} {first : A → Type 0} {first_words : A → List ℕ} {second_words : B → List ℕ} {a : A} {old mid new : List ℕ} (second : A → B → Type 0)
     → Grammar first first_words → Reads first first_words old mid a → Stops (second a) second_words mid new
-    → Stops (PairWithin first second) (pair_words first_words second_words) old new
+    → Stops (PairWithin first second) (pair_numbers first_words second_words) old new
 pair-second {A} {B} {first} {first_words} {second_words} {a} {old} {mid} {new} second g r s =
     record {
       read = first_words a ++ s.read;
@@ -61,22 +61,22 @@ pair-second {A} {B} {first} {first_words} {second_words} {a} {old} {mid} {new} s
 -- both were read
 pub pair-reads : {A B : Type 0} {first : A → Type 0} {first_words : A → List ℕ} {second_words : B → List ℕ} {a : A} {b : B} {old mid new : List ℕ} (second : A → B → Type 0)
     → Reads first first_words old mid a → Reads (second a) second_words mid new b
-    → Reads (PairWithin first second) (pair_words first_words second_words) old new (a, b)
+    → Reads (PairWithin first second) (pair_numbers first_words second_words) old new (a, b)
 pair-reads {A} {B} {first} {first_words} {second_words} {a} {b} {old} {mid} {new} second r s =
     record { fits = (r.fits, s.fits); text = lines-more (first_words a) (second_words b) old mid new r.text s.text }
 
 -- the same where the limits of the second are always the same
 pub then-first : {A B : Type 0} {first : A → Type 0} {first_words : A → List ℕ} {second : B → Type 0} {second_words : B → List ℕ} {old new : List ℕ}
-    → Grammar second second_words → Stops first first_words old new → Stops (ThenWithin first second) (pair_words first_words second_words) old new
+    → Grammar second second_words → Stops first first_words old new → Stops (ThenWithin first second) (pair_numbers first_words second_words) old new
 then-first {A} {B} {first} {first_words} {second} g s = pair-first (λ _. second) (λ _ _. g) s
 
 pub then-second : {A B : Type 0} {first : A → Type 0} {first_words : A → List ℕ} {second : B → Type 0} {second_words : B → List ℕ} {a : A} {old mid new : List ℕ}
     → Grammar first first_words → Reads first first_words old mid a → Stops second second_words mid new
-    → Stops (ThenWithin first second) (pair_words first_words second_words) old new
+    → Stops (ThenWithin first second) (pair_numbers first_words second_words) old new
 then-second {A} {B} {first} {first_words} {second} g r s = pair-second (λ _. second) g r s
 
 pub then-reads : {A B : Type 0} {first : A → Type 0} {first_words : A → List ℕ} {second : B → Type 0} {second_words : B → List ℕ} {a : A} {b : B} {old mid new : List ℕ}
-    → Reads first first_words old mid a → Reads second second_words mid new b → Reads (ThenWithin first second) (pair_words first_words second_words) old new (a, b)
+    → Reads first first_words old mid a → Reads second second_words mid new b → Reads (ThenWithin first second) (pair_numbers first_words second_words) old new (a, b)
 then-reads {A} {B} {first} {first_words} {second} r s = pair-reads (λ _. second) r s
 
 -- the same of a value that is seen in another way
@@ -89,15 +89,15 @@ same-stops {A} {B} {near} {near_words} {far} {far_words} {old} {new} s t = recor
   some_fits = s.to_fits t.some t.some_fits;
   next = t.next;
   missing = t.missing;
-  begins = s.to_words t.some t.some_fits ∙ t.begins;
+  begins = s.to_numbers t.some t.some_fits ∙ t.begins;
   stuck = λ n after e v fits x y same.
-      let a = s.whole v fits in t.stuck n after e a.0 a.1 x y (ap (λ (l : List ℕ). l ++ x) (whole-words s v fits) ∙ same);
+      let a = s.whole v fits in t.stuck n after e a.0 a.1 x y (ap (λ (l : List ℕ). l ++ x) (whole-numbers s v fits) ∙ same);
 }
 
 pub same-reads : {A B : Type 0} {near : A → Type 0} {near_words : A → List ℕ} {far : B → Type 0} {far_words : B → List ℕ} {old new : List ℕ} {a : A}
     → (s : SameTexts near near_words far far_words) → Reads near near_words old new a → Reads far far_words old new (s.to a)
 same-reads {A} {B} {near} {near_words} {far} {far_words} {old} {new} {a} s r =
-    record { fits = s.to_fits a r.fits; text = r.text ∙ ap (λ (l : List ℕ). line_text l ++ new) (sym (s.to_words a r.fits)) }
+    record { fits = s.to_fits a r.fits; text = r.text ∙ ap (λ (l : List ℕ). line_text l ++ new) (sym (s.to_numbers a r.fits)) }
 
 -- values that are their own data: a list of them, and one that may be absent
 pub own-items : {A : Type 0} {within : List A → Type 0} {words : List A → List ℕ} {old new : List ℕ} (xs : List A)

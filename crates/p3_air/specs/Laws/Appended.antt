@@ -1,13 +1,13 @@
--- What calls append one after another, over any relation between states that goes along as `grows` of builders does.
+-- What calls append one after another, over any relation between states that goes along as `appends` of builders does.
 use Rattle.std.proofs.Common.{◌≡◌, ℕ, zero, suc, ◌+◌, ◌<◌, List, [], ◌++◌, map, subst, arith, inl, inr}
 use Rattle.std.proofs.lemmas.List.{map-append}
 use Rattle.std.proofs.lemmas.Bool.{cases_eq}
 use Rattle.std.proofs.lemmas.Result.{on_err_weaker}
 use Rattle.p3_air.specs.Tree.{Tree, Asserted, Interaction, over_base}
-use Rattle.p3_air.specs.Laws.Growth.{some_of_more, some_after}
+use Rattle.p3_air.specs.Laws.Appending.{some_of_more, some_after}
 use Rattle.p3_air.specs.Joined.{joined}
 use Rattle.std.specs.Prelude.{Result}
-use Rattle.p3_air.specs.Laws.Stand.{holds_on_err}
+use Rattle.p3_air.specs.Laws.Represent.{holds_on_err}
 use Rattle.p3_air.specs.Appended.{Appended, AppendedSome, OnFailure}
 
 pub on_failure : {T E P : Type 0} {result : Result T E} → P → OnFailure result P

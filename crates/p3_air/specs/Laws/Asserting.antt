@@ -1,4 +1,4 @@
--- One more assertion behind others.
+-- One more assertion after others.
 use Rattle.std.proofs.Common.{List, [], ◌∷◌, ◌++◌, refl, subst}
 use Rattle.p3_air.specs.Asserting.{AssertsEach}
 

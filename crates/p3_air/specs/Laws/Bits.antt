@@ -6,8 +6,8 @@ use Rattle.p3_field.specs.Laws.Algebra.{mul_zero, zero_mul, of_nat_add, of_nat_m
 use Rattle.p3_field.specs.Laws.Roots.{NoZeroDivisors, sub_zero, sub_self}
 use Rattle.p3_air.specs.declared.cells.Cell.{Cell}
 use Rattle.p3_air.specs.declared.cells.ExtCell.{ExtCell}
-use Rattle.p3_air.specs.Tree.{ev}
-use Rattle.p3_air.specs.Words.{cells_reading, IsBit, Tells, BoolMeans, XorMeans}
+use Rattle.p3_air.specs.Tree.{eval_tree}
+use Rattle.p3_air.specs.Words.{cells_reading, IsBit, TellsDifference, BoolMeans, XorMeans}
 
 xor_number : (m n : ℕ) → m < 2 → n < 2 → m + n ≡ (m + n) % 2 + 2 * (m * n)
 xor_number zero n a b = let e : zero * n ≡ 0 = omega arith in omega (arith, e, b)
@@ -63,7 +63,7 @@ module _ {A : Type 0} (r : Ring A) (L : RingLaws r) where
   xor_means at at_ext s t m n a b e f = xor_at _ _ m n a b e f
 
   -- of values that are zero or one the xor is zero where they are equal, and else one
-  pub xor_tells : (r.one ≡ r.zero → ⊥) → (x y : A) → IsBit r x → IsBit r y → Tells r x y (sub r (r.add x y) (r.mul (of_nat r 2) (r.mul x y)))
+  pub xor_tells : (r.one ≡ r.zero → ⊥) → (x y : A) → IsBit r x → IsBit r y → TellsDifference r x y (sub r (r.add x y) (r.mul (of_nat r 2) (r.mul x y)))
   xor_tells d x y (inl h) (inl k) = inl (h ∙ sym k, xor_at x y 0 0 (lit< tt) (lit< tt) (h ∙ sym of_zero) (k ∙ sym of_zero) ∙ of_zero)
   xor_tells d x y (inl h) (inr k) = inr ((λ e. d (sym k ∙ (sym e ∙ h))), xor_at x y 0 1 (lit< tt) (lit< tt) (h ∙ sym of_zero) (k ∙ sym of_one) ∙ of_one)
   xor_tells d x y (inr h) (inl k) = inr ((λ e. d (sym h ∙ (e ∙ k))), xor_at x y 1 0 (lit< tt) (lit< tt) (h ∙ sym of_one) (k ∙ sym of_zero) ∙ of_one)
@@ -72,5 +72,5 @@ module _ {A : Type 0} (r : Ring A) (L : RingLaws r) where
   -- where a product is zero only where a factor is, x (x - 1) is zero exactly where x is zero or one
   pub bool_means : NoZeroDivisors r → ((x y : A) → (x ≡ y) ⊎ (x ≡ y → ⊥)) → (at : Cell → A) (at_ext : ExtCell → A) → BoolMeans r (cells_reading r at at_ext)
   bool_means N decided at at_ext t =
-      let x = ev (cells_reading r at at_ext) t in
+      let x = eval_tree (cells_reading r at at_ext) t in
       ((λ e. vanishing N x (decided x r.zero) e), bit_vanishes x)

@@ -3,9 +3,9 @@ use Rattle.std.proofs.Common.{◌≡◌, ℕ, true, false, List, [], ◌∷◌, 
 use Rattle.std.proofs.Math.ListN.{get_or-map}
 use Rattle.p3_field.specs.Ring.{Ring, RingLaws, sub}
 use Rattle.p3_field.specs.Field.{RingHom}
-use Rattle.p3_field.specs.Poly.{val}
+use Rattle.p3_field.specs.Poly.{eval_poly}
 use Rattle.p3_field.specs.Laws.Algebra.{mul_zero}
-use Rattle.p3_field.specs.Laws.Values.{val_add, val_sub, val_mul}
+use Rattle.p3_field.specs.Laws.Values.{eval_add, eval_sub, eval_mul}
 use Rattle.p3_air.specs.declared.cells.Cell.{Cell}
 use Rattle.p3_air.specs.declared.cells.Cell.TheVariants.{Main, Preprocessed, Periodic, Public, FirstRow, LastRow, Transition}
 use Rattle.p3_air.specs.declared.cells.ExtCell.{ExtCell}
@@ -14,7 +14,7 @@ use Rattle.p3_air.specs.CellValues.{CellValues, cell_in, ext_cell_in, reading_at
 use Rattle.p3_air.specs.Laws.Maps.{reads_all, value_along, hom_keeps}
 use Rattle.p3_air.specs.Maps.{Keeps}
 use Rattle.p3_air.specs.RowCheck.{Row, cell_value, ext_cell_value, row_reading}
-use Rattle.p3_air.specs.Tree.{Tree, ev}
+use Rattle.p3_air.specs.Tree.{Tree, eval_tree}
 
 -- an item of the images, also past the end, where zero goes to zero
 mapped : {X Y : Type 0} (f : X → Y) (z : X) (w : Y) → f z ≡ w → (xs : List X) (i : ℕ) → f (get_or xs i z) ≡ get_or (map f xs) i w
@@ -42,7 +42,7 @@ module _ {E G : Type 0} (f : E → G) (z : E) (w : G) (e : f z ≡ w) (v : CellV
 -- a tree's value goes along a map that keeps its operations and zero to its value at the images
 pub value_at_map : {F E G : Type 0} (r : Ring E) (s : Ring G) (embed : F → E) (up : F → G) (f : E → G) (v : CellValues E) → f r.zero ≡ s.zero
     → Keeps (reading_at r embed v) (reading_at s up (map_values f v)) f → (t : Tree F)
-    → f (ev (reading_at r embed v) t) ≡ ev (reading_at s up (map_values f v)) t
+    → f (eval_tree (reading_at r embed v) t) ≡ eval_tree (reading_at s up (map_values f v)) t
 value_at_map r s embed up f v e K t =
     value_along (reading_at r embed v) (reading_at s up (map_values f v)) f K t
     (reads_all (λ c. f (cell_in r.zero v c) ≡ cell_in s.zero (map_values f v) c)
@@ -52,7 +52,7 @@ value_at_map r s embed up f v e K t =
 -- along a map of rings
 pub image_at_values : {F E G : Type 0} (r : Ring E) (L : RingLaws r) (s : Ring G) (M : RingLaws s) (f : E → G) (H : RingHom r s f)
     (embed : F → E) (v : CellValues E) (t : Tree F)
-    → f (ev (reading_at r embed v) t) ≡ ev (reading_at s (λ x. f (embed x)) (map_values f v)) t
+    → f (eval_tree (reading_at r embed v) t) ≡ eval_tree (reading_at s (λ x. f (embed x)) (map_values f v)) t
 image_at_values r L s M f H embed v t =
     value_at_map r s embed (λ x. f (embed x)) f v H.keeps_zero
     (hom_keeps r L s M f H embed (cell_in r.zero v) (cell_in s.zero (map_values f v)) (ext_cell_in r.zero v) (ext_cell_in s.zero (map_values f v))) t
@@ -60,18 +60,18 @@ image_at_values r L s M f H embed v t =
 module _ {E : Type 0} (r : Ring E) (L : RingLaws r) where
   -- the value at a point keeps the operations on polynomials
   pub value_keeps : {F : Type 0} (embed : F → E) (v : CellValues (List E)) (x : E)
-      → Keeps (poly_reading r embed v) (reading_at r embed (map_values (λ p. val r p x) v)) (λ p. val r p x)
+      → Keeps (poly_reading r embed v) (reading_at r embed (map_values (λ p. eval_poly r p x) v)) (λ p. eval_poly r p x)
   value_keeps embed v x = record {
     from = λ y. ap (r.add (embed y)) (mul_zero r L x) ∙ L.add_zero (embed y);
-    add = λ p q. val_add r L p q x;
-    sub = λ p q. val_sub r L p q x;
-    mul = λ p q. val_mul r L p q x;
+    add = λ p q. eval_add r L p q x;
+    sub = λ p q. eval_sub r L p q x;
+    mul = λ p q. eval_mul r L p q x;
   }
 
   -- a tree on polynomials is a polynomial: its value at a point is the tree's at the values there
   pub value_at_point : {F : Type 0} (embed : F → E) (v : CellValues (List E)) (x : E) (t : Tree F)
-      → val r (ev (poly_reading r embed v) t) x ≡ ev (reading_at r embed (map_values (λ p. val r p x) v)) t
-  value_at_point embed v x t = value_at_map (poly_ring r) r (λ y. embed y ∷ []) embed (λ p. val r p x) v refl (value_keeps embed v x) t
+      → eval_poly r (eval_tree (poly_reading r embed v) t) x ≡ eval_tree (reading_at r embed (map_values (λ p. eval_poly r p x) v)) t
+  value_at_point embed v x t = value_at_map (poly_ring r) r (λ y. embed y ∷ []) embed (λ p. eval_poly r p x) v refl (value_keeps embed v x) t
 
 module _ {F E : Type 0} (f : Ring F) (e : Ring E) (embed : F → E) (zero_kept : embed f.zero ≡ e.zero) (r : Row F E) where
   row_cell : (c : Cell) → embed (cell_value f r c) ≡ cell_in e.zero (row_values_in f embed r) c

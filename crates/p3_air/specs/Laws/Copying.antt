@@ -6,7 +6,7 @@ use Rattle.p3_air.specs.declared.node.Node.{Node}
 use Rattle.p3_air.specs.declared.node.Node.TheVariants.{Sum, Difference, Product}
 use Rattle.p3_air.specs.Tree.{Tree, sum, difference, product}
 use Rattle.p3_air.specs.Symbolic.{node_tree, trees_after, tree_at, OperandsBelow, OrderedFrom}
-use Rattle.p3_air.specs.Copying.{IsCopied, CopiesTo, counted, copied_below}
+use Rattle.p3_air.specs.Copying.{IsCopied, CopiesTo, count_of_copy, copied_below}
 use Rattle.p3_air.specs.Laws.Symbolic.{tree_at-append, tree_at-push, ordered-push, NodeIs}
 
 none_differs : {X : Type 0} {x : X} → None ≡ Some x → ⊥
@@ -42,7 +42,7 @@ copied_below-same : (m k : ℕ → Option ℕ) (n : ℕ) → ((i : ℕ) → i < 
 copied_below-same m k zero h = refl
 copied_below-same m k (suc n) h =
     let rest = copied_below-same m k n (λ i l. h i (omega (arith, l))) in
-    let here : counted (k n) ≡ counted (m n) = ap counted (h n (omega arith)) in
+    let here : count_of_copy (k n) ≡ count_of_copy (m n) = ap count_of_copy (h n (omega arith)) in
     omega (arith, rest, here)
 
 -- one place more
@@ -52,16 +52,16 @@ copied_below-more m k zero place p l free here others = absurd (omega (arith, l)
 copied_below-more m k (suc n) place p l free here others = elim (same_or_other n place) [
   | inl w ↦
       let rest : copied_below k n ≡ copied_below m n = copied_below-same m k n (λ i b. others i (λ e. omega (arith, b, e, w))) in
-      let new : counted (k n) ≡ 1 = ap (λ i. counted (k i)) w ∙ ap counted here in
-      let old : counted (m n) ≡ 0 = ap (λ i. counted (m i)) w ∙ ap counted free in
+      let new : count_of_copy (k n) ≡ 1 = ap (λ i. count_of_copy (k i)) w ∙ ap count_of_copy here in
+      let old : count_of_copy (m n) ≡ 0 = ap (λ i. count_of_copy (m i)) w ∙ ap count_of_copy free in
       omega (arith, rest, new, old)
   | inr w ↦
       let rest = copied_below-more m k n place p (omega (arith, l, w)) free here others in
-      let same : counted (k n) ≡ counted (m n) = ap counted (others n w) in
+      let same : count_of_copy (k n) ≡ count_of_copy (m n) = ap count_of_copy (others n w) in
       omega (arith, rest, same)
 ]
 
-counted-most : (x : Option ℕ) → counted x ≤ 1
+counted-most : (x : Option ℕ) → count_of_copy x ≤ 1
 counted-most None = omega arith
 counted-most (Some p) = omega arith
 
@@ -73,7 +73,7 @@ copied_below-none : (m : ℕ → Option ℕ) (n : ℕ) → ((i : ℕ) → m i �
 copied_below-none m zero h = refl
 copied_below-none m (suc n) h =
     let rest = copied_below-none m n h in
-    let here : counted (m n) ≡ 0 = ap counted (h n) in
+    let here : count_of_copy (m n) ≡ 0 = ap count_of_copy (h n) in
     omega (arith, rest, here)
 
 -- the copies that are made of nothing for a place are as many as the places up to it, at most

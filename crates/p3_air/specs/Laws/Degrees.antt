@@ -17,7 +17,7 @@ use Rattle.p3_air.specs.CellValues.{CellValues, cell_in, ext_cell_in, poly_readi
 use Rattle.p3_air.specs.Degree.{degree, full_degree, cell_degree, ext_degree, polynomial_degree, HasPeriod}
 use Rattle.p3_air.specs.Laws.Maps.{reads_all, reads_more}
 use Rattle.p3_air.specs.Shape.{Shape, Declaration, Declares, DeclaresExt, ReadsIn, ReadsDeclared, declared_shape}
-use Rattle.p3_air.specs.Tree.{Tree, ev, constant, cell, ext_cell, sum, difference, product}
+use Rattle.p3_air.specs.Tree.{Tree, eval_tree, constant, cell, ext_cell, sum, difference, product}
 
 -- a degree below the stop is the full one
 pub degree_is_full : {F : Type 0} (f : Cell → ℕ) (g : ExtCell → ℕ) (t : Tree F)
@@ -58,24 +58,24 @@ module _ {E : Type 0} (r : Ring E) (L : RingLaws r) where
   -- a tree on polynomials is a polynomial of at most its degree
   pub tree_degree : {F : Type 0} (embed : F → E) (v : CellValues (List E)) (f : Cell → ℕ) (g : ExtCell → ℕ) (t : Tree F)
       → ReadsIn (λ c. DegreeBelow r (suc (f c)) (cell_in [] v c)) (λ c. DegreeBelow r (suc (g c)) (ext_cell_in [] v c)) t
-      → DegreeBelow r (suc (full_degree f g t)) (ev (poly_reading r embed v) t)
+      → DegreeBelow r (suc (full_degree f g t)) (eval_tree (poly_reading r embed v) t)
   tree_degree embed v f g (constant x) h = degree_length r L (embed x ∷ [])
   tree_degree embed v f g (cell c) h = h
   tree_degree embed v f g (ext_cell c) h = h
   tree_degree embed v f g (sum x y) h =
-      let p = ev (poly_reading r embed v) x in let q = ev (poly_reading r embed v) y in
+      let p = eval_tree (poly_reading r embed v) x in let q = eval_tree (poly_reading r embed v) y in
       let m = full_degree f g x in let n = full_degree f g y in
       degree_add r L (suc (max m n)) p q
       (degree_more r L (suc m) (suc (max m n)) p (omega arith) (tree_degree embed v f g x h.0))
       (degree_more r L (suc n) (suc (max m n)) q (omega arith) (tree_degree embed v f g y h.1))
   tree_degree embed v f g (difference x y) h =
-      let p = ev (poly_reading r embed v) x in let q = ev (poly_reading r embed v) y in
+      let p = eval_tree (poly_reading r embed v) x in let q = eval_tree (poly_reading r embed v) y in
       let m = full_degree f g x in let n = full_degree f g y in
       degree_sub r L (suc (max m n)) p q
       (degree_more r L (suc m) (suc (max m n)) p (omega arith) (tree_degree embed v f g x h.0))
       (degree_more r L (suc n) (suc (max m n)) q (omega arith) (tree_degree embed v f g y h.1))
   tree_degree embed v f g (product x y) h =
-      let p = ev (poly_reading r embed v) x in let q = ev (poly_reading r embed v) y in
+      let p = eval_tree (poly_reading r embed v) x in let q = eval_tree (poly_reading r embed v) y in
       let m = full_degree f g x in let n = full_degree f g y in
       degree_more r L (suc m + n) (suc (m + n)) (mul_poly r p q) (omega arith)
       (degree_mul r L (suc m) n p q (tree_degree embed v f g x h.0) (tree_degree embed v f g y h.1))
@@ -114,9 +114,9 @@ module _ {E : Type 0} (r : Ring E) (L : RingLaws r) where
 
     -- and a tree's has at most the tree's, where that doesn't stop
     pub polynomial_of_degree : {F : Type 0} (embed : F → E) (t : Tree F) → polynomial_degree n periods t < 2 ^ 64 - 1
-        → DegreeBelow r (suc (polynomial_degree n periods t)) (ev (poly_reading r embed v) t)
+        → DegreeBelow r (suc (polynomial_degree n periods t)) (eval_tree (poly_reading r embed v) t)
     polynomial_of_degree embed t below =
-        subst (λ d. DegreeBelow r (suc d) (ev (poly_reading r embed v) t)) (sym (degree_is_full (cell_degree n periods) (ext_degree n) t below))
+        subst (λ d. DegreeBelow r (suc d) (eval_tree (poly_reading r embed v) t)) (sym (degree_is_full (cell_degree n periods) (ext_degree n) t below))
         (tree_degree embed v (cell_degree n periods) (ext_degree n) t
         (reads_all (λ c. DegreeBelow r (suc (cell_degree n periods c)) (cell_in [] v c))
         (λ c. DegreeBelow r (suc (ext_degree n c)) (ext_cell_in [] v c))

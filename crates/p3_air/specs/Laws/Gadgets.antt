@@ -6,7 +6,7 @@ use Rattle.std.proofs.lemmas.Bool.{cases_eq, cases_lt}
 use Rattle.std.proofs.lemmas.List.Elements.{All-nil, All-cons, All-head, All-tail, All-append}
 use Rattle.std.proofs.Math.Nat.{mod-eq_of_lt, zero-mod, pow-suc}
 use Rattle.p3_field.specs.Ring.{Ring, RingLaws, of_nat, sub}
-use Rattle.p3_field.specs.Poly.{table, total}
+use Rattle.p3_field.specs.Poly.{tabulate, total}
 use Rattle.p3_field.specs.Laws.Algebra.{add_cancel, one_mul, mul_zero, zero_mul, of_nat_add, of_nat_mul}
 use Rattle.p3_field.specs.Laws.Sums.{total_same, total_scale}
 use Rattle.p3_field.specs.Laws.Coset.{mul_cancel}
@@ -14,9 +14,9 @@ use Rattle.p3_field.specs.Laws.Roots.{sub_zero, sub_self, field_no_zero_divisors
 use Rattle.p3_field.specs.Laws.Solver.{expressions, var, solve}
 use Rattle.p3_air.specs.declared.cells.Cell.{Cell}
 use Rattle.p3_air.specs.declared.cells.ExtCell.{ExtCell}
-use Rattle.p3_air.specs.Tree.{Tree, Reading, ev, difference, bool_tree}
-use Rattle.p3_air.specs.Gadgets.{less_two, less_three, with_high, zero_or_one, zero_to_two, packed, xor_shift_bit, xor_shift_trees, rotated_place}
-use Rattle.p3_air.specs.Words.{PrimeFieldLaws, cells_reading, Vanish, HaveValues, AreBits, limbs_word, limb, bits_number, bits_word, Add2Means, Add3Means, PackMeans, PackSums, XorShiftMeans}
+use Rattle.p3_air.specs.Tree.{Tree, Reading, eval_tree, difference, bool_tree}
+use Rattle.p3_air.specs.Gadgets.{difference_of_three, difference_of_four, with_high, zero_or_minus, zero_to_minus_twice, packed_bits, xor_shift_bit, xor_shift_trees, rotated_place}
+use Rattle.p3_air.specs.Words.{PrimeFieldLaws, cells_reading, Vanish, HaveNumbers, AreBits, limbs_word, limb, bits_number, bits_word, Add2Means, Add3Means, PackMeans, PackSums, XorShiftMeans}
 use Rattle.p3_air.specs.Laws.Lists.{all_left, all_right, all_of_mapped, all_mapped}
 use Rattle.p3_air.specs.Laws.Bits.{xor_value, of_one, bool_value}
 use Rattle.p3_air.specs.Laws.Words.{turned_bit, turned_bits, xor_of_bits, low_limb, high_limb}
@@ -229,35 +229,35 @@ module _ {A : Type 0} (r : Ring A) (inv : A → A) (order : ℕ) (canonical : A 
     whole_value : (x y : A) (m n p q : ℕ) → x ≡ gap r m n → y ≡ gap r p q → r.add x (r.mul (of_nat r (2 ^ 16)) y) ≡ gap r (m + 2 ^ 16 * p) (n + 2 ^ 16 * q)
     whole_value x y m n p q e f = cc (e, f, gap_weighed r P.ring_laws m n (2 ^ 16) p q)
 
-    two_vanish : (s t : Tree A) → ev rd s ≡ r.zero → ev rd t ≡ r.zero → Vanish r rd (s ∷ t ∷ [])
-    two_vanish s t e f = let Q : Tree A → Type 0 = λ v. ev rd v ≡ r.zero in All-cons Q s (t ∷ []) e (All-cons Q t [] f (All-nil Q))
+    two_vanish : (s t : Tree A) → eval_tree rd s ≡ r.zero → eval_tree rd t ≡ r.zero → Vanish r rd (s ∷ t ∷ [])
+    two_vanish s t e f = let Q : Tree A → Type 0 = λ v. eval_tree rd v ≡ r.zero in All-cons Q s (t ∷ []) e (All-cons Q t [] f (All-nil Q))
 
-    first_vanishes : (s t : Tree A) → Vanish r rd (s ∷ t ∷ []) → ev rd s ≡ r.zero
-    first_vanishes s t h = All-head (λ v. ev rd v ≡ r.zero) s (t ∷ []) h
+    first_vanishes : (s t : Tree A) → Vanish r rd (s ∷ t ∷ []) → eval_tree rd s ≡ r.zero
+    first_vanishes s t h = All-head (λ v. eval_tree rd v ≡ r.zero) s (t ∷ []) h
 
-    second_vanishes : (s t : Tree A) → Vanish r rd (s ∷ t ∷ []) → ev rd t ≡ r.zero
-    second_vanishes s t h = let Q : Tree A → Type 0 = λ v. ev rd v ≡ r.zero in All-head Q t [] (All-tail Q s (t ∷ []) h)
+    second_vanishes : (s t : Tree A) → Vanish r rd (s ∷ t ∷ []) → eval_tree rd t ≡ r.zero
+    second_vanishes s t h = let Q : Tree A → Type 0 = λ v. eval_tree rd v ≡ r.zero in All-head Q t [] (All-tail Q s (t ∷ []) h)
 
     pub add2_means : 2 ^ 20 < order → Add2Means r rd
     add2_means o s t u a b c ra rb rc hs ht hu =
         let L = P.ring_laws in
         let zero-lt : 0 < 2 = lit< tt in
         let one-lt : 1 < 2 = lit< tt in
-        let low = less_two_value (ev rd (s 0)) (ev rd (t 0)) (ev rd (u 0)) (a 0) (b 0) (c 0) (hs 0 zero-lt) (ht 0 zero-lt) (hu 0 zero-lt) in
-        let high = less_two_value (ev rd (s 1)) (ev rd (t 1)) (ev rd (u 1)) (a 1) (b 1) (c 1) (hs 1 one-lt) (ht 1 one-lt) (hu 1 one-lt) in
-        let x = ev rd (less_two (s 0) (t 0) (u 0)) in
-        let y = ev rd (with_high r (less_two (s 0) (t 0) (u 0)) (less_two (s 1) (t 1) (u 1))) in
+        let low = less_two_value (eval_tree rd (s 0)) (eval_tree rd (t 0)) (eval_tree rd (u 0)) (a 0) (b 0) (c 0) (hs 0 zero-lt) (ht 0 zero-lt) (hu 0 zero-lt) in
+        let high = less_two_value (eval_tree rd (s 1)) (eval_tree rd (t 1)) (eval_tree rd (u 1)) (a 1) (b 1) (c 1) (hs 1 one-lt) (ht 1 one-lt) (hu 1 one-lt) in
+        let x = eval_tree rd (difference_of_three (s 0) (t 0) (u 0)) in
+        let y = eval_tree rd (with_high r (difference_of_three (s 0) (t 0) (u 0)) (difference_of_three (s 1) (t 1) (u 1))) in
         let s0 = b 0 + c 0 in
         let s1 = b 1 + c 1 in
-        let whole : y ≡ gap r (a 0 + 2 ^ 16 * a 1) (s0 + 2 ^ 16 * s1) = whole_value x (ev rd (less_two (s 1) (t 1) (u 1))) (a 0) s0 (a 1) s1 low high in
+        let whole : y ≡ gap r (a 0 + 2 ^ 16 * a 1) (s0 + 2 ^ 16 * s1) = whole_value x (eval_tree rd (difference_of_three (s 1) (t 1) (u 1))) (a 0) s0 (a 1) s1 low high in
         let a0 : a 0 < 2 ^ 16 = ra 0 zero-lt in
         let a1 : a 1 < 2 ^ 16 = ra 1 one-lt in
         let b0 : b 0 < 2 ^ 16 = rb 0 zero-lt in
         let b1 : b 1 < 2 ^ 16 = rb 1 one-lt in
         let c0 : c 0 < 2 ^ 16 = rc 0 zero-lt in
         let c1 : c 1 < 2 ^ 16 = rc 1 one-lt in
-        let first = zero_or_one r (2 ^ 32) (with_high r (less_two (s 0) (t 0) (u 0)) (less_two (s 1) (t 1) (u 1))) in
-        let second = zero_or_one r (2 ^ 16) (less_two (s 0) (t 0) (u 0)) in
+        let first = zero_or_minus r (2 ^ 32) (with_high r (difference_of_three (s 0) (t 0) (u 0)) (difference_of_three (s 1) (t 1) (u 1))) in
+        let second = zero_or_minus r (2 ^ 16) (difference_of_three (s 0) (t 0) (u 0)) in
         let sum : limbs_word b + limbs_word c ≡ s0 + 2 ^ 16 * s1 = omega arith in (
           λ v. carried_word 1 (a 0) (a 1) s0 s1 (omega arith) o a0 a1 (omega arith) (omega arith)
               (two_carried y (2 ^ 32) (a 0 + 2 ^ 16 * a 1) (s0 + 2 ^ 16 * s1) whole (first_vanishes first second v))
@@ -275,13 +275,13 @@ module _ {A : Type 0} (r : Ring A) (inv : A → A) (order : ℕ) (canonical : A 
         let L = P.ring_laws in
         let zero-lt : 0 < 2 = lit< tt in
         let one-lt : 1 < 2 = lit< tt in
-        let low = less_three_value (ev rd (s 0)) (ev rd (t 0)) (ev rd (u 0)) (ev rd (v 0)) (a 0) (b 0) (c 0) (d 0) (hs 0 zero-lt) (ht 0 zero-lt) (hu 0 zero-lt) (hv 0 zero-lt) in
-        let high = less_three_value (ev rd (s 1)) (ev rd (t 1)) (ev rd (u 1)) (ev rd (v 1)) (a 1) (b 1) (c 1) (d 1) (hs 1 one-lt) (ht 1 one-lt) (hu 1 one-lt) (hv 1 one-lt) in
-        let x = ev rd (less_three (s 0) (t 0) (u 0) (v 0)) in
-        let y = ev rd (with_high r (less_three (s 0) (t 0) (u 0) (v 0)) (less_three (s 1) (t 1) (u 1) (v 1))) in
+        let low = less_three_value (eval_tree rd (s 0)) (eval_tree rd (t 0)) (eval_tree rd (u 0)) (eval_tree rd (v 0)) (a 0) (b 0) (c 0) (d 0) (hs 0 zero-lt) (ht 0 zero-lt) (hu 0 zero-lt) (hv 0 zero-lt) in
+        let high = less_three_value (eval_tree rd (s 1)) (eval_tree rd (t 1)) (eval_tree rd (u 1)) (eval_tree rd (v 1)) (a 1) (b 1) (c 1) (d 1) (hs 1 one-lt) (ht 1 one-lt) (hu 1 one-lt) (hv 1 one-lt) in
+        let x = eval_tree rd (difference_of_four (s 0) (t 0) (u 0) (v 0)) in
+        let y = eval_tree rd (with_high r (difference_of_four (s 0) (t 0) (u 0) (v 0)) (difference_of_four (s 1) (t 1) (u 1) (v 1))) in
         let s0 = b 0 + c 0 + d 0 in
         let s1 = b 1 + c 1 + d 1 in
-        let whole : y ≡ gap r (a 0 + 2 ^ 16 * a 1) (s0 + 2 ^ 16 * s1) = whole_value x (ev rd (less_three (s 1) (t 1) (u 1) (v 1))) (a 0) s0 (a 1) s1 low high in
+        let whole : y ≡ gap r (a 0 + 2 ^ 16 * a 1) (s0 + 2 ^ 16 * s1) = whole_value x (eval_tree rd (difference_of_four (s 1) (t 1) (u 1) (v 1))) (a 0) s0 (a 1) s1 low high in
         let a0 : a 0 < 2 ^ 16 = ra 0 zero-lt in
         let a1 : a 1 < 2 ^ 16 = ra 1 one-lt in
         let b0 : b 0 < 2 ^ 16 = rb 0 zero-lt in
@@ -290,8 +290,8 @@ module _ {A : Type 0} (r : Ring A) (inv : A → A) (order : ℕ) (canonical : A 
         let c1 : c 1 < 2 ^ 16 = rc 1 one-lt in
         let d0 : d 0 < 2 ^ 16 = rd' 0 zero-lt in
         let d1 : d 1 < 2 ^ 16 = rd' 1 one-lt in
-        let first = zero_to_two r (2 ^ 32) (with_high r (less_three (s 0) (t 0) (u 0) (v 0)) (less_three (s 1) (t 1) (u 1) (v 1))) in
-        let second = zero_to_two r (2 ^ 16) (less_three (s 0) (t 0) (u 0) (v 0)) in
+        let first = zero_to_minus_twice r (2 ^ 32) (with_high r (difference_of_four (s 0) (t 0) (u 0) (v 0)) (difference_of_four (s 1) (t 1) (u 1) (v 1))) in
+        let second = zero_to_minus_twice r (2 ^ 16) (difference_of_four (s 0) (t 0) (u 0) (v 0)) in
         let sum : limbs_word b + limbs_word c + limbs_word d ≡ s0 + 2 ^ 16 * s1 = omega arith in (
           λ z. carried_word 2 (a 0) (a 1) s0 s1 (omega arith) o a0 a1 (omega arith) (omega arith)
               (three_carried y (2 ^ 32) (a 0 + 2 ^ 16 * a 1) (s0 + 2 ^ 16 * s1) whole (first_vanishes first second z))
@@ -307,8 +307,8 @@ module _ {A : Type 0} (r : Ring A) (inv : A → A) (order : ℕ) (canonical : A 
     -- ---- bits
 
     -- the tree of packed bits is their number
-    pub packed_value : (t : ℕ → Tree A) (f : ℕ → ℕ) (k n : ℕ) → ((i : ℕ) → k ≤ i → i < k + n → ev rd (t i) ≡ of_nat r (f i)) → ev rd (packed r t k n) ≡ of_nat r (bits_number f k n)
-    unfolding packed bits_number
+    pub packed_value : (t : ℕ → Tree A) (f : ℕ → ℕ) (k n : ℕ) → ((i : ℕ) → k ≤ i → i < k + n → eval_tree rd (t i) ≡ of_nat r (f i)) → eval_tree rd (packed_bits r t k n) ≡ of_nat r (bits_number f k n)
+    unfolding packed_bits bits_number
     packed_value t f k zero h = refl
     packed_value t f k (suc n) h =
         let here = h k (omega arith) (omega arith) in
@@ -320,47 +320,47 @@ module _ {A : Type 0} (r : Ring A) (inv : A → A) (order : ℕ) (canonical : A 
     pack_means t f n h = packed_value t f 0 n (λ i a b. h i (omega (arith, b)))
 
     -- it is the sum of the packed values by powers of two
-    packed_sum : (t : ℕ → Tree A) (k n : ℕ) → ev rd (packed r t k n) ≡ total r n (λ i. r.mul (of_nat r (2 ^ i)) (ev rd (t (k + i))))
-    unfolding packed of_nat
+    packed_sum : (t : ℕ → Tree A) (k n : ℕ) → eval_tree rd (packed_bits r t k n) ≡ total r n (λ i. r.mul (of_nat r (2 ^ i)) (eval_tree rd (t (k + i))))
+    unfolding packed_bits of_nat
     packed_sum t k zero = refl
     packed_sum t k (suc n) =
         let L = P.ring_laws in
         let two = of_nat r 2 in
-        let first : r.mul (of_nat r (2 ^ 0)) (ev rd (t (k + 0))) ≡ ev rd (t k) =
-        ap (λ v. r.mul v (ev rd (t (k + 0)))) (L.add_zero r.one) ∙ (one_mul r L (ev rd (t (k + 0))) ∙ ap (λ j. ev rd (t j)) (add-zero k)) in
-        let later : (i : ℕ) → i < n → r.mul (of_nat r (2 ^ suc i)) (ev rd (t (k + suc i))) ≡ r.mul two (r.mul (of_nat r (2 ^ i)) (ev rd (t (suc k + i)))) = λ i h.
+        let first : r.mul (of_nat r (2 ^ 0)) (eval_tree rd (t (k + 0))) ≡ eval_tree rd (t k) =
+        ap (λ v. r.mul v (eval_tree rd (t (k + 0)))) (L.add_zero r.one) ∙ (one_mul r L (eval_tree rd (t (k + 0))) ∙ ap (λ j. eval_tree rd (t j)) (add-zero k)) in
+        let later : (i : ℕ) → i < n → r.mul (of_nat r (2 ^ suc i)) (eval_tree rd (t (k + suc i))) ≡ r.mul two (r.mul (of_nat r (2 ^ i)) (eval_tree rd (t (suc k + i)))) = λ i h.
         let power : 2 ^ suc i ≡ 2 * 2 ^ i = rw pow-suc (omega arith) in
         let at : k + suc i ≡ suc k + i = omega arith in
-        (λ j. r.mul (of_nat r (power j)) (ev rd (t (at j))))
-        ∙ (ap (λ v. r.mul v (ev rd (t (suc k + i)))) (of_nat_mul r L 2 (2 ^ i)) ∙ L.mul_assoc two (of_nat r (2 ^ i)) (ev rd (t (suc k + i)))) in
-        let terms : ℕ → A = λ i. r.mul (of_nat r (2 ^ i)) (ev rd (t (suc k + i))) in
-        let rest : total r n (λ i. r.mul (of_nat r (2 ^ suc i)) (ev rd (t (k + suc i)))) ≡ r.mul two (ev rd (packed r t (suc k) n)) =
-        total_same r L n (λ i. r.mul (of_nat r (2 ^ suc i)) (ev rd (t (k + suc i)))) (λ i. r.mul two (terms i)) later
+        (λ j. r.mul (of_nat r (power j)) (eval_tree rd (t (at j))))
+        ∙ (ap (λ v. r.mul v (eval_tree rd (t (suc k + i)))) (of_nat_mul r L 2 (2 ^ i)) ∙ L.mul_assoc two (of_nat r (2 ^ i)) (eval_tree rd (t (suc k + i)))) in
+        let terms : ℕ → A = λ i. r.mul (of_nat r (2 ^ i)) (eval_tree rd (t (suc k + i))) in
+        let rest : total r n (λ i. r.mul (of_nat r (2 ^ suc i)) (eval_tree rd (t (k + suc i)))) ≡ r.mul two (eval_tree rd (packed_bits r t (suc k) n)) =
+        total_same r L n (λ i. r.mul (of_nat r (2 ^ suc i)) (eval_tree rd (t (k + suc i)))) (λ i. r.mul two (terms i)) later
         ∙ (total_scale r L n two terms ∙ ap (r.mul two) (sym (packed_sum t (suc k) n))) in
         sym (λ j. r.add (first j) (rest j))
 
     pub pack_sums : PackSums r rd
     pack_sums t n =
         packed_sum t 0 n
-        ∙ total_same r P.ring_laws n (λ i. r.mul (of_nat r (2 ^ i)) (ev rd (t (0 + i)))) (λ i. r.mul (of_nat r (2 ^ i)) (ev rd (t i)))
-        (λ i h. ap (λ j. r.mul (of_nat r (2 ^ i)) (ev rd (t j))) (zero-add i))
+        ∙ total_same r P.ring_laws n (λ i. r.mul (of_nat r (2 ^ i)) (eval_tree rd (t (0 + i)))) (λ i. r.mul (of_nat r (2 ^ i)) (eval_tree rd (t i)))
+        (λ i h. ap (λ j. r.mul (of_nat r (2 ^ i)) (eval_tree rd (t j))) (zero-add i))
 
     -- the values of the xor's trees
-    turned_values : (tb tc : ℕ → Tree A) (b c : ℕ → ℕ) (s : ℕ) → AreBits b → AreBits c → HaveValues r rd 32 tb b → HaveValues r rd 32 tc c
-        → (i : ℕ) → i < 32 → ev rd (xor_shift_bit r tb tc s i) ≡ of_nat r (turned_bit b c s i)
+    turned_values : (tb tc : ℕ → Tree A) (b c : ℕ → ℕ) (s : ℕ) → AreBits b → AreBits c → HaveNumbers r rd 32 tb b → HaveNumbers r rd 32 tc c
+        → (i : ℕ) → i < 32 → eval_tree rd (xor_shift_bit r tb tc s i) ≡ of_nat r (turned_bit b c s i)
     turned_values tb tc b c s rb rc hb hc i lt =
         let place : rotated_place s i < 32 = omega arith in
-        xor_value r P.ring_laws (ev rd (tb i)) (ev rd (tc (rotated_place s i))) (b i) (c (rotated_place s i)) (rb i lt) (rc (rotated_place s i) place) (hb i lt) (hc (rotated_place s i) place)
+        xor_value r P.ring_laws (eval_tree rd (tb i)) (eval_tree rd (tc (rotated_place s i))) (b i) (c (rotated_place s i)) (rb i lt) (rc (rotated_place s i) place) (hb i lt) (hc (rotated_place s i) place)
 
     -- the packed halves are the limbs of b xor (c rotated to the left by s)
-    low_half : (tb tc : ℕ → Tree A) (b c : ℕ → ℕ) (s : ℕ) → AreBits b → AreBits c → HaveValues r rd 32 tb b → HaveValues r rd 32 tc c
-        → ev rd (packed r (xor_shift_bit r tb tc s) 0 16) ≡ of_nat r (limb (bit_xor (bits_word b) (rotate_left w32 (bits_word c) s)) 0)
+    low_half : (tb tc : ℕ → Tree A) (b c : ℕ → ℕ) (s : ℕ) → AreBits b → AreBits c → HaveNumbers r rd 32 tb b → HaveNumbers r rd 32 tc c
+        → eval_tree rd (packed_bits r (xor_shift_bit r tb tc s) 0 16) ≡ of_nat r (limb (bit_xor (bits_word b) (rotate_left w32 (bits_word c) s)) 0)
     low_half tb tc b c s rb rc hb hc =
         packed_value (xor_shift_bit r tb tc s) (turned_bit b c s) 0 16 (λ i a l. turned_values tb tc b c s rb rc hb hc i (omega (arith, l)))
         ∙ ap (of_nat r) (sym (ap (λ w. limb w 0) (xor_of_bits b c s rb rc) ∙ low_limb (turned_bit b c s) (turned_bits b c s 0 32)))
 
-    high_half : (tb tc : ℕ → Tree A) (b c : ℕ → ℕ) (s : ℕ) → AreBits b → AreBits c → HaveValues r rd 32 tb b → HaveValues r rd 32 tc c
-        → ev rd (packed r (xor_shift_bit r tb tc s) 16 16) ≡ of_nat r (limb (bit_xor (bits_word b) (rotate_left w32 (bits_word c) s)) 1)
+    high_half : (tb tc : ℕ → Tree A) (b c : ℕ → ℕ) (s : ℕ) → AreBits b → AreBits c → HaveNumbers r rd 32 tb b → HaveNumbers r rd 32 tc c
+        → eval_tree rd (packed_bits r (xor_shift_bit r tb tc s) 16 16) ≡ of_nat r (limb (bit_xor (bits_word b) (rotate_left w32 (bits_word c) s)) 1)
     high_half tb tc b c s rb rc hb hc =
         packed_value (xor_shift_bit r tb tc s) (turned_bit b c s) 16 16 (λ i a l. turned_values tb tc b c s rb rc hb hc i (omega (arith, l)))
         ∙ ap (of_nat r) (sym (ap (λ w. limb w 1) (xor_of_bits b c s rb rc) ∙ high_limb (turned_bit b c s) (turned_bits b c s 0 32)))
@@ -368,28 +368,28 @@ module _ {A : Type 0} (r : Ring A) (inv : A → A) (order : ℕ) (canonical : A 
     pub xor_shift_means : 2 ^ 20 < order → XorShiftMeans r rd
     unfolding xor_shift_trees
     xor_shift_means o ta tb tc b s rb hb =
-        let Q : Tree A → Type 0 = λ v. ev rd v ≡ r.zero in
+        let Q : Tree A → Type 0 = λ v. eval_tree rd v ≡ r.zero in
         let f = xor_shift_bit r tb tc s in
-        let bools = map (bool_tree r.one) (table 32 tc) in
-        let first = difference (ta 0) (packed r f 0 16) in
-        let second = difference (ta 1) (packed r f 16 16) in (
+        let bools = map (bool_tree r.one) (tabulate 32 tc) in
+        let first = difference (ta 0) (packed_bits r f 0 16) in
+        let second = difference (ta 1) (packed_bits r f 16 16) in (
           λ v.
-              let c : ℕ → ℕ = λ k. canonical (ev rd (tc k)) in
-              let c_bits : AreBits c = λ k lt. value_bool o (ev rd (tc k)) (all_of_mapped Q (bool_tree r.one) 32 tc (all_left Q bools (first ∷ second ∷ []) v) k lt) in
-              let c_values : HaveValues r rd 32 tc c = λ k lt. sym (P.of_canonical (ev rd (tc k))) in
+              let c : ℕ → ℕ = λ k. canonical (eval_tree rd (tc k)) in
+              let c_bits : AreBits c = λ k lt. value_bool o (eval_tree rd (tc k)) (all_of_mapped Q (bool_tree r.one) 32 tc (all_left Q bools (first ∷ second ∷ []) v) k lt) in
+              let c_values : HaveNumbers r rd 32 tc c = λ k lt. sym (P.of_canonical (eval_tree rd (tc k))) in
               let halves = all_right Q bools (first ∷ second ∷ []) v in
               record {
                 c = c;
                 c_bits = c_bits;
                 c_values = c_values;
-                a_values = two_places (λ k. ev rd (ta k) ≡ of_nat r (limb (bit_xor (bits_word b) (rotate_left w32 (bits_word c) s)) k))
-                    (sub_zero r P.ring_laws (ev rd (ta 0)) (ev rd (packed r f 0 16)) (first_vanishes first second halves) ∙ low_half tb tc b c s rb c_bits hb c_values)
-                    (sub_zero r P.ring_laws (ev rd (ta 1)) (ev rd (packed r f 16 16)) (second_vanishes first second halves) ∙ high_half tb tc b c s rb c_bits hb c_values);
+                a_values = two_places (λ k. eval_tree rd (ta k) ≡ of_nat r (limb (bit_xor (bits_word b) (rotate_left w32 (bits_word c) s)) k))
+                    (sub_zero r P.ring_laws (eval_tree rd (ta 0)) (eval_tree rd (packed_bits r f 0 16)) (first_vanishes first second halves) ∙ low_half tb tc b c s rb c_bits hb c_values)
+                    (sub_zero r P.ring_laws (eval_tree rd (ta 1)) (eval_tree rd (packed_bits r f 16 16)) (second_vanishes first second halves) ∙ high_half tb tc b c s rb c_bits hb c_values);
               },
           λ x.
               All-append Q bools (first ∷ second ∷ [])
-              (all_mapped Q (bool_tree r.one) 32 tc (λ k lt. bool_value r P.ring_laws (ev rd (tc k)) (x.c k) (x.c_bits k lt) (x.c_values k lt)))
+              (all_mapped Q (bool_tree r.one) 32 tc (λ k lt. bool_value r P.ring_laws (eval_tree rd (tc k)) (x.c k) (x.c_bits k lt) (x.c_values k lt)))
               (two_vanish first second
-              (sub_self r P.ring_laws (ev rd (ta 0)) (ev rd (packed r f 0 16)) (x.a_values 0 (lit< tt) ∙ sym (low_half tb tc b x.c s rb x.c_bits hb x.c_values)))
-              (sub_self r P.ring_laws (ev rd (ta 1)) (ev rd (packed r f 16 16)) (x.a_values 1 (lit< tt) ∙ sym (high_half tb tc b x.c s rb x.c_bits hb x.c_values)))),
+              (sub_self r P.ring_laws (eval_tree rd (ta 0)) (eval_tree rd (packed_bits r f 0 16)) (x.a_values 0 (lit< tt) ∙ sym (low_half tb tc b x.c s rb x.c_bits hb x.c_values)))
+              (sub_self r P.ring_laws (eval_tree rd (ta 1)) (eval_tree rd (packed_bits r f 16 16)) (x.a_values 1 (lit< tt) ∙ sym (high_half tb tc b x.c s rb x.c_bits hb x.c_values)))),
         )

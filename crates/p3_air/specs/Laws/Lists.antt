@@ -3,7 +3,7 @@ use Rattle.std.proofs.Common.{◌≡◌, ℕ, zero, suc, ◌<◌, List, [], ◌�
 use Rattle.std.specs.Prelude.{All}
 use Rattle.std.proofs.lemmas.List.Elements.{All-nil, All-cons, All-head, All-tail, All-append}
 use Rattle.std.proofs.lemmas.Bool.{cases_eq}
-use Rattle.p3_field.specs.Poly.{table}
+use Rattle.p3_field.specs.Poly.{tabulate}
 use Rattle.p3_air.specs.Joined.{joined}
 
 pub all_left : {X : Type 0} (Q : X → Type 0) (xs ys : List X) → All Q (xs ++ ys) → All Q xs
@@ -27,14 +27,14 @@ unfolding joined
 all_joined Q zero t h = All-nil Q
 all_joined Q (suc n) t h = All-append Q (joined n t) (t n) (all_joined Q n t (λ i lt. h i (omega (arith, lt)))) (h n (omega arith))
 
-pub all_of_table : {X : Type 0} (Q : X → Type 0) (n : ℕ) (t : ℕ → X) → All Q (table n t) → (i : ℕ) → i < n → Q (t i)
-all_of_table Q zero t h i lt = absurd (omega (arith, lt))
-all_of_table Q (suc n) t h zero lt = All-head Q (t zero) (table n (λ i. t (suc i))) h
-all_of_table Q (suc n) t h (suc i) lt = all_of_table Q n (λ i. t (suc i)) (All-tail Q (t zero) (table n (λ i. t (suc i))) h) i (omega (arith, lt))
+pub all_of_tabulate : {X : Type 0} (Q : X → Type 0) (n : ℕ) (t : ℕ → X) → All Q (tabulate n t) → (i : ℕ) → i < n → Q (t i)
+all_of_tabulate Q zero t h i lt = absurd (omega (arith, lt))
+all_of_tabulate Q (suc n) t h zero lt = All-head Q (t zero) (tabulate n (λ i. t (suc i))) h
+all_of_tabulate Q (suc n) t h (suc i) lt = all_of_tabulate Q n (λ i. t (suc i)) (All-tail Q (t zero) (tabulate n (λ i. t (suc i))) h) i (omega (arith, lt))
 
-pub all_table : {X : Type 0} (Q : X → Type 0) (n : ℕ) (t : ℕ → X) → ((i : ℕ) → i < n → Q (t i)) → All Q (table n t)
-all_table Q zero t h = All-nil Q
-all_table Q (suc n) t h = All-cons Q (t zero) (table n (λ i. t (suc i))) (h zero (omega arith)) (all_table Q n (λ i. t (suc i)) (λ i lt. h (suc i) (omega (arith, lt))))
+pub all_tabulate : {X : Type 0} (Q : X → Type 0) (n : ℕ) (t : ℕ → X) → ((i : ℕ) → i < n → Q (t i)) → All Q (tabulate n t)
+all_tabulate Q zero t h = All-nil Q
+all_tabulate Q (suc n) t h = All-cons Q (t zero) (tabulate n (λ i. t (suc i))) (h zero (omega arith)) (all_tabulate Q n (λ i. t (suc i)) (λ i lt. h (suc i) (omega (arith, lt))))
 
 -- a table as joined lists of one item
 pub joined_in_front : {X : Type 0} (n : ℕ) (t : ℕ → List X) → joined (suc n) t ≡ t zero ++ joined n (λ i. t (suc i))
@@ -42,17 +42,17 @@ unfolding joined
 joined_in_front zero t = sym (append-nil (t zero))
 joined_in_front (suc n) t = ap (λ xs. xs ++ t (suc n)) (joined_in_front n t) ∙ append_assoc (t zero) (joined n (λ i. t (suc i))) (t (suc n))
 
-pub table_joined : {X : Type 0} (n : ℕ) (t : ℕ → X) → table n t ≡ joined n (λ i. t i ∷ [])
+pub tabulate_joined : {X : Type 0} (n : ℕ) (t : ℕ → X) → tabulate n t ≡ joined n (λ i. t i ∷ [])
 unfolding joined
-table_joined zero t = refl
-table_joined (suc n) t = ap (λ xs. t zero ∷ xs) (table_joined n (λ i. t (suc i))) ∙ sym (joined_in_front n (λ i. t i ∷ []))
+tabulate_joined zero t = refl
+tabulate_joined (suc n) t = ap (λ xs. t zero ∷ xs) (tabulate_joined n (λ i. t (suc i))) ∙ sym (joined_in_front n (λ i. t i ∷ []))
 
 -- what holds of f at each item of a table
-pub all_of_mapped : {X Y : Type 0} (Q : Y → Type 0) (f : X → Y) (n : ℕ) (t : ℕ → X) → All Q (map f (table n t)) → (k : ℕ) → k < n → Q (f (t k))
+pub all_of_mapped : {X Y : Type 0} (Q : Y → Type 0) (f : X → Y) (n : ℕ) (t : ℕ → X) → All Q (map f (tabulate n t)) → (k : ℕ) → k < n → Q (f (t k))
 all_of_mapped Q f zero t h k lt = absurd (omega (arith, lt))
-all_of_mapped Q f (suc n) t h zero lt = All-head Q (f (t zero)) (map f (table n (λ i. t (suc i)))) h
-all_of_mapped Q f (suc n) t h (suc k) lt = all_of_mapped Q f n (λ i. t (suc i)) (All-tail Q (f (t zero)) (map f (table n (λ i. t (suc i)))) h) k (omega (arith, lt))
+all_of_mapped Q f (suc n) t h zero lt = All-head Q (f (t zero)) (map f (tabulate n (λ i. t (suc i)))) h
+all_of_mapped Q f (suc n) t h (suc k) lt = all_of_mapped Q f n (λ i. t (suc i)) (All-tail Q (f (t zero)) (map f (tabulate n (λ i. t (suc i)))) h) k (omega (arith, lt))
 
-pub all_mapped : {X Y : Type 0} (Q : Y → Type 0) (f : X → Y) (n : ℕ) (t : ℕ → X) → ((k : ℕ) → k < n → Q (f (t k))) → All Q (map f (table n t))
+pub all_mapped : {X Y : Type 0} (Q : Y → Type 0) (f : X → Y) (n : ℕ) (t : ℕ → X) → ((k : ℕ) → k < n → Q (f (t k))) → All Q (map f (tabulate n t))
 all_mapped Q f zero t h = All-nil Q
-all_mapped Q f (suc n) t h = All-cons Q (f (t zero)) (map f (table n (λ i. t (suc i)))) (h zero (omega arith)) (all_mapped Q f n (λ i. t (suc i)) (λ k lt. h (suc k) (omega (arith, lt))))
+all_mapped Q f (suc n) t h = All-cons Q (f (t zero)) (map f (tabulate n (λ i. t (suc i)))) (h zero (omega arith)) (all_mapped Q f n (λ i. t (suc i)) (λ k lt. h (suc k) (omega (arith, lt))))

@@ -7,7 +7,7 @@ use Rattle.p3_air.specs.declared.cells.Cell.{Cell}
 use Rattle.p3_air.specs.declared.cells.ExtCell.{ExtCell}
 use Rattle.p3_air.specs.Maps.{reading_over, Keeps, AgreeOn}
 use Rattle.p3_air.specs.Shape.{Shape, Declares, DeclaresExt, ReadsIn, ReadsDeclared}
-use Rattle.p3_air.specs.Tree.{Tree, Reading, ev, constant, cell, ext_cell, sum, difference, product}
+use Rattle.p3_air.specs.Tree.{Tree, Reading, eval_tree, constant, cell, ext_cell, sum, difference, product}
 
 -- what holds of each cell holds of those that a tree reads
 pub reads_all : {F : Type 0} (P : Cell → Type 0) (Q : ExtCell → Type 0) → ((c : Cell) → P c) → ((c : ExtCell) → Q c) → (t : Tree F) → ReadsIn P Q t
@@ -30,13 +30,13 @@ reads_more P P' Q Q' p q (product x y) h = (reads_more P P' Q Q' p q x h.0, read
 
 -- a tree's value goes along a map that keeps its operations, where the map takes the cells that it reads to one another
 pub value_along : {F E G : Type 0} (a : Reading F E) (b : Reading F G) (f : E → G) → Keeps a b f → (t : Tree F) → AgreeOn a b f t
-    → f (ev a t) ≡ ev b t
+    → f (eval_tree a t) ≡ eval_tree b t
 value_along a b f K (constant x) h = K.from x
 value_along a b f K (cell c) h = h
 value_along a b f K (ext_cell c) h = h
-value_along a b f K (sum x y) h = K.add (ev a x) (ev a y) ∙ (λ i. b.add (value_along a b f K x h.0 i) (value_along a b f K y h.1 i))
-value_along a b f K (difference x y) h = K.sub (ev a x) (ev a y) ∙ (λ i. b.sub (value_along a b f K x h.0 i) (value_along a b f K y h.1 i))
-value_along a b f K (product x y) h = K.mul (ev a x) (ev a y) ∙ (λ i. b.mul (value_along a b f K x h.0 i) (value_along a b f K y h.1 i))
+value_along a b f K (sum x y) h = K.add (eval_tree a x) (eval_tree a y) ∙ (λ i. b.add (value_along a b f K x h.0 i) (value_along a b f K y h.1 i))
+value_along a b f K (difference x y) h = K.sub (eval_tree a x) (eval_tree a y) ∙ (λ i. b.sub (value_along a b f K x h.0 i) (value_along a b f K y h.1 i))
+value_along a b f K (product x y) h = K.mul (eval_tree a x) (eval_tree a y) ∙ (λ i. b.mul (value_along a b f K x h.0 i) (value_along a b f K y h.1 i))
 
 -- each value keeps its operations
 pub itself_keeps : {F E : Type 0} (r : Ring E) (embed : F → E) (at at' : Cell → E) (at_ext at_ext' : ExtCell → E)
@@ -45,14 +45,14 @@ itself_keeps r embed at at' at_ext at_ext' = record { from = λ x. refl; add = �
 
 -- two readings over one ring that agree on the cells that a tree reads give it one value
 pub one_value : {F E : Type 0} (r : Ring E) (embed : F → E) (at at' : Cell → E) (at_ext at_ext' : ExtCell → E) (t : Tree F)
-    → ReadsIn (λ c. at c ≡ at' c) (λ c. at_ext c ≡ at_ext' c) t → ev (reading_over r embed at at_ext) t ≡ ev (reading_over r embed at' at_ext') t
+    → ReadsIn (λ c. at c ≡ at' c) (λ c. at_ext c ≡ at_ext' c) t → eval_tree (reading_over r embed at at_ext) t ≡ eval_tree (reading_over r embed at' at_ext') t
 one_value r embed at at' at_ext at_ext' t h =
     value_along (reading_over r embed at at_ext) (reading_over r embed at' at_ext') (λ x. x) (itself_keeps r embed at at' at_ext at_ext') t h
 
 -- and so two readings that agree on the declared cells, where the tree reads these alone
 pub one_declared_value : {F E : Type 0} (r : Ring E) (embed : F → E) (at at' : Cell → E) (at_ext at_ext' : ExtCell → E) (s : Shape) (t : Tree F)
     → ((c : Cell) → Declares s c → at c ≡ at' c) → ((c : ExtCell) → DeclaresExt s c → at_ext c ≡ at_ext' c) → ReadsDeclared s t
-    → ev (reading_over r embed at at_ext) t ≡ ev (reading_over r embed at' at_ext') t
+    → eval_tree (reading_over r embed at at_ext) t ≡ eval_tree (reading_over r embed at' at_ext') t
 one_declared_value r embed at at' at_ext at_ext' s t same same_ext declared =
     one_value r embed at at' at_ext at_ext' t
     (reads_more (Declares s) (λ c. at c ≡ at' c) (DeclaresExt s) (λ c. at_ext c ≡ at_ext' c) same same_ext t declared)
@@ -70,7 +70,7 @@ module _ {E G : Type 0} (r : Ring E) (L : RingLaws r) (s : Ring G) (M : RingLaws
 
   -- the image of a tree's value is its value at the images
   pub value_at_images : {F : Type 0} (embed : F → E) (at : Cell → E) (at_ext : ExtCell → E) (t : Tree F)
-      → f (ev (reading_over r embed at at_ext) t) ≡ ev (reading_over s (λ x. f (embed x)) (λ c. f (at c)) (λ c. f (at_ext c))) t
+      → f (eval_tree (reading_over r embed at at_ext) t) ≡ eval_tree (reading_over s (λ x. f (embed x)) (λ c. f (at c)) (λ c. f (at_ext c))) t
   value_at_images embed at at_ext t =
       value_along (reading_over r embed at at_ext) (reading_over s (λ x. f (embed x)) (λ c. f (at c)) (λ c. f (at_ext c))) f
       (hom_keeps embed at (λ c. f (at c)) at_ext (λ c. f (at_ext c))) t

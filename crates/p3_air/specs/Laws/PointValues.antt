@@ -8,7 +8,7 @@ use Rattle.p3_air.specs.declared.cells.Cell.{Cell}
 use Rattle.p3_air.specs.declared.cells.Cell.TheVariants.{Main, Preprocessed, Periodic, Public, FirstRow, LastRow, Transition}
 use Rattle.p3_air.specs.Shape.{Declares}
 use Rattle.p3_air.specs.PointValues.{PointValues, point_cell, point_shape}
-use Rattle.p3_air.specs.RowCheck.{Row, IsRow, cell_value, row_shape}
+use Rattle.p3_air.specs.RowCheck.{Row, HasRowsOfOneWidth, cell_value, row_shape}
 
 -- the values at the row, where the selectors have these values
 abbrev pub row_point : {F E : Type 0} → Row F E → F → F → F → PointValues F F
@@ -28,7 +28,7 @@ is_below : (n a b : ℕ) → a ≡ b → n < b → IsTrue (nat_lt n a)
 is_below n a b e h = grind (arith, nat_tests)
 
 -- a cell of the row is there
-pub row_point-declares : {F E : Type 0} (r : Row F E) (first last transition : F) (c : Cell) → IsRow r → Declares (row_shape r) c → Declares (point_shape (row_point r first last transition)) c
+pub row_point-declares : {F E : Type 0} (r : Row F E) (first last transition : F) (c : Cell) → HasRowsOfOneWidth r → Declares (row_shape r) c → Declares (point_shape (row_point r first last transition)) c
 row_point-declares r first last transition (Main next n) w h = (h.0, λ e. is_below n (length r.main_next) (length r.main_local) w.main h.0)
 row_point-declares r first last transition (Preprocessed next n) w h = (h.0, λ e. is_below n (length r.preprocessed_next) (length r.preprocessed_local) w.preprocessed h.0)
 row_point-declares r first last transition (Periodic n) w h = h

@@ -10,12 +10,12 @@ use Rattle.p3_air.specs.declared.layout.AirLayout.{AirLayout}
 use Rattle.p3_air.specs.declared.node.Node.{Node}
 use Rattle.p3_air.specs.declared.node.Node.TheVariants.{Constant, Sum, Difference, Product}
 use Rattle.p3_air.specs.declared.recorded.Assertion.{Assertion}
-use Rattle.p3_air.specs.Tree.{Tree, Asserted, Interaction, Bus, local, global, sum, difference, product, Stand, StandCount}
+use Rattle.p3_air.specs.Tree.{Tree, Asserted, Interaction, Bus, local, global, sum, difference, product, Represent, RepresentsCount}
 use Rattle.p3_air.specs.Operation.{Operation, tree_by}
 use Rattle.p3_air.specs.Layout.{layout_shape}
 use Rattle.p3_air.specs.Symbolic.{node_tree, trees_after, tree_at, OperandsBelow, OrderedFrom}
 use Rattle.p3_air.specs.Placed.{Placed}
-use Rattle.p3_air.specs.Recording.{Recording, asserted_tree, asserted_at, bus_of, count_at, interaction_at, sent_at, PlacedBelow, IsRecording, StandsAt, IsLater, Grows, Computes, known_place, known_tree, known_count, is_in, indices_from, asserting, name_of, sending}
+use Rattle.p3_air.specs.Recording.{Recording, asserted_tree, asserted_at, bus_of, count_at, interaction_at, sent_at, PlacedBelow, IsRecording, RepresentsAt, IsLater, HasAppended, Computes, place_or_zero, tree_or_zero, count_or_zero, is_in, indices_from, asserting, name_of, sending}
 use Rattle.p3_air.specs.Laws.Symbolic.{tree_at-append, tree_at-push, ordered-push}
 
 -- places below a number are below a larger one
@@ -79,20 +79,20 @@ later-along {F = F} a b c h k = record {
 pub later-shape : {F : Type 0} (a b : Recording F) → IsLater a b → layout_shape b.layout ≡ layout_shape a.layout
 later-shape a b h = ap layout_shape h.layout
 
-pub stands-more : {F : Type 0} (ns ms more : List (Node F)) (e : ℕ) (t : Tree F) → ms ≡ ns ++ more → StandsAt ns e t → StandsAt ms e t
-stands-more {F = F} ns ms more e t h k =
+pub represents-more : {F : Type 0} (ns ms more : List (Node F)) (e : ℕ) (t : Tree F) → ms ≡ ns ++ more → RepresentsAt ns e t → RepresentsAt ms e t
+represents-more {F = F} ns ms more e t h k =
     let long = length-append ns more in
-    let P : List (Node F) → Type 0 = λ l. StandsAt l e t in
+    let P : List (Node F) → Type 0 = λ l. RepresentsAt l e t in
     subst P (sym h) (record { within = omega (arith, long, k.within); has_tree = tree_at-append ns more e k.within ∙ k.has_tree })
 
-pub stands-later : {F : Type 0} (a b : Recording F) → IsLater a b → (e : ℕ) (t : Tree F) → StandsAt a.nodes e t → StandsAt b.nodes e t
-stands-later a b h e t k = stands-more a.nodes b.nodes h.more e t h.extends k
+pub represents-later : {F : Type 0} (a b : Recording F) → IsLater a b → (e : ℕ) (t : Tree F) → RepresentsAt a.nodes e t → RepresentsAt b.nodes e t
+represents-later a b h e t k = represents-more a.nodes b.nodes h.more e t h.extends k
 
-pub grows-same : {F : Type 0} (a : Recording F) → Grows a a [] []
-grows-same a = record { later = later-same a; trees = sym (append-nil _); sent = sym (append-nil _) }
+pub appends-none : {F : Type 0} (a : Recording F) → HasAppended a a [] []
+appends-none a = record { later = later-same a; trees = sym (append-nil _); sent = sym (append-nil _) }
 
-pub grows-along : {F : Type 0} (a b c : Recording F) (s t : List (Asserted F)) (i j : List (Interaction F)) → Grows a b s i → Grows b c t j → Grows a c (s ++ t) (i ++ j)
-grows-along {F = F} a b c s t i j h k = record {
+pub appends-along : {F : Type 0} (a b c : Recording F) (s t : List (Asserted F)) (i j : List (Interaction F)) → HasAppended a b s i → HasAppended b c t j → HasAppended a c (s ++ t) (i ++ j)
+appends-along {F = F} a b c s t i j h k = record {
   later = later-along a b c h.later k.later;
   trees = k.trees ∙ ap (λ (ts : List (Asserted F)). ts ++ t) h.trees ∙ append_assoc (asserted_at a.nodes a.asserted) s t;
   sent = k.sent ∙ ap (λ (is : List (Interaction F)). is ++ j) h.sent ∙ append_assoc (sent_at a.nodes a.interactions) i j;
@@ -109,35 +109,35 @@ recording-push r n h below =
       interactions = placed_below-more (length r.nodes) (length (r.nodes ++ n ∷ [])) r.interactions (omega (arith, long)) h.interactions;
     }
 
-pub grows-push : {F : Type 0} (r : Recording F) (n : Node F) → IsRecording r → Grows r (record r { nodes = r.nodes ++ n ∷ [] }) [] []
-grows-push r n h = record {
+pub appends-push : {F : Type 0} (r : Recording F) (n : Node F) → IsRecording r → HasAppended r (record r { nodes = r.nodes ++ n ∷ [] }) [] []
+appends-push r n h = record {
   later = record { layout = refl; more = n ∷ []; extends = refl };
   trees = asserted_at-more r.nodes (n ∷ []) r.asserted h.asserted ∙ sym (append-nil _);
   sent = sent_at-more r.nodes (n ∷ []) r.interactions h.interactions ∙ sym (append-nil _);
 }
 
-pub stands-push : {F : Type 0} (ns : List (Node F)) (n : Node F) (k : ℕ) → k ≡ length ns → StandsAt (ns ++ n ∷ []) k (node_tree (trees_after [] ns) n)
-stands-push ns n k e = record { within = omega (arith, e, length-append ns (n ∷ [])); has_tree = ap (λ i. tree_at (ns ++ n ∷ []) i) e ∙ tree_at-push ns n }
+pub represents-push : {F : Type 0} (ns : List (Node F)) (n : Node F) (k : ℕ) → k ≡ length ns → RepresentsAt (ns ++ n ∷ []) k (node_tree (trees_after [] ns) n)
+represents-push ns n k e = record { within = omega (arith, e, length-append ns (n ∷ [])); has_tree = ap (λ i. tree_at (ns ++ n ∷ []) i) e ∙ tree_at-push ns n }
 
--- an expression that stands for a tree is among the nodes
-pub known_place-stands : {F : Type 0} (ns : List (Node F)) (x : ℕ) (t : Tree F) → StandsAt ns x t → known_place (length ns) x ≡ x
-known_place-stands ns x t h = let w = h.within in grind (arith, nat_tests)
+-- an expression that represents a tree is among the nodes
+pub place_or_zero-represents : {F : Type 0} (ns : List (Node F)) (x : ℕ) (t : Tree F) → RepresentsAt ns x t → place_or_zero (length ns) x ≡ x
+place_or_zero-represents ns x t h = let w = h.within in grind (arith, nat_tests)
 
-pub known_place-tree : {F : Type 0} (ns : List (Node F)) (x : ℕ) (t : Tree F) → StandsAt ns x t → tree_at ns (known_place (length ns) x) ≡ t
-known_place-tree ns x t h = ap (λ k. tree_at ns k) (known_place-stands ns x t h) ∙ h.has_tree
+pub known_place-tree : {F : Type 0} (ns : List (Node F)) (x : ℕ) (t : Tree F) → RepresentsAt ns x t → tree_at ns (place_or_zero (length ns) x) ≡ t
+known_place-tree ns x t h = ap (λ k. tree_at ns k) (place_or_zero-represents ns x t h) ∙ h.has_tree
 
 -- what operations on expressions with trees give has the operation's tree, and what is lifted keeps its tree
-pub computes-stands : {F : Type 0} (a b : Recording F) → IsLater a b → (op : Operation) (x y e : ℕ) (s t : Tree F) → StandsAt a.nodes x s → StandsAt a.nodes y t
-    → Computes a op x y b e → StandsAt b.nodes e (tree_by op s t)
-computes-stands {F = F} a b later op x y e s t h k q =
-    let P : Tree F → Type 0 = λ u. StandsAt b.nodes e (tree_by op u (known_tree a.nodes y)) in
-    let Q : Tree F → Type 0 = λ u. StandsAt b.nodes e (tree_by op s u) in
+pub computes-represents : {F : Type 0} (a b : Recording F) → IsLater a b → (op : Operation) (x y e : ℕ) (s t : Tree F) → RepresentsAt a.nodes x s → RepresentsAt a.nodes y t
+    → Computes a op x y b e → RepresentsAt b.nodes e (tree_by op s t)
+computes-represents {F = F} a b later op x y e s t h k q =
+    let P : Tree F → Type 0 = λ u. RepresentsAt b.nodes e (tree_by op u (tree_or_zero a.nodes y)) in
+    let Q : Tree F → Type 0 = λ u. RepresentsAt b.nodes e (tree_by op s u) in
     subst Q (known_place-tree a.nodes y t k) (subst P (known_place-tree a.nodes x s h) q)
 
-pub lifts-stands : {F : Type 0} (a b : Recording F) → IsLater a b → (x e : ℕ) (t : Tree F) → StandsAt a.nodes x t → StandsAt b.nodes e (known_tree a.nodes x) → StandsAt b.nodes e t
-lifts-stands {F = F} a b later x e t h q = let P : Tree F → Type 0 = λ u. StandsAt b.nodes e u in subst P (known_place-tree a.nodes x t h) q
+pub lifts-represents : {F : Type 0} (a b : Recording F) → IsLater a b → (x e : ℕ) (t : Tree F) → RepresentsAt a.nodes x t → RepresentsAt b.nodes e (tree_or_zero a.nodes x) → RepresentsAt b.nodes e t
+lifts-represents {F = F} a b later x e t h q = let P : Tree F → Type 0 = λ u. RepresentsAt b.nodes e u in subst P (known_place-tree a.nodes x t h) q
 
-pub known_place-below : (n x : ℕ) → 0 < n → known_place n x < n
+pub known_place-below : (n x : ℕ) → 0 < n → place_or_zero n x < n
 known_place-below n x h = grind (arith, nat_tests)
 
 -- a recording of nothing, whose first node is a constant
@@ -161,62 +161,62 @@ recording-send {F = F} r p h below = record {
 }
 
 -- known places are below the number of nodes
-pub known_places-below : (n : ℕ) (xs : List ℕ) → 0 < n → All (λ i. i < n) (map (known_place n) xs)
+pub known_places-below : (n : ℕ) (xs : List ℕ) → 0 < n → All (λ i. i < n) (map (place_or_zero n) xs)
 known_places-below n [] h k d l = absurd (omega (arith, l))
 known_places-below n (x ∷ xs) h zero d l = known_place-below n x h
 known_places-below n (x ∷ xs) h (suc k) d l = known_places-below n xs h k d (omega (arith, l))
 
-pub known_counts-below : (n : ℕ) (xs : List (Count ℕ)) → 0 < n → All (λ c. c.value < n) (map (known_count n) xs)
+pub known_counts-below : (n : ℕ) (xs : List (Count ℕ)) → 0 < n → All (λ c. c.value < n) (map (count_or_zero n) xs)
 known_counts-below n [] h k d l = absurd (omega (arith, l))
 known_counts-below n (x ∷ xs) h zero d l = known_place-below n x.value h
 known_counts-below n (x ∷ xs) h (suc k) d l = known_counts-below n xs h k d (omega (arith, l))
 
 -- an interaction's known places, as many as its expressions
 pub placed-known : (n : ℕ) (bus : Option (List ℕ)) (xs : List ℕ) (cs : List (Count ℕ)) → 0 < n → 0 < length cs → length xs % length cs ≡ 0
-    → PlacedBelow n (record { bus = bus; fields = map (known_place n) xs; counts = map (known_count n) cs })
+    → PlacedBelow n (record { bus = bus; fields = map (place_or_zero n) xs; counts = map (count_or_zero n) cs })
 placed-known n bus xs cs h counted whole = record {
   fields = known_places-below n xs h;
   counts = known_counts-below n cs h;
-  counted = omega (arith, counted, length-map cs (known_count n));
-  whole = rw (length-map cs (known_count n), length-map xs (known_place n)) whole;
+  counted = omega (arith, counted, length-map cs (count_or_zero n));
+  whole = rw (length-map cs (count_or_zero n), length-map xs (place_or_zero n)) whole;
 }
 
 pub placed-known-at : (n m k : ℕ) (bus : Option (List ℕ)) (xs : List ℕ) (cs : List (Count ℕ)) (fields : List ℕ) (counts : List (Count ℕ)) → m ≡ n → k ≡ n
-    → fields ≡ map (known_place m) xs → counts ≡ map (known_count k) cs → 0 < n → 0 < length cs → length xs % length cs ≡ 0
+    → fields ≡ map (place_or_zero m) xs → counts ≡ map (count_or_zero k) cs → 0 < n → 0 < length cs → length xs % length cs ≡ 0
     → PlacedBelow n (record { bus = bus; fields = fields; counts = counts })
 placed-known-at n m k bus xs cs fields counts e f g h below counted whole =
     rw (g, h, e, f) (placed-known n bus xs cs below counted whole)
 
--- expressions that stand for trees have these trees at their places
-pub known_places-trees : {F : Type 0} (ns : List (Node F)) (xs : List ℕ) (ts : List (Tree F)) → Stand (StandsAt ns) xs ts → map (tree_at ns) (map (known_place (length ns)) xs) ≡ ts
+-- expressions that represent trees have these trees at their places
+pub known_places-trees : {F : Type 0} (ns : List (Node F)) (xs : List ℕ) (ts : List (Tree F)) → Represent (RepresentsAt ns) xs ts → map (tree_at ns) (map (place_or_zero (length ns)) xs) ≡ ts
 known_places-trees ns [] [] h = refl
 known_places-trees ns [] (t ∷ ts) h = absurd (omega (arith, h.long))
 known_places-trees ns (x ∷ xs) [] h = absurd (omega (arith, h.long))
 known_places-trees {F = F} ns (x ∷ xs) (t ∷ ts) h =
     let here = known_place-tree ns x t (h.each 0 x t (omega arith)) in
-    let rest : Stand (StandsAt ns) xs ts = record { long = omega (arith, h.long); each = λ k d u l. h.each (suc k) d u (omega (arith, l)) } in
-    ap (λ (u : Tree F). u ∷ map (tree_at ns) (map (known_place (length ns)) xs)) here ∙ ap (λ (us : List (Tree F)). t ∷ us) (known_places-trees ns xs ts rest)
+    let rest : Represent (RepresentsAt ns) xs ts = record { long = omega (arith, h.long); each = λ k d u l. h.each (suc k) d u (omega (arith, l)) } in
+    ap (λ (u : Tree F). u ∷ map (tree_at ns) (map (place_or_zero (length ns)) xs)) here ∙ ap (λ (us : List (Tree F)). t ∷ us) (known_places-trees ns xs ts rest)
 
-pub known_counts-trees : {F : Type 0} (ns : List (Node F)) (xs : List (Count ℕ)) (ts : List (Count (Tree F))) → Stand (StandCount (StandsAt ns)) xs ts
-    → map (count_at ns) (map (known_count (length ns)) xs) ≡ ts
+pub known_counts-trees : {F : Type 0} (ns : List (Node F)) (xs : List (Count ℕ)) (ts : List (Count (Tree F))) → Represent (RepresentsCount (RepresentsAt ns)) xs ts
+    → map (count_at ns) (map (count_or_zero (length ns)) xs) ≡ ts
 known_counts-trees ns [] [] h = refl
 known_counts-trees ns [] (t ∷ ts) h = absurd (omega (arith, h.long))
 known_counts-trees ns (x ∷ xs) [] h = absurd (omega (arith, h.long))
 known_counts-trees {F = F} ns (x ∷ xs) (t ∷ ts) h =
-    let stands = h.each 0 x t (omega arith) in
-    let value = known_place-tree ns x.value t.value stands.0 in
-    let here : count_at ns (known_count (length ns) x) ≡ t =
-    ap (λ (u : Tree F). record { value = u; bound = x.bound }) value ∙ ap (λ (b : ℕ). record { value = t.value; bound = b }) (sym stands.1) in
-    let rest : Stand (StandCount (StandsAt ns)) xs ts = record { long = omega (arith, h.long); each = λ k d u l. h.each (suc k) d u (omega (arith, l)) } in
-    ap (λ (u : Count (Tree F)). u ∷ map (count_at ns) (map (known_count (length ns)) xs)) here ∙ ap (λ (us : List (Count (Tree F))). t ∷ us) (known_counts-trees ns xs ts rest)
+    let represents = h.each 0 x t (omega arith) in
+    let value = known_place-tree ns x.value t.value represents.0 in
+    let here : count_at ns (count_or_zero (length ns) x) ≡ t =
+    ap (λ (u : Tree F). record { value = u; bound = x.bound }) value ∙ ap (λ (b : ℕ). record { value = t.value; bound = b }) (sym represents.1) in
+    let rest : Represent (RepresentsCount (RepresentsAt ns)) xs ts = record { long = omega (arith, h.long); each = λ k d u l. h.each (suc k) d u (omega (arith, l)) } in
+    ap (λ (u : Count (Tree F)). u ∷ map (count_at ns) (map (count_or_zero (length ns)) xs)) here ∙ ap (λ (us : List (Count (Tree F))). t ∷ us) (known_counts-trees ns xs ts rest)
 
 -- one interaction more
-pub grows-send : {F : Type 0} (r : Recording F) (bus : Option (List ℕ)) (xs : List ℕ) (cs : List (Count ℕ)) (fs : List (Tree F)) (vs : List (Count (Tree F)))
-    → Stand (StandsAt r.nodes) xs fs → Stand (StandCount (StandsAt r.nodes)) cs vs
-    → Grows r (record r { interactions = r.interactions ++ record { bus = bus; fields = map (known_place (length r.nodes)) xs; counts = map (known_count (length r.nodes)) cs } ∷ [] })
+pub appends-send : {F : Type 0} (r : Recording F) (bus : Option (List ℕ)) (xs : List ℕ) (cs : List (Count ℕ)) (fs : List (Tree F)) (vs : List (Count (Tree F)))
+    → Represent (RepresentsAt r.nodes) xs fs → Represent (RepresentsCount (RepresentsAt r.nodes)) cs vs
+    → HasAppended r (record r { interactions = r.interactions ++ record { bus = bus; fields = map (place_or_zero (length r.nodes)) xs; counts = map (count_or_zero (length r.nodes)) cs } ∷ [] })
     [] (record { bus = bus_of bus; fields = fs; counts = vs } ∷ [])
-grows-send {F = F} r bus xs cs fs vs h k =
-    let p : Placed = record { bus = bus; fields = map (known_place (length r.nodes)) xs; counts = map (known_count (length r.nodes)) cs } in
+appends-send {F = F} r bus xs cs fs vs h k =
+    let p : Placed = record { bus = bus; fields = map (place_or_zero (length r.nodes)) xs; counts = map (count_or_zero (length r.nodes)) cs } in
     record {
       later = record { layout = refl; more = []; extends = sym (append-nil r.nodes) };
       trees = sym (append-nil _);
@@ -226,59 +226,59 @@ grows-send {F = F} r bus xs cs fs vs h k =
     }
 
 -- one assertion more
-pub asserting-grows : {F : Type 0} (a b : Recording F) (x : ℕ) (in_extension : Bool) (t : Tree F) → StandsAt a.nodes x t → b ≡ asserting a x in_extension
-    → Grows a b (record { tree = t; in_extension = in_extension } ∷ []) []
-asserting-grows {F = F} a b x in_extension t h e =
-    let one : Assertion = record { place = known_place (length a.nodes) x; in_extension = in_extension } in
-    let grown : Grows a (asserting a x in_extension) (record { tree = t; in_extension = in_extension } ∷ []) [] = record {
+pub asserting-appends : {F : Type 0} (a b : Recording F) (x : ℕ) (in_extension : Bool) (t : Tree F) → RepresentsAt a.nodes x t → b ≡ asserting a x in_extension
+    → HasAppended a b (record { tree = t; in_extension = in_extension } ∷ []) []
+asserting-appends {F = F} a b x in_extension t h e =
+    let one : Assertion = record { place = place_or_zero (length a.nodes) x; in_extension = in_extension } in
+    let grown : HasAppended a (asserting a x in_extension) (record { tree = t; in_extension = in_extension } ∷ []) [] = record {
       later = record { layout = refl; more = []; extends = sym (append-nil a.nodes) };
       trees = map-append (asserted_tree a.nodes) a.asserted (one ∷ [])
           ∙ ap (λ (u : Tree F). asserted_at a.nodes a.asserted ++ record { tree = u; in_extension = in_extension } ∷ []) (known_place-tree a.nodes x t h);
       sent = sym (append-nil _);
     } in
-    let P : Recording F → Type 0 = λ r. Grows a r (record { tree = t; in_extension = in_extension } ∷ []) [] in
+    let P : Recording F → Type 0 = λ r. HasAppended a r (record { tree = t; in_extension = in_extension } ∷ []) [] in
     subst P (sym e) grown
 
 bus_of-name : (bus : Bus) → bus_of (name_of bus) ≡ bus
 bus_of-name local = refl
 bus_of-name (global name) = refl
 
-pub sending-grows : {F : Type 0} (a b : Recording F) (bus : Bus) (xs : List ℕ) (cs : List (Count ℕ)) (fs : List (Tree F)) (vs : List (Count (Tree F)))
-    → Stand (StandsAt a.nodes) xs fs → Stand (StandCount (StandsAt a.nodes)) cs vs → b ≡ sending a (name_of bus) xs cs
-    → Grows a b [] (record { bus = bus; fields = fs; counts = vs } ∷ [])
-sending-grows {F = F} a b bus xs cs fs vs h k e =
-    let P : Recording F → Type 0 = λ r. Grows a r [] (record { bus = bus; fields = fs; counts = vs } ∷ []) in
-    let Q : Bus → Type 0 = λ c. Grows a (sending a (name_of bus) xs cs) [] (record { bus = c; fields = fs; counts = vs } ∷ []) in
-    subst P (sym e) (subst Q (bus_of-name bus) (grows-send a (name_of bus) xs cs fs vs h k))
+pub sending-appends : {F : Type 0} (a b : Recording F) (bus : Bus) (xs : List ℕ) (cs : List (Count ℕ)) (fs : List (Tree F)) (vs : List (Count (Tree F)))
+    → Represent (RepresentsAt a.nodes) xs fs → Represent (RepresentsCount (RepresentsAt a.nodes)) cs vs → b ≡ sending a (name_of bus) xs cs
+    → HasAppended a b [] (record { bus = bus; fields = fs; counts = vs } ∷ [])
+sending-appends {F = F} a b bus xs cs fs vs h k e =
+    let P : Recording F → Type 0 = λ r. HasAppended a r [] (record { bus = bus; fields = fs; counts = vs } ∷ []) in
+    let Q : Bus → Type 0 = λ c. HasAppended a (sending a (name_of bus) xs cs) [] (record { bus = c; fields = fs; counts = vs } ∷ []) in
+    subst P (sym e) (subst Q (bus_of-name bus) (appends-send a (name_of bus) xs cs fs vs h k))
 
-pub stands-sum : {F E : Type 0} (r : Result ℕ E) (ns ms : List (Node F)) (x y : ℕ) (s t : Tree F) → StandsAt ns x s → StandsAt ns y t
-    → IfOk r (λ e. StandsAt ms e (node_tree (trees_after [] ns) (Sum (known_place (length ns) x) (known_place (length ns) y))))
-    → IfOk r (λ e. StandsAt ms e (sum s t))
-stands-sum {F = F} r ns ms x y s t h k q =
-    let left : tree_at ns (known_place (length ns) x) ≡ s = known_place-tree ns x s h in
-    let right : tree_at ns (known_place (length ns) y) ≡ t = known_place-tree ns y t k in
-    let e = ap (λ (a : Tree F). sum a (tree_at ns (known_place (length ns) y))) left ∙ ap (λ (b : Tree F). sum s b) right in
-    let P : Tree F → Type 0 = λ u. IfOk r (λ i. StandsAt ms i u) in
+pub represents-sum : {F E : Type 0} (r : Result ℕ E) (ns ms : List (Node F)) (x y : ℕ) (s t : Tree F) → RepresentsAt ns x s → RepresentsAt ns y t
+    → IfOk r (λ e. RepresentsAt ms e (node_tree (trees_after [] ns) (Sum (place_or_zero (length ns) x) (place_or_zero (length ns) y))))
+    → IfOk r (λ e. RepresentsAt ms e (sum s t))
+represents-sum {F = F} r ns ms x y s t h k q =
+    let left : tree_at ns (place_or_zero (length ns) x) ≡ s = known_place-tree ns x s h in
+    let right : tree_at ns (place_or_zero (length ns) y) ≡ t = known_place-tree ns y t k in
+    let e = ap (λ (a : Tree F). sum a (tree_at ns (place_or_zero (length ns) y))) left ∙ ap (λ (b : Tree F). sum s b) right in
+    let P : Tree F → Type 0 = λ u. IfOk r (λ i. RepresentsAt ms i u) in
     subst P e q
 
-pub stands-difference : {F E : Type 0} (r : Result ℕ E) (ns ms : List (Node F)) (x y : ℕ) (s t : Tree F) → StandsAt ns x s → StandsAt ns y t
-    → IfOk r (λ e. StandsAt ms e (node_tree (trees_after [] ns) (Difference (known_place (length ns) x) (known_place (length ns) y))))
-    → IfOk r (λ e. StandsAt ms e (difference s t))
-stands-difference {F = F} r ns ms x y s t h k q =
-    let left : tree_at ns (known_place (length ns) x) ≡ s = known_place-tree ns x s h in
-    let right : tree_at ns (known_place (length ns) y) ≡ t = known_place-tree ns y t k in
-    let e = ap (λ (a : Tree F). difference a (tree_at ns (known_place (length ns) y))) left ∙ ap (λ (b : Tree F). difference s b) right in
-    let P : Tree F → Type 0 = λ u. IfOk r (λ i. StandsAt ms i u) in
+pub represents-difference : {F E : Type 0} (r : Result ℕ E) (ns ms : List (Node F)) (x y : ℕ) (s t : Tree F) → RepresentsAt ns x s → RepresentsAt ns y t
+    → IfOk r (λ e. RepresentsAt ms e (node_tree (trees_after [] ns) (Difference (place_or_zero (length ns) x) (place_or_zero (length ns) y))))
+    → IfOk r (λ e. RepresentsAt ms e (difference s t))
+represents-difference {F = F} r ns ms x y s t h k q =
+    let left : tree_at ns (place_or_zero (length ns) x) ≡ s = known_place-tree ns x s h in
+    let right : tree_at ns (place_or_zero (length ns) y) ≡ t = known_place-tree ns y t k in
+    let e = ap (λ (a : Tree F). difference a (tree_at ns (place_or_zero (length ns) y))) left ∙ ap (λ (b : Tree F). difference s b) right in
+    let P : Tree F → Type 0 = λ u. IfOk r (λ i. RepresentsAt ms i u) in
     subst P e q
 
-pub stands-product : {F E : Type 0} (r : Result ℕ E) (ns ms : List (Node F)) (x y : ℕ) (s t : Tree F) → StandsAt ns x s → StandsAt ns y t
-    → IfOk r (λ e. StandsAt ms e (node_tree (trees_after [] ns) (Product (known_place (length ns) x) (known_place (length ns) y))))
-    → IfOk r (λ e. StandsAt ms e (product s t))
-stands-product {F = F} r ns ms x y s t h k q =
-    let left : tree_at ns (known_place (length ns) x) ≡ s = known_place-tree ns x s h in
-    let right : tree_at ns (known_place (length ns) y) ≡ t = known_place-tree ns y t k in
-    let e = ap (λ (a : Tree F). product a (tree_at ns (known_place (length ns) y))) left ∙ ap (λ (b : Tree F). product s b) right in
-    let P : Tree F → Type 0 = λ u. IfOk r (λ i. StandsAt ms i u) in
+pub represents-product : {F E : Type 0} (r : Result ℕ E) (ns ms : List (Node F)) (x y : ℕ) (s t : Tree F) → RepresentsAt ns x s → RepresentsAt ns y t
+    → IfOk r (λ e. RepresentsAt ms e (node_tree (trees_after [] ns) (Product (place_or_zero (length ns) x) (place_or_zero (length ns) y))))
+    → IfOk r (λ e. RepresentsAt ms e (product s t))
+represents-product {F = F} r ns ms x y s t h k q =
+    let left : tree_at ns (place_or_zero (length ns) x) ≡ s = known_place-tree ns x s h in
+    let right : tree_at ns (place_or_zero (length ns) y) ≡ t = known_place-tree ns y t k in
+    let e = ap (λ (a : Tree F). product a (tree_at ns (place_or_zero (length ns) y))) left ∙ ap (λ (b : Tree F). product s b) right in
+    let P : Tree F → Type 0 = λ u. IfOk r (λ i. RepresentsAt ms i u) in
     subst P e q
 
 chosen : (b : Bool) (k : ℕ) (xs ys zs : List ℕ) → xs ≡ ys ++ zs → cond b (k ∷ xs) xs ≡ cond b (k ∷ ys) ys ++ zs

@@ -1,7 +1,7 @@
 //! What a recording builder has recorded, as values of their own.
 ghost use Rattle.std.specs.Prelude.{◌≡◌, ℕ, ◌+◌, ◌<◌, ◌++◌, List, [], ◌∷◌, length, map, All, IfOk, Bool, true, false, not, cond};
 ghost use Rattle.p3_air.specs.Tree.{Tree};
-ghost use Rattle.p3_air.specs.Layout.{total, ListsEachOnce};
+ghost use Rattle.p3_air.specs.Layout.{place_count, ListsEachOnce};
 ghost use Rattle.p3_air.specs.Symbolic.{tree_at, tree_of, Ordered};
 ghost use Rattle.p3_air.specs.Recording.{trees_at, asserted_in, asserted_at, trees_over, AreTheirPlaces, indices_from, is_in};
 ghost use Rattle.p3_air.specs.declared.node.Node.{Node as NodeOf};
@@ -37,7 +37,7 @@ impl<F: Field> InteractionSymbolicBuilder<F> {
     pub fn constraint_layout(&self, alloc: Global) -> Mem<ConstraintLayout>
         ensures base { IfOk result (λ l. l.base_indices ≡ indices_from false 0 self.now.asserted) }
         ensures extension { IfOk result (λ l. l.ext_indices ≡ indices_from true 0 self.now.asserted) }
-        ensures total { IfOk result (λ l. total l ≡ length self.now.asserted) }
+        ensures total { IfOk result (λ l. place_count l ≡ length self.now.asserted) }
         ensures once { IfOk result ListsEachOnce }
         ensures base_places { IfOk result (λ l. AreTheirPlaces false self.now.asserted l.base_indices) }
         ensures extension_places { IfOk result (λ l. AreTheirPlaces true self.now.asserted l.ext_indices) }

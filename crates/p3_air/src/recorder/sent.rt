@@ -72,7 +72,7 @@ impl<F: Field> InteractionSymbolicBuilder<F> {
     }
 
     /// Whether each interaction reads only what an interaction of this AIR may read: constants, and public values, main and
-    /// preprocessed cells that it declares, next cells only in declared next columns (own).
+    /// preprocessed cells that it declares, next cells only in declared next columns (not in Plonky3).
     pub fn interactions_read_declared<A: BaseAir<F>>(&self, alloc: Global, air: &A) -> Mem<bool>
         ensures { IfOk result (λ b. IsTrue b ↔ All (IsInteraction (declared_shape (A.declaration air.now))) (sent_at self.now.nodes self.now.interactions)) }
     {

@@ -5,8 +5,8 @@ use Rattle.std.proofs.Math.Nat.{mul-suc, mul-le-mul_left}
 use Rattle.std.proofs.lemmas.Bool.{cases_eq, cases_lt}
 use Rattle.std.proofs.lemmas.List.{get_or_append_left, get_or-append-add, get_or-map, length-map}
 use Rattle.p3_field.specs.Ring.{Ring, of_nat}
-use Rattle.p3_field.specs.Poly.{table}
-use Rattle.p3_field.specs.Laws.Tables.{length-table, get_or-table}
+use Rattle.p3_field.specs.Poly.{tabulate}
+use Rattle.p3_field.specs.Laws.Tabulate.{length-tabulate, get_or-tabulate}
 use Rattle.p3_air.specs.Words.{limb}
 use Rattle.p3_blake3.specs.Compress.{State, Input, first_state, output_of}
 use Rattle.p3_air.specs.Joined.{joined}
@@ -57,17 +57,17 @@ in_joined (suc n) m t h i lt =
           in_left (joined n t) (t n) (m * i) (t i) (omega (arith, wide, long, h i)) (in_joined n m t h i less)
     ]
 
-bits_long : (w : ℕ → ℕ) (i : ℕ) → length (table 32 (bit_at (w i))) ≡ 32
-bits_long w i = length-table 32 (bit_at (w i))
+bits_long : (w : ℕ → ℕ) (i : ℕ) → length (tabulate 32 (bit_at (w i))) ≡ 32
+bits_long w i = length-tabulate 32 (bit_at (w i))
 
-limbs_long : (w : ℕ → ℕ) (i : ℕ) → length (table 2 (limb (w i))) ≡ 2
-limbs_long w i = length-table 2 (limb (w i))
+limbs_long : (w : ℕ → ℕ) (i : ℕ) → length (tabulate 2 (limb (w i))) ≡ 2
+limbs_long w i = length-tabulate 2 (limb (w i))
 
 pub length-bit_cells : (n : ℕ) (w : ℕ → ℕ) → length (bit_cells n w) ≡ 32 * n
-length-bit_cells n w = length-joined n 32 (λ i. table 32 (bit_at (w i))) (bits_long w)
+length-bit_cells n w = length-joined n 32 (λ i. tabulate 32 (bit_at (w i))) (bits_long w)
 
 pub length-limb_cells : (n : ℕ) (w : ℕ → ℕ) → length (limb_cells n w) ≡ 2 * n
-length-limb_cells n w = length-joined n 2 (λ i. table 2 (limb (w i))) (limbs_long w)
+length-limb_cells n w = length-joined n 2 (λ i. tabulate 2 (limb (w i))) (limbs_long w)
 
 -- the lists of a state and of the row, and their lengths
 pub length-state_cells : (v : State) → length (state_cells v) ≡ 272
@@ -168,17 +168,17 @@ where_cells x =
 -- a word's bits, or limbs, where the words of a list stand
 pub bit_cell : (xs : List ℕ) (at n : ℕ) (w : ℕ → ℕ) → Within xs at (bit_cells n w) → (i k : ℕ) → i < n → k < 32 → get_or xs (at + 32 * i + k) 0 ≡ bit_at (w i) k
 bit_cell xs at n w h i k li lk =
-    let t : ℕ → List ℕ = λ i. table 32 (bit_at (w i)) in
+    let t : ℕ → List ℕ = λ i. tabulate 32 (bit_at (w i)) in
     let long = length-bit_cells n w in
     let inner = in_inner xs (bit_cells n w) (t i) at (32 * i) (at + 32 * i) (omega arith) (omega (arith, long, bits_long w i, li)) h (in_joined n 32 t (bits_long w) i li) in
-    inner k (omega (arith, bits_long w i, lk)) ∙ get_or-table 32 (bit_at (w i)) k 0 lk
+    inner k (omega (arith, bits_long w i, lk)) ∙ get_or-tabulate 32 (bit_at (w i)) k 0 lk
 
 pub limb_cell : (xs : List ℕ) (at n : ℕ) (w : ℕ → ℕ) → Within xs at (limb_cells n w) → (i k : ℕ) → i < n → k < 2 → get_or xs (at + 2 * i + k) 0 ≡ limb (w i) k
 limb_cell xs at n w h i k li lk =
-    let t : ℕ → List ℕ = λ i. table 2 (limb (w i)) in
+    let t : ℕ → List ℕ = λ i. tabulate 2 (limb (w i)) in
     let long = length-limb_cells n w in
     let inner = in_inner xs (limb_cells n w) (t i) at (2 * i) (at + 2 * i) (omega arith) (omega (arith, long, limbs_long w i, li)) h (in_joined n 2 t (limbs_long w) i li) in
-    inner k (omega (arith, limbs_long w i, lk)) ∙ get_or-table 2 (limb (w i)) k 0 lk
+    inner k (omega (arith, limbs_long w i, lk)) ∙ get_or-tabulate 2 (limb (w i)) k 0 lk
 
 -- What holds of all columns of the row, where it holds of the columns of each word.
 pub cover : (Q : ℕ → Type 0)

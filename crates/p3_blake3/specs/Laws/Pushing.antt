@@ -3,8 +3,8 @@ use Rattle.std.proofs.Common.{◌≡◌, ℕ, zero, suc, ◌+◌, ◌<◌, lengt
 use Rattle.std.proofs.lemmas.List.{map-append}
 use Rattle.p3_field.specs.Ring.{Ring, of_nat}
 use Rattle.std.specs.Int.{bit_at}
-use Rattle.p3_field.specs.Poly.{table}
-use Rattle.p3_field.specs.Laws.Tables.{get_or-table}
+use Rattle.p3_field.specs.Poly.{tabulate}
+use Rattle.p3_field.specs.Laws.Tabulate.{get_or-tabulate}
 use Rattle.p3_air.specs.Words.{limb}
 use Rattle.p3_air.specs.Joined.{joined}
 use Rattle.p3_blake3.specs.TraceRow.{bit_cells, limb_cells}
@@ -34,18 +34,18 @@ unfolding joined
 joined_same zero t u h = refl
 joined_same (suc n) t u h = λ j. joined_same n t u (λ i lt. h i (omega (arith, lt))) j ++ h n (omega arith) j
 
-pub bits_of_row : {F : Type 0} (r : Ring F) (a b : List F) (words : List ℕ) (w : ℕ → ℕ) → words ≡ table 4 w → Pushed r a b (bit_cells (length words) (input_of words)) → Pushed r a b (bit_cells 4 w)
+pub bits_of_row : {F : Type 0} (r : Ring F) (a b : List F) (words : List ℕ) (w : ℕ → ℕ) → words ≡ tabulate 4 w → Pushed r a b (bit_cells (length words) (input_of words)) → Pushed r a b (bit_cells 4 w)
 bits_of_row r a b words w e p =
     let f : bit_cells (length words) (input_of words) ≡ bit_cells 4 w =
     ap (λ ws. bit_cells (length ws) (input_of ws)) e
-    ∙ joined_same 4 (λ i. table 32 (bit_at (input_of (table 4 w) i))) (λ i. table 32 (bit_at (w i))) (λ i lt. ap (λ m. table 32 (bit_at m)) (get_or-table 4 w i 0 lt)) in
+    ∙ joined_same 4 (λ i. tabulate 32 (bit_at (input_of (tabulate 4 w) i))) (λ i. tabulate 32 (bit_at (w i))) (λ i lt. ap (λ m. tabulate 32 (bit_at m)) (get_or-tabulate 4 w i 0 lt)) in
     subst (Pushed r a b) f p
 
-pub limbs_of_row : {F : Type 0} (r : Ring F) (a b : List F) (words : List ℕ) (w : ℕ → ℕ) → words ≡ table 4 w → Pushed r a b (limb_cells (length words) (input_of words)) → Pushed r a b (limb_cells 4 w)
+pub limbs_of_row : {F : Type 0} (r : Ring F) (a b : List F) (words : List ℕ) (w : ℕ → ℕ) → words ≡ tabulate 4 w → Pushed r a b (limb_cells (length words) (input_of words)) → Pushed r a b (limb_cells 4 w)
 limbs_of_row r a b words w e p =
     let f : limb_cells (length words) (input_of words) ≡ limb_cells 4 w =
     ap (λ ws. limb_cells (length ws) (input_of ws)) e
-    ∙ joined_same 4 (λ i. table 2 (limb (input_of (table 4 w) i))) (λ i. table 2 (limb (w i))) (λ i lt. ap (λ m. table 2 (limb m)) (get_or-table 4 w i 0 lt)) in
+    ∙ joined_same 4 (λ i. tabulate 2 (limb (input_of (tabulate 4 w) i))) (λ i. tabulate 2 (limb (w i))) (λ i lt. ap (λ m. tabulate 2 (limb m)) (get_or-tabulate 4 w i 0 lt)) in
     subst (Pushed r a b) f p
 
 pub bits_of_all : {F : Type 0} (r : Ring F) (a b : List F) (words : List ℕ) (n : ℕ) → length words ≡ n → Pushed r a b (bit_cells (length words) (input_of words)) → Pushed r a b (bit_cells n (input_of words))

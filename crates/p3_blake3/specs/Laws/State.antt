@@ -1,7 +1,7 @@
 -- Words that are a state after half rounds, and outputs with the same words.
 use Rattle.std.proofs.Common.{◌≡◌, ℕ, suc, ◌<◌, subst, sym}
-use Rattle.p3_field.specs.Poly.{table}
-use Rattle.p3_field.specs.Laws.Tables.{table_same}
+use Rattle.p3_field.specs.Poly.{tabulate}
+use Rattle.p3_field.specs.Laws.Tabulate.{tabulate_same}
 use Rattle.p3_blake3.specs.declared.words.StateWords.{StateWords}
 use Rattle.p3_blake3.specs.Compress.{Input, first_state}
 use Rattle.p3_blake3.specs.TraceRow.{state, half_round}
@@ -20,4 +20,4 @@ pub state_next : (x : Input) (s : StateWords) (n m : ℕ) → m ≡ suc n → Is
 state_next x s n m e h = subst (λ k. IsState s (state x k)) (sym e) (state_made x s n h)
 
 pub same_output : (f g : ℕ → ℕ → ℕ) → ((k i : ℕ) → k < 4 → i < 4 → f k i ≡ g k i) → words_of f ≡ words_of g
-same_output f g h = joined_same 4 (λ k. table 4 (f k)) (λ k. table 4 (g k)) (λ k lk. table_same 4 (f k) (g k) (λ i li. h k i lk li))
+same_output f g h = joined_same 4 (λ k. tabulate 4 (f k)) (λ k. tabulate 4 (g k)) (λ k lk. tabulate_same 4 (f k) (g k) (λ i li. h k i lk li))

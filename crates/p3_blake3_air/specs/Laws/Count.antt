@@ -2,10 +2,10 @@
 use Rattle.std.proofs.Common.{◌≡◌, ℕ, ◌+◌, ◌*◌, ◌++◌, [], ◌∷◌, length, map, arith, length-append}
 use Rattle.std.proofs.lemmas.List.{length-map}
 use Rattle.p3_field.specs.Ring.{Ring}
-use Rattle.p3_field.specs.Poly.{table}
-use Rattle.p3_field.specs.Laws.Tables.{length-table}
+use Rattle.p3_field.specs.Poly.{tabulate}
+use Rattle.p3_field.specs.Laws.Tabulate.{length-tabulate}
 use Rattle.p3_air.specs.Tree.{Tree, difference, bool_tree}
-use Rattle.p3_air.specs.Gadgets.{number, add2_trees, add3_trees, packed, xor_tree, xor_shift_bit, xor_shift_trees}
+use Rattle.p3_air.specs.Gadgets.{number, add2_trees, add3_trees, packed_bits, xor_tree, xor_shift_bit, xor_shift_trees}
 use Rattle.p3_air.specs.Words.{limb}
 use Rattle.p3_blake3.specs.Compress.{iv}
 use Rattle.p3_blake3_air.specs.Trees.{from_column, packed_limbs, half_trees, step_half_trees, step_trees, steps_trees, rounds_trees, bits_trees, packed_trees, limbs_trees, word_trees, iv_trees, masked_trees, xor_trees, first_trees, first_output_trees, other_output_trees, last_trees, blake3_trees}
@@ -15,9 +15,9 @@ module _ {F : Type 0} (r : Ring F) where
   count_xor_shift : (a b c : ℕ → Tree F) (s : ℕ) → length (xor_shift_trees r a b c s) ≡ 34
   unfolding xor_shift_trees
   count_xor_shift a b c s =
-      let bools = map (bool_tree r.one) (table 32 c) in
-      let limbs = difference (a 0) (packed r (xor_shift_bit r b c s) 0 16) ∷ difference (a 1) (packed r (xor_shift_bit r b c s) 16 16) ∷ [] in
-      omega (arith, length-append bools limbs, length-map (table 32 c) (bool_tree r.one), length-table 32 c)
+      let bools = map (bool_tree r.one) (tabulate 32 c) in
+      let limbs = difference (a 0) (packed_bits r (xor_shift_bit r b c s) 0 16) ∷ difference (a 1) (packed_bits r (xor_shift_bit r b c s) 16 16) ∷ [] in
+      omega (arith, length-append bools limbs, length-map (tabulate 32 c) (bool_tree r.one), length-tabulate 32 c)
 
   count_half : (s t : ℕ) (a b c d m a' b' c' d' : ℕ → Tree F) → length (half_trees r s t a b c d m a' b' c' d') ≡ 72
   unfolding half_trees
@@ -46,15 +46,15 @@ module _ {F : Type 0} (r : Ring F) where
 
   count_bits : (column n : ℕ) → length (bits_trees r column n) ≡ n
   unfolding bits_trees
-  count_bits column n = length-table n (λ i. bool_tree r.one (from_column column i))
+  count_bits column n = length-tabulate n (λ i. bool_tree r.one (from_column column i))
 
   count_limbs : (column limbs : ℕ) → length (limbs_trees r column limbs) ≡ 8
   unfolding limbs_trees packed_trees
-  count_limbs column limbs = length-joined 4 2 (λ i. packed_trees r (column + 32 * i) (limbs + 2 * i)) (λ i. length-table 2 (λ k. difference (packed_limbs r (from_column (column + 32 * i)) k) (from_column (limbs + 2 * i) k)))
+  count_limbs column limbs = length-joined 4 2 (λ i. packed_trees r (column + 32 * i) (limbs + 2 * i)) (λ i. length-tabulate 2 (λ k. difference (packed_limbs r (from_column (column + 32 * i)) k) (from_column (limbs + 2 * i) k)))
 
   count_iv : (column : ℕ) → length (iv_trees r column) ≡ 8
   unfolding iv_trees word_trees
-  count_iv column = length-joined 4 2 (λ i. word_trees r (column + 2 * i) (iv i)) (λ i. length-table 2 (λ k. difference (from_column (column + 2 * i) k) (number r (limb (iv i) k))))
+  count_iv column = length-joined 4 2 (λ i. word_trees r (column + 2 * i) (iv i)) (λ i. length-tabulate 2 (λ k. difference (from_column (column + 2 * i) k) (number r (limb (iv i) k))))
 
   count_masked : (limbs bits mask : ℕ) → length (masked_trees r limbs bits mask) ≡ 136
   unfolding masked_trees
@@ -64,7 +64,7 @@ module _ {F : Type 0} (r : Ring F) where
 
   count_xors : (column left right : ℕ) → length (xor_trees r column left right) ≡ 128
   unfolding xor_trees
-  count_xors column left right = length-table 128 (λ i. difference (from_column column i) (xor_tree r (from_column left i) (from_column right i)))
+  count_xors column left right = length-tabulate 128 (λ i. difference (from_column column i) (xor_tree r (from_column left i) (from_column right i)))
 
   pub count_all : length (blake3_trees r) ≡ 9632
   unfolding blake3_trees first_trees last_trees first_output_trees other_output_trees

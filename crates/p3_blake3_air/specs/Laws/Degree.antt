@@ -3,20 +3,20 @@ use Rattle.std.proofs.Common.{ℕ, zero, suc, ◌+◌, ◌*◌, ◌^◌, ◌<◌
 use Rattle.std.specs.Prelude.{All}
 use Rattle.std.proofs.lemmas.List.Elements.{All-nil, All-cons, All-append}
 use Rattle.p3_field.specs.Ring.{Ring}
-use Rattle.p3_field.specs.Poly.{table}
+use Rattle.p3_field.specs.Poly.{tabulate}
 use Rattle.p3_air.specs.Tree.{Tree, difference, bool_tree}
 use Rattle.p3_air.specs.Degree.{multiple}
-use Rattle.p3_air.specs.Gadgets.{number, less_two, less_three, with_high, zero_or_one, zero_to_two, add2_trees, add3_trees, packed, xor_tree, rotated_place, xor_shift_bit, xor_shift_trees}
+use Rattle.p3_air.specs.Gadgets.{number, difference_of_three, difference_of_four, with_high, zero_or_minus, zero_to_minus_twice, add2_trees, add3_trees, packed_bits, xor_tree, rotated_place, xor_shift_bit, xor_shift_trees}
 use Rattle.p3_air.specs.Words.{limb}
 use Rattle.p3_blake3.specs.Compress.{iv}
 use Rattle.p3_blake3.specs.TraceRow.{turn_of, d_turn, b_turn, message_of}
-use Rattle.p3_blake3_air.specs.Trees.{from_column, packed_limbs, place_of, columns_of, half_trees, step_half_trees, step_trees, steps_trees, rounds_trees, bits_trees, packed_trees, limbs_trees, word_trees, iv_trees, masked_trees, xor_trees, first_trees, first_output_trees, other_output_trees, last_trees, blake3_trees}
-use Rattle.p3_air.specs.Laws.Lists.{all_joined, all_table}
+use Rattle.p3_blake3_air.specs.Trees.{from_column, packed_limbs, place_of, columns_of_step, half_trees, step_half_trees, step_trees, steps_trees, rounds_trees, bits_trees, packed_trees, limbs_trees, word_trees, iv_trees, masked_trees, xor_trees, first_trees, first_output_trees, other_output_trees, last_trees, blake3_trees}
+use Rattle.p3_air.specs.Laws.Lists.{all_joined, all_tabulate}
 
 -- what holds of the items of a mapped table
-all_mapped : {X Y : Type 0} (Q : Y → Type 0) (f : X → Y) (n : ℕ) (t : ℕ → X) → ((k : ℕ) → k < n → Q (f (t k))) → All Q (map f (table n t))
+all_mapped : {X Y : Type 0} (Q : Y → Type 0) (f : X → Y) (n : ℕ) (t : ℕ → X) → ((k : ℕ) → k < n → Q (f (t k))) → All Q (map f (tabulate n t))
 all_mapped Q f zero t h = All-nil Q
-all_mapped Q f (suc n) t h = All-cons Q (f (t zero)) (map f (table n (λ i. t (suc i)))) (h zero (omega arith)) (all_mapped Q f n (λ i. t (suc i)) (λ k lt. h (suc k) (omega (arith, lt))))
+all_mapped Q f (suc n) t h = All-cons Q (f (t zero)) (map f (tabulate n (λ i. t (suc i)))) (h zero (omega arith)) (all_mapped Q f n (λ i. t (suc i)) (λ k lt. h (suc k) (omega (arith, lt))))
 
 module _ {F : Type 0} (r : Ring F) (n : ℕ) where
   -- the degree is at most d
@@ -26,8 +26,8 @@ module _ {F : Type 0} (r : Ring F) (n : ℕ) where
   from_degree : (column k : ℕ) → AtMost 1 (from_column column k)
   from_degree column k = omega arith
 
-  packed_degree : (d : ℕ) (t : ℕ → Tree F) (k m : ℕ) → ((i : ℕ) → AtMost d (t i)) → AtMost d (packed r t k m)
-  unfolding packed
+  packed_degree : (d : ℕ) (t : ℕ → Tree F) (k m : ℕ) → ((i : ℕ) → AtMost d (t i)) → AtMost d (packed_bits r t k m)
+  unfolding packed_bits
   packed_degree d t k zero h = omega arith
   packed_degree d t k (suc m) h = omega (arith, h k, packed_degree d t (suc k) m h)
 
@@ -40,37 +40,37 @@ module _ {F : Type 0} (r : Ring F) (n : ℕ) where
   xor_degree : (x y : Tree F) → AtMost 1 x → AtMost 1 y → AtMost 2 (xor_tree r x y)
   xor_degree x y a b = omega (arith, a, b)
 
-  zero_or_one_degree : (m : ℕ) (x : Tree F) → AtMost 1 x → AtMost 3 (zero_or_one r m x)
+  zero_or_one_degree : (m : ℕ) (x : Tree F) → AtMost 1 x → AtMost 3 (zero_or_minus r m x)
   zero_or_one_degree m x a = omega (arith, a)
 
-  zero_to_two_degree : (m : ℕ) (x : Tree F) → AtMost 1 x → AtMost 3 (zero_to_two r m x)
+  zero_to_two_degree : (m : ℕ) (x : Tree F) → AtMost 1 x → AtMost 3 (zero_to_minus_twice r m x)
   zero_to_two_degree m x a = omega (arith, a)
 
   add2_degree : (a b c : ℕ → Tree F) → ((k : ℕ) → AtMost 1 (a k)) → ((k : ℕ) → AtMost 1 (b k)) → ((k : ℕ) → AtMost 1 (c k)) → All (AtMost 3) (add2_trees r a b c)
   add2_degree a b c ha hb hc =
-      let low : AtMost 1 (less_two (a 0) (b 0) (c 0)) = omega (arith, ha 0, hb 0, hc 0) in
-      let high : AtMost 1 (less_two (a 1) (b 1) (c 1)) = omega (arith, ha 1, hb 1, hc 1) in
-      let whole : AtMost 1 (with_high r (less_two (a 0) (b 0) (c 0)) (less_two (a 1) (b 1) (c 1))) = omega (arith, low, high) in
-      two (zero_or_one r (2 ^ 32) (with_high r (less_two (a 0) (b 0) (c 0)) (less_two (a 1) (b 1) (c 1)))) (zero_or_one r (2 ^ 16) (less_two (a 0) (b 0) (c 0)))
-      (zero_or_one_degree (2 ^ 32) (with_high r (less_two (a 0) (b 0) (c 0)) (less_two (a 1) (b 1) (c 1))) whole) (zero_or_one_degree (2 ^ 16) (less_two (a 0) (b 0) (c 0)) low)
+      let low : AtMost 1 (difference_of_three (a 0) (b 0) (c 0)) = omega (arith, ha 0, hb 0, hc 0) in
+      let high : AtMost 1 (difference_of_three (a 1) (b 1) (c 1)) = omega (arith, ha 1, hb 1, hc 1) in
+      let whole : AtMost 1 (with_high r (difference_of_three (a 0) (b 0) (c 0)) (difference_of_three (a 1) (b 1) (c 1))) = omega (arith, low, high) in
+      two (zero_or_minus r (2 ^ 32) (with_high r (difference_of_three (a 0) (b 0) (c 0)) (difference_of_three (a 1) (b 1) (c 1)))) (zero_or_minus r (2 ^ 16) (difference_of_three (a 0) (b 0) (c 0)))
+      (zero_or_one_degree (2 ^ 32) (with_high r (difference_of_three (a 0) (b 0) (c 0)) (difference_of_three (a 1) (b 1) (c 1))) whole) (zero_or_one_degree (2 ^ 16) (difference_of_three (a 0) (b 0) (c 0)) low)
 
   add3_degree : (a b c d : ℕ → Tree F) → ((k : ℕ) → AtMost 1 (a k)) → ((k : ℕ) → AtMost 1 (b k)) → ((k : ℕ) → AtMost 1 (c k)) → ((k : ℕ) → AtMost 1 (d k)) → All (AtMost 3) (add3_trees r a b c d)
   add3_degree a b c d ha hb hc hd =
-      let low : AtMost 1 (less_three (a 0) (b 0) (c 0) (d 0)) = omega (arith, ha 0, hb 0, hc 0, hd 0) in
-      let high : AtMost 1 (less_three (a 1) (b 1) (c 1) (d 1)) = omega (arith, ha 1, hb 1, hc 1, hd 1) in
-      let whole : AtMost 1 (with_high r (less_three (a 0) (b 0) (c 0) (d 0)) (less_three (a 1) (b 1) (c 1) (d 1))) = omega (arith, low, high) in
-      two (zero_to_two r (2 ^ 32) (with_high r (less_three (a 0) (b 0) (c 0) (d 0)) (less_three (a 1) (b 1) (c 1) (d 1)))) (zero_to_two r (2 ^ 16) (less_three (a 0) (b 0) (c 0) (d 0)))
-      (zero_to_two_degree (2 ^ 32) (with_high r (less_three (a 0) (b 0) (c 0) (d 0)) (less_three (a 1) (b 1) (c 1) (d 1))) whole) (zero_to_two_degree (2 ^ 16) (less_three (a 0) (b 0) (c 0) (d 0)) low)
+      let low : AtMost 1 (difference_of_four (a 0) (b 0) (c 0) (d 0)) = omega (arith, ha 0, hb 0, hc 0, hd 0) in
+      let high : AtMost 1 (difference_of_four (a 1) (b 1) (c 1) (d 1)) = omega (arith, ha 1, hb 1, hc 1, hd 1) in
+      let whole : AtMost 1 (with_high r (difference_of_four (a 0) (b 0) (c 0) (d 0)) (difference_of_four (a 1) (b 1) (c 1) (d 1))) = omega (arith, low, high) in
+      two (zero_to_minus_twice r (2 ^ 32) (with_high r (difference_of_four (a 0) (b 0) (c 0) (d 0)) (difference_of_four (a 1) (b 1) (c 1) (d 1)))) (zero_to_minus_twice r (2 ^ 16) (difference_of_four (a 0) (b 0) (c 0) (d 0)))
+      (zero_to_two_degree (2 ^ 32) (with_high r (difference_of_four (a 0) (b 0) (c 0) (d 0)) (difference_of_four (a 1) (b 1) (c 1) (d 1))) whole) (zero_to_two_degree (2 ^ 16) (difference_of_four (a 0) (b 0) (c 0) (d 0)) low)
 
   xor_shift_degree : (a b c : ℕ → Tree F) (s : ℕ) → ((k : ℕ) → AtMost 1 (a k)) → ((k : ℕ) → AtMost 1 (b k)) → ((k : ℕ) → AtMost 1 (c k)) → All (AtMost 3) (xor_shift_trees r a b c s)
   unfolding xor_shift_trees
   xor_shift_degree a b c s ha hb hc =
       let bit : (i : ℕ) → AtMost 2 (xor_shift_bit r b c s i) = λ i. xor_degree (b i) (c (rotated_place s i)) (hb i) (hc (rotated_place s i)) in
-      let low : AtMost 2 (packed r (xor_shift_bit r b c s) 0 16) = packed_degree 2 (xor_shift_bit r b c s) 0 16 bit in
-      let high : AtMost 2 (packed r (xor_shift_bit r b c s) 16 16) = packed_degree 2 (xor_shift_bit r b c s) 16 16 bit in
-      let first = difference (a 0) (packed r (xor_shift_bit r b c s) 0 16) in
-      let second = difference (a 1) (packed r (xor_shift_bit r b c s) 16 16) in
-      All-append (AtMost 3) (map (bool_tree r.one) (table 32 c)) (first ∷ second ∷ [])
+      let low : AtMost 2 (packed_bits r (xor_shift_bit r b c s) 0 16) = packed_degree 2 (xor_shift_bit r b c s) 0 16 bit in
+      let high : AtMost 2 (packed_bits r (xor_shift_bit r b c s) 16 16) = packed_degree 2 (xor_shift_bit r b c s) 16 16 bit in
+      let first = difference (a 0) (packed_bits r (xor_shift_bit r b c s) 0 16) in
+      let second = difference (a 1) (packed_bits r (xor_shift_bit r b c s) 16 16) in
+      All-append (AtMost 3) (map (bool_tree r.one) (tabulate 32 c)) (first ∷ second ∷ [])
       (all_mapped (AtMost 3) (bool_tree r.one) 32 c (λ k lt. bool_degree (c k) (hc k)))
       (two first second (omega (arith, ha 0, low)) (omega (arith, ha 1, high)))
 
@@ -93,8 +93,8 @@ module _ {F : Type 0} (r : Ring F) (n : ℕ) where
   step_degree : (m g : ℕ) → All (AtMost 3) (step_half_trees r m g)
   unfolding step_half_trees
   step_degree m g =
-      let b = columns_of (place_of m) (turn_of m) g in
-      let a = columns_of (place_of (suc m)) (turn_of m) g in
+      let b = columns_of_step (place_of m) (turn_of m) g in
+      let a = columns_of_step (place_of (suc m)) (turn_of m) g in
       half_degree (d_turn m) (b_turn m) b.a b.b b.c b.d (32 * message_of m g) a.a a.b a.c a.d
 
   rounds_degree : All (AtMost 3) (rounds_trees r)
@@ -104,20 +104,20 @@ module _ {F : Type 0} (r : Ring F) (n : ℕ) where
 
   bits_degree : (column m : ℕ) → All (AtMost 3) (bits_trees r column m)
   unfolding bits_trees
-  bits_degree column m = all_table (AtMost 3) m (λ i. bool_tree r.one (from_column column i)) (λ i lt. bool_degree (from_column column i) (from_degree column i))
+  bits_degree column m = all_tabulate (AtMost 3) m (λ i. bool_tree r.one (from_column column i)) (λ i lt. bool_degree (from_column column i) (from_degree column i))
 
   equal_degree : (column limbs : ℕ) → All (AtMost 3) (limbs_trees r column limbs)
   unfolding limbs_trees packed_trees
   equal_degree column limbs =
       all_joined (AtMost 3) 4 (λ i. packed_trees r (column + 32 * i) (limbs + 2 * i)) (λ i li.
-      all_table (AtMost 3) 2 (λ k. difference (packed_limbs r (from_column (column + 32 * i)) k) (from_column (limbs + 2 * i) k)) (λ k lk.
+      all_tabulate (AtMost 3) 2 (λ k. difference (packed_limbs r (from_column (column + 32 * i)) k) (from_column (limbs + 2 * i) k)) (λ k lk.
       omega (arith, limbs_degree (from_column (column + 32 * i)) (from_degree (column + 32 * i)) k)))
 
   iv_degree : (column : ℕ) → All (AtMost 3) (iv_trees r column)
   unfolding iv_trees word_trees
   iv_degree column =
       all_joined (AtMost 3) 4 (λ i. word_trees r (column + 2 * i) (iv i)) (λ i li.
-      all_table (AtMost 3) 2 (λ k. difference (from_column (column + 2 * i) k) (number r (limb (iv i) k))) (λ k lk. omega arith))
+      all_tabulate (AtMost 3) 2 (λ k. difference (from_column (column + 2 * i) k) (number r (limb (iv i) k))) (λ k lk. omega arith))
 
   masked_degree : (limbs bits mask : ℕ) → All (AtMost 3) (masked_trees r limbs bits mask)
   unfolding masked_trees
@@ -128,7 +128,7 @@ module _ {F : Type 0} (r : Ring F) (n : ℕ) where
   xors_degree : (column left right : ℕ) → All (AtMost 3) (xor_trees r column left right)
   unfolding xor_trees
   xors_degree column left right =
-      all_table (AtMost 3) 128 (λ i. difference (from_column column i) (xor_tree r (from_column left i) (from_column right i))) (λ i li.
+      all_tabulate (AtMost 3) 128 (λ i. difference (from_column column i) (xor_tree r (from_column left i) (from_column right i))) (λ i li.
       omega (arith, xor_degree (from_column left i) (from_column right i) (from_degree left i) (from_degree right i)))
 
   pub degree_three : All (λ t. multiple n t ≤ 3) (blake3_trees r)

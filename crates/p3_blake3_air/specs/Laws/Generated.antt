@@ -6,27 +6,27 @@ use Rattle.p3_matrix.specs.Matrix.{Rows, height, row_at, FillsRows}
 use Rattle.p3_matrix.specs.Laws.Transposed.{get_or-row_at, length-row_at}
 use Rattle.p3_blake3.specs.TraceRow.{row_cells, trace_row}
 use Rattle.p3_blake3.specs.Generated.{input_of}
-use Rattle.p3_blake3_air.specs.Rows.{rows_cells, row_words}
+use Rattle.p3_blake3_air.specs.Rows.{rows_cells, compression_input}
 use Rattle.p3_blake3.specs.Laws.Cells.{where_cells, length-joined, in_joined, trace_cell, length-trace_row}
 
 pub length-rows_cells : (inputs : List (List ℕ)) → length (rows_cells inputs) ≡ 9168 * length inputs
 unfolding rows_cells
 length-rows_cells inputs =
-    length-joined (length inputs) 9168 (λ i. row_cells (input_of (row_words inputs i))) (λ i. (where_cells (input_of (row_words inputs i))).long)
+    length-joined (length inputs) 9168 (λ i. row_cells (input_of (compression_input inputs i))) (λ i. (where_cells (input_of (compression_input inputs i))).long)
 
 pub rows_cell : (inputs : List (List ℕ)) (i k : ℕ) → i < length inputs → k < 9168
-    → get_or (rows_cells inputs) (9168 * i + k) 0 ≡ get_or (row_cells (input_of (row_words inputs i))) k 0
+    → get_or (rows_cells inputs) (9168 * i + k) 0 ≡ get_or (row_cells (input_of (compression_input inputs i))) k 0
 unfolding rows_cells
 rows_cell inputs i k li lk =
-    let t : ℕ → List ℕ = λ i. row_cells (input_of (row_words inputs i)) in
-    let long : (i : ℕ) → length (t i) ≡ 9168 = λ i. (where_cells (input_of (row_words inputs i))).long in
+    let t : ℕ → List ℕ = λ i. row_cells (input_of (compression_input inputs i)) in
+    let long : (i : ℕ) → length (t i) ≡ 9168 = λ i. (where_cells (input_of (compression_input inputs i))).long in
     in_joined (length inputs) 9168 t long i li k (omega (arith, long i, lk))
 
 pub generated_row : {F : Type 0} (r : Ring F) (inputs : List (List ℕ)) (i : ℕ) → i < length inputs
-    → row_at (record { values = map (of_nat r) (rows_cells inputs); width = 9168 }) i ≡ trace_row r (input_of (row_words inputs i))
+    → row_at (record { values = map (of_nat r) (rows_cells inputs); width = 9168 }) i ≡ trace_row r (input_of (compression_input inputs i))
 generated_row {F = F} r inputs i li =
     let m : Rows F = record { values = map (of_nat r) (rows_cells inputs); width = 9168 } in
-    let x = input_of (row_words inputs i) in
+    let x = input_of (compression_input inputs i) in
     let all : length m.values ≡ 9168 * length inputs = length-map (rows_cells inputs) (of_nat r) ∙ length-rows_cells inputs in
     let high : i < height m = omega (arith, all, li) in
     let fills : FillsRows m.values 9168 = omega (arith, all) in

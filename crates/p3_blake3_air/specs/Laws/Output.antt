@@ -4,8 +4,8 @@ use Rattle.std.specs.Int.{bit_at}
 use Rattle.std.proofs.lemmas.Nat.{xor_lt}
 use Rattle.std.proofs.lemmas.Nat.Bits.{bit_at-lt, same_from_bits_below}
 use Rattle.p3_field.specs.Ring.{Ring, of_nat}
-use Rattle.p3_field.specs.Poly.{table}
-use Rattle.p3_field.specs.Laws.Tables.{table_of_items, table_same}
+use Rattle.p3_field.specs.Poly.{tabulate}
+use Rattle.p3_field.specs.Laws.Tabulate.{tabulate_items, tabulate_same}
 use Rattle.p3_air.specs.Joined.{joined}
 use Rattle.p3_air.specs.Words.{PrimeFieldLaws}
 use Rattle.p3_air.specs.Laws.Gadgets.{same_number}
@@ -41,14 +41,14 @@ output_cell r x xs e i k d li lk =
     ∙ bit_cell (row_cells x) (8656 + 128 * j) 4 (output_of x (state x 28) j) ((where_cells x).outputs j lj) m k (omega arith) lk))
 
 -- 16 words in groups of four
-pub in_groups : (f : ℕ → ℕ → ℕ) → table 16 (λ i. f (i / 4) (i % 4)) ≡ words_of f
+pub in_groups : (f : ℕ → ℕ → ℕ) → tabulate 16 (λ i. f (i / 4) (i % 4)) ≡ words_of f
 unfolding joined
 in_groups f = λ j. words_of f
 
 pub compressed_words : (x : Input) (ws : List ℕ) → length ws ≡ 16 → ((i : ℕ) → i < 16 → get_or ws i 0 ≡ output_word x i) → ws ≡ words_of (compress x)
 compressed_words x ws long h =
-    table_of_items 0 ws 16 long
-    ∙ (table_same 16 (λ i. get_or ws i 0) (λ i. compress x (i / 4) (i % 4)) (λ i lt. h i lt ∙ output_is_compressed x (i / 4) (i % 4) (omega (arith, lt)) (omega arith))
+    tabulate_items 0 ws 16 long
+    ∙ (tabulate_same 16 (λ i. get_or ws i 0) (λ i. compress x (i / 4) (i % 4)) (λ i lt. h i lt ∙ output_is_compressed x (i / 4) (i % 4) (omega (arith, lt)) (omega arith))
     ∙ in_groups (compress x))
 
 -- the input's words are those of the row

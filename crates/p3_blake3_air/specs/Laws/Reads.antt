@@ -3,25 +3,25 @@ use Rattle.std.proofs.Common.{ℕ, zero, suc, ◌+◌, ◌*◌, ◌^◌, ◌<◌
 use Rattle.std.specs.Prelude.{All}
 use Rattle.std.proofs.lemmas.List.Elements.{All-nil, All-cons, All-append}
 use Rattle.p3_field.specs.Ring.{Ring}
-use Rattle.p3_field.specs.Poly.{table}
+use Rattle.p3_field.specs.Poly.{tabulate}
 use Rattle.p3_air.specs.declared.cells.Cell.{Cell}
 use Rattle.p3_air.specs.declared.cells.Cell.TheVariants.{Main}
 use Rattle.p3_air.specs.declared.cells.ExtCell.{ExtCell}
 use Rattle.p3_air.specs.Tree.{Tree, difference, bool_tree}
 use Rattle.p3_air.specs.Shape.{ReadsIn, ReadsDeclared, declared_shape, Declares, DeclaresExt}
-use Rattle.p3_air.specs.Gadgets.{number, less_two, less_three, with_high, zero_or_one, zero_to_two, add2_trees, add3_trees, packed, xor_tree, rotated_place, xor_shift_bit, xor_shift_trees}
+use Rattle.p3_air.specs.Gadgets.{number, difference_of_three, difference_of_four, with_high, zero_or_minus, zero_to_minus_twice, add2_trees, add3_trees, packed_bits, xor_tree, rotated_place, xor_shift_bit, xor_shift_trees}
 use Rattle.p3_air.specs.Words.{limb}
 use Rattle.p3_blake3_air.specs.declared.places.Place.{Place}
 use Rattle.p3_blake3.specs.Compress.{iv}
 use Rattle.p3_blake3.specs.TraceRow.{turn_of, d_turn, b_turn, message_of}
-use Rattle.p3_blake3_air.specs.Trees.{from_column, packed_limbs, place_of, columns_of, half_trees, step_half_trees, step_trees, steps_trees, rounds_trees, bits_trees, packed_trees, limbs_trees, word_trees, iv_trees, masked_trees, xor_trees, first_trees, first_output_trees, other_output_trees, last_trees, blake3_trees, blake3_declaration}
-use Rattle.p3_air.specs.Laws.Lists.{all_joined, all_table}
+use Rattle.p3_blake3_air.specs.Trees.{from_column, packed_limbs, place_of, columns_of_step, half_trees, step_half_trees, step_trees, steps_trees, rounds_trees, bits_trees, packed_trees, limbs_trees, word_trees, iv_trees, masked_trees, xor_trees, first_trees, first_output_trees, other_output_trees, last_trees, blake3_trees, blake3_declaration}
+use Rattle.p3_air.specs.Laws.Lists.{all_joined, all_tabulate}
 use Rattle.p3_blake3.specs.Laws.Schedule.{message_below}
 
 -- what holds of the items of a mapped table
-all_mapped : {X Y : Type 0} (Q : Y → Type 0) (f : X → Y) (n : ℕ) (t : ℕ → X) → ((k : ℕ) → k < n → Q (f (t k))) → All Q (map f (table n t))
+all_mapped : {X Y : Type 0} (Q : Y → Type 0) (f : X → Y) (n : ℕ) (t : ℕ → X) → ((k : ℕ) → k < n → Q (f (t k))) → All Q (map f (tabulate n t))
 all_mapped Q f zero t h = All-nil Q
-all_mapped Q f (suc n) t h = All-cons Q (f (t zero)) (map f (table n (λ i. t (suc i)))) (h zero (omega arith)) (all_mapped Q f n (λ i. t (suc i)) (λ k lt. h (suc k) (omega (arith, lt))))
+all_mapped Q f (suc n) t h = All-cons Q (f (t zero)) (map f (tabulate n (λ i. t (suc i)))) (h zero (omega arith)) (all_mapped Q f n (λ i. t (suc i)) (λ k lt. h (suc k) (omega (arith, lt))))
 
 -- a state's rows stand within the row
 pub record Within (p : Place) : Type 0 where
@@ -47,8 +47,8 @@ module _ {F : Type 0} (r : Ring F) (P : Cell → Type 0) (Q : ExtCell → Type 0
   reads_from : (column n : ℕ) → column + n ≤ 9168 → (k : ℕ) → k < n → R (from_column column k)
   reads_from column n h k lt = main (column + k) (omega (arith, h, lt))
 
-  reads_packed : (t : ℕ → Tree F) (k n : ℕ) → ((i : ℕ) → k ≤ i → i < k + n → R (t i)) → R (packed r t k n)
-  unfolding packed
+  reads_packed : (t : ℕ → Tree F) (k n : ℕ) → ((i : ℕ) → k ≤ i → i < k + n → R (t i)) → R (packed_bits r t k n)
+  unfolding packed_bits
   reads_packed t k zero h = tt
   reads_packed t k (suc n) h = (h k (omega arith) (omega arith), (tt, reads_packed t (suc k) n (λ i a b. h i (omega (arith, a)) (omega (arith, b)))))
 
@@ -60,18 +60,18 @@ module _ {F : Type 0} (r : Ring F) (P : Cell → Type 0) (Q : ExtCell → Type 0
 
   reads_add2 : (a b c : ℕ → Tree F) → All2 a → All2 b → All2 c → All R (add2_trees r a b c)
   reads_add2 a b c ha hb hc =
-      let low : R (less_two (a 0) (b 0) (c 0)) = ((ha 0 (lit< tt), hb 0 (lit< tt)), hc 0 (lit< tt)) in
-      let high : R (less_two (a 1) (b 1) (c 1)) = ((ha 1 (lit< tt), hb 1 (lit< tt)), hc 1 (lit< tt)) in
-      let whole : R (with_high r (less_two (a 0) (b 0) (c 0)) (less_two (a 1) (b 1) (c 1))) = (low, (tt, high)) in
-      two (zero_or_one r (2 ^ 32) (with_high r (less_two (a 0) (b 0) (c 0)) (less_two (a 1) (b 1) (c 1)))) (zero_or_one r (2 ^ 16) (less_two (a 0) (b 0) (c 0)))
+      let low : R (difference_of_three (a 0) (b 0) (c 0)) = ((ha 0 (lit< tt), hb 0 (lit< tt)), hc 0 (lit< tt)) in
+      let high : R (difference_of_three (a 1) (b 1) (c 1)) = ((ha 1 (lit< tt), hb 1 (lit< tt)), hc 1 (lit< tt)) in
+      let whole : R (with_high r (difference_of_three (a 0) (b 0) (c 0)) (difference_of_three (a 1) (b 1) (c 1))) = (low, (tt, high)) in
+      two (zero_or_minus r (2 ^ 32) (with_high r (difference_of_three (a 0) (b 0) (c 0)) (difference_of_three (a 1) (b 1) (c 1)))) (zero_or_minus r (2 ^ 16) (difference_of_three (a 0) (b 0) (c 0)))
       (whole, (whole, tt)) (low, (low, tt))
 
   reads_add3 : (a b c d : ℕ → Tree F) → All2 a → All2 b → All2 c → All2 d → All R (add3_trees r a b c d)
   reads_add3 a b c d ha hb hc hd =
-      let low : R (less_three (a 0) (b 0) (c 0) (d 0)) = (((ha 0 (lit< tt), hb 0 (lit< tt)), hc 0 (lit< tt)), hd 0 (lit< tt)) in
-      let high : R (less_three (a 1) (b 1) (c 1) (d 1)) = (((ha 1 (lit< tt), hb 1 (lit< tt)), hc 1 (lit< tt)), hd 1 (lit< tt)) in
-      let whole : R (with_high r (less_three (a 0) (b 0) (c 0) (d 0)) (less_three (a 1) (b 1) (c 1) (d 1))) = (low, (tt, high)) in
-      two (zero_to_two r (2 ^ 32) (with_high r (less_three (a 0) (b 0) (c 0) (d 0)) (less_three (a 1) (b 1) (c 1) (d 1)))) (zero_to_two r (2 ^ 16) (less_three (a 0) (b 0) (c 0) (d 0)))
+      let low : R (difference_of_four (a 0) (b 0) (c 0) (d 0)) = (((ha 0 (lit< tt), hb 0 (lit< tt)), hc 0 (lit< tt)), hd 0 (lit< tt)) in
+      let high : R (difference_of_four (a 1) (b 1) (c 1) (d 1)) = (((ha 1 (lit< tt), hb 1 (lit< tt)), hc 1 (lit< tt)), hd 1 (lit< tt)) in
+      let whole : R (with_high r (difference_of_four (a 0) (b 0) (c 0) (d 0)) (difference_of_four (a 1) (b 1) (c 1) (d 1))) = (low, (tt, high)) in
+      two (zero_to_minus_twice r (2 ^ 32) (with_high r (difference_of_four (a 0) (b 0) (c 0) (d 0)) (difference_of_four (a 1) (b 1) (c 1) (d 1)))) (zero_to_minus_twice r (2 ^ 16) (difference_of_four (a 0) (b 0) (c 0) (d 0)))
       ((whole, (whole, tt)), (whole, tt)) ((low, (low, tt)), (low, tt))
 
   reads_xor : (x y : Tree F) → R x → R y → R (xor_tree r x y)
@@ -84,11 +84,11 @@ module _ {F : Type 0} (r : Ring F) (P : Cell → Type 0) (Q : ExtCell → Type 0
   unfolding xor_shift_trees
   reads_xor_shift a b c s ha hb hc =
       let bit : All32 (xor_shift_bit r b c s) = λ i lt. reads_xor (b i) (c (rotated_place s i)) (hb i lt) (hc (rotated_place s i) (omega arith)) in
-      let low : R (packed r (xor_shift_bit r b c s) 0 16) = reads_packed (xor_shift_bit r b c s) 0 16 (λ i p q. bit i (omega (arith, q))) in
-      let high : R (packed r (xor_shift_bit r b c s) 16 16) = reads_packed (xor_shift_bit r b c s) 16 16 (λ i p q. bit i (omega (arith, q))) in
-      let first = difference (a 0) (packed r (xor_shift_bit r b c s) 0 16) in
-      let second = difference (a 1) (packed r (xor_shift_bit r b c s) 16 16) in
-      All-append R (map (bool_tree r.one) (table 32 c)) (first ∷ second ∷ [])
+      let low : R (packed_bits r (xor_shift_bit r b c s) 0 16) = reads_packed (xor_shift_bit r b c s) 0 16 (λ i p q. bit i (omega (arith, q))) in
+      let high : R (packed_bits r (xor_shift_bit r b c s) 16 16) = reads_packed (xor_shift_bit r b c s) 16 16 (λ i p q. bit i (omega (arith, q))) in
+      let first = difference (a 0) (packed_bits r (xor_shift_bit r b c s) 0 16) in
+      let second = difference (a 1) (packed_bits r (xor_shift_bit r b c s) 16 16) in
+      All-append R (map (bool_tree r.one) (tabulate 32 c)) (first ∷ second ∷ [])
       (all_mapped R (bool_tree r.one) 32 c (λ k lt. reads_bool (c k) (hc k lt)))
       (two first second (ha 0 (lit< tt), low) (ha 1 (lit< tt), high))
 
@@ -107,8 +107,8 @@ module _ {F : Type 0} (r : Ring F) (P : Cell → Type 0) (Q : ExtCell → Type 0
   reads_step : (n g : ℕ) → n < 28 → g < 4 → All R (step_half_trees r n g)
   unfolding step_half_trees
   reads_step n g ln lg =
-      let b = columns_of (place_of n) (turn_of n) g in
-      let a = columns_of (place_of (suc n)) (turn_of n) g in
+      let b = columns_of_step (place_of n) (turn_of n) g in
+      let a = columns_of_step (place_of (suc n)) (turn_of n) g in
       let wb = place_within n (omega (arith, ln)) in
       let wa = place_within (suc n) (omega (arith, ln)) in
       let m : message_of n g < 16 = message_below n g lg in
@@ -126,20 +126,20 @@ module _ {F : Type 0} (r : Ring F) (P : Cell → Type 0) (Q : ExtCell → Type 0
 
   reads_bits : (column n : ℕ) → column + n ≤ 9168 → All R (bits_trees r column n)
   unfolding bits_trees
-  reads_bits column n h = all_table R n (λ i. bool_tree r.one (from_column column i)) (λ i lt. reads_bool (from_column column i) (reads_from column n h i lt))
+  reads_bits column n h = all_tabulate R n (λ i. bool_tree r.one (from_column column i)) (λ i lt. reads_bool (from_column column i) (reads_from column n h i lt))
 
   reads_equal_limbs : (column limbs : ℕ) → column + 128 ≤ 9168 → limbs + 8 ≤ 9168 → All R (limbs_trees r column limbs)
   unfolding limbs_trees packed_trees
   reads_equal_limbs column limbs h l =
       all_joined R 4 (λ i. packed_trees r (column + 32 * i) (limbs + 2 * i)) (λ i li.
-      all_table R 2 (λ k. difference (packed_limbs r (from_column (column + 32 * i)) k) (from_column (limbs + 2 * i) k)) (λ k lk.
+      all_tabulate R 2 (λ k. difference (packed_limbs r (from_column (column + 32 * i)) k) (from_column (limbs + 2 * i) k)) (λ k lk.
       (reads_limbs (from_column (column + 32 * i)) (reads_from (column + 32 * i) 32 (omega (arith, h, li))) k lk, reads_from (limbs + 2 * i) 2 (omega (arith, l, li)) k lk)))
 
   reads_iv : (column : ℕ) → column + 8 ≤ 9168 → All R (iv_trees r column)
   unfolding iv_trees word_trees
   reads_iv column h =
       all_joined R 4 (λ i. word_trees r (column + 2 * i) (iv i)) (λ i li.
-      all_table R 2 (λ k. difference (from_column (column + 2 * i) k) (number r (limb (iv i) k))) (λ k lk.
+      all_tabulate R 2 (λ k. difference (from_column (column + 2 * i) k) (number r (limb (iv i) k))) (λ k lk.
       (reads_from (column + 2 * i) 2 (omega (arith, h, li)) k lk, tt)))
 
   reads_masked : (limbs bits mask : ℕ) → limbs + 8 ≤ 9168 → bits + 128 ≤ 9168 → mask + 128 ≤ 9168 → All R (masked_trees r limbs bits mask)
@@ -152,7 +152,7 @@ module _ {F : Type 0} (r : Ring F) (P : Cell → Type 0) (Q : ExtCell → Type 0
   reads_xors : (column left right : ℕ) → column + 128 ≤ 9168 → left + 128 ≤ 9168 → right + 128 ≤ 9168 → All R (xor_trees r column left right)
   unfolding xor_trees
   reads_xors column left right h k l =
-      all_table R 128 (λ i. difference (from_column column i) (xor_tree r (from_column left i) (from_column right i))) (λ i li.
+      all_tabulate R 128 (λ i. difference (from_column column i) (xor_tree r (from_column left i) (from_column right i))) (λ i li.
       (reads_from column 128 h i li, reads_xor (from_column left i) (from_column right i) (reads_from left 128 k i li) (reads_from right 128 l i li)))
 
   pub reads_all : All R (blake3_trees r)

@@ -1,4 +1,4 @@
--- The whole row: its constraints are zero exactly where its cells stand for the words of one compression.
+-- The whole row: its constraints are zero exactly where its cells represent the words of one compression.
 use Rattle.std.proofs.Common.{◌≡◌, ℕ, zero, suc, ◌+◌, ◌*◌, ◌^◌, ◌<◌, ◌++◌, List, sym, ◌∙◌, ap, subst, arith, lit<}
 use Rattle.std.specs.Prelude.{bit_xor, ◌↔◌}
 use Rattle.std.specs.Int.{bit_at, rotate_left, w32}
@@ -8,7 +8,7 @@ use Rattle.std.proofs.lemmas.List.Elements.{All-append}
 use Rattle.p3_field.specs.Ring.{Ring, of_nat}
 use Rattle.p3_air.specs.declared.cells.Cell.{Cell}
 use Rattle.p3_air.specs.declared.cells.ExtCell.{ExtCell}
-use Rattle.p3_air.specs.Tree.{Tree, Reading, ev}
+use Rattle.p3_air.specs.Tree.{Tree, Reading, eval_tree}
 use Rattle.p3_air.specs.Gadgets.{xor_shift_trees}
 use Rattle.p3_air.specs.Words.{PrimeFieldLaws, cells_reading, Vanish, bits_word, IsXorShift}
 use Rattle.p3_air.specs.Laws.Words.{word_of_bits}
@@ -16,7 +16,7 @@ use Rattle.p3_air.specs.Laws.Gadgets.{xor_shift_means}
 use Rattle.p3_blake3.specs.Compress.{Input, chaining, first_state, output_of}
 use Rattle.p3_blake3.specs.TraceRow.{state, AreWords}
 use Rattle.p3_blake3_air.specs.Trees.{place_of, from_column, packed_limbs, bits_trees, limbs_trees, iv_trees, masked_trees, xor_trees, rounds_trees, first_trees, first_output_trees, other_output_trees, last_trees, blake3_trees}
-use Rattle.p3_blake3_air.specs.Meanings.{HasBits, HasLimbs, StandsState, StandsInput, StandsRow, CellsMean}
+use Rattle.p3_blake3_air.specs.Meanings.{HasBits, HasLimbs, RepresentsState, RepresentsInput, RepresentsRow, CellsMean}
 use Rattle.p3_air.specs.Laws.Lists.{all_left, all_right, all_of_joined, all_joined}
 use Rattle.p3_blake3.specs.Laws.Words.{xor_twice, bit_of_bits, bits_below}
 use Rattle.p3_blake3_air.specs.Laws.Step.{packed_word}
@@ -37,7 +37,7 @@ module _ {A : Type 0} (r : Ring A) (inv : A → A) (order : ℕ) (canonical : A 
   rd = cells_reading r at at_ext
 
   abbrev Zero : Tree A → Type 0
-  Zero v = ev rd v ≡ r.zero
+  Zero v = eval_tree rd v ≡ r.zero
 
   -- where a has limbs of w and b bits of y, the trees mean that c has the bits of y xor w
   masked_means : (ta tb tc : ℕ → Tree A) (w y : ℕ) → w < 2 ^ 32 → y < 2 ^ 32 → HasLimbs r rd ta w → HasBits r rd tb y
@@ -63,17 +63,17 @@ module _ {A : Type 0} (r : Ring A) (inv : A → A) (order : ℕ) (canonical : A 
       )
 
   -- the chaining words
-  chain_low : (x : Input) → StandsInput r rd x → (i : ℕ) → i < 4 → HasBits r rd (from_column (512 + 32 * i)) (chaining x i)
+  chain_low : (x : Input) → RepresentsInput r rd x → (i : ℕ) → i < 4 → HasBits r rd (from_column (512 + 32 * i)) (chaining x i)
   chain_low x h i lt =
       let e : 32 * (16 + i) ≡ 512 + 32 * i = omega arith in
       subst (λ j. HasBits r rd (from_column j) (chaining x i)) e (h (16 + i) (omega (arith, lt)))
 
-  chain_high : (x : Input) → StandsInput r rd x → (i : ℕ) → i < 4 → HasBits r rd (from_column (640 + 32 * i)) (chaining x (4 + i))
+  chain_high : (x : Input) → RepresentsInput r rd x → (i : ℕ) → i < 4 → HasBits r rd (from_column (640 + 32 * i)) (chaining x (4 + i))
   chain_high x h i lt =
       let e : 32 * (16 + (4 + i)) ≡ 640 + 32 * i = omega arith in
       subst (λ j. HasBits r rd (from_column j) (chaining x (4 + i))) e (h (16 + (4 + i)) (omega (arith, lt)))
 
-  lasts : (x : Input) → StandsInput r rd x → (i : ℕ) → i < 4 → HasBits r rd (from_column (768 + 32 * i)) (x (24 + i))
+  lasts : (x : Input) → RepresentsInput r rd x → (i : ℕ) → i < 4 → HasBits r rd (from_column (768 + 32 * i)) (x (24 + i))
   lasts x h i lt =
       let e : 32 * (24 + i) ≡ 768 + 32 * i = omega arith in
       subst (λ j. HasBits r rd (from_column j) (x (24 + i))) e (h (24 + i) (omega (arith, lt)))
@@ -89,8 +89,8 @@ module _ {A : Type 0} (r : Ring A) (inv : A → A) (order : ℕ) (canonical : A 
       )
 
   -- the first state
-  first_means : (x : Input) → AreWords x → StandsInput r rd x
-      → (Vanish r rd (limbs_trees r 512 896) × Vanish r rd (iv_trees r 904)) ↔ StandsState r rd (place_of 0) (first_state x)
+  first_means : (x : Input) → AreWords x → RepresentsInput r rd x
+      → (Vanish r rd (limbs_trees r 512 896) × Vanish r rd (iv_trees r 904)) ↔ RepresentsState r rd (place_of 0) (first_state x)
   first_means x wx hx =
       let limbs = limbs_mean 512 896 (chaining x) (λ i lt. wx (16 + i) (omega (arith, lt))) (chain_low x hx) in
       let ivs = iv_means r inv order canonical P o at at_ext 904 in (
@@ -177,7 +177,7 @@ module _ {A : Type 0} (r : Ring A) (inv : A → A) (order : ℕ) (canonical : A 
     helper : (i : ℕ) → i < 4 → HasBits r rd (from_column (8528 + 32 * i)) (state x 28 2 i)
     output : (i : ℕ) → i < 4 → HasBits r rd (from_column (8656 + 32 * i)) (bit_xor (state x 28 0 i) (state x 28 2 i))
 
-  masked : (x : Input) → AreWords x → StandsState r rd (place_of 28) (state x 28)
+  masked : (x : Input) → AreWords x → RepresentsState r rd (place_of 28) (state x 28)
       → (Vanish r rd (limbs_trees r 8528 8392) × Vanish r rd (bits_trees r 8656 128) × Vanish r rd (masked_trees r 8256 8656 8528)) ↔ Masked x
   unfolding masked_trees
   masked x wx last =
@@ -216,7 +216,7 @@ module _ {A : Type 0} (r : Ring A) (inv : A → A) (order : ℕ) (canonical : A 
   abbrev pub input_at : Input
   input_at i = word_at r inv order canonical P o at at_ext (32 * i)
 
-  input_stands : Vanish r rd (bits_trees r 0 896) → AreWords input_at × StandsInput r rd input_at
+  input_stands : Vanish r rd (bits_trees r 0 896) → AreWords input_at × RepresentsInput r rd input_at
   input_stands v =
       let each = words_of_zeros r inv order canonical P o at at_ext 0 28 v in
       let e : (i : ℕ) → 0 + 32 * i ≡ 32 * i = λ i. omega arith in (
@@ -228,7 +228,7 @@ module _ {A : Type 0} (r : Ring A) (inv : A → A) (order : ℕ) (canonical : A 
   exchanged : (column a b : ℕ) → HasBits r rd (from_column column) (bit_xor a b) → HasBits r rd (from_column column) (bit_xor b a)
   exchanged column a b h = subst (HasBits r rd (from_column column)) (xor_comm a b) h
 
-  row_stands : Parts → (x : Input) → AreWords x → StandsInput r rd x → StandsRow r rd x
+  row_stands : Parts → (x : Input) → AreWords x → RepresentsInput r rd x → RepresentsRow r rd x
   row_stands p x wx hx =
       let first = (first_means x wx hx).0 (p.limbs, p.ivs) in
       let states = (rounds_mean r inv order canonical P o at at_ext x wx hx first).0 p.rounds in
@@ -246,11 +246,11 @@ module _ {A : Type 0} (r : Ring A) (inv : A → A) (order : ℕ) (canonical : A 
       }
 
   -- the state before the rounds is the first one
-  start : (x : Input) → StandsRow r rd x → StandsState r rd (place_of 0) (first_state x)
+  start : (x : Input) → RepresentsRow r rd x → RepresentsState r rd (place_of 0) (first_state x)
   unfolding state
   start x s = s.states 0 (omega arith)
 
-  parts_vanish : (x : Input) → AreWords x → StandsRow r rd x → Parts
+  parts_vanish : (x : Input) → AreWords x → RepresentsRow r rd x → Parts
   parts_vanish x wx s =
       let hx = s.input in
       let v = state x 28 in

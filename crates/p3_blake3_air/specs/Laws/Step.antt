@@ -8,21 +8,21 @@ use Rattle.std.proofs.lemmas.List.Elements.{All-append}
 use Rattle.p3_field.specs.Ring.{Ring, of_nat}
 use Rattle.p3_air.specs.declared.cells.Cell.{Cell}
 use Rattle.p3_air.specs.declared.cells.ExtCell.{ExtCell}
-use Rattle.p3_air.specs.Tree.{Tree, Reading, ev}
+use Rattle.p3_air.specs.Tree.{Tree, Reading, eval_tree}
 use Rattle.p3_air.specs.Gadgets.{add2_trees, add3_trees, xor_shift_trees}
 use Rattle.p3_air.specs.Words.{PrimeFieldLaws, cells_reading, Vanish, AreBits, limb, limbs_word, bits_word, IsXorShift}
 use Rattle.p3_air.specs.Laws.Words.{word_of_bits}
 use Rattle.p3_air.specs.Laws.Gadgets.{add2_means, add3_means, xor_shift_means, packed_value}
 use Rattle.p3_air.specs.Laws.Words.{low_limb, high_limb}
-use Rattle.p3_blake3.specs.Compress.{Quarter, half, half_a, half_b, half_c, half_d}
+use Rattle.p3_blake3.specs.Compress.{Quarter, half_quarter_round, half_a, half_b, half_c, half_d}
 use Rattle.p3_blake3_air.specs.Trees.{packed_limbs, half_trees}
-use Rattle.p3_blake3_air.specs.Meanings.{HasBits, HasLimbs, Stand4, AreWords4, HalfMeans, StepMeans}
+use Rattle.p3_blake3_air.specs.Meanings.{HasBits, HasLimbs, Represent4, AreWords4, HalfMeans, StepMeans}
 use Rattle.p3_air.specs.Laws.Lists.{all_left, all_right}
 use Rattle.p3_air.specs.Laws.Words.{rotated_below}
 use Rattle.p3_blake3.specs.Laws.Words.{right_below, turned_back, turned_there, word_of_limbs, limbs_below, bit_of_bits, bits_below}
 
 -- the words after half a step are words
-pub half_words : (s t : ℕ) (q : Quarter) (x : ℕ) → AreWords4 q → AreWords4 (half s t q x)
+pub half_words : (s t : ℕ) (q : Quarter) (x : ℕ) → AreWords4 q → AreWords4 (half_quarter_round s t q x)
 unfolding half_a half_b half_c half_d
 half_words s t q x Q =
     let S = half_a q x in
@@ -42,7 +42,7 @@ module _ {A : Type 0} (r : Ring A) (inv : A → A) (order : ℕ) (canonical : A 
   rd = cells_reading r at at_ext
 
   abbrev Zero : Tree A → Type 0
-  Zero v = ev rd v ≡ r.zero
+  Zero v = eval_tree rd v ≡ r.zero
 
   -- the packed limbs of bits are those of the word
   pub packed_word : (t : ℕ → Tree A) (w : ℕ) → w < 2 ^ 32 → HasBits r rd t w → HasLimbs r rd (packed_limbs r t) w
@@ -131,8 +131,8 @@ module _ {A : Type 0} (r : Ring A) (inv : A → A) (order : ℕ) (canonical : A 
       let first = half_means 16 12 a b c d m a' b' c' d' q x Q lx h hm in
       let one = half_trees r 16 12 a b c d m a' b' c' d' in
       let two = half_trees r 8 7 a' b' c' d' n a'' b'' c'' d'' in
-      let second = λ (k : Stand4 r rd a' b' c' d' (half 16 12 q x)).
-      half_means 8 7 a' b' c' d' n a'' b'' c'' d'' (half 16 12 q x) y (half_words 16 12 q x Q) ly k hn in (
+      let second = λ (k : Represent4 r rd a' b' c' d' (half_quarter_round 16 12 q x)).
+      half_means 8 7 a' b' c' d' n a'' b'' c'' d'' (half_quarter_round 16 12 q x) y (half_words 16 12 q x Q) ly k hn in (
         λ v. let p = first.0 (all_left Zero one two v) in (p, (second p).0 (all_right Zero one two v)),
         λ p. All-append Zero one two (first.1 p.0) ((second p.0).1 p.1),
       )

@@ -11,7 +11,7 @@ use Rattle.p3_air.specs.Words.{PrimeFieldLaws, cells_reading}
 use Rattle.p3_blake3.specs.Compress.{Input, first_state, output_of}
 use Rattle.p3_blake3.specs.TraceRow.{state, row_cells, trace_row, bit_cells, limb_cells}
 use Rattle.p3_blake3_air.specs.Trees.{place_of, from_column}
-use Rattle.p3_blake3_air.specs.Meanings.{HasBits, HasLimbs, StandsState, StandsInput, StandsRow, RowMeans}
+use Rattle.p3_blake3_air.specs.Meanings.{HasBits, HasLimbs, RepresentsState, RepresentsInput, RepresentsRow, RowMeans}
 use Rattle.p3_blake3.specs.Laws.Cells.{Within, where_cells, bit_cell, limb_cell, cover, trace_cell, length-trace_row}
 use Rattle.p3_blake3_air.specs.Laws.Row.{cells_mean}
 
@@ -29,7 +29,7 @@ module _ {A : Type 0} (r : Ring A) (at : Cell → A) (at_ext : ExtCell → A) (x
   limbs_stand : AreCells → (c n : ℕ) (w : ℕ → ℕ) → c + 2 * n ≤ 9168 → Within (row_cells x) c (limb_cells n w) → (i : ℕ) → i < n → HasLimbs r rd (from_column (c + 2 * i)) (w i)
   limbs_stand h c n w le s i li k lk = h (c + 2 * i + k) (omega (arith, le, li, lk)) ∙ ap (of_nat r) (limb_cell (row_cells x) c n w s i k li lk)
 
-  input_stands : AreCells → StandsInput r rd x
+  input_stands : AreCells → RepresentsInput r rd x
   input_stands h i li =
       let e : 0 + 32 * i ≡ 32 * i = omega arith in
       subst (λ c. HasBits r rd (from_column c) (x i)) e (bits_stand h 0 28 x (omega arith) (where_cells x).input i li)
@@ -39,7 +39,7 @@ module _ {A : Type 0} (r : Ring A) (at : Cell → A) (at_ext : ExtCell → A) (x
       let f : 32 * (j + i) ≡ c + 32 * i = omega (arith, e) in
       subst (λ k. HasBits r rd (from_column k) (x (j + i))) f (input_stands h (j + i) lt)
 
-  states_stand : AreCells → (n : ℕ) → n ≤ 28 → StandsState r rd (place_of n) (state x n)
+  states_stand : AreCells → (n : ℕ) → n ≤ 28 → RepresentsState r rd (place_of n) (state x n)
   unfolding state
   states_stand h zero le =
       let C = where_cells x in record {
@@ -60,7 +60,7 @@ module _ {A : Type 0} (r : Ring A) (at : Cell → A) (at_ext : ExtCell → A) (x
         bits3 = bits_stand h (1056 + 272 * n) 4 (v 3) (omega (arith, le)) (subst (λ c. Within (row_cells x) c (bit_cells 4 (v 3))) e3 S.row3);
       }
 
-  pub row_stands : AreCells → StandsRow r rd x
+  pub row_stands : AreCells → RepresentsRow r rd x
   row_stands h =
       let C = where_cells x in record {
         input = input_stands h;
@@ -70,7 +70,7 @@ module _ {A : Type 0} (r : Ring A) (at : Cell → A) (at_ext : ExtCell → A) (x
       }
 
   -- the other way
-  pub row_cells_are : StandsRow r rd x → AreCells
+  pub row_cells_are : RepresentsRow r rd x → AreCells
   unfolding state
   row_cells_are s =
       let C = where_cells x in

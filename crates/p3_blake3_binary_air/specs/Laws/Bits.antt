@@ -4,17 +4,17 @@ use Rattle.std.specs.Int.{bit_at}
 use Rattle.std.proofs.lemmas.Bool.{cases_lt}
 use Rattle.std.proofs.lemmas.List.{get_or_append_left, get_or-append-add, get_or-map, length-map}
 use Rattle.p3_field.specs.Ring.{Ring, RingLaws, of_nat}
-use Rattle.p3_field.specs.Poly.{table}
-use Rattle.p3_field.specs.Laws.Tables.{length-table, get_or-table}
+use Rattle.p3_field.specs.Poly.{tabulate}
+use Rattle.p3_field.specs.Laws.Tabulate.{length-tabulate, get_or-tabulate}
 use Rattle.p3_air.specs.declared.cells.Cell.{Cell}
 use Rattle.p3_air.specs.declared.cells.ExtCell.{ExtCell}
 use Rattle.p3_air.specs.Tree.{Tree, constant}
 use Rattle.p3_air.specs.Words.{cells_reading}
-use Rattle.p3_blake3.specs.Compress.{Quarter, word, half, Input, chaining, column_of, step_of}
+use Rattle.p3_blake3.specs.Compress.{Quarter, word, half_quarter_round, Input, chaining, column_of, step_of_word}
 use Rattle.p3_blake3.specs.TraceRow.{bit_cells, turn_of, d_turn, b_turn, message_of, state, AreWords}
-use Rattle.p3_blake3_binary_air.specs.Meanings.{AreWords4, StandBits}
+use Rattle.p3_blake3_binary_air.specs.Meanings.{AreWords4, RepresentBits}
 use Rattle.p3_blake3_binary_air.specs.Sums.{carry}
-use Rattle.p3_blake3_binary_air.specs.Trees.{Four, row_of, four_taken, laid, half_column}
+use Rattle.p3_blake3_binary_air.specs.Trees.{QuarterOf, word_in_row, four_taken, laid, half_column}
 use Rattle.p3_blake3_binary_air.specs.Row.{before_half, after_half, half_cells, binary_cells, binary_trace_row}
 use Rattle.p3_blake3.specs.Laws.Schedule.{message_below}
 use Rattle.p3_blake3_binary_air.specs.Laws.Words.{taken_words, state_words}
@@ -48,7 +48,7 @@ cover_input P p1 p2 p3 k lt =
 
 at_bits : (n : ℕ) (w : ℕ → ℕ) (i j : ℕ) → i < n → j < 32 → get_or (bit_cells n w) (32 * i + j) 0 ≡ bit_at (w i) j
 at_bits n w i j li lj =
-    at_joined 0 n 32 (λ i. table 32 (bit_at (w i))) (λ i. length-table 32 (bit_at (w i))) i j li lj ∙ get_or-table 32 (bit_at (w i)) j 0 lj
+    at_joined 0 n 32 (λ i. tabulate 32 (bit_at (w i))) (λ i. length-tabulate 32 (bit_at (w i))) i j li lj ∙ get_or-tabulate 32 (bit_at (w i)) j 0 lj
 
 abbrev input_front : Input → List ℕ
 input_front x = bit_cells 8 (chaining x) ++ bit_cells 16 x ++ bit_cells 4 (λ i. x (24 + i))
@@ -113,7 +113,7 @@ module _ {A : Type 0} (r : Ring A) where
   abbrev pub AreWordBits : (ℕ → A) → ℕ → Type 0
   AreWordBits w n = (i : ℕ) → i < 32 → w i ≡ of_nat r (bit_at n i)
 
-pub record FourBits {A : Type 0} (r : Ring A) (v : Four (ℕ → A)) (q : Quarter) : Type 0 where
+pub record FourBits {A : Type 0} (r : Ring A) (v : QuarterOf (ℕ → A)) (q : Quarter) : Type 0 where
   pub a_bits : AreWordBits r v.a q.a
   pub b_bits : AreWordBits r v.b q.b
   pub c_bits : AreWordBits r v.c q.c
@@ -121,13 +121,13 @@ pub record FourBits {A : Type 0} (r : Ring A) (v : Four (ℕ → A)) (q : Quarte
 
 module _ {A : Type 0} (r : Ring A) (L : RingLaws r) (two : r.add r.one r.one ≡ r.zero) where
   -- half a step on bits: the carries and the words of G
-  half_bits : (s t : ℕ) (v : Four (ℕ → A)) (q : Quarter) (m : ℕ → A) (x : ℕ) → AreWords4 q → FourBits r v q → AreWordBits r m x
-      → ((i : ℕ) → i < 31 → carries_of r v.a v.b i ≡ of_nat r (carry q.a q.b (suc i))) × FourBits r (made r s t v m) (half s t q x)
+  half_bits : (s t : ℕ) (v : QuarterOf (ℕ → A)) (q : Quarter) (m : ℕ → A) (x : ℕ) → AreWords4 q → FourBits r v q → AreWordBits r m x
+      → ((i : ℕ) → i < 31 → carries_of r v.a v.b i ≡ of_nat r (carry q.a q.b (suc i))) × FourBits r (made r s t v m) (half_quarter_round s t q x)
   half_bits s t v q m x Q h hm =
       let at : Cell → A = λ _. r.zero in
       let at_ext : ExtCell → A = λ _. r.zero in
       let trees : (ℕ → A) → ℕ → Tree A = λ w i. constant (w i) in
-      let f : Four (ℕ → Tree A) = record { a = trees v.a; b = trees v.b; c = trees v.c; d = trees v.d } in
+      let f : QuarterOf (ℕ → Tree A) = record { a = trees v.a; b = trees v.b; c = trees v.c; d = trees v.d } in
       let k = trees (carries_of r v.a v.b) in
       let d' = trees (made_d r s v m) in
       let b' = trees (made_b r s t v m) in
@@ -135,7 +135,7 @@ module _ {A : Type 0} (r : Ring A) (L : RingLaws r) (two : r.add r.one r.one ≡
       let makes : HaveMade r (cells_reading r at at_ext) s t v m k d' b' = record { carries = λ i lt. refl; d_made = λ i lt. refl; b_made = λ i lt. refl } in
       let z = (half_made r L two at at_ext s t f (trees m) k d' b' v m have (λ i lt. refl)).1 makes in
       let ac = after_made r L two at at_ext s t f k d' b' v m have makes in
-      let stand : StandBits r (cells_reading r at at_ext) f.a f.b f.c f.d q = record { a_bits = h.a_bits; b_bits = h.b_bits; c_bits = h.c_bits; d_bits = h.d_bits } in
+      let stand : RepresentBits r (cells_reading r at at_ext) f.a f.b f.c f.d q = record { a_bits = h.a_bits; b_bits = h.b_bits; c_bits = h.c_bits; d_bits = h.d_bits } in
       let p = (half_means r L two at at_ext s t f.a f.b f.c f.d (trees m) k d' b' q x Q stand hm).0 z in (
         p.0,
         record {
@@ -186,11 +186,11 @@ module _ {A : Type 0} (r : Ring A) (L : RingLaws r) (two : r.add r.one r.one ≡
     unfolding values_after state
     states_bits zero row column lt = first_bits row column lt
     states_bits (suc n) row column lt =
-        let g = step_of (turn_of n) row column in
+        let g = step_of_word (turn_of n) row column in
         go row (made r (d_turn n) (b_turn n) (four_taken (turn_of n) (values_after r cells n) g) (message_values r cells (message_of n g))) (after_half x n g)
         (step_bits n g (omega arith) (states_bits n)).1
       where
-        go : (row : ℕ) (v : Four (ℕ → A)) (q : Quarter) → FourBits r v q → AreWordBits r (row_of v row) (word q row)
+        go : (row : ℕ) (v : QuarterOf (ℕ → A)) (q : Quarter) → FourBits r v q → AreWordBits r (word_in_row v row) (word q row)
         go zero v q h = h.a_bits
         go (suc zero) v q h = h.b_bits
         go (suc (suc zero)) v q h = h.c_bits

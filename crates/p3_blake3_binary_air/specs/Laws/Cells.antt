@@ -3,8 +3,8 @@ use Rattle.std.proofs.Common.{◌≡◌, ℕ, zero, suc, ◌+◌, ◌-◌, ◌*�
 use Rattle.std.proofs.Math.Nat.{mul-suc, mul-le-mul_left}
 use Rattle.std.proofs.lemmas.Bool.{cases_eq, cases_lt}
 use Rattle.std.proofs.lemmas.List.{get_or_append_left, get_or-append-add}
-use Rattle.p3_field.specs.Poly.{table}
-use Rattle.p3_field.specs.Laws.Tables.{length-table, get_or-table}
+use Rattle.p3_field.specs.Poly.{tabulate}
+use Rattle.p3_field.specs.Laws.Tabulate.{length-tabulate, get_or-tabulate}
 use Rattle.p3_air.specs.Joined.{joined}
 use Rattle.p3_blake3.specs.Laws.Cells.{length-joined}
 use Rattle.p3_blake3_binary_air.specs.Trees.{laid, half_column}
@@ -27,30 +27,30 @@ module _ {X : Type 0} (d : X) where
 
   -- 31, 32 and 32 cells
   abbrev pub three : (c e b : ℕ → X) → List X
-  three c e b = table 31 c ++ table 32 e ++ table 32 b
+  three c e b = tabulate 31 c ++ tabulate 32 e ++ tabulate 32 b
 
   module _ (c e b : ℕ → X) where
-    long2 : length (table 31 c ++ table 32 e) ≡ 63
-    long2 = omega (arith, length-append (table 31 c) (table 32 e), length-table 31 c, length-table 32 e)
+    long2 : length (tabulate 31 c ++ tabulate 32 e) ≡ 63
+    long2 = omega (arith, length-append (tabulate 31 c) (tabulate 32 e), length-tabulate 31 c, length-tabulate 32 e)
 
     pub long3 : length (three c e b) ≡ 95
-    long3 = omega (arith, length-append (table 31 c ++ table 32 e) (table 32 b), long2, length-table 32 b)
+    long3 = omega (arith, length-append (tabulate 31 c ++ tabulate 32 e) (tabulate 32 b), long2, length-tabulate 32 b)
 
     pub three_first : (o : ℕ) → o < 31 → get_or (three c e b) o d ≡ c o
     three_first o lt =
-        get_or_append_left (table 31 c ++ table 32 e) (table 32 b) d o (omega (arith, lt, long2))
-        ∙ (get_or_append_left (table 31 c) (table 32 e) d o (omega (arith, lt, length-table 31 c)) ∙ get_or-table 31 c o d lt)
+        get_or_append_left (tabulate 31 c ++ tabulate 32 e) (tabulate 32 b) d o (omega (arith, lt, long2))
+        ∙ (get_or_append_left (tabulate 31 c) (tabulate 32 e) d o (omega (arith, lt, length-tabulate 31 c)) ∙ get_or-tabulate 31 c o d lt)
 
     pub three_second : (o : ℕ) → o < 32 → get_or (three c e b) (31 + o) d ≡ e o
     three_second o lt =
-        let f : 31 + o ≡ length (table 31 c) + o = omega (arith, length-table 31 c) in
-        get_or_append_left (table 31 c ++ table 32 e) (table 32 b) d (31 + o) (omega (arith, lt, long2))
-        ∙ (ap (λ k. get_or (table 31 c ++ table 32 e) k d) f ∙ (get_or-append-add (table 31 c) (table 32 e) o d ∙ get_or-table 32 e o d lt))
+        let f : 31 + o ≡ length (tabulate 31 c) + o = omega (arith, length-tabulate 31 c) in
+        get_or_append_left (tabulate 31 c ++ tabulate 32 e) (tabulate 32 b) d (31 + o) (omega (arith, lt, long2))
+        ∙ (ap (λ k. get_or (tabulate 31 c ++ tabulate 32 e) k d) f ∙ (get_or-append-add (tabulate 31 c) (tabulate 32 e) o d ∙ get_or-tabulate 32 e o d lt))
 
     pub three_third : (o : ℕ) → o < 32 → get_or (three c e b) (63 + o) d ≡ b o
     three_third o lt =
-        let f : 63 + o ≡ length (table 31 c ++ table 32 e) + o = omega (arith, long2) in
-        ap (λ k. get_or (three c e b) k d) f ∙ (get_or-append-add (table 31 c ++ table 32 e) (table 32 b) o d ∙ get_or-table 32 b o d lt)
+        let f : 63 + o ≡ length (tabulate 31 c ++ tabulate 32 e) + o = omega (arith, long2) in
+        ap (λ k. get_or (three c e b) k d) f ∙ (get_or-append-add (tabulate 31 c ++ tabulate 32 e) (tabulate 32 b) o d ∙ get_or-tabulate 32 b o d lt)
 
   module _ (f : ℕ → ℕ → List X) (h : (n g : ℕ) → length (f n g) ≡ 95) where
     abbrev both : ℕ → List X
@@ -77,7 +77,7 @@ module _ {X : Type 0} (d : X) where
         ∙ (at_joined 2 95 (λ j. f (2 * (k / 4) + j) (k % 4)) (λ j. h (2 * (k / 4) + j) (k % 4)) p o lp lo
         ∙ (λ i. get_or (f (e i) (q i)) o d)))
 
-  -- the cells of the steps behind those of the input
+  -- the cells of the steps after those of the input
   pub record StepCells (xs : List X) (c e b : ℕ → ℕ → ℕ → X) : Type 0 where
     pub first : (n g o : ℕ) → n < 28 → g < 4 → o < 31 → get_or xs (half_column n g + o) d ≡ c n g o
     pub second : (n g o : ℕ) → n < 28 → g < 4 → o < 32 → get_or xs (half_column n g + 31 + o) d ≡ e n g o

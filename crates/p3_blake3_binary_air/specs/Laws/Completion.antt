@@ -4,7 +4,7 @@ use Rattle.std.proofs.lemmas.List.{get_or_append_left, get_or-append-add, ext_ge
 use Rattle.p3_field.specs.Ring.{Ring, RingLaws}
 use Rattle.p3_air.specs.RowCheck.{Row, cell_value, ext_cell_value}
 use Rattle.p3_blake3.specs.TraceRow.{turn_of, d_turn, b_turn, message_of}
-use Rattle.p3_blake3_binary_air.specs.Trees.{Four, four_taken, laid, steps_trees}
+use Rattle.p3_blake3_binary_air.specs.Trees.{QuarterOf, four_taken, laid, binary_steps_trees}
 use Rattle.p3_blake3_binary_air.specs.Meanings.{Meets, OneCompletion}
 use Rattle.p3_blake3_binary_air.specs.Laws.Values.{carries_of, made_d, made_b}
 use Rattle.p3_blake3_binary_air.specs.Laws.Rounds.{values_after, message_values, steps_made}
@@ -12,7 +12,7 @@ use Rattle.p3_blake3_binary_air.specs.Laws.Cells.{three, StepCells, step_cells, 
 
 module _ {A : Type 0} (r : Ring A) (L : RingLaws r) (two : r.add r.one r.one ≡ r.zero) where
   module _ (cells : ℕ → A) where
-    abbrev before : ℕ → ℕ → Four (ℕ → A)
+    abbrev before : ℕ → ℕ → QuarterOf (ℕ → A)
     before n g = four_taken (turn_of n) (values_after r cells n) g
 
     -- what step g of half round n makes
@@ -36,7 +36,7 @@ module _ {A : Type 0} (r : Ring A) (L : RingLaws r) (two : r.add r.one r.one ≡
 
     module _ (row : Row A A) (inputs : (k : ℕ) → k < 896 → get_or row.main_local k r.zero ≡ cells k) where
       -- a row meets the constraints of the steps exactly where its cells are those that the steps make
-      pub meets_of_cells : StepCells r.zero row.main_local made_carries made_ds made_bs → Meets r row (steps_trees r)
+      pub meets_of_cells : StepCells r.zero row.main_local made_carries made_ds made_bs → Meets r row (binary_steps_trees r)
       meets_of_cells s =
           (steps_made r cells L two (cell_value r row) (ext_cell_value r.zero row) inputs).1 (λ n g ln lg. record {
             carries = λ o lo. s.first n g o ln lg lo;
@@ -44,7 +44,7 @@ module _ {A : Type 0} (r : Ring A) (L : RingLaws r) (two : r.add r.one r.one ≡
             b_made = λ o lo. s.third n g o ln lg lo;
           })
 
-      pub cells_of_meets : Meets r row (steps_trees r) → StepCells r.zero row.main_local made_carries made_ds made_bs
+      pub cells_of_meets : Meets r row (binary_steps_trees r) → StepCells r.zero row.main_local made_carries made_ds made_bs
       cells_of_meets z =
           let each = (steps_made r cells L two (cell_value r row) (ext_cell_value r.zero row) inputs).0 z in
           record {
@@ -53,7 +53,7 @@ module _ {A : Type 0} (r : Ring A) (L : RingLaws r) (two : r.add r.one r.one ≡
             third = λ n g o ln lg lo. (each n g ln lg).b_made o lo;
           }
 
-  -- two lists with the cells of the steps are one behind the input's
+  -- two lists with the cells of the steps are one after the input's
   pub same_steps : (xs ys : List A) (c e b : ℕ → ℕ → ℕ → A) → StepCells r.zero xs c e b → StepCells r.zero ys c e b
       → (k : ℕ) → k < 10640 → get_or xs (896 + k) r.zero ≡ get_or ys (896 + k) r.zero
   same_steps xs ys c e b s t =

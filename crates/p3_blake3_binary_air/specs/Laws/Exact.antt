@@ -8,15 +8,15 @@ use Rattle.std.proofs.lemmas.List.Elements.{All-append}
 use Rattle.p3_field.specs.Ring.{Ring, RingLaws, of_nat, sub}
 use Rattle.p3_field.specs.Laws.Algebra.{mul_zero, zero_mul}
 use Rattle.p3_field.specs.Laws.Roots.{NoZeroDivisors, sub_zero, sub_self}
-use Rattle.p3_air.specs.RowCheck.{Row, value_at}
+use Rattle.p3_air.specs.RowCheck.{Row, tree_value_at_row}
 use Rattle.p3_air.specs.Tree.{Tree, bool_tree}
 use Rattle.p3_air.specs.Words.{AreBits, bits_word}
 use Rattle.p3_blake3.specs.Compress.{Input}
 use Rattle.p3_blake3.specs.TraceRow.{AreWords}
-use Rattle.p3_blake3_binary_air.specs.Trees.{from_column, bits_trees, steps_trees, binary_trees}
+use Rattle.p3_blake3_binary_air.specs.Trees.{from_column, bits_trees, binary_steps_trees, binary_trees}
 use Rattle.p3_blake3_binary_air.specs.Row.{binary_cells, binary_trace_row}
-use Rattle.p3_blake3_binary_air.specs.Meanings.{Meets, RowMeans, WordsAreDetermined}
-use Rattle.p3_air.specs.Laws.Lists.{all_left, all_right, all_of_table, all_table}
+use Rattle.p3_blake3_binary_air.specs.Meanings.{Meets, BinaryRowMeans, BinaryWordsAreDetermined}
+use Rattle.p3_air.specs.Laws.Lists.{all_left, all_right, all_of_tabulate, all_tabulate}
 use Rattle.p3_blake3.specs.Laws.Words.{bit_of_bits, bits_below}
 use Rattle.p3_blake3_binary_air.specs.Laws.Cells.{StepCells}
 use Rattle.p3_blake3_binary_air.specs.Laws.Completion.{made_carries, made_ds, made_bs, meets_of_cells, cells_of_meets, same_steps}
@@ -83,7 +83,7 @@ module _ {A : Type 0} (r : Ring A) (L : RingLaws r) (two : r.add r.one r.one ≡
 
   module _ (row : Row A A) where
     abbrev Zero : Tree A → Type 0
-    Zero t = value_at r r (λ x. x) row t ≡ r.zero
+    Zero t = tree_value_at_row r r (λ x. x) row t ≡ r.zero
 
     abbrev here : ℕ → A
     here k = get_or row.main_local k r.zero
@@ -92,7 +92,7 @@ module _ {A : Type 0} (r : Ring A) (L : RingLaws r) (two : r.add r.one r.one ≡
     bits_of_cells : (f : ℕ → ℕ) → ((k : ℕ) → k < 896 → f k < 2) → ((k : ℕ) → k < 896 → here k ≡ of_nat r (f k)) → Meets r row (bits_trees r 0 896)
     unfolding bits_trees
     bits_of_cells f b h =
-        all_table Zero 896 (λ i. bool_tree r.one (from_column 0 i)) (λ k lt.
+        all_tabulate Zero 896 (λ i. bool_tree r.one (from_column 0 i)) (λ k lt.
         let e : 0 + k ≡ k = omega arith in
         zero_of_number (here (0 + k)) (f k) (b k lt) (ap here e ∙ h k lt))
 
@@ -101,7 +101,7 @@ module _ {A : Type 0} (r : Ring A) (L : RingLaws r) (two : r.add r.one r.one ≡
     cell_is_bit z k lt =
         let e : 0 + k ≡ k = omega arith in
         value_of_bit (here k) (subst (λ j. r.mul (here j) (sub r (here j) r.one) ≡ r.zero) e
-        (all_of_table Zero 896 (λ i. bool_tree r.one (from_column 0 i)) z k lt))
+        (all_of_tabulate Zero 896 (λ i. bool_tree r.one (from_column 0 i)) z k lt))
 
     -- the input's words
     abbrev bits_at : ℕ → ℕ → ℕ
@@ -145,12 +145,12 @@ module _ {A : Type 0} (r : Ring A) (L : RingLaws r) (two : r.add r.one r.one ≡
       (λ i j li lj. omega (arith, C.block i j li lj, bit_at-lt (x i) j))
       (λ i j li lj. omega (arith, C.rest i j li lj, bit_at-lt (x (24 + i)) j))
 
-  pub row_means : RowMeans r
+  pub row_means : BinaryRowMeans r
   unfolding binary_trees
   row_means row long = (
     λ z.
-        let zb = all_left (Zero row) (bits_trees r 0 896) (steps_trees r) z in
-        let zs = all_right (Zero row) (bits_trees r 0 896) (steps_trees r) z in
+        let zb = all_left (Zero row) (bits_trees r 0 896) (binary_steps_trees r) z in
+        let zs = all_right (Zero row) (bits_trees r 0 896) (binary_steps_trees r) z in
         let x = input row in
         let W = are_words row in
         let f : ℕ → A = cells r L two x W in
@@ -173,7 +173,7 @@ module _ {A : Type 0} (r : Ring A) (L : RingLaws r) (two : r.add r.one r.one ≡
         let f : ℕ → A = cells r L two x W in
         let are : (k : ℕ) → k < 896 → here row k ≡ f k = λ k lt. ap (λ xs. get_or xs k r.zero) p.2 ∙ row_at r L two x W k (omega (arith, lt)) in
         let stand = subst (λ xs. StepCells r.zero xs (made_carries r L two f) (made_ds r L two f) (made_bs r L two f)) (sym p.2) (trace_steps r L two x W) in
-        All-append (Zero row) (bits_trees r 0 896) (steps_trees r)
+        All-append (Zero row) (bits_trees r 0 896) (binary_steps_trees r)
         (bits_of_cells row (λ k. get_or (binary_cells x) k 0) (input_below x) are)
         (meets_of_cells r L two f row are stand),
   )
@@ -223,5 +223,5 @@ module _ {A : Type 0} (r : Ring A) (L : RingLaws r) (two : r.add r.one r.one ≡
           ]
         ]
 
-pub words_determined : {A : Type 0} (r : Ring A) (L : RingLaws r) → r.add r.one r.one ≡ r.zero → (r.one ≡ r.zero → ⊥) → WordsAreDetermined r
+pub words_determined : {A : Type 0} (r : Ring A) (L : RingLaws r) → r.add r.one r.one ≡ r.zero → (r.one ≡ r.zero → ⊥) → BinaryWordsAreDetermined r
 words_determined r L two differ x y wx wy e = same_words r L two differ x y wx wy e

@@ -4,7 +4,7 @@ use Rattle.std.specs.Prelude.{bit_xor}
 use Rattle.std.specs.Int.{bit_at, rotate_left, w32}
 use Rattle.std.proofs.lemmas.List.{get_or-map}
 use Rattle.p3_field.specs.Ring.{Ring, of_nat}
-use Rattle.p3_blake3.specs.Compress.{word, half_b, half_d, Input, chaining, step_of, output_of, compress}
+use Rattle.p3_blake3.specs.Compress.{word, half_b, half_d, Input, chaining, step_of_word, output_of, compress}
 use Rattle.p3_blake3.specs.TraceRow.{turn_of, d_turn, b_turn, message_of, state, AreWords}
 use Rattle.p3_blake3.specs.Laws.Words.{turned_there}
 use Rattle.p3_blake3.specs.Laws.Compress.{taken_made, output_is_compressed}
@@ -58,12 +58,12 @@ module _ (x : Input) where
   made_is : AreWords x → (g : ℕ) → g < 4 → step_words (row_d1 g) (row_b1 g) (row_d2 g) (row_b2 g) ≡ after_half x 27 g
   made_is W g lg = λ j. record { a = a_is x g W lg j; b = row_b2 g; c = c_is x g W lg j; d = row_d2 g }
 
-  last_state : (row i : ℕ) → state x 28 row i ≡ word (after_half x 27 (step_of 1 row i)) row
+  last_state : (row i : ℕ) → state x 28 row i ≡ word (after_half x 27 (step_of_word 1 row i)) row
   unfolding state
   last_state row i = refl
 
   same_state : AreWords x → (row i : ℕ) → state_read row_d1 row_b1 row_d2 row_b2 row i ≡ state x 28 row i
-  same_state W row i = ap (λ q. word q row) (made_is W (step_of 1 row i) (omega arith)) ∙ sym (last_state row i)
+  same_state W row i = ap (λ q. word q row) (made_is W (step_of_word 1 row i) (omega arith)) ∙ sym (last_state row i)
 
   read_word : AreWords x → (k i : ℕ) → k < 4 → i < 4 → output_of x (state_read row_d1 row_b1 row_d2 row_b2) k i ≡ output_of x (state x 28) k i
   read_word W zero i lk li = λ j. bit_xor (same_state W 0 i j) (same_state W 2 i j)

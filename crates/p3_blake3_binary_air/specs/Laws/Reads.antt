@@ -3,7 +3,7 @@ use Rattle.std.proofs.Common.{◌≡◌, ℕ, zero, suc, ◌+◌, ◌*◌, ◌<�
 use Rattle.std.specs.Prelude.{All, cond}
 use Rattle.std.proofs.lemmas.List.Elements.{All-cons, All-append}
 use Rattle.p3_field.specs.Ring.{Ring}
-use Rattle.p3_field.specs.Poly.{table}
+use Rattle.p3_field.specs.Poly.{tabulate}
 use Rattle.p3_air.specs.declared.cells.Cell.{Cell}
 use Rattle.p3_air.specs.declared.cells.Cell.TheVariants.{Main}
 use Rattle.p3_air.specs.declared.cells.ExtCell.{ExtCell}
@@ -11,11 +11,11 @@ use Rattle.p3_air.specs.Tree.{Tree, sum, product, bool_tree}
 use Rattle.p3_air.specs.Shape.{ReadsIn, ReadsDeclared, declared_shape, Declares, DeclaresExt}
 use Rattle.p3_air.specs.Gadgets.{rotated_place}
 use Rattle.p3_air.specs.Laws.Declared.{counts-some}
-use Rattle.p3_blake3.specs.Compress.{column_of, step_of}
+use Rattle.p3_blake3.specs.Compress.{column_of, step_of_word}
 use Rattle.p3_blake3.specs.TraceRow.{turn_of, d_turn, b_turn, message_of}
-use Rattle.p3_blake3_binary_air.specs.Trees.{from_column, bits_trees, half_column, words_after, half_step_trees, steps_trees, binary_trees, air_trees, binary_declaration}
-use Rattle.p3_blake3_binary_air.specs.Sums.{carries_trees, majority, carry_in, with_carries, sum2_trees, sum3_trees, turned, half_trees}
-use Rattle.p3_air.specs.Laws.Lists.{all_table}
+use Rattle.p3_blake3_binary_air.specs.Trees.{from_column, bits_trees, half_column, words_after, half_step_trees, binary_steps_trees, binary_trees, air_trees, binary_declaration}
+use Rattle.p3_blake3_binary_air.specs.Sums.{carries_trees, majority, carry_in, with_carries, sum2_trees, sum3_trees, turned, binary_half_trees}
+use Rattle.p3_air.specs.Laws.Lists.{all_tabulate}
 use Rattle.p3_blake3.specs.Laws.Schedule.{message_below}
 use Rattle.p3_blake3_binary_air.specs.Laws.Rounds.{all_laid}
 use Rattle.p3_blake3_binary_air.specs.Laws.Step.{counted}
@@ -44,7 +44,7 @@ module _ {F : Type 0} (r : Ring F) (P : Cell → Type 0) (Q : ExtCell → Type 0
   reads_sum2 x y s hx hy hs =
       let c = reads_carry x y s hx hy hs in
       let next : ℕ → Tree F = λ i. sum (majority (x i) (y i) (carry_in x y s i)) (carry_in x y s (suc i)) in
-      All-cons R (carry_in x y s 0) (table 31 next) (c 0 (lit< tt)) (all_table R 31 next (λ i lt.
+      All-cons R (carry_in x y s 0) (tabulate 31 next) (c 0 (lit< tt)) (all_tabulate R 31 next (λ i lt.
       (reads_majority (x i) (y i) (carry_in x y s i) (hx i (omega (arith, lt))) (hy i (omega (arith, lt))) (c i (omega (arith, lt))), c (suc i) (omega (arith, lt)))))
 
   reads_with : (x y k : ℕ → Tree F) → Reads 32 x → Reads 32 y → Reads 31 k → Reads 32 (with_carries x y k)
@@ -56,14 +56,14 @@ module _ {F : Type 0} (r : Ring F) (P : Cell → Type 0) (Q : ExtCell → Type 0
   reads_sum3 x y z k s hx hy hz hk hs =
       let first = sum (product (x 0) (y 0)) (k 0) in
       let next : ℕ → Tree F = λ i. sum (majority (x (suc i)) (y (suc i)) (k i)) (k (suc i)) in
-      All-append R (first ∷ table 30 next) (sum2_trees (with_carries x y k) z s)
-      (All-cons R first (table 30 next) ((hx 0 (lit< tt), hy 0 (lit< tt)), hk 0 (lit< tt)) (all_table R 30 next (λ i lt.
+      All-append R (first ∷ tabulate 30 next) (sum2_trees (with_carries x y k) z s)
+      (All-cons R first (tabulate 30 next) ((hx 0 (lit< tt), hy 0 (lit< tt)), hk 0 (lit< tt)) (all_tabulate R 30 next (λ i lt.
       (reads_majority (x (suc i)) (y (suc i)) (k i) (hx (suc i) (omega (arith, lt))) (hy (suc i) (omega (arith, lt))) (hk i (omega (arith, lt))), hk (suc i) (omega (arith, lt))))))
       (reads_sum2 (with_carries x y k) z s (reads_with x y k hx hy hk) hz hs)
 
   reads_half : (s t : ℕ) (a b c d m k d' b' : ℕ → Tree F) → Reads 32 a → Reads 32 b → Reads 32 c → Reads 32 d → Reads 32 m → Reads 31 k → Reads 32 d' → Reads 32 b'
-      → All R (half_trees s t a b c d m k d' b')
-  unfolding half_trees
+      → All R (binary_half_trees s t a b c d m k d' b')
+  unfolding binary_half_trees
   reads_half s t a b c d m k d' b' ha hb hc hd hm hk kd kb =
       All-append R (sum3_trees a b m k (turned d d' s)) (sum2_trees c d' (turned b b' t))
       (reads_sum3 a b m k (turned d d' s) ha hb hm hk (reads_turned d d' s hd kd)) (reads_sum2 c d' (turned b b' t) hc kd (reads_turned b b' t hb kb))
@@ -76,17 +76,17 @@ module _ {F : Type 0} (r : Ring F) (P : Cell → Type 0) (Q : ExtCell → Type 0
   reads_words zero le (suc (suc (suc m))) column lt k lk = main (768 + 32 * column + k) (omega (arith, lt, lk))
   reads_words (suc n) le zero column lt k lk =
       let t = turn_of n in
-      let g = step_of t 0 column in
+      let g = step_of_word t 0 column in
       reads_turned (words_after r n 3 (column_of t 3 g)) (from_column (half_column n g + 31)) (d_turn n)
       (reads_words n (omega (arith, le)) 3 (column_of t 3 g) (omega arith)) (reads_from (half_column n g + 31) 32 (omega (arith, le))) k lk
-  reads_words (suc n) le (suc zero) column lt k lk = let g = step_of (turn_of n) 1 column in reads_from (half_column n g + 63) 32 (omega (arith, le)) k lk
+  reads_words (suc n) le (suc zero) column lt k lk = let g = step_of_word (turn_of n) 1 column in reads_from (half_column n g + 63) 32 (omega (arith, le)) k lk
   reads_words (suc n) le (suc (suc zero)) column lt k lk =
       let t = turn_of n in
-      let g = step_of t 2 column in
+      let g = step_of_word t 2 column in
       reads_turned (words_after r n 1 (column_of t 1 g)) (from_column (half_column n g + 63)) (b_turn n)
       (reads_words n (omega (arith, le)) 1 (column_of t 1 g) (omega arith)) (reads_from (half_column n g + 63) 32 (omega (arith, le))) k lk
   reads_words (suc n) le (suc (suc (suc m))) column lt k lk =
-      let g = step_of (turn_of n) (suc (suc (suc m))) column in reads_from (half_column n g + 31) 32 (omega (arith, le)) k lk
+      let g = step_of_word (turn_of n) (suc (suc (suc m))) column in reads_from (half_column n g + 31) 32 (omega (arith, le)) k lk
 
   reads_step : (n g : ℕ) → n < 28 → g < 4 → All R (half_step_trees r n g)
   unfolding half_step_trees
@@ -100,15 +100,15 @@ module _ {F : Type 0} (r : Ring F) (P : Cell → Type 0) (Q : ExtCell → Type 0
       (reads_from (256 + 32 * message_of n g) 32 (omega (arith, m)))
       (reads_from (half_column n g) 31 (omega (arith, ln, lg))) (reads_from (half_column n g + 31) 32 (omega (arith, ln, lg))) (reads_from (half_column n g + 63) 32 (omega (arith, ln, lg)))
 
-  pub reads_steps : All R (steps_trees r)
-  unfolding steps_trees
+  pub reads_steps : All R (binary_steps_trees r)
+  unfolding binary_steps_trees
   reads_steps = all_laid R (half_step_trees r) reads_step
 
   pub reads_binary : All R (binary_trees r)
   unfolding binary_trees bits_trees
   reads_binary =
-      All-append R (bits_trees r 0 896) (steps_trees r)
-      (all_table R 896 (λ i. bool_tree r.one (from_column 0 i)) (λ i lt. let e = reads_from 0 896 (omega arith) i lt in (e, (e, tt)))) reads_steps
+      All-append R (bits_trees r 0 896) (binary_steps_trees r)
+      (all_tabulate R 896 (λ i. bool_tree r.one (from_column 0 i)) (λ i lt. let e = reads_from 0 896 (omega arith) i lt in (e, (e, tt)))) reads_steps
 
 pub binary_read : {F : Type 0} (r : Ring F) (bits : Bool) → All (ReadsDeclared (declared_shape (binary_declaration {F = F} bits))) (air_trees r bits)
 binary_read {F = F} r true =

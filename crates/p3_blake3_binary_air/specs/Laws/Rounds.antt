@@ -7,12 +7,12 @@ use Rattle.p3_field.specs.Ring.{Ring, RingLaws, of_nat}
 use Rattle.p3_air.specs.declared.cells.Cell.{Cell}
 use Rattle.p3_air.specs.declared.cells.Cell.TheVariants.{Main}
 use Rattle.p3_air.specs.declared.cells.ExtCell.{ExtCell}
-use Rattle.p3_air.specs.Tree.{Tree, Reading, ev}
+use Rattle.p3_air.specs.Tree.{Tree, Reading, eval_tree}
 use Rattle.p3_air.specs.Words.{cells_reading, Vanish}
-use Rattle.p3_blake3.specs.Compress.{iv, column_of, step_of}
+use Rattle.p3_blake3.specs.Compress.{iv, column_of, step_of_word}
 use Rattle.p3_air.specs.Joined.{joined}
 use Rattle.p3_blake3.specs.TraceRow.{turn_of, d_turn, b_turn, message_of}
-use Rattle.p3_blake3_binary_air.specs.Trees.{from_column, Four, row_of, four_taken, laid, half_column, words_made, words_after, half_step_trees, steps_trees}
+use Rattle.p3_blake3_binary_air.specs.Trees.{from_column, QuarterOf, word_in_row, four_taken, laid, half_column, words_made, words_after, half_step_trees, binary_steps_trees}
 use Rattle.p3_air.specs.Laws.Lists.{all_of_joined, all_joined}
 use Rattle.p3_blake3.specs.Laws.Schedule.{message_below}
 use Rattle.p3_blake3_binary_air.specs.Laws.Values.{made, Have, HaveFour, HaveMade, half_made, after_made}
@@ -47,8 +47,8 @@ module _ {A : Type 0} (r : Ring A) (cells : ℕ → A) where
 
   abbrev pub values_half : ℕ → (ℕ → ℕ → ℕ → A) → ℕ → ℕ → ℕ → A
   values_half n v row column =
-      let g = step_of (turn_of n) row column in
-      row_of (made r (d_turn n) (b_turn n) (four_taken (turn_of n) v g) (message_values (message_of n g))) row
+      let g = step_of_word (turn_of n) row column in
+      word_in_row (made r (d_turn n) (b_turn n) (four_taken (turn_of n) v g) (message_values (message_of n g))) row
 
   -- the state's values after n half rounds
   unfoldable pub values_after : ℕ → ℕ → ℕ → ℕ → A
@@ -60,7 +60,7 @@ module _ {A : Type 0} (r : Ring A) (cells : ℕ → A) where
     rd = cells_reading r at at_ext
 
     abbrev Zero : Tree A → Type 0
-    Zero v = ev rd v ≡ r.zero
+    Zero v = eval_tree rd v ≡ r.zero
 
     -- the cells of step g of half round n have the values that it makes
     abbrev pub StepMade : ℕ → ℕ → Type 0
@@ -103,7 +103,7 @@ module _ {A : Type 0} (r : Ring A) (cells : ℕ → A) where
     unfolding words_after values_after
     next_made n h p row column lt =
         let t = turn_of n in
-        let g = step_of t row column in
+        let g = step_of_word t row column in
         let q = four_taken t (words_after r n) g in
         let v = four_taken t (values_after n) g in
         let here : StepMade n g = p g (omega arith) in
@@ -113,7 +113,7 @@ module _ {A : Type 0} (r : Ring A) (cells : ℕ → A) where
         (made r (d_turn n) (b_turn n) v (message_values (message_of n g)))
         (record { a_values = ac.0; b_values = here.b_made; c_values = ac.1; d_values = here.d_made })
       where
-        go : (row : ℕ) (q : Four (ℕ → Tree A)) (v : Four (ℕ → A)) → HaveFour rd q v → Have rd 32 (row_of q row) (row_of v row)
+        go : (row : ℕ) (q : QuarterOf (ℕ → Tree A)) (v : QuarterOf (ℕ → A)) → HaveFour rd q v → Have rd 32 (word_in_row q row) (word_in_row v row)
         go zero q v h = h.a_values
         go (suc zero) q v h = h.b_values
         go (suc (suc zero)) q v h = h.c_values
@@ -126,8 +126,8 @@ module _ {A : Type 0} (r : Ring A) (cells : ℕ → A) where
         next_made n before (λ g lg. p n g (omega (arith, le)) lg before)
 
     -- the constraints of all steps
-    pub steps_made : Vanish r rd (steps_trees r) ↔ ((n g : ℕ) → n < 28 → g < 4 → StepMade n g)
-    unfolding steps_trees
+    pub steps_made : Vanish r rd (binary_steps_trees r) ↔ ((n g : ℕ) → n < 28 → g < 4 → StepMade n g)
+    unfolding binary_steps_trees
     steps_made = (
       λ z n g ln lg.
           let each : (n g : ℕ) → n < 28 → g < 4 → StateMade n → StepMade n g = λ n g ln lg h. (step_made n g lg h).0 (all_of_laid Zero (half_step_trees r) z n g ln lg) in

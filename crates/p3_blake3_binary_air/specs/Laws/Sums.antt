@@ -6,15 +6,15 @@ use Rattle.std.proofs.lemmas.Nat.{shr_split}
 use Rattle.std.proofs.lemmas.Nat.Bits.{bit_at_lowest, bit_at-suc, bit_at-lt, bit_at_cat_low}
 use Rattle.std.proofs.lemmas.List.Elements.{All-cons, All-head, All-tail, All-append}
 use Rattle.p3_field.specs.Ring.{Ring, RingLaws, of_nat}
-use Rattle.p3_field.specs.Poly.{table}
+use Rattle.p3_field.specs.Poly.{tabulate}
 use Rattle.p3_field.specs.Laws.Algebra.{twice_zero, zero_mul, zero_add, of_nat_add, of_nat_mul}
 use Rattle.p3_field.specs.Laws.Solver.{expressions, var, solve}
 use Rattle.p3_air.specs.declared.cells.Cell.{Cell}
 use Rattle.p3_air.specs.declared.cells.ExtCell.{ExtCell}
-use Rattle.p3_air.specs.Tree.{Tree, Reading, ev, sum, product}
-use Rattle.p3_air.specs.Words.{cells_reading, Vanish, HaveValues}
-use Rattle.p3_blake3_binary_air.specs.Sums.{carries_trees, majority, carry_in, sum2_trees, with_carries, sum3_trees, carry, turned, half_trees}
-use Rattle.p3_blake3_binary_air.specs.Meanings.{Sum2Means, Sum3Means, HalfMeans}
+use Rattle.p3_air.specs.Tree.{Tree, Reading, eval_tree, sum, product}
+use Rattle.p3_air.specs.Words.{cells_reading, Vanish, HaveNumbers}
+use Rattle.p3_blake3_binary_air.specs.Sums.{carries_trees, majority, carry_in, sum2_trees, with_carries, sum3_trees, carry, turned, binary_half_trees}
+use Rattle.p3_blake3_binary_air.specs.Meanings.{Sum2Means, Sum3Means, BinaryHalfMeans}
 use Rattle.std.specs.Prelude.{bit_xor}
 use Rattle.std.specs.Int.{rotate_right, w32}
 use Rattle.std.proofs.lemmas.Nat.{xor_lt, mod_below}
@@ -23,7 +23,7 @@ use Rattle.p3_air.specs.Gadgets.{rotated_place}
 use Rattle.p3_air.specs.Laws.Words.{bit_of_rotated}
 use Rattle.p3_blake3.specs.Compress.{half_a, half_b, half_c, half_d}
 use Rattle.p3_blake3.specs.Laws.Words.{right_is_left}
-use Rattle.p3_air.specs.Laws.Lists.{all_left, all_right, all_of_table, all_table}
+use Rattle.p3_air.specs.Laws.Lists.{all_left, all_right, all_of_tabulate, all_tabulate}
 
 -- the carry of a sum with a carry into its lowest bit
 carry_from : ℕ → ℕ → ℕ → ℕ → ℕ
@@ -125,12 +125,12 @@ module _ {A : Type 0} (r : Ring A) (L : RingLaws r) (two : r.add r.one r.one ≡
     rd = cells_reading r at at_ext
 
     abbrev Zero : Tree A → Type 0
-    Zero v = ev rd v ≡ r.zero
+    Zero v = eval_tree rd v ≡ r.zero
 
-    majority_value : (s t u : Tree A) (a b c : ℕ) → a < 2 → b < 2 → c < 2 → ev rd s ≡ of_nat r a → ev rd t ≡ of_nat r b → ev rd u ≡ of_nat r c
-        → ev rd (majority s t u) ≡ of_nat r ((a + b + c) / 2)
+    majority_value : (s t u : Tree A) (a b c : ℕ) → a < 2 → b < 2 → c < 2 → eval_tree rd s ≡ of_nat r a → eval_tree rd t ≡ of_nat r b → eval_tree rd u ≡ of_nat r c
+        → eval_tree rd (majority s t u) ≡ of_nat r ((a + b + c) / 2)
     majority_value s t u a b c la lb lc ha hb hc =
-        let e : ev rd (majority s t u) ≡ of_nat r ((a + c) * (b + c) + c) =
+        let e : eval_tree rd (majority s t u) ≡ of_nat r ((a + c) * (b + c) + c) =
         cc (ha, hb, hc, of_nat_add r L a c, of_nat_add r L b c, of_nat_mul r L (a + c) (b + c), of_nat_add r L ((a + c) * (b + c)) c) in
         e ∙ (parity ((a + c) * (b + c) + c) ∙ ap (of_nat r) (number_majority a b c la lb lc))
 
@@ -142,37 +142,37 @@ module _ {A : Type 0} (r : Ring A) (L : RingLaws r) (two : r.add r.one r.one ≡
     unfolding carry
     next_carry X Y i = refl
 
-    module _ (x y s : ℕ → Tree A) (X Y : ℕ) (hx : HaveValues r rd 32 x (bit_at X)) (hy : HaveValues r rd 32 y (bit_at Y)) where
+    module _ (x y s : ℕ → Tree A) (X Y : ℕ) (hx : HaveNumbers r rd 32 x (bit_at X)) (hy : HaveNumbers r rd 32 y (bit_at Y)) where
       -- the carries are those of the sum, up to a place
-      carries : Vanish r rd (sum2_trees x y s) → (i : ℕ) → i < 32 → ev rd (carry_in x y s i) ≡ of_nat r (carry X Y i)
+      carries : Vanish r rd (sum2_trees x y s) → (i : ℕ) → i < 32 → eval_tree rd (carry_in x y s i) ≡ of_nat r (carry X Y i)
       unfolding sum2_trees carry of_nat
-      carries v zero lt = All-head Zero (carry_in x y s 0) (table 31 (λ i. sum (majority (x i) (y i) (carry_in x y s i)) (carry_in x y s (suc i)))) v
+      carries v zero lt = All-head Zero (carry_in x y s 0) (tabulate 31 (λ i. sum (majority (x i) (y i) (carry_in x y s i)) (carry_in x y s (suc i)))) v
       carries v (suc i) lt =
           let t : ℕ → Tree A = λ i. sum (majority (x i) (y i) (carry_in x y s i)) (carry_in x y s (suc i)) in
-          let here : Zero (t i) = all_of_table Zero 31 t (All-tail Zero (carry_in x y s 0) (table 31 t) v) i (omega (arith, lt)) in
+          let here : Zero (t i) = all_of_tabulate Zero 31 t (All-tail Zero (carry_in x y s 0) (tabulate 31 t) v) i (omega (arith, lt)) in
           let before = carries v i (omega (arith, lt)) in
-          same_of_zero (ev rd (majority (x i) (y i) (carry_in x y s i))) (ev rd (carry_in x y s (suc i))) here
+          same_of_zero (eval_tree rd (majority (x i) (y i) (carry_in x y s i))) (eval_tree rd (carry_in x y s (suc i))) here
           ∙ majority_value (x i) (y i) (carry_in x y s i) (bit_at X i) (bit_at Y i) (carry X Y i) (bit_at-lt X i) (bit_at-lt Y i) (carry_below X Y i)
           (hx i (omega (arith, lt))) (hy i (omega (arith, lt))) before
 
       -- the sum's bit, by its carry
-      bit_value : (i : ℕ) → i < 32 → r.add (r.add (of_nat r (carry X Y i)) (ev rd (x i))) (ev rd (y i)) ≡ of_nat r (bit_at ((X + Y) % 2 ^ 32) i)
+      bit_value : (i : ℕ) → i < 32 → r.add (r.add (of_nat r (carry X Y i)) (eval_tree rd (x i))) (eval_tree rd (y i)) ≡ of_nat r (bit_at ((X + Y) % 2 ^ 32) i)
       bit_value i lt =
           let e : (carry X Y i + bit_at X i + bit_at Y i) % 2 ≡ (bit_at X i + bit_at Y i + carry X Y i) % 2 = ap (λ n. n % 2) (omega arith) in
           cc (hx i lt, hy i lt, three (carry X Y i) (bit_at X i) (bit_at Y i), e, bit_of_sum X Y i, bit_of_low (X + Y) 32 i lt)
 
-      sum2_of_zeros : Vanish r rd (sum2_trees x y s) → HaveValues r rd 32 s (bit_at ((X + Y) % 2 ^ 32))
+      sum2_of_zeros : Vanish r rd (sum2_trees x y s) → HaveNumbers r rd 32 s (bit_at ((X + Y) % 2 ^ 32))
       sum2_of_zeros v i lt =
-          back (ev rd (s i)) (ev rd (x i)) (ev rd (y i)) (of_nat r (carry X Y i)) (carries v i lt) ∙ bit_value i lt
+          back (eval_tree rd (s i)) (eval_tree rd (x i)) (eval_tree rd (y i)) (of_nat r (carry X Y i)) (carries v i lt) ∙ bit_value i lt
 
-      zeros_of_sum2 : HaveValues r rd 32 s (bit_at ((X + Y) % 2 ^ 32)) → Vanish r rd (sum2_trees x y s)
+      zeros_of_sum2 : HaveNumbers r rd 32 s (bit_at ((X + Y) % 2 ^ 32)) → Vanish r rd (sum2_trees x y s)
       unfolding sum2_trees
       zeros_of_sum2 h =
           let t : ℕ → Tree A = λ i. sum (majority (x i) (y i) (carry_in x y s i)) (carry_in x y s (suc i)) in
-          let c : (i : ℕ) → i < 32 → ev rd (carry_in x y s i) ≡ of_nat r (carry X Y i) = λ i lt.
-          sym (back (of_nat r (carry X Y i)) (ev rd (x i)) (ev rd (y i)) (ev rd (s i)) (bit_value i lt ∙ sym (h i lt))) in
-          All-cons Zero (carry_in x y s 0) (table 31 t) (c 0 (lit< tt) ∙ no_carry X Y) (all_table Zero 31 t (λ i lt.
-          zero_of_same (ev rd (majority (x i) (y i) (carry_in x y s i))) (ev rd (carry_in x y s (suc i)))
+          let c : (i : ℕ) → i < 32 → eval_tree rd (carry_in x y s i) ≡ of_nat r (carry X Y i) = λ i lt.
+          sym (back (of_nat r (carry X Y i)) (eval_tree rd (x i)) (eval_tree rd (y i)) (eval_tree rd (s i)) (bit_value i lt ∙ sym (h i lt))) in
+          All-cons Zero (carry_in x y s 0) (tabulate 31 t) (c 0 (lit< tt) ∙ no_carry X Y) (all_tabulate Zero 31 t (λ i lt.
+          zero_of_same (eval_tree rd (majority (x i) (y i) (carry_in x y s i))) (eval_tree rd (carry_in x y s (suc i)))
           (c (suc i) (omega (arith, lt)) ∙ (next_carry X Y i ∙ sym (majority_value (x i) (y i) (carry_in x y s i) (bit_at X i) (bit_at Y i) (carry X Y i) (bit_at-lt X i) (bit_at-lt Y i) (carry_below X Y i)
           (hx i (omega (arith, lt))) (hy i (omega (arith, lt))) (c i (omega (arith, lt))))))))
 
@@ -191,35 +191,35 @@ module _ {A : Type 0} (r : Ring A) (L : RingLaws r) (two : r.add r.one r.one ≡
         product_half (suc zero) (suc zero) x y = refl
         product_half a b x y = absurd (omega (arith, x, y))
 
-    module _ (x y k : ℕ → Tree A) (X Y : ℕ) (hx : HaveValues r rd 32 x (bit_at X)) (hy : HaveValues r rd 32 y (bit_at Y)) where
+    module _ (x y k : ℕ → Tree A) (X Y : ℕ) (hx : HaveNumbers r rd 32 x (bit_at X)) (hy : HaveNumbers r rd 32 y (bit_at Y)) where
       abbrev carry_trees : List (Tree A)
-      carry_trees = sum (product (x 0) (y 0)) (k 0) ∷ table 30 (λ i. sum (majority (x (suc i)) (y (suc i)) (k i)) (k (suc i)))
+      carry_trees = sum (product (x 0) (y 0)) (k 0) ∷ tabulate 30 (λ i. sum (majority (x (suc i)) (y (suc i)) (k i)) (k (suc i)))
 
-      later_value : (i : ℕ) → i < 30 → ev rd (k i) ≡ of_nat r (carry X Y (suc i)) → ev rd (majority (x (suc i)) (y (suc i)) (k i)) ≡ of_nat r (carry X Y (suc (suc i)))
+      later_value : (i : ℕ) → i < 30 → eval_tree rd (k i) ≡ of_nat r (carry X Y (suc i)) → eval_tree rd (majority (x (suc i)) (y (suc i)) (k i)) ≡ of_nat r (carry X Y (suc (suc i)))
       later_value i lt h =
           majority_value (x (suc i)) (y (suc i)) (k i) (bit_at X (suc i)) (bit_at Y (suc i)) (carry X Y (suc i)) (bit_at-lt X (suc i)) (bit_at-lt Y (suc i)) (carry_below X Y (suc i))
           (hx (suc i) (omega (arith, lt))) (hy (suc i) (omega (arith, lt))) h
           ∙ sym (next_carry X Y (suc i))
 
-      first_value : ev rd (product (x 0) (y 0)) ≡ of_nat r (carry X Y 1)
+      first_value : eval_tree rd (product (x 0) (y 0)) ≡ of_nat r (carry X Y 1)
       first_value = (λ j. r.mul (hx 0 (lit< tt) j) (hy 0 (lit< tt) j)) ∙ first_carry X Y
 
-      carries_of_zeros : Vanish r rd carry_trees → (i : ℕ) → i < 31 → ev rd (k i) ≡ of_nat r (carry X Y (suc i))
+      carries_of_zeros : Vanish r rd carry_trees → (i : ℕ) → i < 31 → eval_tree rd (k i) ≡ of_nat r (carry X Y (suc i))
       carries_of_zeros v zero lt =
           let t : ℕ → Tree A = λ i. sum (majority (x (suc i)) (y (suc i)) (k i)) (k (suc i)) in
-          same_of_zero (ev rd (product (x 0) (y 0))) (ev rd (k 0)) (All-head Zero (sum (product (x 0) (y 0)) (k 0)) (table 30 t) v) ∙ first_value
+          same_of_zero (eval_tree rd (product (x 0) (y 0))) (eval_tree rd (k 0)) (All-head Zero (sum (product (x 0) (y 0)) (k 0)) (tabulate 30 t) v) ∙ first_value
       carries_of_zeros v (suc i) lt =
           let t : ℕ → Tree A = λ i. sum (majority (x (suc i)) (y (suc i)) (k i)) (k (suc i)) in
-          let here : Zero (t i) = all_of_table Zero 30 t (All-tail Zero (sum (product (x 0) (y 0)) (k 0)) (table 30 t) v) i (omega (arith, lt)) in
-          same_of_zero (ev rd (majority (x (suc i)) (y (suc i)) (k i))) (ev rd (k (suc i))) here ∙ later_value i (omega (arith, lt)) (carries_of_zeros v i (omega (arith, lt)))
+          let here : Zero (t i) = all_of_tabulate Zero 30 t (All-tail Zero (sum (product (x 0) (y 0)) (k 0)) (tabulate 30 t) v) i (omega (arith, lt)) in
+          same_of_zero (eval_tree rd (majority (x (suc i)) (y (suc i)) (k i))) (eval_tree rd (k (suc i))) here ∙ later_value i (omega (arith, lt)) (carries_of_zeros v i (omega (arith, lt)))
 
-      zeros_of_carries : HaveValues r rd 31 k (λ i. carry X Y (suc i)) → Vanish r rd carry_trees
+      zeros_of_carries : HaveNumbers r rd 31 k (λ i. carry X Y (suc i)) → Vanish r rd carry_trees
       zeros_of_carries h =
           let t : ℕ → Tree A = λ i. sum (majority (x (suc i)) (y (suc i)) (k i)) (k (suc i)) in
-          All-cons Zero (sum (product (x 0) (y 0)) (k 0)) (table 30 t) (zero_of_same (ev rd (product (x 0) (y 0))) (ev rd (k 0)) (h 0 (lit< tt) ∙ sym first_value))
-          (all_table Zero 30 t (λ i lt. zero_of_same (ev rd (majority (x (suc i)) (y (suc i)) (k i))) (ev rd (k (suc i))) (h (suc i) (omega (arith, lt)) ∙ sym (later_value i lt (h i (omega (arith, lt)))))))
+          All-cons Zero (sum (product (x 0) (y 0)) (k 0)) (tabulate 30 t) (zero_of_same (eval_tree rd (product (x 0) (y 0))) (eval_tree rd (k 0)) (h 0 (lit< tt) ∙ sym first_value))
+          (all_tabulate Zero 30 t (λ i lt. zero_of_same (eval_tree rd (majority (x (suc i)) (y (suc i)) (k i))) (eval_tree rd (k (suc i))) (h (suc i) (omega (arith, lt)) ∙ sym (later_value i lt (h i (omega (arith, lt)))))))
 
-      sum_values : HaveValues r rd 31 k (λ i. carry X Y (suc i)) → HaveValues r rd 32 (with_carries x y k) (bit_at ((X + Y) % 2 ^ 32))
+      sum_values : HaveNumbers r rd 31 k (λ i. carry X Y (suc i)) → HaveNumbers r rd 32 (with_carries x y k) (bit_at ((X + Y) % 2 ^ 32))
       unfolding carry
       sum_values h zero lt =
           let e : (bit_at X 0 + bit_at Y 0) % 2 ≡ (bit_at X 0 + bit_at Y 0 + carry X Y 0) % 2 = ap (λ n. n % 2) (omega arith) in
@@ -234,17 +234,17 @@ module _ {A : Type 0} (r : Ring A) (L : RingLaws r) (two : r.add r.one r.one ≡
         let second = sum2_trees (with_carries x y k) z s in
         let W = (X + Y) % 2 ^ 32 in
         let e : (W + Z) % 2 ^ 32 ≡ (X + Y + Z) % 2 ^ 32 = omega arith in
-        let rest = λ (h : HaveValues r rd 31 k (λ i. carry X Y (suc i))). sum2_means (with_carries x y k) z s W Z (sum_values x y k X Y hx hy h) hz in (
+        let rest = λ (h : HaveNumbers r rd 31 k (λ i. carry X Y (suc i))). sum2_means (with_carries x y k) z s W Z (sum_values x y k X Y hx hy h) hz in (
           λ v.
               let h = carries_of_zeros x y k X Y hx hy (all_left Zero first second v) in
-              (h, subst (λ n. HaveValues r rd 32 s (bit_at n)) e ((rest h).0 (all_right Zero first second v))),
+              (h, subst (λ n. HaveNumbers r rd 32 s (bit_at n)) e ((rest h).0 (all_right Zero first second v))),
           λ p.
-              All-append Zero first second (zeros_of_carries x y k X Y hx hy p.0) ((rest p.0).1 (subst (λ n. HaveValues r rd 32 s (bit_at n)) (sym e) p.1)),
+              All-append Zero first second (zeros_of_carries x y k X Y hx hy p.0) ((rest p.0).1 (subst (λ n. HaveNumbers r rd 32 s (bit_at n)) (sym e) p.1)),
         )
 
     -- x xor (y turned) has the bits of S exactly where y has those of x xor S, turned back
-    turned_means : (x y : ℕ → Tree A) (D S s : ℕ) → D < 2 ^ 32 → S < 2 ^ 32 → HaveValues r rd 32 x (bit_at D)
-        → HaveValues r rd 32 (turned x y s) (bit_at S) ↔ HaveValues r rd 32 y (bit_at (rotate_right w32 (bit_xor D S) s))
+    turned_means : (x y : ℕ → Tree A) (D S s : ℕ) → D < 2 ^ 32 → S < 2 ^ 32 → HaveNumbers r rd 32 x (bit_at D)
+        → HaveNumbers r rd 32 (turned x y s) (bit_at S) ↔ HaveNumbers r rd 32 y (bit_at (rotate_right w32 (bit_xor D S) s))
     turned_means x y D S s lD lS hx =
         let W = bit_xor D S in
         let lW : W < 2 ^ 32 = xor_lt 32 D S lD lS in (
@@ -252,15 +252,15 @@ module _ {A : Type 0} (r : Ring A) (L : RingLaws r) (two : r.add r.one r.one ≡
               let i = (j + s) % 32 in
               let li : i < 32 = omega arith in
               let e : rotated_place s i ≡ j = omega (arith, lt) in
-              let here : r.add (ev rd (x i)) (ev rd (y j)) ≡ of_nat r (bit_at S i) = subst (λ l. r.add (ev rd (x i)) (ev rd (y l)) ≡ of_nat r (bit_at S i)) e (h i li) in
+              let here : r.add (eval_tree rd (x i)) (eval_tree rd (y j)) ≡ of_nat r (bit_at S i) = subst (λ l. r.add (eval_tree rd (x i)) (eval_tree rd (y l)) ≡ of_nat r (bit_at S i)) e (h i li) in
               let f : (bit_at S i + bit_at D i) % 2 ≡ (bit_at D i + bit_at S i) % 2 = ap (λ n. n % 2) (omega arith) in
-              let g : ev rd (y j) ≡ r.add (of_nat r (bit_at S i)) (of_nat r (bit_at D i)) = moved_one (ev rd (x i)) (ev rd (y j)) (of_nat r (bit_at S i)) here ∙ ap (r.add (of_nat r (bit_at S i))) (hx i li) in
+              let g : eval_tree rd (y j) ≡ r.add (of_nat r (bit_at S i)) (of_nat r (bit_at D i)) = moved_one (eval_tree rd (x i)) (eval_tree rd (y j)) (of_nat r (bit_at S i)) here ∙ ap (r.add (of_nat r (bit_at S i))) (hx i li) in
               g ∙ cc (of_nat_add r L (bit_at S i) (bit_at D i), parity (bit_at S i + bit_at D i), f, bit_at_xor D S i, bit_of_right W s j lW lt),
           λ h i lt.
               let j = rotated_place s i in
               let lj : j < 32 = omega arith in
               let e : (j + s) % 32 ≡ i = omega (arith, lt) in
-              let value : ev rd (y j) ≡ of_nat r (bit_at W i) = h j lj ∙ ap (of_nat r) (bit_of_right W s j lW lj ∙ ap (bit_at W) e) in
+              let value : eval_tree rd (y j) ≡ of_nat r (bit_at W i) = h j lj ∙ ap (of_nat r) (bit_of_right W s j lW lj ∙ ap (bit_at W) e) in
               let f : (bit_at D i + (bit_at D i + bit_at S i) % 2) % 2 ≡ bit_at S i = omega (arith, bit_at-lt D i, bit_at-lt S i) in
               cc (hx i lt, value, bit_at_xor D S i, of_nat_add r L (bit_at D i) ((bit_at D i + bit_at S i) % 2), parity (bit_at D i + (bit_at D i + bit_at S i) % 2), f),
         )
@@ -268,8 +268,8 @@ module _ {A : Type 0} (r : Ring A) (L : RingLaws r) (two : r.add r.one r.one ≡
         moved_one : (a b c : A) → r.add a b ≡ c → b ≡ r.add c a
         moved_one a b c h = cc (double a, L.add_assoc a a b, L.add_comm a c, zero_add r L b, h)
 
-    pub half_means : HalfMeans r rd
-    unfolding half_trees half_a half_b half_c half_d
+    pub half_means : BinaryHalfMeans r rd
+    unfolding binary_half_trees half_a half_b half_c half_d
     half_means s t a b c d m k d' b' q x Q h hm =
         let S = half_a q x in
         let D = half_d s q x in
@@ -280,7 +280,7 @@ module _ {A : Type 0} (r : Ring A) (L : RingLaws r) (two : r.add r.one r.one ≡
         let two' = sum2_trees c d' (turned b b' t) in
         let first = sum3_means a b m k (turned d d' s) q.a q.b x h.a_bits h.b_bits hm in
         let d_is = turned_means d d' q.d S s Q.d_word lS h.d_bits in
-        let second = λ (hd : HaveValues r rd 32 d' (bit_at D)). sum2_means c d' (turned b b' t) q.c D h.c_bits hd in
+        let second = λ (hd : HaveNumbers r rd 32 d' (bit_at D)). sum2_means c d' (turned b b' t) q.c D h.c_bits hd in
         let b_is = turned_means b b' q.b C t Q.b_word lC h.b_bits in (
           λ v.
               let p = first.0 (all_left Zero one two' v) in

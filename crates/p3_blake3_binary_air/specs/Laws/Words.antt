@@ -2,14 +2,14 @@
 use Rattle.std.proofs.Common.{ℕ, zero, suc, ◌+◌, ◌^◌, ◌<◌, arith, lit<}
 use Rattle.std.specs.Prelude.{bit_xor}
 use Rattle.std.proofs.lemmas.Nat.{xor_lt, mod_below}
-use Rattle.p3_blake3.specs.Compress.{Quarter, word, half, half_a, half_b, half_c, half_d, State, Input, column_of, step_of, taken, first_state}
+use Rattle.p3_blake3.specs.Compress.{Quarter, word, half_quarter_round, half_a, half_b, half_c, half_d, State, Input, column_of, step_of_word, words_taken, first_state}
 use Rattle.p3_blake3.specs.TraceRow.{turn_of, d_turn, b_turn, message_of, half_round, state, AreWords}
 use Rattle.p3_blake3.specs.Laws.Schedule.{iv_below}
 use Rattle.p3_blake3.specs.Laws.Words.{right_below}
 use Rattle.p3_blake3_binary_air.specs.Meanings.{AreWords4}
 
 -- the words after half a step are words
-pub half_words : (s t : ℕ) (q : Quarter) (x : ℕ) → AreWords4 q → AreWords4 (half s t q x)
+pub half_words : (s t : ℕ) (q : Quarter) (x : ℕ) → AreWords4 q → AreWords4 (half_quarter_round s t q x)
 unfolding half_a half_b half_c half_d
 half_words s t q x Q =
     let S = half_a q x in
@@ -34,7 +34,7 @@ word_below q Q (suc zero) = Q.b_word
 word_below q Q (suc (suc zero)) = Q.c_word
 word_below q Q (suc (suc (suc n))) = Q.d_word
 
-pub taken_words : (t : ℕ) (v : State) (g : ℕ) → AreStateWords v → AreWords4 (taken t v g)
+pub taken_words : (t : ℕ) (v : State) (g : ℕ) → AreStateWords v → AreWords4 (words_taken t v g)
 taken_words t v g h = record {
   a_word = h 0 (column_of t 0 g) (omega arith);
   b_word = h 1 (column_of t 1 g) (omega arith);
@@ -50,10 +50,10 @@ first_words x w (suc (suc (suc n))) i h = w (24 + i) (omega (arith, h))
 
 half_round_words : (x : Input) (n : ℕ) (v : State) → AreStateWords v → AreStateWords (half_round x n v)
 half_round_words x n v h row i lt =
-    let g = step_of (turn_of n) row i in
-    let q = taken (turn_of n) v g in
+    let g = step_of_word (turn_of n) row i in
+    let q = words_taken (turn_of n) v g in
     let m = x (message_of n g) in
-    word_below (half (d_turn n) (b_turn n) q m) (half_words (d_turn n) (b_turn n) q m (taken_words (turn_of n) v g h)) row
+    word_below (half_quarter_round (d_turn n) (b_turn n) q m) (half_words (d_turn n) (b_turn n) q m (taken_words (turn_of n) v g h)) row
 
 pub state_words : (x : Input) → AreWords x → (n : ℕ) → AreStateWords (state x n)
 unfolding state

@@ -4,9 +4,9 @@ use Rattle.std.specs.Int.{IsPowerOfTwo}
 use Rattle.std.proofs.lemmas.Bool.{cases_eq}
 use Rattle.std.proofs.lemmas.Nat.{pow_pos, pow-add}
 use Rattle.p3_field.specs.Ring.{Ring}
-use Rattle.p3_field.specs.Poly.{val}
+use Rattle.p3_field.specs.Poly.{eval_poly}
 use Rattle.p3_field.specs.Domain.{coset_point}
-use Rattle.p3_field.specs.Laws.Tables.{length-table}
+use Rattle.p3_field.specs.Laws.Tabulate.{length-tabulate}
 use Rattle.p3_matrix.specs.Matrix.{Rows, height, column}
 use Rattle.p3_matrix.specs.Laws.Cells.{length-column}
 use Rattle.p3_dft.specs.Transform.{values_at}
@@ -32,5 +32,5 @@ code_shape r root m code rate p C =
     let size : height m * 2 ^ rate ≡ 2 ^ k = ap (λ n. n * 2 ^ rate) p.1 ∙ sym (pow-add 2 p.0 rate) in
     let column_is = C.column_is 0 k (width_positive m p) size in
     let high : height code ≡ 2 ^ k =
-    sym (length-column r.zero code 0) ∙ (ap length column_is ∙ length-table (2 ^ k) (λ i. val r (column r.zero m 0) (coset_point r r.one (root k) i))) in
+    sym (length-column r.zero code 0) ∙ (ap length column_is ∙ length-tabulate (2 ^ k) (λ i. eval_poly r (column r.zero m 0) (coset_point r r.one (root k) i))) in
     (C.width_is, high ∙ sym size)

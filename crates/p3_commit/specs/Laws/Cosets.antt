@@ -12,9 +12,9 @@ use Rattle.p3_field.specs.Laws.Order.{one_pow, pow_times}
 use Rattle.p3_field.specs.Laws.Roots.{field_no_zero_divisors}
 use Rattle.p3_field.specs.Laws.Coset.{HasOrder, two_adic_order, mul_cancel}
 use Rattle.p3_field.specs.Laws.Subcosets.{row_of_coset}
-use Rattle.p3_field.specs.Laws.Tables.{first_coset_point, next_coset_point}
+use Rattle.p3_field.specs.Laws.Tabulate.{first_coset_point, next_coset_point}
 use Rattle.p3_matrix.specs.Laws.Powers.{power_le_cancel}
-use Rattle.p3_commit.specs.Space.{AreDisjoint, IsOffered, IsOutside, IsPart}
+use Rattle.p3_commit.specs.Space.{AreDisjoint, IsOffered, IsGeneratorOutside, IsPart}
 
 pub point_after : {A : Type 0} (r : Ring A) (L : RingLaws r) (root : ℕ → A) (d : CosetData A) (i : ℕ) → point r root d (i + 1) ≡ r.mul (point r root d i) (root d.log_size)
 point_after r L root d i = sym (next_coset_point r L d.shift (root d.log_size) i)
@@ -79,7 +79,7 @@ module _ {A : Type 0} (r : Ring A) (L : RingLaws r) (inv : A → A) (W : FieldLa
 
   -- an offered coset is disjoint exactly where the generator lies outside of the larger subgroup
   pub disjoint_where_outside : (generator : A) (d e : CosetData A) (m : ℕ) → (d.shift ≡ r.zero → ⊥) → d.log_size ≤ top → e.log_size ≤ top → IsOffered r generator d m e
-      → AreDisjoint (2 ^ d.log_size) (point r root d) (2 ^ e.log_size) (point r root e) ↔ IsOutside r root generator d e
+      → AreDisjoint (2 ^ d.log_size) (point r root d) (2 ^ e.log_size) (point r root e) ↔ IsGeneratorOutside r root generator d e
   disjoint_where_outside generator d e m nz h k o =
       (λ apart i same. inside apart i same, λ outside i j a b same. meeting outside i j same)
     where
@@ -89,7 +89,7 @@ module _ {A : Type 0} (r : Ring A) (L : RingLaws r) (inv : A → A) (W : FieldLa
       order : HasOrder r (2 ^ max d.log_size e.log_size) (root (max d.log_size e.log_size))
       order = two_adic_order r L top root T (max d.log_size e.log_size) fits
 
-      meeting : IsOutside r root generator d e → (i j : ℕ) → point r root d i ≡ point r root e j → ⊥
+      meeting : IsGeneratorOutside r root generator d e → (i j : ℕ) → point r root d i ≡ point r root e j → ⊥
       meeting outside i j same =
           let M = max d.log_size e.log_size in
           let x = root M in

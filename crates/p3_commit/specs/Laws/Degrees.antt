@@ -7,38 +7,38 @@ use Rattle.std.proofs.lemmas.Nat.{pow-add, pow_pos}
 use Rattle.std.proofs.lemmas.Nat.Gcd.{le_of_dvd}
 use Rattle.p3_field.specs.Ring.{Ring, RingLaws, pow}
 use Rattle.p3_field.specs.Field.{FieldLaws, TwoAdicLaws}
-use Rattle.p3_field.specs.Poly.{val, Apart, DegreeBelow, coeff, quotient, raise}
-use Rattle.p3_field.specs.Domain.{CosetData, IsInterpolant, point, van, vanishing, first_selector, last_selector, transition_selector}
+use Rattle.p3_field.specs.Poly.{eval_poly, Apart, DegreeBelow, coeff, quotient, raise}
+use Rattle.p3_field.specs.Domain.{CosetData, IsInterpolant, point, vanishing_polynomial, binomial, first_selector, last_selector, transition_selector}
 use Rattle.p3_field.specs.Newton.{newton}
 use Rattle.p3_field.specs.Laws.Coeffs.{coeff_raise, coeff_raise_below, degree_cons, degree_length_le, degree_more, degree_raise, degree_scale}
 use Rattle.p3_field.specs.Laws.Division.{degree_quotient}
 use Rattle.p3_field.specs.Laws.Interpolants.{interpolant_exists, interpolant_unique, points_apart}
 use Rattle.p3_field.specs.Laws.Own.{own_hom}
 use Rattle.p3_field.specs.Laws.Roots.{field_no_zero_divisors}
-use Rattle.p3_field.specs.Laws.Vanishing.{degree_vanishing}
+use Rattle.p3_field.specs.Laws.Binomials.{degree_binomial}
 use Rattle.p3_matrix.specs.Laws.Powers.{power_le_cancel}
 use Rattle.p3_commit.specs.Periodic.{IsPeriod, over_rows}
-use Rattle.p3_commit.specs.Laws.Repeated.{length_over_rows, periods_points, power_not_zero, spread, spread_interpolates, val_spread}
+use Rattle.p3_commit.specs.Laws.Repeated.{length_over_rows, periods_points, power_not_zero, spread, spread_interpolates, eval_spread}
 
 module _ {A : Type 0} (r : Ring A) (L : RingLaws r) where
-  pub degree_van : (inv : A → A) (d : CosetData A) → DegreeBelow r (suc (2 ^ d.log_size)) (van r inv d)
-  unfolding van
-  degree_van inv d =
+  pub degree_vanishing_polynomial : (inv : A → A) (d : CosetData A) → DegreeBelow r (suc (2 ^ d.log_size)) (vanishing_polynomial r inv d)
+  unfolding vanishing_polynomial
+  degree_vanishing_polynomial inv d =
       let n = 2 ^ d.log_size in
-      degree_scale r L (suc n) (pow r (inv d.shift) n) (vanishing r n (pow r d.shift n)) (degree_vanishing r L n (pow r d.shift n))
+      degree_scale r L (suc n) (pow r (inv d.shift) n) (binomial r n (pow r d.shift n)) (degree_binomial r L n (pow r d.shift n))
 
   pub degree_first : (inv : A → A) (d : CosetData A) → DegreeBelow r (2 ^ d.log_size) (first_selector r inv d)
   unfolding first_selector
   degree_first inv d =
       let n = 2 ^ d.log_size in
-      degree_scale r L n d.shift (quotient r (van r inv d) d.shift) (degree_quotient r L n (van r inv d) d.shift (degree_van inv d))
+      degree_scale r L n d.shift (quotient r (vanishing_polynomial r inv d) d.shift) (degree_quotient r L n (vanishing_polynomial r inv d) d.shift (degree_vanishing_polynomial inv d))
 
   pub degree_last : (inv : A → A) (root : ℕ → A) (d : CosetData A) → DegreeBelow r (2 ^ d.log_size) (last_selector r inv root d)
   unfolding last_selector
   degree_last inv root d =
       let n = 2 ^ d.log_size in
       let p = r.mul d.shift (inv (root d.log_size)) in
-      degree_scale r L n d.shift (quotient r (van r inv d) p) (degree_quotient r L n (van r inv d) p (degree_van inv d))
+      degree_scale r L n d.shift (quotient r (vanishing_polynomial r inv d) p) (degree_quotient r L n (vanishing_polynomial r inv d) p (degree_vanishing_polynomial inv d))
 
   pub degree_transition : (inv : A → A) (root : ℕ → A) (d : CosetData A) → DegreeBelow r 2 (transition_selector r inv root d)
   unfolding transition_selector
@@ -97,13 +97,13 @@ module _ {A : Type 0} (r : Ring A) (L : RingLaws r) where
     -- so its value at x is the period's interpolant's at x^(2^a)
     pub repeated_value : (d : CosetData A) (k : ℕ) (column f g : List A) (x : A) → d.log_size ≤ top → (d.shift ≡ r.zero → ⊥)
         → length column ≡ 2 ^ k → k ≤ d.log_size → IsInterpolant r (point r root (period_domain d k (d.log_size - k))) column g
-        → IsInterpolant r (point r root d) (over_rows (2 ^ d.log_size) column) f → val r f x ≡ val r g (pow r x (2 ^ (d.log_size - k)))
+        → IsInterpolant r (point r root d) (over_rows (2 ^ d.log_size) column) f → eval_poly r f x ≡ eval_poly r g (pow r x (2 ^ (d.log_size - k)))
     repeated_value d k column f g x fits nz size less G I = stepped (2 ^ (d.log_size - k)) refl
       where
-        stepped : (m : ℕ) → m ≡ 2 ^ (d.log_size - k) → val r f x ≡ val r g (pow r x m)
+        stepped : (m : ℕ) → m ≡ 2 ^ (d.log_size - k) → eval_poly r f x ≡ eval_poly r g (pow r x m)
         stepped zero e = absurd (let p : 0 < 2 ^ (d.log_size - k) = pow_pos (d.log_size - k) in omega (arith, e, p))
         stepped (suc j) e =
-            ap (λ h. val r h x) (sym (spread_whole d k (d.log_size - k) j column f g fits nz (omega (arith, less)) e size G I)) ∙ val_spread r L j g x
+            ap (λ h. eval_poly r h x) (sym (spread_whole d k (d.log_size - k) j column f g fits nz (omega (arith, less)) e size G I)) ∙ eval_spread r L j g x
 
     -- and its degree at most the period's interpolant's times 2^a
     pub repeated_degree : (d : CosetData A) (column f : List A) → d.log_size ≤ top → (d.shift ≡ r.zero → ⊥)

@@ -30,7 +30,7 @@ product_cancel a b d p e = sym (mul-div_cancel a p) ∙ (ap (λ k. k / d) e ∙ 
 
 module _ {E F : Type 0} (d : ℕ) (parts : E → List F) (whole : List F → E) (V : VectorLaws d parts whole) where
   pub flat_height : (m : Rows E) → height (flat_rows parts d m) ≡ height m
-  flat_height m = height-pieces parts d V.parts_length V.positive m (flat_rows parts d m) refl refl
+  flat_height m = height-pieces parts d V.coefficients_length V.positive m (flat_rows parts d m) refl refl
 
   pub flat_heights : (ms : List (Rows E)) → map (λ m. height m) (map (flat_rows parts d) ms) ≡ map (λ m. height m) ms
   flat_heights [] = refl
@@ -52,7 +52,7 @@ module _ {E F : Type 0} (d : ℕ) (parts : E → List F) (whole : List F → E) 
   flat_rows_of : (most i : ℕ) (ms : List (Rows E)) → map (λ m. row_at m (row_in most (height m) i)) (map (flat_rows parts d) ms) ≡ map (flat_map parts) (map (λ m. row_at m (row_in most (height m) i)) ms)
   flat_rows_of most i [] = refl
   flat_rows_of most i (m ∷ ms) =
-      let at = row_at-pieces parts d V.parts_length m (flat_rows parts d m) (row_in most (height m) i) refl refl in
+      let at = row_at-pieces parts d V.coefficients_length m (flat_rows parts d m) (row_in most (height m) i) refl refl in
       let same = ap (λ h. row_at (flat_rows parts d m) (row_in most h i)) (flat_height m) in
       cc (same ∙ at, flat_rows_of most i ms)
 
@@ -71,7 +71,7 @@ module _ {E F : Type 0} (d : ℕ) (parts : E → List F) (whole : List F → E) 
   divisible (v ∷ vs) (r ∷ rows) e =
       let a : v.items ≡ flat_map parts r = cc in
       let b : lists vs ≡ map (flat_map parts) rows = cc in
-      let n : length v.items ≡ length r * d = ap length a ∙ length-pieces parts d V.parts_length r in
+      let n : length v.items ≡ length r * d = ap length a ∙ length-pieces parts d V.coefficients_length r in
       All-cons (λ v. length v.items % d ≡ 0) v vs (ap (λ k. k % d) n ∙ mul-mod_left (length r) d) (divisible vs rows b)
 
   pub flat_widths : (ds : List Dimensions) (rows : List (List E)) → HaveWidths (map (widened d) ds) (map (flat_map parts) rows) → HaveWidths ds rows
@@ -81,7 +81,7 @@ module _ {E F : Type 0} (d : ℕ) (parts : E → List F) (whole : List F → E) 
         let a = slice_get-map (flat_map parts) rows i ∙ ap (option_map (flat_map parts)) e in
         let b = slice_get-map (widened d) ds i ∙ ap (option_map (widened d)) k in
         let same = h.each i (flat_map parts row) a (widened d s) b in
-        product_cancel (length row) s.width d V.positive (sym (length-pieces parts d V.parts_length row) ∙ same);
+        product_cancel (length row) s.width d V.positive (sym (length-pieces parts d V.coefficients_length row) ∙ same);
   }
 
   pub flat_widths_each : (ds : List Dimensions) (rows : List (List (List E))) → All (HaveWidths (map (widened d) ds)) (map (map (flat_map parts)) rows) → All (HaveWidths ds) rows

@@ -11,11 +11,11 @@ single (x ∷ y ∷ zs) e = absurd (omega arith)
 pub same_one : {X : Type 0} (x y : X) → x ∷ [] ≡ y ∷ [] → x ≡ y
 same_one x y e = cc
 
--- a list behind a map
-pub one_behind : {X Y : Type 0} (f : X → Y) (xs : List X) (y : Y) → map f xs ≡ y ∷ [] → (x : X) × (xs ≡ x ∷ [])
-one_behind f [] y e = cc
-one_behind f (x ∷ []) y e = (x, refl)
-one_behind f (x ∷ z ∷ zs) y e = cc
+-- a list after a map
+pub one_after : {X Y : Type 0} (f : X → Y) (xs : List X) (y : Y) → map f xs ≡ y ∷ [] → (x : X) × (xs ≡ x ∷ [])
+one_after f [] y e = cc
+one_after f (x ∷ []) y e = (x, refl)
+one_after f (x ∷ z ∷ zs) y e = cc
 
 -- what is mapped, where there is one item
 pub the_one : {X Y : Type 0} (f : X → Y) (xs : List X) (x : X) (y : Y) → map f xs ≡ y ∷ [] → xs ≡ x ∷ [] → f x ≡ y

@@ -8,9 +8,9 @@ use Rattle.std.proofs.lemmas.List.{length-append, get_or_append_left}
 use Rattle.std.proofs.Math.Seq.{get_or-append_right}
 use Rattle.p3_field.specs.Ring.{Ring, RingLaws, pow}
 use Rattle.p3_field.specs.Field.{RingHom, TwoAdicLaws}
-use Rattle.p3_field.specs.Poly.{val, raise}
+use Rattle.p3_field.specs.Poly.{eval_poly, raise}
 use Rattle.p3_field.specs.Domain.{CosetData, IsInterpolant, coset_point, point}
-use Rattle.p3_field.specs.Laws.Values.{val_raise}
+use Rattle.p3_field.specs.Laws.Values.{eval_raise}
 use Rattle.p3_field.specs.Laws.Extended.{map_raise}
 use Rattle.p3_field.specs.Laws.Roots.{NoZeroDivisors}
 use Rattle.p3_field.specs.Laws.Coset.{two_adic_order}
@@ -65,12 +65,12 @@ module _ {A : Type 0} (r : Ring A) (L : RingLaws r) where
   length_spread j [] = omega arith
   length_spread j (c ∷ cs) = omega (arith, length_raise j (spread r j cs), length_spread j cs)
 
-  pub val_spread : (j : ℕ) (g : List A) (x : A) → val r (spread r j g) x ≡ val r g (pow r x (suc j))
+  pub eval_spread : (j : ℕ) (g : List A) (x : A) → eval_poly r (spread r j g) x ≡ eval_poly r g (pow r x (suc j))
   unfolding pow
-  val_spread j [] x = refl
-  val_spread j (c ∷ cs) x =
-      let G = val r cs (pow r x (suc j)) in
-      ap (λ v. r.add c (r.mul x v)) (val_raise r L j (spread r j cs) x ∙ ap (r.mul (pow r x j)) (val_spread j cs x))
+  eval_spread j [] x = refl
+  eval_spread j (c ∷ cs) x =
+      let G = eval_poly r cs (pow r x (suc j)) in
+      ap (λ v. r.add c (r.mul x v)) (eval_raise r L j (spread r j cs) x ∙ ap (r.mul (pow r x j)) (eval_spread j cs x))
       ∙ ap (r.add c) (sym (L.mul_assoc x (pow r x j) G))
 
   -- where the m-th powers of the points go round the period's points, the whole's interpolant is that of the period in X^m
@@ -83,7 +83,7 @@ module _ {A : Type 0} (r : Ring A) (L : RingLaws r) where
         value_is = λ i h.
             let below : i < n = omega (arith, long) in
             let inside : i % length column < length column = omega arith in
-            val_spread j g (p i) ∙ (ap (val r g) (round i below) ∙ (G.value_is (i % length column) inside
+            eval_spread j g (p i) ∙ (ap (eval_poly r g) (round i below) ∙ (G.value_is (i % length column) inside
             ∙ sym (get_or_over_rows n (suc j) column i r.zero e pos below)));
       }
 
@@ -102,7 +102,7 @@ module _ {A B : Type 0} (r : Ring A) (L : RingLaws r) (s : Ring B) (M : RingLaws
       record {
         interpolant = spread r j g;
         interpolates = spread_interpolates r L p q n j column g e pos round I.interpolates;
-        value_is = I.value_is ∙ sym (ap (λ l. val s l x) (map_spread j g) ∙ val_spread s M j (map f g) x);
+        value_is = I.value_is ∙ sym (ap (λ l. eval_poly s l x) (map_spread j g) ∙ eval_spread s M j (map f g) x);
       }
 
   module _ (top : ℕ) (root : ℕ → A) (T : TwoAdicLaws r top root) where

@@ -1,13 +1,13 @@
 -- The step of the radix-2 transform, on lists of values.
 use Rattle.std.proofs.Common.{◌≡◌, ◌≢◌, ℕ, zero, suc, ◌+◌, ◌%◌, ◌^◌, ◌≤◌, List, [], ◌∷◌, ◌++◌, length, get_or, refl, sym, ◌∙◌, ap, arith}
 use Rattle.p3_field.specs.Ring.{Ring, RingLaws, pow, sub}
-use Rattle.p3_field.specs.Poly.{val, table, even_part, odd_part}
+use Rattle.p3_field.specs.Poly.{eval_poly, tabulate, even_part, odd_part}
 use Rattle.p3_field.specs.Domain.{coset_point}
 use Rattle.p3_field.specs.Laws.Algebra.{pow_square}
 use Rattle.p3_field.specs.Laws.Coset.{double_power}
 use Rattle.p3_field.specs.Laws.Subcosets.{butterfly_first, butterfly_second}
 use Rattle.p3_dft.specs.Transform.{values_at, TurnsIn, butterflies}
-use Rattle.p3_field.specs.Laws.Tables.{table_same, table-append}
+use Rattle.p3_field.specs.Laws.Tabulate.{tabulate_same, tabulate-append}
 use Rattle.p3_dft.specs.Laws.Values.{length-values_at, get_or-values_at}
 
 -- one coefficient more
@@ -60,15 +60,15 @@ module _ {A : Type 0} (r : Ring A) (L : RingLaws r) where
       let q : ℕ → A = coset_point r (r.mul s s) (r.mul h h) in
       let e = values_at r q m (even_part f) in
       let o = values_at r q m (odd_part f) in
-      let v : ℕ → A = λ i. val r f (coset_point r s h i) in
+      let v : ℕ → A = λ i. eval_poly r f (coset_point r s h i) in
       let len : length e ≡ m = length-values_at r q m (even_part f) in
-      let first : table m (λ i. r.add (get_or e i r.zero) (r.mul (coset_point r s h i) (get_or o i r.zero))) ≡ table m v =
-      table_same m (λ i. r.add (get_or e i r.zero) (r.mul (coset_point r s h i) (get_or o i r.zero))) v
+      let first : tabulate m (λ i. r.add (get_or e i r.zero) (r.mul (coset_point r s h i) (get_or o i r.zero))) ≡ tabulate m v =
+      tabulate_same m (λ i. r.add (get_or e i r.zero) (r.mul (coset_point r s h i) (get_or o i r.zero))) v
       (λ i b. cc (get_or-values_at r q m (even_part f) i r.zero b, get_or-values_at r q m (odd_part f) i r.zero b, butterfly_first r L f s h i)) in
-      let second : table m (λ i. sub r (get_or e i r.zero) (r.mul (coset_point r s h i) (get_or o i r.zero))) ≡ table m (λ i. v (m + i)) =
-      table_same m (λ i. sub r (get_or e i r.zero) (r.mul (coset_point r s h i) (get_or o i r.zero))) (λ i. v (m + i))
+      let second : tabulate m (λ i. sub r (get_or e i r.zero) (r.mul (coset_point r s h i) (get_or o i r.zero))) ≡ tabulate m (λ i. v (m + i)) =
+      tabulate_same m (λ i. sub r (get_or e i r.zero) (r.mul (coset_point r s h i) (get_or o i r.zero))) (λ i. v (m + i))
       (λ i b. let w : i + m ≡ m + i = omega arith in
       cc (get_or-values_at r q m (even_part f) i r.zero b, get_or-values_at r q m (odd_part f) i r.zero b, butterfly_second r L f s h m i (t k refl), ap v w)) in
-      let both : table m v ++ table m (λ i. v (m + i)) ≡ table (2 ^ suc k) v = sym (table-append m m v) ∙ ap (λ n. table n v) (sym (double_power k)) in
-      ap (λ n. table n (λ i. r.add (get_or e i r.zero) (r.mul (coset_point r s h i) (get_or o i r.zero))) ++ table n (λ i. sub r (get_or e i r.zero) (r.mul (coset_point r s h i) (get_or o i r.zero)))) len
+      let both : tabulate m v ++ tabulate m (λ i. v (m + i)) ≡ tabulate (2 ^ suc k) v = sym (tabulate-append m m v) ∙ ap (λ n. tabulate n v) (sym (double_power k)) in
+      ap (λ n. tabulate n (λ i. r.add (get_or e i r.zero) (r.mul (coset_point r s h i) (get_or o i r.zero))) ++ tabulate n (λ i. sub r (get_or e i r.zero) (r.mul (coset_point r s h i) (get_or o i r.zero)))) len
       ∙ (cc (first, second) ∙ both)

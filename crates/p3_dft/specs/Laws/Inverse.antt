@@ -3,11 +3,11 @@ use Rattle.std.proofs.Common.{◌≡◌, ℕ, zero, suc, ◌+◌, ◌^◌, ◌�
 use Rattle.std.proofs.lemmas.Nat.{pow_pos}
 use Rattle.p3_field.specs.Ring.{Ring, RingLaws, pow, of_nat}
 use Rattle.p3_field.specs.Field.{FieldLaws, TwoAdicLaws}
-use Rattle.p3_field.specs.Poly.{val, table, total}
+use Rattle.p3_field.specs.Poly.{eval_poly, tabulate, total}
 use Rattle.p3_field.specs.Domain.{coset_point, IsInterpolant}
 use Rattle.p3_field.specs.Laws.Algebra.{one_mul, neg_mul, neg_neg}
 use Rattle.p3_field.specs.Laws.Order.{one_pow}
-use Rattle.p3_field.specs.Laws.Sums.{total_same, val_table}
+use Rattle.p3_field.specs.Laws.Sums.{total_same, eval_tabulate}
 use Rattle.p3_field.specs.Laws.Roots.{field_no_zero_divisors}
 use Rattle.p3_field.specs.Laws.Coset.{HasOrder, two_adic_order, pow_mul, double_power}
 use Rattle.p3_field.specs.Laws.Subcosets.{order_half}
@@ -15,22 +15,22 @@ use Rattle.p3_field.specs.Laws.Transform.{pow_swap, inverse_coeff, inverse_trans
 use Rattle.p3_field.specs.Laws.TwoAdic.{coset_interpolant_value}
 use Rattle.p3_field.specs.Laws.Inverses.{root_inverts}
 use Rattle.p3_dft.specs.Transform.{values_at, TurnsIn, weighted}
-use Rattle.p3_field.specs.Laws.Tables.{length-table, table_same, table_of_items}
+use Rattle.p3_field.specs.Laws.Tabulate.{length-tabulate, tabulate_same, tabulate_items}
 use Rattle.p3_dft.specs.Laws.Values.{length-values_at, get_or-values_at}
 
 module _ {A : Type 0} (r : Ring A) (L : RingLaws r) where
   -- the inverse transform's coefficient j is the weighed value of the polynomial with coefficients v at g^j
   coefficient_as_value : (n : ℕ) (m t g : A) (v : List A) (j : ℕ) → length v ≡ n
-      → r.mul (val r v (coset_point r r.one g j)) (coset_point r m t j) ≡ inverse_coeff r n m t g (λ i. get_or v i r.zero) j
+      → r.mul (eval_poly r v (coset_point r r.one g j)) (coset_point r m t j) ≡ inverse_coeff r n m t g (λ i. get_or v i r.zero) j
   coefficient_as_value n m t g v j e =
       let x : ℕ → A = λ i. get_or v i r.zero in
       let X = pow r g j in let T = pow r t j in
       let point : coset_point r r.one g j ≡ X = one_mul r L X in
-      let sum : val r v X ≡ total r n (λ i. r.mul (x i) (pow r X i)) = ap (λ l. val r l X) (table_of_items r.zero v n e) ∙ val_table r L n x X in
+      let sum : eval_poly r v X ≡ total r n (λ i. r.mul (x i) (pow r X i)) = ap (λ l. eval_poly r l X) (tabulate_items r.zero v n e) ∙ eval_tabulate r L n x X in
       let S = total r n (λ i. r.mul (x i) (pow r (pow r g i) j)) in
       let turned : total r n (λ i. r.mul (x i) (pow r X i)) ≡ S =
       total_same r L n (λ i. r.mul (x i) (pow r X i)) (λ i. r.mul (x i) (pow r (pow r g i) j)) (λ i h. ap (r.mul (x i)) (pow_swap r L g j i)) in
-      cc (ap (val r v) point, sum, turned, L.mul_comm S (r.mul m T), L.mul_assoc m T S)
+      cc (ap (eval_poly r v) point, sum, turned, L.mul_comm S (r.mul m T), L.mul_assoc m T S)
 
   pub weighted_values : (n : ℕ) (m t g : A) (v : List A) → length v ≡ n
       → weighted r m t (values_at r (coset_point r r.one g) n v) ≡ inverse_transform r n m t g (λ i. get_or v i r.zero)
@@ -38,8 +38,8 @@ module _ {A : Type 0} (r : Ring A) (L : RingLaws r) where
   weighted_values n m t g v e =
       let p : ℕ → A = coset_point r r.one g in
       let w = values_at r p n v in
-      ap (λ k. table k (λ j. r.mul (get_or w j r.zero) (coset_point r m t j))) (length-values_at r p n v)
-      ∙ table_same n (λ j. r.mul (get_or w j r.zero) (coset_point r m t j)) (inverse_coeff r n m t g (λ i. get_or v i r.zero))
+      ap (λ k. tabulate k (λ j. r.mul (get_or w j r.zero) (coset_point r m t j))) (length-values_at r p n v)
+      ∙ tabulate_same n (λ j. r.mul (get_or w j r.zero) (coset_point r m t j)) (inverse_coeff r n m t g (λ i. get_or v i r.zero))
       (λ j h. ap (λ y. r.mul y (coset_point r m t j)) (get_or-values_at r p n v j r.zero h) ∙ coefficient_as_value n m t g v j e)
 
   module _ (inv : A → A) (W : FieldLaws r inv) (top : ℕ) (gen : ℕ → A) (T : TwoAdicLaws r top gen) where
@@ -73,6 +73,6 @@ module _ {A : Type 0} (r : Ring A) (L : RingLaws r) where
         let x : ℕ → A = λ i. get_or v i r.zero in
         let is : f ≡ inverse_transform r n m t g x = d ∙ weighted_values n m t g v e in
         record {
-          length_is = ap length is ∙ (length-table n (inverse_coeff r n m t g x) ∙ sym e);
-          value_is = λ i b. ap (λ l. val r l (coset_point r s (gen k) i)) is ∙ coset_interpolant_value r L inv W top gen T k s h nz x i (omega arith);
+          length_is = ap length is ∙ (length-tabulate n (inverse_coeff r n m t g x) ∙ sym e);
+          value_is = λ i b. ap (λ l. eval_poly r l (coset_point r s (gen k) i)) is ∙ coset_interpolant_value r L inv W top gen T k s h nz x i (omega arith);
         }

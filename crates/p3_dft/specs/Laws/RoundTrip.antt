@@ -9,7 +9,7 @@ use Rattle.p3_field.specs.Domain.{coset_point, IsInterpolant}
 use Rattle.p3_field.specs.Laws.Interpolants.{interpolant_unique, points_apart}
 use Rattle.p3_matrix.specs.Matrix.{Rows, FillsRows, height, column}
 use Rattle.p3_matrix.specs.Laws.Cells.{length-column, same_matrix}
-use Rattle.p3_dft.specs.Transform.{values_at, HasValuesOf, HasCoefficientsOf}
+use Rattle.p3_dft.specs.Transform.{values_at, IsTransformOf, IsInverseTransformOf}
 use Rattle.p3_dft.specs.Laws.Values.{length-values_at, get_or-values_at}
 
 -- a matrix with rows has columns
@@ -26,12 +26,12 @@ module _ {A : Type 0} (r : Ring A) (root : ℕ → A) where
   same_height m w k size columns =
       sym (length-column r.zero w 0) ∙ (ap length (columns 0 (positive_width m.values m.width k size)) ∙ length-column r.zero m 0)
 
-  values_height : (m v : Rows A) (k : ℕ) → height m ≡ 2 ^ k → HasValuesOf r root m v → (j : ℕ) → j < m.width → height v ≡ 2 ^ k
+  values_height : (m v : Rows A) (k : ℕ) → height m ≡ 2 ^ k → IsTransformOf r root m v → (j : ℕ) → j < m.width → height v ≡ 2 ^ k
   values_height m v k size V j b =
       sym (length-column r.zero v j) ∙ (ap length (V.column_is j k b size) ∙ length-values_at r (points k) (2 ^ k) (column r.zero m j))
 
   -- from values to coefficients and back: the columns are those of the beginning
-  pub values_of_coefficients_by_columns : (m w v : Rows A) (k : ℕ) → height m ≡ 2 ^ k → HasCoefficientsOf r root m w → HasValuesOf r root w v
+  pub values_of_coefficients_by_columns : (m w v : Rows A) (k : ℕ) → height m ≡ 2 ^ k → IsInverseTransformOf r root m w → IsTransformOf r root w v
       → (j : ℕ) → j < m.width → column r.zero v j ≡ column r.zero m j
   values_of_coefficients_by_columns m w v k size C V j b =
       let f = column r.zero w j in
@@ -45,14 +45,14 @@ module _ {A : Type 0} (r : Ring A) (root : ℕ → A) where
 
   -- and so is the matrix
   pub values_of_coefficients : (m w v : Rows A) (k : ℕ) → height m ≡ 2 ^ k → FillsRows m.values m.width → FillsRows v.values v.width
-      → HasCoefficientsOf r root m w → HasValuesOf r root w v → v ≡ m
+      → IsInverseTransformOf r root m w → IsTransformOf r root w v → v ≡ m
   values_of_coefficients m w v k size fills filled C V =
       let columns = values_of_coefficients_by_columns m w v k size C V in
       same_matrix r.zero m v fills filled (V.width_is ∙ C.width_is) (same_height m v k size columns) columns
 
   module _ (L : RingLaws r) (inv : A → A) (W : FieldLaws r inv) (top : ℕ) (T : TwoAdicLaws r top root) where
     -- from coefficients to values and back: the columns are those of the beginning
-    pub coefficients_of_values_by_columns : (m v w : Rows A) (k : ℕ) → k ≤ top → height m ≡ 2 ^ k → HasValuesOf r root m v → HasCoefficientsOf r root v w
+    pub coefficients_of_values_by_columns : (m v w : Rows A) (k : ℕ) → k ≤ top → height m ≡ 2 ^ k → IsTransformOf r root m v → IsInverseTransformOf r root v w
         → (j : ℕ) → j < m.width → column r.zero w j ≡ column r.zero m j
     coefficients_of_values_by_columns m v w k fits size V C j b =
         let tall = values_height m v k size V j b in
@@ -68,7 +68,7 @@ module _ {A : Type 0} (r : Ring A) (root : ℕ → A) where
 
     -- and so is the matrix
     pub coefficients_of_values : (m v w : Rows A) (k : ℕ) → k ≤ top → height m ≡ 2 ^ k → FillsRows m.values m.width → FillsRows w.values w.width
-        → HasValuesOf r root m v → HasCoefficientsOf r root v w → w ≡ m
+        → IsTransformOf r root m v → IsInverseTransformOf r root v w → w ≡ m
     coefficients_of_values m v w k fits size fills filled V C =
         let columns = coefficients_of_values_by_columns m v w k fits size V C in
         same_matrix r.zero m w fills filled (C.width_is ∙ V.width_is) (same_height m w k size columns) columns

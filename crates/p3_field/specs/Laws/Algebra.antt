@@ -2,7 +2,7 @@
 use Rattle.std.proofs.Common.{◌≡◌, ◌≢◌, ℕ, zero, suc, ◌+◌, ◌*◌, ◌/◌, ◌%◌, ◌^◌, ◌<◌, List, ◌∷◌, length, get_or, drop, sym, ◌∙◌, ap, arith, add-one, drop-cons}
 use Rattle.std.proofs.Math.Nat.{pow-suc}
 use Rattle.p3_field.specs.Ring.{Ring, RingLaws, pow, of_nat}
-use Rattle.p3_field.specs.Poly.{val}
+use Rattle.p3_field.specs.Poly.{eval_poly}
 
 module _ {A : Type 0} (r : Ring A) (L : RingLaws r) where
   pub zero_add : (x : A) → r.add r.zero x ≡ x
@@ -109,11 +109,11 @@ module _ {A : Type 0} (r : Ring A) (L : RingLaws r) where
   unfolding pow
   pow_one x = L.mul_one x
 
-  pub horner_step : (cs : List A) (i : ℕ) (x c sum : A) → i < length cs → c ≡ get_or cs i c → sum ≡ val r (drop (i + 1) cs) x
-      → r.add (r.mul sum x) c ≡ val r (drop i cs) x
+  pub horner_step : (cs : List A) (i : ℕ) (x c sum : A) → i < length cs → c ≡ get_or cs i c → sum ≡ eval_poly r (drop (i + 1) cs) x
+      → r.add (r.mul sum x) c ≡ eval_poly r (drop i cs) x
   horner_step cs i x c sum h e f =
       let d : drop i cs ≡ c ∷ drop (i + 1) cs = rw add-one (drop-cons cs i c h ∙ ap (λ v. v ∷ drop (suc i) cs) (sym e)) in
-      let k : val r (drop i cs) x ≡ r.add c (r.mul x (val r (drop (i + 1) cs) x)) = ap (λ l. val r l x) d in
+      let k : eval_poly r (drop i cs) x ≡ r.add c (r.mul x (eval_poly r (drop (i + 1) cs) x)) = ap (λ l. eval_poly r l x) d in
       cc (k, f, L.add_comm (r.mul sum x) c, L.mul_comm sum x)
 
 -- where one and one is zero, each value twice is

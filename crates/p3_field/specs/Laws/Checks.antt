@@ -1,4 +1,4 @@
--- Checks behind each other, the checks of several things in turn, and that exactly one refusal is the first where a check fails.
+-- Checks one after another, the checks of several things in turn, and that exactly one refusal is the first where a check fails.
 use Rattle.std.proofs.Common.{◌≡◌, ℕ, zero, suc, ◌+◌, ◌<◌, ◌↔◌, List, [], ◌∷◌, ◌++◌, Option, None, Some, refl, sym, ◌∙◌, ap, subst, inl, inr, arith, add-one}
 use Rattle.std.specs.Prelude.{slice_get, ◌⊎◌}
 use Rattle.std.proofs.lemmas.Bool.{cases_lt}
@@ -8,7 +8,7 @@ pub none_single : (R : Type 0) → AreSingle {R = R} []
 unfolding AreSingle
 none_single R = tt
 
--- lists of checks behind each other
+-- lists of checks one after another
 module _ {R : Type 0} where
   pub none_append : (xs ys : List (Check R)) → NoneFails xs → NoneFails ys → NoneFails (xs ++ ys)
   unfolding NoneFails
@@ -20,18 +20,18 @@ module _ {R : Type 0} where
   none_before [] ys h = tt
   none_before (x ∷ xs) ys h = (h.0, none_before xs ys h.1)
 
-  pub none_behind : (xs ys : List (Check R)) → NoneFails (xs ++ ys) → NoneFails ys
+  pub none_after : (xs ys : List (Check R)) → NoneFails (xs ++ ys) → NoneFails ys
   unfolding NoneFails
-  none_behind [] ys h = h
-  none_behind (x ∷ xs) ys h = none_behind xs ys h.1
+  none_after [] ys h = h
+  none_after (x ∷ xs) ys h = none_after xs ys h.1
 
-  -- what comes behind a failing check isn't looked at
+  -- what comes after a failing check isn't looked at
   pub first_stops : (xs ys : List (Check R)) (e : R) → FirstFails xs e → FirstFails (xs ++ ys) e
   unfolding FirstFails
   first_stops [] ys e f = absurd f
   first_stops (x ∷ xs) ys e f = elim f [ inl t ↦ inl (t.0, first_stops xs ys e t.1) | inr t ↦ inr t ]
 
-  -- where no check fails, those behind decide
+  -- where no check fails, those after these decide
   pub first_after : (xs ys : List (Check R)) (e : R) → NoneFails xs → FirstFails ys e → FirstFails (xs ++ ys) e
   unfolding NoneFails FirstFails
   first_after [] ys e f g = g
@@ -142,7 +142,7 @@ module _ {R : Type 0} where
   none_at f zero i b h = absurd (omega arith)
   none_at f (suc n) i b h = elim (cases_lt i n) [
     | inl l ↦ none_at f n i l (none_before (in_turn n f) (f n) h)
-    | inr q ↦ let e : n ≡ i = omega arith in subst (λ m. NoneFails (f m)) e (none_behind (in_turn n f) (f n) h)
+    | inr q ↦ let e : n ≡ i = omega arith in subst (λ m. NoneFails (f m)) e (none_after (in_turn n f) (f n) h)
   ]
 
   -- some first don't fail, and the next is refused
@@ -182,7 +182,7 @@ module _ {X R : Type 0} where
   none_at_item f (y ∷ xs) zero x q h =
       let same : y ≡ x = cc in
       subst (λ z. NoneFails (f zero z)) same (none_before (f zero y) (of_items (λ j. f (suc j)) xs) h)
-  none_at_item f (y ∷ xs) (suc i) x q h = none_at_item (λ j. f (suc j)) xs i x q (none_behind (f zero y) (of_items (λ j. f (suc j)) xs) h)
+  none_at_item f (y ∷ xs) (suc i) x q h = none_at_item (λ j. f (suc j)) xs i x q (none_after (f zero y) (of_items (λ j. f (suc j)) xs) h)
 
   pub first_of_items : (f : ℕ → X → List (Check R)) (xs : List X) (i : ℕ) (x : X) (e : R) → slice_get xs i ≡ Some x
       → ((j : ℕ) (y : X) → j < i → slice_get xs j ≡ Some y → NoneFails (f j y)) → FirstFails (f i x) e → FirstFails (of_items f xs) e

@@ -3,13 +3,13 @@ use Rattle.std.proofs.Common.{◌≡◌, ◌≢◌, ℕ, zero, suc, ◌+◌, ◌
 use Rattle.std.proofs.Math.Nat.{div-lt_iff_lt-mul, div-add-mod}
 use Rattle.std.proofs.lemmas.Bool.{cases_eq, cases_lt}
 use Rattle.p3_field.specs.Ring.{Ring, RingLaws, pow, sub}
-use Rattle.p3_field.specs.Poly.{val, DegreeBelow, SamePoly, Apart, add_poly, scale_poly, mul_poly, raise, total}
+use Rattle.p3_field.specs.Poly.{eval_poly, DegreeBelow, SamePoly, Apart, add_poly, scale_poly, mul_poly, raise, total}
 use Rattle.p3_field.specs.Laws.Algebra.{one_mul, mul_zero, zero_mul}
 use Rattle.p3_field.specs.Laws.Coeffs.{degree_add, degree_sub, degree_scale, degree_mul, degree_more, degree_raise, degree_length}
-use Rattle.p3_field.specs.Laws.Values.{val_add, val_scale, val_mul}
+use Rattle.p3_field.specs.Laws.Values.{eval_add, eval_scale, eval_mul}
 use Rattle.p3_field.specs.Laws.Sums.{total_only, total_same}
 use Rattle.p3_field.specs.Laws.Roots.{NoZeroDivisors, sub_self, same_values}
-use Rattle.p3_field.specs.Laws.Vanishing.{times_vanishing, val_times_vanishing}
+use Rattle.p3_field.specs.Laws.Binomials.{times_binomial, eval_times_binomial}
 
 -- (y - c 0) .. (y - c (m - 1))
 abbrev pub factors : {A : Type 0} → Ring A → ℕ → (ℕ → A) → A → A
@@ -23,7 +23,7 @@ others r k j c y = r.mul (factors r j c y) (factors r (k - suc j) (λ l. c (suc 
 -- these at y = X^n
 abbrev pub factors_poly : {A : Type 0} → Ring A → ℕ → ℕ → (ℕ → A) → List A
 factors_poly r n zero c = r.one ∷ []
-factors_poly r n (suc m) c = times_vanishing r n (c m) (factors_poly r n m c)
+factors_poly r n (suc m) c = times_binomial r n (c m) (factors_poly r n m c)
 
 abbrev pub others_poly : {A : Type 0} → Ring A → ℕ → ℕ → ℕ → (ℕ → A) → List A
 others_poly r n k j c = mul_poly r (factors_poly r n j c) (factors_poly r n (k - suc j) (λ l. c (suc j + l)))
@@ -41,24 +41,24 @@ abbrev row_point : {A : Type 0} → ℕ → (ℕ → ℕ → A) → ℕ → A
 row_point n p m = p (m / n) (m % n)
 
 module _ {A : Type 0} (r : Ring A) (L : RingLaws r) where
-  pub val_sum_polys : (k : ℕ) (t : ℕ → List A) (x : A) → val r (sum_polys r k t) x ≡ total r k (λ j. val r (t j) x)
-  val_sum_polys zero t x = refl
-  val_sum_polys (suc k) t x = val_add r L (t zero) (sum_polys r k (λ j. t (suc j))) x ∙ ap (r.add (val r (t zero) x)) (val_sum_polys k (λ j. t (suc j)) x)
+  pub eval_sum_polys : (k : ℕ) (t : ℕ → List A) (x : A) → eval_poly r (sum_polys r k t) x ≡ total r k (λ j. eval_poly r (t j) x)
+  eval_sum_polys zero t x = refl
+  eval_sum_polys (suc k) t x = eval_add r L (t zero) (sum_polys r k (λ j. t (suc j))) x ∙ ap (r.add (eval_poly r (t zero) x)) (eval_sum_polys k (λ j. t (suc j)) x)
 
   pub degree_sum_polys : (k n : ℕ) (t : ℕ → List A) → ((j : ℕ) → j < k → DegreeBelow r n (t j)) → DegreeBelow r n (sum_polys r k t)
   degree_sum_polys zero n t d = λ i h. refl
   degree_sum_polys (suc k) n t d =
       degree_add r L n (t zero) (sum_polys r k (λ j. t (suc j))) (d zero (omega arith)) (degree_sum_polys k n (λ j. t (suc j)) (λ j h. d (suc j) (omega arith)))
 
-  val_factors_poly : (n m : ℕ) (c : ℕ → A) (x : A) → val r (factors_poly r n m c) x ≡ factors r m c (pow r x n)
-  val_factors_poly n zero c x = cc (mul_zero r L x, L.add_zero r.one)
-  val_factors_poly n (suc m) c x =
-      val_times_vanishing r L n (c m) (factors_poly r n m c) x ∙ ap (r.mul (sub r (pow r x n) (c m))) (val_factors_poly n m c x)
+  eval_factors_poly : (n m : ℕ) (c : ℕ → A) (x : A) → eval_poly r (factors_poly r n m c) x ≡ factors r m c (pow r x n)
+  eval_factors_poly n zero c x = cc (mul_zero r L x, L.add_zero r.one)
+  eval_factors_poly n (suc m) c x =
+      eval_times_binomial r L n (c m) (factors_poly r n m c) x ∙ ap (r.mul (sub r (pow r x n) (c m))) (eval_factors_poly n m c x)
 
-  val_others_poly : (n k j : ℕ) (c : ℕ → A) (x : A) → val r (others_poly r n k j c) x ≡ others r k j c (pow r x n)
-  val_others_poly n k j c x =
+  eval_others_poly : (n k j : ℕ) (c : ℕ → A) (x : A) → eval_poly r (others_poly r n k j c) x ≡ others r k j c (pow r x n)
+  eval_others_poly n k j c x =
       let d : ℕ → A = λ l. c (suc j + l) in
-      val_mul r L (factors_poly r n j c) (factors_poly r n (k - suc j) d) x ∙ cc (val_factors_poly n j c x, val_factors_poly n (k - suc j) d x)
+      eval_mul r L (factors_poly r n j c) (factors_poly r n (k - suc j) d) x ∙ cc (eval_factors_poly n j c x, eval_factors_poly n (k - suc j) d x)
 
   degree_factors_poly : (n m : ℕ) (c : ℕ → A) → DegreeBelow r (suc (m * n)) (factors_poly r n m c)
   degree_factors_poly n zero c = degree_more r L 1 (suc (zero * n)) (r.one ∷ []) (omega arith) (degree_length r L (r.one ∷ []))
@@ -100,20 +100,20 @@ module _ {A : Type 0} (r : Ring A) (L : RingLaws r) where
       ]
 
   pub recomposed_value : (n k : ℕ) (c e : ℕ → A) (q : ℕ → List A) (x : A)
-      → val r (recomposed r n k c e q) x ≡ total r k (λ j. r.mul (e j) (r.mul (val r (q j) x) (others r k j c (pow r x n))))
+      → eval_poly r (recomposed r n k c e q) x ≡ total r k (λ j. r.mul (e j) (r.mul (eval_poly r (q j) x) (others r k j c (pow r x n))))
   recomposed_value n k c e q x =
-      val_sum_polys k (λ j. scale_poly r (e j) (mul_poly r (q j) (others_poly r n k j c))) x
-      ∙ total_same r L k (λ j. val r (scale_poly r (e j) (mul_poly r (q j) (others_poly r n k j c))) x) (λ j. r.mul (e j) (r.mul (val r (q j) x) (others r k j c (pow r x n))))
-      (λ j h. cc (val_scale r L (e j) (mul_poly r (q j) (others_poly r n k j c)) x, val_mul r L (q j) (others_poly r n k j c) x, val_others_poly n k j c x))
+      eval_sum_polys k (λ j. scale_poly r (e j) (mul_poly r (q j) (others_poly r n k j c))) x
+      ∙ total_same r L k (λ j. eval_poly r (scale_poly r (e j) (mul_poly r (q j) (others_poly r n k j c))) x) (λ j. r.mul (e j) (r.mul (eval_poly r (q j) x) (others r k j c (pow r x n))))
+      (λ j h. cc (eval_scale r L (e j) (mul_poly r (q j) (others_poly r n k j c)) x, eval_mul r L (q j) (others_poly r n k j c) x, eval_others_poly n k j c x))
 
   -- on coset j it has the values of q j
   pub recomposed_on_coset : (n k : ℕ) (c e : ℕ → A) (q : ℕ → List A) (j : ℕ) (x : A) → j < k → pow r x n ≡ c j → r.mul (e j) (others r k j c (c j)) ≡ r.one
-      → val r (recomposed r n k c e q) x ≡ val r (q j) x
+      → eval_poly r (recomposed r n k c e q) x ≡ eval_poly r (q j) x
   recomposed_on_coset n k c e q j x h at unit =
-      let Q = val r (q j) x in let O = others r k j c (c j) in
-      let t : ℕ → A = λ i. r.mul (e i) (r.mul (val r (q i) x) (others r k i c (pow r x n))) in
+      let Q = eval_poly r (q j) x in let O = others r k j c (c j) in
+      let t : ℕ → A = λ i. r.mul (e i) (r.mul (eval_poly r (q i) x) (others r k i c (pow r x n))) in
       let other : (i : ℕ) → i < k → i ≢ j → t i ≡ r.zero =
-      λ i a d. cc (others_zero k i c (pow r x n) j h (λ z. d (sym z)) at, mul_zero r L (val r (q i) x), mul_zero r L (e i)) in
+      λ i a d. cc (others_zero k i c (pow r x n) j h (λ z. d (sym z)) at, mul_zero r L (eval_poly r (q i) x), mul_zero r L (e i)) in
       let own : others r k j c (pow r x n) ≡ O = ap (others r k j c) at in
       recomposed_value n k c e q x ∙ (total_only r L k j t h other
       ∙ cc (own, L.mul_comm Q O, L.mul_assoc (e j) O Q, unit, one_mul r L Q))
@@ -144,7 +144,7 @@ module _ {A : Type 0} (r : Ring A) (L : RingLaws r) where
     -- a polynomial is recomposed from those of degree below n that agree with it on each coset
     pub chunks_recompose : (n k : ℕ) (c e : ℕ → A) (p : ℕ → ℕ → A) (f : List A) (q : ℕ → List A) → 0 < n → Apart k c → ((j : ℕ) → j < k → Apart n (p j))
         → ((j i : ℕ) → j < k → i < n → pow r (p j i) n ≡ c j) → ((j : ℕ) → j < k → r.mul (e j) (others r k j c (c j)) ≡ r.one)
-        → DegreeBelow r (k * n) f → ((j : ℕ) → j < k → DegreeBelow r n (q j)) → ((j i : ℕ) → j < k → i < n → val r (q j) (p j i) ≡ val r f (p j i))
+        → DegreeBelow r (k * n) f → ((j : ℕ) → j < k → DegreeBelow r n (q j)) → ((j i : ℕ) → j < k → i < n → eval_poly r (q j) (p j i) ≡ eval_poly r f (p j i))
         → SamePoly r f (recomposed r n k c e q)
     chunks_recompose n k c e p f q pos apart own at unit df dq agree =
         let g = recomposed r n k c e q in

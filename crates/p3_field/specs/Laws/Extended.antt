@@ -2,14 +2,14 @@
 use Rattle.std.proofs.Common.{◌≡◌, ℕ, zero, suc, List, [], ◌∷◌, map, refl, sym, ◌∙◌, ap}
 use Rattle.p3_field.specs.Domain.{coset_point}
 use Rattle.p3_field.specs.Ring.{Ring, RingLaws, pow, of_nat, sub}
-use Rattle.p3_field.specs.Poly.{val, coeff, Apart, DegreeBelow, SamePoly, add_poly, scale_poly, neg_poly, sub_poly, mul_poly, shift_arg, raise, tail_values, quotient}
+use Rattle.p3_field.specs.Poly.{eval_poly, coeff, Apart, DegreeBelow, SamePoly, add_poly, scale_poly, neg_poly, sub_poly, mul_poly, shift_arg, raise, tail_values, quotient}
 use Rattle.p3_field.specs.Field.{RingHom, FieldLaws}
 use Rattle.p3_field.specs.Laws.Algebra.{neg_unique, zero_mul}
-use Rattle.p3_field.specs.Laws.Values.{val_same}
+use Rattle.p3_field.specs.Laws.Values.{eval_same}
 use Rattle.p3_field.specs.Laws.Roots.{sub_zero}
 use Rattle.p3_field.specs.Laws.Coset.{HasOrder}
 use Rattle.p3_field.specs.Laws.Transform.{Inverses}
-use Rattle.p3_field.specs.Laws.Vanishing.{times_vanishing, val_times_vanishing}
+use Rattle.p3_field.specs.Laws.Binomials.{times_binomial, eval_times_binomial}
 
 module _ {A B : Type 0} (r : Ring A) (L : RingLaws r) (s : Ring B) (M : RingLaws s) (f : A → B) (H : RingHom r s f) where
   pub hom_neg : (x : A) → f (r.neg x) ≡ s.neg (f x)
@@ -62,27 +62,27 @@ module _ {A B : Type 0} (r : Ring A) (L : RingLaws r) (s : Ring B) (M : RingLaws
   map_shift_arg a (c ∷ cs) = cc (map_scale a (shift_arg r a cs), map_shift_arg a cs)
 
   -- the value at a point of the small ring
-  pub map_val : (g : List A) (x : A) → val s (map f g) (f x) ≡ f (val r g x)
-  map_val [] x = sym H.keeps_zero
-  map_val (c ∷ cs) x = cc (map_val cs x, H.keeps_add c (r.mul x (val r cs x)), H.keeps_mul x (val r cs x))
+  pub map_eval : (g : List A) (x : A) → eval_poly s (map f g) (f x) ≡ f (eval_poly r g x)
+  map_eval [] x = sym H.keeps_zero
+  map_eval (c ∷ cs) x = cc (map_eval cs x, H.keeps_add c (r.mul x (eval_poly r cs x)), H.keeps_mul x (eval_poly r cs x))
 
   map_tail_values : (g : List A) (a : A) → map f (tail_values r g a) ≡ tail_values s (map f g) (f a)
   map_tail_values [] a = refl
-  map_tail_values (d ∷ ds) a = cc (map_tail_values ds a, map_val ds a, H.keeps_add d (r.mul a (val r ds a)), H.keeps_mul a (val r ds a))
+  map_tail_values (d ∷ ds) a = cc (map_tail_values ds a, map_eval ds a, H.keeps_add d (r.mul a (eval_poly r ds a)), H.keeps_mul a (eval_poly r ds a))
 
   pub map_quotient : (g : List A) (a : A) → map f (quotient r g a) ≡ quotient s (map f g) (f a)
   map_quotient [] a = refl
   map_quotient (c ∷ cs) a = map_tail_values cs a
 
-  pub map_times_vanishing : (n : ℕ) (c : A) (q : List A) → map f (times_vanishing r n c q) ≡ times_vanishing s n (f c) (map f q)
-  map_times_vanishing n c q = map_sub (raise r n q) (scale_poly r c q) ∙ cc (map_raise n q, map_scale c q)
+  pub map_times_binomial : (n : ℕ) (c : A) (q : List A) → map f (times_binomial r n c q) ≡ times_binomial s n (f c) (map f q)
+  map_times_binomial n c q = map_sub (raise r n q) (scale_poly r c q) ∙ cc (map_raise n q, map_scale c q)
 
   -- a multiple of X^n - c has the value (x^n - c) q(x) in the large ring too
-  pub extended_multiple : (n : ℕ) (c : A) (g q : List A) (x : B) → SamePoly r g (times_vanishing r n c q)
-      → val s (map f g) x ≡ s.mul (sub s (pow s x n) (f c)) (val s (map f q) x)
+  pub extended_multiple : (n : ℕ) (c : A) (g q : List A) (x : B) → SamePoly r g (times_binomial r n c q)
+      → eval_poly s (map f g) x ≡ s.mul (sub s (pow s x n) (f c)) (eval_poly s (map f q) x)
   extended_multiple n c g q x e =
-      val_same s M (map f g) (map f (times_vanishing r n c q)) x (same_poly_map g (times_vanishing r n c q) e)
-      ∙ (ap (λ l. val s l x) (map_times_vanishing n c q) ∙ val_times_vanishing s M n (f c) (map f q) x)
+      eval_same s M (map f g) (map f (times_binomial r n c q)) x (same_poly_map g (times_binomial r n c q) e)
+      ∙ (ap (λ l. eval_poly s l x) (map_times_binomial n c q) ∙ eval_times_binomial s M n (f c) (map f q) x)
 
   pub hom_of_nat : (n : ℕ) → f (of_nat r n) ≡ of_nat s n
   unfolding of_nat

@@ -10,11 +10,11 @@ use lib.Bits.{xor_zero_r}
 use Rattle.p3_field.specs.declared.gf256.Gf256.{Gf256, in_range-type}
 use Rattle.p3_field.specs.Ring.{RingLaws, pow, of_nat}
 use Rattle.p3_field.specs.Poly.{total}
-use Rattle.p3_field.specs.Gf256.{times_x, byte_mul, of_byte, gf_ring}
+use Rattle.p3_field.specs.Gf256.{times_x, byte_mul, of_byte, gf256_ring}
 use Rattle.p3_field.specs.Laws.Order.{below_at}
 
-pub same_gf : (x y : Gf256) → x.value ≡ y.value → x ≡ y
-same_gf x y e = λ i. record {
+pub same_gf256 : (x y : Gf256) → x.value ≡ y.value → x ≡ y
+same_gf256 x y e = λ i. record {
   value = e i;
   in_range = is_prop→PathP (λ j. in_range-type (e j)) (λ j. le_prop) x.in_range y.in_range i;
 }
@@ -159,45 +159,45 @@ xor_byte a b h k = byte (bit_xor a b) (xor_lt 8 a b h k)
 mul_byte : (a b : ℕ) → a < 256 → byte_mul 8 a b % 256 ≡ byte_mul 8 a b
 mul_byte a b h = byte (byte_mul 8 a b) (byte_mul_below 8 a b h)
 
-pub gf_add_value : (x y : Gf256) → (gf_ring.add x y).value ≡ bit_xor x.value y.value
-unfolding gf_ring
-gf_add_value x y = xor_byte x.value y.value x.in_range y.in_range
+pub gf256_add_value : (x y : Gf256) → (gf256_ring.add x y).value ≡ bit_xor x.value y.value
+unfolding gf256_ring
+gf256_add_value x y = xor_byte x.value y.value x.in_range y.in_range
 
-pub gf_mul_value : (x y : Gf256) → (gf_ring.mul x y).value ≡ byte_mul 8 x.value y.value
-unfolding gf_ring
-gf_mul_value x y = mul_byte x.value y.value x.in_range
+pub gf256_mul_value : (x y : Gf256) → (gf256_ring.mul x y).value ≡ byte_mul 8 x.value y.value
+unfolding gf256_ring
+gf256_mul_value x y = mul_byte x.value y.value x.in_range
 
-zero_value : gf_ring.zero.value ≡ 0
-unfolding gf_ring
+zero_value : gf256_ring.zero.value ≡ 0
+unfolding gf256_ring
 zero_value = refl
 
-one_value : gf_ring.one.value ≡ 1
-unfolding gf_ring
+one_value : gf256_ring.one.value ≡ 1
+unfolding gf256_ring
 one_value = refl
 
-neg_value : (x : Gf256) → (gf_ring.neg x).value ≡ x.value
-unfolding gf_ring
+neg_value : (x : Gf256) → (gf256_ring.neg x).value ≡ x.value
+unfolding gf256_ring
 neg_value x = refl
 
-pub gf_laws : RingLaws gf_ring
-gf_laws = let r = gf_ring in record {
-  add_comm = λ x y. same_gf (r.add x y) (r.add y x) (cc (gf_add_value x y, gf_add_value y x, xor_comm x.value y.value));
-  add_assoc = λ x y z. same_gf (r.add (r.add x y) z) (r.add x (r.add y z))
-      (cc (gf_add_value (r.add x y) z, gf_add_value x y, gf_add_value x (r.add y z), gf_add_value y z, xor_assoc x.value y.value z.value));
-  add_zero = λ x. same_gf (r.add x r.zero) x (cc (gf_add_value x r.zero, zero_value, xor_zero_r x.value));
-  add_neg = λ x. same_gf (r.add x (r.neg x)) r.zero (cc (gf_add_value x (r.neg x), neg_value x, zero_value, xor_self x.value));
-  mul_comm = λ x y. same_gf (r.mul x y) (r.mul y x) (cc (gf_mul_value x y, gf_mul_value y x, byte_mul_comm x.value y.value x.in_range y.in_range));
-  mul_assoc = λ x y z. same_gf (r.mul (r.mul x y) z) (r.mul x (r.mul y z))
-      (cc (gf_mul_value (r.mul x y) z, gf_mul_value x y, gf_mul_value x (r.mul y z), gf_mul_value y z, byte_mul_assoc x.value y.value z.value x.in_range y.in_range z.in_range));
-  mul_one = λ x. same_gf (r.mul x r.one) x
-      (cc (gf_mul_value x r.one, one_value, byte_mul_comm x.value 1 x.in_range (lit< tt), one_times x.value x.in_range));
-  mul_add = λ x y z. same_gf (r.mul x (r.add y z)) (r.add (r.mul x y) (r.mul x z))
+pub gf256_laws : RingLaws gf256_ring
+gf256_laws = let r = gf256_ring in record {
+  add_comm = λ x y. same_gf256 (r.add x y) (r.add y x) (cc (gf256_add_value x y, gf256_add_value y x, xor_comm x.value y.value));
+  add_assoc = λ x y z. same_gf256 (r.add (r.add x y) z) (r.add x (r.add y z))
+      (cc (gf256_add_value (r.add x y) z, gf256_add_value x y, gf256_add_value x (r.add y z), gf256_add_value y z, xor_assoc x.value y.value z.value));
+  add_zero = λ x. same_gf256 (r.add x r.zero) x (cc (gf256_add_value x r.zero, zero_value, xor_zero_r x.value));
+  add_neg = λ x. same_gf256 (r.add x (r.neg x)) r.zero (cc (gf256_add_value x (r.neg x), neg_value x, zero_value, xor_self x.value));
+  mul_comm = λ x y. same_gf256 (r.mul x y) (r.mul y x) (cc (gf256_mul_value x y, gf256_mul_value y x, byte_mul_comm x.value y.value x.in_range y.in_range));
+  mul_assoc = λ x y z. same_gf256 (r.mul (r.mul x y) z) (r.mul x (r.mul y z))
+      (cc (gf256_mul_value (r.mul x y) z, gf256_mul_value x y, gf256_mul_value x (r.mul y z), gf256_mul_value y z, byte_mul_assoc x.value y.value z.value x.in_range y.in_range z.in_range));
+  mul_one = λ x. same_gf256 (r.mul x r.one) x
+      (cc (gf256_mul_value x r.one, one_value, byte_mul_comm x.value 1 x.in_range (lit< tt), one_times x.value x.in_range));
+  mul_add = λ x y z. same_gf256 (r.mul x (r.add y z)) (r.add (r.mul x y) (r.mul x z))
       (cc (
-        gf_mul_value x (r.add y z),
-        gf_add_value y z,
-        gf_add_value (r.mul x y) (r.mul x z),
-        gf_mul_value x y,
-        gf_mul_value x z,
+        gf256_mul_value x (r.add y z),
+        gf256_add_value y z,
+        gf256_add_value (r.mul x y) (r.mul x z),
+        gf256_mul_value x y,
+        gf256_mul_value x z,
         byte_mul_comm x.value (bit_xor y.value z.value) x.in_range (xor_lt 8 y.value z.value y.in_range z.in_range),
         byte_mul_comm x.value y.value x.in_range y.in_range,
         byte_mul_comm x.value z.value x.in_range z.in_range,
@@ -211,16 +211,16 @@ parity n = elim (bit_or_none (n % 2) (low n)) [
   | inr e ↦ let f : suc n % 2 ≡ 0 = omega arith in rw (e, f) refl
 ]
 
-pub gf_of_nat_value : (n : ℕ) → (of_nat gf_ring n).value ≡ n % 2
+pub gf256_of_nat_value : (n : ℕ) → (of_nat gf256_ring n).value ≡ n % 2
 unfolding of_nat
-gf_of_nat_value zero = zero_value
-gf_of_nat_value (suc n) = cc (gf_add_value gf_ring.one (of_nat gf_ring n), one_value, gf_of_nat_value n, parity n)
+gf256_of_nat_value zero = zero_value
+gf256_of_nat_value (suc n) = cc (gf256_add_value gf256_ring.one (of_nat gf256_ring n), one_value, gf256_of_nat_value n, parity n)
 
-pub gf_of_nat : (n : ℕ) → of_byte (n % 2) ≡ of_nat gf_ring n
-gf_of_nat n = same_gf (of_byte (n % 2)) (of_nat gf_ring n) (byte (n % 2) (omega arith) ∙ sym (gf_of_nat_value n))
+pub gf256_of_nat : (n : ℕ) → of_byte (n % 2) ≡ of_nat gf256_ring n
+gf256_of_nat n = same_gf256 (of_byte (n % 2)) (of_nat gf256_ring n) (byte (n % 2) (omega arith) ∙ sym (gf256_of_nat_value n))
 
-pub gf_of_byte : (x : Gf256) (n : ℕ) → x.value ≡ n → x ≡ of_byte n
-gf_of_byte x n e = same_gf x (of_byte n) (sym (byte x.value x.in_range) ∙ ap (λ k. k % 256) e)
+pub gf256_of_byte : (x : Gf256) (n : ℕ) → x.value ≡ n → x ≡ of_byte n
+gf256_of_byte x n e = same_gf256 x (of_byte n) (sym (byte x.value x.in_range) ∙ ap (λ k. k % 256) e)
 
 -- one turn of the product from the highest bit
 pub byte_mul_turn : (k a b : ℕ) → k < 8 → bit_xor (times_x (byte_mul k a (b / 2 ^ (8 - k)))) (a * (b / 2 ^ (7 - k) % 2)) ≡ byte_mul (k + 1) a (b / 2 ^ (8 - (k + 1)))
@@ -237,18 +237,18 @@ unfolding byte_mul
 byte_mul_start a b = refl
 
 -- x^8 is x^4 + x^3 + x + 1
-pub gf_x_to_8 : let x = of_byte 2 in let p = pow gf_ring x in p 8 ≡ gf_ring.add (p 4) (gf_ring.add (p 3) (gf_ring.add x gf_ring.one))
-unfolding pow byte_mul gf_ring
-gf_x_to_8 = same_gf _ _ refl
+pub gf256_x_to_8 : let x = of_byte 2 in let p = pow gf256_ring x in p 8 ≡ gf256_ring.add (p 4) (gf256_ring.add (p 3) (gf256_ring.add x gf256_ring.one))
+unfolding pow byte_mul gf256_ring
+gf256_x_to_8 = same_gf256 _ _ refl
 
 -- the sum over i below 8 of bit i of n times x^i
 abbrev pub sum_of_bits : ℕ → Gf256
-sum_of_bits n = total gf_ring 8 (λ i. gf_ring.mul (of_byte (n / 2 ^ i % 2)) (pow gf_ring (of_byte 2) i))
+sum_of_bits n = total gf256_ring 8 (λ i. gf256_ring.mul (of_byte (n / 2 ^ i % 2)) (pow gf256_ring (of_byte 2) i))
 
 bits_value : (n : ℕ) → n < 256 → (sum_of_bits n).value ≡ n
-unfolding pow byte_mul gf_ring
+unfolding pow byte_mul gf256_ring
 bits_value n h = eqb-true (sum_of_bits n).value n (below_at 256 (λ k. nat_eq (sum_of_bits k).value k) refl n h)
 
 -- a byte is the sum of its bits times the powers of x
 pub byte_is_sum : (b : Gf256) → b ≡ sum_of_bits b.value
-byte_is_sum b = same_gf b (sum_of_bits b.value) (sym (bits_value b.value b.in_range))
+byte_is_sum b = same_gf256 b (sum_of_bits b.value) (sym (bits_value b.value b.in_range))

@@ -2,20 +2,20 @@
 use Rattle.std.proofs.Common.{◌≡◌, ◌<◌, ◌≤◌, List, [], ◌∷◌, length, get_or, refl, ap, sym, ◌∙◌, lit<, arith}
 use Rattle.std.specs.List.{flat_map}
 use Rattle.p3_field.specs.Ring.{Ring, RingLaws}
-use Rattle.p3_field.specs.Field.{VectorLaws, RingHom, combine, own_whole}
+use Rattle.p3_field.specs.Field.{VectorLaws, RingHom, combine, own_from_coefficients}
 
-pub own_laws : {A : Type 0} (z : A) → VectorLaws {A = A} {B = A} 1 (λ x. x ∷ []) (own_whole z)
+pub own_laws : {A : Type 0} (z : A) → VectorLaws {A = A} {B = A} 1 (λ x. x ∷ []) (own_from_coefficients z)
 own_laws z = record {
   positive = lit< tt;
-  parts_length = λ x. refl;
-  whole_parts = λ x. refl;
-  parts_whole = parts_whole z;
+  coefficients_length = λ x. refl;
+  from_coefficients_of_coefficients = λ x. refl;
+  coefficients_of_from_coefficients = coefficients_of_from_coefficients z;
 }
   where
-    parts_whole : {A : Type 0} (z : A) (c : List A) → length c ≡ 1 → own_whole z c ∷ [] ≡ c
-    parts_whole z [] e = cc
-    parts_whole z (x ∷ []) e = refl
-    parts_whole z (x ∷ y ∷ ys) e = cc
+    coefficients_of_from_coefficients : {A : Type 0} (z : A) (c : List A) → length c ≡ 1 → own_from_coefficients z c ∷ [] ≡ c
+    coefficients_of_from_coefficients z [] e = cc
+    coefficients_of_from_coefficients z (x ∷ []) e = refl
+    coefficients_of_from_coefficients z (x ∷ y ∷ ys) e = cc
 
 pub own_hom : {A : Type 0} (r : Ring A) → RingHom r r (λ x. x)
 own_hom r = record { keeps_zero = refl; keeps_one = refl; keeps_add = λ x y. refl; keeps_mul = λ x y. refl }

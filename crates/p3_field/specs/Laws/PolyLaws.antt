@@ -1,11 +1,11 @@
 -- Polynomials are a commutative ring, up to zeros at the end.
 use Rattle.std.proofs.Common.{◌⊎◌, inl, inr, ◌≡◌, ℕ, zero, suc, List, [], ◌∷◌, refl, sym, ◌∙◌, ap}
-use Rattle.p3_field.specs.Domain.{vanishing}
+use Rattle.p3_field.specs.Domain.{binomial}
 use Rattle.p3_field.specs.Ring.{Ring, RingLaws}
 use Rattle.p3_field.specs.Laws.Algebra.{zero_add, one_mul, mul_zero, zero_mul, add_swap, neg_mul}
-use Rattle.p3_field.specs.Poly.{val, coeff, IsZeroPoly, SamePoly, add_poly, scale_poly, mul_poly, raise, tail_values, quotient}
+use Rattle.p3_field.specs.Poly.{eval_poly, coeff, IsZeroPoly, SamePoly, add_poly, scale_poly, mul_poly, raise, tail_values, quotient}
 use Rattle.p3_field.specs.Laws.Coeffs.{coeff_add, coeff_scale, coeff_sub}
-use Rattle.p3_field.specs.Laws.Vanishing.{times_vanishing}
+use Rattle.p3_field.specs.Laws.Binomials.{times_binomial}
 
 module _ {A : Type 0} (r : Ring A) (L : RingLaws r) where
   pub same_add : (f f' g g' : List A) → SamePoly r f f' → SamePoly r g g' → SamePoly r (add_poly r f g) (add_poly r f' g')
@@ -149,8 +149,8 @@ module _ {A : Type 0} (r : Ring A) (L : RingLaws r) where
   constant_mul c f (suc i) = mul_next c [] f i ∙ L.add_zero (r.mul c (coeff r f (suc i)))
 
   -- the list X^n - c times q
-  pub vanishing_mul : (n : ℕ) (c : A) (q : List A) → SamePoly r (mul_poly r (vanishing r n c) q) (times_vanishing r n c q)
-  vanishing_mul n c q = λ i.
+  pub binomial_mul : (n : ℕ) (c : A) (q : List A) → SamePoly r (mul_poly r (binomial r n c) q) (times_binomial r n c q)
+  binomial_mul n c q = λ i.
       let U = r.neg c ∷ [] in let X = raise r n (r.one ∷ []) in
       let a : coeff r (mul_poly r X q) i ≡ coeff r (raise r n q) i =
       raise_mul n (r.one ∷ []) q i ∙ same_raise n (mul_poly r (r.one ∷ []) q) q (one_mul_poly q) i in
@@ -166,7 +166,7 @@ module _ {A : Type 0} (r : Ring A) (L : RingLaws r) where
       )
 
   -- the values at `a` of a list's tails: the first is the list's own, and each is a coefficient and a times the next
-  first_tail_value : (f : List A) (a : A) → coeff r (tail_values r f a) 0 ≡ val r f a
+  first_tail_value : (f : List A) (a : A) → coeff r (tail_values r f a) 0 ≡ eval_poly r f a
   first_tail_value [] a = refl
   first_tail_value (d ∷ ds) a = refl
 
@@ -183,12 +183,12 @@ module _ {A : Type 0} (r : Ring A) (L : RingLaws r) where
   linear_mul_next c e f i = mul_next c (e ∷ []) f i ∙ ap (r.add (r.mul c (coeff r f (suc i)))) (constant_mul e f i)
 
   -- f = (X - a) q + f(a), coefficient by coefficient
-  pub divide_poly : (f : List A) (a : A) → SamePoly r f (add_poly r (mul_poly r (r.neg a ∷ r.one ∷ []) (quotient r f a)) (val r f a ∷ []))
+  pub divide_poly : (f : List A) (a : A) → SamePoly r f (add_poly r (mul_poly r (r.neg a ∷ r.one ∷ []) (quotient r f a)) (eval_poly r f a ∷ []))
   divide_poly [] a zero = sym (L.add_zero r.zero)
   divide_poly [] a (suc zero) = refl
   divide_poly [] a (suc (suc i)) = refl
   divide_poly (c ∷ cs) a zero =
-      let V = val r cs a in
+      let V = eval_poly r cs a in
       let P = mul_poly r (r.neg a ∷ r.one ∷ []) (tail_values r cs a) in
       let M = r.mul a V in
       cc (
@@ -207,7 +207,7 @@ module _ {A : Type 0} (r : Ring A) (L : RingLaws r) where
       let P = mul_poly r (r.neg a ∷ r.one ∷ []) T in
       let U = coeff r T i in let V = coeff r T (suc i) in let M = r.mul a V in let D = coeff r cs i in
       cc (
-        coeff_add r L P (val r (c ∷ cs) a ∷ []) (suc i),
+        coeff_add r L P (eval_poly r (c ∷ cs) a ∷ []) (suc i),
         L.add_zero (coeff r P (suc i)),
         linear_mul_next (r.neg a) r.one T i,
         neg_mul r L a V,
@@ -221,10 +221,10 @@ module _ {A : Type 0} (r : Ring A) (L : RingLaws r) where
       )
 
   -- a polynomial that is zero at `a` is X - a times its quotient
-  pub divide_root : (f : List A) (a : A) → val r f a ≡ r.zero → SamePoly r f (mul_poly r (r.neg a ∷ r.one ∷ []) (quotient r f a))
+  pub divide_root : (f : List A) (a : A) → eval_poly r f a ≡ r.zero → SamePoly r f (mul_poly r (r.neg a ∷ r.one ∷ []) (quotient r f a))
   divide_root f a z i =
       let P = mul_poly r (r.neg a ∷ r.one ∷ []) (quotient r f a) in
-      divide_poly f a i ∙ (coeff_add r L P (val r f a ∷ []) i ∙ (ap (r.add (coeff r P i)) (nothing (val r f a) z i) ∙ L.add_zero (coeff r P i)))
+      divide_poly f a i ∙ (coeff_add r L P (eval_poly r f a ∷ []) i ∙ (ap (r.add (coeff r P i)) (nothing (eval_poly r f a) z i) ∙ L.add_zero (coeff r P i)))
     where
       nothing : (v : A) → v ≡ r.zero → (i : ℕ) → coeff r (v ∷ []) i ≡ r.zero
       nothing v e zero = e

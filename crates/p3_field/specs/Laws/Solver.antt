@@ -19,7 +19,7 @@ abbrev pub expressions : Ring Expr
 expressions = record { zero = nought; one = unit; add = plus; mul = times; neg = minus }
 
 -- a term is (pos - neg) times the product of the variables to these powers
-pub record Term : Type 0 where
+pub record SolverTerm : Type 0 where
   pub pos : ℕ
   pub neg : ℕ
   pub mono : List ℕ
@@ -49,43 +49,43 @@ abbrev one_var : ℕ → List ℕ
 one_var zero = 1 ∷ []
 one_var (suc i) = 0 ∷ one_var i
 
-abbrev with_term : ℕ → ℕ → List ℕ → List Term → List Term
+abbrev with_term : ℕ → ℕ → List ℕ → List SolverTerm → List SolverTerm
 with_term p n m rest = choose (nat_eq p n) (λ _. rest) (λ _. record { pos = p - n; neg = n - p; mono = m } ∷ rest)
 
-abbrev merge_one : Term → (List Term → List Term) → List Term → List Term
+abbrev merge_one : SolverTerm → (List SolverTerm → List SolverTerm) → List SolverTerm → List SolverTerm
 merge_one x rest [] = x ∷ rest []
 merge_one x rest (y ∷ ys) =
     choose (same_mono x.mono y.mono)
     (λ _. with_term (x.pos + y.pos) (x.neg + y.neg) x.mono (rest ys))
     (λ _. choose (before x.mono y.mono) (λ _. x ∷ rest (y ∷ ys)) (λ _. y ∷ merge_one x rest ys))
 
-abbrev merge : List Term → List Term → List Term
+abbrev merge : List SolverTerm → List SolverTerm → List SolverTerm
 merge [] q = q
 merge (x ∷ p) q = merge_one x (merge p) q
 
-abbrev term_mul : Term → Term → Term
+abbrev term_mul : SolverTerm → SolverTerm → SolverTerm
 term_mul x y = record { pos = x.pos * y.pos + x.neg * y.neg; neg = x.pos * y.neg + x.neg * y.pos; mono = mono_mul x.mono y.mono }
 
-abbrev scale : Term → List Term → List Term
+abbrev scale : SolverTerm → List SolverTerm → List SolverTerm
 scale x [] = []
 scale x (y ∷ q) = term_mul x y ∷ scale x q
 
-abbrev product : List Term → List Term → List Term
+abbrev product : List SolverTerm → List SolverTerm → List SolverTerm
 product [] q = []
 product (x ∷ p) q = merge (scale x q) (product p q)
 
-abbrev opposite : List Term → List Term
+abbrev opposite : List SolverTerm → List SolverTerm
 opposite [] = []
 opposite (x ∷ p) = record { pos = x.neg; neg = x.pos; mono = x.mono } ∷ opposite p
 
-abbrev one_term : List Term
+abbrev one_term : List SolverTerm
 one_term = record { pos = 1; neg = 0; mono = [] } ∷ []
 
-abbrev product_power : List Term → ℕ → List Term
+abbrev product_power : List SolverTerm → ℕ → List SolverTerm
 product_power p zero = one_term
 product_power p (suc n) = product p (product_power p n)
 
-abbrev pub normal : Expr → List Term
+abbrev pub normal : Expr → List SolverTerm
 normal (var i) = record { pos = 1; neg = 0; mono = one_var i } ∷ []
 normal (num n) = with_term n 0 [] []
 normal nought = []
@@ -119,10 +119,10 @@ module _ {A : Type 0} (r : Ring A) where
   abbrev signed : ℕ → ℕ → A
   signed p n = r.add (of_nat r p) (r.neg (of_nat r n))
 
-  abbrev term_value : List A → Term → A
+  abbrev term_value : List A → SolverTerm → A
   term_value vs t = r.mul (signed t.pos t.neg) (mono_value vs t.mono)
 
-  abbrev terms_value : List A → List Term → A
+  abbrev terms_value : List A → List SolverTerm → A
   terms_value vs [] = r.zero
   terms_value vs (t ∷ p) = r.add (term_value vs t) (terms_value vs p)
 
@@ -189,14 +189,14 @@ module _ {A : Type 0} (r : Ring A) (L : RingLaws r) (vs : List A) where
   same_signs : (p n : ℕ) → p ≡ n → signed r p n ≡ r.zero
   same_signs p n e = ap (λ k. signed r p k) (sym e) ∙ L.add_neg (of_nat r p)
 
-  with_term_value : (p n : ℕ) (m : List ℕ) (q : List Term) → terms_value r vs (with_term p n m q) ≡ r.add (r.mul (signed r p n) (mono_value r vs m)) (terms_value r vs q)
+  with_term_value : (p n : ℕ) (m : List ℕ) (q : List SolverTerm) → terms_value r vs (with_term p n m q) ≡ r.add (r.mul (signed r p n) (mono_value r vs m)) (terms_value r vs q)
   with_term_value p n m q =
       let M = mono_value r vs m in
       choose_both (terms_value r vs) (r.add (r.mul (signed r p n) M) (terms_value r vs q)) (nat_eq p n) (λ _. q) (λ _. record { pos = p - n; neg = n - p; mono = m } ∷ q)
       (λ e. cc (same_signs p n (same_nat p n e), zero_mul r L M, zero_add r L (terms_value r vs q)))
       (λ e. cc (signed_least p n))
 
-  merge_one_value : (x : Term) (rest : List Term → List Term) (c : A) → ((q : List Term) → terms_value r vs (rest q) ≡ r.add c (terms_value r vs q)) → (q : List Term)
+  merge_one_value : (x : SolverTerm) (rest : List SolverTerm → List SolverTerm) (c : A) → ((q : List SolverTerm) → terms_value r vs (rest q) ≡ r.add c (terms_value r vs q)) → (q : List SolverTerm)
       → terms_value r vs (merge_one x rest q) ≡ r.add (r.add (term_value r vs x) c) (terms_value r vs q)
   merge_one_value x rest c h [] = cc (h [], L.add_assoc (term_value r vs x) c r.zero)
   merge_one_value x rest c h (y ∷ ys) =
@@ -218,11 +218,11 @@ module _ {A : Type 0} (r : Ring A) (L : RingLaws r) (vs : List A) where
       (λ _. cc (h (y ∷ ys), L.add_assoc X c (r.add Y Q)))
       (λ _. cc (later, L.add_assoc Y (r.add X c) Q, L.add_comm Y (r.add X c), L.add_assoc (r.add X c) Y Q)))
 
-  merge_value : (p q : List Term) → terms_value r vs (merge p q) ≡ r.add (terms_value r vs p) (terms_value r vs q)
+  merge_value : (p q : List SolverTerm) → terms_value r vs (merge p q) ≡ r.add (terms_value r vs p) (terms_value r vs q)
   merge_value [] q = sym (zero_add r L (terms_value r vs q))
   merge_value (x ∷ p) q = merge_one_value x (merge p) (terms_value r vs p) (merge_value p) q
 
-  term_mul_value : (x y : Term) → term_value r vs (term_mul x y) ≡ r.mul (term_value r vs x) (term_value r vs y)
+  term_mul_value : (x y : SolverTerm) → term_value r vs (term_mul x y) ≡ r.mul (term_value r vs x) (term_value r vs y)
   term_mul_value x y =
       cc (
         signed_mul x.pos x.neg y.pos y.neg,
@@ -230,17 +230,17 @@ module _ {A : Type 0} (r : Ring A) (L : RingLaws r) (vs : List A) where
         mul_swap r L (signed r x.pos x.neg) (signed r y.pos y.neg) (mono_value r vs x.mono) (mono_value r vs y.mono),
       )
 
-  scale_value : (x : Term) (q : List Term) → terms_value r vs (scale x q) ≡ r.mul (term_value r vs x) (terms_value r vs q)
+  scale_value : (x : SolverTerm) (q : List SolverTerm) → terms_value r vs (scale x q) ≡ r.mul (term_value r vs x) (terms_value r vs q)
   scale_value x [] = sym (mul_zero r L (term_value r vs x))
   scale_value x (y ∷ q) = cc (term_mul_value x y, scale_value x q, L.mul_add (term_value r vs x) (term_value r vs y) (terms_value r vs q))
 
-  product_value : (p q : List Term) → terms_value r vs (product p q) ≡ r.mul (terms_value r vs p) (terms_value r vs q)
+  product_value : (p q : List SolverTerm) → terms_value r vs (product p q) ≡ r.mul (terms_value r vs p) (terms_value r vs q)
   product_value [] q = sym (zero_mul r L (terms_value r vs q))
   product_value (x ∷ p) q =
       merge_value (scale x q) (product p q)
       ∙ cc (scale_value x q, product_value p q, add_mul r L (term_value r vs x) (terms_value r vs p) (terms_value r vs q))
 
-  opposite_value : (p : List Term) → terms_value r vs (opposite p) ≡ r.neg (terms_value r vs p)
+  opposite_value : (p : List SolverTerm) → terms_value r vs (opposite p) ≡ r.neg (terms_value r vs p)
   opposite_value [] = sym (neg_zero r L)
   opposite_value (x ∷ p) =
       let P = of_nat r x.pos in let N = of_nat r x.neg in let M = mono_value r vs x.mono in
@@ -268,7 +268,7 @@ module _ {A : Type 0} (r : Ring A) (L : RingLaws r) (vs : List A) where
   one_value : terms_value r vs one_term ≡ r.one
   one_value = cc (signed_one, no_variables vs, L.mul_one r.one, L.add_zero r.one)
 
-  product_power_value : (p : List Term) (n : ℕ) → terms_value r vs (product_power p n) ≡ pow r (terms_value r vs p) n
+  product_power_value : (p : List SolverTerm) (n : ℕ) → terms_value r vs (product_power p n) ≡ pow r (terms_value r vs p) n
   unfolding pow
   product_power_value p zero = one_value
   product_power_value p (suc n) = product_value p (product_power p n) ∙ ap (r.mul (terms_value r vs p)) (product_power_value p n)

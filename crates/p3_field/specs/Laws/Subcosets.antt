@@ -3,7 +3,7 @@ use Rattle.std.proofs.Common.{◌≡◌, ℕ, zero, suc, ◌+◌, ◌*◌, ◌<�
 use Rattle.std.proofs.Math.Nat.{mul-lt-mul_of_pos_left}
 use Rattle.p3_field.specs.Domain.{coset_point}
 use Rattle.p3_field.specs.Ring.{Ring, RingLaws, pow, sub}
-use Rattle.p3_field.specs.Poly.{val, even_part, odd_part}
+use Rattle.p3_field.specs.Poly.{eval_poly, even_part, odd_part}
 use Rattle.p3_field.specs.Laws.Algebra.{mul_zero, mul_neg, mul_swap, pow_add, neg_mul, neg_mul_neg, neg_unique}
 use Rattle.p3_field.specs.Laws.Order.{pow_times}
 use Rattle.p3_field.specs.Laws.Solver.{expressions, var, solve}
@@ -33,12 +33,12 @@ module _ {A : Type 0} (r : Ring A) (L : RingLaws r) where
       (parts_left expressions (var 0) (var 1) (var 2) (var 3) (var 4)) (parts_right expressions (var 0) (var 1) (var 2) (var 3) (var 4)) refl
 
   -- f(x) = E(x^2) + x O(x^2)
-  pub val_parts : (f : List A) (x : A) → val r f x ≡ r.add (val r (even_part f) (r.mul x x)) (r.mul x (val r (odd_part f) (r.mul x x)))
-  val_parts [] x = cc (mul_zero r L x, L.add_zero r.zero)
-  val_parts (c ∷ []) x = cc (mul_zero r L (r.mul x x), L.add_zero c)
-  val_parts (c ∷ d ∷ cs) x =
-      ap (λ w. r.add c (r.mul x (r.add d (r.mul x w)))) (val_parts cs x)
-      ∙ parts_step x c d (val r (even_part cs) (r.mul x x)) (val r (odd_part cs) (r.mul x x))
+  pub eval_parts : (f : List A) (x : A) → eval_poly r f x ≡ r.add (eval_poly r (even_part f) (r.mul x x)) (r.mul x (eval_poly r (odd_part f) (r.mul x x)))
+  eval_parts [] x = cc (mul_zero r L x, L.add_zero r.zero)
+  eval_parts (c ∷ []) x = cc (mul_zero r L (r.mul x x), L.add_zero c)
+  eval_parts (c ∷ d ∷ cs) x =
+      ap (λ w. r.add c (r.mul x (r.add d (r.mul x w)))) (eval_parts cs x)
+      ∙ parts_step x c d (eval_poly r (even_part cs) (r.mul x x)) (eval_poly r (odd_part cs) (r.mul x x))
 
   square_split : (x : A) → square_left r x ≡ square_right r x
   square_split x = solve r L (x ∷ []) (square_left expressions (var 0)) (square_right expressions (var 0)) refl
@@ -60,21 +60,21 @@ module _ {A : Type 0} (r : Ring A) (L : RingLaws r) where
 
   -- one step of the transform: the values at point i and at the opposite one from the values of the two parts
   pub butterfly_first : (f : List A) (s h : A) (i : ℕ) → let q = coset_point r (r.mul s s) (r.mul h h) i in
-      val r f (coset_point r s h i) ≡ r.add (val r (even_part f) q) (r.mul (coset_point r s h i) (val r (odd_part f) q))
+      eval_poly r f (coset_point r s h i) ≡ r.add (eval_poly r (even_part f) q) (r.mul (coset_point r s h i) (eval_poly r (odd_part f) q))
   butterfly_first f s h i =
       let x = coset_point r s h i in
-      val_parts f x ∙ ap (λ w. r.add (val r (even_part f) w) (r.mul x (val r (odd_part f) w))) (square_point s h i)
+      eval_parts f x ∙ ap (λ w. r.add (eval_poly r (even_part f) w) (r.mul x (eval_poly r (odd_part f) w))) (square_point s h i)
 
   pub butterfly_second : (f : List A) (s h : A) (m i : ℕ) → pow r h m ≡ r.neg r.one → let q = coset_point r (r.mul s s) (r.mul h h) i in
-      val r f (coset_point r s h (i + m)) ≡ sub r (val r (even_part f) q) (r.mul (coset_point r s h i) (val r (odd_part f) q))
+      eval_poly r f (coset_point r s h (i + m)) ≡ sub r (eval_poly r (even_part f) q) (r.mul (coset_point r s h i) (eval_poly r (odd_part f) q))
   butterfly_second f s h m i e =
       let x = coset_point r s h i in
       let q = coset_point r (r.mul s s) (r.mul h h) i in
       let y : coset_point r s h (i + m) ≡ r.neg x = opposite_point s h m i e in
       let z : r.mul (r.neg x) (r.neg x) ≡ q = neg_mul_neg r L x x ∙ square_point s h i in
-      ap (val r f) y ∙ (val_parts f (r.neg x)
-      ∙ (ap (λ w. r.add (val r (even_part f) w) (r.mul (r.neg x) (val r (odd_part f) w))) z
-      ∙ ap (r.add (val r (even_part f) q)) (neg_mul r L x (val r (odd_part f) q))))
+      ap (eval_poly r f) y ∙ (eval_parts f (r.neg x)
+      ∙ (ap (λ w. r.add (eval_poly r (even_part f) w) (r.mul (r.neg x) (eval_poly r (odd_part f) w))) z
+      ∙ ap (r.add (eval_poly r (even_part f) q)) (neg_mul r L x (eval_poly r (odd_part f) q))))
 
   -- point j + k i of a coset is point i of the j-th of k cosets
   pub row_of_coset : (s h : A) (k j i : ℕ) → coset_point r s h (j + k * i) ≡ coset_point r (coset_point r s h j) (pow r h k) i

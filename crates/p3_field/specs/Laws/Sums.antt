@@ -1,7 +1,7 @@
 -- Sums of finitely many terms, and geometric sums.
 use Rattle.std.proofs.Common.{◌≡◌, ◌≢◌, ℕ, zero, suc, ◌<◌, [], ◌∷◌, refl, sym, ◌∙◌, ap, arith}
 use Rattle.p3_field.specs.Ring.{Ring, RingLaws, pow, of_nat, sub}
-use Rattle.p3_field.specs.Poly.{val, table, total}
+use Rattle.p3_field.specs.Poly.{eval_poly, tabulate, total}
 use Rattle.p3_field.specs.Laws.Algebra.{zero_add, mul_zero, add_swap}
 use Rattle.p3_field.specs.Laws.Solver.{expressions, var, solve}
 
@@ -58,14 +58,14 @@ module _ {A : Type 0} (r : Ring A) (L : RingLaws r) where
   total_ones zero = refl
   total_ones (suc n) = ap (r.add r.one) (total_ones n)
 
-  pub val_table : (n : ℕ) (t : ℕ → A) (x : A) → val r (table n t) x ≡ total r n (λ j. r.mul (t j) (pow r x j))
+  pub eval_tabulate : (n : ℕ) (t : ℕ → A) (x : A) → eval_poly r (tabulate n t) x ≡ total r n (λ j. r.mul (t j) (pow r x j))
   unfolding pow
-  val_table zero t x = refl
-  val_table (suc n) t x =
+  eval_tabulate zero t x = refl
+  eval_tabulate (suc n) t x =
       let u : ℕ → A = λ j. t (suc j) in
       let one : t zero ≡ r.mul (t zero) r.one = sym (L.mul_one (t zero)) in
-      let step : r.mul x (val r (table n u) x) ≡ total r n (λ j. r.mul (u j) (r.mul x (pow r x j))) =
-      ap (r.mul x) (val_table n u x) ∙ (sym (total_scale n x (λ j. r.mul (u j) (pow r x j)))
+      let step : r.mul x (eval_poly r (tabulate n u) x) ≡ total r n (λ j. r.mul (u j) (r.mul x (pow r x j))) =
+      ap (r.mul x) (eval_tabulate n u x) ∙ (sym (total_scale n x (λ j. r.mul (u j) (pow r x j)))
       ∙ total_same n (λ j. r.mul x (r.mul (u j) (pow r x j))) (λ j. r.mul (u j) (r.mul x (pow r x j)))
       (λ j k. cc (L.mul_assoc x (u j) (pow r x j), L.mul_comm x (u j), L.mul_assoc (u j) x (pow r x j)))) in
       cc (one, step)

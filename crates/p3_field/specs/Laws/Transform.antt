@@ -3,12 +3,12 @@ use Rattle.std.proofs.Common.{◌≡◌, ◌≢◌, ℕ, ◌*◌, ◌<◌, inl, 
 use Rattle.std.proofs.lemmas.Bool.{cases_lt}
 use Rattle.p3_field.specs.Domain.{coset_point}
 use Rattle.p3_field.specs.Ring.{Ring, RingLaws, pow, of_nat}
-use Rattle.p3_field.specs.Poly.{val, DegreeBelow, table, total}
+use Rattle.p3_field.specs.Poly.{eval_poly, DegreeBelow, tabulate, total}
 use Rattle.p3_field.specs.Laws.Algebra.{one_mul, mul_zero, mul_swap}
 use Rattle.p3_field.specs.Laws.Order.{one_pow, pow_times}
 use Rattle.p3_field.specs.Laws.Coeffs.{degree_length_le}
-use Rattle.p3_field.specs.Laws.Tables.{length-table}
-use Rattle.p3_field.specs.Laws.Sums.{total_same, total_scale, total_swap, total_only, total_ones, val_table}
+use Rattle.p3_field.specs.Laws.Tabulate.{length-tabulate}
+use Rattle.p3_field.specs.Laws.Sums.{total_same, total_scale, total_swap, total_only, total_ones, eval_tabulate}
 use Rattle.p3_field.specs.Laws.Roots.{NoZeroDivisors}
 use Rattle.p3_field.specs.Laws.Coset.{HasOrder, power_apart, pow_mul, root_sum}
 
@@ -18,7 +18,7 @@ inverse_coeff r n m t g v j = r.mul m (r.mul (pow r t j) (total r n (λ i. r.mul
 
 -- the polynomial with the values v i at the points s h^i, i < n
 abbrev pub inverse_transform : {A : Type 0} → Ring A → ℕ → A → A → A → (ℕ → A) → List A
-inverse_transform r n m t g v = table n (inverse_coeff r n m t g v)
+inverse_transform r n m t g v = tabulate n (inverse_coeff r n m t g v)
 
 -- n, s and h have the inverses m, t and g
 pub record Inverses {A : Type 0} (r : Ring A) (n : ℕ) (s h m t g : A) : Type 0 where
@@ -28,7 +28,7 @@ pub record Inverses {A : Type 0} (r : Ring A) (n : ℕ) (s h m t g : A) : Type 0
 
 module _ {A : Type 0} (r : Ring A) (L : RingLaws r) where
   pub length_inverse_transform : (n : ℕ) (m t g : A) (v : ℕ → A) → length (inverse_transform r n m t g v) ≡ n
-  length_inverse_transform n m t g v = length-table n (inverse_coeff r n m t g v)
+  length_inverse_transform n m t g v = length-tabulate n (inverse_coeff r n m t g v)
 
   pub degree_inverse_transform : (n : ℕ) (m t g : A) (v : ℕ → A) → DegreeBelow r n (inverse_transform r n m t g v)
   degree_inverse_transform n m t g v = let l : length (inverse_transform r n m t g v) ≡ n = length_inverse_transform n m t g v in degree_length_le r L n (inverse_transform r n m t g v) (omega arith)
@@ -59,7 +59,7 @@ module _ {A : Type 0} (r : Ring A) (L : RingLaws r) where
 
   -- the value anywhere, at s K
   pub inverse_transform_at : (n : ℕ) (s m t g K : A) (v : ℕ → A) → r.mul t s ≡ r.one
-      → val r (inverse_transform r n m t g v) (r.mul s K) ≡ r.mul m (total r n (λ i. r.mul (v i) (total r n (λ j. pow r (r.mul (pow r g i) K) j))))
+      → eval_poly r (inverse_transform r n m t g v) (r.mul s K) ≡ r.mul m (total r n (λ i. r.mul (v i) (total r n (λ j. pow r (r.mul (pow r g i) K) j))))
   inverse_transform_at n s m t g K v e =
       let x = r.mul s K in
       let w : ℕ → A = λ i. r.mul (pow r g i) K in
@@ -72,7 +72,7 @@ module _ {A : Type 0} (r : Ring A) (L : RingLaws r) where
       total_swap r L n n (λ j i. r.mul (v i) (pow r (w i) j)) in
       let pull : total r n (λ i. total r n (λ j. r.mul (v i) (pow r (w i) j))) ≡ total r n (λ i. r.mul (v i) (total r n (λ j. pow r (w i) j))) =
       total_same r L n (λ i. total r n (λ j. r.mul (v i) (pow r (w i) j))) (λ i. r.mul (v i) (total r n (λ j. pow r (w i) j))) (λ i b. total_scale r L n (v i) (λ j. pow r (w i) j)) in
-      val_table r L n (inverse_coeff r n m t g v) x ∙ (terms ∙ (out ∙ ap (r.mul m) (swap ∙ pull)))
+      eval_tabulate r L n (inverse_coeff r n m t g v) x ∙ (terms ∙ (out ∙ ap (r.mul m) (swap ∙ pull)))
 
   module _ (N : NoZeroDivisors r) where
     -- the powers of g^i h^k add up to zero but for i = k
@@ -98,7 +98,7 @@ module _ {A : Type 0} (r : Ring A) (L : RingLaws r) where
         ∙ total_ones r L n
 
     pub inverse_transform_value : (n : ℕ) (s h m t g : A) (v : ℕ → A) → HasOrder r n h → Inverses r n s h m t g → (k : ℕ) → k < n
-        → val r (inverse_transform r n m t g v) (coset_point r s h k) ≡ v k
+        → eval_poly r (inverse_transform r n m t g v) (coset_point r s h k) ≡ v k
     inverse_transform_value n s h m t g v O I k a =
         let K = pow r h k in
         let at : ℕ → A = λ i. r.mul (v i) (total r n (λ j. pow r (r.mul (pow r g i) K) j)) in

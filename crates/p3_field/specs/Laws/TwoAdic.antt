@@ -2,17 +2,17 @@
 use Rattle.std.proofs.Common.{◌≡◌, ℕ, zero, suc, ◌+◌, ◌^◌, ◌≤◌, ◌<◌, ◌⊎◌, inl, inr, Bool, true, false, List, refl, sym, ◌∙◌, ap, arith}
 use Rattle.std.proofs.Math.Nat.{pow-suc}
 use Rattle.std.proofs.lemmas.Nat.{pow_pos}
-use Rattle.p3_field.specs.Domain.{scaled_vanishing, coset_point, vanishing}
+use Rattle.p3_field.specs.Domain.{scaled_binomial, coset_point, binomial}
 use Rattle.p3_field.specs.Ring.{Ring, RingLaws, pow, of_nat, sub}
-use Rattle.p3_field.specs.Poly.{val, SamePoly}
+use Rattle.p3_field.specs.Poly.{eval_poly, SamePoly}
 use Rattle.p3_field.specs.Field.{FieldLaws, TwoAdicLaws}
 use Rattle.p3_field.specs.Laws.Algebra.{zero_mul, of_nat_add, neg_unique, mul_neg}
-use Rattle.p3_field.specs.Laws.Values.{val_scale}
+use Rattle.p3_field.specs.Laws.Values.{eval_scale}
 use Rattle.p3_field.specs.Laws.Roots.{RootsAt, field_no_zero_divisors}
 use Rattle.p3_field.specs.Laws.Coset.{HasOrder, two_adic_order, pow_mul}
 use Rattle.p3_field.specs.Laws.Order.{one_pow}
 use Rattle.p3_field.specs.Laws.Transform.{Inverses, inverse_transform, inverse_transform_value}
-use Rattle.p3_field.specs.Laws.Vanishing.{val_vanishing, times_vanishing, quotient_by_vanishing, coset_divides}
+use Rattle.p3_field.specs.Laws.Binomials.{eval_binomial, times_binomial, quotient_by_binomial, coset_divides}
 
 -- a test for equality decides it
 pub decide_by : {A : Type 0} (eq : A → A → Bool) → ((x y : A) → eq x y ≡ true → x ≡ y) → ((x : A) → eq x x ≡ true) → (x y : A) → (x ≡ y) ⊎ (x ≡ y → ⊥)
@@ -23,11 +23,11 @@ decide_by {A} eq e same x y = go (eq x y) refl
     go false h = inr (λ z. let t : false ≡ true = sym h ∙ (ap (eq x) (sym z) ∙ same x) in cc)
 
 module _ {A : Type 0} (r : Ring A) (L : RingLaws r) where
-  pub val_scaled_vanishing : (n : ℕ) (s t x : A) → r.mul t s ≡ r.one → val r (scaled_vanishing r n s t) x ≡ sub r (pow r (r.mul t x) n) r.one
-  val_scaled_vanishing n s t x e =
+  pub eval_scaled_binomial : (n : ℕ) (s t x : A) → r.mul t s ≡ r.one → eval_poly r (scaled_binomial r n s t) x ≡ sub r (pow r (r.mul t x) n) r.one
+  eval_scaled_binomial n s t x e =
       let T = pow r t n in let S = pow r s n in let X = pow r x n in
       let unit : r.mul T S ≡ r.one = sym (pow_mul r L t s n) ∙ (ap (λ v. pow r v n) e ∙ one_pow r L n) in
-      cc (val_scale r L T (vanishing r n S) x, val_vanishing r L n S x, L.mul_add T X (r.neg S), mul_neg r L T S, unit, pow_mul r L t x n)
+      cc (eval_scale r L T (binomial r n S) x, eval_binomial r L n S x, L.mul_add T X (r.neg S), mul_neg r L T S, unit, pow_mul r L t x n)
 
   module _ (inv : A → A) (W : FieldLaws r inv) where
     zero_pow : (n : ℕ) → 0 < n → pow r r.zero n ≡ r.zero
@@ -71,12 +71,12 @@ module _ {A : Type 0} (r : Ring A) (L : RingLaws r) where
       abbrev pub coset_interpolant : (ℕ → A) → List A
       coset_interpolant v = inverse_transform r (2 ^ k) (inv (of_nat r (2 ^ k))) (inv s) (inv (gen k)) v
 
-      pub coset_interpolant_value : (v : ℕ → A) (i : ℕ) → i < 2 ^ k → val r (coset_interpolant v) (coset_point r s (gen k) i) ≡ v i
+      pub coset_interpolant_value : (v : ℕ → A) (i : ℕ) → i < 2 ^ k → eval_poly r (coset_interpolant v) (coset_point r s (gen k) i) ≡ v i
       coset_interpolant_value v i h =
           inverse_transform_value r L (field_no_zero_divisors r L inv W) (2 ^ k) s (gen k) (inv (of_nat r (2 ^ k))) (inv s) (inv (gen k)) v
           (two_adic_order r L top gen T k fits) (two_adic_inverses top gen T k s fits nz) i h
 
       pub two_adic_divides : (f : List A) → RootsAt r (2 ^ k) (coset_point r s (gen k)) f
-          → SamePoly r f (times_vanishing r (2 ^ k) (pow r s (2 ^ k)) (quotient_by_vanishing r (2 ^ k) (pow r s (2 ^ k)) f))
+          → SamePoly r f (times_binomial r (2 ^ k) (pow r s (2 ^ k)) (quotient_by_binomial r (2 ^ k) (pow r s (2 ^ k)) f))
       two_adic_divides f roots =
           coset_divides r L (field_no_zero_divisors r L inv W) (2 ^ k) s (gen k) f (pow_pos k) (two_adic_order r L top gen T k fits) nz roots

@@ -6,15 +6,15 @@ use Rattle.std.proofs.lemmas.List.{length-append}
 use Rattle.p3_field.specs.Ring.{Ring}
 use Rattle.p3_field.specs.Field.{VectorLaws, combine}
 
-module _ {A B : Type 0} (dimension : ℕ) (parts : B → List A) (whole : List A → B) (V : VectorLaws dimension parts whole) where
+module _ {A B : Type 0} (dimension : ℕ) (coefficients : B → List A) (from_coefficients : List A → B) (V : VectorLaws dimension coefficients from_coefficients) where
   -- a value is known by its coefficients
-  pub parts_injective : (x y : B) → parts x ≡ parts y → x ≡ y
-  parts_injective x y e = sym (V.whole_parts x) ∙ (ap whole e ∙ V.whole_parts y)
+  pub coefficients_injective : (x y : B) → coefficients x ≡ coefficients y → x ≡ y
+  coefficients_injective x y e = sym (V.from_coefficients_of_coefficients x) ∙ (ap from_coefficients e ∙ V.from_coefficients_of_coefficients y)
 
-  rest_differs : (x : B) (l : List A) → parts x ++ l ≡ [] → ⊥
+  rest_differs : (x : B) (l : List A) → coefficients x ++ l ≡ [] → ⊥
   rest_differs x l e =
-      let n : length (parts x ++ l) ≡ 0 = ap length e in
-      omega (arith, n, length-append (parts x) l, V.parts_length x, V.positive)
+      let n : length (coefficients x ++ l) ≡ 0 = ap length e in
+      omega (arith, n, length-append (coefficients x) l, V.coefficients_length x, V.positive)
 
   first_same : (a b l m : List A) → length a ≡ length b → a ++ l ≡ b ++ m → (a ≡ b) × (l ≡ m)
   first_same a b l m n e =
@@ -23,17 +23,17 @@ module _ {A B : Type 0} (dimension : ℕ) (parts : B → List A) (whole : List A
       (t, u)
 
   -- so are the values of a list, by the coefficients of all
-  pub flat_map_injective : (xs ys : List B) → flat_map parts xs ≡ flat_map parts ys → xs ≡ ys
+  pub flat_map_injective : (xs ys : List B) → flat_map coefficients xs ≡ flat_map coefficients ys → xs ≡ ys
   flat_map_injective [] [] e = refl
-  flat_map_injective [] (y ∷ ys) e = absurd (rest_differs y (flat_map parts ys) (sym e))
-  flat_map_injective (x ∷ xs) [] e = absurd (rest_differs x (flat_map parts xs) e)
+  flat_map_injective [] (y ∷ ys) e = absurd (rest_differs y (flat_map coefficients ys) (sym e))
+  flat_map_injective (x ∷ xs) [] e = absurd (rest_differs x (flat_map coefficients xs) e)
   flat_map_injective (x ∷ xs) (y ∷ ys) e =
-      let s = first_same (parts x) (parts y) (flat_map parts xs) (flat_map parts ys) (V.parts_length x ∙ sym (V.parts_length y)) e in
-      cc (parts_injective x y s.0, flat_map_injective xs ys s.1)
+      let s = first_same (coefficients x) (coefficients y) (flat_map coefficients xs) (flat_map coefficients ys) (V.coefficients_length x ∙ sym (V.coefficients_length y)) e in
+      cc (coefficients_injective x y s.0, flat_map_injective xs ys s.1)
 
   -- where each value is the combination of its coefficients, the combination of c has the coefficients c
-  pub parts_of_combination : (r : Ring B) (embed : A → B) (basis : ℕ → B) → ((x : B) → combine r basis 0 (map embed (parts x)) ≡ x)
-      → (c : List A) → length c ≡ dimension → parts (combine r basis 0 (map embed c)) ≡ c
-  parts_of_combination r embed basis spans c n =
-      let e : combine r basis 0 (map embed c) ≡ whole c = ap (λ l. combine r basis 0 (map embed l)) (sym (V.parts_whole c n)) ∙ spans (whole c) in
-      ap parts e ∙ V.parts_whole c n
+  pub coefficients_of_combination : (r : Ring B) (embed : A → B) (basis : ℕ → B) → ((x : B) → combine r basis 0 (map embed (coefficients x)) ≡ x)
+      → (c : List A) → length c ≡ dimension → coefficients (combine r basis 0 (map embed c)) ≡ c
+  coefficients_of_combination r embed basis spans c n =
+      let e : combine r basis 0 (map embed c) ≡ from_coefficients c = ap (λ l. combine r basis 0 (map embed l)) (sym (V.coefficients_of_from_coefficients c n)) ∙ spans (from_coefficients c) in
+      ap coefficients e ∙ V.coefficients_of_from_coefficients c n

@@ -1,19 +1,19 @@
 //! `BabyBear` as a prime field and a two-adic field.
 ghost use Rattle.std.specs.Prelude.{◌≡◌, ℕ, ◌+◌, ◌-◌, ◌*◌, ◌/◌, ◌%◌, ◌^◌, ◌<◌, ◌≤◌, cond, ◌↔◌};
 ghost use Rattle.p3_field.specs.Ring.{Ring, RingLaws, pow, of_nat, sub};
-ghost use Rattle.p3_field.specs.BabyBear.{reduce, bear_ring, bear_inv, bear_root};
-ghost use Rattle.p3_field.specs.Laws.BearField.{bear_field_laws, bear_31, bear_same_eq, bear_eq_same, bear_canonical_of, bear_of_canonical, bear_root_laws};
+ghost use Rattle.p3_field.specs.BabyBear.{reduce, baby_bear_ring, baby_bear_inv, baby_bear_root};
+ghost use Rattle.p3_field.specs.Laws.BabyBearField.{baby_bear_field_laws, baby_bear_31, baby_bear_same_eq, baby_bear_eq_same, baby_bear_canonical_of, baby_bear_of_canonical, baby_bear_root_laws};
 ghost use Rattle.std.proofs.Common.{rules, refl, arith, lit<};
 
 use crate::baby_bear::BabyBear;
 use crate::generic::product_of_squares;
 use crate::{FieldCore, PrimeCharacteristicRing, PrimeCore64, RingCore, TwoAdicCore};
 
-#[tactic(auto, using(crate::specs::Laws::BearField::bear_is_zero), unfolding(crate::specs::BabyBear::bear_inv))]
+#[tactic(auto, using(crate::specs::Laws::BabyBearField::baby_bear_is_zero), unfolding(crate::specs::BabyBear::baby_bear_inv))]
 impl FieldCore for BabyBear {
     ghost GENERATOR = { reduce 31 };
 
-    ghost inv = { bear_inv };
+    ghost inv = { baby_bear_inv };
 
     const GENERATOR: BabyBear = BabyBear { value: 31 };
 
@@ -38,13 +38,13 @@ impl FieldCore for BabyBear {
         ones * a * b * c
     }
 
-    ghost field_laws = { bear_field_laws };
+    ghost field_laws = { baby_bear_field_laws };
 
-    ghost generator_not_zero = { bear_31 };
+    ghost generator_not_zero = { baby_bear_31 };
 
-    ghost eq_same = { bear_same_eq };
+    ghost eq_same = { baby_bear_same_eq };
 
-    ghost same_eq = { bear_eq_same };
+    ghost same_eq = { baby_bear_eq_same };
 }
 
 impl PrimeCore64 for BabyBear {
@@ -60,15 +60,15 @@ impl PrimeCore64 for BabyBear {
 
     ghost canonical_below = { λ x. x.in_range };
 
-    ghost of_canonical = { bear_of_canonical };
+    ghost of_canonical = { baby_bear_of_canonical };
 
-    ghost canonical_of = { bear_canonical_of };
+    ghost canonical_of = { baby_bear_canonical_of };
 }
 
 impl TwoAdicCore for BabyBear {
     ghost TWO_ADICITY = { 27 };
 
-    ghost root = { bear_root };
+    ghost root = { baby_bear_root };
 
     const TWO_ADICITY: usize = 27;
 
@@ -79,5 +79,5 @@ impl TwoAdicCore for BabyBear {
 
     ghost below_64 = { lit< tt };
 
-    ghost root_laws = { bear_root_laws };
+    ghost root_laws = { baby_bear_root_laws };
 }

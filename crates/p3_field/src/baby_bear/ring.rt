@@ -1,8 +1,8 @@
 //! The arithmetic of `BabyBear`.
 ghost use Rattle.std.specs.Prelude.{◌≡◌, ℕ, ◌+◌, ◌-◌, ◌*◌, ◌/◌, ◌%◌, ◌^◌, ◌<◌, ◌≤◌, cond};
 ghost use Rattle.p3_field.specs.Ring.{Ring, RingLaws, pow, of_nat, sub};
-ghost use Rattle.p3_field.specs.BabyBear.{order, reduce, bear_ring};
-ghost use Rattle.p3_field.specs.Laws.BearLaws.{bear_laws};
+ghost use Rattle.p3_field.specs.BabyBear.{order, reduce, baby_bear_ring};
+ghost use Rattle.p3_field.specs.Laws.BabyBearLaws.{baby_bear_laws};
 ghost use Rattle.std.proofs.Common.{rules, refl, lit<};
 
 use crate::baby_bear::BabyBear;
@@ -21,7 +21,7 @@ pub(crate) fn reduced(n: u64) -> BabyBear
 }
 
 // The value that is `n` modulo p, for `n` below 2p.
-#[tactic(auto, using(crate::specs::Laws::BearLaws::bear_is))]
+#[tactic(auto, using(crate::specs::Laws::BabyBearLaws::baby_bear_is))]
 fn reduced_once(n: u32) -> BabyBear
     requires { n < 2 * order }
     ensures { result ≡ reduce n }
@@ -33,7 +33,7 @@ fn reduced_once(n: u32) -> BabyBear
 }
 
 // The product of the two numbers, before it is reduced: four of them have a sum below 2^64.
-#[tactic(auto, using(crate::specs::Laws::BearLaws::product_below))]
+#[tactic(auto, using(crate::specs::Laws::BabyBearLaws::product_below))]
 pub(crate) fn product(x: BabyBear, y: BabyBear) -> u64
     ensures value { result ≡ x.value * y.value }
     ensures small { result ≤ (order - 1) * (order - 1) }
@@ -48,59 +48,59 @@ pub(crate) fn eleven() -> BabyBear
     reduced(11)
 }
 
-#[tactic(auto, unfolding(crate::specs::BabyBear::bear_ring))]
+#[tactic(auto, unfolding(crate::specs::BabyBear::baby_bear_ring))]
 impl Add for BabyBear {
     type Output = BabyBear;
 
-    ghost add_gives = { λ x y r. r ≡ bear_ring.add x y };
+    ghost add_gives = { λ x y r. r ≡ baby_bear_ring.add x y };
 
     fn add(self, rhs: BabyBear) -> BabyBear {
         reduced_once(self.value + rhs.value)
     }
 }
 
-#[tactic(auto, using(crate::specs::Laws::BearLaws::bear_sub))]
+#[tactic(auto, using(crate::specs::Laws::BabyBearLaws::baby_bear_sub))]
 impl Sub for BabyBear {
     type Output = BabyBear;
 
-    ghost sub_gives = { λ x y r. r ≡ sub bear_ring x y };
+    ghost sub_gives = { λ x y r. r ≡ sub baby_bear_ring x y };
 
     fn sub(self, rhs: BabyBear) -> BabyBear {
         reduced_once(self.value + (P as u32 - rhs.value))
     }
 }
 
-#[tactic(auto, unfolding(crate::specs::BabyBear::bear_ring))]
+#[tactic(auto, unfolding(crate::specs::BabyBear::baby_bear_ring))]
 impl Mul for BabyBear {
     type Output = BabyBear;
 
-    ghost mul_gives = { λ x y r. r ≡ bear_ring.mul x y };
+    ghost mul_gives = { λ x y r. r ≡ baby_bear_ring.mul x y };
 
     fn mul(self, rhs: BabyBear) -> BabyBear {
         reduced(product(self, rhs))
     }
 }
 
-#[tactic(auto, unfolding(crate::specs::BabyBear::bear_ring))]
+#[tactic(auto, unfolding(crate::specs::BabyBear::baby_bear_ring))]
 impl Neg for BabyBear {
     type Output = BabyBear;
 
-    ghost neg_gives = { λ x r. r ≡ bear_ring.neg x };
+    ghost neg_gives = { λ x r. r ≡ baby_bear_ring.neg x };
 
     fn neg(self) -> BabyBear {
         reduced_once(P as u32 - self.value)
     }
 }
 
-#[tactic(auto, using(crate::specs::Laws::BearLaws::bear_of_nat), unfolding(crate::specs::BabyBear::bear_ring))]
+#[tactic(auto, using(crate::specs::Laws::BabyBearLaws::baby_bear_of_nat), unfolding(crate::specs::BabyBear::baby_bear_ring))]
 impl RingCore for BabyBear {
-    ghost ring = { bear_ring };
+    ghost ring = { baby_bear_ring };
 
-    ghost ZERO = { bear_ring.zero };
+    ghost ZERO = { baby_bear_ring.zero };
 
-    ghost ONE = { bear_ring.one };
+    ghost ONE = { baby_bear_ring.one };
 
-    ghost TWO = { bear_ring.add bear_ring.one bear_ring.one };
+    ghost TWO = { baby_bear_ring.add baby_bear_ring.one baby_bear_ring.one };
 
     const ZERO: BabyBear = BabyBear { value: 0 };
 
@@ -120,7 +120,7 @@ impl RingCore for BabyBear {
         reduced(n)
     }
 
-    ghost ring_laws = { bear_laws };
+    ghost ring_laws = { baby_bear_laws };
 
     ghost clones_are_copies = { λ x y h. h };
 

@@ -1,16 +1,16 @@
 //! `Gf256` as a field.
 ghost use Rattle.std.specs.Prelude.{◌≡◌};
-ghost use Rattle.p3_field.specs.Gf256.{of_byte, gf_ring, gf_inv};
-ghost use Rattle.p3_field.specs.Laws.Gf256Field.{gf_field_laws, gf_three, gf_same_eq, gf_eq_same};
+ghost use Rattle.p3_field.specs.Gf256.{of_byte, gf256_ring, gf256_inv};
+ghost use Rattle.p3_field.specs.Laws.Gf256Field.{gf256_field_laws, gf256_three, gf256_same_eq, gf256_eq_same};
 
 use crate::gf256::Gf256;
 use crate::{FieldCore, PrimeCharacteristicRing, RingCore};
 
-#[tactic(auto, using(crate::specs::Laws::Gf256Field::gf_is_zero, crate::specs::Laws::Gf256Laws::same_gf), unfolding(crate::specs::Gf256::gf_inv))]
+#[tactic(auto, using(crate::specs::Laws::Gf256Field::gf256_is_zero, crate::specs::Laws::Gf256Laws::same_gf256), unfolding(crate::specs::Gf256::gf256_inv))]
 impl FieldCore for Gf256 {
     ghost GENERATOR = { of_byte 3 };
 
-    ghost inv = { gf_inv };
+    ghost inv = { gf256_inv };
 
     const GENERATOR: Gf256 = Gf256 { value: 3 };
 
@@ -31,11 +31,11 @@ impl FieldCore for Gf256 {
         self.exp_u64(254)
     }
 
-    ghost field_laws = { gf_field_laws };
+    ghost field_laws = { gf256_field_laws };
 
-    ghost generator_not_zero = { gf_three };
+    ghost generator_not_zero = { gf256_three };
 
-    ghost eq_same = { gf_same_eq };
+    ghost eq_same = { gf256_same_eq };
 
-    ghost same_eq = { gf_eq_same };
+    ghost same_eq = { gf256_eq_same };
 }

@@ -1,8 +1,8 @@
 //! The arithmetic of `Gf256`.
 ghost use Rattle.std.specs.Prelude.{◌≡◌};
 ghost use Rattle.p3_field.specs.Ring.{of_nat, sub};
-ghost use Rattle.p3_field.specs.Gf256.{times_x, byte_mul, of_byte, gf_ring};
-ghost use Rattle.p3_field.specs.Laws.Gf256Laws.{gf_laws};
+ghost use Rattle.p3_field.specs.Gf256.{times_x, byte_mul, of_byte, gf256_ring};
+ghost use Rattle.p3_field.specs.Laws.Gf256Laws.{gf256_laws};
 ghost use Rattle.std.proofs.Common.{rules, refl, lit<};
 
 use crate::gf256::Gf256;
@@ -28,51 +28,51 @@ fn byte_mul(a: u8, b: u8) -> u8
 }
 
 // The value with this byte.
-#[tactic(auto, using(crate::specs::Laws::Gf256Laws::gf_of_byte))]
+#[tactic(auto, using(crate::specs::Laws::Gf256Laws::gf256_of_byte))]
 fn of_byte(n: u8) -> Gf256
     ensures { result ≡ of_byte n }
 {
     Gf256 { value: n }
 }
 
-#[tactic(auto, unfolding(crate::specs::Gf256::gf_ring))]
+#[tactic(auto, unfolding(crate::specs::Gf256::gf256_ring))]
 impl Add for Gf256 {
     type Output = Gf256;
 
-    ghost add_gives = { λ x y r. r ≡ gf_ring.add x y };
+    ghost add_gives = { λ x y r. r ≡ gf256_ring.add x y };
 
     fn add(self, rhs: Gf256) -> Gf256 {
         of_byte(self.value ^ rhs.value)
     }
 }
 
-#[tactic(auto, unfolding(crate::specs::Gf256::gf_ring))]
+#[tactic(auto, unfolding(crate::specs::Gf256::gf256_ring))]
 impl Sub for Gf256 {
     type Output = Gf256;
 
-    ghost sub_gives = { λ x y r. r ≡ sub gf_ring x y };
+    ghost sub_gives = { λ x y r. r ≡ sub gf256_ring x y };
 
     fn sub(self, rhs: Gf256) -> Gf256 {
         of_byte(self.value ^ rhs.value)
     }
 }
 
-#[tactic(auto, unfolding(crate::specs::Gf256::gf_ring))]
+#[tactic(auto, unfolding(crate::specs::Gf256::gf256_ring))]
 impl Mul for Gf256 {
     type Output = Gf256;
 
-    ghost mul_gives = { λ x y r. r ≡ gf_ring.mul x y };
+    ghost mul_gives = { λ x y r. r ≡ gf256_ring.mul x y };
 
     fn mul(self, rhs: Gf256) -> Gf256 {
         of_byte(byte_mul(self.value, rhs.value))
     }
 }
 
-#[tactic(auto, unfolding(crate::specs::Gf256::gf_ring))]
+#[tactic(auto, unfolding(crate::specs::Gf256::gf256_ring))]
 impl Neg for Gf256 {
     type Output = Gf256;
 
-    ghost neg_gives = { λ x r. r ≡ gf_ring.neg x };
+    ghost neg_gives = { λ x r. r ≡ gf256_ring.neg x };
 
     fn neg(self) -> Gf256 {
         self
@@ -80,22 +80,22 @@ impl Neg for Gf256 {
 }
 
 // The sum of `n` ones.
-#[tactic(auto, using(crate::specs::Laws::Gf256Laws::gf_of_nat))]
+#[tactic(auto, using(crate::specs::Laws::Gf256Laws::gf256_of_nat))]
 fn ones(n: u64) -> Gf256
-    ensures { result ≡ of_nat gf_ring n }
+    ensures { result ≡ of_nat gf256_ring n }
 {
     of_byte((n % 2) as u8)
 }
 
-#[tactic(auto, using(crate::specs::Laws::Gf256Laws::same_gf), unfolding(crate::specs::Gf256::gf_ring))]
+#[tactic(auto, using(crate::specs::Laws::Gf256Laws::same_gf256), unfolding(crate::specs::Gf256::gf256_ring))]
 impl RingCore for Gf256 {
-    ghost ring = { gf_ring };
+    ghost ring = { gf256_ring };
 
-    ghost ZERO = { gf_ring.zero };
+    ghost ZERO = { gf256_ring.zero };
 
-    ghost ONE = { gf_ring.one };
+    ghost ONE = { gf256_ring.one };
 
-    ghost TWO = { gf_ring.add gf_ring.one gf_ring.one };
+    ghost TWO = { gf256_ring.add gf256_ring.one gf256_ring.one };
 
     const ZERO: Gf256 = Gf256 { value: 0 };
 
@@ -115,7 +115,7 @@ impl RingCore for Gf256 {
         ones(n)
     }
 
-    ghost ring_laws = { gf_laws };
+    ghost ring_laws = { gf256_laws };
 
     ghost clones_are_copies = { λ x y h. h };
 

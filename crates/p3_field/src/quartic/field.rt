@@ -1,7 +1,7 @@
 //! `QuarticExtension` as a field.
 ghost use Rattle.std.specs.Prelude.{◌≡◌};
 ghost use Rattle.p3_field.specs.BabyBear.{reduce};
-ghost use Rattle.p3_field.specs.Quartic.{of_bear_value, quartic_inv};
+ghost use Rattle.p3_field.specs.Quartic.{of_baby_bear_value, quartic_inv};
 ghost use Rattle.p3_field.specs.Laws.QuarticField.{conjugate, even, quartic_field_laws, quartic_31, quartic_eq_same, quartic_same_eq};
 
 use crate::baby_bear::ring::eleven;
@@ -9,9 +9,9 @@ use crate::baby_bear::{BEAR_0, BEAR_31, BabyBear};
 use crate::quartic::QuarticExtension;
 use crate::{FieldCore, RingCore};
 
-#[tactic(auto, using(crate::specs::Laws::QuarticLaws::quartic_same, crate::specs::Laws::QuarticField::quartic_is_zero), unfolding(crate::specs::BabyBear::bear_ring))]
+#[tactic(auto, using(crate::specs::Laws::QuarticLaws::quartic_same, crate::specs::Laws::QuarticField::quartic_is_zero), unfolding(crate::specs::BabyBear::baby_bear_ring))]
 impl FieldCore for QuarticExtension {
-    ghost GENERATOR = { of_bear_value (reduce 31) };
+    ghost GENERATOR = { of_baby_bear_value (reduce 31) };
 
     ghost inv = { quartic_inv };
 
@@ -68,7 +68,7 @@ impl QuarticExtension {
 }
 
 // a + b x^2.
-#[tactic(auto, using(crate::specs::Laws::QuarticLaws::quartic_same), unfolding(crate::specs::BabyBear::bear_ring))]
+#[tactic(auto, using(crate::specs::Laws::QuarticLaws::quartic_same), unfolding(crate::specs::BabyBear::baby_bear_ring))]
 fn even(a: BabyBear, b: BabyBear) -> QuarticExtension
     ensures { result ≡ even a b }
 {

@@ -1,9 +1,9 @@
 //! The arithmetic of `QuarticExtension`.
 ghost use Rattle.std.specs.Prelude.{◌≡◌, ℕ, ◌+◌, ◌-◌, ◌*◌, ◌/◌, ◌%◌, ◌^◌, ◌<◌, ◌≤◌, cond};
 ghost use Rattle.p3_field.specs.Ring.{Ring, RingLaws, pow, of_nat, sub};
-ghost use Rattle.p3_field.specs.BabyBear.{bear_ring};
-ghost use Rattle.p3_field.specs.Quartic.{quartic_ring, to_four, of_bear_value};
-ghost use Rattle.p3_field.specs.Laws.Four.{weighted};
+ghost use Rattle.p3_field.specs.BabyBear.{baby_bear_ring};
+ghost use Rattle.p3_field.specs.Quartic.{quartic_ring, to_four_coefficients, of_baby_bear_value};
+ghost use Rattle.p3_field.specs.Laws.QuarticRings.{weighted_four};
 ghost use Rattle.p3_field.specs.Laws.QuarticLaws.{quartic_laws};
 ghost use Rattle.std.proofs.Common.{rules, refl, lit<};
 
@@ -62,9 +62,9 @@ impl Neg for QuarticExtension {
 }
 
 // The coefficients of `x` times these values, summed and reduced once.
-#[tactic(auto, using(crate::specs::Laws::BearLaws::reduce_products))]
+#[tactic(auto, using(crate::specs::Laws::BabyBearLaws::reduce_products))]
 fn weighted_sum(x: QuarticExtension, a: BabyBear, b: BabyBear, c: BabyBear, d: BabyBear) -> BabyBear
-    ensures { result ≡ weighted bear_ring (to_four x) a b c d }
+    ensures { result ≡ weighted_four baby_bear_ring (to_four_coefficients x) a b c d }
 {
     reduced(product(x.c0, a) + product(x.c1, b) + product(x.c2, c) + product(x.c3, d))
 }
@@ -87,7 +87,7 @@ impl Mul for QuarticExtension {
     }
 }
 
-#[tactic(auto, using(crate::specs::Laws::QuarticLaws::of_bear_of_nat, crate::specs::Laws::QuarticLaws::quartic_same), unfolding(crate::specs::Quartic::quartic_ring, crate::specs::BabyBear::bear_ring))]
+#[tactic(auto, using(crate::specs::Laws::QuarticLaws::of_baby_bear_of_nat, crate::specs::Laws::QuarticLaws::quartic_same), unfolding(crate::specs::Quartic::quartic_ring, crate::specs::BabyBear::baby_bear_ring))]
 impl RingCore for QuarticExtension {
     ghost ring = { quartic_ring };
 
@@ -119,15 +119,15 @@ impl RingCore for QuarticExtension {
     };
 
     fn from_bool(b: bool) -> QuarticExtension {
-        of_bear(BabyBear::from_bool(b))
+        of_baby_bear(BabyBear::from_bool(b))
     }
 
     fn from_u16(n: u16) -> QuarticExtension {
-        of_bear(BabyBear::from_u16(n))
+        of_baby_bear(BabyBear::from_u16(n))
     }
 
     fn from_u64(n: u64) -> QuarticExtension {
-        of_bear(BabyBear::from_u64(n))
+        of_baby_bear(BabyBear::from_u64(n))
     }
 
     ghost ring_laws = { quartic_laws };
@@ -162,9 +162,9 @@ impl PrimeCharacteristicRing for QuarticExtension {
 }
 
 // The constant polynomial.
-#[tactic(auto, using(crate::specs::Laws::QuarticLaws::quartic_same), unfolding(crate::specs::BabyBear::bear_ring))]
-pub(crate) fn of_bear(x: BabyBear) -> QuarticExtension
-    ensures { result ≡ of_bear_value x }
+#[tactic(auto, using(crate::specs::Laws::QuarticLaws::quartic_same), unfolding(crate::specs::BabyBear::baby_bear_ring))]
+pub(crate) fn of_baby_bear(x: BabyBear) -> QuarticExtension
+    ensures { result ≡ of_baby_bear_value x }
 {
     QuarticExtension {
         c0: x,

@@ -1,21 +1,21 @@
 //! `QuarticExtension` over its base `BabyBear`: coefficients, basis and embedding.
 ghost use Rattle.std.specs.Prelude.{◌≡◌, ℕ, ◌<◌};
-ghost use Rattle.p3_field.specs.Quartic.{of_bear_value, quartic_parts, quartic_whole, quartic_basis};
+ghost use Rattle.p3_field.specs.Quartic.{of_baby_bear_value, quartic_coefficients, quartic_from_coefficients, quartic_basis};
 ghost use Rattle.p3_field.specs.Laws.QuarticLaws.{quartic_hom};
 ghost use Rattle.p3_field.specs.Laws.QuarticVector.{quartic_vector_laws, quartic_spans};
 
 use crate::baby_bear::{BEAR_0, BEAR_1, BabyBear};
 use crate::quartic::QuarticExtension;
-use crate::quartic::ring::of_bear;
+use crate::quartic::ring::of_baby_bear;
 use crate::{BasedVectorSpace, ExtensionField, Mem};
 use std::alloc::Global;
 
 impl BasedVectorSpace<BabyBear> for QuarticExtension {
     ghost DIMENSION = { 4 };
 
-    ghost parts = { quartic_parts };
+    ghost coefficients = { quartic_coefficients };
 
-    ghost whole = { quartic_whole };
+    ghost from_coefficients = { quartic_from_coefficients };
 
     const DIMENSION: usize = 4;
 
@@ -55,12 +55,12 @@ impl BasedVectorSpace<BabyBear> for QuarticExtension {
 }
 
 impl ExtensionField<BabyBear> for QuarticExtension {
-    ghost embed = { of_bear_value };
+    ghost embed = { of_baby_bear_value };
 
     ghost basis = { quartic_basis };
 
     fn from_base(x: BabyBear) -> QuarticExtension {
-        of_bear(x)
+        of_baby_bear(x)
     }
 
     fn from_ext_basis_coefficients(c: &[QuarticExtension]) -> Option<QuarticExtension> {

@@ -28,7 +28,7 @@ swap_left r x y s = r.add x (r.add y s)
 abbrev swap_right : {A : Type 0} → Ring A → A → A → A → A
 swap_right r x y s = r.add y (r.add x s)
 
--- things with a key and a weight, where `same` tells whether two keys are one
+-- things with a key and a weight, where `keeps_shape` tells whether two keys are one
 module _ {K M F E : Type 0} (f : Ring F) (fL : RingLaws f) (e : Ring E) (L : RingLaws e) (embed : F → E) (H : RingHom f e embed)
     (same : K → K → Bool) (sound : (a b : K) → same a b ≡ true → a ≡ b) (whole : (a : K) → same a a ≡ true)
     (key : M → K) (count : M → F) (g : K → E) where

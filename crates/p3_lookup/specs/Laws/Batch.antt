@@ -5,8 +5,8 @@ use Rattle.std.proofs.lemmas.List.{length-map, map-append, get_or-map, get_or_ap
 use Rattle.std.proofs.lemmas.List.Elements.{All-cons, All-head, All-tail, All-append, All-weaker}
 use Rattle.p3_field.specs.Ring.{Ring, RingLaws}
 use Rattle.p3_field.specs.Field.{RingHom}
-use Rattle.p3_field.specs.Poly.{table}
-use Rattle.p3_field.specs.Laws.Tables.{get_or-table}
+use Rattle.p3_field.specs.Poly.{tabulate}
+use Rattle.p3_field.specs.Laws.Tabulate.{get_or-tabulate}
 use Rattle.p3_air.specs.declared.cells.Count.{Count}
 use Rattle.p3_air.specs.Tree.{Tree, local}
 use Rattle.p3_lookup.specs.Lookup.{LookupData, pair_up, sent}
@@ -15,17 +15,17 @@ use Rattle.p3_lookup.specs.Honest.{running_sum}
 use Rattle.p3_lookup.specs.Bus.{bus_number, bus_in, bus_count, batch_buses, lookups_before, widest}
 use Rattle.p3_lookup.specs.Challenge.{bus_base, challenges_with}
 use Rattle.p3_lookup.specs.Messages.{Message, Sender, message, messages_from, table_messages, batch_messages, challenges_from, argument_of, terminal_of}
-use Rattle.p3_lookup.specs.Batch.{BatchTable, batch_lookups, senders_from, senders, laid_out, laid_out_terminal, BalancedBatch, WidthsPassOn}
+use Rattle.p3_lookup.specs.Batch.{SendingTable, batch_lookups, senders_from, senders, laid_out, laid_out_terminal, BalancedBatch, WidthsPassOn}
 use Rattle.p3_lookup.specs.Laws.Buses.{number_below}
-use Rattle.p3_lookup.specs.Laws.Places.{place_within, behind}
+use Rattle.p3_lookup.specs.Laws.Places.{place_within, place_after}
 use Rattle.p3_lookup.specs.Laws.Messages.{balance_sums}
 
 -- the lookups of the table at a place
-lookups_at : {F : Type 0} (ts : List (BatchTable F)) (k : ℕ) (d : BatchTable F) → k < length ts → get_or (batch_lookups ts) k [] ≡ (get_or ts k d).lookups
+lookups_at : {F : Type 0} (ts : List (SendingTable F)) (k : ℕ) (d : SendingTable F) → k < length ts → get_or (batch_lookups ts) k [] ≡ (get_or ts k d).lookups
 lookups_at ts k d h = get_or-map (λ t. t.lookups) ts k d [] h
 
 -- the number of a lookup's bus is one of the batch's
-pub bus_below : {F : Type 0} (ts : List (BatchTable F)) (k n : ℕ) (d : BatchTable F) → k < length ts → n < length (get_or ts k d).lookups → bus_in (batch_lookups ts) k n < bus_count (batch_buses (batch_lookups ts))
+pub bus_below : {F : Type 0} (ts : List (SendingTable F)) (k n : ℕ) (d : SendingTable F) → k < length ts → n < length (get_or ts k d).lookups → bus_in (batch_lookups ts) k n < bus_count (batch_buses (batch_lookups ts))
 bus_below ts k n d h lt =
     let tables = batch_lookups ts in
     let long : k < length tables = omega (arith, h, length-map ts (λ t. t.lookups)) in
@@ -39,13 +39,13 @@ laid_out_is e alpha beta w b bus n zero h = refl
 laid_out_is e alpha beta w b bus n (suc m) h =
     let z : n + 0 ≡ n = omega arith in
     let here : bus n < b = subst (λ (k : ℕ). bus k < b) z (h 0 (omega arith)) in
-    let base : get_or (table b (bus_base e alpha beta w)) (bus n) e.zero ≡ bus_base e alpha beta w (bus n) = get_or-table b (bus_base e alpha beta w) (bus n) e.zero here in
+    let base : get_or (tabulate b (bus_base e alpha beta w)) (bus n) e.zero ≡ bus_base e alpha beta w (bus n) = get_or-tabulate b (bus_base e alpha beta w) (bus n) e.zero here in
     ap (λ x. x ∷ beta ∷ laid_out e.zero (challenges_with e alpha beta w b) bus (suc n) m) base
     ∙ ap (λ l. bus_base e alpha beta w (bus n) ∷ beta ∷ l)
     (laid_out_is e alpha beta w b bus (suc n) m (λ k lt. let q : n + suc k ≡ suc n + k = omega arith in subst (λ (j : ℕ). bus j < b) q (h (suc k) (omega (arith, lt)))))
 
 module _ {F E : Type 0} (e : Ring E) (inv : E → E) (embed : F → E) (alpha beta : E) (w b : ℕ) where
-  terminals_from : (bus : ℕ → ℕ → ℕ) (t : ℕ) (ts : List (BatchTable F)) → ((k n : ℕ) (d : BatchTable F) → k < length ts → n < length (get_or ts k d).lookups → bus (t + k) n < b)
+  terminals_from : (bus : ℕ → ℕ → ℕ) (t : ℕ) (ts : List (SendingTable F)) → ((k n : ℕ) (d : SendingTable F) → k < length ts → n < length (get_or ts k d).lookups → bus (t + k) n < b)
       → map (laid_out_terminal e inv embed (challenges_with e alpha beta w b)) (senders_from bus t ts) ≡ map (terminal_of e inv embed (bus_base e alpha beta w) beta) (senders_from bus t ts)
   terminals_from bus t [] h = refl
   terminals_from bus t (x ∷ xs) h =
@@ -60,7 +60,7 @@ module _ {F E : Type 0} (e : Ring E) (inv : E → E) (embed : F → E) (alpha be
 
 -- where nothing is left over, the terminals sum to zero
 pub balanced_batch : {F E : Type 0} (f : Ring F) (fL : RingLaws f) (eq : F → F → Bool) (eq_same : (x y : F) → eq x y ≡ true → x ≡ y) (same_eq : (x : F) → eq x x ≡ true)
-    (e : Ring E) (L : RingLaws e) (inv : E → E) (embed : F → E) (H : RingHom f e embed) (ts : List (BatchTable F)) → BalancedBatch f eq e inv embed ts
+    (e : Ring E) (L : RingLaws e) (inv : E → E) (embed : F → E) (H : RingHom f e embed) (ts : List (SendingTable F)) → BalancedBatch f eq e inv embed ts
 balanced_batch f fL eq eq_same same_eq e L inv embed H ts h alpha beta =
     let tables = batch_lookups ts in
     let w = widest tables in
@@ -99,13 +99,13 @@ module _ {F : Type 0} (Q : ℕ → ℕ → Type 0) where
   flat_widths f h (x ∷ xs) = All-append HasWidth (f x) (flat_map f xs) (h x) (flat_widths f h xs)
 
   table_widths : (s : Sender F) → ((k : ℕ) (d : LookupData F) → k < length s.lookups → All (λ t. Q (s.bus k) (length t)) (get_or s.lookups k d).tuples) → All HasWidth (table_messages s)
-  table_widths s h = flat_widths (λ i. messages_from (s.value i) s.bus 0 s.lookups) (λ i. row_widths (s.value i) s.bus 0 s.lookups at) (table s.rows (λ i. i))
+  table_widths s h = flat_widths (λ i. messages_from (s.value i) s.bus 0 s.lookups) (λ i. row_widths (s.value i) s.bus 0 s.lookups at) (tabulate s.rows (λ i. i))
     where
       at : (k : ℕ) (d : LookupData F) → k < length s.lookups → All (λ t. Q (s.bus (0 + k)) (length t)) (get_or s.lookups k d).tuples
       at k d lt = let q : k ≡ 0 + k = omega arith in subst (λ (j : ℕ). All (λ t. Q (s.bus j) (length t)) (get_or s.lookups k d).tuples) q (h k d lt)
 
-  senders_widths : (bus : ℕ → ℕ → ℕ) (t : ℕ) (ts : List (BatchTable F))
-      → ((k n : ℕ) (x : BatchTable F) (d : LookupData F) → k < length ts → n < length (get_or ts k x).lookups → All (λ u. Q (bus (t + k) n) (length u)) (get_or (get_or ts k x).lookups n d).tuples)
+  senders_widths : (bus : ℕ → ℕ → ℕ) (t : ℕ) (ts : List (SendingTable F))
+      → ((k n : ℕ) (x : SendingTable F) (d : LookupData F) → k < length ts → n < length (get_or ts k x).lookups → All (λ u. Q (bus (t + k) n) (length u)) (get_or (get_or ts k x).lookups n d).tuples)
       → All HasWidth (batch_messages (senders_from bus t ts))
   senders_widths bus t [] h = λ k d lt. absurd (omega (arith, lt))
   senders_widths bus t (x ∷ xs) h =
@@ -116,7 +116,7 @@ module _ {F : Type 0} (Q : ℕ → ℕ → Type 0) where
       (senders_widths bus (suc t) xs (λ k n y d lt in-k. let q : t + suc k ≡ suc t + k = omega arith in
       subst (λ (j : ℕ). All (λ u. Q (bus j n) (length u)) (get_or (get_or xs k y).lookups n d).tuples) q (h (suc k) n y d (omega (arith, lt)) in-k)))
 
--- the lookups of all tables behind each other
+-- the lookups of all tables one after another
 abbrev all_lookups : {F : Type 0} → List (List (LookupData F)) → List (LookupData F)
 all_lookups tables = flat_map (λ ls. ls) tables
 
@@ -130,7 +130,7 @@ lookup_in (ls ∷ tables) zero n d h lt =
     let z : 0 + n ≡ n = omega arith in
     ap (λ j. get_or (ls ++ all_lookups tables) j d) z ∙ get_or_append_left ls (all_lookups tables) d n lt
 lookup_in (ls ∷ tables) (suc t) n d h lt =
-    ap (λ j. get_or (ls ++ all_lookups tables) j d) (behind (length ls) (lookups_before tables t) n (length ls) refl)
+    ap (λ j. get_or (ls ++ all_lookups tables) j d) (place_after (length ls) (lookups_before tables t) n (length ls) refl)
     ∙ get_or-append-add ls (all_lookups tables) (lookups_before tables t + n) d
     ∙ lookup_in tables t n d (omega (arith, h)) lt
 
@@ -143,7 +143,7 @@ record IsSent {F : Type 0} (ls : List (LookupData F)) (b w : ℕ) : Type 0 where
   inside : (d : LookupData F) → tuple < length (get_or ls place d).tuples
   wide : (d : LookupData F) (u : List (Tree F)) → length (get_or (get_or ls place d).tuples tuple u) ≡ w
 
-pub widths_pass_on : {F : Type 0} (ts : List (BatchTable F)) → WidthsPassOn ts
+pub widths_pass_on : {F : Type 0} (ts : List (SendingTable F)) → WidthsPassOn ts
 widths_pass_on {F = F} ts one =
     All-weaker (λ (m : Message F). IsSent all m.bus (length m.tuple)) (λ (a : Message F). All (λ b. a.bus ≡ b.bus → length a.tuple ≡ length b.tuple) ms)
     (λ a p. All-weaker (λ (m : Message F). IsSent all m.bus (length m.tuple)) (λ (b : Message F). a.bus ≡ b.bus → length a.tuple ≡ length b.tuple) (λ b q e. same_width a.bus b.bus (length a.tuple) (length b.tuple) p q e) ms from)
@@ -167,7 +167,7 @@ widths_pass_on {F = F} ts one =
         let h = one p.place q.place nothing p.within q.within n p.tuple [] (p.inside nothing) q.tuple [] (q.inside nothing) in
         sym (p.wide nothing []) ∙ sym h ∙ q.wide nothing []
 
-    at : (k n : ℕ) (x : BatchTable F) (d : LookupData F) → k < length ts → n < length (get_or ts k x).lookups
+    at : (k n : ℕ) (x : SendingTable F) (d : LookupData F) → k < length ts → n < length (get_or ts k x).lookups
         → All (λ u. IsSent all (bus_in tables (0 + k) n) (length u)) (get_or (get_or ts k x).lookups n d).tuples
     at k n x d h lt j u ju =
         let long : k < length tables = omega (arith, h, length-map ts (λ t. t.lookups)) in

@@ -10,14 +10,14 @@ use Rattle.std.proofs.lemmas.List.{length-append, length-map, get_or_append_left
 use Rattle.std.proofs.lemmas.List.Folds.{list_any-append}
 use Rattle.p3_air.specs.Tree.{Bus, local, global}
 use Rattle.p3_lookup.specs.Lookup.{LookupData}
-use Rattle.p3_lookup.specs.Bus.{is_named, opener_of, opener, opened_below, bus_number, batch_buses, lookups_before, bounds_of}
+use Rattle.p3_lookup.specs.Bus.{is_named, opener_of, opener, opened_below, bus_number, batch_buses, lookups_before, sum_of_bounds}
 use Rattle.p3_lookup.specs.Packing.{same_name}
-use Rattle.p3_lookup.specs.Bound.{batch_loads, load_where, bus_load, AreBounded, capped, IsFirstOverload}
+use Rattle.p3_lookup.specs.Bound.{batch_loads, load_where, bus_load, HaveLoadsBelow, capped, IsFirstOverload}
 use Rattle.p3_lookup.specs.Loads.{is_named_among, named_load, named_loads, AreBoundedBelow}
-use Rattle.p3_lookup.specs.Laws.Places.{behind, bus_at, place_within}
+use Rattle.p3_lookup.specs.Laws.Places.{place_after, bus_at, place_within}
 use Rattle.p3_lookup.specs.Laws.Buses.{same_opens, opens_one, opens_none, opened_later, shares_by_name}
 
--- Lists behind each other
+-- Lists one after another
 
 any_map : {X Y : Type 0} (p : Y → Bool) (f : X → Y) (xs : List X) → list_any p (map f xs) ≡ list_any (λ x. p (f x)) xs
 any_map p f [] = refl
@@ -27,11 +27,11 @@ any_same : {X : Type 0} (p q : X → Bool) → ((x : X) → p x ≡ q x) → (xs
 any_same p q h [] = refl
 any_same p q h (x ∷ xs) = ap (λ b. b || list_any p xs) (h x) ∙ ap (λ b. q x || b) (any_same p q h xs)
 
-take_behind : {X : Type 0} (xs ys : List X) (n : ℕ) → take (length xs + n) (xs ++ ys) ≡ xs ++ take n ys
-take_behind [] ys n = let e : 0 + n ≡ n = omega arith in ap (λ k. take k ys) e
-take_behind (x ∷ xs) ys n =
+take_past : {X : Type 0} (xs ys : List X) (n : ℕ) → take (length xs + n) (xs ++ ys) ≡ xs ++ take n ys
+take_past [] ys n = let e : 0 + n ≡ n = omega arith in ap (λ k. take k ys) e
+take_past (x ∷ xs) ys n =
     let e : suc (length xs) + n ≡ suc (length xs + n) = omega arith in
-    ap (λ k. take k (x ∷ xs ++ ys)) e ∙ ap (λ l. x ∷ l) (take_behind xs ys n)
+    ap (λ k. take k (x ∷ xs ++ ys)) e ∙ ap (λ l. x ∷ l) (take_past xs ys n)
 
 or_assoc : (a b c : Bool) → (a || (b || c)) ≡ ((a || b) || c)
 or_assoc true b c = refl
@@ -45,26 +45,26 @@ length_loads (ls ∷ tables) [] e = absurd (omega (arith, e))
 length_loads (ls ∷ tables) (h ∷ hs) e =
     omega (
       arith,
-      length-append (map (λ l. bounds_of l.counts * h) ls) (batch_loads tables hs),
-      length-map ls (λ l. bounds_of l.counts * h),
+      length-append (map (λ l. sum_of_bounds l.counts * h) ls) (batch_loads tables hs),
+      length-map ls (λ l. sum_of_bounds l.counts * h),
       length-append (map (λ l. l.bus) ls) (batch_buses tables),
       length-map ls (λ l. l.bus),
       length_loads tables hs (omega (arith, e)),
     )
 
 pub load_at_place : {F : Type 0} (tables : List (List (LookupData F))) (hs : List ℕ) (t k : ℕ) (d : LookupData F) → t < length tables → length hs ≡ length tables → k < length (get_or tables t [])
-    → get_or (batch_loads tables hs) (lookups_before tables t + k) 0 ≡ bounds_of (get_or (get_or tables t []) k d).counts * get_or hs t 0
+    → get_or (batch_loads tables hs) (lookups_before tables t + k) 0 ≡ sum_of_bounds (get_or (get_or tables t []) k d).counts * get_or hs t 0
 load_at_place [] hs t k d h e lt = absurd (omega (arith, h))
 load_at_place (ls ∷ tables) [] t k d h e lt = absurd (omega (arith, e))
 load_at_place (ls ∷ tables) (x ∷ hs) zero k d h e lt =
-    let xs = map (λ l. bounds_of l.counts * x) ls in
+    let xs = map (λ l. sum_of_bounds l.counts * x) ls in
     let z : 0 + k ≡ k = omega arith in
     ap (λ j. get_or (xs ++ batch_loads tables hs) j 0) z
-    ∙ get_or_append_left xs (batch_loads tables hs) 0 k (omega (arith, lt, length-map ls (λ l. bounds_of l.counts * x)))
-    ∙ get_or-map (λ l. bounds_of l.counts * x) ls k d 0 lt
+    ∙ get_or_append_left xs (batch_loads tables hs) 0 k (omega (arith, lt, length-map ls (λ l. sum_of_bounds l.counts * x)))
+    ∙ get_or-map (λ l. sum_of_bounds l.counts * x) ls k d 0 lt
 load_at_place (ls ∷ tables) (x ∷ hs) (suc t) k d h e lt =
-    let xs = map (λ l. bounds_of l.counts * x) ls in
-    ap (λ j. get_or (xs ++ batch_loads tables hs) j 0) (behind (length ls) (lookups_before tables t) k (length xs) (length-map ls (λ l. bounds_of l.counts * x)))
+    let xs = map (λ l. sum_of_bounds l.counts * x) ls in
+    ap (λ j. get_or (xs ++ batch_loads tables hs) j 0) (place_after (length ls) (lookups_before tables t) k (length xs) (length-map ls (λ l. sum_of_bounds l.counts * x)))
     ∙ get_or-append-add xs (batch_loads tables hs) (lookups_before tables t + k) 0
     ∙ load_at_place tables hs t k d (omega (arith, h)) (omega (arith, e)) lt
 
@@ -83,8 +83,8 @@ named_before b (ls ∷ tables) zero k h le =
 named_before b (ls ∷ tables) (suc t) k h le =
     let bs = map (λ l. l.bus) ls in
     let m = lookups_before tables t in
-    ap (λ j. list_any (same_name b) (take j (bs ++ batch_buses tables))) (behind (length ls) m k (length bs) (length-map ls (λ l. l.bus)))
-    ∙ ap (list_any (same_name b)) (take_behind bs (batch_buses tables) (m + k))
+    ap (λ j. list_any (same_name b) (take j (bs ++ batch_buses tables))) (place_after (length ls) m k (length bs) (length-map ls (λ l. l.bus)))
+    ∙ ap (list_any (same_name b)) (take_past bs (batch_buses tables) (m + k))
     ∙ list_any-append (same_name b) bs (take (m + k) (batch_buses tables))
     ∙ ap (λ x. x || list_any (same_name b) (take (m + k) (batch_buses tables))) (any_map (same_name b) (λ l. l.bus) ls)
     ∙ ap (λ x. is_named_among b ls || x) (named_before b tables t k (omega (arith, h)) le)
@@ -100,8 +100,8 @@ first_among p (x ∷ xs) (suc n) h = by_test (p x) refl (first_among p xs n)
     by_test true e rest = let at : position_or_len p (x ∷ xs) ≡ 0 = ap (λ b. cond (not b) (1 + position_or_len p xs) 0) e in omega (arith, at)
     by_test false e rest =
         let at : position_or_len p (x ∷ xs) ≡ 1 + position_or_len p xs = ap (λ b. cond (not b) (1 + position_or_len p xs) 0) e in
-        let behind-it : list_any p (take n xs) ≡ true = sym (ap (λ b. b || list_any p (take n xs)) e) ∙ h in
-        omega (arith, at, rest behind-it)
+        let after-it : list_any p (take n xs) ≡ true = sym (ap (λ b. b || list_any p (take n xs)) e) ∙ h in
+        omega (arith, at, rest after-it)
 
 -- and else at its own place
 first_here : {X : Type 0} (p : X → Bool) (xs : List X) (n : ℕ) (d : X) → n < length xs → list_any p (take n xs) ≡ false → p (get_or xs n d) ≡ true → position_or_len p xs ≡ n
@@ -195,25 +195,25 @@ load_along t all n (x ∷ xs) h =
     ap (λ s. cond (t b) x 0 + s) (load_along t all (suc n) xs (omega (arith, h))) ∙ ap (λ l. load_by t l (x ∷ xs)) (sym d)
 
 load_both : {F : Type 0} (t : Bus → Bool) (h : ℕ) (ls : List (LookupData F)) (bs : List Bus) (xs : List ℕ)
-    → load_by t (map (λ l. l.bus) ls ++ bs) (map (λ l. bounds_of l.counts * h) ls ++ xs) ≡ load_by t (map (λ l. l.bus) ls) (map (λ l. bounds_of l.counts * h) ls) + load_by t bs xs
+    → load_by t (map (λ l. l.bus) ls ++ bs) (map (λ l. sum_of_bounds l.counts * h) ls ++ xs) ≡ load_by t (map (λ l. l.bus) ls) (map (λ l. sum_of_bounds l.counts * h) ls) + load_by t bs xs
 unfolding load_by
 load_both t h [] bs xs = nothing (load_by t bs xs)
   where
     nothing : (y : ℕ) → y ≡ 0 + y
     nothing y = omega arith
 load_both t h (l ∷ ls) bs xs =
-    let x = bounds_of l.counts * h in
+    let x = sum_of_bounds l.counts * h in
     let first = cond (t l.bus) x 0 in
     ap (λ s. first + s) (load_both t h ls bs xs)
-    ∙ regroup first (load_by t (map (λ k. k.bus) ls) (map (λ k. bounds_of k.counts * h) ls)) (load_by t bs xs)
+    ∙ regroup first (load_by t (map (λ k. k.bus) ls) (map (λ k. sum_of_bounds k.counts * h) ls)) (load_by t bs xs)
   where
     regroup : (a b c : ℕ) → a + (b + c) ≡ (a + b) + c
     regroup a b c = omega arith
 
-load_table : {F : Type 0} (b : Bus) (h : ℕ) (ls : List (LookupData F)) → load_by (same_name b) (map (λ l. l.bus) ls) (map (λ l. bounds_of l.counts * h) ls) ≡ named_load b h ls
+load_table : {F : Type 0} (b : Bus) (h : ℕ) (ls : List (LookupData F)) → load_by (same_name b) (map (λ l. l.bus) ls) (map (λ l. sum_of_bounds l.counts * h) ls) ≡ named_load b h ls
 unfolding load_by
 load_table b h [] = refl
-load_table b h (l ∷ ls) = ap (λ s. cond (same_name b l.bus) (bounds_of l.counts * h) 0 + s) (load_table b h ls)
+load_table b h (l ∷ ls) = ap (λ s. cond (same_name b l.bus) (sum_of_bounds l.counts * h) 0 + s) (load_table b h ls)
 
 load_tables : {F : Type 0} (b : Bus) (tables : List (List (LookupData F))) (hs : List ℕ) → load_by (same_name b) (batch_buses tables) (batch_loads tables hs) ≡ named_loads b tables hs
 unfolding load_by
@@ -336,5 +336,5 @@ module _ {F : Type 0} (order : ℕ) (tables : List (List (LookupData F))) (hs : 
           before = s.below;
         }
 
-  pub bounded_end : (n opened : ℕ) → n ≡ length (batch_buses tables) → AreBoundedBelow order tables hs n opened → AreBounded order tables hs
+  pub bounded_end : (n opened : ℕ) → n ≡ length (batch_buses tables) → AreBoundedBelow order tables hs n opened → HaveLoadsBelow order tables hs
   bounded_end n opened e s = λ b lt. s.below b (subst (λ (k : ℕ). b < opened_below (batch_buses tables) k) (sym e) lt)

@@ -12,7 +12,7 @@ use Rattle.p3_lookup.specs.Bus.{is_named, opener_of, opener, opened_below, bus_n
 pub same_opens : (n : ℕ) → (n == n) ≡ true
 same_opens n = elim (eqb_tells n n) [ inl p ↦ p.0 | inr p ↦ absurd (p.1 refl) ]
 
--- the count never falls, and rises behind each lookup that opens a bus
+-- the count never falls, and rises after each lookup that opens a bus
 more_opened : (bs : List Bus) (n : ℕ) → opened_below bs n ≤ opened_below bs (suc n)
 unfolding opened_below
 more_opened bs n = omega arith
@@ -37,7 +37,7 @@ opens_no_more bs n e = ap (λ c. opened_below bs n + cond c 1 0) e ∙ nothing (
     nothing : (k : ℕ) → k + 0 ≡ k
     nothing k = omega arith
 
--- one bus more behind a lookup that opens one, and as many behind another
+-- one bus more after a lookup that opens one, and as many after another
 pub opens_one : (bs : List Bus) (n : ℕ) → opener bs n ≡ n → opened_below bs (n + 1) ≡ opened_below bs n + 1
 opens_one bs n e = ap (opened_below bs) (add-one n) ∙ opens_next bs n e
 

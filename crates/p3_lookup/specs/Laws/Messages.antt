@@ -7,7 +7,7 @@ use Rattle.std.proofs.lemmas.Simd.{map-map}
 use Rattle.std.proofs.lemmas.Bool.Decides.{eqb_tells}
 use Rattle.p3_field.specs.Ring.{Ring, RingLaws}
 use Rattle.p3_field.specs.Field.{RingHom}
-use Rattle.p3_field.specs.Poly.{table, total}
+use Rattle.p3_field.specs.Poly.{tabulate, total}
 use Rattle.p3_field.specs.Laws.Sums.{total_same, total_zero}
 use Rattle.p3_air.specs.Tree.{Tree}
 use Rattle.p3_lookup.specs.Lookup.{LookupData, Sent, map_sent, sent}
@@ -72,11 +72,11 @@ module _ {F E : Type 0} (e : Ring E) (L : RingLaws e) (inv : E → E) (embed : F
           weights_append (map (message v (bus n)) (sent l)) (messages_from v bus (suc n) ls),
         )
 
-  rows_weights : (n : ℕ) (t : ℕ → ℕ) (ms : ℕ → List (Message F)) → total e n (λ i. weights (ms (t i))) ≡ weights (flat_map ms (table n t))
+  rows_weights : (n : ℕ) (t : ℕ → ℕ) (ms : ℕ → List (Message F)) → total e n (λ i. weights (ms (t i))) ≡ weights (flat_map ms (tabulate n t))
   rows_weights zero t ms = refl
   rows_weights (suc n) t ms =
       ap (e.add (weights (ms (t 0)))) (rows_weights n (λ i. t (suc i)) ms)
-      ∙ sym (weights_append (ms (t 0)) (flat_map ms (table n (λ i. t (suc i)))))
+      ∙ sym (weights_append (ms (t 0)) (flat_map ms (tabulate n (λ i. t (suc i)))))
 
   -- the terminal of a table is the sum over its messages
   pub terminal_is : (s : Sender F) → terminal_of e inv embed base beta s ≡ weights (table_messages s)

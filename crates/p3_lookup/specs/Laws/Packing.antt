@@ -8,7 +8,7 @@ use Rattle.std.proofs.lemmas.List.Sums.{sum_by-append}
 use Rattle.p3_field.specs.Ring.{Ring}
 use Rattle.p3_air.specs.declared.cells.Count.{Count}
 use Rattle.p3_air.specs.Tree.{Tree, Bus, local, global}
-use Rattle.p3_lookup.specs.Lookup.{LookupData, IsCounted}
+use Rattle.p3_lookup.specs.Lookup.{LookupData, HasCountForEach}
 use Rattle.p3_lookup.specs.Packing.{lookup_degree, merged, same_name, takes_in, with_lookup, packed_onto, packed, same_bus, sent_on, times_sent, SendTheSame}
 
 count_by-append : {X : Type 0} (p : X → Bool) (xs ys : List X) → count_by p (xs ++ ys) ≡ count_by p xs + count_by p ys
@@ -37,7 +37,7 @@ module _ {F : Type 0} (test : List (Tree F) × Count (Tree F) → Bool) (b : Bus
   unfolding own_times
   times_more l ls = count_by-append test (sent_on b l) (flat_map (sent_on b) ls)
 
-  merged_times : (k l : LookupData F) → IsCounted k → k.bus ≡ l.bus → own_times (merged k l) ≡ own_times k + own_times l
+  merged_times : (k l : LookupData F) → HasCountForEach k → k.bus ≡ l.bus → own_times (merged k l) ≡ own_times k + own_times l
   unfolding own_times
   merged_times k l h e = by_test (same_bus b k.bus) refl
     where
@@ -56,7 +56,7 @@ module _ {F : Type 0} (test : List (Tree F) × Count (Tree F) → Bool) (b : Bus
           ∙ ap (λ c. count_by test (cond (same_bus b k.bus) (zip k.tuples k.counts) []) + count_by test (cond c (zip l.tuples l.counts) [])) (sym t)
 
   module _ (f : Ring F) (t budget : ℕ) where
-    with_one : (k : LookupData F) (ks : List (LookupData F)) (l : LookupData F) (c : Bool) → takes_in f t budget k l ≡ c → IsCounted k
+    with_one : (k : LookupData F) (ks : List (LookupData F)) (l : LookupData F) (c : Bool) → takes_in f t budget k l ≡ c → HasCountForEach k
         → times_sent test b (with_lookup f t budget ks l) ≡ times_sent test b ks + own_times l
         → times_sent test b (cond c (merged k l ∷ ks) (k ∷ with_lookup f t budget ks l)) ≡ times_sent test b (k ∷ ks) + own_times l
     with_one k ks l true e h rest =
@@ -64,27 +64,27 @@ module _ {F : Type 0} (test : List (Tree F) × Count (Tree F) → Bool) (b : Bus
         omega (arith, times_more (merged k l) ks, times_more k ks, merged_times k l h same)
     with_one k ks l false e h rest = omega (arith, times_more k (with_lookup f t budget ks l), times_more k ks, rest)
 
-    with_times : (ks : List (LookupData F)) (l : LookupData F) → All IsCounted ks → times_sent test b (with_lookup f t budget ks l) ≡ times_sent test b ks + own_times l
+    with_times : (ks : List (LookupData F)) (l : LookupData F) → All HasCountForEach ks → times_sent test b (with_lookup f t budget ks l) ≡ times_sent test b ks + own_times l
     with_times [] l h = omega (arith, times_more l [])
-    with_times (k ∷ ks) l h = with_one k ks l (takes_in f t budget k l) refl (All-head IsCounted k ks h) (with_times ks l (All-tail IsCounted k ks h))
+    with_times (k ∷ ks) l h = with_one k ks l (takes_in f t budget k l) refl (All-head HasCountForEach k ks h) (with_times ks l (All-tail HasCountForEach k ks h))
 
     -- and the kept lookups stay well-formed
-    with_one_counted : (k : LookupData F) (ks : List (LookupData F)) (l : LookupData F) (c : Bool) → IsCounted k → IsCounted l → All IsCounted ks → All IsCounted (with_lookup f t budget ks l)
-        → All IsCounted (cond c (merged k l ∷ ks) (k ∷ with_lookup f t budget ks l))
+    with_one_counted : (k : LookupData F) (ks : List (LookupData F)) (l : LookupData F) (c : Bool) → HasCountForEach k → HasCountForEach l → All HasCountForEach ks → All HasCountForEach (with_lookup f t budget ks l)
+        → All HasCountForEach (cond c (merged k l ∷ ks) (k ∷ with_lookup f t budget ks l))
     with_one_counted k ks l true h g hs rest =
-        All-cons IsCounted (merged k l) ks (omega (arith, h, g, length-append k.counts l.counts, length-append k.tuples l.tuples)) hs
-    with_one_counted k ks l false h g hs rest = All-cons IsCounted k (with_lookup f t budget ks l) h rest
+        All-cons HasCountForEach (merged k l) ks (omega (arith, h, g, length-append k.counts l.counts, length-append k.tuples l.tuples)) hs
+    with_one_counted k ks l false h g hs rest = All-cons HasCountForEach k (with_lookup f t budget ks l) h rest
 
-    pub with_counted : (ks : List (LookupData F)) (l : LookupData F) → IsCounted l → All IsCounted ks → All IsCounted (with_lookup f t budget ks l)
-    with_counted [] l g h = All-cons IsCounted l [] g h
+    pub with_counted : (ks : List (LookupData F)) (l : LookupData F) → HasCountForEach l → All HasCountForEach ks → All HasCountForEach (with_lookup f t budget ks l)
+    with_counted [] l g h = All-cons HasCountForEach l [] g h
     with_counted (k ∷ ks) l g h =
-        with_one_counted k ks l (takes_in f t budget k l) (All-head IsCounted k ks h) g (All-tail IsCounted k ks h) (with_counted ks l g (All-tail IsCounted k ks h))
+        with_one_counted k ks l (takes_in f t budget k l) (All-head HasCountForEach k ks h) g (All-tail HasCountForEach k ks h) (with_counted ks l g (All-tail HasCountForEach k ks h))
 
-    onto_times : (ks ls : List (LookupData F)) → All IsCounted ks → All IsCounted ls → times_sent test b (packed_onto f t budget ks ls) ≡ times_sent test b ks + times_sent test b ls
+    onto_times : (ks ls : List (LookupData F)) → All HasCountForEach ks → All HasCountForEach ls → times_sent test b (packed_onto f t budget ks ls) ≡ times_sent test b ks + times_sent test b ls
     onto_times ks [] h g = omega arith
     onto_times ks (l ∷ ls) h g =
-        let own = All-head IsCounted l ls g in
-        omega (arith, onto_times (with_lookup f t budget ks l) ls (with_counted ks l own h) (All-tail IsCounted l ls g), with_times ks l h, times_more l ls)
+        let own = All-head HasCountForEach l ls g in
+        omega (arith, onto_times (with_lookup f t budget ks l) ls (with_counted ks l own h) (All-tail HasCountForEach l ls g), with_times ks l h, times_more l ls)
 
-pub packed_same : {F : Type 0} (f : Ring F) (t budget : ℕ) (ls : List (LookupData F)) → All IsCounted ls → SendTheSame ls (packed f t budget ls)
+pub packed_same : {F : Type 0} (f : Ring F) (t budget : ℕ) (ls : List (LookupData F)) → All HasCountForEach ls → SendTheSame ls (packed f t budget ls)
 packed_same f t budget ls h test b = omega (arith, onto_times test b f t budget [] ls (λ k d lt. absurd (omega (arith, lt))) h)

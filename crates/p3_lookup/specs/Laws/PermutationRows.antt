@@ -12,7 +12,7 @@ use Rattle.p3_air.specs.declared.cells.Cell.TheVariants.{Main, Preprocessed, Per
 use Rattle.p3_air.specs.declared.cells.ExtCell.{ExtCell}
 use Rattle.p3_air.specs.Shape.{Declares, IsSendable}
 use Rattle.p3_air.specs.RowCheck.{Row, cell_value, ext_cell_value}
-use Rattle.p3_air.specs.Check.{Table, table_of, row_of}
+use Rattle.p3_air.specs.Check.{TableTraces, table_traces, table_row}
 use Rattle.p3_lookup.specs.declared.terminal.LookupTerminal.{LookupTerminal}
 use Rattle.p3_lookup.specs.Lookup.{LookupData, IsLookup}
 use Rattle.p3_lookup.specs.Honest.{Argument, honest_cell}
@@ -29,7 +29,7 @@ other : (a b : ℕ) → a ≢ b → nat_eq a b ≡ false
 other a b h = elim (eqb_tells a b) [ inl p ↦ absurd (h p.1) | inr p ↦ p.0 ]
 
 module _ {F E : Type 0} (f : Ring F) (fL : RingLaws f) (e : Ring E) (L : RingLaws e) (inv : E → E) (W : FieldLaws e inv) (embed : F → E) (H : RingHom f e embed)
-    (table : Table F) (lookups : List (LookupData F)) (challenges : List E) (columns : Rows E) (terminal : LookupTerminal E) where
+    (table : TableTraces F) (lookups : List (LookupData F)) (challenges : List E) (columns : Rows E) (terminal : LookupTerminal E) where
   abbrev p : Argument F E
   p = argument_over f e inv embed table.main table.preprocessed table.public_values lookups challenges
 
@@ -65,7 +65,7 @@ module _ {F E : Type 0} (f : Ring F) (fL : RingLaws f) (e : Ring E) (L : RingLaw
     }
 
     agree : (i : ℕ) (c : Cell) → Declares (sent_shape table.main table.preprocessed table.public_values) c → IsSendable c
-        → at i c ≡ embed (cell_value f (row_of f.zero (table_of table.main table.preprocessed [] table.public_values) i) c)
+        → at i c ≡ embed (cell_value f (table_row f.zero (table_traces table.main table.preprocessed [] table.public_values) i) c)
     agree i (Main true column) d s = refl
     agree i (Main false column) d s = refl
     agree i (Preprocessed true column) d s = refl
@@ -81,13 +81,13 @@ module _ {F E : Type 0} (f : Ring F) (fL : RingLaws f) (e : Ring E) (L : RingLaw
       selectors = selectors;
       honest = honest;
       agrees = λ i h k d lt.
-          let r = row_of f.zero (table_of table.main table.preprocessed [] table.public_values) i in
+          let r = table_row f.zero (table_traces table.main table.preprocessed [] table.public_values) i in
           agree_sent f fL e L embed H (sent_shape table.main table.preprocessed table.public_values) (cell_value f r) (ext_cell_value f.zero r) (at i) (at_ext i) (agree i)
           (get_or lookups k d) (reads k d lt).reads;
     }
 
 pub generated_vanish : {F E : Type 0} (f : Ring F) (fL : RingLaws f) (e : Ring E) (L : RingLaws e) (inv : E → E) (W : FieldLaws e inv) (embed : F → E) (H : RingHom f e embed)
-    (table : Table F) (lookups : List (LookupData F)) (challenges : List E) → GeneratedRowsVanish f e inv embed table lookups challenges
+    (table : TableTraces F) (lookups : List (LookupData F)) (challenges : List E) → GeneratedRowsVanish f e inv embed table lookups challenges
 generated_vanish f fL e L inv W embed H table lookups challenges columns terminal reads g i h =
     trees_vanish f embed (p f fL e L inv W embed H table lookups challenges columns terminal) L W H (height table.main)
     (at f fL e L inv W embed H table lookups challenges columns terminal) (at_ext f fL e L inv W embed H table lookups challenges columns terminal)

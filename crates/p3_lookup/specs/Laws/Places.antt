@@ -10,9 +10,9 @@ length_buses [] = refl
 length_buses (ls ∷ tables) =
     omega (arith, length-append (map (λ l. l.bus) ls) (batch_buses tables), length-map ls (λ l. l.bus), length_buses tables)
 
--- a place in the next tables is one behind the first table's lookups
-pub behind : (a m k n : ℕ) → n ≡ a → (a + m) + k ≡ n + (m + k)
-behind a m k n e = omega (arith, e)
+-- a place in the next tables is one after the first table's lookups
+pub place_after : (a m k n : ℕ) → n ≡ a → (a + m) + k ≡ n + (m + k)
+place_after a m k n e = omega (arith, e)
 
 pub bus_at : {F : Type 0} (tables : List (List (LookupData F))) (t k : ℕ) (d : LookupData F) → t < length tables → k < length (get_or tables t [])
     → get_or (batch_buses tables) (lookups_before tables t + k) local ≡ (get_or (get_or tables t []) k d).bus
@@ -25,7 +25,7 @@ bus_at (ls ∷ tables) zero k d h lt =
     ∙ get_or-map (λ l. l.bus) ls k d local lt
 bus_at (ls ∷ tables) (suc t) k d h lt =
     let bs = map (λ l. l.bus) ls in
-    ap (λ j. get_or (bs ++ batch_buses tables) j local) (behind (length ls) (lookups_before tables t) k (length bs) (length-map ls (λ l. l.bus)))
+    ap (λ j. get_or (bs ++ batch_buses tables) j local) (place_after (length ls) (lookups_before tables t) k (length bs) (length-map ls (λ l. l.bus)))
     ∙ get_or-append-add bs (batch_buses tables) (lookups_before tables t + k) local
     ∙ bus_at tables t k d (omega (arith, h)) lt
 

@@ -7,20 +7,20 @@ use Rattle.std.proofs.lemmas.Bool.{cases_lt}
 use Rattle.std.proofs.Math.Nat.{mod-eq_of_lt}
 use Rattle.p3_field.specs.Ring.{Ring, RingLaws, sub}
 use Rattle.p3_field.specs.Field.{FieldLaws, RingHom}
-use Rattle.p3_field.specs.Poly.{val, total}
+use Rattle.p3_field.specs.Poly.{eval_poly, total}
 use Rattle.p3_field.specs.Laws.Algebra.{mul_zero, zero_mul}
 use Rattle.p3_field.specs.Laws.Sums.{total_same}
-use Rattle.p3_field.specs.Laws.Tables.{total_more}
+use Rattle.p3_field.specs.Laws.Tabulate.{total_more}
 use Rattle.p3_air.specs.declared.cells.Cell.{Cell}
 use Rattle.p3_air.specs.declared.cells.Cell.TheVariants.{FirstRow, LastRow, Transition}
 use Rattle.p3_air.specs.declared.cells.ExtCell.{ExtCell}
 use Rattle.p3_air.specs.declared.cells.ExtCell.TheVariants.{Permutation, Challenge, Terminal}
-use Rattle.p3_air.specs.Tree.{Tree, Reading, ev}
+use Rattle.p3_air.specs.Tree.{Tree, Reading, eval_tree}
 use Rattle.p3_lookup.specs.Lookup.{LookupData, Sent, map_sent, sent}
 use Rattle.p3_lookup.specs.Term.{Term, term, denominator, common, numerator, sum_of, fraction, HasInverses}
 use Rattle.p3_lookup.specs.Trees.{trees, base_tree, beta_tree, term_tree, fraction_tree, fraction_trees, sum_tree, first_tree, transition_tree, last_tree, running_trees, lookup_trees}
 use Rattle.p3_lookup.specs.Honest.{Argument, lookup_terms, terms_from, row_terms, row_fractions, running_sum, RowHasInverses}
-use Rattle.p3_lookup.specs.Rows.{reading_with, AreHonestRows, AgreeOn}
+use Rattle.p3_lookup.specs.Rows.{reading_with, AreHonestRows, AgreeOnSent}
 use Rattle.p3_lookup.specs.Laws.Terms.{fraction_times, sum_is_total}
 
 -- a tree's value in the ring, and the ring's laws
@@ -38,69 +38,69 @@ module _ {F E : Type 0} (f : Ring F) (e : Ring E) (L : RingLaws e) (inv : E → 
     abbrev r : Reading F E
     r = reading_with e embed at at_ext
 
-    ev-val : (ts : List (Tree F)) (b : Tree F) → ev r (val (trees f) ts b) ≡ val e (map (ev r) ts) (ev r b)
-    ev-val [] b = H.keeps_zero
-    ev-val (t ∷ ts) b = ap (λ x. e.add (ev r t) (e.mul (ev r b) x)) (ev-val ts b)
+    eval_tree-eval_poly : (ts : List (Tree F)) (b : Tree F) → eval_tree r (eval_poly (trees f) ts b) ≡ eval_poly e (map (eval_tree r) ts) (eval_tree r b)
+    eval_tree-eval_poly [] b = H.keeps_zero
+    eval_tree-eval_poly (t ∷ ts) b = ap (λ x. e.add (eval_tree r t) (e.mul (eval_tree r b) x)) (eval_tree-eval_poly ts b)
 
     -- values that agree on the tuple
-    agree_map : (v : Tree F → E) (ts : List (Tree F)) → All (λ t. v t ≡ ev r t) ts → map v ts ≡ map (ev r) ts
+    agree_map : (v : Tree F → E) (ts : List (Tree F)) → All (λ t. v t ≡ eval_tree r t) ts → map v ts ≡ map (eval_tree r) ts
     agree_map v [] h = refl
     agree_map v (t ∷ ts) h =
-        let P : Tree F → Type 0 = λ u. v u ≡ ev r u in
+        let P : Tree F → Type 0 = λ u. v u ≡ eval_tree r u in
         cc (All-head P t ts h, agree_map v ts (All-tail P t ts h))
 
     -- a term's tree has the term's value
-    pub ev-denominator : (v : Tree F → E) (base beta : E) (n : ℕ) → at_ext (Challenge (2 * n)) ≡ base → at_ext (Challenge (2 * n + 1)) ≡ beta
-        → (s : Sent (Tree F)) → AgreeOn v (ev r) s → ev r (term_tree f (base_tree n) (beta_tree n) s).denominator ≡ denominator e base beta (map v s.tuple)
-    ev-denominator v base beta n hb hc s h =
-        ap (sub e (at_ext (Challenge (2 * n)))) (ev-val s.tuple (beta_tree n)
-        ∙ ap (λ l. val e l (at_ext (Challenge (2 * n + 1)))) (sym (agree_map v s.tuple h.0))
-        ∙ ap (val e (map v s.tuple)) hc)
-        ∙ ap (λ b. sub e b (val e (map v s.tuple) beta)) hb
+    pub eval_tree-denominator : (v : Tree F → E) (base beta : E) (n : ℕ) → at_ext (Challenge (2 * n)) ≡ base → at_ext (Challenge (2 * n + 1)) ≡ beta
+        → (s : Sent (Tree F)) → AgreeOnSent v (eval_tree r) s → eval_tree r (term_tree f (base_tree n) (beta_tree n) s).denominator ≡ denominator e base beta (map v s.tuple)
+    eval_tree-denominator v base beta n hb hc s h =
+        ap (sub e (at_ext (Challenge (2 * n)))) (eval_tree-eval_poly s.tuple (beta_tree n)
+        ∙ ap (λ l. eval_poly e l (at_ext (Challenge (2 * n + 1)))) (sym (agree_map v s.tuple h.0))
+        ∙ ap (eval_poly e (map v s.tuple)) hc)
+        ∙ ap (λ b. sub e b (eval_poly e (map v s.tuple) beta)) hb
 
     module _ (v : Tree F → E) (base beta : E) (n : ℕ) (hb : at_ext (Challenge (2 * n)) ≡ base) (hc : at_ext (Challenge (2 * n + 1)) ≡ beta) where
       abbrev values : List (Sent (Tree F)) → List (Term E)
       values ss = map (λ s. term e base beta (map_sent v s)) ss
 
-      ev-common : (ss : List (Sent (Tree F))) → All (AgreeOn v (ev r)) ss → ev r (common (trees f) (map (term_tree f (base_tree n) (beta_tree n)) ss)) ≡ common e (values ss)
-      ev-common [] h = H.keeps_one
-      ev-common (s ∷ ss) h =
-          cc (ev-denominator v base beta n hb hc s (All-head (AgreeOn v (ev r)) s ss h), ev-common ss (All-tail (AgreeOn v (ev r)) s ss h))
+      eval_tree-common : (ss : List (Sent (Tree F))) → All (AgreeOnSent v (eval_tree r)) ss → eval_tree r (common (trees f) (map (term_tree f (base_tree n) (beta_tree n)) ss)) ≡ common e (values ss)
+      eval_tree-common [] h = H.keeps_one
+      eval_tree-common (s ∷ ss) h =
+          cc (eval_tree-denominator v base beta n hb hc s (All-head (AgreeOnSent v (eval_tree r)) s ss h), eval_tree-common ss (All-tail (AgreeOnSent v (eval_tree r)) s ss h))
 
-      ev-numerator : (ss : List (Sent (Tree F))) → All (AgreeOn v (ev r)) ss → ev r (numerator (trees f) (map (term_tree f (base_tree n) (beta_tree n)) ss)) ≡ numerator e (values ss)
-      ev-numerator [] h = H.keeps_zero
-      ev-numerator (s ∷ ss) h =
-          let here = All-head (AgreeOn v (ev r)) s ss h in
-          let there = All-tail (AgreeOn v (ev r)) s ss h in
-          cc (ev-denominator v base beta n hb hc s here, ev-common ss there, ev-numerator ss there, here.1)
+      eval_tree-numerator : (ss : List (Sent (Tree F))) → All (AgreeOnSent v (eval_tree r)) ss → eval_tree r (numerator (trees f) (map (term_tree f (base_tree n) (beta_tree n)) ss)) ≡ numerator e (values ss)
+      eval_tree-numerator [] h = H.keeps_zero
+      eval_tree-numerator (s ∷ ss) h =
+          let here = All-head (AgreeOnSent v (eval_tree r)) s ss h in
+          let there = All-tail (AgreeOnSent v (eval_tree r)) s ss h in
+          cc (eval_tree-denominator v base beta n hb hc s here, eval_tree-common ss there, eval_tree-numerator ss there, here.1)
 
     -- the fraction's tree is zero where its column has the sum of the fractions
     pub fraction_zero : (challenges : List E) (v : Tree F → E) (n : ℕ) (l : LookupData F)
         → at_ext (Challenge (2 * n)) ≡ get_or challenges (2 * n) e.zero
         → at_ext (Challenge (2 * n + 1)) ≡ get_or challenges (2 * n + 1) e.zero
-        → All (AgreeOn v (ev r)) (sent l)
+        → All (AgreeOnSent v (eval_tree r)) (sent l)
         → HasInverses e (lookup_terms e challenges v n l)
         → at_ext (Permutation false (n + 1)) ≡ fraction e inv (lookup_terms e challenges v n l)
-        → ev r (fraction_tree f n l) ≡ e.zero
+        → eval_tree r (fraction_tree f n l) ≡ e.zero
     fraction_zero challenges v n l hb hc h d x =
         let ts = lookup_terms e challenges v n l in
-        cc (ev-common v _ _ n hb hc (sent l) h, ev-numerator v _ _ n hb hc (sent l) h, x, fraction_times e L inv W ts d, sub_same (numerator e ts))
+        cc (eval_tree-common v _ _ n hb hc (sent l) h, eval_tree-numerator v _ _ n hb hc (sent l) h, x, fraction_times e L inv W ts d, sub_same (numerator e ts))
 
     -- the trees of the lookups from n on
     pub fractions_zero : (challenges : List E) (v : Tree F → E) (n : ℕ) (ls : List (LookupData F))
         → ((k : ℕ) → k < 2 * (n + length ls) → at_ext (Challenge k) ≡ get_or challenges k e.zero)
-        → All (λ l. All (AgreeOn v (ev r)) (sent l)) ls
+        → All (λ l. All (AgreeOnSent v (eval_tree r)) (sent l)) ls
         → All (HasInverses e) (terms_from e challenges v n ls)
         → ((j : ℕ) → j < length ls → at_ext (Permutation false (suc (n + j))) ≡ get_or (map (fraction e inv) (terms_from e challenges v n ls)) j e.zero)
-        → All (λ t. ev r t ≡ e.zero) (fraction_trees f n ls)
+        → All (λ t. eval_tree r t ≡ e.zero) (fraction_trees f n ls)
     fractions_zero challenges v n [] c h d x = λ k t lt. absurd (omega (arith, lt))
     fractions_zero challenges v n (l ∷ ls) c h d x =
         let at : suc (n + 0) ≡ n + 1 = omega arith in
         let here : at_ext (Permutation false (n + 1)) ≡ fraction e inv (lookup_terms e challenges v n l) =
         ap (λ k. at_ext (Permutation false k)) (sym at) ∙ x 0 (omega arith) in
-        let P : LookupData F → Type 0 = λ k. All (AgreeOn v (ev r)) (sent k) in
+        let P : LookupData F → Type 0 = λ k. All (AgreeOnSent v (eval_tree r)) (sent k) in
         let us = terms_from e challenges v (suc n) ls in
-        All-cons (λ t. ev r t ≡ e.zero) (fraction_tree f n l) (fraction_trees f (suc n) ls)
+        All-cons (λ t. eval_tree r t ≡ e.zero) (fraction_tree f n l) (fraction_trees f (suc n) ls)
         (fraction_zero challenges v n l (c (2 * n) (omega arith)) (c (2 * n + 1) (omega arith)) (All-head P l ls h) (All-head (HasInverses e) (lookup_terms e challenges v n l) us d) here)
         (fractions_zero challenges v (suc n) ls
         (λ k lt. c k (omega (arith, lt)))
@@ -109,12 +109,12 @@ module _ {F E : Type 0} (f : Ring F) (e : Ring E) (L : RingLaws e) (inv : E → 
         (λ j lt. let e : suc (suc n + j) ≡ suc (n + suc j) = omega arith in
         ap (λ k. at_ext (Permutation false k)) e ∙ x (suc j) (omega (arith, lt))))
 
-    ev-sum : (m : ℕ) → ev r (sum_tree f m) ≡ total e m (λ j. at_ext (Permutation false (suc j)))
-    ev-sum zero = H.keeps_zero
-    ev-sum (suc m) =
+    eval_tree-sum : (m : ℕ) → eval_tree r (sum_tree f m) ≡ total e m (λ j. at_ext (Permutation false (suc j)))
+    eval_tree-sum zero = H.keeps_zero
+    eval_tree-sum (suc m) =
         let t = λ (j : ℕ). at_ext (Permutation false (suc j)) in
         let one : m + 1 ≡ suc m = omega arith in
-        ap (λ x. e.add x (t m)) (ev-sum m) ∙ total_more e L m t ∙ ap (λ k. total e k t) one
+        ap (λ x. e.add x (t m)) (eval_tree-sum m) ∙ total_more e L m t ∙ ap (λ k. total e k t) one
 
 length_terms : {F E : Type 0} (e : Ring E) (challenges : List E) (v : Tree F → E) (n : ℕ) (ls : List (LookupData F)) → length (terms_from e challenges v n ls) ≡ length ls
 length_terms e challenges v n [] = refl
@@ -130,13 +130,13 @@ module _ {F E : Type 0} (f : Ring F) (embed : F → E) (p : Argument F E) (L : R
 
   module _ (n : ℕ) (at : ℕ → Cell → E) (at_ext : ℕ → ExtCell → E) (R : AreHonestRows embed p n at at_ext) (i : ℕ) (within : i < n) where
     abbrev value : Tree F → E
-    value t = ev (reading_with p.ring embed (at i) (at_ext i)) t
+    value t = eval_tree (reading_with p.ring embed (at i) (at_ext i)) t
 
     row_sum : value (sum_tree f (length p.lookups)) ≡ sum_of p.ring (row_fractions p i)
     row_sum =
         let m = length p.lookups in
         let fs = row_fractions p i in
-        ev-sum f p.ring L p.inv W embed H (at i) (at_ext i) m
+        eval_tree-sum f p.ring L p.inv W embed H (at i) (at_ext i) m
         ∙ total_same p.ring L m (λ j. at_ext i (Permutation false (suc j))) (λ j. get_or fs j p.ring.zero)
         (λ j lt. (R.honest i within).current (suc j) (omega (arith, lt)))
         ∙ ap (λ k. total p.ring k (λ j. get_or fs j p.ring.zero)) (sym (length_fractions p i))
@@ -185,11 +185,11 @@ module _ {F E : Type 0} (f : Ring F) (embed : F → E) (p : Argument F E) (L : R
 
   -- each constraint of the lookups is zero in each row, where no denominator is
   pub trees_vanish : (n : ℕ) (at : ℕ → Cell → E) (at_ext : ℕ → ExtCell → E) → AreHonestRows embed p n at at_ext → (i : ℕ) → i < n → RowHasInverses p i
-      → All (λ t. ev (reading_with p.ring embed (at i) (at_ext i)) t ≡ p.ring.zero) (lookup_trees f p.lookups)
+      → All (λ t. eval_tree (reading_with p.ring embed (at i) (at_ext i)) t ≡ p.ring.zero) (lookup_trees f p.lookups)
   trees_vanish n at at_ext R i within d = all_of p.lookups refl
     where
       Z : Tree F → Type 0
-      Z t = ev (reading_with p.ring embed (at i) (at_ext i)) t ≡ p.ring.zero
+      Z t = eval_tree (reading_with p.ring embed (at i) (at_ext i)) t ≡ p.ring.zero
 
       fractions : All Z (fraction_trees f 0 p.lookups)
       fractions = fractions_zero f p.ring L p.inv W embed H (at i) (at_ext i) p.challenges (p.value i) 0 p.lookups

@@ -4,16 +4,16 @@ use Rattle.std.proofs.Math.Nat.{div-lt_iff_lt-mul}
 use Rattle.std.proofs.lemmas.Nat.{div-add-mod', mod_below}
 use Rattle.std.proofs.lemmas.List.{ext_get_or}
 use Rattle.p3_matrix.specs.Matrix.{Rows, FillsRows, height, cell_at, column}
-use Rattle.p3_field.specs.Laws.Tables.{length-table, get_or-table}
+use Rattle.p3_field.specs.Laws.Tabulate.{length-tabulate, get_or-tabulate}
 
 pub length-column : {F : Type 0} (d : F) (m : Rows F) (j : ℕ) → length (column d m j) ≡ height m
 unfolding column
-length-column d m j = length-table (height m) (λ i. cell_at d m i j)
+length-column d m j = length-tabulate (height m) (λ i. cell_at d m i j)
 
 -- row i of column j
 pub get_or-column : {F : Type 0} (d : F) (m : Rows F) (j i : ℕ) → i < height m → get_or (column d m j) i d ≡ cell_at d m i j
 unfolding column
-get_or-column d m j i h = get_or-table (height m) (λ i. cell_at d m i j) i d h
+get_or-column d m j i h = get_or-tabulate (height m) (λ i. cell_at d m i j) i d h
 
 -- place n of a grid of h rows by w columns is in row n / w and column n % w
 place_in_grid : (n h w : ℕ) → n < h * w → (n / w < h) × (n % w < w)

@@ -2,7 +2,7 @@
 use Rattle.std.proofs.Common.{◌≡◌, ℕ, zero, suc, ◌+◌, ◌^◌, ◌≤◌, ◌<◌, List, length, get_or, map, sym, ◌∙◌, ap, arith}
 use Rattle.p3_field.specs.Ring.{Ring, RingLaws, pow, of_nat}
 use Rattle.p3_field.specs.Field.{FieldLaws, RingHom, TwoAdicLaws}
-use Rattle.p3_field.specs.Poly.{val, table, total, Apart}
+use Rattle.p3_field.specs.Poly.{eval_poly, tabulate, total, Apart}
 use Rattle.p3_field.specs.Domain.{coset_point, IsInterpolant}
 use Rattle.p3_field.specs.Laws.Algebra.{one_mul}
 use Rattle.p3_field.specs.Laws.Sums.{total_same, total_scale}
@@ -10,19 +10,19 @@ use Rattle.p3_field.specs.Laws.Roots.{NoZeroDivisors, same_values_list}
 use Rattle.p3_field.specs.Laws.Transform.{inverse_coeff, inverse_transform, inverse_transform_at}
 use Rattle.p3_field.specs.Laws.TwoAdic.{two_adic_inverses, coset_interpolant, coset_interpolant_value}
 use Rattle.p3_field.specs.Laws.Extended.{hom_pow}
-use Rattle.p3_field.specs.Laws.SubgroupSelectors.{map_table}
-use Rattle.p3_field.specs.Laws.Tables.{length-table, get_or-table, table_same}
+use Rattle.p3_field.specs.Laws.SubgroupSelectors.{map_tabulate}
+use Rattle.p3_field.specs.Laws.Tabulate.{length-tabulate, get_or-tabulate, tabulate_same}
 use Rattle.p3_matrix.specs.Matrix.{Rows, height, cell_at, column}
 use Rattle.p3_matrix.specs.Interpolation.{IsInterpolatedAt, weight_at}
 use Rattle.p3_matrix.specs.Laws.Cells.{length-column, get_or-column}
 
 -- the value is that of every interpolant, since there is one alone
 pub value_of_interpolant : {A B : Type 0} (r : Ring A) (L : RingLaws r) (N : NoZeroDivisors r) (s : Ring B) (embed : A → B) (p : ℕ → A) (v f : List A) (x y : B)
-    → Apart (length v) p → IsInterpolatedAt r s embed p v x y → IsInterpolant r p v f → y ≡ val s (map embed f) x
+    → Apart (length v) p → IsInterpolatedAt r s embed p v x y → IsInterpolant r p v f → y ≡ eval_poly s (map embed f) x
 value_of_interpolant r L N s embed p v f x y apart I J =
     let g = I.interpolant in
     let same : g ≡ f = same_values_list r L N (length v) p g f apart I.interpolates.length_is J.length_is (λ i h. I.interpolates.value_is i h ∙ sym (J.value_is i h)) in
-    I.value_is ∙ ap (λ l. val s (map embed l) x) same
+    I.value_is ∙ ap (λ l. eval_poly s (map embed l) x) same
 
 module _ {B : Type 0} (s : Ring B) (M : RingLaws s) where
   -- g^i u from i to the next
@@ -56,11 +56,11 @@ module _ {A B : Type 0} (r : Ring A) (L : RingLaws r) (s : Ring B) (M : RingLaws
 
   map_inverse_transform : (n : ℕ) (m t g : A) (v : ℕ → A) → map f (inverse_transform r n m t g v) ≡ inverse_transform s n (f m) (f t) (f g) (λ i. f (v i))
   map_inverse_transform n m t g v =
-      map_table f n (inverse_coeff r n m t g v)
-      ∙ table_same n (λ j. f (inverse_coeff r n m t g v j)) (inverse_coeff s n (f m) (f t) (f g) (λ i. f (v i))) (λ j b. hom_inverse_coeff n m t g v j)
+      map_tabulate f n (inverse_coeff r n m t g v)
+      ∙ tabulate_same n (λ j. f (inverse_coeff r n m t g v j)) (inverse_coeff s n (f m) (f t) (f g) (λ i. f (v i))) (λ j b. hom_inverse_coeff n m t g v j)
 
   weighted_sum : (k : ℕ) (m t g a : A) (x : B) (v : ℕ → A) → r.mul t a ≡ r.one
-      → val s (map f (inverse_transform r (2 ^ k) m t g v)) x ≡ total s (2 ^ k) (λ i. s.mul (f (v i)) (weight_at s (2 ^ k) (f m) (f g) (s.mul (f t) x) i))
+      → eval_poly s (map f (inverse_transform r (2 ^ k) m t g v)) x ≡ total s (2 ^ k) (λ i. s.mul (f (v i)) (weight_at s (2 ^ k) (f m) (f g) (s.mul (f t) x) i))
   unfolding weight_at
   weighted_sum k m t g a x v e =
       let n = 2 ^ k in
@@ -72,8 +72,8 @@ module _ {A B : Type 0} (r : Ring A) (L : RingLaws r) (s : Ring B) (M : RingLaws
       let moved : (i : ℕ) → s.mul (f m) (inner i) ≡ s.mul (f (v i)) (weight_at s n (f m) (f g) K i) = λ i.
       let P = total s n (λ j. pow s (w i) j) in
       cc (M.mul_assoc (f m) (f (v i)) P, M.mul_comm (f m) (f (v i)), M.mul_assoc (f (v i)) (f m) P) in
-      ap (λ l. val s l x) (map_inverse_transform n m t g v)
-      ∙ (ap (val s (inverse_transform s n (f m) (f t) (f g) (λ i. f (v i)))) (sym at)
+      ap (λ l. eval_poly s l x) (map_inverse_transform n m t g v)
+      ∙ (ap (eval_poly s (inverse_transform s n (f m) (f t) (f g) (λ i. f (v i)))) (sym at)
       ∙ (inverse_transform_at s M n (f a) (f m) (f t) (f g) K (λ i. f (v i)) unit
       ∙ (sym (total_scale s M n (f m) inner)
       ∙ total_same s M n (λ i. s.mul (f m) (inner i)) (λ i. s.mul (f (v i)) (weight_at s n (f m) (f g) K i)) (λ i h. moved i))))
@@ -90,7 +90,7 @@ module _ {A B : Type 0} (r : Ring A) (L : RingLaws r) (s : Ring B) (M : RingLaws
         record {
           interpolant = g;
           interpolates = record {
-            length_is = length-table (2 ^ k) (inverse_coeff r (2 ^ k) (inv (of_nat r (2 ^ k))) (inv a) (inv (root k)) u) ∙ sym e;
+            length_is = length-tabulate (2 ^ k) (inverse_coeff r (2 ^ k) (inv (of_nat r (2 ^ k))) (inv a) (inv (root k)) u) ∙ sym e;
             value_is = λ i b. coset_interpolant_value r L inv W top root T k a h nz u i (omega arith);
           };
           value_is = d ∙ sym (weighted_sum k (inv (of_nat r (2 ^ k))) (inv a) (inv (root k)) a x u I.of_shift);
@@ -98,7 +98,7 @@ module _ {A B : Type 0} (r : Ring A) (L : RingLaws r) (s : Ring B) (M : RingLaws
 
     -- the same of a column of a matrix
     pub interpolated_column : (k : ℕ) (a : A) (m : Rows A) (j : ℕ) (x : B) (ws : List B) (y : B) → k ≤ top → (a ≡ r.zero → ⊥) → height m ≡ 2 ^ k
-        → ws ≡ table (2 ^ k) (weight_at s (2 ^ k) (f (inv (of_nat r (2 ^ k)))) (f (inv (root k))) (s.mul (f (inv a)) x))
+        → ws ≡ tabulate (2 ^ k) (weight_at s (2 ^ k) (f (inv (of_nat r (2 ^ k)))) (f (inv (root k))) (s.mul (f (inv a)) x))
         → y ≡ total s (height m) (λ i. s.mul (f (cell_at r.zero m i j)) (get_or ws i s.zero))
         → IsInterpolatedAt r s f (coset_point r a (root k)) (column r.zero m j) x y
     interpolated_column k a m j x ws y h nz e w d =
@@ -108,5 +108,5 @@ module _ {A B : Type 0} (r : Ring A) (L : RingLaws r) (s : Ring B) (M : RingLaws
         interpolated_by_weights k a v x y h nz (length-column r.zero m j ∙ e)
         (d ∙ (total_same s M (height m) (λ i. s.mul (f (cell_at r.zero m i j)) (get_or ws i s.zero)) (λ i. s.mul (f (get_or v i r.zero)) (W i))
         (λ i b. let c : i < n = omega arith in
-        cc (get_or-column r.zero m j i b, w, get_or-table n W i s.zero c))
+        cc (get_or-column r.zero m j i b, w, get_or-tabulate n W i s.zero c))
         ∙ ap (λ l. total s l (λ i. s.mul (f (get_or v i r.zero)) (W i))) e))

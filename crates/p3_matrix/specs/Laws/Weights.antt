@@ -3,15 +3,15 @@
 use Rattle.std.proofs.Common.{◌≡◌, ℕ, ◌*◌, ◌^◌, ◌≤◌, ◌<◌, List, length, get_or, map, sym, ◌∙◌, ap, arith}
 use Rattle.p3_field.specs.Ring.{Ring, RingLaws, pow, sub}
 use Rattle.p3_field.specs.Field.{FieldLaws, RingHom, TwoAdicLaws}
-use Rattle.p3_field.specs.Poly.{table, total}
+use Rattle.p3_field.specs.Poly.{tabulate, total}
 use Rattle.p3_field.specs.Laws.Algebra.{one_mul, zero_mul}
 use Rattle.p3_field.specs.Laws.Coset.{two_adic_order, pow_mul}
 use Rattle.p3_field.specs.Laws.Extended.{hom_pow}
 use Rattle.p3_field.specs.Laws.Inverses.{root_inverts}
 use Rattle.p3_field.specs.Laws.Order.{one_pow, pow_times}
 use Rattle.p3_field.specs.Laws.Sums.{geometric_sum}
-use Rattle.p3_field.specs.Laws.SubgroupSelectors.{map_table}
-use Rattle.p3_field.specs.Laws.Tables.{length-table, get_or-table, table_same}
+use Rattle.p3_field.specs.Laws.SubgroupSelectors.{map_tabulate}
+use Rattle.p3_field.specs.Laws.Tabulate.{length-tabulate, get_or-tabulate, tabulate_same}
 use Rattle.p3_matrix.specs.Interpolation.{weight_at, ratio_minus_one}
 
 module _ {B : Type 0} (s : Ring B) (M : RingLaws s) where
@@ -49,19 +49,19 @@ module _ {B : Type 0} (s : Ring B) (M : RingLaws s) where
           cc (times_sum i, unit, M.mul_assoc m Z (inv d), M.mul_comm d S, M.mul_assoc S d (inv d), M.mul_one S)
 
       -- the same of the lists of the first k
-      pub divisors_not_zero : (k : ℕ) (v : List B) → v ≡ table k (ratio_minus_one s g u) → (i : ℕ) → i < length v → get_or v i s.zero ≡ s.zero → ⊥
+      pub divisors_not_zero : (k : ℕ) (v : List B) → v ≡ tabulate k (ratio_minus_one s g u) → (i : ℕ) → i < length v → get_or v i s.zero ≡ s.zero → ⊥
       divisors_not_zero k v e i b z =
-          let long : length v ≡ k = ap length e ∙ length-table k (ratio_minus_one s g u) in
+          let long : length v ≡ k = ap length e ∙ length-tabulate k (ratio_minus_one s g u) in
           let below : i < k = omega arith in
-          no_ratio_is_one i (sym (get_or-table k (ratio_minus_one s g u) i s.zero below) ∙ (ap (λ l. get_or l i s.zero) (sym e) ∙ z))
+          no_ratio_is_one i (sym (get_or-tabulate k (ratio_minus_one s g u) i s.zero below) ∙ (ap (λ l. get_or l i s.zero) (sym e) ∙ z))
 
-      pub weights_by_division : (k : ℕ) (m c : B) (v : List B) → v ≡ table k (ratio_minus_one s g u) → c ≡ s.mul m (sub s (pow s u n) s.one)
-          → map (λ x. s.mul c (inv x)) v ≡ table k (weight_at s n m g u)
+      pub weights_by_division : (k : ℕ) (m c : B) (v : List B) → v ≡ tabulate k (ratio_minus_one s g u) → c ≡ s.mul m (sub s (pow s u n) s.one)
+          → map (λ x. s.mul c (inv x)) v ≡ tabulate k (weight_at s n m g u)
       weights_by_division k m c v e d =
           let f = λ (x : B). s.mul c (inv x) in
           ap (map f) e
-          ∙ (map_table f k (ratio_minus_one s g u)
-          ∙ table_same k (λ i. f (ratio_minus_one s g u i)) (weight_at s n m g u) (λ i h. ap (λ z. s.mul z (inv (ratio_minus_one s g u i))) d ∙ weight_by_division m i))
+          ∙ (map_tabulate f k (ratio_minus_one s g u)
+          ∙ tabulate_same k (λ i. f (ratio_minus_one s g u i)) (weight_at s n m g u) (λ i h. ap (λ z. s.mul z (inv (ratio_minus_one s g u i))) d ∙ weight_by_division m i))
 
 module _ {A B : Type 0} (r : Ring A) (L : RingLaws r) (s : Ring B) (M : RingLaws s) (f : A → B) (H : RingHom r s f) (inv : A → A) (W : FieldLaws r inv) (top : ℕ) (root : ℕ → A) (T : TwoAdicLaws r top root) where
   -- the inverse of a subgroup's generator, to the power of the subgroup's size

@@ -4,26 +4,26 @@ use Rattle.std.specs.Prelude.{reverse}
 use Rattle.std.specs.List.{All}
 use Rattle.std.proofs.lemmas.List.{length-map, length-reverse, reverse-append, get_or-reverse}
 use Rattle.p3_field.specs.Ring.{Ring, RingLaws, pow}
-use Rattle.p3_field.specs.Poly.{val, DegreeBelow, IsZeroPoly, scale_poly}
+use Rattle.p3_field.specs.Poly.{eval_poly, DegreeBelow, IsZeroPoly, scale_poly}
 use Rattle.p3_field.specs.Laws.Algebra.{mul_zero}
 use Rattle.p3_field.specs.Laws.Coeffs.{degree_add, degree_scale}
-use Rattle.p3_field.specs.Laws.Values.{val_add, val_append, val_scale}
+use Rattle.p3_field.specs.Laws.Values.{eval_add, eval_append, eval_scale}
 use Rattle.p3_air.specs.CellValues.{CellValues, reading_at, map_values, poly_reading}
 use Rattle.p3_air.specs.Laws.CellValues.{value_at_point}
-use Rattle.p3_air.specs.Tree.{Tree, ev}
+use Rattle.p3_air.specs.Tree.{Tree, eval_tree}
 use Rattle.p3_uni_stark.specs.Fold.{fold}
 use Rattle.p3_uni_stark.specs.FoldPolynomials.{fold_poly}
 
 module _ {E : Type 0} (r : Ring E) (L : RingLaws r) where
   -- the value of a fold of polynomials is the fold of their values
-  pub fold_value : (a : E) (ps : List (List E)) (x : E) → val r (fold_poly r a ps) x ≡ fold r a (map (λ p. val r p x) ps)
+  pub fold_value : (a : E) (ps : List (List E)) (x : E) → eval_poly r (fold_poly r a ps) x ≡ fold r a (map (λ p. eval_poly r p x) ps)
   unfolding fold_poly fold
   fold_value a [] x = refl
   fold_value a (p ∷ ps) x =
       let w = pow r a (length ps) in
-      let long : length ps ≡ length (map (λ q. val r q x) ps) = sym (length-map ps (λ (q : List E). val r q x)) in
-      val_add r L (scale_poly r w p) (fold_poly r a ps) x
-      ∙ (λ i. r.add ((val_scale r L w p x ∙ ap (λ n. r.mul (pow r a n) (val r p x)) long) i) (fold_value a ps x i))
+      let long : length ps ≡ length (map (λ q. eval_poly r q x) ps) = sym (length-map ps (λ (q : List E). eval_poly r q x)) in
+      eval_add r L (scale_poly r w p) (fold_poly r a ps) x
+      ∙ (λ i. r.add ((eval_scale r L w p x ∙ ap (λ n. r.mul (pow r a n) (eval_poly r p x)) long) i) (fold_value a ps x i))
 
   -- it has no greater degree than they
   pub fold_degree : (a : E) (n : ℕ) (ps : List (List E)) → All (DegreeBelow r n) ps → DegreeBelow r n (fold_poly r a ps)
@@ -36,26 +36,26 @@ module _ {E : Type 0} (r : Ring E) (L : RingLaws r) where
 
   -- the trees' values at the polynomials' values
   tree_values : {F : Type 0} (embed : F → E) (v : CellValues (List E)) (x : E) (ts : List (Tree F))
-      → map (λ p. val r p x) (map (ev (poly_reading r embed v)) ts) ≡ map (ev (reading_at r embed (map_values (λ p. val r p x) v))) ts
+      → map (λ p. eval_poly r p x) (map (eval_tree (poly_reading r embed v)) ts) ≡ map (eval_tree (reading_at r embed (map_values (λ p. eval_poly r p x) v))) ts
   tree_values embed v x [] = refl
   tree_values embed v x (t ∷ ts) = λ i. value_at_point r L embed v x t i ∷ tree_values embed v x ts i
 
   -- the fold of constraints at a point is the value there of the fold of their polynomials
   pub fold_of_trees : {F : Type 0} (embed : F → E) (v : CellValues (List E)) (a x : E) (ts : List (Tree F))
-      → val r (fold_poly r a (map (ev (poly_reading r embed v)) ts)) x ≡ fold r a (map (ev (reading_at r embed (map_values (λ p. val r p x) v))) ts)
-  fold_of_trees embed v a x ts = fold_value a (map (ev (poly_reading r embed v)) ts) x ∙ ap (fold r a) (tree_values embed v x ts)
+      → eval_poly r (fold_poly r a (map (eval_tree (poly_reading r embed v)) ts)) x ≡ fold r a (map (eval_tree (reading_at r embed (map_values (λ p. eval_poly r p x) v))) ts)
+  fold_of_trees embed v a x ts = fold_value a (map (eval_tree (poly_reading r embed v)) ts) x ∙ ap (fold r a) (tree_values embed v x ts)
 
   -- a fold is the value at the challenge of the polynomial with these coefficients, the last first
-  pub fold_at_challenge : (a : E) (cs : List E) → fold r a cs ≡ val r (reverse cs) a
+  pub fold_at_challenge : (a : E) (cs : List E) → fold r a cs ≡ eval_poly r (reverse cs) a
   unfolding fold
   fold_at_challenge a [] = refl
   fold_at_challenge a (c ∷ cs) =
       let w = pow r a (length cs) in
       let last : r.add c (r.mul a r.zero) ≡ c = ap (r.add c) (mul_zero r L a) ∙ L.add_zero c in
       ap (r.add (r.mul w c)) (fold_at_challenge a cs)
-      ∙ (L.add_comm (r.mul w c) (val r (reverse cs) a)
-      ∙ ((λ i. r.add (val r (reverse cs) a) (r.mul (pow r a (sym (length-reverse cs) i)) (sym last i)))
-      ∙ (sym (val_append r L (reverse cs) (c ∷ []) a) ∙ ap (λ g. val r g a) (sym (reverse-append (c ∷ []) cs)))))
+      ∙ (L.add_comm (r.mul w c) (eval_poly r (reverse cs) a)
+      ∙ ((λ i. r.add (eval_poly r (reverse cs) a) (r.mul (pow r a (sym (length-reverse cs) i)) (sym last i)))
+      ∙ (sym (eval_append r L (reverse cs) (c ∷ []) a) ∙ ap (λ g. eval_poly r g a) (sym (reverse-append (c ∷ []) cs)))))
 
   -- which is zero only where all values are
   pub zero_values : (cs : List E) → IsZeroPoly r (reverse cs) → All (λ c. c ≡ r.zero) cs

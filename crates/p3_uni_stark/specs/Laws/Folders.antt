@@ -4,63 +4,63 @@ use Rattle.std.proofs.lemmas.List.{map-append}
 use Rattle.std.proofs.lemmas.Simd.{map-map}
 use Rattle.p3_field.specs.Ring.{Ring, RingLaws}
 use Rattle.p3_field.specs.Field.{RingHom}
-use Rattle.p3_air.specs.Tree.{Tree, Asserted, Reading, ev, ev_asserted, over_base}
+use Rattle.p3_air.specs.Tree.{Tree, Asserted, Reading, eval_tree, eval_asserted, over_base}
 use Rattle.p3_air.specs.declared.cells.Cell.{Cell}
 use Rattle.p3_air.specs.CellValues.{cell_in}
 use Rattle.p3_air.specs.Laws.CellValues.{cell_image}
 use Rattle.p3_air.specs.PointValues.{point_cell}
 use Rattle.p3_air.specs.Operation.{Operation, tree_by, value_by}
 use Rattle.p3_air.specs.Laws.Operation.{ReadsBy, value_by-tree, embedded-value_by}
-use Rattle.p3_uni_stark.specs.Point.{PointValues, point_cells, point_shape, reading, embedded}
+use Rattle.p3_uni_stark.specs.Point.{PointValues, point_cells, point_shape, point_reading, embedded}
 use Rattle.p3_uni_stark.specs.Fold.{fold_from, Sum, weighed_from}
 use Rattle.p3_uni_stark.specs.Laws.Folds.{fold_after, weighed_after}
 use Rattle.p3_uni_stark.specs.Laws.Point.{embedded_cells}
 
 -- a value in a state is the tree's value in each state that reads the same
-pub value_persists : {F E S : Type 0} (reads : S → Reading F E) (p q : S) (e : E) (t : Tree F) → q ≡ p → e ≡ ev (reads p) t → e ≡ ev (reads q) t
-value_persists {F = F} {E = E} {S = S} reads p q e t h k = let P : S → Type 0 = λ r. e ≡ ev (reads r) t in subst P (sym h) k
+pub value_persists : {F E S : Type 0} (reads : S → Reading F E) (p q : S) (e : E) (t : Tree F) → q ≡ p → e ≡ eval_tree (reads p) t → e ≡ eval_tree (reads q) t
+value_persists {F = F} {E = E} {S = S} reads p q e t h k = let P : S → Type 0 = λ r. e ≡ eval_tree (reads r) t in subst P (sym h) k
 
-by_ring : {F E : Type 0} (s : Ring E) (embed : F → E) (p : PointValues F E) → ReadsBy s (reading s embed p)
+by_ring : {F E : Type 0} (s : Ring E) (embed : F → E) (p : PointValues F E) → ReadsBy s (point_reading s embed p)
 by_ring s embed p = record { adds = λ x y. refl; subs = λ x y. refl; muls = λ x y. refl }
 
 -- the value of an operation on values of trees is the value of its tree in each state that reads the same
 pub value_by_persists : {F E S : Type 0} (s : Ring E) (embed : F → E) (values : S → PointValues F E) (p q : S) (op : Operation) (x y z : E) (t u : Tree F) → q ≡ p
-    → x ≡ ev (reading s embed (values p)) t → y ≡ ev (reading s embed (values p)) u → z ≡ value_by s op x y → z ≡ ev (reading s embed (values q)) (tree_by op t u)
+    → x ≡ eval_tree (point_reading s embed (values p)) t → y ≡ eval_tree (point_reading s embed (values p)) u → z ≡ value_by s op x y → z ≡ eval_tree (point_reading s embed (values q)) (tree_by op t u)
 value_by_persists s embed values p q op x y z t u h k l e =
-    value_persists (λ r. reading s embed (values r)) p q z (tree_by op t u) h
-    (value_by-tree s (reading s embed (values p)) (by_ring s embed (values p)) op x y z t u k l e)
+    value_persists (λ r. point_reading s embed (values r)) p q z (tree_by op t u) h
+    (value_by-tree s (point_reading s embed (values p)) (by_ring s embed (values p)) op x y z t u k l e)
 
 -- the same of values of the base field, which go into the extension
 pub base_value_by_persists : {F E S : Type 0} (f : Ring F) (L : RingLaws f) (s : Ring E) (M : RingLaws s) (embed : F → E) (H : RingHom f s embed) (values : S → PointValues F E) (p q : S)
     (op : Operation) (x y z : F) (t u : Tree F) → q ≡ p
-    → embed x ≡ ev (reading s embed (values p)) t → embed y ≡ ev (reading s embed (values p)) u → z ≡ value_by f op x y → embed z ≡ ev (reading s embed (values q)) (tree_by op t u)
+    → embed x ≡ eval_tree (point_reading s embed (values p)) t → embed y ≡ eval_tree (point_reading s embed (values p)) u → z ≡ value_by f op x y → embed z ≡ eval_tree (point_reading s embed (values q)) (tree_by op t u)
 base_value_by_persists f L s M embed H values p q op x y z t u h k l e =
-    value_persists (λ r. reading s embed (values r)) p q (embed z) (tree_by op t u) h
-    (embedded-value_by f L s M embed H (reading s embed (values p)) (by_ring s embed (values p)) op x y z t u k l e)
+    value_persists (λ r. point_reading s embed (values r)) p q (embed z) (tree_by op t u) h
+    (embedded-value_by f L s M embed H (point_reading s embed (values p)) (by_ring s embed (values p)) op x y z t u k l e)
 
 -- states that read the same have the same cells
 pub shape_along : {F E S : Type 0} (values : S → PointValues F E) (p q : S) → q ≡ p → point_shape (values q) ≡ point_shape (values p)
 shape_along {S = S} values p q h = ap (λ (s : S). point_shape (values s)) h
 
 -- the values of trees that are asserted over the base field
-pub base_values : {F E : Type 0} (r : Reading F E) (ts : List (Tree F)) → map (ev_asserted r) (map over_base ts) ≡ map (ev r) ts
-base_values r ts = map-map (ev_asserted r) over_base ts
+pub base_values : {F E : Type 0} (r : Reading F E) (ts : List (Tree F)) → map (eval_asserted r) (map over_base ts) ≡ map (eval_tree r) ts
+base_values r ts = map-map (eval_asserted r) over_base ts
 
 -- trees folded after others, where the values and the challenge stay
 pub folded_along : {F E S : Type 0} (s : Ring E) (reads : S → Reading F E) (alpha : S → E) (p q : S) (a b c : E) (t u : List (Asserted F)) → q ≡ p
-    → b ≡ fold_from s (alpha p) a (map (ev_asserted (reads p)) t) → c ≡ fold_from s (alpha q) b (map (ev_asserted (reads q)) u) → c ≡ fold_from s (alpha p) a (map (ev_asserted (reads p)) (t ++ u))
+    → b ≡ fold_from s (alpha p) a (map (eval_asserted (reads p)) t) → c ≡ fold_from s (alpha q) b (map (eval_asserted (reads q)) u) → c ≡ fold_from s (alpha p) a (map (eval_asserted (reads p)) (t ++ u))
 folded_along {F = F} {E = E} {S = S} s reads alpha p q a b c t u h k l =
-    let P : S → Type 0 = λ r. c ≡ fold_from s (alpha r) b (map (ev_asserted (reads r)) u) in
-    let value : Asserted F → E = ev_asserted (reads p) in
+    let P : S → Type 0 = λ r. c ≡ fold_from s (alpha r) b (map (eval_asserted (reads r)) u) in
+    let value : Asserted F → E = eval_asserted (reads p) in
     subst P h l ∙ (ap (λ v. fold_from s (alpha p) v (map value u)) k
     ∙ (fold_after s (alpha p) a (map value t) (map value u) ∙ ap (fold_from s (alpha p) a) (sym (map-append value t u))))
 
 -- trees weighed after others
 pub weighed_along : {F E S : Type 0} (s : Ring E) (reads : S → Reading F E) (p q : S) (a b c : Sum E) (t u : List (Asserted F)) → q ≡ p
-    → b ≡ weighed_from s a (map (ev_asserted (reads p)) t) → c ≡ weighed_from s b (map (ev_asserted (reads q)) u) → c ≡ weighed_from s a (map (ev_asserted (reads p)) (t ++ u))
+    → b ≡ weighed_from s a (map (eval_asserted (reads p)) t) → c ≡ weighed_from s b (map (eval_asserted (reads q)) u) → c ≡ weighed_from s a (map (eval_asserted (reads p)) (t ++ u))
 weighed_along {F = F} {E = E} {S = S} s reads p q a b c t u h k l =
-    let P : S → Type 0 = λ r. c ≡ weighed_from s b (map (ev_asserted (reads r)) u) in
-    let value : Asserted F → E = ev_asserted (reads p) in
+    let P : S → Type 0 = λ r. c ≡ weighed_from s b (map (eval_asserted (reads r)) u) in
+    let value : Asserted F → E = eval_asserted (reads p) in
     subst P h l ∙ (ap (λ v. weighed_from s v (map value u)) k
     ∙ (weighed_after s a (map value t) (map value u) ∙ ap (weighed_from s a) (sym (map-append value t u))))
 

@@ -1,9 +1,9 @@
 -- Values folded one by one, and the fold of a list.
 use Rattle.std.proofs.Common.{◌≡◌, ℕ, zero, suc, ◌+◌, ◌-◌, List, [], ◌∷◌, ◌++◌, length, refl, sym, ◌∙◌, ap, arith}
-use Rattle.p3_air.specs.Layout.{powers_of}
+use Rattle.p3_air.specs.Layout.{folding_powers}
 use Rattle.p3_field.specs.Ring.{Ring, RingLaws, pow}
-use Rattle.p3_field.specs.Poly.{table}
-use Rattle.p3_field.specs.Laws.Tables.{table_same}
+use Rattle.p3_field.specs.Poly.{tabulate}
+use Rattle.p3_field.specs.Laws.Tabulate.{tabulate_same}
 use Rattle.p3_field.specs.Laws.Algebra.{zero_add, zero_mul, add_mul}
 use Rattle.p3_uni_stark.specs.Fold.{fold, fold_powers, fold_from, weighed, Sum, added_to, weighed_from}
 
@@ -17,21 +17,21 @@ module _ {E : Type 0} (r : Ring E) where
   weighed_after s [] ys = refl
   weighed_after s (x ∷ xs) ys = weighed_after (added_to r s.left s.total x) xs ys
 
-  powers_from : (a : E) (k m n : ℕ) → n ≡ k + m → powers_of r a n (table m (λ i. k + i)) ≡ fold_powers r a m
+  powers_from : (a : E) (k m n : ℕ) → n ≡ k + m → folding_powers r a n (tabulate m (λ i. k + i)) ≡ fold_powers r a m
   unfolding fold_powers
   powers_from a k zero n e = refl
   powers_from a k (suc m) n e =
       let here : n - 1 - (k + zero) ≡ m = omega (arith, e) in
       let next : n ≡ suc k + m = omega (arith, e) in
-      let later : table m (λ i. k + suc i) ≡ table m (λ i. suc k + i) = table_same m (λ i. k + suc i) (λ i. suc k + i) (λ i h. omega arith) in
-      let rest : powers_of r a n (table m (λ i. k + suc i)) ≡ fold_powers r a m = ap (powers_of r a n) later ∙ powers_from a (suc k) m n next in
+      let later : tabulate m (λ i. k + suc i) ≡ tabulate m (λ i. suc k + i) = tabulate_same m (λ i. k + suc i) (λ i. suc k + i) (λ i h. omega arith) in
+      let rest : folding_powers r a n (tabulate m (λ i. k + suc i)) ≡ fold_powers r a m = ap (folding_powers r a n) later ∙ powers_from a (suc k) m n next in
       cc (ap (pow r a) here, rest)
 
   -- the powers of all n constraints, by their places in order, are the weights of their fold
-  pub powers_in_order : (a : E) (n : ℕ) → powers_of r a n (table n (λ i. i)) ≡ fold_powers r a n
+  pub powers_in_order : (a : E) (n : ℕ) → folding_powers r a n (tabulate n (λ i. i)) ≡ fold_powers r a n
   powers_in_order a n =
-      let places : table n (λ i. i) ≡ table n (λ i. zero + i) = table_same n (λ i. i) (λ i. zero + i) (λ i h. omega arith) in
-      ap (powers_of r a n) places ∙ powers_from a 0 n n (omega arith)
+      let places : tabulate n (λ i. i) ≡ tabulate n (λ i. zero + i) = tabulate_same n (λ i. i) (λ i. zero + i) (λ i h. omega arith) in
+      ap (folding_powers r a n) places ∙ powers_from a 0 n n (omega arith)
 
   module _ (L : RingLaws r) where
     -- s a^n and the fold of n values

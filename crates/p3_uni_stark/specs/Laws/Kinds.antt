@@ -7,10 +7,10 @@ use Rattle.p3_field.specs.Ring.{Ring, RingLaws, pow, of_nat}
 use Rattle.p3_field.specs.Poly.{total as total_of}
 use Rattle.p3_field.specs.Laws.Algebra.{zero_add, zero_mul, one_mul, add_mul, of_nat_add}
 use Rattle.p3_field.specs.Laws.Sums.{total_same, total_zero, total_add, total_only}
-use Rattle.p3_air.specs.Layout.{total, powers_of}
+use Rattle.p3_air.specs.Layout.{place_count, folding_powers}
 use Rattle.p3_air.specs.Laws.Places.{listed_more}
 use Rattle.p3_uni_stark.specs.Fold.{fold, weighed}
-use Rattle.p3_uni_stark.specs.Kinds.{values_at, FoldsByKinds}
+use Rattle.p3_uni_stark.specs.Kinds.{items_at, FoldsByKinds}
 
 module _ {E : Type 0} (r : Ring E) where
   -- the sum of g over a list of places
@@ -26,7 +26,7 @@ module _ {E : Type 0} (r : Ring E) where
   abbrev times : ℕ → E → E
   times k x = r.mul (of_nat r k) x
 
-  weighed_over : (a : E) (n : ℕ) (cs : List E) (is : List ℕ) → weighed r (powers_of r a n is) (values_at r cs is) ≡ sum_over (term a n cs) is
+  weighed_over : (a : E) (n : ℕ) (cs : List E) (is : List ℕ) → weighed r (folding_powers r a n is) (items_at r cs is) ≡ sum_over (term a n cs) is
   weighed_over a n cs [] = refl
   weighed_over a n cs (i ∷ is) = ap (r.add (term a n cs i)) (weighed_over a n cs is)
 
@@ -82,9 +82,9 @@ module _ {E : Type 0} (r : Ring E) where
 
     pub folds_by_kinds : FoldsByKinds r
     folds_by_kinds a p cs long once =
-        let n = total p in
+        let n = place_count p in
         let g : ℕ → E = term a n cs in
-        let both : r.add (weighed r (powers_of r a n p.base_indices) (values_at r cs p.base_indices)) (weighed r (powers_of r a n p.ext_indices) (values_at r cs p.ext_indices)) ≡ r.add (sum_over g p.base_indices) (sum_over g p.ext_indices) =
+        let both : r.add (weighed r (folding_powers r a n p.base_indices) (items_at r cs p.base_indices)) (weighed r (folding_powers r a n p.ext_indices) (items_at r cs p.ext_indices)) ≡ r.add (sum_over g p.base_indices) (sum_over g p.ext_indices) =
         (λ k. r.add (weighed_over a n cs p.base_indices k) (weighed_over a n cs p.ext_indices k)) in
         let each : total_of r n (λ i. times (count_by (λ j. j == i) (p.base_indices ++ p.ext_indices)) (g i)) ≡ total_of r n g =
         total_same r L n (λ i. times (count_by (λ j. j == i) (p.base_indices ++ p.ext_indices)) (g i)) g (λ i l. ap (λ k. times k (g i)) (once.once i l) ∙ times_once (g i)) in

@@ -7,8 +7,8 @@ use Rattle.std.proofs.lemmas.List.{map-id}
 use Rattle.std.proofs.lemmas.Nat.{pow_pos}
 use Rattle.p3_field.specs.Ring.{Ring, RingLaws, pow, sub}
 use Rattle.p3_field.specs.Field.{TwoAdic, Extension, combine, FieldLaws, RingHom, TwoAdicLaws}
-use Rattle.p3_field.specs.Poly.{val, val_in, product}
-use Rattle.p3_field.specs.Domain.{CosetData, van, point}
+use Rattle.p3_field.specs.Poly.{eval_poly, eval_poly_in, product}
+use Rattle.p3_field.specs.Domain.{CosetData, vanishing_polynomial, point}
 use Rattle.p3_field.specs.Laws.Algebra.{one_mul, mul_zero, zero_mul}
 use Rattle.p3_field.specs.Laws.Sums.{total_only}
 use Rattle.p3_field.specs.Laws.Products.{product_zero, product_one}
@@ -16,8 +16,8 @@ use Rattle.p3_field.specs.Laws.Order.{one_pow, pow_times}
 use Rattle.p3_field.specs.Laws.Own.{own_hom}
 use Rattle.p3_field.specs.Laws.Roots.{field_no_zero_divisors}
 use Rattle.p3_field.specs.Laws.Coset.{HasOrder, two_adic_order, pow_mul}
-use Rattle.p3_field.specs.Laws.Extended.{hom_pow, map_val}
-use Rattle.p3_field.specs.Laws.Selectors.{van_vanishes, van_value, van_only}
+use Rattle.p3_field.specs.Laws.Extended.{hom_pow, map_eval}
+use Rattle.p3_field.specs.Laws.Selectors.{vanishing_polynomial_vanishes, vanishing_value, vanishing_only_there}
 use Rattle.p3_uni_stark.specs.Recombine.{product_but, domain_at, AllDisjoint, chunk_weight, recombined}
 
 module _ {A : Type 0} (s : Ring A) (M : RingLaws s) where
@@ -39,25 +39,25 @@ unfolding chunk_weight
 weight_elsewhere f L W top T e M H ds i j k h differ shift fits =
     let s = e.ring in
     let x = e.embed (point f.ring f.root (domain_at f.ring ds j) k) in
-    let weight = λ (m : ℕ). e.embed (f.inv (val f.ring (van f.ring f.inv (domain_at f.ring ds m)) (point f.ring f.root (domain_at f.ring ds i) 0))) in
-    let factor = λ (m : ℕ). s.mul (val_in e (van f.ring f.inv (domain_at f.ring ds m)) x) (weight m) in
-    let none : factor j ≡ s.zero = ap (λ v. s.mul v (weight j)) (van_vanishes f.ring L s M e.embed H f.inv W top f.root T (domain_at f.ring ds j) k shift fits) ∙ zero_mul s M (weight j) in
+    let weight = λ (m : ℕ). e.embed (f.inv (eval_poly f.ring (vanishing_polynomial f.ring f.inv (domain_at f.ring ds m)) (point f.ring f.root (domain_at f.ring ds i) 0))) in
+    let factor = λ (m : ℕ). s.mul (eval_poly_in e (vanishing_polynomial f.ring f.inv (domain_at f.ring ds m)) x) (weight m) in
+    let none : factor j ≡ s.zero = ap (λ v. s.mul v (weight j)) (vanishing_polynomial_vanishes f.ring L s M e.embed H f.inv W top f.root T (domain_at f.ring ds j) k shift fits) ∙ zero_mul s M (weight j) in
     product_but_zero s M (length ds) i j factor h differ none
 
 module _ {A : Type 0} (s : Ring A) (M : RingLaws s) where
   product_but_one : (n i : ℕ) (t : ℕ → A) → i < n → ((j : ℕ) → j < n → (i ≡ j → ⊥) → t j ≡ s.one) → product_but s n i t ≡ s.one
   product_but_one n i t l h =
       let before = product_one s M i t (λ j b. h j (omega (arith, b, l)) (λ e. omega (arith, b, e))) in
-      let behind = product_one s M (n - suc i) (λ j. t (suc i + j)) (λ j b. h (suc i + j) (omega (arith, b, l)) (λ e. omega (arith, e))) in
-      (λ k. s.mul (before k) (behind k)) ∙ M.mul_one s.one
+      let after = product_one s M (n - suc i) (λ j. t (suc i + j)) (λ j b. h (suc i + j) (omega (arith, b, l)) (λ e. omega (arith, e))) in
+      (λ k. s.mul (before k) (after k)) ∙ M.mul_one s.one
 
 module _ {F E : Type 0} (f : TwoAdic F) (L : RingLaws f.ring) (W : FieldLaws f.ring f.inv) (top : ℕ) (T : TwoAdicLaws f.ring top f.root)
     (e : Extension F E) (M : RingLaws e.ring) (H : RingHom f.ring e.ring e.embed) where
-  -- Van of a coset of the same group has one value at all points of a domain
-  van_along : (c d : CosetData F) (k : ℕ) → (c.shift ≡ f.ring.zero → ⊥) → d.log_size ≤ top → c.log_size ≡ d.log_size
-      → val_in e (van f.ring f.inv c) (e.embed (point f.ring f.root d k))
+  -- The vanishing polynomial of a coset of the same group has one value at all points of a domain
+  vanishing_along : (c d : CosetData F) (k : ℕ) → (c.shift ≡ f.ring.zero → ⊥) → d.log_size ≤ top → c.log_size ≡ d.log_size
+      → eval_poly_in e (vanishing_polynomial f.ring f.inv c) (e.embed (point f.ring f.root d k))
       ≡ sub e.ring (pow e.ring (e.ring.mul (e.embed (f.inv c.shift)) (e.embed d.shift)) (2 ^ c.log_size)) e.ring.one
-  van_along c d k shift fits same =
+  vanishing_along c d k shift fits same =
       let r = f.ring in
       let s = e.ring in
       let h = f.root d.log_size in
@@ -72,7 +72,7 @@ module _ {F E : Type 0} (f : TwoAdic F) (L : RingLaws f.ring) (W : FieldLaws f.r
       let apart : s.mul t (e.embed (point r f.root d k)) ≡ s.mul (s.mul t S) (e.embed K) = ap (s.mul t) (H.keeps_mul d.shift K) ∙ sym (M.mul_assoc t S (e.embed K)) in
       let power : pow s (s.mul t (e.embed (point r f.root d k))) n ≡ pow s (s.mul t S) n =
       ap (λ z. pow s z n) apart ∙ (pow_mul s M (s.mul t S) (e.embed K) n ∙ (ap (s.mul (pow s (s.mul t S) n)) gone ∙ M.mul_one (pow s (s.mul t S) n))) in
-      van_value r L s M e.embed H f.inv W c (e.embed (point r f.root d k)) shift ∙ ap (λ z. sub s z s.one) power
+      vanishing_value r L s M e.embed H f.inv W c (e.embed (point r f.root d k)) shift ∙ ap (λ z. sub s z s.one) power
 
   -- Chunk i weighs one at each point of its own domain, where all domains are cosets of one group that share no point.
   pub weight_at_own : ((x y : F) → (x ≡ y) ⊎ (x ≡ y → ⊥)) → (ds : List (CosetData F)) (i k : ℕ) → i < length ds → AllDisjoint f ds
@@ -86,16 +86,16 @@ module _ {F E : Type 0} (f : TwoAdic F) (L : RingLaws f.ring) (W : FieldLaws f.r
       let d = domain_at r ds i in
       let x = e.embed (point r f.root d k) in
       let first = point r f.root d 0 in
-      let value = λ (j : ℕ). val r (van r f.inv (domain_at r ds j)) first in
-      let factor = λ (j : ℕ). s.mul (val_in e (van r f.inv (domain_at r ds j)) x) (e.embed (f.inv (value j))) in
+      let value = λ (j : ℕ). eval_poly r (vanishing_polynomial r f.inv (domain_at r ds j)) first in
+      let factor = λ (j : ℕ). s.mul (eval_poly_in e (vanishing_polynomial r f.inv (domain_at r ds j)) x) (e.embed (f.inv (value j))) in
       let one : (j : ℕ) → j < length ds → (i ≡ j → ⊥) → factor j ≡ s.one = λ j l differ.
       let c = domain_at r ds j in
       let below : c.log_size ≤ top = subst (λ m. m ≤ top) (sym (same j l)) fits in
       let nonzero : value j ≡ r.zero → ⊥ = λ z.
-      let found = van_only r L r L (λ y. y) (own_hom r) f.inv W top f.root T dec W.one_differs (field_no_zero_divisors r L f.inv W) c first (shifts j l) below (ap (λ g. val r g first) (map-id (van r f.inv c)) ∙ z) in
+      let found = vanishing_only_there r L r L (λ y. y) (own_hom r) f.inv W top f.root T dec W.one_differs (field_no_zero_divisors r L f.inv W) c first (shifts j l) below (ap (λ g. eval_poly r g first) (map-id (vanishing_polynomial r f.inv c)) ∙ z) in
       apart i within j l differ 0 found.0 (pow_pos d.log_size) found.1 found.2 in
-      let there : val_in e (van r f.inv c) x ≡ e.embed (value j) =
-      van_along c d k (shifts j l) fits (same j l) ∙ (sym (van_along c d 0 (shifts j l) fits (same j l)) ∙ map_val r L s M e.embed H (van r f.inv c) first) in
+      let there : eval_poly_in e (vanishing_polynomial r f.inv c) x ≡ e.embed (value j) =
+      vanishing_along c d k (shifts j l) fits (same j l) ∙ (sym (vanishing_along c d 0 (shifts j l) fits (same j l)) ∙ map_eval r L s M e.embed H (vanishing_polynomial r f.inv c) first) in
       ap (λ v. s.mul v (e.embed (f.inv (value j)))) there ∙ (sym (H.keeps_mul (value j) (f.inv (value j))) ∙ (ap e.embed (W.mul_inv (value j) nonzero) ∙ H.keeps_one)) in
       product_but_one s M (length ds) i factor within one
 

@@ -8,7 +8,7 @@ use Rattle.p3_matrix.specs.Matrix.{Rows}
 use Rattle.p3_commit.specs.Claims.{PointClaim, MatrixClaim, CommitmentClaim}
 use Rattle.p3_commit.specs.Failure.{NoneOf, FaultUnless}
 use Rattle.plain_pcs.specs.Scheme.{Scheme, PlainCommitmentData}
-use Rattle.plain_pcs.specs.Checks.{HasDimensions, degree_check, value_check, point_checks, matrix_checks, round_checks, checks, Opens, Fault}
+use Rattle.plain_pcs.specs.Checks.{HasDimensions, degree_check, value_check, point_checks, matrix_checks, round_checks, opening_claim_checks, Opens, Fault}
 use Rattle.plain_pcs.specs.declared.error.PlainError.{PlainError}
 use Rattle.plain_pcs.specs.declared.error.PlainError.TheVariants.{RoundShape, Dimensions, Degree, Value}
 
@@ -31,18 +31,18 @@ module _ {F E : Type 0} (s : Scheme F) (ring : Ring E) (embed : F → E) where
   round_single round c =
       check_single (RoundShape round) _ _ (single_of_items (matrix_checks s ring embed round) (zip c.commitment.matrices c.matrices) (matrix_single round))
 
-  pub checks_single : (claims : List (CommitmentClaim E (PlainCommitmentData F) (CosetData F))) → AreSingle (checks s ring embed claims)
-  unfolding checks
+  pub checks_single : (claims : List (CommitmentClaim E (PlainCommitmentData F) (CosetData F))) → AreSingle (opening_claim_checks s ring embed claims)
+  unfolding opening_claim_checks
   checks_single claims = single_of_items (round_checks s ring embed) claims round_single
 
   -- claims that the commitments open have no fault
   pub opens_faultless : (claims : List (CommitmentClaim E (PlainCommitmentData F) (CosetData F))) → Opens s ring embed claims → NoneOf (Fault s ring embed claims)
-  opens_faultless claims n = λ e f. none_first (checks s ring embed claims) e n f
+  opens_faultless claims n = λ e f. none_first (opening_claim_checks s ring embed claims) e n f
 
   -- others have a first fault
   pub some_fault : (claims : List (CommitmentClaim E (PlainCommitmentData F) (CosetData F))) → FaultUnless (Opens s ring embed claims) (Fault s ring embed claims)
-  some_fault claims = λ n f. some_first (checks s ring embed claims) (checks_single claims) n f
+  some_fault claims = λ n f. some_first (opening_claim_checks s ring embed claims) (checks_single claims) n f
 
   -- and the first fault is one
   pub one_fault : (claims : List (CommitmentClaim E (PlainCommitmentData F) (CosetData F))) (e g : PlainError) → Fault s ring embed claims e → Fault s ring embed claims g → e ≡ g
-  one_fault claims e g a b = same_first (checks s ring embed claims) e g (checks_single claims) a b
+  one_fault claims e g a b = same_first (opening_claim_checks s ring embed claims) e g (checks_single claims) a b

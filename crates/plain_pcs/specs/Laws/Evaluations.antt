@@ -3,7 +3,7 @@ use Rattle.std.proofs.Common.{◌≡◌, ℕ, zero, suc, ◌+◌, ◌*◌, ◌^�
 use Rattle.std.proofs.Math.Seq.{take-add}
 use Rattle.std.proofs.lemmas.List.{ext_get_or, take_all, get_or-map, length-map}
 use Rattle.p3_field.specs.Field.{TwoAdic}
-use Rattle.p3_field.specs.Poly.{val}
+use Rattle.p3_field.specs.Poly.{eval_poly}
 use Rattle.p3_field.specs.Domain.{CosetData, point}
 use Rattle.p3_matrix.specs.Matrix.{Rows, FillsRows, height, row_at, column}
 use Rattle.p3_matrix.specs.Laws.Cells.{length-column, get_or-column}
@@ -44,11 +44,11 @@ values_by_rows m h =
 
 module _ {F : Type 0} (t : TwoAdic F) (d : CosetData F) (fs : List (List F)) (some : 0 < length fs) where
   row_of : ℕ → List F
-  row_of i = map (λ f. val t.ring f (point t.ring t.root d i)) fs
+  row_of i = map (λ f. eval_poly t.ring f (point t.ring t.root d i)) fs
 
-  rows_are : HasRows (evaluations t d fs).values (2 ^ d.log_size) (length fs) (λ k y. y ≡ map (λ f. val t.ring f (point t.ring t.root d k)) fs)
+  rows_are : HasRows (evaluations t d fs).values (2 ^ d.log_size) (length fs) (λ k y. y ≡ map (λ f. eval_poly t.ring f (point t.ring t.root d k)) fs)
   unfolding evaluations
-  rows_are = rows-row_major (length fs) (2 ^ d.log_size) (λ i. map (λ f. val t.ring f (point t.ring t.root d i)) fs) (λ i b. length-map fs (λ f. val t.ring f (point t.ring t.root d i)))
+  rows_are = rows-row_major (length fs) (2 ^ d.log_size) (λ i. map (λ f. eval_poly t.ring f (point t.ring t.root d i)) fs) (λ i b. length-map fs (λ f. eval_poly t.ring f (point t.ring t.root d i)))
 
   pub width-evaluations : (evaluations t d fs).width ≡ length fs
   unfolding evaluations
@@ -62,7 +62,7 @@ module _ {F : Type 0} (t : TwoAdic F) (d : CosetData F) (fs : List (List F)) (so
   unfolding evaluations
   height-evaluations = product_height (evaluations t d fs).values (2 ^ d.log_size) (length fs) rows_are.count some
 
-  row-evaluations : (i : ℕ) → i < 2 ^ d.log_size → row_at (evaluations t d fs) i ≡ map (λ f. val t.ring f (point t.ring t.root d i)) fs
+  row-evaluations : (i : ℕ) → i < 2 ^ d.log_size → row_at (evaluations t d fs) i ≡ map (λ f. eval_poly t.ring f (point t.ring t.root d i)) fs
   unfolding evaluations
   row-evaluations i b = rows_are.rows i b
 
@@ -80,7 +80,7 @@ module _ {F : Type 0} (t : TwoAdic F) (d : CosetData F) (fs : List (List F)) (so
       let below : i < height m = omega (arith, length-column z m j) in
       let within : i < n = omega (arith, height-evaluations) in
       get_or-column z m j i below ∙ (sym (get_or-row_at m i j z inside)
-      ∙ (ap (λ l. get_or l j z) (row-evaluations i within) ∙ (get_or-map (λ g. val t.ring g (p i)) fs j [] z b
+      ∙ (ap (λ l. get_or l j z) (row-evaluations i within) ∙ (get_or-map (λ g. eval_poly t.ring g (p i)) fs j [] z b
       ∙ sym (get_or-values_at t.ring p n f i z within)))))
 
   -- a matrix with such columns
@@ -92,17 +92,17 @@ module _ {F : Type 0} (t : TwoAdic F) (d : CosetData F) (fs : List (List F)) (so
       let n = 2 ^ d.log_size in
       let p = point t.ring t.root d in
       let high : height m ≡ n = sym (length-column z m 0) ∙ (ap length (cols 0 some) ∙ length-values_at t.ring p n (get_or fs 0 [])) in
-      let row : (i : ℕ) → i < n → row_at m i ≡ map (λ f. val t.ring f (p i)) fs = λ i b.
+      let row : (i : ℕ) → i < n → row_at m i ≡ map (λ f. eval_poly t.ring f (p i)) fs = λ i b.
       let below : i < height m = omega (arith, high) in
       let long = length-row_at m fills i below in
-      ext_get_or z (row_at m i) (map (λ f. val t.ring f (p i)) fs) (long ∙ (wide ∙ sym (length-map fs (λ f. val t.ring f (p i)))))
+      ext_get_or z (row_at m i) (map (λ f. eval_poly t.ring f (p i)) fs) (long ∙ (wide ∙ sym (length-map fs (λ f. eval_poly t.ring f (p i)))))
       (λ j a.
       let inside : j < m.width = omega (arith, long) in
       let across : j < length fs = omega (arith, wide) in
       get_or-row_at m i j z inside ∙ (sym (get_or-column z m j i below) ∙ (ap (λ l. get_or l i z) (cols j across)
-      ∙ (get_or-values_at t.ring p n (get_or fs j []) i z b ∙ sym (get_or-map (λ f. val t.ring f (p i)) fs j [] z across))))) in
-      let values : m.values ≡ row_major n (λ i. map (λ f. val t.ring f (p i)) fs) = values_by_rows m fills ∙ (ap (λ k. row_major k (row_at m)) high ∙ row_major_same n (row_at m) (λ i. map (λ f. val t.ring f (p i)) fs) row) in
-      same_rows m.values (row_major n (λ i. map (λ f. val t.ring f (p i)) fs)) m.width (length fs) values wide
+      ∙ (get_or-values_at t.ring p n (get_or fs j []) i z b ∙ sym (get_or-map (λ f. eval_poly t.ring f (p i)) fs j [] z across))))) in
+      let values : m.values ≡ row_major n (λ i. map (λ f. eval_poly t.ring f (p i)) fs) = values_by_rows m fills ∙ (ap (λ k. row_major k (row_at m)) high ∙ row_major_same n (row_at m) (λ i. map (λ f. eval_poly t.ring f (p i)) fs) row) in
+      same_rows m.values (row_major n (λ i. map (λ f. eval_poly t.ring f (p i)) fs)) m.width (length fs) values wide
     where
       same_rows : {A : Type 0} (a b : List A) (v w : ℕ) → a ≡ b → v ≡ w → rows_of a v ≡ rows_of b w
       same_rows a b v w e f = cc

@@ -8,7 +8,7 @@ use Rattle.p3_field.specs.Field.{FieldLaws, TwoAdicLaws}
 use Rattle.p3_field.specs.Poly.{Apart}
 use Rattle.p3_field.specs.Domain.{CosetData, point, coset_point, IsInterpolant}
 use Rattle.p3_field.specs.Laws.Interpolants.{interpolant_exists, points_apart}
-use Rattle.p3_field.specs.Laws.Tables.{length-table, get_or-table}
+use Rattle.p3_field.specs.Laws.Tabulate.{length-tabulate, get_or-tabulate}
 use Rattle.p3_matrix.specs.Matrix.{Rows, FillsRows, height, column}
 use Rattle.p3_matrix.specs.Laws.Cells.{length-column}
 use Rattle.p3_dft.specs.Transform.{values_at, IsExtensionOf}
@@ -25,13 +25,13 @@ abbrev pub polynomials : {F : Type 0} → Scheme F → CosetData F → Rows F �
 polynomials s d m = map (interpolant s.field d) (columns s.field.ring.zero m)
 
 pub length-polynomials : {F : Type 0} (s : Scheme F) (d : CosetData F) (m : Rows F) → length (polynomials s d m) ≡ m.width
-length-polynomials s d m = length-map (columns s.field.ring.zero m) (interpolant s.field d) ∙ length-table m.width (column s.field.ring.zero m)
+length-polynomials s d m = length-map (columns s.field.ring.zero m) (interpolant s.field d) ∙ length-tabulate m.width (column s.field.ring.zero m)
 
 pub get_or-polynomials : {F : Type 0} (s : Scheme F) (d : CosetData F) (m : Rows F) (j : ℕ) → j < m.width → get_or (polynomials s d m) j [] ≡ interpolant s.field d (column s.field.ring.zero m j)
 get_or-polynomials s d m j b =
     let z = s.field.ring.zero in
-    let within : j < length (columns z m) = omega (arith, length-table m.width (column z m)) in
-    get_or-map (interpolant s.field d) (columns z m) j [] [] within ∙ ap (interpolant s.field d) (get_or-table m.width (column z m) j [] b)
+    let within : j < length (columns z m) = omega (arith, length-tabulate m.width (column z m)) in
+    get_or-map (interpolant s.field d) (columns z m) j [] [] within ∙ ap (interpolant s.field d) (get_or-tabulate m.width (column z m) j [] b)
 
 module _ {F : Type 0} (s : Scheme F) (L : RingLaws s.field.ring) (W : FieldLaws s.field.ring s.field.inv) (T : TwoAdicLaws s.field.ring s.most s.field.root) where
   -- the interpolant on a domain is one

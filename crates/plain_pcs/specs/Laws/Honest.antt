@@ -6,24 +6,24 @@ use Rattle.std.proofs.lemmas.List.Elements.{All-map, All-same}
 use Rattle.std.proofs.lemmas.Option.{slice_get_within}
 use Rattle.p3_field.specs.Ring.{Ring, RingLaws}
 use Rattle.p3_field.specs.Field.{RingHom}
-use Rattle.p3_field.specs.Poly.{val}
+use Rattle.p3_field.specs.Poly.{eval_poly}
 use Rattle.p3_field.specs.Domain.{CosetData, point, IsInterpolant}
 use Rattle.p3_matrix.specs.Matrix.{Rows, height, column}
 use Rattle.p3_matrix.specs.Laws.Powers.{power_cancel}
 use Rattle.p3_dft.specs.Transform.{values_at}
 use Rattle.p3_commit.specs.Claims.{PointClaim, MatrixClaim, CommitmentClaim, Request}
-use Rattle.p3_commit.specs.Commitments.{Committed, Held, AreHeld, AreClaims, IsMatrixClaim, IsRoundClaim, values_of}
+use Rattle.p3_commit.specs.Commitments.{Committed, OpenedCommitment, AreOpenedCommitments, AreClaims, IsMatrixClaim, IsRoundClaim, values_of}
 use Rattle.p3_commit.specs.Laws.Pairs.{length-zip, slice_get-zip}
 use Rattle.plain_pcs.specs.Scheme.{Scheme, PlainCommitmentData}
 use Rattle.plain_pcs.specs.Extension.{extended_domain}
 use Rattle.p3_field.specs.Checks.{check, NoneFails, in_turn, of_items}
 use Rattle.p3_field.specs.Laws.Checks.{refusal_later, none_append, none_alone, none_of_each, none_of_items}
-use Rattle.plain_pcs.specs.Checks.{HasDimensions, HasLowDegree, HasValue, IsColumnPolynomial, degree_check, value_check, point_checks, matrix_checks, round_checks, checks, Opens}
+use Rattle.plain_pcs.specs.Checks.{HasDimensions, HasLowDegree, HasValue, IsColumnPolynomial, degree_check, value_check, point_checks, matrix_checks, round_checks, opening_claim_checks, Opens}
 use Rattle.plain_pcs.specs.Holding.{IsMade, IsHolding, AreHolding}
 use Rattle.plain_pcs.specs.declared.error.PlainError.TheVariants.{RoundShape, Dimensions, Degree, Value}
 use Rattle.plain_pcs.specs.Laws.Evaluations.{width-evaluations, height-evaluations, column-evaluations}
 use Rattle.plain_pcs.specs.Laws.Listed.{item_at, item_has, zip_item}
-use Rattle.plain_pcs.specs.Laws.Held.{power_within, holding_count}
+use Rattle.plain_pcs.specs.Laws.OpenedCommitments.{power_within, holding_count}
 use Rattle.plain_pcs.specs.Laws.Short.{filled, filled_interpolant, filled_degree, filled_value}
 
 -- how many points a domain has
@@ -72,8 +72,8 @@ module _ {F E : Type 0} (s : Scheme F) (ring : Ring E) (embed : F → E) (L : Ri
     value_holds k j x ys e h q =
         let f = get_or c.polynomials j [] in
         let b : j < length c.polynomials = omega (arith, width_is) in
-        let value : val ring (map embed f) x ≡ get_or ys j ring.zero =
-        sym (get_or-map (λ g. val ring (map embed g) x) c.polynomials j [] ring.zero b) ∙ ap (λ zs. get_or zs j ring.zero) (sym q) in
+        let value : eval_poly ring (map embed f) x ≡ get_or ys j ring.zero =
+        sym (get_or-map (λ g. eval_poly ring (map embed g) x) c.polynomials j [] ring.zero b) ∙ ap (λ zs. get_or zs j ring.zero) (sym q) in
         (polynomial j, column_polynomial k j e h, filled_value s.field.ring L (2 ^ (I.log_size + s.log_blowup)) f ring M embed H x ∙ value)
 
     module _ (xs : List E) (m : MatrixClaim E (CosetData F)) (C : IsMatrixClaim ring embed size c xs m) where
@@ -91,7 +91,7 @@ module _ {F E : Type 0} (s : Scheme F) (ring : Ring E) (embed : F → E) (L : Ri
         fits = let f = I.fits in omega (arith, log_size_is);
         height_is = height_is ∙ ap (λ k. 2 ^ (k + s.log_blowup)) (sym log_size_is);
         widths_are = λ k p h.
-            ap length (points_have_values k p h) ∙ (length-map c.polynomials (λ f. val ring (map embed f) (get_or m.points k p).point) ∙ sym width_is);
+            ap length (points_have_values k p h) ∙ (length-map c.polynomials (λ f. eval_poly ring (map embed f) (get_or m.points k p).point) ∙ sym width_is);
       }
 
       -- a matrix of held polynomials passes its checks
@@ -110,7 +110,7 @@ module _ {F E : Type 0} (s : Scheme F) (ring : Ring E) (embed : F → E) (L : Ri
           none_alone (check (Value round n at j) (HasValue s ring embed l k j p.point (get_or p.values j ring.zero)))
           (value_holds k j p.point p.values log_size_is b (item_has (λ p. p.values ≡ values_of ring embed c p.point) m.points at p points_have_values q))))))
 
-  module _ (h : Held (PlainCommitmentData F) F) (q : Request (List (CosetData F × Rows F)) E) (c : CommitmentClaim E (PlainCommitmentData F) (CosetData F))
+  module _ (h : OpenedCommitment (PlainCommitmentData F) F) (q : Request (List (CosetData F × Rows F)) E) (c : CommitmentClaim E (PlainCommitmentData F) (CosetData F))
       (made : IsMade q.prover_data) (lists : length q.points ≡ length q.prover_data) (A : AreHolding s q.prover_data h.commitment h.matrices) (C : IsRoundClaim ring embed size h q c) where
     polynomials_count : length h.matrices ≡ length q.prover_data
     polynomials_count = holding_count s q.prover_data h.commitment h.matrices A
@@ -143,10 +143,10 @@ module _ {F E : Type 0} (s : Scheme F) (ring : Ring E) (embed : F → E) (L : Ri
         (none_of_items (matrix_checks s ring embed round) parts (place_holds round))
 
   -- the claims that hold of what was asked for are opened
-  pub honest_opens : (requests : List (Request (List (CosetData F × Rows F)) E)) (held : List (Held (PlainCommitmentData F) F)) (claims : List (CommitmentClaim E (PlainCommitmentData F) (CosetData F)))
-      → All (λ q. IsMade q.prover_data) requests → All (λ q. length q.points ≡ length q.prover_data) requests → AreHeld (AreHolding s) requests held
+  pub honest_opens : (requests : List (Request (List (CosetData F × Rows F)) E)) (held : List (OpenedCommitment (PlainCommitmentData F) F)) (claims : List (CommitmentClaim E (PlainCommitmentData F) (CosetData F)))
+      → All (λ q. IsMade q.prover_data) requests → All (λ q. length q.points ≡ length q.prover_data) requests → AreOpenedCommitments (AreHolding s) requests held
       → AreClaims ring embed size held requests claims → Opens s ring embed claims
-  unfolding checks
+  unfolding opening_claim_checks
   honest_opens requests held claims made lists A C =
       none_of_items (round_checks s ring embed) claims
       (λ k e h.

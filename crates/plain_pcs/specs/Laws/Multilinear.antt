@@ -5,11 +5,11 @@ use Rattle.std.proofs.lemmas.Nat.Bits.{bit_at_lowest, bit_at-suc}
 use Rattle.std.proofs.lemmas.List.{length-append}
 use Rattle.std.proofs.Math.Nat.{pow-suc}
 use Rattle.p3_field.specs.Ring.{Ring, RingLaws, sub, of_nat}
-use Rattle.p3_field.specs.Poly.{table, total, product}
+use Rattle.p3_field.specs.Poly.{tabulate, total, product}
 use Rattle.p3_field.specs.Laws.Algebra.{one_mul}
 use Rattle.p3_field.specs.Laws.Sums.{total_same}
 use Rattle.p3_field.specs.Laws.Products.{product_front, product_same}
-use Rattle.p3_field.specs.Laws.Tables.{length-table, get_or-table, table_same}
+use Rattle.p3_field.specs.Laws.Tabulate.{length-tabulate, get_or-tabulate, tabulate_same}
 use Rattle.p3_field.specs.Laws.Solver.{expressions, var, solve}
 use Rattle.plain_pcs.specs.Multilinear.{factor, weight, multilinear_value}
 
@@ -67,7 +67,7 @@ module _ {A : Type 0} (r : Ring A) (L : RingLaws r) where
 
   -- the polynomial with its first variable set
   pub first_variable : (vs ws : List A) (x : A) (xs : List A)
-      → ws ≡ table (2 ^ length xs) (λ i. between r x (get_or vs (2 * i) r.zero) (get_or vs (2 * i + 1) r.zero))
+      → ws ≡ tabulate (2 ^ length xs) (λ i. between r x (get_or vs (2 * i) r.zero) (get_or vs (2 * i + 1) r.zero))
       → multilinear_value r ws xs ≡ multilinear_value r vs (x ∷ xs)
   unfolding multilinear_value
   first_variable vs ws x xs e =
@@ -77,7 +77,7 @@ module _ {A : Type 0} (r : Ring A) (L : RingLaws r) where
       let f : ℕ → A = λ i. between r x (v (2 * i)) (v (2 * i + 1)) in
       let long : 2 * n ≡ 2 ^ suc (length xs) = omega (arith, pow-suc 2 (length xs)) in
       let each = total_same r L n (λ i. r.mul (get_or ws i r.zero) (weight r xs i)) (λ i. r.add (t (2 * i)) (t (2 * i + 1))) (λ i k.
-      let item : get_or ws i r.zero ≡ f i = ap (λ l. get_or l i r.zero) e ∙ get_or-table n f i r.zero k in
+      let item : get_or ws i r.zero ≡ f i = ap (λ l. get_or l i r.zero) e ∙ get_or-tabulate n f i r.zero k in
       let w = weight r xs i in
       ap (λ y. r.mul y w) item ∙ (two_terms_are_one x (v (2 * i)) (v (2 * i + 1)) w
       ∙ cc (ap (r.mul (v (2 * i))) (weight_even x xs i), ap (r.mul (v (2 * i + 1))) (weight_odd x xs i)))) in
@@ -107,7 +107,7 @@ module _ {A : Type 0} (r : Ring A) (L : RingLaws r) where
   at_bit t i (suc (suc b)) e = absurd (omega arith)
 
   -- at the point of the bits of i it has value i
-  pub at_bits : (vs : List A) (m i : ℕ) → i < 2 ^ m → multilinear_value r vs (table m (λ j. of_nat r (bit_at i j))) ≡ get_or vs i r.zero
+  pub at_bits : (vs : List A) (m i : ℕ) → i < 2 ^ m → multilinear_value r vs (tabulate m (λ j. of_nat r (bit_at i j))) ≡ get_or vs i r.zero
   at_bits vs zero i h =
       let first : 0 ≡ i = omega arith in
       constant_value vs ∙ ap (λ k. get_or vs k r.zero) first
@@ -115,13 +115,13 @@ module _ {A : Type 0} (r : Ring A) (L : RingLaws r) where
       let v : ℕ → A = λ k. get_or vs k r.zero in
       let x = of_nat r (bit_at i 0) in
       let f : ℕ → A = λ k. between r x (v (2 * k)) (v (2 * k + 1)) in
-      let ws = table (2 ^ m) f in
-      let rest = table m (λ j. of_nat r (bit_at i (suc j))) in
-      let bits : rest ≡ table m (λ j. of_nat r (bit_at (i / 2) j)) = table_same m (λ j. of_nat r (bit_at i (suc j))) (λ j. of_nat r (bit_at (i / 2) j)) (λ j k. ap (of_nat r) (bit_at-suc i j)) in
-      let long : length rest ≡ m = length-table m (λ j. of_nat r (bit_at i (suc j))) in
+      let ws = tabulate (2 ^ m) f in
+      let rest = tabulate m (λ j. of_nat r (bit_at i (suc j))) in
+      let bits : rest ≡ tabulate m (λ j. of_nat r (bit_at (i / 2) j)) = tabulate_same m (λ j. of_nat r (bit_at i (suc j))) (λ j. of_nat r (bit_at (i / 2) j)) (λ j k. ap (of_nat r) (bit_at-suc i j)) in
+      let long : length rest ≡ m = length-tabulate m (λ j. of_nat r (bit_at i (suc j))) in
       let half : i / 2 < 2 ^ m = omega (arith, h, pow-suc 2 m) in
-      let set : multilinear_value r ws rest ≡ multilinear_value r vs (x ∷ rest) = first_variable vs ws x rest (ap (λ k. table (2 ^ k) f) (sym long)) in
-      sym set ∙ (ap (multilinear_value r ws) bits ∙ (at_bits ws m (i / 2) half ∙ (get_or-table (2 ^ m) f (i / 2) r.zero half ∙ at_bit v i (bit_at i 0) (sym (bit_at_lowest i)))))
+      let set : multilinear_value r ws rest ≡ multilinear_value r vs (x ∷ rest) = first_variable vs ws x rest (ap (λ k. tabulate (2 ^ k) f) (sym long)) in
+      sym set ∙ (ap (multilinear_value r ws) bits ∙ (at_bits ws m (i / 2) half ∙ (get_or-tabulate (2 ^ m) f (i / 2) r.zero half ∙ at_bit v i (bit_at i 0) (sym (bit_at_lowest i)))))
 
   weighed_low : (x v w : A) → weighed r 0 x v w ≡ between r x (weighed r 0 r.zero v w) (weighed r 0 r.one v w)
   weighed_low x v w =
@@ -142,7 +142,7 @@ module _ {A : Type 0} (r : Ring A) (L : RingLaws r) where
       solve r L (f ∷ x ∷ a ∷ b ∷ v ∷ []) (expressions.mul (var 4) (expressions.mul (var 0) (between expressions (var 1) (var 2) (var 3))))
       (between expressions (var 1) (expressions.mul (var 4) (expressions.mul (var 0) (var 2))) (expressions.mul (var 4) (expressions.mul (var 0) (var 3)))) refl
 
-  -- a weight, with a scalar, along the coordinate behind those of ys
+  -- a weight, with a scalar, along the coordinate after those of ys
   weight_affine : (ys after : List A) (x v : A) (i : ℕ)
       → r.mul v (weight r (ys ++ x ∷ after) i) ≡ between r x (r.mul v (weight r (ys ++ r.zero ∷ after) i)) (r.mul v (weight r (ys ++ r.one ∷ after) i))
   weight_affine [] after x v i =

@@ -3,13 +3,13 @@ use Rattle.std.proofs.Common.{◌≡◌, ℕ, zero, suc, ◌-◌, ◌≤◌, ◌
 use Rattle.std.proofs.lemmas.List.{length-append, length-replicate}
 use Rattle.p3_field.specs.Ring.{Ring, RingLaws}
 use Rattle.p3_field.specs.Field.{RingHom}
-use Rattle.p3_field.specs.Poly.{val, SamePoly, DegreeBelow, Apart}
+use Rattle.p3_field.specs.Poly.{eval_poly, SamePoly, DegreeBelow, Apart}
 use Rattle.p3_field.specs.Domain.{IsInterpolant}
 use Rattle.p3_field.specs.Laws.Coeffs.{degree_length_le}
-use Rattle.p3_field.specs.Laws.Values.{val_same}
+use Rattle.p3_field.specs.Laws.Values.{eval_same}
 use Rattle.p3_field.specs.Laws.Extended.{same_poly_map}
 use Rattle.p3_field.specs.Laws.Roots.{NoZeroDivisors}
-use Rattle.p3_field.specs.Laws.Tables.{length-table, get_or-table}
+use Rattle.p3_field.specs.Laws.Tabulate.{length-tabulate, get_or-tabulate}
 use Rattle.p3_matrix.specs.Interpolation.{IsInterpolatedAt}
 use Rattle.p3_matrix.specs.Laws.Interpolants.{value_of_interpolant}
 use Rattle.p3_dft.specs.Transform.{values_at}
@@ -42,24 +42,24 @@ module _ {A : Type 0} (r : Ring A) (L : RingLaws r) (n : ℕ) (f : List A) where
   pub filled_interpolant : (p : ℕ → A) (v : List A) → length f ≤ n → v ≡ values_at r p n f → IsInterpolant r p v (filled r n f)
   unfolding values_at
   filled_interpolant p v h e =
-      let long : length v ≡ n = ap length e ∙ length-table n (λ i. val r f (p i)) in
+      let long : length v ≡ n = ap length e ∙ length-tabulate n (λ i. eval_poly r f (p i)) in
       record {
         length_is = length_filled r n f h ∙ sym long;
         value_is = λ i b.
             let k : i < n = omega arith in
-            val_same r L (filled r n f) f (p i) (filled_same r n f)
-            ∙ (sym (get_or-table n (λ j. val r f (p j)) i r.zero k) ∙ ap (λ l. get_or l i r.zero) (sym e));
+            eval_same r L (filled r n f) f (p i) (filled_same r n f)
+            ∙ (sym (get_or-tabulate n (λ j. eval_poly r f (p j)) i r.zero k) ∙ ap (λ l. get_or l i r.zero) (sym e));
       }
 
   module _ {B : Type 0} (s : Ring B) (M : RingLaws s) (embed : A → B) (H : RingHom r s embed) where
     -- it has the values of f above the field
-    pub filled_value : (x : B) → val s (map embed (filled r n f)) x ≡ val s (map embed f) x
-    filled_value x = val_same s M (map embed (filled r n f)) (map embed f) x (same_poly_map r L s M embed H (filled r n f) f (filled_same r n f))
+    pub filled_value : (x : B) → eval_poly s (map embed (filled r n f)) x ≡ eval_poly s (map embed f) x
+    filled_value x = eval_same s M (map embed (filled r n f)) (map embed f) x (same_poly_map r L s M embed H (filled r n f) f (filled_same r n f))
 
     -- an interpolant's value is that of f, where f has its values at the points and no more coefficients
-    pub value_of_short : (N : NoZeroDivisors r) (p : ℕ → A) (v : List A) (x y : B) → Apart n p → length f ≤ n → v ≡ values_at r p n f → IsInterpolatedAt r s embed p v x y → y ≡ val s (map embed f) x
+    pub value_of_short : (N : NoZeroDivisors r) (p : ℕ → A) (v : List A) (x y : B) → Apart n p → length f ≤ n → v ≡ values_at r p n f → IsInterpolatedAt r s embed p v x y → y ≡ eval_poly s (map embed f) x
     unfolding values_at
     value_of_short N p v x y apart h e I =
-        let long : length v ≡ n = ap length e ∙ length-table n (λ i. val r f (p i)) in
+        let long : length v ≡ n = ap length e ∙ length-tabulate n (λ i. eval_poly r f (p i)) in
         let apart' : Apart (length v) p = λ i j a b. apart i j a (omega arith) in
         value_of_interpolant r L N s embed p v (filled r n f) x y apart' I (filled_interpolant p v h e) ∙ filled_value x

@@ -11,16 +11,16 @@ use Rattle.batch_tables.specs.Swap.{swap_trees}
 use Rattle.committed_tables.specs.Batch.{AllHold, DividedTable, IsUnluckyAlphaOfBatch, IsUnluckyZetaOfBatch}
 use Rattle.committed_tables.specs.Committed.{Holds}
 use Rattle.committed_tables.specs.Fields.{FieldsLaws}
-use Rattle.committed_tables.specs.Identity.{chunks_of}
+use Rattle.committed_tables.specs.Identity.{chunk_count_of}
 use Rattle.committed_tables.specs.Unlucky.{AreDistinct, IsUnluckyAlpha, IsUnluckyAlphaAt, IsUnluckyZeta}
 use Rattle.batch_setting.specs.Setting.{Setting, Backend}
 use Rattle.batch_statement.specs.Proof.{ProofData}
-use Rattle.batch_statement.specs.Statement.{Statement, Table, WellFormed, WrittenCommon, read_common, tables_of}
-use Rattle.batch_shape_checks.specs.ShapeChecks.{stated}
+use Rattle.batch_statement.specs.Statement.{Statement, AirTable, WellFormed, WrittenCommon, read_common, tables_of}
+use Rattle.batch_shape_checks.specs.ShapeChecks.{statement_with}
 use Rattle.batch_claims.specs.Claims.{bits_at}
-use Rattle.batch_openings.specs.OpeningChecks.{log_chunks}
+use Rattle.batch_openings.specs.OpeningChecks.{log_chunks_of_table}
 use Rattle.batch_verifier.specs.BatchChecks.{Accepted, drawn_of}
-use Rattle.plain_soundness.specs.CommittedBatch.{ReadDeclared, chunk_count, committed_batch, committed_quotient, committed_table}
+use Rattle.plain_soundness.specs.CommittedBatch.{ReadDeclared, chunk_count, committed_batch, committed_quotient, committed_table_at}
 use Rattle.plain_soundness.specs.PlainSetting.{IsPlain, plain_scheme}
 use Rattle.plain_soundness.specs.Laws.Accepted.{batch_holds, batch_low, heights_fit}
 use Rattle.plain_soundness.specs.Laws.Bound.{Binds}
@@ -29,26 +29,26 @@ use Rattle.plain_soundness.specs.Laws.Opened.{columns_declared, domains_counted,
 use Rattle.plain_soundness.specs.Laws.SwapTables.{first_of, own_hold, own_trees, swaps_end}
 use Rattle.plain_soundness.specs.OpenedBatch.{AllCommittedValues, AllHaveColumns}
 use Rattle.plain_soundness.specs.Swapped.{EndsSwapped, swap_publics}
-use Rattle.plain_soundness.specs.UnluckyCounts.{IsLow, most_alphas, most_zetas}
+use Rattle.plain_soundness.specs.UnluckyCounts.{HasLowDegrees, most_alphas, most_zetas}
 
 module _ {A F C : Type 0} (declaration : A → Declaration F) (trees : A → List (Tree F)) (airs : List A) (publics : List (List F)) (common : WrittenCommon F C) where
   abbrev pub about : Statement F C
-  about = stated (tables_of declaration trees airs) publics common
+  about = statement_with (tables_of declaration trees airs) publics common
 
   -- common data that is well-formed for the AIRs is so for their tables
   formed_tables : WellFormed (map declaration airs) (read_common common) → WellFormed (map (λ t. t.declaration) about.tables) about.common
   formed_tables h =
-      let same = map-map (λ (t : Table F). t.declaration) (λ a. record { declaration = declaration a; trees = trees a }) airs in
+      let same = map-map (λ (t : AirTable F). t.declaration) (λ a. record { declaration = declaration a; trees = trees a }) airs in
       subst (λ ds. WellFormed ds (read_common common)) (sym same) h
 
   -- their constraints read declared cells
   declared_tables : ((a : A) → All (ReadsDeclared (declared_shape (declaration a))) (trees a)) → ReadDeclared about
   declared_tables h =
-      All-map (λ (t : Table F). All (ReadsDeclared (declared_shape t.declaration)) t.trees) (λ a. record { declaration = declaration a; trees = trees a }) airs
+      All-map (λ (t : AirTable F). All (ReadsDeclared (declared_shape t.declaration)) t.trees) (λ a. record { declaration = declaration a; trees = trees a }) airs
       (λ k a l. h _)
 
   as_many : length about.tables ≡ length airs
-  as_many = length-map {B = Table F} airs (λ a. record { declaration = declaration a; trees = trees a })
+  as_many = length-map {B = AirTable F} airs (λ a. record { declaration = declaration a; trees = trees a })
 
 module _ {S A F E P R : Type 0} (c : Setting S F E (PlainCommitmentData F)) (b : Backend S F E (PlainCommitmentData F) P R) (log_blowup : ℕ) (declaration : A → Declaration F)
     (trees : A → List (Tree F)) (airs : List A) (publics : List (List F)) (common : WrittenCommon F (PlainCommitmentData F)) (p : ProofData F E (PlainCommitmentData F) P) (inverse : E → E)
@@ -75,7 +75,7 @@ module _ {S A F E P R : Type 0} (c : Setting S F E (PlainCommitmentData F)) (b :
   airs_columns = λ i below. columns_declared c b log_blowup s p inverse L plain binds (formed_tables declaration trees airs publics common formed) accepted i below
 
   -- degrees
-  pub airs_low : All (IsLow c.field) batch
+  pub airs_low : All (HasLowDegrees c.field) batch
   airs_low = batch_low c b log_blowup s p inverse L plain binds (formed_tables declaration trees airs publics common formed) accepted
 
   airs_fit : All (λ (t : DividedTable F E). t.table.log_height ≤ c.two_adicity) batch
@@ -93,10 +93,10 @@ module _ {S A F E P R : Type 0} (c : Setting S F E (PlainCommitmentData F)) (b :
       → All (IsUnluckyZeta c.field c.extension t.table t.trees t.quotient alpha) zetas → length zetas ≤ most_zetas t
   airs_table_zetas t alpha zetas among distinct unlucky = few_contained_zetas c.field c.extension c.two_adicity inverse L batch airs_fit airs_low t alpha zetas among distinct unlucky
 
-  pub airs_chunks : (i : ℕ) → chunks_of (committed_quotient c log_blowup s p i) ≡ chunk_count c s p i
+  pub airs_chunks : (i : ℕ) → chunk_count_of (committed_quotient c log_blowup s p i) ≡ chunk_count c s p i
   airs_chunks i =
       let none = no_masks c b log_blowup s p inverse L plain binds (formed_tables declaration trees airs publics common formed) accepted in
-      domains_counted c none (bits_at p.degree_bits i) (log_chunks c s p i)
+      domains_counted c none (bits_at p.degree_bits i) (log_chunks_of_table c s p i)
 
   pub airs_alphas : (alphas : List E) → AreDistinct c.extension.ring.zero alphas → All (IsUnluckyAlphaOfBatch c.field c.extension batch) alphas → length alphas ≤ sum (map most_alphas batch)
   airs_alphas alphas distinct unlucky = few_batch_alphas c.field c.extension c.two_adicity inverse L batch alphas distinct unlucky
@@ -105,7 +105,7 @@ module _ {S A F E P R : Type 0} (c : Setting S F E (PlainCommitmentData F)) (b :
   airs_zetas alpha zetas distinct unlucky = few_batch_zetas c.field c.extension c.two_adicity inverse L batch alpha zetas airs_fit airs_low distinct unlucky
 
   -- a table with the constraints of its AIR alone
-  pub airs_own : AllHold c.field c.extension batch → (i : ℕ) (air : A) → i < length airs → Holds c.field c.extension (committed_table c log_blowup s p i) (trees (get_or airs i air))
+  pub airs_own : AllHold c.field c.extension batch → (i : ℕ) (air : A) → i < length airs → Holds c.field c.extension (committed_table_at c log_blowup s p i) (trees (get_or airs i air))
   airs_own holds i air below = own_hold c log_blowup declaration trees airs publics common p holds i air below
 
   module _ (reads : (a : A) → All (ReadsDeclared (declared_shape (declaration a))) (trees a)) where
@@ -117,6 +117,6 @@ module _ {S A F E P R : Type 0} (c : Setting S F E (PlainCommitmentData F)) (b :
     -- swap tables
     pub airs_swaps : (IsUnluckyAlphaOfBatch c.field c.extension batch alpha → ⊥) → (IsUnluckyZetaOfBatch c.field c.extension batch alpha zeta → ⊥) → (i : ℕ) (air : A) (a d x : F) → i < length airs
         → trees (get_or airs i air) ≡ swap_trees → get_or publics i [] ≡ swap_publics a d x → EndsSwapped (bits_at p.degree_bits i) a d x
-    airs_swaps no_alpha no_zeta i air a d x below are stated =
+    airs_swaps no_alpha no_zeta i air a d x below are statement_with =
         swaps_end c log_blowup s p inverse L (first_of airs_hold no_alpha no_zeta) airs_fit i a d x (subst (λ m. i < m) (sym (as_many declaration trees airs publics common)) below)
-        (own_trees declaration trees airs publics common i air below ∙ are) stated
+        (own_trees declaration trees airs publics common i air below ∙ are) statement_with

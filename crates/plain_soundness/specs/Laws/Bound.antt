@@ -10,7 +10,7 @@ use Rattle.p3_matrix.specs.Matrix.{Rows}
 use Rattle.p3_commit.specs.Claims.{PointClaim, MatrixClaim, CommitmentClaim}
 use Rattle.p3_commit.specs.Commitments.{values_of}
 use Rattle.plain_pcs.specs.Binding.{IsBound, committed_polynomials}
-use Rattle.plain_pcs.specs.Checks.{Opens, checks, round_checks}
+use Rattle.plain_pcs.specs.Checks.{Opens, opening_claim_checks, round_checks}
 use Rattle.plain_pcs.specs.Laws.Listed.{item_has}
 use Rattle.plain_pcs.specs.Scheme.{Scheme, PlainCommitmentData}
 use Rattle.plain_soundness.specs.Commitment.{matrix_at, no_matrix}
@@ -28,7 +28,7 @@ module _ {F E : Type 0} (s : Scheme F) (ring : Ring E) (embed : F → E) where
   -- a claim speaks of the matrix at its place, which is there
   pub bound_at : Binds → (claims : Claims) → Opens s ring embed claims → (round place : ℕ) (c : CommitmentClaim E (PlainCommitmentData F) (CosetData F)) (d : MatrixClaim E (CosetData F))
       → slice_get claims round ≡ Some c → slice_get c.matrices place ≡ Some d → IsBound s ring embed (matrix_at c.commitment place) d
-  unfolding NoneFails checks
+  unfolding NoneFails opening_claim_checks
   bound_at binds claims opens round place c d at_round at_place =
       let whole = none_at_item (round_checks s ring embed) claims round c at_round opens in
       let within : place < length c.commitment.matrices = omega (arith, whole.0, slice_get_within c.matrices place d at_place) in

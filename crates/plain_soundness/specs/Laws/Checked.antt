@@ -6,9 +6,9 @@ use Rattle.std.proofs.lemmas.List.Folds.{list_any_at}
 use Rattle.p3_field.specs.Checks.{Check, NoneFails, in_turn}
 use Rattle.p3_field.specs.Domain.{CosetData}
 use Rattle.p3_field.specs.Field.{TwoAdic, Extension}
-use Rattle.p3_field.specs.Laws.Checks.{none_at, none_before, none_behind}
+use Rattle.p3_field.specs.Laws.Checks.{none_at, none_before, none_after}
 use Rattle.p3_field.specs.Laws.SubgroupSelectors.{subgroup}
-use Rattle.p3_field.specs.Laws.Tables.{get_or-table}
+use Rattle.p3_field.specs.Laws.Tabulate.{get_or-tabulate}
 use Rattle.p3_field.specs.Ring.{Ring}
 use Rattle.p3_air.specs.Shape.{Declaration, width_of}
 use Rattle.p3_commit.specs.Periodic.{IsPeriod}
@@ -20,14 +20,14 @@ use Rattle.batch_identity.specs.Identity.{Identity, OpenedTable, identity_checks
 use Rattle.batch_setting.specs.Domains.{chunk_domains}
 use Rattle.batch_setting.specs.Setting.{Setting, Backend, masks}
 use Rattle.batch_statement.specs.Proof.{OpenedWithLookups, ProofData}
-use Rattle.batch_statement.specs.Statement.{Statement, Table}
+use Rattle.batch_statement.specs.Statement.{Statement, AirTable}
 use Rattle.batch_statement.specs.declared.error.BatchVerificationError.{BatchVerificationError}
 use Rattle.batch_shape_checks.specs.Laws.Parts.{counted}
-use Rattle.batch_shape_checks.specs.ShapeChecks.{AreCounted, Bounds, bound_part, chunk_checks, count_checks, has_some, is_some, is_there, lookup_checks, main_checks, no_opened, no_table, opened_checks, opened_part, permutation_check, permutation_width, preprocessed_checks, shape_checks, size_part, table_checks}
-use Rattle.batch_claims.specs.Claims.{bits_at, claims, local_row, matrix_tables}
-use Rattle.batch_openings.specs.OpeningChecks.{bounds_of, claim_checks, claimed, domain_checks, log_chunks, metadata_check, opening_checks, opens_check}
+use Rattle.batch_shape_checks.specs.ShapeChecks.{HaveItemForEachTable, Bounds, bus_bound_part, chunk_checks, count_checks, has_some, is_some, is_there, lookup_checks, main_checks, no_opened, no_table, opened_checks, opened_part, permutation_check, permutation_width, preprocessed_checks, shape_checks, size_part, table_checks}
+use Rattle.batch_claims.specs.Claims.{bits_at, claims, preprocessed_local_row, matrix_tables}
+use Rattle.batch_openings.specs.OpeningChecks.{shape_bounds_of, claim_checks, claimed, domain_checks, log_chunks_of_table, metadata_check, opening_checks, opens_check}
 use Rattle.batch_identity_checks.specs.TableIdentity.{identity_of_table, opened_table, periods_check, terminal_check, verified}
-use Rattle.batch_verifier.specs.BatchChecks.{Accepted, challenges_of, checks, domains_of, draw_part, drawn_of, identities_at, identity_part, table_challenges_of}
+use Rattle.batch_verifier.specs.BatchChecks.{Accepted, all_lookup_challenges, checks, domains_of, draw_part, drawn_of, identities_at, identity_part, table_challenges_of}
 use Rattle.plain_soundness.specs.CommittedBatch.{permutation_count}
 
 -- no preprocessed row where no column is
@@ -38,7 +38,7 @@ absent R i zero declared (Some p) none h = let w : true ≡ false = h.0 in absur
 absent R i (suc n) declared p none h = absurd (omega (arith, none))
 
 -- the row has as many values as columns
-fixed_wide : {E : Type 0} (R : Type 0) (i width : ℕ) (declared : List ℕ) (p : Option (PreprocessedData E)) → NoneFails (preprocessed_checks {R = R} i width declared p) → length (local_row p) ≡ width
+fixed_wide : {E : Type 0} (R : Type 0) (i width : ℕ) (declared : List ℕ) (p : Option (PreprocessedData E)) → NoneFails (preprocessed_checks {R = R} i width declared p) → length (preprocessed_local_row p) ≡ width
 unfolding NoneFails
 fixed_wide R i zero declared None h = refl
 fixed_wide R i zero declared (Some p) h = let w : true ≡ false = h.0 in absurd cc
@@ -69,7 +69,7 @@ module _ {F E : Type 0} (R : Type 0) (i : ℕ) (d : Declaration F) (publics chun
       let a = main_checks {R = R} i d publics o.base in
       let b = chunk_checks {R = R} i chunks dimension o.base in
       let e = preprocessed_checks {R = R} i (width_of d.preprocessed) d.preprocessed_next o.base.preprocessed in
-      none_behind a b (none_before (a ++ b) e (none_before (a ++ b ++ e) (lookup_checks {R = R} i lookups dimension o terminal) h))
+      none_after a b (none_before (a ++ b) e (none_before (a ++ b ++ e) (lookup_checks {R = R} i lookups dimension o terminal) h))
 
   preprocessed_part : NoneFails (preprocessed_checks {R = R} i (width_of d.preprocessed) d.preprocessed_next o.base.preprocessed)
   unfolding table_checks
@@ -77,7 +77,7 @@ module _ {F E : Type 0} (R : Type 0) (i : ℕ) (d : Declaration F) (publics chun
       let a = main_checks {R = R} i d publics o.base in
       let b = chunk_checks {R = R} i chunks dimension o.base in
       let e = preprocessed_checks {R = R} i (width_of d.preprocessed) d.preprocessed_next o.base.preprocessed in
-      none_behind (a ++ b) e (none_before (a ++ b ++ e) (lookup_checks {R = R} i lookups dimension o terminal) h)
+      none_after (a ++ b) e (none_before (a ++ b ++ e) (lookup_checks {R = R} i lookups dimension o terminal) h)
 
   lookup_part : NoneFails (lookup_checks {R = R} i lookups dimension o terminal)
   unfolding table_checks
@@ -85,7 +85,7 @@ module _ {F E : Type 0} (R : Type 0) (i : ℕ) (d : Declaration F) (publics chun
       let a = main_checks {R = R} i d publics o.base in
       let b = chunk_checks {R = R} i chunks dimension o.base in
       let e = preprocessed_checks {R = R} i (width_of d.preprocessed) d.preprocessed_next o.base.preprocessed in
-      none_behind (a ++ b ++ e) (lookup_checks {R = R} i lookups dimension o terminal) h
+      none_after (a ++ b ++ e) (lookup_checks {R = R} i lookups dimension o terminal) h
 
   pub chunks_counted : length o.base.quotient_chunks ≡ chunks
   unfolding NoneFails
@@ -100,7 +100,7 @@ module _ {F E : Type 0} (R : Type 0) (i : ℕ) (d : Declaration F) (publics chun
   unfolding NoneFails
   columns_counted = main_part.1.0
 
-  pub fixed_counted : length (local_row o.base.preprocessed) ≡ width_of d.preprocessed
+  pub fixed_counted : length (preprocessed_local_row o.base.preprocessed) ≡ width_of d.preprocessed
   fixed_counted = fixed_wide R i (width_of d.preprocessed) d.preprocessed_next o.base.preprocessed preprocessed_part
 
   pub chunks_wide : All (λ c. length c ≡ dimension) o.base.quotient_chunks
@@ -120,7 +120,7 @@ module _ {F E : Type 0} (R : Type 0) (i : ℕ) (d : Declaration F) (publics chun
   no_preprocessed none = absent R i (width_of d.preprocessed) d.preprocessed_next o.base.preprocessed none preprocessed_part
 
 -- the identity of one table
-module _ {F E : Type 0} (R : Type 0) (f : TwoAdic F) (e : Extension F E) (i k : ℕ) (t : Table F) (lookups : List (LookupData F)) (publics : List F) (challenges : List E) (terminal : Option E)
+module _ {F E : Type 0} (R : Type 0) (f : TwoAdic F) (e : Extension F E) (i k : ℕ) (t : AirTable F) (lookups : List (LookupData F)) (publics : List F) (challenges : List E) (terminal : Option E)
     (domains : List (CosetData F)) (alpha zeta : E) (o : OpenedWithLookups E) (h : NoneFails (identity_of_table {R = R} f e i k t lookups publics challenges terminal domains alpha zeta o)) where
   abbrev reads : OpenedTable F E
   reads = opened_table f e (subgroup f.ring k) t.declaration (length lookups) publics challenges (option_to_list terminal) zeta o
@@ -137,16 +137,16 @@ module _ {F E : Type 0} (R : Type 0) (f : TwoAdic F) (e : Extension F E) (i k : 
   identity_holds =
       let first = periods_check {R = R} (2 ^ k) (map length t.declaration.periodic) in
       let rest = map verified (identity_checks f e {R = R} (Some i) (subgroup f.ring k) alpha zeta reads (table_trees f.ring t.trees lookups) (recombined f e domains o.base.quotient_chunks zeta)) in
-      (none_behind first rest h).1.0
+      (none_after first rest h).1.0
 
 -- the shape of a batch
 module _ {F E C P : Type 0} (R : Type 0) (f : Ring F) (b : Bounds) (s : Statement F C) (p : ProofData F E C P) (h : NoneFails (shape_checks {R = R} f b s p)) where
-  pub counts_hold : AreCounted s p
+  pub counts_hold : HaveItemForEachTable s p
   unfolding shape_checks
   counts_hold =
       let k = count_checks {R = R} b.zk s p in
       let l = size_part {R = R} f b s p in
-      let m = bound_part {R = R} b s p in
+      let m = bus_bound_part {R = R} b s p in
       let n = opened_part {R = R} f b s p in
       counted R b.zk s p (none_before k l (none_before (k ++ l) m (none_before (k ++ l ++ m) n (none_before (k ++ l ++ m ++ n) (permutation_check {R = R} s p) h))))
 
@@ -155,9 +155,9 @@ module _ {F E C P : Type 0} (R : Type 0) (f : Ring F) (b : Bounds) (s : Statemen
   tables_part =
       let k = count_checks {R = R} b.zk s p in
       let l = size_part {R = R} f b s p in
-      let m = bound_part {R = R} b s p in
+      let m = bus_bound_part {R = R} b s p in
       let n = opened_part {R = R} f b s p in
-      none_behind (k ++ l ++ m) n (none_before (k ++ l ++ m ++ n) (permutation_check {R = R} s p) h)
+      none_after (k ++ l ++ m) n (none_before (k ++ l ++ m ++ n) (permutation_check {R = R} s p) h)
 
   pub table_opened : (i : ℕ) → i < length s.tables → NoneFails (opened_checks {R = R} f b.masks b.dimension s p i)
   table_opened i l = none_at (opened_checks {R = R} f b.masks b.dimension s p) (length s.tables) i l tables_part
@@ -167,9 +167,9 @@ module _ {F E C P : Type 0} (R : Type 0) (f : Ring F) (b : Bounds) (s : Statemen
   presence =
       let k = count_checks {R = R} b.zk s p in
       let l = size_part {R = R} f b s p in
-      let m = bound_part {R = R} b s p in
+      let m = bus_bound_part {R = R} b s p in
       let n = opened_part {R = R} f b s p in
-      (none_behind (k ++ l ++ m ++ n) (permutation_check {R = R} s p) h).0
+      (none_after (k ++ l ++ m ++ n) (permutation_check {R = R} s p) h).0
 
   -- permutation columns are committed to where a table has lookups
   pub permutation_there : (i : ℕ) → i < length s.common.lookups → 0 < length (get_or s.common.lookups i []) → (commitment : C) × (p.commitments.permutation ≡ Some commitment)
@@ -186,7 +186,7 @@ module _ {F E C P : Type 0} (R : Type 0) (f : Ring F) (b : Bounds) (s : Statemen
 -- all checks of a batch
 module _ {S F E C P R : Type 0} (c : Setting S F E C) (b : Backend S F E C P R) (s : Statement F C) (p : ProofData F E C P) (accepted : Accepted c b s p) where
   abbrev shape : List (Check (BatchVerificationError R))
-  shape = shape_checks {R = R} c.field.ring (bounds_of c) s p
+  shape = shape_checks {R = R} c.field.ring (shape_bounds_of c) s p
 
   abbrev openings : List (Check (BatchVerificationError R))
   openings = opening_checks c b s p (drawn_of c s p).zeta (drawn_of c s p).opening
@@ -204,7 +204,7 @@ module _ {S F E C P R : Type 0} (c : Setting S F E C) (b : Backend S F E C P R) 
   openings_accepted =
       let draws = draw_part c s p {R = R} in
       let identities = identity_part c s p {R = R} in
-      none_behind (shape ++ draws) openings (none_before (shape ++ draws ++ openings) identities
+      none_after (shape ++ draws) openings (none_before (shape ++ draws ++ openings) identities
       (none_before (shape ++ draws ++ openings ++ identities) (terminal_check c.extension.ring p.lookup_terminals) accepted))
 
   identities_accepted : NoneFails (identity_part c s p {R = R})
@@ -212,16 +212,16 @@ module _ {S F E C P R : Type 0} (c : Setting S F E C) (b : Backend S F E C P R) 
   identities_accepted =
       let draws = draw_part c s p {R = R} in
       let identities = identity_part c s p {R = R} in
-      none_behind (shape ++ draws ++ openings) identities
+      none_after (shape ++ draws ++ openings) identities
       (none_before (shape ++ draws ++ openings ++ identities) (terminal_check c.extension.ring p.lookup_terminals) accepted)
 
   -- the backend opens what the proof claims
   pub claims_opened : b.opens (drawn_of c s p).opening (claims c (claimed c s p) (drawn_of c s p).zeta) p.opening_proof
   unfolding NoneFails opening_checks
-  claims_opened = (none_behind (claim_checks c s p {R = R}) (opens_check b (drawn_of c s p).opening (claims c (claimed c s p) (drawn_of c s p).zeta) p.opening_proof) openings_accepted).0
+  claims_opened = (none_after (claim_checks c s p {R = R}) (opens_check b (drawn_of c s p).opening (claims c (claimed c s p) (drawn_of c s p).zeta) p.opening_proof) openings_accepted).0
 
   -- each quotient has a domain
-  pub domains_fit : (i : ℕ) → i < length s.tables → bits_at p.degree_bits i + log_chunks c s p i ≤ c.two_adicity
+  pub domains_fit : (i : ℕ) → i < length s.tables → bits_at p.degree_bits i + log_chunks_of_table c s p i ≤ c.two_adicity
   unfolding NoneFails claim_checks opening_checks
   domains_fit i l =
       let made = none_before (claim_checks c s p {R = R}) (opens_check b (drawn_of c s p).opening (claims c (claimed c s p) (drawn_of c s p).zeta) p.opening_proof) openings_accepted in
@@ -231,16 +231,16 @@ module _ {S F E C P R : Type 0} (c : Setting S F E C) (b : Backend S F E C P R) 
   -- no check of table i's identity fails, with its own challenges and domains
   pub table_accepted : (i : ℕ) → i < length s.tables
       → NoneFails (identity_of_table {R = R} c.field c.extension i (get_or p.degree_bits i 0 - masks c) (get_or s.tables i no_table) (get_or s.common.lookups i []) (get_or s.publics i [])
-      (table_challenges_of c s p i) (get_or p.lookup_terminals i None) (chunk_domains c (bits_at p.degree_bits i) (log_chunks c s p i)) (drawn_of c s p).alpha (drawn_of c s p).zeta
+      (table_challenges_of c s p i) (get_or p.lookup_terminals i None) (chunk_domains c (bits_at p.degree_bits i) (log_chunks_of_table c s p i)) (drawn_of c s p).alpha (drawn_of c s p).zeta
       (get_or p.instances i no_opened))
   table_accepted i l =
       let n = length s.tables in
       let alpha = (drawn_of c s p).alpha in
       let zeta = (drawn_of c s p).zeta in
-      let own = λ (j : ℕ). chunk_domains c (bits_at p.degree_bits j) (log_chunks c s p j) in
-      let one = none_at (identities_at c s p {R = R} (challenges_of c s p) (domains_of c s p) alpha zeta) n i l identities_accepted in
-      let challenges : get_or (challenges_of c s p) i [] ≡ table_challenges_of c s p i = get_or-table n (table_challenges_of c s p) i [] l in
-      let domains : get_or (domains_of c s p) i [] ≡ own i = get_or-table n own i [] l in
+      let own = λ (j : ℕ). chunk_domains c (bits_at p.degree_bits j) (log_chunks_of_table c s p j) in
+      let one = none_at (identities_at c s p {R = R} (all_lookup_challenges c s p) (domains_of c s p) alpha zeta) n i l identities_accepted in
+      let challenges : get_or (all_lookup_challenges c s p) i [] ≡ table_challenges_of c s p i = get_or-tabulate n (table_challenges_of c s p) i [] l in
+      let domains : get_or (domains_of c s p) i [] ≡ own i = get_or-tabulate n own i [] l in
       subst NoneFails
       (λ j. identity_of_table {R = R} c.field c.extension i (get_or p.degree_bits i 0 - masks c) (get_or s.tables i no_table) (get_or s.common.lookups i []) (get_or s.publics i [])
       (challenges j) (get_or p.lookup_terminals i None) (domains j) alpha zeta (get_or p.instances i no_opened)) one

@@ -3,15 +3,15 @@ use Rattle.std.proofs.Common.{ℕ, ◌<◌, ◌≤◌, List, length, get_or, map
 use Rattle.std.specs.Prelude.{All, Contains, sum}
 use Rattle.p3_air.specs.Degree.{full_polynomial_degree}
 use Rattle.p3_field.specs.Field.{TwoAdic, Extension}
-use Rattle.batch_constraints.specs.Laws.Degrees.{all_below_greatest}
+use Rattle.p3_air.specs.Laws.Greatest.{all_below_greatest}
 use Rattle.batch_constraints.specs.Laws.Images.{all_of_map}
 use Rattle.committed_tables.specs.Batch.{DividedTable, IsUnluckyAlphaOfBatch, IsUnluckyZetaOfBatch}
-use Rattle.committed_tables.specs.Committed.{periods_of, rows_of}
+use Rattle.committed_tables.specs.Committed.{table_periods_of, row_count_of}
 use Rattle.committed_tables.specs.Fields.{FieldsLaws}
 use Rattle.committed_tables.specs.Laws.Counts.{few_alphas, few_alphas_at, few_zetas}
 use Rattle.committed_tables.specs.Unlucky.{AreDistinct, IsUnluckyAlpha, IsUnluckyAlphaAt, IsUnluckyZeta}
 use Rattle.plain_soundness.specs.Laws.Split.{few_of_some}
-use Rattle.plain_soundness.specs.UnluckyCounts.{IsLow, largest_degree, most_alphas, most_zetas}
+use Rattle.plain_soundness.specs.UnluckyCounts.{HasLowDegrees, largest_full_degree, most_alphas, most_zetas}
 
 module _ {F E : Type 0} (f : TwoAdic F) (e : Extension F E) (top : ℕ) (inverse : E → E) (L : FieldsLaws f e top inverse) where
   -- of one table
@@ -23,20 +23,20 @@ module _ {F E : Type 0} (f : TwoAdic F) (e : Extension F E) (top : ℕ) (inverse
       → length alphas < length t.trees
   few_row_alphas t row alphas some d h = few_alphas_at f e top inverse L t.table t.trees row alphas some d h
 
-  degrees_below : (t : DividedTable F E) → All (λ tree. full_polynomial_degree (rows_of t.table) (periods_of t.table) tree ≤ largest_degree t) t.trees
+  degrees_below : (t : DividedTable F E) → All (λ tree. full_polynomial_degree (row_count_of t.table) (table_periods_of t.table) tree ≤ largest_full_degree t) t.trees
   degrees_below t =
-      let degree = full_polynomial_degree (rows_of t.table) (periods_of t.table) in
-      all_of_map (λ n. n ≤ largest_degree t) degree t.trees (map degree t.trees) refl (all_below_greatest 0 (map degree t.trees) (largest_degree t) (omega arith))
+      let degree = full_polynomial_degree (row_count_of t.table) (table_periods_of t.table) in
+      all_of_map (λ n. n ≤ largest_full_degree t) degree t.trees (map degree t.trees) refl (all_below_greatest 0 (map degree t.trees) (largest_full_degree t) (omega arith))
 
-  pub few_table_zetas : (t : DividedTable F E) (alpha : E) (zetas : List E) → t.table.log_height ≤ top → IsLow f t → AreDistinct e.ring.zero zetas
+  pub few_table_zetas : (t : DividedTable F E) (alpha : E) (zetas : List E) → t.table.log_height ≤ top → HasLowDegrees f t → AreDistinct e.ring.zero zetas
       → All (IsUnluckyZeta f e t.table t.trees t.quotient alpha) zetas → length zetas ≤ most_zetas t
-  few_table_zetas t alpha zetas fits B d h = few_zetas f e top inverse L t.table t.trees t.quotient alpha fits B.table B.quotient (largest_degree t) (degrees_below t) zetas d h
+  few_table_zetas t alpha zetas fits B d h = few_zetas f e top inverse L t.table t.trees t.quotient alpha fits B.table B.quotient (largest_full_degree t) (degrees_below t) zetas d h
 
   -- of one of a batch
-  pub few_contained_zetas : (batch : List (DividedTable F E)) → All (λ t. t.table.log_height ≤ top) batch → All (IsLow f) batch → (t : DividedTable F E) (alpha : E) (zetas : List E)
+  pub few_contained_zetas : (batch : List (DividedTable F E)) → All (λ t. t.table.log_height ≤ top) batch → All (HasLowDegrees f) batch → (t : DividedTable F E) (alpha : E) (zetas : List E)
       → Contains batch t → AreDistinct e.ring.zero zetas → All (IsUnluckyZeta f e t.table t.trees t.quotient alpha) zetas → length zetas ≤ most_zetas t
   few_contained_zetas batch fits low t alpha zetas (k, within, same) d h =
-      few_table_zetas t alpha zetas (subst (λ (u : DividedTable F E). u.table.log_height ≤ top) same (fits k t within)) (subst (IsLow f) same (low k t within)) d h
+      few_table_zetas t alpha zetas (subst (λ (u : DividedTable F E). u.table.log_height ≤ top) same (fits k t within)) (subst (HasLowDegrees f) same (low k t within)) d h
 
   -- of a batch: the sum over its tables
   pub few_batch_alphas : (batch : List (DividedTable F E)) (alphas : List E) → AreDistinct e.ring.zero alphas → All (IsUnluckyAlphaOfBatch f e batch) alphas
@@ -44,7 +44,7 @@ module _ {F E : Type 0} (f : TwoAdic F) (e : Extension F E) (top : ℕ) (inverse
   few_batch_alphas batch alphas d h =
       few_of_some e.ring.zero (λ t. IsUnluckyAlpha f e t.table t.trees) most_alphas batch (λ k u l xs. few_table_alphas (get_or batch k u) xs) alphas d h
 
-  pub few_batch_zetas : (batch : List (DividedTable F E)) (alpha : E) (zetas : List E) → All (λ t. t.table.log_height ≤ top) batch → All (IsLow f) batch → AreDistinct e.ring.zero zetas
+  pub few_batch_zetas : (batch : List (DividedTable F E)) (alpha : E) (zetas : List E) → All (λ t. t.table.log_height ≤ top) batch → All (HasLowDegrees f) batch → AreDistinct e.ring.zero zetas
       → All (IsUnluckyZetaOfBatch f e batch alpha) zetas → length zetas ≤ sum (map most_zetas batch)
   few_batch_zetas batch alpha zetas fits low d h =
       few_of_some e.ring.zero (λ t. IsUnluckyZeta f e t.table t.trees t.quotient alpha) most_zetas batch

@@ -8,10 +8,10 @@ use Rattle.std.proofs.lemmas.List.Elements.{All-from_get_or, All-nil, All-weaker
 use Rattle.p3_field.specs.Checks.{NoneFails}
 use Rattle.p3_field.specs.Domain.{CosetData, point}
 use Rattle.p3_field.specs.Laws.SubgroupSelectors.{subgroup}
-use Rattle.p3_field.specs.Laws.Tables.{get_or-table, length-table}
-use Rattle.p3_field.specs.Poly.{DegreeBelow, table, val_in}
+use Rattle.p3_field.specs.Laws.Tabulate.{get_or-tabulate, length-tabulate}
+use Rattle.p3_field.specs.Poly.{DegreeBelow, tabulate, eval_poly_in}
 use Rattle.p3_field.specs.Ring.{Ring}
-use Rattle.p3_air.specs.Laws.Lists.{all_table}
+use Rattle.p3_air.specs.Laws.Lists.{all_tabulate}
 use Rattle.p3_air.specs.Shape.{Declaration, width_of}
 use Rattle.plain_pcs.specs.Checks.{Opens}
 use Rattle.plain_pcs.specs.Scheme.{PlainCommitmentData}
@@ -23,12 +23,12 @@ use Rattle.batch_setting.specs.Setting.{Setting, Backend, masks}
 use Rattle.batch_statement.specs.Proof.{OpenedWithLookups, ProofData}
 use Rattle.batch_statement.specs.Statement.{HasEntryOf, Statement, WellFormed, entry_of, instance_count, within_entries}
 use Rattle.batch_statement.specs.declared.preprocessed.PreprocessedInstanceMeta.{PreprocessedInstanceMeta}
-use Rattle.batch_shape_checks.specs.ShapeChecks.{AreCounted, has_some, is_there, no_table, permutation_width, table_checks}
-use Rattle.batch_claims.specs.Claims.{all_chunk_domains, bits_at, chunk_domains_at, claims, declared_at, instance_at, local_row, matrix_tables, next_row, permutation_claims}
-use Rattle.batch_openings.specs.OpeningChecks.{bounds_of, claimed, log_chunks}
+use Rattle.batch_shape_checks.specs.ShapeChecks.{HaveItemForEachTable, has_some, is_there, no_table, permutation_width, table_checks}
+use Rattle.batch_claims.specs.Claims.{all_chunk_domains, bits_at, chunk_domains_at, claims, declared_at, instance_at, preprocessed_local_row, matrix_tables, preprocessed_next_row, permutation_claims}
+use Rattle.batch_openings.specs.OpeningChecks.{shape_bounds_of, claimed, log_chunks_of_table}
 use Rattle.batch_verifier.specs.BatchChecks.{Accepted, drawn_of}
 use Rattle.plain_soundness.specs.Commitment.{polynomials_at}
-use Rattle.plain_soundness.specs.CommittedBatch.{chunk_count, columns_of, committed_quotient, committed_table, lookups_at, matrices_before, permutation_count, permutation_place, stated_table}
+use Rattle.plain_soundness.specs.CommittedBatch.{chunk_count, columns_of, committed_quotient, committed_table_at, lookups_at, matrices_before, permutation_count, permutation_place, stated_table}
 use Rattle.plain_soundness.specs.PlainSetting.{IsPlain, plain_scheme}
 use Rattle.plain_soundness.specs.Laws.Bound.{Binds}
 use Rattle.plain_soundness.specs.Laws.Checked.{chunks_counted, chunks_wide, claims_opened, columns_counted, counts_hold, fixed_counted, no_preprocessed, permutation_there, publics_counted, rows_wide, shape_accepted, table_opened, terminals_counted}
@@ -49,7 +49,7 @@ module _ {S F E C : Type 0} (c : Setting S F E C) (no_masks : masks c ≡ 0) whe
       let whole = offered c.field.ring c.field.generator (subgroup c.field.ring bits) chunks in
       let part : ℕ → CosetData F = λ i. record { shift = point c.field.ring c.field.root whole i; log_size = whole.log_size - (chunks + masks c) } in
       let e : chunks + masks c ≡ chunks = omega (arith, no_masks) in
-      length-table (2 ^ (chunks + masks c)) part ∙ ap (λ m. 2 ^ m) e
+      length-tabulate (2 ^ (chunks + masks c)) part ∙ ap (λ m. 2 ^ m) e
 
   pub domains_sized : (bits chunks j : ℕ) (d : CosetData F) → j < 2 ^ chunks → (get_or (chunk_domains c bits chunks) j d).log_size + masks c ≡ bits
   domains_sized bits chunks j d below =
@@ -58,7 +58,7 @@ module _ {S F E C : Type 0} (c : Setting S F E C) (no_masks : masks c ≡ 0) whe
       let e : chunks ≡ chunks + masks c = omega (arith, no_masks) in
       let within : j < 2 ^ (chunks + masks c) = subst (λ m. j < 2 ^ m) e below in
       let size : bits + chunks - (chunks + masks c) + masks c ≡ bits = omega (arith, no_masks) in
-      ap (λ (x : CosetData F). x.log_size + masks c) (get_or-table (2 ^ (chunks + masks c)) part j d within) ∙ size
+      ap (λ (x : CosetData F). x.log_size + masks c) (get_or-tabulate (2 ^ (chunks + masks c)) part j d within) ∙ size
 
 module _ {S F E P R : Type 0} (c : Setting S F E (PlainCommitmentData F)) (b : Backend S F E (PlainCommitmentData F) P R) (log_blowup : ℕ) (s : Statement F (PlainCommitmentData F))
     (p : ProofData F E (PlainCommitmentData F) P) (inverse : E → E) (L : FieldsLaws c.field c.extension c.two_adicity inverse) (plain : IsPlain c b log_blowup)
@@ -84,13 +84,13 @@ module _ {S F E P R : Type 0} (c : Setting S F E (PlainCommitmentData F)) (b : B
   opens : Opens (plain_scheme c log_blowup) c.extension.ring c.extension.embed (claims c (claimed c s p) zeta)
   opens = plain.opens (drawn_of c s p).opening (claims c (claimed c s p) zeta) p.opening_proof (claims_opened c b s p accepted)
 
-  pub counts : AreCounted s p
-  counts = counts_hold R ring (bounds_of c) s p (shape_accepted c b s p accepted)
+  pub counts : HaveItemForEachTable s p
+  counts = counts_hold R ring (shape_bounds_of c) s p (shape_accepted c b s p accepted)
 
   table_shape : (i : ℕ) → i < n
-      → NoneFails (table_checks {R = R} i (stated_table s i).declaration (length (get_or s.publics i [])) (2 ^ (log_chunks c s p i + masks c)) c.extension.dimension (length (lookups_at s i))
+      → NoneFails (table_checks {R = R} i (stated_table s i).declaration (length (get_or s.publics i [])) (2 ^ (log_chunks_of_table c s p i + masks c)) c.extension.dimension (length (lookups_at s i))
       (instance_at p.instances i) (is_there (get_or p.lookup_terminals i None)))
-  table_shape i below = table_opened R ring (bounds_of c) s p (shape_accepted c b s p accepted) i below
+  table_shape i below = table_opened R ring (shape_bounds_of c) s p (shape_accepted c b s p accepted) i below
 
   -- permutation rows have a value for each coefficient of each column
   pub local_wide : (i : ℕ) → i < n → length (instance_at p.instances i).permutation_local ≡ permutation_width (length (lookups_at s i)) c.extension.dimension
@@ -100,7 +100,7 @@ module _ {S F E P R : Type 0} (c : Setting S F E (PlainCommitmentData F)) (b : B
   next_wide i below = (rows_wide R i _ _ _ _ _ _ _ (table_shape i below)).1
 
   -- the next point of a table
-  next_is : (i : ℕ) → after c log_blowup (claimed c s p) zeta binds opens (bits_at p.degree_bits i) ≡ next_point c.field c.extension (committed_table c log_blowup s p i) zeta
+  next_is : (i : ℕ) → after c log_blowup (claimed c s p) zeta binds opens (bits_at p.degree_bits i) ≡ next_point c.field c.extension (committed_table_at c log_blowup s p i) zeta
   next_is i =
       let mul = c.extension.ring.mul in
       let k = bits_at p.degree_bits i in
@@ -108,19 +108,19 @@ module _ {S F E P R : Type 0} (c : Setting S F E (PlainCommitmentData F)) (b : B
       L.above.mul_comm zeta (c.extension.embed (c.field.root (k - masks c))) ∙ ap (λ m. mul (c.extension.embed (c.field.root m)) zeta) e
 
   -- the domains of the chunks of each table
-  domains_are : (i : ℕ) → i < n → get_or (all_chunk_domains c (claimed c s p)) i [] ≡ chunk_domains c (bits_at p.degree_bits i) (log_chunks c s p i)
+  domains_are : (i : ℕ) → i < n → get_or (all_chunk_domains c (claimed c s p)) i [] ≡ chunk_domains c (bits_at p.degree_bits i) (log_chunks_of_table c s p i)
   domains_are i below =
-      let listed = table n (log_chunks c s p) in
-      get_or-table (length declarations) (chunk_domains_at ring c.field.root c.field.generator (masks c) p.degree_bits listed) i [] (omega (arith, below, as_many))
-      ∙ ap (chunk_domains c (bits_at p.degree_bits i)) (get_or-table n (log_chunks c s p) i 0 below)
+      let listed = tabulate n (log_chunks_of_table c s p) in
+      get_or-tabulate (length declarations) (chunk_domains_at ring c.field.root c.field.generator (masks c) p.degree_bits listed) i [] (omega (arith, below, as_many))
+      ∙ ap (chunk_domains c (bits_at p.degree_bits i)) (get_or-tabulate n (log_chunks_of_table c s p) i 0 below)
 
   chunks_listed : (i : ℕ) → i < length declarations → length (get_or (all_chunk_domains c (claimed c s p)) i []) ≡ chunk_count c s p i
-  chunks_listed i below = ap length (domains_are i (omega (arith, below, as_many))) ∙ domains_counted c no_masks (bits_at p.degree_bits i) (log_chunks c s p i)
+  chunks_listed i below = ap length (domains_are i (omega (arith, below, as_many))) ∙ domains_counted c no_masks (bits_at p.degree_bits i) (log_chunks_of_table c s p i)
 
   chunks_sized : (i : ℕ) → i < n → (j : ℕ) → j < chunk_count c s p i → (get_or (get_or (all_chunk_domains c (claimed c s p)) i []) j (subgroup ring 0)).log_size + masks c ≡ bits_at p.degree_bits i
   chunks_sized i below j within =
       ap (λ (ds : List (CosetData F)). (get_or ds j (subgroup ring 0)).log_size + masks c) (domains_are i below)
-      ∙ domains_sized c no_masks (bits_at p.degree_bits i) (log_chunks c s p i) j (subgroup ring 0) within
+      ∙ domains_sized c no_masks (bits_at p.degree_bits i) (log_chunks_of_table c s p i) j (subgroup ring 0) within
 
   -- how many permutation matrices each table has
   sums_listed : (l : ℕ) → l < length declarations
@@ -142,7 +142,7 @@ module _ {S F E P R : Type 0} (c : Setting S F E (PlainCommitmentData F)) (b : B
     k = bits_at p.degree_bits i
 
     abbrev t : CommittedTable F E
-    t = committed_table c log_blowup s p i
+    t = committed_table_at c log_blowup s p i
 
     listed : i < length declarations
     listed = omega (arith, below, as_many)
@@ -166,7 +166,7 @@ module _ {S F E P R : Type 0} (c : Setting S F E (PlainCommitmentData F)) (b : B
     named m q = entry_names s.common.preprocessed i m (formed.places i inside) q
 
     has_lookups : 0 < length (lookups_at s i) → (commitment : PlainCommitmentData F) × (p.commitments.permutation ≡ Some commitment)
-    has_lookups some = permutation_there R ring (bounds_of c) s p (shape_accepted c b s p accepted) i (omega (arith, below, counts.lookups)) some
+    has_lookups some = permutation_there R ring (shape_bounds_of c) s p (shape_accepted c b s p accepted) i (omega (arith, below, counts.lookups)) some
 
     has_sums : 0 < length (lookups_at s i) → 0 < length o.permutation_local
     has_sums some =
@@ -181,17 +181,17 @@ module _ {S F E P R : Type 0} (c : Setting S F E (PlainCommitmentData F)) (b : B
     values_opened =
         let q = claimed c s p in
         let sch = plain_scheme c log_blowup in
-        let behind = after c log_blowup q zeta binds opens k in
-        let at = λ (x : E) (gs : List (List F)). map (λ (g : List F). val_in c.extension g x) gs in
+        let after_it = after c log_blowup q zeta binds opens k in
+        let at = λ (x : E) (gs : List (List F)). map (λ (g : List F). eval_poly_in c.extension g x) gs in
         let count = λ (j : ℕ). permutation_count (length (lookups_at s j)) in
         record {
           main_local = main_local_opened c log_blowup q zeta binds opens i listed;
           main_next = λ declared.
               main_next_opened c log_blowup q zeta binds opens i listed (ap (λ (x : Declaration F). has_some x.main_next) declared_is ∙ declared) ∙ ap (λ x. at x t.main) (next_is i);
-          preprocessed_local = fixed_has sch k (λ gs. local_row o.base.preprocessed ≡ at zeta gs) s.common.preprocessed i (λ none. ap local_row (absent none))
+          preprocessed_local = fixed_has sch k (λ gs. preprocessed_local_row o.base.preprocessed ≡ at zeta gs) s.common.preprocessed i (λ none. ap preprocessed_local_row (absent none))
               (λ commitment m there entry. fixed_local_opened c log_blowup q zeta binds opens i listed commitment there m.matrix_index (named m entry));
           preprocessed_next = λ declared.
-              fixed_has sch k (λ gs. next_row o.base.preprocessed ≡ at behind gs) s.common.preprocessed i (λ none. ap next_row (absent none))
+              fixed_has sch k (λ gs. preprocessed_next_row o.base.preprocessed ≡ at after_it gs) s.common.preprocessed i (λ none. ap preprocessed_next_row (absent none))
               (λ commitment m there entry.
               fixed_next_opened c log_blowup q zeta binds opens i listed commitment there m.matrix_index (named m entry)
               (ap (λ (x : Declaration F). has_some x.preprocessed_next) declared_is ∙ declared)) ∙ ap (λ x. at x t.preprocessed) (next_is i);
@@ -200,12 +200,12 @@ module _ {S F E P R : Type 0} (c : Setting S F E (PlainCommitmentData F)) (b : B
               (no_sums o.permutation_local (local_wide i below)) has_lookups
               (λ commitment there some. sums_local_opened c log_blowup q zeta binds opens i listed commitment there count sums_listed (has_sums some));
           permutation_next =
-              sums_have sch k (λ gs. o.permutation_next ≡ at behind gs) p.commitments.permutation (permutation_place c log_blowup s p i) (length (lookups_at s i))
+              sums_have sch k (λ gs. o.permutation_next ≡ at after_it gs) p.commitments.permutation (permutation_place c log_blowup s p i) (length (lookups_at s i))
               (no_sums o.permutation_next (next_wide i below)) has_lookups
               (λ commitment there some. sums_next_opened c log_blowup q zeta binds opens i listed commitment there count sums_listed (has_sums some))
               ∙ ap (λ x. at x t.permutation) (next_is i);
           chunks =
-              let unmasked : log_chunks c s p i + masks c ≡ log_chunks c s p i = omega (arith, no_masks) in
+              let unmasked : log_chunks_of_table c s p i + masks c ≡ log_chunks_of_table c s p i = omega (arith, no_masks) in
               chunks_opened c log_blowup q zeta binds opens i listed (chunk_count c s p) chunks_listed (chunks_sized i below)
               (chunks_counted R i _ _ _ _ _ _ _ (table_shape i below) ∙ ap (λ m. 2 ^ m) unmasked);
         }
@@ -215,7 +215,7 @@ module _ {S F E P R : Type 0} (c : Setting S F E (PlainCommitmentData F)) (b : B
     columns_declared =
         let V = values_opened in
         let q = committed_quotient c log_blowup s p i in
-        let at = λ (g : List F). val_in c.extension g zeta in
+        let at = λ (g : List F). eval_poly_in c.extension g zeta in
         let shape = table_shape i below in
         record {
           main = sym (ap length V.main_local ∙ length-map t.main at) ∙ columns_counted R i _ _ _ _ _ _ _ shape;
@@ -246,13 +246,13 @@ module _ {S F E P R : Type 0} (c : Setting S F E (PlainCommitmentData F)) (b : B
     pub quotient_bounded : IsBoundedQuotient c.field t (committed_quotient c log_blowup s p i)
     quotient_bounded =
         let q = claimed c s p in
-        let ds = chunk_domains c k (log_chunks c s p i) in
+        let ds = chunk_domains c k (log_chunks_of_table c s p i) in
         record {
           domains = All-from_get_or (λ x. x.log_size ≡ k) ds (subgroup ring 0) (λ j h.
-              let long = domains_counted c no_masks k (log_chunks c s p i) in
-              let size = domains_sized c no_masks k (log_chunks c s p i) j (subgroup ring 0) (omega (arith, h, long)) in
+              let long = domains_counted c no_masks k (log_chunks_of_table c s p i) in
+              let size = domains_sized c no_masks k (log_chunks_of_table c s p i) j (subgroup ring 0) (omega (arith, h, long)) in
               omega (arith, size, no_masks));
-          chunks = all_table (λ gs. All (DegreeBelow ring (2 ^ k)) gs) (chunk_count c s p i)
+          chunks = all_tabulate (λ gs. All (DegreeBelow ring (2 ^ k)) gs) (chunk_count c s p i)
               (λ j. columns_of c log_blowup s p i p.commitments.quotient_chunks (matrices_before (chunk_count c s p) i + j)) (λ j within.
               let D : ℕ → Type 0 =
               λ size. All (DegreeBelow ring (2 ^ size)) (polynomials_at (plain_scheme c log_blowup) size p.commitments.quotient_chunks (matrices_before (chunk_count c s p) i + j)) in

@@ -4,10 +4,10 @@ use Rattle.p3_field.specs.Field.{TwoAdic, Extension}
 use Rattle.plain_pcs.specs.Scheme.{PlainCommitmentData}
 use Rattle.committed_tables.specs.Fields.{FieldsLaws}
 use Rattle.batch_setting.specs.Setting.{Setting}
-use Rattle.plain_soundness.specs.PlainSetting.{IsOver, plain_scheme}
+use Rattle.plain_soundness.specs.PlainSetting.{IsOverFields, plain_scheme}
 use Rattle.plain_soundness.specs.Laws.Bound.{Binds}
 
-module _ {S F E : Type 0} (f : TwoAdic F) (e : Extension F E) (top : ℕ) (c : Setting S F E (PlainCommitmentData F)) (over : IsOver f e top c) where
+module _ {S F E : Type 0} (f : TwoAdic F) (e : Extension F E) (top : ℕ) (c : Setting S F E (PlainCommitmentData F)) (over : IsOverFields f e top c) where
   pub own_laws : (inverse : E → E) → FieldsLaws f e top inverse → FieldsLaws c.field c.extension c.two_adicity inverse
   own_laws inverse L =
       subst (λ (g : TwoAdic F). FieldsLaws g c.extension c.two_adicity inverse) (sym over.field_is)

@@ -5,7 +5,7 @@ use Rattle.std.proofs.lemmas.List.{length-map}
 use Rattle.std.proofs.lemmas.List.Elements.{All-append, All-weaker}
 use Rattle.p3_field.specs.Field.{TwoAdic, Extension}
 use Rattle.p3_field.specs.Laws.SubgroupSelectors.{subgroup}
-use Rattle.p3_field.specs.Poly.{val_in}
+use Rattle.p3_field.specs.Poly.{eval_poly_in}
 use Rattle.p3_field.specs.Ring.{Ring}
 use Rattle.p3_air.specs.CellValues.{CellValues}
 use Rattle.p3_air.specs.declared.cells.Cell.{Cell}
@@ -19,7 +19,7 @@ use Rattle.p3_lookup.specs.Lookup.{LookupData, FitLookups}
 use Rattle.p3_lookup.specs.Trees.{lookup_trees}
 use Rattle.p3_uni_stark.specs.Opened.{PreprocessedData}
 use Rattle.p3_uni_stark.specs.Recombine.{recombined}
-use Rattle.committed_tables.specs.Committed.{CommittedTable, periodic_poly, values_at}
+use Rattle.committed_tables.specs.Committed.{CommittedTable, periodic_poly, committed_values_at}
 use Rattle.committed_tables.specs.Fields.{FieldsLaws}
 use Rattle.committed_tables.specs.Identity.{CommittedIdentity, CommittedQuotient}
 use Rattle.committed_tables.specs.Laws.Opened.{opened_by_rows, opened_identity, recombined_is}
@@ -27,13 +27,13 @@ use Rattle.committed_tables.specs.Opened.{AreOpenedRows}
 use Rattle.batch_constraints.specs.BatchTrees.{AreLookupsOf, table_trees}
 use Rattle.batch_constraints.specs.Laws.Reads.{shape_fits_lookups}
 use Rattle.batch_constraints.specs.Laws.TreesRead.{lookup_trees_read}
-use Rattle.batch_verifier_folder.specs.FolderState.{cells_of}
+use Rattle.batch_verifier_folder.specs.FolderState.{verifier_cells_of}
 use Rattle.batch_identity.specs.Identity.{Identity, folded_at, opened_at}
 use Rattle.batch_identity.specs.PeriodicValues.{periodic_value}
 use Rattle.batch_statement.specs.Proof.{OpenedWithLookups}
 use Rattle.batch_shape_checks.specs.ShapeChecks.{has_some, permutation_width, preprocessed_next_of}
-use Rattle.batch_claims.specs.Claims.{local_row, values_in}
-use Rattle.batch_identity_checks.specs.TableIdentity.{next_row, opened_table, permutation_columns, preprocessed_local_of}
+use Rattle.batch_claims.specs.Claims.{preprocessed_local_row, values_where_there}
+use Rattle.batch_identity_checks.specs.TableIdentity.{next_row_or_zeros, opened_table, permutation_column_count, preprocessed_local_of}
 use Rattle.plain_soundness.specs.OpenedBatch.{AreCommittedValues}
 
 -- a column of a list is one of some
@@ -42,27 +42,27 @@ some_of [] j h = absurd cc
 some_of (n ∷ ns) j h = refl
 
 -- a next row that is declared is what is opened
-next_is_opened : {E : Type 0} (zeros : List E) (ns : List ℕ) (row : Option (List E)) → has_some ns ≡ true → next_row zeros ns row ≡ values_in row
+next_is_opened : {E : Type 0} (zeros : List E) (ns : List ℕ) (row : Option (List E)) → has_some ns ≡ true → next_row_or_zeros zeros ns row ≡ values_where_there row
 next_is_opened zeros [] row h = absurd cc
 next_is_opened zeros (n ∷ ns) None h = refl
 next_is_opened zeros (n ∷ ns) (Some xs) h = refl
 
-local_is_opened : {E : Type 0} (p : Option (PreprocessedData E)) → preprocessed_local_of p ≡ local_row p
+local_is_opened : {E : Type 0} (p : Option (PreprocessedData E)) → preprocessed_local_of p ≡ preprocessed_local_row p
 local_is_opened None = refl
 local_is_opened (Some p) = refl
 
 -- a permutation row has a value for each coefficient of each column
-row_width : (lookups dimension : ℕ) → permutation_width lookups dimension ≡ permutation_columns lookups * dimension
+row_width : (lookups dimension : ℕ) → permutation_width lookups dimension ≡ permutation_column_count lookups * dimension
 row_width zero dimension = sym (omega arith)
 row_width (suc n) dimension = refl
 
-columns_enough : (n : ℕ) → 0 < n → n < permutation_columns n
+columns_enough : (n : ℕ) → 0 < n → n < permutation_column_count n
 columns_enough zero h = absurd (omega (arith, h))
 columns_enough (suc n) h = omega arith
 
 -- The cells that a table with so many lookups reads: those that it declares, and those of its lookups.
 abbrev pub read_shape : {F : Type 0} → Declaration F → (lookups : ℕ) → Shape
-read_shape d lookups = record (declared_shape d) { permutation = permutation_columns lookups; challenges = 2 * lookups; terminals = 1 }
+read_shape d lookups = record (declared_shape d) { permutation = permutation_column_count lookups; challenges = 2 * lookups; terminals = 1 }
 
 module _ {F : Type 0} (d : Declaration F) (lookups : ℕ) where
   declared_read : (c : Cell) → Declares (declared_shape d) c → Declares (read_shape d lookups) c
@@ -122,14 +122,14 @@ module _ {F E : Type 0} (f : TwoAdic F) (e : Extension F E) (top : ℕ) (inverse
       (wide : length o.permutation_local ≡ permutation_width (length lookups) e.dimension) where
     -- what a verifier reads
     abbrev pub cells_read : CellValues E
-    cells_read = cells_of e.ring.zero e.embed (opened_at f e (subgroup f.ring k) alpha zeta (opened_table f e (subgroup f.ring k) d (length lookups) publics challenges terminals zeta o))
+    cells_read = verifier_cells_of e.ring.zero e.embed (opened_at f e (subgroup f.ring k) alpha zeta (opened_table f e (subgroup f.ring k) d (length lookups) publics challenges terminals zeta o))
 
-    periodic_same : map (periodic_value f e (subgroup f.ring k) zeta) d.periodic ≡ (values_at f e table_with zeta).periodic
+    periodic_same : map (periodic_value f e (subgroup f.ring k) zeta) d.periodic ≡ (committed_values_at f e table_with zeta).periodic
     unfolding periodic_value periodic_poly
     periodic_same = refl
 
-    permutation_long : length permutation ≡ permutation_columns (length lookups) * e.dimension
-    permutation_long = sym (ap length V.permutation_local ∙ length-map permutation (λ (g : List F). val_in e g zeta)) ∙ (wide ∙ row_width (length lookups) e.dimension)
+    permutation_long : length permutation ≡ permutation_column_count (length lookups) * e.dimension
+    permutation_long = sym (ap length V.permutation_local ∙ length-map permutation (λ (g : List F). eval_poly_in e g zeta)) ∙ (wide ∙ row_width (length lookups) e.dimension)
 
     rows_read : AreOpenedRows f e table_with (read_shape d (length lookups)) cells_read zeta
     rows_read = record {
@@ -144,8 +144,8 @@ module _ {F E : Type 0} (f : TwoAdic F) (e : Extension F E) (top : ℕ) (inverse
       first_row = refl;
       last_row = refl;
       transition = refl;
-      permutation_local = recombined_is f e top inverse L table_with o.permutation_local (permutation_columns (length lookups)) zeta permutation_long V.permutation_local;
-      permutation_next = recombined_is f e top inverse L table_with o.permutation_next (permutation_columns (length lookups)) _ permutation_long V.permutation_next;
+      permutation_local = recombined_is f e top inverse L table_with o.permutation_local (permutation_column_count (length lookups)) zeta permutation_long V.permutation_local;
+      permutation_next = recombined_is f e top inverse L table_with o.permutation_next (permutation_column_count (length lookups)) _ permutation_long V.permutation_next;
       challenges = refl;
       terminals = refl;
     }

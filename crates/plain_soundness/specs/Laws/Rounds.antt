@@ -7,8 +7,8 @@ use Rattle.std.proofs.lemmas.Option.{slice_get_within, get_or_from_slice_get}
 use Rattle.p3_field.specs.Domain.{CosetData}
 use Rattle.p3_field.specs.Field.{Extension}
 use Rattle.p3_field.specs.Laws.SubgroupSelectors.{subgroup}
-use Rattle.p3_field.specs.Laws.Tables.{get_or-table, length-table}
-use Rattle.p3_field.specs.Poly.{table, val_in}
+use Rattle.p3_field.specs.Laws.Tabulate.{get_or-tabulate, length-tabulate}
+use Rattle.p3_field.specs.Poly.{tabulate, eval_poly_in}
 use Rattle.p3_field.specs.Ring.{Ring}
 use Rattle.p3_air.specs.Shape.{Declaration}
 use Rattle.p3_commit.specs.Claims.{PointClaim, MatrixClaim, CommitmentClaim}
@@ -20,7 +20,7 @@ use Rattle.batch_setting.specs.Setting.{Setting, masks}
 use Rattle.batch_statement.specs.Proof.{OpenedWithLookups}
 use Rattle.batch_statement.specs.declared.commitments.BatchCommitments.{BatchCommitments}
 use Rattle.batch_shape_checks.specs.ShapeChecks.{has_some, permutation_width}
-use Rattle.batch_claims.specs.Claims.{Claimed, all_chunk_domains, at_point, bits_at, chunk_claim, chunk_claims, claims, claims_by, commitment_in, declared_at, instance_at, local_row, main_claim, matrix_claim, matrix_tables, next_row, on_subgroup, permutation_claims, preprocessed_claim, random_claim, round, values_in, where_declared, where_opened}
+use Rattle.batch_claims.specs.Claims.{Claimed, all_chunk_domains, at_point, bits_at, chunk_claim, chunk_claims, claims, claims_by, commitment_in, declared_at, instance_at, preprocessed_local_row, main_claim, preprocessed_matrix_claim, matrix_tables, preprocessed_next_row, on_subgroup, permutation_claims, preprocessed_claim, random_claim, claims_of_round, values_where_there, where_declared, where_opened}
 use Rattle.plain_soundness.specs.Commitment.{matrix_at, polynomials_at}
 use Rattle.plain_soundness.specs.CommittedBatch.{matrices_before, permutation_count}
 use Rattle.plain_soundness.specs.PlainSetting.{plain_scheme}
@@ -28,11 +28,11 @@ use Rattle.plain_soundness.specs.Laws.Bound.{Binds, bound_at, bound_values}
 use Rattle.plain_soundness.specs.Laws.Places.{Has, found_in_lists, found_in_table, has_fifth, has_fourth, has_second, has_third}
 
 -- the round of a commitment that is there
-round_found : {E C D : Type 0} (o : Option C) (commitment : C) (ms : List (MatrixClaim E D)) → o ≡ Some commitment → Has (round o ms) (record { commitment = commitment; matrices = ms })
+round_found : {E C D : Type 0} (o : Option C) (commitment : C) (ms : List (MatrixClaim E D)) → o ≡ Some commitment → Has (claims_of_round o ms) (record { commitment = commitment; matrices = ms })
 round_found None commitment ms h = absurd cc
 round_found (Some y) commitment ms h =
     let same : y ≡ commitment = cc in
-    subst (λ z. Has (round (Some y) ms) (record { commitment = z; matrices = ms })) same (0, refl)
+    subst (λ z. Has (claims_of_round (Some y) ms) (record { commitment = z; matrices = ms })) same (0, refl)
 
 -- the claim of a next row where next columns are declared
 declared_found : {E : Type 0} (first : PointClaim E) (ns : List ℕ) (claim : PointClaim E) → has_some ns ≡ true → slice_get (first ∷ where_declared ns claim) 1 ≡ Some claim
@@ -99,43 +99,43 @@ module _ {S F E : Type 0} (c : Setting S F E (PlainCommitmentData F)) (log_blowu
 
   -- the rounds
   abbrev random_round : List (CommitmentClaim E (PlainCommitmentData F) (CosetData F))
-  random_round = round commitments.random (table n (random_claim r zeta bits instances))
+  random_round = claims_of_round commitments.random (tabulate n (random_claim r zeta bits instances))
 
   abbrev main_claims : List (MatrixClaim E (CosetData F))
-  main_claims = table n (main_claim r zeta after declarations bits instances)
+  main_claims = tabulate n (main_claim r zeta after declarations bits instances)
 
   abbrev quotient_claims : List (MatrixClaim E (CosetData F))
-  quotient_claims = flat_map (chunk_claims r zeta (masks c) domains instances) (table n (λ i. i))
+  quotient_claims = flat_map (chunk_claims r zeta (masks c) domains instances) (tabulate n (λ i. i))
 
   abbrev fixed_claims : List (MatrixClaim E (CosetData F))
-  fixed_claims = table (length matrices) (matrix_claim r zeta after declarations bits instances matrices)
+  fixed_claims = tabulate (length matrices) (preprocessed_matrix_claim r zeta after declarations bits instances matrices)
 
   abbrev sum_claims : List (MatrixClaim E (CosetData F))
-  sum_claims = flat_map (permutation_claims r zeta after bits instances) (table n (λ i. i))
+  sum_claims = flat_map (permutation_claims r zeta after bits instances) (tabulate n (λ i. i))
 
   main_there : Has made (record { commitment = commitments.main; matrices = main_claims })
   unfolding claims_by
   main_there =
-      has_second random_round (round (Some commitments.main) main_claims) (round (Some commitments.quotient_chunks) quotient_claims) (round preprocessed fixed_claims)
-      (round commitments.permutation sum_claims) _ (0, refl)
+      has_second random_round (claims_of_round (Some commitments.main) main_claims) (claims_of_round (Some commitments.quotient_chunks) quotient_claims) (claims_of_round preprocessed fixed_claims)
+      (claims_of_round commitments.permutation sum_claims) _ (0, refl)
 
   quotient_there : Has made (record { commitment = commitments.quotient_chunks; matrices = quotient_claims })
   unfolding claims_by
   quotient_there =
-      has_third random_round (round (Some commitments.main) main_claims) (round (Some commitments.quotient_chunks) quotient_claims) (round preprocessed fixed_claims)
-      (round commitments.permutation sum_claims) _ (0, refl)
+      has_third random_round (claims_of_round (Some commitments.main) main_claims) (claims_of_round (Some commitments.quotient_chunks) quotient_claims) (claims_of_round preprocessed fixed_claims)
+      (claims_of_round commitments.permutation sum_claims) _ (0, refl)
 
   fixed_there : (commitment : PlainCommitmentData F) → preprocessed ≡ Some commitment → Has made (record { commitment = commitment; matrices = fixed_claims })
   unfolding claims_by
   fixed_there commitment h =
-      has_fourth random_round (round (Some commitments.main) main_claims) (round (Some commitments.quotient_chunks) quotient_claims) (round preprocessed fixed_claims)
-      (round commitments.permutation sum_claims) _ (round_found preprocessed commitment fixed_claims h)
+      has_fourth random_round (claims_of_round (Some commitments.main) main_claims) (claims_of_round (Some commitments.quotient_chunks) quotient_claims) (claims_of_round preprocessed fixed_claims)
+      (claims_of_round commitments.permutation sum_claims) _ (round_found preprocessed commitment fixed_claims h)
 
   sums_there : (commitment : PlainCommitmentData F) → commitments.permutation ≡ Some commitment → Has made (record { commitment = commitment; matrices = sum_claims })
   unfolding claims_by
   sums_there commitment h =
-      has_fifth random_round (round (Some commitments.main) main_claims) (round (Some commitments.quotient_chunks) quotient_claims) (round preprocessed fixed_claims)
-      (round commitments.permutation sum_claims) _ (round_found commitments.permutation commitment sum_claims h)
+      has_fifth random_round (claims_of_round (Some commitments.main) main_claims) (claims_of_round (Some commitments.quotient_chunks) quotient_claims) (claims_of_round preprocessed fixed_claims)
+      (claims_of_round commitments.permutation sum_claims) _ (round_found commitments.permutation commitment sum_claims h)
 
   -- what is claimed of a matrix in one of them
   bound_there : (commitment : PlainCommitmentData F) (claims : List (MatrixClaim E (CosetData F))) (place : ℕ) (d : MatrixClaim E (CosetData F))
@@ -145,7 +145,7 @@ module _ {S F E : Type 0} (c : Setting S F E (PlainCommitmentData F)) (log_blowu
 
   -- the values at x of a matrix's polynomials
   abbrev pub values_of_matrix : (log_height : ℕ) → PlainCommitmentData F → (place : ℕ) → E → List E
-  values_of_matrix log_height commitment place x = map (λ g. val_in e g x) (polynomials_at s log_height commitment place)
+  values_of_matrix log_height commitment place x = map (λ g. eval_poly_in e g x) (polynomials_at s log_height commitment place)
 
   module _ (i : ℕ) (below : i < n) where
     abbrev o : OpenedWithLookups E
@@ -164,9 +164,9 @@ module _ {S F E : Type 0} (c : Setting S F E (PlainCommitmentData F)) (log_blowu
     pub main_local_opened : o.base.trace_local ≡ values_of_matrix k commitments.main i zeta
     main_local_opened = bound_values s e.ring e.embed (matrix_at commitments.main i) (main_claim r zeta after declarations bits instances i) main_bound 0 (at_point zeta o.base.trace_local) refl
 
-    pub main_next_opened : has_some d.main_next ≡ true → values_in o.base.trace_next ≡ values_of_matrix k commitments.main i (after k)
+    pub main_next_opened : has_some d.main_next ≡ true → values_where_there o.base.trace_next ≡ values_of_matrix k commitments.main i (after k)
     main_next_opened declared =
-        let claim = at_point (after k) (values_in o.base.trace_next) in
+        let claim = at_point (after k) (values_where_there o.base.trace_next) in
         bound_values s e.ring e.embed (matrix_at commitments.main i) (main_claim r zeta after declarations bits instances i) main_bound 1 claim
         (declared_found (at_point zeta o.base.trace_local) d.main_next claim declared)
 
@@ -176,18 +176,18 @@ module _ {S F E : Type 0} (c : Setting S F E (PlainCommitmentData F)) (log_blowu
       fixed_bound =
           let named : get_or matrices m 0 ≡ i = get_or_from_slice_get matrices m i 0 names in
           subst (λ t. IsBound s e.ring e.embed (matrix_at commitment m) (preprocessed_claim r zeta after declarations bits instances t)) named
-          (bound_there commitment fixed_claims m (matrix_claim r zeta after declarations bits instances matrices m) (fixed_there commitment there)
-          (found_in_table (length matrices) (matrix_claim r zeta after declarations bits instances matrices) m (slice_get_within matrices m i names)))
+          (bound_there commitment fixed_claims m (preprocessed_matrix_claim r zeta after declarations bits instances matrices m) (fixed_there commitment there)
+          (found_in_table (length matrices) (preprocessed_matrix_claim r zeta after declarations bits instances matrices) m (slice_get_within matrices m i names)))
 
-      pub fixed_local_opened : local_row o.base.preprocessed ≡ values_of_matrix k commitment m zeta
+      pub fixed_local_opened : preprocessed_local_row o.base.preprocessed ≡ values_of_matrix k commitment m zeta
       fixed_local_opened =
-          bound_values s e.ring e.embed (matrix_at commitment m) (preprocessed_claim r zeta after declarations bits instances i) fixed_bound 0 (at_point zeta (local_row o.base.preprocessed)) refl
+          bound_values s e.ring e.embed (matrix_at commitment m) (preprocessed_claim r zeta after declarations bits instances i) fixed_bound 0 (at_point zeta (preprocessed_local_row o.base.preprocessed)) refl
 
-      pub fixed_next_opened : has_some d.preprocessed_next ≡ true → next_row o.base.preprocessed ≡ values_of_matrix k commitment m (after k)
+      pub fixed_next_opened : has_some d.preprocessed_next ≡ true → preprocessed_next_row o.base.preprocessed ≡ values_of_matrix k commitment m (after k)
       fixed_next_opened declared =
-          let claim = at_point (after k) (next_row o.base.preprocessed) in
+          let claim = at_point (after k) (preprocessed_next_row o.base.preprocessed) in
           bound_values s e.ring e.embed (matrix_at commitment m) (preprocessed_claim r zeta after declarations bits instances i) fixed_bound 1 claim
-          (declared_found (at_point zeta (local_row o.base.preprocessed)) d.preprocessed_next claim declared)
+          (declared_found (at_point zeta (preprocessed_local_row o.base.preprocessed)) d.preprocessed_next claim declared)
 
     -- its permutation columns, where each table has so many permutation matrices
     module _ (commitment : PlainCommitmentData F) (there : commitments.permutation ≡ Some commitment) (count : ℕ → ℕ)
@@ -221,7 +221,7 @@ module _ {S F E : Type 0} (c : Setting S F E (PlainCommitmentData F)) (log_blowu
       pub chunk_bound : (j : ℕ) → j < count i → IsBound s e.ring e.embed (matrix_at commitments.quotient_chunks (place_of j)) (chunk j)
       chunk_bound j within =
           let lengths : (l : ℕ) → l < n → length (chunk_claims r zeta (masks c) domains instances l) ≡ count l =
-          λ l b. length-table (length (get_or domains l [])) (chunk_claim r zeta (masks c) (get_or domains l []) (instance_at instances l).base.quotient_chunks) ∙ counted l b in
+          λ l b. length-tabulate (length (get_or domains l [])) (chunk_claim r zeta (masks c) (get_or domains l []) (instance_at instances l).base.quotient_chunks) ∙ counted l b in
           bound_there commitments.quotient_chunks quotient_claims (place_of j) (chunk j) quotient_there
           (found_in_lists n (λ l. l) (chunk_claims r zeta (masks c) domains instances) count i j (chunk j) lengths below
           (found_in_table (length (get_or domains i [])) chunk j (omega (arith, within, counted i below))))
@@ -232,11 +232,11 @@ module _ {S F E : Type 0} (c : Setting S F E (PlainCommitmentData F)) (log_blowu
           (bound_values s e.ring e.embed (matrix_at commitments.quotient_chunks (place_of j)) (chunk j) (chunk_bound j within) 0 (at_point zeta (get_or o.base.quotient_chunks j [])) refl)
 
       pub chunks_opened : length o.base.quotient_chunks ≡ count i
-          → o.base.quotient_chunks ≡ map (λ gs. map (λ g. val_in e g zeta) gs) (table (count i) (λ j. polynomials_at s k commitments.quotient_chunks (place_of j)))
+          → o.base.quotient_chunks ≡ map (λ gs. map (λ g. eval_poly_in e g zeta) gs) (tabulate (count i) (λ j. polynomials_at s k commitments.quotient_chunks (place_of j)))
       chunks_opened long =
           let P : ℕ → List (List F) = λ j. polynomials_at s k commitments.quotient_chunks (place_of j) in
-          let at = λ (gs : List (List F)). map (λ (g : List F). val_in e g zeta) gs in
-          let whole = length-table (count i) P in
-          ext_get_or [] o.base.quotient_chunks (map at (table (count i) P)) (long ∙ sym (length-map (table (count i) P) at ∙ whole)) (λ j h.
+          let at = λ (gs : List (List F)). map (λ (g : List F). eval_poly_in e g zeta) gs in
+          let whole = length-tabulate (count i) P in
+          ext_get_or [] o.base.quotient_chunks (map at (tabulate (count i) P)) (long ∙ sym (length-map (tabulate (count i) P) at ∙ whole)) (λ j h.
           let within : j < count i = omega (arith, h, long) in
-          chunk_opened j within ∙ (ap at (sym (get_or-table (count i) P j [] within)) ∙ sym (get_or-map at (table (count i) P) j [] [] (omega (arith, within, whole)))))
+          chunk_opened j within ∙ (ap at (sym (get_or-tabulate (count i) P j [] within)) ∙ sym (get_or-map at (tabulate (count i) P) j [] [] (omega (arith, within, whole)))))

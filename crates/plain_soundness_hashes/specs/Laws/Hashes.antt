@@ -11,16 +11,16 @@ use Rattle.p3_blake3_air.specs.Meanings.{RowMeans}
 use Rattle.p3_blake3_air.specs.Trees.{blake3_trees}
 use Rattle.p3_field.specs.Field.{TwoAdic, Extension}
 use Rattle.plain_pcs.specs.Scheme.{PlainCommitmentData}
-use Rattle.committed_tables.specs.Committed.{CommittedTable, Holds, rows_of}
+use Rattle.committed_tables.specs.Committed.{CommittedTable, Holds, row_count_of}
 use Rattle.committed_tables.specs.Fields.{FieldsLaws}
 use Rattle.batch_setting.specs.Setting.{Setting, Backend}
 use Rattle.batch_statement.specs.Proof.{ProofData}
-use Rattle.batch_statement.specs.Statement.{Statement, Table, WellFormed, WrittenCommon, read_common}
+use Rattle.batch_statement.specs.Statement.{Statement, AirTable, WellFormed, WrittenCommon, read_common}
 use Rattle.batch_shape_checks.specs.ShapeChecks.{no_table}
 use Rattle.batch_claims.specs.Claims.{bits_at}
 use Rattle.batch_verifier.specs.BatchChecks.{Accepted}
 use Rattle.plain_soundness.specs.BaseRows.{IsMainHere, ReadsMainHere, main_row}
-use Rattle.plain_soundness.specs.CommittedBatch.{committed_table}
+use Rattle.plain_soundness.specs.CommittedBatch.{committed_table_at}
 use Rattle.plain_soundness.specs.Laws.Airs.{about, airs_columns, airs_hold, airs_own}
 use Rattle.plain_soundness.specs.Laws.BaseRows.{rows_mean}
 use Rattle.plain_soundness.specs.Laws.Bound.{Binds}
@@ -34,7 +34,7 @@ constraints_here f = reads_all f.ring IsMainHere (λ _. ⊥) (λ k lt. tt)
 
 -- where a table of 9168 columns holds with these constraints, each of its rows is that of one compression
 pub row_is_compression : {F E : Type 0} (f : TwoAdic F) (e : Extension F E) (top : ℕ) (inverse : E → E) (L : FieldsLaws f e top inverse) (t : CommittedTable F E) → RowMeans f.ring
-    → length t.main ≡ 9168 → Holds f e t (blake3_trees f.ring) → (i : ℕ) → i < rows_of t → (x : Input) × AreWords x × (main_row f t i ≡ trace_row f.ring x)
+    → length t.main ≡ 9168 → Holds f e t (blake3_trees f.ring) → (i : ℕ) → i < row_count_of t → (x : Input) × AreWords x × (main_row f t i ≡ trace_row f.ring x)
 row_is_compression f e top inverse L t means wide holds i below =
     rows_mean f e top inverse L t (blake3_trees f.ring) (λ cells. (x : Input) × AreWords x × (cells ≡ trace_row f.ring x)) 9168 (λ row w vanish. (means row w).0 vanish) (constraints_here f) wide holds i below
 
@@ -48,13 +48,13 @@ module _ {S A F E P R : Type 0} (c : Setting S F E (PlainCommitmentData F)) (b :
 
   pub hashes_are_compressions : (IsAlphaUnlucky c log_blowup s p → ⊥) → (IsZetaUnlucky c log_blowup s p → ⊥) → (i row : ℕ) (air : A) → i < length airs
       → trees (get_or airs i air) ≡ blake3_trees c.field.ring → (declaration (get_or airs i air)).width ≡ 9168 → row < 2 ^ bits_at p.degree_bits i
-      → (x : Input) × AreWords x × (main_row c.field (committed_table c log_blowup s p i) row ≡ trace_row c.field.ring x)
+      → (x : Input) × AreWords x × (main_row c.field (committed_table_at c log_blowup s p i) row ≡ trace_row c.field.ring x)
   hashes_are_compressions no_alpha no_zeta i row air below are wide within =
-      let t = committed_table c log_blowup s p i in
-      let made : A → Table F = λ a. record { declaration = declaration a; trees = trees a } in
+      let t = committed_table_at c log_blowup s p i in
+      let made : A → AirTable F = λ a. record { declaration = declaration a; trees = trees a } in
       let holds = first_of (airs_hold c b log_blowup declaration trees airs publics common p inverse L plain binds formed accepted reads) no_alpha no_zeta in
       let own = airs_own c b log_blowup declaration trees airs publics common p inverse L plain binds formed accepted holds i air below in
       let columns =
       airs_columns c b log_blowup declaration trees airs publics common p inverse L plain binds formed accepted i (subst (λ n. i < n) (sym (length-map airs made)) below) in
-      let declared = ap (λ (x : Table F). x.declaration.width) (get_or-map made airs i air (no_table {F = F}) below) in
+      let declared = ap (λ (x : AirTable F). x.declaration.width) (get_or-map made airs i air (no_table {F = F}) below) in
       row_is_compression c.field c.extension c.two_adicity inverse L t means (columns.main ∙ (declared ∙ wide)) (subst (Holds c.field c.extension t) are own) row within

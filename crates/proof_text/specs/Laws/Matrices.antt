@@ -4,15 +4,15 @@ use Rattle.std.proofs.Common.{sym, ap, ◌∙◌, arith}
 use Rattle.std.proofs.Math.Nat.{div-zero, mul-div_cancel_left, mul_comm}
 use Rattle.p3_field.specs.declared.baby_bear.BabyBear.{BabyBear}
 use Rattle.p3_matrix.specs.Matrix.{Rows, height}
-use Rattle.line_format.specs.Texts.{Between, Grammar, Unlimited, ItemsWithin, number_words, items_words, element_words}
-use Rattle.line_format.specs.Laws.Grammars.{PairWithin, pair_words, SameTexts, pair-grammar, number-grammar, items-grammar, same-grammar, element-grammar}
-use Rattle.proof_text.specs.Matrices.{matrix_words, MatrixWithin, least_height, most_height}
+use Rattle.line_format.specs.Texts.{Between, Grammar, Unlimited, ItemsWithin, one_number, items_numbers, element_numbers}
+use Rattle.line_format.specs.Laws.Grammars.{PairWithin, pair_numbers, SameTexts, pair-grammar, number-grammar, items-grammar, same-grammar, element-grammar}
+use Rattle.proof_text.specs.Matrices.{matrix_numbers, MatrixWithin, least_height, most_height}
 
 -- the height of a matrix of a width
 abbrev pub HeightWithin : ℕ → ℕ → Type 0
 HeightWithin w = Between (least_height w) (most_height w)
 
-pub height-grammar : (w : ℕ) → Grammar (HeightWithin w) number_words
+pub height-grammar : (w : ℕ) → Grammar (HeightWithin w) one_number
 height-grammar zero = number-grammar 0 0 (omega arith) (omega arith)
 height-grammar (suc w) = number-grammar 1 4096 (omega arith) (omega arith)
 
@@ -20,31 +20,31 @@ height-grammar (suc w) = number-grammar 1 4096 (omega arith) (omega arith)
 abbrev pub ShapeWithin : ℕ × ℕ → Type 0
 ShapeWithin = PairWithin (Between 0 16384) HeightWithin
 
-abbrev pub shape_words : ℕ × ℕ → List ℕ
-shape_words = pair_words number_words number_words
+abbrev pub size_numbers : ℕ × ℕ → List ℕ
+size_numbers = pair_numbers one_number one_number
 
-pub width-grammar : Grammar (Between 0 16384) number_words
+pub width-grammar : Grammar (Between 0 16384) one_number
 width-grammar = number-grammar 0 16384 (omega arith) (omega arith)
 
-pub shape-grammar : Grammar ShapeWithin shape_words
+pub shape-grammar : Grammar ShapeWithin size_numbers
 shape-grammar = pair-grammar HeightWithin width-grammar (λ w _. height-grammar w)
 
 -- the elements of a matrix of a shape
 abbrev pub ElementsWithin : ℕ × ℕ → List BabyBear → Type 0
 ElementsWithin s = ItemsWithin (s.0 * s.1) Unlimited
 
-abbrev pub elements_words : List BabyBear → List ℕ
-elements_words = items_words element_words
+abbrev pub elements_numbers : List BabyBear → List ℕ
+elements_numbers = items_numbers element_numbers
 
-pub elements-grammar : (s : ℕ × ℕ) → Grammar (ElementsWithin s) elements_words
+pub elements-grammar : (s : ℕ × ℕ) → Grammar (ElementsWithin s) elements_numbers
 elements-grammar s = items-grammar (s.0 * s.1) element-grammar
 
 -- a shape, and the elements
 abbrev pub ShapedWithin : (ℕ × ℕ) × List BabyBear → Type 0
 ShapedWithin = PairWithin ShapeWithin ElementsWithin
 
-abbrev pub shaped_words : (ℕ × ℕ) × List BabyBear → List ℕ
-shaped_words = pair_words shape_words elements_words
+abbrev pub shaped_numbers : (ℕ × ℕ) × List BabyBear → List ℕ
+shaped_numbers = pair_numbers size_numbers elements_numbers
 
 abbrev pub matrix_of : (ℕ × ℕ) × List BabyBear → Rows BabyBear
 matrix_of p = record { values = p.1; width = p.0.0 }
@@ -86,13 +86,13 @@ shape-fits m fits = (
 )
 
 -- a matrix is seen as its shape and its elements
-unfoldable pub same-matrix : SameTexts ShapedWithin shaped_words MatrixWithin matrix_words
+unfoldable pub same-matrix : SameTexts ShapedWithin shaped_numbers MatrixWithin matrix_numbers
 same-matrix = record {
   to = matrix_of;
   to_fits = matrix-fits;
-  to_words = λ p fits. ap (λ (h : ℕ). p.0.0 ∷ h ∷ elements_words p.1) (rows-of p.0.0 p.0.1 (length p.1) fits.0.1 fits.1.0);
+  to_numbers = λ p fits. ap (λ (h : ℕ). p.0.0 ∷ h ∷ elements_numbers p.1) (rows-of p.0.0 p.0.1 (length p.1) fits.0.1 fits.1.0);
   whole = λ m fits. (((m.width, height m), m.values), shape-fits m fits, refl);
 }
 
-pub matrix-grammar : Grammar MatrixWithin matrix_words
+pub matrix-grammar : Grammar MatrixWithin matrix_numbers
 matrix-grammar = same-grammar same-matrix (pair-grammar ElementsWithin shape-grammar (λ s _. elements-grammar s))

@@ -16,11 +16,11 @@ use Rattle.batch_transcript.specs.declared.failure.TranscriptError.TheVariants.{
 use Rattle.honest_proofs.specs.HonestProof.{AreCanonical, HaveFractions, IsLookupGround, IsOodGround, LacksLookupGround, LacksOodGround, Prover, committed_where, shape, state_at_ood, state_at_pair}
 use Rattle.honest_proofs.specs.Laws.Ground.{lookup_event, ood_event}
 use Rattle.batch_proving.specs.Batch.{Batch, CommitsToSome}
-use Rattle.batch_proving.specs.Laws.Verdicts.{answer_behind, refused_here}
+use Rattle.batch_proving.specs.Laws.Verdicts.{answer_past, refused_here}
 use Rattle.batch_proving.specs.Proving.{lookup_part, ood_part}
 use Rattle.batch_proving.specs.Verdict.{IsAnswerRefusal}
-use Rattle.prover_quotients.specs.Laws.Kept.{keeps_of}
-use Rattle.prover_quotients.specs.Tables.{KeepsSome}
+use Rattle.prover_quotients.specs.Laws.ProverData.{keeps_of}
+use Rattle.prover_quotients.specs.Tables.{HasProverDataOfSome}
 use Rattle.batch_proving.specs.declared.error.ProvingError.{ProvingError}
 use Rattle.batch_proving.specs.declared.error.ProvingError.TheVariants.{OutOfMemory, WitnessNotFound}
 
@@ -33,8 +33,8 @@ commitment_is commits commitment_of one (m ∷ ms) None h = absurd h
 commitment_is commits commitment_of one (m ∷ ms) (Some x) h = ap Some (one (m ∷ ms) x h)
 
 -- what is kept beside it
-pub kept_as : {M C D : Type 0} (commits : List M → C × D → Type 0) (ms : List M) (o : Option (C × D)) (q : Option D) → option_map (λ x. x.1) o ≡ q → CommitsToSome commits ms o → KeepsSome commits ms q
-kept_as commits ms o q e h = subst (KeepsSome commits ms) e (keeps_of commits ms o h)
+pub kept_as : {M C D : Type 0} (commits : List M → C × D → Type 0) (ms : List M) (o : Option (C × D)) (q : Option D) → option_map (λ x. x.1) o ≡ q → CommitsToSome commits ms o → HasProverDataOfSome commits ms q
+kept_as commits ms o q e h = subst (HasProverDataOfSome commits ms) e (keeps_of commits ms o h)
 
 -- so is what a backend gives where it commits
 pub committed_part : {F D C P : Type 0} (r : Ring F) (points : D → ℕ) (point_at : D → ℕ → F) (commits : List (D × Rows F) → C → Type 0) (made : P → Type 0) (holds : P → C → List (Committed F) → Type 0) (commitment_of : List (D × Rows F) → C)
@@ -45,7 +45,7 @@ committed_part r points point_at commits made holds commitment_of one ms o h =
 
 pub kept_part : {F D C P : Type 0} (r : Ring F) (points : D → ℕ) (point_at : D → ℕ → F) (commits : List (D × Rows F) → C → Type 0) (made : P → Type 0) (holds : P → C → List (Committed F) → Type 0)
     (ms : List (D × Rows F)) (o : Option (C × P)) (q : Option P) → option_map (λ x. x.1) o ≡ q
-    → CommitsToSome (λ es w. IsCommitment r points point_at commits made holds es w) ms o → KeepsSome (λ es w. IsCommitment r points point_at commits made holds es w) ms q
+    → CommitsToSome (λ es w. IsCommitment r points point_at commits made holds es w) ms o → HasProverDataOfSome (λ es w. IsCommitment r points point_at commits made holds es w) ms q
 kept_part r points point_at commits made holds ms o q e h = kept_as (λ es w. IsCommitment r points point_at commits made holds es w) ms o q e h
 
 module _ {S F E C : Type 0} (c : Setting S F E C) (p : Prover F E C) (s : Statement F C) (traces : List (Rows F)) (degree_bits : List ℕ) (K : AreCanonical c.field.ring c.order p.canonical) where
@@ -99,7 +99,7 @@ module _ {S F E C : Type 0} (c : Setting S F E C) (p : Prover F E C) (s : Statem
       let lacks : LacksOodGround c p s traces degree_bits = record { witness = w; is_ground = g; has_fractions = fractions; none = none } in
       refused_here _ [] (WitnessNotFound Ood) (refl, lacks)
 
-  pub ood_refused_behind : (R : Type 0) (xs : List (Check (ProvingError R))) (x : Running S) (w : Option F) → NoneFails xs → x.state ≡ state_at_ood c p s traces degree_bits w → x.shape ≡ shape c p s traces degree_bits
+  pub ood_refused_past : (R : Type 0) (xs : List (Check (ProvingError R))) (x : Running S) (w : Option F) → NoneFails xs → x.state ≡ state_at_ood c p s traces degree_bits w → x.shape ≡ shape c p s traces degree_bits
       → IsLookupGround c p s traces degree_bits w → HaveFractions c p s traces degree_bits w
       → NonePasses c.challenger c.field.ring c.order x.state x.shape.ood_pow_bits → IsAnswerRefusal (xs ++ ood_part b {R = R}) (WitnessNotFound Ood)
-  ood_refused_behind R xs x w none here same g fractions h = answer_behind xs (ood_part b {R = R}) (WitnessNotFound Ood) none (ood_refused R x w here same g fractions h)
+  ood_refused_past R xs x w none here same g fractions h = answer_past xs (ood_part b {R = R}) (WitnessNotFound Ood) none (ood_refused R x w here same g fractions h)

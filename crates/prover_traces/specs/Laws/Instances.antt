@@ -5,8 +5,8 @@ use Rattle.std.specs.Prelude.{All}
 use Rattle.std.proofs.Math.Pow.{pow_mono}
 use Rattle.std.proofs.lemmas.List.{get_or-map, get_or_default, length-map}
 use Rattle.p3_field.specs.Domain.{CosetData}
-use Rattle.p3_field.specs.Laws.SubgroupSelectors.{map_table, subgroup}
-use Rattle.p3_field.specs.Poly.{table}
+use Rattle.p3_field.specs.Laws.SubgroupSelectors.{map_tabulate, subgroup}
+use Rattle.p3_field.specs.Poly.{tabulate}
 use Rattle.p3_matrix.specs.Matrix.{Rows, height}
 use Rattle.p3_air.specs.Shape.{Declaration}
 use Rattle.p3_air.specs.Tree.{Tree}
@@ -15,16 +15,16 @@ use Rattle.p3_lookup.specs.Written.{read_all}
 use Rattle.batch_setting.specs.Setting.{Setting, masks}
 use Rattle.batch_setup.specs.Setup.{ArePowers, Instance, airs_of, log_of}
 use Rattle.batch_shape_checks.specs.ShapeChecks.{heights_of, no_table}
-use Rattle.batch_statement.specs.Statement.{Table, WrittenCommon}
+use Rattle.batch_statement.specs.Statement.{AirTable, WrittenCommon}
 use Rattle.batch_validity.specs.Traced.{TracedTable, log_rows, no_rows}
 use Rattle.honest_proofs.specs.HonestProof.{Prover}
 use Rattle.batch_proving.specs.Batch.{Batch, IsTracedAll, batch_of, main_matrices, table_at, table_count}
 use Rattle.prover_traces.specs.Instances.{instance_table}
 
 -- a list that is mapped is the table of what its items give
-map_is_table : {X Y : Type 0} (f : X → Y) (g : ℕ → Y) (xs : List X) → ((i : ℕ) (x : X) → i < length xs → x ≡ get_or xs i x → f x ≡ g i) → map f xs ≡ table (length xs) g
-map_is_table f g [] h = refl
-map_is_table f g (x ∷ xs) h = λ k. h zero x (omega arith) refl k ∷ map_is_table f (λ i. g (suc i)) xs (λ i y l e. h (suc i) y (omega (arith, l)) e) k
+map_is_tabulate : {X Y : Type 0} (f : X → Y) (g : ℕ → Y) (xs : List X) → ((i : ℕ) (x : X) → i < length xs → x ≡ get_or xs i x → f x ≡ g i) → map f xs ≡ tabulate (length xs) g
+map_is_tabulate f g [] h = refl
+map_is_tabulate f g (x ∷ xs) h = λ k. h zero x (omega arith) refl k ∷ map_is_tabulate f (λ i. g (suc i)) xs (λ i y l e. h (suc i) y (omega (arith, l)) e) k
 
 -- the image of an item
 image_at : {X Y : Type 0} (f : X → Y) (xs : List X) (i : ℕ) (x : X) (z : Y) → i < length xs → x ≡ get_or xs i x → get_or (map f xs) i z ≡ f x
@@ -34,7 +34,7 @@ module _ {S F E C A : Type 0} (c : Setting S F E C) (p : Prover F E C) (declarat
   abbrev batch : Batch S F E C
   batch = batch_of c p declaration trees instances common
 
-  abbrev table_of_air : A → Table F
+  abbrev table_of_air : A → AirTable F
   table_of_air a = record { declaration = declaration a; trees = trees a }
 
   -- there are as many tables
@@ -62,7 +62,7 @@ module _ {S F E C A : Type 0} (c : Setting S F E C) (p : Prover F E C) (declarat
     -- the heights are those of the degree bits
     pub heights_are : map (λ i. height i.trace) instances ≡ heights_of (masks c) batch.degree_bits (table_count batch)
     heights_are =
-        map_is_table (λ (i : Instance A F). height i.trace) (λ i. 2 ^ (get_or batch.degree_bits i 0 - masks c)) instances rows_are
+        map_is_tabulate (λ (i : Instance A F). height i.trace) (λ i. 2 ^ (get_or batch.degree_bits i 0 - masks c)) instances rows_are
         ∙ ap (λ n. heights_of (masks c) batch.degree_bits n) (sym counted)
 
     -- powers of two, for which there are subgroups
@@ -85,8 +85,8 @@ module _ {S F E C A : Type 0} (c : Setting S F E C) (p : Prover F E C) (declarat
     matrices_are plain =
         let r = c.field.ring in
         let of_table : TracedTable F → CosetData F × Rows F = λ t. (subgroup r t.degree_bits, t.trace) in
-        map_is_table (λ (i : Instance A F). (subgroup r (log_of (height i.trace)), i.trace)) (λ i. of_table (table_at batch i)) instances (λ i x l e.
+        map_is_tabulate (λ (i : Instance A F). (subgroup r (log_of (height i.trace)), i.trace)) (λ i. of_table (table_at batch i)) instances (λ i x l e.
         let unmasked : log_of (height x.trace) ≡ log_of (height x.trace) + masks c = omega (arith, plain) in
         (λ k. (subgroup r (unmasked k), x.trace))
         ∙ ap of_table (sym (table_is i x (get_or (map read_all common.lookups) i []) l e refl)))
-        ∙ (ap (λ n. table n (λ i. of_table (table_at batch i))) (sym counted) ∙ sym (map_table of_table (table_count batch) (table_at batch)))
+        ∙ (ap (λ n. tabulate n (λ i. of_table (table_at batch i))) (sym counted) ∙ sym (map_tabulate of_table (table_count batch) (table_at batch)))

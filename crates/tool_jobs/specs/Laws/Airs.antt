@@ -1,7 +1,7 @@
 -- An AIR that declares what a job's table declares is the one that the program makes for it.
 use Rattle.std.proofs.Common.{◌≡◌, ℕ, ◌^◌, List, [], ◌∷◌, length, map, Option, None, Some, sym, ◌∙◌, ap, arith}
 use Rattle.p3_air.specs.Shape.{Declaration}
-use Rattle.p3_field.specs.Laws.Tables.{length-table}
+use Rattle.p3_field.specs.Laws.Tabulate.{length-tabulate}
 use Rattle.p3_field.specs.Ring.{Ring}
 use Rattle.p3_matrix.specs.Laws.Powers.{power_cancel}
 use Rattle.p3_matrix.specs.Matrix.{Rows}
@@ -39,7 +39,7 @@ module _ {F : Type 0} (r : Ring F) where
   unfolding cells
   wheel-height n k periodic e =
       let long : length (numbers_to r (2 ^ n)) ≡ length (numbers_to r (2 ^ k)) = ap (λ (d : Declaration F). cells d.preprocessed) e in
-      power_cancel n k (sym (length-table (2 ^ n) (number_in r)) ∙ (long ∙ length-table (2 ^ k) (number_in r)))
+      power_cancel n k (sym (length-tabulate (2 ^ n) (number_in r)) ∙ (long ∙ length-tabulate (2 ^ k) (number_in r)))
 
   pub is-air : (j : JobTable F) (air : ToolAir F) → source_of_air air ≡ source_of_job r j → IsAirOf r j air
   unfolding present

@@ -1,8 +1,8 @@
 -- Lists whose number of items is a power of two: their limits and their grammar.
 use Rattle.std.specs.Int.{IsPowerOfTwo}
 use Rattle.std.proofs.Common.{ℕ, ◌<◌, ◌≤◌, ◌^◌, List, ◌∷◌, length, All, refl, sym, ap, subst, arith}
-use Rattle.line_format.specs.Texts.{Grammar, ItemsWithin, items_words, list_words, number_words}
-use Rattle.line_format.specs.Laws.Grammars.{PairWithin, SameTexts, head-same, items-grammar, pair-grammar, pair_words, same-grammar, small-one, tail-same}
+use Rattle.line_format.specs.Texts.{Grammar, ItemsWithin, items_numbers, list_numbers, one_number}
+use Rattle.line_format.specs.Laws.Grammars.{PairWithin, SameTexts, head-same, items-grammar, pair-grammar, pair_numbers, same-grammar, small-one, tail-same}
 
 -- a power of two up to `most`
 abbrev pub IsCount : ℕ → ℕ → Type 0
@@ -15,7 +15,7 @@ PowersWithin most within xs = IsCount most (length xs) × All within xs
 pub one-counts : (most : ℕ) → 1 ≤ most → IsCount most 1
 one-counts most room = ((0, refl), room)
 
-pub count-grammar : (most : ℕ) → 1 ≤ most → most < 2 ^ 64 → Grammar (IsCount most) number_words
+pub count-grammar : (most : ℕ) → 1 ≤ most → most < 2 ^ 64 → Grammar (IsCount most) one_number
 count-grammar most room few = record {
   some = 1;
   some_fits = one-counts most room;
@@ -25,15 +25,15 @@ count-grammar most room few = record {
 
 -- a list is seen as its count, and so many items
 unfoldable pub same-powers : {A : Type 0} (most : ℕ) (within : A → Type 0) (words : A → List ℕ)
-    → SameTexts (PairWithin (IsCount most) (λ n. ItemsWithin n within)) (pair_words number_words (items_words words)) (PowersWithin most within) (list_words words)
+    → SameTexts (PairWithin (IsCount most) (λ n. ItemsWithin n within)) (pair_numbers one_number (items_numbers words)) (PowersWithin most within) (list_numbers words)
 same-powers most within words = record {
   to = λ p. p.1;
   to_fits = λ p fits. (subst (λ (n : ℕ). IsCount most n) (sym fits.1.0) fits.0, fits.1.1);
-  to_words = λ p fits. ap (λ (n : ℕ). n ∷ items_words words p.1) fits.1.0;
+  to_numbers = λ p fits. ap (λ (n : ℕ). n ∷ items_numbers words p.1) fits.1.0;
   whole = λ xs fits. ((length xs, xs), (fits.0, (refl, fits.1)), refl);
 }
 
 pub powers-grammar : {A : Type 0} {within : A → Type 0} {words : A → List ℕ} (most : ℕ) → 1 ≤ most → most < 2 ^ 64 → Grammar within words
-    → Grammar (PowersWithin most within) (list_words words)
+    → Grammar (PowersWithin most within) (list_numbers words)
 powers-grammar {A} {within} {words} most room few g =
     same-grammar (same-powers most within words) (pair-grammar (λ n. ItemsWithin n within) (count-grammar most room few) (λ n _. items-grammar n g))

@@ -1,13 +1,13 @@
--- The words of a table behind its kind tell the table, kind by kind.
+-- The words of a table after its kind tell the table, kind by kind.
 use Rattle.std.proofs.Common.{◌≡◌, ℕ, zero, suc, ◌≤◌, List, [], ◌∷◌, refl, arith}
 use Rattle.p3_field.specs.declared.baby_bear.BabyBear.{BabyBear}
-use Rattle.line_format.specs.Texts.{Between, Grammar, ItemsWithin, Unlimited, element_words, items_words, list_words, number_words}
-use Rattle.line_format.specs.Laws.Grammars.{SameTexts, ThenWithin, TwoWithin, element-grammar, items-grammar, number-grammar, pair_words, same-grammar, then-grammar, two-grammar, two_words}
-use Rattle.tool_validity.specs.Job.{IsHashRow, IsWithin, JobTable, swap_of, wheel_of, take_of, give_of, hash_of}
-use Rattle.tool_jobs.specs.Jobs.{given_words, row_words}
+use Rattle.line_format.specs.Texts.{Between, Grammar, ItemsWithin, Unlimited, element_numbers, items_numbers, list_numbers, one_number}
+use Rattle.line_format.specs.Laws.Grammars.{SameTexts, ThenWithin, TwoWithin, element-grammar, items-grammar, number-grammar, pair_numbers, same-grammar, then-grammar, two-grammar, two_numbers}
+use Rattle.tool_validity.specs.Job.{IsHashRow, IsJobTableWithin, JobTable, swap_of, wheel_of, take_of, give_of, hash_of}
+use Rattle.tool_jobs.specs.Jobs.{given_numbers, row_numbers}
 use Rattle.tool_jobs.specs.Laws.Counts.{PowersWithin, powers-grammar}
 
--- a table's kind, and its words behind it
+-- a table's kind, and its words after it
 abbrev pub kind_of : JobTable BabyBear → ℕ
 kind_of (swap_of k a b) = 1
 kind_of (wheel_of k) = 2
@@ -15,26 +15,26 @@ kind_of (take_of words) = 3
 kind_of (give_of pairs) = 4
 kind_of (hash_of rows) = 5
 
-abbrev pub body_words : JobTable BabyBear → List ℕ
-body_words (swap_of k a b) = k ∷ a.value ∷ b.value ∷ []
-body_words (wheel_of k) = k ∷ []
-body_words (take_of words) = list_words element_words words
-body_words (give_of pairs) = list_words given_words pairs
-body_words (hash_of rows) = list_words row_words rows
+abbrev pub body_numbers : JobTable BabyBear → List ℕ
+body_numbers (swap_of k a b) = k ∷ a.value ∷ b.value ∷ []
+body_numbers (wheel_of k) = k ∷ []
+body_numbers (take_of words) = list_numbers element_numbers words
+body_numbers (give_of pairs) = list_numbers given_numbers pairs
+body_numbers (hash_of rows) = list_numbers row_numbers rows
 
 -- a table of this kind, within its limits
 abbrev pub KindWithin : ℕ → JobTable BabyBear → Type 0
-KindWithin kind t = (kind_of t ≡ kind) × IsWithin t
+KindWithin kind t = (kind_of t ≡ kind) × IsJobTableWithin t
 
 -- a swap table is seen as the logarithm of its rows and its first row
 abbrev pub SwapWithin : ℕ × (BabyBear × BabyBear) → Type 0
 SwapWithin = ThenWithin (Between 0 10) TwoWithin
 
-abbrev pub swap_words : ℕ × (BabyBear × BabyBear) → List ℕ
-swap_words = pair_words number_words two_words
+abbrev pub swap_numbers : ℕ × (BabyBear × BabyBear) → List ℕ
+swap_numbers = pair_numbers one_number two_numbers
 
-unfoldable pub same-swap : SameTexts SwapWithin swap_words (KindWithin 1) body_words
-same-swap = record { to = to; to_fits = λ p h. (refl, h.0.1); to_words = λ p h. refl; whole = whole }
+unfoldable pub same-swap : SameTexts SwapWithin swap_numbers (KindWithin 1) body_numbers
+same-swap = record { to = to; to_fits = λ p h. (refl, h.0.1); to_numbers = λ p h. refl; whole = whole }
   where
     to : ℕ × (BabyBear × BabyBear) → JobTable BabyBear
     to p = swap_of p.0 p.1.0 p.1.1
@@ -46,15 +46,15 @@ same-swap = record { to = to; to_fits = λ p h. (refl, h.0.1); to_words = λ p h
     whole (give_of pairs) h = absurd (let e = h.0 in omega (arith, e))
     whole (hash_of rows) h = absurd (let e = h.0 in omega (arith, e))
 
-pub log_rows-grammar : Grammar (Between 0 10) number_words
+pub log_rows-grammar : Grammar (Between 0 10) one_number
 log_rows-grammar = number-grammar 0 10 (omega arith) (omega arith)
 
-pub swap-grammar : Grammar (KindWithin 1) body_words
+pub swap-grammar : Grammar (KindWithin 1) body_numbers
 swap-grammar = same-grammar same-swap (then-grammar log_rows-grammar two-grammar)
 
 -- a wheel is seen as the logarithm of its rows
-unfoldable pub same-wheel : SameTexts (Between 1 10) number_words (KindWithin 2) body_words
-same-wheel = record { to = wheel_of; to_fits = λ k h. (refl, h); to_words = λ k h. refl; whole = whole }
+unfoldable pub same-wheel : SameTexts (Between 1 10) one_number (KindWithin 2) body_numbers
+same-wheel = record { to = wheel_of; to_fits = λ k h. (refl, h); to_numbers = λ k h. refl; whole = whole }
   where
     whole : (t : JobTable BabyBear) → KindWithin 2 t → (k : ℕ) × Between 1 10 k × (wheel_of k ≡ t)
     whole (swap_of k a b) h = absurd (let e = h.0 in omega (arith, e))
@@ -63,12 +63,12 @@ same-wheel = record { to = wheel_of; to_fits = λ k h. (refl, h); to_words = λ 
     whole (give_of pairs) h = absurd (let e = h.0 in omega (arith, e))
     whole (hash_of rows) h = absurd (let e = h.0 in omega (arith, e))
 
-pub wheel-grammar : Grammar (KindWithin 2) body_words
+pub wheel-grammar : Grammar (KindWithin 2) body_numbers
 wheel-grammar = same-grammar same-wheel (number-grammar 1 10 (omega arith) (omega arith))
 
 -- a table that takes words is seen as these
-unfoldable pub same-take : SameTexts (PowersWithin 1024 Unlimited) (list_words element_words) (KindWithin 3) body_words
-same-take = record { to = take_of; to_fits = λ words h. (refl, h.0); to_words = λ words h. refl; whole = whole }
+unfoldable pub same-take : SameTexts (PowersWithin 1024 Unlimited) (list_numbers element_numbers) (KindWithin 3) body_numbers
+same-take = record { to = take_of; to_fits = λ words h. (refl, h.0); to_numbers = λ words h. refl; whole = whole }
   where
     whole : (t : JobTable BabyBear) → KindWithin 3 t → (words : List BabyBear) × PowersWithin 1024 Unlimited words × (take_of words ≡ t)
     whole (swap_of k a b) h = absurd (let e = h.0 in omega (arith, e))
@@ -77,25 +77,25 @@ same-take = record { to = take_of; to_fits = λ words h. (refl, h.0); to_words =
     whole (give_of pairs) h = absurd (let e = h.0 in omega (arith, e))
     whole (hash_of rows) h = absurd (let e = h.0 in omega (arith, e))
 
-pub take-grammar : Grammar (KindWithin 3) body_words
+pub take-grammar : Grammar (KindWithin 3) body_numbers
 take-grammar = same-grammar same-take (powers-grammar 1024 (omega arith) (omega arith) element-grammar)
 
 -- a word, and how often it is given
 abbrev pub GivenWithin : BabyBear × ℕ → Type 0
 GivenWithin p = p.1 ≤ 1024
 
-unfoldable pub same-given : SameTexts (ThenWithin Unlimited (Between 0 1024)) (pair_words element_words number_words) GivenWithin given_words
-same-given = record { to = λ p. p; to_fits = λ p h. h.1.1; to_words = λ p h. refl; whole = λ p h. (p, (tt, (omega arith, h)), refl) }
+unfoldable pub same-given : SameTexts (ThenWithin Unlimited (Between 0 1024)) (pair_numbers element_numbers one_number) GivenWithin given_numbers
+same-given = record { to = λ p. p; to_fits = λ p h. h.1.1; to_numbers = λ p h. refl; whole = λ p h. (p, (tt, (omega arith, h)), refl) }
 
-pub times-grammar : Grammar (Between 0 1024) number_words
+pub times-grammar : Grammar (Between 0 1024) one_number
 times-grammar = number-grammar 0 1024 (omega arith) (omega arith)
 
-pub given-grammar : Grammar GivenWithin given_words
+pub given-grammar : Grammar GivenWithin given_numbers
 given-grammar = same-grammar same-given (then-grammar element-grammar times-grammar)
 
 -- a table that gives words is seen as these with their counts
-unfoldable pub same-give : SameTexts (PowersWithin 1024 GivenWithin) (list_words given_words) (KindWithin 4) body_words
-same-give = record { to = give_of; to_fits = λ pairs h. (refl, (h.0.0, h.0.1, h.1)); to_words = λ pairs h. refl; whole = whole }
+unfoldable pub same-give : SameTexts (PowersWithin 1024 GivenWithin) (list_numbers given_numbers) (KindWithin 4) body_numbers
+same-give = record { to = give_of; to_fits = λ pairs h. (refl, (h.0.0, h.0.1, h.1)); to_numbers = λ pairs h. refl; whole = whole }
   where
     whole : (t : JobTable BabyBear) → KindWithin 4 t → (pairs : List (BabyBear × ℕ)) × PowersWithin 1024 GivenWithin pairs × (give_of pairs ≡ t)
     whole (swap_of k a b) h = absurd (let e = h.0 in omega (arith, e))
@@ -104,11 +104,11 @@ same-give = record { to = give_of; to_fits = λ pairs h. (refl, (h.0.0, h.0.1, h
     whole (give_of pairs) h = (pairs, ((h.1.0, h.1.1), h.1.2), refl)
     whole (hash_of rows) h = absurd (let e = h.0 in omega (arith, e))
 
-pub give-grammar : Grammar (KindWithin 4) body_words
+pub give-grammar : Grammar (KindWithin 4) body_numbers
 give-grammar = same-grammar same-give (powers-grammar 1024 (omega arith) (omega arith) given-grammar)
 
 -- a row's numbers are its words
-pub numbers-own : (xs : List ℕ) → row_words xs ≡ items_words number_words xs
+pub numbers-own : (xs : List ℕ) → row_numbers xs ≡ items_numbers one_number xs
 numbers-own [] = refl
 numbers-own (x ∷ xs) = λ i. x ∷ numbers-own xs i
 
@@ -116,23 +116,23 @@ numbers-own (x ∷ xs) = λ i. x ∷ numbers-own xs i
 abbrev pub WordsWithin : List ℕ → Type 0
 WordsWithin = ItemsWithin 24 (Between 0 4294967295)
 
-unfoldable pub same-row : SameTexts WordsWithin (items_words number_words) IsHashRow row_words
+unfoldable pub same-row : SameTexts WordsWithin (items_numbers one_number) IsHashRow row_numbers
 same-row = record {
   to = λ row. row;
   to_fits = λ row h. (h.0, λ i d l. let w = (h.1 i d l).1 in omega (arith, w));
-  to_words = λ row h. numbers-own row;
+  to_numbers = λ row h. numbers-own row;
   whole = λ row h. (row, (h.0, λ i d l. let w = h.1 i d l in (omega arith, omega (arith, w))), refl);
 }
 
-pub word-grammar : Grammar (Between 0 4294967295) number_words
+pub word-grammar : Grammar (Between 0 4294967295) one_number
 word-grammar = number-grammar 0 4294967295 (omega arith) (omega arith)
 
-pub row-grammar : Grammar IsHashRow row_words
+pub row-grammar : Grammar IsHashRow row_numbers
 row-grammar = same-grammar same-row (items-grammar 24 word-grammar)
 
 -- a table of compressions is seen as its rows
-unfoldable pub same-hash : SameTexts (PowersWithin 8 IsHashRow) (list_words row_words) (KindWithin 5) body_words
-same-hash = record { to = hash_of; to_fits = λ rows h. (refl, (h.0.0, h.0.1, h.1)); to_words = λ rows h. refl; whole = whole }
+unfoldable pub same-hash : SameTexts (PowersWithin 8 IsHashRow) (list_numbers row_numbers) (KindWithin 5) body_numbers
+same-hash = record { to = hash_of; to_fits = λ rows h. (refl, (h.0.0, h.0.1, h.1)); to_numbers = λ rows h. refl; whole = whole }
   where
     whole : (t : JobTable BabyBear) → KindWithin 5 t → (rows : List (List ℕ)) × PowersWithin 8 IsHashRow rows × (hash_of rows ≡ t)
     whole (swap_of k a b) h = absurd (let e = h.0 in omega (arith, e))
@@ -141,11 +141,11 @@ same-hash = record { to = hash_of; to_fits = λ rows h. (refl, (h.0.0, h.0.1, h.
     whole (give_of pairs) h = absurd (let e = h.0 in omega (arith, e))
     whole (hash_of rows) h = (rows, ((h.1.0, h.1.1), h.1.2), refl)
 
-pub hash-grammar : Grammar (KindWithin 5) body_words
+pub hash-grammar : Grammar (KindWithin 5) body_numbers
 hash-grammar = same-grammar same-hash (powers-grammar 8 (omega arith) (omega arith) row-grammar)
 
 -- the same of each kind
-pub kind-grammar : (kind : ℕ) → Between 1 5 kind → Grammar (KindWithin kind) body_words
+pub kind-grammar : (kind : ℕ) → Between 1 5 kind → Grammar (KindWithin kind) body_numbers
 kind-grammar zero h = absurd (let l = h.0 in omega (arith, l))
 kind-grammar (suc zero) h = swap-grammar
 kind-grammar (suc (suc zero)) h = wheel-grammar

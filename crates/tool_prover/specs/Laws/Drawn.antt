@@ -11,7 +11,7 @@ use Rattle.tool_jobs.specs.Laws.Statements.{statements-heights}
 use Rattle.tool_jobs.specs.Stated.{statement_of}
 use Rattle.tool_statement.specs.Config.{tool_setting}
 use Rattle.tool_statement.specs.StatedTables.{log_heights_of}
-use Rattle.tool_validity.specs.Job.{JobTable, log_height_of}
+use Rattle.tool_validity.specs.Job.{JobTable, job_log_height_of}
 use Rattle.tool_prover.specs.JobAnswer.{DrawsOutside, drawn_point}
 use Rattle.tool_prover.specs.JobBatch.{job_batch}
 use Rattle.tool_prover.specs.Outside.{AvoidsRows}
@@ -25,11 +25,11 @@ module _ (job : List (JobTable BabyBear)) where
   rows_there : (i : ℕ) → log_rows tool_setting (table_at (job_batch job) i) ≡ get_or heights i 0
   rows_there i =
       let none : masks tool_setting ≡ 0 = ap (λ z. cond z 1 0) tool_serves.plain in
-      let stated : get_or heights i 0 ≡ get_or (map log_height_of job) i 0 = ap (λ hs. get_or hs i 0) (statements-heights job) in
+      let stated : get_or heights i 0 ≡ get_or (map job_log_height_of job) i 0 = ap (λ hs. get_or hs i 0) (statements-heights job) in
       omega (arith, none, stated)
 
   long : length heights ≡ length job
-  long = ap length (statements-heights job) ∙ length-map job (log_height_of {F = BabyBear})
+  long = ap length (statements-heights job) ∙ length-map job (job_log_height_of {F = BabyBear})
 
   pub outside_is : (q : ToolProofData) → DrawsOutside job q ↔ All (AvoidsRows (drawn_point job q)) heights
   outside_is q = (

@@ -6,16 +6,16 @@ use Rattle.std.proofs.lemmas.Option.{slice_get-map, slice_get_within}
 use Rattle.p3_field.specs.Domain.{CosetData}
 use Rattle.p3_field.specs.Checks.{IsFirstWithout}
 use Rattle.p3_field.specs.Field.{FieldLaws, TwoAdicLaws}
-use Rattle.p3_field.specs.Laws.SubgroupSelectors.{map_table, subgroup}
+use Rattle.p3_field.specs.Laws.SubgroupSelectors.{map_tabulate, subgroup}
 use Rattle.p3_field.specs.Ring.{RingLaws}
 use Rattle.p3_matrix.specs.Matrix.{Rows}
-use Rattle.p3_air.specs.Laws.Lists.{all_table}
+use Rattle.p3_air.specs.Laws.Lists.{all_tabulate}
 use Rattle.p3_commit.specs.Claims.{Request}
-use Rattle.p3_commit.specs.Commitments.{Held}
-use Rattle.p3_lookup.specs.Bound.{AreBounded}
+use Rattle.p3_commit.specs.Commitments.{OpenedCommitment}
+use Rattle.p3_lookup.specs.Bound.{HaveLoadsBelow}
 use Rattle.plain_pcs.specs.Extension.{IsCommittable}
 use Rattle.plain_pcs.specs.Laws.Extensions.{extended_height}
-use Rattle.plain_pcs.specs.Laws.Held.{holding_count}
+use Rattle.plain_pcs.specs.Laws.OpenedCommitments.{holding_count}
 use Rattle.plain_pcs.specs.Laws.Listed.{item_at, item_has, lacking}
 use Rattle.plain_pcs.specs.Refusals.{CommitFault, ExtensionsFault, HasSubgroupHeight, OpenFault}
 use Rattle.plain_pcs.specs.Scheme.{PlainCommitmentData, Scheme}
@@ -78,8 +78,8 @@ module _ {S F E : Type 0} (s : Scheme F) (rings : RingLaws s.field.ring) (fields
   -- the matrices of a batch
   pub mains_sized : All (IsSized most widest) (main_matrices b)
   mains_sized =
-      subst (All (IsSized most widest)) (sym (map_table (λ (t : TracedTable F). (subgroup b.setting.field.ring t.degree_bits, t.trace)) (table_count b) (table_at b)))
-      (all_table (IsSized most widest) (table_count b) (λ i. (subgroup b.setting.field.ring (table_at b i).degree_bits, (table_at b i).trace))
+      subst (All (IsSized most widest)) (sym (map_tabulate (λ (t : TracedTable F). (subgroup b.setting.field.ring t.degree_bits, t.trace)) (table_count b) (table_at b)))
+      (all_tabulate (IsSized most widest) (table_count b) (λ i. (subgroup b.setting.field.ring (table_at b i).degree_bits, (table_at b i).trace))
       (λ i l. main_sized b.setting b.prover (table_at b i) [] L (traced i l) plain most widest (low i l) (narrow i l)))
 
   pub all_permutations_sized : (w : Option F) → All (IsSized most widest) (all_permutations b w)
@@ -100,7 +100,7 @@ module _ {S F E : Type 0} (s : Scheme F) (rings : RingLaws s.field.ring) (fields
       → length r.points ≡ length r.prover_data
   asked_fits w z requests A j r at =
       let rounds = honest_rounds b.setting b.prover b.statement b.traces b.degree_bits w z in
-      let hold : Round F E (PlainCommitmentData F) → Held (PlainCommitmentData F) F = λ x. record { commitment = x.commitment; matrices = committed_of x.matrices } in
+      let hold : Round F E (PlainCommitmentData F) → OpenedCommitment (PlainCommitmentData F) F = λ x. record { commitment = x.commitment; matrices = committed_of x.matrices } in
       let within : j < length rounds = let l = slice_get_within requests j r at in omega (arith, l, A.ask.count) in
       let (round, there) = item_at rounds j within in
       let held_there : slice_get (map hold rounds) j ≡ Some (hold round) = slice_get-map hold rounds j ∙ ap (option_map hold) there in
@@ -122,5 +122,5 @@ module _ {S F E : Type 0} (s : Scheme F) (rings : RingLaws s.field.ring) (fields
   phase_granted Opening e f = opens f.0 f.1 f.3.0 e f.3.1 f.3.2
 
   -- and where no bus is loaded too much, none is said to be
-  pub none_overloaded : AreBounded b.setting.order b.statement.common.lookups (heights_of (masks b.setting) b.degree_bits (table_count b)) → (bus : ℕ) → IsOverloaded k b bus → ⊥
+  pub none_overloaded : HaveLoadsBelow b.setting.order b.statement.common.lookups (heights_of (masks b.setting) b.degree_bits (table_count b)) → (bus : ℕ) → IsOverloaded k b bus → ⊥
   none_overloaded bounded bus O = let less = bounded O.number O.within in let more = O.reaches in omega (arith, less, more)

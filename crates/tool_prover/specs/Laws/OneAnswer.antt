@@ -1,11 +1,11 @@
 -- A job has one answer.
 use Rattle.std.proofs.Common.{◌≡◌, ◌⊎◌, ℕ, inl, inr, List, [], ◌∷◌, codes, refl, sym, ◌∙◌, ap, subst, arith}
 use Rattle.std.proofs.lemmas.Bool.{cases_lt}
-use Rattle.p3_field.specs.BabyBear.{bear_ring}
-use Rattle.p3_field.specs.Laws.BearField.{bear_of_canonical}
+use Rattle.p3_field.specs.BabyBear.{baby_bear_ring}
+use Rattle.p3_field.specs.Laws.BabyBearField.{baby_bear_of_canonical}
 use Rattle.p3_field.specs.declared.baby_bear.BabyBear.{BabyBear}
 use Rattle.line_format.specs.Texts.{line_text}
-use Rattle.proof_files.specs.Files.{file_words}
+use Rattle.proof_files.specs.Files.{file_numbers}
 use Rattle.proof_text.specs.ProofText.{ToolProofData}
 use Rattle.honest_proofs.specs.HonestProof.{AreCanonical, IsDenominatorZero, LacksLookupGround, LacksOodGround}
 use Rattle.honest_proofs.specs.Laws.Events.{lookup_alone, one_place, zero_alone}
@@ -17,24 +17,24 @@ use Rattle.tool_verifier.specs.FileAnswer.{SameAnswer}
 use Rattle.tool_verifier.specs.Refusals.{refused_text}
 use Rattle.tool_verifier.specs.declared.status.Status.{Status}
 use Rattle.tool_verifier.specs.declared.status.Status.TheVariants.{Done, Refused, Usage, BadInput, ReadFault, WriteFault, TooLarge, OutOfMemory}
-use Rattle.tool_prover.specs.JobAnswer.{DrawsOutside, IsInsideText, IsJobAnswer, IsJobProof, IsProvedText, IsRefusedText, IsUnbalancedText, IsZeroText, LacksLookupText, LacksOodText, file_of}
+use Rattle.tool_prover.specs.JobAnswer.{DrawsOutside, IsInsideText, IsJobAnswer, IsJobProof, IsHonestProofFile, IsRefusedText, IsUnbalancedText, IsZeroText, LacksLookupText, LacksOodText, file_of}
 use Rattle.tool_prover.specs.JobBatch.{job_batch, tool_prover}
 
 -- the numbers of the field's values
-bear_canonical : AreCanonical bear_ring 2013265921 (λ (x : BabyBear). x.value)
-bear_canonical = record { ones = bear_of_canonical; below = λ x. x.in_range }
+baby_bear_canonical : AreCanonical baby_bear_ring 2013265921 (λ (x : BabyBear). x.value)
+baby_bear_canonical = record { ones = baby_bear_of_canonical; below = λ x. x.in_range }
 
 module _ (job : List (JobTable BabyBear)) where
   numbers : let b = job_batch job in AreCanonical b.setting.field.ring b.setting.order b.prover.canonical
   unfolding tool_setting tool_prover
-  numbers = bear_canonical
+  numbers = baby_bear_canonical
 
   -- the honest proof is one
   one_proof : (q r : ToolProofData) → IsJobProof job q → IsJobProof job r → q ≡ r
   one_proof q r A B = let b = job_batch job in one_built b.setting b.prover b.statement b.traces b.degree_bits numbers q r A B refl
 
-  proved_once : (x y : List ℕ) → IsProvedText job x → IsProvedText job y → x ≡ y
-  proved_once x y P Q = P.text_is ∙ (ap (λ (q : ToolProofData). line_text (file_words (file_of job q))) (one_proof P.proof Q.proof P.honest Q.honest) ∙ sym Q.text_is)
+  proved_once : (x y : List ℕ) → IsHonestProofFile job x → IsHonestProofFile job y → x ≡ y
+  proved_once x y P Q = P.text_is ∙ (ap (λ (q : ToolProofData). line_text (file_numbers (file_of job q))) (one_proof P.proof Q.proof P.honest Q.honest) ∙ sym Q.text_is)
 
   -- the least unbalanced value is one
   first_once : (v w : BabyBear) → IsFirstUnbalanced job v → IsFirstUnbalanced job w → v.value ≡ w.value
@@ -118,13 +118,13 @@ module _ (job : List (JobTable BabyBear)) where
   refused_once x y (inr a) (inr b) = event_once x y a.1 b.1
 
   -- and there is none beside a text that is proved
-  event_or_proof : (x y : List ℕ) → IsEventText x → IsProvedText job y → ⊥
+  event_or_proof : (x y : List ℕ) → IsEventText x → IsHonestProofFile job y → ⊥
   event_or_proof x y (inl a) P = lookup_or_proof P.proof a.0 P.honest
   event_or_proof x y (inr (inl z)) P = zero_or_proof P.proof z.0 z.1 z.2 P.honest
   event_or_proof x y (inr (inr (inl o))) P = ood_or_proof P.proof o.0 P.honest
   event_or_proof x y (inr (inr (inr p))) P = p.0.2 (subst (DrawsOutside job) (one_proof P.proof p.0.0 P.honest p.0.1) P.outside)
 
-  refused_or_proof : (x y : List ℕ) → IsRefusedText job x → IsProvedText job y → ⊥
+  refused_or_proof : (x y : List ℕ) → IsRefusedText job x → IsHonestProofFile job y → ⊥
   refused_or_proof x y (inl a) P = not_both x a P.balanced
   refused_or_proof x y (inr a) P = event_or_proof x y a.1 P
 

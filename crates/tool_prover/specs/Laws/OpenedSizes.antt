@@ -2,14 +2,14 @@
 use Rattle.std.proofs.Common.{◌≡◌, ℕ, zero, suc, ◌+◌, ◌*◌, ◌^◌, ◌≤◌, List, [], ◌∷◌, length, map, Option, None, Some, ap, arith}
 use Rattle.std.specs.Prelude.{option_map}
 use Rattle.std.proofs.lemmas.List.{length-map}
-use Rattle.p3_field.specs.Laws.Tables.{length-table}
-use Rattle.p3_field.specs.Poly.{table, val_in}
+use Rattle.p3_field.specs.Laws.Tabulate.{length-tabulate}
+use Rattle.p3_field.specs.Poly.{tabulate, eval_poly_in}
 use Rattle.p3_field.specs.declared.quartic.QuarticExtension.{QuarticExtension}
 use Rattle.p3_matrix.specs.Matrix.{Rows}
 use Rattle.p3_air.specs.Shape.{width_of}
 use Rattle.line_format.specs.Texts.{ListWithin, OptionWithin}
 use Rattle.proof_text.specs.Openings.{InstanceWithin, PreprocessedWithin, ValuesWithin}
-use Rattle.plain_pcs.specs.Laws.Held.{power_within}
+use Rattle.plain_pcs.specs.Laws.OpenedCommitments.{power_within}
 use Rattle.batch_setting.specs.Domains.{next_by}
 use Rattle.batch_setting.specs.Setting.{Setting, masks}
 use Rattle.batch_shape_checks.specs.ShapeChecks.{permutation_width}
@@ -19,7 +19,7 @@ use Rattle.committed_tables.specs.Committed.{CommittedTable, columns_at, trace_d
 use Rattle.committed_tables.specs.Fields.{FieldsLaws}
 use Rattle.committed_tables.specs.Quotient.{honest_chunk}
 use Rattle.committed_tables.specs.Rows.{InterpolateSome}
-use Rattle.committed_tables.specs.Laws.Degrees.{all_images, all_table}
+use Rattle.committed_tables.specs.Laws.Degrees.{all_images, all_tabulate}
 use Rattle.honest_proofs.specs.HonestProof.{Prover, committed_table, opened_of, where_some}
 use Rattle.honest_acceptance.specs.Laws.Lengths.{honest_commits, permutation_count}
 
@@ -66,19 +66,19 @@ module _ {S F C : Type 0} (c : Setting S F QuarticExtension C) (p : Prover F Qua
     after = next_by c.extension.ring c.extension.embed c.field.root (masks c) zeta t.degree_bits
 
     few_values : (polys : List (List F)) (x : QuarticExtension) → length polys ≤ 9168 → length (columns_at c.field c.extension k polys x) ≤ 65536
-    few_values polys x h = let n = at_columns (λ (g : List F). val_in c.extension g x) polys 9168 h in omega (arith, n)
+    few_values polys x h = let n = at_columns (λ (g : List F). eval_poly_in c.extension g x) polys 9168 h in omega (arith, n)
 
     chunks_within : ListWithin 0 1024 ValuesWithin (opened_of c p t challenges alpha zeta).base.quotient_chunks
     unfolding opened_of honest_chunk
     chunks_within =
         let u = honest_chunk c.field c.extension k (quotient_shift c) (log_parts c t) (constraints c t) alpha in
-        let values = λ (gs : List (List F)). map (λ (g : List F). val_in c.extension g zeta) gs in
+        let values = λ (gs : List (List F)). map (λ (g : List F). eval_poly_in c.extension g zeta) gs in
         let two : 2 ^ log_parts c t ≤ 2 ^ 1 = power_within (log_parts c t) 1 parts in
-        let long = length-table (2 ^ log_parts c t) u in
-        let many = length-map (table (2 ^ log_parts c t) u) values in (
+        let long = length-tabulate (2 ^ log_parts c t) u in
+        let many = length-map (tabulate (2 ^ log_parts c t) u) values in (
           (omega arith, omega (arith, two, long, many)),
-          all_images (λ (gs : List (List F)). length gs ≤ 8) ValuesWithin values (λ gs h. values_within (values gs) (few_values gs zeta (omega (arith, h)))) (table (2 ^ log_parts c t) u)
-              (all_table (λ (gs : List (List F)). length gs ≤ 8) (2 ^ log_parts c t) u (λ j. (let n : length (u j) ≡ c.extension.dimension = length-table c.extension.dimension _ in omega (arith, n, dimension)))),
+          all_images (λ (gs : List (List F)). length gs ≤ 8) ValuesWithin values (λ gs h. values_within (values gs) (few_values gs zeta (omega (arith, h)))) (tabulate (2 ^ log_parts c t) u)
+              (all_tabulate (λ (gs : List (List F)). length gs ≤ 8) (2 ^ log_parts c t) u (λ j. (let n : length (u j) ≡ c.extension.dimension = length-tabulate c.extension.dimension _ in omega (arith, n, dimension)))),
         )
 
     pub opened_within : InstanceWithin (opened_of c p t challenges alpha zeta)

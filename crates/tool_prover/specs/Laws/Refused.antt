@@ -2,7 +2,7 @@
 use Rattle.std.proofs.Common.{◌≤◌, List, length, arith}
 use Rattle.std.specs.Prelude.{All}
 use Rattle.p3_field.specs.declared.baby_bear.BabyBear.{BabyBear}
-use Rattle.p3_lookup.specs.Bound.{AreBounded}
+use Rattle.p3_lookup.specs.Bound.{HaveLoadsBelow}
 use Rattle.plain_pcs.specs.declared.error.PlainProverError.{PlainProverError}
 use Rattle.batch_setting.specs.Setting.{masks}
 use Rattle.batch_shape_checks.specs.ShapeChecks.{heights_of}
@@ -13,15 +13,15 @@ use Rattle.batch_proving.specs.Telling.{Tells}
 use Rattle.batch_proving.specs.declared.error.ProvingError.{ProvingError}
 use Rattle.batch_proving.specs.declared.error.ProvingError.TheVariants.{LookupDenominatorZero, MultiplicityBound, OutOfMemory, Pcs, WitnessNotFound}
 use Rattle.tool_statement.specs.Config.{tool_scheme, tool_setting}
-use Rattle.tool_validity.specs.Job.{IsWithin, JobTable}
+use Rattle.tool_validity.specs.Job.{IsJobTableWithin, JobTable}
 use Rattle.tool_prover.specs.JobAnswer.{IsTold}
 use Rattle.tool_prover.specs.JobBatch.{job_batch}
 use Rattle.tool_prover.specs.Laws.Granted.{none_overloaded, phase_granted}
 use Rattle.tool_prover.specs.Laws.JobTables.{tables_traced, tool_serves}
 use Rattle.tool_prover.specs.Laws.Within.{few_flat, fields, four, low, narrow, unmasked}
 
-module _ (job : List (JobTable BabyBear)) (many : length job ≤ 8) (within : All IsWithin job)
-    (bounded : let b = job_batch job in AreBounded b.setting.order b.statement.common.lookups (heights_of (masks b.setting) b.degree_bits (table_count b))) where
+module _ (job : List (JobTable BabyBear)) (many : length job ≤ 8) (within : All IsJobTableWithin job)
+    (bounded : let b = job_batch job in HaveLoadsBelow b.setting.order b.statement.common.lookups (heights_of (masks b.setting) b.degree_bits (table_count b))) where
   -- what a refusal of the job's batch tells
   pub told : (e : ProvingError PlainProverError) → Tells (plain_prover_backend tool_scheme) (job_batch job) e → IsTold job e
   unfolding tool_setting

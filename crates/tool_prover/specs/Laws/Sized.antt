@@ -5,14 +5,14 @@ use Rattle.std.specs.List.{flat_map}
 use Rattle.std.proofs.lemmas.List.Elements.{All-append, All-cons, All-nil}
 use Rattle.p3_field.specs.Domain.{CosetData}
 use Rattle.p3_field.specs.Laws.SubgroupSelectors.{subgroup}
-use Rattle.p3_field.specs.Laws.Tables.{length-table}
-use Rattle.p3_field.specs.Poly.{table}
+use Rattle.p3_field.specs.Laws.Tabulate.{length-tabulate}
+use Rattle.p3_field.specs.Poly.{tabulate}
 use Rattle.p3_matrix.specs.Matrix.{Rows, height}
 use Rattle.p3_matrix.specs.Laws.Flattened.{height-pieces}
 use Rattle.batch_setting.specs.Setting.{Setting, masks}
 use Rattle.committed_tables.specs.Fields.{FieldsLaws}
 use Rattle.committed_tables.specs.Rows.{flattened_matrix}
-use Rattle.committed_tables.specs.Laws.Degrees.{all_table}
+use Rattle.committed_tables.specs.Laws.Degrees.{all_tabulate}
 use Rattle.batch_validity.specs.Laws.Columns.{pieces_height}
 use Rattle.batch_validity.specs.Traced.{TracedTable, declared, log_parts, log_rows}
 use Rattle.batch_validity.specs.Valid.{IsTraced}
@@ -26,10 +26,10 @@ pub record IsSized {F : Type 0} (most widest : ℕ) (e : CosetData F × Rows F) 
   pub height_is : height e.1 ≡ 2 ^ e.0.log_size
   pub low : e.0.log_size ≤ most
 
--- what holds of each item of each list holds of the items of the lists behind one another
-pub all_flat : {Y : Type 0} (P : Y → Type 0) (g : ℕ → List Y) (n : ℕ) (q : ℕ → ℕ) → ((i : ℕ) → i < n → All P (g (q i))) → All P (flat_map g (table n q))
+-- what holds of each item of each list holds of the items of the lists one after another
+pub all_flat : {Y : Type 0} (P : Y → Type 0) (g : ℕ → List Y) (n : ℕ) (q : ℕ → ℕ) → ((i : ℕ) → i < n → All P (g (q i))) → All P (flat_map g (tabulate n q))
 all_flat P g zero q h = All-nil P
-all_flat P g (suc n) q h = All-append P (g (q zero)) (flat_map g (table n (λ i. q (suc i)))) (h zero (omega arith)) (all_flat P g n (λ i. q (suc i)) (λ i l. h (suc i) (omega (arith, l))))
+all_flat P g (suc n) q h = All-append P (g (q zero)) (flat_map g (tabulate n (λ i. q (suc i)))) (h zero (omega arith)) (all_flat P g n (λ i. q (suc i)) (λ i l. h (suc i) (omega (arith, l))))
 
 -- of an item that is there where a list isn't empty
 pub all_where : {A Y : Type 0} (P : Y → Type 0) (ls : List A) (y : Y) → (0 < length ls → P y) → All P (option_to_list (where_some ls y))
@@ -70,7 +70,7 @@ module _ {S F E C : Type 0} (c : Setting S F E C) (p : Prover F E C) (t : Traced
       record {
         has_columns = product_pos m.width c.extension.dimension (omega (arith, wide)) L.vector.positive;
         narrow = subst (λ w. w * c.extension.dimension ≤ widest) (sym wide) narrow;
-        height_is = height-pieces c.extension.parts c.extension.dimension L.vector.parts_length L.vector.positive m flat refl refl ∙ (tall (omega (arith, wide)) ∙ ap (λ k. 2 ^ k) rows_log);
+        height_is = height-pieces c.extension.coefficients c.extension.dimension L.vector.coefficients_length L.vector.positive m flat refl refl ∙ (tall (omega (arith, wide)) ∙ ap (λ k. 2 ^ k) rows_log);
         low = low;
       }
 
@@ -80,15 +80,15 @@ module _ {S F E C : Type 0} (c : Setting S F E C) (p : Prover F E C) (t : Traced
   -- the chunks of the quotient
   module _ (folding : E) (narrow : c.extension.dimension ≤ widest) where
     row_long : (n j : ℕ) → length (quotient_row c p t challenges folding (n + 2 ^ log_parts c t * j)) ≡ c.extension.dimension
-    row_long n j = L.vector.parts_length _
+    row_long n j = L.vector.coefficients_length _
 
     chunk_tall : (n : ℕ) → height (chunk_rows c p t challenges folding n) ≡ 2 ^ log_rows c t
     chunk_tall n =
-        pieces_height (λ j. quotient_row c p t challenges folding (n + 2 ^ log_parts c t * j)) c.extension.dimension (row_long n) L.vector.positive (table (2 ^ log_rows c t) (λ j. j))
-        ∙ length-table (2 ^ log_rows c t) (λ j. j)
+        pieces_height (λ j. quotient_row c p t challenges folding (n + 2 ^ log_parts c t * j)) c.extension.dimension (row_long n) L.vector.positive (tabulate (2 ^ log_rows c t) (λ j. j))
+        ∙ length-tabulate (2 ^ log_rows c t) (λ j. j)
 
     pub chunks_sized : All (IsSized most widest) (chunk_matrices c p t challenges folding)
     unfolding committed_table
     chunks_sized =
-        all_table (IsSized most widest) (2 ^ log_parts c t) _
+        all_tabulate (IsSized most widest) (2 ^ log_parts c t) _
         (λ n. record { has_columns = L.vector.positive; narrow = narrow; height_is = chunk_tall n; low = (let e = rows_log in let l = low in omega (arith, e, l)) })

@@ -6,12 +6,12 @@ use Rattle.std.proofs.lemmas.List.{get_or-map, length-append, length-map}
 use Rattle.std.proofs.lemmas.Nat.{pow_pos}
 use Rattle.p3_field.specs.Domain.{CosetData}
 use Rattle.p3_field.specs.Laws.SubgroupSelectors.{subgroup}
-use Rattle.p3_field.specs.Laws.Tables.{length-table}
-use Rattle.p3_field.specs.Poly.{table}
+use Rattle.p3_field.specs.Laws.Tabulate.{length-tabulate}
+use Rattle.p3_field.specs.Poly.{tabulate}
 use Rattle.p3_field.specs.declared.baby_bear.BabyBear.{BabyBear}
 use Rattle.p3_field.specs.declared.quartic.QuarticExtension.{QuarticExtension}
 use Rattle.p3_matrix.specs.Matrix.{Rows}
-use Rattle.p3_air.specs.Laws.Lists.{all_table}
+use Rattle.p3_air.specs.Laws.Lists.{all_tabulate}
 use Rattle.line_format.specs.Texts.{Between, ListWithin, OptionWithin, Unlimited}
 use Rattle.proof_text.specs.Matrices.{MatrixWithin}
 use Rattle.proof_text.specs.Openings.{InstanceWithin}
@@ -19,14 +19,14 @@ use Rattle.proof_text.specs.ProofText.{CommitmentWithin, ProofWithin, ToolProofD
 use Rattle.plain_pcs.specs.Extension.{IsCommittable, commitment_of, extended_domain, extension_of}
 use Rattle.plain_pcs.specs.Laws.Evaluations.{evaluations-fill}
 use Rattle.plain_pcs.specs.Laws.Extensions.{height-extension, length-polynomials, polynomials, width-extension}
-use Rattle.plain_pcs.specs.Laws.Held.{power_within}
+use Rattle.plain_pcs.specs.Laws.OpenedCommitments.{power_within}
 use Rattle.plain_pcs.specs.declared.commitment.PlainProof.{PlainProof}
 use Rattle.batch_validity.specs.Traced.{TracedTable, declared}
 use Rattle.committed_tables.specs.Fields.{FieldsLaws}
 use Rattle.committed_tables.specs.Laws.Degrees.{all_images}
-use Rattle.honest_proofs.specs.HonestProof.{IsBuilt, alpha, challenges_at, committed_where, honest_proof, opened_of, terminal_of, where_some, zeta}
+use Rattle.honest_proofs.specs.HonestProof.{IsBuilt, alpha, challenges_at, committed_where, honest_proof, opened_of, honest_terminal, where_some, zeta}
 use Rattle.tool_statement.specs.Config.{tool_scheme, tool_setting}
-use Rattle.tool_validity.specs.Job.{IsWithin, JobTable, take_of, log_height_of}
+use Rattle.tool_validity.specs.Job.{IsJobTableWithin, JobTable, take_of, job_log_height_of}
 use Rattle.tool_validity.specs.Laws.Tables.{small_height}
 use Rattle.batch_proving.specs.Batch.{all_chunks, all_permutations, chunks_of, log_parts_at, main_matrices, table_at, table_count}
 use Rattle.proof_files.specs.Files.{FileWithin}
@@ -73,12 +73,12 @@ some_within [] few all = tt
 some_within (e ∷ es) few all = commitment_within (e ∷ es) few all
 
 -- lists of at most two items, one for each table
-flat_few : {Y : Type 0} (g : ℕ → List Y) (n : ℕ) (q : ℕ → ℕ) → ((i : ℕ) → i < n → length (g (q i)) ≤ 2) → length (flat_map g (table n q)) ≤ 2 * n
+flat_few : {Y : Type 0} (g : ℕ → List Y) (n : ℕ) (q : ℕ → ℕ) → ((i : ℕ) → i < n → length (g (q i)) ≤ 2) → length (flat_map g (tabulate n q)) ≤ 2 * n
 flat_few g zero q h = omega arith
 flat_few g (suc n) q h =
     let first = h zero (omega arith) in
     let rest = flat_few g n (λ i. q (suc i)) (λ i l. h (suc i) (omega (arith, l))) in
-    omega (arith, first, rest, length-append (g (q zero)) (flat_map g (table n (λ i. q (suc i)))))
+    omega (arith, first, rest, length-append (g (q zero)) (flat_map g (tabulate n (λ i. q (suc i)))))
 
 where_few : {A Y : Type 0} (ls : List A) (y : Y) → length (option_to_list (where_some ls y)) ≤ 2
 where_few [] y = omega arith
@@ -96,7 +96,7 @@ four = omega arith
 pub unmasked : tool_setting.zk ≡ false
 unmasked = tool_serves.plain
 
-module _ (job : List (JobTable BabyBear)) (many : length job ≤ 8) (within : All IsWithin job) where
+module _ (job : List (JobTable BabyBear)) (many : length job ≤ 8) (within : All IsJobTableWithin job) where
   few_tables : table_count (job_batch job) ≤ 8
   few_tables = let n = as_many job in omega (arith, n, many)
 
@@ -104,13 +104,13 @@ module _ (job : List (JobTable BabyBear)) (many : length job ≤ 8) (within : Al
   unfolding tool_prover
   fields = tool_serves.fields
 
-  bits_within : ListWithin 0 1024 (Between 0 255) (map log_height_of job)
+  bits_within : ListWithin 0 1024 (Between 0 255) (map job_log_height_of job)
   bits_within =
-      let n = length-map job (log_height_of {F = BabyBear}) in (
+      let n = length-map job (job_log_height_of {F = BabyBear}) in (
         (omega arith, omega (arith, n, many)),
         λ i d l.
             let room : i < length job = omega (arith, l, n) in
-            let e = get_or-map (log_height_of {F = BabyBear}) job i (take_of []) d room in
+            let e = get_or-map (job_log_height_of {F = BabyBear}) job i (take_of []) d room in
             let low = small_height (get_or job i (take_of [])) (within i (take_of []) room) in
             (omega arith, omega (arith, e, low)),
       )
@@ -134,9 +134,9 @@ module _ (job : List (JobTable BabyBear)) (many : length job ≤ 8) (within : Al
   mains_few =
       let n = few_tables in
       let at : ℕ → TracedTable BabyBear = table_at (job_batch job) in
-      let long = length-table (table_count (job_batch job)) at in
+      let long = length-tabulate (table_count (job_batch job)) at in
       let on : TracedTable BabyBear → CosetData BabyBear × Rows BabyBear = λ t. (subgroup tool_setting.field.ring t.degree_bits, t.trace) in
-      let laid = length-map (table (table_count (job_batch job)) at) on in
+      let laid = length-map (tabulate (table_count (job_batch job)) at) on in
       omega (arith, n, long, laid)
 
   module _ (w : Option BabyBear) (z : BabyBear) where
@@ -174,7 +174,7 @@ module _ (job : List (JobTable BabyBear)) (many : length job ≤ 8) (within : Al
     few_chunks : (i : ℕ) → i < table_count (job_batch job) → length (chunks_of (job_batch job) w i) ≤ 2
     few_chunks i l =
         let two : 2 ^ log_parts_at (job_batch job) i ≤ 2 ^ 1 = power_within (log_parts_at (job_batch job) i) 1 (tables_sized job within i l).parts in
-        let n : length (chunks_of (job_batch job) w i) ≡ 2 ^ log_parts_at (job_batch job) i = length-table (2 ^ log_parts_at (job_batch job) i) _ in
+        let n : length (chunks_of (job_batch job) w i) ≡ 2 ^ log_parts_at (job_batch job) i = length-tabulate (2 ^ log_parts_at (job_batch job) i) _ in
         omega (arith, two, n)
 
     chunks_few : length (all_chunks (job_batch job) w) ≤ 16
@@ -185,8 +185,8 @@ module _ (job : List (JobTable BabyBear)) (many : length job ≤ 8) (within : Al
     built_within opening =
         let n = table_count (job_batch job) in
         let few = few_tables in
-        let long = length-table n (λ i. opened_of tool_setting (job_batch job).prover (table_at (job_batch job) i) (challenges i) folding drawn) in
-        let ended = length-table n (λ i. terminal_of tool_setting (job_batch job).prover (table_at (job_batch job) i) (challenges i)) in
+        let long = length-tabulate n (λ i. opened_of tool_setting (job_batch job).prover (table_at (job_batch job) i) (challenges i) folding drawn) in
+        let ended = length-tabulate n (λ i. honest_terminal tool_setting (job_batch job).prover (table_at (job_batch job) i) (challenges i)) in
         record {
           commitments = record {
             main = commitment_within (main_matrices (job_batch job)) mains_few mains;
@@ -194,7 +194,7 @@ module _ (job : List (JobTable BabyBear)) (many : length job ≤ 8) (within : Al
             quotient_chunks = commitment_within (all_chunks (job_batch job) w) chunks_few chunks;
             random = tt;
           };
-          instances = ((omega arith, omega (arith, few, long)), all_table InstanceWithin n _ instance_within);
+          instances = ((omega arith, omega (arith, few, long)), all_tabulate InstanceWithin n _ instance_within);
           lookup_terminals = ((omega arith, omega (arith, few, ended)), λ i d l. any_option _);
           degree_bits = bits_within;
         }

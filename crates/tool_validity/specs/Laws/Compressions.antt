@@ -6,26 +6,26 @@ use Rattle.std.proofs.lemmas.Bool.{cases_lt}
 use Rattle.std.proofs.lemmas.List.{get_or-append_right, get_or_append_left}
 use Rattle.std.proofs.lemmas.List.Elements.{All-append, All-map, All-nil}
 use Rattle.p3_field.specs.Field.{TwoAdic, Extension}
-use Rattle.p3_field.specs.Poly.{table}
+use Rattle.p3_field.specs.Poly.{tabulate}
 use Rattle.p3_field.specs.Ring.{Ring}
-use Rattle.p3_field.specs.Laws.Tables.{get_or-table, length-table}
+use Rattle.p3_field.specs.Laws.Tabulate.{get_or-tabulate, length-tabulate}
 use Rattle.p3_matrix.specs.Matrix.{row_at}
 use Rattle.p3_air.specs.declared.cells.Cell.{Cell}
 use Rattle.p3_air.specs.declared.cells.ExtCell.{ExtCell}
 use Rattle.p3_air.specs.CellValues.{CellValues, cell_in, ext_cell_in}
-use Rattle.p3_air.specs.Check.{Table as Traces, row_of}
+use Rattle.p3_air.specs.Check.{TableTraces as Traces, table_row}
 use Rattle.p3_air.specs.Degree.{full_degree, multiple}
 use Rattle.p3_air.specs.Maps.{AgreeOn, reading_over}
-use Rattle.p3_air.specs.RowCheck.{Row, cell_value, ext_cell_value, value_at}
+use Rattle.p3_air.specs.RowCheck.{Row, cell_value, ext_cell_value, tree_value_at_row}
 use Rattle.p3_air.specs.Shape.{ReadsIn}
-use Rattle.p3_air.specs.Tree.{Reading, Tree, cell, constant, difference, ext_cell, ev, product, sum}
+use Rattle.p3_air.specs.Tree.{Reading, Tree, cell, constant, difference, ext_cell, eval_tree, product, sum}
 use Rattle.p3_air.specs.Laws.Maps.{hom_keeps, value_along}
 use Rattle.p3_blake3.specs.Generated.{input_of}
 use Rattle.p3_blake3.specs.TraceRow.{AreWords}
 use Rattle.p3_blake3.specs.TraceRow.{trace_row as compression_row}
 use Rattle.p3_blake3.specs.Laws.Cells.{length-trace_row}
 use Rattle.p3_blake3_air.specs.Meanings.{RowMeans}
-use Rattle.p3_blake3_air.specs.Rows.{row_words}
+use Rattle.p3_blake3_air.specs.Rows.{compression_input}
 use Rattle.p3_blake3_air.specs.Trees.{blake3_trees}
 use Rattle.p3_blake3_air.specs.Laws.Degree.{degree_three}
 use Rattle.p3_blake3_air.specs.Laws.Generated.{generated_row}
@@ -33,12 +33,12 @@ use Rattle.p3_blake3_air.specs.Laws.Reads.{reads_all}
 use Rattle.batch_constraints.specs.BatchTrees.{table_trees}
 use Rattle.batch_constraints.specs.Fitting.{FitsChunks, cell_transitions, transition_factors}
 use Rattle.batch_constraints.specs.Sizing.{largest_multiple, log_ceil, log_chunks}
-use Rattle.batch_constraints.specs.Laws.Degrees.{greatest_below}
+use Rattle.p3_air.specs.Laws.Greatest.{greatest_below}
 use Rattle.batch_constraints.specs.Laws.Fits.{few_transitions_fit}
-use Rattle.committed_tables.specs.Committed.{CommittedTable, Holds, reading, row_point, values_at}
+use Rattle.committed_tables.specs.Committed.{CommittedTable, Holds, reading, row_point, committed_values_at}
 use Rattle.committed_tables.specs.Fields.{FieldsLaws}
-use Rattle.committed_tables.specs.Rows.{AreOfRow, CommitsTo, trace_row}
-use Rattle.committed_tables.specs.Traces.{HaveRows, committed_traces}
+use Rattle.committed_tables.specs.Rows.{AreOfRow, CommitsTo, row_of_traces}
+use Rattle.committed_tables.specs.Traces.{HaveTraceRows, committed_traces}
 use Rattle.committed_tables.specs.Laws.Rows.{reads_rows}
 use Rattle.committed_tables.specs.Laws.Traces.{traces_committed}
 use Rattle.batch_validity.specs.Traced.{no_rows, traces_of}
@@ -94,8 +94,8 @@ module _ {F : Type 0} (r : Ring F) where
       (All-map (λ m. m ≤ 3) (multiple 0) all_trees (of_all (λ tree. multiple 0 tree ≤ 3) (degree_three r 0))))
 
 -- the words of a row are words: those that are given, the number of the row, that of the rows, and none
-given_words : (inputs : List (List ℕ)) (i : ℕ) → All IsHashRow inputs → i < length inputs → (k : ℕ) → k < 24 → get_or (get_or inputs i []) k 0 < 2 ^ 32
-given_words inputs i words h k l =
+given_numbers : (inputs : List (List ℕ)) (i : ℕ) → All IsHashRow inputs → i < length inputs → (k : ℕ) → k < 24 → get_or (get_or inputs i []) k 0 < 2 ^ 32
+given_numbers inputs i words h k l =
     let row = words i [] h in
     let long = row.0 in
     row.1 k 0 (omega (arith, long, l))
@@ -107,16 +107,16 @@ last_words i n (suc (suc zero)) = omega arith
 last_words i n (suc (suc (suc zero))) = omega arith
 last_words i n (suc (suc (suc (suc k)))) = omega arith
 
-row_has_words : (inputs : List (List ℕ)) (i : ℕ) → All IsHashRow inputs → i < length inputs → AreWords (input_of (row_words inputs i))
+row_has_words : (inputs : List (List ℕ)) (i : ℕ) → All IsHashRow inputs → i < length inputs → AreWords (input_of (compression_input inputs i))
 row_has_words inputs i words h k l =
     let given : ℕ → ℕ = λ j. get_or (get_or inputs i []) j 0 in
-    let first : List ℕ = table 24 given in
+    let first : List ℕ = tabulate 24 given in
     let last : List ℕ = i % 2 ^ 32 ∷ i / 2 ^ 32 % 2 ^ 32 ∷ length inputs % 2 ^ 32 ∷ 0 ∷ [] in
-    let long : length first ≡ 24 = length-table 24 given in
+    let long : length first ≡ 24 = length-tabulate 24 given in
     elim (cases_lt k 24) [
       | inl below ↦
-          let e : get_or (first ++ last) k 0 ≡ given k = get_or_append_left first last 0 k (omega (arith, long, below)) ∙ get_or-table 24 given k 0 below in
-          let small = given_words inputs i words h k below in
+          let e : get_or (first ++ last) k 0 ≡ given k = get_or_append_left first last 0 k (omega (arith, long, below)) ∙ get_or-tabulate 24 given k 0 below in
+          let small = given_numbers inputs i words h k below in
           subst (λ w. w < 2 ^ 32) (sym e) small
       | inr above ↦
           let e : get_or (first ++ last) k 0 ≡ get_or last (k - 24) 0 = get_or-append_right first last 24 k 0 long above in
@@ -125,7 +125,7 @@ row_has_words inputs i words h k l =
 
 module _ {F E : Type 0} (f : TwoAdic F) (e : Extension F E) (top : ℕ) (inverse : E → E) (L : FieldsLaws f e top inverse) (means : RowMeans f.ring)
     (inputs : List (List ℕ)) (words : All IsHashRow inputs) (k : ℕ) (low : k ≤ top) (size : length inputs ≡ 2 ^ k)
-    (rows : HaveRows {E = E} (2 ^ k) (traces_of (traced_job f.ring (hash_of inputs))) no_rows) where
+    (rows : HaveTraceRows {E = E} (2 ^ k) (traces_of (traced_job f.ring (hash_of inputs))) no_rows) where
   abbrev traces : Traces F
   traces = traces_of (traced_job f.ring (hash_of inputs))
 
@@ -133,10 +133,10 @@ module _ {F E : Type 0} (f : TwoAdic F) (e : Extension F E) (top : ℕ) (inverse
   t = committed_traces f e traces no_rows [] [] k
 
   abbrev v : ℕ → CellValues E
-  v i = values_at f e t (row_point f e t i)
+  v i = committed_values_at f e t (row_point f e t i)
 
   abbrev here : ℕ → Row F F
-  here i = row_of f.ring.zero traces i
+  here i = table_row f.ring.zero traces i
 
   abbrev at : ℕ → Cell → F
   at i c = cell_value f.ring (here i) c
@@ -151,19 +151,19 @@ module _ {F E : Type 0} (f : TwoAdic F) (e : Extension F E) (top : ℕ) (inverse
   above i = reading_over e.ring e.embed (cell_in e.ring.zero (v i)) (ext_cell_in e.ring.zero (v i))
 
   -- row i of the trace is that of its compression
-  row_is : (i : ℕ) → i < 2 ^ k → row_at traces.main i ≡ compression_row f.ring (input_of (row_words inputs i))
+  row_is : (i : ℕ) → i < 2 ^ k → row_at traces.main i ≡ compression_row f.ring (input_of (compression_input inputs i))
   row_is i h = generated_row f.ring inputs i (omega (arith, h, size))
 
-  zero_here : (i : ℕ) → i < 2 ^ k → All (λ tree. value_at f.ring f.ring (λ x. x) (here i) tree ≡ f.ring.zero) (blake3_trees f.ring)
+  zero_here : (i : ℕ) → i < 2 ^ k → All (λ tree. tree_value_at_row f.ring f.ring (λ x. x) (here i) tree ≡ f.ring.zero) (blake3_trees f.ring)
   zero_here i h =
-      let x = input_of (row_words inputs i) in
+      let x = input_of (compression_input inputs i) in
       (means (here i) (ap length (row_is i h) ∙ length-trace_row f.ring x)).1 (x, row_has_words inputs i words (omega (arith, h, size)), row_is i h)
 
   -- a cell of the row goes into the larger field
   commits : CommitsTo f e t traces no_rows
   commits = traces_committed f e top inverse L k low traces no_rows [] [] rows
 
-  reads : (i : ℕ) → i < 2 ^ k → AreOfRow e (trace_row f.ring.zero traces no_rows [] [] i) (v i)
+  reads : (i : ℕ) → i < 2 ^ k → AreOfRow e (row_of_traces f.ring.zero traces no_rows [] [] i) (v i)
   reads i h = reads_rows f e top inverse L t low traces no_rows commits i h
 
   main_cell : (i column : ℕ) → i < 2 ^ k → e.embed (get_or (row_at traces.main i) column f.ring.zero) ≡ get_or (v i).main_local column e.ring.zero
@@ -176,7 +176,7 @@ module _ {F E : Type 0} (f : TwoAdic F) (e : Extension F E) (top : ℕ) (inverse
       reads_all f.ring (λ c. e.embed (at i c) ≡ cell_in e.ring.zero (v i) c) (λ c. e.embed (at_ext i c) ≡ ext_cell_in e.ring.zero (v i) c)
       (λ column lt. main_cell i column h)
 
-  value_above : (i : ℕ) (tree : Tree F) → AgreeOn (below i) (above i) e.embed tree → e.embed (value_at f.ring f.ring (λ x. x) (here i) tree) ≡ ev (reading f e t (row_point f e t i)) tree
+  value_above : (i : ℕ) (tree : Tree F) → AgreeOn (below i) (above i) e.embed tree → e.embed (tree_value_at_row f.ring f.ring (λ x. x) (here i) tree) ≡ eval_tree (reading f e t (row_point f e t i)) tree
   value_above i tree same =
       value_along (below i) (above i) e.embed
       (hom_keeps f.ring L.below e.ring L.above e.embed L.embeds (λ x. x) (at i) (cell_in e.ring.zero (v i)) (at_ext i) (ext_cell_in e.ring.zero (v i))) tree same

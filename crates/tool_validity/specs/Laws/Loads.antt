@@ -2,8 +2,8 @@
 use Rattle.std.proofs.Common.{◌≡◌, ℕ, zero, suc, ◌+◌, ◌*◌, ◌<◌, ◌≤◌, Bool, true, false, cond, List, [], ◌∷◌, ◌++◌, length, get_or, map, arith}
 use Rattle.std.specs.Prelude.{◌==◌}
 use Rattle.p3_field.specs.Ring.{Ring}
-use Rattle.p3_lookup.specs.Bound.{AreBounded, batch_loads, load_where}
-use Rattle.p3_lookup.specs.Bus.{batch_buses, bounds_of, bus_number}
+use Rattle.p3_lookup.specs.Bound.{HaveLoadsBelow, batch_loads, load_where}
+use Rattle.p3_lookup.specs.Bus.{batch_buses, sum_of_bounds, bus_number}
 use Rattle.p3_lookup.specs.Lookup.{LookupData}
 use Rattle.tool_validity.specs.Job.{JobTable, swap_of, wheel_of, take_of, give_of, hash_of}
 use Rattle.tool_validity.specs.Laws.Messages.{own_lookups}
@@ -28,7 +28,7 @@ load_below test n (x ∷ xs) = let p = some_load (test n) x in let q = load_belo
 
 module _ {F : Type 0} (r : Ring F) where
   -- the bounds of a table's lookups, times its height
-  own_load : (j : JobTable F) (h : ℕ) → h ≤ 1024 → total (map (λ (l : LookupData F). bounds_of l.counts * h) (own_lookups r j)) ≤ 1048576
+  own_load : (j : JobTable F) (h : ℕ) → h ≤ 1024 → total (map (λ (l : LookupData F). sum_of_bounds l.counts * h) (own_lookups r j)) ≤ 1048576
   own_load (swap_of k a b) h few = omega arith
   own_load (wheel_of k) h few = omega arith
   own_load (take_of words) h few = omega (arith, few)
@@ -41,11 +41,11 @@ module _ {F : Type 0} (r : Ring F) where
   loads_below (j ∷ job) (h ∷ hs) few =
       let first = own_load j h (few zero (omega arith)) in
       let rest = loads_below job hs (λ i l. few (suc i) (omega (arith, l))) in
-      let e = total_append (map (λ (l : LookupData F). bounds_of l.counts * h) (own_lookups r j)) (batch_loads (map (own_lookups r) job) hs) in
+      let e = total_append (map (λ (l : LookupData F). sum_of_bounds l.counts * h) (own_lookups r j)) (batch_loads (map (own_lookups r) job) hs) in
       omega (arith, first, rest, e)
 
   -- so eight tables of at most 1024 rows are bounded
-  pub job_bounded : (order : ℕ) (job : List (JobTable F)) (hs : List ℕ) → 8388608 < order → length job ≤ 8 → ((i : ℕ) → i < length hs → get_or hs i 0 ≤ 1024) → AreBounded order (map (own_lookups r) job) hs
+  pub job_bounded : (order : ℕ) (job : List (JobTable F)) (hs : List ℕ) → 8388608 < order → length job ≤ 8 → ((i : ℕ) → i < length hs → get_or hs i 0 ≤ 1024) → HaveLoadsBelow order (map (own_lookups r) job) hs
   job_bounded order job hs large few low b h =
       let one = load_below (λ n. bus_number (batch_buses (map (own_lookups r) job)) n == b) 0 (batch_loads (map (own_lookups r) job) hs) in
       let all = loads_below job hs low in

@@ -1,9 +1,9 @@
 -- What is made for a job's AIRs is what is stated of the job.
 use Rattle.std.proofs.Common.{◌≡◌, ℕ, List, [], ◌∷◌, length, get_or, map, refl, sym, ◌∙◌, ap}
 use Rattle.std.proofs.lemmas.List.{get_or-map, length-map}
-use Rattle.p3_field.specs.Poly.{table}
+use Rattle.p3_field.specs.Poly.{tabulate}
 use Rattle.p3_field.specs.Ring.{Ring}
-use Rattle.p3_field.specs.Laws.Tables.{table_of_items, table_same}
+use Rattle.p3_field.specs.Laws.Tabulate.{tabulate_items, tabulate_same}
 use Rattle.batch_setup.specs.Packed.{Source, no_source, packed_at, packed_lookups, source_of}
 use Rattle.batch_statement.specs.Statement.{tables_of}
 use Rattle.tool_tables.specs.Tool.{tool_declaration, tool_interactions, tool_trees}
@@ -50,11 +50,11 @@ module _ {F : Type 0} (r : Ring F) where
   own_packed (hash_of rows) masks bits asked = refl
 
   pub packed_are : (job : List (JobTable F)) (airs : List (ToolAir F)) (masks : ℕ) (bits budgets : List ℕ) → AreAirsOf r job airs
-      → table (length airs) (packed_at r masks (sources airs) bits budgets) ≡ map (own_lookups r) job
+      → tabulate (length airs) (packed_at r masks (sources airs) bits budgets) ≡ map (own_lookups r) job
   packed_are job airs masks bits budgets h =
       let d : JobTable F = take_of [] in
-      (λ i. table (as_many job airs h i) (packed_at r masks (sources_are job airs h i) bits budgets))
-      ∙ (table_same (length job) (packed_at r masks (map (source_of_job r) job) bits budgets) (λ i. get_or (map (own_lookups r) job) i []) (λ i l.
+      (λ i. tabulate (as_many job airs h i) (packed_at r masks (sources_are job airs h i) bits budgets))
+      ∙ (tabulate_same (length job) (packed_at r masks (map (source_of_job r) job) bits budgets) (λ i. get_or (map (own_lookups r) job) i []) (λ i l.
       ap (packed_lookups r masks (get_or bits i 0) (get_or budgets i 0)) (get_or-map (source_of_job r) job i d no_source l)
       ∙ (own_packed (get_or job i d) masks (get_or bits i 0) (get_or budgets i 0) ∙ sym (get_or-map (own_lookups r) job i d [] l)))
-      ∙ sym (table_of_items [] (map (own_lookups r) job) (length job) (length-map job (own_lookups r))))
+      ∙ sym (tabulate_items [] (map (own_lookups r) job) (length job) (length-map job (own_lookups r))))

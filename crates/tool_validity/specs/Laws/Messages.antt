@@ -6,15 +6,15 @@ use Rattle.std.specs.List.{flat_map, position_or_len}
 use Rattle.std.proofs.lemmas.List.{get_or-map, length-map, map-append}
 use Rattle.std.proofs.lemmas.List.Elements.{All-append}
 use Rattle.std.proofs.lemmas.List.Sums.{position_or_len_is, sum_by-cons}
-use Rattle.p3_field.specs.Poly.{table}
+use Rattle.p3_field.specs.Poly.{tabulate}
 use Rattle.p3_field.specs.Ring.{Ring, RingLaws, of_nat, sub}
 use Rattle.p3_field.specs.Laws.Algebra.{neg_add, neg_zero, of_nat_add, zero_add}
 use Rattle.p3_field.specs.Laws.Solver.{expressions, var, solve}
 use Rattle.p3_matrix.specs.Matrix.{row_at}
-use Rattle.p3_air.specs.Check.{row_of, table_of}
-use Rattle.p3_air.specs.RowCheck.{value_at}
+use Rattle.p3_air.specs.Check.{table_row, table_traces}
+use Rattle.p3_air.specs.RowCheck.{tree_value_at_row}
 use Rattle.p3_air.specs.Tree.{Bus, Tree, local, global}
-use Rattle.p3_lookup.specs.Batch.{BatchTable, senders_from}
+use Rattle.p3_lookup.specs.Batch.{SendingTable, senders_from}
 use Rattle.p3_lookup.specs.Bus.{batch_buses, bus_in, bus_number, is_named, lookups_before, opened_below, opener_of}
 use Rattle.p3_lookup.specs.Lookup.{LookupData, lookups_of}
 use Rattle.p3_lookup.specs.Messages.{Message, Sender, batch_messages, is_of, messages_from, net, table_messages}
@@ -22,12 +22,12 @@ use Rattle.p3_lookup.specs.Term.{sum_of}
 use Rattle.p3_lookup.specs.Laws.Places.{place_within}
 use Rattle.p3_lookup.specs.Laws.Terms.{sum_append}
 use Rattle.tool_tables.specs.Words.{words_bus}
-use Rattle.tool_validity.specs.Job.{JobTable, swap_of, wheel_of, take_of, give_of, hash_of, give_row, publics_of, source_of_job, times_given, times_taken, trace_of}
+use Rattle.tool_validity.specs.Job.{JobTable, swap_of, wheel_of, take_of, give_of, hash_of, give_row, job_publics_of, source_of_job, times_given, times_taken, trace_of}
 use Rattle.batch_validity.specs.Laws.Columns.{column_row, pieces_row}
 
 -- rows that send one message for each item of a list
 rows_are_items : {X M : Type 0} (g : ℕ → List M) (msg : X → M) (z : X) (xs : List X) (h : ℕ → ℕ)
-    → ((i : ℕ) → i < length xs → g (h i) ≡ msg (get_or xs i z) ∷ []) → flat_map g (table (length xs) h) ≡ map msg xs
+    → ((i : ℕ) → i < length xs → g (h i) ≡ msg (get_or xs i z) ∷ []) → flat_map g (tabulate (length xs) h) ≡ map msg xs
 rows_are_items g msg z [] h same = refl
 rows_are_items g msg z (x ∷ xs) h same =
     λ j. same zero (omega arith) j ++ rows_are_items g msg z xs (λ i. h (suc i)) (λ i l. same (suc i) (omega (arith, l))) j
@@ -48,7 +48,7 @@ module _ {F : Type 0} (r : Ring F) where
 
   -- the value of a tree in a row
   abbrev pub own_value : JobTable F → ℕ → Tree F → F
-  own_value j row tree = value_at r r (λ x. x) (row_of r.zero (table_of (trace_of r j) (source_of_job r j).declaration.preprocessed [] (publics_of j)) row) tree
+  own_value j row tree = tree_value_at_row r r (λ x. x) (table_row r.zero (table_traces (trace_of r j) (source_of_job r j).declaration.preprocessed [] (job_publics_of j)) row) tree
 
   abbrev pub take_message : F → Message F
   take_message word = record { bus = 0; tuple = word ∷ []; count = r.one }
@@ -76,24 +76,24 @@ module _ {F : Type 0} (r : Ring F) where
   HasItems (hash_of inputs) rows = Unit {0}
 
   sends_own : (j : JobTable F) (bus : ℕ → ℕ) (rows : ℕ) → (0 < length (own_lookups j) → bus 0 ≡ 0) → HasItems j rows → table_messages (own_sender j bus rows) ≡ own_messages j
-  sends_own (swap_of k a b) bus rows on e = no_messages (table rows (λ i. i))
-  sends_own (wheel_of k) bus rows on e = no_messages (table rows (λ i. i))
+  sends_own (swap_of k a b) bus rows on e = no_messages (tabulate rows (λ i. i))
+  sends_own (wheel_of k) bus rows on e = no_messages (tabulate rows (λ i. i))
   sends_own (take_of words) bus rows on e =
       let j = take_of words in
       let g = λ (i : ℕ). messages_from (own_value j i) bus 0 (own_lookups j) in
       let here : bus 0 ≡ 0 = on (omega arith) in
-      ap (λ n. flat_map g (table n (λ i. i))) e
+      ap (λ n. flat_map g (tabulate n (λ i. i))) e
       ∙ rows_are_items g take_message r.zero words (λ i. i) (λ i l. λ q.
       record { bus = here q; tuple = get_or (column_row words i r.zero l q) 0 r.zero ∷ []; count = r.one } ∷ [])
   sends_own (give_of pairs) bus rows on e =
       let j = give_of pairs in
       let g = λ (i : ℕ). messages_from (own_value j i) bus 0 (own_lookups j) in
       let here : bus 0 ≡ 0 = on (omega arith) in
-      ap (λ n. flat_map g (table n (λ i. i))) e
+      ap (λ n. flat_map g (tabulate n (λ i. i))) e
       ∙ rows_are_items g give_message (r.zero, 0) pairs (λ i. i) (λ i l.
       let row : row_at (trace_of r j) i ≡ give_row r (get_or pairs i (r.zero, 0)) = pieces_row (give_row r) 2 (λ p. refl) pairs i (r.zero, 0) l in
       λ q. record { bus = here q; tuple = get_or (row q) 0 r.zero ∷ []; count = sub r r.zero (get_or (row q) 1 r.zero) } ∷ [])
-  sends_own (hash_of inputs) bus rows on e = no_messages (table rows (λ i. i))
+  sends_own (hash_of inputs) bus rows on e = no_messages (tabulate rows (λ i. i))
 
   module _ (L : RingLaws r) (eq : F → F → Bool) (b : ℕ) (t : List F) where
     -- whether a word is the tuple on this bus
@@ -161,7 +161,7 @@ module _ {F : Type 0} (r : Ring F) where
 
     -- the tables of a job as senders, on buses whose numbers are those from table n on, and with so many rows each
     module _ (rows : JobTable F → ℕ) where
-      abbrev pub own_table : JobTable F → BatchTable F
+      abbrev pub own_table : JobTable F → SendingTable F
       own_table j = record { lookups = own_lookups j; rows = rows j; value = own_value j }
 
       -- what is left over of a job's messages, where its lookups are on bus 0
@@ -194,9 +194,9 @@ module _ {F : Type 0} (r : Ring F) where
   own_words (give_of pairs) (suc i) d l = absurd (omega (arith, l))
   own_words (hash_of rows) i d l = absurd (omega (arith, l))
 
-  job_words : (job : List (JobTable F)) → All IsWords (batch_buses (map own_lookups job))
-  job_words [] = λ i d l. absurd (omega (arith, l))
-  job_words (j ∷ job) = All-append IsWords (map (λ (l : LookupData F). l.bus) (own_lookups j)) (batch_buses (map own_lookups job)) (own_words j) (job_words job)
+  job_numbers : (job : List (JobTable F)) → All IsWords (batch_buses (map own_lookups job))
+  job_numbers [] = λ i d l. absurd (omega (arith, l))
+  job_numbers (j ∷ job) = All-append IsWords (map (λ (l : LookupData F). l.bus) (own_lookups j)) (batch_buses (map own_lookups job)) (own_words j) (job_numbers job)
 
   -- so they are all on bus 0
   bus_zero : (bs : List Bus) (p : ℕ) → All IsWords bs → p < length bs → bus_number bs p ≡ 0
@@ -210,5 +210,5 @@ module _ {F : Type 0} (r : Ring F) where
   pub job_bus : (job : List (JobTable F)) (i : ℕ) (d : JobTable F) → i < length job → 0 < length (own_lookups (get_or job i d)) → bus_in (map own_lookups job) i 0 ≡ 0
   job_bus job i d h some =
       let there : get_or (map own_lookups job) i [] ≡ own_lookups (get_or job i d) = get_or-map own_lookups job i d [] h in
-      bus_zero (batch_buses (map own_lookups job)) (lookups_before (map own_lookups job) i + 0) (job_words job)
+      bus_zero (batch_buses (map own_lookups job)) (lookups_before (map own_lookups job) i + 0) (job_numbers job)
       (place_within (map own_lookups job) i 0 (let l = length-map job own_lookups in omega (arith, h, l)) (let n = ap length there in omega (arith, some, n)))

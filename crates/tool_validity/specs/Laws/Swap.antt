@@ -9,16 +9,16 @@ use Rattle.p3_field.specs.Laws.Algebra.{mul_zero, zero_mul}
 use Rattle.p3_field.specs.Laws.Coset.{double_power}
 use Rattle.p3_field.specs.Laws.Roots.{sub_self}
 use Rattle.p3_matrix.specs.Matrix.{height, row_at}
-use Rattle.p3_air.specs.Check.{Table as Traces}
+use Rattle.p3_air.specs.Check.{TableTraces as Traces}
 use Rattle.p3_air.specs.declared.cells.Cell.{Cell}
 use Rattle.p3_air.specs.declared.cells.Cell.TheVariants.{Main, Public, FirstRow, LastRow, Transition}
 use Rattle.p3_air.specs.CellValues.{CellValues, cell_in}
-use Rattle.p3_air.specs.Tree.{ev}
+use Rattle.p3_air.specs.Tree.{eval_tree}
 use Rattle.batch_tables.specs.Swap.{equal_when, swap_trees}
-use Rattle.committed_tables.specs.Committed.{CommittedTable, Holds, row, row_point, values_at}
+use Rattle.committed_tables.specs.Committed.{CommittedTable, Holds, row, row_point, committed_values_at}
 use Rattle.committed_tables.specs.Fields.{FieldsLaws}
-use Rattle.committed_tables.specs.Rows.{AreOfRow, CommitsTo, trace_row}
-use Rattle.committed_tables.specs.Traces.{HaveRows, committed_traces}
+use Rattle.committed_tables.specs.Rows.{AreOfRow, CommitsTo, row_of_traces}
+use Rattle.committed_tables.specs.Traces.{HaveTraceRows, committed_traces}
 use Rattle.committed_tables.specs.Laws.Rows.{reads_rows}
 use Rattle.committed_tables.specs.Laws.Traces.{traces_committed}
 use Rattle.batch_validity.specs.Traced.{no_rows, traces_of}
@@ -66,7 +66,7 @@ module _ {F E : Type 0} (f : TwoAdic F) (e : Extension F E) (top : ℕ) (inverse
   t = committed_traces f e traces no_rows [] [] k
 
   abbrev v : ℕ → CellValues E
-  v i = values_at f e t (row_point f e t i)
+  v i = committed_values_at f e t (row_point f e t i)
 
   abbrev at : ℕ → Cell → E
   at i c = cell_in e.ring.zero (v i) c
@@ -74,13 +74,13 @@ module _ {F E : Type 0} (f : TwoAdic F) (e : Extension F E) (top : ℕ) (inverse
   abbrev even : ℕ → Bool
   even i = i % 2 == 0
 
-  rows : HaveRows {E = E} (2 ^ k) traces no_rows
+  rows : HaveTraceRows {E = E} (2 ^ k) traces no_rows
   rows = swap_rows f.ring k a b
 
   commits : CommitsTo f e t traces no_rows
   commits = traces_committed f e top inverse L k low traces no_rows [] [] rows
 
-  reads : (i : ℕ) → i < 2 ^ k → AreOfRow e (trace_row f.ring.zero traces no_rows [] [] i) (v i)
+  reads : (i : ℕ) → i < 2 ^ k → AreOfRow e (row_of_traces f.ring.zero traces no_rows [] [] i) (v i)
   reads i h = reads_rows f e top inverse L t low traces no_rows commits i h
 
   local_row : (i : ℕ) → i < 2 ^ k → (v i).main_local ≡ map e.embed (swap_row a b i)
@@ -120,7 +120,7 @@ module _ {F E : Type 0} (f : TwoAdic F) (e : Extension F E) (top : ℕ) (inverse
   last_zero i h n = (reads i h).last_row.1 (ne_eqb (i + 1) (height traces.main) (λ q. n (q ∙ rows.tall)))
 
   -- an equation where the selector isn't zero
-  equal_zero : (i : ℕ) (c y z : Cell) → (at i c ≡ e.ring.zero) ⊎ (at i y ≡ at i z) → ev (row f e t i) (equal_when c y z) ≡ e.ring.zero
+  equal_zero : (i : ℕ) (c y z : Cell) → (at i c ≡ e.ring.zero) ⊎ (at i y ≡ at i z) → eval_tree (row f e t i) (equal_when c y z) ≡ e.ring.zero
   equal_zero i c y z (inl w) = ap (λ u. e.ring.mul u (sub e.ring (at i y) (at i z))) w ∙ zero_mul e.ring L.above (sub e.ring (at i y) (at i z))
   equal_zero i c y z (inr w) = ap (e.ring.mul (at i c)) (sub_self e.ring L.above (at i y) (at i z) w) ∙ mul_zero e.ring L.above (at i c)
 

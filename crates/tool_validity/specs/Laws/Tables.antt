@@ -9,7 +9,7 @@ use Rattle.p3_field.specs.Ring.{Ring}
 use Rattle.p3_blake3_air.specs.Meanings.{RowMeans}
 use Rattle.committed_tables.specs.Committed.{Holds}
 use Rattle.committed_tables.specs.Fields.{FieldsLaws}
-use Rattle.committed_tables.specs.Traces.{HaveRows, committed_traces}
+use Rattle.committed_tables.specs.Traces.{HaveTraceRows, committed_traces}
 use Rattle.committed_tables.specs.Laws.Disjoint.{shift_gives_domain}
 use Rattle.batch_setting.specs.Setting.{Setting, masks}
 use Rattle.batch_setup.specs.Setup.{log_of}
@@ -17,7 +17,7 @@ use Rattle.batch_setup.specs.Laws.Logarithms.{log_of_power}
 use Rattle.batch_shape_checks.specs.ShapeChecks.{chunks_of_table}
 use Rattle.batch_validity.specs.Traced.{TracedTable, committed_alone, declared, log_parts, log_rows, no_rows, quotient_shift, traces_of}
 use Rattle.batch_validity.specs.Valid.{AllFit, HasQuotientDomain, IsTraced, OwnHold}
-use Rattle.tool_validity.specs.Job.{IsWithin, JobTable, swap_of, wheel_of, take_of, give_of, hash_of, log_height_of, log_parts_of, source_of_job, trace_of, traced_job}
+use Rattle.tool_validity.specs.Job.{IsJobTableWithin, JobTable, swap_of, wheel_of, take_of, give_of, hash_of, job_log_height_of, log_parts_of, source_of_job, trace_of, traced_job}
 use Rattle.tool_validity.specs.Serves.{ServesJobs, ServesTable}
 use Rattle.tool_validity.specs.Laws.Compressions.{compressions_hold}
 use Rattle.tool_validity.specs.Laws.Fits.{job_chunks, job_fits, job_sized}
@@ -32,7 +32,7 @@ small_log n most (k, e) h = elim (cases_lt most k) [
   | inr fine ↦ let q = log_of_power n k e in omega (arith, q, fine)
 ]
 
-pub small_height : {F : Type 0} (j : JobTable F) → IsWithin j → log_height_of j ≤ 10
+pub small_height : {F : Type 0} (j : JobTable F) → IsJobTableWithin j → job_log_height_of j ≤ 10
 small_height (swap_of k a b) w = w
 small_height (wheel_of k) w = w.1
 small_height (take_of words) w = small_log (length words) 10 w.0 w.1
@@ -40,7 +40,7 @@ small_height (give_of pairs) w = small_log (length pairs) 10 w.0 w.1
 small_height (hash_of rows) w = let q = small_log (length rows) 3 w.0 w.1 in omega (arith, q)
 
 -- the rows and the chunks of a quotient
-small_domain : {F : Type 0} (j : JobTable F) → IsWithin j → log_height_of j + log_parts_of j ≤ 10
+small_domain : {F : Type 0} (j : JobTable F) → IsJobTableWithin j → job_log_height_of j + log_parts_of j ≤ 10
 small_domain (swap_of k a b) w = omega (arith, w)
 small_domain (wheel_of k) w = let q = w.1 in omega (arith, q)
 small_domain (take_of words) w = let q = small_log (length words) 10 w.0 w.1 in omega (arith, q)
@@ -86,8 +86,8 @@ module _ {F : Type 0} (r : Ring F) where
 
 module _ {F E : Type 0} (f : TwoAdic F) (e : Extension F E) (top : ℕ) (inverse : E → E) (L : FieldsLaws f e top inverse) where
   -- the traces of each kind meet its constraints
-  pub kind_holds : (j : JobTable F) → IsWithin j → ServesTable f.ring j → log_height_of j ≤ top
-      → Holds f e (committed_traces f e (traces_of (traced_job f.ring j)) no_rows [] [] (log_height_of j)) (source_of_job f.ring j).trees
+  pub kind_holds : (j : JobTable F) → IsJobTableWithin j → ServesTable f.ring j → job_log_height_of j ≤ top
+      → Holds f e (committed_traces f e (traces_of (traced_job f.ring j)) no_rows [] [] (job_log_height_of j)) (source_of_job f.ring j).trees
   kind_holds (swap_of k a b) W served low = swap_holds f e top inverse L k low a b
   kind_holds (wheel_of k) W served low = wheel_holds f e top inverse L k low (job_rows f.ring (wheel_of k) W)
   kind_holds (take_of words) W served low = λ i h n d l. absurd (omega (arith, l))
@@ -95,7 +95,7 @@ module _ {F E : Type 0} (f : TwoAdic F) (e : Extension F E) (top : ℕ) (inverse
   kind_holds (hash_of rows) W served low =
       compressions_hold f e top inverse L served rows W.2 (log_of (length rows)) low (power_of_log (length rows) W.0) (job_rows f.ring (hash_of rows) W)
 
-module _ {S F E C : Type 0} (c : Setting S F E C) (inverse : E → E) (Z : ServesJobs c inverse) (j : JobTable F) (W : IsWithin j) where
+module _ {S F E C : Type 0} (c : Setting S F E C) (inverse : E → E) (Z : ServesJobs c inverse) (j : JobTable F) (W : IsJobTableWithin j) where
   abbrev r : Ring F
   r = c.field.ring
 
@@ -105,7 +105,7 @@ module _ {S F E C : Type 0} (c : Setting S F E C) (inverse : E → E) (Z : Serve
   none_masked : masks c ≡ 0
   none_masked = ap (λ z. cond z 1 0) Z.plain
 
-  pub rows_are : log_rows c t ≡ log_height_of j
+  pub rows_are : log_rows c t ≡ job_log_height_of j
   rows_are = let m = none_masked in omega (arith, m)
 
   pub job_traced : IsTraced c t
@@ -117,14 +117,14 @@ module _ {S F E C : Type 0} (c : Setting S F E C) (inverse : E → E) (Z : Serve
       record {
         width = kind_width r j;
         some = kind_columns r j;
-        rows = subst (λ n. HaveRows {E = E} (2 ^ n) (traces_of t) no_rows) (sym rows_are) (job_rows r j W);
+        rows = subst (λ n. HaveTraceRows {E = E} (2 ^ n) (traces_of t) no_rows) (sym rows_are) (job_rows r j W);
         least = omega (arith, m, z);
         most = omega (arith, low, top);
         publics = kind_publics r j;
       }
 
   -- its constraints hold
-  low_enough : log_height_of j ≤ c.two_adicity
+  low_enough : job_log_height_of j ≤ c.two_adicity
   low_enough = let a = small_height j W in let b = Z.subgroups in omega (arith, a, b)
 
   pub job_holds : OwnHold c t

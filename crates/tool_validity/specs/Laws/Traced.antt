@@ -4,21 +4,21 @@ use Rattle.std.proofs.Common.{◌≡◌, ℕ, zero, suc, ◌*◌, ◌/◌, ◌%�
 use Rattle.std.specs.Prelude.{◌==◌, All}
 use Rattle.std.proofs.Math.Nat.{dvd-mul_right}
 use Rattle.std.proofs.lemmas.List.{length-map}
-use Rattle.p3_field.specs.Poly.{table}
+use Rattle.p3_field.specs.Poly.{tabulate}
 use Rattle.p3_field.specs.Ring.{Ring, of_nat}
 use Rattle.p3_field.specs.Laws.Coset.{double_power}
-use Rattle.p3_field.specs.Laws.Tables.{length-table, get_or-table}
+use Rattle.p3_field.specs.Laws.Tabulate.{length-tabulate, get_or-tabulate}
 use Rattle.p3_matrix.specs.Matrix.{row_at}
 use Rattle.p3_commit.specs.Periodic.{IsPeriod}
 use Rattle.p3_blake3_air.specs.Rows.{rows_cells}
 use Rattle.p3_blake3_air.specs.Laws.Generated.{length-rows_cells}
-use Rattle.committed_tables.specs.Traces.{HaveRows}
+use Rattle.committed_tables.specs.Traces.{HaveTraceRows}
 use Rattle.batch_setup.specs.Laws.Logarithms.{log_of_power}
 use Rattle.batch_setup.specs.Setup.{log_of}
 use Rattle.batch_validity.specs.Traced.{no_rows, traces_of}
 use Rattle.batch_validity.specs.Laws.Committed.{no_rows_tall}
 use Rattle.tool_tables.specs.Wheel.{number_in, numbers_to, turns}
-use Rattle.tool_validity.specs.Job.{IsWithin, JobTable, swap_of, wheel_of, take_of, give_of, hash_of, give_row, log_height_of, swap_row, trace_of, traced_job, wheel_cell}
+use Rattle.tool_validity.specs.Job.{IsJobTableWithin, JobTable, swap_of, wheel_of, take_of, give_of, hash_of, give_row, job_log_height_of, swap_row, trace_of, traced_job, wheel_cell}
 use Rattle.batch_validity.specs.Laws.Columns.{column_height, column_row, column_tall, one_column, pieces_height, pieces_row, pieces_tall}
 
 either_long : {F : Type 0} (p : Bool) (a b : F) → length (cond p (a ∷ b ∷ []) (b ∷ a ∷ [])) ≡ 2
@@ -36,41 +36,41 @@ module _ {F : Type 0} (r : Ring F) where
   -- the rows of the traces
   pub swap_row_is : (k : ℕ) (a b : F) (i : ℕ) → i < 2 ^ k → row_at (trace_of r (swap_of k a b)) i ≡ swap_row a b i
   swap_row_is k a b i h =
-      pieces_row (swap_row a b) 2 (swap_long a b) (table (2 ^ k) (λ i. i)) i 0 (let l = length-table (2 ^ k) (λ i. i) in omega (arith, h, l))
-      ∙ ap (swap_row a b) (get_or-table (2 ^ k) (λ i. i) i 0 h)
+      pieces_row (swap_row a b) 2 (swap_long a b) (tabulate (2 ^ k) (λ i. i)) i 0 (let l = length-tabulate (2 ^ k) (λ i. i) in omega (arith, h, l))
+      ∙ ap (swap_row a b) (get_or-tabulate (2 ^ k) (λ i. i) i 0 h)
 
   pub wheel_row_is : (k i : ℕ) → i < 2 ^ k → row_at (trace_of r (wheel_of k)) i ≡ wheel_cell r i ∷ []
   wheel_row_is k i h =
-      column_row (table (2 ^ k) (wheel_cell r)) i r.zero (let l = length-table (2 ^ k) (wheel_cell r) in omega (arith, h, l))
-      ∙ ap (λ x. x ∷ []) (get_or-table (2 ^ k) (wheel_cell r) i r.zero h)
+      column_row (tabulate (2 ^ k) (wheel_cell r)) i r.zero (let l = length-tabulate (2 ^ k) (wheel_cell r) in omega (arith, h, l))
+      ∙ ap (λ x. x ∷ []) (get_or-tabulate (2 ^ k) (wheel_cell r) i r.zero h)
 
   pub number_row_is : (k i : ℕ) → i < 2 ^ k → row_at (one_column (numbers_to r (2 ^ k))) i ≡ number_in r i ∷ []
   number_row_is k i h =
-      column_row (numbers_to r (2 ^ k)) i r.zero (let l = length-table (2 ^ k) (number_in r) in omega (arith, h, l))
-      ∙ ap (λ x. x ∷ []) (get_or-table (2 ^ k) (number_in r) i r.zero h)
+      column_row (numbers_to r (2 ^ k)) i r.zero (let l = length-tabulate (2 ^ k) (number_in r) in omega (arith, h, l))
+      ∙ ap (λ x. x ∷ []) (get_or-tabulate (2 ^ k) (number_in r) i r.zero h)
 
   -- the traces have their heights
   no_periods : (n : ℕ) → All (λ (column : List F). IsPeriod n (length column)) []
   no_periods n = λ i d l. absurd (omega (arith, l))
 
-  pub swap_rows : {E : Type 0} (k : ℕ) (a b : F) → HaveRows {E = E} (2 ^ k) (traces_of (traced_job r (swap_of k a b))) no_rows
+  pub swap_rows : {E : Type 0} (k : ℕ) (a b : F) → HaveTraceRows {E = E} (2 ^ k) (traces_of (traced_job r (swap_of k a b))) no_rows
   swap_rows k a b =
-      let l = length-table (2 ^ k) (λ i. i) in
+      let l = length-tabulate (2 ^ k) (λ i. i) in
       record {
-        tall = pieces_height (swap_row a b) 2 (swap_long a b) (omega arith) (table (2 ^ k) (λ i. i)) ∙ l;
-        main = pieces_tall (swap_row a b) 2 (swap_long a b) (omega arith) (2 ^ k) (table (2 ^ k) (λ i. i)) l;
+        tall = pieces_height (swap_row a b) 2 (swap_long a b) (omega arith) (tabulate (2 ^ k) (λ i. i)) ∙ l;
+        main = pieces_tall (swap_row a b) 2 (swap_long a b) (omega arith) (2 ^ k) (tabulate (2 ^ k) (λ i. i)) l;
         preprocessed = tt;
         permutation = no_rows_tall (2 ^ k);
         periods = no_periods (2 ^ k);
       }
 
-  pub wheel_rows : {E : Type 0} (k : ℕ) → IsPeriod (2 ^ k) 2 → HaveRows {E = E} (2 ^ k) (traces_of (traced_job r (wheel_of k))) no_rows
+  pub wheel_rows : {E : Type 0} (k : ℕ) → IsPeriod (2 ^ k) 2 → HaveTraceRows {E = E} (2 ^ k) (traces_of (traced_job r (wheel_of k))) no_rows
   wheel_rows k period =
-      let l = length-table (2 ^ k) (wheel_cell r) in
+      let l = length-tabulate (2 ^ k) (wheel_cell r) in
       record {
-        tall = column_height (table (2 ^ k) (wheel_cell r)) ∙ l;
-        main = column_tall (2 ^ k) (table (2 ^ k) (wheel_cell r)) l;
-        preprocessed = column_tall (2 ^ k) (numbers_to r (2 ^ k)) (length-table (2 ^ k) (number_in r));
+        tall = column_height (tabulate (2 ^ k) (wheel_cell r)) ∙ l;
+        main = column_tall (2 ^ k) (tabulate (2 ^ k) (wheel_cell r)) l;
+        preprocessed = column_tall (2 ^ k) (numbers_to r (2 ^ k)) (length-tabulate (2 ^ k) (number_in r));
         permutation = no_rows_tall (2 ^ k);
         periods = one_period;
       }
@@ -79,7 +79,7 @@ module _ {F : Type 0} (r : Ring F) where
       one_period zero d h = period
       one_period (suc i) d h = absurd (omega (arith, h))
 
-  pub take_rows : {E : Type 0} (words : List F) → IsPowerOfTwo (length words) → HaveRows {E = E} (2 ^ log_of (length words)) (traces_of (traced_job r (take_of words))) no_rows
+  pub take_rows : {E : Type 0} (words : List F) → IsPowerOfTwo (length words) → HaveTraceRows {E = E} (2 ^ log_of (length words)) (traces_of (traced_job r (take_of words))) no_rows
   take_rows words power =
       let l = power_of_log (length words) power in
       record {
@@ -90,7 +90,7 @@ module _ {F : Type 0} (r : Ring F) where
         periods = no_periods (2 ^ log_of (length words));
       }
 
-  pub give_rows : {E : Type 0} (pairs : List (F × ℕ)) → IsPowerOfTwo (length pairs) → HaveRows {E = E} (2 ^ log_of (length pairs)) (traces_of (traced_job r (give_of pairs))) no_rows
+  pub give_rows : {E : Type 0} (pairs : List (F × ℕ)) → IsPowerOfTwo (length pairs) → HaveTraceRows {E = E} (2 ^ log_of (length pairs)) (traces_of (traced_job r (give_of pairs))) no_rows
   give_rows pairs power =
       let l = power_of_log (length pairs) power in
       record {
@@ -101,7 +101,7 @@ module _ {F : Type 0} (r : Ring F) where
         periods = no_periods (2 ^ log_of (length pairs));
       }
 
-  pub hash_rows : {E : Type 0} (rows : List (List ℕ)) → IsPowerOfTwo (length rows) → HaveRows {E = E} (2 ^ log_of (length rows)) (traces_of (traced_job r (hash_of rows))) no_rows
+  pub hash_rows : {E : Type 0} (rows : List (List ℕ)) → IsPowerOfTwo (length rows) → HaveTraceRows {E = E} (2 ^ log_of (length rows)) (traces_of (traced_job r (hash_of rows))) no_rows
   hash_rows rows power =
       let n = 2 ^ log_of (length rows) in
       let long : length (map (of_nat r) (rows_cells rows)) ≡ 9168 * length rows = length-map (rows_cells rows) (of_nat r) ∙ length-rows_cells rows in
@@ -122,7 +122,7 @@ module _ {F : Type 0} (r : Ring F) where
       let twice : 2 * 2 ^ k ≡ 2 ^ suc k = let d = double_power k in omega (arith, d) in
       ((1, refl), subst (λ n. 2 ∣ n) twice (dvd-mul_right 2 (2 ^ k)))
 
-  pub job_rows : {E : Type 0} (j : JobTable F) → IsWithin j → HaveRows {E = E} (2 ^ log_height_of j) (traces_of (traced_job r j)) no_rows
+  pub job_rows : {E : Type 0} (j : JobTable F) → IsJobTableWithin j → HaveTraceRows {E = E} (2 ^ job_log_height_of j) (traces_of (traced_job r j)) no_rows
   job_rows (swap_of k a b) w = swap_rows k a b
   job_rows (wheel_of k) w = wheel_rows k (two_divides k w.0)
   job_rows (take_of words) w = take_rows words w.0

@@ -6,22 +6,22 @@ use Rattle.std.proofs.Math.Nat.{pow-le-pow_right}
 use Rattle.std.proofs.lemmas.List.{get_or-map, length-map}
 use Rattle.std.proofs.lemmas.List.Sums.{sum_by-cons}
 use Rattle.p3_field.specs.Domain.{CosetData}
-use Rattle.p3_field.specs.Poly.{table}
+use Rattle.p3_field.specs.Poly.{tabulate}
 use Rattle.p3_field.specs.Ring.{Ring, RingLaws, of_nat}
-use Rattle.p3_field.specs.Laws.Tables.{get_or-table, length-table, table_of_items, table_same}
+use Rattle.p3_field.specs.Laws.Tabulate.{get_or-tabulate, length-tabulate, tabulate_items, tabulate_same}
 use Rattle.p3_matrix.specs.Matrix.{Rows}
-use Rattle.p3_lookup.specs.Batch.{BatchTable, batch_lookups, senders}
-use Rattle.p3_lookup.specs.Bound.{AreBounded}
+use Rattle.p3_lookup.specs.Batch.{SendingTable, batch_lookups, senders}
+use Rattle.p3_lookup.specs.Bound.{HaveLoadsBelow}
 use Rattle.p3_lookup.specs.Bus.{bus_in}
 use Rattle.p3_lookup.specs.Messages.{batch_messages, net}
-use Rattle.batch_claims.specs.ClaimChecks.{HasBits}
+use Rattle.batch_claims.specs.ClaimChecks.{HasDegreeBits}
 use Rattle.batch_setting.specs.Setting.{Setting, masks}
 use Rattle.batch_shape_checks.specs.ShapeChecks.{HasEntries, heights_of, no_table}
 use Rattle.batch_statement.specs.Statement.{Common, Statement, WellFormed, entry_of}
 use Rattle.committed_tables.specs.Laws.Values.{maps}
 use Rattle.batch_validity.specs.Traced.{TracedTable, all_traced, log_rows, no_rows, preprocessed_matrices, sender, traced_at}
 use Rattle.batch_validity.specs.Valid.{AllFit, AreBalanced, CommitsToMatrices, HasQuotientDomain, IsTraced, OwnHold, Valid}
-use Rattle.tool_validity.specs.Job.{IsBalancedJob, IsJob, IsWithin, JobTable, swap_of, wheel_of, take_of, give_of, hash_of, job_table, log_height_of, publics_of, times_given, times_taken, trace_of, traced_job}
+use Rattle.tool_validity.specs.Job.{IsBalancedJob, IsJob, IsJobTableWithin, JobTable, swap_of, wheel_of, take_of, give_of, hash_of, job_table, job_log_height_of, job_publics_of, times_given, times_taken, trace_of, traced_job}
 use Rattle.tool_validity.specs.Serves.{ServesJobs}
 use Rattle.tool_validity.specs.Laws.Loads.{job_bounded}
 use Rattle.tool_validity.specs.Laws.Messages.{HasItems, found, job_bus, job_net, own_lookups, own_table}
@@ -101,65 +101,65 @@ module _ {S F E C : Type 0} (c : Setting S F E C) (inverse : E → E) (Z : Serve
   r = c.field.ring
 
   abbrev s : Statement F C
-  s = record { tables = map (job_table r) job; publics = map publics_of job; common = common }
+  s = record { tables = map (job_table r) job; publics = map job_publics_of job; common = common }
 
   abbrev traces : List (Rows F)
   traces = map (trace_of r) job
 
   abbrev bits : List ℕ
-  bits = map log_height_of job
+  bits = map job_log_height_of job
 
-  abbrev behind : JobTable F
-  behind = take_of []
+  abbrev no_job_table : JobTable F
+  no_job_table = take_of []
 
   long : length s.tables ≡ length job
   long = length-map job (job_table r)
 
   -- the tables of the statement are those of the job
-  traced_is : (i : ℕ) → i < length job → traced_at s traces bits i ≡ traced_job r (get_or job i behind)
+  traced_is : (i : ℕ) → i < length job → traced_at s traces bits i ≡ traced_job r (get_or job i no_job_table)
   traced_is i h = λ q. record {
-    table = get_or-map (job_table r) job i behind no_table h q;
-    lookups = (ap (λ l. get_or l i []) lookups_are ∙ get_or-map (own_lookups r) job i behind [] h) q;
-    publics = get_or-map (publics_of {F = F}) job i behind [] h q;
-    trace = get_or-map (trace_of r) job i behind no_rows h q;
-    degree_bits = get_or-map (log_height_of {F = F}) job i behind 0 h q;
+    table = get_or-map (job_table r) job i no_job_table no_table h q;
+    lookups = (ap (λ l. get_or l i []) lookups_are ∙ get_or-map (own_lookups r) job i no_job_table [] h) q;
+    publics = get_or-map (job_publics_of {F = F}) job i no_job_table [] h q;
+    trace = get_or-map (trace_of r) job i no_job_table no_rows h q;
+    degree_bits = get_or-map (job_log_height_of {F = F}) job i no_job_table 0 h q;
   }
 
   all_are : all_traced s traces bits ≡ map (traced_job r) job
   all_are =
-      let d = traced_job r behind in
-      ap (λ n. table n (traced_at s traces bits)) long
-      ∙ (table_same (length job) (traced_at s traces bits) (λ i. get_or (map (traced_job r) job) i d) (λ i l. traced_is i l ∙ sym (get_or-map (traced_job r) job i behind d l))
-      ∙ sym (table_of_items d (map (traced_job r) job) (length job) (length-map job (traced_job r))))
+      let d = traced_job r no_job_table in
+      ap (λ n. tabulate n (traced_at s traces bits)) long
+      ∙ (tabulate_same (length job) (traced_at s traces bits) (λ i. get_or (map (traced_job r) job) i d) (λ i l. traced_is i l ∙ sym (get_or-map (traced_job r) job i no_job_table d l))
+      ∙ sym (tabulate_items d (map (traced_job r) job) (length job) (length-map job (traced_job r))))
 
   -- what holds of each table of the job holds of each table of the statement
-  each : (P : TracedTable F → Type 0) → ((j : JobTable F) → IsWithin j → P (traced_job r j)) → (i : ℕ) → i < length s.tables → P (traced_at s traces bits i)
+  each : (P : TracedTable F → Type 0) → ((j : JobTable F) → IsJobTableWithin j → P (traced_job r j)) → (i : ℕ) → i < length s.tables → P (traced_at s traces bits i)
   each P all i h =
       let l : i < length job = let e = long in omega (arith, h, e) in
-      subst P (sym (traced_is i l)) (all (get_or job i behind) (J.within i behind l))
+      subst P (sym (traced_is i l)) (all (get_or job i no_job_table) (J.within i no_job_table l))
 
   heights_low : (i : ℕ) → i < length (heights_of (masks c) bits (length s.tables)) → get_or (heights_of (masks c) bits (length s.tables)) i 0 ≤ 1024
   heights_low i h =
       let n = length s.tables in
       let g = λ (i : ℕ). 2 ^ (get_or bits i 0 - masks c) in
-      let l : i < n = let e = length-table n g in omega (arith, h, e) in
+      let l : i < n = let e = length-tabulate n g in omega (arith, h, e) in
       let m : i < length job = let e = long in omega (arith, l, e) in
-      let low : get_or bits i 0 ≤ 10 = let e = get_or-map (log_height_of {F = F}) job i behind 0 m in let q = small_height (get_or job i behind) (J.within i behind m) in omega (arith, e, q) in
+      let low : get_or bits i 0 ≤ 10 = let e = get_or-map (job_log_height_of {F = F}) job i no_job_table 0 m in let q = small_height (get_or job i no_job_table) (J.within i no_job_table m) in omega (arith, e, q) in
       let less : get_or bits i 0 - masks c ≤ 10 = omega (arith, low) in
       let size : g i ≤ 2 ^ 10 = pow-le-pow_right (omega arith) less in
-      let there = get_or-table n g i 0 l in
+      let there = get_or-tabulate n g i 0 l in
       omega (arith, size, there)
 
-  buses_bounded : AreBounded c.order s.common.lookups (heights_of (masks c) bits (length s.tables))
+  buses_bounded : HaveLoadsBelow c.order s.common.lookups (heights_of (masks c) bits (length s.tables))
   buses_bounded =
-      subst (λ ls. AreBounded c.order ls (heights_of (masks c) bits (length s.tables))) (sym lookups_are)
+      subst (λ ls. HaveLoadsBelow c.order ls (heights_of (masks c) bits (length s.tables))) (sym lookups_are)
       (job_bounded r c.order job (heights_of (masks c) bits (length s.tables)) Z.order J.few heights_low)
 
   -- the rows of the job's tables
   abbrev rows : JobTable F → ℕ
   rows j = 2 ^ log_rows c (traced_job r j)
 
-  items : (j : JobTable F) → IsWithin j → HasItems r j (rows j)
+  items : (j : JobTable F) → IsJobTableWithin j → HasItems r j (rows j)
   items (swap_of k a b) W = tt
   items (wheel_of k) W = tt
   items (take_of words) W = ap (λ n. 2 ^ n) (rows_are c inverse Z (take_of words) W) ∙ sym (power_of_log (length words) W.0)
@@ -169,7 +169,7 @@ module _ {S F E C : Type 0} (c : Setting S F E C) (inverse : E → E) (Z : Serve
   buses_balanced : AreBalanced c eq (all_traced s traces bits)
   buses_balanced =
       subst (AreBalanced c eq) (sym all_are)
-      (subst (λ (ts : List (BatchTable F)). (b : ℕ) (t : List F) → net r eq (batch_messages (senders ts)) b t ≡ r.zero) (sym senders_are) own_balanced)
+      (subst (λ (ts : List (SendingTable F)). (b : ℕ) (t : List F) → net r eq (batch_messages (senders ts)) b t ≡ r.zero) (sym senders_are) own_balanced)
     where
       senders_are : map (sender c) (map (traced_job r) job) ≡ map (own_table r Z.fields.below eq 0 [] rows) job
       senders_are = maps (sender c) (traced_job r) (own_table r Z.fields.below eq 0 [] rows) (λ j. refl) job
@@ -179,7 +179,7 @@ module _ {S F E C : Type 0} (c : Setting S F E C) (inverse : E → E) (Z : Serve
           let L = Z.fields.below in
           let bus = bus_in (batch_lookups (map (own_table r L eq 0 [] rows) job)) in
           let same : batch_lookups (map (own_table r L eq 0 [] rows) job) ≡ map (own_lookups r) job =
-          maps (λ (t : BatchTable F). t.lookups) (own_table r L eq 0 [] rows) (own_lookups r) (λ j. refl) job in
+          maps (λ (t : SendingTable F). t.lookups) (own_table r L eq 0 [] rows) (own_lookups r) (λ j. refl) job in
           let test = found r L eq b t in
           let m = sum_by (times_taken test) job in
           let n = sum_by (times_given test) job in
@@ -191,17 +191,17 @@ module _ {S F E C : Type 0} (c : Setting S F E C) (inverse : E → E) (Z : Serve
   pub job_is_valid : (commitment_of : List (CosetData F × Rows F) → C) → WellFormed (map (λ t. t.declaration) s.tables) common
       → CommitsToMatrices commitment_of (preprocessed_matrices r.one (all_traced s traces bits)) common.preprocessed
       → HasEntries (length s.tables) common.preprocessed
-      → ((i : ℕ) → i < length s.tables → HasBits (traced_at s traces bits i).degree_bits (entry_of common.preprocessed i))
+      → ((i : ℕ) → i < length s.tables → HasDegreeBits (traced_at s traces bits i).degree_bits (entry_of common.preprocessed i))
       → Valid c eq commitment_of s traces bits
   job_is_valid commitment_of formed committed counted listed = record {
     batch = record {
       formed = formed;
       lists = record {
-        publics_long = length-map job (publics_of {F = F}) ∙ sym long;
+        publics_long = length-map job (job_publics_of {F = F}) ∙ sym long;
         lookups_long = ap length lookups_are ∙ (length-map job (own_lookups r) ∙ sym long);
         entries_long = counted;
         traces_long = length-map job (trace_of r) ∙ sym long;
-        bits_long = length-map job (log_height_of {F = F}) ∙ sym long;
+        bits_long = length-map job (job_log_height_of {F = F}) ∙ sym long;
       };
       committed = committed;
       entries = listed;

@@ -2,14 +2,14 @@
 use Rattle.std.proofs.Common.{◌≡◌, ℕ, zero, suc, ◌%◌, ◌^◌, ◌<◌, ◌≤◌, false, [], get_or, map, sym, ◌∙◌, ap, arith}
 use Rattle.p3_field.specs.Field.{TwoAdic, Extension}
 use Rattle.p3_field.specs.Laws.Roots.{sub_self}
-use Rattle.p3_air.specs.Check.{Table as Traces}
+use Rattle.p3_air.specs.Check.{TableTraces as Traces}
 use Rattle.p3_air.specs.declared.cells.Cell.{Cell}
 use Rattle.p3_air.specs.declared.cells.Cell.TheVariants.{Main, Preprocessed, Periodic}
 use Rattle.p3_air.specs.CellValues.{CellValues, cell_in}
-use Rattle.committed_tables.specs.Committed.{CommittedTable, Holds, row_point, values_at}
+use Rattle.committed_tables.specs.Committed.{CommittedTable, Holds, row_point, committed_values_at}
 use Rattle.committed_tables.specs.Fields.{FieldsLaws}
-use Rattle.committed_tables.specs.Rows.{AreOfRow, CommitsTo, trace_row}
-use Rattle.committed_tables.specs.Traces.{HaveRows, committed_traces}
+use Rattle.committed_tables.specs.Rows.{AreOfRow, CommitsTo, row_of_traces}
+use Rattle.committed_tables.specs.Traces.{HaveTraceRows, committed_traces}
 use Rattle.committed_tables.specs.Laws.Rows.{reads_rows}
 use Rattle.committed_tables.specs.Laws.Traces.{traces_committed}
 use Rattle.batch_validity.specs.Traced.{no_rows, traces_of}
@@ -18,7 +18,7 @@ use Rattle.tool_validity.specs.Job.{wheel_of, traced_job}
 use Rattle.tool_validity.specs.Laws.Traced.{number_row_is, wheel_row_is}
 
 module _ {F E : Type 0} (f : TwoAdic F) (e : Extension F E) (top : ℕ) (inverse : E → E) (L : FieldsLaws f e top inverse) (k : ℕ) (low : k ≤ top)
-    (rows : HaveRows {E = E} (2 ^ k) (traces_of (traced_job f.ring (wheel_of k))) no_rows) where
+    (rows : HaveTraceRows {E = E} (2 ^ k) (traces_of (traced_job f.ring (wheel_of k))) no_rows) where
   abbrev traces : Traces F
   traces = traces_of (traced_job f.ring (wheel_of k))
 
@@ -26,7 +26,7 @@ module _ {F E : Type 0} (f : TwoAdic F) (e : Extension F E) (top : ℕ) (inverse
   t = committed_traces f e traces no_rows [] [] k
 
   abbrev v : ℕ → CellValues E
-  v i = values_at f e t (row_point f e t i)
+  v i = committed_values_at f e t (row_point f e t i)
 
   abbrev at : ℕ → Cell → E
   at i c = cell_in e.ring.zero (v i) c
@@ -34,7 +34,7 @@ module _ {F E : Type 0} (f : TwoAdic F) (e : Extension F E) (top : ℕ) (inverse
   commits : CommitsTo f e t traces no_rows
   commits = traces_committed f e top inverse L k low traces no_rows [] [] rows
 
-  reads : (i : ℕ) → i < 2 ^ k → AreOfRow e (trace_row f.ring.zero traces no_rows [] [] i) (v i)
+  reads : (i : ℕ) → i < 2 ^ k → AreOfRow e (row_of_traces f.ring.zero traces no_rows [] [] i) (v i)
   reads i h = reads_rows f e top inverse L t low traces no_rows commits i h
 
   pub wheel_holds : Holds f e t wheel_trees

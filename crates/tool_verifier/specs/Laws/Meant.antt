@@ -5,11 +5,11 @@ use Rattle.std.specs.Prelude.{slice_get}
 use Rattle.std.proofs.lemmas.List.{get_or-map, length-map}
 use Rattle.std.proofs.lemmas.List.Elements.{All-map}
 use Rattle.std.proofs.lemmas.Option.{get_or_from_slice_get, slice_get_within}
-use Rattle.p3_field.specs.BabyBear.{bear_ring}
-use Rattle.p3_field.specs.Quartic.{of_bear_value, quartic_inv, quartic_ring}
+use Rattle.p3_field.specs.BabyBear.{baby_bear_ring}
+use Rattle.p3_field.specs.Quartic.{of_baby_bear_value, quartic_inv, quartic_ring}
 use Rattle.p3_field.specs.declared.baby_bear.BabyBear.{BabyBear}
 use Rattle.p3_field.specs.declared.quartic.QuarticExtension.{QuarticExtension}
-use Rattle.p3_air.specs.Laws.Lists.{all_of_table}
+use Rattle.p3_air.specs.Laws.Lists.{all_of_tabulate}
 use Rattle.p3_air.specs.Shape.{ReadsDeclared, declared_shape}
 use Rattle.p3_blake3.specs.Compress.{Input}
 use Rattle.p3_blake3.specs.TraceRow.{AreWords, trace_row}
@@ -20,11 +20,11 @@ use Rattle.p3_lookup.specs.Trees.{lookup_trees}
 use Rattle.plain_pcs.specs.Scheme.{PlainCommitmentData}
 use Rattle.committed_tables.specs.Batch.{DividedTable}
 use Rattle.committed_tables.specs.Committed.{CommittedTable, Holds}
-use Rattle.committed_tables.specs.Fields.{FieldsLaws, bear_field, quartic_extension}
-use Rattle.batch_statement.specs.Statement.{Statement, Table, WellFormed}
+use Rattle.committed_tables.specs.Fields.{FieldsLaws, baby_bear_field, quartic_extension}
+use Rattle.batch_statement.specs.Statement.{Statement, AirTable, WellFormed}
 use Rattle.batch_shape_checks.specs.ShapeChecks.{no_table}
 use Rattle.batch_verifier.specs.BatchChecks.{Accepted}
-use Rattle.plain_soundness.specs.CommittedBatch.{ReadDeclared, committed_at, committed_table, lookups_at, stated_table}
+use Rattle.plain_soundness.specs.CommittedBatch.{ReadDeclared, committed_at, committed_table_at, lookups_at, stated_table}
 use Rattle.plain_soundness.specs.Laws.Accepted.{batch_holds, heights_fit}
 use Rattle.plain_soundness.specs.Laws.Bound.{Binds}
 use Rattle.plain_soundness.specs.Laws.Opened.{columns_declared}
@@ -38,7 +38,7 @@ use Rattle.tool_tables.specs.Laws.Wheel.{wheel-read}
 use Rattle.tool_tables.specs.Wheel.{turns}
 use Rattle.tool_tables.specs.declared.tool.ToolAir.TheVariants.{Swap as SwapTable, Take as TakeTable, Give as GiveTable}
 use Rattle.tool_statement.specs.Config.{tool_backend, tool_scheme, tool_setting}
-use Rattle.tool_statement.specs.StatedTables.{HaveStatedHeights, publics_of, source_of_table, table_of, tool_common, tool_statement}
+use Rattle.tool_statement.specs.StatedTables.{HaveStatedHeights, publics_of, source_of_table, air_table_of, tool_common, tool_statement}
 use Rattle.tool_statement.specs.declared.table.TableStatement.{TableStatement}
 use Rattle.tool_statement.specs.declared.table.TableStatement.TheVariants.{Swap, Wheel, Take, Give, Hash}
 use Rattle.proof_text.specs.ProofText.{ToolProofData}
@@ -49,14 +49,14 @@ use Rattle.tool_verifier.specs.FileAnswer.{PrintCompressions, SwapsEnd}
 
 -- the tables' constraints read declared cells
 table_read : (t : TableStatement) → All (ReadsDeclared (declared_shape (source_of_table t).declaration)) (source_of_table t).trees
-table_read (Swap k a b x) = tool-read bear_ring (SwapTable (record {}))
-table_read (Wheel k) = wheel-read bear_ring k (turns bear_ring ∷ []) refl
-table_read (Take k) = tool-read bear_ring (TakeTable (record {}))
-table_read (Give k) = tool-read bear_ring (GiveTable (record {}))
-table_read (Hash k) = blake3_read bear_ring
+table_read (Swap k a b x) = tool-read baby_bear_ring (SwapTable (record {}))
+table_read (Wheel k) = wheel-read baby_bear_ring k (turns baby_bear_ring ∷ []) refl
+table_read (Take k) = tool-read baby_bear_ring (TakeTable (record {}))
+table_read (Give k) = tool-read baby_bear_ring (GiveTable (record {}))
+table_read (Hash k) = blake3_read baby_bear_ring
 
-module _ (tables : List TableStatement) (p : ToolProofData) (L : FieldsLaws bear_field quartic_extension 27 quartic_inv) (B : Binds tool_scheme quartic_ring of_bear_value)
-    (formed : WellFormed (map (λ (t : Table BabyBear). t.declaration) (map table_of tables)) (tool_common tables)) (accepted : Accepted tool_setting tool_backend (tool_statement tables) p) where
+module _ (tables : List TableStatement) (p : ToolProofData) (L : FieldsLaws baby_bear_field quartic_extension 27 quartic_inv) (B : Binds tool_scheme quartic_ring of_baby_bear_value)
+    (formed : WellFormed (map (λ (t : AirTable BabyBear). t.declaration) (map air_table_of tables)) (tool_common tables)) (accepted : Accepted tool_setting tool_backend (tool_statement tables) p) where
   abbrev s : Statement BabyBear (PlainCommitmentData BabyBear)
   s = tool_statement tables
 
@@ -67,7 +67,7 @@ module _ (tables : List TableStatement) (p : ToolProofData) (L : FieldsLaws bear
   binds = binds_of_tool B
 
   reads : ReadDeclared s
-  reads = All-map (λ (t : Table BabyBear). All (ReadsDeclared (declared_shape t.declaration)) t.trees) table_of tables (λ k t l. table_read _)
+  reads = All-map (λ (t : AirTable BabyBear). All (ReadsDeclared (declared_shape t.declaration)) t.trees) air_table_of tables (λ k t l. table_read _)
 
   -- all tables hold, or a challenge is unlucky
   pub tables_hold : HoldUnlessUnlucky tool_setting 1 s p
@@ -82,10 +82,10 @@ module _ (tables : List TableStatement) (p : ToolProofData) (L : FieldsLaws bear
     here = get_or_from_slice_get tables i t (Take 0) at
 
     placed : i < length s.tables
-    placed = let n = length-map tables table_of in let l = within in omega (arith, n, l)
+    placed = let n = length-map tables air_table_of in let l = within in omega (arith, n, l)
 
-    stated_is : stated_table s i ≡ table_of t
-    stated_is = get_or-map table_of tables i (Take 0) no_table within ∙ ap table_of here
+    stated_is : stated_table s i ≡ air_table_of t
+    stated_is = get_or-map air_table_of tables i (Take 0) no_table within ∙ ap air_table_of here
 
     publics_are : get_or s.publics i [] ≡ publics_of t
     publics_are = get_or-map publics_of tables i (Take 0) [] within ∙ ap publics_of here
@@ -94,31 +94,31 @@ module _ (tables : List TableStatement) (p : ToolProofData) (L : FieldsLaws bear
   pub swaps : SwapsEnd tables p
   swaps no_alpha no_zeta i k a b x at =
       swaps_end tool_setting 1 s p quartic_inv fields (first_of tables_hold no_alpha no_zeta) (heights_fit tool_setting tool_backend 1 s p quartic_inv fields plain_tool binds formed accepted) i a b x
-      (placed i (Swap k a b x) at) (ap (λ (t : Table BabyBear). t.trees) (stated_is i (Swap k a b x) at)) (publics_are i (Swap k a b x) at)
+      (placed i (Swap k a b x) at) (ap (λ (t : AirTable BabyBear). t.trees) (stated_is i (Swap k a b x) at)) (publics_are i (Swap k a b x) at)
 
   -- the constraints of a hash table
-  trees_of_hash : (i k : ℕ) → slice_get tables i ≡ Some (Hash k) → Holds tool_setting.field tool_setting.extension (committed_table tool_setting 1 s p i) (stated_table s i).trees
-      → Holds tool_setting.field tool_setting.extension (committed_table tool_setting 1 s p i) (blake3_trees tool_setting.field.ring)
+  trees_of_hash : (i k : ℕ) → slice_get tables i ≡ Some (Hash k) → Holds tool_setting.field tool_setting.extension (committed_table_at tool_setting 1 s p i) (stated_table s i).trees
+      → Holds tool_setting.field tool_setting.extension (committed_table_at tool_setting 1 s p i) (blake3_trees tool_setting.field.ring)
   unfolding tool_setting
-  trees_of_hash i k at h = subst (λ (u : Table BabyBear). Holds tool_setting.field tool_setting.extension (committed_table tool_setting 1 s p i) u.trees) (stated_is i (Hash k) at) h
+  trees_of_hash i k at h = subst (λ (u : AirTable BabyBear). Holds tool_setting.field tool_setting.extension (committed_table_at tool_setting 1 s p i) u.trees) (stated_is i (Hash k) at) h
 
   -- rows of hash tables
   rows_are_compressions : RowMeans tool_setting.field.ring → HaveStatedHeights tables p.degree_bits
       → (IsAlphaUnlucky tool_setting 1 s p → ⊥) → (IsZetaUnlucky tool_setting 1 s p → ⊥) → (i k row : ℕ) → slice_get tables i ≡ Some (Hash k) → row < 2 ^ k
       → (x : Input) × AreWords x × (committed_cells tables p i row ≡ trace_row tool_setting.field.ring x)
   rows_are_compressions means heights no_alpha no_zeta i k row at inside =
-      let t : CommittedTable BabyBear QuarticExtension = committed_table tool_setting 1 s p i in
+      let t : CommittedTable BabyBear QuarticExtension = committed_table_at tool_setting 1 s p i in
       let below = placed i (Hash k) at in
       let holds = first_of tables_hold no_alpha no_zeta in
-      let own = all_of_table (λ (t : DividedTable BabyBear QuarticExtension). Holds tool_setting.field tool_setting.extension t.table t.trees) (length s.tables) (committed_at tool_setting 1 s p) holds i below in
+      let own = all_of_tabulate (λ (t : DividedTable BabyBear QuarticExtension). Holds tool_setting.field tool_setting.extension t.table t.trees) (length s.tables) (committed_at tool_setting 1 s p) holds i below in
       let first = holds_before tool_setting.field tool_setting.extension t (stated_table s i).trees (lookup_trees tool_setting.field.ring (lookups_at s i)) own in
       let columns = (columns_declared tool_setting tool_backend 1 s p quartic_inv fields plain_tool binds formed accepted i below).main in
-      let wide = ap (λ (u : Table BabyBear). u.declaration.width) (stated_is i (Hash k) at) in
+      let wide = ap (λ (u : AirTable BabyBear). u.declaration.width) (stated_is i (Hash k) at) in
       row_is_compression tool_setting.field tool_setting.extension tool_setting.two_adicity quartic_inv fields t means (columns ∙ wide) (trees_of_hash i k at first) row
       (subst (λ n. row < 2 ^ n) (sym (degree tables p quartic_inv L B formed accepted heights i k at)) inside)
 
   -- so each is printed as a compression
-  pub hashes : RowMeans bear_ring → HaveStatedHeights tables p.degree_bits → PrintCompressions tables p
+  pub hashes : RowMeans baby_bear_ring → HaveStatedHeights tables p.degree_bits → PrintCompressions tables p
   unfolding tool_setting
   hashes means heights no_alpha no_zeta i k row at inside =
       let (x, words, cells) = rows_are_compressions means heights no_alpha no_zeta i k row at inside in

@@ -1,10 +1,10 @@
 use Rattle.std.proofs.Common.{◌<◌, sym, ◌∙◌, subst, ap, arith}
 use Rattle.std.proofs.lemmas.List.{length-map}
-use Rattle.p3_field.specs.Poly.{table}
+use Rattle.p3_field.specs.Poly.{tabulate}
 use Rattle.batch_shape_checks.specs.Laws.Verdicts.{exits, refused}
 use Rattle.batch_claims.specs.Claims.{chunk_domains_at, claimed_of}
 use Rattle.batch_claims.proofs.Made.{are_sized, first_bits, first_lists, made_counts, made_first, made_sizes, sizes_at}
-use Rattle.batch_claims.proofs.Memory.{behind_all, not_made, refused_in_memory}
+use Rattle.batch_claims.proofs.Memory.{after_all, not_made, refused_in_memory}
 use Rattle.batch_claims.proofs.claim_parts.made.Goals as goal
 
 pub returns-in_err-all_checks-clause-verdict : goal.returns-in_err-all_checks-clause-verdict
@@ -70,7 +70,7 @@ returns-in_err-domains-clause-memory g c =
     let N = c.in_ok-all_checks.ensures in
     let A = made_first g.row.R.Denot a.masks a.least a.most two q a.widths.now N in
     let L = first_lists g.row.R.Denot a.least a.most q a.widths.now A in
-    behind_all _ _ N
+    after_all _ _ N
 
 pub returns-clause-verdict : goal.returns-clause-verdict
 returns-clause-verdict g c =
@@ -91,7 +91,7 @@ returns-clause-domains g c =
     let A = made_first g.row.R.Denot a.masks a.least a.most two q a.widths.now N in
     let L = first_lists g.row.R.Denot a.least a.most q a.widths.now A in
     let len = sym (length-map a.airs.now g.A.BaseAir.declaration) in
-    c.in_ok-domains.ensures ∙ ap (λ n. table n (chunk_domains_at g.F.RingCore.ring g.F.TwoAdicCore.root g.F.FieldCore.GENERATOR a.masks a.degree_bits.now a.log_chunks.now)) (L.degree_bits_fit ∙ sym len)
+    c.in_ok-domains.ensures ∙ ap (λ n. tabulate n (chunk_domains_at g.F.RingCore.ring g.F.TwoAdicCore.root g.F.FieldCore.GENERATOR a.masks a.degree_bits.now a.log_chunks.now)) (L.degree_bits_fit ∙ sym len)
 
 pub returns-clause-sized : goal.returns-clause-sized
 returns-clause-sized g c =
@@ -103,4 +103,4 @@ returns-clause-sized g c =
     let L = first_lists g.row.R.Denot a.least a.most q a.widths.now A in
     let len = sym (length-map a.airs.now g.A.BaseAir.declaration) in
     are_sized g.row.R.Denot g.F.RingCore.ring g.F.TwoAdicCore.root g.F.FieldCore.GENERATOR a.masks a.least a.most two _ q a.widths.now _ len c.requires.masked c.requires.fits A (made_counts g.row.R.Denot a.masks a.least a.most two q a.widths.now N)
-    (c.in_ok-domains.ensures ∙ ap (λ n. table n (chunk_domains_at g.F.RingCore.ring g.F.TwoAdicCore.root g.F.FieldCore.GENERATOR a.masks a.degree_bits.now a.log_chunks.now)) (L.degree_bits_fit ∙ sym len))
+    (c.in_ok-domains.ensures ∙ ap (λ n. tabulate n (chunk_domains_at g.F.RingCore.ring g.F.TwoAdicCore.root g.F.FieldCore.GENERATOR a.masks a.degree_bits.now a.log_chunks.now)) (L.degree_bits_fit ∙ sym len))

@@ -1,7 +1,7 @@
 use Rattle.std.proofs.Common.{◌++◌, Some, map, sym, ◌∙◌, ap}
 use Rattle.std.proofs.lemmas.List.{length-map}
 use Rattle.batch_setting.specs.Domains.{next_by}
-use Rattle.batch_claims.specs.Claims.{round}
+use Rattle.batch_claims.specs.Claims.{claims_of_round}
 use Rattle.batch_claims.proofs.Rounds.{rounds_are}
 use Rattle.batch_claims.proofs.claim_parts.rounds.Goals as goal
 
@@ -12,4 +12,4 @@ returns g c =
     rounds_are g.F.RingCore.ring a.zeta (next_by g.E.RingCore.ring g.E.ExtensionField.embed g.F.TwoAdicCore.root a.masks a.zeta) a.masks (map (λ v. v.items) a.domains.now)
     (map g.A.BaseAir.declaration a.airs.now) a.commitments a.preprocessed a.matrices.now a.degree_bits.now a.instances.now
     _ _ _ _ _ _ _ _ (c.requires.bits ∙ len) len (c.requires.domains ∙ len)
-    c.in_ok-first.ensures (c.in_ok-second.ensures ∙ ap (λ l. c.in_ok-first.first.items ++ round (Some a.commitments.main) l) c.in_ok-mains.ensures) (c.in_ok-third.ensures ∙ ap (λ l. c.in_ok-second.second.items ++ round (Some a.commitments.quotient_chunks) l) c.in_ok-chunks.ensures) c.in_ok-fourth.ensures c.in_ok-fifth.ensures
+    c.in_ok-first.ensures (c.in_ok-second.ensures ∙ ap (λ l. c.in_ok-first.first.items ++ claims_of_round (Some a.commitments.main) l) c.in_ok-mains.ensures) (c.in_ok-third.ensures ∙ ap (λ l. c.in_ok-second.second.items ++ claims_of_round (Some a.commitments.quotient_chunks) l) c.in_ok-chunks.ensures) c.in_ok-fourth.ensures c.in_ok-fifth.ensures

@@ -4,8 +4,8 @@ use Rattle.batch_shape_checks.specs.Laws.Verdicts.{exits}
 use Rattle.batch_statement.specs.Statement.{read_common}
 use Rattle.batch_claims.specs.Claims.{commitment_in, matrix_tables, place_of_preprocessed}
 use Rattle.batch_claims.specs.Laws.Listed.{listed_below}
-use Rattle.batch_claims.proofs.Memory.{behind_all, exits_in_memory}
-use Rattle.batch_claims.proofs.Rounds.{claims_agree, sized_agree, table_until}
+use Rattle.batch_claims.proofs.Memory.{after_all, exits_in_memory}
+use Rattle.batch_claims.proofs.Rounds.{claims_agree, sized_agree, tabulate_until}
 use Rattle.batch_claims.proofs.claims.commitments_with_opening_points.Goals as goal
 
 pub returns-in_err-domains-clause-verdict : goal.returns-in_err-domains-clause-verdict
@@ -15,13 +15,13 @@ pub returns-in_err-domains-clause-memory : goal.returns-in_err-domains-clause-me
 returns-in_err-domains-clause-memory g c = exits_in_memory _ _ _ c.from_residual.ensures.1 c.in_err-domains.ensures.memory
 
 pub returns-in_err-copies-clause-memory : goal.returns-in_err-copies-clause-memory
-returns-in_err-copies-clause-memory g c = behind_all _ _ c.in_ok-domains.ensures.verdict
+returns-in_err-copies-clause-memory g c = after_all _ _ c.in_ok-domains.ensures.verdict
 
 pub returns-in_err-shared-clause-memory : goal.returns-in_err-shared-clause-memory
-returns-in_err-shared-clause-memory g c = behind_all _ _ c.in_ok-domains.ensures.verdict
+returns-in_err-shared-clause-memory g c = after_all _ _ c.in_ok-domains.ensures.verdict
 
 pub returns-in_err-claims-clause-memory : goal.returns-in_err-claims-clause-memory
-returns-in_err-claims-clause-memory g c = behind_all _ _ c.in_ok-domains.ensures.verdict
+returns-in_err-claims-clause-memory g c = after_all _ _ c.in_ok-domains.ensures.verdict
 
 pub rounds_over-requires-clause-listed : goal.rounds_over-requires-clause-listed
 rounds_over-requires-clause-listed g c =
@@ -39,7 +39,7 @@ returns-clause-claims g c =
     (map g.A.BaseAir.declaration c.args.airs.now) c.args.degree_bits.now c.in_ok-claims.claims.items _ _ _ _ _ _ _ _ _ _ _ _
     c.is_zk.ensures
     (ap (map (λ v. v.items)) c.deref.ensures.value
-    ∙ table_until _ (length c.args.airs.now) _ _ (sym (length-map c.args.airs.now g.A.BaseAir.declaration)) c.in_ok-domains.ensures.domains)
+    ∙ tabulate_until _ (length c.args.airs.now) _ _ (sym (length-map c.args.airs.now g.A.BaseAir.declaration)) c.in_ok-domains.ensures.domains)
     c.in_ok-copies.ensures (c.in_ok-shared.ensures ∙ ap commitment_in c.traces_in-preprocessed.ensures)
     (c.matrices_in.ensures ∙ ap matrix_tables c.traces_in-preprocessed.ensures) c.instances_of.ensures c.in_ok-claims.ensures
 

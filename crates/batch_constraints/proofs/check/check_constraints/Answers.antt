@@ -2,9 +2,9 @@ use Rattle.std.proofs.Common.{◌≡◌, ℕ, ◌<◌, inl, inr, length, subst, 
 use Rattle.std.specs.Option.{option_map}
 use Rattle.std.proofs.lemmas.Bool.{cases_lt}
 use Rattle.std.proofs.lemmas.List.{length-map}
-use Rattle.p3_air.specs.Check.{table_of, HasHeight}
+use Rattle.p3_air.specs.Check.{table_traces, HasHeight}
 use Rattle.p3_lookup.specs.Written.{read, read_all}
-use Rattle.batch_constraints.specs.BatchCheck.{batch_table, batch_values, HoldsInRow}
+use Rattle.batch_constraints.specs.BatchCheck.{checked_table, batch_values, HoldsInRow}
 use Rattle.batch_constraints.proofs.Nonzero.{nonzero_empty, nonzero_fails}
 use Rattle.batch_constraints.proofs.check.check_constraints.Goals as goal
 
@@ -14,8 +14,8 @@ loop-row-preserved g c i lt =
     let e = g.EF.RingCore.ring in
     let embed = g.EF.ExtensionField.embed in
     let row = c.loop-row.row in
-    let own = table_of c.args.main.now (option_map (λ m. m.now) c.args.preprocessed) (g.A.BaseAir.declaration c.args.air.now).periodic c.args.public_values.now in
-    let table = batch_table own (read_all c.args.lookups.now) c.args.permutation.now c.args.permutation_challenges.now c.args.permutation_values.now in
+    let own = table_traces c.args.main.now (option_map (λ m. m.now) c.args.preprocessed) (g.A.BaseAir.declaration c.args.air.now).periodic c.args.public_values.now in
+    let table = checked_table own (read_all c.args.lookups.now) c.args.permutation.now c.args.permutation_challenges.now c.args.permutation_values.now in
     let trees = g.A.Air.trees c.args.air.now in
     let none : length c.in_ok-places.places.items ≡ 0 = search rules in
     let P : ℕ → Type 0 = λ j. HoldsInRow f e embed table trees j in
@@ -40,8 +40,8 @@ returns-then-not-is_empty g c =
     let e = g.EF.RingCore.ring in
     let embed = g.EF.ExtensionField.embed in
     let row = c.loop-row.row in
-    let own = table_of c.args.main.now (option_map (λ m. m.now) c.args.preprocessed) (g.A.BaseAir.declaration c.args.air.now).periodic c.args.public_values.now in
-    let table = batch_table own (read_all c.args.lookups.now) c.args.permutation.now c.args.permutation_challenges.now c.args.permutation_values.now in
+    let own = table_traces c.args.main.now (option_map (λ m. m.now) c.args.preprocessed) (g.A.BaseAir.declaration c.args.air.now).periodic c.args.public_values.now in
+    let table = checked_table own (read_all c.args.lookups.now) c.args.permutation.now c.args.permutation_challenges.now c.args.permutation_values.now in
     let values = batch_values f e embed table (g.A.Air.trees c.args.air.now) row in
     let long = length-map c.args.lookups.now read in
     let P : ℕ → Type 0 = λ n. HasHeight (option_map (λ m. m.now) c.args.preprocessed) n in

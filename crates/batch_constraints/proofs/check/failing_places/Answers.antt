@@ -1,13 +1,13 @@
 use Rattle.std.proofs.Common.{◌≡◌, ◌<◌, length, List, sym, ◌∙◌, ap, subst, IfOk}
 use Rattle.std.specs.Option.{option_map}
 use Rattle.std.proofs.lemmas.List.{length-map}
-use Rattle.p3_air.specs.Check.{AreNonzero, table_of, periodic_row}
+use Rattle.p3_air.specs.Check.{AreNonzero, table_traces, periodic_row}
 use Rattle.p3_air.specs.RowCheck.{Row, row_shape}
 use Rattle.p3_air.specs.Shape.{Fits, declared_shape}
 use Rattle.p3_lookup.specs.Lookup.{FitLookups}
 use Rattle.p3_lookup.specs.Trees.{lookup_trees}
 use Rattle.p3_lookup.specs.Written.{read, read_all}
-use Rattle.batch_constraints.specs.BatchCheck.{batch_table}
+use Rattle.batch_constraints.specs.BatchCheck.{checked_table}
 use Rattle.batch_constraints.specs.Laws.Rows.{row_fits, row_fits_lookups, batch_values_are}
 use Rattle.batch_constraints.specs.Laws.Images.{all_of_map}
 use Rattle.batch_constraints.proofs.check.failing_places.Goals as goal
@@ -49,12 +49,12 @@ returns g c =
     let e = g.EF.RingCore.ring in
     let d = g.A.BaseAir.declaration c.args.air.now in
     let ls = read_all c.args.lookups.now in
-    let own = table_of c.args.main.now (option_map (λ m. m.now) c.args.preprocessed) d.periodic c.args.public_values.now in
-    let table = batch_table own ls c.args.columns.now c.args.challenges.now c.args.terminals.now in
+    let own = table_traces c.args.main.now (option_map (λ m. m.now) c.args.preprocessed) d.periodic c.args.public_values.now in
+    let table = checked_table own ls c.args.columns.now c.args.challenges.now c.args.terminals.now in
     let columns = λ (l : List (List g.row.F.Denot)). periodic_row f.zero l c.args.row in
     let periodic = c.deref.ensures.value ∙ c.in_ok-periodic.ensures ∙ ap columns c.periodic_columns.ensures in
     let row = c.new-builder.ensures.row ∙ c.row_of-values.ensures.row d.periodic periodic in
     let values = batch_values_are f e g.EF.ExtensionField.embed table (g.A.Air.trees c.args.air.now) (lookup_trees f ls) c.args.row c.new-builder.result.row
-    c.new-builder.result.values c.eval_air_and_lookups.new.builder.values row c.new-builder.ensures.values c.in_ok-eval_air_and_lookups.ensures.grows.values in
+    c.new-builder.result.values c.eval_air_and_lookups.new.builder.values row c.new-builder.ensures.values c.in_ok-eval_air_and_lookups.ensures.appends.values in
     let P : List g.row.EF.Denot → Type 0 = λ l. IfOk c.nonzero_places.result (λ v. AreNonzero e l v.items) in
     subst P (c.values.ensures ∙ values) c.nonzero_places.ensures

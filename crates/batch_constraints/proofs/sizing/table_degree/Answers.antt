@@ -1,41 +1,23 @@
-use Rattle.std.proofs.Common.{List, map, ◌∙◌, ◌≡◌, ap, length, ℕ}
-use Rattle.p3_air.specs.declared.node.Node.{Node}
-use Rattle.p3_air.specs.Degree.{polynomial_degree}
-use Rattle.p3_air.specs.Symbolic.{tree_of}
-use Rattle.p3_lookup.specs.Lookup.{greatest}
+use Rattle.std.proofs.Common.{◌≡◌, ℕ, List, length, map, ◌++◌, ◌∙◌, IfOk, ap, subst}
+use Rattle.p3_air.specs.Degree.{greatest, polynomial_degree}
+use Rattle.p3_air.specs.Recording.{asserted_at}
+use Rattle.p3_air.specs.Tree.{Tree, Asserted}
 use Rattle.p3_lookup.specs.Trees.{lookup_trees}
 use Rattle.p3_lookup.specs.Written.{read_all}
 use Rattle.batch_constraints.specs.Sizing.{periods_of}
-use Rattle.batch_constraints.specs.Laws.Degrees.{two_parts}
-use Rattle.batch_constraints.specs.Laws.Periods.{own_periods, lookup_periods}
+use Rattle.batch_constraints.specs.Laws.Rows.{asserted_values}
 use Rattle.batch_constraints.proofs.sizing.table_degree.Goals as goal
-
-pub degree_from-degree-requires-clause-periods : goal.degree_from-degree-requires-clause-periods
-degree_from-degree-requires-clause-periods g c =
-    let trees_of = λ (l : List (List (Node g.row.F.Denot))). map tree_of l in
-    let d = g.A.BaseAir.declaration c.args.air.now in
-    let periods : c.deref-2.result.now ≡ periods_of d = c.deref-2.ensures.value ∙ c.in_ok-periods.ensures ∙ ap (λ (l : List (List g.row.F.Denot)). map length l) c.periodic_columns.ensures in
-    own_periods d c.deref-2.result.now (g.A.Air.trees c.args.air.now) (map tree_of c.deref.result.now) periods
-    (ap trees_of c.deref.ensures.value ∙ c.in_ok-constraints.ensures.base) (g.met.A.Air.trees_read c.args.air.now)
-
-pub degree_from-requires-clause-periods : goal.degree_from-requires-clause-periods
-degree_from-requires-clause-periods g c =
-    let trees_of = λ (l : List (List (Node g.row.F.Denot))). map tree_of l in
-    let d = g.A.BaseAir.declaration c.args.air.now in
-    let periods : c.deref-4.result.now ≡ periods_of d = c.deref-4.ensures.value ∙ c.in_ok-periods.ensures ∙ ap (λ (l : List (List g.row.F.Denot)). map length l) c.periodic_columns.ensures in
-    lookup_periods g.F.RingCore.ring d c.deref-4.result.now (read_all c.args.contexts.now) (map tree_of c.deref-3.result.now) periods
-    (ap trees_of c.deref-3.ensures.value ∙ c.in_ok-constraints.ensures.extension) c.requires.lookups
 
 pub returns : goal.returns
 returns g c =
-    let trees_of = λ (l : List (List (Node g.row.F.Denot))). map tree_of l in
-    let d = g.A.BaseAir.declaration c.args.air.now in
+    let b = c.in_ok-builder.builder in
     let ts = g.A.Air.trees c.args.air.now in
     let us = lookup_trees g.F.RingCore.ring (read_all c.args.contexts.now) in
-    let first : c.deref-2.result.now ≡ periods_of d = c.deref-2.ensures.value ∙ c.in_ok-periods.ensures ∙ ap (λ (l : List (List g.row.F.Denot)). map length l) c.periodic_columns.ensures in
-    let second : c.deref-4.result.now ≡ periods_of d = c.deref-4.ensures.value ∙ c.in_ok-periods.ensures ∙ ap (λ (l : List (List g.row.F.Denot)). map length l) c.periodic_columns.ensures in
-    two_parts (polynomial_degree c.args.trace_len (periods_of d)) (map tree_of c.deref.result.now) (map tree_of c.deref-3.result.now) ts us c.degree_from-degree.result c.degree_from.result
-    (c.degree_from-degree.ensures ∙ ap (λ (ps : List ℕ). greatest 0 (map (polynomial_degree c.args.trace_len ps) (map tree_of c.deref.result.now))) first)
-    (c.degree_from.ensures ∙ ap (λ (ps : List ℕ). greatest c.degree_from-degree.result (map (polynomial_degree c.args.trace_len ps) (map tree_of c.deref-3.result.now))) second)
-    (ap trees_of c.deref.ensures.value ∙ c.in_ok-constraints.ensures.base)
-    (ap trees_of c.deref-3.ensures.value ∙ c.in_ok-constraints.ensures.extension)
+    let degree : List ℕ → Tree g.row.F.Denot → ℕ = polynomial_degree c.args.trace_len in
+    let found : List ℕ → List ℕ = λ ps. map (λ (a : Asserted g.row.F.Denot). degree ps a.tree) (asserted_at b.nodes b.asserted) in
+    let d = g.A.BaseAir.declaration c.args.air.now in
+    let periods : c.deref.result.now ≡ periods_of d = c.deref.ensures.value ∙ c.in_ok-periods.ensures ∙ ap (λ (l : List (List g.row.F.Denot)). map length l) c.periodic_columns.ensures in
+    let are : found (periods_of d) ≡ map (degree (periods_of d)) (ts ++ us) =
+    ap (λ (xs : List (Asserted g.row.F.Denot)). map (λ (a : Asserted g.row.F.Denot). degree (periods_of d) a.tree) xs) c.in_ok-builder.ensures ∙ asserted_values (degree (periods_of d)) ts us in
+    let P : List ℕ → Type 0 = λ ds. IfOk c.largest_poly_degree.result (λ d. d ≡ greatest 0 ds) in
+    subst P (ap found periods ∙ are) c.largest_poly_degree.ensures

@@ -1,20 +1,19 @@
-use Rattle.std.proofs.Common.{List, map, ◌∙◌, ap}
-use Rattle.p3_air.specs.declared.node.Node.{Node}
-use Rattle.p3_air.specs.Degree.{multiple}
-use Rattle.p3_air.specs.Symbolic.{tree_of}
+use Rattle.std.proofs.Common.{◌≡◌, ℕ, List, map, ◌++◌, ◌∙◌, IfOk, ap, subst}
+use Rattle.p3_air.specs.Degree.{greatest, multiple}
+use Rattle.p3_air.specs.Recording.{asserted_at}
+use Rattle.p3_air.specs.Tree.{Tree, Asserted}
 use Rattle.p3_lookup.specs.Trees.{lookup_trees}
 use Rattle.p3_lookup.specs.Written.{read_all}
-use Rattle.batch_constraints.specs.Laws.Degrees.{two_parts}
+use Rattle.batch_constraints.specs.Laws.Rows.{asserted_values}
 use Rattle.batch_constraints.proofs.sizing.table_multiple.Goals as goal
 
 pub returns : goal.returns
 returns g c =
-    let trees_of = λ (l : List (List (Node g.row.F.Denot))). map tree_of l in
+    let b = c.in_ok-builder.builder in
     let ts = g.A.Air.trees c.args.air.now in
     let us = lookup_trees g.F.RingCore.ring (read_all c.args.contexts.now) in
-    let xs = c.deref.result.now in
-    let ys = c.deref-2.result.now in
-    two_parts (multiple c.args.t) (map tree_of xs) (map tree_of ys) ts us c.multiple_from-degree.result c.multiple_from.result
-    c.multiple_from-degree.ensures c.multiple_from.ensures
-    (ap trees_of c.deref.ensures.value ∙ c.in_ok-constraints.ensures.base)
-    (ap trees_of c.deref-2.ensures.value ∙ c.in_ok-constraints.ensures.extension)
+    let degree : Tree g.row.F.Denot → ℕ = multiple c.args.t in
+    let are : map (λ (a : Asserted g.row.F.Denot). degree a.tree) (asserted_at b.nodes b.asserted) ≡ map degree (ts ++ us) =
+    ap (λ (xs : List (Asserted g.row.F.Denot)). map (λ (a : Asserted g.row.F.Denot). degree a.tree) xs) c.in_ok-builder.ensures ∙ asserted_values degree ts us in
+    let P : List ℕ → Type 0 = λ ds. IfOk c.largest_degree_multiple.result (λ d. d ≡ greatest 0 ds) in
+    subst P are c.largest_degree_multiple.ensures

@@ -5,8 +5,8 @@ use Rattle.std.specs.Option.{option_copied}
 use Rattle.std.proofs.lemmas.List.{length-map}
 use Rattle.p3_lookup.specs.Written.{read_all}
 use Rattle.batch_transcript.specs.BatchScript.{Given, is_positive}
-use Rattle.batch_statement.specs.Statement.{Table, tables_of}
-use Rattle.batch_shape_checks.specs.ShapeChecks.{bounds_with, stated}
+use Rattle.batch_statement.specs.Statement.{AirTable, tables_of}
+use Rattle.batch_shape_checks.specs.ShapeChecks.{bounds_with, statement_with}
 use Rattle.batch_draws.specs.Draws.{given_of}
 use Rattle.batch_draws.proofs.Fitting.{counts_right, fits}
 use Rattle.batch_draws.proofs.HandedOut.{handed_out}
@@ -15,7 +15,7 @@ use Rattle.batch_draws.proofs.draws.check_draws.Goals as goal
 pub play_phases-requires-clause-degree_bits : goal.play_phases-requires-clause-degree_bits
 play_phases-requires-clause-degree_bits g c =
     let a = c.args in
-    let s = stated (tables_of g.A.BaseAir.declaration g.A.Air.trees a.airs.now) (map (λ v. v.items) a.public_values.now) a.common.now in
+    let s = statement_with (tables_of g.A.BaseAir.declaration g.A.Air.trees a.airs.now) (map (λ v. v.items) a.public_values.now) a.common.now in
     let p = a.proof.now in
     let b = bounds_with g.F.PrimeCore64.ORDER_U64 a.bounds in
     let fit = fits g.row.R.Denot g.F.RingCore.ring b s p a.lookup_bits a.ood_bits c.requires.shape in
@@ -24,7 +24,7 @@ play_phases-requires-clause-degree_bits g c =
 pub play_phases-requires-clause-publics : goal.play_phases-requires-clause-publics
 play_phases-requires-clause-publics g c =
     let a = c.args in
-    let s = stated (tables_of g.A.BaseAir.declaration g.A.Air.trees a.airs.now) (map (λ v. v.items) a.public_values.now) a.common.now in
+    let s = statement_with (tables_of g.A.BaseAir.declaration g.A.Air.trees a.airs.now) (map (λ v. v.items) a.public_values.now) a.common.now in
     let p = a.proof.now in
     let b = bounds_with g.F.PrimeCore64.ORDER_U64 a.bounds in
     let fit = fits g.row.R.Denot g.F.RingCore.ring b s p a.lookup_bits a.ood_bits c.requires.shape in
@@ -33,7 +33,7 @@ play_phases-requires-clause-publics g c =
 pub play_phases-requires-clause-permutation : goal.play_phases-requires-clause-permutation
 play_phases-requires-clause-permutation g c =
     let a = c.args in
-    let s = stated (tables_of g.A.BaseAir.declaration g.A.Air.trees a.airs.now) (map (λ v. v.items) a.public_values.now) a.common.now in
+    let s = statement_with (tables_of g.A.BaseAir.declaration g.A.Air.trees a.airs.now) (map (λ v. v.items) a.public_values.now) a.common.now in
     let p = a.proof.now in
     let b = bounds_with g.F.PrimeCore64.ORDER_U64 a.bounds in
     let fit = fits g.row.R.Denot g.F.RingCore.ring b s p a.lookup_bits a.ood_bits c.requires.shape in
@@ -42,7 +42,7 @@ play_phases-requires-clause-permutation g c =
 pub play_phases-requires-clause-terminals : goal.play_phases-requires-clause-terminals
 play_phases-requires-clause-terminals g c =
     let a = c.args in
-    let s = stated (tables_of g.A.BaseAir.declaration g.A.Air.trees a.airs.now) (map (λ v. v.items) a.public_values.now) a.common.now in
+    let s = statement_with (tables_of g.A.BaseAir.declaration g.A.Air.trees a.airs.now) (map (λ v. v.items) a.public_values.now) a.common.now in
     let p = a.proof.now in
     let b = bounds_with g.F.PrimeCore64.ORDER_U64 a.bounds in
     let fit = fits g.row.R.Denot g.F.RingCore.ring b s p a.lookup_bits a.ood_bits c.requires.shape in
@@ -51,7 +51,7 @@ play_phases-requires-clause-terminals g c =
 pub play_phases-requires-clause-randomization : goal.play_phases-requires-clause-randomization
 play_phases-requires-clause-randomization g c =
     let a = c.args in
-    let s = stated (tables_of g.A.BaseAir.declaration g.A.Air.trees a.airs.now) (map (λ v. v.items) a.public_values.now) a.common.now in
+    let s = statement_with (tables_of g.A.BaseAir.declaration g.A.Air.trees a.airs.now) (map (λ v. v.items) a.public_values.now) a.common.now in
     let p = a.proof.now in
     let b = bounds_with g.F.PrimeCore64.ORDER_U64 a.bounds in
     let fit = fits g.row.R.Denot g.F.RingCore.ring b s p a.lookup_bits a.ood_bits c.requires.shape in
@@ -61,7 +61,7 @@ pub returns : goal.returns
 returns g c =
     let a = c.args in
     let f = g.F.RingCore.ring in
-    let s = stated (tables_of g.A.BaseAir.declaration g.A.Air.trees a.airs.now) (map (λ v. v.items) a.public_values.now) a.common.now in
+    let s = statement_with (tables_of g.A.BaseAir.declaration g.A.Air.trees a.airs.now) (map (λ v. v.items) a.public_values.now) a.common.now in
     let p = a.proof.now in
     let b = bounds_with g.F.PrimeCore64.ORDER_U64 a.bounds in
     let q = c.proof.inside in
@@ -95,6 +95,6 @@ returns g c =
     } in
     let lookups = ap (map (read_all {F = g.row.F.Denot})) (c.deref-2.ensures.value ∙ ap (λ x. x.lookups) c.common.view_is) in
     let counts = counts_right g.row.R.Denot f b s p c.requires.shape in
-    let tables = length-map {B = Table g.row.F.Denot} a.airs.now (λ x. record { declaration = g.A.BaseAir.declaration x; trees = g.A.Air.trees x }) in
+    let tables = length-map {B = AirTable g.row.F.Denot} a.airs.now (λ x. record { declaration = g.A.BaseAir.declaration x; trees = g.A.Air.trees x }) in
     let k = handed_out _ _ f g.EF.RingCore.ring g.EF.BasedVectorSpace.DIMENSION a.challenger a.bounds.zk a.lookup_bits a.ood_bits s p c.in_ok-shape.shape v _ _ c.in_ok-shape.ensures given lookups (counts.lookups ∙ tables) c.play_phases.result c.play_phases.ensures in
     record { verdict = k.verdict; challenges = k.challenges; alpha = k.alpha; zeta = k.zeta; state = k.state }

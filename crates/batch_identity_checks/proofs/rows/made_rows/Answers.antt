@@ -4,17 +4,17 @@ use Rattle.p3_field.specs.Field.{TwoAdic, Extension}
 use Rattle.batch_identity.specs.OpenedRows.{recombined_row}
 use Rattle.batch_identity.specs.PeriodicValues.{periodic_value}
 use Rattle.batch_statement.specs.Proof.{OpenedWithLookups}
-use Rattle.batch_identity_checks.specs.TableIdentity.{permutation_columns}
+use Rattle.batch_identity_checks.specs.TableIdentity.{permutation_column_count}
 use Rattle.batch_identity_checks.proofs.rows.made_rows.Goals as goal
 
 pub returns : goal.returns
 returns g c =
     let f : TwoAdic g.row.F.Denot = record { ring = g.F.RingCore.ring; inv = g.F.FieldCore.inv; root = g.F.TwoAdicCore.root; generator = g.F.FieldCore.GENERATOR } in
-    let e : Extension g.row.F.Denot g.row.E.Denot = record { ring = g.E.RingCore.ring; embed = g.E.ExtensionField.embed; dimension = g.E.BasedVectorSpace.DIMENSION; basis = g.E.ExtensionField.basis; parts = g.E.BasedVectorSpace.parts; whole = g.E.BasedVectorSpace.whole } in
+    let e : Extension g.row.F.Denot g.row.E.Denot = record { ring = g.E.RingCore.ring; embed = g.E.ExtensionField.embed; dimension = g.E.BasedVectorSpace.DIMENSION; basis = g.E.ExtensionField.basis; coefficients = g.E.BasedVectorSpace.coefficients; from_coefficients = g.E.BasedVectorSpace.from_coefficients } in
     let a = c.args in
     let z = g.E.RingCore.ring.zero in
     let value = periodic_value f e a.domain.now a.zeta in
-    let columns = permutation_columns a.lookups in
+    let columns = permutation_column_count a.lookups in
     record {
       trace = λ h. c.in_ok-zeros_for.ensures (c.main_next_row_columns.ensures ∙ h) ∙ ap (λ w. replicate w z) c.width.ensures;
       preprocessed = λ h. c.in_ok-zeros_for-2.ensures (c.preprocessed_next_row_columns.ensures ∙ h) ∙ ap (λ w. replicate w z) c.preprocessed_width.ensures;

@@ -10,6 +10,6 @@ use Rattle.batch_identity_checks.proofs.tables.check_tables.Given as goal
 abbrev pub invariant-loop-index : goal.invariant-loop-index
 invariant-loop-index g l =
     let f : TwoAdic g.row.F.Denot = record { ring = g.F.RingCore.ring; inv = g.F.FieldCore.inv; root = g.F.TwoAdicCore.root; generator = g.F.FieldCore.GENERATOR } in
-    let e : Extension g.row.F.Denot g.row.E.Denot = record { ring = g.E.RingCore.ring; embed = g.E.ExtensionField.embed; dimension = g.E.BasedVectorSpace.DIMENSION; basis = g.E.ExtensionField.basis; parts = g.E.BasedVectorSpace.parts; whole = g.E.BasedVectorSpace.whole } in
+    let e : Extension g.row.F.Denot g.row.E.Denot = record { ring = g.E.RingCore.ring; embed = g.E.ExtensionField.embed; dimension = g.E.BasedVectorSpace.DIMENSION; basis = g.E.ExtensionField.basis; coefficients = g.E.BasedVectorSpace.coefficients; from_coefficients = g.E.BasedVectorSpace.from_coefficients } in
     NoneFails (in_turn l.index (identity_by {R = g.row.R.Denot} f e l.masks (tables_of g.A.BaseAir.declaration g.A.Air.trees l.airs) (map (λ v. v.items) l.public_values)
     (map read_all l.lookups) l.instances (map (option_map (λ t. t.0)) l.terminals) l.degree_bits (map (λ v. v.items) l.challenges) (map (λ v. v.items) l.domains) l.alpha l.zeta))

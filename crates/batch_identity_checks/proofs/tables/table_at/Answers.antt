@@ -7,7 +7,7 @@ use Rattle.p3_lookup.specs.Written.{Written, read_all}
 use Rattle.p3_lookup.specs.declared.terminal.LookupTerminal.{LookupTerminal}
 use Rattle.p3_uni_stark.specs.Recombine.{AllDisjoint}
 use Rattle.batch_constraints.specs.BatchTrees.{AreLookupsOf}
-use Rattle.batch_statement.specs.Statement.{Table}
+use Rattle.batch_statement.specs.Statement.{AirTable}
 use Rattle.batch_shape_checks.specs.ShapeChecks.{no_opened, no_table}
 use Rattle.batch_shape_checks.specs.Verdict.{IsVerdict}
 use Rattle.batch_identity_checks.specs.TableIdentity.{identity_of_table}
@@ -44,10 +44,10 @@ check_table-requires-clause-disjoint g c =
 pub returns : goal.returns
 returns g c =
     let f : TwoAdic g.row.F.Denot = record { ring = g.F.RingCore.ring; inv = g.F.FieldCore.inv; root = g.F.TwoAdicCore.root; generator = g.F.FieldCore.GENERATOR } in
-    let e : Extension g.row.F.Denot g.row.E.Denot = record { ring = g.E.RingCore.ring; embed = g.E.ExtensionField.embed; dimension = g.E.BasedVectorSpace.DIMENSION; basis = g.E.ExtensionField.basis; parts = g.E.BasedVectorSpace.parts; whole = g.E.BasedVectorSpace.whole } in
+    let e : Extension g.row.F.Denot g.row.E.Denot = record { ring = g.E.RingCore.ring; embed = g.E.ExtensionField.embed; dimension = g.E.BasedVectorSpace.DIMENSION; basis = g.E.ExtensionField.basis; coefficients = g.E.BasedVectorSpace.coefficients; from_coefficients = g.E.BasedVectorSpace.from_coefficients } in
     let a = c.args in
     let i = a.index in
-    let table_of : g.row.A.Denot → Table g.row.F.Denot = λ x. record { declaration = g.A.BaseAir.declaration x; trees = g.A.Air.trees x } in
+    let table_of : g.row.A.Denot → AirTable g.row.F.Denot = λ x. record { declaration = g.A.BaseAir.declaration x; trees = g.A.Air.trees x } in
     let table_is = image_at table_of a.airs.now i c.index-airs-index.result no_table c.requires.airs c.index-airs-index.is in
     let lookups_are : read_all c.as_slice.result.now ≡ get_or (map (read_all {F = g.row.F.Denot}) a.lookups.now) i [] =
     ap read_all c.as_slice.ensures ∙ image_at read_all a.lookups.now i c.index-lookups-index.result [] c.requires.lookups c.index-lookups-index.is in

@@ -2,7 +2,7 @@ use Rattle.std.proofs.Common.{◌≡◌, ℕ, ◌<◌, List, [], length, get_or,
 use Rattle.std.proofs.lemmas.List.{length-map}
 use Rattle.p3_lookup.specs.Written.{Written, read_all}
 use Rattle.batch_constraints.specs.BatchTrees.{AreLookupsOf}
-use Rattle.batch_statement.specs.Statement.{Table, WrittenCommon}
+use Rattle.batch_statement.specs.Statement.{AirTable, WrittenCommon}
 use Rattle.batch_shape_checks.specs.ShapeChecks.{HasEntries}
 use Rattle.batch_shape_checks.specs.Laws.Reads.{lookups_are_tables}
 use Rattle.batch_identity_checks.proofs.whole.batch_identities.Goals as goal
@@ -11,7 +11,7 @@ pub check_tables-requires-clause-reads : goal.check_tables-requires-clause-reads
 check_tables-requires-clause-reads g c =
     let a = c.args in
     let D = g.A.BaseAir.declaration in
-    let n = length-map {B = Table g.row.F.Denot} a.airs.now (λ x. record { declaration = D x; trees = g.A.Air.trees x }) in
+    let n = length-map {B = AirTable g.row.F.Denot} a.airs.now (λ x. record { declaration = D x; trees = g.A.Air.trees x }) in
     let k = c.requires.counted in
     let many : length a.common.now.lookups ≡ length a.airs.now = sym (length-map a.common.now.lookups (read_all {F = g.row.F.Denot})) ∙ k.lookups ∙ n in
     let entries : HasEntries (length a.airs.now) a.common.now.preprocessed = subst (λ m. HasEntries m a.common.now.preprocessed) n k.entries in

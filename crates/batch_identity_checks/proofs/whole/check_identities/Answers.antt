@@ -3,8 +3,8 @@ use Rattle.std.proofs.lemmas.List.{length-map}
 use Rattle.p3_field.specs.Checks.{NoneFails}
 use Rattle.p3_field.specs.Domain.{CosetData}
 use Rattle.p3_field.specs.Field.{TwoAdic}
-use Rattle.batch_statement.specs.Statement.{Table, tables_of}
-use Rattle.batch_shape_checks.specs.ShapeChecks.{bounds_with, chunks_at, opened_at, stated}
+use Rattle.batch_statement.specs.Statement.{AirTable, tables_of}
+use Rattle.batch_shape_checks.specs.ShapeChecks.{bounds_with, log_chunks_at, opened_checks_at, statement_with}
 use Rattle.batch_identity_checks.proofs.Domains.{domains_count, domains_disjoint, domains_number}
 use Rattle.batch_identity_checks.proofs.Shape.{bits_hold, counts_hold, opened_holds}
 use Rattle.batch_identity_checks.proofs.whole.check_identities.Goals as goal
@@ -13,22 +13,22 @@ pub batch_identities-requires-clause-counted : goal.batch_identities-requires-cl
 batch_identities-requires-clause-counted g c =
     let a = c.args in
     let f : TwoAdic g.row.F.Denot = record { ring = g.F.RingCore.ring; inv = g.F.FieldCore.inv; root = g.F.TwoAdicCore.root; generator = g.F.FieldCore.GENERATOR } in
-    let s = stated (tables_of g.A.BaseAir.declaration g.A.Air.trees a.airs.now) (map (λ v. v.items) a.public_values.now) a.common.now in
+    let s = statement_with (tables_of g.A.BaseAir.declaration g.A.Air.trees a.airs.now) (map (λ v. v.items) a.public_values.now) a.common.now in
     let p = a.proof.now in
     let b = bounds_with g.F.PrimeCore64.ORDER_U64 a.bounds in
-    let n = length-map {B = Table g.row.F.Denot} a.airs.now (λ x. record { declaration = g.A.BaseAir.declaration x; trees = g.A.Air.trees x }) in
+    let n = length-map {B = AirTable g.row.F.Denot} a.airs.now (λ x. record { declaration = g.A.BaseAir.declaration x; trees = g.A.Air.trees x }) in
     counts_hold g.row.R.Denot f.ring b s p c.requires.shape
 
 pub batch_identities-requires-clause-domains : goal.batch_identities-requires-clause-domains
 batch_identities-requires-clause-domains g c =
     let a = c.args in
     let f : TwoAdic g.row.F.Denot = record { ring = g.F.RingCore.ring; inv = g.F.FieldCore.inv; root = g.F.TwoAdicCore.root; generator = g.F.FieldCore.GENERATOR } in
-    let s = stated (tables_of g.A.BaseAir.declaration g.A.Air.trees a.airs.now) (map (λ v. v.items) a.public_values.now) a.common.now in
+    let s = statement_with (tables_of g.A.BaseAir.declaration g.A.Air.trees a.airs.now) (map (λ v. v.items) a.public_values.now) a.common.now in
     let p = a.proof.now in
     let b = bounds_with g.F.PrimeCore64.ORDER_U64 a.bounds in
-    let n = length-map {B = Table g.row.F.Denot} a.airs.now (λ x. record { declaration = g.A.BaseAir.declaration x; trees = g.A.Air.trees x }) in
+    let n = length-map {B = AirTable g.row.F.Denot} a.airs.now (λ x. record { declaration = g.A.BaseAir.declaration x; trees = g.A.Air.trees x }) in
     let bits = λ (i : ℕ). get_or p.degree_bits i 0 in
-    let chunks = chunks_at f.ring a.bounds.masks s.tables s.common.lookups p.degree_bits in
+    let chunks = log_chunks_at f.ring a.bounds.masks s.tables s.common.lookups p.degree_bits in
     let domains = map (λ (v : Vec (CosetData g.row.F.Denot) Global). v.items) a.domains.now in
     sym (length-map a.domains.now (λ (v : Vec (CosetData g.row.F.Denot) Global). v.items)) ∙ domains_number f a.bounds.masks (length a.airs.now) bits chunks domains c.requires.domains
 
@@ -36,28 +36,28 @@ pub batch_identities-requires-clause-shape : goal.batch_identities-requires-clau
 batch_identities-requires-clause-shape g c = λ i l.
     let a = c.args in
     let f : TwoAdic g.row.F.Denot = record { ring = g.F.RingCore.ring; inv = g.F.FieldCore.inv; root = g.F.TwoAdicCore.root; generator = g.F.FieldCore.GENERATOR } in
-    let s = stated (tables_of g.A.BaseAir.declaration g.A.Air.trees a.airs.now) (map (λ v. v.items) a.public_values.now) a.common.now in
+    let s = statement_with (tables_of g.A.BaseAir.declaration g.A.Air.trees a.airs.now) (map (λ v. v.items) a.public_values.now) a.common.now in
     let p = a.proof.now in
     let b = bounds_with g.F.PrimeCore64.ORDER_U64 a.bounds in
-    let n = length-map {B = Table g.row.F.Denot} a.airs.now (λ x. record { declaration = g.A.BaseAir.declaration x; trees = g.A.Air.trees x }) in
+    let n = length-map {B = AirTable g.row.F.Denot} a.airs.now (λ x. record { declaration = g.A.BaseAir.declaration x; trees = g.A.Air.trees x }) in
     let bits = λ (i : ℕ). get_or p.degree_bits i 0 in
-    let chunks = chunks_at f.ring a.bounds.masks s.tables s.common.lookups p.degree_bits in
+    let chunks = log_chunks_at f.ring a.bounds.masks s.tables s.common.lookups p.degree_bits in
     let domains = map (λ (v : Vec (CosetData g.row.F.Denot) Global). v.items) a.domains.now in
     let here = opened_holds g.row.R.Denot f.ring b s p c.requires.shape i (subst (λ m. i < m) (sym n) l) in
     let count = domains_count f a.bounds.masks (length a.airs.now) bits chunks domains c.requires.domains i l in
-    let P : ℕ → ℕ → Type 0 = λ k d. NoneFails (opened_at {R = g.row.R.Denot} s.tables s.publics s.common.lookups p.instances p.lookup_terminals k d i) in
+    let P : ℕ → ℕ → Type 0 = λ k d. NoneFails (opened_checks_at {R = g.row.R.Denot} s.tables s.publics s.common.lookups p.instances p.lookup_terminals k d i) in
     subst (λ d. P (length (get_or domains i [])) d) c.requires.dimension (subst (λ k. P k a.bounds.dimension) (sym count) here)
 
 pub batch_identities-requires-clause-disjoint : goal.batch_identities-requires-clause-disjoint
 batch_identities-requires-clause-disjoint g c = λ i l.
     let a = c.args in
     let f : TwoAdic g.row.F.Denot = record { ring = g.F.RingCore.ring; inv = g.F.FieldCore.inv; root = g.F.TwoAdicCore.root; generator = g.F.FieldCore.GENERATOR } in
-    let s = stated (tables_of g.A.BaseAir.declaration g.A.Air.trees a.airs.now) (map (λ v. v.items) a.public_values.now) a.common.now in
+    let s = statement_with (tables_of g.A.BaseAir.declaration g.A.Air.trees a.airs.now) (map (λ v. v.items) a.public_values.now) a.common.now in
     let p = a.proof.now in
     let b = bounds_with g.F.PrimeCore64.ORDER_U64 a.bounds in
-    let n = length-map {B = Table g.row.F.Denot} a.airs.now (λ x. record { declaration = g.A.BaseAir.declaration x; trees = g.A.Air.trees x }) in
+    let n = length-map {B = AirTable g.row.F.Denot} a.airs.now (λ x. record { declaration = g.A.BaseAir.declaration x; trees = g.A.Air.trees x }) in
     let bits = λ (i : ℕ). get_or p.degree_bits i 0 in
-    let chunks = chunks_at f.ring a.bounds.masks s.tables s.common.lookups p.degree_bits in
+    let chunks = log_chunks_at f.ring a.bounds.masks s.tables s.common.lookups p.degree_bits in
     let domains = map (λ (v : Vec (CosetData g.row.F.Denot) Global). v.items) a.domains.now in
     let low = bits_hold g.row.R.Denot f.ring b s p c.requires.shape i (subst (λ m. i < m) (sym n) l) in
     let masked = c.requires.masked in

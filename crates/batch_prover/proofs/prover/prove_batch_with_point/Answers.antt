@@ -11,7 +11,7 @@ use Rattle.honest_acceptance.specs.Laws.Airs.{airs_accepted}
 use Rattle.batch_proving.specs.Backend.{ProverBackend}
 use Rattle.batch_proving.specs.Batch.{Batch, all_chunks, batch_of, main_matrices}
 use Rattle.batch_proving.specs.Laws.Verdicts.{answer_exits}
-use Rattle.prover_openings.specs.Asked.{KeptRounds}
+use Rattle.prover_openings.specs.Asked.{RoundsProverData}
 use Rattle.prover_traces.specs.Laws.Instances.{powers}
 use Rattle.batch_prover.proofs.Answered.{all_granted, bound_refused, drawn_refused, open_refused, trace_refused}
 use Rattle.batch_prover.proofs.Assembled.{both_of, built_of, honest_of, proved_of}
@@ -39,7 +39,7 @@ batch_is g config instances common =
       field = record { ring = g.SC.Val.RingCore.ring; inv = g.SC.Val.FieldCore.inv; root = g.SC.Val.TwoAdicCore.root; generator = g.SC.Val.FieldCore.GENERATOR };
       two_adicity = g.SC.Val.TwoAdicCore.TWO_ADICITY;
       order = g.SC.Val.PrimeCore64.ORDER_U64;
-      extension = record { ring = g.SC.Challenge.RingCore.ring; embed = g.SC.Challenge.ExtensionField.embed; dimension = g.SC.Challenge.BasedVectorSpace.DIMENSION; basis = g.SC.Challenge.ExtensionField.basis; parts = g.SC.Challenge.BasedVectorSpace.parts; whole = g.SC.Challenge.BasedVectorSpace.whole };
+      extension = record { ring = g.SC.Challenge.RingCore.ring; embed = g.SC.Challenge.ExtensionField.embed; dimension = g.SC.Challenge.BasedVectorSpace.DIMENSION; basis = g.SC.Challenge.ExtensionField.basis; coefficients = g.SC.Challenge.BasedVectorSpace.coefficients; from_coefficients = g.SC.Challenge.BasedVectorSpace.from_coefficients };
       challenger = record {
         observe = g.SC.Challenger.CanObserve-2.observed;
         observe_extension = g.SC.Challenger.CanObserve-1.observed;
@@ -115,14 +115,14 @@ open_batch-requires-clause-ready g c =
 pub returns-in_err-opened-clause-verdict : goal.returns-in_err-opened-clause-verdict
 returns-in_err-opened-clause-verdict g c =
     let b = batch_is g c.args.config.now c.args.instances.now c.args.prover_data.now.common in
-    let kept : KeptRounds g.row.SC-Pcs-ProverData.Denot = record { main = c.in_ok-main.main_data; quotient = c.in_ok-lookups.quotients.data; preprocessed = option_map (λ d. d.now) c.as_ref.result; permutation = option_map (λ d. d.now) c.data_of.result } in
+    let kept : RoundsProverData g.row.SC-Pcs-ProverData.Denot = record { main = c.in_ok-main.main_data; quotient = c.in_ok-lookups.quotients.data; preprocessed = option_map (λ d. d.now) c.as_ref.result; permutation = option_map (λ d. d.now) c.data_of.result } in
     answer_exits _ _ _ c.from_residual-in_err-opened.ensures.1
     (open_refused (backend_of g c.args.config.now) b kept _ c.in_ok-check_bound.ensures c.in_ok-main.ensures.verdict c.in_ok-lookups.ensures.verdict c.in_err-opened.ensures.verdict)
 
 pub returns-clause-verdict : goal.returns-clause-verdict
 returns-clause-verdict g c =
     let b = batch_is g c.args.config.now c.args.instances.now c.args.prover_data.now.common in
-    let kept : KeptRounds g.row.SC-Pcs-ProverData.Denot = record { main = c.in_ok-main.main_data; quotient = c.in_ok-lookups.quotients.data; preprocessed = option_map (λ d. d.now) c.as_ref.result; permutation = option_map (λ d. d.now) c.data_of.result } in
+    let kept : RoundsProverData g.row.SC-Pcs-ProverData.Denot = record { main = c.in_ok-main.main_data; quotient = c.in_ok-lookups.quotients.data; preprocessed = option_map (λ d. d.now) c.as_ref.result; permutation = option_map (λ d. d.now) c.data_of.result } in
     all_granted (backend_of g c.args.config.now) b kept c.in_ok-check_bound.ensures c.in_ok-main.ensures.verdict c.in_ok-lookups.ensures.verdict c.in_ok-opened.ensures.verdict
 
 pub returns-clause-proved : goal.returns-clause-proved

@@ -21,11 +21,11 @@ follows (Err e) P Q h k = h
 
 pub new-matrix-requires : goal.new-matrix-requires
 new-matrix-requires g c =
-    let parts = g.E.BasedVectorSpace.parts in
+    let parts = g.E.BasedVectorSpace.coefficients in
     let d = g.E.BasedVectorSpace.DIMENSION in
     let V = g.met.E.BasedVectorSpace.vector_laws in
     let xs = c.args.values.now in
-    let count : length c.in_ok-flat.flat.items ≡ length xs * d = ap length c.in_ok-flat.ensures ∙ length-pieces parts d V.parts_length xs in
+    let count : length c.in_ok-flat.flat.items ≡ length xs * d = ap length c.in_ok-flat.ensures ∙ length-pieces parts d V.coefficients_length xs in
     product_fills c.in_ok-flat.flat.items (length xs) c.DIMENSION.result (count ∙ ap (λ k. length xs * k) (sym c.DIMENSION.ensures))
 
 pub split_evals-requires-clause-height : goal.split_evals-requires-clause-height
@@ -33,7 +33,7 @@ split_evals-requires-clause-height g c =
     let V = g.met.E.BasedVectorSpace.vector_laws in
     ap height c.new-matrix.ensures
     ∙ ((λ j. height (record { values = c.in_ok-flat.ensures j; width = c.DIMENSION.ensures j }))
-    ∙ (height_of_pieces g.E.BasedVectorSpace.parts g.E.BasedVectorSpace.DIMENSION V.parts_length V.positive c.args.values.now ∙ c.requires.count))
+    ∙ (height_of_pieces g.E.BasedVectorSpace.coefficients g.E.BasedVectorSpace.DIMENSION V.coefficients_length V.positive c.args.values.now ∙ c.requires.count))
 
 pub paired-requires : goal.paired-requires
 paired-requires g c = ap length c.deref.ensures.value ∙ (c.in_ok-domains.ensures.count ∙ sym c.in_ok-rows.ensures.count)
@@ -41,7 +41,7 @@ paired-requires g c = ap length c.deref.ensures.value ∙ (c.in_ok-domains.ensur
 pub returns : goal.returns
 returns g c =
     let f : TwoAdic g.row.F.Denot = record { ring = g.F.RingCore.ring; inv = g.F.FieldCore.inv; root = g.F.TwoAdicCore.root; generator = g.F.FieldCore.GENERATOR } in
-    let e : Extension g.row.F.Denot g.row.E.Denot = record { ring = g.E.RingCore.ring; embed = g.E.ExtensionField.embed; dimension = g.E.BasedVectorSpace.DIMENSION; basis = g.E.ExtensionField.basis; parts = g.E.BasedVectorSpace.parts; whole = g.E.BasedVectorSpace.whole } in
+    let e : Extension g.row.F.Denot g.row.E.Denot = record { ring = g.E.RingCore.ring; embed = g.E.ExtensionField.embed; dimension = g.E.BasedVectorSpace.DIMENSION; basis = g.E.ExtensionField.basis; coefficients = g.E.BasedVectorSpace.coefficients; from_coefficients = g.E.BasedVectorSpace.from_coefficients } in
     let L : FieldsLaws f e g.F.TwoAdicCore.TWO_ADICITY g.E.FieldCore.inv = record {
       below = g.met.F.RingCore.ring_laws;
       below_field = g.met.F.FieldCore.field_laws;
@@ -57,7 +57,7 @@ returns g c =
     let D = c.args.quotient_domain in
     let n = c.args.num_chunks in
     let m = c.new-matrix.result in
-    let whole : m ≡ record { values = flat_map e.parts c.args.values.now; width = e.dimension } =
+    let whole : m ≡ record { values = flat_map e.coefficients c.args.values.now; width = e.dimension } =
     c.new-matrix.ensures ∙ (λ j. record { values = c.in_ok-flat.ensures j; width = c.DIMENSION.ensures j }) in
     let parts : AreParts (IsPart f.ring f.root D n) m n (zip c.deref.result.now c.in_ok-rows.rows.items) =
     subst (λ (ds : List (CosetData g.row.F.Denot)). AreParts (IsPart f.ring f.root D n) m n (zip ds c.in_ok-rows.rows.items)) (sym c.deref.ensures.value)

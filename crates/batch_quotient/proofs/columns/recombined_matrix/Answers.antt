@@ -34,5 +34,5 @@ new-requires g c =
     let xs = c.in_ok-values.values.items in
     let whole : height m * (c.args.columns * D) ≡ length m.values = ap (λ w. height m * w) (sym c.requires) ∙ c.as_slice.ensures.fills in
     let flat : length xs * D ≡ length m.values =
-    sym (length-pieces g.E.BasedVectorSpace.parts D V.parts_length xs) ∙ ap length (c.in_ok-values.ensures ∙ c.as_slice.ensures.values) in
+    sym (length-pieces g.E.BasedVectorSpace.coefficients D V.coefficients_length xs) ∙ ap length (c.in_ok-values.ensures ∙ c.as_slice.ensures.values) in
     product_fills xs (height m) c.args.columns (rows_fill (length xs) (height m) c.args.columns D V.positive (flat ∙ sym whole))

@@ -3,13 +3,13 @@ use Rattle.std.specs.Option.{option_map}
 use Rattle.std.proofs.lemmas.List.{get_or_default}
 use Rattle.std.proofs.lemmas.Nat.{mod_below, pow_pos}
 use Rattle.p3_field.specs.Field.{TwoAdic, Extension}
-use Rattle.p3_field.specs.Laws.Tables.{length-table, table_push}
+use Rattle.p3_field.specs.Laws.Tabulate.{length-tabulate, tabulate_push}
 use Rattle.p3_field.specs.Laws.TwoAdic.{decide_by}
 use Rattle.p3_matrix.specs.Matrix.{height}
 use Rattle.p3_air.specs.CellValues.{CellValues, reading_at}
-use Rattle.p3_air.specs.Layout.{total}
+use Rattle.p3_air.specs.Layout.{place_count}
 use Rattle.p3_air.specs.Shape.{Fits, declared_shape}
-use Rattle.p3_air.specs.Tree.{ev}
+use Rattle.p3_air.specs.Tree.{eval_tree}
 use Rattle.p3_lookup.specs.Trees.{lookup_trees}
 use Rattle.p3_lookup.specs.Written.{read_all}
 use Rattle.p3_uni_stark.specs.Fold.{fold, fold_powers}
@@ -17,7 +17,7 @@ use Rattle.batch_constraints.specs.BatchTrees.{table_trees}
 use Rattle.committed_tables.specs.Fields.{FieldsLaws}
 use Rattle.batch_prover_folder.specs.FolderState.{GivenWithLookups, given_cells, given_shape}
 use Rattle.batch_quotient.specs.QuotientRows.{QuotientRows, given_at, quotient_term}
-use Rattle.batch_quotient.specs.Laws.QuotientValues.{HaveRows, terms_are}
+use Rattle.batch_quotient.specs.Laws.QuotientValues.{HaveQuotientRows, terms_are}
 use Rattle.batch_quotient.proofs.QuotientSteps.{further_fits, flattened_tall, if_some_mapped, total_is, within}
 use Rattle.batch_quotient.proofs.RowFits.{columns_fit, row_fits}
 use Rattle.batch_quotient.proofs.quotient.quotient_on.Goals as goal
@@ -60,7 +60,7 @@ prover_fold_with_lookups-folded-requires-clause-declared g c =
     let after : next < N = omega (arith, inside, c.size-size.ensures) in
     let preprocessed = if_some_mapped (λ m. m.now) (λ r. height r ≡ N) c.args.preprocessed c.requires.preprocessed_height in
     let permutation = if_some_mapped (λ m. m.now) (λ r. height r ≡ N) c.args.permutation c.requires.permutation_height in
-    let periods = ap length (c.deref.ensures.value ∙ c.in_ok-read_periodic.ensures) ∙ (length-table c.args.periodic.now.width _ ∙ c.requires.periodic.width_is) in
+    let periods = ap length (c.deref.ensures.value ∙ c.in_ok-read_periodic.ensures) ∙ (length-tabulate c.args.periodic.now.width _ ∙ c.requires.periodic.width_is) in
     let P : GivenWithLookups g.row.F.Denot g.row.E.Denot → Type 0 = λ w. Fits (declared_shape d) (given_shape w) in
     subst P (sym c.folder_at-folder.ensures.given)
     (row_fits d z q c.deref.result.now c.deref-in-loop-row.result.now N row next low after (g.met.A.BaseAir.next_below c.args.air.now) (g.met.A.BaseAir.preprocessed_next_below c.args.air.now)
@@ -131,20 +131,20 @@ loop-row-preserved g c =
     let t = quotient_term z s embed q T trees inverses step size alpha in
     let given = c.folder_at-folder.ensures.given in
     let read = c.deref.ensures.value ∙ c.in_ok-read_periodic.ensures in
-    let count : c.total_constraints.result ≡ length trees = c.total_constraints.ensures ∙ (ap total c.in_ok-constraints.ensures ∙ total_is own others) in
+    let count : c.total_constraints.result ≡ length trees = c.total_constraints.ensures ∙ (ap place_count c.in_ok-constraints.ensures ∙ total_is own others) in
     let powers = ap (λ (w : GivenWithLookups g.row.F.Denot g.row.E.Denot). w.plain.powers) given ∙ (c.deref-in-loop-row.ensures.value ∙ (c.in_ok-alpha_powers.ensures ∙ ap (fold_powers s alpha) count)) in
     let cells = ap (given_cells s.zero embed) given ∙ ap (λ (p : List g.row.F.Denot). given_cells s.zero embed (given_at z q p [] row next)) read in
-    let folded = c.prover_fold_with_lookups-folded.ensures.fold alpha powers ∙ ap (λ (v : CellValues g.row.E.Denot). fold s alpha (map (ev (reading_at s embed v)) trees)) cells in
+    let folded = c.prover_fold_with_lookups-folded.ensures.fold alpha powers ∙ ap (λ (v : CellValues g.row.E.Denot). fold s alpha (map (eval_tree (reading_at s embed v)) trees)) cells in
     let place : row % step < step = mod_below row step (omega (arith, c.expansion-step.ensures, pow_pos (c.args.quotient_domain.log_size - c.args.trace_domain.log_size))) in
     let inside : row % step < length inverses = within _ _ _ _ _ c.in_ok-selectors.ensures.inverse c.expansion-step.ensures place in
     let item : c.index.result.now ≡ get_or inverses (row % step) z = c.index.ensures ∙ get_or_default inverses (row % step) c.index.result.now z inside in
     let value : c.mul.result ≡ t row = g.met.E.PrimeCharacteristicRing.muls _ _ _ c.mul.ensures ∙ (λ j. s.mul (folded j) ((c.from_base.ensures ∙ ap embed item) j)) in
-    c.in_ok-push.ensures.items ∙ table_push row t _ _ c.loop-row.invariant value
+    c.in_ok-push.ensures.items ∙ tabulate_push row t _ _ c.loop-row.invariant value
 
 pub returns : goal.returns
 returns g c = λ t low R.
     let f : TwoAdic g.row.F.Denot = record { ring = g.F.RingCore.ring; inv = g.F.FieldCore.inv; root = g.F.TwoAdicCore.root; generator = g.F.FieldCore.GENERATOR } in
-    let e : Extension g.row.F.Denot g.row.E.Denot = record { ring = g.E.RingCore.ring; embed = g.E.ExtensionField.embed; dimension = g.E.BasedVectorSpace.DIMENSION; basis = g.E.ExtensionField.basis; parts = g.E.BasedVectorSpace.parts; whole = g.E.BasedVectorSpace.whole } in
+    let e : Extension g.row.F.Denot g.row.E.Denot = record { ring = g.E.RingCore.ring; embed = g.E.ExtensionField.embed; dimension = g.E.BasedVectorSpace.DIMENSION; basis = g.E.ExtensionField.basis; coefficients = g.E.BasedVectorSpace.coefficients; from_coefficients = g.E.BasedVectorSpace.from_coefficients } in
     let L : FieldsLaws f e g.F.TwoAdicCore.TWO_ADICITY g.E.FieldCore.inv = record {
       below = g.met.F.RingCore.ring_laws;
       below_field = g.met.F.FieldCore.field_laws;
@@ -173,7 +173,7 @@ returns g c = λ t low R.
       transition = c.in_ok-selectors.selectors.is_transition.items;
     } in
     let rows = if_some_mapped (λ m. m.now) (λ r. height r ≡ N) c.args.permutation c.requires.permutation_height in
-    let H : HaveRows f e d u q c.args.periodic.now columns = record {
+    let H : HaveQuotientRows f e d u q c.args.periodic.now columns = record {
       main = c.requires.height;
       preprocessed = if_some_mapped (λ m. m.now) (λ r. height r ≡ N) c.args.preprocessed c.requires.preprocessed_height;
       permutation = flattened_tall e L.vector q.permutation N rows;

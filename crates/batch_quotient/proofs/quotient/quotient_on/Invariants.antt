@@ -1,6 +1,6 @@
 use Rattle.std.proofs.Common.{◌≡◌}
 use Rattle.std.specs.Option.{option_map}
-use Rattle.p3_field.specs.Poly.{table}
+use Rattle.p3_field.specs.Poly.{tabulate}
 use Rattle.p3_lookup.specs.Written.{read_all}
 use Rattle.batch_constraints.specs.BatchTrees.{table_trees}
 use Rattle.batch_quotient.specs.QuotientRows.{QuotientRows, quotient_term}
@@ -19,4 +19,4 @@ invariant-loop-row g l =
       last_row = l.selectors.is_last_row.items;
       transition = l.selectors.is_transition.items;
     } in
-    l.values.items ≡ table l.row (quotient_term g.F.RingCore.ring.zero g.E.RingCore.ring g.E.ExtensionField.embed q l.periodic (table_trees g.F.RingCore.ring (g.A.Air.trees l.air) (read_all l.lookups)) l.selectors.inv_vanishing.items l.step l.size l.fn.alpha)
+    l.values.items ≡ tabulate l.row (quotient_term g.F.RingCore.ring.zero g.E.RingCore.ring g.E.ExtensionField.embed q l.periodic (table_trees g.F.RingCore.ring (g.A.Air.trees l.air) (read_all l.lookups)) l.selectors.inv_vanishing.items l.step l.size l.fn.alpha)

@@ -1,10 +1,10 @@
 use Rattle.std.proofs.Common.{◌≡◌, ◌-◌, ◌^◌, sym, ◌∙◌, ap}
 use Rattle.p3_field.specs.Ring.{sub}
-use Rattle.p3_field.specs.Poly.{val, table}
-use Rattle.p3_field.specs.Domain.{coset_point, point, van}
+use Rattle.p3_field.specs.Poly.{eval_poly, tabulate}
+use Rattle.p3_field.specs.Domain.{coset_point, point, vanishing_polynomial}
 use Rattle.p3_field.specs.Laws.Inverses.{root_inverts}
 use Rattle.p3_field.specs.Laws.TwoAdic.{decide_by}
-use Rattle.p3_commit.proofs.SelectorLaws.{from_first, from_last, nonzero_items, inverse_list, first_not_zero_at, last_not_zero_at, transition_list}
+use Rattle.p3_commit.specs.Laws.SelectorLaws.{from_first, from_last, nonzero_items, inverse_list, first_not_zero_at, last_not_zero_at, transition_list}
 use Rattle.batch_quotient.proofs.Selecting.{some, values_not_zero, firsts, lasts}
 use Rattle.batch_quotient.proofs.selectors.row_selectors.Goals as goal
 
@@ -39,8 +39,8 @@ repeated_quotients-requires-clause-nonzero g c =
     let dec = decide_by _ g.met.F.FieldCore.eq_same g.met.F.FieldCore.same_eq in
     let d = c.args.trace_domain.now in
     let e = c.args.quotient_domain.now in
-    let xs : c.in_ok-from_first.from_first.items ≡ table (2 ^ e.log_size) (from_first r L inv W top root T dec d e c.valid.ensures.0 c.valid.ensures.1 c.requires.disjoint) =
-    c.in_ok-from_first.ensures ∙ ap (λ o. table (2 ^ e.log_size) (λ i. sub r (coset_point r (r.mul (inv d.shift) e.shift) (root e.log_size) i) o)) (c.ONE.ensures ∙ g.met.F.RingCore.one_is) in
+    let xs : c.in_ok-from_first.from_first.items ≡ tabulate (2 ^ e.log_size) (from_first r L inv W top root T dec d e c.valid.ensures.0 c.valid.ensures.1 c.requires.disjoint) =
+    c.in_ok-from_first.ensures ∙ ap (λ o. tabulate (2 ^ e.log_size) (λ i. sub r (coset_point r (r.mul (inv d.shift) e.shift) (root e.log_size) i) o)) (c.ONE.ensures ∙ g.met.F.RingCore.one_is) in
     nonzero_items r.zero c.deref-2.result.now (2 ^ e.log_size) (from_first r L inv W top root T dec d e c.valid.ensures.0 c.valid.ensures.1 c.requires.disjoint) (c.deref-2.ensures.value ∙ xs) (first_not_zero_at r L inv W top root T dec d e c.valid.ensures.0 c.valid.ensures.1 c.requires.disjoint)
 
 pub repeated_quotients-requires-2-clause-some : goal.repeated_quotients-requires-2-clause-some
@@ -69,8 +69,8 @@ repeated_quotients-requires-2-clause-nonzero g c =
     let dec = decide_by _ g.met.F.FieldCore.eq_same g.met.F.FieldCore.same_eq in
     let d = c.args.trace_domain.now in
     let e = c.args.quotient_domain.now in
-    let xs : c.in_ok-from_last.from_last.items ≡ table (2 ^ e.log_size) (from_last r L inv W top root T dec d e c.valid.ensures.0 c.valid.ensures.1 c.requires.disjoint) =
-    c.in_ok-from_last.ensures ∙ ap (λ o. table (2 ^ e.log_size) (λ i. sub r (coset_point r (r.mul (inv d.shift) e.shift) (root e.log_size) i) o)) (c.inverse-last_place.ensures ∙ ap inv c.subgroup_generator.ensures) in
+    let xs : c.in_ok-from_last.from_last.items ≡ tabulate (2 ^ e.log_size) (from_last r L inv W top root T dec d e c.valid.ensures.0 c.valid.ensures.1 c.requires.disjoint) =
+    c.in_ok-from_last.ensures ∙ ap (λ o. tabulate (2 ^ e.log_size) (λ i. sub r (coset_point r (r.mul (inv d.shift) e.shift) (root e.log_size) i) o)) (c.inverse-last_place.ensures ∙ ap inv c.subgroup_generator.ensures) in
     nonzero_items r.zero c.deref-4.result.now (2 ^ e.log_size) (from_last r L inv W top root T dec d e c.valid.ensures.0 c.valid.ensures.1 c.requires.disjoint) (c.deref-4.ensures.value ∙ xs) (last_not_zero_at r L inv W top root T dec d e c.valid.ensures.0 c.valid.ensures.1 c.requires.disjoint)
 
 pub batch_multiplicative_inverse-requires : goal.batch_multiplicative_inverse-requires
@@ -99,8 +99,8 @@ returns-clause-first g c =
     let dec = decide_by _ g.met.F.FieldCore.eq_same g.met.F.FieldCore.same_eq in
     let d = c.args.trace_domain.now in
     let e = c.args.quotient_domain.now in
-    let xs : c.in_ok-from_first.from_first.items ≡ table (2 ^ e.log_size) (from_first r L inv W top root T dec d e c.valid.ensures.0 c.valid.ensures.1 c.requires.disjoint) =
-    c.in_ok-from_first.ensures ∙ ap (λ o. table (2 ^ e.log_size) (λ i. sub r (coset_point r (r.mul (inv d.shift) e.shift) (root e.log_size) i) o)) (c.ONE.ensures ∙ g.met.F.RingCore.one_is) in
+    let xs : c.in_ok-from_first.from_first.items ≡ tabulate (2 ^ e.log_size) (from_first r L inv W top root T dec d e c.valid.ensures.0 c.valid.ensures.1 c.requires.disjoint) =
+    c.in_ok-from_first.ensures ∙ ap (λ o. tabulate (2 ^ e.log_size) (λ i. sub r (coset_point r (r.mul (inv d.shift) e.shift) (root e.log_size) i) o)) (c.ONE.ensures ∙ g.met.F.RingCore.one_is) in
     c.in_ok-repeated_quotients.ensures ∙ firsts r L inv W top root T dec d e c.valid.ensures.0 c.valid.ensures.1 c.requires.disjoint c.requires.larger c.valid-2.ensures.1 c.deref.result.now (c.deref.ensures.value ∙ c.in_ok-vanishing.ensures) c.deref-2.result.now (c.deref-2.ensures.value ∙ xs)
 
 pub returns-clause-last : goal.returns-clause-last
@@ -115,8 +115,8 @@ returns-clause-last g c =
     let dec = decide_by _ g.met.F.FieldCore.eq_same g.met.F.FieldCore.same_eq in
     let d = c.args.trace_domain.now in
     let e = c.args.quotient_domain.now in
-    let xs : c.in_ok-from_last.from_last.items ≡ table (2 ^ e.log_size) (from_last r L inv W top root T dec d e c.valid.ensures.0 c.valid.ensures.1 c.requires.disjoint) =
-    c.in_ok-from_last.ensures ∙ ap (λ o. table (2 ^ e.log_size) (λ i. sub r (coset_point r (r.mul (inv d.shift) e.shift) (root e.log_size) i) o)) (c.inverse-last_place.ensures ∙ ap inv c.subgroup_generator.ensures) in
+    let xs : c.in_ok-from_last.from_last.items ≡ tabulate (2 ^ e.log_size) (from_last r L inv W top root T dec d e c.valid.ensures.0 c.valid.ensures.1 c.requires.disjoint) =
+    c.in_ok-from_last.ensures ∙ ap (λ o. tabulate (2 ^ e.log_size) (λ i. sub r (coset_point r (r.mul (inv d.shift) e.shift) (root e.log_size) i) o)) (c.inverse-last_place.ensures ∙ ap inv c.subgroup_generator.ensures) in
     c.in_ok-repeated_quotients-2.ensures ∙ lasts r L inv W top root T dec d e c.valid.ensures.0 c.valid.ensures.1 c.requires.disjoint c.requires.larger c.valid-2.ensures.1 c.deref-3.result.now (c.deref-3.ensures.value ∙ c.in_ok-vanishing.ensures) c.deref-4.result.now (c.deref-4.ensures.value ∙ xs)
 
 pub returns-clause-transition : goal.returns-clause-transition
@@ -131,8 +131,8 @@ returns-clause-transition g c =
     let dec = decide_by _ g.met.F.FieldCore.eq_same g.met.F.FieldCore.same_eq in
     let d = c.args.trace_domain.now in
     let e = c.args.quotient_domain.now in
-    let xs : c.in_ok-from_last.from_last.items ≡ table (2 ^ e.log_size) (from_last r L inv W top root T dec d e c.valid.ensures.0 c.valid.ensures.1 c.requires.disjoint) =
-    c.in_ok-from_last.ensures ∙ ap (λ o. table (2 ^ e.log_size) (λ i. sub r (coset_point r (r.mul (inv d.shift) e.shift) (root e.log_size) i) o)) (c.inverse-last_place.ensures ∙ ap inv c.subgroup_generator.ensures) in
+    let xs : c.in_ok-from_last.from_last.items ≡ tabulate (2 ^ e.log_size) (from_last r L inv W top root T dec d e c.valid.ensures.0 c.valid.ensures.1 c.requires.disjoint) =
+    c.in_ok-from_last.ensures ∙ ap (λ o. tabulate (2 ^ e.log_size) (λ i. sub r (coset_point r (r.mul (inv d.shift) e.shift) (root e.log_size) i) o)) (c.inverse-last_place.ensures ∙ ap inv c.subgroup_generator.ensures) in
     transition_list r L inv W top root T dec d e c.valid.ensures.0 c.valid.ensures.1 c.requires.disjoint c.in_ok-from_last.from_last.items xs
 
 pub returns-clause-inverse : goal.returns-clause-inverse
@@ -147,4 +147,4 @@ returns-clause-inverse g c =
     let dec = decide_by _ g.met.F.FieldCore.eq_same g.met.F.FieldCore.same_eq in
     let d = c.args.trace_domain.now in
     let e = c.args.quotient_domain.now in
-    c.in_ok-batch_multiplicative_inverse.ensures ∙ inverse_list inv c.deref-5.result.now (2 ^ (e.log_size - d.log_size)) (λ i. val r (van r inv d) (point r root e i)) (c.deref-5.ensures.value ∙ c.in_ok-vanishing.ensures)
+    c.in_ok-batch_multiplicative_inverse.ensures ∙ inverse_list inv c.deref-5.result.now (2 ^ (e.log_size - d.log_size)) (λ i. eval_poly r (vanishing_polynomial r inv d) (point r root e i)) (c.deref-5.ensures.value ∙ c.in_ok-vanishing.ensures)

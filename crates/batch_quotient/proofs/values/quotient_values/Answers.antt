@@ -3,7 +3,7 @@ use Rattle.std.specs.Option.{option_map}
 use Rattle.std.proofs.lemmas.Nat.{pow_pos}
 use Rattle.p3_field.specs.Ring.{Ring}
 use Rattle.p3_field.specs.Field.{TwoAdic, Extension}
-use Rattle.p3_field.specs.Laws.Tables.{first_coset_point}
+use Rattle.p3_field.specs.Laws.Tabulate.{first_coset_point}
 use Rattle.p3_matrix.specs.Matrix.{Rows, height}
 use Rattle.p3_air.specs.Shape.{width_of}
 use Rattle.p3_commit.specs.Periodic.{IsPeriodicTable}
@@ -12,8 +12,8 @@ use Rattle.batch_constraints.specs.BatchTrees.{table_trees}
 use Rattle.committed_tables.specs.Committed.{CommittedTable}
 use Rattle.committed_tables.specs.Rows.{flattened_matrix}
 use Rattle.batch_quotient.specs.Evaluations.{IsReadOn, quotient_values_on}
-use Rattle.batch_quotient.specs.QuotientRows.{permutation_columns}
-use Rattle.batch_quotient.proofs.Recombined.{behind_reference, in_front, periods_along, points_fewer, some_wide, unflattened_tall, unflattened_wide}
+use Rattle.batch_quotient.specs.QuotientRows.{permutation_column_count}
+use Rattle.batch_quotient.proofs.Recombined.{of_reference, in_front, periods_along, points_fewer, some_wide, unflattened_tall, unflattened_wide}
 use Rattle.batch_quotient.proofs.values.quotient_values.Goals as goal
 
 -- a table over the same points and columns
@@ -48,30 +48,30 @@ recombined_columns-requires g c =
     let flat = c.args.opt_permutation_on_quotient_domain in
     let D = g.SC.Challenge.BasedVectorSpace.DIMENSION in
     let N = 2 ^ c.args.quotient_domain.log_size in
-    behind_reference (λ r. r.width ≡ (length c.args.lookups.now + 1) * D) flat
+    of_reference (λ r. r.width ≡ (length c.args.lookups.now + 1) * D) flat
     (some_wide (option_map (λ m. m.now) flat) (length c.args.lookups.now) D N (pow_pos c.args.quotient_domain.log_size) (in_front (λ r. height r ≡ N) flat c.requires.permutation_height) c.requires.permutation_width)
 
 pub quotient_on-requires-clause-permutation_width : goal.quotient_on-requires-clause-permutation_width
 quotient_on-requires-clause-permutation_width g c =
-    let e : Extension g.row.SC-Val.Denot g.row.SC-Challenge.Denot = record { ring = g.SC.Challenge.RingCore.ring; embed = g.SC.Challenge.ExtensionField.embed; dimension = g.SC.Challenge.BasedVectorSpace.DIMENSION; basis = g.SC.Challenge.ExtensionField.basis; parts = g.SC.Challenge.BasedVectorSpace.parts; whole = g.SC.Challenge.BasedVectorSpace.whole } in
+    let e : Extension g.row.SC-Val.Denot g.row.SC-Challenge.Denot = record { ring = g.SC.Challenge.RingCore.ring; embed = g.SC.Challenge.ExtensionField.embed; dimension = g.SC.Challenge.BasedVectorSpace.DIMENSION; basis = g.SC.Challenge.ExtensionField.basis; coefficients = g.SC.Challenge.BasedVectorSpace.coefficients; from_coefficients = g.SC.Challenge.BasedVectorSpace.from_coefficients } in
     let V = g.met.SC.Challenge.BasedVectorSpace.vector_laws in
     let flat = c.args.opt_permutation_on_quotient_domain in
     let p = c.in_ok-permutation.permutation in
     let N = 2 ^ c.args.quotient_domain.log_size in
     let lent : option_map (λ m. m.now) c.as_ref.result ≡ p = c.as_ref.ensures.value in
-    let n = permutation_columns (length c.args.lookups.now) in
+    let n = permutation_column_count (length c.args.lookups.now) in
     ap width_of lent ∙ unflattened_wide e V p n (ap width_of (sym c.in_ok-permutation.ensures) ∙ c.requires.permutation_width)
 
 pub quotient_on-requires-clause-permutation_height : goal.quotient_on-requires-clause-permutation_height
 quotient_on-requires-clause-permutation_height g c =
-    let e : Extension g.row.SC-Val.Denot g.row.SC-Challenge.Denot = record { ring = g.SC.Challenge.RingCore.ring; embed = g.SC.Challenge.ExtensionField.embed; dimension = g.SC.Challenge.BasedVectorSpace.DIMENSION; basis = g.SC.Challenge.ExtensionField.basis; parts = g.SC.Challenge.BasedVectorSpace.parts; whole = g.SC.Challenge.BasedVectorSpace.whole } in
+    let e : Extension g.row.SC-Val.Denot g.row.SC-Challenge.Denot = record { ring = g.SC.Challenge.RingCore.ring; embed = g.SC.Challenge.ExtensionField.embed; dimension = g.SC.Challenge.BasedVectorSpace.DIMENSION; basis = g.SC.Challenge.ExtensionField.basis; coefficients = g.SC.Challenge.BasedVectorSpace.coefficients; from_coefficients = g.SC.Challenge.BasedVectorSpace.from_coefficients } in
     let V = g.met.SC.Challenge.BasedVectorSpace.vector_laws in
     let flat = c.args.opt_permutation_on_quotient_domain in
     let p = c.in_ok-permutation.permutation in
     let N = 2 ^ c.args.quotient_domain.log_size in
     let lent : option_map (λ m. m.now) c.as_ref.result ≡ p = c.as_ref.ensures.value in
     let tall = subst (λ (o : Option (Rows g.row.SC-Val.Denot)). IfSome o (λ r. height r ≡ N)) c.in_ok-permutation.ensures (in_front (λ r. height r ≡ N) flat c.requires.permutation_height) in
-    behind_reference (λ r. height r ≡ N) c.as_ref.result (subst (λ (o : Option (Rows g.row.SC-Challenge.Denot)). IfSome o (λ r. height r ≡ N)) (sym lent) (unflattened_tall e V p N tall))
+    of_reference (λ r. height r ≡ N) c.as_ref.result (subst (λ (o : Option (Rows g.row.SC-Challenge.Denot)). IfSome o (λ r. height r ≡ N)) (sym lent) (unflattened_tall e V p N tall))
 
 pub quotient_on-requires-clause-periodic : goal.quotient_on-requires-clause-periodic
 quotient_on-requires-clause-periodic g c =
@@ -81,7 +81,7 @@ quotient_on-requires-clause-periodic g c =
 pub returns : goal.returns
 returns g c =
     let f : TwoAdic g.row.SC-Val.Denot = record { ring = g.SC.Val.RingCore.ring; inv = g.SC.Val.FieldCore.inv; root = g.SC.Val.TwoAdicCore.root; generator = g.SC.Val.FieldCore.GENERATOR } in
-    let e : Extension g.row.SC-Val.Denot g.row.SC-Challenge.Denot = record { ring = g.SC.Challenge.RingCore.ring; embed = g.SC.Challenge.ExtensionField.embed; dimension = g.SC.Challenge.BasedVectorSpace.DIMENSION; basis = g.SC.Challenge.ExtensionField.basis; parts = g.SC.Challenge.BasedVectorSpace.parts; whole = g.SC.Challenge.BasedVectorSpace.whole } in
+    let e : Extension g.row.SC-Val.Denot g.row.SC-Challenge.Denot = record { ring = g.SC.Challenge.RingCore.ring; embed = g.SC.Challenge.ExtensionField.embed; dimension = g.SC.Challenge.BasedVectorSpace.DIMENSION; basis = g.SC.Challenge.ExtensionField.basis; coefficients = g.SC.Challenge.BasedVectorSpace.coefficients; from_coefficients = g.SC.Challenge.BasedVectorSpace.from_coefficients } in
     let V = g.met.SC.Challenge.BasedVectorSpace.vector_laws in
     let flat = c.args.opt_permutation_on_quotient_domain in
     let p = c.in_ok-permutation.permutation in

@@ -5,7 +5,7 @@ use Rattle.p3_lookup.specs.Written.{read_all}
 use Rattle.batch_constraints.specs.BatchTrees.{AreLookupsOf}
 use Rattle.batch_constraints.specs.Laws.Packing.{packed_lookups}
 use Rattle.batch_constraints.specs.Sizing.{free_budget}
-use Rattle.batch_setup.specs.Packed.{Source, source_of, log_chunks_with, own_budget, own_lookups}
+use Rattle.batch_setup.specs.Packed.{Source, source_of, log_chunks_with, own_budget, unpacked_lookups}
 use Rattle.batch_setup.specs.Laws.Budgets.{packed_capped}
 use Rattle.batch_setup.proofs.lookups.packed_lookups.Goals as goal
 
@@ -21,7 +21,7 @@ returns-clause-lookups g c =
     c.in_ok-packed.ensures.packed
     ∙ ap (λ b. packed r 0 b (read_all c.in_ok-lookups.lookups)) (budget_is ∙ ap (λ n. max n a.asked) own_is)
     ∙ ap (packed r 0 (max (min (own_budget r a.masks a.bits s) (2 ^ 64 - 1)) a.asked)) c.in_ok-lookups.ensures.own
-    ∙ packed_capped r (own_budget r a.masks a.bits s) a.asked (own_lookups s)
+    ∙ packed_capped r (own_budget r a.masks a.bits s) a.asked (unpacked_lookups s)
 
 pub returns-clause-fit : goal.returns-clause-fit
 returns-clause-fit g c =

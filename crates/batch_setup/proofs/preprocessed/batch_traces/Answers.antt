@@ -1,7 +1,7 @@
 use Rattle.std.proofs.Common.{◌≡◌, length, map, get_or, ◌∙◌, ap, subst, arith}
-use Rattle.p3_field.specs.Poly.{table}
+use Rattle.p3_field.specs.Poly.{tabulate}
 use Rattle.p3_field.specs.Laws.Checks.{none_in_turn, none_of_none, none_until}
-use Rattle.p3_field.specs.Laws.Tables.{table_push}
+use Rattle.p3_field.specs.Laws.Tabulate.{tabulate_push}
 use Rattle.batch_setup.specs.Packed.{source_of}
 use Rattle.batch_setup.specs.Preprocessed.{entry_with, entry_at, committed_below}
 use Rattle.batch_setup.specs.Laws.Verdicts.{exits, refusal_in_turn}
@@ -26,7 +26,7 @@ loop-instance-preserved g c =
     let count : c.len.result ≡ length (committed_below one sources bits i) = long ∙ ap length inv.committed in
     record {
       none = none_in_turn _ i inv.none c.in_ok-trace.ensures.verdict;
-      entries = c.in_ok-push.ensures.items ∙ table_push i (entry_at one sources bits) _ _ inv.entries
+      entries = c.in_ok-push.ensures.items ∙ tabulate_push i (entry_at one sources bits) _ _ inv.entries
           (c.entry_of.ensures ∙ ap (λ n. entry_with n (get_or bits i 0) c.in_ok-trace.trace) count
           ∙ ap (entry_with (length (committed_below one sources bits i)) (get_or bits i 0)) c.in_ok-trace.ensures.trace);
       committed = committed_more one sources bits i c.loop-instance.evaluations.items _ c.in_ok-trace.trace inv.committed c.in_ok-trace.ensures.trace c.in_ok-evaluations.ensures;
@@ -39,7 +39,7 @@ pub returns-clause-entries : goal.returns-clause-entries
 returns-clause-entries g c =
     let all : c.loop-instance.instance ≡ length c.args.airs.now = omega arith in
     let sources = map (source_of g.A.BaseAir.declaration g.A.Air.trees g.A.Air.interactions) c.args.airs.now in
-    subst (λ n. c.loop-instance.entries.items ≡ table n (entry_at g.SC.Val.RingCore.ring.one sources c.args.degree_bits.now)) all c.loop-instance.invariant.entries
+    subst (λ n. c.loop-instance.entries.items ≡ tabulate n (entry_at g.SC.Val.RingCore.ring.one sources c.args.degree_bits.now)) all c.loop-instance.invariant.entries
 
 pub returns-clause-committed : goal.returns-clause-committed
 returns-clause-committed g c =

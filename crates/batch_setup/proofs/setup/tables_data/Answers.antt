@@ -25,5 +25,5 @@ returns-clause-formed g c =
     subst (λ w. WellFormed ds (read_common w)) (sym c.new-common.ensures)
     (made_well_formed g.A.BaseAir.declaration g.A.Air.trees g.A.Air.interactions g.met.A.BaseAir.has_columns g.met.A.Air.interactions_read
     g.SC.Val.RingCore.ring.one g.SC.Val.RingCore.ring a.masks a.airs.now a.degree_bits.now a.budgets.now
-    (λ es p. IsCommitment g.SC.Val.RingCore.ring g.bound-40.points g.bound-40.point_at (g.SC-Pcs-Pcs.commits pcs) (g.SC-Pcs-Pcs.made pcs) (g.SC-Pcs-Pcs.holds pcs) es p) c.in_ok-preprocessed.preprocessed c.in_ok-preprocessed.kept
+    (λ es p. IsCommitment g.SC.Val.RingCore.ring g.bound-40.points g.bound-40.point_at (g.SC-Pcs-Pcs.commits pcs) (g.SC-Pcs-Pcs.made pcs) (g.SC-Pcs-Pcs.holds pcs) es p) c.in_ok-preprocessed.preprocessed c.in_ok-preprocessed.made_prover_data
     (map read_all c.in_ok-lookups.lookups.items) c.requires.widths c.in_ok-preprocessed.ensures.data c.in_ok-lookups.ensures.lookups)

@@ -1,6 +1,6 @@
 use Rattle.std.proofs.Common.{◌≡◌, ℕ, ◌-◌, ◌^◌, List, length, map, get_or, ◌∙◌, ap, subst}
 use Rattle.p3_field.specs.Checks.{NoneFails, FirstFails, in_turn}
-use Rattle.p3_field.specs.Laws.Tables.{length-table}
+use Rattle.p3_field.specs.Laws.Tabulate.{length-tabulate}
 use Rattle.p3_lookup.specs.Bus.{bus_count, batch_buses}
 use Rattle.p3_lookup.specs.Written.{read_all}
 use Rattle.batch_statement.specs.declared.error.BatchVerificationError.TheVariants.{Lookup}
@@ -11,7 +11,7 @@ use Rattle.batch_shape_checks.proofs.bounds.check_bounds.Goals as goal
 pub check_multiplicity_height_bound-requires : goal.check_multiplicity_height_bound-requires
 check_multiplicity_height_bound-requires g c =
     let a = c.args in
-    ap length (c.deref.ensures.value ∙ c.in-Ok.ensures) ∙ length-table (length a.degree_bits.now) (λ i. 2 ^ (get_or a.degree_bits.now i 0 - a.masks)) ∙ c.requires.lengths
+    ap length (c.deref.ensures.value ∙ c.in-Ok.ensures) ∙ length-tabulate (length a.degree_bits.now) (λ i. 2 ^ (get_or a.degree_bits.now i 0 - a.masks)) ∙ c.requires.lengths
 
 pub returns-in-Ok-check_multiplicity_height_bound : goal.returns-in-Ok-check_multiplicity_height_bound
 returns-in-Ok-check_multiplicity_height_bound g c =

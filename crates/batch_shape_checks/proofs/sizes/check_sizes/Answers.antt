@@ -1,6 +1,6 @@
 use Rattle.std.proofs.Common.{◌≡◌, ℕ, ◌+◌, [], ◌∷◌, ◌++◌, map, get_or, refl, sym, ◌∙◌, ap, arith}
 use Rattle.p3_field.specs.Laws.Checks.{none_in_turn, none_of_none}
-use Rattle.p3_field.specs.Laws.Tables.{table_push}
+use Rattle.p3_field.specs.Laws.Tabulate.{tabulate_push}
 use Rattle.batch_shape_checks.specs.Laws.Verdicts.{exits, refusal_in_turn}
 use Rattle.batch_shape_checks.proofs.sizes.check_sizes.Goals as goal
 
@@ -17,5 +17,5 @@ returns-in_err-count-clause-verdict g c =
 pub loop-index-preserved : goal.loop-index-preserved
 loop-index-preserved g c = record {
   none = none_in_turn _ c.loop-index.index c.loop-index.invariant.none c.in_ok-count.ensures.verdict;
-  list = c.in_ok-push.ensures.items ∙ table_push c.loop-index.index _ _ _ c.loop-index.invariant.list c.in_ok-count.ensures.chunks;
+  list = c.in_ok-push.ensures.items ∙ tabulate_push c.loop-index.index _ _ _ c.loop-index.invariant.list c.in_ok-count.ensures.chunks;
 }

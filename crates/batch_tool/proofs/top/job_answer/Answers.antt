@@ -1,6 +1,6 @@
 use Rattle.std.proofs.Common.{ℕ, List, Global, Vec, subst}
 use Rattle.std.specs.Prelude.{IfOk}
-use Rattle.tool_jobs.specs.Jobs.{JobWithin, job_words, read_tables}
+use Rattle.tool_jobs.specs.Jobs.{JobWithin, job_numbers, read_tables}
 use Rattle.tool_jobs.specs.declared.table.JobTable.{JobTable}
 use Rattle.tool_prover.specs.JobAnswer.{IsJobAnswer}
 use Rattle.batch_tool.specs.Answer.{IsProveAnswer}
@@ -17,4 +17,4 @@ pub returns-in-Err : goal.returns-in-Err
 returns-in-Err c =
     subst (λ (bytes : List ℕ). IfOk c.bad_input.result (λ a. IsProveAnswer bytes a.status a.text.items)) c.deref.ensures.value
     (bad-job c.deref.result.now c.bad_input.result
-    (bad-answers (λ (v : Vec JobTable Global). read_tables v.items) JobWithin job_words c.deref.result.now c.in-Err.error c.bad_input.result c.in-Err.ensures c.bad_input.ensures.malformed c.bad_input.ensures.memory))
+    (bad-answers (λ (v : Vec JobTable Global). read_tables v.items) JobWithin job_numbers c.deref.result.now c.in-Err.error c.bad_input.result c.in-Err.ensures c.bad_input.ensures.malformed c.bad_input.ensures.memory))

@@ -1,7 +1,7 @@
 use Rattle.std.proofs.Common.{◌+◌, ◌-◌, ◌<◌, length, map, drop, ap, sym, subst, arith}
 use Rattle.std.specs.Prelude.{All}
 use Rattle.std.proofs.lemmas.List.Elements.{All-take, All-drop}
-use Rattle.p3_field.specs.Laws.Tables.{length-table}
+use Rattle.p3_field.specs.Laws.Tabulate.{length-tabulate}
 use Rattle.p3_lookup.specs.Bus.{batch_buses, bus_number}
 use Rattle.p3_lookup.specs.Written.{read_all}
 use Rattle.batch_transcript.proofs.Laid.{numbers-below, next-start, own-within, one-laid}
@@ -12,21 +12,21 @@ overflow_add-end g c =
     let ws = c.args.lookups.now in
     let bs = batch_buses (map read_all ws) in
     let le = own-within ws c.loop-instance.instance-index c.instance-item.result c.as_slice.result.now c.loop-instance-test.true c.instance-item.is c.as_slice.ensures c.loop-instance.start c.loop-instance.invariant.start in
-    omega (arith, le, ap length c.requires.numbers, length-table (length bs) (bus_number bs))
+    omega (arith, le, ap length c.requires.numbers, length-tabulate (length bs) (bus_number bs))
 
 pub offset_bounds-numbers-start : goal.offset_bounds-numbers-start
 offset_bounds-numbers-start g c =
     let ws = c.args.lookups.now in
     let bs = batch_buses (map read_all ws) in
     let le = own-within ws c.loop-instance.instance-index c.instance-item.result c.as_slice.result.now c.loop-instance-test.true c.instance-item.is c.as_slice.ensures c.loop-instance.start c.loop-instance.invariant.start in
-    omega (arith, le, ap length c.requires.numbers, length-table (length bs) (bus_number bs))
+    omega (arith, le, ap length c.requires.numbers, length-tabulate (length bs) (bus_number bs))
 
 pub slice_bounds-challenges_on-end : goal.slice_bounds-challenges_on-end
 slice_bounds-challenges_on-end g c =
     let ws = c.args.lookups.now in
     let bs = batch_buses (map read_all ws) in
     let le = own-within ws c.loop-instance.instance-index c.instance-item.result c.as_slice.result.now c.loop-instance-test.true c.instance-item.is c.as_slice.ensures c.loop-instance.start c.loop-instance.invariant.start in
-    omega (arith, le, ap length c.requires.numbers, length-table (length bs) (bus_number bs))
+    omega (arith, le, ap length c.requires.numbers, length-tabulate (length bs) (bus_number bs))
 
 pub challenges_on-requires : goal.challenges_on-requires
 challenges_on-requires g c =

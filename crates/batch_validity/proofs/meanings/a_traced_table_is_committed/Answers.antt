@@ -1,4 +1,4 @@
-use Rattle.batch_validity.specs.Laws.Held.{traced_commits, traced_domain}
+use Rattle.batch_validity.specs.Laws.Holding.{traced_commits, traced_domain}
 use Rattle.batch_validity.proofs.meanings.a_traced_table_is_committed.Goals as goal
 
 pub returns-clause-commits : goal.returns-clause-commits

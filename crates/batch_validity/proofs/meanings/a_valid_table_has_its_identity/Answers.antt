@@ -1,4 +1,4 @@
-use Rattle.batch_validity.specs.Laws.Held.{valid_identity}
+use Rattle.batch_validity.specs.Laws.Holding.{valid_identity}
 use Rattle.batch_validity.proofs.meanings.a_valid_table_has_its_identity.Goals as goal
 
 pub returns : goal.returns

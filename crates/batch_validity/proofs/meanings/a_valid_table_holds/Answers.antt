@@ -1,4 +1,4 @@
-use Rattle.batch_validity.specs.Laws.Held.{valid_holds, valid_holds_alone}
+use Rattle.batch_validity.specs.Laws.Holding.{valid_holds, valid_holds_alone}
 use Rattle.batch_validity.proofs.meanings.a_valid_table_holds.Goals as goal
 
 pub returns-clause-alone : goal.returns-clause-alone

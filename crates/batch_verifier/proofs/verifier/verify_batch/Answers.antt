@@ -1,7 +1,7 @@
 use Rattle.std.proofs.Common.{◌<◌, map, sym, ◌∙◌, ap, subst}
 use Rattle.std.proofs.lemmas.List.{length-map}
 use Rattle.batch_shape_checks.specs.Laws.Verdicts.{err_if, exits, exits_if}
-use Rattle.batch_statement.specs.Statement.{Table}
+use Rattle.batch_statement.specs.Statement.{AirTable}
 use Rattle.batch_verifier.specs.Laws.Parts.{refused_by_shape, refused_by_draws, refused_at_openings, refused_at_identities, decided_at_terminals}
 use Rattle.batch_verifier.proofs.Sizes.{counts_right, domains_fit}
 use Rattle.batch_verifier.proofs.verifier.verify_batch.Goals as goal
@@ -22,13 +22,13 @@ returns-in_err-domains-clause-verdict g c =
 
 pub check_batch_identities-requires-clause-fits : goal.check_batch_identities-requires-clause-fits
 check_batch_identities-requires-clause-fits g c = λ i l.
-    let n = length-map {B = Table g.row.SC-Val.Denot} c.args.airs.now (λ x. record { declaration = g.A.BaseAir.declaration x; trees = g.A.Air.trees x }) in
+    let n = length-map {B = AirTable g.row.SC-Val.Denot} c.args.airs.now (λ x. record { declaration = g.A.BaseAir.declaration x; trees = g.A.Air.trees x }) in
     domains_fit g.row.SC-Pcs-Error.Denot _ _ _ _ _ _ c.in_ok-domains.ensures.verdict i (subst (λ m. i < m) (sym n) l)
 
 pub returns-in_err-check_batch_identities-clause-verdict : goal.returns-in_err-check_batch_identities-clause-verdict
 returns-in_err-check_batch_identities-clause-verdict g c =
     let d = c.in_ok-challenges in
-    let n = length-map {B = Table g.row.SC-Val.Denot} c.args.airs.now (λ x. record { declaration = g.A.BaseAir.declaration x; trees = g.A.Air.trees x }) in
+    let n = length-map {B = AirTable g.row.SC-Val.Denot} c.args.airs.now (λ x. record { declaration = g.A.BaseAir.declaration x; trees = g.A.Air.trees x }) in
     exits _ _ _ c.from_residual-in_err-check_batch_identities.ensures.1
     (refused_at_identities _ _ _ _ _ _ _ _ _ _ _ (sym n) (ap (λ xs. map (λ v. v.items) xs) c.deref-2.ensures.value ∙ d.ensures.challenges) (ap (λ xs. map (λ v. v.items) xs) c.deref-3.ensures.value ∙ c.in_ok-domains.ensures.domains)
     d.ensures.alpha d.ensures.zeta d.ensures.state c.in_ok-chunks.ensures.verdict d.ensures.verdict c.in_ok-domains.ensures.verdict c.in_err-check_batch_identities.ensures)
@@ -36,7 +36,7 @@ returns-in_err-check_batch_identities-clause-verdict g c =
 pub returns-clause-verdict : goal.returns-clause-verdict
 returns-clause-verdict g c =
     let d = c.in_ok-challenges in
-    let n = length-map {B = Table g.row.SC-Val.Denot} c.args.airs.now (λ x. record { declaration = g.A.BaseAir.declaration x; trees = g.A.Air.trees x }) in
+    let n = length-map {B = AirTable g.row.SC-Val.Denot} c.args.airs.now (λ x. record { declaration = g.A.BaseAir.declaration x; trees = g.A.Air.trees x }) in
     decided_at_terminals _ _ _ _ _ _ _ _ _ _ _ (sym n) (ap (λ xs. map (λ v. v.items) xs) c.deref-2.ensures.value ∙ d.ensures.challenges) (ap (λ xs. map (λ v. v.items) xs) c.deref-3.ensures.value ∙ c.in_ok-domains.ensures.domains)
     d.ensures.alpha d.ensures.zeta d.ensures.state c.in_ok-chunks.ensures.verdict d.ensures.verdict c.in_ok-domains.ensures.verdict c.in_ok-check_batch_identities.ensures c.check_terminals.ensures
 

@@ -1,12 +1,12 @@
 use Rattle.std.proofs.Common.{◌≡◌, ℕ, ◌<◌, [], length, get_or}
-use Rattle.example_air.specs.Bytes.{column}
+use Rattle.example_air.specs.Bytes.{main_column}
 use Rattle.example_air.proofs.air.bits.Given as goal
 
 abbrev pub invariant-loop-i : goal.invariant-loop-i
 invariant-loop-i g l =
     let B = g.AB.AirBuilder in record {
-      same : B.shape l.builder ≡ B.shape l.fn.builder;
+      keeps_shape : B.shape l.builder ≡ B.shape l.fn.builder;
       long : length l.cells ≡ 8;
-      grows : B.grows l.fn.builder l.builder [] [];
-      so_far : (k : ℕ) (d : g.row.AB-Expr.Denot) → k < l.i → B.stands l.builder (get_or l.cells k d) (column k);
+      appends : B.appends l.fn.builder l.builder [] [];
+      so_far : (k : ℕ) (d : g.row.AB-Expr.Denot) → k < l.i → B.represents l.builder (get_or l.cells k d) (main_column k);
     }

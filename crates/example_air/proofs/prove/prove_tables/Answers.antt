@@ -11,10 +11,10 @@ prove_batch-requires-clause-traced c =
     traced_there c.args.bits.now c.args.times.now c.height.ensures.fills c.requires _ c.tool_config-config.result.pcs _ _ c.in_ok-data.data.common c.tool_config-config.ensures.setting c.tool_config-config.ensures.scheme
     c.new.ensures.items c.new-2.ensures.items c.in_ok-data.ensures.common c.in_ok-data.ensures.formed
 
-pub prove_batch-requires-clause-kept : goal.prove_batch-requires-clause-kept
-prove_batch-requires-clause-kept c =
+pub prove_batch-requires-clause-prover_data : goal.prove_batch-requires-clause-prover_data
+prove_batch-requires-clause-prover_data c =
     kept_there c.args.bits.now c.args.times.now c.height.ensures.fills c.requires _ c.tool_config-config.result.pcs _ _ c.in_ok-data.data.common c.tool_config-config.ensures.setting c.tool_config-config.ensures.scheme
-    c.new.ensures.items c.new-2.ensures.items c.in_ok-data.ensures.common _ c.in_ok-data.ensures.kept
+    c.new.ensures.items c.new-2.ensures.items c.in_ok-data.ensures.common _ c.in_ok-data.ensures.prover_data
 
 pub returns-clause-proved : goal.returns-clause-proved
 returns-clause-proved c =

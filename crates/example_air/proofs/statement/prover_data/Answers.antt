@@ -19,5 +19,5 @@ unreachable-requires-in-Err-Pcs c = granted c.args.log_rows _ c.requires.scheme 
 pub unreachable-requires-in-Err-LookupBudget : goal.unreachable-requires-in-Err-LookupBudget
 unreachable-requires-in-Err-LookupBudget c = granted c.args.log_rows _ c.requires.scheme _ (subst (IsSetupRefusal _) c.in-Err-LookupBudget.field-0-is c.in-Err-LookupBudget.ensures.verdict)
 
-pub returns-in-Ok-clause-kept : goal.returns-in-Ok-clause-kept
-returns-in-Ok-clause-kept c = kept_is c.args.log_rows _ _ _ c.requires.scheme c.in-Ok.ensures.preprocessed
+pub returns-in-Ok-clause-prover_data : goal.returns-in-Ok-clause-prover_data
+returns-in-Ok-clause-prover_data c = kept_is c.args.log_rows _ _ _ c.requires.scheme c.in-Ok.ensures.preprocessed

@@ -1,7 +1,7 @@
 use Rattle.std.proofs.Common.{◌<◌, get_or, refl, rules, arith, ◌∙◌, ap}
 use Rattle.std.proofs.lemmas.List.{take_all}
-use Rattle.p3_field.specs.Poly.{table}
-use Rattle.example_air.specs.Bytes.{times}
+use Rattle.p3_field.specs.Poly.{tabulate}
+use Rattle.example_air.specs.Bytes.{byte_times}
 use Rattle.example_air.proofs.Pushed.{times-few, times-more}
 use Rattle.example_air.proofs.traces.times_of.Goals as goal
 
@@ -17,4 +17,4 @@ loop-byte-preserved c =
     times-more c.args.bytes.now c.loop-byte.counts c.loop-byte.byte-index _ c.loop-byte-test.true refl small c.loop-byte.invariant
 
 pub returns : goal.returns
-returns c = c.loop-byte.invariant ∙ ap (λ l. table 256 (times l)) (take_all c.loop-byte.byte-index c.args.bytes.now c.loop-byte-test.false)
+returns c = c.loop-byte.invariant ∙ ap (λ l. tabulate 256 (byte_times l)) (take_all c.loop-byte.byte-index c.args.bytes.now c.loop-byte-test.false)

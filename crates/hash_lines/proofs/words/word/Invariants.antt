@@ -1,11 +1,11 @@
 use Rattle.std.proofs.Common.{◌≡◌, ℕ, ◌+◌, ◌≤◌, ◌<◌, map}
 use Rattle.p3_air.specs.Words.{bits_number}
-use Rattle.hash_lines.specs.Columns.{cells_at}
+use Rattle.hash_lines.specs.Columns.{polynomial_cells_at}
 use Rattle.hash_lines.specs.RowWords.{cell_number}
 use Rattle.hash_lines.proofs.words.word.Given as goal
 
 abbrev pub invariant-loop-bit : goal.invariant-loop-bit
-invariant-loop-bit l = let cells = cells_at (map (λ f. f.items) l.polynomials) l.point in
+invariant-loop-bit l = let cells = polynomial_cells_at (map (λ f. f.items) l.polynomials) l.point in
     record {
       within : l.bit ≤ 32;
       bits : (b : ℕ) → l.bit ≤ b → b < 32 → cell_number cells (l.column + b) < 2;

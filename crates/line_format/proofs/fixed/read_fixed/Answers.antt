@@ -1,11 +1,11 @@
 use Rattle.line_format.specs.Texts.{Unlimited}
-use Rattle.line_format.specs.Fixed.{fixed_words}
+use Rattle.line_format.specs.Fixed.{fixed_numbers}
 use Rattle.line_format.specs.Laws.Stops.{known-handed-on}
 use Rattle.line_format.proofs.FixedStops.{fixed-stops, fixed-grows}
 use Rattle.line_format.proofs.fixed.read_fixed.Goals as goal
 
 pub returns-in_err-number : goal.returns-in_err-number
-returns-in_err-number c = known-handed-on {A = Unit {0}} Unlimited (fixed_words c.args.numbers.now) _ _ _ c.in_err-number.field-0.0 c.from_residual.ensures.1
+returns-in_err-number c = known-handed-on {A = Unit {0}} Unlimited (fixed_numbers c.args.numbers.now) _ _ _ c.in_err-number.field-0.0 c.from_residual.ensures.1
     c.in_err-number.ensures.0 (fixed-stops c.args.numbers.now c.loop-number.number-index _ _ _ c.loop-number-test.true c.loop-number.invariant c.in_err-number.ensures.1)
 
 pub loop-number-preserved : goal.loop-number-preserved

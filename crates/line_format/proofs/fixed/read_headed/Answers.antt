@@ -2,7 +2,7 @@ use Rattle.std.proofs.Common.{◌<◌, ◌^◌, arith}
 use Rattle.std.specs.Prelude.{map}
 use Rattle.std.proofs.lemmas.List.Elements.{All-from_get_or}
 use Rattle.line_format.specs.Texts.{Small, ItemsWithin}
-use Rattle.line_format.specs.Fixed.{headed_words}
+use Rattle.line_format.specs.Fixed.{headed_numbers}
 use Rattle.line_format.specs.Laws.Grammars.{items-grammar}
 use Rattle.line_format.specs.Laws.FixedParts.{same-headed}
 use Rattle.line_format.specs.Laws.Stops.{handed-on, same-stops, then-first}
@@ -10,11 +10,11 @@ use Rattle.line_format.proofs.FixedStops.{headed-read}
 use Rattle.line_format.proofs.fixed.read_headed.Goals as goal
 
 pub returns-in_err-read_fixed : goal.returns-in_err-read_fixed
-returns-in_err-read_fixed g c = handed-on (λ v. map g.T.Form.data_of v.items) (ItemsWithin c.args.count g.T.Form.within) (headed_words c.args.head.now g.T.Form.words) _ _ _ c.in_err-read_fixed.field-0.0 c.from_residual.ensures.1
-    (λ m. same-stops (same-headed c.args.head.now c.args.count g.T.Form.within g.T.Form.words)
+returns-in_err-read_fixed g c = handed-on (λ v. map g.T.Form.data_of v.items) (ItemsWithin c.args.count g.T.Form.within) (headed_numbers c.args.head.now g.T.Form.numbers) _ _ _ c.in_err-read_fixed.field-0.0 c.from_residual.ensures.1
+    (λ m. same-stops (same-headed c.args.head.now c.args.count g.T.Form.within g.T.Form.numbers)
     (then-first (items-grammar c.args.count g.met.T.Form.grammar) c.in_err-read_fixed.ensures.1))
 
 pub returns : goal.returns
 returns g c =
     let small : Small c.args.head.now = All-from_get_or (λ n. n < 2 ^ 64) c.args.head.now 0 (λ k q. let fits = c.type_inv.head k in omega (arith, fits)) in
-    headed-read (λ v. map g.T.Form.data_of v.items) g.T.Form.within g.T.Form.words c.args.head.now c.args.count _ _ _ _ small c.in_ok-read_fixed.ensures c.read_items.ensures
+    headed-read (λ v. map g.T.Form.data_of v.items) g.T.Form.within g.T.Form.numbers c.args.head.now c.args.count _ _ _ _ small c.in_ok-read_fixed.ensures c.read_items.ensures

@@ -1,7 +1,7 @@
 use Rattle.std.proofs.Common.{◌≡◌, ℕ, ◌<◌, inl, inr, length, subst, arith, rules}
 use Rattle.std.specs.Option.{option_map}
 use Rattle.std.proofs.lemmas.Bool.{cases_lt}
-use Rattle.p3_air.specs.Check.{table_of, row_values, HoldsAtRow, HasHeight}
+use Rattle.p3_air.specs.Check.{table_traces, row_values, HoldsAtRow, HasHeight}
 use Rattle.p3_air.proofs.Nonzero.{nonzero_empty, nonzero_fails}
 use Rattle.p3_air.proofs.check.check_constraints.Goals as goal
 
@@ -9,7 +9,7 @@ pub loop-row-preserved : goal.loop-row-preserved
 loop-row-preserved g c i lt =
     let r = g.F.RingCore.ring in
     let row = c.loop-row.row in
-    let table = table_of c.args.main.now (option_map (λ m. m.now) c.args.preprocessed) (g.A.BaseAir.declaration c.args.air.now).periodic c.args.public_values.now in
+    let table = table_traces c.args.main.now (option_map (λ m. m.now) c.args.preprocessed) (g.A.BaseAir.declaration c.args.air.now).periodic c.args.public_values.now in
     let trees = g.A.Air.trees c.args.air.now in
     let none : length c.in_ok-places.places.items ≡ 0 = search rules in
     let P : ℕ → Type 0 = λ j. HoldsAtRow r table trees j in
@@ -29,7 +29,7 @@ pub returns-then-not-is_empty : goal.returns-then-not-is_empty
 returns-then-not-is_empty g c =
     let r = g.F.RingCore.ring in
     let row = c.loop-row.row in
-    let table = table_of c.args.main.now (option_map (λ m. m.now) c.args.preprocessed) (g.A.BaseAir.declaration c.args.air.now).periodic c.args.public_values.now in
+    let table = table_traces c.args.main.now (option_map (λ m. m.now) c.args.preprocessed) (g.A.BaseAir.declaration c.args.air.now).periodic c.args.public_values.now in
     let values = row_values r table (g.A.Air.trees c.args.air.now) row in
     let P : ℕ → Type 0 = λ n. HasHeight (option_map (λ m. m.now) c.args.preprocessed) n in
     let some : 0 < length c.in_ok-places.places.items = search rules in (

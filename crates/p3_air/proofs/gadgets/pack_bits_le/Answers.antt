@@ -10,11 +10,11 @@ loop-i-init g c =
     let n = length c.args.bits.now in
     let none : n - n ≡ 0 = omega arith in
     record {
-      same = c.constant-2.ensures.same ∙ c.constant.ensures.same;
-      grows = B.grows_along _ _ _ [] _ [] [] c.constant.ensures.grows c.constant-2.ensures.grows;
-      two = B.persists _ _ (B.grows_later _ _ _ _ c.constant-2.ensures.grows) _ _ (rw c.from_u64.ensures at c.in_ok-two.ensures.stands);
-      so_far = λ t h. subst (λ (u : Tree g.row.AB-F.Denot). g.AB.AirBuilder.stands c.constant-2.new.self c.in_ok-sum.sum u)
-          (packed_none r t n (n - n) none) (rw c.from_u64-2.ensures at c.in_ok-sum.ensures.stands);
+      keeps_shape = c.constant-2.ensures.keeps_shape ∙ c.constant.ensures.keeps_shape;
+      appends = B.appends_along _ _ _ [] _ [] [] c.constant.ensures.appends c.constant-2.ensures.appends;
+      two = B.persists _ _ (B.appends_later _ _ _ _ c.constant-2.ensures.appends) _ _ (rw c.from_u64.ensures at c.in_ok-two.ensures.represents);
+      so_far = λ t h. subst (λ (u : Tree g.row.AB-F.Denot). g.AB.AirBuilder.represents c.constant-2.new.self c.in_ok-sum.sum u)
+          (packed_none r t n (n - n) none) (rw c.from_u64-2.ensures at c.in_ok-sum.ensures.represents);
     }
 
 pub loop-i-preserved : goal.loop-i-preserved
@@ -26,27 +26,27 @@ loop-i-preserved g c =
     let next : c.loop-i.i ≡ suc i = omega arith in
     let rest : n - i ≡ suc (n - c.loop-i.i) = omega arith in
     let within : i < n = omega arith in
-    let past = B.persists _ _ (B.grows_later _ _ _ _ c.mul.ensures.grows) in
-    let both = B.grows_along _ _ _ [] _ [] [] c.mul.ensures.grows c.add.ensures.grows in
+    let past = B.persists _ _ (B.appends_later _ _ _ _ c.mul.ensures.appends) in
+    let both = B.appends_along _ _ _ [] _ [] [] c.mul.ensures.appends c.add.ensures.appends in
     record {
-      same = c.add.ensures.same ∙ c.mul.ensures.same ∙ c.loop-i.invariant.same;
-      grows = B.grows_along _ _ _ [] _ [] [] c.loop-i.invariant.grows both;
-      two = B.persists _ _ (B.grows_later _ _ _ _ both) _ _ c.loop-i.invariant.two;
+      keeps_shape = c.add.ensures.keeps_shape ∙ c.mul.ensures.keeps_shape ∙ c.loop-i.invariant.keeps_shape;
+      appends = B.appends_along _ _ _ [] _ [] [] c.loop-i.invariant.appends both;
+      two = B.persists _ _ (B.appends_later _ _ _ _ both) _ _ c.loop-i.invariant.two;
       so_far = λ t h.
-          let twice = c.in_ok-twice.ensures.stands _ _ c.loop-i.invariant.two (c.loop-i.invariant.so_far t h) in
-          let bit = past _ _ (B.persists _ _ (B.grows_later _ _ _ _ c.loop-i.invariant.grows) _ _ (stand_item _ _ _ h i c.index-bits-i.result within c.index-bits-i.is)) in
-          subst (λ (u : Tree g.row.AB-F.Denot). g.AB.AirBuilder.stands c.add.new.self c.in_ok-sum-2.sum u)
+          let twice = c.in_ok-twice.ensures.represents _ _ c.loop-i.invariant.two (c.loop-i.invariant.so_far t h) in
+          let bit = past _ _ (B.persists _ _ (B.appends_later _ _ _ _ c.loop-i.invariant.appends) _ _ (stand_item _ _ _ h i c.index-bits-i.result within c.index-bits-i.is)) in
+          subst (λ (u : Tree g.row.AB-F.Denot). g.AB.AirBuilder.represents c.add.new.self c.in_ok-sum-2.sum u)
           (packed_turn r t i c.loop-i.i (n - c.loop-i.i) (n - i) next rest)
-          (c.in_ok-sum-2.ensures.stands _ _ bit twice);
+          (c.in_ok-sum-2.ensures.represents _ _ bit twice);
     }
 
-pub returns-in_err-sum-clause-grows : goal.returns-in_err-sum-clause-grows
-returns-in_err-sum-clause-grows g c = g.met.AB.AirBuilder.grows_along _ _ _ [] _ [] [] c.constant.ensures.grows c.constant-2.ensures.grows
+pub returns-in_err-sum-clause-appends : goal.returns-in_err-sum-clause-appends
+returns-in_err-sum-clause-appends g c = g.met.AB.AirBuilder.appends_along _ _ _ [] _ [] [] c.constant.ensures.appends c.constant-2.ensures.appends
 
-pub returns-in_err-twice-clause-grows : goal.returns-in_err-twice-clause-grows
-returns-in_err-twice-clause-grows g c = g.met.AB.AirBuilder.grows_along _ _ _ [] _ [] [] c.loop-i.invariant.grows c.mul.ensures.grows
+pub returns-in_err-twice-clause-appends : goal.returns-in_err-twice-clause-appends
+returns-in_err-twice-clause-appends g c = g.met.AB.AirBuilder.appends_along _ _ _ [] _ [] [] c.loop-i.invariant.appends c.mul.ensures.appends
 
-pub returns-in_err-sum-2-clause-grows : goal.returns-in_err-sum-2-clause-grows
-returns-in_err-sum-2-clause-grows g c =
-    let then = g.met.AB.AirBuilder.grows_along in
-    then _ _ _ [] _ [] [] c.loop-i.invariant.grows (then _ _ _ [] _ [] [] c.mul.ensures.grows c.add.ensures.grows)
+pub returns-in_err-sum-2-clause-appends : goal.returns-in_err-sum-2-clause-appends
+returns-in_err-sum-2-clause-appends g c =
+    let then = g.met.AB.AirBuilder.appends_along in
+    then _ _ _ [] _ [] [] c.loop-i.invariant.appends (then _ _ _ [] _ [] [] c.mul.ensures.appends c.add.ensures.appends)

@@ -1,11 +1,11 @@
 use Rattle.std.proofs.Common.{[]}
 use Rattle.p3_air.proofs.gadgets.times_more.Goals as goal
 
-pub returns-in_err-more-clause-grows : goal.returns-in_err-more-clause-grows
-returns-in_err-more-clause-grows g c =
-    g.met.AB.AirBuilder.grows_along _ _ _ [] _ [] [] c.constant.ensures.grows c.add.ensures.grows
+pub returns-in_err-more-clause-appends : goal.returns-in_err-more-clause-appends
+returns-in_err-more-clause-appends g c =
+    g.met.AB.AirBuilder.appends_along _ _ _ [] _ [] [] c.constant.ensures.appends c.add.ensures.appends
 
-pub returns-clause-grows : goal.returns-clause-grows
-returns-clause-grows g c =
-    let then = g.met.AB.AirBuilder.grows_along in
-    then _ _ _ [] _ [] [] c.constant.ensures.grows (then _ _ _ [] _ [] [] c.add.ensures.grows c.mul.ensures.grows)
+pub returns-clause-appends : goal.returns-clause-appends
+returns-clause-appends g c =
+    let then = g.met.AB.AirBuilder.appends_along in
+    then _ _ _ [] _ [] [] c.constant.ensures.appends (then _ _ _ [] _ [] [] c.add.ensures.appends c.mul.ensures.appends)

@@ -1,11 +1,11 @@
 use Rattle.std.proofs.Common.{◌≡◌, ℕ, ◌++◌, map, ◌∙◌, refl, ap}
 use Rattle.std.specs.Int.{bit_at}
 use Rattle.p3_field.specs.Ring.{Ring, of_nat}
-use Rattle.p3_field.specs.Poly.{table}
+use Rattle.p3_field.specs.Poly.{tabulate}
 use Rattle.p3_air.specs.Gadgets.{word_bits}
 use Rattle.p3_blake3.proofs.pushing.push_bits.Goals as goal
 
-bits_are : {F : Type 0} (r : Ring F) (w : ℕ) → word_bits r w ≡ map (of_nat r) (table 32 (bit_at w))
+bits_are : {F : Type 0} (r : Ring F) (w : ℕ) → word_bits r w ≡ map (of_nat r) (tabulate 32 (bit_at w))
 unfolding word_bits
 bits_are r w = refl
 

@@ -1,12 +1,12 @@
 use Rattle.std.proofs.Common.{◌≡◌, ℕ, ◌/◌, ◌%◌, ◌^◌, ◌<◌, List, [], ◌∷◌, ◌++◌, ◌∙◌, ap, arith, append_assoc}
 use Rattle.p3_field.specs.Ring.{Ring, of_nat}
-use Rattle.p3_field.specs.Poly.{table}
+use Rattle.p3_field.specs.Poly.{tabulate}
 use Rattle.p3_air.specs.Words.{limb}
 use Rattle.p3_blake3.specs.Generated.{Pushed}
 use Rattle.p3_blake3.proofs.pushing.push_limbs.Goals as goal
 
 two : {F : Type 0} (r : Ring F) (a b c : List F) (x y : F) (w : ℕ) → w < 2 ^ 32 → b ≡ a ++ x ∷ [] → c ≡ b ++ y ∷ [] → x ≡ of_nat r (w % 65536) → y ≡ of_nat r (w / 65536)
-    → Pushed r a c (table 2 (limb w))
+    → Pushed r a c (tabulate 2 (limb w))
 two r a b c x y w h e f p q =
     let low : w % 65536 ≡ limb w 0 = omega arith in
     let high : w / 65536 ≡ limb w 1 = omega (arith, h) in

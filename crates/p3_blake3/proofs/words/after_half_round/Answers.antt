@@ -1,6 +1,6 @@
 use Rattle.std.proofs.Common.{◌≡◌, ℕ, [], ◌∷◌, ◌∙◌, ap, arith}
 use Rattle.p3_blake3.specs.declared.words.FourWords.{FourWords}
-use Rattle.p3_blake3.specs.Compress.{Quarter, word, half, taken, step_of}
+use Rattle.p3_blake3.specs.Compress.{Quarter, word, half_quarter_round, words_taken, step_of_word}
 use Rattle.p3_blake3.specs.TraceRow.{turn_of, d_turn, b_turn, message_of}
 use Rattle.p3_blake3.specs.Generated.{quarter_of, IsState}
 use Rattle.p3_blake3.proofs.words.after_half_round.Goals as goal
@@ -16,7 +16,7 @@ columns : (p q r s : FourWords) (f : ℕ → Quarter) (t : ℕ) → t ≡ 0 → 
       row1 = p.b ∷ q.b ∷ r.b ∷ s.b ∷ [];
       row2 = p.c ∷ q.c ∷ r.c ∷ s.c ∷ [];
       row3 = p.d ∷ q.d ∷ r.d ∷ s.d ∷ [];
-    }) (λ row i. word (f (step_of t row i)) row)
+    }) (λ row i. word (f (step_of_word t row i)) row)
 columns p q r s f t z a b c d =
     record {
       rows0 = four p.a q.a r.a s.a _ _ _ _ (ap (λ v. word v 0) (a ∙ ap f (omega (arith, z)))) (ap (λ v. word v 0) (b ∙ ap f (omega (arith, z)))) (ap (λ v. word v 0) (c ∙ ap f (omega (arith, z)))) (ap (λ v. word v 0) (d ∙ ap f (omega (arith, z))));
@@ -32,7 +32,7 @@ diagonals : (p q r s : FourWords) (f : ℕ → Quarter) (t : ℕ) → t ≡ 1 �
       row1 = s.b ∷ p.b ∷ q.b ∷ r.b ∷ [];
       row2 = r.c ∷ s.c ∷ p.c ∷ q.c ∷ [];
       row3 = q.d ∷ r.d ∷ s.d ∷ p.d ∷ [];
-    }) (λ row i. word (f (step_of t row i)) row)
+    }) (λ row i. word (f (step_of_word t row i)) row)
 diagonals p q r s f t z a b c d =
     record {
       rows0 = four p.a q.a r.a s.a _ _ _ _ (ap (λ v. word v 0) (a ∙ ap f (omega (arith, z)))) (ap (λ v. word v 0) (b ∙ ap f (omega (arith, z)))) (ap (λ v. word v 0) (c ∙ ap f (omega (arith, z)))) (ap (λ v. word v 0) (d ∙ ap f (omega (arith, z))));
@@ -44,11 +44,11 @@ diagonals p q r s f t z a b c d =
 pub returns-then-n-eq0 : goal.returns-then-n-eq0
 returns-then-n-eq0 c x v hb hs =
     let n = c.args.n in
-    columns _ _ _ _ (λ g. half (d_turn n) (b_turn n) (taken (turn_of n) v g) (x (message_of n g))) (turn_of n) (omega arith)
+    columns _ _ _ _ (λ g. half_quarter_round (d_turn n) (b_turn n) (words_taken (turn_of n) v g) (x (message_of n g))) (turn_of n) (omega arith)
     (c.made_words-p.ensures x v hb hs) (c.made_words-q.ensures x v hb hs) (c.made_words-r.ensures x v hb hs) (c.made_words-s.ensures x v hb hs)
 
 pub returns : goal.returns
 returns c x v hb hs =
     let n = c.args.n in
-    diagonals _ _ _ _ (λ g. half (d_turn n) (b_turn n) (taken (turn_of n) v g) (x (message_of n g))) (turn_of n) (omega arith)
+    diagonals _ _ _ _ (λ g. half_quarter_round (d_turn n) (b_turn n) (words_taken (turn_of n) v g) (x (message_of n g))) (turn_of n) (omega arith)
     (c.made_words-p.ensures x v hb hs) (c.made_words-q.ensures x v hb hs) (c.made_words-r.ensures x v hb hs) (c.made_words-s.ensures x v hb hs)

@@ -1,14 +1,14 @@
 use Rattle.std.proofs.Common.{◌≡◌, ℕ, ◌∙◌, ap}
 use Rattle.p3_blake3.specs.declared.words.FourWords.{FourWords}
-use Rattle.p3_blake3.specs.Compress.{Quarter, half, half_a, half_b, half_c, half_d}
+use Rattle.p3_blake3.specs.Compress.{Quarter, half_quarter_round, half_a, half_b, half_c, half_d}
 use Rattle.p3_blake3.specs.Generated.{quarter_of}
 use Rattle.p3_blake3.proofs.words.made_words.Goals as goal
 
 made : (s t m n : ℕ) (p : FourWords) (q r : Quarter) → p.a ≡ half_a q m → p.b ≡ half_b s t q m → p.c ≡ half_c s q m → p.d ≡ half_d s q m → q ≡ r → m ≡ n
-    → quarter_of p ≡ half s t r n
+    → quarter_of p ≡ half_quarter_round s t r n
 made s t m n p q r a b c d e f =
-    let first : quarter_of p ≡ half s t q m = λ j. record { a = a j; b = b j; c = c j; d = d j } in
-    first ∙ (λ j. half s t (e j) (f j))
+    let first : quarter_of p ≡ half_quarter_round s t q m = λ j. record { a = a j; b = b j; c = c j; d = d j } in
+    first ∙ (λ j. half_quarter_round s t (e j) (f j))
 
 pub returns : goal.returns
 returns c x v hb hs =

@@ -2,30 +2,30 @@ use Rattle.p3_blake3_air.specs.Trees.{blake3_trees}
 use Rattle.p3_air.specs.Laws.Appended.{both, later, front, on_failure}
 use Rattle.p3_blake3_air.proofs.air.assert_row.Goals as goal
 
-pub returns-clause-grows : goal.returns-clause-grows
+pub returns-clause-appends : goal.returns-clause-appends
 unfolding blake3_trees
-returns-clause-grows g c =
-    let G = g.AB.AirBuilder.grows in
-    let along = g.met.AB.AirBuilder.grows_along in
-    both G along (both G along c.in_ok-assert_first.ensures.grows c.in_ok-assert_rounds.ensures.grows) c.in_ok-assert_last.ensures.grows
+returns-clause-appends g c =
+    let G = g.AB.AirBuilder.appends in
+    let along = g.met.AB.AirBuilder.appends_along in
+    both G along (both G along c.in_ok-assert_first.ensures.appends c.in_ok-assert_rounds.ensures.appends) c.in_ok-assert_last.ensures.appends
 
-pub returns-in_err-assert_first-clause-refused : goal.returns-in_err-assert_first-clause-refused
+pub returns-in_err-assert_first-clause-on_error : goal.returns-in_err-assert_first-clause-on_error
 unfolding blake3_trees
-returns-in_err-assert_first-clause-refused g c =
-    let G = g.AB.AirBuilder.grows in
-    let along = g.met.AB.AirBuilder.grows_along in
-    on_failure (front G along _ (front G along _ c.in_err-assert_first.ensures.refused.holds))
+returns-in_err-assert_first-clause-on_error g c =
+    let G = g.AB.AirBuilder.appends in
+    let along = g.met.AB.AirBuilder.appends_along in
+    on_failure (front G along _ (front G along _ c.in_err-assert_first.ensures.on_error.holds))
 
-pub returns-in_err-assert_rounds-clause-refused : goal.returns-in_err-assert_rounds-clause-refused
+pub returns-in_err-assert_rounds-clause-on_error : goal.returns-in_err-assert_rounds-clause-on_error
 unfolding blake3_trees
-returns-in_err-assert_rounds-clause-refused g c =
-    let G = g.AB.AirBuilder.grows in
-    let along = g.met.AB.AirBuilder.grows_along in
-    on_failure (front G along _ (later G along c.in_ok-assert_first.ensures.grows c.in_err-assert_rounds.ensures.refused.holds))
+returns-in_err-assert_rounds-clause-on_error g c =
+    let G = g.AB.AirBuilder.appends in
+    let along = g.met.AB.AirBuilder.appends_along in
+    on_failure (front G along _ (later G along c.in_ok-assert_first.ensures.appends c.in_err-assert_rounds.ensures.on_error.holds))
 
-pub returns-in_err-assert_last-clause-refused : goal.returns-in_err-assert_last-clause-refused
+pub returns-in_err-assert_last-clause-on_error : goal.returns-in_err-assert_last-clause-on_error
 unfolding blake3_trees
-returns-in_err-assert_last-clause-refused g c =
-    let G = g.AB.AirBuilder.grows in
-    let along = g.met.AB.AirBuilder.grows_along in
-    on_failure (later G along (both G along c.in_ok-assert_first.ensures.grows c.in_ok-assert_rounds.ensures.grows) c.in_err-assert_last.ensures.refused.holds)
+returns-in_err-assert_last-clause-on_error g c =
+    let G = g.AB.AirBuilder.appends in
+    let along = g.met.AB.AirBuilder.appends_along in
+    on_failure (later G along (both G along c.in_ok-assert_first.ensures.appends c.in_ok-assert_rounds.ensures.appends) c.in_err-assert_last.ensures.on_error.holds)

@@ -1,6 +1,6 @@
 use Rattle.std.proofs.Common.{[], ◌∷◌, ◌∙◌, sym, arith, subst}
 use Rattle.p3_air.specs.Appended.{Appended, AppendedSome}
-use Rattle.p3_air.specs.Laws.Lists.{table_joined}
+use Rattle.p3_air.specs.Laws.Lists.{tabulate_joined}
 use Rattle.p3_air.specs.Tree.{bool_tree}
 use Rattle.p3_blake3_air.specs.Trees.{from_column, bits_trees}
 use Rattle.p3_air.specs.Laws.Appended.{on_failure, one_more, some_turns, no_turns, all_turns}
@@ -11,8 +11,8 @@ loop-i-init g c =
     let B = g.met.AB.AirBuilder in
     let r = g.AB.F.RingCore.ring in record {
       later = B.later_same _;
-      same = λ i. g.AB.AirBuilder.shape c.args.builder.now;
-      grown = no_turns g.AB.AirBuilder.grows B.grows_along _ (λ i. bool_tree r.one (from_column c.args.column i) ∷ []) (B.grows_same _);
+      keeps_shape = λ i. g.AB.AirBuilder.shape c.args.builder.now;
+      grown = no_turns g.AB.AirBuilder.appends B.appends_along _ (λ i. bool_tree r.one (from_column c.args.column i) ∷ []) (B.appends_none _);
     }
 
 pub loop-i-preserved : goal.loop-i-preserved
@@ -20,22 +20,22 @@ loop-i-preserved g c =
     let B = g.met.AB.AirBuilder in
     let r = g.AB.F.RingCore.ring in record {
       later = B.later_along _ _ _ c.loop-i.invariant.later c.assert_bit.ensures.later;
-      same = c.assert_bit.ensures.same ∙ c.loop-i.invariant.same;
-      grown = one_more g.AB.AirBuilder.grows B.grows_along c.loop-i.i (λ i. bool_tree r.one (from_column c.args.column i) ∷ []) c.loop-i.invariant.grown c.in_ok-assert_bit.ensures.grows;
+      keeps_shape = c.assert_bit.ensures.keeps_shape ∙ c.loop-i.invariant.keeps_shape;
+      grown = one_more g.AB.AirBuilder.appends B.appends_along c.loop-i.i (λ i. bool_tree r.one (from_column c.args.column i) ∷ []) c.loop-i.invariant.grown c.in_ok-assert_bit.ensures.appends;
     }
 
-pub returns-clause-grows : goal.returns-clause-grows
+pub returns-clause-appends : goal.returns-clause-appends
 unfolding bits_trees
-returns-clause-grows g c =
+returns-clause-appends g c =
     let B = g.met.AB.AirBuilder in
     let r = g.AB.F.RingCore.ring in
-    subst (Appended g.AB.AirBuilder.grows _ _) (sym (table_joined c.args.n (λ i. bool_tree r.one (from_column c.args.column i))))
-    (all_turns g.AB.AirBuilder.grows B.grows_along _ _ c.loop-i.i c.args.n (λ i. bool_tree r.one (from_column c.args.column i) ∷ []) (omega arith) c.loop-i.invariant.grown)
+    subst (Appended g.AB.AirBuilder.appends _ _) (sym (tabulate_joined c.args.n (λ i. bool_tree r.one (from_column c.args.column i))))
+    (all_turns g.AB.AirBuilder.appends B.appends_along _ _ c.loop-i.i c.args.n (λ i. bool_tree r.one (from_column c.args.column i) ∷ []) (omega arith) c.loop-i.invariant.grown)
 
-pub returns-in_err-assert_bit-clause-refused : goal.returns-in_err-assert_bit-clause-refused
+pub returns-in_err-assert_bit-clause-on_error : goal.returns-in_err-assert_bit-clause-on_error
 unfolding bits_trees
-returns-in_err-assert_bit-clause-refused g c =
+returns-in_err-assert_bit-clause-on_error g c =
     let B = g.met.AB.AirBuilder in
     let r = g.AB.F.RingCore.ring in
-    on_failure (subst (AppendedSome g.AB.AirBuilder.grows _ _) (sym (table_joined c.args.n (λ i. bool_tree r.one (from_column c.args.column i))))
-    (some_turns g.AB.AirBuilder.grows B.grows_along _ _ _ c.loop-i.i c.args.n (λ i. bool_tree r.one (from_column c.args.column i) ∷ []) c.loop-i-test.true c.loop-i.invariant.grown c.in_err-assert_bit.ensures.refused.holds))
+    on_failure (subst (AppendedSome g.AB.AirBuilder.appends _ _) (sym (tabulate_joined c.args.n (λ i. bool_tree r.one (from_column c.args.column i))))
+    (some_turns g.AB.AirBuilder.appends B.appends_along _ _ _ c.loop-i.i c.args.n (λ i. bool_tree r.one (from_column c.args.column i) ∷ []) c.loop-i-test.true c.loop-i.invariant.grown c.in_err-assert_bit.ensures.on_error.holds))

@@ -2,30 +2,30 @@ use Rattle.p3_blake3_air.specs.Trees.{first_output_trees}
 use Rattle.p3_air.specs.Laws.Appended.{both, later, front, on_failure}
 use Rattle.p3_blake3_air.proofs.edges.assert_first_output.Goals as goal
 
-pub returns-clause-grows : goal.returns-clause-grows
+pub returns-clause-appends : goal.returns-clause-appends
 unfolding first_output_trees
-returns-clause-grows g c =
-    let G = g.AB.AirBuilder.grows in
-    let along = g.met.AB.AirBuilder.grows_along in
-    both G along (both G along c.in_ok-assert_limbs.ensures.grows c.in_ok-assert_bits.ensures.grows) c.in_ok-assert_masked.ensures.grows
+returns-clause-appends g c =
+    let G = g.AB.AirBuilder.appends in
+    let along = g.met.AB.AirBuilder.appends_along in
+    both G along (both G along c.in_ok-assert_limbs.ensures.appends c.in_ok-assert_bits.ensures.appends) c.in_ok-assert_masked.ensures.appends
 
-pub returns-in_err-assert_limbs-clause-refused : goal.returns-in_err-assert_limbs-clause-refused
+pub returns-in_err-assert_limbs-clause-on_error : goal.returns-in_err-assert_limbs-clause-on_error
 unfolding first_output_trees
-returns-in_err-assert_limbs-clause-refused g c =
-    let G = g.AB.AirBuilder.grows in
-    let along = g.met.AB.AirBuilder.grows_along in
-    on_failure (front G along _ (front G along _ c.in_err-assert_limbs.ensures.refused.holds))
+returns-in_err-assert_limbs-clause-on_error g c =
+    let G = g.AB.AirBuilder.appends in
+    let along = g.met.AB.AirBuilder.appends_along in
+    on_failure (front G along _ (front G along _ c.in_err-assert_limbs.ensures.on_error.holds))
 
-pub returns-in_err-assert_bits-clause-refused : goal.returns-in_err-assert_bits-clause-refused
+pub returns-in_err-assert_bits-clause-on_error : goal.returns-in_err-assert_bits-clause-on_error
 unfolding first_output_trees
-returns-in_err-assert_bits-clause-refused g c =
-    let G = g.AB.AirBuilder.grows in
-    let along = g.met.AB.AirBuilder.grows_along in
-    on_failure (front G along _ (later G along c.in_ok-assert_limbs.ensures.grows c.in_err-assert_bits.ensures.refused.holds))
+returns-in_err-assert_bits-clause-on_error g c =
+    let G = g.AB.AirBuilder.appends in
+    let along = g.met.AB.AirBuilder.appends_along in
+    on_failure (front G along _ (later G along c.in_ok-assert_limbs.ensures.appends c.in_err-assert_bits.ensures.on_error.holds))
 
-pub returns-in_err-assert_masked-clause-refused : goal.returns-in_err-assert_masked-clause-refused
+pub returns-in_err-assert_masked-clause-on_error : goal.returns-in_err-assert_masked-clause-on_error
 unfolding first_output_trees
-returns-in_err-assert_masked-clause-refused g c =
-    let G = g.AB.AirBuilder.grows in
-    let along = g.met.AB.AirBuilder.grows_along in
-    on_failure (later G along (both G along c.in_ok-assert_limbs.ensures.grows c.in_ok-assert_bits.ensures.grows) c.in_err-assert_masked.ensures.refused.holds)
+returns-in_err-assert_masked-clause-on_error g c =
+    let G = g.AB.AirBuilder.appends in
+    let along = g.met.AB.AirBuilder.appends_along in
+    on_failure (later G along (both G along c.in_ok-assert_limbs.ensures.appends c.in_ok-assert_bits.ensures.appends) c.in_err-assert_masked.ensures.on_error.holds)

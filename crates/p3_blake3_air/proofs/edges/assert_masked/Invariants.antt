@@ -10,6 +10,6 @@ invariant-loop-i g l =
     let B = g.AB.AirBuilder in
     let r = g.AB.F.RingCore.ring in record {
       later : B.later l.fn.builder l.builder;
-      same : B.shape l.builder ≡ B.shape l.fn.builder;
-      grown : Appended B.grows l.fn.builder l.builder (joined l.i (λ i. xor_shift_trees r (from_column (l.limbs + 2 * i)) (from_column (l.bits + 32 * i)) (from_column (l.mask + 32 * i)) 0));
+      keeps_shape : B.shape l.builder ≡ B.shape l.fn.builder;
+      grown : Appended B.appends l.fn.builder l.builder (joined l.i (λ i. xor_shift_trees r (from_column (l.limbs + 2 * i)) (from_column (l.bits + 32 * i)) (from_column (l.mask + 32 * i)) 0));
     }

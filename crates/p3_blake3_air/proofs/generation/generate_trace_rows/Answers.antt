@@ -4,7 +4,7 @@ use Rattle.p3_field.specs.Ring.{Ring, of_nat}
 use Rattle.p3_matrix.specs.Matrix.{Rows, FillsRows, height, row_at}
 use Rattle.p3_blake3.specs.TraceRow.{trace_row}
 use Rattle.p3_blake3.specs.Generated.{input_of}
-use Rattle.p3_blake3_air.specs.Rows.{rows_cells, row_words}
+use Rattle.p3_blake3_air.specs.Rows.{rows_cells, compression_input}
 use Rattle.p3_blake3_air.specs.Laws.Generated.{length-rows_cells, generated_row}
 use Rattle.p3_blake3_air.proofs.generation.generate_trace_rows.Goals as goal
 
@@ -17,7 +17,7 @@ pub new-requires : goal.new-requires
 new-requires g c = fills g.F.RingCore.ring _ c.args.inputs.now c.in_ok-values.ensures
 
 row_of : {F : Type 0} (r : Ring F) (values : List F) (inputs : List (List ℕ)) (m : Rows F) → values ≡ map (of_nat r) (rows_cells inputs) → m ≡ record { values = values; width = 9168 }
-    → (i : ℕ) → i < length inputs → row_at m i ≡ trace_row r (input_of (row_words inputs i))
+    → (i : ℕ) → i < length inputs → row_at m i ≡ trace_row r (input_of (compression_input inputs i))
 row_of {F = F} r values inputs m e f i lt =
     (λ j. row_at (f j) i) ∙ ((λ j. row_at (record { values = e j; width = 9168 }) i) ∙ generated_row r inputs i lt)
 

@@ -1,38 +1,38 @@
 use Rattle.std.proofs.Common.{[]}
-use Rattle.p3_air.specs.Laws.Growth.{none_first, some_after}
-use Rattle.p3_air.specs.Laws.Packing.{stand_later}
+use Rattle.p3_air.specs.Laws.Appending.{none_first, some_after}
+use Rattle.p3_air.specs.Laws.Packing.{represent_later}
 use Rattle.p3_air.specs.Laws.Appended.{on_failure}
 use Rattle.p3_blake3_air.proofs.half.assert_turned.Goals as goal
 
-pub returns-in_err-limbs-clause-refused : goal.returns-in_err-limbs-clause-refused
-returns-in_err-limbs-clause-refused g c =
-    let then = g.met.AB.AirBuilder.grows_along in
-    on_failure (record { some = none_first g.AB.AirBuilder.grows _ _ _ _ c.limbs_at.ensures.grows })
+pub returns-in_err-limbs-clause-on_error : goal.returns-in_err-limbs-clause-on_error
+returns-in_err-limbs-clause-on_error g c =
+    let then = g.met.AB.AirBuilder.appends_along in
+    on_failure (record { some = none_first g.AB.AirBuilder.appends _ _ _ _ c.limbs_at.ensures.appends })
 
-pub returns-in_err-bits-clause-refused : goal.returns-in_err-bits-clause-refused
-returns-in_err-bits-clause-refused g c =
-    let then = g.met.AB.AirBuilder.grows_along in
-    on_failure (record { some = none_first g.AB.AirBuilder.grows _ _ _ _ (then _ _ _ [] [] [] [] c.limbs_at.ensures.grows c.bits_at.ensures.grows) })
+pub returns-in_err-bits-clause-on_error : goal.returns-in_err-bits-clause-on_error
+returns-in_err-bits-clause-on_error g c =
+    let then = g.met.AB.AirBuilder.appends_along in
+    on_failure (record { some = none_first g.AB.AirBuilder.appends _ _ _ _ (then _ _ _ [] [] [] [] c.limbs_at.ensures.appends c.bits_at.ensures.appends) })
 
-pub returns-in_err-others-clause-refused : goal.returns-in_err-others-clause-refused
-returns-in_err-others-clause-refused g c =
-    let then = g.met.AB.AirBuilder.grows_along in
-    on_failure (record { some = none_first g.AB.AirBuilder.grows _ _ _ _ (then _ _ _ [] [] [] [] c.limbs_at.ensures.grows (then _ _ _ [] [] [] [] c.bits_at.ensures.grows c.bits_at-2.ensures.grows)) })
+pub returns-in_err-others-clause-on_error : goal.returns-in_err-others-clause-on_error
+returns-in_err-others-clause-on_error g c =
+    let then = g.met.AB.AirBuilder.appends_along in
+    on_failure (record { some = none_first g.AB.AirBuilder.appends _ _ _ _ (then _ _ _ [] [] [] [] c.limbs_at.ensures.appends (then _ _ _ [] [] [] [] c.bits_at.ensures.appends c.bits_at-2.ensures.appends)) })
 
-pub returns-clause-grows : goal.returns-clause-grows
-returns-clause-grows g c =
+pub returns-clause-appends : goal.returns-clause-appends
+returns-clause-appends g c =
     let B = g.met.AB.AirBuilder in
-    let then = B.grows_along in
-    let h0 = stand_later _ _ _ _ (B.persists _ _ (B.grows_later _ _ _ _ c.bits_at-2.ensures.grows)) (stand_later _ _ _ _ (B.persists _ _ (B.grows_later _ _ _ _ c.bits_at.ensures.grows)) (c.in_ok-limbs.ensures.stands)) in
-    let h1 = stand_later _ _ _ _ (B.persists _ _ (B.grows_later _ _ _ _ c.bits_at-2.ensures.grows)) (c.in_ok-bits.ensures.stands) in
-    let h2 = c.in_ok-others.ensures.stands in
-    record { all = then _ _ _ [] _ [] [] c.limbs_at.ensures.grows (then _ _ _ [] _ [] [] c.bits_at.ensures.grows (then _ _ _ [] _ [] [] c.bits_at-2.ensures.grows (c.in_ok-xor_32_shift.ensures.grows _ _ _ h0 h1 h2))) }
+    let then = B.appends_along in
+    let h0 = represent_later _ _ _ _ (B.persists _ _ (B.appends_later _ _ _ _ c.bits_at-2.ensures.appends)) (represent_later _ _ _ _ (B.persists _ _ (B.appends_later _ _ _ _ c.bits_at.ensures.appends)) (c.in_ok-limbs.ensures.represents)) in
+    let h1 = represent_later _ _ _ _ (B.persists _ _ (B.appends_later _ _ _ _ c.bits_at-2.ensures.appends)) (c.in_ok-bits.ensures.represents) in
+    let h2 = c.in_ok-others.ensures.represents in
+    record { all = then _ _ _ [] _ [] [] c.limbs_at.ensures.appends (then _ _ _ [] _ [] [] c.bits_at.ensures.appends (then _ _ _ [] _ [] [] c.bits_at-2.ensures.appends (c.in_ok-xor_32_shift.ensures.appends _ _ _ h0 h1 h2))) }
 
-pub returns-in_err-xor_32_shift-clause-refused : goal.returns-in_err-xor_32_shift-clause-refused
-returns-in_err-xor_32_shift-clause-refused g c =
+pub returns-in_err-xor_32_shift-clause-on_error : goal.returns-in_err-xor_32_shift-clause-on_error
+returns-in_err-xor_32_shift-clause-on_error g c =
     let B = g.met.AB.AirBuilder in
-    let then = B.grows_along in
-    let h0 = stand_later _ _ _ _ (B.persists _ _ (B.grows_later _ _ _ _ c.bits_at-2.ensures.grows)) (stand_later _ _ _ _ (B.persists _ _ (B.grows_later _ _ _ _ c.bits_at.ensures.grows)) (c.in_ok-limbs.ensures.stands)) in
-    let h1 = stand_later _ _ _ _ (B.persists _ _ (B.grows_later _ _ _ _ c.bits_at-2.ensures.grows)) (c.in_ok-bits.ensures.stands) in
-    let h2 = c.in_ok-others.ensures.stands in
-    on_failure (record { some = some_after then _ _ _ [] _ [] [] (then _ _ _ [] [] [] [] c.limbs_at.ensures.grows (then _ _ _ [] [] [] [] c.bits_at.ensures.grows (c.bits_at-2.ensures.grows))) (c.in_err-xor_32_shift.ensures.refused _ _ _ h0 h1 h2) })
+    let then = B.appends_along in
+    let h0 = represent_later _ _ _ _ (B.persists _ _ (B.appends_later _ _ _ _ c.bits_at-2.ensures.appends)) (represent_later _ _ _ _ (B.persists _ _ (B.appends_later _ _ _ _ c.bits_at.ensures.appends)) (c.in_ok-limbs.ensures.represents)) in
+    let h1 = represent_later _ _ _ _ (B.persists _ _ (B.appends_later _ _ _ _ c.bits_at-2.ensures.appends)) (c.in_ok-bits.ensures.represents) in
+    let h2 = c.in_ok-others.ensures.represents in
+    on_failure (record { some = some_after then _ _ _ [] _ [] [] (then _ _ _ [] [] [] [] c.limbs_at.ensures.appends (then _ _ _ [] [] [] [] c.bits_at.ensures.appends (c.bits_at-2.ensures.appends))) (c.in_err-xor_32_shift.ensures.on_error _ _ _ h0 h1 h2) })

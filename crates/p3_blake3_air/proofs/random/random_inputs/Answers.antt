@@ -1,5 +1,5 @@
 use Rattle.std.proofs.Common.{◌≡◌, ◌+◌, ◌*◌, ap, ◌∙◌, arith, rules}
-use Rattle.p3_field.specs.Laws.Tables.{table_push}
+use Rattle.p3_field.specs.Laws.Tabulate.{tabulate_push}
 use Rattle.p3_blake3_air.specs.Random.{state_after, random_input}
 use Rattle.p3_blake3_air.proofs.random.random_inputs.Goals as goal
 
@@ -11,7 +11,7 @@ loop-i-preserved c =
       state = c.next_input.ensures.state (24 * i) c.loop-i.invariant.state ∙ ap state_after step;
       so_far =
           c.in_ok-push.ensures.items
-          ∙ table_push i (λ j. random_input (24 * j)) _ _ c.loop-i.invariant.so_far (c.next_input.ensures.words (24 * i) c.loop-i.invariant.state);
+          ∙ tabulate_push i (λ j. random_input (24 * j)) _ _ c.loop-i.invariant.so_far (c.next_input.ensures.words (24 * i) c.loop-i.invariant.state);
     }
 
 pub loop-i-init : goal.loop-i-init

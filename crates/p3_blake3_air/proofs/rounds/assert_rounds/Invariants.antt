@@ -9,6 +9,6 @@ invariant-loop-p g l =
     let B = g.AB.AirBuilder in
     let r = g.AB.F.RingCore.ring in record {
       later : B.later l.fn.builder l.builder;
-      same : B.shape l.builder ≡ B.shape l.fn.builder;
-      grown : Appended B.grows l.fn.builder l.builder (joined l.p (steps_trees r));
+      keeps_shape : B.shape l.builder ≡ B.shape l.fn.builder;
+      grown : Appended B.appends l.fn.builder l.builder (joined l.p (steps_trees r));
     }

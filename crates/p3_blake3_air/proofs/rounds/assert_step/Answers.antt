@@ -8,8 +8,8 @@ loop-h-init g c =
     let B = g.met.AB.AirBuilder in
     let r = g.AB.F.RingCore.ring in record {
       later = B.later_same _;
-      same = λ i. g.AB.AirBuilder.shape c.args.builder.now;
-      grown = no_turns g.AB.AirBuilder.grows B.grows_along _ (λ h. step_half_trees r (2 * c.args.p + h) c.args.g) (B.grows_same _);
+      keeps_shape = λ i. g.AB.AirBuilder.shape c.args.builder.now;
+      grown = no_turns g.AB.AirBuilder.appends B.appends_along _ (λ h. step_half_trees r (2 * c.args.p + h) c.args.g) (B.appends_none _);
     }
 
 pub loop-h-preserved : goal.loop-h-preserved
@@ -17,20 +17,20 @@ loop-h-preserved g c =
     let B = g.met.AB.AirBuilder in
     let r = g.AB.F.RingCore.ring in record {
       later = B.later_along _ _ _ c.loop-h.invariant.later c.assert_step_half.ensures.later;
-      same = c.assert_step_half.ensures.same ∙ c.loop-h.invariant.same;
-      grown = one_more g.AB.AirBuilder.grows B.grows_along c.loop-h.h (λ h. step_half_trees r (2 * c.args.p + h) c.args.g) c.loop-h.invariant.grown c.in_ok-assert_step_half.ensures.grows;
+      keeps_shape = c.assert_step_half.ensures.keeps_shape ∙ c.loop-h.invariant.keeps_shape;
+      grown = one_more g.AB.AirBuilder.appends B.appends_along c.loop-h.h (λ h. step_half_trees r (2 * c.args.p + h) c.args.g) c.loop-h.invariant.grown c.in_ok-assert_step_half.ensures.appends;
     }
 
-pub returns-clause-grows : goal.returns-clause-grows
+pub returns-clause-appends : goal.returns-clause-appends
 unfolding step_trees
-returns-clause-grows g c =
+returns-clause-appends g c =
     let B = g.met.AB.AirBuilder in
     let r = g.AB.F.RingCore.ring in
-    all_turns g.AB.AirBuilder.grows B.grows_along _ _ c.loop-h.h 2 (λ h. step_half_trees r (2 * c.args.p + h) c.args.g) (omega arith) c.loop-h.invariant.grown
+    all_turns g.AB.AirBuilder.appends B.appends_along _ _ c.loop-h.h 2 (λ h. step_half_trees r (2 * c.args.p + h) c.args.g) (omega arith) c.loop-h.invariant.grown
 
-pub returns-in_err-assert_step_half-clause-refused : goal.returns-in_err-assert_step_half-clause-refused
+pub returns-in_err-assert_step_half-clause-on_error : goal.returns-in_err-assert_step_half-clause-on_error
 unfolding step_trees
-returns-in_err-assert_step_half-clause-refused g c =
+returns-in_err-assert_step_half-clause-on_error g c =
     let B = g.met.AB.AirBuilder in
     let r = g.AB.F.RingCore.ring in
-    on_failure (some_turns g.AB.AirBuilder.grows B.grows_along _ _ _ c.loop-h.h 2 (λ h. step_half_trees r (2 * c.args.p + h) c.args.g) c.loop-h-test.true c.loop-h.invariant.grown c.in_err-assert_step_half.ensures.refused.holds)
+    on_failure (some_turns g.AB.AirBuilder.appends B.appends_along _ _ _ c.loop-h.h 2 (λ h. step_half_trees r (2 * c.args.p + h) c.args.g) c.loop-h-test.true c.loop-h.invariant.grown c.in_err-assert_step_half.ensures.on_error.holds)

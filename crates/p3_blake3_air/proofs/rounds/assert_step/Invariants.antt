@@ -9,6 +9,6 @@ invariant-loop-h g l =
     let B = g.AB.AirBuilder in
     let r = g.AB.F.RingCore.ring in record {
       later : B.later l.fn.builder l.builder;
-      same : B.shape l.builder ≡ B.shape l.fn.builder;
-      grown : Appended B.grows l.fn.builder l.builder (joined l.h (λ h. step_half_trees r (2 * l.p + h) l.g));
+      keeps_shape : B.shape l.builder ≡ B.shape l.fn.builder;
+      grown : Appended B.appends l.fn.builder l.builder (joined l.h (λ h. step_half_trees r (2 * l.p + h) l.g));
     }

@@ -2,28 +2,28 @@ use Rattle.std.proofs.Common.{◌≡◌, ℕ, suc, ◌+◌, ◌*◌, ◌∙◌, 
 use Rattle.p3_field.specs.Ring.{Ring}
 use Rattle.p3_blake3_air.specs.declared.places.Columns.{Columns}
 use Rattle.p3_blake3.specs.TraceRow.{turn_of, d_turn, b_turn, message_of}
-use Rattle.p3_blake3_air.specs.Trees.{place_of, columns_of, columns_trees, step_half_trees}
+use Rattle.p3_blake3_air.specs.Trees.{place_of, columns_of_step, columns_trees, step_half_trees}
 use Rattle.p3_air.specs.Appended.{Appended, AppendedSome}
 use Rattle.p3_air.specs.Laws.Appended.{on_failure}
 use Rattle.p3_blake3_air.proofs.rounds.assert_step_half.Goals as goal
 
-is_step : {F : Type 0} (r : Ring F) (n g : ℕ) (b a : Columns) (m : ℕ) → b ≡ columns_of (place_of n) (turn_of n) g → a ≡ columns_of (place_of (n + 1)) (turn_of n) g → m ≡ 32 * message_of n g
+is_step : {F : Type 0} (r : Ring F) (n g : ℕ) (b a : Columns) (m : ℕ) → b ≡ columns_of_step (place_of n) (turn_of n) g → a ≡ columns_of_step (place_of (n + 1)) (turn_of n) g → m ≡ 32 * message_of n g
     → columns_trees r (d_turn n) (b_turn n) b m a ≡ step_half_trees r n g
 unfolding step_half_trees
 is_step r n g b a m eb ea em =
     let e : n + 1 ≡ suc n = omega arith in
     ap (λ x. columns_trees r (d_turn n) (b_turn n) x m a) eb
-    ∙ (ap (λ x. columns_trees r (d_turn n) (b_turn n) (columns_of (place_of n) (turn_of n) g) x a) em
-    ∙ ap (columns_trees r (d_turn n) (b_turn n) (columns_of (place_of n) (turn_of n) g) (32 * message_of n g)) (ea ∙ ap (λ k. columns_of (place_of k) (turn_of n) g) e))
+    ∙ (ap (λ x. columns_trees r (d_turn n) (b_turn n) (columns_of_step (place_of n) (turn_of n) g) x a) em
+    ∙ ap (columns_trees r (d_turn n) (b_turn n) (columns_of_step (place_of n) (turn_of n) g) (32 * message_of n g)) (ea ∙ ap (λ k. columns_of_step (place_of k) (turn_of n) g) e))
 
-pub returns-clause-grows : goal.returns-clause-grows
-returns-clause-grows g c =
-    subst (Appended g.AB.AirBuilder.grows _ _)
+pub returns-clause-appends : goal.returns-clause-appends
+returns-clause-appends g c =
+    subst (Appended g.AB.AirBuilder.appends _ _)
     (is_step g.AB.F.RingCore.ring c.args.n c.args.g _ _ _ c.step_columns-before.ensures.columns c.step_columns-after.ensures.columns c.message_column-message.ensures.column)
-    c.in_ok-assert_half.ensures.grows
+    c.in_ok-assert_half.ensures.appends
 
-pub returns-in_err-assert_half-clause-refused : goal.returns-in_err-assert_half-clause-refused
-returns-in_err-assert_half-clause-refused g c =
-    on_failure (subst (AppendedSome g.AB.AirBuilder.grows _ _)
+pub returns-in_err-assert_half-clause-on_error : goal.returns-in_err-assert_half-clause-on_error
+returns-in_err-assert_half-clause-on_error g c =
+    on_failure (subst (AppendedSome g.AB.AirBuilder.appends _ _)
     (is_step g.AB.F.RingCore.ring c.args.n c.args.g _ _ _ c.step_columns-before.ensures.columns c.step_columns-after.ensures.columns c.message_column-message.ensures.column)
-    c.in_err-assert_half.ensures.refused.holds)
+    c.in_err-assert_half.ensures.on_error.holds)

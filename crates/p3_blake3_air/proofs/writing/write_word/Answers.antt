@@ -2,13 +2,13 @@ use Rattle.std.proofs.Common.{◌≡◌, ℕ, ◌+◌, ◌<◌, ◌≤◌, ◌�
 use Rattle.std.specs.Int.{bit_at}
 use Rattle.std.proofs.lemmas.Bool.{cases_eq}
 use Rattle.p3_field.specs.Ring.{Ring, of_nat}
-use Rattle.p3_field.specs.Laws.Tables.{get_or-table}
+use Rattle.p3_field.specs.Laws.Tabulate.{get_or-tabulate}
 use Rattle.p3_air.specs.Gadgets.{word_bits}
 use Rattle.p3_blake3_air.proofs.writing.write_word.Goals as goal
 
 bit_is : {F : Type 0} (r : Ring F) (w : ℕ) (bits : List F) (i : ℕ) (d : F) → bits ≡ word_bits r w → i < 32 → get_or bits i d ≡ of_nat r (bit_at w i)
 unfolding word_bits
-bit_is r w bits i d e lt = ap (λ xs. get_or xs i d) e ∙ get_or-table 32 (λ j. of_nat r (bit_at w j)) i d lt
+bit_is r w bits i d e lt = ap (λ xs. get_or xs i d) e ∙ get_or-tabulate 32 (λ j. of_nat r (bit_at w j)) i d lt
 
 -- a place outside is no place that is written
 outside : (at i k : ℕ) → i < 32 → (k < at) ⊎ (at + 32 ≤ k) → k ≡ at + i → ⊥

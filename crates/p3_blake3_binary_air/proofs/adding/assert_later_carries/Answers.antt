@@ -1,8 +1,8 @@
 use Rattle.std.proofs.Common.{◌≡◌, suc, ◌+◌, [], ◌∷◌, ◌∙◌, sym, arith, rules, subst}
 use Rattle.p3_air.specs.Appended.{Appended, AppendedSome}
 use Rattle.p3_air.specs.Tree.{sum}
-use Rattle.p3_air.specs.Laws.Growth.{none_first}
-use Rattle.p3_air.specs.Laws.Lists.{table_joined}
+use Rattle.p3_air.specs.Laws.Appending.{none_first}
+use Rattle.p3_air.specs.Laws.Lists.{tabulate_joined}
 use Rattle.p3_air.specs.Laws.Appended.{on_failure, one_more, some_turns, no_turns, all_turns}
 use Rattle.p3_blake3_binary_air.specs.Sums.{majority}
 use Rattle.p3_blake3_binary_air.proofs.adding.assert_later_carries.Goals as goal
@@ -12,8 +12,8 @@ loop-i-init g c =
     let B = g.met.AB.AirBuilder in
     record {
       later = B.later_same _;
-      same = λ i. g.AB.AirBuilder.shape c.args.builder.now;
-      grown = λ t u v ht hu hv. no_turns g.AB.AirBuilder.grows B.grows_along _ (λ i. sum (majority (t (suc i)) (u (suc i)) (v i)) (v (suc i)) ∷ []) (B.grows_same _);
+      keeps_shape = λ i. g.AB.AirBuilder.shape c.args.builder.now;
+      grown = λ t u v ht hu hv. no_turns g.AB.AirBuilder.appends B.appends_along _ (λ i. sum (majority (t (suc i)) (u (suc i)) (v i)) (v (suc i)) ∷ []) (B.appends_none _);
     }
 
 pub loop-i-preserved : goal.loop-i-preserved
@@ -24,31 +24,31 @@ loop-i-preserved g c =
     let keep = B.persists _ _ c.loop-i.invariant.later in
     record {
       later = B.later_along _ _ _ c.loop-i.invariant.later c.assert_next.ensures.later;
-      same = c.assert_next.ensures.same ∙ c.loop-i.invariant.same;
+      keeps_shape = c.assert_next.ensures.keeps_shape ∙ c.loop-i.invariant.keeps_shape;
       grown = λ t u v ht hu hv.
           let hx = keep _ _ (ht.each (i + 1) c.index-x-i.result (search rules)) in
           let hy = keep _ _ (hu.each (i + 1) c.index-y-i.result (search rules)) in
           let hc = keep _ _ (hv.each i c.index-k-i.result (search rules)) in
           let hn = keep _ _ (hv.each (i + 1) c.index-k-i-in-loop-i.result (search rules)) in
-          one_more g.AB.AirBuilder.grows B.grows_along i (λ i. sum (majority (t (suc i)) (u (suc i)) (v i)) (v (suc i)) ∷ []) (c.loop-i.invariant.grown t u v ht hu hv)
-          (subst (λ n. Appended g.AB.AirBuilder.grows c.loop-i.builder c.assert_next.new.builder (sum (majority (t n) (u n) (v i)) (v n) ∷ [])) next (record { all = c.in_ok-assert_next.ensures.grows _ _ _ _ hx hy hc hn }));
+          one_more g.AB.AirBuilder.appends B.appends_along i (λ i. sum (majority (t (suc i)) (u (suc i)) (v i)) (v (suc i)) ∷ []) (c.loop-i.invariant.grown t u v ht hu hv)
+          (subst (λ n. Appended g.AB.AirBuilder.appends c.loop-i.builder c.assert_next.new.builder (sum (majority (t n) (u n) (v i)) (v n) ∷ [])) next (record { all = c.in_ok-assert_next.ensures.appends _ _ _ _ hx hy hc hn }));
     }
 
-pub returns-clause-grows : goal.returns-clause-grows
-returns-clause-grows g c t u v ht hu hv =
+pub returns-clause-appends : goal.returns-clause-appends
+returns-clause-appends g c t u v ht hu hv =
     let B = g.met.AB.AirBuilder in
-    subst (Appended g.AB.AirBuilder.grows _ _) (sym (table_joined 30 (λ i. sum (majority (t (suc i)) (u (suc i)) (v i)) (v (suc i)))))
-    (all_turns g.AB.AirBuilder.grows B.grows_along _ _ c.loop-i.i 30 (λ i. sum (majority (t (suc i)) (u (suc i)) (v i)) (v (suc i)) ∷ []) (omega arith) (c.loop-i.invariant.grown t u v ht hu hv))
+    subst (Appended g.AB.AirBuilder.appends _ _) (sym (tabulate_joined 30 (λ i. sum (majority (t (suc i)) (u (suc i)) (v i)) (v (suc i)))))
+    (all_turns g.AB.AirBuilder.appends B.appends_along _ _ c.loop-i.i 30 (λ i. sum (majority (t (suc i)) (u (suc i)) (v i)) (v (suc i)) ∷ []) (omega arith) (c.loop-i.invariant.grown t u v ht hu hv))
 
 pub returns-in_err-assert_next-clause-later : goal.returns-in_err-assert_next-clause-later
 returns-in_err-assert_next-clause-later g c = g.met.AB.AirBuilder.later_along _ _ _ c.loop-i.invariant.later c.assert_next.ensures.later
 
-pub returns-in_err-assert_next-clause-same : goal.returns-in_err-assert_next-clause-same
-returns-in_err-assert_next-clause-same g c = c.assert_next.ensures.same ∙ c.loop-i.invariant.same
+pub returns-in_err-assert_next-clause-keeps_shape : goal.returns-in_err-assert_next-clause-keeps_shape
+returns-in_err-assert_next-clause-keeps_shape g c = c.assert_next.ensures.keeps_shape ∙ c.loop-i.invariant.keeps_shape
 
-pub returns-in_err-assert_next-clause-refused : goal.returns-in_err-assert_next-clause-refused
-returns-in_err-assert_next-clause-refused g c t u v ht hu hv =
+pub returns-in_err-assert_next-clause-on_error : goal.returns-in_err-assert_next-clause-on_error
+returns-in_err-assert_next-clause-on_error g c t u v ht hu hv =
     let B = g.met.AB.AirBuilder in
-    on_failure (subst (AppendedSome g.AB.AirBuilder.grows _ _) (sym (table_joined 30 (λ i. sum (majority (t (suc i)) (u (suc i)) (v i)) (v (suc i)))))
-    (some_turns g.AB.AirBuilder.grows B.grows_along _ _ _ c.loop-i.i 30 (λ i. sum (majority (t (suc i)) (u (suc i)) (v i)) (v (suc i)) ∷ []) c.loop-i-test.true (c.loop-i.invariant.grown t u v ht hu hv)
-    (record { some = none_first g.AB.AirBuilder.grows _ _ _ _ c.in_err-assert_next.ensures.refused })))
+    on_failure (subst (AppendedSome g.AB.AirBuilder.appends _ _) (sym (tabulate_joined 30 (λ i. sum (majority (t (suc i)) (u (suc i)) (v i)) (v (suc i)))))
+    (some_turns g.AB.AirBuilder.appends B.appends_along _ _ _ c.loop-i.i 30 (λ i. sum (majority (t (suc i)) (u (suc i)) (v i)) (v (suc i)) ∷ []) c.loop-i-test.true (c.loop-i.invariant.grown t u v ht hu hv)
+    (record { some = none_first g.AB.AirBuilder.appends _ _ _ _ c.in_err-assert_next.ensures.on_error })))

@@ -2,7 +2,7 @@ use Rattle.std.proofs.Common.{◌≡◌, ℕ, suc, [], ◌∷◌}
 use Rattle.p3_air.specs.Joined.{joined}
 use Rattle.p3_air.specs.Appended.{Appended}
 use Rattle.p3_air.specs.Tree.{Tree, sum}
-use Rattle.p3_air.specs.Gadgets.{StandAt}
+use Rattle.p3_air.specs.Gadgets.{RepresentAt}
 use Rattle.p3_blake3_binary_air.specs.Sums.{majority}
 use Rattle.p3_blake3_binary_air.proofs.adding.assert_later_carries.Given as goal
 
@@ -10,7 +10,7 @@ abbrev pub invariant-loop-i : goal.invariant-loop-i
 invariant-loop-i g l =
     let B = g.AB.AirBuilder in record {
       later : B.later l.fn.builder l.builder;
-      same : B.shape l.builder ≡ B.shape l.fn.builder;
-      grown : (t u v : ℕ → Tree g.row.AB-F.Denot) → StandAt (B.stands l.fn.builder) l.fn.x t → StandAt (B.stands l.fn.builder) l.fn.y u → StandAt (B.stands l.fn.builder) l.fn.k v
-          → Appended B.grows l.fn.builder l.builder (joined l.i (λ i. sum (majority (t (suc i)) (u (suc i)) (v i)) (v (suc i)) ∷ []));
+      keeps_shape : B.shape l.builder ≡ B.shape l.fn.builder;
+      grown : (t u v : ℕ → Tree g.row.AB-F.Denot) → RepresentAt (B.represents l.fn.builder) l.fn.x t → RepresentAt (B.represents l.fn.builder) l.fn.y u → RepresentAt (B.represents l.fn.builder) l.fn.k v
+          → Appended B.appends l.fn.builder l.builder (joined l.i (λ i. sum (majority (t (suc i)) (u (suc i)) (v i)) (v (suc i)) ∷ []));
     }

@@ -1,15 +1,15 @@
 use Rattle.std.proofs.Common.{◌≡◌, ℕ, ◌<◌, [], length, get_or}
 use Rattle.p3_air.specs.Tree.{Tree}
-use Rattle.p3_air.specs.Gadgets.{StandAt}
+use Rattle.p3_air.specs.Gadgets.{RepresentAt}
 use Rattle.p3_blake3_binary_air.specs.Sums.{carry_in}
 use Rattle.p3_blake3_binary_air.proofs.adding.carries_in.Given as goal
 
 abbrev pub invariant-loop-i : goal.invariant-loop-i
 invariant-loop-i g l =
     let B = g.AB.AirBuilder in record {
-      same : B.shape l.builder ≡ B.shape l.fn.builder;
+      keeps_shape : B.shape l.builder ≡ B.shape l.fn.builder;
       long : length l.carries ≡ 32;
-      grows : B.grows l.fn.builder l.builder [] [];
-      so_far : (t u v : ℕ → Tree g.row.AB-F.Denot) → StandAt (B.stands l.fn.builder) l.fn.x t → StandAt (B.stands l.fn.builder) l.fn.y u → StandAt (B.stands l.fn.builder) l.fn.s v
-          → (k : ℕ) (d : g.row.AB-Expr.Denot) → k < l.i → B.stands l.builder (get_or l.carries k d) (carry_in t u v k);
+      appends : B.appends l.fn.builder l.builder [] [];
+      so_far : (t u v : ℕ → Tree g.row.AB-F.Denot) → RepresentAt (B.represents l.fn.builder) l.fn.x t → RepresentAt (B.represents l.fn.builder) l.fn.y u → RepresentAt (B.represents l.fn.builder) l.fn.s v
+          → (k : ℕ) (d : g.row.AB-Expr.Denot) → k < l.i → B.represents l.builder (get_or l.carries k d) (carry_in t u v k);
     }

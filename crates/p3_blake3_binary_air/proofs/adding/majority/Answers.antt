@@ -1,22 +1,22 @@
 use Rattle.std.proofs.Common.{[]}
 use Rattle.p3_blake3_binary_air.proofs.adding.majority.Goals as goal
 
-pub returns-in_err-second-clause-grows : goal.returns-in_err-second-clause-grows
-returns-in_err-second-clause-grows g c =
-    let then = g.met.AB.AirBuilder.grows_along in
-    then _ _ _ [] _ [] [] c.add.ensures.grows (c.add-2.ensures.grows)
+pub returns-in_err-second-clause-appends : goal.returns-in_err-second-clause-appends
+returns-in_err-second-clause-appends g c =
+    let then = g.met.AB.AirBuilder.appends_along in
+    then _ _ _ [] _ [] [] c.add.ensures.appends (c.add-2.ensures.appends)
 
-pub returns-in_err-both-clause-grows : goal.returns-in_err-both-clause-grows
-returns-in_err-both-clause-grows g c =
-    let then = g.met.AB.AirBuilder.grows_along in
-    then _ _ _ [] _ [] [] c.add.ensures.grows (then _ _ _ [] _ [] [] c.add-2.ensures.grows (c.mul.ensures.grows))
+pub returns-in_err-both-clause-appends : goal.returns-in_err-both-clause-appends
+returns-in_err-both-clause-appends g c =
+    let then = g.met.AB.AirBuilder.appends_along in
+    then _ _ _ [] _ [] [] c.add.ensures.appends (then _ _ _ [] _ [] [] c.add-2.ensures.appends (c.mul.ensures.appends))
 
-pub returns-in_err-all-clause-grows : goal.returns-in_err-all-clause-grows
-returns-in_err-all-clause-grows g c =
-    let then = g.met.AB.AirBuilder.grows_along in
-    then _ _ _ [] _ [] [] c.add.ensures.grows (then _ _ _ [] _ [] [] c.add-2.ensures.grows (then _ _ _ [] _ [] [] c.mul.ensures.grows (c.add-3.ensures.grows)))
+pub returns-in_err-all-clause-appends : goal.returns-in_err-all-clause-appends
+returns-in_err-all-clause-appends g c =
+    let then = g.met.AB.AirBuilder.appends_along in
+    then _ _ _ [] _ [] [] c.add.ensures.appends (then _ _ _ [] _ [] [] c.add-2.ensures.appends (then _ _ _ [] _ [] [] c.mul.ensures.appends (c.add-3.ensures.appends)))
 
-pub returns-clause-grows : goal.returns-clause-grows
-returns-clause-grows g c =
-    let then = g.met.AB.AirBuilder.grows_along in
-    then _ _ _ [] _ [] [] c.add.ensures.grows (then _ _ _ [] _ [] [] c.add-2.ensures.grows (then _ _ _ [] _ [] [] c.mul.ensures.grows (c.add-3.ensures.grows)))
+pub returns-clause-appends : goal.returns-clause-appends
+returns-clause-appends g c =
+    let then = g.met.AB.AirBuilder.appends_along in
+    then _ _ _ [] _ [] [] c.add.ensures.appends (then _ _ _ [] _ [] [] c.add-2.ensures.appends (then _ _ _ [] _ [] [] c.mul.ensures.appends (c.add-3.ensures.appends)))

@@ -1,6 +1,6 @@
 use Rattle.std.proofs.Common.{◌≡◌, suc, ◌+◌, [], ◌∷◌, ◌∙◌, ap, sym, arith, subst}
 use Rattle.std.specs.Int.{bit_at}
-use Rattle.p3_air.specs.Laws.Lists.{table_joined}
+use Rattle.p3_air.specs.Laws.Lists.{tabulate_joined}
 use Rattle.p3_blake3.specs.Generated.{Pushed}
 use Rattle.p3_blake3.specs.Laws.Pushing.{push_none, push_more, push_all}
 use Rattle.p3_blake3_binary_air.specs.Sums.{carry}
@@ -20,5 +20,5 @@ loop-i-preserved g c =
 
 pub returns : goal.returns
 returns g c =
-    subst (Pushed g.F.RingCore.ring _ _) (sym (table_joined 31 (λ i. carry c.args.a c.args.b (suc i))))
+    subst (Pushed g.F.RingCore.ring _ _) (sym (tabulate_joined 31 (λ i. carry c.args.a c.args.b (suc i))))
     (push_all g.F.RingCore.ring _ _ c.loop-i.i 31 (λ i. carry c.args.a c.args.b (suc i) ∷ []) (omega arith) c.loop-i.invariant)

@@ -1,9 +1,9 @@
 use Rattle.std.proofs.Common.{◌≡◌, refl}
-use Rattle.p3_field.specs.Gf256.{gf_ring}
+use Rattle.p3_field.specs.Gf256.{gf256_ring}
 use Rattle.p3_blake3_binary_air.proofs.meanings.means_over_gf256.Goals as goal
 
-two : gf_ring.add gf_ring.one gf_ring.one ≡ gf_ring.zero
-unfolding gf_ring
+two : gf256_ring.add gf256_ring.one gf256_ring.one ≡ gf256_ring.zero
+unfolding gf256_ring
 two = refl
 
 pub row_means-requires : goal.row_means-requires

@@ -1,6 +1,6 @@
 use Rattle.std.proofs.Common.{◌≡◌, ℕ, ◌+◌, ◌<◌, List, get_or, set, length, inl, inr, ap, sym, ◌∙◌, arith, length-set, get_or-set_same, get_or-set_other}
 use Rattle.std.proofs.lemmas.Bool.{cases_eq}
-use Rattle.p3_field.specs.Laws.Tables.{table_of_items, table_same}
+use Rattle.p3_field.specs.Laws.Tabulate.{tabulate_items, tabulate_same}
 use Rattle.p3_blake3_binary_air.specs.Random.{state_after, random_word, random_words}
 use Rattle.p3_blake3_binary_air.proofs.random.next_chaining_value.Goals as goal
 
@@ -8,7 +8,7 @@ at : (s : List ℕ) (n k : ℕ) → n ≡ k → s ≡ state_after n → s ≡ st
 at s n k e f = f ∙ ap state_after e
 
 words_are : (n : ℕ) (ws : List ℕ) → length ws ≡ 8 → ((i : ℕ) → i < 8 → get_or ws i 0 ≡ random_word (n + i)) → ws ≡ random_words n 8
-words_are n ws e h = table_of_items 0 ws 8 e ∙ table_same 8 (λ i. get_or ws i 0) (λ i. random_word (n + i)) h
+words_are n ws e h = tabulate_items 0 ws 8 e ∙ tabulate_same 8 (λ i. get_or ws i 0) (λ i. random_word (n + i)) h
 
 pub loop-k-init : goal.loop-k-init
 loop-k-init c = record {

@@ -1,12 +1,12 @@
 use Rattle.std.proofs.Common.{◌≡◌, ℕ, ◌+◌, ◌*◌, List, ap, ◌∙◌, arith}
 use Rattle.p3_blake3_binary_air.specs.declared.input.Blake3CompressionInput.{Blake3CompressionInput}
-use Rattle.p3_blake3_binary_air.specs.Random.{state_after, random_words, random_input}
+use Rattle.p3_blake3_binary_air.specs.Random.{state_after, random_words, binary_random_input}
 use Rattle.p3_blake3_binary_air.proofs.random.next_input.Goals as goal
 
 made : List ℕ → List ℕ → ℕ → Blake3CompressionInput
 made cv block i = record { chaining_value = cv; block = block; counter = i; block_len = 64; flags = 0 }
 
-input_is : (i : ℕ) (cv block : List ℕ) → cv ≡ random_words (24 * i) 8 → block ≡ random_words (24 * i + 8) 16 → made cv block i ≡ random_input i
+input_is : (i : ℕ) (cv block : List ℕ) → cv ≡ random_words (24 * i) 8 → block ≡ random_words (24 * i + 8) 16 → made cv block i ≡ binary_random_input i
 unfolding made
 input_is i cv block e f = λ j. record { chaining_value = e j; block = f j; counter = i; block_len = 64; flags = 0 }
 

@@ -1,6 +1,6 @@
 use Rattle.std.proofs.Common.{◌∙◌, rules}
-use Rattle.p3_field.specs.Laws.Tables.{table_push}
-use Rattle.p3_blake3_binary_air.specs.Random.{state_after, random_input}
+use Rattle.p3_field.specs.Laws.Tabulate.{tabulate_push}
+use Rattle.p3_blake3_binary_air.specs.Random.{state_after, binary_random_input}
 use Rattle.p3_blake3_binary_air.proofs.random.random_inputs.Goals as goal
 
 pub loop-i-preserved : goal.loop-i-preserved
@@ -10,7 +10,7 @@ loop-i-preserved c =
       state = c.next_input.ensures.state c.loop-i.invariant.state;
       so_far =
           c.in_ok-push.ensures.items
-          ∙ table_push i random_input _ _ c.loop-i.invariant.so_far (c.next_input.ensures.input c.loop-i.invariant.state);
+          ∙ tabulate_push i binary_random_input _ _ c.loop-i.invariant.so_far (c.next_input.ensures.input c.loop-i.invariant.state);
     }
 
 pub loop-i-init : goal.loop-i-init

@@ -5,8 +5,8 @@ use Rattle.p3_blake3_binary_air.proofs.reading.carries_at.Given as goal
 abbrev pub invariant-loop-i : goal.invariant-loop-i
 invariant-loop-i g l =
     let B = g.AB.AirBuilder in record {
-      same : B.shape l.builder ≡ B.shape l.fn.builder;
+      keeps_shape : B.shape l.builder ≡ B.shape l.fn.builder;
       long : length l.cells ≡ 31;
-      grows : B.grows l.fn.builder l.builder [] [];
-      so_far : (k : ℕ) (d : g.row.AB-Expr.Denot) → k < l.i → B.stands l.builder (get_or l.cells k d) (from_column l.fn.column k);
+      appends : B.appends l.fn.builder l.builder [] [];
+      so_far : (k : ℕ) (d : g.row.AB-Expr.Denot) → k < l.i → B.represents l.builder (get_or l.cells k d) (from_column l.fn.column k);
     }

@@ -1,63 +1,63 @@
 use Rattle.std.proofs.Common.{[]}
-use Rattle.p3_air.specs.Laws.Growth.{none_first, some_after}
-use Rattle.p3_air.specs.Laws.Packing.{stand_later}
+use Rattle.p3_air.specs.Laws.Appending.{none_first, some_after}
+use Rattle.p3_air.specs.Laws.Packing.{represent_later}
 use Rattle.p3_air.specs.Laws.Appended.{on_failure}
 use Rattle.p3_blake3_binary_air.specs.Places.{first_sum_trees}
 use Rattle.p3_blake3_binary_air.proofs.rounds.assert_first_sum.Goals as goal
 
-pub returns-in_err-x-clause-refused : goal.returns-in_err-x-clause-refused
-returns-in_err-x-clause-refused g c =
-    let then = g.met.AB.AirBuilder.grows_along in
-    on_failure (record { some = none_first g.AB.AirBuilder.grows _ _ _ _ (c.word_at.ensures.grows) })
+pub returns-in_err-x-clause-on_error : goal.returns-in_err-x-clause-on_error
+returns-in_err-x-clause-on_error g c =
+    let then = g.met.AB.AirBuilder.appends_along in
+    on_failure (record { some = none_first g.AB.AirBuilder.appends _ _ _ _ (c.word_at.ensures.appends) })
 
-pub returns-in_err-y-clause-refused : goal.returns-in_err-y-clause-refused
-returns-in_err-y-clause-refused g c =
-    let then = g.met.AB.AirBuilder.grows_along in
-    on_failure (record { some = none_first g.AB.AirBuilder.grows _ _ _ _ (then _ _ _ [] [] [] [] c.word_at.ensures.grows (c.bits_at.ensures.grows)) })
+pub returns-in_err-y-clause-on_error : goal.returns-in_err-y-clause-on_error
+returns-in_err-y-clause-on_error g c =
+    let then = g.met.AB.AirBuilder.appends_along in
+    on_failure (record { some = none_first g.AB.AirBuilder.appends _ _ _ _ (then _ _ _ [] [] [] [] c.word_at.ensures.appends (c.bits_at.ensures.appends)) })
 
-pub returns-in_err-z-clause-refused : goal.returns-in_err-z-clause-refused
-returns-in_err-z-clause-refused g c =
-    let then = g.met.AB.AirBuilder.grows_along in
-    on_failure (record { some = none_first g.AB.AirBuilder.grows _ _ _ _ (then _ _ _ [] [] [] [] c.word_at.ensures.grows (then _ _ _ [] [] [] [] c.bits_at.ensures.grows (c.bits_at-2.ensures.grows))) })
+pub returns-in_err-z-clause-on_error : goal.returns-in_err-z-clause-on_error
+returns-in_err-z-clause-on_error g c =
+    let then = g.met.AB.AirBuilder.appends_along in
+    on_failure (record { some = none_first g.AB.AirBuilder.appends _ _ _ _ (then _ _ _ [] [] [] [] c.word_at.ensures.appends (then _ _ _ [] [] [] [] c.bits_at.ensures.appends (c.bits_at-2.ensures.appends))) })
 
-pub returns-in_err-carries-clause-refused : goal.returns-in_err-carries-clause-refused
-returns-in_err-carries-clause-refused g c =
-    let then = g.met.AB.AirBuilder.grows_along in
-    on_failure (record { some = none_first g.AB.AirBuilder.grows _ _ _ _ (then _ _ _ [] [] [] [] c.word_at.ensures.grows (then _ _ _ [] [] [] [] c.bits_at.ensures.grows (then _ _ _ [] [] [] [] c.bits_at-2.ensures.grows (c.carries_at.ensures.grows)))) })
+pub returns-in_err-carries-clause-on_error : goal.returns-in_err-carries-clause-on_error
+returns-in_err-carries-clause-on_error g c =
+    let then = g.met.AB.AirBuilder.appends_along in
+    on_failure (record { some = none_first g.AB.AirBuilder.appends _ _ _ _ (then _ _ _ [] [] [] [] c.word_at.ensures.appends (then _ _ _ [] [] [] [] c.bits_at.ensures.appends (then _ _ _ [] [] [] [] c.bits_at-2.ensures.appends (c.carries_at.ensures.appends)))) })
 
-pub returns-in_err-sum-clause-refused : goal.returns-in_err-sum-clause-refused
-returns-in_err-sum-clause-refused g c =
-    let then = g.met.AB.AirBuilder.grows_along in
-    on_failure (record { some = none_first g.AB.AirBuilder.grows _ _ _ _ (then _ _ _ [] [] [] [] c.word_at.ensures.grows (then _ _ _ [] [] [] [] c.bits_at.ensures.grows (then _ _ _ [] [] [] [] c.bits_at-2.ensures.grows (then _ _ _ [] [] [] [] c.carries_at.ensures.grows (c.turned_at.ensures.grows))))) })
+pub returns-in_err-sum-clause-on_error : goal.returns-in_err-sum-clause-on_error
+returns-in_err-sum-clause-on_error g c =
+    let then = g.met.AB.AirBuilder.appends_along in
+    on_failure (record { some = none_first g.AB.AirBuilder.appends _ _ _ _ (then _ _ _ [] [] [] [] c.word_at.ensures.appends (then _ _ _ [] [] [] [] c.bits_at.ensures.appends (then _ _ _ [] [] [] [] c.bits_at-2.ensures.appends (then _ _ _ [] [] [] [] c.carries_at.ensures.appends (c.turned_at.ensures.appends))))) })
 
-pub returns-clause-grows : goal.returns-clause-grows
+pub returns-clause-appends : goal.returns-clause-appends
 unfolding first_sum_trees
-returns-clause-grows g c =
+returns-clause-appends g c =
     let B = g.met.AB.AirBuilder in
-    let then = B.grows_along in
-    let past_y = B.persists _ _ (B.grows_later _ _ _ _ c.bits_at.ensures.grows) in
-    let past_z = B.persists _ _ (B.grows_later _ _ _ _ c.bits_at-2.ensures.grows) in
-    let past_carries = B.persists _ _ (B.grows_later _ _ _ _ c.carries_at.ensures.grows) in
-    let past_sum = B.persists _ _ (B.grows_later _ _ _ _ c.turned_at.ensures.grows) in
-    let h_x = stand_later _ _ _ _ past_sum (stand_later _ _ _ _ past_carries (stand_later _ _ _ _ past_z (stand_later _ _ _ _ past_y (c.in_ok-x.ensures.stands)))) in
-    let h_y = stand_later _ _ _ _ past_sum (stand_later _ _ _ _ past_carries (stand_later _ _ _ _ past_z (c.in_ok-y.ensures.stands))) in
-    let h_z = stand_later _ _ _ _ past_sum (stand_later _ _ _ _ past_carries (c.in_ok-z.ensures.stands)) in
-    let h_carries = stand_later _ _ _ _ past_sum (c.in_ok-carries.ensures.stands) in
-    let h_sum = c.in_ok-sum.ensures.stands in
-    record { all = then _ _ _ [] _ [] [] c.word_at.ensures.grows (then _ _ _ [] _ [] [] c.bits_at.ensures.grows (then _ _ _ [] _ [] [] c.bits_at-2.ensures.grows (then _ _ _ [] _ [] [] c.carries_at.ensures.grows (then _ _ _ [] _ [] [] c.turned_at.ensures.grows ((c.in_ok-assert_sum3.ensures.grows _ _ _ _ _ h_x h_y h_z h_carries h_sum).all))))) }
+    let then = B.appends_along in
+    let past_y = B.persists _ _ (B.appends_later _ _ _ _ c.bits_at.ensures.appends) in
+    let past_z = B.persists _ _ (B.appends_later _ _ _ _ c.bits_at-2.ensures.appends) in
+    let past_carries = B.persists _ _ (B.appends_later _ _ _ _ c.carries_at.ensures.appends) in
+    let past_sum = B.persists _ _ (B.appends_later _ _ _ _ c.turned_at.ensures.appends) in
+    let h_x = represent_later _ _ _ _ past_sum (represent_later _ _ _ _ past_carries (represent_later _ _ _ _ past_z (represent_later _ _ _ _ past_y (c.in_ok-x.ensures.represents)))) in
+    let h_y = represent_later _ _ _ _ past_sum (represent_later _ _ _ _ past_carries (represent_later _ _ _ _ past_z (c.in_ok-y.ensures.represents))) in
+    let h_z = represent_later _ _ _ _ past_sum (represent_later _ _ _ _ past_carries (c.in_ok-z.ensures.represents)) in
+    let h_carries = represent_later _ _ _ _ past_sum (c.in_ok-carries.ensures.represents) in
+    let h_sum = c.in_ok-sum.ensures.represents in
+    record { all = then _ _ _ [] _ [] [] c.word_at.ensures.appends (then _ _ _ [] _ [] [] c.bits_at.ensures.appends (then _ _ _ [] _ [] [] c.bits_at-2.ensures.appends (then _ _ _ [] _ [] [] c.carries_at.ensures.appends (then _ _ _ [] _ [] [] c.turned_at.ensures.appends ((c.in_ok-assert_sum3.ensures.appends _ _ _ _ _ h_x h_y h_z h_carries h_sum).all))))) }
 
-pub returns-in_err-assert_sum3-clause-refused : goal.returns-in_err-assert_sum3-clause-refused
+pub returns-in_err-assert_sum3-clause-on_error : goal.returns-in_err-assert_sum3-clause-on_error
 unfolding first_sum_trees
-returns-in_err-assert_sum3-clause-refused g c =
+returns-in_err-assert_sum3-clause-on_error g c =
     let B = g.met.AB.AirBuilder in
-    let then = B.grows_along in
-    let past_y = B.persists _ _ (B.grows_later _ _ _ _ c.bits_at.ensures.grows) in
-    let past_z = B.persists _ _ (B.grows_later _ _ _ _ c.bits_at-2.ensures.grows) in
-    let past_carries = B.persists _ _ (B.grows_later _ _ _ _ c.carries_at.ensures.grows) in
-    let past_sum = B.persists _ _ (B.grows_later _ _ _ _ c.turned_at.ensures.grows) in
-    let h_x = stand_later _ _ _ _ past_sum (stand_later _ _ _ _ past_carries (stand_later _ _ _ _ past_z (stand_later _ _ _ _ past_y (c.in_ok-x.ensures.stands)))) in
-    let h_y = stand_later _ _ _ _ past_sum (stand_later _ _ _ _ past_carries (stand_later _ _ _ _ past_z (c.in_ok-y.ensures.stands))) in
-    let h_z = stand_later _ _ _ _ past_sum (stand_later _ _ _ _ past_carries (c.in_ok-z.ensures.stands)) in
-    let h_carries = stand_later _ _ _ _ past_sum (c.in_ok-carries.ensures.stands) in
-    let h_sum = c.in_ok-sum.ensures.stands in
-    on_failure (record { some = some_after then _ _ _ [] _ [] [] (then _ _ _ [] [] [] [] c.word_at.ensures.grows (then _ _ _ [] [] [] [] c.bits_at.ensures.grows (then _ _ _ [] [] [] [] c.bits_at-2.ensures.grows (then _ _ _ [] [] [] [] c.carries_at.ensures.grows (c.turned_at.ensures.grows))))) (c.in_err-assert_sum3.ensures.refused _ _ _ _ _ h_x h_y h_z h_carries h_sum).holds.some })
+    let then = B.appends_along in
+    let past_y = B.persists _ _ (B.appends_later _ _ _ _ c.bits_at.ensures.appends) in
+    let past_z = B.persists _ _ (B.appends_later _ _ _ _ c.bits_at-2.ensures.appends) in
+    let past_carries = B.persists _ _ (B.appends_later _ _ _ _ c.carries_at.ensures.appends) in
+    let past_sum = B.persists _ _ (B.appends_later _ _ _ _ c.turned_at.ensures.appends) in
+    let h_x = represent_later _ _ _ _ past_sum (represent_later _ _ _ _ past_carries (represent_later _ _ _ _ past_z (represent_later _ _ _ _ past_y (c.in_ok-x.ensures.represents)))) in
+    let h_y = represent_later _ _ _ _ past_sum (represent_later _ _ _ _ past_carries (represent_later _ _ _ _ past_z (c.in_ok-y.ensures.represents))) in
+    let h_z = represent_later _ _ _ _ past_sum (represent_later _ _ _ _ past_carries (c.in_ok-z.ensures.represents)) in
+    let h_carries = represent_later _ _ _ _ past_sum (c.in_ok-carries.ensures.represents) in
+    let h_sum = c.in_ok-sum.ensures.represents in
+    on_failure (record { some = some_after then _ _ _ [] _ [] [] (then _ _ _ [] [] [] [] c.word_at.ensures.appends (then _ _ _ [] [] [] [] c.bits_at.ensures.appends (then _ _ _ [] [] [] [] c.bits_at-2.ensures.appends (then _ _ _ [] [] [] [] c.carries_at.ensures.appends (c.turned_at.ensures.appends))))) (c.in_err-assert_sum3.ensures.on_error _ _ _ _ _ h_x h_y h_z h_carries h_sum).holds.some })

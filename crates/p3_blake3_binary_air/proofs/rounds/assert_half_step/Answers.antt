@@ -24,14 +24,14 @@ is_half r n g a b c d m k ea eb ec ed em ek =
     let fd = ed ∙ ap (d_place n) e3 in
     (λ i. placed_trees r (d_turn n) (b_turn n) (fa i) (fb i) (fc i) (fd i) (em i) (ek i)) ∙ half_placed r n g
 
-pub returns-clause-grows : goal.returns-clause-grows
-returns-clause-grows g c =
-    subst (Appended g.AB.AirBuilder.grows _ _)
+pub returns-clause-appends : goal.returns-clause-appends
+returns-clause-appends g c =
+    subst (Appended g.AB.AirBuilder.appends _ _)
     (is_half g.AB.F.RingCore.ring c.args.n c.args.g _ _ _ _ _ _ c.a_word-a.ensures.word c.b_place-b.ensures.column c.c_word-c.ensures.word c.d_place-d.ensures.column c.message_column-message.ensures.column c.half_column-cells.ensures.column)
-    c.in_ok-assert_placed.ensures.grows
+    c.in_ok-assert_placed.ensures.appends
 
-pub returns-in_err-assert_placed-clause-refused : goal.returns-in_err-assert_placed-clause-refused
-returns-in_err-assert_placed-clause-refused g c =
-    on_failure (subst (AppendedSome g.AB.AirBuilder.grows _ _)
+pub returns-in_err-assert_placed-clause-on_error : goal.returns-in_err-assert_placed-clause-on_error
+returns-in_err-assert_placed-clause-on_error g c =
+    on_failure (subst (AppendedSome g.AB.AirBuilder.appends _ _)
     (is_half g.AB.F.RingCore.ring c.args.n c.args.g _ _ _ _ _ _ c.a_word-a.ensures.word c.b_place-b.ensures.column c.c_word-c.ensures.word c.d_place-d.ensures.column c.message_column-message.ensures.column c.half_column-cells.ensures.column)
-    c.in_err-assert_placed.ensures.refused.holds)
+    c.in_err-assert_placed.ensures.on_error.holds)

@@ -1,45 +1,45 @@
 use Rattle.std.proofs.Common.{[]}
-use Rattle.p3_air.specs.Laws.Growth.{none_first, some_after}
-use Rattle.p3_air.specs.Laws.Packing.{stand_later}
+use Rattle.p3_air.specs.Laws.Appending.{none_first, some_after}
+use Rattle.p3_air.specs.Laws.Packing.{represent_later}
 use Rattle.p3_air.specs.Laws.Appended.{on_failure}
 use Rattle.p3_blake3_binary_air.specs.Places.{second_sum_trees}
 use Rattle.p3_blake3_binary_air.proofs.rounds.assert_second_sum.Goals as goal
 
-pub returns-in_err-x-clause-refused : goal.returns-in_err-x-clause-refused
-returns-in_err-x-clause-refused g c =
-    let then = g.met.AB.AirBuilder.grows_along in
-    on_failure (record { some = none_first g.AB.AirBuilder.grows _ _ _ _ (c.word_at.ensures.grows) })
+pub returns-in_err-x-clause-on_error : goal.returns-in_err-x-clause-on_error
+returns-in_err-x-clause-on_error g c =
+    let then = g.met.AB.AirBuilder.appends_along in
+    on_failure (record { some = none_first g.AB.AirBuilder.appends _ _ _ _ (c.word_at.ensures.appends) })
 
-pub returns-in_err-y-clause-refused : goal.returns-in_err-y-clause-refused
-returns-in_err-y-clause-refused g c =
-    let then = g.met.AB.AirBuilder.grows_along in
-    on_failure (record { some = none_first g.AB.AirBuilder.grows _ _ _ _ (then _ _ _ [] [] [] [] c.word_at.ensures.grows (c.bits_at.ensures.grows)) })
+pub returns-in_err-y-clause-on_error : goal.returns-in_err-y-clause-on_error
+returns-in_err-y-clause-on_error g c =
+    let then = g.met.AB.AirBuilder.appends_along in
+    on_failure (record { some = none_first g.AB.AirBuilder.appends _ _ _ _ (then _ _ _ [] [] [] [] c.word_at.ensures.appends (c.bits_at.ensures.appends)) })
 
-pub returns-in_err-sum-clause-refused : goal.returns-in_err-sum-clause-refused
-returns-in_err-sum-clause-refused g c =
-    let then = g.met.AB.AirBuilder.grows_along in
-    on_failure (record { some = none_first g.AB.AirBuilder.grows _ _ _ _ (then _ _ _ [] [] [] [] c.word_at.ensures.grows (then _ _ _ [] [] [] [] c.bits_at.ensures.grows (c.turned_at.ensures.grows))) })
+pub returns-in_err-sum-clause-on_error : goal.returns-in_err-sum-clause-on_error
+returns-in_err-sum-clause-on_error g c =
+    let then = g.met.AB.AirBuilder.appends_along in
+    on_failure (record { some = none_first g.AB.AirBuilder.appends _ _ _ _ (then _ _ _ [] [] [] [] c.word_at.ensures.appends (then _ _ _ [] [] [] [] c.bits_at.ensures.appends (c.turned_at.ensures.appends))) })
 
-pub returns-clause-grows : goal.returns-clause-grows
+pub returns-clause-appends : goal.returns-clause-appends
 unfolding second_sum_trees
-returns-clause-grows g c =
+returns-clause-appends g c =
     let B = g.met.AB.AirBuilder in
-    let then = B.grows_along in
-    let past_y = B.persists _ _ (B.grows_later _ _ _ _ c.bits_at.ensures.grows) in
-    let past_sum = B.persists _ _ (B.grows_later _ _ _ _ c.turned_at.ensures.grows) in
-    let h_x = stand_later _ _ _ _ past_sum (stand_later _ _ _ _ past_y (c.in_ok-x.ensures.stands)) in
-    let h_y = stand_later _ _ _ _ past_sum (c.in_ok-y.ensures.stands) in
-    let h_sum = c.in_ok-sum.ensures.stands in
-    record { all = then _ _ _ [] _ [] [] c.word_at.ensures.grows (then _ _ _ [] _ [] [] c.bits_at.ensures.grows (then _ _ _ [] _ [] [] c.turned_at.ensures.grows ((c.in_ok-assert_sum2.ensures.grows _ _ _ h_x h_y h_sum).all))) }
+    let then = B.appends_along in
+    let past_y = B.persists _ _ (B.appends_later _ _ _ _ c.bits_at.ensures.appends) in
+    let past_sum = B.persists _ _ (B.appends_later _ _ _ _ c.turned_at.ensures.appends) in
+    let h_x = represent_later _ _ _ _ past_sum (represent_later _ _ _ _ past_y (c.in_ok-x.ensures.represents)) in
+    let h_y = represent_later _ _ _ _ past_sum (c.in_ok-y.ensures.represents) in
+    let h_sum = c.in_ok-sum.ensures.represents in
+    record { all = then _ _ _ [] _ [] [] c.word_at.ensures.appends (then _ _ _ [] _ [] [] c.bits_at.ensures.appends (then _ _ _ [] _ [] [] c.turned_at.ensures.appends ((c.in_ok-assert_sum2.ensures.appends _ _ _ h_x h_y h_sum).all))) }
 
-pub returns-in_err-assert_sum2-clause-refused : goal.returns-in_err-assert_sum2-clause-refused
+pub returns-in_err-assert_sum2-clause-on_error : goal.returns-in_err-assert_sum2-clause-on_error
 unfolding second_sum_trees
-returns-in_err-assert_sum2-clause-refused g c =
+returns-in_err-assert_sum2-clause-on_error g c =
     let B = g.met.AB.AirBuilder in
-    let then = B.grows_along in
-    let past_y = B.persists _ _ (B.grows_later _ _ _ _ c.bits_at.ensures.grows) in
-    let past_sum = B.persists _ _ (B.grows_later _ _ _ _ c.turned_at.ensures.grows) in
-    let h_x = stand_later _ _ _ _ past_sum (stand_later _ _ _ _ past_y (c.in_ok-x.ensures.stands)) in
-    let h_y = stand_later _ _ _ _ past_sum (c.in_ok-y.ensures.stands) in
-    let h_sum = c.in_ok-sum.ensures.stands in
-    on_failure (record { some = some_after then _ _ _ [] _ [] [] (then _ _ _ [] [] [] [] c.word_at.ensures.grows (then _ _ _ [] [] [] [] c.bits_at.ensures.grows (c.turned_at.ensures.grows))) (c.in_err-assert_sum2.ensures.refused _ _ _ h_x h_y h_sum).holds.some })
+    let then = B.appends_along in
+    let past_y = B.persists _ _ (B.appends_later _ _ _ _ c.bits_at.ensures.appends) in
+    let past_sum = B.persists _ _ (B.appends_later _ _ _ _ c.turned_at.ensures.appends) in
+    let h_x = represent_later _ _ _ _ past_sum (represent_later _ _ _ _ past_y (c.in_ok-x.ensures.represents)) in
+    let h_y = represent_later _ _ _ _ past_sum (c.in_ok-y.ensures.represents) in
+    let h_sum = c.in_ok-sum.ensures.represents in
+    on_failure (record { some = some_after then _ _ _ [] _ [] [] (then _ _ _ [] [] [] [] c.word_at.ensures.appends (then _ _ _ [] [] [] [] c.bits_at.ensures.appends (c.turned_at.ensures.appends))) (c.in_err-assert_sum2.ensures.on_error _ _ _ h_x h_y h_sum).holds.some })

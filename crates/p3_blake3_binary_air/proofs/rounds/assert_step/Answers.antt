@@ -1,6 +1,6 @@
 use Rattle.std.proofs.Common.{◌+◌, ◌*◌, ◌/◌, ◌%◌, ◌∙◌, arith}
 use Rattle.p3_blake3_binary_air.specs.Trees.{half_step_trees}
-use Rattle.p3_blake3_binary_air.specs.Places.{step_trees}
+use Rattle.p3_blake3_binary_air.specs.Places.{binary_step_trees}
 use Rattle.p3_air.specs.Laws.Appended.{on_failure, one_more, some_turns, no_turns, all_turns}
 use Rattle.p3_blake3_binary_air.proofs.rounds.assert_step.Goals as goal
 
@@ -9,8 +9,8 @@ loop-h-init g c =
     let B = g.met.AB.AirBuilder in
     let r = g.AB.F.RingCore.ring in record {
       later = B.later_same _;
-      same = λ i. g.AB.AirBuilder.shape c.args.builder.now;
-      grown = no_turns g.AB.AirBuilder.grows B.grows_along _ (λ h. half_step_trees r (2 * (c.args.k / 4) + h) (c.args.k % 4)) (B.grows_same _);
+      keeps_shape = λ i. g.AB.AirBuilder.shape c.args.builder.now;
+      grown = no_turns g.AB.AirBuilder.appends B.appends_along _ (λ h. half_step_trees r (2 * (c.args.k / 4) + h) (c.args.k % 4)) (B.appends_none _);
     }
 
 pub loop-h-preserved : goal.loop-h-preserved
@@ -18,20 +18,20 @@ loop-h-preserved g c =
     let B = g.met.AB.AirBuilder in
     let r = g.AB.F.RingCore.ring in record {
       later = B.later_along _ _ _ c.loop-h.invariant.later c.assert_half_step.ensures.later;
-      same = c.assert_half_step.ensures.same ∙ c.loop-h.invariant.same;
-      grown = one_more g.AB.AirBuilder.grows B.grows_along c.loop-h.h (λ h. half_step_trees r (2 * (c.args.k / 4) + h) (c.args.k % 4)) c.loop-h.invariant.grown c.in_ok-assert_half_step.ensures.grows;
+      keeps_shape = c.assert_half_step.ensures.keeps_shape ∙ c.loop-h.invariant.keeps_shape;
+      grown = one_more g.AB.AirBuilder.appends B.appends_along c.loop-h.h (λ h. half_step_trees r (2 * (c.args.k / 4) + h) (c.args.k % 4)) c.loop-h.invariant.grown c.in_ok-assert_half_step.ensures.appends;
     }
 
-pub returns-clause-grows : goal.returns-clause-grows
-unfolding step_trees
-returns-clause-grows g c =
+pub returns-clause-appends : goal.returns-clause-appends
+unfolding binary_step_trees
+returns-clause-appends g c =
     let B = g.met.AB.AirBuilder in
     let r = g.AB.F.RingCore.ring in
-    all_turns g.AB.AirBuilder.grows B.grows_along _ _ c.loop-h.h 2 (λ h. half_step_trees r (2 * (c.args.k / 4) + h) (c.args.k % 4)) (omega arith) c.loop-h.invariant.grown
+    all_turns g.AB.AirBuilder.appends B.appends_along _ _ c.loop-h.h 2 (λ h. half_step_trees r (2 * (c.args.k / 4) + h) (c.args.k % 4)) (omega arith) c.loop-h.invariant.grown
 
-pub returns-in_err-assert_half_step-clause-refused : goal.returns-in_err-assert_half_step-clause-refused
-unfolding step_trees
-returns-in_err-assert_half_step-clause-refused g c =
+pub returns-in_err-assert_half_step-clause-on_error : goal.returns-in_err-assert_half_step-clause-on_error
+unfolding binary_step_trees
+returns-in_err-assert_half_step-clause-on_error g c =
     let B = g.met.AB.AirBuilder in
     let r = g.AB.F.RingCore.ring in
-    on_failure (some_turns g.AB.AirBuilder.grows B.grows_along _ _ _ c.loop-h.h 2 (λ h. half_step_trees r (2 * (c.args.k / 4) + h) (c.args.k % 4)) c.loop-h-test.true c.loop-h.invariant.grown c.in_err-assert_half_step.ensures.refused.holds)
+    on_failure (some_turns g.AB.AirBuilder.appends B.appends_along _ _ _ c.loop-h.h 2 (λ h. half_step_trees r (2 * (c.args.k / 4) + h) (c.args.k % 4)) c.loop-h-test.true c.loop-h.invariant.grown c.in_err-assert_half_step.ensures.on_error.holds)

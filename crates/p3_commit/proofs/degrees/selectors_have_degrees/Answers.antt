@@ -1,8 +1,8 @@
-use Rattle.p3_commit.specs.Laws.Degrees.{degree_van, degree_first, degree_last, degree_transition}
+use Rattle.p3_commit.specs.Laws.Degrees.{degree_vanishing_polynomial, degree_first, degree_last, degree_transition}
 use Rattle.p3_commit.proofs.degrees.selectors_have_degrees.Goals as goal
 
 pub returns-clause-vanishing : goal.returns-clause-vanishing
-returns-clause-vanishing g c d = degree_van g.F.RingCore.ring g.met.F.RingCore.ring_laws g.F.FieldCore.inv d
+returns-clause-vanishing g c d = degree_vanishing_polynomial g.F.RingCore.ring g.met.F.RingCore.ring_laws g.F.FieldCore.inv d
 
 pub returns-clause-first : goal.returns-clause-first
 returns-clause-first g c d = degree_first g.F.RingCore.ring g.met.F.RingCore.ring_laws g.F.FieldCore.inv d

@@ -1,16 +1,16 @@
 use Rattle.std.proofs.Common.{◌≡◌, ℕ, ◌+◌, ◌-◌, ◌*◌, ◌≤◌, ◌∙◌, List, [], ◌∷◌, ◌++◌, length, append_assoc, sym, ap, arith}
 use Rattle.std.proofs.lemmas.List.{length-append}
-use Rattle.p3_field.specs.Poly.{table}
-use Rattle.p3_field.specs.Laws.Tables.{length-table, table_more}
+use Rattle.p3_field.specs.Poly.{tabulate}
+use Rattle.p3_field.specs.Laws.Tabulate.{length-tabulate, tabulate_more}
 use Rattle.p3_matrix.specs.Laws.Grids.{product_fills}
 use Rattle.p3_commit.proofs.encoder.padded.Goals as goal
 
-push_item : {A : Type 0} (xs ys zs : List A) (k : ℕ) (t : ℕ → A) (z : A) → ys ≡ xs ++ table k t → z ≡ t k → zs ≡ ys ++ z ∷ [] → zs ≡ xs ++ table (k + 1) t
+push_item : {A : Type 0} (xs ys zs : List A) (k : ℕ) (t : ℕ → A) (z : A) → ys ≡ xs ++ tabulate k t → z ≡ t k → zs ≡ ys ++ z ∷ [] → zs ≡ xs ++ tabulate (k + 1) t
 push_item xs ys zs k t z e f h =
-    h ∙ (ap (λ l. l ++ z ∷ []) e ∙ (append_assoc xs (table k t) (z ∷ []) ∙ ap (λ l. xs ++ l) (ap (λ y. table k t ++ y ∷ []) f ∙ table_more k t)))
+    h ∙ (ap (λ l. l ++ z ∷ []) e ∙ (append_assoc xs (tabulate k t) (z ∷ []) ∙ ap (λ l. xs ++ l) (ap (λ y. tabulate k t ++ y ∷ []) f ∙ tabulate_more k t)))
 
-filled : {A : Type 0} (xs ys : List A) (n count k : ℕ) (t : ℕ → A) → ys ≡ xs ++ table k t → length xs ≡ n → n ≤ count → k ≡ count - n → length ys ≡ count
-filled xs ys n count k t e f h d = omega (arith, ap length e, length-append xs (table k t), length-table k t)
+filled : {A : Type 0} (xs ys : List A) (n count k : ℕ) (t : ℕ → A) → ys ≡ xs ++ tabulate k t → length xs ≡ n → n ≤ count → k ≡ count - n → length ys ≡ count
+filled xs ys n count k t e f h d = omega (arith, ap length e, length-append xs (tabulate k t), length-tabulate k t)
 
 pub loop-preserved : goal.loop-preserved
 loop-preserved g c =

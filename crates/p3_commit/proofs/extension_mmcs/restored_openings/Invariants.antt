@@ -4,4 +4,4 @@ use Rattle.p3_commit.specs.Batches.{lists}
 use Rattle.p3_commit.proofs.extension_mmcs.restored_openings.Given as goal
 
 abbrev pub invariant-loop-rows : goal.invariant-loop-rows
-invariant-loop-rows g l = map (map (flat_map g.EF.BasedVectorSpace.parts)) (map (λ rows. lists rows.items) l.restored.items) ≡ map (λ rows. lists rows.items) (take l.rows-index l.openings)
+invariant-loop-rows g l = map (map (flat_map g.EF.BasedVectorSpace.coefficients)) (map (λ rows. lists rows.items) l.restored.items) ≡ map (λ rows. lists rows.items) (take l.rows-index l.openings)

@@ -4,4 +4,4 @@ use Rattle.p3_commit.specs.Batches.{lists}
 use Rattle.p3_commit.proofs.extension_mmcs.restored_rows.Given as goal
 
 abbrev pub invariant-loop-row : goal.invariant-loop-row
-invariant-loop-row g l = map (flat_map g.EF.BasedVectorSpace.parts) (lists l.restored.items) ≡ lists (take l.row-index l.rows)
+invariant-loop-row g l = map (flat_map g.EF.BasedVectorSpace.coefficients) (lists l.restored.items) ≡ lists (take l.row-index l.rows)

@@ -3,7 +3,7 @@ use Rattle.std.proofs.lemmas.List.{get_or_read}
 use Rattle.p3_field.specs.Ring.{of_nat}
 use Rattle.p3_field.specs.Poly.{total}
 use Rattle.p3_field.specs.Laws.Inverses.{root_inverts, size_inverts}
-use Rattle.p3_field.specs.Laws.Tables.{total_more}
+use Rattle.p3_field.specs.Laws.Tabulate.{total_more}
 use Rattle.p3_matrix.specs.Interpolation.{weight_at}
 use Rattle.p3_matrix.specs.Laws.Interpolants.{next_ratio, first_ratio, weight_is, interpolated_by_weights}
 use Rattle.p3_commit.proofs.interpolation.interpolated_at.Goals as goal

@@ -1,7 +1,7 @@
 use Rattle.std.proofs.Common.{◌≡◌, ℕ, ◌<◌, ◌∙◌, ap, arith, length, get_or, map}
 use Rattle.std.proofs.lemmas.List.{get_or_read, get_or-map, length-map}
-use Rattle.p3_field.specs.Poly.{table}
-use Rattle.p3_field.specs.Laws.Tables.{table_push, table_same}
+use Rattle.p3_field.specs.Poly.{tabulate}
+use Rattle.p3_field.specs.Laws.Tabulate.{tabulate_push, tabulate_same}
 use Rattle.p3_commit.proofs.selectors.quotients.Goals as goal
 
 pub index-requires : goal.index-requires
@@ -24,7 +24,7 @@ loop-i-preserved g c =
     let dividend = get_or_read a i c.index-dividends-i.result (omega arith) c.index-dividends-i.is r.zero in
     let inverse = get_or_read xs i c.index.result.now inside c.index.ensures r.zero in
     let t = λ (k : ℕ). r.mul (get_or a k r.zero) (get_or xs k r.zero) in
-    c.in_ok-push.ensures.items ∙ table_push i t _ _ c.loop-i.invariant (g.met.F.PrimeCharacteristicRing.muls _ _ _ c.mul.ensures ∙ cc (dividend, inverse))
+    c.in_ok-push.ensures.items ∙ tabulate_push i t _ _ c.loop-i.invariant (g.met.F.PrimeCharacteristicRing.muls _ _ _ c.mul.ensures ∙ cc (dividend, inverse))
 
 pub returns : goal.returns
 returns g c =
@@ -35,7 +35,7 @@ returns g c =
     let xs = c.in_ok-inverses.inverses.items in
     let items : xs ≡ map inv b = c.in_ok-inverses.ensures in
     let n : c.loop-i.i ≡ length a = omega arith in
-    c.loop-i.invariant ∙ (ap (λ k. table k (λ i. r.mul (get_or a i r.zero) (get_or xs i r.zero))) n
-    ∙ table_same (length a) (λ i. r.mul (get_or a i r.zero) (get_or xs i r.zero)) (λ i. r.mul (get_or a i r.zero) (inv (get_or b i r.zero)))
+    c.loop-i.invariant ∙ (ap (λ k. tabulate k (λ i. r.mul (get_or a i r.zero) (get_or xs i r.zero))) n
+    ∙ tabulate_same (length a) (λ i. r.mul (get_or a i r.zero) (get_or xs i r.zero)) (λ i. r.mul (get_or a i r.zero) (inv (get_or b i r.zero)))
     (λ i h. let k : i < length b = omega (arith, c.requires.same) in
     ap (r.mul (get_or a i r.zero)) (ap (λ l. get_or l i r.zero) items ∙ get_or-map inv b i r.zero r.zero k)))

@@ -5,4 +5,4 @@ use Rattle.p3_commit_caller.specs.Rounds.{round_claim}
 use Rattle.p3_commit_caller.proofs.rounds.claims_of.Given as goal
 
 abbrev pub invariant-loop-index : goal.invariant-loop-index
-invariant-loop-index g l = l.claims.items ≡ map round_claim (take l.index (zip l.kept (map round_in l.values)))
+invariant-loop-index g l = l.claims.items ≡ map round_claim (take l.index (zip l.prover_rounds (map round_in l.values)))

@@ -3,7 +3,7 @@ use Rattle.std.specs.Prelude.{zip}
 use Rattle.std.proofs.lemmas.List.{length-map}
 use Rattle.p3_commit.specs.Laws.OneItem.{matrix_in, values_in}
 use Rattle.p3_commit.specs.Laws.Pairs.{length-zip}
-use Rattle.p3_commit_caller.specs.Rounds.{claims_at, matrix_claim}
+use Rattle.p3_commit_caller.specs.Rounds.{claims_at, claim_of_matrix}
 use Rattle.p3_commit_caller.proofs.Lists.{read, map_item, zip_item, next_pair, all_pairs}
 use Rattle.p3_commit_caller.proofs.rounds.claims_on.Goals as goal
 
@@ -29,7 +29,7 @@ loop-index-preserved g c =
     let points = map values_in c.args.points.now in
     let values = map matrix_in c.args.values.now in
     let claims = c.in_ok-points.ensures ∙ (ap (λ l. claims_at l (map values_in c.deref-in-loop-index.result.now)) c.deref.ensures.value ∙ ap (λ l. claims_at p.items (map values_in l)) c.deref-in-loop-index.ensures.value) in
-    next_pair matrix_claim c.loop-index.matrices.items c.push.new.self.items _ c.args.domains.now (zip points values) i d (p.items, matrix_in v) c.loop-index.invariant c.in_ok-push.ensures.items
+    next_pair claim_of_matrix c.loop-index.matrices.items c.push.new.self.items _ c.args.domains.now (zip points values) i d (p.items, matrix_in v) c.loop-index.invariant c.in_ok-push.ensures.items
     (read c.args.domains.now i d (omega (arith, n, c.requires.domains)) c.index-domains-index.is)
     (zip_item points values i p.items (matrix_in v) (map_item values_in c.args.points.now i p (read c.args.points.now i p (omega (arith, m, n, c.requires.each.count)) c.index-points-index.is))
     (map_item matrix_in c.args.values.now i v (read c.args.values.now i v (omega arith) c.index-values-index.is)))
@@ -42,4 +42,4 @@ returns g c =
     let points = map values_in c.args.points.now in
     let values = map matrix_in c.args.values.now in
     let z = length-zip points values (omega (arith, c.requires.each.count)) in
-    all_pairs matrix_claim c.loop-index.matrices.items c.args.domains.now (zip points values) c.loop-index.index (omega (arith, z, c.requires.domains)) (omega (arith, z, n)) c.loop-index.invariant
+    all_pairs claim_of_matrix c.loop-index.matrices.items c.args.domains.now (zip points values) c.loop-index.index (omega (arith, z, c.requires.domains)) (omega (arith, z, n)) c.loop-index.invariant

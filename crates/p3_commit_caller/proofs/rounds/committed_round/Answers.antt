@@ -2,8 +2,8 @@ use Rattle.std.proofs.Common.{◌∙◌, ap, map, subst}
 use Rattle.p3_commit.specs.Commitments.{IsCommitment}
 use Rattle.p3_commit_caller.proofs.rounds.committed_round.Goals as goal
 
-pub returns-clause-kept : goal.returns-clause-kept
-returns-clause-kept g c =
+pub returns-clause-prover_rounds : goal.returns-clause-prover_rounds
+returns-clause-prover_rounds g c =
     let T = g.P.Pcs in
     let S = g.P.Domain.PolynomialSpace in
     let w : g.row.P-Commitment.Denot × g.row.P-ProverData.Denot = (c.in_ok-commitment.commitment, c.in_ok-commitment.prover_data) in

@@ -12,8 +12,8 @@ open-requires g c =
     let S = g.P.Domain.PolynomialSpace in
     let pcs = c.args.pcs.now in
     let rounds = c.args.rounds.items in
-    let ks = c.in_ok-kept.kept.items in
-    let K = c.in_ok-kept.ensures.kept in
+    let ks = c.in_ok-prover_rounds.prover_rounds.items in
+    let K = c.in_ok-prover_rounds.ensures.prover_rounds in
     let reqs = c.in_ok-requests.requests.items in
     let q = requests_along reqs c.deref.result.now ks c.in_ok-requests.ensures c.deref.ensures.value in
     all_made g.P.Val.RingCore.ring g.E.RingCore.ring g.E.ExtensionField.embed S.points S.point_at (T.commits pcs) (T.made pcs) (T.holds pcs) rounds ks K reqs q
@@ -24,8 +24,8 @@ claims_of-requires g c =
     let S = g.P.Domain.PolynomialSpace in
     let pcs = c.args.pcs.now in
     let rounds = c.args.rounds.items in
-    let ks = c.in_ok-kept.kept.items in
-    let K = c.in_ok-kept.ensures.kept in
+    let ks = c.in_ok-prover_rounds.prover_rounds.items in
+    let K = c.in_ok-prover_rounds.ensures.prover_rounds in
     let reqs = c.in_ok-requests.requests.items in
     let q = requests_along reqs c.deref.result.now ks c.in_ok-requests.ensures c.deref.ensures.value in
     shapes_along c.deref-2.result.now ks c.deref-3.result.now c.in_ok-values.values.items c.deref-2.ensures.value c.deref-3.ensures.value
@@ -38,8 +38,8 @@ claims_of-requires-2 g c =
     let S = g.P.Domain.PolynomialSpace in
     let pcs = c.args.pcs.now in
     let rounds = c.args.rounds.items in
-    let ks = c.in_ok-kept.kept.items in
-    let K = c.in_ok-kept.ensures.kept in
+    let ks = c.in_ok-prover_rounds.prover_rounds.items in
+    let K = c.in_ok-prover_rounds.ensures.prover_rounds in
     let reqs = c.in_ok-requests.requests.items in
     let q = requests_along reqs c.deref.result.now ks c.in_ok-requests.ensures c.deref.ensures.value in
     shapes_along c.deref-4.result.now ks c.deref-5.result.now c.in_ok-values.values.items c.deref-4.ensures.value c.deref-5.ensures.value
@@ -52,11 +52,11 @@ returns-in-None-clause-granted g c =
     let S = g.P.Domain.PolynomialSpace in
     let pcs = c.args.pcs.now in
     let rounds = c.args.rounds.items in
-    let ks = c.in_ok-kept.kept.items in
-    let K = c.in_ok-kept.ensures.kept in
+    let ks = c.in_ok-prover_rounds.prover_rounds.items in
+    let K = c.in_ok-prover_rounds.ensures.prover_rounds in
     let reqs = c.in_ok-requests.requests.items in
     let q = requests_along reqs c.deref.result.now ks c.in_ok-requests.ensures c.deref.ensures.value in
-    (c.in_ok-kept.ensures.refusal, (ks, K, subst (λ l. NoneOf (T.open_fault pcs l)) q c.in_ok-values.ensures.refusal))
+    (c.in_ok-prover_rounds.ensures.refusal, (ks, K, subst (λ l. NoneOf (T.open_fault pcs l)) q c.in_ok-values.ensures.refusal))
 
 pub returns-clause-granted : goal.returns-clause-granted
 returns-clause-granted g c =
@@ -64,11 +64,11 @@ returns-clause-granted g c =
     let S = g.P.Domain.PolynomialSpace in
     let pcs = c.args.pcs.now in
     let rounds = c.args.rounds.items in
-    let ks = c.in_ok-kept.kept.items in
-    let K = c.in_ok-kept.ensures.kept in
+    let ks = c.in_ok-prover_rounds.prover_rounds.items in
+    let K = c.in_ok-prover_rounds.ensures.prover_rounds in
     let reqs = c.in_ok-requests.requests.items in
     let q = requests_along reqs c.deref.result.now ks c.in_ok-requests.ensures c.deref.ensures.value in
-    (c.in_ok-kept.ensures.refusal, (ks, K, subst (λ l. NoneOf (T.open_fault pcs l)) q c.in_ok-values.ensures.refusal))
+    (c.in_ok-prover_rounds.ensures.refusal, (ks, K, subst (λ l. NoneOf (T.open_fault pcs l)) q c.in_ok-values.ensures.refusal))
 
 pub returns-in-None-clause-claimed : goal.returns-in-None-clause-claimed
 returns-in-None-clause-claimed g c =
@@ -76,8 +76,8 @@ returns-in-None-clause-claimed g c =
     let S = g.P.Domain.PolynomialSpace in
     let pcs = c.args.pcs.now in
     let rounds = c.args.rounds.items in
-    let ks = c.in_ok-kept.kept.items in
-    let K = c.in_ok-kept.ensures.kept in
+    let ks = c.in_ok-prover_rounds.prover_rounds.items in
+    let K = c.in_ok-prover_rounds.ensures.prover_rounds in
     let reqs = c.in_ok-requests.requests.items in
     let q = requests_along reqs c.deref.result.now ks c.in_ok-requests.ensures c.deref.ensures.value in
     let claims = claims_of_along c.in_ok-claims.claims.items c.deref-2.result.now ks c.deref-3.result.now c.in_ok-values.values.items c.in_ok-claims.ensures c.deref-2.ensures.value c.deref-3.ensures.value in
@@ -91,8 +91,8 @@ returns-in-None-clause-one_state g c =
     let S = g.P.Domain.PolynomialSpace in
     let pcs = c.args.pcs.now in
     let rounds = c.args.rounds.items in
-    let ks = c.in_ok-kept.kept.items in
-    let K = c.in_ok-kept.ensures.kept in
+    let ks = c.in_ok-prover_rounds.prover_rounds.items in
+    let K = c.in_ok-prover_rounds.ensures.prover_rounds in
     let reqs = c.in_ok-requests.requests.items in
     let q = requests_along reqs c.deref.result.now ks c.in_ok-requests.ensures c.deref.ensures.value in
     let asked = claims_of_along c.in_ok-asked.asked.items c.deref-4.result.now ks c.deref-5.result.now c.in_ok-values.values.items c.in_ok-asked.ensures c.deref-4.ensures.value c.deref-5.ensures.value in
@@ -110,8 +110,8 @@ returns-clause-accepted g c free =
     let S = g.P.Domain.PolynomialSpace in
     let pcs = c.args.pcs.now in
     let rounds = c.args.rounds.items in
-    let ks = c.in_ok-kept.kept.items in
-    let K = c.in_ok-kept.ensures.kept in
+    let ks = c.in_ok-prover_rounds.prover_rounds.items in
+    let K = c.in_ok-prover_rounds.ensures.prover_rounds in
     let reqs = c.in_ok-requests.requests.items in
     let q = requests_along reqs c.deref.result.now ks c.in_ok-requests.ensures c.deref.ensures.value in
     let asked = claims_of_along c.in_ok-asked.asked.items c.deref-4.result.now ks c.deref-5.result.now c.in_ok-values.values.items c.in_ok-asked.ensures c.deref-4.ensures.value c.deref-5.ensures.value in

@@ -1,6 +1,6 @@
 use Rattle.std.proofs.Common.{◌≡◌, ◌+◌, ◌-◌, ◌<◌, ◌∙◌, sym, ap, arith, length, get_or, drop, map}
 use Rattle.std.proofs.lemmas.List.{length-map, get_or-map}
-use Rattle.p3_field.specs.Poly.{val}
+use Rattle.p3_field.specs.Poly.{eval_poly}
 use Rattle.p3_field.specs.Laws.Algebra.{horner_step}
 use Rattle.p3_dft.proofs.naive.polynomial_value.Goals as goal
 
@@ -17,7 +17,7 @@ loop-i-preserved g c =
     let mapped : i < length (map f cs) = omega (arith, length-map cs f) in
     let item : y ≡ get_or (map f cs) i y = c.from_base.ensures ∙ (ap f c.index-coefficients-i.is ∙ sym (get_or-map f cs i x y below)) in
     let next : c.loop-i.i ≡ i + 1 = omega arith in
-    let sum : c.loop-i.sum ≡ val s (drop (i + 1) (map f cs)) c.args.point = c.loop-i.invariant.so_far ∙ ap (λ k. val s (drop k (map f cs)) c.args.point) next in
+    let sum : c.loop-i.sum ≡ eval_poly s (drop (i + 1) (map f cs)) c.args.point = c.loop-i.invariant.so_far ∙ ap (λ k. eval_poly s (drop k (map f cs)) c.args.point) next in
     record {
       within = omega (arith, c.loop-i.invariant.within);
       so_far = P.adds _ _ _ c.add-sum.ensures ∙ (ap (λ z. s.add z y) (P.muls _ _ _ c.mul.ensures)

@@ -1,7 +1,7 @@
 use Rattle.std.proofs.Common.{◌≡◌, ◌∙◌, sym, arith, length}
 use Rattle.std.proofs.lemmas.List.{get_or_read}
 use Rattle.p3_dft.specs.Transform.{butterflies}
-use Rattle.p3_field.specs.Laws.Tables.{table_push, first_coset_point, next_coset_point}
+use Rattle.p3_field.specs.Laws.Tabulate.{tabulate_push, first_coset_point, next_coset_point}
 use Rattle.p3_dft.proofs.radix2.joined.Goals as goal
 
 pub loop-i-init : goal.loop-i-init
@@ -23,8 +23,8 @@ loop-i-preserved g c =
     let difference = P.subs _ _ _ c.sub.ensures in
     let next = P.muls _ _ _ c.mul-point.ensures in
     record {
-      sums_so_far = c.in_ok-push.ensures.items ∙ table_push _ _ _ _ c.loop-i.invariant.sums_so_far (cc (sum, turned, e, o, c.loop-i.invariant.point_is));
-      differences_so_far = c.in_ok-push-2.ensures.items ∙ table_push _ _ _ _ c.loop-i.invariant.differences_so_far (cc (difference, turned, e, o, c.loop-i.invariant.point_is));
+      sums_so_far = c.in_ok-push.ensures.items ∙ tabulate_push _ _ _ _ c.loop-i.invariant.sums_so_far (cc (sum, turned, e, o, c.loop-i.invariant.point_is));
+      differences_so_far = c.in_ok-push-2.ensures.items ∙ tabulate_push _ _ _ _ c.loop-i.invariant.differences_so_far (cc (difference, turned, e, o, c.loop-i.invariant.point_is));
       point_is = cc (next, c.loop-i.invariant.point_is, next_coset_point r g.met.F.RingCore.ring_laws c.args.shift c.args.generator i);
     }
 

@@ -2,7 +2,7 @@ use Rattle.std.proofs.Common.{◌≡◌, ℕ, ◌+◌, ◌*◌, ◌<◌, min, []
 use Rattle.std.specs.Prelude.{string_bytes}
 use Rattle.std.proofs.lemmas.List.{length-map, get_or_default}
 use Rattle.p3_air.specs.Tree.{local, global}
-use Rattle.p3_lookup.specs.Bus.{batch_buses, lookups_before, bounds_of}
+use Rattle.p3_lookup.specs.Bus.{batch_buses, lookups_before, sum_of_bounds}
 use Rattle.p3_lookup.specs.Written.{Written, bus_of_kind, read_all}
 use Rattle.p3_lookup.specs.Loads.{named_loads}
 use Rattle.p3_lookup.specs.Laws.Bound.{load_of_named, load_of_local}
@@ -27,9 +27,9 @@ returns-in-Local g c =
     let bus = bus_is ws t k own x c.requires.table at-own lt c.index-own-index.is in
     let kind : x.bus ≡ bus_of_kind c.lookup.inside.kind = sym (ap (λ (w : Written g.row.F.Denot). w.bus) c.lookup.view_is) in
     let here : get_or (batch_buses tables) n local ≡ local = bus ∙ kind ∙ ap bus_of_kind c.in-Local.is in
-    let counts : bounds_of c.deref.result.now ≡ bounds_of x.multiplicities = ap bounds_of (c.deref.ensures.value ∙ ap (λ (w : Written g.row.F.Denot). w.multiplicities) c.lookup.view_is) in
+    let counts : sum_of_bounds c.deref.result.now ≡ sum_of_bounds x.multiplicities = ap sum_of_bounds (c.deref.ensures.value ∙ ap (λ (w : Written g.row.F.Denot). w.multiplicities) c.lookup.view_is) in
     let load = load_of_local tables hs long n within here ∙ load_is ws t k own x c.requires.table at-own lt c.index-own-index.is hs c.requires.heights in
-    c.with_bounds.ensures ∙ ap (λ m. min c.args.limit (0 + m * get_or hs t 0)) counts ∙ ap (min c.args.limit) (nothing (bounds_of x.multiplicities * get_or hs t 0) ∙ sym load)
+    c.with_bounds.ensures ∙ ap (λ m. min c.args.limit (0 + m * get_or hs t 0)) counts ∙ ap (min c.args.limit) (nothing (sum_of_bounds x.multiplicities * get_or hs t 0) ∙ sym load)
   where
     nothing : (m : ℕ) → 0 + m ≡ m
     nothing m = omega arith

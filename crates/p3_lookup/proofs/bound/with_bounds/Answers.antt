@@ -1,5 +1,5 @@
 use Rattle.std.proofs.Common.{◌≡◌, ◌+◌, ◌*◌, ◌<◌, min, length, drop, sym, ◌∙◌, ap, arith}
-use Rattle.p3_lookup.specs.Bus.{bounds_of}
+use Rattle.p3_lookup.specs.Bus.{sum_of_bounds}
 use Rattle.p3_lookup.proofs.Bounded.{limited, bounds_turn}
 use Rattle.p3_lookup.proofs.bound.with_bounds.Goals as goal
 use Rattle.p3_lookup.proofs.bound.with_bounds.Goals.{then-more-limit, else-more-limit}
@@ -10,8 +10,8 @@ loop-count-preserved g c =
     let i = c.loop-count.count-index in
     let k = c.count-item.result in
     let x = k.bound * c.args.height in
-    let rest = bounds_of (drop (i + 1) cs) * c.args.height in
-    let whole = min c.args.limit (c.args.load + bounds_of cs * c.args.height) in
+    let rest = sum_of_bounds (drop (i + 1) cs) * c.args.height in
+    let whole = min c.args.limit (c.args.load + sum_of_bounds cs * c.args.height) in
     let within : i < length cs = c.loop-count-test.true in
     let next : c.if-more-limit.load ≡ min c.args.limit (c.loop-count.load + x) = elim c.if-more-limit.branch [
       | then-more-limit w ↦ omega (arith, w.load-is, w.if-more-limit.true)

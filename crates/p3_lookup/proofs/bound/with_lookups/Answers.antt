@@ -1,7 +1,7 @@
 use Rattle.std.proofs.Common.{◌≡◌, ◌+◌, ◌*◌, ◌<◌, min, cond, length, drop, sym, ◌∙◌, ap, arith}
 use Rattle.std.proofs.lemmas.Bool.{cond-true, cond-false}
 use Rattle.std.proofs.lemmas.List.{length-map}
-use Rattle.p3_lookup.specs.Bus.{bounds_of}
+use Rattle.p3_lookup.specs.Bus.{sum_of_bounds}
 use Rattle.p3_lookup.specs.Written.{Written, bus_of_kind, read, read_all}
 use Rattle.p3_lookup.specs.Packing.{same_name}
 use Rattle.p3_lookup.specs.Loads.{named_load}
@@ -17,7 +17,7 @@ loop-i-preserved g c =
     let b = bus_of_kind c.args.kind.now in
     let i = c.loop-i.i in
     let x = c.index-lookups-i.result in
-    let own-load = bounds_of (read x).counts * c.args.height in
+    let own-load = sum_of_bounds (read x).counts * c.args.height in
     let more = cond (same_name b x.bus) own-load 0 in
     let rest = named_load b c.args.height (drop (i + 1) ls) in
     let whole = min c.args.limit (c.args.load + named_load b c.args.height ls) in
@@ -29,7 +29,7 @@ loop-i-preserved g c =
     let next : c.if-have_one_name.load ≡ min c.args.limit (c.loop-i.load + more) = elim c.if-have_one_name.branch [
       | then-have_one_name w ↦
           let yes : more ≡ own-load = cond-true (same_name b x.bus) own-load 0 (sym test ∙ w.if-have_one_name.true) in
-          let bounds : bounds_of w.deref.result.now ≡ bounds_of (read x).counts = ap bounds_of (w.deref.ensures.value ∙ counts) ∙ sym (bounds_read x.multiplicities) in
+          let bounds : sum_of_bounds w.deref.result.now ≡ sum_of_bounds (read x).counts = ap sum_of_bounds (w.deref.ensures.value ∙ counts) ∙ sym (bounds_read x.multiplicities) in
           w.load-is ∙ w.with_bounds-load.ensures ∙ ap (λ n. min c.args.limit (c.loop-i.load + n * c.args.height)) bounds ∙ ap (λ n. min c.args.limit (c.loop-i.load + n)) (sym yes)
       | else-have_one_name w ↦
           let no : more ≡ 0 = cond-false (same_name b x.bus) own-load 0 (sym test ∙ w.if-have_one_name.false) in

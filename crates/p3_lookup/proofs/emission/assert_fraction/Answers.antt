@@ -1,6 +1,6 @@
 use Rattle.std.proofs.Common.{◌≡◌, List, [], map, ◌∙◌, ap, subst}
 use Rattle.std.proofs.lemmas.Result.{IfOk-weaker, on_err_weaker}
-use Rattle.p3_air.specs.Laws.Stand.{holds_on_err}
+use Rattle.p3_air.specs.Laws.Represent.{holds_on_err}
 use Rattle.p3_air.specs.Tree.{Tree}
 use Rattle.p3_air.specs.Symbolic.{tree_of}
 use Rattle.p3_lookup.specs.Lookup.{Sent, pair_up, sent}
@@ -9,30 +9,30 @@ use Rattle.p3_lookup.specs.Trees.{base_tree, beta_tree}
 use Rattle.p3_lookup.specs.Emission.{ArePartsOf}
 use Rattle.p3_lookup.proofs.emission.assert_fraction.Goals as goal
 
-pub returns-in_err-parts-clause-refused : goal.returns-in_err-parts-clause-refused
-returns-in_err-parts-clause-refused g c =
-    holds_on_err _ (g.met.AB.AirBuilder.grows_along _ _ _ [] [] [] [] c.lookup_challenges.ensures.grows c.fraction_parts.ensures.grows)
+pub returns-in_err-parts-clause-on_error : goal.returns-in_err-parts-clause-on_error
+returns-in_err-parts-clause-on_error g c =
+    holds_on_err _ (g.met.AB.AirBuilder.appends_along _ _ _ [] [] [] [] c.lookup_challenges.ensures.appends c.fraction_parts.ensures.appends)
 
-pub returns-in_err-difference-clause-refused : goal.returns-in_err-difference-clause-refused
-returns-in_err-difference-clause-refused g c =
-    let then = g.met.AB.AirBuilder.grows_along in
-    holds_on_err _ (then _ _ _ [] [] [] [] c.lookup_challenges.ensures.grows (then _ _ _ [] [] [] [] c.fraction_parts.ensures.grows c.scaled_less.ensures.grows))
+pub returns-in_err-difference-clause-on_error : goal.returns-in_err-difference-clause-on_error
+returns-in_err-difference-clause-on_error g c =
+    let then = g.met.AB.AirBuilder.appends_along in
+    holds_on_err _ (then _ _ _ [] [] [] [] c.lookup_challenges.ensures.appends (then _ _ _ [] [] [] [] c.fraction_parts.ensures.appends c.scaled_less.ensures.appends))
 
-pub returns-clause-refused : goal.returns-clause-refused
-returns-clause-refused g c =
-    let then = g.met.AB.AirBuilder.grows_along in
+pub returns-clause-on_error : goal.returns-clause-on_error
+returns-clause-on_error g c =
+    let then = g.met.AB.AirBuilder.appends_along in
     on_err_weaker _
-    (λ q. then _ _ _ [] [] [] [] c.lookup_challenges.ensures.grows
-    (then _ _ _ [] [] [] [] c.fraction_parts.ensures.grows
-    (then _ _ _ [] [] [] [] c.scaled_less.ensures.grows q)))
-    c.assert_zero_ext.ensures.refused
+    (λ q. then _ _ _ [] [] [] [] c.lookup_challenges.ensures.appends
+    (then _ _ _ [] [] [] [] c.fraction_parts.ensures.appends
+    (then _ _ _ [] [] [] [] c.scaled_less.ensures.appends q)))
+    c.assert_zero_ext.ensures.on_error
 
-pub returns-clause-grows : goal.returns-clause-grows
-returns-clause-grows g c =
+pub returns-clause-appends : goal.returns-clause-appends
+returns-clause-appends g c =
     let B = g.met.AB.AirBuilder in
     let X = g.met.AB.ExtensionBuilder in
-    let then = B.grows_along in
-    let own = c.in_ok-challenges.ensures.stands in
+    let then = B.appends_along in
+    let own = c.in_ok-challenges.ensures.represents in
     let own-lookup = c.args.lookup.now in
     let elements : map (λ v. v.items) c.deref.result.now ≡ own-lookup.elements =
     ap (λ l. map (λ v. v.items) l) c.deref.ensures.value ∙ ap (λ (w : Written g.row.AB-F.Denot). w.elements) c.lookup.view_is in
@@ -41,11 +41,11 @@ returns-clause-grows g c =
     let same : pair_up (map (map tree_of) (map (λ v. v.items) c.deref.result.now)) (map tree_count c.deref-2.result.now) ≡ sent (read own-lookup) =
     ap (λ l. pair_up (map (map tree_of) l) (map tree_count c.deref-2.result.now)) elements ∙ ap (λ l. pair_up (map (map tree_of) own-lookup.elements) (map tree_count l)) counts in
     let parts =
-    subst (λ (ss : List (Sent (Tree g.row.AB-F.Denot))). ArePartsOf (g.AB.ExtensionBuilder.stands_ext c.fraction_parts.new.builder) g.AB.F.RingCore.ring (base_tree c.args.index) (beta_tree c.args.index) c.in_ok-parts.parts ss)
-    same (c.in_ok-parts.ensures.stands _ _ own.0 own.1) in
-    let difference = c.in_ok-difference.ensures.stands _ _ parts.0 parts.1 in
+    subst (λ (ss : List (Sent (Tree g.row.AB-F.Denot))). ArePartsOf (g.AB.ExtensionBuilder.represents_ext c.fraction_parts.new.builder) g.AB.F.RingCore.ring (base_tree c.args.index) (beta_tree c.args.index) c.in_ok-parts.parts ss)
+    same (c.in_ok-parts.ensures.represents _ _ own.0 own.1) in
+    let difference = c.in_ok-difference.ensures.represents _ _ parts.0 parts.1 in
     IfOk-weaker _ _ _
-    (λ _ q. then _ _ _ [] _ [] [] c.lookup_challenges.ensures.grows
-    (then _ _ _ [] _ [] [] c.fraction_parts.ensures.grows
-    (then _ _ _ [] _ [] [] c.scaled_less.ensures.grows q)))
-    (c.assert_zero_ext.ensures.grows _ difference)
+    (λ _ q. then _ _ _ [] _ [] [] c.lookup_challenges.ensures.appends
+    (then _ _ _ [] _ [] [] c.fraction_parts.ensures.appends
+    (then _ _ _ [] _ [] [] c.scaled_less.ensures.appends q)))
+    (c.assert_zero_ext.ensures.appends _ difference)

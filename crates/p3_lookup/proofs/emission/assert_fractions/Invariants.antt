@@ -7,6 +7,6 @@ use Rattle.p3_lookup.proofs.emission.assert_fractions.Given as goal
 abbrev pub invariant-loop-i : goal.invariant-loop-i
 invariant-loop-i g l =
     let B = g.AB.AirBuilder in record {
-      same : B.shape l.builder ≡ B.shape l.fn.builder;
-      grows : B.grows l.fn.builder l.builder (map over_extension (fraction_trees g.AB.F.RingCore.ring 0 (take l.i (read_all l.lookups)))) [];
+      keeps_shape : B.shape l.builder ≡ B.shape l.fn.builder;
+      appends : B.appends l.fn.builder l.builder (map over_extension (fraction_trees g.AB.F.RingCore.ring 0 (take l.i (read_all l.lookups)))) [];
     }

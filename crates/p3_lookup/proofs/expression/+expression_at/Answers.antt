@@ -24,24 +24,24 @@ expression_at-requires-in-Sum g t c κs within =
     let reads = rw here.2 at c.requires.reads in
     let earlier = here.1 in
     let P : Shape → Type 0 = λ s. ReadsSendable s (tree_at c.args.nodes.now c.in-Sum.y) in
-    let right = subst P (sym c.expression_at.ensures.same) reads.1 in
+    let right = subst P (sym c.expression_at.ensures.keeps_shape) reads.1 in
     search rules
 
-pub returns-in_err-right-in-Sum-clause-grows : goal.returns-in_err-right-in-Sum-clause-grows
-returns-in_err-right-in-Sum-clause-grows g t c =
-    g.met.AB.AirBuilder.grows_along _ _ _ [] [] [] [] c.expression_at.ensures.grows c.expression_at-in-Sum.ensures.grows
+pub returns-in_err-right-in-Sum-clause-appends : goal.returns-in_err-right-in-Sum-clause-appends
+returns-in_err-right-in-Sum-clause-appends g t c =
+    g.met.AB.AirBuilder.appends_along _ _ _ [] [] [] [] c.expression_at.ensures.appends c.expression_at-in-Sum.ensures.appends
 
-pub returns-in_ok-right-in-Sum-clause-grows : goal.returns-in_ok-right-in-Sum-clause-grows
-returns-in_ok-right-in-Sum-clause-grows g t c =
-    let then = g.met.AB.AirBuilder.grows_along in
-    then _ _ _ [] [] [] [] c.expression_at.ensures.grows (then _ _ _ [] [] [] [] c.expression_at-in-Sum.ensures.grows c.add.ensures.grows)
+pub returns-in_ok-right-in-Sum-clause-appends : goal.returns-in_ok-right-in-Sum-clause-appends
+returns-in_ok-right-in-Sum-clause-appends g t c =
+    let then = g.met.AB.AirBuilder.appends_along in
+    then _ _ _ [] [] [] [] c.expression_at.ensures.appends (then _ _ _ [] [] [] [] c.expression_at-in-Sum.ensures.appends c.add.ensures.appends)
 
-pub returns-in_ok-right-in-Sum-clause-stands : goal.returns-in_ok-right-in-Sum-clause-stands
-returns-in_ok-right-in-Sum-clause-stands g t c =
+pub returns-in_ok-right-in-Sum-clause-represents : goal.returns-in_ok-right-in-Sum-clause-represents
+returns-in_ok-right-in-Sum-clause-represents g t c =
     let B = g.met.AB.AirBuilder in
     let here = node_is c.args.nodes.now c.args.place _ _ c.requires.ordered c.requires.within c.in-Sum.is in
-    let left = B.persists _ _ (B.grows_later _ _ _ _ c.expression_at-in-Sum.ensures.grows) _ _ c.in_ok-left-in-Sum.ensures.stands in
-    rw here.2 (c.add.ensures.stands _ _ left c.in_ok-right-in-Sum.ensures.stands)
+    let left = B.persists _ _ (B.appends_later _ _ _ _ c.expression_at-in-Sum.ensures.appends) _ _ c.in_ok-left-in-Sum.ensures.represents in
+    rw here.2 (c.add.ensures.represents _ _ left c.in_ok-right-in-Sum.ensures.represents)
 
 pub expression_at-requires-in-Difference : goal.expression_at-requires-in-Difference
 expression_at-requires-in-Difference g t c κs within =
@@ -57,24 +57,24 @@ expression_at-requires-in-Difference-2 g t c κs within =
     let reads = rw here.2 at c.requires.reads in
     let earlier = here.1 in
     let P : Shape → Type 0 = λ s. ReadsSendable s (tree_at c.args.nodes.now c.in-Difference.y) in
-    let right = subst P (sym c.expression_at-in-Difference.ensures.same) reads.1 in
+    let right = subst P (sym c.expression_at-in-Difference.ensures.keeps_shape) reads.1 in
     search rules
 
-pub returns-in_err-right-in-Difference-clause-grows : goal.returns-in_err-right-in-Difference-clause-grows
-returns-in_err-right-in-Difference-clause-grows g t c =
-    g.met.AB.AirBuilder.grows_along _ _ _ [] [] [] [] c.expression_at-in-Difference.ensures.grows c.expression_at-in-Difference-2.ensures.grows
+pub returns-in_err-right-in-Difference-clause-appends : goal.returns-in_err-right-in-Difference-clause-appends
+returns-in_err-right-in-Difference-clause-appends g t c =
+    g.met.AB.AirBuilder.appends_along _ _ _ [] [] [] [] c.expression_at-in-Difference.ensures.appends c.expression_at-in-Difference-2.ensures.appends
 
-pub returns-in_ok-right-in-Difference-clause-grows : goal.returns-in_ok-right-in-Difference-clause-grows
-returns-in_ok-right-in-Difference-clause-grows g t c =
-    let then = g.met.AB.AirBuilder.grows_along in
-    then _ _ _ [] [] [] [] c.expression_at-in-Difference.ensures.grows (then _ _ _ [] [] [] [] c.expression_at-in-Difference-2.ensures.grows c.sub.ensures.grows)
+pub returns-in_ok-right-in-Difference-clause-appends : goal.returns-in_ok-right-in-Difference-clause-appends
+returns-in_ok-right-in-Difference-clause-appends g t c =
+    let then = g.met.AB.AirBuilder.appends_along in
+    then _ _ _ [] [] [] [] c.expression_at-in-Difference.ensures.appends (then _ _ _ [] [] [] [] c.expression_at-in-Difference-2.ensures.appends c.sub.ensures.appends)
 
-pub returns-in_ok-right-in-Difference-clause-stands : goal.returns-in_ok-right-in-Difference-clause-stands
-returns-in_ok-right-in-Difference-clause-stands g t c =
+pub returns-in_ok-right-in-Difference-clause-represents : goal.returns-in_ok-right-in-Difference-clause-represents
+returns-in_ok-right-in-Difference-clause-represents g t c =
     let B = g.met.AB.AirBuilder in
     let here = node_is c.args.nodes.now c.args.place _ _ c.requires.ordered c.requires.within c.in-Difference.is in
-    let left = B.persists _ _ (B.grows_later _ _ _ _ c.expression_at-in-Difference-2.ensures.grows) _ _ c.in_ok-left-in-Difference.ensures.stands in
-    rw here.2 (c.sub.ensures.stands _ _ left c.in_ok-right-in-Difference.ensures.stands)
+    let left = B.persists _ _ (B.appends_later _ _ _ _ c.expression_at-in-Difference-2.ensures.appends) _ _ c.in_ok-left-in-Difference.ensures.represents in
+    rw here.2 (c.sub.ensures.represents _ _ left c.in_ok-right-in-Difference.ensures.represents)
 
 pub expression_at-requires-in-Product : goal.expression_at-requires-in-Product
 expression_at-requires-in-Product g t c κs within =
@@ -90,36 +90,36 @@ expression_at-requires-in-Product-2 g t c κs within =
     let reads = rw here.2 at c.requires.reads in
     let earlier = here.1 in
     let P : Shape → Type 0 = λ s. ReadsSendable s (tree_at c.args.nodes.now c.in-Product.y) in
-    let right = subst P (sym c.expression_at-in-Product.ensures.same) reads.1 in
+    let right = subst P (sym c.expression_at-in-Product.ensures.keeps_shape) reads.1 in
     search rules
 
-pub returns-in_err-right-in-Product-clause-grows : goal.returns-in_err-right-in-Product-clause-grows
-returns-in_err-right-in-Product-clause-grows g t c =
-    g.met.AB.AirBuilder.grows_along _ _ _ [] [] [] [] c.expression_at-in-Product.ensures.grows c.expression_at-in-Product-2.ensures.grows
+pub returns-in_err-right-in-Product-clause-appends : goal.returns-in_err-right-in-Product-clause-appends
+returns-in_err-right-in-Product-clause-appends g t c =
+    g.met.AB.AirBuilder.appends_along _ _ _ [] [] [] [] c.expression_at-in-Product.ensures.appends c.expression_at-in-Product-2.ensures.appends
 
-pub returns-in_ok-right-in-Product-clause-grows : goal.returns-in_ok-right-in-Product-clause-grows
-returns-in_ok-right-in-Product-clause-grows g t c =
-    let then = g.met.AB.AirBuilder.grows_along in
-    then _ _ _ [] [] [] [] c.expression_at-in-Product.ensures.grows (then _ _ _ [] [] [] [] c.expression_at-in-Product-2.ensures.grows c.mul.ensures.grows)
+pub returns-in_ok-right-in-Product-clause-appends : goal.returns-in_ok-right-in-Product-clause-appends
+returns-in_ok-right-in-Product-clause-appends g t c =
+    let then = g.met.AB.AirBuilder.appends_along in
+    then _ _ _ [] [] [] [] c.expression_at-in-Product.ensures.appends (then _ _ _ [] [] [] [] c.expression_at-in-Product-2.ensures.appends c.mul.ensures.appends)
 
-pub returns-in_ok-right-in-Product-clause-stands : goal.returns-in_ok-right-in-Product-clause-stands
-returns-in_ok-right-in-Product-clause-stands g t c =
+pub returns-in_ok-right-in-Product-clause-represents : goal.returns-in_ok-right-in-Product-clause-represents
+returns-in_ok-right-in-Product-clause-represents g t c =
     let B = g.met.AB.AirBuilder in
     let here = node_is c.args.nodes.now c.args.place _ _ c.requires.ordered c.requires.within c.in-Product.is in
-    let left = B.persists _ _ (B.grows_later _ _ _ _ c.expression_at-in-Product-2.ensures.grows) _ _ c.in_ok-left-in-Product.ensures.stands in
-    rw here.2 (c.mul.ensures.stands _ _ left c.in_ok-right-in-Product.ensures.stands)
+    let left = B.persists _ _ (B.appends_later _ _ _ _ c.expression_at-in-Product-2.ensures.appends) _ _ c.in_ok-left-in-Product.ensures.represents in
+    rw here.2 (c.mul.ensures.represents _ _ left c.in_ok-right-in-Product.ensures.represents)
 
-pub returns-in-Constant-clause-stands : goal.returns-in-Constant-clause-stands
-returns-in-Constant-clause-stands g t c =
+pub returns-in-Constant-clause-represents : goal.returns-in-Constant-clause-represents
+returns-in-Constant-clause-represents g t c =
     let here = node_is c.args.nodes.now c.args.place _ _ c.requires.ordered c.requires.within c.in-Constant.is in
-    rw here c.constant.ensures.stands
+    rw here c.constant.ensures.represents
 
-pub returns-in-Base-clause-stands : goal.returns-in-Base-clause-stands
-returns-in-Base-clause-stands g t c =
+pub returns-in-Base-clause-represents : goal.returns-in-Base-clause-represents
+returns-in-Base-clause-represents g t c =
     let here = node_is c.args.nodes.now c.args.place _ _ c.requires.ordered c.requires.within c.in-Base.is in
-    rw here c.cell.ensures.stands
+    rw here c.cell.ensures.represents
 
-pub returns-in-Extension-clause-stands : goal.returns-in-Extension-clause-stands
-returns-in-Extension-clause-stands g t c =
+pub returns-in-Extension-clause-represents : goal.returns-in-Extension-clause-represents
+returns-in-Extension-clause-represents g t c =
     let here = node_is c.args.nodes.now c.args.place _ _ c.requires.ordered c.requires.within c.in-Extension.is in
     absurd (rw here at c.requires.reads)

@@ -1,5 +1,5 @@
 use Rattle.std.proofs.Common.{◌≡◌, [], drop, map}
-use Rattle.p3_field.specs.Poly.{val}
+use Rattle.p3_field.specs.Poly.{eval_poly}
 use Rattle.p3_air.specs.Tree.{Tree}
 use Rattle.p3_air.specs.Symbolic.{tree_of}
 use Rattle.p3_lookup.specs.Trees.{trees}
@@ -9,7 +9,7 @@ abbrev pub invariant-loop-i : goal.invariant-loop-i
 invariant-loop-i g l =
     let B = g.AB.AirBuilder in
     let X = g.AB.ExtensionBuilder in record {
-      same : B.shape l.builder ≡ B.shape l.fn.builder;
-      grows : B.grows l.fn.builder l.builder [] [];
-      so_far : (b : Tree g.row.AB-F.Denot) → X.stands_ext l.fn.builder l.beta b → X.stands_ext l.builder l.sum (val (trees g.AB.F.RingCore.ring) (drop l.i (map tree_of l.tuple)) b);
+      keeps_shape : B.shape l.builder ≡ B.shape l.fn.builder;
+      appends : B.appends l.fn.builder l.builder [] [];
+      so_far : (b : Tree g.row.AB-F.Denot) → X.represents_ext l.fn.builder l.beta b → X.represents_ext l.builder l.sum (eval_poly (trees g.AB.F.RingCore.ring) (drop l.i (map tree_of l.tuple)) b);
     }

@@ -1,18 +1,18 @@
 use Rattle.std.proofs.Common.{[]}
 use Rattle.p3_lookup.proofs.fraction.combined_step.Goals as goal
 
-pub returns-in_err-others-clause-grows : goal.returns-in_err-others-clause-grows
-returns-in_err-others-clause-grows g c = g.met.AB.AirBuilder.grows_along _ _ _ [] [] [] [] c.lifted.ensures.grows c.mul_ext.ensures.grows
+pub returns-in_err-others-clause-appends : goal.returns-in_err-others-clause-appends
+returns-in_err-others-clause-appends g c = g.met.AB.AirBuilder.appends_along _ _ _ [] [] [] [] c.lifted.ensures.appends c.mul_ext.ensures.appends
 
-pub returns-clause-grows : goal.returns-clause-grows
-returns-clause-grows g c =
-    let then = g.met.AB.AirBuilder.grows_along in
-    then _ _ _ [] [] [] [] c.lifted.ensures.grows (then _ _ _ [] [] [] [] c.mul_ext.ensures.grows c.add_ext.ensures.grows)
+pub returns-clause-appends : goal.returns-clause-appends
+returns-clause-appends g c =
+    let then = g.met.AB.AirBuilder.appends_along in
+    then _ _ _ [] [] [] [] c.lifted.ensures.appends (then _ _ _ [] [] [] [] c.mul_ext.ensures.appends c.add_ext.ensures.appends)
 
-pub returns-clause-stands : goal.returns-clause-stands
-returns-clause-stands g c b s hb hs =
+pub returns-clause-represents : goal.returns-clause-represents
+returns-clause-represents g c b s hb hs =
     let B = g.met.AB.AirBuilder in
     let X = g.met.AB.ExtensionBuilder in
-    let past = X.persists_ext _ _ (B.grows_later _ _ _ _ c.lifted.ensures.grows) in
-    let first = X.persists_ext _ _ (B.grows_later _ _ _ _ c.mul_ext.ensures.grows) _ _ c.in_ok-first.ensures.stands in
-    c.add_ext.ensures.stands _ _ first (c.in_ok-others.ensures.stands _ _ (past _ _ hb) (past _ _ hs))
+    let past = X.persists_ext _ _ (B.appends_later _ _ _ _ c.lifted.ensures.appends) in
+    let first = X.persists_ext _ _ (B.appends_later _ _ _ _ c.mul_ext.ensures.appends) _ _ c.in_ok-first.ensures.represents in
+    c.add_ext.ensures.represents _ _ first (c.in_ok-others.ensures.represents _ _ (past _ _ hb) (past _ _ hs))

@@ -1,7 +1,7 @@
 use Rattle.std.proofs.Common.{ℕ, ◌+◌, ◌*◌, ◌/◌, [], ◌∷◌, length, map, ◌∙◌, ap}
 use Rattle.std.specs.Prelude.{slice_range}
 use Rattle.std.proofs.lemmas.List.{map-append}
-use Rattle.p3_field.specs.Laws.Tables.{table_push}
+use Rattle.p3_field.specs.Laws.Tabulate.{tabulate_push}
 use Rattle.p3_lookup.proofs.from_air.tuples_of.Goals as goal
 
 pub loop-k-preserved : goal.loop-k-preserved
@@ -10,4 +10,4 @@ loop-k-preserved g c =
     let t = λ (k : ℕ). slice_range c.args.fields.now (k * w) (k * w + w) in
     ap (map (λ v. v.items)) c.in_ok-push.ensures.items
     ∙ map-append (λ v. v.items) c.loop-k.tuples.items (c.in_ok-copies.field-0 ∷ [])
-    ∙ table_push c.loop-k.k t (map (λ v. v.items) c.loop-k.tuples.items) c.in_ok-copies.field-0.items c.loop-k.invariant c.in_ok-copies.ensures
+    ∙ tabulate_push c.loop-k.k t (map (λ v. v.items) c.loop-k.tuples.items) c.in_ok-copies.field-0.items c.loop-k.invariant c.in_ok-copies.ensures

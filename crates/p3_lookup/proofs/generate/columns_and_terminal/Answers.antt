@@ -4,9 +4,9 @@ use Rattle.std.specs.Option.{option_map}
 use Rattle.std.proofs.lemmas.List.{length-map}
 use Rattle.p3_matrix.specs.Matrix.{Rows, height}
 use Rattle.p3_matrix.specs.Laws.Grids.{product_fills}
-use Rattle.p3_lookup.specs.Lookup.{LookupData, IsCounted}
+use Rattle.p3_lookup.specs.Lookup.{LookupData, HasCountForEach}
 use Rattle.p3_lookup.specs.Written.{read, read_all}
-use Rattle.p3_lookup.specs.Term.{Term, HasInverses, quotient}
+use Rattle.p3_lookup.specs.Term.{Term, HasInverses, term_value}
 use Rattle.p3_lookup.specs.Generated.{argument_over}
 use Rattle.p3_lookup.specs.RowTerms.{table_terms, sizes, row_size, group_sums, AreColumns}
 use Rattle.p3_lookup.proofs.Row.{sizes_are}
@@ -33,11 +33,11 @@ rows_of-requires g c =
     let ls = read_all ws in
     let ns = sizes ls in
     let told = c.in_ok-terms.ensures in
-    let counted : All IsCounted ls = λ k d lt. (c.requires.lookups k d lt).counted in
+    let counted : All HasCountForEach ls = λ k d lt. (c.requires.lookups k d lt).counted in
     let same = λ (i : ℕ). sizes_are p.ring p.challenges (p.value i) 0 ls counted in
     let xs = c.deref-2.result.now in
-    let e : xs ≡ map (quotient p.ring p.inv) (table_terms p n) = c.deref-2.ensures.value ∙ c.in_ok-quotients.ensures ∙ ap (map (quotient p.ring p.inv)) (c.deref.ensures.value ∙ told.0) in
-    let long : length xs ≡ n * row_size ns = ap length e ∙ length-map (table_terms p n) (quotient p.ring p.inv) ∙ length_table p ns same n in
+    let e : xs ≡ map (term_value p.ring p.inv) (table_terms p n) = c.deref-2.ensures.value ∙ c.in_ok-quotients.ensures ∙ ap (map (term_value p.ring p.inv)) (c.deref.ensures.value ∙ told.0) in
+    let long : length xs ≡ n * row_size ns = ap length e ∙ length-map (table_terms p n) (term_value p.ring p.inv) ∙ length_table p ns same n in
     omega (arith, long, ap (λ k. k * row_size ns) c.height.ensures.result)
 
 pub new-columns-requires : goal.new-columns-requires
@@ -51,10 +51,10 @@ returns g c =
     let ls = read_all ws in
     let ns = sizes ls in
     let told = c.in_ok-terms.ensures in
-    let counted : All IsCounted ls = λ k d lt. (c.requires.lookups k d lt).counted in
+    let counted : All HasCountForEach ls = λ k d lt. (c.requires.lookups k d lt).counted in
     let same = λ (i : ℕ). sizes_are p.ring p.challenges (p.value i) 0 ls counted in
     let xs = c.deref-2.result.now in
-    let e : xs ≡ map (quotient p.ring p.inv) (table_terms p n) = c.deref-2.ensures.value ∙ c.in_ok-quotients.ensures ∙ ap (map (quotient p.ring p.inv)) (c.deref.ensures.value ∙ told.0) in
+    let e : xs ≡ map (term_value p.ring p.inv) (table_terms p n) = c.deref-2.ensures.value ∙ c.in_ok-quotients.ensures ∙ ap (map (term_value p.ring p.inv)) (c.deref.ensures.value ∙ told.0) in
     let fs = λ (i : ℕ). group_sums p.ring ns (drop (i * row_size ns) xs) in
     let wide : length ws ≡ length ls = sym (length-map ws (read {F = g.row.F.Denot})) in
     let columns = subst (λ (w : ℕ). AreColumns p.ring fs w c.in_ok-values.values.items n c.in_ok-values.terminal) wide

@@ -1,5 +1,5 @@
 use Rattle.std.proofs.Common.{◌≡◌, ◌<◌, length, map, ◌∙◌, ap, arith}
-use Rattle.p3_lookup.specs.Term.{Term, quotient}
+use Rattle.p3_lookup.specs.Term.{Term, term_value}
 use Rattle.p3_lookup.proofs.Groups.{scaled_start, scaled_read, scaled_more, scaled_end, ready}
 use Rattle.p3_lookup.proofs.generate.quotients_of.Goals as goal
 
@@ -23,7 +23,7 @@ loop-i-preserved g c =
     let within : i < length ts = omega arith in
     let count : c.term.inside.count ≡ t.count = ap (λ (u : Term g.row.EF.Denot). u.count) c.term.view_is in
     let read : c.index.result.now ≡ inv t.denominator = c.index.ensures ∙ scaled_read r inv ts i t within c.index-terms-i.is xs c.index.result.now c.loop-i.invariant in
-    let value : c.mul.result ≡ quotient r inv t = cc (g.met.EF.PrimeCharacteristicRing.muls _ _ _ c.mul.ensures, count, read) in
+    let value : c.mul.result ≡ term_value r inv t = cc (g.met.EF.PrimeCharacteristicRing.muls _ _ _ c.mul.ensures, count, read) in
     scaled_more r inv ts i t within c.index-terms-i.is xs c.mul.result value c.loop-i.invariant
 
 pub returns : goal.returns

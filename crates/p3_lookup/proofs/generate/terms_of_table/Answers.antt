@@ -5,7 +5,7 @@ use Rattle.p3_matrix.specs.Matrix.{height}
 use Rattle.p3_lookup.specs.Term.{Term}
 use Rattle.p3_lookup.specs.Written.{read_all}
 use Rattle.p3_lookup.specs.Generated.{argument_over}
-use Rattle.p3_lookup.proofs.Added.{AreTableTermsAt, table_start, table_more, table_fault}
+use Rattle.p3_lookup.proofs.Added.{AreTableTermsAt, table_start, tabulate_more, table_fault}
 use Rattle.p3_lookup.proofs.generate.terms_of_table.Goals as goal
 
 pub loop-row-init : goal.loop-row-init
@@ -25,7 +25,7 @@ pub loop-row-preserved : goal.loop-row-preserved
 loop-row-preserved g c =
     let p = argument_over g.F.RingCore.ring g.EF.RingCore.ring g.EF.FieldCore.inv g.EF.ExtensionField.embed c.args.main.now (option_map (λ m. m.now) c.args.preprocessed) c.args.public_values.now (read_all c.args.lookups.now) c.args.challenges.now in
     let told = c.in_ok-push_row_terms.ensures in
-    table_more p c.loop-row.row c.loop-row.terms.items c.loop-row.invariant c.push_row_terms.new.terms.items told.0 told.1
+    tabulate_more p c.loop-row.row c.loop-row.terms.items c.loop-row.invariant c.push_row_terms.new.terms.items told.0 told.1
 
 pub returns : goal.returns
 returns g c =

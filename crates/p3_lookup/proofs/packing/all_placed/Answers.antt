@@ -2,7 +2,7 @@ use Rattle.std.proofs.Common.{◌≡◌, ◌+◌, ◌<◌, ◌≤◌, true, suc,
 use Rattle.std.specs.Prelude.{All}
 use Rattle.std.proofs.lemmas.List.{length-map, drop_all}
 use Rattle.p3_air.specs.Tree.{local}
-use Rattle.p3_lookup.specs.Lookup.{LookupData, IsCounted}
+use Rattle.p3_lookup.specs.Lookup.{LookupData, HasCountForEach}
 use Rattle.p3_lookup.specs.Written.{read, read_all}
 use Rattle.p3_lookup.specs.Packing.{packed_onto}
 use Rattle.p3_lookup.specs.Laws.Packing.{with_counted}
@@ -12,7 +12,7 @@ use Rattle.p3_lookup.proofs.packing.all_placed.Goals as goal
 pub placed-requires-clause-lookup : goal.placed-requires-clause-lookup
 placed-requires-clause-lookup g c =
     let within : c.loop-i.i < length c.args.lookups.now = omega arith in
-    at_item IsCounted read c.args.lookups.now c.loop-i.i c.index-lookups-i.result within c.index-lookups-i.is c.requires
+    at_item HasCountForEach read c.args.lookups.now c.loop-i.i c.index-lookups-i.result within c.index-lookups-i.is c.requires
 
 pub loop-i-preserved : goal.loop-i-preserved
 loop-i-preserved g c =
@@ -22,11 +22,11 @@ loop-i-preserved g c =
     let i = c.loop-i.i in
     let within : i < length ws = omega arith in
     let next : suc i ≡ i + 1 = omega arith in
-    let own : IsCounted (read x) = at_item IsCounted read ws i x within c.index-lookups-i.is c.requires in
+    let own : HasCountForEach (read x) = at_item HasCountForEach read ws i x within c.index-lookups-i.is c.requires in
     let d : drop i (read_all ws) ≡ read x ∷ drop (i + 1) (read_all ws) = dropped read ws (i + 1) i x next within c.index-lookups-i.is in
     let e = c.in_ok-kept.ensures in
     record {
-      counted = subst (λ (ks : List (LookupData g.row.F.Denot)). All IsCounted ks) (sym e)
+      counted = subst (λ (ks : List (LookupData g.row.F.Denot)). All HasCountForEach ks) (sym e)
           (with_counted (λ _. true) local f c.args.t c.args.budget (read_all c.loop-i.kept.items) (read x) own c.loop-i.invariant.counted);
       onto = ap (λ (ks : List (LookupData g.row.F.Denot)). packed_onto f c.args.t c.args.budget ks (drop (i + 1) (read_all ws))) e
           ∙ sym (ap (packed_onto f c.args.t c.args.budget (read_all c.loop-i.kept.items)) d) ∙ c.loop-i.invariant.onto;

@@ -1,7 +1,7 @@
 use Rattle.std.proofs.Common.{◌<◌, length, ◌∙◌, ap, arith}
 use Rattle.std.proofs.lemmas.List.{length-map}
 use Rattle.std.proofs.Math.ListN.{set}
-use Rattle.p3_lookup.specs.Lookup.{LookupData, IsCounted}
+use Rattle.p3_lookup.specs.Lookup.{LookupData, HasCountForEach}
 use Rattle.p3_lookup.specs.Written.{read, read_all}
 use Rattle.p3_lookup.proofs.Turns.{at_item, mapped_item}
 use Rattle.p3_lookup.proofs.Packed.{pass_next, pass_taken}
@@ -10,7 +10,7 @@ use Rattle.p3_lookup.proofs.packing.taker.Goals as goal
 pub taken_in-requires-clause-first : goal.taken_in-requires-clause-first
 taken_in-requires-clause-first g c =
     let within : c.loop-i.i < length c.args.kept.now = omega arith in
-    at_item IsCounted read c.args.kept.now c.loop-i.i c.index-kept-i.result within c.index-kept-i.is c.requires.kept
+    at_item HasCountForEach read c.args.kept.now c.loop-i.i c.index-kept-i.result within c.index-kept-i.is c.requires.kept
 
 pub returns-in-Some-clause-placed : goal.returns-in-Some-clause-placed
 returns-in-Some-clause-placed g c =

@@ -1,5 +1,5 @@
 use Rattle.std.proofs.Common.{◌≡◌, ◌-◌, ◌<◌, suc, List, ◌∷◌, length, map, drop, ap, arith}
-use Rattle.p3_field.specs.Poly.{val}
+use Rattle.p3_field.specs.Poly.{eval_poly}
 use Rattle.p3_air.specs.Tree.{Tree}
 use Rattle.p3_air.specs.Shape.{ReadsSendable}
 use Rattle.p3_air.specs.Symbolic.{tree_of}
@@ -24,6 +24,6 @@ loop-i-preserved g c =
     let next : suc j ≡ i = omega arith in
     let here : drop j (map tree_of c.args.tuple.now) ≡ tree_of c.index-tuple-i.result ∷ drop i (map tree_of c.args.tuple.now) =
     dropped tree_of c.args.tuple.now i j c.index-tuple-i.result next within c.index-tuple-i.is in
-    let goes : val r (map v (drop j (map tree_of c.args.tuple.now))) c.args.beta ≡ r.add (v (tree_of c.index-tuple-i.result)) (r.mul c.args.beta (val r (map v (drop i (map tree_of c.args.tuple.now))) c.args.beta)) =
-    ap (λ (l : List (Tree g.row.F.Denot)). val r (map v l) c.args.beta) here in
+    let goes : eval_poly r (map v (drop j (map tree_of c.args.tuple.now))) c.args.beta ≡ r.add (v (tree_of c.index-tuple-i.result)) (r.mul c.args.beta (eval_poly r (map v (drop i (map tree_of c.args.tuple.now))) c.args.beta)) =
+    ap (λ (l : List (Tree g.row.F.Denot)). eval_poly r (map v l) c.args.beta) here in
     cc (goes, P.adds _ _ _ c.add-sum.ensures, P.muls _ _ _ c.mul.ensures, c.embedded_value.ensures, c.loop-i.invariant)

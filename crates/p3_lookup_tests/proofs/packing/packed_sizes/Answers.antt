@@ -1,12 +1,12 @@
 use Rattle.std.proofs.Common.{List, subst, sym}
 use Rattle.std.specs.Prelude.{All}
 use Rattle.p3_field.specs.declared.baby_bear.BabyBear.{BabyBear}
-use Rattle.p3_lookup.specs.Lookup.{IsCounted}
+use Rattle.p3_lookup.specs.Lookup.{HasCountForEach}
 use Rattle.p3_lookup.specs.Written.{Written, read_all}
 use Rattle.p3_lookup_tests.proofs.Taken.{all_counted}
 use Rattle.p3_lookup_tests.proofs.packing.packed_sizes.Goals as goal
 
 pub pack_same_bus_with_degree-requires : goal.pack_same_bus_with_degree-requires
 pack_same_bus_with_degree-requires c =
-    let P : List (Written BabyBear) → Type 0 = λ l. All IsCounted (read_all l) in
+    let P : List (Written BabyBear) → Type 0 = λ l. All HasCountForEach (read_all l) in
     subst P (sym c.new.ensures) (all_counted _ c.requires)

@@ -1,7 +1,7 @@
 use Rattle.std.proofs.Common.{◌≡◌, ◌∙◌, ap, arith}
 use Rattle.p3_field.specs.Ring.{sub}
-use Rattle.p3_field.specs.Poly.{table}
-use Rattle.p3_field.specs.Laws.Tables.{table_push}
+use Rattle.p3_field.specs.Poly.{tabulate}
+use Rattle.p3_field.specs.Laws.Tabulate.{tabulate_push}
 use Rattle.p3_matrix.specs.Interpolation.{ratio_minus_one}
 use Rattle.p3_matrix.specs.Laws.Interpolants.{next_ratio, first_ratio}
 use Rattle.p3_matrix.specs.Laws.Weights.{ratio_less_one}
@@ -21,11 +21,11 @@ loop-preserved g c =
     let i = c.loop.counter in
     let difference : c.sub.result ≡ sub s c.loop.turned s.one = P.subs _ _ _ c.sub.ensures ∙ ap (sub s c.loop.turned) (c.ONE.ensures ∙ g.met.F.RingCore.one_is) in
     record {
-      divisors_so_far = c.in_ok-push.ensures.items ∙ table_push _ _ _ _ c.loop.invariant.divisors_so_far (ratio_less_one s M c.args.step c.args.ratio i c.loop.turned c.sub.result c.loop.invariant.turned_is difference);
+      divisors_so_far = c.in_ok-push.ensures.items ∙ tabulate_push _ _ _ _ c.loop.invariant.divisors_so_far (ratio_less_one s M c.args.step c.args.ratio i c.loop.turned c.sub.result c.loop.invariant.turned_is difference);
       turned_is = P.muls _ _ _ c.mul-turned.ensures ∙ (ap (s.mul c.args.step) c.loop.invariant.turned_is ∙ next_ratio s M c.args.step c.args.ratio i);
     }
 
 pub returns : goal.returns
 returns g c =
     let n : c.loop.counter ≡ c.args.size = omega arith in
-    c.loop.invariant.divisors_so_far ∙ ap (λ k. table k (ratio_minus_one g.F.RingCore.ring c.args.step c.args.ratio)) n
+    c.loop.invariant.divisors_so_far ∙ ap (λ k. tabulate k (ratio_minus_one g.F.RingCore.ring c.args.step c.args.ratio)) n

@@ -1,6 +1,6 @@
 use Rattle.std.proofs.Common.{◌≡◌, ℕ, ◌+◌, ◌*◌, ◌/◌, ◌<◌, ◌∙◌, sym, ap, arith, get_or, length}
 use Rattle.std.proofs.lemmas.List.{get_or_read}
-use Rattle.p3_field.specs.Laws.Tables.{total_more}
+use Rattle.p3_field.specs.Laws.Tabulate.{total_more}
 use Rattle.p3_matrix.specs.Matrix.{Rows, height}
 use Rattle.p3_matrix.specs.Laws.Grids.{in_grid}
 use Rattle.p3_matrix.proofs.interpolation.weighted_column.Goals as goal

@@ -1,11 +1,11 @@
 use Rattle.std.proofs.Common.{◌≡◌, ◌^◌}
 use Rattle.p3_field.specs.Ring.{pow}
-use Rattle.p3_field.specs.Poly.{table}
+use Rattle.p3_field.specs.Poly.{tabulate}
 use Rattle.p3_matrix.specs.Interpolation.{weight_at}
 use Rattle.p3_matrix.proofs.interpolation.weights_by_sums.Given as goal
 
 abbrev pub invariant-loop : goal.invariant-loop
 invariant-loop g l = let s = g.F.RingCore.ring in record {
-  weights_so_far : l.weights.items ≡ table l.counter (weight_at s (2 ^ l.log_size) l.scale l.step l.fn.ratio);
+  weights_so_far : l.weights.items ≡ tabulate l.counter (weight_at s (2 ^ l.log_size) l.scale l.step l.fn.ratio);
   turned_is : l.turned ≡ s.mul (pow s l.step l.counter) l.fn.ratio;
 }

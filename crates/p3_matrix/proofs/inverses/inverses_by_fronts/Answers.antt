@@ -1,7 +1,7 @@
 use Rattle.std.proofs.Common.{◌≡◌, ◌+◌, ◌-◌, ◌<◌, ◌∙◌, inl, inr, refl, sym, ap, arith, length, get_or, set, map, length-set, get_or-set_same, get_or-set_other}
 use Rattle.std.proofs.lemmas.Bool.{cases_eq}
 use Rattle.std.proofs.lemmas.List.{get_or_read, ext_get_or, get_or-map, length-map}
-use Rattle.p3_field.specs.Laws.Tables.{length-table, get_or-table}
+use Rattle.p3_field.specs.Laws.Tabulate.{length-tabulate, get_or-tabulate}
 use Rattle.p3_matrix.specs.Products.{product_below}
 use Rattle.p3_matrix.proofs.ProductLaws.{next_product, quotient_of_last, quotient_of_front}
 use Rattle.p3_matrix.proofs.inverses.inverses_by_fronts.Goals as goal
@@ -12,9 +12,9 @@ loop-i-init g c =
     let v = c.args.values.now in
     let n = length v in
     record {
-      count = ap length c.requires.fronts ∙ length-table n (product_below r v);
+      count = ap length c.requires.fronts ∙ length-tabulate n (product_below r v);
       quotient_is = refl;
-      before = λ k b. ap (λ l. get_or l k r.zero) c.requires.fronts ∙ get_or-table n (product_below r v) k r.zero b;
+      before = λ k b. ap (λ l. get_or l k r.zero) c.requires.fronts ∙ get_or-tabulate n (product_below r v) k r.zero b;
       done = λ k a b. absurd (omega arith);
     }
 

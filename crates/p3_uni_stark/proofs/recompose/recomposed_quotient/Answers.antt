@@ -2,7 +2,7 @@ use Rattle.std.proofs.Common.{◌≡◌, ℕ, ◌<◌, [], length, map, get_or, 
 use Rattle.std.proofs.lemmas.List.{get_or-map}
 use Rattle.p3_field.specs.Field.{TwoAdic, Extension, combine}
 use Rattle.p3_field.specs.Poly.{total}
-use Rattle.p3_field.specs.Laws.Tables.{total_more}
+use Rattle.p3_field.specs.Laws.Tabulate.{total_more}
 use Rattle.p3_uni_stark.specs.Recombine.{chunk_weight, recombined}
 use Rattle.p3_uni_stark.proofs.recompose.recomposed_quotient.Goals as goal
 
@@ -14,7 +14,7 @@ loop-chunk-preserved g c =
     let i = c.loop-chunk.chunk in
     let f : TwoAdic g.row.F.Denot = record { ring = g.F.RingCore.ring; inv = g.F.FieldCore.inv; root = g.F.TwoAdicCore.root; generator = g.F.FieldCore.GENERATOR } in
     let e : Extension g.row.F.Denot g.row.EF.Denot =
-    record { ring = s; embed = g.EF.ExtensionField.embed; dimension = g.EF.BasedVectorSpace.DIMENSION; basis = b; parts = g.EF.BasedVectorSpace.parts; whole = g.EF.BasedVectorSpace.whole } in
+    record { ring = s; embed = g.EF.ExtensionField.embed; dimension = g.EF.BasedVectorSpace.DIMENSION; basis = b; coefficients = g.EF.BasedVectorSpace.coefficients; from_coefficients = g.EF.BasedVectorSpace.from_coefficients } in
     let t = λ (j : ℕ). s.mul (chunk_weight f e c.args.domains.now j c.args.x) (combine s b 0 (get_or (map (λ v. v.items) c.args.chunks.now) j [])) in
     let below : i < length c.args.chunks.now = omega arith in
     let item : c.deref.result.now ≡ get_or (map (λ v. v.items) c.args.chunks.now) i [] =
@@ -31,6 +31,6 @@ returns g c =
     let b = g.EF.ExtensionField.basis in
     let f : TwoAdic g.row.F.Denot = record { ring = g.F.RingCore.ring; inv = g.F.FieldCore.inv; root = g.F.TwoAdicCore.root; generator = g.F.FieldCore.GENERATOR } in
     let e : Extension g.row.F.Denot g.row.EF.Denot =
-    record { ring = s; embed = g.EF.ExtensionField.embed; dimension = g.EF.BasedVectorSpace.DIMENSION; basis = b; parts = g.EF.BasedVectorSpace.parts; whole = g.EF.BasedVectorSpace.whole } in
+    record { ring = s; embed = g.EF.ExtensionField.embed; dimension = g.EF.BasedVectorSpace.DIMENSION; basis = b; coefficients = g.EF.BasedVectorSpace.coefficients; from_coefficients = g.EF.BasedVectorSpace.from_coefficients } in
     let n : c.loop-chunk.chunk ≡ length c.args.domains.now = omega (arith, c.requires.one_for_each) in
     c.loop-chunk.invariant ∙ ap (λ m. total s m (λ j. s.mul (chunk_weight f e c.args.domains.now j c.args.x) (combine s b 0 (get_or (map (λ v. v.items) c.args.chunks.now) j [])))) n

@@ -7,13 +7,13 @@ pub returns-clause-own : goal.returns-clause-own
 returns-clause-own g c =
     recombined_at_own (record { ring = g.F.RingCore.ring; inv = g.F.FieldCore.inv; root = g.F.TwoAdicCore.root; generator = g.F.FieldCore.GENERATOR })
     g.met.F.RingCore.ring_laws g.met.F.FieldCore.field_laws g.F.TwoAdicCore.TWO_ADICITY g.met.F.TwoAdicCore.root_laws
-    (record { ring = g.EF.RingCore.ring; embed = g.EF.ExtensionField.embed; dimension = g.EF.BasedVectorSpace.DIMENSION; basis = g.EF.ExtensionField.basis; parts = g.EF.BasedVectorSpace.parts; whole = g.EF.BasedVectorSpace.whole })
+    (record { ring = g.EF.RingCore.ring; embed = g.EF.ExtensionField.embed; dimension = g.EF.BasedVectorSpace.DIMENSION; basis = g.EF.ExtensionField.basis; coefficients = g.EF.BasedVectorSpace.coefficients; from_coefficients = g.EF.BasedVectorSpace.from_coefficients })
     g.met.EF.RingCore.ring_laws g.met.EF.ExtensionField.embed_laws (decide_by _ g.met.F.FieldCore.eq_same g.met.F.FieldCore.same_eq)
 
 pub returns-clause-part : goal.returns-clause-part
 returns-clause-part g c whole n parts chunks i k shift fits each h =
     recombined_on_part (record { ring = g.F.RingCore.ring; inv = g.F.FieldCore.inv; root = g.F.TwoAdicCore.root; generator = g.F.FieldCore.GENERATOR })
     g.met.F.RingCore.ring_laws g.met.F.FieldCore.field_laws g.F.TwoAdicCore.TWO_ADICITY g.met.F.TwoAdicCore.root_laws whole shift fits n parts each
-    (record { ring = g.EF.RingCore.ring; embed = g.EF.ExtensionField.embed; dimension = g.EF.BasedVectorSpace.DIMENSION; basis = g.EF.ExtensionField.basis; parts = g.EF.BasedVectorSpace.parts; whole = g.EF.BasedVectorSpace.whole })
+    (record { ring = g.EF.RingCore.ring; embed = g.EF.ExtensionField.embed; dimension = g.EF.BasedVectorSpace.DIMENSION; basis = g.EF.ExtensionField.basis; coefficients = g.EF.BasedVectorSpace.coefficients; from_coefficients = g.EF.BasedVectorSpace.from_coefficients })
     g.met.EF.RingCore.ring_laws g.met.EF.ExtensionField.embed_laws (decide_by _ g.met.F.FieldCore.eq_same g.met.F.FieldCore.same_eq)
     chunks i k h

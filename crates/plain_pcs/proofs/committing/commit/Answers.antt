@@ -5,7 +5,7 @@ use Rattle.p3_commit.specs.Commitments.{AreExtensions}
 use Rattle.plain_pcs.specs.Scheme.{scheme}
 use Rattle.plain_pcs.specs.Extension.{IsCommittable, Extends}
 use Rattle.p3_field.specs.Checks.{IsFirstWithout}
-use Rattle.plain_pcs.proofs.Commitments.{if_wanting, no_commit_fault, commitment_given}
+use Rattle.plain_pcs.proofs.Commitments.{if_out_of_memory, no_commit_fault, commitment_given}
 use Rattle.plain_pcs.proofs.committing.commit.Goals as goal
 
 pub extensions_of-requires : goal.extensions_of-requires
@@ -35,4 +35,4 @@ returns-clause-refusal g c =
 pub returns-in_err-matrices-clause-searched : goal.returns-in_err-matrices-clause-searched
 returns-in_err-matrices-clause-searched g c =
     let s = scheme g.F.RingCore.ring g.F.FieldCore.inv g.F.TwoAdicCore.root g.F.FieldCore.GENERATOR g.F.TwoAdicCore.TWO_ADICITY (record { log_blowup = c.args.log_blowup }) in
-    if_wanting c.from_residual.result _ (no_commit_fault s c.args.evaluations.items (subst (λ (xs : List (CosetData g.row.F.Denot × Rows g.row.F.Denot)). All (λ e. IsCommittable s e.0 e.1) xs) c.deref.ensures.value c.in_default.ensures))
+    if_out_of_memory c.from_residual.result _ (no_commit_fault s c.args.evaluations.items (subst (λ (xs : List (CosetData g.row.F.Denot × Rows g.row.F.Denot)). All (λ e. IsCommittable s e.0 e.1) xs) c.deref.ensures.value c.in_default.ensures))

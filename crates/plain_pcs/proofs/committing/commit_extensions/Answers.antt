@@ -7,7 +7,7 @@ use Rattle.plain_pcs.specs.Extension.{Extends}
 use Rattle.plain_pcs.specs.Holding.{IsMade}
 use Rattle.plain_pcs.specs.Cosets.{IsOnCoset}
 use Rattle.plain_pcs.specs.Refusals.{HasSubgroupHeight}
-use Rattle.plain_pcs.proofs.Commitments.{if_wanting, no_height_fault, cosets_made, commitment_extended}
+use Rattle.plain_pcs.proofs.Commitments.{if_out_of_memory, no_height_fault, cosets_made, commitment_extended}
 use Rattle.plain_pcs.proofs.committing.commit_extensions.Goals as goal
 
 pub with_cosets-requires : goal.with_cosets-requires
@@ -40,9 +40,9 @@ returns-clause-refusal g c =
 pub returns-in_err-matrices-clause-searched : goal.returns-in_err-matrices-clause-searched
 returns-in_err-matrices-clause-searched g c =
     let s = scheme g.F.RingCore.ring g.F.FieldCore.inv g.F.TwoAdicCore.root g.F.FieldCore.GENERATOR g.F.TwoAdicCore.TWO_ADICITY (record { log_blowup = c.args.log_blowup }) in
-    if_wanting c.from_residual.result _ (no_height_fault s c.args.ldes.items (subst (λ (xs : List (Rows g.row.F.Denot)). All (HasSubgroupHeight s.most) xs) c.deref.ensures.value c.in_default.ensures))
+    if_out_of_memory c.from_residual.result _ (no_height_fault s c.args.ldes.items (subst (λ (xs : List (Rows g.row.F.Denot)). All (HasSubgroupHeight s.most) xs) c.deref.ensures.value c.in_default.ensures))
 
 pub returns-in_err-evaluated-clause-searched : goal.returns-in_err-evaluated-clause-searched
 returns-in_err-evaluated-clause-searched g c =
     let s = scheme g.F.RingCore.ring g.F.FieldCore.inv g.F.TwoAdicCore.root g.F.FieldCore.GENERATOR g.F.TwoAdicCore.TWO_ADICITY (record { log_blowup = c.args.log_blowup }) in
-    if_wanting c.from_residual-in_err-evaluated.result _ (no_height_fault s c.args.ldes.items (subst (λ (xs : List (Rows g.row.F.Denot)). All (HasSubgroupHeight s.most) xs) c.deref.ensures.value c.in_default.ensures))
+    if_out_of_memory c.from_residual-in_err-evaluated.result _ (no_height_fault s c.args.ldes.items (subst (λ (xs : List (Rows g.row.F.Denot)). All (HasSubgroupHeight s.most) xs) c.deref.ensures.value c.in_default.ensures))

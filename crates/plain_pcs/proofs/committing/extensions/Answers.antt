@@ -4,7 +4,7 @@ use Rattle.p3_matrix.specs.Matrix.{Rows}
 use Rattle.plain_pcs.specs.Scheme.{scheme}
 use Rattle.plain_pcs.specs.Extension.{IsCommittable}
 use Rattle.p3_field.specs.Checks.{IsFirstWithout}
-use Rattle.plain_pcs.proofs.Commitments.{if_wanting, no_commit_fault}
+use Rattle.plain_pcs.proofs.Commitments.{if_out_of_memory, no_commit_fault}
 use Rattle.plain_pcs.proofs.committing.extensions.Goals as goal
 
 pub extensions_from-requires : goal.extensions_from-requires
@@ -25,4 +25,4 @@ returns-clause-refusal g c =
 pub returns-in_err-extended-clause-searched : goal.returns-in_err-extended-clause-searched
 returns-in_err-extended-clause-searched g c =
     let s = scheme g.F.RingCore.ring g.F.FieldCore.inv g.F.TwoAdicCore.root g.F.FieldCore.GENERATOR g.F.TwoAdicCore.TWO_ADICITY (record { log_blowup = c.args.log_blowup }) in
-    if_wanting c.from_residual.result _ (no_commit_fault s c.args.evaluations.items (subst (λ (xs : List (CosetData g.row.F.Denot × Rows g.row.F.Denot)). All (λ e. IsCommittable s e.0 e.1) xs) c.deref.ensures.value c.in_default.ensures))
+    if_out_of_memory c.from_residual.result _ (no_commit_fault s c.args.evaluations.items (subst (λ (xs : List (CosetData g.row.F.Denot × Rows g.row.F.Denot)). All (λ e. IsCommittable s e.0 e.1) xs) c.deref.ensures.value c.in_default.ensures))

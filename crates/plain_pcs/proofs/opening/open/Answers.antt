@@ -1,7 +1,7 @@
 use Rattle.std.proofs.Common.{◌≡◌, length}
 use Rattle.std.specs.Prelude.{All}
 use Rattle.plain_pcs.specs.Scheme.{scheme}
-use Rattle.plain_pcs.specs.Laws.Held.{held_lists, held_values}
+use Rattle.plain_pcs.specs.Laws.OpenedCommitments.{held_lists, held_values}
 use Rattle.plain_pcs.specs.Laws.Honest.{honest_opens}
 use Rattle.plain_pcs.proofs.opening.open.Goals as goal
 

@@ -1,5 +1,5 @@
 use Rattle.std.proofs.Common.{arith}
-use Rattle.plain_pcs.specs.Laws.Held.{power_within}
+use Rattle.plain_pcs.specs.Laws.OpenedCommitments.{power_within}
 use Rattle.plain_pcs.proofs.Openings.{opened_values}
 use Rattle.plain_pcs.proofs.opening.opened_at.Goals as goal
 

@@ -3,13 +3,13 @@ use Rattle.std.specs.Prelude.{slice_get}
 use Rattle.std.proofs.lemmas.Option.{slice_get_read, slice_get_within}
 use Rattle.plain_pcs.specs.Scheme.{scheme}
 use Rattle.p3_field.specs.Checks.{NoneFails}
-use Rattle.plain_pcs.specs.Checks.{round_checks, checks}
+use Rattle.plain_pcs.specs.Checks.{round_checks, opening_claim_checks}
 use Rattle.p3_field.specs.Laws.Checks.{none_of_items, first_of_items}
 use Rattle.plain_pcs.proofs.Parts.{one_more, along_claim}
 use Rattle.plain_pcs.proofs.verifying.first_fault.Goals as goal
 
 pub returns-in-Some : goal.returns-in-Some
-unfolding checks
+unfolding opening_claim_checks
 returns-in-Some g c =
     let s = scheme g.F.RingCore.ring g.F.FieldCore.inv g.F.TwoAdicCore.root g.F.FieldCore.GENERATOR g.F.TwoAdicCore.TWO_ADICITY (record { log_blowup = c.args.log_blowup }) in
     let ring = g.E.RingCore.ring in
@@ -36,7 +36,7 @@ loop-round-preserved g c =
     one_more cs i x (λ j y. NoneFails (round_checks s ring embed j y)) here c.loop-round.invariant none
 
 pub returns : goal.returns
-unfolding checks
+unfolding opening_claim_checks
 returns g c =
     let s = scheme g.F.RingCore.ring g.F.FieldCore.inv g.F.TwoAdicCore.root g.F.FieldCore.GENERATOR g.F.TwoAdicCore.TWO_ADICITY (record { log_blowup = c.args.log_blowup }) in
     let cs = c.args.claims.now in

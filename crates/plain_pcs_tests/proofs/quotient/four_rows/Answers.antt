@@ -1,8 +1,8 @@
 use Rattle.std.proofs.Common.{refl, ◌∙◌}
-use Rattle.p3_field.specs.BabyBear.{bear_ring}
-use Rattle.p3_field.specs.Laws.BearLaws.{same_bear}
+use Rattle.p3_field.specs.BabyBear.{baby_bear_ring}
+use Rattle.p3_field.specs.Laws.BabyBearLaws.{same_baby_bear}
 use Rattle.plain_pcs_tests.proofs.quotient.four_rows.Goals as goal
 
 pub returns-in-Some-clause-shift : goal.returns-in-Some-clause-shift
-unfolding bear_ring
-returns-in-Some-clause-shift c = c.in-Some.ensures.0 ∙ same_bear _ _ refl
+unfolding baby_bear_ring
+returns-in-Some-clause-shift c = c.in-Some.ensures.0 ∙ same_baby_bear _ _ refl

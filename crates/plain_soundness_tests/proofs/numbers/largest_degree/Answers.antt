@@ -1,7 +1,7 @@
 use Rattle.std.proofs.Common.{[]}
 use Rattle.p3_air.specs.Degree.{polynomial_degree}
 use Rattle.p3_air.specs.Symbolic.{tree_of}
-use Rattle.batch_constraints.specs.Laws.Degrees.{greatest_next, joined}
+use Rattle.p3_air.specs.Laws.Greatest.{greatest_next, joined}
 use Rattle.batch_constraints.specs.Laws.Periods.{at_item, IsPeriodic}
 use Rattle.plain_soundness_tests.proofs.numbers.largest_degree.Goals as goal
 

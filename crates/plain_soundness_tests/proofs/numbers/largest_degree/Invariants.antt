@@ -1,7 +1,7 @@
 use Rattle.std.proofs.Common.{◌≡◌, [], map, take}
 use Rattle.p3_air.specs.Degree.{polynomial_degree}
 use Rattle.p3_air.specs.Symbolic.{tree_of}
-use Rattle.p3_lookup.specs.Lookup.{greatest}
+use Rattle.p3_air.specs.Degree.{greatest}
 use Rattle.plain_soundness_tests.proofs.numbers.largest_degree.Given as goal
 
 abbrev pub invariant-loop-constraint : goal.invariant-loop-constraint

@@ -1,9 +1,9 @@
 use Rattle.std.proofs.Common.{map, refl, ◌∙◌, ap}
 use Rattle.std.specs.Vec.Iter.{into_iter_items}
-use Rattle.p3_field.specs.Laws.Tables.{table_push}
+use Rattle.p3_field.specs.Laws.Tabulate.{tabulate_push}
 use Rattle.p3_lookup.specs.Written.{read_all}
-use Rattle.prover_openings.specs.Taken.{chunks_at, has_entry_at, has_lookups_at, one_where}
-use Rattle.prover_openings.proofs.Left.{left_behind, next_taken, none_left}
+use Rattle.prover_openings.specs.Taken.{chunk_count_at, has_entry_at, has_lookups_at, one_where}
+use Rattle.prover_openings.proofs.Left.{left_past, next_taken, none_left}
 use Rattle.prover_openings.proofs.Lists.{left_more}
 use Rattle.prover_openings.proofs.tables.all_tables.Goals as goal
 
@@ -13,7 +13,7 @@ loop-i-init g c =
     record {
       tables = c.in_ok-tables.ensures.items;
       main = refl;
-      quotient = none_left (chunks_at c.args.chunk_counts.now) _;
+      quotient = none_left (chunk_count_at c.args.chunk_counts.now) _;
       preprocessed = none_left (λ k. one_where (has_entry_at c.args.common.now.preprocessed k)) _;
       permutation = none_left (λ k. one_where (has_lookups_at lookups k)) _;
     }
@@ -32,12 +32,12 @@ loop-i-preserved g c =
     let entry = c.has_entry-entry.ensures in
     let more = c.has_lookups-lookups.ensures in
     record {
-      tables = c.in_ok-push.ensures.items ∙ table_push i _ c.loop-i.tables.items c.in_ok-next_table.field-0 inv.tables
+      tables = c.in_ok-push.ensures.items ∙ tabulate_push i _ c.loop-i.tables.items c.in_ok-next_table.field-0 inv.tables
           (next_taken pre lookups counts i (into_iter_items from.main) (into_iter_items left.main) (into_iter_items from.quotient) (into_iter_items left.quotient)
           (into_iter_items from.preprocessed) (into_iter_items left.preprocessed) (into_iter_items from.permutation) (into_iter_items left.permutation)
           inv.main inv.quotient inv.preprocessed inv.permutation c.in_ok-next_table.field-0 _ _ next.table entry more);
       main = left_more i 1 (into_iter_items from.main) (into_iter_items left.main) (into_iter_items new.main) inv.main next.main;
-      quotient = left_behind (chunks_at counts) i _ (into_iter_items from.quotient) (into_iter_items left.quotient) (into_iter_items new.quotient) refl inv.quotient next.quotient;
-      preprocessed = left_behind (λ k. one_where (has_entry_at pre k)) i _ (into_iter_items from.preprocessed) (into_iter_items left.preprocessed) (into_iter_items new.preprocessed) (ap one_where entry) inv.preprocessed next.preprocessed;
-      permutation = left_behind (λ k. one_where (has_lookups_at lookups k)) i _ (into_iter_items from.permutation) (into_iter_items left.permutation) (into_iter_items new.permutation) (ap one_where more) inv.permutation next.permutation;
+      quotient = left_past (chunk_count_at counts) i _ (into_iter_items from.quotient) (into_iter_items left.quotient) (into_iter_items new.quotient) refl inv.quotient next.quotient;
+      preprocessed = left_past (λ k. one_where (has_entry_at pre k)) i _ (into_iter_items from.preprocessed) (into_iter_items left.preprocessed) (into_iter_items new.preprocessed) (ap one_where entry) inv.preprocessed next.preprocessed;
+      permutation = left_past (λ k. one_where (has_lookups_at lookups k)) i _ (into_iter_items from.permutation) (into_iter_items left.permutation) (into_iter_items new.permutation) (ap one_where more) inv.permutation next.permutation;
     }

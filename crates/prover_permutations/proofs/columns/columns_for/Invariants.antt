@@ -4,7 +4,7 @@ use Rattle.batch_setup.specs.Setup.{Instance}
 use Rattle.batch_statement.specs.Statement.{WrittenCommon}
 use Rattle.honest_proofs.specs.HonestProof.{Prover}
 use Rattle.batch_proving.specs.Batch.{Batch, batch_of}
-use Rattle.prover_permutations.specs.Columns.{AreMade}
+use Rattle.prover_permutations.specs.Columns.{ArePermutationsMade}
 use Rattle.prover_permutations.proofs.columns.columns_for.Given as goal
 
 -- the configuration and its prover as plain data, and the batch
@@ -14,7 +14,7 @@ module _ (g : goal.Over) (config : g.row.SC.Denot) where
     field = record { ring = g.SC.Val.RingCore.ring; inv = g.SC.Val.FieldCore.inv; root = g.SC.Val.TwoAdicCore.root; generator = g.SC.Val.FieldCore.GENERATOR };
     two_adicity = g.SC.Val.TwoAdicCore.TWO_ADICITY;
     order = g.SC.Val.PrimeCore64.ORDER_U64;
-    extension = record { ring = g.SC.Challenge.RingCore.ring; embed = g.SC.Challenge.ExtensionField.embed; dimension = g.SC.Challenge.BasedVectorSpace.DIMENSION; basis = g.SC.Challenge.ExtensionField.basis; parts = g.SC.Challenge.BasedVectorSpace.parts; whole = g.SC.Challenge.BasedVectorSpace.whole };
+    extension = record { ring = g.SC.Challenge.RingCore.ring; embed = g.SC.Challenge.ExtensionField.embed; dimension = g.SC.Challenge.BasedVectorSpace.DIMENSION; basis = g.SC.Challenge.ExtensionField.basis; coefficients = g.SC.Challenge.BasedVectorSpace.coefficients; from_coefficients = g.SC.Challenge.BasedVectorSpace.from_coefficients };
     challenger = record {
       observe = g.SC.Challenger.CanObserve-2.observed;
       observe_extension = g.SC.Challenger.CanObserve-1.observed;
@@ -39,4 +39,4 @@ module _ (g : goal.Over) (config : g.row.SC.Denot) where
   batch instances common = batch_of setting prover g.A.BaseAir.declaration g.A.Air.trees instances common
 
 abbrev pub invariant-loop-place : goal.invariant-loop-place
-invariant-loop-place g l = AreMade (batch g l.fn.config l.fn.instances l.fn.common) (map (λ v. v.items) l.fn.challenges) l.place l.made.columns.items l.made.terminals.items
+invariant-loop-place g l = ArePermutationsMade (batch g l.fn.config l.fn.instances l.fn.common) (map (λ v. v.items) l.fn.challenges) l.place l.made.columns.items l.made.terminals.items

@@ -1,13 +1,13 @@
 use Rattle.std.proofs.Common.{◌≡◌, Option, refl, sym, ◌∙◌, ap, subst}
 use Rattle.std.specs.Prelude.{IfSome}
 use Rattle.p3_matrix.specs.Matrix.{Rows, height}
-use Rattle.prover_permutations.proofs.Lent.{behind_reference, zero_along}
+use Rattle.prover_permutations.proofs.Lent.{of_reference, zero_along}
 use Rattle.prover_permutations.proofs.generation.generated_columns.Goals as goal
 
 pub generate_permutation-requires-clause-preprocessed : goal.generate_permutation-requires-clause-preprocessed
 generate_permutation-requires-clause-preprocessed g c =
     let lent = c.as_ref.ensures.value ∙ (c.in_ok-preprocessed.ensures ∙ ap (λ i. (g.A.BaseAir.declaration i.air).preprocessed) c.instance.view_is) in
-    behind_reference (λ m. height m ≡ height c.instance.inside.trace.now) c.as_ref.result
+    of_reference (λ m. height m ≡ height c.instance.inside.trace.now) c.as_ref.result
     (subst (λ (o : Option (Rows g.row.F.Denot)). IfSome o (λ m. height m ≡ height c.instance.inside.trace.now)) (sym lent)
     (subst (λ (t : Rows g.row.F.Denot). IfSome (g.A.BaseAir.declaration c.args.instance.now.air).preprocessed (λ m. height m ≡ height t)) (ap (λ i. i.trace) (sym c.instance.view_is)) c.requires.preprocessed))
 

@@ -18,8 +18,8 @@ invariant-loop-index g l =
         embed = g.SC.Challenge.ExtensionField.embed;
         dimension = g.SC.Challenge.BasedVectorSpace.DIMENSION;
         basis = g.SC.Challenge.ExtensionField.basis;
-        parts = g.SC.Challenge.BasedVectorSpace.parts;
-        whole = g.SC.Challenge.BasedVectorSpace.whole;
+        coefficients = g.SC.Challenge.BasedVectorSpace.coefficients;
+        from_coefficients = g.SC.Challenge.BasedVectorSpace.from_coefficients;
       };
       challenger = record {
         observe = g.SC.Challenger.CanObserve-2.observed;

@@ -8,7 +8,7 @@ use Rattle.prover_quotients.proofs.table.table_values.Given.{Over}
 use Rattle.prover_quotients.proofs.table.table_values.Goals as goal
 
 laws : (g : Over) → FieldsLaws (record { ring = g.SC.Val.RingCore.ring; inv = g.SC.Val.FieldCore.inv; root = g.SC.Val.TwoAdicCore.root; generator = g.SC.Val.FieldCore.GENERATOR })
-    (record { ring = g.SC.Challenge.RingCore.ring; embed = g.SC.Challenge.ExtensionField.embed; dimension = g.SC.Challenge.BasedVectorSpace.DIMENSION; basis = g.SC.Challenge.ExtensionField.basis; parts = g.SC.Challenge.BasedVectorSpace.parts; whole = g.SC.Challenge.BasedVectorSpace.whole })
+    (record { ring = g.SC.Challenge.RingCore.ring; embed = g.SC.Challenge.ExtensionField.embed; dimension = g.SC.Challenge.BasedVectorSpace.DIMENSION; basis = g.SC.Challenge.ExtensionField.basis; coefficients = g.SC.Challenge.BasedVectorSpace.coefficients; from_coefficients = g.SC.Challenge.BasedVectorSpace.from_coefficients })
     g.SC.Val.TwoAdicCore.TWO_ADICITY g.SC.Challenge.FieldCore.inv
 laws g = record {
   below = g.met.SC.Val.RingCore.ring_laws;

@@ -9,9 +9,9 @@ use Rattle.p3_field.specs.Domain.{CosetData, point}
 use Rattle.honest_proofs.specs.HonestProof.{AreCanonical, Prover}
 use Rattle.batch_proving.specs.Batch.{CommitsToSome, batch_of}
 use Rattle.prover_permutations.specs.Laws.Drawn.{drawn_granted, drawn_refused}
-use Rattle.batch_proving.specs.Laws.Verdicts.{answer_before, answer_behind, answer_exits, refusal_is}
+use Rattle.batch_proving.specs.Laws.Verdicts.{answer_before, answer_past, answer_exits, refusal_is}
 use Rattle.prover_stages.specs.Laws.Counted.{columns_there, terminals_counted}
-use Rattle.prover_stages.specs.Laws.Drawing.{alpha_is, behind_alpha, behind_pair, challenges_are}
+use Rattle.prover_stages.specs.Laws.Drawing.{alpha_is, after_alpha, after_pair, challenges_are}
 use Rattle.prover_stages.specs.Laws.Stage.{committed_part, pair_ground, pair_passes, pair_refused}
 use Rattle.prover_stages.proofs.lookups.lookup_stage.Goals as goal
 
@@ -34,7 +34,7 @@ returns-in_err-columns-clause-verdict g c =
     let K : AreCanonical g.SC.Val.RingCore.ring g.SC.Val.PrimeCore64.ORDER_U64 g.SC.Val.PrimeCore64.canonical = record { ones = g.met.SC.Val.PrimeCore64.of_canonical; below = g.met.SC.Val.PrimeCore64.canonical_below } in
     let w = c.in-Ok.drawn.1 in
     let ground = pair_ground _ _ _ _ _ K c.args.transcript.now w c.requires.state c.requires.shape c.in-Ok.ensures.ground in
-    answer_exits _ _ _ c.from_residual.ensures.1 (answer_behind _ _ _ (pair_passes _ _ _ _ _ K _ c.args.transcript.now w c.requires.state c.requires.shape c.in-Ok.ensures.ground) (answer_before _ _ _ (refusal_is _ _ c.in_err-columns.ensures.verdict)))
+    answer_exits _ _ _ c.from_residual.ensures.1 (answer_past _ _ _ (pair_passes _ _ _ _ _ K _ c.args.transcript.now w c.requires.state c.requires.shape c.in-Ok.ensures.ground) (answer_before _ _ _ (refusal_is _ _ c.in_err-columns.ensures.verdict)))
 
 pub returns-in_err-permutation-clause-verdict : goal.returns-in_err-permutation-clause-verdict
 returns-in_err-permutation-clause-verdict g c =
@@ -45,7 +45,7 @@ returns-in_err-permutation-clause-verdict g c =
     let cf = g.SC-Pcs-Pcs.commit_fault (g.SC.StarkGenericConfig.pcs_of c.args.config.now) in
     let refused = drawn_refused (batch_of _ p g.A.BaseAir.declaration g.A.Air.trees c.args.instances.now c.args.common.now) cf K _ w ground (c.in_ok-columns.ensures.columns w ground) _ c.in_err-permutation.ensures.verdict in
     answer_exits _ _ _ c.from_residual-in_err-permutation.ensures.1
-    (answer_behind _ _ _ (pair_passes _ _ _ _ _ K _ c.args.transcript.now w c.requires.state c.requires.shape c.in-Ok.ensures.ground) (answer_behind _ _ _ c.in_ok-columns.ensures.verdict (refusal_is _ _ refused)))
+    (answer_past _ _ _ (pair_passes _ _ _ _ _ K _ c.args.transcript.now w c.requires.state c.requires.shape c.in-Ok.ensures.ground) (answer_past _ _ _ c.in_ok-columns.ensures.verdict (refusal_is _ _ refused)))
 
 pub permutation_phase-alpha-requires-clause-present : goal.permutation_phase-alpha-requires-clause-present
 permutation_phase-alpha-requires-clause-present g c =
@@ -118,7 +118,7 @@ returns-clause-alpha g c =
     let kept = subst (λ ms. CommitsToSome (λ es d. IsCommitment g.SC.Val.RingCore.ring (λ (d : CosetData g.row.SC-Val.Denot). 2 ^ d.log_size) (point g.SC.Val.RingCore.ring g.SC.Val.TwoAdicCore.root) (g.SC-Pcs-Pcs.commits pcs) (g.SC-Pcs-Pcs.made pcs) (g.SC-Pcs-Pcs.holds pcs) es d) ms c.in_ok-permutation.permutation) (c.in_ok-columns.ensures.columns w ground) c.in_ok-permutation.ensures.committed in
     let columns = c.commitment_of.ensures.value ∙ committed_part _ _ _ _ _ _ _ (λ es d h. g.SC-Pcs-UnivariateStarkPcs-met.one_commitment (g.SC.StarkGenericConfig.pcs_of c.args.config.now) es d c.requires.plain h) _ c.in_ok-permutation.permutation kept in
     let ends = c.deref-4.ensures.value ∙ c.in_ok-present.ensures ∙ ap (filter_map (λ t. t)) (ap (map (option_map (λ t. t.0))) c.deref-3.ensures.value ∙ c.in_ok-columns.ensures.terminals w ground) in
-    let here = behind_pair _ _ _ _ _ w c.args.transcript.now c.lookup_phase.new.self _ c.in-Ok.ensures.plays.0 c.requires.state c.requires.shape in
+    let here = after_pair _ _ _ _ _ w c.args.transcript.now c.lookup_phase.new.self _ c.in-Ok.ensures.plays.0 c.requires.state c.requires.shape in
     alpha_is _ _ _ _ _ w _ _ columns ends c.lookup_phase.new.self c.permutation_phase-alpha.new.self _ c.permutation_phase-alpha.ensures.plays here
 
 pub returns-clause-state : goal.returns-clause-state
@@ -130,5 +130,5 @@ returns-clause-state g c =
     let kept = subst (λ ms. CommitsToSome (λ es d. IsCommitment g.SC.Val.RingCore.ring (λ (d : CosetData g.row.SC-Val.Denot). 2 ^ d.log_size) (point g.SC.Val.RingCore.ring g.SC.Val.TwoAdicCore.root) (g.SC-Pcs-Pcs.commits pcs) (g.SC-Pcs-Pcs.made pcs) (g.SC-Pcs-Pcs.holds pcs) es d) ms c.in_ok-permutation.permutation) (c.in_ok-columns.ensures.columns w ground) c.in_ok-permutation.ensures.committed in
     let columns = c.commitment_of.ensures.value ∙ committed_part _ _ _ _ _ _ _ (λ es d h. g.SC-Pcs-UnivariateStarkPcs-met.one_commitment (g.SC.StarkGenericConfig.pcs_of c.args.config.now) es d c.requires.plain h) _ c.in_ok-permutation.permutation kept in
     let ends = c.deref-4.ensures.value ∙ c.in_ok-present.ensures ∙ ap (filter_map (λ t. t)) (ap (map (option_map (λ t. t.0))) c.deref-3.ensures.value ∙ c.in_ok-columns.ensures.terminals w ground) in
-    let here = behind_pair _ _ _ _ _ w c.args.transcript.now c.lookup_phase.new.self _ c.in-Ok.ensures.plays.0 c.requires.state c.requires.shape in
-    behind_alpha _ _ _ _ _ w _ _ columns ends c.lookup_phase.new.self c.permutation_phase-alpha.new.self _ c.permutation_phase-alpha.ensures.plays here
+    let here = after_pair _ _ _ _ _ w c.args.transcript.now c.lookup_phase.new.self _ c.in-Ok.ensures.plays.0 c.requires.state c.requires.shape in
+    after_alpha _ _ _ _ _ w _ _ columns ends c.lookup_phase.new.self c.permutation_phase-alpha.new.self _ c.permutation_phase-alpha.ensures.plays here

@@ -3,8 +3,8 @@ use Rattle.std.specs.Prelude.{option_map}
 use Rattle.p3_field.specs.Laws.Checks.{none_append}
 use Rattle.honest_proofs.specs.HonestProof.{AreCanonical}
 use Rattle.batch_proving.specs.Laws.Verdicts.{answer_before, answer_exits}
-use Rattle.prover_stages.specs.Laws.Drawing.{behind_quotient, behind_zeta, zeta_is}
-use Rattle.prover_stages.specs.Laws.Stage.{kept_part, ood_ground, ood_passes, ood_refused_behind}
+use Rattle.prover_stages.specs.Laws.Drawing.{after_quotient, after_zeta, zeta_is}
+use Rattle.prover_stages.specs.Laws.Stage.{kept_part, ood_ground, ood_passes, ood_refused_past}
 use Rattle.prover_stages.proofs.quotients.quotient_stage.Goals as goal
 
 pub commit_quotients-requires-clause-drawn : goal.commit_quotients-requires-clause-drawn
@@ -29,7 +29,7 @@ returns-in-Ok-clause-verdict g c =
     let K : AreCanonical g.SC.Val.RingCore.ring g.SC.Val.PrimeCore64.ORDER_U64 g.SC.Val.PrimeCore64.canonical = record { ones = g.met.SC.Val.PrimeCore64.of_canonical; below = g.met.SC.Val.PrimeCore64.canonical_below } in
     let w = c.args.lookups.now.witness in
     let is = g.SC-Pcs-UnivariateStarkPcs-met.one_commitment (g.SC.StarkGenericConfig.pcs_of c.args.config.now) _ _ c.requires.plain (c.in_ok-commitment.ensures.committed w c.requires.witness).commitment_is in
-    let here = behind_quotient _ _ _ _ _ w _ c.args.transcript.now c.bind_quotient.new.transcript is c.bind_quotient.ensures.plays c.requires.state in
+    let here = after_quotient _ _ _ _ _ w _ c.args.transcript.now c.bind_quotient.new.transcript is c.bind_quotient.ensures.plays c.requires.state in
     let same = c.bind_quotient.ensures.plays.shape ∙ c.requires.shape in
     none_append _ _ c.in_ok-commitment.ensures.verdict (ood_passes _ _ _ _ _ K _ c.bind_quotient.new.transcript w c.in-Ok.drawn.1 here same c.requires.witness c.in-Ok.ensures.ground)
 
@@ -47,7 +47,7 @@ returns-in-Ok-clause-witness g c =
     let K : AreCanonical g.SC.Val.RingCore.ring g.SC.Val.PrimeCore64.ORDER_U64 g.SC.Val.PrimeCore64.canonical = record { ones = g.met.SC.Val.PrimeCore64.of_canonical; below = g.met.SC.Val.PrimeCore64.canonical_below } in
     let w = c.args.lookups.now.witness in
     let is = g.SC-Pcs-UnivariateStarkPcs-met.one_commitment (g.SC.StarkGenericConfig.pcs_of c.args.config.now) _ _ c.requires.plain (c.in_ok-commitment.ensures.committed w c.requires.witness).commitment_is in
-    let here = behind_quotient _ _ _ _ _ w _ c.args.transcript.now c.bind_quotient.new.transcript is c.bind_quotient.ensures.plays c.requires.state in
+    let here = after_quotient _ _ _ _ _ w _ c.args.transcript.now c.bind_quotient.new.transcript is c.bind_quotient.ensures.plays c.requires.state in
     let same = c.bind_quotient.ensures.plays.shape ∙ c.requires.shape in
     (c.requires.witness, ood_ground _ _ _ _ _ K c.bind_quotient.new.transcript w c.in-Ok.drawn.1 here same c.in-Ok.ensures.ground)
 
@@ -55,7 +55,7 @@ pub returns-in-Ok-clause-zeta : goal.returns-in-Ok-clause-zeta
 returns-in-Ok-clause-zeta g c =
     let w = c.args.lookups.now.witness in
     let is = g.SC-Pcs-UnivariateStarkPcs-met.one_commitment (g.SC.StarkGenericConfig.pcs_of c.args.config.now) _ _ c.requires.plain (c.in_ok-commitment.ensures.committed w c.requires.witness).commitment_is in
-    let here = behind_quotient _ _ _ _ _ w _ c.args.transcript.now c.bind_quotient.new.transcript is c.bind_quotient.ensures.plays c.requires.state in
+    let here = after_quotient _ _ _ _ _ w _ c.args.transcript.now c.bind_quotient.new.transcript is c.bind_quotient.ensures.plays c.requires.state in
     let same = c.bind_quotient.ensures.plays.shape ∙ c.requires.shape in
     zeta_is _ _ _ _ _ w c.in-Ok.drawn.1 c.bind_quotient.new.transcript c.ood_phase.new.self _ c.in-Ok.ensures.plays here same
 
@@ -63,15 +63,15 @@ pub returns-in-Ok-clause-state : goal.returns-in-Ok-clause-state
 returns-in-Ok-clause-state g c =
     let w = c.args.lookups.now.witness in
     let is = g.SC-Pcs-UnivariateStarkPcs-met.one_commitment (g.SC.StarkGenericConfig.pcs_of c.args.config.now) _ _ c.requires.plain (c.in_ok-commitment.ensures.committed w c.requires.witness).commitment_is in
-    let here = behind_quotient _ _ _ _ _ w _ c.args.transcript.now c.bind_quotient.new.transcript is c.bind_quotient.ensures.plays c.requires.state in
+    let here = after_quotient _ _ _ _ _ w _ c.args.transcript.now c.bind_quotient.new.transcript is c.bind_quotient.ensures.plays c.requires.state in
     let same = c.bind_quotient.ensures.plays.shape ∙ c.requires.shape in
-    behind_zeta _ _ _ _ _ w c.in-Ok.drawn.1 c.bind_quotient.new.transcript c.ood_phase.new.self _ c.in-Ok.ensures.plays here same
+    after_zeta _ _ _ _ _ w c.in-Ok.drawn.1 c.bind_quotient.new.transcript c.ood_phase.new.self _ c.in-Ok.ensures.plays here same
 
 pub returns-in-Err-clause-verdict : goal.returns-in-Err-clause-verdict
 returns-in-Err-clause-verdict g c =
     let K : AreCanonical g.SC.Val.RingCore.ring g.SC.Val.PrimeCore64.ORDER_U64 g.SC.Val.PrimeCore64.canonical = record { ones = g.met.SC.Val.PrimeCore64.of_canonical; below = g.met.SC.Val.PrimeCore64.canonical_below } in
     let w = c.args.lookups.now.witness in
     let is = g.SC-Pcs-UnivariateStarkPcs-met.one_commitment (g.SC.StarkGenericConfig.pcs_of c.args.config.now) _ _ c.requires.plain (c.in_ok-commitment.ensures.committed w c.requires.witness).commitment_is in
-    let here = behind_quotient _ _ _ _ _ w _ c.args.transcript.now c.bind_quotient.new.transcript is c.bind_quotient.ensures.plays c.requires.state in
+    let here = after_quotient _ _ _ _ _ w _ c.args.transcript.now c.bind_quotient.new.transcript is c.bind_quotient.ensures.plays c.requires.state in
     let same = c.bind_quotient.ensures.plays.shape ∙ c.requires.shape in
-    ood_refused_behind _ _ _ _ _ K _ _ c.bind_quotient.new.transcript w c.in_ok-commitment.ensures.verdict here same c.requires.witness c.requires.fractions c.in-Err.ensures.ground.1
+    ood_refused_past _ _ _ _ _ K _ _ c.bind_quotient.new.transcript w c.in_ok-commitment.ensures.verdict here same c.requires.witness c.requires.fractions c.in-Err.ensures.ground.1

@@ -1,7 +1,7 @@
 use Rattle.std.proofs.Common.{[], map, length, sym, ◌∙◌, ap, subst}
 use Rattle.p3_challenger.specs.Script.{ChallengerOf}
 use Rattle.batch_draws.specs.Draws.{script_shape}
-use Rattle.batch_shape_checks.specs.ShapeChecks.{stated}
+use Rattle.batch_shape_checks.specs.ShapeChecks.{statement_with}
 use Rattle.batch_statement.specs.Statement.{tables_of}
 use Rattle.batch_transcript.specs.BatchScript.{bindings_script, main_script, preprocessed_script, seeded}
 use Rattle.batch_transcript.specs.Running.{Plays}
@@ -12,7 +12,7 @@ pub main_phase-requires-clause-count : goal.main_phase-requires-clause-count
 main_phase-requires-clause-count g c =
     let same = c.in_ok-shape.ensures
     ∙ (λ i. script_shape (c.ZK.ensures i) (c.lookup_proof_of_work_bits-lookup_bits.ensures.bits i) (c.ood_proof_of_work_bits-ood_bits.ensures.bits i)
-    (stated (tables_of g.A.BaseAir.declaration g.A.Air.trees ((c.deref.ensures.value ∙ c.in_ok-airs.ensures) i)) [] c.args.common.now)) in
+    (statement_with (tables_of g.A.BaseAir.declaration g.A.Air.trees ((c.deref.ensures.value ∙ c.in_ok-airs.ensures) i)) [] c.args.common.now)) in
     ap (map length) (ap (map (λ v. v.items)) c.deref-2.ensures.value ∙ c.in_ok-values.ensures)
     ∙ publics_counted _ _ _ _ _ c.requires.traced
     ∙ sym (ap (λ z. z.public_value_counts) (c.instance_bindings.ensures.plays.shape ∙ ap (λ t. t.shape) c.in_ok-transcript.ensures ∙ same))
@@ -21,14 +21,14 @@ pub returns-clause-shape : goal.returns-clause-shape
 returns-clause-shape g c =
     let same = c.in_ok-shape.ensures
     ∙ (λ i. script_shape (c.ZK.ensures i) (c.lookup_proof_of_work_bits-lookup_bits.ensures.bits i) (c.ood_proof_of_work_bits-ood_bits.ensures.bits i)
-    (stated (tables_of g.A.BaseAir.declaration g.A.Air.trees ((c.deref.ensures.value ∙ c.in_ok-airs.ensures) i)) [] c.args.common.now)) in
+    (statement_with (tables_of g.A.BaseAir.declaration g.A.Air.trees ((c.deref.ensures.value ∙ c.in_ok-airs.ensures) i)) [] c.args.common.now)) in
     c.preprocessed_phase.ensures.plays.shape ∙ c.main_phase.ensures.plays.shape ∙ c.instance_bindings.ensures.plays.shape ∙ ap (λ t. t.shape) c.in_ok-transcript.ensures ∙ same
 
 pub returns-clause-state : goal.returns-clause-state
 returns-clause-state g c =
     let same = c.in_ok-shape.ensures
     ∙ (λ i. script_shape (c.ZK.ensures i) (c.lookup_proof_of_work_bits-lookup_bits.ensures.bits i) (c.ood_proof_of_work_bits-ood_bits.ensures.bits i)
-    (stated (tables_of g.A.BaseAir.declaration g.A.Air.trees ((c.deref.ensures.value ∙ c.in_ok-airs.ensures) i)) [] c.args.common.now)) in
+    (statement_with (tables_of g.A.BaseAir.declaration g.A.Air.trees ((c.deref.ensures.value ∙ c.in_ok-airs.ensures) i)) [] c.args.common.now)) in
     let functions : ChallengerOf g.row.SC-Challenger.Denot g.row.SC-Val.Denot g.row.SC-Challenge.Denot g.row.SC-Pcs-Commitment.Denot = record {
       observe = g.SC.Challenger.CanObserve-2.observed;
       observe_extension = g.SC.Challenger.CanObserve-1.observed;

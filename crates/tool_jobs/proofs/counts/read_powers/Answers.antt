@@ -1,16 +1,16 @@
 use Rattle.std.proofs.Common.{arith}
 use Rattle.std.specs.Prelude.{map}
-use Rattle.line_format.specs.Texts.{list_words}
+use Rattle.line_format.specs.Texts.{list_numbers}
 use Rattle.line_format.specs.Laws.Stops.{handed-on}
 use Rattle.tool_jobs.specs.Laws.Counts.{PowersWithin}
-use Rattle.tool_jobs.proofs.Readings.{powers-behind, powers-count}
+use Rattle.tool_jobs.proofs.Readings.{powers-after, powers-count}
 use Rattle.tool_jobs.proofs.counts.read_powers.Goals as goal
 
 pub returns-in_err-count : goal.returns-in_err-count
-returns-in_err-count g c = handed-on (λ v. map g.T.Form.data_of v.items) (PowersWithin c.args.most g.T.Form.within) (list_words g.T.Form.words) _ _ _ c.in_err-count.field-0.0 c.from_residual.ensures.1
+returns-in_err-count g c = handed-on (λ v. map g.T.Form.data_of v.items) (PowersWithin c.args.most g.T.Form.within) (list_numbers g.T.Form.numbers) _ _ _ c.in_err-count.field-0.0 c.from_residual.ensures.1
     (λ m. powers-count c.args.most g.met.T.Form.grammar c.in_err-count.ensures.1)
 
 pub returns : goal.returns
 returns g c =
     let small = c.ranges.most in
-    powers-behind c.args.most c.requires (omega (arith, small)) (λ v. map g.T.Form.data_of v.items) g.T.Form.within g.T.Form.words _ _ _ c.in_ok-count.count c.read_items.result c.in_ok-count.ensures c.read_items.ensures
+    powers-after c.args.most c.requires (omega (arith, small)) (λ v. map g.T.Form.data_of v.items) g.T.Form.within g.T.Form.numbers _ _ _ c.in_ok-count.count c.read_items.result c.in_ok-count.ensures c.read_items.ensures

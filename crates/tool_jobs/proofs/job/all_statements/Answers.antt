@@ -1,7 +1,7 @@
-use Rattle.tool_validity.specs.Job.{IsWithin}
+use Rattle.tool_validity.specs.Job.{IsJobTableWithin}
 use Rattle.tool_jobs.specs.Jobs.{read_table}
 use Rattle.tool_jobs.proofs.Traces.{at_item}
 use Rattle.tool_jobs.proofs.job.all_statements.Goals as goal
 
 pub statement-requires : goal.statement-requires
-statement-requires c = at_item IsWithin read_table c.args.job.now c.loop-table.table-index c.table-item.result c.requires c.loop-table-test.true c.table-item.is
+statement-requires c = at_item IsJobTableWithin read_table c.args.job.now c.loop-table.table-index c.table-item.result c.requires c.loop-table-test.true c.table-item.is

@@ -1,7 +1,7 @@
 use Rattle.line_format.specs.Laws.Stops.{handed-on, same-stops}
 use Rattle.tool_jobs.specs.Jobs.{read_table}
-use Rattle.tool_jobs.specs.Laws.Kinds.{KindWithin, body_words, same-give}
+use Rattle.tool_jobs.specs.Laws.Kinds.{KindWithin, body_numbers, same-give}
 use Rattle.tool_jobs.proofs.text.read_give.Goals as goal
 
 pub returns-in_err-words : goal.returns-in_err-words
-returns-in_err-words c = handed-on read_table (KindWithin 4) body_words _ _ _ c.in_err-words.field-0.0 c.from_residual.ensures.1 (λ m. same-stops same-give (c.in_err-words.ensures m))
+returns-in_err-words c = handed-on read_table (KindWithin 4) body_numbers _ _ _ c.in_err-words.field-0.0 c.from_residual.ensures.1 (λ m. same-stops same-give (c.in_err-words.ensures m))

@@ -1,8 +1,8 @@
 use Rattle.std.proofs.Common.{◌≡◌}
 use Rattle.std.specs.List.{flat_map}
-use Rattle.p3_field.specs.Poly.{table}
+use Rattle.p3_field.specs.Poly.{tabulate}
 use Rattle.tool_validity.specs.Job.{swap_row}
 use Rattle.tool_jobs.proofs.trace.swap_trace.Given as goal
 
 abbrev pub invariant-loop-i : goal.invariant-loop-i
-invariant-loop-i l = l.values.items ≡ flat_map (swap_row l.a l.b) (table l.i (λ i. i))
+invariant-loop-i l = l.values.items ≡ flat_map (swap_row l.a l.b) (tabulate l.i (λ i. i))

@@ -1,5 +1,5 @@
 use Rattle.std.proofs.Common.{List, length, map, Vec, Global, sym, ◌∙◌, ap, subst}
-use Rattle.p3_field.specs.BabyBear.{bear_ring}
+use Rattle.p3_field.specs.BabyBear.{baby_bear_ring}
 use Rattle.p3_field.specs.declared.baby_bear.BabyBear.{BabyBear}
 use Rattle.batch_setup.specs.Setup.{instances_of}
 use Rattle.batch_statement.specs.Statement.{WellFormed, read_common}
@@ -52,14 +52,14 @@ prove_batch_with_point-requires-clause-traced c =
       traces_are = c.in_ok-traces.ensures;
       publics_are = c.in_ok-public_values.ensures;
       common_is = c.in_ok-data.ensures.common;
-      formed = subst (λ (xs : List (ToolAir BabyBear)). WellFormed (map (tool_declaration bear_ring) xs) (read_common c.in_ok-data.data.common)) c.deref.ensures.value c.in_ok-data.ensures.formed;
-      prepared = c.in_ok-data.ensures.kept;
+      formed = subst (λ (xs : List (ToolAir BabyBear)). WellFormed (map (tool_declaration baby_bear_ring) xs) (read_common c.in_ok-data.data.common)) c.deref.ensures.value c.in_ok-data.ensures.formed;
+      prepared = c.in_ok-data.ensures.prover_data;
       instances_are = c.deref-5.ensures.value ∙ (c.in_ok-instances.ensures ∙ (λ i. instances_of (c.deref-2.ensures.value i) (c.deref-3.ensures.value i) (map items (c.deref-4.ensures.value i))));
     } in
     batch_traced _ _ _ _ _ _ _ _ _ _ U
 
-pub prove_batch_with_point-requires-clause-kept : goal.prove_batch_with_point-requires-clause-kept
-prove_batch_with_point-requires-clause-kept c =
+pub prove_batch_with_point-requires-clause-prover_data : goal.prove_batch_with_point-requires-clause-prover_data
+prove_batch_with_point-requires-clause-prover_data c =
     let U : IsSetUp (read_tables c.args.job.now) c.args.tables.now _ c.tool_config-config.result.pcs c.in_ok-airs.airs.items c.in_ok-traces.traces.items (map items c.in_ok-public_values.public_values.items) c.in_ok-data.data.common
     c.in_ok-data.data.prover_only.preprocessed_prover_data c.deref-5.result.now = record {
       within = c.requires.within;
@@ -71,8 +71,8 @@ prove_batch_with_point-requires-clause-kept c =
       traces_are = c.in_ok-traces.ensures;
       publics_are = c.in_ok-public_values.ensures;
       common_is = c.in_ok-data.ensures.common;
-      formed = subst (λ (xs : List (ToolAir BabyBear)). WellFormed (map (tool_declaration bear_ring) xs) (read_common c.in_ok-data.data.common)) c.deref.ensures.value c.in_ok-data.ensures.formed;
-      prepared = c.in_ok-data.ensures.kept;
+      formed = subst (λ (xs : List (ToolAir BabyBear)). WellFormed (map (tool_declaration baby_bear_ring) xs) (read_common c.in_ok-data.data.common)) c.deref.ensures.value c.in_ok-data.ensures.formed;
+      prepared = c.in_ok-data.ensures.prover_data;
       instances_are = c.deref-5.ensures.value ∙ (c.in_ok-instances.ensures ∙ (λ i. instances_of (c.deref-2.ensures.value i) (c.deref-3.ensures.value i) (map items (c.deref-4.ensures.value i))));
     } in
     batch_kept _ _ _ _ _ _ _ _ _ _ U
@@ -90,8 +90,8 @@ returns-in_err-proof-clause-refusal c =
       traces_are = c.in_ok-traces.ensures;
       publics_are = c.in_ok-public_values.ensures;
       common_is = c.in_ok-data.ensures.common;
-      formed = subst (λ (xs : List (ToolAir BabyBear)). WellFormed (map (tool_declaration bear_ring) xs) (read_common c.in_ok-data.data.common)) c.deref.ensures.value c.in_ok-data.ensures.formed;
-      prepared = c.in_ok-data.ensures.kept;
+      formed = subst (λ (xs : List (ToolAir BabyBear)). WellFormed (map (tool_declaration baby_bear_ring) xs) (read_common c.in_ok-data.data.common)) c.deref.ensures.value c.in_ok-data.ensures.formed;
+      prepared = c.in_ok-data.ensures.prover_data;
       instances_are = c.deref-5.ensures.value ∙ (c.in_ok-instances.ensures ∙ (λ i. instances_of (c.deref-2.ensures.value i) (c.deref-3.ensures.value i) (map items (c.deref-4.ensures.value i))));
     } in
     refusal_there _ _ _ _ _ _ _ _ _ _ U c.from_residual-in_err-proof.result c.in_err-proof.field-0.0 c.from_residual-in_err-proof.ensures.1 c.in_err-proof.ensures.verdict
@@ -109,8 +109,8 @@ returns-then-not-is_outside-clause-outcome c =
       traces_are = c.in_ok-traces.ensures;
       publics_are = c.in_ok-public_values.ensures;
       common_is = c.in_ok-data.ensures.common;
-      formed = subst (λ (xs : List (ToolAir BabyBear)). WellFormed (map (tool_declaration bear_ring) xs) (read_common c.in_ok-data.data.common)) c.deref.ensures.value c.in_ok-data.ensures.formed;
-      prepared = c.in_ok-data.ensures.kept;
+      formed = subst (λ (xs : List (ToolAir BabyBear)). WellFormed (map (tool_declaration baby_bear_ring) xs) (read_common c.in_ok-data.data.common)) c.deref.ensures.value c.in_ok-data.ensures.formed;
+      prepared = c.in_ok-data.ensures.prover_data;
       instances_are = c.deref-5.ensures.value ∙ (c.in_ok-instances.ensures ∙ (λ i. instances_of (c.deref-2.ensures.value i) (c.deref-3.ensures.value i) (map items (c.deref-4.ensures.value i))));
     } in
     inside_there _ _ _ _ _ _ _ _ _ _ U c.in_ok-proof.proof c.in_ok-proof.point c.in_ok-proof.ensures.proved c.in_ok-proof.ensures.point c.if-not-is_outside.ensures
@@ -128,8 +128,8 @@ accepted_means-requires-clause-accepted c =
       traces_are = c.in_ok-traces.ensures;
       publics_are = c.in_ok-public_values.ensures;
       common_is = c.in_ok-data.ensures.common;
-      formed = subst (λ (xs : List (ToolAir BabyBear)). WellFormed (map (tool_declaration bear_ring) xs) (read_common c.in_ok-data.data.common)) c.deref.ensures.value c.in_ok-data.ensures.formed;
-      prepared = c.in_ok-data.ensures.kept;
+      formed = subst (λ (xs : List (ToolAir BabyBear)). WellFormed (map (tool_declaration baby_bear_ring) xs) (read_common c.in_ok-data.data.common)) c.deref.ensures.value c.in_ok-data.ensures.formed;
+      prepared = c.in_ok-data.ensures.prover_data;
       instances_are = c.deref-5.ensures.value ∙ (c.in_ok-instances.ensures ∙ (λ i. instances_of (c.deref-2.ensures.value i) (c.deref-3.ensures.value i) (map items (c.deref-4.ensures.value i))));
     } in
     accepted_for _ _ _ _ _ _ _ _ _ _ U c.in_ok-proof.proof c.in_ok-proof.ensures.accepted
@@ -148,8 +148,8 @@ accepted_means-requires-clause-formed c =
       traces_are = c.in_ok-traces.ensures;
       publics_are = c.in_ok-public_values.ensures;
       common_is = c.in_ok-data.ensures.common;
-      formed = subst (λ (xs : List (ToolAir BabyBear)). WellFormed (map (tool_declaration bear_ring) xs) (read_common c.in_ok-data.data.common)) c.deref.ensures.value c.in_ok-data.ensures.formed;
-      prepared = c.in_ok-data.ensures.kept;
+      formed = subst (λ (xs : List (ToolAir BabyBear)). WellFormed (map (tool_declaration baby_bear_ring) xs) (read_common c.in_ok-data.data.common)) c.deref.ensures.value c.in_ok-data.ensures.formed;
+      prepared = c.in_ok-data.ensures.prover_data;
       instances_are = c.deref-5.ensures.value ∙ (c.in_ok-instances.ensures ∙ (λ i. instances_of (c.deref-2.ensures.value i) (c.deref-3.ensures.value i) (map items (c.deref-4.ensures.value i))));
     } in
     formed_there _ _ _ _ _ _ _ _ _ _ U
@@ -167,8 +167,8 @@ returns-clause-outcome c =
       traces_are = c.in_ok-traces.ensures;
       publics_are = c.in_ok-public_values.ensures;
       common_is = c.in_ok-data.ensures.common;
-      formed = subst (λ (xs : List (ToolAir BabyBear)). WellFormed (map (tool_declaration bear_ring) xs) (read_common c.in_ok-data.data.common)) c.deref.ensures.value c.in_ok-data.ensures.formed;
-      prepared = c.in_ok-data.ensures.kept;
+      formed = subst (λ (xs : List (ToolAir BabyBear)). WellFormed (map (tool_declaration baby_bear_ring) xs) (read_common c.in_ok-data.data.common)) c.deref.ensures.value c.in_ok-data.ensures.formed;
+      prepared = c.in_ok-data.ensures.prover_data;
       instances_are = c.deref-5.ensures.value ∙ (c.in_ok-instances.ensures ∙ (λ i. instances_of (c.deref-2.ensures.value i) (c.deref-3.ensures.value i) (map items (c.deref-4.ensures.value i))));
     } in
     outcome_there _ _ _ _ _ _ _ _ _ _ U c.in_ok-proof.proof c.in_ok-proof.ensures.proved

@@ -1,7 +1,7 @@
 use Rattle.std.proofs.Common.{◌-◌, sym, ◌∙◌, subst}
 use Rattle.plain_pcs.specs.Holding.{AreHolding}
 use Rattle.plain_pcs.specs.Scheme.{Blowup}
-use Rattle.batch_setup.specs.SetupChecks.{AreBounded}
+use Rattle.batch_setup.specs.SetupChecks.{AreWithinBounds}
 use Rattle.tool_statement.proofs.Granted.{bounded}
 use Rattle.tool_statement.proofs.SharedData.{common_is, kept_is, not_refused}
 use Rattle.batch_setup.specs.Verdict.{IsSetupRefusal}
@@ -10,16 +10,16 @@ use Rattle.tool_statement.proofs.shared.prover_data.Goals as goal
 pub from_airs_and_degrees-requires-clause-bits : goal.from_airs_and_degrees-requires-clause-bits
 from_airs_and_degrees-requires-clause-bits c =
     let same = c.deref.ensures.value ∙ c.in_ok-bits.ensures in
-    subst (λ (s : Blowup). AreBounded 0 (27 - s.log_blowup) c.deref.result.now) (sym c.requires.scheme)
-    (subst (AreBounded 0 26) (sym same) (bounded c.args.tables.now c.requires.within))
+    subst (λ (s : Blowup). AreWithinBounds 0 (27 - s.log_blowup) c.deref.result.now) (sym c.requires.scheme)
+    (subst (AreWithinBounds 0 26) (sym same) (bounded c.args.tables.now c.requires.within))
 
 pub returns-in-Ok-clause-common : goal.returns-in-Ok-clause-common
 returns-in-Ok-clause-common c =
     common_is c.args.tables.now c.args.airs.now c.requires.airs c.deref.result.now _ _ _ _ _ _ _ _ c.requires.scheme
     (c.deref.ensures.value ∙ c.in_ok-bits.ensures) c.in-Ok.ensures.lookups c.in-Ok.ensures.preprocessed
 
-pub returns-in-Ok-clause-kept : goal.returns-in-Ok-clause-kept
-returns-in-Ok-clause-kept c =
+pub returns-in-Ok-clause-prover_data : goal.returns-in-Ok-clause-prover_data
+returns-in-Ok-clause-prover_data c =
     kept_is c.args.tables.now c.args.airs.now c.requires.airs c.deref.result.now _ _ _ _ _ AreHolding _ c.requires.scheme
     (c.deref.ensures.value ∙ c.in_ok-bits.ensures) c.in-Ok.ensures.preprocessed
 

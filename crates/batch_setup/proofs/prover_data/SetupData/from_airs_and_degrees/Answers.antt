@@ -2,10 +2,10 @@ use Rattle.std.proofs.Common.{◌≡◌, cond, ◌++◌, ◌-◌, ◌^◌, lengt
 use Rattle.std.specs.Prelude.{IfOk}
 use Rattle.std.proofs.lemmas.List.{length-replicate}
 use Rattle.p3_field.specs.Checks.{in_turn}
-use Rattle.p3_field.specs.Poly.{table}
+use Rattle.p3_field.specs.Poly.{tabulate}
 use Rattle.p3_lookup.specs.Written.{read_all}
 use Rattle.batch_setup.specs.Packed.{source_of, budget_at, packed_at}
-use Rattle.batch_setup.specs.SetupChecks.{degree_checks, length_checks, table_checks, trace_checks}
+use Rattle.batch_setup.specs.SetupChecks.{degree_checks, length_checks, table_setup_checks, trace_checks}
 use Rattle.batch_setup.specs.Verdict.{IsSetUp}
 use Rattle.batch_setup.specs.Laws.Verdicts.{answer_without, first_same, none_same}
 use Rattle.batch_setup.specs.declared.error.SetupError.TheVariants.{LengthMismatch}
@@ -23,7 +23,7 @@ returns-clause-verdict g c =
     let made = c.from_airs_and_degrees_with_lookup_budgets.result in
     let sources = map (source_of g.A.BaseAir.declaration g.A.Air.trees g.A.Air.interactions) a.airs.now in
     let fault = g.SC-Pcs-Pcs.commit_fault (g.SC.StarkGenericConfig.pcs_of a.config.now) in
-    let verdict = subst (λ xs. IsSetUp (length_checks n b (length xs) ++ table_checks r z (2 ^ 64 - 1) fault sources bits xs n) made) (c.deref.ensures.value ∙ c.in_ok-budgets.ensures)
+    let verdict = subst (λ xs. IsSetUp (length_checks n b (length xs) ++ table_setup_checks r z (2 ^ 64 - 1) fault sources bits xs n) made) (c.deref.ensures.value ∙ c.in_ok-budgets.ensures)
     c.from_airs_and_degrees_with_lookup_budgets.ensures.verdict in
     answer_without (length_checks n b (length (replicate n 0))) (degree_checks n b) (trace_checks r.one z fault sources bits n) (in_turn n (budget_at r z (2 ^ 64 - 1) sources bits (replicate n 0))) made
     (first_same LengthMismatch ((b ≡ n) × (length (replicate n 0) ≡ n)) (b ≡ n) (λ q. (q, length-replicate n 0)))
@@ -34,5 +34,5 @@ pub returns-clause-lookups : goal.returns-clause-lookups
 returns-clause-lookups g c =
     let a = c.args in
     let sources = map (source_of g.A.BaseAir.declaration g.A.Air.trees g.A.Air.interactions) a.airs.now in
-    subst (λ xs. IfOk c.from_airs_and_degrees_with_lookup_budgets.result (λ d. map read_all d.common.lookups ≡ table (length a.airs.now) (packed_at g.SC.Val.RingCore.ring (cond g.SC-Pcs-UnivariateStarkPcs.ZK 1 0) sources a.trace_ext_degree_bits.now xs)))
+    subst (λ xs. IfOk c.from_airs_and_degrees_with_lookup_budgets.result (λ d. map read_all d.common.lookups ≡ tabulate (length a.airs.now) (packed_at g.SC.Val.RingCore.ring (cond g.SC-Pcs-UnivariateStarkPcs.ZK 1 0) sources a.trace_ext_degree_bits.now xs)))
     (c.deref.ensures.value ∙ c.in_ok-budgets.ensures) c.from_airs_and_degrees_with_lookup_budgets.ensures.lookups

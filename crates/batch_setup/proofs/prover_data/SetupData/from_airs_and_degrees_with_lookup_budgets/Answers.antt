@@ -1,10 +1,10 @@
 use Rattle.std.proofs.Common.{◌≡◌, ◌<◌, ◌≤◌, ◌++◌, length, map, sym, subst, arith}
 use Rattle.std.specs.Prelude.{IfOk}
 use Rattle.p3_field.specs.Laws.Checks.{holds_alone}
-use Rattle.p3_field.specs.Poly.{table}
+use Rattle.p3_field.specs.Poly.{tabulate}
 use Rattle.p3_lookup.specs.Written.{read_all}
 use Rattle.batch_setup.specs.Packed.{source_of, packed_at}
-use Rattle.batch_setup.specs.SetupChecks.{length_checks, table_checks}
+use Rattle.batch_setup.specs.SetupChecks.{length_checks, table_setup_checks}
 use Rattle.batch_setup.specs.Verdict.{IsSetUp}
 use Rattle.batch_setup.specs.Laws.Verdicts.{exits, refused_before, answer_after}
 use Rattle.batch_setup.proofs.Masks.{mask_small}
@@ -53,12 +53,12 @@ returns-clause-verdict g c =
     let sources = map (source_of g.A.BaseAir.declaration g.A.Air.trees g.A.Air.interactions) a.airs.now in
     let fault = g.SC-Pcs-Pcs.commit_fault (g.SC.StarkGenericConfig.pcs_of a.config.now) in
     subst (λ m. IsSetUp (length_checks (length a.airs.now) (length a.trace_ext_degree_bits.now) (length a.lookup_budget_overrides.now)
-    ++ table_checks g.SC.Val.RingCore.ring m a.log_blowup fault sources a.trace_ext_degree_bits.now a.lookup_budget_overrides.now (length a.airs.now)) c.tables_data.result) c.is_zk-masks.ensures
+    ++ table_setup_checks g.SC.Val.RingCore.ring m a.log_blowup fault sources a.trace_ext_degree_bits.now a.lookup_budget_overrides.now (length a.airs.now)) c.tables_data.result) c.is_zk-masks.ensures
     (answer_after _ _ _ c.in_ok-check_lengths.ensures c.tables_data.ensures.verdict)
 
 pub returns-clause-lookups : goal.returns-clause-lookups
 returns-clause-lookups g c =
     let a = c.args in
     let sources = map (source_of g.A.BaseAir.declaration g.A.Air.trees g.A.Air.interactions) a.airs.now in
-    subst (λ m. IfOk c.tables_data.result (λ d. map read_all d.common.lookups ≡ table (length a.airs.now) (packed_at g.SC.Val.RingCore.ring m sources a.trace_ext_degree_bits.now a.lookup_budget_overrides.now))) c.is_zk-masks.ensures
+    subst (λ m. IfOk c.tables_data.result (λ d. map read_all d.common.lookups ≡ tabulate (length a.airs.now) (packed_at g.SC.Val.RingCore.ring m sources a.trace_ext_degree_bits.now a.lookup_budget_overrides.now))) c.is_zk-masks.ensures
     c.tables_data.ensures.lookups

@@ -5,7 +5,7 @@ use Rattle.p3_lookup.specs.Bus.{HaveOneWidth}
 use Rattle.p3_lookup.specs.Lookup.{lookups_of}
 use Rattle.p3_matrix.specs.Matrix.{height}
 use Rattle.batch_setup.specs.Setup.{airs_of, bits_of, log_of}
-use Rattle.batch_setup.specs.Laws.Verdicts.{answer_behind, none_here}
+use Rattle.batch_setup.specs.Laws.Verdicts.{answer_past, none_here}
 use Rattle.batch_setup.specs.declared.error.SetupError.TheVariants.{LengthMismatch}
 use Rattle.batch_setup.proofs.Masks.{mask_small}
 use Rattle.batch_setup.proofs.prover_data.SetupData.from_instances.Goals as goal
@@ -24,7 +24,7 @@ returns-clause-verdict g c =
     let airs_are : c.deref.result.now ≡ airs_of instances = c.deref.ensures.value ∙ c.in_ok-airs.ensures in
     let bits_are : c.deref-2.result.now ≡ bits_of z instances = c.deref-2.ensures.value ∙ c.in_ok-bits.ensures ∙ ap (λ m. bits_of m instances) c.is_zk.ensures in
     let long : length (bits_of z instances) ≡ length (airs_of instances) = length-map instances (λ i. log_of (height i.trace) + z) ∙ sym (length-map instances (λ i. i.air)) in
-    answer_behind _ _ _ (none_here LengthMismatch (length (bits_of z instances) ≡ length (airs_of instances)) long) (rw (airs_are, bits_are) at c.from_airs_and_degrees.ensures.verdict)
+    answer_past _ _ _ (none_here LengthMismatch (length (bits_of z instances) ≡ length (airs_of instances)) long) (rw (airs_are, bits_are) at c.from_airs_and_degrees.ensures.verdict)
 
 pub returns-clause-lookups : goal.returns-clause-lookups
 returns-clause-lookups g c =

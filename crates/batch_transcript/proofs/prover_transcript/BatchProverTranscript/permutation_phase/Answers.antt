@@ -4,10 +4,10 @@ use Rattle.std.specs.List.{fold}
 use Rattle.std.specs.Option.{option_copied, option_map_or}
 use Rattle.std.proofs.Math.ListN.{drop_of_length-le}
 use Rattle.std.proofs.lemmas.List.{take_all}
-use Rattle.p3_challenger.specs.States.{NextIs, IsStep, behind}
+use Rattle.p3_challenger.specs.States.{NextIs, IsStep, steps_after_next}
 use Rattle.p3_challenger.specs.declared.script.InteractionKind.TheVariants.{Message}
 use Rattle.batch_transcript.specs.BatchScript.{only_with, permutation_commitment_step, constraint_challenge_step, lookup_terminal_step, from_permutation, from_quotient}
-use Rattle.batch_transcript.specs.Laws.Phases.{permutation-next, permutation-behind, permutation-steps, copied-some, state-if, plays-permutation}
+use Rattle.batch_transcript.specs.Laws.Phases.{permutation-next, permutation-after, permutation-steps, copied-some, state-if, plays-permutation}
 use Rattle.batch_transcript.proofs.prover_transcript.BatchProverTranscript.permutation_phase.Goals as goal
 
 pub message_if_present-requires : goal.message_if_present-requires
@@ -29,7 +29,7 @@ loop-terminal-init g c =
     let f = g.C.CanObserve-3.observed in record {
       state = ap (λ p. p.state) c.message_if_present.ensures ∙ state-if (f c.self.inside.state.state) o c.self.inside.state ∙ ap (λ p. option_map_or (f p.state) o p.state) v;
       remaining = ap (λ p. p.remaining) c.message_if_present.ensures
-          ∙ permutation-behind d s.num_lookup_instances o c.args.terminals.now (constraint_challenge_step d ∷ from_quotient d s) c.self.inside.state (f c.self.inside.state.state)
+          ∙ permutation-after d s.num_lookup_instances o c.args.terminals.now (constraint_challenge_step d ∷ from_quotient d s) c.self.inside.state (f c.self.inside.state.state)
           (ap (λ p. p.remaining) v ∙ c.requires.turn) (copied-some m ∙ c.requires.present) c.requires.count;
       shape = ap (λ p. p.shape) v;
     }
@@ -51,5 +51,5 @@ returns-clause-plays g c =
     (c.challenge.ensures.answer ∙ ap g.C.CanSample-2.drawn state)
     (c.requires.turn
     ∙ permutation-steps d s.num_lookup_instances (option_copied m) xs (constraint_challenge_step d ∷ from_quotient d s) (copied-some m ∙ c.requires.present) c.requires.count
-    ∙ ap (λ l. only_with (is_some (option_copied m)) permutation_commitment_step ++ (map (λ _. lookup_terminal_step d) xs ++ constraint_challenge_step d ∷ l)) (sym (ap (λ p. p.remaining) c.challenge.ensures.state ∙ ap behind left)))
+    ∙ ap (λ l. only_with (is_some (option_copied m)) permutation_commitment_step ++ (map (λ _. lookup_terminal_step d) xs ++ constraint_challenge_step d ∷ l)) (sym (ap (λ p. p.remaining) c.challenge.ensures.state ∙ ap steps_after_next left)))
     i.shape

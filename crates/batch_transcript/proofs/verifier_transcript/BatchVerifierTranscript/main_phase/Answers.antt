@@ -2,7 +2,7 @@ use Rattle.std.proofs.Common.{◌++◌, ◌∷◌, map, length, ap, sym, ◌∙�
 use Rattle.std.specs.List.{fold}
 use Rattle.std.proofs.Math.ListN.{drop_of_length-le}
 use Rattle.std.proofs.lemmas.List.{take_all}
-use Rattle.p3_challenger.specs.States.{behind}
+use Rattle.p3_challenger.specs.States.{steps_after_next}
 use Rattle.batch_transcript.specs.BatchScript.{main_commitment_step, public_values_step, from_main, from_preprocessed}
 use Rattle.batch_transcript.specs.Laws.Phases.{plays-main, publics-steps}
 use Rattle.batch_transcript.proofs.verifier_transcript.BatchVerifierTranscript.main_phase.Goals as goal
@@ -15,7 +15,7 @@ loop-values-init g c =
     let v = c.self.view_is in record {
       state = ap (λ p. p.state) c.message.ensures ∙ ap (λ p. g.C.CanObserve-3.observed p.state c.args.main_commitment.now) v;
       remaining = ap (λ p. p.remaining) c.message.ensures
-          ∙ ap behind (ap (λ p. p.remaining) v ∙ c.requires.turn)
+          ∙ ap steps_after_next (ap (λ p. p.remaining) v ∙ c.requires.turn)
           ∙ ap (λ l. l ++ from_preprocessed d s) (publics-steps c.args.public_values.now s.public_value_counts c.requires.count);
       shape = ap (λ p. p.shape) v;
     }

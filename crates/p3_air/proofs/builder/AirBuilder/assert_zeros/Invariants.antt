@@ -1,5 +1,5 @@
 use Rattle.std.proofs.Common.{◌≡◌, List, [], map, take}
-use Rattle.p3_air.specs.Tree.{Tree, Stand, over_base}
+use Rattle.p3_air.specs.Tree.{Tree, Represent, over_base}
 use Rattle.p3_air.specs.Asserting.{AssertsEach}
 use Rattle.p3_air.proofs.builder.AirBuilder.assert_zeros.Given as goal
 
@@ -7,6 +7,6 @@ abbrev pub invariant-loop-x : goal.invariant-loop-x
 invariant-loop-x g l =
     g.Self.AirBuilder.later l.initial.self l.self
     × (g.Self.AirBuilder.shape l.self ≡ g.Self.AirBuilder.shape l.initial.self)
-    × ((ts : List (Tree g.row.Self-F.Denot)) → Stand (g.Self.AirBuilder.stands l.initial.self) l.xs ts
-    → g.Self.AirBuilder.grows l.initial.self l.self (map over_base (take l.x-index ts)) [])
+    × ((ts : List (Tree g.row.Self-F.Denot)) → Represent (g.Self.AirBuilder.represents l.initial.self) l.xs ts
+    → g.Self.AirBuilder.appends l.initial.self l.self (map over_base (take l.x-index ts)) [])
     × AssertsEach g.Self.AirBuilder.asserts (take l.x-index l.xs) l.initial.self l.self

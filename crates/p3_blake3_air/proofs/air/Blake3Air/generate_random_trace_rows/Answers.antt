@@ -1,16 +1,16 @@
 use Rattle.std.proofs.Common.{◌≡◌, ℕ, ◌*◌, ◌<◌, List, IfOk, Err, ◌↔◌, length, ap, ◌∙◌, subst}
 use Rattle.std.specs.Int.{IsPowerOfTwo}
-use Rattle.p3_field.specs.Laws.Tables.{length-table}
+use Rattle.p3_field.specs.Laws.Tabulate.{length-tabulate}
 use Rattle.p3_matrix.specs.Matrix.{height, row_at}
 use Rattle.p3_blake3.specs.TraceRow.{trace_row}
 use Rattle.p3_blake3.specs.Generated.{input_of}
 use Rattle.p3_blake3.specs.declared.error.TraceError.TheVariants.{NotPowerOfTwo, TooLong}
-use Rattle.p3_blake3_air.specs.Rows.{row_words, IsTooLong}
+use Rattle.p3_blake3_air.specs.Rows.{compression_input, IsTooLong}
 use Rattle.p3_blake3_air.specs.Random.{random_input, random_inputs}
 use Rattle.p3_blake3_air.proofs.air.Blake3Air.generate_random_trace_rows.Goals as goal
 
 many : (n : ℕ) → length (random_inputs n) ≡ n
-many n = length-table n (λ i. random_input (24 * i))
+many n = length-tabulate n (λ i. random_input (24 * i))
 
 as_many : (ws : List (List ℕ)) (n : ℕ) → ws ≡ random_inputs n → length ws ≡ n
 as_many ws n e = ap length e ∙ many n
@@ -25,9 +25,9 @@ returns-clause-row g c =
     let r = g.F.RingCore.ring in
     let n = c.args.num_hashes in
     let e = c.deref.ensures.value ∙ c.in_ok-inputs.ensures in
-    let words : ℕ → List ℕ = row_words (random_inputs n) in
+    let words : ℕ → List ℕ = compression_input (random_inputs n) in
     subst (λ k. IfOk c.generate_trace_rows.result (λ m. (i : ℕ) → i < k → row_at m i ≡ trace_row r (input_of (words i)))) (many n)
-    (subst (λ ws. IfOk c.generate_trace_rows.result (λ m. (i : ℕ) → i < length ws → row_at m i ≡ trace_row r (input_of (row_words ws i)))) e
+    (subst (λ ws. IfOk c.generate_trace_rows.result (λ m. (i : ℕ) → i < length ws → row_at m i ≡ trace_row r (input_of (compression_input ws i)))) e
     c.generate_trace_rows.ensures.row)
 
 pub returns-clause-not_power : goal.returns-clause-not_power

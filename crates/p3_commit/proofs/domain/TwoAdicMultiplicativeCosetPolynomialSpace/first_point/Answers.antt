@@ -1,5 +1,5 @@
 use Rattle.std.proofs.Common.{◌∙◌, sym}
-use Rattle.p3_field.specs.Laws.Tables.{first_coset_point}
+use Rattle.p3_field.specs.Laws.Tabulate.{first_coset_point}
 use Rattle.p3_commit.proofs.domain.TwoAdicMultiplicativeCosetPolynomialSpace.first_point.Goals as goal
 
 pub returns : goal.returns

@@ -9,4 +9,4 @@ verify_batch-requires g c =
     let V = g.EF.BasedVectorSpace in
     let wide = c.deref-2.ensures.value ∙ c.in_ok-wide.ensures in
     let Q : List Dimensions → Type 0 = λ l. All (λ s. g.InnerMmcs.Mmcs.takes s.width) l in
-    subst Q (sym wide) (wide_takes V.DIMENSION V.parts V.whole g.met.EF.BasedVectorSpace.vector_laws g.InnerMmcs.Mmcs.takes c.args.dimensions.now c.requires)
+    subst Q (sym wide) (wide_takes V.DIMENSION V.coefficients V.from_coefficients g.met.EF.BasedVectorSpace.vector_laws g.InnerMmcs.Mmcs.takes c.args.dimensions.now c.requires)

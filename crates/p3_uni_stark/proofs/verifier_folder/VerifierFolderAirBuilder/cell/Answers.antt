@@ -8,6 +8,6 @@ cell-requires g c =
     let P : PointValues g.row.F.Denot g.row.E.Denot → Type 0 = λ v. Declares (point_shape v) c.args.c in
     subst P (sym c.cells.ensures) c.requires
 
-pub returns-clause-stands : goal.returns-clause-stands
-returns-clause-stands g c =
+pub returns-clause-represents : goal.returns-clause-represents
+returns-clause-represents g c =
     c.cell.ensures ∙ ap (λ (v : PointValues g.row.F.Denot g.row.E.Denot). point_cell g.E.RingCore.ring.zero g.E.ExtensionField.embed v c.args.c) c.cells.ensures

@@ -3,7 +3,7 @@ use Rattle.std.specs.Prelude.{All}
 use Rattle.std.specs.Int.{IsPowerOfTwo}
 use Rattle.p3_matrix.specs.Matrix.{height}
 use Rattle.p3_commit.specs.Batches.{lists, AreRowsAt, dimensions_of}
-use Rattle.plain_pcs.specs.PlainMmcs.{IsOpened}
+use Rattle.plain_pcs.specs.PlainMmcs.{IsRowOpening}
 use Rattle.plain_pcs.proofs.Heights.{opened_rows_accepted, widths_of}
 use Rattle.plain_pcs.proofs.plain_mmcs.PlainMmcsMmcs.open_batch.Goals as goal
 
@@ -12,7 +12,7 @@ returns-clause-accepted g c = λ k e.
     let ms = c.args.prover_data.now in
     let rows = lists c.in_ok-opened_values.opened_values.items in
     let same = c.deref.ensures.value ∙ c.prover_data.view_is in
-    subst (λ l. IsOpened g.T.PartialEq.eq l (dimensions_of ms) c.args.index rows) (sym e)
+    subst (λ l. IsRowOpening g.T.PartialEq.eq l (dimensions_of ms) c.args.index rows) (sym e)
     (opened_rows_accepted ms c.args.index g.T.PartialEq.eq rows g.met.T.Eq.laws
     (subst (λ l. All (λ m. IsPowerOfTwo (height m)) l) c.prover_data.view_is c.prover_data.invariant.heights) c.requires
     (subst (λ l. AreRowsAt l c.args.index rows) same c.in_ok-opened_values.ensures.values)

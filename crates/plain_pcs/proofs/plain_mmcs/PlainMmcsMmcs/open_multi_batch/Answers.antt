@@ -7,7 +7,7 @@ use Rattle.p3_matrix.specs.Matrix.{height}
 use Rattle.p3_commit.specs.Space.{EachOf}
 use Rattle.p3_commit.specs.Periodic.{EachFrom}
 use Rattle.p3_commit.specs.Batches.{lists, IsRowOf, AreRowsAt, dimensions_of}
-use Rattle.plain_pcs.specs.PlainMmcs.{AreOpened}
+use Rattle.plain_pcs.specs.PlainMmcs.{AreRowOpenings}
 use Rattle.p3_commit.specs.Laws.Each.{one_more}
 use Rattle.plain_pcs.proofs.Heights.{all_opened_accepted, widths_each}
 use Rattle.plain_pcs.proofs.plain_mmcs.PlainMmcsMmcs.open_multi_batch.Goals as goal
@@ -45,6 +45,6 @@ returns-clause-accepted g c = λ k e.
     let all : c.loop-index.index-index ≡ length is = omega (arith, c.loop-index-test.false, c.loop-index.auto.index-index-end) in
     let each : EachFrom is openings (AreRowsAt ms) = record { count = c.loop-index.invariant.count ∙ all; each = λ i y q x p. (c.loop-index.invariant.each i y q x p).0 } in
     let whole = subst (λ n. EachOf n openings (λ i y. (x : ℕ) → slice_get is i ≡ Some x → AreRowsAt ms x y × (map (λ row. length row) y ≡ map (λ m. m.width) ms))) all c.loop-index.invariant in
-    subst (λ l. AreOpened g.T.PartialEq.eq l (dimensions_of ms) is openings) (sym e)
+    subst (λ l. AreRowOpenings g.T.PartialEq.eq l (dimensions_of ms) is openings) (sym e)
     (all_opened_accepted ms g.T.PartialEq.eq is openings g.met.T.Eq.laws (subst (λ l. All (λ m. IsPowerOfTwo (height m)) l) c.prover_data.view_is c.prover_data.invariant.heights) c.requires
     each (widths_each ms is openings (AreRowsAt ms) whole))

@@ -3,7 +3,7 @@ use Rattle.std.specs.Prelude.{All}
 use Rattle.std.specs.Int.{IsPowerOfTwo}
 use Rattle.p3_matrix.specs.Matrix.{height}
 use Rattle.p3_commit.specs.Batches.{lists, IsRowOf}
-use Rattle.plain_pcs.specs.PlainMmcs.{HasShape, AreTheRows}
+use Rattle.plain_pcs.specs.PlainMmcs.{HasOpeningShape, AreTheRows}
 use Rattle.plain_pcs.proofs.OpeningFaults.{wrong_opening, wrong_place, wrong_rows}
 use Rattle.plain_pcs.proofs.plain_mmcs.PlainMmcsMmcs.verify_batch.Goals as goal
 
@@ -14,20 +14,20 @@ are_the_rows-requires-clause-powers g c =
 pub returns-then-not-has_shape-clause-verdict : goal.returns-then-not-has_shape-clause-verdict
 returns-then-not-has_shape-clause-verdict g c =
     let rows = lists c.args.opening.opened_values.now in
-    wrong_opening _ _ _ (λ s. let e : false ≡ true = c.if-not-has_shape.ensures.1 (subst (λ l. HasShape l c.args.dimensions.now rows) (sym c.deref.ensures.value) s) in cc)
+    wrong_opening _ _ _ (λ s. let e : false ≡ true = c.if-not-has_shape.ensures.1 (subst (λ l. HasOpeningShape l c.args.dimensions.now rows) (sym c.deref.ensures.value) s) in cc)
 
 pub returns-then-not-is_row-clause-verdict : goal.returns-then-not-is_row-clause-verdict
 returns-then-not-is_row-clause-verdict g c =
     let rows = lists c.args.opening.opened_values.now in
     wrong_place _ _ _
-    (subst (λ l. HasShape l c.args.dimensions.now rows) c.deref.ensures.value (c.if-not-has_shape.ensures.0 refl))
+    (subst (λ l. HasOpeningShape l c.args.dimensions.now rows) c.deref.ensures.value (c.if-not-has_shape.ensures.0 refl))
     (λ p. let e : false ≡ true = c.if-not-is_row.ensures.1 (subst (λ l. IsRowOf l c.args.index) (sym c.deref-2.ensures.value) p) in cc)
 
 pub returns-then-not-are_the_rows-clause-verdict : goal.returns-then-not-are_the_rows-clause-verdict
 returns-then-not-are_the_rows-clause-verdict g c =
     let rows = lists c.args.opening.opened_values.now in
     wrong_rows _ _ _
-    (subst (λ l. HasShape l c.args.dimensions.now rows) c.deref.ensures.value (c.if-not-has_shape.ensures.0 refl))
+    (subst (λ l. HasOpeningShape l c.args.dimensions.now rows) c.deref.ensures.value (c.if-not-has_shape.ensures.0 refl))
     (subst (λ l. IsRowOf l c.args.index) c.deref-2.ensures.value (c.if-not-is_row.ensures.0 refl))
     (λ v. let e : false ≡ true = c.if-not-are_the_rows.ensures.1 (subst (λ l. AreTheRows g.T.PartialEq.eq l c.args.index rows) (sym c.deref-3.ensures.value) v) in cc)
 
@@ -35,7 +35,7 @@ pub returns-clause-verdict : goal.returns-clause-verdict
 returns-clause-verdict g c =
     let rows = lists c.args.opening.opened_values.now in
     record {
-      shape = subst (λ l. HasShape l c.args.dimensions.now rows) c.deref.ensures.value (c.if-not-has_shape.ensures.0 refl);
+      shape = subst (λ l. HasOpeningShape l c.args.dimensions.now rows) c.deref.ensures.value (c.if-not-has_shape.ensures.0 refl);
       place = subst (λ l. IsRowOf l c.args.index) c.deref-2.ensures.value (c.if-not-is_row.ensures.0 refl);
       values = subst (λ l. AreTheRows g.T.PartialEq.eq l c.args.index rows) c.deref-3.ensures.value (c.if-not-are_the_rows.ensures.0 refl);
     }

@@ -2,7 +2,7 @@ use Rattle.std.proofs.Common.{◌≡◌, ◌^◌, ◌∙◌, length, subst, sym,
 use Rattle.std.proofs.lemmas.List.{length-map}
 use Rattle.p3_matrix.specs.Laws.Powers.{one_shifted_left}
 use Rattle.p3_commit.specs.Batches.{lists}
-use Rattle.plain_pcs.specs.PlainMultilinear.{HaveCoordinates, IsFirstUnfit, IsFirstDifferent, values_at}
+use Rattle.plain_pcs.specs.PlainMultilinear.{HaveCoordinates, IsFirstUnfit, IsFirstDifferent, multilinear_values_at}
 use Rattle.plain_pcs.proofs.ClaimFaults.{length_fault, point_fault, count_fault, value_fault}
 use Rattle.plain_pcs.proofs.plain_multilinear.PlainMultilinearMultilinearPcs.verify.Goals as goal
 
@@ -40,10 +40,10 @@ returns-in-Some-first_different-clause-verdict g c =
     let i = c.in-Some-first_different.point in
     let fit : HaveCoordinates c.args.self.now points =
     subst (λ m. HaveCoordinates m points) c.self.view_is (subst (λ l. HaveCoordinates c.self.inside.num_vars (lists l)) c.deref.ensures.value c.in_default.ensures) in
-    let values : c.deref-5.result.now ≡ values_at ring embed vs points =
-    c.deref-5.ensures.value ∙ (c.in_ok-values.ensures ∙ (λ k. values_at ring embed (c.deref-2.ensures.value k) (lists (c.deref-3.ensures.value k)))) in
-    let first : IsFirstDifferent ring c.args.proof.now.items (values_at ring embed vs points) i =
-    subst (λ l. IsFirstDifferent ring l (values_at ring embed vs points) i) c.deref-4.ensures.value
+    let values : c.deref-5.result.now ≡ multilinear_values_at ring embed vs points =
+    c.deref-5.ensures.value ∙ (c.in_ok-values.ensures ∙ (λ k. multilinear_values_at ring embed (c.deref-2.ensures.value k) (lists (c.deref-3.ensures.value k)))) in
+    let first : IsFirstDifferent ring c.args.proof.now.items (multilinear_values_at ring embed vs points) i =
+    subst (λ l. IsFirstDifferent ring l (multilinear_values_at ring embed vs points) i) c.deref-4.ensures.value
     (subst (λ l. IsFirstDifferent ring c.deref-4.result.now l i) values c.in-Some-first_different.ensures) in
     value_fault ring embed c.args.self.now vs points c.args.proof.now.items i (search rules) fit
     (omega (arith, c.len-2.ensures, c.len-3.ensures, c.if-len.false, length-map c.args.protocol.now.items (λ v. v.items))) first

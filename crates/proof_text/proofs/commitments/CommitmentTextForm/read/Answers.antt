@@ -1,10 +1,10 @@
 use Rattle.line_format.specs.Laws.Stops.{handed-on, same-stops, same-reads, own-items}
-use Rattle.proof_text.specs.ProofText.{CommitmentWithin, commitment_words}
+use Rattle.proof_text.specs.ProofText.{CommitmentWithin, commitment_numbers}
 use Rattle.proof_text.specs.Laws.Commitments.{same-commitment}
 use Rattle.proof_text.proofs.commitments.CommitmentTextForm.read.Goals as goal
 
 pub returns-in_err-matrices : goal.returns-in_err-matrices
-returns-in_err-matrices c = handed-on (λ v. v) CommitmentWithin commitment_words _ _ _ c.in_err-matrices.field-0.0 c.from_residual.ensures.1
+returns-in_err-matrices c = handed-on (λ v. v) CommitmentWithin commitment_numbers _ _ _ c.in_err-matrices.field-0.0 c.from_residual.ensures.1
     (λ m. same-stops same-commitment (c.in_err-matrices.ensures m))
 
 pub returns : goal.returns

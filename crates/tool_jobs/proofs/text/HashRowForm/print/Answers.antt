@@ -1,6 +1,6 @@
 use Rattle.std.proofs.Common.{List, ℕ, ◌++◌, sym, ◌∙◌, ap}
 use Rattle.std.proofs.lemmas.Result.{on_ok_weaker}
-use Rattle.line_format.specs.Texts.{items_words, line_text, number_words}
+use Rattle.line_format.specs.Texts.{items_numbers, line_text, one_number}
 use Rattle.line_format.specs.Laws.Prints.{prints-items}
 use Rattle.tool_jobs.specs.Laws.Kinds.{numbers-own}
 use Rattle.tool_jobs.proofs.text.HashRowForm.print.Goals as goal
@@ -8,5 +8,5 @@ use Rattle.tool_jobs.proofs.text.HashRowForm.print.Goals as goal
 pub returns : goal.returns
 returns c =
     let row = c.args.value.now in
-    on_ok_weaker c.print_items.result (λ e. prints-items (items_words number_words) row _ _ e
+    on_ok_weaker c.print_items.result (λ e. prints-items (items_numbers one_number) row _ _ e
     ∙ ap (λ (l : List ℕ). c.args.out.now.items ++ line_text l) (sym (numbers-own row))) c.print_items.ensures

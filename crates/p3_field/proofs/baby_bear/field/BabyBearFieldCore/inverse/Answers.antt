@@ -1,13 +1,13 @@
 use Rattle.std.proofs.Common.{refl}
-use Rattle.p3_field.specs.BabyBear.{bear_ring, bear_inv}
+use Rattle.p3_field.specs.BabyBear.{baby_bear_ring, baby_bear_inv}
 use Rattle.p3_field.specs.Laws.Order.{pow_product}
-use Rattle.p3_field.specs.Laws.BearLaws.{bear_laws}
+use Rattle.p3_field.specs.Laws.BabyBearLaws.{baby_bear_laws}
 use Rattle.p3_field.proofs.baby_bear.field.BabyBearFieldCore.inverse.Goals as goal
 
 pub returns : goal.returns
-unfolding bear_inv
+unfolding baby_bear_inv
 returns c =
-    let r = bear_ring in let L = bear_laws in let x = c.args.self.now in
+    let r = baby_bear_ring in let L = baby_bear_laws in let x = c.args.self.now in
     let ones = c.product_of_squares.ensures.product in
     let square = c.product_of_squares.ensures.next in
     let s = c.product_of_squares.result.1 in

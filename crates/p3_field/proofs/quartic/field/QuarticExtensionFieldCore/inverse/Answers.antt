@@ -1,5 +1,5 @@
 use Rattle.std.proofs.Common.{◌≡◌, sym, ◌∙◌}
-use Rattle.p3_field.specs.BabyBear.{bear_inv}
+use Rattle.p3_field.specs.BabyBear.{baby_bear_inv}
 use Rattle.p3_field.specs.Quartic.{quartic_ring, quartic_norm}
 use Rattle.p3_field.specs.Laws.QuarticField.{norm_zero, norm_of_even, inverse_of_even, conjugate}
 use Rattle.p3_field.proofs.quartic.field.QuarticExtensionFieldCore.inverse.Goals as goal
@@ -18,5 +18,5 @@ returns c =
     let e = c.mul-product.result in
     let k = c.inverse-scale.result in
     let h : e ≡ quartic_ring.mul x (conjugate x) = cc in
-    let n : k ≡ bear_inv (quartic_norm x) = cc (norm_of_even x e h) in
+    let n : k ≡ baby_bear_inv (quartic_norm x) = cc (norm_of_even x e h) in
     cc (inverse_of_even x e k h n)
