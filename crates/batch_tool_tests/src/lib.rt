@@ -13,6 +13,8 @@ mod hash_jobs;
 #[cfg(test)]
 mod hashes;
 #[cfg(test)]
+mod job_values;
+#[cfg(test)]
 mod jobs;
 #[cfg(test)]
 mod made;

@@ -12,6 +12,7 @@ use Rattle.p3_matrix.specs.Laws.Flattened.{length-pieces}
 use Rattle.p3_matrix.specs.Laws.Grids.{product_fills}
 use Rattle.p3_field.specs.Laws.Tabulate.{length-tabulate, get_or-tabulate, tabulate_more}
 use Rattle.example_air.specs.Bytes.{bits_row, byte_times}
+use Rattle.example_air.specs.Laws.Sizes.{row-long}
 
 -- one cell more after a list
 pub cells-more : {A : Type 0} (front : List A) (f : ℕ → A) (n : ℕ) (old new : List A) (x : A) → old ≡ front ++ tabulate n f → new ≡ old ++ x ∷ [] → x ≡ f n → new ≡ front ++ tabulate (n + 1) f
@@ -61,10 +62,6 @@ pub times-few : (bytes counts : List ℕ) (n k m : ℕ) → k < 256 → n ≤ le
 times-few bytes counts n k m lt inside few e =
     let is : get_or counts k 0 ≡ byte_times (take n bytes) k = ap (λ (l : List ℕ). get_or l k 0) e ∙ get_or-tabulate 256 (byte_times (take n bytes)) k 0 lt in
     omega (arith, is, count_by-le-length (λ x. x == k) (take n bytes), length-take n bytes, inside, few)
-
-pub row-long : {A : Type 0} (r : Ring A) (byte : ℕ) → length (bits_row r byte) ≡ 9
-unfolding bits_row
-row-long r byte = refl
 
 -- rows of nine cells fill whole rows
 pub rows-fill : {A : Type 0} (r : Ring A) (bytes : List ℕ) (values : List A) → values ≡ flat_map (bits_row r) bytes → FillsRows values 9

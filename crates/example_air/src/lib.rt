@@ -9,8 +9,6 @@ mod air;
 mod meanings;
 mod prove;
 mod statement;
-#[cfg(test)]
-mod tests;
 mod traces;
 mod verify;
 

@@ -4,6 +4,8 @@
 #[cfg(test)]
 mod encodings;
 #[cfg(test)]
+mod example;
+#[cfg(test)]
 mod playing;
 pub mod root;
 pub mod runs;

@@ -18,6 +18,3 @@ pub use job::{statements_of, traces_of};
 pub use meanings::airs_are_the_jobs;
 pub use table::{GivenWord, JobTable};
 pub use text::{WholeJob, read_job, write_job};
-
-#[cfg(test)]
-mod tests;

@@ -1,4 +1,4 @@
-use Rattle.example_air.proofs.Traced.{are_tables}
+use Rattle.example_air.specs.Laws.Sizes.{are_tables}
 use Rattle.example_air.proofs.prove.prove_bytes.Goals as goal
 
 pub prove_tables-requires : goal.prove_tables-requires

@@ -3,8 +3,8 @@ ghost use Rattle.std.specs.Int.{IsPowerOfTwo};
 ghost use Rattle.std.specs.Prelude.{◌≡◌, ◌<◌, ◌≤◌, IfOk, length};
 ghost use Rattle.p3_matrix.specs.Matrix.{height};
 
-use super::*;
 use batch_statement::{BatchProof, BatchVerificationError};
+use example_air::{bits_trace, bytes_trace, prove_bytes, prove_tables, verify_bytes};
 use p3_field::{BabyBear, Mem, RingCore};
 use p3_lookup::LookupError;
 use p3_matrix::RowMajorMatrix;

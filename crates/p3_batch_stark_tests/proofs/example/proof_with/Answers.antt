@@ -1,6 +1,6 @@
 use Rattle.std.proofs.Common.{◌∷◌, [], refl, arith}
-use Rattle.example_air.proofs.Traced.{are_tables, of_same_size}
-use Rattle.example_air.proofs.tests.proof_with.Goals as goal
+use Rattle.example_air.specs.Laws.Sizes.{are_tables, of_same_size}
+use Rattle.p3_batch_stark_tests.proofs.example.proof_with.Goals as goal
 
 pub prove_tables-requires : goal.prove_tables-requires
 prove_tables-requires c =

@@ -1,5 +1,5 @@
 use Rattle.std.proofs.Common.{refl}
-use Rattle.example_air.proofs.tests.bytes_are_accepted.Goals as goal
+use Rattle.p3_batch_stark_tests.proofs.example.bytes_are_accepted.Goals as goal
 
 pub prove_bytes-requires-clause-power : goal.prove_bytes-requires-clause-power
 prove_bytes-requires-clause-power g c = (3, refl)
