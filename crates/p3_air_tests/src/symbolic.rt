@@ -87,6 +87,10 @@ fn swap_has_five_constraints(rt: HostRuntime) -> Result<(), Fail> {
         multiples.push(c.degree_multiple())?;
     }
     assert_eq!(rt; multiples.as_slice(), [2usize, 2, 1, 1, 2].as_slice());
+    // The largest of these, and over eight rows: two polynomials of degree 7, multiplied.
+    assert_eq!(rt; builder.largest_degree_multiple(0)?, 2);
+    assert_eq!(rt; builder.largest_degree_multiple(3)?, 4);
+    assert_eq!(rt; builder.largest_poly_degree(8, &[])?, 14);
     let places = builder.constraint_layout(alloc)?;
     assert_eq!(rt;
         places.base_indices.as_slice(),
