@@ -1,5 +1,5 @@
-//! How many challenges may be unlucky for a swap table of eight rows, in numbers: by the calls that give its constraints, their
-//! degrees and the number of its quotient's chunks.
+//! How many challenges may be unlucky for a swap table and for a hash table of eight rows, in numbers: by the calls that give their
+//! constraints, these constraints' degrees and the number of the quotient's chunks.
 ghost use Rattle.std.specs.Prelude.{◌≡◌, ◌+◌, ◌-◌, ◌*◌, ◌^◌, ◌<◌, [], max, map, All, IfSome};
 ghost use Rattle.p3_air.specs.Degree.{HasPeriod, polynomial_degree};
 ghost use Rattle.p3_air.specs.Shape.{ReadsIn};
@@ -8,7 +8,8 @@ ghost use Rattle.p3_air.specs.Degree.{greatest};
 
 use batch_constraints::{get_log_num_quotient_chunks, get_symbolic_constraints};
 use batch_tables::SwapAir;
-use p3_air::{AirLayout, SymbolicExpression};
+use p3_air::{Air, AirLayout, InteractionSymbolicBuilder, SymbolicExpression};
+use p3_blake3_air::Blake3Air;
 use p3_field::{BabyBear, FieldCore, RingCore};
 use p3_lookup::LogUpGadget;
 use std::alloc::Global;
@@ -73,5 +74,28 @@ fn swap_of_eight_rows(rt: HostRuntime) -> Result<(), Fail> {
     assert_eq!(rt; most_alphas(8, constraints.0.len()), Some(32));
     assert_eq!(rt; degree, 14);
     assert_eq!(rt; most_zetas(8, degree, log_chunks), Some(15));
+    Ok(())
+}
+
+#[test]
+fn hashes_of_eight_rows(rt: HostRuntime) -> Result<(), Fail> {
+    let alloc = rt.alloc();
+    let layout = AirLayout::from_air::<BabyBear, Blake3Air>(&Blake3Air {});
+    let mut builder = InteractionSymbolicBuilder::<BabyBear>::new(alloc, layout)?;
+    Blake3Air {}.eval(&mut builder)?;
+    let constraints = builder.constraint_layout(alloc)?.total_constraints();
+    let degree = builder.largest_poly_degree(8, &[])?;
+    let log_chunks = get_log_num_quotient_chunks::<BabyBear, Blake3Air, LogUpGadget>(
+        alloc,
+        &Blake3Air {},
+        layout,
+        8,
+        &[],
+        0,
+        &LogUpGadget::new(),
+    )?;
+    assert_eq!(rt; most_alphas(8, constraints), Some(77048));
+    assert_eq!(rt; degree, 21);
+    assert_eq!(rt; most_zetas(8, degree, log_chunks), Some(23));
     Ok(())
 }
