@@ -1,6 +1,6 @@
 -- The first of several items that is refused, and the only cause.
 use Rattle.std.proofs.Common.{◌≡◌, ℕ, zero, suc, ◌+◌, ◌<◌, inl, inr, List, [], ◌∷◌, ◌++◌, Some, length, get_or, refl, subst, sym, ◌∙◌, ap, arith, rules}
-use Rattle.std.specs.Prelude.{slice_get, Result, Ok, Err, IsErrAnd, IfOk}
+use Rattle.std.specs.Prelude.{◌⊎◌, slice_get, Result, Ok, Err, IsErrAnd, IfOk}
 use Rattle.std.proofs.lemmas.Bool.{cases_lt}
 use Rattle.std.proofs.lemmas.List.{length_push}
 use Rattle.std.proofs.lemmas.Option.{slice_get_within, get_or_from_slice_get}
@@ -20,11 +20,24 @@ handed_on V P Q leads (Ok w) f h k = absurd h
 handed_on V P Q leads (Err OutOfMemory) f h k = search rules
 handed_on V P Q leads (Err (Refused e)) f h k = leads e (subst (λ x. RefusedBy {T = V} P (Err x)) (sym h) k)
 
+-- an answer that is refused for causes which lead to others
+pub refused_as : {T E : Type 0} (P Q : E → Type 0) → ((e : E) → P e → Q e) → (NoneOf P → NoneOf Q) → (r : Result T (PcsFailure E)) → RefusedBy P r → RefusedBy Q r
+refused_as P Q leads granted (Ok w) h = granted h
+refused_as P Q leads granted (Err OutOfMemory) h = h
+refused_as P Q leads granted (Err (Refused e)) h = leads e h
+
 -- where it is one of several causes
 pub handed_as_one : {T E : Type 0} (V : Type 0) (P Q : E → Type 0) → ((e : E) → P e → Q e) → (r : Result T (PcsFailure E)) (f : PcsFailure E) → IsErrAnd r (λ x. x ≡ f) → RefusedBy {T = V} P (Err f) → IfRefused r Q
 handed_as_one V P Q leads (Ok w) f h k = absurd h
 handed_as_one V P Q leads (Err OutOfMemory) f h k = search rules
 handed_as_one V P Q leads (Err (Refused e)) f h k = leads e (subst (λ x. RefusedBy {T = V} P (Err x)) (sym h) k)
+
+-- neither of two calls is refused
+pub none_of_two : {E : Type 0} (P Q : E → Type 0) → NoneOf P → NoneOf Q → NoneOf (λ e. P e ⊎ (NoneOf P × Q e))
+none_of_two P Q f g = λ e h. elim h [
+  | inl a ↦ f e a
+  | inr b ↦ g e b.1
+]
 
 -- two calls in turn, of which the first is not refused
 pub refused_in_turn : {T U E : Type 0} (first : E → Type 0) (gives : U → Type 0) (second : U → E → Type 0) (u : U) → NoneOf first → gives u → (r : Result T (PcsFailure E)) → IfRefused r (second u) → IfRefused r (FaultInTurn first gives second)

@@ -33,6 +33,11 @@ shapes_along {D} {E} {C} {P} {A} ls ks ws vs h k S =
     subst (λ (l : List (CommittedRoundData D E C P)). EachFrom l (map round_in ws) (λ k ys. HaveRoundShape k.domains k.points ys)) (sym h)
     (subst (λ (l : List (Vec (Vec (Vec E A) A) A)). EachFrom ks (map round_in l) (λ k ys. HaveRoundShape k.domains k.points ys)) (sym k) S)
 
+-- there are as many lists of values as rounds
+pub counts_along : {D E C P A : Type 0} (ls ks : List (CommittedRoundData D E C P)) (ws vs : List (Vec (Vec (Vec E A) A) A)) → ls ≡ ks → ws ≡ vs → EachFrom ks (map round_in vs) (λ k ys. HaveRoundShape k.domains k.points ys)
+    → length ws ≡ length ls
+counts_along ls ks ws vs h k S = ap length k ∙ (sym (length-map vs round_in) ∙ (S.count ∙ sym (ap length h)))
+
 -- h holds the polynomials of a round that was committed to
 pub record IsOpenedRound {D F E C P : Type 0} (r : Ring F) (points : D → ℕ) (point_at : D → ℕ → F) (commits : List (D × Rows F) → C → Type 0) (made : P → Type 0) (holds : P → C → List (Committed F) → Type 0) (round : RoundData D F E) (k : CommittedRoundData D E C P) (h : OpenedCommitment C F) : Type 0 where
   pub prover_rounds : IsCommittedRound r points point_at commits made holds round k

@@ -173,7 +173,8 @@ pub(crate) fn claims_of<E: ExtensionField<P::Val>, C, P: Pcs<E, C>>(
     prover_rounds: &[CommittedRound<P::Domain, E, P::Commitment, P::ProverData>],
     values: &[Vec<Vec<Vec<E>>>],
 ) -> Mem<Vec<CommitmentOpening<E, P::Commitment, P::Domain>>>
-    requires { EachFrom prover_rounds.now (map round_in values.now) (λ k ys. HaveRoundShape k.domains k.points ys) }
+    requires count { length values.now ≡ length prover_rounds.now }
+    requires shapes { EachFrom prover_rounds.now (map round_in values.now) (λ k ys. HaveRoundShape k.domains k.points ys) }
     ensures { IfOk result (λ v. v.items ≡ round_claims prover_rounds.now (map round_in values.now)) }
 {
     let mut claims = Vec::with_capacity(alloc, values.len())?;

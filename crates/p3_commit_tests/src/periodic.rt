@@ -9,6 +9,7 @@ use p3_field::{
 };
 use p3_matrix::{RowMajorMatrix, is_power_of_two};
 use std::alloc::Global;
+use std::process::Abort;
 use std::test::Fail;
 
 type Coset = TwoAdicMultiplicativeCoset<BabyBear>;
@@ -39,39 +40,42 @@ fn refusal(
     Ok(PeriodicColumns::new(&columns, height).err())
 }
 
+// Compares what is wrong with columns of these lengths.
+fn assert_refusal(
+    rt: &impl Abort,
+    alloc: Global,
+    lengths: &[usize],
+    height: usize,
+    error: PeriodicColumnShapeError,
+) -> Result<(), Fail> {
+    assert_eq!(rt; refusal(alloc, lengths, height)?, Some(error));
+    Ok(())
+}
+
 #[test]
 fn first_unfit_column(rt: HostRuntime) -> Result<(), Fail> {
     let alloc = rt.alloc();
-    assert_eq!(rt;
-        refusal(alloc, &[4, 6, 5], 8)?,
-        Some(PeriodicColumnShapeError::LengthNotPowerOfTwo {
-            index: 1,
-            length: 6
-        })
-    );
-    assert_eq!(rt;
-        refusal(alloc, &[8], 12)?,
-        Some(PeriodicColumnShapeError::LengthNotDividingHeight {
-            index: 0,
-            length: 8,
-            height: 12
-        })
-    );
-    assert_eq!(rt;
-        refusal(alloc, &[0], 8)?,
-        Some(PeriodicColumnShapeError::LengthNotPowerOfTwo {
-            index: 0,
-            length: 0
-        })
-    );
-    assert_eq!(rt;
-        refusal(alloc, &[3], 8)?,
-        Some(PeriodicColumnShapeError::LengthNotPowerOfTwo {
-            index: 0,
-            length: 3
-        })
-    );
-    Ok(())
+    let second = PeriodicColumnShapeError::LengthNotPowerOfTwo {
+        index: 1,
+        length: 6,
+    };
+    assert_refusal(&rt, alloc, &[4, 6, 5], 8, second)?;
+    let divisor = PeriodicColumnShapeError::LengthNotDividingHeight {
+        index: 0,
+        length: 8,
+        height: 12,
+    };
+    assert_refusal(&rt, alloc, &[8], 12, divisor)?;
+    let empty = PeriodicColumnShapeError::LengthNotPowerOfTwo {
+        index: 0,
+        length: 0,
+    };
+    assert_refusal(&rt, alloc, &[0], 8, empty)?;
+    let three = PeriodicColumnShapeError::LengthNotPowerOfTwo {
+        index: 0,
+        length: 3,
+    };
+    assert_refusal(&rt, alloc, &[3], 8, three)
 }
 
 // A clone, over the bound alone.
@@ -79,29 +83,38 @@ fn cloned<T: Clone>(x: &T) -> Mem<T> {
     x.clone()
 }
 
+// Compares the number of columns of these lengths, their height, which is that of the trace, and their largest length.
+fn assert_shape(
+    rt: &impl Abort,
+    alloc: Global,
+    lengths: &[usize],
+    shape: (usize, usize, Option<usize>),
+) -> Result<(), Fail> {
+    let columns = columns_of(alloc, lengths)?;
+    let columns = PeriodicColumns::new(&columns, shape.1)?;
+    assert_eq!(rt;
+        (columns.len(), columns.height(), columns.max_period()),
+        shape
+    );
+    assert_eq!(rt; columns.is_empty(), shape.0 == 0);
+    Ok(())
+}
+
 #[test]
 fn fit_columns(rt: HostRuntime) -> Result<(), Fail> {
     let alloc = rt.alloc();
-    let three = columns_of(alloc, &[2, 8, 4])?;
+    assert_shape(&rt, alloc, &[2, 8, 4], (3, 8, Some(8)))?;
+    assert_shape(&rt, alloc, &[], (0, 7, None))?;
+    assert_shape(&rt, alloc, &[4], (1, 0, Some(4)))
+}
+
+#[test]
+fn copies_of_columns(rt: HostRuntime) -> Result<(), Fail> {
+    let three = columns_of(rt.alloc(), &[2, 8, 4])?;
     let three = PeriodicColumns::new(&three, 8)?;
-    assert_eq!(rt;
-        (three.len(), three.height(), three.max_period()),
-        (3, 8, Some(8))
-    );
-    assert!(rt; !three.is_empty());
     assert_eq!(rt; three.as_slice().len(), 3);
     let again = cloned(&three)?;
     assert_eq!(rt; (again.len(), again.height()), (3, 8));
-    let none = columns_of(alloc, &[])?;
-    let none = PeriodicColumns::new(&none, 7)?;
-    assert_eq!(rt;
-        (none.len(), none.height(), none.max_period()),
-        (0, 7, None)
-    );
-    assert!(rt; none.is_empty());
-    let one = columns_of(alloc, &[4])?;
-    let one = PeriodicColumns::new(&one, 0)?;
-    assert_eq!(rt; (one.len(), one.max_period()), (1, Some(4)));
     Ok(())
 }
 
@@ -149,29 +162,52 @@ fn group_period(alloc: Global, height: usize, pack_width: usize) -> Mem<Option<u
     Ok(table.map(|table| table.packed_group_period(pack_width)))
 }
 
-#[test]
-fn groups_of_rows(rt: HostRuntime) -> Result<(), Fail> {
-    let alloc = rt.alloc();
-    assert_eq!(rt; group_period(alloc, 8, 3)?, Some(8));
-    assert_eq!(rt; group_period(alloc, 8, 6)?, Some(4));
-    assert_eq!(rt; group_period(alloc, 8, 1)?, Some(8));
-    assert_eq!(rt; group_period(alloc, 8, 4)?, Some(2));
-    assert_eq!(rt; group_period(alloc, 8, 8)?, Some(1));
-    assert_eq!(rt; group_period(alloc, 4, 8)?, Some(1));
-    assert_eq!(rt; group_period(alloc, 1, 3)?, Some(1));
-    let empty = PeriodicLdeTable::<BabyBear>::empty(alloc);
-    assert_eq!(rt; empty.packed_group_period(3), 0);
+// Compares the period of the groups of a table of this height.
+fn assert_period(
+    rt: &impl Abort,
+    alloc: Global,
+    height: usize,
+    pack_width: usize,
+    period: usize,
+) -> Result<(), Fail>
+    requires { 0 < pack_width }
+{
+    assert_eq!(rt; group_period(alloc, height, pack_width)?, Some(period));
     Ok(())
 }
 
 #[test]
-fn rows_of_a_table(rt: HostRuntime) -> Result<(), Fail> {
-    let table = table_of(rt.alloc(), &[bear(5), bear(7)])?.ok_or("no table")?;
+fn groups_of_rows(rt: HostRuntime) -> Result<(), Fail> {
+    let alloc = rt.alloc();
+    assert_period(&rt, alloc, 8, 3, 8)?;
+    assert_period(&rt, alloc, 8, 6, 4)?;
+    assert_period(&rt, alloc, 8, 1, 8)?;
+    assert_period(&rt, alloc, 8, 4, 2)?;
+    assert_period(&rt, alloc, 8, 8, 1)?;
+    assert_period(&rt, alloc, 4, 8, 1)?;
+    assert_period(&rt, alloc, 1, 3, 1)
+}
+
+#[test]
+fn groups_of_no_rows(rt: HostRuntime) -> Result<(), Fail> {
+    let empty = PeriodicLdeTable::<BabyBear>::empty(rt.alloc());
+    assert_eq!(rt; empty.packed_group_period(3), 0);
+    Ok(())
+}
+
+// Compares a table with one column of the values 5 and 7.
+fn assert_rows(rt: &impl Abort, table: &PeriodicLdeTable<BabyBear>) {
     assert_eq!(rt; table.height(), 2);
     assert_eq!(rt; table.width(), 1);
     assert!(rt; !table.is_empty());
     assert_eq!(rt; *table.get(0, 0), bear(5));
     assert_eq!(rt; *table.get(3, 0), bear(7));
+}
+
+#[test]
+fn rows_of_a_table(rt: HostRuntime) -> Result<(), Fail> {
+    let table = table_of(rt.alloc(), &[bear(5), bear(7)])?.ok_or("no table")?;
+    assert_rows(&rt, &table);
     Ok(())
 }
 
@@ -183,17 +219,29 @@ fn two_columns(alloc: Global) -> Mem<Vec<Vec<BabyBear>>> {
     Ok(columns)
 }
 
-#[test]
-fn values_of_periodic_columns(rt: HostRuntime) -> Result<(), Fail> {
-    let alloc = rt.alloc();
+// The values at a point of the columns (5, 9) and (4) over four points.
+fn values_at<E: ExtensionField<BabyBear>>(
+    rt: &impl Abort,
+    alloc: Global,
+    point: E,
+) -> Result<Vec<E>, Fail> {
     let domain = Coset::new(bear(1), 2).ok_or("no coset")?;
     let columns = two_columns(alloc)?;
     let columns = PeriodicColumns::new(&columns, 4)?;
     assert_eq!(rt; PolynomialSpace::size(&domain), columns.height());
-    let values = domain.evaluate_periodic_columns_at(alloc, columns, bear(3))?;
+    Ok(domain.evaluate_periodic_columns_at(alloc, columns, point)?)
+}
+
+#[test]
+fn values_of_periodic_columns(rt: HostRuntime) -> Result<(), Fail> {
+    let values = values_at(&rt, rt.alloc(), bear(3))?;
     assert_eq!(rt; values.as_slice(), [-bear(11), bear(4)].as_slice());
-    let point = QuarticExtension::from_u64(3);
-    let values = domain.evaluate_periodic_columns_at(alloc, columns, point)?;
+    Ok(())
+}
+
+#[test]
+fn values_over_an_extension(rt: HostRuntime) -> Result<(), Fail> {
+    let values = values_at(&rt, rt.alloc(), QuarticExtension::from_u64(3))?;
     assert_eq!(rt;
         values.as_slice(),
         [
@@ -239,19 +287,24 @@ fn values_of_no_column(rt: HostRuntime) -> Result<(), Fail> {
 
 #[test]
 fn evaluator_of_no_column(rt: HostRuntime) -> Result<(), Fail> {
-    let alloc = rt.alloc();
     let domain = Coset::new(bear(1), 2).ok_or("no coset")?;
     let larger = Coset::new(bear(31), 3).ok_or("no coset")?;
     let table = <() as PeriodicEvaluator<BabyBear, Coset>>::eval_on_lde(
-        alloc,
+        rt.alloc(),
         &[],
         &domain,
         &larger,
     )?;
     assert!(rt; table.is_empty());
     assert_eq!(rt; (table.width(), table.height()), (0, 0));
+    Ok(())
+}
+
+#[test]
+fn evaluator_at_a_point(rt: HostRuntime) -> Result<(), Fail> {
+    let domain = Coset::new(bear(1), 2).ok_or("no coset")?;
     let values = <() as PeriodicEvaluator<BabyBear, Coset>>::eval_at_point(
-        alloc,
+        rt.alloc(),
         &[],
         &domain,
         bear(3),

@@ -25,7 +25,7 @@ pub constant_sendable : (x : BabyBear) → IsSendableByColumn (Constant x ∷ []
 unfolding trees_after
 constant_sendable x s h = tt
 
-none_of : {X : Type 0} (P : X → Type 0) → All P []
+pub none_of : {X : Type 0} (P : X → Type 0) → All P []
 none_of P k d l = absurd (omega (arith, l))
 
 -- what holds of one item, or of two, holds of all of their list

@@ -1,7 +1,7 @@
 //! The lookups of a batch: bases, terminals and the bound on multiplicities.
 ghost use Rattle.std.specs.Prelude.{◌≡◌, ◌<◌, IfOk, length};
 
-use crate::support::{bear, cell, count, on_bus};
+use crate::support::{bear, cell, count, kind_of};
 use p3_field::{BabyBear, FieldCore, Mem, RingCore};
 use p3_lookup::{
     Challenges, Kind, LogUpGadget, Lookup, LookupError, LookupProtocol, LookupTerminal, Lookups,
@@ -48,42 +48,53 @@ fn bounded(alloc: Global, kind: Kind, bound: u32) -> Mem<Lookups<BabyBear>> {
     Ok(Lookups::new(vec![in alloc; lookup]?))
 }
 
-// The first bus whose sum of bounds times heights reaches the order.
+// The first bus whose sum of bounds times heights reaches the order, or the largest number where something else is
+// wrong.
 fn overload(lookups: &[Lookups<BabyBear>], heights: &[usize]) -> Option<usize>
     requires { length heights.now ≡ length lookups.now }
 {
     match check_multiplicity_height_bound(lookups, heights) {
+        Ok(()) => None,
         Err(LookupError::MultiplicityBound { bus }) => Some(bus),
-        _ => None,
+        Err(_) => Some(usize::MAX),
     }
+}
+
+// The bus of one table of this height that is overloaded by this bound.
+fn overload_of_one(alloc: Global, bound: u32, height: usize) -> Mem<Option<usize>> {
+    let lookups = vec![in alloc; bounded(alloc, Kind::Local, bound)?]?;
+    Ok(overload(&lookups, &[height]))
 }
 
 // 1024 times 2^20 is below the order 15 * 2^27 + 1, and 1024 times 2^21 is above it.
 #[test]
 fn bound_of_one_table(rt: HostRuntime) -> Result<(), Fail> {
     let alloc = rt.alloc();
-    let lookups = vec![in alloc; bounded(alloc, Kind::Local, 1024)?]?;
-    assert!(rt; check_multiplicity_height_bound(&lookups, &[1 << 20]).is_ok());
-    assert_eq!(rt; overload(&lookups, &[1 << 21]), Some(0));
-    let lookups = vec![in alloc; bounded(alloc, Kind::Local, 1)?]?;
-    assert!(rt; check_multiplicity_height_bound(&lookups, &[2_013_265_920]).is_ok());
-    assert_eq!(rt; overload(&lookups, &[2_013_265_921]), Some(0));
+    assert_eq!(rt; overload_of_one(alloc, 1024, 1 << 20)?, None);
+    assert_eq!(rt; overload_of_one(alloc, 1024, 1 << 21)?, Some(0));
+    assert_eq!(rt; overload_of_one(alloc, 1, 2_013_265_920)?, None);
+    assert_eq!(rt; overload_of_one(alloc, 1, 2_013_265_921)?, Some(0));
     Ok(())
+}
+
+// The bus that two tables of these heights overload, each with the bound 1024 on the bus of this name.
+fn overload_of_two(alloc: Global, name: &str, first: usize, second: usize) -> Mem<Option<usize>> {
+    let one = bounded(alloc, kind_of(alloc, name)?, 1024)?;
+    let other = bounded(alloc, kind_of(alloc, name)?, 1024)?;
+    let lookups = vec![in alloc; one, other]?;
+    Ok(overload(&lookups, &[first, second]))
 }
 
 // Two tables on one bus add up; on buses of their own they don't.
 #[test]
 fn bound_of_two_tables(rt: HostRuntime) -> Result<(), Fail> {
     let alloc = rt.alloc();
-    let first = bounded(alloc, on_bus(alloc, "values")?, 1024)?;
-    let second = bounded(alloc, on_bus(alloc, "values")?, 1024)?;
-    let lookups = vec![in alloc; first, second]?;
-    assert!(rt; check_multiplicity_height_bound(&lookups, &[1 << 20, 1 << 19]).is_ok());
-    assert_eq!(rt; overload(&lookups, &[1 << 20, 1 << 20]), Some(0));
-    let first = bounded(alloc, Kind::Local, 1024)?;
-    let second = bounded(alloc, Kind::Local, 1024)?;
-    let lookups = vec![in alloc; first, second]?;
-    assert!(rt; check_multiplicity_height_bound(&lookups, &[1 << 20, 1 << 20]).is_ok());
-    assert_eq!(rt; overload(&lookups, &[1 << 20, 1 << 21]), Some(1));
+    assert_eq!(rt; overload_of_two(alloc, "values", 1 << 20, 1 << 19)?, None);
+    assert_eq!(rt;
+        overload_of_two(alloc, "values", 1 << 20, 1 << 20)?,
+        Some(0)
+    );
+    assert_eq!(rt; overload_of_two(alloc, "", 1 << 20, 1 << 20)?, None);
+    assert_eq!(rt; overload_of_two(alloc, "", 1 << 20, 1 << 21)?, Some(1));
     Ok(())
 }

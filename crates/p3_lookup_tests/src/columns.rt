@@ -1,9 +1,10 @@
 //! Permutation columns of worked tables.
 ghost use Rattle.std.specs.Prelude.{◌≡◌, ◌*◌, ◌<◌, IfOk, length};
+ghost use Rattle.p3_lookup_tests.specs.Taken.{IsTakenLookup};
 
 use crate::support::{bear, bears, cell, generated, on_bus, single, take, take_both};
-use p3_field::{BabyBear, FieldCore, RingCore};
-use p3_lookup::{GenerateError, Kind, LookupTerminal};
+use p3_field::{BabyBear, FieldCore, Mem, RingCore};
+use p3_lookup::{GenerateError, Kind, Lookup, LookupTerminal};
 use p3_matrix::RowMajorMatrix;
 use std::alloc::Global;
 use std::process::Abort;
@@ -99,23 +100,29 @@ fn pairs(rt: HostRuntime) -> Result<(), Fail> {
     Ok(())
 }
 
+// The first denominator that is zero for the cells 1, 2, 3, taken over this challenge, and over 3 in this lookup.
+fn zero_beside(
+    alloc: Global,
+    challenge: u64,
+    second: Lookup<BabyBear>,
+) -> Mem<Option<(usize, usize, usize)>>
+    requires { IsTakenLookup second }
+{
+    let lookups = vec![in alloc; take(alloc, Kind::Local, 1)?, second]?;
+    let challenges = [bear(challenge), bear(2), bear(3), bear(2)];
+    let answer = generated(alloc, &[1, 2, 3], &lookups, &challenges);
+    Ok(zero_of(&answer))
+}
+
 #[test]
 fn first_zero(rt: HostRuntime) -> Result<(), Fail> {
     let alloc = rt.alloc();
-    let lookups = vec![in alloc; take(alloc, Kind::Local, 1)?, take(alloc, Kind::Local, 1)?]?;
-    let challenges = [bear(7), bear(2), bear(3), bear(2)];
-    let answer = generated(alloc, &[1, 2, 3], &lookups, &challenges);
-    assert_eq!(rt; zero_of(&answer), Some((2, 1, 0)));
-    let challenges = [bear(3), bear(2), bear(3), bear(2)];
-    let answer = generated(alloc, &[1, 2, 3], &lookups, &challenges);
-    assert_eq!(rt; zero_of(&answer), Some((2, 0, 0)));
-    let lookups = vec![in alloc;
-        take(alloc, Kind::Local, 1)?,
-        take_both(alloc, Kind::Local, 1)?,
-    ]?;
-    let challenges = [bear(7), bear(2), bear(3), bear(2)];
-    let answer = generated(alloc, &[1, 2, 3], &lookups, &challenges);
-    assert_eq!(rt; zero_of(&answer), Some((1, 1, 1)));
+    let zero = zero_beside(alloc, 7, take(alloc, Kind::Local, 1)?)?;
+    assert_eq!(rt; zero, Some((2, 1, 0)));
+    let zero = zero_beside(alloc, 3, take(alloc, Kind::Local, 1)?)?;
+    assert_eq!(rt; zero, Some((2, 0, 0)));
+    let zero = zero_beside(alloc, 7, take_both(alloc, Kind::Local, 1)?)?;
+    assert_eq!(rt; zero, Some((1, 1, 1)));
     Ok(())
 }
 

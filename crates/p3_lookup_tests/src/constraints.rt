@@ -7,9 +7,10 @@ use crate::support::{bear, bears, generated, on_bus, take, take_both};
 use crate::two_sends::TwoSends;
 use p3_air::{AirLayout, DebugConstraintBuilder, InteractionSymbolicBuilder, RowValues};
 use p3_field::{BabyBear, FieldCore, Mem, RingCore};
-use p3_lookup::{Kind, LogUpGadget, Lookup, LookupProtocol};
+use p3_lookup::{GenerateError, Kind, LogUpGadget, Lookup, LookupProtocol};
 use p3_matrix::RowMajorMatrix;
 use std::alloc::Global;
+use std::process::Abort;
 use std::test::Fail;
 
 // The layout of a table of one column with one lookup.
@@ -45,19 +46,33 @@ fn recorded(alloc: Global, lookup: Lookup<BabyBear>) -> Mem<InteractionSymbolicB
     Ok(builder)
 }
 
-// The fraction, the first row, the transition and the last row.
-#[test]
-fn four_constraints(rt: HostRuntime) -> Result<(), Fail> {
-    let alloc = rt.alloc();
-    let builder = recorded(alloc, take(alloc, Kind::Local, 1)?)?;
-    assert_eq!(rt; builder.base_constraints(alloc)?.len(), 0);
-    assert_eq!(rt; builder.num_interactions(), 2);
+// The degrees of the builder's constraints over the extension.
+fn degrees(alloc: Global, builder: &InteractionSymbolicBuilder<BabyBear>) -> Mem<Vec<usize>> {
     let mut degrees = Vec::new(alloc);
     for constraint in &builder.extension_constraints(alloc)? {
         degrees.push(constraint.degree_multiple())?;
     }
+    Ok(degrees)
+}
+
+// Compares the builder with the fraction, the first row, the transition and the last row.
+fn assert_recorded(
+    rt: &impl Abort,
+    alloc: Global,
+    builder: &InteractionSymbolicBuilder<BabyBear>,
+) -> Result<(), Fail> {
+    assert_eq!(rt; builder.base_constraints(alloc)?.len(), 0);
+    assert_eq!(rt; builder.num_interactions(), 2);
+    let degrees = degrees(alloc, builder)?;
     assert_eq!(rt; degrees.as_slice(), [2usize, 2, 1, 2].as_slice());
     Ok(())
+}
+
+#[test]
+fn four_constraints(rt: HostRuntime) -> Result<(), Fail> {
+    let alloc = rt.alloc();
+    let builder = recorded(alloc, take(alloc, Kind::Local, 1)?)?;
+    assert_recorded(&rt, alloc, &builder)
 }
 
 // Whether the columns are those of these lookups beside a table of one column, with two challenges for each, and have the row.
@@ -117,26 +132,37 @@ fn values_in(
     Vec::from_slice(alloc, builder.values())
 }
 
-// Each of the five constraints is zero in each row, and the last one is not for a foreign terminal.
-#[test]
-fn generated_columns_meet_the_constraints(rt: HostRuntime) -> Result<(), Fail> {
-    let alloc = rt.alloc();
-    let lookups = vec![in alloc;
-        take(alloc, on_bus(alloc, "values")?, 2)?,
-        take_both(alloc, Kind::Local, 3)?,
-    ]?;
+// A lookup on a bus and one of two tuples within the table.
+fn two_lookups(alloc: Global) -> Mem<Vec<Lookup<BabyBear>>>
+    ensures size { IfOk result (λ v. length v.items ≡ 2) }
+    ensures taken { IfOk result (λ v. All IsTakenLookup v.items) }
+{
+    let first = take(alloc, on_bus(alloc, "values")?, 2)?;
+    let second = take_both(alloc, Kind::Local, 3)?;
+    Ok(vec![in alloc; first, second]?)
+}
+
+// The values of all constraints in a row of what is generated for two lookups, with so much added to the terminal.
+fn values_at(alloc: Global, row: usize, added: BabyBear) -> Result<Vec<BabyBear>, GenerateError> {
+    let lookups = two_lookups(alloc)?;
     let challenges = [bear(7), bear(3), bear(4), bear(3)];
     let column = [5, 6, 3];
     let main = RowMajorMatrix::new_col(bears(alloc, &column)?);
     let (columns, terminal) = generated(alloc, &column, &lookups, &challenges)?;
-    let first = values_in(alloc, &main, &columns, terminal.0, &lookups, &challenges, 0)?;
-    assert_eq!(rt; first.as_slice(), [bear(0); 5].as_slice());
-    let second = values_in(alloc, &main, &columns, terminal.0, &lookups, &challenges, 1)?;
-    assert_eq!(rt; second.as_slice(), [bear(0); 5].as_slice());
-    let last = values_in(alloc, &main, &columns, terminal.0, &lookups, &challenges, 2)?;
-    assert_eq!(rt; last.as_slice(), [bear(0); 5].as_slice());
-    let foreign = terminal.0 + bear(1);
-    let refused = values_in(alloc, &main, &columns, foreign, &lookups, &challenges, 2)?;
+    let terminal = terminal.0 + added;
+    let values = values_in(alloc, &main, &columns, terminal, &lookups, &challenges, row)?;
+    Ok(values)
+}
+
+// Each of the five constraints is zero in each row, and the last one is not for a foreign terminal.
+#[test]
+fn generated_columns_meet_the_constraints(rt: HostRuntime) -> Result<(), Fail> {
+    let alloc = rt.alloc();
+    for row in 0..3 {
+        let values = values_at(alloc, row, bear(0))?;
+        assert_eq!(rt; values.as_slice(), [bear(0); 5].as_slice());
+    }
+    let refused = values_at(alloc, 2, bear(1))?;
     assert_eq!(rt;
         refused.as_slice(),
         [bear(0), bear(0), bear(0), bear(0), bear(1)].as_slice()

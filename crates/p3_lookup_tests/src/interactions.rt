@@ -18,6 +18,9 @@ const CELL: Node<BabyBear> = Node::Base(Cell::Main {
     column: 0,
 });
 
+// The first public value.
+const PUBLIC: Node<BabyBear> = Node::Base(Cell::Public(0));
+
 // Compares the fields of a tuple, each of which is one node.
 fn assert_fields(
     rt: &impl Abort,
@@ -41,36 +44,84 @@ fn assert_count(
     assert_eq!(rt; count.bound, bound);
 }
 
+// Compares the number of tuples and that of counts.
+fn assert_tuples(rt: &impl Abort, lookup: &Lookup<BabyBear>, tuples: usize) {
+    assert_eq!(rt; lookup.elements.len(), tuples);
+    assert_eq!(rt; lookup.multiplicities.len(), tuples);
+}
+
+// Whether it is the kind of the bus of this name.
+fn is_bus(kind: &Kind, name: &str) -> bool {
+    matches!(kind, Kind::Global(own) if own.as_str() == name)
+}
+
 // Compares a lookup with the cell of the first column, sent once on the bus `values`.
 fn assert_value_sent(rt: &impl Abort, lookup: &Lookup<BabyBear>) -> Result<(), Fail> {
-    match &lookup.kind {
-        Kind::Global(name) => assert_eq!(rt; name.as_str(), "values"),
-        Kind::Local => assert!(rt; false),
-    }
-    assert_eq!(rt;
-        (lookup.elements.len(), lookup.multiplicities.len()),
-        (1, 1)
-    );
+    assert!(rt; is_bus(&lookup.kind, "values"));
+    assert_tuples(rt, lookup, 1);
     assert_fields(rt, lookup.elements.first().ok_or("no tuple")?, &[CELL]);
     let count = lookup.multiplicities.first().ok_or("no count")?;
     assert_count(rt, count, Node::Constant(BabyBear::ONE), 1);
     Ok(())
 }
 
+// Compares two lookups with the cell of the first column, sent once on the bus `values`.
+fn assert_both_sent(rt: &impl Abort, lookups: &[Lookup<BabyBear>]) -> Result<(), Fail> {
+    assert_eq!(rt; lookups.len(), 2);
+    for lookup in lookups {
+        assert_value_sent(rt, lookup)?;
+    }
+    Ok(())
+}
+
 #[test]
 fn a_cell_sent_twice(rt: HostRuntime) -> Result<(), Fail> {
+    let lookups = Lookups::from_air(rt.alloc(), &TwoSends)?;
+    assert_both_sent(&rt, lookups.as_slice())
+}
+
+#[test]
+fn copies_of_lookups(rt: HostRuntime) -> Result<(), Fail> {
     let alloc = rt.alloc();
-    let lookups = Lookups::from_air(alloc, &TwoSends)?;
-    assert_eq!(rt; lookups.as_slice().len(), 2);
-    for lookup in lookups.as_slice() {
-        assert_value_sent(&rt, lookup)?;
-    }
-    let copies = lookups.try_clone(alloc)?;
-    assert_eq!(rt; copies.as_slice().len(), 2);
+    let copies = Lookups::from_air(alloc, &TwoSends)?.try_clone(alloc)?;
+    assert_both_sent(&rt, copies.as_slice())?;
     for lookup in copies.as_slice() {
-        assert_value_sent(&rt, lookup)?;
         assert_value_sent(&rt, &lookup.try_clone(alloc)?)?;
     }
+    Ok(())
+}
+
+// The lookups of the sending table.
+fn sending_lookups(alloc: Global) -> Mem<Lookups<BabyBear>> {
+    let steps = vec![in alloc; BabyBear::ONE, BabyBear::TWO]?;
+    let periodic = vec![in alloc; vec![in alloc; BabyBear::ONE]?]?;
+    Lookups::from_air(alloc, &SendingAir { steps, periodic })
+}
+
+// Compares a lookup with the cell and the public value, sent on the bus `words`.
+fn assert_words(rt: &impl Abort, words: &Lookup<BabyBear>) -> Result<(), Fail> {
+    assert!(rt; is_bus(&words.kind, "words"));
+    assert_tuples(rt, words, 1);
+    let tuple = words.elements.first().ok_or("no tuple")?;
+    assert_fields(rt, tuple, &[CELL, PUBLIC]);
+    Ok(())
+}
+
+// Compares a lookup within a table with the tuples of the cell and of the public value.
+fn assert_cells(rt: &impl Abort, cells: &Lookup<BabyBear>) -> Result<(), Fail> {
+    assert!(rt; matches!(&cells.kind, Kind::Local));
+    assert_tuples(rt, cells, 2);
+    assert_fields(rt, cells.elements.first().ok_or("no tuple")?, &[CELL]);
+    assert_fields(rt, cells.elements.last().ok_or("no tuple")?, &[PUBLIC]);
+    Ok(())
+}
+
+// Compares the counts of a lookup with the public value and with one.
+fn assert_counts(rt: &impl Abort, cells: &Lookup<BabyBear>) -> Result<(), Fail> {
+    let many = cells.multiplicities.first().ok_or("no count")?;
+    assert_count(rt, many, PUBLIC, 7);
+    let once = cells.multiplicities.last().ok_or("no count")?;
+    assert_count(rt, once, Node::Constant(BabyBear::ONE), 1);
     Ok(())
 }
 
@@ -78,34 +129,13 @@ fn a_cell_sent_twice(rt: HostRuntime) -> Result<(), Fail> {
 // table.
 #[test]
 fn lookups_of_the_sending_table(rt: HostRuntime) -> Result<(), Fail> {
-    let alloc = rt.alloc();
-    let steps = vec![in alloc; BabyBear::ONE, BabyBear::TWO]?;
-    let periodic = vec![in alloc; vec![in alloc; BabyBear::ONE]?]?;
-    let lookups = Lookups::from_air(alloc, &SendingAir { steps, periodic })?;
-    assert_eq!(rt; lookups.as_slice().len(), 2);
-    let words = lookups.as_slice().first().ok_or("no lookup")?;
-    assert!(rt; matches!(&words.kind, Kind::Global(name) if name.as_str() == "words"));
-    assert_eq!(rt; (words.elements.len(), words.multiplicities.len()), (1, 1));
-    let public = Node::Base(Cell::Public(0));
-    assert_fields(
-        &rt,
-        words.elements.first().ok_or("no tuple")?,
-        &[CELL, public],
-    );
-    let cells = lookups.as_slice().last().ok_or("no lookup")?;
-    assert!(rt; matches!(&cells.kind, Kind::Local));
-    assert_eq!(rt; (cells.elements.len(), cells.multiplicities.len()), (2, 2));
-    assert_fields(&rt, cells.elements.first().ok_or("no tuple")?, &[CELL]);
-    assert_fields(&rt, cells.elements.last().ok_or("no tuple")?, &[public]);
-    assert_count(
-        &rt,
-        cells.multiplicities.first().ok_or("no count")?,
-        public,
-        7,
-    );
-    let once = cells.multiplicities.last().ok_or("no count")?;
-    assert_count(&rt, once, Node::Constant(BabyBear::ONE), 1);
-    Ok(())
+    let lookups = sending_lookups(rt.alloc())?;
+    let lookups = lookups.as_slice();
+    assert_eq!(rt; lookups.len(), 2);
+    assert_words(&rt, lookups.first().ok_or("no lookup")?)?;
+    let cells = lookups.last().ok_or("no lookup")?;
+    assert_cells(&rt, cells)?;
+    assert_counts(&rt, cells)
 }
 
 // The degree of a lookup's constraints.

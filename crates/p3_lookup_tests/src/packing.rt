@@ -4,10 +4,10 @@ ghost use Rattle.p3_lookup.specs.Lookup.{HasCountForEach};
 ghost use Rattle.p3_lookup.specs.Written.{read_all};
 ghost use Rattle.p3_lookup_tests.specs.Taken.{IsTakenLookup};
 
-use crate::support::{on_bus, take};
+use crate::support::{kind_of, take};
 use crate::two_sends::TwoSends;
 use p3_field::{BabyBear, Mem};
-use p3_lookup::{Kind, LogUpGadget, Lookup, Lookups};
+use p3_lookup::{LogUpGadget, Lookup, Lookups};
 use std::alloc::Global;
 use std::test::Fail;
 
@@ -28,12 +28,22 @@ fn both_sent(alloc: Global) -> Mem<Lookups<BabyBear>>
     Ok(lookups)
 }
 
-// The sizes of these lookups when they are packed.
-fn packed_sizes(alloc: Global, lookups: Vec<Lookup<BabyBear>>, budget: usize) -> Mem<Vec<usize>>
-    requires { All IsTakenLookup lookups.items }
+// The lookups that send the cell once on the bus of each name; one without a name is local.
+fn sends(alloc: Global, names: &[&str]) -> Mem<Vec<Lookup<BabyBear>>>
+    ensures { IfOk result (λ v. All IsTakenLookup v.items) }
 {
+    let mut lookups = Vec::new(alloc);
+    for name in names {
+        lookups.push(take(alloc, kind_of(alloc, name)?, 1)?)?;
+    }
+    Ok(lookups)
+}
+
+// The sizes of the lookups of these names when they are packed.
+fn sizes_packed(alloc: Global, names: &[&str], budget: usize) -> Mem<Vec<usize>> {
     let gadget = LogUpGadget::new();
-    let packed = Lookups::new(lookups).pack_same_bus_with_degree(alloc, budget, &gadget, 0)?;
+    let lookups = Lookups::new(sends(alloc, names)?);
+    let packed = lookups.pack_same_bus_with_degree(alloc, budget, &gadget, 0)?;
     sizes(alloc, &packed)
 }
 
@@ -52,35 +62,15 @@ fn two_sends_packed(rt: HostRuntime) -> Result<(), Fail> {
 // Each lookup takes in what keeps it to the budget.
 #[test]
 fn five_sends_stop_at_the_degree(rt: HostRuntime) -> Result<(), Fail> {
-    let alloc = rt.alloc();
-    let lookups = vec![in alloc;
-        take(alloc, on_bus(alloc, "a")?, 1)?,
-        take(alloc, on_bus(alloc, "a")?, 1)?,
-        take(alloc, on_bus(alloc, "a")?, 1)?,
-        take(alloc, on_bus(alloc, "a")?, 1)?,
-        take(alloc, on_bus(alloc, "a")?, 1)?,
-    ]?;
-    assert_eq!(rt;
-        packed_sizes(alloc, lookups, 3)?.as_slice(),
-        [2usize, 2, 1].as_slice()
-    );
+    let sizes = sizes_packed(rt.alloc(), &["a", "a", "a", "a", "a"], 3)?;
+    assert_eq!(rt; sizes.as_slice(), [2usize, 2, 1].as_slice());
     Ok(())
 }
 
 // Local lookups and those of other names stay apart.
 #[test]
 fn other_names_stay_apart(rt: HostRuntime) -> Result<(), Fail> {
-    let alloc = rt.alloc();
-    let lookups = vec![in alloc;
-        take(alloc, Kind::Local, 1)?,
-        take(alloc, on_bus(alloc, "a")?, 1)?,
-        take(alloc, on_bus(alloc, "b")?, 1)?,
-        take(alloc, Kind::Local, 1)?,
-        take(alloc, on_bus(alloc, "a")?, 1)?,
-    ]?;
-    assert_eq!(rt;
-        packed_sizes(alloc, lookups, 9)?.as_slice(),
-        [1usize, 2, 1, 1].as_slice()
-    );
+    let sizes = sizes_packed(rt.alloc(), &["", "a", "b", "", "a"], 9)?;
+    assert_eq!(rt; sizes.as_slice(), [1usize, 2, 1, 1].as_slice());
     Ok(())
 }

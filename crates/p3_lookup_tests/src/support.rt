@@ -94,6 +94,15 @@ pub fn on_bus(alloc: Global, name: &str) -> Mem<Kind> {
     Ok(Kind::Global(String::from_str(alloc, name)?))
 }
 
+/// The kind of the bus of this name, or of a lookup within the table where the name is empty.
+pub fn kind_of(alloc: Global, name: &str) -> Mem<Kind> {
+    if name.is_empty() {
+        Ok(Kind::Local)
+    } else {
+        on_bus(alloc, name)
+    }
+}
+
 /// What is generated for a table of one column.
 pub fn generated(
     alloc: Global,

@@ -1,9 +1,10 @@
-use Rattle.std.proofs.Common.{◌∙◌, inr, List, [], ◌∷◌, ap, sym, subst, Vec, Global}
+use Rattle.std.proofs.Common.{◌∙◌, inl, inr, List, [], ◌∷◌, ap, sym, subst, Vec, Global}
 use Rattle.p3_matrix.specs.Matrix.{Rows}
 use Rattle.p3_commit.specs.Commitments.{IsCommitment}
 use Rattle.p3_commit.specs.Claims.{CommitmentClaim}
 use Rattle.p3_commit_caller.specs.Single.{claim_of}
 use Rattle.p3_commit_caller.proofs.Committing.{committed_one, values_of_committed, open_refused}
+use Rattle.p3_commit_caller.proofs.Refusals.{handed_as_one}
 use Rattle.p3_commit_caller.proofs.committed_and_verified.Goals as goal
 
 pub opened-requires-clause-held : goal.opened-requires-clause-held
@@ -46,5 +47,13 @@ returns-in_err-values-clause-refused g c =
     let w : g.row.P-Commitment.Denot × g.row.P-ProverData.Denot = (c.in_ok-commitment.commitment, c.in_ok-commitment.prover_data) in
     let Is : List (g.row.P-Domain.Denot × Rows g.row.P-Val.Denot) → Type 0 =
     λ l. IsCommitment g.P.Val.RingCore.ring S.points S.point_at (T.commits c.args.pcs.now) (T.made c.args.pcs.now) (T.holds c.args.pcs.now) l w in
-    open_refused (Vec g.row.E.Denot Global × g.row.P-Proof.Denot) _ _ (λ e h. inr (w, subst Is c.in_ok-one.ensures c.in_ok-commitment.ensures.committed, h))
+    open_refused (Vec g.row.E.Denot Global × g.row.P-Proof.Denot) (T.open_fault c.args.pcs.now (record { prover_data = c.in_ok-commitment.prover_data; points = (c.args.point ∷ []) ∷ [] } ∷ [])) _ (λ e h. inr (w, subst Is c.in_ok-one.ensures c.in_ok-commitment.ensures.committed, h))
     c.from_residual-in_err-values.result c.in_err-values.field-0.0 c.from_residual-in_err-values.ensures.1 c.in_err-values.ensures.refused
+
+pub returns-in_err-commitment-clause-refused : goal.returns-in_err-commitment-clause-refused
+returns-in_err-commitment-clause-refused g c =
+    handed_as_one (g.row.P-Commitment.Denot × g.row.P-ProverData.Denot) (g.P.Pcs.commit_fault c.args.pcs.now c.in_ok-one.field-0.items) _ (λ e h. inl (subst (λ l. g.P.Pcs.commit_fault c.args.pcs.now l e) c.in_ok-one.ensures h))
+    c.from_residual-in_err-commitment.result c.in_err-commitment.field-0.0 c.from_residual-in_err-commitment.ensures.1 c.in_err-commitment.ensures.refusal
+
+pub returns-then-branch-clause-committed : goal.returns-then-branch-clause-committed
+returns-then-branch-clause-committed g c = subst (λ l. g.P.Pcs.commits c.args.pcs.now l c.in_ok-commitment.commitment) c.in_ok-one.ensures c.in_ok-commitment.ensures.committed.commitment_is

@@ -43,3 +43,9 @@ returns g c =
     let values = map matrix_in c.args.values.now in
     let z = length-zip points values (omega (arith, c.requires.each.count)) in
     all_pairs claim_of_matrix c.loop-index.matrices.items c.args.domains.now (zip points values) c.loop-index.index (omega (arith, z, c.requires.domains)) (omega (arith, z, n)) c.loop-index.invariant
+
+pub bounds-points-index : goal.bounds-points-index
+bounds-points-index g c = omega (arith, length-map c.args.points.now values_in, length-map c.args.values.now matrix_in, c.requires.each.count)
+
+pub bounds-domains-index : goal.bounds-domains-index
+bounds-domains-index g c = omega (arith, length-map c.args.values.now matrix_in, c.requires.domains)

@@ -1,5 +1,7 @@
 use Rattle.std.proofs.Common.{◌∙◌, ap, map, subst}
+use Rattle.p3_commit.specs.Failure.{NoneOf}
 use Rattle.p3_commit.specs.Commitments.{IsCommitment}
+use Rattle.p3_commit_caller.proofs.Refusals.{handed_on}
 use Rattle.p3_commit_caller.proofs.rounds.committed_round.Goals as goal
 
 pub returns-clause-prover_rounds : goal.returns-clause-prover_rounds
@@ -13,3 +15,11 @@ returns-clause-prover_rounds g c =
       domains_are = c.in_ok-domains.ensures ∙ (ap (map (λ e. e.0)) c.deref.ensures.value ∙ ap (map (λ e. e.0)) whole);
       points_are = ap (λ q. q.points) c.round.view_is;
     }
+
+pub returns-clause-refusal : goal.returns-clause-refusal
+returns-clause-refusal g c = subst (λ l. NoneOf (g.P.Pcs.commit_fault c.args.pcs.now l)) (ap (λ q. q.evaluations) c.round.view_is) c.in_ok-commitment.ensures.refusal
+
+pub returns-in_err-commitment-clause-refusal : goal.returns-in_err-commitment-clause-refusal
+returns-in_err-commitment-clause-refusal g c =
+    handed_on (g.row.P-Commitment.Denot × g.row.P-ProverData.Denot) _ _ (λ e h. subst (λ l. g.P.Pcs.commit_fault c.args.pcs.now l e) (ap (λ q. q.evaluations) c.round.view_is) h)
+    c.from_residual-in_err-commitment.result c.in_err-commitment.field-0.0 c.from_residual-in_err-commitment.ensures.1 c.in_err-commitment.ensures.refusal

@@ -4,9 +4,9 @@ use Rattle.p3_field.specs.declared.baby_bear.BabyBear.{BabyBear}
 use Rattle.p3_lookup.specs.Lookup.{HasCountForEach}
 use Rattle.p3_lookup.specs.Written.{Written, read_all}
 use Rattle.p3_lookup_tests.proofs.Taken.{all_counted}
-use Rattle.p3_lookup_tests.proofs.packing.packed_sizes.Goals as goal
+use Rattle.p3_lookup_tests.proofs.packing.sizes_packed.Goals as goal
 
 pub pack_same_bus_with_degree-requires : goal.pack_same_bus_with_degree-requires
 pack_same_bus_with_degree-requires c =
     let P : List (Written BabyBear) → Type 0 = λ l. All HasCountForEach (read_all l) in
-    subst P (sym c.new.ensures) (all_counted _ c.requires)
+    subst P (sym c.new-lookups.ensures) (all_counted _ c.in_ok-sends.ensures)
