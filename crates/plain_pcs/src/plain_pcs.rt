@@ -203,7 +203,8 @@ impl<F: TwoAdicField, D: TwoAdicSubgroupDft<F>, E: ExtensionField<F>, C> Pcs<E, 
         proof: &PlainProof,
         challenger: &mut C,
     ) -> Result<(), PcsFailure<PlainError>>
-        ensures verdict { VerifiedBy (Opens (scheme F.ring F.inv F.root F.GENERATOR F.TWO_ADICITY self.now) E.ring E.embed claims.items) (Fault (scheme F.ring F.inv F.root F.GENERATOR F.TWO_ADICITY self.now) E.ring E.embed claims.items) result }
+        ensures verdict { VerifiedBy (Opens (scheme F.ring F.inv F.root F.GENERATOR F.TWO_ADICITY self.now) E.ring E.embed claims.items)
+            (Fault (scheme F.ring F.inv F.root F.GENERATOR F.TWO_ADICITY self.now) E.ring E.embed claims.items) result }
         ensures after { IsOk result → challenger.new ≡ challenger.old }
         ensures challenger { challenger.new ≡ challenger.old }
     {
