@@ -77,6 +77,47 @@ fn quotients<F: Field>(alloc: Global, dividends: &[F], divisors: &[F]) -> Mem<Ve
     Ok(values)
 }
 
+// The values of the vanishing polynomial on a disjoint coset.
+fn vanishing_on<F: TwoAdicField>(
+    alloc: Global,
+    domain: &TwoAdicMultiplicativeCoset<F>,
+    coset: &TwoAdicMultiplicativeCoset<F>,
+) -> Mem<Vec<F>>
+    requires { AreDisjoint (2 ^ domain.now.log_size) (point F.ring F.root domain.now) (2 ^ coset.now.log_size) (point F.ring F.root coset.now) }
+    ensures { IfOk result (λ v. v.items ≡ tabulate (2 ^ coset.now.log_size) (λ i. eval_poly F.ring (vanishing_polynomial F.ring F.inv domain.now) (point F.ring F.root coset.now i))) }
+{
+    domain.valid();
+    let log_size = domain.log_size();
+    let size = coset.size();
+    let ratio = domain.shift_inverse() * coset.shift();
+    let step = coset.subgroup_generator();
+    let values = shifted_powers(
+        alloc,
+        ratio.exp_power_of_2(log_size),
+        step.exp_power_of_2(log_size),
+        size,
+        F::ONE,
+    )?;
+    Ok(values)
+}
+
+// The points of a coset over the shift of a domain, each less an element.
+fn distances_on<F: TwoAdicField>(
+    alloc: Global,
+    domain: &TwoAdicMultiplicativeCoset<F>,
+    coset: &TwoAdicMultiplicativeCoset<F>,
+    minus: F,
+) -> Mem<Vec<F>>
+    ensures { IfOk result (λ v. v.items
+        ≡ tabulate (2 ^ coset.now.log_size) (λ i. sub F.ring (coset_point F.ring (F.ring.mul (F.inv domain.now.shift) coset.now.shift) (F.root coset.now.log_size) i) minus)) }
+{
+    let size = coset.size();
+    let ratio = domain.shift_inverse() * coset.shift();
+    let step = coset.subgroup_generator();
+    let values = shifted_powers(alloc, ratio, step, size, minus)?;
+    Ok(values)
+}
+
 // The selectors at each point of a disjoint coset.
 pub(crate) fn selectors_on<F: TwoAdicField>(
     alloc: Global,
@@ -92,20 +133,10 @@ pub(crate) fn selectors_on<F: TwoAdicField>(
         ≡ tabulate (2 ^ coset.now.log_size) (λ i. F.inv (eval_poly F.ring (vanishing_polynomial F.ring F.inv domain.now) (point F.ring F.root coset.now i)))) }
 {
     domain.valid();
-    let log_size = domain.log_size();
-    let size = coset.size();
-    let ratio = domain.shift_inverse() * coset.shift();
-    let step = coset.subgroup_generator();
     let before_first = domain.subgroup_generator().inverse();
-    let vanishing = shifted_powers(
-        alloc,
-        ratio.exp_power_of_2(log_size),
-        step.exp_power_of_2(log_size),
-        size,
-        F::ONE,
-    )?;
-    let from_first = shifted_powers(alloc, ratio, step, size, F::ONE)?;
-    let from_last = shifted_powers(alloc, ratio, step, size, before_first)?;
+    let vanishing = vanishing_on(alloc, domain, coset)?;
+    let from_first = distances_on(alloc, domain, coset, F::ONE)?;
+    let from_last = distances_on(alloc, domain, coset, before_first)?;
     Ok(LagrangeSelectors {
         is_first_row: quotients(alloc, &vanishing, &from_first)?,
         is_last_row: quotients(alloc, &vanishing, &from_last)?,

@@ -4,14 +4,12 @@ use Rattle.p3_field.specs.Poly.{eval_poly, tabulate}
 use Rattle.p3_field.specs.Domain.{coset_point, point, vanishing_polynomial, first_selector, last_selector}
 use Rattle.p3_field.specs.Laws.Inverses.{root_inverts}
 use Rattle.p3_field.specs.Laws.TwoAdic.{decide_by}
-use Rattle.p3_commit.specs.Laws.SelectorLaws.{nonzero_items, same_count, quotient_list, inverse_list, vanishing_list, vanishing_not_zero, from_first, from_last, first_not_zero_at, last_not_zero_at, first_at, last_at, transition_list}
+use Rattle.p3_commit.specs.Laws.SelectorLaws.{nonzero_items, same_count, quotient_list, inverse_list, vanishing_not_zero, from_first, from_last, first_not_zero_at, last_not_zero_at, first_at, last_at, transition_list}
 use Rattle.p3_commit.proofs.selectors.selectors_on.Goals as goal
 
-distances : {A : Type 0} (xs : List A) (size n : ℕ) (r : Ring A) (p p' q q' o o' : A) → xs ≡ tabulate size (λ i. sub r (coset_point r p q i) o) → size ≡ n → p ≡ p' → q ≡ q' → o ≡ o'
-    → xs ≡ tabulate n (λ i. sub r (coset_point r p' q' i) o')
-distances xs size n r p p' q q' o o' h e x y z =
-    h ∙ (ap (λ k. tabulate k (λ i. sub r (coset_point r p q i) o)) e ∙ (ap (λ v. tabulate n (λ i. sub r (coset_point r v q i) o)) x
-    ∙ (ap (λ v. tabulate n (λ i. sub r (coset_point r p' v i) o)) y ∙ ap (λ v. tabulate n (λ i. sub r (coset_point r p' q' i) v)) z)))
+-- a list of points, each less an equal element
+less : {A : Type 0} (xs : List A) (n : ℕ) (r : Ring A) (p q o o' : A) → xs ≡ tabulate n (λ i. sub r (coset_point r p q i) o) → o ≡ o' → xs ≡ tabulate n (λ i. sub r (coset_point r p q i) o')
+less xs n r p q o o' h z = h ∙ ap (λ v. tabulate n (λ i. sub r (coset_point r p q i) v)) z
 
 pub inverse-before_first-requires : goal.inverse-before_first-requires
 inverse-before_first-requires g c = λ e.
@@ -19,26 +17,7 @@ inverse-before_first-requires g c = λ e.
     c.args.domain.now.log_size c.valid.ensures.1 (sym c.subgroup_generator.ensures ∙ e)
 
 pub quotients-requires-clause-same : goal.quotients-requires-clause-same
-quotients-requires-clause-same g c =
-    let r = g.F.RingCore.ring in
-    let L = g.met.F.RingCore.ring_laws in
-    let inv = g.F.FieldCore.inv in
-    let W = g.met.F.FieldCore.field_laws in
-    let top = g.F.TwoAdicCore.TWO_ADICITY in
-    let root = g.F.TwoAdicCore.root in
-    let T = g.met.F.TwoAdicCore.root_laws in
-    let dec = decide_by _ g.met.F.FieldCore.eq_same g.met.F.FieldCore.same_eq in
-    let d = c.args.domain.now in
-    let e = c.args.coset.now in
-    let P = g.met.F.PrimeCharacteristicRing in
-    let ratio : c.mul-ratio.result ≡ r.mul (inv d.shift) e.shift = cc (P.muls _ _ _ c.mul-ratio.ensures, c.shift_inverse.ensures, c.shift.ensures) in
-    let vanishing : c.in_ok-vanishing.vanishing.items ≡ tabulate (2 ^ e.log_size) (λ i. eval_poly r (vanishing_polynomial r inv d) (point r root e i)) =
-    vanishing_list r L inv W top root T dec d e c.valid.ensures.0 c.valid.ensures.1 c.requires c.in_ok-vanishing.vanishing.items c.size-size.result c.exp_power_of_2.result c.exp_power_of_2-2.result c.ONE.result c.in_ok-vanishing.ensures c.size-size.ensures
-    (cc (c.exp_power_of_2.ensures, ratio, c.log_size-log_size.ensures)) (cc (c.exp_power_of_2-2.ensures, c.subgroup_generator-step.ensures, c.log_size-log_size.ensures)) (c.ONE.ensures ∙ g.met.F.RingCore.one_is) in
-    let firsts : c.in_ok-from_first.from_first.items ≡ tabulate (2 ^ e.log_size) (from_first r L inv W top root T dec d e c.valid.ensures.0 c.valid.ensures.1 c.requires) =
-    distances c.in_ok-from_first.from_first.items c.size-size.result (2 ^ e.log_size) r c.mul-ratio.result (r.mul (inv d.shift) e.shift) c.subgroup_generator-step.result (root e.log_size) c.ONE-2.result r.one
-    c.in_ok-from_first.ensures c.size-size.ensures ratio c.subgroup_generator-step.ensures (c.ONE-2.ensures ∙ g.met.F.RingCore.one_is) in
-    same_count c.deref.result.now c.deref-2.result.now (2 ^ e.log_size) _ _ (c.deref.ensures.value ∙ vanishing) (c.deref-2.ensures.value ∙ firsts)
+quotients-requires-clause-same g c = same_count c.deref.result.now c.deref-2.result.now (2 ^ c.args.coset.now.log_size) _ _ (c.deref.ensures.value ∙ c.in_ok-vanishing.ensures) (c.deref-2.ensures.value ∙ c.in_ok-from_first.ensures)
 
 pub quotients-requires-clause-nonzero : goal.quotients-requires-clause-nonzero
 quotients-requires-clause-nonzero g c =
@@ -52,34 +31,13 @@ quotients-requires-clause-nonzero g c =
     let dec = decide_by _ g.met.F.FieldCore.eq_same g.met.F.FieldCore.same_eq in
     let d = c.args.domain.now in
     let e = c.args.coset.now in
-    let P = g.met.F.PrimeCharacteristicRing in
-    let ratio : c.mul-ratio.result ≡ r.mul (inv d.shift) e.shift = cc (P.muls _ _ _ c.mul-ratio.ensures, c.shift_inverse.ensures, c.shift.ensures) in
     let firsts : c.in_ok-from_first.from_first.items ≡ tabulate (2 ^ e.log_size) (from_first r L inv W top root T dec d e c.valid.ensures.0 c.valid.ensures.1 c.requires) =
-    distances c.in_ok-from_first.from_first.items c.size-size.result (2 ^ e.log_size) r c.mul-ratio.result (r.mul (inv d.shift) e.shift) c.subgroup_generator-step.result (root e.log_size) c.ONE-2.result r.one
-    c.in_ok-from_first.ensures c.size-size.ensures ratio c.subgroup_generator-step.ensures (c.ONE-2.ensures ∙ g.met.F.RingCore.one_is) in
+    less c.in_ok-from_first.from_first.items (2 ^ e.log_size) r (r.mul (inv d.shift) e.shift) (root e.log_size) c.ONE.result r.one c.in_ok-from_first.ensures (c.ONE.ensures ∙ g.met.F.RingCore.one_is) in
     nonzero_items r.zero c.deref-2.result.now (2 ^ e.log_size) (from_first r L inv W top root T dec d e c.valid.ensures.0 c.valid.ensures.1 c.requires) (c.deref-2.ensures.value ∙ firsts) (first_not_zero_at r L inv W top root T dec d e c.valid.ensures.0 c.valid.ensures.1 c.requires)
 
 pub quotients-requires-2-clause-same : goal.quotients-requires-2-clause-same
 quotients-requires-2-clause-same g c =
-    let r = g.F.RingCore.ring in
-    let L = g.met.F.RingCore.ring_laws in
-    let inv = g.F.FieldCore.inv in
-    let W = g.met.F.FieldCore.field_laws in
-    let top = g.F.TwoAdicCore.TWO_ADICITY in
-    let root = g.F.TwoAdicCore.root in
-    let T = g.met.F.TwoAdicCore.root_laws in
-    let dec = decide_by _ g.met.F.FieldCore.eq_same g.met.F.FieldCore.same_eq in
-    let d = c.args.domain.now in
-    let e = c.args.coset.now in
-    let P = g.met.F.PrimeCharacteristicRing in
-    let ratio : c.mul-ratio.result ≡ r.mul (inv d.shift) e.shift = cc (P.muls _ _ _ c.mul-ratio.ensures, c.shift_inverse.ensures, c.shift.ensures) in
-    let vanishing : c.in_ok-vanishing.vanishing.items ≡ tabulate (2 ^ e.log_size) (λ i. eval_poly r (vanishing_polynomial r inv d) (point r root e i)) =
-    vanishing_list r L inv W top root T dec d e c.valid.ensures.0 c.valid.ensures.1 c.requires c.in_ok-vanishing.vanishing.items c.size-size.result c.exp_power_of_2.result c.exp_power_of_2-2.result c.ONE.result c.in_ok-vanishing.ensures c.size-size.ensures
-    (cc (c.exp_power_of_2.ensures, ratio, c.log_size-log_size.ensures)) (cc (c.exp_power_of_2-2.ensures, c.subgroup_generator-step.ensures, c.log_size-log_size.ensures)) (c.ONE.ensures ∙ g.met.F.RingCore.one_is) in
-    let lasts : c.in_ok-from_last.from_last.items ≡ tabulate (2 ^ e.log_size) (from_last r L inv W top root T dec d e c.valid.ensures.0 c.valid.ensures.1 c.requires) =
-    distances c.in_ok-from_last.from_last.items c.size-size.result (2 ^ e.log_size) r c.mul-ratio.result (r.mul (inv d.shift) e.shift) c.subgroup_generator-step.result (root e.log_size) c.inverse-before_first.result (inv (root d.log_size))
-    c.in_ok-from_last.ensures c.size-size.ensures ratio c.subgroup_generator-step.ensures (c.inverse-before_first.ensures ∙ ap inv c.subgroup_generator.ensures) in
-    same_count c.deref-3.result.now c.deref-4.result.now (2 ^ e.log_size) _ _ (c.deref-3.ensures.value ∙ vanishing) (c.deref-4.ensures.value ∙ lasts)
+    same_count c.deref-3.result.now c.deref-4.result.now (2 ^ c.args.coset.now.log_size) _ _ (c.deref-3.ensures.value ∙ c.in_ok-vanishing.ensures) (c.deref-4.ensures.value ∙ c.in_ok-from_last.ensures)
 
 pub quotients-requires-2-clause-nonzero : goal.quotients-requires-2-clause-nonzero
 quotients-requires-2-clause-nonzero g c =
@@ -93,11 +51,9 @@ quotients-requires-2-clause-nonzero g c =
     let dec = decide_by _ g.met.F.FieldCore.eq_same g.met.F.FieldCore.same_eq in
     let d = c.args.domain.now in
     let e = c.args.coset.now in
-    let P = g.met.F.PrimeCharacteristicRing in
-    let ratio : c.mul-ratio.result ≡ r.mul (inv d.shift) e.shift = cc (P.muls _ _ _ c.mul-ratio.ensures, c.shift_inverse.ensures, c.shift.ensures) in
     let lasts : c.in_ok-from_last.from_last.items ≡ tabulate (2 ^ e.log_size) (from_last r L inv W top root T dec d e c.valid.ensures.0 c.valid.ensures.1 c.requires) =
-    distances c.in_ok-from_last.from_last.items c.size-size.result (2 ^ e.log_size) r c.mul-ratio.result (r.mul (inv d.shift) e.shift) c.subgroup_generator-step.result (root e.log_size) c.inverse-before_first.result (inv (root d.log_size))
-    c.in_ok-from_last.ensures c.size-size.ensures ratio c.subgroup_generator-step.ensures (c.inverse-before_first.ensures ∙ ap inv c.subgroup_generator.ensures) in
+    less c.in_ok-from_last.from_last.items (2 ^ e.log_size) r (r.mul (inv d.shift) e.shift) (root e.log_size) c.inverse-before_first.result (inv (root d.log_size)) c.in_ok-from_last.ensures
+    (c.inverse-before_first.ensures ∙ ap inv c.subgroup_generator.ensures) in
     nonzero_items r.zero c.deref-4.result.now (2 ^ e.log_size) (from_last r L inv W top root T dec d e c.valid.ensures.0 c.valid.ensures.1 c.requires) (c.deref-4.ensures.value ∙ lasts) (last_not_zero_at r L inv W top root T dec d e c.valid.ensures.0 c.valid.ensures.1 c.requires)
 
 pub batch_multiplicative_inverse-requires : goal.batch_multiplicative_inverse-requires
@@ -112,12 +68,7 @@ batch_multiplicative_inverse-requires g c =
     let dec = decide_by _ g.met.F.FieldCore.eq_same g.met.F.FieldCore.same_eq in
     let d = c.args.domain.now in
     let e = c.args.coset.now in
-    let P = g.met.F.PrimeCharacteristicRing in
-    let ratio : c.mul-ratio.result ≡ r.mul (inv d.shift) e.shift = cc (P.muls _ _ _ c.mul-ratio.ensures, c.shift_inverse.ensures, c.shift.ensures) in
-    let vanishing : c.in_ok-vanishing.vanishing.items ≡ tabulate (2 ^ e.log_size) (λ i. eval_poly r (vanishing_polynomial r inv d) (point r root e i)) =
-    vanishing_list r L inv W top root T dec d e c.valid.ensures.0 c.valid.ensures.1 c.requires c.in_ok-vanishing.vanishing.items c.size-size.result c.exp_power_of_2.result c.exp_power_of_2-2.result c.ONE.result c.in_ok-vanishing.ensures c.size-size.ensures
-    (cc (c.exp_power_of_2.ensures, ratio, c.log_size-log_size.ensures)) (cc (c.exp_power_of_2-2.ensures, c.subgroup_generator-step.ensures, c.log_size-log_size.ensures)) (c.ONE.ensures ∙ g.met.F.RingCore.one_is) in
-    nonzero_items r.zero c.deref-5.result.now (2 ^ e.log_size) (λ i. eval_poly r (vanishing_polynomial r inv d) (point r root e i)) (c.deref-5.ensures.value ∙ vanishing) (vanishing_not_zero r L inv W top root T dec d e c.valid.ensures.0 c.valid.ensures.1 c.requires)
+    nonzero_items r.zero c.deref-5.result.now (2 ^ e.log_size) (λ i. eval_poly r (vanishing_polynomial r inv d) (point r root e i)) (c.deref-5.ensures.value ∙ c.in_ok-vanishing.ensures) (vanishing_not_zero r L inv W top root T dec d e c.valid.ensures.0 c.valid.ensures.1 c.requires)
 
 pub returns-clause-first : goal.returns-clause-first
 returns-clause-first g c =
@@ -131,17 +82,11 @@ returns-clause-first g c =
     let dec = decide_by _ g.met.F.FieldCore.eq_same g.met.F.FieldCore.same_eq in
     let d = c.args.domain.now in
     let e = c.args.coset.now in
-    let P = g.met.F.PrimeCharacteristicRing in
-    let ratio : c.mul-ratio.result ≡ r.mul (inv d.shift) e.shift = cc (P.muls _ _ _ c.mul-ratio.ensures, c.shift_inverse.ensures, c.shift.ensures) in
-    let vanishing : c.in_ok-vanishing.vanishing.items ≡ tabulate (2 ^ e.log_size) (λ i. eval_poly r (vanishing_polynomial r inv d) (point r root e i)) =
-    vanishing_list r L inv W top root T dec d e c.valid.ensures.0 c.valid.ensures.1 c.requires c.in_ok-vanishing.vanishing.items c.size-size.result c.exp_power_of_2.result c.exp_power_of_2-2.result c.ONE.result c.in_ok-vanishing.ensures c.size-size.ensures
-    (cc (c.exp_power_of_2.ensures, ratio, c.log_size-log_size.ensures)) (cc (c.exp_power_of_2-2.ensures, c.subgroup_generator-step.ensures, c.log_size-log_size.ensures)) (c.ONE.ensures ∙ g.met.F.RingCore.one_is) in
     let firsts : c.in_ok-from_first.from_first.items ≡ tabulate (2 ^ e.log_size) (from_first r L inv W top root T dec d e c.valid.ensures.0 c.valid.ensures.1 c.requires) =
-    distances c.in_ok-from_first.from_first.items c.size-size.result (2 ^ e.log_size) r c.mul-ratio.result (r.mul (inv d.shift) e.shift) c.subgroup_generator-step.result (root e.log_size) c.ONE-2.result r.one
-    c.in_ok-from_first.ensures c.size-size.ensures ratio c.subgroup_generator-step.ensures (c.ONE-2.ensures ∙ g.met.F.RingCore.one_is) in
+    less c.in_ok-from_first.from_first.items (2 ^ e.log_size) r (r.mul (inv d.shift) e.shift) (root e.log_size) c.ONE.result r.one c.in_ok-from_first.ensures (c.ONE.ensures ∙ g.met.F.RingCore.one_is) in
     let made : c.in_ok-quotients.field-0.items ≡ tabulate (length c.deref.result.now) (λ i. r.mul (get_or c.deref.result.now i r.zero) (inv (get_or c.deref-2.result.now i r.zero))) = c.in_ok-quotients.ensures in
     made ∙ quotient_list r inv c.deref.result.now c.deref-2.result.now (2 ^ e.log_size) (λ i. eval_poly r (vanishing_polynomial r inv d) (point r root e i)) (from_first r L inv W top root T dec d e c.valid.ensures.0 c.valid.ensures.1 c.requires) (λ i. eval_poly r (first_selector r inv d) (point r root e i))
-    (c.deref.ensures.value ∙ vanishing) (c.deref-2.ensures.value ∙ firsts) (first_at r L inv W top root T dec d e c.valid.ensures.0 c.valid.ensures.1 c.requires)
+    (c.deref.ensures.value ∙ c.in_ok-vanishing.ensures) (c.deref-2.ensures.value ∙ firsts) (first_at r L inv W top root T dec d e c.valid.ensures.0 c.valid.ensures.1 c.requires)
 
 pub returns-clause-last : goal.returns-clause-last
 returns-clause-last g c =
@@ -155,17 +100,12 @@ returns-clause-last g c =
     let dec = decide_by _ g.met.F.FieldCore.eq_same g.met.F.FieldCore.same_eq in
     let d = c.args.domain.now in
     let e = c.args.coset.now in
-    let P = g.met.F.PrimeCharacteristicRing in
-    let ratio : c.mul-ratio.result ≡ r.mul (inv d.shift) e.shift = cc (P.muls _ _ _ c.mul-ratio.ensures, c.shift_inverse.ensures, c.shift.ensures) in
-    let vanishing : c.in_ok-vanishing.vanishing.items ≡ tabulate (2 ^ e.log_size) (λ i. eval_poly r (vanishing_polynomial r inv d) (point r root e i)) =
-    vanishing_list r L inv W top root T dec d e c.valid.ensures.0 c.valid.ensures.1 c.requires c.in_ok-vanishing.vanishing.items c.size-size.result c.exp_power_of_2.result c.exp_power_of_2-2.result c.ONE.result c.in_ok-vanishing.ensures c.size-size.ensures
-    (cc (c.exp_power_of_2.ensures, ratio, c.log_size-log_size.ensures)) (cc (c.exp_power_of_2-2.ensures, c.subgroup_generator-step.ensures, c.log_size-log_size.ensures)) (c.ONE.ensures ∙ g.met.F.RingCore.one_is) in
     let lasts : c.in_ok-from_last.from_last.items ≡ tabulate (2 ^ e.log_size) (from_last r L inv W top root T dec d e c.valid.ensures.0 c.valid.ensures.1 c.requires) =
-    distances c.in_ok-from_last.from_last.items c.size-size.result (2 ^ e.log_size) r c.mul-ratio.result (r.mul (inv d.shift) e.shift) c.subgroup_generator-step.result (root e.log_size) c.inverse-before_first.result (inv (root d.log_size))
-    c.in_ok-from_last.ensures c.size-size.ensures ratio c.subgroup_generator-step.ensures (c.inverse-before_first.ensures ∙ ap inv c.subgroup_generator.ensures) in
+    less c.in_ok-from_last.from_last.items (2 ^ e.log_size) r (r.mul (inv d.shift) e.shift) (root e.log_size) c.inverse-before_first.result (inv (root d.log_size)) c.in_ok-from_last.ensures
+    (c.inverse-before_first.ensures ∙ ap inv c.subgroup_generator.ensures) in
     let made : c.in_ok-quotients-2.field-0.items ≡ tabulate (length c.deref-3.result.now) (λ i. r.mul (get_or c.deref-3.result.now i r.zero) (inv (get_or c.deref-4.result.now i r.zero))) = c.in_ok-quotients-2.ensures in
     made ∙ quotient_list r inv c.deref-3.result.now c.deref-4.result.now (2 ^ e.log_size) (λ i. eval_poly r (vanishing_polynomial r inv d) (point r root e i)) (from_last r L inv W top root T dec d e c.valid.ensures.0 c.valid.ensures.1 c.requires) (λ i. eval_poly r (last_selector r inv root d) (point r root e i))
-    (c.deref-3.ensures.value ∙ vanishing) (c.deref-4.ensures.value ∙ lasts) (last_at r L inv W top root T dec d e c.valid.ensures.0 c.valid.ensures.1 c.requires)
+    (c.deref-3.ensures.value ∙ c.in_ok-vanishing.ensures) (c.deref-4.ensures.value ∙ lasts) (last_at r L inv W top root T dec d e c.valid.ensures.0 c.valid.ensures.1 c.requires)
 
 pub returns-clause-transition : goal.returns-clause-transition
 returns-clause-transition g c =
@@ -179,29 +119,17 @@ returns-clause-transition g c =
     let dec = decide_by _ g.met.F.FieldCore.eq_same g.met.F.FieldCore.same_eq in
     let d = c.args.domain.now in
     let e = c.args.coset.now in
-    let P = g.met.F.PrimeCharacteristicRing in
-    let ratio : c.mul-ratio.result ≡ r.mul (inv d.shift) e.shift = cc (P.muls _ _ _ c.mul-ratio.ensures, c.shift_inverse.ensures, c.shift.ensures) in
     let lasts : c.in_ok-from_last.from_last.items ≡ tabulate (2 ^ e.log_size) (from_last r L inv W top root T dec d e c.valid.ensures.0 c.valid.ensures.1 c.requires) =
-    distances c.in_ok-from_last.from_last.items c.size-size.result (2 ^ e.log_size) r c.mul-ratio.result (r.mul (inv d.shift) e.shift) c.subgroup_generator-step.result (root e.log_size) c.inverse-before_first.result (inv (root d.log_size))
-    c.in_ok-from_last.ensures c.size-size.ensures ratio c.subgroup_generator-step.ensures (c.inverse-before_first.ensures ∙ ap inv c.subgroup_generator.ensures) in
+    less c.in_ok-from_last.from_last.items (2 ^ e.log_size) r (r.mul (inv d.shift) e.shift) (root e.log_size) c.inverse-before_first.result (inv (root d.log_size)) c.in_ok-from_last.ensures
+    (c.inverse-before_first.ensures ∙ ap inv c.subgroup_generator.ensures) in
     transition_list r L inv W top root T dec d e c.valid.ensures.0 c.valid.ensures.1 c.requires c.in_ok-from_last.from_last.items lasts
 
 pub returns-clause-inverse : goal.returns-clause-inverse
 returns-clause-inverse g c =
     let r = g.F.RingCore.ring in
-    let L = g.met.F.RingCore.ring_laws in
     let inv = g.F.FieldCore.inv in
-    let W = g.met.F.FieldCore.field_laws in
-    let top = g.F.TwoAdicCore.TWO_ADICITY in
     let root = g.F.TwoAdicCore.root in
-    let T = g.met.F.TwoAdicCore.root_laws in
-    let dec = decide_by _ g.met.F.FieldCore.eq_same g.met.F.FieldCore.same_eq in
     let d = c.args.domain.now in
     let e = c.args.coset.now in
-    let P = g.met.F.PrimeCharacteristicRing in
-    let ratio : c.mul-ratio.result ≡ r.mul (inv d.shift) e.shift = cc (P.muls _ _ _ c.mul-ratio.ensures, c.shift_inverse.ensures, c.shift.ensures) in
-    let vanishing : c.in_ok-vanishing.vanishing.items ≡ tabulate (2 ^ e.log_size) (λ i. eval_poly r (vanishing_polynomial r inv d) (point r root e i)) =
-    vanishing_list r L inv W top root T dec d e c.valid.ensures.0 c.valid.ensures.1 c.requires c.in_ok-vanishing.vanishing.items c.size-size.result c.exp_power_of_2.result c.exp_power_of_2-2.result c.ONE.result c.in_ok-vanishing.ensures c.size-size.ensures
-    (cc (c.exp_power_of_2.ensures, ratio, c.log_size-log_size.ensures)) (cc (c.exp_power_of_2-2.ensures, c.subgroup_generator-step.ensures, c.log_size-log_size.ensures)) (c.ONE.ensures ∙ g.met.F.RingCore.one_is) in
     let made : c.in_ok-batch_multiplicative_inverse.field-0.items ≡ map inv c.deref-5.result.now = c.in_ok-batch_multiplicative_inverse.ensures in
-    made ∙ inverse_list inv c.deref-5.result.now (2 ^ e.log_size) (λ i. eval_poly r (vanishing_polynomial r inv d) (point r root e i)) (c.deref-5.ensures.value ∙ vanishing)
+    made ∙ inverse_list inv c.deref-5.result.now (2 ^ e.log_size) (λ i. eval_poly r (vanishing_polynomial r inv d) (point r root e i)) (c.deref-5.ensures.value ∙ c.in_ok-vanishing.ensures)
