@@ -1,8 +1,11 @@
 pub mod Sized
 pub mod Granted
 pub mod JobTables
+pub mod Lengths
 pub mod OpenedSizes
+pub mod OpenedCounts
 pub mod Within
+pub mod FileLength
 pub mod Refused
 pub mod Drawn
 pub mod OneAnswer

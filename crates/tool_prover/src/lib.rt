@@ -10,4 +10,4 @@ mod outside;
 mod proving;
 
 pub use answer::answer_prove;
-pub use laws::there_is_one_answer;
+pub use laws::{there_is_one_answer, traced_batches_are_granted};

@@ -1,6 +1,7 @@
 -- The plain scheme refuses nothing that a prover of a traced batch asks of it, where its subgroups are large enough.
-use Rattle.std.proofs.Common.{◌≡◌, ℕ, ◌+◌, ◌*◌, ◌<◌, ◌≤◌, false, List, [], ◌∷◌, Some, length, map, Option, sym, ◌∙◌, ap, subst, arith}
+use Rattle.std.proofs.Common.{◌≡◌, ℕ, zero, suc, ◌+◌, ◌*◌, ◌<◌, ◌≤◌, false, inl, inr, List, [], ◌∷◌, Some, length, map, Option, sym, ◌∙◌, ap, subst, arith}
 use Rattle.std.specs.Prelude.{All, option_map, slice_get}
+use Rattle.std.proofs.lemmas.Bool.{cases_lt}
 use Rattle.std.proofs.lemmas.List.{length-map}
 use Rattle.std.proofs.lemmas.Option.{slice_get-map, slice_get_within}
 use Rattle.p3_field.specs.Domain.{CosetData}
@@ -36,6 +37,7 @@ use Rattle.batch_proving.specs.Telling.{IsOverloaded, PhaseTells}
 use Rattle.committed_tables.specs.Fields.{FieldsLaws}
 use Rattle.honest_acceptance.specs.Rounds.{OpenedMatrix, Round, committed_of, honest_rounds}
 use Rattle.honest_proofs.specs.HonestProof.{alpha, challenges_at}
+use Rattle.plain_soundness.specs.PlainSetting.{plain_scheme}
 use Rattle.tool_prover.specs.Laws.Sized.{IsSized, all_flat, chunks_sized, main_sized, permutations_sized}
 
 -- no item is the first that lacks what all have
@@ -68,7 +70,7 @@ extended s ls (Open i) each F = F
 asked_long : {F E : Type 0} (points : List (List E)) (matrices : List (OpenedMatrix F E)) → points ≡ map (λ o. o.points) matrices → length points ≡ length matrices
 asked_long points matrices e = ap length e ∙ length-map matrices (λ o. o.points)
 
-module _ {S F E : Type 0} (s : Scheme F) (rings : RingLaws s.field.ring) (fields : FieldLaws s.field.ring s.field.inv) (roots : TwoAdicLaws s.field.ring s.most s.field.root) (b : Batch S F E (PlainCommitmentData F)) (L : FieldsLaws b.setting.field b.setting.extension b.setting.two_adicity b.prover.inverse) (plain : b.setting.zk ≡ false)
+module _ {S F E : Type 0} (s : Scheme F) (rings : RingLaws s.field.ring) (fields : FieldLaws s.field.ring s.field.inv) (roots : TwoAdicLaws s.field.ring s.most s.field.root) (b : Batch S F E (PlainCommitmentData F)) {inverse : E → E} (L : FieldsLaws b.setting.field b.setting.extension b.setting.two_adicity inverse) (plain : b.setting.zk ≡ false)
     (traced : (i : ℕ) → i < table_count b → IsTraced b.setting (table_at b i)) (most widest : ℕ) (room : most + s.log_blowup ≤ s.most) (low : (i : ℕ) → i < table_count b → (table_at b i).degree_bits ≤ most)
     (narrow : (i : ℕ) → i < table_count b → (declared (table_at b i)).width ≤ widest) (few : (i : ℕ) → i < table_count b → (length (table_at b i).lookups + 1) * b.setting.extension.dimension ≤ widest)
     (dimension : b.setting.extension.dimension ≤ widest) where
@@ -113,7 +115,7 @@ module _ {S F E : Type 0} (s : Scheme F) (rings : RingLaws s.field.ring) (fields
   opens w z requests (Open i) A F = none_lacks (λ r. length r.points ≡ length r.prover_data) requests i (asked_fits w z requests A) F
 
   -- so no phase is refused
-  pub phase_granted : (phase : ProverPhase) (e : PlainProverError) → PhaseTells k b phase e → ⊥
+  phase_granted : (phase : ProverPhase) (e : PlainProverError) → PhaseTells k b phase e → ⊥
   phase_granted PreprocessingCommitment e f = f
   phase_granted TraceCommitment e f = commits s most widest room (main_matrices b) e mains_sized f
   phase_granted PermutationCommitment e f = commits_some s most widest room (all_permutations b f.0) e (all_permutations_sized f.0) f.2
@@ -121,6 +123,40 @@ module _ {S F E : Type 0} (s : Scheme F) (rings : RingLaws s.field.ring) (fields
   phase_granted QuotientCommitment e f = extended s f.2.0 e (λ i l. extended_height s rings fields roots (all_chunks b f.0) f.2.0 f.2.1 i l) f.2.2
   phase_granted Opening e f = opens f.0 f.1 f.3.0 e f.3.1 f.3.2
 
-  -- and where no bus is loaded too much, none is said to be
-  pub none_overloaded : HaveLoadsBelow b.setting.order b.statement.common.lookups (heights_of (masks b.setting) b.degree_bits (table_count b)) → (bus : ℕ) → IsOverloaded k b bus → ⊥
-  none_overloaded bounded bus O = let less = bounded O.number O.within in let more = O.reaches in omega (arith, less, more)
+-- where no bus is loaded too much, none is said to be
+pub none_overloaded : {S F E : Type 0} (s : Scheme F) (b : Batch S F E (PlainCommitmentData F)) → HaveLoadsBelow b.setting.order b.statement.common.lookups (heights_of (masks b.setting) b.degree_bits (table_count b))
+    → (bus : ℕ) → IsOverloaded (plain_prover_backend s) b bus → ⊥
+none_overloaded s b bounded bus O = let less = bounded O.number O.within in let more = O.reaches in omega (arith, less, more)
+
+-- a number that none of the first n passes
+abbrev bound_of : (ℕ → ℕ) → ℕ → ℕ
+bound_of g zero = 0
+bound_of g (suc n) = bound_of g n + g n
+
+within_bound : (g : ℕ → ℕ) (n i : ℕ) → i < n → g i ≤ bound_of g n
+within_bound g zero i h = absurd (omega (arith, h))
+within_bound g (suc n) i h = elim (cases_lt i n) [
+  | inl below ↦ let q = within_bound g n i below in omega (arith, q)
+  | inr above ↦ let same : n ≡ i = omega (arith, h, above) in subst (λ k. g k ≤ bound_of g n + g n) same (omega arith)
+]
+
+-- Of a batch of traced tables over the plain scheme no phase is refused, where the field has subgroups for the extensions of traces of all heights that are
+-- allowed.
+module _ {S F E : Type 0} (b : Batch S F E (PlainCommitmentData F)) (log_blowup : ℕ) {inverse : E → E} (L : FieldsLaws b.setting.field b.setting.extension b.setting.two_adicity inverse)
+    (plain : b.setting.zk ≡ false) (room : b.setting.log_max + log_blowup ≤ b.setting.two_adicity) (traced : (i : ℕ) → i < table_count b → IsTraced b.setting (table_at b i)) where
+  abbrev widths : ℕ → ℕ
+  widths i = (declared (table_at b i)).width + (length (table_at b i).lookups + 1) * b.setting.extension.dimension
+
+  abbrev widest : ℕ
+  widest = bound_of widths (table_count b) + b.setting.extension.dimension
+
+  width_within : (i : ℕ) → i < table_count b → (declared (table_at b i)).width + (length (table_at b i).lookups + 1) * b.setting.extension.dimension ≤ widest
+  width_within i l = let q = within_bound widths (table_count b) i l in omega (arith, q)
+
+  dimension_within : b.setting.extension.dimension ≤ widest
+  dimension_within = omega arith
+
+  pub batch_granted : (phase : ProverPhase) (e : PlainProverError) → PhaseTells (plain_prover_backend (plain_scheme b.setting log_blowup)) b phase e → ⊥
+  batch_granted =
+      phase_granted (plain_scheme b.setting log_blowup) L.below L.below_field L.roots b L plain traced b.setting.log_max widest room (λ i l. (traced i l).most)
+      (λ i l. (let q = width_within i l in omega (arith, q))) (λ i l. (let q = width_within i l in omega (arith, q))) dimension_within

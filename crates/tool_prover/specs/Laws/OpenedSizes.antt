@@ -32,7 +32,7 @@ next_within [] xs h = tt
 next_within (n ∷ ns) xs h = values_within xs h
 
 -- as many values as columns
-at_columns : {F E : Type 0} (g : List F → E) (columns : List (List F)) (n : ℕ) → length columns ≤ n → length (map g columns) ≤ n
+pub at_columns : {F E : Type 0} (g : List F → E) (columns : List (List F)) (n : ℕ) → length columns ≤ n → length (map g columns) ≤ n
 at_columns g columns n h = omega (arith, length-map columns g, h)
 
 few_permuted : (n d : ℕ) → n ≤ 1 → d ≤ 4 → permutation_width n d ≤ 8
@@ -45,10 +45,10 @@ module _ {S F C : Type 0} (c : Setting S F QuarticExtension C) (p : Prover F Qua
   abbrev k : CommittedTable F QuarticExtension
   k = committed_table c p t challenges
 
-  main_few : length k.main ≤ 9168
+  pub main_few : length k.main ≤ 9168
   main_few = let n = (honest_commits c p t challenges L Q T).main.count in let w = T.width in omega (arith, n, w, columns)
 
-  permutation_few : length k.permutation ≤ 8
+  pub permutation_few : length k.permutation ≤ 8
   permutation_few = let n = permutation_count c p t challenges L Q T in let m = few_permuted (length t.lookups) c.extension.dimension lookups dimension in omega (arith, n, m)
 
   by_trace : (m : Option (Rows F)) → width_of m ≤ 1 → InterpolateSome c.field (trace_domain c.field c.extension k) m k.preprocessed → (ns : List ℕ) (x y : QuarticExtension)

@@ -16,21 +16,17 @@ use Rattle.tool_statement.specs.Config.{tool_scheme, tool_setting}
 use Rattle.tool_validity.specs.Job.{IsJobTableWithin, JobTable}
 use Rattle.tool_prover.specs.JobAnswer.{IsTold}
 use Rattle.tool_prover.specs.JobBatch.{job_batch}
-use Rattle.tool_prover.specs.Laws.Granted.{none_overloaded, phase_granted}
-use Rattle.tool_prover.specs.Laws.JobTables.{tables_traced, tool_serves}
-use Rattle.tool_prover.specs.Laws.Within.{few_flat, fields, four, low, narrow, unmasked}
+use Rattle.tool_prover.specs.Laws.Granted.{batch_granted, none_overloaded}
+use Rattle.tool_prover.specs.Laws.JobTables.{tables_traced}
+use Rattle.tool_prover.specs.Laws.Within.{fields, unmasked}
 
 module _ (job : List (JobTable BabyBear)) (many : length job ≤ 8) (within : All IsJobTableWithin job)
     (bounded : let b = job_batch job in HaveLoadsBelow b.setting.order b.statement.common.lookups (heights_of (masks b.setting) b.degree_bits (table_count b))) where
   -- what a refusal of the job's batch tells
   pub told : (e : ProvingError PlainProverError) → Tells (plain_prover_backend tool_scheme) (job_batch job) e → IsTold job e
   unfolding tool_setting
-  told (Pcs phase source) h =
-      phase_granted tool_scheme tool_serves.fields.below tool_serves.fields.below_field tool_serves.fields.roots (job_batch job) (fields job many within) unmasked (tables_traced job within) 10 9168 (omega arith) (low job many within)
-      (narrow job many within) (few_flat job many within) (let n = four in omega (arith, n)) phase source h
-  told (MultiplicityBound bus) h =
-      none_overloaded tool_scheme tool_serves.fields.below tool_serves.fields.below_field tool_serves.fields.roots (job_batch job) (fields job many within) unmasked (tables_traced job within) 10 9168 (omega arith) (low job many within)
-      (narrow job many within) (few_flat job many within) (let n = four in omega (arith, n)) bounded bus h
+  told (Pcs phase source) h = batch_granted (job_batch job) 1 (fields job many within) unmasked (omega arith) (tables_traced job within) phase source h
+  told (MultiplicityBound bus) h = none_overloaded tool_scheme (job_batch job) bounded bus h
   told (LookupDenominatorZero i row) h = h
   told (WitnessNotFound Lookup) h = h
   told (WitnessNotFound Ood) h = h

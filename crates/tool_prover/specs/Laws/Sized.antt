@@ -36,7 +36,7 @@ pub all_where : {A Y : Type 0} (P : Y → Type 0) (ls : List A) (y : Y) → (0 <
 all_where P [] y h = All-nil P
 all_where P (l ∷ ls) y h = All-cons P y [] (h (omega arith)) (All-nil P)
 
-module _ {S F E C : Type 0} (c : Setting S F E C) (p : Prover F E C) (t : TracedTable F) (challenges : List E) (L : FieldsLaws c.field c.extension c.two_adicity p.inverse) (T : IsTraced c t) (plain : c.zk ≡ false)
+module _ {S F E C : Type 0} (c : Setting S F E C) (p : Prover F E C) (t : TracedTable F) (challenges : List E) {inverse : E → E} (L : FieldsLaws c.field c.extension c.two_adicity inverse) (T : IsTraced c t) (plain : c.zk ≡ false)
     (most widest : ℕ) (low : t.degree_bits ≤ most) where
   pub rows_log : log_rows c t ≡ t.degree_bits
   rows_log = let m : masks c ≡ 0 = ap (λ b. cond b 1 0) plain in omega (arith, m)

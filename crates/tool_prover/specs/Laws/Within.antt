@@ -1,5 +1,5 @@
 -- The honest proof of a job within its limits is within those of proof files.
-use Rattle.std.proofs.Common.{◌≡◌, ℕ, zero, suc, ◌+◌, ◌*◌, ◌^◌, ◌<◌, ◌≤◌, false, List, [], ◌∷◌, length, get_or, map, Option, None, Some, refl, sym, ap, subst, arith}
+use Rattle.std.proofs.Common.{◌≡◌, ℕ, zero, suc, ◌+◌, ◌*◌, ◌^◌, ◌<◌, ◌≤◌, false, List, [], ◌∷◌, length, get_or, map, Option, None, Some, refl, sym, subst, arith}
 use Rattle.std.specs.Prelude.{All, option_to_list}
 use Rattle.std.specs.List.{flat_map}
 use Rattle.std.proofs.lemmas.List.{get_or-map, length-append, length-map}
@@ -97,7 +97,7 @@ pub unmasked : tool_setting.zk ≡ false
 unmasked = tool_serves.plain
 
 module _ (job : List (JobTable BabyBear)) (many : length job ≤ 8) (within : All IsJobTableWithin job) where
-  few_tables : table_count (job_batch job) ≤ 8
+  pub few_tables : table_count (job_batch job) ≤ 8
   few_tables = let n = as_many job in omega (arith, n, many)
 
   pub fields : FieldsLaws tool_setting.field tool_setting.extension tool_setting.two_adicity (job_batch job).prover.inverse
@@ -130,7 +130,7 @@ module _ (job : List (JobTable BabyBear)) (many : length job ≤ 8) (within : Al
   mains =
       mains_sized tool_scheme tool_serves.fields.below tool_serves.fields.below_field tool_serves.fields.roots (job_batch job) fields unmasked (tables_traced job within) 10 9168 (omega arith) low narrow few_flat (let n = four in omega (arith, n))
 
-  mains_few : length (main_matrices (job_batch job)) ≤ 16
+  pub mains_few : length (main_matrices (job_batch job)) ≤ 8
   mains_few =
       let n = few_tables in
       let at : ℕ → TracedTable BabyBear = table_at (job_batch job) in
@@ -160,7 +160,7 @@ module _ (job : List (JobTable BabyBear)) (many : length job ≤ 8) (within : Al
     permutations =
         all_permutations_sized tool_scheme tool_serves.fields.below tool_serves.fields.below_field tool_serves.fields.roots (job_batch job) fields unmasked (tables_traced job within) 10 9168 (omega arith) low narrow few_flat (let n = four in omega (arith, n)) w
 
-    permutations_few : length (all_permutations (job_batch job) w) ≤ 16
+    pub permutations_few : length (all_permutations (job_batch job) w) ≤ 16
     permutations_few =
         let n = few_tables in
         let m : length (all_permutations (job_batch job) w) ≤ 2 * table_count (job_batch job) = flat_few _ (table_count (job_batch job)) (λ i. i) (λ i l. where_few (table_at (job_batch job) i).lookups _) in
@@ -177,7 +177,7 @@ module _ (job : List (JobTable BabyBear)) (many : length job ≤ 8) (within : Al
         let n : length (chunks_of (job_batch job) w i) ≡ 2 ^ log_parts_at (job_batch job) i = length-tabulate (2 ^ log_parts_at (job_batch job) i) _ in
         omega (arith, two, n)
 
-    chunks_few : length (all_chunks (job_batch job) w) ≤ 16
+    pub chunks_few : length (all_chunks (job_batch job) w) ≤ 16
     chunks_few = let n = few_tables in let m = flat_few (chunks_of (job_batch job) w) (table_count (job_batch job)) (λ i. i) few_chunks in omega (arith, n, m)
 
     built_within : (opening : PlainProof) → ProofWithin (let b = job_batch job in honest_proof b.setting b.prover b.statement b.traces b.degree_bits w z opening)
@@ -189,7 +189,7 @@ module _ (job : List (JobTable BabyBear)) (many : length job ≤ 8) (within : Al
         let ended = length-tabulate n (λ i. honest_terminal tool_setting (job_batch job).prover (table_at (job_batch job) i) (challenges i)) in
         record {
           commitments = record {
-            main = commitment_within (main_matrices (job_batch job)) mains_few mains;
+            main = commitment_within (main_matrices (job_batch job)) (let m = mains_few in omega (arith, m)) mains;
             permutation = some_within (all_permutations (job_batch job) w) permutations_few permutations;
             quotient_chunks = commitment_within (all_chunks (job_batch job) w) chunks_few chunks;
             random = tt;
