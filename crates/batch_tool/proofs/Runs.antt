@@ -9,6 +9,7 @@ use Rattle.p3_field.specs.declared.baby_bear.BabyBear.{BabyBear}
 use Rattle.tool_validity.specs.Job.{JobTable}
 use Rattle.tool_jobs.specs.Jobs.{JobWithin, job_numbers}
 use Rattle.tool_prover.specs.JobAnswer.{IsJobAnswer, file_of}
+use Rattle.tool_prover.specs.Laws.FileLength.{honest_text_short}
 use Rattle.line_format.specs.WholeText.{ReadsText}
 use Rattle.line_format.specs.declared.parse.TextError.{TextError}
 use Rattle.line_format.specs.declared.parse.TextError.TheVariants.{Malformed, OutOfMemory as NoMemory}
@@ -30,15 +31,17 @@ one-word [] w a b e = absurd (omega arith)
 one-word (x ∷ []) w a b e = ap (λ (t : String Global). string_bytes t ∷ []) (sym e)
 one-word (x ∷ y ∷ ws) w a b e = absurd (omega arith)
 
--- the text of a proved job is that of a proof file, for which `verify` writes `accepted`
-proved-accepted : (job : List (JobTable BabyBear)) (text : List ℕ) → IsJobAnswer job Done text → IsAcceptedText text
+-- the text of a proved job is that of a proof file, which is not too long, and for which `verify` writes `accepted`
+proved-accepted : (job : List (JobTable BabyBear)) (text : List ℕ) → JobWithin job → IsJobAnswer job Done text → IsAcceptedText text
 unfolding IsJobAnswer
-proved-accepted job text a = (printed_rows (map statement_of job) a.proof, (file_of job a.proof, a.within, a.text_is, a.accepted))
+proved-accepted job text fits a =
+    let short = honest_text_short job fits text a in
+    (omega (arith, short), (printed_rows (map statement_of job) a.proof, (file_of job a.proof, a.within, a.text_is, a.accepted)))
 
 -- the answer to a job is the answer of `prove`
 pub prove-answers : (bytes : List ℕ) (job : List (JobTable BabyBear)) (status : Status) (text : List ℕ) → JobWithin job → bytes ≡ line_text (job_numbers job)
     → IsJobAnswer job status text → IsProveAnswer bytes status text
-prove-answers bytes job Done text fits e a = ((job, fits, e, a), proved-accepted job text a)
+prove-answers bytes job Done text fits e a = ((job, fits, e, a), proved-accepted job text fits a)
 prove-answers bytes job Refused text fits e a = (job, fits, e, a)
 prove-answers bytes job Usage text fits e a = (job, fits, e, a)
 prove-answers bytes job BadInput text fits e a = absurd (job-status job BadInput text a)

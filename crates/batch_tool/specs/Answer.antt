@@ -2,6 +2,7 @@
 use Rattle.std.specs.Prelude.{◌≡◌, ◌≤◌, ◌<◌, ◌+◌, ℕ, List, [], ◌∷◌, ◌++◌, length, take, codes, decimal, Option, ⊤}
 use Rattle.std.specs.Io.KnownBytes.{Consumes, Appends, IsAtEnd}
 use Rattle.p3_field.specs.declared.baby_bear.BabyBear.{BabyBear}
+use Rattle.byte_io.specs.Limits.{most_bytes}
 use Rattle.line_format.specs.Texts.{line_text}
 use Rattle.line_format.specs.WholeText.{IsNoText, IsFaultLine}
 use Rattle.tool_validity.specs.Job.{JobTable}
@@ -40,11 +41,12 @@ IsVerifyAnswer bytes status text = (file : FileData) × FileWithin file × (byte
 abbrev pub AnswersJob : List ℕ → Status → List ℕ → Type 0
 AnswersJob bytes status text = (job : List (JobTable BabyBear)) × JobWithin job × (bytes ≡ line_text (job_numbers job)) × IsJobAnswer job status text
 
--- `verify` writes `accepted` for this text, and rows of hash tables after it
+-- this text isn't too long for `verify`, which writes `accepted` for it, and rows of hash tables after it
 abbrev pub IsAcceptedText : List ℕ → Type 0
-IsAcceptedText text = (rows : List ℕ) × IsVerifyAnswer text Done (codes "accepted\n" ++ rows)
+IsAcceptedText text = (length text ≤ most_bytes) × ((rows : List ℕ) × IsVerifyAnswer text Done (codes "accepted\n" ++ rows))
 
--- The status and the text of `prove` for all the bytes of an input. For each text that it writes with the status `Done`, `verify` writes `accepted`.
+-- The status and the text of `prove` for all the bytes of an input. Each text that it writes with the status `Done` is one that `verify` reads whole, and
+-- for which it writes `accepted`.
 abbrev pub IsProveAnswer : List ℕ → Status → List ℕ → Type 0
 IsProveAnswer bytes BadInput text = IsBadInput JobWithin job_numbers bytes text
 IsProveAnswer bytes Done text = AnswersJob bytes Done text × IsAcceptedText text
