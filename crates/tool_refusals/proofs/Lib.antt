@@ -1,0 +1,5 @@
+mod Left
+mod Batch
+mod Tables
+mod Files
+mod Never
