@@ -2,6 +2,8 @@
 ghost use Rattle.std.specs.Prelude.{◌≡◌, ◌<◌, IfOk, length, [], ◌∷◌};
 ghost use Rattle.p3_matrix.specs.Matrix.{height};
 
+use crate::failures::{assert_failing, in_a_word};
+use crate::same::assert_same;
 use crate::take::{Take, take_lookups};
 use batch_constraints::{CheckFailure, check_constraints};
 use batch_tables::SwapAir;
@@ -41,18 +43,15 @@ fn checked_swap(alloc: Global, values: [u64; 4], x: u64) -> Result<(), CheckFail
 }
 
 #[test]
-fn swap_holds(rt: HostRuntime) -> Result<(), Fail> {
+fn swap_holds(rt: HostRuntime) {
     let alloc = rt.alloc();
-    assert!(rt; checked_swap(alloc, [0, 1, 1, 0], 0).is_ok());
+    assert_same(
+        &rt,
+        &in_a_word(checked_swap(alloc, [0, 1, 1, 0], 0)),
+        &"holds",
+    );
     // The right cell of the second row isn't the left one of the first.
-    match checked_swap(alloc, [0, 1, 1, 2], 2) {
-        Err(CheckFailure::Failing { row, places }) => {
-            assert_eq!(rt; row, 0);
-            assert_eq!(rt; places.as_slice(), [3usize].as_slice());
-        }
-        _ => assert!(rt; false),
-    }
-    Ok(())
+    assert_failing(&rt, checked_swap(alloc, [0, 1, 1, 2], 2), 0, &[3]);
 }
 
 // A column of these rows.
@@ -110,14 +109,10 @@ fn take_holds(rt: HostRuntime) -> Result<(), Fail> {
     let alloc = rt.alloc();
     let half = 1006632961;
     let honest = one_row(alloc, half)?;
-    assert!(rt; checked_take(alloc, &[bear(5)], &honest, bear(half)).is_ok());
-    match checked_take(alloc, &[bear(5)], &honest, bear(0)) {
-        Err(CheckFailure::Failing { row, places }) => {
-            assert_eq!(rt; row, 0);
-            assert_eq!(rt; places.as_slice(), [3usize].as_slice());
-        }
-        _ => assert!(rt; false),
-    }
+    let answer = checked_take(alloc, &[bear(5)], &honest, bear(half));
+    assert_same(&rt, &in_a_word(answer), &"holds");
+    let answer = checked_take(alloc, &[bear(5)], &honest, bear(0));
+    assert_failing(&rt, answer, 0, &[3]);
     Ok(())
 }
 
@@ -125,12 +120,7 @@ fn take_holds(rt: HostRuntime) -> Result<(), Fail> {
 fn take_of_another_height(rt: HostRuntime) -> Result<(), Fail> {
     let alloc = rt.alloc();
     let columns = eight_rows(alloc)?;
-    let rows = [bear(5); 4];
-    assert!(rt;
-        matches!(
-            checked_take(alloc, &rows, &columns, bear(0)),
-            Err(CheckFailure::PermutationHeight)
-        )
-    );
+    let answer = checked_take(alloc, &[bear(5); 4], &columns, bear(0));
+    assert_same(&rt, &in_a_word(answer), &"permutation height");
     Ok(())
 }

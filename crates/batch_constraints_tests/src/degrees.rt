@@ -3,11 +3,11 @@ ghost use Rattle.std.specs.Prelude.{◌≡◌, [], ◌∷◌, IfOk, length};
 ghost use Rattle.p3_air.specs.Degree.{HasPeriod};
 ghost use Rattle.p3_air.specs.Symbolic.{OperandsBelow};
 
+use crate::same::assert_same;
 use p3_air::{Cell, ExtCell, Node, SymbolicExpression};
 use p3_air_tests::support::{bear, of_cell};
 use p3_field::{BabyBear, FieldCore, Mem, RingCore};
 use std::alloc::Global;
-use std::test::Fail;
 
 // The degree of a cell, where the periodic columns have these periods.
 fn degree_of(alloc: Global, cell: Cell, periods: &[usize]) -> Mem<usize>
@@ -41,42 +41,42 @@ fn degree_of_constant(alloc: Global, x: BabyBear) -> Mem<usize> {
 
 // A column has degree 7, in this row and in the next.
 #[test]
-fn columns(rt: HostRuntime) -> Result<(), Fail> {
+fn columns(rt: HostRuntime) {
     let alloc = rt.alloc();
     for next in [false, true] {
-        let main = Cell::Main { next, column: 0 };
-        assert_eq!(rt; degree_of(alloc, main, &[])?, 7);
-        let preprocessed = Cell::Preprocessed { next, column: 0 };
-        assert_eq!(rt; degree_of(alloc, preprocessed, &[2])?, 7);
-        let permutation = ExtCell::Permutation { next, column: 0 };
-        assert_eq!(rt; degree_of_ext(alloc, permutation)?, 7);
+        let main = degree_of(alloc, Cell::Main { next, column: 0 }, &[]);
+        assert_same(&rt, &main.expect(&rt, "a degree"), &7);
+        let preprocessed = degree_of(alloc, Cell::Preprocessed { next, column: 0 }, &[2]);
+        assert_same(&rt, &preprocessed.expect(&rt, "a degree"), &7);
+        let permutation = degree_of_ext(alloc, ExtCell::Permutation { next, column: 0 });
+        assert_same(&rt, &permutation.expect(&rt, "a degree"), &7);
     }
-    Ok(())
 }
 
 // Eight values repeat once, 7 * 1; four twice, 3 * 2; two four times, 1 * 4; one is a constant, 0 * 8.
 #[test]
-fn periodic_columns(rt: HostRuntime) -> Result<(), Fail> {
-    let alloc = rt.alloc();
-    for (period, degree) in [(8, 7), (4, 6), (2, 4), (1, 0), (0, 0)] {
+fn periodic_columns(rt: HostRuntime) {
+    for (period, wanted) in [(8, 7), (4, 6), (2, 4), (1, 0), (0, 0)] {
+        let degree = degree_of(rt.alloc(), Cell::Periodic(0), &[period]);
         assert_eq!(rt;
-            degree_of(alloc, Cell::Periodic(0), &[period])?,
-            degree,
+            degree.expect(&rt, "a degree"),
+            wanted,
             "of period {period}"
         );
     }
-    Ok(())
 }
 
 #[test]
-fn selectors_and_constants(rt: HostRuntime) -> Result<(), Fail> {
+fn selectors_and_constants(rt: HostRuntime) {
     let alloc = rt.alloc();
-    assert_eq!(rt; degree_of(alloc, Cell::FirstRow, &[])?, 7);
-    assert_eq!(rt; degree_of(alloc, Cell::LastRow, &[])?, 7);
-    assert_eq!(rt; degree_of(alloc, Cell::Transition, &[])?, 1);
-    assert_eq!(rt; degree_of(alloc, Cell::Public(0), &[])?, 0);
-    assert_eq!(rt; degree_of_ext(alloc, ExtCell::Challenge(0))?, 0);
-    assert_eq!(rt; degree_of_ext(alloc, ExtCell::Terminal)?, 0);
-    assert_eq!(rt; degree_of_constant(alloc, bear(3))?, 0);
-    Ok(())
+    let first = degree_of(alloc, Cell::FirstRow, &[]).expect(&rt, "a degree");
+    let last = degree_of(alloc, Cell::LastRow, &[]).expect(&rt, "a degree");
+    let transition = degree_of(alloc, Cell::Transition, &[]).expect(&rt, "a degree");
+    assert_same(&rt, &(first, last, transition), &(7, 7, 1));
+    let public = degree_of(alloc, Cell::Public(0), &[]).expect(&rt, "a degree");
+    let challenge = degree_of_ext(alloc, ExtCell::Challenge(0)).expect(&rt, "a degree");
+    let terminal = degree_of_ext(alloc, ExtCell::Terminal).expect(&rt, "a degree");
+    assert_same(&rt, &(public, challenge, terminal), &(0, 0, 0));
+    let constant = degree_of_constant(alloc, bear(3)).expect(&rt, "a degree");
+    assert_same(&rt, &constant, &0);
 }

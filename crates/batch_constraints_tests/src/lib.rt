@@ -6,6 +6,10 @@ mod checks;
 pub mod cube;
 #[cfg(test)]
 mod degrees;
+#[cfg(test)]
+mod failures;
+#[cfg(test)]
+mod same;
 pub mod sending;
 #[cfg(test)]
 mod sending_checks;

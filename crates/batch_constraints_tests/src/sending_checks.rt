@@ -2,6 +2,8 @@
 ghost use Rattle.std.specs.Prelude.{◌≡◌, ◌<◌, IfOk, length};
 ghost use Rattle.p3_matrix.specs.Matrix.{height};
 
+use crate::failures::{assert_failing, in_a_word};
+use crate::same::assert_same;
 use crate::sending::{sending_air, sending_lookups};
 use batch_constraints::{CheckFailure, check_constraints, get_max_constraint_degree};
 use batch_tables::SendingAir;
@@ -61,16 +63,10 @@ fn checked_pair(alloc: Global, columns: &RowMajorMatrix<BabyBear>) -> Result<(),
 fn fractions_of_both_lookups(rt: HostRuntime) -> Result<(), Fail> {
     let alloc = rt.alloc();
     let honest = two_rows(alloc, [0, 1, 0, 1, 1, 0])?;
-    assert!(rt; checked_pair(alloc, &honest).is_ok());
+    assert_same(&rt, &in_a_word(checked_pair(alloc, &honest)), &"holds");
     // The second fraction is wrong in the second row, and so is the end of the running sum.
     let wrong = two_rows(alloc, [0, 1, 0, 1, 1, 5])?;
-    match checked_pair(alloc, &wrong) {
-        Err(CheckFailure::Failing { row, places }) => {
-            assert_eq!(rt; row, 1);
-            assert_eq!(rt; places.as_slice(), [2usize, 5].as_slice());
-        }
-        _ => assert!(rt; false),
-    }
+    assert_failing(&rt, checked_pair(alloc, &wrong), 1, &[2, 5]);
     Ok(())
 }
 
@@ -89,6 +85,6 @@ fn degree_with_a_constant_column(rt: HostRuntime) -> Result<(), Fail> {
         &[],
         &LogUpGadget::new(),
     )?;
-    assert_eq!(rt; degree, 1);
+    assert_same(&rt, &degree, &1);
     Ok(())
 }

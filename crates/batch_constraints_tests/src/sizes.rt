@@ -2,6 +2,7 @@
 ghost use Rattle.std.specs.Prelude.{◌≡◌, ◌≤◌, ◌<◌, ◌^◌, IfOk};
 
 use crate::cube::Cube;
+use crate::same::{assert_same, assert_values};
 use crate::take::{Take, take_lookups};
 use batch_constraints::{
     get_constraint_layout, get_log_num_quotient_chunks, get_log_num_quotient_chunks_for_domain,
@@ -17,7 +18,7 @@ use std::alloc::Global;
 use std::test::Fail;
 
 #[test]
-fn swap_has_five_constraints(rt: HostRuntime) -> Result<(), Fail> {
+fn swap_has_five_constraints(rt: HostRuntime) {
     let alloc = rt.alloc();
     let gadget = LogUpGadget::new();
     let layout = AirLayout::from_air::<BabyBear, SwapAir>(&SwapAir);
@@ -27,20 +28,17 @@ fn swap_has_five_constraints(rt: HostRuntime) -> Result<(), Fail> {
         layout,
         &[],
         &gadget,
-    )?;
-    assert_eq!(rt; (constraints.0.len(), constraints.1.len()), (5, 0));
+    ).expect(&rt, "constraints");
+    assert_same(&rt, &(constraints.0.len(), constraints.1.len()), &(5, 0));
     let places = get_constraint_layout::<BabyBear, SwapAir, LogUpGadget>(
         alloc,
         &SwapAir,
         layout,
         &[],
         &gadget,
-    )?;
-    assert_eq!(rt;
-        places.base_indices.as_slice(),
-        [0usize, 1, 2, 3, 4].as_slice()
-    );
-    assert_eq!(rt; places.ext_indices.len(), 0);
+    ).expect(&rt, "places");
+    assert_values(&rt, places.base_indices.as_slice(), &[0, 1, 2, 3, 4]);
+    assert_same(&rt, &places.ext_indices.len(), &0);
     let degree = get_max_constraint_degree::<BabyBear, SwapAir, LogUpGadget>(
         alloc,
         &SwapAir,
@@ -48,9 +46,8 @@ fn swap_has_five_constraints(rt: HostRuntime) -> Result<(), Fail> {
         8,
         &[],
         &gadget,
-    )?;
-    assert_eq!(rt; degree, 2);
-    Ok(())
+    ).expect(&rt, "a degree");
+    assert_same(&rt, &degree, &2);
 }
 
 #[test]
@@ -59,13 +56,28 @@ fn take_has_those_of_its_lookup(rt: HostRuntime) -> Result<(), Fail> {
     let gadget = LogUpGadget::new();
     let layout = AirLayout::from_air::<BabyBear, Take>(&Take);
     let lookups = take_lookups(alloc)?;
-    let constraints = get_symbolic_constraints(alloc, &Take, layout, lookups.as_slice(), &gadget)?;
-    assert_eq!(rt; (constraints.0.len(), constraints.1.len()), (0, 4));
-    let places = get_constraint_layout(alloc, &Take, layout, lookups.as_slice(), &gadget)?;
-    assert_eq!(rt; places.base_indices.len(), 0);
-    assert_eq!(rt; places.ext_indices.as_slice(), [0usize, 1, 2, 3].as_slice());
-    let degree = get_max_constraint_degree(alloc, &Take, layout, 8, lookups.as_slice(), &gadget)?;
-    assert_eq!(rt; degree, 2);
+    let constraints = get_symbolic_constraints(
+        alloc,
+        &Take,
+        layout,
+        lookups.as_slice(),
+        &gadget,
+    ).expect(&rt, "constraints");
+    assert_same(&rt, &(constraints.0.len(), constraints.1.len()), &(0, 4));
+    let places = get_constraint_layout(alloc, &Take, layout, lookups.as_slice(), &gadget).expect(
+        &rt, "places",
+    );
+    assert_same(&rt, &places.base_indices.len(), &0);
+    assert_values(&rt, places.ext_indices.as_slice(), &[0, 1, 2, 3]);
+    let degree = get_max_constraint_degree(
+        alloc,
+        &Take,
+        layout,
+        8,
+        lookups.as_slice(),
+        &gadget,
+    ).expect(&rt, "a degree");
+    assert_same(&rt, &degree, &2);
     Ok(())
 }
 
@@ -95,7 +107,7 @@ fn chunks_on_a_coset(alloc: Global, is_zk: usize) -> Mem<usize>
 
 // The constraint has degree 3, and the hint is 1.
 #[test]
-fn chunks_of_a_cube(rt: HostRuntime) -> Result<(), Fail> {
+fn chunks_of_a_cube(rt: HostRuntime) {
     let alloc = rt.alloc();
     let gadget = LogUpGadget::new();
     let layout = AirLayout::from_air::<BabyBear, Cube>(&Cube);
@@ -108,24 +120,22 @@ fn chunks_of_a_cube(rt: HostRuntime) -> Result<(), Fail> {
             &[],
             is_zk,
             &gadget,
-        )?;
-        assert_eq!(rt; count, log_chunks, "with is_zk {is_zk}");
-        assert_eq!(rt;
-            chunks_on_a_coset(alloc, is_zk)?,
-            log_chunks,
-            "with is_zk {is_zk}"
+        ).expect(&rt, "a count");
+        let on_coset = chunks_on_a_coset(alloc, is_zk).expect(&rt, "a count");
+        assert_same(
+            &rt,
+            &(is_zk, count, on_coset),
+            &(is_zk, log_chunks, log_chunks),
         );
     }
-    Ok(())
 }
 
 #[test]
-fn counts_of_openings(rt: HostRuntime) -> Result<(), Fail> {
+fn counts_of_openings(rt: HostRuntime) {
     let univariate = num_batched_openings(100, true, 0, false, 2, 8, 4, OpeningShape::Univariate);
-    assert_eq!(rt; univariate, 280);
+    assert_same(&rt, &univariate, &280);
     let circle = num_batched_openings(100, true, 0, false, 2, 8, 4, OpeningShape::Circle);
-    assert_eq!(rt; circle, 560);
+    assert_same(&rt, &circle, &560);
     let alone = num_batched_openings(100, true, 0, false, 2, 0, 4, OpeningShape::Univariate);
-    assert_eq!(rt; alone, 208);
-    Ok(())
+    assert_same(&rt, &alone, &208);
 }

@@ -9,6 +9,8 @@ ghost use Rattle.p3_matrix.specs.Matrix.{height};
 ghost use Rattle.p3_air.specs.Tree.{cell, difference, product};
 ghost use Rattle.p3_air.specs.Laws.Declared.{counts-none};
 
+use crate::failures::{assert_failing, in_a_word};
+use crate::same::assert_same;
 use batch_constraints::{CheckFailure, check_constraints};
 use p3_air::{Air, AirBuilder, BaseAir, Cell, InteractionBuilder};
 use p3_air_tests::support::bear;
@@ -171,15 +173,9 @@ fn wheel_turns(rt: HostRuntime) -> Result<(), Fail> {
     let alloc = rt.alloc();
     let main = four_rows(alloc, [3, 10, 9, 20])?;
     let numbers = four_rows(alloc, [1, 2, 3, 4])?;
-    assert!(rt; checked(alloc, &main, &numbers).is_ok());
+    assert_same(&rt, &in_a_word(checked(alloc, &main, &numbers)), &"holds");
     let slipped = four_rows(alloc, [3, 10, 15, 20])?;
-    match checked(alloc, &slipped, &numbers) {
-        Err(CheckFailure::Failing { row, places }) => {
-            assert_eq!(rt; row, 2);
-            assert_eq!(rt; places.as_slice(), [0usize].as_slice());
-        }
-        _ => assert!(rt; false),
-    }
+    assert_failing(&rt, checked(alloc, &slipped, &numbers), 2, &[0]);
     Ok(())
 }
 
@@ -188,11 +184,7 @@ fn wheel_of_another_height(rt: HostRuntime) -> Result<(), Fail> {
     let alloc = rt.alloc();
     let main = four_rows(alloc, [3, 10, 9, 20])?;
     let numbers = eight_rows(alloc)?;
-    assert!(rt;
-        matches!(
-            checked(alloc, &main, &numbers),
-            Err(CheckFailure::PreprocessedHeight)
-        )
-    );
+    let answer = checked(alloc, &main, &numbers);
+    assert_same(&rt, &in_a_word(answer), &"preprocessed height");
     Ok(())
 }

@@ -7,6 +7,7 @@ ghost use Rattle.batch_constraints.specs.BatchTrees.{AreLookupsOf};
 ghost use Rattle.batch_constraints_tests.specs.Tables.{take_declaration};
 
 use crate::blank::Blank;
+use crate::same::assert_same;
 use batch_constraints_tests::take::{Take, take_lookups};
 use batch_identity::{IdentityData, periodic_values_at, zero_row};
 use batch_tables::{SendingAir, SwapAir};
@@ -16,7 +17,6 @@ use p3_field::{BabyBear, FieldCore, Mem, QuarticExtension, RingCore, TwoAdicMult
 use p3_lookup::{LogUpGadget, Lookup};
 use p3_uni_stark::VerificationError;
 use std::alloc::Global;
-use std::test::Fail;
 
 type Answer = Result<(), VerificationError<()>>;
 
@@ -27,17 +27,14 @@ fn quartic(n: u64) -> QuarticExtension {
     QuarticExtension::from_u64(n)
 }
 
-// Whether the answer is a mismatch that names no table.
-fn is_mismatch(answer: Answer) -> bool {
-    matches!(
-        answer,
-        Err(VerificationError::OodEvaluationMismatch { index: None })
-    )
-}
-
-// Whether the answer says that the drawn point lies in the domain.
-fn is_in_domain(answer: Answer) -> bool {
-    matches!(answer, Err(VerificationError::OodPointInDomain))
+// An answer in a word. A mismatch names no table.
+fn in_a_word(answer: Answer) -> &'static str {
+    match answer {
+        Ok(()) => "holds",
+        Err(VerificationError::OodEvaluationMismatch { index: None }) => "mismatch",
+        Err(VerificationError::OodPointInDomain) => "point in domain",
+        Err(_) => "another fault",
+    }
 }
 
 // The answer for the swap table at the rows (2, 5) and (8, 7), with the public values 1, 1 and 1.
@@ -67,18 +64,16 @@ fn swap_answer(trace_domain: Domain, zeta: QuarticExtension, quotient: QuarticEx
 // The constraints have the values 4 * (2 - 1), 4 * (5 - 1), 4 * (8 - 5), 4 * (7 - 2) and 2 * (5 - 1), so their fold is 57408,
 // which is 8 * 7176.
 #[test]
-fn identity_of_swap(rt: HostRuntime) -> Result<(), Fail> {
-    match Domain::new(bear(1), 1) {
-        Some(domain) => {
-            assert!(rt; swap_answer(domain, quartic(3), quartic(7176)).is_ok());
-            assert!(rt; is_mismatch(swap_answer(domain, quartic(3), quartic(7177))));
-            // The second point of the domain.
-            let last = quartic(0) - quartic(1);
-            assert!(rt; is_in_domain(swap_answer(domain, last, quartic(7176))));
-        }
-        None => assert!(rt; false),
-    }
-    Ok(())
+fn identity_of_swap(rt: HostRuntime) {
+    let domain = Domain::new(bear(1), 1).expect(&rt, "a domain");
+    let answer = swap_answer(domain, quartic(3), quartic(7176));
+    assert_same(&rt, &in_a_word(answer), &"holds");
+    let answer = swap_answer(domain, quartic(3), quartic(7177));
+    assert_same(&rt, &in_a_word(answer), &"mismatch");
+    // The second point of the domain.
+    let last = quartic(0) - quartic(1);
+    let answer = swap_answer(domain, last, quartic(7176));
+    assert_same(&rt, &in_a_word(answer), &"point in domain");
 }
 
 // The answer for a table that takes the value 5 at base 7, where the permutation columns are 2, 3 and then 11, 13, and the
@@ -127,16 +122,13 @@ fn take_answer(alloc: Global, trace_domain: Domain, quotient: QuarticExtension) 
 // The fraction's constraint has the value 3 * (7 - 5) - 1, and those of the running sum 4 * 2, 4 * (11 - 2 - 3) and
 // 2 * (13 - 2 - 3), so the fold is 6056, which is 8 * 757.
 #[test]
-fn identity_with_a_lookup(rt: HostRuntime) -> Result<(), Fail> {
+fn identity_with_a_lookup(rt: HostRuntime) {
     let alloc = rt.alloc();
-    match Domain::new(bear(1), 1) {
-        Some(domain) => {
-            assert!(rt; take_answer(alloc, domain, quartic(757))?.is_ok());
-            assert!(rt; is_mismatch(take_answer(alloc, domain, quartic(758))?));
-        }
-        None => assert!(rt; false),
-    }
-    Ok(())
+    let domain = Domain::new(bear(1), 1).expect(&rt, "a domain");
+    let answer = take_answer(alloc, domain, quartic(757)).expect(&rt, "an answer");
+    assert_same(&rt, &in_a_word(answer), &"holds");
+    let answer = take_answer(alloc, domain, quartic(758)).expect(&rt, "an answer");
+    assert_same(&rt, &in_a_word(answer), &"mismatch");
 }
 
 // The answer for the sending table at the cell 19, where the preprocessed column has the value 3, and the periodic column
@@ -177,44 +169,35 @@ fn sending_answer(alloc: Global, trace_domain: Domain, quotient: QuarticExtensio
 
 // The periodic column's polynomial is 7 - 2x, so its value is 1. The constraint has the value 19 - 3 * 1, which is 8 * 2.
 #[test]
-fn identity_with_a_preprocessed_and_a_periodic_column(rt: HostRuntime) -> Result<(), Fail> {
+fn identity_with_a_preprocessed_and_a_periodic_column(rt: HostRuntime) {
     let alloc = rt.alloc();
-    match Domain::new(bear(1), 1) {
-        Some(domain) => {
-            assert!(rt; sending_answer(alloc, domain, quartic(2))?.is_ok());
-            assert!(rt; is_mismatch(sending_answer(alloc, domain, quartic(3))?));
-        }
-        None => assert!(rt; false),
-    }
-    Ok(())
+    let domain = Domain::new(bear(1), 1).expect(&rt, "a domain");
+    let answer = sending_answer(alloc, domain, quartic(2)).expect(&rt, "an answer");
+    assert_same(&rt, &in_a_word(answer), &"holds");
+    let answer = sending_answer(alloc, domain, quartic(3)).expect(&rt, "an answer");
+    assert_same(&rt, &in_a_word(answer), &"mismatch");
 }
 
 // A table without columns, at the first point of a domain of eight.
 #[test]
-fn the_first_point_lies_in_the_domain(rt: HostRuntime) -> Result<(), Fail> {
-    match Domain::new(bear(1), 3) {
-        Some(trace_domain) => {
-            let data = IdentityData {
-                zeta: quartic(1),
-                alpha: quartic(10),
-                trace_local: &[],
-                trace_next: &[],
-                preprocessed_local: &[],
-                preprocessed_next: &[],
-                permutation_local: &[],
-                permutation_next: &[],
-                permutation_challenges: &[],
-                permutation_values: &[],
-                periodic_values: &[],
-                lookups: &[],
-                public_values: &[],
-                trace_domain,
-                quotient: quartic(0),
-            };
-            let answer: Answer = data.verify_constraints_with_lookups(&Blank, &LogUpGadget::new());
-            assert!(rt; is_in_domain(answer));
-        }
-        None => assert!(rt; false),
-    }
-    Ok(())
+fn the_first_point_lies_in_the_domain(rt: HostRuntime) {
+    let data = IdentityData {
+        zeta: quartic(1),
+        alpha: quartic(10),
+        trace_local: &[],
+        trace_next: &[],
+        preprocessed_local: &[],
+        preprocessed_next: &[],
+        permutation_local: &[],
+        permutation_next: &[],
+        permutation_challenges: &[],
+        permutation_values: &[],
+        periodic_values: &[],
+        lookups: &[],
+        public_values: &[],
+        trace_domain: Domain::new(bear(1), 3).expect(&rt, "a domain"),
+        quotient: quartic(0),
+    };
+    let answer: Answer = data.verify_constraints_with_lookups(&Blank, &LogUpGadget::new());
+    assert_same(&rt, &in_a_word(answer), &"point in domain");
 }

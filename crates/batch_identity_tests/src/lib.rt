@@ -7,3 +7,5 @@ mod blank;
 mod identities;
 #[cfg(test)]
 mod rows;
+#[cfg(test)]
+mod same;

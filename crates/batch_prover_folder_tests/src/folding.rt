@@ -2,6 +2,7 @@
 ghost use Rattle.std.specs.Prelude.{◌≡◌};
 ghost use Rattle.p3_field.specs.Quartic.{quartic_ring};
 
+use crate::same::assert_same;
 use batch_constraints_tests::sending::{sending_air, sending_lookups};
 use batch_constraints_tests::take::{Take, take_lookups};
 use batch_prover_folder::{ProverFolderWithLookups, prover_fold_with_lookups};
@@ -65,10 +66,8 @@ fn fold_of_take(rt: HostRuntime) -> Result<(), Fail> {
         permutation_values: &terminals,
     };
     let gadget = LogUpGadget::new();
-    assert_eq!(rt;
-        prover_fold_with_lookups(&Take, lookups.as_slice(), &gadget, folder),
-        quartic(5267)
-    );
+    let sum = prover_fold_with_lookups(&Take, lookups.as_slice(), &gadget, folder);
+    assert_same(&rt, &sum, &quartic(5267));
     Ok(())
 }
 
@@ -101,17 +100,15 @@ fn fold_of_two_lookups(rt: HostRuntime) -> Result<(), Fail> {
         permutation_values: &terminals,
     };
     let gadget = LogUpGadget::new();
-    assert_eq!(rt;
-        prover_fold_with_lookups(&air, lookups.as_slice(), &gadget, folder),
-        quartic(159684)
-    );
+    let sum = prover_fold_with_lookups(&air, lookups.as_slice(), &gadget, folder);
+    assert_same(&rt, &sum, &quartic(159684));
     Ok(())
 }
 
 // At the row 2, 3 before the row 5, 7, where all else is one, the constraints have the values 1, 2, 2, 5 and 2. There are
 // powers for the first three alone, so the others add nothing.
 #[test]
-fn fold_past_the_powers(rt: HostRuntime) -> Result<(), Fail> {
+fn fold_past_the_powers(rt: HostRuntime) {
     let (local, next) = ([bear(2), bear(3)], [bear(5), bear(7)]);
     let public_values = [bear(1), bear(1), bear(1)];
     let powers = [quartic(10000), quartic(1000), quartic(100)];
@@ -123,9 +120,6 @@ fn fold_past_the_powers(rt: HostRuntime) -> Result<(), Fail> {
         permutation_values: &[],
     };
     let gadget = LogUpGadget::new();
-    assert_eq!(rt;
-        prover_fold_with_lookups(&SwapAir, &[], &gadget, folder),
-        quartic(12200)
-    );
-    Ok(())
+    let sum = prover_fold_with_lookups(&SwapAir, &[], &gadget, folder);
+    assert_same(&rt, &sum, &quartic(12200));
 }

@@ -3,3 +3,5 @@
 
 #[cfg(test)]
 mod folding;
+#[cfg(test)]
+mod same;

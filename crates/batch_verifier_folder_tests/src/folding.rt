@@ -2,6 +2,7 @@
 ghost use Rattle.std.specs.Prelude.{◌≡◌};
 ghost use Rattle.p3_field.specs.Quartic.{quartic_ring};
 
+use crate::same::assert_same;
 use batch_constraints_tests::sending::{sending_air, sending_lookups};
 use batch_constraints_tests::take::{Take, take_lookups};
 use batch_tables::SwapAir;
@@ -61,10 +62,8 @@ fn fold_of_take(rt: HostRuntime) -> Result<(), Fail> {
         permutation_values: &terminals,
     };
     let gadget = LogUpGadget::new();
-    assert_eq!(rt;
-        verifier_fold_with_lookups(&Take, lookups.as_slice(), &gadget, folder),
-        quartic(5267)
-    );
+    let sum = verifier_fold_with_lookups(&Take, lookups.as_slice(), &gadget, folder);
+    assert_same(&rt, &sum, &quartic(5267));
     Ok(())
 }
 
@@ -96,16 +95,14 @@ fn fold_of_two_lookups(rt: HostRuntime) -> Result<(), Fail> {
         permutation_values: &terminals,
     };
     let gadget = LogUpGadget::new();
-    assert_eq!(rt;
-        verifier_fold_with_lookups(&air, lookups.as_slice(), &gadget, folder),
-        quartic(159684)
-    );
+    let sum = verifier_fold_with_lookups(&air, lookups.as_slice(), &gadget, folder);
+    assert_same(&rt, &sum, &quartic(159684));
     Ok(())
 }
 
 // At the row 2, 3 before the row 5, 7, where all else is one, the constraints have the values 1, 2, 2, 5 and 2.
 #[test]
-fn fold_without_lookups(rt: HostRuntime) -> Result<(), Fail> {
+fn fold_without_lookups(rt: HostRuntime) {
     let (local, next) = ([quartic(2), quartic(3)], [quartic(5), quartic(7)]);
     let public_values = [bear(1), bear(1), bear(1)];
     let folder = VerifierFolderWithLookups {
@@ -116,9 +113,6 @@ fn fold_without_lookups(rt: HostRuntime) -> Result<(), Fail> {
         permutation_values: &[],
     };
     let gadget = LogUpGadget::new();
-    assert_eq!(rt;
-        verifier_fold_with_lookups(&SwapAir, &[], &gadget, folder),
-        quartic(12252)
-    );
-    Ok(())
+    let sum = verifier_fold_with_lookups(&SwapAir, &[], &gadget, folder);
+    assert_same(&rt, &sum, &quartic(12252));
 }

@@ -59,6 +59,3 @@ fn line_after(lines: &[u8]) -> u64
 {
     lines.iter().filter(|byte| **byte == b'\n').count() as u64 + 1
 }
-
-#[cfg(test)]
-mod tests;

@@ -7,7 +7,7 @@ use batch_tables::SwapAir;
 use p3_air::{
     AirBuilder, CheckFailure, Count, DebugConstraintBuilder, ExtCell, ExtensionBuilder,
     InteractionBuilder, PermutationAirBuilder, RowValues, add2, add3, check_constraints,
-    pack_bits_le, u32_to_bits_le, xor_32_shift,
+    pack_bits_le, u32_to_bits_le, xor, xor_32_shift,
 };
 use p3_field::{BabyBear, FieldCore, Mem, QuarticExtension, RingCore};
 use p3_matrix::RowMajorMatrix;
@@ -68,15 +68,9 @@ fn is_sum_of_three(alloc: Global, a: u32, b: u32, c: u32, d: u32) -> Mem<bool> {
     Ok(holds(&builder))
 }
 
-fn is_xor_shift(alloc: Global, a: u32, b: u32, c: u32, shift: usize) -> Mem<bool> {
+fn is_xor_shift(alloc: Global, a: u32, b: u32, c: [BabyBear; 32], shift: usize) -> Mem<bool> {
     let mut builder = at_no_cells(alloc);
-    xor_32_shift(
-        &mut builder,
-        limbs(a),
-        u32_to_bits_le(b),
-        u32_to_bits_le(c),
-        shift,
-    )?;
+    xor_32_shift(&mut builder, limbs(a), u32_to_bits_le(b), c, shift)?;
     Ok(holds(&builder))
 }
 
@@ -92,13 +86,25 @@ const SUM: u32 = 0x1d81_f5ce;
 const SUM_OF_THREE: u32 = 0x111e_b62e;
 
 #[test]
-fn sums_of_words(rt: HostRuntime) -> Result<(), Fail> {
+fn sums_of_two_words(rt: HostRuntime) -> Result<(), Fail> {
     let alloc = rt.alloc();
-    assert!(rt; is_sum(alloc, SUM, B, C)?);
-    assert!(rt; !is_sum(alloc, SUM ^ 1, B, C)?);
-    assert!(rt; !is_sum(alloc, SUM ^ 0x0100_0000, B, C)?);
-    assert!(rt; is_sum_of_three(alloc, SUM_OF_THREE, B, C, D)?);
-    assert!(rt; !is_sum_of_three(alloc, SUM_OF_THREE ^ 0x8000, B, C, D)?);
+    let are_sums = [
+        is_sum(alloc, SUM, B, C)?,
+        is_sum(alloc, SUM ^ 1, B, C)?,
+        is_sum(alloc, SUM ^ 0x0100_0000, B, C)?,
+    ];
+    assert_eq!(rt; are_sums, [true, false, false]);
+    Ok(())
+}
+
+#[test]
+fn sums_of_three_words(rt: HostRuntime) -> Result<(), Fail> {
+    let alloc = rt.alloc();
+    let are_sums = [
+        is_sum_of_three(alloc, SUM_OF_THREE, B, C, D)?,
+        is_sum_of_three(alloc, SUM_OF_THREE ^ 0x8000, B, C, D)?,
+    ];
+    assert_eq!(rt; are_sums, [true, false]);
     Ok(())
 }
 
@@ -106,15 +112,19 @@ fn sums_of_words(rt: HostRuntime) -> Result<(), Fail> {
 // give a word c for which a is d xor (c rotated back to the left).
 #[test]
 fn rotations_of_words(rt: HostRuntime) -> Result<(), Fail> {
-    let alloc = rt.alloc();
-    let a = SUM_OF_THREE;
-    assert!(rt; is_xor_shift(alloc, a, D, 0x764e_e282, 16)?);
-    assert!(rt; is_xor_shift(alloc, a, D, 0x64ee_2827, 12)?);
-    assert!(rt; is_xor_shift(alloc, a, D, 0x4ee2_8276, 8)?);
-    assert!(rt; is_xor_shift(alloc, a, D, 0x9dc5_04ec, 7)?);
-    assert!(rt; is_xor_shift(alloc, a, D, 0x9dc5_04ec, 39)?);
-    assert!(rt; !is_xor_shift(alloc, a, D, 0x9dc5_04ed, 7)?);
-    assert!(rt; !is_xor_shift(alloc, a, D, 0x9dc5_04ec, 25)?);
+    for (c, shift, holds) in [
+        (0x764e_e282, 16, true),
+        (0x64ee_2827, 12, true),
+        (0x4ee2_8276, 8, true),
+        (0x9dc5_04ec, 7, true),
+        (0x9dc5_04ec, 39, true),
+        (0x9dc5_04ed, 7, false),
+        (0x9dc5_04ec, 25, false),
+    ] {
+        let bits = u32_to_bits_le(c);
+        let is = is_xor_shift(rt.alloc(), SUM_OF_THREE, D, bits, shift)?;
+        assert_eq!(rt; is, holds, "of {c} by {shift}");
+    }
     Ok(())
 }
 
@@ -124,13 +134,23 @@ fn bits_of_a_word(rt: HostRuntime) -> Result<(), Fail> {
     let bits: [BabyBear; 32] = u32_to_bits_le(0x0000_b62e);
     let mut builder = at_no_cells(alloc);
     let packed = pack_bits_le(&mut builder, &bits)?;
-    assert!(rt; packed == bear(0xb62e));
     // 2 is no bit, though the packed limbs are those of the word.
     let mut wrong = bits;
     wrong[1] = bear(0);
     wrong[0] = bear(2);
-    xor_32_shift(&mut builder, limbs(0xb62e), u32_to_bits_le(0), wrong, 0)?;
-    assert!(rt; !holds(&builder));
+    let is = is_xor_shift(alloc, 0xb62e, 0, wrong, 0)?;
+    assert_eq!(rt; (packed, is), (bear(0xb62e), false));
+    Ok(())
+}
+
+#[test]
+fn xors_of_bits(rt: HostRuntime) -> Result<(), Fail> {
+    let mut builder = at_no_cells(rt.alloc());
+    let mut xors = [bear(2); 4];
+    for (i, (x, y)) in [(0, 0), (0, 1), (1, 0), (1, 1)].into_iter().enumerate() {
+        xors[i] = xor(&mut builder, bear(x), bear(y))?;
+    }
+    assert_eq!(rt; xors, [bear(0), bear(1), bear(1), bear(0)]);
     Ok(())
 }
 
@@ -150,56 +170,75 @@ fn checked_swap(alloc: Global, values: [u64; 4], x: u64) -> Result<(), CheckFail
     check_constraints(alloc, &SwapAir, &main, None, &public_values)
 }
 
+/// The row and the places of constraints that aren't zero; None of any other answer.
+pub fn failing(answer: Result<(), CheckFailure>) -> Option<(usize, Vec<usize>)> {
+    match answer {
+        Err(CheckFailure::Failing { row, places }) => Some((row, places)),
+        _ => None,
+    }
+}
+
 #[test]
 fn swap_holds(rt: HostRuntime) -> Result<(), Fail> {
     let alloc = rt.alloc();
-    assert!(rt; checked_swap(alloc, [0, 1, 1, 0], 0).is_ok());
+    let holds = checked_swap(alloc, [0, 1, 1, 0], 0).is_ok();
     // The right cell of the second row isn't the left one of the first.
-    match checked_swap(alloc, [0, 1, 1, 2], 2) {
-        Err(CheckFailure::Failing { row, places }) => {
-            assert_eq!(rt; row, 0);
-            assert_eq!(rt; places.as_slice(), [3usize].as_slice());
-        }
-        _ => assert!(rt; false),
-    }
+    let (row, places) = failing(checked_swap(alloc, [0, 1, 1, 2], 2)).ok_or("none fails")?;
+    assert_eq!(rt;
+        (holds, row, places.as_slice()),
+        (true, 0, [3usize].as_slice())
+    );
     Ok(())
+}
+
+fn text_of(alloc: Global, failure: CheckFailure) -> Mem<String> {
+    format!(in alloc; "{failure}")
 }
 
 #[test]
 fn texts_of_failures(rt: HostRuntime) -> Result<(), Fail> {
     let alloc = rt.alloc();
-    let height = CheckFailure::PreprocessedHeight;
-    assert_eq!(rt;
-        format!(in alloc; "{height}")?.as_str(),
-        "the preprocessed trace hasn't the height of the main trace"
-    );
     let places = Vec::from_array(alloc, [0usize, 3])?;
-    let failing = CheckFailure::Failing { row: 2, places };
+    let height = text_of(alloc, CheckFailure::PreprocessedHeight)?;
+    let failing = text_of(alloc, CheckFailure::Failing { row: 2, places })?;
+    let no_memory = text_of(alloc, AllocError.into())?;
     assert_eq!(rt;
-        format!(in alloc; "{failing}")?.as_str(),
-        "in row 2 the constraints [0, 3] aren't zero"
+        [height.as_str(), failing.as_str(), no_memory.as_str()],
+        [
+            "the preprocessed trace hasn't the height of the main trace",
+            "in row 2 the constraints [0, 3] aren't zero",
+            "out of memory",
+        ]
     );
-    let no_memory: CheckFailure = AllocError.into();
-    assert_eq!(rt; format!(in alloc; "{no_memory}")?.as_str(), "out of memory");
     Ok(())
+}
+
+// Asserts over the base field that x + y and x - y are zero.
+fn assert_sums<AB: AirBuilder>(builder: &mut AB, x: AB::Expr, y: AB::Expr) -> Mem<()> {
+    let sum = builder.add(x, y)?;
+    let difference = builder.sub(x, y)?;
+    builder.assert_zeros(&[sum, difference])
+}
+
+// Asserts over the extension that y^2 + x and y^2 - x are zero.
+fn assert_square<AB: ExtensionBuilder>(builder: &mut AB, y: AB::ExprEF, x: AB::Expr) -> Mem<()> {
+    let above = builder.lift(x)?;
+    let square = builder.mul_ext(y, y)?;
+    let more = builder.add_ext(square, above)?;
+    let less = builder.sub_ext(square, above)?;
+    builder.assert_zero_ext(more)?;
+    builder.assert_zero_ext(less)
 }
 
 // Constraints over the base field and over the extension, at a row without cells.
 #[test]
 fn values_at_a_row(rt: HostRuntime) -> Result<(), Fail> {
-    let alloc = rt.alloc();
-    let mut builder = at_no_cells(alloc);
+    let mut builder = at_no_cells(rt.alloc());
     let x = builder.constant(bear(5))?;
     let y = builder.constant(bear(3))?;
-    let sum = builder.add(x, y)?;
-    let difference = builder.sub(x, y)?;
-    builder.assert_zeros(&[sum, difference])?;
+    assert_sums(&mut builder, x, y)?;
     let above = builder.lift(x)?;
-    let product = builder.mul_ext(above, above)?;
-    let more = builder.add_ext(product, above)?;
-    let less = builder.sub_ext(product, above)?;
-    builder.assert_zero_ext(more)?;
-    builder.assert_zero_ext(less)?;
+    assert_square(&mut builder, above, x)?;
     assert_eq!(rt;
         builder.values(),
         [bear(8), bear(2), bear(30), bear(20)].as_slice()
@@ -208,16 +247,11 @@ fn values_at_a_row(rt: HostRuntime) -> Result<(), Fail> {
 }
 
 // Asserts that y^2 + x and y^2 - x are zero, where y is the cell, and sends x on a bus and within the table.
-fn assert_square<AB: InteractionBuilder>(builder: &mut AB, y: ExtCell, x: AB::Expr) -> Mem<()>
+fn assert_and_send<AB: InteractionBuilder>(builder: &mut AB, y: ExtCell, x: AB::Expr) -> Mem<()>
     requires { DeclaresExt (AB.shape builder.old) y }
 {
     let y = builder.ext_cell(y)?;
-    let above = builder.lift(x)?;
-    let square = builder.mul_ext(y, y)?;
-    let more = builder.add_ext(square, above)?;
-    let less = builder.sub_ext(square, above)?;
-    builder.assert_zero_ext(more)?;
-    builder.assert_zero_ext(less)?;
+    assert_square(builder, y, x)?;
     let count = Count { value: x, bound: 1 };
     builder.push_interaction("squares", &[x], count)?;
     builder.push_local_interaction(&[x], &[count])
@@ -236,7 +270,7 @@ fn values_over_the_extension(rt: HostRuntime) -> Result<(), Fail> {
         next: true,
         column: 0,
     };
-    assert_square(&mut builder, cell, bear(3))?;
+    assert_and_send(&mut builder, cell, bear(3))?;
     let expected = [
         QuarticExtension::from_u64(52),
         QuarticExtension::from_u64(46),

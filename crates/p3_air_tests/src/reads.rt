@@ -1,5 +1,6 @@
 //! What constraints and interactions read, tested when the program runs.
 ghost use Rattle.std.specs.Prelude.{◌≡◌, ◌<◌, IfOk};
+ghost use Rattle.p3_air.specs.Layout.{layout_shape};
 ghost use Rattle.p3_air.specs.Shape.{Declares};
 
 use crate::support::of_cell;
@@ -34,13 +35,17 @@ fn cells_of_swap(rt: HostRuntime) -> Result<(), Fail> {
         next: false,
         column: 0,
     };
-    assert_eq!(rt; reads_of_swap(alloc, next)?, (true, true));
-    assert_eq!(rt; reads_of_swap(alloc, past)?, (false, false));
-    assert_eq!(rt; reads_of_swap(alloc, preprocessed)?, (false, false));
-    assert_eq!(rt; reads_of_swap(alloc, Cell::Public(2))?, (true, true));
-    assert_eq!(rt; reads_of_swap(alloc, Cell::Public(3))?, (false, false));
-    assert_eq!(rt; reads_of_swap(alloc, Cell::FirstRow)?, (true, false));
-    assert_eq!(rt; reads_of_swap(alloc, Cell::Periodic(0))?, (false, false));
+    for (cell, reads) in [
+        (next, (true, true)),
+        (past, (false, false)),
+        (preprocessed, (false, false)),
+        (Cell::Public(2), (true, true)),
+        (Cell::Public(3), (false, false)),
+        (Cell::FirstRow, (true, false)),
+        (Cell::Periodic(0), (false, false)),
+    ] {
+        assert_eq!(rt; reads_of_swap(alloc, cell)?, reads, "of {cell:?}");
+    }
     Ok(())
 }
 
@@ -74,15 +79,24 @@ fn send<AB: InteractionBuilder>(builder: &mut AB, cell: Cell) -> Mem<()>
     builder.push_interaction("cells", &[value], once)
 }
 
+// Whether an interaction of the swap table may read what is sent of this cell.
+fn swap_sends(alloc: Global, cell: Cell) -> Mem<bool>
+    requires { Declares (layout_shape
+        (record { preprocessed_width = 0; main_width = 1; num_public_values = 1; num_periodic_columns = 1; permutation_width = 0; num_permutation_challenges = 0; num_permutation_values = 0 })) cell }
+{
+    let mut builder = narrow(alloc)?;
+    send(&mut builder, cell)?;
+    builder.interactions_read_declared(alloc, &SwapAir)
+}
+
 // What is sent of a public value may be read by an interaction of the swap table, what is sent of a selector may not.
 #[test]
 fn interactions_of_swap(rt: HostRuntime) -> Result<(), Fail> {
     let alloc = rt.alloc();
-    let mut builder = narrow(alloc)?;
-    send(&mut builder, Cell::Public(0))?;
-    assert!(rt; builder.interactions_read_declared(alloc, &SwapAir)?);
-    let mut builder = narrow(alloc)?;
-    send(&mut builder, Cell::LastRow)?;
-    assert!(rt; !builder.interactions_read_declared(alloc, &SwapAir)?);
+    let sent = [
+        swap_sends(alloc, Cell::Public(0))?,
+        swap_sends(alloc, Cell::LastRow)?,
+    ];
+    assert_eq!(rt; sent, [true, false]);
     Ok(())
 }

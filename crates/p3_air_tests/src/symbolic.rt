@@ -72,36 +72,62 @@ fn ext_cell_degrees(alloc: Global, cell: ExtCell) -> Mem<Option<(usize, usize)>>
     Ok(degrees(&constraints))
 }
 
+// What the swap table records.
+fn recorded_swap(alloc: Global) -> Mem<InteractionSymbolicBuilder<BabyBear>> {
+    let layout = AirLayout::from_air::<BabyBear, SwapAir>(&SwapAir);
+    let mut builder = InteractionSymbolicBuilder::<BabyBear>::new(alloc, layout)?;
+    SwapAir.eval(&mut builder)?;
+    Ok(builder)
+}
+
+// The degrees of the builder's constraints over the base field.
+fn multiples(alloc: Global, builder: &InteractionSymbolicBuilder<BabyBear>) -> Mem<Vec<usize>> {
+    let mut multiples = Vec::new(alloc);
+    for constraint in &builder.base_constraints(alloc)? {
+        multiples.push(constraint.degree_multiple())?;
+    }
+    Ok(multiples)
+}
+
 #[test]
 fn swap_has_five_constraints(rt: HostRuntime) -> Result<(), Fail> {
     let alloc = rt.alloc();
-    let layout = AirLayout::from_air::<BabyBear, SwapAir>(&SwapAir);
-    assert_eq!(rt; layout.main_width, 2);
-    let mut builder = InteractionSymbolicBuilder::<BabyBear>::new(alloc, layout)?;
-    SwapAir.eval(&mut builder)?;
-    let constraints = builder.base_constraints(alloc)?;
-    assert_eq!(rt; constraints.len(), 5);
+    let width = AirLayout::from_air::<BabyBear, SwapAir>(&SwapAir).main_width;
     // A selector times a difference: of degree 2, but 1 where the selector is the transition.
-    let mut multiples = Vec::new(alloc);
-    for c in &constraints {
-        multiples.push(c.degree_multiple())?;
-    }
-    assert_eq!(rt; multiples.as_slice(), [2usize, 2, 1, 1, 2].as_slice());
-    // The largest of these, and over eight rows: two polynomials of degree 7, multiplied.
-    assert_eq!(rt; builder.largest_degree_multiple(0)?, 2);
-    assert_eq!(rt; builder.largest_degree_multiple(3)?, 4);
-    assert_eq!(rt; builder.largest_poly_degree(8, &[])?, 14);
-    let places = builder.constraint_layout(alloc)?;
+    let multiples = multiples(alloc, &recorded_swap(alloc)?)?;
     assert_eq!(rt;
-        places.base_indices.as_slice(),
-        [0usize, 1, 2, 3, 4].as_slice()
+        (width, multiples.as_slice()),
+        (2, [2usize, 2, 1, 1, 2].as_slice())
     );
-    assert_eq!(rt; places.ext_indices.len(), 0);
+    Ok(())
+}
+
+// Without and with a transition of degree 3, and over eight rows: two polynomials of degree 7, multiplied.
+#[test]
+fn largest_degrees_of_swap(rt: HostRuntime) -> Result<(), Fail> {
+    let builder = recorded_swap(rt.alloc())?;
+    let largest = [
+        builder.largest_degree_multiple(0)?,
+        builder.largest_degree_multiple(3)?,
+        builder.largest_poly_degree(8, &[])?,
+    ];
+    assert_eq!(rt; largest, [2, 4, 14]);
     Ok(())
 }
 
 #[test]
-fn degrees_of_cells(rt: HostRuntime) -> Result<(), Fail> {
+fn places_of_swap(rt: HostRuntime) -> Result<(), Fail> {
+    let alloc = rt.alloc();
+    let places = recorded_swap(alloc)?.constraint_layout(alloc)?;
+    assert_eq!(rt;
+        (places.base_indices.as_slice(), places.ext_indices.len()),
+        ([0usize, 1, 2, 3, 4].as_slice(), 0)
+    );
+    Ok(())
+}
+
+#[test]
+fn degrees_of_columns(rt: HostRuntime) -> Result<(), Fail> {
     let alloc = rt.alloc();
     let main = Cell::Main {
         next: true,
@@ -111,45 +137,75 @@ fn degrees_of_cells(rt: HostRuntime) -> Result<(), Fail> {
         next: false,
         column: 0,
     };
-    assert_eq!(rt; cell_degrees(alloc, main)?, Some((1, 1)));
-    assert_eq!(rt; cell_degrees(alloc, preprocessed)?, Some((1, 1)));
-    assert_eq!(rt; cell_degrees(alloc, Cell::Periodic(0))?, Some((1, 1)));
-    assert_eq!(rt; cell_degrees(alloc, Cell::Public(0))?, Some((0, 0)));
-    assert_eq!(rt; cell_degrees(alloc, Cell::FirstRow)?, Some((1, 1)));
-    assert_eq!(rt; cell_degrees(alloc, Cell::LastRow)?, Some((1, 1)));
-    assert_eq!(rt; cell_degrees(alloc, Cell::Transition)?, Some((0, 3)));
+    let degrees = [
+        cell_degrees(alloc, main)?,
+        cell_degrees(alloc, preprocessed)?,
+        cell_degrees(alloc, Cell::Periodic(0))?,
+    ];
+    assert_eq!(rt; degrees, [Some((1, 1)), Some((1, 1)), Some((1, 1))]);
+    Ok(())
+}
+
+#[test]
+fn degrees_of_values_and_selectors(rt: HostRuntime) -> Result<(), Fail> {
+    let alloc = rt.alloc();
+    let degrees = [
+        cell_degrees(alloc, Cell::Public(0))?,
+        cell_degrees(alloc, Cell::FirstRow)?,
+        cell_degrees(alloc, Cell::LastRow)?,
+        cell_degrees(alloc, Cell::Transition)?,
+    ];
+    let wanted = [Some((0, 0)), Some((1, 1)), Some((1, 1)), Some((0, 3))];
+    assert_eq!(rt; degrees, wanted);
+    Ok(())
+}
+
+#[test]
+fn degrees_over_the_extension(rt: HostRuntime) -> Result<(), Fail> {
+    let alloc = rt.alloc();
     let permutation = ExtCell::Permutation {
         next: false,
         column: 0,
     };
-    assert_eq!(rt; ext_cell_degrees(alloc, permutation)?, Some((1, 1)));
-    assert_eq!(rt;
+    let degrees = [
+        ext_cell_degrees(alloc, permutation)?,
         ext_cell_degrees(alloc, ExtCell::Challenge(0))?,
-        Some((0, 0))
-    );
-    assert_eq!(rt; ext_cell_degrees(alloc, ExtCell::Terminal)?, Some((0, 0)));
+        ext_cell_degrees(alloc, ExtCell::Terminal)?,
+    ];
+    assert_eq!(rt; degrees, [Some((1, 1)), Some((0, 0)), Some((0, 0))]);
     Ok(())
+}
+
+// Asserts that the product of two selectors is a bit.
+fn assert_selected_bit(builder: &mut InteractionSymbolicBuilder<BabyBear>) -> Mem<()> {
+    let step = builder.cell(Cell::Transition)?;
+    let first = builder.cell(Cell::FirstRow)?;
+    let product = builder.mul(step, first)?;
+    builder.assert_bool(product)
 }
 
 #[test]
 fn degrees_stop_at_the_greatest(rt: HostRuntime) -> Result<(), Fail> {
     let alloc = rt.alloc();
     let mut builder = InteractionSymbolicBuilder::<BabyBear>::new(alloc, one_of_each())?;
-    let step = builder.cell(Cell::Transition)?;
-    let first = builder.cell(Cell::FirstRow)?;
-    let product = builder.mul(step, first)?;
-    builder.assert_bool(product)?;
+    assert_selected_bit(&mut builder)?;
     let constraints = builder.base_constraints(alloc)?;
-    match constraints.first() {
-        Some(c) => {
-            assert_eq!(rt; c.degree_multiple(), 2);
-            assert_eq!(rt; c.degree_multiple_with_transition(usize::MAX), usize::MAX);
-        }
-        None => assert!(rt; false),
-    }
-    assert_eq!(rt; constraint_degree_from_poly_degree(17, 8), 3);
-    assert_eq!(rt; constraint_degree_from_poly_degree(16, 8), 2);
+    let bit = constraints.first().ok_or("no constraint")?;
+    let degrees = [
+        bit.degree_multiple(),
+        bit.degree_multiple_with_transition(usize::MAX),
+    ];
+    assert_eq!(rt; degrees, [2, usize::MAX]);
     Ok(())
+}
+
+#[test]
+fn degrees_of_constraints(rt: HostRuntime) {
+    let degrees = [
+        constraint_degree_from_poly_degree(17, 8),
+        constraint_degree_from_poly_degree(16, 8),
+    ];
+    assert_eq!(rt; degrees, [3, 2]);
 }
 
 #[test]
@@ -158,10 +214,7 @@ fn degrees_of_sums(rt: HostRuntime) -> Result<(), Fail> {
     let mut builder = InteractionSymbolicBuilder::<BabyBear>::new(alloc, one_of_each())?;
     let x = builder.cell(Cell::FirstRow)?;
     assert_in_all_ways(&mut builder, x)?;
-    let mut multiples = Vec::new(alloc);
-    for constraint in &builder.base_constraints(alloc)? {
-        multiples.push(constraint.degree_multiple())?;
-    }
+    let multiples = multiples(alloc, &builder)?;
     assert_eq!(rt; multiples.as_slice(), [1usize, 2, 1, 1].as_slice());
     Ok(())
 }
@@ -200,48 +253,68 @@ fn squared_forty_times(alloc: Global) -> Mem<SymbolicExpression<BabyBear>>
 // Each node's degree is computed once: a step for each path would be 2^40 steps.
 #[test]
 fn degrees_of_shared_nodes(rt: HostRuntime) -> Result<(), Fail> {
-    let alloc = rt.alloc();
-    let expression = squared_forty_times(alloc)?;
-    assert_eq!(rt; expression.nodes().len(), 41);
-    assert_eq!(rt; expression.degree_multiple(), 1 << 40);
-    assert_eq!(rt; expression.degree_multiple_with_transition(7), 1 << 40);
-    assert_eq!(rt; expression.poly_degree(8, &[]), 7 << 40);
+    let expression = squared_forty_times(rt.alloc())?;
+    let values = [
+        expression.nodes().len(),
+        expression.degree_multiple(),
+        expression.degree_multiple_with_transition(7),
+        expression.poly_degree(8, &[]),
+    ];
+    assert_eq!(rt; values, [41, 1 << 40, 1 << 40, 7 << 40]);
     Ok(())
 }
 
 // A column has degree 7 over 8 rows; one of period 2 has its two values four times: 1 * 4.
 #[test]
-fn degrees_over_a_domain(rt: HostRuntime) -> Result<(), Fail> {
+fn degrees_of_columns_over_a_domain(rt: HostRuntime) -> Result<(), Fail> {
     let alloc = rt.alloc();
     let main = Cell::Main {
         next: false,
         column: 0,
     };
-    assert_eq!(rt; degree_over_eight_rows(alloc, main)?, 7);
-    assert_eq!(rt; degree_over_eight_rows(alloc, Cell::Periodic(0))?, 4);
-    assert_eq!(rt; degree_over_eight_rows(alloc, Cell::Transition)?, 1);
-    assert_eq!(rt; degree_over_eight_rows(alloc, Cell::LastRow)?, 7);
-    assert_eq!(rt; degree_over_eight_rows(alloc, Cell::Public(0))?, 0);
+    let degrees = [
+        degree_over_eight_rows(alloc, main)?,
+        degree_over_eight_rows(alloc, Cell::Periodic(0))?,
+    ];
+    assert_eq!(rt; degrees, [7, 4]);
+    Ok(())
+}
+
+#[test]
+fn degrees_of_selectors_over_a_domain(rt: HostRuntime) -> Result<(), Fail> {
+    let alloc = rt.alloc();
+    let degrees = [
+        degree_over_eight_rows(alloc, Cell::Transition)?,
+        degree_over_eight_rows(alloc, Cell::LastRow)?,
+        degree_over_eight_rows(alloc, Cell::Public(0))?,
+    ];
+    assert_eq!(rt; degrees, [1, 7, 0]);
     Ok(())
 }
 
 #[test]
 fn powers_of_the_challenge(rt: HostRuntime) -> Result<(), Fail> {
     let alloc = rt.alloc();
-    let mut base_indices = Vec::new(alloc);
-    base_indices.push(0)?;
-    base_indices.push(2)?;
-    let mut ext_indices = Vec::new(alloc);
-    ext_indices.push(1)?;
+    let base_indices = Vec::from_array(alloc, [0usize, 2])?;
+    let ext_indices = Vec::from_array(alloc, [1usize])?;
     let layout = ConstraintLayout {
         base_indices,
         ext_indices,
     };
-    assert_eq!(rt; layout.total_constraints(), 3);
     let (base, extension) = layout.decompose_alpha(alloc, BabyBear::from_u64(2))?;
     let four = BabyBear::from_u64(4);
-    assert_eq!(rt; base.as_slice(), [four, BabyBear::ONE].as_slice());
-    assert_eq!(rt; extension.as_slice(), [BabyBear::TWO].as_slice());
+    assert_eq!(rt;
+        (
+            layout.total_constraints(),
+            base.as_slice(),
+            extension.as_slice()
+        ),
+        (
+            3,
+            [four, BabyBear::ONE].as_slice(),
+            [BabyBear::TWO].as_slice()
+        )
+    );
     Ok(())
 }
 
@@ -264,15 +337,12 @@ fn operations_over_the_extension(rt: HostRuntime) -> Result<(), Fail> {
     let alloc = rt.alloc();
     let mut builder = InteractionSymbolicBuilder::<BabyBear>::new(alloc, one_of_each())?;
     assert_product(&mut builder, Cell::Public(0), ExtCell::Challenge(0))?;
-    let constraints = builder.extension_constraints(alloc)?;
-    match constraints.first() {
-        Some(constraint) => {
-            // Two cells, a sum, a difference and a product, each once.
-            assert_eq!(rt; constraint.nodes().len(), 5);
-            assert_eq!(rt; constraint.try_clone(alloc)?.nodes().len(), 5);
-        }
-        None => assert!(rt; false),
-    }
-    assert_eq!(rt; builder.base_constraints(alloc)?.len(), 0);
+    let above = builder.extension_constraints(alloc)?;
+    let below = builder.base_constraints(alloc)?;
+    let constraint = above.first().ok_or("no constraint")?;
+    let copy = constraint.try_clone(alloc)?;
+    // Two cells, a sum, a difference and a product, each once.
+    let sizes = [constraint.nodes().len(), copy.nodes().len(), below.len()];
+    assert_eq!(rt; sizes, [5, 5, 0]);
     Ok(())
 }

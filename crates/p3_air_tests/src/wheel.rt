@@ -9,6 +9,7 @@ ghost use Rattle.p3_matrix.specs.Matrix.{height};
 ghost use Rattle.p3_air.specs.Tree.{cell, difference, product};
 ghost use Rattle.p3_air.specs.Laws.Declared.{counts-none};
 
+use crate::gadgets::failing;
 use crate::support::bear;
 use p3_air::{Air, AirBuilder, BaseAir, Cell, CheckFailure, InteractionBuilder, check_constraints};
 use p3_field::{BabyBear, Mem, RingCore};
@@ -150,35 +151,38 @@ fn eight_rows(alloc: Global) -> Mem<RowMajorMatrix<BabyBear>>
     Ok(RowMajorMatrix::new_col(cells))
 }
 
+// What the check says of four rows of m beside these numbers.
+fn checked_wheel(
+    alloc: Global,
+    values: [u64; 4],
+    numbers: &RowMajorMatrix<BabyBear>,
+) -> Result<(), CheckFailure>
+    requires { numbers.now.width ≡ 1 }
+{
+    let air = make_wheel(alloc)?;
+    let main = four_rows(alloc, values)?;
+    check_constraints(alloc, &air, &main, Some(numbers), &[])
+}
+
 #[test]
 fn wheel_turns(rt: HostRuntime) -> Result<(), Fail> {
     let alloc = rt.alloc();
-    let air = make_wheel(alloc)?;
-    let main = four_rows(alloc, [3, 10, 9, 20])?;
     let numbers = four_rows(alloc, [1, 2, 3, 4])?;
-    assert!(rt; check_constraints(alloc, &air, &main, Some(&numbers), &[]).is_ok());
-    let slipped = four_rows(alloc, [3, 10, 15, 20])?;
-    match check_constraints(alloc, &air, &slipped, Some(&numbers), &[]) {
-        Err(CheckFailure::Failing { row, places }) => {
-            assert_eq!(rt; row, 2);
-            assert_eq!(rt; places.as_slice(), [0usize].as_slice());
-        }
-        _ => assert!(rt; false),
-    }
+    let holds = checked_wheel(alloc, [3, 10, 9, 20], &numbers).is_ok();
+    let slipped = checked_wheel(alloc, [3, 10, 15, 20], &numbers);
+    let (row, places) = failing(slipped).ok_or("none fails")?;
+    assert_eq!(rt;
+        (holds, row, places.as_slice()),
+        (true, 2, [0usize].as_slice())
+    );
     Ok(())
 }
 
 #[test]
 fn wheel_of_another_height(rt: HostRuntime) -> Result<(), Fail> {
     let alloc = rt.alloc();
-    let air = make_wheel(alloc)?;
-    let main = four_rows(alloc, [3, 10, 9, 20])?;
     let numbers = eight_rows(alloc)?;
-    assert!(rt;
-        matches!(
-            check_constraints(alloc, &air, &main, Some(&numbers), &[]),
-            Err(CheckFailure::PreprocessedHeight)
-        )
-    );
+    let answer = checked_wheel(alloc, [3, 10, 9, 20], &numbers);
+    assert!(rt; matches!(answer, Err(CheckFailure::PreprocessedHeight)));
     Ok(())
 }

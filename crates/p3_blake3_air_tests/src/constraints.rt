@@ -4,7 +4,8 @@ ghost use Rattle.p3_matrix.specs.Matrix.{height};
 
 use crate::support::{COUNTED, rows_of};
 use p3_air::{
-    Air, AirLayout, BaseAir, CheckFailure, InteractionSymbolicBuilder, check_constraints,
+    Air, AirLayout, BaseAir, CheckFailure, InteractionSymbolicBuilder, SymbolicExpression,
+    check_constraints,
 };
 use p3_blake3_air::{Blake3Air, NUM_BLAKE3_COLS};
 use p3_field::{BabyBear, FieldCore, Mem, RingCore};
@@ -20,6 +21,15 @@ const PLACES: [usize; 40] = [
     8783, 8784, 8912, 9040, 9167,
 ];
 
+// The largest degree of these constraints.
+fn largest_degree(constraints: &[SymbolicExpression<BabyBear>]) -> usize {
+    let mut degree = 0;
+    for constraint in constraints {
+        degree = constraint.degree_multiple().max(degree);
+    }
+    degree
+}
+
 #[test]
 fn recorded_constraints(rt: HostRuntime) -> Result<(), Fail> {
     let alloc = rt.alloc();
@@ -27,13 +37,8 @@ fn recorded_constraints(rt: HostRuntime) -> Result<(), Fail> {
     let mut builder = InteractionSymbolicBuilder::<BabyBear>::new(alloc, layout)?;
     Blake3Air {}.eval(&mut builder)?;
     let constraints = builder.base_constraints(alloc)?;
-    assert_eq!(rt; constraints.len(), 9632);
-    let mut degree = 0;
-    for constraint in &constraints {
-        degree = constraint.degree_multiple().max(degree);
-    }
-    assert_eq!(rt; degree, 3);
-    assert_eq!(rt; builder.num_interactions(), 0);
+    let counts = [constraints.len(), builder.num_interactions()];
+    assert_eq!(rt; (counts, largest_degree(&constraints)), ([9632, 0], 3));
     Ok(())
 }
 
@@ -49,9 +54,9 @@ fn checked(alloc: Global, rows: &RowMajorMatrix<BabyBear>) -> Result<(), CheckFa
 fn generated_rows_meet_the_constraints(rt: HostRuntime) -> Result<(), Fail> {
     let alloc = rt.alloc();
     let one = rows_of(alloc, &[COUNTED])?;
-    assert!(rt; checked(alloc, &one).is_ok());
     let two = rows_of(alloc, &[[0xffffffff; 24], COUNTED])?;
-    assert!(rt; checked(alloc, &two).is_ok());
+    let met = [checked(alloc, &one).is_ok(), checked(alloc, &two).is_ok()];
+    assert_eq!(rt; met, [true, true]);
     Ok(())
 }
 
@@ -80,14 +85,21 @@ fn changed_cells_are_refused(rt: HostRuntime) -> Result<(), Fail> {
 
 #[test]
 fn declarations(rt: HostRuntime) -> Result<(), Fail> {
-    let alloc = rt.alloc();
     let air = Blake3Air {};
-    assert_eq!(rt; BaseAir::<BabyBear>::width(&air), 9168);
-    assert!(rt; BaseAir::<BabyBear>::preprocessed_trace(&air, alloc)?.is_none());
-    assert_eq!(rt; BaseAir::<BabyBear>::main_next_row_columns(&air).len(), 0);
-    assert_eq!(rt; BaseAir::<BabyBear>::num_public_values(&air), 0);
-    assert_eq!(rt; BaseAir::<BabyBear>::num_constraints(&air), None);
-    assert_eq!(rt; BaseAir::<BabyBear>::max_constraint_degree(&air), Some(3));
-    assert!(rt; !BaseAir::<BabyBear>::assumes_boolean_trace(&air));
+    let no_trace = BaseAir::<BabyBear>::preprocessed_trace(&air, rt.alloc())?.is_none();
+    let sizes = [
+        BaseAir::<BabyBear>::width(&air),
+        BaseAir::<BabyBear>::main_next_row_columns(&air).len(),
+        BaseAir::<BabyBear>::num_public_values(&air),
+    ];
+    let hints = [
+        BaseAir::<BabyBear>::num_constraints(&air),
+        BaseAir::<BabyBear>::max_constraint_degree(&air),
+    ];
+    let boolean = BaseAir::<BabyBear>::assumes_boolean_trace(&air);
+    assert_eq!(rt;
+        (no_trace, sizes, hints, boolean),
+        (true, [9168, 0, 0], [None, Some(3)], false)
+    );
     Ok(())
 }

@@ -3,7 +3,6 @@ use crate::support::COUNTED;
 use p3_blake3_air::{Blake3Air, TraceError, generate_trace_rows};
 use p3_field::BabyBear;
 use p3_matrix::RowMajorMatrix;
-use std::test::Fail;
 
 // The name of the answer.
 fn name_of(answer: Result<RowMajorMatrix<BabyBear>, TraceError>) -> &'static str {
@@ -18,30 +17,21 @@ fn name_of(answer: Result<RowMajorMatrix<BabyBear>, TraceError>) -> &'static str
 }
 
 #[test]
-fn refused_rows(rt: HostRuntime) -> Result<(), Fail> {
+fn refused_rows(rt: HostRuntime) {
     let alloc = rt.alloc();
-    assert_eq!(rt;
+    let names = [
         name_of(generate_trace_rows(alloc, &[], 0)),
-        "NotPowerOfTwo"
-    );
-    assert_eq!(rt;
         name_of(generate_trace_rows(alloc, &[COUNTED; 3], 0)),
-        "NotPowerOfTwo"
-    );
-    assert_eq!(rt;
         name_of(generate_trace_rows(alloc, &[COUNTED; 3], 60)),
-        "NotPowerOfTwo"
-    );
-    assert_eq!(rt;
         name_of(generate_trace_rows(alloc, &[COUNTED], 60)),
-        "TooLong"
-    );
-    Ok(())
+    ];
+    let no_power = "NotPowerOfTwo";
+    assert_eq!(rt; names, [no_power, no_power, no_power, "TooLong"]);
 }
 
 // 9168 * 2^51 is more than 2^64.
 #[test]
-fn refused_random_rows(rt: HostRuntime) -> Result<(), Fail> {
+fn refused_random_rows(rt: HostRuntime) {
     let alloc = rt.alloc();
     for (rows, extra, name) in [
         (0, 0, "NotPowerOfTwo"),
@@ -53,5 +43,4 @@ fn refused_random_rows(rt: HostRuntime) -> Result<(), Fail> {
         let answer = Blake3Air {}.generate_random_trace_rows(alloc, rows, extra);
         assert_eq!(rt; name_of(answer), name, "of {rows} rows");
     }
-    Ok(())
 }

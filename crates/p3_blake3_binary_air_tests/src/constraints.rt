@@ -4,12 +4,14 @@ ghost use Rattle.p3_matrix.specs.Matrix.{height};
 
 use crate::support::{COUNTED, EMPTY, rows_of};
 use p3_air::{
-    Air, AirLayout, BaseAir, CheckFailure, InteractionSymbolicBuilder, check_constraints,
+    Air, AirLayout, BaseAir, CheckFailure, InteractionSymbolicBuilder, SymbolicExpression,
+    check_constraints,
 };
 use p3_blake3_binary_air::{Blake3BinaryAir, NUM_BLAKE3_BINARY_COLS};
 use p3_field::{FieldCore, Gf256, Mem, RingCore};
 use p3_matrix::RowMajorMatrix;
 use std::alloc::Global;
+use std::process::Abort;
 use std::test::Fail;
 
 // Cells of each kind: of the chaining value, the block, the counter's halves, the length and the flags, then of carries, d and
@@ -20,72 +22,84 @@ const PLACES: [usize; 40] = [
     10776, 11346, 11441, 11472, 11535,
 ];
 
+// The largest degree of these constraints.
+fn largest_degree(constraints: &[SymbolicExpression<Gf256>]) -> usize {
+    let mut degree = 0;
+    for constraint in constraints {
+        degree = constraint.degree_multiple().max(degree);
+    }
+    degree
+}
+
+// How many constraints and interactions a form records, and the largest degree.
+fn recorded(alloc: Global, air: &Blake3BinaryAir) -> Mem<[usize; 3]> {
+    let layout = AirLayout::from_air::<Gf256, Blake3BinaryAir>(air);
+    let mut builder = InteractionSymbolicBuilder::<Gf256>::new(alloc, layout)?;
+    air.eval(&mut builder)?;
+    let constraints = builder.base_constraints(alloc)?;
+    Ok([
+        constraints.len(),
+        builder.num_interactions(),
+        largest_degree(&constraints),
+    ])
+}
+
 #[test]
 fn recorded_constraints(rt: HostRuntime) -> Result<(), Fail> {
-    let alloc = rt.alloc();
-    for (air, count) in [
-        (Blake3BinaryAir::default(), 11536),
-        (Blake3BinaryAir::assuming_boolean_trace(), 10640),
-    ] {
-        let layout = AirLayout::from_air::<Gf256, Blake3BinaryAir>(&air);
-        let mut builder = InteractionSymbolicBuilder::<Gf256>::new(alloc, layout)?;
-        air.eval(&mut builder)?;
-        let constraints = builder.base_constraints(alloc)?;
-        assert_eq!(rt; constraints.len(), count);
-        let mut degree = 0;
-        for constraint in &constraints {
-            degree = constraint.degree_multiple().max(degree);
-        }
-        assert_eq!(rt; degree, 2);
-        assert_eq!(rt; builder.num_interactions(), 0);
-    }
+    let default = recorded(rt.alloc(), &Blake3BinaryAir::default())?;
+    let assuming = recorded(rt.alloc(), &Blake3BinaryAir::assuming_boolean_trace())?;
+    assert_eq!(rt; [default, assuming], [[11536, 0, 2], [10640, 0, 2]]);
     Ok(())
 }
 
-// Whether both forms say that the rows meet their constraints.
-fn are_met(alloc: Global, rows: &RowMajorMatrix<Gf256>) -> bool
+// Whether each form says that the rows meet its constraints.
+fn are_met(alloc: Global, rows: &RowMajorMatrix<Gf256>) -> [bool; 2]
     requires height { 0 < height rows.now }
     requires width { rows.now.width ≡ 11536 }
 {
     let default = Blake3BinaryAir::default();
     let assuming = Blake3BinaryAir::assuming_boolean_trace();
-    check_constraints(alloc, &default, rows, None, &[]).is_ok()
-        && check_constraints(alloc, &assuming, rows, None, &[]).is_ok()
+    [
+        check_constraints(alloc, &default, rows, None, &[]).is_ok(),
+        check_constraints(alloc, &assuming, rows, None, &[]).is_ok(),
+    ]
 }
 
-// Whether both forms say that a constraint fails on the rows.
-fn are_refused(alloc: Global, rows: &RowMajorMatrix<Gf256>) -> bool
+// Whether a constraint fails.
+fn is_failing(answer: Result<(), CheckFailure>) -> bool {
+    matches!(answer, Err(CheckFailure::Failing { .. }))
+}
+
+// Whether each form says that a constraint fails on the rows.
+fn are_refused(alloc: Global, rows: &RowMajorMatrix<Gf256>) -> [bool; 2]
     requires height { 0 < height rows.now }
     requires width { rows.now.width ≡ 11536 }
 {
     let default = Blake3BinaryAir::default();
     let assuming = Blake3BinaryAir::assuming_boolean_trace();
-    matches!(
-        check_constraints(alloc, &default, rows, None, &[]),
-        Err(CheckFailure::Failing { .. })
-    ) && matches!(
-        check_constraints(alloc, &assuming, rows, None, &[]),
-        Err(CheckFailure::Failing { .. })
-    )
+    [
+        is_failing(check_constraints(alloc, &default, rows, None, &[])),
+        is_failing(check_constraints(alloc, &assuming, rows, None, &[])),
+    ]
 }
 
 #[test]
 fn generated_rows_meet_the_constraints(rt: HostRuntime) -> Result<(), Fail> {
     let alloc = rt.alloc();
     let one = rows_of(alloc, &[EMPTY])?;
-    assert!(rt; are_met(alloc, &one));
     let two = rows_of(alloc, &[COUNTED, EMPTY])?;
-    assert!(rt; are_met(alloc, &two));
+    let met = [are_met(alloc, &one), are_met(alloc, &two)];
+    assert_eq!(rt; met, [[true, true], [true, true]]);
     Ok(())
 }
 
-// Whether both forms refuse the row once the cell at this place is one more.
-fn is_refused_at(alloc: Global, row: &[Gf256], place: usize) -> Mem<bool>
+// Whether each form refuses the row once the cell at this place is one more.
+fn are_refused_at(alloc: Global, row: &[Gf256], place: usize) -> Mem<[bool; 2]>
     requires { length row.now ≡ 11536 }
 {
     let mut cells = Vec::from_slice(alloc, row)?;
     if place >= NUM_BLAKE3_BINARY_COLS {
-        return Ok(false);
+        return Ok([false, false]);
     }
     cells[place] = cells[place] + Gf256::ONE;
     let changed = RowMajorMatrix::new(cells, NUM_BLAKE3_BINARY_COLS);
@@ -97,25 +111,44 @@ fn changed_cells_are_refused(rt: HostRuntime) -> Result<(), Fail> {
     let alloc = rt.alloc();
     let one = rows_of(alloc, &[COUNTED])?;
     for place in PLACES {
-        assert!(rt; is_refused_at(alloc, one.row(0), place)?, "cell {place}");
+        let refused = are_refused_at(alloc, one.row(0), place)?;
+        assert_eq!(rt; refused, [true, true], "cell {place}");
     }
+    Ok(())
+}
+
+// Compares what a form declares: so many constraints, and whether the trace is taken to be of bits.
+fn assert_declared(
+    rt: &impl Abort,
+    alloc: Global,
+    air: &Blake3BinaryAir,
+    count: usize,
+    boolean: bool,
+) -> Result<(), Fail> {
+    let no_trace = BaseAir::<Gf256>::preprocessed_trace(air, alloc)?.is_none();
+    let sizes = [
+        BaseAir::<Gf256>::width(air),
+        BaseAir::<Gf256>::main_next_row_columns(air).len(),
+        BaseAir::<Gf256>::num_public_values(air),
+    ];
+    let hints = [
+        BaseAir::<Gf256>::num_constraints(air),
+        BaseAir::<Gf256>::max_constraint_degree(air),
+    ];
+    let assumes_boolean = BaseAir::<Gf256>::assumes_boolean_trace(air);
+    assert_eq!(rt;
+        (no_trace, sizes, hints, assumes_boolean),
+        (true, [11536, 0, 0], [Some(count), Some(2)], boolean)
+    );
     Ok(())
 }
 
 #[test]
 fn declarations(rt: HostRuntime) -> Result<(), Fail> {
-    let alloc = rt.alloc();
-    for (air, count, boolean) in [
-        (Blake3BinaryAir::default(), 11536, false),
-        (Blake3BinaryAir::assuming_boolean_trace(), 10640, true),
-    ] {
-        assert_eq!(rt; BaseAir::<Gf256>::width(&air), 11536);
-        assert!(rt; BaseAir::<Gf256>::preprocessed_trace(&air, alloc)?.is_none());
-        assert_eq!(rt; BaseAir::<Gf256>::main_next_row_columns(&air).len(), 0);
-        assert_eq!(rt; BaseAir::<Gf256>::num_public_values(&air), 0);
-        assert_eq!(rt; BaseAir::<Gf256>::num_constraints(&air), Some(count));
-        assert_eq!(rt; BaseAir::<Gf256>::max_constraint_degree(&air), Some(2));
-        assert_eq!(rt; BaseAir::<Gf256>::assumes_boolean_trace(&air), boolean);
-    }
-    Ok(())
+    let (default, assuming) = (
+        Blake3BinaryAir::default(),
+        Blake3BinaryAir::assuming_boolean_trace(),
+    );
+    assert_declared(&rt, rt.alloc(), &default, 11536, false)?;
+    assert_declared(&rt, rt.alloc(), &assuming, 10640, true)
 }

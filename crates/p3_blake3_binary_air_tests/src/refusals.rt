@@ -3,7 +3,6 @@ use crate::support::COUNTED;
 use p3_blake3_binary_air::{Blake3BinaryAir, TraceError, generate_binary_trace_rows};
 use p3_field::{BabyBear, Gf256};
 use p3_matrix::RowMajorMatrix;
-use std::test::Fail;
 
 // The name of the answer.
 fn name_of<F>(answer: &Result<RowMajorMatrix<F>, TraceError>) -> &'static str {
@@ -18,53 +17,49 @@ fn name_of<F>(answer: &Result<RowMajorMatrix<F>, TraceError>) -> &'static str {
 }
 
 #[test]
-fn refused_rows(rt: HostRuntime) -> Result<(), Fail> {
+fn refused_rows(rt: HostRuntime) {
     let alloc = rt.alloc();
     let none: Result<RowMajorMatrix<Gf256>, TraceError> = generate_binary_trace_rows(
         alloc,
         &[],
         60,
     );
-    assert_eq!(rt; name_of(&none), "NoInput");
     let three: Result<RowMajorMatrix<Gf256>, TraceError> = generate_binary_trace_rows(
         alloc,
         &[COUNTED; 3],
         60,
     );
-    assert_eq!(rt; name_of(&three), "NotPowerOfTwo");
     let long: Result<RowMajorMatrix<Gf256>, TraceError> = generate_binary_trace_rows(
         alloc,
         &[COUNTED],
         60,
     );
-    assert_eq!(rt; name_of(&long), "TooLong");
-    Ok(())
+    let names = [name_of(&none), name_of(&three), name_of(&long)];
+    assert_eq!(rt; names, ["NoInput", "NotPowerOfTwo", "TooLong"]);
 }
 
 #[test]
-fn refused_fields(rt: HostRuntime) -> Result<(), Fail> {
+fn refused_fields(rt: HostRuntime) {
     let alloc = rt.alloc();
     let one: Result<RowMajorMatrix<BabyBear>, TraceError> = generate_binary_trace_rows(
         alloc,
         &[COUNTED],
         0,
     );
-    assert_eq!(rt; name_of(&one), "WrongCharacteristic");
     let none: Result<RowMajorMatrix<BabyBear>, TraceError> = generate_binary_trace_rows(
         alloc,
         &[],
         0,
     );
-    assert_eq!(rt; name_of(&none), "WrongCharacteristic");
     let random: Result<RowMajorMatrix<BabyBear>, TraceError> =
         Blake3BinaryAir::default().generate_random_trace_rows(alloc, 3, 64);
-    assert_eq!(rt; name_of(&random), "WrongCharacteristic");
-    Ok(())
+    let names = [name_of(&one), name_of(&none), name_of(&random)];
+    assert_eq!(rt; names, ["WrongCharacteristic"; 3]);
 }
 
 // 11536 * 2^51 is more than 2^64.
 #[test]
-fn refused_random_rows(rt: HostRuntime) -> Result<(), Fail> {
+fn refused_random_rows(rt: HostRuntime) {
     let alloc = rt.alloc();
     for (rows, extra, name) in [
         (0, 64, "NoInput"),
@@ -78,5 +73,4 @@ fn refused_random_rows(rt: HostRuntime) -> Result<(), Fail> {
             );
         assert_eq!(rt; name_of(&answer), name, "of {rows} rows");
     }
-    Ok(())
 }

@@ -40,52 +40,68 @@ fn fingerprint(row: &[Gf256]) -> u32 {
 fn row_of_counted_words(rt: HostRuntime) -> Result<(), Fail> {
     let alloc = rt.alloc();
     let rows = rows_of(alloc, &[COUNTED])?;
-    assert_eq!(rt; rows.width(), 11536);
-    assert_eq!(rt; fingerprint(rows.row(0)), 60351);
     let output = [
         0x75d7ad51, 0x33dd695b, 0xc94cf375, 0xe7ba3c4f, 0x3cb3f6f6, 0xcda48d54, 0xcfa037c7,
         0x25efe9b4, 0x8fe52129, 0x6195d490, 0xed02aff5, 0xdb8052d7, 0x4bfc9afb, 0xd3c4d3a4,
         0x981473e8, 0x9cfeaccf,
     ];
-    assert!(rt; Blake3BinaryCols::new(rows.row(0)).compression_output() == output);
+    let words = Blake3BinaryCols::new(rows.row(0)).compression_output();
+    assert_eq!(rt;
+        (rows.width(), fingerprint(rows.row(0)), words),
+        (11536, 60351, output)
+    );
     Ok(())
 }
 
-// Cells of that row by their names. Of step 5 of round 3 d1 is 3db88419, b1 12848219, d2 76a1f2ce, b2 cd2693fd, and the carries
-// into places 1 to 31 are 463a3f38 and 03858013.
+// Cells of that row by their names.
 #[test]
 fn cells_by_name(rt: HostRuntime) -> Result<(), Fail> {
-    let alloc = rt.alloc();
-    let rows = rows_of(alloc, &[COUNTED])?;
+    let rows = rows_of(rt.alloc(), &[COUNTED])?;
     let cells = Blake3BinaryCols::new(rows.row(0));
     // The last word of the chaining value is 24, the second of the block 2, the counter's halves are 5 and 9.
-    assert_eq!(rt; cells.chaining_value(7, 3).value, 1);
-    assert_eq!(rt; cells.chaining_value(7, 2).value, 0);
-    assert_eq!(rt; cells.block(1, 1).value, 1);
-    assert_eq!(rt; cells.block(1, 0).value, 0);
-    assert_eq!(rt; cells.counter_low(2).value, 1);
-    assert_eq!(rt; cells.counter_high(3).value, 1);
-    assert_eq!(rt; cells.block_len(6).value, 1);
-    assert_eq!(rt; cells.flags(3).value, 1);
-    let step = cells.rounds(3, 5);
-    assert_eq!(rt; step.add1_carries(30).value, 1);
-    assert_eq!(rt; step.add1_carries(0).value, 0);
-    assert_eq!(rt; step.d1(0).value, 1);
-    assert_eq!(rt; step.d1(31).value, 0);
-    assert_eq!(rt; step.b1(28).value, 1);
-    assert_eq!(rt; step.b1(1).value, 0);
-    assert_eq!(rt; step.add2_carries(0).value, 1);
-    assert_eq!(rt; step.add2_carries(30).value, 0);
-    assert_eq!(rt; step.d2(30).value, 1);
-    assert_eq!(rt; step.d2(0).value, 0);
-    assert_eq!(rt; step.b2(31).value, 1);
-    assert_eq!(rt; step.b2(1).value, 0);
+    let values = [
+        cells.chaining_value(7, 3).value,
+        cells.chaining_value(7, 2).value,
+        cells.block(1, 1).value,
+        cells.block(1, 0).value,
+        cells.counter_low(2).value,
+        cells.counter_high(3).value,
+        cells.block_len(6).value,
+        cells.flags(3).value,
+    ];
+    assert_eq!(rt; values, [1, 0, 1, 0, 1, 1, 1, 1]);
+    Ok(())
+}
+
+// Cells of one step of that row by their names. Of step 5 of round 3 d1 is 3db88419, b1 12848219, d2 76a1f2ce, b2 cd2693fd, and
+// the carries into places 1 to 31 are 463a3f38 and 03858013.
+#[test]
+fn cells_of_a_step_by_name(rt: HostRuntime) -> Result<(), Fail> {
+    let rows = rows_of(rt.alloc(), &[COUNTED])?;
+    let step = Blake3BinaryCols::new(rows.row(0)).rounds(3, 5);
+    let ones = [
+        step.add1_carries(30).value,
+        step.d1(0).value,
+        step.b1(28).value,
+        step.add2_carries(0).value,
+        step.d2(30).value,
+        step.b2(31).value,
+    ];
+    let zeros = [
+        step.add1_carries(0).value,
+        step.d1(31).value,
+        step.b1(1).value,
+        step.add2_carries(30).value,
+        step.d2(0).value,
+        step.b2(1).value,
+    ];
+    assert_eq!(rt; [ones, zeros], [[1; 6], [0; 6]]);
     Ok(())
 }
 
 // Inputs are compared, copied and printed by all their fields, and all are zero by default.
 #[test]
-fn inputs_are_values(rt: HostRuntime) -> Result<(), Fail> {
+fn inputs_are_values(rt: HostRuntime) {
     let none = Blake3CompressionInput::default();
     let zeros = Blake3CompressionInput {
         chaining_value: [0; 8],
@@ -94,9 +110,7 @@ fn inputs_are_values(rt: HostRuntime) -> Result<(), Fail> {
         block_len: 0,
         flags: 0,
     };
-    assert!(rt; none == zeros);
-    assert!(rt; EMPTY != COUNTED);
     let copied = EMPTY;
-    assert!(rt; copied == EMPTY);
-    Ok(())
+    let hold = [none == zeros, EMPTY != COUNTED, copied == EMPTY];
+    assert_eq!(rt; hold, [true, true, true]);
 }

@@ -3,8 +3,9 @@ ghost use Rattle.std.specs.Prelude.{◌≡◌, ◌+◌, ◌*◌, ◌^◌, ◌<�
 ghost use Rattle.std.specs.Int.{IsPowerOfTwo};
 ghost use Rattle.p3_matrix.specs.Matrix.{height};
 
+use crate::same::{assert_same, assert_values};
 use p3_commit::{
-    LagrangeSelectors, PolynomialSpace, are_disjoint, first_selector_at, last_selector_at,
+    PolynomialSpace, are_disjoint, first_selector_at, greatest_height, last_selector_at, rows_from,
 };
 use p3_field::{
     BabyBear, ExtensionField, FieldCore, Mem, QuarticExtension, RingCore, TwoAdicField,
@@ -12,8 +13,6 @@ use p3_field::{
 };
 use p3_matrix::RowMajorMatrix;
 use std::alloc::Global;
-use std::process::Abort;
-use std::test::Fail;
 
 type Coset = TwoAdicMultiplicativeCoset<BabyBear>;
 
@@ -33,94 +32,86 @@ fn four_rows(alloc: Global) -> Mem<RowMajorMatrix<BabyBear>>
     Ok(RowMajorMatrix::new_col(values))
 }
 
-// Compares the value at a point of the polynomial that vanishes on the domain.
-fn assert_vanishing(rt: &impl Abort, domain: &Coset, point: BabyBear, value: BabyBear) {
-    assert_eq!(rt; domain.vanishing_poly_at_point(point), value);
+// A coset's shift and the logarithm of its size.
+fn parts_of(coset: &Coset) -> (BabyBear, usize) {
+    (coset.shift(), coset.log_size())
 }
 
 #[test]
-fn points_of_a_coset(rt: HostRuntime) -> Result<(), Fail> {
-    let domain = Coset::new(bear(3), 1).ok_or("no coset")?;
-    assert_eq!(rt; PolynomialSpace::size(&domain), 2);
-    assert_eq!(rt; domain.transition_degree_multiple(), 0);
-    assert_eq!(rt; domain.first_point(), bear(3));
-    assert_eq!(rt; domain.next_point(bear(3)), Some(-bear(3)));
-    Ok(())
+fn points_of_a_coset(rt: HostRuntime) {
+    let domain = Coset::new(bear(3), 1).expect(&rt, "a coset");
+    assert_same(&rt, &PolynomialSpace::size(&domain), &2);
+    assert_same(&rt, &domain.transition_degree_multiple(), &0);
+    assert_same(&rt, &domain.first_point(), &bear(3));
+    assert_same(&rt, &domain.next_point(bear(3)), &Some(-bear(3)));
 }
 
 #[test]
-fn vanishing_on_a_coset(rt: HostRuntime) -> Result<(), Fail> {
-    let domain = Coset::new(bear(3), 1).ok_or("no coset")?;
-    assert_vanishing(&rt, &domain, bear(3), bear(0));
-    assert_vanishing(&rt, &domain, -bear(3), bear(0));
-    assert_vanishing(&rt, &domain, bear(9), bear(8));
-    Ok(())
+fn vanishing_on_a_coset(rt: HostRuntime) {
+    let domain = Coset::new(bear(3), 1).expect(&rt, "a coset");
+    assert_same(&rt, &domain.vanishing_poly_at_point(bear(3)), &bear(0));
+    assert_same(&rt, &domain.vanishing_poly_at_point(-bear(3)), &bear(0));
+    assert_same(&rt, &domain.vanishing_poly_at_point(bear(9)), &bear(8));
 }
 
 #[test]
-fn disjoint_domains(rt: HostRuntime) -> Result<(), Fail> {
-    let domain = Coset::new(bear(1), 1).ok_or("no coset")?;
+fn disjoint_domains(rt: HostRuntime) {
+    let domain = Coset::new(bear(1), 1).expect(&rt, "a coset");
     let largest = domain
         .try_create_disjoint_domain(1 << 27)
-        .ok_or("no domain")?;
-    assert_eq!(rt; (largest.shift(), largest.log_size()), (bear(31), 27));
-    assert!(rt; domain.try_create_disjoint_domain((1 << 27) + 1).is_none());
-    assert!(rt; are_disjoint(&domain, &largest));
-    assert!(rt; !are_disjoint(&domain, &domain));
+        .expect(&rt, "a domain");
+    assert_same(&rt, &parts_of(&largest), &(bear(31), 27));
     let small = domain.create_disjoint_domain(3);
-    assert_eq!(rt; (small.shift(), small.log_size()), (bear(31), 2));
-    Ok(())
-}
-
-// Compares a coset's shift and the logarithm of its size.
-fn assert_coset(rt: &impl Abort, coset: &Coset, shift: BabyBear, log_size: usize) {
-    assert_eq!(rt; (coset.shift(), coset.log_size()), (shift, log_size));
+    assert_same(&rt, &parts_of(&small), &(bear(31), 2));
+    let too_large = domain.try_create_disjoint_domain((1 << 27) + 1);
+    assert_same(&rt, &too_large.is_none(), &true);
+    assert_same(&rt, &are_disjoint(&domain, &largest), &true);
+    assert_same(&rt, &are_disjoint(&domain, &domain), &false);
 }
 
 #[test]
-fn splits_a_domain(rt: HostRuntime) -> Result<(), Fail> {
-    let domain = Coset::new(bear(1), 1).ok_or("no coset")?;
+fn splits_a_domain(rt: HostRuntime) {
+    let domain = Coset::new(bear(1), 1).expect(&rt, "a coset");
     assert_eq!(rt; PolynomialSpace::size(&domain), 2);
-    let parts = domain.split_domains(rt.alloc(), 2)?;
-    assert_eq!(rt; parts.len(), 2);
-    assert_coset(&rt, &parts[0], bear(1), 0);
-    assert_coset(&rt, &parts[1], -bear(1), 0);
-    Ok(())
-}
-
-// Compares two values.
-fn assert_pair(rt: &impl Abort, values: &[BabyBear], first: BabyBear, second: BabyBear) {
-    assert_eq!(rt; values, [first, second].as_slice());
+    let parts = domain.split_domains(rt.alloc(), 2).expect(&rt, "parts");
+    assert_same(&rt, &parts.len(), &2);
+    assert_same(&rt, &parts_of(&parts[0]), &(bear(1), 0));
+    assert_same(&rt, &parts_of(&parts[1]), &(-bear(1), 0));
 }
 
 #[test]
-fn splits_rows(rt: HostRuntime) -> Result<(), Fail> {
+fn splits_rows(rt: HostRuntime) {
     let alloc = rt.alloc();
-    let domain = Coset::new(bear(1), 2).ok_or("no coset")?;
+    let domain = Coset::new(bear(1), 2).expect(&rt, "a coset");
     assert_eq!(rt; PolynomialSpace::size(&domain), 4);
-    let rows = domain.split_evals(alloc, 2, four_rows(alloc)?)?;
-    assert_eq!(rt; rows.len(), 2);
-    assert_pair(&rt, rows[0].as_slice(), bear(0), bear(2));
-    assert_pair(&rt, rows[1].as_slice(), bear(1), bear(3));
-    Ok(())
+    let rows = four_rows(alloc).expect(&rt, "rows");
+    let parts = domain.split_evals(alloc, 2, rows).expect(&rt, "parts");
+    assert_same(&rt, &parts.len(), &2);
+    assert_values(&rt, parts[0].as_slice(), &[bear(0), bear(2)]);
+    assert_values(&rt, parts[1].as_slice(), &[bear(1), bear(3)]);
 }
 
-// Compares selectors at one point.
-fn assert_selectors_at(rt: &impl Abort, selectors: &LagrangeSelectors<BabyBear>) {
-    assert_eq!(rt; selectors.is_first_row, bear(4));
-    assert_eq!(rt; selectors.is_last_row, bear(2));
-    assert_eq!(rt; selectors.is_transition, bear(4));
-    assert_eq!(rt; selectors.inv_vanishing, bear(1761607681));
+// The rows 1 and 3 of four, and the greatest height of both matrices.
+#[test]
+fn every_second_row(rt: HostRuntime) {
+    let alloc = rt.alloc();
+    let rows = four_rows(alloc).expect(&rt, "rows");
+    let second = rows_from(alloc, &rows, 1, 2).expect(&rt, "rows");
+    assert_values(&rt, second.as_slice(), &[bear(1), bear(3)]);
+    assert_same(&rt, &greatest_height(&[second, rows]), &Some(4));
 }
 
 #[test]
-fn selectors_at_a_point(rt: HostRuntime) -> Result<(), Fail> {
-    let domain = Coset::new(bear(1), 1).ok_or("no coset")?;
+fn selectors_at_a_point(rt: HostRuntime) {
+    let domain = Coset::new(bear(1), 1).expect(&rt, "a coset");
     let point = bear(3);
     let vanishing = domain.vanishing_poly_at_point(point);
     assert!(rt; !vanishing.is_zero());
-    assert_selectors_at(&rt, &domain.selectors_at_point(point));
-    Ok(())
+    let selectors = domain.selectors_at_point(point);
+    assert_same(&rt, &selectors.is_first_row, &bear(4));
+    assert_same(&rt, &selectors.is_last_row, &bear(2));
+    assert_same(&rt, &selectors.is_transition, &bear(4));
+    assert_same(&rt, &selectors.inv_vanishing, &bear(1761607681));
 }
 
 // The first and the last selector of a trace domain.
@@ -139,40 +130,45 @@ fn of_trace<F: TwoAdicField, EF: ExtensionField<F>>(
 }
 
 #[test]
-fn selectors_without_an_inverse(rt: HostRuntime) -> Result<(), Fail> {
-    let domain = Coset::new(bear(1), 1).ok_or("no coset")?;
-    let point = QuarticExtension::from_u64(3);
-    let (first, last) = of_trace(&domain, point).ok_or("no trace domain")?;
-    assert_eq!(rt; first, QuarticExtension::from_u64(4));
-    assert_eq!(rt; last, QuarticExtension::from_u64(2));
-    Ok(())
-}
-
-// Compares selectors on two points.
-fn assert_selectors(rt: &impl Abort, selectors: &LagrangeSelectors<Vec<BabyBear>>) {
-    let inverse = bear(1761607681);
-    assert_pair(rt, selectors.is_first_row.as_slice(), bear(4), -bear(2));
-    assert_pair(rt, selectors.is_last_row.as_slice(), bear(2), -bear(4));
-    assert_pair(rt, selectors.is_transition.as_slice(), bear(4), -bear(2));
-    assert_pair(rt, selectors.inv_vanishing.as_slice(), inverse, inverse);
+fn selectors_without_an_inverse(rt: HostRuntime) {
+    let domain = Coset::new(bear(1), 1).expect(&rt, "a coset");
+    let both = of_trace(&domain, QuarticExtension::from_u64(3));
+    let wanted = (QuarticExtension::from_u64(4), QuarticExtension::from_u64(2));
+    assert_same(&rt, &both, &Some(wanted));
 }
 
 #[test]
-fn selectors_on_a_coset(rt: HostRuntime) -> Result<(), Fail> {
-    let domain = Coset::new(bear(1), 1).ok_or("no coset")?;
-    let coset = Coset::new(bear(3), 1).ok_or("no coset")?;
+fn selectors_on_a_coset(rt: HostRuntime) {
+    let domain = Coset::new(bear(1), 1).expect(&rt, "a coset");
+    let coset = Coset::new(bear(3), 1).expect(&rt, "a coset");
     assert!(rt; are_disjoint(&domain, &coset));
-    let selectors = domain.selectors_on_coset(rt.alloc(), coset)?;
-    assert_selectors(&rt, &selectors);
-    Ok(())
+    let selectors = domain
+        .selectors_on_coset(rt.alloc(), coset)
+        .expect(&rt, "selectors");
+    assert_values(&rt, selectors.is_first_row.as_slice(), &[bear(4), -bear(2)]);
+    assert_values(&rt, selectors.is_last_row.as_slice(), &[bear(2), -bear(4)]);
+    assert_values(
+        &rt,
+        selectors.is_transition.as_slice(),
+        &[bear(4), -bear(2)],
+    );
+    let inverses = [bear(1761607681), bear(1761607681)];
+    assert_values(&rt, selectors.inv_vanishing.as_slice(), &inverses);
 }
 
 #[test]
-fn values_of_an_interpolant(rt: HostRuntime) -> Result<(), Fail> {
-    let domain = Coset::new(bear(1), 1).ok_or("no coset")?;
+fn values_of_an_interpolant(rt: HostRuntime) {
+    let domain = Coset::new(bear(1), 1).expect(&rt, "a coset");
     assert_eq!(rt; PolynomialSpace::size(&domain), 2);
     let values = [bear(5), bear(9)];
-    assert_eq!(rt; domain.evaluate_polynomial_at(&values, bear(3)), bear(1));
-    assert_eq!(rt; domain.evaluate_polynomial_at(&values, bear(1)), bear(5));
-    Ok(())
+    assert_same(
+        &rt,
+        &domain.evaluate_polynomial_at(&values, bear(3)),
+        &bear(1),
+    );
+    assert_same(
+        &rt,
+        &domain.evaluate_polynomial_at(&values, bear(1)),
+        &bear(5),
+    );
 }

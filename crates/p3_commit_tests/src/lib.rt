@@ -9,3 +9,5 @@ mod domain;
 mod encoder;
 #[cfg(test)]
 mod periodic;
+#[cfg(test)]
+mod same;

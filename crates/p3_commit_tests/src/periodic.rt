@@ -1,6 +1,7 @@
 //! Worked values of periodic columns over `BabyBear`.
 ghost use Rattle.std.specs.Prelude.{◌≡◌, ◌+◌, ◌*◌, ◌^◌, ◌<◌, ◌≤◌, length, IfOk};
 
+use crate::same::{assert_same, assert_values};
 use p3_commit::{
     PeriodicColumnShapeError, PeriodicColumns, PeriodicEvaluator, PeriodicLdeTable, PolynomialSpace,
 };
@@ -10,7 +11,6 @@ use p3_field::{
 use p3_matrix::{RowMajorMatrix, is_power_of_two};
 use std::alloc::Global;
 use std::process::Abort;
-use std::test::Fail;
 
 type Coset = TwoAdicMultiplicativeCoset<BabyBear>;
 
@@ -40,42 +40,37 @@ fn refusal(
     Ok(PeriodicColumns::new(&columns, height).err())
 }
 
-// Compares what is wrong with columns of these lengths.
-fn assert_refusal(
-    rt: &impl Abort,
-    alloc: Global,
-    lengths: &[usize],
-    height: usize,
-    error: PeriodicColumnShapeError,
-) -> Result<(), Fail> {
-    assert_eq!(rt; refusal(alloc, lengths, height)?, Some(error));
-    Ok(())
-}
-
 #[test]
-fn first_unfit_column(rt: HostRuntime) -> Result<(), Fail> {
-    let alloc = rt.alloc();
-    let second = PeriodicColumnShapeError::LengthNotPowerOfTwo {
+fn first_unfit_column(rt: HostRuntime) {
+    let second = refusal(rt.alloc(), &[4, 6, 5], 8).expect(&rt, "columns");
+    let wanted = PeriodicColumnShapeError::LengthNotPowerOfTwo {
         index: 1,
         length: 6,
     };
-    assert_refusal(&rt, alloc, &[4, 6, 5], 8, second)?;
-    let divisor = PeriodicColumnShapeError::LengthNotDividingHeight {
+    assert_same(&rt, &second, &Some(wanted));
+    let divisor = refusal(rt.alloc(), &[8], 12).expect(&rt, "columns");
+    let wanted = PeriodicColumnShapeError::LengthNotDividingHeight {
         index: 0,
         length: 8,
         height: 12,
     };
-    assert_refusal(&rt, alloc, &[8], 12, divisor)?;
-    let empty = PeriodicColumnShapeError::LengthNotPowerOfTwo {
+    assert_same(&rt, &divisor, &Some(wanted));
+}
+
+#[test]
+fn lengths_that_are_no_powers(rt: HostRuntime) {
+    let empty = refusal(rt.alloc(), &[0], 8).expect(&rt, "columns");
+    let wanted = PeriodicColumnShapeError::LengthNotPowerOfTwo {
         index: 0,
         length: 0,
     };
-    assert_refusal(&rt, alloc, &[0], 8, empty)?;
-    let three = PeriodicColumnShapeError::LengthNotPowerOfTwo {
+    assert_same(&rt, &empty, &Some(wanted));
+    let three = refusal(rt.alloc(), &[3], 8).expect(&rt, "columns");
+    let wanted = PeriodicColumnShapeError::LengthNotPowerOfTwo {
         index: 0,
         length: 3,
     };
-    assert_refusal(&rt, alloc, &[3], 8, three)
+    assert_same(&rt, &three, &Some(wanted));
 }
 
 // A clone, over the bound alone.
@@ -83,62 +78,67 @@ fn cloned<T: Clone>(x: &T) -> Mem<T> {
     x.clone()
 }
 
-// Compares the number of columns of these lengths, their height, which is that of the trace, and their largest length.
-fn assert_shape(
+// The number of columns of these lengths for a trace of this height, their height, their largest length, and whether there
+// are none.
+fn shape_of(
     rt: &impl Abort,
     alloc: Global,
     lengths: &[usize],
-    shape: (usize, usize, Option<usize>),
-) -> Result<(), Fail> {
-    let columns = columns_of(alloc, lengths)?;
-    let columns = PeriodicColumns::new(&columns, shape.1)?;
-    assert_eq!(rt;
-        (columns.len(), columns.height(), columns.max_period()),
-        shape
+    height: usize,
+) -> (usize, usize, Option<usize>, bool) {
+    let columns = columns_of(alloc, lengths).expect(rt, "columns");
+    let columns = PeriodicColumns::new(&columns, height).expect(rt, "fit columns");
+    (
+        columns.len(),
+        columns.height(),
+        columns.max_period(),
+        columns.is_empty(),
+    )
+}
+
+#[test]
+fn fit_columns(rt: HostRuntime) {
+    let alloc = rt.alloc();
+    assert_same(
+        &rt,
+        &shape_of(&rt, alloc, &[2, 8, 4], 8),
+        &(3, 8, Some(8), false),
     );
-    assert_eq!(rt; columns.is_empty(), shape.0 == 0);
-    Ok(())
+    assert_same(&rt, &shape_of(&rt, alloc, &[], 7), &(0, 7, None, true));
+    assert_same(&rt, &shape_of(&rt, alloc, &[4], 0), &(1, 0, Some(4), false));
 }
 
 #[test]
-fn fit_columns(rt: HostRuntime) -> Result<(), Fail> {
-    let alloc = rt.alloc();
-    assert_shape(&rt, alloc, &[2, 8, 4], (3, 8, Some(8)))?;
-    assert_shape(&rt, alloc, &[], (0, 7, None))?;
-    assert_shape(&rt, alloc, &[4], (1, 0, Some(4)))
+fn copies_of_columns(rt: HostRuntime) {
+    let three = columns_of(rt.alloc(), &[2, 8, 4]).expect(&rt, "columns");
+    let three = PeriodicColumns::new(&three, 8).expect(&rt, "fit columns");
+    assert_same(&rt, &three.as_slice().len(), &3);
+    let again = cloned(&three).expect(&rt, "a clone");
+    assert_same(&rt, &(again.len(), again.height()), &(3, 8));
+}
+
+// The text of a refusal.
+fn text(alloc: Global, error: &PeriodicColumnShapeError) -> Mem<String> {
+    format!(in alloc; "{error}")
 }
 
 #[test]
-fn copies_of_columns(rt: HostRuntime) -> Result<(), Fail> {
-    let three = columns_of(rt.alloc(), &[2, 8, 4])?;
-    let three = PeriodicColumns::new(&three, 8)?;
-    assert_eq!(rt; three.as_slice().len(), 3);
-    let again = cloned(&three)?;
-    assert_eq!(rt; (again.len(), again.height()), (3, 8));
-    Ok(())
-}
-
-#[test]
-fn texts_of_refusals(rt: HostRuntime) -> Result<(), Fail> {
-    let alloc = rt.alloc();
+fn texts_of_refusals(rt: HostRuntime) {
     let power = PeriodicColumnShapeError::LengthNotPowerOfTwo {
         index: 1,
         length: 6,
     };
-    assert_eq!(rt;
-        format!(in alloc; "{power}")?.as_str(),
-        "periodic column 1 has length 6, which is not a power of two"
-    );
+    let got = text(rt.alloc(), &power).expect(&rt, "a text");
+    let wanted = "periodic column 1 has length 6, which is not a power of two";
+    assert_same(&rt, &got.as_str(), &wanted);
     let divisor = PeriodicColumnShapeError::LengthNotDividingHeight {
         index: 0,
         length: 8,
         height: 12,
     };
-    assert_eq!(rt;
-        format!(in alloc; "{divisor}")?.as_str(),
-        "periodic column 0 has length 8, which does not divide the trace height 12"
-    );
-    Ok(())
+    let got = text(rt.alloc(), &divisor).expect(&rt, "a text");
+    let wanted = "periodic column 0 has length 8, which does not divide the trace height 12";
+    assert_same(&rt, &got.as_str(), &wanted);
 }
 
 // The table of one column of these values, where their number is a power of two.
@@ -151,9 +151,11 @@ fn table_of(alloc: Global, values: &[BabyBear]) -> Mem<Option<PeriodicLdeTable<B
     }
 }
 
-fn group_period(alloc: Global, height: usize, pack_width: usize) -> Mem<Option<usize>>
-    requires { 0 < pack_width }
-{
+// The period of the groups of a table of this height, or None for groups of no rows.
+fn group_period(alloc: Global, height: usize, pack_width: usize) -> Mem<Option<usize>> {
+    if pack_width == 0 {
+        return Ok(None);
+    }
     let mut values = Vec::new(alloc);
     for _ in 0..height {
         values.push(bear(0))?;
@@ -162,53 +164,38 @@ fn group_period(alloc: Global, height: usize, pack_width: usize) -> Mem<Option<u
     Ok(table.map(|table| table.packed_group_period(pack_width)))
 }
 
-// Compares the period of the groups of a table of this height.
-fn assert_period(
-    rt: &impl Abort,
-    alloc: Global,
-    height: usize,
-    pack_width: usize,
-    period: usize,
-) -> Result<(), Fail>
-    requires { 0 < pack_width }
-{
-    assert_eq!(rt; group_period(alloc, height, pack_width)?, Some(period));
-    Ok(())
+#[test]
+fn groups_of_rows(rt: HostRuntime) {
+    let cases = [
+        (8, 3, 8),
+        (8, 6, 4),
+        (8, 1, 8),
+        (8, 4, 2),
+        (8, 8, 1),
+        (4, 8, 1),
+        (1, 3, 1),
+    ];
+    for (height, pack_width, period) in cases {
+        let got = group_period(rt.alloc(), height, pack_width).expect(&rt, "a table");
+        assert_eq!(rt; got, Some(period), "of {height} by {pack_width}");
+    }
 }
 
 #[test]
-fn groups_of_rows(rt: HostRuntime) -> Result<(), Fail> {
-    let alloc = rt.alloc();
-    assert_period(&rt, alloc, 8, 3, 8)?;
-    assert_period(&rt, alloc, 8, 6, 4)?;
-    assert_period(&rt, alloc, 8, 1, 8)?;
-    assert_period(&rt, alloc, 8, 4, 2)?;
-    assert_period(&rt, alloc, 8, 8, 1)?;
-    assert_period(&rt, alloc, 4, 8, 1)?;
-    assert_period(&rt, alloc, 1, 3, 1)
-}
-
-#[test]
-fn groups_of_no_rows(rt: HostRuntime) -> Result<(), Fail> {
+fn groups_of_no_rows(rt: HostRuntime) {
     let empty = PeriodicLdeTable::<BabyBear>::empty(rt.alloc());
-    assert_eq!(rt; empty.packed_group_period(3), 0);
-    Ok(())
-}
-
-// Compares a table with one column of the values 5 and 7.
-fn assert_rows(rt: &impl Abort, table: &PeriodicLdeTable<BabyBear>) {
-    assert_eq!(rt; table.height(), 2);
-    assert_eq!(rt; table.width(), 1);
-    assert!(rt; !table.is_empty());
-    assert_eq!(rt; *table.get(0, 0), bear(5));
-    assert_eq!(rt; *table.get(3, 0), bear(7));
+    assert_same(&rt, &empty.packed_group_period(3), &0);
 }
 
 #[test]
-fn rows_of_a_table(rt: HostRuntime) -> Result<(), Fail> {
-    let table = table_of(rt.alloc(), &[bear(5), bear(7)])?.ok_or("no table")?;
-    assert_rows(&rt, &table);
-    Ok(())
+fn rows_of_a_table(rt: HostRuntime) {
+    let table = table_of(rt.alloc(), &[bear(5), bear(7)])
+        .expect(&rt, "memory")
+        .expect(&rt, "a table");
+    assert_eq!(rt; (table.height(), table.width()), (2, 1));
+    assert_same(&rt, &table.is_empty(), &false);
+    assert_same(&rt, table.get(0, 0), &bear(5));
+    assert_same(&rt, table.get(3, 0), &bear(7));
 }
 
 // The values of (5, 9) and (4).
@@ -220,37 +207,29 @@ fn two_columns(alloc: Global) -> Mem<Vec<Vec<BabyBear>>> {
 }
 
 // The values at a point of the columns (5, 9) and (4) over four points.
-fn values_at<E: ExtensionField<BabyBear>>(
-    rt: &impl Abort,
-    alloc: Global,
-    point: E,
-) -> Result<Vec<E>, Fail> {
-    let domain = Coset::new(bear(1), 2).ok_or("no coset")?;
+fn values_at<E: ExtensionField<BabyBear>>(rt: &impl Abort, alloc: Global, point: E) -> Mem<Vec<E>> {
+    let domain = Coset::new(bear(1), 2).expect(rt, "a coset");
     let columns = two_columns(alloc)?;
-    let columns = PeriodicColumns::new(&columns, 4)?;
+    let columns = PeriodicColumns::new(&columns, 4).expect(rt, "fit columns");
     assert_eq!(rt; PolynomialSpace::size(&domain), columns.height());
-    Ok(domain.evaluate_periodic_columns_at(alloc, columns, point)?)
+    domain.evaluate_periodic_columns_at(alloc, columns, point)
 }
 
 #[test]
-fn values_of_periodic_columns(rt: HostRuntime) -> Result<(), Fail> {
-    let values = values_at(&rt, rt.alloc(), bear(3))?;
-    assert_eq!(rt; values.as_slice(), [-bear(11), bear(4)].as_slice());
-    Ok(())
+fn values_of_periodic_columns(rt: HostRuntime) {
+    let values = values_at(&rt, rt.alloc(), bear(3)).expect(&rt, "values");
+    assert_values(&rt, values.as_slice(), &[-bear(11), bear(4)]);
 }
 
 #[test]
-fn values_over_an_extension(rt: HostRuntime) -> Result<(), Fail> {
-    let values = values_at(&rt, rt.alloc(), QuarticExtension::from_u64(3))?;
-    assert_eq!(rt;
-        values.as_slice(),
-        [
-            -QuarticExtension::from_u64(11),
-            QuarticExtension::from_u64(4)
-        ]
-        .as_slice()
-    );
-    Ok(())
+fn values_over_an_extension(rt: HostRuntime) {
+    let point = QuarticExtension::from_u64(3);
+    let values = values_at(&rt, rt.alloc(), point).expect(&rt, "values");
+    let wanted = [
+        -QuarticExtension::from_u64(11),
+        QuarticExtension::from_u64(4),
+    ];
+    assert_values(&rt, values.as_slice(), &wanted);
 }
 
 // The value at a point of the column 5, 9 over four points.
@@ -262,53 +241,52 @@ fn pair_at<E: ExtensionField<BabyBear>>(domain: &Coset, point: E) -> E
 
 // The interpolant of 5, 9, 5, 9 on the points 1, r, -1, -r, where r is a root of -1, is 7 - 2 X^2.
 #[test]
-fn values_of_one_periodic_column(rt: HostRuntime) -> Result<(), Fail> {
-    let domain = Coset::new(bear(1), 2).ok_or("no coset")?;
-    assert_eq!(rt; pair_at(&domain, bear(3)), -bear(11));
+fn values_of_one_periodic_column(rt: HostRuntime) {
+    let domain = Coset::new(bear(1), 2).expect(&rt, "a coset");
+    assert_same(&rt, &pair_at(&domain, bear(3)), &-bear(11));
     let three = QuarticExtension::from_u64(3);
-    assert_eq!(rt; pair_at(&domain, three), -QuarticExtension::from_u64(11));
-    Ok(())
-}
-
-#[test]
-fn values_of_no_column(rt: HostRuntime) -> Result<(), Fail> {
-    let alloc = rt.alloc();
-    let domain = Coset::new(bear(1), 2).ok_or("no coset")?;
-    let none = columns_of(alloc, &[])?;
-    let none = PeriodicColumns::new(&none, 4)?;
-    assert_eq!(rt; PolynomialSpace::size(&domain), none.height());
-    assert!(rt;
-        domain
-            .evaluate_periodic_columns_at(alloc, none, bear(3))?
-            .is_empty()
+    assert_same(
+        &rt,
+        &pair_at(&domain, three),
+        &-QuarticExtension::from_u64(11),
     );
-    Ok(())
 }
 
 #[test]
-fn evaluator_of_no_column(rt: HostRuntime) -> Result<(), Fail> {
-    let domain = Coset::new(bear(1), 2).ok_or("no coset")?;
-    let larger = Coset::new(bear(31), 3).ok_or("no coset")?;
+fn values_of_no_column(rt: HostRuntime) {
+    let alloc = rt.alloc();
+    let domain = Coset::new(bear(1), 2).expect(&rt, "a coset");
+    let none = columns_of(alloc, &[]).expect(&rt, "columns");
+    let none = PeriodicColumns::new(&none, 4).expect(&rt, "fit columns");
+    assert_eq!(rt; PolynomialSpace::size(&domain), none.height());
+    let values = domain
+        .evaluate_periodic_columns_at(alloc, none, bear(3))
+        .expect(&rt, "values");
+    assert_same(&rt, &values.is_empty(), &true);
+}
+
+#[test]
+fn evaluator_of_no_column(rt: HostRuntime) {
+    let domain = Coset::new(bear(1), 2).expect(&rt, "a coset");
+    let larger = Coset::new(bear(31), 3).expect(&rt, "a coset");
     let table = <() as PeriodicEvaluator<BabyBear, Coset>>::eval_on_lde(
         rt.alloc(),
         &[],
         &domain,
         &larger,
-    )?;
-    assert!(rt; table.is_empty());
-    assert_eq!(rt; (table.width(), table.height()), (0, 0));
-    Ok(())
+    ).expect(&rt, "a table");
+    let shape = (table.is_empty(), table.width(), table.height());
+    assert_same(&rt, &shape, &(true, 0, 0));
 }
 
 #[test]
-fn evaluator_at_a_point(rt: HostRuntime) -> Result<(), Fail> {
-    let domain = Coset::new(bear(1), 2).ok_or("no coset")?;
+fn evaluator_at_a_point(rt: HostRuntime) {
+    let domain = Coset::new(bear(1), 2).expect(&rt, "a coset");
     let values = <() as PeriodicEvaluator<BabyBear, Coset>>::eval_at_point(
         rt.alloc(),
         &[],
         &domain,
         bear(3),
-    )?;
-    assert!(rt; values.is_empty());
-    Ok(())
+    ).expect(&rt, "values");
+    assert_same(&rt, &values.is_empty(), &true);
 }

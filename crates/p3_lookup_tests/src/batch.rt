@@ -13,31 +13,28 @@ use std::test::Fail;
 // 7 + 1 * 2^2 and 7 + 2 * 2^2.
 #[test]
 fn bases(rt: HostRuntime) -> Result<(), Fail> {
-    let alloc = rt.alloc();
-    let challenges = Challenges::new(alloc, bear(7), bear(2), 2, 2)?;
-    assert_eq!(rt; (challenges.alpha, challenges.beta), (bear(7), bear(2)));
+    let challenges = Challenges::new(rt.alloc(), bear(7), bear(2), 2, 2)?;
+    let values = [challenges.alpha, challenges.beta];
+    let number = LogUpGadget::new().num_challenges();
     assert_eq!(rt;
-        challenges.bus_prefix.as_slice(),
-        [bear(11), bear(15)].as_slice()
+        (values, challenges.bus_prefix.as_slice(), number),
+        ([bear(7), bear(2)], [bear(11), bear(15)].as_slice(), 2)
     );
-    assert_eq!(rt; LogUpGadget::new().num_challenges(), 2);
     Ok(())
 }
 
 #[test]
-fn terminals(rt: HostRuntime) -> Result<(), Fail> {
+fn terminals(rt: HostRuntime) {
     let gadget = LogUpGadget::new();
     let one = Some(LookupTerminal(bear(1)));
     let minus_one = Some(LookupTerminal(-bear(1)));
-    assert!(rt; gadget.verify_terminal_sum(&[one, None, minus_one]).is_ok());
-    assert!(rt; gadget.verify_terminal_sum::<BabyBear>(&[]).is_ok());
-    assert!(rt;
-        matches!(
-            gadget.verify_terminal_sum(&[one]),
-            Err(LookupError::TerminalSum)
-        )
-    );
-    Ok(())
+    let sums = [
+        gadget.verify_terminal_sum(&[one, None, minus_one]).is_ok(),
+        gadget.verify_terminal_sum::<BabyBear>(&[]).is_ok(),
+    ];
+    let refused = gadget.verify_terminal_sum(&[one]);
+    assert_eq!(rt; sums, [true, true]);
+    assert!(rt; matches!(refused, Err(LookupError::TerminalSum)));
 }
 
 // The lookups of a table that sends one tuple, whose count has this bound.
@@ -70,10 +67,13 @@ fn overload_of_one(alloc: Global, bound: u32, height: usize) -> Mem<Option<usize
 #[test]
 fn bound_of_one_table(rt: HostRuntime) -> Result<(), Fail> {
     let alloc = rt.alloc();
-    assert_eq!(rt; overload_of_one(alloc, 1024, 1 << 20)?, None);
-    assert_eq!(rt; overload_of_one(alloc, 1024, 1 << 21)?, Some(0));
-    assert_eq!(rt; overload_of_one(alloc, 1, 2_013_265_920)?, None);
-    assert_eq!(rt; overload_of_one(alloc, 1, 2_013_265_921)?, Some(0));
+    let overloads = [
+        overload_of_one(alloc, 1024, 1 << 20)?,
+        overload_of_one(alloc, 1024, 1 << 21)?,
+        overload_of_one(alloc, 1, 2_013_265_920)?,
+        overload_of_one(alloc, 1, 2_013_265_921)?,
+    ];
+    assert_eq!(rt; overloads, [None, Some(0), None, Some(0)]);
     Ok(())
 }
 
@@ -89,12 +89,12 @@ fn overload_of_two(alloc: Global, name: &str, first: usize, second: usize) -> Me
 #[test]
 fn bound_of_two_tables(rt: HostRuntime) -> Result<(), Fail> {
     let alloc = rt.alloc();
-    assert_eq!(rt; overload_of_two(alloc, "values", 1 << 20, 1 << 19)?, None);
-    assert_eq!(rt;
+    let overloads = [
+        overload_of_two(alloc, "values", 1 << 20, 1 << 19)?,
         overload_of_two(alloc, "values", 1 << 20, 1 << 20)?,
-        Some(0)
-    );
-    assert_eq!(rt; overload_of_two(alloc, "", 1 << 20, 1 << 20)?, None);
-    assert_eq!(rt; overload_of_two(alloc, "", 1 << 20, 1 << 21)?, Some(1));
+        overload_of_two(alloc, "", 1 << 20, 1 << 20)?,
+        overload_of_two(alloc, "", 1 << 20, 1 << 21)?,
+    ];
+    assert_eq!(rt; overloads, [None, Some(0), None, Some(1)]);
     Ok(())
 }

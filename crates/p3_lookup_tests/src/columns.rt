@@ -7,26 +7,15 @@ use p3_field::{BabyBear, FieldCore, Mem, RingCore};
 use p3_lookup::{GenerateError, Kind, Lookup, LookupTerminal};
 use p3_matrix::RowMajorMatrix;
 use std::alloc::Global;
-use std::process::Abort;
 use std::test::Fail;
 
 type Answer = Result<(RowMajorMatrix<BabyBear>, LookupTerminal<BabyBear>), GenerateError>;
 
-// Compares the cells of an answer, row after row, its width and its terminal.
-fn assert_columns(
-    rt: &impl Abort,
-    answer: &Answer,
-    cells: &[BabyBear],
-    width: usize,
-    terminal: BabyBear,
-) {
+// The cells of an answer, row after row, its width and its terminal.
+fn columns_of(answer: &Answer) -> Option<(&[BabyBear], usize, BabyBear)> {
     match answer {
-        Ok((columns, end)) => {
-            assert_eq!(rt; columns.width(), width);
-            assert_eq!(rt; columns.as_slice(), cells);
-            assert_eq!(rt; end.0, terminal);
-        }
-        Err(_) => assert!(rt; false),
+        Ok((columns, end)) => Some((columns.as_slice(), columns.width(), end.0)),
+        Err(_) => None,
     }
 }
 
@@ -45,9 +34,11 @@ fn one_row(rt: HostRuntime) -> Result<(), Fail> {
     let half = bear(1_006_632_961);
     let lookups = vec![in alloc; take(alloc, Kind::Local, 1)?]?;
     let answer = generated(alloc, &[5], &lookups, &[bear(7), bear(3)]);
-    assert_columns(&rt, &answer, &[bear(0), half], 2, half);
-    let answer = generated(alloc, &[5], &lookups, &[bear(5), bear(3)]);
-    assert_eq!(rt; zero_of(&answer), Some((0, 0, 0)));
+    let refused = generated(alloc, &[5], &lookups, &[bear(5), bear(3)]);
+    assert_eq!(rt;
+        (columns_of(&answer), zero_of(&refused)),
+        (Some(([bear(0), half].as_slice(), 2, half)), Some((0, 0, 0)))
+    );
     Ok(())
 }
 
@@ -74,7 +65,10 @@ fn two_lookups(rt: HostRuntime) -> Result<(), Fail> {
         half,
         bear(2),
     ];
-    assert_columns(&rt, &answer, &cells, 3, bear(2) + half);
+    assert_eq!(rt;
+        columns_of(&answer),
+        Some((cells.as_slice(), 3, bear(2) + half))
+    );
     Ok(())
 }
 
@@ -84,19 +78,29 @@ fn denominators_that_cancel(rt: HostRuntime) -> Result<(), Fail> {
     let alloc = rt.alloc();
     let lookups = vec![in alloc; take_both(alloc, Kind::Local, 1)?]?;
     let answer = generated(alloc, &[5, 9], &lookups, &[bear(7), bear(3)]);
-    assert_columns(&rt, &answer, &[bear(0); 4], 2, bear(0));
+    assert_eq!(rt;
+        columns_of(&answer),
+        Some(([bear(0); 4].as_slice(), 2, bear(0)))
+    );
     Ok(())
+}
+
+// The lookup that sends the pair of the cell and the one of the next row.
+fn take_pair(alloc: Global) -> Mem<Lookup<BabyBear>>
+    ensures { IfOk result IsTakenLookup }
+{
+    let tuple = vec![in alloc; cell(alloc, false)?, cell(alloc, true)?]?;
+    single(alloc, Kind::Local, tuple, 77)
 }
 
 // The pairs (5, 9) and (9, 5) have the denominators 30 - 5 - 2 * 9 = 7 and 30 - 9 - 2 * 5 = 11.
 #[test]
 fn pairs(rt: HostRuntime) -> Result<(), Fail> {
     let alloc = rt.alloc();
-    let tuple = vec![in alloc; cell(alloc, false)?, cell(alloc, true)?]?;
-    let lookups = vec![in alloc; single(alloc, Kind::Local, tuple, 77)?]?;
+    let lookups = vec![in alloc; take_pair(alloc)?]?;
     let answer = generated(alloc, &[5, 9], &lookups, &[bear(30), bear(2)]);
     let cells = [bear(0), bear(11), bear(11), bear(7)];
-    assert_columns(&rt, &answer, &cells, 2, bear(18));
+    assert_eq!(rt; columns_of(&answer), Some((cells.as_slice(), 2, bear(18))));
     Ok(())
 }
 
@@ -117,10 +121,17 @@ fn zero_beside(
 #[test]
 fn first_zero(rt: HostRuntime) -> Result<(), Fail> {
     let alloc = rt.alloc();
-    let zero = zero_beside(alloc, 7, take(alloc, Kind::Local, 1)?)?;
-    assert_eq!(rt; zero, Some((2, 1, 0)));
-    let zero = zero_beside(alloc, 3, take(alloc, Kind::Local, 1)?)?;
-    assert_eq!(rt; zero, Some((2, 0, 0)));
+    let zeros = [
+        zero_beside(alloc, 7, take(alloc, Kind::Local, 1)?)?,
+        zero_beside(alloc, 3, take(alloc, Kind::Local, 1)?)?,
+    ];
+    assert_eq!(rt; zeros, [Some((2, 1, 0)), Some((2, 0, 0))]);
+    Ok(())
+}
+
+#[test]
+fn first_zero_of_two_tuples(rt: HostRuntime) -> Result<(), Fail> {
+    let alloc = rt.alloc();
     let zero = zero_beside(alloc, 7, take_both(alloc, Kind::Local, 1)?)?;
     assert_eq!(rt; zero, Some((1, 1, 1)));
     Ok(())
@@ -129,10 +140,16 @@ fn first_zero(rt: HostRuntime) -> Result<(), Fail> {
 #[test]
 fn nothing_taken(rt: HostRuntime) -> Result<(), Fail> {
     let alloc = rt.alloc();
-    let answer = generated(alloc, &[5, 9], &[], &[]);
-    assert_columns(&rt, &answer, &[bear(0), bear(0)], 1, bear(0));
+    let no_lookups = generated(alloc, &[5, 9], &[], &[]);
     let lookups = vec![in alloc; take(alloc, Kind::Local, 1)?]?;
-    let answer = generated(alloc, &[], &lookups, &[bear(7), bear(3)]);
-    assert_columns(&rt, &answer, &[], 2, bear(0));
+    let no_rows = generated(alloc, &[], &lookups, &[bear(7), bear(3)]);
+    let no_cells: [BabyBear; 0] = [];
+    assert_eq!(rt;
+        [columns_of(&no_lookups), columns_of(&no_rows)],
+        [
+            Some(([bear(0), bear(0)].as_slice(), 1, bear(0))),
+            Some((no_cells.as_slice(), 2, bear(0)))
+        ]
+    );
     Ok(())
 }

@@ -47,15 +47,22 @@ fn sizes_packed(alloc: Global, names: &[&str], budget: usize) -> Mem<Vec<usize>>
     sizes(alloc, &packed)
 }
 
+// The sizes of these lookups when they are packed.
+fn sizes_of_both(alloc: Global, budget: usize) -> Mem<Vec<usize>> {
+    let gadget = LogUpGadget::new();
+    let packed = both_sent(alloc)?.pack_same_bus_with_degree(alloc, budget, &gadget, 0)?;
+    sizes(alloc, &packed)
+}
+
 // One tuple of a cell gives degree 2, and each more of the same lookup one more.
 #[test]
 fn two_sends_packed(rt: HostRuntime) -> Result<(), Fail> {
-    let alloc = rt.alloc();
-    let gadget = LogUpGadget::new();
-    let apart = both_sent(alloc)?.pack_same_bus_with_degree(alloc, 2, &gadget, 0)?;
-    assert_eq!(rt; sizes(alloc, &apart)?.as_slice(), [1usize, 1].as_slice());
-    let packed = both_sent(alloc)?.pack_same_bus_with_degree(alloc, 3, &gadget, 0)?;
-    assert_eq!(rt; sizes(alloc, &packed)?.as_slice(), [2usize].as_slice());
+    let apart = sizes_of_both(rt.alloc(), 2)?;
+    let packed = sizes_of_both(rt.alloc(), 3)?;
+    assert_eq!(rt;
+        [apart.as_slice(), packed.as_slice()],
+        [[1usize, 1].as_slice(), [2usize].as_slice()]
+    );
     Ok(())
 }
 

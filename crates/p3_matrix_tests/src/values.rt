@@ -31,13 +31,17 @@ fn interpolates_outside_and_on_the_coset(rt: HostRuntime) -> Result<(), Fail> {
     let one = bear(1);
     assert!(rt; !one.is_zero());
     let column = pair(alloc, bear(5), bear(9))?;
-    for (point, value) in [(3, 1), (1, 5)] {
-        let values = interpolate_coset(alloc, &column, one, bear(point))?;
-        assert_eq!(rt; values.as_slice(), [bear(value)].as_slice(), "at {point}");
-    }
-    let point = QuarticExtension::from_u64(3);
-    let values = interpolate_coset(alloc, &column, one, point)?;
-    assert_eq!(rt; values.as_slice(), [QuarticExtension::ONE].as_slice());
+    let outside = interpolate_coset(alloc, &column, one, bear(3))?;
+    let inside = interpolate_coset(alloc, &column, one, bear(1))?;
+    let above = interpolate_coset(alloc, &column, one, QuarticExtension::from_u64(3))?;
+    assert_eq!(rt;
+        (outside.as_slice(), inside.as_slice(), above.as_slice()),
+        (
+            [bear(1)].as_slice(),
+            [bear(5)].as_slice(),
+            [QuarticExtension::ONE].as_slice()
+        )
+    );
     Ok(())
 }
 
@@ -99,77 +103,118 @@ fn interpolates_above_the_field(rt: HostRuntime) -> Result<(), Fail> {
     let shift = bear(3);
     assert!(rt; !shift.is_zero());
     let columns = two_columns(alloc)?;
-    let values = interpolate_coset(alloc, &columns, shift, quartic(1, 2, 3, 4))?;
+    let outside = interpolate_coset(alloc, &columns, shift, quartic(1, 2, 3, 4))?;
+    let inside = interpolate_coset(alloc, &columns, shift, quartic(1158681697, 0, 0, 0))?;
+    let wanted = [
+        quartic(1751913077, 1074997419, 261192754, 236309743),
+        quartic(1043354946, 195753533, 895105634, 1883055428),
+    ];
     assert_eq!(rt;
-        values.as_slice(),
+        [outside.as_slice(), inside.as_slice()],
         [
-            quartic(1751913077, 1074997419, 261192754, 236309743),
-            quartic(1043354946, 195753533, 895105634, 1883055428)
+            wanted.as_slice(),
+            [quartic(2, 0, 0, 0), quartic(6, 0, 0, 0)].as_slice()
         ]
-        .as_slice()
-    );
-    let values = interpolate_coset(alloc, &columns, shift, quartic(1158681697, 0, 0, 0))?;
-    assert_eq!(rt;
-        values.as_slice(),
-        [quartic(2, 0, 0, 0), quartic(6, 0, 0, 0)].as_slice()
     );
     Ok(())
 }
 
 #[test]
 fn sums_of_powers(rt: HostRuntime) {
-    assert_eq!(rt; sum_of_powers(bear(3), 0), bear(1));
-    assert_eq!(rt; sum_of_powers(bear(3), 2), bear(40));
-    assert_eq!(rt; sum_of_powers(bear(3), 3), bear(3280));
+    let sums = [
+        sum_of_powers(bear(3), 0),
+        sum_of_powers(bear(3), 2),
+        sum_of_powers(bear(3), 3),
+    ];
+    assert_eq!(rt; sums, [bear(1), bear(40), bear(3280)]);
 }
 
 #[test]
 fn flattens_rows(rt: HostRuntime) -> Result<(), Fail> {
     let alloc = rt.alloc();
-    let mut values = Vec::new(alloc);
-    values.push(quartic(1, 2, 3, 4))?;
+    let values = Vec::from_array(alloc, [quartic(1, 2, 3, 4)])?;
     let flat = flatten_matrix::<BabyBear, QuarticExtension>(
         alloc,
         &RowMajorMatrix::new_col(values),
     )?;
-    assert_eq!(rt; flat.width(), 4);
+    let wanted = [bear(1), bear(2), bear(3), bear(4)];
+    assert_eq!(rt; (flat.width(), flat.as_slice()), (4, wanted.as_slice()));
+    Ok(())
+}
+
+// The rows 0, 1, 2 and 3, 4, 5.
+fn six_cells(alloc: Global) -> Mem<RowMajorMatrix<u32>>
+    ensures width { IfOk result (λ m. m.width ≡ 3) }
+    ensures height { IfOk result (λ m. height m ≡ 2) }
+{
+    let cells = Vec::from_array(alloc, [0u32, 1, 2, 3, 4, 5])?;
+    Ok(RowMajorMatrix::new(cells, 3))
+}
+
+#[test]
+fn cells(rt: HostRuntime) -> Result<(), Fail> {
+    let m = six_cells(rt.alloc())?;
+    let cells = [m.get(1, 2), m.get(2, 0), m.get(0, 3)];
     assert_eq!(rt;
-        flat.as_slice(),
-        [bear(1), bear(2), bear(3), bear(4)].as_slice()
+        (m.width(), m.height(), cells),
+        (3, 2, [Some(5), None, None])
     );
     Ok(())
 }
 
 #[test]
-fn cells_and_rows(rt: HostRuntime) -> Result<(), Fail> {
-    let alloc = rt.alloc();
-    let m = RowMajorMatrix::new(vec![in alloc; 0u32, 1, 2, 3, 4, 5]?, 3);
-    assert_eq!(rt; (m.width(), m.height()), (3, 2));
-    assert_eq!(rt; m.get(1, 2), Some(5));
-    assert_eq!(rt; m.get(2, 0), None);
-    assert_eq!(rt; m.get(0, 3), None);
-    assert_eq!(rt; m.row_slice(1), Some([3u32, 4, 5].as_slice()));
-    assert_eq!(rt; m.row_slice(2), None);
-    assert_eq!(rt; m.row(1), [3u32, 4, 5].as_slice());
-    let column = m.column(alloc, 1)?;
-    assert_eq!(rt; column.as_slice(), [1u32, 4].as_slice());
-    let transposed = m.transpose(alloc)?;
-    assert_eq!(rt; transposed.as_slice(), [0u32, 3, 1, 4, 2, 5].as_slice());
-    let copy = m.try_clone(alloc)?;
-    assert_eq!(rt; copy.as_slice(), m.as_slice());
+fn rows(rt: HostRuntime) -> Result<(), Fail> {
+    let m = six_cells(rt.alloc())?;
+    let second = [3u32, 4, 5];
+    let second = second.as_slice();
+    assert_eq!(rt;
+        (m.row(1), m.row_slice(1), m.row_slice(2)),
+        (second, Some(second), None)
+    );
     Ok(())
 }
 
 #[test]
-fn logarithms(rt: HostRuntime) -> Result<(), Fail> {
-    for (n, least) in [(0, 0), (1, 0), (5, 3), (8, 3), ((1 << 63) + 1, 64)] {
-        assert_eq!(rt; log2_ceil_usize(n), least, "of {n}");
-    }
-    assert!(rt; is_power_of_two(8) && !is_power_of_two(0) && !is_power_of_two(6));
-    assert_eq!(rt; log2_strict_usize(8), 3);
-    assert_eq!(rt; checked_log_size_sum(63, 0), Some((63, 1 << 63)));
-    assert_eq!(rt; checked_log_size_sum(63, 1), None);
+fn columns_and_copies(rt: HostRuntime) -> Result<(), Fail> {
+    let alloc = rt.alloc();
+    let m = six_cells(alloc)?;
+    let column = m.column(alloc, 1)?;
+    let transposed = m.transpose(alloc)?;
+    let copy = m.try_clone(alloc)?;
+    assert_eq!(rt;
+        [column.as_slice(), transposed.as_slice(), copy.as_slice()],
+        [
+            [1u32, 4].as_slice(),
+            [0u32, 3, 1, 4, 2, 5].as_slice(),
+            m.as_slice()
+        ]
+    );
     Ok(())
+}
+
+#[test]
+fn logarithms(rt: HostRuntime) {
+    let logarithms = [
+        log2_ceil_usize(0),
+        log2_ceil_usize(1),
+        log2_ceil_usize(5),
+        log2_ceil_usize(8),
+        log2_ceil_usize((1 << 63) + 1),
+    ];
+    assert_eq!(rt; logarithms, [0, 0, 3, 3, 64]);
+}
+
+#[test]
+fn logarithm_of_a_power_of_two(rt: HostRuntime) {
+    assert!(rt; is_power_of_two(8));
+    assert_eq!(rt; log2_strict_usize(8), 3);
+}
+
+#[test]
+fn powers_of_two(rt: HostRuntime) {
+    let are = [is_power_of_two(0), is_power_of_two(6)];
+    let sums = [checked_log_size_sum(63, 0), checked_log_size_sum(63, 1)];
+    assert_eq!(rt; (are, sums), ([false, false], [Some((63, 1 << 63)), None]));
 }
 
 // The inverses of three values, if none is zero.

@@ -4,6 +4,7 @@ ghost use Rattle.p3_field.specs.Quartic.{quartic_ring};
 ghost use Rattle.p3_air.specs.Shape.{DeclaresExt};
 ghost use Rattle.p3_air.specs.declared.cells.ExtCell.TheVariants.{Terminal};
 
+use crate::same::assert_same;
 use batch_tables::SwapAir;
 use p3_air::{
     AirBuilder, Count, ExtCell, ExtensionBuilder, InteractionBuilder, PermutationAirBuilder,
@@ -11,7 +12,6 @@ use p3_air::{
 use p3_air_tests::support::{assert_in_all_ways, bear};
 use p3_field::{BabyBear, FieldCore, Mem, QuarticExtension, RingCore};
 use p3_uni_stark::{ProverFolder, VerifierFolder, prover_fold, verifier_fold};
-use std::test::Fail;
 
 // The powers 10^4, .., 10, 1.
 fn powers_of_ten() -> [QuarticExtension; 5] {
@@ -82,23 +82,17 @@ fn verifier_folder<'a>(
 
 // At the row 2, 3 before the row 5, 7, where all else is one, the constraints have the values 1, 2, 2, 5 and 2.
 #[test]
-fn both_folds_of_swap(rt: HostRuntime) -> Result<(), Fail> {
+fn both_folds_of_swap(rt: HostRuntime) {
     let (local, next) = ([bear(2), bear(3)], [bear(5), bear(7)]);
     let public_values = [bear(1), bear(1), bear(1)];
     let powers = powers_of_ten();
     let folder = prover_folder(&local, &next, &public_values, &powers);
-    assert_eq!(rt;
-        prover_fold(&SwapAir, folder),
-        QuarticExtension::from_u64(12252)
-    );
+    let wanted = QuarticExtension::from_u64(12252);
+    assert_same(&rt, &prover_fold(&SwapAir, folder), &wanted);
     let local = [QuarticExtension::from_u64(2), QuarticExtension::from_u64(3)];
     let next = [QuarticExtension::from_u64(5), QuarticExtension::from_u64(7)];
     let folder = verifier_folder(&local, &next, &public_values);
-    assert_eq!(rt;
-        verifier_fold(&SwapAir, folder),
-        QuarticExtension::from_u64(12252)
-    );
-    Ok(())
+    assert_same(&rt, &verifier_fold(&SwapAir, folder), &wanted);
 }
 
 // Asserts over the extension that the square of x is zero, and sends x on a bus and within the table, as often as x says.
@@ -115,19 +109,18 @@ fn assert_square<AB: InteractionBuilder>(builder: &mut AB, x: AB::Expr) -> Mem<(
 
 // The square of 3 takes the first power. A constraint past the last power takes none and isn't counted.
 #[test]
-fn powers_are_counted(rt: HostRuntime) -> Result<(), Fail> {
+fn powers_are_counted(rt: HostRuntime) {
     let powers = [QuarticExtension::from_u64(10)];
     let mut folder = prover_folder(&[], &[], &[], &powers);
-    assert_square(&mut folder, bear(3))?;
-    assert_square(&mut folder, bear(3))?;
-    assert_eq!(rt; folder.accumulator, QuarticExtension::from_u64(90));
-    assert_eq!(rt; folder.constraint_index, 1);
+    assert_square(&mut folder, bear(3)).expect(&rt, "memory");
+    assert_square(&mut folder, bear(3)).expect(&rt, "memory");
+    assert_same(&rt, &folder.accumulator, &QuarticExtension::from_u64(90));
+    assert_same(&rt, &folder.constraint_index, &1);
     let mut folder = verifier_folder(&[], &[], &[]);
-    let three = folder.constant(bear(3))?;
-    assert_square(&mut folder, three)?;
-    assert_square(&mut folder, three)?;
-    assert_eq!(rt; folder.accumulator, QuarticExtension::from_u64(99));
-    Ok(())
+    let three = folder.constant(bear(3)).expect(&rt, "memory");
+    assert_square(&mut folder, three).expect(&rt, "memory");
+    assert_square(&mut folder, three).expect(&rt, "memory");
+    assert_same(&rt, &folder.accumulator, &QuarticExtension::from_u64(99));
 }
 
 // The terminal of the lookups. A table without lookups has the empty sum.
@@ -139,16 +132,18 @@ fn terminal<AB: PermutationAirBuilder>(builder: &mut AB) -> Mem<AB::ExprEF>
 
 // At 5 the values are 3, 20, 5 and 8.
 #[test]
-fn assertions_of_all_forms(rt: HostRuntime) -> Result<(), Fail> {
+fn assertions_of_all_forms(rt: HostRuntime) {
+    let wanted = QuarticExtension::from_u64(5058);
     let powers = powers_of_ten();
     let mut folder = prover_folder(&[], &[], &[], &powers[1..]);
-    assert_in_all_ways(&mut folder, bear(5))?;
-    assert_eq!(rt; folder.accumulator, QuarticExtension::from_u64(5058));
-    assert_eq!(rt; terminal(&mut folder)?, QuarticExtension::ZERO);
+    assert_in_all_ways(&mut folder, bear(5)).expect(&rt, "memory");
+    assert_same(&rt, &folder.accumulator, &wanted);
+    let empty = terminal(&mut folder).expect(&rt, "memory");
+    assert_same(&rt, &empty, &QuarticExtension::ZERO);
     let mut folder = verifier_folder(&[], &[], &[]);
-    let five = folder.constant(bear(5))?;
-    assert_in_all_ways(&mut folder, five)?;
-    assert_eq!(rt; folder.accumulator, QuarticExtension::from_u64(5058));
-    assert_eq!(rt; terminal(&mut folder)?, QuarticExtension::ZERO);
-    Ok(())
+    let five = folder.constant(bear(5)).expect(&rt, "memory");
+    assert_in_all_ways(&mut folder, five).expect(&rt, "memory");
+    assert_same(&rt, &folder.accumulator, &wanted);
+    let empty = terminal(&mut folder).expect(&rt, "memory");
+    assert_same(&rt, &empty, &QuarticExtension::ZERO);
 }

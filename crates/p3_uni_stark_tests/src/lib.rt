@@ -6,4 +6,8 @@ mod bounds;
 #[cfg(test)]
 mod chunks;
 #[cfg(test)]
+mod configuration;
+#[cfg(test)]
 mod folding;
+#[cfg(test)]
+mod same;
