@@ -13,7 +13,7 @@ use p3_challenger::Sha256Challenger;
 use p3_commit::{CommitmentOpening, MatrixOpening, Pcs, PcsFailure, PointOpening};
 use p3_dft::{Radix2Dit, TwoAdicSubgroupDft};
 use p3_field::{
-    BabyBear, BasedVectorSpace, ExtensionField, Field, FieldCore, PrimeCharacteristicRing,
+    BabyBear, BasedVectorSpace, ExtensionField, Field, FieldCore, Mem, PrimeCharacteristicRing,
     RingCore, TwoAdicCore, TwoAdicField, TwoAdicMultiplicativeCoset,
 };
 use p3_matrix::RowMajorMatrix;
@@ -22,7 +22,6 @@ use plain_pcs::{
     nothing_is_refused_within_bounds, opened_claims_bind,
 };
 use std::alloc::Global;
-use std::test::Fail;
 
 type Claims = Vec<
     CommitmentOpening<BabyBear, PlainCommitment<BabyBear>, TwoAdicMultiplicativeCoset<BabyBear>>,
@@ -58,7 +57,7 @@ fn verified<F: TwoAdicField, D: TwoAdicSubgroupDft<F> + Drop, E: ExtensionField<
 }
 
 // The column 5, 9.
-fn column(alloc: Global) -> Result<RowMajorMatrix<BabyBear>, Fail>
+fn column(alloc: Global) -> Mem<RowMajorMatrix<BabyBear>>
     ensures height { IfOk result (λ m. height m ≡ 2) }
     ensures width { IfOk result (λ m. m.width ≡ 1) }
 {
@@ -73,15 +72,13 @@ fn committed_column<D: TwoAdicSubgroupDft<BabyBear> + Drop>(
     alloc: Global,
     pcs: &PlainPcs<BabyBear, D>,
     domain: TwoAdicMultiplicativeCoset<BabyBear>,
-) -> Result<Option<PlainCommitment<BabyBear>>, Fail>
+) -> Result<PlainCommitment<BabyBear>, PcsFailure<PlainProverError>>
     requires size { domain.log_size ≡ 1 }
     requires blowup { pcs.now.log_blowup < 27 }
 {
     let evaluations = vec![in alloc; (domain, column(alloc)?)]?;
-    match committed(alloc, pcs, evaluations) {
-        Ok((commitment, _)) => Ok(Some(commitment)),
-        Err(_) => Ok(None),
-    }
+    let (commitment, _kept) = committed(alloc, pcs, evaluations)?;
+    Ok(commitment)
 }
 
 // The value 7 - 2 * 9 of the column's polynomial at 9, as the claim of one point.
@@ -89,7 +86,7 @@ fn claim(
     alloc: Global,
     commitment: PlainCommitment<BabyBear>,
     domain: TwoAdicMultiplicativeCoset<BabyBear>,
-) -> Result<Claims, Fail> {
+) -> Mem<Claims> {
     let value = BabyBear::from_u64(7) - BabyBear::from_u64(18);
     let point = PointOpening {
         point: BabyBear::from_u64(9),
@@ -107,17 +104,12 @@ fn claim(
 }
 
 #[test]
-fn a_column_within_bounds(rt: HostRuntime) -> Result<(), Fail> {
+fn a_column_within_bounds(rt: HostRuntime) {
     let alloc = rt.alloc();
-    let Some(pcs) = PlainPcs::new(Radix2Dit, 1) else {
-        return Err("no scheme".into());
-    };
-    let Some(domain) = TwoAdicMultiplicativeCoset::new(BabyBear::ONE, 1) else {
-        return Err("no coset".into());
-    };
-    let commitment = committed_column(alloc, &pcs, domain)?.ok_or("refused")?;
-    let claims = claim(alloc, commitment, domain)?;
+    let pcs = PlainPcs::new(Radix2Dit, 1).expect(&rt, "a scheme");
+    let domain = TwoAdicMultiplicativeCoset::new(BabyBear::ONE, 1).expect(&rt, "a coset");
+    let commitment = committed_column(alloc, &pcs, domain).expect(&rt, "a commitment");
+    let claims = claim(alloc, commitment, domain).expect(&rt, "claims");
     let mut challenger = Sha256Challenger::new();
     assert!(rt; verified(alloc, &pcs, claims, &mut challenger).is_ok());
-    Ok(())
 }

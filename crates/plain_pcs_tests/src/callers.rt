@@ -2,30 +2,20 @@
 ghost use Rattle.std.specs.Prelude.{◌≡◌, ℕ, ◌*◌, ◌^◌, ◌<◌, IfOk};
 ghost use Rattle.p3_matrix.specs.Matrix.{height};
 
+use crate::mmcs::fault_in_a_word;
+use crate::same::assert_same;
+use crate::scheme::{Coset, bear, quartic, refusal, scheme, values_of};
 use p3_challenger::Sha256Challenger;
 use p3_commit::{BatchOpeningRef, ExtensionMmcs, Mmcs, PcsFailure};
 use p3_commit_caller::{
     committed_and_opened, committed_and_verified, committed_both_ways, rows_verified_twice,
 };
 use p3_dft::{NaiveDft, Radix2Dit, TwoAdicSubgroupDft};
-use p3_field::{
-    BabyBear, ExtensionField, FieldCore, Mem, QuarticExtension, RingCore,
-    TwoAdicMultiplicativeCoset,
-};
+use p3_field::{BabyBear, ExtensionField, FieldCore, Mem, QuarticExtension, RingCore};
 use p3_matrix::{Dimensions, RowMajorMatrix};
-use plain_pcs::{PlainCommitment, PlainMmcs, PlainMmcsError, PlainPcs, PlainProverError};
+use plain_pcs::{PlainMmcs, PlainPcs, PlainProverError};
 use std::alloc::Global;
-use std::test::Fail;
-
-type Coset = TwoAdicMultiplicativeCoset<BabyBear>;
-
-fn bear(n: u64) -> BabyBear {
-    BabyBear::from_u64(n)
-}
-
-fn quartic(n: u64) -> QuarticExtension {
-    QuarticExtension::from_base(bear(n))
-}
+use std::process::Abort;
 
 // The column of two values.
 fn column<T: Drop>(alloc: Global, first: T, second: T) -> Mem<RowMajorMatrix<T>>
@@ -40,90 +30,81 @@ fn column<T: Drop>(alloc: Global, first: T, second: T) -> Mem<RowMajorMatrix<T>>
 
 // The value at 3 that is opened of the column 5, 9, and the first value of the commitment: that of 7 - 2 X at 31.
 fn opened_at_three<D: TwoAdicSubgroupDft<BabyBear> + Drop>(
+    rt: &impl Abort,
     alloc: Global,
     dft: D,
-) -> Result<(Option<QuarticExtension>, Option<BabyBear>), Fail> {
-    let scheme = PlainPcs::<BabyBear, D>::new(dft, 1).ok_or("no scheme")?;
-    let domain = Coset::new(bear(1), 1).ok_or("no coset")?;
-    let pair = column(alloc, bear(5), bear(9))?;
+) -> (Option<QuarticExtension>, Option<BabyBear>) {
+    let scheme = PlainPcs::<BabyBear, D>::new(dft, 1).expect(rt, "a scheme");
+    let domain = Coset::new(bear(1), 1).expect(rt, "a coset");
+    let pair = column(alloc, bear(5), bear(9)).expect(rt, "a column");
     let start = Sha256Challenger::new();
-    match committed_and_verified(alloc, &scheme, domain, pair, quartic(3), start) {
-        Ok(Some(verified)) => Ok((
-            verified.values.first().copied(),
-            first_value(&verified.commitment),
-        )),
-        Ok(None) => Err("refused by the verifier".into()),
-        Err(_) => Err("refused".into()),
-    }
-}
-
-// The first value of a commitment.
-fn first_value(commitment: &PlainCommitment<BabyBear>) -> Option<BabyBear> {
-    commitment.matrices.first()?.as_slice().first().copied()
+    let verified = committed_and_verified(alloc, &scheme, domain, pair, quartic(3), start)
+        .expect(rt, "no refusal")
+        .expect(rt, "a verified opening");
+    (
+        verified.values.first().copied(),
+        values_of(rt, &verified.commitment, 0).first().copied(),
+    )
 }
 
 #[test]
-fn a_column_opened_at_three(rt: HostRuntime) -> Result<(), Fail> {
-    let alloc = rt.alloc();
+fn a_column_opened_at_three(rt: HostRuntime) {
     let wanted = (Some(quartic(1)), Some(-bear(55)));
-    assert_eq!(rt; opened_at_three(alloc, Radix2Dit)?, wanted);
-    assert_eq!(rt; opened_at_three(alloc, NaiveDft)?, wanted);
-    Ok(())
+    assert_same(&rt, &opened_at_three(&rt, rt.alloc(), Radix2Dit), &wanted);
+    assert_same(&rt, &opened_at_three(&rt, rt.alloc(), NaiveDft), &wanted);
 }
 
 // The column 5, 9 with the domain of this size.
 fn on_domain(
+    rt: &impl Abort,
     alloc: Global,
     log_size: usize,
-) -> Result<Vec<(Coset, RowMajorMatrix<BabyBear>)>, Fail> {
-    let domain = Coset::new(bear(1), log_size).ok_or("no coset")?;
+) -> Mem<Vec<(Coset, RowMajorMatrix<BabyBear>)>> {
+    let domain = Coset::new(bear(1), log_size).expect(rt, "a coset");
     let pair = column(alloc, bear(5), bear(9))?;
     Ok(vec![in alloc; (domain, pair)]?)
 }
 
-// The first values of both commitments, or that the second matrix is refused.
+// The first values of both commitments, or why the second matrix is refused.
 fn committed_twice(
+    rt: &impl Abort,
     alloc: Global,
     log_second: usize,
-) -> Result<Result<(Option<BabyBear>, Option<BabyBear>), PlainProverError>, Fail> {
-    let scheme = PlainPcs::<BabyBear, Radix2Dit>::new(Radix2Dit, 1).ok_or("no scheme")?;
-    let first = on_domain(alloc, 1)?;
-    let second = on_domain(alloc, log_second)?;
-    match committed_both_ways::<QuarticExtension, Sha256Challenger, PlainPcs<BabyBear, Radix2Dit>>(
-        alloc, &scheme, first, second,
-    ) {
-        Ok((commitment, again)) => Ok(Ok((first_value(&commitment), first_value(&again)))),
-        Err(PcsFailure::Refused(error)) => Ok(Err(error)),
-        Err(PcsFailure::OutOfMemory) => Err("out of memory".into()),
-    }
+) -> Result<[Option<BabyBear>; 2], PcsFailure<PlainProverError>> {
+    let first = on_domain(rt, alloc, 1)?;
+    let second = on_domain(rt, alloc, log_second)?;
+    let (commitment, again) = committed_both_ways::<
+        QuarticExtension,
+        Sha256Challenger,
+        PlainPcs<BabyBear, Radix2Dit>,
+    >(alloc, &scheme(), first, second)?;
+    Ok([
+        values_of(rt, &commitment, 0).first().copied(),
+        values_of(rt, &again, 0).first().copied(),
+    ])
 }
 
 #[test]
-fn a_column_committed_both_ways(rt: HostRuntime) -> Result<(), Fail> {
-    let alloc = rt.alloc();
-    let both = (Some(-bear(55)), Some(-bear(55)));
-    assert_eq!(rt; committed_twice(alloc, 1)?, Ok(both));
-    let refused = Err(PlainProverError::Commit { matrix: 0 });
-    assert_eq!(rt; committed_twice(alloc, 2)?, refused);
-    Ok(())
+fn a_column_committed_both_ways(rt: HostRuntime) {
+    let both = committed_twice(&rt, rt.alloc(), 1).expect(&rt, "no refusal");
+    assert_same(&rt, &both, &[Some(-bear(55)), Some(-bear(55))]);
+    let refused = refusal(committed_twice(&rt, rt.alloc(), 2));
+    assert_same(&rt, &refused, &Some(PlainProverError::Commit { matrix: 0 }));
 }
 
-// Of the column of two values row 1, whether it is accepted as row 1, and whether it is accepted as row 0.
-fn last_row<T: Copy + Eq + Drop, M: Mmcs<T>>(
+// Of the column of two values row 1, and whether it is accepted as the row of this number.
+fn last_row_as<T: Copy + Eq + Drop, M: Mmcs<T>>(
+    rt: &impl Abort,
     alloc: Global,
     mmcs: &M,
-    first: T,
-    second: T,
-) -> Mem<(Option<T>, bool, bool)>
+    values: (T, T),
+    claimed: usize,
+) -> (Option<T>, bool)
     requires { M.takes 1 }
 {
-    let right = committed_and_opened(alloc, mmcs, column(alloc, first, second)?, 1, 1)?;
-    let wrong = committed_and_opened(alloc, mmcs, column(alloc, first, second)?, 1, 0)?;
-    Ok((
-        only_cell(&right.opening.opened_values),
-        right.accepted,
-        wrong.accepted,
-    ))
+    let pair = column(alloc, values.0, values.1).expect(rt, "a column");
+    let row = committed_and_opened(alloc, mmcs, pair, 1, claimed).expect(rt, "an opening");
+    (only_cell(&row.opening.opened_values), row.accepted)
 }
 
 // The first value of the first row.
@@ -132,47 +113,44 @@ fn only_cell<T: Copy>(rows: &[Vec<T>]) -> Option<T> {
 }
 
 #[test]
-fn a_row_opened_as_another(rt: HostRuntime) -> Result<(), Fail> {
+fn a_row_opened_as_another(rt: HostRuntime) {
     let alloc = rt.alloc();
-    let wanted = (Some(bear(9)), true, false);
-    assert_eq!(rt; last_row(alloc, &PlainMmcs, bear(5), bear(9))?, wanted);
-    assert_eq!(rt; last_row(alloc, &&PlainMmcs, bear(5), bear(9))?, wanted);
+    let pair = (bear(5), bear(9));
+    let (right, wrong) = ((Some(bear(9)), true), (Some(bear(9)), false));
+    assert_same(&rt, &last_row_as(&rt, alloc, &PlainMmcs, pair, 1), &right);
+    assert_same(&rt, &last_row_as(&rt, alloc, &PlainMmcs, pair, 0), &wrong);
+    assert_same(&rt, &last_row_as(&rt, alloc, &&PlainMmcs, pair, 1), &right);
+    assert_same(&rt, &last_row_as(&rt, alloc, &&PlainMmcs, pair, 0), &wrong);
+}
+
+#[test]
+fn a_row_over_the_extension_opened_as_another(rt: HostRuntime) {
+    let alloc = rt.alloc();
     let mmcs = ExtensionMmcs::<BabyBear, QuarticExtension, PlainMmcs>::new(PlainMmcs);
-    let wanted = (Some(quartic(9)), true, false);
-    assert_eq!(rt; last_row(alloc, &mmcs, quartic(5), quartic(9))?, wanted);
-    Ok(())
+    let pair = (quartic(5), quartic(9));
+    let (right, wrong) = ((Some(quartic(9)), true), (Some(quartic(9)), false));
+    assert_same(&rt, &last_row_as(&rt, alloc, &mmcs, pair, 1), &right);
+    assert_same(&rt, &last_row_as(&rt, alloc, &mmcs, pair, 0), &wrong);
 }
 
 // Why row 1 of the column 5, 9 is refused at this place, asked twice.
-fn faults_at(alloc: Global, index: usize) -> Mem<(Option<PlainMmcsError>, Option<PlainMmcsError>)> {
-    let pair = column(alloc, bear(5), bear(9))?;
-    let opened = committed_and_opened(alloc, &PlainMmcs, pair, 1, 1)?;
+fn faults_at(rt: &impl Abort, alloc: Global, index: usize) -> [&'static str; 2] {
+    let pair = column(alloc, bear(5), bear(9)).expect(rt, "a column");
+    let opened = committed_and_opened(alloc, &PlainMmcs, pair, 1, 1).expect(rt, "an opening");
     let shape = [Dimensions {
         width: 1,
         height: 2,
     }];
     let rows = BatchOpeningRef::from(&opened.opening);
-    rows_verified_twice(alloc, &PlainMmcs, &opened.commitment, &shape, index, rows)
+    let faults = rows_verified_twice(alloc, &PlainMmcs, &opened.commitment, &shape, index, rows);
+    let (fault, again) = faults.expect(rt, "answers");
+    [fault_in_a_word(fault), fault_in_a_word(again)]
 }
 
 #[test]
-fn a_row_verified_twice(rt: HostRuntime) -> Result<(), Fail> {
+fn a_row_verified_twice(rt: HostRuntime) {
     let alloc = rt.alloc();
-    let faults = faults_at(alloc, 1)?;
-    assert!(rt; matches!(&faults, (None, None)));
-    let faults = faults_at(alloc, 0)?;
-    assert!(rt;
-        matches!(
-            &faults,
-            (Some(PlainMmcsError::Value), Some(PlainMmcsError::Value))
-        )
-    );
-    let faults = faults_at(alloc, 2)?;
-    assert!(rt;
-        matches!(
-            &faults,
-            (Some(PlainMmcsError::Index), Some(PlainMmcsError::Index))
-        )
-    );
-    Ok(())
+    assert_same(&rt, &faults_at(&rt, alloc, 1), &["none", "none"]);
+    assert_same(&rt, &faults_at(&rt, alloc, 0), &["value", "value"]);
+    assert_same(&rt, &faults_at(&rt, alloc, 2), &["index", "index"]);
 }

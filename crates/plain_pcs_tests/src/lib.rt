@@ -14,6 +14,8 @@ mod opening;
 #[cfg(test)]
 mod quotient;
 #[cfg(test)]
+mod same;
+#[cfg(test)]
 mod scheme;
 #[cfg(test)]
 mod several;

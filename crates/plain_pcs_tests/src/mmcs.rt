@@ -3,6 +3,8 @@ ghost use Rattle.std.specs.Prelude.{◌≡◌, ℕ, ◌+◌, ◌*◌, ◌^◌, �
 ghost use Rattle.p3_matrix.specs.Matrix.{height};
 ghost use Rattle.p3_commit.specs.Batches.{IsBatch, IsRowOf};
 
+use crate::same::{assert_same, assert_values};
+use crate::scheme::{bear, quartic};
 use p3_commit::{BatchOpening, BatchOpeningRef, ExtensionMmcs, Mmcs, PcsFailure};
 use p3_field::{
     BabyBear, BasedVectorSpace, ExtensionField, FieldCore, Mem, QuarticExtension, RingCore,
@@ -10,7 +12,6 @@ use p3_field::{
 use p3_matrix::{Dimensions, RowMajorMatrix};
 use plain_pcs::{PlainMmcs, PlainMmcsError, PlainMmcsProof};
 use std::alloc::Global;
-use std::test::Fail;
 
 const SHAPE: [Dimensions; 2] = [
     Dimensions {
@@ -34,12 +35,23 @@ const WIDE_SHAPE: [Dimensions; 2] = [
     },
 ];
 
-fn bear(n: u64) -> BabyBear {
-    BabyBear::from_u64(n)
+// A fault of an opening in a word.
+pub fn fault_in_a_word(fault: Option<PlainMmcsError>) -> &'static str {
+    match fault {
+        None => "none",
+        Some(PlainMmcsError::Dimensions) => "dimensions",
+        Some(PlainMmcsError::Index) => "index",
+        Some(PlainMmcsError::Value) => "value",
+    }
 }
 
-fn quartic(n: u64) -> QuarticExtension {
-    QuarticExtension::from_base(bear(n))
+// A verifier's answer in a word.
+fn in_a_word(answer: Result<(), PcsFailure<PlainMmcsError>>) -> &'static str {
+    match answer {
+        Ok(()) => "accepted",
+        Err(PcsFailure::Refused(fault)) => fault_in_a_word(Some(fault)),
+        Err(PcsFailure::OutOfMemory) => "no memory",
+    }
 }
 
 // The list of one value.
@@ -97,14 +109,13 @@ fn quartics(alloc: Global) -> Mem<Vec<RowMajorMatrix<QuarticExtension>>>
     Ok(batch(columns(alloc, high, low)?))
 }
 
-// Whether row 3 is opened as two values, verified, and refused with another first value, at row 4, and in another shape.
+// The values of row 3, and the answers to it, to it at row 4, there in another shape, and with another first value.
 fn opens<T: Copy + Eq, M: Mmcs<T, Error = PlainMmcsError>>(
     alloc: Global,
     mmcs: &M,
     columns: Vec<RowMajorMatrix<T>>,
-    values: (T, T),
     other: T,
-) -> Mem<bool>
+) -> Mem<((Option<T>, Option<T>), [&'static str; 4])>
     requires batch { IsBatch columns.items }
     requires last { IsRowOf columns.items 3 }
     requires takes { All (λ m. M.takes m.width) columns.items }
@@ -113,7 +124,7 @@ fn opens<T: Copy + Eq, M: Mmcs<T, Error = PlainMmcsError>>(
 {
     let (commitment, data) = mmcs.commit(alloc, columns)?;
     let (mut rows, proof) = mmcs.open_batch(alloc, 3, &data)?.unpack();
-    let opened = cell(&rows, 0) == Some(values.0) && cell(&rows, 1) == Some(values.1);
+    let opened = (cell(&rows, 0), cell(&rows, 1));
     let right = BatchOpeningRef::new(&rows, &proof);
     let verified = mmcs.verify_batch(alloc, &commitment, &SHAPE, 3, right);
     let past = mmcs.verify_batch(alloc, &commitment, &SHAPE, 4, right);
@@ -121,14 +132,16 @@ fn opens<T: Copy + Eq, M: Mmcs<T, Error = PlainMmcsError>>(
     rows[0] = one(alloc, other)?;
     let wrong = BatchOpeningRef::new(&rows, &proof);
     let refused = mmcs.verify_batch(alloc, &commitment, &SHAPE, 3, wrong);
-    Ok(
-        opened
-            && verified.is_ok()
-            && matches!(&past, Err(PcsFailure::Refused(PlainMmcsError::Index)))
-            && matches!(&both, Err(PcsFailure::Refused(PlainMmcsError::Dimensions)))
-            && matches!(&refused, Err(PcsFailure::Refused(PlainMmcsError::Value))),
-    )
+    let answers = [
+        in_a_word(verified),
+        in_a_word(past),
+        in_a_word(both),
+        in_a_word(refused),
+    ];
+    Ok((opened, answers))
 }
+
+const ANSWERS: [&str; 4] = ["accepted", "index", "dimensions", "value"];
 
 // The first value of a row.
 fn cell<T: Copy>(rows: &[Vec<T>], row: usize) -> Option<T> {
@@ -136,32 +149,43 @@ fn cell<T: Copy>(rows: &[Vec<T>], row: usize) -> Option<T> {
 }
 
 #[test]
-fn a_row_of_each_column(rt: HostRuntime) -> Result<(), Fail> {
+fn a_row_of_each_column(rt: HostRuntime) {
     let alloc = rt.alloc();
-    let values = (bear(13), bear(21));
-    assert!(rt; opens(alloc, &PlainMmcs, bears(alloc)?, values, bear(14))?);
-    assert!(rt; opens(alloc, &&PlainMmcs, bears(alloc)?, values, bear(14))?);
-    Ok(())
+    let wanted = ((Some(bear(13)), Some(bear(21))), ANSWERS);
+    let columns = bears(alloc).expect(&rt, "columns");
+    let opened = opens(alloc, &PlainMmcs, columns, bear(14)).expect(&rt, "answers");
+    assert_same(&rt, &opened, &wanted);
+    let columns = bears(alloc).expect(&rt, "columns");
+    let opened = opens(alloc, &&PlainMmcs, columns, bear(14)).expect(&rt, "answers");
+    assert_same(&rt, &opened, &wanted);
 }
 
 #[test]
-fn a_row_over_the_extension(rt: HostRuntime) -> Result<(), Fail> {
+fn a_row_over_the_extension(rt: HostRuntime) {
     let alloc = rt.alloc();
     let mmcs = ExtensionMmcs::<BabyBear, QuarticExtension, PlainMmcs>::new(PlainMmcs);
-    let values = (quartic(13), quartic(21));
-    assert!(rt; opens(alloc, &mmcs, quartics(alloc)?, values, quartic(14))?);
-    Ok(())
+    let columns = quartics(alloc).expect(&rt, "columns");
+    let opened = opens(alloc, &mmcs, columns, quartic(14)).expect(&rt, "answers");
+    assert_same(
+        &rt,
+        &opened,
+        &((Some(quartic(13)), Some(quartic(21))), ANSWERS),
+    );
 }
 
-// Whether rows 0 and 3 are opened together, verified, and refused with another value in the second, at row 4, and without
-// the second.
+// Two rows of one value each.
+fn two_rows<T: Copy>(alloc: Global, value: T) -> Mem<Vec<Vec<T>>> {
+    Ok(vec![in alloc; one(alloc, value)?, one(alloc, value)?]?)
+}
+
+// The first values of rows 0 and 3, opened together, and the answers to both, to the second as row 4, without it, and with
+// another value in it.
 fn opens_two<T: Copy + Eq, M: Mmcs<T, Error = PlainMmcsError>>(
     alloc: Global,
     mmcs: &M,
     columns: Vec<RowMajorMatrix<T>>,
-    values: (T, T),
     other: T,
-) -> Mem<bool>
+) -> Mem<((Option<T>, Option<T>), [&'static str; 4])>
     requires batch { IsBatch columns.items }
     requires rows { All (IsRowOf columns.items) (0 ∷ 3 ∷ []) }
     requires takes { All (λ m. M.takes m.width) columns.items }
@@ -169,24 +193,21 @@ fn opens_two<T: Copy + Eq, M: Mmcs<T, Error = PlainMmcsError>>(
 {
     let (commitment, data) = mmcs.commit(alloc, columns)?;
     let (mut openings, proof) = mmcs.open_multi_batch(alloc, &[0, 3], &data)?;
-    let opened = first_cell(&openings, 0) == Some(values.0)
-        && first_cell(&openings, 1) == Some(values.1);
+    let opened = (first_cell(&openings, 0), first_cell(&openings, 1));
     let verified = mmcs.verify_multi_batch(alloc, &commitment, &SHAPE, &[0, 3], &openings, &proof);
     let past = mmcs.verify_multi_batch(alloc, &commitment, &SHAPE, &[0, 4], &openings, &proof);
     let fewer = mmcs.verify_multi_batch(alloc, &commitment, &SHAPE, &[0], &openings, &proof);
     if let Some(second) = openings.get_mut(1) {
-        second.clear();
-        second.push(one(alloc, other)?)?;
-        second.push(one(alloc, other)?)?;
+        *second = two_rows(alloc, other)?;
     }
     let refused = mmcs.verify_multi_batch(alloc, &commitment, &SHAPE, &[0, 3], &openings, &proof);
-    Ok(
-        opened
-            && verified.is_ok()
-            && matches!(&past, Err(PcsFailure::Refused(PlainMmcsError::Index)))
-            && matches!(&fewer, Err(PcsFailure::Refused(PlainMmcsError::Dimensions)))
-            && matches!(&refused, Err(PcsFailure::Refused(PlainMmcsError::Value))),
-    )
+    let answers = [
+        in_a_word(verified),
+        in_a_word(past),
+        in_a_word(fewer),
+        in_a_word(refused),
+    ];
+    Ok((opened, answers))
 }
 
 // The first value of an opening.
@@ -195,15 +216,28 @@ fn first_cell<T: Copy>(openings: &[Vec<Vec<T>>], opening: usize) -> Option<T> {
 }
 
 #[test]
-fn two_rows_of_each_column(rt: HostRuntime) -> Result<(), Fail> {
+fn two_rows_of_each_column(rt: HostRuntime) {
     let alloc = rt.alloc();
-    let values = (bear(10), bear(13));
-    assert!(rt; opens_two(alloc, &PlainMmcs, bears(alloc)?, values, bear(14))?);
-    assert!(rt; opens_two(alloc, &&PlainMmcs, bears(alloc)?, values, bear(14))?);
+    let wanted = ((Some(bear(10)), Some(bear(13))), ANSWERS);
+    let columns = bears(alloc).expect(&rt, "columns");
+    let opened = opens_two(alloc, &PlainMmcs, columns, bear(14)).expect(&rt, "answers");
+    assert_same(&rt, &opened, &wanted);
+    let columns = bears(alloc).expect(&rt, "columns");
+    let opened = opens_two(alloc, &&PlainMmcs, columns, bear(14)).expect(&rt, "answers");
+    assert_same(&rt, &opened, &wanted);
+}
+
+#[test]
+fn two_rows_over_the_extension(rt: HostRuntime) {
+    let alloc = rt.alloc();
     let mmcs = ExtensionMmcs::<BabyBear, QuarticExtension, PlainMmcs>::new(PlainMmcs);
-    let values = (quartic(10), quartic(13));
-    assert!(rt; opens_two(alloc, &mmcs, quartics(alloc)?, values, quartic(14))?);
-    Ok(())
+    let columns = quartics(alloc).expect(&rt, "columns");
+    let opened = opens_two(alloc, &mmcs, columns, quartic(14)).expect(&rt, "answers");
+    assert_same(
+        &rt,
+        &opened,
+        &((Some(quartic(10)), Some(quartic(13))), ANSWERS),
+    );
 }
 
 // The heights of committed columns, the greatest of them, and how many columns there are.
@@ -225,29 +259,39 @@ fn heights<T: Copy + Eq, M: Mmcs<T>>(
 }
 
 #[test]
-fn heights_of_columns(rt: HostRuntime) -> Result<(), Fail> {
+fn heights_of_columns(rt: HostRuntime) {
     let alloc = rt.alloc();
-    let (each, most, count) = heights(alloc, &PlainMmcs, bears(alloc)?)?;
-    assert_eq!(rt; each.as_slice(), [4, 2].as_slice());
-    assert_eq!(rt; (most, count), (4, 2));
-    let (each, most, count) = heights(alloc, &&PlainMmcs, bears(alloc)?)?;
-    assert_eq!(rt; each.as_slice(), [4, 2].as_slice());
-    assert_eq!(rt; (most, count), (4, 2));
-    let mmcs = ExtensionMmcs::<BabyBear, QuarticExtension, PlainMmcs>::new(PlainMmcs);
-    let (each, most, count) = heights(alloc, &mmcs, quartics(alloc)?)?;
-    assert_eq!(rt; each.as_slice(), [4, 2].as_slice());
-    assert_eq!(rt; (most, count), (4, 2));
-    Ok(())
+    let columns = bears(alloc).expect(&rt, "columns");
+    let (each, most, count) = heights(alloc, &PlainMmcs, columns).expect(&rt, "heights");
+    assert_values(&rt, each.as_slice(), &[4, 2]);
+    assert_same(&rt, &(most, count), &(4, 2));
+    let columns = bears(alloc).expect(&rt, "columns");
+    let (each, most, count) = heights(alloc, &&PlainMmcs, columns).expect(&rt, "heights");
+    assert_values(&rt, each.as_slice(), &[4, 2]);
+    assert_same(&rt, &(most, count), &(4, 2));
 }
 
 #[test]
-fn one_column(rt: HostRuntime) -> Result<(), Fail> {
+fn heights_over_the_extension(rt: HostRuntime) {
     let alloc = rt.alloc();
-    let column = RowMajorMatrix::new_col(vec![in alloc; bear(5), bear(9)]?);
-    let (_commitment, data) = PlainMmcs.commit_matrix(alloc, column)?;
-    let (rows, _proof) = PlainMmcs.open_batch(alloc, 1, &data)?.unpack();
-    assert_eq!(rt; cell::<BabyBear>(&rows, 0), Some(bear(9)));
-    Ok(())
+    let mmcs = ExtensionMmcs::<BabyBear, QuarticExtension, PlainMmcs>::new(PlainMmcs);
+    let columns = quartics(alloc).expect(&rt, "columns");
+    let (each, most, count) = heights(alloc, &mmcs, columns).expect(&rt, "heights");
+    assert_values(&rt, each.as_slice(), &[4, 2]);
+    assert_same(&rt, &(most, count), &(4, 2));
+}
+
+#[test]
+fn one_column(rt: HostRuntime) {
+    let alloc = rt.alloc();
+    let values = vec![in alloc; bear(5), bear(9)].expect(&rt, "values");
+    let made = PlainMmcs.commit_matrix(alloc, RowMajorMatrix::new_col(values));
+    let (_commitment, data) = made.expect(&rt, "a commitment");
+    let opening = PlainMmcs
+        .open_batch(alloc, 1, &data)
+        .expect(&rt, "an opening");
+    let (rows, _proof) = opening.unpack();
+    assert_same(&rt, &cell::<BabyBear>(&rows, 0), &Some(bear(9)));
 }
 
 // A clone, over the bound alone.
@@ -256,14 +300,14 @@ fn cloned<T: Clone>(x: &T) -> Mem<T> {
 }
 
 #[test]
-fn an_opening_of_one_row(rt: HostRuntime) -> Result<(), Fail> {
+fn an_opening_of_one_row(rt: HostRuntime) {
     let alloc = rt.alloc();
-    let rows = vec![in alloc; one(alloc, bear(9))?]?;
+    let row = one(alloc, bear(9)).expect(&rt, "a row");
+    let rows = one(alloc, row).expect(&rt, "rows");
     let opening = BatchOpening::<BabyBear, PlainMmcs>::new(rows, PlainMmcsProof);
     let borrowed: BatchOpeningRef<'_, BabyBear, PlainMmcs> = (&opening).into();
-    let (rows, _proof) = cloned(&borrowed)?.unpack();
-    assert_eq!(rt; cell::<BabyBear>(rows, 0), Some(bear(9)));
-    Ok(())
+    let (rows, _proof) = cloned(&borrowed).expect(&rt, "a clone").unpack();
+    assert_same(&rt, &cell::<BabyBear>(rows, 0), &Some(bear(9)));
 }
 
 // Row 1 of a list of two values as a column, over the bound alone.
@@ -277,38 +321,45 @@ fn second_of_list<T: Copy + Eq, M: Mmcs<T>>(alloc: Global, mmcs: &M, list: Vec<T
 }
 
 #[test]
-fn one_list(rt: HostRuntime) -> Result<(), Fail> {
+fn one_list(rt: HostRuntime) {
     let alloc = rt.alloc();
-    let list = vec![in alloc; bear(5), bear(9)]?;
-    assert_eq!(rt; second_of_list(alloc, &PlainMmcs, list)?, Some(bear(9)));
-    let list = vec![in alloc; bear(5), bear(9)]?;
-    assert_eq!(rt; second_of_list(alloc, &&PlainMmcs, list)?, Some(bear(9)));
-    let mmcs = ExtensionMmcs::<BabyBear, QuarticExtension, PlainMmcs>::new(PlainMmcs);
-    let list = vec![in alloc; quartic(5), quartic(9)]?;
-    assert_eq!(rt; second_of_list(alloc, &mmcs, list)?, Some(quartic(9)));
-    Ok(())
+    let list = vec![in alloc; bear(5), bear(9)].expect(&rt, "a list");
+    let second = second_of_list(alloc, &PlainMmcs, list).expect(&rt, "an opening");
+    assert_same(&rt, &second, &Some(bear(9)));
+    let list = vec![in alloc; bear(5), bear(9)].expect(&rt, "a list");
+    let second = second_of_list(alloc, &&PlainMmcs, list).expect(&rt, "an opening");
+    assert_same(&rt, &second, &Some(bear(9)));
 }
 
-// A commitment is a public list, so it may have a matrix that `commit` doesn't take.
 #[test]
-fn three_rows(rt: HostRuntime) -> Result<(), Fail> {
+fn one_list_over_the_extension(rt: HostRuntime) {
     let alloc = rt.alloc();
+    let mmcs = ExtensionMmcs::<BabyBear, QuarticExtension, PlainMmcs>::new(PlainMmcs);
+    let list = vec![in alloc; quartic(5), quartic(9)].expect(&rt, "a list");
+    let second = second_of_list(alloc, &mmcs, list).expect(&rt, "an opening");
+    assert_same(&rt, &second, &Some(quartic(9)));
+}
+
+// The commitment to one column of three rows. It is a public list, so it may have a matrix that `commit` doesn't take.
+fn column_of_three(alloc: Global) -> Mem<Vec<RowMajorMatrix<BabyBear>>> {
     let column = RowMajorMatrix::new_col(vec![in alloc; bear(5), bear(9), bear(2)]?);
-    let commitment = vec![in alloc; column]?;
+    Ok(vec![in alloc; column]?)
+}
+
+#[test]
+fn three_rows(rt: HostRuntime) {
+    let alloc = rt.alloc();
+    let commitment = column_of_three(alloc).expect(&rt, "a commitment");
     let shape = [Dimensions {
         width: 1,
         height: 3,
     }];
-    let rows = vec![in alloc; one(alloc, bear(5))?]?;
+    let row = one(alloc, bear(5)).expect(&rt, "a row");
+    let rows = one(alloc, row).expect(&rt, "rows");
     let opening = BatchOpeningRef::<BabyBear, PlainMmcs>::new(&rows, &PlainMmcsProof);
     let answer = PlainMmcs.verify_batch(alloc, &commitment, &shape, 0, opening);
-    assert!(rt;
-        matches!(
-            &answer,
-            Err(PcsFailure::Refused(PlainMmcsError::Dimensions))
-        )
-    );
-    let openings = vec![in alloc; rows]?;
+    assert_same(&rt, &in_a_word(answer), &"dimensions");
+    let openings = one(alloc, rows).expect(&rt, "openings");
     let answer = PlainMmcs.verify_multi_batch(
         alloc,
         &commitment,
@@ -317,22 +368,15 @@ fn three_rows(rt: HostRuntime) -> Result<(), Fail> {
         &openings,
         &PlainMmcsProof,
     );
-    assert!(rt;
-        matches!(
-            &answer,
-            Err(PcsFailure::Refused(PlainMmcsError::Dimensions))
-        )
-    );
-    Ok(())
+    assert_same(&rt, &in_a_word(answer), &"dimensions");
 }
 
 #[test]
-fn no_matrices(rt: HostRuntime) -> Result<(), Fail> {
+fn no_matrices(rt: HostRuntime) {
     let alloc = rt.alloc();
     let commitment: Vec<RowMajorMatrix<BabyBear>> = Vec::new(alloc);
     let rows: Vec<Vec<BabyBear>> = Vec::new(alloc);
     let opening = BatchOpeningRef::<BabyBear, PlainMmcs>::new(&rows, &PlainMmcsProof);
     let answer = PlainMmcs.verify_batch(alloc, &commitment, &[], 0, opening);
-    assert!(rt; matches!(&answer, Err(PcsFailure::Refused(PlainMmcsError::Index))));
-    Ok(())
+    assert_same(&rt, &in_a_word(answer), &"index");
 }

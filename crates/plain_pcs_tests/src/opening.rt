@@ -3,13 +3,17 @@
 ghost use Rattle.std.specs.Prelude.{◌≡◌, IfOk, length};
 ghost use Rattle.plain_pcs.specs.Holding.{IsMade};
 
-use crate::scheme::{Coset, Plain, bear, committed, preprocessed, scheme};
+use crate::same::{assert_same, assert_values};
+use crate::scheme::{Coset, Plain, bear, committed, only_three, preprocessed, scheme};
 use p3_challenger::Sha256Challenger;
-use p3_commit::{CommitmentOpening, OpenedValues, OpeningRequest, Pcs, UnivariateStarkPcs};
+use p3_commit::{
+    CommitmentOpening, OpenedValues, OpeningRequest, Pcs, PcsFailure, UnivariateStarkPcs,
+};
 use p3_field::{BabyBear, FieldCore, Mem, RingCore};
-use plain_pcs::{PlainCommitment, PlainProof, has_subgroup_height};
+use plain_pcs::{
+    PlainCommitment, PlainProof, PlainProverData, PlainProverError, has_subgroup_height,
+};
 use std::alloc::Global;
-use std::test::Fail;
 
 type Claim = CommitmentOpening<BabyBear, PlainCommitment<BabyBear>, Coset>;
 
@@ -26,92 +30,96 @@ fn claim(
 }
 
 // The first opened value.
-fn first_value(opened: &OpenedValues<BabyBear>) -> Result<BabyBear, Fail> {
-    let round = opened.first().ok_or("no round")?;
-    let matrix = round.first().ok_or("no matrix")?;
-    let point = matrix.first().ok_or("no point")?;
-    Ok(*point.first().ok_or("no value")?)
+fn first_value(opened: &OpenedValues<BabyBear>) -> Option<BabyBear> {
+    opened.first()?.first()?.first()?.first().copied()
 }
 
 #[test]
-fn the_polynomial_of_a_column(rt: HostRuntime) -> Result<(), Fail> {
+fn the_polynomial_of_a_column(rt: HostRuntime) {
     let alloc = rt.alloc();
-    let scheme = scheme()?;
-    let domain = Coset::new(bear(1), 1).ok_or("no coset")?;
-    let (commitment, _kept) = committed(alloc, &scheme, domain)?;
+    let scheme = scheme();
+    let domain = Coset::new(bear(1), 1).expect(&rt, "a coset");
+    let (commitment, _kept) = committed(alloc, &scheme, domain).expect(&rt, "a commitment");
     assert_eq!(rt; commitment.matrices.len(), 1);
-    if !has_subgroup_height(&commitment.matrices[0]) {
-        return Err("another height".into());
-    }
-    let polynomials = scheme.committed(alloc, &commitment, 0)?;
-    let polynomial = polynomials.first().ok_or("no polynomial")?;
-    assert_eq!(rt;
-        polynomial.as_slice(),
-        [bear(7), -bear(2), bear(0), bear(0)].as_slice()
-    );
-    Ok(())
+    assert!(rt; has_subgroup_height(&commitment.matrices[0]));
+    let polynomials = scheme
+        .committed(alloc, &commitment, 0)
+        .expect(&rt, "polynomials");
+    let polynomial = polynomials.first().expect(&rt, "a polynomial");
+    let wanted = [bear(7), -bear(2), bear(0), bear(0)];
+    assert_values(&rt, polynomial.as_slice(), &wanted);
 }
 
-#[test]
-fn opened_at_a_point(rt: HostRuntime) -> Result<(), Fail> {
-    let alloc = rt.alloc();
-    let scheme = scheme()?;
-    let domain = Coset::new(bear(1), 1).ok_or("no coset")?;
-    let (commitment, kept) = committed(alloc, &scheme, domain)?;
-    let request = OpeningRequest::from((&kept, vec![in alloc; vec![in alloc; bear(3)]?]?));
+// Opens the column at 3, by a copy of the request.
+fn opened_at_three(
+    alloc: Global,
+    scheme: &Plain,
+    kept: &PlainProverData<BabyBear>,
+    challenger: &mut Sha256Challenger,
+) -> Result<(OpenedValues<BabyBear>, PlainProof), PcsFailure<PlainProverError>>
+    requires { IsMade kept.now }
+{
+    let points = vec![in alloc; only_three(alloc)?]?;
+    let request = OpeningRequest::from((kept, points));
     let requests = vec![in alloc; request.try_clone(alloc)?]?;
-    let mut challenger = Sha256Challenger::new();
-    let (opened, proof) = scheme
-        .open(alloc, requests, &mut challenger)
-        .ok()
-        .ok_or("refused")?;
-    assert_eq!(rt; first_value(&opened)?, bear(1));
-    let claims = claim(alloc, commitment, domain, bear(1))?;
-    assert!(rt;
-        scheme
-            .verify(alloc, claims, &proof, &mut challenger)
-            .is_ok()
-    );
-    Ok(())
+    scheme.open(alloc, requests, challenger)
 }
 
 #[test]
-fn preprocessed_columns_evaluated_and_opened(rt: HostRuntime) -> Result<(), Fail> {
+fn opened_at_a_point(rt: HostRuntime) {
     let alloc = rt.alloc();
-    let scheme = scheme()?;
-    let domain = Coset::new(bear(1), 1).ok_or("no coset")?;
-    let (commitment, kept) = preprocessed(alloc, &scheme, domain)?;
-    let one = Coset::new(bear(31), 0).ok_or("no coset")?;
+    let scheme = scheme();
+    let domain = Coset::new(bear(1), 1).expect(&rt, "a coset");
+    let (commitment, kept) = committed(alloc, &scheme, domain).expect(&rt, "a commitment");
+    let mut challenger = Sha256Challenger::new();
+    let made = opened_at_three(alloc, &scheme, &kept, &mut challenger);
+    let (opened, proof) = made.expect(&rt, "an opening");
+    assert_same(&rt, &first_value(&opened), &Some(bear(1)));
+    let claims = claim(alloc, commitment, domain, bear(1)).expect(&rt, "claims");
+    let answer = scheme.verify(alloc, claims, &proof, &mut challenger);
+    assert_same(&rt, &answer.is_ok(), &true);
+}
+
+// Opens the column at 3 as a preprocessed one.
+fn opened_with_preprocessing(
+    alloc: Global,
+    scheme: &Plain,
+    kept: &PlainProverData<BabyBear>,
+    challenger: &mut Sha256Challenger,
+) -> Result<(OpenedValues<BabyBear>, PlainProof), PcsFailure<PlainProverError>>
+    requires { IsMade kept.now }
+{
+    let points = vec![in alloc; only_three(alloc)?]?;
+    let requests = vec![in alloc; OpeningRequest::from((kept, points))]?;
+    scheme.open_with_preprocessing(alloc, requests, challenger, Some(0))
+}
+
+#[test]
+fn preprocessed_columns_evaluated_and_opened(rt: HostRuntime) {
+    let alloc = rt.alloc();
+    let scheme = scheme();
+    let domain = Coset::new(bear(1), 1).expect(&rt, "a coset");
+    let (commitment, kept) = preprocessed(alloc, &scheme, domain).expect(&rt, "a commitment");
+    let one = Coset::new(bear(31), 0).expect(&rt, "a coset");
     let values = <Plain as UnivariateStarkPcs<
         BabyBear,
         Sha256Challenger,
-    >>::get_evaluations_on_domain(&scheme, alloc, &kept, 0, one)?;
-    assert_eq!(rt; values.as_slice(), [-bear(55)].as_slice());
-    let points = vec![in alloc; vec![in alloc; bear(3)]?]?;
-    let requests = vec![in alloc; OpeningRequest::from((&kept, points))]?;
+    >>::get_evaluations_on_domain(&scheme, alloc, &kept, 0, one).expect(&rt, "values");
+    assert_values(&rt, values.as_slice(), &[-bear(55)]);
     let mut challenger = Sha256Challenger::new();
-    let (opened, proof) = scheme
-        .open_with_preprocessing(alloc, requests, &mut challenger, Some(0))
-        .ok()
-        .ok_or("refused")?;
-    assert_eq!(rt; first_value(&opened)?, bear(1));
-    let claims = claim(alloc, commitment, domain, bear(1))?;
-    assert!(rt;
-        scheme
-            .verify_with_preprocessing(alloc, claims, &proof, &mut challenger, Some(0))
-            .is_ok()
-    );
-    Ok(())
+    let made = opened_with_preprocessing(alloc, &scheme, &kept, &mut challenger);
+    let (opened, proof) = made.expect(&rt, "an opening");
+    assert_same(&rt, &first_value(&opened), &Some(bear(1)));
+    let claims = claim(alloc, commitment, domain, bear(1)).expect(&rt, "claims");
+    let answer = scheme.verify_with_preprocessing(alloc, claims, &proof, &mut challenger, Some(0));
+    assert_same(&rt, &answer.is_ok(), &true);
 }
 
 #[test]
-fn no_random_polynomials(rt: HostRuntime) -> Result<(), Fail> {
-    let alloc = rt.alloc();
-    let scheme = scheme()?;
+fn no_random_polynomials(rt: HostRuntime) {
     let answer = <Plain as UnivariateStarkPcs<
         BabyBear,
         Sha256Challenger,
-    >>::get_opt_randomization_poly_commitment(&scheme, alloc, &[]);
-    assert!(rt; answer.ok().ok_or("refused")?.is_none());
-    Ok(())
+    >>::get_opt_randomization_poly_commitment(&scheme(), rt.alloc(), &[]);
+    assert_same(&rt, &answer.expect(&rt, "no refusal").is_none(), &true);
 }

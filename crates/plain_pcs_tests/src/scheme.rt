@@ -3,6 +3,7 @@ ghost use Rattle.std.specs.Prelude.{◌≡◌, IfOk, length};
 ghost use Rattle.p3_matrix.specs.Matrix.{height};
 ghost use Rattle.plain_pcs.specs.Holding.{IsMade};
 
+use crate::same::{assert_same, assert_values};
 use p3_challenger::{CanObserve, Sha256Challenger};
 use p3_commit::{OpeningRequest, Pcs, PcsFailure, UnivariateStarkPcs};
 use p3_commit_caller::committed_and_evaluated;
@@ -14,7 +15,7 @@ use p3_field::{
 use p3_matrix::RowMajorMatrix;
 use plain_pcs::{PlainCommitment, PlainPcs, PlainProverData, PlainProverError};
 use std::alloc::Global;
-use std::test::Fail;
+use std::process::Abort;
 
 pub type Plain = PlainPcs<BabyBear, Radix2Dit>;
 
@@ -26,9 +27,24 @@ pub fn bear(n: u64) -> BabyBear {
     BabyBear::from_u64(n)
 }
 
+pub fn quartic(n: u64) -> QuarticExtension {
+    QuarticExtension::from_base(bear(n))
+}
+
 // The scheme with a blowup of two.
-pub fn scheme() -> Result<Plain, Fail> {
-    Ok(PlainPcs::new(Radix2Dit, 1).ok_or("no scheme")?)
+pub fn scheme() -> Plain {
+    match PlainPcs::new(Radix2Dit, 1) {
+        Some(scheme) => scheme,
+        None => unreachable!(),
+    }
+}
+
+// Why an answer is refused, where it is.
+pub fn refusal<T: Drop, E: Drop>(answer: Result<T, PcsFailure<E>>) -> Option<E> {
+    match answer {
+        Err(PcsFailure::Refused(error)) => Some(error),
+        _ => None,
+    }
 }
 
 // The column 5, 9.
@@ -39,18 +55,26 @@ pub fn pair(alloc: Global) -> Mem<RowMajorMatrix<BabyBear>>
 }
 
 // The column on a domain of two points, committed to by `commit`.
-pub fn committed(alloc: Global, scheme: &Plain, domain: Coset) -> Result<Made, Fail>
+pub fn committed(
+    alloc: Global,
+    scheme: &Plain,
+    domain: Coset,
+) -> Result<Made, PcsFailure<PlainProverError>>
     ensures { IfOk result (λ w. IsMade w.1 × (length w.1 ≡ 1)) }
 {
     let columns = vec![in alloc; (domain, pair(alloc)?)]?;
     match <Plain as Pcs<QuarticExtension, Sha256Challenger>>::commit(scheme, alloc, columns) {
         Ok(made) => Ok(made),
-        Err(_) => Err("refused".into()),
+        Err(failure) => Err(failure),
     }
 }
 
 // The same by `commit_preprocessing`.
-pub fn preprocessed(alloc: Global, scheme: &Plain, domain: Coset) -> Result<Made, Fail>
+pub fn preprocessed(
+    alloc: Global,
+    scheme: &Plain,
+    domain: Coset,
+) -> Result<Made, PcsFailure<PlainProverError>>
     ensures { IfOk result (λ w. IsMade w.1 × (length w.1 ≡ 1)) }
 {
     let columns = vec![in alloc; (domain, pair(alloc)?)]?;
@@ -58,116 +82,132 @@ pub fn preprocessed(alloc: Global, scheme: &Plain, domain: Coset) -> Result<Made
         scheme, alloc, columns,
     ) {
         Ok(made) => Ok(made),
-        Err(_) => Err("refused".into()),
+        Err(failure) => Err(failure),
     }
 }
 
-// The values of a commitment's only matrix.
-pub fn only_values(commitment: &PlainCommitment<BabyBear>) -> Result<&[BabyBear], Fail> {
-    let matrix = commitment.matrices.first().ok_or("no matrix")?;
-    Ok(matrix.as_slice())
+// The values of a commitment's matrix of this number.
+pub fn values_of<'a>(
+    rt: &impl Abort,
+    commitment: &'a PlainCommitment<BabyBear>,
+    matrix: usize,
+) -> &'a [BabyBear] {
+    commitment
+        .matrices
+        .get(matrix)
+        .expect(rt, "a matrix")
+        .as_slice()
 }
 
 #[test]
-fn blowups(rt: HostRuntime) -> Result<(), Fail> {
-    assert!(rt; PlainPcs::<BabyBear, Radix2Dit>::new(Radix2Dit, 27).is_some());
-    assert!(rt; PlainPcs::<BabyBear, Radix2Dit>::new(Radix2Dit, 28).is_none());
-    Ok(())
+fn blowups(rt: HostRuntime) {
+    let largest = PlainPcs::<BabyBear, Radix2Dit>::new(Radix2Dit, 27);
+    assert_same(&rt, &largest.is_some(), &true);
+    let too_large = PlainPcs::<BabyBear, Radix2Dit>::new(Radix2Dit, 28);
+    assert_same(&rt, &too_large.is_none(), &true);
 }
 
 #[test]
-fn a_matrix_lower_than_its_domain(rt: HostRuntime) -> Result<(), Fail> {
+fn a_matrix_lower_than_its_domain(rt: HostRuntime) {
     let alloc = rt.alloc();
-    let domain = Coset::new(bear(1), 2).ok_or("no coset")?;
-    let columns = vec![in alloc; (domain, pair(alloc)?)]?;
-    match <Plain as Pcs<BabyBear, Sha256Challenger>>::commit(&scheme()?, alloc, columns) {
-        Err(PcsFailure::Refused(error)) => {
-            assert_eq!(rt; error, PlainProverError::Commit { matrix: 0 });
-            Ok(())
-        }
-        _ => Err("not refused".into()),
-    }
+    let domain = Coset::new(bear(1), 2).expect(&rt, "a coset");
+    let column = pair(alloc).expect(&rt, "a column");
+    let columns = vec![in alloc; (domain, column)].expect(&rt, "a list");
+    let made = <Plain as Pcs<BabyBear, Sha256Challenger>>::commit(&scheme(), alloc, columns);
+    assert_same(
+        &rt,
+        &refusal(made),
+        &Some(PlainProverError::Commit { matrix: 0 }),
+    );
 }
 
 #[test]
-fn an_extension_of_three_rows(rt: HostRuntime) -> Result<(), Fail> {
+fn an_extension_of_three_rows(rt: HostRuntime) {
     let alloc = rt.alloc();
-    let column = RowMajorMatrix::new_col(vec![in alloc; bear(5), bear(9), bear(2)]?);
-    let ldes = vec![in alloc; column]?;
-    match <Plain as UnivariateStarkPcs<BabyBear, Sha256Challenger>>::commit_ldes(
-        &scheme()?,
+    let values = vec![in alloc; bear(5), bear(9), bear(2)].expect(&rt, "values");
+    let ldes = vec![in alloc; RowMajorMatrix::new_col(values)].expect(&rt, "a list");
+    let made = <Plain as UnivariateStarkPcs<BabyBear, Sha256Challenger>>::commit_ldes(
+        &scheme(),
         alloc,
         ldes,
-    ) {
-        Err(PcsFailure::Refused(error)) => {
-            assert_eq!(rt; error, PlainProverError::Commit { matrix: 0 });
-            Ok(())
-        }
-        _ => Err("not refused".into()),
-    }
+    );
+    assert_same(
+        &rt,
+        &refusal(made),
+        &Some(PlainProverError::Commit { matrix: 0 }),
+    );
+}
+
+// The list of the point 3 alone.
+pub fn only_three(alloc: Global) -> Mem<Vec<BabyBear>> {
+    Ok(vec![in alloc; bear(3)]?)
+}
+
+// That list twice.
+fn three_twice(alloc: Global) -> Mem<Vec<Vec<BabyBear>>> {
+    Ok(vec![in alloc; only_three(alloc)?, only_three(alloc)?]?)
 }
 
 #[test]
-fn two_lists_of_points_for_one_matrix(rt: HostRuntime) -> Result<(), Fail> {
+fn two_lists_of_points_for_one_matrix(rt: HostRuntime) {
     let alloc = rt.alloc();
-    let scheme = scheme()?;
-    let domain = Coset::new(bear(1), 1).ok_or("no coset")?;
-    let (_commitment, kept) = committed(alloc, &scheme, domain)?;
-    let points = vec![in alloc; vec![in alloc; bear(3)]?, vec![in alloc; bear(3)]?]?;
-    let requests = vec![in alloc; OpeningRequest::from((&kept, points))]?;
+    let scheme = scheme();
+    let domain = Coset::new(bear(1), 1).expect(&rt, "a coset");
+    let (_commitment, kept) = committed(alloc, &scheme, domain).expect(&rt, "a commitment");
+    let points = three_twice(alloc).expect(&rt, "points");
+    let requests = vec![in alloc; OpeningRequest::from((&kept, points))].expect(&rt, "a list");
     let mut challenger = Sha256Challenger::new();
-    match scheme.open(alloc, requests, &mut challenger) {
-        Err(PcsFailure::Refused(error)) => {
-            assert_eq!(rt; error, PlainProverError::Open { request: 0 });
-            Ok(())
-        }
-        _ => Err("not refused".into()),
-    }
+    let opened = scheme.open(alloc, requests, &mut challenger);
+    assert_same(
+        &rt,
+        &refusal(opened),
+        &Some(PlainProverError::Open { request: 0 }),
+    );
 }
 
 #[test]
-fn a_column_committed_twice(rt: HostRuntime) -> Result<(), Fail> {
+fn a_column_committed_twice(rt: HostRuntime) {
     let alloc = rt.alloc();
-    let scheme = scheme()?;
-    let domain = Coset::new(bear(1), 1).ok_or("no coset")?;
-    let (commitment, _kept) = committed(alloc, &scheme, domain)?;
-    let (again, _kept) = preprocessed(alloc, &scheme, domain)?;
+    let scheme = scheme();
+    let domain = Coset::new(bear(1), 1).expect(&rt, "a coset");
+    let (commitment, _kept) = committed(alloc, &scheme, domain).expect(&rt, "a commitment");
+    let values = values_of(&rt, &commitment, 0);
+    let (again, _kept) = preprocessed(alloc, &scheme, domain).expect(&rt, "a commitment");
+    assert_values(&rt, values_of(&rt, &again, 0), values);
     let copy = <Plain as Pcs<BabyBear, Sha256Challenger>>::clone_commitment(
         &scheme,
         alloc,
         &commitment,
-    )?;
-    assert_eq!(rt; only_values(&again)?, only_values(&commitment)?);
-    assert_eq!(rt; only_values(&copy)?, only_values(&commitment)?);
-    let copy = commitment.try_clone(alloc)?;
-    assert_eq!(rt; only_values(&copy)?, only_values(&commitment)?);
-    Ok(())
+    ).expect(&rt, "a copy");
+    assert_values(&rt, values_of(&rt, &copy, 0), values);
+    let copy = commitment.try_clone(alloc).expect(&rt, "a copy");
+    assert_values(&rt, values_of(&rt, &copy, 0), values);
 }
 
 #[test]
-fn values_on_the_own_domain(rt: HostRuntime) -> Result<(), Fail> {
+fn values_on_the_own_domain(rt: HostRuntime) {
     let alloc = rt.alloc();
-    let scheme = scheme()?;
-    let domain = Coset::new(bear(1), 1).ok_or("no coset")?;
-    let (_commitment, kept) = committed(alloc, &scheme, domain)?;
+    let scheme = scheme();
+    let domain = Coset::new(bear(1), 1).expect(&rt, "a coset");
+    let (_commitment, kept) = committed(alloc, &scheme, domain).expect(&rt, "a commitment");
     let values = <Plain as UnivariateStarkPcs<
         BabyBear,
         Sha256Challenger,
-    >>::get_evaluations_on_domain(&scheme, alloc, &kept, 0, domain)?;
-    assert_eq!(rt; values.as_slice(), [bear(5), bear(9)].as_slice());
+    >>::get_evaluations_on_domain(&scheme, alloc, &kept, 0, domain).expect(&rt, "values");
+    assert_values(&rt, values.as_slice(), &[bear(5), bear(9)]);
     let values = <Plain as UnivariateStarkPcs<
         BabyBear,
         Sha256Challenger,
-    >>::get_evaluations_on_domain_no_random(&scheme, alloc, &kept, 0, domain)?;
-    assert_eq!(rt; values.as_slice(), [bear(5), bear(9)].as_slice());
-    Ok(())
+    >>::get_evaluations_on_domain_no_random(&scheme, alloc, &kept, 0, domain).expect(&rt, "values");
+    assert_values(&rt, values.as_slice(), &[bear(5), bear(9)]);
 }
 
 #[test]
-fn an_observed_commitment(rt: HostRuntime) -> Result<(), Fail> {
+fn an_observed_commitment(rt: HostRuntime) {
     let alloc = rt.alloc();
+    let column = pair(alloc).expect(&rt, "a column");
     let commitment = PlainCommitment {
-        matrices: vec![in alloc; pair(alloc)?]?,
+        matrices: vec![in alloc; column].expect(&rt, "a list"),
     };
     let mut challenger = Sha256Challenger::new();
     challenger.observe(&commitment);
@@ -175,8 +215,7 @@ fn an_observed_commitment(rt: HostRuntime) -> Result<(), Fail> {
     for element in [bear(1), bear(1), bear(2), bear(5), bear(9)] {
         again.observe(&element);
     }
-    assert_eq!(rt; challenger, again);
-    Ok(())
+    assert_same(&rt, &challenger, &again);
 }
 
 // The domain for columns of eight rows.
@@ -185,55 +224,51 @@ fn eight_points(scheme: &Plain) -> Coset {
 }
 
 #[test]
-fn domains_and_heights(rt: HostRuntime) -> Result<(), Fail> {
-    let scheme = scheme()?;
+fn domains_and_heights(rt: HostRuntime) {
+    let scheme = scheme();
     let most = <Plain as UnivariateStarkPcs<BabyBear, Sha256Challenger>>::log_max_trace_height(
         &scheme,
     );
     let least = <Plain as UnivariateStarkPcs<BabyBear, Sha256Challenger>>::log_min_trace_height(
         &scheme,
     );
-    assert_eq!(rt; (least, most), (0, 26));
+    assert_same(&rt, &(least, most), &(0, 26));
     let domain = eight_points(&scheme);
-    assert_eq!(rt; domain.shift(), bear(1));
-    assert_eq!(rt; domain.log_size(), 3);
-    Ok(())
+    assert_same(&rt, &(domain.shift(), domain.log_size()), &(bear(1), 3));
 }
 
 // The values on four points of the second of two matrices, the constant column 2 and the column 5, 9, or why the first is
 // refused on so large a domain.
 fn second_evaluated(
+    rt: &impl Abort,
     alloc: Global,
     log_first: usize,
-) -> Result<Result<RowMajorMatrix<BabyBear>, PlainProverError>, Fail> {
-    let first = Coset::new(bear(1), log_first).ok_or("no coset")?;
-    let own = Coset::new(bear(1), 1).ok_or("no coset")?;
-    let four = Coset::new(bear(1), 2).ok_or("no coset")?;
+) -> Result<RowMajorMatrix<BabyBear>, PcsFailure<PlainProverError>> {
+    let first = Coset::new(bear(1), log_first).expect(rt, "a coset");
+    let own = Coset::new(bear(1), 1).expect(rt, "a coset");
+    let four = Coset::new(bear(1), 2).expect(rt, "a coset");
     let column = RowMajorMatrix::new_col(vec![in alloc; bear(2), bear(2)]?);
     let columns = vec![in alloc; (first, column), (own, pair(alloc)?)]?;
-    match committed_and_evaluated::<BabyBear, Sha256Challenger, Plain>(
+    let (_commitment, values) = committed_and_evaluated::<BabyBear, Sha256Challenger, Plain>(
         alloc,
-        &scheme()?,
+        &scheme(),
         columns,
         1,
         four,
-    ) {
-        Ok((_commitment, values)) => Ok(Ok(values)),
-        Err(PcsFailure::Refused(error)) => Ok(Err(error)),
-        Err(PcsFailure::OutOfMemory) => Err("no memory".into()),
-    }
+    )?;
+    Ok(values)
 }
 
 // The points are 1, r, -1 and -r, where r = 1728404513 is a root of -1.
 #[test]
-fn the_second_matrix_on_a_larger_domain(rt: HostRuntime) -> Result<(), Fail> {
-    let alloc = rt.alloc();
-    let values = second_evaluated(alloc, 1)?.ok().ok_or("refused")?;
-    assert_eq!(rt;
-        values.as_slice(),
-        [bear(5), bear(569722823), bear(9), bear(1443543112)].as_slice()
+fn the_second_matrix_on_a_larger_domain(rt: HostRuntime) {
+    let values = second_evaluated(&rt, rt.alloc(), 1).expect(&rt, "no refusal");
+    let wanted = [bear(5), bear(569722823), bear(9), bear(1443543112)];
+    assert_values(&rt, values.as_slice(), &wanted);
+    let refused = second_evaluated(&rt, rt.alloc(), 2);
+    assert_same(
+        &rt,
+        &refusal(refused),
+        &Some(PlainProverError::Commit { matrix: 0 }),
     );
-    let refusal = second_evaluated(alloc, 2)?.err();
-    assert_eq!(rt; refusal, Some(PlainProverError::Commit { matrix: 0 }));
-    Ok(())
 }

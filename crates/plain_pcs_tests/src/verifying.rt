@@ -1,4 +1,6 @@
 //! The checks of one claim on one matrix, whose domain has one point.
+use crate::same::assert_same;
+use crate::scheme::{bear, quartic, refusal};
 use p3_challenger::Sha256Challenger;
 use p3_commit::{CommitmentOpening, MatrixOpening, Pcs, PcsFailure, PointOpening};
 use p3_dft::NaiveDft;
@@ -8,7 +10,7 @@ use p3_field::{
 use p3_matrix::RowMajorMatrix;
 use plain_pcs::{PlainCommitment, PlainError, PlainPcs, PlainProof};
 use std::alloc::Global;
-use std::test::Fail;
+use std::process::Abort;
 
 type Claim = CommitmentOpening<
     QuarticExtension,
@@ -16,128 +18,100 @@ type Claim = CommitmentOpening<
     TwoAdicMultiplicativeCoset<BabyBear>,
 >;
 
-fn bear(n: u64) -> BabyBear {
-    BabyBear::from_u64(n)
-}
-
-fn above(n: u64) -> QuarticExtension {
-    QuarticExtension::from_base(bear(n))
+// The commitment to a matrix of this one column.
+fn commitment_to(alloc: Global, column: &[BabyBear]) -> Mem<PlainCommitment<BabyBear>> {
+    let matrix = RowMajorMatrix::new_col(Vec::from_slice(alloc, column)?);
+    Ok(PlainCommitment {
+        matrices: vec![in alloc; matrix]?,
+    })
 }
 
 // The claims at 9 on a matrix with this one column, whose polynomial is a constant.
 fn claim(
+    rt: &impl Abort,
     alloc: Global,
-    column: Vec<BabyBear>,
-    values: Vec<QuarticExtension>,
-) -> Mem<Option<Claim>> {
-    let domain = match TwoAdicMultiplicativeCoset::new(BabyBear::ONE, 0) {
-        Some(domain) => domain,
-        None => return Ok(None),
-    };
-    let commitment = PlainCommitment {
-        matrices: vec![in alloc; RowMajorMatrix::new_col(column)]?,
-    };
-    let points = vec![in alloc;
-        PointOpening {
-            point: above(9),
-            values
-        },
-    ]?;
+    column: &[BabyBear],
+    values: &[QuarticExtension],
+) -> Mem<Claim> {
+    let domain = TwoAdicMultiplicativeCoset::new(BabyBear::ONE, 0).expect(rt, "a coset");
+    let commitment = commitment_to(alloc, column)?;
+    let values = Vec::from_slice(alloc, values)?;
+    let point = quartic(9);
+    let points = vec![in alloc; PointOpening { point, values }]?;
     let matrices = vec![in alloc; MatrixOpening { domain, points }]?;
-    Ok(Some(CommitmentOpening {
+    Ok(CommitmentOpening {
         commitment,
         matrices,
-    }))
+    })
 }
 
-// The first fault of a claim, or None.
-fn fault_of(alloc: Global, claim: Claim) -> Result<Option<PlainError>, Fail> {
+// The answer to a claim.
+fn answer_to(alloc: Global, claim: Claim) -> Result<(), PcsFailure<PlainError>> {
     let claims = vec![in alloc; claim]?;
     let mut challenger = Sha256Challenger::new();
-    let scheme = PlainPcs::<BabyBear, NaiveDft>::new(NaiveDft, 1).ok_or("no scheme")?;
-    match scheme.verify(alloc, claims, &PlainProof, &mut challenger) {
-        Ok(()) => Ok(None),
-        Err(PcsFailure::Refused(fault)) => Ok(Some(fault)),
-        Err(PcsFailure::OutOfMemory) => Err("out of memory".into()),
+    match PlainPcs::<BabyBear, NaiveDft>::new(NaiveDft, 1) {
+        Some(scheme) => scheme.verify(alloc, claims, &PlainProof, &mut challenger),
+        None => unreachable!(),
     }
 }
 
-// The first fault of the claims at 9 on a matrix with this one column, or None.
+// The first fault of the claims at 9 on a matrix with this one column.
 fn fault_of_column(
+    rt: &impl Abort,
     alloc: Global,
-    column: Vec<BabyBear>,
-    values: Vec<QuarticExtension>,
-) -> Result<Option<PlainError>, Fail> {
-    let made = claim(alloc, column, values)?.ok_or("no domain")?;
-    fault_of(alloc, made)
+    column: &[BabyBear],
+    values: &[QuarticExtension],
+) -> Option<PlainError> {
+    let claim = claim(rt, alloc, column, values).expect(rt, "a claim");
+    refusal(answer_to(alloc, claim))
 }
 
 #[test]
-fn a_claim_that_holds(rt: HostRuntime) -> Result<(), Fail> {
+fn a_claim_that_holds(rt: HostRuntime) {
     let alloc = rt.alloc();
-    let column = vec![in alloc; bear(5), bear(5)]?;
-    let fault = fault_of_column(alloc, column, vec![in alloc; above(5)]?)?;
-    assert_eq!(rt; fault, None);
-    Ok(())
+    let right = claim(&rt, alloc, &[bear(5), bear(5)], &[quartic(5)]).expect(&rt, "a claim");
+    assert_same(&rt, &answer_to(alloc, right).is_ok(), &true);
 }
 
 #[test]
-fn another_value(rt: HostRuntime) -> Result<(), Fail> {
-    let alloc = rt.alloc();
-    let column = vec![in alloc; bear(5), bear(5)]?;
-    let fault = fault_of_column(alloc, column, vec![in alloc; above(6)]?)?;
-    assert_eq!(rt;
-        fault,
-        Some(PlainError::Value {
-            round: 0,
-            matrix: 0,
-            point: 0,
-            column: 0
-        })
-    );
-    Ok(())
+fn another_value(rt: HostRuntime) {
+    let fault = fault_of_column(&rt, rt.alloc(), &[bear(5), bear(5)], &[quartic(6)]);
+    let expected = PlainError::Value {
+        round: 0,
+        matrix: 0,
+        point: 0,
+        column: 0,
+    };
+    assert_same(&rt, &fault, &Some(expected));
 }
 
 #[test]
-fn a_degree_too_high(rt: HostRuntime) -> Result<(), Fail> {
-    let alloc = rt.alloc();
-    let column = vec![in alloc; bear(5), bear(6)]?;
-    let fault = fault_of_column(alloc, column, vec![in alloc; above(5)]?)?;
-    assert_eq!(rt;
-        fault,
-        Some(PlainError::Degree {
-            round: 0,
-            matrix: 0,
-            column: 0
-        })
-    );
-    Ok(())
+fn a_degree_too_high(rt: HostRuntime) {
+    let fault = fault_of_column(&rt, rt.alloc(), &[bear(5), bear(6)], &[quartic(5)]);
+    let expected = PlainError::Degree {
+        round: 0,
+        matrix: 0,
+        column: 0,
+    };
+    assert_same(&rt, &fault, &Some(expected));
 }
 
 #[test]
-fn a_value_too_many(rt: HostRuntime) -> Result<(), Fail> {
-    let alloc = rt.alloc();
-    let column = vec![in alloc; bear(5), bear(5)]?;
-    let fault = fault_of_column(alloc, column, vec![in alloc; above(5), above(5)]?)?;
-    assert_eq!(rt;
-        fault,
-        Some(PlainError::Dimensions {
-            round: 0,
-            matrix: 0
-        })
-    );
-    Ok(())
+fn a_value_too_many(rt: HostRuntime) {
+    let values = [quartic(5), quartic(5)];
+    let fault = fault_of_column(&rt, rt.alloc(), &[bear(5), bear(5)], &values);
+    let expected = PlainError::Dimensions {
+        round: 0,
+        matrix: 0,
+    };
+    assert_same(&rt, &fault, &Some(expected));
 }
 
 #[test]
-fn a_claim_without_a_matrix(rt: HostRuntime) -> Result<(), Fail> {
+fn a_claim_without_a_matrix(rt: HostRuntime) {
     let alloc = rt.alloc();
-    let column = vec![in alloc; bear(5), bear(5)]?;
-    let mut none = claim(alloc, column, vec![in alloc; above(5)]?)?.ok_or("no domain")?;
+    let mut none = claim(&rt, alloc, &[bear(5), bear(5)], &[quartic(5)]).expect(&rt, "a claim");
     none.commitment.matrices.clear();
-    assert_eq!(rt;
-        fault_of(alloc, none)?,
-        Some(PlainError::RoundShape { round: 0 })
-    );
-    Ok(())
+    let fault = refusal(answer_to(alloc, none));
+    assert_same(&rt, &fault, &Some(PlainError::RoundShape { round: 0 }));
 }
