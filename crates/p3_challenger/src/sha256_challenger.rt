@@ -160,6 +160,3 @@ impl GrindingChallenger for Sha256Challenger {
 
     ghost same_order = { refl };
 }
-
-#[cfg(test)]
-mod tests;

@@ -2,16 +2,33 @@
 
 use crate::steps::worked_pattern;
 use p3_challenger::{DomainSeparator, push_eight_bytes};
+use p3_field::Mem;
+use std::alloc::Global;
 use std::test::Fail;
+
+// The separator of two public values and four bits, with two labels.
+fn labelled(alloc: Global) -> Mem<DomainSeparator> {
+    let pattern = worked_pattern(alloc, 2, 4)?;
+    let mut separator = DomainSeparator::new(alloc, 1, b"worked", pattern)?;
+    separator.instance(b"ab")?;
+    let mut label = Vec::new(alloc);
+    push_eight_bytes(&mut label, 3)?;
+    separator.instance(&label)?;
+    Ok(separator)
+}
+
+// The parts, one after another.
+fn joined(alloc: Global, parts: &[&[u8]]) -> Mem<Vec<u8>> {
+    let mut bytes = Vec::new(alloc);
+    for part in parts {
+        bytes.extend_from_slice(part)?;
+    }
+    Ok(bytes)
+}
 
 #[test]
 fn a_separator_is_its_parts_in_order(rt: HostRuntime) -> Result<(), Fail> {
-    let pattern = worked_pattern(rt.alloc(), 2, 4)?;
-    let mut separator = DomainSeparator::new(rt.alloc(), 1, b"worked", pattern)?;
-    separator.instance(b"ab")?;
-    let mut label = Vec::new(rt.alloc());
-    push_eight_bytes(&mut label, 3)?;
-    separator.instance(&label)?;
+    let alloc = rt.alloc();
     let expected: [&[u8]; 10] = [
         b"\x01\0\0\0\0\0\0\0\x06worked",
         b"\0\0\0\0\0\0\0\x06",
@@ -24,12 +41,11 @@ fn a_separator_is_its_parts_in_order(rt: HostRuntime) -> Result<(), Fail> {
         b"\0\0\0\0\0\0\0\x0aab",
         b"\0\0\0\0\0\0\0\x03",
     ];
-    let mut bytes = Vec::new(rt.alloc());
-    for part in expected {
-        bytes.extend_from_slice(part)?;
-    }
-    let encoding = separator.encode(rt.alloc())?;
-    assert_eq!(rt; encoding.len(), 237);
-    assert!(rt; encoding == bytes);
+    let bytes = joined(alloc, &expected)?;
+    let encoding = labelled(alloc)?.encode(alloc)?;
+    assert_eq!(rt;
+        (encoding.len(), encoding.as_slice()),
+        (237, bytes.as_slice())
+    );
     Ok(())
 }

@@ -74,28 +74,27 @@ impl OutputStream for FailingWriter {
 }
 
 #[test]
-fn a_read_that_fails_ends_the_reading(rt: HostRuntime) -> Result<(), Fail> {
+fn a_read_that_fails_ends_the_reading(rt: HostRuntime) {
     let alloc = rt.alloc();
     let mut source = StdSource::new(FailingReader {
         text: b"1\n".as_slice(),
         failed: false,
     });
     let answer = read_whole(alloc, &mut source).err();
-    assert_eq!(rt; answer, Some(InputError::ReadFault));
-    assert_eq!(rt; source.faults, 1);
-    Ok(())
+    assert_eq!(rt; (answer, source.faults), (Some(InputError::ReadFault), 1));
 }
 
 #[test]
-fn a_write_that_fails_ends_the_writing(rt: HostRuntime) -> Result<(), Fail> {
+fn a_write_that_fails_ends_the_writing(rt: HostRuntime) {
     let mut sink = StdSink::new(FailingWriter {
         taken: 0,
         failed: false,
     });
-    assert_eq!(rt; write_whole(&mut sink, b"1\n"), Err(Failed));
-    assert_eq!(rt; sink.writer.taken, 0);
-    assert_eq!(rt; sink.faults, 1);
-    Ok(())
+    let answer = write_whole(&mut sink, b"1\n");
+    assert_eq!(rt;
+        (answer, sink.writer.taken, sink.faults),
+        (Err(Failed), 0, 1)
+    );
 }
 
 #[test]
@@ -125,28 +124,30 @@ fn read_of_slice(source: &mut StdSource<&[u8]>, buf: &mut [u8]) -> usize
 fn no_read_of_a_slice_fails(rt: HostRuntime) {
     let mut source = StdSource::new(b"1\n".as_slice());
     let mut buf = [0; 5];
-    assert_eq!(rt; read_of_slice(&mut source, &mut buf), 2);
-    assert_eq!(rt; read_of_slice(&mut source, &mut buf), 0);
+    let counts = [
+        read_of_slice(&mut source, &mut buf),
+        read_of_slice(&mut source, &mut buf),
+    ];
+    assert_eq!(rt; counts, [2, 0]);
 }
 
 #[test]
-fn a_text_is_written_into_a_vec(rt: HostRuntime) -> Result<(), Fail> {
-    let alloc = rt.alloc();
+fn a_text_is_written_into_a_vec(rt: HostRuntime) {
     let text = b"1\n23\n";
-    let mut sink = StdSink::new(Vec::new(alloc));
-    assert_eq!(rt; write_whole(&mut sink, text), Ok(()));
-    assert_eq!(rt; sink.writer.as_slice(), text.as_slice());
-    assert_eq!(rt; sink.faults, 0);
-    Ok(())
+    let mut sink = StdSink::new(Vec::new(rt.alloc()));
+    let answer = write_whole(&mut sink, text);
+    assert_eq!(rt;
+        (answer, sink.writer.as_slice(), sink.faults),
+        (Ok(()), text.as_slice(), 0)
+    );
 }
 
 #[test]
-fn a_full_slice_takes_nothing(rt: HostRuntime) -> Result<(), Fail> {
+fn a_full_slice_takes_nothing(rt: HostRuntime) {
     let mut room = [0u8; 2];
     let mut sink = StdSink::new(room.as_mut_slice());
-    assert_eq!(rt; write_whole(&mut sink, b"1\n2\n"), Err(Failed));
-    assert_eq!(rt; sink.faults, 1);
-    Ok(())
+    let answer = write_whole(&mut sink, b"1\n2\n");
+    assert_eq!(rt; (answer, sink.faults), (Err(Failed), 1));
 }
 
 #[test]
