@@ -1,10 +1,12 @@
 //! The worked batch over `Sha256Challenger`. The values that are drawn with lookups were worked out with Python's hashlib.
 ghost use Rattle.std.specs.Prelude.{◌^◌, ◌<◌};
 
+use crate::compared::assert_same;
 use crate::worked::{quartic, worked_answer};
+use batch_draws::Drawn;
 use batch_statement::BatchVerificationError;
 use batch_transcript::BatchTranscriptFailure;
-use p3_challenger::CanSample;
+use p3_challenger::{CanSample, Sha256Challenger};
 use p3_field::{BabyBear, Mem, QuarticExtension, RingCore};
 use std::alloc::Global;
 use std::test::Fail;
@@ -18,6 +20,31 @@ fn worked_layout(alloc: Global) -> Mem<Vec<Vec<QuarticExtension>>> {
     Ok(vec![in alloc; first, Vec::new(alloc)]?)
 }
 
+// What is drawn in the whole batch with these grinding values, or without lookups and the commitments that may be missing.
+fn drawn(
+    alloc: Global,
+    whole: bool,
+    lookup_bits: usize,
+    ood_bits: usize,
+    lookup_witness: Option<BabyBear>,
+    ood_witness: BabyBear,
+) -> Result<Drawn<QuarticExtension, Sha256Challenger>, Fail>
+    requires lookup_bits { 2 ^ lookup_bits < 2013265921 }
+    requires ood_bits { 2 ^ ood_bits < 2013265921 }
+{
+    match worked_answer(
+        alloc,
+        whole,
+        lookup_bits,
+        ood_bits,
+        lookup_witness,
+        ood_witness,
+    )? {
+        Some(Ok(drawn)) => Ok(drawn),
+        _ => Err("nothing is drawn".into()),
+    }
+}
+
 // The refusal of a grinding value in the whole batch, or without lookups and the commitments that may be missing.
 fn refusal(
     alloc: Global,
@@ -26,7 +53,7 @@ fn refusal(
     ood_bits: usize,
     lookup_witness: Option<u64>,
     ood_witness: u64,
-) -> Result<Option<BatchTranscriptFailure>, Fail>
+) -> Option<BatchTranscriptFailure>
     requires lookup_bits { 2 ^ lookup_bits < 2013265921 }
     requires ood_bits { 2 ^ ood_bits < 2013265921 }
 {
@@ -39,9 +66,9 @@ fn refusal(
         ood_bits,
         lookup_witness,
         ood_witness,
-    )? {
-        Some(Err(BatchVerificationError::Transcript(failure))) => Ok(Some(failure)),
-        _ => Ok(None),
+    ) {
+        Ok(Some(Err(BatchVerificationError::Transcript(failure)))) => Some(failure),
+        _ => None,
     }
 }
 
@@ -49,23 +76,20 @@ fn refusal(
 fn what_is_drawn(rt: HostRuntime) -> Result<(), Fail> {
     let found = Some(BabyBear::from_u64(29));
     let ood = BabyBear::from_u64(43);
-    match worked_answer(rt.alloc(), true, 4, 5, found, ood)? {
-        Some(Ok(drawn)) => {
-            assert!(rt; drawn.challenges == worked_layout(rt.alloc())?);
-            assert_eq!(rt;
-                drawn.alpha,
-                quartic(765170818, 915456243, 1888814337, 1540551118)
-            );
-            assert_eq!(rt;
-                drawn.zeta,
-                quartic(1575416742, 794921840, 1580881653, 889214843)
-            );
-            let mut challenger = drawn.challenger;
-            let next: BabyBear = challenger.sample();
-            assert_eq!(rt; next, BabyBear::from_u64(425758443));
-        }
-        _ => assert!(rt; false),
-    }
+    let drawn = drawn(rt.alloc(), true, 4, 5, found, ood)?;
+    let layout = worked_layout(rt.alloc())?;
+    let mut challenger = drawn.challenger;
+    let next: BabyBear = challenger.sample();
+    assert_same(
+        &rt,
+        (drawn.challenges == layout, drawn.alpha, drawn.zeta, next),
+        (
+            true,
+            quartic(765170818, 915456243, 1888814337, 1540551118),
+            quartic(1575416742, 794921840, 1580881653, 889214843),
+            BabyBear::from_u64(425758443),
+        ),
+    );
     Ok(())
 }
 
@@ -75,39 +99,29 @@ fn without_lookups_no_challenges(rt: HostRuntime) -> Result<(), Fail> {
         Vec::new(rt.alloc()),
         Vec::new(rt.alloc()),
     ]?;
-    match worked_answer(rt.alloc(), false, 0, 0, None, BabyBear::from_u64(0))? {
-        Some(Ok(drawn)) => assert!(rt; drawn.challenges == empty),
-        _ => assert!(rt; false),
-    }
+    let drawn = drawn(rt.alloc(), false, 0, 0, None, BabyBear::from_u64(0))?;
+    assert_same(&rt, drawn.challenges == empty, true);
     Ok(())
 }
 
 #[test]
-fn each_refusal(rt: HostRuntime) -> Result<(), Fail> {
+fn each_refusal(rt: HostRuntime) {
     let alloc = rt.alloc();
-    assert_eq!(rt;
-        refusal(alloc, false, 0, 0, Some(0), 0)?,
-        Some(BatchTranscriptFailure::UnexpectedLookupPowWitness)
-    );
-    assert_eq!(rt;
-        refusal(alloc, true, 4, 5, None, 43)?,
-        Some(BatchTranscriptFailure::MissingLookupPowWitness { bits: 4 })
-    );
-    assert_eq!(rt;
-        refusal(alloc, true, 0, 5, Some(1), 43)?,
-        Some(BatchTranscriptFailure::NonCanonicalLookupPowWitness)
-    );
-    assert_eq!(rt;
-        refusal(alloc, true, 4, 5, Some(28), 43)?,
-        Some(BatchTranscriptFailure::LookupPowWitness { bits: 4 })
-    );
-    assert_eq!(rt;
-        refusal(alloc, true, 0, 0, Some(0), 1)?,
-        Some(BatchTranscriptFailure::NonCanonicalOodPowWitness)
-    );
-    assert_eq!(rt;
-        refusal(alloc, true, 4, 5, Some(29), 42)?,
-        Some(BatchTranscriptFailure::OodPowWitness { bits: 5 })
-    );
-    Ok(())
+    let refusals = [
+        refusal(alloc, false, 0, 0, Some(0), 0),
+        refusal(alloc, true, 4, 5, None, 43),
+        refusal(alloc, true, 0, 5, Some(1), 43),
+        refusal(alloc, true, 4, 5, Some(28), 43),
+        refusal(alloc, true, 0, 0, Some(0), 1),
+        refusal(alloc, true, 4, 5, Some(29), 42),
+    ];
+    let wanted = [
+        Some(BatchTranscriptFailure::UnexpectedLookupPowWitness),
+        Some(BatchTranscriptFailure::MissingLookupPowWitness { bits: 4 }),
+        Some(BatchTranscriptFailure::NonCanonicalLookupPowWitness),
+        Some(BatchTranscriptFailure::LookupPowWitness { bits: 4 }),
+        Some(BatchTranscriptFailure::NonCanonicalOodPowWitness),
+        Some(BatchTranscriptFailure::OodPowWitness { bits: 5 }),
+    ];
+    assert_same(&rt, refusals, wanted);
 }

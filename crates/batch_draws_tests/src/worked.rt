@@ -122,7 +122,7 @@ fn opened(
             trace_next: None,
             preprocessed: None,
             quotient_chunks: zero_chunks(alloc, chunks)?,
-            random: if random { Some(drawn) } else { None },
+            random: random.then_some(drawn),
         },
         permutation_local: zeros(alloc, permutation)?,
         permutation_next: zeros(alloc, permutation)?,
@@ -136,20 +136,16 @@ pub fn worked_proof(
     lookup_witness: Option<BabyBear>,
     ood_witness: BabyBear,
 ) -> Mem<SmallProof> {
-    let (chunks, permutation) = if whole { (4, 16) } else { (1, 0) };
-    let first = opened(alloc, 2, chunks, permutation, whole)?;
-    let second = opened(alloc, 3, if whole { 2 } else { 1 }, 0, whole)?;
-    let terminal = if whole {
-        Some(LookupTerminal(quartic(1, 2, 3, 4)))
-    } else {
-        None
-    };
+    let [first_chunks, second_chunks, permutation] = if whole { [4, 2, 16] } else { [1, 1, 0] };
+    let first = opened(alloc, 2, first_chunks, permutation, whole)?;
+    let second = opened(alloc, 3, second_chunks, 0, whole)?;
+    let terminal = whole.then_some(LookupTerminal(quartic(1, 2, 3, 4)));
     Ok(TablesProof {
         commitments: BatchCommitments {
             main: root(5),
-            permutation: if whole { Some(root(7)) } else { None },
+            permutation: whole.then_some(root(7)),
             quotient_chunks: root(8),
-            random: if whole { Some(root(10)) } else { None },
+            random: whole.then_some(root(10)),
         },
         opened_values: BatchOpenedValues {
             instances: vec![in alloc; first, second]?,

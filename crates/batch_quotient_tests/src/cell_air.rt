@@ -5,12 +5,13 @@ ghost use Rattle.p3_air.specs.declared.cells.Cell.TheVariants.{Main};
 ghost use Rattle.p3_air.specs.Laws.Declared.{counts-none};
 ghost use Rattle.p3_air.specs.Tree.{cell};
 
+use crate::same::assert_values;
 use crate::setting::{quartic, values};
 use p3_air::{Air, AirBuilder, BaseAir, Cell, InteractionBuilder};
 use p3_field::{BabyBear, FieldCore, Mem, QuarticExtension};
 use p3_matrix::RowMajorMatrix;
 use std::alloc::Global;
-use std::test::Fail;
+use std::process::Abort;
 
 // One column, which is zero in each row.
 #[derive(Clone, Copy)]
@@ -99,17 +100,16 @@ impl Air<BabyBear> for CellAir {
 }
 
 // The values on one row with the cell 3, where the quotient domain has one point, 31.
-fn one_value(alloc: Global, alpha: QuarticExtension) -> Result<Vec<QuarticExtension>, Fail> {
-    values(alloc, &CellAir, &[], 0, 0, [3, 0], alpha)
+fn one_value(rt: &impl Abort, alloc: Global, alpha: QuarticExtension) -> Vec<QuarticExtension> {
+    values(rt, alloc, &CellAir, &[], 0, 0, [3, 0], alpha)
 }
 
 // 3 over 31 - 1 is a tenth, for each alpha.
 #[test]
-fn one_row(rt: HostRuntime) -> Result<(), Fail> {
-    let tenth = [quartic([1811939329, 0, 0, 0])];
-    let made = one_value(rt.alloc(), quartic([0, 0, 0, 0]))?;
-    assert_eq!(rt; made.as_slice(), tenth.as_slice());
-    let made_again = one_value(rt.alloc(), quartic([5, 6, 7, 8]))?;
-    assert_eq!(rt; made_again.as_slice(), tenth.as_slice());
-    Ok(())
+fn one_row(rt: HostRuntime) {
+    let tenth = quartic([1811939329, 0, 0, 0]);
+    let made = one_value(&rt, rt.alloc(), quartic([0, 0, 0, 0]));
+    assert_values(&rt, made.as_slice(), &[tenth]);
+    let made_again = one_value(&rt, rt.alloc(), quartic([5, 6, 7, 8]));
+    assert_values(&rt, made_again.as_slice(), &[tenth]);
 }

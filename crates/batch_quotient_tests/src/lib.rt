@@ -4,6 +4,8 @@
 #[cfg(test)]
 mod cell_air;
 #[cfg(test)]
+mod same;
+#[cfg(test)]
 mod setting;
 #[cfg(test)]
 mod tables;

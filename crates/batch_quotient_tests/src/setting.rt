@@ -23,7 +23,7 @@ use p3_matrix::RowMajorMatrix;
 use p3_uni_stark::{StarkConfig, StarkGenericConfig};
 use plain_pcs::PlainPcs;
 use std::alloc::Global;
-use std::test::Fail;
+use std::process::Abort;
 
 /// BabyBear, the plain scheme, the extension of degree four and the challenger over SHA-256.
 type Config = StarkConfig<PlainPcs<BabyBear, Radix2Dit>, QuarticExtension, Sha256Challenger>;
@@ -36,14 +36,6 @@ pub fn quartic(c: [u64; 4]) -> QuarticExtension {
         c1: bear(c1),
         c2: bear(c2),
         c3: bear(c3),
-    }
-}
-
-// The coset of this shift with so many points.
-fn coset(shift: BabyBear, log_size: usize) -> Result<BearCoset, Fail> {
-    match TwoAdicMultiplicativeCoset::new(shift, log_size) {
-        Some(coset) => Ok(coset),
-        None => Err("no such coset".into()),
     }
 }
 
@@ -75,25 +67,18 @@ fn config() -> Config {
     }
 }
 
-// Fails a test where this isn't so.
-fn need(holds: bool) -> Result<(), Fail>
-    ensures { IfOk result (λ _. IsTrue holds) }
+// Ends a test where this isn't so.
+fn need(rt: &impl Abort, holds: bool)
+    ensures { IsTrue holds }
 {
-    if holds {
-        Ok(())
-    } else {
-        Err("a condition of the call".into())
-    }
+    assert!(rt; holds);
 }
 
 // The coset of so many rows.
-fn rows_of<F: TwoAdicField>(log_rows: usize) -> Result<TwoAdicMultiplicativeCoset<F>, Fail>
-    ensures { IfOk result (λ c. c.shift ≡ F.ring.one) }
+fn rows_of<F: TwoAdicField>(rt: &impl Abort, log_rows: usize) -> TwoAdicMultiplicativeCoset<F>
+    ensures { result.shift ≡ F.ring.one }
 {
-    match TwoAdicMultiplicativeCoset::new(F::ONE, log_rows) {
-        Some(coset) => Ok(coset),
-        None => Err("too many rows".into()),
-    }
+    TwoAdicMultiplicativeCoset::new(F::ONE, log_rows).expect(rt, "a coset")
 }
 
 // How many flattened permutation columns a table with so many lookups has.
@@ -114,6 +99,7 @@ struct Columns {
 
 // The values of the quotient of a table with these columns, once each condition of the call was tested.
 fn values_on<A: Air<BabyBear>>(
+    rt: &impl Abort,
     alloc: Global,
     air: &A,
     rows: BearCoset,
@@ -121,7 +107,7 @@ fn values_on<A: Air<BabyBear>>(
     given: &Columns,
     public_values: &[BabyBear],
     alpha: QuarticExtension,
-) -> Result<Vec<QuarticExtension>, Fail>
+) -> Mem<Vec<QuarticExtension>>
     requires { rows.shift ≡ baby_bear_ring.one }
 {
     let lookups = Lookups::from_air(alloc, air)?;
@@ -133,20 +119,20 @@ fn values_on<A: Air<BabyBear>>(
     ];
     let terminals = [quartic([11, 12, 13, 14])];
     let size = points.size();
-    need(lookups.as_slice().len() <= 2)?;
-    need(rows.log_size() <= points.log_size())?;
-    need(are_disjoint(&rows, &points))?;
-    need(given.main.width() == air.width())?;
-    need(given.main.height() == size)?;
-    need(is_shaped(given.preprocessed.as_ref(), air.preprocessed_width(), size))?;
-    need(is_shaped(
-        given.permutation.as_ref(),
-        flattened_width(lookups.as_slice().len()),
-        size,
-    ))?;
-    need(public_values.len() == air.num_public_values())?;
-    need(have_periods(air.periodic_columns(), rows.size()))?;
-    Ok(quotient_values::<Config, A, LogUpGadget>(
+    need(rt, lookups.as_slice().len() <= 2);
+    need(rt, rows.log_size() <= points.log_size());
+    need(rt, are_disjoint(&rows, &points));
+    need(rt, given.main.width() == air.width());
+    need(rt, given.main.height() == size);
+    need(
+        rt,
+        is_shaped(given.preprocessed.as_ref(), air.preprocessed_width(), size),
+    );
+    let width = flattened_width(lookups.as_slice().len());
+    need(rt, is_shaped(given.permutation.as_ref(), width, size));
+    need(rt, public_values.len() == air.num_public_values());
+    need(rt, have_periods(air.periodic_columns(), rows.size()));
+    quotient_values::<Config, A, LogUpGadget>(
         alloc,
         config().pcs(),
         air,
@@ -162,52 +148,55 @@ fn values_on<A: Air<BabyBear>>(
         &challenges,
         given.preprocessed.as_ref(),
         alpha,
-    )?)
+    )
 }
 
 // A trace on another domain, where there is one.
 fn some_on_domain(
+    rt: &impl Abort,
     alloc: Global,
     trace: Option<&RowMajorMatrix<BabyBear>>,
     from: &BearCoset,
     to: &BearCoset,
-) -> Result<Option<RowMajorMatrix<BabyBear>>, Fail> {
+) -> Option<RowMajorMatrix<BabyBear>> {
     match trace {
-        Some(trace) => Ok(Some(on_domain(alloc, trace, from, to)?)),
-        None => Ok(None),
+        Some(trace) => Some(on_domain(rt, alloc, trace, from, to)),
+        None => None,
     }
 }
 
 // The columns of a table on its quotient domain, where its traces have these seeds.
 fn made_columns<A: Air<BabyBear>>(
+    rt: &impl Abort,
     alloc: Global,
     air: &A,
     rows: &BearCoset,
     points: &BearCoset,
     seeds: [u64; 2],
-) -> Result<Columns, Fail> {
+) -> Columns {
     let [main, permutation] = seeds;
-    let lookups = Lookups::from_air(alloc, air)?;
+    let lookups = Lookups::from_air(alloc, air).expect(rt, "memory");
     let size = rows.size();
-    need(lookups.as_slice().len() <= 2)?;
+    need(rt, lookups.as_slice().len() <= 2);
     let width = flattened_width(lookups.as_slice().len());
-    let main = trace(alloc, main, size, air.width())?;
-    let preprocessed = air.preprocessed_trace(alloc)?;
+    let main = trace(rt, alloc, main, size, air.width());
+    let preprocessed = air.preprocessed_trace(alloc).expect(rt, "memory");
     let permutation = if lookups.as_slice().is_empty() {
         None
     } else {
-        Some(trace(alloc, permutation, size, width)?)
+        Some(trace(rt, alloc, permutation, size, width))
     };
-    Ok(Columns {
-        main: on_domain(alloc, &main, rows, points)?,
-        preprocessed: some_on_domain(alloc, preprocessed.as_ref(), rows, points)?,
-        permutation: some_on_domain(alloc, permutation.as_ref(), rows, points)?,
-    })
+    Columns {
+        main: on_domain(rt, alloc, &main, rows, points),
+        preprocessed: some_on_domain(rt, alloc, preprocessed.as_ref(), rows, points),
+        permutation: some_on_domain(rt, alloc, permutation.as_ref(), rows, points),
+    }
 }
 
 /// The values of the quotient of a table of 2^`log_rows` rows, whose main and permutation traces have these seeds, on the coset of 31 with
 /// 2^`log_chunks` times as many points.
 pub fn values<A: Air<BabyBear>>(
+    rt: &impl Abort,
     alloc: Global,
     air: &A,
     public_values: &[BabyBear],
@@ -215,12 +204,14 @@ pub fn values<A: Air<BabyBear>>(
     log_chunks: usize,
     seeds: [u64; 2],
     alpha: QuarticExtension,
-) -> Result<Vec<QuarticExtension>, Fail> {
-    let rows = rows_of::<BabyBear>(log_rows)?;
-    let log_points = log_rows.checked_add(log_chunks).ok_or("too many points")?;
-    let points = coset(bear(31), log_points)?;
-    let given = made_columns(alloc, air, &rows, &points, seeds)?;
-    values_on(alloc, air, rows, points, &given, public_values, alpha)
+) -> Vec<QuarticExtension> {
+    let rows = rows_of::<BabyBear>(rt, log_rows);
+    let log_points = log_rows
+        .checked_add(log_chunks)
+        .expect(rt, "not too many points");
+    let points = TwoAdicMultiplicativeCoset::new(bear(31), log_points).expect(rt, "a coset");
+    let given = made_columns(rt, alloc, air, &rows, &points, seeds);
+    values_on(rt, alloc, air, rows, points, &given, public_values, alpha).expect(rt, "memory")
 }
 
 /// The values as one: the value at 7 of the polynomial with these coefficients, the highest first.

@@ -1,6 +1,7 @@
 //! The program's tables and one with two lookups, by their quotient's values that were computed from the definitions: columns interpolated by Lagrange's formula,
 //! selectors and constraints written out. Each row has the logarithms of a height and of a number of chunks, and the digest of the values.
 
+use crate::same::assert_same;
 use crate::setting::{digest, quartic, values};
 use batch_constraints_tests::sending::sending_air;
 use batch_tables::SwapAir;
@@ -8,7 +9,7 @@ use p3_air::{Air, BaseAir};
 use p3_air_tests::support::bear;
 use p3_field::{BabyBear, FieldCore, RingCore};
 use std::alloc::Global;
-use std::test::Fail;
+use std::process::Abort;
 use tool_tables::{GiveAir, TakeAir, WheelAir};
 
 // The logarithms of a height and of a number of chunks, and the coefficients of the digest.
@@ -66,87 +67,74 @@ static POST: [Wanted; 3] = [
     Wanted(2, 2, [735664466, 754804175, 1668734661, 1214263187]),
 ];
 
-// Whether the quotient of a table has the digest.
-fn is_wanted<A: Air<BabyBear>>(
+// Compares the digest of the quotient of a table.
+fn assert_digest<A: Air<BabyBear>>(
+    rt: &impl Abort,
     alloc: Global,
     air: &A,
     public_values: &[BabyBear],
     seeds: [u64; 2],
     wanted: Wanted,
-) -> Result<bool, Fail> {
+) {
     let Wanted(log_rows, log_chunks, c) = wanted;
-    let alpha = quartic([2, 3, 5, 7]);
     let made = values(
+        rt,
         alloc,
         air,
         public_values,
         log_rows,
         log_chunks,
         seeds,
-        alpha,
-    )?;
-    Ok(digest(&made) == quartic(c))
+        quartic([2, 3, 5, 7]),
+    );
+    assert_same(rt, &digest(&made), &quartic(c));
 }
 
 #[test]
-fn swap_tables(rt: HostRuntime) -> Result<(), Fail> {
+fn swap_tables(rt: HostRuntime) {
     let public_values = [bear(10), bear(20), bear(30)];
     for wanted in SWAP {
-        assert!(rt; is_wanted(rt.alloc(), &SwapAir, &public_values, [1, 0], wanted)?);
+        assert_digest(&rt, rt.alloc(), &SwapAir, &public_values, [1, 0], wanted);
     }
-    Ok(())
 }
 
 // The wheel with so many rows.
-fn wheel(alloc: Global, log_rows: usize) -> Result<WheelAir<BabyBear>, Fail> {
-    if log_rows >= 64 {
-        return Err("too many rows".into());
-    }
-    Ok(WheelAir::new(alloc, log_rows)?)
-}
-
-// The same of a table without public values.
-fn is_wanted_alone<A: Air<BabyBear>>(
-    alloc: Global,
-    air: &A,
-    seeds: [u64; 2],
-    wanted: Wanted,
-) -> Result<bool, Fail> {
-    is_wanted(alloc, air, &[], seeds, wanted)
+fn wheel(rt: &impl Abort, alloc: Global, log_rows: usize) -> WheelAir<BabyBear> {
+    assert!(rt; log_rows < 64);
+    WheelAir::new(alloc, log_rows).expect(rt, "memory")
 }
 
 #[test]
-fn wheels(rt: HostRuntime) -> Result<(), Fail> {
+fn wheels(rt: HostRuntime) {
+    let public_values = [];
     for wanted in WHEEL {
-        let air = wheel(rt.alloc(), wanted.0)?;
-        assert!(rt; is_wanted_alone(rt.alloc(), &air, [2, 0], wanted)?);
+        let air = wheel(&rt, rt.alloc(), wanted.0);
+        assert_digest(&rt, rt.alloc(), &air, &public_values, [2, 0], wanted);
     }
-    Ok(())
 }
 
 #[test]
-fn tables_that_take(rt: HostRuntime) -> Result<(), Fail> {
+fn tables_that_take(rt: HostRuntime) {
+    let public_values = [];
     for wanted in TAKE {
-        assert!(rt; is_wanted_alone(rt.alloc(), &TakeAir, [3, 4], wanted)?);
+        assert_digest(&rt, rt.alloc(), &TakeAir, &public_values, [3, 4], wanted);
     }
-    Ok(())
 }
 
 #[test]
-fn tables_that_give(rt: HostRuntime) -> Result<(), Fail> {
+fn tables_that_give(rt: HostRuntime) {
+    let public_values = [];
     for wanted in GIVE {
-        assert!(rt; is_wanted_alone(rt.alloc(), &GiveAir, [5, 6], wanted)?);
+        assert_digest(&rt, rt.alloc(), &GiveAir, &public_values, [5, 6], wanted);
     }
-    Ok(())
 }
 
 // A table with a preprocessed and a periodic column, a public value and two lookups, of which one has two tuples.
 #[test]
-fn two_lookups(rt: HostRuntime) -> Result<(), Fail> {
-    let air = sending_air(rt.alloc())?;
+fn two_lookups(rt: HostRuntime) {
+    let air = sending_air(rt.alloc()).expect(&rt, "memory");
     let public_values = [bear(4)];
     for wanted in POST {
-        assert!(rt; is_wanted(rt.alloc(), &air, &public_values, [7, 8], wanted)?);
+        assert_digest(&rt, rt.alloc(), &air, &public_values, [7, 8], wanted);
     }
-    Ok(())
 }

@@ -6,8 +6,8 @@ use p3_field::{
     BabyBear, FieldCore, PrimeCharacteristicRing, RingCore, TwoAdicCore, TwoAdicMultiplicativeCoset,
 };
 use p3_matrix::RowMajorMatrix;
-use std::alloc::{AllocError, Global};
-use std::test::Fail;
+use std::alloc::Global;
+use std::process::Abort;
 
 /// A domain.
 pub type BearCoset = TwoAdicMultiplicativeCoset<BabyBear>;
@@ -20,73 +20,74 @@ fn cell(seed: u64, row: usize, column: usize) -> BabyBear {
 }
 
 // A column of the trace with this seed.
-fn column(
-    alloc: Global,
-    seed: u64,
-    rows: usize,
-    column: usize,
-) -> Result<Vec<BabyBear>, AllocError> {
+fn column(rt: &impl Abort, alloc: Global, seed: u64, rows: usize, column: usize) -> Vec<BabyBear> {
     let mut values = Vec::new(alloc);
     for row in 0..rows {
-        values.push(cell(seed, row, column))?;
+        values.push(cell(seed, row, column)).expect(rt, "memory");
     }
-    Ok(values)
+    values
 }
 
 // The values on a domain of the interpolant of a column on another.
 fn column_on(
+    rt: &impl Abort,
     alloc: Global,
     column: &[BabyBear],
     from: &BearCoset,
     to: &BearCoset,
-) -> Result<Vec<BabyBear>, Fail> {
-    if column.len() != from.size() {
-        return Err("a column of another height".into());
-    }
+) -> Vec<BabyBear> {
+    assert_eq!(rt; column.len(), from.size());
     let mut values = Vec::new(alloc);
     for i in 0..to.size() {
-        values.push(from.evaluate_polynomial_at(column, to.point(i)))?;
+        let value = from.evaluate_polynomial_at(column, to.point(i));
+        values.push(value).expect(rt, "memory");
     }
-    Ok(values)
+    values
 }
 
 // The matrix of columns of so many rows, which stand one after the other.
 fn of_columns(
+    rt: &impl Abort,
     alloc: Global,
     columns: Vec<BabyBear>,
     rows: usize,
-) -> Result<RowMajorMatrix<BabyBear>, Fail> {
-    if rows == 0 || columns.len() % rows != 0 {
-        return Err("columns that aren't whole".into());
-    }
-    Ok(RowMajorMatrix::new(columns, rows).transpose(alloc)?)
+) -> RowMajorMatrix<BabyBear> {
+    assert!(rt; rows != 0);
+    assert!(rt; columns.len() % rows == 0);
+    RowMajorMatrix::new(columns, rows)
+        .transpose(alloc)
+        .expect(rt, "memory")
 }
 
 /// The values on a domain of the columns of a trace on another.
 pub fn on_domain(
+    rt: &impl Abort,
     alloc: Global,
     trace: &RowMajorMatrix<BabyBear>,
     from: &BearCoset,
     to: &BearCoset,
-) -> Result<RowMajorMatrix<BabyBear>, Fail> {
+) -> RowMajorMatrix<BabyBear> {
     let mut all = Vec::new(alloc);
     for j in 0..trace.width() {
-        let column = trace.column(alloc, j)?;
-        all.extend_from_slice(&column_on(alloc, &column, from, to)?)?;
+        let column = trace.column(alloc, j).expect(rt, "memory");
+        all.extend_from_slice(&column_on(rt, alloc, &column, from, to))
+            .expect(rt, "memory");
     }
-    of_columns(alloc, all, to.size())
+    of_columns(rt, alloc, all, to.size())
 }
 
 /// The trace with this seed and so many rows and columns.
 pub fn trace(
+    rt: &impl Abort,
     alloc: Global,
     seed: u64,
     rows: usize,
     width: usize,
-) -> Result<RowMajorMatrix<BabyBear>, Fail> {
+) -> RowMajorMatrix<BabyBear> {
     let mut all = Vec::new(alloc);
     for j in 0..width {
-        all.extend_from_slice(&column(alloc, seed, rows, j)?)?;
+        all.extend_from_slice(&column(rt, alloc, seed, rows, j))
+            .expect(rt, "memory");
     }
-    of_columns(alloc, all, rows)
+    of_columns(rt, alloc, all, rows)
 }

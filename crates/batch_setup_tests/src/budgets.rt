@@ -1,7 +1,7 @@
 //! Lookups within a budget: a table that sends one cell twice on one bus, whose free budget is 2.
 
-use crate::setting::{Made, made_within};
-use batch_setup::SetupError;
+use crate::compared::assert_same;
+use crate::setting::{Made, made_within, refusal};
 use p3_lookup_tests::two_sends::TwoSends;
 use std::alloc::Global;
 use std::test::Fail;
@@ -13,36 +13,31 @@ fn sends_within(alloc: Global, budgets: &[usize], log_blowup: usize) -> Made {
 
 // How many lookups the table then has.
 fn lookups_within(alloc: Global, budget: usize) -> Result<usize, Fail> {
-    match sends_within(alloc, &[budget], 1) {
-        Ok(data) => match data.common.lookups.first() {
-            Some(lookups) => Ok(lookups.as_slice().len()),
-            None => Err("no table".into()),
-        },
-        Err(_) => Err("refused".into()),
-    }
+    let data = sends_within(alloc, &[budget], 1).ok().ok_or("refused")?;
+    let lookups = data.common.lookups.first().ok_or("no table")?;
+    Ok(lookups.as_slice().len())
 }
 
 #[test]
 fn lookups_within_budgets(rt: HostRuntime) -> Result<(), Fail> {
     let alloc = rt.alloc();
-    assert_eq!(rt; lookups_within(alloc, 0)?, 2, "below the free budget");
-    assert_eq!(rt; lookups_within(alloc, 2)?, 2, "the free budget");
-    assert_eq!(rt; lookups_within(alloc, 3)?, 1, "above it");
+    // Below the free budget, the free budget, and above it.
+    let counts = [
+        lookups_within(alloc, 0)?,
+        lookups_within(alloc, 2)?,
+        lookups_within(alloc, 3)?,
+    ];
+    assert_same(&rt, counts, [2, 2, 1]);
     Ok(())
 }
 
 #[test]
 fn a_budget_past_the_blowup(rt: HostRuntime) -> Result<(), Fail> {
     let alloc = rt.alloc();
-    assert!(rt;
-        matches!(
-            sends_within(alloc, &[9], 0),
-            Err(SetupError::LookupBudget {
-                instance: 0,
-                log_chunks: 1,
-                log_blowup: 0,
-            })
-        )
+    assert_same(
+        &rt,
+        refusal(alloc, sends_within(alloc, &[9], 0))?.as_str(),
+        "Some(LookupBudget { instance: 0, log_chunks: 1, log_blowup: 0 })",
     );
     Ok(())
 }
@@ -50,7 +45,7 @@ fn a_budget_past_the_blowup(rt: HostRuntime) -> Result<(), Fail> {
 #[test]
 fn fewer_budgets_are_a_mismatch(rt: HostRuntime) -> Result<(), Fail> {
     let alloc = rt.alloc();
-    let made = sends_within(alloc, &[], 1);
-    assert!(rt; matches!(made, Err(SetupError::LengthMismatch)));
+    let words = refusal(alloc, sends_within(alloc, &[], 1))?;
+    assert_same(&rt, words.as_str(), "Some(LengthMismatch)");
     Ok(())
 }

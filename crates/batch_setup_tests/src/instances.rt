@@ -1,5 +1,6 @@
 //! Instances of two swap tables, and data of two tables without preprocessed columns and lookups.
 
+use crate::compared::assert_same;
 use batch_setup::{PreprocessedProverData, SetupData, SetupError, TableInstance};
 use batch_tables::SwapAir;
 use p3_air_tests::support::bear;
@@ -13,17 +14,23 @@ fn cell(alloc: Global, n: u64) -> Mem<RowMajorMatrix<BabyBear>> {
     Ok(RowMajorMatrix::new_col(Vec::from_array(alloc, [bear(n)])?))
 }
 
+// One public value of the first table, and none of the second.
+fn publics(alloc: Global) -> Mem<Vec<Vec<BabyBear>>> {
+    let one = Vec::from_array(alloc, [bear(1)])?;
+    Ok(Vec::from_array(alloc, [one, Vec::new(alloc)])?)
+}
+
 #[test]
 fn fewer_traces_are_a_mismatch(rt: HostRuntime) -> Result<(), Fail> {
     let alloc = rt.alloc();
     let airs = [SwapAir, SwapAir];
     let traces = [cell(alloc, 5)?];
-    let mut publics = Vec::new(alloc);
-    publics.push(Vec::from_array(alloc, [bear(1)])?)?;
-    publics.push(Vec::new(alloc))?;
+    let publics = publics(alloc)?;
     let made: Result<Vec<TableInstance<BabyBear, SwapAir>>, SetupError<u8>> =
         TableInstance::new_multiple(alloc, &airs, &traces, &publics);
-    assert!(rt; matches!(made, Err(SetupError::LengthMismatch)));
+    let refusal = made.err();
+    let words = format!(in alloc; "{refusal:?}")?;
+    assert_same(&rt, words.as_str(), "Some(LengthMismatch)");
     Ok(())
 }
 
@@ -32,34 +39,36 @@ fn instances_are_in_order(rt: HostRuntime) -> Result<(), Fail> {
     let alloc = rt.alloc();
     let airs = [SwapAir, SwapAir];
     let traces = [cell(alloc, 5)?, cell(alloc, 7)?];
-    let mut publics = Vec::new(alloc);
-    publics.push(Vec::from_array(alloc, [bear(1)])?)?;
-    publics.push(Vec::new(alloc))?;
+    let publics = publics(alloc)?;
     let made: Result<Vec<TableInstance<BabyBear, SwapAir>>, SetupError<u8>> =
         TableInstance::new_multiple(alloc, &airs, &traces, &publics);
-    match made {
-        Ok(instances) => {
-            assert_eq!(rt; instances.len(), 2);
-            assert_eq!(rt; instances[0].trace.get(0, 0), Some(bear(5)));
-            assert_eq!(rt; instances[1].trace.get(0, 0), Some(bear(7)));
-            assert_eq!(rt; instances[0].public_values.as_slice(), [bear(1)].as_slice());
-            assert!(rt; instances[1].public_values.is_empty());
-        }
-        Err(_) => assert!(rt; false),
-    }
+    let instances = made.ok().ok_or("refused")?;
+    let [first, second] = instances.as_slice() else {
+        return Err("not two instances".into());
+    };
+    let cells = [first.trace.get(0, 0), second.trace.get(0, 0)];
+    assert_same(&rt, cells, [Some(bear(5)), Some(bear(7))]);
+    assert_same(&rt, first.public_values.as_slice(), [bear(1)].as_slice());
+    assert_same(&rt, second.public_values.as_slice(), [].as_slice());
     Ok(())
 }
 
 #[test]
 fn empty_data(rt: HostRuntime) -> Result<(), Fail> {
     let data: SetupData<BabyBear, u8, u8> = SetupData::empty(rt.alloc(), 2)?;
-    assert_eq!(rt; data.common.lookups.len(), 2);
     for lookups in &data.common.lookups {
-        assert!(rt; lookups.as_slice().is_empty());
+        assert_same(&rt, lookups.as_slice().is_empty(), true);
     }
-    assert!(rt; data.common.preprocessed.is_none());
-    assert!(rt; data.prover_only.preprocessed_prover_data.is_none());
     let kept: PreprocessedProverData<u8> = PreprocessedProverData::empty();
-    assert!(rt; kept.preprocessed_prover_data.is_none());
+    assert_same(&rt, data.common.lookups.len(), 2);
+    assert_same(
+        &rt,
+        [
+            data.common.preprocessed.is_none(),
+            data.prover_only.preprocessed_prover_data.is_none(),
+            kept.preprocessed_prover_data.is_none(),
+        ],
+        [true, true, true],
+    );
     Ok(())
 }

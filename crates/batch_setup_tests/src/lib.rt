@@ -4,6 +4,8 @@
 #[cfg(test)]
 mod budgets;
 #[cfg(test)]
+mod compared;
+#[cfg(test)]
 mod instances;
 #[cfg(test)]
 mod setting;

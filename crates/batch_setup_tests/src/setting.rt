@@ -8,7 +8,7 @@ use p3_air::{Air, BaseAir};
 use p3_challenger::Sha256Challenger;
 use p3_commit::UnivariateStarkPcs;
 use p3_dft::Radix2Dit;
-use p3_field::{BabyBear, QuarticExtension, TwoAdicCore};
+use p3_field::{BabyBear, Mem, QuarticExtension, TwoAdicCore};
 use p3_uni_stark::StarkConfig;
 use plain_pcs::{PlainPcs, PlainProverError};
 use std::alloc::Global;
@@ -27,6 +27,12 @@ pub fn config() -> Config
         Some(pcs) => Config::new(pcs, Sha256Challenger::new(), 4, 4),
         None => unreachable!(),
     }
+}
+
+/// Why nothing is made, in words, as of an option.
+pub fn refusal(alloc: Global, made: Made) -> Mem<String> {
+    let refusal = made.err();
+    Ok(format!(in alloc; "{refusal:?}")?)
 }
 
 /// The data of AIRs with these degree bits.

@@ -2,8 +2,9 @@
 ghost use Rattle.std.specs.Prelude.{◌≡◌, IfOk};
 ghost use Rattle.p3_matrix.specs.Matrix.{height};
 
-use crate::setting::{Config, Made, config, made};
-use batch_setup::{ProverData, SetupError, StarkInstance, TableInstance};
+use crate::compared::assert_same;
+use crate::setting::{Config, Made, config, made, refusal};
+use batch_setup::{ProverData, StarkInstance, TableInstance};
 use p3_air_tests::support::bear;
 use p3_field::{BabyBear, Mem, RingCore};
 use p3_matrix::RowMajorMatrix;
@@ -13,10 +14,7 @@ use tool_tables::WheelAir;
 
 // The data that is made, or a failed test.
 fn granted(made: Made) -> Result<ProverData<Config>, Fail> {
-    match made {
-        Ok(data) => Ok(data),
-        Err(_) => Err("refused".into()),
-    }
+    Ok(made.ok().ok_or("refused")?)
 }
 
 // Whether there is one entry, of the first matrix, of one column and of degree bits 1, and data is kept.
@@ -24,17 +22,17 @@ fn is_the_wheels(data: &ProverData<Config>) -> bool {
     let Some(traces) = &data.common.preprocessed else {
         return false;
     };
-    if traces.instances.len() != 1 || data.common.lookups.len() != 1 {
-        return false;
-    }
-    let Some(entry) = &traces.instances[0] else {
+    let [Some(entry)] = traces.instances.as_slice() else {
         return false;
     };
-    data.prover_only.preprocessed_prover_data.is_some()
-        && entry.matrix_index == 0
-        && entry.width == 1
-        && entry.degree_bits == 1
-        && traces.matrix_to_instance.as_slice() == [0].as_slice()
+    let numbers = [
+        data.common.lookups.len(),
+        entry.matrix_index,
+        entry.width,
+        entry.degree_bits,
+    ];
+    let kept = data.prover_only.preprocessed_prover_data.is_some();
+    (numbers, kept, traces.matrix_to_instance.as_slice()) == ([1, 0, 1, 1], true, [0].as_slice())
 }
 
 #[test]
@@ -42,8 +40,8 @@ fn one_wheel(rt: HostRuntime) -> Result<(), Fail> {
     let alloc = rt.alloc();
     let airs = [WheelAir::new(alloc, 1)?];
     let data = granted(made(alloc, &airs, &[1]))?;
-    assert!(rt; is_the_wheels(&data));
-    assert!(rt; data.common.fits(alloc, &airs)?);
+    let fits = data.common.fits(alloc, &airs)?;
+    assert_same(&rt, [is_the_wheels(&data), fits], [true, true]);
     Ok(())
 }
 
@@ -55,7 +53,7 @@ fn the_matrix_listed_twice(rt: HostRuntime) -> Result<(), Fail> {
     if let Some(traces) = &mut data.common.preprocessed {
         traces.matrix_to_instance.push(0)?;
     }
-    assert!(rt; !data.common.fits(alloc, &airs)?);
+    assert_same(&rt, data.common.fits(alloc, &airs)?, false);
     Ok(())
 }
 
@@ -63,7 +61,8 @@ fn the_matrix_listed_twice(rt: HostRuntime) -> Result<(), Fail> {
 fn one_degree_too_few(rt: HostRuntime) -> Result<(), Fail> {
     let alloc = rt.alloc();
     let airs = [WheelAir::new(alloc, 1)?];
-    assert!(rt; matches!(made(alloc, &airs, &[]), Err(SetupError::LengthMismatch)));
+    let words = refusal(alloc, made(alloc, &airs, &[]))?;
+    assert_same(&rt, words.as_str(), "Some(LengthMismatch)");
     Ok(())
 }
 
@@ -71,11 +70,11 @@ fn one_degree_too_few(rt: HostRuntime) -> Result<(), Fail> {
 fn a_wheel_of_another_degree(rt: HostRuntime) -> Result<(), Fail> {
     let alloc = rt.alloc();
     let airs = [WheelAir::new(alloc, 1)?];
-    assert!(rt;
-        matches!(
-            made(alloc, &airs, &[2]),
-            Err(SetupError::PreprocessedHeight { instance: 0 })
-        )
+    let words = refusal(alloc, made(alloc, &airs, &[2]))?;
+    assert_same(
+        &rt,
+        words.as_str(),
+        "Some(PreprocessedHeight { instance: 0 })",
     );
     Ok(())
 }
@@ -104,6 +103,7 @@ fn one_instance_of_a_wheel(rt: HostRuntime) -> Result<(), Fail> {
     let alloc = rt.alloc();
     let air = WheelAir::new(alloc, 1)?;
     let trace = two_rows(alloc)?;
-    assert!(rt; is_the_wheels(&granted(instance_data(alloc, &air, &trace))?));
+    let data = granted(instance_data(alloc, &air, &trace))?;
+    assert_same(&rt, is_the_wheels(&data), true);
     Ok(())
 }

@@ -1,58 +1,70 @@
 // Runs over ends in memory that fail, take a few bytes a call, or give too many; words that name no command.
-use crate::runs::{answers, words_of};
-use batch_tool::{MemorySink, MemorySource, run};
+use crate::compared::assert_same;
+use crate::runs::{Ends, answers, ran_over};
 use std::test::Fail;
+
+const USAGE: &str = "usage: batch_tool prove | verify | demo N\n";
 
 #[test]
 fn words_that_name_no_command_get_the_usage(rt: HostRuntime) -> Result<(), Fail> {
-    let usage = "usage: batch_tool prove | verify | demo N\n";
-    let alloc = rt.alloc();
-    answers(&rt, alloc, &[], "", 2, usage)?;
-    answers(&rt, alloc, &["verify", "prove"], "", 2, usage)?;
-    answers(&rt, alloc, &["demo", "01"], "", 2, usage)?;
-    answers(&rt, alloc, &["prove", "prove"], "", 2, usage)?;
-    answers(&rt, alloc, &["Prove"], "", 2, usage)?;
+    let calls: [&[&str]; 5] = [
+        &[],
+        &["verify", "prove"],
+        &["demo", "01"],
+        &["prove", "prove"],
+        &["Prove"],
+    ];
+    for words in calls {
+        answers(&rt, rt.alloc(), words, "", 2, USAGE)?;
+    }
     Ok(())
 }
 
 #[test]
 fn a_sink_that_fails_holds_a_prefix(rt: HostRuntime) -> Result<(), Fail> {
     let alloc = rt.alloc();
-    let words = words_of(alloc, &[])?;
-    let mut source = MemorySource::new(Vec::new(alloc), Vec::new(alloc));
-    let mut sink = MemorySink::new(alloc, 1000, 10, vec![in alloc; 1]?)?;
-    let status = run(alloc, &words, &mut source, &mut sink);
-    assert_eq!(rt; status.number(), 5);
-    assert_eq!(rt; sink.bytes(), b"usage: bat".as_slice());
+    let ends = Ends {
+        most: 10,
+        failing_writes: &[1],
+        ..Ends::with_room(1000)
+    };
+    let (status, text) = ran_over(alloc, &[], Vec::new(alloc), ends)?;
+    assert_same(
+        &rt,
+        (status, text.as_slice()),
+        (5, b"usage: bat".as_slice()),
+    );
     Ok(())
 }
 
 #[test]
 fn a_sink_takes_a_text_in_pieces(rt: HostRuntime) -> Result<(), Fail> {
     let alloc = rt.alloc();
-    let words = words_of(alloc, &[])?;
-    let mut source = MemorySource::new(Vec::new(alloc), Vec::new(alloc));
-    let mut sink = MemorySink::new(alloc, 1000, 10, Vec::new(alloc))?;
-    let status = run(alloc, &words, &mut source, &mut sink);
-    assert_eq!(rt; status.number(), 2);
-    assert_eq!(rt;
-        sink.bytes(),
-        b"usage: batch_tool prove | verify | demo N\n".as_slice()
-    );
+    let ends = Ends {
+        most: 10,
+        ..Ends::with_room(1000)
+    };
+    let (status, text) = ran_over(alloc, &[], Vec::new(alloc), ends)?;
+    assert_same(&rt, (status, text.as_slice()), (2, USAGE.as_bytes()));
     Ok(())
 }
 
 #[test]
 fn a_source_that_fails_ends_the_run(rt: HostRuntime) -> Result<(), Fail> {
     let alloc = rt.alloc();
-    let words = words_of(alloc, &["prove"])?;
-    for call in [0, 1] {
+    let calls: [&[u64]; 2] = [&[0], &[1]];
+    for failing_reads in calls {
+        let ends = Ends {
+            failing_reads,
+            ..Ends::with_room(1000)
+        };
         let input = b"1\n1\n0\n5\n7\n".to_vec(alloc)?;
-        let mut source = MemorySource::new(input, vec![in alloc; call]?);
-        let mut sink = MemorySink::new(alloc, 1000, 1000, Vec::new(alloc))?;
-        let status = run(alloc, &words, &mut source, &mut sink);
-        assert_eq!(rt; status.number(), 4);
-        assert_eq!(rt; sink.bytes(), b"".as_slice());
+        let (status, text) = ran_over(alloc, &["prove"], input, ends)?;
+        assert_same(
+            &rt,
+            (failing_reads, status, text.as_slice()),
+            (failing_reads, 4, b"".as_slice()),
+        );
     }
     Ok(())
 }
@@ -60,12 +72,10 @@ fn a_source_that_fails_ends_the_run(rt: HostRuntime) -> Result<(), Fail> {
 #[test]
 fn an_input_of_too_many_bytes_is_too_large(rt: HostRuntime) -> Result<(), Fail> {
     let alloc = rt.alloc();
-    let words = words_of(alloc, &["prove"])?;
     for (size, number) in [(67_108_864, 3), (67_108_865, 7)] {
-        let mut source = MemorySource::new(vec![in alloc; b'1'; size]?, Vec::new(alloc));
-        let mut sink = MemorySink::new(alloc, 1000, 1000, Vec::new(alloc))?;
-        let status = run(alloc, &words, &mut source, &mut sink);
-        assert_eq!(rt; status.number(), number);
+        let input = vec![in alloc; b'1'; size]?;
+        let (status, _text) = ran_over(alloc, &["prove"], input, Ends::with_room(1000))?;
+        assert_same(&rt, (size, status), (size, number));
     }
     Ok(())
 }

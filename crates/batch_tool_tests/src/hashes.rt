@@ -1,5 +1,6 @@
 // Tables of compressions: their one proof file, and the rows that are printed of it. The files are those of another program, written apart from
 // this one; each is known by its length and a hash.
+use crate::compared::assert_same;
 use crate::hash_jobs::{FIVE_TABLES, FIVE_VERIFIED, LARGEST_TABLES, ONE_COMPRESSION};
 use crate::runs::{damaged, fnv_1a, ran};
 use p3_field::Mem;
@@ -17,9 +18,7 @@ const ONE_VERIFIED: &str = "accepted\n\
 /// The proof file of a job, which has this length and this hash.
 fn proved(rt: &impl Abort, alloc: Global, job: &str, length: usize, hash: u64) -> Mem<Vec<u8>> {
     let (status, file) = ran(alloc, &["prove"], job.as_bytes(), 3_000_000)?;
-    assert_eq!(rt; status, 0);
-    assert_eq!(rt; file.len(), length);
-    assert_eq!(rt; fnv_1a(&file), hash);
+    assert_same(rt, (status, file.len(), fnv_1a(&file)), (0, length, hash));
     Ok(file)
 }
 
@@ -28,8 +27,7 @@ fn a_compression_is_proved_and_printed(rt: HostRuntime) -> Result<(), Fail> {
     let alloc = rt.alloc();
     let file = proved(&rt, alloc, ONE_COMPRESSION, 115_332, 6417524211803954458)?;
     let (status, text) = ran(alloc, &["verify"], &file, 1000)?;
-    assert_eq!(rt; status, 0);
-    assert_eq!(rt; &text[..], ONE_VERIFIED.as_bytes());
+    assert_same(&rt, (status, text.as_slice()), (0, ONE_VERIFIED.as_bytes()));
     Ok(())
 }
 
@@ -38,8 +36,11 @@ fn five_tables_are_proved_and_their_compressions_printed(rt: HostRuntime) -> Res
     let alloc = rt.alloc();
     let file = proved(&rt, alloc, FIVE_TABLES, 1_045_065, 3050776478036696713)?;
     let (status, text) = ran(alloc, &["verify"], &file, 2000)?;
-    assert_eq!(rt; status, 0);
-    assert_eq!(rt; &text[..], FIVE_VERIFIED.as_bytes());
+    assert_same(
+        &rt,
+        (status, text.as_slice()),
+        (0, FIVE_VERIFIED.as_bytes()),
+    );
     Ok(())
 }
 
@@ -50,11 +51,16 @@ fn the_largest_tables_are_proved_and_their_compressions_printed(
     let alloc = rt.alloc();
     let file = proved(&rt, alloc, LARGEST_TABLES, 2_366_760, 11622764916689649749)?;
     let (status, text) = ran(alloc, &["verify"], &file, 4000)?;
-    assert_eq!(rt; status, 0);
-    assert_eq!(rt; text.len(), 3177);
-    assert_eq!(rt; fnv_1a(&text), 11385187772700521664);
+    assert_same(
+        &rt,
+        (status, text.len(), fnv_1a(&text)),
+        (0, 3177, 11385187772700521664),
+    );
     Ok(())
 }
+
+// Why the identity fails.
+const MISMATCH: &[u8] = b"refused OodEvaluationMismatch 0\n";
 
 /// The answer to the file of one compression with the lowest bit of its first output word turned in each committed row and in what is opened, and
 /// with this grinding value.
@@ -69,20 +75,22 @@ fn turned(alloc: Global, file: &str, grinding: u64) -> Mem<(u8, Vec<u8>)> {
 fn a_turned_output_bit_is_refused(rt: HostRuntime) -> Result<(), Fail> {
     let alloc = rt.alloc();
     let file = proved(&rt, alloc, ONE_COMPRESSION, 115_332, 6417524211803954458)?;
-    let Ok(text) = str::from_utf8(&file) else {
-        return Err("no text".into());
-    };
+    let text = str::from_utf8(&file).ok().ok_or("no text")?;
     // What is opened is what is committed, so only the grinding and the identity can fail; one value in 16 passes the grinding.
     let mut mismatches: u64 = 0;
     for grinding in 0..64 {
         let (status, line) = turned(alloc, text, grinding)?;
-        assert_eq!(rt; status, 1);
-        if &line[..] == b"refused OodEvaluationMismatch 0\n".as_slice() {
+        let mut wanted = b"refused OodPowWitness 4\n".as_slice();
+        if line.as_slice() == MISMATCH {
             mismatches = mismatches.saturating_add(1);
-        } else {
-            assert_eq!(rt; &line[..], b"refused OodPowWitness 4\n".as_slice());
+            wanted = MISMATCH;
         }
+        assert_same(
+            &rt,
+            (grinding, status, line.as_slice()),
+            (grinding, 1, wanted),
+        );
     }
-    assert!(rt; mismatches > 0);
+    assert_same(&rt, mismatches > 0, true);
     Ok(())
 }

@@ -1,4 +1,5 @@
 //! Jobs that are read and printed, the lines of faults, traces, statements, and unbalanced values.
+use crate::compared::assert_same;
 use line_format::TextError;
 use p3_field::{BabyBear, Mem, RingCore};
 use std::alloc::Global;
@@ -38,11 +39,8 @@ fn a_fault_has_its_line(rt: HostRuntime) {
         ("1\n6\n1\n", 2),
     ];
     for (text, line) in faults {
-        assert_eq!(rt;
-            fault(rt.alloc(), text.as_bytes()),
-            Some(line),
-            "of {text:?}"
-        );
+        let fault = fault(rt.alloc(), text.as_bytes());
+        assert_same(&rt, (text, fault), (text, Some(line)));
     }
 }
 
@@ -58,7 +56,7 @@ fn a_job_is_read_and_printed(rt: HostRuntime) -> Result<(), Fail> {
     for text in texts {
         let job = read_job(alloc, text.as_bytes()).ok().ok_or("a job")?;
         let printed = write_job(alloc, &job)?;
-        assert_eq!(rt; printed.as_slice(), text.as_bytes(), "of {text:?}");
+        assert_same(&rt, printed.as_slice(), text.as_bytes());
     }
     Ok(())
 }
@@ -77,9 +75,18 @@ fn the_least_unbalanced_value(rt: HostRuntime) -> Result<(), Fail> {
     for (text, least) in jobs {
         let job = read_job(alloc, text.as_bytes()).ok().ok_or("a job")?;
         let value = least.map(|n: u64| BabyBear::from_u64(n));
-        assert_eq!(rt; first_unbalanced(alloc, &job)?, value, "of {text:?}");
+        assert_same(&rt, (text, first_unbalanced(alloc, &job)?), (text, value));
     }
     Ok(())
+}
+
+// These numbers as elements.
+fn elements(alloc: Global, numbers: &[u64]) -> Mem<Vec<BabyBear>> {
+    let mut values = Vec::new(alloc);
+    for number in numbers {
+        values.push(BabyBear::from_u64(*number))?;
+    }
+    Ok(values)
 }
 
 #[test]
@@ -94,13 +101,10 @@ fn traces_row_by_row(rt: HostRuntime) -> Result<(), Fail> {
         &[5, 2, 0, 9],
     ];
     let traces = traces_of(alloc, &job)?;
-    assert_eq!(rt; traces.len(), 4);
-    for i in 0..4 {
-        let cells = wanted[i]
-            .iter()
-            .map(|n| BabyBear::from_u64(*n))
-            .collect::<Vec<_>>(alloc)?;
-        assert_eq!(rt; traces[i].as_slice(), cells.as_slice());
+    assert_same(&rt, traces.len(), 4);
+    for (trace, numbers) in traces.iter().zip(wanted) {
+        let cells = elements(alloc, numbers)?;
+        assert_same(&rt, trace.as_slice(), cells.as_slice());
     }
     Ok(())
 }
@@ -129,7 +133,11 @@ fn what_is_stated(rt: HostRuntime) -> Result<(), Fail> {
         TableStatement::Take { k: 2 },
         TableStatement::Give { k: 0 },
     ];
-    assert_eq!(rt; statements_of(alloc, &job)?.as_slice(), wanted.as_slice());
+    assert_same(
+        &rt,
+        statements_of(alloc, &job)?.as_slice(),
+        wanted.as_slice(),
+    );
     Ok(())
 }
 
@@ -139,10 +147,7 @@ const ROW: &str =
 
 // The text of a job of one table of compressions, of two equal rows.
 fn two_hashes(alloc: Global) -> Mem<String> {
-    let mut text = String::from_str(alloc, "1\n5\n2\n")?;
-    text.push_str(ROW)?;
-    text.push_str(ROW)?;
-    Ok(text)
+    Ok(format!(in alloc; "1\n5\n2\n{ROW}{ROW}")?)
 }
 
 #[test]
@@ -150,14 +155,25 @@ fn a_table_of_compressions(rt: HostRuntime) -> Result<(), Fail> {
     let alloc = rt.alloc();
     let text = two_hashes(alloc)?;
     let job = read_job(alloc, text.as_bytes()).ok().ok_or("a job")?;
-    assert_eq!(rt; write_job(alloc, &job)?.as_slice(), text.as_bytes());
     let wanted = [TableStatement::Hash { k: 1 }];
-    assert_eq!(rt; statements_of(alloc, &job)?.as_slice(), wanted.as_slice());
-    assert_eq!(rt; first_unbalanced(alloc, &job)?, None);
+    assert_same(&rt, write_job(alloc, &job)?.as_slice(), text.as_bytes());
+    assert_same(
+        &rt,
+        statements_of(alloc, &job)?.as_slice(),
+        wanted.as_slice(),
+    );
+    assert_same(&rt, first_unbalanced(alloc, &job)?, None);
+    Ok(())
+}
+
+#[test]
+fn the_trace_of_compressions(rt: HostRuntime) -> Result<(), Fail> {
+    let alloc = rt.alloc();
+    let text = two_hashes(alloc)?;
+    let job = read_job(alloc, text.as_bytes()).ok().ok_or("a job")?;
     let traces = traces_of(alloc, &job)?;
-    assert_eq!(rt; traces.len(), 1);
-    let cells = traces[0].as_slice();
-    assert_eq!(rt; cells.len(), 18336);
+    let cells = traces.first().ok_or("no trace")?.as_slice();
+    assert_same(&rt, (traces.len(), cells.len()), (1, 18336));
     // The bits of the first word, 5; the counter, which is the row's number; the length, 2; and the first word of the second row.
     let bits: [(usize, u64); 9] = [
         (0, 1),
@@ -171,8 +187,8 @@ fn a_table_of_compressions(rt: HostRuntime) -> Result<(), Fail> {
         (9936, 1),
     ];
     for (place, bit) in bits {
-        let wanted = BabyBear::from_u64(bit);
-        assert_eq!(rt; cells.get(place).copied(), Some(wanted), "at {place}");
+        let cell = cells.get(place).copied();
+        assert_same(&rt, (place, cell), (place, Some(BabyBear::from_u64(bit))));
     }
     Ok(())
 }

@@ -1,4 +1,5 @@
 // Jobs that are none, with their lines at fault; jobs whose words are taken more or less often than they are given.
+use crate::compared::assert_same;
 use crate::runs::{answers, is_proved_and_accepted};
 use p3_field::Mem;
 use std::alloc::Global;
@@ -78,7 +79,7 @@ fn a_balanced_job_is_proved(rt: HostRuntime) -> Result<(), Fail> {
         "3\n3\n1\n2013265920\n4\n1\n2013265920\n2\n3\n1\n2013265920\n",
     ];
     for job in jobs {
-        assert!(rt; is_proved_and_accepted(alloc, job)?, "of {job:?}");
+        assert_same(&rt, (job, is_proved_and_accepted(alloc, job)?), (job, true));
     }
     Ok(())
 }

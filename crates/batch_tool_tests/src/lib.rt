@@ -5,6 +5,8 @@
 #[cfg(test)]
 mod accepted;
 #[cfg(test)]
+mod compared;
+#[cfg(test)]
 mod ends;
 #[cfg(test)]
 mod files;

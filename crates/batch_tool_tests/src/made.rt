@@ -1,4 +1,5 @@
 // Jobs that are made by a rule, each of which is proved and then accepted.
+use crate::compared::assert_same;
 use crate::runs::is_proved_and_accepted;
 use batch_tool::{read_job, write_job};
 use p3_field::Mem;
@@ -23,10 +24,13 @@ fn power(number: u64) -> u64 {
     }
 }
 
-/// Appends a line with this number.
-fn push_line(alloc: Global, text: &mut String, number: u64) -> Mem<()> {
-    let line = format!(in alloc; "{number}\n")?;
-    text.push_str(&line)
+/// Appends a line with each of these numbers.
+fn push_lines(alloc: Global, text: &mut String, numbers: &[u64]) -> Mem<()> {
+    for number in numbers {
+        let line = format!(in alloc; "{number}\n")?;
+        text.push_str(&line)?;
+    }
+    Ok(())
 }
 
 /// The words of a job: the first, the difference of two that follow each other, the number of rows of a table that takes, and the number of
@@ -73,35 +77,30 @@ impl Words {
 
 /// Appends a swap table of up to eight rows.
 fn push_swap(alloc: Global, text: &mut String, number: u64) -> Mem<()> {
-    push_line(alloc, text, 1)?;
-    push_line(alloc, text, drawn(number, 4) % 4)?;
-    push_line(alloc, text, drawn(number, 5))?;
-    push_line(alloc, text, drawn(number, 6))
+    let numbers = [1, drawn(number, 4) % 4, drawn(number, 5), drawn(number, 6)];
+    push_lines(alloc, text, &numbers)
 }
 
 /// Appends a wheel of two to eight rows.
 fn push_wheel(alloc: Global, text: &mut String, number: u64) -> Mem<()> {
-    push_line(alloc, text, 2)?;
-    push_line(alloc, text, (drawn(number, 7) % 3).wrapping_add(1))
+    push_lines(alloc, text, &[2, (drawn(number, 7) % 3).wrapping_add(1)])
 }
 
 /// Appends a table that takes the words.
 fn push_take(alloc: Global, text: &mut String, words: Words) -> Mem<()> {
-    push_line(alloc, text, 3)?;
-    push_line(alloc, text, words.rows)?;
+    push_lines(alloc, text, &[3, words.rows])?;
     for row in 0..words.rows {
-        push_line(alloc, text, words.word(words.place(row)))?;
+        push_lines(alloc, text, &[words.word(words.place(row))])?;
     }
     Ok(())
 }
 
 /// Appends a table that gives what so many tables take.
 fn push_give(alloc: Global, text: &mut String, words: Words, takers: u64) -> Mem<()> {
-    push_line(alloc, text, 4)?;
-    push_line(alloc, text, words.count)?;
+    push_lines(alloc, text, &[4, words.count])?;
     for place in 0..words.count {
-        push_line(alloc, text, words.word(place))?;
-        push_line(alloc, text, words.times(place).wrapping_mul(takers))?;
+        let times = words.times(place).wrapping_mul(takers);
+        push_lines(alloc, text, &[words.word(place), times])?;
     }
     Ok(())
 }
@@ -115,23 +114,30 @@ fn push_lists(alloc: Global, text: &mut String, number: u64, takers: u64) -> Mem
     push_give(alloc, text, words, takers)
 }
 
+/// Appends a swap table or none, and a wheel or none.
+fn push_alone(alloc: Global, text: &mut String, number: u64, kinds: [u64; 2]) -> Mem<()> {
+    let [swaps, wheels] = kinds;
+    if swaps > 0 {
+        push_swap(alloc, text, number)?;
+    }
+    if wheels > 0 {
+        push_wheel(alloc, text, number)?;
+    }
+    Ok(())
+}
+
 /// The job of this number: a swap table or none, a wheel or none, and none, one or two tables that take with one that gives.
 fn made(alloc: Global, number: u64) -> Mem<String> {
     let kinds = (number % 11).wrapping_add(1);
     let (swaps, wheels, takers) = (kinds % 2, kinds / 2 % 2, kinds / 4);
-    let gives = if takers > 0 { 1 } else { 0 };
+    let gives = takers.min(1);
     let mut text = String::new(alloc);
     let tables = swaps
         .wrapping_add(wheels)
         .wrapping_add(takers)
         .wrapping_add(gives);
-    push_line(alloc, &mut text, tables)?;
-    if swaps > 0 {
-        push_swap(alloc, &mut text, number)?;
-    }
-    if wheels > 0 {
-        push_wheel(alloc, &mut text, number)?;
-    }
+    push_lines(alloc, &mut text, &[tables])?;
+    push_alone(alloc, &mut text, number, [swaps, wheels])?;
     if gives > 0 {
         push_lists(alloc, &mut text, number, takers)?;
     }
@@ -151,7 +157,8 @@ fn made_jobs_are_read_and_printed_as_they_were(rt: HostRuntime) -> Result<(), Fa
     let alloc = rt.alloc();
     for number in 0..50 {
         let job = made(alloc, number)?;
-        assert_eq!(rt; &printed_again(alloc, job.as_bytes())?[..], job.as_bytes());
+        let printed = printed_again(alloc, job.as_bytes())?;
+        assert_same(&rt, printed.as_slice(), job.as_bytes());
     }
     Ok(())
 }
@@ -160,7 +167,8 @@ fn made_jobs_are_read_and_printed_as_they_were(rt: HostRuntime) -> Result<(), Fa
 fn are_accepted(rt: &impl Abort, alloc: Global, first: u64) -> Mem<()> {
     for number in first..first.saturating_add(10) {
         let job = made(alloc, number)?;
-        assert!(rt; is_proved_and_accepted(alloc, &job)?, "of {job:?}");
+        let accepted = is_proved_and_accepted(alloc, &job)?;
+        assert_same(rt, (number, accepted), (number, true));
     }
     Ok(())
 }

@@ -1,4 +1,5 @@
 // Bytes that are no proof file, and the line at fault. The lines were found by another reader of the grammar, written apart from this one.
+use crate::compared::assert_same;
 use crate::files::{FOUR_KINDS, ONE_ROW};
 use crate::runs::{is_answered, line_at_fault, verified, with_lines};
 use p3_field::Mem;
@@ -8,13 +9,14 @@ use std::test::Fail;
 /// Whether `verify` answers that this line is at fault.
 fn is_at_fault(alloc: Global, input: &[u8], line: u64) -> Mem<bool> {
     let (status, text) = verified(alloc, input)?;
-    Ok(status == 3 && line_at_fault(&text) == line)
+    Ok((status, line_at_fault(&text)) == (3, line))
 }
 
 #[test]
 fn the_line_is_named(rt: HostRuntime) -> Result<(), Fail> {
     let alloc = rt.alloc();
-    assert!(rt; is_answered(alloc, b"", 3, "bad input at line 1\n")?);
+    let empty = is_answered(alloc, b"", 3, "bad input at line 1\n")?;
+    assert_same(&rt, ("", empty), ("", true));
     // The whole input, and its line at fault.
     let inputs = [
         ("2\n", 1),
@@ -36,7 +38,8 @@ fn the_line_is_named(rt: HostRuntime) -> Result<(), Fail> {
         ("1\n1\n\n", 3),
     ];
     for (input, line) in inputs {
-        assert!(rt; is_at_fault(alloc, input.as_bytes(), line)?, "of {input:?}");
+        let found = is_at_fault(alloc, input.as_bytes(), line)?;
+        assert_same(&rt, (input, found), (input, true));
     }
     Ok(())
 }
@@ -88,15 +91,11 @@ fn a_changed_count_is_found_where_it_differs(rt: HostRuntime) -> Result<(), Fail
         (540, 4, 546, 547),
     ];
     for (place, count, raised, lowered) in counts {
-        assert!(rt;
-            is_found(alloc, place, count.saturating_add(1), raised)?,
-            "of {place} raised"
-        );
+        let found = is_found(alloc, place, count.saturating_add(1), raised)?;
+        assert_same(&rt, ("raised", place, found), ("raised", place, true));
         if count > 0 {
-            assert!(rt;
-                is_found(alloc, place, count.saturating_sub(1), lowered)?,
-                "of {place} lowered"
-            );
+            let found = is_found(alloc, place, count.saturating_sub(1), lowered)?;
+            assert_same(&rt, ("lowered", place, found), ("lowered", place, true));
         }
     }
     Ok(())
@@ -115,7 +114,8 @@ fn an_element_is_below_the_order_and_written_in_one_way(rt: HostRuntime) -> Resu
         "1\r\n",
     ] {
         let changed = with_lines(alloc, FOUR_KINDS, 16, lines)?;
-        assert!(rt; is_at_fault(alloc, &changed, 16)?, "of {lines:?}");
+        let found = is_at_fault(alloc, &changed, 16)?;
+        assert_same(&rt, (lines, found), (lines, true));
     }
     Ok(())
 }
@@ -126,10 +126,11 @@ fn a_file_cut_after_a_line_is_at_fault_there(rt: HostRuntime) -> Result<(), Fail
     let mut cut = Vec::new(alloc);
     for (number, line) in FOUR_KINDS.lines().enumerate() {
         let at: u64 = (number as u64).saturating_add(1);
-        assert!(rt; is_at_fault(alloc, &cut, at)?, "of {number}");
+        let whole = is_at_fault(alloc, &cut, at)?;
         cut.extend_from_slice(line.as_bytes())?;
-        assert!(rt; is_at_fault(alloc, &cut, at)?, "of {number} with no end");
+        let without_end = is_at_fault(alloc, &cut, at)?;
         cut.push(b'\n')?;
+        assert_same(&rt, (number, whole, without_end), (number, true, true));
     }
     Ok(())
 }
@@ -138,9 +139,9 @@ fn a_file_cut_after_a_line_is_at_fault_there(rt: HostRuntime) -> Result<(), Fail
 fn what_comes_after_a_file_is_at_fault(rt: HostRuntime) -> Result<(), Fail> {
     let alloc = rt.alloc();
     for more in ["0\n", "\n", "1"] {
-        let mut longer = ONE_ROW.as_bytes().to_vec(alloc)?;
-        longer.extend_from_slice(more.as_bytes())?;
-        assert!(rt; is_at_fault(alloc, &longer, 76)?, "of {more:?}");
+        let longer = format!(in alloc; "{ONE_ROW}{more}")?;
+        let found = is_at_fault(alloc, longer.as_bytes(), 76)?;
+        assert_same(&rt, (more, found), (more, true));
     }
     Ok(())
 }

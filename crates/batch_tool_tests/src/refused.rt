@@ -1,4 +1,5 @@
 // Files of which a line is changed that are still proof files, and what they are refused with.
+use crate::compared::assert_same;
 use crate::files::{EIGHT_ROWS, FOUR_KINDS, ONE_ROW, TAKE_GIVE, WHEEL};
 use crate::runs::{damaged, is_answered, line_at_fault, verified, with_lines};
 use p3_field::Mem;
@@ -30,7 +31,8 @@ fn the_first_failing_check_is_named(rt: HostRuntime) -> Result<(), Fail> {
     ];
     for (file, place, lines, text) in cases {
         let changed = with_lines(alloc, file, place, lines)?;
-        assert!(rt; is_answered(alloc, &changed, 1, text)?, "of {place} {text}");
+        let refused = is_answered(alloc, &changed, 1, text)?;
+        assert_same(&rt, (place, text, refused), (place, text, true));
     }
     Ok(())
 }
@@ -68,7 +70,8 @@ fn a_damaged_proof_gets_its_first_refusal(rt: HostRuntime) -> Result<(), Fail> {
     ];
     for (lines, text) in files {
         let changed = damaged(alloc, ONE_ROW, lines)?;
-        assert!(rt; is_answered(alloc, &changed, 1, text)?, "of {text}");
+        let refused = is_answered(alloc, &changed, 1, text)?;
+        assert_same(&rt, (text, refused), (text, true));
     }
     Ok(())
 }
@@ -79,11 +82,10 @@ fn a_missing_grinding_value_is_named(rt: HostRuntime) -> Result<(), Fail> {
     let lines = TAKE_GIVE.lines().count();
     // The option's two lines become `0`.
     let without = with_lines(alloc, TAKE_GIVE, lines.saturating_sub(2), "0\n")?;
-    let Ok(text) = str::from_utf8(&without) else {
-        return Err("no text".into());
-    };
+    let text = str::from_utf8(&without).ok().ok_or("no text")?;
     let missing = with_lines(alloc, text, lines.saturating_sub(1), "")?;
-    assert!(rt; is_answered(alloc, &missing, 1, "refused MissingLookupPowWitness 4\n")?);
+    let refused = is_answered(alloc, &missing, 1, "refused MissingLookupPowWitness 4\n")?;
+    assert_same(&rt, refused, true);
     Ok(())
 }
 
@@ -92,9 +94,15 @@ fn a_changed_public_value_is_refused(rt: HostRuntime) -> Result<(), Fail> {
     let alloc = rt.alloc();
     let changed = with_lines(alloc, EIGHT_ROWS, 7, "1\n")?;
     let (status, text) = verified(alloc, &changed)?;
-    assert_eq!(rt; status, 1);
-    assert!(rt; text.starts_with(b"refused "));
+    assert_same(&rt, (status, text.starts_with(b"refused ")), (1, true));
     Ok(())
+}
+
+/// With this line in the place of the one of this number: the exit status, and the line at fault.
+fn fault_with(alloc: Global, number: usize, line: &str) -> Mem<(u8, u64)> {
+    let changed = with_lines(alloc, FOUR_KINDS, number, line)?;
+    let (status, text) = verified(alloc, &changed)?;
+    Ok((status, line_at_fault(&text)))
 }
 
 /// With this word in each line's place, where it is another: how many files are bad input, and the sum of their lines at fault. None where
@@ -102,15 +110,13 @@ fn a_changed_public_value_is_refused(rt: HostRuntime) -> Result<(), Fail> {
 fn faults_with(alloc: Global, word: &str) -> Mem<Option<(u64, u64)>> {
     let mut count: u64 = 0;
     let mut sum: u64 = 0;
-    let mut with_end = String::from_str(alloc, word)?;
-    with_end.push('\n')?;
+    let with_end = format!(in alloc; "{word}\n")?;
     for (number, line) in FOUR_KINDS.lines().enumerate() {
         if line != word {
-            let changed = with_lines(alloc, FOUR_KINDS, number.saturating_add(1), &with_end)?;
-            let (status, text) = verified(alloc, &changed)?;
+            let (status, fault) = fault_with(alloc, number.saturating_add(1), &with_end)?;
             if status == 3 {
                 count = count.saturating_add(1);
-                sum = sum.saturating_add(line_at_fault(&text));
+                sum = sum.saturating_add(fault);
             } else if status != 1 {
                 return Ok(None);
             }
@@ -121,7 +127,8 @@ fn faults_with(alloc: Global, word: &str) -> Mem<Option<(u64, u64)>> {
 
 /// The numbers are of another reader of the grammar, written apart from this one.
 fn is_never_accepted(rt: &impl Abort, alloc: Global, word: &str, count: u64, sum: u64) -> Mem<()> {
-    assert_eq!(rt; faults_with(alloc, word)?, Some((count, sum)), "of {word}");
+    let faults = faults_with(alloc, word)?;
+    assert_same(rt, (word, faults), (word, Some((count, sum))));
     Ok(())
 }
 

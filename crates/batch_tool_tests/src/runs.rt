@@ -1,11 +1,37 @@
 //! Runs of the program over ends in memory.
+use crate::compared::assert_same;
 use batch_tool::{MemorySink, MemorySource, run};
 use p3_field::Mem;
 use std::alloc::Global;
 use std::process::Abort;
 
-/// The words of a program's call.
-pub fn words_of(alloc: Global, words: &[&str]) -> Mem<Vec<String>> {
+/// How the ends of a run behave.
+#[derive(Clone, Copy)]
+pub struct Ends {
+    /// The calls of the source that fail.
+    pub failing_reads: &'static [u64],
+    /// The room that the sink has.
+    pub room: usize,
+    /// How many bytes a write takes at most.
+    pub most: usize,
+    /// The calls of the sink that fail.
+    pub failing_writes: &'static [u64],
+}
+
+impl Ends {
+    /// Ends that never fail, with room for so many bytes.
+    pub fn with_room(room: usize) -> Ends {
+        Ends {
+            failing_reads: &[],
+            room,
+            most: 1000,
+            failing_writes: &[],
+        }
+    }
+}
+
+// The words of a program's call.
+fn words_of(alloc: Global, words: &[&str]) -> Mem<Vec<String>> {
     let mut all = Vec::new(alloc);
     for word in words {
         all.push(String::from_str(alloc, word)?)?;
@@ -13,13 +39,19 @@ pub fn words_of(alloc: Global, words: &[&str]) -> Mem<Vec<String>> {
     Ok(all)
 }
 
-/// The exit status and the text of these words, over ends that never fail and with room for so many bytes.
-pub fn ran(alloc: Global, words: &[&str], input: &[u8], room: usize) -> Mem<(u8, Vec<u8>)> {
+/// The exit status and the text of these words over these ends.
+pub fn ran_over(alloc: Global, words: &[&str], input: Vec<u8>, ends: Ends) -> Mem<(u8, Vec<u8>)> {
     let words = words_of(alloc, words)?;
-    let mut source = MemorySource::new(input.to_vec(alloc)?, Vec::new(alloc));
-    let mut sink = MemorySink::new(alloc, room, 1000, Vec::new(alloc))?;
+    let mut source = MemorySource::new(input, ends.failing_reads.to_vec(alloc)?);
+    let failing = ends.failing_writes.to_vec(alloc)?;
+    let mut sink = MemorySink::new(alloc, ends.room, ends.most, failing)?;
     let status = run(alloc, &words, &mut source, &mut sink);
     Ok((status.number(), sink.bytes().to_vec(alloc)?))
+}
+
+/// The exit status and the text of these words, over ends that never fail and with room for so many bytes.
+pub fn ran(alloc: Global, words: &[&str], input: &[u8], room: usize) -> Mem<(u8, Vec<u8>)> {
+    ran_over(alloc, words, input.to_vec(alloc)?, Ends::with_room(room))
 }
 
 /// Runs the words, and compares the status and the text.
@@ -32,8 +64,11 @@ pub fn answers(
     text: &str,
 ) -> Mem<()> {
     let (status, written) = ran(alloc, words, input.as_bytes(), 5000)?;
-    assert_eq!(rt; status, number, "of {input:?}");
-    assert_eq!(rt; &written[..], text.as_bytes(), "of {input:?}");
+    assert_same(
+        rt,
+        (input, status, written.as_slice()),
+        (input, number, text.as_bytes()),
+    );
     Ok(())
 }
 
@@ -45,13 +80,13 @@ pub fn verified(alloc: Global, input: &[u8]) -> Mem<(u8, Vec<u8>)> {
 /// Whether `verify` answers with this status and this text.
 pub fn is_answered(alloc: Global, input: &[u8], status: u8, text: &str) -> Mem<bool> {
     let (number, written) = verified(alloc, input)?;
-    Ok(number == status && &written[..] == text.as_bytes())
+    Ok((number, written.as_slice()) == (status, text.as_bytes()))
 }
 
 /// Whether `prove` writes a proof file for this job, for which `verify` writes `accepted`.
 pub fn is_proved_and_accepted(alloc: Global, job: &str) -> Mem<bool> {
     let (status, file) = ran(alloc, &["prove"], job.as_bytes(), 200_000)?;
-    Ok(status == 0 && is_answered(alloc, &file, 0, "accepted\n")?)
+    Ok((status, is_answered(alloc, &file, 0, "accepted\n")?) == (0, true))
 }
 
 /// A text in which each line of this number, from 1, has these lines in its place, each with its end: none removes the line.

@@ -4,6 +4,7 @@ ghost use Rattle.std.proofs.Common.{rules};
 ghost use Rattle.std.specs.Prelude.{◌≡◌, [], None, Some, false};
 ghost use Rattle.p3_air.specs.Laws.Declared.{counts-none};
 
+use crate::compared::assert_same;
 use crate::edits::{Edit, SAME, edited, edited_twice};
 use crate::numbers::proof_of;
 use crate::settings::{Common, SmallConfig, small_config, small_config_with_a_bit, small_verified};
@@ -165,24 +166,30 @@ fn said(alloc: Global, config: &SmallConfig, hint: usize, numbers: &[u32]) -> Re
     )
 }
 
+// The same of the proof of the column whose quotient has eight chunks, with this edit.
+fn column_said(alloc: Global, hint: usize, edit: Edit) -> Result<String, Fail> {
+    let numbers = edited(alloc, &SMALL_COLUMN, edit)?;
+    said(alloc, &small_config(), hint, &numbers)
+}
+
+// The same of the proof of the column whose point is one of the table's, with these edits.
+fn point_said(alloc: Global, one: Edit, other: Edit) -> Result<String, Fail> {
+    let numbers = edited_twice(alloc, &SMALL_POINT, one, other)?;
+    said(alloc, &small_config_with_a_bit(), 2, &numbers)
+}
+
 #[test]
 fn no_domain_is_so_large(rt: HostRuntime) -> Result<(), Fail> {
-    let alloc = rt.alloc();
     for Hinted(hint, edit, wanted) in HINTS {
-        let numbers = edited(alloc, &SMALL_COLUMN, edit)?;
-        let words = said(alloc, &small_config(), hint, &numbers)?;
-        assert_eq!(rt; words.as_str(), wanted);
+        assert_same(&rt, column_said(rt.alloc(), hint, edit)?.as_str(), wanted);
     }
     Ok(())
 }
 
 #[test]
 fn a_point_of_the_table(rt: HostRuntime) -> Result<(), Fail> {
-    let alloc = rt.alloc();
     for Edits(one, other, wanted) in POINTS {
-        let numbers = edited_twice(alloc, &SMALL_POINT, one, other)?;
-        let words = said(alloc, &small_config_with_a_bit(), 2, &numbers)?;
-        assert_eq!(rt; words.as_str(), wanted);
+        assert_same(&rt, point_said(rt.alloc(), one, other)?.as_str(), wanted);
     }
     Ok(())
 }

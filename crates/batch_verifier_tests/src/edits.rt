@@ -13,7 +13,7 @@ pub const SAME: Edit = Edit(0, 0, &[]);
 /// The numbers with this edit made.
 pub fn edited(alloc: Global, numbers: &[u32], edit: Edit) -> Result<Vec<u32>, Fail> {
     let Edit(at, removed, inserted) = edit;
-    let after = at.checked_add(removed).ok_or("too far")?;
+    let after = at.saturating_add(removed);
     let mut all = Vec::from_slice(alloc, numbers.get(..at).ok_or("too short")?)?;
     all.extend_from_slice(inserted)?;
     all.extend_from_slice(numbers.get(after..).ok_or("too short")?)?;
@@ -27,8 +27,7 @@ fn edited_in_order(
     first: Edit,
     second: Edit,
 ) -> Result<Vec<u32>, Fail> {
-    let after = first.0.checked_add(first.1).ok_or("too far")?;
-    if after > second.0 {
+    if first.0.saturating_add(first.1) > second.0 {
         return Err("the edits overlap".into());
     }
     let later = edited(alloc, numbers, second)?;

@@ -7,6 +7,8 @@ mod accepted;
 #[cfg(test)]
 mod column;
 #[cfg(test)]
+mod compared;
+#[cfg(test)]
 mod edits;
 #[cfg(test)]
 mod numbers;

@@ -1,9 +1,9 @@
 //! The batch of four kinds of tables with one part of statement or proof changed, or two.
 
-use crate::accepted::{batch_common, batch_publics, tables};
+use crate::accepted::{FourKinds, batch, batch_said};
+use crate::compared::assert_same;
 use crate::edits::{Edit, SAME, edited, edited_twice};
-use crate::numbers::proof_of;
-use crate::settings::{Common, verified};
+use crate::settings::Common;
 use crate::vectors::BATCH_B;
 use batch_statement::PreprocessedInstanceMeta;
 use p3_field::{BabyBear, Mem, RingCore};
@@ -228,20 +228,27 @@ fn add_a_public_value(publics: &mut Vec<Vec<BabyBear>>) -> Mem<()> {
     Ok(())
 }
 
+// Makes this change beside the numbers.
+fn make(change: Beside, batch: &mut FourKinds) -> Mem<()> {
+    match change {
+        Beside::Nothing => {}
+        Beside::PublicValue => add_a_public_value(&mut batch.publics)?,
+        Beside::Height => commit_for_another_height(&mut batch.common),
+    }
+    Ok(())
+}
+
+// Makes both changes.
+fn make_both(changes: [Beside; 2], batch: &mut FourKinds) -> Mem<()> {
+    make(changes[0], batch)?;
+    make(changes[1], batch)
+}
+
 // What the verifier says of the proof with these numbers, and with these changes beside them.
 fn said(alloc: Global, numbers: &[u32], changes: [Beside; 2]) -> Result<String, Fail> {
-    let airs = tables(alloc)?;
-    let mut common = batch_common(alloc, &airs)?;
-    let mut publics = batch_publics(alloc)?;
-    for change in changes {
-        match change {
-            Beside::Nothing => {}
-            Beside::PublicValue => add_a_public_value(&mut publics)?,
-            Beside::Height => commit_for_another_height(&mut common),
-        }
-    }
-    let proof = proof_of(alloc, numbers)?;
-    verified(alloc, &airs, &publics, &common, &proof)
+    let mut batch = batch(alloc)?;
+    make_both(changes, &mut batch)?;
+    batch_said(alloc, &batch, numbers)
 }
 
 // What the verifier says of the batch with this fault.
@@ -262,31 +269,27 @@ fn said_of_both(alloc: Global, one: Fault, other: Fault) -> Result<String, Fail>
 
 #[test]
 fn each_fault_is_named(rt: HostRuntime) -> Result<(), Fail> {
-    let alloc = rt.alloc();
     for fault in FAULTS.iter().chain(OTHERS.iter()) {
-        let words = said_of(alloc, *fault)?;
-        assert_eq!(rt; words.as_str(), fault.2);
+        assert_same(&rt, said_of(rt.alloc(), *fault)?.as_str(), fault.2);
     }
     Ok(())
 }
 
 #[test]
 fn the_first_of_two_faults(rt: HostRuntime) -> Result<(), Fail> {
-    let alloc = rt.alloc();
     for i in 1..FAULTS.len() {
-        let words = said_of_both(alloc, FAULTS[i - 1], FAULTS[i])?;
-        assert_eq!(rt; words.as_str(), FAULTS[i - 1].2);
+        let words = said_of_both(rt.alloc(), FAULTS[i - 1], FAULTS[i])?;
+        assert_same(&rt, words.as_str(), FAULTS[i - 1].2);
     }
     Ok(())
 }
 
 #[test]
 fn a_missing_grinding_value_among_others(rt: HostRuntime) -> Result<(), Fail> {
-    let alloc = rt.alloc();
     let missing = OTHERS[3];
-    let words = said_of_both(alloc, FAULTS[22], missing)?;
-    assert_eq!(rt; words.as_str(), FAULTS[22].2);
-    let words = said_of_both(alloc, missing, FAULTS[24])?;
-    assert_eq!(rt; words.as_str(), missing.2);
+    let before = said_of_both(rt.alloc(), FAULTS[22], missing)?;
+    let after = said_of_both(rt.alloc(), missing, FAULTS[24])?;
+    assert_same(&rt, before.as_str(), FAULTS[22].2);
+    assert_same(&rt, after.as_str(), missing.2);
     Ok(())
 }

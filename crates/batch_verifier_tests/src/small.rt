@@ -1,6 +1,7 @@
 //! Tables of one row over the smaller configuration, where one check after the draws fails, or two; and a swap table without lookups over the program's.
 
 use crate::accepted::publics;
+use crate::compared::assert_same;
 use crate::edits::{Edit, SAME, edited_twice};
 use crate::numbers::proof_of;
 use crate::settings::{Common, small_config, small_shared, small_verified, verified};
@@ -135,6 +136,12 @@ fn swaps_said(
     small_verified(alloc, &small_config(), airs, &all, &common, &proof)
 }
 
+// The same of one swap table, 5 and 7, with this last public value, and with these edits of its proof.
+fn swap_said(alloc: Global, last: u64, one: Edit, other: Edit) -> Result<String, Fail> {
+    let numbers = edited_twice(alloc, &SMALL_SWAP, one, other)?;
+    swaps_said(alloc, &[SwapAir], &[[5, 7, last]], &numbers)
+}
+
 // The same of one table of one row without public values.
 fn row_said(alloc: Global, air: ToolAir<BabyBear>, numbers: &[u32]) -> Result<String, Fail> {
     tables_send_one_width::<BabyBear>();
@@ -151,72 +158,75 @@ fn row_said(alloc: Global, air: ToolAir<BabyBear>, numbers: &[u32]) -> Result<St
     )
 }
 
-// What it says over the program's configuration of the swap table 5 and 7.
-fn program_said(alloc: Global, numbers: &[u32]) -> Result<String, Fail> {
+// What it says over the program's configuration of the swap table 5 and 7, with these edits of its proof.
+fn program_said(alloc: Global, one: Edit, other: Edit) -> Result<String, Fail> {
+    let numbers = edited_twice(alloc, &SWAP_1_ROW, one, other)?;
     let common: Common = Common::empty(alloc, 1)?;
-    let proof = proof_of(alloc, numbers)?;
-    verified(
-        alloc,
-        &[SwapAir],
-        &[publics(alloc, [5, 7, 7])?],
-        &common,
-        &proof,
-    )
+    let publics = [publics(alloc, [5, 7, 7])?];
+    let proof = proof_of(alloc, &numbers)?;
+    verified(alloc, &[SwapAir], &publics, &common, &proof)
+}
+
+// What it says of the take with these edits of its proof.
+fn take_said(alloc: Global, one: Edit, other: Edit) -> Result<String, Fail> {
+    let numbers = edited_twice(alloc, &SMALL_TAKE, one, other)?;
+    row_said(alloc, ToolAir::Take(TakeAir), &numbers)
+}
+
+// What it says of the wheel with these edits of its proof.
+fn wheel_said(alloc: Global, one: Edit, other: Edit) -> Result<String, Fail> {
+    let numbers = edited_twice(alloc, &SMALL_WHEEL, one, other)?;
+    row_said(alloc, ToolAir::Wheel(WheelAir::new(alloc, 0)?), &numbers)
 }
 
 #[test]
 fn swap_tables(rt: HostRuntime) -> Result<(), Fail> {
-    let alloc = rt.alloc();
     for Edits(one, other, wanted) in SWAPS {
-        let numbers = edited_twice(alloc, &SMALL_SWAP, one, other)?;
-        let words = swaps_said(alloc, &[SwapAir], &[[5, 7, 7]], &numbers)?;
-        assert_eq!(rt; words.as_str(), wanted);
+        assert_same(&rt, swap_said(rt.alloc(), 7, one, other)?.as_str(), wanted);
     }
+    Ok(())
+}
+
+#[test]
+fn swap_tables_with_a_wrong_public_value(rt: HostRuntime) -> Result<(), Fail> {
     for Edits(one, other, wanted) in WRONG_SWAPS {
-        let numbers = edited_twice(alloc, &SMALL_SWAP, one, other)?;
-        let words = swaps_said(alloc, &[SwapAir], &[[5, 7, 8]], &numbers)?;
-        assert_eq!(rt; words.as_str(), wanted);
+        assert_same(&rt, swap_said(rt.alloc(), 8, one, other)?.as_str(), wanted);
     }
     Ok(())
 }
 
 #[test]
 fn the_first_of_two_tables(rt: HostRuntime) -> Result<(), Fail> {
-    let alloc = rt.alloc();
-    for (last, wanted) in [
-        (7, "Verification(OodEvaluationMismatch { index: Some(1) })"),
-        (8, "Verification(OodEvaluationMismatch { index: Some(0) })"),
-    ] {
-        let values = [[5, 7, last], [3, 10, 11]];
-        let words = swaps_said(alloc, &[SwapAir, SwapAir], &values, &SMALL_SWAPS)?;
-        assert_eq!(rt; words.as_str(), wanted);
+    let (airs, last) = ([SwapAir, SwapAir], [3, 10, 11]);
+    let one = swaps_said(rt.alloc(), &airs, &[[5, 7, 7], last], &SMALL_SWAPS)?;
+    let other = swaps_said(rt.alloc(), &airs, &[[5, 7, 8], last], &SMALL_SWAPS)?;
+    let wanted = "Verification(OodEvaluationMismatch { index: Some(1) })";
+    assert_same(&rt, one.as_str(), wanted);
+    let wanted = "Verification(OodEvaluationMismatch { index: Some(0) })";
+    assert_same(&rt, other.as_str(), wanted);
+    Ok(())
+}
+
+#[test]
+fn a_take(rt: HostRuntime) -> Result<(), Fail> {
+    for Edits(one, other, wanted) in TAKES {
+        assert_same(&rt, take_said(rt.alloc(), one, other)?.as_str(), wanted);
     }
     Ok(())
 }
 
 #[test]
-fn a_take_and_a_wheel(rt: HostRuntime) -> Result<(), Fail> {
-    let alloc = rt.alloc();
-    for Edits(one, other, wanted) in TAKES {
-        let numbers = edited_twice(alloc, &SMALL_TAKE, one, other)?;
-        let words = row_said(alloc, ToolAir::Take(TakeAir), &numbers)?;
-        assert_eq!(rt; words.as_str(), wanted);
-    }
+fn a_wheel(rt: HostRuntime) -> Result<(), Fail> {
     for Edits(one, other, wanted) in WHEELS {
-        let numbers = edited_twice(alloc, &SMALL_WHEEL, one, other)?;
-        let words = row_said(alloc, ToolAir::Wheel(WheelAir::new(alloc, 0)?), &numbers)?;
-        assert_eq!(rt; words.as_str(), wanted);
+        assert_same(&rt, wheel_said(rt.alloc(), one, other)?.as_str(), wanted);
     }
     Ok(())
 }
 
 #[test]
 fn a_swap_table_without_lookups(rt: HostRuntime) -> Result<(), Fail> {
-    let alloc = rt.alloc();
     for Edits(one, other, wanted) in PROGRAM_SWAPS {
-        let numbers = edited_twice(alloc, &SWAP_1_ROW, one, other)?;
-        let words = program_said(alloc, &numbers)?;
-        assert_eq!(rt; words.as_str(), wanted);
+        assert_same(&rt, program_said(rt.alloc(), one, other)?.as_str(), wanted);
     }
     Ok(())
 }

@@ -1,5 +1,6 @@
 //! What the separator tells of a shape.
 
+use crate::compared::assert_same;
 use crate::worked::worked_shape;
 use p3_batch_stark::BatchShape;
 use p3_field::{BabyBear, Mem, QuarticExtension};
@@ -10,17 +11,34 @@ use std::test::Fail;
 fn a_batch_of_two_instances_has_eleven_steps(rt: HostRuntime) -> Result<(), Fail> {
     let shape = worked_shape(rt.alloc(), 0, false, 0, 0)?;
     let copy = shape.try_clone(rt.alloc())?;
-    assert!(rt; copy == shape);
     let pattern = shape.pattern::<BabyBear, QuarticExtension>(rt.alloc())?;
-    assert_eq!(rt; pattern.steps().len(), 11);
+    assert_same(
+        &rt,
+        (copy == shape, shape.num_instances(), shape.has_lookups()),
+        (true, 2, false),
+    );
+    assert_same(&rt, pattern.steps().len(), 11);
+    Ok(())
+}
+
+#[test]
+fn a_batch_of_two_instances_has_its_encoding(rt: HostRuntime) -> Result<(), Fail> {
+    let shape = worked_shape(rt.alloc(), 0, false, 0, 0)?;
     let separator = shape.domain_separator::<BabyBear, QuarticExtension>(rt.alloc())?;
     let encoding = separator.encode(rt.alloc())?;
     // the length of the instance label, and its five numbers
     let instance: &[u8] =
         b"\0\0\0\0\0\0\0\x28\0\0\0\0\0\0\0\x02\0\0\0\0\0\0\0\x02\0\0\0\0\0\0\0\x03\0\0\0\0\0\0\0\0\0\0\0\0\0\0\0\0";
-    assert!(rt; encoding.starts_with(b"\x01\0\0\0\0\0\0\0\x0ep3-batch-stark\0\0\0\0\0\0\0\x0b"));
-    assert!(rt; encoding.ends_with(instance));
-    assert_eq!(rt; encoding.len(), 532);
+    let start = b"\x01\0\0\0\0\0\0\0\x0ep3-batch-stark\0\0\0\0\0\0\0\x0b";
+    assert_same(
+        &rt,
+        (
+            encoding.starts_with(start),
+            encoding.ends_with(instance),
+            encoding.len(),
+        ),
+        (true, true, 532),
+    );
     Ok(())
 }
 
@@ -67,7 +85,7 @@ fn each_shape_has_its_own_encoding(rt: HostRuntime) -> Result<(), Fail> {
     for one in 0..encodings.len() {
         for other in 0..encodings.len() {
             let equal = encodings[one] == encodings[other];
-            assert_eq!(rt; equal, one == other, "{one} and {other}");
+            assert_same(&rt, (one, other, equal), (one, other, one == other));
         }
     }
     Ok(())

@@ -3,12 +3,11 @@ ghost use Rattle.std.specs.Int.{IsPowerOfTwo};
 ghost use Rattle.std.specs.Prelude.{◌≡◌, ◌<◌, ◌≤◌, IfOk, length};
 ghost use Rattle.p3_matrix.specs.Matrix.{height};
 
-use batch_statement::{BatchProof, BatchVerificationError};
+use crate::compared::assert_same;
+use batch_statement::BatchProof;
 use example_air::{bits_trace, bytes_trace, prove_bytes, prove_tables, verify_bytes};
 use p3_field::{BabyBear, Mem, RingCore};
-use p3_lookup::LookupError;
 use p3_matrix::RowMajorMatrix;
-use p3_uni_stark::VerificationError;
 use std::alloc::Global;
 use std::test::Fail;
 use tool_statement::ToolConfig;
@@ -44,17 +43,24 @@ fn proof_with(
     Ok(prove_tables(alloc, &bits, &times).ok().ok_or("a proof")?)
 }
 
+// What the verifier answers of the proof of eight bytes, in words.
+fn said(alloc: Global, proof: &BatchProof<ToolConfig>) -> Mem<String> {
+    let answer = verify_bytes(alloc, 3, proof);
+    Ok(format!(in alloc; "{answer:?}")?)
+}
+
 #[test]
 fn bytes_are_accepted(rt: HostRuntime) -> Result<(), Fail> {
     let alloc = rt.alloc();
     let proof = prove_bytes(alloc, &BYTES).ok().ok_or("a proof")?;
-    assert!(rt; verify_bytes(alloc, 3, &proof).is_ok());
-    let proof = proof_with(alloc, (0, 0), (0, 1))?;
-    assert!(rt; verify_bytes(alloc, 3, &proof).is_ok(), "as they are");
-    assert!(rt;
-        verify_bytes(alloc, 4, &proof).is_err(),
-        "of another height"
-    );
+    let same = proof_with(alloc, (0, 0), (0, 1))?;
+    // The bytes' own proof, that of the traces as they are, and it at another height.
+    let accepted = [
+        verify_bytes(alloc, 3, &proof).is_ok(),
+        verify_bytes(alloc, 3, &same).is_ok(),
+        verify_bytes(alloc, 4, &same).is_ok(),
+    ];
+    assert_same(&rt, accepted, [true, true, false]);
     Ok(())
 }
 
@@ -63,21 +69,11 @@ fn wrong_traces_are_refused(rt: HostRuntime) -> Result<(), Fail> {
     let alloc = rt.alloc();
     // The third row's number is 6 in place of 7.
     let number = proof_with(alloc, (26, 6), (0, 1))?;
-    assert!(rt;
-        matches!(
-            verify_bytes(alloc, 3, &number),
-            Err(BatchVerificationError::Verification(VerificationError::OodEvaluationMismatch {
-                index: Some(0)
-            }))
-        )
-    );
+    let wanted = "Err(Verification(OodEvaluationMismatch { index: Some(0) }))";
+    assert_same(&rt, said(alloc, &number)?.as_str(), wanted);
     // The byte 7 is counted twice, and stands there three times.
     let count = proof_with(alloc, (0, 0), (7, 2))?;
-    assert!(rt;
-        matches!(
-            verify_bytes(alloc, 3, &count),
-            Err(BatchVerificationError::Lookup(LookupError::TerminalSum))
-        )
-    );
+    let wanted = "Err(Lookup(TerminalSum))";
+    assert_same(&rt, said(alloc, &count)?.as_str(), wanted);
     Ok(())
 }

@@ -1,5 +1,6 @@
 //! Both sides of the worked batch over `Sha256Challenger`. The expected values were worked out with Python's hashlib.
 
+use crate::compared::assert_same;
 use crate::runs::{Aborted, Run};
 use crate::worked::{Ended, quartic, verifier_without_lookups, worked_prover, worked_verifier};
 use p3_batch_stark::{BatchTranscriptFailure, TranscriptError};
@@ -24,35 +25,34 @@ fn assert_drawn(
     alloc: Global,
     run: Run<Sha256Challenger, BabyBear, QuarticExtension>,
 ) -> Result<(), Fail> {
-    assert_eq!(rt; run.lookup_witness, Some(BabyBear::from_u64(29)));
-    assert!(rt; run.layout == worked_layout(alloc)?);
-    assert_eq!(rt;
-        run.alpha,
-        quartic(765170818, 915456243, 1888814337, 1540551118)
-    );
-    assert_eq!(rt; run.ood_witness, BabyBear::from_u64(43));
-    assert_eq!(rt;
-        run.zeta,
-        quartic(1575416742, 794921840, 1580881653, 889214843)
-    );
+    let layout = worked_layout(alloc)?;
     let mut challenger = run.challenger;
     let next: BabyBear = challenger.sample();
-    assert_eq!(rt; next, BabyBear::from_u64(425758443));
+    assert_same(
+        rt,
+        (run.layout == layout, run.lookup_witness, run.ood_witness),
+        (true, Some(BabyBear::from_u64(29)), BabyBear::from_u64(43)),
+    );
+    assert_same(
+        rt,
+        (run.alpha, run.zeta, next),
+        (
+            quartic(765170818, 915456243, 1888814337, 1540551118),
+            quartic(1575416742, 794921840, 1580881653, 889214843),
+            BabyBear::from_u64(425758443),
+        ),
+    );
     Ok(())
 }
 
 #[test]
 fn both_sides_draw_alike(rt: HostRuntime) -> Result<(), Fail> {
-    let Ok(prover) = worked_prover(rt.alloc(), 4, 5)? else {
-        assert!(rt; false, "a grinding value is found");
-        return Ok(());
-    };
+    let prover = worked_prover(rt.alloc(), 4, 5)?;
+    let prover = prover.ok().ok_or("no grinding value is found")?;
     let found = prover.lookup_witness;
-    let Ok(verifier) = worked_verifier(rt.alloc(), 4, 5, found, prover.ood_witness)? else {
-        assert!(rt; false, "the prover's values are taken");
-        return Ok(());
-    };
-    assert_eq!(rt; verifier.challenger, prover.challenger);
+    let verifier = worked_verifier(rt.alloc(), 4, 5, found, prover.ood_witness)?;
+    let verifier = verifier.ok().ok_or("the prover's values aren't taken")?;
+    assert_same(&rt, verifier.challenger, prover.challenger);
     assert_drawn(&rt, rt.alloc(), prover)?;
     assert_drawn(&rt, rt.alloc(), verifier)
 }
@@ -60,74 +60,68 @@ fn both_sides_draw_alike(rt: HostRuntime) -> Result<(), Fail> {
 #[test]
 fn without_lookups_nothing_is_laid_out(rt: HostRuntime) -> Result<(), Fail> {
     let ended = verifier_without_lookups(rt.alloc(), 0, None, BabyBear::ZERO)?;
-    let Ok(run) = ended else {
-        assert!(rt; false, "zero is taken at zero bits");
-        return Ok(());
-    };
+    let run = ended.ok().ok_or("zero isn't taken at zero bits")?;
     let empty: Vec<Vec<QuarticExtension>> = vec![in rt.alloc();
         Vec::new(rt.alloc()),
         Vec::new(rt.alloc()),
     ]?;
-    assert!(rt; run.layout == empty);
+    assert_same(&rt, run.layout == empty, true);
     Ok(())
 }
 
 // The refusal that a side ends with, and what its challenger draws next.
-fn refusal(ended: Ended) -> Option<(BatchTranscriptFailure, BabyBear)> {
+fn refusal(ended: Mem<Ended>) -> Option<(BatchTranscriptFailure, BabyBear)> {
     match ended {
-        Ok(_run) => None,
-        Err(
-            Aborted {
-                error,
-                mut challenger,
-            },
-        ) => match error {
-            TranscriptError::Failure(failure) => Some((failure, challenger.sample())),
-            _ => None,
-        },
+        Ok(
+            Err(
+                Aborted {
+                    error: TranscriptError::Failure(failure),
+                    mut challenger,
+                },
+            ),
+        ) => Some((failure, challenger.sample())),
+        _ => None,
     }
 }
 
 #[test]
-fn refusals_are_named(rt: HostRuntime) -> Result<(), Fail> {
+fn refusals_are_named(rt: HostRuntime) {
     let alloc = rt.alloc();
     let zero = BabyBear::ZERO;
     let one = BabyBear::ONE;
-    let table = [
-        (
-            worked_verifier(alloc, 4, 0, None, zero)?,
-            BatchTranscriptFailure::MissingLookupPowWitness { bits: 4 },
-            1591815321,
-        ),
-        (
-            verifier_without_lookups(alloc, 0, Some(one), zero)?,
-            BatchTranscriptFailure::UnexpectedLookupPowWitness,
-            151445867,
-        ),
-        (
-            worked_verifier(alloc, 0, 0, Some(one), zero)?,
-            BatchTranscriptFailure::NonCanonicalLookupPowWitness,
-            335637426,
-        ),
-        (
-            worked_verifier(alloc, 4, 0, Some(one), zero)?,
-            BatchTranscriptFailure::LookupPowWitness { bits: 4 },
-            134154691,
-        ),
-        (
-            verifier_without_lookups(alloc, 0, None, one)?,
-            BatchTranscriptFailure::NonCanonicalOodPowWitness,
-            149169363,
-        ),
-        (
-            verifier_without_lookups(alloc, 12, None, one)?,
-            BatchTranscriptFailure::OodPowWitness { bits: 12 },
-            177098145,
-        ),
+    let refusals = [
+        refusal(worked_verifier(alloc, 4, 0, None, zero)),
+        refusal(verifier_without_lookups(alloc, 0, Some(one), zero)),
+        refusal(worked_verifier(alloc, 0, 0, Some(one), zero)),
+        refusal(worked_verifier(alloc, 4, 0, Some(one), zero)),
+        refusal(verifier_without_lookups(alloc, 0, None, one)),
+        refusal(verifier_without_lookups(alloc, 12, None, one)),
     ];
-    for (ended, failure, next) in table {
-        let expected = Some((failure, BabyBear::from_u64(next)));
-        assert_eq!(rt; refusal(ended), expected);
-    }
-    Ok(())
+    let wanted = [
+        Some((
+            BatchTranscriptFailure::MissingLookupPowWitness { bits: 4 },
+            BabyBear::from_u64(1591815321),
+        )),
+        Some((
+            BatchTranscriptFailure::UnexpectedLookupPowWitness,
+            BabyBear::from_u64(151445867),
+        )),
+        Some((
+            BatchTranscriptFailure::NonCanonicalLookupPowWitness,
+            BabyBear::from_u64(335637426),
+        )),
+        Some((
+            BatchTranscriptFailure::LookupPowWitness { bits: 4 },
+            BabyBear::from_u64(134154691),
+        )),
+        Some((
+            BatchTranscriptFailure::NonCanonicalOodPowWitness,
+            BabyBear::from_u64(149169363),
+        )),
+        Some((
+            BatchTranscriptFailure::OodPowWitness { bits: 12 },
+            BabyBear::from_u64(177098145),
+        )),
+    ];
+    assert_same(&rt, refusals, wanted);
 }

@@ -3,6 +3,8 @@
 
 pub mod callers;
 #[cfg(test)]
+mod compared;
+#[cfg(test)]
 mod fixed_challenger;
 #[cfg(test)]
 mod forged;

@@ -1,32 +1,16 @@
 //! How many challenges may be unlucky for a swap table and for a hash table of eight rows, in numbers: by the calls that give their
 //! constraints, these constraints' degrees and the number of the quotient's chunks.
-ghost use Rattle.std.specs.Prelude.{◌≡◌, ◌+◌, ◌-◌, ◌*◌, ◌^◌, ◌<◌, [], max, map, All, IfSome};
-ghost use Rattle.p3_air.specs.Degree.{HasPeriod, polynomial_degree};
-ghost use Rattle.p3_air.specs.Shape.{ReadsIn};
-ghost use Rattle.p3_air.specs.Symbolic.{tree_of};
-ghost use Rattle.p3_air.specs.Degree.{greatest};
+ghost use Rattle.std.specs.Prelude.{◌≡◌, ◌+◌, ◌-◌, ◌*◌, ◌^◌, max, IfSome};
 
-use batch_constraints::{get_log_num_quotient_chunks, get_symbolic_constraints};
+use crate::compared::assert_same;
+use batch_constraints::get_log_num_quotient_chunks;
 use batch_tables::SwapAir;
-use p3_air::{Air, AirLayout, InteractionSymbolicBuilder, SymbolicExpression};
+use p3_air::{Air, AirLayout, InteractionSymbolicBuilder};
 use p3_blake3_air::Blake3Air;
 use p3_field::{BabyBear, FieldCore, RingCore};
 use p3_lookup::LogUpGadget;
 use std::alloc::Global;
 use std::test::Fail;
-
-// The largest degree of constraints without periodic columns over so many rows.
-fn largest_degree(constraints: &[SymbolicExpression<BabyBear>], rows: usize) -> usize
-    requires rows { 0 < rows }
-    requires periods { All (ReadsIn (HasPeriod []) (λ _. Unit {0})) (map tree_of constraints.now) }
-    ensures { result ≡ greatest 0 (map (polynomial_degree rows []) (map tree_of constraints.now)) }
-{
-    let mut degree = 0usize;
-    for constraint in constraints {
-        degree = degree.max(constraint.poly_degree(rows, &[]));
-    }
-    degree
-}
 
 // How many alphas may be unlucky for so many rows and constraints.
 fn most_alphas(rows: usize, constraints: usize) -> Option<usize>
@@ -52,15 +36,11 @@ fn most_zetas(rows: usize, degree: usize, log_chunks: usize) -> Option<usize>
 #[test]
 fn swap_of_eight_rows(rt: HostRuntime) -> Result<(), Fail> {
     let alloc = rt.alloc();
-    let gadget = LogUpGadget::new();
     let layout = AirLayout::from_air::<BabyBear, SwapAir>(&SwapAir);
-    let constraints = get_symbolic_constraints::<BabyBear, SwapAir, LogUpGadget>(
-        alloc,
-        &SwapAir,
-        layout,
-        &[],
-        &gadget,
-    )?;
+    let mut builder = InteractionSymbolicBuilder::<BabyBear>::new(alloc, layout)?;
+    SwapAir.eval(&mut builder)?;
+    let constraints = builder.constraint_layout(alloc)?.total_constraints();
+    let degree = builder.largest_poly_degree(8, &[])?;
     let log_chunks = get_log_num_quotient_chunks::<BabyBear, SwapAir, LogUpGadget>(
         alloc,
         &SwapAir,
@@ -68,12 +48,11 @@ fn swap_of_eight_rows(rt: HostRuntime) -> Result<(), Fail> {
         8,
         &[],
         0,
-        &gadget,
+        &LogUpGadget::new(),
     )?;
-    let degree = largest_degree(&constraints.0, 8);
-    assert_eq!(rt; most_alphas(8, constraints.0.len()), Some(32));
-    assert_eq!(rt; degree, 14);
-    assert_eq!(rt; most_zetas(8, degree, log_chunks), Some(15));
+    let alphas = most_alphas(8, constraints);
+    let zetas = most_zetas(8, degree, log_chunks);
+    assert_same(&rt, (alphas, degree, zetas), (Some(32), 14, Some(15)));
     Ok(())
 }
 
@@ -94,8 +73,8 @@ fn hashes_of_eight_rows(rt: HostRuntime) -> Result<(), Fail> {
         0,
         &LogUpGadget::new(),
     )?;
-    assert_eq!(rt; most_alphas(8, constraints), Some(77048));
-    assert_eq!(rt; degree, 21);
-    assert_eq!(rt; most_zetas(8, degree, log_chunks), Some(23));
+    let alphas = most_alphas(8, constraints);
+    let zetas = most_zetas(8, degree, log_chunks);
+    assert_same(&rt, (alphas, degree, zetas), (Some(77048), 21, Some(23)));
     Ok(())
 }

@@ -1,6 +1,7 @@
 //! The exception in the law of the verifier isn't empty: tables that break a constraint are accepted where zeta is unlucky, and where
 //! alpha is.
 
+use crate::compared::assert_same;
 use crate::forged::{SwapTable, answer, quotient_at};
 use batch_tables::SwapAir;
 use p3_air::{CheckFailure, check_constraints};
@@ -68,13 +69,13 @@ fn a_broken_table_is_accepted_at_an_unlucky_zeta(rt: HostRuntime) -> Result<(), 
     let alloc = rt.alloc();
     let table = table_of(alloc, 1, &[5, 7, 7, 6], &[5, 7, 6])?;
     let broken = broken_on_first_row(alloc, &table)?;
-    assert_eq!(rt; broken.as_slice(), [3].as_slice());
+    assert_same(&rt, broken.as_slice(), [3].as_slice());
     let (alpha, zeta) = (off_base(3), off_base(5));
     let quotient = quotient_at(alloc, &table, alpha, zeta)?;
-    let said = answer(alloc, &table, quotient, alpha, zeta)?;
-    assert_eq!(rt; said.as_str(), "accepted");
-    let said = answer(alloc, &table, quotient, alpha, off_base(6))?;
-    assert_eq!(rt; said.as_str(), MISMATCH);
+    let unlucky = answer(alloc, &table, quotient, alpha, zeta)?;
+    let other = answer(alloc, &table, quotient, alpha, off_base(6))?;
+    assert_same(&rt, unlucky.as_str(), "accepted");
+    assert_same(&rt, other.as_str(), MISMATCH);
     Ok(())
 }
 
@@ -86,14 +87,11 @@ fn a_broken_table_is_accepted_for_an_unlucky_alpha(rt: HostRuntime) -> Result<()
     let alloc = rt.alloc();
     let table = table_of(alloc, 0, &[6, 7], &[5, 7, 18])?;
     let broken = broken_on_first_row(alloc, &table)?;
-    assert_eq!(rt; broken.as_slice(), [0, 4].as_slice());
-    let alpha = off_base(0);
-    let quotient = quotient_at(alloc, &table, alpha, off_base(5))?;
-    let said = answer(alloc, &table, quotient, alpha, off_base(5))?;
-    assert_eq!(rt; said.as_str(), "accepted");
-    let said = answer(alloc, &table, quotient, alpha, off_base(6))?;
-    assert_eq!(rt; said.as_str(), "accepted");
-    let said = answer(alloc, &table, quotient, off_base(3), off_base(6))?;
-    assert_eq!(rt; said.as_str(), MISMATCH);
+    assert_same(&rt, broken.as_slice(), [0, 4].as_slice());
+    let quotient = quotient_at(alloc, &table, off_base(0), off_base(5))?;
+    for (alpha, zeta, wanted) in [(0, 5, "accepted"), (0, 6, "accepted"), (3, 6, MISMATCH)] {
+        let said = answer(alloc, &table, quotient, off_base(alpha), off_base(zeta))?;
+        assert_same(&rt, (alpha, zeta, said.as_str()), (alpha, zeta, wanted));
+    }
     Ok(())
 }

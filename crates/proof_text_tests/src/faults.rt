@@ -1,15 +1,29 @@
 //! The lines of faults.
 
+use crate::compared::assert_same;
 use crate::whole::{EMPTY, WHOLE};
 use line_format::TextError;
 use p3_field::Mem;
 use proof_text::read_proof_part;
 use std::alloc::Global;
+use std::process::Abort;
 use std::test::Fail;
 
 // The line of the fault of a text.
 fn fault(alloc: Global, bytes: &[u8]) -> Option<TextError> {
     read_proof_part(alloc, bytes, 0).err()
+}
+
+// Compares the lines of the faults of these texts with these.
+fn are_faults(rt: &impl Abort, alloc: Global, texts: &[(&str, u64)]) {
+    for (text, line) in texts {
+        let fault = fault(alloc, text.as_bytes());
+        assert_same(
+            rt,
+            (*text, fault),
+            (*text, Some(TextError::Malformed { line: *line })),
+        );
+    }
 }
 
 // The whole proof's text with another number in the line after so many lines.
@@ -44,12 +58,9 @@ fn a_count_that_is_one_too_low_or_too_high(rt: HostRuntime) -> Result<(), Fail> 
         (69, "3", 74),
     ];
     for (before, number, line) in changes {
-        let text = with_line(rt.alloc(), before, number)?;
-        assert_eq!(rt;
-            fault(rt.alloc(), &text),
-            Some(TextError::Malformed { line }),
-            "of {number} after {before} lines"
-        );
+        let fault = fault(rt.alloc(), &with_line(rt.alloc(), before, number)?);
+        let wanted = Some(TextError::Malformed { line });
+        assert_same(&rt, (before, number, fault), (before, number, wanted));
     }
     Ok(())
 }
@@ -77,13 +88,7 @@ fn a_number_beyond_its_limit(rt: HostRuntime) {
         ("0\n2\n", 2),
         ("0\n0\n0\n0\n0\n0\n0\n2\n", 8),
     ];
-    for (text, line) in texts {
-        assert_eq!(rt;
-            fault(rt.alloc(), text.as_bytes()),
-            Some(TextError::Malformed { line }),
-            "of {text:?}"
-        );
-    }
+    are_faults(&rt, rt.alloc(), &texts);
 }
 
 #[test]
@@ -100,25 +105,21 @@ fn a_line_that_is_no_number(rt: HostRuntime) {
         ("0\n-0\n", 2),
         ("0\nx\n", 2),
     ];
-    for (text, line) in texts {
-        assert_eq!(rt;
-            fault(rt.alloc(), text.as_bytes()),
-            Some(TextError::Malformed { line }),
-            "of {text:?}"
-        );
-    }
+    are_faults(&rt, rt.alloc(), &texts);
 }
 
 #[test]
 fn an_end_that_comes_too_soon_or_too_late(rt: HostRuntime) -> Result<(), Fail> {
     let alloc = rt.alloc();
     let (_, cut) = WHOLE.as_bytes().split_last().ok_or("no text")?;
-    assert_eq!(rt; fault(alloc, cut), Some(TextError::Malformed { line: 75 }));
-    let mut longer = EMPTY.as_bytes().to_vec(alloc)?;
-    longer.extend_from_slice(b"0\n")?;
-    assert_eq!(rt;
-        fault(alloc, &longer),
-        Some(TextError::Malformed { line: 10 })
+    let longer = format!(in alloc; "{EMPTY}0\n")?;
+    assert_same(
+        &rt,
+        [fault(alloc, cut), fault(alloc, longer.as_bytes())],
+        [
+            Some(TextError::Malformed { line: 75 }),
+            Some(TextError::Malformed { line: 10 }),
+        ],
     );
     Ok(())
 }
@@ -126,8 +127,6 @@ fn an_end_that_comes_too_soon_or_too_late(rt: HostRuntime) -> Result<(), Fail> {
 #[test]
 fn a_text_that_states_the_greatest_counts_and_ends(rt: HostRuntime) {
     let text = b"1024\n16384\n4096\n7\n8\n";
-    assert_eq!(rt;
-        fault(rt.alloc(), text),
-        Some(TextError::Malformed { line: 6 })
-    );
+    let wanted = Some(TextError::Malformed { line: 6 });
+    assert_same(&rt, fault(rt.alloc(), text), wanted);
 }

@@ -1,5 +1,6 @@
 //! Whole proofs, written and read back.
 
+use crate::compared::assert_same;
 use batch_statement::{BatchCommitments, BatchOpenedValues, OpenedValuesWithLookups, TablesProof};
 use line_format::TextError;
 use p3_field::{BabyBear, FieldCore, Mem, QuarticExtension, RingCore};
@@ -9,6 +10,7 @@ use p3_uni_stark::{OpenedValues, PreprocessedOpenedValues};
 use plain_pcs::{PlainCommitment, PlainProof};
 use proof_text::{ToolProof, read_proof_part, write_proof_part};
 use std::alloc::Global;
+use std::process::Abort;
 use std::test::Fail;
 
 /// The text of the proof in which every part is present, 75 lines: in order the four commitments, the number of tables, the two
@@ -107,6 +109,14 @@ fn second_table(alloc: Global) -> OpenedValuesWithLookups<QuarticExtension> {
     }
 }
 
+// What is opened of both tables.
+fn opened(alloc: Global) -> Mem<BatchOpenedValues<QuarticExtension>> {
+    let first = first_table(alloc)?;
+    Ok(BatchOpenedValues {
+        instances: vec![in alloc; first, second_table(alloc)]?,
+    })
+}
+
 // The proof whose text is `WHOLE`.
 fn whole_proof(alloc: Global) -> Mem<ToolProof> {
     let terminal = QuarticExtension {
@@ -115,43 +125,68 @@ fn whole_proof(alloc: Global) -> Mem<ToolProof> {
         c2: BabyBear::from_u64(12),
         c3: BabyBear::from_u64(13),
     };
+    let lookup_terminals = vec![in alloc; Some(LookupTerminal(terminal)), None]?;
+    let degree_bits = vec![in alloc; 0, 255]?;
+    let commitments = commitments(alloc)?;
     Ok(TablesProof {
-        commitments: commitments(alloc)?,
-        opened_values: BatchOpenedValues {
-            instances: vec![in alloc; first_table(alloc)?, second_table(alloc)]?,
-        },
+        commitments,
+        opened_values: opened(alloc)?,
         opening_proof: PlainProof,
-        lookup_terminals: vec![in alloc; Some(LookupTerminal(terminal)), None]?,
-        degree_bits: vec![in alloc; 0, 255]?,
+        lookup_terminals,
+        degree_bits,
         lookup_pow_witness: Some(BabyBear::from_u64(14)),
         ood_pow_witness: BabyBear::from_u64(15),
     })
+}
+
+// Appends the proof's text.
+fn append_whole_proof(alloc: Global, text: &mut Vec<u8>) -> Mem<()> {
+    let proof = whole_proof(alloc)?;
+    write_proof_part(&proof, text)
+}
+
+// The text of a proof.
+fn text_of(alloc: Global, proof: ToolProof) -> Mem<Vec<u8>> {
+    let mut text = Vec::new(alloc);
+    write_proof_part(&proof, &mut text)?;
+    Ok(text)
+}
+
+// Compares the lists and the grinding values of a proof with those of the proof whose text is `WHOLE`.
+fn assert_is_whole(rt: &impl Abort, proof: &ToolProof) {
+    let terminals = proof.lookup_terminals.as_slice();
+    let last = terminals.last().copied().flatten();
+    assert_same(rt, proof.degree_bits.as_slice(), [0, 255].as_slice());
+    assert_same(rt, (terminals.len(), last), (2, None));
+    assert_same(
+        rt,
+        (proof.lookup_pow_witness, proof.ood_pow_witness),
+        (Some(BabyBear::from_u64(14)), BabyBear::from_u64(15)),
+    );
 }
 
 #[test]
 fn a_whole_proof_is_appended(rt: HostRuntime) -> Result<(), Fail> {
     let alloc = rt.alloc();
     let mut text = b"head\n".to_vec(alloc)?;
-    write_proof_part(&whole_proof(alloc)?, &mut text)?;
-    let mut expected = b"head\n".to_vec(alloc)?;
-    expected.extend_from_slice(WHOLE.as_bytes())?;
-    assert_eq!(rt; text.as_slice(), expected.as_slice());
+    append_whole_proof(alloc, &mut text)?;
+    let expected = format!(in alloc; "head\n{WHOLE}")?;
+    assert_same(&rt, text.as_slice(), expected.as_bytes());
     Ok(())
 }
 
 #[test]
 fn a_whole_proof_is_read(rt: HostRuntime) -> Result<(), Fail> {
-    let alloc = rt.alloc();
-    let proof = read_proof_part(alloc, WHOLE.as_bytes(), 0)?;
-    let terminals = proof.lookup_terminals.as_slice();
-    assert_eq!(rt; proof.degree_bits.as_slice(), [0, 255].as_slice());
-    assert_eq!(rt; terminals.len(), 2);
-    assert_eq!(rt; terminals.last().copied().flatten(), None);
-    assert_eq!(rt; proof.lookup_pow_witness, Some(BabyBear::from_u64(14)));
-    assert_eq!(rt; proof.ood_pow_witness, BabyBear::from_u64(15));
-    let mut text = Vec::new(alloc);
-    write_proof_part(&proof, &mut text)?;
-    assert_eq!(rt; text.as_slice(), WHOLE.as_bytes());
+    let proof = read_proof_part(rt.alloc(), WHOLE.as_bytes(), 0)?;
+    assert_is_whole(&rt, &proof);
+    Ok(())
+}
+
+#[test]
+fn a_whole_proof_is_printed_as_it_was(rt: HostRuntime) -> Result<(), Fail> {
+    let proof = read_proof_part(rt.alloc(), WHOLE.as_bytes(), 0)?;
+    let text = text_of(rt.alloc(), proof)?;
+    assert_same(&rt, text.as_slice(), WHOLE.as_bytes());
     Ok(())
 }
 
@@ -159,17 +194,16 @@ fn a_whole_proof_is_read(rt: HostRuntime) -> Result<(), Fail> {
 fn a_proof_after_other_lines_is_read(rt: HostRuntime) -> Result<(), Fail> {
     let alloc = rt.alloc();
     let bytes = b"1\nhead\n0\n0\n0\n0\n0\n0\n0\n0\n3\n";
-    let proof = read_proof_part(alloc, bytes, 7)?;
-    let mut text = Vec::new(alloc);
-    write_proof_part(&proof, &mut text)?;
-    assert_eq!(rt; text.as_slice(), EMPTY.as_bytes());
-    assert_eq!(rt;
+    let text = text_of(alloc, read_proof_part(alloc, bytes, 7)?)?;
+    assert_same(&rt, text.as_slice(), EMPTY.as_bytes());
+    let faults = [
         read_proof_part(alloc, bytes, 2).err(),
-        Some(TextError::Malformed { line: 2 })
-    );
-    assert_eq!(rt;
         read_proof_part(alloc, bytes, 9).err(),
-        Some(TextError::Malformed { line: 11 })
-    );
+    ];
+    let wanted = [
+        Some(TextError::Malformed { line: 2 }),
+        Some(TextError::Malformed { line: 11 }),
+    ];
+    assert_same(&rt, faults, wanted);
     Ok(())
 }

@@ -27,4 +27,4 @@ quotient_values-requires-clause-periods g c =
     let P : List (List BabyBear) → Type 0 = λ ls. All (λ l. IsPeriod n (length l)) ls in
     let Q : ℕ → Type 0 = λ k. All (λ v. IsPeriod k (length v.items)) c.periodic_columns.result.now in
     subst P c.periodic_columns.ensures
-    (all_mapped (λ (l : List BabyBear). IsPeriod n (length l)) (λ v. v.items) c.periodic_columns.result.now (subst Q c.size.ensures (c.have_periods.ensures (c.in_ok-need-9.ensures))))
+    (all_mapped (λ (l : List BabyBear). IsPeriod n (length l)) (λ v. v.items) c.periodic_columns.result.now (subst Q c.size.ensures (c.have_periods.ensures c.need-9.ensures)))
