@@ -44,7 +44,7 @@ fn a_point_of_a_pair(rt: HostRuntime) {
     assert_same(&rt, &point.point, &8);
 }
 
-// A copy of the request of this data at the points 3 and 4.
+// A copy of the opening request of this data at the points 3 and 4.
 fn copied_request(alloc: Global, prover_data: &u64) -> Mem<OpeningRequest<'_, u64, u64>> {
     let points = vec![in alloc; vec![in alloc; 3u64, 4]?]?;
     let request: OpeningRequest<'_, u64, u64> = (prover_data, points).into();

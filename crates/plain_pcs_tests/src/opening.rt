@@ -50,7 +50,7 @@ fn the_polynomial_of_a_column(rt: HostRuntime) {
     assert_values(&rt, polynomial.as_slice(), &wanted);
 }
 
-// Opens the column at 3, by a copy of the request.
+// Opens the column at 3, by a copy of the opening request.
 fn opened_at_three(
     alloc: Global,
     scheme: &Plain,

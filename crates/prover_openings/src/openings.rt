@@ -57,7 +57,7 @@ fn opened_requests<SC: StarkGenericConfig>(
     }
 }
 
-// The place of the request for preprocessed matrices, where their prover data is there.
+// The place of the opening request for preprocessed matrices, where their prover data is there.
 fn place_of<D>(preprocessed: Option<&D>) -> Option<usize> {
     match preprocessed {
         None => None,
