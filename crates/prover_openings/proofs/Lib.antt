@@ -7,4 +7,5 @@ pub mod Places
 pub mod AllAsked
 pub mod Sized
 pub mod Taking
+pub mod Unchanged
 pub mod Whole

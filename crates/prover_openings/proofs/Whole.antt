@@ -113,6 +113,13 @@ module _ {S F E C D P R : Type 0} (k : ProverBackend S F E C D P R) (b : Batch S
         of_own (λ w z. AreAsked k b w z (asked_of b kept w z) × k.proves (opening_state b.setting b.prover b.statement b.traces b.degree_bits w z) (asked_of b kept w z) proof)
         (own_asked, subst (λ q. k.proves (opening_state b.setting b.prover b.statement b.traces b.degree_bits Y.lookup_witness Y.ood_witness) q proof) same state)
 
+    -- and where it leaves the challenger
+    pub left_of_batch : (after : S → List (Request D E) → P → S) (left : S) → left ≡ after s0 requests proof
+        → (w : Option F) (z : F) → IsGroundOf b w z → left ≡ after (opening_state b.setting b.prover b.statement b.traces b.degree_bits w z) (asked_of b kept w z) proof
+    left_of_batch after left h =
+        of_own (λ w z. left ≡ after (opening_state b.setting b.prover b.statement b.traces b.degree_bits w z) (asked_of b kept w z) proof)
+        (h ∙ (λ i. after (Y.state_is i) (same i) proof))
+
     module _ (size_of : CosetData F → ℕ) (sizes_are : (d : CosetData F) → size_of d ≡ 2 ^ d.log_size) (values : List (List (List (List E)))) (opens : S → List (CommitmentClaim E C (CosetData F)) → P → Type 0)
         (opening : (held : List (OpenedCommitment C F)) → AreOpenedCommitments k.holds requests held → IsOpening b.setting.extension.ring b.setting.extension.embed size_of k.excludes (λ claims. opens s0 claims proof) requests values held) where
       on_own : (held : List (OpenedCommitment C F)) → AreOpenedCommitments k.holds own_requests held → IsOpening b.setting.extension.ring b.setting.extension.embed size_of k.excludes (λ claims. opens s0 claims proof) own_requests values held

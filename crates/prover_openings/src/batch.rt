@@ -1,5 +1,5 @@
 //! The openings of a batch, as its prover makes them.
-ghost use Rattle.std.specs.Prelude.{◌≡◌, ℕ, false, List, Option, IfOk, map, option_map};
+ghost use Rattle.std.specs.Prelude.{◌≡◌, ◌⊎◌, ℕ, false, List, Option, IfErr, IfOk, map, option_map};
 ghost use Rattle.p3_field.specs.Poly.{tabulate};
 ghost use Rattle.batch_proving.specs.Batch.{HasProverData, IsTracedAll, batch_of, preprocessed_all, table_at, table_count};
 ghost use Rattle.batch_proving.specs.Proving.{AreAsked, AvoidsExcluded, IsGroundOf};
@@ -33,7 +33,8 @@ use std::alloc::Global;
 /// challenger's state are those of the batch's script.
 ///
 /// What is opened is what an honest proof opens (`opened`); the proof is what the backend gives for the requests that an honest
-/// prover makes (`proves`), and is taken for the claims of the honest proof, unless a point is excluded (`taken`).
+/// prover makes (`proves`), and is taken for the claims of the honest proof, unless a point is excluded (`taken`). The challenger is
+/// left where the backend leaves it after these requests (`after`); an error but out of memory leaves it as it was (`unchanged`).
 ///
 /// `Pcs` comes exactly where the backend refuses these requests, with the phase `Opening`; the only other error is running out
 /// of memory. No opened value is copied.
@@ -84,6 +85,16 @@ pub fn open_batch<SC: StarkGenericConfig, A: Air<Val<SC>>>(
           permutation = option_map (λ d. d.now) permutation.entry;
         }) w z)
         × SC.Pcs.proves (SC.pcs_of config.now) (opening_state b.setting b.prover b.statement b.traces b.degree_bits w z)
+        (asked_of b (record {
+          main = main.now;
+          quotient = quotient.now;
+          preprocessed = option_map (λ d. d.now) preprocessed.entry;
+          permutation = option_map (λ d. d.now) permutation.entry;
+        }) w z) r.1) }
+    ensures unchanged { IfErr result (λ e. e ≡ ProvingError.OutOfMemory ⊎ challenger.new ≡ challenger.old) }
+    ensures after { let b = batch_of (⟦<SC as Settings>⟧.setting config.now) (⟦<SC as ProverSettings>⟧.prover config.now) A.declaration A.trees instances.now common.now in
+        IfOk result (λ r. (w : Option SC.Val) (z : SC.Val) → IsGroundOf b w z
+        → challenger.new ≡ SC.Pcs.after_open (SC.pcs_of config.now) (opening_state b.setting b.prover b.statement b.traces b.degree_bits w z)
         (asked_of b (record {
           main = main.now;
           quotient = quotient.now;

@@ -1,5 +1,5 @@
 //! The openings of a batch.
-ghost use Rattle.std.specs.Prelude.{◌≡◌, ℕ, ◌^◌, false, List, Option, All, IfOk, map, option_map};
+ghost use Rattle.std.specs.Prelude.{◌≡◌, ◌⊎◌, ℕ, ◌^◌, false, List, Option, All, IfErr, IfOk, map, option_map};
 ghost use Rattle.p3_field.specs.Poly.{tabulate};
 ghost use Rattle.p3_commit.specs.Commitments.{AreOpenedCommitments, OpenedCommitment, IsOpening, nested};
 ghost use Rattle.batch_proving.specs.Batch.{HasProverData, IsTracedAll, batch_of, log_parts_at, preprocessed_all, table_at, table_count};
@@ -39,6 +39,8 @@ fn opened_requests<SC: StarkGenericConfig>(
     requires plain { SC.Pcs.ZK ≡ false }
     requires made { All (λ r. SC.Pcs.made (SC.pcs_of config.now) r.prover_data) requests.items }
     ensures verdict { IsOpenedBy (SC.Pcs.open_fault (SC.pcs_of config.now) requests.entry.items) result }
+    ensures unchanged { IfErr result (λ e. e ≡ ProvingError.OutOfMemory ⊎ challenger.new ≡ challenger.old) }
+    ensures after { IfOk result (λ w. challenger.new ≡ SC.Pcs.after_open (SC.pcs_of config.now) challenger.old requests.entry.items w.1) }
     ensures proof { IfOk result (λ w. SC.Pcs.proves (SC.pcs_of config.now) challenger.old requests.entry.items w.1) }
     ensures opening { IfOk result (λ w. (held : List (OpenedCommitment SC.Pcs.Commitment SC.Val)) → AreOpenedCommitments (SC.Pcs.holds (SC.pcs_of config.now)) requests.entry.items held
         → IsOpening SC.Challenge.ring SC.Challenge.embed ⟦<<SC::Pcs as Pcs<SC::Challenge, SC::Challenger>>::Domain as PolynomialSpace>⟧.points
@@ -58,7 +60,9 @@ fn opened_requests<SC: StarkGenericConfig>(
 }
 
 // The place of the opening request for preprocessed matrices, where their prover data is there.
-fn place_of<D>(preprocessed: Option<&D>) -> Option<usize> {
+fn place_of<D>(preprocessed: Option<&D>) -> Option<usize>
+    ensures { result ≡ option_map (λ d. 2) preprocessed.entry }
+{
     match preprocessed {
         None => None,
         Some(_) => Some(2),
@@ -119,6 +123,16 @@ pub(crate) fn open_counted<SC: StarkGenericConfig, A: Air<Val<SC>>>(
           permutation = option_map (λ d. d.now) permutation.entry;
         }) w z)
         × SC.Pcs.proves (SC.pcs_of config.now) (opening_state b.setting b.prover b.statement b.traces b.degree_bits w z)
+        (asked_of b (record {
+          main = main.now;
+          quotient = quotient.now;
+          preprocessed = option_map (λ d. d.now) preprocessed.entry;
+          permutation = option_map (λ d. d.now) permutation.entry;
+        }) w z) r.1) }
+    ensures unchanged { IfErr result (λ e. e ≡ ProvingError.OutOfMemory ⊎ challenger.new ≡ challenger.old) }
+    ensures after { let b = batch_of (⟦<SC as Settings>⟧.setting config.now) (⟦<SC as ProverSettings>⟧.prover config.now) A.declaration A.trees instances.now common.now in
+        IfOk result (λ r. (w : Option SC.Val) (z : SC.Val) → IsGroundOf b w z
+        → challenger.new ≡ SC.Pcs.after_open (SC.pcs_of config.now) (opening_state b.setting b.prover b.statement b.traces b.degree_bits w z)
         (asked_of b (record {
           main = main.now;
           quotient = quotient.now;

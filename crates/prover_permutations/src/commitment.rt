@@ -1,5 +1,5 @@
 //! The commitment to the permutation columns of a batch.
-ghost use Rattle.std.specs.Prelude.{IfOk};
+ghost use Rattle.std.specs.Prelude.{◌≡◌, [], None, Ok, IfOk};
 ghost use Rattle.batch_proving.specs.Batch.{CommitsToSome};
 ghost use Rattle.batch_proving.specs.Proving.{fault_of_some};
 ghost use Rattle.batch_proving.specs.Verdict.{IsProverVerdict};
@@ -19,14 +19,16 @@ use prover_traces::commit_matrices;
 use std::alloc::Global;
 
 /// The commitment to the permutation columns of a batch, as `permutation_columns` gives them, and the prover data of them
-/// (`prove_batch` of `p3-batch-stark`). Where no table has lookups there is none, and nothing is asked of the backend. The answer is `Pcs`
-/// with the phase `PermutationCommitment` exactly where the backend refuses. Only out of memory is free.
+/// (`prove_batch` of `p3-batch-stark`). Where no table has lookups there is none, nothing is asked of the backend, and no memory is wanted
+/// (`none`). Else the answer is `Pcs` with the phase `PermutationCommitment` exactly where the backend refuses, and only out of memory is
+/// free.
 pub fn commit_permutations<SC: StarkGenericConfig>(
     alloc: Global,
     config: &SC,
     columns: Vec<(Domain<SC>, RowMajorMatrix<Val<SC>>)>,
 ) -> Result<Option<(Commitment<SC>, Committed<SC>)>, ProvingError<PcsProverError<SC>>>
     ensures verdict { IsProverVerdict (commit_part ProverPhase.PermutationCommitment (fault_of_some (SC.Pcs.commit_fault (SC.pcs_of config.now))) columns.items) result }
+    ensures none { columns.items ≡ [] → result ≡ Ok None }
     ensures committed { IfOk result (CommitsToSome (⟦<SC as ProverSettings>⟧.commits_to config.now) columns.items) }
 {
     if columns.is_empty() {

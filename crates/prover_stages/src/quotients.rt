@@ -90,6 +90,7 @@ pub(crate) fn quotient_stage<SC: StarkGenericConfig, A: Air<Val<SC>>>(
     ensures state { let b = batch_of (⟦<SC as Settings>⟧.setting config.now)
         (⟦<SC as ProverSettings>⟧.prover config.now) A.declaration A.trees instances.now common.now in IfOk result (λ r. transcript.new.state ≡ state_of_opening b lookups.now.witness r.witness) }
     ensures turn { IfOk result (λ r. transcript.new.remaining ≡ from_opening SC.Challenge.DIMENSION transcript.new.shape) }
+    ensures shape { IfOk result (λ r. transcript.new.shape ≡ transcript.old.shape) }
 {
     let (commitment, data) = commit_quotients(
         alloc,

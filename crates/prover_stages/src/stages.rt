@@ -1,8 +1,8 @@
 //! The stages of a batch's proof between the commitment to its traces and the openings, along the prover's transcript.
 ghost use Rattle.std.specs.Prelude.{◌≡◌, ◌++◌, ◌^◌, ◌<◌, false, IfOk, map, option_map};
 ghost use Rattle.p3_field.specs.Checks.{in_turn};
-ghost use Rattle.batch_transcript.specs.BatchScript.{from_lookup};
-ghost use Rattle.batch_proving.specs.Batch.{CommitsToSome, HasProverData, IsTracedAll, all_chunks, all_permutations, batch_of, main_matrices, preprocessed_all, table_count};
+ghost use Rattle.batch_transcript.specs.BatchScript.{from_lookup, from_opening};
+ghost use Rattle.batch_proving.specs.Batch.{CommitsToSome, HasProverData, IsTracedAll, all_challenges, all_chunks, all_permutations, batch_of, folding, main_matrices, preprocessed_all, table_count};
 ghost use Rattle.batch_proving.specs.Proving.{HaveFractionsFor, IsGroundOf, extension_part, fraction_part, lookup_part, ood_part, permutation_part, quotient_part};
 ghost use Rattle.batch_proving.specs.Verdict.{IsProverAnswer};
 ghost use Rattle.prover_stages.specs.Stages.{main_of, pair_state, permutation_commitment, point_of, quotient_of, shape_of, state_of_opening, terminals_of};
@@ -34,8 +34,9 @@ pub type Stages<SC> = (
 ///
 /// The answer is the refusal of the first check that fails of those of these stages, in order (`verdict`): `WitnessNotFound` of `Lookup`,
 /// `LookupDenominatorZero`, `Pcs` of `PermutationCommitment`, of `QuotientEvaluations` and of `QuotientCommitment`, `WitnessNotFound` of
-/// `Ood`. Only out of memory is free. Where none fails it is what the honest proof is made of, for the values that are ground, and the
-/// transcript stands where the openings are proved (`state`).
+/// `Ood`. Only out of memory is free. Where none fails it is what the honest proof is made of, for the values that are ground, with the
+/// lookups' challenges and that which folds the constraints (`challenges`, `alpha`), and the transcript stands where the openings are
+/// proved (`state`, `turn`), of the shape that it had (`shape`).
 ///
 /// The backend masks nothing, the batch is traced, the prover data belongs to its commitments, and the transcript stands after the
 /// commitments to the traces, as `bound_transcript` gives it.
@@ -67,6 +68,9 @@ pub fn drawn_stages<SC: StarkGenericConfig, A: Air<Val<SC>>>(
         IsProverAnswer ((lookup_part b ++ (fraction_part b ++ permutation_part k b)) ++ ((in_turn (table_count b) (extension_part k b) ++ quotient_part k b) ++ ood_part b)) result }
     ensures ground { let b = batch_of (⟦<SC as Settings>⟧.setting config.now)
         (⟦<SC as ProverSettings>⟧.prover config.now) A.declaration A.trees instances.now prover_data.now.common in IfOk result (λ r. IsGroundOf b r.0.witness r.1.witness) }
+    ensures challenges { let b = batch_of (⟦<SC as Settings>⟧.setting config.now)
+        (⟦<SC as ProverSettings>⟧.prover config.now) A.declaration A.trees instances.now prover_data.now.common in
+        IfOk result (λ r. map (λ v. v.items) r.0.challenges.items ≡ all_challenges b r.0.witness) }
     ensures terminals { let b = batch_of (⟦<SC as Settings>⟧.setting config.now)
         (⟦<SC as ProverSettings>⟧.prover config.now) A.declaration A.trees instances.now prover_data.now.common in
         IfOk result (λ r. map (option_map (λ t. t.0)) r.0.terminals.items ≡ terminals_of b r.0.witness) }
@@ -83,11 +87,15 @@ pub fn drawn_stages<SC: StarkGenericConfig, A: Air<Val<SC>>>(
         (⟦<SC as ProverSettings>⟧.prover config.now) A.declaration A.trees instances.now prover_data.now.common in IfOk result (λ r. r.1.commitment ≡ quotient_of b r.0.witness) }
     ensures fractions { let b = batch_of (⟦<SC as Settings>⟧.setting config.now)
         (⟦<SC as ProverSettings>⟧.prover config.now) A.declaration A.trees instances.now prover_data.now.common in IfOk result (λ r. HaveFractionsFor b r.0.witness) }
+    ensures alpha { let b = batch_of (⟦<SC as Settings>⟧.setting config.now)
+        (⟦<SC as ProverSettings>⟧.prover config.now) A.declaration A.trees instances.now prover_data.now.common in IfOk result (λ r. r.0.alpha ≡ folding b r.0.witness) }
     ensures zeta { let b = batch_of (⟦<SC as Settings>⟧.setting config.now)
         (⟦<SC as ProverSettings>⟧.prover config.now) A.declaration A.trees instances.now prover_data.now.common in IfOk result (λ r. r.1.zeta ≡ point_of b r.0.witness r.1.witness) }
     ensures state { let b = batch_of (⟦<SC as Settings>⟧.setting config.now)
         (⟦<SC as ProverSettings>⟧.prover config.now) A.declaration A.trees instances.now prover_data.now.common in
         IfOk result (λ r. transcript.new.state ≡ state_of_opening b r.0.witness r.1.witness) }
+    ensures turn { IfOk result (λ r. transcript.new.remaining ≡ from_opening SC.Challenge.DIMENSION transcript.new.shape) }
+    ensures shape { IfOk result (λ r. transcript.new.shape ≡ transcript.old.shape) }
 {
     let common = &prover_data.common;
     let preprocessed = prover_data.prover_only.preprocessed_prover_data.as_ref();

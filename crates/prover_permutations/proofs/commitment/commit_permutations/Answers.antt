@@ -1,4 +1,4 @@
-use Rattle.std.proofs.Common.{◌≡◌, ◌^◌, true, false, vec_len, sym, ◌∙◌, arith}
+use Rattle.std.proofs.Common.{◌≡◌, ◌^◌, true, false, vec_len, length, sym, ◌∙◌, ap, arith}
 use Rattle.p3_commit.specs.Commitments.{IsCommitment}
 use Rattle.p3_field.specs.Domain.{CosetData, point}
 use Rattle.std.proofs.lemmas.Bool.{eqb-true, eq-eqb}
@@ -36,3 +36,17 @@ returns-clause-committed g c =
     let v : vec_len ms ≡ 0 = omega (arith, e, ms.ok.0) in
     let t : true ≡ false = sym (c.is_empty.ensures ∙ eq-eqb (vec_len ms) 0 v) ∙ c.if-is_empty.false in cc)
     c.in_ok-committed.ensures.committed
+
+pub returns-in_err-committed-clause-none : goal.returns-in_err-committed-clause-none
+returns-in_err-committed-clause-none g c = λ e.
+    let ms = c.args.columns in
+    let n : length ms.items ≡ 0 = ap length e in
+    let v : vec_len ms ≡ 0 = omega (arith, n, ms.ok.0) in
+    absurd (let t : true ≡ false = sym (c.is_empty.ensures ∙ eq-eqb (vec_len ms) 0 v) ∙ c.if-is_empty.false in cc)
+
+pub returns-clause-none : goal.returns-clause-none
+returns-clause-none g c = λ e.
+    let ms = c.args.columns in
+    let n : length ms.items ≡ 0 = ap length e in
+    let v : vec_len ms ≡ 0 = omega (arith, n, ms.ok.0) in
+    absurd (let t : true ≡ false = sym (c.is_empty.ensures ∙ eq-eqb (vec_len ms) 0 v) ∙ c.if-is_empty.false in cc)
