@@ -26,9 +26,9 @@ const BAD_INPUT: &[u8] = b"bad input at line ";
 /// The text is built whole before the first write. The word `prove` reads a job and answers it,
 /// the word `verify` reads a proof file and answers it. All others are `Usage` (not in Plonky3).
 ///
-/// `ReadFault` and `WriteFault` come only where the source's or the sink's count of faults rose, `TooLarge` where one byte
-/// more than [`MAX_BYTES`](crate::MAX_BYTES) was read, and `OutOfMemory` where out of memory. What is said of bytes holds of ends
-/// that tell them; of these no run reads more.
+/// `ReadFault` and `WriteFault` come only where the source's or the sink's count of faults rose, and with any other status that count
+/// is as it was. `TooLarge` comes only where one byte more than [`MAX_BYTES`](crate::MAX_BYTES) was read, and `OutOfMemory` where out
+/// of memory. What is said of bytes holds of ends that tell them; of these no run reads more.
 pub fn run<S: Source, K: Sink>(
     alloc: Global,
     words: &[String],
@@ -43,6 +43,10 @@ pub fn run<S: Source, K: Sink>(
     ensures writes_later { K.faults sink.old ≤ K.faults sink.new }
     ensures read_fault { result ≡ Status.ReadFault → Rose (S.faults source.old) (S.faults source.new) }
     ensures write_fault { result ≡ Status.WriteFault → Rose (K.faults sink.old) (K.faults sink.new) }
+
+    // With another status no fault is passed over: the count is as it was.
+    ensures no_read_fault { (result ≡ Status.ReadFault → ⊥) → S.faults source.new ≡ S.faults source.old }
+    ensures no_write_fault { (result ≡ Status.WriteFault → ⊥) → K.faults sink.new ≡ K.faults sink.old }
 
     // What isn't asked stays as it was, whether or not it tells its bytes.
     ensures unread { (NamesSome (map string_bytes words.now) → ⊥) → source.new ≡ source.old }

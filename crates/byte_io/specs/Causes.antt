@@ -1,5 +1,5 @@
 -- Counts of faults.
-use Rattle.std.specs.Prelude.{◌≡◌, ℕ, ◌+◌, ◌-◌, ◌^◌, ◌<◌, ◌≤◌, min, Result, Ok, Err, OnErr, IsErrAnd, ⊤}
+use Rattle.std.specs.Prelude.{◌≡◌, ℕ, ◌+◌, ◌-◌, ◌^◌, ◌<◌, ◌≤◌, min, Result, Ok, Err, OnOk, OnErr, IsErrAnd, ⊤}
 
 -- a count after one more fault: it stops at its last value
 abbrev pub next_count : ℕ → ℕ
@@ -9,10 +9,11 @@ next_count count = min (count + 1) (2 ^ 64 - 1)
 abbrev pub Rose : ℕ → ℕ → Type 0
 Rose before now = next_count before ≤ now
 
--- a count never falls, an error comes only where it rose, and it stays below 2^64
+-- a count never falls, an error comes only where it rose, an `Ok` only where it is as it was, and it stays below 2^64
 pub record HasCause {T E : Type 0} (before now : ℕ) (result : Result T E) : Type 0 where
   pub later : before ≤ now
   pub failed : OnErr result (Rose before now)
+  pub kept : OnOk result (now ≡ before)
   pub bounded : now < 2 ^ 64
 
 -- a call fails, and counts one more fault

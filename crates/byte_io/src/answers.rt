@@ -1,9 +1,11 @@
 //! Std's readers and writers as ends stand on them, and what their calls may answer.
 
-ghost use Rattle.std.specs.Prelude.{◌≡◌, ℕ, List, Result, length, min, Ok, Vec, IsOk, OnOk, ⊤};
+ghost use Rattle.std.specs.Prelude.{◌≡◌, ℕ, List, Result, length, min, drop, Ok, Vec, IsOk, IfErr, OnOk, OnErr, ⊤};
 ghost use Rattle.std.specs.Io.{ReadsAtMost, WritesAtMost};
 ghost use Rattle.std.specs.Io.KnownBytes.{ReadConsumes, WriteAppends};
+ghost use Rattle.std.specs.IoError.{error_kind};
 ghost use Rattle.std.specs.declared.io.Error.{Error};
+ghost use Rattle.std.specs.declared.io.ErrorKind.TheVariants.{OutOfMemory};
 
 use std::alloc::Allocator;
 use std::io;
@@ -61,18 +63,20 @@ pub trait OutputStream: Write {
         ensures answer { answers self.old self.new piece.now result };
 }
 
-/// A vector takes all, or is out of memory.
+/// A vector takes all, or is out of memory and stays as it was.
 impl<A: Allocator> OutputStream for Vec<u8, A> {
-    ghost answers = { λ _ _ piece answer. OnOk answer (answer ≡ Ok (length piece)) };
+    ghost answers = { λ old new piece answer. OnOk answer (answer ≡ Ok (length piece))
+        × OnErr answer (new.items ≡ old.items) × IfErr answer (λ e. error_kind e ≡ OutOfMemory) };
 
     fn write_some(&mut self, piece: &[u8]) -> io::Result<usize> {
         self.write(piece)
     }
 }
 
-/// A slice takes what there is room for, and never fails.
+/// A slice takes what there is room for, never fails, and then begins after what it took.
 impl OutputStream for &mut [u8] {
-    ghost answers = { λ old _ piece answer. answer ≡ Ok (min (length piece) (length old.now)) };
+    ghost answers = { λ old new piece answer. let n = min (length piece) (length old.now) in
+        (answer ≡ Ok n) × (new.now ≡ drop n old.now) };
 
     fn write_some(&mut self, piece: &[u8]) -> io::Result<usize> {
         self.write(piece)

@@ -43,7 +43,7 @@ pub trait Source {
     /// Puts the next bytes into the front of `buf`, and answers their number.
     ///
     /// Zero ends the input: a source that tells its bytes answers it only where none is left.
-    /// `Failed` comes only where the count of faults rose, and such a call takes nothing.
+    /// `Failed` comes only where the count of faults rose, and such a call takes nothing. A call that is `Ok` counts none.
     fn read(&mut self, buf: &mut [u8]) -> Result<usize, Failed>
         requires { 0 < length buf.old }
         ensures bound { ReadsAtMost result buf.new }
@@ -61,7 +61,7 @@ pub trait Sink {
 
     /// Takes some bytes off the front of `piece`, at least one, and answers their number.
     ///
-    /// `Failed` comes only where the count of faults rose, and such a call takes nothing.
+    /// `Failed` comes only where the count of faults rose, and such a call takes nothing. A call that is `Ok` counts none.
     fn write(&mut self, piece: &[u8]) -> Result<usize, Failed>
         requires { 0 < length piece.now }
         ensures bound { WritesAtMost result piece.now }

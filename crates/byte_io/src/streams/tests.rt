@@ -151,6 +151,15 @@ fn a_full_slice_takes_nothing(rt: HostRuntime) {
 }
 
 #[test]
+fn a_slice_holds_what_was_written(rt: HostRuntime) {
+    let mut room = [0u8; 5];
+    let mut sink = StdSink::new(room.as_mut_slice());
+    let answer = write_whole(&mut sink, b"1\n2\n");
+    let left = sink.writer.len();
+    assert_eq!(rt; (answer, left, room), (Ok(()), 1, *b"1\n2\n\0"));
+}
+
+#[test]
 fn out_of_memory_is_an_input_error(rt: HostRuntime) {
     let failure: InputError = AllocError.into();
     assert_eq!(rt; failure, InputError::OutOfMemory);
