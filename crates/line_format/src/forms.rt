@@ -1,6 +1,6 @@
 //! What texts are made of: forms of values with one text each.
 
-ghost use Rattle.std.specs.Prelude.{◌≡◌, ◌++◌, List, ℕ, OnOk};
+ghost use Rattle.std.specs.Prelude.{◌≡◌, ◌++◌, List, ℕ, IfErr, OnOk};
 ghost use Rattle.line_format.specs.Texts.{ReadsOne, line_text, Grammar};
 
 use crate::texts::{ItemError, Reader, push_number};
@@ -60,7 +60,10 @@ impl Form for BabyBear {
 
     ghost grammar = { element-grammar };
 
-    fn read(_alloc: Global, reader: &mut Reader) -> Result<BabyBear, ItemError> {
+    fn read(_alloc: Global, reader: &mut Reader) -> Result<BabyBear, ItemError>
+        ensures value { ReadsOne (λ x. x) Unlimited element_numbers reader.old reader.new result }
+        ensures no_memory { IfErr result (λ e. e ≡ ItemError.Malformed) }
+    {
         let value = reader.number(0, LAST_ELEMENT)?;
         Ok(BabyBear::from_u64(value as u64))
     }
@@ -88,7 +91,10 @@ impl Form for QuarticExtension {
 
     ghost grammar = { extension-grammar };
 
-    fn read(alloc: Global, reader: &mut Reader) -> Result<QuarticExtension, ItemError> {
+    fn read(alloc: Global, reader: &mut Reader) -> Result<QuarticExtension, ItemError>
+        ensures value { ReadsOne (λ x. x) Unlimited extension_numbers reader.old reader.new result }
+        ensures no_memory { IfErr result (λ e. e ≡ ItemError.Malformed) }
+    {
         let c0 = BabyBear::read(alloc, reader)?;
         let c1 = BabyBear::read(alloc, reader)?;
         let c2 = BabyBear::read(alloc, reader)?;

@@ -1,7 +1,7 @@
 //! The text of a batch proof.
 
-ghost use Rattle.std.specs.Prelude.{◌≡◌, ◌≤◌, ◌++◌, OnOk, length};
-ghost use Rattle.line_format.specs.Texts.{line_text, list_numbers};
+ghost use Rattle.std.specs.Prelude.{◌≡◌, ◌≤◌, ◌++◌, IfErr, OnOk, length};
+ghost use Rattle.line_format.specs.Texts.{ReadsOne, line_text, list_numbers};
 ghost use Rattle.line_format.specs.WholeText.{ReadsTextFrom};
 ghost use Rattle.proof_text.specs.Openings.{instance_numbers};
 ghost use Rattle.proof_text.specs.ProofText.{ProofWithin, proof_numbers};
@@ -54,7 +54,10 @@ impl Form for TerminalText {
     fn read(
         alloc: Global,
         reader: &mut Reader,
-    ) -> Result<LookupTerminal<QuarticExtension>, ItemError> {
+    ) -> Result<LookupTerminal<QuarticExtension>, ItemError>
+        ensures value { ReadsOne (λ t. t.0) Unlimited extension_numbers reader.old reader.new result }
+        ensures no_memory { IfErr result (λ e. e ≡ ItemError.Malformed) }
+    {
         let value = QuarticExtension::read(alloc, reader)?;
         Ok(LookupTerminal(value))
     }
@@ -84,7 +87,10 @@ impl Form for DegreeText {
 
     ghost grammar = { degree-grammar };
 
-    fn read(_alloc: Global, reader: &mut Reader) -> Result<usize, ItemError> {
+    fn read(_alloc: Global, reader: &mut Reader) -> Result<usize, ItemError>
+        ensures value { ReadsOne (λ n. n) (Between 0 255) one_number reader.old reader.new result }
+        ensures no_memory { IfErr result (λ e. e ≡ ItemError.Malformed) }
+    {
         let bits = reader.number(0, MOST_DEGREE_BITS)?;
         Ok(bits as usize)
     }

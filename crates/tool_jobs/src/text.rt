@@ -1,5 +1,5 @@
 //! The text of jobs.
-ghost use Rattle.std.specs.Prelude.{◌≡◌, ◌≤◌, IfOk};
+ghost use Rattle.std.specs.Prelude.{◌≡◌, ◌≤◌, IfErr, IfOk};
 ghost use Rattle.line_format.specs.Texts.{ReadsOne, line_text};
 ghost use Rattle.line_format.specs.WholeText.{ReadsText};
 ghost use Rattle.tool_jobs.specs.Jobs.{JobWithin, job_numbers, read_table, read_tables};
@@ -66,7 +66,10 @@ impl Form for GivenWord {
 
     ghost grammar = { given-grammar };
 
-    fn read(alloc: Global, reader: &mut Reader) -> Result<GivenWord, ItemError> {
+    fn read(alloc: Global, reader: &mut Reader) -> Result<GivenWord, ItemError>
+        ensures value { ReadsOne read_given GivenWithin given_numbers reader.old reader.new result }
+        ensures no_memory { IfErr result (λ e. e ≡ ItemError.Malformed) }
+    {
         let word = BabyBear::read(alloc, reader)?;
         let count = reader.number(0, MOST_TIMES)?;
         Ok(GivenWord {
@@ -101,7 +104,10 @@ impl Form for WordLine {
 
     ghost grammar = { word-grammar };
 
-    fn read(_alloc: Global, reader: &mut Reader) -> Result<u32, ItemError> {
+    fn read(_alloc: Global, reader: &mut Reader) -> Result<u32, ItemError>
+        ensures value { ReadsOne (λ n. n) (Between 0 4294967295) one_number reader.old reader.new result }
+        ensures no_memory { IfErr result (λ e. e ≡ ItemError.Malformed) }
+    {
         reader.number(0, u32::MAX)
     }
 

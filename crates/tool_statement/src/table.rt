@@ -1,5 +1,5 @@
 //! The tables of a statement.
-ghost use Rattle.std.specs.Prelude.{◌≡◌, IfOk};
+ghost use Rattle.std.specs.Prelude.{◌≡◌, ℕ, [], IfOk, IsOk};
 ghost use Rattle.p3_field.specs.BabyBear.{baby_bear_ring};
 ghost use Rattle.batch_setup.specs.Packed.{source_of};
 ghost use Rattle.tool_tables.specs.Tool.{tool_declaration, tool_interactions, tool_trees};
@@ -62,10 +62,11 @@ impl TableStatement {
         }
     }
 
-    /// The table's AIR. The only error is running out of memory.
+    /// The table's AIR. The only error is running out of memory, which only a wheel's may (`sure`).
     pub fn air(&self, alloc: Global) -> Mem<ToolAir<BabyBear>>
         requires { TableWithin self.now }
-        ensures { IfOk result (λ a. source_of (tool_declaration baby_bear_ring) (tool_trees baby_bear_ring) (tool_interactions baby_bear_ring) a ≡ source_of_table self.now) }
+        ensures source { IfOk result (λ a. source_of (tool_declaration baby_bear_ring) (tool_trees baby_bear_ring) (tool_interactions baby_bear_ring) a ≡ source_of_table self.now) }
+        ensures sure { ((k : ℕ) → self.now ≡ TableStatement.Wheel k → ⊥) → IsOk result }
     {
         match self {
             TableStatement::Swap { .. } => Ok(ToolAir::Swap(SwapAir)),
@@ -76,9 +77,11 @@ impl TableStatement {
         }
     }
 
-    /// The table's public values: a, b and x of a swap table, else none. The only error is running out of memory.
+    /// The table's public values: a, b and x of a swap table, else none. The only error is running out of memory, and none where there are
+    /// no values (`sure`).
     pub fn public_values(&self, alloc: Global) -> Mem<Vec<BabyBear>>
-        ensures { IfOk result (λ v. v.items ≡ publics_of self.now) }
+        ensures values { IfOk result (λ v. v.items ≡ publics_of self.now) }
+        ensures sure { publics_of self.now ≡ [] → IsOk result }
     {
         match self {
             TableStatement::Swap { a, b, x, .. } => Ok(Vec::from_array(alloc, [*a, *b, *x])?),

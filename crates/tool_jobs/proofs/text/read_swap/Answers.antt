@@ -10,8 +10,8 @@ returns-in_err-k c = handed-on read_table (KindWithin 1) body_numbers _ _ _ c.in
 
 pub returns-in_err-a : goal.returns-in_err-a
 returns-in_err-a c = handed-on read_table (KindWithin 1) body_numbers _ _ _ c.in_err-a.field-0.0 c.from_residual-in_err-a.ensures.1
-    (λ m. same-stops same-swap (then-second log_rows-grammar c.in_ok-k.ensures (then-first element-grammar (c.in_err-a.ensures m))))
+    (λ m. same-stops same-swap (then-second log_rows-grammar c.in_ok-k.ensures (then-first element-grammar (c.in_err-a.ensures.value m))))
 
 pub returns-in_err-b : goal.returns-in_err-b
 returns-in_err-b c = handed-on read_table (KindWithin 1) body_numbers _ _ _ c.in_err-b.field-0.0 c.from_residual-in_err-b.ensures.1
-    (λ m. same-stops same-swap (then-second log_rows-grammar c.in_ok-k.ensures (then-second element-grammar c.in_ok-a.ensures (c.in_err-b.ensures m))))
+    (λ m. same-stops same-swap (then-second log_rows-grammar c.in_ok-k.ensures (then-second element-grammar c.in_ok-a.ensures.value (c.in_err-b.ensures.value m))))

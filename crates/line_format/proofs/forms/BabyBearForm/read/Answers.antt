@@ -3,8 +3,8 @@ use Rattle.line_format.specs.Laws.Stops.{handed-on}
 use Rattle.line_format.proofs.Elements.{element-stops, element-reads}
 use Rattle.line_format.proofs.forms.BabyBearForm.read.Goals as goal
 
-pub returns-in_err-value : goal.returns-in_err-value
-returns-in_err-value c = handed-on (λ x. x) Unlimited element_numbers _ _ _ c.in_err-value.field-0.0 c.from_residual.ensures.1 (λ m. element-stops _ _ c.in_err-value.ensures.1)
+pub returns-in_err-value-clause-value : goal.returns-in_err-value-clause-value
+returns-in_err-value-clause-value c = handed-on (λ x. x) Unlimited element_numbers _ _ _ c.in_err-value.field-0.0 c.from_residual.ensures.1 (λ m. element-stops _ _ c.in_err-value.ensures.1)
 
-pub returns : goal.returns
-returns c = element-reads _ _ c.in_ok-value.value _ c.from_u64.ensures c.in_ok-value.ensures
+pub returns-clause-value : goal.returns-clause-value
+returns-clause-value c = element-reads _ _ c.in_ok-value.value _ c.from_u64.ensures c.in_ok-value.ensures

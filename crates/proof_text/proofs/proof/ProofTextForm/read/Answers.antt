@@ -48,7 +48,7 @@ returns-in_err-ood_pow_witness c = handed-on (λ v. v) ProofWithin proof_numbers
     (then-second terminals-grammar c.in_ok-lookup_terminals.ensures
     (then-second degree_bits-grammar (own-items c.in_ok-degree_bits.degree_bits.items c.in_ok-degree_bits.ensures)
     (then-second some_element-grammar (own-option c.in_ok-lookup_pow_witness.lookup_pow_witness c.in_ok-lookup_pow_witness.ensures)
-    (c.in_err-ood_pow_witness.ensures m)))))))
+    (c.in_err-ood_pow_witness.ensures.value m)))))))
 
 pub returns : goal.returns
 unfolding same-proof
@@ -57,4 +57,4 @@ returns c = same-reads same-proof
     (then-reads (own-items c.in_ok-instances.instances.items c.in_ok-instances.ensures)
     (then-reads c.in_ok-lookup_terminals.ensures
     (then-reads (own-items c.in_ok-degree_bits.degree_bits.items c.in_ok-degree_bits.ensures)
-    (then-reads (own-option c.in_ok-lookup_pow_witness.lookup_pow_witness c.in_ok-lookup_pow_witness.ensures) c.in_ok-ood_pow_witness.ensures)))))
+    (then-reads (own-option c.in_ok-lookup_pow_witness.lookup_pow_witness c.in_ok-lookup_pow_witness.ensures) c.in_ok-ood_pow_witness.ensures.value)))))
