@@ -1,5 +1,5 @@
 //! Views of a row by the names of its columns.
-ghost use Rattle.std.specs.Prelude.{◌≡◌, ℕ, ◌+◌, ◌*◌, ◌^◌, ◌<◌, ◌≤◌, length, slice_index_or};
+ghost use Rattle.std.specs.Prelude.{◌≡◌, ℕ, ◌+◌, ◌*◌, ◌^◌, ◌<◌, ◌≤◌, ◌↔◌, length, slice_index_or};
 ghost use Rattle.std.specs.Int.{bit_at};
 ghost use Rattle.p3_field.specs.Ring.{of_nat};
 ghost use Rattle.p3_blake3.specs.Compress.{Input, compress};
@@ -232,19 +232,21 @@ impl<'a, T> Blake3State<'a, T> {
     }
 }
 
-// The bit that an element represents.
+// The bit that an element represents: an element that isn't zero counts as one.
 fn bit_of<F: Field>(x: F) -> u32
     ensures below { result < 2 }
+    ensures zero { (result ≡ 0) ↔ (x ≡ F.ring.zero) }
     ensures bit { (b : ℕ) → b < 2 → x ≡ of_nat F.ring b → result ≡ b }
 {
     if x.is_zero() { 0 } else { 1 }
 }
 
-// The word whose 32 bits stand from a column on.
+// The word whose 32 bits stand from a column on: a bit of it is zero exactly where its cell is.
 fn word_at<F: Field>(row: &[F], at: usize) -> u32
     requires fits { at + 32 ≤ length row.now }
     requires wide { length row.now ≤ 9168 }
-    ensures { (w : ℕ) → w < 2 ^ 32 → ((k : ℕ) (d : F) → k < 32 → slice_index_or row.now (at + k) d ≡ of_nat F.ring (bit_at w k)) → result ≡ w }
+    ensures counted { (k : ℕ) (d : F) → k < 32 → (bit_at result k ≡ 0) ↔ (slice_index_or row.now (at + k) d ≡ F.ring.zero) }
+    ensures word { (w : ℕ) → w < 2 ^ 32 → ((k : ℕ) (d : F) → k < 32 → slice_index_or row.now (at + k) d ≡ of_nat F.ring (bit_at w k)) → result ≡ w }
 {
     let mut word = 0u32;
     for i in 0..32 {
@@ -255,9 +257,11 @@ fn word_at<F: Field>(row: &[F], at: usize) -> u32
 
 impl<'a, F: Field> Blake3Cols<'a, F> {
     /// The 16 words of the output: those whose bits the cells are (`words`). So of a compression's row they are the
-    /// compression of its 28 words (`compressed`). Where the cells are no bits, one that isn't zero counts as one (not
-    /// in Plonky3).
+    /// compression of its 28 words (`compressed`). Where the cells are no bits, one that isn't zero counts as one
+    /// (`counted`; not in Plonky3).
     pub fn output_words(&self) -> [u32; 16]
+        ensures counted { (i k : ℕ) (d : F) → i < 16 → k < 32
+            → (bit_at (slice_index_or result i 0) k ≡ 0) ↔ (slice_index_or self.now.row.now (8656 + 32 * i + k) d ≡ F.ring.zero) }
         ensures words { (w : ℕ → ℕ) → ((i : ℕ) → i < 16 → w i < 2 ^ 32)
             → ((i k : ℕ) (d : F) → i < 16 → k < 32 → slice_index_or self.now.row.now (8656 + 32 * i + k) d ≡ of_nat F.ring (bit_at (w i) k))
             → (i : ℕ) → i < 16 → slice_index_or result i 0 ≡ w i }

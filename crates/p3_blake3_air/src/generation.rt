@@ -117,7 +117,7 @@ fn room_for(rows: usize, extra: usize) -> Option<usize>
 
 /// The number of cells of so many rows times 2^extra, or why there is no trace of them.
 pub fn room_of(rows: usize, extra: usize) -> Result<usize, TraceError>
-    ensures answers { MatchResult result (λ n. IsPowerOfTwo rows × (IsTooLong rows extra → ⊥)) (λ e. (e ≡ NotPowerOfTwo) ⊎ (e ≡ TooLong)) }
+    ensures answers { MatchResult result (λ n. (n ≡ rows * 9168 * 2 ^ extra) × IsPowerOfTwo rows × (IsTooLong rows extra → ⊥)) (λ e. (e ≡ NotPowerOfTwo) ⊎ (e ≡ TooLong)) }
     ensures not_power { (result ≡ Err NotPowerOfTwo) ↔ (IsPowerOfTwo rows → ⊥) }
     ensures too_long { (result ≡ Err TooLong) ↔ (IsPowerOfTwo rows × IsTooLong rows extra) }
 {

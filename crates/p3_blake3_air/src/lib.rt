@@ -27,3 +27,5 @@ pub const BITS_PER_LIMB: usize = 16;
 
 /// Limbs of a word (`p3_blake3_air::constants`).
 pub const U32_LIMBS: usize = 2;
+
+const _: () = prove!(U32_LIMBS * BITS_PER_LIMB == 32);

@@ -5,6 +5,7 @@ ghost use Rattle.p3_air.specs.Tree.{cell as cell_tree};
 ghost use Rattle.p3_air.specs.Gadgets.{RepresentAt};
 ghost use Rattle.p3_blake3_air.specs.Trees.{from_column, packed_limbs};
 
+use crate::BITS_PER_LIMB;
 use p3_air::{AirBuilder, Cell, pack_bits_le};
 use p3_field::Mem;
 
@@ -71,7 +72,7 @@ pub fn packed_at<AB: AirBuilder>(builder: &mut AB, column: usize) -> Mem<[AB::Ex
 {
     let bits = bits_at(builder, column)?;
     let all = &bits[..];
-    let low = pack_bits_le(builder, &all[..16])?;
-    let high = pack_bits_le(builder, &all[16..])?;
+    let low = pack_bits_le(builder, &all[..BITS_PER_LIMB])?;
+    let high = pack_bits_le(builder, &all[BITS_PER_LIMB..])?;
     Ok([low, high])
 }

@@ -1,12 +1,12 @@
 //! Views of a row by the names of its columns.
-ghost use Rattle.std.specs.Prelude.{◌≡◌, ℕ, ◌+◌, ◌*◌, ◌^◌, ◌<◌, ◌≤◌, List, [], ◌∷◌, length, slice_index_or, bit_xor};
+ghost use Rattle.std.specs.Prelude.{◌≡◌, ℕ, ◌+◌, ◌*◌, ◌^◌, ◌<◌, ◌≤◌, ◌↔◌, List, [], ◌∷◌, length, slice_index_or, bit_xor};
 ghost use Rattle.std.specs.Int.{bit_at};
 ghost use Rattle.p3_field.specs.Ring.{of_nat};
 ghost use Rattle.p3_blake3.specs.Compress.{Input, chaining, output_of, compress};
 ghost use Rattle.p3_blake3.specs.TraceRow.{AreWords};
 ghost use Rattle.p3_blake3.specs.Generated.{quarter_of, words_of};
 ghost use Rattle.p3_blake3_binary_air.specs.Row.{binary_trace_row};
-ghost use Rattle.p3_blake3_binary_air.specs.Output.{HasWordAt, step_words, state_read, AreRead};
+ghost use Rattle.p3_blake3_binary_air.specs.Output.{HasWordAt, CountsAt, step_words, state_read, AreRead, AreCounted};
 
 use p3_blake3::FourWords;
 use p3_field::Field;
@@ -154,9 +154,10 @@ impl<'a, T> Blake3BinaryGCols<'a, T> {
     }
 }
 
-// The bit that an element represents.
+// The bit that an element represents: an element that isn't zero counts as one.
 fn bit_of<F: Field>(x: F) -> u32
     ensures below { result < 2 }
+    ensures zero { (result ≡ 0) ↔ (x ≡ F.ring.zero) }
     ensures bit { (b : ℕ) → b < 2 → x ≡ of_nat F.ring b → result ≡ b }
 {
     if x.is_zero() { 0 } else { 1 }
@@ -166,7 +167,8 @@ fn bit_of<F: Field>(x: F) -> u32
 fn word_at<F: Field>(row: &[F], at: usize) -> u32
     requires fits { at + 32 ≤ length row.now }
     requires wide { length row.now ≤ 11536 }
-    ensures { (w : ℕ) → w < 2 ^ 32 → ((k : ℕ) (d : F) → k < 32 → slice_index_or row.now (at + k) d ≡ of_nat F.ring (bit_at w k)) → result ≡ w }
+    ensures counted { CountsAt F.ring row.now at result }
+    ensures word { (w : ℕ) → w < 2 ^ 32 → ((k : ℕ) (d : F) → k < 32 → slice_index_or row.now (at + k) d ≡ of_nat F.ring (bit_at w k)) → result ≡ w }
 {
     let mut word = 0u32;
     for i in 0..32 {
@@ -179,7 +181,8 @@ fn word_at<F: Field>(row: &[F], at: usize) -> u32
 fn last_words<F: Field>(row: &[F], g: usize) -> FourWords
     requires wide { length row.now ≡ 11536 }
     requires steps { g < 4 }
-    ensures { (x : Input) (d1 b1 d2 b2 : ℕ → ℕ) → AreRead F.ring row.now x d1 b1 d2 b2 → quarter_of result ≡ step_words (d1 g) (b1 g) (d2 g) (b2 g) }
+    ensures words { (x : Input) (d1 b1 d2 b2 : ℕ → ℕ) → AreRead F.ring row.now x d1 b1 d2 b2 → quarter_of result ≡ step_words (d1 g) (b1 g) (d2 g) (b2 g) }
+    ensures counted { (x : Input) (d1 b1 d2 b2 : ℕ → ℕ) → AreCounted F.ring row.now x d1 b1 d2 b2 → quarter_of result ≡ step_words (d1 g) (b1 g) (d2 g) (b2 g) }
 {
     let at = 896 + 190 * (52 + g);
     let d1 = word_at(row, at + 31);
@@ -198,7 +201,8 @@ fn last_words<F: Field>(row: &[F], g: usize) -> FourWords
 fn chaining_word<F: Field>(row: &[F], i: usize) -> u32
     requires wide { length row.now ≡ 11536 }
     requires words { i < 8 }
-    ensures { (x : Input) (d1 b1 d2 b2 : ℕ → ℕ) → AreRead F.ring row.now x d1 b1 d2 b2 → result ≡ chaining x i }
+    ensures words { (x : Input) (d1 b1 d2 b2 : ℕ → ℕ) → AreRead F.ring row.now x d1 b1 d2 b2 → result ≡ chaining x i }
+    ensures counted { (x : Input) (d1 b1 d2 b2 : ℕ → ℕ) → AreCounted F.ring row.now x d1 b1 d2 b2 → result ≡ chaining x i }
 {
     word_at(row, 32 * i)
 }
@@ -206,9 +210,11 @@ fn chaining_word<F: Field>(row: &[F], i: usize) -> u32
 impl<'a, F: Field> Blake3BinaryCols<'a, F> {
     /// The 16 words of the output: where the cells of the chaining value and of d and b in the last four steps are the bits of
     /// words, those that these words give (`words`). So of a compression's row they are the compression of its 28 words
-    /// (`compressed`). Where the cells are no bits, one that isn't zero counts as one (not in Plonky3).
+    /// (`compressed`). Where the cells are no bits, one that isn't zero counts as one (`counted`; not in Plonky3).
     pub fn compression_output(&self) -> [u32; 16]
         ensures words { (x : Input) (d1 b1 d2 b2 : ℕ → ℕ) → AreRead F.ring self.now.row.now x d1 b1 d2 b2
+            → result ≡ words_of (output_of x (state_read d1 b1 d2 b2)) }
+        ensures counted { (x : Input) (d1 b1 d2 b2 : ℕ → ℕ) → AreCounted F.ring self.now.row.now x d1 b1 d2 b2
             → result ≡ words_of (output_of x (state_read d1 b1 d2 b2)) }
         ensures compressed { (x : Input) → AreWords x → self.now.row.now ≡ binary_trace_row F.ring x → result ≡ words_of (compress x) }
     {

@@ -187,7 +187,7 @@ fn room_for(rows: usize, extra: usize) -> Option<usize>
 
 /// The number of cells of so many rows times 2^extra, or why there is no trace of them over this field.
 pub fn room_of<F: Field>(rows: usize, extra: usize) -> Result<usize, TraceError>
-    ensures answers { MatchResult result (λ n. (F.TWO ≡ F.ring.zero) × (0 < rows) × IsPowerOfTwo rows × (IsBinaryTooLong rows extra → ⊥))
+    ensures answers { MatchResult result (λ n. (n ≡ rows * 11536 * 2 ^ extra) × (F.TWO ≡ F.ring.zero) × (0 < rows) × IsPowerOfTwo rows × (IsBinaryTooLong rows extra → ⊥))
         (λ e. (e ≡ WrongCharacteristic) ⊎ (e ≡ NoInput) ⊎ (e ≡ NotPowerOfTwo) ⊎ (e ≡ TooLong)) }
     ensures characteristic { (result ≡ Err WrongCharacteristic) ↔ (F.TWO ≡ F.ring.zero → ⊥) }
     ensures no_input { (result ≡ Err NoInput) ↔ ((F.TWO ≡ F.ring.zero) × (rows ≡ 0)) }

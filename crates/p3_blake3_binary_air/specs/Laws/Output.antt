@@ -3,6 +3,7 @@ use Rattle.std.proofs.Common.{◌≡◌, ℕ, zero, suc, ◌+◌, ◌*◌, ◌^�
 use Rattle.std.specs.Prelude.{bit_xor}
 use Rattle.std.specs.Int.{bit_at, rotate_left, w32}
 use Rattle.std.proofs.lemmas.List.{get_or-map}
+use Rattle.std.proofs.lemmas.Nat.Bits.{bit_at-lt, same_from_bits_below}
 use Rattle.p3_field.specs.Ring.{Ring, of_nat}
 use Rattle.p3_blake3.specs.Compress.{word, half_b, half_d, Input, chaining, step_of_word, output_of, compress}
 use Rattle.p3_blake3.specs.TraceRow.{turn_of, d_turn, b_turn, message_of, state, AreWords}
@@ -13,9 +14,22 @@ use Rattle.p3_blake3.specs.Generated.{words_of}
 use Rattle.p3_blake3_binary_air.specs.Meanings.{AreWords4}
 use Rattle.p3_blake3_binary_air.specs.Trees.{half_column}
 use Rattle.p3_blake3_binary_air.specs.Row.{before_half, after_half, binary_cells, binary_trace_row}
-use Rattle.p3_blake3_binary_air.specs.Output.{HasWordAt, step_words, state_read, AreRead}
+use Rattle.p3_blake3_binary_air.specs.Output.{HasWordAt, CountsAt, step_words, state_read, AreRead}
 use Rattle.p3_blake3_binary_air.specs.Laws.Words.{half_words, taken_words, state_words}
 use Rattle.p3_blake3_binary_air.specs.Laws.Bits.{row_steps, long_row, input_cells}
+
+same_bit : (a b : ℕ) → a < 2 → b < 2 → (a ≡ 0 → b ≡ 0) → (b ≡ 0 → a ≡ 0) → a ≡ b
+same_bit zero b la lb f g = sym (f refl)
+same_bit (suc zero) zero la lb f g = g refl
+same_bit (suc zero) (suc zero) la lb f g = refl
+same_bit (suc zero) (suc (suc b)) la lb f g = absurd (omega (arith, lb))
+same_bit (suc (suc a)) b la lb f g = absurd (omega (arith, la))
+
+-- cells count as one word alone
+pub same_counted : {F : Type 0} (r : Ring F) (row : List F) (at v w : ℕ) → CountsAt r row at v → CountsAt r row at w → v ≡ w
+same_counted r row at v w hv hw =
+    same_from_bits_below 32 v w hv.0 hw.0
+    (λ k lk. same_bit (bit_at v k) (bit_at w k) (bit_at-lt v k) (bit_at-lt w k) (λ e. (hw.1 k r.zero lk).1 ((hv.1 k r.zero lk).0 e)) (λ e. (hv.1 k r.zero lk).1 ((hw.1 k r.zero lk).0 e)))
 
 -- the second half of a step takes what the first half made
 before_is : (x : Input) (g : ℕ) → g < 4 → before_half x 27 g ≡ after_half x 26 g

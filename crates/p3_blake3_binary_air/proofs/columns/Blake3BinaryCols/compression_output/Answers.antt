@@ -4,7 +4,7 @@ use Rattle.p3_air.specs.Joined.{joined}
 use Rattle.p3_blake3.specs.declared.words.FourWords.{FourWords}
 use Rattle.p3_blake3.specs.Compress.{Input, chaining, output_of}
 use Rattle.p3_blake3.specs.Generated.{quarter_of, words_of}
-use Rattle.p3_blake3_binary_air.specs.Output.{step_words, state_read, AreRead}
+use Rattle.p3_blake3_binary_air.specs.Output.{step_words, state_read, AreRead, AreCounted}
 use Rattle.p3_blake3_binary_air.specs.Laws.Output.{row_d1, row_b1, row_d2, row_b2, row_is_read, output_read}
 use Rattle.p3_blake3_binary_air.proofs.columns.Blake3BinaryCols.compression_output.Goals as goal
 
@@ -21,10 +21,16 @@ pub returns : goal.returns
 returns g c =
     let words = λ (x : Input) (d1 b1 d2 b2 : ℕ → ℕ) (h : AreRead g.F.RingCore.ring c.args.self.now.row.now x d1 b1 d2 b2).
     all_words x d1 b1 d2 b2 c.last_words-p.result c.last_words-q.result c.last_words-r.result c.last_words-s.result _ _ _ _ _ _ _ _
-    (c.last_words-p.ensures x d1 b1 d2 b2 h) (c.last_words-q.ensures x d1 b1 d2 b2 h) (c.last_words-r.ensures x d1 b1 d2 b2 h) (c.last_words-s.ensures x d1 b1 d2 b2 h)
-    (c.chaining_word.ensures x d1 b1 d2 b2 h) (c.chaining_word-2.ensures x d1 b1 d2 b2 h) (c.chaining_word-3.ensures x d1 b1 d2 b2 h) (c.chaining_word-4.ensures x d1 b1 d2 b2 h)
-    (c.chaining_word-5.ensures x d1 b1 d2 b2 h) (c.chaining_word-6.ensures x d1 b1 d2 b2 h) (c.chaining_word-7.ensures x d1 b1 d2 b2 h) (c.chaining_word-8.ensures x d1 b1 d2 b2 h) in
+    (c.last_words-p.ensures.words x d1 b1 d2 b2 h) (c.last_words-q.ensures.words x d1 b1 d2 b2 h) (c.last_words-r.ensures.words x d1 b1 d2 b2 h) (c.last_words-s.ensures.words x d1 b1 d2 b2 h)
+    (c.chaining_word.ensures.words x d1 b1 d2 b2 h) (c.chaining_word-2.ensures.words x d1 b1 d2 b2 h) (c.chaining_word-3.ensures.words x d1 b1 d2 b2 h) (c.chaining_word-4.ensures.words x d1 b1 d2 b2 h)
+    (c.chaining_word-5.ensures.words x d1 b1 d2 b2 h) (c.chaining_word-6.ensures.words x d1 b1 d2 b2 h) (c.chaining_word-7.ensures.words x d1 b1 d2 b2 h) (c.chaining_word-8.ensures.words x d1 b1 d2 b2 h) in
+    let counted = λ (x : Input) (d1 b1 d2 b2 : ℕ → ℕ) (h : AreCounted g.F.RingCore.ring c.args.self.now.row.now x d1 b1 d2 b2).
+    all_words x d1 b1 d2 b2 c.last_words-p.result c.last_words-q.result c.last_words-r.result c.last_words-s.result _ _ _ _ _ _ _ _
+    (c.last_words-p.ensures.counted x d1 b1 d2 b2 h) (c.last_words-q.ensures.counted x d1 b1 d2 b2 h) (c.last_words-r.ensures.counted x d1 b1 d2 b2 h) (c.last_words-s.ensures.counted x d1 b1 d2 b2 h)
+    (c.chaining_word.ensures.counted x d1 b1 d2 b2 h) (c.chaining_word-2.ensures.counted x d1 b1 d2 b2 h) (c.chaining_word-3.ensures.counted x d1 b1 d2 b2 h) (c.chaining_word-4.ensures.counted x d1 b1 d2 b2 h)
+    (c.chaining_word-5.ensures.counted x d1 b1 d2 b2 h) (c.chaining_word-6.ensures.counted x d1 b1 d2 b2 h) (c.chaining_word-7.ensures.counted x d1 b1 d2 b2 h) (c.chaining_word-8.ensures.counted x d1 b1 d2 b2 h) in
     record {
       words = words;
+      counted = counted;
       compressed = λ x W e. words x (row_d1 x) (row_b1 x) (row_d2 x) (row_b2 x) (row_is_read x g.F.RingCore.ring c.args.self.now.row.now W e) ∙ output_read x W;
     }
