@@ -1,12 +1,13 @@
 -- What the program says of a list of bytes.
 use Rattle.std.specs.Int.{IsPowerOfTwo}
-use Rattle.std.specs.Prelude.{◌≡◌, ℕ, ◌^◌, ◌≤◌, ⊤, List, ◌∷◌, length, codes}
+use Rattle.std.specs.Prelude.{◌≡◌, ◌≢◌, ℕ, ◌^◌, ◌≤◌, List, ◌∷◌, length, codes}
 use Rattle.p3_field.specs.BabyBear.{baby_bear_ring}
 use Rattle.p3_field.specs.Checks.{Check, NoneFails, FirstFails}
 use Rattle.plain_pcs.specs.declared.error.PlainError.{PlainError}
 use Rattle.plain_pcs.specs.declared.error.PlainProverError.{PlainProverError}
 use Rattle.batch_statement.specs.declared.error.BatchVerificationError.{BatchVerificationError}
 use Rattle.batch_proving.specs.declared.error.ProvingError.{ProvingError}
+use Rattle.batch_proving.specs.declared.error.ProvingError.TheVariants.{OutOfMemory as NoMemory}
 use Rattle.batch_verifier.specs.BatchChecks.{checks}
 use Rattle.tool_statement.specs.Config.{tool_backend, tool_setting}
 use Rattle.example_air.specs.Bytes.{bits_rows, bytes_rows}
@@ -25,14 +26,14 @@ abbrev pub bytes_checks : (log_rows : ℕ) → BytesProof → List (Check (Batch
 bytes_checks log_rows p = height_check log_rows p ∷ checks tool_setting tool_backend example_statement p
 
 -- What is said of these bytes. Accepted: their honest proof passes every check, and each row of the committed table of bits is the row of a byte, unless a
--- drawn challenge is unlucky. Refused: a check of it fails first. Unproved: there is none, for a reason that is told. Usage: they aren't a power of two of
--- bytes, up to 1024.
+-- drawn challenge is unlucky. Refused: a check of it fails first. Unproved: there is none, for a reason that is told, which isn't that memory ran out.
+-- Usage: they aren't a power of two of bytes, up to 1024. OutOfMemory: they are, since else nothing takes memory.
 abbrev pub IsFinding : List ℕ → Finding → Type 0
 IsFinding bytes Accepted = (k : ℕ) × (p : BytesProof) × IsProofOf bytes k p × NoneFails (bytes_checks k p) × RowsAreBytes k p
 IsFinding bytes Refused = (k : ℕ) × (p : BytesProof) × (e : BatchVerificationError PlainError) × IsProofOf bytes k p × FirstFails (bytes_checks k p) e
-IsFinding bytes Unproved = (e : ProvingError PlainProverError) × LacksTablesProof (bits_rows baby_bear_ring bytes) (bytes_rows baby_bear_ring bytes) e
+IsFinding bytes Unproved = (e : ProvingError PlainProverError) × (e ≢ NoMemory) × LacksTablesProof (bits_rows baby_bear_ring bytes) (bytes_rows baby_bear_ring bytes) e
 IsFinding bytes Usage = IsPowerOfTwo (length bytes) → length bytes ≤ 1024 → ⊥
-IsFinding bytes OutOfMemory = ⊤
+IsFinding bytes OutOfMemory = IsPowerOfTwo (length bytes) × (length bytes ≤ 1024)
 
 -- the line that says it
 abbrev pub line_of : Finding → List ℕ

@@ -18,11 +18,11 @@ pub enum Finding {
     Accepted,
     /// They have a proof, which is refused.
     Refused,
-    /// They have no proof, for one of the reasons of `prove_bytes`.
+    /// They have no proof, for one of the reasons of `prove_bytes` other than that memory ran out.
     Unproved,
     /// They aren't as many as a power of two up to 1024.
     Usage,
-    /// Out of memory. It may come in place of any other answer.
+    /// Out of memory. It may come in place of any other answer but `Usage`.
     OutOfMemory,
 }
 
@@ -52,7 +52,10 @@ fn prove_and_verify(alloc: Global, bytes: &[u8]) -> Finding
     let proof = match prove_bytes(alloc, bytes) {
         Ok(proof) => proof,
         Err(ProvingError::OutOfMemory) => return Finding::OutOfMemory,
-        Err(_) => return Finding::Unproved,
+        Err(ProvingError::Pcs { .. }) => return Finding::Unproved,
+        Err(ProvingError::MultiplicityBound { .. }) => return Finding::Unproved,
+        Err(ProvingError::LookupDenominatorZero { .. }) => return Finding::Unproved,
+        Err(ProvingError::WitnessNotFound { .. }) => return Finding::Unproved,
     };
     match verify_bytes(alloc, log2_strict_usize(bytes.len()), &proof) {
         Ok(()) => Finding::Accepted,
