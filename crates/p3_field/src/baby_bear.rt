@@ -7,7 +7,7 @@ pub(crate) mod ring;
 /// A value of the BabyBear field (`BabyBear` of `p3-baby-bear`): a number modulo p = 2013265921.
 ///
 /// Its two-adicity is 27, and its `GENERATOR` is 31, of which each value but zero is a power (`power_of_g` of
-/// `specs/Laws/BearOrder.antt`).
+/// `specs/Laws/BabyBearOrder.antt`).
 #[derive(Clone, Copy, PartialEq, Eq, Debug)]
 pub struct BabyBear {
     // The number itself, below p.
