@@ -23,13 +23,13 @@ pub record HaveOneLength {A F : Type 0} (airs : List A) (traces : List (Rows F))
   pub traces_long : length traces ≡ length airs
   pub publics_long : length publics ≡ length airs
 
--- the refusal of lists that differ in their lengths; out of memory is free
+-- the refusal of lists that differ in their lengths; out of memory comes only where they don't, since till then none is wanted
 abbrev pub IsLengthMismatch : {A F E : Type 0} → List A → List (Rows F) → List (List F) → SetupError E → Type 0
 IsLengthMismatch airs traces publics LengthMismatch = HaveOneLength airs traces publics → ⊥
 IsLengthMismatch airs traces publics (PreprocessedHeight instance) = ⊥
 IsLengthMismatch airs traces publics (Pcs phase source) = ⊥
 IsLengthMismatch airs traces publics (LookupBudget instance log_chunks log_blowup) = ⊥
-IsLengthMismatch airs traces publics OutOfMemory = Unit {0}
+IsLengthMismatch airs traces publics OutOfMemory = HaveOneLength airs traces publics
 
 -- the AIRs of instances, in order
 abbrev pub airs_of : {A F : Type 0} → List (Instance A F) → List A

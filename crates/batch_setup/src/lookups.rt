@@ -1,5 +1,5 @@
 //! The lookups of a batch's tables, packed within each table's budget.
-ghost use Rattle.std.specs.Prelude.{◌≡◌, ℕ, ◌+◌, ◌-◌, ◌^◌, ◌<◌, ◌≤◌, max, min, length, map, IfOk};
+ghost use Rattle.std.specs.Prelude.{◌≡◌, ℕ, ◌+◌, ◌-◌, ◌^◌, ◌<◌, ◌≤◌, max, min, length, map, IfErr, IfOk};
 ghost use Rattle.std.specs.Prelude.{slice_index_or as get_or};
 ghost use Rattle.p3_field.specs.Checks.{in_turn};
 ghost use Rattle.p3_field.specs.Poly.{tabulate};
@@ -99,7 +99,8 @@ fn check_chunks<E>(
     masks: usize,
     log_blowup: usize,
 ) -> Result<(), SetupError<E>>
-    ensures { IsSetUp (chunk_count_checks masks log_blowup instance log_chunks) result }
+    ensures verdict { IsSetUp (chunk_count_checks masks log_blowup instance log_chunks) result }
+    ensures no_memory { IfErr result (λ e. e ≡ SetupError.OutOfMemory → ⊥) }
 {
     if log_blowup < masks || log_chunks > log_blowup - masks {
         return Err(SetupError::LookupBudget {

@@ -1,5 +1,5 @@
 //! The preprocessed traces of a batch's tables: their heights, their entries, and what is committed of them.
-ghost use Rattle.std.specs.Prelude.{◌≡◌, ℕ, ◌-◌, ◌^◌, ◌<◌, ◌≤◌, ◌++◌, length, map, IfOk};
+ghost use Rattle.std.specs.Prelude.{◌≡◌, ℕ, ◌-◌, ◌^◌, ◌<◌, ◌≤◌, ◌++◌, length, map, IfErr, IfOk};
 ghost use Rattle.std.specs.Prelude.{slice_index_or as get_or};
 ghost use Rattle.p3_field.specs.Checks.{in_turn};
 ghost use Rattle.p3_field.specs.Poly.{tabulate};
@@ -32,7 +32,8 @@ fn check_height<F, E>(
     masks: usize,
 ) -> Result<(), SetupError<E>>
     requires { bits < 64 }
-    ensures { IsSetUp (height_checks masks instance bits trace.now) result }
+    ensures verdict { IsSetUp (height_checks masks instance bits trace.now) result }
+    ensures no_memory { IfErr result (λ e. e ≡ SetupError.PreprocessedHeight instance) }
 {
     match trace {
         None => Ok(()),

@@ -1,5 +1,5 @@
 //! The constructors of prover data.
-ghost use Rattle.std.specs.Prelude.{◌≡◌, ℕ, ◌+◌, ◌<◌, ◌≤◌, ◌++◌, cond, flat_map, length, map, replicate, IfOk};
+ghost use Rattle.std.specs.Prelude.{◌≡◌, ℕ, ◌+◌, ◌<◌, ◌≤◌, ◌++◌, cond, flat_map, length, map, replicate, IfErr, IfOk};
 ghost use Rattle.std.specs.Prelude.{slice_index_or as get_or};
 ghost use Rattle.p3_field.specs.Poly.{tabulate};
 ghost use Rattle.p3_commit.specs.Commitments.{IsCommitment};
@@ -35,7 +35,8 @@ fn check_lengths<A, E>(
     degree_bits: &[usize],
     budgets: &[usize],
 ) -> Result<(), SetupError<E>>
-    ensures { IsSetUp (length_checks (length airs.now) (length degree_bits.now) (length budgets.now)) result }
+    ensures verdict { IsSetUp (length_checks (length airs.now) (length degree_bits.now) (length budgets.now)) result }
+    ensures no_memory { IfErr result (λ e. e ≡ SetupError.LengthMismatch) }
 {
     if degree_bits.len() != airs.len() || budgets.len() != airs.len() {
         return Err(SetupError::LengthMismatch);
@@ -101,7 +102,7 @@ impl<F, Com, PD> SetupData<F, Com, PD> {
     /// The degree bits lie in the backend's bounds, and the tuples that the AIRs send on one bus have one width. The answer is,
     /// the first in this order:
     ///
-    /// - `LengthMismatch` exactly where the lists differ in their lengths;
+    /// - `LengthMismatch` exactly where the lists differ in their lengths, before any memory is wanted (`memory`);
     /// - `PreprocessedHeight` for the first preprocessed trace with another height than its table;
     /// - `Pcs` where the backend refuses the commitment;
     /// - `LookupBudget` for the first budget above the free one whose packed lookups give more chunks, with masking, than the
@@ -123,6 +124,8 @@ impl<F, Com, PD> SetupData<F, Com, PD> {
             IsSetUp (length_checks (length airs.now) (length trace_ext_degree_bits.now) (length lookup_budget_overrides.now)
             ++ table_setup_checks SC.Val.ring (cond SC.Pcs.ZK 1 0) log_blowup
             (SC.Pcs.commit_fault (SC.pcs_of config.now)) sources trace_ext_degree_bits.now lookup_budget_overrides.now (length airs.now)) result }
+        ensures memory { IfErr result (λ e. e ≡ SetupError.OutOfMemory
+            → (length trace_ext_degree_bits.now ≡ length airs.now) × (length lookup_budget_overrides.now ≡ length airs.now)) }
         ensures lookups { let sources = map (source_of A.declaration A.trees A.interactions) airs.now in
             IfOk result (λ d. map read_all d.common.lookups ≡ tabulate (length airs.now) (packed_at SC.Val.ring (cond SC.Pcs.ZK 1 0) sources trace_ext_degree_bits.now lookup_budget_overrides.now)) }
         ensures preprocessed { let sources = map (source_of A.declaration A.trees A.interactions) airs.now in

@@ -1,5 +1,5 @@
 //! Whether the entries of a batch's preprocessed traces fit its tables.
-ghost use Rattle.std.specs.Prelude.{◌≡◌, ◌↔◌, ◌<◌, ◌≤◌, ℕ, List, None, Some, length, map, take, get_or, IfOk, IsTrue};
+ghost use Rattle.std.specs.Prelude.{◌≡◌, ◌↔◌, ◌<◌, ◌≤◌, ℕ, List, None, Some, length, map, take, get_or, IfOk, IsOk, IsTrue};
 ghost use Rattle.p3_air.specs.Shape.{Declaration, width_of};
 ghost use Rattle.batch_statement.specs.Statement.{HasEntryOf, IsPlaced, with_entry, within_entries};
 ghost use Rattle.batch_statement.specs.Fitting.{FitsPreprocessed};
@@ -133,7 +133,8 @@ pub(crate) fn preprocessed_fits<F: Field, A: BaseAir<F>, Com>(
 ) -> Mem<bool>
     requires airs { n ≤ length airs.now }
     requires entries { n ≤ within_entries preprocessed.now n }
-    ensures { IfOk result (λ b. IsTrue b ↔ FitsPreprocessed (map A.declaration airs.now) preprocessed.now n) }
+    ensures fits { IfOk result (λ b. IsTrue b ↔ FitsPreprocessed (map A.declaration airs.now) preprocessed.now n) }
+    ensures sure { preprocessed.now ≡ None → IsOk result }
 {
     match preprocessed {
         None => Ok(have_no_columns(airs, n)),

@@ -1,5 +1,5 @@
 //! Whether common data fits tables.
-ghost use Rattle.std.specs.Prelude.{◌≡◌, ◌↔◌, ◌≤◌, ℕ, min, length, map, flat_map, take, IfOk, IsTrue};
+ghost use Rattle.std.specs.Prelude.{◌≡◌, ◌↔◌, ◌≤◌, ℕ, min, length, map, flat_map, take, None, IfOk, IsOk, IsTrue};
 ghost use Rattle.p3_lookup.specs.Bus.{HaveOneWidth};
 ghost use Rattle.p3_lookup.specs.Written.{read_all};
 ghost use Rattle.batch_statement.specs.Statement.{WellFormed, read_common, instance_count, within_entries};
@@ -52,8 +52,11 @@ impl<F: Field, Com> SharedData<F, Com> {
     /// - an instance has an entry exactly where its preprocessed width isn't zero, and the entry has that width;
     /// - `matrix_to_instance` is the increasing list of the instances with an entry;
     /// - an entry's `matrix_index` is its instance's place in that list.
+    ///
+    /// Only out of memory is an error, and none where there are no preprocessed traces (`sure`).
     pub fn fits<A: Air<F>>(&self, alloc: Global, airs: &[A]) -> Mem<bool>
-        ensures { IfOk result (λ b. IsTrue b ↔ WellFormed (map A.declaration airs.now) (read_common self.now)) }
+        ensures fits { IfOk result (λ b. IsTrue b ↔ WellFormed (map A.declaration airs.now) (read_common self.now)) }
+        ensures sure { self.now.preprocessed ≡ None → IsOk result }
     {
         let n = self.instances(airs.len());
         let preprocessed = preprocessed_fits(alloc, airs, &self.preprocessed, n)?;

@@ -1,3 +1,4 @@
 pub mod NodeDegrees
 pub mod Nonzero
 pub mod Asserted
+pub mod Chosen

@@ -1,5 +1,5 @@
 //! AIRs: what a table declares of itself, and its constraints.
-ghost use Rattle.std.specs.Prelude.{◌≡◌, ℕ, ◌<◌, List, Some, IfOk, OnErr, IsOk, IsTrue, length, map, All};
+ghost use Rattle.std.specs.Prelude.{◌≡◌, ℕ, ◌<◌, List, Some, None, IfOk, OnErr, IsOk, IsTrue, length, map, All};
 ghost use Rattle.p3_air.specs.Shape.{Declaration, Fits, HasColumns, HasWholeRows, declared_shape, width_of, ReadsDeclared, IsInteraction};
 ghost use Rattle.p3_air.specs.Tree.{Tree, Interaction, SomeFirst, over_base};
 
@@ -17,9 +17,10 @@ pub trait BaseAir<F: FieldCore> {
     fn width(&self) -> usize
         ensures { result ≡ (declaration self.now).width };
 
-    /// The preprocessed trace: None exactly where its width is zero.
+    /// The preprocessed trace: None exactly where its width is zero, and then the answer is Ok.
     fn preprocessed_trace(&self, alloc: Global) -> Mem<Option<RowMajorMatrix<F>>>
-        ensures { IfOk result (λ m. m ≡ (declaration self.now).preprocessed) };
+        ensures trace { IfOk result (λ m. m ≡ (declaration self.now).preprocessed) }
+        ensures none { (declaration self.now).preprocessed ≡ None → IsOk result };
 
     /// How many columns the preprocessed trace has, zero where there is none.
     fn preprocessed_width(&self) -> usize

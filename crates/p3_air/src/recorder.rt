@@ -278,7 +278,17 @@ impl<F: Field> ExtensionBuilder for InteractionSymbolicBuilder<F> {
 
     ghost lifts = { λ a x b e. RepresentsAt b.nodes e (tree_or_zero a.nodes x) };
 
-    fn lift(&mut self, x: usize) -> Mem<usize> {
+    fn lift(&mut self, x: usize) -> Mem<usize>
+        ensures keeps_shape { layout_shape self.new.layout ≡ layout_shape self.old.layout }
+        ensures appends { HasAppended self.old self.new [] [] }
+        ensures answers { IsTrue false → IsOk result }
+        ensures sure { IsTrue false → IsOk result }
+        ensures lifts { IfOk result (λ e. RepresentsAt self.new.nodes e (tree_or_zero self.old.nodes x)) }
+        ensures represents { (t : Tree F) → RepresentsAt self.old.nodes x t → IfOk result (λ e. RepresentsAt self.new.nodes e t) }
+
+        // An expression of the base is one of the extension as it is: nothing is allocated.
+        ensures always { IsOk result }
+    {
         Ok(self.place(x))
     }
 

@@ -1,6 +1,6 @@
 //! The separator: the bytes that fix a transcript's protocol, pattern and instance before anything else is observed.
 
-ghost use Rattle.std.specs.Prelude.{◌≡◌, ◌++◌, ◌∷◌, [], List, ℕ, OnOk, IfOk, length, flat_map};
+ghost use Rattle.std.specs.Prelude.{◌≡◌, ◌++◌, ◌∷◌, [], List, ℕ, OnErr, OnOk, IfOk, length, flat_map};
 ghost use Rattle.p3_challenger.specs.Separator.{eight_bytes, length_prefixed, step_bytes, encoding};
 
 use crate::script::{Interaction, InteractionPattern};
@@ -39,9 +39,10 @@ impl DomainSeparator {
         })
     }
 
-    /// Appends bytes to the instance label.
+    /// Appends bytes to the instance label. Out of memory leaves the separator as it was.
     pub fn instance(&mut self, label: &[u8]) -> Mem<()>
-        ensures { OnOk result (self.new ≡ record self.old { instance = self.old.instance ++ label.now }) }
+        ensures appended { OnOk result (self.new ≡ record self.old { instance = self.old.instance ++ label.now }) }
+        ensures unchanged { OnErr result (self.new ≡ self.old) }
     {
         self.instance.extend_from_slice(label)?;
         Ok(())
@@ -73,10 +74,11 @@ impl DomainSeparator {
 }
 
 /// Appends a number as 8 big-endian bytes (not in Plonky3): the form of each number in an encoding and in an
-/// instance label.
+/// instance label. Out of memory leaves `out` as it was.
 #[tactic(auto, unfolding(crate::specs::Separator::eight_bytes))]
 pub fn push_eight_bytes(out: &mut Vec<u8>, number: usize) -> Mem<()>
-    ensures { OnOk result (out.new.items ≡ out.old.items ++ eight_bytes number) }
+    ensures appended { OnOk result (out.new.items ≡ out.old.items ++ eight_bytes number) }
+    ensures unchanged { OnErr result (out.new.items ≡ out.old.items) }
 {
     out.extend_from_slice(&number.to_be_bytes())
 }

@@ -1,5 +1,5 @@
 //! What evaluates periodic columns on a domain and at a point.
-ghost use Rattle.std.specs.Prelude.{◌≡◌, ℕ, ◌+◌, ◌*◌, ◌/◌, ◌%◌, ◌<◌, length, map, List, [], IfOk};
+ghost use Rattle.std.specs.Prelude.{◌≡◌, ℕ, ◌+◌, ◌*◌, ◌/◌, ◌%◌, ◌<◌, length, map, List, [], IfOk, IsOk};
 ghost use Rattle.p3_matrix.specs.Matrix.{Rows, height, cell_at};
 ghost use Rattle.p3_commit.specs.Periodic.{IsPeriodicAt, IsPeriodicTable, EachFrom};
 
@@ -36,7 +36,7 @@ pub trait PeriodicEvaluator<F: Field, D: PolynomialSpace<Val = F>> {
         ensures { IfOk result (λ v. EachFrom (map (λ c. c.items) periodic_table.now) v.items (IsPeriodicAt F.ring EF.ring EF.embed (D.points trace_domain.now) (D.point_at trace_domain.now) point)) };
 }
 
-/// Takes no column, and so gives nothing.
+/// Takes no column, and so gives nothing, and wants no memory.
 impl<F: Field, D: PolynomialSpace<Val = F>> PeriodicEvaluator<F, D> for () {
     ghost takes = { λ _ columns. length columns ≡ 0 };
 
@@ -45,7 +45,12 @@ impl<F: Field, D: PolynomialSpace<Val = F>> PeriodicEvaluator<F, D> for () {
         _periodic_table: &[Vec<F>],
         _trace_domain: &D,
         _lde_domain: &D,
-    ) -> Mem<PeriodicLdeTable<F>> {
+    ) -> Mem<PeriodicLdeTable<F>>
+        requires { length (map (λ c. c.items) _periodic_table.now) ≡ 0 }
+        ensures table { IfOk result (IsPeriodicTable F.ring (D.points _trace_domain.now) (D.point_at _trace_domain.now) (D.points _lde_domain.now) (D.point_at _lde_domain.now)
+            (map (λ c. c.items) _periodic_table.now)) }
+        ensures sure { IsOk result }
+    {
         Ok(PeriodicLdeTable::empty(alloc))
     }
 
@@ -54,7 +59,11 @@ impl<F: Field, D: PolynomialSpace<Val = F>> PeriodicEvaluator<F, D> for () {
         _periodic_table: &[Vec<F>],
         _trace_domain: &D,
         _point: EF,
-    ) -> Mem<Vec<EF>> {
+    ) -> Mem<Vec<EF>>
+        requires { length (map (λ c. c.items) _periodic_table.now) ≡ 0 }
+        ensures values { IfOk result (λ v. EachFrom (map (λ c. c.items) _periodic_table.now) v.items (IsPeriodicAt F.ring EF.ring EF.embed (D.points _trace_domain.now) (D.point_at _trace_domain.now) _point)) }
+        ensures sure { IsOk result }
+    {
         Ok(Vec::new(alloc))
     }
 }

@@ -54,7 +54,8 @@ pub fn fault_of_rows<T: Copy + Eq, M: Mmcs<T>>(
     }
 }
 
-/// Verifies rows twice (not in Plonky3): the first fault of each time, or None. Both answers are one.
+/// Verifies rows twice (not in Plonky3): the first fault of each time, or None exactly where the proof shows them. Both
+/// answers are one.
 pub fn rows_verified_twice<T: Copy + Eq, M: Mmcs<T>>(
     alloc: Global,
     mmcs: &M,
@@ -64,6 +65,7 @@ pub fn rows_verified_twice<T: Copy + Eq, M: Mmcs<T>>(
     opening: BatchOpeningRef<'_, T, M>,
 ) -> Mem<(Option<M::Error>, Option<M::Error>)>
     requires { All (λ d. M.takes d.width) dimensions.now }
+    ensures accepted { IfOk result (λ w. (w.0 ≡ None) ↔ M.opens mmcs.now commitment.now dimensions.now index (lists opening.entry.opened_values.now) opening.entry.opening_proof.now) }
     ensures cause { IfOk result (λ w. IfSome w.0 (IsCause (M.fault mmcs.now commitment.now dimensions.now index (lists opening.entry.opened_values.now) opening.entry.opening_proof.now))) }
     ensures one { IfOk result (λ w. w.0 ≡ w.1) }
 {

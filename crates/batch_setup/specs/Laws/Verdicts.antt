@@ -1,5 +1,6 @@
 -- Answers for lists of checks one after another, and for checks in turn.
-use Rattle.std.proofs.Common.{◌≡◌, ℕ, ◌<◌, List, [], ◌∷◌, ◌++◌, Result, Ok, Err, sym, subst, inl, inr}
+use Rattle.std.proofs.Common.{◌≡◌, ℕ, ◌<◌, List, [], ◌∷◌, ◌++◌, Result, Ok, Err, sym, ◌∙◌, subst, inl, inr}
+use Rattle.std.specs.Prelude.{IfErr}
 use Rattle.std.specs.Result.{IsErrAnd}
 use Rattle.p3_field.specs.Checks.{Check, check, NoneFails, FirstFails, in_turn}
 use Rattle.p3_field.specs.Laws.Checks.{none_append, none_before, none_after, none_first, first_stops, first_after, first_parted, refused_in_turn}
@@ -11,6 +12,16 @@ use Rattle.batch_setup.specs.declared.error.SetupError.TheVariants.{LengthMismat
 pub exits : {T E : Type 0} (cs : List (Check (SetupError E))) (e : SetupError E) (r : Result T (SetupError E)) → IsErrAnd r (λ y. y ≡ e) → IsSetupRefusal cs e → IsSetUp cs r
 exits cs e (Err y) p v = subst (IsSetupRefusal cs) (sym p) v
 exits cs e (Ok t) p v = absurd p
+
+-- such an error isn't out of memory where that of the call is another
+pub no_memory : {T E : Type 0} (P : Type 0) (e : SetupError E) (r : Result T (SetupError E)) → IsErrAnd r (λ y. y ≡ e) → e ≡ LengthMismatch → IfErr r (λ y. y ≡ OutOfMemory → P)
+no_memory P e (Err y) p v = λ m. absurd (let q : LengthMismatch ≡ OutOfMemory = sym v ∙ (sym p ∙ m) in cc)
+no_memory P e (Ok t) p v = absurd p
+
+-- and what holds anyway holds where memory ran out
+pub whatever_memory : {T E P : Type 0} (r : Result T (SetupError E)) → P → IfErr r (λ y. y ≡ OutOfMemory → P)
+whatever_memory (Err y) h = λ m. h
+whatever_memory (Ok t) h = tt
 
 -- what a list of checks is refused with comes of each list that is refused so
 pub refusal_along : {E : Type 0} (xs ys : List (Check (SetupError E))) (e : SetupError E) → ((d : SetupError E) → FirstFails xs d → FirstFails ys d) → IsSetupRefusal xs e → IsSetupRefusal ys e

@@ -1,5 +1,5 @@
 //! What a recording builder has recorded, as values of their own.
-ghost use Rattle.std.specs.Prelude.{◌≡◌, ℕ, ◌+◌, ◌<◌, ◌++◌, List, [], ◌∷◌, length, map, All, IfOk, Bool, true, false, not, cond};
+ghost use Rattle.std.specs.Prelude.{◌≡◌, ℕ, ◌+◌, ◌<◌, ◌++◌, List, [], ◌∷◌, length, map, All, IfOk, IsOk, Bool, true, false, not, cond};
 ghost use Rattle.p3_air.specs.Tree.{Tree};
 ghost use Rattle.p3_air.specs.Layout.{place_count, ListsEachOnce};
 ghost use Rattle.p3_air.specs.Symbolic.{tree_at, tree_of, Ordered};
@@ -16,18 +16,20 @@ use p3_field::{Field, FieldCore, Mem, RingCore};
 use std::alloc::Global;
 
 impl<F: Field> InteractionSymbolicBuilder<F> {
-    /// The constraints asserted over the base field, in order.
+    /// The constraints asserted over the base field, in order. Where there are none, the answer is Ok.
     pub fn base_constraints(&self, alloc: Global) -> Mem<Vec<SymbolicExpression<F>>>
         ensures trees { IfOk result (λ v. map tree_of v.items ≡ trees_at self.now.nodes (asserted_in false self.now.asserted)) }
         ensures asserted { IfOk result (λ v. map tree_of v.items ≡ trees_over false (asserted_at self.now.nodes self.now.asserted)) }
+        ensures none { trees_over false (asserted_at self.now.nodes self.now.asserted) ≡ [] → IsOk result }
     {
         expressions(alloc, &self.nodes, &self.asserted, false)
     }
 
-    /// The constraints asserted over the extension, in order.
+    /// The constraints asserted over the extension, in order. Where there are none, the answer is Ok.
     pub fn extension_constraints(&self, alloc: Global) -> Mem<Vec<SymbolicExpression<F>>>
         ensures trees { IfOk result (λ v. map tree_of v.items ≡ trees_at self.now.nodes (asserted_in true self.now.asserted)) }
         ensures asserted { IfOk result (λ v. map tree_of v.items ≡ trees_over true (asserted_at self.now.nodes self.now.asserted)) }
+        ensures none { trees_over true (asserted_at self.now.nodes self.now.asserted) ≡ [] → IsOk result }
     {
         expressions(alloc, &self.nodes, &self.asserted, true)
     }
@@ -73,7 +75,8 @@ fn expressions<F: FieldCore>(
 ) -> Mem<Vec<SymbolicExpression<F>>>
     requires ordered { Ordered nodes.now }
     requires asserted { All (λ a. a.place < length nodes.now) asserted.now }
-    ensures { IfOk result (λ v. map tree_of v.items ≡ trees_at nodes.now (asserted_in in_extension asserted.now)) }
+    ensures trees { IfOk result (λ v. map tree_of v.items ≡ trees_at nodes.now (asserted_in in_extension asserted.now)) }
+    ensures none { asserted_in in_extension asserted.now ≡ [] → IsOk result }
 {
     let mut expressions = Vec::new(alloc);
     for assertion in asserted {

@@ -1,5 +1,5 @@
 //! The interactions that a recording builder has recorded, as values of their own.
-ghost use Rattle.std.specs.Prelude.{◌≡◌, ℕ, ◌<◌, ◌↔◌, List, length, map, get_or, All, IfOk, IsTrue};
+ghost use Rattle.std.specs.Prelude.{◌≡◌, ℕ, ◌<◌, ◌↔◌, List, [], length, map, get_or, All, IfOk, IsOk, IsTrue};
 ghost use Rattle.p3_air.specs.Symbolic.{tree_at, tree_of, Ordered};
 ghost use Rattle.std.specs.Option.{option_copied};
 ghost use Rattle.p3_air.specs.Placed.{Placed};
@@ -72,9 +72,11 @@ impl<F: Field> InteractionSymbolicBuilder<F> {
     }
 
     /// Whether each interaction reads only what an interaction of this AIR may read: constants, and public values, main and
-    /// preprocessed cells that it declares, next cells only in declared next columns (not in Plonky3).
+    /// preprocessed cells that it declares, next cells only in declared next columns (not in Plonky3). Where there is no
+    /// interaction, the answer is Ok.
     pub fn interactions_read_declared<A: BaseAir<F>>(&self, alloc: Global, air: &A) -> Mem<bool>
-        ensures { IfOk result (λ b. IsTrue b ↔ All (IsInteraction (declared_shape (A.declaration air.now))) (sent_at self.now.nodes self.now.interactions)) }
+        ensures declared { IfOk result (λ b. IsTrue b ↔ All (IsInteraction (declared_shape (A.declaration air.now))) (sent_at self.now.nodes self.now.interactions)) }
+        ensures none { self.now.interactions ≡ [] → IsOk result }
     {
         for index in 0..self.num_interactions() {
             if !self.interaction_reads_declared(alloc, air, index)? {

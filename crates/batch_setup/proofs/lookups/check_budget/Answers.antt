@@ -16,4 +16,4 @@ returns g c =
     let above : a.own < a.asked = omega arith in
     subst (λ n. IsSetUp (limit_checks {E = g.row.E.Denot} a.masks a.log_blowup a.instance a.own a.asked n) c.check_chunks.result) c.in_ok-log_chunks.ensures
     (same_answer (LookupBudget a.instance (capped_sum k a.masks) a.log_blowup) (k + a.masks ≤ a.log_blowup) (a.own < a.asked → k + a.masks ≤ a.log_blowup) c.check_chunks.result
-    (λ p h. p) (λ q. q above) c.check_chunks.ensures)
+    (λ p h. p) (λ q. q above) c.check_chunks.ensures.verdict)

@@ -6,7 +6,7 @@ use Rattle.prover_permutations.proofs.generation.generated_columns.Goals as goal
 
 pub generate_permutation-requires-clause-preprocessed : goal.generate_permutation-requires-clause-preprocessed
 generate_permutation-requires-clause-preprocessed g c =
-    let lent = c.as_ref.ensures.value ∙ (c.in_ok-preprocessed.ensures ∙ ap (λ i. (g.A.BaseAir.declaration i.air).preprocessed) c.instance.view_is) in
+    let lent = c.as_ref.ensures.value ∙ (c.in_ok-preprocessed.ensures.trace ∙ ap (λ i. (g.A.BaseAir.declaration i.air).preprocessed) c.instance.view_is) in
     of_reference (λ m. height m ≡ height c.instance.inside.trace.now) c.as_ref.result
     (subst (λ (o : Option (Rows g.row.F.Denot)). IfSome o (λ m. height m ≡ height c.instance.inside.trace.now)) (sym lent)
     (subst (λ (t : Rows g.row.F.Denot). IfSome (g.A.BaseAir.declaration c.args.instance.now.air).preprocessed (λ m. height m ≡ height t)) (ap (λ i. i.trace) (sym c.instance.view_is)) c.requires.preprocessed))
@@ -14,7 +14,7 @@ generate_permutation-requires-clause-preprocessed g c =
 pub returns-in-Err-DenominatorZero : goal.returns-in-Err-DenominatorZero
 returns-in-Err-DenominatorZero g c =
     let e = c.in-Err-DenominatorZero in
-    let lent = c.as_ref.ensures.value ∙ (c.in_ok-preprocessed.ensures ∙ ap (λ i. (g.A.BaseAir.declaration i.air).preprocessed) c.instance.view_is) in (
+    let lent = c.as_ref.ensures.value ∙ (c.in_ok-preprocessed.ensures.trace ∙ ap (λ i. (g.A.BaseAir.declaration i.air).preprocessed) c.instance.view_is) in (
       refl,
       (
         e.field-0-1,

@@ -4,4 +4,4 @@ use Rattle.batch_transcript.proofs.shape.BatchShape.domain_separator.Goals as go
 
 pub returns : goal.returns
 unfolding separator
-returns g c = c.in_ok-instance.ensures ∙ rw (c.in_ok-separator.ensures, c.in_ok-pattern.ensures, c.deref.ensures.value, c.in_ok-label.ensures)
+returns g c = c.in_ok-instance.ensures.appended ∙ rw (c.in_ok-separator.ensures, c.in_ok-pattern.ensures, c.deref.ensures.value, c.in_ok-label.ensures)

@@ -23,8 +23,8 @@ loop-index-preserved g c =
     subst Q (sym (ap (sent_at ns) taken ∙ map-append (interaction_at ns) (take i ps) (p ∷ [])))
     (All-push (IsInteraction s) (sent_at ns (take i ps)) (interaction_at ns p) c.loop-index.invariant ((c.in_ok-interaction_reads_declared.ensures d).0 c.if-not-branch.false))
 
-pub returns-then-not-branch : goal.returns-then-not-branch
-returns-then-not-branch g c =
+pub returns-then-not-branch-clause-declared : goal.returns-then-not-branch-clause-declared
+returns-then-not-branch-clause-declared g c =
     let s = declared_shape (g.A.BaseAir.declaration c.args.air.now) in
     let ns = c.args.self.now.nodes in
     let ps = c.args.self.now.interactions in
@@ -37,8 +37,8 @@ returns-then-not-branch g c =
     let P : Interaction g.row.F.Denot → Type 0 = λ v. IsInteraction s v in
     ((λ h. absurd (not_true h)), λ h. sym c.if-not-branch.true ∙ (c.in_ok-interaction_reads_declared.ensures d).1 (subst P here (h i sent lt-2)))
 
-pub returns : goal.returns
-returns g c =
+pub returns-clause-declared : goal.returns-clause-declared
+returns-clause-declared g c =
     let s = declared_shape (g.A.BaseAir.declaration c.args.air.now) in
     let ps = c.args.self.now.interactions in
     let all : take c.loop-index.index ps ≡ ps = grind (arith, common_steps) in
