@@ -1,12 +1,9 @@
 -- An error but out of memory leaves a state as it was.
 use Rattle.std.proofs.Common.{◌≡◌, ◌⊎◌, Result, Ok, Err, inl, sym, subst}
-use Rattle.std.specs.Prelude.{IfErr, IsErrAnd}
+use Rattle.std.specs.Prelude.{IsErrAnd}
 use Rattle.batch_proving.specs.declared.error.ProvingError.{ProvingError}
 use Rattle.batch_proving.specs.declared.error.ProvingError.TheVariants.{OutOfMemory}
-
-module _ {T R S : Type 0} (r : Result T (ProvingError R)) (new old : S) where
-  abbrev pub KeepsState : Type 0
-  KeepsState = IfErr r (λ e. e ≡ OutOfMemory ⊎ new ≡ old)
+use Rattle.prover_openings.specs.Check.{KeepsState}
 
 -- what a `?` returns is the error of the call before it
 pub kept_by_exit : {T R S : Type 0} (e : ProvingError R) (r : Result T (ProvingError R)) (new old : S) → IsErrAnd r (λ y. y ≡ e) → e ≡ OutOfMemory ⊎ new ≡ old → KeepsState r new old

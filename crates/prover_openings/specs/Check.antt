@@ -1,5 +1,5 @@
 -- The check that a batch is opened, and what a prover has before it.
-use Rattle.std.specs.Prelude.{◌≡◌, List, [], ◌∷◌, Option, None, Some, Result}
+use Rattle.std.specs.Prelude.{◌≡◌, ◌⊎◌, List, [], ◌∷◌, Option, None, Some, Result, IfErr}
 use Rattle.p3_field.specs.Checks.{Check}
 use Rattle.p3_field.specs.Domain.{CosetData}
 use Rattle.p3_matrix.specs.Matrix.{Rows}
@@ -9,6 +9,7 @@ use Rattle.batch_proving.specs.Batch.{Batch, all_chunks, all_permutations, main_
 use Rattle.batch_proving.specs.Proving.{AreAsked, IsGroundOf, IsPcsRefusal}
 use Rattle.batch_proving.specs.Verdict.{IsProverVerdict}
 use Rattle.batch_proving.specs.declared.error.ProvingError.{ProvingError}
+use Rattle.batch_proving.specs.declared.error.ProvingError.TheVariants.{OutOfMemory}
 use Rattle.batch_setup.specs.declared.error.ProverPhase.TheVariants.{Opening}
 use Rattle.honest_proofs.specs.HonestProof.{honest_main_commitment, opening_state, honest_permutation_commitment, honest_quotient_commitment, zeta}
 use Rattle.prover_openings.specs.Asked.{RoundsProverData, asked_of}
@@ -23,6 +24,10 @@ AreBoth R (Some x) (Some y) = R x y
 -- the answer of an opening: it is refused exactly where there is a cause
 abbrev pub IsOpenedBy : {T R : Type 0} → (R → Type 0) → Result T (ProvingError R) → Type 0
 IsOpenedBy faults result = IsProverVerdict (record { refusal = IsPcsRefusal Opening faults; holds = NoneOf faults } ∷ []) result
+
+-- an error but out of memory leaves a state as it was
+abbrev pub KeepsState : {T R S : Type 0} → Result T (ProvingError R) → (new old : S) → Type 0
+KeepsState result new old = IfErr result (λ e. e ≡ OutOfMemory ⊎ new ≡ old)
 
 module _ {S F E C D P R : Type 0} (k : ProverBackend S F E C D P R) (b : Batch S F E C) (kept : RoundsProverData D) where
   -- The check that what is asked, of these prover data, is opened. It is what an honest prover asks, and the backend has no cause to refuse it, or the refusal

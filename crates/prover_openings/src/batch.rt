@@ -1,12 +1,12 @@
 //! The openings of a batch, as its prover makes them.
-ghost use Rattle.std.specs.Prelude.{◌≡◌, ◌⊎◌, ℕ, false, List, Option, IfErr, IfOk, map, option_map};
+ghost use Rattle.std.specs.Prelude.{◌≡◌, ℕ, false, List, Option, IfOk, map, option_map};
 ghost use Rattle.p3_field.specs.Poly.{tabulate};
 ghost use Rattle.batch_proving.specs.Batch.{HasProverData, IsTracedAll, batch_of, preprocessed_all, table_at, table_count};
 ghost use Rattle.batch_proving.specs.Proving.{AreAsked, AvoidsExcluded, IsGroundOf};
 ghost use Rattle.batch_proving.specs.Verdict.{IsProverVerdict};
 ghost use Rattle.honest_proofs.specs.HonestProof.{alpha, challenges_at, honest_claims, opened_of, opening_state, zeta as honest_zeta};
 ghost use Rattle.prover_openings.specs.Asked.{asked_of};
-ghost use Rattle.prover_openings.specs.Check.{IsReady, opening_request_checks};
+ghost use Rattle.prover_openings.specs.Check.{IsReady, KeepsState, opening_request_checks};
 
 use crate::counts::all_counts;
 use crate::openings::open_counted;
@@ -91,7 +91,7 @@ pub fn open_batch<SC: StarkGenericConfig, A: Air<Val<SC>>>(
           preprocessed = option_map (λ d. d.now) preprocessed.entry;
           permutation = option_map (λ d. d.now) permutation.entry;
         }) w z) r.1) }
-    ensures unchanged { IfErr result (λ e. e ≡ ProvingError.OutOfMemory ⊎ challenger.new ≡ challenger.old) }
+    ensures unchanged { KeepsState result challenger.new challenger.old }
     ensures after { let b = batch_of (⟦<SC as Settings>⟧.setting config.now) (⟦<SC as ProverSettings>⟧.prover config.now) A.declaration A.trees instances.now common.now in
         IfOk result (λ r. (w : Option SC.Val) (z : SC.Val) → IsGroundOf b w z
         → challenger.new ≡ SC.Pcs.after_open (SC.pcs_of config.now) (opening_state b.setting b.prover b.statement b.traces b.degree_bits w z)

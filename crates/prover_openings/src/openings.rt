@@ -1,5 +1,5 @@
 //! The openings of a batch.
-ghost use Rattle.std.specs.Prelude.{◌≡◌, ◌⊎◌, ℕ, ◌^◌, false, List, Option, All, IfErr, IfOk, map, option_map};
+ghost use Rattle.std.specs.Prelude.{◌≡◌, ℕ, ◌^◌, false, List, Option, All, IfOk, map, option_map};
 ghost use Rattle.p3_field.specs.Poly.{tabulate};
 ghost use Rattle.p3_commit.specs.Commitments.{AreOpenedCommitments, OpenedCommitment, IsOpening, nested};
 ghost use Rattle.batch_proving.specs.Batch.{HasProverData, IsTracedAll, batch_of, log_parts_at, preprocessed_all, table_at, table_count};
@@ -7,7 +7,7 @@ ghost use Rattle.batch_proving.specs.Proving.{AreAsked, AvoidsExcluded, IsGround
 ghost use Rattle.batch_proving.specs.Verdict.{IsProverVerdict};
 ghost use Rattle.honest_proofs.specs.HonestProof.{alpha, challenges_at, honest_claims, opened_of, opening_state, zeta as honest_zeta};
 ghost use Rattle.prover_openings.specs.Asked.{asked_of};
-ghost use Rattle.prover_openings.specs.Check.{IsOpenedBy, IsReady, opening_request_checks};
+ghost use Rattle.prover_openings.specs.Check.{IsOpenedBy, IsReady, KeepsState, opening_request_checks};
 
 use crate::requests::all_requests;
 use crate::tables::opened_tables;
@@ -39,7 +39,7 @@ fn opened_requests<SC: StarkGenericConfig>(
     requires plain { SC.Pcs.ZK ≡ false }
     requires made { All (λ r. SC.Pcs.made (SC.pcs_of config.now) r.prover_data) requests.items }
     ensures verdict { IsOpenedBy (SC.Pcs.open_fault (SC.pcs_of config.now) requests.entry.items) result }
-    ensures unchanged { IfErr result (λ e. e ≡ ProvingError.OutOfMemory ⊎ challenger.new ≡ challenger.old) }
+    ensures unchanged { KeepsState result challenger.new challenger.old }
     ensures after { IfOk result (λ w. challenger.new ≡ SC.Pcs.after_open (SC.pcs_of config.now) challenger.old requests.entry.items w.1) }
     ensures proof { IfOk result (λ w. SC.Pcs.proves (SC.pcs_of config.now) challenger.old requests.entry.items w.1) }
     ensures opening { IfOk result (λ w. (held : List (OpenedCommitment SC.Pcs.Commitment SC.Val)) → AreOpenedCommitments (SC.Pcs.holds (SC.pcs_of config.now)) requests.entry.items held
@@ -129,7 +129,7 @@ pub(crate) fn open_counted<SC: StarkGenericConfig, A: Air<Val<SC>>>(
           preprocessed = option_map (λ d. d.now) preprocessed.entry;
           permutation = option_map (λ d. d.now) permutation.entry;
         }) w z) r.1) }
-    ensures unchanged { IfErr result (λ e. e ≡ ProvingError.OutOfMemory ⊎ challenger.new ≡ challenger.old) }
+    ensures unchanged { KeepsState result challenger.new challenger.old }
     ensures after { let b = batch_of (⟦<SC as Settings>⟧.setting config.now) (⟦<SC as ProverSettings>⟧.prover config.now) A.declaration A.trees instances.now common.now in
         IfOk result (λ r. (w : Option SC.Val) (z : SC.Val) → IsGroundOf b w z
         → challenger.new ≡ SC.Pcs.after_open (SC.pcs_of config.now) (opening_state b.setting b.prover b.statement b.traces b.degree_bits w z)
