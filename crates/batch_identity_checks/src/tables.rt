@@ -1,5 +1,5 @@
 //! The identities of the tables of a batch, one table after the other.
-ghost use Rattle.std.specs.Prelude.{◌≡◌, ℕ, ◌-◌, ◌*◌, ◌<◌, ◌≤◌, [], length, map, option_map};
+ghost use Rattle.std.specs.Prelude.{◌≡◌, ℕ, ◌-◌, ◌*◌, ◌<◌, ◌≤◌, [], length, map, option_map, IsOk};
 ghost use Rattle.std.specs.Prelude.{slice_index_or as get_or};
 ghost use Rattle.p3_field.specs.Field.{TwoAdic, Extension};
 ghost use Rattle.p3_field.specs.Checks.{NoneFails, in_turn};
@@ -102,11 +102,12 @@ pub(crate) fn check_tables<F: TwoAdicField, E: ExtensionField<F>, A: Air<F>, R>(
     requires pairs { (i : ℕ) → i < length airs.now → length (get_or (map (λ v. v.items) challenges.now) i []) ≡ 2 * length (get_or (map read_all lookups.now) i []) }
     requires disjoint { (i : ℕ) → i < length airs.now → AllDisjoint (record { ring = F.ring; inv = F.inv; root = F.root; generator = F.GENERATOR }) (get_or (map (λ v. v.items) domains.now) i []) }
     requires fits { (i : ℕ) → i < length airs.now → get_or degree_bits.now i 0 - masks ≤ F.TWO_ADICITY }
-    ensures { let f : TwoAdic F = record { ring = F.ring; inv = F.inv; root = F.root; generator = F.GENERATOR } in
+    ensures verdict { let f : TwoAdic F = record { ring = F.ring; inv = F.inv; root = F.root; generator = F.GENERATOR } in
         let e : Extension F E = record { ring = E.ring; embed = E.embed; dimension = E.DIMENSION; basis = E.basis; coefficients = E.coefficients; from_coefficients = E.from_coefficients } in
         IsVerdict (in_turn (length airs.now)
         (identity_by f e masks (tables_of A.declaration A.trees airs.now) (map (λ v. v.items) public_values.now) (map read_all lookups.now) instances.now
         (map (option_map (λ t. t.0)) terminals.now) degree_bits.now (map (λ v. v.items) challenges.now) (map (λ v. v.items) domains.now) alpha zeta)) result }
+    ensures none { length airs.now ≡ 0 → IsOk result }
 {
     for index in 0..airs.len() {
         table_at(

@@ -1,5 +1,5 @@
 //! The identities of all tables of a batch, by statement and proof.
-ghost use Rattle.std.specs.Prelude.{◌≡◌, ℕ, ◌+◌, ◌-◌, ◌*◌, ◌<◌, ◌≤◌, [], length, map};
+ghost use Rattle.std.specs.Prelude.{◌≡◌, ℕ, ◌+◌, ◌-◌, ◌*◌, ◌<◌, ◌≤◌, [], length, map, IsOk};
 ghost use Rattle.std.specs.Prelude.{slice_index_or as get_or};
 ghost use Rattle.p3_field.specs.Field.{TwoAdic, Extension};
 ghost use Rattle.p3_field.specs.Checks.{NoneFails, in_turn};
@@ -45,11 +45,12 @@ fn batch_identities<F: TwoAdicField, E: ExtensionField<F>, A: Air<F>, Com, Openi
     requires pairs { (i : ℕ) → i < length airs.now → length (get_or (map (λ v. v.items) challenges.now) i []) ≡ 2 * length (get_or (map read_all common.now.lookups) i []) }
     requires disjoint { (i : ℕ) → i < length airs.now → AllDisjoint (record { ring = F.ring; inv = F.inv; root = F.root; generator = F.GENERATOR }) (get_or (map (λ v. v.items) domains.now) i []) }
     requires fits { (i : ℕ) → i < length airs.now → get_or proof.now.degree_bits i 0 - masks ≤ F.TWO_ADICITY }
-    ensures { let f : TwoAdic F = record { ring = F.ring; inv = F.inv; root = F.root; generator = F.GENERATOR } in
+    ensures verdict { let f : TwoAdic F = record { ring = F.ring; inv = F.inv; root = F.root; generator = F.GENERATOR } in
         let e : Extension F E = record { ring = E.ring; embed = E.embed; dimension = E.DIMENSION; basis = E.basis; coefficients = E.coefficients; from_coefficients = E.from_coefficients } in
         let s = statement_with (tables_of A.declaration A.trees airs.now) (map (λ v. v.items) public_values.now) common.now in
         IsVerdict (in_turn (length airs.now)
         (identity_at f e masks s proof.now.instances proof.now.lookup_terminals proof.now.degree_bits (map (λ v. v.items) challenges.now) (map (λ v. v.items) domains.now) alpha zeta)) result }
+    ensures none { length airs.now ≡ 0 → IsOk result }
 {
     check_tables(
         alloc,
@@ -71,7 +72,7 @@ fn batch_identities<F: TwoAdicField, E: ExtensionField<F>, A: Air<F>, Com, Openi
 /// first `PeriodicColumn`, exactly where a periodic column doesn't fit the table's rows, with the first such; then
 /// `OodPointInDomain`, exactly where zeta is one of the points of their domain; then `OodEvaluationMismatch` with the table's
 /// number, exactly where the fold of its constraints by alpha isn't the vanishing value times the quotient's
-/// (`verify_batch` of `p3-batch-stark`).
+/// (`verify_batch` of `p3-batch-stark`). Where there are no tables the answer is Ok.
 ///
 /// The common data is well-formed for the AIRs, and the proof passed the checks of its shape. For each table there are two
 /// challenges for each of its lookups, and the domains of its quotient's chunks.
@@ -106,11 +107,12 @@ pub fn check_identities<
         → get_or proof.now.degree_bits i 0 + log_chunks_at F.ring bounds.masks (tables_of A.declaration A.trees airs.now) (map read_all common.now.lookups) proof.now.degree_bits i ≤ F.TWO_ADICITY }
     requires dimension { bounds.dimension ≡ E.DIMENSION }
     requires masked { bounds.masks ≤ bounds.least }
-    ensures { let f : TwoAdic F = record { ring = F.ring; inv = F.inv; root = F.root; generator = F.GENERATOR } in
+    ensures verdict { let f : TwoAdic F = record { ring = F.ring; inv = F.inv; root = F.root; generator = F.GENERATOR } in
         let e : Extension F E = record { ring = E.ring; embed = E.embed; dimension = E.DIMENSION; basis = E.basis; coefficients = E.coefficients; from_coefficients = E.from_coefficients } in
         let s = statement_with (tables_of A.declaration A.trees airs.now) (map (λ v. v.items) public_values.now) common.now in
         IsVerdict (in_turn (length airs.now)
         (identity_at f e bounds.masks s proof.now.instances proof.now.lookup_terminals proof.now.degree_bits (map (λ v. v.items) challenges.now) (map (λ v. v.items) domains.now) alpha zeta)) result }
+    ensures none { length airs.now ≡ 0 → IsOk result }
 {
     batch_identities(
         alloc,

@@ -1,13 +1,14 @@
 -- How the reading stops of a list whose number of items is a power of two, and of a table after its kind.
-use Rattle.std.proofs.Common.{◌≡◌, ℕ, suc, ◌<◌, ◌≤◌, ◌^◌, List, [], ◌∷◌, ◌++◌, length, refl, sym, ◌∙◌, ap, subst, arith, append_assoc, Result, Ok, Err}
+use Rattle.std.proofs.Common.{◌≡◌, ℕ, zero, suc, ◌<◌, ◌≤◌, ◌^◌, List, [], ◌∷◌, ◌++◌, length, refl, sym, ◌∙◌, ap, subst, arith, append_assoc, Result, Ok, Err}
 use Rattle.std.specs.Int.{IsPowerOfTwo}
-use Rattle.std.specs.Prelude.{decimal}
+use Rattle.std.specs.Prelude.{decimal, IfErr, IsErrAnd}
 use Rattle.std.proofs.lemmas.Nat.{pow_pos}
 use Rattle.line_format.specs.Texts.{Between, Grammar, ItemsWithin, Reads, ReadsKnown, ReadsOne, Stops, items_numbers, line_text, list_numbers, one_number}
 use Rattle.line_format.specs.Laws.Grammars.{head-same, items-grammar}
 use Rattle.line_format.specs.Laws.Lines.{same-line}
 use Rattle.line_format.specs.Laws.Stops.{pair-first, pair-reads, pair-second, same-reads, same-stops}
 use Rattle.line_format.specs.declared.texts.ItemError.{ItemError}
+use Rattle.line_format.specs.declared.texts.ItemError.TheVariants.{Malformed, OutOfMemory}
 use Rattle.p3_field.specs.declared.baby_bear.BabyBear.{BabyBear}
 use Rattle.tool_validity.specs.Job.{IsJobTableWithin, JobTable}
 use Rattle.tool_jobs.specs.Jobs.{table_numbers}
@@ -89,3 +90,31 @@ pub table-after : {V : Type 0} (data_of : V → JobTable BabyBear) (old mid new 
 unfolding same-table
 table-after data_of old mid new kind (Ok v) n s = same-reads same-table (pair-reads KindWithin n s)
 table-after data_of old mid new kind (Err e) n s = λ m. same-stops same-table (pair-second KindWithin tag-grammar n (s m))
+
+-- a fault that is handed on isn't out of memory
+pub malformed-alone : {V : Type 0} (P : Type 0) (e : ItemError) (r : Result V ItemError) → IsErrAnd r (λ x. x ≡ e) → e ≡ Malformed → IfErr r (λ x. x ≡ OutOfMemory → P)
+malformed-alone P e (Ok v) p f = absurd p
+malformed-alone P e (Err x) p f = λ m. absurd (let q : Malformed ≡ OutOfMemory = sym f ∙ (sym p ∙ m) in cc)
+
+-- a first line that isn't above 2 is the kind, of which no table runs out of memory
+not-below : (old mid : List ℕ) (kind : ℕ) (e : ItemError) → Reads (Between 1 5) one_number old mid kind → (kind ≤ 2 → e ≡ Malformed) → e ≡ OutOfMemory
+    → (n : ℕ) (rest : List ℕ) → n < 3 → old ≡ decimal n ++ 10 ∷ rest → 3 ≤ n
+not-below old mid kind e r h m n rest low t =
+    let high = r.fits.1 in
+    let same = same-line kind n mid rest (omega (arith, high)) (omega (arith, low)) (sym (append_assoc (decimal kind) (10 ∷ []) mid) ∙ (sym r.text ∙ t)) in
+    let k = same.0 in
+    let few : kind ≤ 2 = omega (arith, k, low) in
+    absurd (let q : Malformed ≡ OutOfMemory = sym (h few) ∙ m in cc)
+
+from-three : (old mid : List ℕ) (kind : ℕ) (e : ItemError) → Reads (Between 1 5) one_number old mid kind → (kind ≤ 2 → e ≡ Malformed) → e ≡ OutOfMemory
+    → (n : ℕ) (rest : List ℕ) → old ≡ decimal n ++ 10 ∷ rest → 3 ≤ n
+from-three old mid kind e r h m zero rest t = not-below old mid kind e r h m 0 rest (omega arith) t
+from-three old mid kind e r h m (suc zero) rest t = not-below old mid kind e r h m 1 rest (omega arith) t
+from-three old mid kind e r h m (suc (suc zero)) rest t = not-below old mid kind e r h m 2 rest (omega arith) t
+from-three old mid kind e r h m (suc (suc (suc n))) rest t = omega arith
+
+-- a table that ran out of memory has a list
+pub lists-alone : {V : Type 0} (old mid : List ℕ) (kind : ℕ) (r : Result V ItemError) → Reads (Between 1 5) one_number old mid kind
+    → (kind ≤ 2 → IfErr r (λ e. e ≡ Malformed)) → IfErr r (λ e. e ≡ OutOfMemory → (n : ℕ) (rest : List ℕ) → old ≡ decimal n ++ 10 ∷ rest → 3 ≤ n)
+lists-alone old mid kind (Ok v) r h = tt
+lists-alone old mid kind (Err e) r h = from-three old mid kind e r h

@@ -1,5 +1,5 @@
 //! The text of jobs.
-ghost use Rattle.std.specs.Prelude.{◌≡◌, ◌≤◌, IfErr, IfOk};
+ghost use Rattle.std.specs.Prelude.{◌≡◌, ℕ, ◌≤◌, List, ◌++◌, ◌∷◌, decimal, IfErr, IfOk};
 ghost use Rattle.line_format.specs.Texts.{ReadsOne, line_text};
 ghost use Rattle.line_format.specs.WholeText.{ReadsText};
 ghost use Rattle.tool_jobs.specs.Jobs.{JobWithin, job_numbers, read_table, read_tables};
@@ -151,7 +151,8 @@ impl Form for HashRow {
 
 // Reads a swap table after its kind: the logarithm of its rows, and its first row.
 fn read_swap(alloc: Global, reader: &mut Reader) -> Result<JobTable, ItemError>
-    ensures { ReadsOne read_table (KindWithin 1) body_numbers reader.old reader.new result }
+    ensures value { ReadsOne read_table (KindWithin 1) body_numbers reader.old reader.new result }
+    ensures no_memory { IfErr result (λ e. e ≡ ItemError.Malformed) }
 {
     let k = reader.number(0, MOST_LOG_ROWS)?;
     let a = BabyBear::read(alloc, reader)?;
@@ -161,7 +162,8 @@ fn read_swap(alloc: Global, reader: &mut Reader) -> Result<JobTable, ItemError>
 
 // Reads a wheel after its kind: the logarithm of its rows.
 fn read_wheel(reader: &mut Reader) -> Result<JobTable, ItemError>
-    ensures { ReadsOne read_table (KindWithin 2) body_numbers reader.old reader.new result }
+    ensures value { ReadsOne read_table (KindWithin 2) body_numbers reader.old reader.new result }
+    ensures no_memory { IfErr result (λ e. e ≡ ItemError.Malformed) }
 {
     let k = reader.number(1, MOST_LOG_ROWS)?;
     Ok(JobTable::Wheel { k: k as u8 })
@@ -195,7 +197,8 @@ fn read_hash(alloc: Global, reader: &mut Reader) -> Result<JobTable, ItemError>
 fn read_kind(alloc: Global, reader: &mut Reader, kind: u32) -> Result<JobTable, ItemError>
     requires least { 1 ≤ kind }
     requires most { kind ≤ 5 }
-    ensures { ReadsOne read_table (KindWithin kind) body_numbers reader.old reader.new result }
+    ensures value { ReadsOne read_table (KindWithin kind) body_numbers reader.old reader.new result }
+    ensures no_memory { kind ≤ 2 → IfErr result (λ e. e ≡ ItemError.Malformed) }
 {
     if kind == SWAP {
         read_swap(alloc, reader)
@@ -212,7 +215,7 @@ fn read_kind(alloc: Global, reader: &mut Reader, kind: u32) -> Result<JobTable, 
 
 /// The kind, 1 for a swap table, 2 for a wheel, 3 for one that takes words, 4 for one that gives words, 5 for one of compressions; then
 /// the base-2 logarithm of the rows and, of a swap table, the first row; or the list of the words, whose count is a power of two up to
-/// 1024; or the list of the rows of 24 words, whose count is a power of two up to 8.
+/// 1024; or the list of the rows of 24 words, whose count is a power of two up to 8. Lists alone take memory (`memory`).
 impl Form for JobTable {
     type Value = JobTable;
 
@@ -231,7 +234,10 @@ impl Form for JobTable {
 
     ghost grammar = { table-grammar };
 
-    fn read(alloc: Global, reader: &mut Reader) -> Result<JobTable, ItemError> {
+    fn read(alloc: Global, reader: &mut Reader) -> Result<JobTable, ItemError>
+        ensures value { ReadsOne read_table IsJobTableWithin table_numbers reader.old reader.new result }
+        ensures memory { IfErr result (λ e. e ≡ ItemError.OutOfMemory → (n : ℕ) (rest : List ℕ) → reader.old ≡ decimal n ++ 10 ∷ rest → 3 ≤ n) }
+    {
         let kind = reader.number(SWAP, HASH)?;
         read_kind(alloc, reader, kind)
     }

@@ -28,4 +28,4 @@ check_identities-requires-clause-domains g c =
     a.proof.now.degree_bits (length a.airs.now) _ _ _ c.shape_bounds.ensures.masks c.requires.domains
 
 pub returns : goal.returns
-returns g c = simp c.shape_bounds.ensures.masks at c.check_identities.ensures
+returns g c = simp c.shape_bounds.ensures.masks at c.check_identities.ensures.verdict
