@@ -126,7 +126,8 @@ pub fn prove_batch_with_point<SC: StarkGenericConfig, A: Air<Val<SC>>>(
 
 /// Proves a batch of tables (`prove_batch` of `p3-batch-stark`).
 ///
-/// The answer is the refusal of the first check that fails, in the order of the work (`verdict`, `proving_checks`):
+/// The checks before a refusal hold, and it says why; of the checks that ask nothing of the backend it is that of the first that fails. In
+/// the order of the work they are (`verdict`, `proving_checks`):
 ///
 /// - `MultiplicityBound`: on this bus, and on none before it, the counts, each as large as it is trusted to be, may add up to the
 ///   order of the field;
@@ -145,7 +146,7 @@ pub fn prove_batch_with_point<SC: StarkGenericConfig, A: Air<Val<SC>>>(
 /// The backend masks nothing. The batch is traced: the common data is well-formed, with these tables' degree bits and the commitment
 /// to their preprocessed traces; widths, heights and numbers of public values are as declared; heights are powers of two within the
 /// backend's bounds; periodic columns fit; the quotients' domains exist. The prover data belongs to that commitment. The constraints need
-/// not hold: what is proved then is not accepted, or only by chance.
+/// not hold; no clause says that what is proved then is refused.
 pub fn prove_batch<SC: StarkGenericConfig, A: Air<Val<SC>>>(
     alloc: Global,
     config: &SC,

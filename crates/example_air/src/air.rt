@@ -19,7 +19,7 @@ pub enum ExampleAir {
     /// once.
     Bits,
     /// A row for each byte, 0 to 255, in a preprocessed column, and one column of counts. The byte is sent on the bus `bytes` as often as
-    /// minus its count, at most 1024 times.
+    /// minus its count, which is trusted to be at most 1024: no constraint keeps it.
     Bytes,
 }
 

@@ -21,8 +21,8 @@ use plain_pcs::PlainProverError;
 use std::alloc::Global;
 use tool_statement::{ToolConfig, tool_config};
 
-/// The honest proof of these two traces over the program's configuration (`proved`), whether or not they meet the constraints: of traces that
-/// don't, it isn't accepted, or only by chance. The error says why there is none (`refusal`). Out of memory may come in place of any answer.
+/// The honest proof of these two traces over the program's configuration (`proved`), whether or not they meet the constraints: no clause
+/// says that one of traces that don't is refused. The error says why there is none (`refusal`). Out of memory may come in place of any answer.
 pub fn prove_tables(
     alloc: Global,
     bits: &RowMajorMatrix<BabyBear>,

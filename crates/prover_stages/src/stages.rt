@@ -32,7 +32,7 @@ pub type Stages<SC> = (
 /// The stages of a batch's proof along its transcript (`prove_batch` of `p3-batch-stark`), from the draw of the lookups' pair to that of
 /// the point of the openings: the permutation columns and their commitment, the quotients' chunks and theirs.
 ///
-/// The answer is the refusal of the first check that fails of those of these stages, in order (`verdict`): `WitnessNotFound` of `Lookup`,
+/// The checks of these stages before a refusal hold, and it says why; in order they are (`verdict`): `WitnessNotFound` of `Lookup`,
 /// `LookupDenominatorZero`, `Pcs` of `PermutationCommitment`, of `QuotientEvaluations` and of `QuotientCommitment`, `WitnessNotFound` of
 /// `Ood`. Only out of memory is free. Where none fails it is what the honest proof is made of, for the values that are ground, with the
 /// lookups' challenges and that which folds the constraints (`challenges`, `alpha`), and the transcript stands where the openings are

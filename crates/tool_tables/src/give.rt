@@ -10,7 +10,7 @@ use p3_matrix::RowMajorMatrix;
 use std::alloc::Global;
 
 /// Two columns without constraints: words, and how often each is given. Each row sends its word on the bus `words`, so often as a
-/// negative number, at most 1024 times (not in Plonky3).
+/// negative number; this is trusted to be at most 1024, and no constraint keeps it (not in Plonky3).
 #[derive(Clone, Copy)]
 pub struct GiveAir;
 
