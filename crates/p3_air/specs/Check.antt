@@ -5,8 +5,6 @@ use Rattle.std.specs.Prelude.{slice_index_or as get_or}
 use Rattle.p3_field.specs.Ring.{Ring}
 use Rattle.p3_field.specs.Checks.{IsFirstFailing, FirstFailing}
 use Rattle.p3_matrix.specs.Matrix.{Rows, height, row_at}
-use Rattle.p3_air.specs.declared.check.CheckFailure.{CheckFailure}
-use Rattle.p3_air.specs.declared.check.CheckFailure.TheVariants.{PreprocessedHeight, Failing, OutOfMemory}
 use Rattle.p3_air.specs.Tree.{Tree}
 use Rattle.p3_air.specs.RowCheck.{Row, tree_value_at_row}
 
@@ -64,11 +62,3 @@ pub record AreNonzero {F : Type 0} (r : Ring F) (values : List F) (places : List
 abbrev pub HasHeight : {F : Type 0} → Option (Rows F) → ℕ → Type 0
 HasHeight None n = Unit {0}
 HasHeight (Some m) n = height m ≡ n
-
--- The answer for a table whose constraints are these trees: after the height of the preprocessed trace the first row with a tree that isn't zero, with the
--- places of all such trees there. Heights that differ are found without memory, so out of memory comes only where they agree.
-abbrev pub IsChecked : {F : Type 0} → Ring F → TableTraces F → List (Tree F) → Result (Unit {0}) CheckFailure → Type 0
-IsChecked r t ts (Ok x) = HasHeight t.preprocessed (height t.main) × FirstFailing (height t.main) (HoldsAtRow r t ts) None
-IsChecked r t ts (Err PreprocessedHeight) = HasHeight t.preprocessed (height t.main) → ⊥
-IsChecked r t ts (Err (Failing row places)) = HasHeight t.preprocessed (height t.main) × IsFirstFailing (height t.main) (HoldsAtRow r t ts) row × AreNonzero r (row_values r t ts row) places.items
-IsChecked r t ts (Err OutOfMemory) = HasHeight t.preprocessed (height t.main)

@@ -11,6 +11,7 @@ pub mod Words
 pub mod PointValues
 pub mod RowCheck
 pub mod Check
+pub mod Checked
 pub mod Layout
 pub mod Placed
 pub mod Recording

@@ -3,11 +3,13 @@ ghost use Rattle.std.specs.Prelude.{◌≡◌, ℕ, ◌+◌, ◌%◌, ◌<◌, �
 ghost use Rattle.std.specs.Option.{option_map};
 ghost use Rattle.p3_matrix.specs.Matrix.{height};
 ghost use Rattle.p3_air.specs.Shape.{width_of};
-ghost use Rattle.p3_air.specs.Check.{table_traces, AreNonzero, IsChecked, HasHeight, HoldsAtRow, periodic_row, preprocessed_row, row_values};
+ghost use Rattle.p3_air.specs.Check.{table_traces, AreNonzero, HasHeight, HoldsAtRow, periodic_row, preprocessed_row, row_values};
+ghost use Rattle.p3_air.specs.Checked.{IsChecked};
 ghost use Rattle.p3_air.specs.declared.check.CheckFailure.TheVariants.{OutOfMemory};
 
 use crate::base::Air;
-use crate::debug::{DebugConstraintBuilder, RowValues};
+use crate::debug::DebugConstraintBuilder;
+use crate::row_values::{RowValues, preprocessed_at};
 use p3_field::{Field, FieldCore, Mem, RingCore};
 use p3_matrix::RowMajorMatrix;
 use std::alloc::{AllocError, Global};
@@ -64,19 +66,6 @@ fn periodic_at<F: Field>(alloc: Global, columns: &[Vec<F>], row: usize) -> Mem<V
         values.push(column[row % column.len()])?;
     }
     Ok(values)
-}
-
-/// A row of a preprocessed trace: empty where there is none, so that it has as many values as the trace has columns
-/// (not in Plonky3; upstream's callers take the row of the optional trace in place).
-pub fn preprocessed_at<'a, F>(trace: Option<&'a RowMajorMatrix<F>>, row: usize) -> &'a [F]
-    requires { IfSome trace (λ m. row < height m.now) }
-    ensures values { result.now ≡ preprocessed_row (option_map (λ m. m.now) trace.entry) row }
-    ensures len { length result.now ≡ width_of (option_map (λ m. m.now) trace.entry) }
-{
-    match trace {
-        Some(m) => m.row(row),
-        None => &[],
-    }
 }
 
 // Whether the trace, if there is one, has this height.

@@ -2,7 +2,7 @@ use Rattle.std.proofs.Common.{◌≡◌, sym, subst, ◌∙◌}
 use Rattle.p3_air.specs.Shape.{Declares}
 use Rattle.p3_air.specs.RowCheck.{Row, row_shape, cell_value}
 use Rattle.p3_air.specs.Laws.PointValues.{row_point-declares, row_point-cell}
-use Rattle.p3_air.proofs.debug.RowValues.cell.Goals as goal
+use Rattle.p3_air.proofs.row_values.RowValues.cell.Goals as goal
 
 pub cell-requires : goal.cell-requires
 cell-requires g c =
