@@ -1,11 +1,9 @@
 -- The rows of a table with lookups, as a check of them reads them.
-use Rattle.std.proofs.Common.{◌≡◌, ℕ, ◌+◌, ◌*◌, ◌<◌, List, [], ◌∷◌, ◌++◌, length, map, refl, ◌∙◌, ap, arith}
-use Rattle.p3_field.specs.Ring.{Ring}
-use Rattle.p3_air.specs.RowCheck.{Row, row_shape, tree_value_at_row}
+use Rattle.std.proofs.Common.{◌≡◌, ℕ, ◌+◌, ◌*◌, ◌<◌, List, [], ◌∷◌, ◌++◌, length, map, refl, ap, arith}
+use Rattle.p3_air.specs.RowCheck.{Row, row_shape}
 use Rattle.p3_air.specs.Shape.{Declaration, Fits, declared_shape, width_of}
 use Rattle.p3_air.specs.Tree.{Tree, over_base, over_extension}
 use Rattle.p3_lookup.specs.Lookup.{LookupData, FitLookups}
-use Rattle.batch_constraints.specs.BatchCheck.{CheckedTable, batch_row}
 use Rattle.batch_constraints.specs.BatchTrees.{AreLookupsOf}
 use Rattle.batch_constraints.specs.Laws.Reads.{shape_fits_lookups}
 
@@ -35,12 +33,3 @@ values_over_extension {E = E} g (u ∷ us) = ap (λ (l : List E). g u ∷ l) (va
 pub asserted_values : {F E : Type 0} (g : Tree F → E) (ts us : List (Tree F)) → map (λ a. g a.tree) (map over_base ts ++ map over_extension us) ≡ map g (ts ++ us)
 asserted_values g [] us = values_over_extension g us
 asserted_values {E = E} g (t ∷ ts) us = ap (λ (l : List E). g t ∷ l) (asserted_values g ts us)
-
--- what was added to nothing, at a row that is this one
-pub batch_values_are : {F E : Type 0} (f : Ring F) (e : Ring E) (embed : F → E) (t : CheckedTable F E) (ts us : List (Tree F)) (i : ℕ) (w : Row F E) (old new : List E)
-    → w ≡ batch_row f.zero t i → old ≡ [] → new ≡ old ++ map (λ a. tree_value_at_row f e embed w a.tree) (map over_base ts ++ map over_extension us)
-    → new ≡ map (tree_value_at_row f e embed (batch_row f.zero t i)) (ts ++ us)
-batch_values_are {F = F} {E = E} f e embed t ts us i w old new h k q =
-    q ∙ ap (λ (l : List E). old ++ l) (asserted_values (tree_value_at_row f e embed w) ts us)
-    ∙ ap (λ (l : List E). l ++ map (tree_value_at_row f e embed w) (ts ++ us)) k
-    ∙ ap (λ (v : Row F E). map (tree_value_at_row f e embed v) (ts ++ us)) h

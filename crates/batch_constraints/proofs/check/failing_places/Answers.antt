@@ -8,7 +8,8 @@ use Rattle.p3_lookup.specs.Lookup.{FitLookups}
 use Rattle.p3_lookup.specs.Trees.{lookup_trees}
 use Rattle.p3_lookup.specs.Written.{read, read_all}
 use Rattle.batch_constraints.specs.BatchCheck.{checked_table}
-use Rattle.batch_constraints.specs.Laws.Rows.{row_fits, row_fits_lookups, batch_values_are}
+use Rattle.batch_constraints.specs.Laws.Rows.{row_fits, row_fits_lookups}
+use Rattle.batch_constraints.proofs.Values.{batch_values_are}
 use Rattle.batch_constraints.specs.Laws.Images.{all_of_map}
 use Rattle.batch_constraints.proofs.check.failing_places.Goals as goal
 
