@@ -3,10 +3,10 @@
 use Rattle.std.specs.Prelude.{ℕ, zero, suc, ◌+◌, ◌*◌, List, ◌++◌, map, All}
 use Rattle.p3_field.specs.Ring.{Ring}
 use Rattle.p3_field.specs.Poly.{tabulate}
-use Rattle.p3_air.specs.declared.layout.AirLayout.{AirLayout}
-use Rattle.p3_air.specs.Layout.{Places}
-use Rattle.p3_air.specs.Shape.{Declaration, declared_shape}
-use Rattle.p3_air.specs.Tree.{Tree, Asserted, over_base, over_extension}
+use Rattle.air_core.specs.declared.layout.AirLayout.{AirLayout}
+use Rattle.air_core.specs.Layout.{Places}
+use Rattle.air_core.specs.Shape.{Declaration, declared_shape}
+use Rattle.air_core.specs.Tree.{Tree, Asserted, over_base, over_extension}
 use Rattle.p3_lookup.specs.Lookup.{LookupData, IsLookup}
 use Rattle.p3_lookup.specs.Trees.{lookup_trees}
 

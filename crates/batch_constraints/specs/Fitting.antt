@@ -1,10 +1,10 @@
 -- Which constraints have polynomials that fit a table's quotient, and how many transition selectors are multiplied in a constraint.
 -- After Plonky3's p3-air (symbolic expressions: the transition selector counts nothing in a degree as a multiple of the height).
 use Rattle.std.specs.Prelude.{ℕ, ◌+◌, ◌*◌, ◌<◌, max, List, All}
-use Rattle.p3_air.specs.declared.cells.Cell.{Cell}
-use Rattle.p3_air.specs.declared.cells.Cell.TheVariants.{Main, Preprocessed, Periodic, Public, FirstRow, LastRow, Transition}
-use Rattle.p3_air.specs.Degree.{full_degree, polynomial_degree}
-use Rattle.p3_air.specs.Tree.{Tree}
+use Rattle.air_core.specs.declared.cells.Cell.{Cell}
+use Rattle.air_core.specs.declared.cells.Cell.TheVariants.{Main, Preprocessed, Periodic, Public, FirstRow, LastRow, Transition}
+use Rattle.air_core.specs.Degree.{full_degree, polynomial_degree}
+use Rattle.air_core.specs.Tree.{Tree}
 
 -- one for the transition selector, nothing for the other cells
 abbrev pub cell_transitions : Cell → ℕ

@@ -2,5 +2,4 @@ pub mod BatchTrees
 pub mod Sizing
 pub mod Fitting
 pub mod Openings
-pub mod BatchCheck
 pub mod Laws

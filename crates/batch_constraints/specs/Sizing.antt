@@ -3,11 +3,11 @@
 use Rattle.std.specs.Prelude.{ℕ, zero, suc, ◌+◌, ◌-◌, ◌^◌, nat_lt, cond, max, List, [], ◌∷◌, length, map, Option, None, Some}
 use Rattle.std.specs.Int.{div_ceil}
 use Rattle.p3_field.specs.Ring.{Ring}
-use Rattle.p3_air.specs.Degree.{multiple, polynomial_degree}
-use Rattle.p3_air.specs.Shape.{Declaration}
-use Rattle.p3_air.specs.Tree.{Tree}
+use Rattle.air_core.specs.Degree.{multiple, polynomial_degree}
+use Rattle.air_core.specs.Shape.{Declaration}
+use Rattle.air_core.specs.Tree.{Tree}
 use Rattle.p3_lookup.specs.Lookup.{LookupData}
-use Rattle.p3_air.specs.Degree.{greatest}
+use Rattle.air_core.specs.Degree.{greatest}
 use Rattle.batch_constraints.specs.BatchTrees.{table_trees}
 
 -- the largest multiple of the height, where the transition selector has degree t; zero without constraints

@@ -1,8 +1,8 @@
 //! What the definitions are fixed by: laws as the contracts of functions that compute nothing.
 ghost use Rattle.std.specs.Prelude.{◌≡◌, ℕ, ◌^◌, ◌<◌, ◌≤◌, List, length, All};
-ghost use Rattle.p3_air.specs.Layout.{layout_of, layout_shape};
-ghost use Rattle.p3_air.specs.Shape.{Shape, Declaration, IsInteraction, ReadsDeclared, declared_shape};
-ghost use Rattle.p3_air.specs.Tree.{Tree, Interaction};
+ghost use Rattle.air_core.specs.Layout.{layout_of, layout_shape};
+ghost use Rattle.air_core.specs.Shape.{Shape, Declaration, IsInteraction, ReadsDeclared, declared_shape};
+ghost use Rattle.air_core.specs.Tree.{Tree, Interaction};
 ghost use Rattle.p3_lookup.specs.Lookup.{LookupData, FitLookups, lookups_of};
 ghost use Rattle.p3_lookup.specs.Packing.{packed};
 ghost use Rattle.p3_lookup.specs.Trees.{lookup_trees};

@@ -1,16 +1,16 @@
 //! The degree of a table's constraints, and into how many chunks its quotient is split.
 ghost use Rattle.std.specs.Prelude.{◌≡◌, ℕ, ◌+◌, ◌-◌, ◌^◌, ◌<◌, ◌≤◌, List, [], ◌++◌, max, length, map, IfOk};
-ghost use Rattle.p3_air.specs.Layout.{layout_of};
+ghost use Rattle.air_core.specs.Layout.{layout_of};
 ghost use Rattle.p3_lookup.specs.Written.{read, read_all};
 ghost use Rattle.batch_constraints.specs.BatchTrees.{table_trees, AreLookupsOf};
 ghost use Rattle.batch_constraints.specs.Fitting.{FewTransitionsFit};
 ghost use Rattle.batch_constraints.specs.Sizing.{largest_multiple, largest_degree, constraint_degree, domain_degree, periods_of, hint_of, with_hint, log_chunks};
 
 use crate::symbolic::recorded;
-use p3_air::{
+use air_core::{
     Air, AirLayout, BaseAir, InteractionSymbolicBuilder, constraint_degree_from_poly_degree,
 };
-use p3_commit::PolynomialSpace;
+use commit_core::PolynomialSpace;
 use p3_field::{Field, FieldCore, Mem, RingCore};
 use p3_lookup::{Lookup, LookupProtocol};
 use p3_matrix::log2_ceil_usize;

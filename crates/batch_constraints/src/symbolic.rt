@@ -1,13 +1,13 @@
 //! The constraints of a table with lookups, recorded.
 ghost use Rattle.std.specs.Prelude.{◌≡◌, ℕ, ◌+◌, ◌*◌, ◌^◌, ◌<◌, length, map, IfOk};
-ghost use Rattle.p3_air.specs.Layout.{layout_of};
-ghost use Rattle.p3_air.specs.Recording.{asserted_at};
-ghost use Rattle.p3_air.specs.Symbolic.{tree_of};
+ghost use Rattle.air_core.specs.Layout.{layout_of};
+ghost use Rattle.air_core.specs.Recording.{asserted_at};
+ghost use Rattle.air_core.specs.Symbolic.{tree_of};
 ghost use Rattle.p3_lookup.specs.Trees.{lookup_trees};
 ghost use Rattle.p3_lookup.specs.Written.{read, read_all};
 ghost use Rattle.batch_constraints.specs.BatchTrees.{batch_trees, layout_with, AreLookupsOf, places_of};
 
-use p3_air::{
+use air_core::{
     Air, AirLayout, BaseAir, ConstraintLayout, InteractionSymbolicBuilder, SymbolicExpression,
 };
 use p3_field::{Field, FieldCore, Mem, RingCore};

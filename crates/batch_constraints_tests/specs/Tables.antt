@@ -1,8 +1,8 @@
 -- Two tables of one column: one whose cell is cubed, and one whose cell is taken from a bus.
 use Rattle.std.specs.Prelude.{ℕ, false, List, [], ◌∷◌, None, Some}
-use Rattle.p3_air.specs.declared.cells.Cell.TheVariants.{Main}
-use Rattle.p3_air.specs.Shape.{Declaration}
-use Rattle.p3_air.specs.Tree.{Tree, constant, cell, product, Interaction, global}
+use Rattle.air_core.specs.declared.cells.Cell.TheVariants.{Main}
+use Rattle.air_core.specs.Shape.{Declaration}
+use Rattle.air_core.specs.Tree.{Tree, constant, cell, product, Interaction, global}
 
 abbrev pub first_column : {F : Type 0} → Tree F
 first_column = cell (Main false 0)

@@ -1,10 +1,10 @@
 //! A table of one column, whose cell's cube is zero.
 ghost use Rattle.std.proofs.Common.{rules};
 ghost use Rattle.std.specs.Prelude.{◌≡◌, [], ◌∷◌};
-ghost use Rattle.p3_air.specs.Laws.Declared.{counts-none};
+ghost use Rattle.air_core.specs.Laws.Declared.{counts-none};
 ghost use Rattle.batch_constraints_tests.specs.Tables.{cube_trees, cube_declaration};
 
-use p3_air::{Air, AirBuilder, BaseAir, Cell, InteractionBuilder};
+use air_core::{Air, AirBuilder, BaseAir, Cell, InteractionBuilder};
 use p3_field::{BabyBear, FieldCore, Mem};
 use p3_matrix::RowMajorMatrix;
 use std::alloc::Global;

@@ -1,10 +1,10 @@
 //! The degrees of leaves as polynomials, over eight rows.
 ghost use Rattle.std.specs.Prelude.{◌≡◌, [], ◌∷◌, IfOk, length};
-ghost use Rattle.p3_air.specs.Degree.{HasPeriod};
-ghost use Rattle.p3_air.specs.Symbolic.{OperandsBelow};
+ghost use Rattle.air_core.specs.Degree.{HasPeriod};
+ghost use Rattle.air_core.specs.Symbolic.{OperandsBelow};
 
 use crate::same::assert_same;
-use p3_air::{Cell, ExtCell, Node, SymbolicExpression};
+use air_core::{Cell, ExtCell, Node, SymbolicExpression};
 use p3_air_tests::support::{bear, of_cell};
 use p3_field::{BabyBear, FieldCore, Mem, RingCore};
 use std::alloc::Global;

@@ -1,6 +1,6 @@
 //! What a check of constraints answers.
 use crate::same::{assert_same, assert_values};
-use batch_constraints::CheckFailure;
+use batch_check::CheckFailure;
 use std::process::Abort;
 
 /// Compares the row and the places that a check names.

@@ -1,10 +1,10 @@
 //! The sending table: a preprocessed and a periodic column, and two lookups.
 ghost use Rattle.std.specs.Prelude.{◌≡◌, ◌<◌, IfOk, All, length, map};
 ghost use Rattle.p3_lookup.specs.Written.{read_all};
-ghost use Rattle.batch_tables.specs.Sending.{sending_declaration};
+ghost use Rattle.air_tables.specs.Sending.{sending_declaration};
 ghost use Rattle.batch_constraints.specs.BatchTrees.{AreLookupsOf};
 
-use batch_tables::SendingAir;
+use air_tables::SendingAir;
 use p3_air_tests::support::bear;
 use p3_field::{BabyBear, FieldCore, Mem, RingCore};
 use p3_lookup::Lookups;

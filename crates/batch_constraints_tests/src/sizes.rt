@@ -8,8 +8,8 @@ use batch_constraints::{
     get_constraint_layout, get_log_num_quotient_chunks, get_log_num_quotient_chunks_for_domain,
     get_max_constraint_degree, get_symbolic_constraints, num_batched_openings,
 };
-use batch_tables::SwapAir;
-use p3_air::AirLayout;
+use air_tables::SwapAir;
+use air_core::AirLayout;
 use p3_air_tests::support::bear;
 use p3_field::{BabyBear, FieldCore, Mem, RingCore, TwoAdicField, TwoAdicMultiplicativeCoset};
 use p3_lookup::LogUpGadget;

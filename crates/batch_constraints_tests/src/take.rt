@@ -3,12 +3,12 @@ ghost use Rattle.std.proofs.Common.{rules};
 ghost use Rattle.std.specs.Prelude.{◌≡◌, [], ◌∷◌, IfOk, length};
 ghost use Rattle.p3_field.specs.Ring.{of_nat};
 ghost use Rattle.p3_field.specs.BabyBear.{baby_bear_ring};
-ghost use Rattle.p3_air.specs.Laws.Declared.{counts-none};
+ghost use Rattle.air_core.specs.Laws.Declared.{counts-none};
 ghost use Rattle.p3_lookup.specs.Written.{read_all};
 ghost use Rattle.batch_constraints.specs.BatchTrees.{AreLookupsOf};
 ghost use Rattle.batch_constraints_tests.specs.Tables.{cell_taken, take_declaration};
 
-use p3_air::{Air, AirBuilder, BaseAir, Cell, Count, InteractionBuilder};
+use air_core::{Air, AirBuilder, BaseAir, Cell, Count, InteractionBuilder};
 use p3_air_tests::support::bear;
 use p3_field::{BabyBear, FieldCore, Mem, RingCore};
 use p3_lookup::Lookups;

@@ -1,7 +1,7 @@
 -- What is committed of one table more, and the check of what is committed.
 use Rattle.std.proofs.Common.{◌≡◌, ℕ, ◌+◌, List, [], ◌∷◌, ◌++◌, length, get_or, refl, ◌∙◌, ap, sym, inr, add-one, arith}
 use Rattle.std.specs.Prelude.{Option}
-use Rattle.p3_commit.specs.Failure.{NoneOf}
+use Rattle.commit_core.specs.Failure.{NoneOf}
 use Rattle.p3_field.specs.Checks.{NoneFails, FirstFails}
 use Rattle.p3_field.specs.Domain.{CosetData}
 use Rattle.p3_matrix.specs.Matrix.{Rows}

@@ -1,6 +1,6 @@
 -- Budgets of zero are never above a table's own.
 use Rattle.std.proofs.Common.{◌≡◌, ℕ, zero, suc, ◌+◌, ◌<◌, ◌≤◌, List, get_or, replicate, refl, arith}
-use Rattle.p3_air.specs.Degree.{capped_sum}
+use Rattle.air_core.specs.Degree.{capped_sum}
 use Rattle.p3_field.specs.Checks.{NoneFails, in_turn}
 use Rattle.p3_field.specs.Laws.Checks.{none_of_each}
 use Rattle.p3_field.specs.Ring.{Ring}

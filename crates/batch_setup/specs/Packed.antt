@@ -4,9 +4,9 @@ use Rattle.std.specs.Prelude.{slice_index_or as get_or}
 use Rattle.std.specs.Prelude.{ℕ, ◌+◌, ◌-◌, ◌^◌, ◌<◌, ◌≤◌, max, false, List, [], ◌∷◌, None}
 use Rattle.p3_field.specs.Checks.{Check, check}
 use Rattle.p3_field.specs.Ring.{Ring}
-use Rattle.p3_air.specs.Degree.{capped_sum}
-use Rattle.p3_air.specs.Shape.{Declaration}
-use Rattle.p3_air.specs.Tree.{Tree, Interaction}
+use Rattle.air_core.specs.Degree.{capped_sum}
+use Rattle.air_core.specs.Shape.{Declaration}
+use Rattle.air_core.specs.Tree.{Tree, Interaction}
 use Rattle.p3_lookup.specs.Lookup.{LookupData, lookups_of}
 use Rattle.p3_lookup.specs.Packing.{packed}
 use Rattle.batch_constraints.specs.Sizing.{table_log_chunks, free_budget}

@@ -5,7 +5,7 @@ use Rattle.std.specs.Prelude.{◌≡◌, ℕ, zero, suc, ◌-◌, ◌^◌, List,
 use Rattle.p3_field.specs.Checks.{Check, check}
 use Rattle.p3_field.specs.Domain.{CosetData}
 use Rattle.p3_matrix.specs.Matrix.{Rows, height}
-use Rattle.p3_commit.specs.Failure.{NoneOf}
+use Rattle.commit_core.specs.Failure.{NoneOf}
 use Rattle.batch_statement.specs.Statement.{PreprocessedTracesData, with_entry}
 use Rattle.batch_statement.specs.declared.preprocessed.PreprocessedInstanceMeta.{PreprocessedInstanceMeta}
 use Rattle.batch_setup.specs.Packed.{Source, no_source}

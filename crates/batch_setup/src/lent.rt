@@ -1,7 +1,7 @@
 //! An AIR that is lent, as an AIR.
 ghost use Rattle.std.specs.Prelude.{◌≡◌};
 
-use p3_air::{Air, BaseAir, InteractionBuilder};
+use air_core::{Air, BaseAir, InteractionBuilder};
 use p3_field::{FieldCore, Mem, RingCore};
 use p3_matrix::RowMajorMatrix;
 use std::alloc::Global;

@@ -3,7 +3,7 @@ ghost use Rattle.std.specs.Prelude.{◌≡◌, ℕ, ◌-◌, ◌^◌, ◌<◌, �
 ghost use Rattle.std.specs.Prelude.{slice_index_or as get_or};
 ghost use Rattle.p3_field.specs.Checks.{in_turn};
 ghost use Rattle.p3_field.specs.Poly.{tabulate};
-ghost use Rattle.p3_commit.specs.Commitments.{IsCommitment};
+ghost use Rattle.commit_core.specs.Commitments.{IsCommitment};
 ghost use Rattle.batch_statement.specs.Statement.{with_entry};
 ghost use Rattle.batch_setup.specs.Packed.{source_of};
 ghost use Rattle.batch_setup.specs.Preprocessed.{height_checks, height_at, natural, on_domain, committed_below, trace_at, entry_with, entry_at, commit_checks, IsPrepared};
@@ -13,8 +13,8 @@ use crate::error::{ProverPhase, SetupError};
 use crate::powers::power_of_two;
 use crate::prover_data::Committed;
 use batch_statement::{PreprocessedInstanceMeta, PreprocessedTraces};
-use p3_air::{Air, BaseAir};
-use p3_commit::{CosetPcs, Pcs, PcsFailure, PolynomialSpace, UnivariateStarkPcs};
+use air_core::{Air, BaseAir};
+use commit_core::{CosetPcs, Pcs, PcsFailure, PolynomialSpace, UnivariateStarkPcs};
 use p3_field::{
     BasedVectorSpace, ExtensionField, Field, FieldCore, Mem, PrimeCharacteristicRing, PrimeCore64,
     PrimeField64, RingCore, TwoAdicCore, TwoAdicField, TwoAdicMultiplicativeCoset,

@@ -2,7 +2,7 @@
 ghost use Rattle.std.specs.Prelude.{◌≡◌, None, [], replicate, IfOk};
 
 use batch_statement::SharedData;
-use p3_commit::Pcs;
+use commit_core::Pcs;
 use p3_field::{Field, FieldCore, Mem, RingCore};
 use p3_uni_stark::{Challenge, Challenger, Commitment, StarkGenericConfig, Val};
 use std::alloc::Global;

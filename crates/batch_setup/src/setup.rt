@@ -2,7 +2,7 @@
 ghost use Rattle.std.specs.Prelude.{◌≡◌, ℕ, ◌+◌, ◌<◌, ◌≤◌, ◌++◌, cond, flat_map, length, map, replicate, IfErr, IfOk};
 ghost use Rattle.std.specs.Prelude.{slice_index_or as get_or};
 ghost use Rattle.p3_field.specs.Poly.{tabulate};
-ghost use Rattle.p3_commit.specs.Commitments.{IsCommitment};
+ghost use Rattle.commit_core.specs.Commitments.{IsCommitment};
 ghost use Rattle.p3_lookup.specs.Bus.{HaveOneWidth};
 ghost use Rattle.p3_lookup.specs.Lookup.{lookups_of};
 ghost use Rattle.p3_lookup.specs.Written.{read_all};
@@ -19,8 +19,8 @@ use crate::lookups::batch_lookups;
 use crate::preprocessed::prepared;
 use crate::prover_data::{PreprocessedProverData, ProverData, SetupData};
 use batch_statement::SharedData;
-use p3_air::{Air, BaseAir};
-use p3_commit::{CosetPcs, Pcs, PolynomialSpace, UnivariateStarkPcs};
+use air_core::{Air, BaseAir};
+use commit_core::{CosetPcs, Pcs, PolynomialSpace, UnivariateStarkPcs};
 use p3_field::{
     BasedVectorSpace, ExtensionField, Field, FieldCore, Mem, PrimeCharacteristicRing, PrimeCore64,
     PrimeField64, RingCore, TwoAdicCore, TwoAdicField,

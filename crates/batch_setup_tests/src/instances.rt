@@ -2,7 +2,7 @@
 
 use crate::compared::assert_same;
 use batch_setup::{PreprocessedProverData, SetupData, SetupError, TableInstance};
-use batch_tables::SwapAir;
+use air_tables::SwapAir;
 use p3_air_tests::support::bear;
 use p3_field::{BabyBear, FieldCore, Mem, RingCore};
 use p3_matrix::RowMajorMatrix;

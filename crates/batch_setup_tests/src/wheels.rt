@@ -10,7 +10,7 @@ use p3_field::{BabyBear, Mem, RingCore};
 use p3_matrix::RowMajorMatrix;
 use std::alloc::Global;
 use std::test::Fail;
-use tool_tables::WheelAir;
+use air_tables::WheelAir;
 
 // The data that is made, or a failed test.
 fn granted(made: Made) -> Result<ProverData<Config>, Fail> {

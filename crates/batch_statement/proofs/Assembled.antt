@@ -3,7 +3,7 @@ use Rattle.std.proofs.Common.{◌≡◌, ℕ, ◌<◌, ◌≤◌, min, List, [],
 use Rattle.std.specs.Prelude.{flat_map}
 use Rattle.std.proofs.lemmas.List.{length-map, take-map}
 use Rattle.std.proofs.lemmas.List.Elements.{All-weaker}
-use Rattle.p3_air.specs.Shape.{Declaration, declared_shape}
+use Rattle.air_core.specs.Shape.{Declaration, declared_shape}
 use Rattle.p3_lookup.specs.Lookup.{LookupData, HasCountForEach, ReadsSent, IsLookup}
 use Rattle.p3_lookup.specs.Bus.{HaveOneWidth}
 use Rattle.p3_lookup.specs.Written.{Written, read_all}

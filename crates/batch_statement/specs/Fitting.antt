@@ -4,7 +4,7 @@ use Rattle.std.specs.Prelude.{ℕ, ◌<◌, ◌==◌, Bool, not, ◌&&◌, ◌||
 use Rattle.std.specs.Prelude.{slice_index_or as get_or}
 use Rattle.std.specs.List.{list_all}
 use Rattle.p3_lookup.specs.Packing.{same_name}
-use Rattle.p3_air.specs.Shape.{Declaration, width_of}
+use Rattle.air_core.specs.Shape.{Declaration, width_of}
 use Rattle.p3_lookup.specs.Written.{Written}
 use Rattle.batch_statement.specs.Statement.{PreprocessedTracesData, HasEntryOf, entry_of, ListsEntries, HasPlace}
 

@@ -2,8 +2,8 @@
 -- p3-batch-stark (CommonData, GlobalPreprocessed).
 use Rattle.std.specs.Prelude.{◌≡◌, ℕ, suc, ◌<◌, min, List, [], ◌∷◌, length, map, flat_map, take, All, Option, None, Some}
 use Rattle.std.specs.Prelude.{slice_index_or as get_or, slice_get}
-use Rattle.p3_air.specs.Tree.{Tree}
-use Rattle.p3_air.specs.Shape.{Declaration, declared_shape, width_of}
+use Rattle.air_core.specs.Tree.{Tree}
+use Rattle.air_core.specs.Shape.{Declaration, declared_shape, width_of}
 use Rattle.p3_lookup.specs.Lookup.{LookupData, HasCountForEach, ReadsSent}
 use Rattle.p3_lookup.specs.Bus.{HaveOneWidth}
 use Rattle.p3_lookup.specs.Written.{Written, read_all}

@@ -1,11 +1,11 @@
 //! Whether the entries of a batch's preprocessed traces fit its tables.
 ghost use Rattle.std.specs.Prelude.{◌≡◌, ◌↔◌, ◌<◌, ◌≤◌, ℕ, List, None, Some, length, map, take, get_or, IfOk, IsOk, IsTrue};
-ghost use Rattle.p3_air.specs.Shape.{Declaration, width_of};
+ghost use Rattle.air_core.specs.Shape.{Declaration, width_of};
 ghost use Rattle.batch_statement.specs.Statement.{HasEntryOf, IsPlaced, with_entry, within_entries};
 ghost use Rattle.batch_statement.specs.Fitting.{FitsPreprocessed};
 
 use crate::preprocessed::{PreprocessedInstanceMeta, PreprocessedTraces};
-use p3_air::BaseAir;
+use air_core::BaseAir;
 use p3_field::{Field, FieldCore, Mem, RingCore};
 use std::alloc::Global;
 

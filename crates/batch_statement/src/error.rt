@@ -4,7 +4,7 @@ ghost use Rattle.batch_statement.specs.declared.error.BatchVerificationError.The
 ghost use Rattle.p3_uni_stark.specs.declared.error.VerificationError.TheVariants.{InvalidProofShape, PeriodicColumn};
 
 use batch_transcript::BatchTranscriptFailure;
-use p3_commit::PeriodicColumnShapeError;
+use commit_core::PeriodicColumnShapeError;
 use p3_lookup::LookupError;
 use p3_uni_stark::{InvalidProofShapeError, VerificationError};
 use std::alloc::{AllocError, AllocFailed};

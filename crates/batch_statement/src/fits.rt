@@ -9,7 +9,7 @@ use crate::entries::preprocessed_fits;
 use crate::preprocessed::PreprocessedTraces;
 use crate::reads::lookups_fit;
 use crate::widths::have_one_width;
-use p3_air::{Air, BaseAir};
+use air_core::{Air, BaseAir};
 use p3_field::{Field, FieldCore, Mem, RingCore};
 use p3_lookup::Lookups;
 use std::alloc::Global;

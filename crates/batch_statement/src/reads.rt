@@ -1,11 +1,11 @@
 //! Whether lookups read only what their table may send.
 ghost use Rattle.std.specs.Prelude.{◌≡◌, ◌↔◌, ◌<◌, ◌≤◌, ℕ, List, [], length, map, get_or, All, IsTrue};
-ghost use Rattle.p3_air.specs.Shape.{Declaration, declared_shape, ReadsSendable};
-ghost use Rattle.p3_air.specs.Symbolic.{tree_of};
+ghost use Rattle.air_core.specs.Shape.{Declaration, declared_shape, ReadsSendable};
+ghost use Rattle.air_core.specs.Symbolic.{tree_of};
 ghost use Rattle.p3_lookup.specs.Lookup.{IsLookup};
 ghost use Rattle.p3_lookup.specs.Written.{read, read_all, tree_count};
 
-use p3_air::{BaseAir, Count, SymbolicExpression};
+use air_core::{BaseAir, Count, SymbolicExpression};
 use p3_field::{Field, FieldCore, RingCore};
 use p3_lookup::{Lookup, Lookups};
 

@@ -5,7 +5,7 @@ ghost use Rattle.p3_lookup.specs.Packing.{same_name};
 ghost use Rattle.p3_lookup.specs.Written.{bus_of_kind};
 ghost use Rattle.batch_statement.specs.Fitting.{widths_agree as agree_in_width, agree as agree_where_shared, agrees_with as agrees_with_all, fits_among as fits_among_all, have_one_width as have_one_width_each};
 
-use p3_air::SymbolicExpression;
+use air_core::SymbolicExpression;
 use p3_lookup::{Kind, Lookup, Lookups};
 
 // Whether each tuple has this many fields.

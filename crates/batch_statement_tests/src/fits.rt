@@ -2,8 +2,8 @@
 
 use crate::compared::assert_same;
 use batch_statement::{PreprocessedInstanceMeta, PreprocessedTraces, SharedData};
-use batch_tables::SendingAir;
-use p3_air::{Cell, Count, SymbolicExpression};
+use air_tables::SendingAir;
+use air_core::{Cell, Count, SymbolicExpression};
 use p3_air_tests::support::{bear, of_cell};
 use p3_field::{BabyBear, FieldCore, Mem, RingCore};
 use p3_lookup::{Kind, Lookup, Lookups};

@@ -1,10 +1,10 @@
 -- The statuses of the answers to jobs and files.
 use Rattle.std.specs.Prelude.{ℕ, List, ⊤}
 use Rattle.p3_field.specs.declared.baby_bear.BabyBear.{BabyBear}
-use Rattle.tool_validity.specs.Job.{JobTable}
+use Rattle.law_tool_valid.specs.Job.{JobTable}
 use Rattle.tool_prover.specs.JobAnswer.{IsJobAnswer}
 use Rattle.tool_statement.specs.declared.table.TableStatement.{TableStatement}
-use Rattle.proof_text.specs.ProofText.{ToolProofData}
+use Rattle.tool_proof_text.specs.ProofText.{ToolProofData}
 use Rattle.tool_verifier.specs.FileAnswer.{IsFileAnswer}
 use Rattle.tool_verifier.specs.declared.status.Status.{Status}
 use Rattle.tool_verifier.specs.declared.status.Status.TheVariants.{Done, Refused, Usage, BadInput, ReadFault, WriteFault, OutOfMemory, TooLarge}

@@ -4,19 +4,19 @@ use Rattle.std.proofs.lemmas.Bool.{false≢true}
 use Rattle.std.specs.Prelude.{string_bytes, codes, IfOk, IsErr, ⊤}
 use Rattle.std.specs.Io.KnownBytes.{Consumes, Appends, IsAtEnd}
 use Rattle.std.specs.declared.alloc.AllocError.{AllocError}
-use Rattle.line_format.specs.Texts.{line_text}
+use Rattle.tool_lines.specs.Texts.{line_text}
 use Rattle.p3_field.specs.declared.baby_bear.BabyBear.{BabyBear}
-use Rattle.tool_validity.specs.Job.{JobTable}
+use Rattle.law_tool_valid.specs.Job.{JobTable}
 use Rattle.tool_jobs.specs.Jobs.{JobWithin, job_numbers}
 use Rattle.tool_prover.specs.JobAnswer.{IsJobAnswer, file_of}
 use Rattle.tool_prover.specs.Laws.FileLength.{honest_text_short}
-use Rattle.line_format.specs.WholeText.{ReadsText}
-use Rattle.line_format.specs.declared.parse.TextError.{TextError}
-use Rattle.line_format.specs.declared.parse.TextError.TheVariants.{Malformed, OutOfMemory as NoMemory}
+use Rattle.tool_lines.specs.WholeText.{ReadsText}
+use Rattle.tool_lines.specs.declared.parse.TextError.{TextError}
+use Rattle.tool_lines.specs.declared.parse.TextError.TheVariants.{Malformed, OutOfMemory as NoMemory}
 use Rattle.tool_verifier.specs.FileAnswer.{IsFileAnswer}
 use Rattle.tool_verifier.specs.declared.answer.Answer.{Answer}
-use Rattle.proof_files.specs.Files.{FileData, FileWithin, file_numbers}
-use Rattle.hash_lines.specs.PrintedRows.{printed_rows}
+use Rattle.tool_proof_files.specs.Files.{FileData, FileWithin, file_numbers}
+use Rattle.tool_hash_lines.specs.PrintedRows.{printed_rows}
 use Rattle.tool_jobs.specs.Stated.{statement_of}
 use Rattle.batch_tool.specs.Answer.{IsAcceptedText, Names, IsBadInput, bad_input_text, IsProveAnswer, IsVerifyAnswer, IsCommandAnswer, Answers, IsOutcome, IsSilent, Outcome}
 use Rattle.batch_tool.specs.declared.command.Command.{Command}

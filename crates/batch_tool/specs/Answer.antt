@@ -2,14 +2,14 @@
 use Rattle.std.specs.Prelude.{◌≡◌, ◌≤◌, ◌<◌, ◌+◌, ℕ, List, [], ◌∷◌, ◌++◌, length, take, codes, decimal, Option, ⊤}
 use Rattle.std.specs.Io.KnownBytes.{Consumes, Appends, IsAtEnd}
 use Rattle.p3_field.specs.declared.baby_bear.BabyBear.{BabyBear}
-use Rattle.byte_io.specs.Limits.{most_bytes}
-use Rattle.line_format.specs.Texts.{line_text}
-use Rattle.line_format.specs.WholeText.{IsNoText, IsFaultLine}
-use Rattle.tool_validity.specs.Job.{JobTable}
+use Rattle.tool_bytes.specs.Limits.{most_bytes}
+use Rattle.tool_lines.specs.Texts.{line_text}
+use Rattle.tool_lines.specs.WholeText.{IsNoText, IsFaultLine}
+use Rattle.law_tool_valid.specs.Job.{JobTable}
 use Rattle.tool_jobs.specs.Jobs.{JobWithin, job_numbers}
 use Rattle.tool_prover.specs.JobAnswer.{IsJobAnswer}
 use Rattle.tool_verifier.specs.FileAnswer.{IsFileAnswer}
-use Rattle.proof_files.specs.Files.{FileData, FileWithin, file_numbers}
+use Rattle.tool_proof_files.specs.Files.{FileData, FileWithin, file_numbers}
 use Rattle.batch_tool.specs.declared.command.Command.{Command}
 use Rattle.batch_tool.specs.declared.command.Command.TheVariants.{Prove, Verify}
 use Rattle.tool_verifier.specs.declared.status.Status.{Status}

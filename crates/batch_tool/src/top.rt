@@ -1,16 +1,16 @@
 //! The top call.
 
 ghost use Rattle.std.specs.Prelude.{◌≡◌, ◌≤◌, ℕ, IfOk, IsErr, map, string_bytes};
-ghost use Rattle.line_format.specs.declared.parse.TextError.TheVariants.{Malformed, OutOfMemory};
-ghost use Rattle.byte_io.specs.Causes.{Rose};
-ghost use Rattle.byte_io.specs.Limits.{most_bytes};
+ghost use Rattle.tool_lines.specs.declared.parse.TextError.TheVariants.{Malformed, OutOfMemory};
+ghost use Rattle.tool_bytes.specs.Causes.{Rose};
+ghost use Rattle.tool_bytes.specs.Limits.{most_bytes};
 ghost use Rattle.batch_tool.specs.Answer.{IsCommandAnswer, IsProveAnswer, IsSilent, IsVerifyAnswer, NamesSome, Outcome, bad_input_text};
 
 use crate::command::Command;
-use byte_io::{Failed, InputError, Sink, Source, read_whole, write_whole};
-use line_format::{TextError, push_number};
+use tool_bytes::{Failed, InputError, Sink, Source, read_whole, write_whole};
+use tool_lines::{TextError, push_number};
 use p3_field::Mem;
-use proof_files::{answer_verify, read_proof_file};
+use tool_proof_files::{answer_verify, read_proof_file};
 use std::alloc::{AllocError, Global};
 use tool_jobs::read_job;
 use tool_prover::answer_prove;

@@ -1,6 +1,6 @@
 //! Jobs that are read and printed, the lines of faults, traces, statements, and unbalanced values.
 use crate::compared::assert_same;
-use line_format::TextError;
+use tool_lines::TextError;
 use p3_field::{BabyBear, Mem, RingCore};
 use std::alloc::Global;
 use std::test::Fail;

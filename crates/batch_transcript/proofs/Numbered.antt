@@ -11,7 +11,7 @@ use Rattle.std.proofs.lemmas.List.Sums.{position_or_len_is, passes_at_first}
 use Rattle.std.proofs.lemmas.Bool.Decides.{nat_tests}
 use Rattle.p3_field.specs.Poly.{tabulate}
 use Rattle.p3_field.specs.Laws.Tabulate.{length-tabulate, get_or-tabulate, tabulate_push}
-use Rattle.p3_air.specs.Tree.{Bus, local, global}
+use Rattle.air_core.specs.Tree.{Bus, local, global}
 use Rattle.p3_lookup.specs.Bus.{is_named, opener_of, opener, opened_below, bus_number, NameOneBus}
 use Rattle.batch_transcript.specs.Buses.{OpensBy}
 use Rattle.p3_lookup.specs.Laws.Buses.{opens_one, opens_none, shares_by_name}

@@ -3,7 +3,7 @@ use Rattle.std.proofs.Common.{◌≡◌, ℕ, List, [], ◌∷◌, ◌++◌, len
 use Rattle.std.specs.Prelude.{max, flat_map}
 use Rattle.std.specs.List.{fold}
 use Rattle.std.proofs.lemmas.List.{length-map}
-use Rattle.p3_air.specs.Tree.{Tree}
+use Rattle.air_core.specs.Tree.{Tree}
 use Rattle.p3_lookup.specs.Bus.{widest_of, widest}
 use Rattle.p3_lookup.specs.Written.{Written, read, read_all}
 

@@ -6,7 +6,7 @@ use Rattle.std.specs.Option.{unwrap_or}
 use Rattle.std.specs.Map.{update}
 use Rattle.p3_field.specs.Ring.{Ring}
 use Rattle.p3_field.specs.Poly.{tabulate}
-use Rattle.p3_air.specs.Tree.{Bus, local, global}
+use Rattle.air_core.specs.Tree.{Bus, local, global}
 use Rattle.p3_lookup.specs.Lookup.{LookupData}
 use Rattle.p3_lookup.specs.Bus.{bus_in, bus_count, batch_buses, widest}
 use Rattle.p3_lookup.specs.Challenge.{ChallengesData, challenges_with, bus_base}

@@ -9,18 +9,18 @@ use Rattle.p3_challenger.specs.declared.sha256_challenger.Sha256Challenger.{Sha2
 use Rattle.p3_matrix.specs.Matrix.{FillsRows, Rows, height}
 use Rattle.plain_pcs.specs.Scheme.{Blowup, PlainCommitmentData, Scheme, scheme}
 use Rattle.plain_pcs.specs.declared.error.PlainProverError.{PlainProverError}
-use Rattle.batch_setting.specs.Setting.{Setting, masks}
+use Rattle.batch_config.specs.Setting.{Setting, masks}
 use Rattle.batch_setup.specs.Setup.{Instance, log_of}
 use Rattle.batch_setup.specs.Laws.Logarithms.{log_of_power}
 use Rattle.batch_statement.specs.Statement.{WellFormed, WrittenCommon, read_common}
-use Rattle.honest_proofs.specs.HonestProof.{IsBuilt}
-use Rattle.batch_proving.specs.Batch.{Batch, HasProverData, IsTracedAll, batch_of, preprocessed_all}
-use Rattle.batch_proving.specs.Laws.Telling.{refusal_tells}
-use Rattle.batch_proving.specs.PlainBackend.{baby_bear_prover, plain_commits, plain_prover_backend}
-use Rattle.batch_proving.specs.Proving.{IsHonestProof, proving_checks}
-use Rattle.batch_proving.specs.Verdict.{IsAnswerRefusal, IsProverAnswer}
-use Rattle.batch_proving.specs.declared.error.ProvingError.{ProvingError}
-use Rattle.batch_proving.specs.declared.error.ProvingError.TheVariants.{LookupDenominatorZero, MultiplicityBound, OutOfMemory, Pcs, WitnessNotFound}
+use Rattle.law_honest.specs.HonestProof.{IsBuilt}
+use Rattle.prover_answer.specs.Batch.{Batch, HasProverData, IsTracedAll, batch_of, preprocessed_all}
+use Rattle.prover_answer.specs.Laws.Telling.{refusal_tells}
+use Rattle.prover_answer.specs.PlainBackend.{baby_bear_prover, plain_commits, plain_prover_backend}
+use Rattle.prover_answer.specs.Proving.{IsHonestProof, proving_checks}
+use Rattle.prover_answer.specs.Verdict.{IsAnswerRefusal, IsProverAnswer}
+use Rattle.prover_answer.specs.declared.error.ProvingError.{ProvingError}
+use Rattle.prover_answer.specs.declared.error.ProvingError.TheVariants.{LookupDenominatorZero, MultiplicityBound, OutOfMemory, Pcs, WitnessNotFound}
 use Rattle.tool_statement.specs.Config.{tool_setting}
 use Rattle.example_air.specs.Bytes.{example_declaration, example_trees}
 use Rattle.example_air.specs.Proving.{AreTables, IsBytesProverData, IsTablesProof, LacksTablesProof, tables_batch}

@@ -11,8 +11,8 @@ use Rattle.p3_field.specs.Ring.{of_nat}
 use Rattle.p3_field.specs.declared.baby_bear.BabyBear.{BabyBear}
 use Rattle.p3_matrix.specs.Matrix.{Rows, height}
 use Rattle.p3_matrix.specs.Laws.Grids.{product_height}
-use Rattle.p3_commit.specs.Commitments.{Committed, IsCommitment}
-use Rattle.p3_commit.specs.Failure.{NoneOf}
+use Rattle.commit_core.specs.Commitments.{Committed, IsCommitment}
+use Rattle.commit_core.specs.Failure.{NoneOf}
 use Rattle.p3_lookup.specs.Lookup.{LookupData}
 use Rattle.plain_pcs.specs.Extension.{IsCommittable, commitment_of}
 use Rattle.plain_pcs.specs.Refusals.{CommitFault}
@@ -24,7 +24,7 @@ use Rattle.batch_setup.specs.Preprocessed.{IsPrepared, committed_below, entry_at
 use Rattle.batch_setup.specs.SetupChecks.{degree_checks, trace_checks}
 use Rattle.batch_setup.specs.declared.error.SetupError.{SetupError}
 use Rattle.batch_statement.specs.Statement.{PreprocessedTracesData}
-use Rattle.batch_proving.specs.PlainBackend.{plain_commits}
+use Rattle.prover_answer.specs.PlainBackend.{plain_commits}
 use Rattle.tool_statement.specs.Config.{tool_scheme}
 use Rattle.example_air.specs.Bytes.{all_bytes, example_declaration, example_interactions, example_trees}
 use Rattle.example_air.specs.Proving.{IsBytesProverData}

@@ -7,19 +7,19 @@ use Rattle.p3_field.specs.declared.quartic.QuarticExtension.{QuarticExtension}
 use Rattle.p3_challenger.specs.declared.sha256_challenger.Sha256Challenger.{Sha256Challenger}
 use Rattle.plain_pcs.specs.Scheme.{Blowup, PlainCommitmentData, scheme}
 use Rattle.plain_pcs.specs.declared.error.PlainError.{PlainError}
-use Rattle.committed_tables.specs.Committed.{CommittedTable, Holds, row_count_of}
-use Rattle.committed_tables.specs.Fields.{FieldsLaws, baby_bear_field, quartic_extension}
-use Rattle.batch_claims.specs.Claims.{bits_at}
-use Rattle.batch_setting.specs.Setting.{Setting}
-use Rattle.batch_shape_checks.specs.Verdict.{IsRefusal, IsVerdict}
+use Rattle.law_committed.specs.Committed.{CommittedTable, Holds, row_count_of}
+use Rattle.law_committed.specs.Fields.{FieldsLaws, baby_bear_field, quartic_extension}
+use Rattle.verifier_claims.specs.Claims.{bits_at}
+use Rattle.batch_config.specs.Setting.{Setting}
+use Rattle.verifier_shape.specs.Verdict.{IsRefusal, IsVerdict}
 use Rattle.batch_statement.specs.Statement.{Common, Statement}
 use Rattle.batch_statement.specs.declared.error.BatchVerificationError.{BatchVerificationError}
-use Rattle.batch_verifier.specs.BatchChecks.{checks}
-use Rattle.plain_soundness.specs.BaseRows.{IsMainHere, main_row}
-use Rattle.plain_soundness.specs.CommittedBatch.{committed_table_at}
-use Rattle.plain_soundness.specs.Laws.BaseRows.{rows_mean}
-use Rattle.plain_soundness.specs.Laws.SwapTables.{first_of}
-use Rattle.plain_soundness.specs.Meaning.{CommittedTablesHold, HoldUnlessUnlucky, IsAlphaUnlucky, IsZetaUnlucky}
+use Rattle.verifier_batch.specs.BatchChecks.{checks}
+use Rattle.law_soundness.specs.BaseRows.{IsMainHere, main_row}
+use Rattle.law_soundness.specs.CommittedBatch.{committed_table_at}
+use Rattle.law_soundness.specs.Laws.BaseRows.{rows_mean}
+use Rattle.law_soundness.specs.Laws.SwapTables.{first_of}
+use Rattle.law_soundness.specs.Meaning.{CommittedTablesHold, HoldUnlessUnlucky, IsAlphaUnlucky, IsZetaUnlucky}
 use Rattle.tool_statement.specs.Config.{backend_of, tool_backend, tool_setting}
 use Rattle.example_air.specs.Bytes.{bits_row, byte_row_trees}
 use Rattle.example_air.specs.Laws.Reads.{reads_bits}

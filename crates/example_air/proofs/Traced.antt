@@ -16,25 +16,25 @@ use Rattle.p3_field.specs.declared.baby_bear.BabyBear.{BabyBear}
 use Rattle.p3_field.specs.declared.quartic.QuarticExtension.{QuarticExtension}
 use Rattle.p3_matrix.specs.Matrix.{FillsRows, Rows, height}
 use Rattle.p3_matrix.specs.Laws.Grids.{product_fills}
-use Rattle.p3_air.specs.Gadgets.{packed_bits}
-use Rattle.p3_commit.specs.Periodic.{IsPeriod}
+use Rattle.air_gadgets.specs.Gadgets.{packed_bits}
+use Rattle.commit_core.specs.Periodic.{IsPeriod}
 use Rattle.p3_lookup.specs.Lookup.{lookups_of}
 use Rattle.batch_constraints.specs.Sizing.{log_chunks}
 use Rattle.batch_constraints.specs.Laws.Logarithms.{log_ceil_least}
 use Rattle.batch_setup.specs.Setup.{log_of}
 use Rattle.batch_setup.specs.Laws.Logarithms.{log_of_power}
-use Rattle.batch_shape_checks.specs.ShapeChecks.{chunks_of_table}
-use Rattle.batch_claims.specs.ClaimChecks.{HasDegreeBits}
-use Rattle.batch_setting.specs.Setting.{masks}
+use Rattle.verifier_shape.specs.ShapeChecks.{chunks_of_table}
+use Rattle.verifier_claims.specs.ClaimChecks.{HasDegreeBits}
+use Rattle.batch_config.specs.Setting.{masks}
 use Rattle.batch_statement.specs.Statement.{WellFormed, entry_of}
-use Rattle.batch_validity.specs.Traced.{TracedTable, committed_alone, log_parts, log_rows, no_rows, quotient_shift, traces_of}
-use Rattle.batch_validity.specs.Valid.{HasQuotientDomain, IsTraced}
-use Rattle.batch_validity.specs.Laws.Columns.{column_height, column_tall, pieces_height}
-use Rattle.batch_validity.specs.Laws.Committed.{no_rows_tall}
-use Rattle.committed_tables.specs.Laws.BabyBearFields.{baby_bear_fields}
-use Rattle.committed_tables.specs.Laws.Disjoint.{shift_gives_domain}
-use Rattle.committed_tables.specs.Traces.{HaveTraceRows}
-use Rattle.batch_proving.specs.Batch.{IsTracedAll, table_at}
+use Rattle.law_valid.specs.Traced.{TracedTable, committed_alone, log_parts, log_rows, no_rows, quotient_shift, traces_of}
+use Rattle.law_valid.specs.Valid.{HasQuotientDomain, IsTraced}
+use Rattle.law_valid.specs.Laws.Columns.{column_height, column_tall, pieces_height}
+use Rattle.law_valid.specs.Laws.Committed.{no_rows_tall}
+use Rattle.law_committed.specs.Laws.BabyBearFields.{baby_bear_fields}
+use Rattle.law_committed.specs.Laws.Disjoint.{shift_gives_domain}
+use Rattle.law_committed.specs.Traces.{HaveTraceRows}
+use Rattle.prover_answer.specs.Batch.{IsTracedAll, table_at}
 use Rattle.tool_statement.specs.Config.{tool_setting}
 use Rattle.example_air.specs.Bytes.{all_bytes, bits_row, bits_rows, byte_row_trees, bytes_rows, example_declaration, example_interactions, byte_times}
 use Rattle.example_air.specs.Proving.{AreTables, tables_batch}

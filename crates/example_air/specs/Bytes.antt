@@ -6,10 +6,10 @@ use Rattle.std.specs.List.{flat_map}
 use Rattle.p3_field.specs.Ring.{Ring, of_nat}
 use Rattle.p3_field.specs.Poly.{tabulate}
 use Rattle.p3_matrix.specs.Matrix.{Rows}
-use Rattle.p3_air.specs.declared.cells.Cell.TheVariants.{Main, Preprocessed}
-use Rattle.p3_air.specs.Gadgets.{packed_bits}
-use Rattle.p3_air.specs.Shape.{Declaration}
-use Rattle.p3_air.specs.Tree.{Tree, Interaction, bool_tree, constant, cell, difference, global}
+use Rattle.air_core.specs.declared.cells.Cell.TheVariants.{Main, Preprocessed}
+use Rattle.air_gadgets.specs.Gadgets.{packed_bits}
+use Rattle.air_core.specs.Shape.{Declaration}
+use Rattle.air_core.specs.Tree.{Tree, Interaction, bool_tree, constant, cell, difference, global}
 use Rattle.example_air.specs.declared.air.ExampleAir.{ExampleAir}
 use Rattle.example_air.specs.declared.air.ExampleAir.TheVariants.{Bits, Bytes}
 

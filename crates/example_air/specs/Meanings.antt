@@ -1,7 +1,7 @@
 -- What the constraints of a row of bits mean.
 use Rattle.std.specs.Prelude.{◌≡◌, ℕ, ◌<◌, length, All, ◌↔◌}
 use Rattle.p3_field.specs.Ring.{Ring}
-use Rattle.p3_air.specs.RowCheck.{Row, tree_value_at_row}
+use Rattle.air_core.specs.RowCheck.{Row, tree_value_at_row}
 use Rattle.example_air.specs.Bytes.{bits_row, byte_row_trees}
 
 -- A row of nine cells meets the constraints exactly where it is the row of a byte.

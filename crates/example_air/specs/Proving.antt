@@ -10,11 +10,11 @@ use Rattle.plain_pcs.specs.Scheme.{PlainCommitmentData}
 use Rattle.plain_pcs.specs.declared.error.PlainProverError.{PlainProverError}
 use Rattle.batch_setup.specs.Setup.{log_of}
 use Rattle.batch_statement.specs.Statement.{PreprocessedTracesData}
-use Rattle.honest_proofs.specs.HonestProof.{IsBuilt}
-use Rattle.batch_proving.specs.Batch.{Batch, HasProverData}
-use Rattle.batch_proving.specs.PlainBackend.{baby_bear_prover, plain_commits, plain_prover_backend}
-use Rattle.batch_proving.specs.Telling.{Tells}
-use Rattle.batch_proving.specs.declared.error.ProvingError.{ProvingError}
+use Rattle.law_honest.specs.HonestProof.{IsBuilt}
+use Rattle.prover_answer.specs.Batch.{Batch, HasProverData}
+use Rattle.prover_answer.specs.PlainBackend.{baby_bear_prover, plain_commits, plain_prover_backend}
+use Rattle.prover_answer.specs.Telling.{Tells}
+use Rattle.prover_answer.specs.declared.error.ProvingError.{ProvingError}
 use Rattle.tool_statement.specs.Config.{tool_scheme, tool_setting}
 use Rattle.example_air.specs.Statement.{BytesProof, bytes_column, example_statement}
 

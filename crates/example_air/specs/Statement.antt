@@ -13,16 +13,16 @@ use Rattle.plain_pcs.specs.Extension.{commitment_of}
 use Rattle.plain_pcs.specs.Scheme.{PlainCommitmentData}
 use Rattle.plain_pcs.specs.declared.commitment.PlainProof.{PlainProof}
 use Rattle.plain_pcs.specs.declared.error.PlainError.{PlainError}
-use Rattle.committed_tables.specs.Fields.{baby_bear_field}
-use Rattle.batch_claims.specs.Claims.{bits_at}
+use Rattle.law_committed.specs.Fields.{baby_bear_field}
+use Rattle.verifier_claims.specs.Claims.{bits_at}
 use Rattle.batch_setup.specs.Preprocessed.{natural}
 use Rattle.batch_statement.specs.Proof.{ProofData}
 use Rattle.batch_statement.specs.Statement.{Common, Statement, AirTable}
 use Rattle.batch_statement.specs.declared.error.BatchVerificationError.{BatchVerificationError}
 use Rattle.batch_statement.specs.declared.error.BatchVerificationError.TheVariants.{Verification}
-use Rattle.plain_soundness.specs.BaseRows.{main_row}
-use Rattle.plain_soundness.specs.CommittedBatch.{committed_table_at}
-use Rattle.plain_soundness.specs.Meaning.{IsAlphaUnlucky, IsZetaUnlucky}
+use Rattle.law_soundness.specs.BaseRows.{main_row}
+use Rattle.law_soundness.specs.CommittedBatch.{committed_table_at}
+use Rattle.law_soundness.specs.Meaning.{IsAlphaUnlucky, IsZetaUnlucky}
 use Rattle.tool_statement.specs.Config.{tool_scheme, tool_setting}
 use Rattle.example_air.specs.Bytes.{all_bytes, bits_row, example_declaration, example_interactions, example_trees}
 use Rattle.example_air.specs.declared.air.ExampleAir.{ExampleAir}

@@ -1,13 +1,14 @@
 //! The two tables as AIRs.
 ghost use Rattle.std.specs.Prelude.{◌≡◌, ◌<◌, ◌≤◌, false, [], ◌∷◌, IfOk, IsOk, IsTrue, OnErr, map};
 ghost use Rattle.p3_field.specs.Poly.{tabulate};
-ghost use Rattle.p3_air.specs.declared.cells.Cell.TheVariants.{Preprocessed};
-ghost use Rattle.p3_air.specs.Gadgets.{RepresentAt};
-ghost use Rattle.p3_air.specs.Tree.{SomeFirst, cell as cell_tree, constant, difference, over_base};
+ghost use Rattle.air_core.specs.declared.cells.Cell.TheVariants.{Preprocessed};
+ghost use Rattle.air_gadgets.specs.Gadgets.{RepresentAt};
+ghost use Rattle.air_core.specs.Tree.{SomeFirst, cell as cell_tree, constant, difference, over_base};
 ghost use Rattle.example_air.specs.Bytes.{all_bytes, byte_row_trees, byte_sent, main_column as column_tree, example_declaration, example_interactions, example_trees};
 ghost use Rattle.example_air.specs.Laws.Reads.{example-counts, example-has_columns, example-interactions_read, example-next, example-preprocessed_next, example-read, example-whole};
 
-use p3_air::{Air, AirBuilder, BaseAir, Cell, Count, InteractionBuilder, pack_bits_le};
+use air_core::{Air, AirBuilder, BaseAir, Cell, Count, InteractionBuilder};
+use air_gadgets::pack_bits_le;
 use p3_field::{Field, FieldCore, Mem, RingCore};
 use p3_matrix::RowMajorMatrix;
 use std::alloc::Global;

@@ -8,13 +8,13 @@ ghost use Rattle.example_air.specs.Proving.{AreTables, IsTablesProof, LacksTable
 use crate::air::ExampleAir;
 use crate::statement::prover_data;
 use crate::traces::{bits_trace, bytes_trace};
-use batch_prover::prove_batch;
-use batch_proving::{ProverSettings, ProvingError};
-use batch_setting::Settings;
+use prover_batch::prove_batch;
+use prover_answer::{ProverSettings, ProvingError};
+use batch_config::Settings;
 use batch_setup::TableInstance;
 use batch_statement::BatchProof;
-use p3_air::{Air, BaseAir};
-use p3_commit::UnivariateStarkPcs;
+use air_core::{Air, BaseAir};
+use commit_core::UnivariateStarkPcs;
 use p3_field::BabyBear;
 use p3_matrix::{RowMajorMatrix, log2_strict_usize};
 use plain_pcs::PlainProverError;

@@ -1,7 +1,7 @@
 //! What prover and verifier share of the two tables.
 ghost use Rattle.std.specs.Prelude.{◌≡◌, ◌≤◌, [], ◌∷◌, IfOk, map};
 ghost use Rattle.p3_field.specs.BabyBear.{baby_bear_ring};
-ghost use Rattle.p3_commit.specs.Commitments.{IsCommitment};
+ghost use Rattle.commit_core.specs.Commitments.{IsCommitment};
 ghost use Rattle.plain_pcs.specs.Extension.{commitment_of};
 ghost use Rattle.plain_pcs.specs.Holding.{AreHolding, IsMade};
 ghost use Rattle.batch_statement.specs.Statement.{WellFormed, read_common};
@@ -12,8 +12,8 @@ ghost use Rattle.example_air.specs.Statement.{example_common};
 
 use crate::air::ExampleAir;
 use batch_setup::{ProverData, SetupError};
-use p3_air::{Air, BaseAir};
-use p3_commit::{PolynomialSpace, UnivariateStarkPcs};
+use air_core::{Air, BaseAir};
+use commit_core::{PolynomialSpace, UnivariateStarkPcs};
 use p3_field::{BabyBear, Mem, TwoAdicCore, TwoAdicMultiplicativeCoset};
 use std::alloc::{AllocError, Global};
 use tool_statement::ToolConfig;

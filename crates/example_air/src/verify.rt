@@ -1,25 +1,25 @@
 //! Whether a proof of bytes is accepted.
 ghost use Rattle.std.specs.Prelude.{◌≡◌, ◌≤◌, [], ◌∷◌, IfOk};
 ghost use Rattle.p3_field.specs.Checks.{NoneFails};
-ghost use Rattle.batch_claims.specs.Claims.{bits_at};
-ghost use Rattle.batch_shape_checks.specs.Verdict.{IsDecided, IsVerdict};
-ghost use Rattle.batch_verifier.specs.BatchChecks.{checks};
-ghost use Rattle.plain_soundness.specs.Meaning.{HoldUnlessUnlucky};
+ghost use Rattle.verifier_claims.specs.Claims.{bits_at};
+ghost use Rattle.verifier_shape.specs.Verdict.{IsDecided, IsVerdict};
+ghost use Rattle.verifier_batch.specs.BatchChecks.{checks};
+ghost use Rattle.law_soundness.specs.Meaning.{HoldUnlessUnlucky};
 ghost use Rattle.tool_statement.specs.Config.{tool_backend, tool_setting};
 ghost use Rattle.example_air.specs.Statement.{RowsAreBytes, example_statement, height_check};
 
 use crate::air::ExampleAir;
 use crate::meanings::rows_are_bytes;
 use crate::statement::prover_data;
-use batch_setting::Settings;
+use batch_config::Settings;
 use batch_statement::{BatchProof, BatchVerificationError};
-use batch_verifier::verify_batch;
-use committed_tables::fields::baby_bear_has_laws;
-use p3_air::{Air, BaseAir};
+use verifier_batch::verify_batch;
+use law_committed::fields::baby_bear_has_laws;
+use air_core::{Air, BaseAir};
 use p3_field::BabyBear;
 use p3_uni_stark::InvalidProofShapeError;
 use plain_pcs::PlainError;
-use plain_soundness::accepted_holds;
+use law_soundness::accepted_holds;
 use std::alloc::Global;
 use tool_statement::{ToolConfig, tool_config};
 

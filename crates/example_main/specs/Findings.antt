@@ -6,9 +6,9 @@ use Rattle.p3_field.specs.Checks.{Check, NoneFails, FirstFails}
 use Rattle.plain_pcs.specs.declared.error.PlainError.{PlainError}
 use Rattle.plain_pcs.specs.declared.error.PlainProverError.{PlainProverError}
 use Rattle.batch_statement.specs.declared.error.BatchVerificationError.{BatchVerificationError}
-use Rattle.batch_proving.specs.declared.error.ProvingError.{ProvingError}
-use Rattle.batch_proving.specs.declared.error.ProvingError.TheVariants.{OutOfMemory as NoMemory}
-use Rattle.batch_verifier.specs.BatchChecks.{checks}
+use Rattle.prover_answer.specs.declared.error.ProvingError.{ProvingError}
+use Rattle.prover_answer.specs.declared.error.ProvingError.TheVariants.{OutOfMemory as NoMemory}
+use Rattle.verifier_batch.specs.BatchChecks.{checks}
 use Rattle.tool_statement.specs.Config.{tool_backend, tool_setting}
 use Rattle.example_air.specs.Bytes.{bits_rows, bytes_rows}
 use Rattle.example_air.specs.Proving.{IsTablesProof, LacksTablesProof}

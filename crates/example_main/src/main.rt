@@ -4,7 +4,7 @@
 ghost use Rattle.std.specs.Prelude.{◌≡◌};
 ghost use Rattle.example_main.specs.Findings.{IsFinding, line_of};
 
-use batch_proving::ProvingError;
+use prover_answer::ProvingError;
 use batch_statement::BatchVerificationError;
 use example_air::{prove_bytes, verify_bytes};
 use p3_matrix::{is_power_of_two, log2_strict_usize};

@@ -1,42 +1,11 @@
-//! AIRs: tables with constraints between their rows, and the builders that take these constraints.
-//!
-//! The traits, types and calls are those of Plonky3's `p3-air` and, for interactions, `p3-lookup`. An AIR declares its
-//! cells, one list of constraint trees and one list of interactions; `eval` appends exactly these to any builder, in
-//! order.
-//!
-//! The definitions that the contracts cite are in `specs/`: trees with their values (`Tree`), declared cells (`Shape`),
-//! degrees (`Degree`), what builders hold (`Symbolic`, `Recording`, `RowCheck`), layouts (`Layout`), the check of rows
-//! (`Check`), gadgets (`Gadgets`, `Words`), values of trees along maps (`Maps`), and cells at a point (`CellValues`).
+//! The names of Plonky3's `p3-air` in one place: AIRs, their builders, symbolic expressions, gadgets on words, and the check of rows.
+//! The items stand in `air_core`, `air_gadgets` and `air_check`, and carry their contracts.
 #![tactic(auto)]
 
-mod base;
-mod base_cells;
-mod builder;
-mod cells;
-mod check;
-mod copying;
-mod debug;
-mod degrees;
-mod gadgets;
-mod layout;
-pub mod meanings;
-mod node;
-mod reads;
-mod recorded;
-mod recorder;
-mod row_values;
-mod symbolic;
-pub mod trees;
-
-pub use base::{Air, BaseAir};
-pub use base_cells::BaseCells;
-pub use builder::{AirBuilder, ExtensionBuilder, InteractionBuilder, PermutationAirBuilder};
-pub use cells::{Cell, Count, ExtCell};
-pub use check::{CheckFailure, check_constraints};
-pub use debug::DebugConstraintBuilder;
-pub use gadgets::{add2, add3, pack_bits_le, u32_to_bits_le, xor, xor_32_shift};
-pub use layout::{AirLayout, ConstraintLayout};
-pub use node::Node;
-pub use recorder::InteractionSymbolicBuilder;
-pub use row_values::{RowValues, preprocessed_at};
-pub use symbolic::{SymbolicExpression, constraint_degree_from_poly_degree};
+pub use air_check::{CheckFailure, DebugConstraintBuilder, check_constraints};
+pub use air_core::{
+    Air, AirBuilder, AirLayout, BaseAir, BaseCells, Cell, ConstraintLayout, Count, ExtCell,
+    ExtensionBuilder, InteractionBuilder, InteractionSymbolicBuilder, Node, PermutationAirBuilder,
+    RowValues, SymbolicExpression, constraint_degree_from_poly_degree, preprocessed_at, trees,
+};
+pub use air_gadgets::{add2, add3, meanings, pack_bits_le, u32_to_bits_le, xor, xor_32_shift};

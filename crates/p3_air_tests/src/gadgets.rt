@@ -1,14 +1,15 @@
 //! Gadgets and the check of rows on worked values. The sums and rotations are those of Python's integers.
 ghost use Rattle.std.specs.Prelude.{◌≡◌, ◌<◌, IfOk, length};
-ghost use Rattle.p3_air.specs.Shape.{DeclaresExt};
+ghost use Rattle.air_core.specs.Shape.{DeclaresExt};
 
 use crate::support::bear;
-use batch_tables::SwapAir;
-use p3_air::{
-    AirBuilder, CheckFailure, Count, DebugConstraintBuilder, ExtCell, ExtensionBuilder,
-    InteractionBuilder, PermutationAirBuilder, RowValues, add2, add3, check_constraints,
-    pack_bits_le, u32_to_bits_le, xor, xor_32_shift,
+use air_tables::SwapAir;
+use air_check::{CheckFailure, DebugConstraintBuilder, check_constraints};
+use air_core::{
+    AirBuilder, Count, ExtCell, ExtensionBuilder, InteractionBuilder, PermutationAirBuilder,
+    RowValues,
 };
+use air_gadgets::{add2, add3, pack_bits_le, u32_to_bits_le, xor, xor_32_shift};
 use p3_field::{BabyBear, FieldCore, Mem, QuarticExtension, RingCore};
 use p3_matrix::RowMajorMatrix;
 use std::alloc::{AllocError, Global};

@@ -1,11 +1,11 @@
 //! What constraints and interactions read, tested when the program runs.
 ghost use Rattle.std.specs.Prelude.{◌≡◌, ◌<◌, IfOk};
-ghost use Rattle.p3_air.specs.Layout.{layout_shape};
-ghost use Rattle.p3_air.specs.Shape.{Declares};
+ghost use Rattle.air_core.specs.Layout.{layout_shape};
+ghost use Rattle.air_core.specs.Shape.{Declares};
 
 use crate::support::of_cell;
-use batch_tables::SwapAir;
-use p3_air::{AirBuilder, AirLayout, Cell, Count, InteractionBuilder, InteractionSymbolicBuilder};
+use air_tables::SwapAir;
+use air_core::{AirBuilder, AirLayout, Cell, Count, InteractionBuilder, InteractionSymbolicBuilder};
 use p3_field::{BabyBear, FieldCore, Mem, RingCore};
 use std::alloc::Global;
 use std::test::Fail;

@@ -2,9 +2,9 @@
 ghost use Rattle.std.specs.Prelude.{◌≡◌, [], ◌∷◌, IfOk, IsTrue, IsOk};
 ghost use Rattle.p3_field.specs.Ring.{of_nat};
 ghost use Rattle.p3_field.specs.BabyBear.{baby_bear_ring};
-ghost use Rattle.p3_air.specs.declared.node.Node.TheVariants.{Base};
+ghost use Rattle.air_core.specs.declared.node.Node.TheVariants.{Base};
 
-use p3_air::{AirBuilder, Cell, Node, SymbolicExpression};
+use air_core::{AirBuilder, Cell, Node, SymbolicExpression};
 use p3_field::{BabyBear, FieldCore, Mem, RingCore};
 use std::alloc::Global;
 

@@ -1,14 +1,14 @@
 //! Worked values, by hand from the rules.
 ghost use Rattle.std.specs.Prelude.{◌≡◌, ◌<◌, [], ◌∷◌, IfOk, length};
-ghost use Rattle.p3_air.specs.Degree.{HasPeriod};
-ghost use Rattle.p3_air.specs.Layout.{layout_shape};
-ghost use Rattle.p3_air.specs.Shape.{Declares, DeclaresExt, ReadsIn};
-ghost use Rattle.p3_air.specs.Symbolic.{IsExpression, tree_of};
-ghost use Rattle.p3_air.specs.Tree.{product};
+ghost use Rattle.air_core.specs.Degree.{HasPeriod};
+ghost use Rattle.air_core.specs.Layout.{layout_shape};
+ghost use Rattle.air_core.specs.Shape.{Declares, DeclaresExt, ReadsIn};
+ghost use Rattle.air_core.specs.Symbolic.{IsExpression, tree_of};
+ghost use Rattle.air_core.specs.Tree.{product};
 
 use crate::support::{assert_in_all_ways, of_cell};
-use batch_tables::SwapAir;
-use p3_air::{
+use air_tables::SwapAir;
+use air_core::{
     Air, AirBuilder, AirLayout, Cell, ConstraintLayout, ExtCell, ExtensionBuilder,
     InteractionSymbolicBuilder, Node, PermutationAirBuilder, SymbolicExpression,
     constraint_degree_from_poly_degree,

@@ -4,34 +4,27 @@
 //! | Part | Crate |
 //! |---|---|
 //! | the transcript of a batch | `batch_transcript` |
-//! | the constraints of a table with lookups: degrees, chunk counts, openings, the check of rows | `batch_constraints` |
-//! | the verifier's constraint folder | `batch_verifier_folder` |
-//! | the prover's constraint folder | `batch_prover_folder` |
-//! | the values of a table's quotient, and its chunks | `batch_quotient` |
 //! | common data, proofs, and why a proof is refused | `batch_statement` |
-//! | a configuration as plain data, which contracts speak of | `batch_setting` |
-//! | what a proof claims of its commitments | `batch_claims` |
-//! | the identity of one table at the drawn point | `batch_identity` |
-//! | whether a batch proof is accepted | `batch_verifier` |
+//! | the constraints of a table with lookups: degrees, chunk counts, openings | `batch_constraints` |
+//! | the check of rows | `batch_check` |
+//! | a configuration as plain data, which contracts speak of | `batch_config` |
 //! | instances, and the data that a prover is given | `batch_setup` |
-//! | what a prover answers | `batch_proving` |
-//! | the proof of a batch | `batch_prover` |
+//! | the verifier's constraint folder | `verifier_folder` |
+//! | what a proof claims of its commitments | `verifier_claims` |
+//! | the identity of one table at the drawn point | `verifier_identity` |
+//! | whether a batch proof is accepted | `verifier_batch` |
+//! | what a prover answers | `prover_answer` |
+//! | the prover's constraint folder | `prover_folder` |
+//! | the values of a table's quotient, and its chunks | `prover_values` |
+//! | the proof of a batch | `prover_batch` |
 #![tactic(auto)]
 
-pub use batch_claims::{OpeningArgumentWithQuotientDomains, commitments_with_opening_points};
+pub use batch_check::{CheckFailure, check_constraints};
+pub use batch_config::Settings;
 pub use batch_constraints::{
-    CheckFailure, check_constraints, get_constraint_layout, get_log_num_quotient_chunks,
-    get_log_num_quotient_chunks_for_domain, get_max_constraint_degree, get_symbolic_constraints,
-    num_batched_openings,
+    get_constraint_layout, get_log_num_quotient_chunks, get_log_num_quotient_chunks_for_domain,
+    get_max_constraint_degree, get_symbolic_constraints, num_batched_openings,
 };
-pub use batch_identity::{IdentityData, VerifierData};
-pub use batch_prover::{prove_batch, prove_batch_with_point};
-pub use batch_prover_folder::{
-    ProverConstraintFolderWithLookups, ProverFolderWithLookups, prover_fold_with_lookups,
-};
-pub use batch_proving::{ProverSettings, ProvingError};
-pub use batch_quotient::{quotient_chunks, quotient_values};
-pub use batch_setting::Settings;
 pub use batch_setup::{
     Committed, PreprocessedProverData, ProverData, ProverOnlyData, ProverPhase, SetupData,
     SetupError, StarkInstance, TableInstance,
@@ -45,7 +38,19 @@ pub use batch_transcript::{
     BatchChallenger, BatchProverTranscript, BatchShape, BatchTranscriptFailure,
     BatchVerifierTranscript, GrindStep, TranscriptError,
 };
-pub use batch_verifier::verify_batch;
-pub use batch_verifier_folder::{
+pub use p3_uni_stark::{
+    Challenge, Commitment, Domain, OpenedValues, PcsError, PcsProof, PcsProverError,
+    StarkGenericConfig, Val, VerificationError,
+};
+pub use prover_answer::{ProverSettings, ProvingError};
+pub use prover_batch::{prove_batch, prove_batch_with_point};
+pub use prover_folder::{
+    ProverConstraintFolderWithLookups, ProverFolderWithLookups, prover_fold_with_lookups,
+};
+pub use prover_values::{quotient_chunks, quotient_values};
+pub use verifier_batch::verify_batch;
+pub use verifier_claims::{OpeningArgumentWithQuotientDomains, commitments_with_opening_points};
+pub use verifier_folder::{
     VerifierConstraintFolderWithLookups, VerifierFolderWithLookups, verifier_fold_with_lookups,
 };
+pub use verifier_identity::{IdentityData, VerifierData};

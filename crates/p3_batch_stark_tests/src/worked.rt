@@ -5,7 +5,7 @@ ghost use Rattle.p3_batch_stark_tests.specs.Worked.{worked_shape};
 
 use crate::root::Root;
 use crate::runs::{Aborted, Run, prover_run, verifier_run};
-use p3_air::{Node, SymbolicExpression};
+use air_core::{Node, SymbolicExpression};
 use p3_batch_stark::BatchShape;
 use p3_challenger::Sha256Challenger;
 use p3_field::{BabyBear, Mem, QuarticExtension, RingCore};

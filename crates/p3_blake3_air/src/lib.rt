@@ -1,31 +1,12 @@
-//! The compression of BLAKE3 as an AIR over prime fields, after Plonky3's `p3-blake3-air`: a row is one compression.
-//!
-//! The definitions that the contracts cite are in `specs/`: the constraints (`Trees`), what they mean (`Meanings`) and the
-//! generated rows (`Rows`). The compression on words and the row of one are in `p3_blake3`.
+//! The names of Plonky3's `p3-blake3-air` in one place: BLAKE3's compression as an AIR over prime fields, and in characteristic two.
+//! The items stand in `blake3_prime` and `blake3_binary`, and carry their contracts.
 #![tactic(auto)]
 
-mod air;
-mod columns;
-mod edges;
-mod generation;
-mod half;
-pub mod meanings;
-mod places;
-mod random;
-mod reading;
-mod rounds;
-mod writing;
-
-pub use air::{Blake3Air, NUM_BLAKE3_COLS};
-pub use columns::{Blake3Cols, Blake3State, FullRound};
-pub use generation::generate_trace_rows;
-pub use p3_blake3::TraceError;
-pub use writing::{write_limbs, write_word};
-
-/// Bits of a limb (`p3_blake3_air::constants`).
-pub const BITS_PER_LIMB: usize = 16;
-
-/// Limbs of a word (`p3_blake3_air::constants`).
-pub const U32_LIMBS: usize = 2;
-
-const _: () = prove!(U32_LIMBS * BITS_PER_LIMB == 32);
+pub use blake3_binary::{
+    Blake3BinaryAir, Blake3BinaryCols, Blake3BinaryGCols, Blake3CompressionInput,
+    NUM_BLAKE3_BINARY_COLS, generate_binary_trace_rows,
+};
+pub use blake3_prime::{
+    BITS_PER_LIMB, Blake3Air, Blake3Cols, Blake3State, FullRound, NUM_BLAKE3_COLS, TraceError,
+    U32_LIMBS, generate_trace_rows,
+};

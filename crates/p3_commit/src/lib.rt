@@ -1,50 +1,17 @@
-//! Evaluation domains, periodic columns, and commitment schemes as traits. After Plonky3's `p3-commit`.
-//!
-//! Contracts see a domain by the definitions of `specs/Space.antt`, and its polynomials by those of `p3_field`'s
-//! `specs/Domain.antt`. What a scheme commits to, opens and verifies is said by `specs/Commitments.antt`, over claims as
-//! plain data (`specs/Claims.antt`), and when it refuses by `specs/Failure.antt`.
+//! The names of Plonky3's `p3-commit` in one place: evaluation domains, periodic columns, the encoder, and commitment schemes as traits.
+//! The items stand in `commit_core`, `commit_encoder` and `commit_rows`, and carry their contracts.
 #![tactic(auto)]
 
-mod claims;
-mod coset;
-mod degrees;
-mod domain;
-mod encoder;
-mod extension_mmcs;
-mod failure;
-mod interpolation;
-mod mmcs;
-mod multilinear;
-mod parts;
-mod pcs;
-mod periodic;
-mod periodic_evaluator;
-mod periodic_table;
-mod periodic_values;
-mod selectors;
-mod split;
-mod univariate;
-mod verdict;
-
-pub use claims::{
-    CommitmentOpening, CommitmentWithOpeningPoints, MatrixOpening, OpenedValues,
-    OpenedValuesForMatrix, OpenedValuesForPoint, OpenedValuesForRound, OpeningRequest,
-    PointOpening,
+pub use commit_core::{
+    CommitmentOpening, CommitmentWithOpeningPoints, CosetPcs, LagrangeSelectors, MatrixOpening,
+    OpenedValues, OpenedValuesForMatrix, OpenedValuesForPoint, OpenedValuesForRound,
+    OpeningRequest, Pcs, PcsFailure, PeriodicColumnShapeError, PeriodicColumns, PeriodicEvaluator,
+    PeriodicLdeTable, PointOpening, PolynomialSpace, UnivariateStarkPcs, Val,
+    a_split_is_one, a_verification_is_a_check, are_disjoint, first_selector_at, last_selector_at,
+    parts_are_disjoint, repeated_columns_have_degrees, rows_from, selectors_have_degrees,
 };
-pub use coset::CosetPcs;
-pub use degrees::{repeated_columns_have_degrees, selectors_have_degrees};
-pub use domain::{PolynomialSpace, are_disjoint};
-pub use encoder::{EncodeError, Encoder};
-pub use extension_mmcs::{ExtensionMmcs, ExtensionMmcsData};
-pub use failure::PcsFailure;
-pub use mmcs::{BatchOpening, BatchOpeningRef, Mmcs, greatest_height};
-pub use multilinear::MultilinearPcs;
-pub use parts::{a_split_is_one, parts_are_disjoint};
-pub use pcs::{Pcs, Val};
-pub use periodic::{PeriodicColumnShapeError, PeriodicColumns};
-pub use periodic_evaluator::PeriodicEvaluator;
-pub use periodic_table::PeriodicLdeTable;
-pub use selectors::{LagrangeSelectors, first_selector_at, last_selector_at};
-pub use split::rows_from;
-pub use univariate::UnivariateStarkPcs;
-pub use verdict::a_verification_is_a_check;
+pub use commit_encoder::{EncodeError, Encoder};
+pub use commit_rows::{
+    BatchOpening, BatchOpeningRef, ExtensionMmcs, ExtensionMmcsData, Mmcs, MultilinearPcs,
+    greatest_height,
+};

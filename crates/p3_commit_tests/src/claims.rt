@@ -1,6 +1,6 @@
 //! Claims of pairs keep their order, and a copy of a request has its points.
 use crate::same::{assert_same, assert_values};
-use p3_commit::{CommitmentOpening, OpeningRequest, PointOpening};
+use commit_core::{CommitmentOpening, OpeningRequest, PointOpening};
 use p3_field::Mem;
 use std::alloc::Global;
 use std::process::Abort;

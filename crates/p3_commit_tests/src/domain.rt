@@ -4,9 +4,8 @@ ghost use Rattle.std.specs.Int.{IsPowerOfTwo};
 ghost use Rattle.p3_matrix.specs.Matrix.{height};
 
 use crate::same::{assert_same, assert_values};
-use p3_commit::{
-    PolynomialSpace, are_disjoint, first_selector_at, greatest_height, last_selector_at, rows_from,
-};
+use commit_core::{PolynomialSpace, are_disjoint, first_selector_at, last_selector_at, rows_from};
+use commit_rows::greatest_height;
 use p3_field::{
     BabyBear, ExtensionField, FieldCore, Mem, QuarticExtension, RingCore, TwoAdicField,
     TwoAdicMultiplicativeCoset,

@@ -3,7 +3,8 @@ ghost use Rattle.std.specs.Prelude.{◌≡◌, ◌+◌, ◌*◌, ◌^◌, ◌<�
 ghost use Rattle.p3_matrix.specs.Matrix.{height};
 
 use crate::same::{assert_same, assert_values};
-use p3_commit::{EncodeError, Encoder, PcsFailure};
+use commit_core::PcsFailure;
+use commit_encoder::{EncodeError, Encoder};
 use p3_dft::{NaiveDft, Radix2Dit};
 use p3_field::{BabyBear, Mem, RingCore};
 use p3_matrix::RowMajorMatrix;

@@ -2,7 +2,7 @@
 ghost use Rattle.std.specs.Prelude.{◌≡◌, ◌+◌, ◌*◌, ◌^◌, ◌<◌, ◌≤◌, length, IfOk};
 
 use crate::same::{assert_same, assert_values};
-use p3_commit::{
+use commit_core::{
     PeriodicColumnShapeError, PeriodicColumns, PeriodicEvaluator, PeriodicLdeTable, PolynomialSpace,
 };
 use p3_field::{

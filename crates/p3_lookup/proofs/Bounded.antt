@@ -6,9 +6,9 @@ use Rattle.std.proofs.lemmas.Bool.{or_from}
 use Rattle.std.proofs.lemmas.List.{length-map, length-take-le, get_or-take, get_or-map, drop_more}
 use Rattle.std.proofs.lemmas.List.Folds.{list_any_at, list_any_more, fold-map}
 use Rattle.std.proofs.lemmas.List.Sums.{sum_by-drop_more}
-use Rattle.p3_air.specs.declared.cells.Count.{Count}
-use Rattle.p3_air.specs.declared.node.Node.{Node}
-use Rattle.p3_air.specs.Tree.{Tree, Bus, local}
+use Rattle.air_core.specs.declared.cells.Count.{Count}
+use Rattle.air_core.specs.declared.node.Node.{Node}
+use Rattle.air_core.specs.Tree.{Tree, Bus, local}
 use Rattle.p3_lookup.specs.Lookup.{LookupData}
 use Rattle.p3_lookup.specs.Bus.{opener, batch_buses, lookups_before, sum_of_bounds}
 use Rattle.p3_lookup.specs.Bound.{batch_loads}

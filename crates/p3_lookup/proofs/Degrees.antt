@@ -2,8 +2,8 @@
 use Rattle.std.proofs.Common.{◌≡◌, ℕ, ◌<◌, ◌^◌, max, List, ◌∷◌, sym, ◌∙◌, ap, arith}
 use Rattle.p3_field.specs.Ring.{Ring}
 use Rattle.p3_field.specs.Poly.{eval_poly}
-use Rattle.p3_air.specs.Degree.{multiple, capped_sum}
-use Rattle.p3_air.specs.Tree.{Tree}
+use Rattle.air_core.specs.Degree.{multiple, capped_sum}
+use Rattle.air_core.specs.Tree.{Tree}
 use Rattle.p3_lookup.specs.Lookup.{LookupData, Sent, sent}
 use Rattle.p3_lookup.specs.Term.{common, numerator}
 use Rattle.p3_lookup.specs.Trees.{trees, base_tree, beta_tree, term_trees}

@@ -4,7 +4,7 @@ use Rattle.std.specs.Prelude.{slice_range}
 use Rattle.std.proofs.lemmas.List.{length-map, take-map}
 use Rattle.p3_field.specs.Poly.{tabulate}
 use Rattle.p3_field.specs.Laws.Tabulate.{tabulate_same}
-use Rattle.p3_air.specs.declared.cells.Count.{Count}
+use Rattle.air_core.specs.declared.cells.Count.{Count}
 
 map-tabulate : {X Y : Type 0} (f : X → Y) (n : ℕ) (t : ℕ → X) → map f (tabulate n t) ≡ tabulate n (λ k. f (t k))
 map-tabulate f zero t = refl

@@ -3,7 +3,7 @@ use Rattle.std.proofs.Common.{◌≡◌, ℕ, suc, ◌+◌, ◌<◌, ◌≤◌, 
 use Rattle.std.proofs.lemmas.List.{map-append, length-append, take_more, take_all, drop_all, drop_more, set_split}
 use Rattle.std.proofs.Math.ListN.{set}
 use Rattle.p3_field.specs.Ring.{Ring}
-use Rattle.p3_air.specs.Symbolic.{tree_of}
+use Rattle.air_core.specs.Symbolic.{tree_of}
 use Rattle.p3_lookup.specs.Lookup.{LookupData, HasCountForEach}
 use Rattle.p3_lookup.specs.Written.{Written, read, tree_count, merged_written}
 use Rattle.p3_lookup.specs.Packing.{merged, takes_in, with_lookup}

@@ -4,7 +4,7 @@ use Rattle.std.specs.Prelude.{All}
 use Rattle.std.proofs.lemmas.List.{length-map}
 use Rattle.std.proofs.lemmas.List.Elements.{All-head, All-tail}
 use Rattle.p3_field.specs.Ring.{Ring}
-use Rattle.p3_air.specs.Tree.{Tree}
+use Rattle.air_core.specs.Tree.{Tree}
 use Rattle.p3_lookup.specs.Term.{Term, term}
 use Rattle.p3_lookup.specs.Lookup.{LookupData, HasCountForEach, map_sent, sent}
 use Rattle.p3_lookup.specs.Honest.{lookup_terms, terms_from}

@@ -4,8 +4,8 @@ use Rattle.std.specs.Prelude.{All, ◌==◌}
 use Rattle.std.proofs.lemmas.List.{length-map, map-append}
 use Rattle.p3_field.specs.Ring.{Ring}
 use Rattle.p3_field.specs.Poly.{eval_poly}
-use Rattle.p3_air.specs.declared.cells.Count.{Count}
-use Rattle.p3_air.specs.Tree.{Tree, sum, over_extension}
+use Rattle.air_core.specs.declared.cells.Count.{Count}
+use Rattle.air_core.specs.Tree.{Tree, sum, over_extension}
 use Rattle.p3_lookup.specs.Lookup.{LookupData, pair_up}
 use Rattle.p3_lookup.specs.Trees.{column_tree, sum_tree, fraction_tree, fraction_trees, running_trees, lookup_trees}
 

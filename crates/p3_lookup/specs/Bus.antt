@@ -3,8 +3,8 @@
 use Rattle.std.specs.Prelude.{◌≡◌, ◌≢◌, ◌↔◌, ℕ, zero, suc, ◌+◌, ◌<◌, ◌==◌, bytes_eq, cond, Bool, false, List, [], ◌∷◌, length, map, flat_map, max, sum_by, All}
 use Rattle.std.specs.Prelude.{slice_index_or as get_or}
 use Rattle.std.specs.List.{position_or_len}
-use Rattle.p3_air.specs.declared.cells.Count.{Count}
-use Rattle.p3_air.specs.Tree.{Tree, Bus, local, global}
+use Rattle.air_core.specs.declared.cells.Count.{Count}
+use Rattle.air_core.specs.Tree.{Tree, Bus, local, global}
 use Rattle.p3_lookup.specs.Lookup.{LookupData}
 
 -- the bus has this name

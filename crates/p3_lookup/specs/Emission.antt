@@ -1,8 +1,8 @@
 -- What private functions of the gadget hand on: expressions that represent parts of a constraint.
 use Rattle.std.specs.Prelude.{◌≡◌, ℕ, List, map}
 use Rattle.p3_field.specs.Ring.{Ring}
-use Rattle.p3_air.specs.Degree.{multiple}
-use Rattle.p3_air.specs.Tree.{Tree}
+use Rattle.air_core.specs.Degree.{multiple}
+use Rattle.air_core.specs.Tree.{Tree}
 use Rattle.p3_lookup.specs.Lookup.{Sent}
 use Rattle.p3_lookup.specs.Term.{common, numerator}
 use Rattle.p3_lookup.specs.Trees.{trees, term_tree}

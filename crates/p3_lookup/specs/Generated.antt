@@ -3,10 +3,10 @@ use Rattle.std.specs.Prelude.{◌≡◌, ℕ, ◌+◌, ◌<◌, true, List, [], 
 use Rattle.std.specs.Prelude.{slice_index_or as get_or}
 use Rattle.p3_field.specs.Ring.{Ring}
 use Rattle.p3_matrix.specs.Matrix.{Rows, height, cell_at}
-use Rattle.p3_air.specs.Tree.{Tree}
-use Rattle.p3_air.specs.Shape.{Shape, width_of}
-use Rattle.p3_air.specs.RowCheck.{Row, tree_value_at_row}
-use Rattle.p3_air.specs.Check.{table_traces, table_row}
+use Rattle.air_core.specs.Tree.{Tree}
+use Rattle.air_core.specs.Shape.{Shape, width_of}
+use Rattle.air_core.specs.RowCheck.{Row, tree_value_at_row}
+use Rattle.air_core.specs.Check.{table_traces, table_row}
 use Rattle.p3_lookup.specs.Lookup.{LookupData}
 use Rattle.p3_lookup.specs.Term.{Term, HasInverses}
 use Rattle.p3_lookup.specs.Honest.{Argument, argument, row_terms, honest_cell, running_sum, RowHasInverses}

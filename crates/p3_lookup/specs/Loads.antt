@@ -1,7 +1,7 @@
 -- What private functions of the bound on multiplicities compute.
 use Rattle.std.specs.Prelude.{◌≡◌, ℕ, ◌+◌, ◌*◌, ◌<◌, cond, Bool, List, [], ◌∷◌}
 use Rattle.std.specs.List.{list_any}
-use Rattle.p3_air.specs.Tree.{Bus}
+use Rattle.air_core.specs.Tree.{Bus}
 use Rattle.p3_lookup.specs.Lookup.{LookupData}
 use Rattle.p3_lookup.specs.Bus.{opened_below, batch_buses, sum_of_bounds}
 use Rattle.p3_lookup.specs.Packing.{same_name}

@@ -1,9 +1,9 @@
 -- Lookups as data: the tuples that a table sends on a bus, and how often. After Plonky3's p3-lookup (Lookup).
 use Rattle.std.specs.Prelude.{◌≡◌, ℕ, ◌*◌, ◌<◌, ◌≤◌, List, [], ◌∷◌, length, map, All}
 use Rattle.p3_field.specs.Poly.{tabulate}
-use Rattle.p3_air.specs.declared.cells.Count.{Count}
-use Rattle.p3_air.specs.Tree.{Tree, Bus, Interaction, tuple_at}
-use Rattle.p3_air.specs.Shape.{Shape, ReadsSendable}
+use Rattle.air_core.specs.declared.cells.Count.{Count}
+use Rattle.air_core.specs.Tree.{Tree, Bus, Interaction, tuple_at}
+use Rattle.air_core.specs.Shape.{Shape, ReadsSendable}
 
 -- whom a lookup speaks to, its tuples, and a count for each
 pub record LookupData (F : Type 0) : Type 0 where

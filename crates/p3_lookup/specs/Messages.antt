@@ -4,7 +4,7 @@ use Rattle.std.specs.Prelude.{slice_index_or as get_or}
 use Rattle.std.specs.Cmp.Lexicographic.{pointwise}
 use Rattle.p3_field.specs.Ring.{Ring}
 use Rattle.p3_field.specs.Poly.{tabulate}
-use Rattle.p3_air.specs.Tree.{Tree}
+use Rattle.air_core.specs.Tree.{Tree}
 use Rattle.p3_lookup.specs.Lookup.{LookupData, Sent, sent}
 use Rattle.p3_lookup.specs.Term.{sum_of, denominator}
 use Rattle.p3_lookup.specs.Honest.{Argument, argument, running_sum}

@@ -2,11 +2,11 @@
 -- (pack_same_bus_with_degree); the order is this project's own.
 use Rattle.std.specs.Prelude.{◌≡◌, ℕ, ◌&&◌, bytes_eq, nat_le, cond, Bool, true, false, List, [], ◌∷◌, ◌++◌, map, flat_map, zip, count_by}
 use Rattle.p3_field.specs.Ring.{Ring}
-use Rattle.p3_air.specs.declared.cells.Count.{Count}
-use Rattle.p3_air.specs.Tree.{Tree, Bus, local, global}
-use Rattle.p3_air.specs.Degree.{multiple}
+use Rattle.air_core.specs.declared.cells.Count.{Count}
+use Rattle.air_core.specs.Tree.{Tree, Bus, local, global}
+use Rattle.air_core.specs.Degree.{multiple}
 use Rattle.p3_lookup.specs.Lookup.{LookupData}
-use Rattle.p3_air.specs.Degree.{greatest}
+use Rattle.air_core.specs.Degree.{greatest}
 use Rattle.p3_lookup.specs.Trees.{lookup_trees}
 
 -- the largest degree of the constraints of a table with this lookup alone, where the transition selector has degree t

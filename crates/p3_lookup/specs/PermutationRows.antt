@@ -2,8 +2,8 @@
 use Rattle.std.specs.Prelude.{◌≡◌, ℕ, ◌+◌, ◌%◌, ◌<◌, nat_eq, List, [], ◌∷◌, All, Ok}
 use Rattle.p3_field.specs.Ring.{Ring}
 use Rattle.p3_matrix.specs.Matrix.{Rows, height, row_at}
-use Rattle.p3_air.specs.RowCheck.{Row, tree_value_at_row}
-use Rattle.p3_air.specs.Check.{TableTraces, preprocessed_row, periodic_row}
+use Rattle.air_core.specs.RowCheck.{Row, tree_value_at_row}
+use Rattle.air_core.specs.Check.{TableTraces, preprocessed_row, periodic_row}
 use Rattle.p3_lookup.specs.declared.terminal.LookupTerminal.{LookupTerminal}
 use Rattle.p3_lookup.specs.Lookup.{LookupData, IsLookup}
 use Rattle.p3_lookup.specs.Trees.{lookup_trees}

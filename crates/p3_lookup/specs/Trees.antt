@@ -3,9 +3,9 @@
 use Rattle.std.specs.Prelude.{ℕ, zero, suc, ◌+◌, ◌*◌, true, false, Bool, List, [], ◌∷◌, ◌++◌, length, map}
 use Rattle.p3_field.specs.Ring.{Ring}
 use Rattle.p3_field.specs.Poly.{eval_poly}
-use Rattle.p3_air.specs.declared.cells.Cell.TheVariants.{FirstRow, LastRow, Transition}
-use Rattle.p3_air.specs.declared.cells.ExtCell.TheVariants.{Permutation, Challenge, Terminal}
-use Rattle.p3_air.specs.Tree.{Tree, constant, cell, ext_cell, sum, difference, product}
+use Rattle.air_core.specs.declared.cells.Cell.TheVariants.{FirstRow, LastRow, Transition}
+use Rattle.air_core.specs.declared.cells.ExtCell.TheVariants.{Permutation, Challenge, Terminal}
+use Rattle.air_core.specs.Tree.{Tree, constant, cell, ext_cell, sum, difference, product}
 use Rattle.p3_lookup.specs.Lookup.{LookupData, Sent, sent}
 use Rattle.p3_lookup.specs.Term.{Term, common, numerator}
 

@@ -1,9 +1,9 @@
 -- Lookups as a program holds them: each expression is a list of nodes.
 use Rattle.std.specs.Prelude.{◌++◌, List, map, string_bytes}
-use Rattle.p3_air.specs.declared.cells.Count.{Count}
-use Rattle.p3_air.specs.declared.node.Node.{Node}
-use Rattle.p3_air.specs.Tree.{Tree, Bus, local, global}
-use Rattle.p3_air.specs.Symbolic.{tree_of}
+use Rattle.air_core.specs.declared.cells.Count.{Count}
+use Rattle.air_core.specs.declared.node.Node.{Node}
+use Rattle.air_core.specs.Tree.{Tree, Bus, local, global}
+use Rattle.air_core.specs.Symbolic.{tree_of}
 use Rattle.p3_lookup.specs.declared.kind.Kind.{Kind}
 use Rattle.p3_lookup.specs.declared.kind.Kind.TheVariants.{Local, Global}
 use Rattle.p3_lookup.specs.Lookup.{LookupData}

@@ -8,7 +8,7 @@ ghost use Rattle.p3_lookup.specs.Written.{Written, bus_of_kind, read_all};
 use crate::kind::{Kind, have_one_name};
 use crate::lookup::{Lookup, Lookups};
 use crate::terminal::LookupError;
-use p3_air::{Count, SymbolicExpression};
+use air_core::{Count, SymbolicExpression};
 use p3_field::{FieldCore, PrimeCore64, PrimeField64, RingCore};
 
 // Whether one of the first `count` lookups is on the bus that this kind names.

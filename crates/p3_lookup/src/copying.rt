@@ -4,7 +4,7 @@ ghost use Rattle.std.specs.Prelude.{◌≡◌, ◌++◌, List, map, IfOk};
 use crate::from_air::copies;
 use crate::kind::kind_copy;
 use crate::lookup::{Lookup, Lookups};
-use p3_air::{Count, SymbolicExpression};
+use air_core::{Count, SymbolicExpression};
 use p3_field::{Field, FieldCore, Mem, RingCore};
 use std::alloc::Global;
 

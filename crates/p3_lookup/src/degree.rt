@@ -1,9 +1,9 @@
 //! Degrees of the constraints of lookups.
 ghost use Rattle.std.specs.Prelude.{◌≡◌, ℕ, List, length, map};
 ghost use Rattle.p3_field.specs.Poly.{eval_poly};
-ghost use Rattle.p3_air.specs.Degree.{multiple};
-ghost use Rattle.p3_air.specs.Tree.{Tree};
-ghost use Rattle.p3_air.specs.Symbolic.{tree_of};
+ghost use Rattle.air_core.specs.Degree.{multiple};
+ghost use Rattle.air_core.specs.Tree.{Tree};
+ghost use Rattle.air_core.specs.Symbolic.{tree_of};
 ghost use Rattle.p3_lookup.specs.Lookup.{HasCountForEach, pair_up};
 ghost use Rattle.p3_lookup.specs.Written.{read, tree_count};
 ghost use Rattle.p3_lookup.specs.Trees.{trees};
@@ -11,7 +11,7 @@ ghost use Rattle.p3_lookup.specs.Packing.{lookup_degree};
 ghost use Rattle.p3_lookup.specs.Emission.{AreDegreesOf};
 
 use crate::lookup::Lookup;
-use p3_air::{Count, SymbolicExpression};
+use air_core::{Count, SymbolicExpression};
 use p3_field::{Field, FieldCore, RingCore};
 
 // The degree of a tuple's sum, where beta has degree zero.

@@ -1,14 +1,14 @@
 //! The constraints of lookups, handed to a builder.
 ghost use Rattle.std.specs.Prelude.{◌≡◌, ℕ, ◌+◌, ◌*◌, ◌^◌, ◌<◌, ◌≤◌, suc, false, List, [], ◌∷◌, length, map, All, IfOk, OnErr, IsOk, IsTrue};
-ghost use Rattle.p3_air.specs.Tree.{Tree, sum, difference, product, over_extension, SomeFirst, cell as cell_tree, ext_cell as ext_cell_tree};
-ghost use Rattle.p3_air.specs.Shape.{Shape, Declares, DeclaresExt};
+ghost use Rattle.air_core.specs.Tree.{Tree, sum, difference, product, over_extension, SomeFirst, cell as cell_tree, ext_cell as ext_cell_tree};
+ghost use Rattle.air_core.specs.Shape.{Shape, Declares, DeclaresExt};
 ghost use Rattle.p3_lookup.specs.Lookup.{IsLookup};
 ghost use Rattle.p3_lookup.specs.Written.{read, read_all};
 ghost use Rattle.p3_lookup.specs.Trees.{base_tree, beta_tree, column_tree, fraction_tree, fraction_trees, sum_tree, first_tree, transition_tree, last_tree, running_trees};
 
 use crate::fraction::{constant_ext, fraction_parts};
 use crate::lookup::Lookup;
-use p3_air::{AirBuilder, Cell, ExtCell, ExtensionBuilder, PermutationAirBuilder};
+use air_core::{AirBuilder, Cell, ExtCell, ExtensionBuilder, PermutationAirBuilder};
 use p3_field::{FieldCore, Mem, RingCore};
 
 // The base of a lookup, and beta.

@@ -1,12 +1,12 @@
 //! Expressions of lookups, handed to a builder.
 ghost use Rattle.std.specs.Prelude.{◌≡◌, ◌<◌, ◌-◌, List, [], length, map, All, IfOk, IsOk, IsTrue};
 ghost use Rattle.p3_field.specs.Poly.{eval_poly};
-ghost use Rattle.p3_air.specs.Tree.{Tree};
-ghost use Rattle.p3_air.specs.Shape.{Declares, ReadsIn, ReadsSendable};
-ghost use Rattle.p3_air.specs.Symbolic.{tree_at, tree_of, Ordered};
+ghost use Rattle.air_core.specs.Tree.{Tree};
+ghost use Rattle.air_core.specs.Shape.{Declares, ReadsIn, ReadsSendable};
+ghost use Rattle.air_core.specs.Symbolic.{tree_at, tree_of, Ordered};
 ghost use Rattle.p3_lookup.specs.Trees.{trees};
 
-use p3_air::{AirBuilder, ExtensionBuilder, Node, SymbolicExpression};
+use air_core::{AirBuilder, ExtensionBuilder, Node, SymbolicExpression};
 use p3_field::{FieldCore, Mem, RingCore};
 
 // The expression that represents the tree at a place, whose cells are all of the base field.

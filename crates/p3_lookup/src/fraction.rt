@@ -1,9 +1,9 @@
 //! The constraint of a lookup's fraction, handed to a builder.
 ghost use Rattle.std.specs.Prelude.{◌≡◌, ℕ, ◌+◌, ◌*◌, ◌<◌, ◌≤◌, suc, false, List, [], ◌∷◌, length, map, All, IfOk, OnErr, IsOk, IsTrue};
 ghost use Rattle.p3_field.specs.Poly.{eval_poly};
-ghost use Rattle.p3_air.specs.Tree.{Tree, sum, difference, product, over_extension, constant as constant_tree};
-ghost use Rattle.p3_air.specs.Shape.{ReadsSendable};
-ghost use Rattle.p3_air.specs.Symbolic.{tree_of};
+ghost use Rattle.air_core.specs.Tree.{Tree, sum, difference, product, over_extension, constant as constant_tree};
+ghost use Rattle.air_core.specs.Shape.{ReadsSendable};
+ghost use Rattle.air_core.specs.Symbolic.{tree_of};
 ghost use Rattle.p3_lookup.specs.Lookup.{HasCountForEach, ReadsSent, sent, pair_up};
 ghost use Rattle.p3_lookup.specs.Written.{read, tree_count};
 ghost use Rattle.p3_lookup.specs.Term.{common, numerator};
@@ -12,7 +12,7 @@ ghost use Rattle.p3_lookup.specs.Emission.{ArePartsOf};
 
 use crate::expression::lifted;
 use crate::lookup::Lookup;
-use p3_air::{
+use air_core::{
     AirBuilder, Count, ExtCell, ExtensionBuilder, PermutationAirBuilder, SymbolicExpression,
 };
 use p3_field::{FieldCore, Mem, RingCore};

@@ -1,17 +1,17 @@
 //! The lookups that an AIR's interactions make.
 ghost use Rattle.std.specs.Prelude.{◌≡◌, ℕ, ◌+◌, ◌*◌, ◌/◌, ◌%◌, ◌<◌, ◌≤◌, List, [], length, map, get_or, All, IfOk, slice_range};
 ghost use Rattle.p3_field.specs.Poly.{tabulate};
-ghost use Rattle.p3_air.specs.Tree.{Interaction, tuple_at};
+ghost use Rattle.air_core.specs.Tree.{Interaction, tuple_at};
 ghost use Rattle.std.specs.Option.{option_copied};
-ghost use Rattle.p3_air.specs.Placed.{Placed};
-ghost use Rattle.p3_air.specs.Recording.{bus_of, interaction_at, sent_at};
-ghost use Rattle.p3_air.specs.Symbolic.{tree_at, tree_of};
+ghost use Rattle.air_core.specs.Placed.{Placed};
+ghost use Rattle.air_core.specs.Recording.{bus_of, interaction_at, sent_at};
+ghost use Rattle.air_core.specs.Symbolic.{tree_at, tree_of};
 ghost use Rattle.p3_lookup.specs.Lookup.{lookup_of, lookups_of};
 ghost use Rattle.p3_lookup.specs.Written.{bus_of_kind, read, read_all, tree_count};
 
 use crate::kind::Kind;
 use crate::lookup::{Lookup, Lookups};
-use p3_air::{Air, AirLayout, BaseAir, Count, InteractionSymbolicBuilder, SymbolicExpression};
+use air_core::{Air, AirLayout, BaseAir, Count, InteractionSymbolicBuilder, SymbolicExpression};
 use p3_field::{Field, FieldCore, Mem, RingCore};
 use std::alloc::Global;
 

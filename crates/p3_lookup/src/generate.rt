@@ -2,7 +2,7 @@
 ghost use Rattle.std.specs.Prelude.{◌≡◌, ℕ, ◌+◌, ◌*◌, ◌<◌, ◌≤◌, ◌++◌, List, [], ◌∷◌, length, map, drop, All, Option, IfOk, IfSome, MatchResult};
 ghost use Rattle.std.specs.Option.{option_map};
 ghost use Rattle.p3_matrix.specs.Matrix.{height};
-ghost use Rattle.p3_air.specs.RowCheck.{row_shape};
+ghost use Rattle.air_core.specs.RowCheck.{row_shape};
 ghost use Rattle.p3_lookup.specs.Lookup.{IsLookup, sent};
 ghost use Rattle.p3_lookup.specs.Written.{read, read_all};
 ghost use Rattle.p3_lookup.specs.Term.{sum_of, term_value, HasInverses};
@@ -14,7 +14,7 @@ use crate::lookup::Lookup;
 use crate::term::Term;
 use crate::terminal::{GenerateError, LookupTerminal};
 use crate::values::push_terms;
-use p3_air::{RowValues, preprocessed_at};
+use air_core::{RowValues, preprocessed_at};
 use p3_field::{ExtensionField, Field, FieldCore, Mem, PrimeCharacteristicRing, RingCore};
 use p3_matrix::{RowMajorMatrix, batch_multiplicative_inverse};
 use std::alloc::Global;

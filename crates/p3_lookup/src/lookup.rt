@@ -3,7 +3,7 @@ ghost use Rattle.std.specs.Prelude.{◌≡◌, map, length};
 ghost use Rattle.p3_lookup.specs.Written.{Written, bus_of_kind};
 
 use crate::kind::Kind;
-use p3_air::{Count, SymbolicExpression};
+use air_core::{Count, SymbolicExpression};
 use std::marker::Model;
 
 /// The tuples that a table sends on a bus, and how often each (`p3_lookup::Lookup`). A contract sees it as the record

@@ -1,6 +1,6 @@
 //! What the constraints of lookups mean: laws as the contracts of functions that compute nothing.
 ghost use Rattle.std.specs.Prelude.{ℕ, List, All};
-ghost use Rattle.p3_air.specs.Tree.{Tree, Bus};
+ghost use Rattle.air_core.specs.Tree.{Tree, Bus};
 ghost use Rattle.p3_lookup.specs.Lookup.{LookupData, HasCountForEach};
 ghost use Rattle.p3_lookup.specs.Packing.{packed, SendTheSame};
 ghost use Rattle.p3_lookup.specs.Honest.{argument};
@@ -9,7 +9,7 @@ ghost use Rattle.p3_lookup.specs.Messages.{Sender, BalancedSum};
 ghost use Rattle.p3_lookup.specs.Bus.{SharesByName};
 ghost use Rattle.p3_lookup.specs.Batch.{SendingTable, BalancedBatch, WidthsPassOn};
 ghost use Rattle.p3_lookup.specs.PermutationRows.{GeneratedRowsVanish};
-ghost use Rattle.p3_air.specs.Check.{TableTraces};
+ghost use Rattle.air_core.specs.Check.{TableTraces};
 
 use p3_field::{ExtensionField, Field};
 

@@ -1,6 +1,6 @@
 //! Lookups of one name packed into fewer ones.
 ghost use Rattle.std.specs.Prelude.{◌≡◌, ℕ, ◌≤◌, ◌++◌, List, [], ◌∷◌, length, map, All, ◌<◌, IfOk, IfSome, MatchOption, slice_set, true, false};
-ghost use Rattle.p3_air.specs.Tree.{Bus};
+ghost use Rattle.air_core.specs.Tree.{Bus};
 ghost use Rattle.p3_lookup.specs.Lookup.{HasCountForEach};
 ghost use Rattle.p3_lookup.specs.Written.{Written, read, read_all, merged_written};
 ghost use Rattle.p3_lookup.specs.Packing.{merged, takes_in, with_lookup, packed_onto, packed, SendTheSame};

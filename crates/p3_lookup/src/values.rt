@@ -1,9 +1,9 @@
 //! Values of lookups at a row.
 ghost use Rattle.std.specs.Prelude.{◌≡◌, ℕ, ◌+◌, ◌*◌, ◌<◌, List, [], length, map, All};
 ghost use Rattle.p3_field.specs.Poly.{eval_poly};
-ghost use Rattle.p3_air.specs.Shape.{ReadsSendable};
-ghost use Rattle.p3_air.specs.Symbolic.{tree_at, tree_of, Ordered};
-ghost use Rattle.p3_air.specs.RowCheck.{tree_value_at_row, row_shape};
+ghost use Rattle.air_core.specs.Shape.{ReadsSendable};
+ghost use Rattle.air_core.specs.Symbolic.{tree_at, tree_of, Ordered};
+ghost use Rattle.air_core.specs.RowCheck.{tree_value_at_row, row_shape};
 ghost use Rattle.p3_lookup.specs.Lookup.{map_sent, pair_up};
 ghost use Rattle.p3_lookup.specs.Written.{tree_count};
 ghost use Rattle.p3_lookup.specs.Term.{term};
@@ -13,7 +13,7 @@ ghost use Rattle.p3_lookup.specs.RowTerms.{AreTermsAdded};
 
 use crate::term::Term;
 use crate::terminal::GenerateError;
-use p3_air::{Count, Node, RowValues, SymbolicExpression};
+use air_core::{Count, Node, RowValues, SymbolicExpression};
 use p3_field::{ExtensionField, Field, FieldCore, PrimeCharacteristicRing, RingCore};
 
 // The value of the tree at a place.

@@ -6,13 +6,13 @@ use Rattle.std.proofs.lemmas.List.Elements.{All-map, All-cons}
 use Rattle.p3_field.specs.declared.baby_bear.BabyBear.{BabyBear}
 use Rattle.p3_field.specs.Poly.{tabulate}
 use Rattle.p3_field.specs.Laws.Tabulate.{length-tabulate}
-use Rattle.p3_air.specs.declared.cells.Cell.TheVariants.{Main}
-use Rattle.p3_air.specs.declared.cells.Count.{Count}
-use Rattle.p3_air.specs.declared.node.Node.{Node}
-use Rattle.p3_air.specs.declared.node.Node.TheVariants.{Base, Constant}
-use Rattle.p3_air.specs.Shape.{Shape, ReadsSendable}
-use Rattle.p3_air.specs.Symbolic.{tree_of, trees_after}
-use Rattle.p3_air.specs.Tree.{Bus, Interaction, tuple_at}
+use Rattle.air_core.specs.declared.cells.Cell.TheVariants.{Main}
+use Rattle.air_core.specs.declared.cells.Count.{Count}
+use Rattle.air_core.specs.declared.node.Node.{Node}
+use Rattle.air_core.specs.declared.node.Node.TheVariants.{Base, Constant}
+use Rattle.air_core.specs.Shape.{Shape, ReadsSendable}
+use Rattle.air_core.specs.Symbolic.{tree_of, trees_after}
+use Rattle.air_core.specs.Tree.{Bus, Interaction, tuple_at}
 use Rattle.p3_lookup.specs.Lookup.{FitLookups, IsLookup, HasCountForEach, lookup_of, lookups_of}
 use Rattle.p3_lookup.specs.Written.{Written, read, read_all, tree_count}
 use Rattle.p3_lookup_tests.specs.Taken.{HasColumn, IsSendableByColumn, IsTakenLookup}

@@ -1,9 +1,9 @@
 -- What the tests' lookups read: the first column of the main trace, in the current row and in the next.
 use Rattle.std.specs.Prelude.{ℕ, ◌<◌, IsTrue, List}
 use Rattle.p3_field.specs.declared.baby_bear.BabyBear.{BabyBear}
-use Rattle.p3_air.specs.declared.node.Node.{Node}
-use Rattle.p3_air.specs.Shape.{Shape, ReadsSendable}
-use Rattle.p3_air.specs.Symbolic.{tree_of}
+use Rattle.air_core.specs.declared.node.Node.{Node}
+use Rattle.air_core.specs.Shape.{Shape, ReadsSendable}
+use Rattle.air_core.specs.Symbolic.{tree_of}
 use Rattle.p3_lookup.specs.Lookup.{IsLookup}
 use Rattle.p3_lookup.specs.Written.{Written, read}
 

@@ -1,8 +1,8 @@
 -- A table of one column, whose cell is sent twice on one bus.
 use Rattle.std.specs.Prelude.{ℕ, false, List, [], ◌∷◌, None}
-use Rattle.p3_air.specs.declared.cells.Cell.TheVariants.{Main}
-use Rattle.p3_air.specs.Shape.{Declaration}
-use Rattle.p3_air.specs.Tree.{Tree, constant, cell, Interaction, global}
+use Rattle.air_core.specs.declared.cells.Cell.TheVariants.{Main}
+use Rattle.air_core.specs.Shape.{Declaration}
+use Rattle.air_core.specs.Tree.{Tree, constant, cell, Interaction, global}
 
 -- the bytes of the bus's name, `values`
 abbrev pub values_bus : List ℕ

@@ -5,7 +5,8 @@ ghost use Rattle.p3_lookup_tests.specs.Taken.{IsTakenLookup};
 
 use crate::support::{bear, bears, generated, on_bus, take, take_both};
 use crate::two_sends::TwoSends;
-use p3_air::{AirLayout, DebugConstraintBuilder, InteractionSymbolicBuilder, RowValues};
+use air_check::DebugConstraintBuilder;
+use air_core::{AirLayout, InteractionSymbolicBuilder, RowValues};
 use p3_field::{BabyBear, FieldCore, Mem, RingCore};
 use p3_lookup::{GenerateError, Kind, LogUpGadget, Lookup, LookupProtocol};
 use p3_matrix::RowMajorMatrix;

@@ -2,11 +2,11 @@
 ghost use Rattle.std.specs.Prelude.{◌≡◌, ◌*◌, ◌<◌, [], ◌∷◌, List, All, IfOk, false, length};
 ghost use Rattle.p3_field.specs.Ring.{of_nat};
 ghost use Rattle.p3_field.specs.BabyBear.{baby_bear_ring};
-ghost use Rattle.p3_air.specs.Symbolic.{OperandsBelow};
+ghost use Rattle.air_core.specs.Symbolic.{OperandsBelow};
 ghost use Rattle.p3_lookup_tests.specs.Taken.{IsSendableByColumn, IsTakenLookup};
 ghost use Rattle.p3_matrix.specs.Matrix.{height};
 
-use p3_air::{Cell, Count, Node, SymbolicExpression};
+use air_core::{Cell, Count, Node, SymbolicExpression};
 use p3_field::{BabyBear, FieldCore, Mem, RingCore};
 use p3_lookup::{GenerateError, Kind, LogUpGadget, Lookup, LookupProtocol, LookupTerminal};
 use p3_matrix::RowMajorMatrix;

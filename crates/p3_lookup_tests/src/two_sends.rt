@@ -3,13 +3,13 @@ ghost use Rattle.std.proofs.Common.{rules};
 ghost use Rattle.std.specs.Prelude.{◌≡◌, [], ◌∷◌, IfOk, OnErr, IsOk, IsTrue, false};
 ghost use Rattle.p3_field.specs.Ring.{of_nat};
 ghost use Rattle.p3_field.specs.BabyBear.{baby_bear_ring};
-ghost use Rattle.p3_air.specs.Shape.{Declares};
-ghost use Rattle.p3_air.specs.declared.cells.Cell.TheVariants.{Main};
-ghost use Rattle.p3_air.specs.Laws.Declared.{counts-none};
+ghost use Rattle.air_core.specs.Shape.{Declares};
+ghost use Rattle.air_core.specs.declared.cells.Cell.TheVariants.{Main};
+ghost use Rattle.air_core.specs.Laws.Declared.{counts-none};
 ghost use Rattle.p3_lookup_tests.specs.TwoSends.{value_sent, two_sends, two_sends_declaration};
 
 use crate::support::bear;
-use p3_air::{Air, BaseAir, Cell, Count, InteractionBuilder};
+use air_core::{Air, BaseAir, Cell, Count, InteractionBuilder};
 use p3_field::{BabyBear, FieldCore, Mem, RingCore};
 use p3_matrix::RowMajorMatrix;
 use std::alloc::Global;

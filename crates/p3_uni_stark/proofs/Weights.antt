@@ -8,7 +8,7 @@ use Rattle.p3_field.specs.Laws.Algebra.{one_mul, mul_swap, mul_zero, zero_mul}
 use Rattle.p3_field.specs.Laws.Roots.{field_no_zero_divisors}
 use Rattle.p3_field.specs.Laws.SubgroupSelectors.{inv_one}
 use Rattle.p3_field.specs.Domain.{CosetData, point}
-use Rattle.p3_commit.specs.Space.{IsPoint}
+use Rattle.commit_core.specs.Space.{IsPoint}
 use Rattle.p3_field.specs.Poly.{product}
 use Rattle.p3_field.specs.Laws.Products.{product_same}
 use Rattle.p3_uni_stark.specs.Recombine.{product_but, domain_at, AllDisjoint}

@@ -3,7 +3,7 @@
 use Rattle.std.specs.Prelude.{◌≡◌, ℕ, List, length, map}
 use Rattle.std.specs.Prelude.{slice_index_or as get_or}
 use Rattle.p3_field.specs.Ring.{Ring}
-use Rattle.p3_air.specs.Layout.{Places, place_count, folding_powers, ListsEachOnce}
+use Rattle.air_core.specs.Layout.{Places, place_count, folding_powers, ListsEachOnce}
 use Rattle.p3_uni_stark.specs.Fold.{fold, weighed}
 
 -- the values at these places

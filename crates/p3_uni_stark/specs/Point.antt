@@ -2,9 +2,9 @@
 -- folders).
 use Rattle.std.specs.Prelude.{map}
 use Rattle.p3_field.specs.Ring.{Ring}
-use Rattle.p3_air.specs.CellValues.{reading_at}
-use Rattle.p3_air.specs.Tree.{Reading}
-pub use Rattle.p3_air.specs.PointValues.{PointValues, point_cells, point_shape}
+use Rattle.air_core.specs.CellValues.{reading_at}
+use Rattle.air_core.specs.Tree.{Reading}
+pub use Rattle.air_core.specs.PointValues.{PointValues, point_cells, point_shape}
 
 -- the reading of constraints at the point; a cell that isn't there reads as zero
 abbrev pub point_reading : {F E : Type 0} → Ring E → (F → E) → PointValues F E → Reading F E

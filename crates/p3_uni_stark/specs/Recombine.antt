@@ -5,7 +5,7 @@ use Rattle.p3_field.specs.Ring.{Ring}
 use Rattle.p3_field.specs.Field.{TwoAdic, Extension, combine}
 use Rattle.p3_field.specs.Poly.{eval_poly, eval_poly_in, total, product}
 use Rattle.p3_field.specs.Domain.{CosetData, vanishing_polynomial, point}
-use Rattle.p3_commit.specs.Space.{AreDisjoint}
+use Rattle.commit_core.specs.Space.{AreDisjoint}
 
 -- the product of t j for j below n but for j = i
 abbrev pub product_but : {A : Type 0} → Ring A → ℕ → ℕ → (ℕ → A) → A

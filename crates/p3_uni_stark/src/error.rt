@@ -1,6 +1,6 @@
 //! Why a proof is refused.
 
-use p3_commit::PeriodicColumnShapeError;
+use commit_core::PeriodicColumnShapeError;
 use std::fmt::Display;
 use thiserror::Error;
 

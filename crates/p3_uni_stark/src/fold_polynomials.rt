@@ -1,8 +1,8 @@
 //! Folds as values of polynomials: laws as the contracts of functions that compute nothing.
 ghost use Rattle.std.specs.Prelude.{◌≡◌, ℕ, List, All, length, map, reverse};
 ghost use Rattle.p3_field.specs.Poly.{eval_poly, DegreeBelow, IsZeroPoly};
-ghost use Rattle.p3_air.specs.CellValues.{CellValues, reading_at, map_values, poly_reading};
-ghost use Rattle.p3_air.specs.Tree.{Tree, eval_tree};
+ghost use Rattle.air_core.specs.CellValues.{CellValues, reading_at, map_values, poly_reading};
+ghost use Rattle.air_core.specs.Tree.{Tree, eval_tree};
 ghost use Rattle.p3_uni_stark.specs.Fold.{fold};
 ghost use Rattle.p3_uni_stark.specs.FoldPolynomials.{fold_poly};
 

@@ -1,7 +1,7 @@
 //! The folds of an AIR's constraints, from the laws of builders alone.
 ghost use Rattle.std.specs.Prelude.{◌≡◌, length, map};
-ghost use Rattle.p3_air.specs.Shape.{Fits, declared_shape};
-ghost use Rattle.p3_air.specs.Tree.{eval_tree};
+ghost use Rattle.air_core.specs.Shape.{Fits, declared_shape};
+ghost use Rattle.air_core.specs.Tree.{eval_tree};
 ghost use Rattle.p3_uni_stark.specs.Fold.{fold, fold_powers, weighed};
 ghost use Rattle.p3_uni_stark.specs.Point.{point_reading, embedded, point_shape};
 ghost use Rattle.p3_uni_stark.specs.VerifierState.{folder_opened_of};
@@ -10,7 +10,7 @@ ghost use Rattle.p3_uni_stark.specs.ProverState.{folder_values_of};
 use crate::config::{Challenge, StarkGenericConfig, Val};
 use crate::prover_folder::ProverFolder;
 use crate::verifier_folder::VerifierFolder;
-use p3_air::{Air, BaseAir};
+use air_core::{Air, BaseAir};
 use p3_field::{ExtensionField, Field, FieldCore, PrimeCharacteristicRing, RingCore};
 
 /// A verifier's folder over a configuration's fields (`VerifierConstraintFolder` of `p3-uni-stark`).

@@ -4,11 +4,11 @@ ghost use Rattle.std.specs.List.{All};
 ghost use Rattle.p3_field.specs.Field.{combine};
 ghost use Rattle.p3_field.specs.Poly.{eval_poly, product};
 ghost use Rattle.p3_field.specs.Domain.{vanishing_polynomial, point};
-ghost use Rattle.p3_commit.specs.Space.{IsPoint};
+ghost use Rattle.commit_core.specs.Space.{IsPoint};
 ghost use Rattle.p3_uni_stark.specs.Recombine.{domain_at, IsDisjointFrom, AllDisjoint, chunk_weight, recombined};
 
 use crate::config::{Challenge, Domain, StarkGenericConfig};
-use p3_commit::{PolynomialSpace, are_disjoint};
+use commit_core::{PolynomialSpace, are_disjoint};
 use p3_field::{
     ExtensionField, Field, FieldCore, PrimeCharacteristicRing, RingCore, TwoAdicCore, TwoAdicField,
     TwoAdicMultiplicativeCoset,

@@ -3,8 +3,8 @@ ghost use Rattle.std.specs.Prelude.{◌≡◌, ℕ, ◌+◌, ◌*◌, ◌<◌, �
 ghost use Rattle.p3_field.specs.Field.{combine};
 ghost use Rattle.p3_field.specs.Poly.{tabulate};
 ghost use Rattle.p3_field.specs.Domain.{CosetData, point};
-ghost use Rattle.p3_commit.specs.Space.{IsPart, EachOf};
-ghost use Rattle.p3_air.specs.Layout.{folding_powers};
+ghost use Rattle.commit_core.specs.Space.{IsPart, EachOf};
+ghost use Rattle.air_core.specs.Layout.{folding_powers};
 ghost use Rattle.p3_uni_stark.specs.Fold.{fold_powers};
 ghost use Rattle.p3_uni_stark.specs.Recombine.{domain_at, AllDisjoint, recombined};
 

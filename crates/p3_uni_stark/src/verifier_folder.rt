@@ -1,14 +1,14 @@
 //! The verifier's constraint folder.
 ghost use Rattle.std.specs.Prelude.{◌≡◌, List, [], ◌∷◌, ◌%◌, ◌<◌, IfOk, OnErr, IsOk, IsTrue, true, length, map, refl};
 ghost use Rattle.std.proofs.Common.{◌∙◌, ap};
-ghost use Rattle.p3_air.specs.Tree.{Tree, eval_tree, eval_asserted, Represent, RepresentsCount};
-ghost use Rattle.p3_air.specs.declared.cells.Count.{Count as CountOf};
+ghost use Rattle.air_core.specs.Tree.{Tree, eval_tree, eval_asserted, Represent, RepresentsCount};
+ghost use Rattle.air_core.specs.declared.cells.Count.{Count as CountOf};
 ghost use Rattle.p3_uni_stark.specs.Fold.{fold_from};
 ghost use Rattle.p3_uni_stark.specs.Point.{point_reading, point_shape};
 ghost use Rattle.p3_uni_stark.specs.Laws.Folders.{shape_along, value_persists, value_by_persists, folded_along};
-ghost use Rattle.p3_air.specs.Operation.{value_by};
+ghost use Rattle.air_core.specs.Operation.{value_by};
 
-use p3_air::{
+use air_core::{
     AirBuilder, BaseCells, Cell, Count, ExtCell, ExtensionBuilder, InteractionBuilder,
     PermutationAirBuilder,
 };

@@ -1,12 +1,12 @@
 //! Constraints folded by both folders, and the powers that they take.
 ghost use Rattle.std.specs.Prelude.{◌≡◌};
 ghost use Rattle.p3_field.specs.Quartic.{quartic_ring};
-ghost use Rattle.p3_air.specs.Shape.{DeclaresExt};
-ghost use Rattle.p3_air.specs.declared.cells.ExtCell.TheVariants.{Terminal};
+ghost use Rattle.air_core.specs.Shape.{DeclaresExt};
+ghost use Rattle.air_core.specs.declared.cells.ExtCell.TheVariants.{Terminal};
 
 use crate::same::assert_same;
-use batch_tables::SwapAir;
-use p3_air::{
+use air_tables::SwapAir;
+use air_core::{
     AirBuilder, Count, ExtCell, ExtensionBuilder, InteractionBuilder, PermutationAirBuilder,
 };
 use p3_air_tests::support::{assert_in_all_ways, bear};

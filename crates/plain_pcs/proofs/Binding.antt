@@ -12,7 +12,7 @@ use Rattle.p3_field.specs.Laws.Checks.{none_before, none_after, holds_alone, non
 use Rattle.p3_field.specs.Laws.Interpolants.{interpolant_unique, points_apart}
 use Rattle.p3_matrix.specs.Matrix.{Rows, height, column}
 use Rattle.p3_matrix.specs.Laws.Cells.{length-column}
-use Rattle.p3_commit.specs.Claims.{PointClaim, MatrixClaim, CommitmentClaim}
+use Rattle.commit_core.specs.Claims.{PointClaim, MatrixClaim, CommitmentClaim}
 use Rattle.plain_pcs.specs.Scheme.{Scheme, PlainCommitmentData}
 use Rattle.plain_pcs.specs.Extension.{extended_domain, interpolant}
 use Rattle.plain_pcs.specs.Checks.{HasDimensions, IsColumnPolynomial, HasLowDegree, HasValue, Opens}

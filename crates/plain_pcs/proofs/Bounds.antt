@@ -7,9 +7,9 @@ use Rattle.p3_field.specs.Ring.{RingLaws}
 use Rattle.p3_field.specs.Field.{FieldLaws, TwoAdicLaws}
 use Rattle.p3_field.specs.Domain.{CosetData}
 use Rattle.p3_matrix.specs.Matrix.{Rows}
-use Rattle.p3_commit.specs.Claims.{Request}
-use Rattle.p3_commit.specs.Commitments.{AreExtensions}
-use Rattle.p3_commit.specs.Failure.{NoneOf}
+use Rattle.commit_core.specs.Claims.{Request}
+use Rattle.commit_core.specs.Commitments.{AreExtensions}
+use Rattle.commit_core.specs.Failure.{NoneOf}
 use Rattle.plain_pcs.specs.Scheme.{Scheme}
 use Rattle.plain_pcs.specs.Extension.{Extends}
 use Rattle.plain_pcs.specs.Refusals.{IsWithinBounds, CommitFault, HasSubgroupHeight, ExtensionsFault, QuotientFault, OpenFault}

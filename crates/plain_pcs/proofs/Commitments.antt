@@ -12,12 +12,12 @@ use Rattle.p3_matrix.specs.Laws.Cells.{length-column}
 use Rattle.p3_matrix.specs.Laws.Powers.{power_cancel}
 use Rattle.p3_dft.specs.Transform.{values_at}
 use Rattle.p3_dft.specs.Laws.Values.{length-values_at, get_or-values_at}
-use Rattle.p3_commit.specs.Failure.{NoneOf}
-use Rattle.p3_commit.specs.declared.failure.PcsFailure.{PcsFailure}
-use Rattle.p3_commit.specs.declared.failure.PcsFailure.TheVariants.{OutOfMemory, Refused}
-use Rattle.p3_commit.specs.Commitments.{Committed, IsCommitted, IsCommitment, AreExtensions}
-use Rattle.p3_commit.specs.Periodic.{EachFrom}
-use Rattle.p3_commit.specs.Laws.Codes.{width_positive}
+use Rattle.commit_core.specs.Failure.{NoneOf}
+use Rattle.commit_core.specs.declared.failure.PcsFailure.{PcsFailure}
+use Rattle.commit_core.specs.declared.failure.PcsFailure.TheVariants.{OutOfMemory, Refused}
+use Rattle.commit_core.specs.Commitments.{Committed, IsCommitted, IsCommitment, AreExtensions}
+use Rattle.commit_core.specs.Periodic.{EachFrom}
+use Rattle.p3_matrix.specs.Laws.Cells.{width_positive}
 use Rattle.plain_pcs.specs.Scheme.{Scheme, PlainCommitmentData}
 use Rattle.plain_pcs.specs.Extension.{extended_domain, extension_of, commitment_of, IsCommittable, Extends}
 use Rattle.plain_pcs.specs.Holding.{IsMade, IsHolding, AreHolding}

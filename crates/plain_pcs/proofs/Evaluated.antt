@@ -4,7 +4,7 @@ use Rattle.std.specs.Prelude.{slice_get, zip}
 use Rattle.std.proofs.Math.Pow.{pow_mono}
 use Rattle.p3_field.specs.Domain.{CosetData, point}
 use Rattle.p3_matrix.specs.Matrix.{Rows}
-use Rattle.p3_commit.specs.Commitments.{Committed, IsEvaluated}
+use Rattle.commit_core.specs.Commitments.{Committed, IsEvaluated}
 use Rattle.plain_pcs.specs.Scheme.{Scheme, PlainCommitmentData}
 use Rattle.plain_pcs.specs.Holding.{IsHolding, AreHolding}
 use Rattle.plain_pcs.specs.Transfer.{IsTransfer}

@@ -16,9 +16,9 @@ use Rattle.std.proofs.Math.Nat.{div-lt_iff_lt-mul}
 use Rattle.p3_matrix.specs.Matrix.{Rows, height, row_at}
 use Rattle.p3_matrix.specs.declared.dense.Dimensions.{Dimensions}
 use Rattle.p3_matrix.specs.Laws.Powers.{power_divides}
-use Rattle.p3_commit.specs.Space.{EachOf}
-use Rattle.p3_commit.specs.Periodic.{IsGreatest, EachFrom}
-use Rattle.p3_commit.specs.Batches.{lists, IsRowOf, AreRowsAt, row_in, dimensions_of, HaveWidths}
+use Rattle.commit_core.specs.Space.{EachOf}
+use Rattle.commit_core.specs.Periodic.{IsGreatest, EachFrom}
+use Rattle.commit_rows.specs.Batches.{lists, IsRowOf, AreRowsAt, row_in, dimensions_of, HaveWidths}
 use Rattle.plain_pcs.specs.PlainMmcs.{IsRowByEq, AreTheRows, AreDimensions, IsRowOpening, AreRowOpenings}
 use Rattle.plain_pcs.proofs.Places.{each_mapped, source, mapped_at}
 

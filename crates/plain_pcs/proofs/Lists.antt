@@ -5,10 +5,10 @@ use Rattle.std.specs.List.{All}
 use Rattle.std.proofs.lemmas.Bool.{cases_lt}
 use Rattle.std.proofs.lemmas.List.{length-map, length_push}
 use Rattle.std.proofs.lemmas.Option.{slice_get_within, slice_get-get_or, get_or_from_slice_get}
-use Rattle.p3_commit.specs.Space.{EachOf}
-use Rattle.p3_commit.specs.Periodic.{EachFrom}
-use Rattle.p3_commit.specs.Laws.Each.{one_more}
-use Rattle.p3_commit.specs.Laws.Pairs.{length-zip, slice_get-zip}
+use Rattle.commit_core.specs.Space.{EachOf}
+use Rattle.commit_core.specs.Periodic.{EachFrom}
+use Rattle.commit_core.specs.Laws.Each.{one_more}
+use Rattle.commit_core.specs.Laws.Pairs.{length-zip, slice_get-zip}
 use Rattle.p3_field.specs.Checks.{IsFirstWithout}
 use Rattle.plain_pcs.specs.Laws.Listed.{item_at, item_has, lacking, first_lacking}
 

@@ -3,11 +3,11 @@ use Rattle.std.proofs.Common.{◌≡◌, ℕ, zero, suc, ◌+◌, ◌^◌, ◌<�
 use Rattle.std.specs.Prelude.{zip, Vec}
 use Rattle.std.proofs.lemmas.List.{map_push, map_more, ext_get_or, length-map, get_or-map, take_all}
 use Rattle.std.proofs.lemmas.Option.{slice_get-get_or, slice_get_read}
-use Rattle.p3_commit.specs.Claims.{Request}
-use Rattle.p3_commit.specs.Commitments.{Committed, OpenedCommitment, values_of, opened_round, opened}
-use Rattle.p3_commit.specs.Periodic.{EachFrom}
-use Rattle.p3_commit.specs.Laws.OneItem.{matrix_in, round_in}
-use Rattle.p3_commit.specs.Laws.Pairs.{length-zip}
+use Rattle.commit_core.specs.Claims.{Request}
+use Rattle.commit_core.specs.Commitments.{Committed, OpenedCommitment, values_of, opened_round, opened}
+use Rattle.commit_core.specs.Periodic.{EachFrom}
+use Rattle.commit_core.specs.Laws.OneItem.{matrix_in, round_in}
+use Rattle.commit_core.specs.Laws.Pairs.{length-zip}
 use Rattle.p3_field.specs.Ring.{Ring, RingLaws}
 use Rattle.p3_field.specs.Field.{FieldLaws, TwoAdicLaws, RingHom}
 use Rattle.p3_field.specs.Poly.{eval_poly}

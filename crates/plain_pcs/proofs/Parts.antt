@@ -13,8 +13,8 @@ use Rattle.p3_field.specs.Domain.{CosetData, coset_point, point, IsInterpolant}
 use Rattle.p3_field.specs.Laws.Interpolants.{interpolant_unique, points_apart}
 use Rattle.p3_matrix.specs.Matrix.{Rows, height, column}
 use Rattle.p3_matrix.specs.Laws.Cells.{length-column}
-use Rattle.p3_commit.specs.Space.{EachOf}
-use Rattle.p3_commit.specs.Claims.{PointClaim, MatrixClaim, CommitmentClaim}
+use Rattle.commit_core.specs.Space.{EachOf}
+use Rattle.commit_core.specs.Claims.{PointClaim, MatrixClaim, CommitmentClaim}
 use Rattle.plain_pcs.specs.Scheme.{Scheme, scheme, PlainCommitmentData}
 use Rattle.plain_pcs.specs.Extension.{extended_domain}
 use Rattle.plain_pcs.specs.Laws.Listed.{item_at}

@@ -18,8 +18,8 @@ use Rattle.p3_matrix.specs.Laws.Cells.{length-column, get_or-column}
 use Rattle.p3_matrix.specs.Laws.Grids.{IsGrid, product_height}
 use Rattle.p3_dft.specs.Transform.{values_at}
 use Rattle.p3_dft.specs.Laws.Values.{get_or-values_at}
-use Rattle.p3_commit.specs.Periodic.{IsPeriod, over_rows, IsPeriodicAt, IsPeriodicTable}
-use Rattle.p3_commit.specs.Laws.Repeated.{length_over_rows, get_or_over_rows}
+use Rattle.commit_core.specs.Periodic.{IsPeriod, over_rows, IsPeriodicAt, IsPeriodicTable}
+use Rattle.commit_core.specs.Laws.Repeated.{length_over_rows, get_or_over_rows}
 use Rattle.plain_pcs.specs.Transfer.{IsTransfer, IsRepeated}
 use Rattle.plain_pcs.specs.Laws.Listed.{item_has}
 use Rattle.plain_pcs.proofs.Commitments.{values_of_interpolant}

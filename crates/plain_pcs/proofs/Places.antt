@@ -5,8 +5,8 @@ use Rattle.std.proofs.lemmas.Bool.{cases_lt}
 use Rattle.std.proofs.lemmas.List.{length-map}
 use Rattle.std.proofs.lemmas.List.{get_or-map as read_map, get_or_default}
 use Rattle.std.proofs.lemmas.Option.{slice_get_within, slice_get-get_or, get_or_from_slice_get, slice_get-map}
-use Rattle.p3_commit.specs.Periodic.{EachFrom}
-use Rattle.p3_commit.specs.Batches.{lists}
+use Rattle.commit_core.specs.Periodic.{EachFrom}
+use Rattle.commit_rows.specs.Batches.{lists}
 
 -- the item of which f gives what is read
 pub source : {V Y : Type 0} (f : V → Y) (o : Option V) (y : Y) → option_map f o ≡ Some y → (v : V) × (o ≡ Some v) × (f v ≡ y)

@@ -19,10 +19,10 @@ use Rattle.p3_matrix.specs.Laws.Cells.{length-column, get_or-column}
 use Rattle.p3_matrix.specs.Laws.Transposed.{get_or-row_at}
 use Rattle.p3_dft.specs.Transform.{values_at, IsExtensionOf}
 use Rattle.p3_dft.specs.Laws.Values.{length-values_at, get_or-values_at}
-use Rattle.p3_commit.specs.Space.{IsPart, IsSplit}
-use Rattle.p3_commit.specs.Laws.Codes.{width_positive}
-use Rattle.p3_commit.specs.Laws.Cosets.{points_of_part}
-use Rattle.p3_commit.specs.Laws.FlatBatches.{product_cancel}
+use Rattle.commit_core.specs.Space.{IsPart, IsSplit}
+use Rattle.p3_matrix.specs.Laws.Cells.{width_positive}
+use Rattle.commit_core.specs.Laws.Cosets.{points_of_part}
+use Rattle.commit_rows.specs.Laws.FlatBatches.{product_cancel}
 use Rattle.plain_pcs.specs.Transfer.{IsTransfer}
 
 -- the larger of two subgroups is one of the field's

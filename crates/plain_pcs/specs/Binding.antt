@@ -4,8 +4,8 @@ use Rattle.p3_field.specs.Ring.{Ring}
 use Rattle.p3_field.specs.Poly.{DegreeBelow}
 use Rattle.p3_field.specs.Domain.{CosetData}
 use Rattle.p3_matrix.specs.Matrix.{Rows}
-use Rattle.p3_commit.specs.Claims.{MatrixClaim}
-use Rattle.p3_commit.specs.Commitments.{Committed, values_of}
+use Rattle.commit_core.specs.Claims.{MatrixClaim}
+use Rattle.commit_core.specs.Commitments.{Committed, values_of}
 use Rattle.plain_pcs.specs.Scheme.{Scheme}
 use Rattle.plain_pcs.specs.Extension.{columns, interpolant, extended_domain}
 use Rattle.plain_pcs.specs.Checks.{HasDimensions}

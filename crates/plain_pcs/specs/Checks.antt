@@ -6,7 +6,7 @@ use Rattle.p3_field.specs.Poly.{eval_poly, DegreeBelow}
 use Rattle.p3_field.specs.Checks.{Check, check, NoneFails, FirstFails, in_turn, of_items}
 use Rattle.p3_field.specs.Domain.{CosetData, point, IsInterpolant}
 use Rattle.p3_matrix.specs.Matrix.{Rows, height, column}
-use Rattle.p3_commit.specs.Claims.{PointClaim, MatrixClaim, CommitmentClaim}
+use Rattle.commit_core.specs.Claims.{PointClaim, MatrixClaim, CommitmentClaim}
 use Rattle.plain_pcs.specs.Scheme.{Scheme, PlainCommitmentData}
 use Rattle.plain_pcs.specs.Extension.{extended_domain}
 use Rattle.plain_pcs.specs.declared.error.PlainError.{PlainError}

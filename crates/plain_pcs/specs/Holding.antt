@@ -3,8 +3,8 @@ use Rattle.std.specs.Prelude.{◌≡◌, ℕ, ◌+◌, ◌^◌, ◌<◌, ◌≤�
 use Rattle.p3_field.specs.Domain.{CosetData, point}
 use Rattle.p3_matrix.specs.Matrix.{Rows, height, column}
 use Rattle.p3_dft.specs.Transform.{values_at}
-use Rattle.p3_commit.specs.Commitments.{Committed}
-use Rattle.p3_commit.specs.Periodic.{EachFrom}
+use Rattle.commit_core.specs.Commitments.{Committed}
+use Rattle.commit_core.specs.Periodic.{EachFrom}
 use Rattle.plain_pcs.specs.Scheme.{Scheme, PlainCommitmentData}
 use Rattle.plain_pcs.specs.Extension.{extended_domain, evaluations}
 

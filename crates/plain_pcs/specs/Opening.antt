@@ -4,8 +4,8 @@ use Rattle.p3_field.specs.Ring.{Ring}
 use Rattle.p3_field.specs.Domain.{CosetData, point}
 use Rattle.p3_matrix.specs.Matrix.{Rows, column}
 use Rattle.p3_dft.specs.Transform.{values_at}
-use Rattle.p3_commit.specs.Commitments.{Committed, values_of}
-use Rattle.p3_commit.specs.Periodic.{EachFrom}
+use Rattle.commit_core.specs.Commitments.{Committed, values_of}
+use Rattle.commit_core.specs.Periodic.{EachFrom}
 
 -- the polynomials, one for each column, have the matrix's values on the domain, and no more coefficients than that has
 -- points; so no others do, but for zeros at the end

@@ -5,8 +5,8 @@ use Rattle.std.specs.Cmp.Lexicographic.{pointwise}
 use Rattle.p3_field.specs.Checks.{Check, check, FirstFails}
 use Rattle.p3_matrix.specs.Matrix.{Rows, height, row_at}
 use Rattle.p3_matrix.specs.declared.dense.Dimensions.{Dimensions as Size}
-use Rattle.p3_commit.specs.Periodic.{IsGreatest, EachFrom}
-use Rattle.p3_commit.specs.Batches.{IsRowOf, row_in, dimensions_of, HaveWidths}
+use Rattle.commit_core.specs.Periodic.{IsGreatest, EachFrom}
+use Rattle.commit_rows.specs.Batches.{IsRowOf, row_in, dimensions_of, HaveWidths}
 use Rattle.plain_pcs.specs.declared.plain_mmcs.PlainMmcsError.{PlainMmcsError}
 use Rattle.plain_pcs.specs.declared.plain_mmcs.PlainMmcsError.TheVariants.{Dimensions, Index, Value}
 

@@ -3,9 +3,9 @@ use Rattle.std.specs.Prelude.{◌≡◌, ℕ, ◌+◌, ◌-◌, ◌*◌, ◌^◌
 use Rattle.p3_field.specs.Checks.{IsFirstWithout}
 use Rattle.p3_field.specs.Domain.{CosetData}
 use Rattle.p3_matrix.specs.Matrix.{Rows, height}
-use Rattle.p3_commit.specs.Claims.{Request}
-use Rattle.p3_commit.specs.declared.failure.PcsFailure.{PcsFailure}
-use Rattle.p3_commit.specs.declared.failure.PcsFailure.TheVariants.{OutOfMemory, Refused}
+use Rattle.commit_core.specs.Claims.{Request}
+use Rattle.commit_core.specs.declared.failure.PcsFailure.{PcsFailure}
+use Rattle.commit_core.specs.declared.failure.PcsFailure.TheVariants.{OutOfMemory, Refused}
 use Rattle.plain_pcs.specs.Scheme.{Scheme}
 use Rattle.plain_pcs.specs.Extension.{IsCommittable}
 use Rattle.plain_pcs.specs.declared.error.PlainProverError.{PlainProverError}

@@ -2,10 +2,10 @@
 ghost use Rattle.std.specs.Prelude.{◌≡◌, ℕ, ◌^◌, ◌<◌, ◌≤◌, ◌↔◌, IsTrue, List, Some, IfOk, MatchOption, All, length, slice_get};
 ghost use Rattle.p3_field.specs.Domain.{CosetData, coset_point, point, IsInterpolant};
 ghost use Rattle.p3_matrix.specs.Matrix.{Rows, height, column};
-ghost use Rattle.p3_commit.specs.Space.{EachOf};
-ghost use Rattle.p3_commit.specs.Periodic.{EachFrom};
-ghost use Rattle.p3_commit.specs.Failure.{NoneOf, RefusedBy};
-ghost use Rattle.p3_commit.specs.Commitments.{IsCommitment, AreExtensions};
+ghost use Rattle.commit_core.specs.Space.{EachOf};
+ghost use Rattle.commit_core.specs.Periodic.{EachFrom};
+ghost use Rattle.commit_core.specs.Failure.{NoneOf, RefusedBy};
+ghost use Rattle.commit_core.specs.Commitments.{IsCommitment, AreExtensions};
 ghost use Rattle.plain_pcs.specs.Scheme.{scheme};
 ghost use Rattle.plain_pcs.specs.Extension.{Extends, commitment_of};
 ghost use Rattle.plain_pcs.specs.Holding.{IsMade, AreHolding};
@@ -16,7 +16,7 @@ ghost use Rattle.plain_pcs.specs.Refusals.{CommitFault, ExtensionsFault, HasSubg
 use crate::commitment::{PlainCommitment, PlainProverData, copied_matrices};
 use crate::error::PlainProverError;
 use crate::extending::{extensions_from, extensions_of, first_not_committable};
-use p3_commit::PcsFailure;
+use commit_core::PcsFailure;
 use p3_dft::{TwoAdicSubgroupDft, interpolant_on_coset};
 use p3_field::{FieldCore, Mem, TwoAdicCore, TwoAdicField, TwoAdicMultiplicativeCoset};
 use p3_matrix::{RowMajorMatrix, is_power_of_two, log2_strict_usize};

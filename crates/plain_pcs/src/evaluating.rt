@@ -4,14 +4,14 @@ ghost use Rattle.std.specs.Int.{IsPowerOfTwo};
 ghost use Rattle.p3_field.specs.Ring.{Ring};
 ghost use Rattle.p3_field.specs.Domain.{CosetData, point};
 ghost use Rattle.p3_matrix.specs.Matrix.{Rows, height};
-ghost use Rattle.p3_commit.specs.Commitments.{Committed, IsEvaluated};
-ghost use Rattle.p3_commit.specs.Periodic.{IsPeriod, IsPeriodicTable};
+ghost use Rattle.commit_core.specs.Commitments.{Committed, IsEvaluated};
+ghost use Rattle.commit_core.specs.Periodic.{IsPeriod, IsPeriodicTable};
 ghost use Rattle.plain_pcs.specs.Scheme.{Blowup, PlainCommitmentData, scheme};
 ghost use Rattle.plain_pcs.specs.Holding.{IsMade, AreHolding};
 ghost use Rattle.plain_pcs.specs.Transfer.{IsTransfer, IsRepeated};
 
 use crate::commitment::PlainProverData;
-use p3_commit::{PeriodicLdeTable, rows_from};
+use commit_core::{PeriodicLdeTable, rows_from};
 use p3_dft::TwoAdicSubgroupDft;
 use p3_field::{FieldCore, Mem, RingCore, TwoAdicCore, TwoAdicField, TwoAdicMultiplicativeCoset};
 use p3_matrix::RowMajorMatrix;

@@ -1,6 +1,6 @@
 //! Multilinear polynomials by their values: what a challenger takes in, and values at points.
 ghost use Rattle.std.specs.Prelude.{◌≡◌, ℕ, ◌+◌, ◌*◌, ◌/◌, ◌^◌, ◌<◌, List, ◌∷◌, length, map, All, IfOk, MatchOption};
-ghost use Rattle.p3_commit.specs.Batches.{lists};
+ghost use Rattle.commit_rows.specs.Batches.{lists};
 ghost use Rattle.plain_pcs.specs.Multilinear.{multilinear_value};
 ghost use Rattle.plain_pcs.specs.PlainMultilinear.{after_values, HasValues, HaveCoordinates, IsFirstUnfit, IsFirstDifferent, multilinear_values_at as values_at_points};
 

@@ -1,6 +1,6 @@
 //! Low-degree extensions of matrices.
 ghost use Rattle.std.specs.Prelude.{◌≡◌, ◌≤◌, ◌↔◌, IsTrue, IfOk, MatchOption, All};
-ghost use Rattle.p3_commit.specs.Commitments.{AreExtensions};
+ghost use Rattle.commit_core.specs.Commitments.{AreExtensions};
 ghost use Rattle.plain_pcs.specs.Scheme.{scheme};
 ghost use Rattle.plain_pcs.specs.Extension.{IsCommittable, Extends, extension_of};
 ghost use Rattle.p3_field.specs.Checks.{IsFirstWithout};

@@ -2,9 +2,9 @@
 ghost use Rattle.std.specs.Prelude.{◌≡◌, ℕ, ◌+◌, ◌-◌, ◌^◌, ◌≤◌, List, Some, All, length, slice_get};
 ghost use Rattle.p3_field.specs.Domain.{CosetData};
 ghost use Rattle.p3_matrix.specs.Matrix.{Rows};
-ghost use Rattle.p3_commit.specs.Claims.{Request, MatrixClaim, CommitmentClaim};
-ghost use Rattle.p3_commit.specs.Commitments.{AreExtensions};
-ghost use Rattle.p3_commit.specs.Failure.{NoneOf};
+ghost use Rattle.commit_core.specs.Claims.{Request, MatrixClaim, CommitmentClaim};
+ghost use Rattle.commit_core.specs.Commitments.{AreExtensions};
+ghost use Rattle.commit_core.specs.Failure.{NoneOf};
 ghost use Rattle.plain_pcs.specs.Scheme.{Blowup, scheme, PlainCommitmentData};
 ghost use Rattle.plain_pcs.specs.Extension.{Extends};
 ghost use Rattle.plain_pcs.specs.Checks.{Opens};

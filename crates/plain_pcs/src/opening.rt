@@ -2,9 +2,9 @@
 ghost use Rattle.std.specs.Prelude.{◌≡◌, ℕ, ◌^◌, ◌<◌, ◌≤◌, List, All, length, map, IfOk, MatchOption};
 ghost use Rattle.p3_field.specs.Domain.{CosetData};
 ghost use Rattle.p3_matrix.specs.Matrix.{Rows, height};
-ghost use Rattle.p3_commit.specs.Failure.{NoneOf, RefusedBy};
-ghost use Rattle.p3_commit.specs.Commitments.{Committed, OpenedCommitment, AreOpenedCommitments, IsOpening, nested, opened, values_of};
-ghost use Rattle.p3_commit.specs.Periodic.{EachFrom};
+ghost use Rattle.commit_core.specs.Failure.{NoneOf, RefusedBy};
+ghost use Rattle.commit_core.specs.Commitments.{Committed, OpenedCommitment, AreOpenedCommitments, IsOpening, nested, opened, values_of};
+ghost use Rattle.commit_core.specs.Periodic.{EachFrom};
 ghost use Rattle.plain_pcs.specs.Scheme.{PlainCommitmentData, scheme};
 ghost use Rattle.plain_pcs.specs.Checks.{Opens};
 ghost use Rattle.plain_pcs.specs.Holding.{IsMade, AreHolding};
@@ -14,7 +14,7 @@ ghost use Rattle.plain_pcs.specs.Opening.{HaveMatrixValues, EachHasValues, opene
 
 use crate::commitment::PlainProverData;
 use crate::error::PlainProverError;
-use p3_commit::{
+use commit_core::{
     OpenedValues, OpenedValuesForMatrix, OpenedValuesForRound, OpeningRequest, PcsFailure,
 };
 use p3_field::{

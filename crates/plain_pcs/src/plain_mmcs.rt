@@ -2,14 +2,15 @@
 ghost use Rattle.std.specs.Prelude.{◌≡◌, ◌≢◌, ℕ, ◌<◌, ◌↔◌, List, length, map, All, Err, IfOk, IsTrue, MatchOption, ⊤};
 ghost use Rattle.std.specs.Int.{IsPowerOfTwo};
 ghost use Rattle.p3_matrix.specs.Matrix.{Rows, height};
-ghost use Rattle.p3_commit.specs.Periodic.{IsGreatest, EachFrom};
-ghost use Rattle.p3_commit.specs.Batches.{lists, IsBatch, IsRowOf, HaveWidths};
-ghost use Rattle.p3_commit.specs.Failure.{VerifiedBy};
+ghost use Rattle.commit_core.specs.Periodic.{IsGreatest, EachFrom};
+ghost use Rattle.commit_rows.specs.Batches.{lists, IsBatch, IsRowOf, HaveWidths};
+ghost use Rattle.commit_core.specs.Failure.{VerifiedBy};
 ghost use Rattle.plain_pcs.specs.Laws.Faults.{opened_faultless, all_opened_faultless, some_opening_fault, some_fault_of_all, one_opening_fault, one_fault_of_all};
 ghost use Rattle.plain_pcs.specs.PlainMmcs.{AreTheRows, HasOpeningShape, HaveOpeningShapes, IsRowOpening, IsOpeningFault, AreRowOpenings, IsFaultOfOpenings};
 
 use crate::rows::{are_dimensions, are_the_rows, have_widths, is_row, opened_rows};
-use p3_commit::{BatchOpening, BatchOpeningRef, Mmcs, PcsFailure};
+use commit_core::PcsFailure;
+use commit_rows::{BatchOpening, BatchOpeningRef, Mmcs};
 use p3_field::Mem;
 use p3_matrix::{Dimensions, RowMajorMatrix};
 use std::alloc::Global;

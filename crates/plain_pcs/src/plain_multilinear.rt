@@ -1,14 +1,15 @@
 //! A multilinear polynomial whose values are their own commitment.
 ghost use Rattle.std.specs.Prelude.{◌≡◌, ℕ, ◌^◌, ◌<◌, List, length, map, IfOk, IfErr, MatchOption};
-ghost use Rattle.p3_commit.specs.Batches.{lists};
-ghost use Rattle.p3_commit.specs.Failure.{RefusedBy, IfRefused, VerifiedBy};
+ghost use Rattle.commit_rows.specs.Batches.{lists};
+ghost use Rattle.commit_core.specs.Failure.{RefusedBy, IfRefused, VerifiedBy};
 ghost use Rattle.plain_pcs.specs.PlainMultilinear.{after_values, HasValues, HaveCoordinates, AreValuesAt, IsClaimFault, IsCommitFault, IsOpenFault};
 ghost use Rattle.plain_pcs.specs.Refusals.{IfOutOfMemory};
 ghost use Rattle.plain_pcs.specs.Laws.Claims.{claims_faultless, some_claim_fault, one_claim_fault, one_commit_cause, one_open_cause};
 
 use crate::evaluations::{first_different, first_unfit, observe_values, values_at};
 use p3_challenger::CanObserve;
-use p3_commit::{MultilinearPcs, PcsFailure};
+use commit_core::PcsFailure;
+use commit_rows::MultilinearPcs;
 use p3_field::{
     BasedVectorSpace, ExtensionField, Field, FieldCore, PrimeCharacteristicRing, RingCore,
 };

@@ -3,10 +3,10 @@ ghost use Rattle.std.specs.Prelude.{◌≡◌, refl, ℕ, ◌^◌, ◌-◌, ◌+
 ghost use Rattle.std.specs.Int.{IsPowerOfTwo};
 ghost use Rattle.p3_field.specs.Domain.{CosetData, coset_point, point, IsInterpolant};
 ghost use Rattle.p3_matrix.specs.Matrix.{Rows, height, column};
-ghost use Rattle.p3_commit.specs.Space.{EachOf};
-ghost use Rattle.p3_commit.specs.Periodic.{IsPeriod, IsPeriodicTable};
-ghost use Rattle.p3_commit.specs.Failure.{RefusedBy, IfRefused, VerifiedBy, NoneOf};
-ghost use Rattle.p3_commit.specs.Commitments.{IsSubgroup, Committed, IsCommitment, IsEvaluated, OpenedCommitment, AreOpenedCommitments, nested, IsOpening, AreExtensions};
+ghost use Rattle.commit_core.specs.Space.{EachOf};
+ghost use Rattle.commit_core.specs.Periodic.{IsPeriod, IsPeriodicTable};
+ghost use Rattle.commit_core.specs.Failure.{RefusedBy, IfRefused, VerifiedBy, NoneOf};
+ghost use Rattle.commit_core.specs.Commitments.{IsSubgroup, Committed, IsCommitment, IsEvaluated, OpenedCommitment, AreOpenedCommitments, nested, IsOpening, AreExtensions};
 ghost use Rattle.plain_pcs.specs.Scheme.{Blowup, scheme, PlainCommitmentData};
 ghost use Rattle.plain_pcs.specs.Extension.{commitment_of, Extends};
 ghost use Rattle.plain_pcs.specs.Checks.{Opens, Fault};
@@ -23,7 +23,7 @@ use crate::error::{PlainError, PlainProverError};
 use crate::evaluating::{evaluations_on_domain, periodic_table};
 use crate::opening::open;
 use crate::verifying::first_fault;
-use p3_commit::{
+use commit_core::{
     CommitmentOpening, CosetPcs, OpenedValues, OpeningRequest, Pcs, PcsFailure, PeriodicLdeTable,
     UnivariateStarkPcs,
 };

@@ -2,11 +2,11 @@
 ghost use Rattle.std.specs.Prelude.{◌≡◌, ℕ, ◌/◌, ◌<◌, ◌≤◌, ◌↔◌, List, length, map, All, IfOk, IsTrue, MatchOption};
 ghost use Rattle.std.specs.Int.{IsPowerOfTwo};
 ghost use Rattle.p3_matrix.specs.Matrix.{Rows, height, row_at};
-ghost use Rattle.p3_commit.specs.Periodic.{IsGreatest, EachFrom};
-ghost use Rattle.p3_commit.specs.Batches.{lists, row_in, IsRowOf, AreRowsAt, HaveWidths};
+ghost use Rattle.commit_core.specs.Periodic.{IsGreatest, EachFrom};
+ghost use Rattle.commit_rows.specs.Batches.{lists, row_in, IsRowOf, AreRowsAt, HaveWidths};
 ghost use Rattle.plain_pcs.specs.PlainMmcs.{AreDimensions, IsRowByEq, AreTheRows};
 
-use p3_commit::greatest_height;
+use commit_rows::greatest_height;
 use p3_field::Mem;
 use p3_matrix::{Dimensions, RowMajorMatrix, is_power_of_two};
 use std::alloc::Global;

@@ -10,7 +10,7 @@ ghost use Rattle.plain_pcs.specs.Faults.{AreColumnPolynomials};
 use crate::commitment::PlainCommitment;
 use crate::committing::column_polynomials;
 use crate::error::PlainError;
-use p3_commit::{CommitmentOpening, MatrixOpening, PointOpening};
+use commit_core::{CommitmentOpening, MatrixOpening, PointOpening};
 use p3_dft::polynomial_value;
 use p3_field::{
     ExtensionField, Field, FieldCore, Mem, TwoAdicCore, TwoAdicField, TwoAdicMultiplicativeCoset,

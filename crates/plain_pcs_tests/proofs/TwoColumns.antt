@@ -6,8 +6,8 @@ use Rattle.std.proofs.lemmas.List.{length-map}
 use Rattle.std.proofs.lemmas.List.Elements.{All-cons, All-nil}
 use Rattle.std.proofs.Math.ListN.{get_or-map}
 use Rattle.p3_matrix.specs.Matrix.{Rows, height}
-use Rattle.p3_commit.specs.Periodic.{IsGreatest}
-use Rattle.p3_commit.specs.Batches.{IsBatch, IsRowOf}
+use Rattle.commit_core.specs.Periodic.{IsGreatest}
+use Rattle.commit_rows.specs.Batches.{IsBatch, IsRowOf}
 
 all_two : (P : ℕ → Type 0) (a b : ℕ) → P a → P b → All P (a ∷ b ∷ [])
 all_two P a b p q = All-cons P a (b ∷ []) p (All-cons P b [] q (All-nil P))

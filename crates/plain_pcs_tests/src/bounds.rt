@@ -3,14 +3,14 @@
 ghost use Rattle.std.specs.Prelude.{◌≡◌, ℕ, ◌<◌, List, Some, All, IfOk, IsOk, slice_get};
 ghost use Rattle.p3_field.specs.Domain.{CosetData};
 ghost use Rattle.p3_matrix.specs.Matrix.{Rows, height};
-ghost use Rattle.p3_commit.specs.Claims.{MatrixClaim, CommitmentClaim};
-ghost use Rattle.p3_commit.specs.Failure.{IfRefused};
+ghost use Rattle.commit_core.specs.Claims.{MatrixClaim, CommitmentClaim};
+ghost use Rattle.commit_core.specs.Failure.{IfRefused};
 ghost use Rattle.plain_pcs.specs.Scheme.{scheme, PlainCommitmentData};
 ghost use Rattle.plain_pcs.specs.Refusals.{IsWithinBounds};
 ghost use Rattle.plain_pcs.specs.Binding.{IsBound};
 
 use p3_challenger::Sha256Challenger;
-use p3_commit::{CommitmentOpening, MatrixOpening, Pcs, PcsFailure, PointOpening};
+use commit_core::{CommitmentOpening, MatrixOpening, Pcs, PcsFailure, PointOpening};
 use p3_dft::{Radix2Dit, TwoAdicSubgroupDft};
 use p3_field::{
     BabyBear, BasedVectorSpace, ExtensionField, Field, FieldCore, Mem, PrimeCharacteristicRing,

@@ -1,11 +1,12 @@
 //! Worked openings of two columns, of 4 and 2 rows.
 ghost use Rattle.std.specs.Prelude.{◌≡◌, ℕ, ◌+◌, ◌*◌, ◌^◌, ◌<◌, ◌≤◌, [], ◌∷◌, length, map, All, IfOk};
 ghost use Rattle.p3_matrix.specs.Matrix.{height};
-ghost use Rattle.p3_commit.specs.Batches.{IsBatch, IsRowOf};
+ghost use Rattle.commit_rows.specs.Batches.{IsBatch, IsRowOf};
 
 use crate::same::{assert_same, assert_values};
 use crate::scheme::{bear, quartic};
-use p3_commit::{BatchOpening, BatchOpeningRef, ExtensionMmcs, Mmcs, PcsFailure};
+use commit_core::PcsFailure;
+use commit_rows::{BatchOpening, BatchOpeningRef, ExtensionMmcs, Mmcs};
 use p3_field::{
     BabyBear, BasedVectorSpace, ExtensionField, FieldCore, Mem, QuarticExtension, RingCore,
 };

@@ -6,7 +6,7 @@ ghost use Rattle.plain_pcs.specs.Holding.{IsMade};
 use crate::same::{assert_same, assert_values};
 use crate::scheme::{Coset, Plain, bear, committed, only_three, preprocessed, scheme};
 use p3_challenger::Sha256Challenger;
-use p3_commit::{
+use commit_core::{
     CommitmentOpening, OpenedValues, OpeningRequest, Pcs, PcsFailure, UnivariateStarkPcs,
 };
 use p3_field::{BabyBear, FieldCore, Mem, RingCore};

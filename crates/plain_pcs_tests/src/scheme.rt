@@ -5,8 +5,8 @@ ghost use Rattle.plain_pcs.specs.Holding.{IsMade};
 
 use crate::same::{assert_same, assert_values};
 use p3_challenger::{CanObserve, Sha256Challenger};
-use p3_commit::{OpeningRequest, Pcs, PcsFailure, UnivariateStarkPcs};
-use p3_commit_caller::committed_and_evaluated;
+use commit_core::{OpeningRequest, Pcs, PcsFailure, UnivariateStarkPcs};
+use example_commit::committed_and_evaluated;
 use p3_dft::Radix2Dit;
 use p3_field::{
     BabyBear, ExtensionField, FieldCore, Mem, QuarticExtension, RingCore, TwoAdicCore,

@@ -4,8 +4,8 @@
 use crate::same::{assert_same, assert_values};
 use crate::scheme::{Coset, bear, pair, refusal, scheme};
 use p3_challenger::Sha256Challenger;
-use p3_commit::{CommitmentOpening, PcsFailure};
-use p3_commit_caller::{
+use commit_core::{CommitmentOpening, PcsFailure};
+use example_commit::{
     Round, VerifiedRounds, fault_of_claims, preprocessed_verified, rounds_verified,
 };
 use p3_field::{BabyBear, FieldCore, Mem, RingCore};

@@ -4,14 +4,14 @@ use Rattle.std.specs.Prelude.{IfOk, option_to_list}
 use Rattle.std.specs.List.{flat_map}
 use Rattle.std.proofs.lemmas.List.{length-map}
 use Rattle.p3_field.specs.Poly.{tabulate}
-use Rattle.p3_air.specs.Shape.{Declaration}
-use Rattle.p3_commit.specs.Claims.{Request}
+use Rattle.air_core.specs.Shape.{Declaration}
+use Rattle.commit_core.specs.Claims.{Request}
 use Rattle.p3_lookup.specs.Written.{Written, read_all}
-use Rattle.batch_claims.specs.Claims.{bits_at, declared_at, matrix_tables}
+use Rattle.verifier_claims.specs.Claims.{bits_at, declared_at, matrix_tables}
 use Rattle.batch_setup.specs.Setup.{Instance}
 use Rattle.batch_statement.specs.Statement.{WrittenCommon}
-use Rattle.honest_acceptance.specs.Rounds.{points_with}
-use Rattle.honest_proofs.specs.HonestProof.{where_some}
+use Rattle.law_acceptance.specs.Rounds.{points_with}
+use Rattle.law_honest.specs.HonestProof.{where_some}
 use Rattle.prover_openings.specs.Asked.{RoundsProverData, asked, plan_of, request_where}
 
 pub if_ok_more : {T X : Type 0} (P Q : T → Type 0) (r : Result T X) → ((v : T) → P v → Q v) → IfOk r P → IfOk r Q

@@ -9,24 +9,24 @@ use Rattle.p3_field.specs.Laws.SubgroupSelectors.{map_tabulate}
 use Rattle.p3_field.specs.Laws.Tabulate.{get_or-tabulate, tabulate_same}
 use Rattle.p3_field.specs.Poly.{tabulate}
 use Rattle.p3_matrix.specs.Matrix.{Rows}
-use Rattle.p3_air.specs.Shape.{Declaration, HasColumns}
-use Rattle.p3_commit.specs.Claims.{Request}
-use Rattle.p3_commit.specs.Commitments.{AreCommitted, AreOpenedCommitments, Committed, OpenedCommitment, IsCommitment}
-use Rattle.batch_claims.specs.Claims.{commitment_in, declared_at, matrix_tables}
-use Rattle.batch_claims.specs.Laws.Listed.{listed_below}
-use Rattle.batch_proving.specs.Batch.{Batch, HasProverData, IsTracedAll, all_chunks, all_permutations, log_parts_at, main_matrices, preprocessed_all, table_at, table_count}
-use Rattle.batch_setting.specs.Domains.{next_by}
-use Rattle.batch_setting.specs.Setting.{masks}
-use Rattle.batch_shape_checks.specs.ShapeChecks.{no_table}
+use Rattle.air_core.specs.Shape.{Declaration, HasColumns}
+use Rattle.commit_core.specs.Claims.{Request}
+use Rattle.commit_core.specs.Commitments.{AreCommitted, AreOpenedCommitments, Committed, OpenedCommitment, IsCommitment}
+use Rattle.verifier_claims.specs.Claims.{commitment_in, declared_at, matrix_tables}
+use Rattle.verifier_claims.specs.Laws.Listed.{listed_below}
+use Rattle.prover_answer.specs.Batch.{Batch, HasProverData, IsTracedAll, all_chunks, all_permutations, log_parts_at, main_matrices, preprocessed_all, table_at, table_count}
+use Rattle.batch_config.specs.Domains.{next_by}
+use Rattle.batch_config.specs.Setting.{masks}
+use Rattle.verifier_shape.specs.ShapeChecks.{no_table}
 use Rattle.batch_statement.specs.Statement.{PreprocessedTracesData, AirTable}
-use Rattle.committed_tables.specs.Fields.{FieldsLaws}
-use Rattle.batch_validity.specs.Traced.{declared}
-use Rattle.honest_proofs.specs.HonestProof.{alpha, challenges_at, honest_main_commitment, honest_permutation_commitment, honest_quotient_commitment, where_some, zeta}
-use Rattle.honest_proofs.specs.Laws.Flat.{flat_same, map_flat, map_where}
-use Rattle.honest_acceptance.specs.Rounds.{AskFor, OpenedMatrix, Round, chunk_opened, chunks, chunks_opened, committed_of, opened_commitments_of, honest_rounds, main_opened, mains, of_table, permutation_opened, permutations, points_with, preprocessed_opened, preprocesseds, round_of}
-use Rattle.honest_acceptance.specs.Laws.HonestMatrices.{chunks_committed, mains_committed, permutations_committed, preprocesseds_committed}
-use Rattle.honest_acceptance.specs.Laws.Opened.{kept_on}
-use Rattle.honest_acceptance.specs.Laws.Rounds.{ArePaired, each_paired, paired_append}
+use Rattle.law_committed.specs.Fields.{FieldsLaws}
+use Rattle.law_valid.specs.Traced.{declared}
+use Rattle.law_honest.specs.HonestProof.{alpha, challenges_at, honest_main_commitment, honest_permutation_commitment, honest_quotient_commitment, where_some, zeta}
+use Rattle.law_honest.specs.Laws.Flat.{flat_same, map_flat, map_where}
+use Rattle.law_acceptance.specs.Rounds.{AskFor, OpenedMatrix, Round, chunk_opened, chunks, chunks_opened, committed_of, opened_commitments_of, honest_rounds, main_opened, mains, of_table, permutation_opened, permutations, points_with, preprocessed_opened, preprocesseds, round_of}
+use Rattle.law_acceptance.specs.Laws.HonestMatrices.{chunks_committed, mains_committed, permutations_committed, preprocesseds_committed}
+use Rattle.law_acceptance.specs.Laws.Opened.{kept_on}
+use Rattle.law_acceptance.specs.Laws.Rounds.{ArePaired, each_paired, paired_append}
 use Rattle.prover_openings.specs.Asked.{RoundsProverData, asked_of, chunk_points, main_points, permutation_points, plan_in, preprocessed_points, request_where}
 use Rattle.prover_openings.specs.Check.{AreBoth}
 

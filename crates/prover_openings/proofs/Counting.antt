@@ -3,15 +3,15 @@ use Rattle.std.proofs.Common.{◌≡◌, ℕ, ◌<◌, List, [], length, get_or,
 use Rattle.std.proofs.lemmas.List.{length-map}
 use Rattle.p3_field.specs.Ring.{Ring}
 use Rattle.p3_matrix.specs.Matrix.{height}
-use Rattle.p3_air.specs.Shape.{Declaration}
-use Rattle.p3_air.specs.Tree.{Tree}
+use Rattle.air_core.specs.Shape.{Declaration}
+use Rattle.air_core.specs.Tree.{Tree}
 use Rattle.p3_lookup.specs.Written.{Written, read_all}
 use Rattle.batch_constraints.specs.BatchTrees.{AreLookupsOf}
 use Rattle.batch_setup.specs.Setup.{Instance, airs_of}
-use Rattle.batch_shape_checks.specs.ShapeChecks.{chunks_of_table, no_table}
-use Rattle.batch_shape_checks.specs.Laws.Items.{item_of_map}
+use Rattle.verifier_shape.specs.ShapeChecks.{chunks_of_table, no_table}
+use Rattle.verifier_shape.specs.Laws.Items.{item_of_map}
 use Rattle.batch_statement.specs.Statement.{AirTable, tables_of}
-use Rattle.batch_validity.specs.Traced.{no_rows}
+use Rattle.law_valid.specs.Traced.{no_rows}
 use Rattle.prover_openings.specs.Counts.{IsCountable, log_count_at}
 
 module _ {F A : Type 0} (r : Ring F) (declaration : A → Declaration F) (trees : A → List (Tree F)) (instances : List (Instance A F)) (lookups : List (List (Written F))) (i : ℕ) (x : Instance A F) (ls : List (Written F)) (air : A) (rows : ℕ)

@@ -5,20 +5,20 @@ use Rattle.std.proofs.lemmas.List.{length-map}
 use Rattle.std.proofs.lemmas.List.Elements.{All-map}
 use Rattle.p3_field.specs.Laws.Tabulate.{length-tabulate}
 use Rattle.p3_field.specs.Poly.{tabulate}
-use Rattle.p3_air.specs.Shape.{Declaration, HasColumns}
-use Rattle.p3_air.specs.Tree.{Tree}
-use Rattle.p3_commit.specs.Claims.{Request}
+use Rattle.air_core.specs.Shape.{Declaration, HasColumns}
+use Rattle.air_core.specs.Tree.{Tree}
+use Rattle.commit_core.specs.Claims.{Request}
 use Rattle.p3_lookup.specs.Lookup.{LookupData}
-use Rattle.batch_claims.specs.Claims.{matrix_tables}
-use Rattle.batch_claims.specs.Laws.Listed.{listed_below}
-use Rattle.batch_proving.specs.Batch.{Batch, HasProverData, batch_of, log_parts_at, table_count}
-use Rattle.batch_setting.specs.Domains.{next_by}
-use Rattle.batch_setting.specs.Setting.{Setting, masks}
+use Rattle.verifier_claims.specs.Claims.{matrix_tables}
+use Rattle.verifier_claims.specs.Laws.Listed.{listed_below}
+use Rattle.prover_answer.specs.Batch.{Batch, HasProverData, batch_of, log_parts_at, table_count}
+use Rattle.batch_config.specs.Domains.{next_by}
+use Rattle.batch_config.specs.Setting.{Setting, masks}
 use Rattle.batch_setup.specs.Setup.{Instance, airs_of}
-use Rattle.batch_shape_checks.specs.ShapeChecks.{is_there, no_table}
+use Rattle.verifier_shape.specs.ShapeChecks.{is_there, no_table}
 use Rattle.batch_statement.specs.Proof.{OpenedWithLookups}
 use Rattle.batch_statement.specs.Statement.{Common, PreprocessedTracesData, AirTable, WellFormed, WrittenCommon, tables_of}
-use Rattle.honest_proofs.specs.HonestProof.{Prover, zeta}
+use Rattle.law_honest.specs.HonestProof.{Prover, zeta}
 use Rattle.prover_openings.specs.Asked.{RoundsProverData, asked, asked_of, plan_in, plan_of}
 use Rattle.prover_openings.specs.Taken.{RoundValues, taken_at}
 use Rattle.prover_openings.proofs.Lists.{map_map}

@@ -4,7 +4,7 @@ use Rattle.std.specs.List.{flat_map}
 use Rattle.std.proofs.lemmas.List.{append_assoc, drop-drop, map_push}
 use Rattle.p3_field.specs.Poly.{tabulate}
 use Rattle.p3_field.specs.Laws.Tabulate.{tabulate_push}
-use Rattle.honest_proofs.specs.Laws.Flat.{flat_more}
+use Rattle.law_honest.specs.Laws.Flat.{flat_more}
 use Rattle.prover_openings.specs.Rows.{first_list}
 
 -- the first list that is left is that at the place so far

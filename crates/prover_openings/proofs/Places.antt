@@ -4,13 +4,13 @@ use Rattle.std.specs.List.{flat_map}
 use Rattle.std.proofs.Math.ListN.{get_or-append}
 use Rattle.std.proofs.lemmas.List.{get_or-append-add}
 use Rattle.p3_field.specs.Poly.{tabulate}
-use Rattle.batch_claims.specs.Claims.{matrix_tables}
-use Rattle.batch_shape_checks.specs.ShapeChecks.{HasEntries, is_there}
+use Rattle.verifier_claims.specs.Claims.{matrix_tables}
+use Rattle.verifier_shape.specs.ShapeChecks.{HasEntries, is_there}
 use Rattle.batch_statement.specs.Statement.{ListsEntries, PreprocessedTracesData, entry_of, with_entry}
 use Rattle.batch_statement.specs.declared.preprocessed.PreprocessedInstanceMeta.{PreprocessedInstanceMeta}
 use Rattle.prover_openings.specs.Taken.{count_below, one_where}
-use Rattle.honest_proofs.specs.Laws.Flat.{flat_over, flat_same}
-use Rattle.honest_acceptance.specs.Laws.Entries.{listed_is, map_items}
+use Rattle.law_honest.specs.Laws.Flat.{flat_over, flat_same}
+use Rattle.law_acceptance.specs.Laws.Entries.{listed_is, map_items}
 
 -- the numbers below, of the first and of those after it
 pub count_front : (f : ℕ → ℕ) (i : ℕ) → count_below f (suc i) ≡ f zero + count_below (λ k. f (suc k)) i

@@ -6,17 +6,17 @@ use Rattle.p3_field.specs.Domain.{CosetData}
 use Rattle.p3_field.specs.Laws.Tabulate.{tabulate_same}
 use Rattle.p3_field.specs.Poly.{tabulate}
 use Rattle.p3_matrix.specs.Matrix.{Rows, height}
-use Rattle.p3_air.specs.Shape.{Declaration}
-use Rattle.p3_air.specs.Tree.{Tree}
+use Rattle.air_core.specs.Shape.{Declaration}
+use Rattle.air_core.specs.Tree.{Tree}
 use Rattle.p3_lookup.specs.Written.{Written, read_all}
-use Rattle.batch_setting.specs.Setting.{Setting, masks}
+use Rattle.batch_config.specs.Setting.{Setting, masks}
 use Rattle.batch_setup.specs.Setup.{ArePowers, Instance, airs_of, bits_of}
-use Rattle.batch_shape_checks.specs.ShapeChecks.{chunks_of_table, statement_with}
+use Rattle.verifier_shape.specs.ShapeChecks.{chunks_of_table, statement_with}
 use Rattle.batch_statement.specs.Statement.{Statement, WrittenCommon, tables_of}
-use Rattle.batch_validity.specs.Laws.Holding.{lookups_declared}
-use Rattle.batch_validity.specs.Traced.{TracedTable, log_parts, log_rows, no_rows, traced_at}
-use Rattle.batch_validity.specs.Valid.{IsTracedBatch}
-use Rattle.committed_tables.specs.Fields.{FieldsLaws}
+use Rattle.law_valid.specs.Laws.Holding.{lookups_declared}
+use Rattle.law_valid.specs.Traced.{TracedTable, log_parts, log_rows, no_rows, traced_at}
+use Rattle.law_valid.specs.Valid.{IsTracedBatch}
+use Rattle.law_committed.specs.Fields.{FieldsLaws}
 use Rattle.prover_openings.specs.Counts.{IsCountable, log_count_at}
 use Rattle.prover_openings.proofs.Given.{count_is}
 

@@ -8,26 +8,26 @@ use Rattle.p3_field.specs.Laws.Tabulate.{get_or-tabulate, length-tabulate, tabul
 use Rattle.p3_field.specs.Poly.{tabulate, eval_poly_in}
 use Rattle.p3_field.specs.Ring.{Ring}
 use Rattle.p3_matrix.specs.Matrix.{Rows}
-use Rattle.p3_air.specs.Shape.{Declaration, HasColumns, width_of}
-use Rattle.p3_commit.specs.Commitments.{values_of}
+use Rattle.air_core.specs.Shape.{Declaration, HasColumns, width_of}
+use Rattle.commit_core.specs.Commitments.{values_of}
 use Rattle.p3_lookup.specs.Lookup.{LookupData}
-use Rattle.batch_claims.specs.Claims.{commitment_in, declared_at, matrix_tables}
-use Rattle.batch_proving.specs.Batch.{Batch, IsTracedAll, log_parts_at, table_at, table_count}
-use Rattle.batch_setting.specs.Setting.{Setting}
-use Rattle.batch_shape_checks.specs.ShapeChecks.{has_some, is_there, no_table, permutation_width}
+use Rattle.verifier_claims.specs.Claims.{commitment_in, declared_at, matrix_tables}
+use Rattle.prover_answer.specs.Batch.{Batch, IsTracedAll, log_parts_at, table_at, table_count}
+use Rattle.batch_config.specs.Setting.{Setting}
+use Rattle.verifier_shape.specs.ShapeChecks.{has_some, is_there, no_table, permutation_width}
 use Rattle.batch_statement.specs.Proof.{OpenedWithLookups}
 use Rattle.batch_statement.specs.Statement.{HasEntryOf, ListsEntries, PreprocessedTracesData, AirTable, entry_of}
 use Rattle.batch_statement.specs.declared.preprocessed.PreprocessedInstanceMeta.{PreprocessedInstanceMeta}
-use Rattle.committed_tables.specs.Committed.{CommittedTable, columns_at}
-use Rattle.committed_tables.specs.Fields.{FieldsLaws}
-use Rattle.committed_tables.specs.Quotient.{honest_chunk}
-use Rattle.batch_validity.specs.Laws.Holding.{all_counted}
-use Rattle.batch_validity.specs.Traced.{TracedTable, constraints, declared, log_parts, quotient_shift}
-use Rattle.batch_validity.specs.Valid.{HasQuotientDomain, IsTraced}
-use Rattle.honest_proofs.specs.HonestProof.{Prover, alpha, challenges_at, committed_table, committed_where, opened_of, permutation_matrices, honest_permutation_commitment, honest_quotient_commitment, honest_main_commitment, where_some, zeta}
-use Rattle.honest_proofs.specs.Laws.Flat.{map_flat}
-use Rattle.honest_acceptance.specs.Rounds.{OpenedMatrix, chunk_opened, chunks, chunks_opened, honest_rounds, main_opened, mains, permutation_opened, permutations, point_after, points_with, preprocessed_opened, preprocesseds, round_of, values_in_rounds}
-use Rattle.honest_acceptance.specs.Laws.Lengths.{permutation_count}
+use Rattle.law_committed.specs.Committed.{CommittedTable, columns_at}
+use Rattle.law_committed.specs.Fields.{FieldsLaws}
+use Rattle.law_committed.specs.Quotient.{honest_chunk}
+use Rattle.law_valid.specs.Laws.Holding.{all_counted}
+use Rattle.law_valid.specs.Traced.{TracedTable, constraints, declared, log_parts, quotient_shift}
+use Rattle.law_valid.specs.Valid.{HasQuotientDomain, IsTraced}
+use Rattle.law_honest.specs.HonestProof.{Prover, alpha, challenges_at, committed_table, committed_where, opened_of, permutation_matrices, honest_permutation_commitment, honest_quotient_commitment, honest_main_commitment, where_some, zeta}
+use Rattle.law_honest.specs.Laws.Flat.{map_flat}
+use Rattle.law_acceptance.specs.Rounds.{OpenedMatrix, chunk_opened, chunks, chunks_opened, honest_rounds, main_opened, mains, permutation_opened, permutations, point_after, points_with, preprocessed_opened, preprocesseds, round_of, values_in_rounds}
+use Rattle.law_acceptance.specs.Laws.Lengths.{permutation_count}
 use Rattle.prover_openings.specs.Rows.{first_list, rows_in, second_of, values_of_row}
 use Rattle.prover_openings.specs.Taken.{RoundValues, count_below, one_where, round_values, taken_at, taken_table}
 use Rattle.prover_openings.proofs.Places.{by_entries, first_item_at, item_at, one_long, one_of, one_there}

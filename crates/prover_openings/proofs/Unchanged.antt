@@ -1,8 +1,8 @@
 -- An error but out of memory leaves a state as it was.
 use Rattle.std.proofs.Common.{◌≡◌, ◌⊎◌, Result, Ok, Err, inl, sym, subst}
 use Rattle.std.specs.Prelude.{IsErrAnd}
-use Rattle.batch_proving.specs.declared.error.ProvingError.{ProvingError}
-use Rattle.batch_proving.specs.declared.error.ProvingError.TheVariants.{OutOfMemory}
+use Rattle.prover_answer.specs.declared.error.ProvingError.{ProvingError}
+use Rattle.prover_answer.specs.declared.error.ProvingError.TheVariants.{OutOfMemory}
 use Rattle.prover_openings.specs.Check.{KeepsState}
 
 -- what a `?` returns is the error of the call before it

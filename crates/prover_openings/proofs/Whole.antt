@@ -7,26 +7,26 @@ use Rattle.p3_field.specs.Checks.{FirstFails, NoneFails}
 use Rattle.p3_field.specs.Laws.Checks.{holds_alone, none_alone}
 use Rattle.p3_field.specs.Poly.{tabulate}
 use Rattle.p3_matrix.specs.Matrix.{Rows}
-use Rattle.p3_air.specs.Shape.{HasColumns}
-use Rattle.p3_commit.specs.Claims.{CommitmentClaim, Request}
-use Rattle.p3_commit.specs.Commitments.{AreOpenedCommitments, AvoidAll, OpenedCommitment, IsCommitment, IsOpening}
-use Rattle.p3_commit.specs.Failure.{NoneOf}
-use Rattle.batch_proving.specs.Backend.{ProverBackend}
-use Rattle.batch_proving.specs.Batch.{Batch, HasProverData, IsTracedAll, log_parts_at, preprocessed_all, table_at, table_count}
-use Rattle.batch_proving.specs.Proving.{AreAsked, AvoidsExcluded, IsGroundOf, IsPcsRefusal}
-use Rattle.batch_proving.specs.Verdict.{IsProverRefusal}
-use Rattle.batch_proving.specs.Laws.Verdicts.{refusal_along}
-use Rattle.batch_proving.specs.declared.error.ProvingError.{ProvingError}
+use Rattle.air_core.specs.Shape.{HasColumns}
+use Rattle.commit_core.specs.Claims.{CommitmentClaim, Request}
+use Rattle.commit_core.specs.Commitments.{AreOpenedCommitments, AvoidAll, OpenedCommitment, IsCommitment, IsOpening}
+use Rattle.commit_core.specs.Failure.{NoneOf}
+use Rattle.prover_answer.specs.Backend.{ProverBackend}
+use Rattle.prover_answer.specs.Batch.{Batch, HasProverData, IsTracedAll, log_parts_at, preprocessed_all, table_at, table_count}
+use Rattle.prover_answer.specs.Proving.{AreAsked, AvoidsExcluded, IsGroundOf, IsPcsRefusal}
+use Rattle.prover_answer.specs.Verdict.{IsProverRefusal}
+use Rattle.prover_answer.specs.Laws.Verdicts.{refusal_along}
+use Rattle.prover_answer.specs.declared.error.ProvingError.{ProvingError}
 use Rattle.batch_setup.specs.declared.error.ProverPhase.TheVariants.{Opening}
-use Rattle.batch_shape_checks.specs.ShapeChecks.{is_there}
+use Rattle.verifier_shape.specs.ShapeChecks.{is_there}
 use Rattle.batch_statement.specs.Proof.{OpenedWithLookups}
-use Rattle.batch_validity.specs.Traced.{declared}
-use Rattle.committed_tables.specs.Fields.{FieldsLaws}
-use Rattle.honest_proofs.specs.HonestProof.{AreCanonical, alpha, challenges_at, honest_claims, opened_of, opening_state, zeta}
-use Rattle.honest_proofs.specs.Laws.Ground.{one_lookup, one_ood}
-use Rattle.honest_acceptance.specs.Rounds.{AskFor, OpenedMatrix, Round, honest_rounds, values_in_rounds}
-use Rattle.honest_acceptance.specs.Laws.Opened.{opening_taken, opening_values}
-use Rattle.honest_acceptance.specs.Laws.Rounds.{ArePaired, paired_from}
+use Rattle.law_valid.specs.Traced.{declared}
+use Rattle.law_committed.specs.Fields.{FieldsLaws}
+use Rattle.law_honest.specs.HonestProof.{AreCanonical, alpha, challenges_at, honest_claims, opened_of, opening_state, zeta}
+use Rattle.law_honest.specs.Laws.Ground.{one_lookup, one_ood}
+use Rattle.law_acceptance.specs.Rounds.{AskFor, OpenedMatrix, Round, honest_rounds, values_in_rounds}
+use Rattle.law_acceptance.specs.Laws.Opened.{opening_taken, opening_values}
+use Rattle.law_acceptance.specs.Laws.Rounds.{ArePaired, paired_from}
 use Rattle.prover_openings.specs.Asked.{RoundsProverData, asked_of}
 use Rattle.prover_openings.specs.Check.{IsReady, opening_request_checks}
 use Rattle.prover_openings.specs.Taken.{round_values, taken_at}

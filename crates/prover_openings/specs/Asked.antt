@@ -3,16 +3,16 @@ use Rattle.std.specs.Prelude.{slice_index_or as get_or}
 use Rattle.std.specs.Prelude.{ℕ, ◌^◌, List, [], ◌∷◌, ◌++◌, length, map, Option, None, Some, option_to_list}
 use Rattle.std.specs.List.{flat_map}
 use Rattle.p3_field.specs.Poly.{tabulate}
-use Rattle.p3_air.specs.Shape.{Declaration}
-use Rattle.p3_commit.specs.Claims.{Request}
-use Rattle.batch_claims.specs.Claims.{bits_at, declared_at, matrix_tables}
-use Rattle.batch_proving.specs.Batch.{Batch, log_parts_at, table_count}
-use Rattle.batch_setting.specs.Domains.{next_by}
-use Rattle.batch_setting.specs.Setting.{masks}
+use Rattle.air_core.specs.Shape.{Declaration}
+use Rattle.commit_core.specs.Claims.{Request}
+use Rattle.verifier_claims.specs.Claims.{bits_at, declared_at, matrix_tables}
+use Rattle.prover_answer.specs.Batch.{Batch, log_parts_at, table_count}
+use Rattle.batch_config.specs.Domains.{next_by}
+use Rattle.batch_config.specs.Setting.{masks}
 use Rattle.batch_setup.specs.Setup.{Instance}
 use Rattle.batch_statement.specs.Statement.{Common, WrittenCommon, read_common}
-use Rattle.honest_acceptance.specs.Rounds.{points_with}
-use Rattle.honest_proofs.specs.HonestProof.{where_some, zeta}
+use Rattle.law_acceptance.specs.Rounds.{points_with}
+use Rattle.law_honest.specs.HonestProof.{where_some, zeta}
 
 -- the prover data of the commitments of each round: of the traces, of the quotients' chunks, and, where there are such, of the preprocessed traces and
 -- of the permutation columns

@@ -3,15 +3,15 @@ use Rattle.std.specs.Prelude.{◌≡◌, ◌⊎◌, List, [], ◌∷◌, Option,
 use Rattle.p3_field.specs.Checks.{Check}
 use Rattle.p3_field.specs.Domain.{CosetData}
 use Rattle.p3_matrix.specs.Matrix.{Rows}
-use Rattle.p3_commit.specs.Failure.{NoneOf}
-use Rattle.batch_proving.specs.Backend.{ProverBackend}
-use Rattle.batch_proving.specs.Batch.{Batch, all_chunks, all_permutations, main_matrices}
-use Rattle.batch_proving.specs.Proving.{AreAsked, IsGroundOf, IsPcsRefusal}
-use Rattle.batch_proving.specs.Verdict.{IsProverVerdict}
-use Rattle.batch_proving.specs.declared.error.ProvingError.{ProvingError}
-use Rattle.batch_proving.specs.declared.error.ProvingError.TheVariants.{OutOfMemory}
+use Rattle.commit_core.specs.Failure.{NoneOf}
+use Rattle.prover_answer.specs.Backend.{ProverBackend}
+use Rattle.prover_answer.specs.Batch.{Batch, all_chunks, all_permutations, main_matrices}
+use Rattle.prover_answer.specs.Proving.{AreAsked, IsGroundOf, IsPcsRefusal}
+use Rattle.prover_answer.specs.Verdict.{IsProverVerdict}
+use Rattle.prover_answer.specs.declared.error.ProvingError.{ProvingError}
+use Rattle.prover_answer.specs.declared.error.ProvingError.TheVariants.{OutOfMemory}
 use Rattle.batch_setup.specs.declared.error.ProverPhase.TheVariants.{Opening}
-use Rattle.honest_proofs.specs.HonestProof.{honest_main_commitment, opening_state, honest_permutation_commitment, honest_quotient_commitment, zeta}
+use Rattle.law_honest.specs.HonestProof.{honest_main_commitment, opening_state, honest_permutation_commitment, honest_quotient_commitment, zeta}
 use Rattle.prover_openings.specs.Asked.{RoundsProverData, asked_of}
 
 -- both are there, and in the relation, or neither is

@@ -5,9 +5,9 @@ use Rattle.p3_field.specs.Ring.{Ring}
 use Rattle.p3_matrix.specs.Matrix.{Rows, height}
 use Rattle.p3_lookup.specs.Lookup.{LookupData}
 use Rattle.batch_constraints.specs.BatchTrees.{AreLookupsOf}
-use Rattle.batch_shape_checks.specs.ShapeChecks.{chunks_of_table, no_table}
+use Rattle.verifier_shape.specs.ShapeChecks.{chunks_of_table, no_table}
 use Rattle.batch_statement.specs.Statement.{AirTable}
-use Rattle.batch_validity.specs.Traced.{no_rows}
+use Rattle.law_valid.specs.Traced.{no_rows}
 
 module _ {F : Type 0} (r : Ring F) (tables : List (AirTable F)) (traces : List (Rows F)) (lookups : List (List (LookupData F))) where
   -- the logarithm of the number of chunks of table i's quotient

@@ -1,22 +1,22 @@
 //! The openings of a batch, as its prover makes them.
 ghost use Rattle.std.specs.Prelude.{◌≡◌, ℕ, false, List, Option, IfOk, map, option_map};
 ghost use Rattle.p3_field.specs.Poly.{tabulate};
-ghost use Rattle.batch_proving.specs.Batch.{HasProverData, IsTracedAll, batch_of, preprocessed_all, table_at, table_count};
-ghost use Rattle.batch_proving.specs.Proving.{AreAsked, AvoidsExcluded, IsGroundOf};
-ghost use Rattle.batch_proving.specs.Verdict.{IsProverVerdict};
-ghost use Rattle.honest_proofs.specs.HonestProof.{alpha, challenges_at, honest_claims, opened_of, opening_state, zeta as honest_zeta};
+ghost use Rattle.prover_answer.specs.Batch.{HasProverData, IsTracedAll, batch_of, preprocessed_all, table_at, table_count};
+ghost use Rattle.prover_answer.specs.Proving.{AreAsked, AvoidsExcluded, IsGroundOf};
+ghost use Rattle.prover_answer.specs.Verdict.{IsProverVerdict};
+ghost use Rattle.law_honest.specs.HonestProof.{alpha, challenges_at, honest_claims, opened_of, opening_state, zeta as honest_zeta};
 ghost use Rattle.prover_openings.specs.Asked.{asked_of};
 ghost use Rattle.prover_openings.specs.Check.{IsReady, KeepsState, opening_request_checks};
 
 use crate::counts::all_counts;
 use crate::openings::open_counted;
 use crate::requests::lookups_of;
-use batch_proving::{ProverSettings, ProvingError};
-use batch_setting::Settings;
+use prover_answer::{ProverSettings, ProvingError};
+use batch_config::Settings;
 use batch_setup::{Committed, StarkInstance, degree_bits};
 use batch_statement::{CommonData, OpenedValuesWithLookups};
-use p3_air::{Air, BaseAir};
-use p3_commit::{CosetPcs, Pcs, PolynomialSpace, UnivariateStarkPcs};
+use air_core::{Air, BaseAir};
+use commit_core::{CosetPcs, Pcs, PolynomialSpace, UnivariateStarkPcs};
 use p3_field::{
     BasedVectorSpace, ExtensionField, Field, FieldCore, PrimeCharacteristicRing, PrimeCore64,
     PrimeField64, RingCore, TwoAdicCore, TwoAdicField,

@@ -5,13 +5,13 @@ ghost use Rattle.p3_matrix.specs.Matrix.{height};
 ghost use Rattle.p3_lookup.specs.Written.{read_all};
 ghost use Rattle.batch_constraints.specs.BatchTrees.{AreLookupsOf};
 ghost use Rattle.batch_setup.specs.Setup.{airs_of};
-ghost use Rattle.batch_shape_checks.specs.ShapeChecks.{chunks_of_table};
+ghost use Rattle.verifier_shape.specs.ShapeChecks.{chunks_of_table};
 ghost use Rattle.batch_statement.specs.Statement.{tables_of};
 ghost use Rattle.prover_openings.specs.Counts.{IsCountable, log_count_at};
 
 use batch_constraints::get_log_num_quotient_chunks;
 use batch_setup::TableInstance;
-use p3_air::{Air, AirLayout, BaseAir};
+use air_core::{Air, AirLayout, BaseAir};
 use p3_field::{Field, FieldCore, Mem, RingCore};
 use p3_lookup::{LogUpGadget, Lookups};
 use std::alloc::Global;

@@ -1,22 +1,22 @@
 //! The openings of a batch.
 ghost use Rattle.std.specs.Prelude.{◌≡◌, ℕ, ◌^◌, false, List, Option, All, IfOk, map, option_map};
 ghost use Rattle.p3_field.specs.Poly.{tabulate};
-ghost use Rattle.p3_commit.specs.Commitments.{AreOpenedCommitments, OpenedCommitment, IsOpening, nested};
-ghost use Rattle.batch_proving.specs.Batch.{HasProverData, IsTracedAll, batch_of, log_parts_at, preprocessed_all, table_at, table_count};
-ghost use Rattle.batch_proving.specs.Proving.{AreAsked, AvoidsExcluded, IsGroundOf};
-ghost use Rattle.batch_proving.specs.Verdict.{IsProverVerdict};
-ghost use Rattle.honest_proofs.specs.HonestProof.{alpha, challenges_at, honest_claims, opened_of, opening_state, zeta as honest_zeta};
+ghost use Rattle.commit_core.specs.Commitments.{AreOpenedCommitments, OpenedCommitment, IsOpening, nested};
+ghost use Rattle.prover_answer.specs.Batch.{HasProverData, IsTracedAll, batch_of, log_parts_at, preprocessed_all, table_at, table_count};
+ghost use Rattle.prover_answer.specs.Proving.{AreAsked, AvoidsExcluded, IsGroundOf};
+ghost use Rattle.prover_answer.specs.Verdict.{IsProverVerdict};
+ghost use Rattle.law_honest.specs.HonestProof.{alpha, challenges_at, honest_claims, opened_of, opening_state, zeta as honest_zeta};
 ghost use Rattle.prover_openings.specs.Asked.{asked_of};
 ghost use Rattle.prover_openings.specs.Check.{IsOpenedBy, IsReady, KeepsState, opening_request_checks};
 
 use crate::requests::all_requests;
 use crate::tables::opened_tables;
-use batch_proving::{ProverPhase, ProverSettings, ProvingError};
-use batch_setting::Settings;
+use prover_answer::{ProverPhase, ProverSettings, ProvingError};
+use batch_config::Settings;
 use batch_setup::{Committed, StarkInstance};
 use batch_statement::{CommonData, OpenedValuesWithLookups};
-use p3_air::{Air, BaseAir};
-use p3_commit::{
+use air_core::{Air, BaseAir};
+use commit_core::{
     CosetPcs, OpenedValues, OpeningRequest, Pcs, PcsFailure, PolynomialSpace, UnivariateStarkPcs,
 };
 use p3_field::{

@@ -1,15 +1,15 @@
 //! The requests to open a batch's committed matrices, round by round.
 ghost use Rattle.std.specs.Prelude.{◌≡◌, ℕ, ◌<◌, ◌≤◌, ◌++◌, All, Some, length, map, IfOk};
 ghost use Rattle.std.specs.Option.{option_copied};
-ghost use Rattle.batch_claims.specs.Claims.{bits_at, matrix_tables};
-ghost use Rattle.batch_setting.specs.Domains.{next_by};
+ghost use Rattle.verifier_claims.specs.Claims.{bits_at, matrix_tables};
+ghost use Rattle.batch_config.specs.Domains.{next_by};
 ghost use Rattle.prover_openings.specs.Asked.{asked, plan_of, request_where};
 
 use crate::points::{all_chunks, all_main, all_permutations, all_preprocessed};
 use batch_setup::TableInstance;
 use batch_statement::SharedData;
-use p3_air::BaseAir;
-use p3_commit::OpeningRequest;
+use air_core::BaseAir;
+use commit_core::OpeningRequest;
 use p3_field::{
     BasedVectorSpace, ExtensionField, Field, FieldCore, Mem, PrimeCharacteristicRing, RingCore,
     TwoAdicCore, TwoAdicField,

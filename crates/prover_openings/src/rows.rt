@@ -5,7 +5,7 @@ ghost use Rattle.std.specs.Vec.Iter.{into_iter_items};
 ghost use Rattle.p3_field.specs.Poly.{tabulate};
 ghost use Rattle.prover_openings.specs.Rows.{first_list, matrices_in, rows_in};
 
-use p3_commit::OpenedValuesForMatrix;
+use commit_core::OpenedValuesForMatrix;
 use p3_field::Mem;
 use p3_uni_stark::PreprocessedOpenedValues;
 use std::alloc::Global;

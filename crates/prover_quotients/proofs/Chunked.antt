@@ -7,17 +7,17 @@ use Rattle.p3_field.specs.Laws.SubgroupSelectors.{subgroup}
 use Rattle.p3_field.specs.Laws.Tabulate.{length-tabulate, tabulate_items, tabulate_same}
 use Rattle.p3_matrix.specs.Matrix.{FillsRows, Rows}
 use Rattle.p3_matrix.specs.Laws.Cells.{same_matrix}
-use Rattle.p3_commit.specs.Space.{EachOf}
-use Rattle.p3_air.specs.Tree.{Tree}
-use Rattle.batch_quotient.specs.Chunks.{IsChunk}
-use Rattle.batch_quotient.specs.Evaluations.{quotient_values_on}
-use Rattle.batch_setting.specs.Setting.{Setting}
-use Rattle.committed_tables.specs.Committed.{CommittedTable}
-use Rattle.committed_tables.specs.Fields.{FieldsLaws}
-use Rattle.committed_tables.specs.Quotient.{chunk_domain}
-use Rattle.batch_validity.specs.Traced.{TracedTable, constraints, log_parts, log_rows, no_rows, quotient_shift}
-use Rattle.honest_proofs.specs.HonestProof.{Prover, chunk_matrices, chunk_rows, committed_table}
-use Rattle.honest_proofs.specs.Laws.ChunkRows.{chunk_column, chunk_fills, chunk_tall}
+use Rattle.commit_core.specs.Space.{EachOf}
+use Rattle.air_core.specs.Tree.{Tree}
+use Rattle.prover_values.specs.Chunks.{IsChunk}
+use Rattle.prover_values.specs.Evaluations.{quotient_values_on}
+use Rattle.batch_config.specs.Setting.{Setting}
+use Rattle.law_committed.specs.Committed.{CommittedTable}
+use Rattle.law_committed.specs.Fields.{FieldsLaws}
+use Rattle.law_committed.specs.Quotient.{chunk_domain}
+use Rattle.law_valid.specs.Traced.{TracedTable, constraints, log_parts, log_rows, no_rows, quotient_shift}
+use Rattle.law_honest.specs.HonestProof.{Prover, chunk_matrices, chunk_rows, committed_table}
+use Rattle.law_honest.specs.Laws.ChunkRows.{chunk_column, chunk_fills, chunk_tall}
 
 -- a quotient has a value for each point
 pub values_count : {F E : Type 0} (f : TwoAdic F) (e : Extension F E) (t : CommittedTable F E) (trees : List (Tree F)) (alpha : E) (d : CosetData F) (values : List E)

@@ -6,16 +6,16 @@ use Rattle.p3_field.specs.Laws.Checks.{none_in_turn, none_of_none}
 use Rattle.p3_field.specs.Laws.Tabulate.{length-tabulate}
 use Rattle.p3_field.specs.Poly.{tabulate}
 use Rattle.p3_matrix.specs.Matrix.{Rows}
-use Rattle.p3_commit.specs.Commitments.{AreExtensions}
-use Rattle.p3_commit.specs.Failure.{NoneOf}
-use Rattle.batch_proving.specs.Batch.{Batch, log_parts_at}
-use Rattle.batch_proving.specs.Proving.{IsPcsRefusal}
-use Rattle.batch_proving.specs.Verdict.{IsProverVerdict}
-use Rattle.batch_proving.specs.declared.error.ProvingError.{ProvingError}
+use Rattle.commit_core.specs.Commitments.{AreExtensions}
+use Rattle.commit_core.specs.Failure.{NoneOf}
+use Rattle.prover_answer.specs.Batch.{Batch, log_parts_at}
+use Rattle.prover_answer.specs.Proving.{IsPcsRefusal}
+use Rattle.prover_answer.specs.Verdict.{IsProverVerdict}
+use Rattle.prover_answer.specs.declared.error.ProvingError.{ProvingError}
 use Rattle.batch_setup.specs.declared.error.ProverPhase.{ProverPhase}
 use Rattle.batch_setup.specs.declared.error.ProverPhase.TheVariants.{QuotientEvaluations}
-use Rattle.honest_proofs.specs.Laws.Flat.{flat_more}
-use Rattle.honest_acceptance.specs.Laws.Rounds.{each_paired, paired_append, paired_from}
+use Rattle.law_honest.specs.Laws.Flat.{flat_more}
+use Rattle.law_acceptance.specs.Laws.Rounds.{each_paired, paired_append, paired_from}
 use Rattle.prover_quotients.specs.Tables.{chunks_below, chunks_by}
 
 -- the extensions of two lists of matrices one after another

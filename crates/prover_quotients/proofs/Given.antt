@@ -5,18 +5,18 @@ use Rattle.p3_field.specs.Laws.Tabulate.{get_or-tabulate, length-tabulate}
 use Rattle.p3_field.specs.Ring.{Ring}
 use Rattle.p3_matrix.specs.Matrix.{Rows}
 use Rattle.std.proofs.lemmas.List.Elements.{All-map}
-use Rattle.p3_air.specs.Shape.{Declaration, HasColumns}
-use Rattle.p3_air.specs.Tree.{Tree}
-use Rattle.p3_commit.specs.Commitments.{Committed, IsCommitment}
-use Rattle.batch_proving.specs.Backend.{ProverBackend}
-use Rattle.batch_proving.specs.Batch.{Batch, HasProverData, IsTracedAll, all_challenges, all_permutations, main_matrices, preprocessed_all, table_at, table_count}
-use Rattle.batch_shape_checks.specs.ShapeChecks.{no_table}
+use Rattle.air_core.specs.Shape.{Declaration, HasColumns}
+use Rattle.air_core.specs.Tree.{Tree}
+use Rattle.commit_core.specs.Commitments.{Committed, IsCommitment}
+use Rattle.prover_answer.specs.Backend.{ProverBackend}
+use Rattle.prover_answer.specs.Batch.{Batch, HasProverData, IsTracedAll, all_challenges, all_permutations, main_matrices, preprocessed_all, table_at, table_count}
+use Rattle.verifier_shape.specs.ShapeChecks.{no_table}
 use Rattle.batch_statement.specs.Statement.{AirTable, tables_of}
-use Rattle.committed_tables.specs.Fields.{FieldsLaws}
-use Rattle.batch_validity.specs.Traced.{declared}
-use Rattle.honest_acceptance.specs.Laws.Opened.{kept_on}
-use Rattle.honest_proofs.specs.HonestProof.{challenges_at, committed_table, honest_terminal, terminals}
-use Rattle.honest_proofs.specs.Laws.Draws.{challenges_count}
+use Rattle.law_committed.specs.Fields.{FieldsLaws}
+use Rattle.law_valid.specs.Traced.{declared}
+use Rattle.law_acceptance.specs.Laws.Opened.{kept_on}
+use Rattle.law_honest.specs.HonestProof.{challenges_at, committed_table, honest_terminal, terminals}
+use Rattle.law_honest.specs.Laws.Draws.{challenges_count}
 use Rattle.prover_quotients.specs.ProverData.{HoldsTable}
 use Rattle.prover_quotients.specs.Places.{places_at}
 use Rattle.prover_quotients.specs.Tables.{AreGiven, HasProverDataOfSome}

@@ -5,20 +5,20 @@ use Rattle.std.proofs.lemmas.List.{get_or-map, length-map}
 use Rattle.p3_field.specs.Laws.Tabulate.{get_or-tabulate, length-tabulate}
 use Rattle.p3_field.specs.Poly.{tabulate}
 use Rattle.p3_matrix.specs.Matrix.{height}
-use Rattle.p3_air.specs.Shape.{Declaration}
-use Rattle.p3_air.specs.Tree.{Tree}
+use Rattle.air_core.specs.Shape.{Declaration}
+use Rattle.air_core.specs.Tree.{Tree}
 use Rattle.p3_lookup.specs.Written.{Written, read, read_all}
-use Rattle.batch_proving.specs.Backend.{ProverBackend}
-use Rattle.batch_proving.specs.Batch.{Batch, IsTracedAll, batch_of, table_at, table_count}
-use Rattle.batch_setting.specs.Setting.{Setting, masks}
+use Rattle.prover_answer.specs.Backend.{ProverBackend}
+use Rattle.prover_answer.specs.Batch.{Batch, IsTracedAll, batch_of, table_at, table_count}
+use Rattle.batch_config.specs.Setting.{Setting, masks}
 use Rattle.batch_setup.specs.Setup.{Instance, airs_of, log_of}
-use Rattle.batch_shape_checks.specs.Laws.Items.{item_of_map}
-use Rattle.batch_shape_checks.specs.ShapeChecks.{no_table}
+use Rattle.verifier_shape.specs.Laws.Items.{item_of_map}
+use Rattle.verifier_shape.specs.ShapeChecks.{no_table}
 use Rattle.batch_statement.specs.Statement.{AirTable, WrittenCommon, entry_of, tables_of}
-use Rattle.batch_validity.specs.Laws.Holding.{lookups_declared}
-use Rattle.batch_validity.specs.Traced.{TracedTable, no_rows}
-use Rattle.committed_tables.specs.Fields.{FieldsLaws}
-use Rattle.honest_proofs.specs.HonestProof.{Prover, chunk_matrices, committed_table, honest_terminal}
+use Rattle.law_valid.specs.Laws.Holding.{lookups_declared}
+use Rattle.law_valid.specs.Traced.{TracedTable, no_rows}
+use Rattle.law_committed.specs.Fields.{FieldsLaws}
+use Rattle.law_honest.specs.HonestProof.{Prover, chunk_matrices, committed_table, honest_terminal}
 use Rattle.prover_quotients.specs.ProverData.{HoldsTable}
 use Rattle.prover_quotients.specs.Places.{permutation_matrix_place, places_at}
 use Rattle.prover_quotients.specs.Tables.{AreGiven, IsTracedTable, chunks_by, table_of_instance}

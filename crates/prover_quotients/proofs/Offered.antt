@@ -3,8 +3,8 @@ use Rattle.std.proofs.Common.{◌≡◌, ℕ, ◌+◌, ◌^◌, ◌≤◌, arith
 use Rattle.p3_field.specs.Domain.{CosetData}
 use Rattle.p3_field.specs.Ring.{Ring}
 use Rattle.p3_matrix.specs.Laws.Powers.{power_le_cancel}
-use Rattle.p3_commit.specs.Space.{IsOffered}
-use Rattle.batch_setting.specs.Domains.{offered}
+use Rattle.commit_core.specs.Space.{IsOffered}
+use Rattle.batch_config.specs.Domains.{offered}
 
 -- that with 2^k times as many points
 pub offered_is : {F : Type 0} (r : Ring F) (generator : F) (d : CosetData F) (k m : ℕ) (e : CosetData F) → m ≡ 2 ^ (d.log_size + k) → IsOffered r generator d m e → e ≡ offered r generator d k

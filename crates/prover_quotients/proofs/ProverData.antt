@@ -10,27 +10,27 @@ use Rattle.p3_field.specs.Domain.{CosetData, point}
 use Rattle.p3_field.specs.Laws.Tabulate.{get_or-tabulate, length-tabulate}
 use Rattle.p3_field.specs.Poly.{tabulate}
 use Rattle.p3_matrix.specs.Matrix.{Rows}
-use Rattle.p3_air.specs.Shape.{Declaration, HasColumns, width_of}
-use Rattle.p3_commit.specs.Commitments.{AreCommitted, Committed, IsCommitment}
-use Rattle.batch_claims.specs.Claims.{declared_at, matrix_tables}
-use Rattle.batch_setting.specs.Setting.{Setting}
-use Rattle.batch_shape_checks.specs.ShapeChecks.{has_some, no_table, permutation_width}
+use Rattle.air_core.specs.Shape.{Declaration, HasColumns, width_of}
+use Rattle.commit_core.specs.Commitments.{AreCommitted, Committed, IsCommitment}
+use Rattle.verifier_claims.specs.Claims.{declared_at, matrix_tables}
+use Rattle.batch_config.specs.Setting.{Setting}
+use Rattle.verifier_shape.specs.ShapeChecks.{has_some, no_table, permutation_width}
 use Rattle.batch_statement.specs.Statement.{HasEntryOf, HasPlace, PreprocessedTracesData, Statement, AirTable, entry_of}
 use Rattle.batch_statement.specs.declared.preprocessed.PreprocessedInstanceMeta.{PreprocessedInstanceMeta}
-use Rattle.batch_proving.specs.Backend.{ProverBackend}
-use Rattle.batch_proving.specs.Batch.{HasProverData}
-use Rattle.batch_validity.specs.Laws.Holding.{all_counted}
-use Rattle.batch_validity.specs.Traced.{TracedTable, all_traced, declared, preprocessed_matrices, traced_at, traces_of}
-use Rattle.batch_validity.specs.Valid.{IsTracedBatch}
-use Rattle.committed_tables.specs.Committed.{CommittedTable}
-use Rattle.committed_tables.specs.Fields.{FieldsLaws}
-use Rattle.committed_tables.specs.Rows.{CommitsTo, InterpolateSome}
-use Rattle.honest_acceptance.specs.Laws.HonestMatrices.{mains_committed, permutations_committed, preprocesseds_committed}
-use Rattle.honest_acceptance.specs.Laws.Lengths.{honest_commits, permutation_count}
-use Rattle.honest_acceptance.specs.Laws.Opened.{kept_on}
-use Rattle.honest_acceptance.specs.Rounds.{OpenedMatrix, committed_of, main_opened, of_table, permutation_opened, preprocessed_opened}
-use Rattle.honest_proofs.specs.HonestProof.{Prover, challenges_at, honest_committed_at, permutation_columns, permutation_matrices, where_some}
-use Rattle.honest_proofs.specs.Laws.Flat.{map_flat, map_where}
+use Rattle.prover_answer.specs.Backend.{ProverBackend}
+use Rattle.prover_answer.specs.Batch.{HasProverData}
+use Rattle.law_valid.specs.Laws.Holding.{all_counted}
+use Rattle.law_valid.specs.Traced.{TracedTable, all_traced, declared, preprocessed_matrices, traced_at, traces_of}
+use Rattle.law_valid.specs.Valid.{IsTracedBatch}
+use Rattle.law_committed.specs.Committed.{CommittedTable}
+use Rattle.law_committed.specs.Fields.{FieldsLaws}
+use Rattle.law_committed.specs.Rows.{CommitsTo, InterpolateSome}
+use Rattle.law_acceptance.specs.Laws.HonestMatrices.{mains_committed, permutations_committed, preprocesseds_committed}
+use Rattle.law_acceptance.specs.Laws.Lengths.{honest_commits, permutation_count}
+use Rattle.law_acceptance.specs.Laws.Opened.{kept_on}
+use Rattle.law_acceptance.specs.Rounds.{OpenedMatrix, committed_of, main_opened, of_table, permutation_opened, preprocessed_opened}
+use Rattle.law_honest.specs.HonestProof.{Prover, challenges_at, honest_committed_at, permutation_columns, permutation_matrices, where_some}
+use Rattle.law_honest.specs.Laws.Flat.{map_flat, map_where}
 use Rattle.prover_quotients.specs.ProverData.{HoldsAt, HoldsSome}
 use Rattle.prover_quotients.specs.Places.{permutation_matrix_place}
 use Rattle.prover_quotients.specs.Tables.{HasProverDataOfSome}

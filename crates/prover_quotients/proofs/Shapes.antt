@@ -4,19 +4,19 @@ use Rattle.std.specs.Prelude.{IfSome, option_to_list}
 use Rattle.p3_field.specs.Domain.{CosetData, point}
 use Rattle.p3_field.specs.Field.{TwoAdic}
 use Rattle.p3_matrix.specs.Matrix.{Rows, height}
-use Rattle.p3_air.specs.Shape.{width_of}
-use Rattle.p3_commit.specs.Commitments.{IsEvaluated}
-use Rattle.batch_quotient.specs.Evaluations.{EvaluatedSome, IsReadOn}
-use Rattle.batch_quotient.specs.QuotientRows.{permutation_column_count as columns_for}
-use Rattle.batch_quotient.specs.Laws.Given.{evaluated_along, evaluated_tall}
-use Rattle.batch_setting.specs.Setting.{Setting}
-use Rattle.batch_shape_checks.specs.ShapeChecks.{permutation_width}
-use Rattle.committed_tables.specs.Committed.{CommittedTable, row_count_of}
-use Rattle.committed_tables.specs.Fields.{FieldsLaws}
-use Rattle.committed_tables.specs.Rows.{InterpolateSome}
-use Rattle.batch_validity.specs.Traced.{TracedTable, declared}
-use Rattle.honest_acceptance.specs.Laws.Lengths.{honest_commits, permutation_count}
-use Rattle.honest_proofs.specs.HonestProof.{Prover, committed_table, honest_terminal, where_some}
+use Rattle.air_core.specs.Shape.{width_of}
+use Rattle.commit_core.specs.Commitments.{IsEvaluated}
+use Rattle.prover_values.specs.Evaluations.{EvaluatedSome, IsReadOn}
+use Rattle.prover_values.specs.QuotientRows.{permutation_column_count as columns_for}
+use Rattle.prover_values.specs.Laws.Given.{evaluated_along, evaluated_tall}
+use Rattle.batch_config.specs.Setting.{Setting}
+use Rattle.verifier_shape.specs.ShapeChecks.{permutation_width}
+use Rattle.law_committed.specs.Committed.{CommittedTable, row_count_of}
+use Rattle.law_committed.specs.Fields.{FieldsLaws}
+use Rattle.law_committed.specs.Rows.{InterpolateSome}
+use Rattle.law_valid.specs.Traced.{TracedTable, declared}
+use Rattle.law_acceptance.specs.Laws.Lengths.{honest_commits, permutation_count}
+use Rattle.law_honest.specs.HonestProof.{Prover, committed_table, honest_terminal, where_some}
 use Rattle.prover_quotients.specs.ProverData.{AreSomeValues, AreValuesOf, HaveTableValues}
 use Rattle.prover_quotients.specs.Tables.{IsTracedTable}
 use Rattle.prover_quotients.specs.declared.columns.TableColumns.{TableColumns}

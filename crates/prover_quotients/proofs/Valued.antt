@@ -6,19 +6,19 @@ use Rattle.std.proofs.lemmas.List.{length-map}
 use denote.Bor.{Bor}
 use Rattle.p3_field.specs.Domain.{CosetData}
 use Rattle.p3_matrix.specs.Matrix.{Rows}
-use Rattle.p3_air.specs.Shape.{Declaration, width_of}
-use Rattle.p3_air.specs.Tree.{Tree}
-use Rattle.p3_commit.specs.Periodic.{IsPeriod}
+use Rattle.air_core.specs.Shape.{Declaration, width_of}
+use Rattle.air_core.specs.Tree.{Tree}
+use Rattle.commit_core.specs.Periodic.{IsPeriod}
 use Rattle.p3_lookup.specs.Written.{Written, read, read_all}
 use Rattle.batch_constraints.specs.BatchTrees.{table_trees}
-use Rattle.batch_quotient.specs.Evaluations.{Evaluations, IsReadOn, quotient_values_on}
-use Rattle.batch_quotient.specs.QuotientRows.{permutation_column_count as columns_for}
-use Rattle.batch_setting.specs.Setting.{Setting}
+use Rattle.prover_values.specs.Evaluations.{Evaluations, IsReadOn, quotient_values_on}
+use Rattle.prover_values.specs.QuotientRows.{permutation_column_count as columns_for}
+use Rattle.batch_config.specs.Setting.{Setting}
 use Rattle.batch_setup.specs.Setup.{Instance}
-use Rattle.committed_tables.specs.Committed.{CommittedTable}
-use Rattle.committed_tables.specs.Fields.{FieldsLaws}
-use Rattle.batch_validity.specs.Traced.{TracedTable, constraints, log_rows}
-use Rattle.honest_proofs.specs.HonestProof.{Prover, committed_table, honest_terminal}
+use Rattle.law_committed.specs.Committed.{CommittedTable}
+use Rattle.law_committed.specs.Fields.{FieldsLaws}
+use Rattle.law_valid.specs.Traced.{TracedTable, constraints, log_rows}
+use Rattle.law_honest.specs.HonestProof.{Prover, committed_table, honest_terminal}
 use Rattle.prover_quotients.specs.ProverData.{HaveTableValues}
 use Rattle.prover_quotients.specs.Tables.{IsTracedTable, table_of_instance}
 use Rattle.prover_quotients.specs.declared.columns.TableColumns.{TableColumns}

@@ -5,18 +5,18 @@ use Rattle.p3_field.specs.Checks.{Check, FirstFails, NoneFails, in_turn}
 use Rattle.p3_field.specs.Laws.Checks.{first_after, first_parted, first_stops, none_append, none_at, none_of_each}
 use Rattle.p3_field.specs.Laws.Tabulate.{get_or-tabulate}
 use Rattle.p3_matrix.specs.Matrix.{Rows}
-use Rattle.p3_commit.specs.Commitments.{AreExtensions}
-use Rattle.p3_commit.specs.Failure.{NoneOf}
-use Rattle.batch_proving.specs.Backend.{ProverBackend}
-use Rattle.batch_proving.specs.Batch.{Batch, all_challenges, all_chunks, chunks_of, folding, log_parts_at, table_at, table_count}
-use Rattle.batch_proving.specs.Laws.Verdicts.{answer_along, answer_before, answer_past, answer_exits, refusal_along, refusal_is}
-use Rattle.batch_proving.specs.Proving.{IsPairGroundOf, IsPcsRefusal, extension_part, quotient_part}
-use Rattle.batch_proving.specs.Verdict.{FirstRefused, IsProverAnswer, IsProverRefusal, IsProverVerdict}
-use Rattle.batch_proving.specs.declared.error.ProvingError.{ProvingError}
+use Rattle.commit_core.specs.Commitments.{AreExtensions}
+use Rattle.commit_core.specs.Failure.{NoneOf}
+use Rattle.prover_answer.specs.Backend.{ProverBackend}
+use Rattle.prover_answer.specs.Batch.{Batch, all_challenges, all_chunks, chunks_of, folding, log_parts_at, table_at, table_count}
+use Rattle.prover_answer.specs.Laws.Verdicts.{answer_along, answer_before, answer_past, answer_exits, refusal_along, refusal_is}
+use Rattle.prover_answer.specs.Proving.{IsPairGroundOf, IsPcsRefusal, extension_part, quotient_part}
+use Rattle.prover_answer.specs.Verdict.{FirstRefused, IsProverAnswer, IsProverRefusal, IsProverVerdict}
+use Rattle.prover_answer.specs.declared.error.ProvingError.{ProvingError}
 use Rattle.batch_setup.specs.declared.error.ProverPhase.TheVariants.{QuotientEvaluations}
-use Rattle.honest_proofs.specs.HonestProof.{AreCanonical, challenges_at, chunk_matrices}
-use Rattle.honest_proofs.specs.Laws.Flat.{flat_same}
-use Rattle.honest_proofs.specs.Laws.Ground.{one_lookup}
+use Rattle.law_honest.specs.HonestProof.{AreCanonical, challenges_at, chunk_matrices}
+use Rattle.law_honest.specs.Laws.Flat.{flat_same}
+use Rattle.law_honest.specs.Laws.Ground.{one_lookup}
 use Rattle.prover_quotients.specs.Asked.{committing, extending_at}
 use Rattle.prover_quotients.specs.Tables.{chunks_below, chunks_by}
 

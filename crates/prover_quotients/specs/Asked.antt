@@ -3,12 +3,12 @@ use Rattle.std.specs.Prelude.{ℕ, ◌^◌, List, [], ◌∷◌}
 use Rattle.p3_field.specs.Checks.{Check}
 use Rattle.p3_field.specs.Domain.{CosetData}
 use Rattle.p3_matrix.specs.Matrix.{Rows}
-use Rattle.p3_commit.specs.Failure.{NoneOf}
+use Rattle.commit_core.specs.Failure.{NoneOf}
 use Rattle.batch_setup.specs.declared.error.ProverPhase.TheVariants.{QuotientEvaluations, QuotientCommitment}
-use Rattle.batch_proving.specs.declared.error.ProvingError.{ProvingError}
-use Rattle.batch_proving.specs.Backend.{ProverBackend}
-use Rattle.batch_proving.specs.Batch.{Batch, log_parts_at}
-use Rattle.batch_proving.specs.Proving.{IsPcsRefusal}
+use Rattle.prover_answer.specs.declared.error.ProvingError.{ProvingError}
+use Rattle.prover_answer.specs.Backend.{ProverBackend}
+use Rattle.prover_answer.specs.Batch.{Batch, log_parts_at}
+use Rattle.prover_answer.specs.Proving.{IsPcsRefusal}
 use Rattle.prover_quotients.specs.Tables.{chunks_by}
 
 module _ {S F E C D P R : Type 0} (k : ProverBackend S F E C D P R) where

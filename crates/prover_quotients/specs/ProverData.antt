@@ -3,9 +3,9 @@ use Rattle.std.specs.Prelude.{◌≡◌, ℕ, ◌^◌, ◌<◌, List, [], length
 use Rattle.p3_field.specs.Domain.{CosetData, point}
 use Rattle.p3_field.specs.Field.{TwoAdic}
 use Rattle.p3_matrix.specs.Matrix.{Rows, height}
-use Rattle.p3_commit.specs.Commitments.{Committed, IsEvaluated}
-use Rattle.committed_tables.specs.Committed.{CommittedTable}
-use Rattle.batch_proving.specs.Backend.{ProverBackend}
+use Rattle.commit_core.specs.Commitments.{Committed, IsEvaluated}
+use Rattle.law_committed.specs.Committed.{CommittedTable}
+use Rattle.prover_answer.specs.Backend.{ProverBackend}
 use Rattle.prover_quotients.specs.declared.columns.TableColumns.{TableColumns}
 use Rattle.prover_quotients.specs.declared.places.Places.{Places}
 

@@ -5,18 +5,18 @@ use Rattle.std.specs.List.{flat_map}
 use Rattle.p3_field.specs.Domain.{CosetData}
 use Rattle.p3_field.specs.Poly.{tabulate}
 use Rattle.p3_matrix.specs.Matrix.{Rows, height}
-use Rattle.p3_air.specs.Shape.{Declaration}
-use Rattle.p3_air.specs.Tree.{Tree}
+use Rattle.air_core.specs.Shape.{Declaration}
+use Rattle.air_core.specs.Tree.{Tree}
 use Rattle.p3_lookup.specs.Lookup.{LookupData}
 use Rattle.batch_constraints.specs.BatchTrees.{AreLookupsOf}
-use Rattle.batch_setting.specs.Setting.{Setting, masks}
+use Rattle.batch_config.specs.Setting.{Setting, masks}
 use Rattle.batch_setup.specs.Setup.{Instance, log_of}
-use Rattle.committed_tables.specs.Committed.{CommittedTable}
-use Rattle.batch_validity.specs.Traced.{TracedTable, declared}
-use Rattle.batch_validity.specs.Valid.{HasQuotientDomain, IsTraced}
-use Rattle.honest_proofs.specs.HonestProof.{chunk_matrices, committed_table, honest_terminal}
-use Rattle.batch_proving.specs.Backend.{ProverBackend}
-use Rattle.batch_proving.specs.Batch.{Batch, table_at, table_count}
+use Rattle.law_committed.specs.Committed.{CommittedTable}
+use Rattle.law_valid.specs.Traced.{TracedTable, declared}
+use Rattle.law_valid.specs.Valid.{HasQuotientDomain, IsTraced}
+use Rattle.law_honest.specs.HonestProof.{chunk_matrices, committed_table, honest_terminal}
+use Rattle.prover_answer.specs.Backend.{ProverBackend}
+use Rattle.prover_answer.specs.Batch.{Batch, table_at, table_count}
 use Rattle.prover_quotients.specs.ProverData.{HoldsTable}
 use Rattle.prover_quotients.specs.Places.{places_at}
 

@@ -2,27 +2,27 @@
 ghost use Rattle.std.specs.Prelude.{◌≡◌, ℕ, ◌<◌, ◌++◌, [], IfOk, length, map, Option, false};
 ghost use Rattle.std.specs.Option.{option_map};
 ghost use Rattle.p3_field.specs.Checks.{in_turn};
-ghost use Rattle.p3_commit.specs.Commitments.{AreExtensions, IsCommitment};
+ghost use Rattle.commit_core.specs.Commitments.{AreExtensions, IsCommitment};
 ghost use Rattle.p3_lookup.specs.Written.{read_all};
 ghost use Rattle.p3_field.specs.Domain.{CosetData};
 ghost use Rattle.p3_matrix.specs.Matrix.{Rows};
 ghost use Rattle.std.specs.Prelude.{List};
-ghost use Rattle.honest_proofs.specs.HonestProof.{terminals as honest_terminals};
-ghost use Rattle.batch_proving.specs.Batch.{HasProverData, IsTracedAll, all_challenges, all_chunks, all_permutations, batch_of, folding, log_parts_at, main_matrices, preprocessed_all, table_count};
-ghost use Rattle.batch_proving.specs.Proving.{IsPairGroundOf, extension_part, quotient_part};
-ghost use Rattle.batch_proving.specs.Verdict.{IsProverAnswer, IsProverVerdict};
+ghost use Rattle.law_honest.specs.HonestProof.{terminals as honest_terminals};
+ghost use Rattle.prover_answer.specs.Batch.{HasProverData, IsTracedAll, all_challenges, all_chunks, all_permutations, batch_of, folding, log_parts_at, main_matrices, preprocessed_all, table_count};
+ghost use Rattle.prover_answer.specs.Proving.{IsPairGroundOf, extension_part, quotient_part};
+ghost use Rattle.prover_answer.specs.Verdict.{IsProverAnswer, IsProverVerdict};
 ghost use Rattle.prover_quotients.specs.Asked.{committing, extending, extending_at};
 ghost use Rattle.prover_quotients.specs.Places.{permutation_matrix_place};
 ghost use Rattle.prover_quotients.specs.Tables.{AreGiven, HasProverDataOfSome, chunks_below, chunks_by};
 
 use crate::places::{Places, permutation_places, preprocessed_place};
 use crate::table::table_chunks;
-use batch_proving::{ProverPhase, ProverSettings, ProvingError};
-use batch_setting::Settings;
+use prover_answer::{ProverPhase, ProverSettings, ProvingError};
+use batch_config::Settings;
 use batch_setup::{Committed, StarkInstance};
 use batch_statement::CommonData;
-use p3_air::{Air, BaseAir};
-use p3_commit::{CosetPcs, Pcs, PcsFailure, PolynomialSpace, UnivariateStarkPcs};
+use air_core::{Air, BaseAir};
+use commit_core::{CosetPcs, Pcs, PcsFailure, PolynomialSpace, UnivariateStarkPcs};
 use p3_field::{
     BasedVectorSpace, ExtensionField, Field, FieldCore, Mem, PrimeCharacteristicRing, PrimeCore64,
     PrimeField64, RingCore, TwoAdicCore, TwoAdicField,

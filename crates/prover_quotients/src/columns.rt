@@ -1,14 +1,14 @@
 //! The values of a table's columns on a domain, from the prover data.
 ghost use Rattle.std.specs.Prelude.{◌≡◌, ℕ, IfOk, List};
 ghost use Rattle.std.specs.Option.{option_map};
-ghost use Rattle.committed_tables.specs.Committed.{CommittedTable};
+ghost use Rattle.law_committed.specs.Committed.{CommittedTable};
 ghost use Rattle.prover_quotients.specs.ProverData.{AreSomeValues, AreValuesOf, HaveTableValues, HoldsAt, HoldsSome, HoldsTable};
 
 use crate::places::Places;
-use batch_proving::ProverSettings;
-use batch_setting::Settings;
+use prover_answer::ProverSettings;
+use batch_config::Settings;
 use batch_setup::Committed;
-use p3_commit::{CosetPcs, Pcs, PolynomialSpace, UnivariateStarkPcs};
+use commit_core::{CosetPcs, Pcs, PolynomialSpace, UnivariateStarkPcs};
 use p3_field::{
     BasedVectorSpace, ExtensionField, Field, FieldCore, Mem, PrimeCharacteristicRing, PrimeCore64,
     PrimeField64, RingCore, TwoAdicCore, TwoAdicField,

@@ -1,9 +1,9 @@
 //! The domains of a table's quotient.
 ghost use Rattle.std.specs.Prelude.{◌≡◌, ◌+◌, ◌^◌, ◌<◌, ◌≤◌};
 ghost use Rattle.std.specs.Int.{IsPowerOfTwo};
-ghost use Rattle.batch_setting.specs.Domains.{offered};
+ghost use Rattle.batch_config.specs.Domains.{offered};
 
-use p3_commit::PolynomialSpace;
+use commit_core::PolynomialSpace;
 use p3_field::{
     FieldCore, PrimeCharacteristicRing, RingCore, TwoAdicCore, TwoAdicField,
     TwoAdicMultiplicativeCoset,

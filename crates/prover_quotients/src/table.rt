@@ -4,14 +4,14 @@ ghost use Rattle.std.specs.Prelude.{option_to_list, false};
 ghost use Rattle.std.specs.Option.{option_map};
 ghost use Rattle.p3_field.specs.Field.{TwoAdic, Extension};
 ghost use Rattle.p3_matrix.specs.Matrix.{FillsRows};
-ghost use Rattle.p3_air.specs.Tree.{Tree};
-ghost use Rattle.p3_commit.specs.Space.{EachOf};
+ghost use Rattle.air_core.specs.Tree.{Tree};
+ghost use Rattle.commit_core.specs.Space.{EachOf};
 ghost use Rattle.p3_lookup.specs.Written.{read_all};
-ghost use Rattle.committed_tables.specs.Committed.{CommittedTable};
-ghost use Rattle.batch_quotient.specs.Chunks.{IsChunk};
-ghost use Rattle.batch_quotient.specs.Evaluations.{quotient_values_on};
-ghost use Rattle.batch_validity.specs.Traced.{constraints, log_parts as log_parts_of, log_rows as log_rows_of, quotient_shift};
-ghost use Rattle.honest_proofs.specs.HonestProof.{chunk_matrices, committed_table, honest_terminal};
+ghost use Rattle.law_committed.specs.Committed.{CommittedTable};
+ghost use Rattle.prover_values.specs.Chunks.{IsChunk};
+ghost use Rattle.prover_values.specs.Evaluations.{quotient_values_on};
+ghost use Rattle.law_valid.specs.Traced.{constraints, log_parts as log_parts_of, log_rows as log_rows_of, quotient_shift};
+ghost use Rattle.law_honest.specs.HonestProof.{chunk_matrices, committed_table, honest_terminal};
 ghost use Rattle.prover_quotients.specs.ProverData.{HaveTableValues, HoldsTable};
 ghost use Rattle.prover_quotients.specs.Tables.{IsTracedTable, table_of_instance};
 
@@ -19,12 +19,12 @@ use crate::columns::{TableColumns, columns_on};
 use crate::domains::{power_of_two, quotient_domain};
 use crate::places::Places;
 use batch_constraints::get_log_num_quotient_chunks;
-use batch_proving::ProverSettings;
-use batch_quotient::{quotient_chunks, quotient_values};
-use batch_setting::Settings;
+use prover_answer::ProverSettings;
+use prover_values::{quotient_chunks, quotient_values};
+use batch_config::Settings;
 use batch_setup::{Committed, StarkInstance, natural_domain};
-use p3_air::{Air, AirLayout, BaseAir};
-use p3_commit::{CosetPcs, Pcs, PolynomialSpace, UnivariateStarkPcs};
+use air_core::{Air, AirLayout, BaseAir};
+use commit_core::{CosetPcs, Pcs, PolynomialSpace, UnivariateStarkPcs};
 use p3_field::{
     BasedVectorSpace, ExtensionField, Field, FieldCore, Mem, PrimeCharacteristicRing, PrimeCore64,
     PrimeField64, RingCore, TwoAdicCore, TwoAdicField, TwoAdicMultiplicativeCoset,

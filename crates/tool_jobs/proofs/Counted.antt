@@ -11,7 +11,7 @@ use Rattle.p3_field.specs.BabyBear.{baby_bear_ring}
 use Rattle.p3_field.specs.Laws.BabyBearLaws.{baby_bear_of_nat_value}
 use Rattle.p3_field.specs.Ring.{of_nat}
 use Rattle.p3_field.specs.declared.baby_bear.BabyBear.{BabyBear}
-use Rattle.tool_validity.specs.Job.{IsBalancedJob, JobTable, swap_of, wheel_of, take_of, give_of, hash_of, times_given, times_taken}
+use Rattle.law_tool_valid.specs.Job.{IsBalancedJob, JobTable, swap_of, wheel_of, take_of, give_of, hash_of, times_given, times_taken}
 use Rattle.tool_jobs.specs.Tallies.{IsFirstUnequal, given_in, given_often, taken_in, taken_once, tallies_of, tally_times}
 use Rattle.tool_jobs.specs.Unbalanced.{IsFirstUnbalanced, same_word}
 use Rattle.tool_jobs.specs.declared.balance.Tally.{Tally}

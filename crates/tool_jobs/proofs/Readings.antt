@@ -3,14 +3,14 @@ use Rattle.std.proofs.Common.{◌≡◌, ℕ, zero, suc, ◌<◌, ◌≤◌, ◌
 use Rattle.std.specs.Int.{IsPowerOfTwo}
 use Rattle.std.specs.Prelude.{decimal, IfErr, IsErrAnd}
 use Rattle.std.proofs.lemmas.Nat.{pow_pos}
-use Rattle.line_format.specs.Texts.{Between, Grammar, ItemsWithin, Reads, ReadsKnown, ReadsOne, Stops, items_numbers, line_text, list_numbers, one_number}
-use Rattle.line_format.specs.Laws.Grammars.{head-same, items-grammar}
-use Rattle.line_format.specs.Laws.Lines.{same-line}
-use Rattle.line_format.specs.Laws.Stops.{pair-first, pair-reads, pair-second, same-reads, same-stops}
-use Rattle.line_format.specs.declared.texts.ItemError.{ItemError}
-use Rattle.line_format.specs.declared.texts.ItemError.TheVariants.{Malformed, OutOfMemory}
+use Rattle.tool_lines.specs.Texts.{Between, Grammar, ItemsWithin, Reads, ReadsKnown, ReadsOne, Stops, items_numbers, line_text, list_numbers, one_number}
+use Rattle.tool_lines.specs.Laws.Grammars.{head-same, items-grammar}
+use Rattle.tool_lines.specs.Laws.Lines.{same-line}
+use Rattle.tool_lines.specs.Laws.Stops.{pair-first, pair-reads, pair-second, same-reads, same-stops}
+use Rattle.tool_lines.specs.declared.texts.ItemError.{ItemError}
+use Rattle.tool_lines.specs.declared.texts.ItemError.TheVariants.{Malformed, OutOfMemory}
 use Rattle.p3_field.specs.declared.baby_bear.BabyBear.{BabyBear}
-use Rattle.tool_validity.specs.Job.{IsJobTableWithin, JobTable}
+use Rattle.law_tool_valid.specs.Job.{IsJobTableWithin, JobTable}
 use Rattle.tool_jobs.specs.Jobs.{table_numbers}
 use Rattle.tool_jobs.specs.Laws.Counts.{IsCount, PowersWithin, count-grammar, one-counts, same-powers}
 use Rattle.tool_jobs.specs.Laws.Kinds.{KindWithin, body_numbers}

@@ -10,7 +10,7 @@ use Rattle.p3_field.specs.Laws.Tabulate.{tabulate_more}
 use Rattle.p3_matrix.specs.Matrix.{FillsRows}
 use Rattle.p3_matrix.specs.Laws.Flattened.{length-pieces}
 use Rattle.p3_matrix.specs.Laws.Grids.{product_fills}
-use Rattle.tool_validity.specs.Job.{swap_row}
+use Rattle.law_tool_valid.specs.Job.{swap_row}
 
 -- up to 2^10 rows
 pub few_rows : (k : ℕ) → k ≤ 10 → 1 * 2 ^ k % 18446744073709551616 ≤ 1024

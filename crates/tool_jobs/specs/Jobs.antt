@@ -1,8 +1,8 @@
--- Jobs as the program has them, seen as the plain data of tool_validity; the words of their text, and their limits.
+-- Jobs as the program has them, seen as the plain data of law_tool_valid; the words of their text, and their limits.
 use Rattle.std.specs.Prelude.{ℕ, List, [], ◌∷◌, map}
 use Rattle.p3_field.specs.declared.baby_bear.BabyBear.{BabyBear}
-use Rattle.line_format.specs.Texts.{ListWithin, element_numbers, list_numbers}
-use Rattle.tool_validity.specs.Job.{IsJobTableWithin, JobTable, swap_of, wheel_of, take_of, give_of, hash_of}
+use Rattle.tool_lines.specs.Texts.{ListWithin, element_numbers, list_numbers}
+use Rattle.law_tool_valid.specs.Job.{IsJobTableWithin, JobTable, swap_of, wheel_of, take_of, give_of, hash_of}
 use Rattle.tool_jobs.specs.declared.table.GivenWord.{GivenWord}
 use Rattle.tool_jobs.specs.declared.table.JobTable.{JobTable as Table}
 use Rattle.tool_jobs.specs.declared.table.JobTable.TheVariants.{Swap, Wheel, Take, Give, Hash}

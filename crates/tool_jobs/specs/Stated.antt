@@ -4,7 +4,7 @@ use Rattle.p3_field.specs.declared.baby_bear.BabyBear.{BabyBear}
 use Rattle.batch_setup.specs.Setup.{log_of}
 use Rattle.tool_statement.specs.declared.table.TableStatement.{TableStatement}
 use Rattle.tool_statement.specs.declared.table.TableStatement.TheVariants.{Swap, Wheel, Take, Give, Hash}
-use Rattle.tool_validity.specs.Job.{JobTable, swap_of, wheel_of, take_of, give_of, hash_of, last_right}
+use Rattle.law_tool_valid.specs.Job.{JobTable, swap_of, wheel_of, take_of, give_of, hash_of, last_right}
 
 -- its kind, the logarithm of its number of rows, and a swap table's first row and last right cell
 abbrev pub statement_of : JobTable BabyBear → TableStatement

@@ -1,7 +1,7 @@
 -- How the least unbalanced value is found: by what each row takes and gives of its word, which is named by its canonical number.
 use Rattle.std.specs.Prelude.{◌≡◌, ℕ, ◌<◌, ◌==◌, cond, List, [], map, sum_by, Option, MatchOption}
 use Rattle.p3_field.specs.declared.baby_bear.BabyBear.{BabyBear}
-use Rattle.tool_validity.specs.Job.{JobTable, swap_of, wheel_of, take_of, give_of, hash_of}
+use Rattle.law_tool_valid.specs.Job.{JobTable, swap_of, wheel_of, take_of, give_of, hash_of}
 use Rattle.tool_jobs.specs.declared.balance.Tally.{Tally}
 
 -- a row that takes its word, and one that gives it so often

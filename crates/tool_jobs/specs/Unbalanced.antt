@@ -1,7 +1,7 @@
 -- The least value that a job takes in another number than it gives.
 use Rattle.std.specs.Prelude.{◌≡◌, ◌<◌, ◌==◌, Bool, List, sum_by}
 use Rattle.p3_field.specs.declared.baby_bear.BabyBear.{BabyBear}
-use Rattle.tool_validity.specs.Job.{JobTable, times_given, times_taken}
+use Rattle.law_tool_valid.specs.Job.{JobTable, times_given, times_taken}
 
 -- whether words are equal
 abbrev pub same_word : BabyBear → BabyBear → Bool

@@ -3,7 +3,7 @@ ghost use Rattle.std.specs.Prelude.{◌≡◌, ◌++◌, IfOk, MatchOption, OnOk
 ghost use Rattle.std.specs.List.{flat_map};
 ghost use Rattle.std.specs.List.Sorted.{IsNonDecreasingBy};
 ghost use Rattle.tool_jobs.specs.Unbalanced.{IsFirstUnbalanced, same_word};
-ghost use Rattle.tool_validity.specs.Job.{IsBalancedJob};
+ghost use Rattle.law_tool_valid.specs.Job.{IsBalancedJob};
 ghost use Rattle.tool_jobs.specs.Jobs.{read_given, read_table, read_tables};
 ghost use Rattle.tool_jobs.specs.Tallies.{IsUnequalAnswer, given_often, taken_once, tallies_of as rows_tallied};
 

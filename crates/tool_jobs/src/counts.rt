@@ -1,9 +1,9 @@
 //! Lists whose number of items is a power of two.
 ghost use Rattle.std.specs.Prelude.{List, ℕ, ◌≤◌, MatchOption, map};
-ghost use Rattle.line_format.specs.Texts.{Reads, ReadsKnown, ReadsOne, Stops, list_numbers, one_number};
+ghost use Rattle.tool_lines.specs.Texts.{Reads, ReadsKnown, ReadsOne, Stops, list_numbers, one_number};
 ghost use Rattle.tool_jobs.specs.Laws.Counts.{IsCount, PowersWithin};
 
-use line_format::{Form, ItemError, Reader, read_items};
+use tool_lines::{Form, ItemError, Reader, read_items};
 use p3_matrix::is_power_of_two;
 use std::alloc::Global;
 

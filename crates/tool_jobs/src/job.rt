@@ -2,8 +2,8 @@
 ghost use Rattle.std.specs.Prelude.{◌≡◌, All, IfOk, map};
 ghost use Rattle.p3_field.specs.BabyBear.{baby_bear_ring};
 ghost use Rattle.tool_statement.specs.StatedTables.{TableWithin, log_heights_of, publics_lists, sources_of};
-ghost use Rattle.tool_validity.specs.Job.{IsJobTableWithin, source_of_job, trace_of};
-ghost use Rattle.tool_validity.specs.Job.{job_log_height_of as rows_log_of, job_publics_of as table_publics};
+ghost use Rattle.law_tool_valid.specs.Job.{IsJobTableWithin, source_of_job, trace_of};
+ghost use Rattle.law_tool_valid.specs.Job.{job_log_height_of as rows_log_of, job_publics_of as table_publics};
 ghost use Rattle.tool_jobs.specs.Jobs.{read_tables};
 ghost use Rattle.tool_jobs.specs.Stated.{statements_for};
 

@@ -2,7 +2,7 @@
 //!
 //! The definitions that contracts cite are in `specs/`: how a job is seen as plain data, its limits and its words (`Jobs`), what is stated
 //! of a table (`Stated`), and the least value that is unbalanced (`Unbalanced`). Jobs themselves, their traces and when they are balanced
-//! are defined in `tool_validity`.
+//! are defined in `law_tool_valid`.
 #![tactic(auto)]
 
 mod balance;

@@ -1,7 +1,7 @@
 //! What holds of jobs: a law as the contract of a function that computes nothing.
 ghost use Rattle.std.specs.Prelude.{◌≡◌, List, map};
 ghost use Rattle.p3_field.specs.Ring.{Ring};
-ghost use Rattle.tool_validity.specs.Job.{AreAirsOf, JobTable, source_of_job};
+ghost use Rattle.law_tool_valid.specs.Job.{AreAirsOf, JobTable, source_of_job};
 ghost use Rattle.batch_setup.specs.Packed.{source_of};
 ghost use Rattle.tool_tables.specs.Tool.{tool_declaration, tool_interactions, tool_trees};
 ghost use Rattle.tool_tables.specs.declared.tool.ToolAir.{ToolAir};

@@ -4,8 +4,8 @@ ghost use Rattle.std.specs.Prelude.{◌≡◌, ◌≤◌, IfOk};
 ghost use Rattle.p3_field.specs.BabyBear.{baby_bear_ring};
 ghost use Rattle.batch_setup.specs.Setup.{log_of};
 ghost use Rattle.tool_statement.specs.StatedTables.{TableWithin, log_height_of, publics_of, source_of_table};
-ghost use Rattle.tool_validity.specs.Job.{IsJobTableWithin, source_of_job, trace_of};
-ghost use Rattle.tool_validity.specs.Job.{last_right as last_right_of, job_log_height_of as rows_log_of, job_publics_of as table_publics};
+ghost use Rattle.law_tool_valid.specs.Job.{IsJobTableWithin, source_of_job, trace_of};
+ghost use Rattle.law_tool_valid.specs.Job.{last_right as last_right_of, job_log_height_of as rows_log_of, job_publics_of as table_publics};
 ghost use Rattle.tool_jobs.specs.Jobs.{read_table};
 ghost use Rattle.tool_jobs.specs.Stated.{statement_of};
 

@@ -1,13 +1,13 @@
 //! The text of jobs.
 ghost use Rattle.std.specs.Prelude.{◌≡◌, ℕ, ◌≤◌, List, ◌++◌, ◌∷◌, decimal, IfErr, IfOk};
-ghost use Rattle.line_format.specs.Texts.{ReadsOne, line_text};
-ghost use Rattle.line_format.specs.WholeText.{ReadsText};
+ghost use Rattle.tool_lines.specs.Texts.{ReadsOne, line_text};
+ghost use Rattle.tool_lines.specs.WholeText.{ReadsText};
 ghost use Rattle.tool_jobs.specs.Jobs.{JobWithin, job_numbers, read_table, read_tables};
 ghost use Rattle.tool_jobs.specs.Laws.Kinds.{KindWithin, body_numbers};
 
 use crate::counts::read_powers;
 use crate::table::{GivenWord, JobTable};
-use line_format::{
+use tool_lines::{
     Form, ItemError, Reader, TextError, print_items, print_list, push_number, read_items,
     read_list, read_text,
 };
@@ -91,7 +91,7 @@ impl Form for WordLine {
     type Value = u32;
 
     ghost use Rattle.std.specs.Prelude.{ℕ};
-    ghost use Rattle.line_format.specs.Texts.{Between, one_number};
+    ghost use Rattle.tool_lines.specs.Texts.{Between, one_number};
     ghost use Rattle.tool_jobs.specs.Laws.Kinds.{word-grammar};
 
     ghost Data = { ℕ };
@@ -123,7 +123,7 @@ impl Form for HashRow {
     type Value = [u32; 24];
 
     ghost use Rattle.std.specs.Prelude.{List, ℕ};
-    ghost use Rattle.tool_validity.specs.Job.{IsHashRow};
+    ghost use Rattle.law_tool_valid.specs.Job.{IsHashRow};
     ghost use Rattle.tool_jobs.specs.Jobs.{row_numbers};
     ghost use Rattle.tool_jobs.specs.Laws.Kinds.{row-grammar};
 
@@ -220,7 +220,7 @@ impl Form for JobTable {
     type Value = JobTable;
 
     ghost use Rattle.p3_field.specs.declared.baby_bear.BabyBear.{BabyBear as Element};
-    ghost use Rattle.tool_validity.specs.Job.{IsJobTableWithin, JobTable as TableData};
+    ghost use Rattle.law_tool_valid.specs.Job.{IsJobTableWithin, JobTable as TableData};
     ghost use Rattle.tool_jobs.specs.Jobs.{read_table, table_numbers};
     ghost use Rattle.tool_jobs.specs.Laws.Texts.{table-grammar};
 
@@ -278,7 +278,7 @@ impl Form for WholeJob {
 
     ghost use Rattle.std.specs.Prelude.{List, map};
     ghost use Rattle.p3_field.specs.declared.baby_bear.BabyBear.{BabyBear as Element};
-    ghost use Rattle.tool_validity.specs.Job.{JobTable as TableData};
+    ghost use Rattle.law_tool_valid.specs.Job.{JobTable as TableData};
     ghost use Rattle.tool_jobs.specs.Jobs.{JobWithin, job_numbers, read_tables};
     ghost use Rattle.tool_jobs.specs.Laws.Texts.{job-grammar};
 

@@ -3,13 +3,13 @@ ghost use Rattle.std.specs.Int.{IsPowerOfTwo};
 ghost use Rattle.std.specs.Prelude.{◌≡◌, ◌%◌, ◌^◌, ◌≤◌, ◌++◌, ◌∷◌, [], IfOk, OnOk, length, map};
 ghost use Rattle.std.specs.Prelude.{slice_index_or as get_or};
 ghost use Rattle.p3_field.specs.BabyBear.{baby_bear_ring};
-ghost use Rattle.tool_validity.specs.Job.{swap_row, trace_of, wheel_cell as wheel_cell_of};
-ghost use Rattle.tool_validity.specs.Job.{swap_of, wheel_of, give_of, hash_of};
+ghost use Rattle.law_tool_valid.specs.Job.{swap_row, trace_of, wheel_cell as wheel_cell_of};
+ghost use Rattle.law_tool_valid.specs.Job.{swap_of, wheel_of, give_of, hash_of};
 ghost use Rattle.tool_jobs.specs.Jobs.{read_given};
-ghost use Rattle.tool_tables.specs.Wheel.{turns};
+ghost use Rattle.air_tables.specs.Wheel.{turns};
 
 use crate::table::GivenWord;
-use p3_blake3_air::{TraceError, generate_trace_rows};
+use blake3_prime::{TraceError, generate_trace_rows};
 use p3_field::{BabyBear, Mem, RingCore};
 use p3_matrix::RowMajorMatrix;
 use std::alloc::{AllocError, Global};

@@ -6,16 +6,16 @@ use Rattle.p3_field.specs.declared.baby_bear.BabyBear.{BabyBear}
 use Rattle.plain_pcs.specs.declared.error.PlainProverError.{PlainProverError}
 use Rattle.batch_transcript.specs.declared.failure.GrindStep.{GrindStep}
 use Rattle.batch_transcript.specs.declared.failure.GrindStep.TheVariants.{Lookup, Ood}
-use Rattle.batch_proving.specs.declared.error.ProvingError.{ProvingError}
-use Rattle.batch_proving.specs.declared.error.ProvingError.TheVariants.{LookupDenominatorZero, WitnessNotFound}
-use Rattle.line_format.specs.Texts.{line_text}
-use Rattle.proof_files.specs.Files.{FileWithin, file_numbers}
-use Rattle.proof_text.specs.ProofText.{ToolProofData}
+use Rattle.prover_answer.specs.declared.error.ProvingError.{ProvingError}
+use Rattle.prover_answer.specs.declared.error.ProvingError.TheVariants.{LookupDenominatorZero, WitnessNotFound}
+use Rattle.tool_lines.specs.Texts.{line_text}
+use Rattle.tool_proof_files.specs.Files.{FileWithin, file_numbers}
+use Rattle.tool_proof_text.specs.ProofText.{ToolProofData}
 use Rattle.tool_jobs.specs.Jobs.{JobWithin}
 use Rattle.tool_jobs.specs.Stated.{statement_of}
 use Rattle.tool_jobs.specs.Unbalanced.{IsFirstUnbalanced, same_word}
 use Rattle.tool_statement.specs.declared.table.TableStatement.{TableStatement}
-use Rattle.tool_validity.specs.Job.{IsBalancedJob, JobTable}
+use Rattle.law_tool_valid.specs.Job.{IsBalancedJob, JobTable}
 use Rattle.tool_verifier.specs.Refusals.{refused_text}
 use Rattle.tool_verifier.specs.declared.answer.Answer.{Answer}
 use Rattle.tool_verifier.specs.declared.status.Status.{Status}

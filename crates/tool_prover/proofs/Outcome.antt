@@ -15,23 +15,23 @@ use Rattle.plain_pcs.specs.declared.commitment.PlainProof.{PlainProof}
 use Rattle.plain_pcs.specs.declared.error.PlainProverError.{PlainProverError}
 use Rattle.batch_setup.specs.Preprocessed.{IsPrepared}
 use Rattle.batch_setup.specs.Setup.{Instance, instances_of}
-use Rattle.batch_shape_checks.specs.ShapeChecks.{statement_with}
+use Rattle.verifier_shape.specs.ShapeChecks.{statement_with}
 use Rattle.batch_statement.specs.Statement.{Statement, WellFormed, WrittenCommon, read_common, tables_of}
-use Rattle.batch_validity.specs.Valid.{Valid}
-use Rattle.batch_verifier.specs.BatchChecks.{Accepted}
-use Rattle.honest_acceptance.specs.Honest.{IsOutsideRows}
-use Rattle.honest_proofs.specs.HonestProof.{IsBuilt, honest_proof, zeta}
-use Rattle.plain_soundness.specs.Meaning.{HoldUnlessUnlucky}
-use Rattle.batch_proving.specs.Backend.{ProverBackend}
-use Rattle.batch_proving.specs.Batch.{Batch, HasProverData, IsTracedAll, batch_of, preprocessed_all, table_at}
-use Rattle.batch_proving.specs.Laws.Telling.{refusal_tells}
-use Rattle.batch_proving.specs.PlainBackend.{plain_commits, plain_prover_backend}
-use Rattle.batch_proving.specs.Proving.{AvoidsExcluded, IsHonestProof, proving_checks}
-use Rattle.batch_proving.specs.Telling.{Tells}
-use Rattle.batch_proving.specs.Verdict.{IsAnswerRefusal}
-use Rattle.batch_proving.specs.declared.error.ProvingError.{ProvingError}
-use Rattle.batch_proving.specs.declared.error.ProvingError.TheVariants.{LookupDenominatorZero, MultiplicityBound, OutOfMemory, Pcs, WitnessNotFound}
-use Rattle.proof_text.specs.ProofText.{ToolProofData}
+use Rattle.law_valid.specs.Valid.{Valid}
+use Rattle.verifier_batch.specs.BatchChecks.{Accepted}
+use Rattle.law_acceptance.specs.Honest.{IsOutsideRows}
+use Rattle.law_honest.specs.HonestProof.{IsBuilt, honest_proof, zeta}
+use Rattle.law_soundness.specs.Meaning.{HoldUnlessUnlucky}
+use Rattle.prover_answer.specs.Backend.{ProverBackend}
+use Rattle.prover_answer.specs.Batch.{Batch, HasProverData, IsTracedAll, batch_of, preprocessed_all, table_at}
+use Rattle.prover_answer.specs.Laws.Telling.{refusal_tells}
+use Rattle.prover_answer.specs.PlainBackend.{plain_commits, plain_prover_backend}
+use Rattle.prover_answer.specs.Proving.{AvoidsExcluded, IsHonestProof, proving_checks}
+use Rattle.prover_answer.specs.Telling.{Tells}
+use Rattle.prover_answer.specs.Verdict.{IsAnswerRefusal}
+use Rattle.prover_answer.specs.declared.error.ProvingError.{ProvingError}
+use Rattle.prover_answer.specs.declared.error.ProvingError.TheVariants.{LookupDenominatorZero, MultiplicityBound, OutOfMemory, Pcs, WitnessNotFound}
+use Rattle.tool_proof_text.specs.ProofText.{ToolProofData}
 use Rattle.tool_jobs.specs.Jobs.{JobWithin}
 use Rattle.tool_jobs.specs.Laws.Statements.{statements-heights}
 use Rattle.tool_jobs.specs.Stated.{statement_of}
@@ -41,7 +41,7 @@ use Rattle.tool_statement.specs.StatedTables.{HaveStatedHeights, entries_of, log
 use Rattle.tool_statement.specs.declared.table.TableStatement.{TableStatement}
 use Rattle.tool_tables.specs.Tool.{tool_declaration, tool_trees}
 use Rattle.tool_tables.specs.declared.tool.ToolAir.{ToolAir}
-use Rattle.tool_validity.specs.Job.{IsBalancedJob, JobTable, job_log_height_of, trace_of}
+use Rattle.law_tool_valid.specs.Job.{IsBalancedJob, JobTable, job_log_height_of, trace_of}
 use Rattle.tool_verifier.specs.FileAnswer.{IsFileAnswer, PrintCompressions, SwapsEnd}
 use Rattle.tool_prover.specs.JobAnswer.{DrawsInside, DrawsOutside, IsJobProof, IsProvingOutcome, IsTold, drawn_point}
 use Rattle.tool_prover.specs.JobBatch.{job_batch}

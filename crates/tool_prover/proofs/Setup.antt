@@ -9,24 +9,24 @@ use Rattle.p3_field.specs.Quartic.{quartic_inv}
 use Rattle.p3_field.specs.declared.baby_bear.BabyBear.{BabyBear}
 use Rattle.p3_field.specs.declared.quartic.QuarticExtension.{QuarticExtension}
 use Rattle.p3_matrix.specs.Matrix.{Rows, height}
-use Rattle.p3_commit.specs.Commitments.{Committed, IsCommitment}
+use Rattle.commit_core.specs.Commitments.{Committed, IsCommitment}
 use Rattle.plain_pcs.specs.Extension.{commitment_of}
 use Rattle.plain_pcs.specs.Scheme.{Blowup, PlainCommitmentData, Scheme, scheme}
-use Rattle.batch_setting.specs.Setting.{masks}
+use Rattle.batch_config.specs.Setting.{masks}
 use Rattle.batch_setup.specs.Laws.Logarithms.{log_of_power}
 use Rattle.batch_setup.specs.Packed.{Source, no_source, packed_at, source_of}
 use Rattle.batch_setup.specs.Preprocessed.{IsPrepared, committed_trace_at, committed_below, entry_at, on_domain}
 use Rattle.batch_setup.specs.Setup.{Instance, bits_of, instances_of, log_of}
 use Rattle.batch_setup.specs.Setup.{airs_of as airs_in}
-use Rattle.batch_shape_checks.specs.ShapeChecks.{statement_with}
+use Rattle.verifier_shape.specs.ShapeChecks.{statement_with}
 use Rattle.batch_statement.specs.Statement.{Common, PreprocessedTracesData, Statement, WellFormed, WrittenCommon, read_common, tables_of}
 use Rattle.batch_statement.specs.declared.preprocessed.PreprocessedInstanceMeta.{PreprocessedInstanceMeta}
-use Rattle.batch_validity.specs.Laws.Made.{matrices_are}
-use Rattle.batch_validity.specs.Traced.{TracedTable, declared, preprocessed_matrices}
-use Rattle.batch_validity.specs.Valid.{Valid}
-use Rattle.honest_proofs.specs.HonestProof.{Prover}
-use Rattle.batch_proving.specs.Batch.{HasProverData, batch_of, preprocessed_all, table_at}
-use Rattle.batch_proving.specs.PlainBackend.{baby_bear_prover}
+use Rattle.law_valid.specs.Laws.Made.{matrices_are}
+use Rattle.law_valid.specs.Traced.{TracedTable, declared, preprocessed_matrices}
+use Rattle.law_valid.specs.Valid.{Valid}
+use Rattle.law_honest.specs.HonestProof.{Prover}
+use Rattle.prover_answer.specs.Batch.{HasProverData, batch_of, preprocessed_all, table_at}
+use Rattle.prover_answer.specs.PlainBackend.{baby_bear_prover}
 use Rattle.tool_jobs.specs.Jobs.{JobWithin}
 use Rattle.tool_jobs.specs.Laws.Airs.{are-airs}
 use Rattle.tool_jobs.specs.Laws.Statements.{statements-heights, statements-publics, statements-sources}
@@ -38,9 +38,9 @@ use Rattle.tool_statement.specs.declared.table.TableStatement.{TableStatement}
 use Rattle.tool_tables.specs.Tool.{tool_declaration, tool_interactions, tool_trees}
 use Rattle.tool_tables.specs.declared.tool.ToolAir.{ToolAir}
 use Rattle.tool_verifier.specs.Laws.Stated.{ToolSetting, same_tables}
-use Rattle.tool_validity.specs.Job.{AreAirsOf, IsBalancedJob, IsJobTableWithin, JobTable, take_of, job_log_height_of, job_publics_of, source_of_job, trace_of}
-use Rattle.tool_validity.specs.Laws.Program.{set_up_is_valid}
-use Rattle.tool_validity.specs.Laws.Traced.{job_rows}
+use Rattle.law_tool_valid.specs.Job.{AreAirsOf, IsBalancedJob, IsJobTableWithin, JobTable, take_of, job_log_height_of, job_publics_of, source_of_job, trace_of}
+use Rattle.law_tool_valid.specs.Laws.Program.{set_up_is_valid}
+use Rattle.law_tool_valid.specs.Laws.Traced.{job_rows}
 use Rattle.tool_prover.specs.JobBatch.{job_batch, tool_prover}
 use Rattle.tool_prover.specs.Laws.JobTables.{table_is, tool_serves}
 

@@ -1,21 +1,21 @@
 -- What `prove` answers for a job: a status and a text.
 use Rattle.std.specs.Prelude.{◌≡◌, ◌⊎◌, ℕ, ◌<◌, List, [], ◌∷◌, length, map, codes, Option, None, Some, ⊤}
 use Rattle.p3_field.specs.declared.baby_bear.BabyBear.{BabyBear}
-use Rattle.line_format.specs.Texts.{line_text}
-use Rattle.honest_acceptance.specs.Honest.{IsOutsideRows}
-use Rattle.honest_proofs.specs.HonestProof.{IsBuilt, IsDenominatorZero, LacksLookupGround, LacksOodGround, zeta}
+use Rattle.tool_lines.specs.Texts.{line_text}
+use Rattle.law_acceptance.specs.Honest.{IsOutsideRows}
+use Rattle.law_honest.specs.HonestProof.{IsBuilt, IsDenominatorZero, LacksLookupGround, LacksOodGround, zeta}
 use Rattle.p3_field.specs.declared.quartic.QuarticExtension.{QuarticExtension}
 use Rattle.plain_pcs.specs.declared.error.PlainProverError.{PlainProverError}
 use Rattle.batch_transcript.specs.declared.failure.GrindStep.TheVariants.{Lookup, Ood}
-use Rattle.batch_proving.specs.Batch.{table_at}
-use Rattle.batch_proving.specs.declared.error.ProvingError.{ProvingError}
-use Rattle.batch_proving.specs.declared.error.ProvingError.TheVariants.{LookupDenominatorZero, MultiplicityBound, OutOfMemory, Pcs, WitnessNotFound}
+use Rattle.prover_answer.specs.Batch.{table_at}
+use Rattle.prover_answer.specs.declared.error.ProvingError.{ProvingError}
+use Rattle.prover_answer.specs.declared.error.ProvingError.TheVariants.{LookupDenominatorZero, MultiplicityBound, OutOfMemory, Pcs, WitnessNotFound}
 use Rattle.tool_statement.specs.Config.{tool_setting}
-use Rattle.proof_files.specs.Files.{FileData, FileWithin, file_numbers}
-use Rattle.proof_text.specs.ProofText.{ToolProofData}
+use Rattle.tool_proof_files.specs.Files.{FileData, FileWithin, file_numbers}
+use Rattle.tool_proof_text.specs.ProofText.{ToolProofData}
 use Rattle.tool_jobs.specs.Unbalanced.{IsFirstUnbalanced, same_word}
 use Rattle.tool_jobs.specs.Stated.{statement_of}
-use Rattle.tool_validity.specs.Job.{IsBalancedJob, JobTable}
+use Rattle.law_tool_valid.specs.Job.{IsBalancedJob, JobTable}
 use Rattle.tool_verifier.specs.FileAnswer.{IsFileAnswer, accepted_text}
 use Rattle.tool_verifier.specs.Refusals.{refused_text}
 use Rattle.tool_verifier.specs.declared.status.Status.{Status}

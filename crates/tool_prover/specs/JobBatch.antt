@@ -5,13 +5,13 @@ use Rattle.p3_field.specs.declared.baby_bear.BabyBear.{BabyBear}
 use Rattle.p3_field.specs.declared.quartic.QuarticExtension.{QuarticExtension}
 use Rattle.p3_challenger.specs.declared.sha256_challenger.Sha256Challenger.{Sha256Challenger}
 use Rattle.plain_pcs.specs.Scheme.{PlainCommitmentData}
-use Rattle.honest_proofs.specs.HonestProof.{Prover}
-use Rattle.batch_proving.specs.Batch.{Batch}
-use Rattle.batch_proving.specs.PlainBackend.{baby_bear_prover}
+use Rattle.law_honest.specs.HonestProof.{Prover}
+use Rattle.prover_answer.specs.Batch.{Batch}
+use Rattle.prover_answer.specs.PlainBackend.{baby_bear_prover}
 use Rattle.tool_jobs.specs.Stated.{statement_of}
 use Rattle.tool_statement.specs.Config.{tool_scheme, tool_setting}
 use Rattle.tool_statement.specs.StatedTables.{tool_statement}
-use Rattle.tool_validity.specs.Job.{JobTable, job_log_height_of, trace_of}
+use Rattle.law_tool_valid.specs.Job.{JobTable, job_log_height_of, trace_of}
 
 -- the program's prover: inverses in the extension, a value's canonical number, and the plain scheme's commitments
 unfoldable pub tool_prover : Prover BabyBear QuarticExtension (PlainCommitmentData BabyBear)

@@ -2,7 +2,7 @@
 use Rattle.std.specs.Prelude.{ℕ}
 use Rattle.p3_field.specs.Laws.SubgroupSelectors.{subgroup}
 use Rattle.p3_field.specs.declared.quartic.QuarticExtension.{QuarticExtension}
-use Rattle.batch_identity.specs.Identity.{IsInDomain}
+use Rattle.verifier_identity.specs.Identity.{IsInDomain}
 use Rattle.tool_statement.specs.Config.{tool_setting}
 
 -- the point is none of the subgroup of size 2^k

@@ -1,24 +1,24 @@
 //! That a job has one answer, and that the plain scheme refuses no prover of a traced batch: laws as the contracts of functions that compute
 //! nothing.
 ghost use Rattle.std.specs.Prelude.{◌≡◌, ◌+◌, ◌≤◌, List, false, ℕ};
-ghost use Rattle.p3_commit.specs.Failure.{NoneOf};
+ghost use Rattle.commit_core.specs.Failure.{NoneOf};
 ghost use Rattle.p3_field.specs.Field.{Extension, TwoAdic};
 ghost use Rattle.p3_field.specs.declared.baby_bear.BabyBear.{BabyBear};
 ghost use Rattle.p3_lookup.specs.Bound.{HaveLoadsBelow};
 ghost use Rattle.plain_pcs.specs.Scheme.{PlainCommitmentData};
-ghost use Rattle.batch_setting.specs.Setting.{masks};
+ghost use Rattle.batch_config.specs.Setting.{masks};
 ghost use Rattle.batch_setup.specs.declared.error.ProverPhase.{ProverPhase};
-ghost use Rattle.batch_shape_checks.specs.ShapeChecks.{heights_of};
-ghost use Rattle.plain_soundness.specs.PlainSetting.{IsOverFields, plain_scheme};
-ghost use Rattle.batch_proving.specs.Batch.{Batch, IsTracedAll, table_count};
-ghost use Rattle.batch_proving.specs.PlainBackend.{plain_prover_backend};
-ghost use Rattle.batch_proving.specs.Telling.{IsOverloaded, PhaseTells};
+ghost use Rattle.verifier_shape.specs.ShapeChecks.{heights_of};
+ghost use Rattle.law_soundness.specs.PlainSetting.{IsOverFields, plain_scheme};
+ghost use Rattle.prover_answer.specs.Batch.{Batch, IsTracedAll, table_count};
+ghost use Rattle.prover_answer.specs.PlainBackend.{plain_prover_backend};
+ghost use Rattle.prover_answer.specs.Telling.{IsOverloaded, PhaseTells};
 ghost use Rattle.tool_prover.specs.JobAnswer.{IsJobAnswer};
-ghost use Rattle.tool_validity.specs.Job.{JobTable};
+ghost use Rattle.law_tool_valid.specs.Job.{JobTable};
 ghost use Rattle.tool_verifier.specs.FileAnswer.{SameAnswer};
 ghost use Rattle.tool_verifier.specs.declared.status.Status.{Status};
 
-use committed_tables::fields::fields_have_laws;
+use law_committed::fields::fields_have_laws;
 use p3_field::{
     BasedVectorSpace, ExtensionField, Field, FieldCore, PrimeCharacteristicRing, RingCore,
     TwoAdicCore, TwoAdicField,

@@ -3,7 +3,7 @@ ghost use Rattle.std.specs.Prelude.{◌≡◌, ◌≤◌, ◌↔◌, All, IsTrue
 ghost use Rattle.tool_statement.specs.StatedTables.{TableWithin, log_heights_of};
 ghost use Rattle.tool_prover.specs.Outside.{AvoidsRows};
 
-use p3_commit::PolynomialSpace;
+use commit_core::PolynomialSpace;
 use p3_field::{
     BabyBear, FieldCore, QuarticExtension, RingCore, TwoAdicCore, TwoAdicMultiplicativeCoset,
 };

@@ -4,20 +4,20 @@ ghost use Rattle.batch_setup.specs.Setup.{instances_of as paired};
 ghost use Rattle.tool_jobs.specs.Jobs.{JobWithin, read_tables};
 ghost use Rattle.tool_jobs.specs.Stated.{statements_for};
 ghost use Rattle.tool_jobs.specs.Unbalanced.{same_word};
-ghost use Rattle.tool_validity.specs.Job.{IsBalancedJob};
+ghost use Rattle.law_tool_valid.specs.Job.{IsBalancedJob};
 ghost use Rattle.tool_prover.specs.JobAnswer.{IsProvingOutcome, IsTold};
 
 use crate::outside::is_outside;
-use batch_prover::prove_batch_with_point;
-use batch_proving::{ProverSettings, ProvingError};
-use batch_setting::Settings;
+use prover_batch::prove_batch_with_point;
+use prover_answer::{ProverSettings, ProvingError};
+use batch_config::Settings;
 use batch_setup::{SetupError, StarkInstance, TableInstance};
-use p3_air::{Air, BaseAir};
-use p3_commit::UnivariateStarkPcs;
+use air_core::{Air, BaseAir};
+use commit_core::UnivariateStarkPcs;
 use p3_field::{BabyBear, FieldCore, Mem, QuarticExtension, RingCore, TwoAdicCore};
 use p3_matrix::RowMajorMatrix;
 use plain_pcs::PlainProverError;
-use proof_text::ToolProof;
+use tool_proof_text::ToolProof;
 use std::alloc::{AllocError, Global};
 use tool_jobs::{JobTable, traces_of};
 use tool_statement::{

@@ -11,7 +11,7 @@ use Rattle.p3_field.specs.Laws.Tabulate.{length-tabulate}
 use Rattle.p3_field.specs.declared.baby_bear.BabyBear.{BabyBear}
 use Rattle.p3_matrix.specs.Matrix.{Rows, height}
 use Rattle.p3_matrix.specs.Laws.Grids.{product_height}
-use Rattle.p3_commit.specs.Failure.{NoneOf}
+use Rattle.commit_core.specs.Failure.{NoneOf}
 use Rattle.plain_pcs.specs.Extension.{IsCommittable}
 use Rattle.plain_pcs.specs.Refusals.{CommitFault}
 use Rattle.plain_pcs.specs.declared.error.PlainProverError.{PlainProverError}
@@ -20,7 +20,7 @@ use Rattle.batch_setup.specs.Packed.{no_source}
 use Rattle.batch_setup.specs.Preprocessed.{committed_trace_at, committed_below, commit_checks, height_at, height_checks, on_domain}
 use Rattle.batch_setup.specs.SetupChecks.{degree_checks, trace_checks, AreWithinBounds}
 use Rattle.batch_setup.specs.declared.error.SetupError.{SetupError}
-use Rattle.tool_tables.specs.Wheel.{numbers_to}
+use Rattle.air_tables.specs.Wheel.{numbers_to}
 use Rattle.tool_statement.specs.Config.{tool_scheme}
 use Rattle.tool_statement.specs.StatedTables.{TableWithin, log_height_of, log_heights_of, source_of_table, sources_of}
 use Rattle.tool_statement.specs.declared.table.TableStatement.{TableStatement}

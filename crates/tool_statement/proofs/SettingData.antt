@@ -8,7 +8,7 @@ use Rattle.p3_challenger.specs.Sha256Functions.{sha256_functions}
 use Rattle.p3_challenger.specs.declared.sha256_challenger.Sha256Challenger.{Sha256Challenger}
 use Rattle.plain_pcs.specs.Scheme.{Blowup, PlainCommitmentData}
 use Rattle.plain_pcs.specs.Observing.{commitment_elements}
-use Rattle.batch_setting.specs.Setting.{Setting}
+use Rattle.batch_config.specs.Setting.{Setting}
 use Rattle.tool_statement.specs.Config.{tool_setting}
 
 abbrev pub setting_with : Blowup → Sha256Challenger → ℕ → ℕ → Setting Sha256Challenger BabyBear QuarticExtension (PlainCommitmentData BabyBear)

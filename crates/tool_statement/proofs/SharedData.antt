@@ -9,7 +9,7 @@ use Rattle.p3_matrix.specs.Matrix.{Rows}
 use Rattle.p3_lookup.specs.Lookup.{LookupData}
 use Rattle.plain_pcs.specs.Extension.{commitment_of}
 use Rattle.plain_pcs.specs.Scheme.{Blowup, PlainCommitmentData, Scheme, scheme}
-use Rattle.p3_commit.specs.Commitments.{Committed, IsCommitment}
+use Rattle.commit_core.specs.Commitments.{Committed, IsCommitment}
 use Rattle.batch_statement.specs.Statement.{PreprocessedTracesData}
 use Rattle.batch_statement.specs.declared.preprocessed.PreprocessedInstanceMeta.{PreprocessedInstanceMeta}
 use Rattle.batch_setup.specs.Packed.{Source, packed_at, source_of}

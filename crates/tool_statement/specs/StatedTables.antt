@@ -9,11 +9,11 @@ use Rattle.p3_field.specs.Domain.{CosetData}
 use Rattle.p3_field.specs.declared.baby_bear.BabyBear.{BabyBear}
 use Rattle.p3_matrix.specs.Matrix.{Rows}
 use Rattle.p3_lookup.specs.Lookup.{LookupData}
-use Rattle.p3_blake3_air.specs.Trees.{blake3_declaration, blake3_trees}
+use Rattle.blake3_prime.specs.Trees.{blake3_declaration, blake3_trees}
 use Rattle.plain_pcs.specs.Scheme.{PlainCommitmentData}
 use Rattle.plain_pcs.specs.Extension.{commitment_of}
-use Rattle.batch_tables.specs.Swap.{swap_declaration, swap_trees}
-use Rattle.tool_tables.specs.Wheel.{wheel_declaration, wheel_trees}
+use Rattle.air_tables.specs.Swap.{swap_declaration, swap_trees}
+use Rattle.air_tables.specs.Wheel.{wheel_declaration, wheel_trees}
 use Rattle.tool_tables.specs.Words.{words_declaration, take_interactions, give_interactions}
 use Rattle.batch_statement.specs.Statement.{AirTable, PreprocessedTracesData, Common, Statement, with_entry}
 use Rattle.batch_statement.specs.declared.preprocessed.PreprocessedInstanceMeta.{PreprocessedInstanceMeta}

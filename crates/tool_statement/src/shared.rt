@@ -1,7 +1,7 @@
 //! What a statement's tables fix: their AIRs, their public values, and the data that prover and verifier share.
 ghost use Rattle.std.specs.Prelude.{◌≡◌, All, IfOk, map};
 ghost use Rattle.p3_field.specs.BabyBear.{baby_bear_ring};
-ghost use Rattle.p3_commit.specs.Commitments.{IsCommitment};
+ghost use Rattle.commit_core.specs.Commitments.{IsCommitment};
 ghost use Rattle.plain_pcs.specs.Extension.{commitment_of};
 ghost use Rattle.plain_pcs.specs.Holding.{AreHolding, IsMade};
 ghost use Rattle.batch_setup.specs.Packed.{source_of};
@@ -15,8 +15,8 @@ use crate::config::ToolConfig;
 use crate::table::TableStatement;
 use batch_setup::{ProverData, SetupError};
 use batch_statement::SharedData;
-use p3_air::{Air, BaseAir};
-use p3_commit::{PolynomialSpace, UnivariateStarkPcs};
+use air_core::{Air, BaseAir};
+use commit_core::{PolynomialSpace, UnivariateStarkPcs};
 use p3_field::{BabyBear, Mem, TwoAdicCore, TwoAdicMultiplicativeCoset};
 use plain_pcs::PlainCommitment;
 use std::alloc::{AllocError, Global};

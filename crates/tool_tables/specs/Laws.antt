@@ -1,4 +1,3 @@
--- What is proved of the definitions, by table.
-pub mod Wheel
+-- What is proved of the definitions, by subject.
 pub mod Tool
 pub mod OneWidth

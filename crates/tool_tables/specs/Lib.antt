@@ -1,4 +1,3 @@
-pub mod Wheel
 pub mod Words
 pub mod Tool
 pub mod Laws

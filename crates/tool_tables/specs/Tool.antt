@@ -1,11 +1,11 @@
 -- One of the program's tables.
 use Rattle.std.specs.Prelude.{List, [], map}
 use Rattle.p3_field.specs.Ring.{Ring}
-use Rattle.p3_air.specs.Shape.{Declaration}
-use Rattle.p3_air.specs.Tree.{Tree, Interaction}
-use Rattle.batch_tables.specs.Swap.{swap_declaration, swap_trees}
-use Rattle.p3_blake3_air.specs.Trees.{blake3_declaration, blake3_trees}
-use Rattle.tool_tables.specs.Wheel.{wheel_over, wheel_trees}
+use Rattle.air_core.specs.Shape.{Declaration}
+use Rattle.air_core.specs.Tree.{Tree, Interaction}
+use Rattle.air_tables.specs.Swap.{swap_declaration, swap_trees}
+use Rattle.blake3_prime.specs.Trees.{blake3_declaration, blake3_trees}
+use Rattle.air_tables.specs.Wheel.{wheel_over, wheel_trees}
 use Rattle.tool_tables.specs.Words.{words_declaration, take_interactions, give_interactions}
 use Rattle.tool_tables.specs.declared.tool.ToolAir.{ToolAir}
 use Rattle.tool_tables.specs.declared.tool.ToolAir.TheVariants.{Swap, Wheel, Take, Give, Hash}

@@ -1,9 +1,9 @@
 -- The two tables of words: one takes its words from a bus, the other gives words to it. Neither has constraints of its own.
 use Rattle.std.specs.Prelude.{ℕ, false, List, [], ◌∷◌, None}
 use Rattle.p3_field.specs.Ring.{Ring}
-use Rattle.p3_air.specs.declared.cells.Cell.TheVariants.{Main}
-use Rattle.p3_air.specs.Shape.{Declaration}
-use Rattle.p3_air.specs.Tree.{Tree, Interaction, constant, cell, difference, global}
+use Rattle.air_core.specs.declared.cells.Cell.TheVariants.{Main}
+use Rattle.air_core.specs.Shape.{Declaration}
+use Rattle.air_core.specs.Tree.{Tree, Interaction, constant, cell, difference, global}
 
 -- the bytes of the bus's name, `words`
 abbrev pub words_bus : List ℕ

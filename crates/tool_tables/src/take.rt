@@ -1,10 +1,10 @@
 //! The table that takes words.
 ghost use Rattle.std.proofs.Common.{rules};
 ghost use Rattle.std.specs.Prelude.{[], ◌∷◌};
-ghost use Rattle.p3_air.specs.Laws.Declared.{counts-none};
+ghost use Rattle.air_core.specs.Laws.Declared.{counts-none};
 ghost use Rattle.tool_tables.specs.Words.{take_interactions, words_declaration};
 
-use p3_air::{Air, AirBuilder, BaseAir, Cell, Count, InteractionBuilder};
+use air_core::{Air, AirBuilder, BaseAir, Cell, Count, InteractionBuilder};
 use p3_field::{Field, FieldCore, Mem, RingCore};
 use p3_matrix::RowMajorMatrix;
 use std::alloc::Global;

@@ -5,10 +5,10 @@ ghost use Rattle.tool_tables.specs.Laws.Tool.{tool-counts, tool-has_columns, too
 
 use crate::give::GiveAir;
 use crate::take::TakeAir;
-use crate::wheel::WheelAir;
-use batch_tables::SwapAir;
-use p3_air::{Air, BaseAir, InteractionBuilder};
-use p3_blake3_air::Blake3Air;
+use air_tables::WheelAir;
+use air_tables::SwapAir;
+use air_core::{Air, BaseAir, InteractionBuilder};
+use blake3_prime::Blake3Air;
 use p3_field::{Field, FieldCore, Mem, RingCore};
 use p3_matrix::RowMajorMatrix;
 use std::alloc::Global;

@@ -5,12 +5,12 @@ use Rattle.p3_field.specs.Checks.{FirstFailing, NoneFails}
 use Rattle.plain_pcs.specs.declared.error.PlainError.{PlainError}
 use Rattle.batch_statement.specs.declared.error.BatchVerificationError.{BatchVerificationError}
 use Rattle.batch_statement.specs.declared.error.BatchVerificationError.TheVariants.{Verification, Lookup, Transcript, OutOfMemory}
-use Rattle.batch_shape_checks.specs.Verdict.{IsRefusal}
-use Rattle.batch_verifier.specs.BatchChecks.{FirstFault, checks}
+use Rattle.verifier_shape.specs.Verdict.{IsRefusal}
+use Rattle.verifier_batch.specs.BatchChecks.{FirstFault, checks}
 use Rattle.tool_statement.specs.Config.{tool_setting, tool_backend}
 use Rattle.tool_statement.specs.StatedTables.{HasStatedHeight, HaveStatedHeights, tool_statement}
 use Rattle.tool_statement.specs.declared.table.TableStatement.{TableStatement}
-use Rattle.proof_text.specs.ProofText.{ToolProofData}
+use Rattle.tool_proof_text.specs.ProofText.{ToolProofData}
 use Rattle.tool_verifier.specs.FileAnswer.{IsFileAnswer, IsMeant, accepted_text, mismatch_text}
 use Rattle.tool_verifier.specs.Refusals.{fault_text}
 use Rattle.tool_verifier.specs.declared.status.Status.{Status}

@@ -3,11 +3,11 @@ use Rattle.std.proofs.Common.{◌≡◌, ℕ, List, inl, inr, refl, sym, ◌∙�
 use Rattle.std.proofs.lemmas.Bool.{cases_lt}
 use Rattle.p3_field.specs.Checks.{AreSingle, IsFirstFailing}
 use Rattle.p3_field.specs.Laws.Checks.{none_first, same_first}
-use Rattle.batch_verifier.specs.BatchChecks.{checks}
+use Rattle.verifier_batch.specs.BatchChecks.{checks}
 use Rattle.tool_statement.specs.Config.{tool_setting, tool_backend}
 use Rattle.tool_statement.specs.StatedTables.{tool_statement}
 use Rattle.tool_statement.specs.declared.table.TableStatement.{TableStatement}
-use Rattle.proof_text.specs.ProofText.{ToolProofData}
+use Rattle.tool_proof_text.specs.ProofText.{ToolProofData}
 use Rattle.tool_verifier.specs.FileAnswer.{IsAccepted, IsFileAnswer, IsRefusedWith, SameAnswer, mismatch_text}
 use Rattle.tool_verifier.specs.Refusals.{fault_text}
 use Rattle.tool_verifier.specs.declared.status.Status.{Status}

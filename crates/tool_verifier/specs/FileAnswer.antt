@@ -1,18 +1,18 @@
 -- What `verify` answers for a proof file: a status and a text.
 use Rattle.std.specs.Prelude.{◌≡◌, ◌⊎◌, ℕ, ◌^◌, ◌<◌, List, [], ◌∷◌, ◌++◌, codes, slice_get, Some}
 use Rattle.std.specs.Prelude.{slice_index_or as get_or}
-use Rattle.p3_blake3.specs.Compress.{Input}
-use Rattle.p3_blake3.specs.TraceRow.{AreWords}
+use Rattle.blake3_compress.specs.Compress.{Input}
+use Rattle.blake3_compress.specs.TraceRow.{AreWords}
 use Rattle.p3_field.specs.declared.baby_bear.BabyBear.{BabyBear}
 use Rattle.plain_pcs.specs.declared.error.PlainError.{PlainError}
-use Rattle.hash_lines.specs.Compressions.{printed_compression_words}
-use Rattle.hash_lines.specs.PrintedRows.{committed_cells, printed_rows}
-use Rattle.hash_lines.specs.RowText.{row_line, words_line}
+use Rattle.tool_hash_lines.specs.Compressions.{printed_compression_words}
+use Rattle.tool_hash_lines.specs.PrintedRows.{committed_cells, printed_rows}
+use Rattle.tool_hash_lines.specs.RowText.{row_line, words_line}
 use Rattle.batch_statement.specs.declared.error.BatchVerificationError.{BatchVerificationError}
-use Rattle.batch_verifier.specs.BatchChecks.{Accepted, FirstFault}
-use Rattle.plain_soundness.specs.Meaning.{HoldUnlessUnlucky, IsAlphaUnlucky, IsZetaUnlucky}
-use Rattle.plain_soundness.specs.Swapped.{EndsSwapped}
-use Rattle.proof_text.specs.ProofText.{ToolProofData}
+use Rattle.verifier_batch.specs.BatchChecks.{Accepted, FirstFault}
+use Rattle.law_soundness.specs.Meaning.{HoldUnlessUnlucky, IsAlphaUnlucky, IsZetaUnlucky}
+use Rattle.law_soundness.specs.Swapped.{EndsSwapped}
+use Rattle.tool_proof_text.specs.ProofText.{ToolProofData}
 use Rattle.tool_statement.specs.Config.{tool_setting, tool_backend}
 use Rattle.tool_statement.specs.StatedTables.{HaveStatedHeights, IsHeightMismatch, tool_statement}
 use Rattle.tool_statement.specs.declared.table.TableStatement.{TableStatement}

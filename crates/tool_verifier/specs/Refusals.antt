@@ -3,8 +3,8 @@
 use Rattle.std.specs.Prelude.{ℕ, List, [], ◌∷◌, ◌++◌, flat_map, decimal, codes, cond, Option, None, Some}
 use Rattle.plain_pcs.specs.declared.error.PlainError.{PlainError}
 use Rattle.plain_pcs.specs.declared.error.PlainError.TheVariants.{RoundShape, Dimensions, Degree, Value}
-use Rattle.p3_commit.specs.declared.periodic.PeriodicColumnShapeError.{PeriodicColumnShapeError}
-use Rattle.p3_commit.specs.declared.periodic.PeriodicColumnShapeError.TheVariants.{LengthNotPowerOfTwo, LengthNotDividingHeight}
+use Rattle.commit_core.specs.declared.periodic.PeriodicColumnShapeError.{PeriodicColumnShapeError}
+use Rattle.commit_core.specs.declared.periodic.PeriodicColumnShapeError.TheVariants.{LengthNotPowerOfTwo, LengthNotDividingHeight}
 use Rattle.p3_uni_stark.specs.declared.error.InvalidProofShapeError.{InvalidProofShapeError}
 use Rattle.p3_uni_stark.specs.declared.error.InvalidProofShapeError.TheVariants.{InstanceCountMismatch, DegreeBitsTooSmall, DegreeBitsTooLarge, QuotientDomainTooLarge, TraceNextMismatch, UnexpectedTraceNext, UnexpectedPreprocessedValues, UnexpectedPreprocessedNext, PublicValuesLengthMismatch, TraceLocalWidthMismatch, QuotientChunksCountMismatch, QuotientChunkDimensionMismatch, PreprocessedWidthMismatch, PreprocessedMetadataMismatch, MissingPreprocessedValues, QuotientDomainsCountMismatch}
 use Rattle.p3_uni_stark.specs.declared.error.VerificationError.{VerificationError}

@@ -1,16 +1,16 @@
 //! What `verify` answers for a proof file.
 ghost use Rattle.std.specs.Prelude.{◌≡◌, All, IfOk};
 ghost use Rattle.tool_statement.specs.StatedTables.{TableWithin};
-ghost use Rattle.hash_lines.specs.PrintedRows.{HasHashMatrices};
+ghost use Rattle.tool_hash_lines.specs.PrintedRows.{HasHashMatrices};
 ghost use Rattle.tool_verifier.specs.FileAnswer.{IsFileAnswer, accepted_text as text_of_accepted};
 
 use crate::heights::first_mismatch;
 use crate::refusal::{fault_line, mismatch_line};
 use crate::status::Status;
 use crate::tables::verify_tables;
-use hash_lines::hash_lines;
+use tool_hash_lines::hash_lines;
 use p3_field::Mem;
-use proof_text::ToolProof;
+use tool_proof_text::ToolProof;
 use std::alloc::Global;
 use tool_statement::TableStatement;
 

@@ -4,7 +4,7 @@ ghost use Rattle.tool_verifier.specs.Refusals.{fault_name, lookup_name, periodic
 
 use batch_statement::BatchVerificationError;
 use batch_transcript::BatchTranscriptFailure;
-use p3_commit::PeriodicColumnShapeError;
+use commit_core::PeriodicColumnShapeError;
 use p3_lookup::LookupError;
 use p3_uni_stark::{InvalidProofShapeError, VerificationError};
 use plain_pcs::PlainError;

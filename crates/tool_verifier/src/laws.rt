@@ -1,12 +1,12 @@
 //! That a proof file has one answer: a law as the contract of a function that computes nothing.
 ghost use Rattle.std.specs.Prelude.{List, ℕ};
-ghost use Rattle.proof_text.specs.ProofText.{ToolProofData};
+ghost use Rattle.tool_proof_text.specs.ProofText.{ToolProofData};
 ghost use Rattle.tool_verifier.specs.FileAnswer.{IsFileAnswer, SameAnswer};
 ghost use Rattle.tool_statement.specs.declared.table.TableStatement.{TableStatement};
 ghost use Rattle.tool_verifier.specs.declared.status.Status.{Status};
 
-use batch_setting::Settings;
-use batch_verifier::meanings::there_is_one_verdict;
+use batch_config::Settings;
+use verifier_batch::meanings::there_is_one_verdict;
 use tool_statement::{ToolConfig, tool_config};
 
 /// The tables and the proof of a file have at most one answer: one status, and one text.

@@ -1,18 +1,18 @@
 //! What an accepted proof of stated tables means: a law as the contract of a function that computes nothing.
 ghost use Rattle.std.specs.Prelude.{map};
 ghost use Rattle.batch_statement.specs.Statement.{WellFormed};
-ghost use Rattle.batch_verifier.specs.BatchChecks.{Accepted};
-ghost use Rattle.hash_lines.specs.PrintedRows.{HasHashMatrices};
-ghost use Rattle.plain_soundness.specs.Meaning.{HoldUnlessUnlucky};
+ghost use Rattle.verifier_batch.specs.BatchChecks.{Accepted};
+ghost use Rattle.tool_hash_lines.specs.PrintedRows.{HasHashMatrices};
+ghost use Rattle.law_soundness.specs.Meaning.{HoldUnlessUnlucky};
 ghost use Rattle.tool_statement.specs.Config.{tool_backend, tool_setting};
 ghost use Rattle.tool_statement.specs.StatedTables.{HaveStatedHeights, air_table_of, tool_common, tool_statement};
 ghost use Rattle.tool_verifier.specs.FileAnswer.{PrintCompressions, SwapsEnd};
 
-use committed_tables::fields::baby_bear_has_laws;
-use p3_blake3_air::meanings::row_means;
+use law_committed::fields::baby_bear_has_laws;
+use blake3_prime::meanings::row_means;
 use p3_field::{BabyBear, QuarticExtension};
 use plain_pcs::opened_claims_bind;
-use proof_text::ToolProof;
+use tool_proof_text::ToolProof;
 use tool_statement::TableStatement;
 
 /// What it means that a proof of these tables is accepted (not in Plonky3): every constraint of every table is zero on each row of the committed

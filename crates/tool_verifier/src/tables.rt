@@ -1,20 +1,20 @@
 //! Whether a proof of stated tables is accepted.
 ghost use Rattle.std.specs.Prelude.{All, IfOk};
-ghost use Rattle.batch_shape_checks.specs.Verdict.{IsVerdict};
-ghost use Rattle.batch_verifier.specs.BatchChecks.{checks};
-ghost use Rattle.plain_soundness.specs.Meaning.{HoldUnlessUnlucky};
+ghost use Rattle.verifier_shape.specs.Verdict.{IsVerdict};
+ghost use Rattle.verifier_batch.specs.BatchChecks.{checks};
+ghost use Rattle.law_soundness.specs.Meaning.{HoldUnlessUnlucky};
 ghost use Rattle.tool_verifier.specs.FileAnswer.{PrintCompressions, SwapsEnd};
 ghost use Rattle.tool_statement.specs.StatedTables.{HaveStatedHeights, TableWithin, tool_statement};
-ghost use Rattle.hash_lines.specs.PrintedRows.{HasHashMatrices};
+ghost use Rattle.tool_hash_lines.specs.PrintedRows.{HasHashMatrices};
 ghost use Rattle.tool_statement.specs.Config.{tool_backend, tool_setting};
 
 use crate::meaning::accepted_means;
-use batch_setting::Settings;
+use batch_config::Settings;
 use batch_statement::BatchVerificationError;
-use batch_verifier::verify_batch;
-use p3_air::{Air, BaseAir};
+use verifier_batch::verify_batch;
+use air_core::{Air, BaseAir};
 use plain_pcs::PlainError;
-use proof_text::ToolProof;
+use tool_proof_text::ToolProof;
 use std::alloc::Global;
 use tool_statement::{TableStatement, airs_of, public_values_of, shared_data, tool_config};
 

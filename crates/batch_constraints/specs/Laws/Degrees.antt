@@ -7,7 +7,7 @@ use Rattle.std.proofs.lemmas.Nat.{mul-le, pow_pos}
 use Rattle.std.proofs.lemmas.Bool.{cases_lt}
 use Rattle.std.proofs.lemmas.Bool.Decides.{nat_tests}
 use Rattle.std.proofs.lemmas.Grind.{div_ceil_times}
-use Rattle.p3_air.specs.Tree.{Tree}
+use Rattle.air_core.specs.Tree.{Tree}
 use Rattle.batch_constraints.specs.Sizing.{powers_below, log_ceil, constraint_degree, domain_degree, largest_multiple, largest_degree}
 
 too_many : (d n k c : ℕ) → k < c → d ≤ k * n → c * n < d + n → ⊥

@@ -4,17 +4,17 @@ use Rattle.std.specs.Prelude.{slice_index}
 use Rattle.std.proofs.Math.Nat.{mul-le-mul_right}
 use Rattle.std.proofs.lemmas.Bool.{cases_lt}
 use Rattle.std.proofs.lemmas.List.{get_or_past, get_or_default}
-use Rattle.p3_air.specs.declared.cells.Cell.{Cell}
-use Rattle.p3_air.specs.declared.cells.Cell.TheVariants.{Main, Preprocessed, Periodic, Public, FirstRow, LastRow, Transition}
-use Rattle.p3_air.specs.declared.cells.ExtCell.{ExtCell}
-use Rattle.p3_air.specs.declared.cells.ExtCell.TheVariants.{Permutation, Challenge, Terminal}
-use Rattle.p3_air.specs.Degree.{degree, full_degree, cell_degree, ext_degree, cell_multiple, ext_multiple, multiple, periodic_degree, polynomial_degree}
-use Rattle.p3_air.specs.Laws.Maps.{reads_all}
-use Rattle.p3_air.specs.Shape.{Declaration, ReadsIn}
-use Rattle.p3_air.specs.Tree.{Tree, constant, cell, ext_cell, sum, difference, product}
+use Rattle.air_core.specs.declared.cells.Cell.{Cell}
+use Rattle.air_core.specs.declared.cells.Cell.TheVariants.{Main, Preprocessed, Periodic, Public, FirstRow, LastRow, Transition}
+use Rattle.air_core.specs.declared.cells.ExtCell.{ExtCell}
+use Rattle.air_core.specs.declared.cells.ExtCell.TheVariants.{Permutation, Challenge, Terminal}
+use Rattle.air_core.specs.Degree.{degree, full_degree, cell_degree, ext_degree, cell_multiple, ext_multiple, multiple, periodic_degree, polynomial_degree}
+use Rattle.air_core.specs.Laws.Maps.{reads_all}
+use Rattle.air_core.specs.Shape.{Declaration, ReadsIn}
+use Rattle.air_core.specs.Tree.{Tree, constant, cell, ext_cell, sum, difference, product}
 use Rattle.batch_constraints.specs.Fitting.{cell_transitions, transition_factors, FitsChunks, FewTransitionsFit}
 use Rattle.batch_constraints.specs.Sizing.{largest_multiple, constraint_degree, periods_of, with_hint, log_ceil, log_chunks}
-use Rattle.p3_air.specs.Laws.Greatest.{all_below_greatest}
+use Rattle.air_core.specs.Laws.Greatest.{all_below_greatest}
 use Rattle.batch_constraints.specs.Laws.Logarithms.{log_ceil_enough}
 use Rattle.batch_constraints.specs.Laws.Periods.{at_item}
 

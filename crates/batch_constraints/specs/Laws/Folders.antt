@@ -1,10 +1,10 @@
 -- The laws of builders that compute values at one point, for the folders of tables with lookups.
 use Rattle.std.proofs.Common.{◌≡◌, refl}
 use Rattle.p3_field.specs.Ring.{Ring}
-use Rattle.p3_air.specs.CellValues.{CellValues, reading_at}
-use Rattle.p3_air.specs.Tree.{Tree, eval_tree}
-use Rattle.p3_air.specs.Operation.{Operation, tree_by, value_by}
-use Rattle.p3_air.specs.Laws.Operation.{ReadsBy, value_by-tree}
+use Rattle.air_core.specs.CellValues.{CellValues, reading_at}
+use Rattle.air_core.specs.Tree.{Tree, eval_tree}
+use Rattle.air_core.specs.Operation.{Operation, tree_by, value_by}
+use Rattle.air_core.specs.Laws.Operation.{ReadsBy, value_by-tree}
 use Rattle.p3_uni_stark.specs.Laws.Folders.{value_persists}
 
 -- a reading at values computes as their ring does

@@ -4,13 +4,13 @@ use Rattle.std.proofs.Common.{◌≡◌, ℕ, zero, suc, ◌+◌, ◌-◌, ◌*�
 use Rattle.std.proofs.lemmas.List.{map-append}
 use Rattle.p3_field.specs.Ring.{Ring}
 use Rattle.p3_field.specs.Poly.{eval_poly}
-use Rattle.p3_air.specs.declared.cells.Cell.{Cell}
-use Rattle.p3_air.specs.declared.cells.Cell.TheVariants.{FirstRow, LastRow, Transition}
-use Rattle.p3_air.specs.declared.cells.Count.{Count}
-use Rattle.p3_air.specs.declared.cells.ExtCell.{ExtCell}
-use Rattle.p3_air.specs.declared.cells.ExtCell.TheVariants.{Permutation, Challenge, Terminal}
-use Rattle.p3_air.specs.Degree.{capped_sum, degree}
-use Rattle.p3_air.specs.Tree.{Tree}
+use Rattle.air_core.specs.declared.cells.Cell.{Cell}
+use Rattle.air_core.specs.declared.cells.Cell.TheVariants.{FirstRow, LastRow, Transition}
+use Rattle.air_core.specs.declared.cells.Count.{Count}
+use Rattle.air_core.specs.declared.cells.ExtCell.{ExtCell}
+use Rattle.air_core.specs.declared.cells.ExtCell.TheVariants.{Permutation, Challenge, Terminal}
+use Rattle.air_core.specs.Degree.{capped_sum, degree}
+use Rattle.air_core.specs.Tree.{Tree}
 use Rattle.p3_lookup.specs.Lookup.{LookupData, HasCountForEach, Sent, pair_up, sent}
 use Rattle.p3_lookup.specs.Packing.{merged}
 use Rattle.p3_lookup.specs.Term.{Term, common, numerator}

@@ -3,8 +3,8 @@ use Rattle.std.proofs.Common.{ℕ, ◌*◌, ◌<◌, List, length, All, sym, sub
 use Rattle.std.proofs.lemmas.List.Elements.{All-map, All-take, All-drop}
 use Rattle.p3_field.specs.Poly.{tabulate}
 use Rattle.p3_field.specs.Laws.Tabulate.{length-tabulate, get_or-tabulate}
-use Rattle.p3_air.specs.Shape.{Shape, Declaration, declared_shape, IsInteraction, ReadsSendable}
-use Rattle.p3_air.specs.Tree.{Tree, Interaction, tuple_at, tuple_width}
+use Rattle.air_core.specs.Shape.{Shape, Declaration, declared_shape, IsInteraction, ReadsSendable}
+use Rattle.air_core.specs.Tree.{Tree, Interaction, tuple_at, tuple_width}
 use Rattle.p3_lookup.specs.Lookup.{IsLookup, lookup_of, lookups_of}
 use Rattle.batch_constraints.specs.BatchTrees.{AreLookupsOf}
 

@@ -8,20 +8,20 @@ use Rattle.std.proofs.lemmas.Grind.{div_ceil_times}
 use Rattle.std.proofs.lemmas.List.{map-append, length-append}
 use Rattle.std.proofs.lemmas.List.Elements.{All-nil, All-head, All-tail, All-cons, All-append}
 use Rattle.p3_field.specs.Ring.{Ring}
-use Rattle.p3_air.specs.declared.cells.Cell.{Cell}
-use Rattle.p3_air.specs.declared.cells.Cell.TheVariants.{Main, Preprocessed, Periodic, Public, FirstRow, LastRow, Transition}
-use Rattle.p3_air.specs.declared.cells.ExtCell.{ExtCell}
-use Rattle.p3_air.specs.declared.cells.ExtCell.TheVariants.{Permutation, Challenge}
-use Rattle.p3_air.specs.Degree.{degree, full_degree, cell_degree, ext_degree, cell_multiple, ext_multiple, multiple}
-use Rattle.p3_air.specs.Shape.{Shape, Declaration, Declares, IsSendable, ReadsSendable, declared_shape}
-use Rattle.p3_air.specs.Tree.{Tree, constant, cell, ext_cell, sum, difference, product}
+use Rattle.air_core.specs.declared.cells.Cell.{Cell}
+use Rattle.air_core.specs.declared.cells.Cell.TheVariants.{Main, Preprocessed, Periodic, Public, FirstRow, LastRow, Transition}
+use Rattle.air_core.specs.declared.cells.ExtCell.{ExtCell}
+use Rattle.air_core.specs.declared.cells.ExtCell.TheVariants.{Permutation, Challenge}
+use Rattle.air_core.specs.Degree.{degree, full_degree, cell_degree, ext_degree, cell_multiple, ext_multiple, multiple}
+use Rattle.air_core.specs.Shape.{Shape, Declaration, Declares, IsSendable, ReadsSendable, declared_shape}
+use Rattle.air_core.specs.Tree.{Tree, constant, cell, ext_cell, sum, difference, product}
 use Rattle.p3_lookup.specs.Lookup.{LookupData, IsLookup}
-use Rattle.p3_air.specs.Degree.{greatest}
+use Rattle.air_core.specs.Degree.{greatest}
 use Rattle.p3_lookup.specs.Packing.{lookup_degree, merged, same_name, takes_in, with_lookup, packed_onto, packed}
 use Rattle.p3_lookup.specs.Trees.{fraction_tree, fraction_trees, running_trees, lookup_trees}
 use Rattle.batch_constraints.specs.BatchTrees.{table_trees, AreLookupsOf}
 use Rattle.batch_constraints.specs.Sizing.{largest_multiple, largest_degree, constraint_degree, domain_degree, periods_of, hint_of, log_ceil, log_chunks, table_log_chunks, free_budget}
-use Rattle.p3_air.specs.Laws.Greatest.{first_below_greatest, all_below_greatest, greatest_below}
+use Rattle.air_core.specs.Laws.Greatest.{first_below_greatest, all_below_greatest, greatest_below}
 use Rattle.batch_constraints.specs.Laws.Degrees.{div_ceil_least}
 use Rattle.batch_constraints.specs.Laws.Fits.{degree_bound, ext_bound}
 use Rattle.batch_constraints.specs.Laws.Fractions.{HasOneDegree, merged_left, merged_right, fraction_numbered, running_counted}

@@ -1,9 +1,9 @@
 -- Periodic columns that a tree reads, and what holds of all images.
 use Rattle.std.proofs.Common.{◌≡◌, ℕ, ◌<◌, List, length, map, All, get_or, sym, subst, arith}
 use Rattle.std.proofs.lemmas.List.{length-map, get_or-map}
-use Rattle.p3_air.specs.Degree.{HasPeriod}
-use Rattle.p3_air.specs.Shape.{ReadsIn}
-use Rattle.p3_air.specs.Tree.{Tree}
+use Rattle.air_core.specs.Degree.{HasPeriod}
+use Rattle.air_core.specs.Shape.{ReadsIn}
+use Rattle.air_core.specs.Tree.{Tree}
 
 -- what holds of all images holds of that of an item
 pub at_item : {X Y : Type 0} (P : Y → Type 0) (f : X → Y) (xs : List X) (i : ℕ) (x : X) → i < length xs → x ≡ get_or xs i x → All P (map f xs) → P (f x)

@@ -3,11 +3,11 @@ use Rattle.std.proofs.Common.{◌≡◌, ℕ, suc, ◌+◌, List, [], ◌∷◌,
 use Rattle.std.specs.Prelude.{Result, Ok, Err, IfOk}
 use Rattle.p3_field.specs.Poly.{tabulate}
 use Rattle.p3_field.specs.Laws.Tabulate.{tabulate_same}
-use Rattle.p3_air.specs.declared.node.Node.{Node}
-use Rattle.p3_air.specs.declared.recorded.Assertion.{Assertion}
-use Rattle.p3_air.specs.Tree.{Tree, Asserted, over_base, over_extension}
-use Rattle.p3_air.specs.Layout.{Places}
-use Rattle.p3_air.specs.Recording.{asserted_at, asserted_tree, indices_from, trees_over}
+use Rattle.air_core.specs.declared.node.Node.{Node}
+use Rattle.air_core.specs.declared.recorded.Assertion.{Assertion}
+use Rattle.air_core.specs.Tree.{Tree, Asserted, over_base, over_extension}
+use Rattle.air_core.specs.Layout.{Places}
+use Rattle.air_core.specs.Recording.{asserted_at, asserted_tree, indices_from, trees_over}
 use Rattle.batch_constraints.specs.BatchTrees.{places_of}
 
 -- of trees over the base field and others over the extension after them, each kind

@@ -1,11 +1,11 @@
 -- What the constraints of a table with lookups read.
 use Rattle.std.proofs.Common.{◌≡◌, ℕ, zero, suc, ◌*◌, ◌<◌, ◌≤◌, List, length, arith, refl}
-use Rattle.p3_air.specs.declared.cells.Cell.{Cell}
-use Rattle.p3_air.specs.declared.cells.Cell.TheVariants.{Main, Preprocessed, Periodic, Public, FirstRow, LastRow, Transition}
-use Rattle.p3_air.specs.Shape.{Shape, Fits, Declares, IsSendable, ReadsSendable, Declaration, declared_shape}
-use Rattle.p3_air.specs.Tree.{Tree}
-use Rattle.p3_air.specs.Laws.Maps.{reads_more}
-use Rattle.p3_air.specs.Layout.{layout_of, layout_shape}
+use Rattle.air_core.specs.declared.cells.Cell.{Cell}
+use Rattle.air_core.specs.declared.cells.Cell.TheVariants.{Main, Preprocessed, Periodic, Public, FirstRow, LastRow, Transition}
+use Rattle.air_core.specs.Shape.{Shape, Fits, Declares, IsSendable, ReadsSendable, Declaration, declared_shape}
+use Rattle.air_core.specs.Tree.{Tree}
+use Rattle.air_core.specs.Laws.Maps.{reads_more}
+use Rattle.air_core.specs.Layout.{layout_of, layout_shape}
 use Rattle.p3_lookup.specs.Lookup.{LookupData, IsLookup, FitLookups}
 use Rattle.batch_constraints.specs.BatchTrees.{layout_with, AreLookupsOf}
 

@@ -1,8 +1,8 @@
 -- The rows of a table with lookups, as a check of them reads them.
 use Rattle.std.proofs.Common.{◌≡◌, ℕ, ◌+◌, ◌*◌, ◌<◌, List, [], ◌∷◌, ◌++◌, length, map, refl, ap, arith}
-use Rattle.p3_air.specs.RowCheck.{Row, row_shape}
-use Rattle.p3_air.specs.Shape.{Declaration, Fits, declared_shape, width_of}
-use Rattle.p3_air.specs.Tree.{Tree, over_base, over_extension}
+use Rattle.air_core.specs.RowCheck.{Row, row_shape}
+use Rattle.air_core.specs.Shape.{Declaration, Fits, declared_shape, width_of}
+use Rattle.air_core.specs.Tree.{Tree, over_base, over_extension}
 use Rattle.p3_lookup.specs.Lookup.{LookupData, FitLookups}
 use Rattle.batch_constraints.specs.BatchTrees.{AreLookupsOf}
 use Rattle.batch_constraints.specs.Laws.Reads.{shape_fits_lookups}

@@ -3,13 +3,13 @@ use Rattle.std.proofs.Common.{ℕ, zero, suc, false, ◌+◌, ◌*◌, ◌<◌, 
 use Rattle.std.proofs.lemmas.List.Elements.{All-head, All-tail, All-cons, All-append}
 use Rattle.p3_field.specs.Ring.{Ring}
 use Rattle.p3_field.specs.Poly.{eval_poly}
-use Rattle.p3_air.specs.declared.cells.Cell.{Cell}
-use Rattle.p3_air.specs.declared.cells.Count.{Count}
-use Rattle.p3_air.specs.declared.cells.ExtCell.{ExtCell}
-use Rattle.p3_air.specs.declared.cells.ExtCell.TheVariants.{Permutation, Challenge}
-use Rattle.p3_air.specs.Laws.Maps.{reads_more}
-use Rattle.p3_air.specs.Shape.{Shape, Declares, DeclaresExt, IsSendable, ReadsIn, ReadsDeclared, ReadsSendable}
-use Rattle.p3_air.specs.Tree.{Tree}
+use Rattle.air_core.specs.declared.cells.Cell.{Cell}
+use Rattle.air_core.specs.declared.cells.Count.{Count}
+use Rattle.air_core.specs.declared.cells.ExtCell.{ExtCell}
+use Rattle.air_core.specs.declared.cells.ExtCell.TheVariants.{Permutation, Challenge}
+use Rattle.air_core.specs.Laws.Maps.{reads_more}
+use Rattle.air_core.specs.Shape.{Shape, Declares, DeclaresExt, IsSendable, ReadsIn, ReadsDeclared, ReadsSendable}
+use Rattle.air_core.specs.Tree.{Tree}
 use Rattle.p3_lookup.specs.Lookup.{LookupData, IsLookup, FitLookups, pair_up}
 use Rattle.p3_lookup.specs.Term.{Term, common, numerator}
 use Rattle.p3_lookup.specs.Trees.{trees, term_tree, term_trees, base_tree, beta_tree, fraction_tree, fraction_trees, sum_tree, first_tree, transition_tree, last_tree, running_trees, lookup_trees}

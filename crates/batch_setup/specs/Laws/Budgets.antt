@@ -4,16 +4,16 @@ use Rattle.std.specs.Prelude.{nat_le}
 use Rattle.std.proofs.lemmas.Bool.{cases_lt}
 use Rattle.std.proofs.lemmas.List.Elements.{All-map}
 use Rattle.p3_field.specs.Ring.{Ring}
-use Rattle.p3_air.specs.declared.cells.Cell.{Cell}
-use Rattle.p3_air.specs.declared.cells.Cell.TheVariants.{Main, Preprocessed, Periodic, Public, FirstRow, LastRow, Transition}
-use Rattle.p3_air.specs.declared.cells.ExtCell.{ExtCell}
-use Rattle.p3_air.specs.declared.cells.ExtCell.TheVariants.{Permutation, Challenge, Terminal}
-use Rattle.p3_air.specs.Degree.{multiple, cell_multiple, ext_multiple}
-use Rattle.p3_air.specs.Tree.{Tree, constant, cell, ext_cell, sum, difference, product}
+use Rattle.air_core.specs.declared.cells.Cell.{Cell}
+use Rattle.air_core.specs.declared.cells.Cell.TheVariants.{Main, Preprocessed, Periodic, Public, FirstRow, LastRow, Transition}
+use Rattle.air_core.specs.declared.cells.ExtCell.{ExtCell}
+use Rattle.air_core.specs.declared.cells.ExtCell.TheVariants.{Permutation, Challenge, Terminal}
+use Rattle.air_core.specs.Degree.{multiple, cell_multiple, ext_multiple}
+use Rattle.air_core.specs.Tree.{Tree, constant, cell, ext_cell, sum, difference, product}
 use Rattle.p3_lookup.specs.Lookup.{LookupData}
 use Rattle.p3_lookup.specs.Packing.{lookup_degree, merged, same_name, takes_in, with_lookup, packed_onto, packed}
 use Rattle.p3_lookup.specs.Trees.{lookup_trees}
-use Rattle.p3_air.specs.Laws.Greatest.{greatest_below}
+use Rattle.air_core.specs.Laws.Greatest.{greatest_below}
 
 cell_small : (c : Cell) → cell_multiple 0 c ≤ 2 ^ 64 - 1
 cell_small (Main next column) = omega arith

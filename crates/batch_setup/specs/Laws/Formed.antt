@@ -9,8 +9,8 @@ use Rattle.p3_field.specs.Laws.Tabulate.{length-tabulate, get_or-tabulate, tabul
 use Rattle.p3_field.specs.Poly.{tabulate}
 use Rattle.p3_field.specs.Ring.{Ring}
 use Rattle.p3_matrix.specs.Matrix.{Rows}
-use Rattle.p3_air.specs.Shape.{Declaration, HasColumns, IsInteraction, declared_shape, width_of}
-use Rattle.p3_air.specs.Tree.{Tree, Interaction}
+use Rattle.air_core.specs.Shape.{Declaration, HasColumns, IsInteraction, declared_shape, width_of}
+use Rattle.air_core.specs.Tree.{Tree, Interaction}
 use Rattle.p3_lookup.specs.Bus.{HaveOneWidth}
 use Rattle.p3_lookup.specs.Lookup.{LookupData, HasCountForEach, IsLookup, ReadsSent, lookups_of}
 use Rattle.batch_constraints.specs.BatchTrees.{AreLookupsOf}

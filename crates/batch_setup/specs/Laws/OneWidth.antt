@@ -7,7 +7,7 @@ use Rattle.std.proofs.lemmas.List.{length-map, get_or-map, get_or_default}
 use Rattle.std.proofs.lemmas.List.Elements.{All-nil, All-head, All-tail, All-cons, All-append, All-weaker}
 use Rattle.p3_field.specs.Poly.{tabulate}
 use Rattle.p3_field.specs.Ring.{Ring}
-use Rattle.p3_air.specs.Tree.{Bus, local, global}
+use Rattle.air_core.specs.Tree.{Bus, local, global}
 use Rattle.p3_lookup.specs.Bus.{HaveOneWidth, NameOneBus, bus_number}
 use Rattle.p3_lookup.specs.Laws.Buses.{shares_by_name}
 use Rattle.p3_lookup.specs.Lookup.{LookupData}

@@ -8,9 +8,9 @@ use Rattle.std.proofs.lemmas.List.{length-map, map-append, get_or-map}
 use Rattle.std.proofs.lemmas.List.Folds.{list_all-append, list_all-map}
 use Rattle.std.proofs.lemmas.List.Sums.{AllPass-from_list_all, list_all-from_AllPass}
 use Rattle.std.proofs.lemmas.List.Elements.{All-from_get_or}
-use Rattle.p3_air.specs.declared.node.Node.{Node}
-use Rattle.p3_air.specs.Symbolic.{tree_of}
-use Rattle.p3_air.specs.Tree.{Tree, Bus, local, global}
+use Rattle.air_core.specs.declared.node.Node.{Node}
+use Rattle.air_core.specs.Symbolic.{tree_of}
+use Rattle.air_core.specs.Tree.{Tree, Bus, local, global}
 use Rattle.p3_lookup.specs.Lookup.{LookupData}
 use Rattle.p3_lookup.specs.Bus.{HaveOneWidth, bus_number}
 use Rattle.p3_lookup.specs.Packing.{same_name}

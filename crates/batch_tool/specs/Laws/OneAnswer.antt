@@ -4,19 +4,19 @@ use Rattle.std.specs.Prelude.{codes, ◌⊎◌}
 use Rattle.std.proofs.lemmas.Bool.{cases_lt}
 use Rattle.std.proofs.lemmas.List.{append-nil}
 use Rattle.p3_field.specs.declared.baby_bear.BabyBear.{BabyBear}
-use Rattle.line_format.specs.Texts.{line_text, Grammar}
-use Rattle.line_format.specs.WholeText.{IsFaultLine}
-use Rattle.line_format.specs.Laws.Lines.{lines-tell}
-use Rattle.tool_validity.specs.Job.{JobTable}
+use Rattle.tool_lines.specs.Texts.{line_text, Grammar}
+use Rattle.tool_lines.specs.WholeText.{IsFaultLine}
+use Rattle.tool_lines.specs.Laws.Lines.{lines-tell}
+use Rattle.law_tool_valid.specs.Job.{JobTable}
 use Rattle.tool_jobs.specs.Jobs.{JobWithin, job_numbers}
 use Rattle.tool_jobs.specs.Laws.Texts.{job-grammar}
 use Rattle.tool_prover.specs.JobAnswer.{IsJobAnswer}
 use Rattle.batch_tool.specs.Answer.{Names, NamesSome, IsBadInput, IsProveAnswer, IsVerifyAnswer, IsCommandAnswer, IsAnswer, bad_input_text}
 use Rattle.tool_statement.specs.declared.table.TableStatement.{TableStatement}
-use Rattle.proof_text.specs.ProofText.{ToolProofData}
+use Rattle.tool_proof_text.specs.ProofText.{ToolProofData}
 use Rattle.tool_verifier.specs.FileAnswer.{IsFileAnswer, SameAnswer}
-use Rattle.proof_files.specs.Files.{FileWithin, file_numbers}
-use Rattle.proof_files.specs.Laws.Files.{file-grammar}
+use Rattle.tool_proof_files.specs.Files.{FileWithin, file_numbers}
+use Rattle.tool_proof_files.specs.Laws.Files.{file-grammar}
 use Rattle.batch_tool.specs.declared.command.Command.{Command}
 use Rattle.batch_tool.specs.declared.command.Command.TheVariants.{Prove, Verify}
 use Rattle.tool_verifier.specs.declared.status.Status.{Status}

@@ -6,14 +6,14 @@ use Rattle.p3_field.specs.Poly.{tabulate}
 use Rattle.p3_field.specs.Laws.Tabulate.{length-tabulate}
 use Rattle.p3_matrix.specs.Matrix.{FillsRows}
 use Rattle.p3_matrix.specs.Laws.Grids.{product_fills}
-use Rattle.p3_air.specs.declared.cells.Cell.{Cell}
-use Rattle.p3_air.specs.declared.cells.Cell.TheVariants.{Main}
-use Rattle.p3_air.specs.declared.cells.ExtCell.{ExtCell}
-use Rattle.p3_air.specs.Shape.{Declares, DeclaresExt, ReadsIn, HasColumns, HasWholeRows, ReadsDeclared, IsInteraction, declared_shape, width_of}
-use Rattle.p3_air.specs.Laws.Declared.{counts-none}
-use Rattle.p3_air.specs.Laws.Lists.{all_mapped}
-use Rattle.p3_air.specs.Gadgets.{packed_bits}
-use Rattle.p3_air.specs.Tree.{Tree, bool_tree, difference}
+use Rattle.air_core.specs.declared.cells.Cell.{Cell}
+use Rattle.air_core.specs.declared.cells.Cell.TheVariants.{Main}
+use Rattle.air_core.specs.declared.cells.ExtCell.{ExtCell}
+use Rattle.air_core.specs.Shape.{Declares, DeclaresExt, ReadsIn, HasColumns, HasWholeRows, ReadsDeclared, IsInteraction, declared_shape, width_of}
+use Rattle.air_core.specs.Laws.Declared.{counts-none}
+use Rattle.air_core.specs.Laws.Lists.{all_mapped}
+use Rattle.air_gadgets.specs.Gadgets.{packed_bits}
+use Rattle.air_core.specs.Tree.{Tree, bool_tree, difference}
 use Rattle.example_air.specs.Bytes.{all_bytes, byte_row_trees, main_column, example_declaration, example_interactions, example_trees}
 use Rattle.example_air.specs.declared.air.ExampleAir.{ExampleAir}
 use Rattle.example_air.specs.declared.air.ExampleAir.TheVariants.{Bits, Bytes}

@@ -10,14 +10,14 @@ use Rattle.p3_field.specs.Poly.{tabulate}
 use Rattle.p3_field.specs.Ring.{Ring, of_nat}
 use Rattle.p3_field.specs.Laws.Roots.{sub_zero, sub_self}
 use Rattle.p3_field.specs.Laws.Tabulate.{tabulate_same}
-use Rattle.p3_air.specs.Gadgets.{packed_bits}
-use Rattle.p3_air.specs.RowCheck.{Row, cell_value, ext_cell_value}
-use Rattle.p3_air.specs.Tree.{Tree, Reading, eval_tree, bool_tree, difference}
-use Rattle.p3_air.specs.Words.{PrimeFieldLaws, bits_number, cells_reading}
-use Rattle.p3_air.specs.Laws.Bits.{bool_value}
-use Rattle.p3_air.specs.Laws.Gadgets.{packed_value, value_bool}
-use Rattle.p3_air.specs.Laws.Lists.{all_left, all_mapped, all_of_mapped, all_right}
-use Rattle.p3_air.specs.Laws.Words.{BitsFrom, bits_number_below, bits_number_bit}
+use Rattle.air_gadgets.specs.Gadgets.{packed_bits}
+use Rattle.air_core.specs.RowCheck.{Row, cell_value, ext_cell_value}
+use Rattle.air_core.specs.Tree.{Tree, Reading, eval_tree, bool_tree, difference}
+use Rattle.air_gadgets.specs.Words.{PrimeFieldLaws, bits_number, cells_reading}
+use Rattle.air_gadgets.specs.Laws.Bits.{bool_value}
+use Rattle.air_gadgets.specs.Laws.Gadgets.{packed_value, value_bool}
+use Rattle.air_core.specs.Laws.Lists.{all_left, all_mapped, all_of_mapped, all_right}
+use Rattle.air_gadgets.specs.Laws.Words.{BitsFrom, bits_number_below, bits_number_bit}
 use Rattle.example_air.specs.Bytes.{bits_row, byte_row_trees, main_column}
 use Rattle.example_air.specs.Meanings.{ByteRowMeans}
 

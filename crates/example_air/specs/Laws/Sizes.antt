@@ -7,7 +7,7 @@ use Rattle.p3_field.specs.Poly.{tabulate}
 use Rattle.p3_field.specs.Ring.{Ring, of_nat}
 use Rattle.p3_field.specs.declared.baby_bear.BabyBear.{BabyBear}
 use Rattle.p3_matrix.specs.Matrix.{Rows, height}
-use Rattle.batch_validity.specs.Laws.Columns.{column_height, pieces_height}
+use Rattle.law_valid.specs.Laws.Columns.{column_height, pieces_height}
 use Rattle.example_air.specs.Bytes.{bits_row, bits_rows, bytes_rows, byte_times}
 use Rattle.example_air.specs.Proving.{AreTables}
 

@@ -6,11 +6,11 @@ use Rattle.std.proofs.lemmas.List.Elements.{All-head, All-tail, All-cons}
 use Rattle.p3_field.specs.Ring.{Ring, RingLaws}
 use Rattle.p3_field.specs.Field.{RingHom}
 use Rattle.p3_field.specs.Laws.Extended.{hom_neg}
-use Rattle.p3_air.specs.declared.cells.Cell.{Cell}
-use Rattle.p3_air.specs.declared.cells.Count.{Count}
-use Rattle.p3_air.specs.declared.cells.ExtCell.{ExtCell}
-use Rattle.p3_air.specs.Tree.{Tree, constant, cell, ext_cell, sum, difference, product, eval_tree}
-use Rattle.p3_air.specs.Shape.{Shape, Declares, IsSendable, ReadsSendable}
+use Rattle.air_core.specs.declared.cells.Cell.{Cell}
+use Rattle.air_core.specs.declared.cells.Count.{Count}
+use Rattle.air_core.specs.declared.cells.ExtCell.{ExtCell}
+use Rattle.air_core.specs.Tree.{Tree, constant, cell, ext_cell, sum, difference, product, eval_tree}
+use Rattle.air_core.specs.Shape.{Shape, Declares, IsSendable, ReadsSendable}
 use Rattle.p3_lookup.specs.Lookup.{LookupData, ReadsSent, pair_up, sent}
 use Rattle.p3_lookup.specs.Rows.{reading_with, AgreeOnSent}
 

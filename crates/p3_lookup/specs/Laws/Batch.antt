@@ -7,8 +7,8 @@ use Rattle.p3_field.specs.Ring.{Ring, RingLaws}
 use Rattle.p3_field.specs.Field.{RingHom}
 use Rattle.p3_field.specs.Poly.{tabulate}
 use Rattle.p3_field.specs.Laws.Tabulate.{get_or-tabulate}
-use Rattle.p3_air.specs.declared.cells.Count.{Count}
-use Rattle.p3_air.specs.Tree.{Tree, local}
+use Rattle.air_core.specs.declared.cells.Count.{Count}
+use Rattle.air_core.specs.Tree.{Tree, local}
 use Rattle.p3_lookup.specs.Lookup.{LookupData, pair_up, sent}
 use Rattle.p3_lookup.specs.Term.{sum_of}
 use Rattle.p3_lookup.specs.Honest.{running_sum}

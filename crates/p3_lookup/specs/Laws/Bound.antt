@@ -8,7 +8,7 @@ use Rattle.std.proofs.lemmas.Bool.{cases_lt, cases_eq, or_parts, false_from_ne_t
 use Rattle.std.proofs.lemmas.Bool.Decides.{same_from_decides, Decides-eqb, Decides-like}
 use Rattle.std.proofs.lemmas.List.{length-append, length-map, get_or_append_left, get_or-append-add, get_or-map, take-append-le, take-map, drop_more}
 use Rattle.std.proofs.lemmas.List.Folds.{list_any-append}
-use Rattle.p3_air.specs.Tree.{Bus, local, global}
+use Rattle.air_core.specs.Tree.{Bus, local, global}
 use Rattle.p3_lookup.specs.Lookup.{LookupData}
 use Rattle.p3_lookup.specs.Bus.{is_named, opener_of, opener, opened_below, bus_number, batch_buses, lookups_before, sum_of_bounds}
 use Rattle.p3_lookup.specs.Packing.{same_name}

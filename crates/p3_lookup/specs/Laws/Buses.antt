@@ -6,7 +6,7 @@ use Rattle.std.specs.Cmp.Lexicographic.{bytes_decides}
 use Rattle.std.proofs.lemmas.Bool.{cases_lt}
 use Rattle.std.proofs.lemmas.List.Sums.{fails_before_first, passes_at_first}
 use Rattle.std.proofs.lemmas.Bool.Decides.{eqb_tells}
-use Rattle.p3_air.specs.Tree.{Bus, local, global}
+use Rattle.air_core.specs.Tree.{Bus, local, global}
 use Rattle.p3_lookup.specs.Bus.{is_named, opener_of, opener, opened_below, bus_number, bus_count, NameOneBus, SharesByName}
 
 pub same_opens : (n : ℕ) → (n == n) ≡ true

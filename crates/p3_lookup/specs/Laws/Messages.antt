@@ -9,7 +9,7 @@ use Rattle.p3_field.specs.Ring.{Ring, RingLaws}
 use Rattle.p3_field.specs.Field.{RingHom}
 use Rattle.p3_field.specs.Poly.{tabulate, total}
 use Rattle.p3_field.specs.Laws.Sums.{total_same, total_zero}
-use Rattle.p3_air.specs.Tree.{Tree}
+use Rattle.air_core.specs.Tree.{Tree}
 use Rattle.p3_lookup.specs.Lookup.{LookupData, Sent, map_sent, sent}
 use Rattle.p3_lookup.specs.Term.{term, denominator, sum_of, fraction}
 use Rattle.p3_lookup.specs.Honest.{terms_from, row_fractions, running_sum}

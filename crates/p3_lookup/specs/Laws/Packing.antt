@@ -6,8 +6,8 @@ use Rattle.std.proofs.lemmas.List.{length-append}
 use Rattle.std.proofs.lemmas.List.Elements.{All-head, All-tail, All-cons}
 use Rattle.std.proofs.lemmas.List.Sums.{sum_by-append}
 use Rattle.p3_field.specs.Ring.{Ring}
-use Rattle.p3_air.specs.declared.cells.Count.{Count}
-use Rattle.p3_air.specs.Tree.{Tree, Bus, local, global}
+use Rattle.air_core.specs.declared.cells.Count.{Count}
+use Rattle.air_core.specs.Tree.{Tree, Bus, local, global}
 use Rattle.p3_lookup.specs.Lookup.{LookupData, HasCountForEach}
 use Rattle.p3_lookup.specs.Packing.{lookup_degree, merged, same_name, takes_in, with_lookup, packed_onto, packed, same_bus, sent_on, times_sent, SendTheSame}
 

@@ -7,12 +7,12 @@ use Rattle.p3_field.specs.Ring.{Ring, RingLaws}
 use Rattle.p3_field.specs.Field.{FieldLaws, RingHom}
 use Rattle.p3_matrix.specs.Matrix.{Rows, height, row_at}
 use Rattle.p3_matrix.specs.Laws.Transposed.{get_or-row_at}
-use Rattle.p3_air.specs.declared.cells.Cell.{Cell}
-use Rattle.p3_air.specs.declared.cells.Cell.TheVariants.{Main, Preprocessed, Periodic, Public, FirstRow, LastRow, Transition}
-use Rattle.p3_air.specs.declared.cells.ExtCell.{ExtCell}
-use Rattle.p3_air.specs.Shape.{Declares, IsSendable}
-use Rattle.p3_air.specs.RowCheck.{Row, cell_value, ext_cell_value}
-use Rattle.p3_air.specs.Check.{TableTraces, table_traces, table_row}
+use Rattle.air_core.specs.declared.cells.Cell.{Cell}
+use Rattle.air_core.specs.declared.cells.Cell.TheVariants.{Main, Preprocessed, Periodic, Public, FirstRow, LastRow, Transition}
+use Rattle.air_core.specs.declared.cells.ExtCell.{ExtCell}
+use Rattle.air_core.specs.Shape.{Declares, IsSendable}
+use Rattle.air_core.specs.RowCheck.{Row, cell_value, ext_cell_value}
+use Rattle.air_core.specs.Check.{TableTraces, table_traces, table_row}
 use Rattle.p3_lookup.specs.declared.terminal.LookupTerminal.{LookupTerminal}
 use Rattle.p3_lookup.specs.Lookup.{LookupData, IsLookup}
 use Rattle.p3_lookup.specs.Honest.{Argument, honest_cell}

@@ -1,7 +1,7 @@
 -- The places of lookups among all of a batch, and their buses.
 use Rattle.std.proofs.Common.{◌≡◌, ℕ, zero, suc, ◌+◌, ◌<◌, List, [], ◌∷◌, ◌++◌, length, get_or, map, refl, ◌∙◌, ap, arith}
 use Rattle.std.proofs.lemmas.List.{length-append, length-map, get_or_append_left, get_or-append-add, get_or-map}
-use Rattle.p3_air.specs.Tree.{local}
+use Rattle.air_core.specs.Tree.{local}
 use Rattle.p3_lookup.specs.Lookup.{LookupData}
 use Rattle.p3_lookup.specs.Bus.{batch_buses, lookups_before}
 

@@ -11,11 +11,11 @@ use Rattle.p3_field.specs.Poly.{eval_poly, total}
 use Rattle.p3_field.specs.Laws.Algebra.{mul_zero, zero_mul}
 use Rattle.p3_field.specs.Laws.Sums.{total_same}
 use Rattle.p3_field.specs.Laws.Tabulate.{total_more}
-use Rattle.p3_air.specs.declared.cells.Cell.{Cell}
-use Rattle.p3_air.specs.declared.cells.Cell.TheVariants.{FirstRow, LastRow, Transition}
-use Rattle.p3_air.specs.declared.cells.ExtCell.{ExtCell}
-use Rattle.p3_air.specs.declared.cells.ExtCell.TheVariants.{Permutation, Challenge, Terminal}
-use Rattle.p3_air.specs.Tree.{Tree, Reading, eval_tree}
+use Rattle.air_core.specs.declared.cells.Cell.{Cell}
+use Rattle.air_core.specs.declared.cells.Cell.TheVariants.{FirstRow, LastRow, Transition}
+use Rattle.air_core.specs.declared.cells.ExtCell.{ExtCell}
+use Rattle.air_core.specs.declared.cells.ExtCell.TheVariants.{Permutation, Challenge, Terminal}
+use Rattle.air_core.specs.Tree.{Tree, Reading, eval_tree}
 use Rattle.p3_lookup.specs.Lookup.{LookupData, Sent, map_sent, sent}
 use Rattle.p3_lookup.specs.Term.{Term, term, denominator, common, numerator, sum_of, fraction, HasInverses}
 use Rattle.p3_lookup.specs.Trees.{trees, base_tree, beta_tree, term_tree, fraction_tree, fraction_trees, sum_tree, first_tree, transition_tree, last_tree, running_trees, lookup_trees}

@@ -1,7 +1,9 @@
 -- Cells, rows and columns.
-use Rattle.std.proofs.Common.{◌≡◌, ℕ, zero, suc, ◌+◌, ◌*◌, ◌/◌, ◌%◌, ◌<◌, length, get_or, sym, ◌∙◌, ap, arith}
+use Rattle.std.proofs.Common.{◌≡◌, ℕ, zero, suc, ◌+◌, ◌*◌, ◌/◌, ◌%◌, ◌^◌, ◌<◌, inl, inr, length, get_or, sym, ◌∙◌, ap, arith}
+use Rattle.std.specs.Int.{IsPowerOfTwo}
+use Rattle.std.proofs.lemmas.Bool.{cases_eq}
 use Rattle.std.proofs.Math.Nat.{div-lt_iff_lt-mul}
-use Rattle.std.proofs.lemmas.Nat.{div-add-mod', mod_below}
+use Rattle.std.proofs.lemmas.Nat.{div-add-mod', mod_below, pow_pos}
 use Rattle.std.proofs.lemmas.List.{ext_get_or}
 use Rattle.p3_matrix.specs.Matrix.{Rows, FillsRows, height, cell_at, column}
 use Rattle.p3_field.specs.Laws.Tabulate.{length-tabulate, get_or-tabulate}
@@ -43,3 +45,15 @@ same_matrix {F} d m v fills filled width rows columns = λ i. record { values = 
 
     values : v.values ≡ m.values
     values = ext_get_or d v.values m.values count each
+
+by_zero : (n : ℕ) → n / 0 ≡ 0
+by_zero n = omega arith
+
+-- a matrix with rows has columns
+pub width_positive : {F : Type 0} (m : Rows F) → IsPowerOfTwo (height m) → 0 < m.width
+width_positive m p = elim (cases_eq m.width 0) [
+  | inl z ↦
+      let none : height m ≡ 0 = ap (λ w. length m.values / w) z ∙ by_zero (length m.values) in
+      absurd (let q : 0 < 2 ^ p.0 = pow_pos p.0 in omega (arith, none, p.1))
+  | inr d ↦ omega arith
+]

@@ -8,9 +8,9 @@ use Rattle.p3_field.specs.Poly.{eval_poly, DegreeBelow, IsZeroPoly, scale_poly}
 use Rattle.p3_field.specs.Laws.Algebra.{mul_zero}
 use Rattle.p3_field.specs.Laws.Coeffs.{degree_add, degree_scale}
 use Rattle.p3_field.specs.Laws.Values.{eval_add, eval_append, eval_scale}
-use Rattle.p3_air.specs.CellValues.{CellValues, reading_at, map_values, poly_reading}
-use Rattle.p3_air.specs.Laws.CellValues.{value_at_point}
-use Rattle.p3_air.specs.Tree.{Tree, eval_tree}
+use Rattle.air_core.specs.CellValues.{CellValues, reading_at, map_values, poly_reading}
+use Rattle.air_core.specs.Laws.CellValues.{value_at_point}
+use Rattle.air_core.specs.Tree.{Tree, eval_tree}
 use Rattle.p3_uni_stark.specs.Fold.{fold}
 use Rattle.p3_uni_stark.specs.FoldPolynomials.{fold_poly}
 

@@ -4,13 +4,13 @@ use Rattle.std.proofs.lemmas.List.{map-append}
 use Rattle.std.proofs.lemmas.Simd.{map-map}
 use Rattle.p3_field.specs.Ring.{Ring, RingLaws}
 use Rattle.p3_field.specs.Field.{RingHom}
-use Rattle.p3_air.specs.Tree.{Tree, Asserted, Reading, eval_tree, eval_asserted, over_base}
-use Rattle.p3_air.specs.declared.cells.Cell.{Cell}
-use Rattle.p3_air.specs.CellValues.{cell_in}
-use Rattle.p3_air.specs.Laws.CellValues.{cell_image}
-use Rattle.p3_air.specs.PointValues.{point_cell}
-use Rattle.p3_air.specs.Operation.{Operation, tree_by, value_by}
-use Rattle.p3_air.specs.Laws.Operation.{ReadsBy, value_by-tree, embedded-value_by}
+use Rattle.air_core.specs.Tree.{Tree, Asserted, Reading, eval_tree, eval_asserted, over_base}
+use Rattle.air_core.specs.declared.cells.Cell.{Cell}
+use Rattle.air_core.specs.CellValues.{cell_in}
+use Rattle.air_core.specs.Laws.CellValues.{cell_image}
+use Rattle.air_core.specs.PointValues.{point_cell}
+use Rattle.air_core.specs.Operation.{Operation, tree_by, value_by}
+use Rattle.air_core.specs.Laws.Operation.{ReadsBy, value_by-tree, embedded-value_by}
 use Rattle.p3_uni_stark.specs.Point.{PointValues, point_cells, point_shape, point_reading, embedded}
 use Rattle.p3_uni_stark.specs.Fold.{fold_from, Sum, weighed_from}
 use Rattle.p3_uni_stark.specs.Laws.Folds.{fold_after, weighed_after}

@@ -1,6 +1,6 @@
 -- Values folded one by one, and the fold of a list.
 use Rattle.std.proofs.Common.{◌≡◌, ℕ, zero, suc, ◌+◌, ◌-◌, List, [], ◌∷◌, ◌++◌, length, refl, sym, ◌∙◌, ap, arith}
-use Rattle.p3_air.specs.Layout.{folding_powers}
+use Rattle.air_core.specs.Layout.{folding_powers}
 use Rattle.p3_field.specs.Ring.{Ring, RingLaws, pow}
 use Rattle.p3_field.specs.Poly.{tabulate}
 use Rattle.p3_field.specs.Laws.Tabulate.{tabulate_same}

@@ -7,8 +7,8 @@ use Rattle.p3_field.specs.Ring.{Ring, RingLaws, pow, of_nat}
 use Rattle.p3_field.specs.Poly.{total as total_of}
 use Rattle.p3_field.specs.Laws.Algebra.{zero_add, zero_mul, one_mul, add_mul, of_nat_add}
 use Rattle.p3_field.specs.Laws.Sums.{total_same, total_zero, total_add, total_only}
-use Rattle.p3_air.specs.Layout.{place_count, folding_powers}
-use Rattle.p3_air.specs.Laws.Places.{listed_more}
+use Rattle.air_core.specs.Layout.{place_count, folding_powers}
+use Rattle.air_core.specs.Laws.Places.{listed_more}
 use Rattle.p3_uni_stark.specs.Fold.{fold, weighed}
 use Rattle.p3_uni_stark.specs.Kinds.{items_at, FoldsByKinds}
 

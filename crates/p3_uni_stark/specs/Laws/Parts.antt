@@ -8,9 +8,9 @@ use Rattle.p3_field.specs.Field.{TwoAdic, Extension, combine, FieldLaws, RingHom
 use Rattle.p3_field.specs.Domain.{CosetData, point}
 use Rattle.p3_field.specs.Laws.Interpolants.{points_apart}
 use Rattle.p3_matrix.specs.Laws.Powers.{power_cancel, power_le_cancel}
-use Rattle.p3_commit.specs.Space.{IsPart, EachOf}
-use Rattle.p3_commit.specs.Laws.Cosets.{points_of_part, point_not_zero}
-use Rattle.p3_commit.specs.Laws.Parts.{parts_apart}
+use Rattle.commit_core.specs.Space.{IsPart, EachOf}
+use Rattle.commit_core.specs.Laws.Cosets.{points_of_part, point_not_zero}
+use Rattle.commit_core.specs.Laws.Parts.{parts_apart}
 use Rattle.p3_uni_stark.specs.Recombine.{domain_at, AllDisjoint, recombined}
 use Rattle.p3_uni_stark.specs.Laws.Weights.{recombined_at_own}
 

@@ -2,7 +2,7 @@
 use Rattle.std.proofs.Common.{◌≡◌, [], ◌∷◌, map, sym, ap}
 use Rattle.std.proofs.lemmas.List.{map-id}
 use Rattle.p3_field.specs.Ring.{Ring}
-use Rattle.p3_air.specs.CellValues.{reading_at, map_values}
+use Rattle.air_core.specs.CellValues.{reading_at, map_values}
 use Rattle.p3_uni_stark.specs.Point.{PointValues, point_cells, point_reading, embedded}
 
 -- values over the base field are those over the extension, mapped

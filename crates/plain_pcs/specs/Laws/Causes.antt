@@ -3,7 +3,7 @@ use Rattle.std.proofs.Common.{◌≡◌, ℕ, List, sym, ◌∙◌, ap}
 use Rattle.p3_field.specs.Domain.{CosetData}
 use Rattle.p3_field.specs.Laws.Checks.{same_failing}
 use Rattle.p3_matrix.specs.Matrix.{Rows}
-use Rattle.p3_commit.specs.Claims.{Request}
+use Rattle.commit_core.specs.Claims.{Request}
 use Rattle.plain_pcs.specs.Scheme.{Scheme}
 use Rattle.plain_pcs.specs.Refusals.{CommitFault, ExtensionsFault, QuotientFault, OpenFault}
 use Rattle.plain_pcs.specs.declared.error.PlainProverError.{PlainProverError}

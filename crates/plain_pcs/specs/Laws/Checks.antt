@@ -5,8 +5,8 @@ use Rattle.p3_field.specs.Checks.{AreSingle, in_turn, of_items}
 use Rattle.p3_field.specs.Laws.Checks.{none_first, some_first, same_first, none_single, check_single, single_append, single_in_turn, single_of_items}
 use Rattle.p3_field.specs.Domain.{CosetData}
 use Rattle.p3_matrix.specs.Matrix.{Rows}
-use Rattle.p3_commit.specs.Claims.{PointClaim, MatrixClaim, CommitmentClaim}
-use Rattle.p3_commit.specs.Failure.{NoneOf, FaultUnless}
+use Rattle.commit_core.specs.Claims.{PointClaim, MatrixClaim, CommitmentClaim}
+use Rattle.commit_core.specs.Failure.{NoneOf, FaultUnless}
 use Rattle.plain_pcs.specs.Scheme.{Scheme, PlainCommitmentData}
 use Rattle.plain_pcs.specs.Checks.{HasDimensions, degree_check, value_check, point_checks, matrix_checks, round_checks, opening_claim_checks, Opens, Fault}
 use Rattle.plain_pcs.specs.declared.error.PlainError.{PlainError}

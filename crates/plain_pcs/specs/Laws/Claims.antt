@@ -4,7 +4,7 @@ use Rattle.std.proofs.lemmas.List.{length-map, get_or_default, ext_get_or}
 use Rattle.p3_field.specs.Ring.{Ring}
 use Rattle.p3_field.specs.Checks.{Check, check, NoneFails, in_turn, AreSingle}
 use Rattle.p3_field.specs.Laws.Checks.{none_first, some_first, same_first, same_failing, refusal_later, none_append, none_before, none_after, none_alone, holds_alone, none_at, none_by, none_single, check_single, single_append, single_in_turn}
-use Rattle.p3_commit.specs.Failure.{FaultUnless}
+use Rattle.commit_core.specs.Failure.{FaultUnless}
 use Rattle.plain_pcs.specs.Multilinear.{multilinear_value}
 use Rattle.plain_pcs.specs.PlainMultilinear.{HasValues, HaveCoordinates, AreValuesAt, multilinear_values_at, point_check, multilinear_value_check, multilinear_claim_checks, IsClaimFault, IsCommitFault, IsOpenFault}
 use Rattle.plain_pcs.specs.declared.plain_multilinear.PlainMultilinearError.{PlainMultilinearError}

@@ -12,7 +12,7 @@ use Rattle.p3_field.specs.Laws.Tabulate.{length-tabulate, get_or-tabulate}
 use Rattle.p3_matrix.specs.Matrix.{Rows, FillsRows, height, column}
 use Rattle.p3_matrix.specs.Laws.Cells.{length-column}
 use Rattle.p3_dft.specs.Transform.{values_at, IsExtensionOf}
-use Rattle.p3_commit.specs.Commitments.{AreExtensions}
+use Rattle.commit_core.specs.Commitments.{AreExtensions}
 use Rattle.plain_pcs.specs.Scheme.{Scheme}
 use Rattle.plain_pcs.specs.Extension.{columns, interpolant, extended_domain, extension_of, IsCommittable, Extends}
 use Rattle.plain_pcs.specs.Refusals.{HasSubgroupHeight}

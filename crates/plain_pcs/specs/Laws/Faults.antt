@@ -4,9 +4,9 @@ use Rattle.p3_field.specs.Checks.{check, NoneFails, AreSingle}
 use Rattle.p3_field.specs.Laws.Checks.{none_first, some_first, same_first, none_single, check_single}
 use Rattle.p3_matrix.specs.Matrix.{Rows}
 use Rattle.p3_matrix.specs.declared.dense.Dimensions.{Dimensions as Size}
-use Rattle.p3_commit.specs.Periodic.{EachFrom}
-use Rattle.p3_commit.specs.Batches.{IsRowOf}
-use Rattle.p3_commit.specs.Failure.{FaultUnless}
+use Rattle.commit_core.specs.Periodic.{EachFrom}
+use Rattle.commit_rows.specs.Batches.{IsRowOf}
+use Rattle.commit_core.specs.Failure.{FaultUnless}
 use Rattle.plain_pcs.specs.PlainMmcs.{row_opening_checks, HasOpeningShape, HaveOpeningShapes, AreTheRows, IsRowOpening, IsOpeningFault, AreRowOpenings, IsFaultOfOpenings}
 use Rattle.plain_pcs.specs.declared.plain_mmcs.PlainMmcsError.{PlainMmcsError}
 use Rattle.plain_pcs.specs.declared.plain_mmcs.PlainMmcsError.TheVariants.{Dimensions, Index, Value}

@@ -11,9 +11,9 @@ use Rattle.p3_field.specs.Domain.{CosetData, point, IsInterpolant}
 use Rattle.p3_matrix.specs.Matrix.{Rows, height, column}
 use Rattle.p3_matrix.specs.Laws.Powers.{power_cancel}
 use Rattle.p3_dft.specs.Transform.{values_at}
-use Rattle.p3_commit.specs.Claims.{PointClaim, MatrixClaim, CommitmentClaim, Request}
-use Rattle.p3_commit.specs.Commitments.{Committed, OpenedCommitment, AreOpenedCommitments, AreClaims, IsMatrixClaim, IsRoundClaim, values_of}
-use Rattle.p3_commit.specs.Laws.Pairs.{length-zip, slice_get-zip}
+use Rattle.commit_core.specs.Claims.{PointClaim, MatrixClaim, CommitmentClaim, Request}
+use Rattle.commit_core.specs.Commitments.{Committed, OpenedCommitment, AreOpenedCommitments, AreClaims, IsMatrixClaim, IsRoundClaim, values_of}
+use Rattle.commit_core.specs.Laws.Pairs.{length-zip, slice_get-zip}
 use Rattle.plain_pcs.specs.Scheme.{Scheme, PlainCommitmentData}
 use Rattle.plain_pcs.specs.Extension.{extended_domain}
 use Rattle.p3_field.specs.Checks.{check, NoneFails, in_turn, of_items}

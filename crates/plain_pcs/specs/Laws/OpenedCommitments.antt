@@ -5,9 +5,9 @@ use Rattle.std.proofs.lemmas.Nat.{pow_pos, pow-add}
 use Rattle.std.proofs.lemmas.Option.{slice_get_within}
 use Rattle.p3_field.specs.Domain.{CosetData}
 use Rattle.p3_matrix.specs.Matrix.{Rows}
-use Rattle.p3_commit.specs.Claims.{Request}
-use Rattle.p3_commit.specs.Commitments.{Committed, OpenedCommitment, AreOpenedCommitments, HavePoints}
-use Rattle.p3_commit.specs.Periodic.{EachFrom}
+use Rattle.commit_core.specs.Claims.{Request}
+use Rattle.commit_core.specs.Commitments.{Committed, OpenedCommitment, AreOpenedCommitments, HavePoints}
+use Rattle.commit_core.specs.Periodic.{EachFrom}
 use Rattle.plain_pcs.specs.Scheme.{Scheme, PlainCommitmentData}
 use Rattle.plain_pcs.specs.Laws.Scheme.{held_count}
 use Rattle.plain_pcs.specs.Holding.{IsHolding, AreHolding}

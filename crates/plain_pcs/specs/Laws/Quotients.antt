@@ -10,11 +10,11 @@ use Rattle.p3_field.specs.Field.{FieldLaws, TwoAdicLaws}
 use Rattle.p3_field.specs.Domain.{CosetData}
 use Rattle.p3_matrix.specs.Matrix.{Rows, height}
 use Rattle.p3_matrix.specs.Laws.Powers.{power_le_cancel}
-use Rattle.p3_commit.specs.Space.{IsPart}
-use Rattle.p3_commit.specs.Commitments.{AreParts, AreExtensions}
-use Rattle.p3_commit.specs.Failure.{NoneOf, FaultInTurn, NoneInTurn}
-use Rattle.p3_commit.specs.Laws.Codes.{width_positive}
-use Rattle.p3_commit.specs.Laws.FlatBatches.{product_cancel}
+use Rattle.commit_core.specs.Space.{IsPart}
+use Rattle.commit_core.specs.Commitments.{AreParts, AreExtensions}
+use Rattle.commit_core.specs.Failure.{NoneOf, FaultInTurn, NoneInTurn}
+use Rattle.p3_matrix.specs.Laws.Cells.{width_positive}
+use Rattle.commit_rows.specs.Laws.FlatBatches.{product_cancel}
 use Rattle.plain_pcs.specs.Scheme.{Scheme}
 use Rattle.plain_pcs.specs.Extension.{IsCommittable, Extends}
 use Rattle.p3_field.specs.Checks.{IsFirstWithout}

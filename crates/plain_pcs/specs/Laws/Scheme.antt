@@ -7,7 +7,7 @@ use Rattle.p3_field.specs.Ring.{Ring, RingLaws, pow}
 use Rattle.p3_field.specs.Domain.{CosetData, point}
 use Rattle.p3_matrix.specs.Matrix.{Rows}
 use Rattle.p3_matrix.specs.Laws.Powers.{power_le_cancel}
-use Rattle.p3_commit.specs.Commitments.{Committed, IsSubgroup}
+use Rattle.commit_core.specs.Commitments.{Committed, IsSubgroup}
 use Rattle.plain_pcs.specs.Scheme.{Scheme, PlainCommitmentData}
 use Rattle.plain_pcs.specs.Holding.{AreHolding}
 

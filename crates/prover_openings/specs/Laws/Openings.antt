@@ -2,11 +2,11 @@
 use Rattle.std.proofs.Common.{List, inl, inr}
 use Rattle.p3_field.specs.Checks.{FirstFails, NoneFails}
 use Rattle.p3_field.specs.Laws.Checks.{holds_alone, none_alone}
-use Rattle.p3_commit.specs.Claims.{Request}
-use Rattle.batch_proving.specs.Backend.{ProverBackend}
-use Rattle.batch_proving.specs.Batch.{Batch}
-use Rattle.batch_proving.specs.Proving.{AreAsked, IsGroundOf, IsPcsRefusal, opening_part}
-use Rattle.batch_proving.specs.declared.error.ProvingError.{ProvingError}
+use Rattle.commit_core.specs.Claims.{Request}
+use Rattle.prover_answer.specs.Backend.{ProverBackend}
+use Rattle.prover_answer.specs.Batch.{Batch}
+use Rattle.prover_answer.specs.Proving.{AreAsked, IsGroundOf, IsPcsRefusal, opening_part}
+use Rattle.prover_answer.specs.declared.error.ProvingError.{ProvingError}
 use Rattle.batch_setup.specs.declared.error.ProverPhase.TheVariants.{Opening}
 use Rattle.prover_openings.specs.Asked.{RoundsProverData, asked_of}
 use Rattle.prover_openings.specs.Check.{opening_request_checks}

@@ -1,6 +1,6 @@
 -- The prover data of a commitment that may be absent.
 use Rattle.std.specs.Prelude.{List, [], ◌∷◌, Option, None, Some, option_map}
-use Rattle.batch_proving.specs.Batch.{CommitsToSome}
+use Rattle.prover_answer.specs.Batch.{CommitsToSome}
 use Rattle.prover_quotients.specs.Tables.{HasProverDataOfSome}
 
 -- the prover data beside a commitment to some matrices is kept of them

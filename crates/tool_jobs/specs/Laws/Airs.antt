@@ -1,15 +1,15 @@
 -- An AIR that declares what a job's table declares is the one that the program makes for it.
 use Rattle.std.proofs.Common.{◌≡◌, ℕ, ◌^◌, List, [], ◌∷◌, length, map, Option, None, Some, sym, ◌∙◌, ap, arith}
-use Rattle.p3_air.specs.Shape.{Declaration}
+use Rattle.air_core.specs.Shape.{Declaration}
 use Rattle.p3_field.specs.Laws.Tabulate.{length-tabulate}
 use Rattle.p3_field.specs.Ring.{Ring}
 use Rattle.p3_matrix.specs.Laws.Powers.{power_cancel}
 use Rattle.p3_matrix.specs.Matrix.{Rows}
 use Rattle.tool_tables.specs.Tool.{tool_declaration, tool_interactions, tool_trees}
-use Rattle.tool_tables.specs.Wheel.{number_in, numbers_to, wheel_declaration, wheel_over}
+use Rattle.air_tables.specs.Wheel.{number_in, numbers_to, wheel_declaration, wheel_over}
 use Rattle.tool_tables.specs.declared.tool.ToolAir.{ToolAir}
 use Rattle.tool_tables.specs.declared.tool.ToolAir.TheVariants.{Swap, Wheel, Take, Give, Hash}
-use Rattle.tool_validity.specs.Job.{AreAirsOf, IsAirOf, JobTable, swap_of, wheel_of, take_of, give_of, hash_of, source_of_job}
+use Rattle.law_tool_valid.specs.Job.{AreAirsOf, IsAirOf, JobTable, swap_of, wheel_of, take_of, give_of, hash_of, source_of_job}
 use Rattle.batch_setup.specs.Packed.{Source, source_of}
 
 -- whether there is a preprocessed trace, and how many values it has

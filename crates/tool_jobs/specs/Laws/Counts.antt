@@ -1,8 +1,8 @@
 -- Lists whose number of items is a power of two: their limits and their grammar.
 use Rattle.std.specs.Int.{IsPowerOfTwo}
 use Rattle.std.proofs.Common.{ℕ, ◌<◌, ◌≤◌, ◌^◌, List, ◌∷◌, length, All, refl, sym, ap, subst, arith}
-use Rattle.line_format.specs.Texts.{Grammar, ItemsWithin, items_numbers, list_numbers, one_number}
-use Rattle.line_format.specs.Laws.Grammars.{PairWithin, SameTexts, head-same, items-grammar, pair-grammar, pair_numbers, same-grammar, small-one, tail-same}
+use Rattle.tool_lines.specs.Texts.{Grammar, ItemsWithin, items_numbers, list_numbers, one_number}
+use Rattle.tool_lines.specs.Laws.Grammars.{PairWithin, SameTexts, head-same, items-grammar, pair-grammar, pair_numbers, same-grammar, small-one, tail-same}
 
 -- a power of two up to `most`
 abbrev pub IsCount : ℕ → ℕ → Type 0

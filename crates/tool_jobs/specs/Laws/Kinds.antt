@@ -1,9 +1,9 @@
 -- The words of a table after its kind tell the table, kind by kind.
 use Rattle.std.proofs.Common.{◌≡◌, ℕ, zero, suc, ◌≤◌, List, [], ◌∷◌, refl, arith}
 use Rattle.p3_field.specs.declared.baby_bear.BabyBear.{BabyBear}
-use Rattle.line_format.specs.Texts.{Between, Grammar, ItemsWithin, Unlimited, element_numbers, items_numbers, list_numbers, one_number}
-use Rattle.line_format.specs.Laws.Grammars.{SameTexts, ThenWithin, TwoWithin, element-grammar, items-grammar, number-grammar, pair_numbers, same-grammar, then-grammar, two-grammar, two_numbers}
-use Rattle.tool_validity.specs.Job.{IsHashRow, IsJobTableWithin, JobTable, swap_of, wheel_of, take_of, give_of, hash_of}
+use Rattle.tool_lines.specs.Texts.{Between, Grammar, ItemsWithin, Unlimited, element_numbers, items_numbers, list_numbers, one_number}
+use Rattle.tool_lines.specs.Laws.Grammars.{SameTexts, ThenWithin, TwoWithin, element-grammar, items-grammar, number-grammar, pair_numbers, same-grammar, then-grammar, two-grammar, two_numbers}
+use Rattle.law_tool_valid.specs.Job.{IsHashRow, IsJobTableWithin, JobTable, swap_of, wheel_of, take_of, give_of, hash_of}
 use Rattle.tool_jobs.specs.Jobs.{given_numbers, row_numbers}
 use Rattle.tool_jobs.specs.Laws.Counts.{PowersWithin, powers-grammar}
 

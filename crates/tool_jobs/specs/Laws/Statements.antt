@@ -8,8 +8,8 @@ use Rattle.p3_matrix.specs.Laws.Powers.{power_le_cancel}
 use Rattle.batch_setup.specs.Laws.Logarithms.{log_of_power}
 use Rattle.batch_setup.specs.Setup.{log_of}
 use Rattle.tool_statement.specs.StatedTables.{TableWithin, log_height_of, log_heights_of, publics_lists, publics_of, source_of_table, sources_of}
-use Rattle.tool_validity.specs.Job.{IsJobTableWithin, JobTable, swap_of, wheel_of, take_of, give_of, hash_of, source_of_job}
-use Rattle.tool_validity.specs.Job.{job_log_height_of as rows_log_of, job_publics_of as table_publics}
+use Rattle.law_tool_valid.specs.Job.{IsJobTableWithin, JobTable, swap_of, wheel_of, take_of, give_of, hash_of, source_of_job}
+use Rattle.law_tool_valid.specs.Job.{job_log_height_of as rows_log_of, job_publics_of as table_publics}
 use Rattle.tool_jobs.specs.Stated.{statement_of, statements_for}
 
 -- a power of two up to 2^most has a logarithm up to `most`

@@ -1,9 +1,9 @@
 -- The words of a table tell the table, and those of a job the job.
 use Rattle.std.proofs.Common.{◌≡◌, ℕ, List, ◌∷◌, refl, arith}
 use Rattle.p3_field.specs.declared.baby_bear.BabyBear.{BabyBear}
-use Rattle.line_format.specs.Texts.{Between, Grammar, one_number}
-use Rattle.line_format.specs.Laws.Grammars.{PairWithin, SameTexts, list-grammar, number-grammar, pair-grammar, pair_numbers, same-grammar}
-use Rattle.tool_validity.specs.Job.{IsJobTableWithin, JobTable, swap_of, wheel_of, take_of, give_of, hash_of}
+use Rattle.tool_lines.specs.Texts.{Between, Grammar, one_number}
+use Rattle.tool_lines.specs.Laws.Grammars.{PairWithin, SameTexts, list-grammar, number-grammar, pair-grammar, pair_numbers, same-grammar}
+use Rattle.law_tool_valid.specs.Job.{IsJobTableWithin, JobTable, swap_of, wheel_of, take_of, give_of, hash_of}
 use Rattle.tool_jobs.specs.Jobs.{JobWithin, job_numbers, table_numbers}
 use Rattle.tool_jobs.specs.Laws.Kinds.{KindWithin, body_numbers, kind-grammar, kind_of}
 

@@ -3,15 +3,15 @@ use Rattle.std.proofs.Common.{◌≡◌, ◌↔◌, ℕ, cond, List, length, get
 use Rattle.std.specs.Prelude.{All}
 use Rattle.std.proofs.lemmas.List.{get_or_default, length-map}
 use Rattle.p3_field.specs.declared.baby_bear.BabyBear.{BabyBear}
-use Rattle.batch_setting.specs.Setting.{masks}
-use Rattle.batch_validity.specs.Traced.{log_rows}
-use Rattle.batch_proving.specs.Batch.{table_at}
-use Rattle.proof_text.specs.ProofText.{ToolProofData}
+use Rattle.batch_config.specs.Setting.{masks}
+use Rattle.law_valid.specs.Traced.{log_rows}
+use Rattle.prover_answer.specs.Batch.{table_at}
+use Rattle.tool_proof_text.specs.ProofText.{ToolProofData}
 use Rattle.tool_jobs.specs.Laws.Statements.{statements-heights}
 use Rattle.tool_jobs.specs.Stated.{statement_of}
 use Rattle.tool_statement.specs.Config.{tool_setting}
 use Rattle.tool_statement.specs.StatedTables.{log_heights_of}
-use Rattle.tool_validity.specs.Job.{JobTable, job_log_height_of}
+use Rattle.law_tool_valid.specs.Job.{JobTable, job_log_height_of}
 use Rattle.tool_prover.specs.JobAnswer.{DrawsOutside, drawn_point}
 use Rattle.tool_prover.specs.JobBatch.{job_batch}
 use Rattle.tool_prover.specs.Outside.{AvoidsRows}

@@ -12,27 +12,27 @@ use Rattle.p3_field.specs.Poly.{tabulate}
 use Rattle.p3_field.specs.declared.baby_bear.BabyBear.{BabyBear}
 use Rattle.p3_field.specs.declared.quartic.QuarticExtension.{QuarticExtension}
 use Rattle.p3_matrix.specs.Matrix.{Rows, height}
-use Rattle.p3_air.specs.Laws.Lists.{all_tabulate}
-use Rattle.line_format.specs.Texts.{Small, element_numbers, extension_numbers, line_text, list_numbers, one_number, option_numbers}
-use Rattle.proof_text.specs.Matrices.{matrix_numbers}
-use Rattle.proof_text.specs.Openings.{instance_numbers}
-use Rattle.proof_text.specs.ProofText.{ToolProofData, commitment_numbers, commitments_numbers, proof_numbers}
+use Rattle.air_core.specs.Laws.Lists.{all_tabulate}
+use Rattle.tool_lines.specs.Texts.{Small, element_numbers, extension_numbers, line_text, list_numbers, one_number, option_numbers}
+use Rattle.tool_proof_text.specs.Matrices.{matrix_numbers}
+use Rattle.tool_proof_text.specs.Openings.{instance_numbers}
+use Rattle.tool_proof_text.specs.ProofText.{ToolProofData, commitment_numbers, commitments_numbers, proof_numbers}
 use Rattle.plain_pcs.specs.Extension.{IsCommittable, commitment_of, extended_domain, extension_of}
 use Rattle.plain_pcs.specs.Laws.Evaluations.{evaluations-fill}
 use Rattle.plain_pcs.specs.Laws.Extensions.{height-extension, length-polynomials, polynomials, width-extension}
 use Rattle.plain_pcs.specs.Laws.OpenedCommitments.{power_within}
 use Rattle.plain_pcs.specs.declared.commitment.PlainProof.{PlainProof}
 use Rattle.batch_setup.specs.Setup.{log_of}
-use Rattle.batch_validity.specs.Traced.{TracedTable}
-use Rattle.committed_tables.specs.Laws.Degrees.{all_images}
-use Rattle.honest_proofs.specs.HonestProof.{IsBuilt, alpha, challenges_at, committed_where, honest_proof, honest_terminal, opened_of, zeta}
+use Rattle.law_valid.specs.Traced.{TracedTable}
+use Rattle.law_committed.specs.Laws.Degrees.{all_images}
+use Rattle.law_honest.specs.HonestProof.{IsBuilt, alpha, challenges_at, committed_where, honest_proof, honest_terminal, opened_of, zeta}
 use Rattle.tool_statement.specs.Config.{tool_scheme, tool_setting}
 use Rattle.tool_statement.specs.declared.table.TableStatement.{TableStatement}
 use Rattle.tool_statement.specs.declared.table.TableStatement.TheVariants.{Swap, Wheel, Take, Give, Hash}
-use Rattle.tool_validity.specs.Job.{IsJobTableWithin, JobTable, swap_of, wheel_of, take_of, give_of, hash_of, job_log_height_of, trace_of}
-use Rattle.batch_proving.specs.Batch.{all_chunks, all_permutations, main_matrices, table_at, table_count}
-use Rattle.proof_files.specs.Files.{FileData, file_numbers, statement_numbers}
-use Rattle.proof_files.specs.Laws.Files.{file-grammar}
+use Rattle.law_tool_valid.specs.Job.{IsJobTableWithin, JobTable, swap_of, wheel_of, take_of, give_of, hash_of, job_log_height_of, trace_of}
+use Rattle.prover_answer.specs.Batch.{all_chunks, all_permutations, main_matrices, table_at, table_count}
+use Rattle.tool_proof_files.specs.Files.{FileData, file_numbers, statement_numbers}
+use Rattle.tool_proof_files.specs.Laws.Files.{file-grammar}
 use Rattle.tool_jobs.specs.Jobs.{JobWithin}
 use Rattle.tool_jobs.specs.Laws.Statements.{few_log_of}
 use Rattle.tool_jobs.specs.Stated.{statement_of}

@@ -10,9 +10,9 @@ use Rattle.p3_field.specs.Field.{FieldLaws, TwoAdicLaws}
 use Rattle.p3_field.specs.Laws.SubgroupSelectors.{map_tabulate, subgroup}
 use Rattle.p3_field.specs.Ring.{RingLaws}
 use Rattle.p3_matrix.specs.Matrix.{Rows}
-use Rattle.p3_air.specs.Laws.Lists.{all_tabulate}
-use Rattle.p3_commit.specs.Claims.{Request}
-use Rattle.p3_commit.specs.Commitments.{OpenedCommitment}
+use Rattle.air_core.specs.Laws.Lists.{all_tabulate}
+use Rattle.commit_core.specs.Claims.{Request}
+use Rattle.commit_core.specs.Commitments.{OpenedCommitment}
 use Rattle.p3_lookup.specs.Bound.{HaveLoadsBelow}
 use Rattle.plain_pcs.specs.Extension.{IsCommittable}
 use Rattle.plain_pcs.specs.Laws.Extensions.{extended_height}
@@ -23,21 +23,21 @@ use Rattle.plain_pcs.specs.Scheme.{PlainCommitmentData, Scheme}
 use Rattle.plain_pcs.specs.declared.commitment.PlainProof.{PlainProof}
 use Rattle.plain_pcs.specs.declared.error.PlainProverError.{PlainProverError}
 use Rattle.plain_pcs.specs.declared.error.PlainProverError.TheVariants.{Commit, Open}
-use Rattle.batch_setting.specs.Setting.{masks}
+use Rattle.batch_config.specs.Setting.{masks}
 use Rattle.batch_setup.specs.declared.error.ProverPhase.{ProverPhase}
 use Rattle.batch_setup.specs.declared.error.ProverPhase.TheVariants.{PreprocessingCommitment, TraceCommitment, PermutationCommitment, QuotientEvaluations, QuotientCommitment, Opening}
-use Rattle.batch_shape_checks.specs.ShapeChecks.{heights_of}
-use Rattle.batch_validity.specs.Traced.{TracedTable, declared}
-use Rattle.batch_validity.specs.Valid.{IsTraced}
-use Rattle.batch_proving.specs.Backend.{ProverBackend}
-use Rattle.batch_proving.specs.Batch.{Batch, all_chunks, all_permutations, chunks_of, main_matrices, table_at, table_count}
-use Rattle.batch_proving.specs.PlainBackend.{plain_prover_backend}
-use Rattle.batch_proving.specs.Proving.{AreAsked, fault_of_some}
-use Rattle.batch_proving.specs.Telling.{IsOverloaded, PhaseTells}
-use Rattle.committed_tables.specs.Fields.{FieldsLaws}
-use Rattle.honest_acceptance.specs.Rounds.{OpenedMatrix, Round, committed_of, honest_rounds}
-use Rattle.honest_proofs.specs.HonestProof.{alpha, challenges_at}
-use Rattle.plain_soundness.specs.PlainSetting.{plain_scheme}
+use Rattle.verifier_shape.specs.ShapeChecks.{heights_of}
+use Rattle.law_valid.specs.Traced.{TracedTable, declared}
+use Rattle.law_valid.specs.Valid.{IsTraced}
+use Rattle.prover_answer.specs.Backend.{ProverBackend}
+use Rattle.prover_answer.specs.Batch.{Batch, all_chunks, all_permutations, chunks_of, main_matrices, table_at, table_count}
+use Rattle.prover_answer.specs.PlainBackend.{plain_prover_backend}
+use Rattle.prover_answer.specs.Proving.{AreAsked, fault_of_some}
+use Rattle.prover_answer.specs.Telling.{IsOverloaded, PhaseTells}
+use Rattle.law_committed.specs.Fields.{FieldsLaws}
+use Rattle.law_acceptance.specs.Rounds.{OpenedMatrix, Round, committed_of, honest_rounds}
+use Rattle.law_honest.specs.HonestProof.{alpha, challenges_at}
+use Rattle.law_soundness.specs.PlainSetting.{plain_scheme}
 use Rattle.tool_prover.specs.Laws.Sized.{IsSized, all_flat, chunks_sized, main_sized, permutations_sized}
 
 -- no item is the first that lacks what all have

@@ -9,25 +9,25 @@ use Rattle.p3_field.specs.Poly.{tabulate}
 use Rattle.p3_field.specs.Quartic.{quartic_inv}
 use Rattle.p3_field.specs.declared.baby_bear.BabyBear.{BabyBear}
 use Rattle.p3_challenger.specs.Sha256Functions.{sha256_functions}
-use Rattle.p3_air.specs.Shape.{width_of}
+use Rattle.air_core.specs.Shape.{width_of}
 use Rattle.plain_pcs.specs.Observing.{commitment_elements}
-use Rattle.batch_setting.specs.Setting.{masks}
+use Rattle.batch_config.specs.Setting.{masks}
 use Rattle.batch_setup.specs.Packed.{Source, no_source, packed_at, packed_lookups}
-use Rattle.batch_shape_checks.specs.ShapeChecks.{no_table}
+use Rattle.verifier_shape.specs.ShapeChecks.{no_table}
 use Rattle.batch_statement.specs.Statement.{AirTable}
-use Rattle.batch_validity.specs.Traced.{TracedTable, declared, log_parts, log_rows, no_rows}
-use Rattle.batch_validity.specs.Valid.{HasQuotientDomain, IsTraced}
+use Rattle.law_valid.specs.Traced.{TracedTable, declared, log_parts, log_rows, no_rows}
+use Rattle.law_valid.specs.Valid.{HasQuotientDomain, IsTraced}
 use Rattle.tool_statement.specs.Config.{tool_setting}
 use Rattle.tool_statement.specs.StatedTables.{log_heights_of, air_table_of, tool_common}
 use Rattle.tool_statement.specs.declared.table.TableStatement.{TableStatement}
-use Rattle.tool_validity.specs.Job.{IsJobTableWithin, JobTable, swap_of, wheel_of, take_of, give_of, hash_of, job_table, job_log_height_of, source_of_job, trace_of, traced_job}
-use Rattle.tool_validity.specs.Job.{job_publics_of as table_publics}
-use Rattle.tool_validity.specs.Laws.BabyBear.{baby_bear_serves}
-use Rattle.tool_validity.specs.Laws.Fits.{job_chunks}
-use Rattle.tool_validity.specs.Laws.Messages.{own_lookups}
-use Rattle.tool_validity.specs.Laws.Tables.{job_domain, job_traced, small_height}
-use Rattle.tool_validity.specs.Serves.{ServesJobs}
-use Rattle.batch_proving.specs.Batch.{table_at, table_count}
+use Rattle.law_tool_valid.specs.Job.{IsJobTableWithin, JobTable, swap_of, wheel_of, take_of, give_of, hash_of, job_table, job_log_height_of, source_of_job, trace_of, traced_job}
+use Rattle.law_tool_valid.specs.Job.{job_publics_of as table_publics}
+use Rattle.law_tool_valid.specs.Laws.BabyBear.{baby_bear_serves}
+use Rattle.law_tool_valid.specs.Laws.Fits.{job_chunks}
+use Rattle.law_tool_valid.specs.Laws.Messages.{own_lookups}
+use Rattle.law_tool_valid.specs.Laws.Tables.{job_domain, job_traced, small_height}
+use Rattle.law_tool_valid.specs.Serves.{ServesJobs}
+use Rattle.prover_answer.specs.Batch.{table_at, table_count}
 use Rattle.tool_prover.specs.JobBatch.{job_batch}
 use Rattle.tool_jobs.specs.Stated.{statement_of}
 use Rattle.tool_jobs.specs.Laws.Statements.{statements-publics, statements-sources}

@@ -4,7 +4,7 @@ use Rattle.std.specs.Prelude.{All, decimal, flat_map}
 use Rattle.std.proofs.Math.Nat.{mul-le-mul_right}
 use Rattle.std.proofs.lemmas.Fmt.{length-decimal-le}
 use Rattle.std.proofs.lemmas.List.Elements.{All-head, All-tail}
-use Rattle.line_format.specs.Texts.{Small, items_numbers, line_text, list_numbers}
+use Rattle.tool_lines.specs.Texts.{Small, items_numbers, line_text, list_numbers}
 
 -- numbers of at most 64 bits have at most 20 digits
 pub text_short : (ns : List ℕ) → Small ns → length (line_text ns) ≤ 21 * length ns

@@ -4,15 +4,15 @@ use Rattle.std.proofs.lemmas.Bool.{cases_lt}
 use Rattle.p3_field.specs.BabyBear.{baby_bear_ring}
 use Rattle.p3_field.specs.Laws.BabyBearField.{baby_bear_of_canonical}
 use Rattle.p3_field.specs.declared.baby_bear.BabyBear.{BabyBear}
-use Rattle.line_format.specs.Texts.{line_text}
-use Rattle.proof_files.specs.Files.{file_numbers}
-use Rattle.proof_text.specs.ProofText.{ToolProofData}
-use Rattle.honest_proofs.specs.HonestProof.{AreCanonical, IsDenominatorZero, LacksLookupGround, LacksOodGround}
-use Rattle.honest_proofs.specs.Laws.Events.{lookup_alone, one_place, zero_alone}
-use Rattle.honest_proofs.specs.Laws.Ground.{denominator_event, lookup_event, one_built, ood_event}
+use Rattle.tool_lines.specs.Texts.{line_text}
+use Rattle.tool_proof_files.specs.Files.{file_numbers}
+use Rattle.tool_proof_text.specs.ProofText.{ToolProofData}
+use Rattle.law_honest.specs.HonestProof.{AreCanonical, IsDenominatorZero, LacksLookupGround, LacksOodGround}
+use Rattle.law_honest.specs.Laws.Events.{lookup_alone, one_place, zero_alone}
+use Rattle.law_honest.specs.Laws.Ground.{denominator_event, lookup_event, one_built, ood_event}
 use Rattle.tool_statement.specs.Config.{tool_setting}
 use Rattle.tool_jobs.specs.Unbalanced.{IsFirstUnbalanced, same_word}
-use Rattle.tool_validity.specs.Job.{IsBalancedJob, JobTable}
+use Rattle.law_tool_valid.specs.Job.{IsBalancedJob, JobTable}
 use Rattle.tool_verifier.specs.FileAnswer.{SameAnswer}
 use Rattle.tool_verifier.specs.Refusals.{refused_text}
 use Rattle.tool_verifier.specs.declared.status.Status.{Status}

@@ -6,22 +6,22 @@ use Rattle.p3_field.specs.Laws.Tabulate.{length-tabulate}
 use Rattle.p3_field.specs.Poly.{tabulate, eval_poly_in}
 use Rattle.p3_field.specs.declared.quartic.QuarticExtension.{QuarticExtension}
 use Rattle.p3_matrix.specs.Matrix.{Rows}
-use Rattle.p3_air.specs.Shape.{width_of}
-use Rattle.line_format.specs.Texts.{ListWithin, OptionWithin}
-use Rattle.proof_text.specs.Openings.{InstanceWithin, PreprocessedWithin, ValuesWithin}
+use Rattle.air_core.specs.Shape.{width_of}
+use Rattle.tool_lines.specs.Texts.{ListWithin, OptionWithin}
+use Rattle.tool_proof_text.specs.Openings.{InstanceWithin, PreprocessedWithin, ValuesWithin}
 use Rattle.plain_pcs.specs.Laws.OpenedCommitments.{power_within}
-use Rattle.batch_setting.specs.Domains.{next_by}
-use Rattle.batch_setting.specs.Setting.{Setting, masks}
-use Rattle.batch_shape_checks.specs.ShapeChecks.{permutation_width}
-use Rattle.batch_validity.specs.Traced.{TracedTable, constraints, declared, log_parts, quotient_shift}
-use Rattle.batch_validity.specs.Valid.{HasQuotientDomain, IsTraced}
-use Rattle.committed_tables.specs.Committed.{CommittedTable, columns_at, trace_domain}
-use Rattle.committed_tables.specs.Fields.{FieldsLaws}
-use Rattle.committed_tables.specs.Quotient.{honest_chunk}
-use Rattle.committed_tables.specs.Rows.{InterpolateSome}
-use Rattle.committed_tables.specs.Laws.Degrees.{all_images, all_tabulate}
-use Rattle.honest_proofs.specs.HonestProof.{Prover, committed_table, opened_of, where_some}
-use Rattle.honest_acceptance.specs.Laws.Lengths.{honest_commits, permutation_count}
+use Rattle.batch_config.specs.Domains.{next_by}
+use Rattle.batch_config.specs.Setting.{Setting, masks}
+use Rattle.verifier_shape.specs.ShapeChecks.{permutation_width}
+use Rattle.law_valid.specs.Traced.{TracedTable, constraints, declared, log_parts, quotient_shift}
+use Rattle.law_valid.specs.Valid.{HasQuotientDomain, IsTraced}
+use Rattle.law_committed.specs.Committed.{CommittedTable, columns_at, trace_domain}
+use Rattle.law_committed.specs.Fields.{FieldsLaws}
+use Rattle.law_committed.specs.Quotient.{honest_chunk}
+use Rattle.law_committed.specs.Rows.{InterpolateSome}
+use Rattle.law_committed.specs.Laws.Degrees.{all_images, all_tabulate}
+use Rattle.law_honest.specs.HonestProof.{Prover, committed_table, opened_of, where_some}
+use Rattle.law_acceptance.specs.Laws.Lengths.{honest_commits, permutation_count}
 
 -- a list of values, of which there are few
 values_within : (xs : List QuarticExtension) → length xs ≤ 65536 → ValuesWithin xs

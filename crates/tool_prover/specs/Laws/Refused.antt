@@ -4,16 +4,16 @@ use Rattle.std.specs.Prelude.{All}
 use Rattle.p3_field.specs.declared.baby_bear.BabyBear.{BabyBear}
 use Rattle.p3_lookup.specs.Bound.{HaveLoadsBelow}
 use Rattle.plain_pcs.specs.declared.error.PlainProverError.{PlainProverError}
-use Rattle.batch_setting.specs.Setting.{masks}
-use Rattle.batch_shape_checks.specs.ShapeChecks.{heights_of}
+use Rattle.batch_config.specs.Setting.{masks}
+use Rattle.verifier_shape.specs.ShapeChecks.{heights_of}
 use Rattle.batch_transcript.specs.declared.failure.GrindStep.TheVariants.{Lookup, Ood}
-use Rattle.batch_proving.specs.Batch.{table_count}
-use Rattle.batch_proving.specs.PlainBackend.{plain_prover_backend}
-use Rattle.batch_proving.specs.Telling.{Tells}
-use Rattle.batch_proving.specs.declared.error.ProvingError.{ProvingError}
-use Rattle.batch_proving.specs.declared.error.ProvingError.TheVariants.{LookupDenominatorZero, MultiplicityBound, OutOfMemory, Pcs, WitnessNotFound}
+use Rattle.prover_answer.specs.Batch.{table_count}
+use Rattle.prover_answer.specs.PlainBackend.{plain_prover_backend}
+use Rattle.prover_answer.specs.Telling.{Tells}
+use Rattle.prover_answer.specs.declared.error.ProvingError.{ProvingError}
+use Rattle.prover_answer.specs.declared.error.ProvingError.TheVariants.{LookupDenominatorZero, MultiplicityBound, OutOfMemory, Pcs, WitnessNotFound}
 use Rattle.tool_statement.specs.Config.{tool_scheme, tool_setting}
-use Rattle.tool_validity.specs.Job.{IsJobTableWithin, JobTable}
+use Rattle.law_tool_valid.specs.Job.{IsJobTableWithin, JobTable}
 use Rattle.tool_prover.specs.JobAnswer.{IsTold}
 use Rattle.tool_prover.specs.JobBatch.{job_batch}
 use Rattle.tool_prover.specs.Laws.Granted.{batch_granted, none_overloaded}

@@ -9,15 +9,15 @@ use Rattle.p3_field.specs.Laws.Tabulate.{length-tabulate}
 use Rattle.p3_field.specs.Poly.{tabulate}
 use Rattle.p3_matrix.specs.Matrix.{Rows, height}
 use Rattle.p3_matrix.specs.Laws.Flattened.{height-pieces}
-use Rattle.batch_setting.specs.Setting.{Setting, masks}
-use Rattle.committed_tables.specs.Fields.{FieldsLaws}
-use Rattle.committed_tables.specs.Rows.{flattened_matrix}
-use Rattle.committed_tables.specs.Laws.Degrees.{all_tabulate}
-use Rattle.batch_validity.specs.Laws.Columns.{pieces_height}
-use Rattle.batch_validity.specs.Traced.{TracedTable, declared, log_parts, log_rows}
-use Rattle.batch_validity.specs.Valid.{IsTraced}
-use Rattle.honest_proofs.specs.HonestProof.{Prover, chunk_matrices, chunk_rows, columns_for, committed_table, permutation_columns, permutation_matrices, quotient_row, where_some}
-use Rattle.honest_proofs.specs.Laws.Generated.{permutation_tall}
+use Rattle.batch_config.specs.Setting.{Setting, masks}
+use Rattle.law_committed.specs.Fields.{FieldsLaws}
+use Rattle.law_committed.specs.Rows.{flattened_matrix}
+use Rattle.law_committed.specs.Laws.Degrees.{all_tabulate}
+use Rattle.law_valid.specs.Laws.Columns.{pieces_height}
+use Rattle.law_valid.specs.Traced.{TracedTable, declared, log_parts, log_rows}
+use Rattle.law_valid.specs.Valid.{IsTraced}
+use Rattle.law_honest.specs.HonestProof.{Prover, chunk_matrices, chunk_rows, columns_for, committed_table, permutation_columns, permutation_matrices, quotient_row, where_some}
+use Rattle.law_honest.specs.Laws.Generated.{permutation_tall}
 
 -- a matrix on its domain: one to `widest` columns, and a row for each of up to 2^most points
 pub record IsSized {F : Type 0} (most widest : ℕ) (e : CosetData F × Rows F) : Type 0 where

@@ -11,25 +11,25 @@ use Rattle.p3_field.specs.Poly.{tabulate}
 use Rattle.p3_field.specs.declared.baby_bear.BabyBear.{BabyBear}
 use Rattle.p3_field.specs.declared.quartic.QuarticExtension.{QuarticExtension}
 use Rattle.p3_matrix.specs.Matrix.{Rows}
-use Rattle.p3_air.specs.Laws.Lists.{all_tabulate}
-use Rattle.line_format.specs.Texts.{Between, ListWithin, OptionWithin, Unlimited}
-use Rattle.proof_text.specs.Matrices.{MatrixWithin}
-use Rattle.proof_text.specs.Openings.{InstanceWithin}
-use Rattle.proof_text.specs.ProofText.{CommitmentWithin, ProofWithin, ToolProofData}
+use Rattle.air_core.specs.Laws.Lists.{all_tabulate}
+use Rattle.tool_lines.specs.Texts.{Between, ListWithin, OptionWithin, Unlimited}
+use Rattle.tool_proof_text.specs.Matrices.{MatrixWithin}
+use Rattle.tool_proof_text.specs.Openings.{InstanceWithin}
+use Rattle.tool_proof_text.specs.ProofText.{CommitmentWithin, ProofWithin, ToolProofData}
 use Rattle.plain_pcs.specs.Extension.{IsCommittable, commitment_of, extended_domain, extension_of}
 use Rattle.plain_pcs.specs.Laws.Evaluations.{evaluations-fill}
 use Rattle.plain_pcs.specs.Laws.Extensions.{height-extension, length-polynomials, polynomials, width-extension}
 use Rattle.plain_pcs.specs.Laws.OpenedCommitments.{power_within}
 use Rattle.plain_pcs.specs.declared.commitment.PlainProof.{PlainProof}
-use Rattle.batch_validity.specs.Traced.{TracedTable, declared}
-use Rattle.committed_tables.specs.Fields.{FieldsLaws}
-use Rattle.committed_tables.specs.Laws.Degrees.{all_images}
-use Rattle.honest_proofs.specs.HonestProof.{IsBuilt, alpha, challenges_at, committed_where, honest_proof, opened_of, honest_terminal, where_some, zeta}
+use Rattle.law_valid.specs.Traced.{TracedTable, declared}
+use Rattle.law_committed.specs.Fields.{FieldsLaws}
+use Rattle.law_committed.specs.Laws.Degrees.{all_images}
+use Rattle.law_honest.specs.HonestProof.{IsBuilt, alpha, challenges_at, committed_where, honest_proof, opened_of, honest_terminal, where_some, zeta}
 use Rattle.tool_statement.specs.Config.{tool_scheme, tool_setting}
-use Rattle.tool_validity.specs.Job.{IsJobTableWithin, JobTable, take_of, job_log_height_of}
-use Rattle.tool_validity.specs.Laws.Tables.{small_height}
-use Rattle.batch_proving.specs.Batch.{all_chunks, all_permutations, chunks_of, log_parts_at, main_matrices, table_at, table_count}
-use Rattle.proof_files.specs.Files.{FileWithin}
+use Rattle.law_tool_valid.specs.Job.{IsJobTableWithin, JobTable, take_of, job_log_height_of}
+use Rattle.law_tool_valid.specs.Laws.Tables.{small_height}
+use Rattle.prover_answer.specs.Batch.{all_chunks, all_permutations, chunks_of, log_parts_at, main_matrices, table_at, table_count}
+use Rattle.tool_proof_files.specs.Files.{FileWithin}
 use Rattle.tool_jobs.specs.Jobs.{JobWithin}
 use Rattle.tool_jobs.specs.Laws.Statements.{statements-within}
 use Rattle.tool_jobs.specs.Stated.{statement_of}

@@ -2,11 +2,11 @@
 use Rattle.std.proofs.Common.{◌≡◌, ℕ, ◌<◌, ◌∙◌, length, map, All, Some, rules}
 use Rattle.std.proofs.lemmas.List.{length-map}
 use Rattle.p3_field.specs.Ring.{Ring}
-use Rattle.p3_air.specs.Shape.{HasColumns, HasWholeRows, ReadsDeclared, IsInteraction, declared_shape, width_of}
-use Rattle.p3_air.specs.Laws.Declared.{counts-none}
-use Rattle.p3_blake3_air.specs.Laws.Reads.{blake3_read}
+use Rattle.air_core.specs.Shape.{HasColumns, HasWholeRows, ReadsDeclared, IsInteraction, declared_shape, width_of}
+use Rattle.air_core.specs.Laws.Declared.{counts-none}
+use Rattle.blake3_prime.specs.Laws.Reads.{blake3_read}
 use Rattle.tool_tables.specs.Tool.{tool_declaration, tool_trees, tool_interactions}
-use Rattle.tool_tables.specs.Laws.Wheel.{wheel-read}
+use Rattle.air_tables.specs.Laws.Wheel.{wheel-read}
 use Rattle.tool_tables.specs.declared.tool.ToolAir.{ToolAir}
 use Rattle.tool_tables.specs.declared.tool.ToolAir.TheVariants.{Swap, Wheel, Take, Give, Hash}
 

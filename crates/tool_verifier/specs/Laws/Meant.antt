@@ -9,42 +9,42 @@ use Rattle.p3_field.specs.BabyBear.{baby_bear_ring}
 use Rattle.p3_field.specs.Quartic.{of_baby_bear_value, quartic_inv, quartic_ring}
 use Rattle.p3_field.specs.declared.baby_bear.BabyBear.{BabyBear}
 use Rattle.p3_field.specs.declared.quartic.QuarticExtension.{QuarticExtension}
-use Rattle.p3_air.specs.Laws.Lists.{all_of_tabulate}
-use Rattle.p3_air.specs.Shape.{ReadsDeclared, declared_shape}
-use Rattle.p3_blake3.specs.Compress.{Input}
-use Rattle.p3_blake3.specs.TraceRow.{AreWords, trace_row}
-use Rattle.p3_blake3_air.specs.Laws.Reads.{blake3_read}
-use Rattle.p3_blake3_air.specs.Meanings.{RowMeans}
-use Rattle.p3_blake3_air.specs.Trees.{blake3_trees}
+use Rattle.air_core.specs.Laws.Lists.{all_of_tabulate}
+use Rattle.air_core.specs.Shape.{ReadsDeclared, declared_shape}
+use Rattle.blake3_compress.specs.Compress.{Input}
+use Rattle.blake3_compress.specs.TraceRow.{AreWords, trace_row}
+use Rattle.blake3_prime.specs.Laws.Reads.{blake3_read}
+use Rattle.blake3_prime.specs.Meanings.{RowMeans}
+use Rattle.blake3_prime.specs.Trees.{blake3_trees}
 use Rattle.p3_lookup.specs.Trees.{lookup_trees}
 use Rattle.plain_pcs.specs.Scheme.{PlainCommitmentData}
-use Rattle.committed_tables.specs.Batch.{DividedTable}
-use Rattle.committed_tables.specs.Committed.{CommittedTable, Holds}
-use Rattle.committed_tables.specs.Fields.{FieldsLaws, baby_bear_field, quartic_extension}
+use Rattle.law_committed.specs.Batch.{DividedTable}
+use Rattle.law_committed.specs.Committed.{CommittedTable, Holds}
+use Rattle.law_committed.specs.Fields.{FieldsLaws, baby_bear_field, quartic_extension}
 use Rattle.batch_statement.specs.Statement.{Statement, AirTable, WellFormed}
-use Rattle.batch_shape_checks.specs.ShapeChecks.{no_table}
-use Rattle.batch_verifier.specs.BatchChecks.{Accepted}
-use Rattle.plain_soundness.specs.CommittedBatch.{ReadDeclared, committed_at, committed_table_at, lookups_at, stated_table}
-use Rattle.plain_soundness.specs.Laws.Accepted.{batch_holds, heights_fit}
-use Rattle.plain_soundness.specs.Laws.Bound.{Binds}
-use Rattle.plain_soundness.specs.Laws.Opened.{columns_declared}
-use Rattle.plain_soundness.specs.Laws.Swap.{holds_before}
-use Rattle.plain_soundness.specs.Laws.SwapTables.{first_of, swaps_end}
-use Rattle.plain_soundness.specs.Meaning.{HoldUnlessUnlucky, IsAlphaUnlucky, IsZetaUnlucky}
-use Rattle.plain_soundness.specs.PlainSetting.{plain_scheme}
-use Rattle.plain_soundness_hashes.specs.Laws.Hashes.{row_is_compression}
+use Rattle.verifier_shape.specs.ShapeChecks.{no_table}
+use Rattle.verifier_batch.specs.BatchChecks.{Accepted}
+use Rattle.law_soundness.specs.CommittedBatch.{ReadDeclared, committed_at, committed_table_at, lookups_at, stated_table}
+use Rattle.law_soundness.specs.Laws.Accepted.{batch_holds, heights_fit}
+use Rattle.law_soundness.specs.Laws.Bound.{Binds}
+use Rattle.law_soundness.specs.Laws.Opened.{columns_declared}
+use Rattle.law_soundness.specs.Laws.Swap.{holds_before}
+use Rattle.law_soundness.specs.Laws.SwapTables.{first_of, swaps_end}
+use Rattle.law_soundness.specs.Meaning.{HoldUnlessUnlucky, IsAlphaUnlucky, IsZetaUnlucky}
+use Rattle.law_soundness.specs.PlainSetting.{plain_scheme}
+use Rattle.law_hash_soundness.specs.Laws.Hashes.{row_is_compression}
 use Rattle.tool_tables.specs.Laws.Tool.{tool-read}
-use Rattle.tool_tables.specs.Laws.Wheel.{wheel-read}
-use Rattle.tool_tables.specs.Wheel.{turns}
+use Rattle.air_tables.specs.Laws.Wheel.{wheel-read}
+use Rattle.air_tables.specs.Wheel.{turns}
 use Rattle.tool_tables.specs.declared.tool.ToolAir.TheVariants.{Swap as SwapTable, Take as TakeTable, Give as GiveTable}
 use Rattle.tool_statement.specs.Config.{tool_backend, tool_scheme, tool_setting}
 use Rattle.tool_statement.specs.StatedTables.{HaveStatedHeights, publics_of, source_of_table, air_table_of, tool_common, tool_statement}
 use Rattle.tool_statement.specs.declared.table.TableStatement.{TableStatement}
 use Rattle.tool_statement.specs.declared.table.TableStatement.TheVariants.{Swap, Wheel, Take, Give, Hash}
-use Rattle.proof_text.specs.ProofText.{ToolProofData}
-use Rattle.hash_lines.specs.Laws.Compressions.{line_of_compression}
-use Rattle.hash_lines.specs.Laws.Matrices.{binds_of_tool, degree, laws_of_tool, plain_tool}
-use Rattle.hash_lines.specs.PrintedRows.{committed_cells}
+use Rattle.tool_proof_text.specs.ProofText.{ToolProofData}
+use Rattle.tool_hash_lines.specs.Laws.Compressions.{line_of_compression}
+use Rattle.tool_hash_lines.specs.Laws.Matrices.{binds_of_tool, degree, laws_of_tool, plain_tool}
+use Rattle.tool_hash_lines.specs.PrintedRows.{committed_cells}
 use Rattle.tool_verifier.specs.FileAnswer.{PrintCompressions, SwapsEnd}
 
 -- the tables' constraints read declared cells

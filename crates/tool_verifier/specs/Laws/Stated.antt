@@ -8,18 +8,18 @@ use Rattle.p3_field.specs.declared.quartic.QuarticExtension.{QuarticExtension}
 use Rattle.p3_challenger.specs.declared.sha256_challenger.Sha256Challenger.{Sha256Challenger}
 use Rattle.plain_pcs.specs.Scheme.{Blowup, PlainCommitmentData, scheme}
 use Rattle.plain_pcs.specs.declared.error.PlainError.{PlainError}
-use Rattle.batch_setting.specs.Setting.{Setting}
+use Rattle.batch_config.specs.Setting.{Setting}
 use Rattle.batch_setup.specs.Packed.{Source, no_source, source_of}
-use Rattle.batch_shape_checks.specs.Verdict.{IsRefusal, IsVerdict}
+use Rattle.verifier_shape.specs.Verdict.{IsRefusal, IsVerdict}
 use Rattle.batch_statement.specs.Statement.{Common, Statement, AirTable, WellFormed, tables_of}
 use Rattle.batch_statement.specs.declared.error.BatchVerificationError.{BatchVerificationError}
-use Rattle.batch_verifier.specs.BatchChecks.{checks}
+use Rattle.verifier_batch.specs.BatchChecks.{checks}
 use Rattle.tool_tables.specs.Tool.{tool_declaration, tool_interactions, tool_trees}
 use Rattle.tool_tables.specs.declared.tool.ToolAir.{ToolAir}
 use Rattle.tool_statement.specs.Config.{backend_of, tool_backend, tool_setting}
 use Rattle.tool_statement.specs.StatedTables.{sources_of, air_table_of}
 use Rattle.tool_statement.specs.declared.table.TableStatement.{TableStatement}
-use Rattle.proof_text.specs.ProofText.{ToolProofData}
+use Rattle.tool_proof_text.specs.ProofText.{ToolProofData}
 
 -- a source as a table
 abbrev pub as_table : Source BabyBear → AirTable BabyBear

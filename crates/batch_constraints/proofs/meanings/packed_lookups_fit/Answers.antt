@@ -1,4 +1,4 @@
-use Rattle.p3_air.specs.Shape.{declared_shape}
+use Rattle.air_core.specs.Shape.{declared_shape}
 use Rattle.batch_constraints.specs.Laws.Packing.{packed_lookups}
 use Rattle.batch_constraints.proofs.meanings.packed_lookups_fit.Goals as goal
 

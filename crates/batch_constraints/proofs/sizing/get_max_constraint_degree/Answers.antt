@@ -1,6 +1,6 @@
 use Rattle.std.proofs.Common.{List, ◌≡◌, ◌<◌, length, ◌∙◌, ap, sym, arith}
 use Rattle.std.proofs.lemmas.List.{length-map}
-use Rattle.p3_air.specs.declared.layout.AirLayout.{AirLayout}
+use Rattle.air_core.specs.declared.layout.AirLayout.{AirLayout}
 use Rattle.p3_lookup.specs.Written.{read_all}
 use Rattle.batch_constraints.specs.BatchTrees.{table_trees}
 use Rattle.batch_constraints.specs.Sizing.{periods_of}

@@ -1,7 +1,7 @@
 use Rattle.std.proofs.Common.{◌≡◌, ℕ, List, map, ◌++◌, ◌∙◌, IfOk, ap, subst}
-use Rattle.p3_air.specs.Degree.{greatest, multiple}
-use Rattle.p3_air.specs.Recording.{asserted_at}
-use Rattle.p3_air.specs.Tree.{Tree, Asserted}
+use Rattle.air_core.specs.Degree.{greatest, multiple}
+use Rattle.air_core.specs.Recording.{asserted_at}
+use Rattle.air_core.specs.Tree.{Tree, Asserted}
 use Rattle.p3_lookup.specs.Trees.{lookup_trees}
 use Rattle.p3_lookup.specs.Written.{read_all}
 use Rattle.batch_constraints.specs.Laws.Rows.{asserted_values}

@@ -1,5 +1,5 @@
 use Rattle.std.proofs.Common.{◌∙◌, ap, false, true}
-use Rattle.p3_air.specs.Recording.{trees_over}
+use Rattle.air_core.specs.Recording.{trees_over}
 use Rattle.p3_lookup.specs.Trees.{lookup_trees}
 use Rattle.p3_lookup.specs.Written.{read_all}
 use Rattle.batch_constraints.specs.Laws.Places.{over_base_are, over_extension_are}

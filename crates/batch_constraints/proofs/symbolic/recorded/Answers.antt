@@ -1,8 +1,8 @@
 use Rattle.std.proofs.Common.{length, subst, sym, ◌∙◌, ap}
 use Rattle.std.proofs.lemmas.List.{length-map}
-use Rattle.p3_air.specs.declared.layout.AirLayout.{AirLayout}
-use Rattle.p3_air.specs.Layout.{layout_shape}
-use Rattle.p3_air.specs.Shape.{Fits, declared_shape}
+use Rattle.air_core.specs.declared.layout.AirLayout.{AirLayout}
+use Rattle.air_core.specs.Layout.{layout_shape}
+use Rattle.air_core.specs.Shape.{Fits, declared_shape}
 use Rattle.p3_lookup.specs.Lookup.{FitLookups}
 use Rattle.p3_lookup.specs.Written.{read, read_all}
 use Rattle.batch_constraints.specs.BatchTrees.{layout_with}

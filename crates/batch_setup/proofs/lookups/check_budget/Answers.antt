@@ -1,5 +1,5 @@
 use Rattle.std.proofs.Common.{◌+◌, ◌<◌, ◌≤◌, subst, arith}
-use Rattle.p3_air.specs.Degree.{capped_sum}
+use Rattle.air_core.specs.Degree.{capped_sum}
 use Rattle.batch_setup.specs.Packed.{limit_checks}
 use Rattle.batch_setup.specs.Verdict.{IsSetUp}
 use Rattle.batch_setup.specs.Laws.Verdicts.{none_here, same_answer}

@@ -1,5 +1,5 @@
 use Rattle.std.proofs.Common.{◌≡◌, ◌-◌, ◌^◌, min, max, sym, ◌∙◌, ap, subst}
-use Rattle.p3_air.specs.Shape.{declared_shape}
+use Rattle.air_core.specs.Shape.{declared_shape}
 use Rattle.p3_lookup.specs.Packing.{packed}
 use Rattle.p3_lookup.specs.Written.{read_all}
 use Rattle.batch_constraints.specs.BatchTrees.{AreLookupsOf}

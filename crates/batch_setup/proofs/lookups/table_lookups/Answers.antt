@@ -1,5 +1,5 @@
 use Rattle.std.proofs.Common.{◌≡◌, ℕ, ◌+◌, ◌-◌, ◌^◌, ◌<◌, ◌≤◌, min, ap, subst, arith}
-use Rattle.p3_air.specs.Degree.{capped_sum}
+use Rattle.air_core.specs.Degree.{capped_sum}
 use Rattle.p3_field.specs.Checks.{NoneFails}
 use Rattle.batch_setup.specs.Packed.{Source, source_of, log_chunks_with, own_budget, packed_log_chunks, limit_checks}
 use Rattle.batch_setup.specs.Verdict.{IsSetupRefusal}

@@ -1,6 +1,6 @@
 use Rattle.std.proofs.Common.{◌≡◌, true, false, length, vec_len, sym, ◌∙◌, subst, arith}
 use Rattle.std.proofs.lemmas.Bool.{eqb-true, eq-eqb}
-use Rattle.p3_commit.specs.Failure.{NoneOf}
+use Rattle.commit_core.specs.Failure.{NoneOf}
 use Rattle.batch_setup.proofs.Committed.{none_of_nothing, none_of_granted, first_of_refused}
 use Rattle.batch_setup.proofs.preprocessed.committed.Goals as goal
 

@@ -1,5 +1,5 @@
 use Rattle.std.proofs.Common.{map, sym, subst}
-use Rattle.p3_commit.specs.Commitments.{IsCommitment}
+use Rattle.commit_core.specs.Commitments.{IsCommitment}
 use Rattle.p3_field.specs.Laws.Checks.{none_append}
 use Rattle.p3_lookup.specs.Written.{read_all}
 use Rattle.batch_statement.specs.Statement.{WellFormed, read_common}

@@ -1,6 +1,6 @@
 use Rattle.std.proofs.Common.{ℕ, ◌<◌, length, get_or, None, refl, sym, ◌∙◌, subst, arith}
-use Rattle.p3_air.specs.Shape.{Declaration, width_of}
-use Rattle.p3_air.specs.Laws.Reads.{not_true}
+use Rattle.air_core.specs.Shape.{Declaration, width_of}
+use Rattle.air_core.specs.Laws.Reads.{not_true}
 use Rattle.batch_statement.specs.Statement.{HasEntryOf}
 use Rattle.batch_statement.proofs.Turns.{place_more, at_place}
 use Rattle.batch_statement.proofs.entries.have_entries.Goals as goal

@@ -1,5 +1,5 @@
 use Rattle.std.proofs.Common.{ℕ, ◌<◌, map, get_or, None}
-use Rattle.p3_air.specs.Shape.{Declaration, width_of}
+use Rattle.air_core.specs.Shape.{Declaration, width_of}
 use Rattle.batch_statement.specs.Statement.{HasEntryOf}
 use Rattle.batch_statement.proofs.entries.have_entries.Given as goal
 

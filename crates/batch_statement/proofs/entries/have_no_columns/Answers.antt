@@ -1,6 +1,6 @@
 use Rattle.std.proofs.Common.{◌≡◌, ◌<◌, length, refl, sym, ◌∙◌, arith}
-use Rattle.p3_air.specs.Shape.{Declaration, width_of}
-use Rattle.p3_air.specs.Laws.Reads.{not_true}
+use Rattle.air_core.specs.Shape.{Declaration, width_of}
+use Rattle.air_core.specs.Laws.Reads.{not_true}
 use Rattle.batch_statement.proofs.Turns.{place_more, at_place}
 use Rattle.batch_statement.proofs.entries.have_no_columns.Goals as goal
 

@@ -1,7 +1,7 @@
 use Rattle.std.proofs.Common.{◌≡◌, ℕ, ◌<◌, List, None, map, take, get_or, sym, ◌∙◌, ap, subst}
 use Rattle.std.specs.Prelude.{Option}
-use Rattle.p3_air.specs.Shape.{Declaration, width_of}
-use Rattle.p3_air.specs.Laws.Reads.{not_true}
+use Rattle.air_core.specs.Shape.{Declaration, width_of}
+use Rattle.air_core.specs.Laws.Reads.{not_true}
 use Rattle.batch_statement.specs.declared.preprocessed.PreprocessedInstanceMeta.{PreprocessedInstanceMeta}
 use Rattle.batch_statement.specs.Statement.{PreprocessedTracesData, HasEntryOf, IsPlaced, with_entry}
 use Rattle.batch_statement.proofs.entries.traces_fit.Goals as goal

@@ -1,7 +1,7 @@
 use Rattle.std.proofs.Common.{◌≡◌, List, All, map, take, refl, sym, ◌∙◌, subst, arith}
 use Rattle.std.proofs.lemmas.Grind.{common_steps}
-use Rattle.p3_air.specs.Shape.{declared_shape}
-use Rattle.p3_air.specs.Laws.Reads.{not_true}
+use Rattle.air_core.specs.Shape.{declared_shape}
+use Rattle.air_core.specs.Laws.Reads.{not_true}
 use Rattle.p3_lookup.specs.Lookup.{IsLookup}
 use Rattle.p3_lookup.specs.Written.{Written, read}
 use Rattle.batch_statement.proofs.Turns.{one_more, at_item}

@@ -1,5 +1,5 @@
 use Rattle.std.proofs.Common.{All, map, take}
-use Rattle.p3_air.specs.Shape.{declared_shape}
+use Rattle.air_core.specs.Shape.{declared_shape}
 use Rattle.p3_lookup.specs.Lookup.{IsLookup}
 use Rattle.p3_lookup.specs.Written.{read}
 use Rattle.batch_statement.proofs.reads.are_lookups.Given as goal

@@ -1,11 +1,11 @@
 use Rattle.std.proofs.Common.{◌≡◌, List, All, map, take, refl, sym, ◌∙◌, subst, arith}
 use Rattle.std.proofs.lemmas.Grind.{common_steps}
-use Rattle.p3_air.specs.declared.cells.Count.{Count}
-use Rattle.p3_air.specs.declared.node.Node.{Node}
-use Rattle.p3_air.specs.Shape.{declared_shape, ReadsSendable}
-use Rattle.p3_air.specs.Tree.{Tree}
+use Rattle.air_core.specs.declared.cells.Count.{Count}
+use Rattle.air_core.specs.declared.node.Node.{Node}
+use Rattle.air_core.specs.Shape.{declared_shape, ReadsSendable}
+use Rattle.air_core.specs.Tree.{Tree}
 use Rattle.p3_lookup.specs.Written.{tree_count}
-use Rattle.p3_air.specs.Laws.Reads.{not_true}
+use Rattle.air_core.specs.Laws.Reads.{not_true}
 use Rattle.batch_statement.proofs.Turns.{one_more, at_item}
 use Rattle.batch_statement.proofs.reads.counts_are_sendable.Goals as goal
 

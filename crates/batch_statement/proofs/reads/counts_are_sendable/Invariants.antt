@@ -1,5 +1,5 @@
 use Rattle.std.proofs.Common.{All, map, take}
-use Rattle.p3_air.specs.Shape.{declared_shape, ReadsSendable}
+use Rattle.air_core.specs.Shape.{declared_shape, ReadsSendable}
 use Rattle.p3_lookup.specs.Written.{tree_count}
 use Rattle.batch_statement.proofs.reads.counts_are_sendable.Given as goal
 

@@ -1,12 +1,12 @@
 use Rattle.std.proofs.Common.{◌≡◌, List, All, length, map, Vec, Global, sym, ◌∙◌, ap, subst, arith}
 use Rattle.std.proofs.lemmas.List.{length-map}
-use Rattle.p3_air.specs.declared.cells.Count.{Count}
-use Rattle.p3_air.specs.declared.node.Node.{Node}
-use Rattle.p3_air.specs.declared.symbolic.SymbolicExpression.{SymbolicExpression}
-use Rattle.p3_air.specs.Shape.{declared_shape, ReadsSendable}
-use Rattle.p3_air.specs.Symbolic.{tree_of}
-use Rattle.p3_air.specs.Tree.{Tree}
-use Rattle.p3_air.specs.Laws.Reads.{not_true}
+use Rattle.air_core.specs.declared.cells.Count.{Count}
+use Rattle.air_core.specs.declared.node.Node.{Node}
+use Rattle.air_core.specs.declared.symbolic.SymbolicExpression.{SymbolicExpression}
+use Rattle.air_core.specs.Shape.{declared_shape, ReadsSendable}
+use Rattle.air_core.specs.Symbolic.{tree_of}
+use Rattle.air_core.specs.Tree.{Tree}
+use Rattle.air_core.specs.Laws.Reads.{not_true}
 use Rattle.p3_lookup.specs.Written.{Written, tree_count}
 use Rattle.batch_statement.proofs.Turns.{mapped_twice}
 use Rattle.batch_statement.proofs.reads.is_lookup.Goals as goal

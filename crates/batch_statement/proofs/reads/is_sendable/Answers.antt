@@ -1,9 +1,9 @@
 use Rattle.std.proofs.Common.{◌≡◌, List, All, map, take, refl, sym, ◌∙◌, subst, arith}
 use Rattle.std.proofs.lemmas.Grind.{common_steps}
-use Rattle.p3_air.specs.declared.node.Node.{Node}
-use Rattle.p3_air.specs.Shape.{declared_shape, ReadsSendable}
-use Rattle.p3_air.specs.Symbolic.{tree_of}
-use Rattle.p3_air.specs.Laws.Reads.{not_true}
+use Rattle.air_core.specs.declared.node.Node.{Node}
+use Rattle.air_core.specs.Shape.{declared_shape, ReadsSendable}
+use Rattle.air_core.specs.Symbolic.{tree_of}
+use Rattle.air_core.specs.Laws.Reads.{not_true}
 use Rattle.batch_statement.proofs.Turns.{one_more, at_item}
 use Rattle.batch_statement.proofs.reads.is_sendable.Goals as goal
 

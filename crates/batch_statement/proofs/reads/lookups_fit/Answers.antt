@@ -1,6 +1,6 @@
 use Rattle.std.proofs.Common.{◌≡◌, ℕ, ◌<◌, List, [], All, length, map, get_or, refl, sym, ◌∙◌, ap, subst, arith}
-use Rattle.p3_air.specs.Shape.{Declaration, declared_shape}
-use Rattle.p3_air.specs.Laws.Reads.{not_true}
+use Rattle.air_core.specs.Shape.{Declaration, declared_shape}
+use Rattle.air_core.specs.Laws.Reads.{not_true}
 use Rattle.p3_lookup.specs.Lookup.{LookupData, IsLookup}
 use Rattle.p3_lookup.specs.Written.{read_all}
 use Rattle.batch_statement.proofs.Turns.{mapped_item, place_more, at_place}

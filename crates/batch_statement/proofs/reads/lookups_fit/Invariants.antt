@@ -1,5 +1,5 @@
 use Rattle.std.proofs.Common.{ℕ, ◌<◌, [], All, map, get_or}
-use Rattle.p3_air.specs.Shape.{Declaration, declared_shape}
+use Rattle.air_core.specs.Shape.{Declaration, declared_shape}
 use Rattle.p3_lookup.specs.Lookup.{IsLookup}
 use Rattle.p3_lookup.specs.Written.{read_all}
 use Rattle.batch_statement.proofs.reads.lookups_fit.Given as goal

@@ -1,6 +1,6 @@
 use Rattle.std.proofs.Common.{All, map, take}
-use Rattle.p3_air.specs.Shape.{declared_shape, ReadsSendable}
-use Rattle.p3_air.specs.Symbolic.{tree_of}
+use Rattle.air_core.specs.Shape.{declared_shape, ReadsSendable}
+use Rattle.air_core.specs.Symbolic.{tree_of}
 use Rattle.batch_statement.proofs.reads.tuples_are_sendable.Given as goal
 
 abbrev pub invariant-loop-tuple : goal.invariant-loop-tuple

@@ -1,6 +1,6 @@
 use Rattle.std.proofs.Common.{◌≡◌, List, map, Vec, Global, sym, ◌∙◌, ap}
-use Rattle.p3_air.specs.declared.node.Node.{Node}
-use Rattle.p3_air.specs.declared.symbolic.SymbolicExpression.{SymbolicExpression}
+use Rattle.air_core.specs.declared.node.Node.{Node}
+use Rattle.air_core.specs.declared.symbolic.SymbolicExpression.{SymbolicExpression}
 use Rattle.p3_lookup.specs.Written.{Written}
 use Rattle.batch_statement.specs.Fitting.{tuples_agree}
 use Rattle.batch_statement.specs.Laws.Widths.{tuples_mapped}

@@ -1,6 +1,6 @@
 use Rattle.std.proofs.Common.{ℕ, List, subst}
 use Rattle.std.specs.Prelude.{IfOk}
-use Rattle.proof_files.specs.Files.{FileWithin, file_numbers}
+use Rattle.tool_proof_files.specs.Files.{FileWithin, file_numbers}
 use Rattle.batch_tool.specs.Answer.{IsVerifyAnswer}
 use Rattle.batch_tool.proofs.Runs.{bad-answers, bad-file, verify-answers-ok}
 use Rattle.batch_tool.proofs.top.file_answer.Goals as goal

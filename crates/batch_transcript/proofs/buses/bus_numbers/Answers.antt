@@ -1,7 +1,7 @@
 use Rattle.std.proofs.Common.{◌<◌, length, map, ap, sym, subst, refl, ◌∙◌, arith}
 use Rattle.std.proofs.lemmas.List.{length-map}
 use Rattle.std.specs.BTreeMap.{get_by_text}
-use Rattle.p3_air.specs.Tree.{local}
+use Rattle.air_core.specs.Tree.{local}
 use Rattle.p3_lookup.specs.Written.{bus_of_kind}
 use Rattle.batch_transcript.specs.Buses.{OpensBy}
 use Rattle.batch_transcript.proofs.Numbered.{none-numbered, none-first, numbers-long, numbered-later, numbered-new, mapped-at, opens-next}

@@ -1,11 +1,11 @@
 use Rattle.std.proofs.Common.{◌≡◌, [], ◌∷◌, length, map, rules, subst}
 use Rattle.std.proofs.lemmas.List.{map-append}
 use Rattle.p3_field.specs.Poly.{tabulate}
-use Rattle.p3_air.specs.Gadgets.{packed_bits}
-use Rattle.p3_air.specs.Tree.{over_base, bool_tree, difference}
-use Rattle.p3_air.specs.Laws.Represent.{holds_on_err}
-use Rattle.p3_air.specs.Laws.Appending.{none_first, some_of_more, some_after}
-use Rattle.p3_air.specs.Laws.Packing.{represent_later, represent_tabulate}
+use Rattle.air_gadgets.specs.Gadgets.{packed_bits}
+use Rattle.air_core.specs.Tree.{over_base, bool_tree, difference}
+use Rattle.air_core.specs.Laws.Represent.{holds_on_err}
+use Rattle.air_core.specs.Laws.Appending.{none_first, some_of_more, some_after}
+use Rattle.air_gadgets.specs.Laws.Packing.{represent_later, represent_tabulate}
 use Rattle.example_air.specs.Bytes.{byte_row_trees, main_column}
 use Rattle.example_air.proofs.air.assert_bits.Goals as goal
 

@@ -1,6 +1,6 @@
 use Rattle.std.proofs.Common.{[]}
 use Rattle.std.proofs.lemmas.Result.{IfOk-weaker, on_err_weaker}
-use Rattle.p3_air.specs.Laws.Represent.{holds_on_err, represent-none, represent-more}
+use Rattle.air_core.specs.Laws.Represent.{holds_on_err, represent-none, represent-more}
 use Rattle.example_air.proofs.air.send_byte.Goals as goal
 
 pub returns-in_err-times-clause-on_error : goal.returns-in_err-times-clause-on_error

@@ -1,4 +1,4 @@
-use Rattle.p3_air.specs.Words.{PrimeFieldLaws}
+use Rattle.air_gadgets.specs.Words.{PrimeFieldLaws}
 use Rattle.example_air.specs.Laws.Rows.{row_means}
 use Rattle.example_air.proofs.meanings.rows_are_bytes.Goals as goal
 

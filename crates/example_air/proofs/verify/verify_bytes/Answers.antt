@@ -1,8 +1,8 @@
 use Rattle.std.proofs.Common.{◌∷◌, [], Ok, ap, arith}
 use Rattle.p3_field.specs.Laws.Checks.{holds_alone}
 use Rattle.plain_pcs.specs.Scheme.{Blowup}
-use Rattle.batch_shape_checks.specs.Laws.Verdicts.{exits, refused, refused_after, refused_before, verdict_after}
-use Rattle.batch_verifier.specs.BatchChecks.{checks}
+use Rattle.verifier_shape.specs.Laws.Verdicts.{exits, refused, refused_after, refused_before, verdict_after}
+use Rattle.verifier_batch.specs.BatchChecks.{checks}
 use Rattle.tool_statement.specs.Config.{tool_backend, tool_setting}
 use Rattle.example_air.specs.Statement.{example_statement, height_check}
 use Rattle.example_air.specs.declared.air.ExampleAir.TheVariants.{Bits}

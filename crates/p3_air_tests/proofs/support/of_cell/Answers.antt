@@ -1,7 +1,7 @@
 use Rattle.std.proofs.Common.{◌≡◌, ◌++◌, ◌∷◌, [], List, subst, sym, ◌∙◌, ap, lit<}
-use Rattle.p3_air.specs.Symbolic.{IsExpression, OrderedFrom}
-use Rattle.p3_air.specs.declared.node.Node.{Node}
-use Rattle.p3_air.specs.declared.node.Node.TheVariants.{Base}
+use Rattle.air_core.specs.Symbolic.{IsExpression, OrderedFrom}
+use Rattle.air_core.specs.declared.node.Node.{Node}
+use Rattle.air_core.specs.declared.node.Node.TheVariants.{Base}
 use Rattle.p3_field.specs.declared.baby_bear.BabyBear.{BabyBear}
 use Rattle.p3_air_tests.proofs.support.of_cell.Goals as goal
 

@@ -1,9 +1,9 @@
 use Rattle.std.proofs.Common.{◌≡◌, ℕ, ◌+◌, ◌-◌, ◌<◌, ◌++◌, List, [], ◌∷◌, length, sym, ◌∙◌, ap, subst, arith, length-append}
-use Rattle.p3_air.specs.Tree.{product}
-use Rattle.p3_air.specs.Symbolic.{IsExpression, tree_of, tree_at}
-use Rattle.p3_air.specs.Laws.Symbolic.{tree_at-push, ordered-push}
-use Rattle.p3_air.specs.declared.node.Node.{Node}
-use Rattle.p3_air.specs.declared.node.Node.TheVariants.{Product}
+use Rattle.air_core.specs.Tree.{product}
+use Rattle.air_core.specs.Symbolic.{IsExpression, tree_of, tree_at}
+use Rattle.air_core.specs.Laws.Symbolic.{tree_at-push, ordered-push}
+use Rattle.air_core.specs.declared.node.Node.{Node}
+use Rattle.air_core.specs.declared.node.Node.TheVariants.{Product}
 use Rattle.p3_field.specs.declared.baby_bear.BabyBear.{BabyBear}
 use Rattle.p3_air_tests.proofs.symbolic.add_square.Goals as goal
 

@@ -1,8 +1,8 @@
 use Rattle.std.proofs.Common.{◌≡◌, ◌∷◌, [], List, subst, sym}
-use Rattle.p3_air.specs.Degree.{HasPeriod}
-use Rattle.p3_air.specs.Shape.{ReadsIn}
-use Rattle.p3_air.specs.Symbolic.{tree_of, trees_after}
-use Rattle.p3_air.specs.declared.node.Node.{Node}
+use Rattle.air_core.specs.Degree.{HasPeriod}
+use Rattle.air_core.specs.Shape.{ReadsIn}
+use Rattle.air_core.specs.Symbolic.{tree_of, trees_after}
+use Rattle.air_core.specs.declared.node.Node.{Node}
 use Rattle.p3_field.specs.declared.baby_bear.BabyBear.{BabyBear}
 use Rattle.p3_air_tests.proofs.symbolic.degree_over_eight_rows.Goals as goal
 

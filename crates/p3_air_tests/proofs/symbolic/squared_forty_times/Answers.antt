@@ -1,10 +1,10 @@
 use Rattle.std.proofs.Common.{◌≡◌, [], ◌∷◌, List, subst, sym, ◌∙◌, lit<}
-use Rattle.p3_air.specs.Degree.{HasPeriod}
-use Rattle.p3_air.specs.Shape.{ReadsIn}
-use Rattle.p3_air.specs.Symbolic.{IsExpression, OrderedFrom, tree_of, trees_after}
-use Rattle.p3_air.specs.declared.cells.Cell.TheVariants.{FirstRow}
-use Rattle.p3_air.specs.declared.node.Node.{Node}
-use Rattle.p3_air.specs.declared.node.Node.TheVariants.{Base}
+use Rattle.air_core.specs.Degree.{HasPeriod}
+use Rattle.air_core.specs.Shape.{ReadsIn}
+use Rattle.air_core.specs.Symbolic.{IsExpression, OrderedFrom, tree_of, trees_after}
+use Rattle.air_core.specs.declared.cells.Cell.TheVariants.{FirstRow}
+use Rattle.air_core.specs.declared.node.Node.{Node}
+use Rattle.air_core.specs.declared.node.Node.TheVariants.{Base}
 use Rattle.p3_field.specs.declared.baby_bear.BabyBear.{BabyBear}
 use Rattle.p3_air_tests.proofs.symbolic.squared_forty_times.Goals as goal
 

@@ -1,7 +1,7 @@
 use Rattle.std.proofs.Common.{[]}
-use Rattle.p3_air.specs.Degree.{HasPeriod}
-use Rattle.p3_air.specs.Shape.{ReadsIn}
-use Rattle.p3_air.specs.Symbolic.{IsExpression, tree_of}
+use Rattle.air_core.specs.Degree.{HasPeriod}
+use Rattle.air_core.specs.Shape.{ReadsIn}
+use Rattle.air_core.specs.Symbolic.{IsExpression, tree_of}
 use Rattle.p3_air_tests.proofs.symbolic.squared_forty_times.Given as goal
 
 abbrev pub invariant-loop-i : goal.invariant-loop-i

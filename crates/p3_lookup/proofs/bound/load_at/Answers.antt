@@ -1,7 +1,7 @@
 use Rattle.std.proofs.Common.{◌≡◌, ℕ, ◌+◌, ◌*◌, ◌<◌, min, [], length, get_or, map, sym, ◌∙◌, ap, arith}
 use Rattle.std.specs.Prelude.{string_bytes}
 use Rattle.std.proofs.lemmas.List.{length-map, get_or_default}
-use Rattle.p3_air.specs.Tree.{local, global}
+use Rattle.air_core.specs.Tree.{local, global}
 use Rattle.p3_lookup.specs.Bus.{batch_buses, lookups_before, sum_of_bounds}
 use Rattle.p3_lookup.specs.Written.{Written, bus_of_kind, read_all}
 use Rattle.p3_lookup.specs.Loads.{named_loads}

@@ -1,7 +1,7 @@
 use Rattle.std.proofs.Common.{◌≡◌, ◌^◌, ◌<◌, max, List, map, ◌∙◌, ap, subst, arith, refl}
-use Rattle.p3_air.specs.Degree.{capped_sum}
-use Rattle.p3_air.specs.Tree.{Tree}
-use Rattle.p3_air.specs.Symbolic.{tree_of}
+use Rattle.air_core.specs.Degree.{capped_sum}
+use Rattle.air_core.specs.Tree.{Tree}
+use Rattle.air_core.specs.Symbolic.{tree_of}
 use Rattle.p3_lookup.specs.Lookup.{Sent, pair_up, sent}
 use Rattle.p3_lookup.specs.Written.{Written, read, tree_count}
 use Rattle.p3_lookup.specs.Trees.{base_tree, beta_tree}

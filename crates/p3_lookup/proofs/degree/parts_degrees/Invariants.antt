@@ -1,7 +1,7 @@
 use Rattle.std.proofs.Common.{◌≡◌, drop, map}
-use Rattle.p3_air.specs.Degree.{multiple}
-use Rattle.p3_air.specs.Tree.{Tree}
-use Rattle.p3_air.specs.Symbolic.{tree_of}
+use Rattle.air_core.specs.Degree.{multiple}
+use Rattle.air_core.specs.Tree.{Tree}
+use Rattle.air_core.specs.Symbolic.{tree_of}
 use Rattle.p3_lookup.specs.Lookup.{pair_up}
 use Rattle.p3_lookup.specs.Written.{tree_count}
 use Rattle.p3_lookup.specs.Emission.{AreDegreesOf}

@@ -1,8 +1,8 @@
 use Rattle.std.proofs.Common.{◌≡◌, ◌-◌, ◌<◌, suc, length, map, drop, sym, ◌∙◌, ap, arith}
 use Rattle.std.proofs.lemmas.List.{drop_all, length-map}
 use Rattle.p3_field.specs.Poly.{eval_poly}
-use Rattle.p3_air.specs.Degree.{multiple}
-use Rattle.p3_air.specs.Symbolic.{tree_of}
+use Rattle.air_core.specs.Degree.{multiple}
+use Rattle.air_core.specs.Symbolic.{tree_of}
 use Rattle.p3_lookup.specs.Trees.{trees}
 use Rattle.p3_lookup.proofs.Turns.{dropped}
 use Rattle.p3_lookup.proofs.Degrees.{sum_degree}

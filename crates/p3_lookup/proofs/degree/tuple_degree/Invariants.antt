@@ -1,8 +1,8 @@
 use Rattle.std.proofs.Common.{◌≡◌, ◌<◌, ◌^◌, drop, map}
 use Rattle.p3_field.specs.Poly.{eval_poly}
-use Rattle.p3_air.specs.Degree.{multiple}
-use Rattle.p3_air.specs.Tree.{Tree}
-use Rattle.p3_air.specs.Symbolic.{tree_of}
+use Rattle.air_core.specs.Degree.{multiple}
+use Rattle.air_core.specs.Tree.{Tree}
+use Rattle.air_core.specs.Symbolic.{tree_of}
 use Rattle.p3_lookup.specs.Trees.{trees}
 use Rattle.p3_lookup.proofs.degree.tuple_degree.Given as goal
 

@@ -1,8 +1,8 @@
 use Rattle.std.proofs.Common.{◌≡◌, List, [], map, ◌∙◌, ap, subst}
 use Rattle.std.proofs.lemmas.Result.{IfOk-weaker, on_err_weaker}
-use Rattle.p3_air.specs.Laws.Represent.{holds_on_err}
-use Rattle.p3_air.specs.Tree.{Tree}
-use Rattle.p3_air.specs.Symbolic.{tree_of}
+use Rattle.air_core.specs.Laws.Represent.{holds_on_err}
+use Rattle.air_core.specs.Tree.{Tree}
+use Rattle.air_core.specs.Symbolic.{tree_of}
 use Rattle.p3_lookup.specs.Lookup.{Sent, pair_up, sent}
 use Rattle.p3_lookup.specs.Written.{Written, read, tree_count}
 use Rattle.p3_lookup.specs.Trees.{base_tree, beta_tree}

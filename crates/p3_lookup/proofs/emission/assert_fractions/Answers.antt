@@ -1,8 +1,8 @@
 use Rattle.std.proofs.Common.{◌≡◌, ◌+◌, ◌<◌, List, [], ◌∷◌, ◌++◌, length, map, take, sym, ◌∙◌, ap, subst, append-nil, arith}
 use Rattle.std.proofs.lemmas.List.{map-append, take-map, length-map}
-use Rattle.p3_air.specs.Tree.{Asserted, over_extension}
-use Rattle.p3_air.specs.Shape.{Shape}
-use Rattle.p3_air.specs.Laws.Appending.{first_on_err}
+use Rattle.air_core.specs.Tree.{Asserted, over_extension}
+use Rattle.air_core.specs.Shape.{Shape}
+use Rattle.air_core.specs.Laws.Appending.{first_on_err}
 use Rattle.p3_lookup.specs.Lookup.{IsLookup}
 use Rattle.p3_lookup.specs.Written.{read, read_all}
 use Rattle.p3_lookup.specs.Trees.{fraction_tree, fraction_trees}

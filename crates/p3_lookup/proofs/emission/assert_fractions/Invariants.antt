@@ -1,5 +1,5 @@
 use Rattle.std.proofs.Common.{◌≡◌, [], map, take}
-use Rattle.p3_air.specs.Tree.{over_extension}
+use Rattle.air_core.specs.Tree.{over_extension}
 use Rattle.p3_lookup.specs.Written.{read_all}
 use Rattle.p3_lookup.specs.Trees.{fraction_trees}
 use Rattle.p3_lookup.proofs.emission.assert_fractions.Given as goal

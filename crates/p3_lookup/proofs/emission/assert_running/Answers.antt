@@ -1,7 +1,7 @@
 use Rattle.std.proofs.Common.{[], ◌∷◌}
 use Rattle.std.proofs.lemmas.Result.{IfOk-weaker, on_err_weaker}
-use Rattle.p3_air.specs.Laws.Appending.{none_first, none_on_err, some_after}
-use Rattle.p3_air.specs.Laws.Represent.{holds_on_err}
+use Rattle.air_core.specs.Laws.Appending.{none_first, none_on_err, some_after}
+use Rattle.air_core.specs.Laws.Represent.{holds_on_err}
 use Rattle.p3_lookup.proofs.emission.assert_running.Goals as goal
 
 pub returns-in_err-assert_first-clause-on_error : goal.returns-in_err-assert_first-clause-on_error

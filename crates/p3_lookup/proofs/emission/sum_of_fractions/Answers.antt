@@ -1,5 +1,5 @@
 use Rattle.std.proofs.Common.{◌≡◌, [], ◌∙◌, subst}
-use Rattle.p3_air.specs.Tree.{Tree, constant}
+use Rattle.air_core.specs.Tree.{Tree, constant}
 use Rattle.p3_lookup.proofs.Turns.{sum_turn}
 use Rattle.p3_lookup.proofs.emission.sum_of_fractions.Goals as goal
 

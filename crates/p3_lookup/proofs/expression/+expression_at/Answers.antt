@@ -1,7 +1,7 @@
 use Rattle.std.proofs.Common.{[], sym, subst, rules}
-use Rattle.p3_air.specs.Shape.{Shape, ReadsSendable}
-use Rattle.p3_air.specs.Symbolic.{tree_at}
-use Rattle.p3_air.specs.Laws.Symbolic.{node_is}
+use Rattle.air_core.specs.Shape.{Shape, ReadsSendable}
+use Rattle.air_core.specs.Symbolic.{tree_at}
+use Rattle.air_core.specs.Laws.Symbolic.{node_is}
 use Rattle.p3_lookup.proofs.expression.+expression_at.Goals as goal
 
 pub cell-requires : goal.cell-requires

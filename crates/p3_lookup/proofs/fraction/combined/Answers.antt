@@ -1,7 +1,7 @@
 use Rattle.std.proofs.Common.{◌≡◌, ◌-◌, ◌<◌, suc, [], length, sym, ◌∙◌, subst, arith}
-use Rattle.p3_air.specs.Tree.{Tree}
-use Rattle.p3_air.specs.Shape.{Shape, ReadsSendable}
-use Rattle.p3_air.specs.Symbolic.{tree_of}
+use Rattle.air_core.specs.Tree.{Tree}
+use Rattle.air_core.specs.Shape.{Shape, ReadsSendable}
+use Rattle.air_core.specs.Symbolic.{tree_of}
 use Rattle.p3_lookup.specs.Trees.{trees}
 use Rattle.p3_lookup.proofs.Turns.{at_item, eval_turn}
 use Rattle.p3_lookup.proofs.fraction.combined.Goals as goal

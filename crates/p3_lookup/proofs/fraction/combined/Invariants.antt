@@ -1,7 +1,7 @@
 use Rattle.std.proofs.Common.{◌≡◌, [], drop, map}
 use Rattle.p3_field.specs.Poly.{eval_poly}
-use Rattle.p3_air.specs.Tree.{Tree}
-use Rattle.p3_air.specs.Symbolic.{tree_of}
+use Rattle.air_core.specs.Tree.{Tree}
+use Rattle.air_core.specs.Symbolic.{tree_of}
 use Rattle.p3_lookup.specs.Trees.{trees}
 use Rattle.p3_lookup.proofs.fraction.combined.Given as goal
 

@@ -1,10 +1,10 @@
 use Rattle.std.proofs.Common.{◌≡◌, ◌-◌, ◌<◌, ◌≤◌, suc, List, [], ◌∷◌, length, map, drop, get_or, sym, ◌∙◌, ap, subst, arith}
 use Rattle.std.specs.Prelude.{All}
 use Rattle.std.proofs.lemmas.List.{drop_all, length-map}
-use Rattle.p3_air.specs.declared.node.Node.{Node}
-use Rattle.p3_air.specs.Tree.{Tree, constant}
-use Rattle.p3_air.specs.Shape.{Shape, ReadsSendable}
-use Rattle.p3_air.specs.Symbolic.{tree_of}
+use Rattle.air_core.specs.declared.node.Node.{Node}
+use Rattle.air_core.specs.Tree.{Tree, constant}
+use Rattle.air_core.specs.Shape.{Shape, ReadsSendable}
+use Rattle.air_core.specs.Symbolic.{tree_of}
 use Rattle.p3_lookup.specs.Lookup.{Sent, pair_up}
 use Rattle.p3_lookup.specs.Written.{tree_count}
 use Rattle.p3_lookup.specs.Emission.{ArePartsOf}

@@ -1,9 +1,9 @@
 use Rattle.std.proofs.Common.{◌≡◌, [], length, get_or, map, ◌∙◌, ap, arith}
 use Rattle.std.specs.Prelude.{None}
 use Rattle.std.proofs.lemmas.List.{length-map}
-use Rattle.p3_air.specs.Placed.{Placed}
-use Rattle.p3_air.specs.Recording.{bus_of, interaction_at, count_at}
-use Rattle.p3_air.specs.Symbolic.{tree_at, tree_of}
+use Rattle.air_core.specs.Placed.{Placed}
+use Rattle.air_core.specs.Recording.{bus_of, interaction_at, count_at}
+use Rattle.air_core.specs.Symbolic.{tree_at, tree_of}
 use Rattle.p3_lookup.specs.Lookup.{lookup_of}
 use Rattle.p3_lookup.specs.Written.{bus_of_kind, read, tree_count}
 use Rattle.p3_lookup.proofs.FromAir.{tuples_read, counts_read}

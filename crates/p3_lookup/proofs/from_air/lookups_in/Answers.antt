@@ -1,8 +1,8 @@
 use Rattle.std.proofs.Common.{◌≡◌, ◌+◌, ◌<◌, ◌≤◌, List, [], ◌∷◌, ◌++◌, length, get_or, take, sym, ◌∙◌, ap, arith}
 use Rattle.std.specs.Prelude.{None}
 use Rattle.std.proofs.lemmas.List.{map-append, take_more, take_all}
-use Rattle.p3_air.specs.Placed.{Placed}
-use Rattle.p3_air.specs.Recording.{interaction_at, sent_at}
+use Rattle.air_core.specs.Placed.{Placed}
+use Rattle.air_core.specs.Recording.{interaction_at, sent_at}
 use Rattle.p3_lookup.specs.Lookup.{LookupData, lookup_of, lookups_of}
 use Rattle.p3_lookup.specs.Written.{read, read_all}
 use Rattle.p3_lookup.proofs.from_air.lookups_in.Goals as goal

@@ -1,5 +1,5 @@
 use Rattle.std.proofs.Common.{◌≡◌, take}
-use Rattle.p3_air.specs.Recording.{sent_at}
+use Rattle.air_core.specs.Recording.{sent_at}
 use Rattle.p3_lookup.specs.Lookup.{lookups_of}
 use Rattle.p3_lookup.specs.Written.{read_all}
 use Rattle.p3_lookup.proofs.from_air.lookups_in.Given as goal

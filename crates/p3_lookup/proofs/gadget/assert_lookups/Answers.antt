@@ -1,9 +1,9 @@
 use Rattle.std.proofs.Common.{◌≡◌, ◌<◌, List, [], length, map, subst, arith}
 use Rattle.std.proofs.lemmas.List.{length-map}
 use Rattle.std.proofs.lemmas.Result.{IfOk-weaker, on_err_weaker}
-use Rattle.p3_air.specs.Tree.{Asserted, over_extension, SomeFirst}
-use Rattle.p3_air.specs.Laws.Appending.{some_after, some_of_more}
-use Rattle.p3_air.specs.Laws.Represent.{holds_on_err}
+use Rattle.air_core.specs.Tree.{Asserted, over_extension, SomeFirst}
+use Rattle.air_core.specs.Laws.Appending.{some_after, some_of_more}
+use Rattle.air_core.specs.Laws.Represent.{holds_on_err}
 use Rattle.p3_lookup.specs.Written.{read, read_all}
 use Rattle.p3_lookup.specs.Trees.{fraction_trees, running_trees}
 use Rattle.p3_lookup.proofs.Turns.{lookup_trees_are, some_item}

@@ -1,10 +1,10 @@
 use Rattle.std.proofs.Common.{◌≡◌, List, map, sym, ◌∙◌, ap, subst}
 use Rattle.std.specs.Prelude.{All}
-use Rattle.p3_air.specs.declared.node.Node.{Node}
-use Rattle.p3_air.specs.Tree.{Tree}
-use Rattle.p3_air.specs.Shape.{ReadsSendable}
-use Rattle.p3_air.specs.Symbolic.{tree_of}
-use Rattle.p3_air.specs.RowCheck.{row_shape}
+use Rattle.air_core.specs.declared.node.Node.{Node}
+use Rattle.air_core.specs.Tree.{Tree}
+use Rattle.air_core.specs.Shape.{ReadsSendable}
+use Rattle.air_core.specs.Symbolic.{tree_of}
+use Rattle.air_core.specs.RowCheck.{row_shape}
 use Rattle.p3_lookup.specs.Lookup.{Sent, pair_up, sent}
 use Rattle.p3_lookup.specs.Written.{Written, read, tree_count}
 use Rattle.p3_lookup.specs.Honest.{terms_of}

@@ -2,7 +2,7 @@ use Rattle.std.proofs.Common.{◌≡◌, ◌+◌, ◌*◌, ◌<◌, ◌≤◌, �
 use Rattle.std.specs.Prelude.{Err}
 use Rattle.std.proofs.lemmas.Result.{err_from_is_err_and}
 use Rattle.std.proofs.lemmas.List.{length-map, get_or_default}
-use Rattle.p3_air.specs.RowCheck.{row_shape}
+use Rattle.air_core.specs.RowCheck.{row_shape}
 use Rattle.p3_lookup.specs.Term.{Term, HasInverses}
 use Rattle.p3_lookup.specs.Lookup.{IsLookup, sent}
 use Rattle.p3_lookup.specs.Written.{read, read_all}

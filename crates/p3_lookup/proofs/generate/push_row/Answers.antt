@@ -1,6 +1,6 @@
 use Rattle.std.proofs.Common.{◌≡◌, ◌+◌, ◌<◌, ◌≤◌, refl, length, get_or, map, sym, ◌∙◌, ap, arith}
 use Rattle.std.proofs.lemmas.List.{length-map, get_or-map}
-use Rattle.p3_air.specs.Symbolic.{tree_of}
+use Rattle.air_core.specs.Symbolic.{tree_of}
 use Rattle.p3_lookup.specs.Lookup.{LookupData}
 use Rattle.p3_lookup.specs.Written.{Written, read, read_all}
 use Rattle.p3_lookup.specs.RowTerms.{sizes}

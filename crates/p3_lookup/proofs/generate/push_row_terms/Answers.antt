@@ -1,8 +1,8 @@
 use Rattle.std.proofs.Common.{[], subst, refl}
 use Rattle.std.specs.Option.{option_map}
-use Rattle.p3_air.specs.RowCheck.{Row}
-use Rattle.p3_air.specs.Check.{table_traces}
-use Rattle.p3_air.specs.Laws.RowOf.{row_is}
+use Rattle.air_core.specs.RowCheck.{Row}
+use Rattle.air_core.specs.Check.{table_traces}
+use Rattle.air_core.specs.Laws.RowOf.{row_is}
 use Rattle.p3_lookup.specs.Written.{read_all}
 use Rattle.p3_lookup.specs.Honest.{terms_from}
 use Rattle.p3_lookup.specs.RowTerms.{AreRowTermsAdded}

@@ -1,7 +1,7 @@
 use Rattle.std.proofs.Common.{◌≡◌, ◌+◌, ◌<◌, ◌≤◌, true, suc, List, ◌∷◌, length, drop, sym, ◌∙◌, ap, subst, arith}
 use Rattle.std.specs.Prelude.{All}
 use Rattle.std.proofs.lemmas.List.{length-map, drop_all}
-use Rattle.p3_air.specs.Tree.{local}
+use Rattle.air_core.specs.Tree.{local}
 use Rattle.p3_lookup.specs.Lookup.{LookupData, HasCountForEach}
 use Rattle.p3_lookup.specs.Written.{read, read_all}
 use Rattle.p3_lookup.specs.Packing.{packed_onto}

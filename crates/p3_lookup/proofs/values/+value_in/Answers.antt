@@ -1,5 +1,5 @@
 use Rattle.std.proofs.Common.{rules}
-use Rattle.p3_air.specs.Laws.Symbolic.{node_is}
+use Rattle.air_core.specs.Laws.Symbolic.{node_is}
 use Rattle.p3_lookup.proofs.values.+value_in.Goals as goal
 
 pub cell-requires : goal.cell-requires

@@ -1,9 +1,9 @@
 use Rattle.std.proofs.Common.{◌≡◌, ◌-◌, ◌<◌, suc, List, ◌∷◌, length, map, drop, ap, arith}
 use Rattle.p3_field.specs.Poly.{eval_poly}
-use Rattle.p3_air.specs.Tree.{Tree}
-use Rattle.p3_air.specs.Shape.{ReadsSendable}
-use Rattle.p3_air.specs.Symbolic.{tree_of}
-use Rattle.p3_air.specs.RowCheck.{row_shape}
+use Rattle.air_core.specs.Tree.{Tree}
+use Rattle.air_core.specs.Shape.{ReadsSendable}
+use Rattle.air_core.specs.Symbolic.{tree_of}
+use Rattle.air_core.specs.RowCheck.{row_shape}
 use Rattle.p3_lookup.specs.Generated.{embedded_at}
 use Rattle.p3_lookup.proofs.Turns.{at_item, dropped}
 use Rattle.p3_lookup.proofs.values.combined_value.Goals as goal

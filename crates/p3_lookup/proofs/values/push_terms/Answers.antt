@@ -1,10 +1,10 @@
 use Rattle.std.proofs.Common.{◌≡◌, ◌<◌, ◌≤◌, true, false, refl, List, length, map, get_or, sym, ◌∙◌, ap, subst, arith}
 use Rattle.std.specs.Prelude.{All}
 use Rattle.std.proofs.lemmas.List.{length-map}
-use Rattle.p3_air.specs.declared.node.Node.{Node}
-use Rattle.p3_air.specs.Shape.{ReadsSendable}
-use Rattle.p3_air.specs.Symbolic.{tree_of}
-use Rattle.p3_air.specs.RowCheck.{row_shape}
+use Rattle.air_core.specs.declared.node.Node.{Node}
+use Rattle.air_core.specs.Shape.{ReadsSendable}
+use Rattle.air_core.specs.Symbolic.{tree_of}
+use Rattle.air_core.specs.RowCheck.{row_shape}
 use Rattle.p3_lookup.specs.Lookup.{map_sent, pair_up}
 use Rattle.p3_lookup.specs.Term.{term, Term}
 use Rattle.p3_lookup.specs.Written.{tree_count}

@@ -1,5 +1,5 @@
 use Rattle.std.proofs.Common.{map}
-use Rattle.p3_air.specs.Symbolic.{tree_of}
+use Rattle.air_core.specs.Symbolic.{tree_of}
 use Rattle.p3_lookup.specs.Lookup.{pair_up}
 use Rattle.p3_lookup.specs.Written.{tree_count}
 use Rattle.p3_lookup.specs.Honest.{terms_of}

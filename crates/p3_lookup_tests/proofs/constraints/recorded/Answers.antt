@@ -1,8 +1,8 @@
 use Rattle.std.proofs.Common.{◌≡◌, List, length, refl, subst, sym, ◌∙◌, ap, arith, lit<}
 use Rattle.std.specs.Prelude.{All}
 use Rattle.p3_field.specs.declared.baby_bear.BabyBear.{BabyBear}
-use Rattle.p3_air.specs.declared.layout.AirLayout.{AirLayout}
-use Rattle.p3_air.specs.Layout.{layout_shape}
+use Rattle.air_core.specs.declared.layout.AirLayout.{AirLayout}
+use Rattle.air_core.specs.Layout.{layout_shape}
 use Rattle.p3_lookup.specs.Lookup.{FitLookups}
 use Rattle.p3_lookup.specs.Written.{Written, read_all}
 use Rattle.p3_lookup_tests.specs.Taken.{IsTakenLookup}

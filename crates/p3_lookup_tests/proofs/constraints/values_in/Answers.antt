@@ -1,6 +1,6 @@
 use Rattle.std.proofs.Common.{◌≡◌, length, refl, subst, sym, arith, lit<}
 use Rattle.p3_field.specs.declared.baby_bear.BabyBear.{BabyBear}
-use Rattle.p3_air.specs.RowCheck.{Row, row_shape}
+use Rattle.air_core.specs.RowCheck.{Row, row_shape}
 use Rattle.p3_lookup.specs.Lookup.{FitLookups}
 use Rattle.p3_lookup.specs.Written.{read_all}
 use Rattle.p3_lookup_tests.proofs.Taken.{fit_taken, right_of}

@@ -1,6 +1,6 @@
 use Rattle.std.proofs.Common.{List, subst, sym}
 use Rattle.p3_field.specs.declared.baby_bear.BabyBear.{BabyBear}
-use Rattle.p3_air.specs.declared.node.Node.{Node}
+use Rattle.air_core.specs.declared.node.Node.{Node}
 use Rattle.p3_lookup_tests.specs.Taken.{IsSendableByColumn}
 use Rattle.p3_lookup_tests.proofs.Taken.{cell_sendable}
 use Rattle.p3_lookup_tests.proofs.support.cell.Goals as goal

@@ -1,6 +1,6 @@
 use Rattle.std.proofs.Common.{◌≡◌, ◌++◌, ◌∷◌, [], List, subst, sym, ◌∙◌, ap, lit<}
-use Rattle.p3_air.specs.Symbolic.{IsExpression, OrderedFrom}
-use Rattle.p3_air.specs.declared.node.Node.{Node}
+use Rattle.air_core.specs.Symbolic.{IsExpression, OrderedFrom}
+use Rattle.air_core.specs.declared.node.Node.{Node}
 use Rattle.p3_field.specs.declared.baby_bear.BabyBear.{BabyBear}
 use Rattle.p3_lookup_tests.proofs.support.leaf.Goals as goal
 

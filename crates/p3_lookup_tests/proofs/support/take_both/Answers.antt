@@ -1,7 +1,7 @@
 use Rattle.std.proofs.Common.{List, [], ◌∷◌, refl, subst, sym}
 use Rattle.std.specs.Prelude.{All}
 use Rattle.p3_field.specs.declared.baby_bear.BabyBear.{BabyBear}
-use Rattle.p3_air.specs.declared.node.Node.{Node}
+use Rattle.air_core.specs.declared.node.Node.{Node}
 use Rattle.p3_lookup.specs.Written.{Written}
 use Rattle.p3_lookup_tests.specs.Taken.{IsSendableByColumn, IsTakenLookup}
 use Rattle.p3_lookup_tests.proofs.Taken.{one_of, two_of, taken_of}

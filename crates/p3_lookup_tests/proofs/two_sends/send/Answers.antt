@@ -1,6 +1,6 @@
 use Rattle.std.proofs.lemmas.Result.{IfOk-weaker, on_err_weaker}
 use Rattle.std.proofs.Common.{[]}
-use Rattle.p3_air.specs.Laws.Represent.{represent-none, represent-more, holds_on_err}
+use Rattle.air_core.specs.Laws.Represent.{represent-none, represent-more, holds_on_err}
 use Rattle.p3_lookup_tests.proofs.two_sends.send.Goals as goal
 
 pub returns-in_err-value-clause-on_error : goal.returns-in_err-value-clause-on_error

@@ -1,6 +1,6 @@
 use Rattle.std.proofs.Common.{◌≡◌, length, map, drop, sym, ◌∙◌, ap}
 use Rattle.std.proofs.lemmas.List.{length-map}
-use Rattle.p3_air.specs.Tree.{eval_tree, eval_asserted, over_base}
+use Rattle.air_core.specs.Tree.{eval_tree, eval_asserted, over_base}
 use Rattle.p3_uni_stark.specs.Fold.{fold_powers, weighed_from}
 use Rattle.p3_uni_stark.specs.Point.{point_reading, embedded}
 use Rattle.p3_uni_stark.specs.ProverState.{folder_values_of, folder_sum_of}

@@ -1,5 +1,5 @@
 use Rattle.std.proofs.Common.{map, ◌∙◌, ap}
-use Rattle.p3_air.specs.Tree.{eval_tree}
+use Rattle.air_core.specs.Tree.{eval_tree}
 use Rattle.p3_uni_stark.specs.Fold.{fold_from}
 use Rattle.p3_uni_stark.specs.Point.{point_reading}
 use Rattle.p3_uni_stark.specs.VerifierState.{folder_opened_of}

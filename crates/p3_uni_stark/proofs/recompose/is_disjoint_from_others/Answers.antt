@@ -1,7 +1,7 @@
 use Rattle.std.proofs.Common.{◌≡◌, ◌^◌, true, false, sym, ◌∙◌, subst, arith}
 use Rattle.std.proofs.lemmas.List.{get_or_read}
 use Rattle.p3_field.specs.Domain.{CosetData, point}
-use Rattle.p3_commit.specs.Space.{AreDisjoint}
+use Rattle.commit_core.specs.Space.{AreDisjoint}
 use Rattle.p3_uni_stark.specs.Recombine.{domain_at}
 use Rattle.p3_uni_stark.proofs.recompose.is_disjoint_from_others.Goals as goal
 

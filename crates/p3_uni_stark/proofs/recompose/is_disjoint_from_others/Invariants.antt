@@ -1,6 +1,6 @@
 use Rattle.std.proofs.Common.{◌≡◌, ℕ, ◌<◌, ◌^◌}
 use Rattle.p3_field.specs.Domain.{point}
-use Rattle.p3_commit.specs.Space.{AreDisjoint}
+use Rattle.commit_core.specs.Space.{AreDisjoint}
 use Rattle.p3_uni_stark.specs.Recombine.{domain_at}
 use Rattle.p3_uni_stark.proofs.recompose.is_disjoint_from_others.Given as goal
 

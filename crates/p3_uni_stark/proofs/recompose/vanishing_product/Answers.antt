@@ -3,7 +3,7 @@ use Rattle.std.proofs.lemmas.List.{get_or_read}
 use Rattle.p3_field.specs.Poly.{eval_poly}
 use Rattle.p3_field.specs.Domain.{CosetData, vanishing_polynomial, point}
 use Rattle.p3_field.specs.Laws.Roots.{field_no_zero_divisors}
-use Rattle.p3_commit.specs.Space.{IsPoint}
+use Rattle.commit_core.specs.Space.{IsPoint}
 use Rattle.p3_uni_stark.specs.Recombine.{domain_at}
 use Rattle.p3_field.specs.Laws.Products.{product_more}
 use Rattle.p3_uni_stark.proofs.recompose.vanishing_product.Goals as goal

@@ -1,7 +1,7 @@
 use Rattle.std.proofs.Common.{◌≡◌, ℕ, ◌<◌, ◌^◌, map}
 use Rattle.p3_field.specs.Poly.{eval_poly}
 use Rattle.p3_field.specs.Domain.{vanishing_polynomial, point}
-use Rattle.p3_commit.specs.Space.{IsPoint}
+use Rattle.commit_core.specs.Space.{IsPoint}
 use Rattle.p3_uni_stark.specs.Recombine.{domain_at}
 use Rattle.p3_field.specs.Poly.{product}
 use Rattle.p3_uni_stark.proofs.recompose.vanishing_product.Given as goal

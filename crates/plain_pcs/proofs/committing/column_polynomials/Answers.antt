@@ -2,7 +2,7 @@ use Rattle.std.proofs.Common.{◌≡◌, ℕ, ◌^◌, List, subst, sym, ◌∙�
 use Rattle.p3_field.specs.Domain.{coset_point, IsInterpolant}
 use Rattle.p3_matrix.specs.Matrix.{height, column}
 use Rattle.p3_matrix.specs.Laws.Powers.{power_cancel}
-use Rattle.p3_commit.specs.Laws.Each.{one_more}
+use Rattle.commit_core.specs.Laws.Each.{one_more}
 use Rattle.plain_pcs.proofs.committing.column_polynomials.Goals as goal
 
 pub interpolant_on_coset-requires-clause-subgroup : goal.interpolant_on_coset-requires-clause-subgroup

@@ -1,6 +1,6 @@
 use Rattle.p3_field.specs.Domain.{coset_point, IsInterpolant}
 use Rattle.p3_matrix.specs.Matrix.{column}
-use Rattle.p3_commit.specs.Space.{EachOf}
+use Rattle.commit_core.specs.Space.{EachOf}
 use Rattle.plain_pcs.proofs.committing.column_polynomials.Given as goal
 
 abbrev pub invariant-loop-j : goal.invariant-loop-j

@@ -1,7 +1,7 @@
 use Rattle.std.proofs.Common.{List, All, subst, sym, ◌∙◌}
 use Rattle.p3_field.specs.Domain.{CosetData}
 use Rattle.p3_matrix.specs.Matrix.{Rows}
-use Rattle.p3_commit.specs.Commitments.{AreExtensions}
+use Rattle.commit_core.specs.Commitments.{AreExtensions}
 use Rattle.plain_pcs.specs.Scheme.{scheme}
 use Rattle.plain_pcs.specs.Extension.{IsCommittable, Extends}
 use Rattle.p3_field.specs.Checks.{IsFirstWithout}

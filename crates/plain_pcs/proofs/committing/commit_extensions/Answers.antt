@@ -1,7 +1,7 @@
 use Rattle.std.proofs.Common.{◌≡◌, List, All, subst, sym, ◌∙◌}
 use Rattle.p3_matrix.specs.Matrix.{Rows}
-use Rattle.p3_commit.specs.Periodic.{EachFrom}
-use Rattle.p3_commit.specs.Commitments.{AreExtensions}
+use Rattle.commit_core.specs.Periodic.{EachFrom}
+use Rattle.commit_core.specs.Commitments.{AreExtensions}
 use Rattle.plain_pcs.specs.Scheme.{scheme}
 use Rattle.plain_pcs.specs.Extension.{Extends}
 use Rattle.plain_pcs.specs.Holding.{IsMade}

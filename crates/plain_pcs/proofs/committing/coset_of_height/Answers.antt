@@ -1,7 +1,7 @@
 use Rattle.std.proofs.Common.{◌≡◌, ℕ, ◌^◌, inl, inr, sym, ◌∙◌, ap, arith}
 use Rattle.std.proofs.lemmas.Option.{MatchOption-at_some}
 use Rattle.p3_matrix.specs.Laws.Powers.{power_cancel}
-use Rattle.p3_commit.specs.Laws.Options.{match_some}
+use Rattle.commit_core.specs.Laws.Options.{match_some}
 use Rattle.plain_pcs.proofs.committing.coset_of_height.Goals as goal
 
 same_log : (h n k l : ℕ) → h ≡ n → h ≡ 2 ^ k → n ≡ 2 ^ l → l ≡ k

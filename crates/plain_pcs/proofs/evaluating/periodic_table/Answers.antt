@@ -5,7 +5,7 @@ use Rattle.std.proofs.lemmas.List.{length-map}
 use Rattle.std.proofs.lemmas.List.Elements.{All-map}
 use Rattle.p3_field.specs.Domain.{point}
 use Rattle.p3_matrix.specs.Matrix.{Rows, height}
-use Rattle.p3_commit.specs.Periodic.{IsPeriod, IsPeriodicTable}
+use Rattle.commit_core.specs.Periodic.{IsPeriod, IsPeriodicTable}
 use Rattle.plain_pcs.specs.Transfer.{IsRepeated}
 use Rattle.plain_pcs.proofs.PeriodicTables.{period_positive, table_by_transfer}
 use Rattle.plain_pcs.proofs.evaluating.periodic_table.Goals as goal

@@ -3,7 +3,7 @@ use Rattle.std.proofs.Math.Pow.{pow_mono}
 use Rattle.p3_field.specs.Domain.{CosetData}
 use Rattle.p3_matrix.specs.Matrix.{height}
 use Rattle.p3_matrix.specs.Laws.Powers.{one_shifted_left}
-use Rattle.p3_commit.specs.Space.{IsSplit}
+use Rattle.commit_core.specs.Space.{IsSplit}
 use Rattle.plain_pcs.specs.Transfer.{IsTransfer}
 use Rattle.plain_pcs.proofs.Transfers.{largest_fits, stride_divides, ratio_not_zero, transfer, transfer_smaller}
 use Rattle.plain_pcs.proofs.evaluating.transferred.Goals as goal

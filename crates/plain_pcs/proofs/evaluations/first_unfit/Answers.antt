@@ -1,6 +1,6 @@
 use Rattle.std.proofs.Common.{◌≡◌, ◌∙◌, [], length, get_or, ap, arith, below_more}
 use Rattle.std.proofs.lemmas.List.{length-map, get_or_default}
-use Rattle.p3_commit.specs.Batches.{lists}
+use Rattle.commit_rows.specs.Batches.{lists}
 use Rattle.plain_pcs.proofs.Places.{read_list}
 use Rattle.plain_pcs.proofs.evaluations.first_unfit.Goals as goal
 

@@ -1,5 +1,5 @@
 use Rattle.std.proofs.Common.{◌≡◌, ℕ, ◌<◌, [], length, get_or}
-use Rattle.p3_commit.specs.Batches.{lists}
+use Rattle.commit_rows.specs.Batches.{lists}
 use Rattle.plain_pcs.proofs.evaluations.first_unfit.Given as goal
 
 abbrev pub invariant-loop-i : goal.invariant-loop-i

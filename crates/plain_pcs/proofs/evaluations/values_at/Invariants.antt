@@ -1,5 +1,5 @@
 use Rattle.std.proofs.Common.{◌≡◌, take}
-use Rattle.p3_commit.specs.Batches.{lists}
+use Rattle.commit_rows.specs.Batches.{lists}
 use Rattle.plain_pcs.specs.PlainMultilinear.{multilinear_values_at}
 use Rattle.plain_pcs.proofs.evaluations.values_at.Given as goal
 

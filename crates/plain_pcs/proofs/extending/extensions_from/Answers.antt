@@ -3,7 +3,7 @@ use Rattle.std.proofs.lemmas.Iterator.Adapters.{YieldsList-from_vec}
 use Rattle.std.proofs.lemmas.Iterator.Consumers.{YieldsList-turn, YieldsList-end}
 use Rattle.plain_pcs.specs.Scheme.{scheme}
 use Rattle.plain_pcs.specs.Extension.{IsCommittable, Extends}
-use Rattle.p3_commit.specs.Laws.Each.{none_yet}
+use Rattle.commit_core.specs.Laws.Each.{none_yet}
 use Rattle.plain_pcs.proofs.Lists.{each_yielded, each_done}
 use Rattle.plain_pcs.proofs.Places.{read_all}
 use Rattle.plain_pcs.proofs.extending.extensions_from.Goals as goal

@@ -1,6 +1,6 @@
 use Rattle.std.proofs.Common.{◌≡◌, Some, length}
 use Rattle.std.specs.Prelude.{slice_get}
-use Rattle.p3_commit.specs.Space.{EachOf}
+use Rattle.commit_core.specs.Space.{EachOf}
 use Rattle.plain_pcs.specs.Scheme.{scheme}
 use Rattle.plain_pcs.specs.Extension.{Extends}
 use Rattle.plain_pcs.proofs.extending.extensions_from.Given as goal

@@ -1,6 +1,6 @@
 use Rattle.std.proofs.Common.{◌≡◌, List, map, take}
 use Rattle.std.specs.Prelude.{zip}
-use Rattle.p3_commit.specs.Commitments.{Committed, values_of}
+use Rattle.commit_core.specs.Commitments.{Committed, values_of}
 use Rattle.plain_pcs.specs.Opening.{EachHasValues}
 use Rattle.plain_pcs.proofs.opening.opened_matrices.Given as goal
 

@@ -1,5 +1,5 @@
 use Rattle.std.proofs.Common.{◌≡◌, map, take}
-use Rattle.p3_commit.specs.Commitments.{Committed, values_of}
+use Rattle.commit_core.specs.Commitments.{Committed, values_of}
 use Rattle.plain_pcs.specs.Opening.{HaveMatrixValues}
 use Rattle.plain_pcs.proofs.opening.opened_matrix.Given as goal
 

@@ -1,7 +1,7 @@
 use Rattle.std.proofs.Common.{◌≡◌, List, map, take}
 use Rattle.std.specs.Prelude.{zip}
-use Rattle.p3_commit.specs.Commitments.{OpenedCommitment, nested, opened_round}
-use Rattle.p3_commit.specs.Periodic.{EachFrom}
+use Rattle.commit_core.specs.Commitments.{OpenedCommitment, nested, opened_round}
+use Rattle.commit_core.specs.Periodic.{EachFrom}
 use Rattle.plain_pcs.specs.Scheme.{PlainCommitmentData}
 use Rattle.plain_pcs.specs.Opening.{EachHasValues}
 use Rattle.plain_pcs.proofs.opening.opened_requests.Given as goal

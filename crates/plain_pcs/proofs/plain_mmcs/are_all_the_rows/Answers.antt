@@ -1,6 +1,6 @@
 use Rattle.std.proofs.Common.{◌<◌, length, get_or, refl, sym, subst, arith}
 use Rattle.std.proofs.lemmas.List.{get_or_default}
-use Rattle.p3_commit.specs.Batches.{lists}
+use Rattle.commit_rows.specs.Batches.{lists}
 use Rattle.plain_pcs.specs.PlainMmcs.{AreTheRows}
 use Rattle.plain_pcs.proofs.Places.{each_read, read_at, below_and_here}
 use Rattle.plain_pcs.proofs.plain_mmcs.are_all_the_rows.Goals as goal

@@ -1,5 +1,5 @@
 use Rattle.std.proofs.Common.{ℕ, ◌<◌, get_or}
-use Rattle.p3_commit.specs.Batches.{lists}
+use Rattle.commit_rows.specs.Batches.{lists}
 use Rattle.plain_pcs.specs.PlainMmcs.{AreTheRows}
 use Rattle.plain_pcs.proofs.plain_mmcs.are_all_the_rows.Given as goal
 

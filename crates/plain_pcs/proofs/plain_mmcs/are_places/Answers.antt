@@ -2,7 +2,7 @@ use Rattle.std.proofs.Common.{refl, subst}
 use Rattle.std.specs.Prelude.{All}
 use Rattle.std.proofs.lemmas.List.{take_all}
 use Rattle.std.proofs.lemmas.List.Elements.{All-more}
-use Rattle.p3_commit.specs.Batches.{IsRowOf}
+use Rattle.commit_rows.specs.Batches.{IsRowOf}
 use Rattle.plain_pcs.proofs.plain_mmcs.are_places.Goals as goal
 
 pub loop-index-preserved : goal.loop-index-preserved

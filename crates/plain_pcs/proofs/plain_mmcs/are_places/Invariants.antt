@@ -1,6 +1,6 @@
 use Rattle.std.proofs.Common.{take}
 use Rattle.std.specs.Prelude.{All}
-use Rattle.p3_commit.specs.Batches.{IsRowOf}
+use Rattle.commit_rows.specs.Batches.{IsRowOf}
 use Rattle.plain_pcs.proofs.plain_mmcs.are_places.Given as goal
 
 abbrev pub invariant-loop-index : goal.invariant-loop-index

@@ -2,7 +2,7 @@ use Rattle.std.proofs.Common.{refl, sym, subst}
 use Rattle.std.specs.Prelude.{All}
 use Rattle.std.proofs.lemmas.List.{take_all}
 use Rattle.std.proofs.lemmas.List.Elements.{All-more, All-map}
-use Rattle.p3_commit.specs.Batches.{lists, HaveWidths}
+use Rattle.commit_rows.specs.Batches.{lists, HaveWidths}
 use Rattle.plain_pcs.proofs.Places.{mapped_at}
 use Rattle.plain_pcs.proofs.plain_mmcs.have_widths_each.Goals as goal
 

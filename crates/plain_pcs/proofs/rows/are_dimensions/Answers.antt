@@ -4,7 +4,7 @@ use Rattle.std.specs.Int.{IsPowerOfTwo}
 use Rattle.std.proofs.lemmas.List.{take_all}
 use Rattle.std.proofs.lemmas.List.Elements.{All-more}
 use Rattle.p3_matrix.specs.Matrix.{height}
-use Rattle.p3_commit.specs.Batches.{dimensions_of}
+use Rattle.commit_rows.specs.Batches.{dimensions_of}
 use Rattle.plain_pcs.proofs.Places.{read_all}
 use Rattle.plain_pcs.proofs.Heights.{size_at, dimensions_more}
 use Rattle.plain_pcs.proofs.rows.are_dimensions.Goals as goal

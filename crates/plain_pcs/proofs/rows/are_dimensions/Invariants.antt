@@ -2,7 +2,7 @@ use Rattle.std.proofs.Common.{◌≡◌, take}
 use Rattle.std.specs.Prelude.{All}
 use Rattle.std.specs.Int.{IsPowerOfTwo}
 use Rattle.p3_matrix.specs.Matrix.{height}
-use Rattle.p3_commit.specs.Batches.{dimensions_of}
+use Rattle.commit_rows.specs.Batches.{dimensions_of}
 use Rattle.plain_pcs.proofs.rows.are_dimensions.Given as goal
 
 abbrev pub invariant-loop-i : goal.invariant-loop-i

@@ -1,7 +1,7 @@
 use Rattle.std.proofs.Common.{◌≤◌, ◌∙◌, refl, sym, arith}
 use Rattle.std.specs.Int.{IsPowerOfTwo}
 use Rattle.p3_matrix.specs.Matrix.{height, row_at}
-use Rattle.p3_commit.specs.Batches.{row_in}
+use Rattle.commit_rows.specs.Batches.{row_in}
 use Rattle.plain_pcs.specs.PlainMmcs.{IsRowByEq}
 use Rattle.plain_pcs.proofs.Places.{read_all, each_read, one_of_each, below_and_here}
 use Rattle.plain_pcs.proofs.Heights.{none_higher, greatest_power, tested_row}

@@ -1,6 +1,6 @@
 use Rattle.std.proofs.Common.{ℕ, ◌<◌, get_or}
 use Rattle.p3_matrix.specs.Matrix.{height}
-use Rattle.p3_commit.specs.Batches.{row_in}
+use Rattle.commit_rows.specs.Batches.{row_in}
 use Rattle.plain_pcs.specs.PlainMmcs.{IsRowByEq}
 use Rattle.plain_pcs.proofs.rows.are_rows.Given as goal
 

@@ -1,4 +1,4 @@
-use Rattle.p3_commit.specs.Batches.{lists}
+use Rattle.commit_rows.specs.Batches.{lists}
 use Rattle.plain_pcs.proofs.Heights.{the_rows_at_greatest}
 use Rattle.plain_pcs.proofs.rows.are_the_rows.Goals as goal
 

@@ -1,6 +1,6 @@
 use Rattle.std.proofs.Common.{◌≡◌, length, map, take}
 use Rattle.p3_matrix.specs.Matrix.{height, row_at}
-use Rattle.p3_commit.specs.Batches.{lists, row_in}
+use Rattle.commit_rows.specs.Batches.{lists, row_in}
 use Rattle.plain_pcs.proofs.rows.rows_of.Given as goal
 
 abbrev pub invariant-loop-m : goal.invariant-loop-m

@@ -1,7 +1,7 @@
 use Rattle.std.proofs.Common.{◌≡◌, ◌+◌, ◌^◌, ◌≤◌, ◌∙◌, sym, ap, arith}
 use Rattle.p3_field.specs.Domain.{CosetData}
 use Rattle.p3_matrix.specs.Matrix.{height}
-use Rattle.p3_commit.specs.Claims.{MatrixClaim}
+use Rattle.commit_core.specs.Claims.{MatrixClaim}
 use Rattle.plain_pcs.specs.Scheme.{scheme}
 use Rattle.p3_matrix.specs.Laws.Powers.{one_shifted_left}
 use Rattle.plain_pcs.proofs.Parts.{dimensions_by}

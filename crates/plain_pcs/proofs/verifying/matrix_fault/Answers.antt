@@ -1,7 +1,7 @@
 use Rattle.std.proofs.Common.{◌+◌, ◌^◌, IsTrue, length, map, sym, ◌∙◌, ap, rules}
 use Rattle.std.proofs.lemmas.List.{length-map}
 use Rattle.p3_field.specs.Domain.{CosetData}
-use Rattle.p3_commit.specs.Claims.{MatrixClaim}
+use Rattle.commit_core.specs.Claims.{MatrixClaim}
 use Rattle.plain_pcs.specs.Scheme.{scheme}
 use Rattle.plain_pcs.specs.Checks.{HasDimensions}
 use Rattle.plain_pcs.specs.Faults.{AreColumnPolynomials}

@@ -2,7 +2,7 @@ use Rattle.std.proofs.Common.{◌≡◌, Some, length, map, refl, sym, ◌∙◌
 use Rattle.std.specs.Prelude.{slice_get}
 use Rattle.std.proofs.lemmas.List.{length-map}
 use Rattle.std.proofs.lemmas.Option.{slice_get_read, slice_get_within}
-use Rattle.p3_commit.specs.Claims.{PointClaim}
+use Rattle.commit_core.specs.Claims.{PointClaim}
 use Rattle.p3_field.specs.Checks.{NoneFails}
 use Rattle.plain_pcs.specs.Checks.{point_checks}
 use Rattle.plain_pcs.specs.declared.error.PlainError.TheVariants.{Value}

@@ -1,7 +1,7 @@
 use Rattle.std.specs.Prelude.{Result, Ok, Err, IsOk}
-use Rattle.p3_commit.specs.Failure.{VerifiedBy}
-use Rattle.p3_commit.specs.declared.failure.PcsFailure.{PcsFailure}
-use Rattle.p3_commit.specs.declared.failure.PcsFailure.TheVariants.{OutOfMemory, Refused}
+use Rattle.commit_core.specs.Failure.{VerifiedBy}
+use Rattle.commit_core.specs.declared.failure.PcsFailure.{PcsFailure}
+use Rattle.commit_core.specs.declared.failure.PcsFailure.TheVariants.{OutOfMemory, Refused}
 use Rattle.plain_pcs_tests.proofs.bounds.verified.Goals as goal
 
 -- where a verifier accepts, the proof opens the claims

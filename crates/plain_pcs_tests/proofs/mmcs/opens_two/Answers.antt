@@ -1,6 +1,6 @@
 use Rattle.std.proofs.Common.{[], ◌∷◌, sym, subst}
 use Rattle.std.specs.Prelude.{All}
-use Rattle.p3_commit.specs.Batches.{IsRowOf}
+use Rattle.commit_rows.specs.Batches.{IsRowOf}
 use Rattle.plain_pcs_tests.proofs.mmcs.opens_two.Goals as goal
 
 pub open_multi_batch-requires : goal.open_multi_batch-requires

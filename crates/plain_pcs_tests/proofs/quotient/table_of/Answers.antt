@@ -1,6 +1,6 @@
 use Rattle.std.proofs.Common.{◌≡◌, ℕ, ◌^◌, refl, sym, subst}
 use Rattle.std.proofs.Math.Nat.{dvd-mul_right}
-use Rattle.p3_commit.specs.Periodic.{IsPeriod}
+use Rattle.commit_core.specs.Periodic.{IsPeriod}
 use Rattle.plain_pcs_tests.proofs.FirstPoint.{first_point}
 use Rattle.plain_pcs_tests.proofs.quotient.table_of.Goals as goal
 

@@ -1,7 +1,7 @@
 use Rattle.std.proofs.Common.{refl, ◌∙◌}
-use Rattle.p3_commit.specs.Commitments.{nested}
+use Rattle.commit_core.specs.Commitments.{nested}
 use Rattle.p3_field.specs.Laws.TwoAdic.{decide_by}
-use Rattle.batch_proving.specs.Laws.Verdicts.{exits}
+use Rattle.prover_answer.specs.Laws.Verdicts.{exits}
 use Rattle.prover_openings.proofs.Given.{asked_same, columns_of, counts_long, listed, taken_same, there_same}
 use Rattle.prover_openings.proofs.Unchanged.{kept_by_exit}
 use Rattle.prover_openings.proofs.Whole.{granted_of_batch, left_of_batch, opened_of_batch, proves_of_batch, refusal_of_batch, taken_of_batch}

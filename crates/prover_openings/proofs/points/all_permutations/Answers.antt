@@ -1,8 +1,8 @@
 use Rattle.std.proofs.Common.{◌∷◌, ◌++◌, [], arith, map, sym, ◌∙◌}
 use Rattle.std.specs.Prelude.{option_to_list}
 use Rattle.p3_lookup.specs.Written.{read_all}
-use Rattle.batch_shape_checks.specs.Laws.Items.{item_of_map}
-use Rattle.honest_proofs.specs.HonestProof.{where_some}
+use Rattle.verifier_shape.specs.Laws.Items.{item_of_map}
+use Rattle.law_honest.specs.HonestProof.{where_some}
 use Rattle.prover_openings.proofs.Lists.{flat_push}
 use Rattle.prover_openings.proofs.points.all_permutations.Goals as goal
 

@@ -1,5 +1,5 @@
 use Rattle.std.proofs.Common.{map}
-use Rattle.batch_setting.specs.Domains.{next_by}
+use Rattle.batch_config.specs.Domains.{next_by}
 use Rattle.prover_openings.proofs.AllAsked.{all_asked, if_ok_more}
 use Rattle.prover_openings.proofs.requests.all_requests.Goals as goal
 

@@ -1,6 +1,6 @@
 use Rattle.std.proofs.Common.{◌<◌, length, arith}
 use Rattle.p3_field.specs.Laws.Checks.{none_until}
-use Rattle.batch_proving.specs.Laws.Verdicts.{exits, refusal_in_turn}
+use Rattle.prover_answer.specs.Laws.Verdicts.{exits, refusal_in_turn}
 use Rattle.prover_quotients.proofs.Extended.{all_extended, more_extended, none_extended}
 use Rattle.prover_quotients.proofs.Items.{lookups_long, place_at, place_inside}
 use Rattle.prover_quotients.proofs.batch.all_extensions.Goals as goal

@@ -1,7 +1,7 @@
 use Rattle.std.proofs.Common.{map}
-use Rattle.batch_proving.specs.Batch.{batch_of}
-use Rattle.batch_setting.specs.Setting.{Setting}
-use Rattle.honest_proofs.specs.HonestProof.{Prover}
+use Rattle.prover_answer.specs.Batch.{batch_of}
+use Rattle.batch_config.specs.Setting.{Setting}
+use Rattle.law_honest.specs.HonestProof.{Prover}
 use Rattle.prover_quotients.proofs.Extended.{AreExtended}
 use Rattle.prover_quotients.proofs.batch.all_extensions.Given as goal
 

@@ -2,9 +2,9 @@ use Rattle.std.proofs.Common.{◌^◌, refl, sym}
 use Rattle.std.specs.Option.{option_map}
 use Rattle.p3_field.specs.Domain.{point}
 use Rattle.p3_field.specs.Laws.TwoAdic.{decide_by}
-use Rattle.batch_proving.specs.Backend.{ProverBackend}
+use Rattle.prover_answer.specs.Backend.{ProverBackend}
 use Rattle.batch_setup.specs.Setup.{airs_of}
-use Rattle.honest_proofs.specs.HonestProof.{AreCanonical}
+use Rattle.law_honest.specs.HonestProof.{AreCanonical}
 use Rattle.prover_quotients.proofs.Given.{are_given, columns_there, commitment_on}
 use Rattle.prover_quotients.proofs.Items.{many}
 use Rattle.prover_quotients.proofs.Shapes.{follows}

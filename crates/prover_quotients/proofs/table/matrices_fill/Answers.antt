@@ -1,6 +1,6 @@
 use Rattle.std.proofs.Common.{arith}
 use Rattle.p3_matrix.specs.Matrix.{FillsRows, Rows}
-use Rattle.batch_shape_checks.specs.Laws.Items.{all_more}
+use Rattle.verifier_shape.specs.Laws.Items.{all_more}
 use Rattle.prover_quotients.proofs.table.matrices_fill.Goals as goal
 
 pub loop-chunk-preserved : goal.loop-chunk-preserved

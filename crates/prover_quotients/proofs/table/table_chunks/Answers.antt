@@ -1,6 +1,6 @@
 use Rattle.std.proofs.Common.{◌∙◌, ap}
 use Rattle.p3_field.specs.Laws.TwoAdic.{decide_by}
-use Rattle.batch_setting.specs.Domains.{offered}
+use Rattle.batch_config.specs.Domains.{offered}
 use Rattle.batch_setup.specs.Preprocessed.{natural}
 use Rattle.prover_quotients.proofs.Chunked.{chunks_from, values_count}
 use Rattle.prover_quotients.proofs.Shapes.{follows_both}

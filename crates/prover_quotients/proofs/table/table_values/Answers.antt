@@ -1,7 +1,7 @@
 use Rattle.std.proofs.Common.{◌∙◌, ap}
 use Rattle.std.specs.Prelude.{option_to_list}
 use Rattle.p3_field.specs.Laws.TwoAdic.{decide_by}
-use Rattle.committed_tables.specs.Fields.{FieldsLaws}
+use Rattle.law_committed.specs.Fields.{FieldsLaws}
 use Rattle.prover_quotients.proofs.Shapes.{follows}
 use Rattle.prover_quotients.proofs.Valued.{main_here, periods_here, permutation_here, preprocessed_here, terminals_here, values_here}
 use Rattle.prover_quotients.proofs.table.table_values.Given.{Over}

@@ -1,6 +1,6 @@
 use Rattle.std.proofs.Common.{List, ℕ, ◌∙◌, sym, subst, arith}
 use Rattle.std.specs.Int.{IsPowerOfTwo}
-use Rattle.line_format.specs.Texts.{Stops, one_number}
+use Rattle.tool_lines.specs.Texts.{Stops, one_number}
 use Rattle.tool_jobs.proofs.Readings.{count-missing, count-refused}
 use Rattle.tool_jobs.specs.Laws.Counts.{IsCount}
 use Rattle.tool_jobs.proofs.counts.next_count.Goals as goal

@@ -1,7 +1,7 @@
 use Rattle.std.proofs.Common.{arith}
 use Rattle.std.specs.Prelude.{map}
-use Rattle.line_format.specs.Texts.{list_numbers}
-use Rattle.line_format.specs.Laws.Stops.{handed-on}
+use Rattle.tool_lines.specs.Texts.{list_numbers}
+use Rattle.tool_lines.specs.Laws.Stops.{handed-on}
 use Rattle.tool_jobs.specs.Laws.Counts.{PowersWithin}
 use Rattle.tool_jobs.proofs.Readings.{powers-after, powers-count}
 use Rattle.tool_jobs.proofs.counts.read_powers.Goals as goal

@@ -1,4 +1,4 @@
-use Rattle.tool_validity.specs.Job.{IsJobTableWithin}
+use Rattle.law_tool_valid.specs.Job.{IsJobTableWithin}
 use Rattle.tool_jobs.specs.Jobs.{read_table}
 use Rattle.tool_jobs.proofs.Traces.{at_item}
 use Rattle.tool_jobs.proofs.job.all_statements.Goals as goal

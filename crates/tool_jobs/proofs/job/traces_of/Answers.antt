@@ -1,5 +1,5 @@
 use Rattle.p3_field.specs.BabyBear.{baby_bear_ring}
-use Rattle.tool_validity.specs.Job.{IsJobTableWithin, trace_of}
+use Rattle.law_tool_valid.specs.Job.{IsJobTableWithin, trace_of}
 use Rattle.tool_jobs.specs.Jobs.{read_table}
 use Rattle.tool_jobs.proofs.Traces.{at_item, maps-more}
 use Rattle.tool_jobs.proofs.job.traces_of.Goals as goal

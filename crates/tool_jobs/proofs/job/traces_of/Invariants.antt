@@ -1,6 +1,6 @@
 use Rattle.std.proofs.Common.{◌≡◌, map, take}
 use Rattle.p3_field.specs.BabyBear.{baby_bear_ring}
-use Rattle.tool_validity.specs.Job.{trace_of}
+use Rattle.law_tool_valid.specs.Job.{trace_of}
 use Rattle.tool_jobs.specs.Jobs.{read_table}
 use Rattle.tool_jobs.proofs.job.traces_of.Given as goal
 

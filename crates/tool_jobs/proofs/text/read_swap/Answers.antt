@@ -1,5 +1,5 @@
-use Rattle.line_format.specs.Laws.Grammars.{element-grammar, two-grammar}
-use Rattle.line_format.specs.Laws.Stops.{handed-on, same-stops, then-first, then-second}
+use Rattle.tool_lines.specs.Laws.Grammars.{element-grammar, two-grammar}
+use Rattle.tool_lines.specs.Laws.Stops.{handed-on, same-stops, then-first, then-second}
 use Rattle.tool_jobs.specs.Jobs.{read_table}
 use Rattle.tool_jobs.specs.Laws.Kinds.{KindWithin, body_numbers, log_rows-grammar, same-swap}
 use Rattle.tool_jobs.proofs.text.read_swap.Goals as goal

@@ -1,4 +1,4 @@
-use Rattle.line_format.specs.Laws.Stops.{handed-on, same-stops}
+use Rattle.tool_lines.specs.Laws.Stops.{handed-on, same-stops}
 use Rattle.tool_jobs.specs.Jobs.{read_table}
 use Rattle.tool_jobs.specs.Laws.Kinds.{KindWithin, body_numbers, same-take}
 use Rattle.tool_jobs.proofs.text.read_take.Goals as goal

@@ -1,7 +1,7 @@
 use Rattle.std.proofs.Common.{◌++◌, ◌∷◌, [], map, take, ◌∙◌, ap, refl}
 use Rattle.p3_field.specs.BabyBear.{baby_bear_ring}
 use Rattle.p3_field.specs.declared.baby_bear.BabyBear.{BabyBear}
-use Rattle.tool_validity.specs.Job.{give_row}
+use Rattle.law_tool_valid.specs.Job.{give_row}
 use Rattle.tool_jobs.specs.Jobs.{read_given}
 use Rattle.tool_jobs.proofs.Traces.{pairs-fill, rows-more}
 use Rattle.tool_jobs.proofs.trace.give_trace.Goals as goal

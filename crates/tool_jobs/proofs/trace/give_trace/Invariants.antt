@@ -1,7 +1,7 @@
 use Rattle.std.proofs.Common.{◌≡◌, map, take}
 use Rattle.std.specs.List.{flat_map}
 use Rattle.p3_field.specs.BabyBear.{baby_bear_ring}
-use Rattle.tool_validity.specs.Job.{give_row}
+use Rattle.law_tool_valid.specs.Job.{give_row}
 use Rattle.tool_jobs.specs.Jobs.{read_given}
 use Rattle.tool_jobs.proofs.trace.give_trace.Given as goal
 

@@ -1,5 +1,5 @@
 use Rattle.p3_field.specs.Poly.{tabulate}
-use Rattle.tool_validity.specs.Job.{swap_row}
+use Rattle.law_tool_valid.specs.Job.{swap_row}
 use Rattle.tool_jobs.proofs.Traces.{pairs-fill, rows-next, swap_row-pair}
 use Rattle.tool_jobs.proofs.trace.swap_trace.Goals as goal
 

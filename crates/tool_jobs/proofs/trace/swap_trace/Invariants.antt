@@ -1,7 +1,7 @@
 use Rattle.std.proofs.Common.{◌≡◌}
 use Rattle.std.specs.List.{flat_map}
 use Rattle.p3_field.specs.Poly.{tabulate}
-use Rattle.tool_validity.specs.Job.{swap_row}
+use Rattle.law_tool_valid.specs.Job.{swap_row}
 use Rattle.tool_jobs.proofs.trace.swap_trace.Given as goal
 
 abbrev pub invariant-loop-i : goal.invariant-loop-i

@@ -1,7 +1,7 @@
 use Rattle.std.proofs.Common.{◌∙◌}
 use Rattle.p3_field.specs.BabyBear.{baby_bear_ring}
 use Rattle.p3_field.specs.Laws.Tabulate.{tabulate_push}
-use Rattle.tool_validity.specs.Job.{wheel_cell}
+use Rattle.law_tool_valid.specs.Job.{wheel_cell}
 use Rattle.tool_jobs.proofs.trace.wheel_trace.Goals as goal
 
 pub loop-i-preserved : goal.loop-i-preserved

@@ -1,5 +1,5 @@
-use Rattle.plain_soundness.specs.Laws.Over.{own_laws}
-use Rattle.plain_soundness.specs.PlainSetting.{plain_scheme}
+use Rattle.law_soundness.specs.Laws.Over.{own_laws}
+use Rattle.law_soundness.specs.PlainSetting.{plain_scheme}
 use Rattle.tool_prover.specs.Laws.Granted.{batch_granted, none_overloaded}
 use Rattle.tool_prover.proofs.laws.traced_batches_are_granted.Goals as goal
 

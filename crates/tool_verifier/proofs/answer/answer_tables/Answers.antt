@@ -1,5 +1,5 @@
 use Rattle.std.proofs.Common.{◌∙◌, ap}
-use Rattle.proof_text.specs.ProofText.{ToolProofData}
+use Rattle.tool_proof_text.specs.ProofText.{ToolProofData}
 use Rattle.tool_verifier.proofs.Answering.{accepted, faulted, heights, mismatched}
 use Rattle.tool_verifier.proofs.answer.answer_tables.Goals as goal
 

@@ -1,4 +1,4 @@
-use Rattle.hash_lines.specs.Laws.Matrices.{hash_matrices}
+use Rattle.tool_hash_lines.specs.Laws.Matrices.{hash_matrices}
 use Rattle.p3_field.specs.Quartic.{quartic_inv}
 use Rattle.tool_verifier.specs.Laws.Meant.{hashes, swaps, tables_hold}
 use Rattle.tool_verifier.proofs.meaning.accepted_means.Goals as goal

@@ -3,7 +3,7 @@ use Rattle.p3_field.specs.BabyBear.{baby_bear_ring}
 use Rattle.p3_field.specs.declared.baby_bear.BabyBear.{BabyBear}
 use Rattle.plain_pcs.specs.Scheme.{Blowup}
 use Rattle.batch_setup.specs.Packed.{source_of}
-use Rattle.batch_shape_checks.specs.Laws.Verdicts.{exits}
+use Rattle.verifier_shape.specs.Laws.Verdicts.{exits}
 use Rattle.tool_tables.specs.Tool.{tool_declaration, tool_interactions, tool_trees}
 use Rattle.tool_verifier.specs.Laws.Stated.{formed_is, refusal_is, same_tables, verdict_is}
 use Rattle.tool_verifier.proofs.tables.verify_tables.Goals as goal

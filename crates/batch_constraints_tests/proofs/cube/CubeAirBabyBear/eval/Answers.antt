@@ -1,6 +1,6 @@
 use Rattle.std.proofs.Common.{[]}
 use Rattle.std.proofs.lemmas.Result.{IfOk-weaker, on_err_weaker}
-use Rattle.p3_air.specs.Laws.Appending.{none_on_err, none_first}
+use Rattle.air_core.specs.Laws.Appending.{none_on_err, none_first}
 use Rattle.batch_constraints_tests.proofs.cube.CubeAirBabyBear.eval.Goals as goal
 
 pub returns-in_err-square-clause-on_error : goal.returns-in_err-square-clause-on_error

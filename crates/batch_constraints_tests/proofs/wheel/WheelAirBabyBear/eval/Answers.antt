@@ -1,5 +1,5 @@
 use Rattle.std.proofs.Common.{[]}
-use Rattle.p3_air.specs.Laws.Appending.{none_on_err}
+use Rattle.air_core.specs.Laws.Appending.{none_on_err}
 use Rattle.batch_constraints_tests.proofs.wheel.WheelAirBabyBear.eval.Goals as goal
 
 pub returns-clause-appends : goal.returns-clause-appends

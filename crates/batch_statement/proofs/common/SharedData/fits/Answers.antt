@@ -1,5 +1,5 @@
 use Rattle.std.proofs.Common.{◌≡◌, true, false, List, map, sym, ◌∙◌, ap, subst}
-use Rattle.p3_air.specs.Laws.Reads.{not_true}
+use Rattle.air_core.specs.Laws.Reads.{not_true}
 use Rattle.p3_lookup.specs.Written.{Written}
 use Rattle.std.specs.Prelude.{Option}
 use Rattle.batch_statement.specs.Statement.{PreprocessedTracesData, WrittenCommon}

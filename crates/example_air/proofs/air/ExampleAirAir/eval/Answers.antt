@@ -1,8 +1,8 @@
 use Rattle.std.proofs.lemmas.Result.{IfOk-weaker, on_err_weaker}
 use Rattle.std.proofs.lemmas.List.{append-nil}
 use Rattle.std.proofs.Common.{List, [], ◌++◌, ◌∙◌, subst}
-use Rattle.p3_air.specs.Tree.{SomeFirst}
-use Rattle.p3_air.specs.Laws.Appending.{none_first, some_after}
+use Rattle.air_core.specs.Tree.{SomeFirst}
+use Rattle.air_core.specs.Laws.Appending.{none_first, some_after}
 use Rattle.example_air.proofs.air.ExampleAirAir.eval.Goals as goal
 
 -- a call that sends alone, after one that asserts alone

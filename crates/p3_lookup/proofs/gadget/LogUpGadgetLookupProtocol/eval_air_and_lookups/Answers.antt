@@ -1,8 +1,8 @@
 use Rattle.std.proofs.Common.{List, [], ◌++◌, map, subst, append-nil}
 use Rattle.std.proofs.lemmas.Result.{IfOk-weaker, on_err_weaker}
-use Rattle.p3_air.specs.Tree.{Interaction, over_base, over_extension, SomeFirst}
-use Rattle.p3_air.specs.Laws.Appending.{some_after, some_of_more}
-use Rattle.p3_air.specs.Laws.Represent.{holds_on_err}
+use Rattle.air_core.specs.Tree.{Interaction, over_base, over_extension, SomeFirst}
+use Rattle.air_core.specs.Laws.Appending.{some_after, some_of_more}
+use Rattle.air_core.specs.Laws.Represent.{holds_on_err}
 use Rattle.p3_lookup.specs.Written.{read_all}
 use Rattle.p3_lookup.specs.Trees.{lookup_trees}
 use Rattle.p3_lookup.proofs.gadget.LogUpGadgetLookupProtocol.eval_air_and_lookups.Goals as goal

@@ -1,6 +1,6 @@
 use Rattle.std.proofs.lemmas.Result.{IfOk-weaker, on_err_weaker}
 use Rattle.std.proofs.Common.{[], ◌∷◌}
-use Rattle.p3_air.specs.Laws.Appending.{none_first, some_after}
+use Rattle.air_core.specs.Laws.Appending.{none_first, some_after}
 use Rattle.p3_lookup_tests.proofs.two_sends.TwoSendsAirBabyBear.eval.Goals as goal
 
 pub returns-clause-appends : goal.returns-clause-appends

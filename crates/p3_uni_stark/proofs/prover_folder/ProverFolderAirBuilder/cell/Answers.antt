@@ -1,6 +1,6 @@
 use Rattle.std.proofs.Common.{sym, subst, ◌∙◌, ap}
-use Rattle.p3_air.specs.Shape.{Declares}
-use Rattle.p3_air.specs.PointValues.{PointValues, point_cell, point_shape}
+use Rattle.air_core.specs.Shape.{Declares}
+use Rattle.air_core.specs.PointValues.{PointValues, point_cell, point_shape}
 use Rattle.p3_uni_stark.specs.ProverState.{folder_values_of}
 use Rattle.p3_uni_stark.specs.Laws.Folders.{image_of_cell}
 use Rattle.p3_uni_stark.proofs.prover_folder.ProverFolderAirBuilder.cell.Goals as goal

@@ -1,6 +1,6 @@
 use Rattle.std.proofs.Common.{sym, subst, ◌∙◌, ap}
-use Rattle.p3_air.specs.Shape.{Declares}
-use Rattle.p3_air.specs.PointValues.{PointValues, point_cell, point_shape}
+use Rattle.air_core.specs.Shape.{Declares}
+use Rattle.air_core.specs.PointValues.{PointValues, point_cell, point_shape}
 use Rattle.p3_uni_stark.proofs.verifier_folder.VerifierFolderAirBuilder.cell.Goals as goal
 
 pub cell-requires : goal.cell-requires

@@ -2,7 +2,7 @@ use Rattle.std.proofs.Common.{◌≡◌, ◌∙◌, length, map, sym, subst}
 use Rattle.std.specs.Prelude.{All}
 use Rattle.std.specs.Int.{IsPowerOfTwo}
 use Rattle.p3_matrix.specs.Matrix.{height}
-use Rattle.p3_commit.specs.Batches.{lists, AreRowsAt, dimensions_of}
+use Rattle.commit_rows.specs.Batches.{lists, AreRowsAt, dimensions_of}
 use Rattle.plain_pcs.specs.PlainMmcs.{IsRowOpening}
 use Rattle.plain_pcs.proofs.Heights.{opened_rows_accepted, widths_of}
 use Rattle.plain_pcs.proofs.plain_mmcs.PlainMmcsMmcs.open_batch.Goals as goal

@@ -4,11 +4,11 @@ use Rattle.std.specs.Int.{IsPowerOfTwo}
 use Rattle.std.proofs.lemmas.List.{map-append}
 use Rattle.std.proofs.lemmas.Option.{get_or_from_slice_get}
 use Rattle.p3_matrix.specs.Matrix.{height}
-use Rattle.p3_commit.specs.Space.{EachOf}
-use Rattle.p3_commit.specs.Periodic.{EachFrom}
-use Rattle.p3_commit.specs.Batches.{lists, IsRowOf, AreRowsAt, dimensions_of}
+use Rattle.commit_core.specs.Space.{EachOf}
+use Rattle.commit_core.specs.Periodic.{EachFrom}
+use Rattle.commit_rows.specs.Batches.{lists, IsRowOf, AreRowsAt, dimensions_of}
 use Rattle.plain_pcs.specs.PlainMmcs.{AreRowOpenings}
-use Rattle.p3_commit.specs.Laws.Each.{one_more}
+use Rattle.commit_core.specs.Laws.Each.{one_more}
 use Rattle.plain_pcs.proofs.Heights.{all_opened_accepted, widths_each}
 use Rattle.plain_pcs.proofs.plain_mmcs.PlainMmcsMmcs.open_multi_batch.Goals as goal
 

@@ -1,7 +1,7 @@
 use Rattle.std.proofs.Common.{◌≡◌, ℕ, Some, length, map}
 use Rattle.std.specs.Prelude.{slice_get}
-use Rattle.p3_commit.specs.Space.{EachOf}
-use Rattle.p3_commit.specs.Batches.{lists, AreRowsAt}
+use Rattle.commit_core.specs.Space.{EachOf}
+use Rattle.commit_rows.specs.Batches.{lists, AreRowsAt}
 use Rattle.plain_pcs.proofs.plain_mmcs.PlainMmcsMmcs.open_multi_batch.Given as goal
 
 abbrev pub invariant-loop-index : goal.invariant-loop-index

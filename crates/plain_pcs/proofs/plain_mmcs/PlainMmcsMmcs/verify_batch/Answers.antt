@@ -2,7 +2,7 @@ use Rattle.std.proofs.Common.{◌≡◌, ◌∙◌, true, false, refl, sym, subs
 use Rattle.std.specs.Prelude.{All}
 use Rattle.std.specs.Int.{IsPowerOfTwo}
 use Rattle.p3_matrix.specs.Matrix.{height}
-use Rattle.p3_commit.specs.Batches.{lists, IsRowOf}
+use Rattle.commit_rows.specs.Batches.{lists, IsRowOf}
 use Rattle.plain_pcs.specs.PlainMmcs.{HasOpeningShape, AreTheRows}
 use Rattle.plain_pcs.proofs.OpeningFaults.{wrong_opening, wrong_place, wrong_rows}
 use Rattle.plain_pcs.proofs.plain_mmcs.PlainMmcsMmcs.verify_batch.Goals as goal

@@ -2,8 +2,8 @@ use Rattle.std.proofs.Common.{◌≡◌, ◌∙◌, map, true, false, refl, sym,
 use Rattle.std.specs.Prelude.{All}
 use Rattle.std.specs.Int.{IsPowerOfTwo}
 use Rattle.p3_matrix.specs.Matrix.{height}
-use Rattle.p3_commit.specs.Periodic.{EachFrom}
-use Rattle.p3_commit.specs.Batches.{lists, IsRowOf}
+use Rattle.commit_core.specs.Periodic.{EachFrom}
+use Rattle.commit_rows.specs.Batches.{lists, IsRowOf}
 use Rattle.plain_pcs.specs.PlainMmcs.{HaveOpeningShapes, AreTheRows}
 use Rattle.plain_pcs.proofs.Heights.{row_counts}
 use Rattle.plain_pcs.proofs.OpeningFaults.{wrong_opening, wrong_place, wrong_rows}

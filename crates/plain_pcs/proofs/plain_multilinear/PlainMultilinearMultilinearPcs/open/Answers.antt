@@ -1,6 +1,6 @@
 use Rattle.std.proofs.Common.{◌≡◌, ◌^◌, ◌∙◌, length, subst, sym, arith}
 use Rattle.p3_matrix.specs.Laws.Powers.{one_shifted_left}
-use Rattle.p3_commit.specs.Batches.{lists}
+use Rattle.commit_rows.specs.Batches.{lists}
 use Rattle.plain_pcs.specs.PlainMultilinear.{HaveCoordinates}
 use Rattle.plain_pcs.proofs.plain_multilinear.PlainMultilinearMultilinearPcs.open.Goals as goal
 

@@ -1,7 +1,7 @@
 use Rattle.std.proofs.Common.{◌≡◌, ◌^◌, ◌∙◌, length, subst, sym, arith, rules}
 use Rattle.std.proofs.lemmas.List.{length-map}
 use Rattle.p3_matrix.specs.Laws.Powers.{one_shifted_left}
-use Rattle.p3_commit.specs.Batches.{lists}
+use Rattle.commit_rows.specs.Batches.{lists}
 use Rattle.plain_pcs.specs.PlainMultilinear.{HaveCoordinates, IsFirstUnfit, IsFirstDifferent, multilinear_values_at}
 use Rattle.plain_pcs.proofs.ClaimFaults.{length_fault, point_fault, count_fault, value_fault}
 use Rattle.plain_pcs.proofs.plain_multilinear.PlainMultilinearMultilinearPcs.verify.Goals as goal

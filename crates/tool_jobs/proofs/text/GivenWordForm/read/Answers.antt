@@ -1,5 +1,5 @@
-use Rattle.line_format.specs.Laws.Grammars.{element-grammar}
-use Rattle.line_format.specs.Laws.Stops.{handed-on, same-stops, then-first, then-second}
+use Rattle.tool_lines.specs.Laws.Grammars.{element-grammar}
+use Rattle.tool_lines.specs.Laws.Stops.{handed-on, same-stops, then-first, then-second}
 use Rattle.tool_jobs.specs.Jobs.{given_numbers, read_given}
 use Rattle.tool_jobs.specs.Laws.Kinds.{GivenWithin, same-given, times-grammar}
 use Rattle.tool_jobs.proofs.text.GivenWordForm.read.Goals as goal

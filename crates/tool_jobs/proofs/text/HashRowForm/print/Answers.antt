@@ -1,7 +1,7 @@
 use Rattle.std.proofs.Common.{List, ℕ, ◌++◌, sym, ◌∙◌, ap}
 use Rattle.std.proofs.lemmas.Result.{on_ok_weaker}
-use Rattle.line_format.specs.Texts.{items_numbers, line_text, one_number}
-use Rattle.line_format.specs.Laws.Prints.{prints-items}
+use Rattle.tool_lines.specs.Texts.{items_numbers, line_text, one_number}
+use Rattle.tool_lines.specs.Laws.Prints.{prints-items}
 use Rattle.tool_jobs.specs.Laws.Kinds.{numbers-own}
 use Rattle.tool_jobs.proofs.text.HashRowForm.print.Goals as goal
 

@@ -1,5 +1,5 @@
-use Rattle.line_format.specs.Laws.Stops.{handed-on, same-stops}
-use Rattle.tool_validity.specs.Job.{IsHashRow}
+use Rattle.tool_lines.specs.Laws.Stops.{handed-on, same-stops}
+use Rattle.law_tool_valid.specs.Job.{IsHashRow}
 use Rattle.tool_jobs.specs.Jobs.{row_numbers}
 use Rattle.tool_jobs.specs.Laws.Kinds.{same-row}
 use Rattle.tool_jobs.proofs.text.HashRowForm.read.Goals as goal

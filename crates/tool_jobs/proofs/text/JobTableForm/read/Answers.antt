@@ -1,5 +1,5 @@
-use Rattle.line_format.specs.Laws.Stops.{handed-on, pair-first, same-stops}
-use Rattle.tool_validity.specs.Job.{IsJobTableWithin}
+use Rattle.tool_lines.specs.Laws.Stops.{handed-on, pair-first, same-stops}
+use Rattle.law_tool_valid.specs.Job.{IsJobTableWithin}
 use Rattle.tool_jobs.specs.Jobs.{read_table, table_numbers}
 use Rattle.tool_jobs.specs.Laws.Kinds.{KindWithin, kind-grammar}
 use Rattle.tool_jobs.specs.Laws.Texts.{same-table}

@@ -1,7 +1,7 @@
 use Rattle.std.proofs.Common.{[], ◌∙◌}
 use Rattle.std.proofs.lemmas.Result.{IfOk-weaker, on_err_weaker}
-use Rattle.p3_air.specs.Laws.Appending.{none_on_err, none_first}
-use Rattle.p3_air.specs.Laws.Represent.{represent-none, represent-more}
+use Rattle.air_core.specs.Laws.Appending.{none_on_err, none_first}
+use Rattle.air_core.specs.Laws.Represent.{represent-none, represent-more}
 use Rattle.tool_tables.proofs.take.TakeAirAir.eval.Goals as goal
 
 pub returns-in_err-value-clause-on_error : goal.returns-in_err-value-clause-on_error

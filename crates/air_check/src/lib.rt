@@ -1,0 +1,11 @@
+//! The check of a table's constraints row by row, and the builder that evaluates them at a row. After Plonky3's `p3-air`
+//! (`check_constraints`, `DebugConstraintBuilder`).
+//!
+//! What the check answers is in `specs/` (`Checked`).
+#![tactic(auto)]
+
+mod check;
+mod debug;
+
+pub use check::{CheckFailure, check_constraints};
+pub use debug::DebugConstraintBuilder;

@@ -1,0 +1,3 @@
+pub mod NodeDegrees
+pub mod Asserted
+pub mod Chosen

@@ -1,0 +1,19 @@
+-- What is proved of the definitions, by subject.
+pub mod Symbolic
+pub mod Lists
+pub mod Appended
+pub mod Represent
+pub mod Operation
+pub mod Asserting
+pub mod Appending
+pub mod Declared
+pub mod PointValues
+pub mod RowOf
+pub mod Recording
+pub mod Reads
+pub mod Places
+pub mod Copying
+pub mod Maps
+pub mod CellValues
+pub mod Degrees
+pub mod Greatest

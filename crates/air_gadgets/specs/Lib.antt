@@ -1,0 +1,3 @@
+pub mod Gadgets
+pub mod Words
+pub mod Laws

@@ -1,0 +1,4 @@
+pub mod Wheel
+pub mod Laws
+pub mod Sending
+pub mod Swap

@@ -1,5 +1,0 @@
-use Rattle.batch_draws.specs.Laws.Singles.{no_pair}
-use Rattle.batch_draws.proofs.meanings.no_pair_without_lookups.Goals as goal
-
-pub returns : goal.returns
-returns g c = λ lookups d h. no_pair lookups d h

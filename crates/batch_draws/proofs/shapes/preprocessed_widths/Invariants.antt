@@ -1,6 +1,0 @@
-use Rattle.std.proofs.Common.{◌≡◌, map, take}
-use Rattle.p3_air.specs.Shape.{width_of}
-use Rattle.batch_draws.proofs.shapes.preprocessed_widths.Given as goal
-
-abbrev pub invariant-loop-air : goal.invariant-loop-air
-invariant-loop-air g l = l.widths.items ≡ map (λ a. width_of (g.A.BaseAir.declaration a).preprocessed) (take l.air-index l.airs)

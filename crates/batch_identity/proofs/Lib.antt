@@ -1,4 +1,0 @@
-mod Quotients
-mod Verdicts
-mod Pushed
-mod PeriodicColumns

@@ -1,3 +1,0 @@
--- What is proved of the definitions, by subject.
-pub mod Opened
-pub mod Verdict

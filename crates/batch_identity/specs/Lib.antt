@@ -1,5 +1,0 @@
-pub mod Identity
-pub mod OpenedRows
-pub mod PeriodicValues
-pub mod VerifierData
-pub mod Laws

@@ -1,3 +1,0 @@
-pub mod TableIdentity
-pub mod MadeRows
-pub mod Laws

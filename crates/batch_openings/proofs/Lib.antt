@@ -1,4 +1,0 @@
-pub mod Thin
-pub mod Shaped
-pub mod Thinned
-pub mod Whole

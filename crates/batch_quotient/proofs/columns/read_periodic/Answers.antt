@@ -1,8 +1,0 @@
-use Rattle.std.proofs.Common.{◌∙◌, sym}
-use Rattle.p3_field.specs.Laws.Tabulate.{tabulate_push}
-use Rattle.batch_quotient.proofs.columns.read_periodic.Goals as goal
-
-pub loop-column-preserved : goal.loop-column-preserved
-loop-column-preserved g c =
-    let z = g.F.RingCore.ring.zero in
-    c.in_ok-push.ensures.items ∙ tabulate_push _ _ _ _ c.loop-column.invariant (sym (c.get.ensures z))

@@ -1,5 +1,0 @@
-use Rattle.batch_quotient.specs.Laws.Given.{some_table_is_read}
-use Rattle.batch_quotient.proofs.meanings.some_table_is_read.Goals as goal
-
-pub returns : goal.returns
-returns g c f e top inverse d k given L fits nz main preprocessed permutation = some_table_is_read f e top inverse L d fits nz k given main preprocessed permutation

@@ -1,6 +1,0 @@
-use Rattle.std.proofs.Common.{◌≡◌, ℕ}
-use Rattle.batch_shape_checks.specs.ShapeChecks.{heights_of}
-use Rattle.batch_shape_checks.proofs.bounds.heights.Given as goal
-
-abbrev pub invariant-loop-index : goal.invariant-loop-index
-invariant-loop-index l = l.heights.items ≡ heights_of l.masks l.degree_bits l.index

@@ -1,2 +1,0 @@
--- What is proved of the definitions, by table.
-pub mod Sending

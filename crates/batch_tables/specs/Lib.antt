@@ -1,3 +1,0 @@
-pub mod Swap
-pub mod Sending
-pub mod Laws

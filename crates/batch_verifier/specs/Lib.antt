@@ -1,2 +1,0 @@
-pub mod BatchChecks
-pub mod Laws

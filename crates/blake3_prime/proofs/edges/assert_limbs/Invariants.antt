@@ -1,0 +1,14 @@
+use Rattle.std.proofs.Common.{◌≡◌, ◌+◌, ◌*◌}
+use Rattle.air_core.specs.Joined.{joined}
+use Rattle.air_core.specs.Appended.{Appended}
+use Rattle.blake3_prime.specs.Trees.{packed_trees}
+use Rattle.blake3_prime.proofs.edges.assert_limbs.Given as goal
+
+abbrev pub invariant-loop-i : goal.invariant-loop-i
+invariant-loop-i g l =
+    let B = g.AB.AirBuilder in
+    let r = g.AB.F.RingCore.ring in record {
+      later : B.later l.fn.builder l.builder;
+      keeps_shape : B.shape l.builder ≡ B.shape l.fn.builder;
+      grown : Appended B.appends l.fn.builder l.builder (joined l.i (λ i. packed_trees r (l.column + 32 * i) (l.limbs + 2 * i)));
+    }

@@ -1,0 +1,3 @@
+pub mod Logarithms
+pub mod Disjoint
+pub mod Periods

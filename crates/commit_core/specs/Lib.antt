@@ -1,0 +1,6 @@
+pub mod Space
+pub mod Periodic
+pub mod Laws
+pub mod Claims
+pub mod Failure
+pub mod Commitments

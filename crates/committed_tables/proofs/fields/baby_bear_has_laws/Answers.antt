@@ -1,5 +1,0 @@
-use Rattle.committed_tables.specs.Laws.BabyBearFields.{baby_bear_fields}
-use Rattle.committed_tables.proofs.fields.baby_bear_has_laws.Goals as goal
-
-pub returns : goal.returns
-returns c = baby_bear_fields

@@ -1,5 +1,0 @@
-use Rattle.committed_tables.specs.Laws.Traces.{traces_committed}
-use Rattle.committed_tables.proofs.rows.traces_are_committed.Goals as goal
-
-pub returns : goal.returns
-returns g c f e top inverse k traces columns challenges terminals L fits H = traces_committed f e top inverse L k fits traces columns challenges terminals H

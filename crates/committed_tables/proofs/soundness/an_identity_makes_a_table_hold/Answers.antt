@@ -1,5 +1,0 @@
-use Rattle.committed_tables.specs.Laws.Soundness.{holds_or_unlucky}
-use Rattle.committed_tables.proofs.soundness.an_identity_makes_a_table_hold.Goals as goal
-
-pub returns : goal.returns
-returns g c f e top inverse t trees q alpha zeta L fits I = holds_or_unlucky f e top inverse L t trees q alpha zeta fits I

@@ -1,5 +1,0 @@
-use Rattle.committed_tables.specs.Laws.Batch.{batch_holds_or_unlucky}
-use Rattle.committed_tables.proofs.soundness.identities_make_a_batch_hold.Goals as goal
-
-pub returns : goal.returns
-returns g c f e top inverse batch alpha zeta L fits I = batch_holds_or_unlucky f e top inverse L batch alpha zeta fits I

@@ -1,5 +1,0 @@
-use Rattle.hash_lines.specs.Laws.Compressions.{line_of_compression}
-use Rattle.hash_lines.proofs.laws.compressions_are_printed.Goals as goal
-
-pub returns : goal.returns
-returns c = line_of_compression

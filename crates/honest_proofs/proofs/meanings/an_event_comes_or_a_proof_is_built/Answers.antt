@@ -1,5 +1,0 @@
-use Rattle.honest_proofs.specs.Laws.Events.{outcome}
-use Rattle.honest_proofs.proofs.meanings.an_event_comes_or_a_proof_is_built.Goals as goal
-
-pub returns : goal.returns
-returns g k c p s traces degree_bits own decided heights = outcome _ c p s traces degree_bits own decided heights

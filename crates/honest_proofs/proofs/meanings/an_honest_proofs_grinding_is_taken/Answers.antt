@@ -1,5 +1,0 @@
-use Rattle.honest_proofs.specs.Laws.Ground.{ground_accepted}
-use Rattle.honest_proofs.proofs.meanings.an_honest_proofs_grinding_is_taken.Goals as goal
-
-pub returns : goal.returns
-returns g k c p s traces degree_bits w z opening canonical lookup ood = ground_accepted c p s traces degree_bits canonical _ w z opening lookup ood

@@ -1,0 +1,23 @@
+-- When an honest proof is accepted.
+use Rattle.std.specs.Prelude.{ℕ, ◌+◌, ◌*◌, ◌^◌, ◌<◌, List, length, All}
+use Rattle.p3_field.specs.Laws.SubgroupSelectors.{subgroup}
+use Rattle.p3_matrix.specs.Matrix.{Rows}
+use Rattle.air_core.specs.Shape.{HasColumns, ReadsDeclared, declared_shape}
+use Rattle.verifier_identity.specs.Identity.{IsInDomain}
+use Rattle.batch_config.specs.Setting.{Setting}
+use Rattle.batch_statement.specs.Statement.{Statement}
+use Rattle.law_valid.specs.Traced.{TracedTable, declared, log_parts, log_rows, traced_at}
+
+-- A table is regular: a preprocessed trace has a column, and the AIR's constraints read declared cells alone, as each AIR's do. For n rows and
+-- a quotient of C chunks n (C + 1) is below 2^64, as it is where the field's two-adicity is below 63.
+pub record IsRegular {S F E C : Type 0} (c : Setting S F E C) (t : TracedTable F) : Type 0 where
+  pub has_columns : HasColumns (declared t).preprocessed
+  pub reads : All (ReadsDeclared (declared_shape (declared t))) t.table.trees
+  pub small : 2 ^ log_rows c t * (2 ^ log_parts c t + 1) < 2 ^ 64
+
+abbrev pub AreRegular : {S F E C : Type 0} → Setting S F E C → Statement F C → (traces : List (Rows F)) → (degree_bits : List ℕ) → Type 0
+AreRegular c s traces degree_bits = (i : ℕ) → i < length s.tables → IsRegular c (traced_at s traces degree_bits i)
+
+-- the point isn't one of the domain of the table's rows
+abbrev pub IsOutsideRows : {S F E C : Type 0} → Setting S F E C → TracedTable F → E → Type 0
+IsOutsideRows c t x = IsInDomain c.field c.extension (subgroup c.field.ring (log_rows c t)) x → ⊥

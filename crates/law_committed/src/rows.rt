@@ -1,0 +1,42 @@
+//! Committed tables on their rows: laws as the contracts of functions that compute nothing.
+ghost use Rattle.std.specs.Prelude.{◌≡◌, ◌↔◌, ℕ, ◌+◌, ◌%◌, ◌^◌, ◌<◌, ◌≤◌, List};
+ghost use Rattle.p3_field.specs.Field.{TwoAdic, Extension};
+ghost use Rattle.p3_matrix.specs.Matrix.{Rows};
+ghost use Rattle.air_core.specs.Check.{TableTraces};
+ghost use Rattle.law_committed.specs.Committed.{CommittedTable, IsBounded, next_point, row_point, row_count_of, committed_values_at};
+ghost use Rattle.law_committed.specs.Fields.{FieldsLaws};
+ghost use Rattle.law_committed.specs.Rows.{AreOfRow, CommitsTo, row_of_traces};
+ghost use Rattle.law_committed.specs.Traces.{HaveTraceRows, committed_traces};
+
+/// The point of the next row is that of row (i + 1) modulo the height (`next`). On the rows the first row's selector is zero
+/// in all but the first, the last row's in all but the last, and the transition's in the last alone (`first`, `last`,
+/// `transition`).
+pub fn selectors_mark_their_rows<F, E>()
+    ensures next { (f : TwoAdic F) (e : Extension F E) (top : ℕ) (inverse : E → E) (t : CommittedTable F E) (i : ℕ) → FieldsLaws f e top inverse
+        → t.log_height ≤ top → i < row_count_of t → next_point f e t (row_point f e t i) ≡ row_point f e t ((i + 1) % row_count_of t) }
+    ensures first { (f : TwoAdic F) (e : Extension F E) (top : ℕ) (inverse : E → E) (t : CommittedTable F E) (i : ℕ) → FieldsLaws f e top inverse
+        → t.log_height ≤ top → i < row_count_of t → ((committed_values_at f e t (row_point f e t i)).first_row ≡ e.ring.zero) ↔ (0 < i) }
+    ensures last { (f : TwoAdic F) (e : Extension F E) (top : ℕ) (inverse : E → E) (t : CommittedTable F E) (i : ℕ) → FieldsLaws f e top inverse
+        → t.log_height ≤ top → i < row_count_of t → ((committed_values_at f e t (row_point f e t i)).last_row ≡ e.ring.zero) ↔ (i + 1 < row_count_of t) }
+    ensures transition { (f : TwoAdic F) (e : Extension F E) (top : ℕ) (inverse : E → E) (t : CommittedTable F E) (i : ℕ) → FieldsLaws f e top inverse
+        → t.log_height ≤ top → i < row_count_of t → ((committed_values_at f e t (row_point f e t i)).transition ≡ e.ring.zero) ↔ (i + 1 ≡ row_count_of t) }
+{}
+
+/// A table that commits to traces reads on row i what a check of rows reads there: row i of each matrix, row (i + 1) modulo
+/// the height for next cells, each periodic column at i modulo its length, and selectors that are zero where those of the
+/// check are (`row`). Its polynomials have degrees below its height (`bounded`).
+pub fn a_committed_table_has_its_traces_rows<F, E>()
+    ensures row { (f : TwoAdic F) (e : Extension F E) (top : ℕ) (inverse : E → E) (t : CommittedTable F E) (traces : TableTraces F) (columns : Rows E) (i : ℕ) → FieldsLaws f e top inverse
+        → t.log_height ≤ top → CommitsTo f e t traces columns → i < row_count_of t
+        → AreOfRow e (row_of_traces f.ring.zero traces columns t.challenges t.terminals i) (committed_values_at f e t (row_point f e t i)) }
+    ensures bounded { (f : TwoAdic F) (e : Extension F E) (top : ℕ) (inverse : E → E) (t : CommittedTable F E) (traces : TableTraces F) (columns : Rows E) → FieldsLaws f e top inverse
+        → CommitsTo f e t traces columns → IsBounded f t }
+{}
+
+/// Traces and permutation columns of 2^k rows, which each periodic column fits, are committed to by the interpolants of their
+/// columns: so there is a table that commits to them.
+pub fn traces_are_committed<F, E>()
+    ensures { (f : TwoAdic F) (e : Extension F E) (top : ℕ) (inverse : E → E) (k : ℕ) (traces : TableTraces F) (columns : Rows E) (challenges terminals : List E) → FieldsLaws f e top inverse
+        → k ≤ top → HaveTraceRows (2 ^ k) traces columns
+        → CommitsTo f e (committed_traces f e traces columns challenges terminals k) traces columns }
+{}

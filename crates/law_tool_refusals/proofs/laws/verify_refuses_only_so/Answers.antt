@@ -1,0 +1,13 @@
+use Rattle.law_tool_refusals.proofs.Files.{line_may_come}
+use Rattle.law_tool_refusals.proofs.Never.{never_answered}
+use Rattle.law_tool_refusals.proofs.Tables.{tables_may_come}
+use Rattle.law_tool_refusals.proofs.laws.verify_refuses_only_so.Goals as goal
+
+pub returns-clause-fault : goal.returns-clause-fault
+returns-clause-fault c tables p e within few heights first = tables_may_come tables within few p heights e first
+
+pub returns-clause-line : goal.returns-clause-line
+returns-clause-line c bytes text answer = line_may_come bytes text answer
+
+pub returns-clause-never : goal.returns-clause-never
+returns-clause-never c words bytes e not_possible answer = never_answered words bytes e not_possible answer

@@ -1,4 +1,0 @@
-pub mod NodeDegrees
-pub mod Nonzero
-pub mod Asserted
-pub mod Chosen

@@ -1,4 +1,0 @@
-use Rattle.p3_air.proofs.copying.+copy_at.Given as goal
-
-abbrev pub decreases-copy_at : goal.decreases-copy_at
-decreases-copy_at g l = l.place

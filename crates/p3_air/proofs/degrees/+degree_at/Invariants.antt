@@ -1,4 +1,0 @@
-use Rattle.p3_air.proofs.degrees.+degree_at.Given as goal
-
-abbrev pub decreases-degree_at : goal.decreases-degree_at
-decreases-degree_at g l = l.place

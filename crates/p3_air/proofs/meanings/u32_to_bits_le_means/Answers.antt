@@ -1,5 +1,0 @@
-use Rattle.p3_air.specs.Laws.Words.{bits_mean}
-use Rattle.p3_air.proofs.meanings.u32_to_bits_le_means.Goals as goal
-
-pub returns : goal.returns
-returns c w h = bits_mean w h

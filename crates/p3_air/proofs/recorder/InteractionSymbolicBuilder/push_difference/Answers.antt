@@ -1,7 +1,0 @@
-use Rattle.p3_air.specs.Laws.Recording.{represents-difference}
-use Rattle.p3_air.proofs.recorder.InteractionSymbolicBuilder.push_difference.Goals as goal
-
-pub returns-clause-represents : goal.returns-clause-represents
-returns-clause-represents g c s t h k =
-    represents-difference c.push.result c.args.self.now.nodes c.push.new.self.nodes c.args.x c.args.y s t h k
-    (rw (← c.place-left.ensures.place, ← c.place-right.ensures.place) c.push.ensures.represents)

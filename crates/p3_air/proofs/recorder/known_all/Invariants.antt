@@ -1,6 +1,0 @@
-use Rattle.std.proofs.Common.{◌≡◌, map, take}
-use Rattle.p3_air.specs.Recording.{place_or_zero}
-use Rattle.p3_air.proofs.recorder.known_all.Given as goal
-
-abbrev pub invariant-loop-x : goal.invariant-loop-x
-invariant-loop-x l = l.places.items ≡ map (place_or_zero l.count) (take l.x-index l.xs)

@@ -1,6 +1,0 @@
-use Rattle.std.proofs.Common.{◌≡◌, map, take}
-use Rattle.p3_air.specs.Recording.{count_or_zero}
-use Rattle.p3_air.proofs.recorder.known_counts.Given as goal
-
-abbrev pub invariant-loop-x : goal.invariant-loop-x
-invariant-loop-x l = l.counts.items ≡ map (count_or_zero l.count) (take l.x-index l.xs)

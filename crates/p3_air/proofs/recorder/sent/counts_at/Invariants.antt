@@ -1,6 +1,0 @@
-use Rattle.std.proofs.Common.{◌≡◌, map, take}
-use Rattle.p3_air.specs.Symbolic.{tree_at, tree_of}
-use Rattle.p3_air.proofs.recorder.sent.counts_at.Given as goal
-
-abbrev pub invariant-loop-count : goal.invariant-loop-count
-invariant-loop-count g l = map tree_of l.expressions.items ≡ map (λ c. tree_at l.nodes c.value) (take l.count-index l.counts)

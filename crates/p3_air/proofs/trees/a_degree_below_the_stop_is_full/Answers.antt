@@ -1,5 +1,0 @@
-use Rattle.p3_air.specs.Laws.Degrees.{degree_is_full}
-use Rattle.p3_air.proofs.trees.a_degree_below_the_stop_is_full.Goals as goal
-
-pub returns : goal.returns
-returns g c p q t below = degree_is_full p q t below

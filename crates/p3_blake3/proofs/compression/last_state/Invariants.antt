@@ -1,7 +1,0 @@
-use Rattle.p3_blake3.specs.Compress.{Input, first_state}
-use Rattle.p3_blake3.specs.TraceRow.{state}
-use Rattle.p3_blake3.specs.Generated.{AreFirst, IsState}
-use Rattle.p3_blake3.proofs.compression.last_state.Given as goal
-
-abbrev pub invariant-loop-n : goal.invariant-loop-n
-invariant-loop-n l = (x : Input) → AreFirst l.words x → IsState l.fn.first (first_state x) → IsState l.state (state x l.n)

@@ -1,8 +1,0 @@
-use Rattle.p3_field.specs.Poly.{tabulate}
-use Rattle.p3_air.specs.Words.{limb}
-use Rattle.p3_air.specs.Joined.{joined}
-use Rattle.p3_blake3.specs.Generated.{Pushed, input_of}
-use Rattle.p3_blake3.proofs.pushing.push_limb_words.Given as goal
-
-abbrev pub invariant-loop-i : goal.invariant-loop-i
-invariant-loop-i g l = Pushed g.F.RingCore.ring l.fn.values.items l.values.items (joined l.i (λ i. tabulate 2 (limb (input_of l.words i))))

@@ -1,5 +1,0 @@
-use Rattle.p3_blake3_binary_air.specs.Laws.Pushing.{bit_of_carries}
-use Rattle.p3_blake3_binary_air.proofs.generation.carry_word.Goals as goal
-
-pub returns : goal.returns
-returns c i lt = bit_of_carries c.args.a c.args.b i lt

@@ -1,4 +1,0 @@
-pub mod Logarithms
-pub mod Disjoint
-pub mod Periods
-pub mod Padded

@@ -1,6 +1,0 @@
-use Rattle.std.proofs.Common.{◌≡◌, map}
-use Rattle.p3_commit.specs.Claims.{point_claim}
-use Rattle.p3_commit.proofs.claims.MatrixOpening.from_tuple.Given as goal
-
-abbrev pub invariant-loop-pair : goal.invariant-loop-pair
-invariant-loop-pair g l = l.points.items ≡ map point_claim l.yielded

@@ -1,6 +1,0 @@
-use Rattle.std.proofs.Common.{◌≡◌, map}
-use Rattle.p3_commit.specs.Claims.{matrix_claim}
-use Rattle.p3_commit.proofs.claims.matrix_openings.Given as goal
-
-abbrev pub invariant-loop-pair : goal.invariant-loop-pair
-invariant-loop-pair g l = l.matrices.items ≡ map matrix_claim l.yielded

@@ -1,6 +1,0 @@
-use Rattle.std.proofs.Common.{◌≡◌, ◌++◌}
-use Rattle.p3_field.specs.Poly.{tabulate}
-use Rattle.p3_commit.proofs.encoder.padded.Given as goal
-
-abbrev pub invariant-loop : goal.invariant-loop
-invariant-loop g l = l.values.items ≡ l.initial.values.items ++ tabulate l.counter (λ _. g.F.RingCore.ring.zero)

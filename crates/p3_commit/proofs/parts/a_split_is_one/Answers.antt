@@ -1,5 +1,0 @@
-use Rattle.p3_commit.specs.Laws.Parts.{one_split}
-use Rattle.p3_commit.proofs.parts.a_split_is_one.Goals as goal
-
-pub returns : goal.returns
-returns g c m first second n i pos fills filled S T = one_split m first second n i g.F.RingCore.ring.zero pos fills filled S T

@@ -1,7 +1,0 @@
-use Rattle.std.proofs.Common.{◌≡◌, map, take}
-use Rattle.std.specs.Prelude.{zip}
-use Rattle.p3_commit_caller.specs.Rounds.{claim_at}
-use Rattle.p3_commit_caller.proofs.rounds.claims_at.Given as goal
-
-abbrev pub invariant-loop-index : goal.invariant-loop-index
-invariant-loop-index g l = l.claims.items ≡ map claim_at (take l.index (zip l.points (map (λ v. v.items) l.values)))

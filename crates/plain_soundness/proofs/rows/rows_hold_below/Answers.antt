@@ -1,5 +1,0 @@
-use Rattle.plain_soundness.specs.Laws.BaseRows.{zero_below}
-use Rattle.plain_soundness.proofs.rows.rows_hold_below.Goals as goal
-
-pub returns : goal.returns
-returns g c f e top inverse t trees i row L holds below is reads = zero_below f e top inverse L t i row is trees holds below reads

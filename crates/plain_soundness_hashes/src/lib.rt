@@ -1,8 +1,0 @@
-//! Tables of BLAKE3's compression in an accepted batch proof over the plain scheme.
-//!
-//! The function computes nothing: its contract is a law of the definitions of `plain_soundness` and `p3_blake3`.
-#![tactic(auto)]
-
-mod hashes;
-
-pub use hashes::accepted_hashes_are_compressions;

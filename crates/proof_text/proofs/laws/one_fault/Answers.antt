@@ -1,5 +1,0 @@
-use Rattle.line_format.specs.Laws.Tells.{one-fault}
-use Rattle.proof_text.proofs.laws.one_fault.Goals as goal
-
-pub returns : goal.returns
-returns c bytes from line other = one-fault from line other

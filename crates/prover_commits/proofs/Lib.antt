@@ -1,0 +1,9 @@
+pub mod Asked
+pub mod Drawn
+pub mod Lent
+pub mod Made
+pub mod Narrow
+pub mod Step
+pub mod Whole
+pub mod Bounds
+pub mod Cosets

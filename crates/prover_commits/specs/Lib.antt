@@ -1,0 +1,4 @@
+pub mod Columns
+pub mod Laws
+pub mod Commitment
+pub mod Instances

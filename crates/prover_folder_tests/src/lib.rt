@@ -1,0 +1,7 @@
+//! Tests of `prover_folder` on worked values, as a caller of its public items.
+#![tactic(auto)]
+
+#[cfg(test)]
+mod folding;
+#[cfg(test)]
+mod same;

@@ -1,3 +1,0 @@
-pub mod Commitment
-pub mod Instances
-pub mod Laws

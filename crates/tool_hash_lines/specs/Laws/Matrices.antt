@@ -1,0 +1,136 @@
+-- The main matrices of an accepted proof, and those of hash tables.
+use Rattle.std.proofs.Common.{◌≡◌, ℕ, ◌+◌, ◌^◌, ◌<◌, ◌≤◌, min, List, Some, length, get_or, map, refl, sym, ◌∙◌, ap, subst, arith, inl, inr}
+use Rattle.std.specs.Prelude.{slice_get}
+use Rattle.std.proofs.lemmas.Bool.{cases_lt}
+use Rattle.std.proofs.lemmas.List.{get_or-map, get_or_past, length-map}
+use Rattle.std.proofs.lemmas.Option.{get_or_from_slice_get, slice_get_within}
+use Rattle.p3_field.specs.Laws.Tabulate.{length-tabulate}
+use Rattle.p3_field.specs.Quartic.{of_baby_bear_value, quartic_ring}
+use Rattle.p3_field.specs.declared.baby_bear.BabyBear.{BabyBear}
+use Rattle.p3_field.specs.declared.quartic.QuarticExtension.{QuarticExtension}
+use Rattle.p3_matrix.specs.Matrix.{column, height}
+use Rattle.plain_pcs.specs.Checks.{Opens}
+use Rattle.plain_pcs.specs.Extension.{columns, extended_domain, interpolant}
+use Rattle.plain_pcs.specs.Scheme.{PlainCommitmentData}
+use Rattle.law_committed.specs.Fields.{FieldsLaws, baby_bear_field, quartic_extension}
+use Rattle.batch_config.specs.Setting.{Setting, Backend}
+use Rattle.batch_statement.specs.Proof.{ProofData}
+use Rattle.batch_statement.specs.Statement.{Statement, AirTable, WellFormed}
+use Rattle.verifier_shape.specs.ShapeChecks.{no_table}
+use Rattle.verifier_claims.specs.Claims.{bits_at, claims}
+use Rattle.verifier_batch.specs.OpeningChecks.{claimed}
+use Rattle.verifier_batch.specs.BatchChecks.{Accepted, drawn_of}
+use Rattle.law_soundness.specs.Commitment.{matrix_at, no_matrix}
+use Rattle.law_soundness.specs.CommittedBatch.{stated_table}
+use Rattle.law_soundness.specs.Laws.Bound.{Binds}
+use Rattle.law_soundness.specs.Laws.Checked.{claims_opened}
+use Rattle.law_soundness.specs.Laws.Opened.{columns_declared, counts}
+use Rattle.law_soundness.specs.Laws.Rounds.{main_bound}
+use Rattle.law_soundness.specs.PlainSetting.{IsPlain, plain_scheme}
+use Rattle.tool_proof_text.specs.ProofText.{ToolProofData}
+use Rattle.tool_statement.specs.Config.{tool_backend, tool_scheme, tool_setting}
+use Rattle.tool_statement.specs.StatedTables.{HaveStatedHeights, log_height_of, source_of_table, air_table_of, tool_common, tool_statement}
+use Rattle.tool_statement.specs.declared.table.TableStatement.{TableStatement}
+use Rattle.tool_statement.specs.declared.table.TableStatement.TheVariants.{Hash, Take}
+use Rattle.tool_hash_lines.specs.PrintedRows.{HasHashMatrices}
+
+-- a matrix with columns is there
+is_there : {F : Type 0} (c : PlainCommitmentData F) (i w : ℕ) → (matrix_at c i).width ≡ w → 0 < w → i < length c.matrices
+is_there c i w e pos = elim (cases_lt i (length c.matrices)) [
+  | inl h ↦ h
+  | inr h ↦
+      let past : (matrix_at c i).width ≡ 0 = ap (λ m. m.width) (get_or_past c.matrices i no_matrix h) in
+      absurd (omega (arith, past, e, pos))
+]
+
+module _ {S F E P R : Type 0} (c : Setting S F E (PlainCommitmentData F)) (b : Backend S F E (PlainCommitmentData F) P R) (log_blowup : ℕ) (s : Statement F (PlainCommitmentData F))
+    (p : ProofData F E (PlainCommitmentData F) P) (inverse : E → E) (L : FieldsLaws c.field c.extension c.two_adicity inverse) (plain : IsPlain c b log_blowup)
+    (binds : Binds (plain_scheme c log_blowup) c.extension.ring c.extension.embed) (formed : WellFormed (map (λ t. t.declaration) s.tables) s.common) (accepted : Accepted c b s p)
+    (i : ℕ) (below : i < length s.tables) where
+  abbrev zeta : E
+  zeta = (drawn_of c s p).zeta
+
+  opens : Opens (plain_scheme c log_blowup) c.extension.ring c.extension.embed (claims c (claimed c s p) zeta)
+  opens = plain.opens (drawn_of c s p).opening (claims c (claimed c s p) zeta) p.opening_proof (claims_opened c b s p accepted)
+
+  listed : i < length (map (λ t. t.declaration) s.tables)
+  listed = subst (λ n. i < n) (sym (length-map s.tables (λ t. t.declaration))) below
+
+  -- table i's matrix has a row for each point of its extended domain
+  pub main_high : height (matrix_at p.commitments.main i) ≡ 2 ^ (bits_at p.degree_bits i + log_blowup)
+  main_high = (main_bound c log_blowup (claimed c s p) zeta binds opens i listed).dimensions_are.height_is
+
+  pub main_fits : bits_at p.degree_bits i + log_blowup ≤ c.two_adicity
+  main_fits = (main_bound c log_blowup (claimed c s p) zeta binds opens i listed).dimensions_are.fits
+
+  -- and the declared columns
+  pub main_wide : (matrix_at p.commitments.main i).width ≡ (stated_table s i).declaration.width
+  main_wide =
+      let m = matrix_at p.commitments.main i in
+      let k = bits_at p.degree_bits i in
+      let made = interpolant c.field (extended_domain (plain_scheme c log_blowup) k) in
+      sym (length-map (columns c.field.ring.zero m) made ∙ length-tabulate m.width (column c.field.ring.zero m))
+      ∙ (columns_declared c b log_blowup s p inverse L plain binds formed accepted i below).main
+
+-- the program's configuration is over the plain scheme
+pub plain_tool : IsPlain tool_setting tool_backend 1
+unfolding tool_setting tool_backend
+plain_tool = record { unmasked = refl; opens = λ state claims proof o. o }
+
+pub laws_of_tool : (inverse : QuarticExtension → QuarticExtension) → FieldsLaws baby_bear_field quartic_extension 27 inverse → FieldsLaws tool_setting.field tool_setting.extension tool_setting.two_adicity inverse
+unfolding tool_setting
+laws_of_tool inverse L = L
+
+pub binds_of_tool : Binds tool_scheme quartic_ring of_baby_bear_value → Binds (plain_scheme tool_setting 1) tool_setting.extension.ring tool_setting.extension.embed
+unfolding tool_setting
+binds_of_tool B = B
+
+two_adicity_is : tool_setting.two_adicity ≡ 27
+unfolding tool_setting
+two_adicity_is = refl
+
+module _ (tables : List TableStatement) (p : ToolProofData) (inverse : QuarticExtension → QuarticExtension) (L : FieldsLaws baby_bear_field quartic_extension 27 inverse)
+    (binds : Binds tool_scheme quartic_ring of_baby_bear_value) (formed : WellFormed (map (λ (t : AirTable BabyBear). t.declaration) (map air_table_of tables)) (tool_common tables))
+    (accepted : Accepted tool_setting tool_backend (tool_statement tables) p) (bits : HaveStatedHeights tables p.degree_bits) where
+  module _ (i k : ℕ) (at : slice_get tables i ≡ Some (Hash k)) where
+    pub within : i < length tables
+    within = slice_get_within tables i (Hash k) at
+
+    here : get_or tables i (Take 0) ≡ Hash k
+    here = get_or_from_slice_get tables i (Hash k) (Take 0) at
+
+    below : i < length (map air_table_of tables)
+    below = subst (λ n. i < n) (sym (length-map tables air_table_of)) within
+
+    -- its degree bits are those that are stated
+    pub degree : bits_at p.degree_bits i ≡ k
+    degree =
+        let many : length p.degree_bits ≡ length tables =
+        (counts tool_setting tool_backend 1 (tool_statement tables) p inverse (laws_of_tool inverse L) plain_tool (binds_of_tool binds) formed accepted).degree_bits ∙ length-map tables air_table_of in
+        let inside : i < min (length tables) (length p.degree_bits) = omega (arith, within, many) in
+        sym (bits i inside) ∙ (get_or-map log_height_of tables i (Take 0) 0 within ∙ ap log_height_of here)
+
+    wide : (matrix_at p.commitments.main i).width ≡ 9168
+    wide =
+        main_wide tool_setting tool_backend 1 (tool_statement tables) p inverse (laws_of_tool inverse L) plain_tool (binds_of_tool binds) formed accepted i below
+        ∙ (ap (λ (t : AirTable BabyBear). t.declaration.width) (get_or-map air_table_of tables i (Take 0) no_table within) ∙ ap (λ (t : TableStatement). (source_of_table t).declaration.width) here)
+
+    high : height (matrix_at p.commitments.main i) ≡ 2 ^ (k + 1)
+    high =
+        main_high tool_setting tool_backend 1 (tool_statement tables) p inverse (laws_of_tool inverse L) plain_tool (binds_of_tool binds) formed accepted i below
+        ∙ ap (λ n. 2 ^ (n + 1)) degree
+
+    fits : k + 1 ≤ 27
+    fits =
+        let h = main_fits tool_setting tool_backend 1 (tool_statement tables) p inverse (laws_of_tool inverse L) plain_tool (binds_of_tool binds) formed accepted i below in
+        omega (arith, h, degree, two_adicity_is)
+
+  -- each hash table has its matrix
+  pub hash_matrices : HasHashMatrices tables p
+  hash_matrices i k at = record {
+    exists = is_there p.commitments.main i 9168 (wide i k at) (omega arith);
+    degree_is = degree i k at;
+    fits = fits i k at;
+    height_is = high i k at;
+    width_is = wide i k at;
+  }

@@ -1,0 +1,19 @@
+//! What `verify` answers for a proof file.
+ghost use Rattle.std.specs.Prelude.{IfOk};
+ghost use Rattle.tool_proof_files.specs.Files.{FileWithin};
+ghost use Rattle.tool_verifier.specs.FileAnswer.{IsFileAnswer};
+
+use crate::file::ProofFile;
+use p3_field::Mem;
+use std::alloc::Global;
+use tool_verifier::{Answer, answer_tables};
+
+/// What `verify` answers for this file (not in Plonky3), which is within its limits: `Refused` with `HeightMismatch` for the first table
+/// whose stated height isn't the proof's, `Refused` with the first check of the batch verifier that fails, or `Done` with `accepted`. The
+/// only error is running out of memory.
+pub fn answer_verify(alloc: Global, file: &ProofFile) -> Mem<Answer>
+    requires { FileWithin file.now }
+    ensures { IfOk result (λ a. IsFileAnswer file.now.tables file.now.proof a.status a.text.items) }
+{
+    answer_tables(alloc, &file.tables, &file.proof)
+}

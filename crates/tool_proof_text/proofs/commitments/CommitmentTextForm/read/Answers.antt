@@ -1,0 +1,12 @@
+use Rattle.tool_lines.specs.Laws.Stops.{handed-on, same-stops, same-reads, own-items}
+use Rattle.tool_proof_text.specs.ProofText.{CommitmentWithin, commitment_numbers}
+use Rattle.tool_proof_text.specs.Laws.Commitments.{same-commitment}
+use Rattle.tool_proof_text.proofs.commitments.CommitmentTextForm.read.Goals as goal
+
+pub returns-in_err-matrices : goal.returns-in_err-matrices
+returns-in_err-matrices c = handed-on (λ v. v) CommitmentWithin commitment_numbers _ _ _ c.in_err-matrices.field-0.0 c.from_residual.ensures.1
+    (λ m. same-stops same-commitment (c.in_err-matrices.ensures m))
+
+pub returns : goal.returns
+unfolding same-commitment
+returns c = same-reads same-commitment (own-items c.in_ok-matrices.matrices.items c.in_ok-matrices.ensures)

@@ -1,6 +1,0 @@
-use Rattle.std.proofs.Common.{◌≡◌}
-use Rattle.tool_tables.specs.Wheel.{numbers_to}
-use Rattle.tool_tables.proofs.wheel.numbers.Given as goal
-
-abbrev pub invariant-loop-i : goal.invariant-loop-i
-invariant-loop-i g l = l.values.items ≡ numbers_to g.F.RingCore.ring l.i

@@ -1,5 +1,0 @@
-use Rattle.tool_validity.specs.Laws.BabyBear.{baby_bear_serves}
-use Rattle.tool_validity.proofs.meanings.baby_bear_serves_jobs.Goals as goal
-
-pub returns : goal.returns
-returns g c challenger initial log_max lookup_bits ood_bits enough = baby_bear_serves challenger initial log_max lookup_bits ood_bits enough

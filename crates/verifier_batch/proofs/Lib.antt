@@ -1,0 +1,5 @@
+pub mod Thin
+pub mod Shaped
+pub mod Thinned
+pub mod Whole
+pub mod Sizes

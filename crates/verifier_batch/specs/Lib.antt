@@ -1,0 +1,3 @@
+pub mod OpeningChecks
+pub mod BatchChecks
+pub mod Laws

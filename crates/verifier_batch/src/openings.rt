@@ -1,0 +1,153 @@
+//! All checks of what a batch proof opens.
+ghost use Rattle.std.specs.Prelude.{◌≡◌, ℕ, length, map, IfOk};
+ghost use Rattle.air_core.specs.Shape.{width_of};
+ghost use Rattle.p3_field.specs.Checks.{NoneFails};
+ghost use Rattle.p3_field.specs.Poly.{tabulate};
+ghost use Rattle.verifier_claims.specs.Claims.{bits_at, claims};
+ghost use Rattle.verifier_batch.specs.OpeningChecks.{shape_bounds_of, claim_checks, claimed, log_chunks_of_table, opening_checks};
+ghost use Rattle.batch_config.specs.Domains.{chunk_domains};
+ghost use Rattle.verifier_shape.specs.ShapeChecks.{shape_checks, statement_with};
+ghost use Rattle.verifier_shape.specs.Verdict.{IsVerdict};
+ghost use Rattle.batch_statement.specs.Statement.{AirTable, WellFormed, read_common, tables_of};
+
+use crate::backend::opened_claims;
+use verifier_claims::{OpeningArgumentWithQuotientDomains, commitments_with_opening_points};
+use batch_config::Settings;
+use batch_statement::{
+    BatchCommitments, BatchOpenedValues, BatchProof, BatchVerificationError, CommonData,
+    TablesProof,
+};
+use air_core::{Air, BaseAir};
+use commit_core::{CosetPcs, Pcs, PolynomialSpace, UnivariateStarkPcs};
+use p3_field::{
+    BasedVectorSpace, ExtensionField, Field, FieldCore, Mem, PrimeCharacteristicRing, PrimeCore64,
+    PrimeField64, RingCore, TwoAdicCore, TwoAdicField,
+};
+use p3_uni_stark::{Challenge, Challenger, Commitment, Domain, PcsError, StarkGenericConfig, Val};
+use std::alloc::Global;
+
+// How many preprocessed columns each table has.
+fn widths_of<F: FieldCore, A: BaseAir<F>>(alloc: Global, airs: &[A]) -> Mem<Vec<usize>>
+    ensures { IfOk result (λ v. v.items ≡ map (λ a. width_of (A.declaration a).preprocessed) airs.now) }
+{
+    airs.iter()
+        .map(|air| air.preprocessed_width())
+        .collect(alloc)
+}
+
+// The commitments of a proof.
+fn commitments_of<F, E, Com, Opening>(
+    proof: &TablesProof<F, E, Com, Opening>,
+) -> &BatchCommitments<Com>
+    ensures { result.now ≡ proof.now.commitments }
+{
+    &proof.commitments
+}
+
+// What it opens of each table.
+fn opened_of<F, E, Com, Opening>(proof: &TablesProof<F, E, Com, Opening>) -> &BatchOpenedValues<E>
+    ensures { result.now ≡ proof.now.instances }
+{
+    &proof.opened_values
+}
+
+// Its degree bits.
+fn bits_of<F, E, Com, Opening>(proof: &TablesProof<F, E, Com, Opening>) -> &[usize]
+    ensures { result.now ≡ proof.now.degree_bits }
+{
+    &proof.degree_bits
+}
+
+// The backend's part of it.
+fn opening_of<F, E, Com, Opening>(proof: &TablesProof<F, E, Com, Opening>) -> &Opening
+    ensures { result.now ≡ proof.now.opening_proof }
+{
+    &proof.opening_proof
+}
+
+// The claims of a proof whose shape was checked, with the domains of each table's chunks and the place of the preprocessed
+// round.
+fn proof_claims<SC: StarkGenericConfig, A: Air<Val<SC>>>(
+    alloc: Global,
+    config: &SC,
+    airs: &[A],
+    public_values: &[Vec<Val<SC>>],
+    common: &CommonData<SC>,
+    proof: &BatchProof<SC>,
+    chunks: &[usize],
+    zeta: Challenge<SC>,
+) -> Result<OpeningArgumentWithQuotientDomains<SC>, BatchVerificationError<PcsError<SC>>>
+    requires formed { WellFormed (map A.declaration airs.now) (read_common common.now) }
+    requires shape { let statement = statement_with (tables_of A.declaration A.trees airs.now) (map (λ v. v.items) public_values.now) common.now in
+        NoneFails (shape_checks {R = SC.Pcs.Error} SC.Val.ring (shape_bounds_of (⟦<SC as Settings>⟧.setting config.now)) statement proof.now) }
+    requires chunks { let statement = statement_with (tables_of A.declaration A.trees airs.now) (map (λ v. v.items) public_values.now) common.now in
+        chunks.now ≡ tabulate (length airs.now) (log_chunks_of_table (⟦<SC as Settings>⟧.setting config.now) statement proof.now) }
+    ensures verdict { let statement = statement_with (tables_of A.declaration A.trees airs.now) (map (λ v. v.items) public_values.now) common.now in
+        IsVerdict (claim_checks (⟦<SC as Settings>⟧.setting config.now) statement proof.now) result }
+    ensures claims { let setting = ⟦<SC as Settings>⟧.setting config.now in
+        let statement = statement_with (tables_of A.declaration A.trees airs.now) (map (λ v. v.items) public_values.now) common.now in
+        IfOk result (λ w. w.0.items ≡ claims setting (claimed setting statement proof.now) zeta) }
+    ensures domains { let setting = ⟦<SC as Settings>⟧.setting config.now in
+        let statement = statement_with (tables_of A.declaration A.trees airs.now) (map (λ v. v.items) public_values.now) common.now in
+        IfOk result (λ w. map (λ d. d.items) w.1.items
+        ≡ tabulate (length airs.now) (λ i. chunk_domains setting (bits_at proof.now.degree_bits i) (log_chunks_of_table setting statement proof.now i))) }
+{
+    let widths = widths_of(alloc, airs)?;
+    commitments_with_opening_points(
+        alloc,
+        config,
+        airs,
+        zeta,
+        commitments_of(proof),
+        opened_of(proof),
+        common,
+        bits_of(proof),
+        &widths,
+        chunks,
+    )
+}
+
+/// The checks of what a batch proof opens, in the order of `opening_checks`: for each table the domain of its quotient
+/// (`QuotientDomainTooLarge`), for each preprocessed matrix the height for which it was committed
+/// (`PreprocessedMetadataMismatch`), and last the backend's check that the proof opens its claims at `zeta`
+/// (`InvalidOpeningArgument`, with the backend's first fault). The answer is the refusal of the first that fails; where none
+/// does, for each table the domains of its quotient's chunks. After `verify_batch` of `p3-batch-stark`.
+///
+/// The common data is well-formed for the AIRs, no check of the proof's shape fails (`verifier_shape`), and `chunks` has
+/// for each table the logarithm of the number of its quotient's chunks before masking. `challenger` is in the state from
+/// which the backend verifies.
+pub fn check_openings<SC: StarkGenericConfig, A: Air<Val<SC>>>(
+    alloc: Global,
+    config: &SC,
+    airs: &[A],
+    public_values: &[Vec<Val<SC>>],
+    common: &CommonData<SC>,
+    proof: &BatchProof<SC>,
+    chunks: &[usize],
+    zeta: Challenge<SC>,
+    challenger: Challenger<SC>,
+) -> Result<Vec<Vec<Domain<SC>>>, BatchVerificationError<PcsError<SC>>>
+    requires formed { WellFormed (map A.declaration airs.now) (read_common common.now) }
+    requires shape { let statement = statement_with (tables_of A.declaration A.trees airs.now) (map (λ v. v.items) public_values.now) common.now in
+        NoneFails (shape_checks {R = SC.Pcs.Error} SC.Val.ring (shape_bounds_of (⟦<SC as Settings>⟧.setting config.now)) statement proof.now) }
+    requires chunks { let statement = statement_with (tables_of A.declaration A.trees airs.now) (map (λ v. v.items) public_values.now) common.now in
+        chunks.now ≡ tabulate (length airs.now) (log_chunks_of_table (⟦<SC as Settings>⟧.setting config.now) statement proof.now) }
+    ensures verdict { let statement = statement_with (tables_of A.declaration A.trees airs.now) (map (λ v. v.items) public_values.now) common.now in
+        IsVerdict (opening_checks (⟦<SC as Settings>⟧.setting config.now) (⟦<SC as Settings>⟧.backend config.now) statement proof.now zeta challenger) result }
+    ensures domains { let setting = ⟦<SC as Settings>⟧.setting config.now in
+        let statement = statement_with (tables_of A.declaration A.trees airs.now) (map (λ v. v.items) public_values.now) common.now in
+        IfOk result (λ v. map (λ d. d.items) v.items ≡ tabulate (length airs.now) (λ i. chunk_domains setting (bits_at proof.now.degree_bits i) (log_chunks_of_table setting statement proof.now i))) }
+{
+    let (claims, domains, place) = proof_claims(
+        alloc,
+        config,
+        airs,
+        public_values,
+        common,
+        proof,
+        chunks,
+        zeta,
+    )?;
+    opened_claims(alloc, config, claims, opening_of(proof), challenger, place)?;
+    Ok(domains)
+}
