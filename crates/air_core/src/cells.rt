@@ -2,7 +2,7 @@
 
 /// A cell of the base field that a constraint may read, by its name. Columns, public values and periodic columns
 /// are numbered from 0. After the entries of `p3_air`'s symbolic variables.
-#[derive(Clone, Copy)]
+#[derive(Clone, Copy, PartialEq, Eq, Debug)]
 pub enum Cell {
     /// A column of the main trace, in the current row or in the next.
     Main {
@@ -31,7 +31,7 @@ pub enum Cell {
 }
 
 /// A cell of the extension field that the constraint of a lookup may read, by its name.
-#[derive(Clone, Copy)]
+#[derive(Clone, Copy, PartialEq, Eq, Debug)]
 pub enum ExtCell {
     /// A column of the permutation trace, in the current row or in the next.
     Permutation {

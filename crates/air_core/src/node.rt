@@ -4,7 +4,7 @@ use crate::cells::{Cell, ExtCell};
 
 /// A node of a constraint tree in a list of nodes. An operand is named by its place in the list, before the node
 /// (after `p3_air`'s symbolic expressions, whose operands are shared pointers).
-#[derive(Clone, Copy)]
+#[derive(Clone, Copy, PartialEq, Eq, Debug)]
 pub enum Node<F> {
     /// A constant.
     Constant(F),

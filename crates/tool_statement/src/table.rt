@@ -14,7 +14,7 @@ use tool_tables::{GiveAir, TakeAir, ToolAir};
 
 /// What a proof file states of a table (not in Plonky3): its kind, the base-2 logarithm `k` of its number of rows, and its public values.
 /// `k` is 0 to 10, of a wheel 1 to 10, of a table of compressions 0 to 3.
-#[derive(Clone, Copy)]
+#[derive(Clone, Copy, Debug, PartialEq, Eq)]
 pub enum TableStatement {
     /// A swap table.
     Swap {
