@@ -48,7 +48,7 @@ pub enum ExtCell {
 
 /// How often a row sends a tuple: an expression, and a bound that its value, as a number, is trusted to keep. No constraint
 /// keeps it: it is a promise of whoever writes the AIR.
-#[derive(Clone, Copy, PartialEq, Eq, Debug)]
+#[derive(Clone, Copy)]
 pub struct Count<E> {
     /// The count.
     pub value: E,

@@ -8,7 +8,7 @@ use std::alloc::Global;
 use std::marker::Model;
 
 /// How many cells of each kind there are (`crate::AirLayout`).
-#[derive(Clone, Copy, PartialEq, Eq, Debug)]
+#[derive(Clone, Copy)]
 pub struct AirLayout {
     /// Columns of the preprocessed trace.
     pub preprocessed_width: usize,

@@ -5,7 +5,7 @@ use crate::cells::Count;
 use std::marker::Model;
 
 /// An asserted expression: the place of its node, and whether it was asserted over the extension.
-#[derive(Clone, Copy, PartialEq, Eq, Debug)]
+#[derive(Clone, Copy)]
 pub struct Assertion {
     /// The place of the node.
     pub place: usize,

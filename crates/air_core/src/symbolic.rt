@@ -111,7 +111,7 @@ pub fn constraint_degree_from_poly_degree(d: usize, n: usize) -> usize
 }
 
 // Degrees as multiples of the height, where the transition selector has this one.
-#[derive(Clone, Copy)]
+#[derive(Drop)]
 pub(crate) struct Multiples {
     pub(crate) transition: usize,
 }
@@ -140,7 +140,7 @@ impl CellDegrees for Multiples {
 }
 
 // Degrees of polynomials over so many rows, where the periodic columns have these periods.
-#[derive(Clone, Copy)]
+#[derive(Drop)]
 pub(crate) struct OverRows<'a> {
     pub(crate) rows: usize,
     pub(crate) periods: &'a [usize],

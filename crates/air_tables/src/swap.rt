@@ -48,7 +48,7 @@ fn assert_equal_when<AB: AirBuilder>(builder: &mut AB, selector: Cell, x: Cell, 
 
 /// Two columns l and r of 2^k rows, (a, b) and (b, a) in turn. The public values are a, b and the last right cell
 /// (not in Plonky3).
-#[derive(Clone, Copy)]
+#[derive(Drop)]
 pub struct SwapAir;
 
 impl<F: Field> BaseAir<F> for SwapAir {

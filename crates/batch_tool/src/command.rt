@@ -4,7 +4,7 @@ ghost use Rattle.std.specs.Prelude.{map, string_bytes, MatchOption};
 ghost use Rattle.batch_tool.specs.Answer.{Names};
 
 /// What the program is to do (not in Plonky3).
-#[derive(Clone, Copy, Debug, PartialEq, Eq)]
+#[derive(Drop)]
 pub enum Command {
     /// `prove`: reads a job, and writes its proof.
     Prove,

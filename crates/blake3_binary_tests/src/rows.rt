@@ -99,7 +99,7 @@ fn cells_of_a_step_by_name(rt: HostRuntime) -> Result<(), Fail> {
     Ok(())
 }
 
-// Inputs are compared, copied and printed by all their fields, and all are zero by default.
+// Inputs are compared and copied by all their fields, and all are zero by default.
 #[test]
 fn inputs_are_values(rt: HostRuntime) {
     let none = Blake3CompressionInput::default();

@@ -17,7 +17,7 @@ use std::alloc::Global;
 pub const NUM_BLAKE3_COLS: usize = 9168;
 
 /// The compression of BLAKE3 as a table: one compression a row (`crate::Blake3Air`).
-#[derive(Clone, Copy)]
+#[derive(Drop)]
 pub struct Blake3Air {}
 
 // Appends the constraints.

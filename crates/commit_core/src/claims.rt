@@ -8,7 +8,7 @@ use std::marker::Model;
 
 /// The claimed values of all columns of a matrix at one point, in the order of the columns (`PointOpening` of
 /// `p3-commit`).
-#[derive(Debug, Drop)]
+#[derive(Drop)]
 pub struct PointOpening<Challenge> {
     /// The point.
     pub point: Challenge,
@@ -32,7 +32,7 @@ impl<Challenge> From<(Challenge, Vec<Challenge>)> for PointOpening<Challenge> {
 
 /// The points at which a committed matrix is opened, with the claimed values, and the domain on which its columns were
 /// given (`MatrixOpening` of `p3-commit`).
-#[derive(Debug, Drop)]
+#[derive(Drop)]
 pub struct MatrixOpening<Challenge, Domain> {
     /// The domain of the columns.
     pub domain: Domain,
@@ -62,7 +62,7 @@ impl<Challenge: Drop, Domain: Drop> MatrixOpening<Challenge, Domain> {
 
 /// A commitment with the claims on each of its matrices, in the order in which they were committed
 /// (`CommitmentOpening` of `p3-commit`). `Pcs::verify` tests a list of these.
-#[derive(Debug, Drop)]
+#[derive(Drop)]
 pub struct CommitmentOpening<Challenge, Commitment, Domain> {
     /// The commitment.
     pub commitment: Commitment,

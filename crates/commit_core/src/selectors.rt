@@ -14,7 +14,7 @@ use std::alloc::Global;
 
 /// The selectors of a space's rows at one point or at several, and one over the vanishing polynomial. They aren't
 /// scaled to one (`LagrangeSelectors` of `p3-commit`).
-#[derive(Debug, Drop)]
+#[derive(Drop)]
 pub struct LagrangeSelectors<T> {
     /// The selector of the first row.
     pub is_first_row: T,

@@ -14,7 +14,7 @@ use p3_matrix::RowMajorMatrix;
 use std::alloc::Global;
 
 /// One of the two tables (not in Plonky3), so that both are of one type and can stand in one batch.
-#[derive(Clone, Copy)]
+#[derive(Drop)]
 pub enum ExampleAir {
     /// A row is a byte: eight columns with its bits, the lowest first, and a ninth with their number, which is sent on the bus `bytes`
     /// once.

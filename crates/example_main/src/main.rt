@@ -12,7 +12,7 @@ use std::alloc::Global;
 use std::{env, io};
 
 /// What was found of a list of bytes.
-#[derive(Clone, Copy, Debug, PartialEq, Eq)]
+#[derive(Drop)]
 pub enum Finding {
     /// They have a proof, which is accepted.
     Accepted,

@@ -112,7 +112,7 @@ fn terminals_vanish<EF: Field>(terminals: &[Option<LookupTerminal<EF>>]) -> bool
 }
 
 /// The lookup argument by sums of fractions (`p3_lookup::LogUpGadget`).
-#[derive(Clone, Copy)]
+#[derive(Drop)]
 pub struct LogUpGadget;
 
 impl LogUpGadget {

@@ -7,7 +7,7 @@ use p3_field::Mem;
 use std::alloc::Global;
 
 /// Whom a lookup speaks to (`p3_lookup::Kind`).
-#[derive(Debug, Drop, PartialEq, Eq)]
+#[derive(Drop)]
 pub enum Kind {
     /// Its own table alone.
     Local,

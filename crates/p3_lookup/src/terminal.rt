@@ -6,7 +6,7 @@ use std::alloc::{AllocError, AllocFailed};
 use thiserror::Error;
 
 /// The value with which a table's running sum ends (`p3_lookup::LookupTerminal`).
-#[derive(Clone, Copy, PartialEq, Eq, Debug)]
+#[derive(Clone, Copy)]
 pub struct LookupTerminal<EF>(pub EF);
 
 /// What is wrong with the lookups of a batch (`p3_lookup::LookupError`).

@@ -5,7 +5,7 @@ ghost use Rattle.p3_uni_stark.specs.declared.openings.OpeningShape.TheVariants.{
 
 /// The places of the commitments among the opened rounds (`StarkOpeningLayout` of `p3-uni-stark`). A hiding backend's
 /// random commitment is opened first.
-#[derive(Clone, Copy, Debug, PartialEq, Eq)]
+#[derive(Drop)]
 pub struct StarkOpeningLayout {
     /// The main trace's place.
     pub trace: usize,
@@ -37,7 +37,7 @@ impl StarkOpeningLayout {
 }
 
 /// How many powers of its challenge a backend takes for an opened value (`OpeningShape` of `p3-uni-stark`).
-#[derive(Clone, Copy, Debug, PartialEq, Eq)]
+#[derive(Clone, Copy)]
 pub enum OpeningShape {
     /// One power: a univariate backend.
     Univariate,

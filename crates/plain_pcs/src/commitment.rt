@@ -65,5 +65,5 @@ impl<F: TwoAdicCore> Model for PlainProverData<F> {
 
 /// A proof of opened values (not in Plonky3). A verifier of the plain scheme has all that it needs in the commitment,
 /// so there is nothing in it.
-#[derive(Clone, Copy, Debug, PartialEq, Eq)]
+#[derive(Drop)]
 pub struct PlainProof;

@@ -3,7 +3,7 @@ use thiserror::Error;
 
 /// Why a plain scheme's verifier refuses claims (not in Plonky3): the first check that fails. Checks go round by round,
 /// a round for each commitment, and in a round matrix by matrix.
-#[derive(Clone, Copy, Debug, PartialEq, Eq, Error)]
+#[derive(Debug, Drop, PartialEq, Eq, Error)]
 pub enum PlainError {
     /// The claims on a commitment aren't one per matrix.
     #[error("round {round}: the claims aren't one per matrix")]
@@ -45,7 +45,7 @@ pub enum PlainError {
 }
 
 /// Why a plain scheme's prover refuses (not in Plonky3).
-#[derive(Clone, Copy, Debug, PartialEq, Eq, Error)]
+#[derive(Debug, Drop, PartialEq, Eq, Error)]
 pub enum PlainProverError {
     /// The scheme can't commit to this matrix, the first such: it has no columns, its height isn't its domain's size, or its
     /// extension would have more than 2^`TWO_ADICITY` rows. From `commit_ldes`: its height is no power of two up to that.

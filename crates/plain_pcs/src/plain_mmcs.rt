@@ -19,7 +19,7 @@ use thiserror::Error;
 
 /// A scheme whose commitment is the matrices themselves (not in Plonky3). Committing copies each matrix once, since the
 /// commitment and the prover data are two values. Values are compared by their `==`.
-#[derive(Clone, Copy, Debug)]
+#[derive(Drop)]
 pub struct PlainMmcs;
 
 /// What the prover of a `PlainMmcs` keeps: the matrices. Contracts see it as their list.
@@ -38,7 +38,7 @@ impl<T> Model for PlainMmcsData<T> {
 
 /// The proof of an opening of a `PlainMmcs`, of one row or of several (not in Plonky3): the verifier has the matrices, and
 /// needs none.
-#[derive(Clone, Copy, Debug)]
+#[derive(Drop)]
 pub struct PlainMmcsProof;
 
 /// Why a `PlainMmcs` refuses an opening, the first that comes (not in Plonky3).

@@ -8,11 +8,11 @@ ghost use Rattle.tool_bytes.specs.Causes.{HasCause};
 use std::alloc::AllocError;
 
 /// An end refused a call, and its count of faults rose.
-#[derive(Clone, Copy, Debug, PartialEq, Eq)]
+#[derive(Debug, Drop, PartialEq, Eq)]
 pub struct Failed;
 
 /// Why an input could not be read whole.
-#[derive(Clone, Copy, Debug, PartialEq, Eq)]
+#[derive(Debug, Drop, PartialEq, Eq)]
 pub enum InputError {
     /// A read failed.
     ReadFault,

@@ -16,7 +16,7 @@ use std::alloc::Global;
 use tool_statement::TableStatement;
 
 /// A word that a table gives, and how often (not in Plonky3).
-#[derive(Clone, Copy, Debug, PartialEq, Eq)]
+#[derive(Clone, Copy)]
 pub struct GivenWord {
     /// The word.
     pub word: BabyBear,

@@ -8,7 +8,7 @@ use crate::texts::{ItemError, Reader};
 use std::alloc::Global;
 
 /// Why bytes are no text.
-#[derive(Clone, Copy, Debug, PartialEq, Eq)]
+#[derive(Debug, Drop, PartialEq, Eq)]
 pub enum TextError {
     /// The bytes are no value's text. `line` is one more than the greatest number of whole lines at their start that
     /// begin some value's text.

@@ -9,7 +9,7 @@ use std::alloc::{AllocError, AllocFailed};
 use std::marker::Model;
 
 /// Why a value could not be read off a text.
-#[derive(Clone, Copy, Debug, PartialEq, Eq)]
+#[derive(Debug, Drop, PartialEq, Eq)]
 pub enum ItemError {
     /// The first line that is left goes on from the lines before it in no text.
     Malformed,

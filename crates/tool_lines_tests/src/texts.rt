@@ -85,9 +85,9 @@ fn lines_are_counted_from_the_first_byte(rt: HostRuntime) {
         read_text_from::<BabyBear>(alloc, bytes, 13),
         read_text::<BabyBear>(alloc, &bytes[13..15]),
     ];
-    let fault = TextError::Malformed { line: 5 };
+    let (fault, of_list) = (TextError::Malformed { line: 5 }, TextError::Malformed { line: 5 });
     assert_eq!(rt;
         (list, values),
-        (Some(fault), [Err(fault), Ok(BabyBear::from_u64(5))])
+        (Some(of_list), [Err(fault), Ok(BabyBear::from_u64(5))])
     );
 }

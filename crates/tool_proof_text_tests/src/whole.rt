@@ -155,9 +155,9 @@ fn text_of(alloc: Global, proof: ToolProof) -> Mem<Vec<u8>> {
 // Compares the lists and the grinding values of a proof with those of the proof whose text is `WHOLE`.
 fn assert_is_whole(rt: &impl Abort, proof: &ToolProof) {
     let terminals = proof.lookup_terminals.as_slice();
-    let last = terminals.last().copied().flatten();
+    let last_is_none = matches!(terminals.last(), Some(None));
     assert_same(rt, proof.degree_bits.as_slice(), [0, 255].as_slice());
-    assert_same(rt, (terminals.len(), last), (2, None));
+    assert_same(rt, (terminals.len(), last_is_none), (2, true));
     assert_same(
         rt,
         (proof.lookup_pow_witness, proof.ood_pow_witness),

@@ -11,7 +11,7 @@ use std::alloc::Global;
 
 /// Two columns without constraints: words, and how often each is given. Each row sends its word on the bus `words`, so often as a
 /// negative number; this is trusted to be at most 1024, and no constraint keeps it (not in Plonky3).
-#[derive(Clone, Copy)]
+#[derive(Drop)]
 pub struct GiveAir;
 
 impl<F: Field> BaseAir<F> for GiveAir {

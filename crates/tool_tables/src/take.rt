@@ -11,7 +11,7 @@ use std::alloc::Global;
 
 /// One column of words without constraints. Each row sends its word on the bus `words`, once (not in
 /// Plonky3).
-#[derive(Clone, Copy)]
+#[derive(Drop)]
 pub struct TakeAir;
 
 impl<F: Field> BaseAir<F> for TakeAir {
