@@ -1,11 +1,11 @@
 //! Texts that are read back, and failures of memory.
 
-use tool_lines::{
-    Form, ItemError, ListOf, Reader, TextError, print_items, read_items, read_text, read_text_from,
-};
 use p3_field::{BabyBear, Mem, QuarticExtension, RingCore};
 use std::alloc::{AllocError, AllocFailed, Global};
 use std::test::Fail;
+use tool_lines::{
+    Form, ItemError, ListOf, Reader, TextError, print_items, read_items, read_text, read_text_from,
+};
 
 type AtMostOne = ListOf<QuarticExtension, 1>;
 
@@ -85,7 +85,10 @@ fn lines_are_counted_from_the_first_byte(rt: HostRuntime) {
         read_text_from::<BabyBear>(alloc, bytes, 13),
         read_text::<BabyBear>(alloc, &bytes[13..15]),
     ];
-    let (fault, of_list) = (TextError::Malformed { line: 5 }, TextError::Malformed { line: 5 });
+    let (fault, of_list) = (
+        TextError::Malformed { line: 5 },
+        TextError::Malformed { line: 5 },
+    );
     assert_eq!(rt;
         (list, values),
         (Some(of_list), [Err(fault), Ok(BabyBear::from_u64(5))])

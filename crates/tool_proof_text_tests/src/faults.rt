@@ -2,12 +2,12 @@
 
 use crate::compared::assert_same;
 use crate::whole::{EMPTY, WHOLE};
-use tool_lines::TextError;
 use p3_field::Mem;
-use tool_proof_text::read_proof_part;
 use std::alloc::Global;
 use std::process::Abort;
 use std::test::Fail;
+use tool_lines::TextError;
+use tool_proof_text::read_proof_part;
 
 // The line of the fault of a text.
 fn fault(alloc: Global, bytes: &[u8]) -> Option<TextError> {

@@ -1,8 +1,8 @@
 //! Numbers that the reader of a text knows, before values and alone.
 use crate::compared::assert_same;
-use tool_lines::{Reader, read_fixed, read_headed};
 use p3_field::{BabyBear, RingCore};
 use std::test::Fail;
+use tool_lines::{Reader, read_fixed, read_headed};
 
 #[test]
 fn values_after_known_numbers(rt: HostRuntime) -> Result<(), Fail> {

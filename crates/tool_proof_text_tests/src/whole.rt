@@ -2,16 +2,16 @@
 
 use crate::compared::assert_same;
 use batch_statement::{BatchCommitments, BatchOpenedValues, OpenedValuesWithLookups, TablesProof};
-use tool_lines::TextError;
 use p3_field::{BabyBear, FieldCore, Mem, QuarticExtension, RingCore};
 use p3_lookup::LookupTerminal;
 use p3_matrix::RowMajorMatrix;
 use p3_uni_stark::{OpenedValues, PreprocessedOpenedValues};
 use plain_pcs::{PlainCommitment, PlainProof};
-use tool_proof_text::{ToolProof, read_proof_part, write_proof_part};
 use std::alloc::Global;
 use std::process::Abort;
 use std::test::Fail;
+use tool_lines::TextError;
+use tool_proof_text::{ToolProof, read_proof_part, write_proof_part};
 
 /// The text of the proof in which every part is present, 75 lines: in order the four commitments, the number of tables, the two
 /// tables' opened values, the first table's chunks after a break, the terminals, the degree bits, and the grinding values.
