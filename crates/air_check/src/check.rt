@@ -7,9 +7,8 @@ ghost use Rattle.air_core.specs.Check.{table_traces, AreNonzero, HasHeight, Hold
 ghost use Rattle.air_check.specs.Checked.{IsChecked};
 ghost use Rattle.air_check.specs.declared.check.CheckFailure.TheVariants.{OutOfMemory};
 
-use air_core::Air;
 use crate::debug::DebugConstraintBuilder;
-use air_core::{RowValues, preprocessed_at};
+use air_core::{Air, RowValues, preprocessed_at};
 use p3_field::{Field, FieldCore, Mem, RingCore};
 use p3_matrix::RowMajorMatrix;
 use std::alloc::{AllocError, Global};

@@ -8,9 +8,10 @@ ghost use Rattle.std.proofs.Common.{◌∙◌};
 ghost use Rattle.air_core.specs.Operation.{value_by};
 ghost use Rattle.air_check.specs.Laws.RowCheck.{row-along, row_shape-row, value_at-row, adds-same, adds-along, keeping-adds};
 
-use air_core::{AirBuilder, ExtensionBuilder, InteractionBuilder, PermutationAirBuilder};
-use air_core::{Cell, Count, ExtCell};
-use air_core::RowValues;
+use air_core::{
+    AirBuilder, Cell, Count, ExtCell, ExtensionBuilder, InteractionBuilder, PermutationAirBuilder,
+    RowValues,
+};
 use p3_field::{ExtensionField, Field, FieldCore, Mem, PrimeCharacteristicRing, RingCore};
 use std::alloc::Global;
 use std::marker::Model;

@@ -4,12 +4,12 @@ ghost use Rattle.std.specs.Prelude.{◌≡◌, ◌≤◌, ◌<◌, ◌^◌, IfOk
 use crate::cube::Cube;
 use crate::same::{assert_same, assert_values};
 use crate::take::{Take, take_lookups};
+use air_core::AirLayout;
+use air_tables::SwapAir;
 use batch_constraints::{
     get_constraint_layout, get_log_num_quotient_chunks, get_log_num_quotient_chunks_for_domain,
     get_max_constraint_degree, get_symbolic_constraints, num_batched_openings,
 };
-use air_tables::SwapAir;
-use air_core::AirLayout;
 use p3_air_tests::support::bear;
 use p3_field::{BabyBear, FieldCore, Mem, RingCore, TwoAdicField, TwoAdicMultiplicativeCoset};
 use p3_lookup::LogUpGadget;

@@ -11,8 +11,8 @@ ghost use Rattle.air_core.specs.Laws.Declared.{counts-none};
 
 use crate::failures::{assert_failing, in_a_word};
 use crate::same::assert_same;
-use batch_check::{CheckFailure, check_constraints};
 use air_core::{Air, AirBuilder, BaseAir, Cell, InteractionBuilder};
+use batch_check::{CheckFailure, check_constraints};
 use p3_air_tests::support::bear;
 use p3_field::{BabyBear, FieldCore, Mem, RingCore};
 use p3_lookup::LogUpGadget;

@@ -13,8 +13,8 @@ ghost use Rattle.batch_setup.specs.Verdict.{IsSetUp};
 
 use crate::error::SetupError;
 use crate::powers::power_of_two;
-use batch_constraints::get_log_num_quotient_chunks;
 use air_core::{Air, AirLayout, BaseAir};
+use batch_constraints::get_log_num_quotient_chunks;
 use p3_field::{Field, FieldCore, Mem, RingCore};
 use p3_lookup::{LogUpGadget, Lookups};
 use std::alloc::Global;

@@ -12,8 +12,8 @@ ghost use Rattle.batch_setup.specs.Verdict.{IsSetUp};
 use crate::error::{ProverPhase, SetupError};
 use crate::powers::power_of_two;
 use crate::prover_data::Committed;
-use batch_statement::{PreprocessedInstanceMeta, PreprocessedTraces};
 use air_core::{Air, BaseAir};
+use batch_statement::{PreprocessedInstanceMeta, PreprocessedTraces};
 use commit_core::{CosetPcs, Pcs, PcsFailure, PolynomialSpace, UnivariateStarkPcs};
 use p3_field::{
     BasedVectorSpace, ExtensionField, Field, FieldCore, Mem, PrimeCharacteristicRing, PrimeCore64,

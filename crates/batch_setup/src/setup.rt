@@ -18,8 +18,8 @@ use crate::instance::{StarkInstance, degree_bits, lent_airs};
 use crate::lookups::batch_lookups;
 use crate::preprocessed::prepared;
 use crate::prover_data::{PreprocessedProverData, ProverData, SetupData};
-use batch_statement::SharedData;
 use air_core::{Air, BaseAir};
+use batch_statement::SharedData;
 use commit_core::{CosetPcs, Pcs, PolynomialSpace, UnivariateStarkPcs};
 use p3_field::{
     BasedVectorSpace, ExtensionField, Field, FieldCore, Mem, PrimeCharacteristicRing, PrimeCore64,

@@ -1,8 +1,8 @@
 //! Instances of two swap tables, and data of two tables without preprocessed columns and lookups.
 
 use crate::compared::assert_same;
-use batch_setup::{PreprocessedProverData, SetupData, SetupError, TableInstance};
 use air_tables::SwapAir;
+use batch_setup::{PreprocessedProverData, SetupData, SetupError, TableInstance};
 use p3_air_tests::support::bear;
 use p3_field::{BabyBear, FieldCore, Mem, RingCore};
 use p3_matrix::RowMajorMatrix;

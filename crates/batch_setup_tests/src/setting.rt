@@ -3,10 +3,10 @@ ghost use Rattle.std.specs.Prelude.{◌≡◌, ◌≤◌, All, flat_map};
 ghost use Rattle.p3_lookup.specs.Bus.{HaveOneWidth};
 ghost use Rattle.p3_lookup.specs.Lookup.{lookups_of};
 
-use batch_setup::{ProverData, SetupError};
 use air_core::{Air, BaseAir};
-use p3_challenger::Sha256Challenger;
+use batch_setup::{ProverData, SetupError};
 use commit_core::UnivariateStarkPcs;
+use p3_challenger::Sha256Challenger;
 use p3_dft::Radix2Dit;
 use p3_field::{BabyBear, Mem, QuarticExtension, TwoAdicCore};
 use p3_uni_stark::StarkConfig;

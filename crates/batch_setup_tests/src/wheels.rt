@@ -4,13 +4,13 @@ ghost use Rattle.p3_matrix.specs.Matrix.{height};
 
 use crate::compared::assert_same;
 use crate::setting::{Config, Made, config, made, refusal};
+use air_tables::WheelAir;
 use batch_setup::{ProverData, StarkInstance, TableInstance};
 use p3_air_tests::support::bear;
 use p3_field::{BabyBear, Mem, RingCore};
 use p3_matrix::RowMajorMatrix;
 use std::alloc::Global;
 use std::test::Fail;
-use air_tables::WheelAir;
 
 // The data that is made, or a failed test.
 fn granted(made: Made) -> Result<ProverData<Config>, Fail> {

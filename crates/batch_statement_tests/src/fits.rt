@@ -1,9 +1,9 @@
 //! Common data that fits its tables, and data that doesn't.
 
 use crate::compared::assert_same;
-use batch_statement::{PreprocessedInstanceMeta, PreprocessedTraces, SharedData};
-use air_tables::SendingAir;
 use air_core::{Cell, Count, SymbolicExpression};
+use air_tables::SendingAir;
+use batch_statement::{PreprocessedInstanceMeta, PreprocessedTraces, SharedData};
 use p3_air_tests::support::{bear, of_cell};
 use p3_field::{BabyBear, FieldCore, Mem, RingCore};
 use p3_lookup::{Kind, Lookup, Lookups};

@@ -1,10 +1,10 @@
 //! Jobs that are read and printed, the lines of faults, traces, statements, and unbalanced values.
 use crate::compared::assert_same;
-use tool_lines::TextError;
 use p3_field::{BabyBear, Mem, RingCore};
 use std::alloc::Global;
 use std::test::Fail;
 use tool_jobs::{first_unbalanced, read_job, statements_of, traces_of, write_job};
+use tool_lines::TextError;
 use tool_statement::TableStatement;
 
 // The line of the text's fault.

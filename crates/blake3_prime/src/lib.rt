@@ -17,9 +17,9 @@ mod rounds;
 mod writing;
 
 pub use air::{Blake3Air, NUM_BLAKE3_COLS};
+pub use blake3_compress::TraceError;
 pub use columns::{Blake3Cols, Blake3State, FullRound};
 pub use generation::generate_trace_rows;
-pub use blake3_compress::TraceError;
 pub use writing::{write_limbs, write_word};
 
 /// Bits of a limb (`crate::constants`).

@@ -7,8 +7,8 @@ ghost use Rattle.commit_core.specs.Failure.{VerifiedBy};
 ghost use Rattle.commit_rows.specs.Batches.{lists, IsBatch, flat_rows, widened, FlatData};
 ghost use Rattle.commit_rows.specs.Laws.FlatBatches.{flat_widths, flat_widths_each};
 
-use commit_core::PcsFailure;
 use crate::mmcs::{BatchOpening, BatchOpeningRef, Mmcs};
+use commit_core::PcsFailure;
 use p3_field::{BasedVectorSpace, ExtensionField, Field, FieldCore, Mem};
 use p3_matrix::{Dimensions, RowMajorMatrix, flatten_matrix};
 use std::alloc::Global;

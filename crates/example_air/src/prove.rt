@@ -8,16 +8,16 @@ ghost use Rattle.example_air.specs.Proving.{AreTables, IsTablesProof, LacksTable
 use crate::air::ExampleAir;
 use crate::statement::prover_data;
 use crate::traces::{bits_trace, bytes_trace};
-use prover_batch::prove_batch;
-use prover_answer::{ProverSettings, ProvingError};
+use air_core::{Air, BaseAir};
 use batch_config::Settings;
 use batch_setup::TableInstance;
 use batch_statement::BatchProof;
-use air_core::{Air, BaseAir};
 use commit_core::UnivariateStarkPcs;
 use p3_field::BabyBear;
 use p3_matrix::{RowMajorMatrix, log2_strict_usize};
 use plain_pcs::PlainProverError;
+use prover_answer::{ProverSettings, ProvingError};
+use prover_batch::prove_batch;
 use std::alloc::Global;
 use tool_statement::{ToolConfig, tool_config};
 

@@ -11,8 +11,8 @@ ghost use Rattle.example_air.specs.Proving.{IsBytesProverData};
 ghost use Rattle.example_air.specs.Statement.{example_common};
 
 use crate::air::ExampleAir;
-use batch_setup::{ProverData, SetupError};
 use air_core::{Air, BaseAir};
+use batch_setup::{ProverData, SetupError};
 use commit_core::{PolynomialSpace, UnivariateStarkPcs};
 use p3_field::{BabyBear, Mem, TwoAdicCore, TwoAdicMultiplicativeCoset};
 use std::alloc::{AllocError, Global};

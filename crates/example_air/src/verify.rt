@@ -11,17 +11,17 @@ ghost use Rattle.example_air.specs.Statement.{RowsAreBytes, example_statement, h
 use crate::air::ExampleAir;
 use crate::meanings::rows_are_bytes;
 use crate::statement::prover_data;
+use air_core::{Air, BaseAir};
 use batch_config::Settings;
 use batch_statement::{BatchProof, BatchVerificationError};
-use verifier_batch::verify_batch;
 use law_committed::fields::baby_bear_has_laws;
-use air_core::{Air, BaseAir};
+use law_soundness::accepted_holds;
 use p3_field::BabyBear;
 use p3_uni_stark::InvalidProofShapeError;
 use plain_pcs::PlainError;
-use law_soundness::accepted_holds;
 use std::alloc::Global;
 use tool_statement::{ToolConfig, tool_config};
+use verifier_batch::verify_batch;
 
 // The logarithm of the height that a proof states of its first table, the table of bits; 0 where it states none.
 fn stated_log_rows(proof: &BatchProof<ToolConfig>) -> usize

@@ -22,12 +22,12 @@ ghost use Rattle.commit_core.specs.Commitments.{Committed, IsCommitment, OpenedC
 ghost use Rattle.example_commit.specs.Single.{claim_of, AreValues};
 
 pub use agreeing::committed_both_ways;
-pub use evaluated::committed_and_evaluated;
-pub use faults::{fault_of_claims, fault_of_rows, rows_verified_twice};
 use commit_core::{
     CommitmentOpening, MatrixOpening, OpenedValues, OpeningRequest, Pcs, PcsFailure, PointOpening,
     PolynomialSpace,
 };
+pub use evaluated::committed_and_evaluated;
+pub use faults::{fault_of_claims, fault_of_rows, rows_verified_twice};
 use p3_field::{
     BasedVectorSpace, ExtensionField, Field, FieldCore, Mem, PrimeCharacteristicRing, RingCore,
     TwoAdicCore,

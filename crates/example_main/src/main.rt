@@ -4,10 +4,10 @@
 ghost use Rattle.std.specs.Prelude.{◌≡◌};
 ghost use Rattle.example_main.specs.Findings.{IsFinding, line_of};
 
-use prover_answer::ProvingError;
 use batch_statement::BatchVerificationError;
 use example_air::{prove_bytes, verify_bytes};
 use p3_matrix::{is_power_of_two, log2_strict_usize};
+use prover_answer::ProvingError;
 use std::alloc::Global;
 use std::{env, io};
 

@@ -10,8 +10,8 @@ ghost use Rattle.law_valid.specs.Valid.{Valid};
 ghost use Rattle.law_honest.specs.HonestProof.{IsHonest, Prover, zeta};
 ghost use Rattle.law_acceptance.specs.Honest.{IsOutsideRows};
 
-use batch_config::Settings;
 use air_core::{Air, BaseAir};
+use batch_config::Settings;
 use commit_core::{CosetPcs, Pcs, PolynomialSpace, UnivariateStarkPcs};
 use p3_field::{
     BasedVectorSpace, ExtensionField, Field, FieldCore, PrimeCharacteristicRing, PrimeCore64,

@@ -12,13 +12,14 @@ ghost use Rattle.law_soundness.specs.BaseRows.{main_row};
 ghost use Rattle.law_soundness.specs.CommittedBatch.{committed_table_at};
 ghost use Rattle.law_soundness.specs.Meaning.{IsAlphaUnlucky, IsZetaUnlucky};
 
+use air_core::{Air, BaseAir};
 use batch_config::Settings;
 use batch_statement::{BatchProof, CommonData};
-use law_committed::fields::fields_have_laws;
-use air_core::{Air, BaseAir};
 use blake3_prime::meanings::row_means;
-use p3_challenger::{CanObserve, CanSample, CanSampleBits, GrindingChallenger};
 use commit_core::{CosetPcs, Pcs, PolynomialSpace, UnivariateStarkPcs};
+use law_committed::fields::fields_have_laws;
+use law_soundness::PlainConfig;
+use p3_challenger::{CanObserve, CanSample, CanSampleBits, GrindingChallenger};
 use p3_dft::TwoAdicSubgroupDft;
 use p3_field::{
     BasedVectorSpace, ExtensionField, Field, FieldCore, PrimeCharacteristicRing, PrimeCore64,
@@ -26,7 +27,6 @@ use p3_field::{
 };
 use p3_uni_stark::StarkGenericConfig;
 use plain_pcs::{PlainCommitment, PlainPcs, opened_claims_bind};
-use law_soundness::PlainConfig;
 
 /// Where a proof is accepted and neither the drawn alpha nor the drawn zeta is unlucky, each committed row of a hash table is that of one
 /// compression of 28 words (not in Plonky3). A hash table is one whose AIR has the constraints and the columns of `Blake3Air`; it may

@@ -10,12 +10,12 @@ ghost use Rattle.law_soundness.specs.CommittedBatch.{chunk_count, committed_batc
 ghost use Rattle.law_soundness.specs.UnluckyCounts.{most_alphas, most_zetas};
 
 use crate::soundness::PlainConfig;
+use air_core::{Air, BaseAir};
 use batch_config::Settings;
 use batch_statement::{BatchProof, CommonData};
-use law_committed::fields::fields_have_laws;
-use air_core::{Air, BaseAir};
-use p3_challenger::{CanObserve, CanSample, CanSampleBits, GrindingChallenger};
 use commit_core::{CosetPcs, Pcs, PolynomialSpace, UnivariateStarkPcs};
+use law_committed::fields::fields_have_laws;
+use p3_challenger::{CanObserve, CanSample, CanSampleBits, GrindingChallenger};
 use p3_dft::TwoAdicSubgroupDft;
 use p3_field::{
     BasedVectorSpace, ExtensionField, Field, FieldCore, PrimeCharacteristicRing, PrimeCore64,

@@ -12,12 +12,12 @@ ghost use Rattle.law_soundness.specs.Meaning.{CommittedTablesHold, HoldUnlessUnl
 ghost use Rattle.law_soundness.specs.OpenedBatch.{AllCommittedValues, AllHaveColumns};
 ghost use Rattle.law_soundness.specs.UnluckyCounts.{HasLowDegrees};
 
+use air_core::{Air, BaseAir};
 use batch_config::Settings;
 use batch_statement::{BatchProof, CommonData};
-use law_committed::fields::fields_have_laws;
-use air_core::{Air, BaseAir};
-use p3_challenger::{CanObserve, CanSample, CanSampleBits, GrindingChallenger};
 use commit_core::{CosetPcs, Pcs, PolynomialSpace, UnivariateStarkPcs};
+use law_committed::fields::fields_have_laws;
+use p3_challenger::{CanObserve, CanSample, CanSampleBits, GrindingChallenger};
 use p3_dft::TwoAdicSubgroupDft;
 use p3_field::{
     BasedVectorSpace, ExtensionField, Field, FieldCore, PrimeCharacteristicRing, PrimeCore64,

@@ -4,12 +4,12 @@ ghost use Rattle.verifier_shape.specs.ShapeChecks.{statement_with};
 ghost use Rattle.batch_statement.specs.Statement.{WellFormed, read_common, tables_of};
 ghost use Rattle.law_soundness.specs.Meaning.{HoldUnlessUnlucky};
 
+use air_core::{Air, BaseAir};
 use batch_config::Settings;
 use batch_statement::{BatchProof, BatchVerificationError, CommonData};
-use verifier_batch::verify_batch;
-use air_core::{Air, BaseAir};
-use p3_challenger::{CanObserve, CanSample, CanSampleBits, GrindingChallenger};
 use commit_core::{CosetPcs, Pcs, PolynomialSpace, UnivariateStarkPcs};
+use law_soundness::{PlainConfig, accepted_holds};
+use p3_challenger::{CanObserve, CanSample, CanSampleBits, GrindingChallenger};
 use p3_dft::TwoAdicSubgroupDft;
 use p3_field::{
     BasedVectorSpace, ExtensionField, Field, FieldCore, PrimeCharacteristicRing, PrimeCore64,
@@ -17,8 +17,8 @@ use p3_field::{
 };
 use p3_uni_stark::{PcsError, StarkGenericConfig};
 use plain_pcs::{PlainCommitment, PlainPcs};
-use law_soundness::{PlainConfig, accepted_holds};
 use std::alloc::Global;
+use verifier_batch::verify_batch;
 
 /// `verify_batch` over the plain scheme. Where it answers Ok, each constraint of each committed table is zero on each of its rows, or a
 /// drawn challenge is unlucky.

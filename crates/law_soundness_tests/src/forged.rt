@@ -5,12 +5,13 @@ ghost use Rattle.p3_field.specs.Quartic.{quartic_ring};
 
 use crate::callers::verified;
 use crate::fixed_challenger::FixedChallenger;
+use air_tables::SwapAir;
 use batch_statement::{
     BatchCommitments, BatchOpenedValues, BatchProof, CommonData, OpenedValuesWithLookups,
     SharedData, TablesProof,
 };
-use air_tables::SwapAir;
 use commit_core::{LagrangeSelectors, OpeningRequest, Pcs, PolynomialSpace};
+use law_soundness::PlainConfig;
 use p3_dft::Radix2Dit;
 use p3_field::{
     BabyBear, FieldCore, PrimeCharacteristicRing, QuarticExtension, RingCore,
@@ -19,7 +20,6 @@ use p3_field::{
 use p3_matrix::RowMajorMatrix;
 use p3_uni_stark::{OpenedValues, StarkGenericConfig, VerifierFolder, verifier_fold};
 use plain_pcs::{PlainCommitment, PlainPcs, PlainProof};
-use law_soundness::PlainConfig;
 use std::alloc::Global;
 use std::test::Fail;
 

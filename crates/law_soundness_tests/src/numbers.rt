@@ -3,9 +3,9 @@
 ghost use Rattle.std.specs.Prelude.{◌≡◌, ◌+◌, ◌-◌, ◌*◌, ◌^◌, max, IfSome};
 
 use crate::compared::assert_same;
-use batch_constraints::get_log_num_quotient_chunks;
-use air_tables::SwapAir;
 use air_core::{Air, AirLayout, InteractionSymbolicBuilder};
+use air_tables::SwapAir;
+use batch_constraints::get_log_num_quotient_chunks;
 use blake3_prime::Blake3Air;
 use p3_field::{BabyBear, FieldCore, RingCore};
 use p3_lookup::LogUpGadget;

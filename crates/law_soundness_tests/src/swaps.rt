@@ -7,17 +7,17 @@ ghost use Rattle.batch_statement.specs.Statement.{WellFormed, read_common, table
 ghost use Rattle.law_soundness.specs.Meaning.{IsAlphaUnlucky, IsZetaUnlucky};
 ghost use Rattle.law_soundness.specs.Swapped.{EndsSwapped, swap_publics};
 
+use air_core::{Air, BaseAir};
+use air_tables::SwapAir;
 use batch_config::Settings;
 use batch_statement::{BatchProof, BatchVerificationError, CommonData};
-use air_tables::SwapAir;
-use verifier_batch::verify_batch;
-use air_core::{Air, BaseAir};
+use law_soundness::{PlainConfig, accepted_swaps_end};
 use p3_challenger::Sha256Challenger;
 use p3_dft::Radix2Dit;
 use p3_field::{BabyBear, QuarticExtension};
 use plain_pcs::PlainError;
-use law_soundness::{PlainConfig, accepted_swaps_end};
 use std::alloc::Global;
+use verifier_batch::verify_batch;
 
 /// The program's configuration.
 pub type ToolConfig = PlainConfig<BabyBear, Radix2Dit, QuarticExtension, Sha256Challenger>;

@@ -3,8 +3,8 @@
 
 use crate::compared::assert_same;
 use crate::forged::{SwapTable, answer, quotient_at};
-use air_tables::SwapAir;
 use air_check::{CheckFailure, check_constraints};
+use air_tables::SwapAir;
 use p3_field::{BabyBear, FieldCore, QuarticExtension, RingCore, TwoAdicMultiplicativeCoset};
 use p3_matrix::RowMajorMatrix;
 use std::alloc::Global;

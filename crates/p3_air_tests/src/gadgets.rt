@@ -3,13 +3,13 @@ ghost use Rattle.std.specs.Prelude.{◌≡◌, ◌<◌, IfOk, length};
 ghost use Rattle.air_core.specs.Shape.{DeclaresExt};
 
 use crate::support::bear;
-use air_tables::SwapAir;
 use air_check::{CheckFailure, DebugConstraintBuilder, check_constraints};
 use air_core::{
     AirBuilder, Count, ExtCell, ExtensionBuilder, InteractionBuilder, PermutationAirBuilder,
     RowValues,
 };
 use air_gadgets::{add2, add3, pack_bits_le, u32_to_bits_le, xor, xor_32_shift};
+use air_tables::SwapAir;
 use p3_field::{BabyBear, FieldCore, Mem, QuarticExtension, RingCore};
 use p3_matrix::RowMajorMatrix;
 use std::alloc::{AllocError, Global};

@@ -4,8 +4,10 @@ ghost use Rattle.air_core.specs.Layout.{layout_shape};
 ghost use Rattle.air_core.specs.Shape.{Declares};
 
 use crate::support::of_cell;
+use air_core::{
+    AirBuilder, AirLayout, Cell, Count, InteractionBuilder, InteractionSymbolicBuilder,
+};
 use air_tables::SwapAir;
-use air_core::{AirBuilder, AirLayout, Cell, Count, InteractionBuilder, InteractionSymbolicBuilder};
 use p3_field::{BabyBear, FieldCore, Mem, RingCore};
 use std::alloc::Global;
 use std::test::Fail;

@@ -1,8 +1,8 @@
 //! The sending table: what it declares, and what it sends.
 ghost use Rattle.std.specs.Prelude.{◌≡◌, ◌<◌, IfOk, length};
 
-use air_tables::{SendingAir, SwapAir};
 use air_core::{Air, AirLayout, BaseAir, InteractionSymbolicBuilder};
+use air_tables::{SendingAir, SwapAir};
 use p3_field::{BabyBear, FieldCore, Mem, RingCore};
 use std::alloc::Global;
 use std::test::Fail;

@@ -7,12 +7,12 @@ ghost use Rattle.air_core.specs.Symbolic.{IsExpression, tree_of};
 ghost use Rattle.air_core.specs.Tree.{product};
 
 use crate::support::{assert_in_all_ways, of_cell};
-use air_tables::SwapAir;
 use air_core::{
     Air, AirBuilder, AirLayout, Cell, ConstraintLayout, ExtCell, ExtensionBuilder,
     InteractionSymbolicBuilder, Node, PermutationAirBuilder, SymbolicExpression,
     constraint_degree_from_poly_degree,
 };
+use air_tables::SwapAir;
 use p3_field::{BabyBear, FieldCore, Mem, RingCore};
 use std::alloc::Global;
 use std::test::Fail;

@@ -4,8 +4,8 @@ ghost use Rattle.p3_lookup_tests.specs.Taken.{IsTakenLookup};
 
 use crate::support::{take, take_both};
 use crate::two_sends::TwoSends;
-use air_tables::SendingAir;
 use air_core::{Cell, Count, Node, SymbolicExpression};
+use air_tables::SendingAir;
 use p3_field::{BabyBear, FieldCore, Mem, RingCore};
 use p3_lookup::{Kind, LogUpGadget, Lookup, LookupProtocol, Lookups};
 use std::alloc::Global;

@@ -1,8 +1,8 @@
 //! What a prover and a verifier agree on: fields, challenger, commitment scheme and grinding.
 ghost use Rattle.std.specs.Prelude.{◌≡◌, ℕ, ◌<◌, ◌^◌, cond};
 
-use p3_challenger::{CanObserve, CanSample, CanSampleBits, GrindingChallenger};
 use commit_core::{CosetPcs, Pcs, PolynomialSpace, UnivariateStarkPcs};
+use p3_challenger::{CanObserve, CanSample, CanSampleBits, GrindingChallenger};
 use p3_field::{
     BasedVectorSpace, ExtensionField, Field, FieldCore, PrimeCharacteristicRing, PrimeCore64,
     PrimeField64, RingCore, TwoAdicCore, TwoAdicField, TwoAdicMultiplicativeCoset,

@@ -1,7 +1,7 @@
 //! A configuration over the plain scheme.
 use crate::same::assert_same;
-use p3_challenger::Sha256Challenger;
 use commit_core::UnivariateStarkPcs;
+use p3_challenger::Sha256Challenger;
 use p3_dft::NaiveDft;
 use p3_field::{BabyBear, QuarticExtension};
 use p3_uni_stark::{StarkConfig, StarkGenericConfig};

@@ -5,10 +5,10 @@ ghost use Rattle.air_core.specs.Shape.{DeclaresExt};
 ghost use Rattle.air_core.specs.declared.cells.ExtCell.TheVariants.{Terminal};
 
 use crate::same::assert_same;
-use air_tables::SwapAir;
 use air_core::{
     AirBuilder, Count, ExtCell, ExtensionBuilder, InteractionBuilder, PermutationAirBuilder,
 };
+use air_tables::SwapAir;
 use p3_air_tests::support::{assert_in_all_ways, bear};
 use p3_field::{BabyBear, FieldCore, Mem, QuarticExtension, RingCore};
 use p3_uni_stark::{ProverFolder, VerifierFolder, prover_fold, verifier_fold};

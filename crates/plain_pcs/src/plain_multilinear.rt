@@ -7,9 +7,9 @@ ghost use Rattle.plain_pcs.specs.Refusals.{IfOutOfMemory};
 ghost use Rattle.plain_pcs.specs.Laws.Claims.{claims_faultless, some_claim_fault, one_claim_fault, one_commit_cause, one_open_cause};
 
 use crate::evaluations::{first_different, first_unfit, observe_values, values_at};
-use p3_challenger::CanObserve;
 use commit_core::PcsFailure;
 use commit_rows::MultilinearPcs;
+use p3_challenger::CanObserve;
 use p3_field::{
     BasedVectorSpace, ExtensionField, Field, FieldCore, PrimeCharacteristicRing, RingCore,
 };

@@ -9,8 +9,8 @@ ghost use Rattle.plain_pcs.specs.Scheme.{scheme, PlainCommitmentData};
 ghost use Rattle.plain_pcs.specs.Refusals.{IsWithinBounds};
 ghost use Rattle.plain_pcs.specs.Binding.{IsBound};
 
-use p3_challenger::Sha256Challenger;
 use commit_core::{CommitmentOpening, MatrixOpening, Pcs, PcsFailure, PointOpening};
+use p3_challenger::Sha256Challenger;
 use p3_dft::{Radix2Dit, TwoAdicSubgroupDft};
 use p3_field::{
     BabyBear, BasedVectorSpace, ExtensionField, Field, FieldCore, Mem, PrimeCharacteristicRing,

@@ -5,12 +5,12 @@ ghost use Rattle.p3_matrix.specs.Matrix.{height};
 use crate::mmcs::fault_in_a_word;
 use crate::same::assert_same;
 use crate::scheme::{Coset, bear, quartic, refusal, scheme, values_of};
-use p3_challenger::Sha256Challenger;
 use commit_core::PcsFailure;
 use commit_rows::{BatchOpeningRef, ExtensionMmcs, Mmcs};
 use example_commit::{
     committed_and_opened, committed_and_verified, committed_both_ways, rows_verified_twice,
 };
+use p3_challenger::Sha256Challenger;
 use p3_dft::{NaiveDft, Radix2Dit, TwoAdicSubgroupDft};
 use p3_field::{BabyBear, ExtensionField, FieldCore, Mem, QuarticExtension, RingCore};
 use p3_matrix::{Dimensions, RowMajorMatrix};

@@ -1,10 +1,10 @@
 //! Worked values of multilinear polynomials of one and two variables.
 use crate::same::{assert_same, assert_values};
 use crate::scheme::{bear, quartic};
-use p3_challenger::Sha256Challenger;
 use commit_core::PcsFailure;
 use commit_rows::MultilinearPcs;
 use example_commit::witness_verified;
+use p3_challenger::Sha256Challenger;
 use p3_field::{
     BabyBear, BasedVectorSpace, ExtensionField, FieldCore, Mem, QuarticExtension, RingCore,
 };

@@ -5,10 +5,10 @@ ghost use Rattle.plain_pcs.specs.Holding.{IsMade};
 
 use crate::same::{assert_same, assert_values};
 use crate::scheme::{Coset, Plain, bear, committed, only_three, preprocessed, scheme};
-use p3_challenger::Sha256Challenger;
 use commit_core::{
     CommitmentOpening, OpenedValues, OpeningRequest, Pcs, PcsFailure, UnivariateStarkPcs,
 };
+use p3_challenger::Sha256Challenger;
 use p3_field::{BabyBear, FieldCore, Mem, RingCore};
 use plain_pcs::{
     PlainCommitment, PlainProof, PlainProverData, PlainProverError, has_subgroup_height,

@@ -5,9 +5,9 @@ ghost use Rattle.p3_matrix.specs.Matrix.{height};
 
 use crate::same::{assert_same, assert_values};
 use crate::scheme::{Coset, Plain, bear, pair, refusal, scheme, values_of};
-use p3_challenger::Sha256Challenger;
 use commit_core::{PcsFailure, PeriodicLdeTable, PolynomialSpace, UnivariateStarkPcs};
 use example_commit::quotient_committed_twice;
+use p3_challenger::Sha256Challenger;
 use p3_dft::Radix2Dit;
 use p3_field::{BabyBear, FieldCore, Mem, RingCore};
 use p3_matrix::RowMajorMatrix;

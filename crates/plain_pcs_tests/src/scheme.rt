@@ -4,9 +4,9 @@ ghost use Rattle.p3_matrix.specs.Matrix.{height};
 ghost use Rattle.plain_pcs.specs.Holding.{IsMade};
 
 use crate::same::{assert_same, assert_values};
-use p3_challenger::{CanObserve, Sha256Challenger};
 use commit_core::{OpeningRequest, Pcs, PcsFailure, UnivariateStarkPcs};
 use example_commit::committed_and_evaluated;
+use p3_challenger::{CanObserve, Sha256Challenger};
 use p3_dft::Radix2Dit;
 use p3_field::{
     BabyBear, ExtensionField, FieldCore, Mem, QuarticExtension, RingCore, TwoAdicCore,

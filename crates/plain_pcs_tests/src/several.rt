@@ -3,11 +3,11 @@
 //! 1 and 4 - X.
 use crate::same::{assert_same, assert_values};
 use crate::scheme::{Coset, bear, pair, refusal, scheme};
-use p3_challenger::Sha256Challenger;
 use commit_core::{CommitmentOpening, PcsFailure};
 use example_commit::{
     Round, VerifiedRounds, fault_of_claims, preprocessed_verified, rounds_verified,
 };
+use p3_challenger::Sha256Challenger;
 use p3_field::{BabyBear, FieldCore, Mem, RingCore};
 use p3_matrix::RowMajorMatrix;
 use plain_pcs::{PlainCommitment, PlainError, PlainProof, PlainProverError};

@@ -1,8 +1,8 @@
 //! The checks of one claim on one matrix, whose domain has one point.
 use crate::same::assert_same;
 use crate::scheme::{bear, quartic, refusal};
-use p3_challenger::Sha256Challenger;
 use commit_core::{CommitmentOpening, MatrixOpening, Pcs, PcsFailure, PointOpening};
+use p3_challenger::Sha256Challenger;
 use p3_dft::NaiveDft;
 use p3_field::{
     BabyBear, ExtensionField, Mem, QuarticExtension, RingCore, TwoAdicMultiplicativeCoset,

@@ -8,23 +8,23 @@ ghost use Rattle.prover_answer.specs.Verdict.{IsProverAnswer};
 ghost use Rattle.prover_batch.specs.Stages.{pair_state, permutation_commitment, quotient_state, shape_of, terminals_of};
 
 use crate::transcript::Transcript;
-use verifier_draws::terminals_there;
-use prover_answer::{GrindStep, ProverSettings, ProvingError};
+use air_core::{Air, BaseAir};
 use batch_config::Settings;
 use batch_setup::{Committed, StarkInstance};
 use batch_statement::CommonData;
 use batch_transcript::TranscriptError;
-use air_core::{Air, BaseAir};
-use p3_challenger::{CanObserve, CanSample, CanSampleBits, GrindingChallenger};
 use commit_core::{CosetPcs, Pcs, PolynomialSpace, UnivariateStarkPcs};
+use p3_challenger::{CanObserve, CanSample, CanSampleBits, GrindingChallenger};
 use p3_field::{
     BasedVectorSpace, ExtensionField, Field, FieldCore, PrimeCharacteristicRing, PrimeCore64,
     PrimeField64, RingCore, TwoAdicCore, TwoAdicField,
 };
 use p3_lookup::{LogUpGadget, LookupTerminal};
 use p3_uni_stark::{Challenge, Commitment, PcsProverError, StarkGenericConfig, Val};
+use prover_answer::{GrindStep, ProverSettings, ProvingError};
 use prover_commits::{Permutations, commit_permutations, permutation_columns};
 use std::alloc::Global;
+use verifier_draws::terminals_there;
 
 /// What a prover has after the stage of the lookups, over fields, commitments and prover data of these types.
 #[derive(Drop)]

@@ -11,23 +11,23 @@ ghost use Rattle.prover_answer.specs.Proving.{AvoidsExcluded, HaveFractionsFor, 
 ghost use Rattle.prover_answer.specs.Verdict.{IsProverAnswer};
 ghost use Rattle.prover_batch.specs.Stages.{main_of, pair_state, permutation_commitment, point_of, quotient_of, shape_of, state_of_opening, terminals_of};
 
-use prover_answer::{ProverSettings, ProvingError};
+use crate::{LookupStage, QuotientStage, bound_transcript, data_of, drawn_stages};
+use air_core::{Air, BaseAir};
 use batch_config::Settings;
 use batch_setup::{Committed, ProverData, StarkInstance, degree_bits};
 use batch_statement::{
     BatchCommitments, BatchOpenedValues, BatchProof, OpenedValuesWithLookups, TablesProof,
 };
-use air_core::{Air, BaseAir};
-use p3_challenger::{CanObserve, CanSample, CanSampleBits, GrindingChallenger};
 use commit_core::{CosetPcs, Pcs, PolynomialSpace, UnivariateStarkPcs};
+use p3_challenger::{CanObserve, CanSample, CanSampleBits, GrindingChallenger};
 use p3_field::{
     BasedVectorSpace, ExtensionField, Field, FieldCore, PrimeCharacteristicRing, PrimeCore64,
     PrimeField64, RingCore, TwoAdicCore, TwoAdicField,
 };
 use p3_uni_stark::{Challenge, Commitment, PcsProverError, StarkGenericConfig, Val};
-use prover_openings::open_batch;
-use crate::{LookupStage, QuotientStage, bound_transcript, data_of, drawn_stages};
+use prover_answer::{ProverSettings, ProvingError};
 use prover_commits::{check_bound, commit_traces};
+use prover_openings::open_batch;
 use std::alloc::Global;
 
 // The proof of what the stages gave.

@@ -9,18 +9,18 @@ ghost use Rattle.prover_batch.specs.Stages.{point_of, quotient_of, quotient_stat
 
 use crate::lookups::{LookupStage, data_of};
 use crate::transcript::{Transcript, bind_quotient};
-use prover_answer::{GrindStep, ProverSettings, ProvingError};
+use air_core::{Air, BaseAir};
 use batch_config::Settings;
 use batch_setup::{Committed, StarkInstance};
 use batch_statement::CommonData;
-use air_core::{Air, BaseAir};
-use p3_challenger::{CanObserve, CanSample, CanSampleBits, GrindingChallenger};
 use commit_core::{CosetPcs, Pcs, PolynomialSpace, UnivariateStarkPcs};
+use p3_challenger::{CanObserve, CanSample, CanSampleBits, GrindingChallenger};
 use p3_field::{
     BasedVectorSpace, ExtensionField, Field, FieldCore, PrimeCharacteristicRing, PrimeCore64,
     PrimeField64, RingCore, TwoAdicCore, TwoAdicField,
 };
 use p3_uni_stark::{Challenge, Commitment, PcsProverError, StarkGenericConfig, Val};
+use prover_answer::{GrindStep, ProverSettings, ProvingError};
 use prover_quotients::commit_quotients;
 use std::alloc::Global;
 

@@ -10,17 +10,17 @@ ghost use Rattle.prover_batch.specs.Stages.{main_of, pair_state, permutation_com
 use crate::lookups::{LookupStage, lookup_stage};
 use crate::quotients::{QuotientStage, quotient_stage};
 use crate::transcript::Transcript;
-use prover_answer::{ProverSettings, ProvingError};
+use air_core::{Air, BaseAir};
 use batch_config::Settings;
 use batch_setup::{Committed, ProverData, StarkInstance};
-use air_core::{Air, BaseAir};
-use p3_challenger::{CanObserve, CanSample, CanSampleBits, GrindingChallenger};
 use commit_core::{CosetPcs, Pcs, PolynomialSpace, UnivariateStarkPcs};
+use p3_challenger::{CanObserve, CanSample, CanSampleBits, GrindingChallenger};
 use p3_field::{
     BasedVectorSpace, ExtensionField, Field, FieldCore, PrimeCharacteristicRing, PrimeCore64,
     PrimeField64, RingCore, TwoAdicCore, TwoAdicField,
 };
 use p3_uni_stark::{Challenge, Commitment, PcsProverError, StarkGenericConfig, Val};
+use prover_answer::{ProverSettings, ProvingError};
 use std::alloc::Global;
 
 /// What the stages of the lookups and of the quotients give, over a configuration.

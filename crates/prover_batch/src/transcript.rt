@@ -6,21 +6,21 @@ ghost use Rattle.batch_transcript.specs.Running.{Plays};
 ghost use Rattle.prover_answer.specs.Batch.{IsTracedAll, batch_of};
 ghost use Rattle.prover_batch.specs.Stages.{main_of, pair_state, shape_of};
 
-use verifier_draws::{batch_shape, preprocessed_commitment};
-use prover_answer::ProverSettings;
+use air_core::{Air, BaseAir};
 use batch_config::Settings;
 use batch_setup::{StarkInstance, lent_airs};
 use batch_statement::CommonData;
 use batch_transcript::{BatchChallenger, BatchProverTranscript};
-use air_core::{Air, BaseAir};
-use p3_challenger::{CanObserve, CanSample, CanSampleBits, GrindingChallenger};
 use commit_core::{CosetPcs, Pcs, PolynomialSpace, UnivariateStarkPcs};
+use p3_challenger::{CanObserve, CanSample, CanSampleBits, GrindingChallenger};
 use p3_field::{
     BasedVectorSpace, ExtensionField, Field, FieldCore, Mem, PrimeCharacteristicRing, PrimeCore64,
     PrimeField64, RingCore, TwoAdicCore, TwoAdicField,
 };
 use p3_uni_stark::{Challenge, Challenger, Commitment, StarkGenericConfig, Val};
+use prover_answer::ProverSettings;
 use std::alloc::Global;
+use verifier_draws::{batch_shape, preprocessed_commitment};
 
 /// A prover's transcript over a configuration.
 pub type Transcript<SC> = BatchProverTranscript<

@@ -7,11 +7,10 @@ ghost use Rattle.prover_answer.specs.Batch.{IsTracedAll, batch_of};
 ghost use Rattle.prover_answer.specs.Proving.{bound_part};
 ghost use Rattle.prover_answer.specs.Verdict.{IsProverVerdict};
 
-use prover_answer::{ProverSettings, ProvingError};
+use air_core::{Air, BaseAir};
 use batch_config::Settings;
 use batch_setup::{StarkInstance, TableInstance};
 use batch_statement::CommonData;
-use air_core::{Air, BaseAir};
 use commit_core::{CosetPcs, Pcs, PolynomialSpace, UnivariateStarkPcs};
 use p3_field::{
     BasedVectorSpace, ExtensionField, Field, FieldCore, Mem, PrimeCharacteristicRing, PrimeCore64,
@@ -19,6 +18,7 @@ use p3_field::{
 };
 use p3_lookup::{LookupError, check_multiplicity_height_bound};
 use p3_uni_stark::{PcsProverError, StarkGenericConfig, Val};
+use prover_answer::{ProverSettings, ProvingError};
 use std::alloc::Global;
 
 // The heights of the instances' traces, in order.

@@ -9,12 +9,12 @@ ghost use Rattle.prover_answer.specs.Verdict.{IsProverVerdict};
 ghost use Rattle.law_honest.specs.HonestProof.{terminals};
 ghost use Rattle.prover_commits.specs.Columns.{ArePermutationsMade, AreReady, IsAllMade, IsMadeMore};
 
+use crate::rows_domain;
 use crate::table::table_columns;
-use prover_answer::{ProverSettings, ProvingError};
+use air_core::{Air, BaseAir};
 use batch_config::Settings;
 use batch_setup::StarkInstance;
 use batch_statement::CommonData;
-use air_core::{Air, BaseAir};
 use commit_core::{CosetPcs, Pcs, PolynomialSpace, UnivariateStarkPcs};
 use p3_field::{
     BasedVectorSpace, ExtensionField, Field, FieldCore, Mem, PrimeCharacteristicRing, PrimeCore64,
@@ -23,7 +23,7 @@ use p3_field::{
 use p3_lookup::LookupTerminal;
 use p3_matrix::RowMajorMatrix;
 use p3_uni_stark::{Challenge, Domain, PcsProverError, StarkGenericConfig, Val};
-use crate::rows_domain;
+use prover_answer::{ProverSettings, ProvingError};
 use std::alloc::Global;
 
 /// The permutation columns of a batch, and its terminals (not in Plonky3).

@@ -3,7 +3,6 @@ ghost use Rattle.std.specs.Prelude.{◌≡◌, IfOk};
 ghost use Rattle.prover_answer.specs.Verdict.{IsProverVerdict};
 ghost use Rattle.prover_commits.specs.Commitment.{commit_part};
 
-use prover_answer::{ProverSettings, ProvingError};
 use batch_setup::{Committed, ProverPhase};
 use commit_core::{CosetPcs, Pcs, PcsFailure, PolynomialSpace, UnivariateStarkPcs};
 use p3_field::{
@@ -12,6 +11,7 @@ use p3_field::{
 };
 use p3_matrix::RowMajorMatrix;
 use p3_uni_stark::{Commitment, Domain, PcsProverError, StarkGenericConfig, Val};
+use prover_answer::{ProverSettings, ProvingError};
 use std::alloc::Global;
 
 /// The backend's commitment to matrices on domains, and what it keeps of them (not in Plonky3): the answer is `Pcs` with this phase

@@ -6,12 +6,12 @@ ghost use Rattle.p3_lookup.specs.Lookup.{IsLookup};
 ghost use Rattle.p3_lookup.specs.Written.{read_all};
 ghost use Rattle.prover_commits.specs.Columns.{IsZeroAt};
 
-use prover_answer::ProvingError;
-use batch_setup::TableInstance;
 use air_core::BaseAir;
+use batch_setup::TableInstance;
 use p3_field::{ExtensionField, Field, FieldCore, PrimeCharacteristicRing, RingCore};
 use p3_lookup::{GenerateError, LogUpGadget, Lookup, LookupProtocol, LookupTerminal};
 use p3_matrix::RowMajorMatrix;
+use prover_answer::ProvingError;
 use std::alloc::Global;
 
 // The columns and the terminal that are generated for the table at this place: `LookupDenominatorZero` exactly where a denominator is zero,

@@ -5,7 +5,7 @@ ghost use Rattle.prover_answer.specs.Proving.{fault_of_some};
 ghost use Rattle.prover_answer.specs.Verdict.{IsProverVerdict};
 ghost use Rattle.prover_commits.specs.Commitment.{commit_part};
 
-use prover_answer::{ProverSettings, ProvingError};
+use crate::commit_matrices;
 use batch_config::Settings;
 use batch_setup::{Committed, ProverPhase};
 use commit_core::{CosetPcs, Pcs, PolynomialSpace, UnivariateStarkPcs};
@@ -15,7 +15,7 @@ use p3_field::{
 };
 use p3_matrix::RowMajorMatrix;
 use p3_uni_stark::{Commitment, Domain, PcsProverError, StarkGenericConfig, Val};
-use crate::commit_matrices;
+use prover_answer::{ProverSettings, ProvingError};
 use std::alloc::Global;
 
 /// The commitment to the permutation columns of a batch, as `permutation_columns` gives them, and the prover data of them

@@ -9,14 +9,14 @@ ghost use Rattle.prover_commits.specs.Columns.{AreFlattened, IsZeroAt};
 
 use crate::flat::flattened;
 use crate::generation::generated_columns;
-use prover_answer::ProvingError;
-use batch_setup::TableInstance;
 use air_core::BaseAir;
+use batch_setup::TableInstance;
 use p3_field::{
     BasedVectorSpace, ExtensionField, Field, FieldCore, PrimeCharacteristicRing, RingCore,
 };
 use p3_lookup::{Lookup, LookupTerminal};
 use p3_matrix::RowMajorMatrix;
+use prover_answer::ProvingError;
 use std::alloc::Global;
 
 /// What is made of a table: its flattened permutation columns and its terminal. Without lookups there is neither.

@@ -10,11 +10,10 @@ ghost use Rattle.prover_answer.specs.Verdict.{IsProverVerdict};
 
 use crate::commitment::commit_matrices;
 use crate::domains::rows_domain;
-use prover_answer::{ProverSettings, ProvingError};
+use air_core::{Air, BaseAir};
 use batch_config::Settings;
 use batch_setup::{Committed, ProverPhase, StarkInstance};
 use batch_statement::CommonData;
-use air_core::{Air, BaseAir};
 use commit_core::{CosetPcs, Pcs, PolynomialSpace, UnivariateStarkPcs};
 use p3_field::{
     BasedVectorSpace, ExtensionField, Field, FieldCore, Mem, PrimeCharacteristicRing, PrimeCore64,
@@ -22,6 +21,7 @@ use p3_field::{
 };
 use p3_matrix::RowMajorMatrix;
 use p3_uni_stark::{Commitment, Domain, PcsProverError, StarkGenericConfig, Val};
+use prover_answer::{ProverSettings, ProvingError};
 use std::alloc::Global;
 
 // A copy of a trace, on the domain of its rows.

@@ -3,14 +3,14 @@ ghost use Rattle.std.specs.Prelude.{◌≡◌};
 ghost use Rattle.p3_field.specs.Quartic.{quartic_ring};
 
 use crate::same::assert_same;
+use air_tables::SwapAir;
 use batch_constraints_tests::sending::{sending_air, sending_lookups};
 use batch_constraints_tests::take::{Take, take_lookups};
-use prover_folder::{ProverFolderWithLookups, prover_fold_with_lookups};
-use air_tables::SwapAir;
 use p3_air_tests::support::bear;
 use p3_field::{BabyBear, FieldCore, QuarticExtension, RingCore};
 use p3_lookup::LogUpGadget;
 use p3_uni_stark::ProverFolder;
+use prover_folder::{ProverFolderWithLookups, prover_fold_with_lookups};
 use std::test::Fail;
 
 // The element of this number.

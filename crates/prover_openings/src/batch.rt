@@ -11,17 +11,17 @@ ghost use Rattle.prover_openings.specs.Check.{IsReady, KeepsState, opening_reque
 use crate::counts::all_counts;
 use crate::openings::open_counted;
 use crate::requests::lookups_of;
-use prover_answer::{ProverSettings, ProvingError};
+use air_core::{Air, BaseAir};
 use batch_config::Settings;
 use batch_setup::{Committed, StarkInstance, degree_bits};
 use batch_statement::{CommonData, OpenedValuesWithLookups};
-use air_core::{Air, BaseAir};
 use commit_core::{CosetPcs, Pcs, PolynomialSpace, UnivariateStarkPcs};
 use p3_field::{
     BasedVectorSpace, ExtensionField, Field, FieldCore, PrimeCharacteristicRing, PrimeCore64,
     PrimeField64, RingCore, TwoAdicCore, TwoAdicField,
 };
 use p3_uni_stark::{Challenge, Challenger, PcsProof, PcsProverError, StarkGenericConfig, Val};
+use prover_answer::{ProverSettings, ProvingError};
 use std::alloc::Global;
 
 /// Opens what a batch's prover committed to: each main, preprocessed and permutation matrix at `zeta`, and at the next point

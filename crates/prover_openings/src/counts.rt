@@ -9,9 +9,9 @@ ghost use Rattle.verifier_shape.specs.ShapeChecks.{chunks_of_table};
 ghost use Rattle.batch_statement.specs.Statement.{tables_of};
 ghost use Rattle.prover_openings.specs.Counts.{IsCountable, log_count_at};
 
+use air_core::{Air, AirLayout, BaseAir};
 use batch_constraints::get_log_num_quotient_chunks;
 use batch_setup::TableInstance;
-use air_core::{Air, AirLayout, BaseAir};
 use p3_field::{Field, FieldCore, Mem, RingCore};
 use p3_lookup::{LogUpGadget, Lookups};
 use std::alloc::Global;

@@ -11,11 +11,10 @@ ghost use Rattle.prover_openings.specs.Check.{IsOpenedBy, IsReady, KeepsState, o
 
 use crate::requests::all_requests;
 use crate::tables::opened_tables;
-use prover_answer::{ProverPhase, ProverSettings, ProvingError};
+use air_core::{Air, BaseAir};
 use batch_config::Settings;
 use batch_setup::{Committed, StarkInstance};
 use batch_statement::{CommonData, OpenedValuesWithLookups};
-use air_core::{Air, BaseAir};
 use commit_core::{
     CosetPcs, OpenedValues, OpeningRequest, Pcs, PcsFailure, PolynomialSpace, UnivariateStarkPcs,
 };
@@ -24,6 +23,7 @@ use p3_field::{
     PrimeField64, RingCore, TwoAdicCore, TwoAdicField,
 };
 use p3_uni_stark::{Challenge, Challenger, PcsProof, PcsProverError, StarkGenericConfig, Val};
+use prover_answer::{ProverPhase, ProverSettings, ProvingError};
 use std::alloc::Global;
 
 // What the backend opens of requests, of which the one at this place is that of preprocessed matrices. The answer is `Pcs`

@@ -9,8 +9,8 @@ ghost use Rattle.batch_config.specs.Domains.{next_by};
 ghost use Rattle.law_acceptance.specs.Rounds.{points_with};
 ghost use Rattle.law_honest.specs.HonestProof.{where_some};
 
-use batch_setup::TableInstance;
 use air_core::BaseAir;
+use batch_setup::TableInstance;
 use p3_field::{
     BasedVectorSpace, ExtensionField, Field, FieldCore, Mem, PrimeCharacteristicRing, RingCore,
     TwoAdicCore, TwoAdicField,

@@ -6,9 +6,9 @@ ghost use Rattle.batch_config.specs.Domains.{next_by};
 ghost use Rattle.prover_openings.specs.Asked.{asked, plan_of, request_where};
 
 use crate::points::{all_chunks, all_main, all_permutations, all_preprocessed};
+use air_core::BaseAir;
 use batch_setup::TableInstance;
 use batch_statement::SharedData;
-use air_core::BaseAir;
 use commit_core::OpeningRequest;
 use p3_field::{
     BasedVectorSpace, ExtensionField, Field, FieldCore, Mem, PrimeCharacteristicRing, RingCore,

@@ -17,11 +17,10 @@ ghost use Rattle.prover_quotients.specs.Tables.{AreGiven, HasProverDataOfSome, c
 
 use crate::places::{Places, permutation_places, preprocessed_place};
 use crate::table::table_chunks;
-use prover_answer::{ProverPhase, ProverSettings, ProvingError};
+use air_core::{Air, BaseAir};
 use batch_config::Settings;
 use batch_setup::{Committed, StarkInstance};
 use batch_statement::CommonData;
-use air_core::{Air, BaseAir};
 use commit_core::{CosetPcs, Pcs, PcsFailure, PolynomialSpace, UnivariateStarkPcs};
 use p3_field::{
     BasedVectorSpace, ExtensionField, Field, FieldCore, Mem, PrimeCharacteristicRing, PrimeCore64,
@@ -30,6 +29,7 @@ use p3_field::{
 use p3_lookup::LookupTerminal;
 use p3_matrix::RowMajorMatrix;
 use p3_uni_stark::{Challenge, Commitment, Domain, PcsProverError, StarkGenericConfig, Val};
+use prover_answer::{ProverPhase, ProverSettings, ProvingError};
 use std::alloc::Global;
 
 // The chunks of the quotient of one table of a batch, whose permutation columns stand at this place.

@@ -5,7 +5,6 @@ ghost use Rattle.law_committed.specs.Committed.{CommittedTable};
 ghost use Rattle.prover_quotients.specs.ProverData.{AreSomeValues, AreValuesOf, HaveTableValues, HoldsAt, HoldsSome, HoldsTable};
 
 use crate::places::Places;
-use prover_answer::ProverSettings;
 use batch_config::Settings;
 use batch_setup::Committed;
 use commit_core::{CosetPcs, Pcs, PolynomialSpace, UnivariateStarkPcs};
@@ -15,6 +14,7 @@ use p3_field::{
 };
 use p3_matrix::RowMajorMatrix;
 use p3_uni_stark::{Domain, StarkGenericConfig, Val};
+use prover_answer::ProverSettings;
 use std::alloc::Global;
 
 /// The values of a table's columns on a domain, a row for each point.

@@ -18,12 +18,10 @@ ghost use Rattle.prover_quotients.specs.Tables.{IsTracedTable, table_of_instance
 use crate::columns::{TableColumns, columns_on};
 use crate::domains::{power_of_two, quotient_domain};
 use crate::places::Places;
-use batch_constraints::get_log_num_quotient_chunks;
-use prover_answer::ProverSettings;
-use prover_values::{quotient_chunks, quotient_values};
-use batch_config::Settings;
-use batch_setup::{Committed, StarkInstance, natural_domain};
 use air_core::{Air, AirLayout, BaseAir};
+use batch_config::Settings;
+use batch_constraints::get_log_num_quotient_chunks;
+use batch_setup::{Committed, StarkInstance, natural_domain};
 use commit_core::{CosetPcs, Pcs, PolynomialSpace, UnivariateStarkPcs};
 use p3_field::{
     BasedVectorSpace, ExtensionField, Field, FieldCore, Mem, PrimeCharacteristicRing, PrimeCore64,
@@ -32,6 +30,8 @@ use p3_field::{
 use p3_lookup::{LogUpGadget, LookupTerminal, Lookups};
 use p3_matrix::{RowMajorMatrix, log2_strict_usize};
 use p3_uni_stark::{Challenge, Domain, StarkGenericConfig, Val};
+use prover_answer::ProverSettings;
+use prover_values::{quotient_chunks, quotient_values};
 use std::alloc::Global;
 
 // The logarithm of the number of rows of a table.

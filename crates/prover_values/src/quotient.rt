@@ -19,9 +19,8 @@ ghost use Rattle.prover_values.specs.QuotientRows.{QuotientRows, given_at, perio
 use crate::columns::read_periodic;
 use crate::powers::falling_powers;
 use crate::selectors::{RowSelectors, expansion, row_selectors};
-use batch_constraints::get_constraint_layout;
-use prover_folder::{ProverFolderWithLookups, prover_fold_with_lookups};
 use air_core::{Air, AirLayout, BaseAir, preprocessed_at};
+use batch_constraints::get_constraint_layout;
 use commit_core::PeriodicLdeTable;
 use p3_field::{
     BasedVectorSpace, ExtensionField, Field, FieldCore, Mem, PrimeCharacteristicRing, RingCore,
@@ -30,6 +29,7 @@ use p3_field::{
 use p3_lookup::{Lookup, LookupProtocol};
 use p3_matrix::RowMajorMatrix;
 use p3_uni_stark::ProverFolder;
+use prover_folder::{ProverFolderWithLookups, prover_fold_with_lookups};
 use std::alloc::Global;
 
 // The folder at a row, where the next row is that of number `next`, and nothing is folded yet.

@@ -8,11 +8,10 @@ ghost use Rattle.commit_core.specs.Periodic.{IsPeriod};
 ghost use Rattle.prover_values.specs.QuotientRows.{permutation_column_count};
 
 use crate::traces::{BearCoset, on_domain, trace};
-use prover_values::quotient_values;
 use air_core::{Air, AirLayout, BaseAir};
+use commit_core::{PeriodicColumns, PolynomialSpace, are_disjoint};
 use p3_air_tests::support::bear;
 use p3_challenger::Sha256Challenger;
-use commit_core::{PeriodicColumns, PolynomialSpace, are_disjoint};
 use p3_dft::Radix2Dit;
 use p3_field::{
     BabyBear, FieldCore, Mem, PrimeCharacteristicRing, QuarticExtension, RingCore, TwoAdicCore,
@@ -22,6 +21,7 @@ use p3_lookup::{LogUpGadget, Lookups};
 use p3_matrix::RowMajorMatrix;
 use p3_uni_stark::{StarkConfig, StarkGenericConfig};
 use plain_pcs::PlainPcs;
+use prover_values::quotient_values;
 use std::alloc::Global;
 use std::process::Abort;
 

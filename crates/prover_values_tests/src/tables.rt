@@ -3,14 +3,13 @@
 
 use crate::same::assert_same;
 use crate::setting::{digest, quartic, values};
-use batch_constraints_tests::sending::sending_air;
-use air_tables::SwapAir;
 use air_core::{Air, BaseAir};
+use air_tables::{SwapAir, WheelAir};
+use batch_constraints_tests::sending::sending_air;
 use p3_air_tests::support::bear;
 use p3_field::{BabyBear, FieldCore, RingCore};
 use std::alloc::Global;
 use std::process::Abort;
-use air_tables::WheelAir;
 use tool_tables::{GiveAir, TakeAir};
 
 // The logarithms of a height and of a number of chunks, and the coefficients of the digest.

@@ -1,7 +1,7 @@
 //! Traces by a rule, and their columns' values on another domain, point by point.
 
-use p3_air_tests::support::bear;
 use commit_core::PolynomialSpace;
+use p3_air_tests::support::bear;
 use p3_field::{
     BabyBear, FieldCore, PrimeCharacteristicRing, RingCore, TwoAdicCore, TwoAdicMultiplicativeCoset,
 };

@@ -6,8 +6,8 @@ ghost use Rattle.tool_statement.specs.declared.table.TableStatement.TheVariants.
 use crate::columns::committed_columns;
 use crate::rows::push_rows;
 use p3_field::Mem;
-use tool_proof_text::ToolProof;
 use std::alloc::Global;
+use tool_proof_text::ToolProof;
 use tool_statement::TableStatement;
 
 // Appends the lines of a table: of a hash table one for each row, and none of others. On an error a part may stand.

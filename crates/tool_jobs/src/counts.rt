@@ -3,9 +3,9 @@ ghost use Rattle.std.specs.Prelude.{List, ℕ, ◌≤◌, MatchOption, map};
 ghost use Rattle.tool_lines.specs.Texts.{Reads, ReadsKnown, ReadsOne, Stops, list_numbers, one_number};
 ghost use Rattle.tool_jobs.specs.Laws.Counts.{IsCount, PowersWithin};
 
-use tool_lines::{Form, ItemError, Reader, read_items};
 use p3_matrix::is_power_of_two;
 use std::alloc::Global;
+use tool_lines::{Form, ItemError, Reader, read_items};
 
 // The number on the next line, if that is a power of two up to `most`. Nothing is read.
 fn next_count(reader: &Reader, most: u32) -> Option<u32>

@@ -7,12 +7,12 @@ ghost use Rattle.tool_jobs.specs.Laws.Kinds.{KindWithin, body_numbers};
 
 use crate::counts::read_powers;
 use crate::table::{GivenWord, JobTable};
+use p3_field::{BabyBear, Mem};
+use std::alloc::Global;
 use tool_lines::{
     Form, ItemError, Reader, TextError, print_items, print_list, push_number, read_items,
     read_list, read_text,
 };
-use p3_field::{BabyBear, Mem};
-use std::alloc::Global;
 
 /// The first line of a swap table's text.
 const SWAP: u32 = 1;

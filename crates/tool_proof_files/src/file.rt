@@ -5,13 +5,13 @@ ghost use Rattle.tool_lines.specs.WholeText.{ReadsText};
 ghost use Rattle.tool_proof_files.specs.Files.{FileWithin, file_numbers};
 
 use crate::table::StatedTable;
+use p3_field::Mem;
+use std::alloc::Global;
+use std::marker::Model;
 use tool_lines::{
     Form, ItemError, Reader, TextError, print_list, push_number, read_list, read_text,
 };
-use p3_field::Mem;
 use tool_proof_text::{ProofText, ToolProof};
-use std::alloc::Global;
-use std::marker::Model;
 use tool_statement::TableStatement;
 
 /// A proof file (not in Plonky3): what is stated, and the proof of it. A contract sees it as the record

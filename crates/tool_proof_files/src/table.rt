@@ -2,9 +2,9 @@
 ghost use Rattle.std.specs.Prelude.{◌≡◌, ◌≤◌, length};
 ghost use Rattle.tool_proof_files.specs.Files.{least_log_rows, most_log_rows, public_count, table_statement};
 
-use tool_lines::{Form, ItemError, Reader, push_number, read_items};
 use p3_field::{BabyBear, Mem};
 use std::alloc::Global;
+use tool_lines::{Form, ItemError, Reader, push_number, read_items};
 use tool_statement::TableStatement;
 
 /// The first line of a swap table's text.

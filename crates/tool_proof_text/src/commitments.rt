@@ -2,10 +2,10 @@
 
 use crate::matrices::MatrixText;
 use batch_statement::BatchCommitments;
-use tool_lines::{Form, ItemError, ListOf, Reader};
 use p3_field::{BabyBear, Mem};
 use plain_pcs::PlainCommitment;
 use std::alloc::Global;
+use tool_lines::{Form, ItemError, ListOf, Reader};
 
 /// At most 1024 matrices.
 type MatricesText = ListOf<MatrixText, 1024>;

@@ -3,10 +3,10 @@
 ghost use Rattle.std.specs.Prelude.{◌≡◌, ◌≤◌};
 ghost use Rattle.tool_proof_text.specs.Matrices.{least_height, most_height};
 
-use tool_lines::{Form, ItemError, Reader, print_items, push_number, read_items};
 use p3_field::{BabyBear, Mem};
 use p3_matrix::RowMajorMatrix;
 use std::alloc::Global;
+use tool_lines::{Form, ItemError, Reader, print_items, push_number, read_items};
 
 /// The most columns of a matrix.
 const MOST_WIDTH: u32 = 16384;

@@ -1,10 +1,10 @@
 //! The texts of the values that are opened of one table.
 
 use batch_statement::OpenedValuesWithLookups;
-use tool_lines::{Form, ItemError, ListOf, Reader};
 use p3_field::{Mem, QuarticExtension};
 use p3_uni_stark::{OpenedValues, PreprocessedOpenedValues};
 use std::alloc::Global;
+use tool_lines::{Form, ItemError, ListOf, Reader};
 
 /// At most 65536 elements of the extension.
 type ElementsText = ListOf<QuarticExtension, 65536>;

@@ -9,11 +9,11 @@ ghost use Rattle.tool_proof_text.specs.ProofText.{ProofWithin, proof_numbers};
 use crate::commitments::CommitmentsText;
 use crate::openings::InstanceText;
 use batch_statement::{BatchOpenedValues, TablesProof};
-use tool_lines::{Form, ItemError, ListOf, Reader, TextError, push_number, read_text_from};
 use p3_field::{BabyBear, Mem, QuarticExtension};
 use p3_lookup::LookupTerminal;
 use plain_pcs::{PlainCommitment, PlainProof};
 use std::alloc::Global;
+use tool_lines::{Form, ItemError, ListOf, Reader, TextError, push_number, read_text_from};
 
 /// A batch proof over the program's fields and the plain backend (not in Plonky3): `BatchProof` over a
 /// configuration of these.

@@ -8,13 +8,13 @@ ghost use Rattle.tool_verifier.specs.Refusals.{refused_text};
 ghost use Rattle.tool_prover.specs.JobAnswer.{IsJobAnswer, IsProvingOutcome, IsTold};
 
 use crate::proving::prove_job;
-use prover_answer::{GrindStep, ProvingError};
 use p3_field::{Mem, PrimeCore64};
 use plain_pcs::PlainProverError;
-use tool_proof_files::{ProofFile, write_proof_file};
-use tool_proof_text::ToolProof;
+use prover_answer::{GrindStep, ProvingError};
 use std::alloc::{AllocError, Global};
 use tool_jobs::{JobTable, first_unbalanced, statements_of};
+use tool_proof_files::{ProofFile, write_proof_file};
+use tool_proof_text::ToolProof;
 use tool_statement::TableStatement;
 use tool_verifier::{Answer, Status, refusal_line};
 

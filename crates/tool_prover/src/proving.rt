@@ -8,18 +8,18 @@ ghost use Rattle.law_tool_valid.specs.Job.{IsBalancedJob};
 ghost use Rattle.tool_prover.specs.JobAnswer.{IsProvingOutcome, IsTold};
 
 use crate::outside::is_outside;
-use prover_batch::prove_batch_with_point;
-use prover_answer::{ProverSettings, ProvingError};
+use air_core::{Air, BaseAir};
 use batch_config::Settings;
 use batch_setup::{SetupError, StarkInstance, TableInstance};
-use air_core::{Air, BaseAir};
 use commit_core::UnivariateStarkPcs;
 use p3_field::{BabyBear, FieldCore, Mem, QuarticExtension, RingCore, TwoAdicCore};
 use p3_matrix::RowMajorMatrix;
 use plain_pcs::PlainProverError;
-use tool_proof_text::ToolProof;
+use prover_answer::{ProverSettings, ProvingError};
+use prover_batch::prove_batch_with_point;
 use std::alloc::{AllocError, Global};
 use tool_jobs::{JobTable, traces_of};
+use tool_proof_text::ToolProof;
 use tool_statement::{
     TableStatement, ToolConfig, airs_of, prover_data, public_values_of, tool_config,
 };

@@ -3,8 +3,8 @@ ghost use Rattle.std.specs.Prelude.{◌≡◌};
 ghost use Rattle.tool_statement.specs.Config.{tool_setting};
 
 use batch_config::Settings;
-use p3_challenger::Sha256Challenger;
 use commit_core::UnivariateStarkPcs;
+use p3_challenger::Sha256Challenger;
 use p3_dft::Radix2Dit;
 use p3_field::{BabyBear, QuarticExtension, TwoAdicCore};
 use p3_uni_stark::StarkConfig;

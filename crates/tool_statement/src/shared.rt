@@ -13,9 +13,9 @@ ghost use Rattle.tool_statement.specs.StatedTables.{TableWithin, entries_of, log
 
 use crate::config::ToolConfig;
 use crate::table::TableStatement;
+use air_core::{Air, BaseAir};
 use batch_setup::{ProverData, SetupError};
 use batch_statement::SharedData;
-use air_core::{Air, BaseAir};
 use commit_core::{PolynomialSpace, UnivariateStarkPcs};
 use p3_field::{BabyBear, Mem, TwoAdicCore, TwoAdicMultiplicativeCoset};
 use plain_pcs::PlainCommitment;

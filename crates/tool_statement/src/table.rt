@@ -5,11 +5,10 @@ ghost use Rattle.batch_setup.specs.Packed.{source_of};
 ghost use Rattle.tool_tables.specs.Tool.{tool_declaration, tool_interactions, tool_trees};
 ghost use Rattle.tool_statement.specs.StatedTables.{TableWithin, log_height_of, publics_of, source_of_table};
 
-use air_tables::SwapAir;
+use air_tables::{SwapAir, WheelAir};
 use blake3_prime::Blake3Air;
 use p3_field::{BabyBear, Mem};
 use std::alloc::Global;
-use air_tables::WheelAir;
 use tool_tables::{GiveAir, TakeAir, ToolAir};
 
 /// What a proof file states of a table (not in Plonky3): its kind, the base-2 logarithm `k` of its number of rows, and its public values.

@@ -5,9 +5,8 @@ ghost use Rattle.tool_tables.specs.Laws.Tool.{tool-counts, tool-has_columns, too
 
 use crate::give::GiveAir;
 use crate::take::TakeAir;
-use air_tables::WheelAir;
-use air_tables::SwapAir;
 use air_core::{Air, BaseAir, InteractionBuilder};
+use air_tables::{SwapAir, WheelAir};
 use blake3_prime::Blake3Air;
 use p3_field::{Field, FieldCore, Mem, RingCore};
 use p3_matrix::RowMajorMatrix;

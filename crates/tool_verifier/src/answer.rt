@@ -8,10 +8,10 @@ use crate::heights::first_mismatch;
 use crate::refusal::{fault_line, mismatch_line};
 use crate::status::Status;
 use crate::tables::verify_tables;
-use tool_hash_lines::hash_lines;
 use p3_field::Mem;
-use tool_proof_text::ToolProof;
 use std::alloc::Global;
+use tool_hash_lines::hash_lines;
+use tool_proof_text::ToolProof;
 use tool_statement::TableStatement;
 
 /// How a command ended, and the text that it writes (not in Plonky3).

@@ -4,8 +4,8 @@ ghost use Rattle.tool_verifier.specs.Refusals.{fault_numbers, known, lookup_numb
 
 use batch_statement::BatchVerificationError;
 use batch_transcript::BatchTranscriptFailure;
-use itoa::Buffer;
 use commit_core::PeriodicColumnShapeError;
+use itoa::Buffer;
 use p3_field::Mem;
 use p3_lookup::LookupError;
 use p3_uni_stark::{InvalidProofShapeError, VerificationError};

@@ -6,8 +6,8 @@ ghost use Rattle.tool_statement.specs.declared.table.TableStatement.{TableStatem
 ghost use Rattle.tool_verifier.specs.declared.status.Status.{Status};
 
 use batch_config::Settings;
-use verifier_batch::meanings::there_is_one_verdict;
 use tool_statement::{ToolConfig, tool_config};
+use verifier_batch::meanings::there_is_one_verdict;
 
 /// The tables and the proof of a file have at most one answer: one status, and one text.
 pub fn there_is_one_answer()

@@ -8,8 +8,8 @@ ghost use Rattle.tool_statement.specs.Config.{tool_backend, tool_setting};
 ghost use Rattle.tool_statement.specs.StatedTables.{HaveStatedHeights, air_table_of, tool_common, tool_statement};
 ghost use Rattle.tool_verifier.specs.FileAnswer.{PrintCompressions, SwapsEnd};
 
-use law_committed::fields::baby_bear_has_laws;
 use blake3_prime::meanings::row_means;
+use law_committed::fields::baby_bear_has_laws;
 use p3_field::{BabyBear, QuarticExtension};
 use plain_pcs::opened_claims_bind;
 use tool_proof_text::ToolProof;

@@ -9,14 +9,14 @@ ghost use Rattle.tool_hash_lines.specs.PrintedRows.{HasHashMatrices};
 ghost use Rattle.tool_statement.specs.Config.{tool_backend, tool_setting};
 
 use crate::meaning::accepted_means;
+use air_core::{Air, BaseAir};
 use batch_config::Settings;
 use batch_statement::BatchVerificationError;
-use verifier_batch::verify_batch;
-use air_core::{Air, BaseAir};
 use plain_pcs::PlainError;
-use tool_proof_text::ToolProof;
 use std::alloc::Global;
+use tool_proof_text::ToolProof;
 use tool_statement::{TableStatement, airs_of, public_values_of, shared_data, tool_config};
+use verifier_batch::verify_batch;
 
 /// Whether a proof is accepted over the program's configuration for these tables (not in Plonky3): Ok exactly where no check of the batch verifier
 /// fails, and else the refusal of the first that does, with its fields (`verdict`). The data that prover and verifier share is made of the

@@ -11,13 +11,12 @@ ghost use Rattle.verifier_shape.specs.Verdict.{IsVerdict};
 ghost use Rattle.batch_statement.specs.Statement.{AirTable, WellFormed, read_common, tables_of};
 
 use crate::backend::opened_claims;
-use verifier_claims::{OpeningArgumentWithQuotientDomains, commitments_with_opening_points};
+use air_core::{Air, BaseAir};
 use batch_config::Settings;
 use batch_statement::{
     BatchCommitments, BatchOpenedValues, BatchProof, BatchVerificationError, CommonData,
     TablesProof,
 };
-use air_core::{Air, BaseAir};
 use commit_core::{CosetPcs, Pcs, PolynomialSpace, UnivariateStarkPcs};
 use p3_field::{
     BasedVectorSpace, ExtensionField, Field, FieldCore, Mem, PrimeCharacteristicRing, PrimeCore64,
@@ -25,6 +24,7 @@ use p3_field::{
 };
 use p3_uni_stark::{Challenge, Challenger, Commitment, Domain, PcsError, StarkGenericConfig, Val};
 use std::alloc::Global;
+use verifier_claims::{OpeningArgumentWithQuotientDomains, commitments_with_opening_points};
 
 // How many preprocessed columns each table has.
 fn widths_of<F: FieldCore, A: BaseAir<F>>(alloc: Global, airs: &[A]) -> Mem<Vec<usize>>

@@ -11,20 +11,20 @@ ghost use Rattle.verifier_shape.specs.Verdict.{IsVerdict};
 ghost use Rattle.batch_statement.specs.Statement.{WellFormed, read_common, tables_of};
 ghost use Rattle.verifier_batch.specs.BatchChecks.{all_lookup_challenges, draw_part, drawn_of, identities_at, table_challenges_of};
 
-use verifier_draws::{Drawn, check_draws};
-use verifier_identity::check_identities;
-use batch_config::Settings;
-use verifier_shape::{ShapeBounds, check_shape};
-use batch_statement::{BatchProof, BatchVerificationError, CommonData};
 use air_core::{Air, BaseAir};
-use p3_challenger::{CanObserve, CanSample, CanSampleBits, GrindingChallenger};
+use batch_config::Settings;
+use batch_statement::{BatchProof, BatchVerificationError, CommonData};
 use commit_core::{CosetPcs, Pcs, PolynomialSpace, UnivariateStarkPcs};
+use p3_challenger::{CanObserve, CanSample, CanSampleBits, GrindingChallenger};
 use p3_field::{
     BasedVectorSpace, ExtensionField, Field, FieldCore, PrimeCharacteristicRing, PrimeCore64,
     PrimeField64, RingCore, TwoAdicCore, TwoAdicField,
 };
 use p3_uni_stark::{Challenge, Challenger, Domain, PcsError, StarkGenericConfig, Val};
 use std::alloc::Global;
+use verifier_draws::{Drawn, check_draws};
+use verifier_identity::check_identities;
+use verifier_shape::{ShapeBounds, check_shape};
 
 // The numbers of a configuration that a proof's shape depends on.
 fn shape_bounds<SC: StarkGenericConfig>(config: &SC) -> ShapeBounds

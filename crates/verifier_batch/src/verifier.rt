@@ -6,13 +6,11 @@ ghost use Rattle.verifier_shape.specs.ShapeChecks.{count_checks, statement_with}
 ghost use Rattle.verifier_shape.specs.Verdict.{IsVerdict};
 ghost use Rattle.verifier_batch.specs.BatchChecks.{checks};
 
-use crate::parts::{check_batch_draws, check_batch_identities, check_batch_shape};
-use verifier_draws::Drawn;
-use verifier_identity::check_terminals;
 use crate::check_openings;
+use crate::parts::{check_batch_draws, check_batch_identities, check_batch_shape};
+use air_core::{Air, BaseAir};
 use batch_config::Settings;
 use batch_statement::{BatchProof, BatchVerificationError, CommonData};
-use air_core::{Air, BaseAir};
 use commit_core::{CosetPcs, Pcs, PolynomialSpace, UnivariateStarkPcs};
 use p3_field::{
     BasedVectorSpace, ExtensionField, Field, FieldCore, PrimeCharacteristicRing, PrimeCore64,
@@ -20,6 +18,8 @@ use p3_field::{
 };
 use p3_uni_stark::{PcsError, StarkGenericConfig, Val};
 use std::alloc::Global;
+use verifier_draws::Drawn;
+use verifier_identity::check_terminals;
 
 /// Whether a batch proof is accepted for these tables, their public values and the data that is shared (`verify_batch` of
 /// `p3-batch-stark`): Ok exactly where no check of `checks` fails, and else the refusal of the first that does, with its fields

@@ -4,11 +4,10 @@ use crate::compared::assert_same;
 use crate::numbers::proof_of;
 use crate::settings::{Common, shared, verified};
 use crate::vectors::BATCH_B;
-use air_tables::SwapAir;
+use air_tables::{SwapAir, WheelAir};
 use p3_field::{BabyBear, Mem, RingCore};
 use std::alloc::Global;
 use std::test::Fail;
-use air_tables::WheelAir;
 use tool_tables::{GiveAir, TakeAir, ToolAir};
 
 /// The tables of the batch of four kinds, with what prover and verifier share of them, and their public values.

@@ -4,18 +4,18 @@ ghost use Rattle.p3_lookup.specs.Bus.{HaveOneWidth};
 ghost use Rattle.p3_lookup.specs.Lookup.{lookups_of};
 
 use crate::numbers::PlainBatchProof;
+use air_core::{Air, BaseAir};
 use batch_setup::ProverData;
 use batch_statement::{BatchVerificationError, SharedData};
-use verifier_batch::verify_batch;
-use air_core::{Air, BaseAir};
-use p3_challenger::Sha256Challenger;
 use commit_core::UnivariateStarkPcs;
+use p3_challenger::Sha256Challenger;
 use p3_dft::{NaiveDft, Radix2Dit};
 use p3_field::{BabyBear, QuarticExtension, TwoAdicCore};
 use p3_uni_stark::StarkConfig;
 use plain_pcs::{PlainCommitment, PlainError, PlainPcs};
 use std::alloc::Global;
 use std::test::Fail;
+use verifier_batch::verify_batch;
 
 /// The program's: challenges in the extension of degree four.
 pub type Config = StarkConfig<PlainPcs<BabyBear, Radix2Dit>, QuarticExtension, Sha256Challenger>;

@@ -6,11 +6,10 @@ use crate::edits::{Edit, SAME, edited_twice};
 use crate::numbers::proof_of;
 use crate::settings::{Common, small_config, small_shared, small_verified, verified};
 use crate::vectors::{SMALL_SWAP, SMALL_SWAPS, SMALL_TAKE, SMALL_WHEEL, SWAP_1_ROW};
-use air_tables::SwapAir;
+use air_tables::{SwapAir, WheelAir};
 use p3_field::BabyBear;
 use std::alloc::Global;
 use std::test::Fail;
-use air_tables::WheelAir;
 use tool_tables::{TakeAir, ToolAir, tables_send_one_width};
 
 // Two edits of a proof, and what the verifier then says.

@@ -14,10 +14,10 @@ use crate::opened_rows::{
 use crate::preprocessed::{
     declares_next, declares_preprocessed_next, entries, has_bits, has_entries, matrices,
 };
+use air_core::BaseAir;
 use batch_statement::{
     BatchVerificationError, OpenedValuesWithLookups, PreprocessedInstanceMeta, PreprocessedTraces,
 };
-use air_core::BaseAir;
 use p3_field::FieldCore;
 use p3_lookup::LookupError;
 use p3_uni_stark::{InvalidProofShapeError, VerificationError};

@@ -16,10 +16,10 @@ use crate::claim_rounds::{
     all_chunk_claims, all_matrix_claims, all_permutation_claims, main_claims, random_claims,
 };
 use crate::domains::{all_domains, all_sizes};
+use air_core::BaseAir;
 use batch_statement::{
     BatchCommitments, BatchVerificationError, OpenedValuesWithLookups, PreprocessedTraces,
 };
-use air_core::BaseAir;
 use commit_core::{CommitmentOpening, MatrixOpening};
 use p3_field::{
     BasedVectorSpace, ExtensionField, Field, FieldCore, Mem, PrimeCharacteristicRing, RingCore,

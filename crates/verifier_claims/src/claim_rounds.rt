@@ -8,8 +8,8 @@ ghost use Rattle.batch_config.specs.Domains.{next_by};
 
 use crate::domains::extended_domain;
 use crate::opened_rows::{chunks_of, local_row_of, next_row_of, random_of};
-use batch_statement::OpenedValuesWithLookups;
 use air_core::BaseAir;
+use batch_statement::OpenedValuesWithLookups;
 use commit_core::{MatrixOpening, PointOpening};
 use p3_field::{
     BasedVectorSpace, ExtensionField, Field, FieldCore, Mem, PrimeCharacteristicRing, RingCore,

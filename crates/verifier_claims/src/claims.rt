@@ -12,12 +12,12 @@ ghost use Rattle.batch_statement.specs.Statement.{WellFormed, read_common};
 
 use crate::claim_parts::{made, rounds_over};
 use crate::preprocessed::matrices_in;
+use air_core::BaseAir;
 use batch_config::Settings;
 use batch_statement::{
     BatchCommitments, BatchOpenedValues, BatchVerificationError, CommonData,
     OpenedValuesWithLookups, PreprocessedTraces, SharedData,
 };
-use air_core::BaseAir;
 use commit_core::{CommitmentOpening, CosetPcs, Pcs, PolynomialSpace, UnivariateStarkPcs};
 use p3_field::{
     BasedVectorSpace, ExtensionField, Field, FieldCore, Mem, PrimeCharacteristicRing, PrimeCore64,

@@ -4,8 +4,8 @@ ghost use Rattle.verifier_claims.specs.ClaimChecks.{HasDegreeBits};
 ghost use Rattle.verifier_claims.specs.Claims.{matrix_tables};
 ghost use Rattle.verifier_shape.specs.ShapeChecks.{HasEntries, has_some};
 
-use batch_statement::{PreprocessedInstanceMeta, PreprocessedTraces};
 use air_core::BaseAir;
+use batch_statement::{PreprocessedInstanceMeta, PreprocessedTraces};
 use p3_field::FieldCore;
 
 // For each committed matrix its table.

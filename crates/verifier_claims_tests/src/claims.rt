@@ -1,20 +1,20 @@
 //! The claims of one swap table, whose values are all zero: how many rounds, matrices and points there are is what is tested.
 
 use crate::compared::assert_same;
-use verifier_claims::{OpeningArgumentWithQuotientDomains, commitments_with_opening_points};
+use air_tables::SwapAir;
 use batch_statement::{
     BatchCommitments, BatchOpenedValues, BatchVerificationError, CommonData,
     OpenedValuesWithLookups, SharedData,
 };
-use air_tables::SwapAir;
-use p3_challenger::Sha256Challenger;
 use commit_core::Pcs;
+use p3_challenger::Sha256Challenger;
 use p3_dft::Radix2Dit;
 use p3_field::{BabyBear, FieldCore, Mem, QuarticExtension, RingCore};
 use p3_uni_stark::{Commitment, OpenedValues, PcsError, StarkConfig, StarkGenericConfig};
 use plain_pcs::PlainPcs;
 use std::alloc::Global;
 use std::test::Fail;
+use verifier_claims::{OpeningArgumentWithQuotientDomains, commitments_with_opening_points};
 
 type Scheme = PlainPcs<BabyBear, Radix2Dit>;
 

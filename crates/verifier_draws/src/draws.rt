@@ -10,13 +10,13 @@ ghost use Rattle.verifier_draws.specs.Draws.{drawn, grinding_checks, table_chall
 use crate::phases::play_phases;
 use crate::shapes::{batch_shape, preprocessed_commitment};
 use crate::terminals::terminals_there;
-use verifier_shape::ShapeBounds;
+use air_core::{Air, BaseAir};
 use batch_statement::{BatchVerificationError, SharedData, TablesProof};
 use batch_transcript::BatchChallenger;
-use air_core::{Air, BaseAir};
 use p3_challenger::{CanObserve, CanSample, GrindingChallenger};
 use p3_field::{BasedVectorSpace, ExtensionField, PrimeCore64, PrimeField64, RingCore};
 use std::alloc::Global;
+use verifier_shape::ShapeBounds;
 
 /// What is drawn along a proof (not in Plonky3): the challenges of each table's lookups, those that the verifier draws for all
 /// tables, and the challenger after them.

@@ -7,9 +7,9 @@ ghost use Rattle.batch_statement.specs.Statement.{tables_of};
 ghost use Rattle.verifier_shape.specs.ShapeChecks.{has_some, statement_with};
 ghost use Rattle.verifier_draws.specs.Draws.{script_shape};
 
+use air_core::{Air, BaseAir};
 use batch_statement::SharedData;
 use batch_transcript::BatchShape;
-use air_core::{Air, BaseAir};
 use p3_field::{Field, FieldCore, Mem, RingCore};
 use p3_lookup::Lookups;
 use std::alloc::Global;

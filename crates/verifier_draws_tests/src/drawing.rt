@@ -3,13 +3,13 @@ ghost use Rattle.std.specs.Prelude.{◌^◌, ◌<◌};
 
 use crate::compared::assert_same;
 use crate::worked::{quartic, worked_answer};
-use verifier_draws::Drawn;
 use batch_statement::BatchVerificationError;
 use batch_transcript::BatchTranscriptFailure;
 use p3_challenger::{CanSample, Sha256Challenger};
 use p3_field::{BabyBear, Mem, QuarticExtension, RingCore};
 use std::alloc::Global;
 use std::test::Fail;
+use verifier_draws::Drawn;
 
 // The layout of the drawn pair: the bases of both buses, each before beta.
 fn worked_layout(alloc: Global) -> Mem<Vec<Vec<QuarticExtension>>> {

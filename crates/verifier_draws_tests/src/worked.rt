@@ -3,18 +3,18 @@ ghost use Rattle.std.specs.Prelude.{◌^◌, ◌<◌};
 
 use crate::plain::Plain;
 use crate::root::Root;
-use verifier_draws::{Drawn, check_draws};
-use verifier_shape::{ShapeBounds, check_shape};
+use air_core::{Count, Node, SymbolicExpression};
 use batch_statement::{
     BatchCommitments, BatchOpenedValues, BatchVerificationError, OpenedValuesWithLookups,
     PreprocessedTraces, SharedData, TablesProof,
 };
-use air_core::{Count, Node, SymbolicExpression};
 use p3_challenger::Sha256Challenger;
 use p3_field::{BabyBear, FieldCore, Mem, QuarticExtension, RingCore};
 use p3_lookup::{Kind, Lookup, LookupTerminal, Lookups};
 use p3_uni_stark::OpenedValues;
 use std::alloc::Global;
+use verifier_draws::{Drawn, check_draws};
+use verifier_shape::{ShapeBounds, check_shape};
 
 /// A proof whose commitments are elements, and whose opening proof is a number.
 pub type SmallProof = TablesProof<BabyBear, QuarticExtension, Root, u8>;

@@ -3,15 +3,15 @@ ghost use Rattle.std.specs.Prelude.{◌≡◌};
 ghost use Rattle.p3_field.specs.Quartic.{quartic_ring};
 
 use crate::same::assert_same;
+use air_tables::SwapAir;
 use batch_constraints_tests::sending::{sending_air, sending_lookups};
 use batch_constraints_tests::take::{Take, take_lookups};
-use air_tables::SwapAir;
-use verifier_folder::{VerifierFolderWithLookups, verifier_fold_with_lookups};
 use p3_air_tests::support::bear;
 use p3_field::{BabyBear, FieldCore, QuarticExtension, RingCore};
 use p3_lookup::LogUpGadget;
 use p3_uni_stark::VerifierFolder;
 use std::test::Fail;
+use verifier_folder::{VerifierFolderWithLookups, verifier_fold_with_lookups};
 
 // The element of this number.
 fn quartic(n: u64) -> QuarticExtension {

@@ -9,7 +9,6 @@ ghost use Rattle.batch_constraints.specs.BatchTrees.{table_trees};
 ghost use Rattle.verifier_folder.specs.FolderState.{all_opened};
 ghost use Rattle.verifier_identity.specs.Identity.{IsInDomain, OpensWhatIsRead, folded_at, identity_checks, opened_at};
 
-use verifier_folder::{VerifierFolderWithLookups, verifier_fold_with_lookups};
 use air_core::{Air, BaseAir};
 use commit_core::{LagrangeSelectors, PolynomialSpace};
 use p3_field::{
@@ -18,6 +17,7 @@ use p3_field::{
 };
 use p3_lookup::{Lookup, LookupProtocol};
 use p3_uni_stark::{Challenge, StarkGenericConfig, Val, VerificationError, VerifierFolder};
+use verifier_folder::{VerifierFolderWithLookups, verifier_fold_with_lookups};
 
 /// What the identity of one table at a point is decided from (`VerifierData` of `p3-batch-stark`): the drawn point and
 /// challenges, what is opened there, and the quotient's value.

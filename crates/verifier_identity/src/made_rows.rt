@@ -7,8 +7,8 @@ ghost use Rattle.verifier_identity.specs.MadeRows.{AreMade};
 ghost use Rattle.verifier_identity.specs.TableIdentity.{next_row_or_zeros, permutation_column_count, preprocessed_local_of};
 
 use crate::{periodic_values_at, recombined_row, zero_row};
-use batch_statement::OpenedValuesWithLookups;
 use air_core::BaseAir;
+use batch_statement::OpenedValuesWithLookups;
 use commit_core::PeriodicColumns;
 use p3_field::{
     BasedVectorSpace, ExtensionField, Field, FieldCore, Mem, PrimeCharacteristicRing, RingCore,

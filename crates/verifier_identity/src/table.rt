@@ -14,12 +14,12 @@ ghost use Rattle.p3_uni_stark.specs.declared.error.VerificationError.TheVariants
 ghost use Rattle.verifier_identity.specs.MadeRows.{AreMade};
 ghost use Rattle.verifier_identity.specs.TableIdentity.{identity_of_table, opened_table, periods_check, verified};
 
+use crate::IdentityData;
 use crate::made_rows::{
     MadeRows, held_terminal, made_rows, next_row, preprocessed_local, preprocessed_next, values_in,
 };
-use crate::IdentityData;
-use batch_statement::{BatchVerificationError, OpenedValuesWithLookups};
 use air_core::{Air, BaseAir};
+use batch_statement::{BatchVerificationError, OpenedValuesWithLookups};
 use commit_core::PeriodicColumns;
 use p3_field::{
     BasedVectorSpace, ExtensionField, Field, FieldCore, PrimeCharacteristicRing, RingCore,

@@ -12,8 +12,8 @@ ghost use Rattle.verifier_shape.specs.Verdict.{IsVerdict};
 ghost use Rattle.verifier_identity.specs.TableIdentity.{identity_by};
 
 use crate::table::check_table;
-use batch_statement::{BatchVerificationError, OpenedValuesWithLookups};
 use air_core::{Air, BaseAir};
+use batch_statement::{BatchVerificationError, OpenedValuesWithLookups};
 use p3_field::{
     BasedVectorSpace, ExtensionField, Field, FieldCore, PrimeCharacteristicRing, RingCore,
     TwoAdicCore, TwoAdicField, TwoAdicMultiplicativeCoset,

@@ -13,14 +13,14 @@ ghost use Rattle.verifier_shape.specs.Verdict.{IsVerdict};
 ghost use Rattle.verifier_identity.specs.TableIdentity.{identity_at};
 
 use crate::tables::check_tables;
-use verifier_shape::ShapeBounds;
-use batch_statement::{BatchVerificationError, SharedData, TablesProof};
 use air_core::{Air, BaseAir};
+use batch_statement::{BatchVerificationError, SharedData, TablesProof};
 use p3_field::{
     BasedVectorSpace, ExtensionField, Field, FieldCore, PrimeCharacteristicRing, PrimeCore64,
     PrimeField64, RingCore, TwoAdicCore, TwoAdicField, TwoAdicMultiplicativeCoset,
 };
 use std::alloc::Global;
+use verifier_shape::ShapeBounds;
 
 // The identities of all tables, whose lists were found to have an item for each table.
 fn batch_identities<F: TwoAdicField, E: ExtensionField<F>, A: Air<F>, Com, Opening, R>(

@@ -8,15 +8,15 @@ ghost use Rattle.batch_constraints_tests.specs.Tables.{take_declaration};
 
 use crate::blank::Blank;
 use crate::same::assert_same;
-use batch_constraints_tests::take::{Take, take_lookups};
-use verifier_identity::{IdentityData, periodic_values_at, zero_row};
 use air_tables::{SendingAir, SwapAir};
-use p3_air_tests::support::bear;
+use batch_constraints_tests::take::{Take, take_lookups};
 use commit_core::PeriodicColumns;
+use p3_air_tests::support::bear;
 use p3_field::{BabyBear, FieldCore, Mem, QuarticExtension, RingCore, TwoAdicMultiplicativeCoset};
 use p3_lookup::{LogUpGadget, Lookup};
 use p3_uni_stark::VerificationError;
 use std::alloc::Global;
+use verifier_identity::{IdentityData, periodic_values_at, zero_row};
 
 type Answer = Result<(), VerificationError<()>>;
 

@@ -2,8 +2,8 @@
 ghost use Rattle.std.specs.Prelude.{◌≡◌};
 
 use crate::same::assert_values;
-use verifier_identity::{recombined_row, zero_row};
 use p3_field::{BabyBear, FieldCore, QuarticExtension, RingCore};
+use verifier_identity::{recombined_row, zero_row};
 
 // The element of this number.
 fn quartic(n: u64) -> QuarticExtension {

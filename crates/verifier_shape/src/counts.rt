@@ -6,10 +6,10 @@ ghost use Rattle.batch_statement.specs.Statement.{Statement, read_common, tables
 ghost use Rattle.verifier_shape.specs.ShapeChecks.{HaveItemForEachTable, HasEntries, IsRandomized, count_checks, has_some, is_there, permutation_check, statement_with};
 ghost use Rattle.verifier_shape.specs.Verdict.{IsDecided};
 
+use air_core::{Air, BaseAir};
 use batch_statement::{
     BatchVerificationError, OpenedValuesWithLookups, PreprocessedTraces, SharedData, TablesProof,
 };
-use air_core::{Air, BaseAir};
 use p3_field::{Field, FieldCore, RingCore};
 use p3_lookup::{LookupError, Lookups};
 use p3_uni_stark::{InvalidProofShapeError, VerificationError};

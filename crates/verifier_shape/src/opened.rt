@@ -6,8 +6,8 @@ ghost use Rattle.verifier_shape.specs.Verdict.{IsDecided};
 ghost use Rattle.batch_statement.specs.declared.error.BatchVerificationError.TheVariants.{Lookup, Verification};
 ghost use Rattle.p3_uni_stark.specs.declared.error.VerificationError.TheVariants.{InvalidProofShape};
 
-use batch_statement::{BatchVerificationError, OpenedValuesWithLookups};
 use air_core::BaseAir;
+use batch_statement::{BatchVerificationError, OpenedValuesWithLookups};
 use p3_field::{Field, FieldCore, RingCore};
 use p3_lookup::LookupError;
 use p3_uni_stark::{InvalidProofShapeError, PreprocessedOpenedValues, VerificationError};

@@ -10,9 +10,9 @@ ghost use Rattle.verifier_shape.specs.ShapeChecks.{log_chunks_at, chunks_of_tabl
 ghost use Rattle.verifier_shape.specs.Verdict.{IsVerdict};
 
 use crate::powers::power_of_two;
+use air_core::{Air, AirLayout, BaseAir};
 use batch_constraints::get_log_num_quotient_chunks;
 use batch_statement::BatchVerificationError;
-use air_core::{Air, AirLayout, BaseAir};
 use p3_field::{Field, FieldCore, Mem, RingCore};
 use p3_lookup::{LogUpGadget, Lookups};
 use p3_uni_stark::{InvalidProofShapeError, VerificationError};

@@ -9,8 +9,8 @@ ghost use Rattle.verifier_shape.specs.Verdict.{IsDecided};
 
 use crate::opened::check_opened;
 use crate::powers::power_of_two;
-use batch_statement::{BatchVerificationError, OpenedValuesWithLookups};
 use air_core::{Air, BaseAir};
+use batch_statement::{BatchVerificationError, OpenedValuesWithLookups};
 use p3_field::{Field, FieldCore, RingCore};
 use p3_lookup::{LookupTerminal, Lookups};
 

@@ -14,8 +14,8 @@ use crate::bounds::check_bounds;
 use crate::counts::{check_counts, check_permutation};
 use crate::sizes::check_sizes;
 use crate::tables::check_tables;
-use batch_statement::{BatchVerificationError, SharedData, TablesProof};
 use air_core::{Air, BaseAir};
+use batch_statement::{BatchVerificationError, SharedData, TablesProof};
 use p3_field::{Field, FieldCore, PrimeCore64, PrimeField64, RingCore};
 use std::alloc::Global;
 

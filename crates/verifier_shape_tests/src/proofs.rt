@@ -1,16 +1,16 @@
 //! A proof of one swap table of eight rows, whose values are all zero: the shape is what is tested.
 
-use verifier_shape::{ShapeBounds, check_shape};
+use air_tables::SwapAir;
 use batch_statement::{
     BatchCommitments, BatchOpenedValues, BatchVerificationError, OpenedValuesWithLookups,
     SharedData, TablesProof,
 };
-use air_tables::SwapAir;
 use p3_air_tests::support::bear;
 use p3_field::{BabyBear, FieldCore, Mem, QuarticExtension, RingCore};
 use p3_lookup::LookupTerminal;
 use p3_uni_stark::{OpenedValues, PreprocessedOpenedValues};
 use std::alloc::Global;
+use verifier_shape::{ShapeBounds, check_shape};
 
 /// The lengths and presences in a proof, its public values, and the backend.
 #[derive(Clone, Copy)]
