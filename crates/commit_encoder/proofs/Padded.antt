@@ -13,12 +13,11 @@ use Rattle.p3_field.specs.Domain.{coset_point}
 use Rattle.p3_field.specs.Laws.Values.{eval_same}
 use Rattle.p3_field.specs.Laws.Tabulate.{length-tabulate, get_or-tabulate, tabulate_same}
 use Rattle.p3_matrix.specs.Matrix.{Rows, FillsRows, height, cell_at, column}
-use Rattle.p3_matrix.specs.Laws.Cells.{length-column, get_or-column}
+use Rattle.p3_matrix.specs.Laws.Cells.{length-column, get_or-column, width_positive}
 use Rattle.p3_matrix.specs.Laws.Grids.{in_matrix}
 use Rattle.p3_matrix.specs.Laws.Powers.{one_shifted_left}
 use Rattle.p3_dft.specs.Transform.{values_at, IsTransformOf}
 use Rattle.commit_encoder.specs.Encoder.{IsCodeOf}
-use Rattle.commit_encoder.specs.Laws.Codes.{width_positive}
 use Rattle.commit_encoder.specs.declared.encoder.EncodeError.{EncodeError}
 use Rattle.commit_encoder.specs.declared.encoder.EncodeError.TheVariants.{NoSubgroup, OutOfMemory}
 

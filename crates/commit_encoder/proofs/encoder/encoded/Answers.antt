@@ -2,7 +2,7 @@ use Rattle.std.proofs.Common.{◌≡◌, ◌*◌, ◌^◌, ◌≤◌, ◌∙◌,
 use Rattle.std.specs.Int.{IsPowerOfTwo}
 use Rattle.std.proofs.lemmas.Nat.{pow_pos}
 use Rattle.p3_matrix.specs.Matrix.{Rows, FillsRows, height}
-use Rattle.commit_encoder.specs.Laws.Codes.{width_positive}
+use Rattle.p3_matrix.specs.Laws.Cells.{width_positive}
 use Rattle.commit_encoder.proofs.Padded.{code_count, code_rows, subgroup_size, power_times, times_more, padded_height, padded_code, other_error}
 use Rattle.commit_encoder.proofs.encoder.encoded.Goals as goal
 
