@@ -97,3 +97,7 @@ pub record WellFormed {F C : Type 0} (ds : List (Declaration F)) (c : Common F C
   pub listed : ListsEntries (instance_count ds c) c.preprocessed
   -- and an entry names its instance's place among them
   pub places : (i : ℕ) → i < instance_count ds c → HasPlace c.preprocessed i
+
+-- the statement on these tables, with these public values and common data that a program holds so
+abbrev pub statement_with : {F C : Type 0} → List (AirTable F) → List (List F) → WrittenCommon F C → Statement F C
+statement_with tables publics common = record { tables = tables; publics = publics; common = read_common common }

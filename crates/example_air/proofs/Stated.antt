@@ -9,9 +9,9 @@ use Rattle.plain_pcs.specs.Scheme.{Blowup, PlainCommitmentData, scheme}
 use Rattle.plain_pcs.specs.declared.error.PlainError.{PlainError}
 use Rattle.law_committed.specs.Committed.{CommittedTable, Holds, row_count_of}
 use Rattle.law_committed.specs.Fields.{FieldsLaws, baby_bear_field, quartic_extension}
-use Rattle.verifier_claims.specs.Claims.{bits_at}
+use Rattle.batch_statement.specs.Words.{bits_at}
 use Rattle.batch_config.specs.Setting.{Setting}
-use Rattle.verifier_shape.specs.Verdict.{IsRefusal, IsVerdict}
+use Rattle.batch_statement.specs.Verdict.{IsRefusal, IsVerdict}
 use Rattle.batch_statement.specs.Statement.{Common, Statement}
 use Rattle.batch_statement.specs.declared.error.BatchVerificationError.{BatchVerificationError}
 use Rattle.verifier_batch.specs.BatchChecks.{checks}

@@ -14,7 +14,7 @@ use Rattle.plain_pcs.specs.Scheme.{PlainCommitmentData}
 use Rattle.plain_pcs.specs.declared.commitment.PlainProof.{PlainProof}
 use Rattle.plain_pcs.specs.declared.error.PlainError.{PlainError}
 use Rattle.law_committed.specs.Fields.{baby_bear_field}
-use Rattle.verifier_claims.specs.Claims.{bits_at}
+use Rattle.batch_statement.specs.Words.{bits_at}
 use Rattle.batch_setup.specs.Preprocessed.{natural}
 use Rattle.batch_statement.specs.Proof.{ProofData}
 use Rattle.batch_statement.specs.Statement.{Common, Statement, AirTable}

@@ -1,8 +1,8 @@
 //! Whether a proof of bytes is accepted.
 ghost use Rattle.std.specs.Prelude.{◌≡◌, ◌≤◌, [], ◌∷◌, IfOk};
 ghost use Rattle.p3_field.specs.Checks.{NoneFails};
-ghost use Rattle.verifier_claims.specs.Claims.{bits_at};
-ghost use Rattle.verifier_shape.specs.Verdict.{IsDecided, IsVerdict};
+ghost use Rattle.batch_statement.specs.Words.{bits_at};
+ghost use Rattle.batch_statement.specs.Verdict.{IsDecided, IsVerdict};
 ghost use Rattle.verifier_batch.specs.BatchChecks.{checks};
 ghost use Rattle.law_soundness.specs.Meaning.{HoldUnlessUnlucky};
 ghost use Rattle.tool_statement.specs.Config.{tool_backend, tool_setting};

@@ -16,8 +16,7 @@ use Rattle.batch_config.specs.Setting.{Setting}
 use Rattle.batch_statement.specs.Proof.{ProofData}
 use Rattle.batch_statement.specs.Statement.{PreprocessedTracesData, Statement, AirTable}
 use Rattle.batch_statement.specs.declared.preprocessed.PreprocessedInstanceMeta.{PreprocessedInstanceMeta}
-use Rattle.verifier_shape.specs.ShapeChecks.{no_table}
-use Rattle.verifier_claims.specs.Claims.{bits_at}
+use Rattle.batch_statement.specs.Words.{no_table, bits_at}
 use Rattle.verifier_batch.specs.OpeningChecks.{log_chunks_of_table}
 use Rattle.verifier_batch.specs.BatchChecks.{table_challenges_of}
 use Rattle.law_soundness.specs.Commitment.{polynomials_at}

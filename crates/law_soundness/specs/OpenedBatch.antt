@@ -8,8 +8,9 @@ use Rattle.plain_pcs.specs.Scheme.{PlainCommitmentData}
 use Rattle.batch_config.specs.Setting.{Setting}
 use Rattle.batch_statement.specs.Proof.{OpenedWithLookups, ProofData}
 use Rattle.batch_statement.specs.Statement.{Statement}
-use Rattle.verifier_shape.specs.ShapeChecks.{has_some, permutation_width}
-use Rattle.verifier_claims.specs.Claims.{instance_at, preprocessed_local_row, preprocessed_next_row, values_where_there}
+use Rattle.verifier_shape.specs.ShapeChecks.{permutation_width}
+use Rattle.batch_statement.specs.Words.{has_some, instance_at}
+use Rattle.verifier_claims.specs.Claims.{preprocessed_local_row, preprocessed_next_row, values_where_there}
 use Rattle.law_soundness.specs.CommittedBatch.{committed_quotient, committed_table_at, lookups_at, permutation_count, stated_table}
 
 -- What is opened of a table that declares d is what its committed polynomials have at x, and at the next point: there its main and preprocessed columns are

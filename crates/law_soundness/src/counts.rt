@@ -3,8 +3,7 @@ ghost use Rattle.std.specs.Prelude.{◌≡◌, ℕ, ◌<◌, ◌≤◌, List, Al
 ghost use Rattle.law_committed.specs.Batch.{DividedTable, IsUnluckyAlphaOfBatch, IsUnluckyZetaOfBatch};
 ghost use Rattle.law_committed.specs.Identity.{chunk_count_of};
 ghost use Rattle.law_committed.specs.Unlucky.{AreDistinct, IsUnluckyAlpha, IsUnluckyAlphaAt, IsUnluckyZeta};
-ghost use Rattle.verifier_shape.specs.ShapeChecks.{statement_with};
-ghost use Rattle.batch_statement.specs.Statement.{WellFormed, read_common, tables_of};
+ghost use Rattle.batch_statement.specs.Statement.{statement_with, WellFormed, read_common, tables_of};
 ghost use Rattle.verifier_batch.specs.BatchChecks.{Accepted};
 ghost use Rattle.law_soundness.specs.CommittedBatch.{chunk_count, committed_batch, committed_quotient};
 ghost use Rattle.law_soundness.specs.UnluckyCounts.{most_alphas, most_zetas};

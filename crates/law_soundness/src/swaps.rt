@@ -2,9 +2,8 @@
 ghost use Rattle.std.specs.Prelude.{◌≡◌, ℕ, ◌<◌, List, [], map, length};
 ghost use Rattle.std.specs.Prelude.{slice_index_or as get_or};
 ghost use Rattle.air_tables.specs.Swap.{swap_trees};
-ghost use Rattle.verifier_claims.specs.Claims.{bits_at};
-ghost use Rattle.verifier_shape.specs.ShapeChecks.{statement_with};
-ghost use Rattle.batch_statement.specs.Statement.{WellFormed, read_common, tables_of};
+ghost use Rattle.batch_statement.specs.Words.{bits_at};
+ghost use Rattle.batch_statement.specs.Statement.{statement_with, WellFormed, read_common, tables_of};
 ghost use Rattle.verifier_batch.specs.BatchChecks.{Accepted};
 ghost use Rattle.law_soundness.specs.Meaning.{IsAlphaUnlucky, IsZetaUnlucky};
 ghost use Rattle.law_soundness.specs.Swapped.{EndsSwapped, swap_publics};

@@ -1,7 +1,6 @@
 //! Callers of the verifier that know what an Ok means.
 ghost use Rattle.std.specs.Prelude.{map, IsOk};
-ghost use Rattle.verifier_shape.specs.ShapeChecks.{statement_with};
-ghost use Rattle.batch_statement.specs.Statement.{WellFormed, read_common, tables_of};
+ghost use Rattle.batch_statement.specs.Statement.{statement_with, WellFormed, read_common, tables_of};
 ghost use Rattle.law_soundness.specs.Meaning.{HoldUnlessUnlucky};
 
 use air_core::{Air, BaseAir};

@@ -1,9 +1,8 @@
 //! A verifier of swap tables over the program's types.
 ghost use Rattle.std.specs.Prelude.{◌≡◌, ℕ, ◌<◌, [], map, length, IsOk};
 ghost use Rattle.std.specs.Prelude.{slice_index_or as get_or};
-ghost use Rattle.verifier_claims.specs.Claims.{bits_at};
-ghost use Rattle.verifier_shape.specs.ShapeChecks.{statement_with};
-ghost use Rattle.batch_statement.specs.Statement.{WellFormed, read_common, tables_of};
+ghost use Rattle.batch_statement.specs.Words.{bits_at};
+ghost use Rattle.batch_statement.specs.Statement.{statement_with, WellFormed, read_common, tables_of};
 ghost use Rattle.law_soundness.specs.Meaning.{IsAlphaUnlucky, IsZetaUnlucky};
 ghost use Rattle.law_soundness.specs.Swapped.{EndsSwapped, swap_publics};
 

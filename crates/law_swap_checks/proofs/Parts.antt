@@ -11,7 +11,7 @@ use Rattle.plain_pcs.specs.declared.commitment.PlainProof.{PlainProof}
 use Rattle.air_tables.specs.Swap.{swap_declaration, swap_trees}
 use Rattle.batch_statement.specs.Proof.{OpenedWithLookups}
 use Rattle.batch_statement.specs.Statement.{Statement}
-use Rattle.verifier_shape.specs.ShapeChecks.{no_opened}
+use Rattle.batch_statement.specs.Words.{no_opened}
 use Rattle.tool_statement.specs.StatedTables.{tool_common, tool_statement}
 use Rattle.tool_statement.specs.declared.table.TableStatement.TheVariants.{Swap}
 use Rattle.law_swap_checks.specs.SwapShape.{SwapProof, Single, HasLength, HasWidthAndHeight, IsSwapOpening, IsSwapShape}

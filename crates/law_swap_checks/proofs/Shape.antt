@@ -10,7 +10,8 @@ use Rattle.plain_pcs.specs.declared.commitment.PlainProof.{PlainProof}
 use Rattle.plain_pcs.specs.declared.error.PlainError.{PlainError}
 use Rattle.batch_constraints.specs.Sizing.{log_ceil}
 use Rattle.batch_statement.specs.Proof.{OpenedWithLookups}
-use Rattle.verifier_shape.specs.ShapeChecks.{shape_checks, table_checks, is_there}
+use Rattle.verifier_shape.specs.ShapeChecks.{shape_checks, table_checks}
+use Rattle.batch_statement.specs.Words.{is_there}
 use Rattle.verifier_batch.specs.OpeningChecks.{shape_bounds_of}
 use Rattle.tool_statement.specs.Config.{tool_setting}
 use Rattle.law_swap_checks.specs.SwapShape.{SwapProof}

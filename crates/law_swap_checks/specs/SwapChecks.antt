@@ -25,7 +25,7 @@ use Rattle.batch_transcript.specs.declared.failure.BatchTranscriptFailure.TheVar
 use Rattle.batch_statement.specs.Proof.{OpenedWithLookups}
 use Rattle.batch_statement.specs.declared.error.BatchVerificationError.{BatchVerificationError}
 use Rattle.batch_statement.specs.declared.error.BatchVerificationError.TheVariants.{Verification, Transcript}
-use Rattle.verifier_shape.specs.ShapeChecks.{no_opened}
+use Rattle.batch_statement.specs.Words.{no_opened}
 use Rattle.verifier_batch.specs.BatchChecks.{drawn_of}
 use Rattle.tool_statement.specs.Config.{tool_setting}
 use Rattle.tool_statement.specs.StatedTables.{tool_statement}

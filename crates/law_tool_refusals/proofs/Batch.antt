@@ -10,14 +10,15 @@ use Rattle.commit_core.specs.Periodic.{IsPeriod}
 use Rattle.p3_lookup.specs.Bound.{HaveLoadsBelow}
 use Rattle.p3_uni_stark.specs.Opened.{OpenedData, PreprocessedData}
 use Rattle.p3_uni_stark.specs.declared.error.VerificationError.{VerificationError}
-use Rattle.verifier_claims.specs.Claims.{bits_at, claims, matrix_tables}
+use Rattle.verifier_claims.specs.Claims.{claims, matrix_tables}
+use Rattle.batch_statement.specs.Words.{bits_at, no_opened, no_table}
 use Rattle.verifier_claims.specs.ClaimChecks.{HasDegreeBits}
 use Rattle.verifier_draws.specs.Draws.{drawn, grinding_checks, lookup_grinding, ood_grinding, script_shape}
 use Rattle.verifier_identity.specs.Identity.{OpenedTable, identity_checks}
 use Rattle.verifier_identity.specs.TableIdentity.{verified}
 use Rattle.verifier_batch.specs.OpeningChecks.{shape_bounds_of, claim_checks, claimed, domain_checks, log_chunks_of_table, metadata_check, opening_checks, opens_check}
 use Rattle.batch_config.specs.Setting.{Setting, Backend, masks}
-use Rattle.verifier_shape.specs.ShapeChecks.{HaveItemForEachTable, bus_bound_part, chunk_checks, count_checks, heights_of, lookup_checks, main_checks, next_check, no_opened, no_table, opened_checks, opened_part, permutation_check, preprocessed_checks, shape_checks, size_part, sizes_at, table_checks}
+use Rattle.verifier_shape.specs.ShapeChecks.{HaveItemForEachTable, bus_bound_part, chunk_checks, count_checks, heights_of, lookup_checks, main_checks, next_check, opened_checks, opened_part, permutation_check, preprocessed_checks, shape_checks, size_part, sizes_at, table_checks}
 use Rattle.verifier_shape.specs.Laws.Parts.{bounded}
 use Rattle.batch_statement.specs.Proof.{OpenedWithLookups, ProofData}
 use Rattle.batch_statement.specs.Statement.{Statement, entry_of}

@@ -18,11 +18,11 @@ use Rattle.p3_lookup.specs.Bound.{HaveLoadsBelow}
 use Rattle.p3_lookup.specs.Lookup.{LookupData}
 use Rattle.plain_pcs.specs.Scheme.{PlainCommitmentData}
 use Rattle.plain_pcs.specs.declared.error.PlainError.{PlainError}
-use Rattle.verifier_claims.specs.Claims.{bits_at}
+use Rattle.batch_statement.specs.Words.{bits_at, no_table}
 use Rattle.verifier_claims.specs.ClaimChecks.{HasDegreeBits}
 use Rattle.verifier_batch.specs.OpeningChecks.{log_chunks_of_table}
 use Rattle.batch_setup.specs.Packed.{no_source, packed_at, packed_lookups}
-use Rattle.verifier_shape.specs.ShapeChecks.{HaveItemForEachTable, chunks_of_table, heights_of, no_table}
+use Rattle.verifier_shape.specs.ShapeChecks.{HaveItemForEachTable, chunks_of_table, heights_of}
 use Rattle.batch_statement.specs.Statement.{AirTable, Statement, entry_of}
 use Rattle.batch_statement.specs.declared.error.BatchVerificationError.{BatchVerificationError}
 use Rattle.batch_statement.specs.declared.preprocessed.PreprocessedInstanceMeta.{PreprocessedInstanceMeta}

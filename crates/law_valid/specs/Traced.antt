@@ -16,7 +16,8 @@ use Rattle.batch_constraints.specs.BatchTrees.{table_trees}
 use Rattle.batch_config.specs.Domains.{offered}
 use Rattle.batch_config.specs.Setting.{Setting, masks}
 use Rattle.batch_statement.specs.Statement.{Statement, AirTable}
-use Rattle.verifier_shape.specs.ShapeChecks.{chunks_of_table, no_table}
+use Rattle.verifier_shape.specs.ShapeChecks.{chunks_of_table}
+use Rattle.batch_statement.specs.Words.{no_table}
 use Rattle.batch_setup.specs.Preprocessed.{on_domain}
 use Rattle.law_committed.specs.Committed.{CommittedTable}
 use Rattle.law_committed.specs.Traces.{committed_traces}

@@ -10,8 +10,7 @@ use Rattle.air_core.specs.Shape.{Declaration}
 use Rattle.air_core.specs.Tree.{Tree}
 use Rattle.batch_config.specs.Setting.{Setting, masks}
 use Rattle.batch_setup.specs.Setup.{Instance, airs_of, bits_of}
-use Rattle.verifier_shape.specs.ShapeChecks.{statement_with}
-use Rattle.batch_statement.specs.Statement.{PreprocessedTracesData, Statement, WrittenCommon, tables_of}
+use Rattle.batch_statement.specs.Statement.{statement_with, PreprocessedTracesData, Statement, WrittenCommon, tables_of}
 use Rattle.law_valid.specs.Traced.{TracedTable, all_traced, log_parts, preprocessed_matrices, traced_at}
 use Rattle.law_valid.specs.Valid.{IsTracedBatch}
 use Rattle.law_honest.specs.HonestProof.{Prover, alpha, challenges_at, chunk_matrices, permutation_matrices}

@@ -8,7 +8,7 @@ use Rattle.air_core.specs.Shape.{Declaration, HasColumns}
 use Rattle.air_core.specs.Tree.{Tree}
 use Rattle.batch_config.specs.Setting.{Setting, masks}
 use Rattle.batch_setup.specs.Setup.{Instance, airs_of}
-use Rattle.verifier_shape.specs.ShapeChecks.{no_table}
+use Rattle.batch_statement.specs.Words.{no_table}
 use Rattle.batch_statement.specs.Statement.{AirTable, WrittenCommon}
 use Rattle.law_committed.specs.Fields.{FieldsLaws}
 use Rattle.law_honest.specs.HonestProof.{Prover, challenges_at}

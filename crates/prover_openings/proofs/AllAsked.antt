@@ -7,7 +7,8 @@ use Rattle.p3_field.specs.Poly.{tabulate}
 use Rattle.air_core.specs.Shape.{Declaration}
 use Rattle.commit_core.specs.Claims.{Request}
 use Rattle.p3_lookup.specs.Written.{Written, read_all}
-use Rattle.verifier_claims.specs.Claims.{bits_at, declared_at, matrix_tables}
+use Rattle.verifier_claims.specs.Claims.{matrix_tables}
+use Rattle.batch_statement.specs.Words.{bits_at, declared_at}
 use Rattle.batch_setup.specs.Setup.{Instance}
 use Rattle.batch_statement.specs.Statement.{WrittenCommon}
 use Rattle.law_acceptance.specs.Rounds.{points_with}

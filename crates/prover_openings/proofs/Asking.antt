@@ -12,12 +12,12 @@ use Rattle.p3_matrix.specs.Matrix.{Rows}
 use Rattle.air_core.specs.Shape.{Declaration, HasColumns}
 use Rattle.commit_core.specs.Claims.{Request}
 use Rattle.commit_core.specs.Commitments.{AreCommitted, AreOpenedCommitments, Committed, OpenedCommitment, IsCommitment}
-use Rattle.verifier_claims.specs.Claims.{commitment_in, declared_at, matrix_tables}
+use Rattle.verifier_claims.specs.Claims.{commitment_in, matrix_tables}
+use Rattle.batch_statement.specs.Words.{declared_at, no_table}
 use Rattle.verifier_claims.specs.Laws.Listed.{listed_below}
 use Rattle.prover_answer.specs.Batch.{Batch, HasProverData, IsTracedAll, all_chunks, all_permutations, log_parts_at, main_matrices, preprocessed_all, table_at, table_count}
 use Rattle.batch_config.specs.Domains.{next_by}
 use Rattle.batch_config.specs.Setting.{masks}
-use Rattle.verifier_shape.specs.ShapeChecks.{no_table}
 use Rattle.batch_statement.specs.Statement.{PreprocessedTracesData, AirTable}
 use Rattle.law_committed.specs.Fields.{FieldsLaws}
 use Rattle.law_valid.specs.Traced.{declared}

@@ -8,7 +8,8 @@ use Rattle.air_core.specs.Tree.{Tree}
 use Rattle.p3_lookup.specs.Written.{Written, read_all}
 use Rattle.batch_constraints.specs.BatchTrees.{AreLookupsOf}
 use Rattle.batch_setup.specs.Setup.{Instance, airs_of}
-use Rattle.verifier_shape.specs.ShapeChecks.{chunks_of_table, no_table}
+use Rattle.verifier_shape.specs.ShapeChecks.{chunks_of_table}
+use Rattle.batch_statement.specs.Words.{no_table}
 use Rattle.verifier_shape.specs.Laws.Items.{item_of_map}
 use Rattle.batch_statement.specs.Statement.{AirTable, tables_of}
 use Rattle.law_valid.specs.Traced.{no_rows}

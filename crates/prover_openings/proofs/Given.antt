@@ -15,7 +15,7 @@ use Rattle.prover_answer.specs.Batch.{Batch, HasProverData, batch_of, log_parts_
 use Rattle.batch_config.specs.Domains.{next_by}
 use Rattle.batch_config.specs.Setting.{Setting, masks}
 use Rattle.batch_setup.specs.Setup.{Instance, airs_of}
-use Rattle.verifier_shape.specs.ShapeChecks.{is_there, no_table}
+use Rattle.batch_statement.specs.Words.{is_there, no_table}
 use Rattle.batch_statement.specs.Proof.{OpenedWithLookups}
 use Rattle.batch_statement.specs.Statement.{Common, PreprocessedTracesData, AirTable, WellFormed, WrittenCommon, tables_of}
 use Rattle.law_honest.specs.HonestProof.{Prover, zeta}

@@ -5,7 +5,8 @@ use Rattle.std.proofs.Math.ListN.{get_or-append}
 use Rattle.std.proofs.lemmas.List.{get_or-append-add}
 use Rattle.p3_field.specs.Poly.{tabulate}
 use Rattle.verifier_claims.specs.Claims.{matrix_tables}
-use Rattle.verifier_shape.specs.ShapeChecks.{HasEntries, is_there}
+use Rattle.verifier_shape.specs.ShapeChecks.{HasEntries}
+use Rattle.batch_statement.specs.Words.{is_there}
 use Rattle.batch_statement.specs.Statement.{ListsEntries, PreprocessedTracesData, entry_of, with_entry}
 use Rattle.batch_statement.specs.declared.preprocessed.PreprocessedInstanceMeta.{PreprocessedInstanceMeta}
 use Rattle.prover_openings.specs.Taken.{count_below, one_where}

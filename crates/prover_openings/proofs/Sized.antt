@@ -11,8 +11,8 @@ use Rattle.air_core.specs.Tree.{Tree}
 use Rattle.p3_lookup.specs.Written.{Written, read_all}
 use Rattle.batch_config.specs.Setting.{Setting, masks}
 use Rattle.batch_setup.specs.Setup.{ArePowers, Instance, airs_of, bits_of}
-use Rattle.verifier_shape.specs.ShapeChecks.{chunks_of_table, statement_with}
-use Rattle.batch_statement.specs.Statement.{Statement, WrittenCommon, tables_of}
+use Rattle.verifier_shape.specs.ShapeChecks.{chunks_of_table}
+use Rattle.batch_statement.specs.Statement.{statement_with, Statement, WrittenCommon, tables_of}
 use Rattle.law_valid.specs.Laws.Holding.{lookups_declared}
 use Rattle.law_valid.specs.Traced.{TracedTable, log_parts, log_rows, no_rows, traced_at}
 use Rattle.law_valid.specs.Valid.{IsTracedBatch}

@@ -11,10 +11,11 @@ use Rattle.p3_matrix.specs.Matrix.{Rows}
 use Rattle.air_core.specs.Shape.{Declaration, HasColumns, width_of}
 use Rattle.commit_core.specs.Commitments.{values_of}
 use Rattle.p3_lookup.specs.Lookup.{LookupData}
-use Rattle.verifier_claims.specs.Claims.{commitment_in, declared_at, matrix_tables}
+use Rattle.verifier_claims.specs.Claims.{commitment_in, matrix_tables}
+use Rattle.batch_statement.specs.Words.{declared_at, has_some, is_there, no_table}
 use Rattle.prover_answer.specs.Batch.{Batch, IsTracedAll, log_parts_at, table_at, table_count}
 use Rattle.batch_config.specs.Setting.{Setting}
-use Rattle.verifier_shape.specs.ShapeChecks.{has_some, is_there, no_table, permutation_width}
+use Rattle.verifier_shape.specs.ShapeChecks.{permutation_width}
 use Rattle.batch_statement.specs.Proof.{OpenedWithLookups}
 use Rattle.batch_statement.specs.Statement.{HasEntryOf, ListsEntries, PreprocessedTracesData, AirTable, entry_of}
 use Rattle.batch_statement.specs.declared.preprocessed.PreprocessedInstanceMeta.{PreprocessedInstanceMeta}

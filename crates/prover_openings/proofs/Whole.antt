@@ -18,7 +18,7 @@ use Rattle.prover_answer.specs.Verdict.{IsProverRefusal}
 use Rattle.prover_answer.specs.Laws.Verdicts.{refusal_along}
 use Rattle.prover_answer.specs.declared.error.ProvingError.{ProvingError}
 use Rattle.batch_setup.specs.declared.error.ProverPhase.TheVariants.{Opening}
-use Rattle.verifier_shape.specs.ShapeChecks.{is_there}
+use Rattle.batch_statement.specs.Words.{is_there}
 use Rattle.batch_statement.specs.Proof.{OpenedWithLookups}
 use Rattle.law_valid.specs.Traced.{declared}
 use Rattle.law_committed.specs.Fields.{FieldsLaws}

@@ -5,7 +5,8 @@ use Rattle.std.specs.List.{flat_map}
 use Rattle.p3_field.specs.Poly.{tabulate}
 use Rattle.air_core.specs.Shape.{Declaration}
 use Rattle.commit_core.specs.Claims.{Request}
-use Rattle.verifier_claims.specs.Claims.{bits_at, declared_at, matrix_tables}
+use Rattle.verifier_claims.specs.Claims.{matrix_tables}
+use Rattle.batch_statement.specs.Words.{bits_at, declared_at}
 use Rattle.prover_answer.specs.Batch.{Batch, log_parts_at, table_count}
 use Rattle.batch_config.specs.Domains.{next_by}
 use Rattle.batch_config.specs.Setting.{masks}

@@ -5,7 +5,8 @@ use Rattle.p3_field.specs.Ring.{Ring}
 use Rattle.p3_matrix.specs.Matrix.{Rows, height}
 use Rattle.p3_lookup.specs.Lookup.{LookupData}
 use Rattle.batch_constraints.specs.BatchTrees.{AreLookupsOf}
-use Rattle.verifier_shape.specs.ShapeChecks.{chunks_of_table, no_table}
+use Rattle.verifier_shape.specs.ShapeChecks.{chunks_of_table}
+use Rattle.batch_statement.specs.Words.{no_table}
 use Rattle.batch_statement.specs.Statement.{AirTable}
 use Rattle.law_valid.specs.Traced.{no_rows}
 

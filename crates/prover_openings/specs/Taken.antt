@@ -3,7 +3,7 @@ use Rattle.std.specs.Prelude.{slice_index_or as get_or}
 use Rattle.std.specs.Prelude.{ℕ, zero, suc, ◌+◌, Bool, cond, List, [], drop, Option, None, Some}
 use Rattle.p3_field.specs.Poly.{tabulate}
 use Rattle.p3_lookup.specs.Lookup.{LookupData}
-use Rattle.verifier_shape.specs.ShapeChecks.{has_some, is_there}
+use Rattle.batch_statement.specs.Words.{has_some, is_there}
 use Rattle.batch_statement.specs.Proof.{OpenedWithLookups}
 use Rattle.batch_statement.specs.Statement.{PreprocessedTracesData, entry_of}
 use Rattle.prover_openings.specs.Rows.{first_list, rows_in, second_of, values_of_row}

@@ -4,7 +4,7 @@ ghost use Rattle.std.specs.Prelude.{slice_index_or as get_or};
 ghost use Rattle.std.specs.List.{flat_map};
 ghost use Rattle.p3_field.specs.Poly.{tabulate};
 ghost use Rattle.p3_lookup.specs.Written.{read_all};
-ghost use Rattle.verifier_claims.specs.Claims.{bits_at, declared_at};
+ghost use Rattle.batch_statement.specs.Words.{bits_at, declared_at};
 ghost use Rattle.batch_config.specs.Domains.{next_by};
 ghost use Rattle.law_acceptance.specs.Rounds.{points_with};
 ghost use Rattle.law_honest.specs.HonestProof.{where_some};

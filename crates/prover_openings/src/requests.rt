@@ -1,7 +1,8 @@
 //! The requests to open a batch's committed matrices, round by round.
 ghost use Rattle.std.specs.Prelude.{◌≡◌, ℕ, ◌<◌, ◌≤◌, ◌++◌, All, Some, length, map, IfOk};
 ghost use Rattle.std.specs.Option.{option_copied};
-ghost use Rattle.verifier_claims.specs.Claims.{bits_at, matrix_tables};
+ghost use Rattle.verifier_claims.specs.Claims.{matrix_tables};
+ghost use Rattle.batch_statement.specs.Words.{bits_at};
 ghost use Rattle.batch_config.specs.Domains.{next_by};
 ghost use Rattle.prover_openings.specs.Asked.{asked, plan_of, request_where};
 

@@ -5,7 +5,7 @@ ghost use Rattle.std.specs.Vec.Iter.{into_iter_items};
 ghost use Rattle.commit_core.specs.Commitments.{nested};
 ghost use Rattle.p3_field.specs.Poly.{tabulate};
 ghost use Rattle.p3_lookup.specs.Written.{read_all};
-ghost use Rattle.verifier_shape.specs.ShapeChecks.{has_some, is_there};
+ghost use Rattle.batch_statement.specs.Words.{has_some, is_there};
 ghost use Rattle.batch_statement.specs.Statement.{entry_of};
 ghost use Rattle.prover_openings.specs.Rows.{first_list, matrices_in, rounds_in, rows_in, second_of, values_of_row};
 ghost use Rattle.prover_openings.specs.Taken.{chunk_count_at, has_entry_at, has_lookups_at, one_where, round_values, taken_at, taken_table};

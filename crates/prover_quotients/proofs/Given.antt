@@ -10,7 +10,7 @@ use Rattle.air_core.specs.Tree.{Tree}
 use Rattle.commit_core.specs.Commitments.{Committed, IsCommitment}
 use Rattle.prover_answer.specs.Backend.{ProverBackend}
 use Rattle.prover_answer.specs.Batch.{Batch, HasProverData, IsTracedAll, all_challenges, all_permutations, main_matrices, preprocessed_all, table_at, table_count}
-use Rattle.verifier_shape.specs.ShapeChecks.{no_table}
+use Rattle.batch_statement.specs.Words.{no_table}
 use Rattle.batch_statement.specs.Statement.{AirTable, tables_of}
 use Rattle.law_committed.specs.Fields.{FieldsLaws}
 use Rattle.law_valid.specs.Traced.{declared}

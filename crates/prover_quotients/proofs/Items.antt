@@ -13,7 +13,7 @@ use Rattle.prover_answer.specs.Batch.{Batch, IsTracedAll, batch_of, table_at, ta
 use Rattle.batch_config.specs.Setting.{Setting, masks}
 use Rattle.batch_setup.specs.Setup.{Instance, airs_of, log_of}
 use Rattle.verifier_shape.specs.Laws.Items.{item_of_map}
-use Rattle.verifier_shape.specs.ShapeChecks.{no_table}
+use Rattle.batch_statement.specs.Words.{no_table}
 use Rattle.batch_statement.specs.Statement.{AirTable, WrittenCommon, entry_of, tables_of}
 use Rattle.law_valid.specs.Laws.Holding.{lookups_declared}
 use Rattle.law_valid.specs.Traced.{TracedTable, no_rows}

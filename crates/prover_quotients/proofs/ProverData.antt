@@ -12,9 +12,10 @@ use Rattle.p3_field.specs.Poly.{tabulate}
 use Rattle.p3_matrix.specs.Matrix.{Rows}
 use Rattle.air_core.specs.Shape.{Declaration, HasColumns, width_of}
 use Rattle.commit_core.specs.Commitments.{AreCommitted, Committed, IsCommitment}
-use Rattle.verifier_claims.specs.Claims.{declared_at, matrix_tables}
+use Rattle.verifier_claims.specs.Claims.{matrix_tables}
+use Rattle.batch_statement.specs.Words.{declared_at, has_some, no_table}
 use Rattle.batch_config.specs.Setting.{Setting}
-use Rattle.verifier_shape.specs.ShapeChecks.{has_some, no_table, permutation_width}
+use Rattle.verifier_shape.specs.ShapeChecks.{permutation_width}
 use Rattle.batch_statement.specs.Statement.{HasEntryOf, HasPlace, PreprocessedTracesData, Statement, AirTable, entry_of}
 use Rattle.batch_statement.specs.declared.preprocessed.PreprocessedInstanceMeta.{PreprocessedInstanceMeta}
 use Rattle.prover_answer.specs.Backend.{ProverBackend}

@@ -2,7 +2,7 @@
 use Rattle.std.specs.Prelude.{slice_index_or as get_or}
 use Rattle.std.specs.Prelude.{ℕ, cond, List, [], take, count_by, Option, None, Some, option_map}
 use Rattle.p3_lookup.specs.Lookup.{LookupData}
-use Rattle.verifier_shape.specs.ShapeChecks.{has_some}
+use Rattle.batch_statement.specs.Words.{has_some}
 use Rattle.batch_statement.specs.Statement.{Common, entry_of}
 use Rattle.prover_quotients.specs.declared.places.Places.{Places}
 

@@ -2,7 +2,8 @@
 ghost use Rattle.std.specs.Prelude.{◌≡◌, ℕ, ◌<◌, IfOk, cond, length, map};
 ghost use Rattle.p3_field.specs.Poly.{tabulate};
 ghost use Rattle.p3_lookup.specs.Written.{read_all};
-ghost use Rattle.verifier_shape.specs.ShapeChecks.{HasEntries, has_some};
+ghost use Rattle.verifier_shape.specs.ShapeChecks.{HasEntries};
+ghost use Rattle.batch_statement.specs.Words.{has_some};
 ghost use Rattle.batch_statement.specs.Statement.{entry_of};
 ghost use Rattle.std.specs.Option.{option_map};
 ghost use Rattle.prover_quotients.specs.Places.{permutation_matrix_place};

@@ -15,8 +15,7 @@ use Rattle.plain_pcs.specs.declared.commitment.PlainProof.{PlainProof}
 use Rattle.plain_pcs.specs.declared.error.PlainProverError.{PlainProverError}
 use Rattle.batch_setup.specs.Preprocessed.{IsPrepared}
 use Rattle.batch_setup.specs.Setup.{Instance, instances_of}
-use Rattle.verifier_shape.specs.ShapeChecks.{statement_with}
-use Rattle.batch_statement.specs.Statement.{Statement, WellFormed, WrittenCommon, read_common, tables_of}
+use Rattle.batch_statement.specs.Statement.{statement_with, Statement, WellFormed, WrittenCommon, read_common, tables_of}
 use Rattle.law_valid.specs.Valid.{Valid}
 use Rattle.verifier_batch.specs.BatchChecks.{Accepted}
 use Rattle.law_acceptance.specs.Honest.{IsOutsideRows}

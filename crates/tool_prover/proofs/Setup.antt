@@ -18,8 +18,7 @@ use Rattle.batch_setup.specs.Packed.{Source, no_source, packed_at, source_of}
 use Rattle.batch_setup.specs.Preprocessed.{IsPrepared, committed_trace_at, committed_below, entry_at, on_domain}
 use Rattle.batch_setup.specs.Setup.{Instance, bits_of, instances_of, log_of}
 use Rattle.batch_setup.specs.Setup.{airs_of as airs_in}
-use Rattle.verifier_shape.specs.ShapeChecks.{statement_with}
-use Rattle.batch_statement.specs.Statement.{Common, PreprocessedTracesData, Statement, WellFormed, WrittenCommon, read_common, tables_of}
+use Rattle.batch_statement.specs.Statement.{statement_with, Common, PreprocessedTracesData, Statement, WellFormed, WrittenCommon, read_common, tables_of}
 use Rattle.batch_statement.specs.declared.preprocessed.PreprocessedInstanceMeta.{PreprocessedInstanceMeta}
 use Rattle.law_valid.specs.Laws.Made.{matrices_are}
 use Rattle.law_valid.specs.Traced.{TracedTable, declared, preprocessed_matrices}

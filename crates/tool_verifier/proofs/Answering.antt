@@ -5,7 +5,7 @@ use Rattle.p3_field.specs.Checks.{FirstFailing, NoneFails}
 use Rattle.plain_pcs.specs.declared.error.PlainError.{PlainError}
 use Rattle.batch_statement.specs.declared.error.BatchVerificationError.{BatchVerificationError}
 use Rattle.batch_statement.specs.declared.error.BatchVerificationError.TheVariants.{Verification, Lookup, Transcript, OutOfMemory}
-use Rattle.verifier_shape.specs.Verdict.{IsRefusal}
+use Rattle.batch_statement.specs.Verdict.{IsRefusal}
 use Rattle.verifier_batch.specs.BatchChecks.{FirstFault, checks}
 use Rattle.tool_statement.specs.Config.{tool_setting, tool_backend}
 use Rattle.tool_statement.specs.StatedTables.{HasStatedHeight, HaveStatedHeights, tool_statement}

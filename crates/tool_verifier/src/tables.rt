@@ -1,6 +1,6 @@
 //! Whether a proof of stated tables is accepted.
 ghost use Rattle.std.specs.Prelude.{All, IfOk};
-ghost use Rattle.verifier_shape.specs.Verdict.{IsVerdict};
+ghost use Rattle.batch_statement.specs.Verdict.{IsVerdict};
 ghost use Rattle.verifier_batch.specs.BatchChecks.{checks};
 ghost use Rattle.law_soundness.specs.Meaning.{HoldUnlessUnlucky};
 ghost use Rattle.tool_verifier.specs.FileAnswer.{PrintCompressions, SwapsEnd};

@@ -6,7 +6,8 @@ use Rattle.p3_field.specs.Laws.Checks.{none_at, none_before, none_after}
 use Rattle.p3_field.specs.Ring.{Ring}
 use Rattle.p3_uni_stark.specs.Opened.{PreprocessedData}
 use Rattle.verifier_shape.specs.Laws.Parts.{counted}
-use Rattle.verifier_shape.specs.ShapeChecks.{HaveItemForEachTable, Bounds, IsRandomized, bus_bound_part, chunk_checks, log_chunks_at, count_checks, has_some, is_there, lookup_checks, main_checks, next_check, next_length, opened_checks, opened_part, permutation_check, preprocessed_checks, preprocessed_next_of, shape_checks, size_part, sizes_at, table_checks}
+use Rattle.verifier_shape.specs.ShapeChecks.{HaveItemForEachTable, Bounds, IsRandomized, bus_bound_part, chunk_checks, log_chunks_at, count_checks, lookup_checks, main_checks, next_check, next_length, opened_checks, opened_part, permutation_check, preprocessed_checks, preprocessed_next_of, shape_checks, size_part, sizes_at, table_checks}
+use Rattle.batch_statement.specs.Words.{has_some, is_there}
 use Rattle.batch_statement.specs.Proof.{OpenedWithLookups, ProofData}
 use Rattle.batch_statement.specs.Statement.{Statement}
 

@@ -8,7 +8,8 @@ use Rattle.p3_field.specs.Domain.{CosetData}
 use Rattle.p3_field.specs.Ring.{Ring}
 use Rattle.p3_lookup.specs.Lookup.{LookupData}
 use Rattle.batch_config.specs.Domains.{chunks_over}
-use Rattle.verifier_claims.specs.Claims.{bits_at, claims, matrix_tables}
+use Rattle.verifier_claims.specs.Claims.{claims, matrix_tables}
+use Rattle.batch_statement.specs.Words.{bits_at}
 use Rattle.verifier_batch.specs.OpeningChecks.{claim_checks, claimed, domain_checks, log_chunks_of_table, metadata_check, opening_checks, opens_check}
 use Rattle.batch_config.specs.Setting.{Setting, Backend}
 use Rattle.verifier_shape.specs.Laws.Parts.{counted}

@@ -12,9 +12,10 @@ use Rattle.p3_uni_stark.specs.declared.error.InvalidProofShapeError.TheVariants.
 use Rattle.batch_config.specs.Setting.{Setting, masks}
 use Rattle.batch_statement.specs.Proof.{ProofData}
 use Rattle.batch_statement.specs.Statement.{Statement, AirTable, WellFormed, entry_of}
-use Rattle.verifier_shape.specs.ShapeChecks.{HasEntries, has_some, is_there, no_table, preprocessed_next_of, shape_check, shape_checks}
+use Rattle.verifier_shape.specs.ShapeChecks.{HasEntries, preprocessed_next_of, shape_check, shape_checks}
+use Rattle.batch_statement.specs.Words.{has_some, is_there, no_table, bits_at, declared_at, instance_at}
 use Rattle.verifier_claims.specs.ClaimChecks.{bits_between, bits_listed, degree_bits_of, chunks_counted, counts_of, domain_by, entries_in, first_made, listed_of, made_by, made_checks, matrices_of, matrix_fits, next_opened_check, nexts_of, random_of, permutation_rows_of, rows_paired, sizes_fit, sizes_of}
-use Rattle.verifier_claims.specs.Claims.{bits_at, declared_at, instance_at, matrix_tables}
+use Rattle.verifier_claims.specs.Claims.{matrix_tables}
 use Rattle.verifier_claims.specs.Laws.Listed.{entry_same, matrix_below, matrix_wide}
 use Rattle.verifier_batch.specs.OpeningChecks.{shape_bounds_of, claim_checks, claimed, domain_checks, log_chunks_of_table, metadata_check, preprocessed_widths}
 use Rattle.verifier_batch.proofs.Shaped.{chunks_are, columns_are_there, counts_agree, declared_next_is_there, is_randomized, next_columns_are_there, rows_agree, size_fits, table_opened}

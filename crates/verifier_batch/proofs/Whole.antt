@@ -13,15 +13,16 @@ use Rattle.p3_field.specs.Ring.{Ring}
 use Rattle.batch_config.specs.Domains.{chunks_over, next_by}
 use Rattle.batch_config.specs.Setting.{Setting, Backend}
 use Rattle.batch_statement.specs.Proof.{OpenedWithLookups, ProofData}
-use Rattle.batch_statement.specs.Statement.{Statement, AirTable, WellFormed, WrittenCommon, read_common, tables_of}
+use Rattle.batch_statement.specs.Statement.{Statement, AirTable, WellFormed, WrittenCommon, read_common, tables_of, statement_with}
 use Rattle.batch_statement.specs.declared.commitments.BatchCommitments.{BatchCommitments}
 use Rattle.batch_statement.specs.declared.error.BatchVerificationError.{BatchVerificationError}
 use Rattle.batch_statement.specs.declared.error.BatchVerificationError.TheVariants.{Verification, Lookup, Transcript, OutOfMemory}
 use Rattle.verifier_shape.specs.Laws.Verdicts.{refused_before, verdict_after}
-use Rattle.verifier_shape.specs.ShapeChecks.{shape_checks, statement_with}
-use Rattle.verifier_shape.specs.Verdict.{IsRefusal, IsVerdict}
+use Rattle.verifier_shape.specs.ShapeChecks.{shape_checks}
+use Rattle.batch_statement.specs.Verdict.{IsRefusal, IsVerdict}
 use Rattle.verifier_claims.specs.ClaimChecks.{made_checks}
-use Rattle.verifier_claims.specs.Claims.{Claimed, bits_at, chunk_domains_at, claimed_of, claims, claims_by, commitment_in, matrix_tables}
+use Rattle.verifier_claims.specs.Claims.{Claimed, chunk_domains_at, claimed_of, claims, claims_by, commitment_in, matrix_tables}
+use Rattle.batch_statement.specs.Words.{bits_at}
 use Rattle.verifier_batch.specs.OpeningChecks.{shape_bounds_of, claim_checks, claimed, log_chunks_of_table, opening_checks, opens_check, preprocessed_widths}
 use Rattle.verifier_batch.proofs.Thin.{Thins}
 use Rattle.verifier_batch.proofs.Thinned.{claims_thin, declared}

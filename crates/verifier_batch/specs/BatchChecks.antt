@@ -11,7 +11,7 @@ use Rattle.batch_statement.specs.Statement.{Statement}
 use Rattle.batch_statement.specs.declared.error.BatchVerificationError.{BatchVerificationError}
 use Rattle.verifier_shape.specs.ShapeChecks.{shape_checks}
 use Rattle.verifier_draws.specs.Draws.{drawn, grinding_checks, table_challenges}
-use Rattle.verifier_claims.specs.Claims.{bits_at}
+use Rattle.batch_statement.specs.Words.{bits_at}
 use Rattle.verifier_batch.specs.OpeningChecks.{shape_bounds_of, log_chunks_of_table, opening_checks}
 use Rattle.verifier_identity.specs.TableIdentity.{identity_at, terminal_check}
 

@@ -13,7 +13,8 @@ use Rattle.batch_statement.specs.Statement.{Statement, entry_of}
 use Rattle.batch_statement.specs.declared.error.BatchVerificationError.{BatchVerificationError}
 use Rattle.batch_statement.specs.declared.error.BatchVerificationError.TheVariants.{Verification}
 use Rattle.verifier_shape.specs.ShapeChecks.{Bounds, log_chunks_at}
-use Rattle.verifier_claims.specs.Claims.{Claimed, bits_at, claims, matrix_tables}
+use Rattle.verifier_claims.specs.Claims.{Claimed, claims, matrix_tables}
+use Rattle.batch_statement.specs.Words.{bits_at}
 use Rattle.verifier_claims.specs.ClaimChecks.{bits_listed, domain_by}
 
 -- the numbers of a configuration that a proof's shape depends on

@@ -1,7 +1,7 @@
 //! The check of a batch's claims by the backend.
 ghost use Rattle.std.specs.Prelude.{◌≡◌, ℕ};
 ghost use Rattle.verifier_batch.specs.OpeningChecks.{opens_check};
-ghost use Rattle.verifier_shape.specs.Verdict.{IsVerdict};
+ghost use Rattle.batch_statement.specs.Verdict.{IsVerdict};
 
 use batch_config::Settings;
 use batch_statement::BatchVerificationError;

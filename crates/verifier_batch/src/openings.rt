@@ -3,12 +3,13 @@ ghost use Rattle.std.specs.Prelude.{◌≡◌, ℕ, length, map, IfOk};
 ghost use Rattle.air_core.specs.Shape.{width_of};
 ghost use Rattle.p3_field.specs.Checks.{NoneFails};
 ghost use Rattle.p3_field.specs.Poly.{tabulate};
-ghost use Rattle.verifier_claims.specs.Claims.{bits_at, claims};
+ghost use Rattle.verifier_claims.specs.Claims.{claims};
+ghost use Rattle.batch_statement.specs.Words.{bits_at};
 ghost use Rattle.verifier_batch.specs.OpeningChecks.{shape_bounds_of, claim_checks, claimed, log_chunks_of_table, opening_checks};
 ghost use Rattle.batch_config.specs.Domains.{chunk_domains};
-ghost use Rattle.verifier_shape.specs.ShapeChecks.{shape_checks, statement_with};
-ghost use Rattle.verifier_shape.specs.Verdict.{IsVerdict};
-ghost use Rattle.batch_statement.specs.Statement.{AirTable, WellFormed, read_common, tables_of};
+ghost use Rattle.verifier_shape.specs.ShapeChecks.{shape_checks};
+ghost use Rattle.batch_statement.specs.Statement.{statement_with, AirTable, WellFormed, read_common, tables_of};
+ghost use Rattle.batch_statement.specs.Verdict.{IsVerdict};
 
 use crate::backend::opened_claims;
 use air_core::{Air, BaseAir};

@@ -2,13 +2,13 @@
 ghost use Rattle.std.specs.Prelude.{◌≡◌, ℕ, ◌+◌, ◌<◌, ◌≤◌, length, map, IfOk, IfErr};
 ghost use Rattle.p3_field.specs.Checks.{NoneFails, in_turn};
 ghost use Rattle.p3_field.specs.Poly.{tabulate};
-ghost use Rattle.verifier_claims.specs.Claims.{bits_at};
+ghost use Rattle.batch_statement.specs.Words.{bits_at};
 ghost use Rattle.verifier_batch.specs.OpeningChecks.{shape_bounds_of, log_chunks_of_table};
 ghost use Rattle.batch_config.specs.Domains.{chunk_domains};
 ghost use Rattle.batch_config.specs.Setting.{masks as masks_of};
-ghost use Rattle.verifier_shape.specs.ShapeChecks.{bounds_with, count_checks, shape_checks, statement_with};
-ghost use Rattle.verifier_shape.specs.Verdict.{IsVerdict};
-ghost use Rattle.batch_statement.specs.Statement.{WellFormed, read_common, tables_of};
+ghost use Rattle.verifier_shape.specs.ShapeChecks.{bounds_with, count_checks, shape_checks};
+ghost use Rattle.batch_statement.specs.Statement.{statement_with, WellFormed, read_common, tables_of};
+ghost use Rattle.batch_statement.specs.Verdict.{IsVerdict};
 ghost use Rattle.verifier_batch.specs.BatchChecks.{all_lookup_challenges, draw_part, drawn_of, identities_at, table_challenges_of};
 
 use air_core::{Air, BaseAir};

@@ -1,9 +1,9 @@
 //! Whether a batch proof is accepted.
 ghost use Rattle.std.specs.Prelude.{◌≡◌, map, IfErr};
 ghost use Rattle.p3_field.specs.Checks.{NoneFails};
-ghost use Rattle.batch_statement.specs.Statement.{WellFormed, read_common, tables_of};
-ghost use Rattle.verifier_shape.specs.ShapeChecks.{count_checks, statement_with};
-ghost use Rattle.verifier_shape.specs.Verdict.{IsVerdict};
+ghost use Rattle.batch_statement.specs.Statement.{WellFormed, read_common, tables_of, statement_with};
+ghost use Rattle.verifier_shape.specs.ShapeChecks.{count_checks};
+ghost use Rattle.batch_statement.specs.Verdict.{IsVerdict};
 ghost use Rattle.verifier_batch.specs.BatchChecks.{checks};
 
 use crate::check_openings;

@@ -9,10 +9,11 @@ use Rattle.p3_field.specs.Laws.Tabulate.{get_or-tabulate, length-tabulate}
 use Rattle.p3_field.specs.Poly.{tabulate}
 use Rattle.p3_field.specs.Ring.{Ring}
 use Rattle.verifier_claims.specs.ClaimChecks.{HaveClaimLengths, AreSized, bits_between, degree_bits_of, chunks_counted, counts_of, first_made, listed_of, made_by, matrices_of, nexts_of, random_of, permutation_rows_of, sizes_fit, sizes_of}
-use Rattle.verifier_claims.specs.Claims.{Claimed, bits_at, chunk_domains_at, instance_at}
+use Rattle.verifier_claims.specs.Claims.{Claimed, chunk_domains_at}
+use Rattle.batch_statement.specs.Words.{bits_at, instance_at}
 use Rattle.batch_config.specs.Domains.{chunks_over, offered}
 use Rattle.verifier_shape.specs.Laws.Verdicts.{decided_after, first_of_four, second_of_four, third_of_four, last_of_four}
-use Rattle.verifier_shape.specs.Verdict.{IsDecided}
+use Rattle.batch_statement.specs.Verdict.{IsDecided}
 use Rattle.batch_statement.specs.declared.error.BatchVerificationError.{BatchVerificationError}
 
 -- lists of checks in turn, up to a number that is given otherwise

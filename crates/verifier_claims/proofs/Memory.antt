@@ -8,7 +8,7 @@ use Rattle.p3_uni_stark.specs.declared.error.VerificationError.{VerificationErro
 use Rattle.p3_lookup.specs.declared.terminal.LookupError.{LookupError}
 use Rattle.batch_statement.specs.declared.error.BatchVerificationError.{BatchVerificationError}
 use Rattle.batch_statement.specs.declared.error.BatchVerificationError.TheVariants.{Verification, Lookup, OutOfMemory}
-use Rattle.verifier_shape.specs.ShapeChecks.{is_there}
+use Rattle.batch_statement.specs.Words.{is_there}
 use Rattle.verifier_claims.specs.ClaimChecks.{bits_between, degree_bits_of, chunks_counted, counts_of, first_made, listed_of, made_by, matrices_of, matrix_fits, entries_in, next_opened_check, nexts_of, random_of, permutation_rows_of, rows_paired, sizes_fit, sizes_of}
 use Rattle.verifier_claims.specs.Claims.{Claimed, matrix_tables}
 

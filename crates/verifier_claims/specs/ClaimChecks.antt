@@ -14,8 +14,9 @@ use Rattle.batch_statement.specs.Statement.{PreprocessedTracesData}
 use Rattle.batch_statement.specs.declared.error.BatchVerificationError.{BatchVerificationError}
 use Rattle.batch_statement.specs.declared.error.BatchVerificationError.TheVariants.{Verification, Lookup}
 use Rattle.batch_statement.specs.declared.preprocessed.PreprocessedInstanceMeta.{PreprocessedInstanceMeta}
-use Rattle.verifier_shape.specs.ShapeChecks.{shape_check, is_there, has_some, HasEntries, preprocessed_next_of}
-use Rattle.verifier_claims.specs.Claims.{Claimed, declared_at, instance_at, bits_at, matrix_tables}
+use Rattle.verifier_shape.specs.ShapeChecks.{shape_check, HasEntries, preprocessed_next_of}
+use Rattle.batch_statement.specs.Words.{is_there, has_some, declared_at, instance_at, bits_at}
+use Rattle.verifier_claims.specs.Claims.{Claimed, matrix_tables}
 
 -- the lists have these lengths, and each has an item for each of so many tables
 pub record HaveClaimLengths {C : Type 0} (tables : ℕ) (preprocessed : Option (PreprocessedTracesData C)) (instances degree_bits widths chunks : ℕ) : Type 0 where

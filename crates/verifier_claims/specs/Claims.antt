@@ -14,7 +14,8 @@ use Rattle.batch_config.specs.Domains.{next_by, chunks_over}
 use Rattle.batch_statement.specs.Proof.{OpenedWithLookups}
 use Rattle.batch_statement.specs.Statement.{PreprocessedTracesData}
 use Rattle.batch_statement.specs.declared.commitments.BatchCommitments.{BatchCommitments}
-use Rattle.verifier_shape.specs.ShapeChecks.{no_table, no_opened, preprocessed_next_of}
+use Rattle.verifier_shape.specs.ShapeChecks.{preprocessed_next_of}
+use Rattle.batch_statement.specs.Words.{no_table, no_opened, bits_at, declared_at, instance_at}
 
 -- What claims are made of: what the AIRs declare, the preprocessed traces, the proof's commitments, what it opens of each table, its degree bits, and for
 -- each table the logarithm of the number of its quotient's chunks before masking.
@@ -36,16 +37,6 @@ claimed_of declaration airs preprocessed commitments instances degree_bits log_c
   degree_bits = degree_bits;
   log_chunks = log_chunks;
 }
-
--- the items of table i; past the end of a list stands what is never read
-abbrev pub declared_at : {F : Type 0} → List (Declaration F) → ℕ → Declaration F
-declared_at {F = F} declarations i = get_or declarations i (no_table {F = F}).declaration
-
-abbrev pub instance_at : {E : Type 0} → List (OpenedWithLookups E) → ℕ → OpenedWithLookups E
-instance_at instances i = get_or instances i no_opened
-
-abbrev pub bits_at : (degree_bits : List ℕ) → ℕ → ℕ
-bits_at degree_bits i = get_or degree_bits i 0
 
 -- for each preprocessed matrix its table, and the commitment to all of them
 abbrev pub matrix_tables : {C : Type 0} → Option (PreprocessedTracesData C) → List ℕ

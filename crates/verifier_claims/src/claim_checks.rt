@@ -4,8 +4,9 @@ ghost use Rattle.std.specs.Prelude.{slice_index_or as get_or};
 ghost use Rattle.p3_field.specs.Checks.{in_turn};
 ghost use Rattle.verifier_claims.specs.ClaimChecks.{HaveClaimLengths, listed_check, bits_between, random_check, next_opened_check, chunks_counted, columns_fit, entries_in, matrix_fits, rows_paired};
 ghost use Rattle.verifier_claims.specs.Claims.{matrix_tables};
-ghost use Rattle.verifier_shape.specs.ShapeChecks.{HasEntries, is_there};
-ghost use Rattle.verifier_shape.specs.Verdict.{IsDecided};
+ghost use Rattle.verifier_shape.specs.ShapeChecks.{HasEntries};
+ghost use Rattle.batch_statement.specs.Words.{is_there};
+ghost use Rattle.batch_statement.specs.Verdict.{IsDecided};
 
 use crate::domains::power_of_two;
 use crate::opened_rows::{

@@ -5,9 +5,10 @@ ghost use Rattle.std.specs.List.{flat_map};
 ghost use Rattle.p3_field.specs.Checks.{NoneFails};
 ghost use Rattle.p3_field.specs.Poly.{tabulate};
 ghost use Rattle.verifier_claims.specs.ClaimChecks.{AreSized, first_made, made_by};
-ghost use Rattle.verifier_claims.specs.Claims.{bits_at, chunk_claims, chunk_domains_at, claimed_of, claims_by, instance_at, main_claim, preprocessed_matrix_claim, matrix_tables, permutation_claims, random_claim, claims_of_round};
+ghost use Rattle.verifier_claims.specs.Claims.{chunk_claims, chunk_domains_at, claimed_of, claims_by, main_claim, preprocessed_matrix_claim, matrix_tables, permutation_claims, random_claim, claims_of_round};
+ghost use Rattle.batch_statement.specs.Words.{bits_at, instance_at};
 ghost use Rattle.batch_config.specs.Domains.{next_by};
-ghost use Rattle.verifier_shape.specs.Verdict.{IsDecided, IsVerdict};
+ghost use Rattle.batch_statement.specs.Verdict.{IsDecided, IsVerdict};
 
 use crate::claim_checks::{
     all_bits, all_counts, all_matrices, all_next, listed, random_where, rows_where,

@@ -3,7 +3,8 @@ ghost use Rattle.std.specs.Prelude.{◌≡◌, ℕ, ◌+◌, ◌<◌, ◌≤◌,
 ghost use Rattle.std.specs.Prelude.{slice_index_or as get_or};
 ghost use Rattle.std.specs.List.{flat_map};
 ghost use Rattle.p3_field.specs.Poly.{tabulate};
-ghost use Rattle.verifier_claims.specs.Claims.{at_point, bits_at, chunk_claim, chunk_claims, instance_at, preprocessed_local_row, main_claim, preprocessed_matrix_claim, preprocessed_next_row, on_subgroup, permutation_claims, preprocessed_claim, random_claim, values_where_there, where_declared, where_opened};
+ghost use Rattle.verifier_claims.specs.Claims.{at_point, chunk_claim, chunk_claims, preprocessed_local_row, main_claim, preprocessed_matrix_claim, preprocessed_next_row, on_subgroup, permutation_claims, preprocessed_claim, random_claim, values_where_there, where_declared, where_opened};
+ghost use Rattle.batch_statement.specs.Words.{bits_at, instance_at};
 ghost use Rattle.batch_config.specs.Domains.{next_by};
 
 use crate::domains::extended_domain;

@@ -4,10 +4,11 @@ ghost use Rattle.std.specs.Prelude.{slice_index_or as get_or};
 ghost use Rattle.p3_field.specs.Checks.{NoneFails};
 ghost use Rattle.p3_field.specs.Poly.{tabulate};
 ghost use Rattle.verifier_claims.specs.ClaimChecks.{AreSized, made_checks};
-ghost use Rattle.verifier_claims.specs.Claims.{bits_at, chunk_domains_at, claimed_of, claims, commitment_in, place_of_preprocessed, rounds_before};
+ghost use Rattle.verifier_claims.specs.Claims.{chunk_domains_at, claimed_of, claims, commitment_in, place_of_preprocessed, rounds_before};
+ghost use Rattle.batch_statement.specs.Words.{bits_at};
 ghost use Rattle.batch_config.specs.Domains.{chunk_domains};
 ghost use Rattle.batch_config.specs.Setting.{masks};
-ghost use Rattle.verifier_shape.specs.Verdict.{IsVerdict};
+ghost use Rattle.batch_statement.specs.Verdict.{IsVerdict};
 ghost use Rattle.batch_statement.specs.Statement.{WellFormed, read_common};
 
 use crate::claim_parts::{made, rounds_over};

@@ -8,9 +8,10 @@ ghost use Rattle.p3_field.specs.Poly.{tabulate};
 ghost use Rattle.p3_uni_stark.specs.declared.error.InvalidProofShapeError.TheVariants.{QuotientDomainTooLarge};
 ghost use Rattle.p3_uni_stark.specs.declared.error.VerificationError.TheVariants.{InvalidProofShape};
 ghost use Rattle.verifier_claims.specs.ClaimChecks.{domain_by, sizes_fit};
-ghost use Rattle.verifier_claims.specs.Claims.{bits_at, chunk_domains_at};
+ghost use Rattle.verifier_claims.specs.Claims.{chunk_domains_at};
+ghost use Rattle.batch_statement.specs.Words.{bits_at};
 ghost use Rattle.batch_config.specs.Domains.{chunks_over};
-ghost use Rattle.verifier_shape.specs.Verdict.{IsDecided};
+ghost use Rattle.batch_statement.specs.Verdict.{IsDecided};
 ghost use Rattle.batch_statement.specs.declared.error.BatchVerificationError.TheVariants.{Verification};
 
 use batch_statement::BatchVerificationError;

@@ -1,6 +1,7 @@
 //! The rows that are opened of one table, each by itself.
 ghost use Rattle.std.specs.Prelude.{◌≡◌, ◌↔◌, IsTrue, length, map, option_map};
-ghost use Rattle.verifier_shape.specs.ShapeChecks.{is_there, preprocessed_next_of};
+ghost use Rattle.verifier_shape.specs.ShapeChecks.{preprocessed_next_of};
+ghost use Rattle.batch_statement.specs.Words.{is_there};
 
 use batch_statement::OpenedValuesWithLookups;
 

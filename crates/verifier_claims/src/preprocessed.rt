@@ -2,7 +2,8 @@
 ghost use Rattle.std.specs.Prelude.{◌≡◌, ◌↔◌, IsTrue};
 ghost use Rattle.verifier_claims.specs.ClaimChecks.{HasDegreeBits};
 ghost use Rattle.verifier_claims.specs.Claims.{matrix_tables};
-ghost use Rattle.verifier_shape.specs.ShapeChecks.{HasEntries, has_some};
+ghost use Rattle.verifier_shape.specs.ShapeChecks.{HasEntries};
+ghost use Rattle.batch_statement.specs.Words.{has_some};
 
 use air_core::BaseAir;
 use batch_statement::{PreprocessedInstanceMeta, PreprocessedTraces};

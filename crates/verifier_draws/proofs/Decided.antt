@@ -13,7 +13,7 @@ use Rattle.batch_transcript.specs.declared.failure.TranscriptError.{TranscriptEr
 use Rattle.batch_transcript.specs.declared.failure.TranscriptError.TheVariants.{WitnessNotFound, Failure, OutOfMemory as NoMemory}
 use Rattle.batch_statement.specs.declared.error.BatchVerificationError.{BatchVerificationError}
 use Rattle.batch_statement.specs.declared.error.BatchVerificationError.TheVariants.{Transcript}
-use Rattle.verifier_shape.specs.Verdict.{IsRefusal}
+use Rattle.batch_statement.specs.Verdict.{IsRefusal}
 use Rattle.verifier_draws.specs.Draws.{lookup_grinding, ood_grinding, grinding_by}
 use Rattle.verifier_draws.specs.Refused.{refusal_of}
 use Rattle.verifier_draws.proofs.Refusals.{refused_pair, taken_pair, refused_ood, taken_ood}

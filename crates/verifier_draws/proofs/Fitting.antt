@@ -10,7 +10,8 @@ use Rattle.air_core.specs.Shape.{Declaration, width_of}
 use Rattle.batch_transcript.specs.Fits.{FitsShape}
 use Rattle.batch_statement.specs.Proof.{OpenedWithLookups, ProofData}
 use Rattle.batch_statement.specs.Statement.{Statement, AirTable}
-use Rattle.verifier_shape.specs.ShapeChecks.{HaveItemForEachTable, Bounds, IsRandomized, bus_bound_part, count_checks, has_some, is_there, is_some as is_some_number, no_table, opened_checks, opened_part, permutation_check, shape_checks, size_part, table_checks, main_checks, chunk_checks, preprocessed_checks, lookup_checks}
+use Rattle.verifier_shape.specs.ShapeChecks.{HaveItemForEachTable, Bounds, IsRandomized, bus_bound_part, count_checks, is_some as is_some_number, opened_checks, opened_part, permutation_check, shape_checks, size_part, table_checks, main_checks, chunk_checks, preprocessed_checks, lookup_checks}
+use Rattle.batch_statement.specs.Words.{has_some, is_there, no_table}
 use Rattle.verifier_draws.specs.Draws.{given_of, script_shape}
 use Rattle.verifier_draws.specs.Laws.Singles.{counts_more, counts_some}
 

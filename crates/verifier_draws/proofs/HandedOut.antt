@@ -9,7 +9,7 @@ use Rattle.batch_transcript.specs.Buses.{batch_layout}
 use Rattle.batch_statement.specs.Proof.{ProofData}
 use Rattle.batch_statement.specs.Statement.{Statement}
 use Rattle.batch_statement.specs.declared.error.BatchVerificationError.{BatchVerificationError}
-use Rattle.verifier_shape.specs.Verdict.{IsVerdict}
+use Rattle.batch_statement.specs.Verdict.{IsVerdict}
 use Rattle.verifier_draws.specs.declared.draws.Drawn.{Drawn}
 use Rattle.verifier_draws.specs.Draws.{drawn, drawn_pair, given_of, grinding_by, grinding_checks, script_shape, table_challenges}
 use Rattle.verifier_draws.proofs.Laid.{laid_out_by_table}

@@ -6,8 +6,8 @@ use Rattle.std.proofs.lemmas.Simd.{map-map}
 use Rattle.air_core.specs.Shape.{Declaration, width_of}
 use Rattle.air_core.specs.Tree.{Tree}
 use Rattle.p3_lookup.specs.Written.{read_all}
-use Rattle.batch_statement.specs.Statement.{AirTable, WrittenCommon, tables_of}
-use Rattle.verifier_shape.specs.ShapeChecks.{has_some, statement_with}
+use Rattle.batch_statement.specs.Statement.{AirTable, WrittenCommon, tables_of, statement_with}
+use Rattle.batch_statement.specs.Words.{has_some}
 use Rattle.verifier_draws.specs.Draws.{script_shape}
 
 count_by-map : {A B : Type 0} (p : B → Bool) (f : A → B) (xs : List A) → count_by p (map f xs) ≡ count_by (λ x. p (f x)) xs

@@ -15,7 +15,7 @@ use Rattle.batch_statement.specs.Proof.{ProofData}
 use Rattle.batch_statement.specs.Statement.{Statement}
 use Rattle.batch_statement.specs.declared.error.BatchVerificationError.{BatchVerificationError}
 use Rattle.batch_statement.specs.declared.error.BatchVerificationError.TheVariants.{Transcript}
-use Rattle.verifier_shape.specs.ShapeChecks.{has_some}
+use Rattle.batch_statement.specs.Words.{has_some}
 
 -- the shape of the script of a statement's proofs, with so many bits for each grinding, where the backend masks or doesn't
 abbrev pub script_shape : {F C : Type 0} → (zk : Bool) → (lookup_bits ood_bits : ℕ) → Statement F C → BatchShapeData

@@ -2,9 +2,9 @@
 ghost use Rattle.std.specs.Prelude.{◌≡◌, ◌^◌, ◌<◌, map, length, IfOk};
 ghost use Rattle.p3_field.specs.Checks.{NoneFails};
 ghost use Rattle.p3_field.specs.Poly.{tabulate};
-ghost use Rattle.batch_statement.specs.Statement.{tables_of};
-ghost use Rattle.verifier_shape.specs.ShapeChecks.{bounds_with, shape_checks, statement_with};
-ghost use Rattle.verifier_shape.specs.Verdict.{IsVerdict};
+ghost use Rattle.batch_statement.specs.Statement.{tables_of, statement_with};
+ghost use Rattle.verifier_shape.specs.ShapeChecks.{bounds_with, shape_checks};
+ghost use Rattle.batch_statement.specs.Verdict.{IsVerdict};
 ghost use Rattle.verifier_draws.specs.Draws.{drawn, grinding_checks, table_challenges};
 
 use crate::phases::play_phases;

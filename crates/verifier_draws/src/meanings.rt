@@ -8,7 +8,7 @@ ghost use Rattle.p3_lookup.specs.Lookup.{LookupData};
 ghost use Rattle.batch_transcript.specs.BatchScript.{Draws};
 ghost use Rattle.batch_statement.specs.Proof.{ProofData};
 ghost use Rattle.batch_statement.specs.Statement.{Statement};
-ghost use Rattle.verifier_shape.specs.ShapeChecks.{has_some};
+ghost use Rattle.batch_statement.specs.Words.{has_some};
 ghost use Rattle.verifier_draws.specs.Draws.{drawn_pair, grinding_checks};
 
 /// Each check of the grinding values has exactly one refusal where it fails, so there is one verdict on them.

@@ -5,7 +5,7 @@ ghost use Rattle.p3_lookup.specs.Written.{read_all};
 ghost use Rattle.batch_transcript.specs.BatchScript.{Given, draws, is_positive};
 ghost use Rattle.batch_transcript.specs.Buses.{batch_layout};
 ghost use Rattle.batch_transcript.specs.Running.{lists};
-ghost use Rattle.verifier_shape.specs.Verdict.{IsVerdict};
+ghost use Rattle.batch_statement.specs.Verdict.{IsVerdict};
 ghost use Rattle.verifier_draws.specs.Draws.{drawn_pair, grinding_by};
 ghost use Rattle.verifier_draws.specs.Refused.{refusal_of};
 

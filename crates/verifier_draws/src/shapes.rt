@@ -3,8 +3,8 @@ ghost use Rattle.std.specs.Prelude.{◌≡◌, [], map, length, count_by, is_som
 ghost use Rattle.std.specs.Option.{option_copied};
 ghost use Rattle.air_core.specs.Shape.{width_of};
 ghost use Rattle.p3_lookup.specs.Written.{read_all};
-ghost use Rattle.batch_statement.specs.Statement.{tables_of};
-ghost use Rattle.verifier_shape.specs.ShapeChecks.{has_some, statement_with};
+ghost use Rattle.batch_statement.specs.Statement.{tables_of, statement_with};
+ghost use Rattle.batch_statement.specs.Words.{has_some};
 ghost use Rattle.verifier_draws.specs.Draws.{script_shape};
 
 use air_core::{Air, BaseAir};

@@ -13,7 +13,8 @@ use Rattle.p3_uni_stark.specs.Opened.{PreprocessedData}
 use Rattle.verifier_identity.specs.Identity.{HasDeclaredLengths}
 use Rattle.verifier_identity.specs.PeriodicValues.{periodic_value}
 use Rattle.batch_statement.specs.Proof.{OpenedWithLookups}
-use Rattle.verifier_shape.specs.ShapeChecks.{chunk_checks, has_some, is_some, is_there, lookup_checks, main_checks, next_check, next_length, permutation_width, preprocessed_checks, preprocessed_next_of, table_checks}
+use Rattle.verifier_shape.specs.ShapeChecks.{chunk_checks, is_some, lookup_checks, main_checks, next_check, next_length, permutation_width, preprocessed_checks, preprocessed_next_of, table_checks}
+use Rattle.batch_statement.specs.Words.{has_some, is_there}
 use Rattle.verifier_identity.specs.TableIdentity.{next_row_or_zeros, opened_table, permutation_column_count, preprocessed_local_of}
 
 -- a main row

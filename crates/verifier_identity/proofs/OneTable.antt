@@ -17,8 +17,9 @@ use Rattle.batch_statement.specs.Proof.{OpenedWithLookups}
 use Rattle.batch_statement.specs.Statement.{AirTable}
 use Rattle.batch_statement.specs.declared.error.BatchVerificationError.{BatchVerificationError}
 use Rattle.verifier_shape.specs.Laws.Verdicts.{refused, refused_before, verdict, verdict_after}
-use Rattle.verifier_shape.specs.ShapeChecks.{is_there, table_checks}
-use Rattle.verifier_shape.specs.Verdict.{IsDecided, IsRefusal, IsVerdict}
+use Rattle.verifier_shape.specs.ShapeChecks.{table_checks}
+use Rattle.batch_statement.specs.Words.{is_there}
+use Rattle.batch_statement.specs.Verdict.{IsDecided, IsRefusal, IsVerdict}
 use Rattle.verifier_identity.specs.TableIdentity.{identity_of_table, opened_table, periods_check, verified}
 use Rattle.verifier_identity.proofs.Lengths.{declared_lengths}
 

@@ -24,7 +24,8 @@ use Rattle.batch_statement.specs.Proof.{OpenedWithLookups}
 use Rattle.batch_statement.specs.Statement.{Statement, AirTable}
 use Rattle.batch_statement.specs.declared.error.BatchVerificationError.{BatchVerificationError}
 use Rattle.batch_statement.specs.declared.error.BatchVerificationError.TheVariants.{Verification, Lookup}
-use Rattle.verifier_shape.specs.ShapeChecks.{no_opened, no_table, preprocessed_next_of}
+use Rattle.verifier_shape.specs.ShapeChecks.{preprocessed_next_of}
+use Rattle.batch_statement.specs.Words.{no_opened, no_table}
 
 -- the same check, refused as one of the tables
 abbrev pub verified : {R : Type 0} → Check (VerificationError R) → Check (BatchVerificationError R)

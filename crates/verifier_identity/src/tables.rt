@@ -8,7 +8,7 @@ ghost use Rattle.p3_uni_stark.specs.Recombine.{AllDisjoint};
 ghost use Rattle.batch_constraints.specs.BatchTrees.{AreLookupsOf};
 ghost use Rattle.batch_statement.specs.Statement.{tables_of};
 ghost use Rattle.verifier_shape.specs.ShapeChecks.{opened_checks_at};
-ghost use Rattle.verifier_shape.specs.Verdict.{IsVerdict};
+ghost use Rattle.batch_statement.specs.Verdict.{IsVerdict};
 ghost use Rattle.verifier_identity.specs.TableIdentity.{identity_by};
 
 use crate::table::check_table;

@@ -1,5 +1,5 @@
 //! The sum of the terminals.
-ghost use Rattle.verifier_shape.specs.Verdict.{IsDecided};
+ghost use Rattle.batch_statement.specs.Verdict.{IsDecided};
 ghost use Rattle.verifier_identity.specs.TableIdentity.{terminal_check};
 
 use batch_statement::{BatchVerificationError, TablesProof};

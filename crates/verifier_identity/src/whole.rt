@@ -6,10 +6,10 @@ ghost use Rattle.p3_field.specs.Checks.{NoneFails, in_turn};
 ghost use Rattle.p3_field.specs.Poly.{tabulate};
 ghost use Rattle.p3_lookup.specs.Written.{read_all};
 ghost use Rattle.p3_uni_stark.specs.Recombine.{AllDisjoint};
-ghost use Rattle.batch_statement.specs.Statement.{Statement, WellFormed, read_common, tables_of};
+ghost use Rattle.batch_statement.specs.Statement.{Statement, WellFormed, read_common, tables_of, statement_with};
 ghost use Rattle.batch_config.specs.Domains.{chunks_over};
-ghost use Rattle.verifier_shape.specs.ShapeChecks.{HaveItemForEachTable, bounds_with, log_chunks_at, opened_checks_at, shape_checks, statement_with};
-ghost use Rattle.verifier_shape.specs.Verdict.{IsVerdict};
+ghost use Rattle.verifier_shape.specs.ShapeChecks.{HaveItemForEachTable, bounds_with, log_chunks_at, opened_checks_at, shape_checks};
+ghost use Rattle.batch_statement.specs.Verdict.{IsVerdict};
 ghost use Rattle.verifier_identity.specs.TableIdentity.{identity_at};
 
 use crate::tables::check_tables;

@@ -6,7 +6,8 @@ use Rattle.air_core.specs.Tree.{Tree}
 use Rattle.p3_lookup.specs.Written.{Written, read_all}
 use Rattle.batch_constraints.specs.BatchTrees.{AreLookupsOf}
 use Rattle.batch_statement.specs.Statement.{AirTable, tables_of}
-use Rattle.verifier_shape.specs.ShapeChecks.{log_chunks_at, chunks_of_table, no_table}
+use Rattle.verifier_shape.specs.ShapeChecks.{log_chunks_at, chunks_of_table}
+use Rattle.batch_statement.specs.Words.{no_table}
 use Rattle.verifier_shape.specs.Laws.Items.{item_at, item_of_map}
 
 module _ {A F : Type 0} (declaration : A → Declaration F) (trees : A → List (Tree F)) (airs : List A) (lookups : List (List (Written F))) (i : ℕ) (a : A) (ls : List (Written F))

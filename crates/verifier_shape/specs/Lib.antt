@@ -1,3 +1,2 @@
-pub mod Verdict
 pub mod ShapeChecks
 pub mod Laws

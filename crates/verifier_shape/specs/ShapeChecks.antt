@@ -23,39 +23,11 @@ use Rattle.batch_statement.specs.Statement.{Statement, AirTable, PreprocessedTra
 use Rattle.batch_statement.specs.declared.error.BatchVerificationError.{BatchVerificationError}
 use Rattle.verifier_shape.specs.declared.whole.ShapeBounds.{ShapeBounds}
 use Rattle.batch_statement.specs.declared.error.BatchVerificationError.TheVariants.{Verification, Lookup}
+use Rattle.batch_statement.specs.Words.{is_there, has_some, no_table, no_opened}
 
 -- a check that is refused with an error of the proof's shape
 abbrev pub shape_check : {R : Type 0} → InvalidProofShapeError → Type 0 → Check (BatchVerificationError R)
 shape_check e P = check (Verification (InvalidProofShape e)) P
-
--- a value is there
-abbrev pub is_there : {A : Type 0} → Option A → Bool
-is_there None = false
-is_there (Some x) = true
-
--- a list has an item
-abbrev pub has_some : {A : Type 0} → List A → Bool
-has_some [] = false
-has_some (x ∷ xs) = true
-
--- the statement on these tables, with these public values and common data that a program holds so
-abbrev pub statement_with : {F C : Type 0} → List (AirTable F) → List (List F) → WrittenCommon F C → Statement F C
-statement_with tables publics common = record { tables = tables; publics = publics; common = read_common common }
-
--- a table past the end of a list, which no check reads
-abbrev pub no_table : {F : Type 0} → AirTable F
-no_table = record {
-  declaration = record { width = 0; preprocessed = None; main_next = []; preprocessed_next = []; public_values = 0; periodic = []; constraints = None; degree_hint = None; boolean_trace = false };
-  trees = [];
-}
-
--- what is opened of a table past the end
-abbrev pub no_opened : {E : Type 0} → OpenedWithLookups E
-no_opened = record {
-  base = record { trace_local = []; trace_next = None; preprocessed = None; quotient_chunks = []; random = None };
-  permutation_local = [];
-  permutation_next = [];
-}
 
 -- the next row: as many values as columns where next columns are declared, else no row
 abbrev pub next_check : {E R : Type 0} → ℕ → (width : ℕ) → List ℕ → Option (List E) → Check (BatchVerificationError R)

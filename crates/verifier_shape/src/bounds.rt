@@ -5,7 +5,7 @@ ghost use Rattle.p3_field.specs.Checks.{in_turn};
 ghost use Rattle.p3_lookup.specs.Bus.{bus_count, batch_buses};
 ghost use Rattle.p3_lookup.specs.Written.{read_all};
 ghost use Rattle.verifier_shape.specs.ShapeChecks.{bound_at, heights_of};
-ghost use Rattle.verifier_shape.specs.Verdict.{IsVerdict};
+ghost use Rattle.batch_statement.specs.Verdict.{IsVerdict};
 
 use crate::powers::power_of_two;
 use batch_statement::BatchVerificationError;

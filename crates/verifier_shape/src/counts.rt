@@ -2,9 +2,10 @@
 ghost use Rattle.std.specs.Prelude.{◌≡◌, ◌↔◌, IsTrue, All, map};
 ghost use Rattle.std.specs.List.{list_any};
 ghost use Rattle.p3_lookup.specs.Written.{read_all};
-ghost use Rattle.batch_statement.specs.Statement.{Statement, read_common, tables_of};
-ghost use Rattle.verifier_shape.specs.ShapeChecks.{HaveItemForEachTable, HasEntries, IsRandomized, count_checks, has_some, is_there, permutation_check, statement_with};
-ghost use Rattle.verifier_shape.specs.Verdict.{IsDecided};
+ghost use Rattle.batch_statement.specs.Statement.{Statement, read_common, tables_of, statement_with};
+ghost use Rattle.verifier_shape.specs.ShapeChecks.{HaveItemForEachTable, HasEntries, IsRandomized, count_checks, permutation_check};
+ghost use Rattle.batch_statement.specs.Words.{has_some, is_there};
+ghost use Rattle.batch_statement.specs.Verdict.{IsDecided};
 
 use air_core::{Air, BaseAir};
 use batch_statement::{

@@ -1,8 +1,9 @@
 //! The checks of what is opened of a table.
 ghost use Rattle.std.specs.Prelude.{◌≡◌, ◌↔◌, ◌^◌, ◌≤◌, [], ◌∷◌, IsTrue, MatchOption, All, length, map, option_map};
 ghost use Rattle.air_core.specs.Shape.{width_of};
-ghost use Rattle.verifier_shape.specs.ShapeChecks.{IsOpenedPreprocessed, chunk_checks, is_there, lookup_checks, main_checks, next_check, permutation_width, preprocessed_checks, preprocessed_next_of, table_checks};
-ghost use Rattle.verifier_shape.specs.Verdict.{IsDecided};
+ghost use Rattle.verifier_shape.specs.ShapeChecks.{IsOpenedPreprocessed, chunk_checks, lookup_checks, main_checks, next_check, permutation_width, preprocessed_checks, preprocessed_next_of, table_checks};
+ghost use Rattle.batch_statement.specs.Words.{is_there};
+ghost use Rattle.batch_statement.specs.Verdict.{IsDecided};
 ghost use Rattle.batch_statement.specs.declared.error.BatchVerificationError.TheVariants.{Lookup, Verification};
 ghost use Rattle.p3_uni_stark.specs.declared.error.VerificationError.TheVariants.{InvalidProofShape};
 

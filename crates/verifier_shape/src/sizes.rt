@@ -7,7 +7,7 @@ ghost use Rattle.p3_lookup.specs.Written.{read_all};
 ghost use Rattle.batch_constraints.specs.BatchTrees.{AreLookupsOf};
 ghost use Rattle.batch_statement.specs.Statement.{AirTable, tables_of};
 ghost use Rattle.verifier_shape.specs.ShapeChecks.{log_chunks_at, chunks_of_table, size_checks, sizes_at};
-ghost use Rattle.verifier_shape.specs.Verdict.{IsVerdict};
+ghost use Rattle.batch_statement.specs.Verdict.{IsVerdict};
 
 use crate::powers::power_of_two;
 use air_core::{Air, AirLayout, BaseAir};

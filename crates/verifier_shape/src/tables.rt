@@ -5,7 +5,7 @@ ghost use Rattle.p3_field.specs.Checks.{in_turn};
 ghost use Rattle.p3_lookup.specs.Written.{read_all};
 ghost use Rattle.batch_statement.specs.Statement.{AirTable, tables_of};
 ghost use Rattle.verifier_shape.specs.ShapeChecks.{opened_checks_at, opened_by};
-ghost use Rattle.verifier_shape.specs.Verdict.{IsDecided};
+ghost use Rattle.batch_statement.specs.Verdict.{IsDecided};
 
 use crate::opened::check_opened;
 use crate::powers::power_of_two;

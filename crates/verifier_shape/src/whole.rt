@@ -6,9 +6,9 @@ ghost use Rattle.p3_field.specs.Poly.{tabulate};
 ghost use Rattle.p3_lookup.specs.Bus.{bus_count, batch_buses};
 ghost use Rattle.p3_lookup.specs.Written.{read_all};
 ghost use Rattle.batch_constraints.specs.BatchTrees.{AreLookupsOf};
-ghost use Rattle.batch_statement.specs.Statement.{Statement, WellFormed, read_common, tables_of};
-ghost use Rattle.verifier_shape.specs.ShapeChecks.{HaveItemForEachTable, bus_bound_part, bounds_with, log_chunks_at, count_checks, opened_by, shape_checks, size_part, statement_with};
-ghost use Rattle.verifier_shape.specs.Verdict.{IsDecided, IsVerdict};
+ghost use Rattle.batch_statement.specs.Statement.{Statement, WellFormed, read_common, tables_of, statement_with};
+ghost use Rattle.verifier_shape.specs.ShapeChecks.{HaveItemForEachTable, bus_bound_part, bounds_with, log_chunks_at, count_checks, opened_by, shape_checks, size_part};
+ghost use Rattle.batch_statement.specs.Verdict.{IsDecided, IsVerdict};
 
 use crate::bounds::check_bounds;
 use crate::counts::{check_counts, check_permutation};

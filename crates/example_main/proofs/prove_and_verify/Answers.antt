@@ -3,7 +3,7 @@ use Rattle.p3_matrix.specs.Laws.Powers.{power_le_cancel}
 use Rattle.plain_pcs.specs.declared.error.PlainError.{PlainError}
 use Rattle.batch_statement.specs.declared.error.BatchVerificationError.{BatchVerificationError}
 use Rattle.batch_statement.specs.declared.error.BatchVerificationError.TheVariants.{Verification, Lookup, Transcript}
-use Rattle.verifier_shape.specs.Verdict.{IsRefusal}
+use Rattle.batch_statement.specs.Verdict.{IsRefusal}
 use Rattle.example_main.specs.Findings.{bytes_checks}
 use Rattle.example_main.proofs.prove_and_verify.Goals as goal
 

@@ -7,13 +7,14 @@ use Rattle.p3_field.specs.Laws.Checks.{none_append, none_of_each}
 use Rattle.p3_field.specs.Laws.Tabulate.{get_or-tabulate}
 use Rattle.p3_field.specs.Poly.{tabulate}
 use Rattle.p3_matrix.specs.Matrix.{Rows}
-use Rattle.verifier_claims.specs.Claims.{bits_at, matrix_tables}
+use Rattle.verifier_claims.specs.Claims.{matrix_tables}
+use Rattle.batch_statement.specs.Words.{bits_at, no_opened}
 use Rattle.verifier_claims.specs.Laws.Listed.{listed_below}
 use Rattle.verifier_identity.specs.TableIdentity.{identity_of_table, terminal_check}
 use Rattle.verifier_batch.specs.OpeningChecks.{shape_bounds_of, claim_checks, domain_checks, log_chunks_of_table, metadata_check, opening_checks, opens_check}
 use Rattle.batch_config.specs.Domains.{chunk_domains}
 use Rattle.batch_config.specs.Setting.{Backend, Setting}
-use Rattle.verifier_shape.specs.ShapeChecks.{no_opened, shape_checks}
+use Rattle.verifier_shape.specs.ShapeChecks.{shape_checks}
 use Rattle.batch_statement.specs.Proof.{OpenedWithLookups, ProofData}
 use Rattle.batch_statement.specs.Statement.{Statement, AirTable}
 use Rattle.batch_statement.specs.declared.error.BatchVerificationError.{BatchVerificationError}

@@ -10,7 +10,7 @@ use Rattle.p3_matrix.specs.Matrix.{Rows}
 use Rattle.air_core.specs.Shape.{Declaration, HasColumns, ReadsDeclared, declared_shape}
 use Rattle.air_core.specs.Tree.{Tree}
 use Rattle.batch_config.specs.Setting.{Backend, Setting}
-use Rattle.verifier_shape.specs.ShapeChecks.{no_table}
+use Rattle.batch_statement.specs.Words.{no_table}
 use Rattle.batch_statement.specs.Statement.{Common, Statement, AirTable, tables_of}
 use Rattle.law_valid.specs.Traced.{log_parts, log_rows, traced_at}
 use Rattle.law_valid.specs.Valid.{IsTracedBatch, Valid}

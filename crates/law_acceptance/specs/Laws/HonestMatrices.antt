@@ -14,11 +14,11 @@ use Rattle.p3_matrix.specs.Laws.Cells.{length-column}
 use Rattle.air_core.specs.Shape.{Declaration, HasColumns, width_of}
 use Rattle.commit_core.specs.Commitments.{AreCommitted, Committed, IsCommitted}
 use Rattle.batch_config.specs.Setting.{Setting, masks}
-use Rattle.verifier_shape.specs.ShapeChecks.{no_table}
+use Rattle.batch_statement.specs.Words.{no_table, declared_at}
 use Rattle.batch_statement.specs.Statement.{Statement, AirTable, HasEntryOf, ListsEntries, entry_of, with_entry}
 use Rattle.batch_statement.specs.declared.preprocessed.PreprocessedInstanceMeta.{PreprocessedInstanceMeta}
 use Rattle.batch_setup.specs.Preprocessed.{natural, on_domain}
-use Rattle.verifier_claims.specs.Claims.{declared_at, matrix_tables}
+use Rattle.verifier_claims.specs.Claims.{matrix_tables}
 use Rattle.law_committed.specs.Committed.{CommittedTable, trace_domain}
 use Rattle.law_committed.specs.Fields.{FieldsLaws}
 use Rattle.law_committed.specs.Quotient.{chunk_domain, honest_chunk}

@@ -11,7 +11,8 @@ use Rattle.p3_matrix.specs.Matrix.{Rows}
 use Rattle.air_core.specs.Shape.{HasColumns, width_of}
 use Rattle.batch_config.specs.Domains.{next_by}
 use Rattle.batch_config.specs.Setting.{Setting, masks}
-use Rattle.verifier_shape.specs.ShapeChecks.{chunk_checks, has_some, is_some, is_there, lookup_checks, main_checks, next_check, next_length, permutation_width, preprocessed_checks, table_checks}
+use Rattle.verifier_shape.specs.ShapeChecks.{chunk_checks, is_some, lookup_checks, main_checks, next_check, next_length, permutation_width, preprocessed_checks, table_checks}
+use Rattle.batch_statement.specs.Words.{has_some, is_there}
 use Rattle.batch_statement.specs.Proof.{OpenedWithLookups}
 use Rattle.law_committed.specs.Committed.{CommittedTable, columns_at, trace_domain}
 use Rattle.law_committed.specs.Fields.{FieldsLaws}

@@ -15,12 +15,13 @@ use Rattle.p3_lookup.specs.Lookup.{LookupData}
 use Rattle.p3_field.specs.Domain.{point}
 use Rattle.p3_field.specs.Laws.SubgroupSelectors.{subgroup}
 use Rattle.air_core.specs.Shape.{Declaration}
-use Rattle.verifier_claims.specs.Claims.{at_point, bits_at, chunk_claim, chunk_claims, chunk_domains_at, claims_by, commitment_in, declared_at, instance_at, preprocessed_local_row, main_claim, preprocessed_matrix_claim, matrix_tables, preprocessed_next_row, on_subgroup, permutation_claims, preprocessed_claim, claims_of_round, values_where_there, where_declared, where_opened}
+use Rattle.verifier_claims.specs.Claims.{at_point, chunk_claim, chunk_claims, chunk_domains_at, claims_by, commitment_in, preprocessed_local_row, main_claim, preprocessed_matrix_claim, matrix_tables, preprocessed_next_row, on_subgroup, permutation_claims, preprocessed_claim, claims_of_round, values_where_there, where_declared, where_opened}
+use Rattle.batch_statement.specs.Words.{bits_at, declared_at, instance_at, no_opened, no_table}
 use Rattle.verifier_claims.specs.Laws.Listed.{listed_below}
 use Rattle.batch_config.specs.Domains.{chunk_domains, next_by, offered}
 use Rattle.batch_statement.specs.Statement.{Statement, AirTable}
 use Rattle.batch_config.specs.Setting.{Setting, masks}
-use Rattle.verifier_shape.specs.ShapeChecks.{log_chunks_at, no_opened, no_table, permutation_width}
+use Rattle.verifier_shape.specs.ShapeChecks.{log_chunks_at, permutation_width}
 use Rattle.batch_statement.specs.Proof.{OpenedWithLookups}
 use Rattle.law_committed.specs.Committed.{CommittedTable, columns_at, trace_domain}
 use Rattle.law_committed.specs.Quotient.{honest_chunk}

@@ -12,7 +12,8 @@ use Rattle.p3_lookup.specs.Bus.{batch_buses, bus_count}
 use Rattle.batch_config.specs.Setting.{Setting, masks}
 use Rattle.batch_statement.specs.Proof.{OpenedWithLookups, ProofData}
 use Rattle.batch_statement.specs.Statement.{Statement}
-use Rattle.verifier_shape.specs.ShapeChecks.{bound_at, bus_bound_part, count_checks, has_some, heights_of, is_there, no_opened, opened_checks, opened_part, permutation_check, shape_checks, size_part, sizes_at, table_checks}
+use Rattle.verifier_shape.specs.ShapeChecks.{bound_at, bus_bound_part, count_checks, heights_of, opened_checks, opened_part, permutation_check, shape_checks, size_part, sizes_at, table_checks}
+use Rattle.batch_statement.specs.Words.{has_some, is_there, no_opened}
 use Rattle.verifier_batch.specs.OpeningChecks.{shape_bounds_of}
 use Rattle.law_committed.specs.Fields.{FieldsLaws}
 use Rattle.law_committed.specs.Laws.Degrees.{all_tabulate}

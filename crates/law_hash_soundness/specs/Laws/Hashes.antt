@@ -16,8 +16,7 @@ use Rattle.law_committed.specs.Fields.{FieldsLaws}
 use Rattle.batch_config.specs.Setting.{Setting, Backend}
 use Rattle.batch_statement.specs.Proof.{ProofData}
 use Rattle.batch_statement.specs.Statement.{Statement, AirTable, WellFormed, WrittenCommon, read_common}
-use Rattle.verifier_shape.specs.ShapeChecks.{no_table}
-use Rattle.verifier_claims.specs.Claims.{bits_at}
+use Rattle.batch_statement.specs.Words.{no_table, bits_at}
 use Rattle.verifier_batch.specs.BatchChecks.{Accepted}
 use Rattle.law_soundness.specs.BaseRows.{IsMainHere, ReadsMainHere, main_row}
 use Rattle.law_soundness.specs.CommittedBatch.{committed_table_at}

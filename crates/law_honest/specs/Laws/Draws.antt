@@ -7,7 +7,7 @@ use Rattle.batch_transcript.specs.BatchScript.{Draws, ground, is_positive}
 use Rattle.batch_transcript.specs.Buses.{batch_layout}
 use Rattle.batch_config.specs.Setting.{Setting}
 use Rattle.batch_statement.specs.Statement.{Statement}
-use Rattle.verifier_shape.specs.ShapeChecks.{has_some}
+use Rattle.batch_statement.specs.Words.{has_some}
 use Rattle.verifier_draws.specs.Draws.{drawn, drawn_pair, given_of, table_challenges}
 use Rattle.verifier_draws.specs.Laws.Challenges.{challenge_count}
 use Rattle.law_valid.specs.Traced.{traced_at}

@@ -14,7 +14,7 @@ use Rattle.batch_transcript.specs.Grinding.{IsGround, IsPairGround, LacksPairGro
 use Rattle.batch_config.specs.Setting.{Setting}
 use Rattle.batch_statement.specs.Proof.{ProofData}
 use Rattle.batch_statement.specs.Statement.{Statement}
-use Rattle.verifier_shape.specs.ShapeChecks.{has_some}
+use Rattle.batch_statement.specs.Words.{has_some}
 use Rattle.verifier_draws.specs.Draws.{grinding_checks, lookup_grinding, ood_grinding}
 use Rattle.law_honest.specs.HonestProof.{AreCanonical, HaveFractions, IsBuilt, IsDenominatorZero, IsLookupGround, IsOodGround, LacksLookupGround, LacksOodGround, Prover, honest_proof, shape, state_at_ood, state_at_pair}
 use Rattle.law_honest.specs.Laws.Draws.{drawn_along_it, same_lookup, same_ood}

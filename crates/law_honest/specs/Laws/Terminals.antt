@@ -22,7 +22,7 @@ use Rattle.p3_lookup.specs.Laws.Batch.{balanced_batch}
 use Rattle.batch_transcript.specs.Buses.{batch_layout, instance_challenges}
 use Rattle.batch_config.specs.Setting.{Setting}
 use Rattle.batch_statement.specs.Statement.{Statement}
-use Rattle.verifier_shape.specs.ShapeChecks.{has_some}
+use Rattle.batch_statement.specs.Words.{has_some}
 use Rattle.law_committed.specs.Fields.{FieldsLaws}
 use Rattle.law_committed.specs.Laws.Values.{maps}
 use Rattle.law_valid.specs.Traced.{TracedTable, all_traced, log_rows, sender, traced_at}

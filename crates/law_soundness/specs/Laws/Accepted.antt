@@ -19,8 +19,7 @@ use Rattle.batch_config.specs.Domains.{chunk_domains}
 use Rattle.batch_config.specs.Setting.{Setting, Backend, masks}
 use Rattle.batch_statement.specs.Proof.{ProofData}
 use Rattle.batch_statement.specs.Statement.{Statement, AirTable, WellFormed}
-use Rattle.verifier_shape.specs.ShapeChecks.{no_opened, no_table}
-use Rattle.verifier_claims.specs.Claims.{bits_at}
+use Rattle.batch_statement.specs.Words.{no_opened, no_table, bits_at}
 use Rattle.verifier_batch.specs.OpeningChecks.{log_chunks_of_table}
 use Rattle.verifier_identity.specs.TableIdentity.{identity_of_table}
 use Rattle.verifier_batch.specs.BatchChecks.{Accepted, drawn_of, table_challenges_of}

@@ -15,9 +15,8 @@ use Rattle.law_committed.specs.Identity.{chunk_count_of}
 use Rattle.law_committed.specs.Unlucky.{AreDistinct, IsUnluckyAlpha, IsUnluckyAlphaAt, IsUnluckyZeta}
 use Rattle.batch_config.specs.Setting.{Setting, Backend}
 use Rattle.batch_statement.specs.Proof.{ProofData}
-use Rattle.batch_statement.specs.Statement.{Statement, AirTable, WellFormed, WrittenCommon, read_common, tables_of}
-use Rattle.verifier_shape.specs.ShapeChecks.{statement_with}
-use Rattle.verifier_claims.specs.Claims.{bits_at}
+use Rattle.batch_statement.specs.Statement.{Statement, AirTable, WellFormed, WrittenCommon, read_common, tables_of, statement_with}
+use Rattle.batch_statement.specs.Words.{bits_at}
 use Rattle.verifier_batch.specs.OpeningChecks.{log_chunks_of_table}
 use Rattle.verifier_batch.specs.BatchChecks.{Accepted, drawn_of}
 use Rattle.law_soundness.specs.CommittedBatch.{ReadDeclared, chunk_count, committed_batch, committed_quotient, committed_table_at}

@@ -23,8 +23,9 @@ use Rattle.batch_statement.specs.Proof.{OpenedWithLookups, ProofData}
 use Rattle.batch_statement.specs.Statement.{Statement, AirTable}
 use Rattle.batch_statement.specs.declared.error.BatchVerificationError.{BatchVerificationError}
 use Rattle.verifier_shape.specs.Laws.Parts.{counted}
-use Rattle.verifier_shape.specs.ShapeChecks.{HaveItemForEachTable, Bounds, bus_bound_part, chunk_checks, count_checks, has_some, is_some, is_there, lookup_checks, main_checks, no_opened, no_table, opened_checks, opened_part, permutation_check, permutation_width, preprocessed_checks, shape_checks, size_part, table_checks}
-use Rattle.verifier_claims.specs.Claims.{bits_at, claims, preprocessed_local_row, matrix_tables}
+use Rattle.verifier_shape.specs.ShapeChecks.{HaveItemForEachTable, Bounds, bus_bound_part, chunk_checks, count_checks, is_some, lookup_checks, main_checks, opened_checks, opened_part, permutation_check, permutation_width, preprocessed_checks, shape_checks, size_part, table_checks}
+use Rattle.batch_statement.specs.Words.{has_some, is_there, no_opened, no_table, bits_at}
+use Rattle.verifier_claims.specs.Claims.{claims, preprocessed_local_row, matrix_tables}
 use Rattle.verifier_batch.specs.OpeningChecks.{shape_bounds_of, claim_checks, claimed, domain_checks, log_chunks_of_table, metadata_check, opening_checks, opens_check}
 use Rattle.verifier_identity.specs.TableIdentity.{identity_of_table, opened_table, periods_check, terminal_check, verified}
 use Rattle.verifier_batch.specs.BatchChecks.{Accepted, all_lookup_challenges, checks, domains_of, draw_part, drawn_of, identities_at, identity_part, table_challenges_of}

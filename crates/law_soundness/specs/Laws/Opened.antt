@@ -23,8 +23,9 @@ use Rattle.batch_config.specs.Setting.{Setting, Backend, masks}
 use Rattle.batch_statement.specs.Proof.{OpenedWithLookups, ProofData}
 use Rattle.batch_statement.specs.Statement.{HasEntryOf, Statement, WellFormed, entry_of, instance_count, within_entries}
 use Rattle.batch_statement.specs.declared.preprocessed.PreprocessedInstanceMeta.{PreprocessedInstanceMeta}
-use Rattle.verifier_shape.specs.ShapeChecks.{HaveItemForEachTable, has_some, is_there, no_table, permutation_width, table_checks}
-use Rattle.verifier_claims.specs.Claims.{all_chunk_domains, bits_at, chunk_domains_at, claims, declared_at, instance_at, preprocessed_local_row, matrix_tables, preprocessed_next_row, permutation_claims}
+use Rattle.verifier_shape.specs.ShapeChecks.{HaveItemForEachTable, permutation_width, table_checks}
+use Rattle.batch_statement.specs.Words.{has_some, is_there, no_table, bits_at, declared_at, instance_at}
+use Rattle.verifier_claims.specs.Claims.{all_chunk_domains, chunk_domains_at, claims, preprocessed_local_row, matrix_tables, preprocessed_next_row, permutation_claims}
 use Rattle.verifier_batch.specs.OpeningChecks.{shape_bounds_of, claimed, log_chunks_of_table}
 use Rattle.verifier_batch.specs.BatchChecks.{Accepted, drawn_of}
 use Rattle.law_soundness.specs.Commitment.{polynomials_at}

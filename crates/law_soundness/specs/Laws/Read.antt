@@ -31,7 +31,8 @@ use Rattle.verifier_folder.specs.FolderState.{verifier_cells_of}
 use Rattle.verifier_identity.specs.Identity.{Identity, folded_at, opened_at}
 use Rattle.verifier_identity.specs.PeriodicValues.{periodic_value}
 use Rattle.batch_statement.specs.Proof.{OpenedWithLookups}
-use Rattle.verifier_shape.specs.ShapeChecks.{has_some, permutation_width, preprocessed_next_of}
+use Rattle.verifier_shape.specs.ShapeChecks.{permutation_width, preprocessed_next_of}
+use Rattle.batch_statement.specs.Words.{has_some}
 use Rattle.verifier_claims.specs.Claims.{preprocessed_local_row, values_where_there}
 use Rattle.verifier_identity.specs.TableIdentity.{next_row_or_zeros, opened_table, permutation_column_count, preprocessed_local_of}
 use Rattle.law_soundness.specs.OpenedBatch.{AreCommittedValues}

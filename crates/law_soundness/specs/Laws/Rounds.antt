@@ -19,8 +19,9 @@ use Rattle.batch_config.specs.Domains.{next_by}
 use Rattle.batch_config.specs.Setting.{Setting, masks}
 use Rattle.batch_statement.specs.Proof.{OpenedWithLookups}
 use Rattle.batch_statement.specs.declared.commitments.BatchCommitments.{BatchCommitments}
-use Rattle.verifier_shape.specs.ShapeChecks.{has_some, permutation_width}
-use Rattle.verifier_claims.specs.Claims.{Claimed, all_chunk_domains, at_point, bits_at, chunk_claim, chunk_claims, claims, claims_by, commitment_in, declared_at, instance_at, preprocessed_local_row, main_claim, preprocessed_matrix_claim, matrix_tables, preprocessed_next_row, on_subgroup, permutation_claims, preprocessed_claim, random_claim, claims_of_round, values_where_there, where_declared, where_opened}
+use Rattle.verifier_shape.specs.ShapeChecks.{permutation_width}
+use Rattle.batch_statement.specs.Words.{has_some, bits_at, declared_at, instance_at}
+use Rattle.verifier_claims.specs.Claims.{Claimed, all_chunk_domains, at_point, chunk_claim, chunk_claims, claims, claims_by, commitment_in, preprocessed_local_row, main_claim, preprocessed_matrix_claim, matrix_tables, preprocessed_next_row, on_subgroup, permutation_claims, preprocessed_claim, random_claim, claims_of_round, values_where_there, where_declared, where_opened}
 use Rattle.law_soundness.specs.Commitment.{matrix_at, polynomials_at}
 use Rattle.law_soundness.specs.CommittedBatch.{matrices_before, permutation_count}
 use Rattle.law_soundness.specs.PlainSetting.{plain_scheme}

@@ -13,9 +13,8 @@ use Rattle.law_committed.specs.Committed.{Holds}
 use Rattle.law_committed.specs.Fields.{FieldsLaws}
 use Rattle.batch_config.specs.Setting.{Setting}
 use Rattle.batch_statement.specs.Proof.{ProofData}
-use Rattle.batch_statement.specs.Statement.{Statement, AirTable, WrittenCommon, tables_of}
-use Rattle.verifier_shape.specs.ShapeChecks.{no_table, statement_with}
-use Rattle.verifier_claims.specs.Claims.{bits_at}
+use Rattle.batch_statement.specs.Statement.{Statement, AirTable, WrittenCommon, tables_of, statement_with}
+use Rattle.batch_statement.specs.Words.{no_table, bits_at}
 use Rattle.law_soundness.specs.CommittedBatch.{committed_at, committed_batch, committed_table_at, lookups_at, stated_table}
 use Rattle.law_soundness.specs.Laws.Swap.{holds_before, swap_ends}
 use Rattle.law_soundness.specs.Swapped.{EndsSwapped, swap_publics}

@@ -11,7 +11,8 @@ use Rattle.verifier_claims.specs.ClaimChecks.{HasDegreeBits}
 use Rattle.batch_config.specs.Setting.{Setting}
 use Rattle.batch_setup.specs.Packed.{Source, no_source, packed_at}
 use Rattle.batch_setup.specs.Preprocessed.{IsPrepared, committed_trace_at, committed_below, entry_at, on_domain}
-use Rattle.verifier_shape.specs.ShapeChecks.{HasEntries, no_table}
+use Rattle.verifier_shape.specs.ShapeChecks.{HasEntries}
+use Rattle.batch_statement.specs.Words.{no_table}
 use Rattle.batch_statement.specs.Statement.{Common, Statement, AirTable, WellFormed, entry_of, tables_of}
 use Rattle.batch_statement.specs.declared.preprocessed.PreprocessedInstanceMeta.{PreprocessedInstanceMeta}
 use Rattle.law_committed.specs.Laws.Values.{maps}

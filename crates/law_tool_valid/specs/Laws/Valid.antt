@@ -16,7 +16,8 @@ use Rattle.p3_lookup.specs.Bus.{bus_in}
 use Rattle.p3_lookup.specs.Messages.{batch_messages, net}
 use Rattle.verifier_claims.specs.ClaimChecks.{HasDegreeBits}
 use Rattle.batch_config.specs.Setting.{Setting, masks}
-use Rattle.verifier_shape.specs.ShapeChecks.{HasEntries, heights_of, no_table}
+use Rattle.verifier_shape.specs.ShapeChecks.{HasEntries, heights_of}
+use Rattle.batch_statement.specs.Words.{no_table}
 use Rattle.batch_statement.specs.Statement.{Common, Statement, WellFormed, entry_of}
 use Rattle.law_committed.specs.Laws.Values.{maps}
 use Rattle.law_valid.specs.Traced.{TracedTable, all_traced, log_rows, no_rows, preprocessed_matrices, sender, traced_at}

@@ -17,7 +17,8 @@ use Rattle.p3_lookup.specs.Lookup.{IsLookup, LookupData, ReadsSent}
 use Rattle.p3_lookup.specs.Trees.{lookup_trees}
 use Rattle.batch_constraints.specs.Sizing.{periods_of}
 use Rattle.batch_config.specs.Setting.{Setting}
-use Rattle.verifier_shape.specs.ShapeChecks.{HasEntries, no_table}
+use Rattle.verifier_shape.specs.ShapeChecks.{HasEntries}
+use Rattle.batch_statement.specs.Words.{no_table}
 use Rattle.batch_statement.specs.Statement.{PreprocessedTracesData, Statement, AirTable, instance_count, within_entries}
 use Rattle.law_committed.specs.Committed.{CommittedTable, Holds}
 use Rattle.law_committed.specs.Fields.{FieldsLaws}

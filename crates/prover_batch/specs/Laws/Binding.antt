@@ -6,7 +6,7 @@ use Rattle.p3_field.specs.Domain.{CosetData}
 use Rattle.p3_matrix.specs.Matrix.{Rows}
 use Rattle.p3_challenger.specs.Script.{Played}
 use Rattle.batch_config.specs.Setting.{Setting}
-use Rattle.verifier_shape.specs.ShapeChecks.{no_table}
+use Rattle.batch_statement.specs.Words.{no_table}
 use Rattle.batch_statement.specs.Statement.{Statement, AirTable}
 use Rattle.batch_transcript.specs.BatchScript.{bindings_script, main_script, preprocessed_script, seeded}
 use Rattle.batch_transcript.specs.Running.{Plays, Running}

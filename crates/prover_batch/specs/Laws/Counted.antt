@@ -6,7 +6,7 @@ use Rattle.p3_field.specs.Poly.{tabulate}
 use Rattle.p3_matrix.specs.Matrix.{Rows}
 use Rattle.verifier_draws.specs.Laws.Singles.{counts_more, counts_some}
 use Rattle.batch_config.specs.Setting.{Setting}
-use Rattle.verifier_shape.specs.ShapeChecks.{has_some, is_there}
+use Rattle.batch_statement.specs.Words.{has_some, is_there}
 use Rattle.batch_statement.specs.Statement.{Statement}
 use Rattle.batch_transcript.specs.BatchScript.{is_positive}
 use Rattle.law_valid.specs.Traced.{traced_at}

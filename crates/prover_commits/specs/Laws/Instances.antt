@@ -14,7 +14,8 @@ use Rattle.p3_lookup.specs.Lookup.{LookupData}
 use Rattle.p3_lookup.specs.Written.{read_all}
 use Rattle.batch_config.specs.Setting.{Setting, masks}
 use Rattle.batch_setup.specs.Setup.{ArePowers, Instance, airs_of, log_of}
-use Rattle.verifier_shape.specs.ShapeChecks.{heights_of, no_table}
+use Rattle.verifier_shape.specs.ShapeChecks.{heights_of}
+use Rattle.batch_statement.specs.Words.{no_table}
 use Rattle.batch_statement.specs.Statement.{AirTable, WrittenCommon}
 use Rattle.law_valid.specs.Traced.{TracedTable, log_rows, no_rows}
 use Rattle.law_honest.specs.HonestProof.{Prover}

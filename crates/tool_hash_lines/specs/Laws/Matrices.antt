@@ -16,8 +16,8 @@ use Rattle.law_committed.specs.Fields.{FieldsLaws, baby_bear_field, quartic_exte
 use Rattle.batch_config.specs.Setting.{Setting, Backend}
 use Rattle.batch_statement.specs.Proof.{ProofData}
 use Rattle.batch_statement.specs.Statement.{Statement, AirTable, WellFormed}
-use Rattle.verifier_shape.specs.ShapeChecks.{no_table}
-use Rattle.verifier_claims.specs.Claims.{bits_at, claims}
+use Rattle.batch_statement.specs.Words.{no_table, bits_at}
+use Rattle.verifier_claims.specs.Claims.{claims}
 use Rattle.verifier_batch.specs.OpeningChecks.{claimed}
 use Rattle.verifier_batch.specs.BatchChecks.{Accepted, drawn_of}
 use Rattle.law_soundness.specs.Commitment.{matrix_at, no_matrix}

@@ -13,7 +13,7 @@ use Rattle.air_core.specs.Shape.{width_of}
 use Rattle.plain_pcs.specs.Observing.{commitment_elements}
 use Rattle.batch_config.specs.Setting.{masks}
 use Rattle.batch_setup.specs.Packed.{Source, no_source, packed_at, packed_lookups}
-use Rattle.verifier_shape.specs.ShapeChecks.{no_table}
+use Rattle.batch_statement.specs.Words.{no_table}
 use Rattle.batch_statement.specs.Statement.{AirTable}
 use Rattle.law_valid.specs.Traced.{TracedTable, declared, log_parts, log_rows, no_rows}
 use Rattle.law_valid.specs.Valid.{HasQuotientDomain, IsTraced}

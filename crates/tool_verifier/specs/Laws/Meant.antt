@@ -22,7 +22,7 @@ use Rattle.law_committed.specs.Batch.{DividedTable}
 use Rattle.law_committed.specs.Committed.{CommittedTable, Holds}
 use Rattle.law_committed.specs.Fields.{FieldsLaws, baby_bear_field, quartic_extension}
 use Rattle.batch_statement.specs.Statement.{Statement, AirTable, WellFormed}
-use Rattle.verifier_shape.specs.ShapeChecks.{no_table}
+use Rattle.batch_statement.specs.Words.{no_table}
 use Rattle.verifier_batch.specs.BatchChecks.{Accepted}
 use Rattle.law_soundness.specs.CommittedBatch.{ReadDeclared, committed_at, committed_table_at, lookups_at, stated_table}
 use Rattle.law_soundness.specs.Laws.Accepted.{batch_holds, heights_fit}

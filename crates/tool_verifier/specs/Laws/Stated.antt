@@ -10,7 +10,7 @@ use Rattle.plain_pcs.specs.Scheme.{Blowup, PlainCommitmentData, scheme}
 use Rattle.plain_pcs.specs.declared.error.PlainError.{PlainError}
 use Rattle.batch_config.specs.Setting.{Setting}
 use Rattle.batch_setup.specs.Packed.{Source, no_source, source_of}
-use Rattle.verifier_shape.specs.Verdict.{IsRefusal, IsVerdict}
+use Rattle.batch_statement.specs.Verdict.{IsRefusal, IsVerdict}
 use Rattle.batch_statement.specs.Statement.{Common, Statement, AirTable, WellFormed, tables_of}
 use Rattle.batch_statement.specs.declared.error.BatchVerificationError.{BatchVerificationError}
 use Rattle.verifier_batch.specs.BatchChecks.{checks}

@@ -12,7 +12,8 @@ use Rattle.verifier_draws.specs.Draws.{drawn, grinding_checks, lookup_grinding, 
 use Rattle.verifier_identity.specs.TableIdentity.{verified}
 use Rattle.verifier_batch.specs.OpeningChecks.{shape_bounds_of, claim_checks, claimed, domain_checks, metadata_check, opening_checks, opens_check}
 use Rattle.batch_config.specs.Setting.{Setting, Backend}
-use Rattle.verifier_shape.specs.ShapeChecks.{Bounds, bound_at, bus_bound_part, chunk_checks, count_checks, heights_of, lookup_checks, main_checks, next_check, no_opened, no_table, opened_checks, opened_part, permutation_check, preprocessed_checks, shape_checks, size_part, sizes_at, table_checks}
+use Rattle.verifier_shape.specs.ShapeChecks.{Bounds, bound_at, bus_bound_part, chunk_checks, count_checks, heights_of, lookup_checks, main_checks, next_check, opened_checks, opened_part, permutation_check, preprocessed_checks, shape_checks, size_part, sizes_at, table_checks}
+use Rattle.batch_statement.specs.Words.{no_opened, no_table}
 use Rattle.batch_statement.specs.Proof.{OpenedWithLookups, ProofData}
 use Rattle.batch_statement.specs.Statement.{Statement}
 use Rattle.batch_statement.specs.declared.error.BatchVerificationError.{BatchVerificationError}

@@ -3,14 +3,14 @@ use Rattle.std.proofs.Common.{◌≡◌, ℕ, List, length, Result, ◌∙◌, a
 use Rattle.p3_field.specs.Checks.{Check, NoneFails, in_turn}
 use Rattle.p3_field.specs.Domain.{CosetData}
 use Rattle.p3_field.specs.Poly.{tabulate}
-use Rattle.verifier_claims.specs.Claims.{bits_at}
+use Rattle.batch_statement.specs.Words.{bits_at}
 use Rattle.batch_config.specs.Domains.{chunk_domains}
 use Rattle.batch_config.specs.Setting.{Setting, Backend}
 use Rattle.batch_statement.specs.Proof.{ProofData}
 use Rattle.batch_statement.specs.Statement.{Statement}
 use Rattle.batch_statement.specs.declared.error.BatchVerificationError.{BatchVerificationError}
 use Rattle.verifier_shape.specs.ShapeChecks.{shape_checks}
-use Rattle.verifier_shape.specs.Verdict.{IsDecided, IsVerdict, IsRefusal}
+use Rattle.batch_statement.specs.Verdict.{IsDecided, IsVerdict, IsRefusal}
 use Rattle.verifier_shape.specs.Laws.Verdicts.{first_of_five, second_of_five, third_of_five, fourth_of_five, last_of_five, verdict}
 use Rattle.verifier_batch.specs.OpeningChecks.{shape_bounds_of, log_chunks_of_table, opening_checks}
 use Rattle.verifier_identity.specs.TableIdentity.{terminal_check}

@@ -5,7 +5,7 @@ use Rattle.std.proofs.lemmas.List.Elements.{All-cons, All-from_get_or, All-get_o
 use Rattle.air_core.specs.Shape.{Declaration, width_of}
 use Rattle.batch_statement.specs.Statement.{PreprocessedTracesData, Common, HasEntryOf, ListsEntries, WellFormed, entry_of, instance_count, with_entry, within_entries}
 use Rattle.batch_statement.specs.declared.preprocessed.PreprocessedInstanceMeta.{PreprocessedInstanceMeta}
-use Rattle.verifier_shape.specs.ShapeChecks.{is_there}
+use Rattle.batch_statement.specs.Words.{is_there}
 use Rattle.verifier_claims.specs.ClaimChecks.{entries_in}
 use Rattle.verifier_claims.specs.Claims.{matrix_tables}
 

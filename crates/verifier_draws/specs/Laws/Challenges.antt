@@ -10,7 +10,7 @@ use Rattle.p3_lookup.specs.Challenge.{ChallengesData, challenges_with}
 use Rattle.p3_lookup.specs.Lookup.{LookupData}
 use Rattle.batch_transcript.specs.BatchScript.{Draws}
 use Rattle.batch_transcript.specs.Buses.{batch_layout, instance_challenges}
-use Rattle.verifier_shape.specs.ShapeChecks.{has_some}
+use Rattle.batch_statement.specs.Words.{has_some}
 use Rattle.verifier_draws.specs.Draws.{drawn_pair}
 
 -- two challenges for each lookup that is laid out

@@ -11,7 +11,7 @@ use Rattle.batch_transcript.specs.BatchScript.{Draws, is_positive}
 use Rattle.batch_statement.specs.Proof.{ProofData}
 use Rattle.batch_statement.specs.Statement.{Statement}
 use Rattle.batch_statement.specs.declared.error.BatchVerificationError.{BatchVerificationError}
-use Rattle.verifier_shape.specs.ShapeChecks.{has_some}
+use Rattle.batch_statement.specs.Words.{has_some}
 use Rattle.verifier_draws.specs.Draws.{drawn, drawn_pair, grinding_checks, lookup_grinding, ood_grinding, script_shape}
 
 -- each check of a grinding value has one refusal

@@ -15,7 +15,7 @@ use Rattle.batch_statement.specs.Statement.{Statement}
 use Rattle.batch_statement.specs.declared.error.BatchVerificationError.{BatchVerificationError}
 use Rattle.batch_statement.specs.declared.error.BatchVerificationError.TheVariants.{Lookup, OutOfMemory}
 use Rattle.verifier_shape.specs.ShapeChecks.{Bounds, HaveItemForEachTable, count_checks, permutation_check, sizes_at, log_chunks_at, heights_of, bound_at, opened_checks_at, opened_by, opened_checks, size_part, bus_bound_part, opened_part, shape_checks}
-use Rattle.verifier_shape.specs.Verdict.{IsVerdict, IsRefusal}
+use Rattle.batch_statement.specs.Verdict.{IsVerdict, IsRefusal}
 use Rattle.verifier_shape.specs.Laws.Verdicts.{first_of_five, second_of_five, third_of_five, fourth_of_five, last_of_five, turns_agree}
 
 -- a batch whose counts are right

@@ -4,7 +4,7 @@ use Rattle.std.specs.Result.{IsErrAnd}
 use Rattle.std.proofs.lemmas.Bool.{cases_lt}
 use Rattle.p3_field.specs.Checks.{Check, NoneFails, FirstFails, in_turn}
 use Rattle.p3_field.specs.Laws.Checks.{none_append, first_stops, first_after, refused_in_turn}
-use Rattle.verifier_shape.specs.Verdict.{IsDecided, IsVerdict, IsRefusal}
+use Rattle.batch_statement.specs.Verdict.{IsDecided, IsVerdict, IsRefusal}
 use Rattle.batch_statement.specs.declared.error.BatchVerificationError.{BatchVerificationError}
 use Rattle.batch_statement.specs.declared.error.BatchVerificationError.TheVariants.{Verification, Lookup, Transcript, OutOfMemory}
 

@@ -4,7 +4,7 @@ use Rattle.p3_field.specs.Laws.Checks.{first_here, none_alone}
 use Rattle.p3_uni_stark.specs.declared.error.InvalidProofShapeError.TheVariants.{DegreeBitsTooSmall, DegreeBitsTooLarge}
 use Rattle.p3_uni_stark.specs.declared.error.VerificationError.TheVariants.{InvalidProofShape}
 use Rattle.plain_pcs.specs.declared.error.PlainError.{PlainError}
-use Rattle.verifier_claims.specs.Claims.{bits_at}
+use Rattle.batch_statement.specs.Words.{bits_at}
 use Rattle.batch_statement.specs.declared.error.BatchVerificationError.{BatchVerificationError}
 use Rattle.batch_statement.specs.declared.error.BatchVerificationError.TheVariants.{Verification}
 use Rattle.example_air.specs.Statement.{BytesProof, height_check}

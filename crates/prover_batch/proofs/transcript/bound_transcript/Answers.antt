@@ -1,8 +1,7 @@
 use Rattle.std.proofs.Common.{[], map, length, sym, ◌∙◌, ap, subst}
 use Rattle.p3_challenger.specs.Script.{ChallengerOf}
 use Rattle.verifier_draws.specs.Draws.{script_shape}
-use Rattle.verifier_shape.specs.ShapeChecks.{statement_with}
-use Rattle.batch_statement.specs.Statement.{tables_of}
+use Rattle.batch_statement.specs.Statement.{statement_with, tables_of}
 use Rattle.batch_transcript.specs.BatchScript.{bindings_script, main_script, preprocessed_script, seeded}
 use Rattle.batch_transcript.specs.Running.{Plays}
 use Rattle.prover_batch.specs.Laws.Binding.{bound_state, publics_counted}

@@ -1,6 +1,6 @@
 use Rattle.std.proofs.Common.{◌≡◌, map}
 use Rattle.p3_field.specs.Poly.{tabulate}
-use Rattle.verifier_claims.specs.Claims.{bits_at, declared_at}
+use Rattle.batch_statement.specs.Words.{bits_at, declared_at}
 use Rattle.batch_config.specs.Domains.{next_by}
 use Rattle.law_acceptance.specs.Rounds.{points_with}
 use Rattle.prover_openings.proofs.points.all_main.Given as goal

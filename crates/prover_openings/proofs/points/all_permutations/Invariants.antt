@@ -3,7 +3,7 @@ use Rattle.std.specs.Prelude.{option_to_list}
 use Rattle.std.specs.List.{flat_map}
 use Rattle.p3_field.specs.Poly.{tabulate}
 use Rattle.p3_lookup.specs.Written.{read_all}
-use Rattle.verifier_claims.specs.Claims.{bits_at}
+use Rattle.batch_statement.specs.Words.{bits_at}
 use Rattle.batch_config.specs.Domains.{next_by}
 use Rattle.law_honest.specs.HonestProof.{where_some}
 use Rattle.prover_openings.proofs.points.all_permutations.Given as goal

@@ -3,7 +3,7 @@ use Rattle.p3_field.specs.Laws.Tabulate.{tabulate_push}
 use Rattle.p3_field.specs.Poly.{tabulate}
 use Rattle.p3_lookup.specs.Written.{read_all}
 use Rattle.verifier_shape.specs.Laws.Items.{item_of_map}
-use Rattle.verifier_shape.specs.ShapeChecks.{has_some}
+use Rattle.batch_statement.specs.Words.{has_some}
 use Rattle.prover_quotients.specs.Places.{permutation_matrix_place}
 use Rattle.prover_quotients.proofs.Counted.{cond_small, count_more, count_within}
 use Rattle.std.proofs.lemmas.List.{length-map}

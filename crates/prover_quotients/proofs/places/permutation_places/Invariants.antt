@@ -2,7 +2,7 @@ use Rattle.std.proofs.Common.{◌≡◌, map, take}
 use Rattle.std.specs.Prelude.{count_by}
 use Rattle.p3_field.specs.Poly.{tabulate}
 use Rattle.p3_lookup.specs.Written.{read_all}
-use Rattle.verifier_shape.specs.ShapeChecks.{has_some}
+use Rattle.batch_statement.specs.Words.{has_some}
 use Rattle.prover_quotients.specs.Places.{permutation_matrix_place}
 use Rattle.prover_quotients.proofs.places.permutation_places.Given as goal
 

@@ -3,8 +3,8 @@ use Rattle.std.specs.Prelude.{count_by}
 use Rattle.std.proofs.lemmas.List.{length-map}
 use Rattle.p3_field.specs.Laws.Tabulate.{length-tabulate}
 use Rattle.p3_lookup.specs.Written.{read_all}
-use Rattle.verifier_shape.specs.ShapeChecks.{has_some, statement_with}
-use Rattle.batch_statement.specs.Statement.{AirTable, tables_of}
+use Rattle.batch_statement.specs.Words.{has_some}
+use Rattle.batch_statement.specs.Statement.{statement_with, AirTable, tables_of}
 use Rattle.verifier_draws.specs.Laws.Challenges.{challenge_count}
 use Rattle.verifier_batch.proofs.Sizes.{item_lengths, masked_domains, shape_counted}
 use Rattle.verifier_batch.proofs.parts.check_batch_identities.Goals as goal

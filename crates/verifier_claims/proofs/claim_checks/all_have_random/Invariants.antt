@@ -1,5 +1,5 @@
 use Rattle.std.proofs.Common.{◌≡◌, ℕ, ◌<◌, get_or, true}
-use Rattle.verifier_shape.specs.ShapeChecks.{is_there}
+use Rattle.batch_statement.specs.Words.{is_there}
 use Rattle.verifier_claims.proofs.claim_checks.all_have_random.Given as goal
 
 abbrev pub invariant-loop-opened : goal.invariant-loop-opened

@@ -1,6 +1,6 @@
 use Rattle.std.proofs.Common.{subst}
 use Rattle.verifier_claims.specs.ClaimChecks.{random_check}
-use Rattle.verifier_shape.specs.Verdict.{IsDecided}
+use Rattle.batch_statement.specs.Verdict.{IsDecided}
 use Rattle.verifier_claims.proofs.claim_checks.random_where.Goals as goal
 
 pub returns : goal.returns

@@ -5,8 +5,8 @@ use Rattle.std.specs.Option.{option_copied}
 use Rattle.std.proofs.lemmas.List.{length-map}
 use Rattle.p3_lookup.specs.Written.{read_all}
 use Rattle.batch_transcript.specs.BatchScript.{Given, is_positive}
-use Rattle.batch_statement.specs.Statement.{AirTable, tables_of}
-use Rattle.verifier_shape.specs.ShapeChecks.{bounds_with, statement_with}
+use Rattle.batch_statement.specs.Statement.{AirTable, tables_of, statement_with}
+use Rattle.verifier_shape.specs.ShapeChecks.{bounds_with}
 use Rattle.verifier_draws.specs.Draws.{given_of}
 use Rattle.verifier_draws.proofs.Fitting.{counts_right, fits}
 use Rattle.verifier_draws.proofs.HandedOut.{handed_out}

@@ -1,7 +1,7 @@
 use Rattle.std.proofs.Common.{ap, ◌∙◌}
 use Rattle.std.specs.Prelude.{count_by, is_some}
 use Rattle.p3_lookup.specs.Written.{read_all}
-use Rattle.verifier_shape.specs.ShapeChecks.{has_some}
+use Rattle.batch_statement.specs.Words.{has_some}
 use Rattle.verifier_draws.proofs.ScriptShape.{shape_is}
 use Rattle.verifier_draws.proofs.shapes.batch_shape.Goals as goal
 

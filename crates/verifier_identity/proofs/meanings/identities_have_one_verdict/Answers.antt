@@ -1,5 +1,5 @@
 use Rattle.std.proofs.Common.{◌-◌, [], None, get_or}
-use Rattle.verifier_shape.specs.ShapeChecks.{no_opened, no_table}
+use Rattle.batch_statement.specs.Words.{no_opened, no_table}
 use Rattle.verifier_identity.specs.Laws.Single.{table_single, terminals_single}
 use Rattle.verifier_identity.proofs.meanings.identities_have_one_verdict.Goals as goal
 

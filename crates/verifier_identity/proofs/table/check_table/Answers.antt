@@ -7,7 +7,8 @@ use Rattle.p3_lookup.specs.Written.{read, read_all}
 use Rattle.verifier_identity.specs.VerifierData.{identity_opened_of}
 use Rattle.batch_statement.specs.Statement.{AirTable}
 use Rattle.verifier_shape.specs.Laws.Verdicts.{exits}
-use Rattle.verifier_shape.specs.ShapeChecks.{is_there, permutation_width}
+use Rattle.verifier_shape.specs.ShapeChecks.{permutation_width}
+use Rattle.batch_statement.specs.Words.{is_there}
 use Rattle.verifier_identity.proofs.Lengths.{chunks_are, rows_are}
 use Rattle.verifier_identity.proofs.OneTable.{all_are_opened, columns_refused, decided}
 use Rattle.verifier_identity.proofs.TerminalValues.{held_values}

@@ -8,8 +8,8 @@ use Rattle.p3_lookup.specs.declared.terminal.LookupTerminal.{LookupTerminal}
 use Rattle.p3_uni_stark.specs.Recombine.{AllDisjoint}
 use Rattle.batch_constraints.specs.BatchTrees.{AreLookupsOf}
 use Rattle.batch_statement.specs.Statement.{AirTable}
-use Rattle.verifier_shape.specs.ShapeChecks.{no_opened, no_table}
-use Rattle.verifier_shape.specs.Verdict.{IsVerdict}
+use Rattle.batch_statement.specs.Words.{no_opened, no_table}
+use Rattle.batch_statement.specs.Verdict.{IsVerdict}
 use Rattle.verifier_identity.specs.TableIdentity.{identity_of_table}
 use Rattle.verifier_identity.proofs.Columns.{image_at, item_at}
 use Rattle.verifier_identity.proofs.tables.table_at.Goals as goal

@@ -3,8 +3,8 @@ use Rattle.std.proofs.lemmas.List.{length-map}
 use Rattle.p3_field.specs.Checks.{NoneFails}
 use Rattle.p3_field.specs.Domain.{CosetData}
 use Rattle.p3_field.specs.Field.{TwoAdic}
-use Rattle.batch_statement.specs.Statement.{AirTable, tables_of}
-use Rattle.verifier_shape.specs.ShapeChecks.{bounds_with, log_chunks_at, opened_checks_at, statement_with}
+use Rattle.batch_statement.specs.Statement.{AirTable, tables_of, statement_with}
+use Rattle.verifier_shape.specs.ShapeChecks.{bounds_with, log_chunks_at, opened_checks_at}
 use Rattle.verifier_identity.proofs.Domains.{domains_count, domains_disjoint, domains_number}
 use Rattle.verifier_identity.proofs.Shape.{bits_hold, counts_hold, opened_holds}
 use Rattle.verifier_identity.proofs.whole.check_identities.Goals as goal

@@ -1,5 +1,5 @@
 use Rattle.std.proofs.Common.{◌≡◌, ℕ, ◌<◌, get_or, arith, refl, sym, ◌∙◌}
-use Rattle.verifier_shape.specs.ShapeChecks.{is_there}
+use Rattle.batch_statement.specs.Words.{is_there}
 use Rattle.verifier_shape.specs.Laws.Items.{all_more}
 use Rattle.verifier_shape.proofs.Items.{same_bits}
 use Rattle.verifier_shape.proofs.counts.are_randomized.Goals as goal

@@ -1,5 +1,5 @@
 use Rattle.std.proofs.Common.{◌≡◌, ℕ, ◌<◌, get_or}
-use Rattle.verifier_shape.specs.ShapeChecks.{is_there}
+use Rattle.batch_statement.specs.Words.{is_there}
 use Rattle.verifier_shape.proofs.counts.are_randomized.Given as goal
 
 abbrev pub invariant-loop-opened : goal.invariant-loop-opened

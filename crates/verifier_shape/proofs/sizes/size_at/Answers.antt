@@ -1,6 +1,6 @@
 use Rattle.std.proofs.Common.{◌≡◌, ℕ, get_or, map, subst, IfOk}
 use Rattle.verifier_shape.specs.ShapeChecks.{size_checks}
-use Rattle.verifier_shape.specs.Verdict.{IsVerdict}
+use Rattle.batch_statement.specs.Verdict.{IsVerdict}
 use Rattle.verifier_shape.proofs.TableSize.{chunks_here, reads_here}
 use Rattle.verifier_shape.proofs.sizes.size_at.Goals as goal
 

@@ -4,8 +4,8 @@ use Rattle.p3_field.specs.Checks.{FirstFails, NoneFails, in_turn}
 use Rattle.p3_field.specs.Poly.{tabulate}
 use Rattle.p3_field.specs.Laws.Tabulate.{get_or-tabulate, length-tabulate}
 use Rattle.p3_lookup.specs.Written.{read_all}
-use Rattle.batch_statement.specs.Statement.{AirTable, tables_of}
-use Rattle.verifier_shape.specs.ShapeChecks.{bounds_with, log_chunks_at, opened_by, statement_with}
+use Rattle.batch_statement.specs.Statement.{AirTable, tables_of, statement_with}
+use Rattle.verifier_shape.specs.ShapeChecks.{bounds_with, log_chunks_at, opened_by}
 use Rattle.verifier_shape.specs.Laws.Parts.{bits_fit, chunks_fit, counted, counts_named, first_part, fourth_part, last_part, opened_agree, second_part, third_part}
 use Rattle.verifier_shape.specs.Laws.Verdicts.{exits, exits_if, refused, verdict}
 use Rattle.verifier_shape.proofs.whole.check_shape.Goals as goal
