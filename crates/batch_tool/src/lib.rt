@@ -1,5 +1,5 @@
 //! The program's top call, over the crates that read, prove and verify: `prove` answers a job's text by `tool_jobs` and `tool_prover`, and
-//! `verify` a proof file by `tool_proof_files` and the crates below it.
+//! `verify` a proof file by `tool_proof_files` and `tool_verifier`.
 #![tactic(auto)]
 
 mod command;
@@ -13,9 +13,9 @@ pub use tool_bytes::{
 };
 pub use tool_jobs::{GivenWord, JobTable, read_job, write_job};
 pub use tool_lines::TextError;
-pub use tool_proof_files::{ProofFile, answer_verify, read_proof_file, write_proof_file};
+pub use tool_proof_files::{ProofFile, read_proof_file, write_proof_file};
 pub use tool_proof_text::{read_proof_part, write_proof_part};
 pub use tool_prover::answer_prove;
 pub use tool_statement::{TableStatement, ToolConfig, tool_config};
-pub use tool_verifier::{Answer, Status};
+pub use tool_verifier::{Answer, Status, answer_verify};
 pub use top::run;

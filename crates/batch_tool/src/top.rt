@@ -12,9 +12,9 @@ use std::alloc::{AllocError, Global};
 use tool_bytes::{Failed, InputError, Sink, Source, read_whole, write_whole};
 use tool_jobs::read_job;
 use tool_lines::{TextError, push_number};
-use tool_proof_files::{answer_verify, read_proof_file};
+use tool_proof_files::read_proof_file;
 use tool_prover::answer_prove;
-use tool_verifier::{Answer, Status};
+use tool_verifier::{Answer, Status, answer_verify};
 
 const USAGE: &[u8] = b"usage: batch_tool prove | verify | demo N\n";
 

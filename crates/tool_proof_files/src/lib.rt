@@ -1,12 +1,10 @@
-//! The program's proof files: a version, the tables that are stated, and a batch proof of them; and what `verify` answers for one.
+//! The program's proof files: a version, the tables that are stated, and a batch proof of them.
 //!
 //! The definitions that contracts cite are in `specs/`: a file's limits and its numbers (`Files`).
 #![tactic(auto)]
 
-mod answer;
 mod file;
 mod table;
 
-pub use answer::answer_verify;
 pub use file::{ProofFile, WholeFile, read_proof_file, write_proof_file};
 pub use table::StatedTable;

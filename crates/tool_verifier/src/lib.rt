@@ -7,6 +7,7 @@
 mod answer;
 mod fault_names;
 mod fault_numbers;
+mod file_answer;
 mod heights;
 mod laws;
 mod meaning;
@@ -15,6 +16,7 @@ mod status;
 mod tables;
 
 pub use answer::{Answer, answer_tables};
+pub use file_answer::answer_verify;
 pub use laws::there_is_one_answer;
 pub use meaning::accepted_means;
 pub use refusal::refusal_line;

@@ -3,10 +3,10 @@ ghost use Rattle.std.specs.Prelude.{IfOk};
 ghost use Rattle.tool_proof_files.specs.Files.{FileWithin};
 ghost use Rattle.tool_verifier.specs.FileAnswer.{IsFileAnswer};
 
-use crate::file::ProofFile;
+use crate::answer::{Answer, answer_tables};
 use p3_field::Mem;
 use std::alloc::Global;
-use tool_verifier::{Answer, answer_tables};
+use tool_proof_files::ProofFile;
 
 /// What `verify` answers for this file (not in Plonky3), which is within its limits: `Refused` with `HeightMismatch` for the first table
 /// whose stated height isn't the proof's, `Refused` with the first check of the batch verifier that fails, or `Done` with `accepted`. The
