@@ -1,2 +1,0 @@
-pub mod Nonzero
-pub mod Values
