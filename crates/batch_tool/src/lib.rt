@@ -3,18 +3,20 @@
 #![tactic(auto)]
 
 mod command;
+mod exit;
 mod laws;
 mod top;
 
+pub use exit::{exit_code, run_to_exit};
+pub use laws::{one_answer, one_transcript};
 pub use tool_bytes::{
     Failed, InputError, MAX_BYTES, MemorySink, MemorySource, Sink, Source, StdSink, StdSource,
     read_whole, write_whole,
 };
-pub use laws::{one_answer, one_transcript};
+pub use tool_jobs::{GivenWord, JobTable, read_job, write_job};
 pub use tool_lines::TextError;
 pub use tool_proof_files::{ProofFile, answer_verify, read_proof_file, write_proof_file};
 pub use tool_proof_text::{read_proof_part, write_proof_part};
-pub use tool_jobs::{GivenWord, JobTable, read_job, write_job};
 pub use tool_prover::answer_prove;
 pub use tool_statement::{TableStatement, ToolConfig, tool_config};
 pub use tool_verifier::{Answer, Status};

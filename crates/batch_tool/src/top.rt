@@ -7,12 +7,12 @@ ghost use Rattle.tool_bytes.specs.Limits.{most_bytes};
 ghost use Rattle.batch_tool.specs.Answer.{IsCommandAnswer, IsProveAnswer, IsSilent, IsVerifyAnswer, NamesSome, Outcome, bad_input_text};
 
 use crate::command::Command;
-use tool_bytes::{Failed, InputError, Sink, Source, read_whole, write_whole};
-use tool_lines::{TextError, push_number};
 use p3_field::Mem;
-use tool_proof_files::{answer_verify, read_proof_file};
 use std::alloc::{AllocError, Global};
+use tool_bytes::{Failed, InputError, Sink, Source, read_whole, write_whole};
 use tool_jobs::read_job;
+use tool_lines::{TextError, push_number};
+use tool_proof_files::{answer_verify, read_proof_file};
 use tool_prover::answer_prove;
 use tool_verifier::{Answer, Status};
 
