@@ -22,9 +22,10 @@ pub fn exit_code(status: Status) -> ExitCode
     ExitCode::from(status.number())
 }
 
-/// Does what [`run`] does, and answers the exit code of its status, with which the program ends (not in Plonky3).
+/// Does what [`run`] does, and answers the exit code of its status, with which the program ends
+/// (not in Plonky3).
 ///
-/// What the clauses of `run` say of its status they say here, word for word, of the status that the exit code tells.
+/// What the clauses of `run` say of its status they say here of the status that the exit code tells.
 pub fn run_to_exit<S: Source, K: Sink>(
     alloc: Global,
     words: &[String],
