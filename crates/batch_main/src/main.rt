@@ -1,7 +1,7 @@
-//! The program: it makes the real ends, calls `run`, and ends with its status.
+//! The program: it makes the real ends, and ends with the exit code that `run_to_exit` answers.
 #![tactic(auto)]
 
-use batch_tool::{Status, StdSink, StdSource, run};
+use batch_tool::{Status, StdSink, StdSource, exit_code, run_to_exit};
 use std::alloc::AllocError;
 use std::process::ExitCode;
 use std::{env, io};
@@ -16,9 +16,8 @@ fn main(rt: HostRuntime) -> ExitCode {
     };
     let mut source = StdSource::new(rt.reader());
     let mut sink = StdSink::new(io::writer(&rt));
-    let status = match words {
-        Ok(words) => run(alloc, &words, &mut source, &mut sink),
-        Err(AllocError) => Status::OutOfMemory,
-    };
-    ExitCode::from(status.number())
+    match words {
+        Ok(words) => run_to_exit(alloc, &words, &mut source, &mut sink),
+        Err(AllocError) => exit_code(Status::OutOfMemory),
+    }
 }

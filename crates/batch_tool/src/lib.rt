@@ -3,9 +3,11 @@
 #![tactic(auto)]
 
 mod command;
+mod exit;
 mod laws;
 mod top;
 
+pub use exit::{exit_code, run_to_exit};
 pub use laws::{one_answer, one_transcript};
 pub use tool_bytes::{
     Failed, InputError, MAX_BYTES, MemorySink, MemorySource, Sink, Source, StdSink, StdSource,
