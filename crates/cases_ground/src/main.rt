@@ -1,37 +1,51 @@
-//! Answers the cases of its standard input, one line each: calls of the fields, and of what stands on them alone.
+//! Answers the cases of its standard input, one line each: calls of fields, matrices, transforms and challengers.
 #![tactic(auto)]
 
-mod answers;
+mod challengers;
+mod cosets;
 mod fields;
+mod matrices;
+mod numbers;
+mod printing;
 mod reading;
+mod sides;
+mod steps;
+mod transcripts;
+mod transforms;
 
-use answers::{Answer, print_answer};
-use p3_field::Mem;
+use p3_challenger::Sha256Challenger;
+use p3_dft::{NaiveDft, Radix2Dit};
+use p3_field::{BabyBear, Gf256, QuarticExtension};
 use reading::{Case, case_of};
-use std::alloc::Global;
 use std::io;
 
-// What a case's call answers.
-fn answer_of(alloc: Global, case: &Case) -> Mem<Answer<Vec<u64>>> {
+// Calls of what keeps no state.
+fn answer<R: Print + AllocGlobal>(rt: &R, case: &Case) -> io::Result<()> {
     let (call, numbers) = (case.call, case.numbers.as_slice());
     match case.subject {
-        "base" => fields::base(alloc, call, numbers),
-        "quartic" => fields::quartic(alloc, call, numbers),
-        "byte" => fields::byte(alloc, call, numbers),
-        _ => Ok(Answer::Bad),
+        "base" => fields::over_base::<BabyBear, R>(rt, call, numbers),
+        "quartic" => fields::over_base::<QuarticExtension, R>(rt, call, numbers),
+        "byte" => fields::field::<Gf256, Gf256, R>(rt, call, numbers),
+        "number" => numbers::number(rt, call, numbers),
+        "coset" => cosets::coset(rt, call, numbers),
+        "matrix" => matrices::matrix(rt, call, numbers),
+        "column" => transforms::column(rt, call, numbers),
+        "naive" => transforms::transform(rt, &NaiveDft, call, numbers),
+        "radix2" => transforms::transform(rt, &Radix2Dit, call, numbers),
+        "transcript" => transcripts::transcript(rt, call, numbers),
+        _ => rt.println("bad case"),
     }
 }
 
 fn main(rt: HostRuntime) -> io::Result<()> {
-    let alloc = rt.alloc();
-    for line in rt.lines(alloc) {
+    let mut challenger = Sha256Challenger::new();
+    for line in rt.lines(rt.alloc()) {
         let line = line?;
-        if line.starts_with('#') || line.is_empty() {
-            rt.println(&line)?;
-        } else {
-            let case = case_of(alloc, &line)?;
-            let answer = answer_of(alloc, &case)?;
-            print_answer(&rt, &answer)?;
+        let case = case_of(rt.alloc(), &line)?;
+        match case.subject {
+            "#" => rt.println(&line)?,
+            "challenger" => challengers::challenger(&rt, &mut challenger, &case)?,
+            _ => answer(&rt, &case)?,
         }
     }
     Ok(())

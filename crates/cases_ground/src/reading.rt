@@ -1,6 +1,7 @@
-//! Reads a case.
+//! Reads a case: the words of its line, and what its numbers stand for.
 
-use p3_field::Mem;
+use crate::fields::Element;
+use p3_field::{BasedVectorSpace, Mem};
 use std::alloc::Global;
 
 /// A case: what is called, by two words, and the numbers that it is called with.
@@ -14,25 +15,36 @@ pub struct Case<'a> {
     pub numbers: Vec<u64>,
 }
 
-/// The case of a line. A word that is no number where one should be makes it a case of no subject.
+/// The case of a line, whose words stand between single blanks. The numbers end before the first word that is none.
 pub fn case_of(alloc: Global, line: &str) -> Mem<Case<'_>> {
     let mut words = line.split(' ');
     let subject = words.next().unwrap_or("");
     let call = words.next().unwrap_or("");
     let mut numbers = Vec::new(alloc);
     for word in words {
-        match word.parse() {
-            Ok(number) => numbers.push(number)?,
-            Err(_) => return Ok(Case {
-                subject: "",
-                call,
-                numbers,
-            }),
-        }
+        let Ok(number) = word.parse() else {
+            break;
+        };
+        numbers.push(number)?;
     }
     Ok(Case {
         subject,
         call,
         numbers,
     })
+}
+
+/// The values whose coefficients the numbers are, in order; none where a value would lack some.
+pub fn values_of<F: Element, V: BasedVectorSpace<F>>(
+    alloc: Global,
+    numbers: &[u64],
+) -> Mem<Vec<V>> {
+    let mut coefficients = Vec::new(alloc);
+    for number in numbers {
+        coefficients.push(F::of(*number))?;
+    }
+    if coefficients.len() % V::DIMENSION != 0 {
+        return Ok(Vec::new(alloc));
+    }
+    V::reconstitute_from_base(alloc, &coefficients)
 }
