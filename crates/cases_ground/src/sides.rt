@@ -5,7 +5,7 @@ ghost use Rattle.std.specs.List.{fold};
 ghost use Rattle.p3_field.specs.Ring.{of_nat};
 ghost use Rattle.p3_challenger.specs.Grind.{PassesGrinding, checked_state};
 ghost use Rattle.p3_challenger.specs.Separator.{encoding};
-ghost use Rattle.p3_challenger_tests.specs.Worked.{worked_steps, told};
+ghost use Rattle.cases_ground.specs.Worked.{worked_steps, told};
 
 use p3_challenger::{
     CanObserve, CanSample, DomainSeparator, GrindingChallenger, ProverState, VerifierState,

@@ -1,7 +1,7 @@
 //! A worked pattern.
 
 ghost use Rattle.std.specs.Prelude.{◌≡◌, IfOk, OnOk, ◌++◌, ◌∷◌, []};
-ghost use Rattle.p3_challenger_tests.specs.Worked.{worked_step, worked_steps};
+ghost use Rattle.cases_ground.specs.Worked.{worked_step, worked_steps};
 
 use p3_challenger::{
     Hierarchy, Interaction, InteractionKind, InteractionPattern, Label, Length, StepValue,
