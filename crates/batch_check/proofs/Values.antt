@@ -1,5 +1,5 @@
 -- The values that a builder has after a table's constraints were asserted.
-use Rattle.std.proofs.Common.{◌≡◌, ℕ, List, ◌++◌, map, ◌∙◌, ap}
+use Rattle.std.proofs.Common.{◌≡◌, ℕ, List, [], ◌++◌, map, ◌∙◌, ap}
 use Rattle.p3_field.specs.Ring.{Ring}
 use Rattle.air_core.specs.RowCheck.{Row, tree_value_at_row}
 use Rattle.air_core.specs.Tree.{Tree, over_base, over_extension}

@@ -57,29 +57,52 @@ fn draw<R: Print + AllocGlobal>(
             let drawn: QuarticExtension = challenger.sample();
             print_values::<BabyBear, QuarticExtension, R>(rt, &[drawn])
         }
-        ("sample_bits", [bits]) if *bits <= 30 => {
-            print_numbers(rt, &[challenger.sample_bits(*bits as usize) as u64])
-        }
-        ("check_witness", [bits, witness]) if *bits <= 30 => {
+        (call, [bits, rest @ ..]) => match few_bits(*bits) {
+            Some(bits) => draw_bits(rt, challenger, call, bits, rest),
+            None => rt.println("bad case"),
+        },
+        _ => rt.println("bad case"),
+    }
+}
+
+/// As many bits as are drawn at once, at most 30: they are fewer values than the base field has.
+pub fn few_bits(number: u64) -> Option<usize>
+    ensures { IfSome result (λ bits. 2 ^ bits < 2013265921) }
+{
+    if number <= 30 {
+        Some(number as usize)
+    } else {
+        None
+    }
+}
+
+// Calls that draw or grind so many bits.
+fn draw_bits<R: Print + AllocGlobal>(
+    rt: &R,
+    challenger: &mut Sha256Challenger,
+    call: &str,
+    bits: usize,
+    numbers: &[u64],
+) -> io::Result<()>
+    requires { 2 ^ bits < 2013265921 }
+{
+    match (call, numbers) {
+        ("sample_bits", []) => print_numbers(rt, &[challenger.sample_bits(bits) as u64]),
+        ("check_witness", [witness]) => {
             let witness = BabyBear::from_u64(*witness);
-            print_numbers(
+            print_numbers(rt, &[challenger.check_witness(bits, witness) as u64])
+        }
+        ("grind", []) => match ground_and_checked::<BabyBear, Sha256Challenger>(challenger, bits) {
+            Some(found) => print_numbers(
                 rt,
-                &[challenger.check_witness(*bits as usize, witness) as u64],
-            )
-        }
-        ("grind", [bits]) if *bits <= 30 => {
-            match ground_and_checked::<BabyBear, Sha256Challenger>(challenger, *bits as usize) {
-                Some(found) => print_numbers(
-                    rt,
-                    &[
-                        found.witness.as_canonical_u64(),
-                        found.passes as u64,
-                        (found.verifier == *challenger) as u64,
-                    ],
-                ),
-                None => rt.println("none"),
-            }
-        }
+                &[
+                    found.witness.as_canonical_u64(),
+                    found.passes as u64,
+                    (found.verifier == *challenger) as u64,
+                ],
+            ),
+            None => rt.println("none"),
+        },
         _ => rt.println("bad case"),
     }
 }

@@ -64,6 +64,9 @@ pub fn flatten<V: ExtensionField<BabyBear>, R: Print + AllocGlobal>(
     rt: &R,
     numbers: &[u64],
 ) -> io::Result<()> {
+    if V::DIMENSION > 4 {
+        return rt.println("bad case");
+    }
     let column = RowMajorMatrix::new_col(values_of::<BabyBear, V>(rt.alloc(), numbers)?);
     print_matrix(rt, &flatten_matrix::<BabyBear, V>(rt.alloc(), &column)?)
 }

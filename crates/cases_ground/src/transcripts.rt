@@ -1,8 +1,8 @@
 //! Calls of separators and of both sides of a typed transcript.
-ghost use Rattle.std.specs.Prelude.{◌≡◌, IfOk};
+ghost use Rattle.std.specs.Prelude.{◌≡◌, ◌<◌, ◌^◌, IfOk};
 ghost use Rattle.cases_ground.specs.Worked.{worked_steps};
 
-use crate::challengers::print_state;
+use crate::challengers::{few_bits, print_state};
 use crate::printing::print_numbers;
 use crate::reading::values_of;
 use crate::sides::{Side, prover_side, verifier_side};
@@ -40,18 +40,23 @@ pub fn transcript<R: Print + AllocGlobal>(rt: &R, call: &str, numbers: &[u64]) -
                 &separator_of(rt.alloc(), *publics as usize, *bits as usize)?,
             )
         }
-        ("prover", [bits, sent, known @ ..]) if *bits <= 30 => {
-            prover(rt, *bits as usize, BabyBear::from_u64(*sent), known)
-        }
-        ("verifier", [bits, witness, sent, known @ ..]) if *bits <= 30 => {
+        (call, [bits, numbers @ ..]) => match few_bits(*bits) {
+            Some(bits) => side(rt, call, bits, numbers),
+            None => rt.println("bad case"),
+        },
+        _ => rt.println("bad case"),
+    }
+}
+
+// Plays one side with so many bits.
+fn side<R: Print + AllocGlobal>(rt: &R, call: &str, bits: usize, numbers: &[u64]) -> io::Result<()>
+    requires { 2 ^ bits < 2013265921 }
+{
+    match (call, numbers) {
+        ("prover", [sent, known @ ..]) => prover(rt, bits, BabyBear::from_u64(*sent), known),
+        ("verifier", [witness, sent, known @ ..]) => {
             let witness = BabyBear::from_u64(*witness);
-            verifier(
-                rt,
-                *bits as usize,
-                witness,
-                BabyBear::from_u64(*sent),
-                known,
-            )
+            verifier(rt, bits, witness, BabyBear::from_u64(*sent), known)
         }
         _ => rt.println("bad case"),
     }
@@ -85,7 +90,9 @@ fn prover<R: Print + AllocGlobal>(
     bits: usize,
     sent: BabyBear,
     known: &[u64],
-) -> io::Result<()> {
+) -> io::Result<()>
+    requires { 2 ^ bits < 2013265921 }
+{
     let known = values_of::<BabyBear, BabyBear>(rt.alloc(), known)?;
     let separator = separator_of(rt.alloc(), known.len(), bits)?;
     let start = Sha256Challenger::new();
@@ -109,7 +116,9 @@ fn verifier<R: Print + AllocGlobal>(
     witness: BabyBear,
     sent: BabyBear,
     known: &[u64],
-) -> io::Result<()> {
+) -> io::Result<()>
+    requires { 2 ^ bits < 2013265921 }
+{
     let known = values_of::<BabyBear, BabyBear>(rt.alloc(), known)?;
     let separator = separator_of(rt.alloc(), known.len(), bits)?;
     let start = Sha256Challenger::new();
