@@ -1,5 +1,5 @@
 use Rattle.std.proofs.Common.{◌<◌}
-use Rattle.blake3_binary_tests.proofs.rows.fingerprint.Given as goal
+use Rattle.cases_blake3.proofs.binary_rows.fingerprint.Given as goal
 
 abbrev pub invariant-loop-cell : goal.invariant-loop-cell
 invariant-loop-cell l = l.sum < 65521
