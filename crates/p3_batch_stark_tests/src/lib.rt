@@ -1,16 +1,8 @@
-//! A caller of the batch's transcript, by its public items and its bounds alone, and tests on worked values.
+//! Each name of `p3_batch_stark`, as a caller imports it, and proofs of bytes by `example_air`.
 #![tactic(auto)]
 
 #[cfg(test)]
 mod compared;
 #[cfg(test)]
-mod encodings;
-#[cfg(test)]
 mod example;
-#[cfg(test)]
-mod playing;
-pub mod root;
-pub mod runs;
-#[cfg(test)]
-mod separators;
-pub mod worked;
+pub mod names;
