@@ -1,14 +1,4 @@
-//! Tests of `p3_air` on worked values, as a caller of its public items.
+//! What the tests of several crates share, as callers of the public items of `air_core`.
 #![tactic(auto)]
 
-#[cfg(test)]
-mod gadgets;
-#[cfg(test)]
-mod reads;
-#[cfg(test)]
-mod sending;
 pub mod support;
-#[cfg(test)]
-mod symbolic;
-#[cfg(test)]
-mod wheel;
