@@ -1,2 +1,0 @@
-mod TwoColumns
-mod FirstPoint
