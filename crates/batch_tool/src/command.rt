@@ -1,7 +1,13 @@
-//! The commands that a program's words name.
+//! The commands that a program's words name, and what each answers.
 
-ghost use Rattle.std.specs.Prelude.{map, string_bytes, MatchOption};
-ghost use Rattle.batch_tool.specs.Answer.{Names};
+use crate::answers::{file_answer, job_answer};
+use p3_field::Mem;
+use std::alloc::Global;
+use tool_demo::{answer_demo, read_number};
+use tool_run::Commands;
+use tool_verifier::Answer;
+
+const USAGE: &[u8] = b"usage: batch_tool prove | verify | demo N\n";
 
 /// What the program is to do (not in Plonky3).
 #[derive(Drop)]
@@ -10,17 +16,50 @@ pub enum Command {
     Prove,
     /// `verify`: reads a proof file, and says whether its proof is accepted.
     Verify,
+    /// `demo N`: proves the job that the number stands for, and writes how many lines its proof file has. It reads nothing.
+    Demo {
+        /// The number N.
+        number: u32,
+    },
 }
 
-impl Command {
-    /// The command that these words name, if they name one.
-    pub fn from_words(words: &[String]) -> Option<Self>
-        ensures { MatchOption result ((c : _) → Names (map string_bytes words.now) c → ⊥) (λ c. Names (map string_bytes words.now) c) }
-    {
+impl Commands for Command {
+    ghost use Rattle.batch_tool.specs.Answer.{batch_program};
+    ghost use Rattle.batch_tool.specs.Laws.Statuses.{answers-only};
+
+    ghost program = { batch_program };
+
+    ghost only = { answers-only };
+
+    fn from_words(words: &[String]) -> Option<Self> {
         match words {
             [word] if word.as_str() == "prove" => Some(Command::Prove),
             [word] if word.as_str() == "verify" => Some(Command::Verify),
+            [word, number] if word.as_str() == "demo" => match read_number(number.as_str()) {
+                Some(number) => Some(Command::Demo { number }),
+                None => None,
+            },
             _ => None,
         }
+    }
+
+    fn reads_input(&self) -> bool {
+        match self {
+            Command::Prove => true,
+            Command::Verify => true,
+            Command::Demo { .. } => false,
+        }
+    }
+
+    fn answer(self, alloc: Global, bytes: Vec<u8>) -> Mem<Answer> {
+        match self {
+            Command::Prove => job_answer(alloc, bytes),
+            Command::Verify => file_answer(alloc, bytes),
+            Command::Demo { number } => answer_demo(alloc, number),
+        }
+    }
+
+    fn usage() -> &'static [u8] {
+        USAGE
     }
 }

@@ -4,25 +4,18 @@ ghost use Rattle.std.specs.Prelude.{◌≡◌, ◌≤◌, map, string_bytes};
 ghost use Rattle.std.specs.Process.{exit_status};
 ghost use Rattle.tool_bytes.specs.Causes.{Rose};
 ghost use Rattle.tool_bytes.specs.Limits.{most_bytes};
+ghost use Rattle.tool_run.specs.Exit.{status_told};
+ghost use Rattle.tool_run.specs.Run.{IsSilent};
 ghost use Rattle.tool_verifier.specs.Status.{status_number};
-ghost use Rattle.batch_tool.specs.Answer.{IsSilent, NamesSome, Outcome};
-ghost use Rattle.batch_tool.specs.Exit.{status_told};
+ghost use Rattle.batch_tool.specs.Answer.{NamesReader, Outcome};
 
-use crate::top::run;
+use crate::command::Command;
 use std::alloc::Global;
 use std::process::ExitCode;
 use tool_bytes::{Sink, Source};
 use tool_verifier::Status;
 
-/// The exit code of a status, which is its number (not in Plonky3).
-pub fn exit_code(status: Status) -> ExitCode
-    ensures number { exit_status result ≡ status_number status }
-    ensures told { status_told result ≡ status }
-{
-    ExitCode::from(status.number())
-}
-
-/// Does what [`run`] does, and answers the exit code of its status, with which the program ends
+/// Does what [`run`](crate::run) does, and answers the exit code of its status, with which the program ends
 /// (not in Plonky3).
 ///
 /// What the clauses of `run` say of its status they say here of the status that the exit code tells.
@@ -49,8 +42,8 @@ pub fn run_to_exit<S: Source, K: Sink>(
         → S.faults source.new ≡ S.faults source.old }
     ensures no_write_fault { (status_told result ≡ Status.WriteFault → ⊥)
         → K.faults sink.new ≡ K.faults sink.old }
-    ensures unread { (NamesSome (map string_bytes words.now) → ⊥) → source.new ≡ source.old }
+    ensures unread { (NamesReader (map string_bytes words.now) → ⊥) → source.new ≡ source.old }
     ensures unwritten { IsSilent (status_told result) → sink.new ≡ sink.old }
 {
-    exit_code(run(alloc, words, source, sink))
+    tool_run::run_to_exit::<Command, S, K>(alloc, words, source, sink)
 }

@@ -11,6 +11,7 @@ pub fn one_answer()
 {
     tool_prover::there_is_one_answer();
     tool_verifier::there_is_one_answer();
+    tool_demo::there_is_one_answer();
 }
 
 /// The transcript of a batch, whatever its shape and whatever statement and proof give to its steps, is played by base elements alone:

@@ -1,13 +1,15 @@
-//! The program's top call, over the crates that read, prove and verify: `prove` answers a job's text by `tool_jobs` and `tool_prover`, and
-//! `verify` a proof file by `tool_proof_files` and `tool_verifier`.
+//! The program's commands and its top call, over the crates that read, prove and verify: `prove` answers a job's text by `tool_jobs` and
+//! `tool_prover`, `verify` a proof file by `tool_proof_files` and `tool_verifier`, and `demo N` the job of a number by `tool_demo`. What a run
+//! does with words, input and output is that of `tool_run`.
 #![tactic(auto)]
 
+mod answers;
 mod command;
 mod exit;
 mod laws;
 mod top;
 
-pub use exit::{exit_code, run_to_exit};
+pub use exit::run_to_exit;
 pub use laws::{one_answer, one_transcript};
 pub use tool_bytes::{
     Failed, InputError, MAX_BYTES, MemorySink, MemorySource, Sink, Source, StdSink, StdSource,
@@ -18,6 +20,7 @@ pub use tool_lines::TextError;
 pub use tool_proof_files::{ProofFile, read_proof_file, write_proof_file};
 pub use tool_proof_text::{read_proof_part, write_proof_part};
 pub use tool_prover::answer_prove;
+pub use tool_run::exit_code;
 pub use tool_statement::{TableStatement, ToolConfig, tool_config};
 pub use tool_verifier::{Answer, Status, answer_verify};
 pub use top::run;

@@ -16,10 +16,12 @@ use Rattle.tool_verifier.specs.FileAnswer.{mismatch_text}
 use Rattle.law_tool_valid.specs.Job.{JobTable}
 use Rattle.tool_verifier.specs.Refusals.{fault_text, refused_text}
 use Rattle.tool_verifier.specs.declared.status.Status.TheVariants.{Refused}
+use Rattle.tool_demo.specs.Demo.{demo_job}
+use Rattle.tool_demo.specs.DemoAnswer.{IsDemoAnswer}
 use Rattle.tool_prover.specs.JobAnswer.{IsJobAnswer, IsRefusedText}
 use Rattle.batch_tool.specs.Answer.{IsAnswer, IsCommandAnswer}
 use Rattle.batch_tool.specs.declared.command.Command.{Command}
-use Rattle.batch_tool.specs.declared.command.Command.TheVariants.{Prove, Verify}
+use Rattle.batch_tool.specs.declared.command.Command.TheVariants.{Prove, Verify, Demo}
 use Rattle.law_tool_refusals.specs.Lines.{IsPossibleLine}
 use Rattle.law_tool_refusals.specs.Possible.{MayCome}
 use Rattle.law_tool_refusals.proofs.Files.{line_may_come}
@@ -177,11 +179,12 @@ prove_line job text h = elim h [
   ]
 ]
 
--- of either command
+-- of each command
 command_line : (command : Command) (bytes text : List ℕ) → IsCommandAnswer command bytes Refused text → begins_some never text ≡ false
-unfolding IsJobAnswer
+unfolding IsDemoAnswer IsJobAnswer
 command_line Prove bytes text a = prove_line a.0 text a.3
 command_line Verify bytes text a = possible_line text (line_may_come bytes text a)
+command_line (Demo number) bytes text a = prove_line (demo_job number) text a
 
 pub never_answered : (words : List (List ℕ)) (bytes : List ℕ) (e : BatchVerificationError PlainError) → (MayCome e → ⊥) → IsAnswer words bytes Refused (fault_text e) → ⊥
 never_answered words bytes e n a = false≢true (sym (command_line a.0 bytes (fault_text e) a.2) ∙ impossible e n)

@@ -16,7 +16,7 @@ ghost use Rattle.tool_verifier.specs.declared.status.Status.TheVariants.{Refused
 /// Of tables within a proof file's limits and of any proof with their heights, the first check that fails is refused with what `MayCome` says (`fault`): not
 /// for its degree bits, the domain of a quotient, the bound on multiplicities, the number of public values, a grinding value where there are no bits, the
 /// heights of preprocessed traces, or a periodic column. So the line with which `verify` refuses bytes names a table of another height than is stated, or a
-/// refusal that may come (`line`). Neither command, for any words and bytes, answers with the line of another (`never`).
+/// refusal that may come (`line`). No command, for any words and bytes, answers with the line of another (`never`).
 pub fn verify_refuses_only_so()
     ensures fault { (tables : List TableStatement) (p : ToolProofData) (e : BatchVerificationError PlainError) → All TableWithin tables → length tables ≤ 8
         → HaveStatedHeights tables p.degree_bits → FirstFault tool_setting tool_backend (tool_statement tables) p e → MayCome e }

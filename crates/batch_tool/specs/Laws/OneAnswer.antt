@@ -2,6 +2,7 @@
 use Rattle.std.proofs.Common.{◌≡◌, ℕ, ◌≤◌, List, [], ◌∷◌, length, get_or, refl, sym, ◌∙◌, ap, subst, arith, inl, inr}
 use Rattle.std.specs.Prelude.{codes, ◌⊎◌}
 use Rattle.std.proofs.lemmas.Bool.{cases_lt}
+use Rattle.std.proofs.lemmas.Fmt.{decimal_injective}
 use Rattle.std.proofs.lemmas.List.{append-nil}
 use Rattle.p3_field.specs.declared.baby_bear.BabyBear.{BabyBear}
 use Rattle.tool_lines.specs.Texts.{line_text, Grammar}
@@ -10,6 +11,7 @@ use Rattle.tool_lines.specs.Laws.Lines.{lines-tell}
 use Rattle.law_tool_valid.specs.Job.{JobTable}
 use Rattle.tool_jobs.specs.Jobs.{JobWithin, job_numbers}
 use Rattle.tool_jobs.specs.Laws.Texts.{job-grammar}
+use Rattle.tool_demo.specs.DemoAnswer.{IsDemoAnswer}
 use Rattle.tool_prover.specs.JobAnswer.{IsJobAnswer}
 use Rattle.batch_tool.specs.Answer.{Names, NamesSome, IsBadInput, IsProveAnswer, IsVerifyAnswer, IsCommandAnswer, IsAnswer, bad_input_text}
 use Rattle.tool_statement.specs.declared.table.TableStatement.{TableStatement}
@@ -18,7 +20,7 @@ use Rattle.tool_verifier.specs.FileAnswer.{IsFileAnswer, SameAnswer}
 use Rattle.tool_proof_files.specs.Files.{FileWithin, file_numbers}
 use Rattle.tool_proof_files.specs.Laws.Files.{file-grammar}
 use Rattle.batch_tool.specs.declared.command.Command.{Command}
-use Rattle.batch_tool.specs.declared.command.Command.TheVariants.{Prove, Verify}
+use Rattle.batch_tool.specs.declared.command.Command.TheVariants.{Prove, Verify, Demo}
 use Rattle.tool_verifier.specs.declared.status.Status.{Status}
 use Rattle.tool_verifier.specs.declared.status.Status.TheVariants.{Done, Refused, Usage, BadInput, ReadFault, WriteFault, OutOfMemory, TooLarge}
 
@@ -103,10 +105,15 @@ pub one_verify : OneFile → (bytes : List ℕ) (s t : Status) (x y : List ℕ) 
 one_verify one bytes s t x y a b =
     one-text (λ f. IsFileAnswer f.tables f.proof) file-grammar (λ f fits. one f.tables f.proof) bytes s t x y (verify-view bytes s x a) (verify-view bytes t y b)
 
+-- where a number has one
+abbrev pub OneDemo : Type 0
+OneDemo = (number : ℕ) (s t : Status) (x y : List ℕ) → IsDemoAnswer number s x → IsDemoAnswer number t y → SameAnswer s t x y
+
 -- one answer to a command
-pub one_command : OneJob → OneFile → (command : Command) (bytes : List ℕ) (s t : Status) (x y : List ℕ) → IsCommandAnswer command bytes s x → IsCommandAnswer command bytes t y → SameAnswer s t x y
-one_command jobs files Prove bytes s t x y a b = one_prove jobs bytes s t x y a b
-one_command jobs files Verify bytes s t x y a b = one_verify files bytes s t x y a b
+pub one_command : OneJob → OneFile → OneDemo → (command : Command) (bytes : List ℕ) (s t : Status) (x y : List ℕ) → IsCommandAnswer command bytes s x → IsCommandAnswer command bytes t y → SameAnswer s t x y
+one_command jobs files demos Prove bytes s t x y a b = one_prove jobs bytes s t x y a b
+one_command jobs files demos Verify bytes s t x y a b = one_verify files bytes s t x y a b
+one_command jobs files demos (Demo number) bytes s t x y a b = demos number s t x y a b
 
 -- words name one command at most
 not-both : (words : List (List ℕ)) → words ≡ codes "prove" ∷ [] → words ≡ codes "verify" ∷ [] → ⊥
@@ -114,11 +121,29 @@ not-both words p q =
     let e : length (codes "prove") ≡ length (codes "verify") = ap (λ l. length (get_or l 0 [])) (sym p ∙ q) in
     omega (arith, e)
 
+-- and a word that is alone is not followed by a number
+not-alone : (words : List (List ℕ)) (v w d : List ℕ) → words ≡ v ∷ [] → words ≡ w ∷ d ∷ [] → ⊥
+not-alone words v w d p q =
+    let e : 1 ≡ 2 = ap length (sym p ∙ q) in
+    omega (arith, e)
+
+-- two words name one number
+same-numbers : (words : List (List ℕ)) (m n : ℕ) → Names words (Demo m) → Names words (Demo n) → m ≡ n
+same-numbers words m n p q =
+    let few = p.0 in
+    let less = q.0 in
+    decimal_injective m n (omega (arith, few)) (omega (arith, less)) (ap (λ l. get_or l 1 []) (sym p.1 ∙ q.1))
+
 pub one_name : (words : List (List ℕ)) (c d : Command) → Names words c → Names words d → c ≡ d
 one_name words Prove Prove p q = refl
 one_name words Prove Verify p q = absurd (not-both words p q)
+one_name words Prove (Demo n) p q = absurd (not-alone words _ _ _ p q.1)
 one_name words Verify Prove p q = absurd (not-both words q p)
 one_name words Verify Verify p q = refl
+one_name words Verify (Demo n) p q = absurd (not-alone words _ _ _ p q.1)
+one_name words (Demo m) Prove p q = absurd (not-alone words _ _ _ q p.1)
+one_name words (Demo m) Verify p q = absurd (not-alone words _ _ _ q p.1)
+one_name words (Demo m) (Demo n) p q = ap (λ k. Demo k) (same-numbers words m n p q)
 
 abbrev WordsAnswer : List (List ℕ) → List ℕ → Status → List ℕ → Type 0
 WordsAnswer words bytes s x =
@@ -135,8 +160,8 @@ words-view words bytes OutOfMemory x a = inr (a.0, (a.1, a.2))
 words-view words bytes TooLarge x a = inr (a.0, (a.1, a.2))
 
 -- The words and the bytes of an input have one status and one text.
-pub one_answer : OneJob → OneFile → (words : List (List ℕ)) (bytes : List ℕ) (s t : Status) (x y : List ℕ) → IsAnswer words bytes s x → IsAnswer words bytes t y → (s ≡ t) × (x ≡ y)
-one_answer jobs files words bytes s t x y f g = elim (words-view words bytes s x f) [
+pub one_answer : OneJob → OneFile → OneDemo → (words : List (List ℕ)) (bytes : List ℕ) (s t : Status) (x y : List ℕ) → IsAnswer words bytes s x → IsAnswer words bytes t y → (s ≡ t) × (x ≡ y)
+one_answer jobs files demos words bytes s t x y f g = elim (words-view words bytes s x f) [
   | inl a ↦ elim (words-view words bytes t y g) [
     | inl b ↦ (a.0 ∙ sym b.0, a.1.1 ∙ sym b.1.1)
     | inr b ↦ absurd (a.1.0 (b.0, b.1.0))
@@ -145,6 +170,6 @@ one_answer jobs files words bytes s t x y f g = elim (words-view words bytes s x
     | inl b ↦ absurd (b.1.0 (a.0, a.1.0))
     | inr b ↦
         let P : Command → Type 0 = λ c. IsCommandAnswer c bytes t y in
-        one_command jobs files a.0 bytes s t x y a.1.1 (subst P (one_name words b.0 a.0 b.1.0 a.1.0) b.1.1)
+        one_command jobs files demos a.0 bytes s t x y a.1.1 (subst P (one_name words b.0 a.0 b.1.0 a.1.0) b.1.1)
   ]
 ]

@@ -1,0 +1,3 @@
+pub mod Demo
+pub mod DemoAnswer
+pub mod Laws

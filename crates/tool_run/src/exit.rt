@@ -1,0 +1,57 @@
+//! The exit status of a run.
+
+ghost use Rattle.std.specs.Prelude.{◌≡◌, ◌≤◌, map, string_bytes};
+ghost use Rattle.std.specs.Process.{exit_status};
+ghost use Rattle.tool_bytes.specs.Causes.{Rose};
+ghost use Rattle.tool_bytes.specs.Limits.{most_bytes};
+ghost use Rattle.tool_verifier.specs.Status.{status_number};
+ghost use Rattle.tool_run.specs.Exit.{status_told};
+ghost use Rattle.tool_run.specs.Run.{IsSilent, NamesReader, Outcome};
+
+use crate::commands::Commands;
+use crate::shell::run;
+use std::alloc::Global;
+use std::process::ExitCode;
+use tool_bytes::{Sink, Source};
+use tool_verifier::Status;
+
+/// The exit code of a status, which is its number (not in Plonky3).
+pub fn exit_code(status: Status) -> ExitCode
+    ensures number { exit_status result ≡ status_number status }
+    ensures told { status_told result ≡ status }
+{
+    ExitCode::from(status.number())
+}
+
+/// Does what [`run`] does, and answers the exit code of its status, with which the program ends
+/// (not in Plonky3).
+///
+/// What the clauses of `run` say of its status they say here of the status that the exit code tells.
+pub fn run_to_exit<C: Commands, S: Source, K: Sink>(
+    alloc: Global,
+    words: &[String],
+    source: &mut S,
+    sink: &mut K,
+) -> ExitCode
+    // The exit status is the number of the status of which the other clauses speak.
+    ensures exit { exit_status result ≡ status_number (status_told result) }
+
+    ensures outcome { Outcome C.program most_bytes (map string_bytes words.now)
+        (S.left source.old) (S.left source.new) (K.written sink.old) (K.written sink.new)
+        (status_told result) }
+
+    ensures reads_later { S.faults source.old ≤ S.faults source.new }
+    ensures writes_later { K.faults sink.old ≤ K.faults sink.new }
+    ensures read_fault { status_told result ≡ Status.ReadFault
+        → Rose (S.faults source.old) (S.faults source.new) }
+    ensures write_fault { status_told result ≡ Status.WriteFault
+        → Rose (K.faults sink.old) (K.faults sink.new) }
+    ensures no_read_fault { (status_told result ≡ Status.ReadFault → ⊥)
+        → S.faults source.new ≡ S.faults source.old }
+    ensures no_write_fault { (status_told result ≡ Status.WriteFault → ⊥)
+        → K.faults sink.new ≡ K.faults sink.old }
+    ensures unread { (NamesReader C.program (map string_bytes words.now) → ⊥) → source.new ≡ source.old }
+    ensures unwritten { IsSilent (status_told result) → sink.new ≡ sink.old }
+{
+    exit_code(run::<C, S, K>(alloc, words, source, sink))
+}
