@@ -1,7 +1,7 @@
 -- What the commands answer, from what their parts do.
-use Rattle.std.proofs.Common.{◌≡◌, ℕ, ◌<◌, ◌≤◌, List, [], ◌∷◌, length, get_or, refl, sym, ap, subst, arith, map, String, Global, Option, Result, Ok, Err}
+use Rattle.std.proofs.Common.{◌≡◌, ℕ, ◌<◌, ◌≤◌, List, [], ◌∷◌, length, get_or, refl, sym, ap, subst, arith, map, String, Global, Result, Ok, Err}
 use Rattle.std.proofs.lemmas.Bool.{false≢true}
-use Rattle.std.specs.Prelude.{string_bytes, codes, IfOk, IsErr, ⊤}
+use Rattle.std.specs.Prelude.{string_bytes, IfOk, IsErr}
 use Rattle.std.specs.declared.alloc.AllocError.{AllocError}
 use Rattle.tool_lines.specs.Texts.{line_text}
 use Rattle.p3_field.specs.declared.baby_bear.BabyBear.{BabyBear}
