@@ -1,5 +1,5 @@
 -- A program as its commands see it.
-use Rattle.std.specs.Prelude.{ℕ, List, Bool, ⊤}
+use Rattle.std.specs.Prelude.{ℕ, List, Bool, Option, MatchOption, ⊤}
 use Rattle.tool_verifier.specs.declared.status.Status.{Status}
 use Rattle.tool_verifier.specs.declared.status.Status.TheVariants.{Done, Refused, BadInput}
 
@@ -21,3 +21,7 @@ IsAnswerStatus other = ⊥
 -- each answer of a command has one of these
 abbrev pub AnswersOnly : {C : Type 0} → Program C → Type 0
 AnswersOnly {C} p = (command : C) (bytes : List ℕ) (status : Status) (text : List ℕ) → p.answers command bytes status text → IsAnswerStatus status
+
+-- what the reading of words answers: a command that they name, or none where they name none
+abbrev pub ReadsWords : {C : Type 0} → Program C → List (List ℕ) → Option C → Type 0
+ReadsWords {C} p words result = MatchOption result ((c : C) → p.names words c → ⊥) (λ c. p.names words c)

@@ -1,7 +1,7 @@
 //! The commands of a program.
 
-ghost use Rattle.std.specs.Prelude.{◌≡◌, List, ℕ, IfOk, MatchOption, map, string_bytes};
-ghost use Rattle.tool_run.specs.Program.{AnswersOnly, Program};
+ghost use Rattle.std.specs.Prelude.{◌≡◌, List, ℕ, IfOk, map, string_bytes};
+ghost use Rattle.tool_run.specs.Program.{AnswersOnly, Program, ReadsWords};
 
 use p3_field::Mem;
 use std::alloc::Global;
@@ -14,7 +14,7 @@ pub trait Commands: Sized + Drop {
 
     /// The command that these words name, if they name one.
     fn from_words(words: &[String]) -> Option<Self>
-        ensures { MatchOption result ((c : _) → program.names (map string_bytes words.now) c → ⊥) (λ c. program.names (map string_bytes words.now) c) };
+        ensures { ReadsWords program (map string_bytes words.now) result };
 
     /// Whether the command reads the input.
     fn reads_input(&self) -> bool

@@ -50,7 +50,8 @@ pub fn run_to_exit<C: Commands, S: Source, K: Sink>(
         → S.faults source.new ≡ S.faults source.old }
     ensures no_write_fault { (status_told result ≡ Status.WriteFault → ⊥)
         → K.faults sink.new ≡ K.faults sink.old }
-    ensures unread { (NamesReader C.program (map string_bytes words.now) → ⊥) → source.new ≡ source.old }
+    ensures unread { (NamesReader C.program (map string_bytes words.now) → ⊥)
+        → source.new ≡ source.old }
     ensures unwritten { IsSilent (status_told result) → sink.new ≡ sink.old }
 {
     exit_code(run::<C, S, K>(alloc, words, source, sink))

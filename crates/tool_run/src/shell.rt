@@ -14,8 +14,10 @@ use tool_verifier::Status;
 fn read_input<S: Source>(alloc: Global, reads: bool, source: &mut S) -> Result<Vec<u8>, InputError>
     ensures bytes { ReadsInput most_bytes reads (S.left source.old) (S.left source.new) result }
     ensures later { S.faults source.old ≤ S.faults source.new }
-    ensures fault { IsErrOf result InputError.ReadFault → Rose (S.faults source.old) (S.faults source.new) }
-    ensures no_fault { (IsErrOf result InputError.ReadFault → ⊥) → S.faults source.new ≡ S.faults source.old }
+    ensures fault { IsErrOf result InputError.ReadFault
+        → Rose (S.faults source.old) (S.faults source.new) }
+    ensures no_fault { (IsErrOf result InputError.ReadFault → ⊥)
+        → S.faults source.new ≡ S.faults source.old }
     ensures unread { reads ≡ false → source.new ≡ source.old }
 {
     if reads {
@@ -46,8 +48,10 @@ pub fn run<C: Commands, S: Source, K: Sink>(
     // The counts never fall, and a fault is answered only where one rose.
     ensures reads_later { S.faults source.old ≤ S.faults source.new }
     ensures writes_later { K.faults sink.old ≤ K.faults sink.new }
-    ensures read_fault { result ≡ Status.ReadFault → Rose (S.faults source.old) (S.faults source.new) }
-    ensures write_fault { result ≡ Status.WriteFault → Rose (K.faults sink.old) (K.faults sink.new) }
+    ensures read_fault { result ≡ Status.ReadFault
+        → Rose (S.faults source.old) (S.faults source.new) }
+    ensures write_fault { result ≡ Status.WriteFault
+        → Rose (K.faults sink.old) (K.faults sink.new) }
 
     // With another status no fault is passed over: the count is as it was.
     ensures no_read_fault { (result ≡ Status.ReadFault → ⊥)
