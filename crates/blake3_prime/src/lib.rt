@@ -12,7 +12,7 @@ mod half;
 pub mod meanings;
 mod places;
 mod random;
-mod reading;
+pub mod reading;
 mod rounds;
 mod writing;
 

@@ -1,4 +1,4 @@
-//! Words of the row as expressions.
+//! Words of the row as expressions (not in Plonky3, whose AIR reads them from its columns).
 ghost use Rattle.std.specs.Prelude.{◌≡◌, ℕ, ◌+◌, ◌*◌, ◌^◌, ◌<◌, ◌≤◌, List, [], ◌∷◌, IfOk, OnErr, IsOk, IsTrue, false, length, map};
 ghost use Rattle.air_core.specs.declared.cells.Cell.TheVariants.{Main as MainCell};
 ghost use Rattle.air_core.specs.Tree.{cell as cell_tree};
@@ -10,7 +10,7 @@ use air_core::{AirBuilder, Cell};
 use air_gadgets::pack_bits_le;
 use p3_field::Mem;
 
-// The cell of a column.
+/// The cell of a column.
 pub fn cell_at<AB: AirBuilder>(builder: &mut AB, column: usize) -> Mem<AB::Expr>
     requires { column < (AB.shape builder.old).main }
     ensures later { AB.later builder.old builder.new }
@@ -25,7 +25,7 @@ pub fn cell_at<AB: AirBuilder>(builder: &mut AB, column: usize) -> Mem<AB::Expr>
     })
 }
 
-// The two limbs from a column on.
+/// The two limbs from a column on.
 pub fn limbs_at<AB: AirBuilder>(builder: &mut AB, column: usize) -> Mem<[AB::Expr; 2]>
     requires wide { 9168 ≤ (AB.shape builder.old).main }
     requires within { column + 2 ≤ 9168 }
@@ -43,7 +43,7 @@ pub fn limbs_at<AB: AirBuilder>(builder: &mut AB, column: usize) -> Mem<[AB::Exp
     Ok(cells)
 }
 
-// The 32 bits from a column on.
+/// The 32 bits from a column on.
 pub fn bits_at<AB: AirBuilder>(builder: &mut AB, column: usize) -> Mem<[AB::Expr; 32]>
     requires wide { 9168 ≤ (AB.shape builder.old).main }
     requires within { column + 32 ≤ 9168 }
@@ -61,7 +61,7 @@ pub fn bits_at<AB: AirBuilder>(builder: &mut AB, column: usize) -> Mem<[AB::Expr
     Ok(cells)
 }
 
-// The limbs of the word whose 32 bits stand from a column on.
+/// The limbs of the word whose 32 bits stand from a column on.
 pub fn packed_at<AB: AirBuilder>(builder: &mut AB, column: usize) -> Mem<[AB::Expr; 2]>
     requires wide { 9168 ≤ (AB.shape builder.old).main }
     requires within { column + 32 ≤ 9168 }

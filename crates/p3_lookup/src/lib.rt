@@ -32,3 +32,4 @@ pub use gadget::{LogUpGadget, LookupProtocol};
 pub use kind::Kind;
 pub use lookup::{Lookup, Lookups};
 pub use terminal::{GenerateError, LookupError, LookupTerminal};
+pub use values::sent_value;

@@ -42,6 +42,15 @@ fn value_in<'a, F: Field>(nodes: &[Node<F>], place: usize, row: &RowValues<'a, F
     }
 }
 
+/// The value of a sendable expression at a row, in the base field (not in Plonky3).
+pub fn sent_value<'a, F: Field>(x: &SymbolicExpression<F>, row: &RowValues<'a, F, F>) -> F
+    requires reads { ReadsSendable (row_shape row.now) (tree_of x.now) }
+    ensures { result ≡ tree_value_at_row F.ring F.ring (λ x. x) row.now (tree_of x.now) }
+{
+    let nodes = x.nodes();
+    value_in(nodes, nodes.len() - 1, row)
+}
+
 // The value of an expression, in the extension.
 fn embedded_value<'a, F: Field, EF: ExtensionField<F>>(
     x: &SymbolicExpression<F>,
@@ -50,8 +59,7 @@ fn embedded_value<'a, F: Field, EF: ExtensionField<F>>(
     requires reads { ReadsSendable (row_shape row.now) (tree_of x.now) }
     ensures { result ≡ embedded_at F.ring EF.embed row.now (tree_of x.now) }
 {
-    let nodes = x.nodes();
-    EF::from_base(value_in(nodes, nodes.len() - 1, row))
+    EF::from_base(sent_value(x, row))
 }
 
 // The sum of the values of a tuple's e_k times beta^k.

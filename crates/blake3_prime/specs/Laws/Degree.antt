@@ -26,7 +26,7 @@ module _ {F : Type 0} (r : Ring F) (n : ℕ) where
   from_degree : (column k : ℕ) → AtMost 1 (from_column column k)
   from_degree column k = omega arith
 
-  packed_degree : (d : ℕ) (t : ℕ → Tree F) (k m : ℕ) → ((i : ℕ) → AtMost d (t i)) → AtMost d (packed_bits r t k m)
+  pub packed_degree : (d : ℕ) (t : ℕ → Tree F) (k m : ℕ) → ((i : ℕ) → AtMost d (t i)) → AtMost d (packed_bits r t k m)
   unfolding packed_bits
   packed_degree d t k zero h = omega arith
   packed_degree d t k (suc m) h = omega (arith, h k, packed_degree d t (suc k) m h)

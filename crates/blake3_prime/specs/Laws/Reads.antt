@@ -47,12 +47,12 @@ module _ {F : Type 0} (r : Ring F) (P : Cell → Type 0) (Q : ExtCell → Type 0
   reads_from : (column n : ℕ) → column + n ≤ 9168 → (k : ℕ) → k < n → R (from_column column k)
   reads_from column n h k lt = main (column + k) (omega (arith, h, lt))
 
-  reads_packed : (t : ℕ → Tree F) (k n : ℕ) → ((i : ℕ) → k ≤ i → i < k + n → R (t i)) → R (packed_bits r t k n)
+  pub reads_packed : (t : ℕ → Tree F) (k n : ℕ) → ((i : ℕ) → k ≤ i → i < k + n → R (t i)) → R (packed_bits r t k n)
   unfolding packed_bits
   reads_packed t k zero h = tt
   reads_packed t k (suc n) h = (h k (omega arith) (omega arith), (tt, reads_packed t (suc k) n (λ i a b. h i (omega (arith, a)) (omega (arith, b)))))
 
-  reads_limbs : (t : ℕ → Tree F) → All32 t → All2 (packed_limbs r t)
+  pub reads_limbs : (t : ℕ → Tree F) → All32 t → All2 (packed_limbs r t)
   reads_limbs t h k lt = reads_packed t (16 * k) 16 (λ i a b. h i (omega (arith, b, lt)))
 
   two : (x y : Tree F) → R x → R y → All R (x ∷ y ∷ [])

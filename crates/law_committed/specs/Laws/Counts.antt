@@ -24,7 +24,7 @@ use Rattle.law_committed.specs.Laws.Decided.{items_decided}
 use Rattle.law_committed.specs.Laws.IdentityDegree.{identity_degree}
 
 -- fewer roots than the bound of the degree, for a polynomial that isn't zero
-few_roots_in : {E : Type 0} (s : Ring E) → RingLaws s → NoZeroDivisors s → (m : ℕ) (xs g : List E) → AreDistinct s.zero xs → DegreeBelow s m g
+pub few_roots_in : {E : Type 0} (s : Ring E) → RingLaws s → NoZeroDivisors s → (m : ℕ) (xs g : List E) → AreDistinct s.zero xs → DegreeBelow s m g
     → RootsAt s (length xs) (λ i. get_or xs i s.zero) g → (IsZeroPoly s g → ⊥) → length xs < m
 few_roots_in s M N m xs g apart d roots nz = elim (cases_lt (length xs) m) [
   | inl l ↦ l

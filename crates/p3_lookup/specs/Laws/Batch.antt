@@ -98,13 +98,13 @@ module _ {F : Type 0} (Q : ℕ → ℕ → Type 0) where
   flat_widths f h [] = λ k d lt. absurd (omega (arith, lt))
   flat_widths f h (x ∷ xs) = All-append HasWidth (f x) (flat_map f xs) (h x) (flat_widths f h xs)
 
-  table_widths : (s : Sender F) → ((k : ℕ) (d : LookupData F) → k < length s.lookups → All (λ t. Q (s.bus k) (length t)) (get_or s.lookups k d).tuples) → All HasWidth (table_messages s)
+  pub table_widths : (s : Sender F) → ((k : ℕ) (d : LookupData F) → k < length s.lookups → All (λ t. Q (s.bus k) (length t)) (get_or s.lookups k d).tuples) → All HasWidth (table_messages s)
   table_widths s h = flat_widths (λ i. messages_from (s.value i) s.bus 0 s.lookups) (λ i. row_widths (s.value i) s.bus 0 s.lookups at) (tabulate s.rows (λ i. i))
     where
       at : (k : ℕ) (d : LookupData F) → k < length s.lookups → All (λ t. Q (s.bus (0 + k)) (length t)) (get_or s.lookups k d).tuples
       at k d lt = let q : k ≡ 0 + k = omega arith in subst (λ (j : ℕ). All (λ t. Q (s.bus j) (length t)) (get_or s.lookups k d).tuples) q (h k d lt)
 
-  senders_widths : (bus : ℕ → ℕ → ℕ) (t : ℕ) (ts : List (SendingTable F))
+  pub senders_widths : (bus : ℕ → ℕ → ℕ) (t : ℕ) (ts : List (SendingTable F))
       → ((k n : ℕ) (x : SendingTable F) (d : LookupData F) → k < length ts → n < length (get_or ts k x).lookups → All (λ u. Q (bus (t + k) n) (length u)) (get_or (get_or ts k x).lookups n d).tuples)
       → All HasWidth (batch_messages (senders_from bus t ts))
   senders_widths bus t [] h = λ k d lt. absurd (omega (arith, lt))

@@ -41,14 +41,14 @@ module _ {F E : Type 0} (e : Ring E) (L : RingLaws e) (inv : E → E) (embed : F
   abbrev pub weights : List (Message F) → E
   weights ms = sum_of e (map weight ms)
 
-  weights_append : (xs ys : List (Message F)) → weights (xs ++ ys) ≡ e.add (weights xs) (weights ys)
+  pub weights_append : (xs ys : List (Message F)) → weights (xs ++ ys) ≡ e.add (weights xs) (weights ys)
   weights_append xs ys = ap (sum_of e) (map-append weight xs ys) ∙ sum_append e L (map weight xs) (map weight ys)
 
   module _ (challenges : List E) (v : Tree F → F) where
     abbrev value : Tree F → E
     value t = embed (v t)
 
-    lookup_weights : (b n : ℕ) → get_or challenges (2 * n) e.zero ≡ base b → get_or challenges (2 * n + 1) e.zero ≡ beta → (ss : List (Sent (Tree F)))
+    pub lookup_weights : (b n : ℕ) → get_or challenges (2 * n) e.zero ≡ base b → get_or challenges (2 * n + 1) e.zero ≡ beta → (ss : List (Sent (Tree F)))
         → fraction e inv (map (λ s. term e (get_or challenges (2 * n) e.zero) (get_or challenges (2 * n + 1) e.zero) (map_sent value s)) ss) ≡ weights (map (message v b) ss)
     lookup_weights b n hb hc [] = refl
     lookup_weights b n hb hc (s ∷ ss) =
@@ -58,7 +58,7 @@ module _ {F E : Type 0} (e : Ring E) (L : RingLaws e) (inv : E → E) (embed : F
         ∙ ap (denominator e (base b) beta) (sym (map-map embed v s.tuple)) in
         cc (same, lookup_weights b n hb hc ss)
 
-    row_weights : (bus : ℕ → ℕ) (n : ℕ) (ls : List (LookupData F))
+    pub row_weights : (bus : ℕ → ℕ) (n : ℕ) (ls : List (LookupData F))
         → ((k : ℕ) → k < length ls → (get_or challenges (2 * (n + k)) e.zero ≡ base (bus (n + k))) × (get_or challenges (2 * (n + k) + 1) e.zero ≡ beta))
         → sum_of e (map (fraction e inv) (terms_from e challenges value n ls)) ≡ weights (messages_from v bus n ls)
     row_weights bus n [] h = refl
@@ -72,7 +72,7 @@ module _ {F E : Type 0} (e : Ring E) (L : RingLaws e) (inv : E → E) (embed : F
           weights_append (map (message v (bus n)) (sent l)) (messages_from v bus (suc n) ls),
         )
 
-  rows_weights : (n : ℕ) (t : ℕ → ℕ) (ms : ℕ → List (Message F)) → total e n (λ i. weights (ms (t i))) ≡ weights (flat_map ms (tabulate n t))
+  pub rows_weights : (n : ℕ) (t : ℕ → ℕ) (ms : ℕ → List (Message F)) → total e n (λ i. weights (ms (t i))) ≡ weights (flat_map ms (tabulate n t))
   rows_weights zero t ms = refl
   rows_weights (suc n) t ms =
       ap (e.add (weights (ms (t 0)))) (rows_weights n (λ i. t (suc i)) ms)

@@ -62,12 +62,12 @@ module _ {F E : Type 0} (f : Ring F) (e : Ring E) (L : RingLaws e) (inv : E → 
       abbrev values : List (Sent (Tree F)) → List (Term E)
       values ss = map (λ s. term e base beta (map_sent v s)) ss
 
-      eval_tree-common : (ss : List (Sent (Tree F))) → All (AgreeOnSent v (eval_tree r)) ss → eval_tree r (common (trees f) (map (term_tree f (base_tree n) (beta_tree n)) ss)) ≡ common e (values ss)
+      pub eval_tree-common : (ss : List (Sent (Tree F))) → All (AgreeOnSent v (eval_tree r)) ss → eval_tree r (common (trees f) (map (term_tree f (base_tree n) (beta_tree n)) ss)) ≡ common e (values ss)
       eval_tree-common [] h = H.keeps_one
       eval_tree-common (s ∷ ss) h =
           cc (eval_tree-denominator v base beta n hb hc s (All-head (AgreeOnSent v (eval_tree r)) s ss h), eval_tree-common ss (All-tail (AgreeOnSent v (eval_tree r)) s ss h))
 
-      eval_tree-numerator : (ss : List (Sent (Tree F))) → All (AgreeOnSent v (eval_tree r)) ss → eval_tree r (numerator (trees f) (map (term_tree f (base_tree n) (beta_tree n)) ss)) ≡ numerator e (values ss)
+      pub eval_tree-numerator : (ss : List (Sent (Tree F))) → All (AgreeOnSent v (eval_tree r)) ss → eval_tree r (numerator (trees f) (map (term_tree f (base_tree n) (beta_tree n)) ss)) ≡ numerator e (values ss)
       eval_tree-numerator [] h = H.keeps_zero
       eval_tree-numerator (s ∷ ss) h =
           let here = All-head (AgreeOnSent v (eval_tree r)) s ss h in
@@ -109,7 +109,7 @@ module _ {F E : Type 0} (f : Ring F) (e : Ring E) (L : RingLaws e) (inv : E → 
         (λ j lt. let e : suc (suc n + j) ≡ suc (n + suc j) = omega arith in
         ap (λ k. at_ext (Permutation false k)) e ∙ x (suc j) (omega (arith, lt))))
 
-    eval_tree-sum : (m : ℕ) → eval_tree r (sum_tree f m) ≡ total e m (λ j. at_ext (Permutation false (suc j)))
+    pub eval_tree-sum : (m : ℕ) → eval_tree r (sum_tree f m) ≡ total e m (λ j. at_ext (Permutation false (suc j)))
     eval_tree-sum zero = H.keeps_zero
     eval_tree-sum (suc m) =
         let t = λ (j : ℕ). at_ext (Permutation false (suc j)) in
