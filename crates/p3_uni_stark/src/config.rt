@@ -1,5 +1,6 @@
 //! What a prover and a verifier agree on: fields, challenger, commitment scheme and grinding.
 ghost use Rattle.std.specs.Prelude.{◌≡◌, ℕ, ◌<◌, ◌^◌, cond};
+ghost use Rattle.transcript_version.specs.declared.TranscriptVersion.{TranscriptVersion as VersionOf};
 
 use commit_core::{CosetPcs, Pcs, PolynomialSpace, UnivariateStarkPcs};
 use p3_challenger::{CanObserve, CanSample, CanSampleBits, GrindingChallenger};
@@ -44,7 +45,7 @@ pub trait StarkGenericConfig {
     ghost ood_bits: { Self → ℕ };
 
     // the transcript's version
-    ghost version: { Self → TranscriptVersion };
+    ghost version: { Self → VersionOf };
 
     /// The commitment scheme.
     fn pcs(&self) -> &Self::Pcs
