@@ -3,9 +3,10 @@ use Rattle.std.specs.Prelude.{ℕ, Bool, cond, List}
 use Rattle.p3_field.specs.Field.{TwoAdic, Extension}
 use Rattle.p3_field.specs.Domain.{CosetData}
 use Rattle.p3_challenger.specs.Script.{ChallengerOf}
+use Rattle.transcript_version.specs.declared.TranscriptVersion.{TranscriptVersion}
 use Rattle.commit_core.specs.Claims.{CommitmentClaim}
 
--- Fields, challenger and bits of grinding. The order is that of the field F, whose subgroups have sizes up to 2^two_adicity. Of the backend: whether it
+-- Fields, challenger, bits of grinding and the transcript's version. The order is that of the field F, whose subgroups have sizes up to 2^two_adicity. Of the backend: whether it
 -- masks what it commits to, and the logarithms of the fewest and of the most rows of a trace.
 pub record Setting (S F E C : Type 0) : Type 0 where
   pub field : TwoAdic F
@@ -19,6 +20,7 @@ pub record Setting (S F E C : Type 0) : Type 0 where
   pub log_max : ℕ
   pub lookup_bits : ℕ
   pub ood_bits : ℕ
+  pub version : TranscriptVersion
 
 -- by how many bits the backend masks: one where it does, else zero
 abbrev pub masks : {S F E C : Type 0} → Setting S F E C → ℕ

@@ -16,7 +16,7 @@ use p3_uni_stark::{Commitment, StarkGenericConfig};
 
 /// A configuration as plain data (not in Plonky3). Each configuration has it.
 pub trait Settings: StarkGenericConfig {
-    // the fields, the challenger, the backend's bounds, and the bits of grinding
+    // the fields, the challenger, the backend's bounds, the bits of grinding, and the transcript's version
     ghost setting: { Self → Setting Self.Challenger Self.Val Self.Challenge Self.Pcs.Commitment };
 
     // the backend's verifier
@@ -43,6 +43,7 @@ impl<SC: StarkGenericConfig> Settings for SC {
       log_max = SC.Pcs.log_max (SC.pcs_of config);
       lookup_bits = SC.lookup_bits config;
       ood_bits = SC.ood_bits config;
+      version = SC.version config;
     } };
 
     ghost backend = { λ config. record { opens = SC.Pcs.opens (SC.pcs_of config); fault = SC.Pcs.fault (SC.pcs_of config) } };

@@ -14,9 +14,12 @@ use Rattle.p3_challenger.specs.declared.script.StepValue.TheVariants.{Marker, Op
 use Rattle.p3_challenger.specs.declared.script.Length.{Length}
 use Rattle.p3_challenger.specs.declared.script.Length.TheVariants.{None as NoLength, Scalar, Fixed}
 use Rattle.p3_challenger.specs.declared.script.Interaction.{Interaction}
+use Rattle.transcript_version.specs.declared.TranscriptVersion.{TranscriptVersion}
+use Rattle.transcript_version.specs.declared.TranscriptVersion.TheVariants.{V1, V2}
 
 -- the shape of a batch: per instance the widths of its trace and preprocessed columns and its number of public values; which
--- commitments there are, how many instances have lookups, and the bits of both grindings
+-- commitments there are, how many instances have lookups, and the bits of both grindings; the version, and in version 2 the number of lookups
+-- of each instance
 pub record BatchShapeData : Type 0 where
   pub trace_widths : List ℕ
   pub public_value_counts : List ℕ
@@ -26,6 +29,8 @@ pub record BatchShapeData : Type 0 where
   pub lookup_pow_bits : ℕ
   pub has_randomization_commitment : Bool
   pub ood_pow_bits : ℕ
+  pub version : TranscriptVersion
+  pub lookup_counts : List ℕ
 
 -- the typed steps; `dimension` is that of the challenge field over the base field
 abbrev pub atomic : InteractionKind → StepValue → List ℕ → Length → Interaction
@@ -126,12 +131,23 @@ module _ (d : ℕ) (s : BatchShapeData) where
   unfoldable pub pattern : List Interaction
   pattern = map (λ _. degree_bits_step d) s.trace_widths ++ from_main
 
--- the instance label: the number of instances, then each trace width, then each preprocessed width
+-- a version's byte
+abbrev pub version_byte : TranscriptVersion → ℕ
+version_byte V1 = 1
+version_byte V2 = 2
+
+-- what the instance label has behind the widths: in version 2 each instance's number of lookups
+abbrev pub counts_label : TranscriptVersion → List ℕ → List ℕ
+counts_label V1 counts = []
+counts_label V2 counts = flat_map eight_bytes counts
+
+-- the instance label: the number of instances, then each trace width, each preprocessed width, and what the version has behind them
 unfoldable pub instance_label : BatchShapeData → List ℕ
-instance_label s = eight_bytes (length s.trace_widths) ++ flat_map eight_bytes s.trace_widths ++ flat_map eight_bytes s.preprocessed_widths
+instance_label s =
+    eight_bytes (length s.trace_widths) ++ flat_map eight_bytes s.trace_widths ++ flat_map eight_bytes s.preprocessed_widths ++ counts_label s.version s.lookup_counts
 
 unfoldable pub separator : ℕ → BatchShapeData → Separator
-separator d s = record { version = 1; name = codes "p3-batch-stark"; steps = pattern d s; instance = instance_label s }
+separator d s = record { version = version_byte s.version; name = codes "p3-batch-stark"; steps = pattern d s; instance = instance_label s }
 
 -- what statement and proof give to the steps; a lookup's parts are there where instances have lookups
 pub record Given (F E M : Type 0) : Type 0 where

@@ -2,6 +2,7 @@
 pub mod Phases
 pub mod Matched
 pub mod Draws
+pub mod Encoded
 pub mod Shapes
 pub mod Fits
 pub mod Runs

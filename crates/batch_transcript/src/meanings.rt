@@ -15,10 +15,10 @@ use crate::challenger::BatchChallenger;
 use p3_challenger::{CanObserve, CanSample, GrindingChallenger};
 use p3_field::{BasedVectorSpace, ExtensionField, Field, PrimeField64, RingCore};
 
-/// Two shapes within the separator's bounds have one pattern and one instance label exactly if they are equal, but for the bits of the
+/// The separators of two shapes of batches with numbers below 2^64 have one encoding exactly if the shapes are equal, but for the bits of the
 /// lookup grinding where no instance has lookups. `==` of shapes is true exactly where they are equal.
 pub fn shapes_are_told()
-    ensures told { (d : ℕ) → TellsShapes d }
+    ensures told { (d : ℕ) (s : BatchShapeData) → TellsShapes d s }
     ensures equality { (s t : BatchShapeData) → (shape_eq s t ≡ true) ↔ (s ≡ t) }
 {}
 

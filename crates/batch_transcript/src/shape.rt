@@ -2,7 +2,8 @@
 
 ghost use Rattle.std.specs.Prelude.{◌≡◌, ℕ, List, [], ◌∷◌, ◌++◌, map, length, replicate, IfOk, OnOk, codes, flat_map};
 ghost use Rattle.p3_challenger.specs.Separator.{eight_bytes};
-ghost use Rattle.batch_transcript.specs.BatchScript.{atomic, is_positive, only_with, pair_steps, permutation_steps, closing_steps, degree_bits_step, public_values_step, opening_step as bracket, pattern, separator, instance_label};
+ghost use Rattle.batch_transcript.specs.Shapes.{TellsShapes};
+ghost use Rattle.batch_transcript.specs.BatchScript.{atomic, is_positive, only_with, pair_steps, permutation_steps, closing_steps, degree_bits_step, public_values_step, opening_step as bracket, pattern, separator, instance_label, version_byte, counts_label};
 
 use p3_challenger::{
     DomainSeparator, Hierarchy, Interaction, InteractionKind, InteractionPattern, Label, Length,
@@ -11,6 +12,7 @@ use p3_challenger::{
 use p3_field::{BasedVectorSpace, ExtensionField, Field, Mem};
 use std::alloc::Global;
 use std::marker::Model;
+use transcript_version::TranscriptVersion;
 
 /// The protocol's name.
 const NAME: &[u8] = b"p3-batch-stark";
@@ -224,6 +226,10 @@ pub struct BatchShape {
     pub has_randomization_commitment: bool,
     /// The bits of the grinding before zeta.
     pub ood_pow_bits: usize,
+    /// The transcript's version (not in Plonky3, as the next).
+    pub version: TranscriptVersion,
+    /// The number of lookups of each instance; in version 1 empty.
+    pub lookup_counts: Vec<usize>,
 }
 
 impl Model for BatchShape {
@@ -240,6 +246,8 @@ impl Model for BatchShape {
       lookup_pow_bits = s.lookup_pow_bits;
       has_randomization_commitment = s.has_randomization_commitment;
       ood_pow_bits = s.ood_pow_bits;
+      version = s.version;
+      lookup_counts = s.lookup_counts.items;
     } };
 }
 
@@ -260,7 +268,9 @@ impl PartialEq for BatchShape {
                             && (self.lookup_pow_bits == other.lookup_pow_bits
                                 && (self.has_randomization_commitment
                                     == other.has_randomization_commitment
-                                    && self.ood_pow_bits == other.ood_pow_bits))))))
+                                    && (self.ood_pow_bits == other.ood_pow_bits
+                                        && (self.version == other.version
+                                            && self.lookup_counts == other.lookup_counts))))))))
     }
 }
 
@@ -284,6 +294,8 @@ impl BatchShape {
             lookup_pow_bits: self.lookup_pow_bits,
             has_randomization_commitment: self.has_randomization_commitment,
             ood_pow_bits: self.ood_pow_bits,
+            version: self.version,
+            lookup_counts: self.lookup_counts.to_vec(alloc)?,
         })
     }
 
@@ -344,21 +356,24 @@ impl BatchShape {
         InteractionPattern::new(alloc, self.steps(alloc, EF::DIMENSION)?)
     }
 
-    /// The separator of a batch of this shape.
+    /// The separator of a batch of this shape. With numbers below 2^64, two shapes of batches have one encoding exactly if they are equal,
+    /// but for the bits of the lookup grinding where no instance has lookups. So the encodings of two versions are never equal.
     pub fn domain_separator<F: Field, EF: ExtensionField<F>>(
         &self,
         alloc: Global,
     ) -> Mem<DomainSeparator>
-        ensures { IfOk result (λ s. s ≡ separator EF.DIMENSION self.now) }
+        ensures value { IfOk result (λ s. s ≡ separator EF.DIMENSION self.now) }
+        ensures tells { TellsShapes EF.DIMENSION self.now }
     {
         let pattern = self.pattern::<F, EF>(alloc)?;
-        let mut separator = DomainSeparator::new(alloc, 1, NAME, pattern)?;
+        let version = version_number(self.version);
+        let mut separator = DomainSeparator::new(alloc, version, NAME, pattern)?;
         let label = self.label(alloc)?;
         separator.instance(&label)?;
         Ok(separator)
     }
 
-    /// The instance label: the number of instances, each trace width, each preprocessed width.
+    /// The instance label: the number of instances, each trace width, each preprocessed width; in version 2 then each number of lookups.
     fn label(&self, alloc: Global) -> Mem<Vec<u8>>
         ensures { IfOk result (λ v. v.items ≡ instance_label self.now) }
     {
@@ -366,7 +381,28 @@ impl BatchShape {
         push_eight_bytes(&mut label, self.trace_widths.len())?;
         push_each_eight_bytes(&mut label, &self.trace_widths)?;
         push_each_eight_bytes(&mut label, &self.preprocessed_widths)?;
+        push_counts(&mut label, self.version, &self.lookup_counts)?;
         Ok(label)
+    }
+}
+
+/// The number by which a separator names a version.
+fn version_number(version: TranscriptVersion) -> u8
+    ensures { result ≡ version_byte version }
+{
+    match version {
+        TranscriptVersion::V1 => 1,
+        TranscriptVersion::V2 => 2,
+    }
+}
+
+/// Appends each number of lookups as 8 big-endian bytes, where the version has them.
+fn push_counts(label: &mut Vec<u8>, version: TranscriptVersion, counts: &[usize]) -> Mem<()>
+    ensures { OnOk result (label.new.items ≡ label.old.items ++ counts_label version counts.now) }
+{
+    match version {
+        TranscriptVersion::V1 => Ok(()),
+        TranscriptVersion::V2 => push_each_eight_bytes(label, counts),
     }
 }
 

@@ -7,10 +7,12 @@ use p3_challenger::{
     VerifierState,
 };
 use p3_field::{BabyBear, BasedVectorSpace, Mem, PrimeCore64, QuarticExtension};
+use p3_uni_stark::TranscriptVersion;
 use std::alloc::Global;
 
 /// The shape of a word with `/` between its lists: the widths of the traces; the numbers of public values; the preprocessed widths; and
 /// whether there are commitments to preprocessed columns and of a randomization, how many instances have lookups, and the bits of both grindings.
+/// A further list has the numbers of lookups of a shape of version 2.
 pub fn shape_of(alloc: Global, word: &str) -> Mem<BatchShape> {
     let mut lists = word.split('/');
     let trace_widths = numbers(alloc, lists.next().unwrap_or(""))?;
@@ -26,6 +28,10 @@ pub fn shape_of(alloc: Global, word: &str) -> Mem<BatchShape> {
         [a, b, c, d, e] => [a, b, c, d, e],
         _ => [0; 5],
     };
+    let (version, lookup_counts) = match lists.next() {
+        Some(counts) => (TranscriptVersion::V2, numbers(alloc, counts)?),
+        None => (TranscriptVersion::V1, Vec::new(alloc)),
+    };
     Ok(BatchShape {
         trace_widths,
         public_value_counts,
@@ -35,6 +41,8 @@ pub fn shape_of(alloc: Global, word: &str) -> Mem<BatchShape> {
         lookup_pow_bits: lookup_bits,
         has_randomization_commitment: randomization == 1,
         ood_pow_bits: ood_bits,
+        version,
+        lookup_counts,
     })
 }
 

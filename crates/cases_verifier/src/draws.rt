@@ -13,6 +13,7 @@ use batch_statement::{BatchVerificationError, PreprocessedTraces, SharedData};
 use p3_challenger::{CanSample, Sha256Challenger};
 use p3_field::{BabyBear, FieldCore, Mem, PrimeCore64, QuarticExtension, RingCore};
 use p3_lookup::{Kind, Lookup, Lookups};
+use p3_uni_stark::TranscriptVersion;
 use plain_pcs::PlainError;
 use std::alloc::Global;
 use verifier_draws::{Drawn, check_draws};
@@ -112,7 +113,7 @@ fn worked_common(alloc: Global, whole: bool) -> Mem<Shared> {
     Ok(Shared::new(Some(traces), lookups))
 }
 
-// What is drawn along a proof of these tables with so many bits to grind, after the checks of its shape.
+// What is drawn in a version along a proof of these tables with so many bits to grind, after the checks of its shape.
 fn drawn(
     alloc: Global,
     airs: &[Plain],
@@ -120,6 +121,7 @@ fn drawn(
     common: &Shared,
     proof: &SmallProof,
     bounds: ShapeBounds,
+    version: TranscriptVersion,
     lookup_bits: usize,
     ood_bits: usize,
 ) -> Answer
@@ -139,6 +141,7 @@ fn drawn(
             proof,
             bounds,
             Sha256Challenger::new(),
+            version,
             lookup_bits,
             ood_bits,
         ),
@@ -160,10 +163,16 @@ fn drawn_text(alloc: Global, drawn: Drawn<QuarticExtension, Sha256Challenger>) -
     Ok(out)
 }
 
-/// What is drawn along a proof of the worked batch, two tables without constraints, with so many bits to grind, or the refusal's text.
+/// What is drawn along a proof of the worked batch, two tables without constraints, with so many bits to grind, in version 2 where a third number
+/// stands behind these, or the refusal's text.
 pub fn draws(alloc: Global, name: &str, head: &[u64], numbers: &[u64]) -> Mem<String> {
-    let [lookup_bits, ood_bits] = head else {
+    let [lookup_bits, ood_bits, version @ ..] = head else {
         return bad_case(alloc);
+    };
+    let version = if version.is_empty() {
+        TranscriptVersion::V1
+    } else {
+        TranscriptVersion::V2
     };
     let (Some(lookup_bits), Some(ood_bits)) = (few_bits(*lookup_bits), few_bits(*ood_bits)) else {
         return bad_case(alloc);
@@ -197,6 +206,7 @@ pub fn draws(alloc: Global, name: &str, head: &[u64], numbers: &[u64]) -> Mem<St
         &common,
         &proof,
         bounds,
+        version,
         lookup_bits,
         ood_bits,
     ) {

@@ -144,7 +144,7 @@ module _ {S F E C : Type 0} (c : Setting S F E C) (p : Prover F E C) (s : Statem
     pub each : (i : ℕ) → i < length s.tables → height (traced_at s traces degree_bits i).trace ≡ 2 ^ log_rows c (traced_at s traces degree_bits i)
 
   abbrev pub shape : BatchShapeData
-  shape = script_shape c.zk c.lookup_bits c.ood_bits s
+  shape = script_shape c.version c.zk c.lookup_bits c.ood_bits s
 
   -- The commitment to the traces, each on the rows' domain; and the state after it, the public values and the preprocessed commitment
   abbrev pub honest_main_commitment : C

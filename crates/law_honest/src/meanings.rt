@@ -31,20 +31,20 @@ pub fn an_honest_proofs_draws_are_its_own<C, F, E, Com, Opening>()
     ensures challenges { (c : Setting C F E Com) (p : Prover F E Com) (s : Statement F Com) (traces : List (Rows F)) (degree_bits : List ℕ) (lookup_witness : Option F)
         (ood_witness : F) (opening : Opening) (i : ℕ)
         → table_challenges c.extension.ring
-        (drawn c.challenger c.field.ring c.extension.ring c.extension.dimension c.initial c.zk c.lookup_bits c.ood_bits s
+        (drawn c.challenger c.field.ring c.extension.ring c.extension.dimension c.initial c.version c.zk c.lookup_bits c.ood_bits s
         (honest_proof c p s traces degree_bits lookup_witness ood_witness opening)) s i
         ≡ challenges_at c p s traces degree_bits lookup_witness i }
     ensures alpha { (c : Setting C F E Com) (p : Prover F E Com) (s : Statement F Com) (traces : List (Rows F)) (degree_bits : List ℕ) (lookup_witness : Option F) (ood_witness : F) (opening : Opening)
-        → (drawn c.challenger c.field.ring c.extension.ring c.extension.dimension c.initial c.zk c.lookup_bits c.ood_bits s
+        → (drawn c.challenger c.field.ring c.extension.ring c.extension.dimension c.initial c.version c.zk c.lookup_bits c.ood_bits s
         (honest_proof c p s traces degree_bits lookup_witness ood_witness opening)).alpha
         ≡ alpha c p s traces degree_bits lookup_witness }
     ensures zeta { (c : Setting C F E Com) (p : Prover F E Com) (s : Statement F Com) (traces : List (Rows F)) (degree_bits : List ℕ) (lookup_witness : Option F) (ood_witness : F) (opening : Opening)
-        → (drawn c.challenger c.field.ring c.extension.ring c.extension.dimension c.initial c.zk c.lookup_bits c.ood_bits s
+        → (drawn c.challenger c.field.ring c.extension.ring c.extension.dimension c.initial c.version c.zk c.lookup_bits c.ood_bits s
         (honest_proof c p s traces degree_bits lookup_witness ood_witness opening)).zeta
         ≡ zeta c p s traces degree_bits lookup_witness ood_witness }
     ensures opening { (c : Setting C F E Com) (p : Prover F E Com) (s : Statement F Com) (traces : List (Rows F)) (degree_bits : List ℕ) (lookup_witness : Option F)
         (ood_witness : F) (opening : Opening)
-        → (drawn c.challenger c.field.ring c.extension.ring c.extension.dimension c.initial c.zk c.lookup_bits c.ood_bits s
+        → (drawn c.challenger c.field.ring c.extension.ring c.extension.dimension c.initial c.version c.zk c.lookup_bits c.ood_bits s
         (honest_proof c p s traces degree_bits lookup_witness ood_witness opening)).opening
         ≡ opening_state c p s traces degree_bits lookup_witness ood_witness }
 {}
@@ -55,7 +55,7 @@ pub fn an_honest_proofs_grinding_is_taken<C, F, E, Com, Opening, R>()
     ensures { (c : Setting C F E Com) (p : Prover F E Com) (s : Statement F Com) (traces : List (Rows F)) (degree_bits : List ℕ) (lookup_witness : Option F) (ood_witness : F) (opening : Opening)
         → AreCanonical c.field.ring c.order p.canonical
         → IsLookupGround c p s traces degree_bits lookup_witness → IsOodGround c p s traces degree_bits lookup_witness ood_witness
-        → NoneFails (grinding_checks c.challenger c.field.ring c.extension.ring c.extension.dimension c.initial c.zk c.lookup_bits c.ood_bits s
+        → NoneFails (grinding_checks c.challenger c.field.ring c.extension.ring c.extension.dimension c.initial c.version c.zk c.lookup_bits c.ood_bits s
         (honest_proof c p s traces degree_bits lookup_witness ood_witness opening) {R = R}) }
 {}
 

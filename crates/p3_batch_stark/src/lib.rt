@@ -40,7 +40,7 @@ pub use batch_transcript::{
 };
 pub use p3_uni_stark::{
     Challenge, Commitment, Domain, OpenedValues, PcsError, PcsProof, PcsProverError,
-    StarkGenericConfig, Val, VerificationError,
+    StarkGenericConfig, TranscriptVersion, Val, VerificationError,
 };
 pub use prover_answer::{ProverSettings, ProvingError};
 pub use prover_batch::{prove_batch, prove_batch_with_point};

@@ -9,7 +9,7 @@ pub use p3_batch_stark::{
     PreprocessedTraces, ProverConstraintFolderWithLookups, ProverData, ProverFolderWithLookups,
     ProverOnlyData, ProverPhase, ProverSettings, ProvingError, Settings, SetupData, SetupError,
     SharedData, StarkGenericConfig, StarkInstance, TableInstance, TablesProof, TranscriptError,
-    Val, VerificationError, VerifierConstraintFolderWithLookups, VerifierData,
+    TranscriptVersion, Val, VerificationError, VerifierConstraintFolderWithLookups, VerifierData,
     VerifierFolderWithLookups, check_constraints, commitments_with_opening_points,
     get_constraint_layout, get_log_num_quotient_chunks, get_log_num_quotient_chunks_for_domain,
     get_max_constraint_degree, get_symbolic_constraints, num_batched_openings, prove_batch,

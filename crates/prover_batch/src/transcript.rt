@@ -71,7 +71,16 @@ pub fn bound_transcript<SC: StarkGenericConfig, A: Air<Val<SC>>>(
     let values = public_values(alloc, instances)?;
     let lookup_bits = config.lookup_proof_of_work_bits();
     let ood_bits = config.ood_proof_of_work_bits();
-    let shape = batch_shape(alloc, &airs, common, SC::Pcs::ZK, lookup_bits, ood_bits)?;
+    let version = config.transcript_version();
+    let shape = batch_shape(
+        alloc,
+        &airs,
+        common,
+        version,
+        SC::Pcs::ZK,
+        lookup_bits,
+        ood_bits,
+    )?;
     let mut transcript = BatchProverTranscript::new(alloc, config.initialise_challenger(), shape)?;
     transcript.instance_bindings(degree_bits);
     transcript.main_phase(main, &values);

@@ -19,7 +19,7 @@ use Rattle.verifier_identity.specs.TableIdentity.{identity_at, terminal_check}
 module _ {S F E C P : Type 0} (c : Setting S F E C) (s : Statement F C) (p : ProofData F E C P) where
   -- what the challenger draws along the proof's script, from the configuration's state on
   abbrev pub drawn_of : Draws S E
-  drawn_of = drawn c.challenger c.field.ring c.extension.ring c.extension.dimension c.initial c.zk c.lookup_bits c.ood_bits s p
+  drawn_of = drawn c.challenger c.field.ring c.extension.ring c.extension.dimension c.initial c.version c.zk c.lookup_bits c.ood_bits s p
 
   -- the challenges of table i's lookups, and of all tables
   abbrev pub table_challenges_of : ℕ → List E
@@ -34,7 +34,7 @@ module _ {S F E C P : Type 0} (c : Setting S F E C) (s : Statement F C) (p : Pro
 
   -- the checks of the grinding values
   abbrev pub draw_part : {R : Type 0} → List (Check (BatchVerificationError R))
-  draw_part = grinding_checks c.challenger c.field.ring c.extension.ring c.extension.dimension c.initial c.zk c.lookup_bits c.ood_bits s p
+  draw_part = grinding_checks c.challenger c.field.ring c.extension.ring c.extension.dimension c.initial c.version c.zk c.lookup_bits c.ood_bits s p
 
   -- the checks of table i's identity, with these challenges of all tables' lookups and these domains of their chunks
   abbrev pub identities_at : {R : Type 0} → (challenges : List (List E)) → (domains : List (List (CosetData F))) → (alpha zeta : E) → ℕ → List (Check (BatchVerificationError R))

@@ -104,6 +104,7 @@ pub(crate) fn check_batch_draws<SC: StarkGenericConfig, A: Air<Val<SC>>>(
         proof,
         shape_bounds(config),
         config.initialise_challenger(),
+        config.transcript_version(),
         config.lookup_proof_of_work_bits(),
         config.ood_proof_of_work_bits(),
     )

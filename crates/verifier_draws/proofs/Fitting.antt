@@ -7,6 +7,7 @@ use Rattle.p3_field.specs.Checks.{NoneFails}
 use Rattle.p3_field.specs.Laws.Checks.{none_before, none_after, none_at, holds_alone}
 use Rattle.p3_field.specs.Ring.{Ring}
 use Rattle.air_core.specs.Shape.{Declaration, width_of}
+use Rattle.transcript_version.specs.declared.TranscriptVersion.{TranscriptVersion}
 use Rattle.batch_transcript.specs.Fits.{FitsShape}
 use Rattle.batch_statement.specs.Proof.{OpenedWithLookups, ProofData}
 use Rattle.batch_statement.specs.Statement.{Statement, AirTable}
@@ -85,8 +86,8 @@ module _ {F E C P : Type 0} (R : Type 0) (f : Ring F) (b : Bounds) (s : Statemen
   opened_table h i l = none_at (opened_checks {R = R} f b.masks b.dimension s p) (length s.tables) i l (opened h)
 
   -- there is a value for each step
-  pub fits : (lookup_bits ood_bits : ℕ) → NoneFails (shape_checks {R = R} f b s p) → FitsShape (script_shape b.zk lookup_bits ood_bits s) (given_of s p)
-  fits lookup_bits ood_bits h =
+  pub fits : (version : TranscriptVersion) (lookup_bits ood_bits : ℕ) → NoneFails (shape_checks {R = R} f b s p) → FitsShape (script_shape version b.zk lookup_bits ood_bits s) (given_of s p)
+  fits version lookup_bits ood_bits h =
       let counts = counts_right h in
       record {
         degree_bits = counts.degree_bits ∙ sym (length-map s.tables (λ t. t.declaration.width));

@@ -6,9 +6,10 @@ use Rattle.std.proofs.lemmas.Simd.{map-map}
 use Rattle.air_core.specs.Shape.{Declaration, width_of}
 use Rattle.air_core.specs.Tree.{Tree}
 use Rattle.p3_lookup.specs.Written.{read_all}
+use Rattle.transcript_version.specs.declared.TranscriptVersion.{TranscriptVersion}
 use Rattle.batch_statement.specs.Statement.{AirTable, WrittenCommon, tables_of, statement_with}
 use Rattle.batch_statement.specs.Words.{has_some}
-use Rattle.verifier_draws.specs.Draws.{script_shape}
+use Rattle.verifier_draws.specs.Draws.{lookup_counts_in, script_shape}
 
 count_by-map : {A B : Type 0} (p : B → Bool) (f : A → B) (xs : List A) → count_by p (map f xs) ≡ count_by (λ x. p (f x)) xs
 count_by-map p f [] = refl
@@ -24,12 +25,13 @@ of_tables {A} {F} declaration trees airs read ns e =
     e ∙ sym (map-map (λ (t : AirTable F). read t.declaration) made airs)
 
 module _ {A F C : Type 0} (declaration : A → Declaration F) (trees : A → List (Tree F)) (airs : List A) (common : WrittenCommon F C) where
-  pub shape_is : (zk : Bool) (lookup_bits ood_bits : ℕ) (widths counts preprocessed : List ℕ) (there : Bool) (n : ℕ)
+  pub shape_is : (version : TranscriptVersion) (zk : Bool) (lookup_bits ood_bits : ℕ) (widths counts preprocessed : List ℕ) (there : Bool) (n : ℕ) (lookups : List ℕ)
       → widths ≡ map (λ a. (declaration a).width) airs
       → counts ≡ map (λ a. (declaration a).public_values) airs
       → preprocessed ≡ map (λ a. width_of (declaration a).preprocessed) airs
       → there ≡ is_some common.preprocessed
       → n ≡ count_by (λ ls. has_some (read_all ls)) common.lookups
+      → lookups ≡ lookup_counts_in version (map read_all common.lookups)
       → record {
         trace_widths = widths;
         public_value_counts = counts;
@@ -39,8 +41,10 @@ module _ {A F C : Type 0} (declaration : A → Declaration F) (trees : A → Lis
         lookup_pow_bits = lookup_bits;
         has_randomization_commitment = zk;
         ood_pow_bits = ood_bits;
-      } ≡ script_shape zk lookup_bits ood_bits (statement_with (tables_of declaration trees airs) [] common)
-  shape_is zk lookup_bits ood_bits widths counts preprocessed there n a b e h k =
+        version = version;
+        lookup_counts = lookups;
+      } ≡ script_shape version zk lookup_bits ood_bits (statement_with (tables_of declaration trees airs) [] common)
+  shape_is version zk lookup_bits ood_bits widths counts preprocessed there n lookups a b e h k l =
       let w = of_tables declaration trees airs (λ d. d.width) widths a in
       let p = of_tables declaration trees airs (λ d. d.public_values) counts b in
       let q = of_tables declaration trees airs (λ d. width_of d.preprocessed) preprocessed e in
@@ -54,4 +58,6 @@ module _ {A F C : Type 0} (declaration : A → Declaration F) (trees : A → Lis
         lookup_pow_bits = lookup_bits;
         has_randomization_commitment = zk;
         ood_pow_bits = ood_bits;
+        version = version;
+        lookup_counts = l i;
       }

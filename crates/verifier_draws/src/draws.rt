@@ -16,6 +16,7 @@ use batch_transcript::BatchChallenger;
 use p3_challenger::{CanObserve, CanSample, GrindingChallenger};
 use p3_field::{BasedVectorSpace, ExtensionField, PrimeCore64, PrimeField64, RingCore};
 use std::alloc::Global;
+use transcript_version::TranscriptVersion;
 use verifier_shape::ShapeBounds;
 
 /// What is drawn along a proof (not in Plonky3): the challenges of each table's lookups, those that the verifier draws for all
@@ -39,7 +40,8 @@ pub struct Drawn<E, C> {
 /// lookups and there is a value before their challenges; where some table has lookups `MissingLookupPowWitness` where there is
 /// none, else `NonCanonicalLookupPowWitness` where it isn't zero at zero bits, else `LookupPowWitness` where it fails the
 /// challenger's test; then `NonCanonicalOodPowWitness` and `OodPowWitness` in the same way for the value before zeta. Where none
-/// fails, it is what is drawn along the script of the statement and the proof. Only out of memory is free.
+/// fails, it is what is drawn along the script of the statement and the
+/// proof, begun by this version's separator. Only out of memory is free.
 ///
 /// No check of the proof's shape fails, and 2 to the bits of each grinding is below the field's order.
 pub fn check_draws<
@@ -63,6 +65,7 @@ pub fn check_draws<
     proof: &TablesProof<F, EF, Com, Opening>,
     bounds: ShapeBounds,
     challenger: C,
+    version: TranscriptVersion,
     lookup_bits: usize,
     ood_bits: usize,
 ) -> Result<Drawn<EF, C>, BatchVerificationError<R>>
@@ -71,19 +74,27 @@ pub fn check_draws<
     requires lookup { 2 ^ lookup_bits < F.ORDER_U64 }
     requires ood { 2 ^ ood_bits < F.ORDER_U64 }
     ensures verdict { let s = statement_with (tables_of A.declaration A.trees airs.now) (map (λ v. v.items) public_values.now) common.now in
-        IsVerdict (grinding_checks (⟦<C as BatchChallenger<F, EF, Com>>⟧.functions) F.ring EF.ring EF.DIMENSION challenger bounds.zk lookup_bits ood_bits s proof.now) result }
+        IsVerdict (grinding_checks (⟦<C as BatchChallenger<F, EF, Com>>⟧.functions) F.ring EF.ring EF.DIMENSION challenger version bounds.zk lookup_bits ood_bits s proof.now) result }
     ensures challenges { let s = statement_with (tables_of A.declaration A.trees airs.now) (map (λ v. v.items) public_values.now) common.now in
         IfOk result (λ d. map (λ v. v.items) d.challenges.items
         ≡ tabulate (length airs.now) (table_challenges EF.ring
-        (drawn (⟦<C as BatchChallenger<F, EF, Com>>⟧.functions) F.ring EF.ring EF.DIMENSION challenger bounds.zk lookup_bits ood_bits s proof.now) s)) }
+        (drawn (⟦<C as BatchChallenger<F, EF, Com>>⟧.functions) F.ring EF.ring EF.DIMENSION challenger version bounds.zk lookup_bits ood_bits s proof.now) s)) }
     ensures alpha { let s = statement_with (tables_of A.declaration A.trees airs.now) (map (λ v. v.items) public_values.now) common.now in
-        IfOk result (λ d. d.alpha ≡ (drawn (⟦<C as BatchChallenger<F, EF, Com>>⟧.functions) F.ring EF.ring EF.DIMENSION challenger bounds.zk lookup_bits ood_bits s proof.now).alpha) }
+        IfOk result (λ d. d.alpha ≡ (drawn (⟦<C as BatchChallenger<F, EF, Com>>⟧.functions) F.ring EF.ring EF.DIMENSION challenger version bounds.zk lookup_bits ood_bits s proof.now).alpha) }
     ensures zeta { let s = statement_with (tables_of A.declaration A.trees airs.now) (map (λ v. v.items) public_values.now) common.now in
-        IfOk result (λ d. d.zeta ≡ (drawn (⟦<C as BatchChallenger<F, EF, Com>>⟧.functions) F.ring EF.ring EF.DIMENSION challenger bounds.zk lookup_bits ood_bits s proof.now).zeta) }
+        IfOk result (λ d. d.zeta ≡ (drawn (⟦<C as BatchChallenger<F, EF, Com>>⟧.functions) F.ring EF.ring EF.DIMENSION challenger version bounds.zk lookup_bits ood_bits s proof.now).zeta) }
     ensures state { let s = statement_with (tables_of A.declaration A.trees airs.now) (map (λ v. v.items) public_values.now) common.now in
-        IfOk result (λ d. d.challenger ≡ (drawn (⟦<C as BatchChallenger<F, EF, Com>>⟧.functions) F.ring EF.ring EF.DIMENSION challenger bounds.zk lookup_bits ood_bits s proof.now).opening) }
+        IfOk result (λ d. d.challenger ≡ (drawn (⟦<C as BatchChallenger<F, EF, Com>>⟧.functions) F.ring EF.ring EF.DIMENSION challenger version bounds.zk lookup_bits ood_bits s proof.now).opening) }
 {
-    let shape = batch_shape(alloc, airs, common, bounds.zk, lookup_bits, ood_bits)?;
+    let shape = batch_shape(
+        alloc,
+        airs,
+        common,
+        version,
+        bounds.zk,
+        lookup_bits,
+        ood_bits,
+    )?;
     let terminals = terminals_there(alloc, proof.terminals())?;
     play_phases(
         alloc,

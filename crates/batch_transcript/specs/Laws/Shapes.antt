@@ -1,35 +1,17 @@
--- Pattern and instance label tell shapes apart.
-use Rattle.std.proofs.Common.{◌≡◌, ℕ, zero, suc, ◌<◌, ◌^◌, List, [], ◌∷◌, ◌++◌, length, map, refl, ap, sym, ◌∙◌, Bool, true, false, replicate, arith, All, flat_map, append_assoc}
+-- The encodings of separators tell shapes apart.
+use Rattle.std.proofs.Common.{◌≡◌, ℕ, zero, suc, ◌<◌, ◌^◌, List, [], ◌∷◌, ◌++◌, length, map, refl, ap, sym, ◌∙◌, Bool, true, false, replicate, arith, All, flat_map, append_assoc, codes}
 use Rattle.std.specs.Int.{w64, from_be_bytes}
 use Rattle.std.proofs.lemmas.Nat.{from_be_bytes-to_be_bytes_8}
 use Rattle.std.proofs.lemmas.List.{append_cancel_left, length-map}
 use Rattle.std.proofs.lemmas.List.Elements.{All-head, All-tail}
-use Rattle.p3_challenger.specs.Separator.{eight_bytes}
+use Rattle.p3_challenger.specs.Separator.{eight_bytes, encoding}
 use Rattle.p3_challenger.specs.States.{steps_after_next, next_bits}
 use Rattle.p3_challenger.specs.declared.script.Interaction.{Interaction}
-use Rattle.batch_transcript.specs.Shapes.{IsShapeWithin, AreSame, TellsShapes}
-use Rattle.batch_transcript.specs.BatchScript.{BatchShapeData, pattern, instance_label, from_main, from_preprocessed, from_lookup, from_permutation, from_quotient, from_ood, from_opening, degree_bits_step, main_commitment_step, public_values_step, preprocessed_commitment_step, lookup_terminal_step, constraint_challenge_step, quotient_commitment_step, randomization_commitment_step, permutation_steps, pair_steps, only_with, is_positive, closing_steps}
-
--- two lists whose fronts have one length are equal part by part
-pub parts-equal : {A : Type 0} (us vs xs ys : List A) → length us ≡ length vs → us ++ xs ≡ vs ++ ys → (us ≡ vs) × (xs ≡ ys)
-parts-equal [] [] xs ys l e = (refl, e)
-parts-equal [] (b ∷ vs) xs ys l e = cc
-parts-equal (a ∷ us) [] xs ys l e = cc
-parts-equal (a ∷ us) (b ∷ vs) xs ys l e =
-    let n : length us ≡ length vs = cc in
-    let h : a ≡ b = cc in
-    let t : us ++ xs ≡ vs ++ ys = cc in
-    let r = parts-equal us vs xs ys n t in
-    (λ i. h i ∷ r.0 i, r.1)
-
--- a number's bytes are eight, and tell it
-pub eight : (n : ℕ) → length (eight_bytes n) ≡ 8
-unfolding eight_bytes
-eight n = refl
-
-pub bytes-tell : (m n : ℕ) → m < 2 ^ 64 → n < 2 ^ 64 → eight_bytes m ≡ eight_bytes n → m ≡ n
-unfolding eight_bytes
-bytes-tell m n hm hn e = sym (from_be_bytes-to_be_bytes_8 m hm) ∙ ap (from_be_bytes w64) e ∙ from_be_bytes-to_be_bytes_8 n hn
+use Rattle.transcript_version.specs.declared.TranscriptVersion.{TranscriptVersion}
+use Rattle.transcript_version.specs.declared.TranscriptVersion.TheVariants.{V1, V2}
+use Rattle.batch_transcript.specs.Shapes.{IsShape, FitsEightBytes, HasCounts, AreSame, TellsShapes}
+use Rattle.batch_transcript.specs.Laws.Encoded.{parts-equal, eight, bytes-tell, encodings-tell}
+use Rattle.batch_transcript.specs.BatchScript.{BatchShapeData, pattern, instance_label, separator, version_byte, counts_label, from_main, from_preprocessed, from_lookup, from_permutation, from_quotient, from_ood, from_opening, degree_bits_step, main_commitment_step, public_values_step, preprocessed_commitment_step, lookup_terminal_step, constraint_challenge_step, quotient_commitment_step, randomization_commitment_step, permutation_steps, pair_steps, only_with, is_positive, closing_steps}
 
 pub numbers-tell : (ms ns xs ys : List ℕ) → length ms ≡ length ns → All (λ n. n < 2 ^ 64) ms → All (λ n. n < 2 ^ 64) ns
     → flat_map eight_bytes ms ++ xs ≡ flat_map eight_bytes ns ++ ys → (ms ≡ ns) × (xs ≡ ys)
@@ -81,32 +63,48 @@ publics-inj [] (n ∷ ns) e = cc
 publics-inj (m ∷ ms) [] e = cc
 publics-inj (m ∷ ms) (n ∷ ns) e = let h : m ≡ n = ap next_bits e in let r = publics-inj ms ns (ap steps_after_next e) in λ i. h i ∷ r i
 
--- the label gives back the number of instances and both widths of each
-pub label-tells : (s t : BatchShapeData) → IsShapeWithin s → IsShapeWithin t → instance_label s ≡ instance_label t
-    → (s.trace_widths ≡ t.trace_widths) × (s.preprocessed_widths ≡ t.preprocessed_widths)
+-- a version's numbers of lookups are told
+counts-tell : (v w : TranscriptVersion) (n m k l : ℕ) (ms ns : List ℕ) → v ≡ w → n ≡ m → HasCounts v n k ms → HasCounts w m l ns
+    → All (λ n. n < 2 ^ 64) ms → All (λ n. n < 2 ^ 64) ns → counts_label v ms ≡ counts_label w ns → ms ≡ ns
+counts-tell V1 V1 n m k l ms ns e i hm hn fm fn c = hm ∙ sym hn
+counts-tell V1 V2 n m k l ms ns e i hm hn fm fn c = let t : 1 ≡ 2 = ap version_byte e in absurd (omega (arith, t))
+counts-tell V2 V1 n m k l ms ns e i hm hn fm fn c = let t : 2 ≡ 1 = ap version_byte e in absurd (omega (arith, t))
+counts-tell V2 V2 n m k l ms ns e i hm hn fm fn c = (numbers-tell ms ns [] [] (hm.0 ∙ i ∙ sym hn.0) fm fn (ap (λ x. x ++ []) c)).0
+
+label-spread : (a b c d : List ℕ) → a ++ b ++ c ++ d ≡ a ++ (b ++ (c ++ d))
+label-spread a b c d = append_assoc (a ++ b) c d ∙ append_assoc a b (c ++ d)
+
+-- of one version the label gives back both widths of each instance, and the numbers of lookups
+pub label-tells : (s t : BatchShapeData) → IsShape s → FitsEightBytes s → IsShape t → FitsEightBytes t → s.version ≡ t.version → instance_label s ≡ instance_label t
+    → (s.trace_widths ≡ t.trace_widths) × (s.preprocessed_widths ≡ t.preprocessed_widths) × (s.lookup_counts ≡ t.lookup_counts)
 unfolding instance_label
-label-tells s t hs ht e =
-    let f : eight_bytes (length s.trace_widths) ++ (flat_map eight_bytes s.trace_widths ++ flat_map eight_bytes s.preprocessed_widths)
-    ≡ eight_bytes (length t.trace_widths) ++ (flat_map eight_bytes t.trace_widths ++ flat_map eight_bytes t.preprocessed_widths) =
-    sym (append_assoc (eight_bytes (length s.trace_widths)) (flat_map eight_bytes s.trace_widths) (flat_map eight_bytes s.preprocessed_widths))
-    ∙ e ∙ append_assoc (eight_bytes (length t.trace_widths)) (flat_map eight_bytes t.trace_widths) (flat_map eight_bytes t.preprocessed_widths) in
+label-tells s t hs fs ht ft v e =
+    let f : eight_bytes (length s.trace_widths) ++ (flat_map eight_bytes s.trace_widths ++ (flat_map eight_bytes s.preprocessed_widths ++ counts_label s.version s.lookup_counts))
+    ≡ eight_bytes (length t.trace_widths) ++ (flat_map eight_bytes t.trace_widths ++ (flat_map eight_bytes t.preprocessed_widths ++ counts_label t.version t.lookup_counts)) =
+    sym (label-spread (eight_bytes (length s.trace_widths)) (flat_map eight_bytes s.trace_widths) (flat_map eight_bytes s.preprocessed_widths) (counts_label s.version s.lookup_counts))
+    ∙ e ∙ label-spread (eight_bytes (length t.trace_widths)) (flat_map eight_bytes t.trace_widths) (flat_map eight_bytes t.preprocessed_widths) (counts_label t.version t.lookup_counts) in
     let r = parts-equal (eight_bytes (length s.trace_widths)) (eight_bytes (length t.trace_widths)) _ _ (eight (length s.trace_widths) ∙ sym (eight (length t.trace_widths))) f in
-    let n = bytes-tell (length s.trace_widths) (length t.trace_widths) hs.instances ht.instances r.0 in
-    let w = numbers-tell s.trace_widths t.trace_widths _ _ n hs.trace_fits ht.trace_fits r.1 in
+    let n = bytes-tell (length s.trace_widths) (length t.trace_widths) fs.instances ft.instances r.0 in
+    let w = numbers-tell s.trace_widths t.trace_widths _ _ n fs.traces ft.traces r.1 in
     let l : length s.preprocessed_widths ≡ length t.preprocessed_widths = hs.preprocessed ∙ n ∙ sym ht.preprocessed in
-    let p : flat_map eight_bytes s.preprocessed_widths ++ [] ≡ flat_map eight_bytes t.preprocessed_widths ++ [] = ap (λ x. x ++ []) w.1 in
-    (w.0, (numbers-tell s.preprocessed_widths t.preprocessed_widths [] [] l hs.preprocessed_fits ht.preprocessed_fits p).0)
+    let p = numbers-tell s.preprocessed_widths t.preprocessed_widths _ _ l fs.preprocessed ft.preprocessed w.1 in (
+      w.0,
+      p.0,
+      counts-tell s.version t.version (length s.trace_widths) (length t.trace_widths) s.num_lookup_instances t.num_lookup_instances s.lookup_counts t.lookup_counts
+          v n hs.counts ht.counts fs.counts ft.counts p.1,
+    )
 
 -- no step of the lookups or after them is that of a preprocessed commitment
 lookup-tag : (d n b : ℕ) (R : List Interaction) → tag (pair_steps d n b ++ (permutation_steps d n ++ constraint_challenge_step d ∷ R)) ≡ length preprocessed_commitment_step.label → ⊥
 lookup-tag d zero b R e = let t : 20 ≡ 23 = e in omega (arith, t)
 lookup-tag d (suc n) b R e = let t : 10 ≡ 23 = e in omega (arith, t)
 
--- shapes within the bounds have equal pattern and label exactly if they are equal
-pub shapes-tell : (d : ℕ) (s t : BatchShapeData) → IsShapeWithin s → IsShapeWithin t → pattern d s ≡ pattern d t → instance_label s ≡ instance_label t → AreSame s t
+-- equal version, pattern and label make equal shapes
+pub shapes-tell : (d : ℕ) (s t : BatchShapeData) → IsShape s → FitsEightBytes s → IsShape t → FitsEightBytes t
+    → s.version ≡ t.version → pattern d s ≡ pattern d t → instance_label s ≡ instance_label t → AreSame s t
 unfolding pattern from_main from_preprocessed from_lookup from_permutation from_quotient from_ood from_opening
-shapes-tell d s t hs ht e l =
-    let w = label-tells s t hs ht l in
+shapes-tell d s t hs fs ht ft v e l =
+    let w = label-tells s t hs fs ht ft v l in
     let main : from_main d s ≡ from_main d t =
     append_cancel_left (map (λ _. degree_bits_step d) s.trace_widths) (from_main d s) (from_main d t) (e ∙ ap (λ x. map (λ _. degree_bits_step d) x ++ from_main d t) (sym w.0)) in
     let counts : length (map public_values_step s.public_value_counts) ≡ length (map public_values_step t.public_value_counts) =
@@ -125,6 +123,8 @@ shapes-tell d s t hs ht e l =
       lookup_bits = k.1;
       randomization = z.0;
       ood_bits = ap next_bits z.1;
+      version = v;
+      counts = w.2;
     }
 
 same-pair : (d n b c : ℕ) → (is_positive n ≡ true → b ≡ c) → pair_steps d n b ≡ pair_steps d n c
@@ -146,6 +146,17 @@ same-pattern d s t h =
 pub same-label : (s t : BatchShapeData) → AreSame s t → instance_label s ≡ instance_label t
 unfolding instance_label
 same-label s t h = λ i. eight_bytes (length (h.trace_widths i)) ++ flat_map eight_bytes (h.trace_widths i) ++ flat_map eight_bytes (h.preprocessed_widths i)
+    ++ counts_label (h.version i) (h.counts i)
 
-pub tells-shapes : (d : ℕ) → TellsShapes d
-tells-shapes d s t hs ht = (λ e. shapes-tell d s t hs ht e.0 e.1, λ h. (same-pattern d s t h, same-label s t h))
+pub same-separator : (d : ℕ) (s t : BatchShapeData) → AreSame s t → separator d s ≡ separator d t
+unfolding separator
+same-separator d s t h =
+    let p = same-pattern d s t h in
+    let l = same-label s t h in
+    λ i. record { version = version_byte (h.version i); name = codes "p3-batch-stark"; steps = p i; instance = l i }
+
+pub tells-shapes : (d : ℕ) (s : BatchShapeData) → TellsShapes d s
+tells-shapes d s t hs fs ht ft = (
+  λ e. let r = encodings-tell d s t fs ft e in shapes-tell d s t hs fs ht ft r.0 r.1 r.2,
+  λ h. ap encoding (same-separator d s t h),
+)

@@ -24,7 +24,7 @@ module _ {S F E C P : Type 0} (c : Setting S F E C) (p : Prover F E C) (s : Stat
   -- what a verifier draws along it
   abbrev pub drawn_along_it : Draws S E
   drawn_along_it =
-      drawn c.challenger c.field.ring c.extension.ring c.extension.dimension c.initial c.zk c.lookup_bits c.ood_bits s (honest_proof c p s traces degree_bits w z opening)
+      drawn c.challenger c.field.ring c.extension.ring c.extension.dimension c.initial c.version c.zk c.lookup_bits c.ood_bits s (honest_proof c p s traces degree_bits w z opening)
 
   pub reads_stages : ReadsDraws (count_by has_some s.common.lookups) drawn_along_it (pair c p s traces degree_bits w) (alpha c p s traces degree_bits w) (zeta c p s traces degree_bits w z) (opening_state c p s traces degree_bits w z)
   unfolding drawn honest_proof pair state_at_pair state_at_permutation alpha state_at_quotient state_at_ood zeta opening_state

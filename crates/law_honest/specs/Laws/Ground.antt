@@ -83,7 +83,7 @@ module _ {S F E M : Type 0} (c : ChallengerOf S F E M) (f : Ring F) (order : ℕ
 module _ {S F E C : Type 0} (c : Setting S F E C) (p : Prover F E C) (s : Statement F C) (traces : List (Rows F)) (degree_bits : List ℕ) (K : AreCanonical c.field.ring c.order p.canonical) where
   -- a verifier takes the grinding values of an honest proof
   pub ground_accepted : {P : Type 0} (R : Type 0) (w : Option F) (z : F) (opening : P) → IsLookupGround c p s traces degree_bits w → IsOodGround c p s traces degree_bits w z
-      → NoneFails (grinding_checks c.challenger c.field.ring c.extension.ring c.extension.dimension c.initial c.zk c.lookup_bits c.ood_bits s (honest_proof c p s traces degree_bits w z opening) {R = R})
+      → NoneFails (grinding_checks c.challenger c.field.ring c.extension.ring c.extension.dimension c.initial c.version c.zk c.lookup_bits c.ood_bits s (honest_proof c p s traces degree_bits w z opening) {R = R})
   unfolding grinding_checks honest_proof
   ground_accepted R w z opening lookup ood =
       let n = count_by has_some s.common.lookups in

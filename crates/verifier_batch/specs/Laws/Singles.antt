@@ -118,7 +118,7 @@ module _ {S F E C P R : Type 0} (c : Setting S F E C) (b : Backend S F E C P R) 
 
   draws_single : AreSingle (draw_part c s p {R = R})
   draws_single =
-      grinding_single R c.challenger c.field.ring c.extension.ring c.extension.dimension c.initial c.zk c.lookup_bits c.ood_bits s p
+      grinding_single R c.challenger c.field.ring c.extension.ring c.extension.dimension c.initial c.version c.zk c.lookup_bits c.ood_bits s p
 
   tables_single : AreSingle (identity_part c s p {R = R})
   tables_single =

@@ -7,6 +7,7 @@ use Rattle.p3_field.specs.Checks.{AreSingle}
 use Rattle.p3_field.specs.Laws.Checks.{none_single, check_single, single_append}
 use Rattle.p3_field.specs.Ring.{Ring}
 use Rattle.p3_challenger.specs.Script.{ChallengerOf}
+use Rattle.transcript_version.specs.declared.TranscriptVersion.{TranscriptVersion}
 use Rattle.batch_transcript.specs.BatchScript.{Draws, is_positive}
 use Rattle.batch_statement.specs.Proof.{ProofData}
 use Rattle.batch_statement.specs.Statement.{Statement}
@@ -22,12 +23,12 @@ lookup_single R z (suc n) bits w passed = check_single _ _ _ (check_single _ _ _
 ood_single : {F : Type 0} (R : Type 0) (z : F) (bits : ℕ) (w : F) (passed : Bool) → AreSingle (ood_grinding {R = R} z bits w passed)
 ood_single R z bits w passed = check_single _ _ _ (check_single _ _ _ (none_single (BatchVerificationError R)))
 
-pub grinding_single : {S F E C P : Type 0} (R : Type 0) (c : ChallengerOf S F E C) (f : Ring F) (e : Ring E) (dimension : ℕ) (initial : S) (zk : Bool) (lookup_bits ood_bits : ℕ) (s : Statement F C) (p : ProofData F E C P)
-    → AreSingle (grinding_checks c f e dimension initial zk lookup_bits ood_bits s p {R = R})
+pub grinding_single : {S F E C P : Type 0} (R : Type 0) (c : ChallengerOf S F E C) (f : Ring F) (e : Ring E) (dimension : ℕ) (initial : S) (version : TranscriptVersion) (zk : Bool) (lookup_bits ood_bits : ℕ) (s : Statement F C) (p : ProofData F E C P)
+    → AreSingle (grinding_checks c f e dimension initial version zk lookup_bits ood_bits s p {R = R})
 unfolding grinding_checks
-grinding_single R c f e dimension initial zk lookup_bits ood_bits s p =
-    let d = drawn c f e dimension initial zk lookup_bits ood_bits s p in
-    let n = (script_shape zk lookup_bits ood_bits s).num_lookup_instances in
+grinding_single R c f e dimension initial version zk lookup_bits ood_bits s p =
+    let d = drawn c f e dimension initial version zk lookup_bits ood_bits s p in
+    let n = (script_shape version zk lookup_bits ood_bits s).num_lookup_instances in
     single_append (lookup_grinding f.zero n lookup_bits p.lookup_pow_witness d.lookup_passed) (ood_grinding f.zero ood_bits p.ood_pow_witness d.ood_passed)
     (lookup_single R f.zero n lookup_bits p.lookup_pow_witness d.lookup_passed) (ood_single R f.zero ood_bits p.ood_pow_witness d.ood_passed)
 

@@ -55,6 +55,7 @@ batch_is g config instances common =
       log_max = g.SC-Pcs-UnivariateStarkPcs.log_max (g.SC.StarkGenericConfig.pcs_of config);
       lookup_bits = g.SC.StarkGenericConfig.lookup_bits config;
       ood_bits = g.SC.StarkGenericConfig.ood_bits config;
+      version = g.SC.StarkGenericConfig.version config;
     })
     (record { inverse = g.SC.Challenge.FieldCore.inv; canonical = g.SC.Val.PrimeCore64.canonical; commitment_of = g.SC-Pcs-UnivariateStarkPcs.commitment_of (g.SC.StarkGenericConfig.pcs_of config) })
     g.A.BaseAir.declaration g.A.Air.trees instances common

@@ -10,7 +10,7 @@ use Rattle.prover_batch.proofs.transcript.bound_transcript.Goals as goal
 pub main_phase-requires-clause-count : goal.main_phase-requires-clause-count
 main_phase-requires-clause-count g c =
     let same = c.in_ok-shape.ensures
-    ∙ (λ i. script_shape (c.ZK.ensures i) (c.lookup_proof_of_work_bits-lookup_bits.ensures.bits i) (c.ood_proof_of_work_bits-ood_bits.ensures.bits i)
+    ∙ (λ i. script_shape (c.transcript_version-version.ensures i) (c.ZK.ensures i) (c.lookup_proof_of_work_bits-lookup_bits.ensures.bits i) (c.ood_proof_of_work_bits-ood_bits.ensures.bits i)
     (statement_with (tables_of g.A.BaseAir.declaration g.A.Air.trees ((c.deref.ensures.value ∙ c.in_ok-airs.ensures) i)) [] c.args.common.now)) in
     ap (map length) (ap (map (λ v. v.items)) c.deref-2.ensures.value ∙ c.in_ok-values.ensures)
     ∙ publics_counted _ _ _ _ _ c.requires.traced
@@ -19,14 +19,14 @@ main_phase-requires-clause-count g c =
 pub returns-clause-shape : goal.returns-clause-shape
 returns-clause-shape g c =
     let same = c.in_ok-shape.ensures
-    ∙ (λ i. script_shape (c.ZK.ensures i) (c.lookup_proof_of_work_bits-lookup_bits.ensures.bits i) (c.ood_proof_of_work_bits-ood_bits.ensures.bits i)
+    ∙ (λ i. script_shape (c.transcript_version-version.ensures i) (c.ZK.ensures i) (c.lookup_proof_of_work_bits-lookup_bits.ensures.bits i) (c.ood_proof_of_work_bits-ood_bits.ensures.bits i)
     (statement_with (tables_of g.A.BaseAir.declaration g.A.Air.trees ((c.deref.ensures.value ∙ c.in_ok-airs.ensures) i)) [] c.args.common.now)) in
     c.preprocessed_phase.ensures.plays.shape ∙ c.main_phase.ensures.plays.shape ∙ c.instance_bindings.ensures.plays.shape ∙ ap (λ t. t.shape) c.in_ok-transcript.ensures ∙ same
 
 pub returns-clause-state : goal.returns-clause-state
 returns-clause-state g c =
     let same = c.in_ok-shape.ensures
-    ∙ (λ i. script_shape (c.ZK.ensures i) (c.lookup_proof_of_work_bits-lookup_bits.ensures.bits i) (c.ood_proof_of_work_bits-ood_bits.ensures.bits i)
+    ∙ (λ i. script_shape (c.transcript_version-version.ensures i) (c.ZK.ensures i) (c.lookup_proof_of_work_bits-lookup_bits.ensures.bits i) (c.ood_proof_of_work_bits-ood_bits.ensures.bits i)
     (statement_with (tables_of g.A.BaseAir.declaration g.A.Air.trees ((c.deref.ensures.value ∙ c.in_ok-airs.ensures) i)) [] c.args.common.now)) in
     let functions : ChallengerOf g.row.SC-Challenger.Denot g.row.SC-Val.Denot g.row.SC-Challenge.Denot g.row.SC-Pcs-Commitment.Denot = record {
       observe = g.SC.Challenger.CanObserve-2.observed;

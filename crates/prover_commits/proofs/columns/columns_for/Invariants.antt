@@ -30,6 +30,7 @@ module _ (g : goal.Over) (config : g.row.SC.Denot) where
     log_max = g.SC-Pcs-UnivariateStarkPcs.log_max (g.SC.StarkGenericConfig.pcs_of config);
     lookup_bits = g.SC.StarkGenericConfig.lookup_bits config;
     ood_bits = g.SC.StarkGenericConfig.ood_bits config;
+    version = g.SC.StarkGenericConfig.version config;
   }
 
   abbrev pub prover : Prover g.row.SC-Val.Denot g.row.SC-Challenge.Denot g.row.SC-Pcs-Commitment.Denot

@@ -36,6 +36,7 @@ invariant-loop-index g l =
       log_max = g.SC-Pcs-UnivariateStarkPcs.log_max pcs;
       lookup_bits = config.lookup_bits l.config;
       ood_bits = config.ood_bits l.config;
+      version = config.version l.config;
     } in
     let p : Prover g.row.SC-Val.Denot g.row.SC-Challenge.Denot g.row.SC-Pcs-Commitment.Denot = record {
       inverse = g.SC.Challenge.FieldCore.inv;

@@ -18,7 +18,7 @@ play_phases-requires-clause-degree_bits g c =
     let s = statement_with (tables_of g.A.BaseAir.declaration g.A.Air.trees a.airs.now) (map (λ v. v.items) a.public_values.now) a.common.now in
     let p = a.proof.now in
     let b = bounds_with g.F.PrimeCore64.ORDER_U64 a.bounds in
-    let fit = fits g.row.R.Denot g.F.RingCore.ring b s p a.lookup_bits a.ood_bits c.requires.shape in
+    let fit = fits g.row.R.Denot g.F.RingCore.ring b s p a.version a.lookup_bits a.ood_bits c.requires.shape in
     ap length (c.deref.ensures.value ∙ ap (λ q. q.degree_bits) c.proof.view_is) ∙ fit.degree_bits ∙ sym (ap (λ z. length z.trace_widths) c.in_ok-shape.ensures)
 
 pub play_phases-requires-clause-publics : goal.play_phases-requires-clause-publics
@@ -27,7 +27,7 @@ play_phases-requires-clause-publics g c =
     let s = statement_with (tables_of g.A.BaseAir.declaration g.A.Air.trees a.airs.now) (map (λ v. v.items) a.public_values.now) a.common.now in
     let p = a.proof.now in
     let b = bounds_with g.F.PrimeCore64.ORDER_U64 a.bounds in
-    let fit = fits g.row.R.Denot g.F.RingCore.ring b s p a.lookup_bits a.ood_bits c.requires.shape in
+    let fit = fits g.row.R.Denot g.F.RingCore.ring b s p a.version a.lookup_bits a.ood_bits c.requires.shape in
     fit.publics ∙ sym (ap (λ z. z.public_value_counts) c.in_ok-shape.ensures)
 
 pub play_phases-requires-clause-permutation : goal.play_phases-requires-clause-permutation
@@ -36,7 +36,7 @@ play_phases-requires-clause-permutation g c =
     let s = statement_with (tables_of g.A.BaseAir.declaration g.A.Air.trees a.airs.now) (map (λ v. v.items) a.public_values.now) a.common.now in
     let p = a.proof.now in
     let b = bounds_with g.F.PrimeCore64.ORDER_U64 a.bounds in
-    let fit = fits g.row.R.Denot g.F.RingCore.ring b s p a.lookup_bits a.ood_bits c.requires.shape in
+    let fit = fits g.row.R.Denot g.F.RingCore.ring b s p a.version a.lookup_bits a.ood_bits c.requires.shape in
     c.as_ref.ensures.variant ∙ ap (λ q. is_some q.commitments.permutation) c.proof.view_is ∙ fit.permutation ∙ sym (ap (λ z. is_positive z.num_lookup_instances) c.in_ok-shape.ensures)
 
 pub play_phases-requires-clause-terminals : goal.play_phases-requires-clause-terminals
@@ -45,7 +45,7 @@ play_phases-requires-clause-terminals g c =
     let s = statement_with (tables_of g.A.BaseAir.declaration g.A.Air.trees a.airs.now) (map (λ v. v.items) a.public_values.now) a.common.now in
     let p = a.proof.now in
     let b = bounds_with g.F.PrimeCore64.ORDER_U64 a.bounds in
-    let fit = fits g.row.R.Denot g.F.RingCore.ring b s p a.lookup_bits a.ood_bits c.requires.shape in
+    let fit = fits g.row.R.Denot g.F.RingCore.ring b s p a.version a.lookup_bits a.ood_bits c.requires.shape in
     ap length (c.deref-3.ensures.value ∙ c.in_ok-terminals.ensures ∙ ap (filter_map (λ t. t)) c.terminals.ensures) ∙ fit.terminals ∙ sym (ap (λ z. z.num_lookup_instances) c.in_ok-shape.ensures)
 
 pub play_phases-requires-clause-randomization : goal.play_phases-requires-clause-randomization
@@ -54,7 +54,7 @@ play_phases-requires-clause-randomization g c =
     let s = statement_with (tables_of g.A.BaseAir.declaration g.A.Air.trees a.airs.now) (map (λ v. v.items) a.public_values.now) a.common.now in
     let p = a.proof.now in
     let b = bounds_with g.F.PrimeCore64.ORDER_U64 a.bounds in
-    let fit = fits g.row.R.Denot g.F.RingCore.ring b s p a.lookup_bits a.ood_bits c.requires.shape in
+    let fit = fits g.row.R.Denot g.F.RingCore.ring b s p a.version a.lookup_bits a.ood_bits c.requires.shape in
     c.as_ref-2.ensures.variant ∙ ap (λ q. is_some q.commitments.random) c.proof.view_is ∙ fit.randomization ∙ sym (ap (λ z. z.has_randomization_commitment) c.in_ok-shape.ensures)
 
 pub returns : goal.returns
@@ -96,5 +96,5 @@ returns g c =
     let lookups = ap (map (read_all {F = g.row.F.Denot})) (c.deref-2.ensures.value ∙ ap (λ x. x.lookups) c.common.view_is) in
     let counts = counts_right g.row.R.Denot f b s p c.requires.shape in
     let tables = length-map {B = AirTable g.row.F.Denot} a.airs.now (λ x. record { declaration = g.A.BaseAir.declaration x; trees = g.A.Air.trees x }) in
-    let k = handed_out _ _ f g.EF.RingCore.ring g.EF.BasedVectorSpace.DIMENSION a.challenger a.bounds.zk a.lookup_bits a.ood_bits s p c.in_ok-shape.shape v _ _ c.in_ok-shape.ensures given lookups (counts.lookups ∙ tables) c.play_phases.result c.play_phases.ensures in
+    let k = handed_out _ _ f g.EF.RingCore.ring g.EF.BasedVectorSpace.DIMENSION a.challenger a.version a.bounds.zk a.lookup_bits a.ood_bits s p c.in_ok-shape.shape v _ _ c.in_ok-shape.ensures given lookups (counts.lookups ∙ tables) c.play_phases.result c.play_phases.ensures in
     record { verdict = k.verdict; challenges = k.challenges; alpha = k.alpha; zeta = k.zeta; state = k.state }

@@ -19,6 +19,8 @@ returns c =
       lookup_pow_bits = i.lookup_pow_bits;
       has_randomization_commitment = i.has_randomization_commitment;
       ood_pow_bits = i.ood_pow_bits;
+      version = i.version;
+      lookup_counts = i.lookup_counts.items;
     }) _ _ _ _ _ _ _ _ _ _
     x1 c.in_ok-push_message.ensures
     (c.in_ok-push_public_values.ensures ∙ ap (λ l. c.push_message.new.steps.items ++ map public_values_step l) c.deref-2.ensures.value)
