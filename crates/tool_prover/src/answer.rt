@@ -32,8 +32,8 @@ fn refused(alloc: Global, name: &[u8], numbers: &[usize]) -> Mem<Answer>
 // The answer where no number passes this grinding of a balanced job.
 fn refused_grinding(alloc: Global, job: &[JobTable], step: GrindStep) -> Mem<Answer>
     requires balanced { IsBalancedJob same_word (read_tables job.now) }
-    requires told { IsTold (read_tables job.now) (ProvingError.WitnessNotFound step) }
-    ensures { IfOk result (λ a. IsJobAnswer (read_tables job.now) a.status a.text.items) }
+    requires told { IsTold version (read_tables job.now) (ProvingError.WitnessNotFound step) }
+    ensures { IfOk result (λ a. IsJobAnswer version (read_tables job.now) a.status a.text.items) }
 {
     match step {
         GrindStep::Lookup => refused(alloc, b"WitnessNotFound lookup", &[]),
@@ -48,8 +48,8 @@ fn refused_proof(
     error: ProvingError<PlainProverError>,
 ) -> Mem<Answer>
     requires balanced { IsBalancedJob same_word (read_tables job.now) }
-    requires told { IsTold (read_tables job.now) error }
-    ensures { IfOk result (λ a. IsJobAnswer (read_tables job.now) a.status a.text.items) }
+    requires told { IsTold version (read_tables job.now) error }
+    ensures { IfOk result (λ a. IsJobAnswer version (read_tables job.now) a.status a.text.items) }
 {
     match error {
         ProvingError::WitnessNotFound { step } => refused_grinding(alloc, job, step),
@@ -72,8 +72,8 @@ fn proved_answer(
     requires within { JobWithin (read_tables job.now) }
     requires balanced { IsBalancedJob same_word (read_tables job.now) }
     requires tables { tables.items ≡ statements_for (read_tables job.now) }
-    requires outcome { IsProvingOutcome (read_tables job.now) (Some proof) }
-    ensures { IfOk result (λ a. IsJobAnswer (read_tables job.now) a.status a.text.items) }
+    requires outcome { IsProvingOutcome version (read_tables job.now) (Some proof) }
+    ensures { IfOk result (λ a. IsJobAnswer version (read_tables job.now) a.status a.text.items) }
 {
     let file = ProofFile {
         version: 1,
@@ -94,7 +94,7 @@ fn proved_answer(
 /// `verify` writes `accepted`. The only error is running out of memory.
 pub fn answer_prove(alloc: Global, job: &[JobTable]) -> Mem<Answer>
     requires { JobWithin (read_tables job.now) }
-    ensures { IfOk result (λ a. IsJobAnswer (read_tables job.now) a.status a.text.items) }
+    ensures { IfOk result (λ a. IsJobAnswer version (read_tables job.now) a.status a.text.items) }
 {
     if let Some(word) = first_unbalanced(alloc, job)? {
         return refused(alloc, b"Unbalanced", &[word.as_canonical_u64() as usize]);

@@ -26,7 +26,7 @@ use p3_field::{
 
 /// A job has at most one answer: one status, and one text.
 pub fn there_is_one_answer()
-    ensures { (job : List (JobTable BabyBear)) (s t : Status) (x y : List ℕ) → IsJobAnswer job s x → IsJobAnswer job t y → SameAnswer s t x y }
+    ensures { (job : List (JobTable BabyBear)) (s t : Status) (x y : List ℕ) → IsJobAnswer version job s x → IsJobAnswer version job t y → SameAnswer s t x y }
 {}
 
 /// The plain scheme refuses nothing that a prover of a traced batch asks of it (not in Plonky3), in no phase (`granted`): over any

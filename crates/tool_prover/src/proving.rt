@@ -59,8 +59,8 @@ pub(crate) fn prove_job(
     requires within { JobWithin (read_tables job.now) }
     requires balanced { IsBalancedJob same_word (read_tables job.now) }
     requires tables { tables.now ≡ statements_for (read_tables job.now) }
-    ensures outcome { IfOk result (IsProvingOutcome (read_tables job.now)) }
-    ensures refusal { IfErr result (IsTold (read_tables job.now)) }
+    ensures outcome { IfOk result (IsProvingOutcome version (read_tables job.now)) }
+    ensures refusal { IfErr result (IsTold version (read_tables job.now)) }
 {
     let config = tool_config();
     let airs = airs_of(alloc, tables)?;

@@ -16,8 +16,8 @@ ListedWithin = ListWithin 1 8 TableWithin
 abbrev pub listed_numbers : List TableStatement → List ℕ
 listed_numbers = list_numbers statement_numbers
 
-pub version-grammar : Grammar (Between 1 1) one_number
-version-grammar = number-grammar 1 1 (omega arith) (omega arith)
+pub version-grammar : Grammar (Between 1 2) one_number
+version-grammar = number-grammar 1 2 (omega arith) (omega arith)
 
 pub listed-grammar : Grammar ListedWithin listed_numbers
 listed-grammar = list-grammar 1 8 (omega arith) (omega arith) table-grammar
@@ -32,7 +32,7 @@ pub stated-grammar : Grammar StatedWithin stated_numbers
 stated-grammar = then-grammar listed-grammar proof-grammar
 
 abbrev pub SeenWithin : ℕ × (List TableStatement × ToolProofData) → Type 0
-SeenWithin = ThenWithin (Between 1 1) StatedWithin
+SeenWithin = ThenWithin (Between 1 2) StatedWithin
 
 abbrev pub seen_numbers : ℕ × (List TableStatement × ToolProofData) → List ℕ
 seen_numbers = pair_numbers one_number stated_numbers
@@ -40,9 +40,9 @@ seen_numbers = pair_numbers one_number stated_numbers
 unfoldable pub same-file : SameTexts SeenWithin seen_numbers FileWithin file_numbers
 same-file = record {
   to = λ p. record { version = p.0; tables = p.1.0; proof = p.1.1 };
-  to_fits = λ p h. record { version = (let v = h.0 in omega (arith, v)); tables = h.1.0; proof = h.1.1 };
+  to_fits = λ p h. record { version = h.0; tables = h.1.0; proof = h.1.1 };
   to_numbers = λ p h. refl;
-  whole = λ f h. ((f.version, (f.tables, f.proof)), ((let v = h.version in (omega (arith, v), omega (arith, v))), (h.tables, h.proof)), refl);
+  whole = λ f h. ((f.version, (f.tables, f.proof)), (h.version, (h.tables, h.proof)), refl);
 }
 
 pub file-grammar : Grammar FileWithin file_numbers
