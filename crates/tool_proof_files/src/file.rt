@@ -2,7 +2,7 @@
 ghost use Rattle.std.specs.Prelude.{◌≡◌, IfOk};
 ghost use Rattle.tool_lines.specs.Texts.{line_text};
 ghost use Rattle.tool_lines.specs.WholeText.{ReadsText};
-ghost use Rattle.tool_proof_files.specs.Files.{FileWithin, file_numbers, version_of};
+ghost use Rattle.tool_proof_files.specs.Files.{FileWithin, file_numbers, version_number as number_of, version_of};
 
 use crate::table::StatedTable;
 use p3_field::Mem;
@@ -25,6 +25,16 @@ pub struct ProofFile {
     pub tables: Vec<TableStatement>,
     /// The proof.
     pub proof: ToolProof,
+}
+
+/// The number of a version, with which a proof file begins: 1 or 2.
+pub fn version_number(version: TranscriptVersion) -> u8
+    ensures { result ≡ number_of version }
+{
+    match version {
+        TranscriptVersion::V1 => 1,
+        TranscriptVersion::V2 => 2,
+    }
 }
 
 impl Model for ProofFile {

@@ -1,12 +1,14 @@
 -- The numbers of a proof file tell the file.
-use Rattle.std.proofs.Common.{ℕ, List, refl, arith}
+use Rattle.std.proofs.Common.{◌≡◌, ℕ, List, refl, arith}
+use Rattle.VERSIONHOME.{TranscriptVersion}
+use Rattle.VERSIONHOME.TheVariants.{V1, V2}
 use Rattle.tool_lines.specs.Texts.{Between, Grammar, ListWithin, list_numbers, one_number}
 use Rattle.tool_lines.specs.Laws.Grammars.{ThenWithin, SameTexts, list-grammar, number-grammar, pair_numbers, same-grammar, then-grammar}
 use Rattle.tool_statement.specs.StatedTables.{TableWithin}
 use Rattle.tool_statement.specs.declared.table.TableStatement.{TableStatement}
 use Rattle.tool_proof_text.specs.ProofText.{ProofWithin, ToolProofData, proof_numbers}
 use Rattle.tool_proof_text.specs.Laws.Proofs.{proof-grammar}
-use Rattle.tool_proof_files.specs.Files.{FileWithin, file_numbers, statement_numbers}
+use Rattle.tool_proof_files.specs.Files.{FileWithin, file_numbers, statement_numbers, version_number, version_of}
 use Rattle.tool_proof_files.specs.Laws.Tables.{table-grammar}
 
 -- a file is seen as its version, the list of its tables, and its proof
@@ -47,3 +49,12 @@ same-file = record {
 
 pub file-grammar : Grammar FileWithin file_numbers
 file-grammar = same-grammar same-file (then-grammar version-grammar stated-grammar)
+
+-- a version's number is 1 or 2, and tells the version
+pub version-within : (version : TranscriptVersion) → Between 1 2 (version_number version)
+version-within V1 = (omega arith, omega arith)
+version-within V2 = (omega arith, omega arith)
+
+pub version-back : (version : TranscriptVersion) → version_of (version_number version) ≡ version
+version-back V1 = refl
+version-back V2 = refl
