@@ -1,8 +1,8 @@
 -- What a run answers.
 use Rattle.std.specs.Prelude.{◌≡◌, ◌≤◌, ℕ, List, [], ◌∷◌, ◌++◌, length, codes, decimal, Option, Bool, true, false}
 use Rattle.p3_field.specs.declared.baby_bear.BabyBear.{BabyBear}
-use Rattle.VERSIONHOME.{TranscriptVersion}
-use Rattle.VERSIONHOME.TheVariants.{V1, V2}
+use Rattle.transcript_version.specs.declared.TranscriptVersion.{TranscriptVersion}
+use Rattle.transcript_version.specs.declared.TranscriptVersion.TheVariants.{V1, V2}
 use Rattle.tool_bytes.specs.Limits.{most_bytes}
 use Rattle.tool_lines.specs.Texts.{line_text}
 use Rattle.tool_lines.specs.WholeText.{IsNoText, IsFaultLine}

@@ -11,7 +11,7 @@ use Rattle.batch_transcript.specs.declared.failure.BatchTranscriptFailure.TheVar
 use Rattle.batch_statement.specs.declared.error.BatchVerificationError.TheVariants.{Transcript}
 use Rattle.verifier_draws.specs.Draws.{grinding_checks}
 use Rattle.verifier_batch.specs.BatchChecks.{drawn_of, draw_part}
-use Rattle.VERSIONHOME.{TranscriptVersion}
+use Rattle.transcript_version.specs.declared.TranscriptVersion.{TranscriptVersion}
 use Rattle.tool_statement.specs.Config.{tool_setting}
 use Rattle.law_swap_checks.specs.SwapShape.{SwapProof}
 use Rattle.law_swap_checks.specs.SwapChecks.{Refusal, grinding_check}

@@ -32,7 +32,7 @@ use Rattle.batch_statement.specs.declared.error.BatchVerificationError.TheVarian
 use Rattle.verifier_identity.specs.Identity.{folded_at, identity_checks}
 use Rattle.verifier_identity.specs.TableIdentity.{verified, periods_check}
 use Rattle.verifier_batch.specs.BatchChecks.{identities_at, all_lookup_challenges, domains_of}
-use Rattle.VERSIONHOME.{TranscriptVersion}
+use Rattle.transcript_version.specs.declared.TranscriptVersion.{TranscriptVersion}
 use Rattle.tool_statement.specs.Config.{tool_setting}
 use Rattle.law_swap_checks.specs.SwapShape.{SwapProof}
 use Rattle.law_swap_checks.specs.SwapChecks.{value_at_point, swap_trace_domain, IsInTraceDomain, swap_values, SwapIdentity, zeta_checks}

@@ -20,7 +20,7 @@ use Rattle.batch_constraints.specs.Sizing.{log_ceil}
 use Rattle.batch_statement.specs.declared.error.BatchVerificationError.TheVariants.{Verification}
 use Rattle.verifier_claims.specs.Claims.{claims, claims_by, on_subgroup}
 use Rattle.verifier_batch.specs.OpeningChecks.{claim_checks, claimed, opens_check, opening_checks}
-use Rattle.VERSIONHOME.{TranscriptVersion}
+use Rattle.transcript_version.specs.declared.TranscriptVersion.{TranscriptVersion}
 use Rattle.tool_statement.specs.Config.{tool_setting, tool_backend, tool_scheme}
 use Rattle.law_swap_checks.specs.SwapShape.{SwapProof}
 use Rattle.law_swap_checks.specs.SwapChecks.{Refusal, column_degree_check, column_value_check, main_column_checks, quotient_checks, swap_next_point}

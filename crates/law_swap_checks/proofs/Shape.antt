@@ -13,7 +13,7 @@ use Rattle.batch_statement.specs.Proof.{OpenedWithLookups}
 use Rattle.verifier_shape.specs.ShapeChecks.{shape_checks, table_checks}
 use Rattle.batch_statement.specs.Words.{is_there}
 use Rattle.verifier_batch.specs.OpeningChecks.{shape_bounds_of}
-use Rattle.VERSIONHOME.{TranscriptVersion}
+use Rattle.transcript_version.specs.declared.TranscriptVersion.{TranscriptVersion}
 use Rattle.tool_statement.specs.Config.{tool_setting}
 use Rattle.law_swap_checks.specs.SwapShape.{SwapProof}
 use Rattle.law_swap_checks.proofs.Parts.{ArePlain, opening_of, proof_of, swap_statement}

@@ -16,7 +16,7 @@ use Rattle.verifier_shape.specs.ShapeChecks.{shape_checks}
 use Rattle.verifier_batch.specs.OpeningChecks.{shape_bounds_of, opening_checks}
 use Rattle.verifier_identity.specs.TableIdentity.{terminal_check}
 use Rattle.verifier_batch.specs.BatchChecks.{checks, drawn_of, draw_part, identity_part}
-use Rattle.VERSIONHOME.{TranscriptVersion}
+use Rattle.transcript_version.specs.declared.TranscriptVersion.{TranscriptVersion}
 use Rattle.tool_statement.specs.Config.{tool_setting, tool_backend}
 use Rattle.tool_statement.specs.StatedTables.{tool_statement}
 use Rattle.tool_statement.specs.declared.table.TableStatement.TheVariants.{Swap}

@@ -27,7 +27,7 @@ use Rattle.batch_statement.specs.declared.error.BatchVerificationError.{BatchVer
 use Rattle.batch_statement.specs.declared.error.BatchVerificationError.TheVariants.{Verification, Transcript}
 use Rattle.batch_statement.specs.Words.{no_opened}
 use Rattle.verifier_batch.specs.BatchChecks.{drawn_of}
-use Rattle.VERSIONHOME.{TranscriptVersion}
+use Rattle.transcript_version.specs.declared.TranscriptVersion.{TranscriptVersion}
 use Rattle.tool_statement.specs.Config.{tool_setting}
 use Rattle.tool_statement.specs.StatedTables.{tool_statement}
 use Rattle.tool_statement.specs.declared.table.TableStatement.TheVariants.{Swap}

@@ -3,7 +3,7 @@ ghost use Rattle.std.specs.Prelude.{◌≡◌, ◌↔◌, ℕ, ◌≤◌, List, 
 ghost use Rattle.p3_field.specs.Checks.{FirstFails, NoneFails};
 ghost use Rattle.p3_field.specs.declared.baby_bear.BabyBear.{BabyBear};
 ghost use Rattle.verifier_batch.specs.BatchChecks.{checks};
-ghost use Rattle.VERSIONHOME.{TranscriptVersion};
+ghost use Rattle.transcript_version.specs.declared.TranscriptVersion.{TranscriptVersion};
 ghost use Rattle.tool_statement.specs.Config.{tool_backend, tool_setting};
 ghost use Rattle.tool_statement.specs.StatedTables.{tool_statement};
 ghost use Rattle.tool_statement.specs.declared.table.TableStatement.TheVariants.{Swap};

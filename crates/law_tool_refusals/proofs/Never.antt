@@ -12,8 +12,8 @@ use Rattle.p3_lookup.specs.declared.terminal.LookupError.TheVariants.{Multiplici
 use Rattle.batch_transcript.specs.declared.failure.BatchTranscriptFailure.TheVariants.{LookupPowWitness, MissingLookupPowWitness, UnexpectedLookupPowWitness, NonCanonicalLookupPowWitness, OodPowWitness, NonCanonicalOodPowWitness}
 use Rattle.batch_statement.specs.declared.error.BatchVerificationError.{BatchVerificationError}
 use Rattle.batch_statement.specs.declared.error.BatchVerificationError.TheVariants.{Verification, Lookup, Transcript, OutOfMemory}
-use Rattle.VERSIONHOME.{TranscriptVersion}
-use Rattle.VERSIONHOME.TheVariants.{V2}
+use Rattle.transcript_version.specs.declared.TranscriptVersion.{TranscriptVersion}
+use Rattle.transcript_version.specs.declared.TranscriptVersion.TheVariants.{V2}
 use Rattle.tool_verifier.specs.FileAnswer.{mismatch_text}
 use Rattle.law_tool_valid.specs.Job.{JobTable}
 use Rattle.tool_verifier.specs.Refusals.{fault_text, refused_text}

@@ -28,7 +28,7 @@ use Rattle.batch_statement.specs.declared.error.BatchVerificationError.{BatchVer
 use Rattle.batch_statement.specs.declared.preprocessed.PreprocessedInstanceMeta.{PreprocessedInstanceMeta}
 use Rattle.law_valid.specs.Laws.Made.{entry_bits}
 use Rattle.verifier_batch.specs.BatchChecks.{FirstFault}
-use Rattle.VERSIONHOME.{TranscriptVersion}
+use Rattle.transcript_version.specs.declared.TranscriptVersion.{TranscriptVersion}
 use Rattle.tool_proof_text.specs.ProofText.{ToolProofData}
 use Rattle.tool_statement.specs.Config.{tool_backend, tool_setting}
 use Rattle.tool_statement.specs.StatedTables.{HaveStatedHeights, TableWithin, air_table_of, entries_of, log_height_of, log_heights_of, preprocessed_commitment_of, preprocessed_traces, publics_of, source_of_table, sources_of, tool_common, tool_statement}

@@ -1,7 +1,7 @@
 //! Which refusals never come from the program's `verify`: a law as the contract of a function that computes nothing.
 ghost use Rattle.std.specs.Prelude.{All, List, length, ℕ, ◌≤◌};
 ghost use Rattle.batch_statement.specs.declared.error.BatchVerificationError.{BatchVerificationError};
-ghost use Rattle.VERSIONHOME.{TranscriptVersion};
+ghost use Rattle.transcript_version.specs.declared.TranscriptVersion.{TranscriptVersion};
 ghost use Rattle.batch_tool.specs.Answer.{IsAnswer, IsVerifyAnswer};
 ghost use Rattle.verifier_batch.specs.BatchChecks.{FirstFault};
 ghost use Rattle.plain_pcs.specs.declared.error.PlainError.{PlainError};

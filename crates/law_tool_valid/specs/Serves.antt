@@ -8,7 +8,7 @@ use Rattle.p3_challenger.specs.Script.{ChallengerOf}
 use Rattle.p3_field.specs.declared.baby_bear.BabyBear.{BabyBear}
 use Rattle.p3_field.specs.declared.quartic.QuarticExtension.{QuarticExtension}
 use Rattle.blake3_prime.specs.Meanings.{RowMeans}
-use Rattle.VERSIONHOME.{TranscriptVersion}
+use Rattle.transcript_version.specs.declared.TranscriptVersion.{TranscriptVersion}
 use Rattle.law_tool_valid.specs.Job.{JobTable, swap_of, wheel_of, take_of, give_of, hash_of}
 
 -- what a table needs of the ring that its cells are in: for compressions their constraints mean compressions there

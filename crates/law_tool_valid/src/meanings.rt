@@ -21,7 +21,7 @@ ghost use Rattle.law_committed.specs.Fields.{FieldsLaws};
 ghost use Rattle.law_committed.specs.Traces.{committed_traces};
 ghost use Rattle.law_valid.specs.Traced.{no_rows, traces_of};
 ghost use Rattle.law_valid.specs.Valid.{Valid};
-ghost use Rattle.VERSIONHOME.{TranscriptVersion};
+ghost use Rattle.transcript_version.specs.declared.TranscriptVersion.{TranscriptVersion};
 ghost use Rattle.tool_tables.specs.Tool.{tool_declaration, tool_interactions, tool_trees};
 ghost use Rattle.tool_tables.specs.declared.tool.ToolAir.{ToolAir};
 ghost use Rattle.law_tool_valid.specs.Job.{AreAirsOf, IsJob, IsJobTableWithin, JobTable, job_table, job_log_height_of, log_parts_of, job_publics_of, source_of_job, trace_of, traced_job};

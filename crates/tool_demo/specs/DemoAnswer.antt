@@ -1,6 +1,6 @@
 -- What `demo N` answers: a status and a text.
 use Rattle.std.specs.Prelude.{◌≡◌, ◌==◌, ◌≤◌, ◌≢◌, ℕ, List, [], ◌∷◌, ◌++◌, codes, count_by, decimal, Option, MatchOption}
-use Rattle.VERSIONHOME.TheVariants.{V2}
+use Rattle.transcript_version.specs.declared.TranscriptVersion.TheVariants.{V2}
 use Rattle.tool_demo.specs.Demo.{demo_job}
 use Rattle.tool_prover.specs.JobAnswer.{IsJobAnswer}
 use Rattle.tool_verifier.specs.declared.status.Status.{Status}

@@ -8,7 +8,7 @@ use Rattle.law_soundness.specs.BaseRows.{main_row}
 use Rattle.law_soundness.specs.Commitment.{matrix_at}
 use Rattle.law_soundness.specs.CommittedBatch.{committed_table_at}
 use Rattle.tool_proof_text.specs.ProofText.{ToolProofData}
-use Rattle.VERSIONHOME.TheVariants.{V1}
+use Rattle.transcript_version.specs.declared.TranscriptVersion.TheVariants.{V1}
 use Rattle.tool_statement.specs.Config.{tool_setting}
 use Rattle.tool_statement.specs.StatedTables.{tool_statement}
 use Rattle.tool_statement.specs.declared.table.TableStatement.{TableStatement}

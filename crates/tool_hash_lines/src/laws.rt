@@ -2,7 +2,7 @@
 ghost use Rattle.std.specs.Prelude.{List, map};
 ghost use Rattle.batch_statement.specs.Statement.{WellFormed};
 ghost use Rattle.verifier_batch.specs.BatchChecks.{Accepted};
-ghost use Rattle.VERSIONHOME.{TranscriptVersion};
+ghost use Rattle.transcript_version.specs.declared.TranscriptVersion.{TranscriptVersion};
 ghost use Rattle.tool_proof_text.specs.ProofText.{ToolProofData};
 ghost use Rattle.tool_statement.specs.Config.{tool_backend, tool_setting};
 ghost use Rattle.tool_statement.specs.StatedTables.{HaveStatedHeights, air_table_of, tool_common, tool_statement};

@@ -8,7 +8,7 @@ use Rattle.batch_transcript.specs.declared.failure.GrindStep.{GrindStep}
 use Rattle.batch_transcript.specs.declared.failure.GrindStep.TheVariants.{Lookup, Ood}
 use Rattle.prover_answer.specs.declared.error.ProvingError.{ProvingError}
 use Rattle.prover_answer.specs.declared.error.ProvingError.TheVariants.{LookupDenominatorZero, WitnessNotFound}
-use Rattle.VERSIONHOME.{TranscriptVersion}
+use Rattle.transcript_version.specs.declared.TranscriptVersion.{TranscriptVersion}
 use Rattle.tool_lines.specs.Texts.{line_text}
 use Rattle.tool_proof_files.specs.Files.{FileWithin, file_numbers, version_number}
 use Rattle.tool_proof_text.specs.ProofText.{ToolProofData}

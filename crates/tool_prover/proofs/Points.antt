@@ -13,7 +13,7 @@ use Rattle.p3_field.specs.Quartic.{of_baby_bear_value, quartic_ring}
 use Rattle.p3_field.specs.declared.baby_bear.BabyBear.{BabyBear}
 use Rattle.p3_field.specs.declared.quartic.QuarticExtension.{QuarticExtension}
 use Rattle.verifier_identity.specs.Identity.{IsInDomain}
-use Rattle.VERSIONHOME.TheVariants.{V1}
+use Rattle.transcript_version.specs.declared.TranscriptVersion.TheVariants.{V1}
 use Rattle.tool_statement.specs.Config.{tool_setting}
 use Rattle.tool_statement.specs.StatedTables.{log_height_of, log_heights_of}
 use Rattle.tool_statement.specs.declared.table.TableStatement.{TableStatement}

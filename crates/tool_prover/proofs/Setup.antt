@@ -26,7 +26,7 @@ use Rattle.law_valid.specs.Valid.{Valid}
 use Rattle.law_honest.specs.HonestProof.{Prover}
 use Rattle.prover_answer.specs.Batch.{HasProverData, batch_of, preprocessed_all, table_at}
 use Rattle.prover_answer.specs.PlainBackend.{baby_bear_prover}
-use Rattle.VERSIONHOME.{TranscriptVersion}
+use Rattle.transcript_version.specs.declared.TranscriptVersion.{TranscriptVersion}
 use Rattle.tool_jobs.specs.Jobs.{JobWithin}
 use Rattle.tool_jobs.specs.Laws.Airs.{are-airs}
 use Rattle.tool_jobs.specs.Laws.Statements.{statements-heights, statements-publics, statements-sources}

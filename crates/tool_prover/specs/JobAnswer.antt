@@ -1,7 +1,7 @@
 -- What `prove` answers for a job: a status and a text.
 use Rattle.std.specs.Prelude.{◌≡◌, ◌⊎◌, ℕ, ◌<◌, List, [], ◌∷◌, length, map, codes, Option, None, Some, ⊤}
 use Rattle.p3_field.specs.declared.baby_bear.BabyBear.{BabyBear}
-use Rattle.VERSIONHOME.{TranscriptVersion}
+use Rattle.transcript_version.specs.declared.TranscriptVersion.{TranscriptVersion}
 use Rattle.tool_lines.specs.Texts.{line_text}
 use Rattle.law_acceptance.specs.Honest.{IsOutsideRows}
 use Rattle.law_honest.specs.HonestProof.{IsBuilt, IsDenominatorZero, LacksLookupGround, LacksOodGround, zeta}

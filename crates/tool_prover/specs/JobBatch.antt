@@ -8,7 +8,7 @@ use Rattle.plain_pcs.specs.Scheme.{PlainCommitmentData}
 use Rattle.law_honest.specs.HonestProof.{Prover}
 use Rattle.prover_answer.specs.Batch.{Batch}
 use Rattle.prover_answer.specs.PlainBackend.{baby_bear_prover}
-use Rattle.VERSIONHOME.{TranscriptVersion}
+use Rattle.transcript_version.specs.declared.TranscriptVersion.{TranscriptVersion}
 use Rattle.tool_jobs.specs.Stated.{statement_of}
 use Rattle.tool_statement.specs.Config.{tool_scheme, tool_setting}
 use Rattle.tool_statement.specs.StatedTables.{tool_statement}

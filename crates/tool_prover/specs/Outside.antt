@@ -3,7 +3,7 @@ use Rattle.std.specs.Prelude.{ℕ}
 use Rattle.p3_field.specs.Laws.SubgroupSelectors.{subgroup}
 use Rattle.p3_field.specs.declared.quartic.QuarticExtension.{QuarticExtension}
 use Rattle.verifier_identity.specs.Identity.{IsInDomain}
-use Rattle.VERSIONHOME.TheVariants.{V1}
+use Rattle.transcript_version.specs.declared.TranscriptVersion.TheVariants.{V1}
 use Rattle.tool_statement.specs.Config.{tool_setting}
 
 -- the point is none of the subgroup of size 2^k; the transcript's version has no part in it

@@ -13,7 +13,7 @@ ghost use Rattle.law_soundness.specs.PlainSetting.{IsOverFields, plain_scheme};
 ghost use Rattle.prover_answer.specs.Batch.{Batch, IsTracedAll, table_count};
 ghost use Rattle.prover_answer.specs.PlainBackend.{plain_prover_backend};
 ghost use Rattle.prover_answer.specs.Telling.{IsOverloaded, PhaseTells};
-ghost use Rattle.VERSIONHOME.{TranscriptVersion};
+ghost use Rattle.transcript_version.specs.declared.TranscriptVersion.{TranscriptVersion};
 ghost use Rattle.tool_prover.specs.JobAnswer.{IsJobAnswer};
 ghost use Rattle.law_tool_valid.specs.Job.{JobTable};
 ghost use Rattle.tool_verifier.specs.FileAnswer.{SameAnswer};

@@ -9,7 +9,7 @@ use Rattle.p3_challenger.specs.declared.sha256_challenger.Sha256Challenger.{Sha2
 use Rattle.plain_pcs.specs.Scheme.{Blowup, PlainCommitmentData}
 use Rattle.plain_pcs.specs.Observing.{commitment_elements}
 use Rattle.batch_config.specs.Setting.{Setting}
-use Rattle.VERSIONHOME.{TranscriptVersion}
+use Rattle.transcript_version.specs.declared.TranscriptVersion.{TranscriptVersion}
 use Rattle.tool_statement.specs.Config.{tool_setting}
 
 abbrev pub setting_with : Blowup → Sha256Challenger → ℕ → ℕ → TranscriptVersion → Setting Sha256Challenger BabyBear QuarticExtension (PlainCommitmentData BabyBear)

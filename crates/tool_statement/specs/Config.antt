@@ -12,7 +12,7 @@ use Rattle.plain_pcs.specs.Observing.{commitment_elements}
 use Rattle.plain_pcs.specs.declared.commitment.PlainProof.{PlainProof}
 use Rattle.plain_pcs.specs.declared.error.PlainError.{PlainError}
 use Rattle.batch_config.specs.Setting.{Setting, Backend}
-use Rattle.VERSIONHOME.{TranscriptVersion}
+use Rattle.transcript_version.specs.declared.TranscriptVersion.{TranscriptVersion}
 
 -- the plain scheme over BabyBear, which has subgroups of sizes up to 2^27, with a blowup of two
 abbrev pub tool_scheme : Scheme BabyBear

@@ -7,7 +7,7 @@ use Rattle.batch_statement.specs.declared.error.BatchVerificationError.{BatchVer
 use Rattle.batch_statement.specs.declared.error.BatchVerificationError.TheVariants.{Verification, Lookup, Transcript, OutOfMemory}
 use Rattle.batch_statement.specs.Verdict.{IsRefusal}
 use Rattle.verifier_batch.specs.BatchChecks.{FirstFault, checks}
-use Rattle.VERSIONHOME.{TranscriptVersion}
+use Rattle.transcript_version.specs.declared.TranscriptVersion.{TranscriptVersion}
 use Rattle.tool_statement.specs.Config.{tool_setting, tool_backend}
 use Rattle.tool_statement.specs.StatedTables.{HasStatedHeight, HaveStatedHeights, tool_statement}
 use Rattle.tool_statement.specs.declared.table.TableStatement.{TableStatement}

@@ -4,7 +4,7 @@ use Rattle.std.proofs.lemmas.Bool.{cases_lt}
 use Rattle.p3_field.specs.Checks.{AreSingle, IsFirstFailing}
 use Rattle.p3_field.specs.Laws.Checks.{none_first, same_first}
 use Rattle.verifier_batch.specs.BatchChecks.{checks}
-use Rattle.VERSIONHOME.{TranscriptVersion}
+use Rattle.transcript_version.specs.declared.TranscriptVersion.{TranscriptVersion}
 use Rattle.tool_statement.specs.Config.{tool_setting, tool_backend}
 use Rattle.tool_statement.specs.StatedTables.{tool_statement}
 use Rattle.tool_statement.specs.declared.table.TableStatement.{TableStatement}

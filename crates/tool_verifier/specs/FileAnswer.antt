@@ -5,7 +5,7 @@ use Rattle.blake3_compress.specs.Compress.{Input}
 use Rattle.blake3_compress.specs.TraceRow.{AreWords}
 use Rattle.p3_field.specs.declared.baby_bear.BabyBear.{BabyBear}
 use Rattle.plain_pcs.specs.declared.error.PlainError.{PlainError}
-use Rattle.VERSIONHOME.{TranscriptVersion}
+use Rattle.transcript_version.specs.declared.TranscriptVersion.{TranscriptVersion}
 use Rattle.tool_hash_lines.specs.Compressions.{printed_compression_words}
 use Rattle.tool_hash_lines.specs.PrintedRows.{committed_cells, printed_rows}
 use Rattle.tool_hash_lines.specs.RowText.{row_line, words_line}

@@ -1,6 +1,6 @@
 //! That a proof file has one answer: a law as the contract of a function that computes nothing.
 ghost use Rattle.std.specs.Prelude.{List, ℕ};
-ghost use Rattle.VERSIONHOME.{TranscriptVersion};
+ghost use Rattle.transcript_version.specs.declared.TranscriptVersion.{TranscriptVersion};
 ghost use Rattle.tool_proof_text.specs.ProofText.{ToolProofData};
 ghost use Rattle.tool_verifier.specs.FileAnswer.{IsFileAnswer, SameAnswer};
 ghost use Rattle.tool_statement.specs.declared.table.TableStatement.{TableStatement};

@@ -5,8 +5,8 @@ use Rattle.std.proofs.lemmas.Bool.{cases_lt}
 use Rattle.std.proofs.lemmas.Fmt.{decimal_injective}
 use Rattle.std.proofs.lemmas.List.{append-nil}
 use Rattle.p3_field.specs.declared.baby_bear.BabyBear.{BabyBear}
-use Rattle.VERSIONHOME.{TranscriptVersion}
-use Rattle.VERSIONHOME.TheVariants.{V1, V2}
+use Rattle.transcript_version.specs.declared.TranscriptVersion.{TranscriptVersion}
+use Rattle.transcript_version.specs.declared.TranscriptVersion.TheVariants.{V1, V2}
 use Rattle.tool_lines.specs.Texts.{line_text, Grammar}
 use Rattle.tool_lines.specs.WholeText.{IsFaultLine}
 use Rattle.tool_lines.specs.Laws.Lines.{lines-tell}

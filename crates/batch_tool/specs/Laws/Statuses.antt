@@ -1,7 +1,7 @@
 -- The statuses of a command's answers: the command did its work, refused its input, or found it to be no text of its grammar.
 use Rattle.std.specs.Prelude.{ℕ, List, ⊤}
 use Rattle.p3_field.specs.declared.baby_bear.BabyBear.{BabyBear}
-use Rattle.VERSIONHOME.{TranscriptVersion}
+use Rattle.transcript_version.specs.declared.TranscriptVersion.{TranscriptVersion}
 use Rattle.law_tool_valid.specs.Job.{JobTable}
 use Rattle.tool_prover.specs.JobAnswer.{IsJobAnswer}
 use Rattle.tool_statement.specs.declared.table.TableStatement.{TableStatement}

@@ -14,7 +14,7 @@ use Rattle.blake3_prime.specs.Meanings.{RowMeans}
 use Rattle.blake3_prime.specs.Laws.TraceRow.{row_means}
 use Rattle.law_committed.specs.Fields.{baby_bear_field}
 use Rattle.law_committed.specs.Laws.BabyBearFields.{baby_bear_fields}
-use Rattle.VERSIONHOME.{TranscriptVersion}
+use Rattle.transcript_version.specs.declared.TranscriptVersion.{TranscriptVersion}
 use Rattle.law_tool_valid.specs.Serves.{ServesJobs, baby_bear_setting}
 
 -- BabyBear is a prime field of more than 2^20 elements, so the constraints of compressions mean compressions there

@@ -1,7 +1,7 @@
 -- A number has at most one answer, where each job has one.
 use Rattle.std.proofs.Common.{ℕ, List, refl, sym, ◌∙◌, ap}
 use Rattle.p3_field.specs.declared.baby_bear.BabyBear.{BabyBear}
-use Rattle.VERSIONHOME.TheVariants.{V2}
+use Rattle.transcript_version.specs.declared.TranscriptVersion.TheVariants.{V2}
 use Rattle.law_tool_valid.specs.Job.{JobTable}
 use Rattle.tool_prover.specs.JobAnswer.{IsJobAnswer}
 use Rattle.tool_demo.specs.Demo.{demo_job}

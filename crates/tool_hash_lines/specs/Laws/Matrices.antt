@@ -27,7 +27,7 @@ use Rattle.law_soundness.specs.Laws.Checked.{claims_opened}
 use Rattle.law_soundness.specs.Laws.Opened.{columns_declared, counts}
 use Rattle.law_soundness.specs.Laws.Rounds.{main_bound}
 use Rattle.law_soundness.specs.PlainSetting.{IsPlain, plain_scheme}
-use Rattle.VERSIONHOME.{TranscriptVersion}
+use Rattle.transcript_version.specs.declared.TranscriptVersion.{TranscriptVersion}
 use Rattle.tool_proof_text.specs.ProofText.{ToolProofData}
 use Rattle.tool_statement.specs.Config.{tool_backend, tool_scheme, tool_setting}
 use Rattle.tool_statement.specs.StatedTables.{HaveStatedHeights, log_height_of, source_of_table, air_table_of, tool_common, tool_statement}

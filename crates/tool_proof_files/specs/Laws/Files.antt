@@ -1,7 +1,7 @@
 -- The numbers of a proof file tell the file.
 use Rattle.std.proofs.Common.{◌≡◌, ℕ, List, refl, arith}
-use Rattle.VERSIONHOME.{TranscriptVersion}
-use Rattle.VERSIONHOME.TheVariants.{V1, V2}
+use Rattle.transcript_version.specs.declared.TranscriptVersion.{TranscriptVersion}
+use Rattle.transcript_version.specs.declared.TranscriptVersion.TheVariants.{V1, V2}
 use Rattle.tool_lines.specs.Texts.{Between, Grammar, ListWithin, list_numbers, one_number}
 use Rattle.tool_lines.specs.Laws.Grammars.{ThenWithin, SameTexts, list-grammar, number-grammar, pair_numbers, same-grammar, then-grammar}
 use Rattle.tool_statement.specs.StatedTables.{TableWithin}

@@ -13,8 +13,8 @@ use Rattle.p3_field.specs.declared.baby_bear.BabyBear.{BabyBear}
 use Rattle.p3_field.specs.declared.quartic.QuarticExtension.{QuarticExtension}
 use Rattle.p3_matrix.specs.Matrix.{Rows, height}
 use Rattle.air_core.specs.Laws.Lists.{all_tabulate}
-use Rattle.VERSIONHOME.{TranscriptVersion}
-use Rattle.VERSIONHOME.TheVariants.{V1}
+use Rattle.transcript_version.specs.declared.TranscriptVersion.{TranscriptVersion}
+use Rattle.transcript_version.specs.declared.TranscriptVersion.TheVariants.{V1}
 use Rattle.tool_lines.specs.Texts.{Small, element_numbers, extension_numbers, line_text, list_numbers, one_number, option_numbers}
 use Rattle.tool_proof_text.specs.Matrices.{matrix_numbers}
 use Rattle.tool_proof_text.specs.Openings.{instance_numbers}

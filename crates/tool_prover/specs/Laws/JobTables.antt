@@ -17,7 +17,7 @@ use Rattle.batch_statement.specs.Words.{no_table}
 use Rattle.batch_statement.specs.Statement.{AirTable}
 use Rattle.law_valid.specs.Traced.{TracedTable, declared, log_parts, log_rows, no_rows}
 use Rattle.law_valid.specs.Valid.{HasQuotientDomain, IsTraced}
-use Rattle.VERSIONHOME.{TranscriptVersion}
+use Rattle.transcript_version.specs.declared.TranscriptVersion.{TranscriptVersion}
 use Rattle.tool_statement.specs.Config.{tool_setting}
 use Rattle.tool_statement.specs.StatedTables.{log_heights_of, air_table_of, tool_common}
 use Rattle.tool_statement.specs.declared.table.TableStatement.{TableStatement}

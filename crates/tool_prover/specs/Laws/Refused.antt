@@ -12,7 +12,7 @@ use Rattle.prover_answer.specs.PlainBackend.{plain_prover_backend}
 use Rattle.prover_answer.specs.Telling.{Tells}
 use Rattle.prover_answer.specs.declared.error.ProvingError.{ProvingError}
 use Rattle.prover_answer.specs.declared.error.ProvingError.TheVariants.{LookupDenominatorZero, MultiplicityBound, OutOfMemory, Pcs, WitnessNotFound}
-use Rattle.VERSIONHOME.{TranscriptVersion}
+use Rattle.transcript_version.specs.declared.TranscriptVersion.{TranscriptVersion}
 use Rattle.tool_statement.specs.Config.{tool_scheme, tool_setting}
 use Rattle.law_tool_valid.specs.Job.{IsJobTableWithin, JobTable}
 use Rattle.tool_prover.specs.JobAnswer.{IsTold}

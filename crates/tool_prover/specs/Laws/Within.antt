@@ -12,8 +12,8 @@ use Rattle.p3_field.specs.declared.baby_bear.BabyBear.{BabyBear}
 use Rattle.p3_field.specs.declared.quartic.QuarticExtension.{QuarticExtension}
 use Rattle.p3_matrix.specs.Matrix.{Rows}
 use Rattle.air_core.specs.Laws.Lists.{all_tabulate}
-use Rattle.VERSIONHOME.{TranscriptVersion}
-use Rattle.VERSIONHOME.TheVariants.{V1}
+use Rattle.transcript_version.specs.declared.TranscriptVersion.{TranscriptVersion}
+use Rattle.transcript_version.specs.declared.TranscriptVersion.TheVariants.{V1}
 use Rattle.tool_proof_files.specs.Laws.Files.{version-within}
 use Rattle.tool_lines.specs.Texts.{Between, ListWithin, OptionWithin, Unlimited}
 use Rattle.tool_proof_text.specs.Matrices.{MatrixWithin}

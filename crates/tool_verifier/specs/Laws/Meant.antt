@@ -33,7 +33,7 @@ use Rattle.law_soundness.specs.Laws.SwapTables.{first_of, swaps_end}
 use Rattle.law_soundness.specs.Meaning.{HoldUnlessUnlucky, IsAlphaUnlucky, IsZetaUnlucky}
 use Rattle.law_soundness.specs.PlainSetting.{plain_scheme}
 use Rattle.law_hash_soundness.specs.Laws.Hashes.{row_is_compression}
-use Rattle.VERSIONHOME.{TranscriptVersion}
+use Rattle.transcript_version.specs.declared.TranscriptVersion.{TranscriptVersion}
 use Rattle.tool_tables.specs.Laws.Tool.{tool-read}
 use Rattle.air_tables.specs.Laws.Wheel.{wheel-read}
 use Rattle.air_tables.specs.Wheel.{turns}

@@ -1,8 +1,8 @@
 use Rattle.std.proofs.Common.{◌≡◌}
 use Rattle.p3_field.specs.Checks.{AreSingle}
 use Rattle.verifier_batch.specs.BatchChecks.{checks}
-use Rattle.VERSIONHOME.{TranscriptVersion}
-use Rattle.VERSIONHOME.TheVariants.{V1, V2}
+use Rattle.transcript_version.specs.declared.TranscriptVersion.{TranscriptVersion}
+use Rattle.transcript_version.specs.declared.TranscriptVersion.TheVariants.{V1, V2}
 use Rattle.tool_statement.specs.Config.{tool_backend, tool_setting}
 use Rattle.tool_statement.specs.StatedTables.{tool_statement}
 use Rattle.tool_verifier.proofs.OneAnswer.{same_answer}
