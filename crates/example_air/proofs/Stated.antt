@@ -15,9 +15,9 @@ use Rattle.batch_statement.specs.Verdict.{IsRefusal, IsVerdict}
 use Rattle.batch_statement.specs.Statement.{Common, Statement}
 use Rattle.batch_statement.specs.declared.error.BatchVerificationError.{BatchVerificationError}
 use Rattle.verifier_batch.specs.BatchChecks.{checks}
-use Rattle.law_soundness.specs.BaseRows.{IsMainHere, main_row}
+use Rattle.law_committed.specs.BaseRows.{IsMainHere, main_row}
 use Rattle.law_soundness.specs.CommittedBatch.{committed_table_at}
-use Rattle.law_soundness.specs.Laws.BaseRows.{rows_mean}
+use Rattle.law_committed.specs.Laws.BaseRows.{rows_mean}
 use Rattle.law_soundness.specs.Laws.SwapTables.{first_of}
 use Rattle.law_soundness.specs.Meaning.{CommittedTablesHold, HoldUnlessUnlucky, IsAlphaUnlucky, IsZetaUnlucky}
 use Rattle.tool_statement.specs.Config.{backend_of, tool_backend, tool_setting}

@@ -20,7 +20,7 @@ use Rattle.batch_statement.specs.Proof.{ProofData}
 use Rattle.batch_statement.specs.Statement.{Common, Statement, AirTable}
 use Rattle.batch_statement.specs.declared.error.BatchVerificationError.{BatchVerificationError}
 use Rattle.batch_statement.specs.declared.error.BatchVerificationError.TheVariants.{Verification}
-use Rattle.law_soundness.specs.BaseRows.{main_row}
+use Rattle.law_committed.specs.BaseRows.{main_row}
 use Rattle.law_soundness.specs.CommittedBatch.{committed_table_at}
 use Rattle.law_soundness.specs.Meaning.{IsAlphaUnlucky, IsZetaUnlucky}
 use Rattle.tool_statement.specs.Config.{tool_scheme, tool_setting}

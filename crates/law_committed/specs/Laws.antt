@@ -3,6 +3,7 @@ pub mod Values
 pub mod Degrees
 pub mod Selectors
 pub mod Rows
+pub mod BaseRows
 pub mod Traces
 pub mod Identity
 pub mod IdentityDegree

@@ -2,6 +2,7 @@ pub mod Fields
 pub mod Committed
 pub mod Polynomials
 pub mod Rows
+pub mod BaseRows
 pub mod Traces
 pub mod Identity
 pub mod Unlucky

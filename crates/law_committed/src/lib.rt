@@ -3,7 +3,7 @@
 //!
 //! The functions compute nothing: their contracts are laws of the definitions in `specs/`. These are the fields' laws
 //! (`Fields`), the table with its values (`Committed`), its polynomials (`Polynomials`), traces and their rows (`Traces`,
-//! `Rows`), the identity (`Identity`), the honest quotient (`Quotient`), unlucky challenges (`Unlucky`, `Batch`) and opened
+//! `Rows`), rows over the base field (`BaseRows`), the identity (`Identity`), the honest quotient (`Quotient`), unlucky challenges (`Unlucky`, `Batch`) and opened
 //! values (`Opened`). After Plonky3's `p3-batch-stark`, of whose prover and verifier they are the mathematics.
 #![tactic(auto)]
 

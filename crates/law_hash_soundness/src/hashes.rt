@@ -7,7 +7,7 @@ ghost use Rattle.blake3_prime.specs.Trees.{blake3_trees};
 ghost use Rattle.batch_statement.specs.Words.{bits_at};
 ghost use Rattle.batch_statement.specs.Statement.{statement_with, WellFormed, read_common, tables_of};
 ghost use Rattle.verifier_batch.specs.BatchChecks.{Accepted};
-ghost use Rattle.law_soundness.specs.BaseRows.{main_row};
+ghost use Rattle.law_committed.specs.BaseRows.{main_row};
 ghost use Rattle.law_soundness.specs.CommittedBatch.{committed_table_at};
 ghost use Rattle.law_soundness.specs.Meaning.{IsAlphaUnlucky, IsZetaUnlucky};
 

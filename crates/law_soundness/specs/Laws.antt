@@ -12,5 +12,4 @@ pub mod Accepted
 pub mod Over
 pub mod Swap
 pub mod SwapTables
-pub mod BaseRows
 pub mod Airs

@@ -5,5 +5,4 @@ pub mod Meaning
 pub mod OpenedBatch
 pub mod UnluckyCounts
 pub mod Swapped
-pub mod BaseRows
 pub mod Laws

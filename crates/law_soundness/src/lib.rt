@@ -9,12 +9,10 @@
 
 mod counts;
 mod data;
-mod rows;
 mod soundness;
 mod swaps;
 
 pub use counts::few_challenges_are_unlucky;
 pub use data::accepted_batches_hold;
-pub use rows::rows_hold_below;
 pub use soundness::{PlainConfig, accepted_holds};
 pub use swaps::accepted_swaps_end;

@@ -4,7 +4,7 @@ use Rattle.std.specs.Prelude.{slice_index_or as get_or}
 use Rattle.air_core.specs.Joined.{joined}
 use Rattle.p3_field.specs.declared.baby_bear.BabyBear.{BabyBear}
 use Rattle.p3_matrix.specs.Matrix.{height}
-use Rattle.law_soundness.specs.BaseRows.{main_row}
+use Rattle.law_committed.specs.BaseRows.{main_row}
 use Rattle.law_soundness.specs.Commitment.{matrix_at}
 use Rattle.law_soundness.specs.CommittedBatch.{committed_table_at}
 use Rattle.tool_proof_text.specs.ProofText.{ToolProofData}

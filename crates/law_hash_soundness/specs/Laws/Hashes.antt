@@ -18,10 +18,10 @@ use Rattle.batch_statement.specs.Proof.{ProofData}
 use Rattle.batch_statement.specs.Statement.{Statement, AirTable, WellFormed, WrittenCommon, read_common}
 use Rattle.batch_statement.specs.Words.{no_table, bits_at}
 use Rattle.verifier_batch.specs.BatchChecks.{Accepted}
-use Rattle.law_soundness.specs.BaseRows.{IsMainHere, ReadsMainHere, main_row}
+use Rattle.law_committed.specs.BaseRows.{IsMainHere, ReadsMainHere, main_row}
 use Rattle.law_soundness.specs.CommittedBatch.{committed_table_at}
 use Rattle.law_soundness.specs.Laws.Airs.{about, airs_columns, airs_hold, airs_own}
-use Rattle.law_soundness.specs.Laws.BaseRows.{rows_mean}
+use Rattle.law_committed.specs.Laws.BaseRows.{rows_mean}
 use Rattle.law_soundness.specs.Laws.Bound.{Binds}
 use Rattle.law_soundness.specs.Laws.SwapTables.{first_of}
 use Rattle.law_soundness.specs.Meaning.{IsAlphaUnlucky, IsZetaUnlucky}

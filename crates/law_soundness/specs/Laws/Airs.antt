@@ -35,18 +35,18 @@ module _ {A F C : Type 0} (declaration : A → Declaration F) (trees : A → Lis
   about = statement_with (tables_of declaration trees airs) publics common
 
   -- common data that is well-formed for the AIRs is so for their tables
-  formed_tables : WellFormed (map declaration airs) (read_common common) → WellFormed (map (λ t. t.declaration) about.tables) about.common
+  pub formed_tables : WellFormed (map declaration airs) (read_common common) → WellFormed (map (λ t. t.declaration) about.tables) about.common
   formed_tables h =
       let same = map-map (λ (t : AirTable F). t.declaration) (λ a. record { declaration = declaration a; trees = trees a }) airs in
       subst (λ ds. WellFormed ds (read_common common)) (sym same) h
 
   -- their constraints read declared cells
-  declared_tables : ((a : A) → All (ReadsDeclared (declared_shape (declaration a))) (trees a)) → ReadDeclared about
+  pub declared_tables : ((a : A) → All (ReadsDeclared (declared_shape (declaration a))) (trees a)) → ReadDeclared about
   declared_tables h =
       All-map (λ (t : AirTable F). All (ReadsDeclared (declared_shape t.declaration)) t.trees) (λ a. record { declaration = declaration a; trees = trees a }) airs
       (λ k a l. h _)
 
-  as_many : length about.tables ≡ length airs
+  pub as_many : length about.tables ≡ length airs
   as_many = length-map {B = AirTable F} airs (λ a. record { declaration = declaration a; trees = trees a })
 
 module _ {S A F E P R : Type 0} (c : Setting S F E (PlainCommitmentData F)) (b : Backend S F E (PlainCommitmentData F) P R) (log_blowup : ℕ) (declaration : A → Declaration F)

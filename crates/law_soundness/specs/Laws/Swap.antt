@@ -1,13 +1,10 @@
 -- A committed table that holds and whose first constraints are the swap table's: its last right cell is known.
-use Rattle.std.proofs.Common.{◌≡◌, ℕ, zero, suc, ◌+◌, ◌-◌, ◌^◌, ◌<◌, ◌≤◌, inl, inr, true, false, List, ◌++◌, get_or, map, refl, sym, ◌∙◌, ap, subst, arith}
+use Rattle.std.proofs.Common.{◌≡◌, ℕ, zero, suc, ◌+◌, ◌-◌, ◌^◌, ◌<◌, ◌≤◌, true, false, List, ◌++◌, get_or, refl, sym, ◌∙◌, ap, subst, arith}
 use Rattle.std.proofs.lemmas.Nat.{pow_pos}
 use Rattle.std.proofs.lemmas.List.{get_or_append_left, length-append}
-use Rattle.std.proofs.Math.Nat.{mod-eq_of_lt}
 use Rattle.p3_field.specs.Ring.{sub}
 use Rattle.p3_field.specs.Field.{TwoAdic, Extension}
-use Rattle.p3_field.specs.Poly.{eval_poly_in}
 use Rattle.p3_field.specs.Laws.Coset.{double_power}
-use Rattle.p3_field.specs.Laws.Extended.{hom_differs}
 use Rattle.p3_field.specs.Laws.Roots.{sub_zero, field_no_zero_divisors}
 use Rattle.air_core.specs.CellValues.{cell_in}
 use Rattle.air_core.specs.declared.cells.Cell.{Cell}
@@ -16,7 +13,8 @@ use Rattle.air_core.specs.Tree.{Tree, eval_tree}
 use Rattle.air_tables.specs.Swap.{equal_when, swap_trees}
 use Rattle.law_committed.specs.Committed.{CommittedTable, Holds, row, row_point, row_count_of, committed_values_at}
 use Rattle.law_committed.specs.Fields.{FieldsLaws}
-use Rattle.law_committed.specs.Laws.Selectors.{first_here, last_here, point_after, transition_before}
+use Rattle.law_committed.specs.Laws.BaseRows.{known, next_cell, public_is}
+use Rattle.law_committed.specs.Laws.Selectors.{first_here, last_here, transition_before}
 use Rattle.law_soundness.specs.Swapped.{EndsSwapped, swap_publics}
 
 -- where a table holds with more constraints after these, it holds with these
@@ -35,13 +33,9 @@ module _ {F E : Type 0} (f : TwoAdic F) (e : Extension F E) (top : ℕ) (inverse
   equal_there i c y z nz w =
       sub_zero e.ring L.above (at i y) (at i z) (field_no_zero_divisors e.ring L.above inverse L.above_field (at i c) (sub e.ring (at i y) (at i z)) nz w)
 
-  -- the cells of a public value, and of the next row
-  public_is : (i n : ℕ) → at i (Public n) ≡ get_or (map e.embed (swap_publics a b x)) n e.ring.zero
-  public_is i n = ap (λ l. get_or (map e.embed l) n e.ring.zero) publics
-
-  next_cell : (i column : ℕ) → i + 1 < row_count_of t → at i (Main true column) ≡ at (i + 1) (Main false column)
-  next_cell i column l =
-      ap (λ y. get_or (map (λ (g : List F). eval_poly_in e g y) t.main) column e.ring.zero) (point_after f e top inverse L t fits i (omega (arith, l)) ∙ ap (row_point f e t) (mod-eq_of_lt l))
+  -- the cell of a public value
+  public_at : (i n : ℕ) → at i (Public n) ≡ e.embed (get_or (swap_publics a b x) n f.ring.zero)
+  public_at i n = public_is f e top inverse L t fits i n ∙ ap (λ l. e.embed (get_or l n f.ring.zero)) publics
 
   -- rows 2 m and 2 m + 1
   record IsPair (m : ℕ) : Type 0 where
@@ -52,13 +46,13 @@ module _ {F E : Type 0} (f : TwoAdic F) (e : Extension F E) (top : ℕ) (inverse
 
   swapped_left : (i : ℕ) (v : E) → i + 1 < row_count_of t → at i (Main false 1) ≡ v → at (i + 1) (Main false 0) ≡ v
   swapped_left i v l w =
-      sym (next_cell i 0 l)
+      sym (next_cell f e top inverse L t fits i 0 l)
       ∙ (equal_there i Transition (Main true 0) (Main false 1) (transition_before f e top inverse L t fits i l)
       (holds i (omega (arith, l)) 2 (equal_when Transition (Main true 0) (Main false 1)) (omega arith)) ∙ w)
 
   swapped_right : (i : ℕ) (v : E) → i + 1 < row_count_of t → at i (Main false 0) ≡ v → at (i + 1) (Main false 1) ≡ v
   swapped_right i v l w =
-      sym (next_cell i 1 l)
+      sym (next_cell f e top inverse L t fits i 1 l)
       ∙ (equal_there i Transition (Main true 1) (Main false 0) (transition_before f e top inverse L t fits i l)
       (holds i (omega (arith, l)) 3 (equal_when Transition (Main true 1) (Main false 0)) (omega arith)) ∙ w)
 
@@ -74,8 +68,8 @@ module _ {F E : Type 0} (f : TwoAdic F) (e : Extension F E) (top : ℕ) (inverse
   pair zero l =
       let some : 0 < row_count_of t = pow_pos t.log_height in
       odd_pair zero
-      (equal_there 0 FirstRow (Main false 0) (Public 0) (first_here f e top inverse L t fits) (holds 0 some 0 (equal_when FirstRow (Main false 0) (Public 0)) (omega arith)) ∙ public_is 0 0)
-      (equal_there 0 FirstRow (Main false 1) (Public 1) (first_here f e top inverse L t fits) (holds 0 some 1 (equal_when FirstRow (Main false 1) (Public 1)) (omega arith)) ∙ public_is 0 1)
+      (equal_there 0 FirstRow (Main false 0) (Public 0) (first_here f e top inverse L t fits) (holds 0 some 0 (equal_when FirstRow (Main false 0) (Public 0)) (omega arith)) ∙ public_at 0 0)
+      (equal_there 0 FirstRow (Main false 1) (Public 1) (first_here f e top inverse L t fits) (holds 0 some 1 (equal_when FirstRow (Main false 1) (Public 1)) (omega arith)) ∙ public_at 0 1)
   pair (suc m) l =
       let before = pair m (omega (arith, l)) in
       let next : (m + m + 1) + 1 ≡ suc m + suc m = omega arith in
@@ -89,18 +83,12 @@ module _ {F E : Type 0} (f : TwoAdic F) (e : Extension F E) (top : ℕ) (inverse
   last_is_public : (i : ℕ) → i + 1 ≡ row_count_of t → at i (Main false 1) ≡ e.embed x
   last_is_public i w =
       let low : i < row_count_of t = omega (arith, w) in
-      equal_there i LastRow (Main false 1) (Public 2) (last_here f e top inverse L t fits i w) (holds i low 4 (equal_when LastRow (Main false 1) (Public 2)) (omega arith)) ∙ public_is i 2
-
-  known : (y z : F) → e.embed y ≡ e.embed z → y ≡ z
-  known y z w = elim (L.below_decided y z) [
-    | inl s ↦ s
-    | inr d ↦ absurd (hom_differs f.ring L.below e.ring L.above e.embed L.embeds f.inv L.below_field L.above_field.one_differs y z d w)
-  ]
+      equal_there i LastRow (Main false 1) (Public 2) (last_here f e top inverse L t fits i w) (holds i low 4 (equal_when LastRow (Main false 1) (Public 2)) (omega arith)) ∙ public_at i 2
 
   one_row_ends : t.log_height ≡ 0 → x ≡ b
   one_row_ends none =
       let one : row_count_of t ≡ 1 = ap (λ z. 2 ^ z) none in
-      known x b (sym (last_is_public 0 (sym one)) ∙ (pair 0 (omega (arith, one))).even_right)
+      known f e top inverse L t x b (sym (last_is_public 0 (sym one)) ∙ (pair 0 (omega (arith, one))).even_right)
 
   more_rows_end : 0 < t.log_height → x ≡ a
   more_rows_end more =
@@ -109,7 +97,7 @@ module _ {F E : Type 0} (f : TwoAdic F) (e : Extension F E) (top : ℕ) (inverse
       let pos : 0 < 2 ^ (t.log_height - 1) = pow_pos (t.log_height - 1) in
       let m = 2 ^ (t.log_height - 1) - 1 in
       let last : (m + m + 1) + 1 ≡ row_count_of t = omega (arith, half, pos) in
-      known x a (sym (last_is_public (m + m + 1) last) ∙ (pair m (omega (arith, last))).odd_right (omega (arith, last)))
+      known f e top inverse L t x a (sym (last_is_public (m + m + 1) last) ∙ (pair m (omega (arith, last))).odd_right (omega (arith, last)))
 
   -- So x is b in a table of one row, and a in a larger one.
   pub swap_ends : EndsSwapped t.log_height a b x

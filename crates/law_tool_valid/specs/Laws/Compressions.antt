@@ -45,7 +45,7 @@ use Rattle.law_valid.specs.Traced.{no_rows, traces_of}
 use Rattle.law_tool_valid.specs.Job.{IsHashRow, hash_of, traced_job}
 
 -- a tree that reads only cells which count nothing counts nothing
-none_counted : {F : Type 0} (f : Cell → ℕ) (tree : Tree F) → ReadsIn (λ c. f c ≡ 0) (λ c. ⊥) tree → full_degree f (λ c. 0) tree ≡ 0
+pub none_counted : {F : Type 0} (f : Cell → ℕ) (tree : Tree F) → ReadsIn (λ c. f c ≡ 0) (λ c. ⊥) tree → full_degree f (λ c. 0) tree ≡ 0
 none_counted f (constant x) h = refl
 none_counted f (cell c) h = h
 none_counted f (ext_cell c) h = refl
@@ -54,11 +54,11 @@ none_counted f (difference x y) h = let p = none_counted f x h.0 in let q = none
 none_counted f (product x y) h = let p = none_counted f x h.0 in let q = none_counted f y h.1 in omega (arith, p, q)
 
 -- a quotient of degree three is split into two chunks
-ceil_two : log_ceil 2 ≡ 1
+pub ceil_two : log_ceil 2 ≡ 1
 unfolding log_ceil
 ceil_two = refl
 
-two_chunks : (degree : ℕ) → degree ≤ 3 → log_chunks 0 (max degree 3) ≡ 1
+pub two_chunks : (degree : ℕ) → degree ≤ 3 → log_chunks 0 (max degree 3) ≡ 1
 two_chunks degree low =
     let e : max (max degree 3 + 0) 2 - 1 ≡ 2 = omega (arith, low) in
     ap log_ceil e ∙ ceil_two

@@ -26,7 +26,7 @@ use Rattle.law_tool_valid.specs.Laws.Traced.{job_rows, power_of_log}
 use Rattle.law_tool_valid.specs.Laws.Wheel.{wheel_holds}
 
 -- the logarithm of a power of two up to another one
-small_log : (n most : ℕ) → IsPowerOfTwo n → n ≤ 2 ^ most → log_of n ≤ most
+pub small_log : (n most : ℕ) → IsPowerOfTwo n → n ≤ 2 ^ most → log_of n ≤ most
 small_log n most (k, e) h = elim (cases_lt most k) [
   | inl above ↦ let q : 2 ^ most < 2 ^ k = pow-lt above in absurd (omega (arith, q, e, h))
   | inr fine ↦ let q = log_of_power n k e in omega (arith, q, fine)

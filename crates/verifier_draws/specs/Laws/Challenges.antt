@@ -19,7 +19,7 @@ laid_out_length z c bus n zero = refl
 laid_out_length z c bus n (suc m) = let h = laid_out_length z c bus (suc n) m in omega (arith, h)
 
 -- where no table has lookups, no table has any
-none_has : {A : Type 0} (ls : List (List A)) (i : ℕ) → count_by has_some ls ≡ 0 → length (get_or ls i []) ≡ 0
+pub none_has : {A : Type 0} (ls : List (List A)) (i : ℕ) → count_by has_some ls ≡ 0 → length (get_or ls i []) ≡ 0
 none_has [] i h = refl
 none_has ([] ∷ ls) zero h = refl
 none_has {A} ([] ∷ ls) (suc i) h =

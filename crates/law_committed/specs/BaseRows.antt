@@ -1,5 +1,7 @@
--- The rows of a committed table over the base field (not in Plonky3).
-use Rattle.std.specs.Prelude.{ℕ, true, false, List, [], map}
+-- The rows of a table over the base field: those that are committed to, and what is read at rows (not in Plonky3).
+use Rattle.std.specs.Prelude.{◌≡◌, ℕ, suc, ◌<◌, true, false, List, [], map}
+use Rattle.std.specs.Prelude.{slice_index_or as get_or}
+use Rattle.p3_field.specs.Ring.{Ring}
 use Rattle.air_core.specs.declared.cells.Cell.{Cell}
 use Rattle.air_core.specs.declared.cells.Cell.TheVariants.{Main, Preprocessed, Periodic, Public, FirstRow, LastRow, Transition}
 use Rattle.air_core.specs.RowCheck.{Row}
@@ -46,3 +48,16 @@ IsMainHere Transition = ⊥
 -- the constraint reads such cells alone
 abbrev pub ReadsMainHere : {F : Type 0} → Tree F → Type 0
 ReadsMainHere tree = ReadsIn IsMainHere (λ _. ⊥) tree
+
+-- What is read at n rows of a table, over a ring above the field: each row's main cells, those of the next row but in the last
+-- one, the public values, and selectors that are zero exactly where they don't select.
+pub record ReadRows {F E : Type 0} (f : Ring F) (e : Ring E) (embed : F → E) (n : ℕ) (rows : ℕ → List F) (publics : List F) (at : ℕ → Cell → E) : Type 0 where
+  pub here : (j column : ℕ) → j < n → at j (Main false column) ≡ embed (get_or (rows j) column f.zero)
+  pub next : (j column : ℕ) → suc j < n → at j (Main true column) ≡ embed (get_or (rows (suc j)) column f.zero)
+  pub public : (j m : ℕ) → j < n → at j (Public m) ≡ embed (get_or publics m f.zero)
+  pub first : at 0 FirstRow ≡ e.zero → ⊥
+  pub first_elsewhere : (j : ℕ) → suc j < n → at (suc j) FirstRow ≡ e.zero
+  pub last : (j : ℕ) → suc j ≡ n → at j LastRow ≡ e.zero → ⊥
+  pub last_elsewhere : (j : ℕ) → suc j < n → at j LastRow ≡ e.zero
+  pub transition : (j : ℕ) → suc j < n → at j Transition ≡ e.zero → ⊥
+  pub transition_elsewhere : (j : ℕ) → suc j ≡ n → at j Transition ≡ e.zero
