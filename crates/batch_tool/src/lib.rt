@@ -15,6 +15,7 @@ pub use tool_bytes::{
     Failed, InputError, MAX_BYTES, MemorySink, MemorySource, Sink, Source, StdSink, StdSource,
     read_whole, write_whole,
 };
+pub use tool_ends::{EndlessSource, NullSink, SteadySource};
 pub use tool_jobs::{GivenWord, JobTable, read_job, write_job};
 pub use tool_lines::TextError;
 pub use tool_proof_files::{ProofFile, read_proof_file, write_proof_file};

@@ -1,3 +1,4 @@
 pub mod Logarithms
 pub mod Disjoint
 pub mod Periods
+pub mod PeriodWeights

@@ -1,17 +1,14 @@
 -- The search for the first column that doesn't fit, and the greatest length.
-use Rattle.std.proofs.Common.{◌≡◌, ℕ, ◌+◌, ◌-◌, ◌*◌, ◌^◌, ◌<◌, ◌≤◌, inl, inr, List, Option, Some, length, get_or, map, subst, sym, ◌∙◌, ap, arith}
+use Rattle.std.proofs.Common.{◌≡◌, ℕ, ◌+◌, ◌<◌, inl, inr, List, Option, Some, length, get_or, map, subst, sym, ◌∙◌, ap, arith}
 use Rattle.std.proofs.lemmas.Bool.{cases_lt}
 use Rattle.std.proofs.lemmas.List.{get_or-map, length-map}
 use Rattle.std.proofs.lemmas.Option.{slice_get-get_or, get_or_from_slice_get}
 use Rattle.std.specs.Prelude.{MatchOption, All, slice_get}
-use Rattle.std.specs.Int.{IsPowerOfTwo, ◌∣◌}
-use Rattle.std.proofs.Math.Nat.{dvd-mul_left}
-use Rattle.std.proofs.lemmas.Nat.{pow-add}
-use Rattle.p3_matrix.specs.Laws.Powers.{power_le_cancel}
+use Rattle.std.specs.Int.{◌∣◌}
 use Rattle.p3_field.specs.Checks.{FirstFails}
 use Rattle.p3_field.specs.Laws.Checks.{first_of_items}
 use Rattle.commit_core.specs.Periodic.{IsPeriod, period_checks, NamesFirstUnfit, IsGreatest}
-use Rattle.commit_core.specs.Laws.Periods.{periods_pass}
+use Rattle.commit_core.specs.Laws.Periods.{periods_pass, longest_divided}
 use Rattle.commit_core.specs.declared.periodic.PeriodicColumnShapeError.{PeriodicColumnShapeError}
 
 -- where the columns before this one fit and it doesn't, it is the first unfit one
@@ -41,25 +38,9 @@ more_fit f height columns index n v within at e before fit k d b = elim (cases_l
     any_default : {V : Type 0} (xs : List V) (i : ℕ) (d v : V) → i < length xs → get_or xs i d ≡ get_or xs i v
     any_default xs i d v h = get_or_from_slice_get xs i (get_or xs i v) d (slice_get-get_or xs i v h)
 
--- the smaller of two powers of two divides the greater
-power_divides : (n m : ℕ) → IsPowerOfTwo n → IsPowerOfTwo m → n ≤ m → n ∣ m
-power_divides n m (a, e) (b, f) h =
-    let low : 2 ^ a ≤ 2 ^ b = omega (arith, e, f, h) in
-    let less : a ≤ b = power_le_cancel a b low in
-    let sum : b - a + a ≡ b = omega arith in
-    let split : m ≡ 2 ^ (b - a) * 2 ^ a = f ∙ (ap (λ k. 2 ^ k) (sym sum) ∙ pow-add 2 (b - a) a) in
-    let P : ℕ → Type 0 = λ k. k ∣ m in
-    let Q : ℕ → Type 0 = λ k. 2 ^ a ∣ k in
-    subst P (sym e) (subst Q (sym split) (dvd-mul_left (2 ^ a) (2 ^ (b - a))))
-
 -- the greatest of lengths that are powers of two is a multiple of each
 pub greatest_divided : {V : Type 0} (f : V → ℕ) (height : ℕ) (columns : List V) (o : Option ℕ) (n : ℕ) → All (λ c. IsPeriod height (f c)) columns
     → MatchOption o (length columns ≡ 0) (IsGreatest (map f columns)) → o ≡ Some n → All (λ c. f c ∣ n) columns
-greatest_divided f height columns o n fit found is k d h =
+greatest_divided f height columns o n fit found is = λ k d h.
     let G : IsGreatest (map f columns) n = subst (λ p. MatchOption p (length columns ≡ 0) (IsGreatest (map f columns))) is found in
-    let (i, inside, at) = G.is_one in
-    let within : i < length columns = omega (arith, inside, length-map columns f) in
-    let one : f (get_or columns i d) ≡ n = sym (get_or-map f columns i d n within) ∙ at in
-    let all : k < length (map f columns) = omega (arith, h, length-map columns f) in
-    let below : f (get_or columns k d) ≤ n = subst (λ m. m ≤ n) (get_or-map f columns k d 0 h) (G.none_greater k 0 all) in
-    power_divides (f (get_or columns k d)) n (fit k d h).0 (subst IsPowerOfTwo one (fit i d within).0) below
+    (longest_divided f height columns n fit G k d h).1

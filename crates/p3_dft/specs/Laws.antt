@@ -1,5 +1,4 @@
 -- What is proved of the definitions, by subject.
 pub mod Values
-pub mod Butterflies
 pub mod Inverse
 pub mod RoundTrip

@@ -1,2 +1,3 @@
 pub mod Transform
+pub mod Reversed
 pub mod Laws

@@ -1,7 +1,7 @@
 -- Transforms between the coefficients of polynomials and their values on cosets. The rules are those of Plonky3's
 -- p3-dft (TwoAdicSubgroupDft).
-use Rattle.std.specs.Prelude.{◌≡◌, ℕ, suc, ◌+◌, ◌^◌, ◌<◌, List, ◌++◌, length, get_or}
-use Rattle.p3_field.specs.Ring.{Ring, pow, sub}
+use Rattle.std.specs.Prelude.{◌≡◌, ℕ, suc, ◌+◌, ◌^◌, ◌<◌, List, length, get_or}
+use Rattle.p3_field.specs.Ring.{Ring, pow}
 use Rattle.p3_field.specs.Poly.{eval_poly, tabulate}
 use Rattle.p3_field.specs.Domain.{coset_point, IsInterpolant}
 use Rattle.p3_matrix.specs.Matrix.{Rows, height, column}
@@ -38,13 +38,6 @@ pub record IsExtensionOf {A : Type 0} (r : Ring A) (root : ℕ → A) (added : �
 -- h turns half way round in 2^(k-1) steps, where k is positive: h^(2^(k-1)) = -1
 abbrev pub TurnsIn : {A : Type 0} → Ring A → ℕ → A → Type 0
 TurnsIn r k h = (j : ℕ) → suc j ≡ k → pow r h (2 ^ j) ≡ r.neg r.one
-
--- With x_i = s h^i: the sums e_i + x_i o_i, and then the differences e_i - x_i o_i. This is the step of a
--- Cooley-Tukey transform.
-unfoldable pub butterflies : {A : Type 0} → Ring A → A → A → List A → List A → List A
-butterflies r s h e o =
-    tabulate (length e) (λ i. r.add (get_or e i r.zero) (r.mul (coset_point r s h i) (get_or o i r.zero)))
-    ++ tabulate (length e) (λ i. sub r (get_or e i r.zero) (r.mul (coset_point r s h i) (get_or o i r.zero)))
 
 -- item j times w t^j
 unfoldable pub weighted : {A : Type 0} → Ring A → A → A → List A → List A

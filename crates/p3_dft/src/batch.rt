@@ -3,12 +3,12 @@ ghost use Rattle.std.specs.Prelude.{◌≡◌, ℕ, ◌+◌, ◌*◌, ◌/◌, �
 ghost use Rattle.std.specs.Int.{IsPowerOfTwo};
 ghost use Rattle.p3_field.specs.Ring.{Ring, pow};
 ghost use Rattle.p3_field.specs.Domain.{coset_point, IsInterpolant};
-ghost use Rattle.p3_matrix.specs.Matrix.{Rows, FillsRows, height, row_at};
+ghost use Rattle.p3_matrix.specs.Matrix.{Rows, FillsRows, height, column};
 ghost use Rattle.p3_dft.specs.Transform.{values_at, IsTransformOf, IsInverseTransformOf, IsExtensionOf};
 
-use crate::column::{ColumnTransform, coset_interpolant, coset_values};
 use crate::naive::NaiveDft;
 use crate::radix2::Radix2Dit;
+use crate::rows::{RowTransform, coset_interpolants, coset_values};
 use p3_field::{Mem, TwoAdicCore, TwoAdicField};
 use p3_matrix::{RowMajorMatrix, log2_strict_usize};
 use std::alloc::Global;
@@ -47,51 +47,8 @@ pub trait TwoAdicSubgroupDft<F: TwoAdicCore> {
         ensures { IfOk result (IsExtensionOf F.ring F.root added_bits shift m) };
 }
 
-// The rows' polynomials evaluated on a coset.
-fn evaluated_rows<F: TwoAdicField, T: ColumnTransform>(
-    transform: &T,
-    alloc: Global,
-    m: &RowMajorMatrix<F>,
-    shift: F,
-    log_size: usize,
-) -> Mem<RowMajorMatrix<F>>
-    requires subgroup { log_size ≤ F.TWO_ADICITY }
-    requires fits { m.now.width ≤ 2 ^ log_size }
-    ensures width { IfOk result (λ v. v.width ≡ 2 ^ log_size) }
-    ensures height { IfOk result (λ v. height v ≡ height m.now) }
-    ensures rows { IfOk result (λ v. (i : ℕ) → i < height m.now → row_at v i ≡ values_at F.ring (coset_point F.ring shift (F.root log_size)) (2 ^ log_size) (row_at m.now i)) }
-{
-    let mut values = Vec::new(alloc);
-    for i in 0..m.height() {
-        let row = coset_values(transform, alloc, m.row(i), shift, log_size)?;
-        values.extend_from_slice(&row)?;
-    }
-    Ok(RowMajorMatrix::new(values, 1 << log_size))
-}
-
-// The rows' interpolants on a subgroup.
-fn interpolated_rows<F: TwoAdicField, T: ColumnTransform>(
-    transform: &T,
-    alloc: Global,
-    m: &RowMajorMatrix<F>,
-    log_size: usize,
-) -> Mem<RowMajorMatrix<F>>
-    requires subgroup { log_size ≤ F.TWO_ADICITY }
-    requires size { m.now.width ≡ 2 ^ log_size }
-    ensures width { IfOk result (λ v. v.width ≡ 2 ^ log_size) }
-    ensures height { IfOk result (λ v. height v ≡ height m.now) }
-    ensures rows { IfOk result (λ v. (i : ℕ) → i < height m.now → IsInterpolant F.ring (coset_point F.ring F.ring.one (F.root log_size)) (row_at m.now i) (row_at v i)) }
-{
-    let mut coefficients = Vec::new(alloc);
-    for i in 0..m.height() {
-        let row = coset_interpolant(transform, alloc, m.row(i), F::ONE, log_size)?;
-        coefficients.extend_from_slice(&row)?;
-    }
-    Ok(RowMajorMatrix::new(coefficients, m.width()))
-}
-
-// The three transforms, by this transform of a column.
-fn dft_columns<F: TwoAdicField, T: ColumnTransform>(
+// The three transforms, by this way to evaluate.
+fn dft_columns<F: TwoAdicField, T: RowTransform>(
     transform: &T,
     alloc: Global,
     m: &RowMajorMatrix<F>,
@@ -100,19 +57,12 @@ fn dft_columns<F: TwoAdicField, T: ColumnTransform>(
     requires subgroup { height m.now ≤ 2 ^ F.TWO_ADICITY }
     ensures { IfOk result (IsTransformOf F.ring F.root m.now) }
 {
-    let columns = m.transpose(alloc)?;
-    let values = evaluated_rows(
-        transform,
-        alloc,
-        &columns,
-        F::ONE,
-        log2_strict_usize(m.height()),
-    )?;
-    let transposed = values.transpose(alloc)?;
-    Ok(transposed)
+    let log_height = log2_strict_usize(m.height());
+    let values = coset_values(transform, alloc, m, F::ONE, log_height)?;
+    Ok(values)
 }
 
-fn idft_columns<F: TwoAdicField, T: ColumnTransform>(
+fn idft_columns<F: TwoAdicField, T: RowTransform>(
     transform: &T,
     alloc: Global,
     m: &RowMajorMatrix<F>,
@@ -121,18 +71,12 @@ fn idft_columns<F: TwoAdicField, T: ColumnTransform>(
     requires subgroup { height m.now ≤ 2 ^ F.TWO_ADICITY }
     ensures { IfOk result (IsInverseTransformOf F.ring F.root m.now) }
 {
-    let columns = m.transpose(alloc)?;
-    let coefficients = interpolated_rows(
-        transform,
-        alloc,
-        &columns,
-        log2_strict_usize(m.height()),
-    )?;
-    let transposed = coefficients.transpose(alloc)?;
-    Ok(transposed)
+    let log_height = log2_strict_usize(m.height());
+    let coefficients = coset_interpolants(transform, alloc, m, F::ONE, log_height)?;
+    Ok(coefficients)
 }
 
-fn extended_columns<F: TwoAdicField, T: ColumnTransform>(
+fn extended_columns<F: TwoAdicField, T: RowTransform>(
     transform: &T,
     alloc: Global,
     m: &RowMajorMatrix<F>,
@@ -145,17 +89,10 @@ fn extended_columns<F: TwoAdicField, T: ColumnTransform>(
     ensures { IfOk result (IsExtensionOf F.ring F.root added_bits shift m.now) }
 {
     let log_height = log2_strict_usize(m.height());
-    let columns = m.transpose(alloc)?;
-    let coefficients = interpolated_rows(transform, alloc, &columns, log_height)?;
-    let values = evaluated_rows(
-        transform,
-        alloc,
-        &coefficients,
-        shift,
-        log_height + added_bits,
-    )?;
-    let transposed = values.transpose(alloc)?;
-    Ok(transposed)
+    let coefficients = coset_interpolants(transform, alloc, m, F::ONE, log_height)?;
+    let log_size = log_height + added_bits;
+    let values = coset_values(transform, alloc, &coefficients, shift, log_size)?;
+    Ok(values)
 }
 
 impl<F: TwoAdicField> TwoAdicSubgroupDft<F> for NaiveDft {

@@ -1,89 +1,15 @@
-//! Transforms of one column on a coset, by any way to evaluate it on the powers of a root of unity.
-ghost use Rattle.std.specs.Prelude.{◌≡◌, ℕ, ◌+◌, ◌*◌, ◌^◌, ◌<◌, ◌≤◌, length, IfOk};
+//! Values and interpolants on a coset, of one column and of a matrix's columns.
+ghost use Rattle.std.specs.Prelude.{◌≡◌, ℕ, ◌+◌, ◌*◌, ◌/◌, ◌^◌, ◌<◌, ◌≤◌, length, IfOk};
 ghost use Rattle.p3_field.specs.Ring.{Ring, pow};
 ghost use Rattle.p3_field.specs.Domain.{coset_point, IsInterpolant};
-ghost use Rattle.p3_dft.specs.Transform.{values_at, TurnsIn, weighted};
+ghost use Rattle.p3_matrix.specs.Matrix.{Rows, FillsRows, height, column};
+ghost use Rattle.p3_dft.specs.Transform.{values_at};
 
 use crate::radix2::Radix2Dit;
-use p3_field::{
-    Field, FieldCore, Mem, PrimeCharacteristicRing, RingCore, TwoAdicCore, TwoAdicField,
-};
+use crate::rows::{coset_interpolants, coset_values};
+use p3_field::{FieldCore, Mem, RingCore, TwoAdicCore, TwoAdicField};
+use p3_matrix::RowMajorMatrix;
 use std::alloc::Global;
-
-// A way to evaluate a polynomial at shift, shift * generator, .., of which there are 2^bits: value i is that at
-// shift * generator^i. The generator turns in `bits` doublings: to the power 2^(bits - 1) it is minus one, but for no bits.
-pub(crate) trait ColumnTransform {
-    fn values_on_powers<F: Field>(
-        &self,
-        alloc: Global,
-        coefficients: &[F],
-        shift: F,
-        generator: F,
-        bits: usize,
-    ) -> Mem<Vec<F>>
-        requires bits { bits < 64 }
-        requires fits { length coefficients.now ≤ 2 ^ bits }
-        requires turns { TurnsIn F.ring bits generator }
-        ensures { IfOk result (λ v. v.items ≡ values_at F.ring (coset_point F.ring shift generator) (2 ^ bits) coefficients.now) };
-}
-
-// Item j times weight * step^j.
-fn weighed<F: Field>(alloc: Global, values: &[F], weight: F, step: F) -> Mem<Vec<F>>
-    ensures { IfOk result (λ v. v.items ≡ weighted F.ring weight step values.now) }
-{
-    let mut products = Vec::with_capacity(alloc, values.len())?;
-    let mut factor = weight;
-    for value in values {
-        products.push(*value * factor)?;
-        factor = factor * step;
-    }
-    Ok(products)
-}
-
-// The values on a coset, by this transform.
-pub(crate) fn coset_values<F: TwoAdicField, T: ColumnTransform>(
-    transform: &T,
-    alloc: Global,
-    coefficients: &[F],
-    shift: F,
-    log_size: usize,
-) -> Mem<Vec<F>>
-    requires subgroup { log_size ≤ F.TWO_ADICITY }
-    requires fits { length coefficients.now ≤ 2 ^ log_size }
-    ensures { IfOk result (λ v. v.items ≡ values_at F.ring (coset_point F.ring shift (F.root log_size)) (2 ^ log_size) coefficients.now) }
-{
-    transform.values_on_powers(
-        alloc,
-        coefficients,
-        shift,
-        F::two_adic_generator(log_size),
-        log_size,
-    )
-}
-
-// The coefficients of the interpolant on a coset, by this transform: with the inverse generator it leads from values
-// to coefficients, but for a weight.
-pub(crate) fn coset_interpolant<F: TwoAdicField, T: ColumnTransform>(
-    transform: &T,
-    alloc: Global,
-    values: &[F],
-    shift: F,
-    log_size: usize,
-) -> Mem<Vec<F>>
-    requires subgroup { log_size ≤ F.TWO_ADICITY }
-    requires size { length values.now ≡ 2 ^ log_size }
-    requires shift { shift ≡ F.ring.zero → ⊥ }
-    ensures { IfOk result (λ f. IsInterpolant F.ring (coset_point F.ring shift (F.root log_size)) values.now f.items) }
-{
-    let generator = F::two_adic_generator(log_size).inverse();
-    let transformed = transform.values_on_powers(alloc, values, F::ONE, generator, log_size)?;
-    weighed(
-        alloc,
-        &transformed,
-        F::from_u64(1 << log_size).inverse(),
-        shift.inverse(),
-    )
-}
 
 /// The values of the polynomial with these coefficients, lowest first, at the 2^log_size points of a coset:
 /// value i is that at shift * h^i, where h is `two_adic_generator(log_size)`. There are at most 2^log_size
@@ -99,7 +25,9 @@ pub fn values_on_coset<F: TwoAdicField>(
     requires fits { length coefficients.now ≤ 2 ^ log_size }
     ensures { IfOk result (λ v. v.items ≡ values_at F.ring (coset_point F.ring shift (F.root log_size)) (2 ^ log_size) coefficients.now) }
 {
-    coset_values(&Radix2Dit, alloc, coefficients, shift, log_size)
+    let m = RowMajorMatrix::new_col(Vec::from_slice(alloc, coefficients)?);
+    let values = coset_values(&Radix2Dit, alloc, &m, shift, log_size)?;
+    Ok(values.values)
 }
 
 /// The coefficients, lowest first, of the interpolant of 2^log_size values on a coset: the only polynomial of that
@@ -117,5 +45,29 @@ pub fn interpolant_on_coset<F: TwoAdicField>(
     requires shift { shift ≡ F.ring.zero → ⊥ }
     ensures { IfOk result (λ f. IsInterpolant F.ring (coset_point F.ring shift (F.root log_size)) values.now f.items) }
 {
-    coset_interpolant(&Radix2Dit, alloc, values, shift, log_size)
+    let m = RowMajorMatrix::new_col(Vec::from_slice(alloc, values)?);
+    let coefficients = coset_interpolants(&Radix2Dit, alloc, &m, shift, log_size)?;
+    Ok(coefficients.values)
+}
+
+/// The coefficients of the interpolants of a matrix's columns on a coset, in the result's columns: column j of the
+/// result is what [`interpolant_on_coset`] gives of column j. The matrix has 2^log_size rows, the shift isn't zero, and
+/// log_size is at most `TWO_ADICITY`. The cost is that of one radix-2 transform of all columns and three inversions,
+/// which no clause says (not in Plonky3, where `coset_idft_batch` of `p3_dft` does the same).
+pub fn interpolants_on_coset<F: TwoAdicField>(
+    alloc: Global,
+    values: &RowMajorMatrix<F>,
+    shift: F,
+    log_size: usize,
+) -> Mem<RowMajorMatrix<F>>
+    requires subgroup { log_size ≤ F.TWO_ADICITY }
+    requires size { height values.now ≡ 2 ^ log_size }
+    requires shift { shift ≡ F.ring.zero → ⊥ }
+    ensures width { IfOk result (λ f. f.width ≡ values.now.width) }
+    ensures height { IfOk result (λ f. height f ≡ 2 ^ log_size) }
+    ensures columns { IfOk result (λ f. (j : ℕ) → j < values.now.width
+        → IsInterpolant F.ring (coset_point F.ring shift (F.root log_size))
+        (column F.ring.zero values.now j) (column F.ring.zero f j)) }
+{
+    coset_interpolants(&Radix2Dit, alloc, values, shift, log_size)
 }

@@ -7,8 +7,9 @@ mod batch;
 mod column;
 mod naive;
 mod radix2;
+mod rows;
 
 pub use batch::TwoAdicSubgroupDft;
-pub use column::{interpolant_on_coset, values_on_coset};
+pub use column::{interpolant_on_coset, interpolants_on_coset, values_on_coset};
 pub use naive::{NaiveDft, polynomial_value};
 pub use radix2::Radix2Dit;

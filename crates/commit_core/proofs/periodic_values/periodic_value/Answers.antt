@@ -1,22 +1,13 @@
-use Rattle.std.proofs.Common.{◌≡◌, ℕ, ◌+◌, ◌-◌, ◌^◌, ◌≤◌, ◌∙◌, inl, inr, length, subst, sym, ap, arith}
-use Rattle.std.specs.Int.{◌∣◌}
-use Rattle.std.proofs.lemmas.Nat.{pow_pos}
-use Rattle.std.proofs.lemmas.Nat.Gcd.{le_of_dvd}
+use Rattle.std.proofs.Common.{◌≡◌, ◌+◌, ◌-◌, ◌^◌, ◌≤◌, ◌∙◌, inl, inr, length, subst, sym, ap, arith}
 use Rattle.std.proofs.lemmas.Option.{MatchOption-at_some}
 use Rattle.p3_field.specs.Ring.{pow}
 use Rattle.p3_field.specs.Domain.{point}
 use Rattle.p3_field.specs.Laws.Roots.{field_no_zero_divisors}
-use Rattle.p3_matrix.specs.Laws.Powers.{power_le_cancel}
 use Rattle.p3_matrix.specs.Interpolation.{IsInterpolatedAt}
 use Rattle.commit_core.specs.Laws.Repeated.{power_not_zero, periodic_on_coset}
+use Rattle.commit_core.specs.Laws.Periods.{period_below}
 use Rattle.commit_core.specs.Laws.Options.{match_some}
 use Rattle.commit_core.proofs.periodic_values.periodic_value.Goals as goal
-
--- a period isn't longer than the domain
-period_below : (k n length : ℕ) → length ≡ 2 ^ k → length ∣ 2 ^ n → k ≤ n
-period_below k n length e h =
-    let low : 2 ^ k ≤ 2 ^ n = omega (arith, le_of_dvd (pow_pos n) h, e) in
-    power_le_cancel k n low
 
 pub overflow_sub-folds : goal.overflow_sub-folds
 overflow_sub-folds g c =

@@ -1,23 +1,25 @@
-use Rattle.std.proofs.Common.{◌∙◌, sym, subst}
-use Rattle.p3_matrix.specs.Matrix.{Rows, FillsRows, height}
-use Rattle.p3_dft.proofs.Batches.{IsTransposed, within_subgroup, values_by_rows}
+use Rattle.std.proofs.Common.{◌≡◌, ℕ, ◌^◌, ◌∙◌, sym, ap, arith}
+use Rattle.p3_field.specs.Domain.{coset_point}
+use Rattle.p3_matrix.specs.Matrix.{height, column}
+use Rattle.p3_matrix.specs.Laws.Powers.{power_le_cancel, power_cancel}
+use Rattle.p3_dft.specs.Transform.{values_at}
 use Rattle.p3_dft.proofs.batch.dft_columns.Goals as goal
 
-pub evaluated_rows-requires-clause-subgroup : goal.evaluated_rows-requires-clause-subgroup
-evaluated_rows-requires-clause-subgroup g c = within_subgroup (height c.args.m.now) c.log2_strict_usize.result _ (sym c.height.ensures.result ∙ c.log2_strict_usize.ensures) c.requires.subgroup
+pub coset_values-requires-clause-subgroup : goal.coset_values-requires-clause-subgroup
+coset_values-requires-clause-subgroup g c =
+    power_le_cancel c.log2_strict_usize-log_height.result g.F.TwoAdicCore.TWO_ADICITY (omega (arith, c.height.ensures.result, c.log2_strict_usize-log_height.ensures, c.requires.subgroup))
 
 pub returns : goal.returns
 returns g c =
     let r = g.F.RingCore.ring in
+    let k = c.log2_strict_usize-log_height.result in
     let m = c.args.m.now in
-    let columns = c.in_ok-columns.columns in
-    let values = c.in_ok-values.values in
-    let first : IsTransposed m columns = record { fills = c.height.ensures.fills; width = c.in_ok-columns.ensures.width; count = c.in_ok-columns.ensures.count; cells = c.in_ok-columns.ensures.cells } in
-    let last : IsTransposed values c.in_ok-transposed.transposed = record {
-      fills = subst (λ (v : Rows g.row.F.Denot). FillsRows v.values v.width) c.values.view_is c.values.invariant;
-      width = c.in_ok-transposed.ensures.width;
-      count = c.in_ok-transposed.ensures.count;
-      cells = c.in_ok-transposed.ensures.cells;
-    } in
-    values_by_rows r g.F.TwoAdicCore.root m columns values c.in_ok-transposed.transposed first last c.log2_strict_usize.result (sym c.height.ensures.result ∙ c.log2_strict_usize.ensures)
-    c.in_ok-values.ensures.height c.ONE.result (c.ONE.ensures ∙ g.met.F.RingCore.one_is) c.in_ok-values.ensures.rows
+    let size : height m ≡ 2 ^ k = sym c.height.ensures.result ∙ c.log2_strict_usize-log_height.ensures in
+    record {
+      width_is = c.in_ok-values.ensures.width;
+      column_is = λ j l b h.
+          let same : k ≡ l = power_cancel k l (sym size ∙ h) in
+          c.in_ok-values.ensures.columns j b
+          ∙ (ap (λ (s : g.row.F.Denot). values_at r (coset_point r s (g.F.TwoAdicCore.root k)) (2 ^ k) (column r.zero m j)) (c.ONE.ensures ∙ g.met.F.RingCore.one_is)
+          ∙ ap (λ (i : ℕ). values_at r (coset_point r r.one (g.F.TwoAdicCore.root i)) (2 ^ i) (column r.zero m j)) same);
+    }

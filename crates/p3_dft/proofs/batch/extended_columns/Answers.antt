@@ -1,43 +1,56 @@
-use Rattle.std.proofs.Common.{◌+◌, ◌^◌, ◌≤◌, ◌∙◌, sym, subst, arith}
+use Rattle.std.proofs.Common.{◌≡◌, ℕ, ◌+◌, ◌*◌, ◌^◌, ◌<◌, ◌≤◌, ◌∙◌, sym, ap, subst, arith}
 use Rattle.std.proofs.Math.Pow.{pow_mono}
-use Rattle.p3_matrix.specs.Matrix.{Rows, FillsRows, height}
-use Rattle.p3_dft.proofs.Batches.{IsTransposed, within_larger, extension_by_rows}
+use Rattle.std.proofs.lemmas.Nat.{pow-add}
+use Rattle.p3_field.specs.Domain.{coset_point, IsInterpolant}
+use Rattle.p3_matrix.specs.Matrix.{height, column}
+use Rattle.p3_matrix.specs.Laws.Powers.{power_le_cancel, power_cancel}
+use Rattle.p3_dft.specs.Transform.{values_at}
 use Rattle.p3_dft.proofs.batch.extended_columns.Goals as goal
 
-pub interpolated_rows-requires-clause-subgroup : goal.interpolated_rows-requires-clause-subgroup
-interpolated_rows-requires-clause-subgroup g c =
+within_larger : (n k a top : ℕ) → n ≡ 2 ^ k → n * 2 ^ a ≤ 2 ^ top → k + a ≤ top
+within_larger n k a top e h =
+    let p : n * 2 ^ a ≡ 2 ^ k * 2 ^ a = ap (λ x. x * 2 ^ a) e in
+    power_le_cancel (k + a) top (omega (arith, p, pow-add 2 k a))
+
+pub coset_interpolants-requires-clause-subgroup : goal.coset_interpolants-requires-clause-subgroup
+coset_interpolants-requires-clause-subgroup g c =
     let sum = within_larger (height c.args.m.now) c.log2_strict_usize-log_height.result c.args.added_bits g.F.TwoAdicCore.TWO_ADICITY (sym c.height.ensures.result ∙ c.log2_strict_usize-log_height.ensures) c.requires.subgroup in
     omega (arith, sum)
 
-pub overflow_add-log_height : goal.overflow_add-log_height
-overflow_add-log_height g c =
+pub overflow_add-log_size : goal.overflow_add-log_size
+overflow_add-log_size g c =
     let sum = within_larger (height c.args.m.now) c.log2_strict_usize-log_height.result c.args.added_bits g.F.TwoAdicCore.TWO_ADICITY (sym c.height.ensures.result ∙ c.log2_strict_usize-log_height.ensures) c.requires.subgroup in
     omega (arith, sum, g.met.F.TwoAdicCore.below_64)
 
-pub evaluated_rows-requires-clause-subgroup : goal.evaluated_rows-requires-clause-subgroup
-evaluated_rows-requires-clause-subgroup g c =
+pub coset_values-requires-clause-subgroup : goal.coset_values-requires-clause-subgroup
+coset_values-requires-clause-subgroup g c =
     within_larger (height c.args.m.now) c.log2_strict_usize-log_height.result c.args.added_bits g.F.TwoAdicCore.TWO_ADICITY (sym c.height.ensures.result ∙ c.log2_strict_usize-log_height.ensures) c.requires.subgroup
 
-pub evaluated_rows-requires-clause-fits : goal.evaluated_rows-requires-clause-fits
-evaluated_rows-requires-clause-fits g c =
+pub coset_values-requires-clause-fits : goal.coset_values-requires-clause-fits
+coset_values-requires-clause-fits g c =
     let k = c.log2_strict_usize-log_height.result in
     let wider : 2 ^ k ≤ 2 ^ (k + c.args.added_bits) = pow_mono (omega arith) in
-    omega (arith, c.in_ok-coefficients.ensures.width, wider)
+    omega (arith, c.in_ok-coefficients.ensures.height, wider)
 
 pub returns : goal.returns
 returns g c =
     let r = g.F.RingCore.ring in
+    let root = g.F.TwoAdicCore.root in
+    let k = c.log2_strict_usize-log_height.result in
     let m = c.args.m.now in
-    let columns = c.in_ok-columns.columns in
-    let coefficients = c.in_ok-coefficients.coefficients in
-    let values = c.in_ok-values.values in
-    let first : IsTransposed m columns = record { fills = c.height.ensures.fills; width = c.in_ok-columns.ensures.width; count = c.in_ok-columns.ensures.count; cells = c.in_ok-columns.ensures.cells } in
-    let last : IsTransposed values c.in_ok-transposed.transposed = record {
-      fills = subst (λ (v : Rows g.row.F.Denot). FillsRows v.values v.width) c.values.view_is c.values.invariant;
-      width = c.in_ok-transposed.ensures.width;
-      count = c.in_ok-transposed.ensures.count;
-      cells = c.in_ok-transposed.ensures.cells;
-    } in
-    extension_by_rows r g.F.TwoAdicCore.root m columns values c.in_ok-transposed.transposed first last c.log2_strict_usize-log_height.result (sym c.height.ensures.result ∙ c.log2_strict_usize-log_height.ensures)
-    (c.in_ok-values.ensures.height ∙ c.in_ok-coefficients.ensures.height) coefficients c.args.added_bits c.args.shift c.in_ok-coefficients.ensures.rows
-    (λ i b. c.in_ok-values.ensures.rows i (omega (arith, c.in_ok-coefficients.ensures.height)))
+    let a = c.args.added_bits in
+    let u = c.in_ok-coefficients.coefficients in
+    let size : height m ≡ 2 ^ k = sym c.height.ensures.result ∙ c.log2_strict_usize-log_height.ensures in
+    record {
+      width_is = c.in_ok-values.ensures.width ∙ c.in_ok-coefficients.ensures.width;
+      column_is = λ j l b h.
+          let same : k ≡ l = power_cancel k l (sym size ∙ h) in
+          let across : j < u.width = omega (arith, c.in_ok-coefficients.ensures.width) in
+          let start : IsInterpolant r (coset_point r r.one (root k)) (column r.zero m j) (column r.zero u j) =
+          subst (λ (s : g.row.F.Denot). IsInterpolant r (coset_point r s (root k)) (column r.zero m j) (column r.zero u j)) (c.ONE.ensures ∙ g.met.F.RingCore.one_is) (c.in_ok-coefficients.ensures.columns j b) in
+          record {
+            interpolant = column r.zero u j;
+            interpolates = subst (λ (i : ℕ). IsInterpolant r (coset_point r r.one (root i)) (column r.zero m j) (column r.zero u j)) same start;
+            values_are = c.in_ok-values.ensures.columns j across ∙ ap (λ (i : ℕ). values_at r (coset_point r c.args.shift (root (i + a))) (2 ^ (i + a)) (column r.zero u j)) same;
+          };
+    }
