@@ -1,5 +1,6 @@
 //! What a prover and a verifier agree on: fields, challenger, commitment scheme and grinding.
 ghost use Rattle.std.specs.Prelude.{◌≡◌, ℕ, ◌<◌, ◌^◌, cond};
+ghost use Rattle.transcript_version.specs.declared.TranscriptVersion.{TranscriptVersion as VersionOf};
 
 use commit_core::{CosetPcs, Pcs, PolynomialSpace, UnivariateStarkPcs};
 use p3_challenger::{CanObserve, CanSample, CanSampleBits, GrindingChallenger};
@@ -8,6 +9,7 @@ use p3_field::{
     PrimeField64, RingCore, TwoAdicCore, TwoAdicField, TwoAdicMultiplicativeCoset,
 };
 use std::marker::PhantomData;
+use transcript_version::TranscriptVersion;
 
 /// The fields, the challenger, the commitment scheme and the grinding of a proof system (`StarkGenericConfig` of
 /// `p3-uni-stark`).
@@ -42,6 +44,9 @@ pub trait StarkGenericConfig {
     // how many bits the grinding before the drawn point has
     ghost ood_bits: { Self → ℕ };
 
+    // the transcript's version
+    ghost version: { Self → VersionOf };
+
     /// The commitment scheme.
     fn pcs(&self) -> &Self::Pcs
         ensures { result.now ≡ pcs_of self.now };
@@ -63,6 +68,10 @@ pub trait StarkGenericConfig {
     fn ood_proof_of_work_bits(&self) -> usize
         ensures bits { result ≡ ood_bits self.now }
         ensures fits { 2 ^ ood_bits self.now < Self.Val.ORDER_U64 };
+
+    /// The version of the transcript of each run (not in Plonky3).
+    fn transcript_version(&self) -> TranscriptVersion
+        ensures { result ≡ version self.now };
 }
 
 /// The field of a configuration's traces.
@@ -113,6 +122,7 @@ where
     challenger: C,
     lookup_bits: usize,
     ood_bits: usize,
+    version: TranscriptVersion,
     challenge: PhantomData<E>,
     ghost lookup_fits: { 2 ^ lookup_bits < P.Val.ORDER_U64 },
     ghost ood_fits: { 2 ^ ood_bits < P.Val.ORDER_U64 },
@@ -125,7 +135,7 @@ where
     E: ExtensionField<<P as Pcs<E, C>>::Val>,
 {
     /// The configuration with this scheme, this challenger, and so many bits for the two grindings, of which two to
-    /// the power is below the field's order.
+    /// the power is below the field's order. Its runs have transcripts of version 1.
     pub fn new(pcs: P, challenger: C, lookup_bits: usize, ood_bits: usize) -> Self
         requires lookup { 2 ^ lookup_bits < P.Val.ORDER_U64 }
         requires ood { 2 ^ ood_bits < P.Val.ORDER_U64 }
@@ -133,12 +143,32 @@ where
         ensures challenger { result.challenger ≡ challenger }
         ensures lookup { result.lookup_bits ≡ lookup_bits }
         ensures ood { result.ood_bits ≡ ood_bits }
+        ensures version { result.version ≡ TranscriptVersion.V1 }
     {
         StarkConfig {
             pcs,
             challenger,
             lookup_bits,
             ood_bits,
+            version: TranscriptVersion::V1,
+            challenge: PhantomData,
+        }
+    }
+
+    /// The same configuration, but for runs with transcripts of this version (not in Plonky3).
+    pub fn with_version(self, version: TranscriptVersion) -> Self
+        ensures pcs { result.pcs ≡ self.pcs }
+        ensures challenger { result.challenger ≡ self.challenger }
+        ensures lookup { result.lookup_bits ≡ self.lookup_bits }
+        ensures ood { result.ood_bits ≡ self.ood_bits }
+        ensures version { result.version ≡ version }
+    {
+        StarkConfig {
+            pcs: self.pcs,
+            challenger: self.challenger,
+            lookup_bits: self.lookup_bits,
+            ood_bits: self.ood_bits,
+            version,
             challenge: PhantomData,
         }
     }
@@ -172,6 +202,8 @@ where
 
     ghost ood_bits = { λ s. s.ood_bits };
 
+    ghost version = { λ s. s.version };
+
     fn pcs(&self) -> &P {
         &self.pcs
     }
@@ -190,5 +222,9 @@ where
 
     fn ood_proof_of_work_bits(&self) -> usize {
         self.ood_bits
+    }
+
+    fn transcript_version(&self) -> TranscriptVersion {
+        self.version
     }
 }

@@ -33,5 +33,6 @@ pub use proof::{OpenedValues, PreprocessedOpenedValues};
 pub use prover_folder::ProverFolder;
 pub use readings::folders_have_the_one_reading;
 pub use recompose::{are_all_disjoint, recompose_quotient_from_chunks, recomposed_quotient};
+pub use transcript_version::TranscriptVersion;
 pub use uniqueness::{powers_are_in_order, recombined_on_domains, split_domains_are_disjoint};
 pub use verifier_folder::VerifierFolder;
