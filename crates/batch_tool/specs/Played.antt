@@ -20,15 +20,15 @@ BatchGiven = Given BabyBear QuarticExtension (PlainCommitmentData BabyBear)
 -- the transcript after the separator, before the first step
 abbrev pub seeded_transcript : BatchShapeData → Transcript Sha256Challenger QuarticExtension
 seeded_transcript shape =
-    let c = tool_setting in
+    let c = tool_setting shape.version in
     begun QuarticExtension (seeded c.challenger c.field.ring c.extension.dimension shape c.initial)
 
 -- the steps of a batch of this shape with their values
 abbrev pub batch_steps : BatchShapeData → BatchGiven → List (Played BabyBear QuarticExtension (PlainCommitmentData BabyBear))
-batch_steps shape given = script tool_setting.extension.ring tool_setting.extension.dimension shape given
+batch_steps shape given = script (tool_setting shape.version).extension.ring (tool_setting shape.version).extension.dimension shape given
 
 -- A batch's transcript is played by base elements alone: each step by those that its value is observed as, and a challenge by four draws.
 abbrev pub PlaysByElements : BatchShapeData → BatchGiven → Type 0
 PlaysByElements shape given =
-    flat_transcript quartic_coefficients (play tool_setting.challenger (seeded_transcript shape) (batch_steps shape given))
+    flat_transcript quartic_coefficients (play (tool_setting shape.version).challenger (seeded_transcript shape) (batch_steps shape given))
     ≡ play_elements sha256_elements (flat_transcript quartic_coefficients (seeded_transcript shape)) (flat quartic_coefficients (commitment_elements baby_bear_ring) (batch_steps shape given))

@@ -5,6 +5,7 @@ ghost use Rattle.tool_lines.specs.declared.parse.TextError.TheVariants.{Malforme
 ghost use Rattle.batch_tool.specs.Answer.{IsProveAnswer, IsVerifyAnswer, bad_input_text};
 
 use p3_field::Mem;
+use p3_uni_stark::TranscriptVersion;
 use std::alloc::{AllocError, Global};
 use tool_jobs::read_job;
 use tool_lines::{TextError, push_number};
@@ -14,14 +15,18 @@ use tool_verifier::{Answer, Status, answer_verify};
 
 const BAD_INPUT: &[u8] = b"bad input at line ";
 
-/// What `prove` answers for all the bytes of an input, which are let go once they are read.
-pub(crate) fn job_answer(alloc: Global, bytes: Vec<u8>) -> Mem<Answer>
-    ensures { IfOk result (λ a. IsProveAnswer bytes.items a.status a.text.items) }
+/// What `prove` answers for all the bytes of an input over the transcript of this version, which are let go once they are read.
+pub(crate) fn job_answer(
+    alloc: Global,
+    version: TranscriptVersion,
+    bytes: Vec<u8>,
+) -> Mem<Answer>
+    ensures { IfOk result (λ a. IsProveAnswer version bytes.items a.status a.text.items) }
 {
     let read = read_job(alloc, &bytes);
     drop(bytes);
     match read {
-        Ok(job) => answer_prove(alloc, &job),
+        Ok(job) => answer_prove(alloc, version, &job),
         Err(error) => bad_input(alloc, error),
     }
 }

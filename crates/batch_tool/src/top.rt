@@ -14,8 +14,8 @@ use tool_verifier::Status;
 /// Does what the words say, which are those after the program's name: reads the input where they name a command that reads it,
 /// and then writes one text.
 ///
-/// The text is built whole before the first write. The word `prove` reads a job and answers it, the word `verify` reads a proof
-/// file and answers it. The words `demo` and N, a decimal number up to 4294967295 without a leading zero, answer the job that N
+/// The text is built whole before the first write. The word `prove` reads a job and answers it over the transcript of version 2,
+/// and the words `prove` and `1` over that of version 1; the word `verify` reads a proof file and answers it over that of its version. The words `demo` and N, a decimal number up to 4294967295 without a leading zero, answer the job that N
 /// stands for, and read nothing. All others are `Usage` (not in Plonky3).
 ///
 /// `ReadFault` and `WriteFault` come only where the source's or the sink's count of faults rose, and with any other status that count

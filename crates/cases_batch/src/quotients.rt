@@ -19,7 +19,7 @@ use p3_field::{
 };
 use p3_lookup::{LogUpGadget, Lookup};
 use p3_matrix::{RowMajorMatrix, interpolate_coset, is_power_of_two};
-use p3_uni_stark::StarkGenericConfig;
+use p3_uni_stark::{StarkGenericConfig, TranscriptVersion};
 use prover_values::quotient_values;
 use std::alloc::Global;
 use tool_statement::{ToolConfig, tool_config};
@@ -127,7 +127,7 @@ fn quotient_over<A: Air<BabyBear>>(
     }
     let mut made = quotient_values::<ToolConfig, A, LogUpGadget>(
         alloc,
-        tool_config().pcs(),
+        tool_config(TranscriptVersion::V1).pcs(),
         air,
         &publics,
         AirLayout::from_air(air),

@@ -17,6 +17,7 @@ use commit_core::UnivariateStarkPcs;
 use p3_field::{BabyBear, FieldCore, Mem, RingCore, TwoAdicCore};
 use p3_lookup::Lookups;
 use p3_matrix::RowMajorMatrix;
+use p3_uni_stark::TranscriptVersion;
 use plain_pcs::PlainProverError;
 use std::alloc::Global;
 use tool_statement::{ToolConfig, tool_config};
@@ -123,7 +124,7 @@ fn made_of<A: Air<BabyBear>>(alloc: Global, airs: &[A], words: &[&str]) -> Mem<S
     let [bits, budgets, log_blowup, more] = *words else {
         return bad_case(alloc);
     };
-    let config = tool_config();
+    let config = tool_config(TranscriptVersion::V1);
     let bits = numbers(alloc, bits)?;
     if !are_within(&bits) {
         return bad_case(alloc);
@@ -180,7 +181,7 @@ pub fn instance(alloc: Global, words: &[&str]) -> Mem<String> {
         trace: &trace,
         public_values: Vec::new(alloc),
     }];
-    match ProverData::<ToolConfig>::from_instances(alloc, &tool_config(), &instances) {
+    match ProverData::<ToolConfig>::from_instances(alloc, &tool_config(TranscriptVersion::V1), &instances) {
         Ok(data) => shown(alloc, &data, &airs),
         Err(error) => format!(in alloc; "{error}"),
     }

@@ -6,6 +6,7 @@ use batch_tool::{
 };
 use p3_field::{BabyBear, PrimeCore64};
 use p3_matrix::RowMajorMatrix;
+use p3_uni_stark::TranscriptVersion;
 use std::io;
 use tool_jobs::{first_unbalanced, statements_of, traces_of};
 use tool_lines::{Form, print_items};
@@ -31,7 +32,9 @@ pub fn job<R: Print + AllocGlobal>(
         }
         "traces" => print_traces(rt, &traces_of(alloc, &job)?),
         "cells" => print_cells(rt, &traces_of(alloc, &job)?, words),
-        "answer_prove" => print_answer(rt, &answer_prove(alloc, &job)?),
+        "answer_prove" => {
+            print_answer(rt, &answer_prove(alloc, TranscriptVersion::V1, &job)?)
+        }
         _ => rt.println("bad case"),
     }
 }

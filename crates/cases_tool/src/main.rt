@@ -26,7 +26,7 @@ fn main(rt: HostRuntime) -> io::Result<()> {
     Ok(())
 }
 
-// Answers a case: a word for the call, one for the text, and more. The text of the last run of `prove` is kept.
+// Answers a case: a word for the call, one for the text, and more. The text of the last run of `prove 1` is kept.
 fn answer<R: Files + Print + AllocGlobal>(
     rt: &R,
     line: &str,

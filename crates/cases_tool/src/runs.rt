@@ -53,9 +53,9 @@ pub fn words<R: Print + AllocGlobal>(rt: &R, input: Vec<u8>, words: &[&str]) -> 
     print_answer(rt, &ran(rt.alloc(), words, input)?)
 }
 
-/// Runs `prove` on an input, and gives the text that it writes.
+/// Runs `prove 1` on an input, and gives the text that it writes.
 pub fn proved<R: Print + AllocGlobal>(rt: &R, input: Vec<u8>) -> io::Result<Vec<u8>> {
-    let answer = ran(rt.alloc(), &["prove"], input)?;
+    let answer = ran(rt.alloc(), &["prove", "1"], input)?;
     print_answer(rt, &answer)?;
     Ok(answer.text)
 }

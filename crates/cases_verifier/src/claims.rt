@@ -5,6 +5,7 @@ use crate::statement::Stated;
 use crate::writing::{bad_case, push_word};
 use commit_core::MatrixOpening;
 use p3_field::{BabyBear, Mem, QuarticExtension, RingCore, TwoAdicMultiplicativeCoset};
+use p3_uni_stark::TranscriptVersion;
 use std::alloc::Global;
 use tool_proof_text::CommitmentText;
 use tool_statement::{ToolConfig, tool_config};
@@ -52,7 +53,7 @@ pub fn claims(alloc: Global, stated: &Stated, head: &[u64], numbers: &[u64]) -> 
     }
     match commitments_with_opening_points(
         alloc,
-        &tool_config(),
+        &tool_config(TranscriptVersion::V1),
         &stated.airs,
         QuarticExtension::from_u64(*zeta),
         &proof.commitments,

@@ -14,6 +14,7 @@ use law_soundness::PlainConfig;
 use p3_challenger::{CanObserve, CanSample, GrindingChallenger};
 use p3_dft::TwoAdicSubgroupDft;
 use p3_field::{BabyBear, ExtensionField, Mem};
+use p3_uni_stark::TranscriptVersion;
 use plain_pcs::{PlainCommitment, PlainPcs};
 use std::alloc::Global;
 use tool_statement::tool_config;
@@ -108,7 +109,7 @@ fn tables_stated(alloc: Global, name: &str, tables: &[Vec<u64>]) -> Mem<Option<S
         return Ok(None);
     }
     let shared = match name {
-        "tool" => shared(alloc, &tool_config(), &airs, &degree_bits),
+        "tool" => shared(alloc, &tool_config(TranscriptVersion::V1), &airs, &degree_bits),
         _ => shared(alloc, &small_config(0), &airs, &degree_bits),
     };
     let Some(common) = shared else {

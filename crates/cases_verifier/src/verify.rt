@@ -24,7 +24,7 @@ use p3_field::{
     BabyBear, BasedVectorSpace, ExtensionField, Field, FieldCore, Mem, PrimeCharacteristicRing,
     PrimeCore64, PrimeField64, QuarticExtension, RingCore, TwoAdicCore, TwoAdicField,
 };
-use p3_uni_stark::{PcsError, StarkGenericConfig};
+use p3_uni_stark::{PcsError, StarkGenericConfig, TranscriptVersion};
 use plain_pcs::{PlainCommitment, PlainPcs};
 use std::alloc::Global;
 use tool_proof_text::CommitmentText;
@@ -146,7 +146,7 @@ pub fn tables(
     match name {
         "tool" => {
             let proof = proof_of::<CommitmentText, QuarticExtension>(alloc, numbers)?;
-            said(alloc, &tool_config(), airs, publics, common, proof)
+            said(alloc, &tool_config(TranscriptVersion::V1), airs, publics, common, proof)
         }
         "small" => small(alloc, 0, airs, publics, common, numbers),
         "fixed" => fixed(alloc, stated, head, numbers),

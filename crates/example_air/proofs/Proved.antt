@@ -21,6 +21,7 @@ use Rattle.prover_answer.specs.Proving.{IsHonestProof, proving_checks}
 use Rattle.prover_answer.specs.Verdict.{IsAnswerRefusal, IsProverAnswer}
 use Rattle.prover_answer.specs.declared.error.ProvingError.{ProvingError}
 use Rattle.prover_answer.specs.declared.error.ProvingError.TheVariants.{LookupDenominatorZero, MultiplicityBound, OutOfMemory, Pcs, WitnessNotFound}
+use Rattle.transcript_version.specs.declared.TranscriptVersion.TheVariants.{V2}
 use Rattle.tool_statement.specs.Config.{tool_setting}
 use Rattle.example_air.specs.Bytes.{example_declaration, example_trees}
 use Rattle.example_air.specs.Proving.{AreTables, IsBytesProverData, IsTablesProof, LacksTablesProof, tables_batch}
@@ -47,7 +48,7 @@ few_rows t u A k e = let q = small_log (height t) A.power A.few in let l = log_o
 
 -- what is set up: the configuration, the traces, the public values, and the common data
 module _ (t u : Rows BabyBear) (t_fills : FillsRows t.values t.width) (A : AreTables t u) (c : ToolSetting) (b : Blowup) (p q : List BabyBear) (written : WrittenCommon BabyBear (PlainCommitmentData BabyBear))
-    (setting_is : c ≡ tool_setting) (scheme_is : b ≡ one_bit) (no_p : p ≡ []) (no_q : q ≡ []) (common_is : read_common written ≡ example_common) where
+    (setting_is : c ≡ (tool_setting V2)) (scheme_is : b ≡ one_bit) (no_p : p ≡ []) (no_q : q ≡ []) (common_is : read_common written ≡ example_common) where
   abbrev instances : List (Instance ExampleAir BabyBear)
   instances = record { air = Bits; trace = t; public_values = p } ∷ record { air = Bytes; trace = u; public_values = q } ∷ []
 

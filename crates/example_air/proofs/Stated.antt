@@ -20,6 +20,7 @@ use Rattle.law_soundness.specs.CommittedBatch.{committed_table_at}
 use Rattle.law_committed.specs.Laws.BaseRows.{rows_mean}
 use Rattle.law_soundness.specs.Laws.SwapTables.{first_of}
 use Rattle.law_soundness.specs.Meaning.{CommittedTablesHold, HoldUnlessUnlucky, IsAlphaUnlucky, IsZetaUnlucky}
+use Rattle.transcript_version.specs.declared.TranscriptVersion.TheVariants.{V2}
 use Rattle.tool_statement.specs.Config.{backend_of, tool_backend, tool_setting}
 use Rattle.example_air.specs.Bytes.{bits_row, byte_row_trees}
 use Rattle.example_air.specs.Laws.Reads.{reads_bits}
@@ -45,25 +46,25 @@ pub no_publics : (a b : List BabyBear) → a ≡ [] → b ≡ [] → a ∷ b ∷
 no_publics a b e f = λ i. e i ∷ f i ∷ []
 
 pub verdict_is : {T : Type 0} (c : ToolSetting) (b : Blowup) (ps : List (List BabyBear)) (m : Common BabyBear (PlainCommitmentData BabyBear)) (p : BytesProof) (r : Result T (BatchVerificationError PlainError))
-    → c ≡ tool_setting → b ≡ record { log_blowup = 1 } → ps ≡ [] ∷ [] ∷ [] → m ≡ example_common
-    → IsVerdict (checks c (backend_of (scheme baby_bear_ring baby_bear_inv baby_bear_root (reduce 31) 27 b)) (with_data ps m) p) r → IsVerdict (checks tool_setting tool_backend example_statement p) r
+    → c ≡ (tool_setting V2) → b ≡ record { log_blowup = 1 } → ps ≡ [] ∷ [] ∷ [] → m ≡ example_common
+    → IsVerdict (checks c (backend_of (scheme baby_bear_ring baby_bear_inv baby_bear_root (reduce 31) 27 b)) (with_data ps m) p) r → IsVerdict (checks (tool_setting V2) tool_backend example_statement p) r
 unfolding tool_backend
 verdict_is c b ps m p r e f q k h =
-    subst (λ (s : ToolStatement). IsVerdict (checks tool_setting (backend_of (scheme baby_bear_ring baby_bear_inv baby_bear_root (reduce 31) 27 (record { log_blowup = 1 }))) s p) r) (same_statement ps m q k)
+    subst (λ (s : ToolStatement). IsVerdict (checks (tool_setting V2) (backend_of (scheme baby_bear_ring baby_bear_inv baby_bear_root (reduce 31) 27 (record { log_blowup = 1 }))) s p) r) (same_statement ps m q k)
     (subst (λ (d : ToolSetting). IsVerdict (checks d (backend_of (scheme baby_bear_ring baby_bear_inv baby_bear_root (reduce 31) 27 (record { log_blowup = 1 }))) (with_data ps m) p) r) e
     (subst (λ (a : Blowup). IsVerdict (checks c (backend_of (scheme baby_bear_ring baby_bear_inv baby_bear_root (reduce 31) 27 a)) (with_data ps m) p) r) f h))
 
 pub refusal_is : (c : ToolSetting) (b : Blowup) (ps : List (List BabyBear)) (m : Common BabyBear (PlainCommitmentData BabyBear)) (p : BytesProof) (r : BatchVerificationError PlainError)
-    → c ≡ tool_setting → b ≡ record { log_blowup = 1 } → ps ≡ [] ∷ [] ∷ [] → m ≡ example_common
-    → IsRefusal (checks c (backend_of (scheme baby_bear_ring baby_bear_inv baby_bear_root (reduce 31) 27 b)) (with_data ps m) p) r → IsRefusal (checks tool_setting tool_backend example_statement p) r
+    → c ≡ (tool_setting V2) → b ≡ record { log_blowup = 1 } → ps ≡ [] ∷ [] ∷ [] → m ≡ example_common
+    → IsRefusal (checks c (backend_of (scheme baby_bear_ring baby_bear_inv baby_bear_root (reduce 31) 27 b)) (with_data ps m) p) r → IsRefusal (checks (tool_setting V2) tool_backend example_statement p) r
 refusal_is c b ps m p r e f q k h = verdict_is {T = Unit {0}} c b ps m p (Err r) e f q k h
 
 -- what holds of a configuration and a statement that are these
-carried : (P : ToolSetting → ℕ → ToolStatement → Type 0) (c : ToolSetting) (b : ℕ) (s : ToolStatement) → c ≡ tool_setting → b ≡ 1 → s ≡ example_statement → P c b s → P tool_setting 1 example_statement
-carried P c b s e f q h = subst (P tool_setting 1) q (subst (λ a. P tool_setting a s) f (subst (λ d. P d b s) e h))
+carried : (P : ToolSetting → ℕ → ToolStatement → Type 0) (c : ToolSetting) (b : ℕ) (s : ToolStatement) → c ≡ (tool_setting V2) → b ≡ 1 → s ≡ example_statement → P c b s → P (tool_setting V2) 1 example_statement
+carried P c b s e f q h = subst (P (tool_setting V2) 1) q (subst (λ a. P (tool_setting V2) a s) f (subst (λ d. P d b s) e h))
 
-pub meant_is : (c : ToolSetting) (b : ℕ) (ps : List (List BabyBear)) (m : Common BabyBear (PlainCommitmentData BabyBear)) (p : BytesProof) → c ≡ tool_setting → b ≡ 1 → ps ≡ [] ∷ [] ∷ [] → m ≡ example_common
-    → HoldUnlessUnlucky c b (with_data ps m) p → HoldUnlessUnlucky tool_setting 1 example_statement p
+pub meant_is : (c : ToolSetting) (b : ℕ) (ps : List (List BabyBear)) (m : Common BabyBear (PlainCommitmentData BabyBear)) (p : BytesProof) → c ≡ (tool_setting V2) → b ≡ 1 → ps ≡ [] ∷ [] ∷ [] → m ≡ example_common
+    → HoldUnlessUnlucky c b (with_data ps m) p → HoldUnlessUnlucky (tool_setting V2) 1 example_statement p
 meant_is c b ps m p e f q k h = carried (λ d a s. HoldUnlessUnlucky d a s p) c b (with_data ps m) e f (same_statement ps m q k) h
 
 -- where a table of nine columns holds with the constraints of bits, each of its rows is that of a byte
@@ -85,7 +86,7 @@ rows_at L means c b s log_rows p high holds own wide no_alpha no_zeta i below =
     row_is_byte L means (committed_table_at c b s p 0) wide (own (first_of holds no_alpha no_zeta)) i (subst (λ k. i < 2 ^ k) (sym high) below)
 
 pub rows_are : FieldsLaws baby_bear_field quartic_extension 27 quartic_inv → ByteRowMeans baby_bear_ring → (c : ToolSetting) (b : ℕ) (ps : List (List BabyBear)) (m : Common BabyBear (PlainCommitmentData BabyBear)) (log_rows : ℕ) (p : BytesProof)
-    → c ≡ tool_setting → b ≡ 1 → ps ≡ [] ∷ [] ∷ [] → m ≡ example_common → bits_at p.degree_bits 0 ≡ log_rows
+    → c ≡ (tool_setting V2) → b ≡ 1 → ps ≡ [] ∷ [] ∷ [] → m ≡ example_common → bits_at p.degree_bits 0 ≡ log_rows
     → HoldUnlessUnlucky c b (with_data ps m) p → (CommittedTablesHold c b (with_data ps m) p → Holds baby_bear_field quartic_extension (committed_table_at c b (with_data ps m) p 0) (byte_row_trees baby_bear_ring))
     → length (committed_table_at c b (with_data ps m) p 0).main ≡ 9 → RowsAreBytes log_rows p
 rows_are L means c b ps m log_rows p e f q k high holds own wide =

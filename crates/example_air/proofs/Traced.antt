@@ -35,6 +35,7 @@ use Rattle.law_committed.specs.Laws.BabyBearFields.{baby_bear_fields}
 use Rattle.law_committed.specs.Laws.Disjoint.{shift_gives_domain}
 use Rattle.law_committed.specs.Traces.{HaveTraceRows}
 use Rattle.prover_answer.specs.Batch.{IsTracedAll, table_at}
+use Rattle.transcript_version.specs.declared.TranscriptVersion.TheVariants.{V2}
 use Rattle.tool_statement.specs.Config.{tool_setting}
 use Rattle.example_air.specs.Bytes.{all_bytes, bits_row, bits_rows, byte_row_trees, bytes_rows, example_declaration, example_interactions, byte_times}
 use Rattle.example_air.specs.Proving.{AreTables, tables_batch}
@@ -86,16 +87,16 @@ bytes_have u fills high = record {
 }
 
 -- each quotient has its domain
-domain_is : (t : TracedTable BabyBear) → t.degree_bits ≤ 10 → ((n : ℕ) → chunks_of_table baby_bear_ring 0 n t.table t.lookups ≤ 0) → HasQuotientDomain tool_setting t
+domain_is : (t : TracedTable BabyBear) → t.degree_bits ≤ 10 → ((n : ℕ) → chunks_of_table baby_bear_ring 0 n t.table t.lookups ≤ 0) → HasQuotientDomain (tool_setting V2) t
 unfolding tool_setting
 domain_is t low few =
     let shift_is = sym (one_mul baby_bear_ring baby_bear_laws (reduce 31)) in
-    let none : masks tool_setting ≡ 0 = refl in
-    let one : chunks_of_table tool_setting.field.ring (masks tool_setting) (2 ^ log_rows tool_setting t) t.table t.lookups ≤ 0 = few (2 ^ log_rows tool_setting t) in
-    let size : log_rows tool_setting t + log_parts tool_setting t ≤ 10 = omega (arith, low, none, one) in
-    shift_gives_domain tool_setting.field tool_setting.extension 27 quartic_inv baby_bear_fields (committed_alone tool_setting t) (quotient_shift tool_setting) (log_parts tool_setting t) (omega (arith, size))
+    let none : masks (tool_setting V2) ≡ 0 = refl in
+    let one : chunks_of_table (tool_setting V2).field.ring (masks (tool_setting V2)) (2 ^ log_rows (tool_setting V2) t) t.table t.lookups ≤ 0 = few (2 ^ log_rows (tool_setting V2) t) in
+    let size : log_rows (tool_setting V2) t + log_parts (tool_setting V2) t ≤ 10 = omega (arith, low, none, one) in
+    shift_gives_domain (tool_setting V2).field (tool_setting V2).extension 27 quartic_inv baby_bear_fields (committed_alone (tool_setting V2) t) (quotient_shift (tool_setting V2)) (log_parts (tool_setting V2) t) (omega (arith, size))
     (subst (λ x. x ≡ baby_bear_ring.zero → ⊥) shift_is baby_bear_31)
-    (subst (λ x. pow baby_bear_ring x (2 ^ (log_rows tool_setting t + log_parts tool_setting t)) ≡ baby_bear_ring.one → ⊥) shift_is (baby_bear_31_power (log_rows tool_setting t + log_parts tool_setting t) (omega (arith, size))))
+    (subst (λ x. pow baby_bear_ring x (2 ^ (log_rows (tool_setting V2) t + log_parts (tool_setting V2) t)) ≡ baby_bear_ring.one → ⊥) shift_is (baby_bear_31_power (log_rows (tool_setting V2) t + log_parts (tool_setting V2) t) (omega (arith, size))))
 
 module _ (t u : Rows BabyBear) (t_fills : FillsRows t.values t.width) (A : AreTables t u) where
   abbrev table_of_bits : TracedTable BabyBear
@@ -111,15 +112,15 @@ module _ (t u : Rows BabyBear) (t_fills : FillsRows t.values t.width) (A : AreTa
   low : log_of (height t) ≤ 10
   low = small_log (height t) A.power A.few
 
-  bits_traced : IsTraced tool_setting table_of_bits
+  bits_traced : IsTraced (tool_setting V2) table_of_bits
   unfolding tool_setting
   bits_traced =
-      let none : masks tool_setting ≡ 0 = refl in
-      let same : log_rows tool_setting table_of_bits ≡ log_of (height t) = omega (arith, none) in
+      let none : masks (tool_setting V2) ≡ 0 = refl in
+      let same : log_rows (tool_setting V2) table_of_bits ≡ log_of (height t) = omega (arith, none) in
       let rows = subst (λ n. HaveTraceRows {E = QuarticExtension} (2 ^ n) (traces_of table_of_bits) no_rows) (sym same) (bits_have t t_fills A.power) in
       record { width = A.bits_width; some = omega arith; rows = rows; least = omega arith; most = let h = low in omega (arith, h); publics = refl }
 
-  bytes_traced : IsTraced tool_setting table_of_bytes
+  bytes_traced : IsTraced (tool_setting V2) table_of_bytes
   unfolding tool_setting
   bytes_traced = record { width = A.times_width; some = omega arith; rows = bytes_have u u_fills A.times_height; least = omega arith; most = omega arith; publics = refl }
 
@@ -143,6 +144,6 @@ module _ (t u : Rows BabyBear) (t_fills : FillsRows t.values t.width) (A : AreTa
     lists = record { publics_long = refl; lookups_long = refl; entries_long = refl; traces_long = refl; bits_long = refl };
     committed = refl;
     entries = entries;
-    traced = both (IsTraced tool_setting) bits_traced bytes_traced;
-    domains = both (HasQuotientDomain tool_setting) (domain_is table_of_bits low (chunks_are Bits)) (domain_is table_of_bytes (omega arith) (chunks_are Bytes));
+    traced = both (IsTraced (tool_setting V2)) bits_traced bytes_traced;
+    domains = both (HasQuotientDomain (tool_setting V2)) (domain_is table_of_bits low (chunks_are Bits)) (domain_is table_of_bytes (omega arith) (chunks_are Bytes));
   }

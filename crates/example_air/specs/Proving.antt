@@ -15,6 +15,7 @@ use Rattle.prover_answer.specs.Batch.{Batch, HasProverData}
 use Rattle.prover_answer.specs.PlainBackend.{baby_bear_prover, plain_commits, plain_prover_backend}
 use Rattle.prover_answer.specs.Telling.{Tells}
 use Rattle.prover_answer.specs.declared.error.ProvingError.{ProvingError}
+use Rattle.transcript_version.specs.declared.TranscriptVersion.TheVariants.{V2}
 use Rattle.tool_statement.specs.Config.{tool_scheme, tool_setting}
 use Rattle.example_air.specs.Statement.{BytesProof, bytes_column, example_statement}
 
@@ -25,7 +26,7 @@ IsBytesProverData shared prover_data = HasProverData (plain_commits tool_scheme)
 -- the two tables with these traces, over the program's configuration
 abbrev pub tables_batch : (bits times : Rows BabyBear) → Batch Sha256Challenger BabyBear QuarticExtension (PlainCommitmentData BabyBear)
 tables_batch bits times = record {
-  setting = tool_setting;
+  setting = (tool_setting V2);
   prover = baby_bear_prover tool_scheme;
   statement = example_statement;
   traces = bits ∷ times ∷ [];

@@ -23,6 +23,7 @@ use Rattle.batch_statement.specs.declared.error.BatchVerificationError.TheVarian
 use Rattle.law_committed.specs.BaseRows.{main_row}
 use Rattle.law_soundness.specs.CommittedBatch.{committed_table_at}
 use Rattle.law_soundness.specs.Meaning.{IsAlphaUnlucky, IsZetaUnlucky}
+use Rattle.transcript_version.specs.declared.TranscriptVersion.TheVariants.{V2}
 use Rattle.tool_statement.specs.Config.{tool_scheme, tool_setting}
 use Rattle.example_air.specs.Bytes.{all_bytes, bits_row, example_declaration, example_interactions, example_trees}
 use Rattle.example_air.specs.declared.air.ExampleAir.{ExampleAir}
@@ -66,5 +67,5 @@ height_check log_rows p =
 -- one, and their number.
 abbrev pub RowsAreBytes : (log_rows : ℕ) → BytesProof → Type 0
 RowsAreBytes log_rows p =
-    (IsAlphaUnlucky tool_setting 1 example_statement p → ⊥) → (IsZetaUnlucky tool_setting 1 example_statement p → ⊥)
-    → (i : ℕ) → i < 2 ^ log_rows → (byte : ℕ) × (byte < 256) × (main_row baby_bear_field (committed_table_at tool_setting 1 example_statement p 0) i ≡ bits_row baby_bear_ring byte)
+    (IsAlphaUnlucky (tool_setting V2) 1 example_statement p → ⊥) → (IsZetaUnlucky (tool_setting V2) 1 example_statement p → ⊥)
+    → (i : ℕ) → i < 2 ^ log_rows → (byte : ℕ) × (byte < 256) × (main_row baby_bear_field (committed_table_at (tool_setting V2) 1 example_statement p 0) i ≡ bits_row baby_bear_ring byte)

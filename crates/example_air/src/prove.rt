@@ -15,6 +15,7 @@ use batch_statement::BatchProof;
 use commit_core::UnivariateStarkPcs;
 use p3_field::BabyBear;
 use p3_matrix::{RowMajorMatrix, log2_strict_usize};
+use p3_uni_stark::TranscriptVersion;
 use plain_pcs::PlainProverError;
 use prover_answer::{ProverSettings, ProvingError};
 use prover_batch::prove_batch;
@@ -32,7 +33,7 @@ pub fn prove_tables(
     ensures proved { IfOk result (IsTablesProof bits.now times.now) }
     ensures refusal { IfErr result (LacksTablesProof bits.now times.now) }
 {
-    let config = tool_config();
+    let config = tool_config(TranscriptVersion::V2);
     let data = prover_data(alloc, &config, log2_strict_usize(bits.height()))?;
     let instances = [
         TableInstance {

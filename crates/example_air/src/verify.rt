@@ -5,6 +5,7 @@ ghost use Rattle.batch_statement.specs.Words.{bits_at};
 ghost use Rattle.batch_statement.specs.Verdict.{IsDecided, IsVerdict};
 ghost use Rattle.verifier_batch.specs.BatchChecks.{checks};
 ghost use Rattle.law_soundness.specs.Meaning.{HoldUnlessUnlucky};
+ghost use Rattle.transcript_version.specs.declared.TranscriptVersion.TheVariants.{V2};
 ghost use Rattle.tool_statement.specs.Config.{tool_backend, tool_setting};
 ghost use Rattle.example_air.specs.Statement.{RowsAreBytes, example_statement, height_check};
 
@@ -17,7 +18,7 @@ use batch_statement::{BatchProof, BatchVerificationError};
 use law_committed::fields::baby_bear_has_laws;
 use law_soundness::accepted_holds;
 use p3_field::BabyBear;
-use p3_uni_stark::InvalidProofShapeError;
+use p3_uni_stark::{InvalidProofShapeError, TranscriptVersion};
 use plain_pcs::PlainError;
 use std::alloc::Global;
 use tool_statement::{ToolConfig, tool_config};
@@ -66,12 +67,12 @@ pub fn verify_bytes(
     proof: &BatchProof<ToolConfig>,
 ) -> Result<(), BatchVerificationError<PlainError>>
     requires { log_rows ≤ 10 }
-    ensures verdict { IsVerdict (height_check log_rows proof.now ∷ checks tool_setting tool_backend example_statement proof.now) result }
-    ensures holds { IfOk result (λ _. HoldUnlessUnlucky tool_setting 1 example_statement proof.now) }
+    ensures verdict { IsVerdict (height_check log_rows proof.now ∷ checks (tool_setting V2) tool_backend example_statement proof.now) result }
+    ensures holds { IfOk result (λ _. HoldUnlessUnlucky (tool_setting V2) 1 example_statement proof.now) }
     ensures bytes { IfOk result (λ _. RowsAreBytes log_rows proof.now) }
 {
     check_height(log_rows, proof)?;
-    let config = tool_config();
+    let config = tool_config(TranscriptVersion::V2);
     let airs = [ExampleAir::Bits, ExampleAir::Bytes];
     let public_values = [Vec::new(alloc), Vec::new(alloc)];
     let common = prover_data(alloc, &config, log_rows)?.common;

@@ -9,6 +9,7 @@ use Rattle.batch_statement.specs.declared.error.BatchVerificationError.{BatchVer
 use Rattle.prover_answer.specs.declared.error.ProvingError.{ProvingError}
 use Rattle.prover_answer.specs.declared.error.ProvingError.TheVariants.{OutOfMemory as NoMemory}
 use Rattle.verifier_batch.specs.BatchChecks.{checks}
+use Rattle.transcript_version.specs.declared.TranscriptVersion.TheVariants.{V2}
 use Rattle.tool_statement.specs.Config.{tool_backend, tool_setting}
 use Rattle.example_air.specs.Bytes.{bits_rows, bytes_rows}
 use Rattle.example_air.specs.Proving.{IsTablesProof, LacksTablesProof}
@@ -23,7 +24,7 @@ pub record IsProofOf (bytes : List ℕ) (log_rows : ℕ) (p : BytesProof) : Type
 
 -- the checks of a proof of 2^log_rows bytes
 abbrev pub bytes_checks : (log_rows : ℕ) → BytesProof → List (Check (BatchVerificationError PlainError))
-bytes_checks log_rows p = height_check log_rows p ∷ checks tool_setting tool_backend example_statement p
+bytes_checks log_rows p = height_check log_rows p ∷ checks (tool_setting V2) tool_backend example_statement p
 
 -- What is said of these bytes. Accepted: their honest proof passes every check, and each row of the committed table of bits is the row of a byte, unless a
 -- drawn challenge is unlucky. Refused: a check of it fails first. Unproved: there is none, for a reason that is told, which isn't that memory ran out.

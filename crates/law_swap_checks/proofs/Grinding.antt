@@ -11,6 +11,7 @@ use Rattle.batch_transcript.specs.declared.failure.BatchTranscriptFailure.TheVar
 use Rattle.batch_statement.specs.declared.error.BatchVerificationError.TheVariants.{Transcript}
 use Rattle.verifier_draws.specs.Draws.{grinding_checks}
 use Rattle.verifier_batch.specs.BatchChecks.{drawn_of, draw_part}
+use Rattle.transcript_version.specs.declared.TranscriptVersion.{TranscriptVersion}
 use Rattle.tool_statement.specs.Config.{tool_setting}
 use Rattle.law_swap_checks.specs.SwapShape.{SwapProof}
 use Rattle.law_swap_checks.specs.SwapChecks.{Refusal, grinding_check}
@@ -28,13 +29,13 @@ held_none : (witness : BabyBear) → NoneFails (held witness)
 unfolding NoneFails
 held_none witness = (refl, (λ e. absurd (omega (arith, e)), tt))
 
-pub grinding_alike : (k : ℕ) (main quotient : Rows BabyBear) (local next chunk : List QuarticExtension) (opening : PlainProof) (witness : BabyBear) (a b x : BabyBear)
+pub grinding_alike : (version : TranscriptVersion) (k : ℕ) (main quotient : Rows BabyBear) (local next chunk : List QuarticExtension) (opening : PlainProof) (witness : BabyBear) (a b x : BabyBear)
     → let p : SwapProof = proof_of k main quotient local next chunk opening witness in
     let s = swap_statement a b x in
-    Alike (draw_part tool_setting s p {R = PlainError}) (grinding_check (drawn_of tool_setting s p).ood_passed)
+    Alike (draw_part (tool_setting version) s p {R = PlainError}) (grinding_check (drawn_of (tool_setting version) s p).ood_passed)
 unfolding grinding_checks tool_setting
-grinding_alike k main quotient local next chunk opening witness a b x =
+grinding_alike version k main quotient local next chunk opening witness a b x =
     let p : SwapProof = proof_of k main quotient local next chunk opening witness in
     let s = swap_statement a b x in
-    let last = grinding_check (drawn_of tool_setting s p).ood_passed in
+    let last = grinding_check (drawn_of (tool_setting version) s p).ood_passed in
     alike_before (held witness) last last (held_none witness) (alike_same last)

@@ -32,6 +32,7 @@ use Rattle.batch_statement.specs.declared.error.BatchVerificationError.TheVarian
 use Rattle.verifier_identity.specs.Identity.{folded_at, identity_checks}
 use Rattle.verifier_identity.specs.TableIdentity.{verified, periods_check}
 use Rattle.verifier_batch.specs.BatchChecks.{identities_at, all_lookup_challenges, domains_of}
+use Rattle.transcript_version.specs.declared.TranscriptVersion.{TranscriptVersion}
 use Rattle.tool_statement.specs.Config.{tool_setting}
 use Rattle.law_swap_checks.specs.SwapShape.{SwapProof}
 use Rattle.law_swap_checks.specs.SwapChecks.{value_at_point, swap_trace_domain, IsInTraceDomain, swap_values, SwapIdentity, zeta_checks}
@@ -78,7 +79,7 @@ vanishing_tells k fits z = (
       ∙ vanishing_polynomial_vanishes baby_bear_ring baby_bear_laws quartic_ring quartic_laws of_baby_bear_value quartic_hom baby_bear_inv baby_bear_field_laws 27 baby_bear_root baby_bear_root_laws (swap_trace_domain k) p.0 baby_bear_field_laws.one_differs fits),
 )
 
-module _ (k : ℕ) (small : k ≤ 10) (main quotient : Rows BabyBear) (local next chunk : List QuarticExtension) (opening : PlainProof) (witness : BabyBear) (a b x : BabyBear) (alpha zeta : QuarticExtension) where
+module _ (version : TranscriptVersion) (k : ℕ) (small : k ≤ 10) (main quotient : Rows BabyBear) (local next chunk : List QuarticExtension) (opening : PlainProof) (witness : BabyBear) (a b x : BabyBear) (alpha zeta : QuarticExtension) where
   abbrev p : SwapProof
   p = proof_of k main quotient local next chunk opening witness
 
@@ -107,14 +108,14 @@ module _ (k : ℕ) (small : k ≤ 10) (main quotient : Rows BabyBear) (local nex
       let t = vanishing_tells k (omega arith) zeta in
       subst P (sym e) ((λ h i. h (t.1 i)), (λ h z. h (t.0 z)))
 
-  pub identity_alike : Alike (in_turn 1 (identities_at tool_setting (swap_statement a b x) p {R = PlainError} (all_lookup_challenges tool_setting (swap_statement a b x) p) (domains_of tool_setting (swap_statement a b x) p) alpha zeta))
+  pub identity_alike : Alike (in_turn 1 (identities_at (tool_setting version) (swap_statement a b x) p {R = PlainError} (all_lookup_challenges (tool_setting version) (swap_statement a b x) p) (domains_of (tool_setting version) (swap_statement a b x) p) alpha zeta))
       (zeta_checks k publics alpha zeta local next chunk)
   unfolding identity_checks folded_at tool_setting in_turn log_ceil
   identity_alike =
       let n = k - 0 in
       let m : n ≡ k = omega arith in
       let d : CosetData BabyBear = record { shift = point baby_bear_ring baby_bear_root (record { shift = baby_bear_ring.mul baby_bear_ring.one (reduce 31); log_size = k + 0 }) 0; log_size = k + 0 - 0 } in
-      let q = recombined tool_setting.field tool_setting.extension (d ∷ []) (chunk ∷ []) zeta in
+      let q = recombined (tool_setting version).field (tool_setting version).extension (d ∷ []) (chunk ∷ []) zeta in
       let P : Type 0 = value_at_point (vanishing_polynomial baby_bear_ring baby_bear_inv (swap_trace_domain n)) zeta ≡ quartic_ring.zero → ⊥ in
       let I : Type 0 = SwapIdentity k publics alpha zeta local next chunk in
       let first : VerificationError PlainError = OodPointInDomain in
@@ -122,4 +123,4 @@ module _ (k : ℕ) (small : k ≤ 10) (main quotient : Rows BabyBear) (local nex
       alike_before (periods_check (2 ^ n) []) (verified (check first P) ∷ verified (check second (Over n q)) ∷ []) (zeta_checks k publics alpha zeta local next chunk) (periods_hold (2 ^ n))
       (alike_append (verified (check first P) ∷ []) (check (Verification first) (IsInTraceDomain k zeta → ⊥) ∷ []) (verified (check second (Over n q)) ∷ []) (check (Verification second) I ∷ [])
       (verified_alike first P (IsInTraceDomain k zeta → ⊥) (outside n m))
-      (verified_alike second (Over n q) I (same_identity n q m (one_chunk tool_setting.field tool_setting.extension quartic_laws d chunk zeta))))
+      (verified_alike second (Over n q) I (same_identity n q m (one_chunk (tool_setting version).field (tool_setting version).extension quartic_laws d chunk zeta))))

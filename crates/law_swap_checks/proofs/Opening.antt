@@ -20,6 +20,7 @@ use Rattle.batch_constraints.specs.Sizing.{log_ceil}
 use Rattle.batch_statement.specs.declared.error.BatchVerificationError.TheVariants.{Verification}
 use Rattle.verifier_claims.specs.Claims.{claims, claims_by, on_subgroup}
 use Rattle.verifier_batch.specs.OpeningChecks.{claim_checks, claimed, opens_check, opening_checks}
+use Rattle.transcript_version.specs.declared.TranscriptVersion.{TranscriptVersion}
 use Rattle.tool_statement.specs.Config.{tool_setting, tool_backend, tool_scheme}
 use Rattle.law_swap_checks.specs.SwapShape.{SwapProof}
 use Rattle.law_swap_checks.specs.SwapChecks.{Refusal, column_degree_check, column_value_check, main_column_checks, quotient_checks, swap_next_point}
@@ -75,7 +76,7 @@ round_stands round k m points rs fits rest =
     (stand_alone invalid (dims ∷ both) rs
     (stand_held invalid (dims ∷ []) both rs (fits, tt) rest))
 
-module _ (k : ℕ) (small : k ≤ 10) (main quotient : Rows BabyBear) (local next chunk : List QuarticExtension) (plain : ArePlain k main quotient local next chunk) (zeta : QuarticExtension) where
+module _ (version : TranscriptVersion) (k : ℕ) (small : k ≤ 10) (main quotient : Rows BabyBear) (local next chunk : List QuarticExtension) (plain : ArePlain k main quotient local next chunk) (zeta : QuarticExtension) where
   abbrev local_claim : PointClaim QuarticExtension
   local_claim = record { point = zeta; values = local }
 
@@ -140,7 +141,7 @@ module _ (k : ℕ) (small : k ≤ 10) (main quotient : Rows BabyBear) (local nex
     p = proof_of k main quotient local next chunk opening witness
 
     -- those that a verifier makes of the proof
-    claims_are : claims tool_setting (claimed tool_setting (swap_statement a b x) p) zeta ≡ two_claims
+    claims_are : claims (tool_setting version) (claimed (tool_setting version) (swap_statement a b x) p) zeta ≡ two_claims
     unfolding claims_by tool_setting log_ceil
     claims_are =
         let m : k - 0 ≡ k = omega arith in
@@ -149,15 +150,15 @@ module _ (k : ℕ) (small : k ≤ 10) (main quotient : Rows BabyBear) (local nex
         claim_on k main (local_claim ∷ record { point = quartic_ring.mul zeta (of_baby_bear_value (baby_bear_root (m i))); values = next } ∷ [])
         ∷ claim_on (n i) quotient (chunk_claim ∷ []) ∷ []
 
-    claims_hold : NoneFails (claim_checks tool_setting (swap_statement a b x) p {R = PlainError})
+    claims_hold : NoneFails (claim_checks (tool_setting version) (swap_statement a b x) p {R = PlainError})
     unfolding claim_checks tool_setting in_turn NoneFails log_ceil
     claims_hold = (omega arith, (omega arith, tt))
 
-    pub opening_alike : (state : Sha256Challenger) → Alike (opening_checks tool_setting tool_backend (swap_statement a b x) p zeta state) (main_column_checks k main zeta local next ++ quotient_checks k quotient zeta chunk)
+    pub opening_alike : (state : Sha256Challenger) → Alike (opening_checks (tool_setting version) tool_backend (swap_statement a b x) p zeta state) (main_column_checks k main zeta local next ++ quotient_checks k quotient zeta chunk)
     unfolding opening_checks tool_backend
     opening_alike state =
-        let found = claims tool_setting (claimed tool_setting (swap_statement a b x) p) zeta in
+        let found = claims (tool_setting version) (claimed (tool_setting version) (swap_statement a b x) p) zeta in
         let rs = main_column_checks k main zeta local next ++ quotient_checks k quotient zeta chunk in
         let P : List Claim → Type 0 = λ cs. Stands invalid (plain_checks tool_scheme quartic_ring of_baby_bear_value cs) rs in
-        alike_before (claim_checks tool_setting (swap_statement a b x) p) (opens_check tool_backend state found opening) rs claims_hold
+        alike_before (claim_checks (tool_setting version) (swap_statement a b x) p) (opens_check tool_backend state found opening) rs claims_hold
         (stand_alike invalid (plain_checks tool_scheme quartic_ring of_baby_bear_value found) rs (subst P (sym claims_are) claims_stand))

@@ -27,6 +27,7 @@ use Rattle.batch_statement.specs.declared.error.BatchVerificationError.{BatchVer
 use Rattle.batch_statement.specs.declared.error.BatchVerificationError.TheVariants.{Verification, Transcript}
 use Rattle.batch_statement.specs.Words.{no_opened}
 use Rattle.verifier_batch.specs.BatchChecks.{drawn_of}
+use Rattle.transcript_version.specs.declared.TranscriptVersion.{TranscriptVersion}
 use Rattle.tool_statement.specs.Config.{tool_setting}
 use Rattle.tool_statement.specs.StatedTables.{tool_statement}
 use Rattle.tool_statement.specs.declared.table.TableStatement.TheVariants.{Swap}
@@ -145,5 +146,5 @@ checks_with d k a b x p =
 
 -- The checks of a proof of a swap table of 2^k rows with these public values: the grinding value; what is opened of the table and of its quotient; the
 -- point; the identity there. The challenges are those that a verifier of the batch draws from this statement and this proof.
-unfoldable pub swap_checks : (k : ℕ) → (a b x : BabyBear) → SwapProof → List (Check Refusal)
-swap_checks k a b x p = checks_with (drawn_of tool_setting (tool_statement (Swap k a b x ∷ [])) p) k a b x p
+unfoldable pub swap_checks : TranscriptVersion → (k : ℕ) → (a b x : BabyBear) → SwapProof → List (Check Refusal)
+swap_checks version k a b x p = checks_with (drawn_of (tool_setting version) (tool_statement (Swap k a b x ∷ [])) p) k a b x p

@@ -134,8 +134,8 @@ module _ {S F E C P R : Type 0} (c : Setting S F E C) (b : Backend S F E C P R) 
     draws_left : LeavesPossible (draw_part c s p {R = R})
     unfolding grinding_checks
     draws_left =
-        let d = drawn c.challenger c.field.ring c.extension.ring c.extension.dimension c.initial c.zk c.lookup_bits c.ood_bits s p in
-        let n = (script_shape c.zk c.lookup_bits c.ood_bits s).num_lookup_instances in
+        let d = drawn c.challenger c.field.ring c.extension.ring c.extension.dimension c.initial c.version c.zk c.lookup_bits c.ood_bits s p in
+        let n = (script_shape c.version c.zk c.lookup_bits c.ood_bits s).num_lookup_instances in
         left_append (lookup_grinding c.field.ring.zero n c.lookup_bits p.lookup_pow_witness d.lookup_passed) (ood_grinding c.field.ring.zero c.ood_bits p.ood_pow_witness d.ood_passed)
         (lookup_left R c.field.ring.zero n c.lookup_bits p.lookup_pow_witness d.lookup_passed fits.lookup_bits) (ood_left R c.field.ring.zero c.ood_bits p.ood_pow_witness d.ood_passed fits.ood_bits)
 

@@ -12,6 +12,8 @@ use Rattle.p3_lookup.specs.declared.terminal.LookupError.TheVariants.{Multiplici
 use Rattle.batch_transcript.specs.declared.failure.BatchTranscriptFailure.TheVariants.{LookupPowWitness, MissingLookupPowWitness, UnexpectedLookupPowWitness, NonCanonicalLookupPowWitness, OodPowWitness, NonCanonicalOodPowWitness}
 use Rattle.batch_statement.specs.declared.error.BatchVerificationError.{BatchVerificationError}
 use Rattle.batch_statement.specs.declared.error.BatchVerificationError.TheVariants.{Verification, Lookup, Transcript, OutOfMemory}
+use Rattle.transcript_version.specs.declared.TranscriptVersion.{TranscriptVersion}
+use Rattle.transcript_version.specs.declared.TranscriptVersion.TheVariants.{V2}
 use Rattle.tool_verifier.specs.FileAnswer.{mismatch_text}
 use Rattle.law_tool_valid.specs.Job.{JobTable}
 use Rattle.tool_verifier.specs.Refusals.{fault_text, refused_text}
@@ -167,8 +169,8 @@ unbalanced_line value = refl
 zero_line : (table row : ℕ) → begins_some never (refused_text (codes "LookupDenominatorZero") (table ∷ row ∷ [])) ≡ false
 zero_line table row = refl
 
-prove_line : (job : List (JobTable BabyBear)) (text : List ℕ) → IsRefusedText job text → begins_some never text ≡ false
-prove_line job text h = elim h [
+prove_line : (version : TranscriptVersion) (job : List (JobTable BabyBear)) (text : List ℕ) → IsRefusedText version job text → begins_some never text ≡ false
+prove_line version job text h = elim h [
   | inl unbalanced ↦ ap (begins_some never) unbalanced.2 ∙ unbalanced_line unbalanced.0.value
   | inr balanced ↦ elim balanced.1 [
     | inl lookup ↦ ap (begins_some never) lookup.1
@@ -182,9 +184,9 @@ prove_line job text h = elim h [
 -- of each command
 command_line : (command : Command) (bytes text : List ℕ) → IsCommandAnswer command bytes Refused text → begins_some never text ≡ false
 unfolding IsDemoAnswer IsJobAnswer
-command_line Prove bytes text a = prove_line a.0 text a.3
+command_line (Prove version) bytes text a = prove_line version a.0 text a.3
 command_line Verify bytes text a = possible_line text (line_may_come bytes text a)
-command_line (Demo number) bytes text a = prove_line (demo_job number) text a
+command_line (Demo number) bytes text a = prove_line V2 (demo_job number) text a
 
 pub never_answered : (words : List (List ℕ)) (bytes : List ℕ) (e : BatchVerificationError PlainError) → (MayCome e → ⊥) → IsAnswer words bytes Refused (fault_text e) → ⊥
 never_answered words bytes e n a = false≢true (sym (command_line a.0 bytes (fault_text e) a.2) ∙ impossible e n)

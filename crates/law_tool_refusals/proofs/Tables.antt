@@ -28,6 +28,7 @@ use Rattle.batch_statement.specs.declared.error.BatchVerificationError.{BatchVer
 use Rattle.batch_statement.specs.declared.preprocessed.PreprocessedInstanceMeta.{PreprocessedInstanceMeta}
 use Rattle.law_valid.specs.Laws.Made.{entry_bits}
 use Rattle.verifier_batch.specs.BatchChecks.{FirstFault}
+use Rattle.transcript_version.specs.declared.TranscriptVersion.{TranscriptVersion}
 use Rattle.tool_proof_text.specs.ProofText.{ToolProofData}
 use Rattle.tool_statement.specs.Config.{tool_backend, tool_setting}
 use Rattle.tool_statement.specs.StatedTables.{HaveStatedHeights, TableWithin, air_table_of, entries_of, log_height_of, log_heights_of, preprocessed_commitment_of, preprocessed_traces, publics_of, source_of_table, sources_of, tool_common, tool_statement}
@@ -109,7 +110,7 @@ entry_in : (bits : ℕ) (entries : List (Option PreprocessedInstanceMeta)) (trac
 entry_in bits entries [] i h = tt
 entry_in bits entries (t ∷ ts) i h = h
 
-module _ (tables : List TableStatement) where
+module _ (version : TranscriptVersion) (tables : List TableStatement) where
   abbrev s : Statement BabyBear (PlainCommitmentData BabyBear)
   s = tool_statement tables
 
@@ -157,7 +158,7 @@ module _ (tables : List TableStatement) where
     low_bits i l = let h = height_at i l in let few = few_bits (table_at i) (within i (Take 0) l) in omega (arith, h, few)
 
     -- two chunks at most
-    few_chunks : (i : ℕ) → i < length tables → log_chunks_of_table tool_setting s p i ≤ 1
+    few_chunks : (i : ℕ) → i < length tables → log_chunks_of_table (tool_setting version) s p i ≤ 1
     unfolding tool_setting
     few_chunks i l =
         let n = 2 ^ (bits_at p.degree_bits i - 0) in
@@ -207,7 +208,7 @@ module _ (tables : List TableStatement) where
         subst (λ (t : AirTable BabyBear). All (IsPeriod (2 ^ (bits_at p.degree_bits i - 0))) (map length t.declaration.periodic)) (sym (stated_at i l))
         (subst (λ k. All (IsPeriod (2 ^ k)) (map length (air_table_of (table_at i)).declaration.periodic)) h (own_periods (table_at i) (within i (Take 0) l)))
 
-    table_fits : (i : ℕ) → i < length tables → TableFits tool_setting s p i
+    table_fits : (i : ℕ) → i < length tables → TableFits (tool_setting version) s p i
     unfolding tool_setting
     table_fits i l =
         let bits = low_bits i l in
@@ -222,7 +223,7 @@ module _ (tables : List TableStatement) where
           periods = periods_are i l;
         }
 
-    fits : BatchFits tool_setting s p
+    fits : BatchFits (tool_setting version) s p
     unfolding tool_setting
     fits = record {
       tables = λ i l. table_fits i (let n = stated_count in omega (arith, l, n));
@@ -234,5 +235,5 @@ module _ (tables : List TableStatement) where
 
   -- So of the tables of a file a batch is refused only with what may come.
   pub tables_may_come : All TableWithin tables → length tables ≤ 8 → (p : ToolProofData) → HaveStatedHeights tables p.degree_bits → (e : BatchVerificationError PlainError)
-      → FirstFault tool_setting tool_backend s p e → MayCome e
-  tables_may_come within few p heights = first_may_come tool_setting tool_backend s p (fits within few p heights)
+      → FirstFault (tool_setting version) tool_backend s p e → MayCome e
+  tables_may_come within few p heights = first_may_come (tool_setting version) tool_backend s p (fits within few p heights)

@@ -8,6 +8,7 @@ use Rattle.p3_challenger.specs.Script.{ChallengerOf}
 use Rattle.p3_field.specs.declared.baby_bear.BabyBear.{BabyBear}
 use Rattle.p3_field.specs.declared.quartic.QuarticExtension.{QuarticExtension}
 use Rattle.blake3_prime.specs.Meanings.{RowMeans}
+use Rattle.transcript_version.specs.declared.TranscriptVersion.{TranscriptVersion}
 use Rattle.law_tool_valid.specs.Job.{JobTable, swap_of, wheel_of, take_of, give_of, hash_of}
 
 -- what a table needs of the ring that its cells are in: for compressions their constraints mean compressions there
@@ -33,8 +34,8 @@ pub record ServesJobs {S F E C : Type 0} (c : Setting S F E C) (inverse : E → 
   pub compressions : RowMeans c.field.ring
 
 -- a configuration over BabyBear and its quartic extension, whose backend masks nothing and takes any trace of up to 2^log_max rows
-abbrev pub baby_bear_setting : {S C : Type 0} → ChallengerOf S BabyBear QuarticExtension C → (initial : S) → (log_max lookup_bits ood_bits : ℕ) → Setting S BabyBear QuarticExtension C
-baby_bear_setting challenger initial log_max lookup_bits ood_bits = record {
+abbrev pub baby_bear_setting : {S C : Type 0} → ChallengerOf S BabyBear QuarticExtension C → (initial : S) → (log_max lookup_bits ood_bits : ℕ) → TranscriptVersion → Setting S BabyBear QuarticExtension C
+baby_bear_setting challenger initial log_max lookup_bits ood_bits version = record {
   field = baby_bear_field;
   two_adicity = 27;
   order = 2013265921;
@@ -46,4 +47,5 @@ baby_bear_setting challenger initial log_max lookup_bits ood_bits = record {
   log_max = log_max;
   lookup_bits = lookup_bits;
   ood_bits = ood_bits;
+  version = version;
 }

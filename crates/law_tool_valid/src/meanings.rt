@@ -21,6 +21,7 @@ ghost use Rattle.law_committed.specs.Fields.{FieldsLaws};
 ghost use Rattle.law_committed.specs.Traces.{committed_traces};
 ghost use Rattle.law_valid.specs.Traced.{no_rows, traces_of};
 ghost use Rattle.law_valid.specs.Valid.{Valid};
+ghost use Rattle.transcript_version.specs.declared.TranscriptVersion.{TranscriptVersion};
 ghost use Rattle.tool_tables.specs.Tool.{tool_declaration, tool_interactions, tool_trees};
 ghost use Rattle.tool_tables.specs.declared.tool.ToolAir.{ToolAir};
 ghost use Rattle.law_tool_valid.specs.Job.{AreAirsOf, IsJob, IsJobTableWithin, JobTable, job_table, job_log_height_of, log_parts_of, job_publics_of, source_of_job, trace_of, traced_job};
@@ -31,8 +32,9 @@ use p3_field::{BabyBear, QuarticExtension};
 /// A configuration over `BabyBear` and its quartic extension serves for jobs, where its backend masks nothing and takes traces of
 /// one row and of up to 2^10 rows.
 pub fn baby_bear_serves_jobs<C, Com>()
-    ensures { (challenger : ChallengerOf C BabyBear QuarticExtension Com) (initial : C) (log_max lookup_bits ood_bits : ℕ) → 10 ≤ log_max
-        → ServesJobs (baby_bear_setting challenger initial log_max lookup_bits ood_bits) quartic_inv }
+    ensures { (challenger : ChallengerOf C BabyBear QuarticExtension Com) (initial : C) (log_max lookup_bits ood_bits : ℕ)
+        (version : TranscriptVersion) → 10 ≤ log_max
+        → ServesJobs (baby_bear_setting challenger initial log_max lookup_bits ood_bits version) quartic_inv }
 {}
 
 /// The traces of a job's table meet its AIR's constraints: each is zero on each row of the table that is committed to as the

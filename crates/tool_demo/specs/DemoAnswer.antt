@@ -1,5 +1,6 @@
 -- What `demo N` answers: a status and a text.
 use Rattle.std.specs.Prelude.{◌≡◌, ◌==◌, ◌≤◌, ◌≢◌, ℕ, List, [], ◌∷◌, ◌++◌, codes, count_by, decimal, Option, MatchOption}
+use Rattle.transcript_version.specs.declared.TranscriptVersion.TheVariants.{V2}
 use Rattle.tool_demo.specs.Demo.{demo_job}
 use Rattle.tool_prover.specs.JobAnswer.{IsJobAnswer}
 use Rattle.tool_verifier.specs.declared.status.Status.{Status}
@@ -21,10 +22,10 @@ line_count text = count_by (λ b. b == 10) text
 abbrev pub demo_text : ℕ → ℕ → List ℕ
 demo_text number lines = codes "demo " ++ decimal number ++ codes " tables 5 lines " ++ decimal lines ++ 10 ∷ []
 
--- what `prove` answers for the number's job, but with the line of the proof file's number of lines in place of the file
+-- what `prove` answers for the number's job, over the transcript of version 2, but with the line of the proof file's number of lines in place of the file
 unfoldable pub IsDemoAnswer : ℕ → Status → List ℕ → Type 0
-IsDemoAnswer number Done text = (file : List ℕ) × IsJobAnswer (demo_job number) Done file × (text ≡ demo_text number (line_count file))
-IsDemoAnswer number Refused text = IsJobAnswer (demo_job number) Refused text
+IsDemoAnswer number Done text = (file : List ℕ) × IsJobAnswer V2 (demo_job number) Done file × (text ≡ demo_text number (line_count file))
+IsDemoAnswer number Refused text = IsJobAnswer V2 (demo_job number) Refused text
 IsDemoAnswer number Usage text = ⊥
 IsDemoAnswer number BadInput text = ⊥
 IsDemoAnswer number ReadFault text = ⊥

@@ -8,6 +8,7 @@ ghost use Rattle.tool_verifier.specs.declared.status.Status.TheVariants.{Done};
 use crate::job::demo_job;
 use itoa::Buffer;
 use p3_field::Mem;
+use p3_uni_stark::TranscriptVersion;
 use std::alloc::Global;
 use tool_lines::push_number;
 use tool_prover::answer_prove;
@@ -41,7 +42,7 @@ pub fn answer_demo(alloc: Global, number: u32) -> Mem<Answer>
     ensures { IfOk result (λ a. IsDemoAnswer number a.status a.text.items) }
 {
     let job = demo_job(alloc, number)?;
-    let answer = answer_prove(alloc, &job)?;
+    let answer = answer_prove(alloc, TranscriptVersion::V2, &job)?;
     match answer.status {
         Status::Done => Ok(Answer {
             status: Status::Done,

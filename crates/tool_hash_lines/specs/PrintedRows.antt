@@ -8,15 +8,17 @@ use Rattle.law_committed.specs.BaseRows.{main_row}
 use Rattle.law_soundness.specs.Commitment.{matrix_at}
 use Rattle.law_soundness.specs.CommittedBatch.{committed_table_at}
 use Rattle.tool_proof_text.specs.ProofText.{ToolProofData}
+use Rattle.transcript_version.specs.declared.TranscriptVersion.TheVariants.{V1}
 use Rattle.tool_statement.specs.Config.{tool_setting}
 use Rattle.tool_statement.specs.StatedTables.{tool_statement}
 use Rattle.tool_statement.specs.declared.table.TableStatement.{TableStatement}
 use Rattle.tool_statement.specs.declared.table.TableStatement.TheVariants.{Swap, Wheel, Take, Give, Hash}
 use Rattle.tool_hash_lines.specs.RowText.{row_line}
 
--- the cells of a row of table i: the values of its committed columns over the base field at the row's point
+-- the cells of a row of table i: the values of its committed columns over the base field at the row's point, in which the transcript's version has
+-- no part
 abbrev pub committed_cells : List TableStatement → ToolProofData → (i row : ℕ) → List BabyBear
-committed_cells tables p i row = main_row tool_setting.field (committed_table_at tool_setting 1 (tool_statement tables) p i) row
+committed_cells tables p i row = main_row (tool_setting V1).field (committed_table_at (tool_setting V1) 1 (tool_statement tables) p i) row
 
 -- the lines of table i, where it is stated as this: of a hash table one for each row, and none of others
 abbrev pub table_lines : List TableStatement → ToolProofData → (i : ℕ) → TableStatement → List ℕ

@@ -2,6 +2,7 @@
 ghost use Rattle.std.specs.Prelude.{List, map};
 ghost use Rattle.batch_statement.specs.Statement.{WellFormed};
 ghost use Rattle.verifier_batch.specs.BatchChecks.{Accepted};
+ghost use Rattle.transcript_version.specs.declared.TranscriptVersion.{TranscriptVersion};
 ghost use Rattle.tool_proof_text.specs.ProofText.{ToolProofData};
 ghost use Rattle.tool_statement.specs.Config.{tool_backend, tool_setting};
 ghost use Rattle.tool_statement.specs.StatedTables.{HaveStatedHeights, air_table_of, tool_common, tool_statement};
@@ -23,8 +24,8 @@ pub fn compressions_are_printed()
 /// [`hash_lines`](crate::hash_lines) may be called (not in Plonky3). The tables' common data is well-formed, and the degree bits of each table
 /// are stated.
 pub fn accepted_hash_matrices()
-    ensures { (tables : List TableStatement) (p : ToolProofData) → WellFormed (map (λ t. t.declaration) (map air_table_of tables)) (tool_common tables)
-        → Accepted tool_setting tool_backend (tool_statement tables) p → HaveStatedHeights tables p.degree_bits → HasHashMatrices tables p }
+    ensures { (version : TranscriptVersion) (tables : List TableStatement) (p : ToolProofData) → WellFormed (map (λ t. t.declaration) (map air_table_of tables)) (tool_common tables)
+        → Accepted (tool_setting version) tool_backend (tool_statement tables) p → HaveStatedHeights tables p.degree_bits → HasHashMatrices tables p }
 {
     baby_bear_has_laws();
     opened_claims_bind::<BabyBear, QuarticExtension>();

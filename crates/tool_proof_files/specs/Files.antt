@@ -3,7 +3,9 @@ use Rattle.std.specs.Prelude.{◌≡◌, ◌==◌, if◌then◌else◌, ℕ, Lis
 use Rattle.std.specs.Prelude.{slice_index_or as get_or}
 use Rattle.p3_field.specs.BabyBear.{baby_bear_ring}
 use Rattle.p3_field.specs.declared.baby_bear.BabyBear.{BabyBear}
-use Rattle.tool_lines.specs.Texts.{ListWithin, list_numbers}
+use Rattle.tool_lines.specs.Texts.{Between, ListWithin, list_numbers}
+use Rattle.transcript_version.specs.declared.TranscriptVersion.{TranscriptVersion}
+use Rattle.transcript_version.specs.declared.TranscriptVersion.TheVariants.{V1, V2}
 use Rattle.tool_statement.specs.StatedTables.{TableWithin}
 use Rattle.tool_statement.specs.declared.table.TableStatement.{TableStatement}
 use Rattle.tool_statement.specs.declared.table.TableStatement.TheVariants.{Swap, Wheel, Take, Give, Hash}
@@ -36,15 +38,23 @@ table_statement kind k values =
     else if kind == 4 then Give k
     else Hash k
 
+-- the version of the transcript that a number stands for, and the number of a version
+abbrev pub version_of : ℕ → TranscriptVersion
+version_of n = if n == 2 then V2 else V1
+
+abbrev pub version_number : TranscriptVersion → ℕ
+version_number V1 = 1
+version_number V2 = 2
+
 -- a proof file as plain data
 pub record FileData : Type 0 where
   pub version : ℕ
   pub tables : List TableStatement
   pub proof : ToolProofData
 
--- a file of version 1 with 1 to 8 tables, each within its limits, and a proof within those of proofs
+-- a file of version 1 or 2 with 1 to 8 tables, each within its limits, and a proof within those of proofs
 pub record FileWithin (f : FileData) : Type 0 where
-  pub version : f.version ≡ 1
+  pub version : Between 1 2 f.version
   pub tables : ListWithin 1 8 TableWithin f.tables
   pub proof : ProofWithin f.proof
 

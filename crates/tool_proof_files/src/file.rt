@@ -2,10 +2,11 @@
 ghost use Rattle.std.specs.Prelude.{◌≡◌, IfOk};
 ghost use Rattle.tool_lines.specs.Texts.{line_text};
 ghost use Rattle.tool_lines.specs.WholeText.{ReadsText};
-ghost use Rattle.tool_proof_files.specs.Files.{FileWithin, file_numbers};
+ghost use Rattle.tool_proof_files.specs.Files.{FileWithin, file_numbers, version_number as number_of, version_of};
 
 use crate::table::StatedTable;
 use p3_field::Mem;
+use p3_uni_stark::TranscriptVersion;
 use std::alloc::Global;
 use std::marker::Model;
 use tool_lines::{
@@ -18,12 +19,22 @@ use tool_statement::TableStatement;
 /// `FileData`.
 #[derive(Drop)]
 pub struct ProofFile {
-    /// The version of the transcript, which is 1.
+    /// The version of the transcript, 1 or 2.
     pub version: u8,
     /// The tables, 1 to 8.
     pub tables: Vec<TableStatement>,
     /// The proof.
     pub proof: ToolProof,
+}
+
+/// The number of a version, with which a proof file begins: 1 or 2.
+pub fn version_number(version: TranscriptVersion) -> u8
+    ensures { result ≡ number_of version }
+{
+    match version {
+        TranscriptVersion::V1 => 1,
+        TranscriptVersion::V2 => 2,
+    }
 }
 
 impl Model for ProofFile {
@@ -32,6 +43,18 @@ impl Model for ProofFile {
     ghost Value = { FileData };
 
     ghost view = { λ f. record { version = f.version; tables = f.tables.items; proof = f.proof } };
+}
+
+impl ProofFile {
+    /// The version of the transcript that the proof is of.
+    pub fn transcript_version(&self) -> TranscriptVersion
+        ensures { result ≡ version_of self.now.version }
+    {
+        match self.version {
+            2 => TranscriptVersion::V2,
+            _ => TranscriptVersion::V1,
+        }
+    }
 }
 
 /// The form of a proof file: its version, the list of its tables, and its proof.
@@ -54,7 +77,7 @@ impl Form for WholeFile {
     ghost grammar = { file-grammar };
 
     fn read(alloc: Global, reader: &mut Reader) -> Result<ProofFile, ItemError> {
-        let version = reader.number(1, 1)?;
+        let version = reader.number(1, 2)?;
         let tables = read_list::<StatedTable>(alloc, reader, 1, 8)?;
         let proof = ProofText::read(alloc, reader)?;
         Ok(ProofFile {

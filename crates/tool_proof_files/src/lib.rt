@@ -6,5 +6,5 @@
 mod file;
 mod table;
 
-pub use file::{ProofFile, WholeFile, read_proof_file, write_proof_file};
+pub use file::{ProofFile, WholeFile, read_proof_file, version_number, write_proof_file};
 pub use table::StatedTable;

@@ -30,6 +30,7 @@ use Rattle.prover_answer.specs.Telling.{Tells}
 use Rattle.prover_answer.specs.Verdict.{IsAnswerRefusal}
 use Rattle.prover_answer.specs.declared.error.ProvingError.{ProvingError}
 use Rattle.prover_answer.specs.declared.error.ProvingError.TheVariants.{LookupDenominatorZero, MultiplicityBound, OutOfMemory, Pcs, WitnessNotFound}
+use Rattle.transcript_version.specs.declared.TranscriptVersion.{TranscriptVersion}
 use Rattle.tool_proof_text.specs.ProofText.{ToolProofData}
 use Rattle.tool_jobs.specs.Jobs.{JobWithin}
 use Rattle.tool_jobs.specs.Laws.Statements.{statements-heights}
@@ -69,12 +70,12 @@ abbrev pub commits_with : Blowup → List (CosetData BabyBear × Rows BabyBear) 
 commits_with b = plain_commits (scheme_with b)
 
 -- What is set up for a job: the configuration, AIRs, traces, public values, common data with what is kept of it, and instances.
-pub record IsSetUp (job : List (JobTable BabyBear)) (tables : List TableStatement) (c : ToolSetting) (b : Blowup) (airs : List (ToolAir BabyBear)) (traces : List (Rows BabyBear)) (publics : List (List BabyBear))
+pub record IsSetUp (version : TranscriptVersion) (job : List (JobTable BabyBear)) (tables : List TableStatement) (c : ToolSetting) (b : Blowup) (airs : List (ToolAir BabyBear)) (traces : List (Rows BabyBear)) (publics : List (List BabyBear))
     (written : WrittenCommon BabyBear (PlainCommitmentData BabyBear)) (kept : Option (List (CosetData BabyBear × Rows BabyBear))) (instances : List (Instance (ToolAir BabyBear) BabyBear)) : Type 0 where
   pub within : JobWithin job
   pub balanced : IsBalancedJob same_word job
   pub tables_are : tables ≡ map statement_of job
-  pub setting_is : c ≡ tool_setting
+  pub setting_is : c ≡ tool_setting version
   pub scheme_is : b ≡ one_bit
   pub airs_are : map source_of_air airs ≡ sources_of tables
   pub traces_are : traces ≡ map (trace_of baby_bear_ring) job
@@ -84,9 +85,9 @@ pub record IsSetUp (job : List (JobTable BabyBear)) (tables : List TableStatemen
   pub prepared : IsPrepared (commits_with one_bit) (entries_of tables) (preprocessed_traces tables) written.preprocessed kept
   pub instances_are : instances ≡ instances_of airs traces publics
 
-module _ (job : List (JobTable BabyBear)) (tables : List TableStatement) (c : ToolSetting) (b : Blowup) (airs : List (ToolAir BabyBear)) (traces : List (Rows BabyBear)) (publics : List (List BabyBear))
+module _ (version : TranscriptVersion) (job : List (JobTable BabyBear)) (tables : List TableStatement) (c : ToolSetting) (b : Blowup) (airs : List (ToolAir BabyBear)) (traces : List (Rows BabyBear)) (publics : List (List BabyBear))
     (written : WrittenCommon BabyBear (PlainCommitmentData BabyBear)) (kept : Option (List (CosetData BabyBear × Rows BabyBear))) (instances : List (Instance (ToolAir BabyBear) BabyBear))
-    (U : IsSetUp job tables c b airs traces publics written kept instances) where
+    (U : IsSetUp version job tables c b airs traces publics written kept instances) where
   -- in terms of the job
   airs_there : map source_of_air airs ≡ sources_of (map statement_of job)
   airs_there = U.airs_are ∙ ap sources_of U.tables_are
@@ -105,11 +106,11 @@ module _ (job : List (JobTable BabyBear)) (tables : List TableStatement) (c : To
   abbrev pub batch : ToolBatch
   batch = batch_of c (prover_with b) (tool_declaration baby_bear_ring) (tool_trees baby_bear_ring) instances written
 
-  batch_is : batch ≡ job_batch job
-  batch_is = same_batch job U.within airs airs_there traces U.traces_are publics publics_there written common_there instances U.instances_are c U.setting_is b U.scheme_is
+  batch_is : batch ≡ job_batch version job
+  batch_is = same_batch version job U.within airs airs_there traces U.traces_are publics publics_there written common_there instances U.instances_are c U.setting_is b U.scheme_is
 
-  job_valid : let b = job_batch job in Valid b.setting same_word b.prover.commitment_of b.statement b.traces b.degree_bits
-  job_valid = valid job U.within airs airs_there (read_common written) common_there points point_at IsMade (AreHolding tool_scheme) kept prepared_there U.balanced U.formed
+  job_valid : let b = job_batch version job in Valid b.setting same_word b.prover.commitment_of b.statement b.traces b.degree_bits
+  job_valid = valid version job U.within airs airs_there (read_common written) common_there points point_at IsMade (AreHolding tool_scheme) kept prepared_there U.balanced U.formed
 
   pub batch_valid : Valid batch.setting same_word batch.prover.commitment_of batch.statement batch.traces batch.degree_bits
   batch_valid = subst (λ (B : ToolBatch). Valid B.setting same_word B.prover.commitment_of B.statement B.traces B.degree_bits) (sym batch_is) job_valid
@@ -120,8 +121,8 @@ module _ (job : List (JobTable BabyBear)) (tables : List TableStatement) (c : To
   pub batch_kept : HasProverData (commits_with b) (preprocessed_all batch) batch.statement.common.preprocessed kept
   batch_kept =
       subst (λ (B : ToolBatch). HasProverData (commits_with b) (preprocessed_all B) written.preprocessed kept) (sym batch_is)
-      (subst (λ x. HasProverData (commits_with x) (preprocessed_all (job_batch job)) written.preprocessed kept) (sym U.scheme_is)
-      (kept_there job U.within airs airs_there (read_common written) common_there points point_at IsMade (AreHolding tool_scheme) kept prepared_there))
+      (subst (λ x. HasProverData (commits_with x) (preprocessed_all (job_batch version job)) written.preprocessed kept) (sym U.scheme_is)
+      (kept_there version job U.within airs airs_there (read_common written) common_there points point_at IsMade (AreHolding tool_scheme) kept prepared_there))
 
   -- its refusal tells why
   answer_tells : (B : ToolBatch) (e : ProvingError PlainProverError) → IsAnswerRefusal (proving_checks (plain_prover_backend tool_scheme) B) e → Tells (plain_prover_backend tool_scheme) B e
@@ -131,45 +132,45 @@ module _ (job : List (JobTable BabyBear)) (tables : List TableStatement) (c : To
   answer_tells B (WitnessNotFound step) h = refusal_tells (plain_prover_backend tool_scheme) B (WitnessNotFound step) h
   answer_tells B OutOfMemory h = tt
 
-  told_there : (e : ProvingError PlainProverError) → IsAnswerRefusal (proving_checks (backend_with b) batch) e → IsTold job e
+  told_there : (e : ProvingError PlainProverError) → IsAnswerRefusal (proving_checks (backend_with b) batch) e → IsTold version job e
   told_there e h =
-      told job U.within.0.1 U.within.1 job_valid.bounded e
-      (answer_tells (job_batch job) e
+      told version job U.within.0.1 U.within.1 job_valid.bounded e
+      (answer_tells (job_batch version job) e
       (subst (λ (B : ToolBatch). IsAnswerRefusal (proving_checks (backend_with one_bit) B) e) batch_is
       (subst (λ x. IsAnswerRefusal (proving_checks (backend_with x) batch) e) U.scheme_is h)))
 
-  pub refusal_there : {T : Type 0} (r : Result T (ProvingError PlainProverError)) (e : ProvingError PlainProverError) → IsErrAnd r (λ y. y ≡ e) → IsAnswerRefusal (proving_checks (backend_with b) batch) e → IfErr r (IsTold job)
-  refusal_there (Err y) e p h = subst (IsTold job) (sym p) (told_there e h)
+  pub refusal_there : {T : Type 0} (r : Result T (ProvingError PlainProverError)) (e : ProvingError PlainProverError) → IsErrAnd r (λ y. y ≡ e) → IsAnswerRefusal (proving_checks (backend_with b) batch) e → IfErr r (IsTold version job)
+  refusal_there (Err y) e p h = subst (IsTold version job) (sym p) (told_there e h)
   refusal_there (Ok t) e p h = absurd p
 
   -- its proof is the job's
-  pub proof_there : (q : ToolProofData) → IsHonestProof (backend_with b) batch q → IsJobProof job q
+  pub proof_there : (q : ToolProofData) → IsHonestProof (backend_with b) batch q → IsJobProof version job q
   proof_there q P = subst (λ (B : ToolBatch). IsBuilt B.setting B.prover B.statement B.traces B.degree_bits q) batch_is P.built
 
-  point_there : (q : ToolProofData) (x : QuarticExtension) → x ≡ zeta batch.setting batch.prover batch.statement batch.traces batch.degree_bits q.lookup_pow_witness q.ood_pow_witness → x ≡ drawn_point job q
+  point_there : (q : ToolProofData) (x : QuarticExtension) → x ≡ zeta batch.setting batch.prover batch.statement batch.traces batch.degree_bits q.lookup_pow_witness q.ood_pow_witness → x ≡ drawn_point version job q
   point_there q x e = e ∙ ap (λ (B : ToolBatch). zeta B.setting B.prover B.statement B.traces B.degree_bits q.lookup_pow_witness q.ood_pow_witness) batch_is
 
   drawn_there : (q : ToolProofData) (x : QuarticExtension) → x ≡ zeta batch.setting batch.prover batch.statement batch.traces batch.degree_bits q.lookup_pow_witness q.ood_pow_witness
-      → DrawsOutside job q ↔ All (AvoidsRows x) (log_heights_of tables)
+      → DrawsOutside version job q ↔ All (AvoidsRows x) (log_heights_of tables)
   drawn_there q x e =
-      subst (λ ts. DrawsOutside job q ↔ All (AvoidsRows x) (log_heights_of ts)) (sym U.tables_are)
-      (subst (λ y. DrawsOutside job q ↔ All (AvoidsRows y) (log_heights_of (map statement_of job))) (sym (point_there q x e)) (outside_is job q))
+      subst (λ ts. DrawsOutside version job q ↔ All (AvoidsRows x) (log_heights_of ts)) (sym U.tables_are)
+      (subst (λ y. DrawsOutside version job q ↔ All (AvoidsRows y) (log_heights_of (map statement_of job))) (sym (point_there q x e)) (outside_is version job q))
 
   -- the point lies on the rows of a table,
   pub inside_there : (q : ToolProofData) (x : QuarticExtension) → IsHonestProof (backend_with b) batch q → x ≡ zeta batch.setting batch.prover batch.statement batch.traces batch.degree_bits q.lookup_pow_witness q.ood_pow_witness
-      → IsTrue false ↔ All (AvoidsRows x) (log_heights_of tables) → DrawsInside job
+      → IsTrue false ↔ All (AvoidsRows x) (log_heights_of tables) → DrawsInside version job
   inside_there q x P e out = (q, proof_there q P, λ d. let h : false ≡ true = out.1 ((drawn_there q x e).0 d) in cc)
 
   -- or of none
   pub outside_there : (q : ToolProofData) (x : QuarticExtension) → x ≡ zeta batch.setting batch.prover batch.statement batch.traces batch.degree_bits q.lookup_pow_witness q.ood_pow_witness
-      → IsTrue true ↔ All (AvoidsRows x) (log_heights_of tables) → DrawsOutside job q
+      → IsTrue true ↔ All (AvoidsRows x) (log_heights_of tables) → DrawsOutside version job q
   outside_there q x e out = (drawn_there q x e).1 (out.0 refl)
 
   -- its proof is accepted where it does so
-  outside_in : (q : ToolProofData) → DrawsOutside job q → (i : ℕ) → i < length instances
+  outside_in : (q : ToolProofData) → DrawsOutside version job q → (i : ℕ) → i < length instances
       → IsOutsideRows batch.setting (table_at batch i) (zeta batch.setting batch.prover batch.statement batch.traces batch.degree_bits q.lookup_pow_witness q.ood_pow_witness)
   outside_in q d i l =
-      let n = instances_long job U.within airs airs_there traces U.traces_are publics publics_there written common_there instances U.instances_are c U.setting_is b U.scheme_is in
+      let n = instances_long version job U.within airs airs_there traces U.traces_are publics publics_there written common_there instances U.instances_are c U.setting_is b U.scheme_is in
       subst (λ (B : ToolBatch). IsOutsideRows B.setting (table_at B i) (zeta B.setting B.prover B.statement B.traces B.degree_bits q.lookup_pow_witness q.ood_pow_witness)) (sym batch_is) (d i (omega (arith, l, n)))
 
   abbrev AcceptsThen : ToolProofData → Type 0
@@ -178,19 +179,19 @@ module _ (job : List (JobTable BabyBear)) (tables : List TableStatement) (c : To
       → ((i : ℕ) → i < length instances → IsOutsideRows batch.setting (table_at batch i) (zeta batch.setting batch.prover batch.statement batch.traces batch.degree_bits q.lookup_pow_witness q.ood_pow_witness))
       → AvoidsExcluded (backend_with b) batch q.lookup_pow_witness q.ood_pow_witness → Accepted batch.setting (backend_of (scheme_with b)) batch.statement q
 
-  accepted_batch : (q : ToolProofData) → AcceptsThen q → DrawsOutside job q → Accepted c (backend_of (scheme_with b)) batch.statement q
+  accepted_batch : (q : ToolProofData) → AcceptsThen q → DrawsOutside version job q → Accepted c (backend_of (scheme_with b)) batch.statement q
   accepted_batch q h d = h (omega arith) batch_valid (outside_in q d) (λ i o l j p m k x n f. f)
 
-  accepted_there : (q : ToolProofData) → AcceptsThen q → DrawsOutside job q → Accepted tool_setting tool_backend (tool_statement (map statement_of job)) q
+  accepted_there : (q : ToolProofData) → AcceptsThen q → DrawsOutside version job q → Accepted (tool_setting version) tool_backend (tool_statement (map statement_of job)) q
   unfolding tool_backend
   accepted_there q h d =
-      let same = statement_is job U.within airs airs_there traces U.traces_are publics publics_there written common_there instances U.instances_are c U.setting_is b U.scheme_is in
-      subst (λ (s : Statement BabyBear (PlainCommitmentData BabyBear)). Accepted tool_setting (backend_of tool_scheme) s q) same
+      let same = statement_is version job U.within airs airs_there traces U.traces_are publics publics_there written common_there instances U.instances_are c U.setting_is b U.scheme_is in
+      subst (λ (s : Statement BabyBear (PlainCommitmentData BabyBear)). Accepted (tool_setting version) (backend_of tool_scheme) s q) same
       (subst (λ (x : ToolSetting). Accepted x (backend_of tool_scheme) batch.statement q) U.setting_is
       (subst (λ (x : Blowup). Accepted c (backend_of (scheme_with x)) batch.statement q) U.scheme_is (accepted_batch q h d)))
 
   -- with the stated heights
-  heights_there : (q : ToolProofData) → IsJobProof job q → HaveStatedHeights (map statement_of job) q.degree_bits
+  heights_there : (q : ToolProofData) → IsJobProof version job q → HaveStatedHeights (map statement_of job) q.degree_bits
   unfolding honest_proof
   heights_there q B j l =
       let bits : q.degree_bits ≡ map job_log_height_of job = ap (λ (r : ToolProofData). r.degree_bits) B.proof_is in
@@ -200,12 +201,12 @@ module _ (job : List (JobTable BabyBear)) (tables : List TableStatement) (c : To
   pub formed_there : WellFormed (map (λ t. t.declaration) (map air_table_of tables)) (tool_common tables)
   formed_there = formed_is tables airs (read_common written) (tool_common tables) U.airs_are U.common_is U.formed
 
-  pub accepted_for : (q : ToolProofData) → AcceptsThen q → DrawsOutside job q → Accepted tool_setting tool_backend (tool_statement tables) q
-  accepted_for q h d = subst (λ ts. Accepted tool_setting tool_backend (tool_statement ts) q) (sym U.tables_are) (accepted_there q h d)
+  pub accepted_for : (q : ToolProofData) → AcceptsThen q → DrawsOutside version job q → Accepted (tool_setting version) tool_backend (tool_statement tables) q
+  accepted_for q h d = subst (λ ts. Accepted (tool_setting version) tool_backend (tool_statement ts) q) (sym U.tables_are) (accepted_there q h d)
 
   -- so `verify` writes `accepted` for it
-  pub outcome_there : (q : ToolProofData) → IsHonestProof (backend_with b) batch q → DrawsOutside job q → AcceptsThen q
-      → HoldUnlessUnlucky tool_setting 1 (tool_statement tables) q → SwapsEnd tables q → (HaveStatedHeights tables q.degree_bits → PrintCompressions tables q) → IsProvingOutcome job (Some q)
+  pub outcome_there : (q : ToolProofData) → IsHonestProof (backend_with b) batch q → DrawsOutside version job q → AcceptsThen q
+      → HoldUnlessUnlucky (tool_setting version) 1 (tool_statement tables) q → SwapsEnd version tables q → (HaveStatedHeights tables q.degree_bits → PrintCompressions version tables q) → IsProvingOutcome version job (Some q)
   unfolding IsFileAnswer
   outcome_there q P d h holds swaps hashes =
       let B = proof_there q P in
@@ -216,9 +217,9 @@ module _ (job : List (JobTable BabyBear)) (tables : List TableStatement) (c : To
         (
           (heights, accepted_there q h d),
           record {
-            holds = subst (λ ts. HoldUnlessUnlucky tool_setting 1 (tool_statement ts) q) same holds;
-            swaps = subst (λ ts. SwapsEnd ts q) same swaps;
-            hashes = subst (λ ts. HaveStatedHeights ts q.degree_bits → PrintCompressions ts q) same hashes heights;
+            holds = subst (λ ts. HoldUnlessUnlucky (tool_setting version) 1 (tool_statement ts) q) same holds;
+            swaps = subst (λ ts. SwapsEnd version ts q) same swaps;
+            hashes = subst (λ ts. HaveStatedHeights ts q.degree_bits → PrintCompressions version ts q) same hashes heights;
           },
           refl,
         ),

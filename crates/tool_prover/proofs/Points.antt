@@ -13,6 +13,7 @@ use Rattle.p3_field.specs.Quartic.{of_baby_bear_value, quartic_ring}
 use Rattle.p3_field.specs.declared.baby_bear.BabyBear.{BabyBear}
 use Rattle.p3_field.specs.declared.quartic.QuarticExtension.{QuarticExtension}
 use Rattle.verifier_identity.specs.Identity.{IsInDomain}
+use Rattle.transcript_version.specs.declared.TranscriptVersion.TheVariants.{V1}
 use Rattle.tool_statement.specs.Config.{tool_setting}
 use Rattle.tool_statement.specs.StatedTables.{log_height_of, log_heights_of}
 use Rattle.tool_statement.specs.declared.table.TableStatement.{TableStatement}
@@ -35,7 +36,7 @@ abbrev ValueOf : CosetData BabyBear → QuarticExtension → QuarticExtension �
 ValueOf d x y = y ≡ eval_poly quartic_ring (map of_baby_bear_value (vanishing_polynomial baby_bear_ring baby_bear_inv d)) x
 
 in_subgroup : (d : CosetData BabyBear) (k : ℕ) (x y : QuarticExtension) → d.shift ≡ baby_bear_ring.one → d.log_size ≡ k → ValueOf d x y
-    → IsInDomain tool_setting.field tool_setting.extension (subgroup tool_setting.field.ring k) x ↔ (y ≡ quartic_ring.zero)
+    → IsInDomain ((tool_setting V1) V1).field ((tool_setting V1) V1).extension (subgroup ((tool_setting V1) V1).field.ring k) x ↔ (y ≡ quartic_ring.zero)
 unfolding tool_setting
 in_subgroup d k x y shift size e =
     let same : d ≡ subgroup baby_bear_ring k = λ i. record { shift = shift i; log_size = size i } in

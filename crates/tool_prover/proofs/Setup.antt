@@ -26,6 +26,7 @@ use Rattle.law_valid.specs.Valid.{Valid}
 use Rattle.law_honest.specs.HonestProof.{Prover}
 use Rattle.prover_answer.specs.Batch.{HasProverData, batch_of, preprocessed_all, table_at}
 use Rattle.prover_answer.specs.PlainBackend.{baby_bear_prover}
+use Rattle.transcript_version.specs.declared.TranscriptVersion.{TranscriptVersion}
 use Rattle.tool_jobs.specs.Jobs.{JobWithin}
 use Rattle.tool_jobs.specs.Laws.Airs.{are-airs}
 use Rattle.tool_jobs.specs.Laws.Statements.{statements-heights, statements-publics, statements-sources}
@@ -108,7 +109,7 @@ traces_count job traces e = ap length e ∙ length-map job (trace_of baby_bear_r
 pub publics_count : (job : List (JobTable BabyBear)) (publics : List (List BabyBear)) → publics ≡ publics_lists (map statement_of job) → length publics ≡ length job
 publics_count job publics e = ap length e ∙ (length-map (map statement_of job) publics_of_table ∙ length-map job statement_of)
 
-module _ (job : List (JobTable BabyBear)) (within : JobWithin job) where
+module _ (version : TranscriptVersion) (job : List (JobTable BabyBear)) (within : JobWithin job) where
   abbrev tables : List TableStatement
   tables = map statement_of job
 
@@ -119,21 +120,21 @@ module _ (job : List (JobTable BabyBear)) (within : JobWithin job) where
   no_job_table = take_of []
 
   -- the preprocessed traces of the job's tables
-  matrix_there : (i : ℕ) → i < length tables → on_domain baby_bear_ring.one (table_at (job_batch job) i).degree_bits (declared (table_at (job_batch job) i)).preprocessed
+  matrix_there : (i : ℕ) → i < length tables → on_domain baby_bear_ring.one (table_at (job_batch version job) i).degree_bits (declared (table_at (job_batch version job) i)).preprocessed
       ≡ committed_trace_at baby_bear_ring.one (sources_of tables) (log_heights_of tables) i
   matrix_there i l =
       let inside : i < length job = let n = length-map job statement_of in omega (arith, l, n) in
       let height_is : get_or (log_heights_of tables) i 0 ≡ job_log_height_of (get_or job i no_job_table) = ap (λ hs. get_or hs i 0) (statements-heights job) ∙ get_or-map (job_log_height_of {F = BabyBear}) job i no_job_table 0 inside in
       let source_is : get_or (sources_of tables) i no_source ≡ source_of_job baby_bear_ring (get_or job i no_job_table) =
       ap (λ xs. get_or xs i no_source) (statements-sources job) ∙ get_or-map (source_of_job baby_bear_ring) job i no_job_table no_source inside in
-      ap (λ (t : TracedTable BabyBear). on_domain baby_bear_ring.one t.degree_bits (declared t).preprocessed) (table_is job i inside)
+      ap (λ (t : TracedTable BabyBear). on_domain baby_bear_ring.one t.degree_bits (declared t).preprocessed) (table_is version job i inside)
       ∙ (λ k. on_domain baby_bear_ring.one (sym height_is k) (sym source_is k).declaration.preprocessed)
 
-  matrices_there : preprocessed_traces tables ≡ preprocessed_all (job_batch job)
+  matrices_there : preprocessed_traces tables ≡ preprocessed_all (job_batch version job)
   unfolding tool_setting
   matrices_there =
-      matrices_are baby_bear_ring.one (sources_of tables) (log_heights_of tables) (table_at (job_batch job)) (length tables) matrix_there
-      ∙ ap (λ n. preprocessed_matrices baby_bear_ring.one (tabulate n (table_at (job_batch job)))) (sym (length-map tables air_table_of))
+      matrices_are baby_bear_ring.one (sources_of tables) (log_heights_of tables) (table_at (job_batch version job)) (length tables) matrix_there
+      ∙ ap (λ n. preprocessed_matrices baby_bear_ring.one (tabulate n (table_at (job_batch version job)))) (sym (length-map tables air_table_of))
 
   module _ (airs : List (ToolAir BabyBear)) (airs_are : map source_of_air airs ≡ sources_of tables) (common : Common BabyBear (PlainCommitmentData BabyBear)) (common_is : common ≡ tool_common tables) where
     job_airs : AreAirsOf baby_bear_ring job airs
@@ -160,18 +161,18 @@ module _ (job : List (JobTable BabyBear)) (within : JobWithin job) where
             ∙ (λ i. tabulate (tables_long i) (packed_at baby_bear_ring 0 (sym airs_are i) (statements-heights job i) (replicate (length tables) 0)))
 
         -- it is valid
-        pub valid : IsBalancedJob same_word job → WellFormed (map (tool_declaration baby_bear_ring) airs) common → (let b = job_batch job in Valid b.setting same_word b.prover.commitment_of b.statement b.traces b.degree_bits)
+        pub valid : IsBalancedJob same_word job → WellFormed (map (tool_declaration baby_bear_ring) airs) common → (let b = job_batch version job in Valid b.setting same_word b.prover.commitment_of b.statement b.traces b.degree_bits)
         unfolding tool_setting tool_prover
         valid balanced formed =
             let s : Statement BabyBear (PlainCommitmentData BabyBear) = tool_statement tables in
             let same : record { tables = tables_of (tool_declaration baby_bear_ring) (tool_trees baby_bear_ring) airs; publics = map job_publics_of job; common = common } ≡ s =
             λ i. record { tables = same_tables tables airs airs_are i; publics = sym (statements-publics job) i; common = common_is i } in
-            subst (λ (u : Statement BabyBear (PlainCommitmentData BabyBear)). Valid tool_setting same_word (commitment_of tool_scheme) u (map (trace_of baby_bear_ring) job) bits) same
-            (set_up_is_valid tool_setting quartic_inv tool_serves same_word job (record { few = within.0.1; within = within.1; balanced = balanced }) airs job_airs (replicate (length tables) 0) points point_at
+            subst (λ (u : Statement BabyBear (PlainCommitmentData BabyBear)). Valid (tool_setting version) same_word (commitment_of tool_scheme) u (map (trace_of baby_bear_ring) job) bits) same
+            (set_up_is_valid (tool_setting version) quartic_inv (tool_serves version) same_word job (record { few = within.0.1; within = within.1; balanced = balanced }) airs job_airs (replicate (length tables) 0) points point_at
             (λ es c. c ≡ commitment_of tool_scheme es) made holds (commitment_of tool_scheme) (λ es w e. e) common kept prepared_airs lookups_there formed)
 
         -- its preprocessed traces are those of the job
-        pub kept_there : HasProverData Commits (preprocessed_all (job_batch job)) common.preprocessed kept
+        pub kept_there : HasProverData Commits (preprocessed_all (job_batch version job)) common.preprocessed kept
         unfolding tool_setting
         kept_there = subst (λ ms. HasProverData Commits ms common.preprocessed kept) matrices_there (kept_with Commits (entries_of tables) (preprocessed_traces tables) common.preprocessed kept prepared)
 
@@ -183,10 +184,10 @@ all_bits (j ∷ job) W =
     λ i. (none (log_of (height (trace_of baby_bear_ring j))) ∙ bits_there j (W zero j (omega arith))) i ∷ all_bits job (λ k d l. W (suc k) d (omega (arith, l))) i
 
 -- so the batch that is proved is the job's
-module _ (job : List (JobTable BabyBear)) (within : JobWithin job) (airs : List (ToolAir BabyBear)) (airs_are : map source_of_air airs ≡ sources_of (map statement_of job))
+module _ (version : TranscriptVersion) (job : List (JobTable BabyBear)) (within : JobWithin job) (airs : List (ToolAir BabyBear)) (airs_are : map source_of_air airs ≡ sources_of (map statement_of job))
     (traces : List (Rows BabyBear)) (traces_are : traces ≡ map (trace_of baby_bear_ring) job) (publics : List (List BabyBear)) (publics_are : publics ≡ publics_lists (map statement_of job))
     (written : WrittenCommon BabyBear (PlainCommitmentData BabyBear)) (common_is : read_common written ≡ tool_common (map statement_of job))
-    (instances : List (Instance (ToolAir BabyBear) BabyBear)) (instances_are : instances ≡ instances_of airs traces publics) (c : ToolSetting) (c_is : c ≡ tool_setting) (b : Blowup) (b_is : b ≡ one_bit) where
+    (instances : List (Instance (ToolAir BabyBear) BabyBear)) (instances_are : instances ≡ instances_of airs traces publics) (c : ToolSetting) (c_is : c ≡ (tool_setting version)) (b : Blowup) (b_is : b ≡ one_bit) where
   traces_long : length traces ≡ length airs
   traces_long = traces_count job traces traces_are ∙ sym (airs_count job airs airs_are)
 
@@ -206,7 +207,7 @@ module _ (job : List (JobTable BabyBear)) (within : JobWithin job) (airs : List 
   instances_long = sym (length-map instances (λ (i : Instance (ToolAir BabyBear) BabyBear). i.trace)) ∙ (ap length traces_in_them ∙ length-map job (trace_of baby_bear_ring))
 
   none_masked : masks c ≡ 0
-  none_masked = ap (λ (d : ToolSetting). masks d) c_is ∙ ap (λ z. cond z 1 0) tool_serves.plain
+  none_masked = ap (λ (d : ToolSetting). masks d) c_is ∙ ap (λ z. cond z 1 0) (tool_serves version).plain
 
   bits_in_them : bits_of (masks c) instances ≡ map job_log_height_of job
   bits_in_them =
@@ -220,5 +221,5 @@ module _ (job : List (JobTable BabyBear)) (within : JobWithin job) (airs : List 
     common = common_is i;
   }
 
-  pub same_batch : batch_of c (prover_with b) (tool_declaration baby_bear_ring) (tool_trees baby_bear_ring) instances written ≡ job_batch job
+  pub same_batch : batch_of c (prover_with b) (tool_declaration baby_bear_ring) (tool_trees baby_bear_ring) instances written ≡ job_batch version job
   same_batch = λ i. record { setting = c_is i; prover = same_prover b b_is i; statement = statement_is i; traces = traces_in_them i; degree_bits = bits_in_them i }

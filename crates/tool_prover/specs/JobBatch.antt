@@ -8,6 +8,7 @@ use Rattle.plain_pcs.specs.Scheme.{PlainCommitmentData}
 use Rattle.law_honest.specs.HonestProof.{Prover}
 use Rattle.prover_answer.specs.Batch.{Batch}
 use Rattle.prover_answer.specs.PlainBackend.{baby_bear_prover}
+use Rattle.transcript_version.specs.declared.TranscriptVersion.{TranscriptVersion}
 use Rattle.tool_jobs.specs.Stated.{statement_of}
 use Rattle.tool_statement.specs.Config.{tool_scheme, tool_setting}
 use Rattle.tool_statement.specs.StatedTables.{tool_statement}
@@ -17,10 +18,10 @@ use Rattle.law_tool_valid.specs.Job.{JobTable, job_log_height_of, trace_of}
 unfoldable pub tool_prover : Prover BabyBear QuarticExtension (PlainCommitmentData BabyBear)
 tool_prover = baby_bear_prover tool_scheme
 
--- a job's statement, with its traces and the logarithms of their heights
-abbrev pub job_batch : List (JobTable BabyBear) → Batch Sha256Challenger BabyBear QuarticExtension (PlainCommitmentData BabyBear)
-job_batch job = record {
-  setting = tool_setting;
+-- a job's statement, with its traces and the logarithms of their heights, over the transcript of a version
+abbrev pub job_batch : TranscriptVersion → List (JobTable BabyBear) → Batch Sha256Challenger BabyBear QuarticExtension (PlainCommitmentData BabyBear)
+job_batch version job = record {
+  setting = tool_setting version;
   prover = tool_prover;
   statement = tool_statement (map statement_of job);
   traces = map (trace_of baby_bear_ring) job;

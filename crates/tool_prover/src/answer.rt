@@ -9,11 +9,12 @@ ghost use Rattle.tool_prover.specs.JobAnswer.{IsJobAnswer, IsProvingOutcome, IsT
 
 use crate::proving::prove_job;
 use p3_field::{Mem, PrimeCore64};
+use p3_uni_stark::TranscriptVersion;
 use plain_pcs::PlainProverError;
 use prover_answer::{GrindStep, ProvingError};
 use std::alloc::{AllocError, Global};
 use tool_jobs::{JobTable, first_unbalanced, statements_of};
-use tool_proof_files::{ProofFile, write_proof_file};
+use tool_proof_files::{ProofFile, version_number, write_proof_file};
 use tool_proof_text::ToolProof;
 use tool_statement::TableStatement;
 use tool_verifier::{Answer, Status, refusal_line};
@@ -30,10 +31,15 @@ fn refused(alloc: Global, name: &[u8], numbers: &[usize]) -> Mem<Answer>
 }
 
 // The answer where no number passes this grinding of a balanced job.
-fn refused_grinding(alloc: Global, job: &[JobTable], step: GrindStep) -> Mem<Answer>
+fn refused_grinding(
+    alloc: Global,
+    version: TranscriptVersion,
+    job: &[JobTable],
+    step: GrindStep,
+) -> Mem<Answer>
     requires balanced { IsBalancedJob same_word (read_tables job.now) }
-    requires told { IsTold (read_tables job.now) (ProvingError.WitnessNotFound step) }
-    ensures { IfOk result (λ a. IsJobAnswer (read_tables job.now) a.status a.text.items) }
+    requires told { IsTold version (read_tables job.now) (ProvingError.WitnessNotFound step) }
+    ensures { IfOk result (λ a. IsJobAnswer version (read_tables job.now) a.status a.text.items) }
 {
     match step {
         GrindStep::Lookup => refused(alloc, b"WitnessNotFound lookup", &[]),
@@ -44,15 +50,16 @@ fn refused_grinding(alloc: Global, job: &[JobTable], step: GrindStep) -> Mem<Ans
 // The answer where a balanced job has no proof.
 fn refused_proof(
     alloc: Global,
+    version: TranscriptVersion,
     job: &[JobTable],
     error: ProvingError<PlainProverError>,
 ) -> Mem<Answer>
     requires balanced { IsBalancedJob same_word (read_tables job.now) }
-    requires told { IsTold (read_tables job.now) error }
-    ensures { IfOk result (λ a. IsJobAnswer (read_tables job.now) a.status a.text.items) }
+    requires told { IsTold version (read_tables job.now) error }
+    ensures { IfOk result (λ a. IsJobAnswer version (read_tables job.now) a.status a.text.items) }
 {
     match error {
-        ProvingError::WitnessNotFound { step } => refused_grinding(alloc, job, step),
+        ProvingError::WitnessNotFound { step } => refused_grinding(alloc, version, job, step),
         ProvingError::LookupDenominatorZero { instance, row } => {
             refused(alloc, b"LookupDenominatorZero", &[instance, row])
         }
@@ -65,6 +72,7 @@ fn refused_proof(
 // The answer where a balanced job has this honest proof, whose point lies on the rows of no table.
 fn proved_answer(
     alloc: Global,
+    version: TranscriptVersion,
     job: &[JobTable],
     tables: Vec<TableStatement>,
     proof: ToolProof,
@@ -72,11 +80,11 @@ fn proved_answer(
     requires within { JobWithin (read_tables job.now) }
     requires balanced { IsBalancedJob same_word (read_tables job.now) }
     requires tables { tables.items ≡ statements_for (read_tables job.now) }
-    requires outcome { IsProvingOutcome (read_tables job.now) (Some proof) }
-    ensures { IfOk result (λ a. IsJobAnswer (read_tables job.now) a.status a.text.items) }
+    requires outcome { IsProvingOutcome version (read_tables job.now) (Some proof) }
+    ensures { IfOk result (λ a. IsJobAnswer version (read_tables job.now) a.status a.text.items) }
 {
     let file = ProofFile {
-        version: 1,
+        version: version_number(version),
         tables,
         proof,
     };
@@ -87,22 +95,26 @@ fn proved_answer(
     })
 }
 
-/// What `prove` answers for a job (not in Plonky3), which is within its limits, the first of: `Refused` with `Unbalanced` and the least
+/// What `prove` answers for a job over the transcript of this version (not in Plonky3), which is within its limits, the first of: `Refused` with `Unbalanced` and the least
 /// value that isn't taken as often as it is given; of a balanced job `Refused` with `WitnessNotFound lookup`, `LookupDenominatorZero`
 /// with the table and the row, or `WitnessNotFound ood`, where one of these events comes on the challenges that are drawn; `Refused` with
 /// `OodPointInDomain`, where the drawn point lies on the rows of a table; and `Done` with the text of the job's honest proof, for which
 /// `verify` writes `accepted`. The only error is running out of memory.
-pub fn answer_prove(alloc: Global, job: &[JobTable]) -> Mem<Answer>
+pub fn answer_prove(
+    alloc: Global,
+    version: TranscriptVersion,
+    job: &[JobTable],
+) -> Mem<Answer>
     requires { JobWithin (read_tables job.now) }
-    ensures { IfOk result (λ a. IsJobAnswer (read_tables job.now) a.status a.text.items) }
+    ensures { IfOk result (λ a. IsJobAnswer version (read_tables job.now) a.status a.text.items) }
 {
     if let Some(word) = first_unbalanced(alloc, job)? {
         return refused(alloc, b"Unbalanced", &[word.as_canonical_u64() as usize]);
     }
     let tables = statements_of(alloc, job)?;
-    match prove_job(alloc, job, &tables) {
-        Ok(Some(proof)) => proved_answer(alloc, job, tables, proof),
+    match prove_job(alloc, version, job, &tables) {
+        Ok(Some(proof)) => proved_answer(alloc, version, job, tables, proof),
         Ok(None) => refused(alloc, b"OodPointInDomain", &[]),
-        Err(error) => refused_proof(alloc, job, error),
+        Err(error) => refused_proof(alloc, version, job, error),
     }
 }

@@ -13,6 +13,7 @@ ghost use Rattle.law_soundness.specs.PlainSetting.{IsOverFields, plain_scheme};
 ghost use Rattle.prover_answer.specs.Batch.{Batch, IsTracedAll, table_count};
 ghost use Rattle.prover_answer.specs.PlainBackend.{plain_prover_backend};
 ghost use Rattle.prover_answer.specs.Telling.{IsOverloaded, PhaseTells};
+ghost use Rattle.transcript_version.specs.declared.TranscriptVersion.{TranscriptVersion};
 ghost use Rattle.tool_prover.specs.JobAnswer.{IsJobAnswer};
 ghost use Rattle.law_tool_valid.specs.Job.{JobTable};
 ghost use Rattle.tool_verifier.specs.FileAnswer.{SameAnswer};
@@ -24,9 +25,9 @@ use p3_field::{
     TwoAdicCore, TwoAdicField,
 };
 
-/// A job has at most one answer: one status, and one text.
+/// A version and a job have at most one answer: one status, and one text.
 pub fn there_is_one_answer()
-    ensures { (job : List (JobTable BabyBear)) (s t : Status) (x y : List ℕ) → IsJobAnswer job s x → IsJobAnswer job t y → SameAnswer s t x y }
+    ensures { (version : TranscriptVersion) (job : List (JobTable BabyBear)) (s t : Status) (x y : List ℕ) → IsJobAnswer version job s x → IsJobAnswer version job t y → SameAnswer s t x y }
 {}
 
 /// The plain scheme refuses nothing that a prover of a traced batch asks of it (not in Plonky3), in no phase (`granted`): over any

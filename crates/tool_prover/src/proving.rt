@@ -14,6 +14,7 @@ use batch_setup::{SetupError, StarkInstance, TableInstance};
 use commit_core::UnivariateStarkPcs;
 use p3_field::{BabyBear, FieldCore, Mem, QuarticExtension, RingCore, TwoAdicCore};
 use p3_matrix::RowMajorMatrix;
+use p3_uni_stark::TranscriptVersion;
 use plain_pcs::PlainProverError;
 use prover_answer::{ProverSettings, ProvingError};
 use prover_batch::prove_batch_with_point;
@@ -47,22 +48,23 @@ fn instances_of<'a>(
     }
 }
 
-/// The honest proof of a balanced job over the program's configuration, for which `verify` writes `accepted`; None where the point of its
+/// The honest proof of a balanced job over the program's configuration of this version, for which `verify` writes `accepted`; None where the point of its
 /// openings lies on the rows of a table (`outcome`). The error says why there is no honest proof: no element passes a grinding, or a
 /// denominator is zero; the backend never refuses, and no bus may carry too much (`refusal`). `tables` is what is stated of the job's
 /// tables. Out of memory may come in place of any answer.
 pub(crate) fn prove_job(
     alloc: Global,
+    version: TranscriptVersion,
     job: &[JobTable],
     tables: &[TableStatement],
 ) -> Result<Option<ToolProof>, ProvingError<PlainProverError>>
     requires within { JobWithin (read_tables job.now) }
     requires balanced { IsBalancedJob same_word (read_tables job.now) }
     requires tables { tables.now ≡ statements_for (read_tables job.now) }
-    ensures outcome { IfOk result (IsProvingOutcome (read_tables job.now)) }
-    ensures refusal { IfErr result (IsTold (read_tables job.now)) }
+    ensures outcome { IfOk result (IsProvingOutcome version (read_tables job.now)) }
+    ensures refusal { IfErr result (IsTold version (read_tables job.now)) }
 {
-    let config = tool_config();
+    let config = tool_config(version);
     let airs = airs_of(alloc, tables)?;
     let data = prover_data(alloc, &config, tables, &airs)?;
     let traces = traces_of(alloc, job)?;
@@ -72,6 +74,6 @@ pub(crate) fn prove_job(
     if !is_outside(tables, point) {
         return Ok(None);
     }
-    accepted_means(tables, &proof);
+    accepted_means(version, tables, &proof);
     Ok(Some(proof))
 }

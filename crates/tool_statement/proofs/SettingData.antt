@@ -9,10 +9,11 @@ use Rattle.p3_challenger.specs.declared.sha256_challenger.Sha256Challenger.{Sha2
 use Rattle.plain_pcs.specs.Scheme.{Blowup, PlainCommitmentData}
 use Rattle.plain_pcs.specs.Observing.{commitment_elements}
 use Rattle.batch_config.specs.Setting.{Setting}
+use Rattle.transcript_version.specs.declared.TranscriptVersion.{TranscriptVersion}
 use Rattle.tool_statement.specs.Config.{tool_setting}
 
-abbrev pub setting_with : Blowup → Sha256Challenger → ℕ → ℕ → Setting Sha256Challenger BabyBear QuarticExtension (PlainCommitmentData BabyBear)
-setting_with b challenger lookup_bits ood_bits = record {
+abbrev pub setting_with : Blowup → Sha256Challenger → ℕ → ℕ → TranscriptVersion → Setting Sha256Challenger BabyBear QuarticExtension (PlainCommitmentData BabyBear)
+setting_with b challenger lookup_bits ood_bits version = record {
   field = record { ring = baby_bear_ring; inv = baby_bear_inv; root = baby_bear_root; generator = reduce 31 };
   two_adicity = 27;
   order = 2013265921;
@@ -24,9 +25,10 @@ setting_with b challenger lookup_bits ood_bits = record {
   log_max = 27 - b.log_blowup;
   lookup_bits = lookup_bits;
   ood_bits = ood_bits;
+  version = version;
 }
 
-pub setting_is : (b : Blowup) (challenger : Sha256Challenger) (lookup_bits ood_bits : ℕ) → b ≡ record { log_blowup = 1 } → challenger ≡ record { chain = replicate 32 0; left = 0 }
-    → lookup_bits ≡ 4 → ood_bits ≡ 4 → setting_with b challenger lookup_bits ood_bits ≡ tool_setting
+pub setting_is : (b : Blowup) (challenger : Sha256Challenger) (lookup_bits ood_bits : ℕ) (version given : TranscriptVersion) → b ≡ record { log_blowup = 1 } → challenger ≡ record { chain = replicate 32 0; left = 0 }
+    → lookup_bits ≡ 4 → ood_bits ≡ 4 → version ≡ given → setting_with b challenger lookup_bits ood_bits version ≡ tool_setting given
 unfolding tool_setting
-setting_is b challenger lookup_bits ood_bits p q r s = λ i. setting_with (p i) (q i) (r i) (s i)
+setting_is b challenger lookup_bits ood_bits version given p q r s t = λ i. setting_with (p i) (q i) (r i) (s i) (t i)

@@ -12,15 +12,16 @@ use Rattle.plain_pcs.specs.Observing.{commitment_elements}
 use Rattle.plain_pcs.specs.declared.commitment.PlainProof.{PlainProof}
 use Rattle.plain_pcs.specs.declared.error.PlainError.{PlainError}
 use Rattle.batch_config.specs.Setting.{Setting, Backend}
+use Rattle.transcript_version.specs.declared.TranscriptVersion.{TranscriptVersion}
 
 -- the plain scheme over BabyBear, which has subgroups of sizes up to 2^27, with a blowup of two
 abbrev pub tool_scheme : Scheme BabyBear
 tool_scheme = scheme baby_bear_ring baby_bear_inv baby_bear_root (reduce 31) 27 (record { log_blowup = 1 })
 
 -- BabyBear and its quartic extension, the SHA-256 challenger at a chain of zeros, a scheme that masks nothing and whose traces have up to 2^26 rows, four
--- bits for each grinding
-unfoldable pub tool_setting : Setting Sha256Challenger BabyBear QuarticExtension (PlainCommitmentData BabyBear)
-tool_setting = record {
+-- bits for each grinding, and transcripts of this version
+unfoldable pub tool_setting : TranscriptVersion → Setting Sha256Challenger BabyBear QuarticExtension (PlainCommitmentData BabyBear)
+tool_setting version = record {
   field = record { ring = baby_bear_ring; inv = baby_bear_inv; root = baby_bear_root; generator = reduce 31 };
   two_adicity = 27;
   order = 2013265921;
@@ -32,6 +33,7 @@ tool_setting = record {
   log_max = 26;
   lookup_bits = 4;
   ood_bits = 4;
+  version = version;
 }
 
 -- the plain scheme's verifier

@@ -4,6 +4,7 @@ use Rattle.std.proofs.lemmas.Bool.{cases_lt}
 use Rattle.p3_field.specs.Checks.{AreSingle, IsFirstFailing}
 use Rattle.p3_field.specs.Laws.Checks.{none_first, same_first}
 use Rattle.verifier_batch.specs.BatchChecks.{checks}
+use Rattle.transcript_version.specs.declared.TranscriptVersion.{TranscriptVersion}
 use Rattle.tool_statement.specs.Config.{tool_setting, tool_backend}
 use Rattle.tool_statement.specs.StatedTables.{tool_statement}
 use Rattle.tool_statement.specs.declared.table.TableStatement.{TableStatement}
@@ -23,16 +24,16 @@ same_failing n P i j a b = elim (cases_lt i j) [
   ]
 ]
 
-module _ (tables : List TableStatement) (p : ToolProofData) (single : AreSingle (checks tool_setting tool_backend (tool_statement tables) p)) where
+module _ (version : TranscriptVersion) (tables : List TableStatement) (p : ToolProofData) (single : AreSingle (checks (tool_setting version) tool_backend (tool_statement tables) p)) where
   -- a refused file isn't accepted
-  not_both : (x : List ℕ) → IsAccepted tables p → IsRefusedWith tables p x → ⊥
+  not_both : (x : List ℕ) → IsAccepted version tables p → IsRefusedWith version tables p x → ⊥
   not_both x a r = elim r [
     | inl m ↦ m.1.fails (a.0 m.0 m.1.within)
-    | inr f ↦ none_first (checks tool_setting tool_backend (tool_statement tables) p) f.1.0 a.1 f.1.1
+    | inr f ↦ none_first (checks (tool_setting version) tool_backend (tool_statement tables) p) f.1.0 a.1 f.1.1
   ]
 
   -- its line is one
-  one_line : (x y : List ℕ) → IsRefusedWith tables p x → IsRefusedWith tables p y → x ≡ y
+  one_line : (x y : List ℕ) → IsRefusedWith version tables p x → IsRefusedWith version tables p y → x ≡ y
   one_line x y f g = elim f [
     | inl a ↦ elim g [
       | inl b ↦ a.2 ∙ (ap mismatch_text (same_failing _ _ a.0 b.0 a.1 b.1) ∙ sym b.2)
@@ -40,11 +41,11 @@ module _ (tables : List TableStatement) (p : ToolProofData) (single : AreSingle 
     ]
     | inr a ↦ elim g [
       | inl b ↦ absurd (b.1.fails (a.0 b.0 b.1.within))
-      | inr b ↦ a.1.2 ∙ (ap fault_text (same_first (checks tool_setting tool_backend (tool_statement tables) p) a.1.0 b.1.0 single a.1.1 b.1.1) ∙ sym b.1.2)
+      | inr b ↦ a.1.2 ∙ (ap fault_text (same_first (checks (tool_setting version) tool_backend (tool_statement tables) p) a.1.0 b.1.0 single a.1.1 b.1.1) ∙ sym b.1.2)
     ]
   ]
 
-  pub same_answer : (s t : Status) (x y : List ℕ) → IsFileAnswer tables p s x → IsFileAnswer tables p t y → SameAnswer s t x y
+  pub same_answer : (s t : Status) (x y : List ℕ) → IsFileAnswer version tables p s x → IsFileAnswer version tables p t y → SameAnswer s t x y
   unfolding IsFileAnswer
   same_answer Done Done x y a b = (refl, a.2 ∙ sym b.2)
   same_answer Done Refused x y a b = absurd (not_both y a.0 b)

@@ -5,6 +5,7 @@ use Rattle.blake3_compress.specs.Compress.{Input}
 use Rattle.blake3_compress.specs.TraceRow.{AreWords}
 use Rattle.p3_field.specs.declared.baby_bear.BabyBear.{BabyBear}
 use Rattle.plain_pcs.specs.declared.error.PlainError.{PlainError}
+use Rattle.transcript_version.specs.declared.TranscriptVersion.{TranscriptVersion}
 use Rattle.tool_hash_lines.specs.Compressions.{printed_compression_words}
 use Rattle.tool_hash_lines.specs.PrintedRows.{committed_cells, printed_rows}
 use Rattle.tool_hash_lines.specs.RowText.{row_line, words_line}
@@ -24,51 +25,51 @@ use Rattle.tool_verifier.specs.declared.status.Status.TheVariants.{Done, Refused
 abbrev pub mismatch_text : ℕ → List ℕ
 mismatch_text i = refused_text (codes "HeightMismatch") (i ∷ [])
 
--- the proof has the stated heights, and no check of the batch verifier fails
-abbrev pub IsAccepted : List TableStatement → ToolProofData → Type 0
-IsAccepted tables p = HaveStatedHeights tables p.degree_bits × Accepted tool_setting tool_backend (tool_statement tables) p
+-- the proof has the stated heights, and no check of the batch verifier fails, all challenges being drawn from the transcript of this version
+abbrev pub IsAccepted : TranscriptVersion → List TableStatement → ToolProofData → Type 0
+IsAccepted version tables p = HaveStatedHeights tables p.degree_bits × Accepted (tool_setting version) tool_backend (tool_statement tables) p
 
 -- Where neither drawn challenge is unlucky, each swap table ends as it should: its last right cell is the second public value in a table with no degree
 -- bits, which has one row, and else the first.
-abbrev pub SwapsEnd : List TableStatement → ToolProofData → Type 0
-SwapsEnd tables p =
-    (IsAlphaUnlucky tool_setting 1 (tool_statement tables) p → ⊥) → (IsZetaUnlucky tool_setting 1 (tool_statement tables) p → ⊥)
+abbrev pub SwapsEnd : TranscriptVersion → List TableStatement → ToolProofData → Type 0
+SwapsEnd version tables p =
+    (IsAlphaUnlucky (tool_setting version) 1 (tool_statement tables) p → ⊥) → (IsZetaUnlucky (tool_setting version) 1 (tool_statement tables) p → ⊥)
     → (i k : ℕ) (a b x : BabyBear) → slice_get tables i ≡ Some (Swap k a b x) → EndsSwapped (get_or p.degree_bits i 0) a b x
 
 -- Where neither drawn challenge is unlucky, each printed row of a hash table is readable, and its last 16 words are the compression of its first 28.
-abbrev pub PrintCompressions : List TableStatement → ToolProofData → Type 0
-PrintCompressions tables p =
-    (IsAlphaUnlucky tool_setting 1 (tool_statement tables) p → ⊥) → (IsZetaUnlucky tool_setting 1 (tool_statement tables) p → ⊥)
+abbrev pub PrintCompressions : TranscriptVersion → List TableStatement → ToolProofData → Type 0
+PrintCompressions version tables p =
+    (IsAlphaUnlucky (tool_setting version) 1 (tool_statement tables) p → ⊥) → (IsZetaUnlucky (tool_setting version) 1 (tool_statement tables) p → ⊥)
     → (i k row : ℕ) → slice_get tables i ≡ Some (Hash k) → row < 2 ^ k
     → (x : Input) × AreWords x × (row_line row (committed_cells tables p i row) ≡ words_line (printed_compression_words x))
 
 -- What an accepted proof means: every constraint of every table is zero on each row of the committed polynomials, or the drawn alpha or the drawn zeta
 -- is unlucky; and where neither is, swap tables end as they should, and what is printed are compressions. The scheme's blowup is two to the power of one.
-pub record IsMeant (tables : List TableStatement) (p : ToolProofData) : Type 0 where
-  pub holds : HoldUnlessUnlucky tool_setting 1 (tool_statement tables) p
-  pub swaps : SwapsEnd tables p
-  pub hashes : PrintCompressions tables p
+pub record IsMeant (version : TranscriptVersion) (tables : List TableStatement) (p : ToolProofData) : Type 0 where
+  pub holds : HoldUnlessUnlucky (tool_setting version) 1 (tool_statement tables) p
+  pub swaps : SwapsEnd version tables p
+  pub hashes : PrintCompressions version tables p
 
 -- the text where the proof is accepted: `accepted`, and the rows of hash tables
 abbrev pub accepted_text : List TableStatement → ToolProofData → List ℕ
 accepted_text tables p = codes "accepted\n" ++ printed_rows tables p
 
 -- why it isn't accepted, as the line that says so: the first table with another height, or else the first check that fails
-abbrev pub IsRefusedWith : List TableStatement → ToolProofData → List ℕ → Type 0
-IsRefusedWith tables p text =
+abbrev pub IsRefusedWith : TranscriptVersion → List TableStatement → ToolProofData → List ℕ → Type 0
+IsRefusedWith version tables p text =
     ((i : ℕ) × IsHeightMismatch tables p.degree_bits i × (text ≡ mismatch_text i))
-    ⊎ (HaveStatedHeights tables p.degree_bits × ((e : BatchVerificationError PlainError) × FirstFault tool_setting tool_backend (tool_statement tables) p e × (text ≡ fault_text e)))
+    ⊎ (HaveStatedHeights tables p.degree_bits × ((e : BatchVerificationError PlainError) × FirstFault (tool_setting version) tool_backend (tool_statement tables) p e × (text ≡ fault_text e)))
 
--- The status and the text. What `accepted` means follows from the checks, and is said here since it is what a reader of the text relies on.
-unfoldable pub IsFileAnswer : List TableStatement → ToolProofData → Status → List ℕ → Type 0
-IsFileAnswer tables p Done text = IsAccepted tables p × IsMeant tables p × (text ≡ accepted_text tables p)
-IsFileAnswer tables p Refused text = IsRefusedWith tables p text
-IsFileAnswer tables p Usage text = ⊥
-IsFileAnswer tables p BadInput text = ⊥
-IsFileAnswer tables p ReadFault text = ⊥
-IsFileAnswer tables p WriteFault text = ⊥
-IsFileAnswer tables p OutOfMemory text = ⊥
-IsFileAnswer tables p TooLarge text = ⊥
+-- The status and the text for a file of this version. What `accepted` means follows from the checks, and is said here since it is what a reader of the text relies on.
+unfoldable pub IsFileAnswer : TranscriptVersion → List TableStatement → ToolProofData → Status → List ℕ → Type 0
+IsFileAnswer version tables p Done text = IsAccepted version tables p × IsMeant version tables p × (text ≡ accepted_text tables p)
+IsFileAnswer version tables p Refused text = IsRefusedWith version tables p text
+IsFileAnswer version tables p Usage text = ⊥
+IsFileAnswer version tables p BadInput text = ⊥
+IsFileAnswer version tables p ReadFault text = ⊥
+IsFileAnswer version tables p WriteFault text = ⊥
+IsFileAnswer version tables p OutOfMemory text = ⊥
+IsFileAnswer version tables p TooLarge text = ⊥
 
 -- two answers are one
 abbrev pub SameAnswer : (s t : Status) (x y : List ℕ) → Type 0

@@ -9,6 +9,7 @@ use crate::refusal::{fault_line, mismatch_line};
 use crate::status::Status;
 use crate::tables::verify_tables;
 use p3_field::Mem;
+use p3_uni_stark::TranscriptVersion;
 use std::alloc::Global;
 use tool_hash_lines::hash_lines;
 use tool_proof_text::ToolProof;
@@ -45,18 +46,23 @@ fn accepted_text(alloc: Global, tables: &[TableStatement], proof: &ToolProof) ->
     Ok(text)
 }
 
-/// What `verify` answers for the proof of these tables (not in Plonky3), the first of: `Refused` with `HeightMismatch` for the first table,
+/// What `verify` answers for the proof of these tables over the transcript of this version (not in Plonky3), the first of: `Refused` with `HeightMismatch` for the first table,
 /// below both lengths, whose degree bits in the proof aren't the stated logarithm of its height; `Refused` with the name and the numbers of the
 /// first check of the batch verifier that fails; and `Done` with `accepted` and the rows of the hash tables. The only error is running out of
 /// memory.
-pub fn answer_tables(alloc: Global, tables: &[TableStatement], proof: &ToolProof) -> Mem<Answer>
+pub fn answer_tables(
+    alloc: Global,
+    version: TranscriptVersion,
+    tables: &[TableStatement],
+    proof: &ToolProof,
+) -> Mem<Answer>
     requires { All TableWithin tables.now }
-    ensures { IfOk result (λ a. IsFileAnswer tables.now proof.now a.status a.text.items) }
+    ensures { IfOk result (λ a. IsFileAnswer version tables.now proof.now a.status a.text.items) }
 {
     if let Some(table) = first_mismatch(tables, &proof.degree_bits) {
         return Ok(refused(mismatch_line(alloc, table)?));
     }
-    match verify_tables(alloc, tables, proof) {
+    match verify_tables(alloc, version, tables, proof) {
         Ok(()) => Ok(Answer {
             status: Status::Done,
             text: accepted_text(alloc, tables, proof)?,

@@ -11,20 +11,21 @@ ghost use Rattle.tool_verifier.specs.FileAnswer.{PrintCompressions, SwapsEnd};
 use blake3_prime::meanings::row_means;
 use law_committed::fields::baby_bear_has_laws;
 use p3_field::{BabyBear, QuarticExtension};
+use p3_uni_stark::TranscriptVersion;
 use plain_pcs::opened_claims_bind;
 use tool_proof_text::ToolProof;
 use tool_statement::TableStatement;
 
-/// What it means that a proof of these tables is accepted (not in Plonky3): every constraint of every table is zero on each row of the committed
+/// What it means that a proof of these tables is accepted over the transcript of this version (not in Plonky3): every constraint of every table is zero on each row of the committed
 /// polynomials, or the drawn alpha or the drawn zeta is unlucky (`holds`). Where neither is, swap tables end as they should (`swaps`), and with the
 /// stated heights each row of a hash table is printed as a compression (`hashes`). With these heights the matrices of hash tables are as large as is
 /// stated (`matrices`).
-pub fn accepted_means(tables: &[TableStatement], proof: &ToolProof)
+pub fn accepted_means(version: TranscriptVersion, tables: &[TableStatement], proof: &ToolProof)
     requires formed { WellFormed (map (λ t. t.declaration) (map air_table_of tables.now)) (tool_common tables.now) }
-    requires accepted { Accepted tool_setting tool_backend (tool_statement tables.now) proof.now }
-    ensures holds { HoldUnlessUnlucky tool_setting 1 (tool_statement tables.now) proof.now }
-    ensures swaps { SwapsEnd tables.now proof.now }
-    ensures hashes { HaveStatedHeights tables.now proof.now.degree_bits → PrintCompressions tables.now proof.now }
+    requires accepted { Accepted (tool_setting version) tool_backend (tool_statement tables.now) proof.now }
+    ensures holds { HoldUnlessUnlucky (tool_setting version) 1 (tool_statement tables.now) proof.now }
+    ensures swaps { SwapsEnd version tables.now proof.now }
+    ensures hashes { HaveStatedHeights tables.now proof.now.degree_bits → PrintCompressions version tables.now proof.now }
     ensures matrices { HaveStatedHeights tables.now proof.now.degree_bits → HasHashMatrices tables.now proof.now }
 {
     baby_bear_has_laws();

@@ -12,13 +12,14 @@ use crate::meaning::accepted_means;
 use air_core::{Air, BaseAir};
 use batch_config::Settings;
 use batch_statement::BatchVerificationError;
+use p3_uni_stark::TranscriptVersion;
 use plain_pcs::PlainError;
 use std::alloc::Global;
 use tool_proof_text::ToolProof;
 use tool_statement::{TableStatement, airs_of, public_values_of, shared_data, tool_config};
 use verifier_batch::verify_batch;
 
-/// Whether a proof is accepted over the program's configuration for these tables (not in Plonky3): Ok exactly where no check of the batch verifier
+/// Whether a proof is accepted over the program's configuration of this version for these tables (not in Plonky3): Ok exactly where no check of the batch verifier
 /// fails, and else the refusal of the first that does, with its fields (`verdict`). The data that prover and verifier share is made of the
 /// tables again. Out of memory may come in place of any answer.
 ///
@@ -28,21 +29,22 @@ use verifier_batch::verify_batch;
 /// tables are as large as is stated (`matrices`).
 pub fn verify_tables(
     alloc: Global,
+    version: TranscriptVersion,
     tables: &[TableStatement],
     proof: &ToolProof,
 ) -> Result<(), BatchVerificationError<PlainError>>
     requires { All TableWithin tables.now }
-    ensures verdict { IsVerdict (checks tool_setting tool_backend (tool_statement tables.now) proof.now) result }
-    ensures holds { IfOk result (λ _. HoldUnlessUnlucky tool_setting 1 (tool_statement tables.now) proof.now) }
-    ensures swaps { IfOk result (λ _. SwapsEnd tables.now proof.now) }
-    ensures hashes { IfOk result (λ _. HaveStatedHeights tables.now proof.now.degree_bits → PrintCompressions tables.now proof.now) }
+    ensures verdict { IsVerdict (checks (tool_setting version) tool_backend (tool_statement tables.now) proof.now) result }
+    ensures holds { IfOk result (λ _. HoldUnlessUnlucky (tool_setting version) 1 (tool_statement tables.now) proof.now) }
+    ensures swaps { IfOk result (λ _. SwapsEnd version tables.now proof.now) }
+    ensures hashes { IfOk result (λ _. HaveStatedHeights tables.now proof.now.degree_bits → PrintCompressions version tables.now proof.now) }
     ensures matrices { IfOk result (λ _. HaveStatedHeights tables.now proof.now.degree_bits → HasHashMatrices tables.now proof.now) }
 {
-    let config = tool_config();
+    let config = tool_config(version);
     let airs = airs_of(alloc, tables)?;
     let public_values = public_values_of(alloc, tables)?;
     let common = shared_data(alloc, &config, tables, &airs)?;
     verify_batch(alloc, &config, &airs, proof, &public_values, &common)?;
-    accepted_means(tables, proof);
+    accepted_means(version, tables, proof);
     Ok(())
 }

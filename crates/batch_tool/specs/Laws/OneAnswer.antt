@@ -5,6 +5,8 @@ use Rattle.std.proofs.lemmas.Bool.{cases_lt}
 use Rattle.std.proofs.lemmas.Fmt.{decimal_injective}
 use Rattle.std.proofs.lemmas.List.{append-nil}
 use Rattle.p3_field.specs.declared.baby_bear.BabyBear.{BabyBear}
+use Rattle.transcript_version.specs.declared.TranscriptVersion.{TranscriptVersion}
+use Rattle.transcript_version.specs.declared.TranscriptVersion.TheVariants.{V1, V2}
 use Rattle.tool_lines.specs.Texts.{line_text, Grammar}
 use Rattle.tool_lines.specs.WholeText.{IsFaultLine}
 use Rattle.tool_lines.specs.Laws.Lines.{lines-tell}
@@ -17,7 +19,7 @@ use Rattle.batch_tool.specs.Answer.{Names, NamesSome, IsBadInput, IsProveAnswer,
 use Rattle.tool_statement.specs.declared.table.TableStatement.{TableStatement}
 use Rattle.tool_proof_text.specs.ProofText.{ToolProofData}
 use Rattle.tool_verifier.specs.FileAnswer.{IsFileAnswer, SameAnswer}
-use Rattle.tool_proof_files.specs.Files.{FileWithin, file_numbers}
+use Rattle.tool_proof_files.specs.Files.{FileWithin, file_numbers, version_of}
 use Rattle.tool_proof_files.specs.Laws.Files.{file-grammar}
 use Rattle.batch_tool.specs.declared.command.Command.{Command}
 use Rattle.batch_tool.specs.declared.command.Command.TheVariants.{Prove, Verify, Demo}
@@ -70,17 +72,17 @@ one-text {A} {within} {words} answer grammar one bytes s t x y f g = elim f [
   ]
 ]
 
-prove-view : (bytes : List ℕ) (s : Status) (x : List ℕ) → IsProveAnswer bytes s x → TextAnswer JobWithin job_numbers IsJobAnswer bytes s x
-prove-view bytes BadInput x a = inl (refl, a)
-prove-view bytes Done x a = let j = a.0 in inr (j.0, (j.1, (j.2, j.3)))
-prove-view bytes Refused x a = inr (a.0, (a.1, (a.2, a.3)))
-prove-view bytes Usage x a = inr (a.0, (a.1, (a.2, a.3)))
-prove-view bytes ReadFault x a = inr (a.0, (a.1, (a.2, a.3)))
-prove-view bytes WriteFault x a = inr (a.0, (a.1, (a.2, a.3)))
-prove-view bytes OutOfMemory x a = inr (a.0, (a.1, (a.2, a.3)))
-prove-view bytes TooLarge x a = inr (a.0, (a.1, (a.2, a.3)))
+prove-view : (version : TranscriptVersion) (bytes : List ℕ) (s : Status) (x : List ℕ) → IsProveAnswer version bytes s x → TextAnswer JobWithin job_numbers (IsJobAnswer version) bytes s x
+prove-view version bytes BadInput x a = inl (refl, a)
+prove-view version bytes Done x a = let j = a.0 in inr (j.0, (j.1, (j.2, j.3)))
+prove-view version bytes Refused x a = inr (a.0, (a.1, (a.2, a.3)))
+prove-view version bytes Usage x a = inr (a.0, (a.1, (a.2, a.3)))
+prove-view version bytes ReadFault x a = inr (a.0, (a.1, (a.2, a.3)))
+prove-view version bytes WriteFault x a = inr (a.0, (a.1, (a.2, a.3)))
+prove-view version bytes OutOfMemory x a = inr (a.0, (a.1, (a.2, a.3)))
+prove-view version bytes TooLarge x a = inr (a.0, (a.1, (a.2, a.3)))
 
-verify-view : (bytes : List ℕ) (s : Status) (x : List ℕ) → IsVerifyAnswer bytes s x → TextAnswer FileWithin file_numbers (λ f. IsFileAnswer f.tables f.proof) bytes s x
+verify-view : (bytes : List ℕ) (s : Status) (x : List ℕ) → IsVerifyAnswer bytes s x → TextAnswer FileWithin file_numbers (λ f. IsFileAnswer (version_of f.version) f.tables f.proof) bytes s x
 verify-view bytes BadInput x a = inl (refl, a)
 verify-view bytes Done x a = inr (a.0, (a.1, (a.2, a.3)))
 verify-view bytes Refused x a = inr (a.0, (a.1, (a.2, a.3)))
@@ -92,18 +94,19 @@ verify-view bytes TooLarge x a = inr (a.0, (a.1, (a.2, a.3)))
 
 -- where a job has one
 abbrev pub OneJob : Type 0
-OneJob = (job : List (JobTable BabyBear)) (s t : Status) (x y : List ℕ) → IsJobAnswer job s x → IsJobAnswer job t y → SameAnswer s t x y
+OneJob = (version : TranscriptVersion) (job : List (JobTable BabyBear)) (s t : Status) (x y : List ℕ) → IsJobAnswer version job s x → IsJobAnswer version job t y → SameAnswer s t x y
 
-pub one_prove : OneJob → (bytes : List ℕ) (s t : Status) (x y : List ℕ) → IsProveAnswer bytes s x → IsProveAnswer bytes t y → SameAnswer s t x y
-one_prove one bytes s t x y a b = one-text IsJobAnswer job-grammar (λ job fits. one job) bytes s t x y (prove-view bytes s x a) (prove-view bytes t y b)
+pub one_prove : OneJob → (version : TranscriptVersion) (bytes : List ℕ) (s t : Status) (x y : List ℕ) → IsProveAnswer version bytes s x → IsProveAnswer version bytes t y → SameAnswer s t x y
+one_prove one version bytes s t x y a b =
+    one-text (IsJobAnswer version) job-grammar (λ job fits. one version job) bytes s t x y (prove-view version bytes s x a) (prove-view version bytes t y b)
 
 -- where the tables and the proof of a file have one
 abbrev pub OneFile : Type 0
-OneFile = (tables : List TableStatement) (p : ToolProofData) (s t : Status) (x y : List ℕ) → IsFileAnswer tables p s x → IsFileAnswer tables p t y → SameAnswer s t x y
+OneFile = (version : TranscriptVersion) (tables : List TableStatement) (p : ToolProofData) (s t : Status) (x y : List ℕ) → IsFileAnswer version tables p s x → IsFileAnswer version tables p t y → SameAnswer s t x y
 
 pub one_verify : OneFile → (bytes : List ℕ) (s t : Status) (x y : List ℕ) → IsVerifyAnswer bytes s x → IsVerifyAnswer bytes t y → SameAnswer s t x y
 one_verify one bytes s t x y a b =
-    one-text (λ f. IsFileAnswer f.tables f.proof) file-grammar (λ f fits. one f.tables f.proof) bytes s t x y (verify-view bytes s x a) (verify-view bytes t y b)
+    one-text (λ f. IsFileAnswer (version_of f.version) f.tables f.proof) file-grammar (λ f fits. one (version_of f.version) f.tables f.proof) bytes s t x y (verify-view bytes s x a) (verify-view bytes t y b)
 
 -- where a number has one
 abbrev pub OneDemo : Type 0
@@ -111,7 +114,7 @@ OneDemo = (number : ℕ) (s t : Status) (x y : List ℕ) → IsDemoAnswer number
 
 -- one answer to a command
 pub one_command : OneJob → OneFile → OneDemo → (command : Command) (bytes : List ℕ) (s t : Status) (x y : List ℕ) → IsCommandAnswer command bytes s x → IsCommandAnswer command bytes t y → SameAnswer s t x y
-one_command jobs files demos Prove bytes s t x y a b = one_prove jobs bytes s t x y a b
+one_command jobs files demos (Prove version) bytes s t x y a b = one_prove jobs version bytes s t x y a b
 one_command jobs files demos Verify bytes s t x y a b = one_verify files bytes s t x y a b
 one_command jobs files demos (Demo number) bytes s t x y a b = demos number s t x y a b
 
@@ -134,20 +137,33 @@ same-numbers words m n p q =
     let less = q.0 in
     decimal_injective m n (omega (arith, few)) (omega (arith, less)) (ap (λ l. get_or l 1 []) (sym p.1 ∙ q.1))
 
+-- nor is `1`
+not-one : (words : List (List ℕ)) (d : List ℕ) → words ≡ codes "prove" ∷ codes "1" ∷ [] → words ≡ codes "demo" ∷ d ∷ [] → ⊥
+not-one words d p q =
+    let e : length (codes "prove") ≡ length (codes "demo") = ap (λ l. length (get_or l 0 [])) (sym p ∙ q) in
+    omega (arith, e)
+
 pub one_name : (words : List (List ℕ)) (c d : Command) → Names words c → Names words d → c ≡ d
-one_name words Prove Prove p q = refl
-one_name words Prove Verify p q = absurd (not-both words p q)
-one_name words Prove (Demo n) p q = absurd (not-alone words _ _ _ p q.1)
-one_name words Verify Prove p q = absurd (not-both words q p)
+one_name words (Prove V1) (Prove V1) p q = refl
+one_name words (Prove V1) (Prove V2) p q = absurd (not-alone words _ _ _ q p)
+one_name words (Prove V1) Verify p q = absurd (not-alone words _ _ _ q p)
+one_name words (Prove V1) (Demo n) p q = absurd (not-one words _ p q.1)
+one_name words (Prove V2) (Prove V1) p q = absurd (not-alone words _ _ _ p q)
+one_name words (Prove V2) (Prove V2) p q = refl
+one_name words (Prove V2) Verify p q = absurd (not-both words p q)
+one_name words (Prove V2) (Demo n) p q = absurd (not-alone words _ _ _ p q.1)
+one_name words Verify (Prove V1) p q = absurd (not-alone words _ _ _ p q)
+one_name words Verify (Prove V2) p q = absurd (not-both words q p)
 one_name words Verify Verify p q = refl
 one_name words Verify (Demo n) p q = absurd (not-alone words _ _ _ p q.1)
-one_name words (Demo m) Prove p q = absurd (not-alone words _ _ _ q p.1)
+one_name words (Demo m) (Prove V1) p q = absurd (not-one words _ q p.1)
+one_name words (Demo m) (Prove V2) p q = absurd (not-alone words _ _ _ q p.1)
 one_name words (Demo m) Verify p q = absurd (not-alone words _ _ _ q p.1)
 one_name words (Demo m) (Demo n) p q = ap (λ k. Demo k) (same-numbers words m n p q)
 
 abbrev WordsAnswer : List (List ℕ) → List ℕ → Status → List ℕ → Type 0
 WordsAnswer words bytes s x =
-    ((s ≡ Usage) × ((NamesSome words → ⊥) × (x ≡ codes "usage: batch_tool prove | verify | demo N\n"))) ⊎ ((c : Command) × (Names words c × IsCommandAnswer c bytes s x))
+    ((s ≡ Usage) × ((NamesSome words → ⊥) × (x ≡ codes "usage: batch_tool prove [1] | verify | demo N\n"))) ⊎ ((c : Command) × (Names words c × IsCommandAnswer c bytes s x))
 
 words-view : (words : List (List ℕ)) (bytes : List ℕ) (s : Status) (x : List ℕ) → IsAnswer words bytes s x → WordsAnswer words bytes s x
 words-view words bytes Usage x a = inl (refl, (a.0, a.1))

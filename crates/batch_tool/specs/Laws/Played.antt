@@ -117,4 +117,4 @@ unfolding tool_setting
 plays_by_elements s g =
     let opaque = commitment_elements baby_bear_ring in
     play-flat (sha256_functions opaque) sha256_elements quartic_coefficients opaque 4 (sha256-over opaque) (seeded_transcript s) (batch_steps s g)
-    (script_draws tool_setting.extension.ring s g).all
+    (script_draws (tool_setting s.version).extension.ring s g).all

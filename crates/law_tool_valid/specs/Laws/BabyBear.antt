@@ -14,6 +14,7 @@ use Rattle.blake3_prime.specs.Meanings.{RowMeans}
 use Rattle.blake3_prime.specs.Laws.TraceRow.{row_means}
 use Rattle.law_committed.specs.Fields.{baby_bear_field}
 use Rattle.law_committed.specs.Laws.BabyBearFields.{baby_bear_fields}
+use Rattle.transcript_version.specs.declared.TranscriptVersion.{TranscriptVersion}
 use Rattle.law_tool_valid.specs.Serves.{ServesJobs, baby_bear_setting}
 
 -- BabyBear is a prime field of more than 2^20 elements, so the constraints of compressions mean compressions there
@@ -29,12 +30,12 @@ bear_prime = record {
 bear_compressions : RowMeans baby_bear_ring
 bear_compressions = row_means baby_bear_ring baby_bear_inv 2013265921 (λ (x : BabyBear). x.value) bear_prime (omega arith)
 
-module _ {S C : Type 0} (challenger : ChallengerOf S BabyBear QuarticExtension C) (initial : S) (log_max lookup_bits ood_bits : ℕ) where
+module _ {S C : Type 0} (challenger : ChallengerOf S BabyBear QuarticExtension C) (initial : S) (log_max lookup_bits ood_bits : ℕ) (version : TranscriptVersion) where
   -- the shift is the generator
   shift_is : baby_bear_field.generator ≡ baby_bear_ring.mul baby_bear_ring.one baby_bear_field.generator
   shift_is = sym (one_mul baby_bear_ring baby_bear_laws baby_bear_field.generator)
 
-  pub baby_bear_serves : 10 ≤ log_max → ServesJobs (baby_bear_setting challenger initial log_max lookup_bits ood_bits) quartic_inv
+  pub baby_bear_serves : 10 ≤ log_max → ServesJobs (baby_bear_setting challenger initial log_max lookup_bits ood_bits version) quartic_inv
   baby_bear_serves enough = record {
     fields = baby_bear_fields;
     plain = refl;

@@ -1,6 +1,7 @@
 -- A number has at most one answer, where each job has one.
 use Rattle.std.proofs.Common.{ℕ, List, refl, sym, ◌∙◌, ap}
 use Rattle.p3_field.specs.declared.baby_bear.BabyBear.{BabyBear}
+use Rattle.transcript_version.specs.declared.TranscriptVersion.TheVariants.{V2}
 use Rattle.law_tool_valid.specs.Job.{JobTable}
 use Rattle.tool_prover.specs.JobAnswer.{IsJobAnswer}
 use Rattle.tool_demo.specs.Demo.{demo_job}
@@ -9,7 +10,7 @@ use Rattle.tool_verifier.specs.FileAnswer.{SameAnswer}
 use Rattle.tool_verifier.specs.declared.status.Status.{Status}
 use Rattle.tool_verifier.specs.declared.status.Status.TheVariants.{Done, Refused, Usage, BadInput, ReadFault, WriteFault, TooLarge, OutOfMemory}
 
-module _ (one : (job : List (JobTable BabyBear)) (s t : Status) (x y : List ℕ) → IsJobAnswer job s x → IsJobAnswer job t y → SameAnswer s t x y) (number : ℕ) where
+module _ (one : (job : List (JobTable BabyBear)) (s t : Status) (x y : List ℕ) → IsJobAnswer V2 job s x → IsJobAnswer V2 job t y → SameAnswer s t x y) (number : ℕ) where
   pub one_answer : (s t : Status) (x y : List ℕ) → IsDemoAnswer number s x → IsDemoAnswer number t y → SameAnswer s t x y
   unfolding IsDemoAnswer
   one_answer Done Done x y a b =

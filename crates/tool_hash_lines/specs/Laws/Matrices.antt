@@ -27,6 +27,7 @@ use Rattle.law_soundness.specs.Laws.Checked.{claims_opened}
 use Rattle.law_soundness.specs.Laws.Opened.{columns_declared, counts}
 use Rattle.law_soundness.specs.Laws.Rounds.{main_bound}
 use Rattle.law_soundness.specs.PlainSetting.{IsPlain, plain_scheme}
+use Rattle.transcript_version.specs.declared.TranscriptVersion.{TranscriptVersion}
 use Rattle.tool_proof_text.specs.ProofText.{ToolProofData}
 use Rattle.tool_statement.specs.Config.{tool_backend, tool_scheme, tool_setting}
 use Rattle.tool_statement.specs.StatedTables.{HaveStatedHeights, log_height_of, source_of_table, air_table_of, tool_common, tool_statement}
@@ -73,25 +74,25 @@ module _ {S F E P R : Type 0} (c : Setting S F E (PlainCommitmentData F)) (b : B
       ∙ (columns_declared c b log_blowup s p inverse L plain binds formed accepted i below).main
 
 -- the program's configuration is over the plain scheme
-pub plain_tool : IsPlain tool_setting tool_backend 1
+pub plain_tool : (version : TranscriptVersion) → IsPlain (tool_setting version) tool_backend 1
 unfolding tool_setting tool_backend
-plain_tool = record { unmasked = refl; opens = λ state claims proof o. o }
+plain_tool version = record { unmasked = refl; opens = λ state claims proof o. o }
 
-pub laws_of_tool : (inverse : QuarticExtension → QuarticExtension) → FieldsLaws baby_bear_field quartic_extension 27 inverse → FieldsLaws tool_setting.field tool_setting.extension tool_setting.two_adicity inverse
+pub laws_of_tool : (version : TranscriptVersion) (inverse : QuarticExtension → QuarticExtension) → FieldsLaws baby_bear_field quartic_extension 27 inverse → FieldsLaws (tool_setting version).field (tool_setting version).extension (tool_setting version).two_adicity inverse
 unfolding tool_setting
-laws_of_tool inverse L = L
+laws_of_tool version inverse L = L
 
-pub binds_of_tool : Binds tool_scheme quartic_ring of_baby_bear_value → Binds (plain_scheme tool_setting 1) tool_setting.extension.ring tool_setting.extension.embed
+pub binds_of_tool : (version : TranscriptVersion) → Binds tool_scheme quartic_ring of_baby_bear_value → Binds (plain_scheme (tool_setting version) 1) (tool_setting version).extension.ring (tool_setting version).extension.embed
 unfolding tool_setting
-binds_of_tool B = B
+binds_of_tool version B = B
 
-two_adicity_is : tool_setting.two_adicity ≡ 27
+two_adicity_is : (version : TranscriptVersion) → (tool_setting version).two_adicity ≡ 27
 unfolding tool_setting
-two_adicity_is = refl
+two_adicity_is version = refl
 
-module _ (tables : List TableStatement) (p : ToolProofData) (inverse : QuarticExtension → QuarticExtension) (L : FieldsLaws baby_bear_field quartic_extension 27 inverse)
+module _ (version : TranscriptVersion) (tables : List TableStatement) (p : ToolProofData) (inverse : QuarticExtension → QuarticExtension) (L : FieldsLaws baby_bear_field quartic_extension 27 inverse)
     (binds : Binds tool_scheme quartic_ring of_baby_bear_value) (formed : WellFormed (map (λ (t : AirTable BabyBear). t.declaration) (map air_table_of tables)) (tool_common tables))
-    (accepted : Accepted tool_setting tool_backend (tool_statement tables) p) (bits : HaveStatedHeights tables p.degree_bits) where
+    (accepted : Accepted (tool_setting version) tool_backend (tool_statement tables) p) (bits : HaveStatedHeights tables p.degree_bits) where
   module _ (i k : ℕ) (at : slice_get tables i ≡ Some (Hash k)) where
     pub within : i < length tables
     within = slice_get_within tables i (Hash k) at
@@ -106,24 +107,24 @@ module _ (tables : List TableStatement) (p : ToolProofData) (inverse : QuarticEx
     pub degree : bits_at p.degree_bits i ≡ k
     degree =
         let many : length p.degree_bits ≡ length tables =
-        (counts tool_setting tool_backend 1 (tool_statement tables) p inverse (laws_of_tool inverse L) plain_tool (binds_of_tool binds) formed accepted).degree_bits ∙ length-map tables air_table_of in
+        (counts (tool_setting version) tool_backend 1 (tool_statement tables) p inverse (laws_of_tool version inverse L) (plain_tool version) (binds_of_tool version binds) formed accepted).degree_bits ∙ length-map tables air_table_of in
         let inside : i < min (length tables) (length p.degree_bits) = omega (arith, within, many) in
         sym (bits i inside) ∙ (get_or-map log_height_of tables i (Take 0) 0 within ∙ ap log_height_of here)
 
     wide : (matrix_at p.commitments.main i).width ≡ 9168
     wide =
-        main_wide tool_setting tool_backend 1 (tool_statement tables) p inverse (laws_of_tool inverse L) plain_tool (binds_of_tool binds) formed accepted i below
+        main_wide (tool_setting version) tool_backend 1 (tool_statement tables) p inverse (laws_of_tool version inverse L) (plain_tool version) (binds_of_tool version binds) formed accepted i below
         ∙ (ap (λ (t : AirTable BabyBear). t.declaration.width) (get_or-map air_table_of tables i (Take 0) no_table within) ∙ ap (λ (t : TableStatement). (source_of_table t).declaration.width) here)
 
     high : height (matrix_at p.commitments.main i) ≡ 2 ^ (k + 1)
     high =
-        main_high tool_setting tool_backend 1 (tool_statement tables) p inverse (laws_of_tool inverse L) plain_tool (binds_of_tool binds) formed accepted i below
+        main_high (tool_setting version) tool_backend 1 (tool_statement tables) p inverse (laws_of_tool version inverse L) (plain_tool version) (binds_of_tool version binds) formed accepted i below
         ∙ ap (λ n. 2 ^ (n + 1)) degree
 
     fits : k + 1 ≤ 27
     fits =
-        let h = main_fits tool_setting tool_backend 1 (tool_statement tables) p inverse (laws_of_tool inverse L) plain_tool (binds_of_tool binds) formed accepted i below in
-        omega (arith, h, degree, two_adicity_is)
+        let h = main_fits (tool_setting version) tool_backend 1 (tool_statement tables) p inverse (laws_of_tool version inverse L) (plain_tool version) (binds_of_tool version binds) formed accepted i below in
+        omega (arith, h, degree, two_adicity_is version)
 
   -- each hash table has its matrix
   pub hash_matrices : HasHashMatrices tables p

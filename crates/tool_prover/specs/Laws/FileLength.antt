@@ -13,6 +13,8 @@ use Rattle.p3_field.specs.declared.baby_bear.BabyBear.{BabyBear}
 use Rattle.p3_field.specs.declared.quartic.QuarticExtension.{QuarticExtension}
 use Rattle.p3_matrix.specs.Matrix.{Rows, height}
 use Rattle.air_core.specs.Laws.Lists.{all_tabulate}
+use Rattle.transcript_version.specs.declared.TranscriptVersion.{TranscriptVersion}
+use Rattle.transcript_version.specs.declared.TranscriptVersion.TheVariants.{V1}
 use Rattle.tool_lines.specs.Texts.{Small, element_numbers, extension_numbers, line_text, list_numbers, one_number, option_numbers}
 use Rattle.tool_proof_text.specs.Matrices.{matrix_numbers}
 use Rattle.tool_proof_text.specs.Openings.{instance_numbers}
@@ -71,7 +73,7 @@ matrix_few : (most : ℕ) (e : CosetData BabyBear × Rows BabyBear) → IsFew mo
 unfolding tool_setting extension_of
 matrix_few most e Z =
     let s = tool_scheme in
-    let L = tool_serves.fields in
+    let L = (tool_serves V1).fields in
     let low = Z.low in
     let some = Z.has_columns in
     let C : IsCommittable s e.0 e.1 = record { has_columns = some; height_is = Z.height_is; fits = omega (arith, low) } in
@@ -142,71 +144,71 @@ file_sum f few h =
     let tables = list_few statement_numbers 5 8 f.tables few (λ i d l. statement_few _) in
     omega (arith, tables, h, length-append (f.version ∷ list_numbers statement_numbers f.tables) (proof_numbers f.proof))
 
-module _ (job : List (JobTable BabyBear)) (many : length job ≤ 8) (within : All IsJobTableWithin job) where
+module _ (version : TranscriptVersion) (job : List (JobTable BabyBear)) (many : length job ≤ 8) (within : All IsJobTableWithin job) where
   abbrev table : ℕ → TracedTable BabyBear
-  table = table_at (job_batch job)
+  table = table_at (job_batch version job)
 
-  cells_at : (i : ℕ) → i < table_count (job_batch job) → 2 ^ (table i).degree_bits * (table i).trace.width ≤ 73344
-  cells_at = each job within (λ t. 2 ^ t.degree_bits * t.trace.width ≤ 73344) job_cells
+  cells_at : (i : ℕ) → i < table_count (job_batch version job) → 2 ^ (table i).degree_bits * (table i).trace.width ≤ 73344
+  cells_at = each version job within (λ t. 2 ^ t.degree_bits * t.trace.width ≤ 73344) job_cells
 
-  mains_light : All (IsFew 73344) (main_matrices (job_batch job))
+  mains_light : All (IsFew 73344) (main_matrices (job_batch version job))
   mains_light =
-      subst (All (IsFew 73344)) (sym (map_tabulate (λ (t : TracedTable BabyBear). (subgroup tool_setting.field.ring t.degree_bits, t.trace)) (table_count (job_batch job)) table))
-      (all_tabulate (IsFew 73344) (table_count (job_batch job)) (λ i. (subgroup tool_setting.field.ring (table i).degree_bits, (table i).trace)) (λ i l.
-      let Z = main_sized tool_setting (job_batch job).prover (table i) [] (fields job many within) (tables_traced job within i l) unmasked 10 9168 (low job many within i l) (narrow job many within i l) in
+      subst (All (IsFew 73344)) (sym (map_tabulate (λ (t : TracedTable BabyBear). (subgroup (tool_setting version).field.ring t.degree_bits, t.trace)) (table_count (job_batch version job)) table))
+      (all_tabulate (IsFew 73344) (table_count (job_batch version job)) (λ i. (subgroup (tool_setting version).field.ring (table i).degree_bits, (table i).trace)) (λ i l.
+      let Z = main_sized (tool_setting version) (job_batch version job).prover (table i) [] (fields version job many within) (tables_traced version job within i l) (unmasked version) 10 9168 (low version job many within i l) (narrow version job many within i l) in
       record { has_columns = Z.has_columns; height_is = Z.height_is; low = Z.low; cells = cells_at i l }))
 
   module _ (w : Option BabyBear) (z : BabyBear) where
     abbrev folding : QuarticExtension
-    folding = let b = job_batch job in alpha b.setting b.prover b.statement b.traces b.degree_bits w
+    folding = let b = job_batch version job in alpha b.setting b.prover b.statement b.traces b.degree_bits w
 
     abbrev drawn : QuarticExtension
-    drawn = let b = job_batch job in zeta b.setting b.prover b.statement b.traces b.degree_bits w z
+    drawn = let b = job_batch version job in zeta b.setting b.prover b.statement b.traces b.degree_bits w z
 
     abbrev challenges : ℕ → List QuarticExtension
-    challenges i = let b = job_batch job in challenges_at b.setting b.prover b.statement b.traces b.degree_bits w i
+    challenges i = let b = job_batch version job in challenges_at b.setting b.prover b.statement b.traces b.degree_bits w i
 
-    -- the permutation columns of a table have up to eight columns, and its chunks four
-    eight : (i : ℕ) → i < table_count (job_batch job) → (length (table i).lookups + 1) * tool_setting.extension.dimension ≤ 8
+    -- the permutation columns of a table have up to eight columns, and its chunks (four version)
+    eight : (i : ℕ) → i < table_count (job_batch version job) → (length (table i).lookups + 1) * (tool_setting version).extension.dimension ≤ 8
     unfolding tool_setting
-    eight i l = let n = (tables_sized job within i l).lookups in omega (arith, n)
+    eight i l = let n = (tables_sized version job within i l).lookups in omega (arith, n)
 
-    permutations_light : All (IsFew 8192) (all_permutations (job_batch job) w)
+    permutations_light : All (IsFew 8192) (all_permutations (job_batch version job) w)
     permutations_light =
-        let sized : All (IsSized 10 8) (all_permutations (job_batch job) w) = all_flat (IsSized 10 8) _ (table_count (job_batch job)) (λ i. i) (λ i l.
-        permutations_sized tool_setting (job_batch job).prover (table i) (challenges i) (fields job many within) (tables_traced job within i l) unmasked 10 8 (low job many within i l) (eight i l)) in
+        let sized : All (IsSized 10 8) (all_permutations (job_batch version job) w) = all_flat (IsSized 10 8) _ (table_count (job_batch version job)) (λ i. i) (λ i l.
+        permutations_sized (tool_setting version) (job_batch version job).prover (table i) (challenges i) (fields version job many within) (tables_traced version job within i l) (unmasked version) 10 8 (low version job many within i l) (eight i l)) in
         λ i d l. narrow_few 8 _ (sized i d l)
 
-    chunks_light : All (IsFew 4096) (all_chunks (job_batch job) w)
+    chunks_light : All (IsFew 4096) (all_chunks (job_batch version job) w)
     chunks_light =
-        let sized : All (IsSized 10 4) (all_chunks (job_batch job) w) = all_flat (IsSized 10 4) _ (table_count (job_batch job)) (λ i. i) (λ i l.
-        chunks_sized tool_setting (job_batch job).prover (table i) (challenges i) (fields job many within) (tables_traced job within i l) unmasked 10 4 (low job many within i l) folding four) in
+        let sized : All (IsSized 10 4) (all_chunks (job_batch version job) w) = all_flat (IsSized 10 4) _ (table_count (job_batch version job)) (λ i. i) (λ i l.
+        chunks_sized (tool_setting version) (job_batch version job).prover (table i) (challenges i) (fields version job many within) (tables_traced version job within i l) (unmasked version) 10 4 (low version job many within i l) folding (four version)) in
         λ i d l. narrow_few 4 _ (sized i d l)
 
-    instance_few : (i : ℕ) → i < table_count (job_batch job) → length (instance_numbers (opened_of tool_setting (job_batch job).prover (table i) (challenges i) folding drawn)) ≤ 74000
+    instance_few : (i : ℕ) → i < table_count (job_batch version job) → length (instance_numbers (opened_of (tool_setting version) (job_batch version job).prover (table i) (challenges i) folding drawn)) ≤ 74000
     instance_few i l =
-        let small = tables_sized job within i l in
-        opened_few tool_setting (job_batch job).prover (table i) (challenges i) (fields job many within) (tables_divided job within i l) (tables_traced job within i l) four small.columns small.preprocessed small.lookups small.parts
+        let small = tables_sized version job within i l in
+        opened_few (tool_setting version) (job_batch version job).prover (table i) (challenges i) (fields version job many within) (tables_divided version job within i l) (tables_traced version job within i l) (four version) small.columns small.preprocessed small.lookups small.parts
         folding drawn
 
-    built_few : (opening : PlainProof) → length (proof_numbers (let b = job_batch job in honest_proof b.setting b.prover b.statement b.traces b.degree_bits w z opening)) ≤ 2160000
+    built_few : (opening : PlainProof) → length (proof_numbers (let b = job_batch version job in honest_proof b.setting b.prover b.statement b.traces b.degree_bits w z opening)) ≤ 2160000
     unfolding honest_proof tool_prover
     built_few opening =
-        let n = table_count (job_batch job) in
-        let few = few_tables job many within in
-        let opened = λ (i : ℕ). opened_of tool_setting (job_batch job).prover (table i) (challenges i) folding drawn in
-        let ended = λ (i : ℕ). honest_terminal tool_setting (job_batch job).prover (table i) (challenges i) in
+        let n = table_count (job_batch version job) in
+        let few = few_tables version job many within in
+        let opened = λ (i : ℕ). opened_of (tool_setting version) (job_batch version job).prover (table i) (challenges i) folding drawn in
+        let ended = λ (i : ℕ). honest_terminal (tool_setting version) (job_batch version job).prover (table i) (challenges i) in
         let bits = length-map job (job_log_height_of {F = BabyBear}) in
-        proof_sum (let b = job_batch job in honest_proof b.setting b.prover b.statement b.traces b.degree_bits w z opening)
-        (commitment_few 73344 8 (main_matrices (job_batch job)) (mains_few job many within) mains_light)
-        (some_few 8192 16 (all_permutations (job_batch job) w) (permutations_few job many within w z) permutations_light)
-        (commitment_few 4096 16 (all_chunks (job_batch job) w) (chunks_few job many within w z) chunks_light) (omega arith)
+        proof_sum (let b = job_batch version job in honest_proof b.setting b.prover b.statement b.traces b.degree_bits w z opening)
+        (commitment_few 73344 8 (main_matrices (job_batch version job)) (mains_few version job many within) mains_light)
+        (some_few 8192 16 (all_permutations (job_batch version job) w) (permutations_few version job many within w z) permutations_light)
+        (commitment_few 4096 16 (all_chunks (job_batch version job) w) (chunks_few version job many within w z) chunks_light) (omega arith)
         (list_few instance_numbers 74000 8 (tabulate n opened) (let long = length-tabulate n opened in omega (arith, long, few)) (all_tabulate (λ o. length (instance_numbers o) ≤ 74000) n opened instance_few))
         (list_few (option_numbers extension_numbers) 5 8 (tabulate n ended) (let long = length-tabulate n ended in omega (arith, long, few)) (λ i d l. terminal_few _))
         (list_few one_number 1 8 (map job_log_height_of job) (omega (arith, bits, many)) (λ i d l. omega arith))
 
   -- so it is of a proof that is built honestly
-  proof_few : (q : ToolProofData) → (let b = job_batch job in IsBuilt b.setting b.prover b.statement b.traces b.degree_bits q) → length (proof_numbers q) ≤ 2160000
+  proof_few : (q : ToolProofData) → (let b = job_batch version job in IsBuilt b.setting b.prover b.statement b.traces b.degree_bits q) → length (proof_numbers q) ≤ 2160000
   proof_few q B = subst (λ (p : ToolProofData). length (proof_numbers p) ≤ 2160000) (sym B.proof_is) (built_few q.lookup_pow_witness q.ood_pow_witness q.opening_proof)
 
 -- the text of so many small numbers
@@ -214,9 +216,9 @@ numbers_short : (text ns : List ℕ) → Small ns → text ≡ line_text ns → 
 numbers_short text ns small same few = let short = text_short ns small in let long = ap length same in omega (arith, short, long, few)
 
 -- the text of the honest proof's file has at most 2,170,000 lines, each of at most 21 bytes
-pub honest_text_short : (job : List (JobTable BabyBear)) → JobWithin job → (text : List ℕ) → IsHonestProofFile job text → length text ≤ 45570000
-honest_text_short job h text A =
-    let f = file_of job A.proof in
+pub honest_text_short : (version : TranscriptVersion) (job : List (JobTable BabyBear)) → JobWithin job → (text : List ℕ) → IsHonestProofFile version job text → length text ≤ 45570000
+honest_text_short version job h text A =
+    let f = file_of version job A.proof in
     let stated = length-map job statement_of in
     let many = h.0.1 in
-    numbers_short text (file_numbers f) (file-grammar.small f A.within) A.text_is (file_sum f (omega (arith, stated, many)) (proof_few job many h.1 A.proof A.honest))
+    numbers_short text (file_numbers f) (file-grammar.small f A.within) A.text_is (file_sum f (omega (arith, stated, many)) (proof_few version job many h.1 A.proof A.honest))

@@ -17,6 +17,7 @@ use Rattle.batch_statement.specs.Words.{no_table}
 use Rattle.batch_statement.specs.Statement.{AirTable}
 use Rattle.law_valid.specs.Traced.{TracedTable, declared, log_parts, log_rows, no_rows}
 use Rattle.law_valid.specs.Valid.{HasQuotientDomain, IsTraced}
+use Rattle.transcript_version.specs.declared.TranscriptVersion.{TranscriptVersion}
 use Rattle.tool_statement.specs.Config.{tool_setting}
 use Rattle.tool_statement.specs.StatedTables.{log_heights_of, air_table_of, tool_common}
 use Rattle.tool_statement.specs.declared.table.TableStatement.{TableStatement}
@@ -33,9 +34,10 @@ use Rattle.tool_jobs.specs.Stated.{statement_of}
 use Rattle.tool_jobs.specs.Laws.Statements.{statements-publics, statements-sources}
 
 -- the program's configuration serves for jobs
-pub tool_serves : ServesJobs tool_setting quartic_inv
+pub tool_serves : (version : TranscriptVersion) → ServesJobs (tool_setting version) quartic_inv
 unfolding tool_setting
-tool_serves = baby_bear_serves (sha256_functions (commitment_elements baby_bear_ring)) (record { chain = replicate 32 0; left = 0 }) 26 4 4 (omega arith)
+tool_serves version =
+    baby_bear_serves (sha256_functions (commitment_elements baby_bear_ring)) (record { chain = replicate 32 0; left = 0 }) 26 4 4 version (omega arith)
 
 -- one lookup at most is packed as it is
 own_packed : (j : JobTable BabyBear) (masks bits asked : ℕ) → packed_lookups baby_bear_ring masks bits asked (source_of_job baby_bear_ring j) ≡ own_lookups baby_bear_ring j
@@ -75,12 +77,12 @@ few_columns (give_of pairs) = omega arith
 few_columns (hash_of rows) = omega arith
 
 -- what bounds a table of a job: its rows, its columns, its lookups, and the chunks of its quotient
-pub record IsSmall (t : TracedTable BabyBear) : Type 0 where
+pub record IsSmall (version : TranscriptVersion) (t : TracedTable BabyBear) : Type 0 where
   pub rows : t.degree_bits ≤ 10
   pub columns : (declared t).width ≤ 9168
   pub preprocessed : width_of (declared t).preprocessed ≤ 1
   pub lookups : length t.lookups ≤ 1
-  pub parts : log_parts tool_setting t ≤ 1
+  pub parts : log_parts (tool_setting version) t ≤ 1
 
 few_prepared : (j : JobTable BabyBear) → width_of (declared (traced_job baby_bear_ring j)).preprocessed ≤ 1
 few_prepared (swap_of k a b) = omega arith
@@ -89,17 +91,17 @@ few_prepared (take_of words) = omega arith
 few_prepared (give_of pairs) = omega arith
 few_prepared (hash_of rows) = omega arith
 
-few_parts : (j : JobTable BabyBear) → log_parts tool_setting (traced_job baby_bear_ring j) ≤ 1
+few_parts : (version : TranscriptVersion) (j : JobTable BabyBear) → log_parts (tool_setting version) (traced_job baby_bear_ring j) ≤ 1
 unfolding tool_setting
-few_parts j =
+few_parts version j =
     let t = traced_job baby_bear_ring j in
-    let few = job_chunks baby_bear_ring j (2 ^ log_rows tool_setting t) (pow_pos (log_rows tool_setting t)) in
+    let few = job_chunks baby_bear_ring j (2 ^ log_rows (tool_setting version) t) (pow_pos (log_rows (tool_setting version) t)) in
     omega (arith, few)
 
-job_small : (j : JobTable BabyBear) → IsJobTableWithin j → IsSmall (traced_job baby_bear_ring j)
-job_small j W = record { rows = small_height j W; columns = few_columns j; preprocessed = few_prepared j; lookups = few_lookups j; parts = few_parts j }
+job_small : (version : TranscriptVersion) (j : JobTable BabyBear) → IsJobTableWithin j → IsSmall version (traced_job baby_bear_ring j)
+job_small version j W = record { rows = small_height j W; columns = few_columns j; preprocessed = few_prepared j; lookups = few_lookups j; parts = few_parts version j }
 
-module _ (job : List (JobTable BabyBear)) where
+module _ (version : TranscriptVersion) (job : List (JobTable BabyBear)) where
   abbrev stated : List TableStatement
   stated = map statement_of job
 
@@ -118,10 +120,10 @@ module _ (job : List (JobTable BabyBear)) where
       ∙ (own_packed (get_or job i no_job_table) 0 (get_or bits i 0) (get_or budgets i 0) ∙ sym (get_or-map (own_lookups baby_bear_ring) job i no_job_table [] l)))
       ∙ sym (tabulate_items [] (map (own_lookups baby_bear_ring) job) (length job) (length-map job (own_lookups baby_bear_ring))))
 
-  pub as_many : table_count (job_batch job) ≡ length job
+  pub as_many : table_count (job_batch version job) ≡ length job
   as_many = length-map (map statement_of job) air_table_of ∙ length-map job statement_of
 
-  pub table_is : (i : ℕ) → i < length job → table_at (job_batch job) i ≡ traced_job baby_bear_ring (get_or job i no_job_table)
+  pub table_is : (i : ℕ) → i < length job → table_at (job_batch version job) i ≡ traced_job baby_bear_ring (get_or job i no_job_table)
   table_is i h = λ q. record {
     table = (ap (λ ts. get_or ts i no_table) (own_tables job) ∙ get_or-map (job_table baby_bear_ring) job i no_job_table no_table h) q;
     lookups = (ap (λ ls. get_or ls i []) lookups_are ∙ get_or-map (own_lookups baby_bear_ring) job i no_job_table [] h) q;
@@ -132,18 +134,18 @@ module _ (job : List (JobTable BabyBear)) where
 
   module _ (within : All IsJobTableWithin job) where
     -- what holds of each table of a job holds of each table of its batch
-    pub each : (P : TracedTable BabyBear → Type 0) → ((j : JobTable BabyBear) → IsJobTableWithin j → P (traced_job baby_bear_ring j)) → (i : ℕ) → i < table_count (job_batch job) → P (table_at (job_batch job) i)
+    pub each : (P : TracedTable BabyBear → Type 0) → ((j : JobTable BabyBear) → IsJobTableWithin j → P (traced_job baby_bear_ring j)) → (i : ℕ) → i < table_count (job_batch version job) → P (table_at (job_batch version job) i)
     each P all i h =
         let l : i < length job = let e = as_many in omega (arith, h, e) in
         subst P (sym (table_is i l)) (all (get_or job i no_job_table) (within i no_job_table l))
 
-    pub tables_traced : (i : ℕ) → i < table_count (job_batch job) → IsTraced tool_setting (table_at (job_batch job) i)
+    pub tables_traced : (i : ℕ) → i < table_count (job_batch version job) → IsTraced (tool_setting version) (table_at (job_batch version job) i)
     unfolding tool_setting
-    tables_traced = each (IsTraced tool_setting) (job_traced tool_setting quartic_inv tool_serves)
+    tables_traced = each (IsTraced (tool_setting version)) (job_traced (tool_setting version) quartic_inv (tool_serves version))
 
-    pub tables_divided : (i : ℕ) → i < table_count (job_batch job) → HasQuotientDomain tool_setting (table_at (job_batch job) i)
+    pub tables_divided : (i : ℕ) → i < table_count (job_batch version job) → HasQuotientDomain (tool_setting version) (table_at (job_batch version job) i)
     unfolding tool_setting
-    tables_divided = each (HasQuotientDomain tool_setting) (job_domain tool_setting quartic_inv tool_serves)
+    tables_divided = each (HasQuotientDomain (tool_setting version)) (job_domain (tool_setting version) quartic_inv (tool_serves version))
 
-    pub tables_sized : (i : ℕ) → i < table_count (job_batch job) → IsSmall (table_at (job_batch job) i)
-    tables_sized = each IsSmall job_small
+    pub tables_sized : (i : ℕ) → i < table_count (job_batch version job) → IsSmall version (table_at (job_batch version job) i)
+    tables_sized = each (IsSmall version) (job_small version)

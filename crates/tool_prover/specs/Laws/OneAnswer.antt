@@ -4,6 +4,7 @@ use Rattle.std.proofs.lemmas.Bool.{cases_lt}
 use Rattle.p3_field.specs.BabyBear.{baby_bear_ring}
 use Rattle.p3_field.specs.Laws.BabyBearField.{baby_bear_of_canonical}
 use Rattle.p3_field.specs.declared.baby_bear.BabyBear.{BabyBear}
+use Rattle.transcript_version.specs.declared.TranscriptVersion.{TranscriptVersion}
 use Rattle.tool_lines.specs.Texts.{line_text}
 use Rattle.tool_proof_files.specs.Files.{file_numbers}
 use Rattle.tool_proof_text.specs.ProofText.{ToolProofData}
@@ -24,17 +25,17 @@ use Rattle.tool_prover.specs.JobBatch.{job_batch, tool_prover}
 baby_bear_canonical : AreCanonical baby_bear_ring 2013265921 (λ (x : BabyBear). x.value)
 baby_bear_canonical = record { ones = baby_bear_of_canonical; below = λ x. x.in_range }
 
-module _ (job : List (JobTable BabyBear)) where
-  numbers : let b = job_batch job in AreCanonical b.setting.field.ring b.setting.order b.prover.canonical
+module _ (version : TranscriptVersion) (job : List (JobTable BabyBear)) where
+  numbers : let b = job_batch version job in AreCanonical b.setting.field.ring b.setting.order b.prover.canonical
   unfolding tool_setting tool_prover
   numbers = baby_bear_canonical
 
   -- the honest proof is one
-  one_proof : (q r : ToolProofData) → IsJobProof job q → IsJobProof job r → q ≡ r
-  one_proof q r A B = let b = job_batch job in one_built b.setting b.prover b.statement b.traces b.degree_bits numbers q r A B refl
+  one_proof : (q r : ToolProofData) → IsJobProof version job q → IsJobProof version job r → q ≡ r
+  one_proof q r A B = let b = job_batch version job in one_built b.setting b.prover b.statement b.traces b.degree_bits numbers q r A B refl
 
-  proved_once : (x y : List ℕ) → IsHonestProofFile job x → IsHonestProofFile job y → x ≡ y
-  proved_once x y P Q = P.text_is ∙ (ap (λ (q : ToolProofData). line_text (file_numbers (file_of job q))) (one_proof P.proof Q.proof P.honest Q.honest) ∙ sym Q.text_is)
+  proved_once : (x y : List ℕ) → IsHonestProofFile version job x → IsHonestProofFile version job y → x ≡ y
+  proved_once x y P Q = P.text_is ∙ (ap (λ (q : ToolProofData). line_text (file_numbers (file_of version job q))) (one_proof P.proof Q.proof P.honest Q.honest) ∙ sym Q.text_is)
 
   -- the least unbalanced value is one
   first_once : (v w : BabyBear) → IsFirstUnbalanced job v → IsFirstUnbalanced job w → v.value ≡ w.value
@@ -46,52 +47,52 @@ module _ (job : List (JobTable BabyBear)) where
     ]
   ]
 
-  unbalanced_once : (x y : List ℕ) → IsUnbalancedText job x → IsUnbalancedText job y → x ≡ y
+  unbalanced_once : (x y : List ℕ) → IsUnbalancedText version job x → IsUnbalancedText version job y → x ≡ y
   unbalanced_once x y (v, A, e) (w, B, f) = e ∙ (ap (λ n. refused_text (codes "Unbalanced") (n ∷ [])) (first_once v w A B) ∙ sym f)
 
   -- and there is none where the job is balanced
-  not_both : (x : List ℕ) → IsUnbalancedText job x → IsBalancedJob same_word job → ⊥
+  not_both : (x : List ℕ) → IsUnbalancedText version job x → IsBalancedJob same_word job → ⊥
   not_both x (v, A, e) balanced = A.unbalanced (balanced v)
 
-  zero_once : (x y : List ℕ) → IsZeroText job x → IsZeroText job y → x ≡ y
+  zero_once : (x y : List ℕ) → IsZeroText version job x → IsZeroText version job y → x ≡ y
   zero_once x y (i, row, A, e) (j, other, B, f) =
-      let b = job_batch job in
+      let b = job_batch version job in
       let same = one_place b.setting b.prover b.statement b.traces b.degree_bits numbers i row j other A B in
       e ∙ ((λ k. refused_text (codes "LookupDenominatorZero") (same.0 k ∷ same.1 k ∷ [])) ∙ sym f)
 
   -- no event comes beside another, or beside a proof
   abbrev LacksLookup : Type 0
-  LacksLookup = let b = job_batch job in LacksLookupGround b.setting b.prover b.statement b.traces b.degree_bits
+  LacksLookup = let b = job_batch version job in LacksLookupGround b.setting b.prover b.statement b.traces b.degree_bits
 
   abbrev LacksOod : Type 0
-  LacksOod = let b = job_batch job in LacksOodGround b.setting b.prover b.statement b.traces b.degree_bits
+  LacksOod = let b = job_batch version job in LacksOodGround b.setting b.prover b.statement b.traces b.degree_bits
 
   abbrev IsZeroAt : ℕ → ℕ → Type 0
-  IsZeroAt i row = let b = job_batch job in IsDenominatorZero b.setting b.prover b.statement b.traces b.degree_bits i row
+  IsZeroAt i row = let b = job_batch version job in IsDenominatorZero b.setting b.prover b.statement b.traces b.degree_bits i row
 
   lookup_or_zero : LacksLookup → (i row : ℕ) → IsZeroAt i row → ⊥
-  lookup_or_zero a i row z = let b = job_batch job in lookup_alone b.setting b.prover b.statement b.traces b.degree_bits numbers a (inl (i, row, z))
+  lookup_or_zero a i row z = let b = job_batch version job in lookup_alone b.setting b.prover b.statement b.traces b.degree_bits numbers a (inl (i, row, z))
 
   lookup_or_ood : LacksLookup → LacksOod → ⊥
-  lookup_or_ood a o = let b = job_batch job in lookup_alone b.setting b.prover b.statement b.traces b.degree_bits numbers a (inr o)
+  lookup_or_ood a o = let b = job_batch version job in lookup_alone b.setting b.prover b.statement b.traces b.degree_bits numbers a (inr o)
 
   zero_or_ood : (i row : ℕ) → IsZeroAt i row → LacksOod → ⊥
-  zero_or_ood i row z o = let b = job_batch job in zero_alone b.setting b.prover b.statement b.traces b.degree_bits numbers (i, row, z) o
+  zero_or_ood i row z o = let b = job_batch version job in zero_alone b.setting b.prover b.statement b.traces b.degree_bits numbers (i, row, z) o
 
-  lookup_or_proof : (q : ToolProofData) → LacksLookup → IsJobProof job q → ⊥
-  lookup_or_proof q a P = let b = job_batch job in lookup_event b.setting b.prover b.statement b.traces b.degree_bits numbers q.lookup_pow_witness a P.lookup_ground
+  lookup_or_proof : (q : ToolProofData) → LacksLookup → IsJobProof version job q → ⊥
+  lookup_or_proof q a P = let b = job_batch version job in lookup_event b.setting b.prover b.statement b.traces b.degree_bits numbers q.lookup_pow_witness a P.lookup_ground
 
-  zero_or_proof : (q : ToolProofData) (i row : ℕ) → IsZeroAt i row → IsJobProof job q → ⊥
+  zero_or_proof : (q : ToolProofData) (i row : ℕ) → IsZeroAt i row → IsJobProof version job q → ⊥
   zero_or_proof q i row z P =
-      let b = job_batch job in denominator_event b.setting b.prover b.statement b.traces b.degree_bits numbers i row q.lookup_pow_witness z P.lookup_ground P.has_fractions
+      let b = job_batch version job in denominator_event b.setting b.prover b.statement b.traces b.degree_bits numbers i row q.lookup_pow_witness z P.lookup_ground P.has_fractions
 
-  ood_or_proof : (q : ToolProofData) → LacksOod → IsJobProof job q → ⊥
+  ood_or_proof : (q : ToolProofData) → LacksOod → IsJobProof version job q → ⊥
   ood_or_proof q o P =
-      let b = job_batch job in ood_event b.setting b.prover b.statement b.traces b.degree_bits numbers q.lookup_pow_witness q.ood_pow_witness o P.lookup_ground P.ood_ground
+      let b = job_batch version job in ood_event b.setting b.prover b.statement b.traces b.degree_bits numbers q.lookup_pow_witness q.ood_pow_witness o P.lookup_ground P.ood_ground
 
   -- so a balanced job's refusal is one,
   abbrev IsEventText : List ℕ → Type 0
-  IsEventText x = LacksLookupText job x ⊎ (IsZeroText job x ⊎ (LacksOodText job x ⊎ IsInsideText job x))
+  IsEventText x = LacksLookupText version job x ⊎ (IsZeroText version job x ⊎ (LacksOodText version job x ⊎ IsInsideText version job x))
 
   event_once : (x y : List ℕ) → IsEventText x → IsEventText y → x ≡ y
   event_once x y (inl a) (inl b) = a.1 ∙ sym b.1
@@ -111,24 +112,24 @@ module _ (job : List (JobTable BabyBear)) where
   event_once x y (inr (inr (inr p))) (inr (inr (inl o))) = absurd (ood_or_proof p.0.0 o.0 p.0.1)
   event_once x y (inr (inr (inr p))) (inr (inr (inr r))) = p.1 ∙ sym r.1
 
-  refused_once : (x y : List ℕ) → IsRefusedText job x → IsRefusedText job y → x ≡ y
+  refused_once : (x y : List ℕ) → IsRefusedText version job x → IsRefusedText version job y → x ≡ y
   refused_once x y (inl a) (inl b) = unbalanced_once x y a b
   refused_once x y (inl a) (inr b) = absurd (not_both x a b.0)
   refused_once x y (inr a) (inl b) = absurd (not_both y b a.0)
   refused_once x y (inr a) (inr b) = event_once x y a.1 b.1
 
   -- and there is none beside a text that is proved
-  event_or_proof : (x y : List ℕ) → IsEventText x → IsHonestProofFile job y → ⊥
+  event_or_proof : (x y : List ℕ) → IsEventText x → IsHonestProofFile version job y → ⊥
   event_or_proof x y (inl a) P = lookup_or_proof P.proof a.0 P.honest
   event_or_proof x y (inr (inl z)) P = zero_or_proof P.proof z.0 z.1 z.2 P.honest
   event_or_proof x y (inr (inr (inl o))) P = ood_or_proof P.proof o.0 P.honest
-  event_or_proof x y (inr (inr (inr p))) P = p.0.2 (subst (DrawsOutside job) (one_proof P.proof p.0.0 P.honest p.0.1) P.outside)
+  event_or_proof x y (inr (inr (inr p))) P = p.0.2 (subst (DrawsOutside version job) (one_proof P.proof p.0.0 P.honest p.0.1) P.outside)
 
-  refused_or_proof : (x y : List ℕ) → IsRefusedText job x → IsHonestProofFile job y → ⊥
+  refused_or_proof : (x y : List ℕ) → IsRefusedText version job x → IsHonestProofFile version job y → ⊥
   refused_or_proof x y (inl a) P = not_both x a P.balanced
   refused_or_proof x y (inr a) P = event_or_proof x y a.1 P
 
-  pub one_answer : (s t : Status) (x y : List ℕ) → IsJobAnswer job s x → IsJobAnswer job t y → SameAnswer s t x y
+  pub one_answer : (s t : Status) (x y : List ℕ) → IsJobAnswer version job s x → IsJobAnswer version job t y → SameAnswer s t x y
   unfolding IsJobAnswer
   one_answer Done Done x y a b = (refl, proved_once x y a b)
   one_answer Done Refused x y a b = absurd (refused_or_proof y x b a)

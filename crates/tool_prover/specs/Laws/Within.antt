@@ -12,6 +12,9 @@ use Rattle.p3_field.specs.declared.baby_bear.BabyBear.{BabyBear}
 use Rattle.p3_field.specs.declared.quartic.QuarticExtension.{QuarticExtension}
 use Rattle.p3_matrix.specs.Matrix.{Rows}
 use Rattle.air_core.specs.Laws.Lists.{all_tabulate}
+use Rattle.transcript_version.specs.declared.TranscriptVersion.{TranscriptVersion}
+use Rattle.transcript_version.specs.declared.TranscriptVersion.TheVariants.{V1}
+use Rattle.tool_proof_files.specs.Laws.Files.{version-within}
 use Rattle.tool_lines.specs.Texts.{Between, ListWithin, OptionWithin, Unlimited}
 use Rattle.tool_proof_text.specs.Matrices.{MatrixWithin}
 use Rattle.tool_proof_text.specs.Openings.{InstanceWithin}
@@ -45,7 +48,7 @@ matrix_within : (e : CosetData BabyBear × Rows BabyBear) → IsSized 10 9168 e 
 unfolding tool_setting extension_of
 matrix_within e Z =
     let s = tool_scheme in
-    let L = tool_serves.fields in
+    let L = (tool_serves V1).fields in
     let low = Z.low in
     let C : IsCommittable s e.0 e.1 = record { has_columns = Z.has_columns; height_is = Z.height_is; fits = omega (arith, low) } in
     let wide = width-extension s L.below L.below_field L.roots e.0 e.1 C in
@@ -89,20 +92,20 @@ any_option None = tt
 any_option (Some x) = tt
 
 -- a value of the extension has four coefficients, and nothing is masked
-pub four : tool_setting.extension.dimension ≤ 4
+pub four : (version : TranscriptVersion) → (tool_setting version).extension.dimension ≤ 4
 unfolding tool_setting
-four = omega arith
+four version = omega arith
 
-pub unmasked : tool_setting.zk ≡ false
-unmasked = tool_serves.plain
+pub unmasked : (version : TranscriptVersion) → (tool_setting version).zk ≡ false
+unmasked version = (tool_serves version).plain
 
-module _ (job : List (JobTable BabyBear)) (many : length job ≤ 8) (within : All IsJobTableWithin job) where
-  pub few_tables : table_count (job_batch job) ≤ 8
-  few_tables = let n = as_many job in omega (arith, n, many)
+module _ (version : TranscriptVersion) (job : List (JobTable BabyBear)) (many : length job ≤ 8) (within : All IsJobTableWithin job) where
+  pub few_tables : table_count (job_batch version job) ≤ 8
+  few_tables = let n = as_many version job in omega (arith, n, many)
 
-  pub fields : FieldsLaws tool_setting.field tool_setting.extension tool_setting.two_adicity (job_batch job).prover.inverse
+  pub fields : FieldsLaws (tool_setting version).field (tool_setting version).extension (tool_setting version).two_adicity (job_batch version job).prover.inverse
   unfolding tool_prover
-  fields = tool_serves.fields
+  fields = (tool_serves version).fields
 
   bits_within : ListWithin 0 1024 (Between 0 255) (map job_log_height_of job)
   bits_within =
@@ -115,83 +118,83 @@ module _ (job : List (JobTable BabyBear)) (many : length job ≤ 8) (within : Al
             (omega arith, omega (arith, e, low)),
       )
 
-  pub low : (i : ℕ) → i < table_count (job_batch job) → (table_at (job_batch job) i).degree_bits ≤ 10
-  low i l = (tables_sized job within i l).rows
+  pub low : (i : ℕ) → i < table_count (job_batch version job) → (table_at (job_batch version job) i).degree_bits ≤ 10
+  low i l = (tables_sized version job within i l).rows
 
-  pub narrow : (i : ℕ) → i < table_count (job_batch job) → (declared (table_at (job_batch job) i)).width ≤ 9168
-  narrow i l = let n = (tables_sized job within i l).columns in omega (arith, n)
+  pub narrow : (i : ℕ) → i < table_count (job_batch version job) → (declared (table_at (job_batch version job) i)).width ≤ 9168
+  narrow i l = let n = (tables_sized version job within i l).columns in omega (arith, n)
 
-  pub few_flat : (i : ℕ) → i < table_count (job_batch job) → (length (table_at (job_batch job) i).lookups + 1) * tool_setting.extension.dimension ≤ 9168
+  pub few_flat : (i : ℕ) → i < table_count (job_batch version job) → (length (table_at (job_batch version job) i).lookups + 1) * (tool_setting version).extension.dimension ≤ 9168
   unfolding tool_setting
-  few_flat i l = let n = (tables_sized job within i l).lookups in omega (arith, n)
+  few_flat i l = let n = (tables_sized version job within i l).lookups in omega (arith, n)
 
-  mains : All (IsSized 10 9168) (main_matrices (job_batch job))
+  mains : All (IsSized 10 9168) (main_matrices (job_batch version job))
   unfolding tool_setting
   mains =
-      mains_sized tool_scheme tool_serves.fields.below tool_serves.fields.below_field tool_serves.fields.roots (job_batch job) fields unmasked (tables_traced job within) 10 9168 (omega arith) low narrow few_flat (let n = four in omega (arith, n))
+      mains_sized tool_scheme (tool_serves version).fields.below (tool_serves version).fields.below_field (tool_serves version).fields.roots (job_batch version job) fields (unmasked version) (tables_traced version job within) 10 9168 (omega arith) low narrow few_flat (let n = (four version) in omega (arith, n))
 
-  pub mains_few : length (main_matrices (job_batch job)) ≤ 8
+  pub mains_few : length (main_matrices (job_batch version job)) ≤ 8
   mains_few =
       let n = few_tables in
-      let at : ℕ → TracedTable BabyBear = table_at (job_batch job) in
-      let long = length-tabulate (table_count (job_batch job)) at in
-      let on : TracedTable BabyBear → CosetData BabyBear × Rows BabyBear = λ t. (subgroup tool_setting.field.ring t.degree_bits, t.trace) in
-      let laid = length-map (tabulate (table_count (job_batch job)) at) on in
+      let at : ℕ → TracedTable BabyBear = table_at (job_batch version job) in
+      let long = length-tabulate (table_count (job_batch version job)) at in
+      let on : TracedTable BabyBear → CosetData BabyBear × Rows BabyBear = λ t. (subgroup (tool_setting version).field.ring t.degree_bits, t.trace) in
+      let laid = length-map (tabulate (table_count (job_batch version job)) at) on in
       omega (arith, n, long, laid)
 
   module _ (w : Option BabyBear) (z : BabyBear) where
     abbrev folding : QuarticExtension
-    folding = let b = job_batch job in alpha b.setting b.prover b.statement b.traces b.degree_bits w
+    folding = let b = job_batch version job in alpha b.setting b.prover b.statement b.traces b.degree_bits w
 
     abbrev drawn : QuarticExtension
-    drawn = let b = job_batch job in zeta b.setting b.prover b.statement b.traces b.degree_bits w z
+    drawn = let b = job_batch version job in zeta b.setting b.prover b.statement b.traces b.degree_bits w z
 
     abbrev challenges : ℕ → List QuarticExtension
-    challenges i = let b = job_batch job in challenges_at b.setting b.prover b.statement b.traces b.degree_bits w i
+    challenges i = let b = job_batch version job in challenges_at b.setting b.prover b.statement b.traces b.degree_bits w i
 
-    instance_within : (i : ℕ) → i < table_count (job_batch job) → InstanceWithin (opened_of tool_setting (job_batch job).prover (table_at (job_batch job) i) (challenges i) folding drawn)
+    instance_within : (i : ℕ) → i < table_count (job_batch version job) → InstanceWithin (opened_of (tool_setting version) (job_batch version job).prover (table_at (job_batch version job) i) (challenges i) folding drawn)
     instance_within i l =
-        let small = tables_sized job within i l in
-        opened_within tool_setting (job_batch job).prover (table_at (job_batch job) i) (challenges i) fields (tables_divided job within i l) (tables_traced job within i l) four small.columns small.preprocessed small.lookups small.parts
+        let small = tables_sized version job within i l in
+        opened_within (tool_setting version) (job_batch version job).prover (table_at (job_batch version job) i) (challenges i) fields (tables_divided version job within i l) (tables_traced version job within i l) (four version) small.columns small.preprocessed small.lookups small.parts
         folding drawn
 
-    permutations : All (IsSized 10 9168) (all_permutations (job_batch job) w)
+    permutations : All (IsSized 10 9168) (all_permutations (job_batch version job) w)
     unfolding tool_setting
     permutations =
-        all_permutations_sized tool_scheme tool_serves.fields.below tool_serves.fields.below_field tool_serves.fields.roots (job_batch job) fields unmasked (tables_traced job within) 10 9168 (omega arith) low narrow few_flat (let n = four in omega (arith, n)) w
+        all_permutations_sized tool_scheme (tool_serves version).fields.below (tool_serves version).fields.below_field (tool_serves version).fields.roots (job_batch version job) fields (unmasked version) (tables_traced version job within) 10 9168 (omega arith) low narrow few_flat (let n = (four version) in omega (arith, n)) w
 
-    pub permutations_few : length (all_permutations (job_batch job) w) ≤ 16
+    pub permutations_few : length (all_permutations (job_batch version job) w) ≤ 16
     permutations_few =
         let n = few_tables in
-        let m : length (all_permutations (job_batch job) w) ≤ 2 * table_count (job_batch job) = flat_few _ (table_count (job_batch job)) (λ i. i) (λ i l. where_few (table_at (job_batch job) i).lookups _) in
+        let m : length (all_permutations (job_batch version job) w) ≤ 2 * table_count (job_batch version job) = flat_few _ (table_count (job_batch version job)) (λ i. i) (λ i l. where_few (table_at (job_batch version job) i).lookups _) in
         omega (arith, n, m)
 
-    chunks : All (IsSized 10 9168) (all_chunks (job_batch job) w)
+    chunks : All (IsSized 10 9168) (all_chunks (job_batch version job) w)
     unfolding tool_setting
     chunks =
-        all_chunks_sized tool_scheme tool_serves.fields.below tool_serves.fields.below_field tool_serves.fields.roots (job_batch job) fields unmasked (tables_traced job within) 10 9168 (omega arith) low narrow few_flat (let n = four in omega (arith, n)) w
+        all_chunks_sized tool_scheme (tool_serves version).fields.below (tool_serves version).fields.below_field (tool_serves version).fields.roots (job_batch version job) fields (unmasked version) (tables_traced version job within) 10 9168 (omega arith) low narrow few_flat (let n = (four version) in omega (arith, n)) w
 
-    few_chunks : (i : ℕ) → i < table_count (job_batch job) → length (chunks_of (job_batch job) w i) ≤ 2
+    few_chunks : (i : ℕ) → i < table_count (job_batch version job) → length (chunks_of (job_batch version job) w i) ≤ 2
     few_chunks i l =
-        let two : 2 ^ log_parts_at (job_batch job) i ≤ 2 ^ 1 = power_within (log_parts_at (job_batch job) i) 1 (tables_sized job within i l).parts in
-        let n : length (chunks_of (job_batch job) w i) ≡ 2 ^ log_parts_at (job_batch job) i = length-tabulate (2 ^ log_parts_at (job_batch job) i) _ in
+        let two : 2 ^ log_parts_at (job_batch version job) i ≤ 2 ^ 1 = power_within (log_parts_at (job_batch version job) i) 1 (tables_sized version job within i l).parts in
+        let n : length (chunks_of (job_batch version job) w i) ≡ 2 ^ log_parts_at (job_batch version job) i = length-tabulate (2 ^ log_parts_at (job_batch version job) i) _ in
         omega (arith, two, n)
 
-    pub chunks_few : length (all_chunks (job_batch job) w) ≤ 16
-    chunks_few = let n = few_tables in let m = flat_few (chunks_of (job_batch job) w) (table_count (job_batch job)) (λ i. i) few_chunks in omega (arith, n, m)
+    pub chunks_few : length (all_chunks (job_batch version job) w) ≤ 16
+    chunks_few = let n = few_tables in let m = flat_few (chunks_of (job_batch version job) w) (table_count (job_batch version job)) (λ i. i) few_chunks in omega (arith, n, m)
 
-    built_within : (opening : PlainProof) → ProofWithin (let b = job_batch job in honest_proof b.setting b.prover b.statement b.traces b.degree_bits w z opening)
+    built_within : (opening : PlainProof) → ProofWithin (let b = job_batch version job in honest_proof b.setting b.prover b.statement b.traces b.degree_bits w z opening)
     unfolding honest_proof tool_prover
     built_within opening =
-        let n = table_count (job_batch job) in
+        let n = table_count (job_batch version job) in
         let few = few_tables in
-        let long = length-tabulate n (λ i. opened_of tool_setting (job_batch job).prover (table_at (job_batch job) i) (challenges i) folding drawn) in
-        let ended = length-tabulate n (λ i. honest_terminal tool_setting (job_batch job).prover (table_at (job_batch job) i) (challenges i)) in
+        let long = length-tabulate n (λ i. opened_of (tool_setting version) (job_batch version job).prover (table_at (job_batch version job) i) (challenges i) folding drawn) in
+        let ended = length-tabulate n (λ i. honest_terminal (tool_setting version) (job_batch version job).prover (table_at (job_batch version job) i) (challenges i)) in
         record {
           commitments = record {
-            main = commitment_within (main_matrices (job_batch job)) (let m = mains_few in omega (arith, m)) mains;
-            permutation = some_within (all_permutations (job_batch job) w) permutations_few permutations;
-            quotient_chunks = commitment_within (all_chunks (job_batch job) w) chunks_few chunks;
+            main = commitment_within (main_matrices (job_batch version job)) (let m = mains_few in omega (arith, m)) mains;
+            permutation = some_within (all_permutations (job_batch version job) w) permutations_few permutations;
+            quotient_chunks = commitment_within (all_chunks (job_batch version job) w) chunks_few chunks;
             random = tt;
           };
           instances = ((omega arith, omega (arith, few, long)), all_tabulate InstanceWithin n _ instance_within);
@@ -200,15 +203,15 @@ module _ (job : List (JobTable BabyBear)) (many : length job ≤ 8) (within : Al
         }
 
   -- so is a proof that is built honestly
-  pub proof_within : (q : ToolProofData) → (let b = job_batch job in IsBuilt b.setting b.prover b.statement b.traces b.degree_bits q) → ProofWithin q
+  pub proof_within : (q : ToolProofData) → (let b = job_batch version job in IsBuilt b.setting b.prover b.statement b.traces b.degree_bits q) → ProofWithin q
   proof_within q B = subst ProofWithin (sym B.proof_is) (built_within q.lookup_pow_witness q.ood_pow_witness q.opening_proof)
 
 -- so is the proof file
-pub job_proof_within : (job : List (JobTable BabyBear)) → JobWithin job → (q : ToolProofData) → IsJobProof job q → FileWithin (file_of job q)
-job_proof_within job h q B =
+pub job_proof_within : (version : TranscriptVersion) (job : List (JobTable BabyBear)) → JobWithin job → (q : ToolProofData) → IsJobProof version job q → FileWithin (file_of version job q)
+job_proof_within version job h q B =
     let n = length-map job statement_of in
     record {
-      version = refl;
+      version = version-within version;
       tables = ((let l = h.0.0 in omega (arith, n, l), let l = h.0.1 in omega (arith, n, l)), statements-within job h.1);
-      proof = proof_within job h.0.1 h.1 q B;
+      proof = proof_within version job h.0.1 h.1 q B;
     }

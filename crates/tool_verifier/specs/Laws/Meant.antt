@@ -33,6 +33,7 @@ use Rattle.law_soundness.specs.Laws.SwapTables.{first_of, swaps_end}
 use Rattle.law_soundness.specs.Meaning.{HoldUnlessUnlucky, IsAlphaUnlucky, IsZetaUnlucky}
 use Rattle.law_soundness.specs.PlainSetting.{plain_scheme}
 use Rattle.law_hash_soundness.specs.Laws.Hashes.{row_is_compression}
+use Rattle.transcript_version.specs.declared.TranscriptVersion.{TranscriptVersion}
 use Rattle.tool_tables.specs.Laws.Tool.{tool-read}
 use Rattle.air_tables.specs.Laws.Wheel.{wheel-read}
 use Rattle.air_tables.specs.Wheel.{turns}
@@ -55,23 +56,23 @@ table_read (Take k) = tool-read baby_bear_ring (TakeTable (record {}))
 table_read (Give k) = tool-read baby_bear_ring (GiveTable (record {}))
 table_read (Hash k) = blake3_read baby_bear_ring
 
-module _ (tables : List TableStatement) (p : ToolProofData) (L : FieldsLaws baby_bear_field quartic_extension 27 quartic_inv) (B : Binds tool_scheme quartic_ring of_baby_bear_value)
-    (formed : WellFormed (map (λ (t : AirTable BabyBear). t.declaration) (map air_table_of tables)) (tool_common tables)) (accepted : Accepted tool_setting tool_backend (tool_statement tables) p) where
+module _ (version : TranscriptVersion) (tables : List TableStatement) (p : ToolProofData) (L : FieldsLaws baby_bear_field quartic_extension 27 quartic_inv) (B : Binds tool_scheme quartic_ring of_baby_bear_value)
+    (formed : WellFormed (map (λ (t : AirTable BabyBear). t.declaration) (map air_table_of tables)) (tool_common tables)) (accepted : Accepted (tool_setting version) tool_backend (tool_statement tables) p) where
   abbrev s : Statement BabyBear (PlainCommitmentData BabyBear)
   s = tool_statement tables
 
-  fields : FieldsLaws tool_setting.field tool_setting.extension tool_setting.two_adicity quartic_inv
-  fields = laws_of_tool quartic_inv L
+  fields : FieldsLaws (tool_setting version).field (tool_setting version).extension (tool_setting version).two_adicity quartic_inv
+  fields = laws_of_tool version quartic_inv L
 
-  binds : Binds (plain_scheme tool_setting 1) tool_setting.extension.ring tool_setting.extension.embed
-  binds = binds_of_tool B
+  binds : Binds (plain_scheme (tool_setting version) 1) (tool_setting version).extension.ring (tool_setting version).extension.embed
+  binds = binds_of_tool version B
 
   reads : ReadDeclared s
   reads = All-map (λ (t : AirTable BabyBear). All (ReadsDeclared (declared_shape t.declaration)) t.trees) air_table_of tables (λ k t l. table_read _)
 
   -- all tables hold, or a challenge is unlucky
-  pub tables_hold : HoldUnlessUnlucky tool_setting 1 s p
-  tables_hold = batch_holds tool_setting tool_backend 1 s p quartic_inv fields plain_tool binds formed accepted reads
+  pub tables_hold : HoldUnlessUnlucky (tool_setting version) 1 s p
+  tables_hold = batch_holds (tool_setting version) tool_backend 1 s p quartic_inv fields (plain_tool version) binds formed accepted reads
 
   -- a table at its place
   module _ (i : ℕ) (t : TableStatement) (at : slice_get tables i ≡ Some t) where
@@ -91,34 +92,34 @@ module _ (tables : List TableStatement) (p : ToolProofData) (L : FieldsLaws baby
     publics_are = get_or-map publics_of tables i (Take 0) [] within ∙ ap publics_of here
 
   -- swap tables
-  pub swaps : SwapsEnd tables p
+  pub swaps : SwapsEnd version tables p
   swaps no_alpha no_zeta i k a b x at =
-      swaps_end tool_setting 1 s p quartic_inv fields (first_of tables_hold no_alpha no_zeta) (heights_fit tool_setting tool_backend 1 s p quartic_inv fields plain_tool binds formed accepted) i a b x
+      swaps_end (tool_setting version) 1 s p quartic_inv fields (first_of tables_hold no_alpha no_zeta) (heights_fit (tool_setting version) tool_backend 1 s p quartic_inv fields (plain_tool version) binds formed accepted) i a b x
       (placed i (Swap k a b x) at) (ap (λ (t : AirTable BabyBear). t.trees) (stated_is i (Swap k a b x) at)) (publics_are i (Swap k a b x) at)
 
   -- the constraints of a hash table
-  trees_of_hash : (i k : ℕ) → slice_get tables i ≡ Some (Hash k) → Holds tool_setting.field tool_setting.extension (committed_table_at tool_setting 1 s p i) (stated_table s i).trees
-      → Holds tool_setting.field tool_setting.extension (committed_table_at tool_setting 1 s p i) (blake3_trees tool_setting.field.ring)
+  trees_of_hash : (i k : ℕ) → slice_get tables i ≡ Some (Hash k) → Holds (tool_setting version).field (tool_setting version).extension (committed_table_at (tool_setting version) 1 s p i) (stated_table s i).trees
+      → Holds (tool_setting version).field (tool_setting version).extension (committed_table_at (tool_setting version) 1 s p i) (blake3_trees (tool_setting version).field.ring)
   unfolding tool_setting
-  trees_of_hash i k at h = subst (λ (u : AirTable BabyBear). Holds tool_setting.field tool_setting.extension (committed_table_at tool_setting 1 s p i) u.trees) (stated_is i (Hash k) at) h
+  trees_of_hash i k at h = subst (λ (u : AirTable BabyBear). Holds (tool_setting version).field (tool_setting version).extension (committed_table_at (tool_setting version) 1 s p i) u.trees) (stated_is i (Hash k) at) h
 
   -- rows of hash tables
-  rows_are_compressions : RowMeans tool_setting.field.ring → HaveStatedHeights tables p.degree_bits
-      → (IsAlphaUnlucky tool_setting 1 s p → ⊥) → (IsZetaUnlucky tool_setting 1 s p → ⊥) → (i k row : ℕ) → slice_get tables i ≡ Some (Hash k) → row < 2 ^ k
-      → (x : Input) × AreWords x × (committed_cells tables p i row ≡ trace_row tool_setting.field.ring x)
+  rows_are_compressions : RowMeans (tool_setting version).field.ring → HaveStatedHeights tables p.degree_bits
+      → (IsAlphaUnlucky (tool_setting version) 1 s p → ⊥) → (IsZetaUnlucky (tool_setting version) 1 s p → ⊥) → (i k row : ℕ) → slice_get tables i ≡ Some (Hash k) → row < 2 ^ k
+      → (x : Input) × AreWords x × (committed_cells tables p i row ≡ trace_row (tool_setting version).field.ring x)
   rows_are_compressions means heights no_alpha no_zeta i k row at inside =
-      let t : CommittedTable BabyBear QuarticExtension = committed_table_at tool_setting 1 s p i in
+      let t : CommittedTable BabyBear QuarticExtension = committed_table_at (tool_setting version) 1 s p i in
       let below = placed i (Hash k) at in
       let holds = first_of tables_hold no_alpha no_zeta in
-      let own = all_of_tabulate (λ (t : DividedTable BabyBear QuarticExtension). Holds tool_setting.field tool_setting.extension t.table t.trees) (length s.tables) (committed_at tool_setting 1 s p) holds i below in
-      let first = holds_before tool_setting.field tool_setting.extension t (stated_table s i).trees (lookup_trees tool_setting.field.ring (lookups_at s i)) own in
-      let columns = (columns_declared tool_setting tool_backend 1 s p quartic_inv fields plain_tool binds formed accepted i below).main in
+      let own = all_of_tabulate (λ (t : DividedTable BabyBear QuarticExtension). Holds (tool_setting version).field (tool_setting version).extension t.table t.trees) (length s.tables) (committed_at (tool_setting version) 1 s p) holds i below in
+      let first = holds_before (tool_setting version).field (tool_setting version).extension t (stated_table s i).trees (lookup_trees (tool_setting version).field.ring (lookups_at s i)) own in
+      let columns = (columns_declared (tool_setting version) tool_backend 1 s p quartic_inv fields (plain_tool version) binds formed accepted i below).main in
       let wide = ap (λ (u : AirTable BabyBear). u.declaration.width) (stated_is i (Hash k) at) in
-      row_is_compression tool_setting.field tool_setting.extension tool_setting.two_adicity quartic_inv fields t means (columns ∙ wide) (trees_of_hash i k at first) row
-      (subst (λ n. row < 2 ^ n) (sym (degree tables p quartic_inv L B formed accepted heights i k at)) inside)
+      row_is_compression (tool_setting version).field (tool_setting version).extension (tool_setting version).two_adicity quartic_inv fields t means (columns ∙ wide) (trees_of_hash i k at first) row
+      (subst (λ n. row < 2 ^ n) (sym (degree version tables p quartic_inv L B formed accepted heights i k at)) inside)
 
   -- so each is printed as a compression
-  pub hashes : RowMeans baby_bear_ring → HaveStatedHeights tables p.degree_bits → PrintCompressions tables p
+  pub hashes : RowMeans baby_bear_ring → HaveStatedHeights tables p.degree_bits → PrintCompressions version tables p
   unfolding tool_setting
   hashes means heights no_alpha no_zeta i k row at inside =
       let (x, words, cells) = rows_are_compressions means heights no_alpha no_zeta i k row at inside in

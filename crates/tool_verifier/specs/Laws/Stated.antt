@@ -14,6 +14,7 @@ use Rattle.batch_statement.specs.Verdict.{IsRefusal, IsVerdict}
 use Rattle.batch_statement.specs.Statement.{Common, Statement, AirTable, WellFormed, tables_of}
 use Rattle.batch_statement.specs.declared.error.BatchVerificationError.{BatchVerificationError}
 use Rattle.verifier_batch.specs.BatchChecks.{checks}
+use Rattle.transcript_version.specs.declared.TranscriptVersion.{TranscriptVersion}
 use Rattle.tool_tables.specs.Tool.{tool_declaration, tool_interactions, tool_trees}
 use Rattle.tool_tables.specs.declared.tool.ToolAir.{ToolAir}
 use Rattle.tool_statement.specs.Config.{backend_of, tool_backend, tool_setting}
@@ -42,31 +43,31 @@ abbrev pub ToolSetting : Type 0
 ToolSetting = Setting Sha256Challenger BabyBear QuarticExtension (PlainCommitmentData BabyBear)
 
 -- the checks of a configuration that is the program's
-pub single_is : (c : ToolSetting) (b : Blowup) (s : Statement BabyBear (PlainCommitmentData BabyBear)) (p : ToolProofData) → c ≡ tool_setting → b ≡ record { log_blowup = 1 }
-    → AreSingle (checks c (backend_of (scheme baby_bear_ring baby_bear_inv baby_bear_root (reduce 31) 27 b)) s p) → AreSingle (checks tool_setting tool_backend s p)
+pub single_is : (version : TranscriptVersion) (c : ToolSetting) (b : Blowup) (s : Statement BabyBear (PlainCommitmentData BabyBear)) (p : ToolProofData) → c ≡ (tool_setting version) → b ≡ record { log_blowup = 1 }
+    → AreSingle (checks c (backend_of (scheme baby_bear_ring baby_bear_inv baby_bear_root (reduce 31) 27 b)) s p) → AreSingle (checks (tool_setting version) tool_backend s p)
 unfolding tool_backend
-single_is c b s p e f h =
+single_is version c b s p e f h =
     subst (λ (d : ToolSetting). AreSingle (checks d (backend_of (scheme baby_bear_ring baby_bear_inv baby_bear_root (reduce 31) 27 (record { log_blowup = 1 }))) s p)) e
     (subst (λ (a : Blowup). AreSingle (checks c (backend_of (scheme baby_bear_ring baby_bear_inv baby_bear_root (reduce 31) 27 a)) s p)) f h)
 
 -- and what it says of a statement with these tables, public values and data
-pub verdict_is : {T : Type 0} (c : ToolSetting) (b : Blowup) (ts us : List (AirTable BabyBear)) (ps qs : List (List BabyBear)) (m n : Common BabyBear (PlainCommitmentData BabyBear)) (p : ToolProofData)
-    (r : Result T (BatchVerificationError PlainError)) → c ≡ tool_setting → b ≡ record { log_blowup = 1 } → ts ≡ us → ps ≡ qs → m ≡ n
+pub verdict_is : {T : Type 0} (version : TranscriptVersion) (c : ToolSetting) (b : Blowup) (ts us : List (AirTable BabyBear)) (ps qs : List (List BabyBear)) (m n : Common BabyBear (PlainCommitmentData BabyBear)) (p : ToolProofData)
+    (r : Result T (BatchVerificationError PlainError)) → c ≡ (tool_setting version) → b ≡ record { log_blowup = 1 } → ts ≡ us → ps ≡ qs → m ≡ n
     → IsVerdict (checks c (backend_of (scheme baby_bear_ring baby_bear_inv baby_bear_root (reduce 31) 27 b)) (record { tables = ts; publics = ps; common = m }) p) r
-    → IsVerdict (checks tool_setting tool_backend (record { tables = us; publics = qs; common = n }) p) r
+    → IsVerdict (checks (tool_setting version) tool_backend (record { tables = us; publics = qs; common = n }) p) r
 unfolding tool_backend
-verdict_is c b ts us ps qs m n p r e f t q k h =
+verdict_is version c b ts us ps qs m n p r e f t q k h =
     let same : record { tables = ts; publics = ps; common = m } ≡ record { tables = us; publics = qs; common = n } = λ i. record { tables = t i; publics = q i; common = k i } in
-    subst (λ (s : Statement BabyBear (PlainCommitmentData BabyBear)). IsVerdict (checks tool_setting (backend_of (scheme baby_bear_ring baby_bear_inv baby_bear_root (reduce 31) 27 (record { log_blowup = 1 }))) s p) r) same
+    subst (λ (s : Statement BabyBear (PlainCommitmentData BabyBear)). IsVerdict (checks (tool_setting version) (backend_of (scheme baby_bear_ring baby_bear_inv baby_bear_root (reduce 31) 27 (record { log_blowup = 1 }))) s p) r) same
     (subst (λ (d : ToolSetting). IsVerdict (checks d (backend_of (scheme baby_bear_ring baby_bear_inv baby_bear_root (reduce 31) 27 (record { log_blowup = 1 }))) (record { tables = ts; publics = ps; common = m }) p) r) e
     (subst (λ (a : Blowup). IsVerdict (checks c (backend_of (scheme baby_bear_ring baby_bear_inv baby_bear_root (reduce 31) 27 a)) (record { tables = ts; publics = ps; common = m }) p) r) f h))
 
 -- the same of its refusals
-pub refusal_is : (c : ToolSetting) (b : Blowup) (ts us : List (AirTable BabyBear)) (ps qs : List (List BabyBear)) (m n : Common BabyBear (PlainCommitmentData BabyBear)) (p : ToolProofData)
-    (r : BatchVerificationError PlainError) → c ≡ tool_setting → b ≡ record { log_blowup = 1 } → ts ≡ us → ps ≡ qs → m ≡ n
+pub refusal_is : (version : TranscriptVersion) (c : ToolSetting) (b : Blowup) (ts us : List (AirTable BabyBear)) (ps qs : List (List BabyBear)) (m n : Common BabyBear (PlainCommitmentData BabyBear)) (p : ToolProofData)
+    (r : BatchVerificationError PlainError) → c ≡ (tool_setting version) → b ≡ record { log_blowup = 1 } → ts ≡ us → ps ≡ qs → m ≡ n
     → IsRefusal (checks c (backend_of (scheme baby_bear_ring baby_bear_inv baby_bear_root (reduce 31) 27 b)) (record { tables = ts; publics = ps; common = m }) p) r
-    → IsRefusal (checks tool_setting tool_backend (record { tables = us; publics = qs; common = n }) p) r
-refusal_is c b ts us ps qs m n p r e f t q k h = verdict_is {T = Unit {0}} c b ts us ps qs m n p (Err r) e f t q k h
+    → IsRefusal (checks (tool_setting version) tool_backend (record { tables = us; publics = qs; common = n }) p) r
+refusal_is version c b ts us ps qs m n p r e f t q k h = verdict_is {T = Unit {0}} version c b ts us ps qs m n p (Err r) e f t q k h
 
 -- common data that is well-formed for the AIRs is so for the tables
 pub formed_is : (tables : List TableStatement) (airs : List (ToolAir BabyBear)) (m n : Common BabyBear (PlainCommitmentData BabyBear)) → map (source_of (tool_declaration baby_bear_ring) (tool_trees baby_bear_ring) (tool_interactions baby_bear_ring)) airs ≡ sources_of tables

@@ -4,7 +4,7 @@ use Rattle.law_tool_refusals.proofs.Tables.{tables_may_come}
 use Rattle.law_tool_refusals.proofs.laws.verify_refuses_only_so.Goals as goal
 
 pub returns-clause-fault : goal.returns-clause-fault
-returns-clause-fault c tables p e within few heights first = tables_may_come tables within few p heights e first
+returns-clause-fault c version tables p e within few heights first = tables_may_come version tables within few p heights e first
 
 pub returns-clause-line : goal.returns-clause-line
 returns-clause-line c bytes text answer = line_may_come bytes text answer

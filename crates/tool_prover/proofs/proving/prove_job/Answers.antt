@@ -41,7 +41,7 @@ instances_of-requires-clause-public_values c =
 
 pub prove_batch_with_point-requires-clause-traced : goal.prove_batch_with_point-requires-clause-traced
 prove_batch_with_point-requires-clause-traced c =
-    let U : IsSetUp (read_tables c.args.job.now) c.args.tables.now _ c.tool_config-config.result.pcs c.in_ok-airs.airs.items c.in_ok-traces.traces.items (map items c.in_ok-public_values.public_values.items) c.in_ok-data.data.common
+    let U : IsSetUp c.args.version (read_tables c.args.job.now) c.args.tables.now _ c.tool_config-config.result.pcs c.in_ok-airs.airs.items c.in_ok-traces.traces.items (map items c.in_ok-public_values.public_values.items) c.in_ok-data.data.common
     c.in_ok-data.data.prover_only.preprocessed_prover_data c.deref-5.result.now = record {
       within = c.requires.within;
       balanced = c.requires.balanced;
@@ -56,11 +56,11 @@ prove_batch_with_point-requires-clause-traced c =
       prepared = c.in_ok-data.ensures.prover_data;
       instances_are = c.deref-5.ensures.value ∙ (c.in_ok-instances.ensures ∙ (λ i. instances_of (c.deref-2.ensures.value i) (c.deref-3.ensures.value i) (map items (c.deref-4.ensures.value i))));
     } in
-    batch_traced _ _ _ _ _ _ _ _ _ _ U
+    batch_traced _ _ _ _ _ _ _ _ _ _ _ U
 
 pub prove_batch_with_point-requires-clause-prover_data : goal.prove_batch_with_point-requires-clause-prover_data
 prove_batch_with_point-requires-clause-prover_data c =
-    let U : IsSetUp (read_tables c.args.job.now) c.args.tables.now _ c.tool_config-config.result.pcs c.in_ok-airs.airs.items c.in_ok-traces.traces.items (map items c.in_ok-public_values.public_values.items) c.in_ok-data.data.common
+    let U : IsSetUp c.args.version (read_tables c.args.job.now) c.args.tables.now _ c.tool_config-config.result.pcs c.in_ok-airs.airs.items c.in_ok-traces.traces.items (map items c.in_ok-public_values.public_values.items) c.in_ok-data.data.common
     c.in_ok-data.data.prover_only.preprocessed_prover_data c.deref-5.result.now = record {
       within = c.requires.within;
       balanced = c.requires.balanced;
@@ -75,11 +75,11 @@ prove_batch_with_point-requires-clause-prover_data c =
       prepared = c.in_ok-data.ensures.prover_data;
       instances_are = c.deref-5.ensures.value ∙ (c.in_ok-instances.ensures ∙ (λ i. instances_of (c.deref-2.ensures.value i) (c.deref-3.ensures.value i) (map items (c.deref-4.ensures.value i))));
     } in
-    batch_kept _ _ _ _ _ _ _ _ _ _ U
+    batch_kept _ _ _ _ _ _ _ _ _ _ _ U
 
 pub returns-in_err-proof-clause-refusal : goal.returns-in_err-proof-clause-refusal
 returns-in_err-proof-clause-refusal c =
-    let U : IsSetUp (read_tables c.args.job.now) c.args.tables.now _ c.tool_config-config.result.pcs c.in_ok-airs.airs.items c.in_ok-traces.traces.items (map items c.in_ok-public_values.public_values.items) c.in_ok-data.data.common
+    let U : IsSetUp c.args.version (read_tables c.args.job.now) c.args.tables.now _ c.tool_config-config.result.pcs c.in_ok-airs.airs.items c.in_ok-traces.traces.items (map items c.in_ok-public_values.public_values.items) c.in_ok-data.data.common
     c.in_ok-data.data.prover_only.preprocessed_prover_data c.deref-5.result.now = record {
       within = c.requires.within;
       balanced = c.requires.balanced;
@@ -94,11 +94,11 @@ returns-in_err-proof-clause-refusal c =
       prepared = c.in_ok-data.ensures.prover_data;
       instances_are = c.deref-5.ensures.value ∙ (c.in_ok-instances.ensures ∙ (λ i. instances_of (c.deref-2.ensures.value i) (c.deref-3.ensures.value i) (map items (c.deref-4.ensures.value i))));
     } in
-    refusal_there _ _ _ _ _ _ _ _ _ _ U c.from_residual-in_err-proof.result c.in_err-proof.field-0.0 c.from_residual-in_err-proof.ensures.1 c.in_err-proof.ensures.verdict
+    refusal_there _ _ _ _ _ _ _ _ _ _ _ U c.from_residual-in_err-proof.result c.in_err-proof.field-0.0 c.from_residual-in_err-proof.ensures.1 c.in_err-proof.ensures.verdict
 
 pub returns-then-not-is_outside-clause-outcome : goal.returns-then-not-is_outside-clause-outcome
 returns-then-not-is_outside-clause-outcome c =
-    let U : IsSetUp (read_tables c.args.job.now) c.args.tables.now _ c.tool_config-config.result.pcs c.in_ok-airs.airs.items c.in_ok-traces.traces.items (map items c.in_ok-public_values.public_values.items) c.in_ok-data.data.common
+    let U : IsSetUp c.args.version (read_tables c.args.job.now) c.args.tables.now _ c.tool_config-config.result.pcs c.in_ok-airs.airs.items c.in_ok-traces.traces.items (map items c.in_ok-public_values.public_values.items) c.in_ok-data.data.common
     c.in_ok-data.data.prover_only.preprocessed_prover_data c.deref-5.result.now = record {
       within = c.requires.within;
       balanced = c.requires.balanced;
@@ -113,11 +113,11 @@ returns-then-not-is_outside-clause-outcome c =
       prepared = c.in_ok-data.ensures.prover_data;
       instances_are = c.deref-5.ensures.value ∙ (c.in_ok-instances.ensures ∙ (λ i. instances_of (c.deref-2.ensures.value i) (c.deref-3.ensures.value i) (map items (c.deref-4.ensures.value i))));
     } in
-    inside_there _ _ _ _ _ _ _ _ _ _ U c.in_ok-proof.proof c.in_ok-proof.point c.in_ok-proof.ensures.proved c.in_ok-proof.ensures.point c.if-not-is_outside.ensures
+    inside_there _ _ _ _ _ _ _ _ _ _ _ U c.in_ok-proof.proof c.in_ok-proof.point c.in_ok-proof.ensures.proved c.in_ok-proof.ensures.point c.if-not-is_outside.ensures
 
 pub accepted_means-requires-clause-accepted : goal.accepted_means-requires-clause-accepted
 accepted_means-requires-clause-accepted c =
-    let U : IsSetUp (read_tables c.args.job.now) c.args.tables.now _ c.tool_config-config.result.pcs c.in_ok-airs.airs.items c.in_ok-traces.traces.items (map items c.in_ok-public_values.public_values.items) c.in_ok-data.data.common
+    let U : IsSetUp c.args.version (read_tables c.args.job.now) c.args.tables.now _ c.tool_config-config.result.pcs c.in_ok-airs.airs.items c.in_ok-traces.traces.items (map items c.in_ok-public_values.public_values.items) c.in_ok-data.data.common
     c.in_ok-data.data.prover_only.preprocessed_prover_data c.deref-5.result.now = record {
       within = c.requires.within;
       balanced = c.requires.balanced;
@@ -132,12 +132,12 @@ accepted_means-requires-clause-accepted c =
       prepared = c.in_ok-data.ensures.prover_data;
       instances_are = c.deref-5.ensures.value ∙ (c.in_ok-instances.ensures ∙ (λ i. instances_of (c.deref-2.ensures.value i) (c.deref-3.ensures.value i) (map items (c.deref-4.ensures.value i))));
     } in
-    accepted_for _ _ _ _ _ _ _ _ _ _ U c.in_ok-proof.proof c.in_ok-proof.ensures.accepted
-    (outside_there _ _ _ _ _ _ _ _ _ _ U c.in_ok-proof.proof c.in_ok-proof.point c.in_ok-proof.ensures.point c.if-not-is_outside.ensures)
+    accepted_for _ _ _ _ _ _ _ _ _ _ _ U c.in_ok-proof.proof c.in_ok-proof.ensures.accepted
+    (outside_there _ _ _ _ _ _ _ _ _ _ _ U c.in_ok-proof.proof c.in_ok-proof.point c.in_ok-proof.ensures.point c.if-not-is_outside.ensures)
 
 pub accepted_means-requires-clause-formed : goal.accepted_means-requires-clause-formed
 accepted_means-requires-clause-formed c =
-    let U : IsSetUp (read_tables c.args.job.now) c.args.tables.now _ c.tool_config-config.result.pcs c.in_ok-airs.airs.items c.in_ok-traces.traces.items (map items c.in_ok-public_values.public_values.items) c.in_ok-data.data.common
+    let U : IsSetUp c.args.version (read_tables c.args.job.now) c.args.tables.now _ c.tool_config-config.result.pcs c.in_ok-airs.airs.items c.in_ok-traces.traces.items (map items c.in_ok-public_values.public_values.items) c.in_ok-data.data.common
     c.in_ok-data.data.prover_only.preprocessed_prover_data c.deref-5.result.now = record {
       within = c.requires.within;
       balanced = c.requires.balanced;
@@ -152,11 +152,11 @@ accepted_means-requires-clause-formed c =
       prepared = c.in_ok-data.ensures.prover_data;
       instances_are = c.deref-5.ensures.value ∙ (c.in_ok-instances.ensures ∙ (λ i. instances_of (c.deref-2.ensures.value i) (c.deref-3.ensures.value i) (map items (c.deref-4.ensures.value i))));
     } in
-    formed_there _ _ _ _ _ _ _ _ _ _ U
+    formed_there _ _ _ _ _ _ _ _ _ _ _ U
 
 pub returns-clause-outcome : goal.returns-clause-outcome
 returns-clause-outcome c =
-    let U : IsSetUp (read_tables c.args.job.now) c.args.tables.now _ c.tool_config-config.result.pcs c.in_ok-airs.airs.items c.in_ok-traces.traces.items (map items c.in_ok-public_values.public_values.items) c.in_ok-data.data.common
+    let U : IsSetUp c.args.version (read_tables c.args.job.now) c.args.tables.now _ c.tool_config-config.result.pcs c.in_ok-airs.airs.items c.in_ok-traces.traces.items (map items c.in_ok-public_values.public_values.items) c.in_ok-data.data.common
     c.in_ok-data.data.prover_only.preprocessed_prover_data c.deref-5.result.now = record {
       within = c.requires.within;
       balanced = c.requires.balanced;
@@ -171,6 +171,6 @@ returns-clause-outcome c =
       prepared = c.in_ok-data.ensures.prover_data;
       instances_are = c.deref-5.ensures.value ∙ (c.in_ok-instances.ensures ∙ (λ i. instances_of (c.deref-2.ensures.value i) (c.deref-3.ensures.value i) (map items (c.deref-4.ensures.value i))));
     } in
-    outcome_there _ _ _ _ _ _ _ _ _ _ U c.in_ok-proof.proof c.in_ok-proof.ensures.proved
-    (outside_there _ _ _ _ _ _ _ _ _ _ U c.in_ok-proof.proof c.in_ok-proof.point c.in_ok-proof.ensures.point c.if-not-is_outside.ensures) c.in_ok-proof.ensures.accepted
+    outcome_there _ _ _ _ _ _ _ _ _ _ _ U c.in_ok-proof.proof c.in_ok-proof.ensures.proved
+    (outside_there _ _ _ _ _ _ _ _ _ _ _ U c.in_ok-proof.proof c.in_ok-proof.point c.in_ok-proof.ensures.point c.if-not-is_outside.ensures) c.in_ok-proof.ensures.accepted
     c.accepted_means.ensures.holds c.accepted_means.ensures.swaps c.accepted_means.ensures.hashes

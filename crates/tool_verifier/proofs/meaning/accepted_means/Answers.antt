@@ -5,16 +5,16 @@ use Rattle.tool_verifier.proofs.meaning.accepted_means.Goals as goal
 
 pub returns-clause-holds : goal.returns-clause-holds
 returns-clause-holds c =
-    tables_hold c.args.tables.now c.args.proof.now c.baby_bear_has_laws.ensures (c.opened_claims_bind.ensures (record { log_blowup = 1 })) c.requires.formed c.requires.accepted
+    tables_hold c.args.version c.args.tables.now c.args.proof.now c.baby_bear_has_laws.ensures (c.opened_claims_bind.ensures (record { log_blowup = 1 })) c.requires.formed c.requires.accepted
 
 pub returns-clause-swaps : goal.returns-clause-swaps
 returns-clause-swaps c =
-    swaps c.args.tables.now c.args.proof.now c.baby_bear_has_laws.ensures (c.opened_claims_bind.ensures (record { log_blowup = 1 })) c.requires.formed c.requires.accepted
+    swaps c.args.version c.args.tables.now c.args.proof.now c.baby_bear_has_laws.ensures (c.opened_claims_bind.ensures (record { log_blowup = 1 })) c.requires.formed c.requires.accepted
 
 pub returns-clause-hashes : goal.returns-clause-hashes
 returns-clause-hashes c =
-    hashes c.args.tables.now c.args.proof.now c.baby_bear_has_laws.ensures (c.opened_claims_bind.ensures (record { log_blowup = 1 })) c.requires.formed c.requires.accepted c.row_means.ensures.exact
+    hashes c.args.version c.args.tables.now c.args.proof.now c.baby_bear_has_laws.ensures (c.opened_claims_bind.ensures (record { log_blowup = 1 })) c.requires.formed c.requires.accepted c.row_means.ensures.exact
 
 pub returns-clause-matrices : goal.returns-clause-matrices
 returns-clause-matrices c =
-    hash_matrices c.args.tables.now c.args.proof.now quartic_inv c.baby_bear_has_laws.ensures (c.opened_claims_bind.ensures (record { log_blowup = 1 })) c.requires.formed c.requires.accepted
+    hash_matrices c.args.version c.args.tables.now c.args.proof.now quartic_inv c.baby_bear_has_laws.ensures (c.opened_claims_bind.ensures (record { log_blowup = 1 })) c.requires.formed c.requires.accepted

@@ -13,21 +13,21 @@ returns-in_err-verify_batch-clause-verdict c =
     let airs = ap (map (source_of (tool_declaration baby_bear_ring) (tool_trees baby_bear_ring) (tool_interactions baby_bear_ring))) c.deref-2.ensures.value ∙ c.in_ok-airs.ensures in
     let publics = ap (map (λ (v : Vec BabyBear Global). v.items)) c.deref-3.ensures.value ∙ c.in_ok-public_values.ensures in
     exits _ _ _ c.from_residual-in_err-verify_batch.ensures.1
-    (refusal_is _ c.tool_config-config.result.pcs _ _ _ _ _ _ c.args.proof.now c.in_err-verify_batch.field-0.0 c.tool_config-config.ensures.setting c.tool_config-config.ensures.scheme
+    (refusal_is c.args.version _ c.tool_config-config.result.pcs _ _ _ _ _ _ c.args.proof.now c.in_err-verify_batch.field-0.0 c.tool_config-config.ensures.setting c.tool_config-config.ensures.scheme
     (same_tables c.args.tables.now c.deref-2.result.now airs) publics c.in_ok-common.ensures.common c.in_err-verify_batch.ensures.verdict)
 
 pub returns-clause-verdict : goal.returns-clause-verdict
 returns-clause-verdict c =
     let airs = ap (map (source_of (tool_declaration baby_bear_ring) (tool_trees baby_bear_ring) (tool_interactions baby_bear_ring))) c.deref-2.ensures.value ∙ c.in_ok-airs.ensures in
     let publics = ap (map (λ (v : Vec BabyBear Global). v.items)) c.deref-3.ensures.value ∙ c.in_ok-public_values.ensures in
-    verdict_is _ c.tool_config-config.result.pcs _ _ _ _ _ _ c.args.proof.now (Ok c.in_ok-verify_batch.field-0) c.tool_config-config.ensures.setting c.tool_config-config.ensures.scheme
+    verdict_is c.args.version _ c.tool_config-config.result.pcs _ _ _ _ _ _ c.args.proof.now (Ok c.in_ok-verify_batch.field-0) c.tool_config-config.ensures.setting c.tool_config-config.ensures.scheme
     (same_tables c.args.tables.now c.deref-2.result.now airs) publics c.in_ok-common.ensures.common c.in_ok-verify_batch.ensures.verdict
 
 pub accepted_means-requires-clause-accepted : goal.accepted_means-requires-clause-accepted
 accepted_means-requires-clause-accepted c =
     let airs = ap (map (source_of (tool_declaration baby_bear_ring) (tool_trees baby_bear_ring) (tool_interactions baby_bear_ring))) c.deref-2.ensures.value ∙ c.in_ok-airs.ensures in
     let publics = ap (map (λ (v : Vec BabyBear Global). v.items)) c.deref-3.ensures.value ∙ c.in_ok-public_values.ensures in
-    verdict_is _ c.tool_config-config.result.pcs _ _ _ _ _ _ c.args.proof.now (Ok c.in_ok-verify_batch.field-0) c.tool_config-config.ensures.setting c.tool_config-config.ensures.scheme
+    verdict_is c.args.version _ c.tool_config-config.result.pcs _ _ _ _ _ _ c.args.proof.now (Ok c.in_ok-verify_batch.field-0) c.tool_config-config.ensures.setting c.tool_config-config.ensures.scheme
     (same_tables c.args.tables.now c.deref-2.result.now airs) publics c.in_ok-common.ensures.common c.in_ok-verify_batch.ensures.verdict
 
 pub accepted_means-requires-clause-formed : goal.accepted_means-requires-clause-formed
