@@ -17,7 +17,7 @@ use crate::commitment::{PlainCommitment, PlainProverData, copied_matrices};
 use crate::error::PlainProverError;
 use crate::extending::{extensions_from, extensions_of, first_not_committable};
 use commit_core::PcsFailure;
-use p3_dft::{TwoAdicSubgroupDft, interpolant_on_coset};
+use p3_dft::{TwoAdicSubgroupDft, interpolants_on_coset};
 use p3_field::{FieldCore, Mem, TwoAdicCore, TwoAdicField, TwoAdicMultiplicativeCoset};
 use p3_matrix::{RowMajorMatrix, is_power_of_two, log2_strict_usize};
 use std::alloc::Global;
@@ -144,7 +144,7 @@ pub(crate) fn commit_extensions<F: TwoAdicField>(
     Ok((PlainCommitment { matrices }, PlainProverData { evaluated }))
 }
 
-/// The interpolants of a matrix's columns on the coset of its height, each found once.
+/// The interpolants of a matrix's columns on the coset of its height, all found at once.
 pub(crate) fn column_polynomials<F: TwoAdicField>(
     alloc: Global,
     matrix: &RowMajorMatrix<F>,
@@ -154,10 +154,10 @@ pub(crate) fn column_polynomials<F: TwoAdicField>(
         → EachOf matrix.now.width v.items (λ j f. IsInterpolant F.ring (coset_point F.ring F.GENERATOR (F.root k)) (column F.ring.zero matrix.now j) f.items)) }
 {
     let log_height = log2_strict_usize(matrix.height());
+    let coefficients = interpolants_on_coset(alloc, matrix, F::GENERATOR, log_height)?;
     let mut polynomials = Vec::with_capacity(alloc, matrix.width())?;
     for j in 0..matrix.width() {
-        let values = matrix.column(alloc, j)?;
-        let polynomial = interpolant_on_coset(alloc, &values, F::GENERATOR, log_height)?;
+        let polynomial = coefficients.column(alloc, j)?;
         polynomials.push(polynomial)?;
     }
     Ok(polynomials)

@@ -1,12 +1,12 @@
-use Rattle.std.proofs.Common.{◌≡◌, ℕ, ◌^◌, List, subst, sym, ◌∙◌, arith}
+use Rattle.std.proofs.Common.{◌≡◌, ℕ, ◌^◌, ◌<◌, List, subst, sym, ◌∙◌, arith}
 use Rattle.p3_field.specs.Domain.{coset_point, IsInterpolant}
 use Rattle.p3_matrix.specs.Matrix.{height, column}
 use Rattle.p3_matrix.specs.Laws.Powers.{power_cancel}
 use Rattle.commit_core.specs.Laws.Each.{one_more}
 use Rattle.plain_pcs.proofs.committing.column_polynomials.Goals as goal
 
-pub interpolant_on_coset-requires-clause-subgroup : goal.interpolant_on_coset-requires-clause-subgroup
-interpolant_on_coset-requires-clause-subgroup g c =
+pub interpolants_on_coset-requires-clause-subgroup : goal.interpolants_on_coset-requires-clause-subgroup
+interpolants_on_coset-requires-clause-subgroup g c =
     let l = c.log2_strict_usize-log_height.result in
     let size : height c.args.matrix.now ≡ 2 ^ l = sym c.height.ensures.result ∙ c.log2_strict_usize-log_height.ensures in
     let same : l ≡ c.requires.0 = power_cancel l c.requires.0 (sym size ∙ c.requires.2) in
@@ -19,8 +19,11 @@ loop-j-preserved g c =
     let h = g.F.TwoAdicCore.root c.log2_strict_usize-log_height.result in
     let m = c.args.matrix.now in
     let f = c.in_ok-polynomial.polynomial in
-    let on : IsInterpolant r (coset_point r G h) c.deref.result.now f.items = subst (λ (s : g.row.F.Denot). IsInterpolant r (coset_point r s h) c.deref.result.now f.items) c.GENERATOR.ensures c.in_ok-polynomial.ensures in
-    let here : IsInterpolant r (coset_point r G h) (column r.zero m c.loop-j.j) f.items = subst (λ (v : List g.row.F.Denot). IsInterpolant r (coset_point r G h) v f.items) (c.deref.ensures.value ∙ c.in_ok-values.ensures.values r.zero) on in
+    let below : c.loop-j.j < m.width = omega (arith, c.width-j-end.ensures) in
+    let w = column r.zero m c.loop-j.j in
+    let u = column r.zero c.in_ok-coefficients.coefficients c.loop-j.j in
+    let on : IsInterpolant r (coset_point r G h) w u = subst (λ (s : g.row.F.Denot). IsInterpolant r (coset_point r s h) w u) c.GENERATOR.ensures (c.in_ok-coefficients.ensures.columns c.loop-j.j below) in
+    let here : IsInterpolant r (coset_point r G h) w f.items = subst (λ (v : List g.row.F.Denot). IsInterpolant r (coset_point r G h) w v) (sym (c.in_ok-polynomial.ensures.values r.zero)) on in
     one_more c.loop-j.j c.loop-j.polynomials.items c.push.new.self.items f (λ j f. IsInterpolant r (coset_point r G h) (column r.zero m j) f.items) c.loop-j.invariant here c.in_ok-push.ensures.items
 
 pub returns : goal.returns
