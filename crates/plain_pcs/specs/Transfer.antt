@@ -1,6 +1,6 @@
 -- Values of polynomials taken from one domain to another.
-use Rattle.std.specs.Prelude.{◌≡◌, ℕ, ◌^◌, ◌%◌, ◌<◌, ◌≤◌, List, Some, length, get_or, slice_get}
-use Rattle.p3_field.specs.Ring.{Ring}
+use Rattle.std.specs.Prelude.{◌≡◌, ℕ, ◌-◌, ◌^◌, ◌%◌, ◌<◌, ◌≤◌, List, Some, length, get_or, slice_get}
+use Rattle.p3_field.specs.Ring.{Ring, pow}
 use Rattle.p3_field.specs.Domain.{CosetData, point}
 use Rattle.p3_matrix.specs.Matrix.{Rows, height, cell_at, column}
 use Rattle.p3_dft.specs.Transform.{values_at}
@@ -18,3 +18,7 @@ pub record IsRepeated {F : Type 0} (z : F) (n : ℕ) (columns : List (List F)) (
   pub width_is : m.width ≡ length columns
   pub height_is : 0 < length columns → height m ≡ n
   pub cell_is : (i j : ℕ) (c : List F) → i < n → slice_get columns j ≡ Some c → cell_at z m i j ≡ get_or c (i % length c) z
+
+-- the domain of the powers of d's points to 2^a
+abbrev pub folded : {F : Type 0} → Ring F → ℕ → CosetData F → CosetData F
+folded r a d = record { shift = pow r d.shift (2 ^ a); log_size = d.log_size - a }

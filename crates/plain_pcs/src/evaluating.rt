@@ -1,20 +1,23 @@
 //! The values of committed polynomials and of periodic columns on other domains.
-ghost use Rattle.std.specs.Prelude.{◌≡◌, ℕ, ◌+◌, ◌%◌, ◌^◌, ◌<◌, ◌≤◌, List, Some, All, length, get_or, map, slice_get, ◌++◌, IfOk};
+ghost use Rattle.std.specs.Prelude.{◌≡◌, ℕ, ◌+◌, ◌*◌, ◌/◌, ◌%◌, ◌^◌, ◌<◌, ◌≤◌, List, Some, All, MatchOption, length, get_or, map, slice_get, ◌++◌, IfOk};
 ghost use Rattle.std.specs.Int.{IsPowerOfTwo};
 ghost use Rattle.p3_field.specs.Ring.{Ring};
 ghost use Rattle.p3_field.specs.Domain.{CosetData, point};
 ghost use Rattle.p3_matrix.specs.Matrix.{Rows, height};
 ghost use Rattle.commit_core.specs.Commitments.{Committed, IsEvaluated};
-ghost use Rattle.commit_core.specs.Periodic.{IsPeriod, IsPeriodicTable};
+ghost use Rattle.commit_core.specs.Periodic.{IsGreatest, IsPeriod, IsPeriodicTable};
 ghost use Rattle.plain_pcs.specs.Scheme.{Blowup, PlainCommitmentData, scheme};
 ghost use Rattle.plain_pcs.specs.Holding.{IsMade, AreHolding};
-ghost use Rattle.plain_pcs.specs.Transfer.{IsTransfer, IsRepeated};
+ghost use Rattle.plain_pcs.specs.Transfer.{IsTransfer, IsRepeated, folded};
 
 use crate::commitment::PlainProverData;
 use commit_core::{PeriodicLdeTable, rows_from};
 use p3_dft::TwoAdicSubgroupDft;
-use p3_field::{FieldCore, Mem, RingCore, TwoAdicCore, TwoAdicField, TwoAdicMultiplicativeCoset};
-use p3_matrix::RowMajorMatrix;
+use p3_field::{
+    FieldCore, Mem, PrimeCharacteristicRing, RingCore, TwoAdicCore, TwoAdicField,
+    TwoAdicMultiplicativeCoset,
+};
+use p3_matrix::{RowMajorMatrix, log2_strict_usize};
 use std::alloc::Global;
 
 /// The values of the polynomials of the matrix at place `idx` on a domain, a row for each point and a column for each
@@ -41,9 +44,12 @@ pub(crate) fn evaluations_on_domain<F: TwoAdicField, D: TwoAdicSubgroupDft<F>>(
     Ok(values)
 }
 
-/// The table of periodic columns on a quotient domain: a column for each, laid over the trace domain, and a row for each
-/// point of the quotient domain, with the values that the columns' interpolants have there (not in Plonky3). Without
-/// columns it is empty. Only memory can run out.
+/// The table of periodic columns on a quotient domain: a column for each, laid over the trace domain, and the rows that the
+/// values of the columns' interpolants repeat over the quotient domain: the longest period times as many as the quotient domain
+/// is times as large as the trace domain (not in Plonky3). Without columns it is empty. Only memory can run out.
+///
+/// The interpolants are polynomials in X to the number of times that the longest period is laid over the trace domain. So the
+/// columns are laid over the longest period alone, on the coset of the points' powers, and one transform leads from there.
 pub(crate) fn periodic_table<F: TwoAdicField, D: TwoAdicSubgroupDft<F>>(
     alloc: Global,
     dft: &D,
@@ -56,15 +62,45 @@ pub(crate) fn periodic_table<F: TwoAdicField, D: TwoAdicSubgroupDft<F>>(
     requires larger { 2 ^ trace_domain.log_size ≤ 2 ^ quotient_domain.log_size }
     ensures table { IfOk result (IsPeriodicTable F.ring (2 ^ trace_domain.log_size) (point F.ring F.root trace_domain) (2 ^ quotient_domain.log_size)
         (point F.ring F.root quotient_domain) (map (λ c. c.items) periodic_cols.now)) }
-    ensures height { IfOk result (λ t. 0 < length periodic_cols.now → height t ≡ 2 ^ quotient_domain.log_size) }
+    ensures height { IfOk result (λ t. (period : ℕ) → IsGreatest (map (λ c. length c.items) periodic_cols.now) period
+        → height t ≡ period * (2 ^ quotient_domain.log_size / 2 ^ trace_domain.log_size)) }
 {
-    if periodic_cols.is_empty() {
-        return Ok(PeriodicLdeTable::empty(alloc));
+    match longest_period(periodic_cols) {
+        None => Ok(PeriodicLdeTable::empty(alloc)),
+        Some(period) => {
+            trace_domain.valid();
+            quotient_domain.valid();
+            let folds = trace_domain.log_size() - log2_strict_usize(period);
+            let columns = repeated(alloc, periodic_cols, period)?;
+            let from = powers_of(trace_domain, folds);
+            let to = powers_of(quotient_domain, folds);
+            let values = transferred(alloc, dft, from, columns, to)?;
+            Ok(PeriodicLdeTable::new(values))
+        }
     }
-    trace_domain.valid();
-    let columns = repeated(alloc, periodic_cols, trace_domain.size())?;
-    let values = transferred(alloc, dft, trace_domain, columns, quotient_domain)?;
-    Ok(PeriodicLdeTable::new(values))
+}
+
+// The greatest length, where there is a column.
+fn longest_period<F>(columns: &[Vec<F>]) -> Option<usize>
+    ensures { MatchOption result (length columns.now ≡ 0) (IsGreatest (map (λ c. length c.items) columns.now)) }
+{
+    columns.iter().map(|column| column.len()).max()
+}
+
+// The points' powers to 2^`folds`, which are a domain of fewer points.
+fn powers_of<F: TwoAdicField>(
+    domain: TwoAdicMultiplicativeCoset<F>,
+    folds: usize,
+) -> TwoAdicMultiplicativeCoset<F>
+    requires { folds ≤ domain.log_size }
+    ensures { result ≡ folded F.ring folds domain }
+{
+    domain.valid();
+    let shift = domain.shift().exp_power_of_2(folds);
+    match TwoAdicMultiplicativeCoset::new(shift, domain.log_size() - folds) {
+        Some(powers) => powers,
+        None => unreachable!(),
+    }
 }
 
 // The values on the domain `to` of the polynomials with these values on the domain `from`.

@@ -1,10 +1,10 @@
 //! The plain scheme over a field and a transform.
-ghost use Rattle.std.specs.Prelude.{◌≡◌, refl, ℕ, ◌^◌, ◌-◌, ◌+◌, ◌<◌, ◌≤◌, true, false, List, All, MatchOption, Some, IfOk, IsOk, length, map, slice_get};
+ghost use Rattle.std.specs.Prelude.{◌≡◌, refl, ℕ, ◌^◌, ◌-◌, ◌+◌, ◌*◌, ◌/◌, ◌<◌, ◌≤◌, true, false, List, All, MatchOption, Some, IfOk, IsOk, length, map, slice_get};
 ghost use Rattle.std.specs.Int.{IsPowerOfTwo};
 ghost use Rattle.p3_field.specs.Domain.{CosetData, coset_point, point, IsInterpolant};
 ghost use Rattle.p3_matrix.specs.Matrix.{Rows, height, column};
 ghost use Rattle.commit_core.specs.Space.{EachOf};
-ghost use Rattle.commit_core.specs.Periodic.{IsPeriod, IsPeriodicTable};
+ghost use Rattle.commit_core.specs.Periodic.{IsGreatest, IsPeriod, IsPeriodicTable};
 ghost use Rattle.commit_core.specs.Failure.{RefusedBy, IfRefused, VerifiedBy, NoneOf};
 ghost use Rattle.commit_core.specs.Commitments.{IsSubgroup, Committed, IsCommitment, IsEvaluated, OpenedCommitment, AreOpenedCommitments, nested, IsOpening, AreExtensions};
 ghost use Rattle.plain_pcs.specs.Scheme.{Blowup, scheme, PlainCommitmentData};
@@ -310,7 +310,8 @@ impl<F: TwoAdicField, D: TwoAdicSubgroupDft<F>, E: ExtensionField<F>, C> Univari
         evaluations_on_domain(alloc, &self.dft, prover_data, idx, domain)
     }
 
-    /// The table by one transform of the columns. Each column has a row for each point of the quotient domain.
+    /// The table by one transform of the columns over the longest period, from which the values repeat: it has the longest period times
+    /// as many rows as the quotient domain is times as large as the trace domain.
     fn build_periodic_lde_table(
         &self,
         alloc: Global,
@@ -323,7 +324,8 @@ impl<F: TwoAdicField, D: TwoAdicSubgroupDft<F>, E: ExtensionField<F>, C> Univari
         requires larger { 2 ^ trace_domain.log_size ≤ 2 ^ quotient_domain.log_size }
         ensures table { IfOk result (IsPeriodicTable F.ring (2 ^ trace_domain.log_size) (point F.ring F.root trace_domain) (2 ^ quotient_domain.log_size)
             (point F.ring F.root quotient_domain) (map (λ c. c.items) periodic_cols.now)) }
-        ensures height { IfOk result (λ t. 0 < length periodic_cols.now → height t ≡ 2 ^ quotient_domain.log_size) }
+        ensures height { IfOk result (λ t. (period : ℕ) → IsGreatest (map (λ c. length c.items) periodic_cols.now) period
+            → height t ≡ period * (2 ^ quotient_domain.log_size / 2 ^ trace_domain.log_size)) }
     {
         periodic_table(
             alloc,
