@@ -17,7 +17,7 @@ use Rattle.p3_challenger.specs.declared.script.Length.TheVariants.{None as NoLen
 use Rattle.p3_challenger.specs.declared.script.Interaction.{Interaction}
 use Rattle.transcript_version.specs.declared.TranscriptVersion.{TranscriptVersion}
 use Rattle.transcript_version.specs.declared.TranscriptVersion.TheVariants.{V1, V2}
-use Rattle.batch_transcript.specs.BatchScript.{BatchShapeData, pattern, separator, instance_label, version_byte, from_main, from_preprocessed, from_lookup, from_permutation, from_quotient, from_ood, from_opening, degree_bits_step, public_values_step, preprocessed_commitment_step, randomization_commitment_step, lookup_terminal_step, permutation_steps, pair_steps, only_with, atomic}
+use Rattle.batch_transcript.specs.BatchScript.{BatchShapeData, pattern, separator, instance_label, version_byte, from_main, from_preprocessed, from_lookup, from_permutation, from_quotient, from_ood, from_opening, degree_bits_step, main_commitment_step, public_values_step, preprocessed_commitment_step, lookup_pow_step, lookup_alpha_step, lookup_beta_step, permutation_commitment_step, lookup_terminal_step, constraint_challenge_step, quotient_commitment_step, randomization_commitment_step, ood_pow_step, zeta_step, opening_step, permutation_steps, pair_steps, only_with}
 use Rattle.batch_transcript.specs.Shapes.{FitsEightBytes}
 
 -- two lists whose fronts have one length are equal part by part
@@ -193,14 +193,14 @@ module _ (d : ℕ) (rest : List Interaction) (h : Told d rest) where
 
   told-permutation : (n : ℕ) → Told d (permutation_steps d n ++ rest)
   told-permutation zero = h
-  told-permutation (suc n) = put d _ _ (record { value = refl; label = omega arith; amount = omega arith }) not_end (told-terminals (suc n))
+  told-permutation (suc n) = put d permutation_commitment_step (replicate (suc n) (lookup_terminal_step d) ++ rest) (record { value = refl; label = omega arith; amount = omega arith }) not_end (told-terminals (suc n))
 
   told-pair : (n bits : ℕ) → bits < 2 ^ 64 → Told d (pair_steps d n bits ++ rest)
   told-pair zero bits f = h
   told-pair (suc n) bits f =
-      put d _ _ (record { value = refl; label = omega arith; amount = f }) not_end
-      (put d _ _ (record { value = refl; label = omega arith; amount = omega arith }) not_end
-      (put d _ _ (record { value = refl; label = omega arith; amount = omega arith }) not_end h))
+      let beta : Told d (lookup_beta_step d ∷ rest) = put d (lookup_beta_step d) rest (record { value = refl; label = omega arith; amount = omega arith }) not_end h in
+      let alpha : Told d (lookup_alpha_step d ∷ lookup_beta_step d ∷ rest) = put d (lookup_alpha_step d) (lookup_beta_step d ∷ rest) (record { value = refl; label = omega arith; amount = omega arith }) not_end beta in
+      put d (lookup_pow_step bits) (lookup_alpha_step d ∷ lookup_beta_step d ∷ rest) (record { value = refl; label = omega arith; amount = f }) not_end alpha
 
   told-preprocessed : (b : Bool) → Told d (only_with b preprocessed_commitment_step ++ rest)
   told-preprocessed true = put d _ _ (record { value = refl; label = omega arith; amount = omega arith }) not_end h
@@ -213,19 +213,20 @@ module _ (d : ℕ) (rest : List Interaction) (h : Told d rest) where
 told-pattern : (d : ℕ) (s : BatchShapeData) → FitsEightBytes s → Told d (pattern d s)
 unfolding pattern from_main from_preprocessed from_lookup from_permutation from_quotient from_ood from_opening
 told-pattern d s f =
-    let opening : Told d (from_opening d s) =
-    put d _ _ (record { value = refl; label = omega arith; amount = omega arith }) begin_not_end (record { value = refl; label = omega arith; amount = omega arith }, refl) in
-    let zeta : Told d _ = put d _ _ (record { value = refl; label = omega arith; amount = omega arith }) not_end opening in
-    let ood : Told d (from_ood d s) = put d _ _ (record { value = refl; label = omega arith; amount = f.ood_bits }) not_end zeta in
+    let opening : Told d (from_opening d s) = put d (opening_step Begin) (opening_step End ∷ []) (record { value = refl; label = omega arith; amount = omega arith }) begin_not_end ((record { value = refl; label = omega arith; amount = omega arith }), refl) in
+    let zeta : Told d (zeta_step d ∷ from_opening d s) = put d (zeta_step d) (from_opening d s) (record { value = refl; label = omega arith; amount = omega arith }) not_end opening in
+    let ood : Told d (from_ood d s) = put d (ood_pow_step s.ood_pow_bits) (zeta_step d ∷ from_opening d s) (record { value = refl; label = omega arith; amount = f.ood_bits }) not_end zeta in
+    let random : Told d (only_with s.has_randomization_commitment randomization_commitment_step ++ from_ood d s) = told-randomization d (from_ood d s) ood s.has_randomization_commitment in
     let quotient : Told d (from_quotient d s) =
-    put d _ _ (record { value = refl; label = omega arith; amount = omega arith }) not_end (told-randomization d _ ood s.has_randomization_commitment) in
-    let challenge : Told d _ = put d _ _ (record { value = refl; label = omega arith; amount = omega arith }) not_end quotient in
-    let permutation : Told d (from_permutation d s) = told-permutation d _ challenge s.num_lookup_instances in
-    let lookup : Told d (from_lookup d s) = told-pair d _ permutation s.num_lookup_instances s.lookup_pow_bits f.lookup_bits in
-    let preprocessed : Told d (from_preprocessed d s) = told-preprocessed d _ lookup s.has_preprocessed_commitment in
-    let main : Told d (from_main d s) =
-    put d _ _ (record { value = refl; label = omega arith; amount = omega arith }) not_end (told-publics d _ preprocessed s.public_value_counts f.publics) in
-    told-degree_bits d _ main s.trace_widths
+    put d quotient_commitment_step (only_with s.has_randomization_commitment randomization_commitment_step ++ from_ood d s) (record { value = refl; label = omega arith; amount = omega arith }) not_end random in
+    let challenge : Told d (constraint_challenge_step d ∷ from_quotient d s) = put d (constraint_challenge_step d) (from_quotient d s) (record { value = refl; label = omega arith; amount = omega arith }) not_end quotient in
+    let permutation : Told d (from_permutation d s) = told-permutation d (constraint_challenge_step d ∷ from_quotient d s) challenge s.num_lookup_instances in
+    let lookup : Told d (from_lookup d s) = told-pair d (from_permutation d s) permutation s.num_lookup_instances s.lookup_pow_bits f.lookup_bits in
+    let preprocessed : Told d (from_preprocessed d s) = told-preprocessed d (from_lookup d s) lookup s.has_preprocessed_commitment in
+    let publics : Told d (map public_values_step s.public_value_counts ++ from_preprocessed d s) =
+    told-publics d (from_preprocessed d s) preprocessed s.public_value_counts f.publics in
+    let main : Told d (from_main d s) = put d main_commitment_step (map public_values_step s.public_value_counts ++ from_preprocessed d s) (record { value = refl; label = omega arith; amount = omega arith }) not_end publics in
+    told-degree_bits d (from_main d s) main s.trace_widths
 
 encoding-spread : (a b c d e f : List ℕ) → a ++ b ++ c ++ d ++ (e ++ f) ≡ a ++ (b ++ (c ++ (d ++ (e ++ f))))
 encoding-spread a b c d e f = simp append_assoc
