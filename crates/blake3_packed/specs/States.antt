@@ -7,14 +7,15 @@ use Rattle.blake3_compress.specs.TraceRow.{bit_cells, turn_of, d_turn, b_turn, m
 use Rattle.blake3_binary.specs.Trees.{laid}
 use Rattle.blake3_binary.specs.Row.{quarter_cells}
 use Rattle.blake3_packed.specs.declared.state.StatePlanes.{StatePlanes}
+use Rattle.blake3_packed.specs.declared.state.StepPlanes.{StepPlanes}
 use Rattle.blake3_packed.specs.Lanes.{ArePlanes, AreWordPlanes}
 
 -- planes of the four words of a step
-pub record AreQuarter (a b c d : List ℕ) (q : ℕ → Quarter) : Type 0 where
-  pub a_planes : ArePlanes a (λ j. (q j).a)
-  pub b_planes : ArePlanes b (λ j. (q j).b)
-  pub c_planes : ArePlanes c (λ j. (q j).c)
-  pub d_planes : ArePlanes d (λ j. (q j).d)
+pub record AreQuarter (s : StepPlanes) (q : ℕ → Quarter) : Type 0 where
+  pub a_planes : ArePlanes s.a (λ j. (q j).a)
+  pub b_planes : ArePlanes s.b (λ j. (q j).b)
+  pub c_planes : ArePlanes s.c (λ j. (q j).c)
+  pub d_planes : ArePlanes s.d (λ j. (q j).d)
 
 -- the rows are planes of the lanes' states
 pub record HasStates (s : StatePlanes) (v : ℕ → State) : Type 0 where

@@ -39,14 +39,9 @@ fn blocks_of(alloc: Global, inputs: &[Blake3CompressionInput], room: usize) -> M
     ensures { IfOk result (λ v. AreBlocks inputs.now (packed_height (length inputs.now)) v.items) }
 {
     let mut values = Vec::with_capacity(alloc, room)?;
-    let whole = inputs.len() / 64;
-    for w in 0..whole {
-        push_block(&mut values, &inputs[64 * w..64 * w + 64])?;
+    for block in inputs.chunks(64) {
+        push_block(&mut values, block)?;
     }
-    if inputs.len() % 64 == 0 {
-        return Ok(values);
-    }
-    push_block(&mut values, &inputs[64 * whole..inputs.len()])?;
     Ok(values)
 }
 

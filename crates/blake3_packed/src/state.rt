@@ -20,6 +20,19 @@ pub struct StatePlanes {
     pub row3: [[u64; 32]; 4],
 }
 
+/// The four words of a step in 64 lanes, each by its planes.
+#[derive(Drop)]
+pub struct StepPlanes {
+    /// The word of the first row.
+    pub a: [u64; 32],
+    /// The word of the second row.
+    pub b: [u64; 32],
+    /// The word of the third row.
+    pub c: [u64; 32],
+    /// The word of the fourth row.
+    pub d: [u64; 32],
+}
+
 /// A word with a one in each of the first lanes.
 pub fn present_lanes(count: usize) -> u64
     requires some { 0 < count }

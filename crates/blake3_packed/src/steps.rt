@@ -10,7 +10,7 @@ ghost use Rattle.blake3_packed.specs.States.{AreQuarter, HasStates, made_twice, 
 
 use crate::planes::{add_planes, add_two_planes, turned_planes};
 use crate::pushing::{push_carries, push_planes};
-use crate::state::StatePlanes;
+use crate::state::{StatePlanes, StepPlanes};
 use blake3_compress::scheduled_word;
 use p3_field::Mem;
 
@@ -20,25 +20,22 @@ fn push_half(
     values: &mut Vec<u64>,
     s: usize,
     t: usize,
-    a: &mut [u64; 32],
-    b: &mut [u64; 32],
-    c: &mut [u64; 32],
-    d: &mut [u64; 32],
+    taken: &mut StepPlanes,
     message: &[u64; 32],
 ) -> Mem<()>
     requires d_turns { s < 32 }
     requires b_turns { t < 32 }
-    ensures { (q : ℕ → Quarter) (m : ℕ → ℕ) → AreQuarter a.old b.old c.old d.old q → ArePlanes message.now m
+    ensures { (q : ℕ → Quarter) (m : ℕ → ℕ) → AreQuarter taken.old q → ArePlanes message.now m
         → IfOk result (λ _. PushedLanes values.old.items values.new.items 95 (λ j. quarter_cells (q j) (half_quarter_round s t (q j) (m j)))
-        × AreQuarter a.new b.new c.new d.new (λ j. half_quarter_round s t (q j) (m j))) }
+        × AreQuarter taken.new (λ j. half_quarter_round s t (q j) (m j))) }
 {
-    let carries = add_two_planes(a, b, message);
+    let carries = add_two_planes(&mut taken.a, &taken.b, message);
     push_carries(values, &carries)?;
-    *d = turned_planes(d, a, s);
-    push_planes(values, d)?;
-    add_planes(c, d);
-    *b = turned_planes(b, c, t);
-    push_planes(values, b)?;
+    taken.d = turned_planes(&taken.d, &taken.a, s);
+    push_planes(values, &taken.d)?;
+    add_planes(&mut taken.c, &taken.d);
+    taken.b = turned_planes(&taken.b, &taken.c, t);
+    push_planes(values, &taken.b)?;
     Ok(())
 }
 
@@ -48,22 +45,19 @@ fn push_step(
     p: usize,
     g: usize,
     words: &[[u64; 32]; 28],
-    a: &mut [u64; 32],
-    b: &mut [u64; 32],
-    c: &mut [u64; 32],
-    d: &mut [u64; 32],
+    taken: &mut StepPlanes,
 ) -> Mem<()>
     requires turns { p < 14 }
     requires steps { g < 4 }
-    ensures { (x : ℕ → Input) (q : ℕ → Quarter) → AreWordPlanes 28 words.now x → AreQuarter a.old b.old c.old d.old q
+    ensures { (x : ℕ → Input) (q : ℕ → Quarter) → AreWordPlanes 28 words.now x → AreQuarter taken.old q
         → IfOk result (λ _. PushedLanes values.old.items values.new.items 190 (λ j. step_cells (x j) p g (q j))
-        × AreQuarter a.new b.new c.new d.new (λ j. made_twice (x j) p g (q j))) }
+        × AreQuarter taken.new (λ j. made_twice (x j) p g (q j))) }
 {
     let place = 8 * (p % 2) + 2 * g;
     let first = scheduled_word(p / 2, place);
     let second = scheduled_word(p / 2, place + 1);
-    push_half(values, 16, 12, a, b, c, d, &words[first])?;
-    push_half(values, 8, 7, a, b, c, d, &words[second])?;
+    push_half(values, 16, 12, taken, &words[first])?;
+    push_half(values, 8, 7, taken, &words[second])?;
     Ok(())
 }
 
@@ -81,15 +75,17 @@ fn push_four(
 {
     let turn = p % 2;
     for g in 0..4 {
-        let mut a = state.row0[g % 4];
-        let mut b = state.row1[(g + turn) % 4];
-        let mut c = state.row2[(g + turn * 2) % 4];
-        let mut d = state.row3[(g + turn * 3) % 4];
-        push_step(values, p, g, words, &mut a, &mut b, &mut c, &mut d)?;
-        state.row0[g % 4] = a;
-        state.row1[(g + turn) % 4] = b;
-        state.row2[(g + turn * 2) % 4] = c;
-        state.row3[(g + turn * 3) % 4] = d;
+        let mut taken = StepPlanes {
+            a: state.row0[g % 4],
+            b: state.row1[(g + turn) % 4],
+            c: state.row2[(g + turn * 2) % 4],
+            d: state.row3[(g + turn * 3) % 4],
+        };
+        push_step(values, p, g, words, &mut taken)?;
+        state.row0[g % 4] = taken.a;
+        state.row1[(g + turn) % 4] = taken.b;
+        state.row2[(g + turn * 2) % 4] = taken.c;
+        state.row3[(g + turn * 3) % 4] = taken.d;
     }
     Ok(())
 }

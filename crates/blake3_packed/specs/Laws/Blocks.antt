@@ -1,9 +1,8 @@
 -- Blocks of 64 compressions one after another, and the rows that they hold.
-use Rattle.std.proofs.Common.{◌≡◌, ℕ, ◌+◌, ◌-◌, ◌*◌, ◌/◌, ◌<◌, ◌≤◌, List, ◌++◌, get_or, take, drop, length, map, inl, inr, refl, sym, ◌∙◌, ap, subst, arith, length-append}
-use Rattle.std.specs.Prelude.{slice_range}
+use Rattle.std.proofs.Common.{◌≡◌, ℕ, ◌+◌, ◌-◌, ◌*◌, ◌/◌, ◌<◌, ◌≤◌, List, ◌++◌, get_or, min, length, map, inl, inr, refl, sym, ◌∙◌, ap, subst, arith, length-append}
 use Rattle.std.specs.Int.{bit_at}
 use Rattle.std.proofs.lemmas.Bool.{cases_lt}
-use Rattle.std.proofs.lemmas.List.{get_or_append_left, get_or-append_right, get_or-take, get_or-drop, get_or_past, length-take, length-drop, get_or-map, length-map}
+use Rattle.std.proofs.lemmas.List.{get_or_append_left, get_or-append_right, get_or-append-add, get_or_past, get_or-map, length-map}
 use Rattle.p3_field.specs.Ring.{Ring, of_nat}
 use Rattle.p3_matrix.specs.Matrix.{Rows, FillsRows, height, cell_at}
 use Rattle.blake3_binary.specs.declared.input.Blake3CompressionInput.{Blake3CompressionInput}
@@ -21,32 +20,28 @@ use Rattle.blake3_packed.specs.Laws.Inputs.{past_end}
 use Rattle.blake3_packed.specs.Laws.Present.{present, absent}
 use Rattle.blake3_packed.specs.Laws.States.{present_cells, absent_cells}
 
--- the compressions of a part of the inputs
-pub part_long : (inputs : List Blake3CompressionInput) (m n : ℕ) → m ≤ n → n ≤ length inputs → length (slice_range inputs m n) ≡ n - m
-part_long inputs m n le within = omega (arith, length-take (n - m) (drop m inputs), length-drop m inputs, le, within)
+-- the compressions of the block that comes after these inputs, and which of its lanes have one
+module _ (inputs done block rest : List Blake3CompressionInput) (n : ℕ) (parts : inputs ≡ done ++ (block ++ rest)) (whole : length done ≡ 64 * n) (long : length block ≡ min 64 (length (block ++ rest))) where
+  as_long : length inputs ≡ 64 * n + (length block + length rest)
+  as_long = ap length parts ∙ (length-append done (block ++ rest) ∙ (λ i. whole i + length-append block rest i))
 
--- in a whole block, and in the last one
-pub part_inside : (inputs : List Blake3CompressionInput) (m n j : ℕ) → j < n - m → compression (slice_range inputs m n) j ≡ compression inputs (m + j)
-part_inside inputs m n j lt = ap (λ i. input_of (compression_words i)) (get_or-take (n - m) (drop m inputs) j nothing lt ∙ get_or-drop m inputs j nothing)
+  pub same_compression : (j : ℕ) → j < 64 → compression block j ≡ compression inputs (64 * n + j)
+  same_compression j lj =
+      ap (λ i. input_of (compression_words i)) (elim (cases_lt j (length block)) [
+        | inl lt ↦
+            sym (ap (λ xs. get_or xs (64 * n + j) nothing) parts
+            ∙ (ap (λ m. get_or (done ++ (block ++ rest)) (m + j) nothing) (sym whole)
+            ∙ (get_or-append-add done (block ++ rest) j nothing ∙ get_or_append_left block rest nothing j lt)))
+        | inr ge ↦
+            get_or_past block j nothing ge ∙ sym (get_or_past inputs (64 * n + j) nothing (omega (arith, as_long, long, length-append block rest, ge, lj)))
+      ])
 
-pub part_last : (inputs : List Blake3CompressionInput) (m j : ℕ) → m ≤ length inputs → compression (slice_range inputs m (length inputs)) j ≡ compression inputs (m + j)
-part_last inputs m j le =
-    elim (cases_lt j (length inputs - m)) [
-      | inl lt ↦ part_inside inputs m (length inputs) j lt
-      | inr ge ↦
-          ap (λ i. input_of (compression_words i))
-          (get_or_past (slice_range inputs m (length inputs)) j nothing (omega (arith, part_long inputs m (length inputs) le (omega arith), ge)) ∙ sym (get_or_past inputs (m + j) nothing (omega (arith, ge, le))))
-    ]
-
-pub presence_inside : (n N m j : ℕ) → j < n → m + j < N → presence n j ≡ presence N (m + j)
-presence_inside n N m j lt below = present n j lt ∙ sym (present N (m + j) below)
-
-pub presence_last : (n N m j : ℕ) → m ≤ N → n ≡ N - m → presence n j ≡ presence N (m + j)
-presence_last n N m j le e =
-    elim (cases_lt j n) [
-      | inl lt ↦ presence_inside n N m j lt (omega (arith, lt, le, e))
-      | inr ge ↦ absent n j ge ∙ sym (absent N (m + j) (omega (arith, ge, le, e)))
-    ]
+  pub same_presence : (j : ℕ) → j < 64 → presence (length block) j ≡ presence (length inputs) (64 * n + j)
+  same_presence j lj =
+      elim (cases_lt j (length block)) [
+        | inl lt ↦ present (length block) j lt ∙ sym (present (length inputs) (64 * n + j) (omega (arith, as_long, lt)))
+        | inr ge ↦ absent (length block) j ge ∙ sym (absent (length inputs) (64 * n + j) (omega (arith, as_long, long, length-append block rest, ge, lj)))
+      ]
 
 pub no_block : (inputs : List Blake3CompressionInput) (values : List ℕ) → length values ≡ 0 → AreBlocks inputs 0 values
 no_block inputs values e = record { long = omega (arith, e); bits = λ w j column lw lj lc. absurd (omega (arith, lw)) }

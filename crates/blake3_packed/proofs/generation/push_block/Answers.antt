@@ -1,4 +1,4 @@
-use Rattle.std.proofs.Common.{◌≡◌, ℕ, ◌+◌, ◌++◌, length, arith}
+use Rattle.std.proofs.Common.{◌+◌, ◌++◌, length, arith}
 use Rattle.std.specs.Int.{bit_at}
 use Rattle.blake3_compress.specs.TraceRow.{bit_cells}
 use Rattle.blake3_binary.specs.Rows.{compression}

@@ -1,4 +1,4 @@
-use Rattle.std.proofs.Common.{◌≡◌, ℕ, ◌+◌, ◌<◌, get_or, length, refl, ◌∙◌, arith, length-set}
+use Rattle.std.proofs.Common.{◌≡◌, ◌+◌, ◌<◌, get_or, length, refl, ◌∙◌, arith, length-set}
 use Rattle.blake3_packed.specs.Laws.Written.{written}
 use Rattle.blake3_packed.proofs.inputs.half_of.Goals as goal
 

@@ -1,4 +1,4 @@
-use Rattle.std.proofs.Common.{◌≡◌, ℕ, ◌+◌, ◌*◌, get_or, sym, subst, arith}
+use Rattle.std.proofs.Common.{◌+◌, ◌*◌, get_or, sym, subst, arith}
 use Rattle.blake3_binary.specs.Rows.{compression_words}
 use Rattle.blake3_packed.specs.Inputs.{IsPair}
 use Rattle.blake3_packed.specs.Laws.Inputs.{block_word}

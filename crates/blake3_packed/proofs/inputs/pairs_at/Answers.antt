@@ -1,4 +1,4 @@
-use Rattle.std.proofs.Common.{◌≡◌, ℕ, ◌+◌, ◌*◌, ◌<◌, ◌≢◌, get_or, get_or-set_other, length, inl, inr, ◌∙◌, arith, length-set}
+use Rattle.std.proofs.Common.{◌+◌, ◌*◌, ◌<◌, ◌≢◌, get_or-set_other, length, inl, inr, ◌∙◌, arith, length-set}
 use Rattle.std.proofs.lemmas.Bool.{cases_lt}
 use Rattle.blake3_packed.specs.Laws.Inputs.{zeros_at, past_end, no_pair}
 use Rattle.blake3_packed.specs.Laws.Written.{written}

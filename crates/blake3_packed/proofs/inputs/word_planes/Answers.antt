@@ -1,4 +1,4 @@
-use Rattle.std.proofs.Common.{◌≡◌, ℕ, ◌+◌, ◌*◌, ◌<◌, List, [], set, get_or, length, ◌∙◌, arith, length-set}
+use Rattle.std.proofs.Common.{ℕ, ◌+◌, ◌*◌, ◌<◌, List, [], set, length, ◌∙◌, arith, length-set}
 use Rattle.blake3_binary.specs.Rows.{compression}
 use Rattle.blake3_packed.specs.Lanes.{ArePlanes}
 use Rattle.blake3_packed.specs.Laws.Written.{written_in}

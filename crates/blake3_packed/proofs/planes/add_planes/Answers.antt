@@ -1,8 +1,7 @@
 use Rattle.std.proofs.Common.{◌≡◌, ℕ, ◌+◌, ◌%◌, ◌/◌, ◌^◌, ◌<◌, length, get_or, refl, sym, ◌∙◌, ap, arith, length-set}
-use Rattle.std.specs.Prelude.{bit_xor, bit_or, bit_and}
+use Rattle.std.specs.Prelude.{bit_xor}
 use Rattle.std.specs.Int.{bit_at}
 use Rattle.std.proofs.lemmas.Nat.Bits.{bit_at-zero}
-use Rattle.blake3_binary.specs.Sums.{carry}
 use Rattle.blake3_packed.specs.Lanes.{ArePlanes}
 use Rattle.blake3_packed.specs.Laws.Written.{written, unwritten}
 use Rattle.blake3_packed.specs.Laws.Planes.{sum_bit, carry_bit, bit_of_sum_here, next_carry, no_carry}

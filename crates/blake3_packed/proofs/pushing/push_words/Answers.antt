@@ -1,4 +1,4 @@
-use Rattle.std.proofs.Common.{ℕ, ◌+◌, arith}
+use Rattle.std.proofs.Common.{◌+◌, arith}
 use Rattle.std.specs.Int.{bit_at}
 use Rattle.p3_field.specs.Poly.{tabulate}
 use Rattle.blake3_packed.specs.Laws.Lanes.{pushed_none, pushed_more, pushed_all}

@@ -1,4 +1,4 @@
-use Rattle.std.proofs.Common.{ℕ, ◌+◌, ◌*◌, lit<}
+use Rattle.std.proofs.Common.{◌+◌, ◌*◌, lit<}
 use Rattle.std.specs.Int.{bit_at}
 use Rattle.blake3_compress.specs.Compress.{iv}
 use Rattle.blake3_packed.specs.Laws.Present.{four_planes}

@@ -1,11 +1,10 @@
-use Rattle.std.proofs.Common.{◌≡◌, ℕ, ◌+◌, ◌*◌, ◌%◌, ◌<◌, List, [], get_or, set, length, refl, sym, ◌∙◌, subst, arith, length-set}
-use Rattle.air_core.specs.Joined.{joined}
-use Rattle.blake3_compress.specs.Compress.{Input, State, word, column_of, step_of_word, words_taken}
-use Rattle.blake3_packed.specs.Lanes.{PushedLanes, ArePlanes, AreWordPlanes}
+use Rattle.std.proofs.Common.{◌≡◌, ℕ, ◌+◌, ◌*◌, ◌%◌, ◌<◌, [], get_or, refl, sym, ◌∙◌, subst, arith, length-set}
+use Rattle.blake3_compress.specs.Compress.{word, column_of, step_of_word, words_taken}
+use Rattle.blake3_packed.specs.Lanes.{ArePlanes}
 use Rattle.blake3_packed.specs.States.{AreQuarter, made_twice, step_cells}
 use Rattle.blake3_packed.specs.Laws.Lanes.{pushed_none, pushed_more, pushed_all}
-use Rattle.blake3_packed.specs.Laws.Steps.{going, row_more, row_before, row_after, row_next, rounds_made}
-use Rattle.blake3_packed.proofs.steps.push_four.Invariants.{after, Going}
+use Rattle.blake3_packed.specs.Laws.Steps.{row_more, row_before, row_after, row_next, rounds_made}
+use Rattle.blake3_packed.proofs.steps.push_four.Invariants.{after}
 use Rattle.blake3_packed.proofs.steps.push_four.Goals as goal
 
 pub loop-g-init : goal.loop-g-init
@@ -73,7 +72,7 @@ loop-g-preserved c =
       so_far = λ x v hw h.
           let S = I.so_far x v hw h in
           let q = λ (j : ℕ). words_taken t (v j) g in
-          let Q : AreQuarter (get_or c.loop-g.state.row0 i0 []) (get_or c.loop-g.state.row1 i1 []) (get_or c.loop-g.state.row2 i2 []) (get_or c.loop-g.state.row3 i3 []) q = record {
+          let Q : AreQuarter (record { a = get_or c.loop-g.state.row0 i0 []; b = get_or c.loop-g.state.row1 i1 []; c = get_or c.loop-g.state.row2 i2 []; d = get_or c.loop-g.state.row3 i3 [] }) q = record {
             a_planes = subst (λ i. ArePlanes (get_or c.loop-g.state.row0 i0 []) (λ j. v j 0 i)) e0 (row_next (step_of_word t 0) g i0 (after x p v 0) (λ j. v j 0) c.loop-g.state.row0 l0 s0 S.rows0);
             b_planes = subst (λ i. ArePlanes (get_or c.loop-g.state.row1 i1 []) (λ j. v j 1 i)) e1 (row_next (step_of_word t 1) g i1 (after x p v 1) (λ j. v j 1) c.loop-g.state.row1 l1 s1 S.rows1);
             c_planes = subst (λ i. ArePlanes (get_or c.loop-g.state.row2 i2 []) (λ j. v j 2 i)) e2 (row_next (step_of_word t 2) g i2 (after x p v 2) (λ j. v j 2) c.loop-g.state.row2 l2 s2 S.rows2);
@@ -81,14 +80,14 @@ loop-g-preserved c =
           } in
           let R = c.in_ok-push_step.ensures x q hw Q in
           record {
-            rows0 = row_more (step_of_word t 0) g i0 (after x p v 0) (λ j. v j 0) c.loop-g.state.row0 c.push_step.new.a I.long0 l0 s0 (λ i li e. omega (arith, li, e, lg)) S.rows0
-                (subst (λ k. ArePlanes c.push_step.new.a (λ j. word (made_twice (x j) p k (words_taken t (v j) k)) 0)) (sym s0) R.1.a_planes);
-            rows1 = row_more (step_of_word t 1) g i1 (after x p v 1) (λ j. v j 1) c.loop-g.state.row1 c.push_step.new.b I.long1 l1 s1 (λ i li e. omega (arith, li, e, lg)) S.rows1
-                (subst (λ k. ArePlanes c.push_step.new.b (λ j. word (made_twice (x j) p k (words_taken t (v j) k)) 1)) (sym s1) R.1.b_planes);
-            rows2 = row_more (step_of_word t 2) g i2 (after x p v 2) (λ j. v j 2) c.loop-g.state.row2 c.push_step.new.c I.long2 l2 s2 (λ i li e. omega (arith, li, e, lg)) S.rows2
-                (subst (λ k. ArePlanes c.push_step.new.c (λ j. word (made_twice (x j) p k (words_taken t (v j) k)) 2)) (sym s2) R.1.c_planes);
-            rows3 = row_more (step_of_word t 3) g i3 (after x p v 3) (λ j. v j 3) c.loop-g.state.row3 c.push_step.new.d I.long3 l3 s3 (λ i li e. omega (arith, li, e, lg)) S.rows3
-                (subst (λ k. ArePlanes c.push_step.new.d (λ j. word (made_twice (x j) p k (words_taken t (v j) k)) 3)) (sym s3) R.1.d_planes);
+            rows0 = row_more (step_of_word t 0) g i0 (after x p v 0) (λ j. v j 0) c.loop-g.state.row0 c.push_step.new.taken.a I.long0 l0 s0 (λ i li e. omega (arith, li, e, lg)) S.rows0
+                (subst (λ k. ArePlanes c.push_step.new.taken.a (λ j. word (made_twice (x j) p k (words_taken t (v j) k)) 0)) (sym s0) R.1.a_planes);
+            rows1 = row_more (step_of_word t 1) g i1 (after x p v 1) (λ j. v j 1) c.loop-g.state.row1 c.push_step.new.taken.b I.long1 l1 s1 (λ i li e. omega (arith, li, e, lg)) S.rows1
+                (subst (λ k. ArePlanes c.push_step.new.taken.b (λ j. word (made_twice (x j) p k (words_taken t (v j) k)) 1)) (sym s1) R.1.b_planes);
+            rows2 = row_more (step_of_word t 2) g i2 (after x p v 2) (λ j. v j 2) c.loop-g.state.row2 c.push_step.new.taken.c I.long2 l2 s2 (λ i li e. omega (arith, li, e, lg)) S.rows2
+                (subst (λ k. ArePlanes c.push_step.new.taken.c (λ j. word (made_twice (x j) p k (words_taken t (v j) k)) 2)) (sym s2) R.1.c_planes);
+            rows3 = row_more (step_of_word t 3) g i3 (after x p v 3) (λ j. v j 3) c.loop-g.state.row3 c.push_step.new.taken.d I.long3 l3 s3 (λ i li e. omega (arith, li, e, lg)) S.rows3
+                (subst (λ k. ArePlanes c.push_step.new.taken.d (λ j. word (made_twice (x j) p k (words_taken t (v j) k)) 3)) (sym s3) R.1.d_planes);
             pushed = pushed_more g 190 (λ j k. step_cells (x j) p k (words_taken t (v j) k)) S.pushed R.0;
           };
     }

@@ -1,9 +1,9 @@
-use Rattle.std.proofs.Common.{◌≡◌, ℕ, ◌+◌, ◌*◌, ◌++◌, sym, ◌∙◌, ap, subst, arith}
+use Rattle.std.proofs.Common.{◌≡◌, ℕ, ◌+◌, ◌*◌, ◌++◌, ◌∙◌, ap, subst, arith}
 use Rattle.blake3_compress.specs.Compress.{half_quarter_round}
 use Rattle.blake3_compress.specs.TraceRow.{message_of}
 use Rattle.blake3_binary.specs.Row.{quarter_cells}
 use Rattle.blake3_packed.specs.Lanes.{PushedLanes}
-use Rattle.blake3_packed.specs.States.{AreQuarter, made, made_twice, step_cells}
+use Rattle.blake3_packed.specs.States.{AreQuarter, made, made_twice}
 use Rattle.blake3_packed.specs.Laws.Lanes.{pushed_both}
 use Rattle.blake3_packed.specs.Laws.Steps.{first_message, second_message, first_made, second_made}
 use Rattle.blake3_packed.proofs.steps.push_step.Goals as goal
@@ -23,5 +23,5 @@ returns c x q hw hq =
     let f2 : (j : ℕ) → half_quarter_round 8 7 (half_quarter_round 16 12 (q j) (x j m1)) (x j m2) ≡ made_twice (x j) p g (q j) =
     λ j. second_made (x j) p g m2 (half_quarter_round 16 12 (q j) (x j m1)) e2 ∙ ap (made (x j) (2 * p + 1) g) (f1 j) in (
       subst (PushedLanes c.args.values.now.items c.push_half-2.new.values.items 190) (λ i j. quarter_cells (q j) (f1 j i) ++ quarter_cells (f1 j i) (f2 j i)) (pushed_both one.0 two.0),
-      subst (AreQuarter c.push_half-2.new.a c.push_half-2.new.b c.push_half-2.new.c c.push_half-2.new.d) (λ i j. f2 j i) two.1,
+      subst (AreQuarter c.push_half-2.new.taken) (λ i j. f2 j i) two.1,
     )

@@ -3,7 +3,7 @@ use Rattle.air_core.specs.Joined.{joined}
 use Rattle.blake3_binary.specs.Laws.Pushing.{laid_by_fours}
 use Rattle.blake3_binary.specs.Trees.{laid}
 use Rattle.blake3_packed.specs.Lanes.{PushedLanes}
-use Rattle.blake3_packed.specs.States.{HasStates, lane_first, lane_state, lane_half}
+use Rattle.blake3_packed.specs.States.{HasStates, lane_state, lane_half}
 use Rattle.blake3_packed.specs.Laws.Lanes.{pushed_none, pushed_more, pushed_all, pushed_same}
 use Rattle.blake3_packed.specs.Laws.States.{lane_start, lane_next_two, four_halves}
 use Rattle.blake3_packed.proofs.steps.push_steps.Goals as goal

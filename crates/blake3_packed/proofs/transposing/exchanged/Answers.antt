@@ -1,4 +1,4 @@
-use Rattle.std.proofs.Common.{◌≡◌, ℕ, ◌+◌, ◌*◌, ◌<◌, ◌∙◌, refl, get_or, set, length, arith, subst, length-set}
+use Rattle.std.proofs.Common.{◌≡◌, ◌+◌, ◌*◌, ◌<◌, ◌∙◌, refl, arith, subst, length-set}
 use Rattle.blake3_packed.specs.Lanes.{ExchangedBelow}
 use Rattle.blake3_packed.specs.Laws.Transposed.{none_exchanged, more_exchanged}
 use Rattle.blake3_packed.proofs.transposing.exchanged.Goals as goal
