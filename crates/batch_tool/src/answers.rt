@@ -16,11 +16,7 @@ use tool_verifier::{Answer, Status, answer_verify};
 const BAD_INPUT: &[u8] = b"bad input at line ";
 
 /// What `prove` answers for all the bytes of an input over the transcript of this version, which are let go once they are read.
-pub(crate) fn job_answer(
-    alloc: Global,
-    version: TranscriptVersion,
-    bytes: Vec<u8>,
-) -> Mem<Answer>
+pub(crate) fn job_answer(alloc: Global, version: TranscriptVersion, bytes: Vec<u8>) -> Mem<Answer>
     ensures { IfOk result (λ a. IsProveAnswer version bytes.items a.status a.text.items) }
 {
     let read = read_job(alloc, &bytes);

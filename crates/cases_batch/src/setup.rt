@@ -187,7 +187,11 @@ pub fn instance(alloc: Global, words: &[&str]) -> Mem<String> {
         trace: &trace,
         public_values: Vec::new(alloc),
     }];
-    match ProverData::<ToolConfig>::from_instances(alloc, &tool_config(TranscriptVersion::V1), &instances) {
+    match ProverData::<ToolConfig>::from_instances(
+        alloc,
+        &tool_config(TranscriptVersion::V1),
+        &instances,
+    ) {
         Ok(data) => shown(alloc, &data, &airs),
         Err(error) => format!(in alloc; "{error}"),
     }

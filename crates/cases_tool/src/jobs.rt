@@ -32,9 +32,7 @@ pub fn job<R: Print + AllocGlobal>(
         }
         "traces" => print_traces(rt, &traces_of(alloc, &job)?),
         "cells" => print_cells(rt, &traces_of(alloc, &job)?, words),
-        "answer_prove" => {
-            print_answer(rt, &answer_prove(alloc, TranscriptVersion::V1, &job)?)
-        }
+        "answer_prove" => { print_answer(rt, &answer_prove(alloc, TranscriptVersion::V1, &job)?) }
         _ => rt.println("bad case"),
     }
 }

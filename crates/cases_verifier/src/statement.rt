@@ -109,7 +109,12 @@ fn tables_stated(alloc: Global, name: &str, tables: &[Vec<u64>]) -> Mem<Option<S
         return Ok(None);
     }
     let shared = match name {
-        "tool" => shared(alloc, &tool_config(TranscriptVersion::V1), &airs, &degree_bits),
+        "tool" => shared(
+            alloc,
+            &tool_config(TranscriptVersion::V1),
+            &airs,
+            &degree_bits,
+        ),
         _ => shared(alloc, &small_config(0), &airs, &degree_bits),
     };
     let Some(common) = shared else {

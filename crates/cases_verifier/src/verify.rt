@@ -146,7 +146,14 @@ pub fn tables(
     match name {
         "tool" => {
             let proof = proof_of::<CommitmentText, QuarticExtension>(alloc, numbers)?;
-            said(alloc, &tool_config(TranscriptVersion::V1), airs, publics, common, proof)
+            said(
+                alloc,
+                &tool_config(TranscriptVersion::V1),
+                airs,
+                publics,
+                common,
+                proof,
+            )
         }
         "small" => small(alloc, 0, airs, publics, common, numbers),
         "fixed" => fixed(alloc, stated, head, numbers),

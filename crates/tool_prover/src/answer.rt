@@ -100,11 +100,7 @@ fn proved_answer(
 /// with the table and the row, or `WitnessNotFound ood`, where one of these events comes on the challenges that are drawn; `Refused` with
 /// `OodPointInDomain`, where the drawn point lies on the rows of a table; and `Done` with the text of the job's honest proof, for which
 /// `verify` writes `accepted`. The only error is running out of memory.
-pub fn answer_prove(
-    alloc: Global,
-    version: TranscriptVersion,
-    job: &[JobTable],
-) -> Mem<Answer>
+pub fn answer_prove(alloc: Global, version: TranscriptVersion, job: &[JobTable]) -> Mem<Answer>
     requires { JobWithin (read_tables job.now) }
     ensures { IfOk result (λ a. IsJobAnswer version (read_tables job.now) a.status a.text.items) }
 {

@@ -25,9 +25,7 @@ pub fn tool_config(version: TranscriptVersion) -> ToolConfig
     ensures setting { ⟦<ToolConfig as Settings>⟧.setting result ≡ tool_setting version }
 {
     match PlainPcs::new(Radix2Dit, 1) {
-        Some(pcs) => {
-            ToolConfig::new(pcs, Sha256Challenger::new(), 4, 4).with_version(version)
-        }
+        Some(pcs) => { ToolConfig::new(pcs, Sha256Challenger::new(), 4, 4).with_version(version) }
         None => unreachable!(),
     }
 }
