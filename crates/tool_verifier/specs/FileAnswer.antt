@@ -1,5 +1,5 @@
 -- What `verify` answers for a proof file: a status and a text.
-use Rattle.std.specs.Prelude.{◌≡◌, ◌⊎◌, ℕ, ◌^◌, ◌<◌, List, [], ◌∷◌, ◌++◌, codes, slice_get, Some}
+use Rattle.std.specs.Prelude.{◌≡◌, ◌⊎◌, ℕ, ◌^◌, ◌<◌, ◌≤◌, List, [], ◌∷◌, ◌++◌, All, codes, length, map, slice_get, Some, sum}
 use Rattle.std.specs.Prelude.{slice_index_or as get_or}
 use Rattle.blake3_compress.specs.Compress.{Input}
 use Rattle.blake3_compress.specs.TraceRow.{AreWords}
@@ -11,8 +11,13 @@ use Rattle.tool_hash_lines.specs.PrintedRows.{committed_cells, printed_rows}
 use Rattle.tool_hash_lines.specs.RowText.{row_line, words_line}
 use Rattle.batch_statement.specs.declared.error.BatchVerificationError.{BatchVerificationError}
 use Rattle.verifier_batch.specs.BatchChecks.{Accepted, FirstFault}
+use Rattle.p3_field.specs.declared.quartic.QuarticExtension.{QuarticExtension}
+use Rattle.law_committed.specs.Batch.{IsUnluckyAlphaOfBatch, IsUnluckyZetaOfBatch}
+use Rattle.law_committed.specs.Unlucky.{AreDistinct}
+use Rattle.law_soundness.specs.CommittedBatch.{committed_batch}
 use Rattle.law_soundness.specs.Meaning.{HoldUnlessUnlucky, IsAlphaUnlucky, IsZetaUnlucky}
 use Rattle.law_soundness.specs.Swapped.{EndsSwapped}
+use Rattle.law_soundness.specs.UnluckyCounts.{most_alphas, most_zetas}
 use Rattle.tool_proof_text.specs.ProofText.{ToolProofData}
 use Rattle.tool_statement.specs.Config.{tool_setting, tool_backend}
 use Rattle.tool_statement.specs.StatedTables.{HaveStatedHeights, IsHeightMismatch, tool_statement}
@@ -43,12 +48,24 @@ PrintCompressions version tables p =
     → (i k row : ℕ) → slice_get tables i ≡ Some (Hash k) → row < 2 ^ k
     → (x : Input) × AreWords x × (row_line row (committed_cells tables p i row) ≡ words_line (printed_compression_words x))
 
+-- How few challenges are unlucky for the committed tables, whatever is drawn: of alphas at most the sum of `most_alphas` of the tables, and with any alpha
+-- of zetas at most the sum of `most_zetas`. Counts are of lists without repetitions, and say nothing of how likely one of these is drawn.
+pub record FewAreUnlucky (version : TranscriptVersion) (tables : List TableStatement) (p : ToolProofData) : Type 0 where
+  pub alphas : (alphas : List QuarticExtension) → AreDistinct (tool_setting version).extension.ring.zero alphas
+      → All (IsUnluckyAlphaOfBatch (tool_setting version).field (tool_setting version).extension (committed_batch (tool_setting version) 1 (tool_statement tables) p)) alphas
+      → length alphas ≤ sum (map most_alphas (committed_batch (tool_setting version) 1 (tool_statement tables) p))
+  pub zetas : (alpha : QuarticExtension) (zetas : List QuarticExtension) → AreDistinct (tool_setting version).extension.ring.zero zetas
+      → All (IsUnluckyZetaOfBatch (tool_setting version).field (tool_setting version).extension (committed_batch (tool_setting version) 1 (tool_statement tables) p) alpha) zetas
+      → length zetas ≤ sum (map most_zetas (committed_batch (tool_setting version) 1 (tool_statement tables) p))
+
 -- What an accepted proof means: every constraint of every table is zero on each row of the committed polynomials, or the drawn alpha or the drawn zeta
--- is unlucky; and where neither is, swap tables end as they should, and what is printed are compressions. The scheme's blowup is two to the power of one.
+-- is unlucky; and where neither is, swap tables end as they should, and what is printed are compressions. Few challenges are unlucky. The scheme's blowup is
+-- two to the power of one.
 pub record IsMeant (version : TranscriptVersion) (tables : List TableStatement) (p : ToolProofData) : Type 0 where
   pub holds : HoldUnlessUnlucky (tool_setting version) 1 (tool_statement tables) p
   pub swaps : SwapsEnd version tables p
   pub hashes : PrintCompressions version tables p
+  pub few : FewAreUnlucky version tables p
 
 -- the text where the proof is accepted: `accepted`, and the rows of hash tables
 abbrev pub accepted_text : List TableStatement → ToolProofData → List ℕ

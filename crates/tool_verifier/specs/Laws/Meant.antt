@@ -24,9 +24,10 @@ use Rattle.law_committed.specs.Fields.{FieldsLaws, baby_bear_field, quartic_exte
 use Rattle.batch_statement.specs.Statement.{Statement, AirTable, WellFormed}
 use Rattle.batch_statement.specs.Words.{no_table}
 use Rattle.verifier_batch.specs.BatchChecks.{Accepted}
-use Rattle.law_soundness.specs.CommittedBatch.{ReadDeclared, committed_at, committed_table_at, lookups_at, stated_table}
-use Rattle.law_soundness.specs.Laws.Accepted.{batch_holds, heights_fit}
+use Rattle.law_soundness.specs.CommittedBatch.{ReadDeclared, committed_at, committed_batch, committed_table_at, lookups_at, stated_table}
+use Rattle.law_soundness.specs.Laws.Accepted.{batch_holds, batch_low, heights_fit}
 use Rattle.law_soundness.specs.Laws.Bound.{Binds}
+use Rattle.law_soundness.specs.Laws.Counts.{few_batch_alphas, few_batch_zetas}
 use Rattle.law_soundness.specs.Laws.Opened.{columns_declared}
 use Rattle.law_soundness.specs.Laws.Swap.{holds_before}
 use Rattle.law_soundness.specs.Laws.SwapTables.{first_of, swaps_end}
@@ -46,7 +47,7 @@ use Rattle.tool_proof_text.specs.ProofText.{ToolProofData}
 use Rattle.tool_hash_lines.specs.Laws.Compressions.{line_of_compression}
 use Rattle.tool_hash_lines.specs.Laws.Matrices.{binds_of_tool, degree, laws_of_tool, plain_tool}
 use Rattle.tool_hash_lines.specs.PrintedRows.{committed_cells}
-use Rattle.tool_verifier.specs.FileAnswer.{PrintCompressions, SwapsEnd}
+use Rattle.tool_verifier.specs.FileAnswer.{FewAreUnlucky, PrintCompressions, SwapsEnd}
 
 -- the tables' constraints read declared cells
 table_read : (t : TableStatement) → All (ReadsDeclared (declared_shape (source_of_table t).declaration)) (source_of_table t).trees
@@ -73,6 +74,18 @@ module _ (version : TranscriptVersion) (tables : List TableStatement) (p : ToolP
   -- all tables hold, or a challenge is unlucky
   pub tables_hold : HoldUnlessUnlucky (tool_setting version) 1 s p
   tables_hold = batch_holds (tool_setting version) tool_backend 1 s p quartic_inv fields (plain_tool version) binds formed accepted reads
+
+  -- few challenges are unlucky
+  pub few_unlucky : FewAreUnlucky version tables p
+  few_unlucky =
+      let c = tool_setting version in
+      let batch = committed_batch c 1 s p in
+      let fit = heights_fit c tool_backend 1 s p quartic_inv fields (plain_tool version) binds formed accepted in
+      let low = batch_low c tool_backend 1 s p quartic_inv fields (plain_tool version) binds formed accepted in
+      record {
+        alphas = λ alphas distinct unlucky. few_batch_alphas c.field c.extension c.two_adicity quartic_inv fields batch alphas distinct unlucky;
+        zetas = λ alpha zetas distinct unlucky. few_batch_zetas c.field c.extension c.two_adicity quartic_inv fields batch alpha zetas fit low distinct unlucky;
+      }
 
   -- a table at its place
   module _ (i : ℕ) (t : TableStatement) (at : slice_get tables i ≡ Some t) where

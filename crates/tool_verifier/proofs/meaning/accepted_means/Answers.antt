@@ -1,6 +1,6 @@
 use Rattle.tool_hash_lines.specs.Laws.Matrices.{hash_matrices}
 use Rattle.p3_field.specs.Quartic.{quartic_inv}
-use Rattle.tool_verifier.specs.Laws.Meant.{hashes, swaps, tables_hold}
+use Rattle.tool_verifier.specs.Laws.Meant.{few_unlucky, hashes, swaps, tables_hold}
 use Rattle.tool_verifier.proofs.meaning.accepted_means.Goals as goal
 
 pub returns-clause-holds : goal.returns-clause-holds
@@ -18,3 +18,7 @@ returns-clause-hashes c =
 pub returns-clause-matrices : goal.returns-clause-matrices
 returns-clause-matrices c =
     hash_matrices c.args.version c.args.tables.now c.args.proof.now quartic_inv c.baby_bear_has_laws.ensures (c.opened_claims_bind.ensures (record { log_blowup = 1 })) c.requires.formed c.requires.accepted
+
+pub returns-clause-few : goal.returns-clause-few
+returns-clause-few c =
+    few_unlucky c.args.version c.args.tables.now c.args.proof.now c.baby_bear_has_laws.ensures (c.opened_claims_bind.ensures (record { log_blowup = 1 })) c.requires.formed c.requires.accepted
