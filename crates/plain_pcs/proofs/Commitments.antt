@@ -1,6 +1,6 @@
 -- What commitments and their prover kept hold.
 use Rattle.std.proofs.Common.{◌≡◌, ℕ, ◌+◌, ◌^◌, ◌<◌, ◌≤◌, List, [], Some, length, get_or, map, refl, sym, ◌∙◌, ap, subst, arith}
-use Rattle.std.specs.Prelude.{slice_get, Result, Ok, Err}
+use Rattle.std.specs.Prelude.{slice_get, Result, Ok, Err, IfOk}
 use Rattle.std.specs.List.{All}
 use Rattle.std.proofs.lemmas.List.{ext_get_or}
 use Rattle.std.proofs.lemmas.Option.{slice_get-get_or, get_or_from_slice_get}
@@ -12,7 +12,7 @@ use Rattle.p3_matrix.specs.Laws.Cells.{length-column}
 use Rattle.p3_matrix.specs.Laws.Powers.{power_cancel}
 use Rattle.p3_dft.specs.Transform.{values_at}
 use Rattle.p3_dft.specs.Laws.Values.{length-values_at, get_or-values_at}
-use Rattle.commit_core.specs.Failure.{NoneOf}
+use Rattle.commit_core.specs.Failure.{NoneOf, RefusedBy}
 use Rattle.commit_core.specs.declared.failure.PcsFailure.{PcsFailure}
 use Rattle.commit_core.specs.declared.failure.PcsFailure.TheVariants.{OutOfMemory, Refused}
 use Rattle.commit_core.specs.Commitments.{Committed, IsCommitted, IsCommitment, AreExtensions}
@@ -22,11 +22,12 @@ use Rattle.plain_pcs.specs.Scheme.{Scheme, PlainCommitmentData}
 use Rattle.plain_pcs.specs.Extension.{extended_domain, extension_of, commitment_of, IsCommittable, Extends}
 use Rattle.plain_pcs.specs.Holding.{IsMade, IsHolding, AreHolding}
 use Rattle.plain_pcs.specs.Refusals.{CommitFault, ExtensionsFault, HasSubgroupHeight, IfOutOfMemory}
+use Rattle.plain_pcs.specs.declared.error.PlainProverError.{PlainProverError}
 use Rattle.plain_pcs.specs.declared.error.PlainProverError.TheVariants.{Commit, Open}
 use Rattle.plain_pcs.specs.Cosets.{IsOnCoset}
-use Rattle.plain_pcs.specs.Laws.Extensions.{polynomials, length-polynomials, get_or-polynomials, is_interpolant, width-extension, height-extension, column-extension}
+use Rattle.plain_pcs.specs.Laws.Extensions.{polynomials, length-polynomials, get_or-polynomials, is_interpolant, width-extension, height-extension, extended_height, column-extension}
 use Rattle.plain_pcs.specs.Laws.Listed.{item_at, item_has}
-use Rattle.plain_pcs.proofs.Lists.{same_item, none_first, each_is_map, each_mapped, each_zipped}
+use Rattle.plain_pcs.proofs.Lists.{none_first, each_is_map, each_mapped, each_zipped}
 
 -- a column is the values of its interpolant
 pub values_of_interpolant : {A : Type 0} (r : Ring A) (p : ℕ → A) (n : ℕ) (v f : List A) → length v ≡ n → IsInterpolant r p v f → v ≡ values_at r p n f
@@ -45,15 +46,16 @@ pub no_commit_fault : {F : Type 0} (s : Scheme F) (xs : List (CosetData F × Row
 no_commit_fault s xs all (Commit i) f = none_first (λ e. IsCommittable s e.0 e.1) xs i all f
 no_commit_fault s xs all (Open i) f = f
 
+-- what holds of an answer that is Ok holds of what follows from it
+pub if_ok_of : {T E : Type 0} (r : Result T E) (P Q : T → Type 0) → IfOk r P → ((w : T) → P w → Q w) → IfOk r Q
+if_ok_of (Ok w) P Q p f = f w p
+if_ok_of (Err e) P Q p f = tt
+
 pub no_height_fault : {F : Type 0} (s : Scheme F) (xs : List (Rows F)) → All (HasSubgroupHeight s.most) xs → NoneOf (ExtensionsFault s xs)
 no_height_fault s xs all (Commit i) f = none_first (HasSubgroupHeight s.most) xs i all f
 no_height_fault s xs all (Open i) f = f
 
--- matrices that can be committed to on their domains are prover data
-pub committable_made : {F : Type 0} (s : Scheme F) (evaluated : List (CosetData F × Rows F)) → All (λ e. IsCommittable s e.0 e.1) evaluated → IsMade evaluated
-committable_made s evaluated all = λ k d b. let C = all k d b in (C.has_columns, C.height_is)
-
--- so are matrices with the cosets of their heights
+-- matrices with the cosets of their heights are prover data
 pub cosets_made : {F : Type 0} (g : F) (top : ℕ) (ms : List (Rows F)) (kept : List (CosetData F × Rows F)) → All (HasSubgroupHeight top) ms → EachFrom ms kept (λ m e. IsOnCoset g m e) → IsMade kept
 cosets_made {F} g top ms kept all E = λ k d b.
     let e = get_or kept k d in
@@ -99,22 +101,6 @@ module _ {F : Type 0} (s : Scheme F) where
       each = λ j b. interpolates d m l E j b;
     }
 
-    -- prover data that holds the matrix itself
-    pub holding_given : (d : CosetData F) (m l : Rows F) → Extends s d m l → IsHolding s (d, m) l (opened_commitments_of (d, m))
-    unfolding extension_of
-    holding_given d m l E = record {
-      log_size = d.log_size;
-      size_is = refl;
-      fits = E.committable.fits;
-      within = omega arith;
-      count = length-polynomials s d m;
-      lengths = lengths_are d m l E;
-      values_are = λ j b.
-          let r = s.field.ring in
-          values_of_interpolant r (point r s.field.root d) (2 ^ d.log_size) (column r.zero m j) (get_or (polynomials s d m) j []) (length-column r.zero m j ∙ E.committable.height_is) (interpolates d m l E j b);
-      extension_is = E.extension_is;
-    }
-
     -- prover data that holds the extension
     holding_whole : (d : CosetData F) (m l : Rows F) → Extends s d m l → IsHolding s (extended_domain s d.log_size, extension_of s d m) l (opened_commitments_of (d, m))
     unfolding extension_of
@@ -122,7 +108,7 @@ module _ {F : Type 0} (s : Scheme F) where
       log_size = d.log_size;
       size_is = refl;
       fits = E.committable.fits;
-      within = omega arith;
+      larger = refl;
       count = length-polynomials s d m ∙ sym (width-extension s L W T d m E.committable);
       lengths = lengths_are d m l E;
       values_are = λ j b. column-extension s L W T d m E.committable j (omega (arith, width-extension s L W T d m E.committable));
@@ -158,16 +144,17 @@ module _ {F : Type 0} (s : Scheme F) where
       );
     }
 
-    pub commitment_given : (evaluated : List (CosetData F × Rows F)) (ls : List (Rows F)) → All (λ e. IsCommittable s e.0 e.1) evaluated → AreExtensions (Extends s) evaluated ls
-        → IsCommitment s.field.ring (λ (d : CosetData F). 2 ^ d.log_size) (λ (d : CosetData F). point s.field.ring s.field.root d) (λ es (c : PlainCommitmentData F). c ≡ commitment_of s es) IsMade (AreHolding s) evaluated (record { matrices = ls }, evaluated)
-    commitment_given evaluated ls all E =
-        is_commitment evaluated evaluated ls E (sym E.count) (committable_made s evaluated all)
-        (λ i x e l a b c.
-        let same : x ≡ e = same_item evaluated i x e a b in
-        subst (λ (p : CosetData F × Rows F). IsHolding s p l (opened_commitments_of x)) same (holding_given x.0 x.1 l (E.each i l c x a)))
-
     pub commitment_extended : (chunks kept : List (CosetData F × Rows F)) (ls : List (Rows F)) → AreExtensions (Extends s) chunks ls → IsMade kept → EachFrom ls kept (λ m e. IsOnCoset s.field.generator m e)
         → IsCommitment s.field.ring (λ (d : CosetData F). 2 ^ d.log_size) (λ (d : CosetData F). point s.field.ring s.field.root d) (λ es (c : PlainCommitmentData F). c ≡ commitment_of s es) IsMade (AreHolding s) chunks (record { matrices = ls }, kept)
     commitment_extended chunks kept ls E made on =
         is_commitment chunks kept ls E on.count made
         (λ i x e l a b c. holding_extension x.0 x.1 l e (E.each i l c x a) (on.each i e b l c))
+
+    -- a commitment to extensions of committable matrices isn't refused
+    pub extended_refusal : {T : Type 0} (evaluated : List (CosetData F × Rows F)) (ls : List (Rows F)) (r : Result T (PcsFailure PlainProverError)) → All (λ e. IsCommittable s e.0 e.1) evaluated
+        → AreExtensions (Extends s) evaluated ls → RefusedBy (ExtensionsFault s ls) r → RefusedBy (CommitFault s evaluated) r
+    extended_refusal evaluated ls (Ok w) all E none = no_commit_fault s evaluated all
+    extended_refusal evaluated ls (Err OutOfMemory) all E none = tt
+    extended_refusal evaluated ls (Err (Refused e)) all E fault =
+        let heights : All (HasSubgroupHeight s.most) ls = λ i d b. extended_height s L W T evaluated ls E i (get_or ls i d) (slice_get-get_or ls i d b) in
+        absurd (no_height_fault s ls heights e fault)

@@ -1,12 +1,12 @@
 -- The values of held polynomials on a domain.
-use Rattle.std.proofs.Common.{◌≡◌, ℕ, zero, suc, ◌^◌, ◌<◌, ◌≤◌, List, [], ◌∷◌, Some, length, get_or, sym, ◌∙◌, arith}
+use Rattle.std.proofs.Common.{◌≡◌, ℕ, zero, suc, ◌^◌, ◌<◌, ◌≤◌, List, [], ◌∷◌, Some, length, get_or, subst, sym, ◌∙◌, arith}
 use Rattle.std.specs.Prelude.{slice_get, zip}
 use Rattle.std.proofs.Math.Pow.{pow_mono}
 use Rattle.p3_field.specs.Domain.{CosetData, point}
-use Rattle.p3_matrix.specs.Matrix.{Rows}
+use Rattle.p3_matrix.specs.Matrix.{Rows, height}
 use Rattle.commit_core.specs.Commitments.{Committed, IsEvaluated}
 use Rattle.plain_pcs.specs.Scheme.{Scheme, PlainCommitmentData}
-use Rattle.plain_pcs.specs.Holding.{IsHolding, AreHolding}
+use Rattle.plain_pcs.specs.Holding.{IsMade, IsHolding, AreHolding}
 use Rattle.plain_pcs.specs.Transfer.{IsTransfer}
 
 -- an item and the one at its place
@@ -24,7 +24,7 @@ module _ {F : Type 0} (s : Scheme F) where
     column_is = λ j b.
         let across : j < d.1.width = omega (arith, T.width_is) in
         let one : j < length c.polynomials = omega (arith, I.count) in
-        let wide : 2 ^ I.log_size ≤ 2 ^ d.0.log_size = pow_mono I.within in
+        let wide : 2 ^ I.log_size ≤ 2 ^ d.0.log_size = pow_mono (let n : I.log_size ≤ d.0.log_size = omega (arith, I.larger) in n) in
         let short : length (get_or c.polynomials j []) ≤ 2 ^ d.0.log_size = omega (arith, I.lengths j [] one, I.size_is, wide) in
         T.column_is j (get_or c.polynomials j []) across short (I.values_are j across);
   }
@@ -35,3 +35,7 @@ module _ {F : Type 0} (s : Scheme F) where
   evaluated items commitment cs idx d c to m H at held T =
       let (l, pair) = slice_get-zip_at items commitment.matrices idx d H.count at in
       evaluated_held d l c to m (H.each.each idx c held (d, l) pair) T
+
+-- the height of kept values
+pub made_height : {F : Type 0} (items : List (CosetData F × Rows F)) (idx : ℕ) (e : CosetData F × Rows F) → IsMade items → idx < length items → e ≡ get_or items idx e → height e.1 ≡ 2 ^ e.0.log_size
+made_height {F} items idx e made h at = subst (λ (x : CosetData F × Rows F). height x.1 ≡ 2 ^ x.0.log_size) (sym at) (made idx e h).1

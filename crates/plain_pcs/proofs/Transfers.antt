@@ -1,5 +1,5 @@
 -- Values of polynomials taken from one coset to another by a transform over the subgroup.
-use Rattle.std.proofs.Common.{◌≡◌, ℕ, ◌+◌, ◌-◌, ◌*◌, ◌/◌, ◌^◌, ◌<◌, ◌≤◌, List, length, get_or, sym, ◌∙◌, ap, arith}
+use Rattle.std.proofs.Common.{◌≡◌, ℕ, ◌+◌, ◌-◌, ◌*◌, ◌/◌, ◌^◌, ◌<◌, ◌≤◌, List, length, get_or, refl, sym, ◌∙◌, ap, arith}
 use Rattle.std.proofs.Math.Nat.{mul-div_cancel, mul-lt-mul_of_pos_left}
 use Rattle.std.proofs.Math.Pow.{pow_mono}
 use Rattle.std.proofs.lemmas.Nat.{pow-add, pow_pos}
@@ -160,3 +160,9 @@ module _ {A : Type 0} (r : Ring A) (L : RingLaws r) (inv : A → A) (W : FieldLa
     where
       smaller_height : (h c l k : ℕ) → l + c ≡ k → h * 2 ^ c ≡ 2 ^ k → h ≡ 2 ^ l
       smaller_height h c l k e q = product_cancel h (2 ^ l) (2 ^ c) (pow_pos c) (q ∙ (ap (λ n. 2 ^ n) (sym e) ∙ pow-add 2 l c))
+
+  -- the rows for the points of a smaller domain, of the matrix itself
+  pub transfer_part : (d e : CosetData A) (c : ℕ) (m u : Rows A) → d.log_size ≤ top → e.log_size + c ≡ d.log_size → e.shift ≡ d.shift → height m ≡ 2 ^ d.log_size → IsSplit m (2 ^ c) 0 u
+      → IsTransfer r root d e m u
+  transfer_part d e c m u fits sum shift size S =
+      transfer_smaller d e d c m m u fits sum shift (record { width_is = refl; height_is = size; column_is = λ j f b short is. is }) S

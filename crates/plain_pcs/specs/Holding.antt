@@ -12,13 +12,13 @@ use Rattle.plain_pcs.specs.Extension.{extended_domain, evaluations}
 abbrev pub IsMade : {F : Type 0} → List (CosetData F × Rows F) → Type 0
 IsMade matrices = All (λ e. (0 < e.1.width) × (height e.1 ≡ 2 ^ e.0.log_size)) matrices
 
--- The matrix e.1 has the values of c's polynomials on the domain e.0, which is at least as large as the domain that
--- c's columns were given on; l is their extension.
+-- The matrix e.1 has the values of c's polynomials on the domain e.0, which is 2^log_blowup times as large as the domain
+-- that c's columns were given on; l is their extension.
 pub record IsHolding {F : Type 0} (s : Scheme F) (e : CosetData F × Rows F) (l : Rows F) (c : Committed F) : Type 0 where
   pub log_size : ℕ
   pub size_is : c.size ≡ 2 ^ log_size
   pub fits : log_size + s.log_blowup ≤ s.most
-  pub within : log_size ≤ e.0.log_size
+  pub larger : e.0.log_size ≡ log_size + s.log_blowup
   pub count : length c.polynomials ≡ e.1.width
   pub lengths : All (λ f. length f ≡ c.size) c.polynomials
   pub values_are : (j : ℕ) → j < e.1.width

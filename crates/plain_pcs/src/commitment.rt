@@ -46,8 +46,8 @@ pub(crate) fn copied_matrices<F: Copy>(
     Ok(copies)
 }
 
-/// The plain scheme's prover data (not in Plonky3): the committed values, each matrix with its domain. From `commit_ldes` it
-/// keeps the extensions, each with the coset of shift GENERATOR of its height.
+/// The plain scheme's prover data (not in Plonky3): the committed extensions, each with the coset of shift GENERATOR of its
+/// height.
 #[derive(Drop)]
 pub struct PlainProverData<F: TwoAdicCore> {
     pub(crate) evaluated: Vec<(TwoAdicMultiplicativeCoset<F>, RowMajorMatrix<F>)>,

@@ -15,16 +15,16 @@ ghost use Rattle.plain_pcs.specs.Refusals.{CommitFault, ExtensionsFault, HasSubg
 
 use crate::commitment::{PlainCommitment, PlainProverData, copied_matrices};
 use crate::error::PlainProverError;
-use crate::extending::{extensions_from, extensions_of, first_not_committable};
+use crate::extending::{extensions_from, first_not_committable};
 use commit_core::PcsFailure;
 use p3_dft::{TwoAdicSubgroupDft, interpolant_on_coset};
 use p3_field::{FieldCore, Mem, TwoAdicCore, TwoAdicField, TwoAdicMultiplicativeCoset};
 use p3_matrix::{RowMajorMatrix, is_power_of_two, log2_strict_usize};
 use std::alloc::Global;
 
-/// Commits to the columns of matrices on domains (not in Plonky3): the commitment is their extensions, and the prover
-/// keeps what it was given. Each matrix is copied once, for the transform that extends it. `Refused` names the first
-/// matrix that can't be committed to, and comes exactly where there is one.
+/// Commits to the columns of matrices on domains (not in Plonky3): the commitment is their extensions, of which the
+/// prover keeps a copy. The matrices themselves aren't copied. `Refused` names the first matrix that can't be committed
+/// to, and comes exactly where there is one.
 pub(crate) fn commit<F: TwoAdicField, D: TwoAdicSubgroupDft<F>>(
     alloc: Global,
     dft: &D,
@@ -41,13 +41,8 @@ pub(crate) fn commit<F: TwoAdicField, D: TwoAdicSubgroupDft<F>>(
     if let Some(matrix) = first_not_committable(log_blowup, &evaluations) {
         return Err(PcsFailure::Refused(PlainProverError::Commit { matrix }));
     }
-    let matrices = extensions_of(alloc, dft, log_blowup, &evaluations)?;
-    Ok((
-        PlainCommitment { matrices },
-        PlainProverData {
-            evaluated: evaluations,
-        },
-    ))
+    let ldes = extensions_from(alloc, dft, log_blowup, evaluations)?;
+    commit_extensions(alloc, log_blowup, ldes)
 }
 
 /// The extensions of matrices on domains (not in Plonky3), without a copy of any. `Refused` names the first matrix

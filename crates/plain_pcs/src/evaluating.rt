@@ -23,8 +23,9 @@ use std::alloc::Global;
 /// The values of the polynomials of the matrix at place `idx` on a domain, a row for each point and a column for each
 /// polynomial (not in Plonky3).
 ///
-/// Prover data holds the polynomials' values on a domain of its own, and one transform leads from there. Only memory can
-/// run out.
+/// Prover data holds the polynomials' values on a domain of its own. Where the asked domain's points are some of these, its rows are
+/// read as they are, as `get_evaluations_on_domain` of Plonky3's schemes does; one transform leads to any other. Only memory can run
+/// out.
 pub(crate) fn evaluations_on_domain<F: TwoAdicField, D: TwoAdicSubgroupDft<F>>(
     alloc: Global,
     dft: &D,
@@ -38,10 +39,32 @@ pub(crate) fn evaluations_on_domain<F: TwoAdicField, D: TwoAdicSubgroupDft<F>>(
         → AreHolding (scheme F.ring F.inv F.root F.GENERATOR F.TWO_ADICITY b) prover_data.now commitment cs → slice_get cs idx ≡ Some c
         → IsEvaluated F.ring (2 ^ domain.log_size) (point F.ring F.root domain) c m) }
 {
-    let evaluated = &prover_data.evaluated[idx];
-    let matrix = evaluated.1.try_clone(alloc)?;
-    let values = transferred(alloc, dft, evaluated.0, matrix, domain)?;
+    let (from, matrix) = &prover_data.evaluated[idx];
+    if from.shift() == domain.shift() && domain.log_size() <= from.log_size() {
+        let rows = rows_on(alloc, from, matrix, &domain)?;
+        return Ok(rows);
+    }
+    let copy = matrix.try_clone(alloc)?;
+    let values = transferred(alloc, dft, *from, copy, domain)?;
     Ok(values)
+}
+
+/// The rows of a matrix for the points of a domain that are some of its own.
+pub(crate) fn rows_on<F: TwoAdicField>(
+    alloc: Global,
+    from: &TwoAdicMultiplicativeCoset<F>,
+    values: &RowMajorMatrix<F>,
+    to: &TwoAdicMultiplicativeCoset<F>,
+) -> Mem<RowMajorMatrix<F>>
+    requires height { height values.now ≡ 2 ^ from.now.log_size }
+    requires shift { to.now.shift ≡ from.now.shift }
+    requires smaller { to.now.log_size ≤ from.now.log_size }
+    ensures { IfOk result (IsTransfer F.ring F.root from.now to.now values.now) }
+{
+    from.valid();
+    let log_stride = from.log_size() - to.log_size();
+    let rows = rows_from(alloc, values, 0, 1 << log_stride)?;
+    Ok(rows)
 }
 
 /// The table of periodic columns on a quotient domain: a column for each, laid over the trace domain, and the rows that the

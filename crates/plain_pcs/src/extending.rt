@@ -65,27 +65,7 @@ pub(crate) fn first_not_committable<F: TwoAdicField>(
     None
 }
 
-/// The extensions of matrices on their domains. Each matrix is copied once, for the transform that consumes it.
-pub(crate) fn extensions_of<F: TwoAdicField, D: TwoAdicSubgroupDft<F>>(
-    alloc: Global,
-    dft: &D,
-    log_blowup: usize,
-    evaluations: &[(TwoAdicMultiplicativeCoset<F>, RowMajorMatrix<F>)],
-) -> Mem<Vec<RowMajorMatrix<F>>>
-    requires { All (λ e. IsCommittable (scheme F.ring F.inv F.root F.GENERATOR F.TWO_ADICITY (record { log_blowup = log_blowup })) e.0 e.1) evaluations.now }
-    ensures { IfOk result (λ v. AreExtensions (Extends (scheme F.ring F.inv F.root F.GENERATOR F.TWO_ADICITY (record { log_blowup = log_blowup }))) evaluations.now v.items) }
-{
-    let mut extensions = Vec::with_capacity(alloc, evaluations.len())?;
-    for evaluated in evaluations {
-        let domain = evaluated.0;
-        domain.valid();
-        let matrix = evaluated.1.try_clone(alloc)?;
-        extensions.push(extension(alloc, dft, log_blowup, domain, matrix)?)?;
-    }
-    Ok(extensions)
-}
-
-/// The extensions of matrices on their domains, where the matrices aren't wanted afterwards: none is copied.
+/// The extensions of matrices on their domains. None is copied.
 pub(crate) fn extensions_from<F: TwoAdicField, D: TwoAdicSubgroupDft<F>>(
     alloc: Global,
     dft: &D,

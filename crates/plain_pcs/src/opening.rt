@@ -1,5 +1,5 @@
 //! Opening: the values of committed polynomials at points.
-ghost use Rattle.std.specs.Prelude.{◌≡◌, ℕ, ◌^◌, ◌<◌, ◌≤◌, List, All, length, map, IfOk, MatchOption};
+ghost use Rattle.std.specs.Prelude.{◌≡◌, ℕ, ◌-◌, ◌^◌, ◌<◌, ◌≤◌, List, All, length, map, IfOk, MatchOption};
 ghost use Rattle.p3_field.specs.Domain.{CosetData};
 ghost use Rattle.p3_matrix.specs.Matrix.{Rows, height};
 ghost use Rattle.commit_core.specs.Failure.{NoneOf, RefusedBy};
@@ -14,6 +14,7 @@ ghost use Rattle.plain_pcs.specs.Opening.{HaveMatrixValues, EachHasValues, opene
 
 use crate::commitment::PlainProverData;
 use crate::error::PlainProverError;
+use crate::evaluating::rows_on;
 use commit_core::{
     OpenedValues, OpenedValuesForMatrix, OpenedValuesForRound, OpeningRequest, PcsFailure,
 };
@@ -42,7 +43,7 @@ pub(crate) fn open<F: TwoAdicField, E: ExtensionField<F>>(
     if let Some(request) = first_unfit(requests) {
         return Err(PcsFailure::Refused(PlainProverError::Open { request }));
     }
-    let values = opened_requests(alloc, requests)?;
+    let values = opened_requests(alloc, log_blowup, requests)?;
     Ok(values)
 }
 
@@ -66,16 +67,17 @@ fn first_unfit<F: TwoAdicCore, E>(
 // The values that are asked for, request by request.
 fn opened_requests<F: TwoAdicField, E: ExtensionField<F>>(
     alloc: Global,
+    log_blowup: usize,
     requests: &[OpeningRequest<'_, PlainProverData<F>, E>],
 ) -> Mem<OpenedValues<E>>
     requires made { All (λ r. IsMade r.prover_data) requests.now }
     requires lists { All (λ r. length r.points ≡ length r.prover_data) requests.now }
     ensures { IfOk result (λ w. (held : List (OpenedCommitment (PlainCommitmentData F) F))
-        → EachFrom requests.now held (λ r h. EachHasValues F.ring F.root r.prover_data h.matrices) → nested w ≡ opened E.ring E.embed held requests.now) }
+        → EachFrom requests.now held (λ r h. EachHasValues F.ring F.root log_blowup r.prover_data h.matrices) → nested w ≡ opened E.ring E.embed held requests.now) }
 {
     let mut rounds = Vec::with_capacity(alloc, requests.len())?;
     for request in requests {
-        rounds.push(opened_matrices(alloc, request.prover_data, &request.points)?)?;
+        rounds.push(opened_matrices(alloc, log_blowup, request.prover_data, &request.points)?)?;
     }
     Ok(rounds)
 }
@@ -83,37 +85,59 @@ fn opened_requests<F: TwoAdicField, E: ExtensionField<F>>(
 // The values of the polynomials in prover data, matrix by matrix.
 fn opened_matrices<F: TwoAdicField, E: ExtensionField<F>>(
     alloc: Global,
+    log_blowup: usize,
     prover_data: &PlainProverData<F>,
     points: &[Vec<E>],
 ) -> Mem<OpenedValuesForRound<E>>
     requires made { IsMade prover_data.now }
     requires lists { length points.now ≡ length prover_data.now }
-    ensures { IfOk result (λ w. (cs : List (Committed F)) → EachHasValues F.ring F.root prover_data.now cs → map (λ m. map (λ v. v.items) m.items) w.items
+    ensures { IfOk result (λ w. (cs : List (Committed F)) → EachHasValues F.ring F.root log_blowup prover_data.now cs → map (λ m. map (λ v. v.items) m.items) w.items
         ≡ opened_each E.ring E.embed cs (map (λ v. v.items) points.now)) }
 {
     let mut matrices = Vec::with_capacity(alloc, points.len())?;
     for (index, list) in points.iter().enumerate() {
         let (domain, matrix) = &prover_data.evaluated[index];
-        matrices.push(opened_matrix(alloc, domain, matrix, list)?)?;
+        matrices.push(opened_matrix(alloc, log_blowup, domain, matrix, list)?)?;
     }
     Ok(matrices)
 }
 
-// The values of a matrix's polynomials, point by point.
+// The values of a matrix's polynomials, point by point. They have 2^log_blowup times fewer coefficients than the matrix has
+// rows, so they are read from the rows for the first of so many parts of its domain.
 fn opened_matrix<F: TwoAdicField, E: ExtensionField<F>>(
     alloc: Global,
+    log_blowup: usize,
     domain: &TwoAdicMultiplicativeCoset<F>,
     matrix: &RowMajorMatrix<F>,
     points: &[E],
 ) -> Mem<OpenedValuesForMatrix<E>>
     requires { height matrix.now ≡ 2 ^ domain.now.log_size }
-    ensures { IfOk result (λ w. (c : Committed F) → HaveMatrixValues F.ring F.root domain.now matrix.now c.polynomials → map (λ v. v.items) w.items ≡ map (values_of E.ring E.embed c) points.now) }
+    ensures { IfOk result (λ w. (c : Committed F) → HaveMatrixValues F.ring F.root (2 ^ (domain.now.log_size - log_blowup)) domain.now matrix.now c.polynomials
+        → map (λ v. v.items) w.items ≡ map (values_of E.ring E.embed c) points.now) }
 {
+    let part = first_part(domain, log_blowup);
+    let rows = rows_on(alloc, domain, matrix, &part)?;
     let mut values = Vec::with_capacity(alloc, points.len())?;
     for point in points {
-        values.push(opened_at(alloc, domain, matrix, *point)?)?;
+        values.push(opened_at(alloc, &part, &rows, *point)?)?;
     }
     Ok(values)
+}
+
+// The first of 2^log_parts parts of a domain, or of as many as it has points.
+fn first_part<F: TwoAdicField>(
+    domain: &TwoAdicMultiplicativeCoset<F>,
+    log_parts: usize,
+) -> TwoAdicMultiplicativeCoset<F>
+    ensures shift { result.shift ≡ domain.now.shift }
+    ensures size { result.log_size ≡ domain.now.log_size - log_parts }
+{
+    domain.valid();
+    let log_size = domain.log_size().saturating_sub(log_parts);
+    match TwoAdicMultiplicativeCoset::new(domain.shift(), log_size) {
+        Some(part) => part,
+        None => unreachable!(),
+    }
 }
 
 // The values of a matrix's polynomials at a point.
@@ -124,7 +148,7 @@ fn opened_at<F: TwoAdicField, E: ExtensionField<F>>(
     point: E,
 ) -> Mem<Vec<E>>
     requires { height matrix.now ≡ 2 ^ domain.now.log_size }
-    ensures { IfOk result (λ v. (c : Committed F) → HaveMatrixValues F.ring F.root domain.now matrix.now c.polynomials → v.items ≡ values_of E.ring E.embed c point) }
+    ensures { IfOk result (λ v. (c : Committed F) → HaveMatrixValues F.ring F.root (2 ^ domain.now.log_size) domain.now matrix.now c.polynomials → v.items ≡ values_of E.ring E.embed c point) }
 {
     domain.valid();
     let values = interpolate_coset(alloc, matrix, domain.shift(), point)?;

@@ -155,8 +155,8 @@ impl<F: TwoAdicField, D: TwoAdicSubgroupDft<F>, E: ExtensionField<F>, C> Pcs<E, 
         subgroup(log2_strict_usize(degree))
     }
 
-    /// The commitment is each matrix's extension, as wide and 2^`log_blowup` times as high, by one transform of a copy; the
-    /// prover keeps the matrices. `Commit` names the first that can't be committed to, and comes exactly where there is one.
+    /// The commitment is each matrix's extension, as wide and 2^`log_blowup` times as high, by one transform; the prover
+    /// keeps a copy of the extensions. `Commit` names the first that can't be committed to, and comes exactly where there is one.
     fn commit(
         &self,
         alloc: Global,
@@ -299,7 +299,8 @@ impl<F: TwoAdicField, D: TwoAdicSubgroupDft<F>, E: ExtensionField<F>, C> Univari
         commit_extensions(alloc, self.log_blowup, ldes)
     }
 
-    /// A row for each point of the domain and a column for each polynomial, by one transform of the kept matrix.
+    /// A row for each point of the domain and a column for each polynomial: rows of the kept extension where the domain's points are some
+    /// of its own, and else by one transform of it.
     fn get_evaluations_on_domain(
         &self,
         alloc: Global,

@@ -26,13 +26,14 @@ power_within k n h =
 
 module _ {F : Type 0} (s : Scheme F) where
   -- held polynomials have the values of the matrix that holds them
-  pub holding_values : (e : CosetData F × Rows F) (l : Rows F) (c : Committed F) → IsHolding s e l c → HaveMatrixValues s.field.ring s.field.root e.0 e.1 c.polynomials
+  pub holding_values : (e : CosetData F × Rows F) (l : Rows F) (c : Committed F) → IsHolding s e l c
+      → HaveMatrixValues s.field.ring s.field.root (2 ^ (e.0.log_size - s.log_blowup)) e.0 e.1 c.polynomials
   holding_values e l c I = record {
     count = I.count;
     short = λ k f h.
         let long = I.lengths k f h in
-        let within = power_within I.log_size e.0.log_size I.within in
-        omega (arith, long, I.size_is, within);
+        let size : 2 ^ I.log_size ≡ 2 ^ (e.0.log_size - s.log_blowup) = let n : I.log_size ≡ e.0.log_size - s.log_blowup = omega (arith, I.larger) in ap (λ k. 2 ^ k) n in
+        omega (arith, long, I.size_is, size);
     values_are = I.values_are;
   }
 
@@ -41,7 +42,7 @@ module _ {F : Type 0} (s : Scheme F) where
     pub holding_count : length cs ≡ length evaluated
     holding_count = held_count A
 
-    pub holding_each_values : EachHasValues s.field.ring s.field.root evaluated cs
+    pub holding_each_values : EachHasValues s.field.ring s.field.root s.log_blowup evaluated cs
     holding_each_values = record {
       count = holding_count;
       each = λ i c a e b.
@@ -51,7 +52,7 @@ module _ {F : Type 0} (s : Scheme F) where
     }
 
   module _ {E : Type 0} (requests : List (Request (List (CosetData F × Rows F)) E)) (held : List (OpenedCommitment (PlainCommitmentData F) F)) (A : AreOpenedCommitments (AreHolding s) requests held) where
-    pub held_values : EachFrom requests held (λ q h. EachHasValues s.field.ring s.field.root q.prover_data h.matrices)
+    pub held_values : EachFrom requests held (λ q h. EachHasValues s.field.ring s.field.root s.log_blowup q.prover_data h.matrices)
     held_values = record {
       count = A.count;
       each = λ i h a q b. holding_each_values q.prover_data h.commitment h.matrices (A.each i h a q b);
