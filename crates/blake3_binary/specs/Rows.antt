@@ -1,6 +1,8 @@
 -- The rows that the generators give.
-use Rattle.std.specs.Prelude.{ℕ, ◌*◌, ◌/◌, ◌%◌, ◌^◌, ◌≤◌, List, [], ◌∷◌, ◌++◌, length}
+use Rattle.std.specs.Prelude.{◌≡◌, ℕ, ◌*◌, ◌/◌, ◌%◌, ◌^◌, ◌<◌, ◌≤◌, List, [], ◌∷◌, ◌++◌, length}
 use Rattle.std.specs.Prelude.{slice_index_or as get_or}
+use Rattle.std.specs.Int.{IsPowerOfTwo}
+use Rattle.p3_field.specs.Ring.{Ring}
 use Rattle.p3_field.specs.Poly.{tabulate}
 use Rattle.air_core.specs.Joined.{joined}
 use Rattle.blake3_compress.specs.Compress.{Input}
@@ -30,3 +32,15 @@ binary_rows inputs = joined (length inputs) (λ i. binary_cells (compression inp
 -- the cells of so many rows times 2^extra are more than 64 bits count
 abbrev pub IsBinaryTooLong : ℕ → ℕ → Type 0
 IsBinaryTooLong rows extra = 2 ^ 64 ≤ rows * 11536 * 2 ^ extra
+
+-- so many rows can stand over a field in which one and one is this: it is zero, and their number is a power of two
+abbrev pub MayStand : {F : Type 0} → Ring F → F → ℕ → Type 0
+MayStand r two rows = (two ≡ r.zero) × (0 < rows) × IsPowerOfTwo rows
+
+-- over a field in which one and one is zero: there is no row
+abbrev pub HasNoRow : {F : Type 0} → Ring F → F → ℕ → Type 0
+HasNoRow r two rows = (two ≡ r.zero) × (rows ≡ 0)
+
+-- there are some, and their number is no power of two
+abbrev pub HasNoPower : {F : Type 0} → Ring F → F → ℕ → Type 0
+HasNoPower r two rows = (two ≡ r.zero) × (0 < rows) × (IsPowerOfTwo rows → ⊥)

@@ -19,7 +19,7 @@ use std::alloc::Global;
 pub const NUM_BLAKE3_BINARY_COLS: usize = 11536;
 
 /// The compression of BLAKE3 as a table over a field of characteristic two: one compression a row
-/// (`blake3_prime::Blake3BinaryAir`). Its two forms are made by `default` and `assuming_boolean_trace`.
+/// (`p3_blake3_air::Blake3BinaryAir`). Its two forms are made by `default` and `assuming_boolean_trace`.
 #[derive(Drop)]
 pub struct Blake3BinaryAir {
     boolean_trace: bool,

@@ -11,7 +11,7 @@ ghost use Rattle.blake3_binary.specs.Output.{HasWordAt, CountsAt, step_words, st
 use blake3_compress::FourWords;
 use p3_field::Field;
 
-/// A row by the names of its columns (`blake3_prime::Blake3BinaryCols`).
+/// A row by the names of its columns (`p3_blake3_air::Blake3BinaryCols`).
 #[derive(Drop)]
 pub struct Blake3BinaryCols<'a, T> {
     /// The cells of the row.
@@ -19,7 +19,7 @@ pub struct Blake3BinaryCols<'a, T> {
     pub ghost wide: { length row.now ≡ 11536 },
 }
 
-/// A step's cells by their names (`blake3_prime::Blake3BinaryGCols`). Of a compression's row d1 and b1 are d and b after the
+/// A step's cells by their names (`p3_blake3_air::Blake3BinaryGCols`). Of a compression's row d1 and b1 are d and b after the
 /// step's first half, d2 and b2 after it.
 #[derive(Drop)]
 pub struct Blake3BinaryGCols<'a, T> {

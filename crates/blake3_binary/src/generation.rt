@@ -12,7 +12,7 @@ ghost use Rattle.blake3_compress.specs.declared.error.TraceError.TheVariants.{Wr
 ghost use Rattle.blake3_binary.specs.Sums.{carry};
 ghost use Rattle.blake3_binary.specs.Trees.{laid};
 ghost use Rattle.blake3_binary.specs.Row.{quarter_cells, half_cells, binary_cells, binary_trace_row};
-ghost use Rattle.blake3_binary.specs.Rows.{compression_words, compression, nothing, binary_rows, IsBinaryTooLong};
+ghost use Rattle.blake3_binary.specs.Rows.{compression_words, compression, nothing, binary_rows, IsBinaryTooLong, MayStand, HasNoRow, HasNoPower};
 
 use crate::input::Blake3CompressionInput;
 use blake3_compress::{
@@ -185,14 +185,15 @@ fn room_for(rows: usize, extra: usize) -> Option<usize>
     cells.checked_mul(1 << extra)
 }
 
-/// The number of cells of so many rows times 2^extra, or why there is no trace of them over this field.
-pub fn room_of<F: Field>(rows: usize, extra: usize) -> Result<usize, TraceError>
-    ensures answers { MatchResult result (λ n. (n ≡ rows * 11536 * 2 ^ extra) × (F.TWO ≡ F.ring.zero) × (0 < rows) × IsPowerOfTwo rows × (IsBinaryTooLong rows extra → ⊥))
-        (λ e. (e ≡ WrongCharacteristic) ⊎ (e ≡ NoInput) ⊎ (e ≡ NotPowerOfTwo) ⊎ (e ≡ TooLong)) }
+/// Why there is no trace of so many compressions over this field: `WrongCharacteristic` exactly where one and one isn't zero
+/// in it, since the sums are laid out by exclusive ors; else `NoInput` exactly where there is none; else `NotPowerOfTwo`
+/// exactly where their number is no power of two, since a trace domain has a power of two rows.
+pub fn check_rows<F: Field>(rows: usize) -> Result<(), TraceError>
+    ensures answers { MatchResult result (λ _. MayStand F.ring F.TWO rows)
+        (λ e. (e ≡ WrongCharacteristic) ⊎ (e ≡ NoInput) ⊎ (e ≡ NotPowerOfTwo)) }
     ensures characteristic { (result ≡ Err WrongCharacteristic) ↔ (F.TWO ≡ F.ring.zero → ⊥) }
-    ensures no_input { (result ≡ Err NoInput) ↔ ((F.TWO ≡ F.ring.zero) × (rows ≡ 0)) }
-    ensures not_power { (result ≡ Err NotPowerOfTwo) ↔ ((F.TWO ≡ F.ring.zero) × (0 < rows) × (IsPowerOfTwo rows → ⊥)) }
-    ensures too_long { (result ≡ Err TooLong) ↔ ((F.TWO ≡ F.ring.zero) × (0 < rows) × IsPowerOfTwo rows × IsBinaryTooLong rows extra) }
+    ensures no_input { (result ≡ Err NoInput) ↔ HasNoRow F.ring F.TWO rows }
+    ensures not_power { (result ≡ Err NotPowerOfTwo) ↔ HasNoPower F.ring F.TWO rows }
 {
     if !<F as FieldCore>::is_zero(&<F as RingCore>::TWO) {
         return Err(TraceError::WrongCharacteristic);
@@ -203,13 +204,26 @@ pub fn room_of<F: Field>(rows: usize, extra: usize) -> Result<usize, TraceError>
     if !is_power_of_two(rows) {
         return Err(TraceError::NotPowerOfTwo);
     }
+    Ok(())
+}
+
+/// The number of cells of so many rows times 2^extra, or why there is no trace of them over this field.
+pub fn room_of<F: Field>(rows: usize, extra: usize) -> Result<usize, TraceError>
+    ensures answers { MatchResult result (λ n. (n ≡ rows * 11536 * 2 ^ extra) × (F.TWO ≡ F.ring.zero) × (0 < rows) × IsPowerOfTwo rows × (IsBinaryTooLong rows extra → ⊥))
+        (λ e. (e ≡ WrongCharacteristic) ⊎ (e ≡ NoInput) ⊎ (e ≡ NotPowerOfTwo) ⊎ (e ≡ TooLong)) }
+    ensures characteristic { (result ≡ Err WrongCharacteristic) ↔ (F.TWO ≡ F.ring.zero → ⊥) }
+    ensures no_input { (result ≡ Err NoInput) ↔ ((F.TWO ≡ F.ring.zero) × (rows ≡ 0)) }
+    ensures not_power { (result ≡ Err NotPowerOfTwo) ↔ ((F.TWO ≡ F.ring.zero) × (0 < rows) × (IsPowerOfTwo rows → ⊥)) }
+    ensures too_long { (result ≡ Err TooLong) ↔ ((F.TWO ≡ F.ring.zero) × (0 < rows) × IsPowerOfTwo rows × IsBinaryTooLong rows extra) }
+{
+    check_rows::<F>(rows)?;
     match room_for(rows, extra) {
         None => Err(TraceError::TooLong),
         Some(room) => Ok(room),
     }
 }
 
-/// The trace of these compressions: row i is the row of input i (`blake3_prime::generate_binary_trace_rows`). It has 11536
+/// The trace of these compressions: row i is the row of input i (`p3_blake3_air::generate_binary_trace_rows`). It has 11536
 /// columns. Room is kept for the cells times 2^`extra_capacity_bits`.
 ///
 /// `WrongCharacteristic` exactly where one and one isn't zero in the field; else `NoInput` exactly where there is no input;

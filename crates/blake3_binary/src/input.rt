@@ -1,6 +1,6 @@
 //! One compression as a caller gives it.
 
-/// One compression (`blake3_prime::Blake3CompressionInput`).
+/// One compression (`p3_blake3_air::Blake3CompressionInput`).
 #[derive(Clone, Copy, Default, PartialEq, Eq)]
 pub struct Blake3CompressionInput {
     /// The chaining value.

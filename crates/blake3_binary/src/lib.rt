@@ -23,5 +23,6 @@ mod words;
 pub use air::{Blake3BinaryAir, NUM_BLAKE3_BINARY_COLS};
 pub use blake3_compress::TraceError;
 pub use columns::{Blake3BinaryCols, Blake3BinaryGCols};
-pub use generation::generate_binary_trace_rows;
+pub use generation::{check_rows, generate_binary_trace_rows};
 pub use input::Blake3CompressionInput;
+pub use random::random_inputs;

@@ -67,12 +67,13 @@ fn next_input(generator: &mut Xoshiro256PlusPlus, i: usize) -> Blake3Compression
     }
 }
 
-// The inputs of so many compressions.
-fn random_inputs(alloc: Global, rows: usize) -> Mem<Vec<Blake3CompressionInput>>
+/// The inputs of so many compressions of random words, those of `Blake3BinaryAir::generate_random_trace_rows`. The one error
+/// is out of memory.
+pub fn random_inputs(alloc: Global, rows: usize) -> Mem<Vec<Blake3CompressionInput>>
     ensures { IfOk result (λ v. v.items ≡ binary_random_inputs rows) }
 {
     let mut generator = Xoshiro256PlusPlus::seed_from_u64(1);
-    let mut inputs = Vec::new(alloc);
+    let mut inputs = Vec::with_capacity(alloc, rows)?;
     for i in 0..rows {
         inputs.push(next_input(&mut generator, i))?;
     }
@@ -82,7 +83,7 @@ fn random_inputs(alloc: Global, rows: usize) -> Mem<Vec<Blake3CompressionInput>>
 impl Blake3BinaryAir {
     /// The trace of compressions of random words, as many as `num_hashes`: each row takes the next 8 words of xoshiro256++
     /// from the seed 1 as its chaining value and the 16 after these as its block, each word's low 32 bits; its counter is the
-    /// row's number, its length 64, and there are no flags (`blake3_prime::Blake3BinaryAir::generate_random_trace_rows`). The
+    /// row's number, its length 64, and there are no flags (`p3_blake3_air::Blake3BinaryAir::generate_random_trace_rows`). The
     /// rest is as in `generate_binary_trace_rows`.
     ///
     /// `WrongCharacteristic` exactly where one and one isn't zero in the field; else `NoInput` exactly where `num_hashes` is 0;

@@ -14,17 +14,23 @@ use batch_setup::{
 };
 use batch_statement::SharedData;
 use commit_core::UnivariateStarkPcs;
+use p3_dft::Radix2Dit;
 use p3_field::{BabyBear, FieldCore, Mem, RingCore, TwoAdicCore};
 use p3_lookup::Lookups;
 use p3_matrix::RowMajorMatrix;
-use p3_uni_stark::TranscriptVersion;
-use plain_pcs::PlainProverError;
+use p3_uni_stark::{StarkGenericConfig, TranscriptVersion};
+use plain_pcs::{PlainPcs, PlainProverError};
 use std::alloc::Global;
 use tool_statement::{ToolConfig, tool_config};
 use tool_tables::tables_send_one_width;
 
 // What is made over the program's configuration.
 type Made = Result<ProverData<ToolConfig>, SetupError<PlainProverError>>;
+
+/// The backend of the program's configuration, by its type: the plain scheme over BabyBear, by the radix-2 transform.
+pub fn backend(config: &ToolConfig) -> &PlainPcs<BabyBear, Radix2Dit> {
+    config.pcs()
+}
 
 // How many lookups each table has.
 fn counts(alloc: Global, tables: &[Lookups<BabyBear>]) -> Mem<Vec<usize>> {

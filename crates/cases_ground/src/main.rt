@@ -32,6 +32,9 @@ fn answer<R: Print + AllocGlobal>(rt: &R, case: &Case) -> io::Result<()> {
         "column" => transforms::column(rt, call, numbers),
         "naive" => transforms::transform(rt, &NaiveDft, call, numbers),
         "radix2" => transforms::transform(rt, &Radix2Dit, call, numbers),
+        "both" => transforms::both(rt, call, numbers),
+        "columns" => transforms::columns(rt, numbers),
+        "round" => transforms::round_trip(rt, numbers),
         "transcript" => transcripts::transcript(rt, call, numbers),
         _ => rt.println("bad case"),
     }

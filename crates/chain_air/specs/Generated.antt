@@ -45,6 +45,10 @@ chain_inputs start blocks = tabulate (length blocks) (λ i. joined_words blocks 
 abbrev pub end_of : List ℕ → List (List ℕ) → List ℕ
 end_of start blocks = chaining_before start blocks (length blocks)
 
+-- the public values of a chain between two chaining values
+abbrev pub publics_between : {F : Type 0} → Ring F → (start end : List ℕ) → List F
+publics_between r start end = publics_of r (input_of start) (input_of end)
+
 -- the trace: the rows of the compressions, one after another
 abbrev pub chain_trace : {F : Type 0} → Ring F → List ℕ → List (List ℕ) → Rows F
 chain_trace r start blocks = record { values = map (of_nat r) (rows_cells (chain_inputs start blocks)); width = 9168 }
@@ -59,7 +63,7 @@ IsChainTrace r start end m = AreChainRows r (height m) (row_at m) (input_of star
 
 -- with the public values of this chain every constraint is zero on every row
 abbrev pub MeetsChain : {F : Type 0} → Ring F → (start end : List ℕ) → Rows F → Type 0
-MeetsChain r start end m = (i : ℕ) → i < height m → HoldsAtRow r (table_traces m None [] (publics_of r (input_of start) (input_of end))) (chain_trees r) i
+MeetsChain r start end m = (i : ℕ) → i < height m → HoldsAtRow r (table_traces m None [] (publics_between r start end)) (chain_trees r) i
 
 -- so many rows are a power of two, and their cells more than can be counted
 abbrev pub IsLongChain : ℕ → Type 0

@@ -1,9 +1,7 @@
 //! The chaining values of a chain.
 ghost use Rattle.std.specs.Prelude.{◌≡◌, ℕ, ◌<◌, List, [], ◌∷◌, IfOk, length, map};
 ghost use Rattle.p3_field.specs.BabyBear.{baby_bear_ring};
-ghost use Rattle.blake3_compress.specs.Generated.{input_of};
-ghost use Rattle.chain_air.specs.Chain.{publics_of};
-ghost use Rattle.chain_air.specs.Generated.{block_words, eight_words, end_of};
+ghost use Rattle.chain_air.specs.Generated.{block_words, eight_words, end_of, publics_between};
 
 use blake3_compress::{compress, push_limb_words};
 use p3_field::{BabyBear, Mem};
@@ -49,7 +47,8 @@ pub fn chain_end(start: [u32; 8], blocks: &[[u32; 16]]) -> [u32; 8]
 /// The 32 public values of a chain between two chaining values: the limbs of the words of `start`, then those of `end`, each word's
 /// low limb first. The only error is running out of memory.
 pub fn chain_publics(alloc: Global, start: &[u32; 8], end: &[u32; 8]) -> Mem<Vec<BabyBear>>
-    ensures { IfOk result (λ v. v.items ≡ publics_of baby_bear_ring (input_of start.now) (input_of end.now)) }
+    ensures values { IfOk result (λ v. v.items ≡ publics_between baby_bear_ring start.now end.now) }
+    ensures count { IfOk result (λ v. length v.items ≡ 32) }
 {
     let mut values = Vec::new(alloc);
     push_limb_words(&mut values, start)?;
