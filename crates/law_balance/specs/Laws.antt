@@ -1,0 +1,6 @@
+-- What is proved of the definitions, by subject.
+pub mod CommittedRows
+pub mod CommittedSenders
+pub mod Told
+pub mod Accepted
+pub mod Over

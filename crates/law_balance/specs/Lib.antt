@@ -1,0 +1,4 @@
+pub mod CommittedRows
+pub mod CommittedSenders
+pub mod Accepted
+pub mod Laws
