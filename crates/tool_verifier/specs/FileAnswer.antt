@@ -1,8 +1,9 @@
 -- What `verify` answers for a proof file: a status and a text.
-use Rattle.std.specs.Prelude.{◌≡◌, ◌⊎◌, ℕ, ◌^◌, ◌<◌, List, [], ◌∷◌, ◌++◌, codes, slice_get, Some}
+use Rattle.std.specs.Prelude.{◌≡◌, ◌⊎◌, ℕ, ◌^◌, ◌<◌, List, [], ◌∷◌, ◌++◌, codes, nat_eq, slice_get, Some}
 use Rattle.std.specs.Prelude.{slice_index_or as get_or}
 use Rattle.blake3_compress.specs.Compress.{Input}
 use Rattle.blake3_compress.specs.TraceRow.{AreWords}
+use Rattle.p3_field.specs.Quartic.{quartic_inv}
 use Rattle.p3_field.specs.declared.baby_bear.BabyBear.{BabyBear}
 use Rattle.plain_pcs.specs.declared.error.PlainError.{PlainError}
 use Rattle.transcript_version.specs.declared.TranscriptVersion.{TranscriptVersion}
@@ -11,6 +12,7 @@ use Rattle.tool_hash_lines.specs.PrintedRows.{committed_cells, printed_rows}
 use Rattle.tool_hash_lines.specs.RowText.{row_line, words_line}
 use Rattle.batch_statement.specs.declared.error.BatchVerificationError.{BatchVerificationError}
 use Rattle.verifier_batch.specs.BatchChecks.{Accepted, FirstFault}
+use Rattle.law_balance.specs.Accepted.{BalanceUnlessUnlucky}
 use Rattle.law_soundness.specs.Meaning.{HoldUnlessUnlucky, IsAlphaUnlucky, IsZetaUnlucky}
 use Rattle.law_soundness.specs.Swapped.{EndsSwapped}
 use Rattle.tool_proof_text.specs.ProofText.{ToolProofData}
@@ -43,12 +45,19 @@ PrintCompressions version tables p =
     → (i k row : ℕ) → slice_get tables i ≡ Some (Hash k) → row < 2 ^ k
     → (x : Input) × AreWords x × (row_line row (committed_cells tables p i row) ≡ words_line (printed_compression_words x))
 
+-- What the committed tables send to each other balances in the field, or the drawn lookup pair, alpha or zeta is unlucky.
+abbrev pub TablesBalance : TranscriptVersion → List TableStatement → ToolProofData → Type 0
+TablesBalance version tables p = BalanceUnlessUnlucky (tool_setting version) 1 (tool_statement tables) p (λ x y. nat_eq x.value y.value) quartic_inv
+
 -- What an accepted proof means: every constraint of every table is zero on each row of the committed polynomials, or the drawn alpha or the drawn zeta
--- is unlucky; and where neither is, swap tables end as they should, and what is printed are compressions. The scheme's blowup is two to the power of one.
+-- is unlucky; and where neither is, swap tables end as they should, and what is printed are compressions. What the tables send to each other, row by row of
+-- these polynomials, balances: for each bus and tuple the counts of all rows of all tables sum to zero in the field, or the drawn lookup pair, alpha or zeta is
+-- unlucky. The scheme's blowup is two to the power of one.
 pub record IsMeant (version : TranscriptVersion) (tables : List TableStatement) (p : ToolProofData) : Type 0 where
   pub holds : HoldUnlessUnlucky (tool_setting version) 1 (tool_statement tables) p
   pub swaps : SwapsEnd version tables p
   pub hashes : PrintCompressions version tables p
+  pub balance : TablesBalance version tables p
 
 -- the text where the proof is accepted: `accepted`, and the rows of hash tables
 abbrev pub accepted_text : List TableStatement → ToolProofData → List ℕ
