@@ -1,5 +1,6 @@
 -- What the verifier says of the data that is made of the two tables, it says of their statement; and what the rows of the table of bits are.
 use Rattle.std.proofs.Common.{◌≡◌, ℕ, ◌^◌, ◌<◌, List, [], ◌∷◌, length, Result, Err, sym, subst}
+use Rattle.std.specs.Prelude.{nat_eq}
 use Rattle.p3_field.specs.BabyBear.{baby_bear_ring, baby_bear_inv, baby_bear_root, reduce}
 use Rattle.p3_field.specs.Quartic.{quartic_inv}
 use Rattle.p3_field.specs.declared.baby_bear.BabyBear.{BabyBear}
@@ -19,13 +20,14 @@ use Rattle.law_committed.specs.BaseRows.{IsMainHere, main_row}
 use Rattle.law_soundness.specs.CommittedBatch.{committed_table_at}
 use Rattle.law_committed.specs.Laws.BaseRows.{rows_mean}
 use Rattle.law_soundness.specs.Laws.SwapTables.{first_of}
+use Rattle.law_balance.specs.Accepted.{BalanceUnlessUnlucky}
 use Rattle.law_soundness.specs.Meaning.{CommittedTablesHold, HoldUnlessUnlucky, IsAlphaUnlucky, IsZetaUnlucky}
 use Rattle.transcript_version.specs.declared.TranscriptVersion.TheVariants.{V2}
 use Rattle.tool_statement.specs.Config.{backend_of, tool_backend, tool_setting}
 use Rattle.example_air.specs.Bytes.{bits_row, byte_row_trees}
 use Rattle.example_air.specs.Laws.Reads.{reads_bits}
 use Rattle.example_air.specs.Meanings.{ByteRowMeans}
-use Rattle.example_air.specs.Statement.{BytesProof, RowsAreBytes, example_common, example_statement, example_table_of}
+use Rattle.example_air.specs.Statement.{BytesBalance, BytesProof, RowsAreBytes, example_common, example_statement, example_table_of}
 use Rattle.example_air.specs.declared.air.ExampleAir.TheVariants.{Bits, Bytes}
 
 abbrev ToolSetting : Type 0
@@ -66,6 +68,10 @@ carried P c b s e f q h = subst (P (tool_setting V2) 1) q (subst (λ a. P (tool_
 pub meant_is : (c : ToolSetting) (b : ℕ) (ps : List (List BabyBear)) (m : Common BabyBear (PlainCommitmentData BabyBear)) (p : BytesProof) → c ≡ (tool_setting V2) → b ≡ 1 → ps ≡ [] ∷ [] ∷ [] → m ≡ example_common
     → HoldUnlessUnlucky c b (with_data ps m) p → HoldUnlessUnlucky (tool_setting V2) 1 example_statement p
 meant_is c b ps m p e f q k h = carried (λ d a s. HoldUnlessUnlucky d a s p) c b (with_data ps m) e f (same_statement ps m q k) h
+
+pub balance_is : (c : ToolSetting) (b : ℕ) (ps : List (List BabyBear)) (m : Common BabyBear (PlainCommitmentData BabyBear)) (p : BytesProof) → c ≡ (tool_setting V2) → b ≡ 1 → ps ≡ [] ∷ [] ∷ [] → m ≡ example_common
+    → BalanceUnlessUnlucky c b (with_data ps m) p (λ x y. nat_eq x.value y.value) quartic_inv → BytesBalance p
+balance_is c b ps m p e f q k h = carried (λ d a s. BalanceUnlessUnlucky d a s p (λ x y. nat_eq x.value y.value) quartic_inv) c b (with_data ps m) e f (same_statement ps m q k) h
 
 -- where a table of nine columns holds with the constraints of bits, each of its rows is that of a byte
 row_is_byte : FieldsLaws baby_bear_field quartic_extension 27 quartic_inv → ByteRowMeans baby_bear_ring → (t : CommittedTable BabyBear QuarticExtension) → length t.main ≡ 9 → Holds baby_bear_field quartic_extension t (byte_row_trees baby_bear_ring)

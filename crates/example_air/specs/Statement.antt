@@ -1,7 +1,8 @@
 -- What is stated of the two tables over the program's configuration, and what an accepted proof of them means.
-use Rattle.std.specs.Prelude.{◌≡◌, ℕ, ◌^◌, ◌<◌, ◌⊎◌, [], ◌∷◌, None, Some}
+use Rattle.std.specs.Prelude.{◌≡◌, ℕ, ◌^◌, ◌<◌, ◌⊎◌, [], ◌∷◌, None, Some, nat_eq}
 use Rattle.p3_field.specs.BabyBear.{baby_bear_ring}
 use Rattle.p3_field.specs.Checks.{Check}
+use Rattle.p3_field.specs.Quartic.{quartic_inv}
 use Rattle.p3_field.specs.Domain.{CosetData}
 use Rattle.p3_field.specs.declared.baby_bear.BabyBear.{BabyBear}
 use Rattle.p3_field.specs.declared.quartic.QuarticExtension.{QuarticExtension}
@@ -21,6 +22,7 @@ use Rattle.batch_statement.specs.Statement.{Common, Statement, AirTable}
 use Rattle.batch_statement.specs.declared.error.BatchVerificationError.{BatchVerificationError}
 use Rattle.batch_statement.specs.declared.error.BatchVerificationError.TheVariants.{Verification}
 use Rattle.law_committed.specs.BaseRows.{main_row}
+use Rattle.law_balance.specs.Accepted.{BalanceUnlessUnlucky}
 use Rattle.law_soundness.specs.CommittedBatch.{committed_table_at}
 use Rattle.law_soundness.specs.Meaning.{IsAlphaUnlucky, IsZetaUnlucky}
 use Rattle.transcript_version.specs.declared.TranscriptVersion.TheVariants.{V2}
@@ -62,6 +64,11 @@ height_check log_rows p =
       refusal = λ e. ((got < log_rows) × (e ≡ Verification (InvalidProofShape (DegreeBitsTooSmall (Some 0) log_rows got)))) ⊎ ((log_rows < got) × (e ≡ Verification (InvalidProofShape (DegreeBitsTooLarge (Some 0) log_rows got))));
       holds = got ≡ log_rows;
     }
+
+-- What both committed tables send on the bus `bytes` balances in the field, or the drawn lookup pair, alpha or zeta is unlucky: each byte stands in the first
+-- table as often as the second one counts it, in the field.
+abbrev pub BytesBalance : BytesProof → Type 0
+BytesBalance p = BalanceUnlessUnlucky (tool_setting V2) 1 example_statement p (λ x y. nat_eq x.value y.value) quartic_inv
 
 -- Where neither drawn challenge is unlucky, each of the 2^log_rows rows of the committed table of bits is the row of a byte: eight values that are zero or
 -- one, and their number.

@@ -7,7 +7,7 @@ ghost use Rattle.verifier_batch.specs.BatchChecks.{checks};
 ghost use Rattle.law_soundness.specs.Meaning.{HoldUnlessUnlucky};
 ghost use Rattle.transcript_version.specs.declared.TranscriptVersion.TheVariants.{V2};
 ghost use Rattle.tool_statement.specs.Config.{tool_backend, tool_setting};
-ghost use Rattle.example_air.specs.Statement.{RowsAreBytes, example_statement, height_check};
+ghost use Rattle.example_air.specs.Statement.{BytesBalance, RowsAreBytes, example_statement, height_check};
 
 use crate::air::ExampleAir;
 use crate::meanings::rows_are_bytes;
@@ -15,6 +15,7 @@ use crate::statement::prover_data;
 use air_core::{Air, BaseAir};
 use batch_config::Settings;
 use batch_statement::{BatchProof, BatchVerificationError};
+use law_balance::accepted_balances;
 use law_committed::fields::baby_bear_has_laws;
 use law_soundness::accepted_holds;
 use p3_field::BabyBear;
@@ -60,7 +61,8 @@ fn check_height(
 ///
 /// Where it is Ok, every constraint of both tables is zero on each row of the committed polynomials, or the drawn alpha or the drawn zeta is
 /// unlucky (`holds`). Where neither is, each row of the committed table of bits is the row of a byte (`bytes`): the first eight values are
-/// zero or one, and the ninth is their number. That the lookup is balanced, so that the second table counts these bytes, is not promised.
+/// zero or one, and the ninth is their number. What both tables send balances, or one of these or the drawn lookup pair is unlucky (`balance`): each byte stands in
+/// the first table as often as the second one counts it, in the field.
 pub fn verify_bytes(
     alloc: Global,
     log_rows: usize,
@@ -69,6 +71,7 @@ pub fn verify_bytes(
     requires { log_rows ≤ 10 }
     ensures verdict { IsVerdict (height_check log_rows proof.now ∷ checks (tool_setting V2) tool_backend example_statement proof.now) result }
     ensures holds { IfOk result (λ _. HoldUnlessUnlucky (tool_setting V2) 1 example_statement proof.now) }
+    ensures balance { IfOk result (λ _. BytesBalance proof.now) }
     ensures bytes { IfOk result (λ _. RowsAreBytes log_rows proof.now) }
 {
     check_height(log_rows, proof)?;
@@ -78,6 +81,7 @@ pub fn verify_bytes(
     let common = prover_data(alloc, &config, log_rows)?.common;
     verify_batch(alloc, &config, &airs, proof, &public_values, &common)?;
     accepted_holds(&config, &airs, proof, &public_values, &common);
+    accepted_balances(&config, &airs, proof, &public_values, &common);
     rows_are_bytes::<BabyBear>();
     baby_bear_has_laws();
     Ok(())

@@ -42,7 +42,7 @@ use Rattle.tool_statement.specs.declared.table.TableStatement.{TableStatement}
 use Rattle.tool_tables.specs.Tool.{tool_declaration, tool_trees}
 use Rattle.tool_tables.specs.declared.tool.ToolAir.{ToolAir}
 use Rattle.law_tool_valid.specs.Job.{IsBalancedJob, JobTable, job_log_height_of, trace_of}
-use Rattle.tool_verifier.specs.FileAnswer.{FewAreUnlucky, IsFileAnswer, PrintCompressions, SwapsEnd}
+use Rattle.tool_verifier.specs.FileAnswer.{FewAreUnlucky, IsFileAnswer, PrintCompressions, SwapsEnd, TablesBalance}
 use Rattle.tool_prover.specs.JobAnswer.{DrawsInside, DrawsOutside, IsJobProof, IsProvingOutcome, IsTold, drawn_point}
 use Rattle.tool_prover.specs.JobBatch.{job_batch}
 use Rattle.tool_prover.specs.Outside.{AvoidsRows}
@@ -206,9 +206,10 @@ module _ (version : TranscriptVersion) (job : List (JobTable BabyBear)) (tables 
 
   -- so `verify` writes `accepted` for it
   pub outcome_there : (q : ToolProofData) → IsHonestProof (backend_with b) batch q → DrawsOutside version job q → AcceptsThen q
-      → HoldUnlessUnlucky (tool_setting version) 1 (tool_statement tables) q → SwapsEnd version tables q → (HaveStatedHeights tables q.degree_bits → PrintCompressions version tables q) → FewAreUnlucky version tables q → IsProvingOutcome version job (Some q)
+      → HoldUnlessUnlucky (tool_setting version) 1 (tool_statement tables) q → SwapsEnd version tables q → (HaveStatedHeights tables q.degree_bits → PrintCompressions version tables q) → FewAreUnlucky version tables q
+      → TablesBalance version tables q → IsProvingOutcome version job (Some q)
   unfolding IsFileAnswer
-  outcome_there q P d h holds swaps hashes few =
+  outcome_there q P d h holds swaps hashes few balance =
       let B = proof_there q P in
       let heights = heights_there q B in
       let same : tables ≡ map statement_of job = U.tables_are in (
@@ -221,6 +222,7 @@ module _ (version : TranscriptVersion) (job : List (JobTable BabyBear)) (tables 
             swaps = subst (λ ts. SwapsEnd version ts q) same swaps;
             hashes = subst (λ ts. HaveStatedHeights ts q.degree_bits → PrintCompressions version ts q) same hashes heights;
             few = subst (λ ts. FewAreUnlucky version ts q) same few;
+            balance = subst (λ ts. TablesBalance version ts q) same balance;
           },
           refl,
         ),

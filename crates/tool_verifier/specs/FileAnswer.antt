@@ -1,8 +1,9 @@
 -- What `verify` answers for a proof file: a status and a text.
-use Rattle.std.specs.Prelude.{◌≡◌, ◌⊎◌, ℕ, ◌^◌, ◌<◌, ◌≤◌, List, [], ◌∷◌, ◌++◌, All, codes, length, map, slice_get, Some, sum}
+use Rattle.std.specs.Prelude.{◌≡◌, ◌⊎◌, ℕ, ◌^◌, ◌<◌, ◌≤◌, List, [], ◌∷◌, ◌++◌, All, codes, length, map, slice_get, Some, sum, nat_eq}
 use Rattle.std.specs.Prelude.{slice_index_or as get_or}
 use Rattle.blake3_compress.specs.Compress.{Input}
 use Rattle.blake3_compress.specs.TraceRow.{AreWords}
+use Rattle.p3_field.specs.Quartic.{quartic_inv}
 use Rattle.p3_field.specs.declared.baby_bear.BabyBear.{BabyBear}
 use Rattle.plain_pcs.specs.declared.error.PlainError.{PlainError}
 use Rattle.transcript_version.specs.declared.TranscriptVersion.{TranscriptVersion}
@@ -15,6 +16,7 @@ use Rattle.p3_field.specs.declared.quartic.QuarticExtension.{QuarticExtension}
 use Rattle.law_committed.specs.Batch.{IsUnluckyAlphaOfBatch, IsUnluckyZetaOfBatch}
 use Rattle.law_committed.specs.Unlucky.{AreDistinct}
 use Rattle.law_soundness.specs.CommittedBatch.{committed_batch}
+use Rattle.law_balance.specs.Accepted.{BalanceUnlessUnlucky}
 use Rattle.law_soundness.specs.Meaning.{HoldUnlessUnlucky, IsAlphaUnlucky, IsZetaUnlucky}
 use Rattle.law_soundness.specs.Swapped.{EndsSwapped}
 use Rattle.law_soundness.specs.UnluckyCounts.{most_alphas, most_zetas}
@@ -58,14 +60,20 @@ pub record FewAreUnlucky (version : TranscriptVersion) (tables : List TableState
       → All (IsUnluckyZetaOfBatch (tool_setting version).field (tool_setting version).extension (committed_batch (tool_setting version) 1 (tool_statement tables) p) alpha) zetas
       → length zetas ≤ sum (map most_zetas (committed_batch (tool_setting version) 1 (tool_statement tables) p))
 
+-- What the committed tables send to each other balances in the field, or the drawn lookup pair, alpha or zeta is unlucky.
+abbrev pub TablesBalance : TranscriptVersion → List TableStatement → ToolProofData → Type 0
+TablesBalance version tables p = BalanceUnlessUnlucky (tool_setting version) 1 (tool_statement tables) p (λ x y. nat_eq x.value y.value) quartic_inv
+
 -- What an accepted proof means: every constraint of every table is zero on each row of the committed polynomials, or the drawn alpha or the drawn zeta
--- is unlucky; and where neither is, swap tables end as they should, and what is printed are compressions. Few challenges are unlucky. The scheme's blowup is
--- two to the power of one.
+-- is unlucky; and where neither is, swap tables end as they should, and what is printed are compressions. What the tables send to each other, row by row of
+-- these polynomials, balances: for each bus and tuple the counts of all rows of all tables sum to zero in the field, or the drawn lookup pair, alpha or zeta is
+-- unlucky. Few challenges are unlucky. The scheme's blowup is two to the power of one.
 pub record IsMeant (version : TranscriptVersion) (tables : List TableStatement) (p : ToolProofData) : Type 0 where
   pub holds : HoldUnlessUnlucky (tool_setting version) 1 (tool_statement tables) p
   pub swaps : SwapsEnd version tables p
   pub hashes : PrintCompressions version tables p
   pub few : FewAreUnlucky version tables p
+  pub balance : TablesBalance version tables p
 
 -- the text where the proof is accepted: `accepted`, and the rows of hash tables
 abbrev pub accepted_text : List TableStatement → ToolProofData → List ℕ

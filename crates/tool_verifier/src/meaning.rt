@@ -6,7 +6,7 @@ ghost use Rattle.tool_hash_lines.specs.PrintedRows.{HasHashMatrices};
 ghost use Rattle.law_soundness.specs.Meaning.{HoldUnlessUnlucky};
 ghost use Rattle.tool_statement.specs.Config.{tool_backend, tool_setting};
 ghost use Rattle.tool_statement.specs.StatedTables.{HaveStatedHeights, air_table_of, tool_common, tool_statement};
-ghost use Rattle.tool_verifier.specs.FileAnswer.{FewAreUnlucky, PrintCompressions, SwapsEnd};
+ghost use Rattle.tool_verifier.specs.FileAnswer.{FewAreUnlucky, PrintCompressions, SwapsEnd, TablesBalance};
 
 use blake3_prime::meanings::row_means;
 use law_committed::fields::baby_bear_has_laws;
@@ -17,13 +17,15 @@ use tool_proof_text::ToolProof;
 use tool_statement::TableStatement;
 
 /// What it means that a proof of these tables is accepted over the transcript of this version (not in Plonky3): every constraint of every table is zero on each row of the committed
-/// polynomials, or the drawn alpha or the drawn zeta is unlucky (`holds`). Where neither is, swap tables end as they should (`swaps`), and with the
-/// stated heights each row of a hash table is printed as a compression (`hashes`). Few challenges are unlucky for the committed tables (`few`). With these heights the matrices of hash tables are as large as is
-/// stated (`matrices`).
+/// polynomials, or the drawn alpha or the drawn zeta is unlucky (`holds`). What the tables send to each other balances in the field, or one of these or the drawn
+/// lookup pair is unlucky (`balance`). Where neither alpha nor zeta is, swap tables end as they should (`swaps`), and with the
+/// stated heights each row of a hash table is printed as a compression (`hashes`). Few challenges are unlucky for the committed tables (`few`). With the
+/// stated heights the matrices of hash tables are as large as is stated (`matrices`).
 pub fn accepted_means(version: TranscriptVersion, tables: &[TableStatement], proof: &ToolProof)
     requires formed { WellFormed (map (λ t. t.declaration) (map air_table_of tables.now)) (tool_common tables.now) }
     requires accepted { Accepted (tool_setting version) tool_backend (tool_statement tables.now) proof.now }
     ensures holds { HoldUnlessUnlucky (tool_setting version) 1 (tool_statement tables.now) proof.now }
+    ensures balance { TablesBalance version tables.now proof.now }
     ensures swaps { SwapsEnd version tables.now proof.now }
     ensures hashes { HaveStatedHeights tables.now proof.now.degree_bits → PrintCompressions version tables.now proof.now }
     ensures few { FewAreUnlucky version tables.now proof.now }

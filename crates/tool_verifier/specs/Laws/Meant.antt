@@ -1,11 +1,12 @@
 -- What an accepted proof of stated tables means: each table holds unless a challenge is unlucky, swap tables end as they should, and rows of hash tables are
 -- printed as compressions.
 use Rattle.std.proofs.Common.{◌≡◌, ℕ, ◌^◌, ◌<◌, List, [], ◌∷◌, length, get_or, map, All, Some, refl, sym, ◌∙◌, ap, subst, arith}
-use Rattle.std.specs.Prelude.{slice_get}
+use Rattle.std.specs.Prelude.{nat_eq, slice_get}
 use Rattle.std.proofs.lemmas.List.{get_or-map, length-map}
 use Rattle.std.proofs.lemmas.List.Elements.{All-map}
 use Rattle.std.proofs.lemmas.Option.{get_or_from_slice_get, slice_get_within}
 use Rattle.p3_field.specs.BabyBear.{baby_bear_ring}
+use Rattle.p3_field.specs.Laws.BabyBearField.{baby_bear_eq_same, baby_bear_same_eq}
 use Rattle.p3_field.specs.Quartic.{of_baby_bear_value, quartic_inv, quartic_ring}
 use Rattle.p3_field.specs.declared.baby_bear.BabyBear.{BabyBear}
 use Rattle.p3_field.specs.declared.quartic.QuarticExtension.{QuarticExtension}
@@ -26,6 +27,7 @@ use Rattle.batch_statement.specs.Words.{no_table}
 use Rattle.verifier_batch.specs.BatchChecks.{Accepted}
 use Rattle.law_soundness.specs.CommittedBatch.{ReadDeclared, committed_at, committed_batch, committed_table_at, lookups_at, stated_table}
 use Rattle.law_soundness.specs.Laws.Accepted.{batch_holds, batch_low, heights_fit}
+use Rattle.law_balance.specs.Laws.Accepted.{accepted_balance}
 use Rattle.law_soundness.specs.Laws.Bound.{Binds}
 use Rattle.law_soundness.specs.Laws.Counts.{few_batch_alphas, few_batch_zetas}
 use Rattle.law_soundness.specs.Laws.Opened.{columns_declared}
@@ -47,7 +49,7 @@ use Rattle.tool_proof_text.specs.ProofText.{ToolProofData}
 use Rattle.tool_hash_lines.specs.Laws.Compressions.{line_of_compression}
 use Rattle.tool_hash_lines.specs.Laws.Matrices.{binds_of_tool, degree, laws_of_tool, plain_tool}
 use Rattle.tool_hash_lines.specs.PrintedRows.{committed_cells}
-use Rattle.tool_verifier.specs.FileAnswer.{FewAreUnlucky, PrintCompressions, SwapsEnd}
+use Rattle.tool_verifier.specs.FileAnswer.{FewAreUnlucky, PrintCompressions, SwapsEnd, TablesBalance}
 
 -- the tables' constraints read declared cells
 table_read : (t : TableStatement) → All (ReadsDeclared (declared_shape (source_of_table t).declaration)) (source_of_table t).trees
@@ -86,6 +88,10 @@ module _ (version : TranscriptVersion) (tables : List TableStatement) (p : ToolP
         alphas = λ alphas distinct unlucky. few_batch_alphas c.field c.extension c.two_adicity quartic_inv fields batch alphas distinct unlucky;
         zetas = λ alpha zetas distinct unlucky. few_batch_zetas c.field c.extension c.two_adicity quartic_inv fields batch alpha zetas fit low distinct unlucky;
       }
+  -- what they send balances, or a challenge is unlucky
+  pub tables_balance : TablesBalance version tables p
+  tables_balance =
+      accepted_balance (tool_setting version) tool_backend 1 s p quartic_inv fields (plain_tool version) binds formed accepted (λ x y. nat_eq x.value y.value) baby_bear_same_eq baby_bear_eq_same reads
 
   -- a table at its place
   module _ (i : ℕ) (t : TableStatement) (at : slice_get tables i ≡ Some t) where

@@ -7,7 +7,7 @@ use Rattle.transcript_version.specs.declared.TranscriptVersion.TheVariants.{V2}
 use Rattle.tool_statement.specs.Config.{tool_backend, tool_setting}
 use Rattle.example_air.specs.Statement.{example_statement, height_check}
 use Rattle.example_air.specs.declared.air.ExampleAir.TheVariants.{Bits}
-use Rattle.example_air.proofs.Stated.{meant_is, no_publics, refusal_is, rows_are, verdict_is}
+use Rattle.example_air.proofs.Stated.{balance_is, meant_is, no_publics, refusal_is, rows_are, verdict_is}
 use Rattle.example_air.proofs.verify.verify_bytes.Goals as goal
 
 pub returns-in_err-check_height-clause-verdict : goal.returns-in_err-check_height-clause-verdict
@@ -35,6 +35,11 @@ pub returns-clause-holds : goal.returns-clause-holds
 returns-clause-holds c =
     let publics = no_publics _ _ c.new.ensures.items c.new-2.ensures.items in
     meant_is _ c.tool_config-config.result.pcs.log_blowup _ _ c.args.proof.now c.tool_config-config.ensures.setting (ap (λ (b : Blowup). b.log_blowup) c.tool_config-config.ensures.scheme) publics c.in_ok-common.ensures.common c.accepted_holds.ensures.holds
+
+pub returns-clause-balance : goal.returns-clause-balance
+returns-clause-balance c =
+    let publics = no_publics _ _ c.new.ensures.items c.new-2.ensures.items in
+    balance_is _ c.tool_config-config.result.pcs.log_blowup _ _ c.args.proof.now c.tool_config-config.ensures.setting (ap (λ (b : Blowup). b.log_blowup) c.tool_config-config.ensures.scheme) publics c.in_ok-common.ensures.common c.accepted_balances.ensures.balance
 
 pub returns-clause-bytes : goal.returns-clause-bytes
 returns-clause-bytes c =

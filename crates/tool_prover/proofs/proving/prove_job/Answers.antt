@@ -173,4 +173,4 @@ returns-clause-outcome c =
     } in
     outcome_there _ _ _ _ _ _ _ _ _ _ _ U c.in_ok-proof.proof c.in_ok-proof.ensures.proved
     (outside_there _ _ _ _ _ _ _ _ _ _ _ U c.in_ok-proof.proof c.in_ok-proof.point c.in_ok-proof.ensures.point c.if-not-is_outside.ensures) c.in_ok-proof.ensures.accepted
-    c.accepted_means.ensures.holds c.accepted_means.ensures.swaps c.accepted_means.ensures.hashes c.accepted_means.ensures.few
+    c.accepted_means.ensures.holds c.accepted_means.ensures.swaps c.accepted_means.ensures.hashes c.accepted_means.ensures.few c.accepted_means.ensures.balance
