@@ -88,6 +88,7 @@ module _ (version : TranscriptVersion) (tables : List TableStatement) (p : ToolP
         alphas = λ alphas distinct unlucky. few_batch_alphas c.field c.extension c.two_adicity quartic_inv fields batch alphas distinct unlucky;
         zetas = λ alpha zetas distinct unlucky. few_batch_zetas c.field c.extension c.two_adicity quartic_inv fields batch alpha zetas fit low distinct unlucky;
       }
+
   -- what they send balances, or a challenge is unlucky
   pub tables_balance : TablesBalance version tables p
   tables_balance =
