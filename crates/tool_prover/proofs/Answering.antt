@@ -62,18 +62,21 @@ module _ (version : TranscriptVersion) (job : List (JobTable BabyBear)) where
     inside_is o r h e s t = refused_is r _ s t (inr (balanced, inr (inr (inr (subst (IsProvingOutcome version job) e h, refl)))))
 
     -- a proof
-    pub within_is : JobWithin job → (tables : List TableStatement) (q : ToolProofData) → tables ≡ map statement_of job → IsProvingOutcome version job (Some q) → FileWithin (record { version = version_number version; tables = tables; proof = q })
-    within_is within tables q e h = subst (λ (ts : List TableStatement). FileWithin (record { version = version_number version; tables = ts; proof = q })) (sym e) (job_proof_within version job within q h.0)
+    pub within_is : JobWithin job → (n : ℕ) (tables : List TableStatement) (q : ToolProofData) → n ≡ version_number version → tables ≡ map statement_of job
+        → IsProvingOutcome version job (Some q) → FileWithin (record { version = n; tables = tables; proof = q })
+    within_is within n tables q v e h =
+        subst (λ (m : ℕ). FileWithin (record { version = m; tables = tables; proof = q })) (sym v)
+        (subst (λ (ts : List TableStatement). FileWithin (record { version = version_number version; tables = ts; proof = q })) (sym e) (job_proof_within version job within q h.0))
 
-    pub proved_is : JobWithin job → (tables : List TableStatement) (q : ToolProofData) (text : List ℕ) → tables ≡ map statement_of job → IsProvingOutcome version job (Some q) → text ≡ line_text (file_numbers (record { version = version_number version; tables = tables; proof = q }))
-        → IsJobAnswer version job Done text
+    pub proved_is : JobWithin job → (n : ℕ) (tables : List TableStatement) (q : ToolProofData) (text : List ℕ) → n ≡ version_number version → tables ≡ map statement_of job
+        → IsProvingOutcome version job (Some q) → text ≡ line_text (file_numbers (record { version = n; tables = tables; proof = q })) → IsJobAnswer version job Done text
     unfolding IsJobAnswer
-    proved_is within tables q text e h t = record {
+    proved_is within n tables q text v e h t = record {
       balanced = balanced;
       proof = q;
       honest = h.0;
       outside = h.1;
       within = job_proof_within version job within q h.0;
-      text_is = t ∙ ap (λ (ts : List TableStatement). line_text (file_numbers (record { version = version_number version; tables = ts; proof = q }))) e;
+      text_is = t ∙ λ i. line_text (file_numbers (record { version = v i; tables = e i; proof = q }));
       accepted = h.2;
     }

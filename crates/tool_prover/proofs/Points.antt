@@ -36,7 +36,7 @@ abbrev ValueOf : CosetData BabyBear → QuarticExtension → QuarticExtension �
 ValueOf d x y = y ≡ eval_poly quartic_ring (map of_baby_bear_value (vanishing_polynomial baby_bear_ring baby_bear_inv d)) x
 
 in_subgroup : (d : CosetData BabyBear) (k : ℕ) (x y : QuarticExtension) → d.shift ≡ baby_bear_ring.one → d.log_size ≡ k → ValueOf d x y
-    → IsInDomain ((tool_setting V1) V1).field ((tool_setting V1) V1).extension (subgroup ((tool_setting V1) V1).field.ring k) x ↔ (y ≡ quartic_ring.zero)
+    → IsInDomain (tool_setting V1).field (tool_setting V1).extension (subgroup (tool_setting V1).field.ring k) x ↔ (y ≡ quartic_ring.zero)
 unfolding tool_setting
 in_subgroup d k x y shift size e =
     let same : d ≡ subgroup baby_bear_ring k = λ i. record { shift = shift i; log_size = size i } in
