@@ -1,7 +1,6 @@
 -- Pairs of words of 64 compressions.
 use Rattle.std.specs.Prelude.{◌≡◌, ℕ, ◌+◌, ◌*◌, ◌^◌, ◌<◌, List}
 use Rattle.std.specs.Prelude.{slice_index_or as get_or}
-use Rattle.std.specs.Int.{bit_at}
 use Rattle.blake3_binary.specs.declared.input.Blake3CompressionInput.{Blake3CompressionInput}
 use Rattle.blake3_binary.specs.Rows.{compression}
 

@@ -2,7 +2,7 @@
 use Rattle.std.specs.Prelude.{◌≡◌, ℕ, ◌+◌, ◌-◌, ◌*◌, ◌/◌, ◌%◌, ◌^◌, ◌<◌, ◌≤◌, List, [], ◌++◌, length}
 use Rattle.std.specs.Prelude.{slice_index_or as get_or}
 use Rattle.std.specs.Int.{bit_at}
-use Rattle.blake3_compress.specs.Compress.{State, Input, Quarter}
+use Rattle.blake3_compress.specs.Compress.{Input}
 use Rattle.blake3_binary.specs.Sums.{carry}
 
 -- so many words, in which lane j has the items of its list: bit j of word c is item c

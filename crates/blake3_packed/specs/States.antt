@@ -1,7 +1,5 @@
 -- The states of 64 compressions, and the cells of the steps in each lane.
-use Rattle.std.specs.Prelude.{◌≡◌, ℕ, zero, suc, ◌+◌, ◌*◌, ◌<◌, List, ◌++◌, cond, nat_lt}
-use Rattle.std.specs.Prelude.{slice_index_or as get_or}
-use Rattle.air_core.specs.Joined.{joined}
+use Rattle.std.specs.Prelude.{ℕ, zero, suc, ◌+◌, ◌*◌, List, ◌++◌, cond, nat_lt}
 use Rattle.blake3_compress.specs.Compress.{Quarter, State, Input, iv, chaining, words_taken, half_quarter_round}
 use Rattle.blake3_compress.specs.TraceRow.{bit_cells, turn_of, d_turn, b_turn, message_of, half_round}
 use Rattle.blake3_binary.specs.Trees.{laid}

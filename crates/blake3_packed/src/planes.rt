@@ -5,7 +5,8 @@ ghost use Rattle.blake3_packed.specs.Lanes.{ArePlanes, AreCarries};
 
 /// x + y into x, in each lane.
 pub fn add_planes(x: &mut [u64; 32], y: &[u64; 32])
-    ensures { (v w : ℕ → ℕ) → ArePlanes x.old v → ArePlanes y.now w → ArePlanes x.new (λ j. (v j + w j) % 2 ^ 32) }
+    ensures { (v w : ℕ → ℕ) → ArePlanes x.old v → ArePlanes y.now w
+        → ArePlanes x.new (λ j. (v j + w j) % 2 ^ 32) }
 {
     let mut carry = 0u64;
     for k in 0..32 {
@@ -19,7 +20,8 @@ pub fn add_planes(x: &mut [u64; 32], y: &[u64; 32])
 
 /// x + y + z into x, in each lane. Gives the carries of x + y.
 pub fn add_two_planes(x: &mut [u64; 32], y: &[u64; 32], z: &[u64; 32]) -> [u64; 32]
-    ensures { (v w u : ℕ → ℕ) → ArePlanes x.old v → ArePlanes y.now w → ArePlanes z.now u → ArePlanes x.new (λ j. (v j + w j + u j) % 2 ^ 32) × AreCarries result v w }
+    ensures { (v w u : ℕ → ℕ) → ArePlanes x.old v → ArePlanes y.now w → ArePlanes z.now u
+        → ArePlanes x.new (λ j. (v j + w j + u j) % 2 ^ 32) × AreCarries result v w }
 {
     let mut carries = [0u64; 32];
     let mut first = 0u64;
@@ -43,7 +45,8 @@ pub fn add_two_planes(x: &mut [u64; 32], y: &[u64; 32], z: &[u64; 32]) -> [u64; 
 #[inline(always)]
 pub fn turned_planes(x: &[u64; 32], y: &[u64; 32], s: usize) -> [u64; 32]
     requires { s < 32 }
-    ensures { (v w : ℕ → ℕ) → ArePlanes x.now v → ArePlanes y.now w → ArePlanes result (λ j. rotate_right w32 (bit_xor (v j) (w j)) s) }
+    ensures { (v w : ℕ → ℕ) → ArePlanes x.now v → ArePlanes y.now w
+        → ArePlanes result (λ j. rotate_right w32 (bit_xor (v j) (w j)) s) }
 {
     let mut turned = [0u64; 32];
     for k in 0..32 {

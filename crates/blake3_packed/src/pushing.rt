@@ -11,7 +11,9 @@ use p3_field::Mem;
 
 /// Pushes the planes of a word.
 pub fn push_planes(values: &mut Vec<u64>, planes: &[u64; 32]) -> Mem<()>
-    ensures { (w : ℕ → ℕ) → ArePlanes planes.now w → IfOk result (λ _. PushedLanes values.old.items values.new.items 32 (λ j. tabulate 32 (bit_at (w j)))) }
+    ensures { (w : ℕ → ℕ) → ArePlanes planes.now w
+        → IfOk result (λ _. PushedLanes values.old.items values.new.items 32
+        (λ j. tabulate 32 (bit_at (w j)))) }
 {
     values.extend_from_slice(planes)?;
     Ok(())
@@ -19,7 +21,9 @@ pub fn push_planes(values: &mut Vec<u64>, planes: &[u64; 32]) -> Mem<()>
 
 /// Pushes the carries of a sum into places 1 to 31.
 pub fn push_carries(values: &mut Vec<u64>, carries: &[u64; 32]) -> Mem<()>
-    ensures { (v w : ℕ → ℕ) → AreCarries carries.now v w → IfOk result (λ _. PushedLanes values.old.items values.new.items 31 (λ j. tabulate 31 (λ i. carry (v j) (w j) (suc i)))) }
+    ensures { (v w : ℕ → ℕ) → AreCarries carries.now v w
+        → IfOk result (λ _. PushedLanes values.old.items values.new.items 31
+        (λ j. tabulate 31 (λ i. carry (v j) (w j) (suc i)))) }
 {
     values.extend_from_slice(&carries[1..32])?;
     Ok(())
@@ -28,7 +32,9 @@ pub fn push_carries(values: &mut Vec<u64>, carries: &[u64; 32]) -> Mem<()>
 /// Pushes the planes of n words from one on.
 pub fn push_words(values: &mut Vec<u64>, words: &[[u64; 32]; 28], from: usize, n: usize) -> Mem<()>
     requires { from + n ≤ 28 }
-    ensures { (x : ℕ → Input) → AreWordPlanes 28 words.now x → IfOk result (λ _. PushedLanes values.old.items values.new.items (32 * n) (λ j. bit_cells n (λ i. x j (from + i)))) }
+    ensures { (x : ℕ → Input) → AreWordPlanes 28 words.now x
+        → IfOk result (λ _. PushedLanes values.old.items values.new.items (32 * n)
+        (λ j. bit_cells n (λ i. x j (from + i)))) }
 {
     for i in 0..n {
         push_planes(values, &words[from + i])?;

@@ -26,7 +26,8 @@ pub trait PackedTraces {
         ensures width { IfOk result (λ m. m.width ≡ 11536) }
         ensures height { IfOk result (λ m. height m ≡ packed_height num_hashes) }
         ensures bits { IfOk result (HasDenseBits (binary_random_inputs num_hashes) num_hashes) }
-        ensures cells { IfOk result (HasDenseCells F.ring (binary_random_inputs num_hashes) num_hashes) }
+        ensures cells { IfOk result
+            (HasDenseCells F.ring (binary_random_inputs num_hashes) num_hashes) }
         ensures past { IfOk result (HasZerosPast num_hashes) }
         ensures done { IfOk result (λ _. MayStand F.ring F.TWO num_hashes) }
         ensures characteristic { (result ≡ Err WrongCharacteristic) ↔ (F.TWO ≡ F.ring.zero → ⊥) }

@@ -66,7 +66,8 @@ fn constant_planes(word: u32, present: u64) -> [u64; 32]
 
 /// The first states: the chaining value, four words of the initial value in the present lanes, and the last four words.
 pub fn first_planes(words: &[[u64; 32]; 28], present: u64) -> StatePlanes
-    ensures { (x : ℕ → Input) → AreWordPlanes 28 words.now x → HasStates result (λ j. lane_first (x j) (bit_at present j)) }
+    ensures { (x : ℕ → Input) → AreWordPlanes 28 words.now x
+        → HasStates result (λ j. lane_first (x j) (bit_at present j)) }
 {
     StatePlanes {
         row0: [words[16], words[17], words[18], words[19]],

@@ -26,7 +26,8 @@ fn push_half(
     requires d_turns { s < 32 }
     requires b_turns { t < 32 }
     ensures { (q : ℕ → Quarter) (m : ℕ → ℕ) → AreQuarter taken.old q → ArePlanes message.now m
-        → IfOk result (λ _. PushedLanes values.old.items values.new.items 95 (λ j. quarter_cells (q j) (half_quarter_round s t (q j) (m j)))
+        → IfOk result (λ _. PushedLanes values.old.items values.new.items 95
+        (λ j. quarter_cells (q j) (half_quarter_round s t (q j) (m j)))
         × AreQuarter taken.new (λ j. half_quarter_round s t (q j) (m j))) }
 {
     let carries = add_two_planes(&mut taken.a, &taken.b, message);
@@ -49,8 +50,10 @@ fn push_step(
 ) -> Mem<()>
     requires turns { p < 14 }
     requires steps { g < 4 }
-    ensures { (x : ℕ → Input) (q : ℕ → Quarter) → AreWordPlanes 28 words.now x → AreQuarter taken.old q
-        → IfOk result (λ _. PushedLanes values.old.items values.new.items 190 (λ j. step_cells (x j) p g (q j))
+    ensures { (x : ℕ → Input) (q : ℕ → Quarter) → AreWordPlanes 28 words.now x
+        → AreQuarter taken.old q
+        → IfOk result (λ _. PushedLanes values.old.items values.new.items 190
+        (λ j. step_cells (x j) p g (q j))
         × AreQuarter taken.new (λ j. made_twice (x j) p g (q j))) }
 {
     let place = 8 * (p % 2) + 2 * g;
@@ -70,8 +73,10 @@ fn push_four(
 ) -> Mem<()>
     requires turns { p < 14 }
     ensures { (x : ℕ → Input) (v : ℕ → State) → AreWordPlanes 28 words.now x → HasStates state.old v
-        → IfOk result (λ _. PushedLanes values.old.items values.new.items 760 (λ j. joined 4 (λ g. step_cells (x j) p g (words_taken (p % 2) (v j) g)))
-        × HasStates state.new (λ j. half_round (x j) (2 * p + 1) (half_round (x j) (2 * p) (v j)))) }
+        → IfOk result (λ _. PushedLanes values.old.items values.new.items 760
+        (λ j. joined 4 (λ g. step_cells (x j) p g (words_taken (p % 2) (v j) g)))
+        × HasStates state.new
+        (λ j. half_round (x j) (2 * p + 1) (half_round (x j) (2 * p) (v j)))) }
 {
     let turn = p % 2;
     for g in 0..4 {
@@ -92,8 +97,10 @@ fn push_four(
 
 /// Pushes the cells of the 56 steps from the first states on.
 pub fn push_steps(values: &mut Vec<u64>, words: &[[u64; 32]; 28], first: StatePlanes) -> Mem<()>
-    ensures { (x : ℕ → Input) (present : ℕ → ℕ) → AreWordPlanes 28 words.now x → HasStates first (λ j. lane_first (x j) (present j))
-        → IfOk result (λ _. PushedLanes values.old.items values.new.items 10640 (λ j. laid (lane_half (x j) (present j)))) }
+    ensures { (x : ℕ → Input) (present : ℕ → ℕ) → AreWordPlanes 28 words.now x
+        → HasStates first (λ j. lane_first (x j) (present j))
+        → IfOk result (λ _. PushedLanes values.old.items values.new.items 10640
+        (λ j. laid (lane_half (x j) (present j)))) }
 {
     let mut state = first;
     for p in 0..14 {

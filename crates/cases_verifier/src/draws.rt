@@ -185,11 +185,13 @@ pub fn draws(alloc: Global, name: &str, head: &[u64], numbers: &[u64]) -> Mem<St
             columns: 2,
             public_values: 0,
             hint: None,
+            periodic: Vec::new(alloc),
         },
         Plain {
             columns: 3,
             public_values: 1,
             hint: None,
+            periodic: Vec::new(alloc),
         },
     ];
     let publics = [Vec::new(alloc), elements(alloc, &[6])?];

@@ -131,6 +131,7 @@ pub fn identity_case(alloc: Global, case: &Case) -> Mem<String> {
             columns: 0,
             public_values: 0,
             hint: None,
+            periodic: Vec::new(alloc),
         };
         return identity(alloc, &air, numbers, &publics, &rows);
     }

@@ -5,6 +5,7 @@ mod challengers;
 mod claims;
 mod draws;
 mod edits;
+mod files;
 mod identities;
 mod plain;
 mod proofs;
@@ -23,6 +24,13 @@ use std::alloc::Global;
 use std::io;
 use writing::bad_case;
 
+// What the verifier says over the configuration of this name, and after a bar what the program's `verify` answers to the same proof as a file.
+fn with_file(alloc: Global, kept: &Kept, name: &str, numbers: &[u64]) -> Mem<String> {
+    let said = verify::tables(alloc, &kept.stated, name, &[], numbers)?;
+    let answered = files::file_answer(alloc, kept, numbers)?;
+    format!(in alloc; "{said} | {answered}")
+}
+
 // The answer to a call on what is stated, of the proof with the numbers that the case's edits leave.
 fn proof_answer(alloc: Global, kept: &Kept, case: &Case) -> Mem<String> {
     let [head, edits @ ..] = case.groups.as_slice() else {
@@ -32,6 +40,7 @@ fn proof_answer(alloc: Global, kept: &Kept, case: &Case) -> Mem<String> {
     let stated = &kept.stated;
     match case.call {
         "verify" => verify::tables(alloc, stated, case.name, head, &numbers),
+        "file" => with_file(alloc, kept, case.name, &numbers),
         "column" => verify::column(alloc, head, &numbers),
         "claims" => claims::claims(alloc, stated, head, &numbers),
         "shape" => draws::shape(alloc, stated, case.name, &numbers),
@@ -63,6 +72,7 @@ fn main(rt: HostRuntime) -> io::Result<()> {
     };
     let mut kept = Kept {
         stated,
+        statement: Vec::new(alloc),
         numbers: Vec::new(alloc),
     };
     for line in rt.lines(alloc) {

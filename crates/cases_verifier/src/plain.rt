@@ -1,6 +1,6 @@
 //! A table without constraints.
 ghost use Rattle.std.proofs.Common.{rules};
-ghost use Rattle.std.specs.Prelude.{◌≡◌, []};
+ghost use Rattle.std.specs.Prelude.{◌≡◌, [], map};
 ghost use Rattle.air_core.specs.Laws.Declared.{counts-none};
 ghost use Rattle.cases_verifier.specs.Plain.{plain_declaration};
 
@@ -9,7 +9,7 @@ use p3_field::{BabyBear, FieldCore, Mem};
 use p3_matrix::RowMajorMatrix;
 use std::alloc::Global;
 
-/// Columns and public values, and neither constraints nor interactions.
+/// Columns, public values and periodic columns, and neither constraints nor interactions.
 #[derive(Drop)]
 pub struct Plain {
     /// How many columns there are.
@@ -18,10 +18,12 @@ pub struct Plain {
     pub public_values: usize,
     /// The degree that is hinted at, if any.
     pub hint: Option<usize>,
+    /// The periodic columns.
+    pub periodic: Vec<Vec<BabyBear>>,
 }
 
 impl BaseAir<BabyBear> for Plain {
-    ghost declaration = { λ a. plain_declaration a.columns a.public_values a.hint };
+    ghost declaration = { λ a. plain_declaration a.columns a.public_values (map (λ c. c.items) a.periodic.items) a.hint };
 
     fn width(&self) -> usize {
         self.columns
@@ -48,7 +50,7 @@ impl BaseAir<BabyBear> for Plain {
     }
 
     fn periodic_columns(&self) -> &[Vec<BabyBear>] {
-        &[]
+        &self.periodic
     }
 
     fn num_constraints(&self) -> Option<usize> {

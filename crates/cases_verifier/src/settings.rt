@@ -1,4 +1,4 @@
-//! The configurations: the program's is the library's own, and two more.
+//! The configurations: the program's is the library's own, and three more.
 ghost use Rattle.std.specs.Prelude.{◌≡◌, ◌<◌, ◌^◌, IfSome};
 
 use crate::challengers::FixedChallenger;
@@ -8,6 +8,7 @@ use p3_challenger::Sha256Challenger;
 use p3_dft::{NaiveDft, Radix2Dit};
 use p3_field::{BabyBear, QuarticExtension};
 use plain_pcs::PlainPcs;
+use tool_statement::ToolConfig;
 
 /// A smaller configuration: challenges in the base field, a blowup of four.
 pub type SmallConfig = PlainConfig<BabyBear, NaiveDft, BabyBear, Sha256Challenger>;
@@ -33,6 +34,14 @@ pub fn small_config(ood_bits: usize) -> SmallConfig
 {
     match PlainPcs::new(NaiveDft, 2) {
         Some(pcs) => SmallConfig::new(pcs, Sha256Challenger::new(), 0, ood_bits),
+        None => unreachable!(),
+    }
+}
+
+/// The program's configuration without grinding.
+pub fn zero_config() -> ToolConfig {
+    match PlainPcs::new(Radix2Dit, 1) {
+        Some(pcs) => ToolConfig::new(pcs, Sha256Challenger::new(), 0, 0),
         None => unreachable!(),
     }
 }

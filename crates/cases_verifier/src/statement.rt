@@ -39,6 +39,8 @@ pub struct Stated {
 pub struct Kept {
     /// What is stated.
     pub stated: Stated,
+    /// The numbers of this statement in a proof file.
+    pub statement: Vec<u64>,
     /// The numbers of a proof.
     pub numbers: Vec<u64>,
 }
@@ -127,6 +129,15 @@ fn tables_stated(alloc: Global, name: &str, tables: &[Vec<u64>]) -> Mem<Option<S
     }))
 }
 
+// The numbers of a statement in a proof file: how many tables there are, and those of each.
+fn tables_numbers(alloc: Global, tables: &[Vec<u64>]) -> Mem<Vec<u64>> {
+    let mut numbers = vec![in alloc; tables.len() as u64]?;
+    for table in tables {
+        numbers.extend_from_slice(table)?;
+    }
+    Ok(numbers)
+}
+
 // Gives a table's preprocessed trace other degree bits, and answers those that it was committed for.
 fn set_degree_bits(common: &mut Common, table: usize, degree_bits: usize) -> Option<usize> {
     let traces = common.preprocessed.as_mut()?;
@@ -147,6 +158,7 @@ pub fn keep(alloc: Global, kept: &mut Kept, case: &Case) -> Mem<String> {
                 return bad_case(alloc);
             };
             kept.stated = next;
+            kept.statement = tables_numbers(alloc, tables)?;
             Some(tables.len())
         }
         "proof" => {

@@ -1,4 +1,4 @@
-//! The verifier of a batch over three configurations.
+//! The verifier of a batch over four configurations.
 ghost use Rattle.std.specs.Prelude.{◌≡◌, ◌<◌, ℕ, [], map, length, IsOk};
 ghost use Rattle.std.specs.Prelude.{slice_index_or as get_or};
 ghost use Rattle.air_tables.specs.Swap.{swap_trees};
@@ -10,7 +10,7 @@ ghost use Rattle.law_soundness.specs.Swapped.{EndsSwapped, swap_publics};
 use crate::plain::Plain;
 use crate::proofs::proof_of;
 use crate::reading::quartics;
-use crate::settings::{few_bits, fixed_config, small_config};
+use crate::settings::{few_bits, fixed_config, small_config, zero_config};
 use crate::statement::{Common, Stated};
 use crate::writing::bad_case;
 use air_core::{Air, BaseAir};
@@ -155,21 +155,31 @@ pub fn tables(
                 proof,
             )
         }
+        "zero" => {
+            let proof = proof_of::<CommitmentText, QuarticExtension>(alloc, numbers)?;
+            said(alloc, &zero_config(), airs, publics, common, proof)
+        }
         "small" => small(alloc, 0, airs, publics, common, numbers),
         "fixed" => fixed(alloc, stated, head, numbers),
         _ => bad_case(alloc),
     }
 }
 
-/// What it says over the smaller configuration of a table of one column without constraints, which hints at a degree.
+/// What it says over the smaller configuration of a table of one column without constraints, which hints at a degree, and may declare a periodic
+/// column of so many zeros.
 pub fn column(alloc: Global, head: &[u64], numbers: &[u64]) -> Mem<String> {
-    let [hint, bits] = head else {
+    let [hint, bits, periods @ ..] = head else {
         return bad_case(alloc);
     };
+    let mut periodic = Vec::new(alloc);
+    for period in periods {
+        periodic.push(vec![in alloc; BabyBear::ZERO; *period as usize]?)?;
+    }
     let air = Plain {
         columns: 1,
         public_values: 0,
         hint: Some(*hint as usize),
+        periodic,
     };
     let common = SharedData::empty(alloc, 1)?;
     small(alloc, *bits, &[air], &[Vec::new(alloc)], &common, numbers)

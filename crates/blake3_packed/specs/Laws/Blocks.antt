@@ -1,10 +1,10 @@
 -- Blocks of 64 compressions one after another, and the rows that they hold.
-use Rattle.std.proofs.Common.{◌≡◌, ℕ, ◌+◌, ◌-◌, ◌*◌, ◌/◌, ◌<◌, ◌≤◌, List, ◌++◌, get_or, min, length, map, inl, inr, refl, sym, ◌∙◌, ap, subst, arith, length-append}
+use Rattle.std.proofs.Common.{◌≡◌, ℕ, ◌+◌, ◌-◌, ◌*◌, ◌<◌, ◌≤◌, List, ◌++◌, get_or, min, length, map, inl, inr, refl, sym, ◌∙◌, ap, subst, arith, length-append}
 use Rattle.std.specs.Int.{bit_at}
 use Rattle.std.proofs.lemmas.Bool.{cases_lt}
-use Rattle.std.proofs.lemmas.List.{get_or_append_left, get_or-append_right, get_or-append-add, get_or_past, get_or-map, length-map}
+use Rattle.std.proofs.lemmas.List.{get_or_append_left, get_or-append_right, get_or-append-add, get_or_past, get_or-map}
 use Rattle.p3_field.specs.Ring.{Ring, of_nat}
-use Rattle.p3_matrix.specs.Matrix.{Rows, FillsRows, height, cell_at}
+use Rattle.p3_matrix.specs.Matrix.{Rows, FillsRows}
 use Rattle.blake3_binary.specs.declared.input.Blake3CompressionInput.{Blake3CompressionInput}
 use Rattle.blake3_binary.specs.Row.{binary_cells}
 use Rattle.blake3_binary.specs.Rows.{nothing, compression, compression_words, binary_rows}

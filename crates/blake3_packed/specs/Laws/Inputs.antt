@@ -1,11 +1,10 @@
 -- Planes of pairs of words.
-use Rattle.std.proofs.Common.{◌≡◌, ℕ, zero, suc, ◌+◌, ◌-◌, ◌*◌, ◌/◌, ◌%◌, ◌^◌, ◌<◌, ◌≤◌, List, [], ◌∷◌, ◌++◌, get_or, length, replicate, refl, sym, ◌∙◌, ap, subst, arith, lit<, length-append}
+use Rattle.std.proofs.Common.{◌≡◌, ℕ, zero, suc, ◌+◌, ◌-◌, ◌*◌, ◌/◌, ◌%◌, ◌^◌, ◌<◌, ◌≤◌, List, [], ◌∷◌, ◌++◌, get_or, length, replicate, refl, ◌∙◌, ap, arith, length-append}
 use Rattle.std.specs.Int.{bit_at}
 use Rattle.std.proofs.lemmas.List.{get_or_append_left, get_or_past}
 use Rattle.std.proofs.lemmas.Nat.Bits.{bit_at_cat_low, bit_at_cat_high}
 use Rattle.p3_field.specs.Poly.{tabulate}
 use Rattle.p3_field.specs.Laws.Tabulate.{length-tabulate, get_or-tabulate}
-use Rattle.blake3_compress.specs.Generated.{input_of}
 use Rattle.blake3_binary.specs.declared.input.Blake3CompressionInput.{Blake3CompressionInput}
 use Rattle.blake3_binary.specs.Rows.{nothing, compression_words, compression}
 use Rattle.blake3_packed.specs.Lanes.{ArePlanes, IsTransposed}

@@ -1,12 +1,12 @@
 -- One step of a sum in each lane.
-use Rattle.std.proofs.Common.{◌≡◌, ℕ, zero, suc, ◌+◌, ◌/◌, ◌%◌, ◌^◌, ◌<◌, refl, ap, sym, ◌∙◌, arith}
+use Rattle.std.proofs.Common.{◌≡◌, ℕ, suc, ◌+◌, ◌/◌, ◌%◌, ◌^◌, ◌<◌, refl, ap, sym, ◌∙◌, arith}
 use Rattle.std.specs.Prelude.{bit_xor, bit_or, bit_and}
 use Rattle.std.specs.Int.{bit_at, rotate_right, w32}
 use Rattle.std.proofs.lemmas.Nat.{xor_lt}
 use Rattle.blake3_compress.specs.Laws.Words.{right_below}
 use Rattle.std.proofs.lemmas.Nat.Bits.{bit_at-lt, bit_at_xor, bit_at_or, bit_at_and}
 use Rattle.blake3_binary.specs.Sums.{carry}
-use Rattle.blake3_binary.specs.Laws.Sums.{carry_below, bit_of_sum, bit_of_low, bit_of_right}
+use Rattle.blake3_binary.specs.Laws.Sums.{bit_of_sum, bit_of_low, bit_of_right}
 
 pub sum_bit : (a b c j : ℕ) → bit_at (bit_xor (bit_xor a b) c) j ≡ (bit_at a j + bit_at b j + bit_at c j) % 2
 sum_bit a b c j = omega (arith, bit_at_xor (bit_xor a b) c j, bit_at_xor a b j, bit_at-lt a j, bit_at-lt b j, bit_at-lt c j)

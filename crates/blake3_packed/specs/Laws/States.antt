@@ -1,5 +1,5 @@
 -- The states and the cells of the lanes.
-use Rattle.std.proofs.Common.{◌≡◌, ℕ, zero, suc, ◌+◌, ◌*◌, ◌/◌, ◌%◌, ◌^◌, ◌<◌, ◌≤◌, List, [], ◌∷◌, ◌++◌, get_or, length, inl, inr, refl, sym, ◌∙◌, ap, subst, arith, lit<}
+use Rattle.std.proofs.Common.{◌≡◌, ℕ, zero, suc, ◌+◌, ◌*◌, ◌/◌, ◌%◌, ◌^◌, ◌<◌, List, ◌++◌, get_or, length, inl, inr, refl, sym, ◌∙◌, ap, subst, arith, lit<}
 use Rattle.std.specs.Prelude.{bit_xor}
 use Rattle.std.specs.Int.{bit_at, rotate_right, w32}
 use Rattle.std.proofs.lemmas.Bool.{cases_lt}
@@ -7,8 +7,8 @@ use Rattle.std.proofs.lemmas.List.{get_or_append_left, get_or-append_right}
 use Rattle.std.proofs.lemmas.Nat.Bits.{bit_at-zero, same_from_bits_below}
 use Rattle.p3_field.specs.Poly.{tabulate}
 use Rattle.air_core.specs.Joined.{joined}
-use Rattle.blake3_compress.specs.Compress.{Quarter, State, Input, word, iv, chaining, first_state, half_a, half_b, half_c, half_d, half_quarter_round, step_of_word, words_taken}
-use Rattle.blake3_compress.specs.TraceRow.{bit_cells, turn_of, d_turn, b_turn, message_of, half_round, state}
+use Rattle.blake3_compress.specs.Compress.{Quarter, State, Input, word, chaining, first_state, half_a, half_b, half_c, half_d, half_quarter_round, words_taken}
+use Rattle.blake3_compress.specs.TraceRow.{bit_cells, turn_of, d_turn, b_turn, half_round, state}
 use Rattle.blake3_compress.specs.Laws.Compress.{taken_made}
 use Rattle.blake3_compress.specs.Laws.Words.{right_below}
 use Rattle.blake3_compress.specs.Laws.Pushing.{joined_same}

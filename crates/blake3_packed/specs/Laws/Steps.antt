@@ -1,12 +1,11 @@
 -- Steps of G in half rounds.
-use Rattle.std.proofs.Common.{◌≡◌, ℕ, zero, suc, ◌+◌, ◌*◌, ◌/◌, ◌%◌, ◌<◌, ◌≤◌, List, [], ◌++◌, get_or, set, length, Bool, true, false, cond, ltb, inl, inr, refl, sym, ◌∙◌, ap, subst, arith, get_or-set_same, get_or-set_other}
+use Rattle.std.proofs.Common.{◌≡◌, ℕ, ◌+◌, ◌*◌, ◌/◌, ◌%◌, ◌<◌, List, [], get_or, set, length, true, false, cond, ltb, inl, inr, sym, ◌∙◌, ap, subst, arith, get_or-set_same, get_or-set_other}
 use Rattle.std.proofs.lemmas.Bool.{cases_eq, cases_lt, lt-ltb, le-ltb}
-use Rattle.blake3_compress.specs.Compress.{Quarter, word, half_quarter_round, State, Input, scheduled, column_of, step_of_word, words_taken}
+use Rattle.blake3_compress.specs.Compress.{Quarter, word, half_quarter_round, State, Input, scheduled, step_of_word, words_taken}
 use Rattle.blake3_compress.specs.TraceRow.{turn_of, d_turn, b_turn, message_of, half_round}
 use Rattle.blake3_compress.specs.Laws.Compress.{taken_made}
-use Rattle.blake3_binary.specs.Row.{quarter_cells}
 use Rattle.blake3_packed.specs.Lanes.{ArePlanes, AreWordPlanes}
-use Rattle.blake3_packed.specs.States.{made, made_cells, made_twice, step_cells}
+use Rattle.blake3_packed.specs.States.{made, made_twice}
 
 -- the message words of both halves
 pub first_message : (p g : ℕ) → scheduled (p / 2) (8 * (p % 2) + 2 * g) ≡ message_of (2 * p) g

@@ -120,6 +120,7 @@ module _ (version : TranscriptVersion) (tables : List TableStatement) (p : ToolP
   rows_are_compressions : RowMeans (tool_setting version).field.ring → HaveStatedHeights tables p.degree_bits
       → (IsAlphaUnlucky (tool_setting version) 1 s p → ⊥) → (IsZetaUnlucky (tool_setting version) 1 s p → ⊥) → (i k row : ℕ) → slice_get tables i ≡ Some (Hash k) → row < 2 ^ k
       → (x : Input) × AreWords x × (committed_cells tables p i row ≡ trace_row (tool_setting version).field.ring x)
+  unfolding tool_setting
   rows_are_compressions means heights no_alpha no_zeta i k row at inside =
       let t : CommittedTable BabyBear QuarticExtension = committed_table_at (tool_setting version) 1 s p i in
       let below = placed i (Hash k) at in

@@ -1,5 +1,5 @@
-use Rattle.std.proofs.Common.{◌≡◌, ℕ, ◌+◌, ◌*◌, ◌<◌, ◌≤◌, [], ◌++◌, length, min, refl, sym, ap, ◌∙◌, arith, rules, length-append, append_assoc}
-use Rattle.std.specs.Slice.Iter.{chunks_rest, chunks_size}
+use Rattle.std.proofs.Common.{◌≡◌, ◌+◌, [], ◌++◌, length, min, refl, sym, ap, ◌∙◌, arith, rules, length-append, append_assoc}
+use Rattle.std.specs.Slice.Iter.{chunks_rest}
 use Rattle.blake3_packed.specs.PackedRows.{packed_height}
 use Rattle.blake3_packed.specs.Laws.Blocks.{same_compression, same_presence, no_block, block_more, blocks_at}
 use Rattle.blake3_packed.proofs.generation.blocks_of.Goals as goal

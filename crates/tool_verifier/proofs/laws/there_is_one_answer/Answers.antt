@@ -1,4 +1,3 @@
-use Rattle.std.proofs.Common.{◌≡◌}
 use Rattle.p3_field.specs.Checks.{AreSingle}
 use Rattle.verifier_batch.specs.BatchChecks.{checks}
 use Rattle.transcript_version.specs.declared.TranscriptVersion.{TranscriptVersion}

@@ -1,0 +1,2 @@
+pub mod Fib
+pub mod Laws
