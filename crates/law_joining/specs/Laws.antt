@@ -1,0 +1,4 @@
+pub mod Alone
+pub mod Equations
+pub mod Joined
+pub mod Tables
