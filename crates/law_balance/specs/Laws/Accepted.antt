@@ -1,5 +1,5 @@
 -- Where no check of a proof over the plain scheme fails, nothing is left over of what its committed tables send, or a drawn challenge is unlucky.
-use Rattle.std.proofs.Common.{◌≡◌, ◌⊎◌, inl, inr, ℕ, zero, suc, ◌+◌, ◌%◌, ◌<◌, ◌≤◌, Bool, true, List, [], ◌++◌, length, get_or, map, take, None, refl, sym, ◌∙◌, subst, arith}
+use Rattle.std.proofs.Common.{◌≡◌, inl, inr, ℕ, zero, suc, ◌%◌, ◌<◌, ◌≤◌, Bool, true, List, [], ◌++◌, length, get_or, map, take, None, refl, sym, ◌∙◌, subst, arith}
 use Rattle.std.proofs.lemmas.List.{take_all}
 use Rattle.std.specs.Prelude.{All, count_by, flat_map, option_to_list}
 use Rattle.p3_field.specs.Checks.{NoneFails}

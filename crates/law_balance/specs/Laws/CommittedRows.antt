@@ -1,5 +1,5 @@
 -- The rows of a committed table that holds, as those of a table on which its lookups' constraints vanish.
-use Rattle.std.proofs.Common.{◌≡◌, ℕ, zero, suc, ◌+◌, ◌%◌, ◌<◌, ◌≤◌, inl, inr, true, false, Option, Some, None, List, [], ◌∷◌, ◌++◌, length, get_or, map, refl, sym, ◌∙◌, ap, arith}
+use Rattle.std.proofs.Common.{◌≡◌, ℕ, zero, suc, ◌+◌, ◌%◌, ◌<◌, ◌≤◌, true, false, Option, Some, None, List, [], ◌∷◌, ◌++◌, length, get_or, map, refl, sym, ◌∙◌, ap, arith}
 use Rattle.std.specs.Prelude.{All, option_to_list}
 use Rattle.std.proofs.Math.ListN.{get_or-map}
 use Rattle.std.proofs.Math.Nat.{mod-eq_of_lt}
@@ -22,7 +22,7 @@ use Rattle.p3_lookup.specs.Laws.Agreement.{agree_sent}
 use Rattle.stark_balance.specs.Batch.{IsVanishingTable}
 use Rattle.stark_balance.specs.Vanishing.{AreVanishingRows}
 use Rattle.stark_balance.specs.Laws.Vanishing.{split_all}
-use Rattle.law_committed.specs.Committed.{CommittedTable, Holds, row, row_point, next_point, row_count_of, trace_domain, columns_at, permutation_at, committed_values_at}
+use Rattle.law_committed.specs.Committed.{CommittedTable, Holds, row, row_point, row_count_of, trace_domain, columns_at, permutation_at, committed_values_at}
 use Rattle.law_committed.specs.Fields.{FieldsLaws}
 use Rattle.law_committed.specs.Laws.Selectors.{point_after, first_here, last_here, transition_before}
 use Rattle.law_soundness.specs.CommittedBatch.{permutation_count}

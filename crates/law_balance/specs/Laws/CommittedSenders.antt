@@ -1,5 +1,5 @@
 -- Where the tables of a batch hold and the terminals sum to zero, nothing is left over of what they send, or the lookup pair is unlucky.
-use Rattle.std.proofs.Common.{◌≡◌, ◌⊎◌, ℕ, ◌<◌, Bool, true, Option, None, List, [], length, get_or, refl, sym, ◌∙◌, ap, subst, arith}
+use Rattle.std.proofs.Common.{◌≡◌, ℕ, ◌<◌, Bool, true, Option, None, List, [], length, get_or, sym, ◌∙◌, subst, arith}
 use Rattle.std.specs.Prelude.{flat_map, option_to_list}
 use Rattle.p3_field.specs.Field.{TwoAdic, Extension}
 use Rattle.p3_field.specs.Laws.Tabulate.{length-tabulate, get_or-tabulate}

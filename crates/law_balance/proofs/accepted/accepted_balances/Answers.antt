@@ -1,7 +1,5 @@
 use Rattle.std.proofs.Common.{map, refl}
-use Rattle.p3_lookup.specs.Bus.{widest}
 use Rattle.law_soundness.specs.Laws.Airs.{about, declared_tables, formed_tables}
-use Rattle.law_balance.specs.Accepted.{messages_of_proof}
 use Rattle.law_balance.specs.Laws.Accepted.{accepted_balance, messages_told}
 use Rattle.law_balance.proofs.accepted.accepted_balances.Goals as goal
 

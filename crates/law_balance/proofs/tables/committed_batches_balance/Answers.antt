@@ -1,6 +1,5 @@
-use Rattle.p3_field.specs.Field.{TwoAdic}
-use Rattle.plain_balance.specs.Laws.CommittedSenders.{committed_balance}
-use Rattle.plain_balance.proofs.tables.committed_batches_balance.Goals as goal
+use Rattle.law_balance.specs.Laws.CommittedSenders.{committed_balance}
+use Rattle.law_balance.proofs.tables.committed_batches_balance.Goals as goal
 
 pub returns : goal.returns
 returns g c e top inverse table lookups terminals alpha beta L long holding z =
