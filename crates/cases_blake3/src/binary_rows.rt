@@ -26,7 +26,7 @@ pub fn row_answer(alloc: Global, row: &[Gf256], call: &[&str]) -> Mem<String>
 }
 
 /// All cells in one number below 65521, as the digits of a number in base 31.
-fn fingerprint(row: &[Gf256]) -> u32 {
+pub fn fingerprint(row: &[Gf256]) -> u32 {
     let mut sum = 0u32;
     for cell in row {
         sum = (sum * 31 + cell.value as u32) % 65521;

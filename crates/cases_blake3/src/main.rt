@@ -4,6 +4,7 @@
 mod airs;
 mod binary;
 mod binary_rows;
+mod packed;
 mod prime;
 mod prime_rows;
 mod published;
@@ -31,6 +32,7 @@ fn answer(alloc: Global, line: &str) -> Mem<String> {
         ["hash", length] => published::hash_shown(alloc, length),
         ["prime", ref case @ ..] => prime::answer(alloc, case),
         ["binary", ref case @ ..] => binary::answer(alloc, case),
+        ["packed", ref case @ ..] => packed::answer(alloc, case),
         ["#", ..] => String::from_str(alloc, line),
         _ => String::from_str(alloc, "bad case"),
     }
