@@ -162,6 +162,12 @@ def value_removed(rng, file):
 
 
 @edit
+def current_row_cut(rng, file):
+    found = [it for it in file.proof.instances if it.trace_local]
+    return bool(found) and rng.choice(found).trace_local.pop()
+
+
+@edit
 def value_added(rng, file):
     rows = rows_of(instance_of(rng, file.proof)) if file.proof.instances else []
     return bool(rows) and rng.choice(rows).append(random_value(rng))
@@ -206,7 +212,16 @@ def preprocessed_next_added(rng, file):
     if not found:
         return False
     it = rng.choice(found)
-    it.preprocessed = it.preprocessed[0], rng.choice([[], [random_value(rng)]])
+    it.preprocessed = it.preprocessed[0], []
+
+
+@edit
+def preprocessed_next_filled(rng, file):
+    found = [it for it in file.proof.instances if it.preprocessed is not None]
+    if not found:
+        return False
+    it = rng.choice(found)
+    it.preprocessed = it.preprocessed[0], [random_value(rng)]
 
 
 @edit
