@@ -1,0 +1,4 @@
+mod Granted
+mod Joined
+mod Made
+mod Stated

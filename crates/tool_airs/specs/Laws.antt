@@ -1,0 +1,2 @@
+pub mod Equational
+pub mod Serving
