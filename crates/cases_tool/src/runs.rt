@@ -32,7 +32,7 @@ fn list_of(alloc: Global, number: Option<u64>) -> Mem<Vec<u64>> {
 
 /// How the ends of a run are.
 #[derive(Clone, Copy)]
-struct Ends {
+struct MemoryEnds {
     // how many bytes the sink has room for
     room: usize,
     // the most bytes of a write
@@ -44,7 +44,7 @@ struct Ends {
 }
 
 /// Ends that never fail here.
-const WIDE: Ends = Ends {
+const WIDE: MemoryEnds = MemoryEnds {
     room: ROOM,
     most: 1000,
     read: None,
@@ -52,7 +52,7 @@ const WIDE: Ends = Ends {
 };
 
 // What these words answer to an input over such ends.
-fn ran_over(alloc: Global, words: &[&str], input: Vec<u8>, ends: &Ends) -> Mem<Answer> {
+fn ran_over(alloc: Global, words: &[&str], input: Vec<u8>, ends: &MemoryEnds) -> Mem<Answer> {
     let words = words_of(alloc, words)?;
     let mut source = MemorySource::new(input, list_of(alloc, ends.read)?);
     let mut sink = MemorySink::new(alloc, ends.room, ends.most, list_of(alloc, ends.write)?)?;
@@ -84,7 +84,7 @@ pub fn ends<R: Print + AllocGlobal>(rt: &R, input: Vec<u8>, words: &[&str]) -> i
     let [most, read, write, words @ ..] = words else {
         return rt.println("bad case");
     };
-    let ends = Ends {
+    let ends = MemoryEnds {
         room: ROOM,
         most: most.parse::<usize>().unwrap_or(0),
         read: read.parse::<u64>().ok(),
@@ -98,7 +98,7 @@ pub fn room<R: Print + AllocGlobal>(rt: &R, input: Vec<u8>, words: &[&str]) -> i
     let [room, words @ ..] = words else {
         return rt.println("bad case");
     };
-    let ends = Ends {
+    let ends = MemoryEnds {
         room: room.parse::<usize>().unwrap_or(0),
         most: 1000,
         read: None,
