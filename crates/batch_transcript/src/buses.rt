@@ -174,8 +174,9 @@ fn each_layout<F: Field, EF: Field>(
     Ok(all)
 }
 
-/// The challenges of all lookups of a batch, instance by instance, for the drawn pair. The gadget reads two for each lookup.
-pub(crate) fn layout<F: Field, EF: Field, LG: LookupProtocol>(
+/// The challenges of all lookups of a batch, instance by instance, for the drawn pair: for each lookup two, as the gadget reads them, the
+/// base of its bus and beta. Lookups of one name have one bus, and a local lookup one of its own.
+pub fn layout<F: Field, EF: Field, LG: LookupProtocol>(
     alloc: Global,
     lookups: &[Lookups<F>],
     gadget: &LG,
@@ -193,8 +194,8 @@ pub(crate) fn layout<F: Field, EF: Field, LG: LookupProtocol>(
     each_layout(alloc, lookups, &buses.numbers, &challenges)
 }
 
-/// No challenges, for each instance.
-pub(crate) fn empty_layout<F: Field, EF: Field>(
+/// No challenges, for each instance: the layout where no pair is drawn, since no instance has lookups.
+pub fn empty_layout<F: Field, EF: Field>(
     alloc: Global,
     lookups: &[Lookups<F>],
 ) -> Mem<Vec<Vec<EF>>>

@@ -15,6 +15,7 @@ mod prover_transcript;
 mod shape;
 mod verifier_transcript;
 
+pub use buses::{empty_layout, layout};
 pub use challenger::BatchChallenger;
 pub use failure::{BatchTranscriptFailure, GrindStep, TranscriptError};
 pub use prover_transcript::BatchProverTranscript;

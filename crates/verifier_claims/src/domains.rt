@@ -63,9 +63,11 @@ fn too_large<R>(index: usize, maximum: usize, got: usize) -> BatchVerificationEr
     .into()
 }
 
-// The check that there is a domain for the quotient of a table with these degree bits.
+/// The check that there is a domain for the quotient of a table with these degree bits, whose number of chunks has this logarithm:
+/// `QuotientDomainTooLarge` with the table's number exactly where their sum is 64 or more, and then with 63 as the maximum, or where it is above
+/// the field's two-adicity, and then with `most`. Both fields stop at the greatest `usize`.
 #[tactic(auto, unfolding(p3_field::specs::Checks::NoneFails, p3_field::specs::Checks::FirstFails))]
-fn domain_fits<F: TwoAdicField, R>(
+pub fn domain_fits<F: TwoAdicField, R>(
     index: usize,
     bits: usize,
     chunks: usize,

@@ -15,3 +15,5 @@ mod opened_rows;
 mod preprocessed;
 
 pub use claims::{OpeningArgumentWithQuotientDomains, commitments_with_opening_points};
+pub use domains::domain_fits;
+pub use preprocessed::has_bits;

@@ -46,8 +46,8 @@ pub(crate) fn has_entries<Com>(
     }
 }
 
-// Whether what was committed of a table was made for these degree bits.
-pub(crate) fn has_bits(entry: &Option<PreprocessedInstanceMeta>, bits: usize) -> bool
+/// Whether what was committed of a table was made for these degree bits; of a table without preprocessed columns nothing was.
+pub fn has_bits(entry: &Option<PreprocessedInstanceMeta>, bits: usize) -> bool
     ensures { IsTrue result ↔ HasDegreeBits bits entry.now }
 {
     match entry {

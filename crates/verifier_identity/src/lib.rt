@@ -20,4 +20,4 @@ pub use identity::{IdentityData, VerifierData};
 pub use periods::periodic_values_at;
 pub use rows::{recombined_row, zero_row};
 pub use terminals::check_terminals;
-pub use whole::check_identities;
+pub use whole::{check_identities, check_identity_at};

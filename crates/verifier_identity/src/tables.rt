@@ -1,8 +1,8 @@
-//! The identities of the tables of a batch, one table after the other.
-ghost use Rattle.std.specs.Prelude.{◌≡◌, ℕ, ◌-◌, ◌*◌, ◌<◌, ◌≤◌, [], length, map, option_map, IsOk};
+//! The identity of one table of a batch, by its number in the lists.
+ghost use Rattle.std.specs.Prelude.{◌≡◌, ◌-◌, ◌*◌, ◌<◌, ◌≤◌, [], length, map, option_map};
 ghost use Rattle.std.specs.Prelude.{slice_index_or as get_or};
 ghost use Rattle.p3_field.specs.Field.{TwoAdic, Extension};
-ghost use Rattle.p3_field.specs.Checks.{NoneFails, in_turn};
+ghost use Rattle.p3_field.specs.Checks.{NoneFails};
 ghost use Rattle.p3_lookup.specs.Written.{read_all};
 ghost use Rattle.p3_uni_stark.specs.Recombine.{AllDisjoint};
 ghost use Rattle.batch_constraints.specs.BatchTrees.{AreLookupsOf};
@@ -22,7 +22,7 @@ use p3_lookup::{LookupTerminal, Lookups};
 use std::alloc::Global;
 
 // The checks of one table of a batch.
-fn table_at<F: TwoAdicField, E: ExtensionField<F>, A: Air<F>, R>(
+pub(crate) fn table_at<F: TwoAdicField, E: ExtensionField<F>, A: Air<F>, R>(
     alloc: Global,
     index: usize,
     airs: &[A],
@@ -71,60 +71,4 @@ fn table_at<F: TwoAdicField, E: ExtensionField<F>, A: Air<F>, R>(
         alpha,
         zeta,
     )
-}
-
-// The checks of the tables, one after the other.
-pub(crate) fn check_tables<F: TwoAdicField, E: ExtensionField<F>, A: Air<F>, R>(
-    alloc: Global,
-    airs: &[A],
-    public_values: &[Vec<F>],
-    lookups: &[Lookups<F>],
-    instances: &[OpenedValuesWithLookups<E>],
-    terminals: &[Option<LookupTerminal<E>>],
-    degree_bits: &[usize],
-    masks: usize,
-    challenges: &[Vec<E>],
-    domains: &[Vec<TwoAdicMultiplicativeCoset<F>>],
-    alpha: E,
-    zeta: E,
-) -> Result<(), BatchVerificationError<R>>
-    requires publics { length public_values.now ≡ length airs.now }
-    requires lookups { length lookups.now ≡ length airs.now }
-    requires instances { length instances.now ≡ length airs.now }
-    requires terminals { length terminals.now ≡ length airs.now }
-    requires bits { length degree_bits.now ≡ length airs.now }
-    requires challenges { length challenges.now ≡ length airs.now }
-    requires domains { length domains.now ≡ length airs.now }
-    requires reads { (i : ℕ) (a : A) → i < length airs.now → AreLookupsOf (A.declaration (get_or airs.now i a)) (read_all (get_or lookups.now i [])) }
-    requires shape { (i : ℕ) → i < length airs.now
-        → NoneFails (opened_checks_at {R = R} (tables_of A.declaration A.trees airs.now) (map (λ v. v.items) public_values.now) (map read_all lookups.now) instances.now
-        (map (option_map (λ t. t.0)) terminals.now) (length (get_or (map (λ v. v.items) domains.now) i [])) E.DIMENSION i) }
-    requires pairs { (i : ℕ) → i < length airs.now → length (get_or (map (λ v. v.items) challenges.now) i []) ≡ 2 * length (get_or (map read_all lookups.now) i []) }
-    requires disjoint { (i : ℕ) → i < length airs.now → AllDisjoint (record { ring = F.ring; inv = F.inv; root = F.root; generator = F.GENERATOR }) (get_or (map (λ v. v.items) domains.now) i []) }
-    requires fits { (i : ℕ) → i < length airs.now → get_or degree_bits.now i 0 - masks ≤ F.TWO_ADICITY }
-    ensures verdict { let f : TwoAdic F = record { ring = F.ring; inv = F.inv; root = F.root; generator = F.GENERATOR } in
-        let e : Extension F E = record { ring = E.ring; embed = E.embed; dimension = E.DIMENSION; basis = E.basis; coefficients = E.coefficients; from_coefficients = E.from_coefficients } in
-        IsVerdict (in_turn (length airs.now)
-        (identity_by f e masks (tables_of A.declaration A.trees airs.now) (map (λ v. v.items) public_values.now) (map read_all lookups.now) instances.now
-        (map (option_map (λ t. t.0)) terminals.now) degree_bits.now (map (λ v. v.items) challenges.now) (map (λ v. v.items) domains.now) alpha zeta)) result }
-    ensures none { length airs.now ≡ 0 → IsOk result }
-{
-    for index in 0..airs.len() {
-        table_at(
-            alloc,
-            index,
-            airs,
-            public_values,
-            lookups,
-            instances,
-            terminals,
-            degree_bits,
-            masks,
-            challenges,
-            domains,
-            alpha,
-            zeta,
-        )?;
-    }
-    Ok(())
 }

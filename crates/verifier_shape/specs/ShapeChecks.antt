@@ -34,11 +34,19 @@ abbrev pub next_check : {E R : Type 0} → ℕ → (width : ℕ) → List ℕ �
 next_check i width [] next = shape_check (UnexpectedTraceNext (Some i)) (is_there next ≡ false)
 next_check i width (c ∷ cs) next = shape_check (TraceNextMismatch (Some i)) (option_map length next ≡ Some width)
 
+-- a table has its number of public values
+abbrev pub public_values_check : {R : Type 0} → (declared publics : ℕ) → Check (BatchVerificationError R)
+public_values_check declared publics = shape_check (PublicValuesLengthMismatch declared publics) (publics ≡ declared)
+
+-- the main row of table i has so many values
+abbrev pub local_check : {E R : Type 0} → ℕ → (width : ℕ) → List E → Check (BatchVerificationError R)
+local_check i width row = shape_check (TraceLocalWidthMismatch i width (length row)) (length row ≡ width)
+
 -- table i, which declares d, has its number of public values, and its main rows are opened as declared
 abbrev pub main_checks : {F E R : Type 0} → ℕ → Declaration F → (publics : ℕ) → OpenedData E → List (Check (BatchVerificationError R))
 main_checks i d publics o =
-    shape_check (PublicValuesLengthMismatch d.public_values publics) (publics ≡ d.public_values)
-    ∷ shape_check (TraceLocalWidthMismatch i d.width (length o.trace_local)) (length o.trace_local ≡ d.width)
+    public_values_check d.public_values publics
+    ∷ local_check i d.width o.trace_local
     ∷ next_check i d.width d.main_next o.trace_next
     ∷ []
 
@@ -47,12 +55,24 @@ abbrev pub HasLengthWhereThere : {E : Type 0} → ℕ → Option (List E) → Ty
 HasLengthWhereThere n None = Unit {0}
 HasLengthWhereThere n (Some xs) = length xs ≡ n
 
+-- its quotient has so many chunks
+abbrev pub chunk_count_check : {E R : Type 0} → ℕ → (chunks : ℕ) → List (List E) → Check (BatchVerificationError R)
+chunk_count_check i chunks cs = shape_check (QuotientChunksCountMismatch i chunks (length cs)) (length cs ≡ chunks)
+
+-- each of them has a value for each basis element
+abbrev pub chunk_length_check : {E R : Type 0} → ℕ → (dimension : ℕ) → List (List E) → Check (BatchVerificationError R)
+chunk_length_check i dimension cs = shape_check (QuotientChunkDimensionMismatch i) (All (λ c. length c ≡ dimension) cs)
+
+-- and so has what is random, where it is there
+abbrev pub random_check : {E R : Type 0} → (dimension : ℕ) → Option (List E) → Check (BatchVerificationError R)
+random_check dimension random = check (Verification RandomizationError) (HasLengthWhereThere dimension random)
+
 -- its quotient has so many chunks, each with a value for each basis element, and so has what is random
 abbrev pub chunk_checks : {E R : Type 0} → ℕ → (chunks dimension : ℕ) → OpenedData E → List (Check (BatchVerificationError R))
 chunk_checks i chunks dimension o =
-    shape_check (QuotientChunksCountMismatch i chunks (length o.quotient_chunks)) (length o.quotient_chunks ≡ chunks)
-    ∷ shape_check (QuotientChunkDimensionMismatch i) (All (λ c. length c ≡ dimension) o.quotient_chunks)
-    ∷ check (Verification RandomizationError) (HasLengthWhereThere dimension o.random)
+    chunk_count_check i chunks o.quotient_chunks
+    ∷ chunk_length_check i dimension o.quotient_chunks
+    ∷ random_check dimension o.random
     ∷ []
 
 -- how many values a next row has: one that is absent has none
@@ -69,12 +89,24 @@ abbrev pub preprocessed_next_of : {E : Type 0} → Option (PreprocessedData E) �
 preprocessed_next_of None = None
 preprocessed_next_of (Some p) = p.next
 
+-- no preprocessed rows are opened
+abbrev pub unpreprocessed_check : {E R : Type 0} → ℕ → Option (PreprocessedData E) → Check (BatchVerificationError R)
+unpreprocessed_check i p = shape_check (UnexpectedPreprocessedValues (Some i)) (is_there p ≡ false)
+
+-- preprocessed rows of this width are opened as declared
+abbrev pub preprocessed_width_check : {E R : Type 0} → ℕ → (width : ℕ) → List ℕ → Option (PreprocessedData E) → Check (BatchVerificationError R)
+preprocessed_width_check i width declared p = shape_check (PreprocessedWidthMismatch i) (IsOpenedPreprocessed width declared p)
+
+-- no next one is there, not even an empty one, where no next columns are declared
+abbrev pub preprocessed_next_check : {E R : Type 0} → ℕ → List ℕ → Option (PreprocessedData E) → Check (BatchVerificationError R)
+preprocessed_next_check i declared p = shape_check (UnexpectedPreprocessedNext (Some i)) (has_some declared ≡ false → is_there (preprocessed_next_of p) ≡ false)
+
 -- its preprocessed rows, where it has so many preprocessed columns
 abbrev pub preprocessed_checks : {E R : Type 0} → ℕ → (width : ℕ) → List ℕ → Option (PreprocessedData E) → List (Check (BatchVerificationError R))
-preprocessed_checks i zero declared p = shape_check (UnexpectedPreprocessedValues (Some i)) (is_there p ≡ false) ∷ []
+preprocessed_checks i zero declared p = unpreprocessed_check i p ∷ []
 preprocessed_checks i (suc n) declared p =
-    shape_check (PreprocessedWidthMismatch i) (IsOpenedPreprocessed (suc n) declared p)
-    ∷ shape_check (UnexpectedPreprocessedNext (Some i)) (has_some declared ≡ false → is_there (preprocessed_next_of p) ≡ false)
+    preprocessed_width_check i (suc n) declared p
+    ∷ preprocessed_next_check i declared p
     ∷ []
 
 -- how many values a permutation row has: one for each coefficient of the running sum and of each lookup's column, none without lookups
@@ -86,13 +118,19 @@ abbrev pub is_some : ℕ → Bool
 is_some zero = false
 is_some (suc n) = true
 
--- its permutation rows and its terminal, where it has so many lookups; the width in the refusal stops at the greatest usize
-abbrev pub lookup_checks : {E R : Type 0} → ℕ → (lookups dimension : ℕ) → OpenedWithLookups E → (terminal : Bool) → List (Check (BatchVerificationError R))
-lookup_checks i lookups dimension o terminal =
+-- its permutation rows, where it has so many lookups; the width in the refusal stops at the greatest usize
+abbrev pub permutation_width_check : {E R : Type 0} → ℕ → (lookups dimension : ℕ) → OpenedWithLookups E → Check (BatchVerificationError R)
+permutation_width_check i lookups dimension o =
     let width = permutation_width lookups dimension in
     check (Lookup (PermutationWidthMismatch i (capped width))) ((length o.permutation_local ≡ width) × (length o.permutation_next ≡ width))
-    ∷ check (Lookup (TerminalPresenceMismatch i (is_some lookups) terminal)) (terminal ≡ is_some lookups)
-    ∷ []
+
+-- its terminal is there exactly where it has lookups
+abbrev pub terminal_presence_check : {R : Type 0} → ℕ → (lookups : ℕ) → (terminal : Bool) → Check (BatchVerificationError R)
+terminal_presence_check i lookups terminal = check (Lookup (TerminalPresenceMismatch i (is_some lookups) terminal)) (terminal ≡ is_some lookups)
+
+-- both
+abbrev pub lookup_checks : {E R : Type 0} → ℕ → (lookups dimension : ℕ) → OpenedWithLookups E → (terminal : Bool) → List (Check (BatchVerificationError R))
+lookup_checks i lookups dimension o terminal = permutation_width_check i lookups dimension o ∷ terminal_presence_check i lookups terminal ∷ []
 
 -- what is opened of table i: it declares d, has so many public values and lookups, its quotient so many chunks
 unfoldable pub table_checks : {F E R : Type 0} → ℕ → Declaration F → (publics chunks dimension lookups : ℕ) → OpenedWithLookups E → (terminal : Bool)

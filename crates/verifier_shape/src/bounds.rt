@@ -26,9 +26,9 @@ fn heights(alloc: Global, degree_bits: &[usize], masks: usize) -> Mem<Vec<usize>
     Ok(heights)
 }
 
-// The check of each bus: `MultiplicityBound` exactly where on some bus the sum of bounds times heights reaches the field's
-// order, with the first such bus.
-pub(crate) fn check_bounds<F: PrimeField64, R>(
+/// The check of each bus: `MultiplicityBound` exactly where on some bus the sum of bounds times heights reaches the field's
+/// order, with the first such bus: from there on what is sent could wrap to zero.
+pub fn check_bounds<F: PrimeField64, R>(
     alloc: Global,
     lookups: &[Lookups<F>],
     degree_bits: &[usize],

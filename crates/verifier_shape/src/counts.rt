@@ -25,8 +25,8 @@ fn has_entries<Com>(preprocessed: &Option<PreprocessedTraces<Com>>, tables: usiz
     }
 }
 
-// Whether each list has an item for each table.
-fn are_counted<F: Field, A: Air<F>, E, Com, Opening>(
+/// Whether each list of statement and proof has an item for each table, where there are preprocessed traces also their entries.
+pub fn are_counted<F: Field, A: Air<F>, E, Com, Opening>(
     airs: &[A],
     public_values: &[Vec<F>],
     common: &SharedData<F, Com>,
@@ -64,8 +64,8 @@ fn are_randomized<E>(instances: &[OpenedValuesWithLookups<E>], zk: bool) -> bool
     true
 }
 
-// Whether what is random is there exactly where the backend masks.
-fn is_randomized<F, E, Com, Opening>(proof: &TablesProof<F, E, Com, Opening>, zk: bool) -> bool
+/// Whether what is random is there, of each table and as a commitment, exactly where the backend masks.
+pub fn is_randomized<F, E, Com, Opening>(proof: &TablesProof<F, E, Com, Opening>, zk: bool) -> bool
     ensures { IsTrue result ↔ IsRandomized zk proof.now }
 {
     are_randomized(proof.instances(), zk) && proof.commitments.random.is_some() == zk

@@ -102,8 +102,10 @@ fn table_size<F: Field, A: Air<F>, R>(
     }
 }
 
-// The same of one table of a batch.
-fn size_at<F: Field, A: Air<F>, R>(
+/// The checks of the size of one table of a batch: `DegreeBitsTooSmall` and `DegreeBitsTooLarge` exactly where its degree bits are below `least` or above
+/// `most`, then `QuotientDomainTooLarge` exactly where its quotient would have 2^64 chunks or more. It gives the logarithm of the number
+/// of its chunks before masking, and takes memory for the degrees of its constraints.
+pub fn size_at<F: Field, A: Air<F>, R>(
     alloc: Global,
     index: usize,
     airs: &[A],

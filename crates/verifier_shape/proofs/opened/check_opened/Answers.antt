@@ -26,16 +26,16 @@ returns-in_err-check_chunks g c =
     (lookup_checks a.index a.lookups a.dimension a.opened.now a.terminal) _ c.in_ok-check_main.ensures c.in_err-check_chunks.ensures
     )
 
-pub returns-in_err-check_declared : goal.returns-in_err-check_declared
+pub returns-in_err-check_preprocessed : goal.returns-in_err-check_preprocessed
 unfolding table_checks
-returns-in_err-check_declared g c =
+returns-in_err-check_preprocessed g c =
     let a = c.args in
     let d = g.A.BaseAir.declaration a.air.now in
-    exits_decided _ _ _ c.from_residual-in_err-check_declared.ensures.1 (
+    exits_decided _ _ _ c.from_residual-in_err-check_preprocessed.ensures.1 (
     third_of_four (main_checks a.index d (length a.publics.now) a.opened.now.base) (chunk_checks a.index a.chunks a.dimension a.opened.now.base)
     (preprocessed_checks a.index (width_of d.preprocessed) d.preprocessed_next a.opened.now.base.preprocessed)
     (lookup_checks a.index a.lookups a.dimension a.opened.now a.terminal) _ c.in_ok-check_main.ensures c.in_ok-check_chunks.ensures
-    c.in_err-check_declared.ensures
+    c.in_err-check_preprocessed.ensures
     )
 
 pub returns : goal.returns
@@ -46,4 +46,4 @@ returns g c =
     last_of_four (main_checks a.index d (length a.publics.now) a.opened.now.base) (chunk_checks a.index a.chunks a.dimension a.opened.now.base)
     (preprocessed_checks a.index (width_of d.preprocessed) d.preprocessed_next a.opened.now.base.preprocessed)
     (lookup_checks a.index a.lookups a.dimension a.opened.now a.terminal) _ c.in_ok-check_main.ensures c.in_ok-check_chunks.ensures
-    c.in_ok-check_declared.ensures c.check_lookup_rows.ensures
+    c.in_ok-check_preprocessed.ensures c.check_lookup_rows.ensures

@@ -4,7 +4,7 @@ use Rattle.std.proofs.lemmas.List.Elements.{All-from_get_or}
 use Rattle.std.proofs.lemmas.List.{length-map}
 use Rattle.verifier_shape.specs.Laws.Items.{item_of_map}
 use Rattle.verifier_shape.proofs.Items.{not_all}
-use Rattle.verifier_shape.proofs.opened.all_have.Goals as goal
+use Rattle.verifier_shape.proofs.lengths.all_have.Goals as goal
 
 pub returns-then-len-values : goal.returns-then-len-values
 returns-then-len-values g c =
