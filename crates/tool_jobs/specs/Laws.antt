@@ -1,5 +1,4 @@
 -- What is proved of the definitions, by subject.
-pub mod Counts
 pub mod Kinds
 pub mod Texts
 pub mod Airs

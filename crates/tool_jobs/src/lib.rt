@@ -6,7 +6,6 @@
 #![tactic(auto)]
 
 mod balance;
-mod counts;
 mod job;
 mod meanings;
 mod table;

@@ -5,13 +5,12 @@ ghost use Rattle.tool_lines.specs.WholeText.{ReadsText};
 ghost use Rattle.tool_jobs.specs.Jobs.{JobWithin, job_numbers, read_table, read_tables};
 ghost use Rattle.tool_jobs.specs.Laws.Kinds.{KindWithin, body_numbers};
 
-use crate::counts::read_powers;
 use crate::table::{GivenWord, JobTable};
 use p3_field::{BabyBear, Mem};
 use std::alloc::Global;
 use tool_lines::{
-    Form, ItemError, Reader, TextError, print_items, print_list, push_number, read_items,
-    read_list, read_text,
+    Form, ItemError, Reader, TextError, WordLine, print_items, print_list, push_number, read_items,
+    read_list, read_powers, read_text,
 };
 
 /// The first line of a swap table's text.
@@ -81,38 +80,6 @@ impl Form for GivenWord {
     fn print(value: &GivenWord, out: &mut Vec<u8>) -> Mem<()> {
         BabyBear::print(&value.word, out)?;
         push_number(out, value.count as u64)
-    }
-}
-
-/// The form of a number of 32 bits: one line.
-struct WordLine;
-
-impl Form for WordLine {
-    type Value = u32;
-
-    ghost use Rattle.std.specs.Prelude.{ℕ};
-    ghost use Rattle.tool_lines.specs.Texts.{Between, one_number};
-    ghost use Rattle.tool_jobs.specs.Laws.Kinds.{word-grammar};
-
-    ghost Data = { ℕ };
-
-    ghost data_of = { λ n. n };
-
-    ghost within = { Between 0 4294967295 };
-
-    ghost numbers = { one_number };
-
-    ghost grammar = { word-grammar };
-
-    fn read(_alloc: Global, reader: &mut Reader) -> Result<u32, ItemError>
-        ensures value { ReadsOne (λ n. n) (Between 0 4294967295) one_number reader.old reader.new result }
-        ensures no_memory { IfErr result (λ e. e ≡ ItemError.Malformed) }
-    {
-        reader.number(0, u32::MAX)
-    }
-
-    fn print(value: &u32, out: &mut Vec<u8>) -> Mem<()> {
-        push_number(out, *value as u64)
     }
 }
 

@@ -1,3 +1,4 @@
+mod Counted
 pub mod Elements
 pub mod Faults
 pub mod FixedStops

@@ -1,3 +1,4 @@
+pub mod Counts
 pub mod Fixed
 pub mod Laws
 pub mod Texts

@@ -109,3 +109,35 @@ impl Form for QuarticExtension {
         BabyBear::print(&value.c3, out)
     }
 }
+
+/// The form of a number of 32 bits: one line.
+pub struct WordLine;
+
+impl Form for WordLine {
+    type Value = u32;
+
+    ghost use Rattle.std.specs.Prelude.{ℕ};
+    ghost use Rattle.tool_lines.specs.Texts.{Between, one_number};
+    ghost use Rattle.tool_lines.specs.Laws.Grammars.{word-grammar};
+
+    ghost Data = { ℕ };
+
+    ghost data_of = { λ n. n };
+
+    ghost within = { Between 0 4294967295 };
+
+    ghost numbers = { one_number };
+
+    ghost grammar = { word-grammar };
+
+    fn read(_alloc: Global, reader: &mut Reader) -> Result<u32, ItemError>
+        ensures value { ReadsOne (λ n. n) (Between 0 4294967295) one_number reader.old reader.new result }
+        ensures no_memory { IfErr result (λ e. e ≡ ItemError.Malformed) }
+    {
+        reader.number(0, u32::MAX)
+    }
+
+    fn print(value: &u32, out: &mut Vec<u8>) -> Mem<()> {
+        push_number(out, *value as u64)
+    }
+}

@@ -5,14 +5,16 @@
 //! read and print the parts that texts are made of.
 #![tactic(auto)]
 
+mod counts;
 mod fixed;
 mod forms;
 mod lists;
 mod parse;
 mod texts;
 
+pub use counts::read_powers;
 pub use fixed::{read_fixed, read_headed};
-pub use forms::Form;
+pub use forms::{Form, WordLine};
 pub use lists::{ListOf, print_items, print_list, read_items, read_list};
 pub use parse::{TextError, read_text, read_text_from};
 pub use texts::{ItemError, Reader, push_number};

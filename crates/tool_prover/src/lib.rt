@@ -11,3 +11,4 @@ mod proving;
 
 pub use answer::answer_prove;
 pub use laws::{there_is_one_answer, traced_batches_are_granted};
+pub use outside::avoids_subgroup;

@@ -9,8 +9,9 @@ use p3_field::{
 };
 use tool_statement::TableStatement;
 
-// Whether the point is none of the subgroup of size 2^`log`.
-fn avoids_subgroup(log: usize, point: QuarticExtension) -> bool
+/// Whether a drawn point lies on none of the rows of a table of 2^`log` rows, up to 2^10: it is none of the subgroup of that size.
+/// Nothing is allocated.
+pub fn avoids_subgroup(log: usize, point: QuarticExtension) -> bool
     requires { log ≤ 10 }
     ensures { IsTrue result ↔ AvoidsRows point log }
 {

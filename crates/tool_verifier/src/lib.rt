@@ -16,9 +16,11 @@ mod status;
 mod tables;
 
 pub use answer::{Answer, answer_tables};
+pub use fault_names::fault_name;
+pub use fault_numbers::{push_fault, push_spaced};
 pub use file_answer::answer_verify;
 pub use laws::there_is_one_answer;
 pub use meaning::accepted_means;
-pub use refusal::refusal_line;
+pub use refusal::{fault_line, mismatch_line, refusal_line};
 pub use status::Status;
 pub use tables::verify_tables;

@@ -1,11 +1,12 @@
 -- The words of a table after its kind tell the table, kind by kind.
 use Rattle.std.proofs.Common.{◌≡◌, ℕ, zero, suc, ◌≤◌, List, [], ◌∷◌, refl, arith}
 use Rattle.p3_field.specs.declared.baby_bear.BabyBear.{BabyBear}
+use Rattle.tool_lines.specs.Counts.{PowersWithin}
 use Rattle.tool_lines.specs.Texts.{Between, Grammar, ItemsWithin, Unlimited, element_numbers, items_numbers, list_numbers, one_number}
-use Rattle.tool_lines.specs.Laws.Grammars.{SameTexts, ThenWithin, TwoWithin, element-grammar, items-grammar, number-grammar, pair_numbers, same-grammar, then-grammar, two-grammar, two_numbers}
+use Rattle.tool_lines.specs.Laws.Counts.{powers-grammar}
+use Rattle.tool_lines.specs.Laws.Grammars.{SameTexts, ThenWithin, TwoWithin, element-grammar, items-grammar, number-grammar, numbers-own, pair_numbers, same-grammar, then-grammar, two-grammar, two_numbers, word-grammar}
 use Rattle.law_tool_valid.specs.Job.{IsHashRow, IsJobTableWithin, JobTable, swap_of, wheel_of, take_of, give_of, hash_of}
 use Rattle.tool_jobs.specs.Jobs.{given_numbers, row_numbers}
-use Rattle.tool_jobs.specs.Laws.Counts.{PowersWithin, powers-grammar}
 
 -- a table's kind, and its words after it
 abbrev pub kind_of : JobTable BabyBear → ℕ
@@ -107,11 +108,6 @@ same-give = record { to = give_of; to_fits = λ pairs h. (refl, (h.0.0, h.0.1, h
 pub give-grammar : Grammar (KindWithin 4) body_numbers
 give-grammar = same-grammar same-give (powers-grammar 1024 (omega arith) (omega arith) given-grammar)
 
--- a row's numbers are its words
-pub numbers-own : (xs : List ℕ) → row_numbers xs ≡ items_numbers one_number xs
-numbers-own [] = refl
-numbers-own (x ∷ xs) = λ i. x ∷ numbers-own xs i
-
 -- a row of compressions is seen as 24 numbers of 32 bits
 abbrev pub WordsWithin : List ℕ → Type 0
 WordsWithin = ItemsWithin 24 (Between 0 4294967295)
@@ -123,9 +119,6 @@ same-row = record {
   to_numbers = λ row h. numbers-own row;
   whole = λ row h. (row, (h.0, λ i d l. let w = h.1 i d l in (omega arith, omega (arith, w))), refl);
 }
-
-pub word-grammar : Grammar (Between 0 4294967295) one_number
-word-grammar = number-grammar 0 4294967295 (omega arith) (omega arith)
 
 pub row-grammar : Grammar IsHashRow row_numbers
 row-grammar = same-grammar same-row (items-grammar 24 word-grammar)

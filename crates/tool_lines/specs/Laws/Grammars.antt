@@ -29,6 +29,15 @@ number-grammar least most room few = record {
   tells = λ v w x y p q e. (head-same v w x y e, tail-same v w x y e);
 }
 
+-- a number of 32 bits
+pub word-grammar : Grammar (Between 0 4294967295) one_number
+word-grammar = number-grammar 0 4294967295 (omega arith) (omega arith)
+
+-- numbers that are their own items
+pub numbers-own : (xs : List ℕ) → xs ≡ items_numbers one_number xs
+numbers-own [] = refl
+numbers-own (x ∷ xs) = λ i. x ∷ numbers-own xs i
+
 -- two values, one after the other: the limits of the second may depend on the first
 abbrev pub PairWithin : {A B : Type 0} → (A → Type 0) → (A → B → Type 0) → A × B → Type 0
 PairWithin first second p = first p.0 × second p.0 p.1

@@ -1,8 +1,8 @@
 use Rattle.std.proofs.Common.{List, ℕ, ◌++◌, sym, ◌∙◌, ap}
 use Rattle.std.proofs.lemmas.Result.{on_ok_weaker}
 use Rattle.tool_lines.specs.Texts.{items_numbers, line_text, one_number}
+use Rattle.tool_lines.specs.Laws.Grammars.{numbers-own}
 use Rattle.tool_lines.specs.Laws.Prints.{prints-items}
-use Rattle.tool_jobs.specs.Laws.Kinds.{numbers-own}
 use Rattle.tool_jobs.proofs.text.HashRowForm.print.Goals as goal
 
 pub returns : goal.returns

@@ -2,9 +2,9 @@ use Rattle.std.proofs.Common.{arith}
 use Rattle.std.specs.Prelude.{map}
 use Rattle.tool_lines.specs.Texts.{list_numbers}
 use Rattle.tool_lines.specs.Laws.Stops.{handed-on}
-use Rattle.tool_jobs.specs.Laws.Counts.{PowersWithin}
-use Rattle.tool_jobs.proofs.Readings.{powers-after, powers-count}
-use Rattle.tool_jobs.proofs.counts.read_powers.Goals as goal
+use Rattle.tool_lines.specs.Counts.{PowersWithin}
+use Rattle.tool_lines.proofs.Counted.{powers-after, powers-count}
+use Rattle.tool_lines.proofs.counts.read_powers.Goals as goal
 
 pub returns-in_err-count : goal.returns-in_err-count
 returns-in_err-count g c = handed-on (λ v. map g.T.Form.data_of v.items) (PowersWithin c.args.most g.T.Form.within) (list_numbers g.T.Form.numbers) _ _ _ c.in_err-count.field-0.0 c.from_residual.ensures.1

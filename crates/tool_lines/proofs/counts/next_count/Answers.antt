@@ -1,9 +1,9 @@
 use Rattle.std.proofs.Common.{List, ℕ, ◌∙◌, sym, subst, arith}
 use Rattle.std.specs.Int.{IsPowerOfTwo}
 use Rattle.tool_lines.specs.Texts.{Stops, one_number}
-use Rattle.tool_jobs.proofs.Readings.{count-missing, count-refused}
-use Rattle.tool_jobs.specs.Laws.Counts.{IsCount}
-use Rattle.tool_jobs.proofs.counts.next_count.Goals as goal
+use Rattle.tool_lines.proofs.Counted.{count-missing, count-refused}
+use Rattle.tool_lines.specs.Counts.{IsCount}
+use Rattle.tool_lines.proofs.counts.next_count.Goals as goal
 
 pub returns-else-is_power_of_two : goal.returns-else-is_power_of_two
 returns-else-is_power_of_two c =

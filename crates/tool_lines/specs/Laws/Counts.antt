@@ -1,16 +1,8 @@
--- Lists whose number of items is a power of two: their limits and their grammar.
-use Rattle.std.specs.Int.{IsPowerOfTwo}
-use Rattle.std.proofs.Common.{ℕ, ◌<◌, ◌≤◌, ◌^◌, List, ◌∷◌, length, All, refl, sym, ap, subst, arith}
+-- The grammar of lists whose number of items is a power of two.
+use Rattle.std.proofs.Common.{ℕ, ◌<◌, ◌≤◌, ◌^◌, List, ◌∷◌, length, refl, sym, ap, subst, arith}
+use Rattle.tool_lines.specs.Counts.{IsCount, PowersWithin}
 use Rattle.tool_lines.specs.Texts.{Grammar, ItemsWithin, items_numbers, list_numbers, one_number}
 use Rattle.tool_lines.specs.Laws.Grammars.{PairWithin, SameTexts, head-same, items-grammar, pair-grammar, pair_numbers, same-grammar, small-one, tail-same}
-
--- a power of two up to `most`
-abbrev pub IsCount : ℕ → ℕ → Type 0
-IsCount most n = IsPowerOfTwo n × (n ≤ most)
-
--- so many items, each within its limits
-abbrev pub PowersWithin : {A : Type 0} → ℕ → (A → Type 0) → List A → Type 0
-PowersWithin most within xs = IsCount most (length xs) × All within xs
 
 pub one-counts : (most : ℕ) → 1 ≤ most → IsCount most 1
 one-counts most room = ((0, refl), room)

@@ -1,11 +1,13 @@
 //! Lists whose number of items is a power of two.
 ghost use Rattle.std.specs.Prelude.{List, ℕ, ◌≤◌, MatchOption, map};
 ghost use Rattle.tool_lines.specs.Texts.{Reads, ReadsKnown, ReadsOne, Stops, list_numbers, one_number};
-ghost use Rattle.tool_jobs.specs.Laws.Counts.{IsCount, PowersWithin};
+ghost use Rattle.tool_lines.specs.Counts.{IsCount, PowersWithin};
 
+use crate::forms::Form;
+use crate::lists::read_items;
+use crate::texts::{ItemError, Reader};
 use p3_matrix::is_power_of_two;
 use std::alloc::Global;
-use tool_lines::{Form, ItemError, Reader, read_items};
 
 // The number on the next line, if that is a power of two up to `most`. Nothing is read.
 fn next_count(reader: &Reader, most: u32) -> Option<u32>
@@ -40,7 +42,7 @@ fn read_count(reader: &mut Reader, most: u32) -> Result<u32, ItemError>
 /// Reads a list whose number of items is a power of two up to `most`: the line of its count, and the items.
 ///
 /// It is `Malformed` exactly where the text's front is no such list's text. No memory is taken for the count before its items are read.
-pub(crate) fn read_powers<T: Form>(
+pub fn read_powers<T: Form>(
     alloc: Global,
     reader: &mut Reader,
     most: u32,
