@@ -18,10 +18,10 @@ use p3_uni_stark::{
 };
 use std::alloc::Global;
 
-// The backend opens the claims from the challenger's state. The number is the place of the claim whose commitment is that of
-// preprocessed columns.
+/// The backend's check of claims from the challenger's state: `InvalidOpeningArgument` with the backend's first fault exactly where the proof doesn't
+/// open them. `preprocessed` is the place of the claim whose commitment is that of preprocessed columns.
 #[tactic(auto, unfolding(p3_field::specs::Checks::NoneFails, p3_field::specs::Checks::FirstFails))]
-pub(crate) fn opened_claims<SC: StarkGenericConfig>(
+pub fn opened_claims<SC: StarkGenericConfig>(
     alloc: Global,
     config: &SC,
     claims: Vec<CommitmentOpening<Challenge<SC>, Commitment<SC>, Domain<SC>>>,

@@ -11,5 +11,7 @@ mod openings;
 mod parts;
 mod verifier;
 
-pub use openings::check_openings;
+pub use backend::opened_claims;
+pub use openings::{check_openings, proof_claims};
+pub use parts::shape_bounds;
 pub use verifier::verify_batch;

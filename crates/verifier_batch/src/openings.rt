@@ -66,9 +66,13 @@ fn opening_of<F, E, Com, Opening>(proof: &TablesProof<F, E, Com, Opening>) -> &O
     &proof.opening_proof
 }
 
-// The claims of a proof whose shape was checked, with the domains of each table's chunks and the place of the preprocessed
-// round.
-fn proof_claims<SC: StarkGenericConfig, A: Air<Val<SC>>>(
+/// The claims of a proof at `zeta`, after the checks that there is a domain for each table's quotient (`QuotientDomainTooLarge`) and that
+/// each preprocessed matrix was committed for its table's height (`PreprocessedMetadataMismatch`), in the order of `claim_checks`. With the claims
+/// it gives for each table the domains of its quotient's chunks, and the place of the claim on preprocessed columns, where there is one.
+///
+/// The common data is well-formed for the AIRs, no check of the proof's shape fails (`verifier_shape`), and `chunks` has
+/// for each table the logarithm of the number of its quotient's chunks before masking.
+pub fn proof_claims<SC: StarkGenericConfig, A: Air<Val<SC>>>(
     alloc: Global,
     config: &SC,
     airs: &[A],

@@ -26,8 +26,8 @@ use verifier_draws::{Drawn, check_draws};
 use verifier_identity::check_identities;
 use verifier_shape::{ShapeBounds, check_shape};
 
-// The numbers of a configuration that a proof's shape depends on.
-fn shape_bounds<SC: StarkGenericConfig>(config: &SC) -> ShapeBounds
+/// The numbers of a configuration that a proof's shape depends on (not in Plonky3).
+pub fn shape_bounds<SC: StarkGenericConfig>(config: &SC) -> ShapeBounds
     ensures bounds { bounds_with SC.Val.ORDER_U64 result ≡ shape_bounds_of (⟦<SC as Settings>⟧.setting config.now) }
     ensures zk { result.zk ≡ SC.Pcs.ZK }
     ensures masks { result.masks ≡ masks_of (⟦<SC as Settings>⟧.setting config.now) }
