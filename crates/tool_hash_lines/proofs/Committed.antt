@@ -1,7 +1,6 @@
 -- The interpolants of a committed matrix's columns are the polynomials that it is committed to by.
 use Rattle.std.proofs.Common.{◌≡◌, ℕ, zero, suc, ◌+◌, ◌^◌, ◌≤◌, List, [], ◌∷◌, Some, Vec, Global, length, map, refl, sym, ◌∙◌, ap, subst}
 use Rattle.std.specs.Prelude.{slice_get}
-use Rattle.std.proofs.lemmas.List.{length-map}
 use Rattle.std.proofs.lemmas.Option.{get_or_from_slice_get}
 use Rattle.p3_field.specs.BabyBear.{baby_bear_inv, baby_bear_ring, baby_bear_root, reduce}
 use Rattle.p3_field.specs.Domain.{CosetData, IsInterpolant, coset_point, point}
@@ -63,8 +62,3 @@ module _ (c : PlainCommitmentData BabyBear) (i k : ℕ) (fits : k + 1 ≤ 27) (h
       let made = λ (j : ℕ). interpolant tool_scheme.field d (values j) in
       mapped_tabulate (λ (f : Vec BabyBear Global). f.items) polynomials made own_interpolant
       ∙ (ap (λ n. tabulate n made) each.count ∙ sym (map-tabulate (interpolant tool_scheme.field d) (matrix_at c i).width values))
-
--- as many as the matrix has columns
-pub length-polynomials_at : (k : ℕ) (c : PlainCommitmentData BabyBear) (i : ℕ) → length (polynomials_at tool_scheme k c i) ≡ (matrix_at c i).width
-length-polynomials_at k c i =
-    length-map (columns baby_bear_ring.zero (matrix_at c i)) (interpolant tool_scheme.field (extended_domain tool_scheme k)) ∙ length-tabulate (matrix_at c i).width (column baby_bear_ring.zero (matrix_at c i))

@@ -12,7 +12,7 @@ use Rattle.tool_statement.specs.Config.{tool_scheme, tool_setting}
 use Rattle.tool_statement.specs.declared.table.TableStatement.{TableStatement}
 use Rattle.tool_statement.specs.declared.table.TableStatement.TheVariants.{Hash, Take}
 use Rattle.tool_hash_lines.specs.Columns.{polynomial_cells_at}
-use Rattle.tool_hash_lines.specs.PrintedRows.{HasHashMatrices, HasHashMatrix, committed_cells, table_lines}
+use Rattle.tool_hash_lines.specs.PrintedRows.{HasHashMatrices, HasMainMatrix, committed_cells, table_lines}
 use Rattle.tool_hash_lines.specs.RowText.{row_line}
 
 module _ (tables : List TableStatement) (p : ToolProofData) (i k : ℕ) (degree : get_or p.degree_bits i 0 ≡ k) where
@@ -33,5 +33,5 @@ pub hash_at : (tables : List TableStatement) (i k : ℕ) (x : TableStatement) �
 hash_at tables i k x below read is = get_or_from_slice_get tables i x (Take 0) (slice_get_read tables (length tables) i x refl below read) ∙ is
 
 -- a hash table's matrix, by the table's place
-pub matrix_there : (tables : List TableStatement) (p : ToolProofData) → HasHashMatrices tables p → (i k : ℕ) → i < length tables → get_or tables i (Take 0) ≡ Hash k → HasHashMatrix p i k
+pub matrix_there : (tables : List TableStatement) (p : ToolProofData) → HasHashMatrices tables p → (i k : ℕ) → i < length tables → get_or tables i (Take 0) ≡ Hash k → HasMainMatrix p i k 9168
 matrix_there tables p h i k below e = h i k (slice_get-get_or tables i (Take 0) below ∙ ap Some e)

@@ -32,15 +32,15 @@ table_lines tables p i (Hash k) = joined (2 ^ k) (λ row. row_line row (committe
 unfoldable pub printed_rows : List TableStatement → ToolProofData → List ℕ
 printed_rows tables p = joined (length tables) (λ i. table_lines tables p i (get_or tables i (Take 0)))
 
--- The proof's main commitment has matrix i, a hash table's of 2^k rows: twice as high, on one of the field's domains, and with a column for each cell of a
--- compression's row. Its degree bits are k.
-pub record HasHashMatrix (p : ToolProofData) (i k : ℕ) : Type 0 where
+-- The proof's main commitment has matrix i, of a table of 2^k rows with so many columns: twice as high, on one of the field's domains, and with these columns.
+-- Its degree bits are k.
+pub record HasMainMatrix (p : ToolProofData) (i k width : ℕ) : Type 0 where
   pub exists : i < length p.commitments.main.matrices
   pub degree_is : get_or p.degree_bits i 0 ≡ k
   pub fits : k + 1 ≤ 27
   pub height_is : height (matrix_at p.commitments.main i) ≡ 2 ^ (k + 1)
-  pub width_is : (matrix_at p.commitments.main i).width ≡ 9168
+  pub width_is : (matrix_at p.commitments.main i).width ≡ width
 
--- so of each hash table
+-- so of each hash table, which has a column for each cell of a compression's row
 abbrev pub HasHashMatrices : List TableStatement → ToolProofData → Type 0
-HasHashMatrices tables p = (i k : ℕ) → slice_get tables i ≡ Some (Hash k) → HasHashMatrix p i k
+HasHashMatrices tables p = (i k : ℕ) → slice_get tables i ≡ Some (Hash k) → HasMainMatrix p i k 9168

@@ -21,8 +21,9 @@ fn plain_scheme() -> PlainPcs<BabyBear, Radix2Dit>
 }
 
 /// The coefficients of the polynomials of the columns of a committed matrix, lowest first: of a matrix of 2^(k + 1) rows the interpolants of columns that
-/// were given on 2^k rows. The commitment isn't copied. The only error is running out of memory.
-pub(crate) fn committed_columns(
+/// were given on 2^k rows (not in Plonky3). The commitment has such a matrix, of a height that is that of one of the field's domains, and isn't copied. The only
+/// error is running out of memory.
+pub fn committed_columns(
     alloc: Global,
     commitment: &PlainCommitment<BabyBear>,
     matrix: usize,

@@ -29,8 +29,8 @@ fn push_row(
     }
 }
 
-// The domain of a table of 2^`k` rows.
-fn trace_domain(k: usize) -> TwoAdicMultiplicativeCoset<BabyBear>
+/// The domain of a table of 2^`k` rows, whose points are those of the rows: the field's subgroup of that size, which it has where `k` is at most 27.
+pub fn trace_domain(k: usize) -> TwoAdicMultiplicativeCoset<BabyBear>
     requires { k ≤ 27 }
     ensures { result ≡ subgroup baby_bear_ring k }
 {

@@ -7,7 +7,7 @@ use Rattle.law_soundness.specs.Commitment.{matrix_at, polynomials_at}
 use Rattle.tool_proof_text.specs.ProofText.{ToolProofData}
 use Rattle.tool_statement.specs.Config.{tool_scheme}
 use Rattle.tool_statement.specs.declared.table.TableStatement.TheVariants.{Hash, Take}
-use Rattle.tool_hash_lines.proofs.Committed.{length-polynomials_at}
+use Rattle.tool_hash_lines.specs.Laws.Matrices.{length-polynomials_at}
 use Rattle.tool_hash_lines.proofs.PrintedRows.{hash_at, lines_are, matrix_there}
 use Rattle.tool_hash_lines.proofs.lines.push_table.Goals as goal
 
