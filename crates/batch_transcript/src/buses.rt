@@ -195,10 +195,7 @@ pub fn layout<F: Field, EF: Field, LG: LookupProtocol>(
 }
 
 /// No challenges, for each instance: the layout where no pair is drawn, since no instance has lookups.
-pub fn empty_layout<F: Field, EF: Field>(
-    alloc: Global,
-    lookups: &[Lookups<F>],
-) -> Mem<Vec<Vec<EF>>>
+pub fn empty_layout<F: Field, EF: Field>(alloc: Global, lookups: &[Lookups<F>]) -> Mem<Vec<Vec<EF>>>
     ensures { IfOk result (λ v. lists v.items ≡ batch_layout EF.ring [] (map read_all lookups.now)) }
 {
     let mut all = Vec::new(alloc);
