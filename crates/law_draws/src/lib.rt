@@ -1,0 +1,45 @@
+//! That what is drawn for a batch proof is fixed by what stands before it, and so is what makes it unlucky.
+//!
+//! The functions compute nothing: their contracts are laws of the definitions in `specs/` (`Before`). Not in Plonky3.
+#![tactic(auto)]
+
+ghost use Rattle.std.specs.Prelude.{◌≡◌, ℕ};
+ghost use Rattle.plain_pcs.specs.Scheme.{PlainCommitmentData};
+ghost use Rattle.law_committed.specs.Batch.{IsUnluckyAlphaOfBatch, IsUnluckyZetaOfBatch};
+ghost use Rattle.batch_config.specs.Setting.{Setting};
+ghost use Rattle.batch_statement.specs.Proof.{ProofData};
+ghost use Rattle.batch_statement.specs.Statement.{Statement};
+ghost use Rattle.verifier_batch.specs.BatchChecks.{drawn_of};
+ghost use Rattle.law_soundness.specs.CommittedBatch.{committed_batch, committed_table_at};
+ghost use Rattle.law_balance.specs.Accepted.{messages_of_proof};
+ghost use Rattle.law_draws.specs.Before.{AgreeBeforeAlpha, AgreeBeforePair, AgreeBeforeZeta, HaveOnePair};
+
+/// Of two proofs of one statement, over any configuration, a draw is the same where they agree in what the script plays before it: the
+/// lookups' pair (`pair`), alpha (`alpha`), and from zeta on all that is drawn and the state at the opening (`zeta`). So nothing that a
+/// prover chooses after a draw has a part in it.
+pub fn draws_come_from_before<S, F, E, Com, Opening>()
+    ensures pair { (c : Setting S F E Com) (s : Statement F Com) (p q : ProofData F E Com Opening) → AgreeBeforePair p q → HaveOnePair c s p q }
+    ensures alpha { (c : Setting S F E Com) (s : Statement F Com) (p q : ProofData F E Com Opening) → AgreeBeforeAlpha p q
+        → (drawn_of c s p).alpha ≡ (drawn_of c s q).alpha }
+    ensures zeta { (c : Setting S F E Com) (s : Statement F Com) (p q : ProofData F E Com Opening) → AgreeBeforeZeta p q
+        → drawn_of c s p ≡ drawn_of c s q }
+{}
+
+/// The same of what makes a challenge unlucky, over the plain scheme: what the tables send, for which pairs are unlucky, is fixed before
+/// the pair is drawn (`messages`); the committed tables are before alpha (`tables`), and with them the set of the unlucky alphas
+/// (`alphas`); the quotients are before zeta, and with them that of the unlucky zetas (`zetas`).
+pub fn unlucky_sets_come_from_before<S, F, E, Opening>()
+    ensures messages { (c : Setting S F E (PlainCommitmentData F)) (log_blowup : ℕ) (s : Statement F (PlainCommitmentData F))
+        (p q : ProofData F E (PlainCommitmentData F) Opening) → AgreeBeforePair p q → messages_of_proof c log_blowup s p ≡ messages_of_proof c log_blowup s q }
+    ensures tables { (c : Setting S F E (PlainCommitmentData F)) (log_blowup : ℕ) (s : Statement F (PlainCommitmentData F))
+        (p q : ProofData F E (PlainCommitmentData F) Opening) → AgreeBeforeAlpha p q
+        → (i : ℕ) → committed_table_at c log_blowup s p i ≡ committed_table_at c log_blowup s q i }
+    ensures alphas { (c : Setting S F E (PlainCommitmentData F)) (log_blowup : ℕ) (s : Statement F (PlainCommitmentData F))
+        (p q : ProofData F E (PlainCommitmentData F) Opening) → AgreeBeforeAlpha p q
+        → (alpha : E) → IsUnluckyAlphaOfBatch c.field c.extension (committed_batch c log_blowup s p) alpha
+        → IsUnluckyAlphaOfBatch c.field c.extension (committed_batch c log_blowup s q) alpha }
+    ensures zetas { (c : Setting S F E (PlainCommitmentData F)) (log_blowup : ℕ) (s : Statement F (PlainCommitmentData F))
+        (p q : ProofData F E (PlainCommitmentData F) Opening) → AgreeBeforeZeta p q
+        → (alpha zeta : E) → IsUnluckyZetaOfBatch c.field c.extension (committed_batch c log_blowup s p) alpha zeta
+        → IsUnluckyZetaOfBatch c.field c.extension (committed_batch c log_blowup s q) alpha zeta }
+{}
