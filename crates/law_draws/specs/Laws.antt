@@ -1,3 +1,4 @@
 -- What is proved of the definitions, by subject.
 pub mod Draws
 pub mod Sets
+pub mod Streams

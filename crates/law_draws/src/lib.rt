@@ -3,7 +3,10 @@
 //! The functions compute nothing: their contracts are laws of the definitions in `specs/` (`Before`). Not in Plonky3.
 #![tactic(auto)]
 
-ghost use Rattle.std.specs.Prelude.{◌≡◌, ℕ};
+ghost use Rattle.std.specs.Prelude.{◌≡◌, ◌<◌, ℕ, List, All};
+ghost use Rattle.p3_field.specs.Ring.{Ring};
+ghost use Rattle.batch_transcript.specs.BatchScript.{BatchShapeData, Given};
+ghost use Rattle.batch_transcript.specs.Fits.{FitsShape};
 ghost use Rattle.plain_pcs.specs.Scheme.{PlainCommitmentData};
 ghost use Rattle.law_committed.specs.Batch.{IsUnluckyAlphaOfBatch, IsUnluckyZetaOfBatch};
 ghost use Rattle.batch_config.specs.Setting.{Setting};
@@ -13,6 +16,7 @@ ghost use Rattle.verifier_batch.specs.BatchChecks.{drawn_of};
 ghost use Rattle.law_soundness.specs.CommittedBatch.{committed_batch, committed_table_at};
 ghost use Rattle.law_balance.specs.Accepted.{messages_of_proof};
 ghost use Rattle.law_draws.specs.Before.{AgreeBeforeAlpha, AgreeBeforePair, AgreeBeforeZeta, HaveOnePair};
+ghost use Rattle.law_draws.specs.Streams.{ArePlayedAlike, HaveSameParts, TellElements};
 
 /// Of two proofs of one statement, over any configuration, a draw is the same where they agree in what the script plays before it: the
 /// lookups' pair (`pair`), alpha (`alpha`), and from zeta on all that is drawn and the state at the opening (`zeta`). So nothing that a
@@ -42,4 +46,14 @@ pub fn unlucky_sets_come_from_before<S, F, E, Opening>()
         (p q : ProofData F E (PlainCommitmentData F) Opening) → AgreeBeforeZeta p q
         → (alpha zeta : E) → IsUnluckyZetaOfBatch c.field c.extension (committed_batch c log_blowup s p) alpha zeta
         → IsUnluckyZetaOfBatch c.field c.extension (committed_batch c log_blowup s q) alpha zeta }
+{}
+
+/// What is played tells what it stands for: where two statements with parts of proofs, of one shape, are played by the same base elements, they are the same
+/// in all parts that the script plays (`told`). So any other commitment, terminal, public value, number of rows or grinding value gives another stream, from
+/// which other challenges are drawn. It asks that extension elements and commitments are told by the base elements that they are observed as, and degree bits,
+/// which enter as sums of ones, by these.
+pub fn streams_tell_their_parts<F, E, Com>()
+    ensures told { (r : Ring E) (coefficients : E → List F) (opaque : Com → List F) (most d : ℕ) (s : BatchShapeData) (g h : Given F E Com)
+        → TellElements r coefficients opaque most → FitsShape s g → FitsShape s h → All (λ n. n < most) g.degree_bits → All (λ n. n < most) h.degree_bits
+        → ArePlayedAlike coefficients opaque r d s g h → HaveSameParts s g h }
 {}
