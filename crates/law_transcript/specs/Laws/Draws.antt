@@ -11,7 +11,7 @@ use Rattle.verifier_draws.specs.Draws.{drawn, given_of, script_shape}
 use Rattle.verifier_batch.specs.BatchChecks.{drawn_of}
 use Rattle.law_honest.specs.HonestProof.{first_drawn}
 use Rattle.law_honest.specs.Laws.Staged.{ReadsDraws, alpha_of, at_ood, at_pair, at_permutation, pair_of, staged, zeta_of}
-use Rattle.law_draws.specs.Before.{AgreeBeforePair, AgreeBeforeAlpha, AgreeBeforeZeta, HaveOnePair}
+use Rattle.law_transcript.specs.Before.{AgreeBeforePair, AgreeBeforeAlpha, AgreeBeforeZeta, HaveOnePair}
 
 -- the second proof with what the first plays before a draw
 module _ {F E C P : Type 0} (p q : ProofData F E C P) where

@@ -14,8 +14,8 @@ use Rattle.verifier_batch.specs.BatchChecks.{drawn_of, table_challenges_of}
 use Rattle.verifier_draws.specs.Draws.{table_challenges}
 use Rattle.law_soundness.specs.CommittedBatch.{committed_at, committed_batch, committed_table_at, constraints_at}
 use Rattle.law_balance.specs.Accepted.{messages_of_proof}
-use Rattle.law_draws.specs.Before.{AgreeBeforePair, AgreeBeforeAlpha, AgreeBeforeZeta, HaveOnePair}
-use Rattle.law_draws.specs.Laws.Draws.{same_draws, same_pair, to_alpha, to_alpha_is, to_pair, to_pair_is, to_zeta, to_zeta_is}
+use Rattle.law_transcript.specs.Before.{AgreeBeforePair, AgreeBeforeAlpha, AgreeBeforeZeta, HaveOnePair}
+use Rattle.law_transcript.specs.Laws.Draws.{same_draws, same_pair, to_alpha, to_alpha_is, to_pair, to_pair_is, to_zeta, to_zeta_is}
 
 -- what is contained in a tabulated list is one of its items
 contained_at : {X : Type 0} (n : ℕ) (t : ℕ → X) (x : X) → Contains (tabulate n t) x → (i : ℕ) × (i < n) × (t i ≡ x)

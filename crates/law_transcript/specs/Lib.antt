@@ -1,3 +1,4 @@
 pub mod Before
 pub mod Streams
+pub mod Elements
 pub mod Laws

@@ -1,6 +1,7 @@
-//! That what is drawn for a batch proof is fixed by what stands before it, and so is what makes it unlucky.
+//! What is proved of a batch's transcript: that what is drawn is fixed by what stands before it, and so is what makes it unlucky; that what is played
+//! tells the parts of statement and proof; and that all is played by base elements.
 //!
-//! The functions compute nothing: their contracts are laws of the definitions in `specs/` (`Before`). Not in Plonky3.
+//! The functions compute nothing: their contracts are laws of the definitions in `specs/` (`Before`, `Streams`, `Elements`). Not in Plonky3.
 #![tactic(auto)]
 
 ghost use Rattle.std.specs.Prelude.{◌≡◌, ◌<◌, ℕ, List, All};
@@ -15,8 +16,11 @@ ghost use Rattle.batch_statement.specs.Statement.{Statement};
 ghost use Rattle.verifier_batch.specs.BatchChecks.{drawn_of};
 ghost use Rattle.law_soundness.specs.CommittedBatch.{committed_batch, committed_table_at};
 ghost use Rattle.law_balance.specs.Accepted.{messages_of_proof};
-ghost use Rattle.law_draws.specs.Before.{AgreeBeforeAlpha, AgreeBeforePair, AgreeBeforeZeta, HaveOnePair};
-ghost use Rattle.law_draws.specs.Streams.{ArePlayedAlike, HaveSameParts, TellElements};
+ghost use Rattle.law_transcript.specs.Before.{AgreeBeforeAlpha, AgreeBeforePair, AgreeBeforeZeta, HaveOnePair};
+ghost use Rattle.p3_challenger.specs.Elements.{ElementChallenger, IsOverElements};
+ghost use Rattle.p3_challenger.specs.Script.{ChallengerOf};
+ghost use Rattle.law_transcript.specs.Elements.{PlaysByElements};
+ghost use Rattle.law_transcript.specs.Streams.{ArePlayedAlike, HaveSameParts, TellElements};
 
 /// Of two proofs of one statement, over any configuration, a draw is the same where they agree in what the script plays before it: the
 /// lookups' pair (`pair`), alpha (`alpha`), and from zeta on all that is drawn and the state at the opening (`zeta`). So nothing that a
@@ -56,4 +60,13 @@ pub fn streams_tell_their_parts<F, E, Com>()
     ensures told { (r : Ring E) (coefficients : E → List F) (opaque : Com → List F) (most d : ℕ) (s : BatchShapeData) (g h : Given F E Com)
         → TellElements r coefficients opaque most → FitsShape s g → FitsShape s h → All (λ n. n < most) g.degree_bits → All (λ n. n < most) h.degree_bits
         → ArePlayedAlike coefficients opaque r d s g h → HaveSameParts s g h }
+{}
+
+/// The transcript of a batch, over any challenger that observes and draws base elements, is played by base elements alone: each step by those that its value is
+/// observed as, and a challenge by as many draws as it has coefficients. So a verifier that has only base elements plays the same transcript. That prover and
+/// verifier play this one is `transcripts_are_one_fold` of `batch_transcript`.
+pub fn batches_play_by_elements<S, F, E, Com>()
+    ensures { (c : ChallengerOf S F E Com) (b : ElementChallenger S F) (coefficients : E → List F) (opaque : Com → List F) (f : Ring F) (r : Ring E)
+        (d : ℕ) (initial : S) (s : BatchShapeData) (g : Given F E Com)
+        → IsOverElements c b coefficients opaque d → PlaysByElements c b coefficients opaque f r d initial s g }
 {}

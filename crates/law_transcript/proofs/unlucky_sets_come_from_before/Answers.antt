@@ -1,5 +1,5 @@
-use Rattle.law_draws.specs.Laws.Sets.{same_alphas_unlucky, same_messages, same_tables, same_zetas_unlucky}
-use Rattle.law_draws.proofs.unlucky_sets_come_from_before.Goals as goal
+use Rattle.law_transcript.specs.Laws.Sets.{same_alphas_unlucky, same_messages, same_tables, same_zetas_unlucky}
+use Rattle.law_transcript.proofs.unlucky_sets_come_from_before.Goals as goal
 
 pub returns-clause-messages : goal.returns-clause-messages
 returns-clause-messages g c = λ k n s p q a. same_messages k n s p q a

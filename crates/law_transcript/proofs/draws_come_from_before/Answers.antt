@@ -1,5 +1,5 @@
-use Rattle.law_draws.specs.Laws.Draws.{same_pair, same_alpha, same_draws}
-use Rattle.law_draws.proofs.draws_come_from_before.Goals as goal
+use Rattle.law_transcript.specs.Laws.Draws.{same_pair, same_alpha, same_draws}
+use Rattle.law_transcript.proofs.draws_come_from_before.Goals as goal
 
 pub returns-clause-pair : goal.returns-clause-pair
 returns-clause-pair g c = λ k s p q a. same_pair k s p q a

@@ -2,3 +2,4 @@
 pub mod Draws
 pub mod Sets
 pub mod Streams
+pub mod Elements

@@ -11,7 +11,7 @@ use Rattle.p3_challenger.specs.Script.{Elements, Extended, NoValue, Played}
 use Rattle.p3_challenger.specs.declared.script.Interaction.{Interaction}
 use Rattle.batch_transcript.specs.BatchScript.{BatchShapeData, Given, bindings_script, constraint_challenge_step, ground, is_positive, lookup_terminal_step, main_script, ood_script, opening_script, pair_script, permutation_script, preprocessed_commitment_step, preprocessed_script, public_values_step, quotient_script, randomization_commitment_step, script, script_to_lookup, script_to_ood, script_to_opening, sealed, with_value}
 use Rattle.batch_transcript.specs.Fits.{FitsShape}
-use Rattle.law_draws.specs.Streams.{ArePlayedAlike, HaveSameParts, TellElements, played_elements}
+use Rattle.law_transcript.specs.Streams.{ArePlayedAlike, HaveSameParts, TellElements, played_elements}
 
 -- lists whose last parts are as long as each other are equal part by part
 pub split_last : {A : Type 0} (xs ys us vs : List A) → length ys ≡ length vs → xs ++ ys ≡ us ++ vs → (xs ≡ us) × (ys ≡ vs)
