@@ -5,6 +5,8 @@ ghost use Rattle.p3_lookup.specs.Bus.{HaveOneWidth};
 ghost use Rattle.p3_lookup.specs.Lookup.{lookups_of};
 ghost use Rattle.batch_setup.specs.SetupChecks.{AreWithinBounds};
 ghost use Rattle.batch_statement.specs.Verdict.{IsVerdict};
+ghost use Rattle.p3_field.specs.Quartic.{quartic_inv};
+ghost use Rattle.law_balance.specs.Accepted.{BalanceUnlessUnlucky};
 ghost use Rattle.law_committed.specs.Committed.{Holds};
 ghost use Rattle.law_committed.specs.Fields.{baby_bear_field, quartic_extension};
 ghost use Rattle.law_soundness.specs.CommittedBatch.{committed_table_at};
@@ -13,12 +15,13 @@ ghost use Rattle.law_soundness.specs.OpenedBatch.{AllHaveColumns};
 ghost use Rattle.verifier_batch.specs.BatchChecks.{checks};
 ghost use Rattle.transcript_version.specs.declared.TranscriptVersion.TheVariants.{V2};
 ghost use Rattle.tool_statement.specs.Config.{tool_backend, tool_setting};
-ghost use Rattle.tool_airs.specs.Airs.{HasFewUnlucky, HaveHeights, airs_statement};
+ghost use Rattle.tool_airs.specs.Airs.{HasFewUnlucky, HaveHeights, airs_statement, same_value};
 
 use crate::setup::prover_data;
 use air_core::{Air, BaseAir};
 use batch_config::Settings;
 use batch_statement::{BatchProof, BatchVerificationError};
+use law_balance::accepted_balances;
 use law_soundness::{accepted_holds, few_challenges_are_unlucky};
 use p3_field::{BabyBear, FieldCore, RingCore};
 use p3_uni_stark::TranscriptVersion;
@@ -35,7 +38,8 @@ use verifier_batch::verify_batch;
 ///
 /// Where it is Ok, every constraint of every table is zero on each row of the committed polynomials, or the drawn alpha or the drawn zeta is
 /// unlucky (`holds`); where all tables hold, each does with the constraints of its AIR alone (`own`). The tables have the declared columns
-/// (`columns`), and how few alphas and zetas are unlucky is bounded by sums over the tables (`few`).
+/// (`columns`), and how few alphas and zetas are unlucky is bounded by sums over the tables (`few`). What the tables send to each other balances in the
+/// field, or the drawn lookup pair, alpha or zeta is unlucky (`balance`).
 pub fn verify_airs<A: Air<BabyBear>>(
     alloc: Global,
     airs: &[A],
@@ -56,6 +60,8 @@ pub fn verify_airs<A: Air<BabyBear>>(
         → Holds baby_bear_field quartic_extension (committed_table_at (tool_setting V2) 1 s proof.now i) (A.trees (get_or airs.now i air))) }
     ensures columns { let s = airs_statement A.declaration A.trees A.interactions airs.now log_heights.now (map (λ v. v.items) public_values.now) in
         IfOk result (λ _. AllHaveColumns (tool_setting V2) 1 s proof.now) }
+    ensures balance { let s = airs_statement A.declaration A.trees A.interactions airs.now log_heights.now (map (λ v. v.items) public_values.now) in
+        IfOk result (λ _. BalanceUnlessUnlucky (tool_setting V2) 1 s proof.now same_value quartic_inv) }
     ensures few { let s = airs_statement A.declaration A.trees A.interactions airs.now log_heights.now (map (λ v. v.items) public_values.now) in
         IfOk result (λ _. HasFewUnlucky s proof.now) }
 {
@@ -63,6 +69,7 @@ pub fn verify_airs<A: Air<BabyBear>>(
     let common = prover_data(alloc, &config, airs, log_heights)?.common;
     verify_batch(alloc, &config, airs, proof, public_values, &common)?;
     accepted_holds(&config, airs, proof, public_values, &common);
+    accepted_balances(&config, airs, proof, public_values, &common);
     few_challenges_are_unlucky(&config, airs, proof, public_values, &common);
     Ok(())
 }

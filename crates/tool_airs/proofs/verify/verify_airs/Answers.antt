@@ -1,7 +1,9 @@
 use Rattle.std.proofs.Common.{Ok, get_or, arith}
 use Rattle.std.proofs.lemmas.List.{length-map}
+use Rattle.p3_field.specs.Quartic.{quartic_inv}
 use Rattle.p3_field.specs.declared.baby_bear.BabyBear.{BabyBear}
 use Rattle.batch_statement.specs.Statement.{AirTable}
+use Rattle.law_balance.specs.Accepted.{BalanceUnlessUnlucky}
 use Rattle.law_committed.specs.Committed.{Holds}
 use Rattle.law_committed.specs.Fields.{baby_bear_field, quartic_extension}
 use Rattle.law_soundness.specs.CommittedBatch.{committed_table_at}
@@ -9,6 +11,7 @@ use Rattle.law_soundness.specs.Meaning.{CommittedTablesHold, HoldUnlessUnlucky}
 use Rattle.law_soundness.specs.OpenedBatch.{AllHaveColumns}
 use Rattle.verifier_shape.specs.Laws.Verdicts.{exits}
 use Rattle.tool_airs.proofs.Stated.{carried, few_is, refusal_is, verdict_is}
+use Rattle.tool_airs.specs.Airs.{same_value}
 use Rattle.tool_airs.proofs.verify.verify_airs.Goals as goal
 
 pub returns-in_err-verify_batch-clause-verdict : goal.returns-in_err-verify_batch-clause-verdict
@@ -27,6 +30,10 @@ returns-clause-holds g c =
 pub returns-clause-columns : goal.returns-clause-columns
 returns-clause-columns g c =
     carried (λ d b s. AllHaveColumns d b.log_blowup s c.args.proof.now) _ _ _ c.tool_config-config.result.pcs _ _ c.tool_config-config.ensures.setting c.tool_config-config.ensures.scheme c.in_ok-common.ensures.common c.accepted_holds.ensures.columns
+
+pub returns-clause-balance : goal.returns-clause-balance
+returns-clause-balance g c =
+    carried (λ d b s. BalanceUnlessUnlucky d b.log_blowup s c.args.proof.now same_value quartic_inv) _ _ _ c.tool_config-config.result.pcs _ _ c.tool_config-config.ensures.setting c.tool_config-config.ensures.scheme c.in_ok-common.ensures.common c.accepted_balances.ensures.balance
 
 pub returns-clause-few : goal.returns-clause-few
 returns-clause-few g c =
