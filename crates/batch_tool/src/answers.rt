@@ -2,11 +2,12 @@
 
 ghost use Rattle.std.specs.Prelude.{◌≡◌, ℕ, IfOk, IsErr};
 ghost use Rattle.tool_lines.specs.declared.parse.TextError.TheVariants.{Malformed, OutOfMemory};
-ghost use Rattle.batch_tool.specs.Answer.{IsProveAnswer, IsVerifyAnswer, bad_input_text};
+ghost use Rattle.batch_tool.specs.Answer.{IsBalanceAnswer, IsProveAnswer, IsVerifyAnswer, bad_input_text};
 
 use p3_field::Mem;
 use p3_uni_stark::TranscriptVersion;
 use std::alloc::{AllocError, Global};
+use tool_balance::answer_balance;
 use tool_jobs::read_job;
 use tool_lines::{TextError, push_number};
 use tool_proof_files::read_proof_file;
@@ -35,6 +36,18 @@ pub(crate) fn file_answer(alloc: Global, bytes: Vec<u8>) -> Mem<Answer>
     drop(bytes);
     match read {
         Ok(file) => answer_verify(alloc, &file),
+        Err(error) => bad_input(alloc, error),
+    }
+}
+
+/// The same of `balance`.
+pub(crate) fn balance_answer(alloc: Global, bytes: Vec<u8>) -> Mem<Answer>
+    ensures { IfOk result (λ a. IsBalanceAnswer bytes.items a.status a.text.items) }
+{
+    let read = read_proof_file(alloc, &bytes);
+    drop(bytes);
+    match read {
+        Ok(file) => answer_balance(alloc, &file),
         Err(error) => bad_input(alloc, error),
     }
 }
