@@ -1,0 +1,4 @@
+pub mod Answering
+pub mod Left
+pub mod Lookups
+pub mod Sent

@@ -39,8 +39,9 @@ pub fn push_nets_line(text: &mut Vec<u8>, nets: &[Message<BabyBear>]) -> Mem<()>
     ensures { OnOk result (text.new.items ≡ text.old.items ++ nets_line nets.now) }
 {
     for i in 0..nets.len() {
-        if !nets[i].count.is_zero() {
-            return push_unbalanced(text, &nets[i]);
+        let net = &nets[i];
+        if !net.count.is_zero() {
+            return push_unbalanced(text, net);
         }
     }
     push_balanced(text, nets.len())
