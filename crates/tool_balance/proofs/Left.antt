@@ -1,6 +1,6 @@
 -- Nets that are all zero, and the line that says so.
-use Rattle.std.proofs.Common.{◌≡◌, ℕ, suc, ◌<◌, Bool, true, List, [], ◌∷◌, ◌++◌, length, get_or, drop, Some, None, inl, inr, refl, sym, ◌∙◌, ap, arith}
-use Rattle.std.specs.Prelude.{All, codes, nat_eq, if◌then◌else◌}
+use Rattle.std.proofs.Common.{◌≡◌, ℕ, List, [], ◌∷◌, ◌++◌, length, None, inl, inr, refl, ◌∙◌, ap}
+use Rattle.std.specs.Prelude.{All, codes, nat_eq}
 use Rattle.std.proofs.lemmas.List.Elements.{All-head, All-tail}
 use Rattle.p3_field.specs.BabyBear.{baby_bear_ring}
 use Rattle.p3_field.specs.Laws.BabyBearField.{baby_bear_eq_same, baby_bear_of_canonical, baby_bear_same_eq}
@@ -14,13 +14,9 @@ use Rattle.tool_proof_text.specs.ProofText.{ToolProofData}
 use Rattle.tool_statement.specs.Config.{tool_setting}
 use Rattle.tool_statement.specs.declared.table.TableStatement.{TableStatement}
 use Rattle.tool_verifier.specs.FileAnswer.{TablesBalance}
+use Rattle.tool_balance.proofs.Lines.{passed}
 use Rattle.tool_balance.specs.FileBalance.{IsBalancedUnlessUnlucky, balance_text, committed_nets, sent_messages}
 use Rattle.tool_balance.specs.Nets.{balanced_line, first_left, line_with}
-
--- a net that is zero is passed
-pub passed : (m : Message BabyBear) (ms : List (Message BabyBear)) → m.count ≡ baby_bear_ring.zero → first_left (m ∷ ms) ≡ first_left ms
-unfolding baby_bear_ring
-passed m ms e = ap (λ (x : BabyBear). if nat_eq x.value 0 then first_left ms else Some m) e
 
 none_left : (ms : List (Message BabyBear)) → All (λ m. m.count ≡ baby_bear_ring.zero) ms → first_left ms ≡ None
 none_left [] h = refl

@@ -31,14 +31,14 @@ module _ (version : TranscriptVersion) (tables : List TableStatement) (p : ToolP
   balance_text = codes "accepted\n" ++ nets_line committed_nets
 
   -- the drawn lookup pair is unlucky for what is sent
-  abbrev pub IsPairUnlucky : Type 0
-  IsPairUnlucky = IsLookupPairUnlucky (tool_setting version) 1 (tool_statement tables) p (λ x y. nat_eq x.value y.value) quartic_inv
+  abbrev pub IsDrawnPairUnlucky : Type 0
+  IsDrawnPairUnlucky = IsLookupPairUnlucky (tool_setting version) 1 (tool_statement tables) p (λ x y. nat_eq x.value y.value) quartic_inv
 
   -- the line is that of nets which are all zero, unless the drawn lookup pair, alpha or zeta is unlucky
   abbrev pub IsBalancedUnlessUnlucky : List ℕ → Type 0
   IsBalancedUnlessUnlucky text =
       (text ≡ codes "accepted\n" ++ balanced_line (length committed_nets))
-      ⊎ (IsPairUnlucky ⊎ (IsAlphaUnlucky (tool_setting version) 1 (tool_statement tables) p ⊎ IsZetaUnlucky (tool_setting version) 1 (tool_statement tables) p))
+      ⊎ (IsDrawnPairUnlucky ⊎ (IsAlphaUnlucky (tool_setting version) 1 (tool_statement tables) p ⊎ IsZetaUnlucky (tool_setting version) 1 (tool_statement tables) p))
 
 -- what the text says where the proof is accepted
 pub record IsBalanceTold (version : TranscriptVersion) (tables : List TableStatement) (p : ToolProofData) (text : List ℕ) : Type 0 where
