@@ -6,6 +6,7 @@ use Rattle.transcript_version.specs.declared.TranscriptVersion.{TranscriptVersio
 use Rattle.tool_lines.specs.Texts.{line_text}
 use Rattle.p3_field.specs.declared.baby_bear.BabyBear.{BabyBear}
 use Rattle.law_tool_valid.specs.Job.{JobTable}
+use Rattle.tool_balance.specs.FileBalance.{IsFileBalance}
 use Rattle.tool_jobs.specs.Jobs.{JobWithin, job_numbers}
 use Rattle.tool_prover.specs.JobAnswer.{IsJobAnswer, file_of}
 use Rattle.tool_prover.specs.Laws.FileLength.{honest_text_short}
@@ -16,10 +17,10 @@ use Rattle.tool_proof_files.specs.Files.{FileData, FileWithin, file_numbers, ver
 use Rattle.tool_proof_files.specs.Laws.Files.{version-back}
 use Rattle.tool_hash_lines.specs.PrintedRows.{printed_rows}
 use Rattle.tool_jobs.specs.Stated.{statement_of}
-use Rattle.batch_tool.specs.Answer.{IsAcceptedText, IsProveAnswer, IsVerifyAnswer}
+use Rattle.batch_tool.specs.Answer.{IsAcceptedText, IsProveAnswer, IsVerifyAnswer, IsBalanceAnswer}
 use Rattle.tool_verifier.specs.declared.status.Status.{Status}
 use Rattle.tool_verifier.specs.declared.status.Status.TheVariants.{Done, Refused, Usage, BadInput, ReadFault, WriteFault, OutOfMemory, TooLarge}
-use Rattle.batch_tool.specs.Laws.Statuses.{job-status, file-status}
+use Rattle.batch_tool.specs.Laws.Statuses.{job-status, file-status, balance-status}
 
 -- the text of a proved job is that of a proof file, which is not too long, and for which `verify` writes `accepted`
 proved-accepted : (version : TranscriptVersion) (job : List (JobTable BabyBear)) (text : List ℕ) → JobWithin job → IsJobAnswer version job Done text → IsAcceptedText text
@@ -64,6 +65,23 @@ pub verify-answers-ok : (bytes : List ℕ) (file : FileData) (r : Result Answer 
 verify-answers-ok bytes file (Ok a) fits e h = verify-answers bytes file a.status a.text.items fits e h
 verify-answers-ok bytes file (Err x) fits e h = tt
 
+-- the same of `balance`
+pub balance-answers : (bytes : List ℕ) (file : FileData) (status : Status) (text : List ℕ) → FileWithin file → bytes ≡ line_text (file_numbers file)
+    → IsFileBalance (version_of file.version) file.tables file.proof status text → IsBalanceAnswer bytes status text
+balance-answers bytes file Done text fits e a = (file, fits, e, a)
+balance-answers bytes file Refused text fits e a = (file, fits, e, a)
+balance-answers bytes file Usage text fits e a = (file, fits, e, a)
+balance-answers bytes file BadInput text fits e a = absurd (balance-status (version_of file.version) file.tables file.proof BadInput text a)
+balance-answers bytes file ReadFault text fits e a = (file, fits, e, a)
+balance-answers bytes file WriteFault text fits e a = (file, fits, e, a)
+balance-answers bytes file OutOfMemory text fits e a = (file, fits, e, a)
+balance-answers bytes file TooLarge text fits e a = (file, fits, e, a)
+
+pub balance-answers-ok : (bytes : List ℕ) (file : FileData) (r : Result Answer AllocError) → FileWithin file → bytes ≡ line_text (file_numbers file)
+    → IfOk r (λ a. IsFileBalance (version_of file.version) file.tables file.proof a.status a.text.items) → IfOk r (λ a. IsBalanceAnswer bytes a.status a.text.items)
+balance-answers-ok bytes file (Ok a) fits e h = balance-answers bytes file a.status a.text.items fits e h
+balance-answers-ok bytes file (Err x) fits e h = tt
+
 pub bad-job : (version : TranscriptVersion) (bytes : List ℕ) (r : Result Answer AllocError) → IfOk r (λ a. (a.status ≡ BadInput) × IsBadInput JobWithin job_numbers bytes a.text.items)
     → IfOk r (λ a. IsProveAnswer version bytes a.status a.text.items)
 bad-job version bytes (Ok a) h = subst (λ (s : Status). IsProveAnswer version bytes s a.text.items) (sym h.0) h.1
@@ -73,3 +91,8 @@ pub bad-file : (bytes : List ℕ) (r : Result Answer AllocError) → IfOk r (λ 
     → IfOk r (λ a. IsVerifyAnswer bytes a.status a.text.items)
 bad-file bytes (Ok a) h = subst (λ (s : Status). IsVerifyAnswer bytes s a.text.items) (sym h.0) h.1
 bad-file bytes (Err x) h = tt
+
+pub bad-balance : (bytes : List ℕ) (r : Result Answer AllocError) → IfOk r (λ a. (a.status ≡ BadInput) × IsBadInput FileWithin file_numbers bytes a.text.items)
+    → IfOk r (λ a. IsBalanceAnswer bytes a.status a.text.items)
+bad-balance bytes (Ok a) h = subst (λ (s : Status). IsBalanceAnswer bytes s a.text.items) (sym h.0) h.1
+bad-balance bytes (Err x) h = tt

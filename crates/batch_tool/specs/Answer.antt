@@ -7,6 +7,7 @@ use Rattle.tool_bytes.specs.Limits.{most_bytes}
 use Rattle.tool_lines.specs.Texts.{line_text}
 use Rattle.law_tool_valid.specs.Job.{JobTable}
 use Rattle.tool_jobs.specs.Jobs.{JobWithin, job_numbers}
+use Rattle.tool_balance.specs.FileBalance.{IsFileBalance}
 use Rattle.tool_demo.specs.DemoAnswer.{IsDemoAnswer, most_number}
 use Rattle.tool_prover.specs.JobAnswer.{IsJobAnswer}
 use Rattle.tool_run.specs.BadInput.{IsBadInput}
@@ -15,7 +16,7 @@ use Rattle.tool_run.specs.Run.{IsAnswer as IsProgramAnswer, NamesReader as Names
 use Rattle.tool_verifier.specs.FileAnswer.{IsFileAnswer}
 use Rattle.tool_proof_files.specs.Files.{FileData, FileWithin, file_numbers, version_of}
 use Rattle.batch_tool.specs.declared.command.Command.{Command}
-use Rattle.batch_tool.specs.declared.command.Command.TheVariants.{Prove, Verify, Demo}
+use Rattle.batch_tool.specs.declared.command.Command.TheVariants.{Prove, Verify, Balance, Demo}
 use Rattle.tool_verifier.specs.declared.status.Status.{Status}
 use Rattle.tool_verifier.specs.declared.status.Status.TheVariants.{Done, BadInput}
 
@@ -24,18 +25,25 @@ abbrev pub Names : List (List ℕ) → Command → Type 0
 Names words (Prove V1) = words ≡ codes "prove" ∷ codes "1" ∷ []
 Names words (Prove V2) = words ≡ codes "prove" ∷ []
 Names words Verify = words ≡ codes "verify" ∷ []
+Names words Balance = words ≡ codes "balance" ∷ []
 Names words (Demo number) = (number ≤ most_number) × (words ≡ codes "demo" ∷ decimal number ∷ [])
 
 -- whether the command reads the input
 abbrev pub reads_input : Command → Bool
 reads_input (Prove version) = true
 reads_input Verify = true
+reads_input Balance = true
 reads_input (Demo number) = false
 
 -- the status and the text of `verify` for all the bytes of an input
 abbrev pub IsVerifyAnswer : List ℕ → Status → List ℕ → Type 0
 IsVerifyAnswer bytes BadInput text = IsBadInput FileWithin file_numbers bytes text
 IsVerifyAnswer bytes status text = (file : FileData) × FileWithin file × (bytes ≡ line_text (file_numbers file)) × IsFileAnswer (version_of file.version) file.tables file.proof status text
+
+-- the same of `balance`
+abbrev pub IsBalanceAnswer : List ℕ → Status → List ℕ → Type 0
+IsBalanceAnswer bytes BadInput text = IsBadInput FileWithin file_numbers bytes text
+IsBalanceAnswer bytes status text = (file : FileData) × FileWithin file × (bytes ≡ line_text (file_numbers file)) × IsFileBalance (version_of file.version) file.tables file.proof status text
 
 -- the bytes are the text of a job, of which these are the status and the text over the transcript of a version
 abbrev pub AnswersJob : TranscriptVersion → List ℕ → Status → List ℕ → Type 0
@@ -56,11 +64,12 @@ IsProveAnswer version bytes status text = AnswersJob version bytes status text
 abbrev pub IsCommandAnswer : Command → List ℕ → Status → List ℕ → Type 0
 IsCommandAnswer (Prove version) bytes status text = IsProveAnswer version bytes status text
 IsCommandAnswer Verify bytes status text = IsVerifyAnswer bytes status text
+IsCommandAnswer Balance bytes status text = IsBalanceAnswer bytes status text
 IsCommandAnswer (Demo number) bytes status text = IsDemoAnswer number status text
 
 -- the program: its commands, which of them read the input, their answers, and the text for other words
 abbrev pub batch_program : Program Command
-batch_program = record { names = Names; reads = reads_input; answers = IsCommandAnswer; usage = codes "usage: batch_tool prove [1] | verify | demo N\n" }
+batch_program = record { names = Names; reads = reads_input; answers = IsCommandAnswer; usage = codes "usage: batch_tool prove [1] | verify | balance | demo N\n" }
 
 -- the words name some command, or one that reads the input
 abbrev pub NamesSome : List (List ℕ) → Type 0

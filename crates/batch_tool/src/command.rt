@@ -1,6 +1,6 @@
 //! The commands that a program's words name, and what each answers.
 
-use crate::answers::{file_answer, job_answer};
+use crate::answers::{balance_answer, file_answer, job_answer};
 use p3_field::Mem;
 use p3_uni_stark::TranscriptVersion;
 use std::alloc::Global;
@@ -8,7 +8,7 @@ use tool_demo::{answer_demo, read_number};
 use tool_run::Commands;
 use tool_verifier::Answer;
 
-const USAGE: &[u8] = b"usage: batch_tool prove [1] | verify | demo N\n";
+const USAGE: &[u8] = b"usage: batch_tool prove [1] | verify | balance | demo N\n";
 
 /// What the program is to do (not in Plonky3).
 #[derive(Drop)]
@@ -20,6 +20,8 @@ pub enum Command {
     },
     /// `verify`: reads a proof file, and says whether its proof is accepted.
     Verify,
+    /// `balance`: reads a proof file, and where its proof is accepted says whether what its tables send to each other balances.
+    Balance,
     /// `demo N`: proves the job that the number stands for, and writes how many lines its proof file has. It reads nothing.
     Demo {
         /// The number N.
@@ -41,6 +43,7 @@ impl Commands for Command {
                 version: TranscriptVersion::V2,
             }),
             [word] if word.as_str() == "verify" => Some(Command::Verify),
+            [word] if word.as_str() == "balance" => Some(Command::Balance),
             [word, version] if word.as_str() == "prove" && version.as_str() == "1" => {
                 Some(Command::Prove {
                     version: TranscriptVersion::V1,
@@ -58,6 +61,7 @@ impl Commands for Command {
         match self {
             Command::Prove { .. } => true,
             Command::Verify => true,
+            Command::Balance => true,
             Command::Demo { .. } => false,
         }
     }
@@ -66,6 +70,7 @@ impl Commands for Command {
         match self {
             Command::Prove { version } => job_answer(alloc, version, bytes),
             Command::Verify => file_answer(alloc, bytes),
+            Command::Balance => balance_answer(alloc, bytes),
             Command::Demo { number } => answer_demo(alloc, number),
         }
     }

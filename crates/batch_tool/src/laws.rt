@@ -11,6 +11,7 @@ pub fn one_answer()
 {
     tool_prover::there_is_one_answer();
     tool_verifier::there_is_one_answer();
+    tool_balance::there_is_one_answer();
     tool_demo::there_is_one_answer();
 }
 

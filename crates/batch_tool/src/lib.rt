@@ -1,5 +1,5 @@
 //! The program's commands and its top call, over the crates that read, prove and verify: `prove` answers a job's text by `tool_jobs` and
-//! `tool_prover`, `verify` a proof file by `tool_proof_files` and `tool_verifier`, and `demo N` the job of a number by `tool_demo`. What a run
+//! `tool_prover`, `verify` and `balance` a proof file by `tool_proof_files`, and `tool_verifier` or `tool_balance`, and `demo N` the job of a number by `tool_demo`. What a run
 //! does with words, input and output is that of `tool_run`.
 #![tactic(auto)]
 
@@ -11,6 +11,7 @@ mod top;
 
 pub use exit::run_to_exit;
 pub use laws::{one_answer, one_transcript};
+pub use tool_balance::answer_balance;
 pub use tool_bytes::{
     Failed, InputError, MAX_BYTES, MemorySink, MemorySource, Sink, Source, StdSink, StdSource,
     read_whole, write_whole,

@@ -15,7 +15,7 @@ use tool_verifier::Status;
 /// and then writes one text.
 ///
 /// The text is built whole before the first write. The word `prove` reads a job and answers it over the transcript of version 2,
-/// and the words `prove` and `1` over that of version 1; the word `verify` reads a proof file and answers it over that of its version. The words `demo` and N, a decimal number up to 4294967295 without a leading zero, answer the job that N
+/// and the words `prove` and `1` over that of version 1; the words `verify` and `balance` each read a proof file and answer it over that of its version. The words `demo` and N, a decimal number up to 4294967295 without a leading zero, answer the job that N
 /// stands for, and read nothing. All others are `Usage` (not in Plonky3).
 ///
 /// `ReadFault` and `WriteFault` come only where the source's or the sink's count of faults rose, and with any other status that count

@@ -4,6 +4,7 @@
 mod fields;
 mod forms;
 mod jobs;
+mod nets;
 mod printing;
 mod reading;
 mod runs;
@@ -43,6 +44,7 @@ fn answer<R: Files + Print + AllocGlobal>(
             Ok(())
         }
         "verify" => runs::words(rt, text, &["verify"]),
+        "balance" => runs::words(rt, text, &["balance"]),
         "words" => runs::words(rt, text, more),
         "ends" => runs::ends(rt, text, more),
         "room" => runs::room(rt, text, more),
@@ -58,6 +60,7 @@ fn answer<R: Files + Print + AllocGlobal>(
         "whole" => forms::whole(rt, &text, more),
         "forms" => forms::printed(rt, more),
         "memory" => forms::memory(rt),
+        "nets" => nets::nets(rt, more),
         "file" | "answer_verify" => jobs::file(rt, *call, &text),
         _ => jobs::job(rt, *call, &text, more),
     }

@@ -13,17 +13,18 @@ use Rattle.tool_lines.specs.Laws.Lines.{lines-tell}
 use Rattle.law_tool_valid.specs.Job.{JobTable}
 use Rattle.tool_jobs.specs.Jobs.{JobWithin, job_numbers}
 use Rattle.tool_jobs.specs.Laws.Texts.{job-grammar}
+use Rattle.tool_balance.specs.FileBalance.{IsFileBalance}
 use Rattle.tool_demo.specs.DemoAnswer.{IsDemoAnswer}
 use Rattle.tool_prover.specs.JobAnswer.{IsJobAnswer}
 use Rattle.tool_run.specs.BadInput.{IsBadInput, bad_input_text}
-use Rattle.batch_tool.specs.Answer.{Names, NamesSome, IsProveAnswer, IsVerifyAnswer, IsCommandAnswer, IsAnswer}
+use Rattle.batch_tool.specs.Answer.{Names, NamesSome, IsProveAnswer, IsVerifyAnswer, IsBalanceAnswer, IsCommandAnswer, IsAnswer}
 use Rattle.tool_statement.specs.declared.table.TableStatement.{TableStatement}
 use Rattle.tool_proof_text.specs.ProofText.{ToolProofData}
 use Rattle.tool_verifier.specs.FileAnswer.{IsFileAnswer, SameAnswer}
 use Rattle.tool_proof_files.specs.Files.{FileWithin, file_numbers, version_of}
 use Rattle.tool_proof_files.specs.Laws.Files.{file-grammar}
 use Rattle.batch_tool.specs.declared.command.Command.{Command}
-use Rattle.batch_tool.specs.declared.command.Command.TheVariants.{Prove, Verify, Demo}
+use Rattle.batch_tool.specs.declared.command.Command.TheVariants.{Prove, Verify, Balance, Demo}
 use Rattle.tool_verifier.specs.declared.status.Status.{Status}
 use Rattle.tool_verifier.specs.declared.status.Status.TheVariants.{Done, Refused, Usage, BadInput, ReadFault, WriteFault, OutOfMemory, TooLarge}
 
@@ -93,6 +94,16 @@ verify-view bytes WriteFault x a = inr (a.0, (a.1, (a.2, a.3)))
 verify-view bytes OutOfMemory x a = inr (a.0, (a.1, (a.2, a.3)))
 verify-view bytes TooLarge x a = inr (a.0, (a.1, (a.2, a.3)))
 
+balance-view : (bytes : List ℕ) (s : Status) (x : List ℕ) → IsBalanceAnswer bytes s x → TextAnswer FileWithin file_numbers (λ f. IsFileBalance (version_of f.version) f.tables f.proof) bytes s x
+balance-view bytes BadInput x a = inl (refl, a)
+balance-view bytes Done x a = inr (a.0, (a.1, (a.2, a.3)))
+balance-view bytes Refused x a = inr (a.0, (a.1, (a.2, a.3)))
+balance-view bytes Usage x a = inr (a.0, (a.1, (a.2, a.3)))
+balance-view bytes ReadFault x a = inr (a.0, (a.1, (a.2, a.3)))
+balance-view bytes WriteFault x a = inr (a.0, (a.1, (a.2, a.3)))
+balance-view bytes OutOfMemory x a = inr (a.0, (a.1, (a.2, a.3)))
+balance-view bytes TooLarge x a = inr (a.0, (a.1, (a.2, a.3)))
+
 -- where a job has one
 abbrev pub OneJob : Type 0
 OneJob = (version : TranscriptVersion) (job : List (JobTable BabyBear)) (s t : Status) (x y : List ℕ) → IsJobAnswer version job s x → IsJobAnswer version job t y → SameAnswer s t x y
@@ -109,21 +120,28 @@ pub one_verify : OneFile → (bytes : List ℕ) (s t : Status) (x y : List ℕ) 
 one_verify one bytes s t x y a b =
     one-text (λ f. IsFileAnswer (version_of f.version) f.tables f.proof) file-grammar (λ f fits. one (version_of f.version) f.tables f.proof) bytes s t x y (verify-view bytes s x a) (verify-view bytes t y b)
 
+-- the same of `balance`
+abbrev pub OneBalance : Type 0
+OneBalance = (version : TranscriptVersion) (tables : List TableStatement) (p : ToolProofData) (s t : Status) (x y : List ℕ) → IsFileBalance version tables p s x → IsFileBalance version tables p t y → SameAnswer s t x y
+
+pub one_balance : OneBalance → (bytes : List ℕ) (s t : Status) (x y : List ℕ) → IsBalanceAnswer bytes s x → IsBalanceAnswer bytes t y → SameAnswer s t x y
+one_balance one bytes s t x y a b =
+    one-text (λ f. IsFileBalance (version_of f.version) f.tables f.proof) file-grammar (λ f fits. one (version_of f.version) f.tables f.proof) bytes s t x y (balance-view bytes s x a) (balance-view bytes t y b)
+
 -- where a number has one
 abbrev pub OneDemo : Type 0
 OneDemo = (number : ℕ) (s t : Status) (x y : List ℕ) → IsDemoAnswer number s x → IsDemoAnswer number t y → SameAnswer s t x y
 
 -- one answer to a command
-pub one_command : OneJob → OneFile → OneDemo → (command : Command) (bytes : List ℕ) (s t : Status) (x y : List ℕ) → IsCommandAnswer command bytes s x → IsCommandAnswer command bytes t y → SameAnswer s t x y
-one_command jobs files demos (Prove version) bytes s t x y a b = one_prove jobs version bytes s t x y a b
-one_command jobs files demos Verify bytes s t x y a b = one_verify files bytes s t x y a b
-one_command jobs files demos (Demo number) bytes s t x y a b = demos number s t x y a b
+pub one_command : OneJob → OneFile → OneBalance → OneDemo → (command : Command) (bytes : List ℕ) (s t : Status) (x y : List ℕ) → IsCommandAnswer command bytes s x → IsCommandAnswer command bytes t y → SameAnswer s t x y
+one_command jobs files balances demos (Prove version) bytes s t x y a b = one_prove jobs version bytes s t x y a b
+one_command jobs files balances demos Verify bytes s t x y a b = one_verify files bytes s t x y a b
+one_command jobs files balances demos Balance bytes s t x y a b = one_balance balances bytes s t x y a b
+one_command jobs files balances demos (Demo number) bytes s t x y a b = demos number s t x y a b
 
--- words name one command at most
-not-both : (words : List (List ℕ)) → words ≡ codes "prove" ∷ [] → words ≡ codes "verify" ∷ [] → ⊥
-not-both words p q =
-    let e : length (codes "prove") ≡ length (codes "verify") = ap (λ l. length (get_or l 0 [])) (sym p ∙ q) in
-    omega (arith, e)
+-- words name one command at most: two commands of one word differ in their lengths
+not-both : (words : List (List ℕ)) (v w : List ℕ) → (length v ≡ length w → ⊥) → words ≡ v ∷ [] → words ≡ w ∷ [] → ⊥
+not-both words v w d p q = d (ap (λ l. length (get_or l 0 [])) (sym p ∙ q))
 
 -- and a word that is alone is not followed by a number
 not-alone : (words : List (List ℕ)) (v w d : List ℕ) → words ≡ v ∷ [] → words ≡ w ∷ d ∷ [] → ⊥
@@ -144,27 +162,45 @@ not-one words d p q =
     let e : length (codes "prove") ≡ length (codes "demo") = ap (λ l. length (get_or l 0 [])) (sym p ∙ q) in
     omega (arith, e)
 
+prove-verify : (words : List (List ℕ)) → words ≡ codes "prove" ∷ [] → words ≡ codes "verify" ∷ [] → ⊥
+prove-verify words p q = not-both words (codes "prove") (codes "verify") (λ e. omega (arith, e)) p q
+
+prove-balance : (words : List (List ℕ)) → words ≡ codes "prove" ∷ [] → words ≡ codes "balance" ∷ [] → ⊥
+prove-balance words p q = not-both words (codes "prove") (codes "balance") (λ e. omega (arith, e)) p q
+
+verify-balance : (words : List (List ℕ)) → words ≡ codes "verify" ∷ [] → words ≡ codes "balance" ∷ [] → ⊥
+verify-balance words p q = not-both words (codes "verify") (codes "balance") (λ e. omega (arith, e)) p q
+
 pub one_name : (words : List (List ℕ)) (c d : Command) → Names words c → Names words d → c ≡ d
 one_name words (Prove V1) (Prove V1) p q = refl
 one_name words (Prove V1) (Prove V2) p q = absurd (not-alone words _ _ _ q p)
 one_name words (Prove V1) Verify p q = absurd (not-alone words _ _ _ q p)
+one_name words (Prove V1) Balance p q = absurd (not-alone words _ _ _ q p)
 one_name words (Prove V1) (Demo n) p q = absurd (not-one words _ p q.1)
 one_name words (Prove V2) (Prove V1) p q = absurd (not-alone words _ _ _ p q)
 one_name words (Prove V2) (Prove V2) p q = refl
-one_name words (Prove V2) Verify p q = absurd (not-both words p q)
+one_name words (Prove V2) Verify p q = absurd (prove-verify words p q)
+one_name words (Prove V2) Balance p q = absurd (prove-balance words p q)
 one_name words (Prove V2) (Demo n) p q = absurd (not-alone words _ _ _ p q.1)
 one_name words Verify (Prove V1) p q = absurd (not-alone words _ _ _ p q)
-one_name words Verify (Prove V2) p q = absurd (not-both words q p)
+one_name words Verify (Prove V2) p q = absurd (prove-verify words q p)
 one_name words Verify Verify p q = refl
+one_name words Verify Balance p q = absurd (verify-balance words p q)
 one_name words Verify (Demo n) p q = absurd (not-alone words _ _ _ p q.1)
+one_name words Balance (Prove V1) p q = absurd (not-alone words _ _ _ p q)
+one_name words Balance (Prove V2) p q = absurd (prove-balance words q p)
+one_name words Balance Verify p q = absurd (verify-balance words q p)
+one_name words Balance Balance p q = refl
+one_name words Balance (Demo n) p q = absurd (not-alone words _ _ _ p q.1)
 one_name words (Demo m) (Prove V1) p q = absurd (not-one words _ q p.1)
 one_name words (Demo m) (Prove V2) p q = absurd (not-alone words _ _ _ q p.1)
 one_name words (Demo m) Verify p q = absurd (not-alone words _ _ _ q p.1)
+one_name words (Demo m) Balance p q = absurd (not-alone words _ _ _ q p.1)
 one_name words (Demo m) (Demo n) p q = ap (λ k. Demo k) (same-numbers words m n p q)
 
 abbrev WordsAnswer : List (List ℕ) → List ℕ → Status → List ℕ → Type 0
 WordsAnswer words bytes s x =
-    ((s ≡ Usage) × ((NamesSome words → ⊥) × (x ≡ codes "usage: batch_tool prove [1] | verify | demo N\n"))) ⊎ ((c : Command) × (Names words c × IsCommandAnswer c bytes s x))
+    ((s ≡ Usage) × ((NamesSome words → ⊥) × (x ≡ codes "usage: batch_tool prove [1] | verify | balance | demo N\n"))) ⊎ ((c : Command) × (Names words c × IsCommandAnswer c bytes s x))
 
 words-view : (words : List (List ℕ)) (bytes : List ℕ) (s : Status) (x : List ℕ) → IsAnswer words bytes s x → WordsAnswer words bytes s x
 words-view words bytes Usage x a = inl (refl, (a.0, a.1))
@@ -177,8 +213,8 @@ words-view words bytes OutOfMemory x a = inr (a.0, (a.1, a.2))
 words-view words bytes TooLarge x a = inr (a.0, (a.1, a.2))
 
 -- The words and the bytes of an input have one status and one text.
-pub one_answer : OneJob → OneFile → OneDemo → (words : List (List ℕ)) (bytes : List ℕ) (s t : Status) (x y : List ℕ) → IsAnswer words bytes s x → IsAnswer words bytes t y → (s ≡ t) × (x ≡ y)
-one_answer jobs files demos words bytes s t x y f g = elim (words-view words bytes s x f) [
+pub one_answer : OneJob → OneFile → OneBalance → OneDemo → (words : List (List ℕ)) (bytes : List ℕ) (s t : Status) (x y : List ℕ) → IsAnswer words bytes s x → IsAnswer words bytes t y → (s ≡ t) × (x ≡ y)
+one_answer jobs files balances demos words bytes s t x y f g = elim (words-view words bytes s x f) [
   | inl a ↦ elim (words-view words bytes t y g) [
     | inl b ↦ (a.0 ∙ sym b.0, a.1.1 ∙ sym b.1.1)
     | inr b ↦ absurd (a.1.0 (b.0, b.1.0))
@@ -187,6 +223,6 @@ one_answer jobs files demos words bytes s t x y f g = elim (words-view words byt
     | inl b ↦ absurd (b.1.0 (a.0, a.1.0))
     | inr b ↦
         let P : Command → Type 0 = λ c. IsCommandAnswer c bytes t y in
-        one_command jobs files demos a.0 bytes s t x y a.1.1 (subst P (one_name words b.0 a.0 b.1.0 a.1.0) b.1.1)
+        one_command jobs files balances demos a.0 bytes s t x y a.1.1 (subst P (one_name words b.0 a.0 b.1.0 a.1.0) b.1.1)
   ]
 ]

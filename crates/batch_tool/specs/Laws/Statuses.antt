@@ -8,11 +8,12 @@ use Rattle.tool_statement.specs.declared.table.TableStatement.{TableStatement}
 use Rattle.tool_proof_text.specs.ProofText.{ToolProofData}
 use Rattle.tool_proof_files.specs.Files.{version_of}
 use Rattle.tool_verifier.specs.FileAnswer.{IsFileAnswer}
+use Rattle.tool_balance.specs.FileBalance.{IsFileBalance}
 use Rattle.tool_demo.specs.DemoAnswer.{IsDemoAnswer}
 use Rattle.tool_run.specs.Program.{AnswersOnly, IsAnswerStatus}
 use Rattle.batch_tool.specs.Answer.{IsCommandAnswer, batch_program}
 use Rattle.batch_tool.specs.declared.command.Command.{Command}
-use Rattle.batch_tool.specs.declared.command.Command.TheVariants.{Prove, Verify, Demo}
+use Rattle.batch_tool.specs.declared.command.Command.TheVariants.{Prove, Verify, Balance, Demo}
 use Rattle.tool_verifier.specs.declared.status.Status.{Status}
 use Rattle.tool_verifier.specs.declared.status.Status.TheVariants.{Done, Refused, Usage, BadInput, ReadFault, WriteFault, OutOfMemory, TooLarge}
 
@@ -44,6 +45,17 @@ file-status version tables p WriteFault text a = a
 file-status version tables p OutOfMemory text a = a
 file-status version tables p TooLarge text a = a
 
+pub balance-status : (version : TranscriptVersion) (tables : List TableStatement) (p : ToolProofData) (status : Status) (text : List ℕ) → IsFileBalance version tables p status text → IsJobStatus status
+unfolding IsFileBalance
+balance-status version tables p Done text a = tt
+balance-status version tables p Refused text a = tt
+balance-status version tables p Usage text a = a
+balance-status version tables p BadInput text a = a
+balance-status version tables p ReadFault text a = a
+balance-status version tables p WriteFault text a = a
+balance-status version tables p OutOfMemory text a = a
+balance-status version tables p TooLarge text a = a
+
 pub demo-status : (number : ℕ) (status : Status) (text : List ℕ) → IsDemoAnswer number status text → IsJobStatus status
 unfolding IsDemoAnswer
 demo-status number Done text a = tt
@@ -72,6 +84,14 @@ answer-status Verify bytes ReadFault text a = file-status (version_of a.0.versio
 answer-status Verify bytes WriteFault text a = file-status (version_of a.0.version) a.0.tables a.0.proof WriteFault text a.3
 answer-status Verify bytes OutOfMemory text a = file-status (version_of a.0.version) a.0.tables a.0.proof OutOfMemory text a.3
 answer-status Verify bytes TooLarge text a = file-status (version_of a.0.version) a.0.tables a.0.proof TooLarge text a.3
+answer-status Balance bytes Done text a = tt
+answer-status Balance bytes Refused text a = tt
+answer-status Balance bytes BadInput text a = tt
+answer-status Balance bytes Usage text a = balance-status (version_of a.0.version) a.0.tables a.0.proof Usage text a.3
+answer-status Balance bytes ReadFault text a = balance-status (version_of a.0.version) a.0.tables a.0.proof ReadFault text a.3
+answer-status Balance bytes WriteFault text a = balance-status (version_of a.0.version) a.0.tables a.0.proof WriteFault text a.3
+answer-status Balance bytes OutOfMemory text a = balance-status (version_of a.0.version) a.0.tables a.0.proof OutOfMemory text a.3
+answer-status Balance bytes TooLarge text a = balance-status (version_of a.0.version) a.0.tables a.0.proof TooLarge text a.3
 answer-status (Demo number) bytes Done text a = tt
 answer-status (Demo number) bytes Refused text a = tt
 answer-status (Demo number) bytes BadInput text a = tt

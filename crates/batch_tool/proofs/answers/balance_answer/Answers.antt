@@ -1,0 +1,17 @@
+use Rattle.std.proofs.Common.{ℕ, List, subst}
+use Rattle.std.specs.Prelude.{IfOk}
+use Rattle.tool_proof_files.specs.Files.{FileWithin, file_numbers}
+use Rattle.batch_tool.specs.Answer.{IsBalanceAnswer}
+use Rattle.batch_tool.proofs.Runs.{bad-answers, bad-balance, balance-answers-ok}
+use Rattle.batch_tool.proofs.answers.balance_answer.Goals as goal
+
+pub returns-in-Ok : goal.returns-in-Ok
+returns-in-Ok c =
+    subst (λ (bytes : List ℕ). IfOk c.answer_balance.result (λ a. IsBalanceAnswer bytes a.status a.text.items)) c.deref.ensures.value
+    (balance-answers-ok c.deref.result.now c.in-Ok.file c.answer_balance.result c.in-Ok.ensures.0 c.in-Ok.ensures.1 c.answer_balance.ensures)
+
+pub returns-in-Err : goal.returns-in-Err
+returns-in-Err c =
+    subst (λ (bytes : List ℕ). IfOk c.bad_input.result (λ a. IsBalanceAnswer bytes a.status a.text.items)) c.deref.ensures.value
+    (bad-balance c.deref.result.now c.bad_input.result
+    (bad-answers (λ f. f) FileWithin file_numbers c.deref.result.now c.in-Err.error c.bad_input.result c.in-Err.ensures c.bad_input.ensures.malformed c.bad_input.ensures.memory))

@@ -1,0 +1,5 @@
+pub mod Answering
+pub mod Left
+pub mod Lines
+pub mod Lookups
+pub mod Sent

@@ -1,0 +1,4 @@
+pub mod FileBalance
+pub mod Nets
+pub mod Rows
+pub mod Senders
