@@ -1,5 +1,5 @@
 -- How the reading stops of a table after its kind.
-use Rattle.std.proofs.Common.{◌≡◌, ℕ, zero, suc, ◌<◌, ◌≤◌, List, ◌∷◌, ◌++◌, sym, ◌∙◌, arith, append_assoc, Result, Ok, Err}
+use Rattle.std.proofs.Common.{◌≡◌, ℕ, zero, suc, ◌<◌, ◌≤◌, List, [], ◌∷◌, ◌++◌, sym, ◌∙◌, arith, append_assoc, Result, Ok, Err}
 use Rattle.std.specs.Prelude.{decimal, IfErr, IsErrAnd}
 use Rattle.tool_lines.specs.Texts.{Between, Reads, ReadsOne, one_number}
 use Rattle.tool_lines.specs.Laws.Lines.{same-line}
