@@ -1,7 +1,6 @@
 -- What the commands answer, from what their parts do.
-use Rattle.std.proofs.Common.{◌≡◌, ℕ, ◌<◌, ◌≤◌, List, [], ◌∷◌, length, get_or, refl, sym, ap, subst, arith, map, String, Global, Result, Ok, Err}
-use Rattle.std.proofs.lemmas.Bool.{false≢true}
-use Rattle.std.specs.Prelude.{string_bytes, IfOk, IsErr}
+use Rattle.std.proofs.Common.{◌≡◌, ℕ, ◌≤◌, List, length, sym, subst, arith, map, Result, Ok, Err}
+use Rattle.std.specs.Prelude.{IfOk}
 use Rattle.std.specs.declared.alloc.AllocError.{AllocError}
 use Rattle.transcript_version.specs.declared.TranscriptVersion.{TranscriptVersion}
 use Rattle.tool_lines.specs.Texts.{line_text}
@@ -10,33 +9,17 @@ use Rattle.law_tool_valid.specs.Job.{JobTable}
 use Rattle.tool_jobs.specs.Jobs.{JobWithin, job_numbers}
 use Rattle.tool_prover.specs.JobAnswer.{IsJobAnswer, file_of}
 use Rattle.tool_prover.specs.Laws.FileLength.{honest_text_short}
-use Rattle.tool_lines.specs.WholeText.{ReadsText}
-use Rattle.tool_lines.specs.declared.parse.TextError.{TextError}
-use Rattle.tool_lines.specs.declared.parse.TextError.TheVariants.{Malformed, OutOfMemory as NoMemory}
+use Rattle.tool_run.specs.BadInput.{IsBadInput}
 use Rattle.tool_verifier.specs.FileAnswer.{IsFileAnswer, accepted_text}
 use Rattle.tool_verifier.specs.declared.answer.Answer.{Answer}
 use Rattle.tool_proof_files.specs.Files.{FileData, FileWithin, file_numbers, version_of}
 use Rattle.tool_proof_files.specs.Laws.Files.{version-back}
 use Rattle.tool_hash_lines.specs.PrintedRows.{printed_rows}
 use Rattle.tool_jobs.specs.Stated.{statement_of}
-use Rattle.batch_tool.specs.Answer.{IsAcceptedText, IsBadInput, bad_input_text, IsProveAnswer, IsVerifyAnswer}
+use Rattle.batch_tool.specs.Answer.{IsAcceptedText, IsProveAnswer, IsVerifyAnswer}
 use Rattle.tool_verifier.specs.declared.status.Status.{Status}
 use Rattle.tool_verifier.specs.declared.status.Status.TheVariants.{Done, Refused, Usage, BadInput, ReadFault, WriteFault, OutOfMemory, TooLarge}
 use Rattle.batch_tool.specs.Laws.Statuses.{job-status, file-status}
-
--- one word
-pub one-word : (ws : List (String Global)) (w : String Global) → 1 ≤ length ws → length ws < 2 → w ≡ get_or ws 0 w → map string_bytes ws ≡ string_bytes w ∷ []
-one-word [] w a b e = absurd (omega arith)
-one-word (x ∷ []) w a b e = ap (λ (t : String Global). string_bytes t ∷ []) (sym e)
-one-word (x ∷ y ∷ ws) w a b e = absurd (omega arith)
-
--- two words
-pub two-words : (ws : List (String Global)) (v w : String Global) → 2 ≤ length ws → length ws < 3 → v ≡ get_or ws 0 v → w ≡ get_or ws 1 w
-    → map string_bytes ws ≡ string_bytes v ∷ string_bytes w ∷ []
-two-words [] v w a b e f = absurd (omega arith)
-two-words (x ∷ []) v w a b e f = absurd (omega arith)
-two-words (x ∷ y ∷ []) v w a b e f = λ i. string_bytes (sym e i) ∷ string_bytes (sym f i) ∷ []
-two-words (x ∷ y ∷ z ∷ ws) v w a b e f = absurd (omega arith)
 
 -- the text of a proved job is that of a proof file, which is not too long, and for which `verify` writes `accepted`
 proved-accepted : (version : TranscriptVersion) (job : List (JobTable BabyBear)) (text : List ℕ) → JobWithin job → IsJobAnswer version job Done text → IsAcceptedText text
@@ -80,15 +63,6 @@ pub verify-answers-ok : (bytes : List ℕ) (file : FileData) (r : Result Answer 
     → IfOk r (λ a. IsFileAnswer (version_of file.version) file.tables file.proof a.status a.text.items) → IfOk r (λ a. IsVerifyAnswer bytes a.status a.text.items)
 verify-answers-ok bytes file (Ok a) fits e h = verify-answers bytes file a.status a.text.items fits e h
 verify-answers-ok bytes file (Err x) fits e h = tt
-
--- bytes that are no text of a command's grammar, where the reading ends so and the text says so
-pub bad-answers : {A T : Type 0} (data_of : T → A) (within : A → Type 0) (words : A → List ℕ) (bytes : List ℕ) (e : TextError) (r : Result Answer AllocError)
-    → ReadsText data_of within words bytes (Err e)
-    → ((at : ℕ) → e ≡ Malformed at → IfOk r (λ a. (a.status ≡ BadInput) × (a.text.items ≡ bad_input_text at))) → (e ≡ NoMemory → IsErr r)
-    → IfOk r (λ a. (a.status ≡ BadInput) × IsBadInput within words bytes a.text.items)
-bad-answers data_of within words bytes (Malformed line) (Ok a) read bad memory = let f = bad line refl in (f.0, (read.0, (line, read.1, f.1)))
-bad-answers data_of within words bytes NoMemory (Ok a) read bad memory = absurd (false≢true (memory refl))
-bad-answers data_of within words bytes e (Err x) read bad memory = tt
 
 pub bad-job : (version : TranscriptVersion) (bytes : List ℕ) (r : Result Answer AllocError) → IfOk r (λ a. (a.status ≡ BadInput) × IsBadInput JobWithin job_numbers bytes a.text.items)
     → IfOk r (λ a. IsProveAnswer version bytes a.status a.text.items)

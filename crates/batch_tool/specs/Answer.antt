@@ -5,11 +5,11 @@ use Rattle.transcript_version.specs.declared.TranscriptVersion.{TranscriptVersio
 use Rattle.transcript_version.specs.declared.TranscriptVersion.TheVariants.{V1, V2}
 use Rattle.tool_bytes.specs.Limits.{most_bytes}
 use Rattle.tool_lines.specs.Texts.{line_text}
-use Rattle.tool_lines.specs.WholeText.{IsNoText, IsFaultLine}
 use Rattle.law_tool_valid.specs.Job.{JobTable}
 use Rattle.tool_jobs.specs.Jobs.{JobWithin, job_numbers}
 use Rattle.tool_demo.specs.DemoAnswer.{IsDemoAnswer, most_number}
 use Rattle.tool_prover.specs.JobAnswer.{IsJobAnswer}
+use Rattle.tool_run.specs.BadInput.{IsBadInput}
 use Rattle.tool_run.specs.Program.{Program}
 use Rattle.tool_run.specs.Run.{IsAnswer as IsProgramAnswer, NamesReader as NamesProgramReader, NamesSome as NamesProgramCommand, Outcome as ProgramOutcome}
 use Rattle.tool_verifier.specs.FileAnswer.{IsFileAnswer}
@@ -31,14 +31,6 @@ abbrev pub reads_input : Command → Bool
 reads_input (Prove version) = true
 reads_input Verify = true
 reads_input (Demo number) = false
-
--- the text that names the line at fault
-abbrev pub bad_input_text : ℕ → List ℕ
-bad_input_text line = codes "bad input at line " ++ decimal line ++ 10 ∷ []
-
--- the text for bytes that are the text of no value: it names the line of the fault
-abbrev pub IsBadInput : {A : Type 0} (within : A → Type 0) (words : A → List ℕ) → List ℕ → List ℕ → Type 0
-IsBadInput within words bytes text = IsNoText within words bytes × ((line : ℕ) × IsFaultLine within words bytes line × (text ≡ bad_input_text line))
 
 -- the status and the text of `verify` for all the bytes of an input
 abbrev pub IsVerifyAnswer : List ℕ → Status → List ℕ → Type 0

@@ -1,19 +1,16 @@
 //! What the commands answer for the bytes of an input.
 
-ghost use Rattle.std.specs.Prelude.{◌≡◌, ℕ, IfOk, IsErr};
-ghost use Rattle.tool_lines.specs.declared.parse.TextError.TheVariants.{Malformed, OutOfMemory};
-ghost use Rattle.batch_tool.specs.Answer.{IsProveAnswer, IsVerifyAnswer, bad_input_text};
+ghost use Rattle.std.specs.Prelude.{IfOk};
+ghost use Rattle.batch_tool.specs.Answer.{IsProveAnswer, IsVerifyAnswer};
 
 use p3_field::Mem;
 use p3_uni_stark::TranscriptVersion;
-use std::alloc::{AllocError, Global};
+use std::alloc::Global;
 use tool_jobs::read_job;
-use tool_lines::{TextError, push_number};
 use tool_proof_files::read_proof_file;
 use tool_prover::answer_prove;
-use tool_verifier::{Answer, Status, answer_verify};
-
-const BAD_INPUT: &[u8] = b"bad input at line ";
+use tool_run::bad_input;
+use tool_verifier::{Answer, answer_verify};
 
 /// What `prove` answers for all the bytes of an input over the transcript of this version, which are let go once they are read.
 pub(crate) fn job_answer(alloc: Global, version: TranscriptVersion, bytes: Vec<u8>) -> Mem<Answer>
@@ -36,24 +33,5 @@ pub(crate) fn file_answer(alloc: Global, bytes: Vec<u8>) -> Mem<Answer>
     match read {
         Ok(file) => answer_verify(alloc, &file),
         Err(error) => bad_input(alloc, error),
-    }
-}
-
-/// What a command answers for bytes that are no text of its grammar. Out of memory wherever the reading was.
-fn bad_input(alloc: Global, error: TextError) -> Mem<Answer>
-    ensures malformed { (at : ℕ) → error ≡ Malformed at → IfOk result (λ a. (a.status ≡ Status.BadInput) × (a.text.items ≡ bad_input_text at)) }
-    ensures memory { error ≡ OutOfMemory → IsErr result }
-{
-    match error {
-        TextError::Malformed { line } => {
-            let mut text = Vec::new(alloc);
-            text.extend_from_slice(BAD_INPUT)?;
-            push_number(&mut text, line)?;
-            Ok(Answer {
-                status: Status::BadInput,
-                text,
-            })
-        }
-        TextError::OutOfMemory => Err(AllocError),
     }
 }

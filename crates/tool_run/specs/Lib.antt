@@ -1,3 +1,5 @@
+pub mod BadInput
 pub mod Exit
 pub mod Program
 pub mod Run
+pub mod Laws

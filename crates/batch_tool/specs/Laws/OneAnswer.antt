@@ -15,7 +15,8 @@ use Rattle.tool_jobs.specs.Jobs.{JobWithin, job_numbers}
 use Rattle.tool_jobs.specs.Laws.Texts.{job-grammar}
 use Rattle.tool_demo.specs.DemoAnswer.{IsDemoAnswer}
 use Rattle.tool_prover.specs.JobAnswer.{IsJobAnswer}
-use Rattle.batch_tool.specs.Answer.{Names, NamesSome, IsBadInput, IsProveAnswer, IsVerifyAnswer, IsCommandAnswer, IsAnswer, bad_input_text}
+use Rattle.tool_run.specs.BadInput.{IsBadInput, bad_input_text}
+use Rattle.batch_tool.specs.Answer.{Names, NamesSome, IsProveAnswer, IsVerifyAnswer, IsCommandAnswer, IsAnswer}
 use Rattle.tool_statement.specs.declared.table.TableStatement.{TableStatement}
 use Rattle.tool_proof_text.specs.ProofText.{ToolProofData}
 use Rattle.tool_verifier.specs.FileAnswer.{IsFileAnswer, SameAnswer}

@@ -4,7 +4,8 @@ use Rattle.tool_jobs.specs.Jobs.{JobWithin, job_numbers, read_tables}
 use Rattle.tool_jobs.specs.declared.table.JobTable.{JobTable}
 use Rattle.tool_prover.specs.JobAnswer.{IsJobAnswer}
 use Rattle.batch_tool.specs.Answer.{IsProveAnswer}
-use Rattle.batch_tool.proofs.Runs.{bad-answers, bad-job, prove-answers-ok}
+use Rattle.tool_run.specs.Laws.BadInput.{bad-answers}
+use Rattle.batch_tool.proofs.Runs.{bad-job, prove-answers-ok}
 use Rattle.batch_tool.proofs.answers.job_answer.Goals as goal
 
 pub returns-in-Ok : goal.returns-in-Ok

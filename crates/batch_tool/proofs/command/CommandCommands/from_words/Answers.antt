@@ -3,7 +3,7 @@ use Rattle.std.specs.Prelude.{codes}
 use Rattle.std.specs.Bool.{Decides}
 use Rattle.std.proofs.lemmas.Slice.Eq.{slice_eq-Decides}
 use Rattle.std.proofs.lemmas.Bool.Decides.{Decides-eqb}
-use Rattle.batch_tool.proofs.Runs.{one-word, two-words}
+use Rattle.tool_run.specs.Laws.Words.{one-word, two-words}
 use Rattle.batch_tool.proofs.command.CommandCommands.from_words.Goals as goal
 
 pub returns-in-len1 : goal.returns-in-len1

@@ -1,0 +1,3 @@
+-- What is proved of the definitions, by subject.
+pub mod BadInput
+pub mod Words
