@@ -47,14 +47,14 @@ use Rattle.tool_prover.specs.Laws.Sized.{IsSized, all_flat, chunks_sized, main_s
 use Rattle.tool_prover.specs.Laws.Within.{chunks_few, few_tables, fields, four, low, mains_few, narrow, permutations_few, unmasked}
 
 -- a matrix with a row for each point of its domain, of up to 2^10 points, and with at most so many cells
-record IsFew (most : ℕ) (e : CosetData BabyBear × Rows BabyBear) : Type 0 where
+pub record IsFew (most : ℕ) (e : CosetData BabyBear × Rows BabyBear) : Type 0 where
   pub has_columns : 0 < e.1.width
   pub height_is : height e.1 ≡ 2 ^ e.0.log_size
   pub low : e.0.log_size ≤ 10
   pub cells : 2 ^ e.0.log_size * e.1.width ≤ most
 
 -- so many columns of up to 2^10 rows
-narrow_few : (w : ℕ) (e : CosetData BabyBear × Rows BabyBear) → IsSized 10 w e → IsFew (1024 * w) e
+pub narrow_few : (w : ℕ) (e : CosetData BabyBear × Rows BabyBear) → IsSized 10 w e → IsFew (1024 * w) e
 narrow_few w e Z =
     let tall : 2 ^ e.0.log_size ≤ 2 ^ 10 = power_within e.0.log_size 10 Z.low in
     let most = mul-le-mul_right e.1.width tall in
@@ -82,7 +82,7 @@ matrix_few most e Z =
     (evaluations-fill s.field (extended_domain s e.0.log_size) (polynomials s e.0 e.1) (let n = length-polynomials s e.0 e.1 in omega (arith, n, some))) Z.cells
 
 -- a commitment to at most so many such matrices
-commitment_few : (most count : ℕ) (es : List (CosetData BabyBear × Rows BabyBear)) → length es ≤ count → All (IsFew most) es
+pub commitment_few : (most count : ℕ) (es : List (CosetData BabyBear × Rows BabyBear)) → length es ≤ count → All (IsFew most) es
     → length (commitment_numbers (commitment_of tool_scheme es)) ≤ count * (2 * most + 2) + 1
 commitment_few most count es few all =
     let ext : CosetData BabyBear × Rows BabyBear → Rows BabyBear = λ e. extension_of tool_scheme e.0 e.1 in
@@ -110,11 +110,11 @@ statement_few (Take k) = omega arith
 statement_few (Give k) = omega arith
 statement_few (Hash k) = omega arith
 
-terminal_few : (o : Option QuarticExtension) → length (option_numbers extension_numbers o) ≤ 5
+pub terminal_few : (o : Option QuarticExtension) → length (option_numbers extension_numbers o) ≤ 5
 terminal_few None = omega arith
 terminal_few (Some x) = omega arith
 
-witness_few : (o : Option BabyBear) → length (option_numbers element_numbers o) ≤ 2
+pub witness_few : (o : Option BabyBear) → length (option_numbers element_numbers o) ≤ 2
 witness_few None = omega arith
 witness_few (Some x) = omega arith
 
@@ -212,7 +212,7 @@ module _ (version : TranscriptVersion) (job : List (JobTable BabyBear)) (many : 
   proof_few q B = subst (λ (p : ToolProofData). length (proof_numbers p) ≤ 2160000) (sym B.proof_is) (built_few q.lookup_pow_witness q.ood_pow_witness q.opening_proof)
 
 -- the text of so many small numbers
-numbers_short : (text ns : List ℕ) → Small ns → text ≡ line_text ns → length ns ≤ 2170000 → length text ≤ 45570000
+pub numbers_short : (text ns : List ℕ) → Small ns → text ≡ line_text ns → length ns ≤ 2170000 → length text ≤ 45570000
 numbers_short text ns small same few = let short = text_short ns small in let long = ap length same in omega (arith, short, long, few)
 
 -- the text of the honest proof's file has at most 2,170,000 lines, each of at most 21 bytes

@@ -44,7 +44,7 @@ use Rattle.tool_prover.specs.Laws.OpenedSizes.{opened_within}
 use Rattle.tool_prover.specs.Laws.Sized.{IsSized}
 
 -- the extension of a matrix of one to 9168 columns and up to 2^10 rows
-matrix_within : (e : CosetData BabyBear × Rows BabyBear) → IsSized 10 9168 e → MatrixWithin (extension_of tool_scheme e.0 e.1)
+pub matrix_within : (e : CosetData BabyBear × Rows BabyBear) → IsSized 10 9168 e → MatrixWithin (extension_of tool_scheme e.0 e.1)
 unfolding tool_setting extension_of
 matrix_within e Z =
     let s = tool_scheme in
@@ -65,7 +65,7 @@ matrix_within e Z =
     }
 
 -- a commitment to such matrices
-commitment_within : (es : List (CosetData BabyBear × Rows BabyBear)) → length es ≤ 16 → All (IsSized 10 9168) es → CommitmentWithin (commitment_of tool_scheme es)
+pub commitment_within : (es : List (CosetData BabyBear × Rows BabyBear)) → length es ≤ 16 → All (IsSized 10 9168) es → CommitmentWithin (commitment_of tool_scheme es)
 commitment_within es few all =
     let ext : CosetData BabyBear × Rows BabyBear → Rows BabyBear = λ e. extension_of tool_scheme e.0 e.1 in
     let long = length-map es ext in
