@@ -89,7 +89,7 @@ commitment_few most count es few all =
     let long = length-map es ext in
     list_few matrix_numbers (2 * most + 2) count (map ext es) (omega (arith, long, few)) (all_images (IsFew most) (λ m. length (matrix_numbers m) ≤ 2 * most + 2) ext (matrix_few most) es all)
 
-some_few : (most count : ℕ) (es : List (CosetData BabyBear × Rows BabyBear)) → length es ≤ count → All (IsFew most) es
+pub some_few : (most count : ℕ) (es : List (CosetData BabyBear × Rows BabyBear)) → length es ≤ count → All (IsFew most) es
     → length (option_numbers commitment_numbers (committed_where (commitment_of tool_scheme) es)) ≤ count * (2 * most + 2) + 2
 some_few most count [] few all = omega arith
 some_few most count (e ∷ es) few all = let n = commitment_few most count (e ∷ es) few all in omega (arith, n)
@@ -119,7 +119,7 @@ witness_few None = omega arith
 witness_few (Some x) = omega arith
 
 -- the parts of a proof, and of a file, put together
-proof_sum : (q : ToolProofData) → length (commitment_numbers q.commitments.main) ≤ 1173521 → length (option_numbers commitment_numbers q.commitments.permutation) ≤ 262178
+pub proof_sum : (q : ToolProofData) → length (commitment_numbers q.commitments.main) ≤ 1173521 → length (option_numbers commitment_numbers q.commitments.permutation) ≤ 262178
     → length (commitment_numbers q.commitments.quotient_chunks) ≤ 131105 → length (option_numbers commitment_numbers q.commitments.random) ≤ 1
     → length (list_numbers instance_numbers q.instances) ≤ 592001 → length (list_numbers (option_numbers extension_numbers) q.lookup_terminals) ≤ 41
     → length (list_numbers one_number q.degree_bits) ≤ 9 → length (proof_numbers q) ≤ 2160000

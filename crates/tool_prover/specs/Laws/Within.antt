@@ -71,23 +71,23 @@ commitment_within es few all =
     let long = length-map es ext in
     ((omega arith, omega (arith, long, few)), all_images (IsSized 10 9168) MatrixWithin ext matrix_within es all)
 
-some_within : (es : List (CosetData BabyBear × Rows BabyBear)) → length es ≤ 16 → All (IsSized 10 9168) es → OptionWithin CommitmentWithin (committed_where (commitment_of tool_scheme) es)
+pub some_within : (es : List (CosetData BabyBear × Rows BabyBear)) → length es ≤ 16 → All (IsSized 10 9168) es → OptionWithin CommitmentWithin (committed_where (commitment_of tool_scheme) es)
 some_within [] few all = tt
 some_within (e ∷ es) few all = commitment_within (e ∷ es) few all
 
 -- lists of at most two items, one for each table
-flat_few : {Y : Type 0} (g : ℕ → List Y) (n : ℕ) (q : ℕ → ℕ) → ((i : ℕ) → i < n → length (g (q i)) ≤ 2) → length (flat_map g (tabulate n q)) ≤ 2 * n
+pub flat_few : {Y : Type 0} (g : ℕ → List Y) (n : ℕ) (q : ℕ → ℕ) → ((i : ℕ) → i < n → length (g (q i)) ≤ 2) → length (flat_map g (tabulate n q)) ≤ 2 * n
 flat_few g zero q h = omega arith
 flat_few g (suc n) q h =
     let first = h zero (omega arith) in
     let rest = flat_few g n (λ i. q (suc i)) (λ i l. h (suc i) (omega (arith, l))) in
     omega (arith, first, rest, length-append (g (q zero)) (flat_map g (tabulate n (λ i. q (suc i)))))
 
-where_few : {A Y : Type 0} (ls : List A) (y : Y) → length (option_to_list (where_some ls y)) ≤ 2
+pub where_few : {A Y : Type 0} (ls : List A) (y : Y) → length (option_to_list (where_some ls y)) ≤ 2
 where_few [] y = omega arith
 where_few (l ∷ ls) y = omega arith
 
-any_option : {A : Type 0} (o : Option A) → OptionWithin Unlimited o
+pub any_option : {A : Type 0} (o : Option A) → OptionWithin Unlimited o
 any_option None = tt
 any_option (Some x) = tt
 
