@@ -4,3 +4,4 @@ pub mod Table
 pub mod Meant
 pub mod Within
 pub mod Length
+pub mod Outcome

@@ -21,11 +21,7 @@ use tool_proof_text::ToolProof;
 use tool_prover::avoids_subgroup;
 
 // The trace of a chain of 1, 2, 4 or 8 blocks. The only error is running out of memory.
-fn trace_of(
-    alloc: Global,
-    start: &[u32; 8],
-    blocks: &[[u32; 16]],
-) -> Mem<RowMajorMatrix<BabyBear>>
+fn trace_of(alloc: Global, start: &[u32; 8], blocks: &[[u32; 16]]) -> Mem<RowMajorMatrix<BabyBear>>
     requires power { IsPowerOfTwo (length blocks.now) }
     requires few { length blocks.now ≤ 8 }
     ensures trace { IfOk result (λ m. m ≡ chain_trace baby_bear_ring start.now blocks.now) }
@@ -61,16 +57,15 @@ pub fn prove_chain(
     chaining_fits(start);
     chaining_fits(&end);
     let public_values = chain_publics(alloc, start, &end)?;
-    let air = ChainAir::new();
+    let air = ChainAir {};
     let instances = [TableInstance {
         air: &air,
         trace: &trace,
         public_values,
     }];
     let (proof, point) = prove_airs_with_point(alloc, &instances)?;
-    if avoids_subgroup(log2_strict_usize(blocks.len()), point) {
-        Ok(Some(proof))
-    } else {
-        Ok(None)
+    if !avoids_subgroup(log2_strict_usize(blocks.len()), point) {
+        return Ok(None);
     }
+    Ok(Some(proof))
 }

@@ -34,7 +34,7 @@ pub fn verify_chain(
     ensures chain { IfOk result (λ _. RowsAreChain start.now end.now log_rows proof.now) }
 {
     let public_values = [chain_publics(alloc, start, end)?];
-    verify_airs(alloc, &[ChainAir::new()], &[log_rows], proof, &public_values)?;
+    verify_airs(alloc, &[ChainAir {}], &[log_rows], proof, &public_values)?;
     accepted_means(start, end, log_rows, proof);
     Ok(())
 }
