@@ -11,4 +11,4 @@ mod verify;
 
 pub use meaning::accepted_means;
 pub use prove::prove_chain;
-pub use verify::verify_chain;
+pub use verify::{has_stated_height, verify_chain};

@@ -1,5 +1,5 @@
 //! Verifying a proof of a chain.
-ghost use Rattle.std.specs.Prelude.{◌≤◌, IfOk};
+ghost use Rattle.std.specs.Prelude.{◌≤◌, ◌↔◌, IfOk, IsTrue};
 ghost use Rattle.batch_statement.specs.Verdict.{IsVerdict};
 ghost use Rattle.verifier_batch.specs.BatchChecks.{checks};
 ghost use Rattle.transcript_version.specs.declared.TranscriptVersion.TheVariants.{V2};
@@ -16,9 +16,20 @@ use std::alloc::Global;
 use tool_airs::verify_airs;
 use tool_proof_text::ToolProof;
 
+/// Whether the degree bits of a proof's first table, where it has any, are the stated logarithm of the rows (not in Plonky3): the verifier takes any
+/// height. Nothing is allocated.
+pub fn has_stated_height(log_rows: usize, proof: &ToolProof) -> bool
+    ensures { IsTrue result ↔ HasStatedHeight log_rows proof.now.degree_bits }
+{
+    match proof.degree_bits.get(0) {
+        Some(bits) => *bits == log_rows,
+        None => true,
+    }
+}
+
 /// Whether a proof that 2^`log_rows` compressions, at most 8, lead from `start` to `end` is accepted (not in Plonky3): Ok exactly where no check of the
 /// batch verifier fails, and else the refusal of the first that does (`verdict`). The verifier takes the height that the proof states: that it is
-/// the stated one, where it states any, is the caller's to test, and asked for here (`height`). Out of memory may come in place of any answer.
+/// the stated one, where it states any, is asked for here (`height`), and [`has_stated_height`] is the test. Out of memory may come in place of any answer.
 ///
 /// Where it is Ok, the rows that the proof commits to are those of such compressions, unless the drawn alpha or the drawn zeta is unlucky (`chain`).
 pub fn verify_chain(

@@ -15,7 +15,7 @@ use Rattle.law_committed.specs.Fields.{FieldsLaws, baby_bear_field, quartic_exte
 use Rattle.law_honest.specs.HonestProof.{IsBuilt, alpha, challenges_at, honest_proof, honest_terminal, opened_of, zeta}
 use Rattle.law_valid.specs.Traced.{TracedTable}
 use Rattle.prover_answer.specs.Batch.{all_chunks, all_permutations, main_matrices, table_at, table_count}
-use Rattle.tool_airs.specs.Airs.{AirsProof}
+use Rattle.tool_airs.specs.Airs.{AirsBatch, AirsProof}
 use Rattle.tool_airs.specs.Laws.Alone.{table_of}
 use Rattle.tool_hash_lines.specs.Laws.Matrices.{laws_of_tool}
 use Rattle.tool_lines.specs.Texts.{extension_numbers, one_number, option_numbers}
@@ -33,7 +33,7 @@ use Rattle.chain_proofs.specs.Laws.Within.{b, chunks_few, each, mains, mains_few
 use Rattle.chain_proofs.specs.Statement.{IsChainProof, chain_instance, constraints, declared, none_sent}
 
 module _ (start : List ℕ) (blocks : List (List ℕ)) (power : IsPowerOfTwo (length blocks)) (few : length blocks ≤ 8) (L : FieldsLaws baby_bear_field quartic_extension 27 quartic_inv) where
-  abbrev batch : _
+  abbrev batch : AirsBatch
   batch = b start blocks power few L
 
   abbrev table : ℕ → TracedTable BabyBear

@@ -6,12 +6,12 @@ use Rattle.p3_field.specs.Quartic.{of_baby_bear_value, quartic_inv, quartic_ring
 use Rattle.p3_field.specs.declared.baby_bear.BabyBear.{BabyBear}
 use Rattle.p3_field.specs.declared.quartic.QuarticExtension.{QuarticExtension}
 use Rattle.air_core.specs.Laws.Lists.{all_of_tabulate}
-use Rattle.air_core.specs.Shape.{ReadsDeclared, declared_shape}
-use Rattle.p3_lookup.specs.Lookup.{LookupData}
+use Rattle.air_core.specs.Shape.{Declaration, ReadsDeclared, declared_shape, width_of}
+use Rattle.p3_lookup.specs.Lookup.{HasCountForEach, LookupData, ReadsSent}
 use Rattle.p3_lookup.specs.Trees.{lookup_trees}
 use Rattle.plain_pcs.specs.Scheme.{PlainCommitmentData}
 use Rattle.blake3_compress.specs.Generated.{input_of}
-use Rattle.batch_statement.specs.Statement.{AirTable, Common, Statement, WellFormed}
+use Rattle.batch_statement.specs.Statement.{Common, HasEntryOf, Statement, WellFormed}
 use Rattle.batch_statement.specs.Words.{bits_at}
 use Rattle.verifier_batch.specs.BatchChecks.{Accepted}
 use Rattle.chain_air.specs.Chain.{AreChainRows, AreEight}
@@ -53,15 +53,15 @@ none_listed P (suc i) j d l = absurd (omega (arith, l))
 
 plain_formed : WellFormed (declared (record {}) ∷ []) plain_common
 plain_formed = record {
-  reads = λ i l d. none_listed _ i;
-  counted = λ i l. none_listed _ i;
+  reads = λ i l d. none_listed (ReadsSent (declared_shape (get_or (declared (record {}) ∷ []) i d))) i;
+  counted = λ i l. none_listed HasCountForEach i;
   one_width = λ i j d l m e. absurd (omega (arith, l));
   entries = entries;
   listed = tt;
   places = λ i l. tt;
 }
   where
-    entries : (i : ℕ) → i < 1 → (d : _) → _
+    entries : (i : ℕ) → i < 1 → (d : Declaration BabyBear) → HasEntryOf (width_of (get_or (declared (record {}) ∷ []) i d).preprocessed) None
     entries zero l d = refl
     entries (suc i) l d = absurd (omega (arith, l))
 

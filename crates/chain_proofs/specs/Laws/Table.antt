@@ -1,6 +1,6 @@
 -- A chain's table: its trace has the declared shape and meets the constraints.
 use Rattle.std.specs.Int.{IsPowerOfTwo}
-use Rattle.std.proofs.Common.{◌≡◌, ℕ, zero, suc, ◌+◌, ◌*◌, ◌^◌, ◌<◌, ◌≤◌, max, List, [], ◌∷◌, length, get_or, map, refl, sym, ◌∙◌, ap, subst, arith}
+use Rattle.std.proofs.Common.{◌≡◌, ℕ, zero, suc, ◌+◌, ◌*◌, ◌^◌, ◌<◌, ◌≤◌, inl, inr, max, List, [], ◌∷◌, length, get_or, map, refl, sym, ◌∙◌, ap, subst, arith}
 use Rattle.std.specs.Prelude.{All}
 use Rattle.std.proofs.Math.Pow.{pow-lt}
 use Rattle.std.proofs.lemmas.Bool.{cases_lt}
@@ -8,7 +8,8 @@ use Rattle.std.proofs.lemmas.List.{ext_get_or, length-map}
 use Rattle.std.proofs.lemmas.List.{get_or-map as get_or-map-within}
 use Rattle.std.proofs.lemmas.Nat.{pow_pos}
 use Rattle.p3_field.specs.BabyBear.{baby_bear_ring}
-use Rattle.p3_field.specs.Domain.{point}
+use Rattle.p3_field.specs.Domain.{CosetData, point}
+use Rattle.p3_field.specs.Field.{TwoAdic}
 use Rattle.p3_field.specs.Laws.SubgroupSelectors.{subgroup}
 use Rattle.p3_field.specs.Poly.{eval_poly}
 use Rattle.p3_field.specs.Quartic.{quartic_inv}
@@ -32,10 +33,10 @@ use Rattle.chain_air.specs.Laws.Traces.{publics_long}
 use Rattle.chain_air.specs.declared.air.ChainAir.{ChainAir}
 use Rattle.law_chain.specs.Committed.{CommittedChains}
 use Rattle.law_committed.specs.BaseRows.{main_row}
-use Rattle.law_committed.specs.Committed.{CommittedTable}
+use Rattle.law_committed.specs.Committed.{CommittedTable, row_count_of}
 use Rattle.law_committed.specs.Fields.{FieldsLaws, baby_bear_field, quartic_extension}
 use Rattle.law_committed.specs.Laws.Traces.{traces_committed}
-use Rattle.law_committed.specs.Rows.{CommitsTo}
+use Rattle.law_committed.specs.Rows.{CommitsTo, InterpolateColumns}
 use Rattle.law_joining.specs.Laws.Tables.{table_divided, table_traced}
 use Rattle.law_joining.specs.Shaped.{IsShaped}
 use Rattle.law_valid.specs.Traced.{TracedTable, committed_alone, log_parts, log_rows, no_rows, traces_of}
@@ -57,6 +58,21 @@ small_log n (k, e) h = elim (cases_lt 3 k) [
 
 pub power_of_log : (n : ℕ) → IsPowerOfTwo n → n ≡ 2 ^ log_of n
 power_of_log n (k, e) = e ∙ ap (λ j. 2 ^ j) (sym (log_of_power n k e))
+
+-- the columns' polynomials have the matrix's row at its point
+pub interpolated_row : {F : Type 0} (f : TwoAdic F) (d : CosetData F) (m : Rows F) (polys : List (List F)) → InterpolateColumns f d m polys → (j : ℕ) → j < height m
+    → map (λ g. eval_poly f.ring g (point f.ring f.root d j)) polys ≡ row_at m j
+interpolated_row {F} f d m polys I j high =
+    let z = f.ring.zero in
+    let value : List F → F = λ g. eval_poly f.ring g (point f.ring f.root d j) in
+    let many = length-map polys value in
+    let long = length-row_at m I.fills j high in
+    let count = I.count in
+    ext_get_or z (map value polys) (row_at m j) (many ∙ (count ∙ sym long)) (λ i b.
+    let inside : i < m.width = omega (arith, b, many, count) in
+    get_or-map-within value polys i [] z (omega (arith, inside, count))
+    ∙ ((I.each i inside).value_is j (let c = length-column z m i in omega (arith, c, high))
+    ∙ (get_or-column z m i j high ∙ sym (get_or-row_at m j i z inside))))
 
 pub alone : (a : ChainAir) → IsAlone declared none_sent a
 alone a = record { sends_none = refl; no_preprocessed = refl }
@@ -118,7 +134,7 @@ module _ (start : List ℕ) (blocks : List (List ℕ)) where
 
       pub rows_are : log_rows (tool_setting V2) t ≡ log_of (height trace)
       unfolding tool_setting
-      rows_are = refl
+      rows_are = omega arith
 
       pub parts_are : log_parts (tool_setting V2) t ≡ 1
       unfolding tool_setting
@@ -142,19 +158,8 @@ module _ (start : List ℕ) (blocks : List (List ℕ)) where
       row_is : (j : ℕ) → j < 2 ^ log_of (height trace) → main_row baby_bear_field u j ≡ row_at trace j
       unfolding tool_setting
       row_is j h =
-          let x = point baby_bear_field.ring baby_bear_field.root (subgroup baby_bear_ring u.log_height) j in
-          let value : List BabyBear → BabyBear = λ g. eval_poly baby_bear_ring g x in
           let l : height trace ≡ 2 ^ log_of (height trace) = power_of_log (height trace) (subst IsPowerOfTwo (sym tall) power) in
-          let high : j < height trace = omega (arith, h, l) in
-          let long = length-row_at trace fills j high in
-          let z = baby_bear_ring.zero in
-          let many = length-map u.main value in
-          let count = wide in
-          ext_get_or z (map value u.main) (row_at trace j) (many ∙ (count ∙ sym long)) (λ i b.
-          let inside : i < 9168 = omega (arith, b, many, count) in
-          get_or-map-within value u.main i [] z (omega (arith, inside, count))
-          ∙ ((commits.main.each i inside).value_is j (let c = length-column z trace i in omega (arith, c, high))
-          ∙ (get_or-column z trace i j high ∙ sym (get_or-row_at trace j i z inside))))
+          interpolated_row baby_bear_field (subgroup baby_bear_ring u.log_height) trace u.main commits.main j (omega (arith, h, l))
 
       module _ (C : CommittedChains) (first : AreEight (input_of start)) (last : AreEight (input_of (end_of start blocks))) (R : IsChainTrace baby_bear_ring start (end_of start blocks) trace) where
         holds : OwnHold (tool_setting V2) t
@@ -162,8 +167,9 @@ module _ (start : List ℕ) (blocks : List (List ℕ)) where
         holds =
             let h = low in
             let l : height trace ≡ 2 ^ log_of (height trace) = power_of_log (height trace) (subst IsPowerOfTwo (sym tall) power) in
+            let many : height trace ≡ row_count_of u = l ∙ ap (λ m. 2 ^ m) (sym rows_are) in
             (C u (input_of start) (input_of (end_of start blocks)) (omega (arith, h)) first last wide refl).1
-            (subst (λ n. AreChainRows baby_bear_ring n (main_row baby_bear_field u) (input_of start) (input_of (end_of start blocks))) l (record {
+            (subst (λ n. AreChainRows baby_bear_ring n (main_row baby_bear_field u) (input_of start) (input_of (end_of start blocks))) many (record {
               inputs = R.inputs;
               words = R.words;
               rows_are = λ j lt. row_is j (omega (arith, lt, l)) ∙ R.rows_are j lt;

@@ -4,6 +4,7 @@ use Rattle.std.proofs.Common.{◌≡◌, ℕ, zero, suc, ◌+◌, ◌*◌, ◌^�
 use Rattle.std.specs.Prelude.{All}
 use Rattle.std.proofs.lemmas.List.{length-map}
 use Rattle.p3_field.specs.Domain.{CosetData}
+use Rattle.p3_field.specs.Laws.SubgroupSelectors.{subgroup}
 use Rattle.p3_field.specs.Laws.Tabulate.{length-tabulate}
 use Rattle.p3_field.specs.Poly.{tabulate}
 use Rattle.p3_field.specs.Quartic.{quartic_inv}
@@ -14,7 +15,8 @@ use Rattle.air_core.specs.Laws.Lists.{all_tabulate}
 use Rattle.plain_pcs.specs.Laws.OpenedCommitments.{power_within}
 use Rattle.plain_pcs.specs.declared.commitment.PlainProof.{PlainProof}
 use Rattle.law_committed.specs.Fields.{FieldsLaws, baby_bear_field, quartic_extension}
-use Rattle.law_honest.specs.HonestProof.{IsBuilt, alpha, challenges_at, honest_proof, honest_terminal, opened_of, zeta}
+use Rattle.law_committed.specs.Rows.{flattened_matrix}
+use Rattle.law_honest.specs.HonestProof.{alpha, challenges_at, honest_proof, honest_terminal, opened_of, permutation_columns, permutation_matrices, zeta}
 use Rattle.law_valid.specs.Traced.{TracedTable, declared as declared_of, log_parts}
 use Rattle.law_valid.specs.Valid.{HasQuotientDomain, IsTraced}
 use Rattle.prover_answer.specs.Batch.{all_chunks, all_permutations, chunks_of, main_matrices, table_at, table_count}
@@ -103,7 +105,7 @@ module _ (start : List ℕ) (blocks : List (List ℕ)) (power : IsPowerOfTwo (le
 
     pub permutations_few : length (all_permutations b w) ≤ 16
     permutations_few =
-        let m : length (all_permutations b w) ≤ 2 * table_count b = flat_few _ (table_count b) (λ i. i) (λ i l. where_few (table_at b i).lookups _) in
+        let m : length (all_permutations b w) ≤ 2 * table_count b = flat_few {Y = CosetData BabyBear × Rows BabyBear} (λ i. permutation_matrices b.setting b.prover (table_at b i) (challenges i)) (table_count b) (λ i. i) (λ i l. where_few (table_at b i).lookups (subgroup b.setting.field.ring (table_at b i).degree_bits, flattened_matrix b.setting.extension (permutation_columns b.setting b.prover (table_at b i) (challenges i)))) in
         omega (arith, m)
 
     chunks : All (IsSized 10 9168) (all_chunks b w)
