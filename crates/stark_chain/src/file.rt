@@ -69,7 +69,8 @@ impl Form for WholeChainFile {
         push_number(out, value.log_rows as u64)?;
         ChainingText::print(&value.start, out)?;
         ChainingText::print(&value.end, out)?;
-        ProofText::print(&value.proof, out)
+        ProofText::print(&value.proof, out)?;
+        Ok(())
     }
 }
 

@@ -49,7 +49,8 @@ impl Form for WholeChainJob {
 
     fn print(value: &ChainJob, out: &mut Vec<u8>) -> Mem<()> {
         ChainingText::print(&value.start, out)?;
-        print_list::<BlockText>(&value.blocks, out)
+        print_list::<BlockText>(&value.blocks, out)?;
+        Ok(())
     }
 }
 

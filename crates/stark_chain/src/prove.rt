@@ -31,6 +31,17 @@ fn refused(alloc: Global, name: &[u8]) -> Mem<Answer>
     })
 }
 
+// The answer where no number passes this grinding of a job.
+fn refused_grinding(alloc: Global, job: &ChainJob, step: GrindStep) -> Mem<Answer>
+    requires { IsChainRefusal job.now.start job.now.blocks.items (ProvingError.WitnessNotFound step) }
+    ensures { IfOk result (λ a. IsJobAnswer (read_job job.now) a.status a.text.items) }
+{
+    match step {
+        GrindStep::Lookup => unreachable!(),
+        GrindStep::Ood => refused(alloc, b"WitnessNotFound ood"),
+    }
+}
+
 // The answer where a job has no proof.
 fn refused_proof(
     alloc: Global,
@@ -41,13 +52,8 @@ fn refused_proof(
     ensures { IfOk result (λ a. IsJobAnswer (read_job job.now) a.status a.text.items) }
 {
     match error {
-        ProvingError::WitnessNotFound {
-            step: GrindStep::Ood,
-        } => refused(alloc, b"WitnessNotFound ood"),
+        ProvingError::WitnessNotFound { step } => refused_grinding(alloc, job, step),
         ProvingError::OutOfMemory => Err(AllocError),
-        ProvingError::WitnessNotFound {
-            step: GrindStep::Lookup,
-        } => unreachable!(),
         ProvingError::LookupDenominatorZero { .. } => unreachable!(),
         ProvingError::Pcs { .. } => unreachable!(),
         ProvingError::MultiplicityBound { .. } => unreachable!(),

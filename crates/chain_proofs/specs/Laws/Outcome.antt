@@ -16,6 +16,7 @@ use Rattle.batch_setup.specs.Setup.{Instance, log_of}
 use Rattle.batch_setup.specs.SetupChecks.{AreWithinBounds}
 use Rattle.batch_setup.specs.declared.error.ProverPhase.{ProverPhase}
 use Rattle.batch_statement.specs.Statement.{Statement}
+use Rattle.batch_statement.specs.Words.{bits_at}
 use Rattle.batch_transcript.specs.declared.failure.GrindStep.TheVariants.{Lookup, Ood}
 use Rattle.chain_air.specs.Chain.{AreEight}
 use Rattle.chain_air.specs.Generated.{IsChainTrace, chain_trace, end_of, publics_between}
@@ -23,7 +24,7 @@ use Rattle.chain_air.specs.declared.air.ChainAir.{ChainAir}
 use Rattle.law_acceptance.specs.Honest.{IsOutsideRows}
 use Rattle.law_chain.specs.Committed.{CommittedChains}
 use Rattle.law_committed.specs.Fields.{FieldsLaws, baby_bear_field, quartic_extension}
-use Rattle.law_honest.specs.HonestProof.{IsDenominatorZero, LacksLookupGround}
+use Rattle.law_honest.specs.HonestProof.{IsDenominatorZero, LacksLookupGround, honest_proof}
 use Rattle.law_joining.specs.Shaped.{IsShaped}
 use Rattle.law_valid.specs.Traced.{log_rows}
 use Rattle.prover_answer.specs.Batch.{table_at}
@@ -39,9 +40,9 @@ use Rattle.tool_prover.specs.Outside.{AvoidsRows}
 use Rattle.transcript_version.specs.declared.TranscriptVersion.TheVariants.{V2}
 use Rattle.tool_statement.specs.Config.{tool_backend, tool_scheme, tool_setting}
 use Rattle.verifier_batch.specs.BatchChecks.{Accepted}
-use Rattle.chain_proofs.specs.Laws.Table.{all_shaped, alone, bits_are, met, small_log}
+use Rattle.chain_proofs.specs.Laws.Table.{all_shaped, alone, bits_are, small_log, tall}
 use Rattle.chain_proofs.specs.Laws.Within.{each, tables_traced}
-use Rattle.chain_proofs.specs.Statement.{DrawsInside, IsAcceptedProof, IsChainProof, IsChainRefusal, chain_batch, chain_instance, chain_statement, constraints, declared, none_sent}
+use Rattle.chain_proofs.specs.Statement.{DrawsInside, HasStatedHeight, IsAcceptedProof, IsChainProof, IsChainRefusal, chain_batch, chain_instance, chain_statement, constraints, declared, none_sent}
 
 -- what is made of the trace and the public values is the chain's instance, and its batch
 module _ (start : List ℕ) (blocks : List (List ℕ)) (trace : Rows BabyBear) (values : List BabyBear) (trace_is : trace ≡ chain_trace baby_bear_ring start blocks)
@@ -145,3 +146,21 @@ stated start end k values e P h = subst (λ (vs : List (List BabyBear)). P (airs
 pub few_rows : (k : ℕ) → k ≤ 3 → AreWithinBounds 0 26 (k ∷ [])
 few_rows k few zero h = (omega arith, omega (arith, few))
 few_rows k few (suc i) h = absurd (omega (arith, h))
+
+-- the degree bits of the batch, and of its honest proof
+batch_bits : (start : List ℕ) (blocks : List (List ℕ)) (k : ℕ) → length blocks ≡ 2 ^ k → log_of (height (chain_trace baby_bear_ring start blocks)) + 0 ≡ k
+batch_bits start blocks k size =
+    let rows : log_of (height (chain_trace baby_bear_ring start blocks)) ≡ log_of (length blocks) = ap log_of (tall start blocks) in
+    let log = log_is (length blocks) k size in
+    omega (arith, rows, log)
+
+pub proof_height : (start : List ℕ) (blocks : List (List ℕ)) (k : ℕ) → length blocks ≡ 2 ^ k → (q : AirsProof) → IsChainProof start blocks q → HasStatedHeight k q.degree_bits
+unfolding honest_proof
+proof_height start blocks k size q B some = ap (λ (p : AirsProof). bits_at p.degree_bits 0) B.proof_is ∙ batch_bits start blocks k size
+
+-- what is stated of the batch is what is stated of the chain
+pub told_statement : (start end : List ℕ) (blocks : List (List ℕ)) (k : ℕ) → length blocks ≡ 2 ^ k → end ≡ end_of start blocks → (P : Statement BabyBear (PlainCommitmentData BabyBear) → Type 0)
+    → P (chain_batch start blocks).statement → P (chain_statement start end k)
+told_statement start end blocks k size e P h =
+    subst (λ (n : ℕ). P (chain_statement start end n)) (batch_bits start blocks k size)
+    (subst (λ (ws : List ℕ). P (chain_statement start ws (log_of (height (chain_trace baby_bear_ring start blocks)) + 0))) (sym e) h)
