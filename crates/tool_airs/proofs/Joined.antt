@@ -24,7 +24,7 @@ use Rattle.batch_setup.specs.SetupChecks.{AreWithinBounds}
 use Rattle.batch_statement.specs.Statement.{Common, WellFormed, WrittenCommon, read_common}
 use Rattle.law_acceptance.specs.Honest.{IsOutsideRows}
 use Rattle.law_committed.specs.Fields.{FieldsLaws, baby_bear_field, quartic_extension}
-use Rattle.law_honest.specs.HonestProof.{IsBuilt, zeta}
+use Rattle.law_honest.specs.HonestProof.{IsBuilt}
 use Rattle.law_joining.specs.Laws.Joined.{batch_kept, batch_traced}
 use Rattle.law_joining.specs.Shaped.{IsShaped, IsWhole, Serves, source_of_instance}
 use Rattle.law_valid.specs.Valid.{Valid}
@@ -39,7 +39,7 @@ use Rattle.prover_answer.specs.declared.error.ProvingError.TheVariants.{LookupDe
 use Rattle.verifier_batch.specs.BatchChecks.{Accepted}
 use Rattle.tool_airs.proofs.Made.{scheme_with}
 use Rattle.tool_airs.specs.Laws.Serving.{serves}
-use Rattle.tool_airs.specs.Airs.{AirsBatch, AirsProof, AreMet, DrawsOutside, HaveHeights, airs_batch, airs_common, prepared_entries, prepared_traces, same_value, sources_of_airs}
+use Rattle.tool_airs.specs.Airs.{AirsBatch, AirsProof, AreMet, DrawsOutside, HaveHeights, airs_batch, airs_common, drawn_point, prepared_entries, prepared_traces, same_value, sources_of_airs}
 use Rattle.transcript_version.specs.declared.TranscriptVersion.TheVariants.{V2}
 use Rattle.tool_statement.specs.Config.{backend_of, tool_backend, tool_scheme, tool_setting}
 
@@ -152,6 +152,9 @@ module _ {A : Type 0} (declaration : A → Declaration BabyBear) (trees : A → 
     pub proof_there : (proof : AirsProof) → IsHonestProof (plain_prover_backend (scheme_with b)) batch proof → IsBuilt shared.setting shared.prover shared.statement shared.traces shared.degree_bits proof
     proof_there proof P = subst (λ (B : AirsBatch). IsBuilt B.setting B.prover B.statement B.traces B.degree_bits proof) same_batch P.built
 
+    pub point_there : (q : AirsProof) (x : QuarticExtension) → x ≡ drawn_point batch q → x ≡ drawn_point shared q
+    point_there q x e = e ∙ ap (λ (B : AirsBatch). drawn_point B q) same_batch
+
     told : (e : ProvingError PlainProverError) → IsAnswerRefusal (proving_checks (plain_prover_backend tool_scheme) shared) e → Tells (plain_prover_backend tool_scheme) shared e
     told (Pcs phase source) h = refusal_tells (plain_prover_backend tool_scheme) shared (Pcs phase source) h
     told (MultiplicityBound bus) h = refusal_tells (plain_prover_backend tool_scheme) shared (MultiplicityBound bus) h
@@ -169,7 +172,7 @@ module _ {A : Type 0} (declaration : A → Declaration BabyBear) (trees : A → 
     abbrev pub AcceptsThen : AirsProof → Type 0
     AcceptsThen q =
         27 < 63 → Valid batch.setting same_value batch.prover.commitment_of batch.statement batch.traces batch.degree_bits
-        → ((i : ℕ) → i < length instances → IsOutsideRows batch.setting (table_at batch i) (zeta batch.setting batch.prover batch.statement batch.traces batch.degree_bits q.lookup_pow_witness q.ood_pow_witness))
+        → ((i : ℕ) → i < length instances → IsOutsideRows batch.setting (table_at batch i) (drawn_point batch q))
         → AvoidsExcluded (plain_prover_backend (scheme_with b)) batch q.lookup_pow_witness q.ood_pow_witness → Accepted batch.setting (backend_of (scheme_with b)) batch.statement q
 
     module _ (formed : WellFormed (map declaration (airs_of instances)) (read_common written)) where
@@ -179,10 +182,10 @@ module _ {A : Type 0} (declaration : A → Declaration BabyBear) (trees : A → 
           (record { batch = subst (λ (B : AirsBatch). IsTracedAll B) same_batch (traced_there formed); holds = M.holds; fits = M.fits; bounded = M.bounded; balanced = M.balanced })
 
       outside_there : (q : AirsProof) → DrawsOutside shared q → (i : ℕ) → i < length instances
-          → IsOutsideRows batch.setting (table_at batch i) (zeta batch.setting batch.prover batch.statement batch.traces batch.degree_bits q.lookup_pow_witness q.ood_pow_witness)
+          → IsOutsideRows batch.setting (table_at batch i) (drawn_point batch q)
       outside_there q d i l =
           let n : table_count shared ≡ length instances = length-map (airs_of instances) (λ (a : A). record { declaration = declaration a; trees = trees a }) ∙ many in
-          subst (λ (B : AirsBatch). IsOutsideRows B.setting (table_at B i) (zeta B.setting B.prover B.statement B.traces B.degree_bits q.lookup_pow_witness q.ood_pow_witness)) (sym same_batch) (d i (omega (arith, l, n)))
+          subst (λ (B : AirsBatch). IsOutsideRows B.setting (table_at B i) (drawn_point B q)) (sym same_batch) (d i (omega (arith, l, n)))
 
       pub accepted_there : (q : AirsProof) → AcceptsThen q → AreMet shared → DrawsOutside shared q → Accepted (tool_setting V2) tool_backend shared.statement q
       unfolding tool_backend

@@ -100,10 +100,13 @@ pub record AreMet (b : AirsBatch) : Type 0 where
   pub bounded : HaveLoadsBelow b.setting.order b.statement.common.lookups (heights_of (masks b.setting) b.degree_bits (length b.statement.tables))
   pub balanced : AreBalanced b.setting same_value (all_traced b.statement b.traces b.degree_bits)
 
--- the point of the proof's openings lies on the rows of no table
+-- the point of the proof's openings
+abbrev pub drawn_point : AirsBatch → AirsProof → QuarticExtension
+drawn_point b q = zeta b.setting b.prover b.statement b.traces b.degree_bits q.lookup_pow_witness q.ood_pow_witness
+
+-- which lies on the rows of no table
 abbrev pub DrawsOutside : AirsBatch → AirsProof → Type 0
-DrawsOutside b q = (i : ℕ) → i < table_count b
-    → IsOutsideRows b.setting (table_at b i) (zeta b.setting b.prover b.statement b.traces b.degree_bits q.lookup_pow_witness q.ood_pow_witness)
+DrawsOutside b q = (i : ℕ) → i < table_count b → IsOutsideRows b.setting (table_at b i) (drawn_point b q)
 
 -- a table has 2^log_rows rows, by the proof's degree bits
 abbrev pub height_check : (table log_rows : ℕ) → AirsProof → Check (BatchVerificationError PlainError)

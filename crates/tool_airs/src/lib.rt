@@ -10,5 +10,5 @@ mod setup;
 mod verify;
 
 pub use heights::check_height;
-pub use prove::prove_airs;
+pub use prove::{prove_airs, prove_airs_with_point};
 pub use verify::verify_airs;

@@ -35,6 +35,7 @@ use Rattle.law_valid.specs.Valid.{AllFit, OwnHold}
 use Rattle.prover_answer.specs.Batch.{table_at, table_count}
 use Rattle.prover_answer.specs.PlainBackend.{baby_bear_prover}
 use Rattle.tool_airs.specs.Airs.{AirsBatch, AirsProof, AreMet, airs_batch, airs_common, same_value, sources_of_airs}
+use Rattle.tool_airs.specs.Laws.Alone.{IsAlone, alone_met, sends_nothing, table_of, whole_alone}
 use Rattle.tool_airs.specs.Laws.Serving.{serves}
 use Rattle.transcript_version.specs.declared.TranscriptVersion.TheVariants.{V2}
 use Rattle.tool_statement.specs.Config.{tool_scheme, tool_setting}
@@ -51,67 +52,35 @@ module _ {A : Type 0} (declaration : A → Declaration BabyBear) (trees : A → 
     (E : (a : A) → IsEquational declaration trees interactions equations a) (L : FieldsLaws baby_bear_field quartic_extension 27 quartic_inv) (instances : List (Instance A BabyBear))
     (shaped : All (IsShaped (tool_setting V2) declaration trees interactions) instances)
     (meets : All (λ i. Meets baby_bear_ring (row_at i.trace) i.public_values (height i.trace) (equations i.air)) instances) where
-  abbrev b : AirsBatch
-  b = airs_batch declaration trees interactions instances
+  abbrev alone : (a : A) → IsAlone declaration interactions a
+  alone a = record { sends_none = (E a).sends_none; no_preprocessed = (E a).no_preprocessed }
 
-  abbrev table_of : Instance A BabyBear → TracedTable BabyBear
-  table_of i = traced_instance (tool_setting V2) declaration trees interactions i
+  abbrev table : Instance A BabyBear → TracedTable BabyBear
+  table i = table_of declaration trees interactions alone i
 
   whole : (i : Instance A BabyBear) → IsWhole (source_of_instance (tool_setting V2) declaration trees interactions i)
-  whole i = record {
-    rows = subst HasWholeRows (sym (E i.air).no_preprocessed) tt;
-    interactions = subst (λ is. All (IsInteraction (declared_shape (declaration i.air))) is) (sym (E i.air).sends_none) (λ k d l. absurd (omega (arith, l)));
-  }
+  whole i = whole_alone declaration trees interactions alone i
 
-  sends_none : (i : Instance A BabyBear) → (table_of i).lookups ≡ []
-  unfolding tool_setting
-  sends_none i =
-      ap (λ (is : List (Interaction BabyBear)). packed_lookups baby_bear_ring 0 (log_rows_of i) 0 (record { declaration = declaration i.air; trees = trees i.air; interactions = is })) (E i.air).sends_none
-
-  -- what holds of each instance's table holds of each table of the batch
-  of_each : (Q : TracedTable BabyBear → Type 0) → ((j : ℕ) (d : Instance A BabyBear) → j < length instances → Q (table_of (get_or instances j d))) → (i : ℕ) → i < table_count b → Q (table_at b i)
-  unfolding tool_setting airs_common
-  of_each Q all i h =
-      each {P = Unit {0}} (tool_setting V2) quartic_inv (serves L) (baby_bear_prover tool_scheme) declaration trees interactions instances (λ j d l. whole (get_or instances j d)) shaped (λ _ _. ⊥) (λ es w k. absurd k)
-      (airs_common declaration trees interactions (airs_of instances) (bits_of 0 instances)) None refl Q all i h
-
-  one_holds : (i : Instance A BabyBear) → IsShaped (tool_setting V2) declaration trees interactions i → Meets baby_bear_ring (row_at i.trace) i.public_values (height i.trace) (equations i.air) → OwnHold (tool_setting V2) (table_of i)
+  one_holds : (i : Instance A BabyBear) → IsShaped (tool_setting V2) declaration trees interactions i → Meets baby_bear_ring (row_at i.trace) i.public_values (height i.trace) (equations i.air) → OwnHold (tool_setting V2) (table i)
   unfolding tool_setting
   one_holds i H m =
       let Z = serves L in
       let T = table_traced (tool_setting V2) quartic_inv Z declaration trees interactions i (whole i) H in
       let Q = table_divided (tool_setting V2) quartic_inv Z declaration trees interactions i (whole i) H in
-      equations_hold (tool_setting V2) quartic_inv Z.fields Z.plain (table_of i) (equations i.air) (E i.air).trees_are (E i.air).plain T Q
+      equations_hold (tool_setting V2) quartic_inv Z.fields Z.plain (table i) (equations i.air) (E i.air).trees_are (E i.air).plain T Q
       (subst (λ n. Meets baby_bear_ring (row_at i.trace) i.public_values n (equations i.air)) T.rows.tall m)
 
-  one_fits : (i : Instance A BabyBear) → IsShaped (tool_setting V2) declaration trees interactions i → AllFit (tool_setting V2) (table_of i)
+  one_fits : (i : Instance A BabyBear) → IsShaped (tool_setting V2) declaration trees interactions i → AllFit (tool_setting V2) (table i)
   one_fits i H =
       let Z = serves L in
       let T = table_traced (tool_setting V2) quartic_inv Z declaration trees interactions i (whole i) H in
       let Q = table_divided (tool_setting V2) quartic_inv Z declaration trees interactions i (whole i) H in
-      equations_fit (tool_setting V2) quartic_inv Z.fields Z.plain (table_of i) (equations i.air) (E i.air).trees_are (E i.air).plain T Q (sends_none i) (E i.air).no_periodic
-
-  no_lookups : (i : ℕ) → i < table_count b → (table_at b i).lookups ≡ []
-  no_lookups = of_each (λ t. t.lookups ≡ []) (λ j d l. sends_none (get_or instances j d))
-
-  none_listed : All (λ ls. ls ≡ []) b.statement.common.lookups
-  unfolding airs_common
-  none_listed i d l =
-      let ls = b.statement.common.lookups in
-      let airs = airs_of instances in
-      let many : length ls ≡ length airs = length-tabulate (length airs) (packed_at baby_bear_ring 0 (sources_of_airs declaration trees interactions airs) (bits_of 0 instances) (replicate (length airs) 0)) in
-      let tables : table_count b ≡ length airs = length-map airs (λ (a : A). record { declaration = declaration a; trees = trees a }) in
-      get_or_default ls i d [] l ∙ no_lookups i (omega (arith, l, many, tables))
+      equations_fit (tool_setting V2) quartic_inv Z.fields Z.plain (table i) (equations i.air) (E i.air).trees_are (E i.air).plain T Q (sends_nothing declaration trees interactions alone i) (E i.air).no_periodic
 
   -- the traces meet the constraints
-  pub equations_met : AreMet b
-  unfolding tool_setting
-  equations_met = record {
-    holds = of_each (OwnHold (tool_setting V2)) (λ j d l. one_holds (get_or instances j d) (shaped j d l) (meets j d l));
-    fits = of_each (AllFit (tool_setting V2)) (λ j d l. one_fits (get_or instances j d) (shaped j d l));
-    bounded = alone_bounded (tool_setting V2).order b.statement.common.lookups _ none_listed;
-    balanced = alone_balanced (tool_setting V2) same_value (all_traced b.statement b.traces b.degree_bits) (all_tabulate (λ (t : TracedTable BabyBear). t.lookups ≡ []) (table_count b) (table_at b) no_lookups);
-  }
+  pub equations_met : AreMet (airs_batch declaration trees interactions instances)
+  equations_met =
+      alone_met declaration trees interactions alone L instances shaped (λ j d l. one_holds (get_or instances j d) (shaped j d l) (meets j d l)) (λ j d l. one_fits (get_or instances j d) (shaped j d l))
 
 -- where the tables of an accepted proof hold, the rows of such a table meet its equations
 pub rows_meet : FieldsLaws baby_bear_field quartic_extension 27 quartic_inv → (qs : List (Equation BabyBear)) → All IsPlainEquation qs

@@ -1,0 +1,4 @@
+-- What is proved of the definitions, by subject.
+pub mod Texts
+pub mod Sizes
+pub mod Statuses

@@ -1,0 +1,4 @@
+pub mod Texts
+pub mod Seen
+pub mod Answer
+pub mod Laws
