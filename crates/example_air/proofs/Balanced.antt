@@ -1,5 +1,5 @@
 -- What the tables of a list of bytes send balances: each byte is sent once for each row that has it, and as often back.
-use Rattle.std.proofs.Common.{◌≡◌, ℕ, zero, suc, ◌+◌, ◌<◌, ◌==◌, Bool, true, false, cond, List, [], ◌∷◌, ◌++◌, length, get_or, refl, sym, ◌∙◌, ap, arith}
+use Rattle.std.proofs.Common.{◌≡◌, ℕ, zero, suc, ◌+◌, ◌<◌, ◌≤◌, ◌==◌, Bool, true, false, cond, List, [], ◌∷◌, ◌++◌, length, get_or, refl, sym, ◌∙◌, ap, arith}
 use Rattle.std.specs.Prelude.{◌&&◌, All, nat_eq}
 use Rattle.std.specs.Cmp.Lexicographic.{pointwise}
 use Rattle.std.proofs.lemmas.Bool.{eq-eqb, ne_eqb}
@@ -99,6 +99,12 @@ sender_of a trace bus rows = record { lookups = lookups_of (example_interactions
 abbrev is_sent : (number bus : ℕ) → (tuple : List BabyBear) → ℕ → Bool
 is_sent number bus tuple byte = nat_eq number bus && pointwise same_value (of_nat r byte ∷ []) tuple
 
+-- the cell of a table of one column
+column_cell : (n : ℕ) (f : ℕ → BabyBear) (i : ℕ) → i < n → get_or (row_at (record { values = tabulate n f; width = 1 }) i) 0 r.zero ≡ f i
+column_cell n f i h =
+    let long = length-tabulate {A = BabyBear} n f in
+    ap (λ row. get_or row 0 r.zero) (column_row {A = BabyBear} (tabulate n f) i r.zero (omega (arith, h, long))) ∙ get_or-tabulate {A = BabyBear} n f i r.zero h
+
 module _ (bytes : List ℕ) (number : ℕ → ℕ) (bus : ℕ) (tuple : List BabyBear) where
   abbrev sent : ℕ → Bool
   sent = is_sent (number 0) bus tuple
@@ -123,28 +129,24 @@ module _ (bytes : List ℕ) (number : ℕ → ℕ) (bus : ℕ) (tuple : List Bab
 
   byte_there : (i : ℕ) → i < 256 → get_or (row_at (record { values = all_bytes r; width = 1 }) i) 0 r.zero ≡ of_nat r i
   unfolding all_bytes
-  byte_there i h =
-      let long = length-tabulate {A = BabyBear} 256 (of_nat r) in
-      ap (λ row. get_or row 0 r.zero) (column_row {A = BabyBear} (tabulate 256 (of_nat r)) i r.zero (omega (arith, h, long))) ∙ get_or-tabulate {A = BabyBear} 256 (of_nat r) i r.zero h
+  byte_there i h = column_cell 256 (of_nat r) i h
 
   times_there : (i : ℕ) → i < 256 → get_or (row_at (bytes_rows r bytes) i) 0 r.zero ≡ of_nat r (byte_times bytes i)
   unfolding bytes_rows
-  times_there i h =
-      let times : ℕ → BabyBear = λ byte. of_nat r (byte_times bytes byte) in
-      let long = length-tabulate {A = BabyBear} 256 times in
-      ap (λ row. get_or row 0 r.zero) (column_row {A = BabyBear} (tabulate 256 times) i r.zero (omega (arith, h, long))) ∙ get_or-tabulate {A = BabyBear} 256 times i r.zero h
+  times_there i h = column_cell 256 (λ byte. of_nat r (byte_times bytes byte)) i h
 
   -- the table of all bytes sends each as often as minus its count
-  bytes_net : net r same_value (table_messages (sender_of Bytes (bytes_rows r bytes) number 256)) bus tuple ≡ total r 256 (minus_times r baby_bear_laws sent bytes)
-  bytes_net =
-      let s = sender_of Bytes (bytes_rows r bytes) number 256 in
+  bytes_net : (n : ℕ) → n ≤ 256 → net r same_value (table_messages (sender_of Bytes (bytes_rows r bytes) number n)) bus tuple ≡ total r n (minus_times r baby_bear_laws sent bytes)
+  bytes_net n few =
+      let s = sender_of Bytes (bytes_rows r bytes) number n in
       table_net r baby_bear_laws same_value bus tuple s
-      ∙ total_same r baby_bear_laws 256 (λ i. net r same_value (messages_from (s.value i) number 0 s.lookups) bus tuple) (minus_times r baby_bear_laws sent bytes)
+      ∙ total_same r baby_bear_laws n (λ i. net r same_value (messages_from (s.value i) number 0 s.lookups) bus tuple) (minus_times r baby_bear_laws sent bytes)
       (λ i h.
+      let low : i < 256 = omega (arith, h, few) in
       let byte = get_or (row_at (record { values = all_bytes r; width = 1 }) i) 0 r.zero in
       let times = get_or (row_at (bytes_rows r bytes) i) 0 r.zero in
       baby_bear_laws.add_zero (cond (nat_eq (number 0) bus && pointwise same_value (byte ∷ []) tuple) (sub r r.zero times) r.zero)
-      ∙ (λ j. cond (nat_eq (number 0) bus && pointwise same_value (byte_there i h j ∷ []) tuple) (sub r r.zero (times_there i h j)) r.zero))
+      ∙ (λ j. cond (nat_eq (number 0) bus && pointwise same_value (byte_there i low j ∷ []) tuple) (sub r r.zero (times_there i low j)) r.zero))
 
 -- so both together leave nothing, where their lookups are on one bus
 pub both_net : (bytes : List ℕ) → All (λ byte. byte < 256) bytes → (first second : ℕ → ℕ) → first 0 ≡ second 0 → (m n : ℕ) → m ≡ length bytes → n ≡ 256 → (bus : ℕ) (tuple : List BabyBear)
@@ -153,9 +155,7 @@ both_net bytes low first second one m n rows all bus tuple =
     let xs = table_messages (sender_of Bits (bits_rows r bytes) first m) in
     let ys = table_messages (sender_of Bytes (bytes_rows r bytes) second n) in
     let once_each = ap (λ k. net r same_value (table_messages (sender_of Bits (bits_rows r bytes) first k)) bus tuple) rows ∙ bits_net bytes first bus tuple in
-    let minus_each =
-    ap (λ k. net r same_value (table_messages (sender_of Bytes (bytes_rows r bytes) second k)) bus tuple) all
-    ∙ (bytes_net bytes second bus tuple ∙ ap (λ k. total r 256 (minus_times r baby_bear_laws (is_sent k bus tuple) bytes)) (sym one)) in
+    let minus_each = bytes_net bytes second bus tuple n (omega (arith, all)) ∙ ap (λ k. total r n (minus_times r baby_bear_laws (is_sent k bus tuple) bytes)) (sym one) in
     net_append r baby_bear_laws same_value bus tuple xs (ys ++ [])
     ∙ ((λ i. r.add (once_each i) ((net_append r baby_bear_laws same_value bus tuple ys [] ∙ (baby_bear_laws.add_zero (net r same_value ys bus tuple) ∙ minus_each)) i))
-    ∙ as_often r baby_bear_laws (is_sent (first 0) bus tuple) 256 bytes low)
+    ∙ as_often r baby_bear_laws (is_sent (first 0) bus tuple) n bytes (λ i d l. let h = low i d l in omega (arith, h, all)))

@@ -1,5 +1,5 @@
 mod Balanced
-mod Met
+mod Meeting
 mod Pushed
 mod Stated
 mod Tables

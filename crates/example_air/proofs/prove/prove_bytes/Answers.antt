@@ -1,7 +1,7 @@
 use Rattle.std.proofs.Common.{ℕ, ◌<◌, arith}
 use Rattle.std.proofs.lemmas.List.Elements.{All-from_get_or}
 use Rattle.example_air.specs.Laws.Sizes.{are_tables}
-use Rattle.example_air.proofs.Met.{bytes_pass}
+use Rattle.example_air.proofs.Meeting.{bytes_pass}
 use Rattle.example_air.proofs.prove.prove_bytes.Goals as goal
 
 pub prove_tables-requires : goal.prove_tables-requires
