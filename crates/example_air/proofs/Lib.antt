@@ -1,5 +1,5 @@
+mod Balanced
+mod Meeting
 mod Pushed
-mod Shared
 mod Stated
-mod Traced
-mod Proved
+mod Tables

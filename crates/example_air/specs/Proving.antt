@@ -1,40 +1,34 @@
 -- The two tables as a batch that is proved.
 use Rattle.std.specs.Int.{IsPowerOfTwo}
-use Rattle.std.specs.Prelude.{◌≡◌, ◌≤◌, List, [], ◌∷◌, Option}
-use Rattle.p3_field.specs.Domain.{CosetData}
+use Rattle.std.specs.Prelude.{◌≡◌, ℕ, ◌≤◌, List, [], ◌∷◌}
+use Rattle.p3_field.specs.BabyBear.{baby_bear_ring}
 use Rattle.p3_field.specs.declared.baby_bear.BabyBear.{BabyBear}
-use Rattle.p3_field.specs.declared.quartic.QuarticExtension.{QuarticExtension}
 use Rattle.p3_matrix.specs.Matrix.{Rows, height}
-use Rattle.p3_challenger.specs.declared.sha256_challenger.Sha256Challenger.{Sha256Challenger}
-use Rattle.plain_pcs.specs.Scheme.{PlainCommitmentData}
 use Rattle.plain_pcs.specs.declared.error.PlainProverError.{PlainProverError}
-use Rattle.batch_setup.specs.Setup.{log_of}
-use Rattle.batch_statement.specs.Statement.{PreprocessedTracesData}
+use Rattle.batch_setup.specs.Setup.{Instance}
 use Rattle.law_honest.specs.HonestProof.{IsBuilt}
-use Rattle.prover_answer.specs.Batch.{Batch, HasProverData}
-use Rattle.prover_answer.specs.PlainBackend.{baby_bear_prover, plain_commits, plain_prover_backend}
+use Rattle.prover_answer.specs.PlainBackend.{plain_prover_backend}
 use Rattle.prover_answer.specs.Telling.{Tells}
 use Rattle.prover_answer.specs.declared.error.ProvingError.{ProvingError}
-use Rattle.transcript_version.specs.declared.TranscriptVersion.TheVariants.{V2}
-use Rattle.tool_statement.specs.Config.{tool_scheme, tool_setting}
-use Rattle.example_air.specs.Statement.{BytesProof, bytes_column, example_statement}
-
--- the commitment to the column of all bytes with the prover data that belongs to it
-abbrev pub IsBytesProverData : Option (PreprocessedTracesData (PlainCommitmentData BabyBear)) → Option (List (CosetData BabyBear × Rows BabyBear)) → Type 0
-IsBytesProverData shared prover_data = HasProverData (plain_commits tool_scheme) (bytes_column ∷ []) shared prover_data
+use Rattle.tool_airs.specs.Airs.{AirsBatch, AirsProof, airs_batch}
+use Rattle.tool_statement.specs.Config.{tool_scheme}
+use Rattle.example_air.specs.Bytes.{bits_rows, bytes_rows, example_declaration, example_interactions, example_trees}
+use Rattle.example_air.specs.declared.air.ExampleAir.{ExampleAir}
+use Rattle.example_air.specs.declared.air.ExampleAir.TheVariants.{Bits, Bytes}
 
 -- the two tables with these traces, over the program's configuration
-abbrev pub tables_batch : (bits times : Rows BabyBear) → Batch Sha256Challenger BabyBear QuarticExtension (PlainCommitmentData BabyBear)
-tables_batch bits times = record {
-  setting = (tool_setting V2);
-  prover = baby_bear_prover tool_scheme;
-  statement = example_statement;
-  traces = bits ∷ times ∷ [];
-  degree_bits = log_of (height bits) ∷ 8 ∷ [];
-}
+abbrev pub tables_instances : (bits times : Rows BabyBear) → List (Instance ExampleAir BabyBear)
+tables_instances bits times = record { air = Bits; trace = bits; public_values = [] } ∷ record { air = Bytes; trace = times; public_values = [] } ∷ []
+
+abbrev pub tables_batch : (bits times : Rows BabyBear) → AirsBatch
+tables_batch bits times = airs_batch (example_declaration baby_bear_ring) (example_trees baby_bear_ring) (example_interactions baby_bear_ring) (tables_instances bits times)
+
+-- and with the traces of these bytes
+abbrev pub bytes_batch : (bytes : List ℕ) → AirsBatch
+bytes_batch bytes = tables_batch (bits_rows baby_bear_ring bytes) (bytes_rows baby_bear_ring bytes)
 
 -- the proof is the honest one of these traces
-abbrev pub IsTablesProof : (bits times : Rows BabyBear) → BytesProof → Type 0
+abbrev pub IsTablesProof : (bits times : Rows BabyBear) → AirsProof → Type 0
 IsTablesProof bits times q = let b = tables_batch bits times in IsBuilt b.setting b.prover b.statement b.traces b.degree_bits q
 
 -- there is none, for this reason

@@ -8,7 +8,6 @@
 mod air;
 mod meanings;
 mod prove;
-mod statement;
 mod traces;
 mod verify;
 

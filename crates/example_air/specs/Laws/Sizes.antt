@@ -17,7 +17,7 @@ unfolding bits_row
 row-long r byte = refl
 
 -- the traces of a list of bytes are such tables
-bits_high : (bytes : List ℕ) → height (bits_rows baby_bear_ring bytes) ≡ length bytes
+pub bits_high : (bytes : List ℕ) → height (bits_rows baby_bear_ring bytes) ≡ length bytes
 bits_high bytes = pieces_height (bits_row baby_bear_ring) 9 (row-long baby_bear_ring) (omega arith) bytes
 
 bytes_high : (bytes : List ℕ) → height (bytes_rows baby_bear_ring bytes) ≡ 256

@@ -4,7 +4,8 @@ use Rattle.std.specs.Prelude.{All}
 use Rattle.std.proofs.Math.ListN.{get_or-map}
 use Rattle.std.proofs.Math.Nat.{mod-eq_of_lt}
 use Rattle.std.proofs.lemmas.Bool.{cases_eq}
-use Rattle.std.proofs.lemmas.List.{append-nil, length-map, get_or-map as get_or-map-within}
+use Rattle.std.proofs.lemmas.List.{length-map, get_or-map as get_or-map-within}
+use Rattle.std.proofs.lemmas.List.Elements.{All-nil}
 use Rattle.std.proofs.lemmas.Nat.{pow_pos}
 use Rattle.p3_field.specs.Domain.{point}
 use Rattle.p3_field.specs.Field.{TwoAdic, Extension}
@@ -15,28 +16,27 @@ use Rattle.p3_field.specs.Poly.{eval_poly, eval_poly_in}
 use Rattle.p3_field.specs.Ring.{sub}
 use Rattle.p3_matrix.specs.Matrix.{row_at}
 use Rattle.air_core.specs.CellValues.{cell_in, ext_cell_in}
-use Rattle.air_core.specs.Degree.{full_degree}
+use Rattle.p3_lookup.specs.Lookup.{IsLookup}
 use Rattle.air_core.specs.declared.cells.Cell.{Cell}
 use Rattle.air_core.specs.declared.cells.Cell.TheVariants.{Main, Preprocessed, Periodic, Public, FirstRow, LastRow, Transition}
 use Rattle.air_core.specs.Laws.Maps.{hom_keeps, reads_more, value_along}
 use Rattle.air_core.specs.Maps.{reading_over}
-use Rattle.air_core.specs.Shape.{ReadsIn}
+use Rattle.air_core.specs.Shape.{ReadsIn, declared_shape}
 use Rattle.air_core.specs.Tree.{Tree, constant, cell, ext_cell, sum, difference, product, eval_tree}
 use Rattle.air_equations.specs.Equation.{Equation, equal_when, equation_trees}
 use Rattle.air_equations.specs.Meets.{IsOn, IsOwn, IsPlainEquation, IsSelector, Meets, own_value, value_here}
-use Rattle.batch_config.specs.Setting.{Setting, masks}
-use Rattle.batch_constraints.specs.Fitting.{FitsChunks, cell_transitions, transition_factors}
-use Rattle.batch_constraints.specs.Laws.Fits.{table_fits_chunks}
-use Rattle.batch_constraints.specs.Sizing.{constraint_degree, log_chunks, periods_of, with_hint}
-use Rattle.batch_constraints.specs.BatchTrees.{table_trees}
+use Rattle.batch_config.specs.Setting.{Setting}
+use Rattle.batch_constraints.specs.Fitting.{cell_transitions, transition_factors}
+use Rattle.batch_constraints.specs.BatchTrees.{AreLookupsOf}
 use Rattle.law_committed.specs.Committed.{CommittedTable, Holds, columns_at, next_point, reading, row_point, row_count_of, trace_domain, committed_values_at}
 use Rattle.law_committed.specs.Fields.{FieldsLaws}
 use Rattle.law_committed.specs.Laws.Rows.{reads_rows}
 use Rattle.law_committed.specs.Laws.Selectors.{first_elsewhere, first_here, last_elsewhere, last_here, point_after, transition_before, transition_last}
 use Rattle.law_committed.specs.Laws.Traces.{traces_committed}
 use Rattle.law_committed.specs.BaseRows.{main_row}
-use Rattle.law_valid.specs.Traced.{TracedTable, committed_alone, constraints, declared, log_parts, log_rows, no_rows, traces_of}
+use Rattle.law_valid.specs.Traced.{TracedTable, committed_alone, declared, log_rows, no_rows, traces_of}
 use Rattle.law_valid.specs.Valid.{AllFit, HasQuotientDomain, IsTraced, OwnHold}
+use Rattle.law_joining.specs.Laws.Fits.{HasFewFactors, few_factors_fit, no_factors}
 
 module _ {F E : Type 0} (f : TwoAdic F) (e : Extension F E) (top : ℕ) (inverse : E → E) (L : FieldsLaws f e top inverse) (t : CommittedTable F E) (fits : t.log_height ≤ top) where
   abbrev n : ℕ
@@ -150,20 +150,18 @@ module _ {F E : Type 0} (f : TwoAdic F) (e : Extension F E) (top : ℕ) (inverse
         let room : k < length all = let m = length-map all tree_of in omega (arith, l, m) in
         ap (eval_tree (reading f e t (row_point f e t i))) (get_or-map-within tree_of all k d tree room) ∙ zero_here i h (get_or all k d) (plain k d room) (meets i h k d room)
 
--- an expression over own cells has no transition factor
-no_factors : {F : Type 0} (tree : Tree F) → ReadsIn IsOwn (λ _. ⊥) tree → transition_factors tree ≡ 0
-no_factors (constant x) h = refl
-no_factors (cell (Main next column)) h = refl
-no_factors (cell (Public k)) h = refl
-no_factors (cell (Preprocessed next column)) h = absurd h
-no_factors (cell (Periodic k)) h = absurd h
-no_factors (cell FirstRow) h = absurd h
-no_factors (cell LastRow) h = absurd h
-no_factors (cell Transition) h = absurd h
-no_factors (ext_cell c) h = absurd h
-no_factors (sum x y) h = let a = no_factors x h.0 in let b = no_factors y h.1 in omega (arith, a, b)
-no_factors (difference x y) h = let a = no_factors x h.0 in let b = no_factors y h.1 in omega (arith, a, b)
-no_factors (product x y) h = let a = no_factors x h.0 in let b = no_factors y h.1 in omega (arith, a, b)
+-- an own cell is no selector
+own_none : (c : Cell) → IsOwn c → cell_transitions c ≡ 0
+own_none (Main next column) h = omega arith
+own_none (Public k) h = omega arith
+own_none (Preprocessed next column) h = absurd h
+own_none (Periodic k) h = absurd h
+own_none FirstRow h = absurd h
+own_none LastRow h = absurd h
+own_none Transition h = absurd h
+
+own_factors : {F : Type 0} (tree : Tree F) → ReadsIn IsOwn (λ _. ⊥) tree → transition_factors tree ≡ 0
+own_factors tree h = no_factors tree (reads_more IsOwn (λ x. cell_transitions x ≡ 0) (λ _. ⊥) (λ _. Unit {0}) own_none (λ x w. tt) tree h)
 
 one_factor : (c : Cell) → cell_transitions c ≤ 1
 one_factor (Main next column) = omega arith
@@ -174,10 +172,10 @@ one_factor FirstRow = omega arith
 one_factor LastRow = omega arith
 one_factor Transition = omega arith
 
-few_factors : {F : Type 0} (q : Equation F) → IsPlainEquation q → transition_factors (equal_when q.selector q.left q.right) < 2
+few_factors : {F : Type 0} (q : Equation F) → IsPlainEquation q → HasFewFactors (equal_when q.selector q.left q.right)
 few_factors q plain =
-    let a = no_factors q.left plain.1.0 in
-    let b = no_factors q.right plain.1.1 in
+    let a = own_factors q.left plain.1.0 in
+    let b = own_factors q.right plain.1.1 in
     let s = one_factor q.selector in
     omega (arith, a, b, s)
 
@@ -200,20 +198,10 @@ module _ {S F E C : Type 0} (c : Setting S F E C) (inverse : E → E) (L : Field
   -- and without lookups and periodic columns all constraints fit
   pub equations_fit : t.lookups ≡ [] → (declared t).periodic ≡ [] → AllFit c t
   equations_fit none whole =
-      let d = declared t in
-      let n = 2 ^ log_rows c t in
-      let unmasked : masks c ≡ 0 = ap (λ z. cond z 1 0) plain in
-      let trees_are : constraints c t ≡ t.table.trees = ap (λ ls. table_trees c.field.ring t.table.trees ls) none ∙ append-nil t.table.trees in
-      let degree = with_hint d (constraint_degree n (periods_of d) (constraints c t)) in
-      let parts : log_parts c t ≡ log_chunks (masks c) degree = omega (arith, unmasked) in
-      λ i tree l.
-      table_fits_chunks d (constraints c t) n (masks c) (log_parts c t) whole parts n (pow_pos (log_rows c t)) i tree l
-      (let few : transition_factors (get_or (constraints c t) i tree) < 2 = factors (constraints c t) (trees_are ∙ are) i tree l in omega (arith, few))
+      few_factors_fit c plain t (subst (λ ts. All HasFewFactors ts) (sym are) (of_equations qs simple))
+      (subst (AreLookupsOf (declared t)) (sym none) (All-nil (IsLookup (declared_shape (declared t))))) whole
     where
-      of_equations : (xs : List (Equation F)) → All IsPlainEquation xs → (i : ℕ) (tree : Tree F) → i < length (equation_trees xs) → transition_factors (get_or (equation_trees xs) i tree) < 2
+      of_equations : (xs : List (Equation F)) → All IsPlainEquation xs → All HasFewFactors (equation_trees xs)
       of_equations [] own i tree l = absurd (omega (arith, l))
       of_equations (q ∷ xs) own zero tree l = few_factors q (own zero q (omega arith))
       of_equations (q ∷ xs) own (suc i) tree l = of_equations xs (λ k d h. own (suc k) d (omega (arith, h))) i tree (omega (arith, l))
-
-      factors : (trees : List (Tree F)) → trees ≡ equation_trees qs → (i : ℕ) (tree : Tree F) → i < length trees → transition_factors (get_or trees i tree) < 2
-      factors trees e i tree l = subst (λ ts. i < length ts → transition_factors (get_or ts i tree) < 2) (sym e) (of_equations qs simple i tree) l

@@ -1,29 +1,28 @@
-use Rattle.std.proofs.Common.{sym, ◌∙◌}
-use Rattle.std.proofs.lemmas.Result.{IfOk-weaker}
-use Rattle.example_air.proofs.Proved.{few_rows, kept_there, proof_there, refusal_there, traced_there}
+use Rattle.std.specs.Prelude.{IfErr, IfOk}
+use Rattle.law_honest.specs.HonestProof.{IsBuilt}
+use Rattle.prover_answer.specs.PlainBackend.{plain_prover_backend}
+use Rattle.prover_answer.specs.Telling.{Tells}
+use Rattle.verifier_batch.specs.BatchChecks.{Accepted}
+use Rattle.tool_airs.specs.Airs.{AirsBatch, AreMet, DrawsOutside}
+use Rattle.transcript_version.specs.declared.TranscriptVersion.TheVariants.{V2}
+use Rattle.tool_statement.specs.Config.{tool_backend, tool_scheme, tool_setting}
+use Rattle.example_air.proofs.Tables.{all_shaped, both_ok, carried, passes}
 use Rattle.example_air.proofs.prove.prove_tables.Goals as goal
 
-pub prover_data-requires-clause-rows : goal.prover_data-requires-clause-rows
-prover_data-requires-clause-rows c = few_rows c.args.bits.now c.args.times.now c.requires c.log2_strict_usize.result (sym c.height.ensures.result ∙ c.log2_strict_usize.ensures)
-
-pub prove_batch-requires-clause-traced : goal.prove_batch-requires-clause-traced
-prove_batch-requires-clause-traced c =
-    traced_there c.args.bits.now c.args.times.now c.height.ensures.fills c.requires _ c.tool_config-config.result.pcs _ _ c.in_ok-data.data.common c.tool_config-config.ensures.setting c.tool_config-config.ensures.scheme
-    c.new.ensures.items c.new-2.ensures.items c.in_ok-data.ensures.common c.in_ok-data.ensures.formed
-
-pub prove_batch-requires-clause-prover_data : goal.prove_batch-requires-clause-prover_data
-prove_batch-requires-clause-prover_data c =
-    kept_there c.args.bits.now c.args.times.now c.height.ensures.fills c.requires _ c.tool_config-config.result.pcs _ _ c.in_ok-data.data.common c.tool_config-config.ensures.setting c.tool_config-config.ensures.scheme
-    c.new.ensures.items c.new-2.ensures.items c.in_ok-data.ensures.common _ c.in_ok-data.ensures.prover_data
+pub prove_airs-requires-clause-shaped : goal.prove_airs-requires-clause-shaped
+prove_airs-requires-clause-shaped c = all_shaped c.args.bits.now c.args.times.now c.requires c.height.ensures.fills _ _ c.new.ensures.items c.new-2.ensures.items
 
 pub returns-clause-proved : goal.returns-clause-proved
 returns-clause-proved c =
-    IfOk-weaker _ _ _
-    (λ proof P. proof_there c.args.bits.now c.args.times.now c.height.ensures.fills c.requires _ c.tool_config-config.result.pcs _ _ c.in_ok-data.data.common c.tool_config-config.ensures.setting
-    c.tool_config-config.ensures.scheme c.new.ensures.items c.new-2.ensures.items c.in_ok-data.ensures.common proof P)
-    c.prove_batch.ensures.proved
+    carried c.args.bits.now c.args.times.now _ _ c.new.ensures.items c.new-2.ensures.items (λ b. IfOk c.prove_airs.result (IsBuilt b.setting b.prover b.statement b.traces b.degree_bits)) c.prove_airs.ensures.proved
 
 pub returns-clause-refusal : goal.returns-clause-refusal
 returns-clause-refusal c =
-    refusal_there c.args.bits.now c.args.times.now c.height.ensures.fills c.requires _ c.tool_config-config.result.pcs _ _ c.in_ok-data.data.common c.tool_config-config.ensures.setting c.tool_config-config.ensures.scheme
-    c.new.ensures.items c.new-2.ensures.items c.in_ok-data.ensures.common _ c.prove_batch.ensures.verdict
+    carried c.args.bits.now c.args.times.now _ _ c.new.ensures.items c.new-2.ensures.items (λ b. IfErr c.prove_airs.result (Tells (plain_prover_backend tool_scheme) b)) c.prove_airs.ensures.refusal
+
+pub returns-clause-accepted : goal.returns-clause-accepted
+returns-clause-accepted c =
+    both_ok c.prove_airs.result _ _ _ (λ q built accepted met outside. passes c.args.bits.now c.args.times.now c.requires q built (accepted met outside))
+    (carried c.args.bits.now c.args.times.now _ _ c.new.ensures.items c.new-2.ensures.items (λ b. IfOk c.prove_airs.result (IsBuilt b.setting b.prover b.statement b.traces b.degree_bits)) c.prove_airs.ensures.proved)
+    (carried c.args.bits.now c.args.times.now _ _ c.new.ensures.items c.new-2.ensures.items
+    (λ b. IfOk c.prove_airs.result (λ q. AreMet b → DrawsOutside b q → Accepted (tool_setting V2) tool_backend b.statement q)) c.prove_airs.ensures.accepted)
