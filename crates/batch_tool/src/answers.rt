@@ -48,4 +48,3 @@ pub(crate) fn balance_answer(alloc: Global, bytes: Vec<u8>) -> Mem<Answer>
         Err(error) => bad_input(alloc, error),
     }
 }
-
