@@ -23,10 +23,10 @@ use Rattle.tool_demo.specs.DemoAnswer.{IsDemoAnswer}
 use Rattle.tool_prover.specs.JobAnswer.{IsJobAnswer, IsRefusedText}
 use Rattle.batch_tool.specs.Answer.{IsAnswer, IsCommandAnswer}
 use Rattle.batch_tool.specs.declared.command.Command.{Command}
-use Rattle.batch_tool.specs.declared.command.Command.TheVariants.{Prove, Verify, Demo}
+use Rattle.batch_tool.specs.declared.command.Command.TheVariants.{Prove, Verify, Balance, Demo}
 use Rattle.law_tool_refusals.specs.Lines.{IsPossibleLine}
 use Rattle.law_tool_refusals.specs.Possible.{MayCome}
-use Rattle.law_tool_refusals.proofs.Files.{line_may_come}
+use Rattle.law_tool_refusals.proofs.Files.{balance_may_come, line_may_come}
 
 -- a text begins with another
 abbrev begins : List ℕ → List ℕ → Bool
@@ -186,6 +186,7 @@ command_line : (command : Command) (bytes text : List ℕ) → IsCommandAnswer c
 unfolding IsDemoAnswer IsJobAnswer
 command_line (Prove version) bytes text a = prove_line version a.0 text a.3
 command_line Verify bytes text a = possible_line text (line_may_come bytes text a)
+command_line Balance bytes text a = possible_line text (balance_may_come bytes text a)
 command_line (Demo number) bytes text a = prove_line V2 (demo_job number) text a
 
 pub never_answered : (words : List (List ℕ)) (bytes : List ℕ) (e : BatchVerificationError PlainError) → (MayCome e → ⊥) → IsAnswer words bytes Refused (fault_text e) → ⊥

@@ -36,8 +36,8 @@ module _ (version : TranscriptVersion) (tables : List TableStatement) (p : ToolP
       → (s t : Status) (x y : List ℕ) → IsFileBalance version tables p s x → IsFileBalance version tables p t y → SameAnswer s t x y
   unfolding IsFileAnswer IsFileBalance
   same_balance one Done Done x y a b = (refl, a.1.told ∙ sym b.1.told)
-  same_balance one Done Refused x y a b = let q : Done ≡ Refused = (one Done Refused (accepted_text tables p) y (a.0, (a.1.meant, refl)) b).0 in absurd (cc q)
-  same_balance one Refused Done x y a b = let q : Refused ≡ Done = (one Refused Done x (accepted_text tables p) a (b.0, (b.1.meant, refl))).0 in absurd (cc q)
+  same_balance one Done Refused x y a b = let q : Done ≡ Refused = (one Done Refused (accepted_text tables p) y (a.0, a.1.meant, refl) b).0 in absurd (cc q)
+  same_balance one Refused Done x y a b = let q : Refused ≡ Done = (one Refused Done x (accepted_text tables p) a (b.0, b.1.meant, refl)).0 in absurd (cc q)
   same_balance one Refused Refused x y a b = one Refused Refused x y a b
   same_balance one Done Usage x y a b = absurd b
   same_balance one Done BadInput x y a b = absurd b

@@ -3,3 +3,4 @@ pub mod Left
 pub mod Lines
 pub mod Lookups
 pub mod Sent
+pub mod Table

@@ -110,7 +110,7 @@ lookups_fit (Take k) m e =
     only (IsLookup s) _ (record {
       counted = refl;
       reads = record {
-        tuples = only (All (ReadsSendable s)) _ (only (ReadsSendable s) (cell (Main false 0)) ((omega (arith, e), λ n. tt), tt));
+        tuples = only (All (ReadsSendable s)) _ (only (ReadsSendable s) (cell (Main false 0)) ((omega (arith, e), λ n. refl), tt));
         counts = only (λ (c : Count (Tree BabyBear)). ReadsSendable s c.value) _ tt;
       };
     })
@@ -119,7 +119,7 @@ lookups_fit (Give k) m e =
     only (IsLookup s) _ (record {
       counted = refl;
       reads = record {
-        tuples = only (All (ReadsSendable s)) _ (only (ReadsSendable s) (cell (Main false 0)) ((omega (arith, e), λ n. tt), tt));
-        counts = only (λ (c : Count (Tree BabyBear)). ReadsSendable s c.value) _ (tt, ((omega (arith, e), λ n. tt), tt));
+        tuples = only (All (ReadsSendable s)) _ (only (ReadsSendable s) (cell (Main false 0)) ((omega (arith, e), λ n. refl), tt));
+        counts = only (λ (c : Count (Tree BabyBear)). ReadsSendable s c.value) _ (tt, ((omega (arith, e), λ n. refl), tt));
       };
     })
