@@ -1,0 +1,3 @@
+-- What is proved of the definitions, by subject.
+pub mod Forms
+pub mod More

@@ -1,0 +1,4 @@
+pub mod Laws
+pub mod Objects
+pub mod Readings
+pub mod Trees
