@@ -55,14 +55,6 @@ word_test false = None
 abbrev pub word_reading : List ℕ → Data → Option (Unit {0})
 word_reading word d = option_and_then (λ s. word_test (bytes_eq s word)) (as_str d)
 
--- a value of the first form, or else of the second
-abbrev pub first_of : {A : Type 0} → Option A → Option A → Option A
-first_of None o = o
-first_of (Some x) o = Some x
-
-abbrev pub or_reading : {A : Type 0} → (Data → Option A) → (Data → Option A) → Data → Option A
-or_reading first second d = first_of (first d) (second d)
-
 -- the members of an object, one after the other: a value, and the members after it
 abbrev pub MembersReading : Type 0 → Type 0
 MembersReading A = Members → Option (A × Members)

@@ -3,6 +3,7 @@
 ghost use Rattle.std.specs.Prelude.{◌≡◌, ◌≢◌, ◌≤◌, Some, None, Err, IfErr, IfOk, OnOk};
 ghost use Rattle.json_forms.specs.Readings.{member_reading, number_reading, word_reading};
 ghost use Rattle.json_forms.specs.declared.trees.TreeError.TheVariants.{NoTree};
+ghost use Rattle.json_forms.specs.Trees.{number_tree};
 ghost use Rattle.serde_json.specs.Data.{object, no_members, put, string};
 ghost use Rattle.serde_json.specs.Find.{as_object};
 ghost use Rattle.serde_json.specs.View.{view};
@@ -138,6 +139,14 @@ impl ObjectWriter {
     {
         let tree = T::write(alloc, value)?;
         serde_json::put(&mut self.members, alloc, key, tree)?;
+        Ok(())
+    }
+
+    /// Gives the object the member with this key, which is a number. The only error is running out of memory.
+    pub fn write_number(&mut self, alloc: Global, key: &str, number: u64) -> Mem<()>
+        ensures { OnOk result (members_made self.new ≡ put key.now (number_tree number) (members_made self.old)) }
+    {
+        serde_json::put(&mut self.members, alloc, key, Value::from(number))?;
         Ok(())
     }
 

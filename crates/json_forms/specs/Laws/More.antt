@@ -1,12 +1,12 @@
--- The forms of elements of the extension, of values that pass a test, of words, and of values of several forms.
-use Rattle.std.specs.Prelude.{◌≡◌, ◌⊎◌, ℕ, List, [], ◌∷◌, length, Option, None, Some, bytes_eq, Bool, true, false, if◌then◌else◌, refl}
-use Rattle.std.proofs.Common.{sym, ap, subst, ◌∙◌, arith, inl, inr}
+-- The forms of elements of the extension, of values that pass a test, and of words.
+use Rattle.std.specs.Prelude.{◌≡◌, ℕ, List, [], ◌∷◌, length, Option, None, Some, bytes_eq, Bool, true, false, if◌then◌else◌, refl}
+use Rattle.std.proofs.Common.{sym, ap, subst, ◌∙◌, arith}
 use Rattle.std.proofs.lemmas.Slice.Eq.{bytes_eq-Decides}
 use Rattle.tool_lines.specs.Texts.{Unlimited, ListWithin}
 use Rattle.p3_field.specs.declared.baby_bear.BabyBear.{BabyBear}
 use Rattle.serde_json.specs.Data.{Data, null, boolean, number, string, array, object}
 use Rattle.json_forms.specs.Trees.{list_tree, element_tree, extension_tree}
-use Rattle.json_forms.specs.Readings.{extension_of, extension_reading, kept_reading, word_test, word_reading, first_of, or_reading, TreeForm}
+use Rattle.json_forms.specs.Readings.{extension_of, extension_reading, kept_reading, word_test, word_reading, TreeForm}
 use Rattle.json_forms.specs.Laws.Forms.{and_then-inside, some-same, list-form, element-form, SameTrees, same-form}
 
 -- an element of the extension is seen as its four coefficients
@@ -67,25 +67,3 @@ word-form word = record {
   back = λ u fits. rw ((bytes_eq-Decides word word).1 refl) refl;
   forth = λ d u e. (tt, word-forth word d e);
 }
-
--- values of either form, where what is of the second form is never read by the first
-abbrev pub EitherWithin : {A : Type 0} → (A → Type 0) → (A → Type 0) → A → Type 0
-EitherWithin first second x = first x ⊎ second x
-
-or-forth : {A : Type 0} {first : A → Type 0} {second : A → Type 0} {tree : A → Data} {first_reading : Data → Option A} {second_reading : Data → Option A}
-    → TreeForm first tree first_reading → TreeForm second tree second_reading → (d : Data) (x : A) (o : Option A) → first_reading d ≡ o
-    → first_of o (second_reading d) ≡ Some x → EitherWithin first second x × (tree x ≡ d)
-or-forth f g d x None is e = let h = g.forth d x e in (inr h.0, h.1)
-or-forth f g d x (Some y) is e = let h = f.forth d x (is ∙ e) in (inl h.0, h.1)
-
-pub or-form : {A : Type 0} {first : A → Type 0} {second : A → Type 0} {tree : A → Data} {first_reading : Data → Option A} {second_reading : Data → Option A}
-    → TreeForm first tree first_reading → TreeForm second tree second_reading → ((x : A) → second x → first_reading (tree x) ≡ None)
-    → TreeForm (EitherWithin first second) tree (or_reading first_reading second_reading)
-or-form {A} {first} {second} {tree} {first_reading} {second_reading} f g apart = record {
-  back = λ x fits. or-back x fits;
-  forth = λ d x e. or-forth f g d x (first_reading d) refl e;
-}
-  where
-    or-back : (x : A) → EitherWithin first second x → or_reading first_reading second_reading (tree x) ≡ Some x
-    or-back x (inl h) = ap (λ (o : Option A). first_of o (second_reading (tree x))) (f.back x h)
-    or-back x (inr h) = ap (λ (o : Option A). first_of o (second_reading (tree x))) (apart x h) ∙ g.back x h

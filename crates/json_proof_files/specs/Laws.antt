@@ -1,0 +1,7 @@
+-- What is proved of the definitions, by subject.
+pub mod FileForms
+pub mod MatrixForms
+pub mod OpeningForms
+pub mod Plain
+pub mod Readings
+pub mod TableForms

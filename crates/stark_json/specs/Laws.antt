@@ -1,0 +1,4 @@
+-- What is proved of the definitions, by subject.
+pub mod Answers
+pub mod Readings
+pub mod Statuses
