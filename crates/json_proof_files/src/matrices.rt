@@ -23,7 +23,11 @@ fn fills(rows: usize, count: usize, columns: usize) -> bool
     ensures { result ≡ are_filled rows count columns }
 {
     columns as u128 * rows as u128 == count as u128
-        && if rows == 0 { columns == 0 } else { columns != 0 }
+        && if rows == 0 {
+            columns == 0
+        } else {
+            columns != 0
+        }
 }
 
 /// The form of a matrix: an object of its height, its elements row by row, and its width.

@@ -42,7 +42,12 @@ fn read_swap(alloc: Global, json: &Value) -> Result<TableStatement, TreeError>
     members.read_word("kind", "swap")?;
     let x = members.read::<BabyBear>(alloc, "x")?;
     members.end()?;
-    Ok(TableStatement::Swap { k: k as u8, a, b, x })
+    Ok(TableStatement::Swap {
+        k: k as u8,
+        a,
+        b,
+        x,
+    })
 }
 
 // Reads a table of this kind.

@@ -1,6 +1,6 @@
 -- The forms of elements of the extension, of values that pass a test, and of words.
 use Rattle.std.specs.Prelude.{◌≡◌, ℕ, List, [], ◌∷◌, length, Option, None, Some, bytes_eq, Bool, true, false, if◌then◌else◌, refl}
-use Rattle.std.proofs.Common.{sym, ap, subst, ◌∙◌, arith}
+use Rattle.std.proofs.Common.{sym, ap, subst, arith}
 use Rattle.std.proofs.lemmas.Slice.Eq.{bytes_eq-Decides}
 use Rattle.tool_lines.specs.Texts.{Unlimited, ListWithin}
 use Rattle.p3_field.specs.declared.baby_bear.BabyBear.{BabyBear}

@@ -1,9 +1,9 @@
 -- Trees with no floats, that nest to at most a depth: what is written of them is their compact text, and is read back.
-use Rattle.std.specs.Prelude.{◌≡◌, ℕ, suc, ◌≤◌, max, List, [], ◌∷◌, Bool, true, false, ◌||◌, Option, None, Some, refl}
+use Rattle.std.specs.Prelude.{◌≡◌, ℕ, suc, ◌≤◌, max, List, [], ◌∷◌, Bool, false, ◌||◌, Option, None, Some, refl}
 use Rattle.std.proofs.Common.{arith}
 use Rattle.p3_field.specs.declared.baby_bear.BabyBear.{BabyBear}
 use Rattle.p3_field.specs.declared.quartic.QuarticExtension.{QuarticExtension}
-use Rattle.serde_json.specs.Data.{Data, null, string, object, Items, no_items, item, Members, no_members, member, depth, items_depth, members_depth}
+use Rattle.serde_json.specs.Data.{Data, string, object, Items, Members, no_members, member, depth, items_depth, members_depth}
 use Rattle.serde_json.specs.Written.{has_float, items_have_float, members_have_float}
 use Rattle.json_forms.specs.Trees.{number_tree, items_tree, list_tree, option_tree, element_tree, extension_tree}
 

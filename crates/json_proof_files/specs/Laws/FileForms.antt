@@ -103,8 +103,25 @@ same-file-tree = record {
   to_tree = λ p fits. refl;
   whole = λ f fits. (
     (f.proof.commitments, (f.proof.degree_bits, (f.proof.lookup_pow_witness, (f.proof.lookup_terminals, (f.proof.ood_pow_witness, (f.proof.instances, (f.tables, f.version))))))),
-    (fits.proof.commitments, (fits.proof.degree_bits, (any_fits f.proof.lookup_pow_witness, (fits.proof.lookup_terminals, (tt, (fits.proof.instances,
-    (fits.tables, fits.version))))))),
+    (
+      fits.proof.commitments,
+      (
+        fits.proof.degree_bits,
+        (
+          any_fits f.proof.lookup_pow_witness,
+          (
+            fits.proof.lookup_terminals,
+            (
+              tt,
+              (
+                fits.proof.instances,
+                (fits.tables, fits.version),
+              ),
+            ),
+          ),
+        ),
+      ),
+    ),
     refl,
   );
 }

@@ -74,11 +74,14 @@ whole : (m : Rows BabyBear) → MatrixWithin m → (p : Shaped) × FilledWithin 
 whole m fits =
     let s = shape-fits m fits in
     let count = s.1.0 in
-    let most = at-most m.width (height m) fits.columns fits.rows in
-    ((height m, (m.values, m.width)),
-    (((omega arith, fits.rows), (((omega arith, omega (arith, count, most)), λ k d q. tt), s.0.0)),
-    true-both _ _ (eq-eqb (m.width * height m) (length m.values) (sym count)) (within-height (height m) m.width s.0.1)),
-    refl)
+    let most = at-most m.width (height m) fits.columns fits.rows in (
+      (height m, (m.values, m.width)),
+      (
+        ((omega arith, fits.rows), (((omega arith, omega (arith, count, most)), λ k d q. tt), s.0.0)),
+        true-both _ _ (eq-eqb (m.width * height m) (length m.values) (sym count)) (within-height (height m) m.width s.0.1),
+      ),
+      refl,
+    )
 
 same-matrix-tree : SameTrees FilledWithin shaped_tree MatrixWithin matrix_tree
 same-matrix-tree = record { to = λ p. record { values = p.1.0; width = p.1.1 }; to_fits = to-fits; to_tree = to-tree; whole = whole }
