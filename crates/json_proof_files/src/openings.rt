@@ -8,10 +8,57 @@ use serde_json::Value;
 use std::alloc::Global;
 
 /// At most 65536 elements of the extension.
+<<<<<<< HEAD
 pub type ValuesForm = ListOf<QuarticExtension, 0, 65536>;
 
 /// At most 1024 quotient chunks.
 pub type ChunksForm = ListOf<ValuesForm, 0, 1024>;
+=======
+type Elements = ListOf<QuarticExtension, 0, 65536>;
+
+/// At most 1024 quotient chunks.
+type Chunks = ListOf<ValuesForm, 0, 1024>;
+
+/// The form of values: a list of at most 65536 elements of the extension.
+pub struct ValuesForm;
+
+impl JsonForm for ValuesForm {
+    type Value = Vec<QuarticExtension>;
+
+    ghost use Rattle.std.specs.Prelude.{List};
+    ghost use Rattle.p3_field.specs.declared.quartic.QuarticExtension.{QuarticExtension as Extension};
+    ghost use Rattle.tool_proof_text.specs.Openings.{ValuesWithin};
+    ghost use Rattle.json_proof_files.specs.OpeningTrees.{values_tree};
+    ghost use Rattle.json_proof_files.specs.OpeningReadings.{values_reading};
+    ghost use Rattle.json_proof_files.specs.Laws.OpeningForms.{values-form};
+
+    ghost Data = { List Extension };
+
+    ghost data_of = { λ v. v.items };
+
+    ghost within = { ValuesWithin };
+
+    ghost tree = { values_tree };
+
+    ghost reading = { values_reading };
+
+    ghost form = { values-form };
+
+    fn read(alloc: Global, json: &Value) -> Result<Vec<QuarticExtension>, TreeError> {
+        Elements::read(alloc, json)
+    }
+
+    fn write(alloc: Global, value: &Vec<QuarticExtension>) -> Mem<Value> {
+        Elements::write(alloc, value)
+    }
+}
+
+impl Present for ValuesForm {
+    ghost use Rattle.std.specs.Prelude.{refl};
+
+    ghost solid = { refl };
+}
+>>>>>>> trial-h2
 
 /// The form of the preprocessed columns' values: an object of those at the drawn point, and those at the next, which may be absent.
 pub struct PreprocessedForm;
@@ -98,7 +145,11 @@ impl JsonForm for InstanceForm {
         let permutation_local = members.read::<ValuesForm>(alloc, "permutation_local")?;
         let permutation_next = members.read::<ValuesForm>(alloc, "permutation_next")?;
         let preprocessed = members.read::<Option<PreprocessedForm>>(alloc, "preprocessed")?;
+<<<<<<< HEAD
         let quotient_chunks = members.read::<ChunksForm>(alloc, "quotient_chunks")?;
+=======
+        let quotient_chunks = members.read::<Chunks>(alloc, "quotient_chunks")?;
+>>>>>>> trial-h2
         let random = members.read::<Option<ValuesForm>>(alloc, "random")?;
         let trace_local = members.read::<ValuesForm>(alloc, "trace_local")?;
         let trace_next = members.read::<Option<ValuesForm>>(alloc, "trace_next")?;
@@ -122,7 +173,11 @@ impl JsonForm for InstanceForm {
         members.write::<ValuesForm>(alloc, "permutation_local", &value.permutation_local)?;
         members.write::<ValuesForm>(alloc, "permutation_next", &value.permutation_next)?;
         members.write::<Option<PreprocessedForm>>(alloc, "preprocessed", &base.preprocessed)?;
+<<<<<<< HEAD
         members.write::<ChunksForm>(alloc, "quotient_chunks", &base.quotient_chunks)?;
+=======
+        members.write::<Chunks>(alloc, "quotient_chunks", &base.quotient_chunks)?;
+>>>>>>> trial-h2
         members.write::<Option<ValuesForm>>(alloc, "random", &base.random)?;
         members.write::<ValuesForm>(alloc, "trace_local", &base.trace_local)?;
         members.write::<Option<ValuesForm>>(alloc, "trace_next", &base.trace_next)?;
