@@ -9,15 +9,17 @@ use Rattle.batch_config.specs.Setting.{Setting, Backend}
 use Rattle.batch_statement.specs.Proof.{OpenedWithLookups, ProofData}
 use Rattle.batch_statement.specs.Statement.{Statement}
 use Rattle.batch_statement.specs.declared.error.BatchVerificationError.{BatchVerificationError}
-use Rattle.verifier_shape.specs.ShapeChecks.{IsOpenedPreprocessed, chunk_checks, is_there, log_chunks_at, lookup_checks, main_checks, no_opened, no_table, opened_checks, preprocessed_checks, shape_checks, table_checks}
+use Rattle.batch_statement.specs.Words.{is_there, no_opened, no_table}
+use Rattle.verifier_shape.specs.ShapeChecks.{Bounds, IsOpenedPreprocessed, bus_bound_part, chunk_checks, count_checks, log_chunks_at, lookup_checks, main_checks, opened_checks, opened_part, preprocessed_checks, shape_checks, size_part, table_checks}
+use Rattle.p3_field.specs.Ring.{Ring}
 use Rattle.verifier_draws.specs.Draws.{grinding_checks, lookup_grinding}
 use Rattle.verifier_batch.specs.OpeningChecks.{claim_checks, opening_checks, shape_bounds_of}
 use Rattle.verifier_batch.specs.BatchChecks.{Accepted, FirstFault, checks, drawn_of}
-use Rattle.stark_audit.specs.Asked.{Asked, always, only, checks_in, AreNamed, AreAskedInTurn}
-use Rattle.stark_audit.specs.Laws.Asked.{first_is_named, in_always, in_append, none_if_unnamed, turn_always, turn_append, unnamed_if_none}
-use Rattle.stark_audit.specs.Parts.{all_list, claims_list, draws_list, shape_list}
-use Rattle.stark_audit.specs.Laws.Parts.{accepted_if_unnamed, first_fault_named, unnamed_if_accepted}
-use Rattle.stark_audit.specs.Audit.{HasNoUndeclaredNext, HasWitness, audit, lookup_asked, opened_asked, parts_of, preprocessed_asked, table_asked, tables_with_lookups}
+use Rattle.audit_batch.specs.Asked.{Asked, always, only, checks_in, AreNamed, AreAskedInTurn}
+use Rattle.audit_batch.specs.Laws.Asked.{first_is_named, in_always, in_append, none_if_unnamed, turn_always, turn_append, unnamed_if_none}
+use Rattle.audit_batch.specs.Parts.{all_list, claims_list, shape_asked, shape_list}
+use Rattle.audit_batch.specs.Laws.Parts.{accepted_if_unnamed, in_shape, shape_in_turn, first_fault_named, unnamed_if_accepted}
+use Rattle.audit_batch.specs.Audit.{HasNoUndeclaredNext, HasWitness, audit, lookup_asked, opened_asked_at, parts_of, shape_parts, preprocessed_asked, table_asked, tables_with_lookups}
 
 -- preprocessed rows
 module _ {E : Type 0} (R : Type 0) where
@@ -92,42 +94,61 @@ module _ {F : Type 0} (R : Type 0) where
   witness_found z zero bits w passed h = tt
   witness_found z (suc n) bits w passed h = h.0
 
-module _ {S F E C P R : Type 0} (c : Setting S F E C) (b : Backend S F E C P R) (s : Statement F C) (p : ProofData F E C P) where
-  -- each table's checks are the verifier's
-  in_opened : (λ i. checks_in (opened_asked c b s p i)) ≡ opened_checks {R = R} c.field.ring (shape_bounds_of c).masks (shape_bounds_of c).dimension s p
+-- the shape's checks
+module _ {F E C P : Type 0} (R : Type 0) (f : Ring F) (b : Bounds) (s : Statement F C) (p : ProofData F E C P) where
+  in_opened : (λ i. checks_in ((shape_parts R f b s p).opened i)) ≡ opened_checks {R = R} f b.masks b.dimension s p
   in_opened = λ j. λ i.
       in_table {F = F} {E = E} R i (get_or s.tables i no_table).declaration (length (get_or s.publics i []))
-      (2 ^ (log_chunks_at c.field.ring (shape_bounds_of c).masks s.tables s.common.lookups p.degree_bits i + (shape_bounds_of c).masks)) (shape_bounds_of c).dimension
+      (2 ^ (log_chunks_at f b.masks s.tables s.common.lookups p.degree_bits i + b.masks)) b.dimension
       (length (get_or s.common.lookups i [])) (get_or p.instances i no_opened) (is_there (get_or p.lookup_terminals i None)) j
 
-  -- all checks are
+  -- are the verifier's
+  pub same_shape : shape_list (shape_parts R f b s p) ≡ shape_checks {R = R} f b s p
+  unfolding shape_list shape_checks
+  same_shape =
+      let q = shape_parts R f b s p in
+      λ j. q.counts ∷ q.randomized ∷ [] ++ in_turn q.tables q.size ++ in_turn q.buses q.bound ++ in_turn q.tables (in_opened j) ++ q.permutation
+
+  -- and each is asked where none before it fails
+  pub opened_turns : (i : ℕ) → AreAskedInTurn (Unit {0}) ((shape_parts R f b s p).opened i)
+  opened_turns i =
+      turn_table {F = F} {E = E} R i (get_or s.tables i no_table).declaration (length (get_or s.publics i []))
+      (2 ^ (log_chunks_at f b.masks s.tables s.common.lookups p.degree_bits i + b.masks)) b.dimension
+      (length (get_or s.common.lookups i [])) (get_or p.instances i no_opened) (is_there (get_or p.lookup_terminals i None))
+
+  -- so nothing is named of them exactly where none fails
+  pub shape_if_unnamed : AreNamed (shape_asked (shape_parts R f b s p)) [] → NoneFails (shape_checks {R = R} f b s p)
+  shape_if_unnamed n =
+      subst NoneFails (in_shape (shape_parts R f b s p) ∙ same_shape)
+      (none_if_unnamed (Unit {0}) (shape_asked (shape_parts R f b s p)) (shape_in_turn (shape_parts R f b s p) opened_turns) tt n)
+
+  pub unnamed_if_shape : (es : List (BatchVerificationError R)) → NoneFails (shape_checks {R = R} f b s p) → AreNamed (shape_asked (shape_parts R f b s p)) es → es ≡ []
+  unnamed_if_shape es h n =
+      unnamed_if_none (shape_asked (shape_parts R f b s p)) es (subst NoneFails (sym (in_shape (shape_parts R f b s p) ∙ same_shape)) h) n
+
+module _ {S F E C P R : Type 0} (c : Setting S F E C) (b : Backend S F E C P R) (s : Statement F C) (p : ProofData F E C P) where
+  -- all checks are the verifier's
   pub same_checks : all_list (parts_of c b s p) ≡ checks c b s p
-  unfolding all_list shape_list draws_list claims_list checks shape_checks grinding_checks opening_checks claim_checks
+  unfolding all_list claims_list checks grinding_checks opening_checks claim_checks
   same_checks =
       let q = parts_of c b s p in
-      let l = in_lookup R c.field.ring.zero (tables_with_lookups c b s p) c.lookup_bits p.lookup_pow_witness (drawn_of c s p).lookup_passed in
-      λ j. q.counts ∷ q.randomized ∷ []
-      ++ in_turn q.tables q.size
-      ++ in_turn q.buses q.bound
-      ++ in_turn q.tables (in_opened j)
-      ++ q.permutation
+      let l = in_lookup R c.field.ring.zero (tables_with_lookups c s) c.lookup_bits p.lookup_pow_witness (drawn_of c s p).lookup_passed in
+      let shape = same_shape R c.field.ring (shape_bounds_of c) s p in
+      λ j. shape j
       ++ (l j ++ q.ood_grinding)
-      ++ (in_turn q.tables q.domain ++ in_turn q.matrices q.metadata ++ q.opens)
-      ++ in_turn q.tables q.identity
+      ++ (in_turn q.shape.tables q.domain ++ in_turn q.matrices q.metadata ++ q.opens)
+      ++ in_turn q.shape.tables q.identity
       ++ q.terminals
 
   -- nothing is named exactly where the proof is accepted, and what is named first is the verifier's refusal
-  turns : (i : ℕ) → AreAskedInTurn (Unit {0}) (opened_asked c b s p i)
-  turns i =
-      turn_table {F = F} {E = E} R i (get_or s.tables i no_table).declaration (length (get_or s.publics i []))
-      (2 ^ (log_chunks_at c.field.ring (shape_bounds_of c).masks s.tables s.common.lookups p.degree_bits i + (shape_bounds_of c).masks)) (shape_bounds_of c).dimension
-      (length (get_or s.common.lookups i [])) (get_or p.instances i no_opened) (is_there (get_or p.lookup_terminals i None))
+  turns : (i : ℕ) → AreAskedInTurn (Unit {0}) ((parts_of c b s p).shape.opened i)
+  turns = opened_turns R c.field.ring (shape_bounds_of c) s p
 
   grinding_turn : AreAskedInTurn (Unit {0}) ((parts_of c b s p).lookup_grinding)
-  grinding_turn = turn_lookup R c.field.ring.zero (tables_with_lookups c b s p) c.lookup_bits p.lookup_pow_witness (drawn_of c s p).lookup_passed
+  grinding_turn = turn_lookup R c.field.ring.zero (tables_with_lookups c s) c.lookup_bits p.lookup_pow_witness (drawn_of c s p).lookup_passed
 
   witness : NoneFails (checks_in ((parts_of c b s p).lookup_grinding)) → (parts_of c b s p).has_witness
-  witness h = witness_found R c.field.ring.zero (tables_with_lookups c b s p) c.lookup_bits p.lookup_pow_witness (drawn_of c s p).lookup_passed h
+  witness h = witness_found R c.field.ring.zero (tables_with_lookups c s) c.lookup_bits p.lookup_pow_witness (drawn_of c s p).lookup_passed h
 
   pub accepted_if_none_named : AreNamed (audit c b s p) [] → Accepted c b s p
   unfolding audit

@@ -5,7 +5,7 @@ use Rattle.batch_transcript.specs.Running.{lists}
 use Rattle.audit_script.specs.Steps.{printed}
 use Rattle.batch_transcript.specs.BatchScript.{BatchShapeData, Given, ood_script, pair_script, script}
 use Rattle.audit_script.specs.Laws.Steps.{printed-script}
-use Rattle.audit_script.proofs.phases.print_script.Goals as goal
+use Rattle.audit_script.proofs.script.print_script.Goals as goal
 
 pub returns : goal.returns
 returns g c =

@@ -2,7 +2,7 @@
 -- check that fails. And there is one list of what is named.
 use Rattle.std.proofs.Common.{◌≡◌, ℕ, zero, suc, List, [], ◌∷◌, ◌++◌, refl, sym, ◌∙◌, ap, subst, inl, inr}
 use Rattle.p3_field.specs.Checks.{Check, NoneFails, FirstFails, in_turn, AreSingle}
-use Rattle.stark_audit.specs.Asked.{Asked, always, only, in_order, of_each, checks_in, AreNamed, AreAskedInTurn}
+use Rattle.audit_batch.specs.Asked.{Asked, always, only, in_order, of_each, checks_in, AreNamed, AreAskedInTurn}
 
 module _ {R : Type 0} where
   -- nothing is named: no check fails

@@ -1,0 +1,104 @@
+-- What is named of several lists of checks, one after the other, and by the answers of calls that stop at the first check that fails.
+use Rattle.std.proofs.Common.{◌≡◌, ℕ, suc, ◌+◌, List, [], ◌∷◌, ◌++◌, Option, Some, None, Result, Ok, Err, refl, sym, ◌∙◌, ap, subst, append_assoc, add-one}
+use Rattle.std.proofs.lemmas.List.{append-nil}
+use Rattle.p3_field.specs.Checks.{Check, NoneFails, FirstFails}
+use Rattle.p3_field.specs.Laws.Checks.{none_first}
+use Rattle.batch_statement.specs.Verdict.{IsDecided, IsVerdict}
+use Rattle.batch_statement.specs.declared.error.BatchVerificationError.{BatchVerificationError}
+use Rattle.batch_statement.specs.declared.error.BatchVerificationError.TheVariants.{Verification, Lookup, Transcript, OutOfMemory}
+use Rattle.audit_batch.specs.Asked.{Asked, always, only, in_order, of_each, AreNamed}
+use Rattle.audit_batch.specs.Laws.Naming.{named_append, named_where, named_unasked, named_none_of, named_one_more, named_if_none, named_if_first}
+use Rattle.audit_batch.specs.Named.{Names, IsAdded, IsNoted}
+
+module _ {R : Type 0} where
+  -- of one list and then another
+  pub names_append : (qs rs : List (Asked R)) (a b c : List R) → Names qs a b → Names rs b c → Names (qs ++ rs) a c
+  names_append qs rs a b c n m = record {
+    named = n.named ++ m.named;
+    is = let x = m.is in let y = n.is in x ∙ ap (λ l. l ++ m.named) y ∙ append_assoc a n.named m.named;
+    are = named_append qs rs n.named m.named n.are m.are;
+  }
+
+  -- where the condition holds, and where it doesn't
+  pub names_where : (P : Type 0) (qs : List (Asked R)) (a b : List R) → P → Names qs a b → Names (only P qs) a b
+  names_where P qs a b p n = record { named = n.named; is = n.is; are = named_where P qs n.named p n.are }
+
+  pub names_unasked : (P : Type 0) (qs : List (Asked R)) (a : List R) → (P → ⊥) → Names (only P qs) a a
+  names_unasked P qs a h = record { named = []; is = sym (append-nil a); are = named_unasked P qs h }
+
+  -- of n things
+  pub names_none_of : (f : ℕ → List (Asked R)) (a b : List R) → b ≡ a → Names (of_each 0 f) a b
+  names_none_of f a b e = record { named = []; is = e ∙ sym (append-nil a); are = named_none_of f }
+
+  pub names_one_more : (f : ℕ → List (Asked R)) (i : ℕ) (a b c : List R) → Names (of_each i f) a b → Names (f i) b c → Names (of_each (i + 1) f) a c
+  names_one_more f i a b c n m =
+      let x = m.is in
+      let y = n.is in
+      let whole : Names (of_each (suc i) f) a c = record {
+        named = n.named ++ m.named;
+        is = x ∙ ap (λ l. l ++ m.named) y ∙ append_assoc a n.named m.named;
+        are = named_one_more f i n.named m.named n.are m.are;
+      } in
+      subst (λ (k : ℕ). Names (of_each k f) a c) (sym (add-one i)) whole
+
+  -- of checks one after another
+  pub names_pair : (c : Check R) (cs : List (Check R)) (x y z : List R) → Names (always (c ∷ [])) x y → Names (always cs) y z → Names (always (c ∷ cs)) x z
+  unfolding always
+  names_pair c cs x y z n m = names_append (always (c ∷ [])) (always cs) x y z n m
+
+  -- all of a list that is empty after is named
+  pub names_nothing : (qs : List (Asked R)) (a b : List R) → a ≡ [] → b ≡ [] → Names qs a b → AreNamed qs []
+  names_nothing qs a b p q n =
+      let x = n.is in
+      let e : n.named ≡ [] = sym x ∙ q ∙ refl in
+      subst (AreNamed qs) e n.are
+
+-- by the answer of a call
+module _ {T R : Type 0} where
+  pub names_verdict : (cs : List (Check (BatchVerificationError R))) (r : Result T (BatchVerificationError R)) (a b : List (BatchVerificationError R)) (k : Option T)
+      → IsVerdict cs r → IsNoted r a b k → Names (in_order cs) a b
+  names_verdict cs (Ok x) a b k v n = record { named = []; is = n.0 ∙ sym (append-nil a); are = named_if_none cs v }
+  names_verdict cs (Err (Verification e)) a b k v n = record { named = Verification e ∷ []; is = n.0; are = named_if_first cs (Verification e) v }
+  names_verdict cs (Err (Lookup e)) a b k v n = record { named = Lookup e ∷ []; is = n.0; are = named_if_first cs (Lookup e) v }
+  names_verdict cs (Err (Transcript e)) a b k v n = record { named = Transcript e ∷ []; is = n.0; are = named_if_first cs (Transcript e) v }
+  names_verdict cs (Err OutOfMemory) a b k v n = absurd n.0
+
+  pub names_decided : (cs : List (Check (BatchVerificationError R))) (r : Result T (BatchVerificationError R)) (a b : List (BatchVerificationError R)) (k : Option T)
+      → IsDecided cs r → IsNoted r a b k → Names (in_order cs) a b
+  names_decided cs (Ok x) a b k v n = record { named = []; is = n.0 ∙ sym (append-nil a); are = named_if_none cs v }
+  names_decided cs (Err (Verification e)) a b k v n = record { named = Verification e ∷ []; is = n.0; are = named_if_first cs (Verification e) v }
+  names_decided cs (Err (Lookup e)) a b k v n = record { named = Lookup e ∷ []; is = n.0; are = named_if_first cs (Lookup e) v }
+  names_decided cs (Err (Transcript e)) a b k v n = record { named = Transcript e ∷ []; is = n.0; are = named_if_first cs (Transcript e) v }
+  names_decided cs (Err OutOfMemory) a b k v n = absurd n.0
+
+  -- one check
+  alone : (c : Check (BatchVerificationError R)) (a b : List (BatchVerificationError R)) → Names (in_order (c ∷ [])) a b → Names (always (c ∷ [])) a b
+  unfolding always in_order only
+  alone c a b n = n
+
+  pub names_check : (c : Check (BatchVerificationError R)) (r : Result T (BatchVerificationError R)) (a b : List (BatchVerificationError R)) (k : Option T)
+      → IsDecided (c ∷ []) r → IsNoted r a b k → Names (always (c ∷ [])) a b
+  names_check c r a b k v n = alone c a b (names_decided (c ∷ []) r a b k v n)
+
+  pub names_one : (c : Check (BatchVerificationError R)) (r : Result T (BatchVerificationError R)) (a b : List (BatchVerificationError R)) (k : Option T)
+      → IsVerdict (c ∷ []) r → IsNoted r a b k → Names (always (c ∷ [])) a b
+  names_one c r a b k v n = alone c a b (names_verdict (c ∷ []) r a b k v n)
+
+  -- a value that is kept is the call's, and where none is a check fails
+  pub kept_some : (r : Result T (BatchVerificationError R)) (a b : List (BatchVerificationError R)) (k : Option T) (x : T) → IsNoted r a b k → k ≡ Some x → r ≡ Ok x
+  kept_some (Ok y) a b k x n e = let h = n.1 in cc
+  kept_some (Err y) a b k x n e = let h = n.1 in absurd cc
+
+  pub kept_none : (cs : List (Check (BatchVerificationError R))) (r : Result T (BatchVerificationError R)) (a b : List (BatchVerificationError R)) (k : Option T)
+      → IsVerdict cs r → IsNoted r a b k → k ≡ None → NoneFails cs → ⊥
+  kept_none cs (Ok y) a b k v n e h = let w = n.1 in absurd cc
+  kept_none cs (Err (Verification y)) a b k v n e h = none_first cs (Verification y) h v
+  kept_none cs (Err (Lookup y)) a b k v n e h = none_first cs (Lookup y) h v
+  kept_none cs (Err (Transcript y)) a b k v n e h = none_first cs (Transcript y) h v
+  kept_none cs (Err OutOfMemory) a b k v n e h = absurd n.0
+
+  -- and so is the one of a check that is decided
+  pub kept_decided : (cs : List (Check (BatchVerificationError R))) (r : Result T (BatchVerificationError R)) (a b : List (BatchVerificationError R)) (k : Option T)
+      → IsDecided cs r → IsNoted r a b k → k ≡ None → NoneFails cs → ⊥
+  kept_decided cs (Ok y) a b k v n e h = let w = n.1 in absurd cc
+  kept_decided cs (Err y) a b k v n e h = none_first cs y h v
