@@ -48,6 +48,10 @@ table_asked i d publics chunks dimension lookups o terminal =
     ++ preprocessed_asked i (width_of d.preprocessed) d.preprocessed_next o.base.preprocessed
     ++ always (lookup_checks i lookups dimension o terminal)
 
+-- at zero bits a grinding value is zero
+abbrev pub IsCanonicalValue : {F : Type 0} → (z : F) → (bits : ℕ) → F → Type 0
+IsCanonicalValue z bits w = bits ≡ 0 → w ≡ z
+
 -- the grinding value before the lookups' pair: where one is missing, nothing else is asked of it
 abbrev pub lookup_asked : {F R : Type 0} → (z : F) → (tables bits : ℕ) → Option F → (passed : Bool) → List (Asked (BatchVerificationError R))
 lookup_asked z zero bits w passed = always (lookup_grinding z zero bits w passed)
@@ -113,13 +117,21 @@ module _ {S F E C P R : Type 0} (c : Setting S F E C) (b : Backend S F E C P R) 
   unfoldable pub audit : List (Asked (BatchVerificationError R))
   audit = all_asked parts_of
 
+  -- the lines of the script's steps; these are the coefficients of a challenge as numbers
+  abbrev pub steps_text : (coefficients : E → List ℕ) → List ℕ
+  steps_text coefficients =
+      script_text c.challenger coefficients c.field.ring c.extension.ring c.extension.dimension c.initial
+      (script_shape c.version c.zk c.lookup_bits c.ood_bits s) (given_of s p)
+
   -- the script is played: the shape is right, and the grinding value that the lookups need is there
   abbrev pub IsScriptPlayed : Type 0
   IsScriptPlayed = IsPlayed parts_of
 
-  -- the lines of the script's steps, where it is played, and else none; these are the coefficients of a challenge as numbers
+  -- the lines are there exactly where the script is played
   abbrev pub IsStepsText : (coefficients : E → List ℕ) → List ℕ → Type 0
-  IsStepsText coefficients text =
-      let steps = script_text c.challenger coefficients c.field.ring c.extension.ring c.extension.dimension c.initial
-      (script_shape c.version c.zk c.lookup_bits c.ood_bits s) (given_of s p) in
-      (IsScriptPlayed × (text ≡ steps)) ⊎ ((IsScriptPlayed → ⊥) × (text ≡ []))
+  IsStepsText coefficients text = (IsScriptPlayed × (text ≡ steps_text coefficients)) ⊎ ((IsScriptPlayed → ⊥) × (text ≡ []))
+
+-- the pair that was drawn, where so many tables have lookups
+abbrev pub pair_drawn : {E : Type 0} → (tables : ℕ) → (alpha beta : E) → List E
+pair_drawn zero alpha beta = []
+pair_drawn (suc n) alpha beta = alpha ∷ beta ∷ []

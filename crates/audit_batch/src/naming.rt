@@ -1,6 +1,8 @@
 //! The refusals of all checks that fail, in a list.
-ghost use Rattle.std.specs.Prelude.{IfOk};
-ghost use Rattle.audit_batch.specs.Named.{IsNoted};
+ghost use Rattle.std.specs.Prelude.{◌≡◌, [], ◌∷◌, true, IfOk, OnOk};
+ghost use Rattle.p3_field.specs.Checks.{check};
+ghost use Rattle.audit_batch.specs.Asked.{always};
+ghost use Rattle.audit_batch.specs.Named.{IsNoted, Names};
 
 use batch_statement::BatchVerificationError;
 use p3_field::Mem;
@@ -21,4 +23,19 @@ pub(crate) fn note<T, R: Drop>(
             Ok(None)
         }
     }
+}
+
+// Adds the refusal where something doesn't hold.
+#[tactic(auto, using(crate::specs::Laws::Named::names_held, crate::specs::Laws::Named::names_failed))]
+pub(crate) fn note_unless<R: Drop>(
+    refusals: &mut Vec<BatchVerificationError<R>>,
+    holds: bool,
+    refusal: BatchVerificationError<R>,
+) -> Mem<()>
+    ensures { OnOk result (Names (always (check refusal (holds ≡ true) ∷ [])) refusals.old.items refusals.new.items) }
+{
+    if !holds {
+        refusals.push(refusal)?;
+    }
+    Ok(())
 }

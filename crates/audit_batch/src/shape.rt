@@ -1,19 +1,21 @@
 //! The shape of a batch proof: all checks that fail.
-ghost use Rattle.std.specs.Prelude.{◌≡◌, ℕ, ◌+◌, ◌^◌, ◌<◌, ◌≤◌, [], ◌∷◌, IfOk, MatchOption, OnOk, length, map, option_map};
+ghost use Rattle.std.specs.Prelude.{◌≡◌, ℕ, ◌+◌, ◌^◌, ◌<◌, ◌≤◌, [], IfOk, MatchOption, OnOk, length, map, option_map};
 ghost use Rattle.std.specs.Prelude.{slice_index_or as get_or};
 ghost use Rattle.p3_field.specs.Checks.{NoneFails, in_turn};
 ghost use Rattle.p3_field.specs.Poly.{tabulate};
 ghost use Rattle.p3_lookup.specs.Written.{read_all};
 ghost use Rattle.batch_constraints.specs.BatchTrees.{AreLookupsOf};
 ghost use Rattle.batch_statement.specs.Statement.{WellFormed, read_common, statement_with, tables_of};
-ghost use Rattle.batch_statement.specs.Verdict.{IsDecided};
+ghost use Rattle.batch_statement.specs.declared.error.BatchVerificationError.TheVariants.{Verification};
+ghost use Rattle.p3_uni_stark.specs.declared.error.InvalidProofShapeError.TheVariants.{InstanceCountMismatch};
+ghost use Rattle.p3_uni_stark.specs.declared.error.VerificationError.TheVariants.{InvalidProofShape};
 ghost use Rattle.verifier_shape.specs.ShapeChecks.{HaveItemForEachTable, bounds_with, log_chunks_at, shape_checks, sizes_at};
 ghost use Rattle.audit_batch.specs.Asked.{in_order, of_each};
-ghost use Rattle.audit_batch.specs.Audit.{counts_check, opened_asked_at, randomized_check, shape_parts};
+ghost use Rattle.audit_batch.specs.Audit.{opened_asked_at, shape_parts};
 ghost use Rattle.audit_batch.specs.Named.{Names};
 ghost use Rattle.audit_batch.specs.Parts.{shape_asked, sized_asked};
 
-use crate::naming::note;
+use crate::naming::{note, note_unless};
 use crate::table::name_table;
 use air_core::{Air, BaseAir};
 use batch_statement::{
@@ -27,36 +29,13 @@ use verifier_shape::{
     ShapeBounds, are_counted, check_bounds, check_permutation, is_randomized, size_at,
 };
 
-// The check of the counts.
-#[tactic(auto, unfolding(p3_field::specs::Checks::NoneFails, p3_field::specs::Checks::FirstFails))]
-fn check_counted<F: Field, A: Air<F>, E, Com, Opening, R>(
-    airs: &[A],
-    public_values: &[Vec<F>],
-    common: &SharedData<F, Com>,
-    proof: &TablesProof<F, E, Com, Opening>,
-) -> Result<(), BatchVerificationError<R>>
-    ensures { IsDecided (counts_check (statement_with (tables_of A.declaration A.trees airs.now) (map (λ v. v.items) public_values.now) common.now) proof.now ∷ []) result }
+// A refusal of the counts.
+fn uncounted<R>() -> BatchVerificationError<R>
+    ensures { result ≡ Verification (InvalidProofShape InstanceCountMismatch) }
 {
-    if are_counted(airs, public_values, common, proof) {
-        return Ok(());
-    }
-    Err(BatchVerificationError::Verification(VerificationError::InvalidProofShape(
+    BatchVerificationError::Verification(VerificationError::InvalidProofShape(
         InvalidProofShapeError::InstanceCountMismatch,
-    )))
-}
-
-// The check of the presence of what is random.
-#[tactic(auto, unfolding(p3_field::specs::Checks::NoneFails, p3_field::specs::Checks::FirstFails))]
-fn check_randomized<F, E, Com, Opening, R>(
-    proof: &TablesProof<F, E, Com, Opening>,
-    zk: bool,
-) -> Result<(), BatchVerificationError<R>>
-    ensures { IsDecided (randomized_check zk proof.now ∷ []) result }
-{
-    if is_randomized(proof, zk) {
-        return Ok(());
-    }
-    Err(BatchVerificationError::Verification(VerificationError::RandomizationError))
+    ))
 }
 
 // The checks of the tables' sizes, of which each table's first that fails is named. Where none fails it gives the logarithms of
@@ -273,9 +252,14 @@ pub(crate) fn name_shape<F: PrimeField64, A: Air<F>, E, Com, Opening, R: Drop>(
         IfOk result (λ o. MatchOption o (NoneFails (shape_checks {R = R} F.ring (bounds_with F.ORDER_U64 bounds) s proof.now) → ⊥)
         (λ v. v.items ≡ tabulate (length airs.now) (log_chunks_at F.ring bounds.masks s.tables s.common.lookups proof.now.degree_bits))) }
 {
-    let counted = note(refusals, check_counted(airs, public_values, common, proof))?;
-    note(refusals, check_randomized(proof, bounds.zk))?;
-    if counted.is_none() {
+    let counted = are_counted(airs, public_values, common, proof);
+    note_unless(refusals, counted, uncounted())?;
+    note_unless(
+        refusals,
+        is_randomized(proof, bounds.zk),
+        BatchVerificationError::Verification(VerificationError::RandomizationError),
+    )?;
+    if !counted {
         return Ok(None);
     }
     let sizes = name_batch_sizes(refusals, alloc, airs, public_values, common, proof, bounds)?;

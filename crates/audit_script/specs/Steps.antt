@@ -7,7 +7,7 @@ use Rattle.p3_challenger.specs.declared.script.Interaction.{Interaction}
 use Rattle.p3_challenger.specs.declared.script.InteractionKind.{InteractionKind}
 use Rattle.p3_challenger.specs.declared.script.InteractionKind.TheVariants.{Message, Public, Challenge, Pow, Protocol}
 use Rattle.batch_transcript.specs.BatchScript.{BatchShapeData, Draws, Given, script, seeded}
-use Rattle.audit_script.specs.declared.script.FoldedScript.{FoldedScript}
+use Rattle.audit_script.specs.declared.script.ScriptDraws.{ScriptDraws}
 
 -- a space and the decimal digits of each number
 abbrev pub spaced_numbers : List ℕ → List ℕ
@@ -65,8 +65,8 @@ script_text {E = E} c numbers f r d initial s g =
     let t = play c (begun E (seeded c f d s initial)) played in
     lines_of numbers 0 (steps_of played) t.challenges t.passed
 
--- what a folded script has drawn
-abbrev pub draws_told : {S E : Type 0} → FoldedScript S E → Draws S E
+-- what was drawn along a script, as a verifier's draws
+abbrev pub draws_told : {S E : Type 0} → ScriptDraws S E → Draws S E
 draws_told w = record {
   lookup_alpha = w.lookup_alpha;
   lookup_beta = w.lookup_beta;

@@ -8,4 +8,4 @@ mod phases;
 mod script;
 mod steps;
 
-pub use script::{FoldedScript, fold_script};
+pub use script::{FoldedScript, ScriptDraws, fold_script};

@@ -1,5 +1,5 @@
 //! The whole script of a batch: its steps as they are printed, and what is drawn along it.
-ghost use Rattle.std.specs.Prelude.{◌≡◌, ◌<◌, ◌^◌, ⊥, IfOk, get_or, is_some, map, suc, zero, ℕ};
+ghost use Rattle.std.specs.Prelude.{◌≡◌, ◌<◌, ◌^◌, ℕ, suc, true, IfOk, get_or, is_some, map};
 ghost use Rattle.std.specs.Option.{option_copied};
 ghost use Rattle.batch_transcript.specs.BatchScript.{draws, draws_of, script, seeded};
 ghost use Rattle.batch_transcript.specs.Running.{lists};
@@ -17,15 +17,12 @@ use p3_field::{
 };
 use std::alloc::Global;
 
-/// A script that was folded to its end: the lines of its steps, and what the challenger drew and tested along it.
+/// What was drawn and tested along the script of a batch.
 #[derive(Drop)]
-pub struct FoldedScript<C, EF> {
-    /// A line for each step, `step i label`, the first one's number being 0: for a challenge its coefficients follow, for a grinding step
-    /// `passes` or `fails`.
-    pub text: Vec<u8>,
-    /// The pair that was drawn for the lookups: zeros where no instance has lookups.
+pub struct ScriptDraws<C, EF> {
+    /// The first challenge of the pair that was drawn for the lookups: zero where no instance has lookups.
     pub lookup_alpha: EF,
-    /// Its second part.
+    /// Its second challenge.
     pub lookup_beta: EF,
     /// The challenge that folds the constraints.
     pub alpha: EF,
@@ -37,6 +34,16 @@ pub struct FoldedScript<C, EF> {
     pub ood_passed: bool,
     /// The challenger in its state at the opening.
     pub challenger: C,
+}
+
+/// A script that was folded to its end.
+#[derive(Drop)]
+pub struct FoldedScript<C, EF> {
+    /// A line for each step, `step i label`, the first one's number being 0: for a challenge its coefficients follow, for a grinding step
+    /// `passes` or `fails`.
+    pub text: Vec<u8>,
+    /// What was drawn and tested along it.
+    pub draws: ScriptDraws<C, EF>,
 }
 
 // A challenge by its number, and zero where there are fewer.
@@ -60,48 +67,56 @@ fn test_at(passed: &[bool], index: usize) -> bool
 }
 
 // What was drawn where no instance has lookups.
-fn without_lookups<C, EF: Field>(steps: Steps<C, EF>) -> FoldedScript<C, EF>
-    ensures draws { draws_told result ≡ draws_of EF.ring 0 (transcript_of steps) }
-    ensures text { result.text.items ≡ steps.text }
+fn without_lookups<C, EF: Field>(
+    challenger: C,
+    challenges: &[EF],
+    passed: &[bool],
+) -> ScriptDraws<C, EF>
+    ensures { draws_told result ≡ draws_of EF.ring 0 (record { state = challenger; challenges = challenges.now; passed = passed.now }) }
 {
-    FoldedScript {
+    ScriptDraws {
         lookup_alpha: EF::ZERO,
         lookup_beta: EF::ZERO,
-        alpha: challenge_at(&steps.challenges, 0),
-        zeta: challenge_at(&steps.challenges, 1),
+        alpha: challenge_at(challenges, 0),
+        zeta: challenge_at(challenges, 1),
         lookup_passed: true,
-        ood_passed: test_at(&steps.passed, 0),
-        text: steps.text,
-        challenger: steps.challenger,
+        ood_passed: test_at(passed, 0),
+        challenger,
     }
 }
 
 // What was drawn where some have.
-fn with_lookups<C, EF: Field>(steps: Steps<C, EF>) -> FoldedScript<C, EF>
-    ensures draws { (n : ℕ) → draws_told result ≡ draws_of EF.ring (suc n) (transcript_of steps) }
-    ensures text { result.text.items ≡ steps.text }
+fn with_lookups<C, EF: Field>(
+    challenger: C,
+    challenges: &[EF],
+    passed: &[bool],
+) -> ScriptDraws<C, EF>
+    ensures { (n : ℕ) → draws_told result ≡ draws_of EF.ring (suc n) (record { state = challenger; challenges = challenges.now; passed = passed.now }) }
 {
-    FoldedScript {
-        lookup_alpha: challenge_at(&steps.challenges, 0),
-        lookup_beta: challenge_at(&steps.challenges, 1),
-        alpha: challenge_at(&steps.challenges, 2),
-        zeta: challenge_at(&steps.challenges, 3),
-        lookup_passed: test_at(&steps.passed, 0),
-        ood_passed: test_at(&steps.passed, 1),
-        text: steps.text,
-        challenger: steps.challenger,
+    ScriptDraws {
+        lookup_alpha: challenge_at(challenges, 0),
+        lookup_beta: challenge_at(challenges, 1),
+        alpha: challenge_at(challenges, 2),
+        zeta: challenge_at(challenges, 3),
+        lookup_passed: test_at(passed, 0),
+        ood_passed: test_at(passed, 1),
+        challenger,
     }
 }
 
 // What was drawn along a script, where so many instances have lookups.
-fn read_draws<C, EF: Field>(steps: Steps<C, EF>, tables: usize) -> FoldedScript<C, EF>
-    ensures draws { draws_told result ≡ draws_of EF.ring tables (transcript_of steps) }
-    ensures text { result.text.items ≡ steps.text }
+fn read_draws<C, EF: Field>(
+    tables: usize,
+    challenger: C,
+    challenges: &[EF],
+    passed: &[bool],
+) -> ScriptDraws<C, EF>
+    ensures { draws_told result ≡ draws_of EF.ring tables (record { state = challenger; challenges = challenges.now; passed = passed.now }) }
 {
     if tables == 0 {
-        without_lookups(steps)
+        without_lookups(challenger, challenges, passed)
     } else {
-        with_lookups(steps)
+        with_lookups(challenger, challenges, passed)
     }
 }
 
@@ -213,7 +228,7 @@ pub fn fold_script<
           randomization = option_copied randomization.entry;
           ood_witness = ood_witness;
         })) }
-    ensures draws { IfOk result (λ w. draws_told w
+    ensures draws { IfOk result (λ w. draws_told w.draws
         ≡ draws (⟦<C as BatchChallenger<F, EF, Com>>⟧.functions) F.ring EF.ring EF.DIMENSION challenger shape.now (record {
           degree_bits = degree_bits.now;
           main = main.now;
@@ -242,5 +257,18 @@ pub fn fold_script<
         lookup_witness,
         ood_witness,
     )?;
-    Ok(read_draws(steps, shape.num_lookup_instances))
+    let Steps {
+        challenger,
+        challenges,
+        passed,
+        text,
+        ..
+    } = steps;
+    let draws = read_draws(
+        shape.num_lookup_instances,
+        challenger,
+        &challenges,
+        &passed,
+    );
+    Ok(FoldedScript { text, draws })
 }

@@ -1,14 +1,20 @@
 -- What is named of several lists of checks, one after the other, and by the answers of calls that stop at the first check that fails.
-use Rattle.std.proofs.Common.{◌≡◌, ℕ, suc, ◌+◌, List, [], ◌∷◌, ◌++◌, Option, Some, None, Result, Ok, Err, refl, sym, ◌∙◌, ap, subst, append_assoc, add-one}
+use Rattle.std.proofs.Common.{◌≡◌, ℕ, suc, ◌+◌, Bool, true, false, List, [], ◌∷◌, ◌++◌, length, Option, Some, None, Result, Ok, Err, refl, sym, ◌∙◌, ap, subst, inl, inr, append_assoc, add-one, arith, length-append}
+use Rattle.std.specs.Prelude.{IsTrue, ◌↔◌}
 use Rattle.std.proofs.lemmas.List.{append-nil}
-use Rattle.p3_field.specs.Checks.{Check, NoneFails, FirstFails}
+use Rattle.p3_field.specs.Checks.{Check, check, NoneFails, FirstFails}
 use Rattle.p3_field.specs.Laws.Checks.{none_first}
 use Rattle.batch_statement.specs.Verdict.{IsDecided, IsVerdict}
 use Rattle.batch_statement.specs.declared.error.BatchVerificationError.{BatchVerificationError}
 use Rattle.batch_statement.specs.declared.error.BatchVerificationError.TheVariants.{Verification, Lookup, Transcript, OutOfMemory}
-use Rattle.audit_batch.specs.Asked.{Asked, always, only, in_order, of_each, AreNamed}
+use Rattle.audit_batch.specs.Asked.{Asked, always, only, in_order, of_each, checks_in, AreNamed, AreAskedInTurn}
+use Rattle.audit_batch.specs.Laws.Asked.{none_if_unnamed, unnamed_if_none}
 use Rattle.audit_batch.specs.Laws.Naming.{named_append, named_where, named_unasked, named_none_of, named_one_more, named_if_none, named_if_first}
 use Rattle.audit_batch.specs.Named.{Names, IsAdded, IsNoted}
+
+empty_list : {A : Type 0} (xs : List A) → length xs ≡ 0 → xs ≡ []
+empty_list [] h = refl
+empty_list (x ∷ xs) h = absurd cc
 
 module _ {R : Type 0} where
   -- of one list and then another
@@ -46,12 +52,47 @@ module _ {R : Type 0} where
   unfolding always
   names_pair c cs x y z n m = names_append (always (c ∷ [])) (always cs) x y z n m
 
-  -- all of a list that is empty after is named
-  pub names_nothing : (qs : List (Asked R)) (a b : List R) → a ≡ [] → b ≡ [] → Names qs a b → AreNamed qs []
-  names_nothing qs a b p q n =
-      let x = n.is in
-      let e : n.named ≡ [] = sym x ∙ q ∙ refl in
-      subst (AreNamed qs) e n.are
+  -- of one check that is told
+  pub names_held : (r : R) (b : Bool) (x : List R) → b ≡ true → Names (always (check r (b ≡ true) ∷ [])) x x
+  unfolding AreNamed always
+  names_held r b x h = record { named = []; is = sym (append-nil x); are = inl (λ t. h, refl) }
+
+  pub names_failed : (r : R) (b : Bool) (x : List R) → b ≡ false → Names (always (check r (b ≡ true) ∷ [])) x (x ++ r ∷ [])
+  unfolding AreNamed always
+  names_failed r b x h = record { named = r ∷ []; is = refl; are = inr (tt, λ t. absurd cc, (r, [], refl, refl, refl)) }
+
+  -- a check of the same by another fact
+  pub names_by : (r : R) (b : Bool) (P : Type 0) (x y : List R) → IsTrue b ↔ P → Names (always (check r (b ≡ true) ∷ [])) x y → Names (always (check r P ∷ [])) x y
+  unfolding AreNamed always
+  names_by r true P x y h n = record {
+    named = n.named;
+    is = n.is;
+    are = elim n.are [ | inl t ↦ inl (λ q. h.0 refl, t.1) | inr t ↦ absurd (t.1 refl) ];
+  }
+  names_by r false P x y h n = record {
+    named = n.named;
+    is = n.is;
+    are = elim n.are [
+      | inl t ↦ let f = t.0 tt in absurd cc
+      | inr t ↦ inr (tt, λ q. let f = h.1 q in absurd cc, t.2)
+    ];
+  }
+
+  -- where as many are named after as before, all that are asked hold
+  pub names_none : (qs : List (Asked R)) (x y : List R) → AreAskedInTurn (Unit {0}) qs → length y ≡ length x → Names qs x y → NoneFails (checks_in qs)
+  names_none qs x y t e n =
+      let a = ap length n.is ∙ length-append x n.named in
+      let z : length n.named ≡ 0 = omega (arith, a, e) in
+      none_if_unnamed (Unit {0}) qs t tt (subst (AreNamed qs) (empty_list n.named z) n.are)
+
+  pub names_some : (qs : List (Asked R)) (x y : List R) → NoneFails (checks_in qs) → Names qs x y → y ≡ x
+  names_some qs x y h n =
+      let z = unnamed_if_none qs n.named h n.are in
+      n.is ∙ ap (λ l. x ++ l) z ∙ append-nil x
+
+  -- of an empty list what is named is the list
+  pub names_all : (qs : List (Asked R)) (x y : List R) → x ≡ [] → Names qs x y → AreNamed qs y
+  names_all qs x y e n = subst (AreNamed qs) (sym (n.is ∙ ap (λ l. l ++ n.named) e)) n.are
 
 -- by the answer of a call
 module _ {T R : Type 0} where
