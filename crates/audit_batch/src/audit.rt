@@ -14,7 +14,9 @@ ghost use Rattle.audit_batch.specs.Audit.{HasWitness, IsStepsText, audit, parts_
 ghost use Rattle.audit_batch.specs.Named.{Names};
 ghost use Rattle.audit_batch.specs.Parts.{claims_asked, drawn_asked, openings_asked, shape_asked, shape_list};
 
-use crate::drawn::{has_witness, name_domains, name_lookup_grinding, name_metadata, name_ood_grinding};
+use crate::drawn::{
+    has_witness, name_domains, name_lookup_grinding, name_metadata, name_ood_grinding,
+};
 use crate::identities::{lookup_challenges, name_batch_identities};
 use crate::naming::note;
 use crate::shape::name_shape;
@@ -169,13 +171,7 @@ fn name_openings<SC: StarkGenericConfig, A: Air<Val<SC>>>(
         place,
     );
     note(refusals, answer)?;
-    let challenges = lookup_challenges(
-        alloc,
-        &common.lookups,
-        tables,
-        lookup_alpha,
-        lookup_beta,
-    )?;
+    let challenges = lookup_challenges(alloc, &common.lookups, tables, lookup_alpha, lookup_beta)?;
     name_batch_identities(
         refusals,
         alloc,

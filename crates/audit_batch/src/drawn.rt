@@ -52,9 +52,9 @@ pub(crate) fn name_lookup_grinding<F: Field, R: Drop>(
     note_unless(
         refusals,
         witness.is_some(),
-        BatchVerificationError::Transcript(
-            BatchTranscriptFailure::MissingLookupPowWitness { bits },
-        ),
+        BatchVerificationError::Transcript(BatchTranscriptFailure::MissingLookupPowWitness {
+            bits,
+        }),
     )?;
     let Some(value) = witness else {
         return Ok(());

@@ -18,9 +18,7 @@ ghost use Rattle.audit_batch.specs.Parts.{shape_asked, sized_asked};
 use crate::naming::{note, note_unless};
 use crate::table::name_table;
 use air_core::{Air, BaseAir};
-use batch_statement::{
-    BatchVerificationError, OpenedValuesWithLookups, SharedData, TablesProof,
-};
+use batch_statement::{BatchVerificationError, OpenedValuesWithLookups, SharedData, TablesProof};
 use p3_field::{Field, FieldCore, Mem, PrimeCore64, PrimeField64, RingCore};
 use p3_lookup::{LookupTerminal, Lookups};
 use p3_uni_stark::{InvalidProofShapeError, VerificationError};
@@ -71,11 +69,7 @@ fn name_sizes<F: Field, A: Air<F>, R: Drop>(
             None => all = false,
         }
     }
-    if all {
-        Ok(Some(chunks))
-    } else {
-        Ok(None)
-    }
+    if all { Ok(Some(chunks)) } else { Ok(None) }
 }
 
 // The checks of what is opened of one table of a batch.
@@ -227,7 +221,10 @@ fn name_sized<F: PrimeField64, A: Air<F>, E, Com, Opening, R: Drop>(
         bounds.masks,
         bounds.dimension,
     )?;
-    note(refusals, check_permutation(airs, public_values, common, proof))?;
+    note(
+        refusals,
+        check_permutation(airs, public_values, common, proof),
+    )?;
     Ok(())
 }
 

@@ -30,10 +30,18 @@ fn name_main<F: Field, A: BaseAir<F>, E, R: Drop>(
     let opened = &opened.base_opened_values;
     let width = air.width();
     note(refusals, check_public_values(air, publics))?;
-    note(refusals, check_trace_local(index, width, &opened.trace_local))?;
     note(
         refusals,
-        check_trace_next(index, width, air.main_next_row_columns(), &opened.trace_next),
+        check_trace_local(index, width, &opened.trace_local),
+    )?;
+    note(
+        refusals,
+        check_trace_next(
+            index,
+            width,
+            air.main_next_row_columns(),
+            &opened.trace_next,
+        ),
     )?;
     Ok(())
 }
@@ -49,7 +57,10 @@ fn name_chunks<E, R: Drop>(
     ensures { OnOk result (Names (always (chunk_checks index chunks dimension opened.now.base)) refusals.old.items refusals.new.items) }
 {
     let opened = &opened.base_opened_values;
-    note(refusals, check_chunk_count(index, chunks, &opened.quotient_chunks))?;
+    note(
+        refusals,
+        check_chunk_count(index, chunks, &opened.quotient_chunks),
+    )?;
     note(
         refusals,
         check_chunk_lengths(index, dimension, &opened.quotient_chunks),

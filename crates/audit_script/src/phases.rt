@@ -95,7 +95,8 @@ pub(crate) fn print_ood<
         (ood_script EF.DIMENSION bits witness)) }
 {
     steps.pow(b"ood_pow", bits, witness)?;
-    steps.challenge::<F>(alloc, b"zeta")
+    steps.challenge::<F>(alloc, b"zeta")?;
+    Ok(())
 }
 
 /// The bracket of the opening.
@@ -176,7 +177,8 @@ pub(crate) fn print_pair<
     };
     steps.pow(b"lookup_pow", bits, value)?;
     steps.challenge::<F>(alloc, b"lookup_alpha")?;
-    steps.challenge::<F>(alloc, b"lookup_beta")
+    steps.challenge::<F>(alloc, b"lookup_beta")?;
+    Ok(())
 }
 
 /// Binds the terminals.
@@ -216,7 +218,8 @@ pub(crate) fn print_permutation<
 {
     print_commitment::<F, EF, Com, C>(steps, b"permutation_commitment", commitment)?;
     print_terminals::<F, EF, Com, C>(steps, terminals)?;
-    steps.challenge::<F>(alloc, b"constraint_challenge")
+    steps.challenge::<F>(alloc, b"constraint_challenge")?;
+    Ok(())
 }
 
 /// Binds the commitment to the quotients, then the randomization's, where there is one.
@@ -234,5 +237,6 @@ pub(crate) fn print_quotient<
         (quotient_script quotient.now (option_copied randomization.entry))) }
 {
     steps.message(b"quotient_commitment", quotient)?;
-    print_commitment::<F, EF, Com, C>(steps, b"randomization_commitment", randomization)
+    print_commitment::<F, EF, Com, C>(steps, b"randomization_commitment", randomization)?;
+    Ok(())
 }

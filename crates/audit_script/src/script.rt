@@ -264,11 +264,6 @@ pub fn fold_script<
         text,
         ..
     } = steps;
-    let draws = read_draws(
-        shape.num_lookup_instances,
-        challenger,
-        &challenges,
-        &passed,
-    );
+    let draws = read_draws(shape.num_lookup_instances, challenger, &challenges, &passed);
     Ok(FoldedScript { text, draws })
 }

@@ -1,8 +1,5 @@
 -- What is proved of the definitions.
-pub mod Asked
-pub mod Naming
-pub mod Parts
-pub mod Steps
-pub mod Audit
 pub mod Report
 pub mod Explain
+pub mod Statuses
+pub mod Stated

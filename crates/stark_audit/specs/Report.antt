@@ -1,21 +1,18 @@
 -- What is reported of a batch proof over stated heights: each step of the script, where it was played; each table of another height and each check that fails,
 -- by its name and its numbers; and how many these are.
-use Rattle.std.specs.Prelude.{◌≡◌, ◌⊎◌, ℕ, ◌+◌, List, [], ◌∷◌, ◌++◌, codes, decimal, flat_map, length}
+use Rattle.std.specs.Prelude.{◌≡◌, ℕ, ◌+◌, List, [], ◌∷◌, ◌++◌, codes, decimal, flat_map, length}
 use Rattle.p3_field.specs.Checks.{numbers}
 use Rattle.batch_config.specs.Setting.{Setting, Backend}
 use Rattle.batch_statement.specs.Proof.{ProofData}
 use Rattle.batch_statement.specs.Statement.{Statement}
 use Rattle.batch_statement.specs.declared.error.BatchVerificationError.{BatchVerificationError}
-use Rattle.verifier_draws.specs.Draws.{given_of, script_shape}
-use Rattle.batch_transcript.specs.BatchScript.{script, seeded}
-use Rattle.stark_audit.specs.Asked.{always, AreNamed}
-use Rattle.stark_audit.specs.Parts.{IsPlayed}
-use Rattle.stark_audit.specs.Audit.{audit, parts_of}
-use Rattle.stark_audit.specs.Steps.{printed, spaced_numbers}
+use Rattle.tool_verifier.specs.Refusals.{spaced}
+use Rattle.audit_batch.specs.Asked.{always, AreNamed}
+use Rattle.audit_batch.specs.Audit.{IsStepsText, audit}
 
 -- the line of something that fails
 abbrev pub fails_line : (name fields : List ℕ) → List ℕ
-fails_line name fields = codes "fails " ++ name ++ spaced_numbers fields ++ 10 ∷ []
+fails_line name fields = codes "fails " ++ name ++ spaced fields ++ 10 ∷ []
 
 -- the last line
 abbrev pub failed_line : ℕ → List ℕ
@@ -29,24 +26,12 @@ mismatch_line i = fails_line (codes "HeightMismatch") (i ∷ [])
 -- these names and numbers of refusals and numbers of the challenges' coefficients.
 module _ {S F E C P R : Type 0} (c : Setting S F E C) (b : Backend S F E C P R) (s : Statement F C) (p : ProofData F E C P) (stated : ℕ) (HasHeight : ℕ → Type 0)
     (name : BatchVerificationError R → List ℕ) (fields : BatchVerificationError R → List ℕ) (coefficients : E → List ℕ) where
-  -- the lines of the script's steps, from the seeded state on
-  abbrev pub steps_text : List ℕ
-  steps_text =
-      let shape = script_shape c.zk c.lookup_bits c.ood_bits s in
-      (printed c.challenger coefficients
-      (record { state = seeded c.challenger c.field.ring c.extension.dimension shape c.initial; index = 0; text = [] })
-      (script c.extension.ring c.extension.dimension shape (given_of s p))).text
-
-  -- they are there exactly where the script is played
-  abbrev pub IsPlayedText : List ℕ → Type 0
-  IsPlayedText text = (IsPlayed (parts_of c b s p) × (text ≡ steps_text)) ⊎ ((IsPlayed (parts_of c b s p) → ⊥) × (text ≡ []))
-
   -- the report
   pub record IsReport (text : List ℕ) (count : ℕ) : Type 0 where
     pub steps : List ℕ
     pub heights : List ℕ
     pub faults : List (BatchVerificationError R)
-    pub played : IsPlayedText steps
+    pub played : IsStepsText c b s p coefficients steps
     pub mismatches : AreNamed (always (numbers stated HasHeight)) heights
     pub failing : AreNamed (audit c b s p) faults
     pub counts : count ≡ length heights + length faults

@@ -1,14 +1,16 @@
-//! Which checks of a proof file fail: all of them, and not the first alone.
+//! What fails of a proof file: all checks that do, and the steps of its transcript with what is drawn along them.
 //!
-//! The definitions that the contracts cite are in `specs/`: checks with when each is asked, and which of them are named (`Asked`); those of
-//! a batch proof by their parts (`Parts`); the steps of a script as they are printed (`Steps`).
+//! The definitions that the contracts cite are in `specs/`: the report (`Report`), what is explained of a file, and the program (`Explain`).
 #![tactic(auto)]
 
-mod phases;
-mod steps;
+mod command;
+mod explain;
+mod report;
+mod tables;
+mod top;
 
-pub use phases::{
-    begun_steps, print_bindings, print_commitment, print_main, print_ood, print_opening,
-    print_pair, print_permutation, print_quotient, print_script, print_terminals,
-};
-pub use steps::Steps;
+pub use explain::explain;
+pub use tool_bytes::{Sink, Source, StdSink, StdSource};
+pub use tool_run::exit_code;
+pub use tool_verifier::{Answer, Status};
+pub use top::{run_explain, run_to_exit};

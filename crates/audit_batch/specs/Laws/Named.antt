@@ -67,7 +67,7 @@ module _ {R : Type 0} where
   names_by r true P x y h n = record {
     named = n.named;
     is = n.is;
-    are = elim n.are [ | inl t ↦ inl (λ q. h.0 refl, t.1) | inr t ↦ absurd (t.1 refl) ];
+    are = elim n.are [ inl t ↦ inl (λ q. h.0 refl, t.1) | inr t ↦ absurd (t.1 refl) ];
   }
   names_by r false P x y h n = record {
     named = n.named;

@@ -11,7 +11,8 @@ use Rattle.tool_statement.specs.declared.table.TableStatement.{TableStatement}
 use Rattle.tool_verifier.specs.FileAnswer.{IsAccepted, IsRefusedWith}
 use Rattle.tool_verifier.specs.Refusals.{fault_name, fault_numbers, fault_text, refused_text}
 use Rattle.tool_verifier.specs.declared.status.Status.TheVariants.{Done, Refused}
-use Rattle.stark_audit.specs.Explain.{IsExplained, IsReported, coefficient_numbers}
+use Rattle.stark_audit.specs.Explain.{IsExplained, IsReported, NamesRefusal, coefficient_numbers}
+use Rattle.transcript_version.specs.declared.TranscriptVersion.{TranscriptVersion}
 use Rattle.stark_audit.specs.Report.{fails_line, failed_line, mismatch_line}
 use Rattle.stark_audit.specs.Laws.Report.{first_fault, first_mismatch, nothing_fails, nothing_to_report}
 
@@ -25,28 +26,21 @@ four : (a b c e : List ℕ) → (a ++ []) ++ (b ++ c) ++ e ≡ (a ++ b) ++ (c ++
 four a b c e =
     ap (λ z. (z ++ (b ++ c)) ++ e) (append-nil a) ∙ append_assoc a (b ++ c) e ∙ ap (λ z. a ++ z) (append_assoc b c e) ∙ sym (append_assoc a b (c ++ e))
 
--- the first line of what fails has the name and the fields of a refusal
-pub record NamesRefusal (tables : List TableStatement) (p : ToolProofData) (text : List ℕ) : Type 0 where
-  pub name : List ℕ
-  pub fields : List ℕ
-  pub refused : IsRefusedWith tables p (refused_text name fields)
-  pub before : List ℕ
-  pub after : List ℕ
-  pub line : text ≡ (before ++ fails_line name fields) ++ after
-
-module _ (tables : List TableStatement) (p : ToolProofData) (text : List ℕ) where
-  pub explained_accepts : IsExplained tables p Done text → IsAccepted tables p
+module _ (version : TranscriptVersion) (tables : List TableStatement) (p : ToolProofData) (text : List ℕ) where
+  pub explained_accepts : IsExplained version tables p Done text → IsAccepted version tables p
+  unfolding IsExplained
   explained_accepts r =
-      nothing_fails tool_setting tool_backend (tool_statement tables) p (min (length tables) (length p.degree_bits)) (HasStatedHeight tables p.degree_bits) fault_name fault_numbers coefficient_numbers text 0 r refl
+      nothing_fails (tool_setting version) tool_backend (tool_statement tables) p (min (length tables) (length p.degree_bits)) (HasStatedHeight tables p.degree_bits) fault_name fault_numbers coefficient_numbers text 0 r refl
 
-  pub accepted_explains : IsAccepted tables p → IsExplained tables p Refused text → ⊥
+  pub accepted_explains : IsAccepted version tables p → IsExplained version tables p Refused text → ⊥
+  unfolding IsExplained
   accepted_explains a e =
-      let z : suc e.0 ≡ 0 = nothing_to_report tool_setting tool_backend (tool_statement tables) p (min (length tables) (length p.degree_bits)) (HasStatedHeight tables p.degree_bits) fault_name fault_numbers coefficient_numbers text
+      let z : suc e.0 ≡ 0 = nothing_to_report (tool_setting version) tool_backend (tool_statement tables) p (min (length tables) (length p.degree_bits)) (HasStatedHeight tables p.degree_bits) fault_name fault_numbers coefficient_numbers text
       (suc e.0) e.1 a.0 a.1 in
       cc
 
-  module _ (n : ℕ) (r : IsReported tables p text (suc n)) where
-    names_by : (hs : List ℕ) (fs : List (BatchVerificationError PlainError)) → r.heights ≡ hs → r.faults ≡ fs → NamesRefusal tables p text
+  module _ (n : ℕ) (r : IsReported version tables p text (suc n)) where
+    names_by : (hs : List ℕ) (fs : List (BatchVerificationError PlainError)) → r.heights ≡ hs → r.faults ≡ fs → NamesRefusal version tables p text
     unfolding fault_text
     names_by (i ∷ is) fs eh ef =
         let rest = flat_map (λ e. fails_line (fault_name e) (fault_numbers e)) r.faults in record {
@@ -54,7 +48,7 @@ module _ (tables : List TableStatement) (p : ToolProofData) (text : List ℕ) wh
           fields = i ∷ [];
           refused = inl (
             i,
-            first_mismatch tool_setting tool_backend (tool_statement tables) p (min (length tables) (length p.degree_bits)) (HasStatedHeight tables p.degree_bits) fault_name fault_numbers coefficient_numbers text (suc n) r i is eh,
+            first_mismatch (tool_setting version) tool_backend (tool_statement tables) p (min (length tables) (length p.degree_bits)) (HasStatedHeight tables p.degree_bits) fault_name fault_numbers coefficient_numbers text (suc n) r i is eh,
             refl,
           );
           before = r.steps;
@@ -63,7 +57,7 @@ module _ (tables : List TableStatement) (p : ToolProofData) (text : List ℕ) wh
               ∙ five r.steps (mismatch_line i) (flat_map mismatch_line is) rest (failed_line (suc n));
         }
     names_by [] (e ∷ es) eh ef =
-        let f = first_fault tool_setting tool_backend (tool_statement tables) p (min (length tables) (length p.degree_bits)) (HasStatedHeight tables p.degree_bits) fault_name fault_numbers coefficient_numbers text (suc n) r e es eh ef in record {
+        let f = first_fault (tool_setting version) tool_backend (tool_statement tables) p (min (length tables) (length p.degree_bits)) (HasStatedHeight tables p.degree_bits) fault_name fault_numbers coefficient_numbers text (suc n) r e es eh ef in record {
           name = fault_name e;
           fields = fault_numbers e;
           refused = inr (f.0, (e, f.1, refl));
@@ -76,5 +70,6 @@ module _ (tables : List TableStatement) (p : ToolProofData) (text : List ℕ) wh
         let k : suc n ≡ 0 = r.counts ∙ (λ j. length (eh j) + length (ef j)) in
         absurd cc
 
-  pub explained_names : IsExplained tables p Refused text → NamesRefusal tables p text
+  pub explained_names : IsExplained version tables p Refused text → NamesRefusal version tables p text
+  unfolding IsExplained
   explained_names e = names_by e.0 e.1 e.1.heights e.1.faults refl refl

@@ -6,10 +6,10 @@ use Rattle.batch_statement.specs.Proof.{ProofData}
 use Rattle.batch_statement.specs.Statement.{Statement}
 use Rattle.batch_statement.specs.declared.error.BatchVerificationError.{BatchVerificationError}
 use Rattle.verifier_batch.specs.BatchChecks.{Accepted, FirstFault}
-use Rattle.stark_audit.specs.Asked.{AreNamed, always}
-use Rattle.stark_audit.specs.Audit.{audit}
+use Rattle.audit_batch.specs.Asked.{AreNamed, always}
+use Rattle.audit_batch.specs.Audit.{audit}
 use Rattle.stark_audit.specs.Report.{IsReport}
-use Rattle.stark_audit.specs.Laws.Audit.{accepted_if_none_named, none_named_if_accepted, first_named_is_fault, holds_if_none_named, none_named_if_holds, first_named_fails}
+use Rattle.audit_batch.specs.Laws.Audit.{accepted_if_none_named, none_named_if_accepted, first_named_is_fault, holds_if_none_named, none_named_if_holds, first_named_fails}
 
 empty_list : {A : Type 0} (xs : List A) → length xs ≡ 0 → xs ≡ []
 empty_list [] h = refl

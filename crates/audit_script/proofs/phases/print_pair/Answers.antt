@@ -35,7 +35,7 @@ returns g c =
     pair_script_cases d c.args.tables bits c.args.witness c.if-tables-eq0.false ∙ ap (λ o. with_value (lookup_pow_step bits) (ground o) ∷ second ∷ third ∷ []) there in
     printed-chain functions numbers (first ∷ second ∷ []) (third ∷ []) x0 x2 x3
     (printed-chain functions numbers (first ∷ []) (second ∷ []) x0 x1 x2
-    (printed-pow functions numbers bits w c.in_ok-passes.passes x0 x1 c.in_ok-passes.ensures.answer c.in_ok-passes.ensures.state)
-    (printed-one functions numbers second x1 x2 c.in_ok-alpha.ensures.state))
-    (printed-one functions numbers third x2 x3 c.in_ok-beta.ensures.state)
+    (printed-pow functions numbers bits w c.in_ok-pow.field-0 x0 x1 c.in_ok-pow.ensures.answer c.in_ok-pow.ensures.state)
+    (printed-one functions numbers second x1 x2 c.in_ok-challenge.ensures))
+    (printed-one functions numbers third x2 x3 c.in_ok-challenge-2.ensures)
     ∙ ap (printed functions numbers x0) (sym whole)

@@ -24,4 +24,4 @@ returns g c =
     let last : Played g.row.F.Denot g.row.EF.Denot g.row.Com.Denot = with_value (constraint_challenge_step d) NoValue in
     printed-chain functions numbers (first ++ second) (last ∷ []) c.args.steps.now c.print_terminals.new.steps c.challenge.new.self
     (printed-chain functions numbers first second c.args.steps.now c.print_commitment.new.steps c.print_terminals.new.steps c.in_ok-print_commitment.ensures c.in_ok-print_terminals.ensures)
-    (printed-one functions numbers last c.print_terminals.new.steps c.challenge.new.self c.in_ok-alpha.ensures.state)
+    (printed-one functions numbers last c.print_terminals.new.steps c.challenge.new.self c.in_ok-challenge.ensures)

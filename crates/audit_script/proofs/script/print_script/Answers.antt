@@ -35,8 +35,8 @@ returns g c =
       ood_witness = a.ood_witness;
     } in
     printed-script functions numbers r d a.shape.now v c.in_ok-steps.steps _ _ _ _ _ _ _ _
-    c.in_ok-print_bindings.ensures c.in_ok-print_main.ensures c.in_ok-print_commitment.ensures (c.in_ok-_pair.ensures ∙ ap (λ (s : BatchShapeData). printed functions numbers c.print_commitment.new.steps (pair_script d s.num_lookup_instances s.lookup_pow_bits a.lookup_witness)) c.shape.view_is)
-    c.in_ok-_alpha.ensures c.in_ok-print_quotient.ensures
-    (c.in_ok-_zeta.ensures ∙ ap (λ (s : BatchShapeData). printed functions numbers c.print_quotient.new.steps (ood_script d s.ood_pow_bits a.ood_witness)) c.shape.view_is)
+    c.in_ok-print_bindings.ensures c.in_ok-print_main.ensures c.in_ok-print_commitment.ensures (c.in_ok-print_pair.ensures ∙ ap (λ (s : BatchShapeData). printed functions numbers c.print_commitment.new.steps (pair_script d s.num_lookup_instances s.lookup_pow_bits a.lookup_witness)) c.shape.view_is)
+    c.in_ok-print_permutation.ensures c.in_ok-print_quotient.ensures
+    (c.in_ok-print_ood.ensures ∙ ap (λ (s : BatchShapeData). printed functions numbers c.print_quotient.new.steps (ood_script d s.ood_pow_bits a.ood_witness)) c.shape.view_is)
     c.in_ok-print_opening.ensures
     ∙ ap (λ z. printed functions numbers z (script r d a.shape.now v)) c.in_ok-steps.ensures
