@@ -121,7 +121,8 @@ impl<C, EF> Steps<C, EF> {
         let mut rest = Vec::new(alloc);
         push_values(&mut rest, &coefficients)?;
         self.line(label, &rest)?;
-        self.challenges.push(value)
+        self.challenges.push(value)?;
+        Ok(())
     }
 
     /// Plays a grinding step of so many bits: tests the value, and prints whether it passes, which is the answer.

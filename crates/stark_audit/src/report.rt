@@ -37,7 +37,8 @@ fn push_mismatch(text: &mut Vec<u8>, table: usize) -> Mem<()>
 {
     text.extend_from_slice(b"fails HeightMismatch")?;
     push_spaced(text, &[table])?;
-    text.push(b'\n')
+    text.push(b'\n')?;
+    Ok(())
 }
 
 // The same of each of these tables.
@@ -60,7 +61,8 @@ fn push_refusal(text: &mut Vec<u8>, refusal: &BatchVerificationError<PlainError>
     text.extend_from_slice(b"fails ")?;
     text.extend_from_slice(name)?;
     push_fault(text, refusal)?;
-    text.push(b'\n')
+    text.push(b'\n')?;
+    Ok(())
 }
 
 // The same of each of these checks.
@@ -79,7 +81,8 @@ fn push_failed(text: &mut Vec<u8>, count: usize) -> Mem<()>
 {
     text.extend_from_slice(b"failed")?;
     push_spaced(text, &[count])?;
-    text.push(b'\n')
+    text.push(b'\n')?;
+    Ok(())
 }
 
 /// The report behind the lines of the script's steps, with how many things fail.
