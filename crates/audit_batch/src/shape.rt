@@ -1,5 +1,5 @@
 //! The shape of a batch proof: all checks that fail.
-ghost use Rattle.std.specs.Prelude.{◌≡◌, ℕ, ◌+◌, ◌^◌, ◌<◌, ◌≤◌, [], IfOk, MatchOption, OnOk, length, map, option_map};
+ghost use Rattle.std.specs.Prelude.{◌≡◌, ℕ, ◌+◌, ◌^◌, ◌<◌, ◌≤◌, ◌++◌, [], IfOk, MatchOption, OnOk, length, map, option_map, option_to_list};
 ghost use Rattle.std.specs.Prelude.{slice_index_or as get_or};
 ghost use Rattle.p3_field.specs.Checks.{NoneFails, in_turn};
 ghost use Rattle.p3_field.specs.Poly.{tabulate};
@@ -36,6 +36,16 @@ fn uncounted<R>() -> BatchVerificationError<R>
     ))
 }
 
+// Appends the number that a call gave, where it gave one.
+fn push_kept(chunks: &mut Vec<usize>, kept: Option<usize>) -> Mem<()>
+    ensures { OnOk result (chunks.new.items ≡ chunks.old.items ++ option_to_list kept) }
+{
+    if let Some(count) = kept {
+        chunks.push(count)?;
+    }
+    Ok(())
+}
+
 // The checks of the tables' sizes, of which each table's first that fails is named. Where none fails it gives the logarithms of
 // the numbers of the quotients' chunks before masking.
 fn name_sizes<F: Field, A: Air<F>, R: Drop>(
@@ -61,15 +71,16 @@ fn name_sizes<F: Field, A: Air<F>, R: Drop>(
         × (v.items ≡ tabulate (length airs.now) (log_chunks_at F.ring masks (tables_of A.declaration A.trees airs.now) (map read_all lookups.now) degree_bits.now)))) }
 {
     let mut chunks = Vec::new(alloc);
-    let mut all = true;
     for index in 0..airs.len() {
         let answer = size_at(alloc, index, airs, lookups, degree_bits, least, most, masks);
-        match note(refusals, answer)? {
-            Some(count) => chunks.push(count)?,
-            None => all = false,
-        }
+        let kept = note(refusals, answer)?;
+        push_kept(&mut chunks, kept)?;
     }
-    if all { Ok(Some(chunks)) } else { Ok(None) }
+    if chunks.len() == airs.len() {
+        Ok(Some(chunks))
+    } else {
+        Ok(None)
+    }
 }
 
 // The checks of what is opened of one table of a batch.

@@ -7,7 +7,7 @@ use Rattle.std.specs.Prelude.{IsTrue, ◌↔◌, true, false, codes}
 use Rattle.p3_challenger.specs.Grind.{PassesGrinding, checked_state}
 use Rattle.p3_challenger.specs.Laws.Scripts.{grinding-state, passes-checked, unchecked-fails}
 use Rattle.p3_challenger.specs.Script.{NoValue, Elements}
-use Rattle.batch_transcript.specs.BatchScript.{BatchShapeData, Given, bindings_script, draws, draws_of, ground, lookup_alpha_step, lookup_beta_step, lookup_pow_step, main_script, ood_script, opening_script, pair_script, permutation_script, preprocessed_commitment_step, preprocessed_script, quotient_script, script, sealed, seeded, with_value}
+use Rattle.batch_transcript.specs.BatchScript.{BatchShapeData, Draws, Given, bindings_script, draws, draws_of, ground, lookup_alpha_step, lookup_beta_step, lookup_pow_step, main_script, ood_script, opening_script, pair_script, permutation_script, preprocessed_commitment_step, preprocessed_script, quotient_script, script, sealed, seeded, with_value}
 use Rattle.p3_challenger.specs.Script.{ChallengerOf, Played, Transcript, play, play_kind, begun, steps_of, passes, after_grinding, observe_value, amount}
 use Rattle.p3_challenger.specs.Laws.Scripts.{after_all, play-after}
 use Rattle.p3_challenger.specs.declared.script.InteractionKind.{InteractionKind}
@@ -164,3 +164,8 @@ module _ {S F E M : Type 0} (c : ChallengerOf S F E M) (numbers : E → List ℕ
       → draws_of r s.num_lookup_instances (transcript_of (printed c numbers (unprinted E (seeded c f d s initial)) (script r d s g))) ≡ draws c f r d initial s g
   unfolding draws
   folded-draws f r d initial s g = ap (draws_of r s.num_lookup_instances) (printed-drawn c numbers (unprinted E (seeded c f d s initial)) (script r d s g))
+
+-- the draws where some instances have lookups
+pub some_draws : {S E : Type 0} (r : Ring E) (n : ℕ) (t : Transcript S E) (d : Draws S E) → (n ≡ 0 → ⊥) → ((m : ℕ) → d ≡ draws_of r (suc m) t) → d ≡ draws_of r n t
+some_draws r zero t d h e = absurd (h refl)
+some_draws r (suc m) t d h e = e m
