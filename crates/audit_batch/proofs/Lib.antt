@@ -1,1 +1,2 @@
+mod Preprocessed
 mod Sized
