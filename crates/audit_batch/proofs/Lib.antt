@@ -1,1 +1,5 @@
+<<<<<<< HEAD
+=======
+mod Preprocessed
+>>>>>>> trial-h4
 mod Sized
