@@ -1,5 +1,2 @@
-<<<<<<< HEAD
-=======
 mod Preprocessed
->>>>>>> trial-h4
 mod Sized

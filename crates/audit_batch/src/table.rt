@@ -1,15 +1,8 @@
 //! What is opened of one table: all checks that fail.
-<<<<<<< HEAD
-ghost use Rattle.std.specs.Prelude.{◌≡◌, ◌↔◌, IsTrue, OnOk, length, map, option_map};
-ghost use Rattle.air_core.specs.Shape.{width_of};
-ghost use Rattle.verifier_shape.specs.ShapeChecks.{chunk_checks, lookup_checks, main_checks, next_length, preprocessed_next_of};
-ghost use Rattle.audit_batch.specs.Asked.{always};
-=======
 ghost use Rattle.std.specs.Prelude.{◌≡◌, ◌↔◌, [], ◌∷◌, IsTrue, OnOk, length};
 ghost use Rattle.air_core.specs.Shape.{width_of};
 ghost use Rattle.verifier_shape.specs.ShapeChecks.{chunk_checks, lookup_checks, main_checks, next_length, preprocessed_next_check, preprocessed_next_of};
 ghost use Rattle.audit_batch.specs.Asked.{always, only};
->>>>>>> trial-h4
 ghost use Rattle.audit_batch.specs.Audit.{HasNoUndeclaredNext, preprocessed_asked, table_asked};
 ghost use Rattle.audit_batch.specs.Named.{Names};
 
@@ -99,8 +92,6 @@ fn has_no_undeclared_next<E>(
     !declared.is_empty() || next_values(opened) == 0
 }
 
-<<<<<<< HEAD
-=======
 // The check of a next row that isn't declared, where none has values.
 fn name_preprocessed_next<E, R: Drop>(
     refusals: &mut Vec<BatchVerificationError<R>>,
@@ -117,7 +108,6 @@ fn name_preprocessed_next<E, R: Drop>(
     Ok(())
 }
 
->>>>>>> trial-h4
 // The preprocessed rows, of which a next row without values is named where none is declared: one with values has another width.
 fn name_preprocessed<F: Field, A: BaseAir<F>, E, R: Drop>(
     refusals: &mut Vec<BatchVerificationError<R>>,
@@ -139,16 +129,7 @@ fn name_preprocessed<F: Field, A: BaseAir<F>, E, R: Drop>(
         refusals,
         check_preprocessed_width(index, width, declared, &base.preprocessed),
     )?;
-<<<<<<< HEAD
-    if has_no_undeclared_next(declared, &base.preprocessed) {
-        note(
-            refusals,
-            check_preprocessed_next(index, declared, &base.preprocessed),
-        )?;
-    }
-=======
     name_preprocessed_next(refusals, index, declared, &base.preprocessed)?;
->>>>>>> trial-h4
     Ok(())
 }
 
@@ -188,10 +169,6 @@ pub(crate) fn name_table<F: Field, A: BaseAir<F>, E, R: Drop>(
     name_main(refusals, index, air, publics, opened)?;
     name_chunks(refusals, index, chunks, dimension, opened)?;
     name_preprocessed(refusals, index, air, opened)?;
-<<<<<<< HEAD
-    name_lookup_rows(refusals, index, lookups, dimension, opened, terminal)
-=======
     name_lookup_rows(refusals, index, lookups, dimension, opened, terminal)?;
     Ok(())
->>>>>>> trial-h4
 }

@@ -32,12 +32,8 @@ pub fn to_json(alloc: Global, file: &ProofFile) -> Mem<Vec<u8>>
     ensures text { IfOk result (λ v. v.items ≡ compact_text (file_tree file.now)) }
     ensures reads_back { IfOk result (λ v. IsJsonOf v.items file.now) }
 {
-<<<<<<< HEAD
-    FileForm::write(alloc, file)?.to_vec(alloc)
-=======
     let tree = FileForm::write(alloc, file)?;
     tree.to_vec(alloc)
->>>>>>> trial-h2
 }
 
 /// The proof file whose JSON the bytes are (not in Plonky3).

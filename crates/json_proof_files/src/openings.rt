@@ -8,12 +8,6 @@ use serde_json::Value;
 use std::alloc::Global;
 
 /// At most 65536 elements of the extension.
-<<<<<<< HEAD
-pub type ValuesForm = ListOf<QuarticExtension, 0, 65536>;
-
-/// At most 1024 quotient chunks.
-pub type ChunksForm = ListOf<ValuesForm, 0, 1024>;
-=======
 type Elements = ListOf<QuarticExtension, 0, 65536>;
 
 /// At most 1024 quotient chunks.
@@ -58,7 +52,6 @@ impl Present for ValuesForm {
 
     ghost solid = { refl };
 }
->>>>>>> trial-h2
 
 /// The form of the preprocessed columns' values: an object of those at the drawn point, and those at the next, which may be absent.
 pub struct PreprocessedForm;
@@ -145,11 +138,7 @@ impl JsonForm for InstanceForm {
         let permutation_local = members.read::<ValuesForm>(alloc, "permutation_local")?;
         let permutation_next = members.read::<ValuesForm>(alloc, "permutation_next")?;
         let preprocessed = members.read::<Option<PreprocessedForm>>(alloc, "preprocessed")?;
-<<<<<<< HEAD
-        let quotient_chunks = members.read::<ChunksForm>(alloc, "quotient_chunks")?;
-=======
         let quotient_chunks = members.read::<Chunks>(alloc, "quotient_chunks")?;
->>>>>>> trial-h2
         let random = members.read::<Option<ValuesForm>>(alloc, "random")?;
         let trace_local = members.read::<ValuesForm>(alloc, "trace_local")?;
         let trace_next = members.read::<Option<ValuesForm>>(alloc, "trace_next")?;
@@ -173,11 +162,7 @@ impl JsonForm for InstanceForm {
         members.write::<ValuesForm>(alloc, "permutation_local", &value.permutation_local)?;
         members.write::<ValuesForm>(alloc, "permutation_next", &value.permutation_next)?;
         members.write::<Option<PreprocessedForm>>(alloc, "preprocessed", &base.preprocessed)?;
-<<<<<<< HEAD
-        members.write::<ChunksForm>(alloc, "quotient_chunks", &base.quotient_chunks)?;
-=======
         members.write::<Chunks>(alloc, "quotient_chunks", &base.quotient_chunks)?;
->>>>>>> trial-h2
         members.write::<Option<ValuesForm>>(alloc, "random", &base.random)?;
         members.write::<ValuesForm>(alloc, "trace_local", &base.trace_local)?;
         members.write::<Option<ValuesForm>>(alloc, "trace_next", &base.trace_next)?;

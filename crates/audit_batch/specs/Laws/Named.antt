@@ -94,14 +94,11 @@ module _ {R : Type 0} where
   pub names_all : (qs : List (Asked R)) (x y : List R) → x ≡ [] → Names qs x y → AreNamed qs y
   names_all qs x y e n = subst (AreNamed qs) (sym (n.is ∙ ap (λ l. l ++ n.named) e)) n.are
 
-<<<<<<< HEAD
-=======
 -- one check
 alone : {R : Type 0} (c : Check (BatchVerificationError R)) (a b : List (BatchVerificationError R)) → Names (in_order (c ∷ [])) a b → Names (always (c ∷ [])) a b
 unfolding always in_order only
 alone c a b n = n
 
->>>>>>> trial-h4
 -- by the answer of a call
 module _ {T R : Type 0} where
   pub names_verdict : (cs : List (Check (BatchVerificationError R))) (r : Result T (BatchVerificationError R)) (a b : List (BatchVerificationError R)) (k : Option T)
@@ -120,14 +117,6 @@ module _ {T R : Type 0} where
   names_decided cs (Err (Transcript e)) a b k v n = record { named = Transcript e ∷ []; is = n.0; are = named_if_first cs (Transcript e) v }
   names_decided cs (Err OutOfMemory) a b k v n = absurd n.0
 
-<<<<<<< HEAD
-  -- one check
-  alone : (c : Check (BatchVerificationError R)) (a b : List (BatchVerificationError R)) → Names (in_order (c ∷ [])) a b → Names (always (c ∷ [])) a b
-  unfolding always in_order only
-  alone c a b n = n
-
-=======
->>>>>>> trial-h4
   pub names_check : (c : Check (BatchVerificationError R)) (r : Result T (BatchVerificationError R)) (a b : List (BatchVerificationError R)) (k : Option T)
       → IsDecided (c ∷ []) r → IsNoted r a b k → Names (always (c ∷ [])) a b
   names_check c r a b k v n = alone c a b (names_decided (c ∷ []) r a b k v n)

@@ -1,14 +1,8 @@
 -- The form of matrices.
 use Rattle.std.specs.Prelude.{◌≡◌, ℕ, zero, suc, ◌*◌, ◌≤◌, List, length, codes, Bool, true, false, ◌&&◌, ◌==◌, not, if◌then◌else◌, refl}
-<<<<<<< HEAD
-use Rattle.std.proofs.Common.{sym, ap, ◌∙◌, arith}
-use Rattle.std.proofs.Common.{mul-le-mul}
-use Rattle.std.proofs.lemmas.Bool.{eqb-true, eq-eqb}
-=======
 use Rattle.std.proofs.Common.{sym, ap, subst, ◌∙◌, arith}
 use Rattle.std.proofs.Common.{mul-le-mul}
 use Rattle.std.proofs.lemmas.Bool.{eqb-true, eq-eqb, false≢true}
->>>>>>> trial-h2
 use Rattle.p3_field.specs.declared.baby_bear.BabyBear.{BabyBear}
 use Rattle.p3_matrix.specs.Matrix.{Rows, height}
 use Rattle.tool_lines.specs.Texts.{Between, Unlimited, ListWithin}
@@ -33,12 +27,6 @@ true-both a b p q = rw (p, q) refl
 abbrev pub both_or_neither : ℕ → ℕ → Bool
 both_or_neither rows columns = if rows == 0 then columns == 0 else not (columns == 0)
 
-<<<<<<< HEAD
-height-within : (rows columns : ℕ) → rows ≤ 4096 → both_or_neither rows columns ≡ true → HeightWithin columns rows
-height-within zero zero most e = (omega arith, omega arith)
-height-within zero (suc w) most e = absurd (cc)
-height-within (suc h) zero most e = absurd (cc)
-=======
 suc-differs : (n : ℕ) (b : Bool) → (suc n == 0) ≡ b → (suc n == 0) ≡ false
 suc-differs n true e = let t = eqb-true (suc n) 0 e in absurd (omega (arith, t))
 suc-differs n false e = e
@@ -49,18 +37,13 @@ height-within zero (suc w) most e = let t = eqb-true (suc w) 0 e in absurd (omeg
 height-within (suc h) zero most e =
     let t : false ≡ true = subst (λ (b : Bool). (if b then true else false) ≡ true) (suc-differs h (suc h == 0) refl) e in
     absurd (false≢true t)
->>>>>>> trial-h2
 height-within (suc h) (suc w) most e = (omega arith, most)
 
 within-height : (rows columns : ℕ) → HeightWithin columns rows → both_or_neither rows columns ≡ true
 within-height zero zero fits = refl
 within-height zero (suc w) fits = let least = fits.0 in absurd (omega (arith, least))
 within-height (suc h) zero fits = let most = fits.1 in absurd (omega (arith, most))
-<<<<<<< HEAD
-within-height (suc h) (suc w) fits = refl
-=======
 within-height (suc h) (suc w) fits = rw (suc-differs h (suc h == 0) refl, suc-differs w (suc w == 0) refl) refl
->>>>>>> trial-h2
 
 abbrev pub ShapedWithin : Shaped → Type 0
 ShapedWithin = BothWithin (Between 0 4096) (BothWithin (ListWithin 0 67108864 Unlimited) (Between 0 16384))
