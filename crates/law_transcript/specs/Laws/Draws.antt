@@ -74,39 +74,39 @@ same_betas : {S E : Type 0} (r : Ring E) (n : ℕ) (t u : Transcript S E)
 same_betas r zero t u h = refl
 same_betas r (suc n) t u h = ap (λ l. get_or l 1 r.zero) (h refl)
 
-module _ {S F E C P : Type 0} (c : Setting S F E C) (s : Statement F C) where
-  abbrev shape : BatchShapeData
-  shape = script_shape c.version c.zk c.lookup_bits c.ood_bits s
+abbrev shape_of : {S F E C : Type 0} → Setting S F E C → Statement F C → BatchShapeData
+shape_of c s = script_shape c.version c.zk c.lookup_bits c.ood_bits s
 
+module _ {S F E C P : Type 0} (c : Setting S F E C) (s : Statement F C) where
   -- the pair as the stage of its own steps draws it, alpha, and zeta
   abbrev pair_drawn : ProofData F E C P → List E
   pair_drawn p =
-      drawn_along c.challenger (at_pair c.challenger c.field.ring c.extension.ring c.extension.dimension c.initial shape (given_of s p))
-      (pair_of c.challenger c.field.ring c.extension.ring c.extension.dimension c.initial shape (given_of s p))
+      drawn_along c.challenger (at_pair c.challenger c.field.ring c.extension.ring c.extension.dimension c.initial (shape_of c s) (given_of s p))
+      (pair_of c.challenger c.field.ring c.extension.ring c.extension.dimension c.initial (shape_of c s) (given_of s p))
 
   abbrev alpha_drawn : ProofData F E C P → E
   alpha_drawn p =
-      first_drawn c.challenger c.extension.ring.zero (at_permutation c.challenger c.field.ring c.extension.ring c.extension.dimension c.initial shape (given_of s p))
-      (alpha_of c.challenger c.field.ring c.extension.ring c.extension.dimension c.initial shape (given_of s p))
+      first_drawn c.challenger c.extension.ring.zero (at_permutation c.challenger c.field.ring c.extension.ring c.extension.dimension c.initial (shape_of c s) (given_of s p))
+      (alpha_of c.challenger c.field.ring c.extension.ring c.extension.dimension c.initial (shape_of c s) (given_of s p))
 
-  pair_is : (p : ProofData F E C P) → is_positive shape.num_lookup_instances ≡ true → (drawn_of c s p).lookup_alpha ∷ (drawn_of c s p).lookup_beta ∷ [] ≡ pair_drawn p
+  pair_is : (p : ProofData F E C P) → is_positive (shape_of c s).num_lookup_instances ≡ true → (drawn_of c s p).lookup_alpha ∷ (drawn_of c s p).lookup_beta ∷ [] ≡ pair_drawn p
   unfolding drawn
-  pair_is p = (staged c.challenger c.field.ring c.extension.ring c.extension.dimension c.initial shape (given_of s p)).pair_is
+  pair_is p = (staged c.challenger c.field.ring c.extension.ring c.extension.dimension c.initial (shape_of c s) (given_of s p)).pair_is
 
   alpha_is : (p : ProofData F E C P) → (drawn_of c s p).alpha ≡ alpha_drawn p
   unfolding drawn
-  alpha_is p = (staged c.challenger c.field.ring c.extension.ring c.extension.dimension c.initial shape (given_of s p)).alpha_is
+  alpha_is p = (staged c.challenger c.field.ring c.extension.ring c.extension.dimension c.initial (shape_of c s) (given_of s p)).alpha_is
 
   module _ (p q : ProofData F E C P) where
-    one_pair : AgreeBeforePair p q → is_positive shape.num_lookup_instances ≡ true
+    one_pair : AgreeBeforePair p q → is_positive (shape_of c s).num_lookup_instances ≡ true
         → (drawn_of c s p).lookup_alpha ∷ (drawn_of c s p).lookup_beta ∷ [] ≡ (drawn_of c s q).lookup_alpha ∷ (drawn_of c s q).lookup_beta ∷ []
     one_pair a h = pair_is p h ∙ ap pair_drawn (to_pair_is p q a) ∙ sym (pair_is q h)
 
     pub same_pair : AgreeBeforePair p q → HaveOnePair c s p q
     unfolding drawn draws
     same_pair a = record {
-      alpha = same_alphas c.extension.ring shape.num_lookup_instances _ _ (one_pair a);
-      beta = same_betas c.extension.ring shape.num_lookup_instances _ _ (one_pair a);
+      alpha = same_alphas c.extension.ring (shape_of c s).num_lookup_instances _ _ (one_pair a);
+      beta = same_betas c.extension.ring (shape_of c s).num_lookup_instances _ _ (one_pair a);
     }
 
     pub same_alpha : AgreeBeforeAlpha p q → (drawn_of c s p).alpha ≡ (drawn_of c s q).alpha

@@ -1,5 +1,6 @@
 -- The committed tables, and the challenges that are unlucky for them, are the same of two proofs that agree before the challenge.
-use Rattle.std.proofs.Common.{◌≡◌, ℕ, zero, suc, ◌<◌, List, [], ◌∷◌, length, Contains, refl, sym, ◌∙◌, ap, subst, inl, inr, arith}
+use Rattle.std.proofs.Common.{◌≡◌, ℕ, zero, suc, ◌<◌, List, [], ◌∷◌, length, get_or, Contains, refl, sym, ◌∙◌, ap, subst, inl, inr, arith}
+use Rattle.p3_field.specs.Laws.Tabulate.{get_or-tabulate, length-tabulate}
 use Rattle.p3_field.specs.Poly.{tabulate}
 use Rattle.p3_lookup.specs.Messages.{Message}
 use Rattle.plain_pcs.specs.Scheme.{PlainCommitmentData}
@@ -11,7 +12,11 @@ use Rattle.batch_config.specs.Setting.{Setting}
 use Rattle.batch_statement.specs.Proof.{ProofData}
 use Rattle.batch_statement.specs.Statement.{Statement}
 use Rattle.verifier_batch.specs.BatchChecks.{drawn_of, table_challenges_of}
-use Rattle.verifier_draws.specs.Draws.{table_challenges}
+use Rattle.std.specs.Prelude.{count_by}
+use Rattle.batch_statement.specs.Words.{has_some}
+use Rattle.batch_transcript.specs.BatchScript.{Draws}
+use Rattle.batch_transcript.specs.Buses.{batch_layout}
+use Rattle.verifier_draws.specs.Draws.{drawn_pair}
 use Rattle.law_soundness.specs.CommittedBatch.{committed_at, committed_batch, committed_table_at, constraints_at}
 use Rattle.law_balance.specs.Accepted.{messages_of_proof}
 use Rattle.law_transcript.specs.Before.{AgreeBeforePair, AgreeBeforeAlpha, AgreeBeforeZeta, HaveOnePair}
@@ -19,23 +24,23 @@ use Rattle.law_transcript.specs.Laws.Draws.{same_draws, same_pair, to_alpha, to_
 
 -- what is contained in a tabulated list is one of its items
 contained_at : {X : Type 0} (n : ℕ) (t : ℕ → X) (x : X) → Contains (tabulate n t) x → (i : ℕ) × (i < n) × (t i ≡ x)
-contained_at zero t x h = absurd h
-contained_at (suc n) t x h = elim h [
-  | inl e ↦ (zero, omega arith, e)
-  | inr r ↦ let f = contained_at n (λ i. t (suc i)) x r in (suc f.0, omega (arith, f.1), f.2)
-]
+contained_at n t x (i, l, e) =
+    let below : i < n = let k = length-tabulate n t in omega (arith, k, l) in (i, below, sym (get_or-tabulate n t i x below) ∙ e)
 
 contains_at : {X : Type 0} (n : ℕ) (t : ℕ → X) (i : ℕ) → i < n → Contains (tabulate n t) (t i)
-contains_at zero t i l = absurd (omega arith)
-contains_at (suc n) t zero l = inl refl
-contains_at (suc n) t (suc i) l = inr (contains_at n (λ j. t (suc j)) i (omega arith))
+contains_at n t i l = (i, (let k = length-tabulate n t in omega (arith, k, l)), get_or-tabulate n t i (t i) l)
+
+-- the pair that is drawn where so many tables have lookups
+same_drawn : {S E : Type 0} (n : ℕ) (d e : Draws S E) → d.lookup_alpha ≡ e.lookup_alpha → d.lookup_beta ≡ e.lookup_beta → drawn_pair n d ≡ drawn_pair n e
+same_drawn zero d e a b = refl
+same_drawn (suc n) d e a b = λ j. a j ∷ b j ∷ []
 
 module _ {S F E P : Type 0} (c : Setting S F E (PlainCommitmentData F)) (log_blowup : ℕ) (s : Statement F (PlainCommitmentData F)) (p q : ProofData F E (PlainCommitmentData F) P) where
   -- the challenges of a table's lookups
   same_challenges : AgreeBeforePair p q → (i : ℕ) → table_challenges_of c s p i ≡ table_challenges_of c s q i
   same_challenges a i =
       let one = same_pair c s p q a in
-      λ j. table_challenges c.extension.ring (record (drawn_of c s q) { lookup_alpha = one.alpha j; lookup_beta = one.beta j }) s i
+      ap (λ pair. get_or (batch_layout c.extension.ring pair s.common.lookups) i []) (same_drawn (count_by has_some s.common.lookups) (drawn_of c s p) (drawn_of c s q) one.alpha one.beta)
 
   pub same_tables : AgreeBeforeAlpha p q → (i : ℕ) → committed_table_at c log_blowup s p i ≡ committed_table_at c log_blowup s q i
   same_tables a i =
