@@ -1,2 +1,6 @@
 mod Preprocessed
+mod Shapes
 mod Sized
+mod Sizes
+mod Whole
+mod Witness

@@ -1,14 +1,14 @@
 -- The numbers of chunks that are kept, table by table: all so far, or fewer, where some table's size is wrong.
-use Rattle.std.proofs.Common.{◌≡◌, ℕ, ◌+◌, ◌<◌, List, [], ◌∷◌, ◌++◌, length, Option, Some, None, Result, Ok, Err, refl, sym, ◌∙◌, ap, subst, inl, inr, arith, length-append}
+use Rattle.std.proofs.Common.{◌≡◌, ℕ, ◌+◌, ◌<◌, List, [], ◌∷◌, ◌++◌, length, Option, Some, None, Result, Ok, Err, refl, ◌∙◌, ap, subst, inl, inr, arith, add-one, length-append}
 use Rattle.std.proofs.lemmas.List.{append-nil}
-use Rattle.std.specs.Prelude.{◌⊎◌, IfOk, MatchOption, option_to_list}
+use Rattle.std.specs.Prelude.{◌⊎◌, IfOk, option_to_list}
 use Rattle.p3_field.specs.Checks.{Check, NoneFails, in_turn}
 use Rattle.p3_field.specs.Laws.Checks.{none_before, none_after, none_in_turn, none_of_none}
 use Rattle.p3_field.specs.Laws.Tabulate.{length-tabulate, tabulate_push}
 use Rattle.p3_field.specs.Poly.{tabulate}
 use Rattle.batch_statement.specs.Verdict.{IsVerdict}
 use Rattle.batch_statement.specs.declared.error.BatchVerificationError.{BatchVerificationError}
-use Rattle.audit_batch.specs.Laws.Named.{kept_none, kept_some}
+use Rattle.audit_batch.specs.Laws.Named.{kept_none}
 use Rattle.audit_batch.specs.Named.{IsNoted}
 
 module _ {R : Type 0} (f : ℕ → List (Check (BatchVerificationError R))) (t : ℕ → ℕ) where
@@ -22,7 +22,7 @@ module _ {R : Type 0} (f : ℕ → List (Check (BatchVerificationError R))) (t :
   parted : (i : ℕ) → NoneFails (in_turn (i + 1) f) → NoneFails (in_turn i f) × NoneFails (f i)
   unfolding in_turn
   parted i h =
-      let g : NoneFails (in_turn i f ++ f i) = subst (λ (k : ℕ). NoneFails (in_turn k f)) (omega arith) h in
+      let g : NoneFails (in_turn i f ++ f i) = subst (λ (k : ℕ). NoneFails (in_turn k f)) (add-one i) h in
       (none_before (in_turn i f) (f i) g, none_after (in_turn i f) (f i) g)
 
   -- the answer for one more table

@@ -1,7 +1,7 @@
 -- Which checks of a batch proof are asked where all that fail are to be named, and what is named. After `verify_batch` of Plonky3's p3-batch-stark, whose
 -- checks in order `checks` lists.
 use Rattle.std.specs.Prelude.{slice_index_or as get_or}
-use Rattle.std.specs.Prelude.{◌≡◌, ℕ, zero, suc, ◌+◌, ◌^◌, Bool, true, false, is_some, List, [], ◌∷◌, ◌++◌, length, map, Option, Some, None, ◌⊎◌}
+use Rattle.std.specs.Prelude.{◌≡◌, ℕ, zero, suc, ◌+◌, ◌^◌, Bool, true, false, is_some, List, [], ◌∷◌, ◌++◌, length, Option, None, ◌⊎◌}
 use Rattle.std.specs.Option.{unwrap_or}
 use Rattle.p3_field.specs.Checks.{Check, check}
 use Rattle.p3_field.specs.Ring.{Ring}
@@ -18,7 +18,7 @@ use Rattle.batch_statement.specs.Statement.{AirTable, Statement}
 use Rattle.batch_statement.specs.Words.{has_some, is_there, no_opened, no_table}
 use Rattle.batch_statement.specs.declared.error.BatchVerificationError.{BatchVerificationError}
 use Rattle.batch_statement.specs.declared.error.BatchVerificationError.TheVariants.{Verification, Transcript}
-use Rattle.verifier_shape.specs.ShapeChecks.{Bounds, HaveItemForEachTable, IsRandomized, bound_at, chunk_checks, heights_of, log_chunks_at, lookup_checks, main_checks, next_length, permutation_check, preprocessed_checks, preprocessed_next_check, preprocessed_next_of, preprocessed_width_check, shape_check, sizes_at, unpreprocessed_check}
+use Rattle.verifier_shape.specs.ShapeChecks.{Bounds, HaveItemForEachTable, IsRandomized, bound_at, chunk_checks, heights_of, log_chunks_at, lookup_checks, main_checks, next_length, permutation_check, preprocessed_next_check, preprocessed_next_of, preprocessed_width_check, shape_check, sizes_at, unpreprocessed_check}
 use Rattle.verifier_draws.specs.Draws.{given_of, lookup_grinding, ood_grinding, script_shape}
 use Rattle.verifier_claims.specs.Claims.{claims, matrix_tables}
 use Rattle.verifier_batch.specs.OpeningChecks.{claimed, domain_checks, metadata_check, opens_check, shape_bounds_of}

@@ -12,7 +12,7 @@ ghost use Rattle.audit_script.specs.Steps.{draws_told};
 ghost use Rattle.audit_batch.specs.Asked.{AreNamed, only};
 ghost use Rattle.audit_batch.specs.Audit.{HasWitness, IsStepsText, audit, parts_of, steps_text, tables_with_lookups};
 ghost use Rattle.audit_batch.specs.Named.{Names};
-ghost use Rattle.audit_batch.specs.Parts.{claims_asked, drawn_asked, openings_asked, shape_asked, shape_list};
+ghost use Rattle.audit_batch.specs.Parts.{claims_asked, claims_list, drawn_asked, openings_asked, shape_asked, shape_list};
 
 use crate::drawn::{
     has_witness, name_domains, name_lookup_grinding, name_metadata, name_ood_grinding,
@@ -99,7 +99,7 @@ fn name_claims<SC: StarkGenericConfig, A: Air<Val<SC>>>(
     ensures names { let s = statement_with (tables_of A.declaration A.trees airs.now) (map (λ v. v.items) public_values.now) common.now in
         OnOk result (Names (claims_asked (parts_of (⟦<SC as Settings>⟧.setting config.now) (⟦<SC as Settings>⟧.backend config.now) s proof.now)) refusals.old.items refusals.new.items) }
     ensures none { let s = statement_with (tables_of A.declaration A.trees airs.now) (map (λ v. v.items) public_values.now) common.now in
-        IfOk result (λ hold. IsTrue hold ↔ NoneFails (claim_checks {R = SC.Pcs.Error} (⟦<SC as Settings>⟧.setting config.now) s proof.now)) }
+        IfOk result (λ hold. IsTrue hold ↔ NoneFails (claim_checks (⟦<SC as Settings>⟧.setting config.now) s proof.now {R = SC.Pcs.Error})) }
 {
     let before = refusals.len();
     let pcs = config.pcs();
@@ -123,6 +123,7 @@ fn name_openings<SC: StarkGenericConfig, A: Air<Val<SC>>>(
     public_values: &[Vec<Val<SC>>],
     common: &CommonData<SC>,
     chunks: &[usize],
+    claimed: bool,
     tables: usize,
     draws: ScriptDraws<Challenger<SC>, Challenge<SC>>,
 ) -> Mem<()>
@@ -131,15 +132,19 @@ fn name_openings<SC: StarkGenericConfig, A: Air<Val<SC>>>(
         (statement_with (tables_of A.declaration A.trees airs.now) (map (λ v. v.items) public_values.now) common.now) proof.now) }
     requires chunks { let s = statement_with (tables_of A.declaration A.trees airs.now) (map (λ v. v.items) public_values.now) common.now in
         chunks.now ≡ tabulate (length airs.now) (log_chunks_of_table (⟦<SC as Settings>⟧.setting config.now) s proof.now) }
-    requires claims { let s = statement_with (tables_of A.declaration A.trees airs.now) (map (λ v. v.items) public_values.now) common.now in
-        NoneFails (claim_checks {R = SC.Pcs.Error} (⟦<SC as Settings>⟧.setting config.now) s proof.now) }
+    requires claimed { let s = statement_with (tables_of A.declaration A.trees airs.now) (map (λ v. v.items) public_values.now) common.now in
+        IsTrue claimed ↔ NoneFails (claim_checks (⟦<SC as Settings>⟧.setting config.now) s proof.now {R = SC.Pcs.Error}) }
     requires tables { let s = statement_with (tables_of A.declaration A.trees airs.now) (map (λ v. v.items) public_values.now) common.now in
         tables ≡ tables_with_lookups (⟦<SC as Settings>⟧.setting config.now) s }
     requires draws { let s = statement_with (tables_of A.declaration A.trees airs.now) (map (λ v. v.items) public_values.now) common.now in
         draws_told draws ≡ drawn_of (⟦<SC as Settings>⟧.setting config.now) s proof.now }
     ensures { let s = statement_with (tables_of A.declaration A.trees airs.now) (map (λ v. v.items) public_values.now) common.now in
-        OnOk result (Names (openings_asked (parts_of (⟦<SC as Settings>⟧.setting config.now) (⟦<SC as Settings>⟧.backend config.now) s proof.now)) refusals.old.items refusals.new.items) }
+        let q = parts_of (⟦<SC as Settings>⟧.setting config.now) (⟦<SC as Settings>⟧.backend config.now) s proof.now in
+        OnOk result (Names (only (NoneFails (claims_list q)) (openings_asked q)) refusals.old.items refusals.new.items) }
 {
+    if !claimed {
+        return Ok(());
+    }
     let ScriptDraws {
         lookup_alpha,
         lookup_beta,
@@ -184,7 +189,8 @@ fn name_openings<SC: StarkGenericConfig, A: Air<Val<SC>>>(
         &domains,
         alpha,
         zeta,
-    )
+    )?;
+    Ok(())
 }
 
 // What is asked after the shape, where the script was played.
@@ -226,20 +232,20 @@ fn name_played<SC: StarkGenericConfig, A: Air<Val<SC>>>(
         proof.ood_pow_witness,
         draws.ood_passed,
     )?;
-    if name_claims(refusals, config, airs, proof, public_values, common, chunks)? {
-        name_openings(
-            refusals,
-            alloc,
-            config,
-            airs,
-            proof,
-            public_values,
-            common,
-            chunks,
-            tables,
-            draws,
-        )?;
-    }
+    let claimed = name_claims(refusals, config, airs, proof, public_values, common, chunks)?;
+    name_openings(
+        refusals,
+        alloc,
+        config,
+        airs,
+        proof,
+        public_values,
+        common,
+        chunks,
+        claimed,
+        tables,
+        draws,
+    )?;
     Ok(())
 }
 
@@ -346,26 +352,25 @@ fn name_drawn<SC: StarkGenericConfig, A: Air<Val<SC>>>(
     Ok(text)
 }
 
-// The shape, and what is asked after it where it is right; the lines of the script's steps, where it is played.
+// All but the terminals' sum: the shape, and what is asked after it where it is right; with the lines of the script's steps, where it is played.
 fn name_whole<SC: StarkGenericConfig, A: Air<Val<SC>>>(
-    refusals: &mut Vec<BatchVerificationError<PcsError<SC>>>,
     alloc: Global,
     config: &SC,
     airs: &[A],
     proof: &BatchProof<SC>,
     public_values: &[Vec<Val<SC>>],
     common: &CommonData<SC>,
-) -> Mem<Vec<u8>>
-    requires formed { WellFormed (map A.declaration airs.now) (read_common common.now) }
-    requires empty { refusals.old.items ≡ [] }
+) -> Mem<BatchAudit<PcsError<SC>>>
+    requires { WellFormed (map A.declaration airs.now) (read_common common.now) }
     ensures names { let s = statement_with (tables_of A.declaration A.trees airs.now) (map (λ v. v.items) public_values.now) common.now in
         let q = parts_of (⟦<SC as Settings>⟧.setting config.now) (⟦<SC as Settings>⟧.backend config.now) s proof.now in
-        OnOk result (Names (shape_asked q.shape ++ only (NoneFails (shape_list q.shape)) (drawn_asked q)) refusals.old.items refusals.new.items) }
+        IfOk result (λ w. Names (shape_asked q.shape ++ only (NoneFails (shape_list q.shape)) (drawn_asked q)) [] w.refusals.items) }
     ensures steps { let s = statement_with (tables_of A.declaration A.trees airs.now) (map (λ v. v.items) public_values.now) common.now in
-        IfOk result (λ v. IsStepsText (⟦<SC as Settings>⟧.setting config.now) (⟦<SC as Settings>⟧.backend config.now) s proof.now (λ x. map SC.Val.canonical (SC.Challenge.coefficients x)) v.items) }
+        IfOk result (λ w. IsStepsText (⟦<SC as Settings>⟧.setting config.now) (⟦<SC as Settings>⟧.backend config.now) s proof.now (λ x. map SC.Val.canonical (SC.Challenge.coefficients x)) w.steps.items) }
 {
+    let mut refusals = Vec::new(alloc);
     let chunks = name_shape(
-        refusals,
+        &mut refusals,
         alloc,
         airs,
         public_values,
@@ -374,13 +379,16 @@ fn name_whole<SC: StarkGenericConfig, A: Air<Val<SC>>>(
         shape_bounds(config),
     )?;
     if !refusals.is_empty() {
-        return Ok(Vec::new(alloc));
+        return Ok(BatchAudit {
+            steps: Vec::new(alloc),
+            refusals,
+        });
     }
     let Some(chunks) = chunks else {
         unreachable!();
     };
-    name_drawn(
-        refusals,
+    let steps = name_drawn(
+        &mut refusals,
         alloc,
         config,
         airs,
@@ -388,7 +396,8 @@ fn name_whole<SC: StarkGenericConfig, A: Air<Val<SC>>>(
         public_values,
         common,
         &chunks,
-    )
+    )?;
+    Ok(BatchAudit { steps, refusals })
 }
 
 /// Finds all checks of a batch proof that fail, and not the first alone (not in Plonky3). The checks are those of `verify_batch`, and
@@ -422,16 +431,7 @@ pub fn audit_batch<SC: StarkGenericConfig, A: Air<Val<SC>>>(
     ensures steps { let s = statement_with (tables_of A.declaration A.trees airs.now) (map (λ v. v.items) public_values.now) common.now in
         IfOk result (λ w. IsStepsText (⟦<SC as Settings>⟧.setting config.now) (⟦<SC as Settings>⟧.backend config.now) s proof.now (λ x. map SC.Val.canonical (SC.Challenge.coefficients x)) w.steps.items) }
 {
-    let mut refusals = Vec::new(alloc);
-    let steps = name_whole(
-        &mut refusals,
-        alloc,
-        config,
-        airs,
-        proof,
-        public_values,
-        common,
-    )?;
-    note(&mut refusals, check_terminals(proof))?;
-    Ok(BatchAudit { steps, refusals })
+    let mut found = name_whole(alloc, config, airs, proof, public_values, common)?;
+    note(&mut found.refusals, check_terminals(proof))?;
+    Ok(found)
 }

@@ -28,7 +28,10 @@ fn is_canonical<F: Field>(bits: usize, value: F) -> bool
 pub(crate) fn has_witness<F>(tables: usize, witness: &Option<F>) -> bool
     ensures { IsTrue result ↔ HasWitness tables witness.now }
 {
-    tables == 0 || witness.is_some()
+    if tables == 0 {
+        return true;
+    }
+    witness.is_some()
 }
 
 // The checks of the grinding value before the lookups' pair. Where there is a value, this is the challenger's answer for it.
@@ -43,11 +46,12 @@ pub(crate) fn name_lookup_grinding<F: Field, R: Drop>(
         → Names (lookup_asked F.ring.zero tables bits witness answer) refusals.old.items refusals.new.items) }
 {
     if tables == 0 {
-        return note_unless(
+        note_unless(
             refusals,
             witness.is_none(),
             BatchVerificationError::Transcript(BatchTranscriptFailure::UnexpectedLookupPowWitness),
-        );
+        )?;
+        return Ok(());
     }
     note_unless(
         refusals,
@@ -68,7 +72,8 @@ pub(crate) fn name_lookup_grinding<F: Field, R: Drop>(
         refusals,
         passed,
         BatchVerificationError::Transcript(BatchTranscriptFailure::LookupPowWitness { bits }),
-    )
+    )?;
+    Ok(())
 }
 
 // The checks of the value before zeta.
@@ -89,7 +94,8 @@ pub(crate) fn name_ood_grinding<F: Field, R: Drop>(
         refusals,
         passed,
         BatchVerificationError::Transcript(BatchTranscriptFailure::OodPowWitness { bits }),
-    )
+    )?;
+    Ok(())
 }
 
 // The checks that there is a domain for each table's quotient.
@@ -148,8 +154,8 @@ fn name_matrices<R: Drop>(
     ensures { OnOk result (Names (of_each (length matrices.now)
         (λ m. always (bits_listed (get_or entries.now (get_or matrices.now m 0) None) degree_bits.now (get_or matrices.now m 0) ∷ []))) refusals.old.items refusals.new.items) }
 {
-    for table in matrices {
-        name_listed(refusals, entries, degree_bits, *table)?;
+    for matrix in 0..matrices.len() {
+        name_listed(refusals, entries, degree_bits, matrices[matrix])?;
     }
     Ok(())
 }

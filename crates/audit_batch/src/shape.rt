@@ -6,10 +6,11 @@ ghost use Rattle.p3_field.specs.Poly.{tabulate};
 ghost use Rattle.p3_lookup.specs.Written.{read_all};
 ghost use Rattle.batch_constraints.specs.BatchTrees.{AreLookupsOf};
 ghost use Rattle.batch_statement.specs.Statement.{WellFormed, read_common, statement_with, tables_of};
+ghost use Rattle.batch_statement.specs.Verdict.{IsVerdict};
 ghost use Rattle.batch_statement.specs.declared.error.BatchVerificationError.TheVariants.{Verification};
 ghost use Rattle.p3_uni_stark.specs.declared.error.InvalidProofShapeError.TheVariants.{InstanceCountMismatch};
 ghost use Rattle.p3_uni_stark.specs.declared.error.VerificationError.TheVariants.{InvalidProofShape};
-ghost use Rattle.verifier_shape.specs.ShapeChecks.{HaveItemForEachTable, bounds_with, log_chunks_at, shape_checks, sizes_at};
+ghost use Rattle.verifier_shape.specs.ShapeChecks.{HaveItemForEachTable, bounds_with, bus_bound_part, log_chunks_at, shape_checks, sizes_at};
 ghost use Rattle.audit_batch.specs.Asked.{in_order, of_each};
 ghost use Rattle.audit_batch.specs.Audit.{opened_asked_at, shape_parts};
 ghost use Rattle.audit_batch.specs.Named.{Names};
@@ -115,7 +116,8 @@ fn name_table_at<F: Field, A: Air<F>, E, R: Drop>(
         table.as_slice().len(),
         &instances[index],
         terminals[index].is_some(),
-    )
+    )?;
+    Ok(())
 }
 
 // The checks of what is opened of the tables, each one that fails.
@@ -195,6 +197,57 @@ fn name_batch_sizes<F: PrimeField64, A: Air<F>, E, Com, Opening, R: Drop>(
     )
 }
 
+// The check of each bus.
+fn batch_bounds<F: PrimeField64, A: Air<F>, E, Com, Opening, R>(
+    alloc: Global,
+    airs: &[A],
+    public_values: &[Vec<F>],
+    common: &SharedData<F, Com>,
+    proof: &TablesProof<F, E, Com, Opening>,
+    bounds: ShapeBounds,
+) -> Result<(), BatchVerificationError<R>>
+    requires counted { HaveItemForEachTable (statement_with (tables_of A.declaration A.trees airs.now) (map (λ v. v.items) public_values.now) common.now) proof.now }
+    requires fits { (i : ℕ) → i < length airs.now → get_or proof.now.degree_bits i 0 < 64 }
+    ensures { IsVerdict (bus_bound_part (bounds_with F.ORDER_U64 bounds)
+        (statement_with (tables_of A.declaration A.trees airs.now) (map (λ v. v.items) public_values.now) common.now) proof.now) result }
+{
+    check_bounds(alloc, &common.lookups, &proof.degree_bits, bounds.masks)
+}
+
+// The checks of what is opened of the tables, whose quotients' numbers of chunks were found.
+fn name_opened<F: PrimeField64, A: Air<F>, E, Com, Opening, R: Drop>(
+    refusals: &mut Vec<BatchVerificationError<R>>,
+    airs: &[A],
+    public_values: &[Vec<F>],
+    common: &SharedData<F, Com>,
+    proof: &TablesProof<F, E, Com, Opening>,
+    bounds: ShapeBounds,
+    chunks: &[usize],
+) -> Mem<()>
+    requires counted { HaveItemForEachTable (statement_with (tables_of A.declaration A.trees airs.now) (map (λ v. v.items) public_values.now) common.now) proof.now }
+    requires chunks { chunks.now
+        ≡ tabulate (length airs.now) (log_chunks_at F.ring bounds.masks (tables_of A.declaration A.trees airs.now) (map read_all common.now.lookups) proof.now.degree_bits) }
+    requires fits { (i : ℕ) → i < length airs.now
+        → log_chunks_at F.ring bounds.masks (tables_of A.declaration A.trees airs.now) (map read_all common.now.lookups) proof.now.degree_bits i + bounds.masks < 64 }
+    ensures { let tables = tables_of A.declaration A.trees airs.now in
+        OnOk result (Names (of_each (length airs.now) (λ i. opened_asked_at tables (map (λ v. v.items) public_values.now) (map read_all common.now.lookups) proof.now.instances
+        proof.now.lookup_terminals (2 ^ (log_chunks_at F.ring bounds.masks tables (map read_all common.now.lookups) proof.now.degree_bits i + bounds.masks)) bounds.dimension i))
+        refusals.old.items refusals.new.items) }
+{
+    name_tables(
+        refusals,
+        airs,
+        public_values,
+        &common.lookups,
+        proof.instances(),
+        proof.terminals(),
+        &proof.degree_bits,
+        chunks,
+        bounds.masks,
+        bounds.dimension,
+    )
+}
+
 // The rest of the shape's checks, where the sizes are right: the first bus on which too much may be sent, what is opened of each
 // table, and the presence of permutation columns.
 fn name_sized<F: PrimeField64, A: Air<F>, E, Com, Opening, R: Drop>(
@@ -216,26 +269,19 @@ fn name_sized<F: PrimeField64, A: Air<F>, E, Com, Opening, R: Drop>(
     ensures { let s = statement_with (tables_of A.declaration A.trees airs.now) (map (λ v. v.items) public_values.now) common.now in
         OnOk result (Names (sized_asked (shape_parts R F.ring (bounds_with F.ORDER_U64 bounds) s proof.now)) refusals.old.items refusals.new.items) }
 {
-    note(
-        refusals,
-        check_bounds(alloc, &common.lookups, &proof.degree_bits, bounds.masks),
-    )?;
-    name_tables(
+    let bounded = batch_bounds(alloc, airs, public_values, common, proof, bounds);
+    note(refusals, bounded)?;
+    name_opened(
         refusals,
         airs,
         public_values,
-        &common.lookups,
-        proof.instances(),
-        proof.terminals(),
-        &proof.degree_bits,
+        common,
+        proof,
+        bounds,
         chunks,
-        bounds.masks,
-        bounds.dimension,
     )?;
-    note(
-        refusals,
-        check_permutation(airs, public_values, common, proof),
-    )?;
+    let permuted = check_permutation(airs, public_values, common, proof);
+    note(refusals, permuted)?;
     Ok(())
 }
 

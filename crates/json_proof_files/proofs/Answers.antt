@@ -5,6 +5,7 @@ use Rattle.std.specs.declared.alloc.AllocError.{AllocError}
 use Rattle.std.specs.declared.alloc.Global.{Global}
 use Rattle.serde_json.specs.Data.{Data, depth}
 use Rattle.serde_json.specs.Read.{max_depth, read}
+use Rattle.serde_json.proofs.OnLiterals.{serde_json_on_literals}
 use Rattle.serde_json.specs.Written.{compact_text, has_float}
 use Rattle.tool_proof_files.specs.Files.{FileData, FileWithin}
 use Rattle.json_proof_files.specs.Answer.{IsJsonOf, IsNoFile, ReadsAs, ReadsFile, ReadsJson, WhyNot}
@@ -28,7 +29,8 @@ is-no-file bytes d p e = (d, p, not-a-file d e)
 
 -- bytes that are read aren't none
 pub some-bytes : (bytes : List ℕ) (d : Data) → ReadsAs bytes d → 0 < length bytes
-some-bytes [] d p = absurd (cc)
+unfolding serde_json_on_literals
+some-bytes [] d p = let t : None ≡ Some d = p.1 in absurd (cc)
 some-bytes (b ∷ bytes) d p = omega arith
 
 -- a reading of bytes gives the one file whose JSON they are

@@ -39,10 +39,10 @@ fn explain_tables(
 {
     let mismatches = height_mismatches(alloc, tables, &proof.degree_bits)?;
     let found = audit_tables(alloc, version, tables, proof)?;
-    let (text, count) = report(found.steps, &mismatches, &found.refusals)?;
+    let made = report(found.steps, &mismatches, &found.refusals)?;
     Ok(Answer {
-        status: status_of(count),
-        text,
+        status: status_of(made.1),
+        text: made.0,
     })
 }
 
@@ -53,7 +53,6 @@ fn explain_tables(
 ///
 /// So the status is `Done` exactly where `verify` accepts the file (`accepted`), and else the first line that begins with `fails` names what `verify` refuses it
 /// with (`first`). All challenges are those that `verify` draws. The only error is running out of memory.
-#[tactic(auto, using(crate::specs::Laws::Explain::explained_accepts, crate::specs::Laws::Explain::explained_names))]
 pub fn explain(alloc: Global, file: &ProofFile) -> Mem<Answer>
     requires { FileWithin file.now }
     ensures explained { IfOk result (λ a. IsExplained (version_of file.now.version) file.now.tables file.now.proof a.status a.text.items) }

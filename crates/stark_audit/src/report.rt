@@ -14,6 +14,7 @@ use tool_statement::TableStatement;
 use tool_verifier::{fault_name, push_fault, push_spaced};
 
 /// The numbers of the tables, below both lengths, whose degree bits aren't the logarithm of their stated height.
+#[tactic(auto, using(crate::proofs::Heights::named_more, crate::proofs::Heights::named_kept))]
 pub(crate) fn height_mismatches(
     alloc: Global,
     tables: &[TableStatement],

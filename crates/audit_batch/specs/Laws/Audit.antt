@@ -10,7 +10,7 @@ use Rattle.batch_statement.specs.Proof.{OpenedWithLookups, ProofData}
 use Rattle.batch_statement.specs.Statement.{Statement}
 use Rattle.batch_statement.specs.declared.error.BatchVerificationError.{BatchVerificationError}
 use Rattle.batch_statement.specs.Words.{is_there, no_opened, no_table}
-use Rattle.verifier_shape.specs.ShapeChecks.{Bounds, IsOpenedPreprocessed, bus_bound_part, chunk_checks, count_checks, log_chunks_at, lookup_checks, main_checks, opened_checks, opened_part, preprocessed_checks, shape_checks, size_part, table_checks}
+use Rattle.verifier_shape.specs.ShapeChecks.{Bounds, IsOpenedPreprocessed, chunk_checks, log_chunks_at, lookup_checks, main_checks, opened_checks, preprocessed_checks, shape_checks, table_checks}
 use Rattle.p3_field.specs.Ring.{Ring}
 use Rattle.verifier_draws.specs.Draws.{grinding_checks, lookup_grinding}
 use Rattle.verifier_batch.specs.OpeningChecks.{claim_checks, opening_checks, shape_bounds_of}
@@ -19,7 +19,7 @@ use Rattle.audit_batch.specs.Asked.{Asked, always, only, checks_in, AreNamed, Ar
 use Rattle.audit_batch.specs.Laws.Asked.{first_is_named, in_always, in_append, none_if_unnamed, turn_always, turn_append, unnamed_if_none}
 use Rattle.audit_batch.specs.Parts.{all_list, claims_list, shape_asked, shape_list}
 use Rattle.audit_batch.specs.Laws.Parts.{accepted_if_unnamed, in_shape, shape_in_turn, first_fault_named, unnamed_if_accepted}
-use Rattle.audit_batch.specs.Audit.{HasNoUndeclaredNext, HasWitness, audit, lookup_asked, opened_asked_at, parts_of, shape_parts, preprocessed_asked, table_asked, tables_with_lookups}
+use Rattle.audit_batch.specs.Audit.{HasNoUndeclaredNext, HasWitness, audit, lookup_asked, parts_of, shape_parts, preprocessed_asked, table_asked, tables_with_lookups}
 
 -- preprocessed rows
 module _ {E : Type 0} (R : Type 0) where

@@ -1,8 +1,8 @@
 -- What is named of several lists of checks, one after the other, and by the answers of calls that stop at the first check that fails.
-use Rattle.std.proofs.Common.{◌≡◌, ℕ, suc, ◌+◌, Bool, true, false, List, [], ◌∷◌, ◌++◌, length, Option, Some, None, Result, Ok, Err, refl, sym, ◌∙◌, ap, subst, inl, inr, append_assoc, add-one, arith, length-append}
+use Rattle.std.proofs.Common.{◌≡◌, ℕ, zero, suc, ◌+◌, ◌<◌, Bool, true, false, List, [], ◌∷◌, ◌++◌, length, Option, Some, None, Result, Ok, Err, refl, sym, ◌∙◌, ap, subst, inl, inr, append_assoc, add-one, arith, length-append}
 use Rattle.std.specs.Prelude.{IsTrue, ◌↔◌}
 use Rattle.std.proofs.lemmas.List.{append-nil}
-use Rattle.p3_field.specs.Checks.{Check, check, NoneFails, FirstFails}
+use Rattle.p3_field.specs.Checks.{Check, check, NoneFails}
 use Rattle.p3_field.specs.Laws.Checks.{none_first}
 use Rattle.batch_statement.specs.Verdict.{IsDecided, IsVerdict}
 use Rattle.batch_statement.specs.declared.error.BatchVerificationError.{BatchVerificationError}
@@ -10,7 +10,7 @@ use Rattle.batch_statement.specs.declared.error.BatchVerificationError.TheVarian
 use Rattle.audit_batch.specs.Asked.{Asked, always, only, in_order, of_each, checks_in, AreNamed, AreAskedInTurn}
 use Rattle.audit_batch.specs.Laws.Asked.{none_if_unnamed, unnamed_if_none}
 use Rattle.audit_batch.specs.Laws.Naming.{named_append, named_where, named_unasked, named_none_of, named_one_more, named_if_none, named_if_first}
-use Rattle.audit_batch.specs.Named.{Names, IsAdded, IsNoted}
+use Rattle.audit_batch.specs.Named.{Names, IsNoted}
 
 empty_list : {A : Type 0} (xs : List A) → length xs ≡ 0 → xs ≡ []
 empty_list [] h = refl
@@ -32,6 +32,18 @@ module _ {R : Type 0} where
   pub names_unasked : (P : Type 0) (qs : List (Asked R)) (a : List R) → (P → ⊥) → Names (only P qs) a a
   names_unasked P qs a h = record { named = []; is = sym (append-nil a); are = named_unasked P qs h }
 
+  -- where one condition holds, and another may
+  only_both : (P Q : Type 0) (qs : List (Asked R)) (es : List R) → P → AreNamed (only Q qs) es → AreNamed (only (P × Q) qs) es
+  unfolding AreNamed only
+  only_both P Q [] es p n = n
+  only_both P Q (q ∷ qs) es p n = elim n [
+    | inl t ↦ inl (λ h. t.0 (h.0.1, h.1), only_both P Q qs es p t.1)
+    | inr t ↦ inr (((p, t.0.0), t.0.1), t.1, (t.2.0, t.2.1, t.2.2, only_both P Q qs t.2.1 p t.2.3, t.2.4))
+  ]
+
+  pub names_both : (P Q : Type 0) (qs : List (Asked R)) (a b : List R) → P → Names (only Q qs) a b → Names (only (P × Q) qs) a b
+  names_both P Q qs a b p n = record { named = n.named; is = n.is; are = only_both P Q qs n.named p n.are }
+
   -- of n things
   pub names_none_of : (f : ℕ → List (Asked R)) (a b : List R) → b ≡ a → Names (of_each 0 f) a b
   names_none_of f a b e = record { named = []; is = e ∙ sym (append-nil a); are = named_none_of f }
@@ -46,6 +58,21 @@ module _ {R : Type 0} where
         are = named_one_more f i n.named m.named n.are m.are;
       } in
       subst (λ (k : ℕ). Names (of_each k f) a c) (sym (add-one i)) whole
+
+  pub names_until : (f : ℕ → List (Asked R)) (i n : ℕ) (a b : List R) → i ≡ n → Names (of_each i f) a b → Names (of_each n f) a b
+  names_until f i n a b e h = subst (λ (k : ℕ). Names (of_each k f) a b) e h
+
+  -- of n things of which the same is asked
+  each_same : (f g : ℕ → List (Asked R)) (n : ℕ) → ((i : ℕ) → i < n → f i ≡ g i) → of_each n f ≡ of_each n g
+  unfolding of_each
+  each_same f g zero h = refl
+  each_same f g (suc n) h =
+      let before = each_same f g n (λ i l. h i (omega arith)) in
+      let here = h n (omega arith) in
+      λ j. before j ++ here j
+
+  pub names_same : (f g : ℕ → List (Asked R)) (n : ℕ) (a b : List R) → ((i : ℕ) → i < n → f i ≡ g i) → Names (of_each n f) a b → Names (of_each n g) a b
+  names_same f g n a b h m = subst (λ qs. Names qs a b) (each_same f g n h) m
 
   -- of checks one after another
   pub names_pair : (c : Check R) (cs : List (Check R)) (x y z : List R) → Names (always (c ∷ [])) x y → Names (always cs) y z → Names (always (c ∷ cs)) x z

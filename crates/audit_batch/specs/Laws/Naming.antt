@@ -1,7 +1,7 @@
 -- What is named of several lists of checks, and of the answer of a call that stops at the first check that fails.
 use Rattle.std.proofs.Common.{ℕ, suc, List, [], ◌∷◌, ◌++◌, refl, sym, ap, subst, inl, inr}
 use Rattle.p3_field.specs.Checks.{Check, NoneFails, FirstFails}
-use Rattle.audit_batch.specs.Asked.{Asked, always, only, in_order, of_each, AreNamed}
+use Rattle.audit_batch.specs.Asked.{Asked, only, in_order, of_each, AreNamed}
 
 module _ {R : Type 0} where
   -- of one list and then another

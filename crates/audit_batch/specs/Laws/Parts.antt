@@ -4,7 +4,7 @@ use Rattle.p3_field.specs.Checks.{NoneFails, FirstFails, in_turn}
 use Rattle.p3_field.specs.Laws.Checks.{none_before, none_after}
 use Rattle.audit_batch.specs.Asked.{Asked, always, only, in_order, of_each, checks_in, AreNamed, AreAskedInTurn}
 use Rattle.audit_batch.specs.Laws.Asked.{none_if_unnamed, unnamed_if_none, first_is_named, turn_weaken, turn_append, turn_always, turn_only, turn_in_order, turn_of_each, in_append, in_always, in_only, in_in_order, in_of_each}
-use Rattle.audit_batch.specs.Parts.{ShapeParts, Parts, shape_list, claims_list, all_list, IsSized, IsPlayed, sized_asked, shape_asked, claims_asked, openings_asked, drawn_asked, all_asked}
+use Rattle.audit_batch.specs.Parts.{ShapeParts, Parts, shape_list, claims_list, all_list, IsSized, sized_asked, shape_asked, claims_asked, openings_asked, drawn_asked, all_asked}
 
 -- lists one after another
 module _ {A : Type 1} where

@@ -8,11 +8,11 @@ use Rattle.p3_challenger.specs.Grind.{PassesGrinding, checked_state}
 use Rattle.p3_challenger.specs.Laws.Scripts.{grinding-state, passes-checked, unchecked-fails}
 use Rattle.p3_challenger.specs.Script.{NoValue, Elements}
 use Rattle.batch_transcript.specs.BatchScript.{BatchShapeData, Draws, Given, bindings_script, draws, draws_of, ground, lookup_alpha_step, lookup_beta_step, lookup_pow_step, main_script, ood_script, opening_script, pair_script, permutation_script, preprocessed_commitment_step, preprocessed_script, quotient_script, script, sealed, seeded, with_value}
-use Rattle.p3_challenger.specs.Script.{ChallengerOf, Played, Transcript, play, play_kind, begun, steps_of, passes, after_grinding, observe_value, amount}
+use Rattle.p3_challenger.specs.Script.{ChallengerOf, Played, Transcript, play, play_kind, begun, steps_of, passes, after_grinding, amount}
 use Rattle.p3_challenger.specs.Laws.Scripts.{after_all, play-after}
 use Rattle.p3_challenger.specs.declared.script.InteractionKind.{InteractionKind}
 use Rattle.p3_challenger.specs.declared.script.InteractionKind.TheVariants.{Message, Public, Challenge, Pow, Protocol}
-use Rattle.audit_script.specs.Steps.{Printing, drawn_after, line_of, lines_of, passed_after, print_kind, printed, script_text, spaced_numbers, step_line, test_word, transcript_of, unprinted, with_line, with_test}
+use Rattle.audit_script.specs.Steps.{Printing, drawn_after, line_of, lines_of, passed_after, print_kind, printed, script_text, spaced_numbers, step_line, test_word, transcript_of, unprinted, with_test}
 
 module _ {S F E M : Type 0} (c : ChallengerOf S F E M) (numbers : E → List ℕ) where
   -- one script after another

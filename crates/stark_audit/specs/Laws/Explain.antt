@@ -1,6 +1,8 @@
 -- What is explained of a file, and what `verify` answers: it is done exactly where the file is accepted, and else its first line of what fails has the name
 -- and the numbers of `verify`'s refusal.
-use Rattle.std.proofs.Common.{◌≡◌, ℕ, suc, ◌+◌, List, [], ◌∷◌, ◌++◌, length, codes, flat_map, min, refl, sym, ◌∙◌, ap, inl, inr, append_assoc}
+use Rattle.std.specs.Prelude.{IfOk, ◌↔◌}
+use Rattle.std.specs.declared.alloc.AllocError.{AllocError}
+use Rattle.std.proofs.Common.{◌≡◌, ℕ, zero, suc, Result, Ok, Err, subst, ◌+◌, List, [], ◌∷◌, ◌++◌, length, codes, flat_map, min, refl, sym, ◌∙◌, ap, inl, inr, append_assoc}
 use Rattle.std.proofs.lemmas.List.{append-nil}
 use Rattle.plain_pcs.specs.declared.error.PlainError.{PlainError}
 use Rattle.batch_statement.specs.declared.error.BatchVerificationError.{BatchVerificationError}
@@ -8,9 +10,11 @@ use Rattle.tool_proof_text.specs.ProofText.{ToolProofData}
 use Rattle.tool_statement.specs.Config.{tool_setting, tool_backend}
 use Rattle.tool_statement.specs.StatedTables.{HasStatedHeight, tool_statement}
 use Rattle.tool_statement.specs.declared.table.TableStatement.{TableStatement}
-use Rattle.tool_verifier.specs.FileAnswer.{IsAccepted, IsRefusedWith}
-use Rattle.tool_verifier.specs.Refusals.{fault_name, fault_numbers, fault_text, refused_text}
-use Rattle.tool_verifier.specs.declared.status.Status.TheVariants.{Done, Refused}
+use Rattle.tool_verifier.specs.FileAnswer.{IsAccepted}
+use Rattle.tool_verifier.specs.Refusals.{fault_name, fault_numbers, fault_text}
+use Rattle.tool_verifier.specs.declared.answer.Answer.{Answer}
+use Rattle.tool_verifier.specs.declared.status.Status.{Status}
+use Rattle.tool_verifier.specs.declared.status.Status.TheVariants.{Done, Refused, Usage, BadInput, ReadFault, WriteFault, OutOfMemory, TooLarge}
 use Rattle.stark_audit.specs.Explain.{IsExplained, IsReported, NamesRefusal, coefficient_numbers}
 use Rattle.transcript_version.specs.declared.TranscriptVersion.{TranscriptVersion}
 use Rattle.stark_audit.specs.Report.{fails_line, failed_line, mismatch_line}
@@ -73,3 +77,40 @@ module _ (version : TranscriptVersion) (tables : List TableStatement) (p : ToolP
   pub explained_names : IsExplained version tables p Refused text → NamesRefusal version tables p text
   unfolding IsExplained
   explained_names e = names_by e.0 e.1 e.1.heights e.1.faults refl refl
+
+-- the status and the report, by how many things fail
+pub explained_by : (version : TranscriptVersion) (tables : List TableStatement) (p : ToolProofData) (text : List ℕ) (count : ℕ) (status : Status) → (count ≡ 0 → status ≡ Done)
+    → ((count ≡ 0 → ⊥) → status ≡ Refused) → IsReported version tables p text count → IsExplained version tables p status text
+unfolding IsExplained
+explained_by version tables p text zero status done refused r = subst (λ (s : Status). IsExplained version tables p s text) (sym (done refl)) r
+explained_by version tables p text (suc n) status done refused r =
+    subst (λ (s : Status). IsExplained version tables p s text) (sym (refused (λ e. absurd cc))) (n, r)
+
+-- the status is that the work is done exactly where the proof is accepted
+pub done_accepts : (version : TranscriptVersion) (tables : List TableStatement) (p : ToolProofData) (text : List ℕ) (status : Status) → IsExplained version tables p status text
+    → (status ≡ Done) ↔ IsAccepted version tables p
+unfolding IsExplained
+done_accepts version tables p text Done e = (λ h. explained_accepts version tables p text e, λ a. refl)
+done_accepts version tables p text Refused e = (λ h. absurd cc, λ a. absurd (accepted_explains version tables p text a e))
+done_accepts version tables p text Usage e = absurd e
+done_accepts version tables p text BadInput e = absurd e
+done_accepts version tables p text ReadFault e = absurd e
+done_accepts version tables p text WriteFault e = absurd e
+done_accepts version tables p text OutOfMemory e = absurd e
+done_accepts version tables p text TooLarge e = absurd e
+
+-- and else what is refused is named
+pub refused_names : (version : TranscriptVersion) (tables : List TableStatement) (p : ToolProofData) (text : List ℕ) (status : Status) → IsExplained version tables p status text
+    → status ≡ Refused → NamesRefusal version tables p text
+refused_names version tables p text status e h = explained_names version tables p text (subst (λ (s : Status). IsExplained version tables p s text) h e)
+
+-- the same of what a call answers
+pub done_accepts_ok : (version : TranscriptVersion) (tables : List TableStatement) (p : ToolProofData) (r : Result Answer AllocError)
+    → IfOk r (λ a. IsExplained version tables p a.status a.text.items) → IfOk r (λ a. (a.status ≡ Done) ↔ IsAccepted version tables p)
+done_accepts_ok version tables p (Ok a) e = done_accepts version tables p a.text.items a.status e
+done_accepts_ok version tables p (Err x) e = tt
+
+pub refused_names_ok : (version : TranscriptVersion) (tables : List TableStatement) (p : ToolProofData) (r : Result Answer AllocError)
+    → IfOk r (λ a. IsExplained version tables p a.status a.text.items) → IfOk r (λ a. a.status ≡ Refused → NamesRefusal version tables p a.text.items)
+refused_names_ok version tables p (Ok a) e = λ h. refused_names version tables p a.text.items a.status e h
+refused_names_ok version tables p (Err x) e = tt

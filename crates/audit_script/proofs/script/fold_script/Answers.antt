@@ -1,9 +1,8 @@
-use Rattle.std.proofs.Common.{◌≡◌, ℕ, List, map, ap, ◌∙◌}
+use Rattle.std.proofs.Common.{ℕ, List, map, ap, ◌∙◌}
 use Rattle.std.specs.Option.{option_copied}
 use Rattle.p3_challenger.specs.Script.{ChallengerOf}
-use Rattle.batch_transcript.specs.BatchScript.{Given, draws_of, script, seeded}
+use Rattle.batch_transcript.specs.BatchScript.{Given, draws_of}
 use Rattle.batch_transcript.specs.Running.{lists}
-use Rattle.audit_script.specs.Steps.{printed, unprinted}
 use Rattle.audit_script.specs.Laws.Steps.{folded-draws, folded-text}
 use Rattle.audit_script.proofs.script.fold_script.Goals as goal
 

@@ -2,7 +2,8 @@ use Rattle.std.proofs.Common.{ℕ, List, subst}
 use Rattle.std.specs.Prelude.{IfOk}
 use Rattle.tool_proof_files.specs.Files.{FileWithin, file_numbers}
 use Rattle.batch_tool.specs.Answer.{IsBalanceAnswer}
-use Rattle.batch_tool.proofs.Runs.{bad-answers, bad-balance, balance-answers-ok}
+use Rattle.tool_run.specs.Laws.BadInput.{bad-answers}
+use Rattle.batch_tool.proofs.Runs.{bad-balance, balance-answers-ok}
 use Rattle.batch_tool.proofs.answers.balance_answer.Goals as goal
 
 pub returns-in-Ok : goal.returns-in-Ok
