@@ -154,8 +154,10 @@ pub both_net : (bytes : List ℕ) → All (λ byte. byte < 256) bytes → (first
 both_net bytes low first second one m n rows all bus tuple =
     let xs = table_messages (sender_of Bits (bits_rows r bytes) first m) in
     let ys = table_messages (sender_of Bytes (bytes_rows r bytes) second n) in
-    let once_each = ap (λ k. net r same_value (table_messages (sender_of Bits (bits_rows r bytes) first k)) bus tuple) rows ∙ bits_net bytes first bus tuple in
-    let minus_each = bytes_net bytes second bus tuple n (omega (arith, all)) ∙ ap (λ k. total r n (minus_times r baby_bear_laws (is_sent k bus tuple) bytes)) (sym one) in
+    let once_each : net r same_value xs bus tuple ≡ total r (length bytes) (λ i. once r baby_bear_laws (is_sent (first 0) bus tuple) (get_or bytes i 0)) =
+    ap (λ k. net r same_value (table_messages (sender_of Bits (bits_rows r bytes) first k)) bus tuple) rows ∙ bits_net bytes first bus tuple in
+    let minus_each : net r same_value ys bus tuple ≡ total r n (minus_times r baby_bear_laws (is_sent (first 0) bus tuple) bytes) =
+    bytes_net bytes second bus tuple n (omega (arith, all)) ∙ ap (λ k. total r n (minus_times r baby_bear_laws (is_sent k bus tuple) bytes)) (sym one) in
     net_append r baby_bear_laws same_value bus tuple xs (ys ++ [])
     ∙ ((λ i. r.add (once_each i) ((net_append r baby_bear_laws same_value bus tuple ys [] ∙ (baby_bear_laws.add_zero (net r same_value ys bus tuple) ∙ minus_each)) i))
     ∙ as_often r baby_bear_laws (is_sent (first 0) bus tuple) n bytes (λ i d l. let h = low i d l in omega (arith, h, all)))

@@ -1,10 +1,9 @@
 -- The traces of a list of bytes meet the constraints, and what they send balances.
 use Rattle.std.specs.Int.{IsPowerOfTwo}
-use Rattle.std.proofs.Common.{◌≡◌, ℕ, zero, suc, ◌+◌, ◌*◌, ◌-◌, ◌^◌, ◌<◌, ◌≤◌, ◌==◌, Bool, true, false, cond, List, [], ◌∷◌, length, get_or, map, Result, refl, sym, ◌∙◌, ap, subst, arith}
+use Rattle.std.proofs.Common.{◌≡◌, ℕ, zero, suc, ◌+◌, ◌*◌, ◌-◌, ◌^◌, ◌<◌, ◌≤◌, ◌==◌, Bool, true, false, cond, List, [], ◌∷◌, length, get_or, map, Result, Ok, Err, refl, sym, ◌∙◌, ap, subst, arith}
 use Rattle.std.specs.Prelude.{All, IfOk}
 use Rattle.std.proofs.Math.Nat.{pow-le-pow_right}
 use Rattle.std.proofs.lemmas.List.Elements.{All-nil}
-use Rattle.std.proofs.lemmas.Result.{IfOk-weaker}
 use Rattle.p3_field.specs.BabyBear.{baby_bear_ring}
 use Rattle.p3_field.specs.Quartic.{quartic_inv}
 use Rattle.p3_field.specs.declared.baby_bear.BabyBear.{BabyBear}
@@ -88,8 +87,10 @@ batch_with t u m n = record {
 bounded : (t u : Rows BabyBear) (m n : ℕ) → m ≤ 10 → n ≤ 8 → HaveLoadsBelow 2013265921 (batch_with t u m n).statement.common.lookups (heights_of 0 (m ∷ n ∷ []) 2)
 unfolding airs_common
 bounded t u m n few eight b h =
-    let p : 2 ^ (m - 0) ≤ 2 ^ 10 = pow-le-pow_right (omega (arith, few)) in
-    let q : 2 ^ (n - 0) ≤ 2 ^ 8 = pow-le-pow_right (omega (arith, eight)) in
+    let low : m - 0 ≤ 10 = omega (arith, few) in
+    let high : n - 0 ≤ 8 = omega (arith, eight) in
+    let p : 2 ^ (m - 0) ≤ 2 ^ 10 = pow-le-pow_right (omega arith) low in
+    let q : 2 ^ (n - 0) ≤ 2 ^ 8 = pow-le-pow_right (omega arith) high in
     two_loads 2013265921 (λ k. bus_number (batch_buses (batch_with t u m n).statement.common.lookups) k == b) (1 * 2 ^ (m - 0)) (1024 * 2 ^ (n - 0)) (omega (arith, p, q))
 
 module _ (L : FieldsLaws baby_bear_field quartic_extension 27 quartic_inv) (means : ByteRowMeans baby_bear_ring) (bytes : List ℕ) (low : All (λ byte. byte < 256) bytes) (power : IsPowerOfTwo (length bytes)) (few : length bytes ≤ 1024) where
@@ -166,12 +167,17 @@ module _ (L : FieldsLaws baby_bear_field quartic_extension 27 quartic_inv) (mean
       let second : log_of (height u) ≡ log_of (height u) + 0 = omega arith in
       subst (λ (B : AirsBatch). AreMet B) (λ i. batch_with t u (first i) (second i)) met_with
 
-  -- so of traces that are these, what is accepted where they meet the constraints is accepted
+  -- so what is accepted where the traces meet the constraints is accepted
+  pass : {E : Type 0} (result : Result AirsProof E) → IfOk result (λ q. AreMet (bytes_batch bytes) → DrawsOutside (bytes_batch bytes) q → PassesChecks (log_of (height t)) q)
+      → IfOk result (λ q. DrawsOutside (bytes_batch bytes) q → PassesChecks (log_of (length bytes)) q)
+  pass (Ok q) accepted = λ outside. subst (λ n. PassesChecks (log_of n) q) (bits_high bytes) (accepted bytes_met outside)
+  pass (Err e) accepted = tt
+
+  -- also of traces that are these
   pub bytes_pass : (v w : Rows BabyBear) → v ≡ t → w ≡ u → {E : Type 0} (result : Result AirsProof E)
       → IfOk result (λ q. AreMet (tables_batch v w) → DrawsOutside (tables_batch v w) q → PassesChecks (log_of (height v)) q)
       → IfOk result (λ q. DrawsOutside (bytes_batch bytes) q → PassesChecks (log_of (length bytes)) q)
   bytes_pass v w v_is w_is {E} result h =
-      let same : IfOk result (λ q. AreMet (bytes_batch bytes) → DrawsOutside (bytes_batch bytes) q → PassesChecks (log_of (height t)) q) =
-      subst (λ x. IfOk result (λ q. AreMet (tables_batch t x) → DrawsOutside (tables_batch t x) q → PassesChecks (log_of (height t)) q)) w_is
-      (subst (λ x. IfOk result (λ q. AreMet (tables_batch x w) → DrawsOutside (tables_batch x w) q → PassesChecks (log_of (height x)) q)) v_is h) in
-      IfOk-weaker result _ _ (λ q g d. subst (λ n. PassesChecks (log_of n) q) (bits_high bytes) (g bytes_met d)) same
+      pass result
+      (subst (λ (x : Rows BabyBear). IfOk result (λ q. AreMet (tables_batch t x) → DrawsOutside (tables_batch t x) q → PassesChecks (log_of (height t)) q)) w_is
+      (subst (λ (x : Rows BabyBear). IfOk result (λ q. AreMet (tables_batch x w) → DrawsOutside (tables_batch x w) q → PassesChecks (log_of (height x)) q)) v_is h))

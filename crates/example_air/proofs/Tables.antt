@@ -23,7 +23,7 @@ use Rattle.batch_statement.specs.Words.{bits_at}
 use Rattle.law_honest.specs.HonestProof.{honest_proof}
 use Rattle.law_joining.specs.Shaped.{IsShaped}
 use Rattle.law_valid.specs.Laws.Columns.{column_height}
-use Rattle.tool_airs.specs.Airs.{AirsBatch, AirsProof, HaveHeights, airs_batch, airs_statement, height_check}
+use Rattle.tool_airs.specs.Airs.{AirsBatch, AirsProof, AreMet, DrawsOutside, HaveHeights, airs_batch, airs_statement, height_check}
 use Rattle.transcript_version.specs.declared.TranscriptVersion.TheVariants.{V2}
 use Rattle.tool_statement.specs.Config.{tool_backend, tool_setting}
 use Rattle.verifier_batch.specs.BatchChecks.{Accepted, checks}
@@ -144,10 +144,12 @@ module _ (t u : Rows BabyBear) (A : AreTables t u) where
       none_append (height_check 0 (log_of (height t)) q ∷ []) (checks (tool_setting V2) tool_backend (example_statement (log_of (height t))) q)
       (none_alone (height_check 0 (log_of (height t)) q) (first_height q P)) stated
 
--- two facts of a value give a third one
-pub both_ok : {T E : Type 0} (r : Result T E) (P Q R : T → Type 0) → ((x : T) → P x → Q x → R x) → IfOk r P → IfOk r Q → IfOk r R
-both_ok (Ok x) P Q R then p q = then x p q
-both_ok (Err e) P Q R then p q = tt
+  -- of what a prover of AIRs answers
+  pub accepted_there : {E : Type 0} (result : Result AirsProof E) → IfOk result (IsTablesProof t u)
+      → IfOk result (λ q. AreMet (tables_batch t u) → DrawsOutside (tables_batch t u) q → Accepted (tool_setting V2) tool_backend (tables_batch t u).statement q)
+      → IfOk result (λ q. AreMet (tables_batch t u) → DrawsOutside (tables_batch t u) q → PassesChecks (log_of (height t)) q)
+  accepted_there (Ok q) built accepted = λ met outside. passes q built (accepted met outside)
+  accepted_there (Err e) built accepted = tt
 
 -- the heights that a verifier expects
 pub expected : (log_rows : ℕ) → log_rows ≤ 10 → AreWithinBounds 0 26 (log_rows ∷ 8 ∷ [])

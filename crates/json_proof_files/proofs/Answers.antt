@@ -1,6 +1,6 @@
 -- What the two calls answer, from what their parts do.
-use Rattle.std.proofs.Common.{◌≡◌, ◌<◌, ℕ, zero, suc, List, [], ◌∷◌, length, refl, sym, ap, ◌∙◌, subst, arith, ◌≤◌, false, Option, None, Some, Result, Ok, Err, Vec}
-use Rattle.std.specs.Prelude.{IfOk, MatchResult, IsUtf8}
+use Rattle.std.proofs.Common.{◌≡◌, ◌<◌, ℕ, List, [], ◌∷◌, length, refl, sym, ap, ◌∙◌, subst, arith, ◌≤◌, false, None, Some, Result, Ok, Err, Vec}
+use Rattle.std.specs.Prelude.{IfOk, IsUtf8}
 use Rattle.std.specs.declared.alloc.AllocError.{AllocError}
 use Rattle.std.specs.declared.alloc.Global.{Global}
 use Rattle.serde_json.specs.Data.{Data, depth}
@@ -8,7 +8,7 @@ use Rattle.serde_json.specs.Read.{max_depth, read}
 use Rattle.serde_json.proofs.OnLiterals.{serde_json_on_literals}
 use Rattle.serde_json.specs.Written.{compact_text, has_float}
 use Rattle.tool_proof_files.specs.Files.{FileData, FileWithin}
-use Rattle.json_proof_files.specs.Answer.{IsJsonOf, IsNoFile, ReadsAs, ReadsFile, ReadsJson, WhyNot}
+use Rattle.json_proof_files.specs.Answer.{IsJsonOf, ReadsAs, ReadsFile, ReadsJson, WhyNot}
 use Rattle.json_proof_files.specs.FileTrees.{file_tree}
 use Rattle.json_proof_files.specs.FileReadings.{file_reading}
 use Rattle.json_proof_files.specs.Laws.FileForms.{file-form}

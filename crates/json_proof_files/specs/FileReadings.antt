@@ -1,8 +1,7 @@
 -- Which proof file a tree is, where it is one's.
-use Rattle.std.specs.Prelude.{ℕ, codes, Option, option_map}
+use Rattle.std.specs.Prelude.{codes, Option, option_map}
 use Rattle.p3_field.specs.declared.baby_bear.BabyBear.{BabyBear}
 use Rattle.plain_pcs.specs.Scheme.{PlainCommitmentData}
-use Rattle.plain_pcs.specs.declared.commitment.PlainProof.{PlainProof}
 use Rattle.batch_statement.specs.declared.commitments.BatchCommitments.{BatchCommitments}
 use Rattle.tool_proof_files.specs.Files.{FileData}
 use Rattle.serde_json.specs.Data.{Data}

@@ -1,6 +1,5 @@
 -- The forms of commitments and of proof files.
-use Rattle.std.specs.Prelude.{◌≡◌, ℕ, List, Option, None, Some, codes, refl}
-use Rattle.std.proofs.Common.{arith}
+use Rattle.std.specs.Prelude.{ℕ, List, Option, None, Some, codes, refl}
 use Rattle.p3_field.specs.declared.baby_bear.BabyBear.{BabyBear}
 use Rattle.p3_field.specs.declared.quartic.QuarticExtension.{QuarticExtension}
 use Rattle.plain_pcs.specs.Scheme.{PlainCommitmentData}
@@ -11,14 +10,14 @@ use Rattle.tool_statement.specs.declared.table.TableStatement.{TableStatement}
 use Rattle.tool_lines.specs.Texts.{Between, Unlimited, ListWithin, OptionWithin}
 use Rattle.tool_proof_text.specs.Matrices.{MatrixWithin}
 use Rattle.tool_proof_text.specs.Openings.{InstanceWithin}
-use Rattle.tool_proof_text.specs.ProofText.{CommitmentWithin, CommitmentsWithin, ProofWithin}
+use Rattle.tool_proof_text.specs.ProofText.{CommitmentWithin, CommitmentsWithin}
 use Rattle.tool_proof_files.specs.Files.{FileData, FileWithin}
 use Rattle.serde_json.specs.Data.{Data}
 use Rattle.json_forms.specs.Trees.{number_tree, list_tree, option_tree, element_tree, extension_tree}
-use Rattle.json_forms.specs.Readings.{list_reading, TreeForm}
+use Rattle.json_forms.specs.Readings.{TreeForm}
 use Rattle.json_forms.specs.Laws.Forms.{BothWithin, SameTrees, same-form, list-form, option-form, member-form, then-form, object-form, object_tree, then_members, member_of, number-form, element-form}
 use Rattle.json_forms.specs.Laws.More.{extension-form}
-use Rattle.json_proof_files.specs.MatrixTrees.{matrix_tree, matrix_reading}
+use Rattle.json_proof_files.specs.MatrixTrees.{matrix_tree}
 use Rattle.json_proof_files.specs.OpeningTrees.{instance_tree}
 use Rattle.json_proof_files.specs.TableTrees.{table_tree}
 use Rattle.json_proof_files.specs.FileTrees.{commitment_tree, commitments_tree, file_tree}

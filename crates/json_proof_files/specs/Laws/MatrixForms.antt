@@ -1,6 +1,6 @@
 -- The form of matrices.
 use Rattle.std.specs.Prelude.{◌≡◌, ℕ, zero, suc, ◌*◌, ◌≤◌, List, length, codes, Bool, true, false, ◌&&◌, ◌==◌, not, if◌then◌else◌, refl}
-use Rattle.std.proofs.Common.{sym, ap, subst, ◌∙◌, arith}
+use Rattle.std.proofs.Common.{sym, ap, subst, arith}
 use Rattle.std.proofs.Common.{mul-le-mul}
 use Rattle.std.proofs.lemmas.Bool.{eqb-true, eq-eqb, false≢true}
 use Rattle.p3_field.specs.declared.baby_bear.BabyBear.{BabyBear}

@@ -1,13 +1,12 @@
 -- The forms of the values that are opened of one table.
-use Rattle.std.specs.Prelude.{ℕ, List, Option, codes, refl}
+use Rattle.std.specs.Prelude.{List, Option, codes, refl}
 use Rattle.p3_field.specs.declared.quartic.QuarticExtension.{QuarticExtension}
-use Rattle.p3_uni_stark.specs.Opened.{PreprocessedData, OpenedData}
-use Rattle.batch_statement.specs.Proof.{OpenedWithLookups}
-use Rattle.tool_proof_text.specs.Openings.{ValuesWithin, PreprocessedWithin, OpenedWithin, InstanceWithin}
+use Rattle.p3_uni_stark.specs.Opened.{PreprocessedData}
+use Rattle.tool_proof_text.specs.Openings.{ValuesWithin, PreprocessedWithin, InstanceWithin}
 use Rattle.tool_lines.specs.Texts.{ListWithin, OptionWithin}
 use Rattle.serde_json.specs.Data.{Data}
 use Rattle.json_forms.specs.Trees.{option_tree, list_tree}
-use Rattle.json_forms.specs.Readings.{TreeForm, MembersForm}
+use Rattle.json_forms.specs.Readings.{TreeForm}
 use Rattle.json_forms.specs.Laws.Forms.{BothWithin, SameTrees, same-form, list-form, option-form, member-form, then-form, object-form, object_tree, then_members, member_of}
 use Rattle.json_forms.specs.Laws.More.{extension-form}
 use Rattle.json_proof_files.specs.OpeningTrees.{values_tree, preprocessed_tree, instance_tree}

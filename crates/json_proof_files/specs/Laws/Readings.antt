@@ -1,8 +1,8 @@
 -- Bytes read as one tree, and are the JSON of one file.
-use Rattle.std.specs.Prelude.{◌≡◌, ℕ, List, None, refl}
-use Rattle.std.proofs.Common.{sym, ap, ◌∙◌}
+use Rattle.std.specs.Prelude.{◌≡◌, ℕ, List, None}
+use Rattle.std.proofs.Common.{sym, ◌∙◌}
 use Rattle.serde_json.specs.Data.{Data}
-use Rattle.tool_proof_files.specs.Files.{FileData, FileWithin}
+use Rattle.tool_proof_files.specs.Files.{FileData}
 use Rattle.json_forms.specs.Laws.Forms.{none-read, some-same, trees-tell}
 use Rattle.json_proof_files.specs.Answer.{IsJsonOf, IsNoFile, ReadsAs, TreesTell}
 use Rattle.json_proof_files.specs.FileReadings.{file_reading}

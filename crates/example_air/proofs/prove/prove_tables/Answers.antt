@@ -3,10 +3,10 @@ use Rattle.law_honest.specs.HonestProof.{IsBuilt}
 use Rattle.prover_answer.specs.PlainBackend.{plain_prover_backend}
 use Rattle.prover_answer.specs.Telling.{Tells}
 use Rattle.verifier_batch.specs.BatchChecks.{Accepted}
-use Rattle.tool_airs.specs.Airs.{AirsBatch, AreMet, DrawsOutside}
+use Rattle.tool_airs.specs.Airs.{AreMet, DrawsOutside}
 use Rattle.transcript_version.specs.declared.TranscriptVersion.TheVariants.{V2}
 use Rattle.tool_statement.specs.Config.{tool_backend, tool_scheme, tool_setting}
-use Rattle.example_air.proofs.Tables.{all_shaped, both_ok, carried, passes}
+use Rattle.example_air.proofs.Tables.{accepted_there, all_shaped, carried}
 use Rattle.example_air.proofs.prove.prove_tables.Goals as goal
 
 pub prove_airs-requires-clause-shaped : goal.prove_airs-requires-clause-shaped
@@ -22,7 +22,7 @@ returns-clause-refusal c =
 
 pub returns-clause-accepted : goal.returns-clause-accepted
 returns-clause-accepted c =
-    both_ok c.prove_airs.result _ _ _ (λ q built accepted met outside. passes c.args.bits.now c.args.times.now c.requires q built (accepted met outside))
+    accepted_there c.args.bits.now c.args.times.now c.requires c.prove_airs.result
     (carried c.args.bits.now c.args.times.now _ _ c.new.ensures.items c.new-2.ensures.items (λ b. IfOk c.prove_airs.result (IsBuilt b.setting b.prover b.statement b.traces b.degree_bits)) c.prove_airs.ensures.proved)
     (carried c.args.bits.now c.args.times.now _ _ c.new.ensures.items c.new-2.ensures.items
     (λ b. IfOk c.prove_airs.result (λ q. AreMet b → DrawsOutside b q → Accepted (tool_setting V2) tool_backend b.statement q)) c.prove_airs.ensures.accepted)

@@ -1,4 +1,6 @@
 use Rattle.std.proofs.lemmas.Result.{IfOk-weaker}
+use Rattle.p3_field.specs.declared.quartic.QuarticExtension.{QuarticExtension}
+use Rattle.tool_airs.specs.Airs.{AirsProof}
 use Rattle.tool_airs.proofs.Joined.{accepted_there, kept_there, point_there, proof_there, refusal_there, traced_there}
 use Rattle.tool_airs.proofs.prove.prove_airs_with_point.Goals as goal
 
@@ -13,7 +15,7 @@ prove_batch_with_point-requires-clause-prover_data g c =
 pub returns-clause-proved : goal.returns-clause-proved
 returns-clause-proved g c =
     IfOk-weaker _ _ _
-    (λ r P. proof_there g.A.BaseAir.declaration g.A.Air.trees g.A.Air.interactions c.args.instances.now c.requires.shaped c.baby_bear_has_laws.ensures (λ i d l. record { rows = g.met.A.BaseAir.whole_rows _; interactions = g.met.A.Air.interactions_read _ }) _ c.tool_config-config.result.pcs c.in_ok-data.data.common _ c.tool_config-config.ensures.setting c.tool_config-config.ensures.scheme c.in_ok-data.ensures.common c.in_ok-data.ensures.prover_data r.0 P)
+    (λ (r : AirsProof × QuarticExtension) P. proof_there g.A.BaseAir.declaration g.A.Air.trees g.A.Air.interactions c.args.instances.now c.requires.shaped c.baby_bear_has_laws.ensures (λ i d l. record { rows = g.met.A.BaseAir.whole_rows _; interactions = g.met.A.Air.interactions_read _ }) _ c.tool_config-config.result.pcs c.in_ok-data.data.common _ c.tool_config-config.ensures.setting c.tool_config-config.ensures.scheme c.in_ok-data.ensures.common c.in_ok-data.ensures.prover_data r.0 P)
     c.prove_batch_with_point.ensures.proved
 
 pub returns-clause-refusal : goal.returns-clause-refusal
@@ -23,11 +25,11 @@ returns-clause-refusal g c =
 pub returns-clause-accepted : goal.returns-clause-accepted
 returns-clause-accepted g c =
     IfOk-weaker _ _ _
-    (λ r A. accepted_there g.A.BaseAir.declaration g.A.Air.trees g.A.Air.interactions c.args.instances.now c.requires.shaped c.baby_bear_has_laws.ensures (λ i d l. record { rows = g.met.A.BaseAir.whole_rows _; interactions = g.met.A.Air.interactions_read _ }) _ c.tool_config-config.result.pcs c.in_ok-data.data.common _ c.tool_config-config.ensures.setting c.tool_config-config.ensures.scheme c.in_ok-data.ensures.common c.in_ok-data.ensures.prover_data c.in_ok-data.ensures.formed r.0 A)
+    (λ (r : AirsProof × QuarticExtension) A. accepted_there g.A.BaseAir.declaration g.A.Air.trees g.A.Air.interactions c.args.instances.now c.requires.shaped c.baby_bear_has_laws.ensures (λ i d l. record { rows = g.met.A.BaseAir.whole_rows _; interactions = g.met.A.Air.interactions_read _ }) _ c.tool_config-config.result.pcs c.in_ok-data.data.common _ c.tool_config-config.ensures.setting c.tool_config-config.ensures.scheme c.in_ok-data.ensures.common c.in_ok-data.ensures.prover_data c.in_ok-data.ensures.formed r.0 A)
     c.prove_batch_with_point.ensures.accepted
 
 pub returns-clause-point : goal.returns-clause-point
 returns-clause-point g c =
     IfOk-weaker _ _ _
-    (λ r e. point_there g.A.BaseAir.declaration g.A.Air.trees g.A.Air.interactions c.args.instances.now c.requires.shaped c.baby_bear_has_laws.ensures (λ i d l. record { rows = g.met.A.BaseAir.whole_rows _; interactions = g.met.A.Air.interactions_read _ }) _ c.tool_config-config.result.pcs c.in_ok-data.data.common _ c.tool_config-config.ensures.setting c.tool_config-config.ensures.scheme c.in_ok-data.ensures.common c.in_ok-data.ensures.prover_data r.0 r.1 e)
+    (λ (r : AirsProof × QuarticExtension) e. point_there g.A.BaseAir.declaration g.A.Air.trees g.A.Air.interactions c.args.instances.now c.requires.shaped c.baby_bear_has_laws.ensures (λ i d l. record { rows = g.met.A.BaseAir.whole_rows _; interactions = g.met.A.Air.interactions_read _ }) _ c.tool_config-config.result.pcs c.in_ok-data.data.common _ c.tool_config-config.ensures.setting c.tool_config-config.ensures.scheme c.in_ok-data.ensures.common c.in_ok-data.ensures.prover_data r.0 r.1 e)
     c.prove_batch_with_point.ensures.point

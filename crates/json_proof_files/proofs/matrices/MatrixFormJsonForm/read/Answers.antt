@@ -1,4 +1,4 @@
-use Rattle.std.proofs.Common.{◌≡◌, true, length, sym, ap, ◌∙◌}
+use Rattle.std.proofs.Common.{length, sym, ap, ◌∙◌}
 use Rattle.json_proof_files.specs.MatrixTrees.{fills}
 use Rattle.json_proof_files.proofs.Rows.{filled}
 use Rattle.json_proof_files.proofs.matrices.MatrixFormJsonForm.read.Goals as goal
