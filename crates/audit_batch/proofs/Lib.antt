@@ -1,6 +1,0 @@
-mod Preprocessed
-mod Shapes
-mod Sized
-mod Sizes
-mod Whole
-mod Witness

@@ -1,6 +1,0 @@
--- What is proved of the definitions.
-pub mod Asked
-pub mod Naming
-pub mod Named
-pub mod Parts
-pub mod Audit
