@@ -1,5 +1,5 @@
 -- What `balance` answers, off the answer of `verify`.
-use Rattle.std.proofs.Common.{◌≡◌, ℕ, List, refl, sym, ◌∙◌}
+use Rattle.std.proofs.Common.{◌≡◌, ℕ, List, refl, sym, ◌∙◌, subst}
 use Rattle.transcript_version.specs.declared.TranscriptVersion.{TranscriptVersion}
 use Rattle.tool_proof_text.specs.ProofText.{ToolProofData}
 use Rattle.tool_statement.specs.declared.table.TableStatement.{TableStatement}
@@ -8,6 +8,10 @@ use Rattle.tool_verifier.specs.declared.status.Status.{Status}
 use Rattle.tool_verifier.specs.declared.status.Status.TheVariants.{Done, Refused, Usage, BadInput, ReadFault, WriteFault, OutOfMemory, TooLarge}
 use Rattle.tool_balance.proofs.Left.{told}
 use Rattle.tool_balance.specs.FileBalance.{IsFileBalance, balance_text}
+
+-- what holds of a version, of tables and of a proof holds of others that are the same
+pub same_file : (P : TranscriptVersion → List TableStatement → ToolProofData → Type 0) (v w : TranscriptVersion) (s t : List TableStatement) (p q : ToolProofData) → v ≡ w → s ≡ t → p ≡ q → P v s p → P w t q
+same_file P v w s t p q e f g h = subst (λ x. P x t q) e (subst (λ y. P v y q) f (subst (λ z. P v s z) g h))
 
 module _ (version : TranscriptVersion) (tables : List TableStatement) (p : ToolProofData) where
   -- a proof that `verify` accepts is accepted

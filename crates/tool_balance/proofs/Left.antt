@@ -8,7 +8,7 @@ use Rattle.p3_field.specs.Laws.BabyBearLaws.{baby_bear_laws}
 use Rattle.p3_field.specs.declared.baby_bear.BabyBear.{BabyBear}
 use Rattle.p3_lookup.specs.Messages.{IsBalanced, Message}
 use Rattle.stark_balance.specs.Laws.NetCounts.{counts_are_nets}
-use Rattle.stark_balance.specs.Nets.{AreNets, net_counts}
+use Rattle.stark_balance.specs.Nets.{net_counts}
 use Rattle.transcript_version.specs.declared.TranscriptVersion.{TranscriptVersion}
 use Rattle.tool_proof_text.specs.ProofText.{ToolProofData}
 use Rattle.tool_statement.specs.Config.{tool_setting}
@@ -16,7 +16,7 @@ use Rattle.tool_statement.specs.declared.table.TableStatement.{TableStatement}
 use Rattle.tool_verifier.specs.FileAnswer.{TablesBalance}
 use Rattle.tool_balance.proofs.Lines.{passed}
 use Rattle.tool_balance.specs.FileBalance.{IsBalancedUnlessUnlucky, balance_text, committed_nets, sent_messages}
-use Rattle.tool_balance.specs.Nets.{balanced_line, first_left, line_with}
+use Rattle.tool_balance.specs.Nets.{first_left, line_with}
 
 none_left : (ms : List (Message BabyBear)) → All (λ m. m.count ≡ baby_bear_ring.zero) ms → first_left ms ≡ None
 none_left [] h = refl

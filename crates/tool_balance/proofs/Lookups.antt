@@ -1,22 +1,21 @@
 -- The lookups of a statement's tables: each table has one at most, and all are on bus 0.
-use Rattle.std.proofs.Common.{◌≡◌, ℕ, ◌<◌, false, List, [], ◌∷◌, length, get_or, map, replicate, Option, None, refl, sym, ◌∙◌, ap, arith}
+use Rattle.std.proofs.Common.{◌≡◌, ℕ, ◌<◌, false, List, [], ◌∷◌, length, get_or, map, replicate, None, refl, sym, ◌∙◌, ap, arith}
 use Rattle.std.specs.Prelude.{All}
 use Rattle.std.proofs.lemmas.List.{get_or-map, length-map}
 use Rattle.std.proofs.lemmas.List.Elements.{All-cons, All-nil}
 use Rattle.p3_field.specs.BabyBear.{baby_bear_ring}
 use Rattle.p3_field.specs.Laws.Tabulate.{get_or-tabulate, length-tabulate, tabulate_items, tabulate_same}
-use Rattle.p3_field.specs.Ring.{Ring}
 use Rattle.p3_field.specs.declared.baby_bear.BabyBear.{BabyBear}
 use Rattle.p3_matrix.specs.Matrix.{Rows}
 use Rattle.air_core.specs.declared.cells.Cell.TheVariants.{Main}
 use Rattle.air_core.specs.declared.cells.Count.{Count}
 use Rattle.air_core.specs.Shape.{ReadsSendable, Shape}
-use Rattle.air_core.specs.Tree.{Tree, cell, constant, difference}
+use Rattle.air_core.specs.Tree.{Tree, cell}
 use Rattle.p3_lookup.specs.Bus.{bus_in}
 use Rattle.p3_lookup.specs.Generated.{sent_shape}
 use Rattle.p3_lookup.specs.Lookup.{IsLookup, LookupData, lookups_of}
-use Rattle.batch_setup.specs.Packed.{no_source, packed_at, packed_lookups}
-use Rattle.tool_statement.specs.StatedTables.{log_heights_of, packed_lookups_at, source_of_table, sources_of, tool_common}
+use Rattle.batch_setup.specs.Packed.{no_source, packed_lookups}
+use Rattle.tool_statement.specs.StatedTables.{log_heights_of, packed_lookups_at, source_of_table, tool_common}
 use Rattle.tool_statement.specs.declared.table.TableStatement.{TableStatement}
 use Rattle.tool_statement.specs.declared.table.TableStatement.TheVariants.{Swap, Wheel, Take, Give, Hash}
 use Rattle.law_tool_valid.specs.Job.{JobTable, swap_of, wheel_of, take_of, give_of, hash_of}

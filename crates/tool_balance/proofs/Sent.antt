@@ -1,7 +1,7 @@
 -- What a table sends, off its rows.
 use Rattle.std.proofs.Common.{◌≡◌, ℕ, zero, suc, ◌+◌, ◌^◌, ◌<◌, List, [], ◌∷◌, ◌++◌, length, get_or, None, refl, sym, ◌∙◌, ap, arith}
 use Rattle.std.specs.List.{flat_map}
-use Rattle.std.proofs.lemmas.List.{append-nil, flat_map_more}
+use Rattle.std.proofs.lemmas.List.{flat_map_more}
 use Rattle.p3_field.specs.BabyBear.{baby_bear_ring, baby_bear_root}
 use Rattle.p3_field.specs.Domain.{point}
 use Rattle.p3_field.specs.Laws.SubgroupSelectors.{subgroup}
@@ -9,12 +9,12 @@ use Rattle.p3_field.specs.Laws.Tabulate.{tabulate_more}
 use Rattle.p3_field.specs.Poly.{tabulate}
 use Rattle.p3_field.specs.Ring.{sub}
 use Rattle.p3_field.specs.declared.baby_bear.BabyBear.{BabyBear}
-use Rattle.p3_matrix.specs.Matrix.{Rows, height, row_at}
+use Rattle.p3_matrix.specs.Matrix.{Rows}
 use Rattle.air_core.specs.Check.{table_row, table_traces}
 use Rattle.air_core.specs.RowCheck.{Row}
 use Rattle.p3_lookup.specs.Bus.{bus_in}
 use Rattle.p3_lookup.specs.Lookup.{LookupData}
-use Rattle.p3_lookup.specs.Messages.{Message, Sender, messages_from, table_messages}
+use Rattle.p3_lookup.specs.Messages.{Message, messages_from, table_messages}
 use Rattle.stark_balance.specs.Sender.{sender_over, sent_in_row}
 use Rattle.law_balance.specs.CommittedRows.{sent_row}
 use Rattle.law_committed.specs.BaseRows.{main_row}

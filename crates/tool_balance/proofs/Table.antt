@@ -1,25 +1,26 @@
 -- One table that is read off its matrix, and what it sends.
-use Rattle.std.proofs.Common.{◌≡◌, ℕ, zero, suc, ◌+◌, ◌^◌, ◌<◌, ◌≤◌, List, [], ◌∷◌, ◌++◌, length, get_or, None, refl, sym, ◌∙◌, ap, subst, arith}
+use Rattle.std.proofs.Common.{◌≡◌, ℕ, ◌+◌, ◌^◌, ◌<◌, ◌≤◌, List, [], ◌∷◌, ◌++◌, length, get_or, None, refl, sym, ◌∙◌, ap, subst, arith}
 use Rattle.std.specs.Prelude.{All}
-use Rattle.std.proofs.lemmas.List.{append-nil, length-map}
+use Rattle.std.proofs.lemmas.List.{append-nil, get_or-map, length-map}
 use Rattle.std.proofs.lemmas.Option.{get_or_from_slice_get, slice_get_read}
 use Rattle.p3_field.specs.BabyBear.{baby_bear_ring}
 use Rattle.p3_field.specs.declared.baby_bear.BabyBear.{BabyBear}
 use Rattle.p3_matrix.specs.Matrix.{Rows, height}
 use Rattle.p3_lookup.specs.Generated.{sent_shape}
-use Rattle.p3_lookup.specs.Lookup.{IsLookup, LookupData}
+use Rattle.p3_lookup.specs.Lookup.{IsLookup}
 use Rattle.p3_lookup.specs.Messages.{Message, table_messages}
 use Rattle.p3_lookup.specs.Written.{Written, read, read_all}
 use Rattle.plain_pcs.specs.Scheme.{PlainCommitmentData}
 use Rattle.stark_balance.specs.Sender.{sender_over}
 use Rattle.law_soundness.specs.Commitment.{matrix_at}
+use Rattle.batch_statement.specs.Statement.{Common, WrittenCommon, read_common}
 use Rattle.transcript_version.specs.declared.TranscriptVersion.{TranscriptVersion}
 use Rattle.tool_hash_lines.specs.Laws.Matrices.{length-polynomials_at}
 use Rattle.tool_proof_text.specs.ProofText.{ToolProofData}
-use Rattle.tool_statement.specs.StatedTables.{log_height_of, packed_lookups_at, source_of_table}
+use Rattle.tool_statement.specs.StatedTables.{log_height_of, packed_lookups_at, source_of_table, tool_common}
 use Rattle.tool_statement.specs.declared.table.TableStatement.{TableStatement}
 use Rattle.tool_statement.specs.declared.table.TableStatement.TheVariants.{Swap, Wheel, Take, Give, Hash}
-use Rattle.tool_balance.proofs.Lookups.{lookups_fit, lookups_of_table, one_at_most, packed_at_is, table_at}
+use Rattle.tool_balance.proofs.Lookups.{common_at, common_count, lookups_fit, lookups_of_table, one_at_most, packed_at_is, table_at}
 use Rattle.tool_balance.proofs.Sent.{nothing_sent, sent_by_rows}
 use Rattle.tool_balance.specs.Rows.{AreRowsOf}
 use Rattle.tool_balance.specs.Senders.{HasMatrixOf, sender_at}
@@ -86,3 +87,14 @@ module _ (tables : List TableStatement) (p : ToolProofData) (i : ℕ) (below : i
   none ws packed empty version old =
       let nothing : packed_lookups_at tables i ≡ [] = sym packed ∙ ap read_all (no_items ws empty) in
       sym (append-nil old) ∙ ap (λ ms. old ++ ms) (sym (nothing_sent version tables p i below nothing))
+
+-- the lookups of the data that are made of the tables
+module _ (tables : List TableStatement) (w : WrittenCommon BabyBear (PlainCommitmentData BabyBear)) (same : read_common w ≡ tool_common tables) where
+  pub written_count : length w.lookups ≡ length tables
+  written_count = sym (length-map w.lookups read_all) ∙ (ap (λ (c : Common BabyBear (PlainCommitmentData BabyBear)). length c.lookups) same ∙ common_count tables)
+
+  pub written_at : (i : ℕ) (ws : List (Written BabyBear)) → i < length tables → ws ≡ get_or w.lookups i ws → read_all ws ≡ packed_lookups_at tables i
+  written_at i ws below there =
+      let within : i < length w.lookups = let n = written_count in omega (arith, below, n) in
+      ap read_all there
+      ∙ (sym (get_or-map read_all w.lookups i ws [] within) ∙ (ap (λ (c : Common BabyBear (PlainCommitmentData BabyBear)). get_or c.lookups i []) same ∙ common_at tables i below))

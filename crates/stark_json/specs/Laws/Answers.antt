@@ -1,17 +1,17 @@
 -- What the commands answer, from what their parts do.
-use Rattle.std.specs.Prelude.{◌≡◌, ◌⊎◌, ℕ, List, [], codes, Result, Ok, Err, IfOk, IsErr, refl}
+use Rattle.std.specs.Prelude.{◌≡◌, ℕ, List, codes, Result, Ok, Err, IfOk, IsErr, refl}
 use Rattle.std.proofs.Common.{sym, ap, ◌∙◌, inl, inr, subst}
 use Rattle.std.proofs.lemmas.Bool.{false≢true}
 use Rattle.std.specs.declared.alloc.AllocError.{AllocError}
-use Rattle.serde_json.specs.Data.{Data}
 use Rattle.serde_json.specs.Written.{compact_text}
 use Rattle.tool_lines.specs.Texts.{line_text}
 use Rattle.tool_proof_files.specs.Files.{FileData, FileWithin, file_numbers, version_of}
+use Rattle.tool_run.specs.BadInput.{IsBadInput}
 use Rattle.tool_verifier.specs.FileAnswer.{IsFileAnswer}
 use Rattle.tool_verifier.specs.declared.answer.Answer.{Answer}
 use Rattle.tool_verifier.specs.declared.status.Status.{Status}
 use Rattle.tool_verifier.specs.declared.status.Status.TheVariants.{Done, Refused, Usage, BadInput, ReadFault, WriteFault, OutOfMemory, TooLarge}
-use Rattle.json_proof_files.specs.Answer.{IsJsonOf, IsNoFile, ReadsAs, WhyNot}
+use Rattle.json_proof_files.specs.Answer.{IsJsonOf, WhyNot}
 use Rattle.json_proof_files.specs.Laws.Readings.{one-file, one-reading}
 use Rattle.json_proof_files.specs.FileTrees.{file_tree}
 use Rattle.json_proof_files.specs.declared.calls.JsonError.{JsonError}
@@ -51,6 +51,22 @@ pub from-bad : (bytes : List ℕ) (r : Result Answer AllocError) → IfOk r (λ 
     → IfOk r (λ a. IsFromJsonAnswer bytes a.status a.text.items)
 from-bad bytes (Ok a) h = subst (λ (s : Status). IsFromJsonAnswer bytes s a.text.items) (sym h.0) h.1
 from-bad bytes (Err x) h = tt
+
+pub from-done : (bytes : List ℕ) (file : FileData) (status : Status) (text : List ℕ) → IsJsonOf bytes file → status ≡ Done → text ≡ line_text (file_numbers file)
+    → IsFromJsonAnswer bytes status text
+from-done bytes file status text j is lines = subst (λ (s : Status). IsFromJsonAnswer bytes s text) (sym is) (file, j, lines)
+
+pub to-bad : (bytes : List ℕ) (r : Result Answer AllocError) → IfOk r (λ a. (a.status ≡ BadInput) × IsBadInput FileWithin file_numbers bytes a.text.items)
+    → IfOk r (λ a. IsToJsonAnswer bytes a.status a.text.items)
+to-bad bytes (Ok a) h = subst (λ (s : Status). IsToJsonAnswer bytes s a.text.items) (sym h.0) h.1
+to-bad bytes (Err x) h = tt
+
+pub to-done : (bytes : List ℕ) (file : FileData) (status : Status) (text json : List ℕ) → bytes ≡ line_text (file_numbers file) → status ≡ Done → text ≡ json
+    → json ≡ compact_text (file_tree file) → IsJsonOf json file → IsToJsonAnswer bytes status text
+to-done bytes file status text json lines is same compact j =
+    subst (λ (s : Status). IsToJsonAnswer bytes s text) (sym is)
+    (subst (λ (t : List ℕ). IsToJsonAnswer bytes Done t) (sym same)
+    (file, lines, compact, j, subst (λ (l : List ℕ). ComesBack json l) (sym lines) (comes-back json file j)))
 
 pub verify-bad : (bytes : List ℕ) (r : Result Answer AllocError) → IfOk r (λ a. (a.status ≡ BadInput) × IsBadJson bytes a.text.items)
     → IfOk r (λ a. IsVerifyJsonAnswer bytes a.status a.text.items)

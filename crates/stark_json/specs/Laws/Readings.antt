@@ -1,9 +1,8 @@
 -- Texts with one reading have one answer.
-use Rattle.std.specs.Prelude.{◌≡◌, ℕ, List, codes}
-use Rattle.std.proofs.Common.{sym, inl, inr, subst}
+use Rattle.std.specs.Prelude.{◌≡◌, ℕ, List}
+use Rattle.std.proofs.Common.{inl, inr, subst}
 use Rattle.serde_json.specs.Data.{Data}
 use Rattle.tool_proof_files.specs.Files.{FileData}
-use Rattle.tool_verifier.specs.declared.status.Status.{Status}
 use Rattle.tool_verifier.specs.declared.status.Status.TheVariants.{Done, Refused, Usage, BadInput, ReadFault, WriteFault, OutOfMemory, TooLarge}
 use Rattle.json_proof_files.specs.Answer.{IsJsonOf, IsNoFile, ReadsAs}
 use Rattle.json_proof_files.specs.FileTrees.{file_tree}

@@ -1,6 +1,5 @@
 -- The statuses of a command's answers: the command did its work, refused its input, or found it to be no text of its grammar.
 use Rattle.std.specs.Prelude.{ℕ, List}
-use Rattle.tool_proof_files.specs.Files.{version_of}
 use Rattle.tool_run.specs.Program.{AnswersOnly, IsAnswerStatus}
 use Rattle.tool_verifier.specs.FileAnswer.{IsFileAnswer}
 use Rattle.tool_verifier.specs.declared.status.Status.{Status}

@@ -1,4 +1,4 @@
-use Rattle.std.proofs.Common.{◌≡◌, ◌≤◌, ◌<◌, ◌++◌, List, ℕ, OnOk, Some, None, length, sym, ◌∙◌, ap, subst, arith}
+use Rattle.std.proofs.Common.{◌≡◌, ◌≤◌, ◌<◌, ◌++◌, List, ℕ, OnOk, length, sym, ◌∙◌, ap, subst, arith}
 use Rattle.p3_field.specs.BabyBear.{baby_bear_ring}
 use Rattle.p3_lookup.specs.Messages.{Message}
 use Rattle.p3_field.specs.declared.baby_bear.BabyBear.{BabyBear}

@@ -17,3 +17,9 @@ returns-in-len1-2 c =
     let e = one-word c.args.words.now c.word-item-then-words-lt2.result c.in-len1.len_at_least c.in-len1.len_below c.word-item-then-words-lt2.is in
     let d : Decides c.eq-then-words-lt2.result (c.as_str-then-words-lt2.result.now ≡ codes "from-json") = slice_eq-Decides Decides-eqb _ _ _ c.eq-then-words-lt2.ensures in
     e ∙ ap (λ (b : List ℕ). b ∷ []) (sym c.as_str-then-words-lt2.ensures.value ∙ d.0 c.if-eq-2.true)
+
+pub returns-in-len1-3 : goal.returns-in-len1-3
+returns-in-len1-3 c =
+    let e = one-word c.args.words.now c.word-item-then-words-lt2-2.result c.in-len1.len_at_least c.in-len1.len_below c.word-item-then-words-lt2-2.is in
+    let d : Decides c.eq-then-words-lt2-2.result (c.as_str-then-words-lt2-2.result.now ≡ codes "verify-json") = slice_eq-Decides Decides-eqb _ _ _ c.eq-then-words-lt2-2.ensures in
+    e ∙ ap (λ (b : List ℕ). b ∷ []) (sym c.as_str-then-words-lt2-2.ensures.value ∙ d.0 c.if-eq-3.true)
