@@ -6,11 +6,7 @@ use std::rt::Files;
 use std::{fs, io};
 
 /// The text that a word names, with the edits among these words.
-pub fn text_of<R: Files + AllocGlobal>(
-    rt: &R,
-    word: &str,
-    more: &[&str],
-) -> io::Result<Vec<u8>> {
+pub fn text_of<R: Files + AllocGlobal>(rt: &R, word: &str, more: &[&str]) -> io::Result<Vec<u8>> {
     let mut text = named(rt, word)?;
     for edit in more {
         if let Some((old, new)) = edit.split_once("=>") {
