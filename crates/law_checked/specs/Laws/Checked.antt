@@ -1,35 +1,31 @@
 -- Where a check of rows finds nothing, a table's constraints hold, if their selectors are factors.
-use Rattle.std.proofs.Common.{◌≡◌, ◌⊎◌, ℕ, ◌+◌, ◌%◌, ◌^◌, ◌<◌, ◌≤◌, inl, inr, Bool, true, false, cond, List, [], ◌++◌, length, get_or, map, Ok, refl, sym, ◌∙◌, ap, subst, arith}
-use Rattle.std.specs.Prelude.{All, nat_eq, Result}
+use Rattle.std.proofs.Common.{◌≡◌, ℕ, ◌+◌, ◌<◌, ◌≤◌, inl, inr, Bool, true, false, cond, List, [], length, get_or, map, refl, sym, ◌∙◌, ap, arith}
+use Rattle.std.specs.Prelude.{All}
 use Rattle.std.proofs.Math.ListN.{get_or-map}
-use Rattle.std.proofs.lemmas.Bool.{cases_Bool}
 use Rattle.std.proofs.lemmas.List.{get_or_append_left, get_or-map as get_or-map-within, length-append, length-map}
 use Rattle.p3_field.specs.Field.{TwoAdic, Extension}
 use Rattle.p3_field.specs.Laws.Algebra.{mul_zero, zero_mul}
 use Rattle.p3_field.specs.Laws.Roots.{field_no_zero_divisors}
-use Rattle.p3_matrix.specs.Matrix.{Rows, height, row_at}
+use Rattle.p3_matrix.specs.Matrix.{Rows, height}
 use Rattle.air_core.specs.CellValues.{CellValues, cell_in, ext_cell_in}
-use Rattle.air_core.specs.Check.{TableTraces, preprocessed_row, periodic_row}
 use Rattle.air_core.specs.declared.cells.Cell.{Cell}
 use Rattle.air_core.specs.declared.cells.Cell.TheVariants.{Main, Preprocessed, Periodic, Public, FirstRow, LastRow, Transition}
 use Rattle.air_core.specs.Laws.Maps.{one_value, reads_more}
-use Rattle.air_core.specs.RowCheck.{Row, cell_value, ext_cell_value, row_reading, tree_value_at_row}
+use Rattle.air_core.specs.RowCheck.{Row, cell_value, ext_cell_value, tree_value_at_row}
 use Rattle.air_core.specs.Tree.{Tree, constant, cell, ext_cell, sum, difference, product, eval_tree}
 use Rattle.p3_field.specs.Domain.{CosetData}
 use Rattle.p3_lookup.specs.Bound.{HaveLoadsBelow}
 use Rattle.p3_lookup.specs.Lookup.{LookupData}
 use Rattle.p3_lookup.specs.Trees.{lookup_trees}
-use Rattle.batch_check.specs.BatchCheck.{CheckedTable, HoldsInRow, IsBatchChecked, batch_row, batch_values, checked_table}
-use Rattle.batch_check.specs.declared.check.CheckFailure.{CheckFailure}
+use Rattle.batch_check.specs.BatchCheck.{CheckedTable, HoldsInRow, batch_row, checked_table}
 use Rattle.batch_config.specs.Setting.{Setting, masks}
 use Rattle.batch_statement.specs.Statement.{Statement}
 use Rattle.verifier_shape.specs.ShapeChecks.{heights_of}
 use Rattle.batch_constraints.specs.BatchTrees.{table_trees}
-use Rattle.law_committed.specs.Committed.{CommittedTable, committed_values_at, reading, row_point}
+use Rattle.law_committed.specs.Committed.{committed_values_at, row_point}
 use Rattle.law_committed.specs.Fields.{FieldsLaws}
 use Rattle.law_committed.specs.Laws.Rows.{reads_rows}
 use Rattle.law_committed.specs.Laws.Traces.{traces_committed}
-use Rattle.law_committed.specs.Rows.{AreOfRow, row_of_traces}
 use Rattle.law_valid.specs.Traced.{TracedTable, all_traced, committed_alone, log_rows, no_rows, traced_at, traces_of}
 use Rattle.law_valid.specs.Valid.{AllFit, AreBalanced, HasQuotientDomain, IsTraced, IsTracedBatch, OwnHold, Valid}
 use Rattle.law_checked.specs.Factors.{HasSelectorsAsFactors, IsUnselected, ReadsUnselected}
