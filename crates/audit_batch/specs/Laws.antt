@@ -1,0 +1,6 @@
+-- What is proved of the definitions.
+pub mod Asked
+pub mod Naming
+pub mod Parts
+pub mod Audit
+pub mod Report

@@ -1,0 +1,5 @@
+pub mod Asked
+pub mod Parts
+pub mod Audit
+pub mod Report
+pub mod Laws

@@ -1,0 +1,7 @@
+//! Which checks of a batch proof fail: all of them, and not the first alone.
+//!
+//! The definitions that the contracts cite are in `specs/`: checks with when each is asked, and which of them are named (`Asked`); those of
+//! a batch proof by their parts (`Parts`, `Audit`); the report of a proof over stated heights (`Report`).
+#![tactic(auto)]
+
+mod naming;
