@@ -1,51 +1,22 @@
 -- Which checks of a batch proof are asked where all that fail are to be named, and what is named. After `verify_batch` of Plonky3's p3-batch-stark, whose
 -- checks in order `checks` lists.
-use Rattle.std.specs.Prelude.{slice_index_or as get_or}
-use Rattle.std.specs.Prelude.{◌≡◌, ℕ, zero, suc, ◌+◌, ◌^◌, Bool, true, false, is_some, List, [], ◌∷◌, ◌++◌, length, Option, Some, None}
+use Rattle.std.specs.Prelude.{◌≡◌, ℕ, zero, suc, Bool, true, is_some, List, [], ◌∷◌, ◌++◌, length, Option}
 use Rattle.std.specs.Option.{unwrap_or}
 use Rattle.p3_field.specs.Checks.{check}
-use Rattle.p3_field.specs.Ring.{Ring}
-use Rattle.air_core.specs.Shape.{Declaration, width_of}
-use Rattle.p3_lookup.specs.Bus.{bus_count, batch_buses}
-use Rattle.p3_uni_stark.specs.Opened.{PreprocessedData}
-use Rattle.p3_uni_stark.specs.declared.error.InvalidProofShapeError.TheVariants.{InstanceCountMismatch}
-use Rattle.p3_uni_stark.specs.declared.error.VerificationError.TheVariants.{RandomizationError}
 use Rattle.batch_transcript.specs.declared.failure.BatchTranscriptFailure.TheVariants.{LookupPowWitness, MissingLookupPowWitness, NonCanonicalLookupPowWitness}
 use Rattle.batch_config.specs.Setting.{Setting, Backend}
-use Rattle.batch_statement.specs.Proof.{OpenedWithLookups, ProofData}
+use Rattle.batch_statement.specs.Proof.{ProofData}
 use Rattle.batch_statement.specs.Statement.{Statement}
 use Rattle.batch_statement.specs.declared.error.BatchVerificationError.{BatchVerificationError}
-use Rattle.batch_statement.specs.declared.error.BatchVerificationError.TheVariants.{Verification, Transcript}
-use Rattle.batch_statement.specs.Words.{has_some, is_there, no_opened, no_table}
-use Rattle.verifier_shape.specs.ShapeChecks.{Bounds, HaveItemForEachTable, IsRandomized, bound_at, chunk_checks, heights_of, log_chunks_at, lookup_checks, main_checks, next_length, permutation_check, preprocessed_next_check, preprocessed_next_of, preprocessed_width_check, shape_check, sizes_at, unpreprocessed_check}
+use Rattle.batch_statement.specs.declared.error.BatchVerificationError.TheVariants.{Transcript}
 use Rattle.verifier_draws.specs.Draws.{lookup_grinding, ood_grinding, script_shape}
 use Rattle.verifier_claims.specs.Claims.{claims, matrix_tables}
 use Rattle.verifier_batch.specs.OpeningChecks.{claimed, domain_checks, metadata_check, opens_check, shape_bounds_of}
 use Rattle.verifier_identity.specs.TableIdentity.{terminal_check}
 use Rattle.verifier_batch.specs.BatchChecks.{all_lookup_challenges, domains_of, drawn_of, identities_at}
 use Rattle.audit_batch.specs.Asked.{Asked, always, only}
-use Rattle.audit_batch.specs.Parts.{Parts, ShapeParts, all_asked}
-
--- no next row has values where none is declared
-abbrev pub HasNoUndeclaredNext : {E : Type 0} → List ℕ → Option (PreprocessedData E) → Type 0
-HasNoUndeclaredNext declared p = has_some declared ≡ false → next_length (preprocessed_next_of p) ≡ 0
-
--- Preprocessed rows: a next row that isn't declared is named as unexpected where it is empty. One with values is a row of another width, which the check
--- before names.
-abbrev pub preprocessed_asked : {E R : Type 0} → ℕ → (width : ℕ) → List ℕ → Option (PreprocessedData E) → List (Asked (BatchVerificationError R))
-preprocessed_asked i zero declared p = always (unpreprocessed_check i p ∷ [])
-preprocessed_asked i (suc n) declared p =
-    always (preprocessed_width_check i (suc n) declared p ∷ [])
-    ++ only (HasNoUndeclaredNext declared p) (always (preprocessed_next_check i declared p ∷ []))
-
--- what is opened of table i, each refusal by its own condition
-unfoldable pub table_asked : {F E R : Type 0} → ℕ → Declaration F → (publics chunks dimension lookups : ℕ) → OpenedWithLookups E → (terminal : Bool)
-    → List (Asked (BatchVerificationError R))
-table_asked i d publics chunks dimension lookups o terminal =
-    always (main_checks i d publics o.base)
-    ++ always (chunk_checks i chunks dimension o.base)
-    ++ preprocessed_asked i (width_of d.preprocessed) d.preprocessed_next o.base.preprocessed
-    ++ always (lookup_checks i lookups dimension o terminal)
+use Rattle.audit_batch.specs.Parts.{Parts, all_asked}
+use Rattle.audit_batch.specs.Shape.{shape_parts}
 
 -- the grinding value before the lookups' pair: where one is missing, nothing else is asked of it
 abbrev pub lookup_asked : {F R : Type 0} → (z : F) → (tables bits : ℕ) → Option F → (passed : Bool) → List (Asked (BatchVerificationError R))
@@ -59,26 +30,6 @@ lookup_asked z (suc n) bits w passed =
 abbrev pub HasWitness : {F : Type 0} → (tables : ℕ) → Option F → Type 0
 HasWitness zero w = Unit {0}
 HasWitness (suc n) w = is_some w ≡ true
-
--- The shape, over a field, with these numbers of a configuration.
-module _ {F E C P R : Type 0} (f : Ring F) (b : Bounds) (s : Statement F C) (p : ProofData F E C P) where
-  abbrev pub opened_asked : ℕ → List (Asked (BatchVerificationError R))
-  opened_asked i =
-      table_asked i (get_or s.tables i no_table).declaration (length (get_or s.publics i []))
-      (2 ^ (log_chunks_at f b.masks s.tables s.common.lookups p.degree_bits i + b.masks)) b.dimension
-      (length (get_or s.common.lookups i [])) (get_or p.instances i no_opened) (is_there (get_or p.lookup_terminals i None))
-
-  abbrev pub shape_parts : ShapeParts (BatchVerificationError R)
-  shape_parts = record {
-    counts = shape_check InstanceCountMismatch (HaveItemForEachTable s p);
-    randomized = check (Verification RandomizationError) (IsRandomized b.zk p);
-    tables = length s.tables;
-    size = sizes_at f b.least b.most b.masks s.tables s.common.lookups p.degree_bits;
-    buses = bus_count (batch_buses s.common.lookups);
-    bound = bound_at b.order s.common.lookups (heights_of b.masks p.degree_bits (length s.tables));
-    opened = opened_asked;
-    permutation = permutation_check s p;
-  }
 
 module _ {S F E C P R : Type 0} (c : Setting S F E C) (b : Backend S F E C P R) (s : Statement F C) (p : ProofData F E C P) where
   -- how many tables have lookups

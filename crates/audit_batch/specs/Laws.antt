@@ -2,5 +2,6 @@
 pub mod Asked
 pub mod Naming
 pub mod Parts
+pub mod Shape
 pub mod Audit
 pub mod Report

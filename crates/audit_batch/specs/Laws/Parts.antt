@@ -1,9 +1,11 @@
 -- Each check that is asked is asked where none before it fails, so that what is named first is what a verifier answers.
-use Rattle.std.proofs.Common.{◌≡◌, ℕ, List, [], ◌∷◌, ◌++◌, refl, sym, ◌∙◌, ap, subst}
+use Rattle.std.proofs.Common.{◌≡◌, ℕ, List, [], ◌∷◌, ◌++◌, append_assoc, refl, sym, ◌∙◌, ap, subst}
 use Rattle.p3_field.specs.Checks.{NoneFails, FirstFails, in_turn}
 use Rattle.p3_field.specs.Laws.Checks.{none_before, none_after}
 use Rattle.audit_batch.specs.Asked.{Asked, always, only, in_order, of_each, checks_in, AreNamed, AreAskedInTurn}
 use Rattle.audit_batch.specs.Laws.Asked.{none_if_unnamed, unnamed_if_none, first_is_named, turn_weaken, turn_append, turn_always, turn_only, turn_in_order, turn_of_each, in_append, in_always, in_only, in_in_order, in_of_each}
+use Rattle.audit_batch.specs.Named.{AreNamedAfter}
+use Rattle.audit_batch.specs.Laws.Naming.{after_append, after_unasked, after_where, only_append}
 use Rattle.audit_batch.specs.Parts.{Parts, ShapeParts, shape_list, draws_list, claims_list, all_list, IsSized, IsPlayed, shape_asked, draws_asked, claims_asked, all_asked}
 
 module _ {R : Type 0} (p : ShapeParts R) where
@@ -68,6 +70,47 @@ module _ {R : Type 0} (p : ShapeParts R) where
 
   pub unnamed_if_shape : (es : List R) → NoneFails (shape_list p) → AreNamed (shape_asked p) es → es ≡ []
   unnamed_if_shape es h n = unnamed_if_none (shape_asked p) es (subst NoneFails (sym in_shape) h) n
+
+-- what is named of the shape, part by part
+module _ {R : Type 0} (p : ShapeParts R) where
+  abbrev first_part : List (Asked R)
+  first_part = always (p.counts ∷ p.randomized ∷ [])
+
+  abbrev size_part : List (Asked R)
+  size_part = of_each p.tables (λ i. in_order (p.size i))
+
+  abbrev last_part : List (Asked R)
+  last_part = in_order (in_turn p.buses p.bound) ++ of_each p.tables p.opened ++ always p.permutation
+
+  -- the rest, asked or not, after counts and sizes
+  rest_after : (a b c d : List R) → AreNamedAfter a first_part b → AreNamedAfter b (only p.counts.holds size_part) c → AreNamedAfter c (only (IsSized p) last_part) d
+      → AreNamedAfter a (shape_asked p) d
+  unfolding shape_asked
+  rest_after a b c d m n r =
+      let P = IsSized p in
+      let x = in_order (in_turn p.buses p.bound) in
+      let y = of_each p.tables p.opened in
+      let z = always p.permutation in
+      let front = first_part ++ only p.counts.holds size_part in
+      let parted : only P last_part ≡ only P x ++ only P y ++ only P z = only_append P (x ++ y) z ∙ ap (λ l. l ++ only P z) (only_append P x y) in
+      let same : front ++ only P last_part ≡ front ++ only P x ++ only P y ++ only P z =
+      ap (λ l. front ++ l) parted ∙ sym (append_assoc front (only P x ++ only P y) (only P z)) ∙ ap (λ l. l ++ only P z) (sym (append_assoc front (only P x) (only P y))) in
+      subst (λ qs. AreNamedAfter a qs d) same
+      (after_append front (only P last_part) a c d (after_append first_part (only p.counts.holds size_part) a b c m n) r)
+
+  -- where the counts aren't right
+  pub uncounted_after : (a b : List R) → (p.counts.holds → ⊥) → AreNamedAfter a first_part b → AreNamedAfter a (shape_asked p) b
+  uncounted_after a b h m = rest_after a b b b m (after_unasked p.counts.holds size_part b h) (after_unasked (IsSized p) last_part b (λ s. h s.0))
+
+  -- where the sizes aren't
+  pub unsized_after : (a b c : List R) → p.counts.holds → (NoneFails (in_turn p.tables p.size) → ⊥) → AreNamedAfter a first_part b → AreNamedAfter b size_part c
+      → AreNamedAfter a (shape_asked p) c
+  unsized_after a b c k h m n = rest_after a b c c m (after_where p.counts.holds size_part b c k n) (after_unasked (IsSized p) last_part c (λ s. h s.1))
+
+  -- where both are
+  pub sized_after : (a b c d : List R) → p.counts.holds → NoneFails (in_turn p.tables p.size) → AreNamedAfter a first_part b → AreNamedAfter b size_part c
+      → AreNamedAfter c last_part d → AreNamedAfter a (shape_asked p) d
+  sized_after a b c d k h m n r = rest_after a b c d m (after_where p.counts.holds size_part b c k n) (after_where (IsSized p) last_part c d (k, h) r)
 
 module _ {R : Type 0} (p : Parts R) where
   pub in_draws : checks_in (draws_asked p) ≡ draws_list p
