@@ -6,3 +6,5 @@
 #![tactic(auto)]
 
 mod naming;
+mod opened;
+mod shape;
