@@ -1,0 +1,7 @@
+-- What is proved of the definitions.
+pub mod Asked
+pub mod Naming
+pub mod Parts
+pub mod Shape
+pub mod Audit
+pub mod Report

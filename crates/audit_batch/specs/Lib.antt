@@ -1,0 +1,7 @@
+pub mod Asked
+pub mod Named
+pub mod Parts
+pub mod Shape
+pub mod Audit
+pub mod Report
+pub mod Laws

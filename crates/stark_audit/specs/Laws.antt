@@ -1,0 +1,7 @@
+-- What is proved of the definitions, by subject.
+pub mod Answers
+pub mod Audited
+pub mod Explain
+pub mod Heights
+pub mod Reports
+pub mod Statuses
