@@ -1,6 +1,6 @@
 use Rattle.std.proofs.Common.{◌≡◌, ℕ, ◌+◌, ◌<◌, List, [], ◌++◌, length, map, get_or, sym, ◌∙◌, ap, subst, arith}
 use Rattle.std.proofs.lemmas.List.{length-map}
-use Rattle.p3_field.specs.Checks.{Check, NoneFails, in_turn}
+use Rattle.p3_field.specs.Checks.{Check}
 use Rattle.p3_field.specs.Poly.{tabulate}
 use Rattle.p3_field.specs.Laws.Tabulate.{get_or-tabulate, length-tabulate}
 use Rattle.p3_lookup.specs.Written.{Written, read_all}
@@ -8,7 +8,7 @@ use Rattle.batch_constraints.specs.BatchTrees.{AreLookupsOf}
 use Rattle.batch_statement.specs.Proof.{ProofData}
 use Rattle.batch_statement.specs.Statement.{AirTable, WrittenCommon, statement_with, tables_of}
 use Rattle.batch_statement.specs.declared.error.BatchVerificationError.{BatchVerificationError}
-use Rattle.verifier_shape.specs.ShapeChecks.{HasEntries, HaveItemForEachTable, bounds_with, bus_bound_part, log_chunks_at, permutation_check, sizes_at}
+use Rattle.verifier_shape.specs.ShapeChecks.{HasEntries, bounds_with, bus_bound_part, log_chunks_at, permutation_check, sizes_at}
 use Rattle.verifier_shape.specs.Laws.Parts.{bits_fit, chunks_fit}
 use Rattle.verifier_shape.specs.Laws.Reads.{lookups_are_tables}
 use Rattle.audit_batch.specs.Asked.{Asked, always, in_order, of_each}
