@@ -8,13 +8,14 @@ use Rattle.p3_field.specs.Laws.Tabulate.{get_or-tabulate}
 use Rattle.p3_field.specs.Poly.{tabulate}
 use Rattle.p3_field.specs.Ring.{Ring}
 use Rattle.air_core.specs.Shape.{Declaration, width_of}
+use Rattle.p3_lookup.specs.Lookup.{LookupData}
 use Rattle.p3_uni_stark.specs.Opened.{PreprocessedData}
 use Rattle.batch_statement.specs.Proof.{OpenedWithLookups, ProofData}
-use Rattle.batch_statement.specs.Statement.{Statement}
+use Rattle.batch_statement.specs.Statement.{AirTable, Statement}
 use Rattle.batch_statement.specs.Words.{is_there, no_opened, no_table}
 use Rattle.batch_statement.specs.declared.error.BatchVerificationError.{BatchVerificationError}
-use Rattle.verifier_shape.specs.ShapeChecks.{Bounds, HaveItemForEachTable, bus_bound_part, count_checks, opened_part, permutation_check, size_part, IsOpenedPreprocessed, chunk_checks, log_chunks_at, lookup_checks, main_checks, opened_checks, permutation_width_check, preprocessed_checks, preprocessed_next_check, preprocessed_width_check, shape_checks, table_checks, terminal_presence_check, unpreprocessed_check}
-use Rattle.audit_batch.specs.Asked.{Asked, always, only, of_each, checks_in, AreNamed, AreAskedInTurn}
+use Rattle.verifier_shape.specs.ShapeChecks.{Bounds, HaveItemForEachTable, bus_bound_part, count_checks, opened_part, permutation_check, size_part, IsOpenedPreprocessed, chunk_checks, log_chunks_at, lookup_checks, main_checks, opened_checks, permutation_width_check, preprocessed_checks, preprocessed_next_check, preprocessed_width_check, shape_checks, sizes_at, table_checks, terminal_presence_check, unpreprocessed_check}
+use Rattle.audit_batch.specs.Asked.{Asked, always, only, in_order, of_each, checks_in, AreNamed, AreAskedInTurn}
 use Rattle.audit_batch.specs.Named.{AreNamedAfter}
 use Rattle.audit_batch.specs.Laws.Naming.{after_append, after_then}
 use Rattle.audit_batch.specs.Laws.Asked.{in_always, in_append, turn_always, turn_append}
@@ -174,6 +175,20 @@ module _ {F E C P : Type 0} (R : Type 0) (f : Ring F) (b : Bounds) (s : Statemen
       let z = bus_bound_part {R = R} b s p in
       let w = opened_part {R = R} f b s p in
       none_after x y (none_before (x ++ y) z (none_before (x ++ y ++ z) w (none_before (x ++ y ++ z ++ w) (permutation_check s p) h)))
+
+-- The sizes of the tables, by lists that equal those of the batch. What is named of them.
+module _ {F : Type 0} (R : Type 0) (f : Ring F) (least most masks : ℕ) (tables : List (AirTable F)) (m n : ℕ) (ls ks : List (List (LookupData F))) (bits degrees : List ℕ)
+    (e : m ≡ n) (l : ls ≡ ks) (d : bits ≡ degrees) where
+  pub sizes_named : (a b : List (BatchVerificationError R)) → AreNamedAfter a (of_each m (λ i. in_order (sizes_at f least most masks tables ls bits i))) b
+      → AreNamedAfter a (of_each n (λ i. in_order (sizes_at f least most masks tables ks degrees i))) b
+  sizes_named a b h = subst (λ qs. AreNamedAfter a qs b) (λ j. of_each (e j) (λ i. in_order (sizes_at {R = R} f least most masks tables (l j) (d j) i))) h
+
+  -- and the numbers of their quotients' chunks
+  pub chunks_found : (v : List ℕ) → (NoneFails (in_turn m (sizes_at {R = R} f least most masks tables ls bits)) → v ≡ tabulate m (log_chunks_at f masks tables ls bits))
+      → NoneFails (in_turn n (sizes_at {R = R} f least most masks tables ks degrees)) → v ≡ tabulate n (log_chunks_at f masks tables ks degrees)
+  chunks_found v h k =
+      h (subst NoneFails (λ j. in_turn (sym e j) (sizes_at {R = R} f least most masks tables (sym l j) (sym d j))) k)
+      ∙ (λ j. tabulate (e j) (log_chunks_at f masks tables (l j) (d j)))
 
 -- a value is there exactly where its image is
 pub there_mapped : {A B : Type 0} (f : A → B) (o : Option A) → is_some o ≡ is_there (option_map f o)

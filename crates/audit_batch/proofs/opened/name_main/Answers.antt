@@ -1,4 +1,4 @@
-use Rattle.std.proofs.Common.{◌≡◌, List, [], ◌∷◌, length, ◌∙◌, ap, subst, Option, Vec, Global}
+use Rattle.std.proofs.Common.{◌≡◌, List, [], ◌∷◌, length, ◌∙◌, ap, subst, Vec, Global}
 use Rattle.std.specs.Prelude.{option_map}
 use Rattle.p3_field.specs.Checks.{Check}
 use Rattle.p3_uni_stark.specs.Opened.{OpenedData}

@@ -1,4 +1,4 @@
-use Rattle.std.proofs.Common.{◌≡◌, length, ◌∙◌, ap, subst}
+use Rattle.std.proofs.Common.{length, ◌∙◌, ap, subst}
 use Rattle.air_core.specs.Shape.{width_of}
 use Rattle.p3_uni_stark.specs.Opened.{OpenedData}
 use Rattle.batch_statement.specs.Proof.{OpenedWithLookups}

@@ -1,6 +1,5 @@
-use Rattle.std.proofs.Common.{◌≡◌, ℕ, List, [], ◌∷◌, ◌++◌, sym, ◌∙◌, ap, subst}
+use Rattle.std.proofs.Common.{ℕ, List, [], ◌∷◌, ◌++◌, sym, ◌∙◌, subst}
 use Rattle.air_core.specs.Shape.{width_of}
-use Rattle.p3_field.specs.Checks.{Check}
 use Rattle.batch_statement.specs.declared.error.BatchVerificationError.{BatchVerificationError}
 use Rattle.verifier_shape.specs.ShapeChecks.{preprocessed_next_check, preprocessed_width_check, unpreprocessed_check}
 use Rattle.audit_batch.specs.Asked.{Asked, always, only}

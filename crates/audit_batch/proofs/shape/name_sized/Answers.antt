@@ -1,7 +1,6 @@
-use Rattle.std.proofs.Common.{ℕ, List, ◌++◌, length, map}
+use Rattle.std.proofs.Common.{List, ◌++◌, length, map}
 use Rattle.p3_field.specs.Checks.{Check}
 use Rattle.batch_statement.specs.Statement.{statement_with, tables_of}
-use Rattle.batch_statement.specs.Words.{has_some, is_there}
 use Rattle.batch_statement.specs.declared.error.BatchVerificationError.{BatchVerificationError}
 use Rattle.verifier_shape.specs.ShapeChecks.{bounds_with, bus_bound_part, permutation_check}
 use Rattle.audit_batch.specs.Asked.{Asked, always, in_order, of_each}

@@ -1,4 +1,4 @@
-use Rattle.std.proofs.Common.{◌≡◌, ℕ, ◌+◌, List, map, ◌∙◌, ap, arith, subst}
+use Rattle.std.proofs.Common.{ℕ, ◌+◌, List, map, ◌∙◌, ap, arith}
 use Rattle.std.specs.Option.{unwrap_or}
 use Rattle.p3_field.specs.Checks.{Check}
 use Rattle.p3_field.specs.Laws.Checks.{none_at, none_of_each}

@@ -1,12 +1,10 @@
 use Rattle.std.specs.Prelude.{slice_index_or as get_or}
-use Rattle.std.proofs.Common.{◌≡◌, ℕ, Bool, List, [], Option, None, length, map, OnOk, ap, sym, ◌∙◌, subst}
+use Rattle.std.proofs.Common.{◌≡◌, [], Option, None, length, map, OnOk, ap, sym, ◌∙◌, subst}
 use Rattle.std.proofs.lemmas.List.{length-map}
 use Rattle.p3_lookup.specs.declared.terminal.LookupTerminal.{LookupTerminal}
 use Rattle.audit_batch.specs.Laws.Shape.{there_mapped}
 use Rattle.std.specs.Prelude.{option_map}
-use Rattle.air_core.specs.Shape.{Declaration}
 use Rattle.p3_lookup.specs.Written.{read, read_all}
-use Rattle.batch_statement.specs.Proof.{OpenedWithLookups}
 use Rattle.batch_statement.specs.Statement.{AirTable, tables_of}
 use Rattle.batch_statement.specs.Words.{is_there, no_opened, no_table}
 use Rattle.verifier_shape.specs.Laws.Items.{item_at, item_of_map}

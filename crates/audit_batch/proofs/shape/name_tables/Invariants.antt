@@ -1,4 +1,4 @@
-use Rattle.std.proofs.Common.{ℕ, map}
+use Rattle.std.proofs.Common.{map}
 use Rattle.std.specs.Prelude.{option_map}
 use Rattle.p3_lookup.specs.Written.{read_all}
 use Rattle.batch_statement.specs.Statement.{tables_of}
