@@ -1,0 +1,40 @@
+-- What is named of several things, by checks that are the same.
+use Rattle.std.proofs.Common.{◌≡◌, ℕ, zero, suc, ◌<◌, List, [], ◌∷◌, ◌++◌, length, get_or, Option, ◌∙◌, ap, sym, subst, arith}
+use Rattle.p3_field.specs.Domain.{CosetData}
+use Rattle.p3_field.specs.Laws.Tabulate.{get_or-tabulate}
+use Rattle.p3_field.specs.Poly.{tabulate}
+use Rattle.batch_statement.specs.Statement.{PreprocessedTracesData}
+use Rattle.batch_statement.specs.Words.{bits_at}
+use Rattle.batch_statement.specs.declared.error.BatchVerificationError.{BatchVerificationError}
+use Rattle.verifier_claims.specs.ClaimChecks.{domain_by}
+use Rattle.audit_batch.specs.Asked.{Asked, in_order, of_each}
+use Rattle.audit_batch.specs.Named.{AreNamedAfter}
+use Rattle.audit_batch.specs.Opened.{metadata_named}
+
+-- of as many things
+pub after_until : {R : Type 0} (f : ℕ → List (Asked R)) (i n : ℕ) (a b : List R) → i ≡ n → AreNamedAfter a (of_each i f) b → AreNamedAfter a (of_each n f) b
+after_until f i n a b e h = subst (λ m. AreNamedAfter a (of_each m f) b) e h
+
+each_agree : {R : Type 0} (f g : ℕ → List (Asked R)) (n : ℕ) → ((i : ℕ) → i < n → f i ≡ g i) → of_each n f ≡ of_each n g
+unfolding of_each
+each_agree f g zero h = λ j. []
+each_agree f g (suc n) h = let p = each_agree f g n (λ i b. h i (omega arith)) in let q = h n (omega arith) in λ j. p j ++ q j
+
+-- the domains of the tables' quotients, by their degree bits and the numbers of their chunks
+abbrev pub domains_named : {R : Type 0} → ℕ → (bits : List ℕ) → (chunks : ℕ → ℕ) → (most two_adicity : ℕ) → List (Asked (BatchVerificationError R))
+domains_named n bits chunks most two_adicity = of_each n (λ i. in_order (domain_by i (bits_at bits i) (chunks i) most two_adicity))
+
+pub domains_agree : {R : Type 0} (n m : ℕ) (bits own chunks : List ℕ) (counts : ℕ → ℕ) (most max two_adicity : ℕ) (a b : List (BatchVerificationError R))
+    → n ≡ m → bits ≡ own → chunks ≡ tabulate m counts → most ≡ max
+    → AreNamedAfter a (domains_named n bits (λ i. get_or chunks i 0) most two_adicity) b → AreNamedAfter a (domains_named m own counts max two_adicity) b
+domains_agree {R} n m bits own chunks counts most max two_adicity a b en eb ec em h =
+    let same : (i : ℕ) → i < m → get_or chunks i 0 ≡ counts i = λ i l. ap (λ x. get_or x i 0) ec ∙ get_or-tabulate m counts i 0 l in
+    let moved : AreNamedAfter a (domains_named m own (λ i. get_or chunks i 0) max two_adicity) b =
+    subst (λ qs. AreNamedAfter a qs b) (λ j. domains_named {R = R} (en j) (eb j) (λ i. get_or chunks i 0) (em j) two_adicity) h in
+    subst (λ qs. AreNamedAfter a qs b)
+    (each_agree (λ i. in_order (domain_by {R = R} i (bits_at own i) (get_or chunks i 0) max two_adicity)) (λ i. in_order (domain_by {R = R} i (bits_at own i) (counts i) max two_adicity)) m
+    (λ i l. λ j. in_order (domain_by {R = R} i (bits_at own i) (same i l j) max two_adicity))) moved
+
+pub metadata_agree : {C R : Type 0} (g h : Option (PreprocessedTracesData C)) (bits own : List ℕ) (a b : List (BatchVerificationError R)) → g ≡ h → bits ≡ own
+    → AreNamedAfter a (metadata_named g bits) b → AreNamedAfter a (metadata_named h own) b
+metadata_agree {R = R} g h bits own a b eg eb k = subst (λ qs. AreNamedAfter a qs b) (λ j. metadata_named {R = R} (eg j) (eb j)) k
