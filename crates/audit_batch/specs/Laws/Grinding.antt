@@ -1,7 +1,7 @@
 -- What is named of grinding values.
 use Rattle.std.proofs.Common.{◌≡◌, ℕ, zero, suc, Bool, true, false, cond, List, [], ◌∷◌, ◌++◌, ◌↔◌, Option, Some, None, refl, sym}
 use Rattle.std.proofs.lemmas.List.{append-nil}
-use Rattle.std.specs.Prelude.{IsTrue, is_none, is_some}
+use Rattle.std.specs.Prelude.{IsTrue, is_some, not}
 use Rattle.batch_transcript.specs.declared.failure.BatchTranscriptFailure.TheVariants.{LookupPowWitness, MissingLookupPowWitness, UnexpectedLookupPowWitness, NonCanonicalLookupPowWitness, OodPowWitness, NonCanonicalOodPowWitness}
 use Rattle.batch_statement.specs.declared.error.BatchVerificationError.{BatchVerificationError}
 use Rattle.batch_statement.specs.declared.error.BatchVerificationError.TheVariants.{Transcript}
@@ -12,14 +12,15 @@ use Rattle.audit_batch.specs.Named.{AreNamedAfter}
 use Rattle.audit_batch.specs.Audit.{HasWitness, lookup_asked}
 use Rattle.audit_batch.specs.Laws.Naming.{after_append, after_test, after_then, after_unasked, after_where}
 
-module _ {F R : Type 0} (z : F) where
-  abbrev no_value : Option F
-  no_value = None
+-- a value that is missing
+abbrev no_value : (F : Type 0) → Option F
+no_value F = None
 
+module _ {F R : Type 0} (z : F) where
   -- a value where no table has lookups
-  pub unexpected_named : (tables bits : ℕ) (w : Option F) (passed none : Bool) (a b : List (BatchVerificationError R)) → tables ≡ 0 → none ≡ is_none w
+  pub unexpected_named : (tables bits : ℕ) (w : Option F) (passed none : Bool) (a b : List (BatchVerificationError R)) → tables ≡ 0 → is_some w ≡ not none
       → b ≡ a ++ cond none [] (Transcript UnexpectedLookupPowWitness ∷ []) → AreNamedAfter a (lookup_asked {R = R} z tables bits w passed) b
-  unexpected_named zero bits None passed true a b t n e = after_test (Transcript UnexpectedLookupPowWitness) (is_some no_value ≡ false) true a b (λ _. refl, λ _. refl) e
+  unexpected_named zero bits None passed true a b t n e = after_test (Transcript UnexpectedLookupPowWitness) (is_some (no_value F) ≡ false) true a b (λ _. refl, λ _. refl) e
   unexpected_named zero bits None passed false a b t n e = absurd cc
   unexpected_named zero bits (Some w) passed true a b t n e = absurd cc
   unexpected_named zero bits (Some w) passed false a b t n e = after_test (Transcript UnexpectedLookupPowWitness) (is_some (Some w) ≡ false) false a b (λ h. cc, λ h. cc) e
@@ -31,12 +32,12 @@ module _ {F R : Type 0} (z : F) where
   missing_named zero bits w passed a b n e = absurd (n tt)
   missing_named (suc k) bits (Some w) passed a b n e = absurd (n refl)
   missing_named (suc k) bits None passed a b n e =
-      let missing = check {R = BatchVerificationError R} (Transcript (MissingLookupPowWitness bits)) (is_some no_value ≡ true) in
+      let missing = check {R = BatchVerificationError R} (Transcript (MissingLookupPowWitness bits)) (is_some (no_value F) ≡ true) in
       let rest : List (Check (BatchVerificationError R)) =
       check (Transcript NonCanonicalLookupPowWitness) (bits ≡ 0 → z ≡ z) ∷ check (Transcript (LookupPowWitness bits)) (passed ≡ true) ∷ [] in
-      after_append (always (missing ∷ [])) (only (is_some no_value ≡ true) (always rest)) a b b
-      (after_test (Transcript (MissingLookupPowWitness bits)) (is_some no_value ≡ true) false a b (λ h. cc, λ h. cc) e)
-      (after_unasked (is_some no_value ≡ true) (always rest) b (λ h. cc))
+      after_append (always (missing ∷ [])) (only (is_some (no_value F) ≡ true) (always rest)) a b b
+      (after_test (Transcript (MissingLookupPowWitness bits)) (is_some (no_value F) ≡ true) false a b (λ h. cc, λ h. cc) e)
+      (after_unasked (is_some (no_value F) ≡ true) (always rest) b (λ h. cc))
 
   -- a value that is asked for
   pub value_named : (tables bits : ℕ) (w : F) (passed canonical : Bool) (a b c : List (BatchVerificationError R)) → (tables ≡ 0 → ⊥) → (IsTrue canonical ↔ (bits ≡ 0 → w ≡ z))

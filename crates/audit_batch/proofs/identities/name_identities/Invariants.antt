@@ -13,7 +13,7 @@ invariant-loop-index g l =
       ring = g.E.RingCore.ring;
       embed = g.E.ExtensionField.embed;
       dimension = g.E.BasedVectorSpace.DIMENSION;
-      basis = g.E.BasedVectorSpace.basis;
+      basis = g.E.ExtensionField.basis;
       coefficients = g.E.BasedVectorSpace.coefficients;
       from_coefficients = g.E.BasedVectorSpace.from_coefficients;
     } in
