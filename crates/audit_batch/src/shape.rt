@@ -250,3 +250,55 @@ fn name_sized<F: PrimeField64, A: Air<F>, E, Com, Opening, R: Drop>(
     name_answer(faults, permutation)?;
     Ok(())
 }
+
+/// Names the checks of a proof's shape that are asked and fail (`shape_asked`): the counts and what is random; where the counts are right,
+/// each table's size; where these are right too, the first overloaded bus, what is opened of each table, and the presence of
+/// permutation columns. Where no check of the shape fails it gives for each table the logarithm of the number of its quotient's chunks
+/// before masking.
+pub(crate) fn name_shape<F: PrimeField64, A: Air<F>, E, Com, Opening, R: Drop>(
+    faults: &mut Vec<BatchVerificationError<R>>,
+    alloc: Global,
+    airs: &[A],
+    public_values: &[Vec<F>],
+    common: &SharedData<F, Com>,
+    proof: &TablesProof<F, E, Com, Opening>,
+    bounds: ShapeBounds,
+) -> Mem<Vec<usize>>
+    requires fits { bounds.most < 64 }
+    requires masked { bounds.masks ≤ bounds.least }
+    requires masks { bounds.masks ≤ 1 }
+    requires formed { WellFormed (map A.declaration airs.now) (read_common common.now) }
+    ensures named { OnOk result (AreNamedAfter faults.old.items (shape_asked (shape_parts F.ring (bounds_with F.ORDER_U64 bounds)
+        (statement_with (tables_of A.declaration A.trees airs.now) (map (λ v. v.items) public_values.now) common.now) proof.now)) faults.new.items) }
+    ensures chunks { let statement = statement_with (tables_of A.declaration A.trees airs.now) (map (λ v. v.items) public_values.now) common.now in
+        IfOk result (λ v. NoneFails (shape_checks {R = R} F.ring (bounds_with F.ORDER_U64 bounds) statement proof.now)
+        → v.items ≡ tabulate (length airs.now) (log_chunks_at F.ring bounds.masks statement.tables statement.common.lookups proof.now.degree_bits)) }
+{
+    let counted = name_counts(faults, airs, public_values, common, proof, bounds.zk)?;
+    if !counted {
+        return Ok(Vec::new(alloc));
+    }
+    let before = faults.len();
+    let chunks = name_sizes(
+        faults,
+        alloc,
+        airs,
+        &common.lookups,
+        &proof.degree_bits,
+        bounds,
+    )?;
+    if faults.len() != before {
+        return Ok(chunks);
+    }
+    name_sized(
+        faults,
+        alloc,
+        airs,
+        public_values,
+        common,
+        proof,
+        &chunks,
+        bounds,
+    )?;
+    Ok(chunks)
+}
