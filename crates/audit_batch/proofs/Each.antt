@@ -1,12 +1,16 @@
 -- What is named of several things, by checks that are the same.
-use Rattle.std.proofs.Common.{◌≡◌, ℕ, zero, suc, ◌<◌, List, [], ◌∷◌, ◌++◌, length, get_or, Option, ◌∙◌, ap, sym, subst, arith}
+use Rattle.std.proofs.Common.{◌≡◌, ℕ, zero, suc, ◌<◌, List, [], ◌∷◌, ◌++◌, All, length, get_or, Option, Some, ◌∙◌, ap, sym, subst, arith}
+use Rattle.air_core.specs.Shape.{Declaration}
 use Rattle.p3_field.specs.Domain.{CosetData}
 use Rattle.p3_field.specs.Laws.Tabulate.{get_or-tabulate}
 use Rattle.p3_field.specs.Poly.{tabulate}
-use Rattle.batch_statement.specs.Statement.{PreprocessedTracesData}
+use Rattle.batch_statement.specs.Statement.{PreprocessedTracesData, WellFormed, WrittenCommon, read_common}
 use Rattle.batch_statement.specs.Words.{bits_at}
 use Rattle.batch_statement.specs.declared.error.BatchVerificationError.{BatchVerificationError}
 use Rattle.verifier_claims.specs.ClaimChecks.{domain_by}
+use Rattle.verifier_claims.specs.Claims.{matrix_tables}
+use Rattle.verifier_claims.specs.Laws.Listed.{listed_below}
+use Rattle.verifier_shape.specs.ShapeChecks.{HasEntries}
 use Rattle.audit_batch.specs.Asked.{Asked, in_order, of_each}
 use Rattle.audit_batch.specs.Named.{AreNamedAfter}
 use Rattle.audit_batch.specs.Opened.{metadata_named}
@@ -38,3 +42,20 @@ domains_agree {R} n m bits own chunks counts most max two_adicity a b en eb ec e
 pub metadata_agree : {C R : Type 0} (g h : Option (PreprocessedTracesData C)) (bits own : List ℕ) (a b : List (BatchVerificationError R)) → g ≡ h → bits ≡ own
     → AreNamedAfter a (metadata_named g bits) b → AreNamedAfter a (metadata_named h own) b
 metadata_agree {R = R} g h bits own a b eg eb k = subst (λ qs. AreNamedAfter a qs b) (λ j. metadata_named {R = R} (eg j) (eb j)) k
+
+-- the tables that preprocessed traces list, and their entries, where there are such traces
+pub listed_here : {F C : Type 0} (ds : List (Declaration F)) (w : WrittenCommon F C) (n m : ℕ) (g : PreprocessedTracesData C) → WellFormed ds (read_common w) → length ds ≡ n → m ≡ n
+    → w.preprocessed ≡ Some g → All (λ t. t < m) g.matrix_to_instance
+listed_here ds w n m g h l e p =
+    subst (λ o. All (λ t. t < m) (matrix_tables o)) p (subst (λ k. All (λ t. t < k) (matrix_tables w.preprocessed)) (sym e) (listed_below ds (read_common w) n h l))
+
+pub entries_here : {C : Type 0} (n m : ℕ) (o : Option (PreprocessedTracesData C)) (g : PreprocessedTracesData C) → HasEntries n o → m ≡ n → o ≡ Some g → length g.instances ≡ m
+entries_here n m o g h e p = let k : HasEntries n (Some g) = subst (HasEntries n) p h in k ∙ sym e
+
+-- what is named of the claims, by lists that are those of statement and proof
+pub claims_by_lists : {C R : Type 0} (n k : ℕ) (bits again own chunks : List ℕ) (counts : ℕ → ℕ) (most max two_adicity : ℕ) (g h : Option (PreprocessedTracesData C))
+    (x m y : List (BatchVerificationError R)) → k ≡ n → length own ≡ k → bits ≡ own → again ≡ own → chunks ≡ tabulate n counts → most ≡ max → g ≡ h
+    → AreNamedAfter x (domains_named (length bits) bits (λ i. get_or chunks i 0) most two_adicity) m → AreNamedAfter m (metadata_named g again) y
+    → (m' : List (BatchVerificationError R)) × AreNamedAfter x (domains_named k own counts max two_adicity) m' × AreNamedAfter m' (metadata_named h own) y
+claims_by_lists n k bits again own chunks counts most max two_adicity g h x m y en el eb ea ec em eg d e =
+    (m, domains_agree (length bits) k bits own chunks counts most max two_adicity x m (ap length eb ∙ el) eb (ec ∙ ap (λ i. tabulate i counts) (sym en)) em d, metadata_agree g h again own m y eg ea e)
