@@ -1,16 +1,19 @@
 -- What is named of several things, by checks that are the same.
-use Rattle.std.proofs.Common.{◌≡◌, ℕ, zero, suc, ◌<◌, List, [], ◌∷◌, ◌++◌, All, length, get_or, Option, Some, ◌∙◌, ap, sym, subst, arith}
+use Rattle.std.proofs.Common.{◌≡◌, ℕ, zero, suc, ◌+◌, ◌<◌, ◌≤◌, List, [], ◌∷◌, ◌++◌, All, length, get_or, Option, Some, ◌∙◌, ap, sym, subst, arith}
 use Rattle.air_core.specs.Shape.{Declaration}
 use Rattle.p3_field.specs.Domain.{CosetData}
 use Rattle.p3_field.specs.Laws.Tabulate.{get_or-tabulate}
 use Rattle.p3_field.specs.Poly.{tabulate}
-use Rattle.batch_statement.specs.Statement.{PreprocessedTracesData, WellFormed, WrittenCommon, read_common}
+use Rattle.p3_field.specs.Ring.{Ring}
+use Rattle.p3_lookup.specs.Lookup.{LookupData}
+use Rattle.batch_config.specs.Domains.{chunks_over}
+use Rattle.batch_statement.specs.Statement.{AirTable, PreprocessedTracesData, WellFormed, WrittenCommon, read_common}
 use Rattle.batch_statement.specs.Words.{bits_at}
 use Rattle.batch_statement.specs.declared.error.BatchVerificationError.{BatchVerificationError}
 use Rattle.verifier_claims.specs.ClaimChecks.{domain_by}
 use Rattle.verifier_claims.specs.Claims.{matrix_tables}
 use Rattle.verifier_claims.specs.Laws.Listed.{listed_below}
-use Rattle.verifier_shape.specs.ShapeChecks.{HasEntries}
+use Rattle.verifier_shape.specs.ShapeChecks.{HasEntries, log_chunks_at}
 use Rattle.audit_batch.specs.Asked.{Asked, in_order, of_each}
 use Rattle.audit_batch.specs.Named.{AreNamedAfter}
 use Rattle.audit_batch.specs.Opened.{metadata_named}
@@ -59,3 +62,15 @@ pub claims_by_lists : {C R : Type 0} (n k : ℕ) (bits again own chunks : List �
     → (m' : List (BatchVerificationError R)) × AreNamedAfter x (domains_named k own counts max two_adicity) m' × AreNamedAfter m' (metadata_named h own) y
 claims_by_lists n k bits again own chunks counts most max two_adicity g h x m y en el eb ea ec em eg d e =
     (m, domains_agree (length bits) k bits own chunks counts most max two_adicity x m (ap length eb ∙ el) eb (ec ∙ ap (λ i. tabulate i counts) (sym en)) em d, metadata_agree g h again own m y eg ea e)
+
+-- the domains of quotients' chunks, and that they fit, by a number of masking bits that is the same
+module _ {F : Type 0} (r : Ring F) (tables : List (AirTable F)) (lookups : List (List (LookupData F))) (bits : List ℕ) (n m k : ℕ) where
+  pub masked_domains : (root : ℕ → F) (generator : F) (ds : List (List (CosetData F))) → m ≡ k
+      → ds ≡ tabulate n (λ i. chunks_over r root generator k (get_or bits i 0) (log_chunks_at r k tables lookups bits i))
+      → ds ≡ tabulate n (λ i. chunks_over r root generator m (get_or bits i 0) (log_chunks_at r m tables lookups bits i))
+  masked_domains root generator ds e h =
+      subst (λ (j : ℕ). ds ≡ tabulate n (λ i. chunks_over r root generator j (get_or bits i 0) (log_chunks_at r j tables lookups bits i))) (sym e) h
+
+  pub masked_fit : (most : ℕ) → m ≡ k → ((i : ℕ) → i < n → get_or bits i 0 + log_chunks_at r k tables lookups bits i ≤ most)
+      → (i : ℕ) → i < n → get_or bits i 0 + log_chunks_at r m tables lookups bits i ≤ most
+  masked_fit most e h = subst (λ (j : ℕ). (i : ℕ) → i < n → get_or bits i 0 + log_chunks_at r j tables lookups bits i ≤ most) (sym e) h

@@ -4,6 +4,7 @@ ghost use Rattle.p3_field.specs.Checks.{NoneFails};
 ghost use Rattle.p3_field.specs.Poly.{tabulate};
 ghost use Rattle.batch_statement.specs.Statement.{WellFormed, read_common, statement_with, tables_of};
 ghost use Rattle.batch_statement.specs.Words.{has_some};
+ghost use Rattle.batch_statement.specs.declared.error.BatchVerificationError.TheVariants.{OutOfMemory};
 ghost use Rattle.verifier_batch.specs.BatchChecks.{drawn_of};
 ghost use Rattle.verifier_batch.specs.OpeningChecks.{log_chunks_of_table, shape_bounds_of};
 ghost use Rattle.verifier_shape.specs.ShapeChecks.{shape_checks};
@@ -27,6 +28,16 @@ use p3_field::{
 use p3_uni_stark::{Challenge, Challenger, PcsError, StarkGenericConfig, Val};
 use std::alloc::{AllocError, Global};
 use verifier_batch::{opened_claims, proof_claims, shape_bounds};
+
+// A refusal that is of memory ends the naming.
+fn has_memory<R: Drop>(refusal: BatchVerificationError<R>) -> Mem<()>
+    ensures { OnOk result (refusal ≡ OutOfMemory → ⊥) }
+{
+    match refusal {
+        BatchVerificationError::OutOfMemory => Err(AllocError),
+        _ => Ok(()),
+    }
+}
 
 /// Names the claims that can't be made; where all can, the backend's fault and the tables whose identities fail. The proof's shape is right, `chunks` has for
 /// each table the logarithm of the number of its quotient's chunks before masking, and these are the draws along the script, with so many
@@ -93,8 +104,8 @@ pub(crate) fn name_openings<SC: StarkGenericConfig, A: Air<Val<SC>>>(
             )?;
             Ok(())
         }
-        Err(BatchVerificationError::OutOfMemory) => Err(AllocError),
-        Err(_) => {
+        Err(refusal) => {
+            has_memory(refusal)?;
             name_claims(faults, config, airs, proof, public_values, common, chunks)?;
             Ok(())
         }
