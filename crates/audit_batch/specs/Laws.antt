@@ -5,3 +5,5 @@ pub mod Parts
 pub mod Shape
 pub mod Audit
 pub mod Report
+pub mod Whole
+pub mod Grinding
