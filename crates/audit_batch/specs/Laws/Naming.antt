@@ -115,6 +115,9 @@ module _ {R : Type 0} where
   unfolding of_each
   after_one_more f i a b c m n = rw add-one (after_append (of_each i f) (f i) a b c m n)
 
+  pub after_until : (f : ℕ → List (Asked R)) (i n : ℕ) (a b : List R) → i ≡ n → AreNamedAfter a (of_each i f) b → AreNamedAfter a (of_each n f) b
+  after_until f i n a b e m = subst (λ k. AreNamedAfter a (of_each k f) b) e m
+
   -- a call's answer
   pub after_call : {T : Type 0} (cs : List (Check R)) (r : Result T R) (a b : List R) → IsDecided cs r → b ≡ a ++ errors_of r → AreNamedAfter a (in_order cs) b
   after_call cs r a b v e = (errors_of r, named_by_call cs r v, e)

@@ -1,7 +1,11 @@
 -- What is named of a batch proof's shape, and a verifier's checks of it.
 use Rattle.std.specs.Prelude.{slice_index_or as get_or}
-use Rattle.std.proofs.Common.{◌≡◌, ℕ, zero, suc, ◌+◌, ◌^◌, Bool, List, [], ◌∷◌, ◌++◌, length, Option, Some, None, refl, sym, ◌∙◌, ap, subst}
+use Rattle.std.specs.Prelude.{is_some, option_map}
+use Rattle.std.proofs.Common.{◌≡◌, ℕ, zero, suc, ◌+◌, ◌^◌, ◌<◌, arith, Bool, List, [], ◌∷◌, ◌++◌, length, Option, Some, None, refl, sym, ◌∙◌, ap, subst}
 use Rattle.p3_field.specs.Checks.{NoneFails, in_turn}
+use Rattle.p3_field.specs.Laws.Checks.{none_after, none_before}
+use Rattle.p3_field.specs.Laws.Tabulate.{get_or-tabulate}
+use Rattle.p3_field.specs.Poly.{tabulate}
 use Rattle.p3_field.specs.Ring.{Ring}
 use Rattle.air_core.specs.Shape.{Declaration, width_of}
 use Rattle.p3_uni_stark.specs.Opened.{PreprocessedData}
@@ -9,12 +13,14 @@ use Rattle.batch_statement.specs.Proof.{OpenedWithLookups, ProofData}
 use Rattle.batch_statement.specs.Statement.{Statement}
 use Rattle.batch_statement.specs.Words.{is_there, no_opened, no_table}
 use Rattle.batch_statement.specs.declared.error.BatchVerificationError.{BatchVerificationError}
-use Rattle.verifier_shape.specs.ShapeChecks.{Bounds, IsOpenedPreprocessed, chunk_checks, log_chunks_at, lookup_checks, main_checks, opened_checks, preprocessed_checks, shape_checks, table_checks}
-use Rattle.audit_batch.specs.Asked.{Asked, always, only, checks_in, AreNamed, AreAskedInTurn}
+use Rattle.verifier_shape.specs.ShapeChecks.{Bounds, HaveItemForEachTable, bus_bound_part, count_checks, opened_part, permutation_check, size_part, IsOpenedPreprocessed, chunk_checks, log_chunks_at, lookup_checks, main_checks, opened_checks, permutation_width_check, preprocessed_checks, preprocessed_next_check, preprocessed_width_check, shape_checks, table_checks, terminal_presence_check, unpreprocessed_check}
+use Rattle.audit_batch.specs.Asked.{Asked, always, only, of_each, checks_in, AreNamed, AreAskedInTurn}
+use Rattle.audit_batch.specs.Named.{AreNamedAfter}
+use Rattle.audit_batch.specs.Laws.Naming.{after_append, after_then}
 use Rattle.audit_batch.specs.Laws.Asked.{in_always, in_append, turn_always, turn_append}
 use Rattle.audit_batch.specs.Parts.{shape_asked, shape_list}
 use Rattle.audit_batch.specs.Laws.Parts.{shape_if_unnamed, unnamed_if_shape}
-use Rattle.audit_batch.specs.Shape.{HasNoUndeclaredNext, opened_asked, preprocessed_asked, shape_parts, table_asked}
+use Rattle.audit_batch.specs.Shape.{HasNoUndeclaredNext, opened_asked, opened_asked_at, opened_asked_by, preprocessed_asked, shape_parts, table_asked}
 
 -- preprocessed rows
 module _ {E : Type 0} (R : Type 0) where
@@ -34,6 +40,18 @@ module _ {E : Type 0} (R : Type 0) where
   unfolding AreAskedInTurn always only
   turn_preprocessed H i zero declared p = (λ h. tt, tt)
   turn_preprocessed H i (suc n) declared p = (λ h. tt, (λ h. (no_undeclared (suc n) declared p h.1, tt), tt))
+
+-- what is asked of preprocessed rows, by the number of columns
+pub asked_unpreprocessed : {E : Type 0} (R : Type 0) (i width : ℕ) (declared : List ℕ) (p : Option (PreprocessedData E)) → width ≡ 0
+    → preprocessed_asked {R = R} i width declared p ≡ always (unpreprocessed_check i p ∷ [])
+asked_unpreprocessed R i zero declared p h = refl
+asked_unpreprocessed R i (suc n) declared p h = absurd cc
+
+pub asked_preprocessed : {E : Type 0} (R : Type 0) (i width : ℕ) (declared : List ℕ) (p : Option (PreprocessedData E)) → (width ≡ 0 → ⊥)
+    → preprocessed_asked {R = R} i width declared p
+    ≡ always (preprocessed_width_check i width declared p ∷ []) ++ only (HasNoUndeclaredNext declared p) (always (preprocessed_next_check i declared p ∷ []))
+asked_preprocessed R i zero declared p h = absurd (h refl)
+asked_preprocessed R i (suc n) declared p h = refl
 
 -- one table
 module _ {F E : Type 0} (R : Type 0) (i : ℕ) (d : Declaration F) (publics chunks dimension lookups : ℕ) (o : OpenedWithLookups E) (terminal : Bool) where
@@ -100,3 +118,64 @@ module _ {F E C P : Type 0} (R : Type 0) (f : Ring F) (b : Bounds) (s : Statemen
 
   pub none_named_if_right : (es : List (BatchVerificationError R)) → NoneFails (shape_checks {R = R} f b s p) → AreNamed (shape_asked (shape_parts f b s p)) es → es ≡ []
   none_named_if_right es h n = unnamed_if_shape (shape_parts f b s p) es (subst NoneFails (sym same_shape) h) n
+
+-- what is named of one table, part by part
+module _ {F E : Type 0} (R : Type 0) (i : ℕ) (d : Declaration F) (publics chunks dimension lookups : ℕ) (o : OpenedWithLookups E) (terminal : Bool) where
+  pub table_after : (a b c e f g : List (BatchVerificationError R)) → AreNamedAfter a (always (main_checks i d publics o.base)) b
+      → AreNamedAfter b (always (chunk_checks i chunks dimension o.base)) c
+      → AreNamedAfter c (preprocessed_asked i (width_of d.preprocessed) d.preprocessed_next o.base.preprocessed) e
+      → AreNamedAfter e (always (permutation_width_check i lookups dimension o ∷ [])) f → AreNamedAfter f (always (terminal_presence_check i lookups terminal ∷ [])) g
+      → AreNamedAfter a (table_asked i d publics chunks dimension lookups o terminal) g
+  unfolding table_asked
+  table_after a b c e f g m k p w t =
+      let x = always (main_checks {R = R} i d publics o.base) in
+      let y = always (chunk_checks {R = R} i chunks dimension o.base) in
+      let z = preprocessed_asked {R = R} i (width_of d.preprocessed) d.preprocessed_next o.base.preprocessed in
+      after_append (x ++ y ++ z) (always (lookup_checks i lookups dimension o terminal)) a e g
+      (after_append (x ++ y) z a c e (after_append x y a b c m k) p)
+      (after_then (permutation_width_check i lookups dimension o) (terminal_presence_check i lookups terminal ∷ []) e f g w t)
+
+-- what is asked of each thing, by another list of the same
+each_agree : {R : Type 0} (f g : ℕ → List (Asked R)) (n : ℕ) → ((i : ℕ) → i < n → f i ≡ g i) → of_each n f ≡ of_each n g
+unfolding of_each
+each_agree f g zero h = refl
+each_agree f g (suc n) h =
+    let before = each_agree f g n (λ i b. h i (omega arith)) in
+    let here = h n (omega arith) in
+    λ j. before j ++ here j
+
+module _ {F E C P : Type 0} (R : Type 0) (f : Ring F) (b : Bounds) (s : Statement F C) (p : ProofData F E C P) where
+  -- of the tables, by the list of the numbers of chunks
+  pub asked_agree : (chunks : List ℕ) → chunks ≡ tabulate (length s.tables) (log_chunks_at f b.masks s.tables s.common.lookups p.degree_bits)
+      → of_each (length s.tables) (opened_asked_by {R = R} s.tables s.publics s.common.lookups p.instances p.lookup_terminals chunks b.masks b.dimension)
+      ≡ of_each (length s.tables) (opened_asked f b s p)
+  asked_agree chunks e =
+      let n = length s.tables in
+      let counts = log_chunks_at f b.masks s.tables s.common.lookups p.degree_bits in
+      let here : (i : ℕ) → i < n → get_or chunks i 0 ≡ counts i = λ i l. ap (λ xs. get_or xs i 0) e ∙ get_or-tabulate n counts i 0 l in
+      each_agree (opened_asked_by s.tables s.publics s.common.lookups p.instances p.lookup_terminals chunks b.masks b.dimension) (opened_asked f b s p) n
+      (λ i l. λ j. opened_asked_at s.tables s.publics s.common.lookups p.instances p.lookup_terminals (2 ^ (here i l j + b.masks)) b.dimension i)
+
+  -- where the shape is right, so are counts and sizes
+  pub counts_of_shape : NoneFails (shape_checks {R = R} f b s p) → HaveItemForEachTable s p
+  unfolding shape_checks NoneFails
+  counts_of_shape h =
+      let x = count_checks {R = R} b.zk s p in
+      let y = size_part {R = R} f b s p in
+      let z = bus_bound_part {R = R} b s p in
+      let w = opened_part {R = R} f b s p in
+      (none_before x y (none_before (x ++ y) z (none_before (x ++ y ++ z) w (none_before (x ++ y ++ z ++ w) (permutation_check s p) h)))).0
+
+  pub sizes_of_shape : NoneFails (shape_checks {R = R} f b s p) → NoneFails (size_part {R = R} f b s p)
+  unfolding shape_checks
+  sizes_of_shape h =
+      let x = count_checks {R = R} b.zk s p in
+      let y = size_part {R = R} f b s p in
+      let z = bus_bound_part {R = R} b s p in
+      let w = opened_part {R = R} f b s p in
+      none_after x y (none_before (x ++ y) z (none_before (x ++ y ++ z) w (none_before (x ++ y ++ z ++ w) (permutation_check s p) h)))
+
+-- a value is there exactly where its image is
+pub there_mapped : {A B : Type 0} (f : A → B) (o : Option A) → is_some o ≡ is_there (option_map f o)
+there_mapped f None = refl
+there_mapped f (Some x) = refl

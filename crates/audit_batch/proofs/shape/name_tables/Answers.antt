@@ -1,0 +1,12 @@
+use Rattle.std.proofs.Common.{◌≡◌, ℕ, arith, subst}
+use Rattle.audit_batch.specs.Laws.Naming.{after_none_of, after_one_more, after_until}
+use Rattle.audit_batch.proofs.shape.name_tables.Goals as goal
+
+pub loop-index-init : goal.loop-index-init
+loop-index-init g c = after_none_of _ _
+
+pub loop-index-preserved : goal.loop-index-preserved
+loop-index-preserved g c = after_one_more _ c.loop-index.index _ _ _ c.loop-index.invariant c.in_ok-name_table.ensures
+
+pub returns : goal.returns
+returns g c = after_until _ c.loop-index.index _ _ _ (omega arith) c.loop-index.invariant
