@@ -1,6 +1,7 @@
 -- What is named of a batch proof, by a configuration's parts.
-use Rattle.std.proofs.Common.{◌≡◌, ℕ, zero, suc, ◌+◌, ◌<◌, ◌≤◌, List, [], ◌∷◌, ◌++◌, Bool, false, true, cond, IfOk, length, map, get_or, Option, Some, None, Result, Ok, Err, ◌∙◌, ap, sym, subst, inl, inr, refl}
+use Rattle.std.proofs.Common.{◌≡◌, ℕ, zero, suc, ◌+◌, ◌<◌, ◌≤◌, List, [], ◌∷◌, ◌++◌, Bool, false, true, cond, IfOk, ◌==◌, length, map, get_or, Option, Some, None, Result, Ok, Err, ◌∙◌, ap, sym, subst, inl, inr, refl}
 use Rattle.std.specs.Prelude.{count_by, is_some}
+use Rattle.std.proofs.lemmas.Bool.{eqb-true, eq-eqb}
 use Rattle.std.proofs.lemmas.List.{length-map}
 use Rattle.p3_field.specs.Checks.{Check, NoneFails, in_turn}
 use Rattle.p3_field.specs.Domain.{CosetData}
@@ -79,6 +80,14 @@ pub told_here : {S F E C P : Type 0} (functions : ChallengerOf S F E C) (f : Rin
     → d ≡ draws functions f e dimension state shape (given_of s p) → d ≡ drawn functions f e dimension initial version zk lookup_bits ood_bits s p
 unfolding drawn
 told_here functions f e dimension initial version zk lookup_bits ood_bits s p state shape d es eh h = h ∙ (λ j. draws functions f e dimension (es j) (eh j) (given_of s p))
+
+-- whether a list is empty
+pub none_if_empty : {A : Type 0} (xs : List A) (n : ℕ) (b : Bool) → n ≡ length xs → b ≡ (n == 0) → b ≡ true → xs ≡ []
+none_if_empty [] n b k e t = refl
+none_if_empty (x ∷ xs) n b k e t = let z : n ≡ 0 = eqb-true n 0 (sym e ∙ t) in absurd cc
+
+pub some_if_not_empty : {A : Type 0} (xs : List A) (n : ℕ) (b : Bool) → n ≡ length xs → b ≡ (n == 0) → b ≡ false → xs ≡ [] → ⊥
+some_if_not_empty xs n b k e f h = let t : true ≡ false = sym (e ∙ eq-eqb n 0 (k ∙ ap length h)) ∙ f in absurd cc
 
 -- whether the value that the script needs is there
 pub there_if_unasked : {F : Type 0} (n : ℕ) (w : Option F) → n ≡ 0 → HasWitness n w
