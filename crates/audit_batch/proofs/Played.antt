@@ -1,5 +1,5 @@
 -- What is named of a batch proof, by a configuration's parts.
-use Rattle.std.proofs.Common.{◌≡◌, ℕ, zero, suc, ◌+◌, ◌<◌, ◌≤◌, List, [], ◌∷◌, ◌++◌, Bool, false, true, cond, IfOk, ◌==◌, length, map, get_or, Option, Some, None, Result, Ok, Err, ◌∙◌, ap, sym, subst, inl, inr, refl}
+use Rattle.std.proofs.Common.{◌≡◌, ℕ, zero, suc, ◌+◌, ◌<◌, ◌≤◌, List, [], ◌∷◌, ◌++◌, Bool, false, true, cond, IfOk, ◌==◌, length, get_or, Option, Result, Ok, Err, ◌∙◌, ap, sym, subst, inl, inr, refl}
 use Rattle.std.specs.Prelude.{count_by, is_some}
 use Rattle.std.proofs.lemmas.Bool.{eqb-true, eq-eqb}
 use Rattle.std.proofs.lemmas.List.{length-map}
@@ -18,16 +18,16 @@ use Rattle.transcript_version.specs.declared.TranscriptVersion.{TranscriptVersio
 use Rattle.batch_transcript.specs.BatchScript.{BatchShapeData, Draws, draws}
 use Rattle.batch_transcript.specs.Buses.{batch_layout, instance_challenges}
 use Rattle.batch_transcript.specs.declared.failure.BatchTranscriptFailure.TheVariants.{MissingLookupPowWitness}
-use Rattle.batch_config.specs.Domains.{chunk_domains, chunks_over}
+use Rattle.batch_config.specs.Domains.{chunk_domains}
 use Rattle.batch_config.specs.Setting.{Setting, Backend, masks}
 use Rattle.batch_statement.specs.Proof.{ProofData}
-use Rattle.batch_statement.specs.Statement.{Statement, AirTable}
+use Rattle.batch_statement.specs.Statement.{Statement}
 use Rattle.batch_statement.specs.Verdict.{IsDecided, IsRefusal, IsVerdict}
 use Rattle.batch_statement.specs.Words.{bits_at, has_some}
 use Rattle.batch_statement.specs.declared.error.BatchVerificationError.{BatchVerificationError}
 use Rattle.batch_statement.specs.declared.error.BatchVerificationError.TheVariants.{OutOfMemory, Transcript}
 use Rattle.verifier_shape.specs.ShapeChecks.{Bounds, HaveItemForEachTable, log_chunks_at, shape_checks}
-use Rattle.verifier_draws.specs.Draws.{drawn, drawn_pair, given_of, ood_grinding, script_shape, table_challenges}
+use Rattle.verifier_draws.specs.Draws.{drawn, drawn_pair, given_of, ood_grinding, script_shape}
 use Rattle.verifier_claims.specs.Claims.{claims, matrix_tables}
 use Rattle.verifier_identity.specs.TableIdentity.{identity_at, terminal_check}
 use Rattle.verifier_batch.specs.OpeningChecks.{claim_checks, claimed, domain_checks, log_chunks_of_table, metadata_check, opens_check, shape_bounds_of}
