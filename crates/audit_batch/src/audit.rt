@@ -220,7 +220,7 @@ fn audit_shaped<SC: StarkGenericConfig, A: Air<Val<SC>>>(
 /// that the script needs isn't missing; they are those of the challenger's own calls, which go on where a grinding value fails its test (`steps`).
 /// The only error is running out of memory.
 ///
-/// No fault is named exactly where `verify_batch` accepts, and else the first that is named is its refusal (`meanings`).
+/// No fault is named exactly where `verify_batch` accepts, and else the first that is named is its refusal (`there_is_one_audit`).
 ///
 /// The shared data is well-formed for the AIRs (test: `fits`). Nothing is asked of the proof.
 pub fn audit_batch<SC: StarkGenericConfig, A: Air<Val<SC>>>(

@@ -9,6 +9,7 @@ mod audit;
 mod claims;
 mod grinding;
 mod identities;
+mod meanings;
 mod naming;
 mod opened;
 mod openings;
@@ -16,3 +17,4 @@ mod script;
 mod shape;
 
 pub use audit::{BatchAudit, audit_batch};
+pub use meanings::there_is_one_audit;

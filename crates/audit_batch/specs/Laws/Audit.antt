@@ -1,6 +1,6 @@
 -- What is named of a batch proof, and a verifier's answer.
-use Rattle.std.proofs.Common.{◌≡◌, ℕ, zero, suc, Bool, List, [], ◌∷◌, ◌++◌, Option, None, refl, sym, subst}
-use Rattle.p3_field.specs.Checks.{NoneFails, FirstFails, in_turn, numbers, FirstFailing, IsFirstFailing}
+use Rattle.std.proofs.Common.{◌≡◌, ℕ, zero, suc, Bool, List, [], ◌∷◌, ◌++◌, Option, None, refl, sym, subst, ◌∙◌}
+use Rattle.p3_field.specs.Checks.{AreSingle, NoneFails, FirstFails, in_turn, numbers, FirstFailing, IsFirstFailing}
 use Rattle.p3_field.specs.Laws.Checks.{none_of_numbers, first_of_numbers}
 use Rattle.batch_config.specs.Setting.{Setting, Backend}
 use Rattle.batch_statement.specs.Proof.{ProofData}
@@ -10,9 +10,9 @@ use Rattle.verifier_draws.specs.Draws.{grinding_checks, lookup_grinding}
 use Rattle.verifier_batch.specs.OpeningChecks.{claim_checks, opening_checks, shape_bounds_of}
 use Rattle.verifier_batch.specs.BatchChecks.{Accepted, FirstFault, checks, drawn_of}
 use Rattle.audit_batch.specs.Asked.{always, only, checks_in, AreNamed, AreAskedInTurn}
-use Rattle.audit_batch.specs.Laws.Asked.{first_is_named, in_always, none_if_unnamed, turn_always, unnamed_if_none}
-use Rattle.audit_batch.specs.Parts.{all_list, claims_list, draws_list}
-use Rattle.audit_batch.specs.Laws.Parts.{accepted_if_unnamed, first_fault_named, unnamed_if_accepted}
+use Rattle.audit_batch.specs.Laws.Asked.{first_is_named, in_always, none_if_unnamed, same_named, turn_always, unnamed_if_none}
+use Rattle.audit_batch.specs.Parts.{all_asked, all_list, claims_list, draws_list}
+use Rattle.audit_batch.specs.Laws.Parts.{accepted_if_unnamed, first_fault_named, in_all, unnamed_if_accepted}
 use Rattle.audit_batch.specs.Laws.Shape.{same_shape, turns}
 use Rattle.audit_batch.specs.Audit.{HasWitness, audit, lookup_asked, parts_of, tables_with_lookups}
 
@@ -67,6 +67,13 @@ module _ {S F E C P R : Type 0} (c : Setting S F E C) (b : Backend S F E C P R) 
   pub first_named_is_fault : (e : BatchVerificationError R) (es : List (BatchVerificationError R)) → AreNamed (audit c b s p) (e ∷ es) → FirstFault c b s p e
   unfolding audit
   first_named_is_fault e es n = subst (λ cs. FirstFails cs e) same_checks (first_fault_named (parts_of c b s p) opened_turns grinding_turn witness e es n)
+
+  -- there is one list of what is named
+  pub same_list : AreSingle (checks c b s p) → (ds es : List (BatchVerificationError R)) → AreNamed (audit c b s p) ds → AreNamed (audit c b s p) es → ds ≡ es
+  unfolding audit
+  same_list single ds es m n =
+      let q = parts_of c b s p in
+      same_named (all_asked q) ds es (subst AreSingle (sym (in_all q ∙ same_checks)) single) m n
 
 -- the numbers for which a property fails, all of them
 module _ (n : ℕ) (P : ℕ → Type 0) where

@@ -1,5 +1,5 @@
 -- The parts of a batch's checks, named one after another.
-use Rattle.std.proofs.Common.{◌≡◌, List, [], ◌∷◌, ◌++◌, refl, sym, subst, inl, inr}
+use Rattle.std.proofs.Common.{List, [], ◌∷◌, ◌++◌, refl, sym, subst, inl, inr}
 use Rattle.std.proofs.lemmas.List.{append-nil}
 use Rattle.p3_field.specs.Checks.{NoneFails}
 use Rattle.audit_batch.specs.Asked.{Asked, always, only, checks_in, AreNamed}
