@@ -1,5 +1,5 @@
 -- What is named of several things, by checks that are the same.
-use Rattle.std.proofs.Common.{◌≡◌, ℕ, zero, suc, ◌+◌, ◌<◌, ◌≤◌, List, [], ◌∷◌, ◌++◌, All, length, get_or, Option, Some, ◌∙◌, ap, sym, subst, arith}
+use Rattle.std.proofs.Common.{◌≡◌, ℕ, zero, suc, ◌+◌, ◌<◌, ◌≤◌, List, [], ◌++◌, All, length, get_or, Option, Some, ◌∙◌, ap, sym, subst, arith}
 use Rattle.air_core.specs.Shape.{Declaration}
 use Rattle.p3_field.specs.Domain.{CosetData}
 use Rattle.p3_field.specs.Laws.Tabulate.{get_or-tabulate}
@@ -18,10 +18,7 @@ use Rattle.audit_batch.specs.Asked.{Asked, in_order, of_each}
 use Rattle.audit_batch.specs.Named.{AreNamedAfter}
 use Rattle.audit_batch.specs.Opened.{metadata_named}
 
--- of as many things
-pub after_until : {R : Type 0} (f : ℕ → List (Asked R)) (i n : ℕ) (a b : List R) → i ≡ n → AreNamedAfter a (of_each i f) b → AreNamedAfter a (of_each n f) b
-after_until f i n a b e h = subst (λ m. AreNamedAfter a (of_each m f) b) e h
-
+-- of as many things, by checks that are the same
 each_agree : {R : Type 0} (f g : ℕ → List (Asked R)) (n : ℕ) → ((i : ℕ) → i < n → f i ≡ g i) → of_each n f ≡ of_each n g
 unfolding of_each
 each_agree f g zero h = λ j. []

@@ -66,12 +66,7 @@ pub(crate) fn name_openings<SC: StarkGenericConfig, A: Air<Val<SC>>>(
         OnOk result (AreOpened (parts_of (⟦<SC as Settings>⟧.setting config.now) (⟦<SC as Settings>⟧.backend config.now) statement proof.now) faults.old.items faults.new.items) }
 {
     let challenges = lookup_challenges(alloc, tables, &common.lookups, &draws)?;
-    let ScriptDraws {
-        alpha,
-        zeta,
-        challenger,
-        ..
-    } = draws;
+    let (alpha, zeta, challenger) = (draws.alpha, draws.zeta, draws.challenger);
     let made = proof_claims(
         alloc,
         config,

@@ -1,8 +1,7 @@
-use Rattle.std.proofs.Common.{ℕ, List, None, Some, length, map, refl, sym, ◌∙◌, ap}
+use Rattle.std.proofs.Common.{None, Some, length, map, sym, ◌∙◌, ap}
 use Rattle.std.proofs.lemmas.List.{length-map}
 use Rattle.p3_field.specs.Laws.Tabulate.{length-tabulate}
-use Rattle.batch_statement.specs.Proof.{ProofData}
-use Rattle.batch_statement.specs.Statement.{AirTable, WrittenCommon, statement_with, tables_of}
+use Rattle.batch_statement.specs.Statement.{AirTable, statement_with, tables_of}
 use Rattle.audit_batch.specs.Laws.Naming.{after_none_of}
 use Rattle.audit_batch.proofs.Each.{claims_by_lists, entries_here, listed_here}
 use Rattle.audit_batch.proofs.Played.{counts_here}

@@ -1,4 +1,3 @@
-use Rattle.std.proofs.Common.{ℕ}
 use Rattle.std.proofs.Common.{slice_index_or as get_or}
 use Rattle.batch_statement.specs.Words.{bits_at}
 use Rattle.verifier_claims.specs.ClaimChecks.{domain_by}

@@ -1,4 +1,4 @@
-use Rattle.std.proofs.Common.{ℕ, None, [], ◌∷◌}
+use Rattle.std.proofs.Common.{None, [], ◌∷◌}
 use Rattle.std.proofs.Common.{slice_index_or as get_or}
 use Rattle.verifier_claims.specs.ClaimChecks.{bits_listed}
 use Rattle.audit_batch.specs.Asked.{always, of_each}

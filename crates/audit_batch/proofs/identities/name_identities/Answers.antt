@@ -1,4 +1,4 @@
-use Rattle.std.proofs.Common.{◌≡◌, ℕ, arith, subst}
+use Rattle.std.proofs.Common.{arith}
 use Rattle.audit_batch.specs.Laws.Naming.{after_none_of, after_one_more, after_until, after_verdict}
 use Rattle.audit_batch.proofs.identities.name_identities.Goals as goal
 

@@ -1,4 +1,4 @@
-use Rattle.std.proofs.Common.{ℕ, map}
+use Rattle.std.proofs.Common.{map}
 use Rattle.p3_field.specs.Field.{Extension, TwoAdic}
 use Rattle.batch_statement.specs.Statement.{statement_with, tables_of}
 use Rattle.verifier_identity.specs.TableIdentity.{identity_at}
