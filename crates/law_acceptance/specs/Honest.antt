@@ -1,6 +1,6 @@
 -- When an honest proof is accepted.
 use Rattle.std.specs.Prelude.{ℕ, ◌+◌, ◌*◌, ◌^◌, ◌<◌, List, length, All}
-use Rattle.p3_field.specs.Laws.SubgroupSelectors.{subgroup}
+use Rattle.p3_field.specs.Domain.{subgroup}
 use Rattle.p3_matrix.specs.Matrix.{Rows}
 use Rattle.air_core.specs.Shape.{HasColumns, ReadsDeclared, declared_shape}
 use Rattle.verifier_identity.specs.Identity.{IsInDomain}

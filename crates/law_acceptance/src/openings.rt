@@ -1,8 +1,7 @@
 //! That a backend opens honest proofs: laws as the contracts of functions that compute nothing.
 ghost use Rattle.std.specs.Prelude.{◌≡◌, ℕ, ◌<◌, false, List, length, map, Option};
 ghost use Rattle.std.specs.List.{flat_map};
-ghost use Rattle.p3_field.specs.Domain.{CosetData};
-ghost use Rattle.p3_field.specs.Laws.SubgroupSelectors.{subgroup};
+ghost use Rattle.p3_field.specs.Domain.{CosetData, subgroup};
 ghost use Rattle.p3_field.specs.Poly.{tabulate};
 ghost use Rattle.p3_matrix.specs.Matrix.{Rows};
 ghost use Rattle.air_core.specs.Shape.{HasColumns};

@@ -1,8 +1,7 @@
 -- What a committed table sends, row by row, over the base field (not in Plonky3).
 use Rattle.std.specs.Prelude.{ℕ, ◌+◌, ◌%◌, false, List, [], map}
-use Rattle.p3_field.specs.Domain.{point}
+use Rattle.p3_field.specs.Domain.{point, subgroup}
 use Rattle.p3_field.specs.Field.{TwoAdic}
-use Rattle.p3_field.specs.Laws.SubgroupSelectors.{subgroup}
 use Rattle.p3_field.specs.Poly.{eval_poly}
 use Rattle.air_core.specs.RowCheck.{Row}
 use Rattle.p3_lookup.specs.Batch.{SendingTable}

@@ -7,9 +7,8 @@ use Rattle.air_core.specs.declared.cells.Cell.TheVariants.{Main, Preprocessed, P
 use Rattle.air_core.specs.RowCheck.{Row}
 use Rattle.air_core.specs.Shape.{ReadsIn}
 use Rattle.air_core.specs.Tree.{Tree}
-use Rattle.p3_field.specs.Domain.{point}
+use Rattle.p3_field.specs.Domain.{point, subgroup}
 use Rattle.p3_field.specs.Field.{TwoAdic}
-use Rattle.p3_field.specs.Laws.SubgroupSelectors.{subgroup}
 use Rattle.p3_field.specs.Poly.{eval_poly}
 use Rattle.law_committed.specs.Committed.{CommittedTable}
 

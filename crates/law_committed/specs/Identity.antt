@@ -3,8 +3,7 @@
 use Rattle.std.specs.Prelude.{◌≡◌, ℕ, zero, suc, ◌+◌, ◌-◌, List, [], ◌∷◌, length, get_or, map, All}
 use Rattle.p3_field.specs.Ring.{Ring}
 use Rattle.p3_field.specs.Field.{TwoAdic, Extension}
-use Rattle.p3_field.specs.Poly.{DegreeBelow, eval_poly, eval_poly_in, mul_poly, scale_poly, sub_poly}
-use Rattle.p3_field.specs.Laws.Chunks.{sum_polys}
+use Rattle.p3_field.specs.Poly.{DegreeBelow, eval_poly, eval_poly_in, mul_poly, scale_poly, sub_poly, sum_polys}
 use Rattle.p3_field.specs.Domain.{CosetData, point, vanishing_polynomial}
 use Rattle.air_core.specs.Tree.{Tree, eval_tree}
 use Rattle.p3_uni_stark.specs.Fold.{fold}

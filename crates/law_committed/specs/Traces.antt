@@ -3,8 +3,7 @@ use Rattle.std.specs.Prelude.{◌≡◌, ℕ, ◌<◌, List, [], length, get_or,
 use Rattle.p3_field.specs.Field.{TwoAdic, Extension}
 use Rattle.p3_field.specs.Poly.{tabulate}
 use Rattle.p3_field.specs.Newton.{newton}
-use Rattle.p3_field.specs.Domain.{CosetData, point}
-use Rattle.p3_field.specs.Laws.SubgroupSelectors.{subgroup}
+use Rattle.p3_field.specs.Domain.{CosetData, point, subgroup}
 use Rattle.p3_matrix.specs.Matrix.{Rows, FillsRows, column, height}
 use Rattle.air_core.specs.Check.{TableTraces}
 use Rattle.commit_core.specs.Periodic.{IsPeriod}

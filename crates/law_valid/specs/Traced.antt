@@ -3,8 +3,7 @@ use Rattle.std.specs.Prelude.{slice_index_or as get_or}
 use Rattle.std.specs.Prelude.{ℕ, ◌+◌, ◌-◌, ◌^◌, List, [], length}
 use Rattle.std.specs.List.{flat_map}
 use Rattle.p3_field.specs.Poly.{tabulate}
-use Rattle.p3_field.specs.Domain.{CosetData}
-use Rattle.p3_field.specs.Laws.SubgroupSelectors.{subgroup}
+use Rattle.p3_field.specs.Domain.{CosetData, subgroup}
 use Rattle.p3_matrix.specs.Matrix.{Rows}
 use Rattle.air_core.specs.Check.{TableTraces as Traces, table_row, table_traces}
 use Rattle.air_core.specs.RowCheck.{tree_value_at_row}

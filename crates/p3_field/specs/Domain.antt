@@ -9,6 +9,10 @@ pub record CosetData (F : Type 0) : Type 0 where
   pub shift : F
   pub log_size : ℕ
 
+-- the domain of the powers of root k
+abbrev pub subgroup : {A : Type 0} → Ring A → ℕ → CosetData A
+subgroup r k = record { shift = r.one; log_size = k }
+
 -- point i of the coset with shift s and generator h: s h^i
 abbrev pub coset_point : {A : Type 0} → Ring A → A → A → ℕ → A
 coset_point r s h i = r.mul s (pow r h i)

@@ -95,6 +95,11 @@ abbrev pub total : {A : Type 0} → Ring A → ℕ → (ℕ → A) → A
 total r zero t = r.zero
 total r (suc n) t = r.add (t zero) (total r n (λ i. t (suc i)))
 
+-- the polynomial t 0 + .. + t (k - 1)
+abbrev pub sum_polys : {A : Type 0} → Ring A → ℕ → (ℕ → List A) → List A
+sum_polys r zero t = []
+sum_polys r (suc k) t = add_poly r (t zero) (sum_polys r k (λ j. t (suc j)))
+
 -- t 0 * .. * t (n - 1)
 abbrev pub product : {A : Type 0} → Ring A → ℕ → (ℕ → A) → A
 product r zero t = r.one

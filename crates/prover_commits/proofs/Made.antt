@@ -2,8 +2,7 @@
 use Rattle.std.proofs.Common.{◌≡◌, ℕ, ◌^◌, ◌<◌, List, [], ◌∷◌, length, Option, None, Some, refl, sym, ◌∙◌, ap, subst, arith}
 use Rattle.std.specs.Prelude.{Ok, option_map, option_to_list}
 use Rattle.std.proofs.lemmas.List.Elements.{All-nil}
-use Rattle.p3_field.specs.Domain.{CosetData}
-use Rattle.p3_field.specs.Laws.SubgroupSelectors.{subgroup}
+use Rattle.p3_field.specs.Domain.{CosetData, subgroup}
 use Rattle.p3_matrix.specs.Matrix.{FillsRows, Rows, height}
 use Rattle.p3_lookup.specs.declared.terminal.LookupTerminal.{LookupTerminal}
 use Rattle.p3_lookup.specs.Generated.{IsGenerated}

@@ -1,7 +1,7 @@
 //! The permutation columns of all tables of a batch.
 ghost use Rattle.std.specs.Prelude.{◌≡◌, ◌^◌, ◌<◌, ◌≤◌, ◌++◌, false, length, map, Option, option_map, option_to_list, IfOk};
 ghost use Rattle.std.specs.Int.{IsPowerOfTwo};
-ghost use Rattle.p3_field.specs.Laws.SubgroupSelectors.{subgroup};
+ghost use Rattle.p3_field.specs.Domain.{subgroup};
 ghost use Rattle.batch_setup.specs.Setup.{log_of};
 ghost use Rattle.prover_answer.specs.Batch.{IsTracedAll, all_challenges, all_permutations, batch_of};
 ghost use Rattle.prover_answer.specs.Proving.{IsPairGroundOf, fraction_part};

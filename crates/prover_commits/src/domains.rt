@@ -1,7 +1,7 @@
 //! The domain of a table's rows.
 ghost use Rattle.std.specs.Prelude.{◌≡◌, ◌^◌, ◌≤◌};
 ghost use Rattle.std.specs.Int.{IsPowerOfTwo};
-ghost use Rattle.p3_field.specs.Laws.SubgroupSelectors.{subgroup};
+ghost use Rattle.p3_field.specs.Domain.{subgroup};
 ghost use Rattle.batch_setup.specs.Setup.{log_of};
 
 use batch_setup::natural_domain;

@@ -1,7 +1,7 @@
 //! The commitment to the traces of a batch.
 ghost use Rattle.std.specs.Prelude.{◌≡◌, ◌^◌, ◌≤◌, false, map, All, IfOk};
 ghost use Rattle.std.specs.Int.{IsPowerOfTwo};
-ghost use Rattle.p3_field.specs.Laws.SubgroupSelectors.{subgroup};
+ghost use Rattle.p3_field.specs.Domain.{subgroup};
 ghost use Rattle.p3_matrix.specs.Matrix.{height};
 ghost use Rattle.batch_setup.specs.Setup.{ArePowers, log_of};
 ghost use Rattle.prover_answer.specs.Batch.{IsTracedAll, batch_of, main_matrices};

@@ -1,9 +1,8 @@
 -- Chunks of the honest quotient's values are those of the honest proof.
 use Rattle.std.proofs.Common.{◌≡◌, ℕ, ◌+◌, ◌^◌, ◌<◌, List, length, get_or, All, sym, ◌∙◌, ap, subst, arith}
 use Rattle.std.proofs.lemmas.Option.{slice_get-get_or}
-use Rattle.p3_field.specs.Domain.{CosetData}
+use Rattle.p3_field.specs.Domain.{CosetData, subgroup}
 use Rattle.p3_field.specs.Field.{Extension, TwoAdic}
-use Rattle.p3_field.specs.Laws.SubgroupSelectors.{subgroup}
 use Rattle.p3_field.specs.Laws.Tabulate.{length-tabulate, tabulate_items, tabulate_same}
 use Rattle.p3_matrix.specs.Matrix.{FillsRows, Rows}
 use Rattle.p3_matrix.specs.Laws.Cells.{same_matrix}

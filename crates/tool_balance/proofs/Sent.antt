@@ -3,8 +3,7 @@ use Rattle.std.proofs.Common.{◌≡◌, ℕ, zero, suc, ◌+◌, ◌^◌, ◌<�
 use Rattle.std.specs.List.{flat_map}
 use Rattle.std.proofs.lemmas.List.{flat_map_more}
 use Rattle.p3_field.specs.BabyBear.{baby_bear_ring, baby_bear_root}
-use Rattle.p3_field.specs.Domain.{point}
-use Rattle.p3_field.specs.Laws.SubgroupSelectors.{subgroup}
+use Rattle.p3_field.specs.Domain.{point, subgroup}
 use Rattle.p3_field.specs.Laws.Tabulate.{tabulate_more}
 use Rattle.p3_field.specs.Poly.{tabulate}
 use Rattle.p3_field.specs.Ring.{sub}

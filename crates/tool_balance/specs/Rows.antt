@@ -1,8 +1,7 @@
 -- The rows of a committed table (not in Plonky3).
 use Rattle.std.specs.Prelude.{◌≡◌, ℕ, ◌^◌, ◌<◌, List, length}
 use Rattle.p3_field.specs.BabyBear.{baby_bear_ring, baby_bear_root}
-use Rattle.p3_field.specs.Domain.{point}
-use Rattle.p3_field.specs.Laws.SubgroupSelectors.{subgroup}
+use Rattle.p3_field.specs.Domain.{point, subgroup}
 use Rattle.p3_field.specs.declared.baby_bear.BabyBear.{BabyBear}
 use Rattle.p3_matrix.specs.Matrix.{Rows, height, row_at}
 use Rattle.plain_pcs.specs.Scheme.{PlainCommitmentData}

@@ -3,8 +3,7 @@ use Rattle.std.proofs.Common.{◌≡◌, ℕ, ◌^◌, ◌<◌, List, Some, leng
 use Rattle.std.proofs.lemmas.Option.{get_or_from_slice_get, slice_get-get_or, slice_get_read}
 use Rattle.air_core.specs.Joined.{joined}
 use Rattle.p3_field.specs.BabyBear.{baby_bear_ring, baby_bear_root}
-use Rattle.p3_field.specs.Domain.{point}
-use Rattle.p3_field.specs.Laws.SubgroupSelectors.{subgroup}
+use Rattle.p3_field.specs.Domain.{point, subgroup}
 use Rattle.p3_field.specs.declared.baby_bear.BabyBear.{BabyBear}
 use Rattle.law_soundness.specs.Commitment.{polynomials_at}
 use Rattle.tool_proof_text.specs.ProofText.{ToolProofData}

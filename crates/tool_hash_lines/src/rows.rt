@@ -2,8 +2,7 @@
 ghost use Rattle.std.specs.Prelude.{◌≡◌, ◌≤◌, ◌^◌, ◌++◌, OnOk, length, map};
 ghost use Rattle.air_core.specs.Joined.{joined};
 ghost use Rattle.p3_field.specs.BabyBear.{baby_bear_ring, baby_bear_root};
-ghost use Rattle.p3_field.specs.Domain.{point};
-ghost use Rattle.p3_field.specs.Laws.SubgroupSelectors.{subgroup};
+ghost use Rattle.p3_field.specs.Domain.{point, subgroup};
 ghost use Rattle.tool_hash_lines.specs.Columns.{polynomial_cells_at};
 ghost use Rattle.tool_hash_lines.specs.RowText.{row_line};
 

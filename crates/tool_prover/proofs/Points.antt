@@ -4,10 +4,9 @@ use Rattle.std.specs.Prelude.{All}
 use Rattle.std.proofs.lemmas.Bool.{cases_lt}
 use Rattle.std.proofs.lemmas.List.{get_or-map, get_or_default}
 use Rattle.p3_field.specs.BabyBear.{baby_bear_inv, baby_bear_ring}
-use Rattle.p3_field.specs.Domain.{CosetData, vanishing_polynomial}
+use Rattle.p3_field.specs.Domain.{CosetData, vanishing_polynomial, subgroup}
 use Rattle.p3_field.specs.Laws.BabyBearField.{baby_bear_field_laws}
 use Rattle.p3_field.specs.Laws.BabyBearLaws.{same_baby_bear}
-use Rattle.p3_field.specs.Laws.SubgroupSelectors.{subgroup}
 use Rattle.p3_field.specs.Poly.{eval_poly}
 use Rattle.p3_field.specs.Quartic.{of_baby_bear_value, quartic_ring}
 use Rattle.p3_field.specs.declared.baby_bear.BabyBear.{BabyBear}

@@ -1,6 +1,6 @@
 -- When a point lies on the rows of no table.
 use Rattle.std.specs.Prelude.{ℕ}
-use Rattle.p3_field.specs.Laws.SubgroupSelectors.{subgroup}
+use Rattle.p3_field.specs.Domain.{subgroup}
 use Rattle.p3_field.specs.declared.quartic.QuarticExtension.{QuarticExtension}
 use Rattle.verifier_identity.specs.Identity.{IsInDomain}
 use Rattle.transcript_version.specs.declared.TranscriptVersion.TheVariants.{V1}

@@ -4,8 +4,7 @@ use Rattle.std.specs.Prelude.{slice_index_or as get_or}
 use Rattle.std.specs.List.{flat_map}
 use Rattle.p3_field.specs.Ring.{Ring}
 use Rattle.p3_field.specs.Poly.{tabulate}
-use Rattle.p3_field.specs.Domain.{CosetData}
-use Rattle.p3_field.specs.Laws.SubgroupSelectors.{subgroup}
+use Rattle.p3_field.specs.Domain.{CosetData, subgroup}
 use Rattle.air_core.specs.Shape.{Declaration}
 use Rattle.commit_core.specs.Claims.{PointClaim, MatrixClaim, CommitmentClaim}
 use Rattle.p3_uni_stark.specs.Opened.{PreprocessedData}

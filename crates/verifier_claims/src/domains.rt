@@ -3,7 +3,7 @@ ghost use Rattle.std.specs.Prelude.{◌≡◌, ℕ, ◌+◌, ◌^◌, ◌<◌, �
 ghost use Rattle.std.specs.Prelude.{slice_index_or as get_or};
 ghost use Rattle.std.specs.Int.{IsPowerOfTwo};
 ghost use Rattle.p3_field.specs.Checks.{in_turn};
-ghost use Rattle.p3_field.specs.Laws.SubgroupSelectors.{subgroup};
+ghost use Rattle.p3_field.specs.Domain.{subgroup};
 ghost use Rattle.p3_field.specs.Poly.{tabulate};
 ghost use Rattle.p3_uni_stark.specs.declared.error.InvalidProofShapeError.TheVariants.{QuotientDomainTooLarge};
 ghost use Rattle.p3_uni_stark.specs.declared.error.VerificationError.TheVariants.{InvalidProofShape};

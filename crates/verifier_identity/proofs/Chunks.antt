@@ -3,10 +3,9 @@ use Rattle.std.proofs.Common.{◌≡◌, ℕ, ◌+◌, ◌-◌, ◌*◌, ◌^◌
 use Rattle.std.specs.Prelude.{slice_get}
 use Rattle.std.proofs.lemmas.Nat.{pow-add}
 use Rattle.std.proofs.lemmas.Option.{get_or_from_slice_get, slice_get_within}
-use Rattle.p3_field.specs.Domain.{CosetData, point}
+use Rattle.p3_field.specs.Domain.{CosetData, point, subgroup}
 use Rattle.p3_field.specs.Field.{TwoAdic, FieldLaws, TwoAdicLaws}
 use Rattle.p3_field.specs.Laws.Algebra.{one_mul}
-use Rattle.p3_field.specs.Laws.SubgroupSelectors.{subgroup}
 use Rattle.p3_field.specs.Laws.Tabulate.{get_or-tabulate, length-tabulate}
 use Rattle.p3_field.specs.Poly.{tabulate}
 use Rattle.p3_field.specs.Ring.{RingLaws}

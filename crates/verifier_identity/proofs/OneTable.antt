@@ -3,9 +3,8 @@ use Rattle.std.proofs.Common.{◌≡◌, ℕ, ◌*◌, ◌^◌, ◌<◌, List, O
 use Rattle.std.specs.Prelude.{option_map, option_to_list}
 use Rattle.std.proofs.lemmas.List.{length-map}
 use Rattle.p3_field.specs.Checks.{NoneFails, FirstFails}
-use Rattle.p3_field.specs.Domain.{CosetData}
+use Rattle.p3_field.specs.Domain.{CosetData, subgroup}
 use Rattle.p3_field.specs.Field.{TwoAdic, Extension}
-use Rattle.p3_field.specs.Laws.SubgroupSelectors.{subgroup}
 use Rattle.air_core.specs.Shape.{width_of}
 use Rattle.p3_lookup.specs.Written.{Written, read, read_all}
 use Rattle.p3_lookup.specs.declared.terminal.LookupTerminal.{LookupTerminal}

@@ -2,9 +2,8 @@
 use Rattle.std.specs.Prelude.{slice_index_or as get_or}
 use Rattle.std.specs.Prelude.{◌≡◌, ℕ, zero, suc, ◌+◌, ◌-◌, ◌^◌, List, [], ◌∷◌, ◌++◌, length, map, flat_map, replicate, All, Option, None, Some, option_to_list, unwrap_or}
 use Rattle.p3_field.specs.Checks.{Check, check}
-use Rattle.p3_field.specs.Domain.{CosetData}
+use Rattle.p3_field.specs.Domain.{CosetData, subgroup}
 use Rattle.p3_field.specs.Field.{TwoAdic, Extension}
-use Rattle.p3_field.specs.Laws.SubgroupSelectors.{subgroup}
 use Rattle.p3_field.specs.Ring.{Ring}
 use Rattle.air_core.specs.Shape.{Declaration, width_of}
 use Rattle.commit_core.specs.Periodic.{IsPeriod, NamesFirstUnfit}

@@ -2,7 +2,7 @@
 ghost use Rattle.std.specs.Prelude.{◌≡◌, ◌*◌, ◌≤◌, All, IfOk, length, map, option_map};
 ghost use Rattle.p3_field.specs.Checks.{NoneFails};
 ghost use Rattle.p3_field.specs.Field.{TwoAdic, Extension};
-ghost use Rattle.p3_field.specs.Laws.SubgroupSelectors.{subgroup};
+ghost use Rattle.p3_field.specs.Domain.{subgroup};
 ghost use Rattle.p3_lookup.specs.Written.{read_all};
 ghost use Rattle.p3_uni_stark.specs.Recombine.{AllDisjoint, recombined};
 ghost use Rattle.batch_constraints.specs.BatchTrees.{AreLookupsOf, table_trees};

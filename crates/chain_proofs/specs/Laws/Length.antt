@@ -2,7 +2,8 @@
 use Rattle.std.specs.Int.{IsPowerOfTwo}
 use Rattle.std.proofs.Common.{◌≡◌, ℕ, ◌+◌, ◌*◌, ◌^◌, ◌<◌, ◌≤◌, List, ◌∷◌, [], length, map, Option, sym, ◌∙◌, subst, arith}
 use Rattle.std.specs.Prelude.{All}
-use Rattle.p3_field.specs.Laws.SubgroupSelectors.{map_tabulate, subgroup}
+use Rattle.p3_field.specs.Domain.{subgroup}
+use Rattle.p3_field.specs.Laws.SubgroupSelectors.{map_tabulate}
 use Rattle.p3_field.specs.Laws.Tabulate.{length-tabulate}
 use Rattle.p3_field.specs.Poly.{tabulate}
 use Rattle.p3_field.specs.Quartic.{quartic_inv}

@@ -8,9 +8,8 @@ use Rattle.std.proofs.lemmas.List.{ext_get_or, length-map}
 use Rattle.std.proofs.lemmas.List.{get_or-map as get_or-map-within}
 use Rattle.std.proofs.lemmas.Nat.{pow_pos}
 use Rattle.p3_field.specs.BabyBear.{baby_bear_ring}
-use Rattle.p3_field.specs.Domain.{CosetData, point}
+use Rattle.p3_field.specs.Domain.{CosetData, point, subgroup}
 use Rattle.p3_field.specs.Field.{TwoAdic}
-use Rattle.p3_field.specs.Laws.SubgroupSelectors.{subgroup}
 use Rattle.p3_field.specs.Poly.{eval_poly}
 use Rattle.p3_field.specs.Quartic.{quartic_inv}
 use Rattle.p3_field.specs.Ring.{of_nat}

@@ -3,10 +3,10 @@ use Rattle.std.proofs.Common.{◌≡◌, ℕ, zero, suc, ◌+◌, ◌^◌, ◌<�
 use Rattle.std.specs.Prelude.{option_to_list}
 use Rattle.std.specs.List.{flat_map}
 use Rattle.std.proofs.lemmas.List.{ext_get_or, get_or-map}
-use Rattle.p3_field.specs.Domain.{CosetData, IsInterpolant, point}
+use Rattle.p3_field.specs.Domain.{CosetData, IsInterpolant, point, subgroup}
 use Rattle.p3_field.specs.Field.{TwoAdic, Extension}
 use Rattle.p3_field.specs.Laws.Interpolants.{interpolant_unique, points_apart}
-use Rattle.p3_field.specs.Laws.SubgroupSelectors.{map_tabulate, subgroup}
+use Rattle.p3_field.specs.Laws.SubgroupSelectors.{map_tabulate}
 use Rattle.p3_field.specs.Laws.Tabulate.{get_or-tabulate, length-tabulate}
 use Rattle.p3_field.specs.Poly.{Apart, tabulate}
 use Rattle.p3_matrix.specs.Matrix.{Rows, column}

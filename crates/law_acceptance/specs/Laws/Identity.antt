@@ -5,8 +5,7 @@ use Rattle.std.proofs.lemmas.Bool.{false≢true}
 use Rattle.std.proofs.lemmas.List.Elements.{All-append}
 use Rattle.p3_field.specs.Checks.{Check, NoneFails}
 use Rattle.p3_field.specs.Laws.Checks.{none_append}
-use Rattle.p3_field.specs.Domain.{CosetData, point}
-use Rattle.p3_field.specs.Laws.SubgroupSelectors.{subgroup}
+use Rattle.p3_field.specs.Domain.{CosetData, point, subgroup}
 use Rattle.p3_field.specs.Poly.{tabulate}
 use Rattle.p3_field.specs.Ring.{Ring}
 use Rattle.p3_matrix.specs.Matrix.{Rows}

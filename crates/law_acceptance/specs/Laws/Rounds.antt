@@ -4,7 +4,7 @@ use Rattle.std.specs.Prelude.{option_map, option_to_list, slice_get, zip}
 use Rattle.std.specs.List.{flat_map}
 use Rattle.std.proofs.Math.Nat.{mul-le-mul_right}
 use Rattle.std.proofs.lemmas.List.{get_or-map, length-map}
-use Rattle.p3_field.specs.Domain.{CosetData}
+use Rattle.p3_field.specs.Domain.{CosetData, subgroup}
 use Rattle.p3_field.specs.Laws.Tabulate.{get_or-tabulate, length-tabulate}
 use Rattle.p3_field.specs.Poly.{tabulate, eval_poly_in}
 use Rattle.p3_matrix.specs.Matrix.{Rows}
@@ -13,7 +13,6 @@ use Rattle.commit_core.specs.Commitments.{AreClaims, Committed, IsMatrixClaim, I
 use Rattle.commit_core.specs.Periodic.{EachFrom}
 use Rattle.p3_lookup.specs.Lookup.{LookupData}
 use Rattle.p3_field.specs.Domain.{point}
-use Rattle.p3_field.specs.Laws.SubgroupSelectors.{subgroup}
 use Rattle.air_core.specs.Shape.{Declaration}
 use Rattle.verifier_claims.specs.Claims.{at_point, chunk_claim, chunk_claims, chunk_domains_at, claims_by, commitment_in, preprocessed_local_row, main_claim, preprocessed_matrix_claim, matrix_tables, preprocessed_next_row, on_subgroup, permutation_claims, preprocessed_claim, claims_of_round, values_where_there, where_declared, where_opened}
 use Rattle.batch_statement.specs.Words.{bits_at, declared_at, instance_at, no_opened, no_table}

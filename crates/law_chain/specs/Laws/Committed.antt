@@ -3,10 +3,9 @@ use Rattle.std.proofs.Common.{◌≡◌, ℕ, ◌<◌, ◌≤◌, List, length, 
 use Rattle.std.specs.Prelude.{◌↔◌}
 use Rattle.std.proofs.lemmas.List.{length-map}
 use Rattle.std.proofs.lemmas.Nat.{pow_pos}
-use Rattle.p3_field.specs.Domain.{point}
+use Rattle.p3_field.specs.Domain.{point, subgroup}
 use Rattle.p3_field.specs.Field.{TwoAdic, Extension}
 use Rattle.p3_field.specs.Laws.Roots.{field_no_zero_divisors}
-use Rattle.p3_field.specs.Laws.SubgroupSelectors.{subgroup}
 use Rattle.p3_field.specs.Poly.{eval_poly}
 use Rattle.air_core.specs.CellValues.{CellValues, cell_in, ext_cell_in}
 use Rattle.law_committed.specs.BaseRows.{main_row}

@@ -16,10 +16,9 @@ use Rattle.air_core.specs.Laws.Maps.{hom_keeps, reads_more, value_along}
 use Rattle.air_core.specs.Maps.{reading_over}
 use Rattle.air_core.specs.RowCheck.{Row, cell_value, ext_cell_value, tree_value_at_row}
 use Rattle.air_core.specs.Tree.{Tree, eval_tree}
-use Rattle.p3_field.specs.Domain.{point}
+use Rattle.p3_field.specs.Domain.{point, subgroup}
 use Rattle.p3_field.specs.Field.{TwoAdic, Extension}
 use Rattle.p3_field.specs.Laws.Extended.{hom_differs, map_eval}
-use Rattle.p3_field.specs.Laws.SubgroupSelectors.{subgroup}
 use Rattle.p3_field.specs.Poly.{eval_poly, eval_poly_in}
 use Rattle.law_committed.specs.BaseRows.{IsMainHere, ReadRows, ReadsMainHere, main_row, row_here}
 use Rattle.law_committed.specs.Committed.{CommittedTable, Holds, reading, row_point, row_count_of, trace_domain, committed_values_at}

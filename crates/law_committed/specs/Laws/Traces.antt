@@ -4,9 +4,8 @@ use Rattle.std.proofs.lemmas.List.{length-map, get_or-map}
 use Rattle.std.proofs.lemmas.Bool.{cases_lt}
 use Rattle.p3_field.specs.Field.{TwoAdic, Extension}
 use Rattle.p3_field.specs.Poly.{Apart, tabulate}
-use Rattle.p3_field.specs.Domain.{IsInterpolant, point}
+use Rattle.p3_field.specs.Domain.{IsInterpolant, point, subgroup}
 use Rattle.p3_field.specs.Laws.Interpolants.{interpolant_exists, points_apart}
-use Rattle.p3_field.specs.Laws.SubgroupSelectors.{subgroup}
 use Rattle.p3_field.specs.Laws.Tabulate.{length-tabulate, get_or-tabulate}
 use Rattle.p3_matrix.specs.Matrix.{Rows, column}
 use Rattle.p3_matrix.specs.Laws.Cells.{length-column}

@@ -4,10 +4,9 @@ use Rattle.std.specs.Prelude.{All, option_to_list}
 use Rattle.std.specs.List.{list_any}
 use Rattle.std.proofs.lemmas.List.Folds.{list_any_at}
 use Rattle.p3_field.specs.Checks.{Check, NoneFails, in_turn}
-use Rattle.p3_field.specs.Domain.{CosetData}
+use Rattle.p3_field.specs.Domain.{CosetData, subgroup}
 use Rattle.p3_field.specs.Field.{TwoAdic, Extension}
 use Rattle.p3_field.specs.Laws.Checks.{none_at, none_before, none_after}
-use Rattle.p3_field.specs.Laws.SubgroupSelectors.{subgroup}
 use Rattle.p3_field.specs.Laws.Tabulate.{get_or-tabulate}
 use Rattle.p3_field.specs.Ring.{Ring}
 use Rattle.air_core.specs.Shape.{Declaration, width_of}

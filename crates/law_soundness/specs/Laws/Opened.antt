@@ -6,8 +6,7 @@ use Rattle.std.proofs.Math.ListN.{get_or-map as get_or-map-past}
 use Rattle.std.proofs.lemmas.List.{length-map}
 use Rattle.std.proofs.lemmas.List.Elements.{All-from_get_or, All-nil, All-weaker}
 use Rattle.p3_field.specs.Checks.{NoneFails}
-use Rattle.p3_field.specs.Domain.{CosetData, point}
-use Rattle.p3_field.specs.Laws.SubgroupSelectors.{subgroup}
+use Rattle.p3_field.specs.Domain.{CosetData, point, subgroup}
 use Rattle.p3_field.specs.Laws.Tabulate.{get_or-tabulate, length-tabulate}
 use Rattle.p3_field.specs.Poly.{DegreeBelow, tabulate, eval_poly_in}
 use Rattle.p3_field.specs.Ring.{Ring}

@@ -4,7 +4,7 @@ use Rattle.std.specs.Prelude.{IsTrue, All}
 use Rattle.std.proofs.lemmas.List.{length-map}
 use Rattle.std.proofs.lemmas.List.Elements.{All-append, All-weaker}
 use Rattle.p3_field.specs.Field.{TwoAdic, Extension}
-use Rattle.p3_field.specs.Laws.SubgroupSelectors.{subgroup}
+use Rattle.p3_field.specs.Domain.{subgroup}
 use Rattle.p3_field.specs.Poly.{eval_poly_in}
 use Rattle.p3_field.specs.Ring.{Ring}
 use Rattle.air_core.specs.CellValues.{CellValues}

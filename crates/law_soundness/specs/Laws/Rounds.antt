@@ -4,9 +4,8 @@ use Rattle.std.specs.Prelude.{slice_get}
 use Rattle.std.specs.List.{flat_map}
 use Rattle.std.proofs.lemmas.List.{ext_get_or, length-map, get_or-map}
 use Rattle.std.proofs.lemmas.Option.{slice_get_within, get_or_from_slice_get}
-use Rattle.p3_field.specs.Domain.{CosetData}
+use Rattle.p3_field.specs.Domain.{CosetData, subgroup}
 use Rattle.p3_field.specs.Field.{Extension}
-use Rattle.p3_field.specs.Laws.SubgroupSelectors.{subgroup}
 use Rattle.p3_field.specs.Laws.Tabulate.{get_or-tabulate, length-tabulate}
 use Rattle.p3_field.specs.Poly.{tabulate, eval_poly_in}
 use Rattle.p3_field.specs.Ring.{Ring}

@@ -3,7 +3,7 @@ use Rattle.std.proofs.Common.{◌≡◌, ◌≢◌, ℕ, zero, suc, ◌+◌, ◌
 use Rattle.std.proofs.Math.Nat.{div-lt_iff_lt-mul, div-add-mod}
 use Rattle.std.proofs.lemmas.Bool.{cases_eq, cases_lt}
 use Rattle.p3_field.specs.Ring.{Ring, RingLaws, pow, sub}
-use Rattle.p3_field.specs.Poly.{eval_poly, DegreeBelow, SamePoly, Apart, add_poly, scale_poly, mul_poly, raise, total}
+use Rattle.p3_field.specs.Poly.{eval_poly, DegreeBelow, SamePoly, Apart, add_poly, scale_poly, mul_poly, raise, total, sum_polys}
 use Rattle.p3_field.specs.Laws.Algebra.{one_mul, mul_zero, zero_mul}
 use Rattle.p3_field.specs.Laws.Coeffs.{degree_add, degree_sub, degree_scale, degree_mul, degree_more, degree_raise, degree_length}
 use Rattle.p3_field.specs.Laws.Values.{eval_add, eval_scale, eval_mul}
@@ -27,10 +27,6 @@ factors_poly r n (suc m) c = times_binomial r n (c m) (factors_poly r n m c)
 
 abbrev pub others_poly : {A : Type 0} → Ring A → ℕ → ℕ → ℕ → (ℕ → A) → List A
 others_poly r n k j c = mul_poly r (factors_poly r n j c) (factors_poly r n (k - suc j) (λ l. c (suc j + l)))
-
-abbrev pub sum_polys : {A : Type 0} → Ring A → ℕ → (ℕ → List A) → List A
-sum_polys r zero t = []
-sum_polys r (suc k) t = add_poly r (t zero) (sum_polys r k (λ j. t (suc j)))
 
 -- the sum of e j (others j) (q j): what has the remainders q j, where e j is 1 / (others j at c j)
 abbrev pub recomposed : {A : Type 0} → Ring A → ℕ → ℕ → (ℕ → A) → (ℕ → A) → (ℕ → List A) → List A

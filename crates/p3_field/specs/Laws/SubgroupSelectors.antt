@@ -6,7 +6,7 @@ use Rattle.std.proofs.lemmas.Bool.{cases_eq}
 use Rattle.p3_field.specs.Ring.{Ring, RingLaws, pow, sub}
 use Rattle.p3_field.specs.Field.{FieldLaws, TwoAdicLaws, RingHom}
 use Rattle.p3_field.specs.Poly.{eval_poly, scale_poly, raise, tail_values, quotient, tabulate, total}
-use Rattle.p3_field.specs.Domain.{CosetData, coset_point, binomial, vanishing_polynomial, first_selector, last_selector, transition_selector}
+use Rattle.p3_field.specs.Domain.{CosetData, subgroup, coset_point, binomial, vanishing_polynomial, first_selector, last_selector, transition_selector}
 use Rattle.p3_field.specs.Laws.Algebra.{zero_add, one_mul, mul_zero, pow_add}
 use Rattle.p3_field.specs.Laws.Order.{one_pow}
 use Rattle.p3_field.specs.Laws.Tabulate.{tabulate_same}
@@ -17,10 +17,6 @@ use Rattle.p3_field.specs.Laws.Binomials.{eval_binomial, coset_point_power}
 use Rattle.p3_field.specs.Laws.Sums.{total_same, eval_tabulate}
 use Rattle.p3_field.specs.Laws.Selectors.{scale_one, vanishing_value as vanishing_value_on_coset, transition_selector_value as transition_value_on_coset}
 use Rattle.p3_field.specs.Laws.Extended.{hom_pow}
-
--- the domain of the powers of root k
-abbrev pub subgroup : {A : Type 0} → Ring A → ℕ → CosetData A
-subgroup r k = record { shift = r.one; log_size = k }
 
 -- 1 + X + .. + X^(n-1)
 abbrev pub ones : {A : Type 0} → Ring A → ℕ → List A

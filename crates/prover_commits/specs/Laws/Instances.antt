@@ -4,8 +4,8 @@ use Rattle.std.specs.Int.{IsPowerOfTwo}
 use Rattle.std.specs.Prelude.{All}
 use Rattle.std.proofs.Math.Pow.{pow_mono}
 use Rattle.std.proofs.lemmas.List.{get_or-map, get_or_default, length-map}
-use Rattle.p3_field.specs.Domain.{CosetData}
-use Rattle.p3_field.specs.Laws.SubgroupSelectors.{map_tabulate, subgroup}
+use Rattle.p3_field.specs.Domain.{CosetData, subgroup}
+use Rattle.p3_field.specs.Laws.SubgroupSelectors.{map_tabulate}
 use Rattle.p3_field.specs.Poly.{tabulate}
 use Rattle.p3_matrix.specs.Matrix.{Rows, height}
 use Rattle.air_core.specs.Shape.{Declaration}

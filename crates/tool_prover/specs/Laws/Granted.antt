@@ -4,10 +4,10 @@ use Rattle.std.specs.Prelude.{All, option_map, slice_get}
 use Rattle.std.proofs.lemmas.Bool.{cases_lt}
 use Rattle.std.proofs.lemmas.List.{length-map}
 use Rattle.std.proofs.lemmas.Option.{slice_get-map, slice_get_within}
-use Rattle.p3_field.specs.Domain.{CosetData}
+use Rattle.p3_field.specs.Domain.{CosetData, subgroup}
 use Rattle.p3_field.specs.Checks.{IsFirstWithout}
 use Rattle.p3_field.specs.Field.{FieldLaws, TwoAdicLaws}
-use Rattle.p3_field.specs.Laws.SubgroupSelectors.{map_tabulate, subgroup}
+use Rattle.p3_field.specs.Laws.SubgroupSelectors.{map_tabulate}
 use Rattle.p3_field.specs.Ring.{RingLaws}
 use Rattle.p3_matrix.specs.Matrix.{Rows}
 use Rattle.air_core.specs.Laws.Lists.{all_tabulate}

@@ -3,8 +3,7 @@ use Rattle.std.proofs.Common.{◌≡◌, ℕ, zero, suc, ◌+◌, ◌*◌, ◌^�
 use Rattle.std.specs.Prelude.{All, option_to_list}
 use Rattle.std.specs.List.{flat_map}
 use Rattle.std.proofs.lemmas.List.Elements.{All-append, All-cons, All-nil}
-use Rattle.p3_field.specs.Domain.{CosetData}
-use Rattle.p3_field.specs.Laws.SubgroupSelectors.{subgroup}
+use Rattle.p3_field.specs.Domain.{CosetData, subgroup}
 use Rattle.p3_field.specs.Laws.Tabulate.{length-tabulate}
 use Rattle.p3_field.specs.Poly.{tabulate}
 use Rattle.p3_matrix.specs.Matrix.{Rows, height}

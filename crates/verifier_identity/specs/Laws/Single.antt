@@ -4,9 +4,8 @@ use Rattle.std.specs.Prelude.{option_to_list}
 use Rattle.std.proofs.lemmas.Option.{slice_get-get_or}
 use Rattle.p3_field.specs.Checks.{Check, NoneFails, of_items, HasOneRefusal, AreSingle}
 use Rattle.p3_field.specs.Laws.Checks.{none_single, check_single, none_at_item, none_first, same_first, some_first, single_append, single_before, single_of_items}
-use Rattle.p3_field.specs.Domain.{CosetData}
+use Rattle.p3_field.specs.Domain.{CosetData, subgroup}
 use Rattle.p3_field.specs.Field.{TwoAdic, Extension}
-use Rattle.p3_field.specs.Laws.SubgroupSelectors.{subgroup}
 use Rattle.p3_field.specs.Ring.{Ring}
 use Rattle.commit_core.specs.Laws.Periods.{all_pass}
 use Rattle.commit_core.specs.Periodic.{IsPeriod, NamesFirstUnfit, period_checks}

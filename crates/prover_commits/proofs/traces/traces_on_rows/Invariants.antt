@@ -1,5 +1,5 @@
 use Rattle.std.proofs.Common.{◌≡◌, map, take}
-use Rattle.p3_field.specs.Laws.SubgroupSelectors.{subgroup}
+use Rattle.p3_field.specs.Domain.{subgroup}
 use Rattle.p3_matrix.specs.Matrix.{height}
 use Rattle.batch_setup.specs.Setup.{log_of}
 use Rattle.prover_commits.proofs.traces.traces_on_rows.Given as goal

@@ -1,7 +1,6 @@
 use Rattle.std.proofs.Common.{◌≡◌, length, map}
 use Rattle.p3_field.specs.BabyBear.{baby_bear_ring, baby_bear_root}
-use Rattle.p3_field.specs.Domain.{point}
-use Rattle.p3_field.specs.Laws.SubgroupSelectors.{subgroup}
+use Rattle.p3_field.specs.Domain.{point, subgroup}
 use Rattle.p3_matrix.specs.Laws.Transposed.{HasRows}
 use Rattle.tool_hash_lines.specs.Columns.{polynomial_cells_at}
 use Rattle.tool_balance.proofs.rows.rows_of.Given as goal

@@ -1,7 +1,7 @@
 use Rattle.std.proofs.Common.{◌+◌, ◌^◌, ◌≤◌, subst, arith}
 use Rattle.std.proofs.Math.Pow.{pow_mono}
 use Rattle.commit_core.specs.Space.{EachOf, IsOffered, IsPart}
-use Rattle.p3_field.specs.Laws.SubgroupSelectors.{subgroup}
+use Rattle.p3_field.specs.Domain.{subgroup}
 use Rattle.verifier_claims.proofs.Parts.{offered_parts}
 use Rattle.verifier_claims.proofs.domains.domains_of_chunks.Goals as goal
 
