@@ -2,7 +2,7 @@
 ghost use Rattle.std.specs.Prelude.{◌≡◌, ◌^◌, ◌<◌, IfOk, length, map};
 ghost use Rattle.p3_field.specs.Checks.{NoneFails};
 ghost use Rattle.p3_field.specs.Poly.{tabulate};
-ghost use Rattle.batch_statement.specs.Statement.{WellFormed, read_common, statement_with, tables_of};
+ghost use Rattle.batch_statement.specs.Statement.{WellFormed, read_common, stated};
 ghost use Rattle.verifier_batch.specs.OpeningChecks.{log_chunks_of_table, shape_bounds_of};
 ghost use Rattle.verifier_draws.specs.Draws.{script_shape};
 ghost use Rattle.verifier_shape.specs.ShapeChecks.{shape_checks};
@@ -54,15 +54,15 @@ fn audit_unplayed<SC: StarkGenericConfig, A: Air<Val<SC>>>(
     shape: &BatchShape,
 ) -> Mem<Vec<BatchVerificationError<PcsError<SC>>>>
     requires formed { WellFormed (map A.declaration airs.now) (read_common common.now) }
-    requires shape { let statement = statement_with (tables_of A.declaration A.trees airs.now) (map (λ v. v.items) public_values.now) common.now in
+    requires shape { let statement = stated A.declaration A.trees airs.now public_values.now common.now in
         NoneFails (shape_checks {R = SC.Pcs.Error} SC.Val.ring (shape_bounds_of (⟦<SC as Settings>⟧.setting config.now)) statement proof.now) }
-    requires chunks { let statement = statement_with (tables_of A.declaration A.trees airs.now) (map (λ v. v.items) public_values.now) common.now in
+    requires chunks { let statement = stated A.declaration A.trees airs.now public_values.now common.now in
         chunks.now ≡ tabulate (length airs.now) (log_chunks_of_table (⟦<SC as Settings>⟧.setting config.now) statement proof.now) }
     requires script { let setting = ⟦<SC as Settings>⟧.setting config.now in
-        let statement = statement_with (tables_of A.declaration A.trees airs.now) (map (λ v. v.items) public_values.now) common.now in
+        let statement = stated A.declaration A.trees airs.now public_values.now common.now in
         shape.now ≡ script_shape setting.version setting.zk setting.lookup_bits setting.ood_bits statement }
     requires missing { HasWitness shape.now.num_lookup_instances proof.now.lookup_pow_witness → ⊥ }
-    ensures { let statement = statement_with (tables_of A.declaration A.trees airs.now) (map (λ v. v.items) public_values.now) common.now in
+    ensures { let statement = stated A.declaration A.trees airs.now public_values.now common.now in
         IfOk result (λ v. AreNamed (audit (⟦<SC as Settings>⟧.setting config.now) (⟦<SC as Settings>⟧.backend config.now) statement proof.now) v.items) }
 {
     let mut faults = Vec::new(alloc);
@@ -99,20 +99,20 @@ fn audit_played<SC: StarkGenericConfig, A: Air<Val<SC>>>(
     shape: &BatchShape,
 ) -> Mem<BatchAudit<PcsError<SC>>>
     requires formed { WellFormed (map A.declaration airs.now) (read_common common.now) }
-    requires shape { let statement = statement_with (tables_of A.declaration A.trees airs.now) (map (λ v. v.items) public_values.now) common.now in
+    requires shape { let statement = stated A.declaration A.trees airs.now public_values.now common.now in
         NoneFails (shape_checks {R = SC.Pcs.Error} SC.Val.ring (shape_bounds_of (⟦<SC as Settings>⟧.setting config.now)) statement proof.now) }
-    requires chunks { let statement = statement_with (tables_of A.declaration A.trees airs.now) (map (λ v. v.items) public_values.now) common.now in
+    requires chunks { let statement = stated A.declaration A.trees airs.now public_values.now common.now in
         chunks.now ≡ tabulate (length airs.now) (log_chunks_of_table (⟦<SC as Settings>⟧.setting config.now) statement proof.now) }
     requires script { let setting = ⟦<SC as Settings>⟧.setting config.now in
-        let statement = statement_with (tables_of A.declaration A.trees airs.now) (map (λ v. v.items) public_values.now) common.now in
+        let statement = stated A.declaration A.trees airs.now public_values.now common.now in
         shape.now ≡ script_shape setting.version setting.zk setting.lookup_bits setting.ood_bits statement }
     requires lookup_bits { 2 ^ shape.now.lookup_pow_bits < SC.Val.ORDER_U64 }
     requires ood_bits { 2 ^ shape.now.ood_pow_bits < SC.Val.ORDER_U64 }
     requires there { HasWitness shape.now.num_lookup_instances proof.now.lookup_pow_witness }
-    ensures steps { let statement = statement_with (tables_of A.declaration A.trees airs.now) (map (λ v. v.items) public_values.now) common.now in
+    ensures steps { let statement = stated A.declaration A.trees airs.now public_values.now common.now in
         IfOk result (λ a. a.steps.items
         ≡ steps_text (⟦<SC as Settings>⟧.setting config.now) (⟦<SC as Settings>⟧.backend config.now) statement proof.now (λ x. map SC.Val.canonical (SC.Challenge.coefficients x))) }
-    ensures faults { let statement = statement_with (tables_of A.declaration A.trees airs.now) (map (λ v. v.items) public_values.now) common.now in
+    ensures faults { let statement = stated A.declaration A.trees airs.now public_values.now common.now in
         IfOk result (λ a. AreNamed (audit (⟦<SC as Settings>⟧.setting config.now) (⟦<SC as Settings>⟧.backend config.now) statement proof.now) a.faults.items) }
 {
     let challenger = config.initialise_challenger();
@@ -168,14 +168,14 @@ fn audit_shaped<SC: StarkGenericConfig, A: Air<Val<SC>>>(
     chunks: &[usize],
 ) -> Mem<BatchAudit<PcsError<SC>>>
     requires formed { WellFormed (map A.declaration airs.now) (read_common common.now) }
-    requires shape { let statement = statement_with (tables_of A.declaration A.trees airs.now) (map (λ v. v.items) public_values.now) common.now in
+    requires shape { let statement = stated A.declaration A.trees airs.now public_values.now common.now in
         NoneFails (shape_checks {R = SC.Pcs.Error} SC.Val.ring (shape_bounds_of (⟦<SC as Settings>⟧.setting config.now)) statement proof.now) }
-    requires chunks { let statement = statement_with (tables_of A.declaration A.trees airs.now) (map (λ v. v.items) public_values.now) common.now in
+    requires chunks { let statement = stated A.declaration A.trees airs.now public_values.now common.now in
         chunks.now ≡ tabulate (length airs.now) (log_chunks_of_table (⟦<SC as Settings>⟧.setting config.now) statement proof.now) }
-    ensures steps { let statement = statement_with (tables_of A.declaration A.trees airs.now) (map (λ v. v.items) public_values.now) common.now in
+    ensures steps { let statement = stated A.declaration A.trees airs.now public_values.now common.now in
         IfOk result (λ a. IsPlayedText (⟦<SC as Settings>⟧.setting config.now) (⟦<SC as Settings>⟧.backend config.now) statement proof.now
         (λ x. map SC.Val.canonical (SC.Challenge.coefficients x)) a.steps.items) }
-    ensures faults { let statement = statement_with (tables_of A.declaration A.trees airs.now) (map (λ v. v.items) public_values.now) common.now in
+    ensures faults { let statement = stated A.declaration A.trees airs.now public_values.now common.now in
         IfOk result (λ a. AreNamed (audit (⟦<SC as Settings>⟧.setting config.now) (⟦<SC as Settings>⟧.backend config.now) statement proof.now) a.faults.items) }
 {
     let shape = batch_shape(
@@ -232,10 +232,10 @@ pub fn audit_batch<SC: StarkGenericConfig, A: Air<Val<SC>>>(
     common: &CommonData<SC>,
 ) -> Mem<BatchAudit<PcsError<SC>>>
     requires { WellFormed (map A.declaration airs.now) (read_common common.now) }
-    ensures steps { let statement = statement_with (tables_of A.declaration A.trees airs.now) (map (λ v. v.items) public_values.now) common.now in
+    ensures steps { let statement = stated A.declaration A.trees airs.now public_values.now common.now in
         IfOk result (λ a. IsPlayedText (⟦<SC as Settings>⟧.setting config.now) (⟦<SC as Settings>⟧.backend config.now) statement proof.now
         (λ x. map SC.Val.canonical (SC.Challenge.coefficients x)) a.steps.items) }
-    ensures faults { let statement = statement_with (tables_of A.declaration A.trees airs.now) (map (λ v. v.items) public_values.now) common.now in
+    ensures faults { let statement = stated A.declaration A.trees airs.now public_values.now common.now in
         IfOk result (λ a. AreNamed (audit (⟦<SC as Settings>⟧.setting config.now) (⟦<SC as Settings>⟧.backend config.now) statement proof.now) a.faults.items) }
 {
     let mut faults = Vec::new(alloc);

@@ -4,7 +4,7 @@ ghost use Rattle.std.specs.Prelude.{◌≡◌, ◌↔◌, ◌<◌, IsTrue, OnOk,
 ghost use Rattle.std.specs.Prelude.{slice_index_or as get_or};
 ghost use Rattle.p3_field.specs.Checks.{NoneFails};
 ghost use Rattle.p3_field.specs.Poly.{tabulate};
-ghost use Rattle.batch_statement.specs.Statement.{WellFormed, read_common, statement_with, tables_of};
+ghost use Rattle.batch_statement.specs.Statement.{WellFormed, read_common, stated};
 ghost use Rattle.batch_statement.specs.Words.{bits_at};
 ghost use Rattle.verifier_batch.specs.OpeningChecks.{log_chunks_of_table, shape_bounds_of};
 ghost use Rattle.verifier_claims.specs.ClaimChecks.{HasDegreeBits, bits_listed, domain_by};
@@ -113,11 +113,11 @@ pub(crate) fn name_claims<SC: StarkGenericConfig, A: Air<Val<SC>>>(
     chunks: &[usize],
 ) -> Mem<()>
     requires formed { WellFormed (map A.declaration airs.now) (read_common common.now) }
-    requires shape { let statement = statement_with (tables_of A.declaration A.trees airs.now) (map (λ v. v.items) public_values.now) common.now in
+    requires shape { let statement = stated A.declaration A.trees airs.now public_values.now common.now in
         NoneFails (shape_checks {R = SC.Pcs.Error} SC.Val.ring (shape_bounds_of (⟦<SC as Settings>⟧.setting config.now)) statement proof.now) }
-    requires chunks { let statement = statement_with (tables_of A.declaration A.trees airs.now) (map (λ v. v.items) public_values.now) common.now in
+    requires chunks { let statement = stated A.declaration A.trees airs.now public_values.now common.now in
         chunks.now ≡ tabulate (length airs.now) (log_chunks_of_table (⟦<SC as Settings>⟧.setting config.now) statement proof.now) }
-    ensures { let statement = statement_with (tables_of A.declaration A.trees airs.now) (map (λ v. v.items) public_values.now) common.now in
+    ensures { let statement = stated A.declaration A.trees airs.now public_values.now common.now in
         OnOk result (AreClaimsNamed (parts_of (⟦<SC as Settings>⟧.setting config.now) (⟦<SC as Settings>⟧.backend config.now) statement proof.now) faults.old.items faults.new.items) }
 {
     let most = shape_bounds(config).most;

@@ -6,7 +6,7 @@ ghost use Rattle.p3_field.specs.Field.{Extension, TwoAdic};
 ghost use Rattle.p3_field.specs.Poly.{tabulate};
 ghost use Rattle.p3_lookup.specs.Written.{read_all};
 ghost use Rattle.batch_config.specs.Domains.{chunks_over};
-ghost use Rattle.batch_statement.specs.Statement.{WellFormed, read_common, statement_with, tables_of};
+ghost use Rattle.batch_statement.specs.Statement.{WellFormed, read_common, tables_of, stated};
 ghost use Rattle.verifier_identity.specs.TableIdentity.{identity_at};
 ghost use Rattle.verifier_shape.specs.ShapeChecks.{bounds_with, log_chunks_at, shape_checks};
 ghost use Rattle.audit_batch.specs.Asked.{in_order, of_each};
@@ -46,7 +46,7 @@ pub(crate) fn name_identities<
 ) -> Mem<()>
     requires formed { WellFormed (map A.declaration airs.now) (read_common common.now) }
     requires shape { NoneFails (shape_checks {R = R} F.ring (bounds_with F.ORDER_U64 bounds)
-        (statement_with (tables_of A.declaration A.trees airs.now) (map (λ v. v.items) public_values.now) common.now) proof.now) }
+        (stated A.declaration A.trees airs.now public_values.now common.now) proof.now) }
     requires lists { length challenges.now ≡ length airs.now }
     requires challenges { (i : ℕ) → i < length airs.now → length (get_or (map (λ v. v.items) challenges.now) i []) ≡ 2 * length (get_or (map read_all common.now.lookups) i []) }
     requires domains { map (λ v. v.items) domains.now
@@ -58,7 +58,7 @@ pub(crate) fn name_identities<
     requires masked { bounds.masks ≤ bounds.least }
     ensures { let f : TwoAdic F = record { ring = F.ring; inv = F.inv; root = F.root; generator = F.GENERATOR } in
         let e : Extension F E = record { ring = E.ring; embed = E.embed; dimension = E.DIMENSION; basis = E.basis; coefficients = E.coefficients; from_coefficients = E.from_coefficients } in
-        let s = statement_with (tables_of A.declaration A.trees airs.now) (map (λ v. v.items) public_values.now) common.now in
+        let s = stated A.declaration A.trees airs.now public_values.now common.now in
         OnOk result (AreNamedAfter faults.old.items (of_each (length airs.now)
         (λ i. in_order (identity_at f e bounds.masks s proof.now.instances proof.now.lookup_terminals proof.now.degree_bits
         (map (λ v. v.items) challenges.now) (map (λ v. v.items) domains.now) alpha zeta i))) faults.new.items) }

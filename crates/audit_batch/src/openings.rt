@@ -2,7 +2,7 @@
 ghost use Rattle.std.specs.Prelude.{◌≡◌, count_by, length, map, OnOk};
 ghost use Rattle.p3_field.specs.Checks.{NoneFails};
 ghost use Rattle.p3_field.specs.Poly.{tabulate};
-ghost use Rattle.batch_statement.specs.Statement.{WellFormed, read_common, statement_with, tables_of};
+ghost use Rattle.batch_statement.specs.Statement.{WellFormed, read_common, stated};
 ghost use Rattle.batch_statement.specs.Words.{has_some};
 ghost use Rattle.batch_statement.specs.declared.error.BatchVerificationError.TheVariants.{OutOfMemory};
 ghost use Rattle.verifier_batch.specs.BatchChecks.{drawn_of};
@@ -55,14 +55,14 @@ pub(crate) fn name_openings<SC: StarkGenericConfig, A: Air<Val<SC>>>(
     draws: ScriptDraws<Challenger<SC>, Challenge<SC>>,
 ) -> Mem<()>
     requires formed { WellFormed (map A.declaration airs.now) (read_common common.now) }
-    requires shape { let statement = statement_with (tables_of A.declaration A.trees airs.now) (map (λ v. v.items) public_values.now) common.now in
+    requires shape { let statement = stated A.declaration A.trees airs.now public_values.now common.now in
         NoneFails (shape_checks {R = SC.Pcs.Error} SC.Val.ring (shape_bounds_of (⟦<SC as Settings>⟧.setting config.now)) statement proof.now) }
-    requires chunks { let statement = statement_with (tables_of A.declaration A.trees airs.now) (map (λ v. v.items) public_values.now) common.now in
+    requires chunks { let statement = stated A.declaration A.trees airs.now public_values.now common.now in
         chunks.now ≡ tabulate (length airs.now) (log_chunks_of_table (⟦<SC as Settings>⟧.setting config.now) statement proof.now) }
     requires tables { tables ≡ count_by has_some (read_common common.now).lookups }
-    requires draws { let statement = statement_with (tables_of A.declaration A.trees airs.now) (map (λ v. v.items) public_values.now) common.now in
+    requires draws { let statement = stated A.declaration A.trees airs.now public_values.now common.now in
         draws_told draws ≡ drawn_of (⟦<SC as Settings>⟧.setting config.now) statement proof.now }
-    ensures { let statement = statement_with (tables_of A.declaration A.trees airs.now) (map (λ v. v.items) public_values.now) common.now in
+    ensures { let statement = stated A.declaration A.trees airs.now public_values.now common.now in
         OnOk result (AreOpened (parts_of (⟦<SC as Settings>⟧.setting config.now) (⟦<SC as Settings>⟧.backend config.now) statement proof.now) faults.old.items faults.new.items) }
 {
     let challenges = lookup_challenges(alloc, tables, &common.lookups, &draws)?;

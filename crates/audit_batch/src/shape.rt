@@ -5,7 +5,7 @@ ghost use Rattle.p3_field.specs.Checks.{NoneFails, in_turn};
 ghost use Rattle.p3_field.specs.Poly.{tabulate};
 ghost use Rattle.p3_lookup.specs.Written.{read_all};
 ghost use Rattle.batch_constraints.specs.BatchTrees.{AreLookupsOf};
-ghost use Rattle.batch_statement.specs.Statement.{WellFormed, read_common, tables_of, statement_with};
+ghost use Rattle.batch_statement.specs.Statement.{WellFormed, read_common, tables_of, stated};
 ghost use Rattle.batch_statement.specs.Verdict.{IsVerdict};
 ghost use Rattle.verifier_shape.specs.ShapeChecks.{HaveItemForEachTable, bounds_with, bus_bound_part, count_checks, log_chunks_at, permutation_check, shape_checks, size_part, sizes_at};
 ghost use Rattle.audit_batch.specs.Asked.{always, in_order, of_each};
@@ -35,8 +35,8 @@ fn name_counts<F: Field, A: Air<F>, E, Com, Opening, R: Drop>(
     zk: bool,
 ) -> Mem<bool>
     ensures named { OnOk result (AreNamedAfter faults.old.items
-        (always (count_checks zk (statement_with (tables_of A.declaration A.trees airs.now) (map (λ v. v.items) public_values.now) common.now) proof.now)) faults.new.items) }
-    ensures counted { IfOk result (λ b. IsTrue b ↔ HaveItemForEachTable (statement_with (tables_of A.declaration A.trees airs.now) (map (λ v. v.items) public_values.now) common.now) proof.now) }
+        (always (count_checks zk (stated A.declaration A.trees airs.now public_values.now common.now) proof.now)) faults.new.items) }
+    ensures counted { IfOk result (λ b. IsTrue b ↔ HaveItemForEachTable (stated A.declaration A.trees airs.now public_values.now common.now) proof.now) }
 {
     let counted = are_counted(airs, public_values, common, proof);
     let randomized = is_randomized(proof, zk);
@@ -185,10 +185,10 @@ fn batch_bounds<F: PrimeField64, A: Air<F>, E, Com, Opening, R>(
     proof: &TablesProof<F, E, Com, Opening>,
     bounds: ShapeBounds,
 ) -> Result<(), BatchVerificationError<R>>
-    requires counted { HaveItemForEachTable (statement_with (tables_of A.declaration A.trees airs.now) (map (λ v. v.items) public_values.now) common.now) proof.now }
+    requires counted { HaveItemForEachTable (stated A.declaration A.trees airs.now public_values.now common.now) proof.now }
     requires fits { (i : ℕ) → i < length airs.now → get_or proof.now.degree_bits i 0 < 64 }
     ensures { IsVerdict (bus_bound_part (bounds_with F.ORDER_U64 bounds)
-        (statement_with (tables_of A.declaration A.trees airs.now) (map (λ v. v.items) public_values.now) common.now) proof.now) result }
+        (stated A.declaration A.trees airs.now public_values.now common.now) proof.now) result }
 {
     check_bounds(alloc, &common.lookups, &proof.degree_bits, bounds.masks)
 }
@@ -203,7 +203,7 @@ fn name_batch_tables<F: PrimeField64, A: Air<F>, E, Com, Opening, R: Drop>(
     chunks: &[usize],
     bounds: ShapeBounds,
 ) -> Mem<()>
-    requires counted { HaveItemForEachTable (statement_with (tables_of A.declaration A.trees airs.now) (map (λ v. v.items) public_values.now) common.now) proof.now }
+    requires counted { HaveItemForEachTable (stated A.declaration A.trees airs.now public_values.now common.now) proof.now }
     requires chunks { length chunks.now ≡ length airs.now }
     requires fits { (i : ℕ) → i < length airs.now → get_or chunks.now i 0 + bounds.masks < 64 }
     ensures { OnOk result (AreNamedAfter faults.old.items (of_each (length airs.now) (opened_asked_by (tables_of A.declaration A.trees airs.now)
@@ -233,11 +233,11 @@ fn name_sized<F: PrimeField64, A: Air<F>, E, Com, Opening, R: Drop>(
     chunks: &[usize],
     bounds: ShapeBounds,
 ) -> Mem<()>
-    requires counted { HaveItemForEachTable (statement_with (tables_of A.declaration A.trees airs.now) (map (λ v. v.items) public_values.now) common.now) proof.now }
+    requires counted { HaveItemForEachTable (stated A.declaration A.trees airs.now public_values.now common.now) proof.now }
     requires bits { (i : ℕ) → i < length airs.now → get_or proof.now.degree_bits i 0 < 64 }
     requires chunks { length chunks.now ≡ length airs.now }
     requires fits { (i : ℕ) → i < length airs.now → get_or chunks.now i 0 + bounds.masks < 64 }
-    ensures { let statement = statement_with (tables_of A.declaration A.trees airs.now) (map (λ v. v.items) public_values.now) common.now in
+    ensures { let statement = stated A.declaration A.trees airs.now public_values.now common.now in
         OnOk result (AreNamedAfter faults.old.items (in_order (bus_bound_part (bounds_with F.ORDER_U64 bounds) statement proof.now)
         ++ of_each (length airs.now) (opened_asked_by statement.tables statement.publics statement.common.lookups proof.now.instances proof.now.lookup_terminals
         chunks.now bounds.masks bounds.dimension)
@@ -269,8 +269,8 @@ pub(crate) fn name_shape<F: PrimeField64, A: Air<F>, E, Com, Opening, R: Drop>(
     requires masks { bounds.masks ≤ 1 }
     requires formed { WellFormed (map A.declaration airs.now) (read_common common.now) }
     ensures named { OnOk result (AreNamedAfter faults.old.items (shape_asked (shape_parts F.ring (bounds_with F.ORDER_U64 bounds)
-        (statement_with (tables_of A.declaration A.trees airs.now) (map (λ v. v.items) public_values.now) common.now) proof.now)) faults.new.items) }
-    ensures chunks { let statement = statement_with (tables_of A.declaration A.trees airs.now) (map (λ v. v.items) public_values.now) common.now in
+        (stated A.declaration A.trees airs.now public_values.now common.now) proof.now)) faults.new.items) }
+    ensures chunks { let statement = stated A.declaration A.trees airs.now public_values.now common.now in
         IfOk result (λ v. NoneFails (shape_checks {R = R} F.ring (bounds_with F.ORDER_U64 bounds) statement proof.now)
         → v.items ≡ tabulate (length airs.now) (log_chunks_at F.ring bounds.masks statement.tables statement.common.lookups proof.now.degree_bits)) }
 {

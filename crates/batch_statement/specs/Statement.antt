@@ -1,6 +1,6 @@
 -- What a batch proof is about: tables, their public values, and the data that prover and verifier share. After Plonky3's
 -- p3-batch-stark (CommonData, GlobalPreprocessed).
-use Rattle.std.specs.Prelude.{◌≡◌, ℕ, suc, ◌<◌, min, List, [], ◌∷◌, length, map, flat_map, take, All, Option, None, Some}
+use Rattle.std.specs.Prelude.{◌≡◌, ℕ, suc, ◌<◌, min, List, [], ◌∷◌, length, map, flat_map, take, All, Option, None, Some, Vec}
 use Rattle.std.specs.Prelude.{slice_index_or as get_or, slice_get}
 use Rattle.air_core.specs.Tree.{Tree}
 use Rattle.air_core.specs.Shape.{Declaration, declared_shape, width_of}
@@ -101,3 +101,7 @@ pub record WellFormed {F C : Type 0} (ds : List (Declaration F)) (c : Common F C
 -- the statement on these tables, with these public values and common data that a program holds so
 abbrev pub statement_with : {F C : Type 0} → List (AirTable F) → List (List F) → WrittenCommon F C → Statement F C
 statement_with tables publics common = record { tables = tables; publics = publics; common = read_common common }
+
+-- the statement on AIRs with these declarations and constraints, as a call takes it: their public values in vectors
+abbrev pub stated : {A F C G : Type 0} → (A → Declaration F) → (A → List (Tree F)) → List A → List (Vec F G) → WrittenCommon F C → Statement F C
+stated declaration trees airs public_values common = statement_with (tables_of declaration trees airs) (map (λ v. v.items) public_values) common

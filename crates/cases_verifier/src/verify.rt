@@ -3,7 +3,7 @@ ghost use Rattle.std.specs.Prelude.{◌≡◌, ◌<◌, ℕ, [], map, length, Is
 ghost use Rattle.std.specs.Prelude.{slice_index_or as get_or};
 ghost use Rattle.air_tables.specs.Swap.{swap_trees};
 ghost use Rattle.batch_statement.specs.Words.{bits_at};
-ghost use Rattle.batch_statement.specs.Statement.{statement_with, WellFormed, read_common, tables_of};
+ghost use Rattle.batch_statement.specs.Statement.{WellFormed, read_common, stated};
 ghost use Rattle.law_soundness.specs.Meaning.{HoldUnlessUnlucky, IsAlphaUnlucky, IsZetaUnlucky};
 ghost use Rattle.law_soundness.specs.Swapped.{EndsSwapped, swap_publics};
 
@@ -55,10 +55,10 @@ where
     A: Air<F>,
     requires { WellFormed (map A.declaration airs.now) (read_common common.now) }
     ensures holds { let c = ⟦<PlainConfig<F, D, E, C> as Settings>⟧.setting config.now in
-        let s = statement_with (tables_of A.declaration A.trees airs.now) (map (λ v. v.items) public_values.now) common.now in
+        let s = stated A.declaration A.trees airs.now public_values.now common.now in
         IsOk result → HoldUnlessUnlucky c config.now.pcs.log_blowup s proof.now }
     ensures swaps { let c = ⟦<PlainConfig<F, D, E, C> as Settings>⟧.setting config.now in
-        let s = statement_with (tables_of A.declaration A.trees airs.now) (map (λ v. v.items) public_values.now) common.now in
+        let s = stated A.declaration A.trees airs.now public_values.now common.now in
         IsOk result → (IsAlphaUnlucky c config.now.pcs.log_blowup s proof.now → ⊥) → (IsZetaUnlucky c config.now.pcs.log_blowup s proof.now → ⊥)
         → (i : ℕ) (air : A) (a b x : F) → i < length airs.now → A.trees (get_or airs.now i air) ≡ swap_trees → get_or s.publics i [] ≡ swap_publics a b x
         → EndsSwapped (bits_at proof.now.degree_bits i) a b x }

@@ -1,7 +1,7 @@
 //! What an accepted batch proof says of what its tables send, over the plain scheme: a law as the contract of a function that
 //! computes nothing.
 ghost use Rattle.std.specs.Prelude.{map};
-ghost use Rattle.batch_statement.specs.Statement.{statement_with, WellFormed, read_common, tables_of};
+ghost use Rattle.batch_statement.specs.Statement.{WellFormed, read_common, stated};
 ghost use Rattle.verifier_batch.specs.BatchChecks.{Accepted};
 ghost use Rattle.law_balance.specs.Accepted.{BalanceUnlessUnlucky, FewAlphasAreUnlucky, FewBetasMeet, HasFewerBuses};
 
@@ -48,16 +48,16 @@ where
         + CanObserve<PlainCommitment<F>>,
     A: Air<F>,
     requires formed { WellFormed (map A.declaration airs.now) (read_common common.now) }
-    requires accepted { let s = statement_with (tables_of A.declaration A.trees airs.now) (map (λ v. v.items) public_values.now) common.now in
+    requires accepted { let s = stated A.declaration A.trees airs.now public_values.now common.now in
         Accepted (⟦<PlainConfig<F, D, E, C> as Settings>⟧.setting config.now) (⟦<PlainConfig<F, D, E, C> as Settings>⟧.backend config.now) s proof.now }
     ensures balance { let c = ⟦<PlainConfig<F, D, E, C> as Settings>⟧.setting config.now in
-        let s = statement_with (tables_of A.declaration A.trees airs.now) (map (λ v. v.items) public_values.now) common.now in
+        let s = stated A.declaration A.trees airs.now public_values.now common.now in
         BalanceUnlessUnlucky c config.now.pcs.log_blowup s proof.now F.eq E.inv }
     ensures betas { let c = ⟦<PlainConfig<F, D, E, C> as Settings>⟧.setting config.now in
-        let s = statement_with (tables_of A.declaration A.trees airs.now) (map (λ v. v.items) public_values.now) common.now in
+        let s = stated A.declaration A.trees airs.now public_values.now common.now in
         HasFewerBuses c config.now.pcs.log_blowup s proof.now F.ORDER_U64 → FewBetasMeet c config.now.pcs.log_blowup s proof.now F.eq E.inv }
     ensures alphas { let c = ⟦<PlainConfig<F, D, E, C> as Settings>⟧.setting config.now in
-        let s = statement_with (tables_of A.declaration A.trees airs.now) (map (λ v. v.items) public_values.now) common.now in
+        let s = stated A.declaration A.trees airs.now public_values.now common.now in
         FewAlphasAreUnlucky c config.now.pcs.log_blowup s proof.now F.eq E.inv }
 {
     opened_claims_bind::<F, E>();

@@ -5,7 +5,7 @@ ghost use Rattle.blake3_compress.specs.Compress.{Input};
 ghost use Rattle.blake3_compress.specs.TraceRow.{AreWords, trace_row};
 ghost use Rattle.blake3_prime.specs.Trees.{blake3_trees};
 ghost use Rattle.batch_statement.specs.Words.{bits_at};
-ghost use Rattle.batch_statement.specs.Statement.{statement_with, WellFormed, read_common, tables_of};
+ghost use Rattle.batch_statement.specs.Statement.{WellFormed, read_common, stated};
 ghost use Rattle.verifier_batch.specs.BatchChecks.{Accepted};
 ghost use Rattle.law_committed.specs.BaseRows.{main_row};
 ghost use Rattle.law_soundness.specs.CommittedBatch.{committed_table_at};
@@ -52,10 +52,10 @@ where
     A: Air<F>,
     requires order { 2 ^ 20 < F.ORDER_U64 }
     requires formed { WellFormed (map A.declaration airs.now) (read_common common.now) }
-    requires accepted { let s = statement_with (tables_of A.declaration A.trees airs.now) (map (λ v. v.items) public_values.now) common.now in
+    requires accepted { let s = stated A.declaration A.trees airs.now public_values.now common.now in
         Accepted (⟦<PlainConfig<F, D, E, C> as Settings>⟧.setting config.now) (⟦<PlainConfig<F, D, E, C> as Settings>⟧.backend config.now) s proof.now }
     ensures { let c = ⟦<PlainConfig<F, D, E, C> as Settings>⟧.setting config.now in
-        let s = statement_with (tables_of A.declaration A.trees airs.now) (map (λ v. v.items) public_values.now) common.now in
+        let s = stated A.declaration A.trees airs.now public_values.now common.now in
         (IsAlphaUnlucky c config.now.pcs.log_blowup s proof.now → ⊥) → (IsZetaUnlucky c config.now.pcs.log_blowup s proof.now → ⊥) → (i row : ℕ) (air : A) → i < length airs.now
         → A.trees (get_or airs.now i air) ≡ blake3_trees F.ring → (A.declaration (get_or airs.now i air)).width ≡ 9168 → row < 2 ^ bits_at proof.now.degree_bits i
         → (x : Input) × AreWords x × (main_row c.field (committed_table_at c config.now.pcs.log_blowup s proof.now i) row ≡ trace_row F.ring x) }

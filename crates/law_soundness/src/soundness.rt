@@ -4,7 +4,7 @@ ghost use Rattle.std.specs.Prelude.{ℕ, ◌<◌, List, All, map, length};
 ghost use Rattle.std.specs.Prelude.{slice_index_or as get_or};
 ghost use Rattle.p3_field.specs.Field.{TwoAdic, Extension};
 ghost use Rattle.law_committed.specs.Committed.{Holds};
-ghost use Rattle.batch_statement.specs.Statement.{statement_with, WellFormed, read_common, tables_of};
+ghost use Rattle.batch_statement.specs.Statement.{WellFormed, read_common, stated};
 ghost use Rattle.verifier_batch.specs.BatchChecks.{Accepted, drawn_of};
 ghost use Rattle.law_soundness.specs.CommittedBatch.{committed_batch, committed_table_at};
 ghost use Rattle.law_soundness.specs.Meaning.{CommittedTablesHold, HoldUnlessUnlucky};
@@ -60,22 +60,22 @@ where
         + CanObserve<PlainCommitment<F>>,
     A: Air<F>,
     requires formed { WellFormed (map A.declaration airs.now) (read_common common.now) }
-    requires accepted { let s = statement_with (tables_of A.declaration A.trees airs.now) (map (λ v. v.items) public_values.now) common.now in
+    requires accepted { let s = stated A.declaration A.trees airs.now public_values.now common.now in
         Accepted (⟦<PlainConfig<F, D, E, C> as Settings>⟧.setting config.now) (⟦<PlainConfig<F, D, E, C> as Settings>⟧.backend config.now) s proof.now }
     ensures opened { let c = ⟦<PlainConfig<F, D, E, C> as Settings>⟧.setting config.now in
-        let s = statement_with (tables_of A.declaration A.trees airs.now) (map (λ v. v.items) public_values.now) common.now in
+        let s = stated A.declaration A.trees airs.now public_values.now common.now in
         AllCommittedValues c config.now.pcs.log_blowup s proof.now (drawn_of c s proof.now).zeta }
     ensures columns { let c = ⟦<PlainConfig<F, D, E, C> as Settings>⟧.setting config.now in
-        let s = statement_with (tables_of A.declaration A.trees airs.now) (map (λ v. v.items) public_values.now) common.now in
+        let s = stated A.declaration A.trees airs.now public_values.now common.now in
         AllHaveColumns c config.now.pcs.log_blowup s proof.now }
     ensures low { let c = ⟦<PlainConfig<F, D, E, C> as Settings>⟧.setting config.now in
-        let s = statement_with (tables_of A.declaration A.trees airs.now) (map (λ v. v.items) public_values.now) common.now in
+        let s = stated A.declaration A.trees airs.now public_values.now common.now in
         All (HasLowDegrees c.field) (committed_batch c config.now.pcs.log_blowup s proof.now) }
     ensures holds { let c = ⟦<PlainConfig<F, D, E, C> as Settings>⟧.setting config.now in
-        let s = statement_with (tables_of A.declaration A.trees airs.now) (map (λ v. v.items) public_values.now) common.now in
+        let s = stated A.declaration A.trees airs.now public_values.now common.now in
         HoldUnlessUnlucky c config.now.pcs.log_blowup s proof.now }
     ensures own { let c = ⟦<PlainConfig<F, D, E, C> as Settings>⟧.setting config.now in
-        let s = statement_with (tables_of A.declaration A.trees airs.now) (map (λ v. v.items) public_values.now) common.now in
+        let s = stated A.declaration A.trees airs.now public_values.now common.now in
         CommittedTablesHold c config.now.pcs.log_blowup s proof.now → (i : ℕ) (air : A) → i < length airs.now
         → Holds c.field c.extension (committed_table_at c config.now.pcs.log_blowup s proof.now i) (A.trees (get_or airs.now i air)) }
 {

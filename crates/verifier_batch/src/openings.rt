@@ -8,7 +8,7 @@ ghost use Rattle.batch_statement.specs.Words.{bits_at};
 ghost use Rattle.verifier_batch.specs.OpeningChecks.{shape_bounds_of, claim_checks, claimed, log_chunks_of_table, opening_checks};
 ghost use Rattle.batch_config.specs.Domains.{chunk_domains};
 ghost use Rattle.verifier_shape.specs.ShapeChecks.{shape_checks};
-ghost use Rattle.batch_statement.specs.Statement.{statement_with, AirTable, WellFormed, read_common, tables_of};
+ghost use Rattle.batch_statement.specs.Statement.{AirTable, WellFormed, read_common, stated};
 ghost use Rattle.batch_statement.specs.Verdict.{IsVerdict};
 
 use crate::backend::opened_claims;
@@ -83,17 +83,17 @@ pub fn proof_claims<SC: StarkGenericConfig, A: Air<Val<SC>>>(
     zeta: Challenge<SC>,
 ) -> Result<OpeningArgumentWithQuotientDomains<SC>, BatchVerificationError<PcsError<SC>>>
     requires formed { WellFormed (map A.declaration airs.now) (read_common common.now) }
-    requires shape { let statement = statement_with (tables_of A.declaration A.trees airs.now) (map (λ v. v.items) public_values.now) common.now in
+    requires shape { let statement = stated A.declaration A.trees airs.now public_values.now common.now in
         NoneFails (shape_checks {R = SC.Pcs.Error} SC.Val.ring (shape_bounds_of (⟦<SC as Settings>⟧.setting config.now)) statement proof.now) }
-    requires chunks { let statement = statement_with (tables_of A.declaration A.trees airs.now) (map (λ v. v.items) public_values.now) common.now in
+    requires chunks { let statement = stated A.declaration A.trees airs.now public_values.now common.now in
         chunks.now ≡ tabulate (length airs.now) (log_chunks_of_table (⟦<SC as Settings>⟧.setting config.now) statement proof.now) }
-    ensures verdict { let statement = statement_with (tables_of A.declaration A.trees airs.now) (map (λ v. v.items) public_values.now) common.now in
+    ensures verdict { let statement = stated A.declaration A.trees airs.now public_values.now common.now in
         IsVerdict (claim_checks (⟦<SC as Settings>⟧.setting config.now) statement proof.now) result }
     ensures claims { let setting = ⟦<SC as Settings>⟧.setting config.now in
-        let statement = statement_with (tables_of A.declaration A.trees airs.now) (map (λ v. v.items) public_values.now) common.now in
+        let statement = stated A.declaration A.trees airs.now public_values.now common.now in
         IfOk result (λ w. w.0.items ≡ claims setting (claimed setting statement proof.now) zeta) }
     ensures domains { let setting = ⟦<SC as Settings>⟧.setting config.now in
-        let statement = statement_with (tables_of A.declaration A.trees airs.now) (map (λ v. v.items) public_values.now) common.now in
+        let statement = stated A.declaration A.trees airs.now public_values.now common.now in
         IfOk result (λ w. map (λ d. d.items) w.1.items
         ≡ tabulate (length airs.now) (λ i. chunk_domains setting (bits_at proof.now.degree_bits i) (log_chunks_of_table setting statement proof.now i))) }
 {
@@ -133,14 +133,14 @@ pub fn check_openings<SC: StarkGenericConfig, A: Air<Val<SC>>>(
     challenger: Challenger<SC>,
 ) -> Result<Vec<Vec<Domain<SC>>>, BatchVerificationError<PcsError<SC>>>
     requires formed { WellFormed (map A.declaration airs.now) (read_common common.now) }
-    requires shape { let statement = statement_with (tables_of A.declaration A.trees airs.now) (map (λ v. v.items) public_values.now) common.now in
+    requires shape { let statement = stated A.declaration A.trees airs.now public_values.now common.now in
         NoneFails (shape_checks {R = SC.Pcs.Error} SC.Val.ring (shape_bounds_of (⟦<SC as Settings>⟧.setting config.now)) statement proof.now) }
-    requires chunks { let statement = statement_with (tables_of A.declaration A.trees airs.now) (map (λ v. v.items) public_values.now) common.now in
+    requires chunks { let statement = stated A.declaration A.trees airs.now public_values.now common.now in
         chunks.now ≡ tabulate (length airs.now) (log_chunks_of_table (⟦<SC as Settings>⟧.setting config.now) statement proof.now) }
-    ensures verdict { let statement = statement_with (tables_of A.declaration A.trees airs.now) (map (λ v. v.items) public_values.now) common.now in
+    ensures verdict { let statement = stated A.declaration A.trees airs.now public_values.now common.now in
         IsVerdict (opening_checks (⟦<SC as Settings>⟧.setting config.now) (⟦<SC as Settings>⟧.backend config.now) statement proof.now zeta challenger) result }
     ensures domains { let setting = ⟦<SC as Settings>⟧.setting config.now in
-        let statement = statement_with (tables_of A.declaration A.trees airs.now) (map (λ v. v.items) public_values.now) common.now in
+        let statement = stated A.declaration A.trees airs.now public_values.now common.now in
         IfOk result (λ v. map (λ d. d.items) v.items ≡ tabulate (length airs.now) (λ i. chunk_domains setting (bits_at proof.now.degree_bits i) (log_chunks_of_table setting statement proof.now i))) }
 {
     let (claims, domains, place) = proof_claims(

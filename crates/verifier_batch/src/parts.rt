@@ -7,7 +7,7 @@ ghost use Rattle.verifier_batch.specs.OpeningChecks.{shape_bounds_of, log_chunks
 ghost use Rattle.batch_config.specs.Domains.{chunk_domains};
 ghost use Rattle.batch_config.specs.Setting.{masks as masks_of};
 ghost use Rattle.verifier_shape.specs.ShapeChecks.{bounds_with, count_checks, shape_checks};
-ghost use Rattle.batch_statement.specs.Statement.{statement_with, WellFormed, read_common, tables_of};
+ghost use Rattle.batch_statement.specs.Statement.{WellFormed, read_common, stated};
 ghost use Rattle.batch_statement.specs.Verdict.{IsVerdict};
 ghost use Rattle.verifier_batch.specs.BatchChecks.{all_lookup_challenges, draw_part, drawn_of, identities_at, table_challenges_of};
 
@@ -58,11 +58,11 @@ pub(crate) fn check_batch_shape<SC: StarkGenericConfig, A: Air<Val<SC>>>(
 ) -> Result<Vec<usize>, BatchVerificationError<PcsError<SC>>>
     requires { WellFormed (map A.declaration airs.now) (read_common common.now) }
     ensures verdict { IsVerdict (shape_checks SC.Val.ring (shape_bounds_of (⟦<SC as Settings>⟧.setting config.now))
-        (statement_with (tables_of A.declaration A.trees airs.now) (map (λ v. v.items) public_values.now) common.now) proof.now) result }
-    ensures chunks { let s = statement_with (tables_of A.declaration A.trees airs.now) (map (λ v. v.items) public_values.now) common.now in
+        (stated A.declaration A.trees airs.now public_values.now common.now) proof.now) result }
+    ensures chunks { let s = stated A.declaration A.trees airs.now public_values.now common.now in
         IfOk result (λ v. v.items ≡ tabulate (length airs.now) (log_chunks_of_table (⟦<SC as Settings>⟧.setting config.now) s proof.now)) }
     ensures memory { IfErr result (λ e. e ≡ BatchVerificationError.OutOfMemory
-        → NoneFails (count_checks {R = SC.Pcs.Error} SC.Pcs.ZK (statement_with (tables_of A.declaration A.trees airs.now) (map (λ v. v.items) public_values.now) common.now) proof.now)) }
+        → NoneFails (count_checks {R = SC.Pcs.Error} SC.Pcs.ZK (stated A.declaration A.trees airs.now public_values.now common.now) proof.now)) }
 {
     check_shape(
         alloc,
@@ -84,17 +84,17 @@ pub(crate) fn check_batch_draws<SC: StarkGenericConfig, A: Air<Val<SC>>>(
     common: &CommonData<SC>,
 ) -> Result<Drawn<Challenge<SC>, Challenger<SC>>, BatchVerificationError<PcsError<SC>>>
     requires { NoneFails (shape_checks {R = SC.Pcs.Error} SC.Val.ring (shape_bounds_of (⟦<SC as Settings>⟧.setting config.now))
-        (statement_with (tables_of A.declaration A.trees airs.now) (map (λ v. v.items) public_values.now) common.now) proof.now) }
+        (stated A.declaration A.trees airs.now public_values.now common.now) proof.now) }
     ensures verdict { IsVerdict (draw_part (⟦<SC as Settings>⟧.setting config.now)
-        (statement_with (tables_of A.declaration A.trees airs.now) (map (λ v. v.items) public_values.now) common.now) proof.now) result }
-    ensures challenges { let s = statement_with (tables_of A.declaration A.trees airs.now) (map (λ v. v.items) public_values.now) common.now in
+        (stated A.declaration A.trees airs.now public_values.now common.now) proof.now) result }
+    ensures challenges { let s = stated A.declaration A.trees airs.now public_values.now common.now in
         IfOk result (λ d. map (λ v. v.items) d.challenges.items ≡ tabulate (length airs.now) (table_challenges_of (⟦<SC as Settings>⟧.setting config.now) s proof.now)) }
     ensures alpha { IfOk result (λ d. d.alpha
-        ≡ (drawn_of (⟦<SC as Settings>⟧.setting config.now) (statement_with (tables_of A.declaration A.trees airs.now) (map (λ v. v.items) public_values.now) common.now) proof.now).alpha) }
+        ≡ (drawn_of (⟦<SC as Settings>⟧.setting config.now) (stated A.declaration A.trees airs.now public_values.now common.now) proof.now).alpha) }
     ensures zeta { IfOk result (λ d. d.zeta
-        ≡ (drawn_of (⟦<SC as Settings>⟧.setting config.now) (statement_with (tables_of A.declaration A.trees airs.now) (map (λ v. v.items) public_values.now) common.now) proof.now).zeta) }
+        ≡ (drawn_of (⟦<SC as Settings>⟧.setting config.now) (stated A.declaration A.trees airs.now public_values.now common.now) proof.now).zeta) }
     ensures state { IfOk result (λ d. d.challenger
-        ≡ (drawn_of (⟦<SC as Settings>⟧.setting config.now) (statement_with (tables_of A.declaration A.trees airs.now) (map (λ v. v.items) public_values.now) common.now) proof.now).opening) }
+        ≡ (drawn_of (⟦<SC as Settings>⟧.setting config.now) (stated A.declaration A.trees airs.now public_values.now common.now) proof.now).opening) }
 {
     check_draws(
         alloc,
@@ -125,15 +125,15 @@ pub(crate) fn check_batch_identities<SC: StarkGenericConfig, A: Air<Val<SC>>>(
 ) -> Result<(), BatchVerificationError<PcsError<SC>>>
     requires formed { WellFormed (map A.declaration airs.now) (read_common common.now) }
     requires shape { NoneFails (shape_checks {R = SC.Pcs.Error} SC.Val.ring (shape_bounds_of (⟦<SC as Settings>⟧.setting config.now))
-        (statement_with (tables_of A.declaration A.trees airs.now) (map (λ v. v.items) public_values.now) common.now) proof.now) }
-    requires challenges { let s = statement_with (tables_of A.declaration A.trees airs.now) (map (λ v. v.items) public_values.now) common.now in
+        (stated A.declaration A.trees airs.now public_values.now common.now) proof.now) }
+    requires challenges { let s = stated A.declaration A.trees airs.now public_values.now common.now in
         map (λ v. v.items) challenges.now ≡ tabulate (length airs.now) (table_challenges_of (⟦<SC as Settings>⟧.setting config.now) s proof.now) }
     requires domains { let c = ⟦<SC as Settings>⟧.setting config.now in
-        let s = statement_with (tables_of A.declaration A.trees airs.now) (map (λ v. v.items) public_values.now) common.now in
+        let s = stated A.declaration A.trees airs.now public_values.now common.now in
         map (λ v. v.items) domains.now ≡ tabulate (length airs.now) (λ i. chunk_domains c (bits_at proof.now.degree_bits i) (log_chunks_of_table c s proof.now i)) }
-    requires fits { let s = statement_with (tables_of A.declaration A.trees airs.now) (map (λ v. v.items) public_values.now) common.now in
+    requires fits { let s = stated A.declaration A.trees airs.now public_values.now common.now in
         (i : ℕ) → i < length airs.now → bits_at proof.now.degree_bits i + log_chunks_of_table (⟦<SC as Settings>⟧.setting config.now) s proof.now i ≤ SC.Val.TWO_ADICITY }
-    ensures { let s = statement_with (tables_of A.declaration A.trees airs.now) (map (λ v. v.items) public_values.now) common.now in
+    ensures { let s = stated A.declaration A.trees airs.now public_values.now common.now in
         IsVerdict (in_turn (length airs.now)
         (identities_at (⟦<SC as Settings>⟧.setting config.now) s proof.now (map (λ v. v.items) challenges.now) (map (λ v. v.items) domains.now) alpha zeta)) result }
 {

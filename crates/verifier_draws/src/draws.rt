@@ -2,7 +2,7 @@
 ghost use Rattle.std.specs.Prelude.{◌≡◌, ◌^◌, ◌<◌, map, length, IfOk};
 ghost use Rattle.p3_field.specs.Checks.{NoneFails};
 ghost use Rattle.p3_field.specs.Poly.{tabulate};
-ghost use Rattle.batch_statement.specs.Statement.{tables_of, statement_with};
+ghost use Rattle.batch_statement.specs.Statement.{stated};
 ghost use Rattle.verifier_shape.specs.ShapeChecks.{bounds_with, shape_checks};
 ghost use Rattle.batch_statement.specs.Verdict.{IsVerdict};
 ghost use Rattle.verifier_draws.specs.Draws.{drawn, grinding_checks, table_challenges};
@@ -70,20 +70,20 @@ pub fn check_draws<
     ood_bits: usize,
 ) -> Result<Drawn<EF, C>, BatchVerificationError<R>>
     requires shape { NoneFails (shape_checks {R = R} F.ring (bounds_with F.ORDER_U64 bounds)
-        (statement_with (tables_of A.declaration A.trees airs.now) (map (λ v. v.items) public_values.now) common.now) proof.now) }
+        (stated A.declaration A.trees airs.now public_values.now common.now) proof.now) }
     requires lookup { 2 ^ lookup_bits < F.ORDER_U64 }
     requires ood { 2 ^ ood_bits < F.ORDER_U64 }
-    ensures verdict { let s = statement_with (tables_of A.declaration A.trees airs.now) (map (λ v. v.items) public_values.now) common.now in
+    ensures verdict { let s = stated A.declaration A.trees airs.now public_values.now common.now in
         IsVerdict (grinding_checks (⟦<C as BatchChallenger<F, EF, Com>>⟧.functions) F.ring EF.ring EF.DIMENSION challenger version bounds.zk lookup_bits ood_bits s proof.now) result }
-    ensures challenges { let s = statement_with (tables_of A.declaration A.trees airs.now) (map (λ v. v.items) public_values.now) common.now in
+    ensures challenges { let s = stated A.declaration A.trees airs.now public_values.now common.now in
         IfOk result (λ d. map (λ v. v.items) d.challenges.items
         ≡ tabulate (length airs.now) (table_challenges EF.ring
         (drawn (⟦<C as BatchChallenger<F, EF, Com>>⟧.functions) F.ring EF.ring EF.DIMENSION challenger version bounds.zk lookup_bits ood_bits s proof.now) s)) }
-    ensures alpha { let s = statement_with (tables_of A.declaration A.trees airs.now) (map (λ v. v.items) public_values.now) common.now in
+    ensures alpha { let s = stated A.declaration A.trees airs.now public_values.now common.now in
         IfOk result (λ d. d.alpha ≡ (drawn (⟦<C as BatchChallenger<F, EF, Com>>⟧.functions) F.ring EF.ring EF.DIMENSION challenger version bounds.zk lookup_bits ood_bits s proof.now).alpha) }
-    ensures zeta { let s = statement_with (tables_of A.declaration A.trees airs.now) (map (λ v. v.items) public_values.now) common.now in
+    ensures zeta { let s = stated A.declaration A.trees airs.now public_values.now common.now in
         IfOk result (λ d. d.zeta ≡ (drawn (⟦<C as BatchChallenger<F, EF, Com>>⟧.functions) F.ring EF.ring EF.DIMENSION challenger version bounds.zk lookup_bits ood_bits s proof.now).zeta) }
-    ensures state { let s = statement_with (tables_of A.declaration A.trees airs.now) (map (λ v. v.items) public_values.now) common.now in
+    ensures state { let s = stated A.declaration A.trees airs.now public_values.now common.now in
         IfOk result (λ d. d.challenger ≡ (drawn (⟦<C as BatchChallenger<F, EF, Com>>⟧.functions) F.ring EF.ring EF.DIMENSION challenger version bounds.zk lookup_bits ood_bits s proof.now).opening) }
 {
     let shape = batch_shape(

@@ -5,7 +5,7 @@ ghost use Rattle.p3_field.specs.Field.{TwoAdic, Extension};
 ghost use Rattle.p3_field.specs.Checks.{NoneFails, in_turn};
 ghost use Rattle.p3_field.specs.Poly.{tabulate};
 ghost use Rattle.p3_lookup.specs.Written.{read_all};
-ghost use Rattle.batch_statement.specs.Statement.{Statement, WellFormed, read_common, tables_of, statement_with};
+ghost use Rattle.batch_statement.specs.Statement.{Statement, WellFormed, read_common, tables_of, stated};
 ghost use Rattle.batch_config.specs.Domains.{chunks_over};
 ghost use Rattle.verifier_shape.specs.ShapeChecks.{bounds_with, log_chunks_at, shape_checks};
 ghost use Rattle.batch_statement.specs.Verdict.{IsVerdict};
@@ -51,7 +51,7 @@ pub fn check_identity_at<
     requires within { index < length airs.now }
     requires formed { WellFormed (map A.declaration airs.now) (read_common common.now) }
     requires shape { NoneFails (shape_checks {R = R} F.ring (bounds_with F.ORDER_U64 bounds)
-        (statement_with (tables_of A.declaration A.trees airs.now) (map (λ v. v.items) public_values.now) common.now) proof.now) }
+        (stated A.declaration A.trees airs.now public_values.now common.now) proof.now) }
     requires lists { length challenges.now ≡ length airs.now }
     requires challenges { (i : ℕ) → i < length airs.now → length (get_or (map (λ v. v.items) challenges.now) i []) ≡ 2 * length (get_or (map read_all common.now.lookups) i []) }
     requires domains { map (λ v. v.items) domains.now
@@ -63,7 +63,7 @@ pub fn check_identity_at<
     requires masked { bounds.masks ≤ bounds.least }
     ensures { let f : TwoAdic F = record { ring = F.ring; inv = F.inv; root = F.root; generator = F.GENERATOR } in
         let e : Extension F E = record { ring = E.ring; embed = E.embed; dimension = E.DIMENSION; basis = E.basis; coefficients = E.coefficients; from_coefficients = E.from_coefficients } in
-        let s = statement_with (tables_of A.declaration A.trees airs.now) (map (λ v. v.items) public_values.now) common.now in
+        let s = stated A.declaration A.trees airs.now public_values.now common.now in
         IsVerdict (identity_at f e bounds.masks s proof.now.instances proof.now.lookup_terminals proof.now.degree_bits
         (map (λ v. v.items) challenges.now) (map (λ v. v.items) domains.now) alpha zeta index) result }
 {
@@ -107,7 +107,7 @@ pub fn check_identities<
 ) -> Result<(), BatchVerificationError<R>>
     requires formed { WellFormed (map A.declaration airs.now) (read_common common.now) }
     requires shape { NoneFails (shape_checks {R = R} F.ring (bounds_with F.ORDER_U64 bounds)
-        (statement_with (tables_of A.declaration A.trees airs.now) (map (λ v. v.items) public_values.now) common.now) proof.now) }
+        (stated A.declaration A.trees airs.now public_values.now common.now) proof.now) }
     requires lists { length challenges.now ≡ length airs.now }
     requires challenges { (i : ℕ) → i < length airs.now → length (get_or (map (λ v. v.items) challenges.now) i []) ≡ 2 * length (get_or (map read_all common.now.lookups) i []) }
     requires domains { map (λ v. v.items) domains.now
@@ -119,7 +119,7 @@ pub fn check_identities<
     requires masked { bounds.masks ≤ bounds.least }
     ensures verdict { let f : TwoAdic F = record { ring = F.ring; inv = F.inv; root = F.root; generator = F.GENERATOR } in
         let e : Extension F E = record { ring = E.ring; embed = E.embed; dimension = E.DIMENSION; basis = E.basis; coefficients = E.coefficients; from_coefficients = E.from_coefficients } in
-        let s = statement_with (tables_of A.declaration A.trees airs.now) (map (λ v. v.items) public_values.now) common.now in
+        let s = stated A.declaration A.trees airs.now public_values.now common.now in
         IsVerdict (in_turn (length airs.now)
         (identity_at f e bounds.masks s proof.now.instances proof.now.lookup_terminals proof.now.degree_bits (map (λ v. v.items) challenges.now) (map (λ v. v.items) domains.now) alpha zeta)) result }
     ensures none { length airs.now ≡ 0 → IsOk result }

@@ -6,7 +6,7 @@ ghost use Rattle.p3_field.specs.Poly.{tabulate};
 ghost use Rattle.p3_lookup.specs.Bus.{bus_count, batch_buses};
 ghost use Rattle.p3_lookup.specs.Written.{read_all};
 ghost use Rattle.batch_constraints.specs.BatchTrees.{AreLookupsOf};
-ghost use Rattle.batch_statement.specs.Statement.{Statement, WellFormed, read_common, tables_of, statement_with};
+ghost use Rattle.batch_statement.specs.Statement.{Statement, WellFormed, read_common, tables_of, stated};
 ghost use Rattle.verifier_shape.specs.ShapeChecks.{HaveItemForEachTable, bus_bound_part, bounds_with, log_chunks_at, count_checks, opened_by, shape_checks, size_part};
 ghost use Rattle.batch_statement.specs.Verdict.{IsDecided, IsVerdict};
 
@@ -47,9 +47,9 @@ fn batch_sizes<F: PrimeField64, A: Air<F>, E, Com, Opening, R>(
     requires masked { bounds.masks ≤ bounds.least }
     requires masks { bounds.masks ≤ 1 }
     requires formed { WellFormed (map A.declaration airs.now) (read_common common.now) }
-    requires counted { HaveItemForEachTable (statement_with (tables_of A.declaration A.trees airs.now) (map (λ v. v.items) public_values.now) common.now) proof.now }
+    requires counted { HaveItemForEachTable (stated A.declaration A.trees airs.now public_values.now common.now) proof.now }
     ensures verdict { IsVerdict (size_part F.ring (bounds_with F.ORDER_U64 bounds)
-        (statement_with (tables_of A.declaration A.trees airs.now) (map (λ v. v.items) public_values.now) common.now) proof.now) result }
+        (stated A.declaration A.trees airs.now public_values.now common.now) proof.now) result }
     ensures chunks { IfOk result (λ v. v.items
         ≡ tabulate (length airs.now) (log_chunks_at F.ring bounds.masks (tables_of A.declaration A.trees airs.now) (map read_all common.now.lookups) proof.now.degree_bits)) }
 {
@@ -73,10 +73,10 @@ fn batch_bounds<F: PrimeField64, A: Air<F>, E, Com, Opening, R>(
     proof: &TablesProof<F, E, Com, Opening>,
     bounds: ShapeBounds,
 ) -> Result<(), BatchVerificationError<R>>
-    requires counted { HaveItemForEachTable (statement_with (tables_of A.declaration A.trees airs.now) (map (λ v. v.items) public_values.now) common.now) proof.now }
+    requires counted { HaveItemForEachTable (stated A.declaration A.trees airs.now public_values.now common.now) proof.now }
     requires fits { (i : ℕ) → i < length airs.now → get_or proof.now.degree_bits i 0 < 64 }
     ensures { IsVerdict (bus_bound_part (bounds_with F.ORDER_U64 bounds)
-        (statement_with (tables_of A.declaration A.trees airs.now) (map (λ v. v.items) public_values.now) common.now) proof.now) result }
+        (stated A.declaration A.trees airs.now public_values.now common.now) proof.now) result }
 {
     check_bounds(alloc, &common.lookups, &proof.degree_bits, bounds.masks)
 }
@@ -90,7 +90,7 @@ fn batch_opened<F: PrimeField64, A: Air<F>, E, Com, Opening, R>(
     chunks: &[usize],
     bounds: ShapeBounds,
 ) -> Result<(), BatchVerificationError<R>>
-    requires counted { HaveItemForEachTable (statement_with (tables_of A.declaration A.trees airs.now) (map (λ v. v.items) public_values.now) common.now) proof.now }
+    requires counted { HaveItemForEachTable (stated A.declaration A.trees airs.now public_values.now common.now) proof.now }
     requires chunks { length chunks.now ≡ length airs.now }
     requires fits { (i : ℕ) → i < length airs.now → get_or chunks.now i 0 + bounds.masks < 64 }
     ensures { IsDecided (in_turn (length airs.now)
@@ -128,11 +128,11 @@ pub fn check_shape<F: PrimeField64, A: Air<F>, E, Com, Opening, R>(
     requires masks { bounds.masks ≤ 1 }
     requires formed { WellFormed (map A.declaration airs.now) (read_common common.now) }
     ensures verdict { IsVerdict (shape_checks F.ring (bounds_with F.ORDER_U64 bounds)
-        (statement_with (tables_of A.declaration A.trees airs.now) (map (λ v. v.items) public_values.now) common.now) proof.now) result }
+        (stated A.declaration A.trees airs.now public_values.now common.now) proof.now) result }
     ensures chunks { IfOk result (λ v. v.items
         ≡ tabulate (length airs.now) (log_chunks_at F.ring bounds.masks (tables_of A.declaration A.trees airs.now) (map read_all common.now.lookups) proof.now.degree_bits)) }
     ensures memory { IfErr result (λ e. e ≡ BatchVerificationError.OutOfMemory
-        → NoneFails (count_checks {R = R} bounds.zk (statement_with (tables_of A.declaration A.trees airs.now) (map (λ v. v.items) public_values.now) common.now) proof.now)) }
+        → NoneFails (count_checks {R = R} bounds.zk (stated A.declaration A.trees airs.now public_values.now common.now) proof.now)) }
 {
     check_counts(airs, public_values, common, proof, bounds.zk)?;
     let chunks = batch_sizes(alloc, airs, public_values, common, proof, bounds)?;
