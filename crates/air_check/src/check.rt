@@ -58,7 +58,8 @@ fn nonzero_places<F: Field>(alloc: Global, values: &[F]) -> Mem<Vec<usize>>
 // The values of the periodic columns at a row.
 fn periodic_at<F: Field>(alloc: Global, columns: &[Vec<F>], row: usize) -> Mem<Vec<F>>
     requires { All (λ c. 0 < length c.items) columns.now }
-    ensures { IfOk result (λ v. v.items ≡ periodic_row F.ring.zero (map (λ c. c.items) columns.now) row) }
+    ensures { IfOk result (λ v.
+        v.items ≡ periodic_row F.ring.zero (map (λ c. c.items) columns.now) row) }
 {
     let mut values = Vec::new(alloc);
     for column in columns {
@@ -89,11 +90,14 @@ fn failing_places<F: Field, A: Air<F>>(
     requires row { row < height main.now }
     requires width { main.now.width ≡ (A.declaration air.now).width }
     requires preprocessed { IfSome preprocessed (λ m. height m.now ≡ height main.now) }
-    requires preprocessed_width { width_of (option_map (λ m. m.now) preprocessed) ≡ width_of (A.declaration air.now).preprocessed }
+    requires preprocessed_width { width_of (option_map (λ m. m.now) preprocessed)
+        ≡ width_of (A.declaration air.now).preprocessed }
     requires public { length public_values.now ≡ (A.declaration air.now).public_values }
     requires periodic { All (λ c. 0 < length c) (A.declaration air.now).periodic }
-    ensures { let table = table_traces main.now (option_map (λ m. m.now) preprocessed.entry) (A.declaration air.now).periodic public_values.now in
-        IfOk result (λ v. AreNonzero F.ring (row_values F.ring table (A.trees air.now) row) v.items) }
+    ensures { let table = table_traces main.now (option_map (λ m. m.now) preprocessed.entry)
+        (A.declaration air.now).periodic public_values.now in
+        IfOk result (λ v. AreNonzero F.ring (row_values F.ring table (A.trees air.now) row)
+        v.items) }
 {
     let height = main.height();
     let next = (row + 1) % height;
@@ -135,10 +139,12 @@ pub fn check_constraints<F: Field, A: Air<F>>(
 ) -> Result<(), CheckFailure>
     requires rows { 0 < height main.now }
     requires width { main.now.width ≡ (A.declaration air.now).width }
-    requires preprocessed_width { width_of (option_map (λ m. m.now) preprocessed) ≡ width_of (A.declaration air.now).preprocessed }
+    requires preprocessed_width { width_of (option_map (λ m. m.now) preprocessed)
+        ≡ width_of (A.declaration air.now).preprocessed }
     requires public { length public_values.now ≡ (A.declaration air.now).public_values }
     requires periodic { All (λ c. 0 < length c) (A.declaration air.now).periodic }
-    ensures { let table = table_traces main.now (option_map (λ m. m.now) preprocessed.entry) (A.declaration air.now).periodic public_values.now in
+    ensures { let table = table_traces main.now (option_map (λ m. m.now) preprocessed.entry)
+        (A.declaration air.now).periodic public_values.now in
         IsChecked F.ring table (A.trees air.now) result }
 {
     let height = main.height();

@@ -54,7 +54,8 @@ impl<'a, F: Field, EF: ExtensionField<F>> DebugConstraintBuilder<'a, F, EF> {
 
     // Keeps a value.
     fn keep(&mut self, x: EF) -> Mem<()>
-        ensures appended { IfOk result (λ _. self.new ≡ record self.old { values = self.old.values ++ x ∷ [] }) }
+        ensures appended { IfOk result
+            (λ _. self.new ≡ record self.old { values = self.old.values ++ x ∷ [] }) }
         ensures unchanged { OnErr result (self.new ≡ self.old) }
         ensures on_error { OnErr result (Adds F.ring EF.ring EF.embed self.old self.new []) }
     {
@@ -128,9 +129,12 @@ impl<'a, F: Field, EF: ExtensionField<F>> AirBuilder for DebugConstraintBuilder<
 
     ghost never_fails_sure = { λ _. refl };
 
-    ghost computes_represents = { λ a b h op x y e s t k l q. embedded-value_at F.ring F.ring_laws EF.ring EF.ring_laws EF.embed EF.embed_laws a b h op x y e s t k l q };
+    ghost computes_represents = { λ a b h op x y e s t k l q.
+        embedded-value_at F.ring F.ring_laws EF.ring EF.ring_laws EF.embed EF.embed_laws a b h op x
+        y e s t k l q };
 
-    ghost asserts_appends = { λ a b x t h e. keeping-adds F.ring EF.ring EF.embed a b (EF.embed x) (over_base t) h e };
+    ghost asserts_appends = { λ a b x t h e.
+        keeping-adds F.ring EF.ring EF.embed a b (EF.embed x) (over_base t) h e };
 }
 
 impl<'a, F: Field, EF: ExtensionField<F>> ExtensionBuilder for DebugConstraintBuilder<'a, F, EF> {
@@ -170,11 +174,14 @@ impl<'a, F: Field, EF: ExtensionField<F>> ExtensionBuilder for DebugConstraintBu
 
     ghost persists_ext = { λ a b h x t k. value_at-row F.ring EF.ring EF.embed a b h x t k };
 
-    ghost computes_ext_represents = { λ a b h op x y e s t k l q. value_by-at F.ring EF.ring EF.embed a b h op x y e s t k l q };
+    ghost computes_ext_represents = { λ a b h op x y e s t k l q.
+        value_by-at F.ring EF.ring EF.embed a b h op x y e s t k l q };
 
-    ghost lifts_represents = { λ a b h x e t k q. value_at-row F.ring EF.ring EF.embed a b h e t (q ∙ k) };
+    ghost lifts_represents = { λ a b h x e t k q.
+        value_at-row F.ring EF.ring EF.embed a b h e t (q ∙ k) };
 
-    ghost asserts_ext_appends = { λ a b x t h e. keeping-adds F.ring EF.ring EF.embed a b x (over_extension t) h e };
+    ghost asserts_ext_appends = { λ a b x t h e.
+        keeping-adds F.ring EF.ring EF.embed a b x (over_extension t) h e };
 }
 
 impl<'a, F: Field, EF: ExtensionField<F>> PermutationAirBuilder
@@ -193,7 +200,9 @@ impl<'a, F: Field, EF: ExtensionField<F>> InteractionBuilder for DebugConstraint
         ensures later { self.new.row ≡ self.old.row }
         ensures keeps_shape { row_shape self.new.row ≡ row_shape self.old.row }
         ensures answers { IsTrue false → IsOk result }
-        ensures appends { (fs : List (Tree F)) (v : Tree F) → Represent (λ x t. EF.embed x ≡ tree_value_at_row F.ring EF.ring EF.embed self.old.row t) fields.now fs
+        ensures appends { (fs : List (Tree F)) (v : Tree F)
+            → Represent (λ x t. EF.embed x
+            ≡ tree_value_at_row F.ring EF.ring EF.embed self.old.row t) fields.now fs
             → EF.embed count.value ≡ tree_value_at_row F.ring EF.ring EF.embed self.old.row v
             → IfOk result (λ _. Adds F.ring EF.ring EF.embed self.old self.new []) }
         ensures sure { IsTrue true → IsOk result }
@@ -209,8 +218,12 @@ impl<'a, F: Field, EF: ExtensionField<F>> InteractionBuilder for DebugConstraint
         ensures later { self.new.row ≡ self.old.row }
         ensures keeps_shape { row_shape self.new.row ≡ row_shape self.old.row }
         ensures answers { IsTrue false → IsOk result }
-        ensures appends { (fs : List (Tree F)) (vs : List (CountOf (Tree F))) → Represent (λ x t. EF.embed x ≡ tree_value_at_row F.ring EF.ring EF.embed self.old.row t) fields.now fs
-            → Represent (RepresentsCount (λ x t. EF.embed x ≡ tree_value_at_row F.ring EF.ring EF.embed self.old.row t)) counts.now vs
+        ensures appends { (fs : List (Tree F)) (vs : List (CountOf (Tree F)))
+            → Represent (λ x t. EF.embed x
+            ≡ tree_value_at_row F.ring EF.ring EF.embed self.old.row t) fields.now fs
+            → Represent (RepresentsCount
+            (λ x t. EF.embed x ≡ tree_value_at_row F.ring EF.ring EF.embed self.old.row t))
+            counts.now vs
             → IfOk result (λ _. Adds F.ring EF.ring EF.embed self.old self.new []) }
         ensures sure { IsTrue true → IsOk result }
         ensures sends { IfOk result (λ _. self.new ≡ self.old) }
@@ -219,5 +232,6 @@ impl<'a, F: Field, EF: ExtensionField<F>> InteractionBuilder for DebugConstraint
         Ok(())
     }
 
-    ghost sends_appends = { λ a b bus xs cs fs vs h k e. unchanged-adds F.ring EF.ring EF.embed a b e };
+    ghost sends_appends = { λ a b bus xs cs fs vs h k e.
+        unchanged-adds F.ring EF.ring EF.embed a b e };
 }

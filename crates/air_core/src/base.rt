@@ -61,10 +61,12 @@ pub trait BaseAir<F: FieldCore> {
     ghost whole_rows: { (a : Self) → HasWholeRows (declaration a).preprocessed };
 
     // The next row is declared only in columns that the main trace has.
-    ghost next_below: { (a : Self) → All (λ c. c < (declaration a).width) (declaration a).main_next };
+    ghost next_below: { (a : Self)
+        → All (λ c. c < (declaration a).width) (declaration a).main_next };
 
     // The next preprocessed row is declared only in columns that the preprocessed trace has.
-    ghost preprocessed_next_below: { (a : Self) → All (λ c. c < width_of (declaration a).preprocessed) (declaration a).preprocessed_next };
+    ghost preprocessed_next_below: { (a : Self)
+        → All (λ c. c < width_of (declaration a).preprocessed) (declaration a).preprocessed_next };
 }
 
 /// A table with constraints (`crate::Air`), which has one list of constraint trees and one of interactions.
@@ -84,15 +86,22 @@ pub trait Air<F: FieldCore>: BaseAir<F> {
         ensures later { AB.later builder.old builder.new }
         ensures keeps_shape { AB.shape builder.new ≡ AB.shape builder.old }
         ensures answers { IsTrue AB.never_fails → IsOk result }
-        ensures appends { IfOk result (λ _. AB.appends builder.old builder.new (map over_base (trees self.now)) (interactions self.now)) }
-        ensures on_error { OnErr result (SomeFirst (AB.appends builder.old builder.new) (map over_base (trees self.now)) (interactions self.now)) };
+        ensures appends { IfOk result
+            (λ _. AB.appends builder.old builder.new (map over_base (trees self.now))
+            (interactions self.now)) }
+        ensures on_error { OnErr result
+            (SomeFirst (AB.appends builder.old builder.new) (map over_base (trees self.now))
+            (interactions self.now)) };
 
     // The declared number of constraints, where there is one, is that of the trees.
-    ghost counts: { (a : Self) (n : ℕ) → (Self.declaration a).constraints ≡ Some n → n ≡ length (trees a) };
+    ghost counts: { (a : Self) (n : ℕ) → (Self.declaration a).constraints ≡ Some n
+        → n ≡ length (trees a) };
 
     // The trees read declared cells alone, and next cells only in declared next columns.
-    ghost trees_read: { (a : Self) → All (ReadsDeclared (declared_shape (Self.declaration a))) (trees a) };
+    ghost trees_read: { (a : Self)
+        → All (ReadsDeclared (declared_shape (Self.declaration a))) (trees a) };
 
     // The interactions read constants, public values, main and preprocessed cells alone.
-    ghost interactions_read: { (a : Self) → All (IsInteraction (declared_shape (Self.declaration a))) (interactions a) };
+    ghost interactions_read: { (a : Self)
+        → All (IsInteraction (declared_shape (Self.declaration a))) (interactions a) };
 }

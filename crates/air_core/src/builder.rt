@@ -76,7 +76,8 @@ pub trait AirBuilder {
         ensures answers { IsTrue never_fails → IsOk result }
         ensures sure { IsTrue only_asserting_fails → IsOk result }
         ensures computes { IfOk result (λ e. computes self.old plus x y self.new e) }
-        ensures represents { (s t : Tree Self.F) → represents self.old x s → represents self.old y t → IfOk result (λ e. represents self.new e (sum s t)) };
+        ensures represents { (s t : Tree Self.F) → represents self.old x s → represents self.old y t
+            → IfOk result (λ e. represents self.new e (sum s t)) };
 
     /// The difference x - y.
     fn sub(&mut self, x: Self::Expr, y: Self::Expr) -> Mem<Self::Expr>
@@ -85,7 +86,8 @@ pub trait AirBuilder {
         ensures answers { IsTrue never_fails → IsOk result }
         ensures sure { IsTrue only_asserting_fails → IsOk result }
         ensures computes { IfOk result (λ e. computes self.old minus x y self.new e) }
-        ensures represents { (s t : Tree Self.F) → represents self.old x s → represents self.old y t → IfOk result (λ e. represents self.new e (difference s t)) };
+        ensures represents { (s t : Tree Self.F) → represents self.old x s → represents self.old y t
+            → IfOk result (λ e. represents self.new e (difference s t)) };
 
     /// The product x * y.
     fn mul(&mut self, x: Self::Expr, y: Self::Expr) -> Mem<Self::Expr>
@@ -94,14 +96,16 @@ pub trait AirBuilder {
         ensures answers { IsTrue never_fails → IsOk result }
         ensures sure { IsTrue only_asserting_fails → IsOk result }
         ensures computes { IfOk result (λ e. computes self.old times x y self.new e) }
-        ensures represents { (s t : Tree Self.F) → represents self.old x s → represents self.old y t → IfOk result (λ e. represents self.new e (product s t)) };
+        ensures represents { (s t : Tree Self.F) → represents self.old x s → represents self.old y t
+            → IfOk result (λ e. represents self.new e (product s t)) };
 
     /// Asserts that x is zero in every row.
     fn assert_zero(&mut self, x: Self::Expr) -> Mem<()>
         ensures later { later self.old self.new }
         ensures keeps_shape { shape self.new ≡ shape self.old }
         ensures answers { IsTrue never_fails → IsOk result }
-        ensures appends { (t : Tree Self.F) → represents self.old x t → IfOk result (λ _. appends self.old self.new (over_base t ∷ []) []) }
+        ensures appends { (t : Tree Self.F) → represents self.old x t
+            → IfOk result (λ _. appends self.old self.new (over_base t ∷ []) []) }
         ensures asserts { IfOk result (λ _. asserts self.old x self.new) }
         ensures on_error { OnErr result (appends self.old self.new [] []) };
 
@@ -110,8 +114,11 @@ pub trait AirBuilder {
         ensures later { later self.old self.new }
         ensures keeps_shape { shape self.new ≡ shape self.old }
         ensures answers { IsTrue never_fails → IsOk result }
-        ensures appends { (s t : Tree Self.F) → represents self.old x s → represents self.old y t → IfOk result (λ _. appends self.old self.new (over_base (difference s t) ∷ []) []) }
-        ensures asserts { IfOk result (λ _. AssertsOne (λ m e. appends self.old m [] [] × computes self.old minus x y m e) asserts self.new) }
+        ensures appends { (s t : Tree Self.F) → represents self.old x s → represents self.old y t
+            → IfOk result (λ _. appends self.old self.new (over_base (difference s t) ∷ []) []) }
+        ensures asserts { IfOk result
+            (λ _. AssertsOne (λ m e. appends self.old m [] [] × computes self.old minus x y m e)
+            asserts self.new) }
         ensures on_error { OnErr result (appends self.old self.new [] []) }
     {
         let difference = self.sub(x, y)?;
@@ -123,8 +130,12 @@ pub trait AirBuilder {
         ensures later { later self.old self.new }
         ensures keeps_shape { shape self.new ≡ shape self.old }
         ensures answers { IsTrue never_fails → IsOk result }
-        ensures appends { (t : Tree Self.F) → represents self.old x t → IfOk result (λ _. appends self.old self.new (over_base (bool_tree Self.F.ring.one t) ∷ []) []) }
-        ensures asserts { IfOk result (λ _. AssertsOne (λ m e. appends self.old m [] [] × ComputesBool represents computes Self.F.ring.one x m e) asserts self.new) }
+        ensures appends { (t : Tree Self.F) → represents self.old x t
+            → IfOk result (λ _. appends self.old self.new
+            (over_base (bool_tree Self.F.ring.one t) ∷ []) []) }
+        ensures asserts { IfOk result
+            (λ _. AssertsOne (λ m e. appends self.old m [] []
+            × ComputesBool represents computes Self.F.ring.one x m e) asserts self.new) }
         ensures on_error { OnErr result (appends self.old self.new [] []) }
     {
         let one = self.constant(<Self::F as RingCore>::ONE)?;
@@ -138,10 +149,13 @@ pub trait AirBuilder {
         ensures later { later self.old self.new }
         ensures keeps_shape { shape self.new ≡ shape self.old }
         ensures answers { IsTrue never_fails → IsOk result }
-        ensures appends { (ts : List (Tree Self.F)) → Represent (represents self.old) xs.now ts → IfOk result (λ _. appends self.old self.new (map over_base ts) []) }
-        ensures on_error { (ts : List (Tree Self.F)) → Represent (represents self.old) xs.now ts → OnErr result (SomeFirst (appends self.old self.new) (map over_base ts) []) }
+        ensures appends { (ts : List (Tree Self.F)) → Represent (represents self.old) xs.now ts
+            → IfOk result (λ _. appends self.old self.new (map over_base ts) []) }
+        ensures on_error { (ts : List (Tree Self.F)) → Represent (represents self.old) xs.now ts
+            → OnErr result (SomeFirst (appends self.old self.new) (map over_base ts) []) }
         ensures asserts { IfOk result (λ _. AssertsEach asserts xs.now self.old self.new) }
-        ensures some { OnErr result (AssertsFirst (λ a b. appends a b [] []) asserts xs.now self.old self.new) }
+        ensures some { OnErr result
+            (AssertsFirst (λ a b. appends a b [] []) asserts xs.now self.old self.new) }
     {
         for x in xs {
             self.assert_zero(*x)?;
@@ -154,12 +168,21 @@ pub trait AirBuilder {
         ensures later { later self.old self.new }
         ensures keeps_shape { shape self.new ≡ shape self.old }
         ensures answers { IsTrue never_fails → IsOk result }
-        ensures appends { (ts : List (Tree Self.F)) → Represent (represents self.old) xs.now ts → IfOk result (λ _. appends self.old self.new (map over_base (map (bool_tree Self.F.ring.one) ts)) []) }
+        ensures appends { (ts : List (Tree Self.F)) → Represent (represents self.old) xs.now ts
+            → IfOk result (λ _. appends self.old self.new
+            (map over_base (map (bool_tree Self.F.ring.one) ts)) []) }
         ensures on_error { (ts : List (Tree Self.F)) → Represent (represents self.old) xs.now ts
-            → OnErr result (SomeFirst (appends self.old self.new) (map over_base (map (bool_tree Self.F.ring.one) ts)) []) }
-        ensures asserts { IfOk result (λ _. AssertsEach (λ a x b. AssertsOne (λ m e. appends a m [] [] × ComputesBool represents computes Self.F.ring.one x m e) asserts b) xs.now self.old self.new) }
+            → OnErr result (SomeFirst (appends self.old self.new)
+            (map over_base (map (bool_tree Self.F.ring.one) ts)) []) }
+        ensures asserts { IfOk result
+            (λ _. AssertsEach (λ a x b.
+            AssertsOne (λ m e. appends a m [] []
+            × ComputesBool represents computes Self.F.ring.one x m e) asserts b) xs.now self.old
+            self.new) }
         ensures some { OnErr result (AssertsFirst (λ a b. appends a b [] [])
-            (λ a x b. AssertsOne (λ m e. appends a m [] [] × ComputesBool represents computes Self.F.ring.one x m e) asserts b) xs.now self.old self.new) }
+            (λ a x b. AssertsOne (λ m e. appends a m [] []
+            × ComputesBool represents computes Self.F.ring.one x m e) asserts b) xs.now self.old
+            self.new) }
     {
         for x in xs {
             self.assert_bool(*x)?;
@@ -168,7 +191,8 @@ pub trait AirBuilder {
     }
 
     // Generic code keeps expressions in arrays: one of 1,024 takes less than 2^63 bytes, also one of counts.
-    ghost arrays_fit: { 1024 * (size (layout Self.Expr.row) + align (layout Self.Expr.row)) < 2 ^ 62 };
+    ghost arrays_fit: { 1024 * (size (layout Self.Expr.row) + align (layout Self.Expr.row))
+        < 2 ^ 62 };
 
     ghost later_same: { (a : Self) → later a a };
 
@@ -177,23 +201,30 @@ pub trait AirBuilder {
     ghost later_shape: { (a b : Self) → later a b → shape b ≡ shape a };
 
     // What represents a tree in a state represents it in every later state.
-    ghost persists: { (a b : Self) → later a b → (e : Self.Expr) (t : Tree Self.F) → represents a e t → represents b e t };
+    ghost persists: { (a b : Self) → later a b → (e : Self.Expr) (t : Tree Self.F)
+        → represents a e t → represents b e t };
 
     ghost appends_none: { (a : Self) → appends a a [] [] };
 
-    ghost appends_later: { (a b : Self) (ts : List (Asserted Self.F)) (is : List (Interaction Self.F)) → appends a b ts is → later a b };
+    ghost appends_later: { (a b : Self) (ts : List (Asserted Self.F))
+        (is : List (Interaction Self.F)) → appends a b ts is → later a b };
 
-    ghost appends_along: { (a b c : Self) (s t : List (Asserted Self.F)) (i j : List (Interaction Self.F)) → appends a b s i → appends b c t j → appends a c (s ++ t) (i ++ j) };
+    ghost appends_along: { (a b c : Self) (s t : List (Asserted Self.F))
+        (i j : List (Interaction Self.F)) → appends a b s i → appends b c t j
+        → appends a c (s ++ t) (i ++ j) };
 
     // A builder no call of which fails has none that fails but those that assert.
     ghost never_fails_sure: { IsTrue never_fails → IsTrue only_asserting_fails };
 
     // What operations on expressions that represent trees give represents the operation's tree.
-    ghost computes_represents: { (a b : Self) → later a b → (op : Operation) (x y e : Self.Expr) (s t : Tree Self.F) → represents a x s → represents a y t
+    ghost computes_represents: { (a b : Self) → later a b
+        → (op : Operation) (x y e : Self.Expr) (s t : Tree Self.F) → represents a x s
+        → represents a y t
         → computes a op x y b e → represents b e (tree_by op s t) };
 
     // What is asserted is the tree that it represents.
-    ghost asserts_appends: { (a b : Self) (x : Self.Expr) (t : Tree Self.F) → represents a x t → asserts a x b → appends a b (over_base t ∷ []) [] };
+    ghost asserts_appends: { (a b : Self) (x : Self.Expr) (t : Tree Self.F) → represents a x t
+        → asserts a x b → appends a b (over_base t ∷ []) [] };
 }
 
 /// Takes constraints over an extension of the field too (`crate::ExtensionBuilder`).
@@ -209,7 +240,8 @@ pub trait ExtensionBuilder: AirBuilder {
 
     // In the second state the last expression is what this operation on the others gives, which are read in the first
     // state, whatever they represent.
-    ghost computes_ext: { Self → Operation → Self.ExprEF → Self.ExprEF → Self → Self.ExprEF → Type 0 };
+    ghost computes_ext: { Self → Operation → Self.ExprEF → Self.ExprEF → Self → Self.ExprEF
+        → Type 0 };
 
     // In the second state the expression of the extension is the first one as one of the extension, read in the first
     // state, whatever it represents.
@@ -222,7 +254,8 @@ pub trait ExtensionBuilder: AirBuilder {
         ensures answers { IsTrue Self.never_fails → IsOk result }
         ensures sure { IsTrue Self.only_asserting_fails → IsOk result }
         ensures lifts { IfOk result (λ e. lifts self.old x self.new e) }
-        ensures represents { (t : Tree Self.F) → Self.represents self.old x t → IfOk result (λ e. represents_ext self.new e t) };
+        ensures represents { (t : Tree Self.F) → Self.represents self.old x t
+            → IfOk result (λ e. represents_ext self.new e t) };
 
     /// The sum x + y.
     fn add_ext(&mut self, x: Self::ExprEF, y: Self::ExprEF) -> Mem<Self::ExprEF>
@@ -231,7 +264,9 @@ pub trait ExtensionBuilder: AirBuilder {
         ensures answers { IsTrue Self.never_fails → IsOk result }
         ensures sure { IsTrue Self.only_asserting_fails → IsOk result }
         ensures computes { IfOk result (λ e. computes_ext self.old plus x y self.new e) }
-        ensures represents { (s t : Tree Self.F) → represents_ext self.old x s → represents_ext self.old y t → IfOk result (λ e. represents_ext self.new e (sum s t)) };
+        ensures represents { (s t : Tree Self.F) → represents_ext self.old x s
+            → represents_ext self.old y t
+            → IfOk result (λ e. represents_ext self.new e (sum s t)) };
 
     /// The difference x - y.
     fn sub_ext(&mut self, x: Self::ExprEF, y: Self::ExprEF) -> Mem<Self::ExprEF>
@@ -240,7 +275,9 @@ pub trait ExtensionBuilder: AirBuilder {
         ensures answers { IsTrue Self.never_fails → IsOk result }
         ensures sure { IsTrue Self.only_asserting_fails → IsOk result }
         ensures computes { IfOk result (λ e. computes_ext self.old minus x y self.new e) }
-        ensures represents { (s t : Tree Self.F) → represents_ext self.old x s → represents_ext self.old y t → IfOk result (λ e. represents_ext self.new e (difference s t)) };
+        ensures represents { (s t : Tree Self.F) → represents_ext self.old x s
+            → represents_ext self.old y t
+            → IfOk result (λ e. represents_ext self.new e (difference s t)) };
 
     /// The product x * y.
     fn mul_ext(&mut self, x: Self::ExprEF, y: Self::ExprEF) -> Mem<Self::ExprEF>
@@ -249,32 +286,41 @@ pub trait ExtensionBuilder: AirBuilder {
         ensures answers { IsTrue Self.never_fails → IsOk result }
         ensures sure { IsTrue Self.only_asserting_fails → IsOk result }
         ensures computes { IfOk result (λ e. computes_ext self.old times x y self.new e) }
-        ensures represents { (s t : Tree Self.F) → represents_ext self.old x s → represents_ext self.old y t → IfOk result (λ e. represents_ext self.new e (product s t)) };
+        ensures represents { (s t : Tree Self.F) → represents_ext self.old x s
+            → represents_ext self.old y t
+            → IfOk result (λ e. represents_ext self.new e (product s t)) };
 
     /// Asserts that x is zero in every row.
     fn assert_zero_ext(&mut self, x: Self::ExprEF) -> Mem<()>
         ensures later { Self.later self.old self.new }
         ensures keeps_shape { Self.shape self.new ≡ Self.shape self.old }
         ensures answers { IsTrue Self.never_fails → IsOk result }
-        ensures appends { (t : Tree Self.F) → represents_ext self.old x t → IfOk result (λ _. Self.appends self.old self.new (over_extension t ∷ []) []) }
+        ensures appends { (t : Tree Self.F) → represents_ext self.old x t
+            → IfOk result (λ _. Self.appends self.old self.new (over_extension t ∷ []) []) }
         ensures asserts { IfOk result (λ _. asserts_ext self.old x self.new) }
         ensures on_error { OnErr result (Self.appends self.old self.new [] []) };
 
     // Generic code keeps expressions of the extension in arrays: one of 1,024 takes less than 2^63 bytes.
-    ghost arrays_fit_ext: { 1024 * (size (layout Self.ExprEF.row) + align (layout Self.ExprEF.row)) < 2 ^ 62 };
+    ghost arrays_fit_ext: { 1024 * (size (layout Self.ExprEF.row) + align (layout Self.ExprEF.row))
+        < 2 ^ 62 };
 
     // What represents a tree in a state represents it in every later state.
-    ghost persists_ext: { (a b : Self) → Self.later a b → (e : Self.ExprEF) (t : Tree Self.F) → represents_ext a e t → represents_ext b e t };
+    ghost persists_ext: { (a b : Self) → Self.later a b → (e : Self.ExprEF) (t : Tree Self.F)
+        → represents_ext a e t → represents_ext b e t };
 
     // What operations on expressions that represent trees give represents the operation's tree.
-    ghost computes_ext_represents: { (a b : Self) → Self.later a b → (op : Operation) (x y e : Self.ExprEF) (s t : Tree Self.F) → represents_ext a x s
+    ghost computes_ext_represents: { (a b : Self) → Self.later a b
+        → (op : Operation) (x y e : Self.ExprEF) (s t : Tree Self.F) → represents_ext a x s
         → represents_ext a y t → computes_ext a op x y b e → represents_ext b e (tree_by op s t) };
 
     // What is lifted keeps its tree.
-    ghost lifts_represents: { (a b : Self) → Self.later a b → (x : Self.Expr) (e : Self.ExprEF) (t : Tree Self.F) → Self.represents a x t → lifts a x b e → represents_ext b e t };
+    ghost lifts_represents: { (a b : Self) → Self.later a b
+        → (x : Self.Expr) (e : Self.ExprEF) (t : Tree Self.F) → Self.represents a x t
+        → lifts a x b e → represents_ext b e t };
 
     // What is asserted is the tree that it represents.
-    ghost asserts_ext_appends: { (a b : Self) (x : Self.ExprEF) (t : Tree Self.F) → represents_ext a x t → asserts_ext a x b → Self.appends a b (over_extension t ∷ []) [] };
+    ghost asserts_ext_appends: { (a b : Self) (x : Self.ExprEF) (t : Tree Self.F)
+        → represents_ext a x t → asserts_ext a x b → Self.appends a b (over_extension t ∷ []) [] };
 }
 
 /// Takes constraints over the permutation trace of lookups too (`crate::PermutationAirBuilder`).
@@ -305,9 +351,17 @@ pub trait InteractionBuilder: PermutationAirBuilder {
         ensures keeps_shape { Self.shape self.new ≡ Self.shape self.old }
         ensures answers { IsTrue Self.never_fails → IsOk result }
         ensures sure { IsTrue Self.only_asserting_fails → IsOk result }
-        ensures appends { (fs : List (Tree Self.F)) (v : Tree Self.F) → Represent (Self.represents self.old) fields.now fs → Self.represents self.old count.value v
-            → IfOk result (λ _. Self.appends self.old self.new [] (record { bus = global bus_name.now; fields = fs; counts = record { value = v; bound = count.bound } ∷ [] } ∷ [])) }
-        ensures sends { IfOk result (λ _. sends self.old (global bus_name.now) fields.now (count ∷ []) self.new) }
+        ensures appends { (fs : List (Tree Self.F)) (v : Tree Self.F)
+            → Represent (Self.represents self.old) fields.now fs
+            → Self.represents self.old count.value v
+            → IfOk result (λ _. Self.appends self.old self.new []
+            (record {
+              bus = global bus_name.now;
+              fields = fs;
+              counts = record { value = v; bound = count.bound } ∷ [];
+            } ∷ [])) }
+        ensures sends { IfOk result
+            (λ _. sends self.old (global bus_name.now) fields.now (count ∷ []) self.new) }
         ensures on_error { OnErr result (Self.appends self.old self.new [] []) };
 
     /// Sends tuples within the table itself: `fields` has the tuples one after another, all of one width, as many as
@@ -324,14 +378,19 @@ pub trait InteractionBuilder: PermutationAirBuilder {
         ensures keeps_shape { Self.shape self.new ≡ Self.shape self.old }
         ensures answers { IsTrue Self.never_fails → IsOk result }
         ensures sure { IsTrue Self.only_asserting_fails → IsOk result }
-        ensures appends { (fs : List (Tree Self.F)) (vs : List (CountOf (Tree Self.F))) → Represent (Self.represents self.old) fields.now fs
+        ensures appends { (fs : List (Tree Self.F)) (vs : List (CountOf (Tree Self.F)))
+            → Represent (Self.represents self.old) fields.now fs
             → Represent (RepresentsCount (Self.represents self.old)) counts.now vs
-            → IfOk result (λ _. Self.appends self.old self.new [] (record { bus = local; fields = fs; counts = vs } ∷ [])) }
+            → IfOk result (λ _. Self.appends self.old self.new []
+            (record { bus = local; fields = fs; counts = vs } ∷ [])) }
         ensures sends { IfOk result (λ _. sends self.old local fields.now counts.now self.new) }
         ensures on_error { OnErr result (Self.appends self.old self.new [] []) };
 
     // What is sent are the trees that the expressions represent.
-    ghost sends_appends: { (a b : Self) (bus : Bus) (xs : List Self.Expr) (cs : List (CountOf Self.Expr)) (fs : List (Tree Self.F)) (vs : List (CountOf (Tree Self.F)))
-        → Represent (Self.represents a) xs fs → Represent (RepresentsCount (Self.represents a)) cs vs → sends a bus xs cs b
+    ghost sends_appends: { (a b : Self) (bus : Bus) (xs : List Self.Expr)
+        (cs : List (CountOf Self.Expr)) (fs : List (Tree Self.F))
+        (vs : List (CountOf (Tree Self.F)))
+        → Represent (Self.represents a) xs fs
+        → Represent (RepresentsCount (Self.represents a)) cs vs → sends a bus xs cs b
         → Self.appends a b [] (record { bus = bus; fields = fs; counts = vs } ∷ []) };
 }

@@ -38,7 +38,9 @@ fn copy_at<F: FieldCore>(
     requires within { place < length nodes.now }
     requires ordered { Ordered nodes.now }
     requires copied { IsCopied nodes.now copies.old.items (get nat_cmp places.old) }
-    ensures { IfOk result (λ p. CopiesTo nodes.now copies.old.items copies.new.items (get nat_cmp places.old) (get nat_cmp places.new) place p) }
+    ensures { IfOk result (λ p.
+        CopiesTo nodes.now copies.old.items copies.new.items (get nat_cmp places.old)
+        (get nat_cmp places.new) place p) }
 {
     if let Some(copy) = places.get(&place) {
         return Ok(*copy);
@@ -75,7 +77,8 @@ fn add_copy<F: FieldCore>(
     ensures last { IfOk result (λ p. p ≡ length copies.old.items) }
     ensures copies { IfOk result (λ _. copies.new.items ≡ copies.old.items ++ node ∷ []) }
     ensures here { IfOk result (λ p. get nat_cmp places.new place ≡ Some p) }
-    ensures others { IfOk result (λ _. (i : ℕ) → i ≢ place → get nat_cmp places.new i ≡ get nat_cmp places.old i) }
+    ensures others { IfOk result
+        (λ _. (i : ℕ) → i ≢ place → get nat_cmp places.new i ≡ get nat_cmp places.old i) }
 {
     let copy = copies.len();
     copies.push(node)?;

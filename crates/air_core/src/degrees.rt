@@ -52,7 +52,9 @@ pub fn largest_degree<F: FieldCore, D: CellDegrees>(
 ) -> Mem<usize>
     requires ordered { Ordered nodes.now }
     requires asserted { All (λ a. a.place < length nodes.now) asserted.now }
-    ensures { IfOk result (λ d. d ≡ greatest 0 (map (degree (D.base cells.now) (D.extension cells.now)) (trees_at nodes.now asserted.now))) }
+    ensures { IfOk result (λ d.
+        d ≡ greatest 0 (map (degree (D.base cells.now) (D.extension cells.now))
+        (trees_at nodes.now asserted.now))) }
 {
     let degrees = degrees_in_order(alloc, nodes, cells)?;
     let mut largest: usize = 0;
@@ -84,7 +86,9 @@ fn degrees_in_order<F: FieldCore, D: CellDegrees>(
     cells: &D,
 ) -> Mem<Vec<usize>>
     requires { Ordered nodes.now }
-    ensures { IfOk result (λ v. v.items ≡ map (degree (D.base cells.now) (D.extension cells.now)) (trees_after [] nodes.now)) }
+    ensures { IfOk result (λ v.
+        v.items ≡ map (degree (D.base cells.now) (D.extension cells.now))
+        (trees_after [] nodes.now)) }
 {
     let mut degrees = Vec::with_capacity(alloc, nodes.len())?;
     for place in 0..nodes.len() {

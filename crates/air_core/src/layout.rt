@@ -56,7 +56,10 @@ pub struct ConstraintLayout {
 impl Model for ConstraintLayout {
     ghost Value = { Places };
 
-    ghost view = { λ l. record { base_indices = l.base_indices.items; ext_indices = l.ext_indices.items } };
+    ghost view = { λ l. record {
+      base_indices = l.base_indices.items;
+      ext_indices = l.ext_indices.items;
+    } };
 }
 
 impl ConstraintLayout {
@@ -72,8 +75,12 @@ impl ConstraintLayout {
     pub fn decompose_alpha<EF: Field>(&self, alloc: Global, alpha: EF) -> Mem<(Vec<EF>, Vec<EF>)>
         requires base { All (λ i. i < place_count self.now) self.now.base_indices }
         requires extension { All (λ i. i < place_count self.now) self.now.ext_indices }
-        ensures base { IfOk result (λ p. p.0.items ≡ folding_powers EF.ring alpha (place_count self.now) self.now.base_indices) }
-        ensures extension { IfOk result (λ p. p.1.items ≡ folding_powers EF.ring alpha (place_count self.now) self.now.ext_indices) }
+        ensures base { IfOk result
+            (λ p. p.0.items ≡ folding_powers EF.ring alpha (place_count self.now)
+            self.now.base_indices) }
+        ensures extension { IfOk result
+            (λ p. p.1.items ≡ folding_powers EF.ring alpha (place_count self.now)
+            self.now.ext_indices) }
     {
         let total = self.total_constraints();
         let base = powers_at(alloc, alpha, total, &self.base_indices)?;

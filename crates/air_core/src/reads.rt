@@ -102,7 +102,8 @@ impl<F: Field> SymbolicExpression<F> {
     /// Whether the constraint reads only cells that the AIR declares, and next cells only in declared next columns (not
     /// in Plonky3).
     pub fn reads_declared<A: BaseAir<F>>(&self, air: &A) -> bool
-        ensures { IsTrue result ↔ ReadsDeclared (declared_shape (A.declaration air.now)) (tree_of self.now) }
+        ensures { IsTrue result ↔ ReadsDeclared (declared_shape (A.declaration air.now))
+            (tree_of self.now) }
     {
         let cells = Strangers {
             declared: DeclaredCells::new(air),
@@ -114,7 +115,8 @@ impl<F: Field> SymbolicExpression<F> {
     /// Whether the expression reads only what an interaction of the AIR may read: constants, and public values, main and
     /// preprocessed cells that it declares, next cells only in declared next columns (not in Plonky3).
     pub fn reads_sendable<A: BaseAir<F>>(&self, air: &A) -> bool
-        ensures { IsTrue result ↔ ReadsSendable (declared_shape (A.declaration air.now)) (tree_of self.now) }
+        ensures { IsTrue result ↔ ReadsSendable (declared_shape (A.declaration air.now))
+            (tree_of self.now) }
     {
         let cells = Strangers {
             declared: DeclaredCells::new(air),
@@ -126,7 +128,8 @@ impl<F: Field> SymbolicExpression<F> {
 
 /// Whether each of these reads only what an interaction of the AIR may read.
 pub fn all_sendable<F: Field, A: BaseAir<F>>(expressions: &[SymbolicExpression<F>], air: &A) -> bool
-    ensures { IsTrue result ↔ All (ReadsSendable (declared_shape (A.declaration air.now))) (map tree_of expressions.now) }
+    ensures { IsTrue result ↔ All (ReadsSendable (declared_shape (A.declaration air.now)))
+        (map tree_of expressions.now) }
 {
     for expression in expressions {
         if !expression.reads_sendable(air) {

@@ -32,5 +32,9 @@ impl Model for RecordedInteraction {
 
     ghost Value = { Placed };
 
-    ghost view = { λ i. record { bus = option_map string_bytes i.bus; fields = i.fields.items; counts = i.counts.items } };
+    ghost view = { λ i. record {
+      bus = option_map string_bytes i.bus;
+      fields = i.fields.items;
+      counts = i.counts.items;
+    } };
 }

@@ -40,9 +40,20 @@ impl<F> Model for InteractionSymbolicBuilder<F> {
 
     ghost Value = { Recording F };
 
-    ghost view = { λ b. record { layout = b.layout; nodes = b.nodes.items; asserted = b.asserted.items; interactions = b.interactions.items } };
+    ghost view = { λ b. record {
+      layout = b.layout;
+      nodes = b.nodes.items;
+      asserted = b.asserted.items;
+      interactions = b.interactions.items;
+    } };
 
-    ghost invariant = { λ b. IsRecording (record { layout = b.layout; nodes = b.nodes.items; asserted = b.asserted.items; interactions = b.interactions.items }) };
+    ghost invariant = { λ b.
+        IsRecording (record {
+          layout = b.layout;
+          nodes = b.nodes.items;
+          asserted = b.asserted.items;
+          interactions = b.interactions.items;
+        }) };
 }
 
 // The place of an expression among `count` nodes, or that of the first node.
@@ -104,7 +115,8 @@ impl<F: Field> InteractionSymbolicBuilder<F> {
     fn push(&mut self, node: Node<F>) -> Mem<usize>
         requires { OperandsBelow (length self.old.nodes) node }
         ensures appends { HasAppended self.old self.new [] [] }
-        ensures represents { IfOk result (λ e. RepresentsAt self.new.nodes e (node_tree (trees_after [] self.old.nodes) node)) }
+        ensures represents { IfOk result
+            (λ e. RepresentsAt self.new.nodes e (node_tree (trees_after [] self.old.nodes) node)) }
     {
         let place = self.nodes.len();
         self.nodes.push(node)?;
@@ -122,8 +134,12 @@ impl<F: Field> InteractionSymbolicBuilder<F> {
     // Adds the sum of two expressions.
     fn push_sum(&mut self, x: usize, y: usize) -> Mem<usize>
         ensures appends { HasAppended self.old self.new [] [] }
-        ensures represents { (s t : Tree F) → RepresentsAt self.old.nodes x s → RepresentsAt self.old.nodes y t → IfOk result (λ e. RepresentsAt self.new.nodes e (sum s t)) }
-        ensures known { IfOk result (λ e. RepresentsAt self.new.nodes e (sum (tree_or_zero self.old.nodes x) (tree_or_zero self.old.nodes y))) }
+        ensures represents { (s t : Tree F) → RepresentsAt self.old.nodes x s
+            → RepresentsAt self.old.nodes y t
+            → IfOk result (λ e. RepresentsAt self.new.nodes e (sum s t)) }
+        ensures known { IfOk result
+            (λ e. RepresentsAt self.new.nodes e
+            (sum (tree_or_zero self.old.nodes x) (tree_or_zero self.old.nodes y))) }
     {
         let left = self.place(x);
         let right = self.place(y);
@@ -133,8 +149,12 @@ impl<F: Field> InteractionSymbolicBuilder<F> {
     // Adds the difference of two expressions.
     fn push_difference(&mut self, x: usize, y: usize) -> Mem<usize>
         ensures appends { HasAppended self.old self.new [] [] }
-        ensures represents { (s t : Tree F) → RepresentsAt self.old.nodes x s → RepresentsAt self.old.nodes y t → IfOk result (λ e. RepresentsAt self.new.nodes e (difference s t)) }
-        ensures known { IfOk result (λ e. RepresentsAt self.new.nodes e (difference (tree_or_zero self.old.nodes x) (tree_or_zero self.old.nodes y))) }
+        ensures represents { (s t : Tree F) → RepresentsAt self.old.nodes x s
+            → RepresentsAt self.old.nodes y t
+            → IfOk result (λ e. RepresentsAt self.new.nodes e (difference s t)) }
+        ensures known { IfOk result
+            (λ e. RepresentsAt self.new.nodes e
+            (difference (tree_or_zero self.old.nodes x) (tree_or_zero self.old.nodes y))) }
     {
         let left = self.place(x);
         let right = self.place(y);
@@ -144,8 +164,12 @@ impl<F: Field> InteractionSymbolicBuilder<F> {
     // Adds the product of two expressions.
     fn push_product(&mut self, x: usize, y: usize) -> Mem<usize>
         ensures appends { HasAppended self.old self.new [] [] }
-        ensures represents { (s t : Tree F) → RepresentsAt self.old.nodes x s → RepresentsAt self.old.nodes y t → IfOk result (λ e. RepresentsAt self.new.nodes e (product s t)) }
-        ensures known { IfOk result (λ e. RepresentsAt self.new.nodes e (product (tree_or_zero self.old.nodes x) (tree_or_zero self.old.nodes y))) }
+        ensures represents { (s t : Tree F) → RepresentsAt self.old.nodes x s
+            → RepresentsAt self.old.nodes y t
+            → IfOk result (λ e. RepresentsAt self.new.nodes e (product s t)) }
+        ensures known { IfOk result
+            (λ e. RepresentsAt self.new.nodes e
+            (product (tree_or_zero self.old.nodes x) (tree_or_zero self.old.nodes y))) }
     {
         let left = self.place(x);
         let right = self.place(y);
@@ -154,7 +178,9 @@ impl<F: Field> InteractionSymbolicBuilder<F> {
 
     // Appends an assertion.
     fn assert(&mut self, x: usize, in_extension: bool) -> Mem<()>
-        ensures appends { (t : Tree F) → RepresentsAt self.old.nodes x t → IfOk result (λ _. HasAppended self.old self.new (record { tree = t; in_extension = in_extension } ∷ []) []) }
+        ensures appends { (t : Tree F) → RepresentsAt self.old.nodes x t
+            → IfOk result (λ _. HasAppended self.old self.new
+            (record { tree = t; in_extension = in_extension } ∷ []) []) }
         ensures asserted { IfOk result (λ _. self.new ≡ asserting self.old x in_extension) }
         ensures keeps_shape { OnErr result (self.new ≡ self.old) }
         ensures on_error { OnErr result (HasAppended self.old self.new [] []) }
@@ -171,7 +197,8 @@ impl<F: Field> InteractionSymbolicBuilder<F> {
     fn keep(&mut self, bus: Option<String>, fields: &[usize], counts: &[Count<usize>]) -> Mem<()>
         requires counted { 0 < length counts.now }
         requires whole { length fields.now % length counts.now ≡ 0 }
-        ensures sent { IfOk result (λ _. self.new ≡ sending self.old (option_map string_bytes bus) fields.now counts.now) }
+        ensures sent { IfOk result
+            (λ _. self.new ≡ sending self.old (option_map string_bytes bus) fields.now counts.now) }
         ensures keeps_shape { OnErr result (self.new ≡ self.old) }
     {
         let fields = known_all(self.alloc, self.nodes.len(), fields)?;
@@ -189,10 +216,14 @@ impl<F: Field> InteractionSymbolicBuilder<F> {
         requires counted { 0 < length counts.now }
         requires whole { length fields.now % length counts.now ≡ 0 }
         ensures later { IsLater self.old self.new }
-        ensures appends { (fs : List (Tree F)) (vs : List (CountOf (Tree F))) → Represent (RepresentsAt self.old.nodes) fields.now fs
+        ensures appends { (fs : List (Tree F)) (vs : List (CountOf (Tree F)))
+            → Represent (RepresentsAt self.old.nodes) fields.now fs
             → Represent (RepresentsCount (RepresentsAt self.old.nodes)) counts.now vs
-            → IfOk result (λ _. HasAppended self.old self.new [] (record { bus = bus_of (option_map string_bytes bus); fields = fs; counts = vs } ∷ [])) }
-        ensures sent { IfOk result (λ _. self.new ≡ sending self.old (option_map string_bytes bus) fields.now counts.now) }
+            → IfOk result (λ _. HasAppended self.old self.new []
+            (record { bus = bus_of (option_map string_bytes bus); fields = fs; counts = vs }
+            ∷ [])) }
+        ensures sent { IfOk result
+            (λ _. self.new ≡ sending self.old (option_map string_bytes bus) fields.now counts.now) }
         ensures on_error { OnErr result (HasAppended self.old self.new [] []) }
     {
         self.keep(bus, fields, counts)
@@ -283,8 +314,10 @@ impl<F: Field> ExtensionBuilder for InteractionSymbolicBuilder<F> {
         ensures appends { HasAppended self.old self.new [] [] }
         ensures answers { IsTrue false → IsOk result }
         ensures sure { IsTrue false → IsOk result }
-        ensures lifts { IfOk result (λ e. RepresentsAt self.new.nodes e (tree_or_zero self.old.nodes x)) }
-        ensures represents { (t : Tree F) → RepresentsAt self.old.nodes x t → IfOk result (λ e. RepresentsAt self.new.nodes e t) }
+        ensures lifts { IfOk result
+            (λ e. RepresentsAt self.new.nodes e (tree_or_zero self.old.nodes x)) }
+        ensures represents { (t : Tree F) → RepresentsAt self.old.nodes x t
+            → IfOk result (λ e. RepresentsAt self.new.nodes e t) }
 
         // An expression of the base is one of the extension as it is: nothing is allocated.
         ensures always { IsOk result }
@@ -332,10 +365,19 @@ impl<F: Field> InteractionBuilder for InteractionSymbolicBuilder<F> {
         ensures later { IsLater self.old self.new }
         ensures keeps_shape { layout_shape self.new.layout ≡ layout_shape self.old.layout }
         ensures answers { IsTrue false → IsOk result }
-        ensures appends { (fs : List (Tree F)) (v : Tree F) → Represent (RepresentsAt self.old.nodes) fields.now fs → RepresentsAt self.old.nodes count.value v
-            → IfOk result (λ _. HasAppended self.old self.new [] (record { bus = global bus_name.now; fields = fs; counts = record { value = v; bound = count.bound } ∷ [] } ∷ [])) }
+        ensures appends { (fs : List (Tree F)) (v : Tree F)
+            → Represent (RepresentsAt self.old.nodes) fields.now fs
+            → RepresentsAt self.old.nodes count.value v
+            → IfOk result (λ _. HasAppended self.old self.new []
+            (record {
+              bus = global bus_name.now;
+              fields = fs;
+              counts = record { value = v; bound = count.bound } ∷ [];
+            } ∷ [])) }
         ensures sure { IsTrue false → IsOk result }
-        ensures sends { IfOk result (λ _. self.new ≡ sending self.old (name_of (global bus_name.now)) fields.now (count ∷ [])) }
+        ensures sends { IfOk result
+            (λ _. self.new ≡ sending self.old (name_of (global bus_name.now)) fields.now
+            (count ∷ [])) }
         ensures on_error { OnErr result (HasAppended self.old self.new [] []) }
     {
         let bus = String::from_str(self.alloc, bus_name)?;
@@ -348,11 +390,14 @@ impl<F: Field> InteractionBuilder for InteractionSymbolicBuilder<F> {
         ensures later { IsLater self.old self.new }
         ensures keeps_shape { layout_shape self.new.layout ≡ layout_shape self.old.layout }
         ensures answers { IsTrue false → IsOk result }
-        ensures appends { (fs : List (Tree F)) (vs : List (CountOf (Tree F))) → Represent (RepresentsAt self.old.nodes) fields.now fs
+        ensures appends { (fs : List (Tree F)) (vs : List (CountOf (Tree F)))
+            → Represent (RepresentsAt self.old.nodes) fields.now fs
             → Represent (RepresentsCount (RepresentsAt self.old.nodes)) counts.now vs
-            → IfOk result (λ _. HasAppended self.old self.new [] (record { bus = local; fields = fs; counts = vs } ∷ [])) }
+            → IfOk result (λ _. HasAppended self.old self.new []
+            (record { bus = local; fields = fs; counts = vs } ∷ [])) }
         ensures sure { IsTrue false → IsOk result }
-        ensures sends { IfOk result (λ _. self.new ≡ sending self.old (name_of local) fields.now counts.now) }
+        ensures sends { IfOk result
+            (λ _. self.new ≡ sending self.old (name_of local) fields.now counts.now) }
         ensures on_error { OnErr result (HasAppended self.old self.new [] []) }
     {
         self.send(None, fields, counts)

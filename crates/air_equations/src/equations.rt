@@ -20,8 +20,10 @@ pub fn assert_eq_when<AB: AirBuilder>(
     ensures later { AB.later builder.old builder.new }
     ensures keeps_shape { AB.shape builder.new ≡ AB.shape builder.old }
     ensures answers { IsTrue AB.never_fails → IsOk result }
-    ensures appends { (s t : Tree AB.F) → AB.represents builder.old x s → AB.represents builder.old y t
-        → IfOk result (λ _. AB.appends builder.old builder.new (over_base (equal_when selector s t) ∷ []) []) }
+    ensures appends { (s t : Tree AB.F) → AB.represents builder.old x s
+        → AB.represents builder.old y t
+        → IfOk result (λ _. AB.appends builder.old builder.new
+        (over_base (equal_when selector s t) ∷ []) []) }
     ensures on_error { OnErr result (AB.appends builder.old builder.new [] []) }
 {
     let difference = builder.sub(x, y)?;
@@ -43,7 +45,9 @@ pub fn assert_cells_eq_when<AB: AirBuilder>(
     ensures later { AB.later builder.old builder.new }
     ensures keeps_shape { AB.shape builder.new ≡ AB.shape builder.old }
     ensures answers { IsTrue AB.never_fails → IsOk result }
-    ensures appends { IfOk result (λ _. AB.appends builder.old builder.new (over_base (equal_when selector (cell_tree x) (cell_tree y)) ∷ []) []) }
+    ensures appends { IfOk result
+        (λ _. AB.appends builder.old builder.new
+        (over_base (equal_when selector (cell_tree x) (cell_tree y)) ∷ []) []) }
     ensures on_error { OnErr result (AB.appends builder.old builder.new [] []) }
 {
     let left = builder.cell(x)?;
@@ -66,7 +70,9 @@ pub fn assert_sum_when<AB: AirBuilder>(
     ensures later { AB.later builder.old builder.new }
     ensures keeps_shape { AB.shape builder.new ≡ AB.shape builder.old }
     ensures answers { IsTrue AB.never_fails → IsOk result }
-    ensures appends { IfOk result (λ _. AB.appends builder.old builder.new (over_base (equal_when selector (cell_tree x) (sum (cell_tree y) (cell_tree z))) ∷ []) []) }
+    ensures appends { IfOk result
+        (λ _. AB.appends builder.old builder.new
+        (over_base (equal_when selector (cell_tree x) (sum (cell_tree y) (cell_tree z))) ∷ []) []) }
     ensures on_error { OnErr result (AB.appends builder.old builder.new [] []) }
 {
     let total = builder.cell(x)?;

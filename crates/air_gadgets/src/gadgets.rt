@@ -20,7 +20,8 @@ fn difference_of_three<AB: AirBuilder>(
     ensures keeps_shape { AB.shape builder.new ≡ AB.shape builder.old }
     ensures answers { IsTrue AB.never_fails → IsOk result }
     ensures appends { AB.appends builder.old builder.new [] [] }
-    ensures represents { (s t u : Tree AB.F) → AB.represents builder.old x s → AB.represents builder.old y t → AB.represents builder.old z u
+    ensures represents { (s t u : Tree AB.F) → AB.represents builder.old x s
+        → AB.represents builder.old y t → AB.represents builder.old z u
         → IfOk result (λ e. AB.represents builder.new e (difference_of_three s t u)) }
 {
     let first = builder.sub(x, y)?;
@@ -39,8 +40,10 @@ fn difference_of_four<AB: AirBuilder>(
     ensures keeps_shape { AB.shape builder.new ≡ AB.shape builder.old }
     ensures answers { IsTrue AB.never_fails → IsOk result }
     ensures appends { AB.appends builder.old builder.new [] [] }
-    ensures represents { (s t u v : Tree AB.F) → AB.represents builder.old x s → AB.represents builder.old y t → AB.represents builder.old z u
-        → AB.represents builder.old w v → IfOk result (λ e. AB.represents builder.new e (difference_of_four s t u v)) }
+    ensures represents { (s t u v : Tree AB.F) → AB.represents builder.old x s
+        → AB.represents builder.old y t → AB.represents builder.old z u
+        → AB.represents builder.old w v
+        → IfOk result (λ e. AB.represents builder.new e (difference_of_four s t u v)) }
 {
     let first = difference_of_three(builder, x, y, z)?;
     builder.sub(first, w)
@@ -52,7 +55,9 @@ fn with_high<AB: AirBuilder>(builder: &mut AB, low: AB::Expr, high: AB::Expr) ->
     ensures keeps_shape { AB.shape builder.new ≡ AB.shape builder.old }
     ensures answers { IsTrue AB.never_fails → IsOk result }
     ensures appends { AB.appends builder.old builder.new [] [] }
-    ensures represents { (s t : Tree AB.F) → AB.represents builder.old low s → AB.represents builder.old high t → IfOk result (λ e. AB.represents builder.new e (with_high AB.F.ring s t)) }
+    ensures represents { (s t : Tree AB.F) → AB.represents builder.old low s
+        → AB.represents builder.old high t
+        → IfOk result (λ e. AB.represents builder.new e (with_high AB.F.ring s t)) }
 {
     let weight = builder.constant(<AB::F as RingCore>::from_u64(1 << 16))?;
     let weighed = builder.mul(weight, high)?;
@@ -65,7 +70,9 @@ fn times_more<AB: AirBuilder>(builder: &mut AB, y: AB::Expr, x: AB::Expr, n: u64
     ensures keeps_shape { AB.shape builder.new ≡ AB.shape builder.old }
     ensures answers { IsTrue AB.never_fails → IsOk result }
     ensures appends { AB.appends builder.old builder.new [] [] }
-    ensures represents { (s t : Tree AB.F) → AB.represents builder.old y s → AB.represents builder.old x t → IfOk result (λ e. AB.represents builder.new e (product s (sum t (number AB.F.ring n)))) }
+    ensures represents { (s t : Tree AB.F) → AB.represents builder.old y s
+        → AB.represents builder.old x t
+        → IfOk result (λ e. AB.represents builder.new e (product s (sum t (number AB.F.ring n)))) }
 {
     let carry = builder.constant(<AB::F as RingCore>::from_u64(n))?;
     let more = builder.add(x, carry)?;
@@ -77,7 +84,9 @@ fn assert_zero_or_one<AB: AirBuilder>(builder: &mut AB, n: u64, x: AB::Expr) -> 
     ensures later { AB.later builder.old builder.new }
     ensures keeps_shape { AB.shape builder.new ≡ AB.shape builder.old }
     ensures answers { IsTrue AB.never_fails → IsOk result }
-    ensures appends { (t : Tree AB.F) → AB.represents builder.old x t → IfOk result (λ _. AB.appends builder.old builder.new (over_base (zero_or_minus AB.F.ring n t) ∷ []) []) }
+    ensures appends { (t : Tree AB.F) → AB.represents builder.old x t
+        → IfOk result (λ _. AB.appends builder.old builder.new
+        (over_base (zero_or_minus AB.F.ring n t) ∷ []) []) }
     ensures on_error { OnErr result (AB.appends builder.old builder.new [] []) }
 {
     let both = times_more(builder, x, x, n)?;
@@ -90,7 +99,9 @@ fn assert_zero_to_two<AB: AirBuilder>(builder: &mut AB, n: u64, x: AB::Expr) -> 
     ensures later { AB.later builder.old builder.new }
     ensures keeps_shape { AB.shape builder.new ≡ AB.shape builder.old }
     ensures answers { IsTrue AB.never_fails → IsOk result }
-    ensures appends { (t : Tree AB.F) → AB.represents builder.old x t → IfOk result (λ _. AB.appends builder.old builder.new (over_base (zero_to_minus_twice AB.F.ring n t) ∷ []) []) }
+    ensures appends { (t : Tree AB.F) → AB.represents builder.old x t
+        → IfOk result (λ _. AB.appends builder.old builder.new
+        (over_base (zero_to_minus_twice AB.F.ring n t) ∷ []) []) }
     ensures on_error { OnErr result (AB.appends builder.old builder.new [] []) }
 {
     let both = times_more(builder, x, x, n)?;
@@ -113,10 +124,14 @@ pub fn add2<AB: AirBuilder>(
     ensures later { AB.later builder.old builder.new }
     ensures keeps_shape { AB.shape builder.new ≡ AB.shape builder.old }
     ensures answers { IsTrue AB.never_fails → IsOk result }
-    ensures appends { (s t u : ℕ → Tree AB.F) → RepresentAt (AB.represents builder.old) a s → RepresentAt (AB.represents builder.old) b t → RepresentAt (AB.represents builder.old) c u
-        → IfOk result (λ _. AB.appends builder.old builder.new (map over_base (add2_trees AB.F.ring s t u)) []) }
-    ensures on_error { (s t u : ℕ → Tree AB.F) → RepresentAt (AB.represents builder.old) a s → RepresentAt (AB.represents builder.old) b t → RepresentAt (AB.represents builder.old) c u
-        → OnErr result (SomeFirst (AB.appends builder.old builder.new) (map over_base (add2_trees AB.F.ring s t u)) []) }
+    ensures appends { (s t u : ℕ → Tree AB.F) → RepresentAt (AB.represents builder.old) a s
+        → RepresentAt (AB.represents builder.old) b t → RepresentAt (AB.represents builder.old) c u
+        → IfOk result (λ _. AB.appends builder.old builder.new
+        (map over_base (add2_trees AB.F.ring s t u)) []) }
+    ensures on_error { (s t u : ℕ → Tree AB.F) → RepresentAt (AB.represents builder.old) a s
+        → RepresentAt (AB.represents builder.old) b t → RepresentAt (AB.represents builder.old) c u
+        → OnErr result (SomeFirst (AB.appends builder.old builder.new)
+        (map over_base (add2_trees AB.F.ring s t u)) []) }
 {
     let low = difference_of_three(builder, a[0], b[0], c[0])?;
     let high = difference_of_three(builder, a[1], b[1], c[1])?;
@@ -142,12 +157,16 @@ pub fn add3<AB: AirBuilder>(
     ensures later { AB.later builder.old builder.new }
     ensures keeps_shape { AB.shape builder.new ≡ AB.shape builder.old }
     ensures answers { IsTrue AB.never_fails → IsOk result }
-    ensures appends { (s t u v : ℕ → Tree AB.F) → RepresentAt (AB.represents builder.old) a s → RepresentAt (AB.represents builder.old) b t
+    ensures appends { (s t u v : ℕ → Tree AB.F) → RepresentAt (AB.represents builder.old) a s
+        → RepresentAt (AB.represents builder.old) b t
         → RepresentAt (AB.represents builder.old) c u → RepresentAt (AB.represents builder.old) d v
-        → IfOk result (λ _. AB.appends builder.old builder.new (map over_base (add3_trees AB.F.ring s t u v)) []) }
-    ensures on_error { (s t u v : ℕ → Tree AB.F) → RepresentAt (AB.represents builder.old) a s → RepresentAt (AB.represents builder.old) b t
+        → IfOk result (λ _. AB.appends builder.old builder.new
+        (map over_base (add3_trees AB.F.ring s t u v)) []) }
+    ensures on_error { (s t u v : ℕ → Tree AB.F) → RepresentAt (AB.represents builder.old) a s
+        → RepresentAt (AB.represents builder.old) b t
         → RepresentAt (AB.represents builder.old) c u → RepresentAt (AB.represents builder.old) d v
-        → OnErr result (SomeFirst (AB.appends builder.old builder.new) (map over_base (add3_trees AB.F.ring s t u v)) []) }
+        → OnErr result (SomeFirst (AB.appends builder.old builder.new)
+        (map over_base (add3_trees AB.F.ring s t u v)) []) }
 {
     let low = difference_of_four(builder, a[0], b[0], c[0], d[0])?;
     let high = difference_of_four(builder, a[1], b[1], c[1], d[1])?;
@@ -163,7 +182,9 @@ pub fn pack_bits_le<AB: AirBuilder>(builder: &mut AB, bits: &[AB::Expr]) -> Mem<
     ensures keeps_shape { AB.shape builder.new ≡ AB.shape builder.old }
     ensures answers { IsTrue AB.never_fails → IsOk result }
     ensures appends { AB.appends builder.old builder.new [] [] }
-    ensures represents { (t : ℕ → Tree AB.F) → RepresentAt (AB.represents builder.old) bits.now t → IfOk result (λ e. AB.represents builder.new e (packed_bits AB.F.ring t 0 (length bits.now))) }
+    ensures represents { (t : ℕ → Tree AB.F) → RepresentAt (AB.represents builder.old) bits.now t
+        → IfOk result (λ e. AB.represents builder.new e
+        (packed_bits AB.F.ring t 0 (length bits.now))) }
 {
     let two = builder.constant(<AB::F as RingCore>::from_u64(2))?;
     let mut sum = builder.constant(<AB::F as RingCore>::from_u64(0))?;
@@ -181,7 +202,9 @@ pub fn xor<AB: AirBuilder>(builder: &mut AB, x: AB::Expr, y: AB::Expr) -> Mem<AB
     ensures keeps_shape { AB.shape builder.new ≡ AB.shape builder.old }
     ensures answers { IsTrue AB.never_fails → IsOk result }
     ensures appends { AB.appends builder.old builder.new [] [] }
-    ensures represents { (s t : Tree AB.F) → AB.represents builder.old x s → AB.represents builder.old y t → IfOk result (λ e. AB.represents builder.new e (xor_tree AB.F.ring s t)) }
+    ensures represents { (s t : Tree AB.F) → AB.represents builder.old x s
+        → AB.represents builder.old y t
+        → IfOk result (λ e. AB.represents builder.new e (xor_tree AB.F.ring s t)) }
 {
     let sum = builder.add(x, y)?;
     let two = builder.constant(<AB::F as RingCore>::from_u64(2))?;
@@ -202,8 +225,10 @@ fn xor_shift_bits<AB: AirBuilder>(
     ensures keeps_shape { AB.shape builder.new ≡ AB.shape builder.old }
     ensures answers { IsTrue AB.never_fails → IsOk result }
     ensures appends { AB.appends builder.old builder.new [] [] }
-    ensures represents { (t u : ℕ → Tree AB.F) → RepresentAt (AB.represents builder.old) b t → RepresentAt (AB.represents builder.old) c u
-        → IfOk result (λ es. RepresentAt (AB.represents builder.new) es (xor_shift_bit AB.F.ring t u s)) }
+    ensures represents { (t u : ℕ → Tree AB.F) → RepresentAt (AB.represents builder.old) b t
+        → RepresentAt (AB.represents builder.old) c u
+        → IfOk result (λ es. RepresentAt (AB.represents builder.new) es
+        (xor_shift_bit AB.F.ring t u s)) }
 {
     let mut bits = [b[0]; 32];
     for i in 0..32 {
@@ -223,9 +248,12 @@ fn xor_shift_limbs<AB: AirBuilder>(
     ensures keeps_shape { AB.shape builder.new ≡ AB.shape builder.old }
     ensures answers { IsTrue AB.never_fails → IsOk result }
     ensures appends { AB.appends builder.old builder.new [] [] }
-    ensures represents { (t u : ℕ → Tree AB.F) → RepresentAt (AB.represents builder.old) b t → RepresentAt (AB.represents builder.old) c u
-        → IfOk result (λ p. AB.represents builder.new p.0 (packed_bits AB.F.ring (xor_shift_bit AB.F.ring t u s) 0 16)
-        × AB.represents builder.new p.1 (packed_bits AB.F.ring (xor_shift_bit AB.F.ring t u s) 16 16)) }
+    ensures represents { (t u : ℕ → Tree AB.F) → RepresentAt (AB.represents builder.old) b t
+        → RepresentAt (AB.represents builder.old) c u
+        → IfOk result (λ p. AB.represents builder.new p.0
+        (packed_bits AB.F.ring (xor_shift_bit AB.F.ring t u s) 0 16)
+        × AB.represents builder.new p.1
+        (packed_bits AB.F.ring (xor_shift_bit AB.F.ring t u s) 16 16)) }
 {
     let bits = xor_shift_bits(builder, b, c, s)?;
     let all = &bits[..];
@@ -250,10 +278,14 @@ pub fn xor_32_shift<AB: AirBuilder>(
     ensures later { AB.later builder.old builder.new }
     ensures keeps_shape { AB.shape builder.new ≡ AB.shape builder.old }
     ensures answers { IsTrue AB.never_fails → IsOk result }
-    ensures appends { (t u v : ℕ → Tree AB.F) → RepresentAt (AB.represents builder.old) a t → RepresentAt (AB.represents builder.old) b u → RepresentAt (AB.represents builder.old) c v
-        → IfOk result (λ _. AB.appends builder.old builder.new (map over_base (xor_shift_trees AB.F.ring t u v s)) []) }
-    ensures on_error { (t u v : ℕ → Tree AB.F) → RepresentAt (AB.represents builder.old) a t → RepresentAt (AB.represents builder.old) b u → RepresentAt (AB.represents builder.old) c v
-        → OnErr result (SomeFirst (AB.appends builder.old builder.new) (map over_base (xor_shift_trees AB.F.ring t u v s)) []) }
+    ensures appends { (t u v : ℕ → Tree AB.F) → RepresentAt (AB.represents builder.old) a t
+        → RepresentAt (AB.represents builder.old) b u → RepresentAt (AB.represents builder.old) c v
+        → IfOk result (λ _. AB.appends builder.old builder.new
+        (map over_base (xor_shift_trees AB.F.ring t u v s)) []) }
+    ensures on_error { (t u v : ℕ → Tree AB.F) → RepresentAt (AB.represents builder.old) a t
+        → RepresentAt (AB.represents builder.old) b u → RepresentAt (AB.represents builder.old) c v
+        → OnErr result (SomeFirst (AB.appends builder.old builder.new)
+        (map over_base (xor_shift_trees AB.F.ring t u v s)) []) }
 {
     builder.assert_bools(&c)?;
     let (low, high) = xor_shift_limbs(builder, b, c, s)?;

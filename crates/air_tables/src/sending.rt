@@ -27,7 +27,8 @@ pub struct SendingAir<F> {
 }
 
 impl<F: Field> BaseAir<F> for SendingAir<F> {
-    ghost declaration = { λ a. sending_declaration a.steps.items (map (λ v. v.items) a.periodic.items) };
+    ghost declaration = { λ a.
+        sending_declaration a.steps.items (map (λ v. v.items) a.periodic.items) };
 
     fn width(&self) -> usize {
         1
@@ -87,7 +88,8 @@ fn product_of_cells<AB: AirBuilder>(builder: &mut AB, x: Cell, y: Cell) -> Mem<A
     ensures keeps_shape { AB.shape builder.new ≡ AB.shape builder.old }
     ensures answers { IsTrue AB.never_fails → IsOk result }
     ensures appends { AB.appends builder.old builder.new [] [] }
-    ensures represents { IfOk result (λ e. AB.represents builder.new e (product (cell_tree x) (cell_tree y))) }
+    ensures represents { IfOk result
+        (λ e. AB.represents builder.new e (product (cell_tree x) (cell_tree y))) }
 {
     let a = builder.cell(x)?;
     let b = builder.cell(y)?;
@@ -102,7 +104,9 @@ fn assert_product<AB: AirBuilder>(builder: &mut AB, cell: Cell, x: Cell, y: Cell
     ensures later { AB.later builder.old builder.new }
     ensures keeps_shape { AB.shape builder.new ≡ AB.shape builder.old }
     ensures answers { IsTrue AB.never_fails → IsOk result }
-    ensures appends { IfOk result (λ _. AB.appends builder.old builder.new (over_base (difference (cell_tree cell) (product (cell_tree x) (cell_tree y))) ∷ []) []) }
+    ensures appends { IfOk result
+        (λ _. AB.appends builder.old builder.new
+        (over_base (difference (cell_tree cell) (product (cell_tree x) (cell_tree y))) ∷ []) []) }
     ensures on_error { OnErr result (AB.appends builder.old builder.new [] []) }
 {
     let a = builder.cell(cell)?;
@@ -117,7 +121,8 @@ fn send_words<AB: InteractionBuilder>(builder: &mut AB, one: AB::F, x: Cell, y: 
     ensures later { AB.later builder.old builder.new }
     ensures keeps_shape { AB.shape builder.new ≡ AB.shape builder.old }
     ensures answers { IsTrue AB.never_fails → IsOk result }
-    ensures appends { IfOk result (λ _. AB.appends builder.old builder.new [] (words_sent one x y ∷ [])) }
+    ensures appends { IfOk result
+        (λ _. AB.appends builder.old builder.new [] (words_sent one x y ∷ [])) }
     ensures on_error { OnErr result (AB.appends builder.old builder.new [] []) }
 {
     let a = builder.cell(x)?;
@@ -134,7 +139,8 @@ fn send_cells<AB: InteractionBuilder>(builder: &mut AB, one: AB::F, x: Cell, y: 
     ensures later { AB.later builder.old builder.new }
     ensures keeps_shape { AB.shape builder.new ≡ AB.shape builder.old }
     ensures answers { IsTrue AB.never_fails → IsOk result }
-    ensures appends { IfOk result (λ _. AB.appends builder.old builder.new [] (cells_sent one x y ∷ [])) }
+    ensures appends { IfOk result
+        (λ _. AB.appends builder.old builder.new [] (cells_sent one x y ∷ [])) }
     ensures on_error { OnErr result (AB.appends builder.old builder.new [] []) }
 {
     let a = builder.cell(x)?;
@@ -167,7 +173,9 @@ impl<F: Field> Air<F> for SendingAir<F> {
 
     ghost counts = { λ _ n e. counts-some n 1 e };
 
-    ghost trees_read = { λ a. sending-read a.steps.items (map (λ v. v.items) a.periodic.items) (length-map a.periodic.items (λ v. v.items) ∙ a.one_periodic) };
+    ghost trees_read = { λ a.
+        sending-read a.steps.items (map (λ v. v.items) a.periodic.items)
+        (length-map a.periodic.items (λ v. v.items) ∙ a.one_periodic) };
 
     ghost interactions_read = { λ _. Prim.search rules };
 }

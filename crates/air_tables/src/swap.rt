@@ -22,7 +22,8 @@ fn difference_of_cells<AB: AirBuilder>(builder: &mut AB, x: Cell, y: Cell) -> Me
     ensures keeps_shape { AB.shape builder.new ≡ AB.shape builder.old }
     ensures answers { IsTrue AB.never_fails → IsOk result }
     ensures appends { AB.appends builder.old builder.new [] [] }
-    ensures represents { IfOk result (λ e. AB.represents builder.new e (difference (cell_tree x) (cell_tree y))) }
+    ensures represents { IfOk result
+        (λ e. AB.represents builder.new e (difference (cell_tree x) (cell_tree y))) }
 {
     let a = builder.cell(x)?;
     let b = builder.cell(y)?;
@@ -37,7 +38,8 @@ fn assert_equal_when<AB: AirBuilder>(builder: &mut AB, selector: Cell, x: Cell, 
     ensures later { AB.later builder.old builder.new }
     ensures keeps_shape { AB.shape builder.new ≡ AB.shape builder.old }
     ensures answers { IsTrue AB.never_fails → IsOk result }
-    ensures appends { IfOk result (λ _. AB.appends builder.old builder.new (over_base (equal_when selector x y) ∷ []) []) }
+    ensures appends { IfOk result
+        (λ _. AB.appends builder.old builder.new (over_base (equal_when selector x y) ∷ []) []) }
     ensures on_error { OnErr result (AB.appends builder.old builder.new [] []) }
 {
     let s = builder.cell(selector)?;

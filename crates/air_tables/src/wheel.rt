@@ -61,7 +61,8 @@ impl<F: Field> WheelAir<F> {
 }
 
 impl<F: Field> BaseAir<F> for WheelAir<F> {
-    ghost declaration = { λ a. wheel_over F.ring a.log_height (map (λ v. v.items) a.periodic.items) };
+    ghost declaration = { λ a.
+        wheel_over F.ring a.log_height (map (λ v. v.items) a.periodic.items) };
 
     fn width(&self) -> usize {
         1
@@ -135,7 +136,9 @@ impl<F: Field> Air<F> for WheelAir<F> {
 
     ghost counts = { λ _ n e. counts-none n 1 e };
 
-    ghost trees_read = { λ a. wheel-read F.ring a.log_height (map (λ v. v.items) a.periodic.items) (length-map a.periodic.items (λ v. v.items) ∙ a.one_periodic) };
+    ghost trees_read = { λ a.
+        wheel-read F.ring a.log_height (map (λ v. v.items) a.periodic.items)
+        (length-map a.periodic.items (λ v. v.items) ∙ a.one_periodic) };
 
     ghost interactions_read = { λ _. Prim.search rules };
 }

@@ -54,16 +54,23 @@ fn audit_unplayed<SC: StarkGenericConfig, A: Air<Val<SC>>>(
     shape: &BatchShape,
 ) -> Mem<Vec<BatchVerificationError<PcsError<SC>>>>
     requires formed { WellFormed (map A.declaration airs.now) (read_common common.now) }
-    requires shape { let statement = stated A.declaration A.trees airs.now public_values.now common.now in
-        NoneFails (shape_checks {R = SC.Pcs.Error} SC.Val.ring (shape_bounds_of (⟦<SC as Settings>⟧.setting config.now)) statement proof.now) }
-    requires chunks { let statement = stated A.declaration A.trees airs.now public_values.now common.now in
-        chunks.now ≡ tabulate (length airs.now) (log_chunks_of_table (⟦<SC as Settings>⟧.setting config.now) statement proof.now) }
+    requires shape { let statement = stated A.declaration A.trees airs.now public_values.now
+        common.now in
+        NoneFails (shape_checks {R = SC.Pcs.Error} SC.Val.ring
+        (shape_bounds_of (⟦<SC as Settings>⟧.setting config.now)) statement proof.now) }
+    requires chunks { let statement = stated A.declaration A.trees airs.now public_values.now
+        common.now in
+        chunks.now ≡ tabulate (length airs.now)
+        (log_chunks_of_table (⟦<SC as Settings>⟧.setting config.now) statement proof.now) }
     requires script { let setting = ⟦<SC as Settings>⟧.setting config.now in
         let statement = stated A.declaration A.trees airs.now public_values.now common.now in
-        shape.now ≡ script_shape setting.version setting.zk setting.lookup_bits setting.ood_bits statement }
+        shape.now ≡ script_shape setting.version setting.zk setting.lookup_bits setting.ood_bits
+        statement }
     requires missing { HasWitness shape.now.num_lookup_instances proof.now.lookup_pow_witness → ⊥ }
     ensures { let statement = stated A.declaration A.trees airs.now public_values.now common.now in
-        IfOk result (λ v. AreNamed (audit (⟦<SC as Settings>⟧.setting config.now) (⟦<SC as Settings>⟧.backend config.now) statement proof.now) v.items) }
+        IfOk result (λ v. AreNamed
+        (audit (⟦<SC as Settings>⟧.setting config.now) (⟦<SC as Settings>⟧.backend config.now)
+        statement proof.now) v.items) }
 {
     let mut faults = Vec::new(alloc);
     let missing = BatchTranscriptFailure::MissingLookupPowWitness {
@@ -99,21 +106,31 @@ fn audit_played<SC: StarkGenericConfig, A: Air<Val<SC>>>(
     shape: &BatchShape,
 ) -> Mem<BatchAudit<PcsError<SC>>>
     requires formed { WellFormed (map A.declaration airs.now) (read_common common.now) }
-    requires shape { let statement = stated A.declaration A.trees airs.now public_values.now common.now in
-        NoneFails (shape_checks {R = SC.Pcs.Error} SC.Val.ring (shape_bounds_of (⟦<SC as Settings>⟧.setting config.now)) statement proof.now) }
-    requires chunks { let statement = stated A.declaration A.trees airs.now public_values.now common.now in
-        chunks.now ≡ tabulate (length airs.now) (log_chunks_of_table (⟦<SC as Settings>⟧.setting config.now) statement proof.now) }
+    requires shape { let statement = stated A.declaration A.trees airs.now public_values.now
+        common.now in
+        NoneFails (shape_checks {R = SC.Pcs.Error} SC.Val.ring
+        (shape_bounds_of (⟦<SC as Settings>⟧.setting config.now)) statement proof.now) }
+    requires chunks { let statement = stated A.declaration A.trees airs.now public_values.now
+        common.now in
+        chunks.now ≡ tabulate (length airs.now)
+        (log_chunks_of_table (⟦<SC as Settings>⟧.setting config.now) statement proof.now) }
     requires script { let setting = ⟦<SC as Settings>⟧.setting config.now in
         let statement = stated A.declaration A.trees airs.now public_values.now common.now in
-        shape.now ≡ script_shape setting.version setting.zk setting.lookup_bits setting.ood_bits statement }
+        shape.now ≡ script_shape setting.version setting.zk setting.lookup_bits setting.ood_bits
+        statement }
     requires lookup_bits { 2 ^ shape.now.lookup_pow_bits < SC.Val.ORDER_U64 }
     requires ood_bits { 2 ^ shape.now.ood_pow_bits < SC.Val.ORDER_U64 }
     requires there { HasWitness shape.now.num_lookup_instances proof.now.lookup_pow_witness }
-    ensures steps { let statement = stated A.declaration A.trees airs.now public_values.now common.now in
+    ensures steps { let statement = stated A.declaration A.trees airs.now public_values.now
+        common.now in
         IfOk result (λ a. a.steps.items
-        ≡ steps_text (⟦<SC as Settings>⟧.setting config.now) (⟦<SC as Settings>⟧.backend config.now) statement proof.now (λ x. map SC.Val.canonical (SC.Challenge.coefficients x))) }
-    ensures faults { let statement = stated A.declaration A.trees airs.now public_values.now common.now in
-        IfOk result (λ a. AreNamed (audit (⟦<SC as Settings>⟧.setting config.now) (⟦<SC as Settings>⟧.backend config.now) statement proof.now) a.faults.items) }
+        ≡ steps_text (⟦<SC as Settings>⟧.setting config.now) (⟦<SC as Settings>⟧.backend config.now)
+        statement proof.now (λ x. map SC.Val.canonical (SC.Challenge.coefficients x))) }
+    ensures faults { let statement = stated A.declaration A.trees airs.now public_values.now
+        common.now in
+        IfOk result (λ a. AreNamed
+        (audit (⟦<SC as Settings>⟧.setting config.now) (⟦<SC as Settings>⟧.backend config.now)
+        statement proof.now) a.faults.items) }
 {
     let challenger = config.initialise_challenger();
     let FoldedScript { text, draws } = fold_proof::<
@@ -168,15 +185,24 @@ fn audit_shaped<SC: StarkGenericConfig, A: Air<Val<SC>>>(
     chunks: &[usize],
 ) -> Mem<BatchAudit<PcsError<SC>>>
     requires formed { WellFormed (map A.declaration airs.now) (read_common common.now) }
-    requires shape { let statement = stated A.declaration A.trees airs.now public_values.now common.now in
-        NoneFails (shape_checks {R = SC.Pcs.Error} SC.Val.ring (shape_bounds_of (⟦<SC as Settings>⟧.setting config.now)) statement proof.now) }
-    requires chunks { let statement = stated A.declaration A.trees airs.now public_values.now common.now in
-        chunks.now ≡ tabulate (length airs.now) (log_chunks_of_table (⟦<SC as Settings>⟧.setting config.now) statement proof.now) }
-    ensures steps { let statement = stated A.declaration A.trees airs.now public_values.now common.now in
-        IfOk result (λ a. IsPlayedText (⟦<SC as Settings>⟧.setting config.now) (⟦<SC as Settings>⟧.backend config.now) statement proof.now
+    requires shape { let statement = stated A.declaration A.trees airs.now public_values.now
+        common.now in
+        NoneFails (shape_checks {R = SC.Pcs.Error} SC.Val.ring
+        (shape_bounds_of (⟦<SC as Settings>⟧.setting config.now)) statement proof.now) }
+    requires chunks { let statement = stated A.declaration A.trees airs.now public_values.now
+        common.now in
+        chunks.now ≡ tabulate (length airs.now)
+        (log_chunks_of_table (⟦<SC as Settings>⟧.setting config.now) statement proof.now) }
+    ensures steps { let statement = stated A.declaration A.trees airs.now public_values.now
+        common.now in
+        IfOk result (λ a. IsPlayedText (⟦<SC as Settings>⟧.setting config.now)
+        (⟦<SC as Settings>⟧.backend config.now) statement proof.now
         (λ x. map SC.Val.canonical (SC.Challenge.coefficients x)) a.steps.items) }
-    ensures faults { let statement = stated A.declaration A.trees airs.now public_values.now common.now in
-        IfOk result (λ a. AreNamed (audit (⟦<SC as Settings>⟧.setting config.now) (⟦<SC as Settings>⟧.backend config.now) statement proof.now) a.faults.items) }
+    ensures faults { let statement = stated A.declaration A.trees airs.now public_values.now
+        common.now in
+        IfOk result (λ a. AreNamed
+        (audit (⟦<SC as Settings>⟧.setting config.now) (⟦<SC as Settings>⟧.backend config.now)
+        statement proof.now) a.faults.items) }
 {
     let shape = batch_shape(
         alloc,
@@ -232,11 +258,16 @@ pub fn audit_batch<SC: StarkGenericConfig, A: Air<Val<SC>>>(
     common: &CommonData<SC>,
 ) -> Mem<BatchAudit<PcsError<SC>>>
     requires { WellFormed (map A.declaration airs.now) (read_common common.now) }
-    ensures steps { let statement = stated A.declaration A.trees airs.now public_values.now common.now in
-        IfOk result (λ a. IsPlayedText (⟦<SC as Settings>⟧.setting config.now) (⟦<SC as Settings>⟧.backend config.now) statement proof.now
+    ensures steps { let statement = stated A.declaration A.trees airs.now public_values.now
+        common.now in
+        IfOk result (λ a. IsPlayedText (⟦<SC as Settings>⟧.setting config.now)
+        (⟦<SC as Settings>⟧.backend config.now) statement proof.now
         (λ x. map SC.Val.canonical (SC.Challenge.coefficients x)) a.steps.items) }
-    ensures faults { let statement = stated A.declaration A.trees airs.now public_values.now common.now in
-        IfOk result (λ a. AreNamed (audit (⟦<SC as Settings>⟧.setting config.now) (⟦<SC as Settings>⟧.backend config.now) statement proof.now) a.faults.items) }
+    ensures faults { let statement = stated A.declaration A.trees airs.now public_values.now
+        common.now in
+        IfOk result (λ a. AreNamed
+        (audit (⟦<SC as Settings>⟧.setting config.now) (⟦<SC as Settings>⟧.backend config.now)
+        statement proof.now) a.faults.items) }
 {
     let mut faults = Vec::new(alloc);
     let bounds = shape_bounds(config);

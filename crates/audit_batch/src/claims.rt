@@ -38,7 +38,9 @@ fn name_domains<F: TwoAdicField, R: Drop>(
 ) -> Mem<()>
     requires { length chunks.now ≡ length degree_bits.now }
     ensures { OnOk result (AreNamedAfter faults.old.items
-        (of_each (length degree_bits.now) (λ i. in_order (domain_by i (bits_at degree_bits.now i) (get_or chunks.now i 0) most F.TWO_ADICITY))) faults.new.items) }
+        (of_each (length degree_bits.now)
+        (λ i. in_order (domain_by i (bits_at degree_bits.now i) (get_or chunks.now i 0) most
+        F.TWO_ADICITY))) faults.new.items) }
 {
     for index in 0..degree_bits.len() {
         let answer = domain_fits::<F, R>(index, degree_bits[index], chunks[index], most);
@@ -55,7 +57,8 @@ fn is_listed(
 ) -> bool
     requires entries { table < length entries.now }
     requires bits { table < length degree_bits.now }
-    ensures { IsTrue result ↔ HasDegreeBits (bits_at degree_bits.now table) (get_or entries.now table None) }
+    ensures { IsTrue result ↔ HasDegreeBits (bits_at degree_bits.now table)
+        (get_or entries.now table None) }
 {
     has_bits(&entries[table], degree_bits[table])
 }
@@ -70,7 +73,8 @@ fn name_listed<R: Drop>(
     requires listed { All (λ i. i < length degree_bits.now) matrices.now }
     requires entries { length entries.now ≡ length degree_bits.now }
     ensures { OnOk result (AreNamedAfter faults.old.items (of_each (length matrices.now)
-        (λ m. always (bits_listed (get_or entries.now (get_or matrices.now m 0) None) degree_bits.now (get_or matrices.now m 0) ∷ []))) faults.new.items) }
+        (λ m. always (bits_listed (get_or entries.now (get_or matrices.now m 0) None)
+        degree_bits.now (get_or matrices.now m 0) ∷ []))) faults.new.items) }
 {
     for matrix in 0..matrices.len() {
         let table = matrices[matrix];
@@ -94,7 +98,8 @@ fn name_metadata<Com, R: Drop>(
 ) -> Mem<()>
     requires listed { All (λ i. i < length degree_bits.now) traces.now.matrix_to_instance }
     requires entries { length traces.now.instances ≡ length degree_bits.now }
-    ensures { OnOk result (AreNamedAfter faults.old.items (metadata_named (Some traces.now) degree_bits.now) faults.new.items) }
+    ensures { OnOk result (AreNamedAfter faults.old.items
+        (metadata_named (Some traces.now) degree_bits.now) faults.new.items) }
 {
     let matrices = &traces.matrix_to_instance;
     name_listed(faults, matrices, &traces.instances, degree_bits)?;
@@ -113,12 +118,18 @@ pub(crate) fn name_claims<SC: StarkGenericConfig, A: Air<Val<SC>>>(
     chunks: &[usize],
 ) -> Mem<()>
     requires formed { WellFormed (map A.declaration airs.now) (read_common common.now) }
-    requires shape { let statement = stated A.declaration A.trees airs.now public_values.now common.now in
-        NoneFails (shape_checks {R = SC.Pcs.Error} SC.Val.ring (shape_bounds_of (⟦<SC as Settings>⟧.setting config.now)) statement proof.now) }
-    requires chunks { let statement = stated A.declaration A.trees airs.now public_values.now common.now in
-        chunks.now ≡ tabulate (length airs.now) (log_chunks_of_table (⟦<SC as Settings>⟧.setting config.now) statement proof.now) }
+    requires shape { let statement = stated A.declaration A.trees airs.now public_values.now
+        common.now in
+        NoneFails (shape_checks {R = SC.Pcs.Error} SC.Val.ring
+        (shape_bounds_of (⟦<SC as Settings>⟧.setting config.now)) statement proof.now) }
+    requires chunks { let statement = stated A.declaration A.trees airs.now public_values.now
+        common.now in
+        chunks.now ≡ tabulate (length airs.now)
+        (log_chunks_of_table (⟦<SC as Settings>⟧.setting config.now) statement proof.now) }
     ensures { let statement = stated A.declaration A.trees airs.now public_values.now common.now in
-        OnOk result (AreClaimsNamed (parts_of (⟦<SC as Settings>⟧.setting config.now) (⟦<SC as Settings>⟧.backend config.now) statement proof.now) faults.old.items faults.new.items) }
+        OnOk result (AreClaimsNamed
+        (parts_of (⟦<SC as Settings>⟧.setting config.now) (⟦<SC as Settings>⟧.backend config.now)
+        statement proof.now) faults.old.items faults.new.items) }
 {
     let most = shape_bounds(config).most;
     name_domains::<Val<SC>, PcsError<SC>>(faults, &proof.degree_bits, chunks, most)?;

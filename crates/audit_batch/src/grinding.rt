@@ -27,7 +27,8 @@ pub(crate) fn name_lookup_grinding<F: Field, R: Drop>(
     passed: bool,
 ) -> Mem<()>
     requires { HasWitness tables witness }
-    ensures { OnOk result (AreNamedAfter faults.old.items (lookup_asked F.ring.zero tables bits witness passed) faults.new.items) }
+    ensures { OnOk result (AreNamedAfter faults.old.items
+        (lookup_asked F.ring.zero tables bits witness passed) faults.new.items) }
 {
     if tables == 0 {
         let unexpected = BatchTranscriptFailure::UnexpectedLookupPowWitness;
@@ -51,7 +52,8 @@ pub(crate) fn name_ood_grinding<F: Field, R: Drop>(
     witness: F,
     passed: bool,
 ) -> Mem<()>
-    ensures { OnOk result (AreNamedAfter faults.old.items (always (ood_grinding F.ring.zero bits witness passed)) faults.new.items) }
+    ensures { OnOk result (AreNamedAfter faults.old.items
+        (always (ood_grinding F.ring.zero bits witness passed)) faults.new.items) }
 {
     let other = BatchTranscriptFailure::NonCanonicalOodPowWitness;
     let refusal = BatchVerificationError::Transcript(other);

@@ -48,20 +48,36 @@ pub(crate) fn name_identities<
     requires shape { NoneFails (shape_checks {R = R} F.ring (bounds_with F.ORDER_U64 bounds)
         (stated A.declaration A.trees airs.now public_values.now common.now) proof.now) }
     requires lists { length challenges.now ≡ length airs.now }
-    requires challenges { (i : ℕ) → i < length airs.now → length (get_or (map (λ v. v.items) challenges.now) i []) ≡ 2 * length (get_or (map read_all common.now.lookups) i []) }
+    requires challenges { (i : ℕ) → i < length airs.now
+        → length (get_or (map (λ v. v.items) challenges.now) i []) ≡ 2
+        * length (get_or (map read_all common.now.lookups) i []) }
     requires domains { map (λ v. v.items) domains.now
-        ≡ tabulate (length airs.now) (λ i. chunks_over F.ring F.root F.GENERATOR bounds.masks (get_or proof.now.degree_bits i 0)
-        (log_chunks_at F.ring bounds.masks (tables_of A.declaration A.trees airs.now) (map read_all common.now.lookups) proof.now.degree_bits i)) }
+        ≡ tabulate (length airs.now)
+        (λ i. chunks_over F.ring F.root F.GENERATOR bounds.masks (get_or proof.now.degree_bits i 0)
+        (log_chunks_at F.ring bounds.masks (tables_of A.declaration A.trees airs.now)
+        (map read_all common.now.lookups) proof.now.degree_bits i)) }
     requires fits { (i : ℕ) → i < length airs.now
-        → get_or proof.now.degree_bits i 0 + log_chunks_at F.ring bounds.masks (tables_of A.declaration A.trees airs.now) (map read_all common.now.lookups) proof.now.degree_bits i ≤ F.TWO_ADICITY }
+        → get_or proof.now.degree_bits i 0
+        + log_chunks_at F.ring bounds.masks (tables_of A.declaration A.trees airs.now)
+        (map read_all common.now.lookups) proof.now.degree_bits i ≤ F.TWO_ADICITY }
     requires dimension { bounds.dimension ≡ E.DIMENSION }
     requires masked { bounds.masks ≤ bounds.least }
-    ensures { let f : TwoAdic F = record { ring = F.ring; inv = F.inv; root = F.root; generator = F.GENERATOR } in
-        let e : Extension F E = record { ring = E.ring; embed = E.embed; dimension = E.DIMENSION; basis = E.basis; coefficients = E.coefficients; from_coefficients = E.from_coefficients } in
+    ensures { let f : TwoAdic
+        F = record { ring = F.ring; inv = F.inv; root = F.root; generator = F.GENERATOR } in
+        let e : Extension F E = record {
+          ring = E.ring;
+          embed = E.embed;
+          dimension = E.DIMENSION;
+          basis = E.basis;
+          coefficients = E.coefficients;
+          from_coefficients = E.from_coefficients;
+        } in
         let s = stated A.declaration A.trees airs.now public_values.now common.now in
         OnOk result (AreNamedAfter faults.old.items (of_each (length airs.now)
-        (λ i. in_order (identity_at f e bounds.masks s proof.now.instances proof.now.lookup_terminals proof.now.degree_bits
-        (map (λ v. v.items) challenges.now) (map (λ v. v.items) domains.now) alpha zeta i))) faults.new.items) }
+        (λ i. in_order (identity_at f e bounds.masks s proof.now.instances
+        proof.now.lookup_terminals proof.now.degree_bits
+        (map (λ v. v.items) challenges.now) (map (λ v. v.items) domains.now) alpha zeta i)))
+        faults.new.items) }
 {
     for index in 0..airs.len() {
         let answer = check_identity_at(

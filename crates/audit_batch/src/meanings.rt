@@ -19,18 +19,31 @@ use p3_uni_stark::{Challenge, Challenger, StarkGenericConfig};
 /// accepted (`accepted`), none is named where it is (`unnamed`), the first that is named is the refusal that a verifier answers (`first`), and there is
 /// one list of them (`one`).
 pub fn there_is_one_audit<SC: StarkGenericConfig>()
-    ensures accepted { (config : SC) (s : Statement SC.Val SC.Pcs.Commitment) (p : ProofData SC.Val SC.Challenge SC.Pcs.Commitment SC.Pcs.Proof)
-        → AreNamed (audit (⟦<SC as Settings>⟧.setting config) (⟦<SC as Settings>⟧.backend config) s p) []
+    ensures accepted { (config : SC) (s : Statement SC.Val SC.Pcs.Commitment)
+        (p : ProofData SC.Val SC.Challenge SC.Pcs.Commitment SC.Pcs.Proof)
+        → AreNamed (audit (⟦<SC as Settings>⟧.setting config) (⟦<SC as Settings>⟧.backend config) s
+        p) []
         → Accepted (⟦<SC as Settings>⟧.setting config) (⟦<SC as Settings>⟧.backend config) s p }
-    ensures unnamed { (config : SC) (s : Statement SC.Val SC.Pcs.Commitment) (p : ProofData SC.Val SC.Challenge SC.Pcs.Commitment SC.Pcs.Proof) (es : List (BatchVerificationError SC.Pcs.Error))
+    ensures unnamed { (config : SC) (s : Statement SC.Val SC.Pcs.Commitment)
+        (p : ProofData SC.Val SC.Challenge SC.Pcs.Commitment SC.Pcs.Proof)
+        (es : List (BatchVerificationError SC.Pcs.Error))
         → Accepted (⟦<SC as Settings>⟧.setting config) (⟦<SC as Settings>⟧.backend config) s p
-        → AreNamed (audit (⟦<SC as Settings>⟧.setting config) (⟦<SC as Settings>⟧.backend config) s p) es → es ≡ [] }
-    ensures first { (config : SC) (s : Statement SC.Val SC.Pcs.Commitment) (p : ProofData SC.Val SC.Challenge SC.Pcs.Commitment SC.Pcs.Proof) (e : BatchVerificationError SC.Pcs.Error)
-        (es : List (BatchVerificationError SC.Pcs.Error)) → AreNamed (audit (⟦<SC as Settings>⟧.setting config) (⟦<SC as Settings>⟧.backend config) s p) (e ∷ es)
+        → AreNamed (audit (⟦<SC as Settings>⟧.setting config) (⟦<SC as Settings>⟧.backend config) s
+        p) es → es ≡ [] }
+    ensures first { (config : SC) (s : Statement SC.Val SC.Pcs.Commitment)
+        (p : ProofData SC.Val SC.Challenge SC.Pcs.Commitment SC.Pcs.Proof)
+        (e : BatchVerificationError SC.Pcs.Error)
+        (es : List (BatchVerificationError SC.Pcs.Error))
+        → AreNamed (audit (⟦<SC as Settings>⟧.setting config) (⟦<SC as Settings>⟧.backend config) s
+        p) (e ∷ es)
         → FirstFault (⟦<SC as Settings>⟧.setting config) (⟦<SC as Settings>⟧.backend config) s p e }
-    ensures one { (config : SC) (s : Statement SC.Val SC.Pcs.Commitment) (p : ProofData SC.Val SC.Challenge SC.Pcs.Commitment SC.Pcs.Proof) (ds es : List (BatchVerificationError SC.Pcs.Error))
-        → AreNamed (audit (⟦<SC as Settings>⟧.setting config) (⟦<SC as Settings>⟧.backend config) s p) ds
-        → AreNamed (audit (⟦<SC as Settings>⟧.setting config) (⟦<SC as Settings>⟧.backend config) s p) es → ds ≡ es }
+    ensures one { (config : SC) (s : Statement SC.Val SC.Pcs.Commitment)
+        (p : ProofData SC.Val SC.Challenge SC.Pcs.Commitment SC.Pcs.Proof)
+        (ds es : List (BatchVerificationError SC.Pcs.Error))
+        → AreNamed (audit (⟦<SC as Settings>⟧.setting config) (⟦<SC as Settings>⟧.backend config) s
+        p) ds
+        → AreNamed (audit (⟦<SC as Settings>⟧.setting config) (⟦<SC as Settings>⟧.backend config) s
+        p) es → ds ≡ es }
 {
     a_verification_is_a_check::<Challenge<SC>, Challenger<SC>, SC::Pcs>();
 }

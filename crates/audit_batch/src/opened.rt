@@ -26,7 +26,8 @@ fn name_main<F: Field, A: BaseAir<F>, E, R: Drop>(
     opened: &OpenedValuesWithLookups<E>,
 ) -> Mem<()>
     ensures { OnOk result (AreNamedAfter faults.old.items
-        (always (main_checks index (A.declaration air.now) (length publics.now) opened.now.base)) faults.new.items) }
+        (always (main_checks index (A.declaration air.now) (length publics.now) opened.now.base))
+        faults.new.items) }
 {
     let base = &opened.base_opened_values;
     let width = air.width();
@@ -48,7 +49,8 @@ fn name_chunks<E, R: Drop>(
     dimension: usize,
     opened: &OpenedValuesWithLookups<E>,
 ) -> Mem<()>
-    ensures { OnOk result (AreNamedAfter faults.old.items (always (chunk_checks index chunks dimension opened.now.base)) faults.new.items) }
+    ensures { OnOk result (AreNamedAfter faults.old.items
+        (always (chunk_checks index chunks dimension opened.now.base)) faults.new.items) }
 {
     let base = &opened.base_opened_values;
     name_answer(
@@ -87,7 +89,8 @@ fn name_preprocessed<F: Field, A: BaseAir<F>, E, R: Drop>(
     opened: &Option<PreprocessedOpenedValues<E>>,
 ) -> Mem<()>
     ensures { OnOk result (AreNamedAfter faults.old.items
-        (preprocessed_asked index (width_of (A.declaration air.now).preprocessed) (A.declaration air.now).preprocessed_next opened.now) faults.new.items) }
+        (preprocessed_asked index (width_of (A.declaration air.now).preprocessed)
+        (A.declaration air.now).preprocessed_next opened.now) faults.new.items) }
 {
     let width = air.preprocessed_width();
     if width == 0 {
@@ -119,7 +122,8 @@ pub(crate) fn name_opened<F: Field, A: BaseAir<F>, E, R: Drop>(
     terminal: bool,
 ) -> Mem<()>
     ensures { OnOk result (AreNamedAfter faults.old.items
-        (table_asked index (A.declaration air.now) (length publics.now) chunks dimension lookups opened.now terminal) faults.new.items) }
+        (table_asked index (A.declaration air.now) (length publics.now) chunks dimension lookups
+        opened.now terminal) faults.new.items) }
 {
     let base = &opened.base_opened_values;
     name_main(faults, index, air, publics, opened)?;

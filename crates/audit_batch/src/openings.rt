@@ -55,15 +55,22 @@ pub(crate) fn name_openings<SC: StarkGenericConfig, A: Air<Val<SC>>>(
     draws: ScriptDraws<Challenger<SC>, Challenge<SC>>,
 ) -> Mem<()>
     requires formed { WellFormed (map A.declaration airs.now) (read_common common.now) }
-    requires shape { let statement = stated A.declaration A.trees airs.now public_values.now common.now in
-        NoneFails (shape_checks {R = SC.Pcs.Error} SC.Val.ring (shape_bounds_of (⟦<SC as Settings>⟧.setting config.now)) statement proof.now) }
-    requires chunks { let statement = stated A.declaration A.trees airs.now public_values.now common.now in
-        chunks.now ≡ tabulate (length airs.now) (log_chunks_of_table (⟦<SC as Settings>⟧.setting config.now) statement proof.now) }
+    requires shape { let statement = stated A.declaration A.trees airs.now public_values.now
+        common.now in
+        NoneFails (shape_checks {R = SC.Pcs.Error} SC.Val.ring
+        (shape_bounds_of (⟦<SC as Settings>⟧.setting config.now)) statement proof.now) }
+    requires chunks { let statement = stated A.declaration A.trees airs.now public_values.now
+        common.now in
+        chunks.now ≡ tabulate (length airs.now)
+        (log_chunks_of_table (⟦<SC as Settings>⟧.setting config.now) statement proof.now) }
     requires tables { tables ≡ count_by has_some (read_common common.now).lookups }
-    requires draws { let statement = stated A.declaration A.trees airs.now public_values.now common.now in
+    requires draws { let statement = stated A.declaration A.trees airs.now public_values.now
+        common.now in
         draws_told draws ≡ drawn_of (⟦<SC as Settings>⟧.setting config.now) statement proof.now }
     ensures { let statement = stated A.declaration A.trees airs.now public_values.now common.now in
-        OnOk result (AreOpened (parts_of (⟦<SC as Settings>⟧.setting config.now) (⟦<SC as Settings>⟧.backend config.now) statement proof.now) faults.old.items faults.new.items) }
+        OnOk result (AreOpened (parts_of (⟦<SC as Settings>⟧.setting config.now)
+        (⟦<SC as Settings>⟧.backend config.now) statement proof.now) faults.old.items
+        faults.new.items) }
 {
     let challenges = lookup_challenges(alloc, tables, &common.lookups, &draws)?;
     let (alpha, zeta, challenger) = (draws.alpha, draws.zeta, draws.challenger);

@@ -42,12 +42,15 @@ pub(crate) fn fold_proof<
 ) -> Mem<FoldedScript<C, EF>>
     requires lookup_bits { 2 ^ shape.now.lookup_pow_bits < F.ORDER_U64 }
     requires ood_bits { 2 ^ shape.now.ood_pow_bits < F.ORDER_U64 }
-    requires there { (shape.now.num_lookup_instances ≡ 0 → ⊥) → is_some proof.now.lookup_pow_witness ≡ true }
+    requires there { (shape.now.num_lookup_instances ≡ 0 → ⊥)
+        → is_some proof.now.lookup_pow_witness ≡ true }
     ensures text { IfOk result (λ w. w.text.items
-        ≡ script_text (⟦<C as BatchChallenger<F, EF, Com>>⟧.functions) (λ x. map F.canonical (EF.coefficients x)) F.ring EF.ring EF.DIMENSION challenger shape.now
+        ≡ script_text (⟦<C as BatchChallenger<F, EF, Com>>⟧.functions)
+        (λ x. map F.canonical (EF.coefficients x)) F.ring EF.ring EF.DIMENSION challenger shape.now
         (given_of (statement_with [] (lists public_values.now) common.now) proof.now)) }
     ensures draws { IfOk result (λ w. draws_told w.draws
-        ≡ draws (⟦<C as BatchChallenger<F, EF, Com>>⟧.functions) F.ring EF.ring EF.DIMENSION challenger shape.now
+        ≡ draws (⟦<C as BatchChallenger<F, EF, Com>>⟧.functions) F.ring EF.ring EF.DIMENSION
+        challenger shape.now
         (given_of (statement_with [] (lists public_values.now) common.now) proof.now)) }
 {
     let terminals = terminals_there(alloc, proof.terminals())?;
@@ -76,7 +79,9 @@ pub(crate) fn lookup_challenges<C, F: Field, EF: Field>(
     lookups: &[Lookups<F>],
     draws: &ScriptDraws<C, EF>,
 ) -> Mem<Vec<Vec<EF>>>
-    ensures { IfOk result (λ v. lists v.items ≡ batch_layout EF.ring (drawn_pair tables (draws_told draws.now)) (map read_all lookups.now)) }
+    ensures { IfOk result (λ v.
+        lists v.items ≡ batch_layout EF.ring (drawn_pair tables (draws_told draws.now))
+        (map read_all lookups.now)) }
 {
     if tables == 0 {
         let none = empty_layout(alloc, lookups)?;

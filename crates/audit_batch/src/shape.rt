@@ -35,8 +35,12 @@ fn name_counts<F: Field, A: Air<F>, E, Com, Opening, R: Drop>(
     zk: bool,
 ) -> Mem<bool>
     ensures named { OnOk result (AreNamedAfter faults.old.items
-        (always (count_checks zk (stated A.declaration A.trees airs.now public_values.now common.now) proof.now)) faults.new.items) }
-    ensures counted { IfOk result (λ b. IsTrue b ↔ HaveItemForEachTable (stated A.declaration A.trees airs.now public_values.now common.now) proof.now) }
+        (always (count_checks zk
+        (stated A.declaration A.trees airs.now public_values.now common.now) proof.now))
+        faults.new.items) }
+    ensures counted { IfOk result
+        (λ b. IsTrue b ↔ HaveItemForEachTable
+        (stated A.declaration A.trees airs.now public_values.now common.now) proof.now) }
 {
     let counted = are_counted(airs, public_values, common, proof);
     let randomized = is_randomized(proof, zk);
@@ -68,13 +72,20 @@ fn name_sizes<F: Field, A: Air<F>, R: Drop>(
     requires masks { bounds.masks ≤ 1 }
     requires lookups { length lookups.now ≡ length airs.now }
     requires bits { length degree_bits.now ≡ length airs.now }
-    requires reads { (i : ℕ) (a : A) → i < length airs.now → AreLookupsOf (A.declaration (get_or airs.now i a)) (read_all (get_or lookups.now i [])) }
-    ensures named { let sizes = sizes_at F.ring bounds.least bounds.most bounds.masks (tables_of A.declaration A.trees airs.now) (map read_all lookups.now) degree_bits.now in
-        OnOk result (AreNamedAfter faults.old.items (of_each (length airs.now) (λ i. in_order (sizes i))) faults.new.items) }
+    requires reads { (i : ℕ) (a : A) → i < length airs.now
+        → AreLookupsOf (A.declaration (get_or airs.now i a)) (read_all (get_or lookups.now i [])) }
+    ensures named { let sizes = sizes_at F.ring bounds.least bounds.most bounds.masks
+        (tables_of A.declaration A.trees airs.now) (map read_all lookups.now) degree_bits.now in
+        OnOk result (AreNamedAfter faults.old.items
+        (of_each (length airs.now) (λ i. in_order (sizes i))) faults.new.items) }
     ensures chunks { let tables = tables_of A.declaration A.trees airs.now in
         let lists = map read_all lookups.now in
-        IfOk result (λ v. NoneFails (in_turn (length airs.now) (sizes_at {R = R} F.ring bounds.least bounds.most bounds.masks tables lists degree_bits.now))
-        → v.items ≡ tabulate (length airs.now) (log_chunks_at F.ring bounds.masks tables lists degree_bits.now)) }
+        IfOk result (λ v. NoneFails
+        (in_turn (length airs.now)
+        (sizes_at {R = R} F.ring bounds.least bounds.most bounds.masks tables lists
+        degree_bits.now))
+        → v.items ≡ tabulate (length airs.now)
+        (log_chunks_at F.ring bounds.masks tables lists degree_bits.now)) }
 {
     let mut chunks = Vec::new(alloc);
     for index in 0..airs.len() {
@@ -120,8 +131,11 @@ fn name_table<F: Field, A: Air<F>, E, R: Drop>(
     requires lookups { index < length lookups.now }
     requires instances { index < length instances.now }
     requires terminals { index < length terminals.now }
-    ensures { OnOk result (AreNamedAfter faults.old.items (opened_asked_at (tables_of A.declaration A.trees airs.now) (map (λ v. v.items) public_values.now) (map read_all lookups.now) instances.now
-        (map (option_map (λ t. t.0)) terminals.now) (2 ^ log_chunks) dimension index) faults.new.items) }
+    ensures { OnOk result (AreNamedAfter faults.old.items
+        (opened_asked_at (tables_of A.declaration A.trees airs.now)
+        (map (λ v. v.items) public_values.now) (map read_all lookups.now) instances.now
+        (map (option_map (λ t. t.0)) terminals.now) (2 ^ log_chunks) dimension index)
+        faults.new.items) }
 {
     let table = &lookups[index];
     name_opened(
@@ -157,7 +171,8 @@ fn name_tables<F: Field, A: Air<F>, E, R: Drop>(
     requires chunks { length chunks.now ≡ length airs.now }
     requires fits { (i : ℕ) → i < length airs.now → get_or chunks.now i 0 + masks < 64 }
     ensures { OnOk result (AreNamedAfter faults.old.items (of_each (length airs.now)
-        (opened_asked_by (tables_of A.declaration A.trees airs.now) (map (λ v. v.items) public_values.now) (map read_all lookups.now) instances.now
+        (opened_asked_by (tables_of A.declaration A.trees airs.now)
+        (map (λ v. v.items) public_values.now) (map read_all lookups.now) instances.now
         (map (option_map (λ t. t.0)) terminals.now) chunks.now masks dimension)) faults.new.items) }
 {
     for index in 0..airs.len() {
@@ -185,7 +200,8 @@ fn batch_bounds<F: PrimeField64, A: Air<F>, E, Com, Opening, R>(
     proof: &TablesProof<F, E, Com, Opening>,
     bounds: ShapeBounds,
 ) -> Result<(), BatchVerificationError<R>>
-    requires counted { HaveItemForEachTable (stated A.declaration A.trees airs.now public_values.now common.now) proof.now }
+    requires counted { HaveItemForEachTable
+        (stated A.declaration A.trees airs.now public_values.now common.now) proof.now }
     requires fits { (i : ℕ) → i < length airs.now → get_or proof.now.degree_bits i 0 < 64 }
     ensures { IsVerdict (bus_bound_part (bounds_with F.ORDER_U64 bounds)
         (stated A.declaration A.trees airs.now public_values.now common.now) proof.now) result }
@@ -203,11 +219,14 @@ fn name_batch_tables<F: PrimeField64, A: Air<F>, E, Com, Opening, R: Drop>(
     chunks: &[usize],
     bounds: ShapeBounds,
 ) -> Mem<()>
-    requires counted { HaveItemForEachTable (stated A.declaration A.trees airs.now public_values.now common.now) proof.now }
+    requires counted { HaveItemForEachTable
+        (stated A.declaration A.trees airs.now public_values.now common.now) proof.now }
     requires chunks { length chunks.now ≡ length airs.now }
     requires fits { (i : ℕ) → i < length airs.now → get_or chunks.now i 0 + bounds.masks < 64 }
-    ensures { OnOk result (AreNamedAfter faults.old.items (of_each (length airs.now) (opened_asked_by (tables_of A.declaration A.trees airs.now)
-        (map (λ v. v.items) public_values.now) (map read_all common.now.lookups) proof.now.instances proof.now.lookup_terminals chunks.now bounds.masks bounds.dimension)) faults.new.items) }
+    ensures { OnOk result (AreNamedAfter faults.old.items
+        (of_each (length airs.now) (opened_asked_by (tables_of A.declaration A.trees airs.now)
+        (map (λ v. v.items) public_values.now) (map read_all common.now.lookups) proof.now.instances
+        proof.now.lookup_terminals chunks.now bounds.masks bounds.dimension)) faults.new.items) }
 {
     name_tables(
         faults,
@@ -233,13 +252,17 @@ fn name_sized<F: PrimeField64, A: Air<F>, E, Com, Opening, R: Drop>(
     chunks: &[usize],
     bounds: ShapeBounds,
 ) -> Mem<()>
-    requires counted { HaveItemForEachTable (stated A.declaration A.trees airs.now public_values.now common.now) proof.now }
+    requires counted { HaveItemForEachTable
+        (stated A.declaration A.trees airs.now public_values.now common.now) proof.now }
     requires bits { (i : ℕ) → i < length airs.now → get_or proof.now.degree_bits i 0 < 64 }
     requires chunks { length chunks.now ≡ length airs.now }
     requires fits { (i : ℕ) → i < length airs.now → get_or chunks.now i 0 + bounds.masks < 64 }
     ensures { let statement = stated A.declaration A.trees airs.now public_values.now common.now in
-        OnOk result (AreNamedAfter faults.old.items (in_order (bus_bound_part (bounds_with F.ORDER_U64 bounds) statement proof.now)
-        ++ of_each (length airs.now) (opened_asked_by statement.tables statement.publics statement.common.lookups proof.now.instances proof.now.lookup_terminals
+        OnOk result (AreNamedAfter faults.old.items
+        (in_order (bus_bound_part (bounds_with F.ORDER_U64 bounds) statement proof.now)
+        ++ of_each (length airs.now)
+        (opened_asked_by statement.tables statement.publics statement.common.lookups
+        proof.now.instances proof.now.lookup_terminals
         chunks.now bounds.masks bounds.dimension)
         ++ always (permutation_check statement proof.now)) faults.new.items) }
 {
@@ -268,11 +291,18 @@ pub(crate) fn name_shape<F: PrimeField64, A: Air<F>, E, Com, Opening, R: Drop>(
     requires masked { bounds.masks ≤ bounds.least }
     requires masks { bounds.masks ≤ 1 }
     requires formed { WellFormed (map A.declaration airs.now) (read_common common.now) }
-    ensures named { OnOk result (AreNamedAfter faults.old.items (shape_asked (shape_parts F.ring (bounds_with F.ORDER_U64 bounds)
-        (stated A.declaration A.trees airs.now public_values.now common.now) proof.now)) faults.new.items) }
-    ensures chunks { let statement = stated A.declaration A.trees airs.now public_values.now common.now in
-        IfOk result (λ v. NoneFails (shape_checks {R = R} F.ring (bounds_with F.ORDER_U64 bounds) statement proof.now)
-        → v.items ≡ tabulate (length airs.now) (log_chunks_at F.ring bounds.masks statement.tables statement.common.lookups proof.now.degree_bits)) }
+    ensures named { OnOk result
+        (AreNamedAfter faults.old.items
+        (shape_asked (shape_parts F.ring (bounds_with F.ORDER_U64 bounds)
+        (stated A.declaration A.trees airs.now public_values.now common.now) proof.now))
+        faults.new.items) }
+    ensures chunks { let statement = stated A.declaration A.trees airs.now public_values.now
+        common.now in
+        IfOk result (λ v. NoneFails
+        (shape_checks {R = R} F.ring (bounds_with F.ORDER_U64 bounds) statement proof.now)
+        → v.items ≡ tabulate (length airs.now)
+        (log_chunks_at F.ring bounds.masks statement.tables statement.common.lookups
+        proof.now.degree_bits)) }
 {
     let counted = name_counts(faults, airs, public_values, common, proof, bounds.zk)?;
     if !counted {

@@ -26,7 +26,9 @@ pub(crate) fn print_bindings<
         + CanSample<F>
         + CanSample<EF>,
 >(steps: &mut Steps<C, EF>, degree_bits: &[usize]) -> Mem<()>
-    ensures { OnOk result (steps.new ≡ printed (⟦<C as BatchChallenger<F, EF, Com>>⟧.functions) (λ x. map F.canonical (EF.coefficients x)) steps.old
+    ensures { OnOk result (steps.new
+        ≡ printed (⟦<C as BatchChallenger<F, EF, Com>>⟧.functions)
+        (λ x. map F.canonical (EF.coefficients x)) steps.old
         (bindings_script EF.ring EF.DIMENSION degree_bits.now)) }
 {
     for bits in degree_bits {
@@ -47,7 +49,9 @@ pub(crate) fn print_main<
         + CanSample<F>
         + CanSample<EF>,
 >(steps: &mut Steps<C, EF>, main: &Com, public_values: &[Vec<F>]) -> Mem<()>
-    ensures { OnOk result (steps.new ≡ printed (⟦<C as BatchChallenger<F, EF, Com>>⟧.functions) (λ x. map F.canonical (EF.coefficients x)) steps.old
+    ensures { OnOk result (steps.new
+        ≡ printed (⟦<C as BatchChallenger<F, EF, Com>>⟧.functions)
+        (λ x. map F.canonical (EF.coefficients x)) steps.old
         (main_script main.now (lists public_values.now))) }
 {
     steps.message(b"main_commitment", main)?;
@@ -69,8 +73,11 @@ pub(crate) fn print_commitment<
         + CanSample<F>
         + CanSample<EF>,
 >(steps: &mut Steps<C, EF>, label: &[u8], commitment: Option<&Com>) -> Mem<()>
-    ensures { OnOk result (steps.new ≡ printed (⟦<C as BatchChallenger<F, EF, Com>>⟧.functions) (λ x. map F.canonical (EF.coefficients x)) steps.old
-        (sealed (atomic InteractionKind.Message StepValue.Opaque label.now Length.Scalar) (option_copied commitment.entry))) }
+    ensures { OnOk result (steps.new
+        ≡ printed (⟦<C as BatchChallenger<F, EF, Com>>⟧.functions)
+        (λ x. map F.canonical (EF.coefficients x)) steps.old
+        (sealed (atomic InteractionKind.Message StepValue.Opaque label.now Length.Scalar)
+        (option_copied commitment.entry))) }
 {
     if let Some(commitment) = commitment {
         steps.message(label, commitment)?;
@@ -91,7 +98,9 @@ pub(crate) fn print_ood<
         + CanSample<EF>,
 >(steps: &mut Steps<C, EF>, alloc: Global, bits: usize, witness: F) -> Mem<()>
     requires { 2 ^ bits < F.ORDER_U64 }
-    ensures { OnOk result (steps.new ≡ printed (⟦<C as BatchChallenger<F, EF, Com>>⟧.functions) (λ x. map F.canonical (EF.coefficients x)) steps.old
+    ensures { OnOk result (steps.new
+        ≡ printed (⟦<C as BatchChallenger<F, EF, Com>>⟧.functions)
+        (λ x. map F.canonical (EF.coefficients x)) steps.old
         (ood_script EF.DIMENSION bits witness)) }
 {
     steps.pow(b"ood_pow", bits, witness)?;
@@ -111,7 +120,9 @@ pub(crate) fn print_opening<
         + CanSample<F>
         + CanSample<EF>,
 >(steps: &mut Steps<C, EF>) -> Mem<()>
-    ensures { OnOk result (steps.new ≡ printed (⟦<C as BatchChallenger<F, EF, Com>>⟧.functions) (λ x. map F.canonical (EF.coefficients x)) steps.old
+    ensures { OnOk result (steps.new
+        ≡ printed (⟦<C as BatchChallenger<F, EF, Com>>⟧.functions)
+        (λ x. map F.canonical (EF.coefficients x)) steps.old
         opening_script) }
 {
     steps.bracket(b"opening_argument")?;
@@ -131,7 +142,9 @@ pub(crate) fn begun_steps<
         + CanSample<EF>
         + Drop,
 >(alloc: Global, challenger: C, shape: &BatchShape) -> Mem<Steps<C, EF>>
-    ensures { IfOk result (λ t. t ≡ unprinted EF (seeded (⟦<C as BatchChallenger<F, EF, Com>>⟧.functions) F.ring EF.DIMENSION shape.now challenger)) }
+    ensures { IfOk result (λ t.
+        t ≡ unprinted EF (seeded (⟦<C as BatchChallenger<F, EF, Com>>⟧.functions) F.ring
+        EF.DIMENSION shape.now challenger)) }
 {
     let mut challenger = challenger;
     let separator = shape.domain_separator::<F, EF>(alloc)?;
@@ -166,7 +179,9 @@ pub(crate) fn print_pair<
 ) -> Mem<()>
     requires few { 2 ^ bits < F.ORDER_U64 }
     requires there { (tables ≡ 0 → ⊥) → is_some witness ≡ true }
-    ensures { OnOk result (steps.new ≡ printed (⟦<C as BatchChallenger<F, EF, Com>>⟧.functions) (λ x. map F.canonical (EF.coefficients x)) steps.old
+    ensures { OnOk result (steps.new
+        ≡ printed (⟦<C as BatchChallenger<F, EF, Com>>⟧.functions)
+        (λ x. map F.canonical (EF.coefficients x)) steps.old
         (pair_script EF.DIMENSION tables bits witness)) }
 {
     if tables == 0 {
@@ -193,7 +208,9 @@ pub(crate) fn print_terminals<
         + CanSample<F>
         + CanSample<EF>,
 >(steps: &mut Steps<C, EF>, terminals: &[EF]) -> Mem<()>
-    ensures { OnOk result (steps.new ≡ printed (⟦<C as BatchChallenger<F, EF, Com>>⟧.functions) (λ x. map F.canonical (EF.coefficients x)) steps.old
+    ensures { OnOk result (steps.new
+        ≡ printed (⟦<C as BatchChallenger<F, EF, Com>>⟧.functions)
+        (λ x. map F.canonical (EF.coefficients x)) steps.old
         (map (λ t. with_value (lookup_terminal_step EF.DIMENSION) (Extended t)) terminals.now)) }
 {
     for terminal in terminals {
@@ -213,7 +230,9 @@ pub(crate) fn print_permutation<
         + CanSample<F>
         + CanSample<EF>,
 >(steps: &mut Steps<C, EF>, alloc: Global, commitment: Option<&Com>, terminals: &[EF]) -> Mem<()>
-    ensures { OnOk result (steps.new ≡ printed (⟦<C as BatchChallenger<F, EF, Com>>⟧.functions) (λ x. map F.canonical (EF.coefficients x)) steps.old
+    ensures { OnOk result (steps.new
+        ≡ printed (⟦<C as BatchChallenger<F, EF, Com>>⟧.functions)
+        (λ x. map F.canonical (EF.coefficients x)) steps.old
         (permutation_script EF.DIMENSION (option_copied commitment.entry) terminals.now)) }
 {
     print_commitment::<F, EF, Com, C>(steps, b"permutation_commitment", commitment)?;
@@ -233,7 +252,9 @@ pub(crate) fn print_quotient<
         + CanSample<F>
         + CanSample<EF>,
 >(steps: &mut Steps<C, EF>, quotient: &Com, randomization: Option<&Com>) -> Mem<()>
-    ensures { OnOk result (steps.new ≡ printed (⟦<C as BatchChallenger<F, EF, Com>>⟧.functions) (λ x. map F.canonical (EF.coefficients x)) steps.old
+    ensures { OnOk result (steps.new
+        ≡ printed (⟦<C as BatchChallenger<F, EF, Com>>⟧.functions)
+        (λ x. map F.canonical (EF.coefficients x)) steps.old
         (quotient_script quotient.now (option_copied randomization.entry))) }
 {
     steps.message(b"quotient_commitment", quotient)?;

@@ -72,7 +72,12 @@ fn without_lookups<C, EF: Field>(
     challenges: &[EF],
     passed: &[bool],
 ) -> ScriptDraws<C, EF>
-    ensures { draws_told result ≡ draws_of EF.ring 0 (record { state = challenger; challenges = challenges.now; passed = passed.now }) }
+    ensures { draws_told result
+        ≡ draws_of EF.ring 0 (record {
+          state = challenger;
+          challenges = challenges.now;
+          passed = passed.now;
+        }) }
 {
     ScriptDraws {
         lookup_alpha: EF::ZERO,
@@ -91,7 +96,9 @@ fn with_lookups<C, EF: Field>(
     challenges: &[EF],
     passed: &[bool],
 ) -> ScriptDraws<C, EF>
-    ensures { (n : ℕ) → draws_told result ≡ draws_of EF.ring (suc n) (record { state = challenger; challenges = challenges.now; passed = passed.now }) }
+    ensures { (n : ℕ) → draws_told result
+        ≡ draws_of EF.ring (suc n)
+        (record { state = challenger; challenges = challenges.now; passed = passed.now }) }
 {
     ScriptDraws {
         lookup_alpha: challenge_at(challenges, 0),
@@ -111,7 +118,9 @@ fn read_draws<C, EF: Field>(
     challenges: &[EF],
     passed: &[bool],
 ) -> ScriptDraws<C, EF>
-    ensures { draws_told result ≡ draws_of EF.ring tables (record { state = challenger; challenges = challenges.now; passed = passed.now }) }
+    ensures { draws_told result
+        ≡ draws_of EF.ring tables
+        (record { state = challenger; challenges = challenges.now; passed = passed.now }) }
 {
     if tables == 0 {
         without_lookups(challenger, challenges, passed)
@@ -149,8 +158,11 @@ fn print_script<
     requires lookup_bits { 2 ^ shape.now.lookup_pow_bits < F.ORDER_U64 }
     requires ood_bits { 2 ^ shape.now.ood_pow_bits < F.ORDER_U64 }
     requires there { (shape.now.num_lookup_instances ≡ 0 → ⊥) → is_some lookup_witness ≡ true }
-    ensures { IfOk result (λ t. t ≡ printed (⟦<C as BatchChallenger<F, EF, Com>>⟧.functions) (λ x. map F.canonical (EF.coefficients x))
-        (unprinted EF (seeded (⟦<C as BatchChallenger<F, EF, Com>>⟧.functions) F.ring EF.DIMENSION shape.now challenger))
+    ensures { IfOk result (λ t.
+        t ≡ printed (⟦<C as BatchChallenger<F, EF, Com>>⟧.functions)
+        (λ x. map F.canonical (EF.coefficients x))
+        (unprinted EF (seeded (⟦<C as BatchChallenger<F, EF, Com>>⟧.functions) F.ring EF.DIMENSION
+        shape.now challenger))
         (script EF.ring EF.DIMENSION shape.now (record {
           degree_bits = degree_bits.now;
           main = main.now;
@@ -216,7 +228,9 @@ pub fn fold_script<
     requires ood_bits { 2 ^ shape.now.ood_pow_bits < F.ORDER_U64 }
     requires there { (shape.now.num_lookup_instances ≡ 0 → ⊥) → is_some lookup_witness ≡ true }
     ensures text { IfOk result (λ w. w.text.items
-        ≡ script_text (⟦<C as BatchChallenger<F, EF, Com>>⟧.functions) (λ x. map F.canonical (EF.coefficients x)) F.ring EF.ring EF.DIMENSION challenger shape.now (record {
+        ≡ script_text (⟦<C as BatchChallenger<F, EF, Com>>⟧.functions)
+        (λ x. map F.canonical (EF.coefficients x)) F.ring EF.ring EF.DIMENSION challenger shape.now
+        (record {
           degree_bits = degree_bits.now;
           main = main.now;
           publics = lists public_values.now;
@@ -229,7 +243,8 @@ pub fn fold_script<
           ood_witness = ood_witness;
         })) }
     ensures draws { IfOk result (λ w. draws_told w.draws
-        ≡ draws (⟦<C as BatchChallenger<F, EF, Com>>⟧.functions) F.ring EF.ring EF.DIMENSION challenger shape.now (record {
+        ≡ draws (⟦<C as BatchChallenger<F, EF, Com>>⟧.functions) F.ring EF.ring EF.DIMENSION
+        challenger shape.now (record {
           degree_bits = degree_bits.now;
           main = main.now;
           publics = lists public_values.now;

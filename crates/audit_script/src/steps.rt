@@ -37,7 +37,8 @@ impl<C, EF> Model for Steps<C, EF> {
 
 // Appends each value's number after a space, in decimal.
 fn push_values<F: PrimeCore64>(out: &mut Vec<u8>, values: &[F]) -> Mem<()>
-    ensures { OnOk result (out.new.items ≡ out.old.items ++ spaced_numbers (map F.canonical values.now)) }
+    ensures { OnOk result (out.new.items ≡ out.old.items
+        ++ spaced_numbers (map F.canonical values.now)) }
 {
     for value in values {
         let mut buffer = Buffer::new();
@@ -88,7 +89,8 @@ impl<C, EF> Steps<C, EF> {
     pub(crate) fn message<T>(&mut self, label: &[u8], value: &T) -> Mem<()>
     where
         C: CanObserve<T>,
-        ensures { OnOk result (self.new ≡ with_line self.old label.now [] (C.observed self.old.state value.now)) }
+        ensures { OnOk result (self.new
+            ≡ with_line self.old label.now [] (C.observed self.old.state value.now)) }
     {
         self.challenger.observe(value);
         self.line(label, &[])
@@ -98,7 +100,8 @@ impl<C, EF> Steps<C, EF> {
     pub(crate) fn public<T>(&mut self, label: &[u8], values: &[T]) -> Mem<()>
     where
         C: CanObserve<T>,
-        ensures { OnOk result (self.new ≡ with_line self.old label.now [] (fold C.observed self.old.state values.now)) }
+        ensures { OnOk result (self.new
+            ≡ with_line self.old label.now [] (fold C.observed self.old.state values.now)) }
     {
         self.challenger.observe_slice(values);
         self.line(label, &[])
@@ -114,7 +117,8 @@ impl<C, EF> Steps<C, EF> {
         EF: BasedVectorSpace<F>,
         C: CanSample<EF>,
         ensures { OnOk result (self.new
-            ≡ with_challenge (λ x. map F.canonical (EF.coefficients x)) self.old label.now (C.drawn self.old.state) (C.after_draw self.old.state)) }
+            ≡ with_challenge (λ x. map F.canonical (EF.coefficients x)) self.old label.now
+            (C.drawn self.old.state) (C.after_draw self.old.state)) }
     {
         let value: EF = self.challenger.sample();
         let coefficients = coefficients_of::<F, EF>(alloc, value)?;
@@ -130,8 +134,11 @@ impl<C, EF> Steps<C, EF> {
     where
         C: GrindingChallenger,
         requires { 2 ^ bits < C.Witness.ORDER_U64 }
-        ensures state { IfOk result (λ b. self.new ≡ with_test self.old label.now b (checked_state C.observed C.after_bits self.old.state bits value)) }
-        ensures answer { IfOk result (λ b. IsTrue b ↔ PassesGrinding C.observed C.bits_drawn self.old.state bits value) }
+        ensures state { IfOk result
+            (λ b. self.new ≡ with_test self.old label.now b
+            (checked_state C.observed C.after_bits self.old.state bits value)) }
+        ensures answer { IfOk result
+            (λ b. IsTrue b ↔ PassesGrinding C.observed C.bits_drawn self.old.state bits value) }
     {
         let passes = self.challenger.check_witness(bits, value);
         let rest: &[u8] = if passes { b" passes" } else { b" fails" };

@@ -64,7 +64,8 @@ fn nonzero_places<F: Field>(alloc: Global, values: &[F]) -> Mem<Vec<usize>>
 // The values of the periodic columns at a row.
 fn periodic_at<F: Field>(alloc: Global, columns: &[Vec<F>], row: usize) -> Mem<Vec<F>>
     requires { All (λ c. 0 < length c.items) columns.now }
-    ensures { IfOk result (λ v. v.items ≡ periodic_row F.ring.zero (map (λ c. c.items) columns.now) row) }
+    ensures { IfOk result (λ v.
+        v.items ≡ periodic_row F.ring.zero (map (λ c. c.items) columns.now) row) }
 {
     let mut values = Vec::new(alloc);
     for column in columns {
@@ -120,7 +121,8 @@ fn row_of<'a, F: Field, EF: ExtensionField<F>>(
     requires preprocessed { IfSome preprocessed (λ m. height m.now ≡ height main.now) }
     requires columns { 0 < length lookups.now → height columns.now ≡ height main.now }
     ensures main { length result.main_local ≡ main.now.width }
-    ensures preprocessed { length result.preprocessed_local ≡ width_of (option_map (λ m. m.now) preprocessed.entry) }
+    ensures preprocessed { length result.preprocessed_local
+        ≡ width_of (option_map (λ m. m.now) preprocessed.entry) }
     ensures periodic { result.periodic ≡ periodic.now }
     ensures public { result.public_values ≡ public_values.now }
     ensures columns { 0 < length lookups.now → length result.permutation_local ≡ columns.now.width }
@@ -128,7 +130,8 @@ fn row_of<'a, F: Field, EF: ExtensionField<F>>(
     ensures terminals { result.terminals ≡ terminals.now }
     ensures row { (periods : List (List F)) → periodic.now ≡ periodic_row F.ring.zero periods row
         → result ≡ batch_row F.ring.zero
-        (checked_table (table_traces main.now (option_map (λ m. m.now) preprocessed.entry) periods public_values.now) (read_all lookups.now) columns.now challenges.now terminals.now) row }
+        (checked_table (table_traces main.now (option_map (λ m. m.now) preprocessed.entry) periods
+        public_values.now) (read_all lookups.now) columns.now challenges.now terminals.now) row }
 {
     let height = main.height();
     let next = (row + 1) % height;
@@ -165,7 +168,8 @@ fn failing_places<F: Field, EF: ExtensionField<F>, A: Air<F>, LG: LookupProtocol
     requires row { row < height main.now }
     requires width { main.now.width ≡ (A.declaration air.now).width }
     requires preprocessed { IfSome preprocessed (λ m. height m.now ≡ height main.now) }
-    requires preprocessed_width { width_of (option_map (λ m. m.now) preprocessed) ≡ width_of (A.declaration air.now).preprocessed }
+    requires preprocessed_width { width_of (option_map (λ m. m.now) preprocessed)
+        ≡ width_of (A.declaration air.now).preprocessed }
     requires public { length public_values.now ≡ (A.declaration air.now).public_values }
     requires periodic { All (λ c. 0 < length c) (A.declaration air.now).periodic }
     requires lookups { AreLookupsOf (A.declaration air.now) (read_all lookups.now) }
@@ -173,9 +177,12 @@ fn failing_places<F: Field, EF: ExtensionField<F>, A: Air<F>, LG: LookupProtocol
     requires columns_width { 0 < length lookups.now → columns.now.width ≡ length lookups.now + 1 }
     requires challenges { length challenges.now ≡ 2 * length lookups.now }
     requires terminals { 0 < length lookups.now → length terminals.now ≡ 1 }
-    ensures { let table = checked_table (table_traces main.now (option_map (λ m. m.now) preprocessed.entry) (A.declaration air.now).periodic public_values.now)
+    ensures { let table = checked_table
+        (table_traces main.now (option_map (λ m. m.now) preprocessed.entry)
+        (A.declaration air.now).periodic public_values.now)
         (read_all lookups.now) columns.now challenges.now terminals.now in
-        IfOk result (λ v. AreNonzero EF.ring (batch_values F.ring EF.ring EF.embed table (A.trees air.now) row) v.items) }
+        IfOk result (λ v. AreNonzero EF.ring
+        (batch_values F.ring EF.ring EF.embed table (A.trees air.now) row) v.items) }
 {
     let periodic = periodic_at(alloc, air.periodic_columns(), row)?;
     let values = row_of(
@@ -221,14 +228,18 @@ pub fn check_constraints<F: Field, EF: ExtensionField<F>, A: Air<F>, LG: LookupP
 ) -> Result<(), CheckFailure>
     requires rows { 0 < height main.now }
     requires width { main.now.width ≡ (A.declaration air.now).width }
-    requires preprocessed_width { width_of (option_map (λ m. m.now) preprocessed) ≡ width_of (A.declaration air.now).preprocessed }
+    requires preprocessed_width { width_of (option_map (λ m. m.now) preprocessed)
+        ≡ width_of (A.declaration air.now).preprocessed }
     requires public { length public_values.now ≡ (A.declaration air.now).public_values }
     requires periodic { All (λ c. 0 < length c) (A.declaration air.now).periodic }
     requires lookups { AreLookupsOf (A.declaration air.now) (read_all lookups.now) }
-    requires permutation_width { 0 < length lookups.now → permutation.now.width ≡ length lookups.now + 1 }
+    requires permutation_width { 0 < length lookups.now
+        → permutation.now.width ≡ length lookups.now + 1 }
     requires challenges { length permutation_challenges.now ≡ 2 * length lookups.now }
     requires terminals { 0 < length lookups.now → length permutation_values.now ≡ 1 }
-    ensures { let table = checked_table (table_traces main.now (option_map (λ m. m.now) preprocessed.entry) (A.declaration air.now).periodic public_values.now)
+    ensures { let table = checked_table
+        (table_traces main.now (option_map (λ m. m.now) preprocessed.entry)
+        (A.declaration air.now).periodic public_values.now)
         (read_all lookups.now) permutation.now permutation_challenges.now permutation_values.now in
         IsBatchChecked F.ring EF.ring EF.embed table (A.trees air.now) result }
 {

@@ -20,12 +20,18 @@ pub trait Settings: StarkGenericConfig {
     ghost setting: { Self → Setting Self.Challenger Self.Val Self.Challenge Self.Pcs.Commitment };
 
     // the backend's verifier
-    ghost backend: { Self → Backend Self.Challenger Self.Val Self.Challenge Self.Pcs.Commitment Self.Pcs.Proof Self.Pcs.Error };
+    ghost backend: { Self → Backend Self.Challenger Self.Val Self.Challenge Self.Pcs.Commitment
+        Self.Pcs.Proof Self.Pcs.Error };
 }
 
 impl<SC: StarkGenericConfig> Settings for SC {
     ghost setting = { λ config. record {
-      field = record { ring = SC.Val.ring; inv = SC.Val.inv; root = SC.Val.root; generator = SC.Val.GENERATOR };
+      field = record {
+        ring = SC.Val.ring;
+        inv = SC.Val.inv;
+        root = SC.Val.root;
+        generator = SC.Val.GENERATOR;
+      };
       two_adicity = SC.Val.TWO_ADICITY;
       order = SC.Val.ORDER_U64;
       extension = record {
@@ -46,5 +52,9 @@ impl<SC: StarkGenericConfig> Settings for SC {
       version = SC.version config;
     } };
 
-    ghost backend = { λ config. record { opens = SC.Pcs.opens (SC.pcs_of config); fault = SC.Pcs.fault (SC.pcs_of config) } };
+    ghost backend = { λ config.
+        record {
+          opens = SC.Pcs.opens (SC.pcs_of config);
+          fault = SC.Pcs.fault (SC.pcs_of config);
+        } };
 }

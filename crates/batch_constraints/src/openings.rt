@@ -31,8 +31,10 @@ pub fn num_batched_openings(
     challenge_dimension: usize,
     openings: OpeningShape,
 ) -> usize
-    requires fits { batched_count main_width main_next preprocessed_width preprocessed_next num_quotient_chunks num_lookups challenge_dimension * powers openings < 2 ^ 64 }
-    ensures { result ≡ batched_count main_width main_next preprocessed_width preprocessed_next num_quotient_chunks num_lookups challenge_dimension * powers openings }
+    requires fits { batched_count main_width main_next preprocessed_width preprocessed_next
+        num_quotient_chunks num_lookups challenge_dimension * powers openings < 2 ^ 64 }
+    ensures { result ≡ batched_count main_width main_next preprocessed_width preprocessed_next
+        num_quotient_chunks num_lookups challenge_dimension * powers openings }
 {
     let own = num_own_openings(
         main_width,

@@ -38,7 +38,8 @@ fn table_multiple<F: Field, A: Air<F>, LG: LookupProtocol>(
 ) -> Mem<usize>
     requires layout { layout ≡ layout_of (A.declaration air.now) }
     requires lookups { AreLookupsOf (A.declaration air.now) (read_all contexts.now) }
-    ensures { IfOk result (λ d. d ≡ largest_multiple t (table_trees F.ring (A.trees air.now) (read_all contexts.now))) }
+    ensures { IfOk result (λ d.
+        d ≡ largest_multiple t (table_trees F.ring (A.trees air.now) (read_all contexts.now))) }
 {
     let builder = recorded(alloc, air, layout, contexts, lookup_gadget)?;
     builder.largest_degree_multiple(t)
@@ -56,7 +57,9 @@ fn table_degree<F: Field, A: Air<F>, LG: LookupProtocol>(
     requires layout { layout ≡ layout_of (A.declaration air.now) }
     requires lookups { AreLookupsOf (A.declaration air.now) (read_all contexts.now) }
     requires rows { 0 < trace_len }
-    ensures { IfOk result (λ d. d ≡ largest_degree trace_len (periods_of (A.declaration air.now)) (table_trees F.ring (A.trees air.now) (read_all contexts.now))) }
+    ensures { IfOk result (λ d.
+        d ≡ largest_degree trace_len (periods_of (A.declaration air.now))
+        (table_trees F.ring (A.trees air.now) (read_all contexts.now))) }
 {
     let builder = recorded(alloc, air, layout, contexts, lookup_gadget)?;
     let periods = lengths(alloc, air.periodic_columns())?;
@@ -79,7 +82,9 @@ pub fn get_max_constraint_degree<F: Field, A: Air<F>, LG: LookupProtocol>(
     requires layout { layout ≡ layout_of (A.declaration air.now) }
     requires lookups { AreLookupsOf (A.declaration air.now) (read_all contexts.now) }
     requires rows { 0 < trace_len }
-    ensures { IfOk result (λ d. d ≡ constraint_degree trace_len (periods_of (A.declaration air.now)) (table_trees F.ring (A.trees air.now) (read_all contexts.now))) }
+    ensures { IfOk result (λ d.
+        d ≡ constraint_degree trace_len (periods_of (A.declaration air.now))
+        (table_trees F.ring (A.trees air.now) (read_all contexts.now))) }
 {
     if layout.num_periodic_columns == 0 {
         return table_multiple(alloc, air, layout, 0, contexts, lookup_gadget);
@@ -129,10 +134,15 @@ pub fn get_log_num_quotient_chunks<F: Field, A: Air<F>, LG: LookupProtocol>(
     requires rows { 0 < trace_len }
     requires masks { is_zk ≤ 1 }
     ensures chunks { let trees = table_trees F.ring (A.trees air.now) (read_all contexts.now) in
-        IfOk result (λ k. k ≡ log_chunks is_zk (with_hint (A.declaration air.now) (constraint_degree trace_len (periods_of (A.declaration air.now)) trees))) }
+        IfOk result (λ k. k ≡ log_chunks is_zk
+        (with_hint (A.declaration air.now)
+        (constraint_degree trace_len (periods_of (A.declaration air.now)) trees))) }
     ensures fits { let trees = table_trees F.ring (A.trees air.now) (read_all contexts.now) in
-        let degree = with_hint (A.declaration air.now) (constraint_degree trace_len (periods_of (A.declaration air.now)) trees) in
-        (A.declaration air.now).periodic ≡ [] → IfOk result (λ k. FewTransitionsFit (periods_of (A.declaration air.now)) degree (2 ^ k) trees) }
+        let degree = with_hint (A.declaration air.now)
+        (constraint_degree trace_len (periods_of (A.declaration air.now)) trees) in
+        (A.declaration air.now).periodic ≡ []
+        → IfOk result (λ k. FewTransitionsFit (periods_of (A.declaration air.now)) degree (2 ^ k)
+        trees) }
 {
     let degree = get_max_constraint_degree(alloc, air, layout, trace_len, contexts, lookup_gadget)?;
     Ok(chunks_of(hinted(air, degree), is_zk))
@@ -162,11 +172,16 @@ pub fn get_log_num_quotient_chunks_for_domain<
     requires points { 0 < D.points domain }
     requires masks { is_zk ≤ 1 }
     ensures chunks { let trees = table_trees F.ring (A.trees air.now) (read_all contexts.now) in
-        IfOk result (λ k. k ≡ log_chunks is_zk (with_hint (A.declaration air.now) (domain_degree (D.transition_degree domain) (D.points domain) (periods_of (A.declaration air.now)) trees))) }
+        IfOk result (λ k. k ≡ log_chunks is_zk
+        (with_hint (A.declaration air.now)
+        (domain_degree (D.transition_degree domain) (D.points domain)
+        (periods_of (A.declaration air.now)) trees))) }
     ensures fits { let trees = table_trees F.ring (A.trees air.now) (read_all contexts.now) in
-        let degree = with_hint (A.declaration air.now) (constraint_degree (D.points domain) (periods_of (A.declaration air.now)) trees) in
+        let degree = with_hint (A.declaration air.now)
+        (constraint_degree (D.points domain) (periods_of (A.declaration air.now)) trees) in
         D.transition_degree domain ≡ 0 → (A.declaration air.now).periodic ≡ []
-        → IfOk result (λ k. FewTransitionsFit (periods_of (A.declaration air.now)) degree (2 ^ k) trees) }
+        → IfOk result (λ k. FewTransitionsFit (periods_of (A.declaration air.now)) degree (2 ^ k)
+        trees) }
 {
     let t = domain.transition_degree_multiple();
     if t == 0 {

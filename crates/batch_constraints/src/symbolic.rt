@@ -38,7 +38,9 @@ pub(crate) fn recorded<F: Field, A: Air<F>, LG: LookupProtocol>(
 ) -> Mem<InteractionSymbolicBuilder<F>>
     requires layout { layout ≡ layout_of (A.declaration air.now) }
     requires lookups { AreLookupsOf (A.declaration air.now) (read_all contexts.now) }
-    ensures { IfOk result (λ b. asserted_at b.nodes b.asserted ≡ batch_trees F.ring (A.trees air.now) (read_all contexts.now)) }
+    ensures { IfOk result (λ b.
+        asserted_at b.nodes b.asserted
+        ≡ batch_trees F.ring (A.trees air.now) (read_all contexts.now)) }
 {
     let layout = with_lookups(layout, contexts.len(), lookup_gadget);
     let mut builder = InteractionSymbolicBuilder::new(alloc, layout)?;
@@ -61,7 +63,8 @@ pub fn get_symbolic_constraints<F: Field, A: Air<F>, LG: LookupProtocol>(
     requires layout { layout ≡ layout_of (A.declaration air.now) }
     requires lookups { AreLookupsOf (A.declaration air.now) (read_all contexts.now) }
     ensures base { IfOk result (λ p. map tree_of p.0.items ≡ A.trees air.now) }
-    ensures extension { IfOk result (λ p. map tree_of p.1.items ≡ lookup_trees F.ring (read_all contexts.now)) }
+    ensures extension { IfOk result
+        (λ p. map tree_of p.1.items ≡ lookup_trees F.ring (read_all contexts.now)) }
 {
     let builder = recorded(alloc, air, layout, contexts, lookup_gadget)?;
     let base = builder.base_constraints(alloc)?;
@@ -81,7 +84,9 @@ pub fn get_constraint_layout<F: Field, A: Air<F>, LG: LookupProtocol>(
 ) -> Mem<ConstraintLayout>
     requires layout { layout ≡ layout_of (A.declaration air.now) }
     requires lookups { AreLookupsOf (A.declaration air.now) (read_all contexts.now) }
-    ensures { IfOk result (λ l. l ≡ places_of (length (A.trees air.now)) (length (lookup_trees F.ring (read_all contexts.now)))) }
+    ensures { IfOk result (λ l.
+        l ≡ places_of (length (A.trees air.now))
+        (length (lookup_trees F.ring (read_all contexts.now)))) }
 {
     let builder = recorded(alloc, air, layout, contexts, lookup_gadget)?;
     builder.constraint_layout(alloc)

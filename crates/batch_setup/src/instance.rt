@@ -28,7 +28,11 @@ impl<'a, F, A> Model for TableInstance<'a, F, A> {
 
     ghost Value = { Instance A F };
 
-    ghost view = { λ i. record { air = i.air.now; trace = i.trace.now; public_values = i.public_values.items } };
+    ghost view = { λ i. record {
+      air = i.air.now;
+      trace = i.trace.now;
+      public_values = i.public_values.items;
+    } };
 }
 
 /// An instance over a configuration (`StarkInstance` of `p3-batch-stark`).
@@ -42,7 +46,8 @@ impl<'a, F: Field, A> TableInstance<'a, F, A> {
         trace: &'a RowMajorMatrix<F>,
         public_values: &[F],
     ) -> Mem<Self>
-        ensures { IfOk result (λ i. i ≡ record { air = air.now; trace = trace.now; public_values = public_values.now }) }
+        ensures { IfOk result (λ i.
+            i ≡ record { air = air.now; trace = trace.now; public_values = public_values.now }) }
     {
         let public_values = public_values.to_vec(alloc)?;
         Ok(TableInstance {
@@ -61,7 +66,8 @@ impl<'a, F: Field, A> TableInstance<'a, F, A> {
     ) -> Mem<Vec<Self>>
         requires traces { length traces.now ≡ length airs.now }
         requires public_values { length public_values.now ≡ length airs.now }
-        ensures { IfOk result (λ v. v.items ≡ instances_of airs.now traces.now (map (λ p. p.items) public_values.now)) }
+        ensures { IfOk result (λ v.
+            v.items ≡ instances_of airs.now traces.now (map (λ p. p.items) public_values.now)) }
     {
         let mut instances = Vec::with_capacity(alloc, airs.len())?;
         for i in 0..airs.len() {
@@ -79,7 +85,9 @@ impl<'a, F: Field, A> TableInstance<'a, F, A> {
         public_values: &[Vec<F>],
     ) -> Result<Vec<Self>, SetupError<E>>
         ensures { let publics = map (λ p. p.items) public_values.now in
-            MatchResult result (λ v. HaveOneLength airs.now traces.now publics × (v.items ≡ instances_of airs.now traces.now publics)) (λ e. IsLengthMismatch airs.now traces.now publics e) }
+            MatchResult result (λ v. HaveOneLength airs.now traces.now publics
+            × (v.items ≡ instances_of airs.now traces.now publics))
+            (λ e. IsLengthMismatch airs.now traces.now publics e) }
     {
         if traces.len() != airs.len() {
             return Err(SetupError::LengthMismatch);

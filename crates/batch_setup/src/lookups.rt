@@ -51,7 +51,9 @@ fn log_chunks_over<F: Field, A: Air<F>>(
     requires fits { bits < 64 }
     requires masks { masks ≤ 1 }
     requires lookups { AreLookupsOf (A.declaration air.now) (read_all lookups.now) }
-    ensures { IfOk result (λ k. k ≡ log_chunks_with F.ring masks bits (source_of A.declaration A.trees A.interactions air.now) (read_all lookups.now)) }
+    ensures { IfOk result (λ k.
+        k ≡ log_chunks_with F.ring masks bits
+        (source_of A.declaration A.trees A.interactions air.now) (read_all lookups.now)) }
 {
     let layout = AirLayout::from_air::<F, A>(air);
     let gadget = LogUpGadget::new();
@@ -79,9 +81,13 @@ fn packed_lookups<F: Field, A: Air<F>>(
     requires masked { masks ≤ bits }
     requires fits { bits < 64 }
     requires masks { masks ≤ 1 }
-    ensures lookups { IfOk result (λ p. read_all p.0 ≡ packed_lookups_of F.ring masks bits asked (source_of A.declaration A.trees A.interactions air.now)) }
+    ensures lookups { IfOk result
+        (λ p. read_all p.0 ≡ packed_lookups_of F.ring masks bits asked
+        (source_of A.declaration A.trees A.interactions air.now)) }
     ensures fit { IfOk result (λ p. AreLookupsOf (A.declaration air.now) (read_all p.0)) }
-    ensures budget { IfOk result (λ p. p.1 ≡ min (own_budget F.ring masks bits (source_of A.declaration A.trees A.interactions air.now)) (2 ^ 64 - 1)) }
+    ensures budget { IfOk result
+        (λ p. p.1 ≡ min (own_budget F.ring masks bits
+        (source_of A.declaration A.trees A.interactions air.now)) (2 ^ 64 - 1)) }
 {
     let lookups = own_lookups(alloc, air)?;
     let log_chunks = log_chunks_over(alloc, air, &lookups, bits, masks)?;
@@ -128,7 +134,9 @@ fn check_budget<F: Field, A: Air<F>, E>(
     requires fits { bits < 64 }
     requires masks { masks ≤ 1 }
     requires lookups { AreLookupsOf (A.declaration air.now) (read_all packed.now) }
-    ensures { IsSetUp (limit_checks masks log_blowup instance own asked (log_chunks_with F.ring masks bits (source_of A.declaration A.trees A.interactions air.now) (read_all packed.now))) result }
+    ensures { IsSetUp (limit_checks masks log_blowup instance own asked
+        (log_chunks_with F.ring masks bits (source_of A.declaration A.trees A.interactions air.now)
+        (read_all packed.now))) result }
 {
     if asked <= own {
         return Ok(());
@@ -151,8 +159,12 @@ fn table_lookups<F: Field, A: Air<F>, E>(
     requires masked { masks ≤ bits }
     requires fits { bits < 64 }
     requires masks { masks ≤ 1 }
-    ensures verdict { IsSetUp (budget_checks F.ring masks log_blowup instance bits asked (source_of A.declaration A.trees A.interactions air.now)) result }
-    ensures lookups { IfOk result (λ l. read_all l ≡ packed_lookups_of F.ring masks bits asked (source_of A.declaration A.trees A.interactions air.now)) }
+    ensures verdict { IsSetUp
+        (budget_checks F.ring masks log_blowup instance bits asked
+        (source_of A.declaration A.trees A.interactions air.now)) result }
+    ensures lookups { IfOk result
+        (λ l. read_all l ≡ packed_lookups_of F.ring masks bits asked
+        (source_of A.declaration A.trees A.interactions air.now)) }
 {
     let (packed, own) = packed_lookups(alloc, air, bits, asked, masks)?;
     check_budget(
@@ -177,8 +189,14 @@ fn lookups_at<F: Field, A: Air<F>, E>(
     requires masked { masks ≤ get_or degree_bits.now instance 0 }
     requires fits { get_or degree_bits.now instance 0 < 64 }
     requires masks { masks ≤ 1 }
-    ensures verdict { IsSetUp (budget_at F.ring masks log_blowup (map (source_of A.declaration A.trees A.interactions) airs.now) degree_bits.now budgets.now instance) result }
-    ensures lookups { IfOk result (λ l. read_all l ≡ packed_at F.ring masks (map (source_of A.declaration A.trees A.interactions) airs.now) degree_bits.now budgets.now instance) }
+    ensures verdict { IsSetUp
+        (budget_at F.ring masks log_blowup
+        (map (source_of A.declaration A.trees A.interactions) airs.now) degree_bits.now budgets.now
+        instance) result }
+    ensures lookups { IfOk result
+        (λ l. read_all l ≡ packed_at F.ring masks
+        (map (source_of A.declaration A.trees A.interactions) airs.now) degree_bits.now budgets.now
+        instance) }
 {
     table_lookups(
         alloc,
@@ -206,9 +224,15 @@ pub(crate) fn batch_lookups<F: Field, A: Air<F>, E>(
     requires masked { (i : ℕ) → i < length airs.now → masks ≤ get_or degree_bits.now i 0 }
     requires fits { (i : ℕ) → i < length airs.now → get_or degree_bits.now i 0 < 64 }
     requires masks { masks ≤ 1 }
-    ensures verdict { IsSetUp (in_turn (length airs.now) (budget_at F.ring masks log_blowup (map (source_of A.declaration A.trees A.interactions) airs.now) degree_bits.now budgets.now)) result }
+    ensures verdict { IsSetUp
+        (in_turn (length airs.now)
+        (budget_at F.ring masks log_blowup
+        (map (source_of A.declaration A.trees A.interactions) airs.now) degree_bits.now
+        budgets.now)) result }
     ensures lookups { IfOk result (λ v. map read_all v.items
-        ≡ tabulate (length airs.now) (packed_at F.ring masks (map (source_of A.declaration A.trees A.interactions) airs.now) degree_bits.now budgets.now)) }
+        ≡ tabulate (length airs.now)
+        (packed_at F.ring masks (map (source_of A.declaration A.trees A.interactions) airs.now)
+        degree_bits.now budgets.now)) }
 {
     let mut lookups = Vec::new(alloc);
     for instance in 0..airs.len() {

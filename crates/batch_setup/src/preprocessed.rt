@@ -55,7 +55,8 @@ fn table_trace<F: Field, A: BaseAir<F>, E>(
     masks: usize,
 ) -> Result<Option<RowMajorMatrix<F>>, SetupError<E>>
     requires { bits < 64 }
-    ensures verdict { IsSetUp (height_checks masks instance bits (A.declaration air.now).preprocessed) result }
+    ensures verdict { IsSetUp
+        (height_checks masks instance bits (A.declaration air.now).preprocessed) result }
     ensures trace { IfOk result (λ t. t ≡ (A.declaration air.now).preprocessed) }
 {
     let trace = air.preprocessed_trace(alloc)?;
@@ -113,7 +114,8 @@ fn with_trace<SC: StarkGenericConfig>(
 ) -> Mem<Vec<(Domain<SC>, RowMajorMatrix<Val<SC>>)>>
     requires fits { bits < 64 }
     requires two_adic { bits ≤ SC.Val.TWO_ADICITY }
-    ensures { IfOk result (λ v. v.items ≡ evaluations.items ++ on_domain SC.Val.ring.one bits trace) }
+    ensures { IfOk result (λ v.
+        v.items ≡ evaluations.items ++ on_domain SC.Val.ring.one bits trace) }
 {
     match trace {
         None => Ok(evaluations),
@@ -137,8 +139,12 @@ fn trace_of_table<F: Field, A: Air<F>, E>(
     requires airs { instance < length airs.now }
     requires bits { instance < length degree_bits.now }
     requires fits { get_or degree_bits.now instance 0 < 64 }
-    ensures verdict { IsSetUp (height_at masks (map (source_of A.declaration A.trees A.interactions) airs.now) degree_bits.now instance) result }
-    ensures trace { IfOk result (λ t. t ≡ trace_at (map (source_of A.declaration A.trees A.interactions) airs.now) instance) }
+    ensures verdict { IsSetUp
+        (height_at masks (map (source_of A.declaration A.trees A.interactions) airs.now)
+        degree_bits.now instance) result }
+    ensures trace { IfOk result
+        (λ t. t ≡ trace_at (map (source_of A.declaration A.trees A.interactions) airs.now)
+        instance) }
 {
     table_trace(
         alloc,
@@ -166,10 +172,20 @@ fn batch_traces<SC: StarkGenericConfig, A: Air<Val<SC>>, R>(
 >
     requires bits { length degree_bits.now ≡ length airs.now }
     requires fits { (i : ℕ) → i < length airs.now → get_or degree_bits.now i 0 < 64 }
-    requires two_adic { (i : ℕ) → i < length airs.now → get_or degree_bits.now i 0 ≤ SC.Val.TWO_ADICITY }
-    ensures verdict { IsSetUp (in_turn (length airs.now) (height_at masks (map (source_of A.declaration A.trees A.interactions) airs.now) degree_bits.now)) result }
-    ensures entries { IfOk result (λ p. p.0.items ≡ tabulate (length airs.now) (entry_at SC.Val.ring.one (map (source_of A.declaration A.trees A.interactions) airs.now) degree_bits.now)) }
-    ensures committed { IfOk result (λ p. p.1.items ≡ committed_below SC.Val.ring.one (map (source_of A.declaration A.trees A.interactions) airs.now) degree_bits.now (length airs.now)) }
+    requires two_adic { (i : ℕ) → i < length airs.now
+        → get_or degree_bits.now i 0 ≤ SC.Val.TWO_ADICITY }
+    ensures verdict { IsSetUp
+        (in_turn (length airs.now)
+        (height_at masks (map (source_of A.declaration A.trees A.interactions) airs.now)
+        degree_bits.now)) result }
+    ensures entries { IfOk result
+        (λ p. p.0.items ≡ tabulate (length airs.now)
+        (entry_at SC.Val.ring.one (map (source_of A.declaration A.trees A.interactions) airs.now)
+        degree_bits.now)) }
+    ensures committed { IfOk result
+        (λ p. p.1.items ≡ committed_below SC.Val.ring.one
+        (map (source_of A.declaration A.trees A.interactions) airs.now) degree_bits.now
+        (length airs.now)) }
 {
     let mut entries = Vec::new(alloc);
     let mut evaluations = Vec::new(alloc);
@@ -196,11 +212,15 @@ fn committed<SC: StarkGenericConfig>(
     ),
     SetupError<PcsProverError<SC>>,
 >
-    ensures verdict { IsSetUp (commit_checks (SC.Pcs.commit_fault (SC.pcs_of config.now)) evaluations.items) result }
+    ensures verdict { IsSetUp
+        (commit_checks (SC.Pcs.commit_fault (SC.pcs_of config.now)) evaluations.items) result }
     ensures data { IfOk result (λ w. IsPrepared
-        (λ es p. IsCommitment SC.Val.ring ⟦<<SC::Pcs as Pcs<SC::Challenge, SC::Challenger>>::Domain as PolynomialSpace>⟧.points
-        ⟦<<SC::Pcs as Pcs<SC::Challenge, SC::Challenger>>::Domain as PolynomialSpace>⟧.point_at (SC.Pcs.commits (SC.pcs_of config.now))
-        (SC.Pcs.made (SC.pcs_of config.now)) (SC.Pcs.holds (SC.pcs_of config.now)) es p) entries.items evaluations.items w.0 w.1) }
+        (λ es p. IsCommitment SC.Val.ring
+        ⟦<<SC::Pcs as Pcs<SC::Challenge, SC::Challenger>>::Domain as PolynomialSpace>⟧.points
+        ⟦<<SC::Pcs as Pcs<SC::Challenge, SC::Challenger>>::Domain as PolynomialSpace>⟧.point_at
+        (SC.Pcs.commits (SC.pcs_of config.now))
+        (SC.Pcs.made (SC.pcs_of config.now)) (SC.Pcs.holds (SC.pcs_of config.now)) es p)
+        entries.items evaluations.items w.0 w.1) }
 {
     if evaluations.is_empty() {
         return Ok((None, None));
@@ -239,15 +259,21 @@ pub(crate) fn prepared<SC: StarkGenericConfig, A: Air<Val<SC>>>(
 >
     requires bits { length degree_bits.now ≡ length airs.now }
     requires fits { (i : ℕ) → i < length airs.now → get_or degree_bits.now i 0 < 64 }
-    requires two_adic { (i : ℕ) → i < length airs.now → get_or degree_bits.now i 0 ≤ SC.Val.TWO_ADICITY }
+    requires two_adic { (i : ℕ) → i < length airs.now
+        → get_or degree_bits.now i 0 ≤ SC.Val.TWO_ADICITY }
     ensures verdict { let sources = map (source_of A.declaration A.trees A.interactions) airs.now in
-        IsSetUp (in_turn (length airs.now) (height_at masks sources degree_bits.now) ++ commit_checks (SC.Pcs.commit_fault (SC.pcs_of config.now))
+        IsSetUp (in_turn (length airs.now) (height_at masks sources degree_bits.now)
+        ++ commit_checks (SC.Pcs.commit_fault (SC.pcs_of config.now))
         (committed_below SC.Val.ring.one sources degree_bits.now (length airs.now))) result }
     ensures data { let sources = map (source_of A.declaration A.trees A.interactions) airs.now in
-        IfOk result (λ w. IsPrepared (λ es p. IsCommitment SC.Val.ring ⟦<<SC::Pcs as Pcs<SC::Challenge, SC::Challenger>>::Domain as PolynomialSpace>⟧.points
-        ⟦<<SC::Pcs as Pcs<SC::Challenge, SC::Challenger>>::Domain as PolynomialSpace>⟧.point_at (SC.Pcs.commits (SC.pcs_of config.now))
+        IfOk result (λ w. IsPrepared
+        (λ es p. IsCommitment SC.Val.ring
+        ⟦<<SC::Pcs as Pcs<SC::Challenge, SC::Challenger>>::Domain as PolynomialSpace>⟧.points
+        ⟦<<SC::Pcs as Pcs<SC::Challenge, SC::Challenger>>::Domain as PolynomialSpace>⟧.point_at
+        (SC.Pcs.commits (SC.pcs_of config.now))
         (SC.Pcs.made (SC.pcs_of config.now)) (SC.Pcs.holds (SC.pcs_of config.now)) es p)
-        (tabulate (length airs.now) (entry_at SC.Val.ring.one sources degree_bits.now)) (committed_below SC.Val.ring.one sources degree_bits.now (length airs.now)) w.0 w.1) }
+        (tabulate (length airs.now) (entry_at SC.Val.ring.one sources degree_bits.now))
+        (committed_below SC.Val.ring.one sources degree_bits.now (length airs.now)) w.0 w.1) }
 {
     let (entries, evaluations) = batch_traces(alloc, config, airs, degree_bits, masks)?;
     committed(alloc, config, entries, evaluations)

@@ -49,7 +49,8 @@ impl<PD> PreprocessedProverData<PD> {
 impl<F: Field, Com, PD> SetupData<F, Com, PD> {
     /// The data of so many tables without preprocessed columns and without lookups (`ProverData::empty`).
     pub fn empty(alloc: Global, n: usize) -> Mem<Self>
-        ensures common { IfOk result (λ d. d.common ≡ record { preprocessed = None; lookups = replicate n [] }) }
+        ensures common { IfOk result
+            (λ d. d.common ≡ record { preprocessed = None; lookups = replicate n [] }) }
         ensures prover_data { IfOk result (λ d. d.prover_only.preprocessed_prover_data ≡ None) }
     {
         let common = SharedData::empty(alloc, n)?;

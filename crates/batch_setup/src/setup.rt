@@ -35,7 +35,8 @@ fn check_lengths<A, E>(
     degree_bits: &[usize],
     budgets: &[usize],
 ) -> Result<(), SetupError<E>>
-    ensures verdict { IsSetUp (length_checks (length airs.now) (length degree_bits.now) (length budgets.now)) result }
+    ensures verdict { IsSetUp
+        (length_checks (length airs.now) (length degree_bits.now) (length budgets.now)) result }
     ensures no_memory { IfErr result (λ e. e ≡ SetupError.LengthMismatch) }
 {
     if degree_bits.len() != airs.len() || budgets.len() != airs.len() {
@@ -66,19 +67,30 @@ fn tables_data<SC: StarkGenericConfig, A: Air<Val<SC>>>(
     requires masks { masks ≤ 1 }
     requires masked { (i : ℕ) → i < length airs.now → masks ≤ get_or degree_bits.now i 0 }
     requires fits { (i : ℕ) → i < length airs.now → get_or degree_bits.now i 0 < 64 }
-    requires two_adic { (i : ℕ) → i < length airs.now → get_or degree_bits.now i 0 ≤ SC.Val.TWO_ADICITY }
+    requires two_adic { (i : ℕ) → i < length airs.now
+        → get_or degree_bits.now i 0 ≤ SC.Val.TWO_ADICITY }
     requires widths { HaveOneWidth (flat_map (λ a. lookups_of (A.interactions a)) airs.now) }
     ensures verdict { let sources = map (source_of A.declaration A.trees A.interactions) airs.now in
-        IsSetUp (table_setup_checks SC.Val.ring masks log_blowup (SC.Pcs.commit_fault (SC.pcs_of config.now)) sources degree_bits.now budgets.now (length airs.now)) result }
+        IsSetUp (table_setup_checks SC.Val.ring masks log_blowup
+        (SC.Pcs.commit_fault (SC.pcs_of config.now)) sources degree_bits.now budgets.now
+        (length airs.now)) result }
     ensures lookups { let sources = map (source_of A.declaration A.trees A.interactions) airs.now in
-        IfOk result (λ d. map read_all d.common.lookups ≡ tabulate (length airs.now) (packed_at SC.Val.ring masks sources degree_bits.now budgets.now)) }
-    ensures preprocessed { let sources = map (source_of A.declaration A.trees A.interactions) airs.now in
-        IfOk result (λ d. IsPrepared (λ es p. IsCommitment SC.Val.ring ⟦<<SC::Pcs as Pcs<SC::Challenge, SC::Challenger>>::Domain as PolynomialSpace>⟧.points
-        ⟦<<SC::Pcs as Pcs<SC::Challenge, SC::Challenger>>::Domain as PolynomialSpace>⟧.point_at (SC.Pcs.commits (SC.pcs_of config.now))
+        IfOk result (λ d. map read_all d.common.lookups
+        ≡ tabulate (length airs.now)
+        (packed_at SC.Val.ring masks sources degree_bits.now budgets.now)) }
+    ensures preprocessed { let sources = map (source_of A.declaration A.trees A.interactions)
+        airs.now in
+        IfOk result (λ d. IsPrepared
+        (λ es p. IsCommitment SC.Val.ring
+        ⟦<<SC::Pcs as Pcs<SC::Challenge, SC::Challenger>>::Domain as PolynomialSpace>⟧.points
+        ⟦<<SC::Pcs as Pcs<SC::Challenge, SC::Challenger>>::Domain as PolynomialSpace>⟧.point_at
+        (SC.Pcs.commits (SC.pcs_of config.now))
         (SC.Pcs.made (SC.pcs_of config.now)) (SC.Pcs.holds (SC.pcs_of config.now)) es p)
         (tabulate (length airs.now) (entry_at SC.Val.ring.one sources degree_bits.now))
-        (committed_below SC.Val.ring.one sources degree_bits.now (length airs.now)) d.common.preprocessed d.prover_only.preprocessed_prover_data) }
-    ensures formed { IfOk result (λ d. WellFormed (map A.declaration airs.now) (read_common d.common)) }
+        (committed_below SC.Val.ring.one sources degree_bits.now (length airs.now))
+        d.common.preprocessed d.prover_only.preprocessed_prover_data) }
+    ensures formed { IfOk result
+        (λ d. WellFormed (map A.declaration airs.now) (read_common d.common)) }
 {
     let (preprocessed, made_prover_data) = prepared(alloc, config, airs, degree_bits, masks)?;
     let lookups = batch_lookups(alloc, airs, degree_bits, budgets, masks, log_blowup)?;
@@ -118,23 +130,39 @@ impl<F, Com, PD> SetupData<F, Com, PD> {
         lookup_budget_overrides: &[usize],
         log_blowup: usize,
     ) -> Result<ProverData<SC>, SetupError<PcsProverError<SC>>>
-        requires bits { AreWithinBounds (SC.Pcs.log_min (SC.pcs_of config.now) + cond SC.Pcs.ZK 1 0) (SC.Pcs.log_max (SC.pcs_of config.now)) trace_ext_degree_bits.now }
+        requires bits { AreWithinBounds (SC.Pcs.log_min (SC.pcs_of config.now) + cond SC.Pcs.ZK 1 0)
+            (SC.Pcs.log_max (SC.pcs_of config.now)) trace_ext_degree_bits.now }
         requires widths { HaveOneWidth (flat_map (λ a. lookups_of (A.interactions a)) airs.now) }
-        ensures verdict { let sources = map (source_of A.declaration A.trees A.interactions) airs.now in
-            IsSetUp (length_checks (length airs.now) (length trace_ext_degree_bits.now) (length lookup_budget_overrides.now)
+        ensures verdict { let sources = map (source_of A.declaration A.trees A.interactions)
+            airs.now in
+            IsSetUp (length_checks (length airs.now) (length trace_ext_degree_bits.now)
+            (length lookup_budget_overrides.now)
             ++ table_setup_checks SC.Val.ring (cond SC.Pcs.ZK 1 0) log_blowup
-            (SC.Pcs.commit_fault (SC.pcs_of config.now)) sources trace_ext_degree_bits.now lookup_budget_overrides.now (length airs.now)) result }
+            (SC.Pcs.commit_fault (SC.pcs_of config.now)) sources trace_ext_degree_bits.now
+            lookup_budget_overrides.now (length airs.now)) result }
         ensures memory { IfErr result (λ e. e ≡ SetupError.OutOfMemory
-            → (length trace_ext_degree_bits.now ≡ length airs.now) × (length lookup_budget_overrides.now ≡ length airs.now)) }
-        ensures lookups { let sources = map (source_of A.declaration A.trees A.interactions) airs.now in
-            IfOk result (λ d. map read_all d.common.lookups ≡ tabulate (length airs.now) (packed_at SC.Val.ring (cond SC.Pcs.ZK 1 0) sources trace_ext_degree_bits.now lookup_budget_overrides.now)) }
-        ensures preprocessed { let sources = map (source_of A.declaration A.trees A.interactions) airs.now in
-            IfOk result (λ d. IsPrepared (λ es p. IsCommitment SC.Val.ring ⟦<<SC::Pcs as Pcs<SC::Challenge, SC::Challenger>>::Domain as PolynomialSpace>⟧.points
-            ⟦<<SC::Pcs as Pcs<SC::Challenge, SC::Challenger>>::Domain as PolynomialSpace>⟧.point_at (SC.Pcs.commits (SC.pcs_of config.now))
+            → (length trace_ext_degree_bits.now ≡ length airs.now)
+            × (length lookup_budget_overrides.now ≡ length airs.now)) }
+        ensures lookups { let sources = map (source_of A.declaration A.trees A.interactions)
+            airs.now in
+            IfOk result (λ d. map read_all d.common.lookups
+            ≡ tabulate (length airs.now)
+            (packed_at SC.Val.ring (cond SC.Pcs.ZK 1 0) sources trace_ext_degree_bits.now
+            lookup_budget_overrides.now)) }
+        ensures preprocessed { let sources = map (source_of A.declaration A.trees A.interactions)
+            airs.now in
+            IfOk result (λ d. IsPrepared
+            (λ es p. IsCommitment SC.Val.ring
+            ⟦<<SC::Pcs as Pcs<SC::Challenge, SC::Challenger>>::Domain as PolynomialSpace>⟧.points
+            ⟦<<SC::Pcs as Pcs<SC::Challenge, SC::Challenger>>::Domain as PolynomialSpace>⟧.point_at
+            (SC.Pcs.commits (SC.pcs_of config.now))
             (SC.Pcs.made (SC.pcs_of config.now)) (SC.Pcs.holds (SC.pcs_of config.now)) es p)
-            (tabulate (length airs.now) (entry_at SC.Val.ring.one sources trace_ext_degree_bits.now))
-            (committed_below SC.Val.ring.one sources trace_ext_degree_bits.now (length airs.now)) d.common.preprocessed d.prover_only.preprocessed_prover_data) }
-        ensures formed { IfOk result (λ d. WellFormed (map A.declaration airs.now) (read_common d.common)) }
+            (tabulate (length airs.now)
+            (entry_at SC.Val.ring.one sources trace_ext_degree_bits.now))
+            (committed_below SC.Val.ring.one sources trace_ext_degree_bits.now (length airs.now))
+            d.common.preprocessed d.prover_only.preprocessed_prover_data) }
+        ensures formed { IfOk result
+            (λ d. WellFormed (map A.declaration airs.now) (read_common d.common)) }
     {
         check_lengths(airs, trace_ext_degree_bits, lookup_budget_overrides)?;
         let masks = config.is_zk();
@@ -158,21 +186,35 @@ impl<F, Com, PD> SetupData<F, Com, PD> {
         airs: &[A],
         trace_ext_degree_bits: &[usize],
     ) -> Result<ProverData<SC>, SetupError<PcsProverError<SC>>>
-        requires bits { AreWithinBounds (SC.Pcs.log_min (SC.pcs_of config.now) + cond SC.Pcs.ZK 1 0) (SC.Pcs.log_max (SC.pcs_of config.now)) trace_ext_degree_bits.now }
+        requires bits { AreWithinBounds (SC.Pcs.log_min (SC.pcs_of config.now) + cond SC.Pcs.ZK 1 0)
+            (SC.Pcs.log_max (SC.pcs_of config.now)) trace_ext_degree_bits.now }
         requires widths { HaveOneWidth (flat_map (λ a. lookups_of (A.interactions a)) airs.now) }
-        ensures verdict { let sources = map (source_of A.declaration A.trees A.interactions) airs.now in
+        ensures verdict { let sources = map (source_of A.declaration A.trees A.interactions)
+            airs.now in
             IsSetUp (degree_checks (length airs.now) (length trace_ext_degree_bits.now)
-            ++ trace_checks SC.Val.ring.one (cond SC.Pcs.ZK 1 0) (SC.Pcs.commit_fault (SC.pcs_of config.now)) sources trace_ext_degree_bits.now (length airs.now)) result }
-        ensures lookups { let sources = map (source_of A.declaration A.trees A.interactions) airs.now in
+            ++ trace_checks SC.Val.ring.one (cond SC.Pcs.ZK 1 0)
+            (SC.Pcs.commit_fault (SC.pcs_of config.now)) sources trace_ext_degree_bits.now
+            (length airs.now)) result }
+        ensures lookups { let sources = map (source_of A.declaration A.trees A.interactions)
+            airs.now in
             IfOk result (λ d. map read_all d.common.lookups
-            ≡ tabulate (length airs.now) (packed_at SC.Val.ring (cond SC.Pcs.ZK 1 0) sources trace_ext_degree_bits.now (replicate (length airs.now) 0))) }
-        ensures preprocessed { let sources = map (source_of A.declaration A.trees A.interactions) airs.now in
-            IfOk result (λ d. IsPrepared (λ es p. IsCommitment SC.Val.ring ⟦<<SC::Pcs as Pcs<SC::Challenge, SC::Challenger>>::Domain as PolynomialSpace>⟧.points
-            ⟦<<SC::Pcs as Pcs<SC::Challenge, SC::Challenger>>::Domain as PolynomialSpace>⟧.point_at (SC.Pcs.commits (SC.pcs_of config.now))
+            ≡ tabulate (length airs.now)
+            (packed_at SC.Val.ring (cond SC.Pcs.ZK 1 0) sources trace_ext_degree_bits.now
+            (replicate (length airs.now) 0))) }
+        ensures preprocessed { let sources = map (source_of A.declaration A.trees A.interactions)
+            airs.now in
+            IfOk result (λ d. IsPrepared
+            (λ es p. IsCommitment SC.Val.ring
+            ⟦<<SC::Pcs as Pcs<SC::Challenge, SC::Challenger>>::Domain as PolynomialSpace>⟧.points
+            ⟦<<SC::Pcs as Pcs<SC::Challenge, SC::Challenger>>::Domain as PolynomialSpace>⟧.point_at
+            (SC.Pcs.commits (SC.pcs_of config.now))
             (SC.Pcs.made (SC.pcs_of config.now)) (SC.Pcs.holds (SC.pcs_of config.now)) es p)
-            (tabulate (length airs.now) (entry_at SC.Val.ring.one sources trace_ext_degree_bits.now))
-            (committed_below SC.Val.ring.one sources trace_ext_degree_bits.now (length airs.now)) d.common.preprocessed d.prover_only.preprocessed_prover_data) }
-        ensures formed { IfOk result (λ d. WellFormed (map A.declaration airs.now) (read_common d.common)) }
+            (tabulate (length airs.now)
+            (entry_at SC.Val.ring.one sources trace_ext_degree_bits.now))
+            (committed_below SC.Val.ring.one sources trace_ext_degree_bits.now (length airs.now))
+            d.common.preprocessed d.prover_only.preprocessed_prover_data) }
+        ensures formed { IfOk result
+            (λ d. WellFormed (map A.declaration airs.now) (read_common d.common)) }
     {
         let budgets = zeros(alloc, airs.len())?;
         Self::from_airs_and_degrees_with_lookup_budgets(
@@ -196,24 +238,35 @@ impl<F, Com, PD> SetupData<F, Com, PD> {
         instances: &[StarkInstance<'_, SC, A>],
     ) -> Result<ProverData<SC>, SetupError<PcsProverError<SC>>>
         requires powers { ArePowers instances.now }
-        requires bits { AreWithinBounds (SC.Pcs.log_min (SC.pcs_of config.now) + cond SC.Pcs.ZK 1 0) (SC.Pcs.log_max (SC.pcs_of config.now)) (bits_of (cond SC.Pcs.ZK 1 0) instances.now) }
-        requires widths { HaveOneWidth (flat_map (λ a. lookups_of (A.interactions a)) (airs_of instances.now)) }
+        requires bits { AreWithinBounds (SC.Pcs.log_min (SC.pcs_of config.now) + cond SC.Pcs.ZK 1 0)
+            (SC.Pcs.log_max (SC.pcs_of config.now)) (bits_of (cond SC.Pcs.ZK 1 0) instances.now) }
+        requires widths { HaveOneWidth
+            (flat_map (λ a. lookups_of (A.interactions a)) (airs_of instances.now)) }
         ensures verdict { let airs = airs_of instances.now in
             let sources = map (source_of A.declaration A.trees A.interactions) airs in
-            IsSetUp (trace_checks SC.Val.ring.one (cond SC.Pcs.ZK 1 0) (SC.Pcs.commit_fault (SC.pcs_of config.now)) sources (bits_of (cond SC.Pcs.ZK 1 0) instances.now) (length airs)) result }
+            IsSetUp (trace_checks SC.Val.ring.one (cond SC.Pcs.ZK 1 0)
+            (SC.Pcs.commit_fault (SC.pcs_of config.now)) sources
+            (bits_of (cond SC.Pcs.ZK 1 0) instances.now) (length airs)) result }
         ensures lookups { let airs = airs_of instances.now in
             let sources = map (source_of A.declaration A.trees A.interactions) airs in
             IfOk result (λ d. map read_all d.common.lookups
-            ≡ tabulate (length airs) (packed_at SC.Val.ring (cond SC.Pcs.ZK 1 0) sources (bits_of (cond SC.Pcs.ZK 1 0) instances.now) (replicate (length airs) 0))) }
+            ≡ tabulate (length airs)
+            (packed_at SC.Val.ring (cond SC.Pcs.ZK 1 0) sources
+            (bits_of (cond SC.Pcs.ZK 1 0) instances.now) (replicate (length airs) 0))) }
         ensures preprocessed { let airs = airs_of instances.now in
             let sources = map (source_of A.declaration A.trees A.interactions) airs in
             let bits = bits_of (cond SC.Pcs.ZK 1 0) instances.now in
-            IfOk result (λ d. IsPrepared (λ es p. IsCommitment SC.Val.ring ⟦<<SC::Pcs as Pcs<SC::Challenge, SC::Challenger>>::Domain as PolynomialSpace>⟧.points
-            ⟦<<SC::Pcs as Pcs<SC::Challenge, SC::Challenger>>::Domain as PolynomialSpace>⟧.point_at (SC.Pcs.commits (SC.pcs_of config.now))
+            IfOk result (λ d. IsPrepared
+            (λ es p. IsCommitment SC.Val.ring
+            ⟦<<SC::Pcs as Pcs<SC::Challenge, SC::Challenger>>::Domain as PolynomialSpace>⟧.points
+            ⟦<<SC::Pcs as Pcs<SC::Challenge, SC::Challenger>>::Domain as PolynomialSpace>⟧.point_at
+            (SC.Pcs.commits (SC.pcs_of config.now))
             (SC.Pcs.made (SC.pcs_of config.now)) (SC.Pcs.holds (SC.pcs_of config.now)) es p)
             (tabulate (length airs) (entry_at SC.Val.ring.one sources bits))
-            (committed_below SC.Val.ring.one sources bits (length airs)) d.common.preprocessed d.prover_only.preprocessed_prover_data) }
-        ensures formed { IfOk result (λ d. WellFormed (map A.declaration (airs_of instances.now)) (read_common d.common)) }
+            (committed_below SC.Val.ring.one sources bits (length airs)) d.common.preprocessed
+            d.prover_only.preprocessed_prover_data) }
+        ensures formed { IfOk result
+            (λ d. WellFormed (map A.declaration (airs_of instances.now)) (read_common d.common)) }
     {
         let airs = lent_airs(alloc, instances)?;
         let bits = degree_bits(alloc, instances, config.is_zk())?;

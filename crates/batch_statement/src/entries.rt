@@ -27,7 +27,9 @@ fn have_entries<F: Field, A: BaseAir<F>>(
 ) -> bool
     requires airs { n ≤ length airs.now }
     requires entries { n ≤ length entries.now }
-    ensures { IsTrue result ↔ ((k : ℕ) → k < n → (d : Declaration F) → HasEntryOf (width_of (get_or (map A.declaration airs.now) k d).preprocessed) (get_or entries.now k None)) }
+    ensures { IsTrue result ↔ ((k : ℕ) → k < n → (d : Declaration F)
+        → HasEntryOf (width_of (get_or (map A.declaration airs.now) k d).preprocessed)
+        (get_or entries.now k None)) }
 {
     for i in 0..n {
         if !is_entry_of(airs[i].preprocessed_width(), &entries[i]) {
@@ -40,7 +42,8 @@ fn have_entries<F: Field, A: BaseAir<F>>(
 // Whether none of the first `n` tables has preprocessed columns.
 fn have_no_columns<F: Field, A: BaseAir<F>>(airs: &[A], n: usize) -> bool
     requires { n ≤ length airs.now }
-    ensures { IsTrue result ↔ ((k : ℕ) → k < n → (d : Declaration F) → width_of (get_or (map A.declaration airs.now) k d).preprocessed ≡ 0) }
+    ensures { IsTrue result ↔ ((k : ℕ) → k < n → (d : Declaration F)
+        → width_of (get_or (map A.declaration airs.now) k d).preprocessed ≡ 0) }
 {
     for i in 0..n {
         if airs[i].preprocessed_width() != 0 {
@@ -79,7 +82,8 @@ fn is_placed(listed: &[usize], table: usize, entry: &Option<PreprocessedInstance
 // Whether this is so of each of the first `n` tables.
 fn are_placed(listed: &[usize], entries: &[Option<PreprocessedInstanceMeta>], n: usize) -> bool
     requires { n ≤ length entries.now }
-    ensures { IsTrue result ↔ ((k : ℕ) → k < n → IsPlaced listed.now k (get_or entries.now k None)) }
+    ensures { IsTrue result ↔ ((k : ℕ) → k < n
+        → IsPlaced listed.now k (get_or entries.now k None)) }
 {
     for i in 0..n {
         if !is_placed(listed, i, &entries[i]) {
@@ -112,7 +116,8 @@ fn traces_fit<F: Field, A: BaseAir<F>, Com>(
 ) -> Mem<bool>
     requires airs { n ≤ length airs.now }
     requires entries { n ≤ length traces.now.instances }
-    ensures { IfOk result (λ b. IsTrue b ↔ FitsPreprocessed (map A.declaration airs.now) (Some traces.now) n) }
+    ensures { IfOk result (λ b. IsTrue b
+        ↔ FitsPreprocessed (map A.declaration airs.now) (Some traces.now) n) }
 {
     let listed = lists_entries(alloc, &traces.matrix_to_instance, &traces.instances, n)?;
     if !have_entries(airs, &traces.instances, n) {
@@ -133,7 +138,8 @@ pub(crate) fn preprocessed_fits<F: Field, A: BaseAir<F>, Com>(
 ) -> Mem<bool>
     requires airs { n ≤ length airs.now }
     requires entries { n ≤ within_entries preprocessed.now n }
-    ensures fits { IfOk result (λ b. IsTrue b ↔ FitsPreprocessed (map A.declaration airs.now) preprocessed.now n) }
+    ensures fits { IfOk result
+        (λ b. IsTrue b ↔ FitsPreprocessed (map A.declaration airs.now) preprocessed.now n) }
     ensures sure { preprocessed.now ≡ None → IsOk result }
 {
     match preprocessed {

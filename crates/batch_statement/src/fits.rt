@@ -27,7 +27,8 @@ fn at_most_entries<Com>(preprocessed: &Option<PreprocessedTraces<Com>>, n: usize
 // Whether all tuples on one bus have one width, over the first `n` tables.
 fn widths_fit<F>(lookups: &[Lookups<F>], n: usize) -> bool
     requires { n ≤ length lookups.now }
-    ensures { IsTrue result ↔ HaveOneWidth (flat_map (λ ls. ls) (map read_all (take n lookups.now))) }
+    ensures { IsTrue result ↔ HaveOneWidth
+        (flat_map (λ ls. ls) (map read_all (take n lookups.now))) }
 {
     have_one_width(&lookups[..n])
 }
@@ -35,7 +36,8 @@ fn widths_fit<F>(lookups: &[Lookups<F>], n: usize) -> bool
 impl<F, Com> SharedData<F, Com> {
     // How many instances there are: those below all lengths.
     fn instances(&self, tables: usize) -> usize
-        ensures { result ≡ within_entries self.now.preprocessed (min tables (length self.now.lookups)) }
+        ensures { result ≡ within_entries self.now.preprocessed
+            (min tables (length self.now.lookups)) }
     {
         at_most_entries(&self.preprocessed, tables.min(self.lookups.len()))
     }
@@ -55,7 +57,8 @@ impl<F: Field, Com> SharedData<F, Com> {
     ///
     /// Only out of memory is an error, and none where there are no preprocessed traces (`sure`).
     pub fn fits<A: Air<F>>(&self, alloc: Global, airs: &[A]) -> Mem<bool>
-        ensures fits { IfOk result (λ b. IsTrue b ↔ WellFormed (map A.declaration airs.now) (read_common self.now)) }
+        ensures fits { IfOk result
+            (λ b. IsTrue b ↔ WellFormed (map A.declaration airs.now) (read_common self.now)) }
         ensures sure { self.now.preprocessed ≡ None → IsOk result }
     {
         let n = self.instances(airs.len());

@@ -30,7 +30,11 @@ impl<Com> Model for PreprocessedTraces<Com> {
 
     ghost Value = { PreprocessedTracesData Com };
 
-    ghost view = { λ g. record { commitment = g.commitment; instances = g.instances.items; matrix_to_instance = g.matrix_to_instance.items } };
+    ghost view = { λ g. record {
+      commitment = g.commitment;
+      instances = g.instances.items;
+      matrix_to_instance = g.matrix_to_instance.items;
+    } };
 }
 
 /// The commitment to the preprocessed traces over a configuration (`GlobalPreprocessed` of `p3-batch-stark`).

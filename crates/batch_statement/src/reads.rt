@@ -11,7 +11,8 @@ use p3_lookup::{Lookup, Lookups};
 
 // Whether each field of a tuple reads only what the AIR may send.
 fn is_sendable<F: Field, A: BaseAir<F>>(tuple: &[SymbolicExpression<F>], air: &A) -> bool
-    ensures { IsTrue result ↔ All (ReadsSendable (declared_shape (A.declaration air.now))) (map tree_of tuple.now) }
+    ensures { IsTrue result ↔ All (ReadsSendable (declared_shape (A.declaration air.now)))
+        (map tree_of tuple.now) }
 {
     for expression in tuple {
         if !expression.reads_sendable(air) {
@@ -26,7 +27,8 @@ fn tuples_are_sendable<F: Field, A: BaseAir<F>>(
     tuples: &[Vec<SymbolicExpression<F>>],
     air: &A,
 ) -> bool
-    ensures { IsTrue result ↔ All (All (ReadsSendable (declared_shape (A.declaration air.now)))) (map (λ v. map tree_of v.items) tuples.now) }
+    ensures { IsTrue result ↔ All (All (ReadsSendable (declared_shape (A.declaration air.now))))
+        (map (λ v. map tree_of v.items) tuples.now) }
 {
     for tuple in tuples {
         if !is_sendable(tuple, air) {
@@ -41,7 +43,9 @@ fn counts_are_sendable<F: Field, A: BaseAir<F>>(
     counts: &[Count<SymbolicExpression<F>>],
     air: &A,
 ) -> bool
-    ensures { IsTrue result ↔ All (λ c. ReadsSendable (declared_shape (A.declaration air.now)) c.value) (map tree_count counts.now) }
+    ensures { IsTrue result ↔ All
+        (λ c. ReadsSendable (declared_shape (A.declaration air.now)) c.value)
+        (map tree_count counts.now) }
 {
     for count in counts {
         if !count.value.reads_sendable(air) {
@@ -66,7 +70,8 @@ fn is_lookup<F: Field, A: BaseAir<F>>(lookup: &Lookup<F>, air: &A) -> bool
 
 // Whether each lookup does and has.
 fn are_lookups<F: Field, A: BaseAir<F>>(lookups: &[Lookup<F>], air: &A) -> bool
-    ensures { IsTrue result ↔ All (IsLookup (declared_shape (A.declaration air.now))) (read_all lookups.now) }
+    ensures { IsTrue result ↔ All (IsLookup (declared_shape (A.declaration air.now)))
+        (read_all lookups.now) }
 {
     for i in 0..lookups.len() {
         if !is_lookup(&lookups[i], air) {
@@ -84,7 +89,9 @@ pub(crate) fn lookups_fit<F: Field, A: BaseAir<F>>(
 ) -> bool
     requires airs { n ≤ length airs.now }
     requires lookups { n ≤ length lookups.now }
-    ensures { IsTrue result ↔ ((k : ℕ) → k < n → (d : Declaration F) → All (IsLookup (declared_shape (get_or (map A.declaration airs.now) k d))) (get_or (map read_all lookups.now) k [])) }
+    ensures { IsTrue result ↔ ((k : ℕ) → k < n → (d : Declaration F)
+        → All (IsLookup (declared_shape (get_or (map A.declaration airs.now) k d)))
+        (get_or (map read_all lookups.now) k [])) }
 {
     for i in 0..n {
         if !are_lookups(lookups[i].as_slice(), &airs[i]) {

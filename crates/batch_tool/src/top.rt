@@ -27,18 +27,23 @@ pub fn run<S: Source, K: Sink>(
     source: &mut S,
     sink: &mut K,
 ) -> Status
-    ensures outcome { Outcome most_bytes (map string_bytes words.now) (S.left source.old) (S.left source.new)
+    ensures outcome { Outcome most_bytes (map string_bytes words.now) (S.left source.old)
+        (S.left source.new)
         (K.written sink.old) (K.written sink.new) result }
 
     // The counts never fall, and a fault is answered only where one rose.
     ensures reads_later { S.faults source.old ≤ S.faults source.new }
     ensures writes_later { K.faults sink.old ≤ K.faults sink.new }
-    ensures read_fault { result ≡ Status.ReadFault → Rose (S.faults source.old) (S.faults source.new) }
-    ensures write_fault { result ≡ Status.WriteFault → Rose (K.faults sink.old) (K.faults sink.new) }
+    ensures read_fault { result ≡ Status.ReadFault
+        → Rose (S.faults source.old) (S.faults source.new) }
+    ensures write_fault { result ≡ Status.WriteFault
+        → Rose (K.faults sink.old) (K.faults sink.new) }
 
     // With another status no fault is passed over: the count is as it was.
-    ensures no_read_fault { (result ≡ Status.ReadFault → ⊥) → S.faults source.new ≡ S.faults source.old }
-    ensures no_write_fault { (result ≡ Status.WriteFault → ⊥) → K.faults sink.new ≡ K.faults sink.old }
+    ensures no_read_fault { (result ≡ Status.ReadFault → ⊥)
+        → S.faults source.new ≡ S.faults source.old }
+    ensures no_write_fault { (result ≡ Status.WriteFault → ⊥)
+        → K.faults sink.new ≡ K.faults sink.old }
 
     // What isn't asked stays as it was, whether or not it tells its bytes.
     ensures unread { (NamesReader (map string_bytes words.now) → ⊥) → source.new ≡ source.old }

@@ -34,7 +34,8 @@ fn kind_of<F>(alloc: Global, lookup: &Lookup<F>) -> Mem<Kind>
 
 /// Appends the kinds of an instance's lookups, in order.
 fn push_kinds<F>(kinds: &mut Vec<Kind>, alloc: Global, lookups: &[Lookup<F>]) -> Mem<()>
-    ensures { OnOk result (map bus_of_kind kinds.new.items ≡ map bus_of_kind kinds.old.items ++ map (λ w. w.bus) lookups.now) }
+    ensures { OnOk result (map bus_of_kind kinds.new.items ≡ map bus_of_kind kinds.old.items
+        ++ map (λ w. w.bus) lookups.now) }
 {
     for lookup in lookups {
         kinds.push(kind_of(alloc, lookup)?)?;
@@ -61,7 +62,9 @@ fn opener_place(
     kind: &Kind,
     place: usize,
 ) -> Mem<usize>
-    ensures { IfOk result (λ o. OpensBy (get_by_text openers.old) (bus_of_kind kind.now) place o (get_by_text openers.new)) }
+    ensures { IfOk result (λ o.
+        OpensBy (get_by_text openers.old) (bus_of_kind kind.now) place o
+        (get_by_text openers.new)) }
 {
     match kind {
         Kind::Local => Ok(place),
@@ -78,7 +81,9 @@ fn opener_place(
 
 /// The number of each lookup's bus: how many buses are opened before it. A lookup that opens none has the number of the one that opened its bus.
 fn bus_numbers(alloc: Global, kinds: &[Kind]) -> Mem<BusNumbers>
-    ensures { IfOk result (λ b. let buses = map bus_of_kind kinds.now in (b.numbers.items ≡ tabulate (length buses) (bus_number buses)) × (b.count ≡ bus_count buses)) }
+    ensures { IfOk result (λ b. let buses = map bus_of_kind kinds.now in
+        (b.numbers.items ≡ tabulate (length buses) (bus_number buses))
+        × (b.count ≡ bus_count buses)) }
 {
     let mut openers = BTreeMap::new(alloc);
     let mut numbers = Vec::new(alloc);
@@ -143,7 +148,9 @@ fn challenges_on<EF: Field>(
     challenges: &Challenges<EF>,
 ) -> Mem<Vec<EF>>
     requires { All (λ b. b < length challenges.now.bus_prefix) buses.now }
-    ensures { IfOk result (λ v. v.items ≡ flat_map (λ b. get_or challenges.now.bus_prefix b EF.ring.zero ∷ challenges.now.beta ∷ []) buses.now) }
+    ensures { IfOk result (λ v.
+        v.items ≡ flat_map (λ b.
+        get_or challenges.now.bus_prefix b EF.ring.zero ∷ challenges.now.beta ∷ []) buses.now) }
 {
     let mut laid_out = Vec::new(alloc);
     for bus in buses {
@@ -160,9 +167,13 @@ fn each_layout<F: Field, EF: Field>(
     numbers: &[usize],
     challenges: &Challenges<EF>,
 ) -> Mem<Vec<Vec<EF>>>
-    requires numbers { let buses = batch_buses (map read_all lookups.now) in numbers.now ≡ tabulate (length buses) (bus_number buses) }
-    requires bases { length challenges.now.bus_prefix ≡ bus_count (batch_buses (map read_all lookups.now)) }
-    ensures { IfOk result (λ v. let tables = map read_all lookups.now in lists v.items ≡ tabulate (length tables) (instance_challenges EF.ring challenges.now tables)) }
+    requires numbers { let buses = batch_buses (map read_all lookups.now) in
+        numbers.now ≡ tabulate (length buses) (bus_number buses) }
+    requires bases { length challenges.now.bus_prefix
+        ≡ bus_count (batch_buses (map read_all lookups.now)) }
+    ensures { IfOk result (λ v. let tables = map read_all lookups.now in
+        lists v.items ≡ tabulate (length tables)
+        (instance_challenges EF.ring challenges.now tables)) }
 {
     let mut all = Vec::new(alloc);
     let mut start = 0;
@@ -183,7 +194,8 @@ pub fn layout<F: Field, EF: Field, LG: LookupProtocol>(
     alpha: EF,
     beta: EF,
 ) -> Mem<Vec<Vec<EF>>>
-    ensures { IfOk result (λ v. lists v.items ≡ batch_layout EF.ring (alpha ∷ beta ∷ []) (map read_all lookups.now)) }
+    ensures { IfOk result (λ v.
+        lists v.items ≡ batch_layout EF.ring (alpha ∷ beta ∷ []) (map read_all lookups.now)) }
 {
     let each = gadget.num_challenges();
     prove!(each == 2);
@@ -196,7 +208,8 @@ pub fn layout<F: Field, EF: Field, LG: LookupProtocol>(
 
 /// No challenges, for each instance: the layout where no pair is drawn, since no instance has lookups.
 pub fn empty_layout<F: Field, EF: Field>(alloc: Global, lookups: &[Lookups<F>]) -> Mem<Vec<Vec<EF>>>
-    ensures { IfOk result (λ v. lists v.items ≡ batch_layout EF.ring [] (map read_all lookups.now)) }
+    ensures { IfOk result (λ v.
+        lists v.items ≡ batch_layout EF.ring [] (map read_all lookups.now)) }
 {
     let mut all = Vec::new(alloc);
     for _instance in lookups {

@@ -37,9 +37,12 @@ pub fn transcripts_are_one_fold<
 >()
     ensures chain { PlaysChain (⟦<C as BatchChallenger<F, EF, Com>>⟧.functions) }
     ensures fold { IsOneFold (⟦<C as BatchChallenger<F, EF, Com>>⟧.functions) }
-    ensures draws { TellsDraws (⟦<C as BatchChallenger<F, EF, Com>>⟧.functions) F.ring EF.ring EF.DIMENSION }
-    ensures tests { TellsTests (⟦<C as BatchChallenger<F, EF, Com>>⟧.functions) F.ring EF.ring EF.DIMENSION }
-    ensures steps { (s : BatchShapeData) (g : Given F EF Com) → FitsShape s g → steps_of (script EF.ring EF.DIMENSION s g) ≡ pattern EF.DIMENSION s }
+    ensures draws { TellsDraws (⟦<C as BatchChallenger<F, EF, Com>>⟧.functions) F.ring EF.ring
+        EF.DIMENSION }
+    ensures tests { TellsTests (⟦<C as BatchChallenger<F, EF, Com>>⟧.functions) F.ring EF.ring
+        EF.DIMENSION }
+    ensures steps { (s : BatchShapeData) (g : Given F EF Com) → FitsShape s g
+        → steps_of (script EF.ring EF.DIMENSION s g) ≡ pattern EF.DIMENSION s }
 {}
 
 /// In the layout of a drawn pair each lookup has the base of its bus and the one combiner, and two different lookups of a batch are on one bus

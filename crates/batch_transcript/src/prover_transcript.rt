@@ -32,8 +32,10 @@ pub struct BatchProverTranscript<C, F, EF, Com> {
 
 /// Plays a message where there is a value.
 fn message_if_present<Com, C: CanObserve<Com>>(state: &mut ProverState<C>, value: Option<&Com>)
-    requires { IsTrue (is_some value) → NextIs (IsStep InteractionKind.Message) state.old.remaining }
-    ensures { state.new ≡ option_map_or (λ m. played state.old (C.observed state.old.state m)) (option_copied value.entry) state.old }
+    requires { IsTrue (is_some value)
+        → NextIs (IsStep InteractionKind.Message) state.old.remaining }
+    ensures { state.new ≡ option_map_or (λ m. played state.old (C.observed state.old.state m))
+        (option_copied value.entry) state.old }
 {
     if let Some(value) = value {
         state.message(value);
@@ -45,7 +47,11 @@ impl<C, F, EF, Com> Model for BatchProverTranscript<C, F, EF, Com> {
 
     ghost Value = { Running C };
 
-    ghost view = { λ t. record { state = t.state.state; remaining = t.state.remaining; shape = t.shape } };
+    ghost view = { λ t. record {
+      state = t.state.state;
+      remaining = t.state.remaining;
+      shape = t.shape;
+    } };
 }
 
 impl<
@@ -65,7 +71,8 @@ impl<
     where
         C: Drop,
         ensures { IfOk result (λ t. t ≡ record {
-          state = seeded (⟦<C as BatchChallenger<F, EF, Com>>⟧.functions) F.ring EF.DIMENSION shape challenger;
+          state = seeded (⟦<C as BatchChallenger<F, EF, Com>>⟧.functions) F.ring EF.DIMENSION shape
+              challenger;
           remaining = pattern EF.DIMENSION shape;
           shape = shape;
         }) }
@@ -84,7 +91,8 @@ impl<
     pub fn instance_bindings(&mut self, degree_bits: &[usize])
         requires turn { self.old.remaining ≡ pattern EF.DIMENSION self.old.shape }
         requires count { length degree_bits.now ≡ length self.old.shape.trace_widths }
-        ensures plays { Plays (⟦<C as BatchChallenger<F, EF, Com>>⟧.functions) (bindings_script EF.ring EF.DIMENSION degree_bits.now) self.old self.new [] }
+        ensures plays { Plays (⟦<C as BatchChallenger<F, EF, Com>>⟧.functions)
+            (bindings_script EF.ring EF.DIMENSION degree_bits.now) self.old self.new [] }
         ensures turn { self.new.remaining ≡ from_main EF.DIMENSION self.new.shape }
     {
         for bits in degree_bits {
@@ -97,7 +105,8 @@ impl<
     pub fn main_phase(&mut self, main_commitment: &Com, public_values: &[Vec<F>])
         requires turn { self.old.remaining ≡ from_main EF.DIMENSION self.old.shape }
         requires count { map length (lists public_values.now) ≡ self.old.shape.public_value_counts }
-        ensures plays { Plays (⟦<C as BatchChallenger<F, EF, Com>>⟧.functions) (main_script main_commitment.now (lists public_values.now)) self.old self.new [] }
+        ensures plays { Plays (⟦<C as BatchChallenger<F, EF, Com>>⟧.functions)
+            (main_script main_commitment.now (lists public_values.now)) self.old self.new [] }
         ensures turn { self.new.remaining ≡ from_preprocessed EF.DIMENSION self.new.shape }
     {
         self.state.message(main_commitment);
@@ -111,7 +120,8 @@ impl<
     pub fn preprocessed_phase(&mut self, commitment: Option<&Com>)
         requires turn { self.old.remaining ≡ from_preprocessed EF.DIMENSION self.old.shape }
         requires count { is_some commitment ≡ self.old.shape.has_preprocessed_commitment }
-        ensures plays { Plays (⟦<C as BatchChallenger<F, EF, Com>>⟧.functions) (preprocessed_script (option_copied commitment.entry)) self.old self.new [] }
+        ensures plays { Plays (⟦<C as BatchChallenger<F, EF, Com>>⟧.functions)
+            (preprocessed_script (option_copied commitment.entry)) self.old self.new [] }
         ensures turn { self.new.remaining ≡ from_lookup EF.DIMENSION self.new.shape }
     {
         if let Some(commitment) = commitment {
@@ -131,17 +141,25 @@ impl<
         requires turn { self.old.remaining ≡ from_lookup EF.DIMENSION self.old.shape }
         requires few { 2 ^ self.old.shape.lookup_pow_bits < F.ORDER_U64 }
         ensures ground { IfOk result (λ p. IsPairGround
-            (⟦<C as BatchChallenger<F, EF, Com>>⟧.functions) F.ring F.canonical self.old.state self.old.shape.num_lookup_instances self.old.shape.lookup_pow_bits p.1) }
+            (⟦<C as BatchChallenger<F, EF, Com>>⟧.functions) F.ring F.canonical self.old.state
+            self.old.shape.num_lookup_instances self.old.shape.lookup_pow_bits p.1) }
         ensures refused { IfErr result (ProverFails
-            (LacksPairGround (⟦<C as BatchChallenger<F, EF, Com>>⟧.functions) F.ring F.ORDER_U64 self.old.state self.old.shape.num_lookup_instances self.old.shape.lookup_pow_bits)) }
-        ensures left { IfErr result (λ e. e ≡ TranscriptError.WitnessNotFound → self.new.state ≡ self.old.state) }
+            (LacksPairGround (⟦<C as BatchChallenger<F, EF, Com>>⟧.functions) F.ring F.ORDER_U64
+            self.old.state self.old.shape.num_lookup_instances self.old.shape.lookup_pow_bits)) }
+        ensures left { IfErr result
+            (λ e. e ≡ TranscriptError.WitnessNotFound → self.new.state ≡ self.old.state) }
         ensures memory { IfErr result (λ e. e ≡ TranscriptError.OutOfMemory → (w : Option F)
-            × IsPairGround (⟦<C as BatchChallenger<F, EF, Com>>⟧.functions) F.ring F.canonical self.old.state self.old.shape.num_lookup_instances self.old.shape.lookup_pow_bits w) }
-        ensures plays { IfOk result (λ p. let script = pair_script EF.DIMENSION self.old.shape.num_lookup_instances self.old.shape.lookup_pow_bits p.1 in
+            × IsPairGround (⟦<C as BatchChallenger<F, EF, Com>>⟧.functions) F.ring F.canonical
+            self.old.state self.old.shape.num_lookup_instances self.old.shape.lookup_pow_bits w) }
+        ensures plays { IfOk result
+            (λ p. let script = pair_script EF.DIMENSION self.old.shape.num_lookup_instances
+            self.old.shape.lookup_pow_bits p.1 in
             let c = ⟦<C as BatchChallenger<F, EF, Com>>⟧.functions in
             Plays c script self.old self.new (drawn_along c self.old.state script)
-            × (lists p.0.items ≡ batch_layout EF.ring (drawn_along c self.old.state script) (map read_all lookups.now))) }
-        ensures turn { IfOk result (λ _. self.new.remaining ≡ from_permutation EF.DIMENSION self.new.shape) }
+            × (lists p.0.items ≡ batch_layout EF.ring (drawn_along c self.old.state script)
+            (map read_all lookups.now))) }
+        ensures turn { IfOk result
+            (λ _. self.new.remaining ≡ from_permutation EF.DIMENSION self.new.shape) }
     {
         if self.shape.num_lookup_instances == 0 {
             return Ok((empty_layout(alloc, lookups)?, None));
@@ -162,7 +180,9 @@ impl<
         requires turn { self.old.remaining ≡ from_permutation EF.DIMENSION self.old.shape }
         requires present { is_some commitment ≡ is_positive self.old.shape.num_lookup_instances }
         requires count { length terminals.now ≡ self.old.shape.num_lookup_instances }
-        ensures plays { Plays (⟦<C as BatchChallenger<F, EF, Com>>⟧.functions) (permutation_script EF.DIMENSION (option_copied commitment.entry) terminals.now) self.old self.new (result ∷ []) }
+        ensures plays { Plays (⟦<C as BatchChallenger<F, EF, Com>>⟧.functions)
+            (permutation_script EF.DIMENSION (option_copied commitment.entry) terminals.now)
+            self.old self.new (result ∷ []) }
         ensures turn { self.new.remaining ≡ from_quotient EF.DIMENSION self.new.shape }
     {
         message_if_present(&mut self.state, commitment);
@@ -177,7 +197,9 @@ impl<
     pub fn quotient_phase(&mut self, quotient: &Com, randomization: Option<&Com>)
         requires turn { self.old.remaining ≡ from_quotient EF.DIMENSION self.old.shape }
         requires count { is_some randomization ≡ self.old.shape.has_randomization_commitment }
-        ensures plays { Plays (⟦<C as BatchChallenger<F, EF, Com>>⟧.functions) (quotient_script quotient.now (option_copied randomization.entry)) self.old self.new [] }
+        ensures plays { Plays (⟦<C as BatchChallenger<F, EF, Com>>⟧.functions)
+            (quotient_script quotient.now (option_copied randomization.entry)) self.old self.new
+            [] }
         ensures turn { self.new.remaining ≡ from_ood EF.DIMENSION self.new.shape }
     {
         self.state.message(quotient);
@@ -192,11 +214,18 @@ impl<
         requires turn { self.old.remaining ≡ from_ood EF.DIMENSION self.old.shape }
         requires few { 2 ^ self.old.shape.ood_pow_bits < F.ORDER_U64 }
         ensures ground { MatchResult result
-            (λ p. IsGround (⟦<C as BatchChallenger<F, EF, Com>>⟧.functions) F.ring F.canonical self.old.state self.old.shape.ood_pow_bits p.1)
-            (λ e. (e ≡ TranscriptError.WitnessNotFound) × NonePasses (⟦<C as BatchChallenger<F, EF, Com>>⟧.functions) F.ring F.ORDER_U64 self.old.state self.old.shape.ood_pow_bits) }
+            (λ p. IsGround (⟦<C as BatchChallenger<F, EF, Com>>⟧.functions) F.ring F.canonical
+            self.old.state self.old.shape.ood_pow_bits p.1)
+            (λ e. (e ≡ TranscriptError.WitnessNotFound)
+            × NonePasses (⟦<C as BatchChallenger<F, EF, Com>>⟧.functions) F.ring F.ORDER_U64
+            self.old.state self.old.shape.ood_pow_bits) }
         ensures left { IfErr result (λ _. self.new.state ≡ self.old.state) }
-        ensures plays { IfOk result (λ p. Plays (⟦<C as BatchChallenger<F, EF, Com>>⟧.functions) (ood_script EF.DIMENSION self.old.shape.ood_pow_bits p.1) self.old self.new (p.0 ∷ [])) }
-        ensures turn { IfOk result (λ _. self.new.remaining ≡ from_opening EF.DIMENSION self.new.shape) }
+        ensures plays { IfOk result
+            (λ p. Plays (⟦<C as BatchChallenger<F, EF, Com>>⟧.functions)
+            (ood_script EF.DIMENSION self.old.shape.ood_pow_bits p.1) self.old self.new
+            (p.0 ∷ [])) }
+        ensures turn { IfOk result
+            (λ _. self.new.remaining ≡ from_opening EF.DIMENSION self.new.shape) }
     {
         match self.state.pow() {
             None => Err(TranscriptError::WitnessNotFound),

@@ -26,7 +26,8 @@ fn push_atomic(
     label: &str,
     length: Length,
 ) -> Mem<()>
-    ensures { OnOk result (steps.new.items ≡ steps.old.items ++ atomic kind value label.now length ∷ []) }
+    ensures { OnOk result (steps.new.items ≡ steps.old.items ++ atomic kind value label.now length
+        ∷ []) }
 {
     steps.push(Interaction {
         hierarchy: Hierarchy::Atomic,
@@ -45,7 +46,8 @@ fn push_message(
     value: StepValue,
     label: &str,
 ) -> Mem<()>
-    ensures { OnOk result (steps.new.items ≡ steps.old.items ++ atomic InteractionKind.Message value label.now Length.Scalar ∷ []) }
+    ensures { OnOk result (steps.new.items ≡ steps.old.items
+        ++ atomic InteractionKind.Message value label.now Length.Scalar ∷ []) }
 {
     let kind = InteractionKind::Message;
     push_atomic(steps, alloc, kind, value, label, Length::Scalar)
@@ -58,7 +60,9 @@ fn push_challenge(
     dimension: usize,
     label: &str,
 ) -> Mem<()>
-    ensures { OnOk result (steps.new.items ≡ steps.old.items ++ atomic InteractionKind.Challenge (StepValue.Algebra dimension) label.now Length.Scalar ∷ []) }
+    ensures { OnOk result (steps.new.items ≡ steps.old.items
+        ++ atomic InteractionKind.Challenge (StepValue.Algebra dimension) label.now Length.Scalar
+        ∷ []) }
 {
     let kind = InteractionKind::Challenge;
     let value = StepValue::Algebra(dimension);
@@ -67,7 +71,8 @@ fn push_challenge(
 
 /// Appends a grinding of so many bits.
 fn push_pow(steps: &mut Vec<Interaction>, alloc: Global, bits: usize, label: &str) -> Mem<()>
-    ensures { OnOk result (steps.new.items ≡ steps.old.items ++ atomic InteractionKind.Pow (StepValue.Algebra 1) label.now (Length.Fixed bits) ∷ []) }
+    ensures { OnOk result (steps.new.items ≡ steps.old.items
+        ++ atomic InteractionKind.Pow (StepValue.Algebra 1) label.now (Length.Fixed bits) ∷ []) }
 {
     let kind = InteractionKind::Pow;
     let value = StepValue::Algebra(1);
@@ -81,7 +86,9 @@ fn push_commitment_if(
     flag: bool,
     label: &str,
 ) -> Mem<()>
-    ensures { OnOk result (steps.new.items ≡ steps.old.items ++ only_with flag (atomic InteractionKind.Message StepValue.Opaque label.now Length.Scalar)) }
+    ensures { OnOk result (steps.new.items ≡ steps.old.items
+        ++ only_with flag (atomic InteractionKind.Message StepValue.Opaque label.now
+        Length.Scalar)) }
 {
     if flag {
         push_message(steps, alloc, StepValue::Opaque, label)?;
@@ -110,7 +117,8 @@ fn push_degree_bits(
     dimension: usize,
     widths: &[usize],
 ) -> Mem<()>
-    ensures { OnOk result (steps.new.items ≡ steps.old.items ++ map (λ _. degree_bits_step dimension) widths.now) }
+    ensures { OnOk result (steps.new.items ≡ steps.old.items
+        ++ map (λ _. degree_bits_step dimension) widths.now) }
 {
     for _width in widths {
         push_message(steps, alloc, StepValue::Algebra(dimension), "degree_bits")?;
@@ -144,7 +152,8 @@ fn push_pair(
     instances: usize,
     bits: usize,
 ) -> Mem<()>
-    ensures { OnOk result (steps.new.items ≡ steps.old.items ++ pair_steps dimension instances bits) }
+    ensures { OnOk result (steps.new.items ≡ steps.old.items
+        ++ pair_steps dimension instances bits) }
 {
     if instances == 0 {
         return Ok(());
@@ -162,7 +171,9 @@ fn push_terminals(
     dimension: usize,
     instances: usize,
 ) -> Mem<()>
-    ensures { OnOk result (steps.new.items ≡ steps.old.items ++ replicate instances (atomic InteractionKind.Message (StepValue.Algebra dimension) (codes "lookup_terminal") Length.Scalar)) }
+    ensures { OnOk result (steps.new.items ≡ steps.old.items
+        ++ replicate instances (atomic InteractionKind.Message (StepValue.Algebra dimension)
+        (codes "lookup_terminal") Length.Scalar)) }
 {
     for _i in 0..instances {
         push_message(
@@ -183,7 +194,8 @@ fn push_permutation(
     dimension: usize,
     instances: usize,
 ) -> Mem<()>
-    ensures { OnOk result (steps.new.items ≡ steps.old.items ++ permutation_steps dimension instances) }
+    ensures { OnOk result (steps.new.items ≡ steps.old.items
+        ++ permutation_steps dimension instances) }
 {
     if instances == 0 {
         return Ok(());

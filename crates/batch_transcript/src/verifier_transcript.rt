@@ -40,8 +40,10 @@ fn is_canonical<F: PrimeField64>(bits: usize, witness: F) -> bool
 
 /// Plays a message where there is a value.
 fn message_if_present<Com, C: CanObserve<Com>>(state: &mut VerifierState<C>, value: Option<&Com>)
-    requires { IsTrue (is_some value) → NextIs (IsStep InteractionKind.Message) state.old.remaining }
-    ensures { state.new ≡ option_map_or (λ m. played state.old (C.observed state.old.state m)) (option_copied value.entry) state.old }
+    requires { IsTrue (is_some value)
+        → NextIs (IsStep InteractionKind.Message) state.old.remaining }
+    ensures { state.new ≡ option_map_or (λ m. played state.old (C.observed state.old.state m))
+        (option_copied value.entry) state.old }
 {
     if let Some(value) = value {
         state.message(value);
@@ -53,7 +55,11 @@ impl<C, F, EF, Com> Model for BatchVerifierTranscript<C, F, EF, Com> {
 
     ghost Value = { Running C };
 
-    ghost view = { λ t. record { state = t.state.state; remaining = t.state.remaining; shape = t.shape } };
+    ghost view = { λ t. record {
+      state = t.state.state;
+      remaining = t.state.remaining;
+      shape = t.shape;
+    } };
 }
 
 impl<
@@ -73,7 +79,8 @@ impl<
     where
         C: Drop,
         ensures { IfOk result (λ t. t ≡ record {
-          state = seeded (⟦<C as BatchChallenger<F, EF, Com>>⟧.functions) F.ring EF.DIMENSION shape challenger;
+          state = seeded (⟦<C as BatchChallenger<F, EF, Com>>⟧.functions) F.ring EF.DIMENSION shape
+              challenger;
           remaining = pattern EF.DIMENSION shape;
           shape = shape;
         }) }
@@ -92,7 +99,8 @@ impl<
     pub fn instance_bindings(&mut self, degree_bits: &[usize])
         requires turn { self.old.remaining ≡ pattern EF.DIMENSION self.old.shape }
         requires count { length degree_bits.now ≡ length self.old.shape.trace_widths }
-        ensures plays { Plays (⟦<C as BatchChallenger<F, EF, Com>>⟧.functions) (bindings_script EF.ring EF.DIMENSION degree_bits.now) self.old self.new [] }
+        ensures plays { Plays (⟦<C as BatchChallenger<F, EF, Com>>⟧.functions)
+            (bindings_script EF.ring EF.DIMENSION degree_bits.now) self.old self.new [] }
         ensures turn { self.new.remaining ≡ from_main EF.DIMENSION self.new.shape }
     {
         for bits in degree_bits {
@@ -105,7 +113,8 @@ impl<
     pub fn main_phase(&mut self, main_commitment: &Com, public_values: &[Vec<F>])
         requires turn { self.old.remaining ≡ from_main EF.DIMENSION self.old.shape }
         requires count { map length (lists public_values.now) ≡ self.old.shape.public_value_counts }
-        ensures plays { Plays (⟦<C as BatchChallenger<F, EF, Com>>⟧.functions) (main_script main_commitment.now (lists public_values.now)) self.old self.new [] }
+        ensures plays { Plays (⟦<C as BatchChallenger<F, EF, Com>>⟧.functions)
+            (main_script main_commitment.now (lists public_values.now)) self.old self.new [] }
         ensures turn { self.new.remaining ≡ from_preprocessed EF.DIMENSION self.new.shape }
     {
         self.state.message(main_commitment);
@@ -119,7 +128,8 @@ impl<
     pub fn preprocessed_phase(&mut self, commitment: Option<&Com>)
         requires turn { self.old.remaining ≡ from_preprocessed EF.DIMENSION self.old.shape }
         requires count { is_some commitment ≡ self.old.shape.has_preprocessed_commitment }
-        ensures plays { Plays (⟦<C as BatchChallenger<F, EF, Com>>⟧.functions) (preprocessed_script (option_copied commitment.entry)) self.old self.new [] }
+        ensures plays { Plays (⟦<C as BatchChallenger<F, EF, Com>>⟧.functions)
+            (preprocessed_script (option_copied commitment.entry)) self.old self.new [] }
         ensures turn { self.new.remaining ≡ from_lookup EF.DIMENSION self.new.shape }
     {
         if let Some(commitment) = commitment {
@@ -140,17 +150,26 @@ impl<
         requires turn { self.old.remaining ≡ from_lookup EF.DIMENSION self.old.shape }
         requires few { 2 ^ self.old.shape.lookup_pow_bits < F.ORDER_U64 }
         ensures taken { IfOk result (λ _. IsPairTaken
-            (⟦<C as BatchChallenger<F, EF, Com>>⟧.functions) F.ring self.old.state self.old.shape.num_lookup_instances self.old.shape.lookup_pow_bits witness) }
+            (⟦<C as BatchChallenger<F, EF, Com>>⟧.functions) F.ring self.old.state
+            self.old.shape.num_lookup_instances self.old.shape.lookup_pow_bits witness) }
         ensures refused { IfErr result (VerifierFails
-            (PairRefusal (⟦<C as BatchChallenger<F, EF, Com>>⟧.functions) F.ring self.old.state self.old.shape.num_lookup_instances self.old.shape.lookup_pow_bits witness)) }
-        ensures left { IfErr result (VerifierFails (PairLeft (⟦<C as BatchChallenger<F, EF, Com>>⟧.functions) self.old.state self.old.shape.lookup_pow_bits witness self.new.state)) }
+            (PairRefusal (⟦<C as BatchChallenger<F, EF, Com>>⟧.functions) F.ring self.old.state
+            self.old.shape.num_lookup_instances self.old.shape.lookup_pow_bits witness)) }
+        ensures left { IfErr result
+            (VerifierFails (PairLeft (⟦<C as BatchChallenger<F, EF, Com>>⟧.functions) self.old.state
+            self.old.shape.lookup_pow_bits witness self.new.state)) }
         ensures memory { IfErr result (λ e. e ≡ TranscriptError.OutOfMemory
-            → IsPairTaken (⟦<C as BatchChallenger<F, EF, Com>>⟧.functions) F.ring self.old.state self.old.shape.num_lookup_instances self.old.shape.lookup_pow_bits witness) }
-        ensures plays { IfOk result (λ v. let script = pair_script EF.DIMENSION self.old.shape.num_lookup_instances self.old.shape.lookup_pow_bits witness in
+            → IsPairTaken (⟦<C as BatchChallenger<F, EF, Com>>⟧.functions) F.ring self.old.state
+            self.old.shape.num_lookup_instances self.old.shape.lookup_pow_bits witness) }
+        ensures plays { IfOk result
+            (λ v. let script = pair_script EF.DIMENSION self.old.shape.num_lookup_instances
+            self.old.shape.lookup_pow_bits witness in
             let c = ⟦<C as BatchChallenger<F, EF, Com>>⟧.functions in
             Plays c script self.old self.new (drawn_along c self.old.state script)
-            × (lists v.items ≡ batch_layout EF.ring (drawn_along c self.old.state script) (map read_all lookups.now))) }
-        ensures turn { IfOk result (λ _. self.new.remaining ≡ from_permutation EF.DIMENSION self.new.shape) }
+            × (lists v.items ≡ batch_layout EF.ring (drawn_along c self.old.state script)
+            (map read_all lookups.now))) }
+        ensures turn { IfOk result
+            (λ _. self.new.remaining ≡ from_permutation EF.DIMENSION self.new.shape) }
     {
         let bits = self.shape.lookup_pow_bits;
         if self.shape.num_lookup_instances == 0 {
@@ -183,7 +202,9 @@ impl<
         requires turn { self.old.remaining ≡ from_permutation EF.DIMENSION self.old.shape }
         requires present { is_some commitment ≡ is_positive self.old.shape.num_lookup_instances }
         requires count { length terminals.now ≡ self.old.shape.num_lookup_instances }
-        ensures plays { Plays (⟦<C as BatchChallenger<F, EF, Com>>⟧.functions) (permutation_script EF.DIMENSION (option_copied commitment.entry) terminals.now) self.old self.new (result ∷ []) }
+        ensures plays { Plays (⟦<C as BatchChallenger<F, EF, Com>>⟧.functions)
+            (permutation_script EF.DIMENSION (option_copied commitment.entry) terminals.now)
+            self.old self.new (result ∷ []) }
         ensures turn { self.new.remaining ≡ from_quotient EF.DIMENSION self.new.shape }
     {
         message_if_present(&mut self.state, commitment);
@@ -198,7 +219,9 @@ impl<
     pub fn quotient_phase(&mut self, quotient: &Com, randomization: Option<&Com>)
         requires turn { self.old.remaining ≡ from_quotient EF.DIMENSION self.old.shape }
         requires count { is_some randomization ≡ self.old.shape.has_randomization_commitment }
-        ensures plays { Plays (⟦<C as BatchChallenger<F, EF, Com>>⟧.functions) (quotient_script quotient.now (option_copied randomization.entry)) self.old self.new [] }
+        ensures plays { Plays (⟦<C as BatchChallenger<F, EF, Com>>⟧.functions)
+            (quotient_script quotient.now (option_copied randomization.entry)) self.old self.new
+            [] }
         ensures turn { self.new.remaining ≡ from_ood EF.DIMENSION self.new.shape }
     {
         self.state.message(quotient);
@@ -214,11 +237,19 @@ impl<
         requires turn { self.old.remaining ≡ from_ood EF.DIMENSION self.old.shape }
         requires few { 2 ^ self.old.shape.ood_pow_bits < F.ORDER_U64 }
         ensures answer { MatchResult result
-            (λ _. IsTaken (⟦<C as BatchChallenger<F, EF, Com>>⟧.functions) F.ring self.old.state self.old.shape.ood_pow_bits witness)
-            (OodRefusal (⟦<C as BatchChallenger<F, EF, Com>>⟧.functions) F.ring self.old.state self.old.shape.ood_pow_bits witness) }
-        ensures left { IfErr result (OodLeft (⟦<C as BatchChallenger<F, EF, Com>>⟧.functions) self.old.state self.old.shape.ood_pow_bits witness self.new.state) }
-        ensures plays { IfOk result (λ zeta. Plays (⟦<C as BatchChallenger<F, EF, Com>>⟧.functions) (ood_script EF.DIMENSION self.old.shape.ood_pow_bits witness) self.old self.new (zeta ∷ [])) }
-        ensures turn { IfOk result (λ _. self.new.remaining ≡ from_opening EF.DIMENSION self.new.shape) }
+            (λ _. IsTaken (⟦<C as BatchChallenger<F, EF, Com>>⟧.functions) F.ring self.old.state
+            self.old.shape.ood_pow_bits witness)
+            (OodRefusal (⟦<C as BatchChallenger<F, EF, Com>>⟧.functions) F.ring self.old.state
+            self.old.shape.ood_pow_bits witness) }
+        ensures left { IfErr result
+            (OodLeft (⟦<C as BatchChallenger<F, EF, Com>>⟧.functions) self.old.state
+            self.old.shape.ood_pow_bits witness self.new.state) }
+        ensures plays { IfOk result
+            (λ zeta. Plays (⟦<C as BatchChallenger<F, EF, Com>>⟧.functions)
+            (ood_script EF.DIMENSION self.old.shape.ood_pow_bits witness) self.old self.new
+            (zeta ∷ [])) }
+        ensures turn { IfOk result
+            (λ _. self.new.remaining ≡ from_opening EF.DIMENSION self.new.shape) }
     {
         let bits = self.shape.ood_pow_bits;
         if !is_canonical(bits, witness) {

@@ -20,7 +20,8 @@ fn tuples_agree<F>(
     first: &[Vec<SymbolicExpression<F>>],
     second: &[Vec<SymbolicExpression<F>>],
 ) -> bool
-    ensures { result ≡ list_all (λ s. list_all (λ t. length t.items == length s.items) second.now) first.now }
+    ensures { result ≡ list_all (λ s. list_all (λ t. length t.items == length s.items) second.now)
+        first.now }
 {
     first.iter().all(|tuple| have_width(second, tuple.len()))
 }

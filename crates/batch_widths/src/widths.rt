@@ -12,7 +12,8 @@ use std::alloc::Global;
 
 // The lookups of each AIR.
 fn lookups_of_each<F: Field, A: Air<F>>(alloc: Global, airs: &[A]) -> Mem<Vec<Lookups<F>>>
-    ensures { IfOk result (λ v. map read_all v.items ≡ map (λ a. lookups_of (A.interactions a)) airs.now) }
+    ensures { IfOk result (λ v.
+        map read_all v.items ≡ map (λ a. lookups_of (A.interactions a)) airs.now) }
 {
     let mut tables = Vec::new(alloc);
     for air in airs {
@@ -24,7 +25,8 @@ fn lookups_of_each<F: Field, A: Air<F>>(alloc: Global, airs: &[A]) -> Mem<Vec<Lo
 /// Whether the tuples that these AIRs send on one bus have one width (not in Plonky3): just what `ProverData::from_instances` and
 /// `ProverData::from_airs_and_degrees` of `batch_setup` ask of their caller, for AIRs that are known at run time alone. Only out of memory is an error.
 pub fn have_one_width<F: Field, A: Air<F>>(alloc: Global, airs: &[A]) -> Mem<bool>
-    ensures { IfOk result (λ b. IsTrue b ↔ HaveOneWidth (flat_map (λ a. lookups_of (A.interactions a)) airs.now)) }
+    ensures { IfOk result (λ b. IsTrue b
+        ↔ HaveOneWidth (flat_map (λ a. lookups_of (A.interactions a)) airs.now)) }
 {
     let tables = lookups_of_each(alloc, airs)?;
     Ok(all_agree(&tables))

@@ -21,7 +21,8 @@ fn majority<AB: AirBuilder>(
     ensures keeps_shape { AB.shape builder.new ≡ AB.shape builder.old }
     ensures answers { IsTrue AB.never_fails → IsOk result }
     ensures appends { AB.appends builder.old builder.new [] [] }
-    ensures represents { (s t u : Tree AB.F) → AB.represents builder.old x s → AB.represents builder.old y t → AB.represents builder.old z u
+    ensures represents { (s t u : Tree AB.F) → AB.represents builder.old x s
+        → AB.represents builder.old y t → AB.represents builder.old z u
         → IfOk result (λ e. AB.represents builder.new e (majority s t u)) }
 {
     let first = builder.add(x, z)?;
@@ -42,7 +43,8 @@ fn sum_of_three<AB: AirBuilder>(
     ensures keeps_shape { AB.shape builder.new ≡ AB.shape builder.old }
     ensures answers { IsTrue AB.never_fails → IsOk result }
     ensures appends { AB.appends builder.old builder.new [] [] }
-    ensures represents { (s t u : Tree AB.F) → AB.represents builder.old x s → AB.represents builder.old y t → AB.represents builder.old z u
+    ensures represents { (s t u : Tree AB.F) → AB.represents builder.old x s
+        → AB.represents builder.old y t → AB.represents builder.old z u
         → IfOk result (λ e. AB.represents builder.new e (sum (sum s t) u)) }
 {
     let first = builder.add(x, y)?;
@@ -61,7 +63,8 @@ pub fn turned_bits<AB: AirBuilder>(
     ensures keeps_shape { AB.shape builder.new ≡ AB.shape builder.old }
     ensures answers { IsTrue AB.never_fails → IsOk result }
     ensures appends { AB.appends builder.old builder.new [] [] }
-    ensures represents { (t u : ℕ → Tree AB.F) → RepresentAt (AB.represents builder.old) x t → RepresentAt (AB.represents builder.old) y u
+    ensures represents { (t u : ℕ → Tree AB.F) → RepresentAt (AB.represents builder.old) x t
+        → RepresentAt (AB.represents builder.old) y u
         → IfOk result (λ es. RepresentAt (AB.represents builder.new) es (turned t u s)) }
 {
     let mut bits = [x[0]; 32];
@@ -82,7 +85,8 @@ fn carries_in<AB: AirBuilder>(
     ensures keeps_shape { AB.shape builder.new ≡ AB.shape builder.old }
     ensures answers { IsTrue AB.never_fails → IsOk result }
     ensures appends { AB.appends builder.old builder.new [] [] }
-    ensures represents { (t u v : ℕ → Tree AB.F) → RepresentAt (AB.represents builder.old) x t → RepresentAt (AB.represents builder.old) y u → RepresentAt (AB.represents builder.old) s v
+    ensures represents { (t u v : ℕ → Tree AB.F) → RepresentAt (AB.represents builder.old) x t
+        → RepresentAt (AB.represents builder.old) y u → RepresentAt (AB.represents builder.old) s v
         → IfOk result (λ es. RepresentAt (AB.represents builder.new) es (carry_in t u v)) }
 {
     let mut carries = [s[0]; 32];
@@ -105,7 +109,9 @@ fn carried_bit<AB: AirBuilder>(
     ensures keeps_shape { AB.shape builder.new ≡ AB.shape builder.old }
     ensures answers { IsTrue AB.never_fails → IsOk result }
     ensures appends { AB.appends builder.old builder.new [] [] }
-    ensures represents { (t u v : ℕ → Tree AB.F) → RepresentAt (AB.represents builder.old) x.now t → RepresentAt (AB.represents builder.old) y.now u → RepresentAt (AB.represents builder.old) k.now v
+    ensures represents { (t u v : ℕ → Tree AB.F) → RepresentAt (AB.represents builder.old) x.now t
+        → RepresentAt (AB.represents builder.old) y.now u
+        → RepresentAt (AB.represents builder.old) k.now v
         → IfOk result (λ e. AB.represents builder.new e (with_carries t u v i)) }
 {
     if i == 0 {
@@ -126,7 +132,8 @@ fn carried_bits<AB: AirBuilder>(
     ensures keeps_shape { AB.shape builder.new ≡ AB.shape builder.old }
     ensures answers { IsTrue AB.never_fails → IsOk result }
     ensures appends { AB.appends builder.old builder.new [] [] }
-    ensures represents { (t u v : ℕ → Tree AB.F) → RepresentAt (AB.represents builder.old) x t → RepresentAt (AB.represents builder.old) y u → RepresentAt (AB.represents builder.old) k v
+    ensures represents { (t u v : ℕ → Tree AB.F) → RepresentAt (AB.represents builder.old) x t
+        → RepresentAt (AB.represents builder.old) y u → RepresentAt (AB.represents builder.old) k v
         → IfOk result (λ es. RepresentAt (AB.represents builder.new) es (with_carries t u v)) }
 {
     let mut bits = [x[0]; 32];
@@ -147,8 +154,11 @@ fn assert_next<AB: AirBuilder>(
     ensures later { AB.later builder.old builder.new }
     ensures keeps_shape { AB.shape builder.new ≡ AB.shape builder.old }
     ensures answers { IsTrue AB.never_fails → IsOk result }
-    ensures appends { (s t u v : Tree AB.F) → AB.represents builder.old x s → AB.represents builder.old y t → AB.represents builder.old carry u → AB.represents builder.old next v
-        → IfOk result (λ _. AB.appends builder.old builder.new (over_base (sum (majority s t u) v) ∷ []) []) }
+    ensures appends { (s t u v : Tree AB.F) → AB.represents builder.old x s
+        → AB.represents builder.old y t → AB.represents builder.old carry u
+        → AB.represents builder.old next v
+        → IfOk result (λ _. AB.appends builder.old builder.new
+        (over_base (sum (majority s t u) v) ∷ []) []) }
     ensures on_error { OnErr result (AB.appends builder.old builder.new [] []) }
 {
     let both = majority(builder, x, y, carry)?;
@@ -167,10 +177,16 @@ fn assert_carries_in<AB: AirBuilder>(
     ensures later { AB.later builder.old builder.new }
     ensures keeps_shape { AB.shape builder.new ≡ AB.shape builder.old }
     ensures answers { IsTrue AB.never_fails → IsOk result }
-    ensures appends { (t u v : ℕ → Tree AB.F) → RepresentAt (AB.represents builder.old) x t → RepresentAt (AB.represents builder.old) y u → RepresentAt (AB.represents builder.old) carries v
-        → IfOk result (λ _. Appended AB.appends builder.old builder.new (tabulate 31 (λ i. sum (majority (t i) (u i) (v i)) (v (suc i))))) }
-    ensures on_error { (t u v : ℕ → Tree AB.F) → RepresentAt (AB.represents builder.old) x t → RepresentAt (AB.represents builder.old) y u → RepresentAt (AB.represents builder.old) carries v
-        → OnFailure result (AppendedSome AB.appends builder.old builder.new (tabulate 31 (λ i. sum (majority (t i) (u i) (v i)) (v (suc i))))) }
+    ensures appends { (t u v : ℕ → Tree AB.F) → RepresentAt (AB.represents builder.old) x t
+        → RepresentAt (AB.represents builder.old) y u
+        → RepresentAt (AB.represents builder.old) carries v
+        → IfOk result (λ _. Appended AB.appends builder.old builder.new
+        (tabulate 31 (λ i. sum (majority (t i) (u i) (v i)) (v (suc i))))) }
+    ensures on_error { (t u v : ℕ → Tree AB.F) → RepresentAt (AB.represents builder.old) x t
+        → RepresentAt (AB.represents builder.old) y u
+        → RepresentAt (AB.represents builder.old) carries v
+        → OnFailure result (AppendedSome AB.appends builder.old builder.new
+        (tabulate 31 (λ i. sum (majority (t i) (u i) (v i)) (v (suc i))))) }
 {
     for i in 0..31 {
         assert_next(builder, x[i], y[i], carries[i], carries[i + 1])?;
@@ -189,9 +205,11 @@ pub fn assert_sum2<AB: AirBuilder>(
     ensures later { AB.later builder.old builder.new }
     ensures keeps_shape { AB.shape builder.new ≡ AB.shape builder.old }
     ensures answers { IsTrue AB.never_fails → IsOk result }
-    ensures appends { (t u v : ℕ → Tree AB.F) → RepresentAt (AB.represents builder.old) x t → RepresentAt (AB.represents builder.old) y u → RepresentAt (AB.represents builder.old) s v
+    ensures appends { (t u v : ℕ → Tree AB.F) → RepresentAt (AB.represents builder.old) x t
+        → RepresentAt (AB.represents builder.old) y u → RepresentAt (AB.represents builder.old) s v
         → IfOk result (λ _. Appended AB.appends builder.old builder.new (sum2_trees t u v)) }
-    ensures on_error { (t u v : ℕ → Tree AB.F) → RepresentAt (AB.represents builder.old) x t → RepresentAt (AB.represents builder.old) y u → RepresentAt (AB.represents builder.old) s v
+    ensures on_error { (t u v : ℕ → Tree AB.F) → RepresentAt (AB.represents builder.old) x t
+        → RepresentAt (AB.represents builder.old) y u → RepresentAt (AB.represents builder.old) s v
         → OnFailure result (AppendedSome AB.appends builder.old builder.new (sum2_trees t u v)) }
 {
     let carries = carries_in(builder, x, y, s)?;
@@ -210,8 +228,10 @@ fn assert_first_carry<AB: AirBuilder>(
     ensures later { AB.later builder.old builder.new }
     ensures keeps_shape { AB.shape builder.new ≡ AB.shape builder.old }
     ensures answers { IsTrue AB.never_fails → IsOk result }
-    ensures appends { (s t u : Tree AB.F) → AB.represents builder.old x s → AB.represents builder.old y t → AB.represents builder.old carry u
-        → IfOk result (λ _. AB.appends builder.old builder.new (over_base (sum (product s t) u) ∷ []) []) }
+    ensures appends { (s t u : Tree AB.F) → AB.represents builder.old x s
+        → AB.represents builder.old y t → AB.represents builder.old carry u
+        → IfOk result (λ _. AB.appends builder.old builder.new
+        (over_base (sum (product s t) u) ∷ []) []) }
     ensures on_error { OnErr result (AB.appends builder.old builder.new [] []) }
 {
     let both = builder.mul(x, y)?;
@@ -230,10 +250,14 @@ fn assert_later_carries<AB: AirBuilder>(
     ensures later { AB.later builder.old builder.new }
     ensures keeps_shape { AB.shape builder.new ≡ AB.shape builder.old }
     ensures answers { IsTrue AB.never_fails → IsOk result }
-    ensures appends { (t u v : ℕ → Tree AB.F) → RepresentAt (AB.represents builder.old) x t → RepresentAt (AB.represents builder.old) y u → RepresentAt (AB.represents builder.old) k v
-        → IfOk result (λ _. Appended AB.appends builder.old builder.new (tabulate 30 (λ i. sum (majority (t (suc i)) (u (suc i)) (v i)) (v (suc i))))) }
-    ensures on_error { (t u v : ℕ → Tree AB.F) → RepresentAt (AB.represents builder.old) x t → RepresentAt (AB.represents builder.old) y u → RepresentAt (AB.represents builder.old) k v
-        → OnFailure result (AppendedSome AB.appends builder.old builder.new (tabulate 30 (λ i. sum (majority (t (suc i)) (u (suc i)) (v i)) (v (suc i))))) }
+    ensures appends { (t u v : ℕ → Tree AB.F) → RepresentAt (AB.represents builder.old) x t
+        → RepresentAt (AB.represents builder.old) y u → RepresentAt (AB.represents builder.old) k v
+        → IfOk result (λ _. Appended AB.appends builder.old builder.new
+        (tabulate 30 (λ i. sum (majority (t (suc i)) (u (suc i)) (v i)) (v (suc i))))) }
+    ensures on_error { (t u v : ℕ → Tree AB.F) → RepresentAt (AB.represents builder.old) x t
+        → RepresentAt (AB.represents builder.old) y u → RepresentAt (AB.represents builder.old) k v
+        → OnFailure result (AppendedSome AB.appends builder.old builder.new
+        (tabulate 30 (λ i. sum (majority (t (suc i)) (u (suc i)) (v i)) (v (suc i))))) }
 {
     for i in 0..30 {
         assert_next(builder, x[i + 1], y[i + 1], k[i], k[i + 1])?;
@@ -251,9 +275,11 @@ fn assert_carries<AB: AirBuilder>(
     ensures later { AB.later builder.old builder.new }
     ensures keeps_shape { AB.shape builder.new ≡ AB.shape builder.old }
     ensures answers { IsTrue AB.never_fails → IsOk result }
-    ensures appends { (t u v : ℕ → Tree AB.F) → RepresentAt (AB.represents builder.old) x t → RepresentAt (AB.represents builder.old) y u → RepresentAt (AB.represents builder.old) k v
+    ensures appends { (t u v : ℕ → Tree AB.F) → RepresentAt (AB.represents builder.old) x t
+        → RepresentAt (AB.represents builder.old) y u → RepresentAt (AB.represents builder.old) k v
         → IfOk result (λ _. Appended AB.appends builder.old builder.new (carries_trees t u v)) }
-    ensures on_error { (t u v : ℕ → Tree AB.F) → RepresentAt (AB.represents builder.old) x t → RepresentAt (AB.represents builder.old) y u → RepresentAt (AB.represents builder.old) k v
+    ensures on_error { (t u v : ℕ → Tree AB.F) → RepresentAt (AB.represents builder.old) x t
+        → RepresentAt (AB.represents builder.old) y u → RepresentAt (AB.represents builder.old) k v
         → OnFailure result (AppendedSome AB.appends builder.old builder.new (carries_trees t u v)) }
 {
     assert_first_carry(builder, x[0], y[0], k[0])?;
@@ -273,12 +299,15 @@ pub fn assert_sum3<AB: AirBuilder>(
     ensures later { AB.later builder.old builder.new }
     ensures keeps_shape { AB.shape builder.new ≡ AB.shape builder.old }
     ensures answers { IsTrue AB.never_fails → IsOk result }
-    ensures appends { (t u v w p : ℕ → Tree AB.F) → RepresentAt (AB.represents builder.old) x t → RepresentAt (AB.represents builder.old) y u → RepresentAt (AB.represents builder.old) z v
+    ensures appends { (t u v w p : ℕ → Tree AB.F) → RepresentAt (AB.represents builder.old) x t
+        → RepresentAt (AB.represents builder.old) y u → RepresentAt (AB.represents builder.old) z v
         → RepresentAt (AB.represents builder.old) k w → RepresentAt (AB.represents builder.old) s p
         → IfOk result (λ _. Appended AB.appends builder.old builder.new (sum3_trees t u v w p)) }
-    ensures on_error { (t u v w p : ℕ → Tree AB.F) → RepresentAt (AB.represents builder.old) x t → RepresentAt (AB.represents builder.old) y u → RepresentAt (AB.represents builder.old) z v
+    ensures on_error { (t u v w p : ℕ → Tree AB.F) → RepresentAt (AB.represents builder.old) x t
+        → RepresentAt (AB.represents builder.old) y u → RepresentAt (AB.represents builder.old) z v
         → RepresentAt (AB.represents builder.old) k w → RepresentAt (AB.represents builder.old) s p
-        → OnFailure result (AppendedSome AB.appends builder.old builder.new (sum3_trees t u v w p)) }
+        → OnFailure result (AppendedSome AB.appends builder.old builder.new
+        (sum3_trees t u v w p)) }
 {
     assert_carries(builder, x, y, k)?;
     let both = carried_bits(builder, x, y, k)?;

@@ -53,8 +53,12 @@ fn assert_bit<AB: AirBuilder>(builder: &mut AB, column: usize) -> Mem<()>
     ensures later { AB.later builder.old builder.new }
     ensures keeps_shape { AB.shape builder.new ≡ AB.shape builder.old }
     ensures answers { IsTrue AB.never_fails → IsOk result }
-    ensures appends { IfOk result (λ _. Appended AB.appends builder.old builder.new (bool_tree AB.F.ring.one (cell_tree (MainCell false column)) ∷ [])) }
-    ensures on_error { OnFailure result (AppendedSome AB.appends builder.old builder.new (bool_tree AB.F.ring.one (cell_tree (MainCell false column)) ∷ [])) }
+    ensures appends { IfOk result
+        (λ _. Appended AB.appends builder.old builder.new
+        (bool_tree AB.F.ring.one (cell_tree (MainCell false column)) ∷ [])) }
+    ensures on_error { OnFailure result
+        (AppendedSome AB.appends builder.old builder.new
+        (bool_tree AB.F.ring.one (cell_tree (MainCell false column)) ∷ [])) }
 {
     let cell = cell_at(builder, column)?;
     builder.assert_bool(cell)?;
@@ -68,8 +72,10 @@ fn assert_bits<AB: AirBuilder>(builder: &mut AB, column: usize, n: usize) -> Mem
     ensures later { AB.later builder.old builder.new }
     ensures keeps_shape { AB.shape builder.new ≡ AB.shape builder.old }
     ensures answers { IsTrue AB.never_fails → IsOk result }
-    ensures appends { IfOk result (λ _. Appended AB.appends builder.old builder.new (bits_trees AB.F.ring column n)) }
-    ensures on_error { OnFailure result (AppendedSome AB.appends builder.old builder.new (bits_trees AB.F.ring column n)) }
+    ensures appends { IfOk result
+        (λ _. Appended AB.appends builder.old builder.new (bits_trees AB.F.ring column n)) }
+    ensures on_error { OnFailure result
+        (AppendedSome AB.appends builder.old builder.new (bits_trees AB.F.ring column n)) }
 {
     for i in 0..n {
         assert_bit(builder, column + i)?;
@@ -83,8 +89,10 @@ fn assert_all<AB: AirBuilder>(builder: &mut AB) -> Mem<()>
     ensures later { AB.later builder.old builder.new }
     ensures keeps_shape { AB.shape builder.new ≡ AB.shape builder.old }
     ensures answers { IsTrue AB.never_fails → IsOk result }
-    ensures appends { IfOk result (λ _. Appended AB.appends builder.old builder.new (binary_trees AB.F.ring)) }
-    ensures on_error { OnFailure result (AppendedSome AB.appends builder.old builder.new (binary_trees AB.F.ring)) }
+    ensures appends { IfOk result
+        (λ _. Appended AB.appends builder.old builder.new (binary_trees AB.F.ring)) }
+    ensures on_error { OnFailure result
+        (AppendedSome AB.appends builder.old builder.new (binary_trees AB.F.ring)) }
 {
     assert_bits(builder, 0, 896)?;
     assert_steps(builder)?;
@@ -97,8 +105,10 @@ fn assert_chosen<AB: AirBuilder>(builder: &mut AB, boolean_trace: bool) -> Mem<(
     ensures later { AB.later builder.old builder.new }
     ensures keeps_shape { AB.shape builder.new ≡ AB.shape builder.old }
     ensures answers { IsTrue AB.never_fails → IsOk result }
-    ensures appends { IfOk result (λ _. Appended AB.appends builder.old builder.new (air_trees AB.F.ring boolean_trace)) }
-    ensures on_error { OnFailure result (AppendedSome AB.appends builder.old builder.new (air_trees AB.F.ring boolean_trace)) }
+    ensures appends { IfOk result
+        (λ _. Appended AB.appends builder.old builder.new (air_trees AB.F.ring boolean_trace)) }
+    ensures on_error { OnFailure result
+        (AppendedSome AB.appends builder.old builder.new (air_trees AB.F.ring boolean_trace)) }
 {
     if boolean_trace {
         assert_steps(builder)

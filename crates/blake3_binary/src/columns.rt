@@ -116,7 +116,8 @@ impl<'a, T> Blake3BinaryGCols<'a, T> {
     /// Bit `bit` of d after the step's first half.
     pub fn d1(&self, bit: usize) -> &'a T
         requires { bit < 32 }
-        ensures { (d : T) → result.now ≡ slice_index_or self.now.row.now (self.now.at + 31 + bit) d }
+        ensures { (d : T) → result.now
+            ≡ slice_index_or self.now.row.now (self.now.at + 31 + bit) d }
     {
         &self.row[self.at + 31 + bit]
     }
@@ -124,7 +125,8 @@ impl<'a, T> Blake3BinaryGCols<'a, T> {
     /// Bit `bit` of b after the step's first half.
     pub fn b1(&self, bit: usize) -> &'a T
         requires { bit < 32 }
-        ensures { (d : T) → result.now ≡ slice_index_or self.now.row.now (self.now.at + 63 + bit) d }
+        ensures { (d : T) → result.now
+            ≡ slice_index_or self.now.row.now (self.now.at + 63 + bit) d }
     {
         &self.row[self.at + 63 + bit]
     }
@@ -132,7 +134,8 @@ impl<'a, T> Blake3BinaryGCols<'a, T> {
     /// The carry into place `bit` + 1 of a + b before the second message word.
     pub fn add2_carries(&self, bit: usize) -> &'a T
         requires { bit < 31 }
-        ensures { (d : T) → result.now ≡ slice_index_or self.now.row.now (self.now.at + 95 + bit) d }
+        ensures { (d : T) → result.now
+            ≡ slice_index_or self.now.row.now (self.now.at + 95 + bit) d }
     {
         &self.row[self.at + 95 + bit]
     }
@@ -140,7 +143,8 @@ impl<'a, T> Blake3BinaryGCols<'a, T> {
     /// Bit `bit` of d after the step.
     pub fn d2(&self, bit: usize) -> &'a T
         requires { bit < 32 }
-        ensures { (d : T) → result.now ≡ slice_index_or self.now.row.now (self.now.at + 126 + bit) d }
+        ensures { (d : T) → result.now
+            ≡ slice_index_or self.now.row.now (self.now.at + 126 + bit) d }
     {
         &self.row[self.at + 126 + bit]
     }
@@ -148,7 +152,8 @@ impl<'a, T> Blake3BinaryGCols<'a, T> {
     /// Bit `bit` of b after the step.
     pub fn b2(&self, bit: usize) -> &'a T
         requires { bit < 32 }
-        ensures { (d : T) → result.now ≡ slice_index_or self.now.row.now (self.now.at + 158 + bit) d }
+        ensures { (d : T) → result.now
+            ≡ slice_index_or self.now.row.now (self.now.at + 158 + bit) d }
     {
         &self.row[self.at + 158 + bit]
     }
@@ -168,7 +173,9 @@ fn word_at<F: Field>(row: &[F], at: usize) -> u32
     requires fits { at + 32 ≤ length row.now }
     requires wide { length row.now ≤ 11536 }
     ensures counted { CountsAt F.ring row.now at result }
-    ensures word { (w : ℕ) → w < 2 ^ 32 → ((k : ℕ) (d : F) → k < 32 → slice_index_or row.now (at + k) d ≡ of_nat F.ring (bit_at w k)) → result ≡ w }
+    ensures word { (w : ℕ) → w < 2 ^ 32
+        → ((k : ℕ) (d : F) → k < 32
+        → slice_index_or row.now (at + k) d ≡ of_nat F.ring (bit_at w k)) → result ≡ w }
 {
     let mut word = 0u32;
     for i in 0..32 {
@@ -181,8 +188,10 @@ fn word_at<F: Field>(row: &[F], at: usize) -> u32
 fn last_words<F: Field>(row: &[F], g: usize) -> FourWords
     requires wide { length row.now ≡ 11536 }
     requires steps { g < 4 }
-    ensures words { (x : Input) (d1 b1 d2 b2 : ℕ → ℕ) → AreRead F.ring row.now x d1 b1 d2 b2 → quarter_of result ≡ step_words (d1 g) (b1 g) (d2 g) (b2 g) }
-    ensures counted { (x : Input) (d1 b1 d2 b2 : ℕ → ℕ) → AreCounted F.ring row.now x d1 b1 d2 b2 → quarter_of result ≡ step_words (d1 g) (b1 g) (d2 g) (b2 g) }
+    ensures words { (x : Input) (d1 b1 d2 b2 : ℕ → ℕ) → AreRead F.ring row.now x d1 b1 d2 b2
+        → quarter_of result ≡ step_words (d1 g) (b1 g) (d2 g) (b2 g) }
+    ensures counted { (x : Input) (d1 b1 d2 b2 : ℕ → ℕ) → AreCounted F.ring row.now x d1 b1 d2 b2
+        → quarter_of result ≡ step_words (d1 g) (b1 g) (d2 g) (b2 g) }
 {
     let at = 896 + 190 * (52 + g);
     let d1 = word_at(row, at + 31);
@@ -201,8 +210,10 @@ fn last_words<F: Field>(row: &[F], g: usize) -> FourWords
 fn chaining_word<F: Field>(row: &[F], i: usize) -> u32
     requires wide { length row.now ≡ 11536 }
     requires words { i < 8 }
-    ensures words { (x : Input) (d1 b1 d2 b2 : ℕ → ℕ) → AreRead F.ring row.now x d1 b1 d2 b2 → result ≡ chaining x i }
-    ensures counted { (x : Input) (d1 b1 d2 b2 : ℕ → ℕ) → AreCounted F.ring row.now x d1 b1 d2 b2 → result ≡ chaining x i }
+    ensures words { (x : Input) (d1 b1 d2 b2 : ℕ → ℕ) → AreRead F.ring row.now x d1 b1 d2 b2
+        → result ≡ chaining x i }
+    ensures counted { (x : Input) (d1 b1 d2 b2 : ℕ → ℕ) → AreCounted F.ring row.now x d1 b1 d2 b2
+        → result ≡ chaining x i }
 {
     word_at(row, 32 * i)
 }
@@ -212,11 +223,14 @@ impl<'a, F: Field> Blake3BinaryCols<'a, F> {
     /// words, those that these words give (`words`). So of a compression's row they are the compression of its 28 words
     /// (`compressed`). Where the cells are no bits, one that isn't zero counts as one (`counted`; not in Plonky3).
     pub fn compression_output(&self) -> [u32; 16]
-        ensures words { (x : Input) (d1 b1 d2 b2 : ℕ → ℕ) → AreRead F.ring self.now.row.now x d1 b1 d2 b2
+        ensures words { (x : Input) (d1 b1 d2 b2 : ℕ → ℕ)
+            → AreRead F.ring self.now.row.now x d1 b1 d2 b2
             → result ≡ words_of (output_of x (state_read d1 b1 d2 b2)) }
-        ensures counted { (x : Input) (d1 b1 d2 b2 : ℕ → ℕ) → AreCounted F.ring self.now.row.now x d1 b1 d2 b2
+        ensures counted { (x : Input) (d1 b1 d2 b2 : ℕ → ℕ)
+            → AreCounted F.ring self.now.row.now x d1 b1 d2 b2
             → result ≡ words_of (output_of x (state_read d1 b1 d2 b2)) }
-        ensures compressed { (x : Input) → AreWords x → self.now.row.now ≡ binary_trace_row F.ring x → result ≡ words_of (compress x) }
+        ensures compressed { (x : Input) → AreWords x → self.now.row.now ≡ binary_trace_row F.ring x
+            → result ≡ words_of (compress x) }
     {
         let p = last_words(self.row, 0);
         let q = last_words(self.row, 1);

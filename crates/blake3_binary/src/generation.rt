@@ -25,7 +25,8 @@ use std::alloc::Global;
 // Pushes the bit at place i of a word.
 fn push_bit<F: Field>(values: &mut Vec<F>, word: u32, i: usize) -> Mem<()>
     requires { i < 32 }
-    ensures { IfOk result (λ _. Pushed F.ring values.old.items values.new.items (bit_at word i ∷ [])) }
+    ensures { IfOk result (λ _.
+        Pushed F.ring values.old.items values.new.items (bit_at word i ∷ [])) }
 {
     values.push(<F as RingCore>::from_u64((word >> (i as u32) & 1) as u64))?;
     Ok(())
@@ -40,7 +41,8 @@ fn carry_word(a: u32, b: u32) -> u32
 
 // Pushes the carries of a sum into places 1 to 31.
 fn push_carries<F: Field>(values: &mut Vec<F>, a: u32, b: u32) -> Mem<()>
-    ensures { IfOk result (λ _. Pushed F.ring values.old.items values.new.items (tabulate 31 (λ i. carry a b (suc i)))) }
+    ensures { IfOk result (λ _.
+        Pushed F.ring values.old.items values.new.items (tabulate 31 (λ i. carry a b (suc i)))) }
 {
     let carries = carry_word(a, b);
     for i in 0..31 {
@@ -52,7 +54,9 @@ fn push_carries<F: Field>(values: &mut Vec<F>, a: u32, b: u32) -> Mem<()>
 // Pushes n words from one on.
 fn push_words<F: Field>(values: &mut Vec<F>, words: &[u32; 28], from: usize, n: usize) -> Mem<()>
     requires { from + n ≤ 28 }
-    ensures { IfOk result (λ _. Pushed F.ring values.old.items values.new.items (bit_cells n (λ i. input_of words.now (from + i)))) }
+    ensures { IfOk result (λ _.
+        Pushed F.ring values.old.items values.new.items
+        (bit_cells n (λ i. input_of words.now (from + i)))) }
 {
     for i in 0..n {
         push_bits(values, words[from + i])?;
@@ -72,7 +76,9 @@ fn push_half<F: Field>(
     requires steps { g < 4 }
     ensures { (x : Input) (v : State) → AreFirst words.now x → IsState state.now v
         → IfOk result (λ _. Pushed F.ring values.old.items values.new.items
-        (quarter_cells (words_taken (turn_of n) v g) (half_quarter_round (d_turn n) (b_turn n) (words_taken (turn_of n) v g) (x (message_of n g))))) }
+        (quarter_cells (words_taken (turn_of n) v g)
+        (half_quarter_round (d_turn n) (b_turn n) (words_taken (turn_of n) v g)
+        (x (message_of n g))))) }
 {
     let before = taken_words(n, state, g);
     let after = made_words(n, words, state, g);
@@ -93,8 +99,10 @@ fn push_step<F: Field>(
 ) -> Mem<()>
     requires turns { p < 14 }
     requires steps { g < 4 }
-    ensures { (x : Input) → AreFirst words.now x → IsState first.now (state x (2 * p)) → IsState second.now (state x (2 * p + 1))
-        → IfOk result (λ _. Pushed F.ring values.old.items values.new.items (joined 2 (λ h. half_cells x (2 * p + h) g))) }
+    ensures { (x : Input) → AreFirst words.now x → IsState first.now (state x (2 * p))
+        → IsState second.now (state x (2 * p + 1))
+        → IfOk result (λ _. Pushed F.ring values.old.items values.new.items
+        (joined 2 (λ h. half_cells x (2 * p + h) g))) }
 {
     push_half(values, 2 * p, words, first, g)?;
     push_half(values, 2 * p + 1, words, second, g)?;
@@ -110,8 +118,10 @@ fn push_four<F: Field>(
     second: &StateWords,
 ) -> Mem<()>
     requires turns { p < 14 }
-    ensures { (x : Input) → AreFirst words.now x → IsState first.now (state x (2 * p)) → IsState second.now (state x (2 * p + 1))
-        → IfOk result (λ _. Pushed F.ring values.old.items values.new.items (joined 4 (λ g. joined 2 (λ h. half_cells x (2 * p + h) g)))) }
+    ensures { (x : Input) → AreFirst words.now x → IsState first.now (state x (2 * p))
+        → IsState second.now (state x (2 * p + 1))
+        → IfOk result (λ _. Pushed F.ring values.old.items values.new.items
+        (joined 4 (λ g. joined 2 (λ h. half_cells x (2 * p + h) g)))) }
 {
     for g in 0..4 {
         push_step(values, p, words, first, second, g)?;
@@ -135,7 +145,8 @@ fn push_steps<F: Field>(values: &mut Vec<F>, words: &[u32; 28], first: StateWord
 
 // Pushes the row of one compression.
 fn push_row<F: Field>(values: &mut Vec<F>, words: &[u32; 28]) -> Mem<()>
-    ensures { IfOk result (λ _. Pushed F.ring values.old.items values.new.items (binary_cells (input_of words.now))) }
+    ensures { IfOk result (λ _.
+        Pushed F.ring values.old.items values.new.items (binary_cells (input_of words.now))) }
 {
     push_words(values, words, 16, 8)?;
     push_words(values, words, 0, 16)?;
@@ -209,12 +220,16 @@ pub fn check_rows<F: Field>(rows: usize) -> Result<(), TraceError>
 
 /// The number of cells of so many rows times 2^extra, or why there is no trace of them over this field.
 pub fn room_of<F: Field>(rows: usize, extra: usize) -> Result<usize, TraceError>
-    ensures answers { MatchResult result (λ n. (n ≡ rows * 11536 * 2 ^ extra) × (F.TWO ≡ F.ring.zero) × (0 < rows) × IsPowerOfTwo rows × (IsBinaryTooLong rows extra → ⊥))
+    ensures answers { MatchResult result
+        (λ n. (n ≡ rows * 11536 * 2 ^ extra) × (F.TWO ≡ F.ring.zero) × (0 < rows)
+        × IsPowerOfTwo rows × (IsBinaryTooLong rows extra → ⊥))
         (λ e. (e ≡ WrongCharacteristic) ⊎ (e ≡ NoInput) ⊎ (e ≡ NotPowerOfTwo) ⊎ (e ≡ TooLong)) }
     ensures characteristic { (result ≡ Err WrongCharacteristic) ↔ (F.TWO ≡ F.ring.zero → ⊥) }
     ensures no_input { (result ≡ Err NoInput) ↔ ((F.TWO ≡ F.ring.zero) × (rows ≡ 0)) }
-    ensures not_power { (result ≡ Err NotPowerOfTwo) ↔ ((F.TWO ≡ F.ring.zero) × (0 < rows) × (IsPowerOfTwo rows → ⊥)) }
-    ensures too_long { (result ≡ Err TooLong) ↔ ((F.TWO ≡ F.ring.zero) × (0 < rows) × IsPowerOfTwo rows × IsBinaryTooLong rows extra) }
+    ensures not_power { (result ≡ Err NotPowerOfTwo)
+        ↔ ((F.TWO ≡ F.ring.zero) × (0 < rows) × (IsPowerOfTwo rows → ⊥)) }
+    ensures too_long { (result ≡ Err TooLong)
+        ↔ ((F.TWO ≡ F.ring.zero) × (0 < rows) × IsPowerOfTwo rows × IsBinaryTooLong rows extra) }
 {
     check_rows::<F>(rows)?;
     match room_for(rows, extra) {
@@ -234,14 +249,23 @@ pub fn generate_binary_trace_rows<F: Field>(
     inputs: &[Blake3CompressionInput],
     extra_capacity_bits: usize,
 ) -> Result<RowMajorMatrix<F>, TraceError>
-    ensures rows { IfOk result (λ m. m ≡ record { values = map (of_nat F.ring) (binary_rows inputs.now); width = 11536 }) }
+    ensures rows { IfOk result
+        (λ m. m ≡ record { values = map (of_nat F.ring) (binary_rows inputs.now); width = 11536 }) }
     ensures height { IfOk result (λ m. height m ≡ length inputs.now) }
-    ensures row { IfOk result (λ m. (i : ℕ) → i < length inputs.now → row_at m i ≡ binary_trace_row F.ring (compression inputs.now i)) }
-    ensures done { IfOk result (λ m. (F.TWO ≡ F.ring.zero) × (0 < length inputs.now) × IsPowerOfTwo (length inputs.now) × (IsBinaryTooLong (length inputs.now) extra_capacity_bits → ⊥)) }
+    ensures row { IfOk result
+        (λ m. (i : ℕ) → i < length inputs.now
+        → row_at m i ≡ binary_trace_row F.ring (compression inputs.now i)) }
+    ensures done { IfOk result
+        (λ m. (F.TWO ≡ F.ring.zero) × (0 < length inputs.now) × IsPowerOfTwo (length inputs.now)
+        × (IsBinaryTooLong (length inputs.now) extra_capacity_bits → ⊥)) }
     ensures characteristic { (result ≡ Err WrongCharacteristic) ↔ (F.TWO ≡ F.ring.zero → ⊥) }
     ensures no_input { (result ≡ Err NoInput) ↔ ((F.TWO ≡ F.ring.zero) × (length inputs.now ≡ 0)) }
-    ensures not_power { (result ≡ Err NotPowerOfTwo) ↔ ((F.TWO ≡ F.ring.zero) × (0 < length inputs.now) × (IsPowerOfTwo (length inputs.now) → ⊥)) }
-    ensures too_long { (result ≡ Err TooLong) ↔ ((F.TWO ≡ F.ring.zero) × (0 < length inputs.now) × IsPowerOfTwo (length inputs.now) × IsBinaryTooLong (length inputs.now) extra_capacity_bits) }
+    ensures not_power { (result ≡ Err NotPowerOfTwo)
+        ↔ ((F.TWO ≡ F.ring.zero) × (0 < length inputs.now)
+        × (IsPowerOfTwo (length inputs.now) → ⊥)) }
+    ensures too_long { (result ≡ Err TooLong)
+        ↔ ((F.TWO ≡ F.ring.zero) × (0 < length inputs.now) × IsPowerOfTwo (length inputs.now)
+        × IsBinaryTooLong (length inputs.now) extra_capacity_bits) }
 {
     let room = room_of::<F>(inputs.len(), extra_capacity_bits)?;
     let values = rows_of(alloc, inputs, room)?;

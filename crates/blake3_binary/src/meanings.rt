@@ -18,9 +18,12 @@ use p3_field::{Field, Gf256};
 /// message words are bits, the step's 190 constraints are zero exactly where its cells are those of G (`step`).
 pub fn step_means<F: Field>()
     requires { F.ring.add F.ring.one F.ring.one ≡ F.ring.zero }
-    ensures sum2 { (at : Cell → F) (at_ext : ExtCell → F) → Sum2Means F.ring (cells_reading F.ring at at_ext) }
-    ensures sum3 { (at : Cell → F) (at_ext : ExtCell → F) → Sum3Means F.ring (cells_reading F.ring at at_ext) }
-    ensures step { (at : Cell → F) (at_ext : ExtCell → F) → BinaryStepMeans F.ring (cells_reading F.ring at at_ext) }
+    ensures sum2 { (at : Cell → F) (at_ext : ExtCell → F)
+        → Sum2Means F.ring (cells_reading F.ring at at_ext) }
+    ensures sum3 { (at : Cell → F) (at_ext : ExtCell → F)
+        → Sum3Means F.ring (cells_reading F.ring at at_ext) }
+    ensures step { (at : Cell → F) (at_ext : ExtCell → F)
+        → BinaryStepMeans F.ring (cells_reading F.ring at at_ext) }
 {}
 
 /// A row of 11536 cells meets all constraints exactly when it is the row of one compression (`exact`), and that compression's

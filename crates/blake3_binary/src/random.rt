@@ -54,7 +54,8 @@ fn next_block(generator: &mut Xoshiro256PlusPlus) -> [u32; 16]
 // Compression i.
 fn next_input(generator: &mut Xoshiro256PlusPlus, i: usize) -> Blake3CompressionInput
     ensures input { generator.old ≡ state_after (24 * i) → result ≡ binary_random_input i }
-    ensures state { generator.old ≡ state_after (24 * i) → generator.new ≡ state_after (24 * (i + 1)) }
+    ensures state { generator.old ≡ state_after (24 * i)
+        → generator.new ≡ state_after (24 * (i + 1)) }
 {
     let chaining_value = next_chaining_value(generator);
     let block = next_block(generator);
@@ -95,14 +96,27 @@ impl Blake3BinaryAir {
         num_hashes: usize,
         extra_capacity_bits: usize,
     ) -> Result<RowMajorMatrix<F>, TraceError>
-        ensures rows { IfOk result (λ m. m ≡ record { values = map (of_nat F.ring) (binary_rows (binary_random_inputs num_hashes)); width = 11536 }) }
+        ensures rows { IfOk result
+            (λ m. m ≡ record {
+              values = map (of_nat F.ring)
+                  (binary_rows (binary_random_inputs num_hashes));
+              width = 11536;
+            }) }
         ensures height { IfOk result (λ m. height m ≡ num_hashes) }
-        ensures row { IfOk result (λ m. (i : ℕ) → i < num_hashes → row_at m i ≡ binary_trace_row F.ring (compression (binary_random_inputs num_hashes) i)) }
-        ensures done { IfOk result (λ m. (F.TWO ≡ F.ring.zero) × (0 < num_hashes) × IsPowerOfTwo num_hashes × (IsBinaryTooLong num_hashes extra_capacity_bits → ⊥)) }
+        ensures row { IfOk result
+            (λ m. (i : ℕ) → i < num_hashes
+            → row_at m i ≡ binary_trace_row F.ring
+            (compression (binary_random_inputs num_hashes) i)) }
+        ensures done { IfOk result
+            (λ m. (F.TWO ≡ F.ring.zero) × (0 < num_hashes) × IsPowerOfTwo num_hashes
+            × (IsBinaryTooLong num_hashes extra_capacity_bits → ⊥)) }
         ensures characteristic { (result ≡ Err WrongCharacteristic) ↔ (F.TWO ≡ F.ring.zero → ⊥) }
         ensures no_input { (result ≡ Err NoInput) ↔ ((F.TWO ≡ F.ring.zero) × (num_hashes ≡ 0)) }
-        ensures not_power { (result ≡ Err NotPowerOfTwo) ↔ ((F.TWO ≡ F.ring.zero) × (0 < num_hashes) × (IsPowerOfTwo num_hashes → ⊥)) }
-        ensures too_long { (result ≡ Err TooLong) ↔ ((F.TWO ≡ F.ring.zero) × (0 < num_hashes) × IsPowerOfTwo num_hashes × IsBinaryTooLong num_hashes extra_capacity_bits) }
+        ensures not_power { (result ≡ Err NotPowerOfTwo)
+            ↔ ((F.TWO ≡ F.ring.zero) × (0 < num_hashes) × (IsPowerOfTwo num_hashes → ⊥)) }
+        ensures too_long { (result ≡ Err TooLong)
+            ↔ ((F.TWO ≡ F.ring.zero) × (0 < num_hashes) × IsPowerOfTwo num_hashes
+            × IsBinaryTooLong num_hashes extra_capacity_bits) }
     {
         room_of::<F>(num_hashes, extra_capacity_bits)?;
         let inputs = random_inputs(alloc, num_hashes)?;

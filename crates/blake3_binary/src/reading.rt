@@ -16,7 +16,8 @@ pub fn cell_at<AB: AirBuilder>(builder: &mut AB, column: usize) -> Mem<AB::Expr>
     ensures keeps_shape { AB.shape builder.new ≡ AB.shape builder.old }
     ensures answers { IsTrue AB.never_fails → IsOk result }
     ensures appends { AB.appends builder.old builder.new [] [] }
-    ensures represents { IfOk result (λ e. AB.represents builder.new e (cell_tree (MainCell false column))) }
+    ensures represents { IfOk result
+        (λ e. AB.represents builder.new e (cell_tree (MainCell false column))) }
 {
     builder.cell(Cell::Main {
         next: false,
@@ -32,7 +33,8 @@ pub fn bits_at<AB: AirBuilder>(builder: &mut AB, column: usize) -> Mem<[AB::Expr
     ensures keeps_shape { AB.shape builder.new ≡ AB.shape builder.old }
     ensures answers { IsTrue AB.never_fails → IsOk result }
     ensures appends { AB.appends builder.old builder.new [] [] }
-    ensures represents { IfOk result (λ es. RepresentAt (AB.represents builder.new) es (from_column column)) }
+    ensures represents { IfOk result
+        (λ es. RepresentAt (AB.represents builder.new) es (from_column column)) }
 {
     let first = cell_at(builder, column)?;
     let mut cells = [first; 32];
@@ -50,7 +52,8 @@ pub fn carries_at<AB: AirBuilder>(builder: &mut AB, column: usize) -> Mem<[AB::E
     ensures keeps_shape { AB.shape builder.new ≡ AB.shape builder.old }
     ensures answers { IsTrue AB.never_fails → IsOk result }
     ensures appends { AB.appends builder.old builder.new [] [] }
-    ensures represents { IfOk result (λ es. RepresentAt (AB.represents builder.new) es (from_column column)) }
+    ensures represents { IfOk result
+        (λ es. RepresentAt (AB.represents builder.new) es (from_column column)) }
 {
     let first = cell_at(builder, column)?;
     let mut cells = [first; 31];
@@ -67,7 +70,8 @@ fn constant_bit<AB: AirBuilder>(builder: &mut AB, word: u32, i: usize) -> Mem<AB
     ensures keeps_shape { AB.shape builder.new ≡ AB.shape builder.old }
     ensures answers { IsTrue AB.never_fails → IsOk result }
     ensures appends { AB.appends builder.old builder.new [] [] }
-    ensures represents { IfOk result (λ e. AB.represents builder.new e (number AB.F.ring (bit_at word i))) }
+    ensures represents { IfOk result
+        (λ e. AB.represents builder.new e (number AB.F.ring (bit_at word i))) }
 {
     let bit = builder.constant(<AB::F as RingCore>::from_u64((word >> (i as u32) & 1) as u64))?;
     Ok(bit)
@@ -79,7 +83,8 @@ pub fn constant_bits<AB: AirBuilder>(builder: &mut AB, word: u32) -> Mem<[AB::Ex
     ensures keeps_shape { AB.shape builder.new ≡ AB.shape builder.old }
     ensures answers { IsTrue AB.never_fails → IsOk result }
     ensures appends { AB.appends builder.old builder.new [] [] }
-    ensures represents { IfOk result (λ es. RepresentAt (AB.represents builder.new) es (λ i. number AB.F.ring (bit_at word i))) }
+    ensures represents { IfOk result
+        (λ es. RepresentAt (AB.represents builder.new) es (λ i. number AB.F.ring (bit_at word i))) }
 {
     let first = constant_bit(builder, word, 0)?;
     let mut bits = [first; 32];

@@ -32,8 +32,12 @@ fn assert_first_sum<AB: AirBuilder>(
     ensures later { AB.later builder.old builder.new }
     ensures keeps_shape { AB.shape builder.new ≡ AB.shape builder.old }
     ensures answers { IsTrue AB.never_fails → IsOk result }
-    ensures appends { IfOk result (λ _. Appended AB.appends builder.old builder.new (first_sum_trees AB.F.ring s a b d message cells)) }
-    ensures on_error { OnFailure result (AppendedSome AB.appends builder.old builder.new (first_sum_trees AB.F.ring s a b d message cells)) }
+    ensures appends { IfOk result
+        (λ _. Appended AB.appends builder.old builder.new
+        (first_sum_trees AB.F.ring s a b d message cells)) }
+    ensures on_error { OnFailure result
+        (AppendedSome AB.appends builder.old builder.new
+        (first_sum_trees AB.F.ring s a b d message cells)) }
 {
     let x = word_at(builder, a)?;
     let y = bits_at(builder, b)?;
@@ -59,8 +63,11 @@ fn assert_second_sum<AB: AirBuilder>(
     ensures later { AB.later builder.old builder.new }
     ensures keeps_shape { AB.shape builder.new ≡ AB.shape builder.old }
     ensures answers { IsTrue AB.never_fails → IsOk result }
-    ensures appends { IfOk result (λ _. Appended AB.appends builder.old builder.new (second_sum_trees AB.F.ring t c b cells)) }
-    ensures on_error { OnFailure result (AppendedSome AB.appends builder.old builder.new (second_sum_trees AB.F.ring t c b cells)) }
+    ensures appends { IfOk result
+        (λ _. Appended AB.appends builder.old builder.new
+        (second_sum_trees AB.F.ring t c b cells)) }
+    ensures on_error { OnFailure result
+        (AppendedSome AB.appends builder.old builder.new (second_sum_trees AB.F.ring t c b cells)) }
 {
     let x = word_at(builder, c)?;
     let y = bits_at(builder, cells + 31)?;
@@ -91,8 +98,12 @@ fn assert_placed<AB: AirBuilder>(
     ensures later { AB.later builder.old builder.new }
     ensures keeps_shape { AB.shape builder.new ≡ AB.shape builder.old }
     ensures answers { IsTrue AB.never_fails → IsOk result }
-    ensures appends { IfOk result (λ _. Appended AB.appends builder.old builder.new (placed_trees AB.F.ring s t a b c d message cells)) }
-    ensures on_error { OnFailure result (AppendedSome AB.appends builder.old builder.new (placed_trees AB.F.ring s t a b c d message cells)) }
+    ensures appends { IfOk result
+        (λ _. Appended AB.appends builder.old builder.new
+        (placed_trees AB.F.ring s t a b c d message cells)) }
+    ensures on_error { OnFailure result
+        (AppendedSome AB.appends builder.old builder.new
+        (placed_trees AB.F.ring s t a b c d message cells)) }
 {
     assert_first_sum(builder, s, a, b, d, message, cells)?;
     assert_second_sum(builder, t, c, b, cells)?;
@@ -107,8 +118,10 @@ fn assert_half_step<AB: AirBuilder>(builder: &mut AB, n: usize, g: usize) -> Mem
     ensures later { AB.later builder.old builder.new }
     ensures keeps_shape { AB.shape builder.new ≡ AB.shape builder.old }
     ensures answers { IsTrue AB.never_fails → IsOk result }
-    ensures appends { IfOk result (λ _. Appended AB.appends builder.old builder.new (half_step_trees AB.F.ring n g)) }
-    ensures on_error { OnFailure result (AppendedSome AB.appends builder.old builder.new (half_step_trees AB.F.ring n g)) }
+    ensures appends { IfOk result
+        (λ _. Appended AB.appends builder.old builder.new (half_step_trees AB.F.ring n g)) }
+    ensures on_error { OnFailure result
+        (AppendedSome AB.appends builder.old builder.new (half_step_trees AB.F.ring n g)) }
 {
     let turn = n % 4 / 2;
     let a = a_word(n, g % 4);
@@ -138,8 +151,10 @@ fn assert_step<AB: AirBuilder>(builder: &mut AB, k: usize) -> Mem<()>
     ensures later { AB.later builder.old builder.new }
     ensures keeps_shape { AB.shape builder.new ≡ AB.shape builder.old }
     ensures answers { IsTrue AB.never_fails → IsOk result }
-    ensures appends { IfOk result (λ _. Appended AB.appends builder.old builder.new (binary_step_trees AB.F.ring k)) }
-    ensures on_error { OnFailure result (AppendedSome AB.appends builder.old builder.new (binary_step_trees AB.F.ring k)) }
+    ensures appends { IfOk result
+        (λ _. Appended AB.appends builder.old builder.new (binary_step_trees AB.F.ring k)) }
+    ensures on_error { OnFailure result
+        (AppendedSome AB.appends builder.old builder.new (binary_step_trees AB.F.ring k)) }
 {
     for h in 0..2 {
         assert_half_step(builder, 2 * (k / 4) + h, k % 4)?;
@@ -153,8 +168,10 @@ pub fn assert_steps<AB: AirBuilder>(builder: &mut AB) -> Mem<()>
     ensures later { AB.later builder.old builder.new }
     ensures keeps_shape { AB.shape builder.new ≡ AB.shape builder.old }
     ensures answers { IsTrue AB.never_fails → IsOk result }
-    ensures appends { IfOk result (λ _. Appended AB.appends builder.old builder.new (binary_steps_trees AB.F.ring)) }
-    ensures on_error { OnFailure result (AppendedSome AB.appends builder.old builder.new (binary_steps_trees AB.F.ring)) }
+    ensures appends { IfOk result
+        (λ _. Appended AB.appends builder.old builder.new (binary_steps_trees AB.F.ring)) }
+    ensures on_error { OnFailure result
+        (AppendedSome AB.appends builder.old builder.new (binary_steps_trees AB.F.ring)) }
 {
     for k in 0..56 {
         assert_step(builder, k)?;

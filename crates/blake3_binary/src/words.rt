@@ -48,7 +48,9 @@ pub fn turned_at<AB: AirBuilder>(
     ensures keeps_shape { AB.shape builder.new ≡ AB.shape builder.old }
     ensures answers { IsTrue AB.never_fails → IsOk result }
     ensures appends { AB.appends builder.old builder.new [] [] }
-    ensures represents { IfOk result (λ es. RepresentAt (AB.represents builder.new) es (turned (from_column left) (from_column right) shift)) }
+    ensures represents { IfOk result
+        (λ es. RepresentAt (AB.represents builder.new) es
+        (turned (from_column left) (from_column right) shift)) }
 {
     let x = bits_at(builder, left)?;
     let y = bits_at(builder, right)?;
@@ -64,7 +66,8 @@ pub fn word_at<AB: AirBuilder>(builder: &mut AB, word: Word) -> Mem<[AB::Expr; 3
     ensures keeps_shape { AB.shape builder.new ≡ AB.shape builder.old }
     ensures answers { IsTrue AB.never_fails → IsOk result }
     ensures appends { AB.appends builder.old builder.new [] [] }
-    ensures represents { IfOk result (λ es. RepresentAt (AB.represents builder.new) es (word_bit AB.F.ring word)) }
+    ensures represents { IfOk result
+        (λ es. RepresentAt (AB.represents builder.new) es (word_bit AB.F.ring word)) }
 {
     match word {
         Word::Column { column } => bits_at(builder, column),

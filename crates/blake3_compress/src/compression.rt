@@ -9,7 +9,8 @@ use crate::words::{StateWords, after_half_round, first_words, xor_words};
 
 // The state after all half rounds.
 fn last_state(words: &[u32; 28], first: StateWords) -> StateWords
-    ensures { (x : Input) → AreFirst words.now x → IsState first (first_state x) → IsState result (state x 28) }
+    ensures { (x : Input) → AreFirst words.now x → IsState first (first_state x)
+        → IsState result (state x 28) }
 {
     let mut state = first;
     for n in 0..28 {
@@ -20,7 +21,8 @@ fn last_state(words: &[u32; 28], first: StateWords) -> StateWords
 
 // Four groups of four words, one after another.
 fn four_groups(a: &[u32; 4], b: &[u32; 4], c: &[u32; 4], d: &[u32; 4]) -> [u32; 16]
-    ensures { (f : ℕ → ℕ → ℕ) → a.now ≡ tabulate 4 (f 0) → b.now ≡ tabulate 4 (f 1) → c.now ≡ tabulate 4 (f 2) → d.now ≡ tabulate 4 (f 3) → result ≡ words_of f }
+    ensures { (f : ℕ → ℕ → ℕ) → a.now ≡ tabulate 4 (f 0) → b.now ≡ tabulate 4 (f 1)
+        → c.now ≡ tabulate 4 (f 2) → d.now ≡ tabulate 4 (f 3) → result ≡ words_of f }
 {
     [
         a[0], a[1], a[2], a[3], b[0], b[1], b[2], b[3], c[0], c[1], c[2], c[3], d[0], d[1], d[2],

@@ -70,7 +70,8 @@ pub fn made_words(n: usize, block: &[u32; 28], state: &StateWords, g: usize) -> 
     requires halves { n < 28 }
     requires steps { g < 4 }
     ensures { (x : Input) (v : State) → AreFirst block.now x → IsState state.now v
-        → quarter_of result ≡ half_quarter_round (d_turn n) (b_turn n) (words_taken (turn_of n) v g) (x (message_of n g)) }
+        → quarter_of result ≡ half_quarter_round (d_turn n) (b_turn n) (words_taken (turn_of n) v g)
+        (x (message_of n g)) }
 {
     let words = taken_words(n, state, g);
     let message = block[scheduled_word(n / 4, 8 * (n % 4 / 2) + 2 * g + n % 2)];
@@ -96,7 +97,8 @@ pub fn first_words(words: &[u32; 28]) -> StateWords
 
 /// The exclusive or of four words each.
 pub fn xor_words(a: &[u32; 4], b: &[u32; 4]) -> [u32; 4]
-    ensures { (v w : ℕ → ℕ) → a.now ≡ tabulate 4 v → b.now ≡ tabulate 4 w → result ≡ tabulate 4 (λ i. bit_xor (v i) (w i)) }
+    ensures { (v w : ℕ → ℕ) → a.now ≡ tabulate 4 v → b.now ≡ tabulate 4 w
+        → result ≡ tabulate 4 (λ i. bit_xor (v i) (w i)) }
 {
     [a[0] ^ b[0], a[1] ^ b[1], a[2] ^ b[2], a[3] ^ b[3]]
 }
@@ -105,7 +107,8 @@ pub fn xor_words(a: &[u32; 4], b: &[u32; 4]) -> [u32; 4]
 /// column steps, then of its diagonal steps.
 pub fn after_half_round(n: usize, block: &[u32; 28], state: &StateWords) -> StateWords
     requires { n < 28 }
-    ensures { (x : Input) (v : State) → AreFirst block.now x → IsState state.now v → IsState result (half_round x n v) }
+    ensures { (x : Input) (v : State) → AreFirst block.now x → IsState state.now v
+        → IsState result (half_round x n v) }
 {
     let p = made_words(n, block, state, 0);
     let q = made_words(n, block, state, 1);

@@ -20,7 +20,8 @@ fn paired(low: u32, high: u32) -> u64
 // Words 2p and 2p + 1 of a compression, in the order of its input.
 fn pair_at(input: &Blake3CompressionInput, p: usize) -> u64
     requires { p < 14 }
-    ensures { let x = input_of (compression_words input.now) in IsPair result (x (2 * p)) (x (2 * p + 1)) }
+    ensures { let x = input_of (compression_words input.now) in
+        IsPair result (x (2 * p)) (x (2 * p + 1)) }
 {
     if p < 8 {
         return paired(input.block[2 * p], input.block[2 * p + 1]);

@@ -61,7 +61,8 @@ impl<'a, T> Blake3Cols<'a, T> {
         requires groups { group < 2 }
         requires words { word < 4 }
         requires bits { bit < 32 }
-        ensures { (d : T) → result.now ≡ slice_index_or self.now.row.now (512 + 128 * group + 32 * word + bit) d }
+        ensures { (d : T) → result.now
+            ≡ slice_index_or self.now.row.now (512 + 128 * group + 32 * word + bit) d }
     {
         &self.row[512 + 128 * group + 32 * word + bit]
     }
@@ -132,7 +133,8 @@ impl<'a, T> Blake3Cols<'a, T> {
     pub fn final_round_helpers(&self, word: usize, bit: usize) -> &'a T
         requires words { word < 4 }
         requires bits { bit < 32 }
-        ensures { (d : T) → result.now ≡ slice_index_or self.now.row.now (8528 + 32 * word + bit) d }
+        ensures { (d : T) → result.now
+            ≡ slice_index_or self.now.row.now (8528 + 32 * word + bit) d }
     {
         &self.row[8528 + 32 * word + bit]
     }
@@ -142,7 +144,8 @@ impl<'a, T> Blake3Cols<'a, T> {
         requires groups { group < 4 }
         requires words { word < 4 }
         requires bits { bit < 32 }
-        ensures { (d : T) → result.now ≡ slice_index_or self.now.row.now (8656 + 128 * group + 32 * word + bit) d }
+        ensures { (d : T) → result.now
+            ≡ slice_index_or self.now.row.now (8656 + 128 * group + 32 * word + bit) d }
     {
         &self.row[8656 + 128 * group + 32 * word + bit]
     }
@@ -199,7 +202,8 @@ impl<'a, T> Blake3State<'a, T> {
     pub fn row0(&self, word: usize, limb: usize) -> &'a T
         requires words { word < 4 }
         requires limbs { limb < 2 }
-        ensures { (d : T) → result.now ≡ slice_index_or self.now.row.now (self.now.at + 2 * word + limb) d }
+        ensures { (d : T) → result.now
+            ≡ slice_index_or self.now.row.now (self.now.at + 2 * word + limb) d }
     {
         &self.row[self.at + 2 * word + limb]
     }
@@ -208,7 +212,8 @@ impl<'a, T> Blake3State<'a, T> {
     pub fn row1(&self, word: usize, bit: usize) -> &'a T
         requires words { word < 4 }
         requires bits { bit < 32 }
-        ensures { (d : T) → result.now ≡ slice_index_or self.now.row.now (self.now.at + 8 + 32 * word + bit) d }
+        ensures { (d : T) → result.now
+            ≡ slice_index_or self.now.row.now (self.now.at + 8 + 32 * word + bit) d }
     {
         &self.row[self.at + 8 + 32 * word + bit]
     }
@@ -217,7 +222,8 @@ impl<'a, T> Blake3State<'a, T> {
     pub fn row2(&self, word: usize, limb: usize) -> &'a T
         requires words { word < 4 }
         requires limbs { limb < 2 }
-        ensures { (d : T) → result.now ≡ slice_index_or self.now.row.now (self.now.at + 136 + 2 * word + limb) d }
+        ensures { (d : T) → result.now
+            ≡ slice_index_or self.now.row.now (self.now.at + 136 + 2 * word + limb) d }
     {
         &self.row[self.at + 136 + 2 * word + limb]
     }
@@ -226,7 +232,8 @@ impl<'a, T> Blake3State<'a, T> {
     pub fn row3(&self, word: usize, bit: usize) -> &'a T
         requires words { word < 4 }
         requires bits { bit < 32 }
-        ensures { (d : T) → result.now ≡ slice_index_or self.now.row.now (self.now.at + 144 + 32 * word + bit) d }
+        ensures { (d : T) → result.now
+            ≡ slice_index_or self.now.row.now (self.now.at + 144 + 32 * word + bit) d }
     {
         &self.row[self.at + 144 + 32 * word + bit]
     }
@@ -245,8 +252,11 @@ fn bit_of<F: Field>(x: F) -> u32
 fn word_at<F: Field>(row: &[F], at: usize) -> u32
     requires fits { at + 32 ≤ length row.now }
     requires wide { length row.now ≤ 9168 }
-    ensures counted { (k : ℕ) (d : F) → k < 32 → (bit_at result k ≡ 0) ↔ (slice_index_or row.now (at + k) d ≡ F.ring.zero) }
-    ensures word { (w : ℕ) → w < 2 ^ 32 → ((k : ℕ) (d : F) → k < 32 → slice_index_or row.now (at + k) d ≡ of_nat F.ring (bit_at w k)) → result ≡ w }
+    ensures counted { (k : ℕ) (d : F) → k < 32 → (bit_at result k ≡ 0)
+        ↔ (slice_index_or row.now (at + k) d ≡ F.ring.zero) }
+    ensures word { (w : ℕ) → w < 2 ^ 32
+        → ((k : ℕ) (d : F) → k < 32
+        → slice_index_or row.now (at + k) d ≡ of_nat F.ring (bit_at w k)) → result ≡ w }
 {
     let mut word = 0u32;
     for i in 0..32 {
@@ -261,11 +271,15 @@ impl<'a, F: Field> Blake3Cols<'a, F> {
     /// (`counted`; not in Plonky3).
     pub fn output_words(&self) -> [u32; 16]
         ensures counted { (i k : ℕ) (d : F) → i < 16 → k < 32
-            → (bit_at (slice_index_or result i 0) k ≡ 0) ↔ (slice_index_or self.now.row.now (8656 + 32 * i + k) d ≡ F.ring.zero) }
+            → (bit_at (slice_index_or result i 0) k ≡ 0)
+            ↔ (slice_index_or self.now.row.now (8656 + 32 * i + k) d ≡ F.ring.zero) }
         ensures words { (w : ℕ → ℕ) → ((i : ℕ) → i < 16 → w i < 2 ^ 32)
-            → ((i k : ℕ) (d : F) → i < 16 → k < 32 → slice_index_or self.now.row.now (8656 + 32 * i + k) d ≡ of_nat F.ring (bit_at (w i) k))
+            → ((i k : ℕ) (d : F) → i < 16 → k < 32
+            → slice_index_or self.now.row.now (8656 + 32 * i + k) d
+            ≡ of_nat F.ring (bit_at (w i) k))
             → (i : ℕ) → i < 16 → slice_index_or result i 0 ≡ w i }
-        ensures compressed { (x : Input) → AreWords x → self.now.row.now ≡ trace_row F.ring x → result ≡ words_of (compress x) }
+        ensures compressed { (x : Input) → AreWords x → self.now.row.now ≡ trace_row F.ring x
+            → result ≡ words_of (compress x) }
     {
         let mut words = [0u32; 16];
         for i in 0..16 {

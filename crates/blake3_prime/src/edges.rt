@@ -23,8 +23,12 @@ fn assert_bit<AB: AirBuilder>(builder: &mut AB, column: usize) -> Mem<()>
     ensures later { AB.later builder.old builder.new }
     ensures keeps_shape { AB.shape builder.new ≡ AB.shape builder.old }
     ensures answers { IsTrue AB.never_fails → IsOk result }
-    ensures appends { IfOk result (λ _. Appended AB.appends builder.old builder.new (bool_tree AB.F.ring.one (cell_tree (MainCell false column)) ∷ [])) }
-    ensures on_error { OnFailure result (AppendedSome AB.appends builder.old builder.new (bool_tree AB.F.ring.one (cell_tree (MainCell false column)) ∷ [])) }
+    ensures appends { IfOk result
+        (λ _. Appended AB.appends builder.old builder.new
+        (bool_tree AB.F.ring.one (cell_tree (MainCell false column)) ∷ [])) }
+    ensures on_error { OnFailure result
+        (AppendedSome AB.appends builder.old builder.new
+        (bool_tree AB.F.ring.one (cell_tree (MainCell false column)) ∷ [])) }
 {
     let cell = cell_at(builder, column)?;
     builder.assert_bool(cell)?;
@@ -38,8 +42,10 @@ pub fn assert_bits<AB: AirBuilder>(builder: &mut AB, column: usize, n: usize) ->
     ensures later { AB.later builder.old builder.new }
     ensures keeps_shape { AB.shape builder.new ≡ AB.shape builder.old }
     ensures answers { IsTrue AB.never_fails → IsOk result }
-    ensures appends { IfOk result (λ _. Appended AB.appends builder.old builder.new (bits_trees AB.F.ring column n)) }
-    ensures on_error { OnFailure result (AppendedSome AB.appends builder.old builder.new (bits_trees AB.F.ring column n)) }
+    ensures appends { IfOk result
+        (λ _. Appended AB.appends builder.old builder.new (bits_trees AB.F.ring column n)) }
+    ensures on_error { OnFailure result
+        (AppendedSome AB.appends builder.old builder.new (bits_trees AB.F.ring column n)) }
 {
     for i in 0..n {
         assert_bit(builder, column + i)?;
@@ -55,8 +61,10 @@ fn assert_packed<AB: AirBuilder>(builder: &mut AB, column: usize, limbs: usize) 
     ensures later { AB.later builder.old builder.new }
     ensures keeps_shape { AB.shape builder.new ≡ AB.shape builder.old }
     ensures answers { IsTrue AB.never_fails → IsOk result }
-    ensures appends { IfOk result (λ _. Appended AB.appends builder.old builder.new (packed_trees AB.F.ring column limbs)) }
-    ensures on_error { OnFailure result (AppendedSome AB.appends builder.old builder.new (packed_trees AB.F.ring column limbs)) }
+    ensures appends { IfOk result
+        (λ _. Appended AB.appends builder.old builder.new (packed_trees AB.F.ring column limbs)) }
+    ensures on_error { OnFailure result
+        (AppendedSome AB.appends builder.old builder.new (packed_trees AB.F.ring column limbs)) }
 {
     let packed = packed_at(builder, column)?;
     let cells = limbs_at(builder, limbs)?;
@@ -73,8 +81,10 @@ pub fn assert_limbs<AB: AirBuilder>(builder: &mut AB, column: usize, limbs: usiz
     ensures later { AB.later builder.old builder.new }
     ensures keeps_shape { AB.shape builder.new ≡ AB.shape builder.old }
     ensures answers { IsTrue AB.never_fails → IsOk result }
-    ensures appends { IfOk result (λ _. Appended AB.appends builder.old builder.new (limbs_trees AB.F.ring column limbs)) }
-    ensures on_error { OnFailure result (AppendedSome AB.appends builder.old builder.new (limbs_trees AB.F.ring column limbs)) }
+    ensures appends { IfOk result
+        (λ _. Appended AB.appends builder.old builder.new (limbs_trees AB.F.ring column limbs)) }
+    ensures on_error { OnFailure result
+        (AppendedSome AB.appends builder.old builder.new (limbs_trees AB.F.ring column limbs)) }
 {
     for i in 0..4 {
         assert_packed(builder, column + 32 * i, limbs + 2 * i)?;
@@ -88,7 +98,8 @@ fn word_limbs<AB: AirBuilder>(builder: &mut AB, word: u32) -> Mem<[AB::Expr; 2]>
     ensures keeps_shape { AB.shape builder.new ≡ AB.shape builder.old }
     ensures answers { IsTrue AB.never_fails → IsOk result }
     ensures appends { AB.appends builder.old builder.new [] [] }
-    ensures represents { IfOk result (λ es. RepresentAt (AB.represents builder.new) es (λ k. number AB.F.ring (limb word k))) }
+    ensures represents { IfOk result
+        (λ es. RepresentAt (AB.represents builder.new) es (λ k. number AB.F.ring (limb word k))) }
 {
     let low = builder.constant(<AB::F as RingCore>::from_u64((word % 65536) as u64))?;
     let high = builder.constant(<AB::F as RingCore>::from_u64((word / 65536) as u64))?;
@@ -102,8 +113,10 @@ fn assert_word<AB: AirBuilder>(builder: &mut AB, column: usize, word: u32) -> Me
     ensures later { AB.later builder.old builder.new }
     ensures keeps_shape { AB.shape builder.new ≡ AB.shape builder.old }
     ensures answers { IsTrue AB.never_fails → IsOk result }
-    ensures appends { IfOk result (λ _. Appended AB.appends builder.old builder.new (word_trees AB.F.ring column word)) }
-    ensures on_error { OnFailure result (AppendedSome AB.appends builder.old builder.new (word_trees AB.F.ring column word)) }
+    ensures appends { IfOk result
+        (λ _. Appended AB.appends builder.old builder.new (word_trees AB.F.ring column word)) }
+    ensures on_error { OnFailure result
+        (AppendedSome AB.appends builder.old builder.new (word_trees AB.F.ring column word)) }
 {
     let cells = limbs_at(builder, column)?;
     let limbs = word_limbs(builder, word)?;
@@ -119,8 +132,10 @@ pub fn assert_iv<AB: AirBuilder>(builder: &mut AB, column: usize) -> Mem<()>
     ensures later { AB.later builder.old builder.new }
     ensures keeps_shape { AB.shape builder.new ≡ AB.shape builder.old }
     ensures answers { IsTrue AB.never_fails → IsOk result }
-    ensures appends { IfOk result (λ _. Appended AB.appends builder.old builder.new (iv_trees AB.F.ring column)) }
-    ensures on_error { OnFailure result (AppendedSome AB.appends builder.old builder.new (iv_trees AB.F.ring column)) }
+    ensures appends { IfOk result
+        (λ _. Appended AB.appends builder.old builder.new (iv_trees AB.F.ring column)) }
+    ensures on_error { OnFailure result
+        (AppendedSome AB.appends builder.old builder.new (iv_trees AB.F.ring column)) }
 {
     for i in 0..4 {
         assert_word(builder, column + 2 * i, IV[i])?;
@@ -142,8 +157,11 @@ pub fn assert_masked<AB: AirBuilder>(
     ensures later { AB.later builder.old builder.new }
     ensures keeps_shape { AB.shape builder.new ≡ AB.shape builder.old }
     ensures answers { IsTrue AB.never_fails → IsOk result }
-    ensures appends { IfOk result (λ _. Appended AB.appends builder.old builder.new (masked_trees AB.F.ring limbs bits mask)) }
-    ensures on_error { OnFailure result (AppendedSome AB.appends builder.old builder.new (masked_trees AB.F.ring limbs bits mask)) }
+    ensures appends { IfOk result
+        (λ _. Appended AB.appends builder.old builder.new
+        (masked_trees AB.F.ring limbs bits mask)) }
+    ensures on_error { OnFailure result
+        (AppendedSome AB.appends builder.old builder.new (masked_trees AB.F.ring limbs bits mask)) }
 {
     for i in 0..4 {
         assert_turned(builder, limbs + 2 * i, bits + 32 * i, mask + 32 * i, 0)?;
@@ -161,10 +179,14 @@ fn assert_xor<AB: AirBuilder>(builder: &mut AB, column: usize, left: usize, righ
     ensures keeps_shape { AB.shape builder.new ≡ AB.shape builder.old }
     ensures answers { IsTrue AB.never_fails → IsOk result }
     ensures appends { IfOk result (λ _. Appended AB.appends builder.old builder.new
-        (difference (cell_tree (MainCell false column)) (xor_tree AB.F.ring (cell_tree (MainCell false left)) (cell_tree (MainCell false right))) ∷ [])) }
+        (difference (cell_tree (MainCell false column))
+        (xor_tree AB.F.ring (cell_tree (MainCell false left)) (cell_tree (MainCell false right)))
+        ∷ [])) }
     ensures on_error { OnFailure result
         (AppendedSome AB.appends builder.old builder.new
-        (difference (cell_tree (MainCell false column)) (xor_tree AB.F.ring (cell_tree (MainCell false left)) (cell_tree (MainCell false right))) ∷ [])) }
+        (difference (cell_tree (MainCell false column))
+        (xor_tree AB.F.ring (cell_tree (MainCell false left)) (cell_tree (MainCell false right)))
+        ∷ [])) }
 {
     let cell = cell_at(builder, column)?;
     let x = cell_at(builder, left)?;
@@ -188,8 +210,10 @@ pub fn assert_xors<AB: AirBuilder>(
     ensures later { AB.later builder.old builder.new }
     ensures keeps_shape { AB.shape builder.new ≡ AB.shape builder.old }
     ensures answers { IsTrue AB.never_fails → IsOk result }
-    ensures appends { IfOk result (λ _. Appended AB.appends builder.old builder.new (xor_trees AB.F.ring column left right)) }
-    ensures on_error { OnFailure result (AppendedSome AB.appends builder.old builder.new (xor_trees AB.F.ring column left right)) }
+    ensures appends { IfOk result
+        (λ _. Appended AB.appends builder.old builder.new (xor_trees AB.F.ring column left right)) }
+    ensures on_error { OnFailure result
+        (AppendedSome AB.appends builder.old builder.new (xor_trees AB.F.ring column left right)) }
 {
     for i in 0..128 {
         assert_xor(builder, column + i, left + i, right + i)?;
@@ -203,8 +227,10 @@ pub fn assert_first<AB: AirBuilder>(builder: &mut AB) -> Mem<()>
     ensures later { AB.later builder.old builder.new }
     ensures keeps_shape { AB.shape builder.new ≡ AB.shape builder.old }
     ensures answers { IsTrue AB.never_fails → IsOk result }
-    ensures appends { IfOk result (λ _. Appended AB.appends builder.old builder.new (first_trees AB.F.ring)) }
-    ensures on_error { OnFailure result (AppendedSome AB.appends builder.old builder.new (first_trees AB.F.ring)) }
+    ensures appends { IfOk result
+        (λ _. Appended AB.appends builder.old builder.new (first_trees AB.F.ring)) }
+    ensures on_error { OnFailure result
+        (AppendedSome AB.appends builder.old builder.new (first_trees AB.F.ring)) }
 {
     assert_bits(builder, 0, 896)?;
     assert_limbs(builder, 512, 896)?;
@@ -218,8 +244,10 @@ fn assert_first_output<AB: AirBuilder>(builder: &mut AB) -> Mem<()>
     ensures later { AB.later builder.old builder.new }
     ensures keeps_shape { AB.shape builder.new ≡ AB.shape builder.old }
     ensures answers { IsTrue AB.never_fails → IsOk result }
-    ensures appends { IfOk result (λ _. Appended AB.appends builder.old builder.new (first_output_trees AB.F.ring)) }
-    ensures on_error { OnFailure result (AppendedSome AB.appends builder.old builder.new (first_output_trees AB.F.ring)) }
+    ensures appends { IfOk result
+        (λ _. Appended AB.appends builder.old builder.new (first_output_trees AB.F.ring)) }
+    ensures on_error { OnFailure result
+        (AppendedSome AB.appends builder.old builder.new (first_output_trees AB.F.ring)) }
 {
     assert_limbs(builder, 8528, 8392)?;
     assert_bits(builder, 8656, 128)?;
@@ -233,8 +261,10 @@ fn assert_other_output<AB: AirBuilder>(builder: &mut AB) -> Mem<()>
     ensures later { AB.later builder.old builder.new }
     ensures keeps_shape { AB.shape builder.new ≡ AB.shape builder.old }
     ensures answers { IsTrue AB.never_fails → IsOk result }
-    ensures appends { IfOk result (λ _. Appended AB.appends builder.old builder.new (other_output_trees AB.F.ring)) }
-    ensures on_error { OnFailure result (AppendedSome AB.appends builder.old builder.new (other_output_trees AB.F.ring)) }
+    ensures appends { IfOk result
+        (λ _. Appended AB.appends builder.old builder.new (other_output_trees AB.F.ring)) }
+    ensures on_error { OnFailure result
+        (AppendedSome AB.appends builder.old builder.new (other_output_trees AB.F.ring)) }
 {
     assert_xors(builder, 8784, 8264, 8400)?;
     assert_xors(builder, 8912, 512, 8528)?;
@@ -248,8 +278,10 @@ pub fn assert_last<AB: AirBuilder>(builder: &mut AB) -> Mem<()>
     ensures later { AB.later builder.old builder.new }
     ensures keeps_shape { AB.shape builder.new ≡ AB.shape builder.old }
     ensures answers { IsTrue AB.never_fails → IsOk result }
-    ensures appends { IfOk result (λ _. Appended AB.appends builder.old builder.new (last_trees AB.F.ring)) }
-    ensures on_error { OnFailure result (AppendedSome AB.appends builder.old builder.new (last_trees AB.F.ring)) }
+    ensures appends { IfOk result
+        (λ _. Appended AB.appends builder.old builder.new (last_trees AB.F.ring)) }
+    ensures on_error { OnFailure result
+        (AppendedSome AB.appends builder.old builder.new (last_trees AB.F.ring)) }
 {
     assert_first_output(builder)?;
     assert_other_output(builder)?;

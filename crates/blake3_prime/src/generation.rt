@@ -20,7 +20,8 @@ use std::alloc::Global;
 
 // Pushes a state.
 fn push_state<F: PrimeField64>(values: &mut Vec<F>, state: &StateWords) -> Mem<()>
-    ensures { (v : State) → IsState state.now v → IfOk result (λ _. Pushed F.ring values.old.items values.new.items (state_cells v)) }
+    ensures { (v : State) → IsState state.now v
+        → IfOk result (λ _. Pushed F.ring values.old.items values.new.items (state_cells v)) }
 {
     push_limb_words(values, &state.row0)?;
     push_bit_words(values, &state.row1)?;
@@ -36,7 +37,9 @@ fn push_half_rounds<F: PrimeField64>(
     first: StateWords,
 ) -> Mem<StateWords>
     ensures { (x : Input) → AreFirst words.now x → IsState first (first_state x)
-        → IfOk result (λ s. IsState s (state x 28) × Pushed F.ring values.old.items values.new.items (joined 28 (λ n. state_cells (state x (suc n))))) }
+        → IfOk result (λ s. IsState s (state x 28)
+        × Pushed F.ring values.old.items values.new.items
+        (joined 28 (λ n. state_cells (state x (suc n))))) }
 {
     let mut state = first;
     for n in 0..28 {
@@ -53,7 +56,8 @@ fn push_output<F: PrimeField64>(
     last: &StateWords,
 ) -> Mem<()>
     ensures { (x : Input) (v : State) → IsState first.now (first_state x) → IsState last.now v
-        → IfOk result (λ _. Pushed F.ring values.old.items values.new.items (joined 4 (λ k. bit_cells 4 (output_of x v k)))) }
+        → IfOk result (λ _. Pushed F.ring values.old.items values.new.items
+        (joined 4 (λ k. bit_cells 4 (output_of x v k)))) }
 {
     push_bit_words(values, &xor_words(&last.row0, &last.row2))?;
     push_bit_words(values, &xor_words(&last.row1, &last.row3))?;
@@ -64,7 +68,8 @@ fn push_output<F: PrimeField64>(
 
 // Pushes the row of one compression.
 fn push_row<F: PrimeField64>(values: &mut Vec<F>, words: &[u32; 28]) -> Mem<()>
-    ensures { IfOk result (λ _. Pushed F.ring values.old.items values.new.items (row_cells (input_of words.now))) }
+    ensures { IfOk result (λ _.
+        Pushed F.ring values.old.items values.new.items (row_cells (input_of words.now))) }
 {
     let first = first_words(words);
     push_bit_words(values, words)?;
@@ -117,7 +122,9 @@ fn room_for(rows: usize, extra: usize) -> Option<usize>
 
 /// The number of cells of so many rows times 2^extra, or why there is no trace of them.
 pub fn room_of(rows: usize, extra: usize) -> Result<usize, TraceError>
-    ensures answers { MatchResult result (λ n. (n ≡ rows * 9168 * 2 ^ extra) × IsPowerOfTwo rows × (IsTooLong rows extra → ⊥)) (λ e. (e ≡ NotPowerOfTwo) ⊎ (e ≡ TooLong)) }
+    ensures answers { MatchResult result
+        (λ n. (n ≡ rows * 9168 * 2 ^ extra) × IsPowerOfTwo rows × (IsTooLong rows extra → ⊥))
+        (λ e. (e ≡ NotPowerOfTwo) ⊎ (e ≡ TooLong)) }
     ensures not_power { (result ≡ Err NotPowerOfTwo) ↔ (IsPowerOfTwo rows → ⊥) }
     ensures too_long { (result ≡ Err TooLong) ↔ (IsPowerOfTwo rows × IsTooLong rows extra) }
 {
@@ -141,12 +148,18 @@ pub fn generate_trace_rows<F: PrimeField64>(
     inputs: &[[u32; 24]],
     extra_capacity_bits: usize,
 ) -> Result<RowMajorMatrix<F>, TraceError>
-    ensures rows { IfOk result (λ m. m ≡ record { values = map (of_nat F.ring) (rows_cells inputs.now); width = 9168 }) }
+    ensures rows { IfOk result
+        (λ m. m ≡ record { values = map (of_nat F.ring) (rows_cells inputs.now); width = 9168 }) }
     ensures height { IfOk result (λ m. height m ≡ length inputs.now) }
-    ensures row { IfOk result (λ m. (i : ℕ) → i < length inputs.now → row_at m i ≡ trace_row F.ring (input_of (compression_input inputs.now i))) }
-    ensures done { IfOk result (λ m. IsPowerOfTwo (length inputs.now) × (IsTooLong (length inputs.now) extra_capacity_bits → ⊥)) }
+    ensures row { IfOk result
+        (λ m. (i : ℕ) → i < length inputs.now
+        → row_at m i ≡ trace_row F.ring (input_of (compression_input inputs.now i))) }
+    ensures done { IfOk result
+        (λ m. IsPowerOfTwo (length inputs.now)
+        × (IsTooLong (length inputs.now) extra_capacity_bits → ⊥)) }
     ensures not_power { (result ≡ Err NotPowerOfTwo) ↔ (IsPowerOfTwo (length inputs.now) → ⊥) }
-    ensures too_long { (result ≡ Err TooLong) ↔ (IsPowerOfTwo (length inputs.now) × IsTooLong (length inputs.now) extra_capacity_bits) }
+    ensures too_long { (result ≡ Err TooLong)
+        ↔ (IsPowerOfTwo (length inputs.now) × IsTooLong (length inputs.now) extra_capacity_bits) }
     ensures any_field { result ≡ Err WrongCharacteristic → ⊥ }
     ensures none_is_no_power { result ≡ Err NoInput → ⊥ }
 {

@@ -27,10 +27,12 @@ fn assert_sum_of_three<AB: AirBuilder>(
     ensures keeps_shape { AB.shape builder.new ≡ AB.shape builder.old }
     ensures answers { IsTrue AB.never_fails → IsOk result }
     ensures appends { IfOk result (λ _. Appended AB.appends builder.old builder.new
-        (add3_trees AB.F.ring (from_column sum) (from_column a) (packed_limbs AB.F.ring (from_column b)) (packed_limbs AB.F.ring (from_column message)))) }
+        (add3_trees AB.F.ring (from_column sum) (from_column a)
+        (packed_limbs AB.F.ring (from_column b)) (packed_limbs AB.F.ring (from_column message)))) }
     ensures on_error { OnFailure result
         (AppendedSome AB.appends builder.old builder.new
-        (add3_trees AB.F.ring (from_column sum) (from_column a) (packed_limbs AB.F.ring (from_column b)) (packed_limbs AB.F.ring (from_column message)))) }
+        (add3_trees AB.F.ring (from_column sum) (from_column a)
+        (packed_limbs AB.F.ring (from_column b)) (packed_limbs AB.F.ring (from_column message)))) }
 {
     let all = limbs_at(builder, sum)?;
     let first = limbs_at(builder, a)?;
@@ -49,8 +51,14 @@ fn assert_sum_of_two<AB: AirBuilder>(builder: &mut AB, sum: usize, c: usize, d: 
     ensures later { AB.later builder.old builder.new }
     ensures keeps_shape { AB.shape builder.new ≡ AB.shape builder.old }
     ensures answers { IsTrue AB.never_fails → IsOk result }
-    ensures appends { IfOk result (λ _. Appended AB.appends builder.old builder.new (add2_trees AB.F.ring (from_column sum) (from_column c) (packed_limbs AB.F.ring (from_column d)))) }
-    ensures on_error { OnFailure result (AppendedSome AB.appends builder.old builder.new (add2_trees AB.F.ring (from_column sum) (from_column c) (packed_limbs AB.F.ring (from_column d)))) }
+    ensures appends { IfOk result
+        (λ _. Appended AB.appends builder.old builder.new
+        (add2_trees AB.F.ring (from_column sum) (from_column c)
+        (packed_limbs AB.F.ring (from_column d)))) }
+    ensures on_error { OnFailure result
+        (AppendedSome AB.appends builder.old builder.new
+        (add2_trees AB.F.ring (from_column sum) (from_column c)
+        (packed_limbs AB.F.ring (from_column d)))) }
 {
     let all = limbs_at(builder, sum)?;
     let first = limbs_at(builder, c)?;
@@ -75,8 +83,12 @@ pub fn assert_turned<AB: AirBuilder>(
     ensures later { AB.later builder.old builder.new }
     ensures keeps_shape { AB.shape builder.new ≡ AB.shape builder.old }
     ensures answers { IsTrue AB.never_fails → IsOk result }
-    ensures appends { IfOk result (λ _. Appended AB.appends builder.old builder.new (xor_shift_trees AB.F.ring (from_column a) (from_column d) (from_column turned) s)) }
-    ensures on_error { OnFailure result (AppendedSome AB.appends builder.old builder.new (xor_shift_trees AB.F.ring (from_column a) (from_column d) (from_column turned) s)) }
+    ensures appends { IfOk result
+        (λ _. Appended AB.appends builder.old builder.new
+        (xor_shift_trees AB.F.ring (from_column a) (from_column d) (from_column turned) s)) }
+    ensures on_error { OnFailure result
+        (AppendedSome AB.appends builder.old builder.new
+        (xor_shift_trees AB.F.ring (from_column a) (from_column d) (from_column turned) s)) }
 {
     let limbs = limbs_at(builder, a)?;
     let bits = bits_at(builder, d)?;
@@ -108,11 +120,13 @@ pub fn assert_half<AB: AirBuilder>(
     ensures keeps_shape { AB.shape builder.new ≡ AB.shape builder.old }
     ensures answers { IsTrue AB.never_fails → IsOk result }
     ensures appends { IfOk result (λ _. Appended AB.appends builder.old builder.new
-        (half_trees AB.F.ring s t (from_column before.a) (from_column before.b) (from_column before.c) (from_column before.d) (from_column message) (from_column after.a)
+        (half_trees AB.F.ring s t (from_column before.a) (from_column before.b)
+        (from_column before.c) (from_column before.d) (from_column message) (from_column after.a)
         (from_column after.b) (from_column after.c) (from_column after.d))) }
     ensures on_error { OnFailure result
         (AppendedSome AB.appends builder.old builder.new
-        (half_trees AB.F.ring s t (from_column before.a) (from_column before.b) (from_column before.c) (from_column before.d) (from_column message) (from_column after.a)
+        (half_trees AB.F.ring s t (from_column before.a) (from_column before.b)
+        (from_column before.c) (from_column before.d) (from_column message) (from_column after.a)
         (from_column after.b) (from_column after.c) (from_column after.d))) }
 {
     assert_sum_of_three(builder, after.a, before.a, before.b, message)?;

@@ -13,7 +13,8 @@ use p3_field::{Field, PrimeField64};
 /// where the words after each half of it are those of G.
 pub fn step_means<F: PrimeField64>()
     requires { 2 ^ 20 < F.ORDER_U64 }
-    ensures { (at : Cell → F) (at_ext : ExtCell → F) → StepMeans F.ring (cells_reading F.ring at at_ext) }
+    ensures { (at : Cell → F) (at_ext : ExtCell → F)
+        → StepMeans F.ring (cells_reading F.ring at at_ext) }
 {}
 
 /// A row of 9168 cells meets all constraints exactly when it is the row of one compression (`exact`), and that compression's

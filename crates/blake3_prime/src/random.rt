@@ -64,12 +64,21 @@ impl Blake3Air {
         num_hashes: usize,
         extra_capacity_bits: usize,
     ) -> Result<RowMajorMatrix<F>, TraceError>
-        ensures rows { IfOk result (λ m. m ≡ record { values = map (of_nat F.ring) (rows_cells (random_inputs num_hashes)); width = 9168 }) }
+        ensures rows { IfOk result
+            (λ m. m ≡ record {
+              values = map (of_nat F.ring) (rows_cells (random_inputs num_hashes));
+              width = 9168;
+            }) }
         ensures height { IfOk result (λ m. height m ≡ num_hashes) }
-        ensures row { IfOk result (λ m. (i : ℕ) → i < num_hashes → row_at m i ≡ trace_row F.ring (input_of (compression_input (random_inputs num_hashes) i))) }
-        ensures done { IfOk result (λ m. IsPowerOfTwo num_hashes × (IsTooLong num_hashes extra_capacity_bits → ⊥)) }
+        ensures row { IfOk result
+            (λ m. (i : ℕ) → i < num_hashes
+            → row_at m i ≡ trace_row F.ring
+            (input_of (compression_input (random_inputs num_hashes) i))) }
+        ensures done { IfOk result
+            (λ m. IsPowerOfTwo num_hashes × (IsTooLong num_hashes extra_capacity_bits → ⊥)) }
         ensures not_power { (result ≡ Err NotPowerOfTwo) ↔ (IsPowerOfTwo num_hashes → ⊥) }
-        ensures too_long { (result ≡ Err TooLong) ↔ (IsPowerOfTwo num_hashes × IsTooLong num_hashes extra_capacity_bits) }
+        ensures too_long { (result ≡ Err TooLong)
+            ↔ (IsPowerOfTwo num_hashes × IsTooLong num_hashes extra_capacity_bits) }
         ensures any_field { result ≡ Err WrongCharacteristic → ⊥ }
         ensures none_is_no_power { result ≡ Err NoInput → ⊥ }
     {

@@ -17,7 +17,8 @@ pub fn cell_at<AB: AirBuilder>(builder: &mut AB, column: usize) -> Mem<AB::Expr>
     ensures keeps_shape { AB.shape builder.new ≡ AB.shape builder.old }
     ensures answers { IsTrue AB.never_fails → IsOk result }
     ensures appends { AB.appends builder.old builder.new [] [] }
-    ensures represents { IfOk result (λ e. AB.represents builder.new e (cell_tree (MainCell false column))) }
+    ensures represents { IfOk result
+        (λ e. AB.represents builder.new e (cell_tree (MainCell false column))) }
 {
     builder.cell(Cell::Main {
         next: false,
@@ -33,7 +34,8 @@ pub fn limbs_at<AB: AirBuilder>(builder: &mut AB, column: usize) -> Mem<[AB::Exp
     ensures keeps_shape { AB.shape builder.new ≡ AB.shape builder.old }
     ensures answers { IsTrue AB.never_fails → IsOk result }
     ensures appends { AB.appends builder.old builder.new [] [] }
-    ensures represents { IfOk result (λ es. RepresentAt (AB.represents builder.new) es (from_column column)) }
+    ensures represents { IfOk result
+        (λ es. RepresentAt (AB.represents builder.new) es (from_column column)) }
 {
     let first = cell_at(builder, column)?;
     let mut cells = [first; 2];
@@ -51,7 +53,8 @@ pub fn bits_at<AB: AirBuilder>(builder: &mut AB, column: usize) -> Mem<[AB::Expr
     ensures keeps_shape { AB.shape builder.new ≡ AB.shape builder.old }
     ensures answers { IsTrue AB.never_fails → IsOk result }
     ensures appends { AB.appends builder.old builder.new [] [] }
-    ensures represents { IfOk result (λ es. RepresentAt (AB.represents builder.new) es (from_column column)) }
+    ensures represents { IfOk result
+        (λ es. RepresentAt (AB.represents builder.new) es (from_column column)) }
 {
     let first = cell_at(builder, column)?;
     let mut cells = [first; 32];
@@ -69,7 +72,9 @@ pub fn packed_at<AB: AirBuilder>(builder: &mut AB, column: usize) -> Mem<[AB::Ex
     ensures keeps_shape { AB.shape builder.new ≡ AB.shape builder.old }
     ensures answers { IsTrue AB.never_fails → IsOk result }
     ensures appends { AB.appends builder.old builder.new [] [] }
-    ensures represents { IfOk result (λ es. RepresentAt (AB.represents builder.new) es (packed_limbs AB.F.ring (from_column column))) }
+    ensures represents { IfOk result
+        (λ es. RepresentAt (AB.represents builder.new) es
+        (packed_limbs AB.F.ring (from_column column))) }
 {
     let bits = bits_at(builder, column)?;
     let all = &bits[..];

@@ -17,8 +17,10 @@ fn assert_step_half<AB: AirBuilder>(builder: &mut AB, n: usize, g: usize) -> Mem
     ensures later { AB.later builder.old builder.new }
     ensures keeps_shape { AB.shape builder.new ≡ AB.shape builder.old }
     ensures answers { IsTrue AB.never_fails → IsOk result }
-    ensures appends { IfOk result (λ _. Appended AB.appends builder.old builder.new (step_half_trees AB.F.ring n g)) }
-    ensures on_error { OnFailure result (AppendedSome AB.appends builder.old builder.new (step_half_trees AB.F.ring n g)) }
+    ensures appends { IfOk result
+        (λ _. Appended AB.appends builder.old builder.new (step_half_trees AB.F.ring n g)) }
+    ensures on_error { OnFailure result
+        (AppendedSome AB.appends builder.old builder.new (step_half_trees AB.F.ring n g)) }
 {
     let turn = n % 4 / 2;
     let before = step_columns(n, turn, g);
@@ -43,8 +45,10 @@ fn assert_step<AB: AirBuilder>(builder: &mut AB, p: usize, g: usize) -> Mem<()>
     ensures later { AB.later builder.old builder.new }
     ensures keeps_shape { AB.shape builder.new ≡ AB.shape builder.old }
     ensures answers { IsTrue AB.never_fails → IsOk result }
-    ensures appends { IfOk result (λ _. Appended AB.appends builder.old builder.new (step_trees AB.F.ring p g)) }
-    ensures on_error { OnFailure result (AppendedSome AB.appends builder.old builder.new (step_trees AB.F.ring p g)) }
+    ensures appends { IfOk result
+        (λ _. Appended AB.appends builder.old builder.new (step_trees AB.F.ring p g)) }
+    ensures on_error { OnFailure result
+        (AppendedSome AB.appends builder.old builder.new (step_trees AB.F.ring p g)) }
 {
     for h in 0..2 {
         assert_step_half(builder, 2 * p + h, g)?;
@@ -59,8 +63,10 @@ fn assert_steps<AB: AirBuilder>(builder: &mut AB, p: usize) -> Mem<()>
     ensures later { AB.later builder.old builder.new }
     ensures keeps_shape { AB.shape builder.new ≡ AB.shape builder.old }
     ensures answers { IsTrue AB.never_fails → IsOk result }
-    ensures appends { IfOk result (λ _. Appended AB.appends builder.old builder.new (steps_trees AB.F.ring p)) }
-    ensures on_error { OnFailure result (AppendedSome AB.appends builder.old builder.new (steps_trees AB.F.ring p)) }
+    ensures appends { IfOk result
+        (λ _. Appended AB.appends builder.old builder.new (steps_trees AB.F.ring p)) }
+    ensures on_error { OnFailure result
+        (AppendedSome AB.appends builder.old builder.new (steps_trees AB.F.ring p)) }
 {
     for g in 0..4 {
         assert_step(builder, p, g)?;
@@ -74,8 +80,10 @@ pub fn assert_rounds<AB: AirBuilder>(builder: &mut AB) -> Mem<()>
     ensures later { AB.later builder.old builder.new }
     ensures keeps_shape { AB.shape builder.new ≡ AB.shape builder.old }
     ensures answers { IsTrue AB.never_fails → IsOk result }
-    ensures appends { IfOk result (λ _. Appended AB.appends builder.old builder.new (rounds_trees AB.F.ring)) }
-    ensures on_error { OnFailure result (AppendedSome AB.appends builder.old builder.new (rounds_trees AB.F.ring)) }
+    ensures appends { IfOk result
+        (λ _. Appended AB.appends builder.old builder.new (rounds_trees AB.F.ring)) }
+    ensures on_error { OnFailure result
+        (AppendedSome AB.appends builder.old builder.new (rounds_trees AB.F.ring)) }
 {
     for p in 0..14 {
         assert_steps(builder, p)?;

@@ -12,8 +12,10 @@ use p3_field::{Field, RingCore};
 pub fn write_word<F: Field>(row: &mut [F], at: usize, word: u32)
     requires { at + 32 ≤ length row.old }
     ensures length { length row.new ≡ length row.old }
-    ensures bits { (k : ℕ) (d : F) → k < 32 → slice_index_or row.new (at + k) d ≡ of_nat F.ring (bit_at word k) }
-    ensures others { (k : ℕ) (d : F) → (k < at) ⊎ (at + 32 ≤ k) → slice_index_or row.new k d ≡ slice_index_or row.old k d }
+    ensures bits { (k : ℕ) (d : F) → k < 32
+        → slice_index_or row.new (at + k) d ≡ of_nat F.ring (bit_at word k) }
+    ensures others { (k : ℕ) (d : F) → (k < at) ⊎ (at + 32 ≤ k)
+        → slice_index_or row.new k d ≡ slice_index_or row.old k d }
 {
     let bits: [F; 32] = u32_to_bits_le(word);
     for i in 0..32 {
@@ -26,8 +28,10 @@ pub fn write_word<F: Field>(row: &mut [F], at: usize, word: u32)
 pub fn write_limbs<F: Field>(row: &mut [F], at: usize, word: u32)
     requires { at + 2 ≤ length row.old }
     ensures length { length row.new ≡ length row.old }
-    ensures limbs { (k : ℕ) (d : F) → k < 2 → slice_index_or row.new (at + k) d ≡ of_nat F.ring (limb word k) }
-    ensures others { (k : ℕ) (d : F) → (k < at) ⊎ (at + 2 ≤ k) → slice_index_or row.new k d ≡ slice_index_or row.old k d }
+    ensures limbs { (k : ℕ) (d : F) → k < 2
+        → slice_index_or row.new (at + k) d ≡ of_nat F.ring (limb word k) }
+    ensures others { (k : ℕ) (d : F) → (k < at) ⊎ (at + 2 ≤ k)
+        → slice_index_or row.new k d ≡ slice_index_or row.old k d }
 {
     row[at] = <F as RingCore>::from_u64((word % 65536) as u64);
     row[at + 1] = <F as RingCore>::from_u64((word / 65536) as u64);

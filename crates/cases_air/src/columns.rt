@@ -53,7 +53,8 @@ fn are_beside(
     row: usize,
 ) -> bool
     requires { length lookups.now < 100 }
-    ensures { IsTrue result → (row < height main.now) × (main.now.width ≡ 1) × (height columns.now ≡ height main.now) × (columns.now.width ≡ length lookups.now + 1)
+    ensures { IsTrue result → (row < height main.now) × (main.now.width ≡ 1)
+        × (height columns.now ≡ height main.now) × (columns.now.width ≡ length lookups.now + 1)
         × (length challenges.now ≡ 2 * length lookups.now) }
 {
     row < main.height()

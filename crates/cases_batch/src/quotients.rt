@@ -66,7 +66,8 @@ fn extended(
 
 /// Whether a matrix that may be absent has this width, zero where it is absent, and else so many rows.
 pub fn is_shaped(matrix: Option<&RowMajorMatrix<BabyBear>>, width: usize, rows: usize) -> bool
-    ensures { IsTrue result → (width_of (option_map (λ m. m.now) matrix.entry) ≡ width) × IfSome matrix.entry (λ m. height m.now ≡ rows) }
+    ensures { IsTrue result → (width_of (option_map (λ m. m.now) matrix.entry) ≡ width)
+        × IfSome matrix.entry (λ m. height m.now ≡ rows) }
 {
     match matrix {
         Some(m) => m.width() == width && m.height() == rows,

@@ -44,7 +44,8 @@ pub fn tool_air(alloc: Global, name: &str, log_rows: usize) -> Mem<ToolAir<BabyB
 
 /// Whether a table's periodic columns fit so many rows.
 pub fn have_periods<A: Air<BabyBear>>(air: &A, rows: usize) -> bool
-    ensures fit { IsTrue result → All (λ c. IsPeriod rows (length c)) (A.declaration air.now).periodic }
+    ensures fit { IsTrue result
+        → All (λ c. IsPeriod rows (length c)) (A.declaration air.now).periodic }
     ensures filled { IsTrue result → All (λ c. 0 < length c) (A.declaration air.now).periodic }
 {
     match PeriodicColumns::new(air.periodic_columns(), rows) {

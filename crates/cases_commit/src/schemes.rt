@@ -273,7 +273,8 @@ fn committed_within<F: TwoAdicField, D: TwoAdicSubgroupDft<F> + Drop>(
     pcs: &PlainPcs<F, D>,
     evaluations: Vec<(TwoAdicMultiplicativeCoset<F>, RowMajorMatrix<F>)>,
 ) -> Result<(PlainCommitment<F>, PlainProverData<F>), PcsFailure<PlainProverError>>
-    requires { All (IsWithinBounds (scheme F.ring F.inv F.root F.GENERATOR F.TWO_ADICITY pcs.now)) evaluations.items }
+    requires { All (IsWithinBounds (scheme F.ring F.inv F.root F.GENERATOR F.TWO_ADICITY pcs.now))
+        evaluations.items }
     ensures { IfRefused result (λ _. ⊥) }
 {
     pcs.valid();

@@ -39,10 +39,17 @@ pub fn prover_side<F: PrimeField64, C: GrindingChallenger<Witness = F> + CanSamp
     requires steps { separator.now.steps ≡ worked_steps (length known.now) bits }
     requires few { 2 ^ bits < F.ORDER_U64 }
     ensures passes { IfOk result (λ o. IfSome o (λ s. IsTrue s.passes)) }
-    ensures drawn { IfOk result (λ o. IfSome o (λ s. let begun = fold C.observed challenger (map (of_nat F.ring) (encoding separator.now)) in
-        s.drawn ≡ C.drawn (checked_state C.observed C.after_bits (told C.observed begun sent known.now) bits s.witness))) }
-    ensures state { IfOk result (λ o. IfSome o (λ s. let begun = fold C.observed challenger (map (of_nat F.ring) (encoding separator.now)) in
-        s.challenger ≡ C.after_draw (checked_state C.observed C.after_bits (told C.observed begun sent known.now) bits s.witness))) }
+    ensures drawn { IfOk result
+        (λ o. IfSome o (λ s. let begun = fold C.observed challenger
+        (map (of_nat F.ring) (encoding separator.now)) in
+        s.drawn ≡ C.drawn (checked_state C.observed C.after_bits
+        (told C.observed begun sent known.now) bits s.witness))) }
+    ensures state { IfOk result
+        (λ o. IfSome o (λ s. let begun = fold C.observed challenger
+        (map (of_nat F.ring) (encoding separator.now)) in
+        s.challenger ≡ C.after_draw
+        (checked_state C.observed C.after_bits (told C.observed begun sent known.now) bits
+        s.witness))) }
 {
     let mut state = ProverState::new::<F>(alloc, challenger, separator)?;
     state.message(&sent);
@@ -75,12 +82,22 @@ pub fn verifier_side<F: PrimeField64, C: GrindingChallenger<Witness = F> + CanSa
 ) -> Mem<Side<F, C>>
     requires steps { separator.now.steps ≡ worked_steps (length known.now) bits }
     requires few { 2 ^ bits < F.ORDER_U64 }
-    ensures passes { IfOk result (λ s. let begun = fold C.observed challenger (map (of_nat F.ring) (encoding separator.now)) in
-        IsTrue s.passes ↔ PassesGrinding C.observed C.bits_drawn (told C.observed begun sent known.now) bits witness) }
-    ensures drawn { IfOk result (λ s. let begun = fold C.observed challenger (map (of_nat F.ring) (encoding separator.now)) in
-        s.drawn ≡ C.drawn (checked_state C.observed C.after_bits (told C.observed begun sent known.now) bits witness)) }
-    ensures state { IfOk result (λ s. let begun = fold C.observed challenger (map (of_nat F.ring) (encoding separator.now)) in
-        s.challenger ≡ C.after_draw (checked_state C.observed C.after_bits (told C.observed begun sent known.now) bits witness)) }
+    ensures passes { IfOk result
+        (λ s. let begun = fold C.observed challenger
+        (map (of_nat F.ring) (encoding separator.now)) in
+        IsTrue s.passes ↔ PassesGrinding C.observed C.bits_drawn
+        (told C.observed begun sent known.now) bits witness) }
+    ensures drawn { IfOk result
+        (λ s. let begun = fold C.observed challenger
+        (map (of_nat F.ring) (encoding separator.now)) in
+        s.drawn ≡ C.drawn (checked_state C.observed C.after_bits
+        (told C.observed begun sent known.now) bits witness)) }
+    ensures state { IfOk result
+        (λ s. let begun = fold C.observed challenger
+        (map (of_nat F.ring) (encoding separator.now)) in
+        s.challenger ≡ C.after_draw
+        (checked_state C.observed C.after_bits (told C.observed begun sent known.now) bits
+        witness)) }
 {
     let mut state = VerifierState::new::<F>(alloc, challenger, separator)?;
     state.message(&sent);

@@ -19,7 +19,8 @@ fn push_step(
     label: &str,
     length: Length,
 ) -> Mem<()>
-    ensures { OnOk result (steps.new.items ≡ steps.old.items ++ worked_step hierarchy kind value label.now length ∷ []) }
+    ensures { OnOk result (steps.new.items ≡ steps.old.items
+        ++ worked_step hierarchy kind value label.now length ∷ []) }
 {
     steps.push(Interaction {
         hierarchy,

@@ -110,7 +110,8 @@ pub fn room<R: Print + AllocGlobal>(rt: &R, input: Vec<u8>, words: &[&str]) -> i
 // What these words answer over a source and a sink that counts, and how many bytes were written.
 fn counted<S: Source>(alloc: Global, words: &[&str], source: &mut S) -> Mem<(Status, u64)>
     ensures later { S.faults source.old ≤ S.faults source.new }
-    ensures read_fault { IfOk result (λ r. r.0 ≡ Status.ReadFault → Rose (S.faults source.old) (S.faults source.new)) }
+    ensures read_fault { IfOk result
+        (λ r. r.0 ≡ Status.ReadFault → Rose (S.faults source.old) (S.faults source.new)) }
     ensures write_fault { IfOk result (λ r. r.0 ≡ Status.WriteFault → ⊥) }
 {
     let words = words_of(alloc, words)?;

@@ -128,7 +128,8 @@ fn drawn(
     requires fits { bounds.most < 64 }
     requires masked { bounds.masks ≤ bounds.least }
     requires masks { bounds.masks ≤ 1 }
-    requires formed { WellFormed (map ⟦<Plain as BaseAir<BabyBear>>⟧.declaration airs.now) (read_common common.now) }
+    requires formed { WellFormed (map ⟦<Plain as BaseAir<BabyBear>>⟧.declaration airs.now)
+        (read_common common.now) }
     requires lookup { 2 ^ lookup_bits < 2013265921 }
     requires ood { 2 ^ ood_bits < 2013265921 }
 {

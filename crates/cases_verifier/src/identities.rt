@@ -21,7 +21,8 @@ fn are_declared<A: BaseAir<BabyBear>>(
     air: &A,
     given: &IdentityData<'_, BabyBear, QuarticExtension>,
 ) -> bool
-    ensures { IsTrue result → HasDeclaredLengths (A.declaration air.now) (length (read_all given.now.lookups.now)) (identity_opened_of given.now) }
+    ensures { IsTrue result → HasDeclaredLengths (A.declaration air.now)
+        (length (read_all given.now.lookups.now)) (identity_opened_of given.now) }
 {
     if given.trace_local.len() != air.width() || given.trace_next.len() != air.width() {
         return false;

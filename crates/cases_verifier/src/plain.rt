@@ -23,7 +23,8 @@ pub struct Plain {
 }
 
 impl BaseAir<BabyBear> for Plain {
-    ghost declaration = { λ a. plain_declaration a.columns a.public_values (map (λ c. c.items) a.periodic.items) a.hint };
+    ghost declaration = { λ a.
+        plain_declaration a.columns a.public_values (map (λ c. c.items) a.periodic.items) a.hint };
 
     fn width(&self) -> usize {
         self.columns

@@ -59,8 +59,10 @@ where
         IsOk result → HoldUnlessUnlucky c config.now.pcs.log_blowup s proof.now }
     ensures swaps { let c = ⟦<PlainConfig<F, D, E, C> as Settings>⟧.setting config.now in
         let s = stated A.declaration A.trees airs.now public_values.now common.now in
-        IsOk result → (IsAlphaUnlucky c config.now.pcs.log_blowup s proof.now → ⊥) → (IsZetaUnlucky c config.now.pcs.log_blowup s proof.now → ⊥)
-        → (i : ℕ) (air : A) (a b x : F) → i < length airs.now → A.trees (get_or airs.now i air) ≡ swap_trees → get_or s.publics i [] ≡ swap_publics a b x
+        IsOk result → (IsAlphaUnlucky c config.now.pcs.log_blowup s proof.now → ⊥)
+        → (IsZetaUnlucky c config.now.pcs.log_blowup s proof.now → ⊥)
+        → (i : ℕ) (air : A) (a b x : F) → i < length airs.now
+        → A.trees (get_or airs.now i air) ≡ swap_trees → get_or s.publics i [] ≡ swap_publics a b x
         → EndsSwapped (bits_at proof.now.degree_bits i) a b x }
 {
     verify_batch(alloc, config, airs, proof, public_values, common)?;

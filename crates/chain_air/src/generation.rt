@@ -44,7 +44,8 @@ fn inputs_of(alloc: Global, start: [u32; 8], blocks: &[[u32; 16]]) -> Mem<Vec<[u
 
 // Whether there is a trace of so many rows.
 fn check_rows(rows: usize) -> Result<(), TraceError>
-    ensures answers { MatchResult result (λ _. IsPowerOfTwo rows × (IsTooLong rows 0 → ⊥)) (λ e. (e ≡ NotPowerOfTwo) ⊎ (e ≡ TooLong)) }
+    ensures answers { MatchResult result (λ _. IsPowerOfTwo rows × (IsTooLong rows 0 → ⊥))
+        (λ e. (e ≡ NotPowerOfTwo) ⊎ (e ≡ TooLong)) }
     ensures not_power { (result ≡ Err NotPowerOfTwo) ↔ (IsPowerOfTwo rows → ⊥) }
     ensures too_long { (result ≡ Err TooLong) ↔ (IsPowerOfTwo rows × IsTooLong rows 0) }
 {

@@ -22,7 +22,9 @@ fn assert_selected<AB: AirBuilder>(
     ensures later { AB.later builder.old builder.new }
     ensures keeps_shape { AB.shape builder.new ≡ AB.shape builder.old }
     ensures answers { IsTrue AB.never_fails → IsOk result }
-    ensures appends { (t : Tree AB.F) → AB.represents builder.old x t → IfOk result (λ _. AB.appends builder.old builder.new (over_base (selected selector t y) ∷ []) []) }
+    ensures appends { (t : Tree AB.F) → AB.represents builder.old x t
+        → IfOk result (λ _. AB.appends builder.old builder.new
+        (over_base (selected selector t y) ∷ []) []) }
     ensures on_error { OnErr result (AB.appends builder.old builder.new [] []) }
 {
     let s = builder.cell(selector)?;
@@ -39,8 +41,10 @@ fn assert_link<AB: AirBuilder>(builder: &mut AB, i: usize) -> Mem<()>
     ensures later { AB.later builder.old builder.new }
     ensures keeps_shape { AB.shape builder.new ≡ AB.shape builder.old }
     ensures answers { IsTrue AB.never_fails → IsOk result }
-    ensures appends { IfOk result (λ _. Appended AB.appends builder.old builder.new (link_tree i ∷ [])) }
-    ensures on_error { OnFailure result (AppendedSome AB.appends builder.old builder.new (link_tree i ∷ [])) }
+    ensures appends { IfOk result
+        (λ _. Appended AB.appends builder.old builder.new (link_tree i ∷ [])) }
+    ensures on_error { OnFailure result
+        (AppendedSome AB.appends builder.old builder.new (link_tree i ∷ [])) }
 {
     let next = builder.cell(Cell::Main {
         next: true,
@@ -61,7 +65,8 @@ fn assert_links<AB: AirBuilder>(builder: &mut AB) -> Mem<()>
     ensures keeps_shape { AB.shape builder.new ≡ AB.shape builder.old }
     ensures answers { IsTrue AB.never_fails → IsOk result }
     ensures appends { IfOk result (λ _. Appended AB.appends builder.old builder.new link_trees) }
-    ensures on_error { OnFailure result (AppendedSome AB.appends builder.old builder.new link_trees) }
+    ensures on_error { OnFailure result
+        (AppendedSome AB.appends builder.old builder.new link_trees) }
 {
     for i in 0..256 {
         assert_link(builder, i)?;
@@ -83,8 +88,12 @@ fn assert_public_word<AB: AirBuilder>(
     ensures later { AB.later builder.old builder.new }
     ensures keeps_shape { AB.shape builder.new ≡ AB.shape builder.old }
     ensures answers { IsTrue AB.never_fails → IsOk result }
-    ensures appends { IfOk result (λ _. Appended AB.appends builder.old builder.new (public_word_trees AB.F.ring selector column public)) }
-    ensures on_error { OnFailure result (AppendedSome AB.appends builder.old builder.new (public_word_trees AB.F.ring selector column public)) }
+    ensures appends { IfOk result
+        (λ _. Appended AB.appends builder.old builder.new
+        (public_word_trees AB.F.ring selector column public)) }
+    ensures on_error { OnFailure result
+        (AppendedSome AB.appends builder.old builder.new
+        (public_word_trees AB.F.ring selector column public)) }
 {
     let limbs = packed_at(builder, column)?;
     assert_selected(builder, selector, limbs[0], Cell::Public(public))?;
@@ -106,8 +115,12 @@ fn assert_edge<AB: AirBuilder>(
     ensures later { AB.later builder.old builder.new }
     ensures keeps_shape { AB.shape builder.new ≡ AB.shape builder.old }
     ensures answers { IsTrue AB.never_fails → IsOk result }
-    ensures appends { IfOk result (λ _. Appended AB.appends builder.old builder.new (edge_trees AB.F.ring selector column public)) }
-    ensures on_error { OnFailure result (AppendedSome AB.appends builder.old builder.new (edge_trees AB.F.ring selector column public)) }
+    ensures appends { IfOk result
+        (λ _. Appended AB.appends builder.old builder.new
+        (edge_trees AB.F.ring selector column public)) }
+    ensures on_error { OnFailure result
+        (AppendedSome AB.appends builder.old builder.new
+        (edge_trees AB.F.ring selector column public)) }
 {
     for w in 0..8 {
         assert_public_word(builder, selector, column + 32 * w, public + 2 * w)?;
@@ -121,8 +134,10 @@ pub fn assert_linking<AB: AirBuilder>(builder: &mut AB) -> Mem<()>
     ensures later { AB.later builder.old builder.new }
     ensures keeps_shape { AB.shape builder.new ≡ AB.shape builder.old }
     ensures answers { IsTrue AB.never_fails → IsOk result }
-    ensures appends { IfOk result (λ _. Appended AB.appends builder.old builder.new (linking_trees AB.F.ring)) }
-    ensures on_error { OnFailure result (AppendedSome AB.appends builder.old builder.new (linking_trees AB.F.ring)) }
+    ensures appends { IfOk result
+        (λ _. Appended AB.appends builder.old builder.new (linking_trees AB.F.ring)) }
+    ensures on_error { OnFailure result
+        (AppendedSome AB.appends builder.old builder.new (linking_trees AB.F.ring)) }
 {
     assert_links(builder)?;
     assert_edge(builder, Cell::FirstRow, 512, 0)?;

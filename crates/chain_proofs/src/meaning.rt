@@ -18,7 +18,8 @@ use tool_proof_text::ToolProof;
 pub fn accepted_means(start: &[u32; 8], end: &[u32; 8], log_rows: usize, proof: &ToolProof)
     requires rows { log_rows ≤ 3 }
     requires height { HasStatedHeight log_rows proof.now.degree_bits }
-    requires accepted { Accepted (tool_setting V2) tool_backend (chain_statement start.now end.now log_rows) proof.now }
+    requires accepted { Accepted (tool_setting V2) tool_backend
+        (chain_statement start.now end.now log_rows) proof.now }
     ensures { RowsAreChain start.now end.now log_rows proof.now }
 {
     baby_bear_has_laws();

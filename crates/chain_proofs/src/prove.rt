@@ -25,7 +25,8 @@ fn trace_of(alloc: Global, start: &[u32; 8], blocks: &[[u32; 16]]) -> Mem<RowMaj
     requires power { IsPowerOfTwo (length blocks.now) }
     requires few { length blocks.now ≤ 8 }
     ensures trace { IfOk result (λ m. m ≡ chain_trace baby_bear_ring start.now blocks.now) }
-    ensures chain { IfOk result (IsChainTrace baby_bear_ring start.now (end_of start.now blocks.now)) }
+    ensures chain { IfOk result
+        (IsChainTrace baby_bear_ring start.now (end_of start.now blocks.now)) }
 {
     match generate_chain_rows(alloc, *start, blocks) {
         Ok(trace) => Ok(trace),

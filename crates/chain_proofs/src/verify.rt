@@ -41,7 +41,9 @@ pub fn verify_chain(
 ) -> Result<(), BatchVerificationError<PlainError>>
     requires rows { log_rows ≤ 3 }
     requires height { HasStatedHeight log_rows proof.now.degree_bits }
-    ensures verdict { IsVerdict (checks (tool_setting V2) tool_backend (chain_statement start.now end.now log_rows) proof.now) result }
+    ensures verdict { IsVerdict
+        (checks (tool_setting V2) tool_backend (chain_statement start.now end.now log_rows)
+        proof.now) result }
     ensures chain { IfOk result (λ _. RowsAreChain start.now end.now log_rows proof.now) }
 {
     let public_values = [chain_publics(alloc, start, end)?];

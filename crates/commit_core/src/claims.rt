@@ -131,12 +131,16 @@ pub struct OpeningRequest<'a, ProverData, Challenge> {
 impl<'a, ProverData, Challenge> Model for OpeningRequest<'a, ProverData, Challenge> {
     ghost Value = { Request ProverData Challenge };
 
-    ghost view = { λ s. record { prover_data = s.prover_data.now; points = map (λ v. v.items) s.points.items } };
+    ghost view = { λ s. record {
+      prover_data = s.prover_data.now;
+      points = map (λ v. v.items) s.points.items;
+    } };
 }
 
 impl<'a, ProverData, Challenge> From<(&'a ProverData, Vec<Vec<Challenge>>)>
     for OpeningRequest<'a, ProverData, Challenge> {
-    ghost from_gives = { λ pair request. request ≡ record { prover_data = pair.0.now; points = map (λ v. v.items) pair.1.items } };
+    ghost from_gives = { λ pair request.
+        request ≡ record { prover_data = pair.0.now; points = map (λ v. v.items) pair.1.items } };
 
     fn from((prover_data, points): (&'a ProverData, Vec<Vec<Challenge>>)) -> Self {
         OpeningRequest {

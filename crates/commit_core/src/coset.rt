@@ -23,8 +23,12 @@ where
     Challenge: ExtensionField<<Self as Pcs<Challenge, Challenger>>::Val>,
 {
     // a domain has as many points as the coset
-    ghost coset_points: { (d : CosetData Self.Val) → ⟦<<Self as Pcs<Challenge, Challenger>>::Domain as PolynomialSpace>⟧.points d ≡ 2 ^ d.log_size };
+    ghost coset_points: { (d : CosetData Self.Val)
+        → ⟦<<Self as Pcs<Challenge, Challenger>>::Domain as PolynomialSpace>⟧.points d
+        ≡ 2 ^ d.log_size };
 
     // and the same points, in the coset's order
-    ghost coset_point: { (d : CosetData Self.Val) (i : ℕ) → ⟦<<Self as Pcs<Challenge, Challenger>>::Domain as PolynomialSpace>⟧.point_at d i ≡ point Self.Val.ring Self.Val.root d i };
+    ghost coset_point: { (d : CosetData Self.Val) (i : ℕ)
+        → ⟦<<Self as Pcs<Challenge, Challenger>>::Domain as PolynomialSpace>⟧.point_at d i
+        ≡ point Self.Val.ring Self.Val.root d i };
 }

@@ -90,7 +90,8 @@ pub trait PolynomialSpace: Copy {
     /// A space of at least this size, disjoint from this one wherever the field's generator lies outside of both
     /// groups; None exactly where there is none so large.
     fn try_create_disjoint_domain(&self, min_size: usize) -> Option<Self>
-        ensures { MatchOption result (lacks self.now min_size) (λ d. offered self.now min_size d × (lacks self.now min_size → ⊥)) };
+        ensures { MatchOption result (lacks self.now min_size)
+            (λ d. offered self.now min_size d × (lacks self.now min_size → ⊥)) };
 
     /// The space of `try_create_disjoint_domain`, where there is one.
     fn create_disjoint_domain(&self, min_size: usize) -> Self
@@ -121,8 +122,10 @@ pub trait PolynomialSpace: Copy {
 
     /// The value at a point of the polynomial that vanishes on this space: zero exactly at its points.
     fn vanishing_poly_at_point<Ext: ExtensionField<Self::Val>>(&self, point: Ext) -> Ext
-        ensures value { result ≡ eval_poly Ext.ring (map Ext.embed (vanishing_poly self.now)) point }
-        ensures zero { (result ≡ Ext.ring.zero) ↔ IsPoint (points self.now) (point_at self.now) Ext.embed point };
+        ensures value { result ≡ eval_poly Ext.ring (map Ext.embed (vanishing_poly self.now))
+            point }
+        ensures zero { (result ≡ Ext.ring.zero)
+            ↔ IsPoint (points self.now) (point_at self.now) Ext.embed point };
 
     /// The values of the selectors at a point outside of this space, and one over that of the vanishing polynomial.
     fn selectors_at_point<Ext: ExtensionField<Self::Val>>(
@@ -130,10 +133,14 @@ pub trait PolynomialSpace: Copy {
         point: Ext,
     ) -> LagrangeSelectors<Ext>
         requires { IsPoint (points self.now) (point_at self.now) Ext.embed point → ⊥ }
-        ensures first { result.is_first_row ≡ eval_poly Ext.ring (map Ext.embed (first_row_poly self.now)) point }
-        ensures last { result.is_last_row ≡ eval_poly Ext.ring (map Ext.embed (last_row_poly self.now)) point }
-        ensures transition { result.is_transition ≡ eval_poly Ext.ring (map Ext.embed (transition_poly self.now)) point }
-        ensures inverse { result.inv_vanishing ≡ Ext.inv (eval_poly Ext.ring (map Ext.embed (vanishing_poly self.now)) point) };
+        ensures first { result.is_first_row
+            ≡ eval_poly Ext.ring (map Ext.embed (first_row_poly self.now)) point }
+        ensures last { result.is_last_row
+            ≡ eval_poly Ext.ring (map Ext.embed (last_row_poly self.now)) point }
+        ensures transition { result.is_transition
+            ≡ eval_poly Ext.ring (map Ext.embed (transition_poly self.now)) point }
+        ensures inverse { result.inv_vanishing
+            ≡ Ext.inv (eval_poly Ext.ring (map Ext.embed (vanishing_poly self.now)) point) };
 
     /// The same at each point of a space that is disjoint from this one.
     fn selectors_on_coset(
@@ -141,11 +148,25 @@ pub trait PolynomialSpace: Copy {
         alloc: Global,
         coset: Self,
     ) -> Mem<LagrangeSelectors<Vec<Self::Val>>>
-        requires { AreDisjoint (points self.now) (point_at self.now) (points coset) (point_at coset) }
-        ensures first { IfOk result (λ s. s.is_first_row.items ≡ tabulate (points coset) (λ i. eval_poly Self.Val.ring (first_row_poly self.now) (point_at coset i))) }
-        ensures last { IfOk result (λ s. s.is_last_row.items ≡ tabulate (points coset) (λ i. eval_poly Self.Val.ring (last_row_poly self.now) (point_at coset i))) }
-        ensures transition { IfOk result (λ s. s.is_transition.items ≡ tabulate (points coset) (λ i. eval_poly Self.Val.ring (transition_poly self.now) (point_at coset i))) }
-        ensures inverse { IfOk result (λ s. s.inv_vanishing.items ≡ tabulate (points coset) (λ i. Self.Val.inv (eval_poly Self.Val.ring (vanishing_poly self.now) (point_at coset i)))) };
+        requires { AreDisjoint (points self.now) (point_at self.now) (points coset)
+            (point_at coset) }
+        ensures first { IfOk result
+            (λ s. s.is_first_row.items
+            ≡ tabulate (points coset)
+            (λ i. eval_poly Self.Val.ring (first_row_poly self.now) (point_at coset i))) }
+        ensures last { IfOk result
+            (λ s. s.is_last_row.items
+            ≡ tabulate (points coset)
+            (λ i. eval_poly Self.Val.ring (last_row_poly self.now) (point_at coset i))) }
+        ensures transition { IfOk result
+            (λ s. s.is_transition.items
+            ≡ tabulate (points coset)
+            (λ i. eval_poly Self.Val.ring (transition_poly self.now) (point_at coset i))) }
+        ensures inverse { IfOk result
+            (λ s. s.inv_vanishing.items
+            ≡ tabulate (points coset)
+            (λ i. Self.Val.inv (eval_poly Self.Val.ring (vanishing_poly self.now)
+            (point_at coset i)))) };
 
     /// The value at a point of a column's interpolant on this space: the polynomial of degree below the number of points
     /// whose value at point i is `evals[i]`. There must be a value for each point. `point` may also lie in this space.
@@ -155,7 +176,8 @@ pub trait PolynomialSpace: Copy {
         point: Ext,
     ) -> Ext
         requires { length evals.now ≡ points self.now }
-        ensures { IsInterpolatedAt Self.Val.ring Ext.ring Ext.embed (point_at self.now) evals.now point result };
+        ensures { IsInterpolatedAt Self.Val.ring Ext.ring Ext.embed (point_at self.now) evals.now
+            point result };
 
     /// The value at a point of a periodic column's polynomial, also at the points of this space: that of the
     /// interpolant of the column repeated over this space. The column lists one period.
@@ -165,7 +187,8 @@ pub trait PolynomialSpace: Copy {
         point: Ext,
     ) -> Ext
         requires { IsPeriod (points self.now) (length col.now) }
-        ensures { IsPeriodicAt Self.Val.ring Ext.ring Ext.embed (points self.now) (point_at self.now) point col.now result };
+        ensures { IsPeriodicAt Self.Val.ring Ext.ring Ext.embed (points self.now)
+            (point_at self.now) point col.now result };
 
     /// The same of each of several columns, in order.
     fn evaluate_periodic_columns_at<Ext: ExtensionField<Self::Val>>(
@@ -175,17 +198,23 @@ pub trait PolynomialSpace: Copy {
         point: Ext,
     ) -> Mem<Vec<Ext>>
         requires { columns.height ≡ points self.now }
-        ensures { IfOk result (λ v. EachFrom (map (λ c. c.items) columns.entry.columns.now) v.items (IsPeriodicAt Self.Val.ring Ext.ring Ext.embed (points self.now) (point_at self.now) point)) };
+        ensures { IfOk result (λ v.
+            EachFrom (map (λ c. c.items) columns.entry.columns.now) v.items
+            (IsPeriodicAt Self.Val.ring Ext.ring Ext.embed (points self.now) (point_at self.now)
+            point)) };
 
     ghost points_differ: { (d : Self) → valid d → Apart (points d) (point_at d) };
 
-    ghost steps: { (d : Self) (i : ℕ) → valid d → point_at d (i + 1) ≡ Self.Val.ring.mul (point_at d i) (step d) };
+    ghost steps: { (d : Self) (i : ℕ) → valid d
+        → point_at d (i + 1) ≡ Self.Val.ring.mul (point_at d i) (step d) };
 
     // an offered space is disjoint exactly where the generator lies outside
-    ghost disjoint_exactly: { (d e : Self) (m : ℕ) → valid d → valid e → offered d m e → AreDisjoint (points d) (point_at d) (points e) (point_at e) ↔ outside d e };
+    ghost disjoint_exactly: { (d e : Self) (m : ℕ) → valid d → valid e → offered d m e
+        → AreDisjoint (points d) (point_at d) (points e) (point_at e) ↔ outside d e };
 
     // the parts share out the points
-    ghost part_points: { (d e : Self) (c i j : ℕ) → valid d → part d c i e → point_at e j ≡ point_at d (i + c * j) };
+    ghost part_points: { (d e : Self) (c i j : ℕ) → valid d → part d c i e
+        → point_at e j ≡ point_at d (i + c * j) };
 
     ghost part_size: { (d e : Self) (c i : ℕ) → part d c i e → points e * c ≡ points d };
 }
@@ -196,7 +225,8 @@ pub fn are_disjoint<F: TwoAdicField>(
     first: &TwoAdicMultiplicativeCoset<F>,
     second: &TwoAdicMultiplicativeCoset<F>,
 ) -> bool
-    ensures { IsTrue result ↔ AreDisjoint (2 ^ first.now.log_size) (point F.ring F.root first.now) (2 ^ second.now.log_size) (point F.ring F.root second.now) }
+    ensures { IsTrue result ↔ AreDisjoint (2 ^ first.now.log_size) (point F.ring F.root first.now)
+        (2 ^ second.now.log_size) (point F.ring F.root second.now) }
 {
     first.valid();
     second.valid();
@@ -310,18 +340,26 @@ impl<F: TwoAdicField> PolynomialSpace for TwoAdicMultiplicativeCoset<F> {
         x: Ext,
     ) -> Mem<Vec<Ext>>
         requires { columns.height ≡ 2 ^ self.now.log_size }
-        ensures { IfOk result (λ v. EachFrom (map (λ c. c.items) columns.entry.columns.now) v.items (IsPeriodicAt F.ring Ext.ring Ext.embed (2 ^ self.now.log_size) (point F.ring F.root self.now) x)) }
+        ensures { IfOk result (λ v.
+            EachFrom (map (λ c. c.items) columns.entry.columns.now) v.items
+            (IsPeriodicAt F.ring Ext.ring Ext.embed (2 ^ self.now.log_size)
+            (point F.ring F.root self.now) x)) }
     {
         periodic_values(alloc, self, columns, x)
     }
 
-    ghost points_differ = { λ d h. points_apart F.ring F.ring_laws F.inv F.field_laws F.TWO_ADICITY F.root F.root_laws d h.1 h.0 };
+    ghost points_differ = { λ d h.
+        points_apart F.ring F.ring_laws F.inv F.field_laws F.TWO_ADICITY F.root F.root_laws d h.1
+        h.0 };
 
     ghost steps = { λ d i h. point_after F.ring F.ring_laws F.root d i };
 
-    ghost disjoint_exactly = { λ d e m h k o. disjoint_where_outside F.ring F.ring_laws F.inv F.field_laws F.TWO_ADICITY F.root F.root_laws F.GENERATOR d e m h.0 h.1 k.1 o };
+    ghost disjoint_exactly = { λ d e m h k o.
+        disjoint_where_outside F.ring F.ring_laws F.inv F.field_laws F.TWO_ADICITY F.root
+        F.root_laws F.GENERATOR d e m h.0 h.1 k.1 o };
 
-    ghost part_points = { λ d e c i j h p. points_of_part F.ring F.ring_laws F.TWO_ADICITY F.root F.root_laws d e c i j h.1 p };
+    ghost part_points = { λ d e c i j h p.
+        points_of_part F.ring F.ring_laws F.TWO_ADICITY F.root F.root_laws d e c i j h.1 p };
 
     ghost part_size = { λ d e c i p. p.size_is };
 }

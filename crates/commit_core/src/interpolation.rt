@@ -19,7 +19,8 @@ pub(crate) fn interpolated_at<F: TwoAdicField, EF: ExtensionField<F>>(
     x: EF,
 ) -> EF
     requires { length values.now ≡ 2 ^ domain.now.log_size }
-    ensures { IsInterpolatedAt F.ring EF.ring EF.embed (point F.ring F.root domain.now) values.now x result }
+    ensures { IsInterpolatedAt F.ring EF.ring EF.embed (point F.ring F.root domain.now) values.now x
+        result }
 {
     domain.valid();
     let log_size = domain.log_size();
@@ -40,8 +41,12 @@ pub(crate) fn weights_at<F: TwoAdicField, EF: ExtensionField<F>>(
     domain: &TwoAdicMultiplicativeCoset<F>,
     x: EF,
 ) -> Mem<Vec<EF>>
-    ensures { IfOk result (λ v. v.items ≡ tabulate (2 ^ domain.now.log_size) (weight_at EF.ring (2 ^ domain.now.log_size) (EF.embed (F.inv (of_nat F.ring (2 ^ domain.now.log_size))))
-        (EF.embed (F.inv (F.root domain.now.log_size))) (EF.ring.mul (EF.embed (F.inv domain.now.shift)) x))) }
+    ensures { IfOk result (λ v.
+        v.items ≡ tabulate (2 ^ domain.now.log_size)
+        (weight_at EF.ring (2 ^ domain.now.log_size)
+        (EF.embed (F.inv (of_nat F.ring (2 ^ domain.now.log_size))))
+        (EF.embed (F.inv (F.root domain.now.log_size)))
+        (EF.ring.mul (EF.embed (F.inv domain.now.shift)) x))) }
 {
     domain.valid();
     let log_size = domain.log_size();
@@ -60,7 +65,9 @@ pub(crate) fn weights_at<F: TwoAdicField, EF: ExtensionField<F>>(
 // The sum of values times weights.
 pub(crate) fn weighted_sum<F: Field, EF: ExtensionField<F>>(values: &[F], weights: &[EF]) -> EF
     requires { length weights.now ≡ length values.now }
-    ensures { result ≡ total EF.ring (length values.now) (λ i. EF.ring.mul (EF.embed (get_or values.now i F.ring.zero)) (get_or weights.now i EF.ring.zero)) }
+    ensures { result ≡ total EF.ring (length values.now)
+        (λ i. EF.ring.mul (EF.embed (get_or values.now i F.ring.zero))
+        (get_or weights.now i EF.ring.zero)) }
 {
     let mut sum = EF::ZERO;
     for (i, value) in values.iter().enumerate() {

@@ -37,7 +37,8 @@ pub enum PeriodicColumnShapeError {
 pub struct PeriodicColumns<'a, F> {
     columns: &'a [Vec<F>],
     height: usize,
-    ghost fit: { All (λ c. IsPeriod height (length c.items)) columns.now } by { all_periods_prop (λ c. length c.items) height columns.now },
+    ghost fit: { All (λ c. IsPeriod height (length c.items)) columns.now } by { all_periods_prop
+        (λ c. length c.items) height columns.now },
 }
 
 impl<F> Clone for PeriodicColumns<'_, F> {
@@ -57,7 +58,9 @@ impl<'a, F> PeriodicColumns<'a, F> {
     /// is a power of two, so not zero, and divides the height; every length divides height 0. Otherwise the error
     /// names the first column that doesn't fit.
     pub fn new(columns: &'a [Vec<F>], height: usize) -> Result<Self, PeriodicColumnShapeError>
-        ensures { MatchResult result (λ p. (p.columns.now ≡ columns.now) × (p.height ≡ height) × All (λ c. IsPeriod height (length c.items)) columns.now)
+        ensures { MatchResult result
+            (λ p. (p.columns.now ≡ columns.now) × (p.height ≡ height)
+            × All (λ c. IsPeriod height (length c.items)) columns.now)
             (NamesFirstUnfit height (map (λ c. length c.items) columns.now)) }
     {
         for (index, column) in columns.iter().enumerate() {
@@ -108,8 +111,10 @@ impl<'a, F> PeriodicColumns<'a, F> {
     /// The greatest length of all columns, which each other length divides, and None exactly where there is no
     /// column.
     pub fn max_period(&self) -> Option<usize>
-        ensures greatest { MatchOption result (length self.now.columns.now ≡ 0) (IsGreatest (map (λ c. length c.items) self.now.columns.now)) }
-        ensures divided { (n : ℕ) → result ≡ Some n → All (λ c. length c.items ∣ n) self.now.columns.now }
+        ensures greatest { MatchOption result (length self.now.columns.now ≡ 0)
+            (IsGreatest (map (λ c. length c.items) self.now.columns.now)) }
+        ensures divided { (n : ℕ) → result ≡ Some n
+            → All (λ c. length c.items ∣ n) self.now.columns.now }
     {
         greatest_length(self.columns)
     }
@@ -117,7 +122,8 @@ impl<'a, F> PeriodicColumns<'a, F> {
 
 // The greatest length, where there is a column.
 fn greatest_length<F>(columns: &[Vec<F>]) -> Option<usize>
-    ensures { MatchOption result (length columns.now ≡ 0) (IsGreatest (map (λ c. length c.items) columns.now)) }
+    ensures { MatchOption result (length columns.now ≡ 0)
+        (IsGreatest (map (λ c. length c.items) columns.now)) }
 {
     columns.iter().map(|column| column.len()).max()
 }

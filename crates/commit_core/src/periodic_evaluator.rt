@@ -22,7 +22,8 @@ pub trait PeriodicEvaluator<F: Field, D: PolynomialSpace<Val = F>> {
         lde_domain: &D,
     ) -> Mem<PeriodicLdeTable<F>>
         requires { takes trace_domain.now (map (λ c. c.items) periodic_table.now) }
-        ensures { IfOk result (IsPeriodicTable F.ring (D.points trace_domain.now) (D.point_at trace_domain.now) (D.points lde_domain.now) (D.point_at lde_domain.now)
+        ensures { IfOk result (IsPeriodicTable F.ring (D.points trace_domain.now)
+            (D.point_at trace_domain.now) (D.points lde_domain.now) (D.point_at lde_domain.now)
             (map (λ c. c.items) periodic_table.now)) };
 
     /// The columns' values at a point, in order.
@@ -33,7 +34,10 @@ pub trait PeriodicEvaluator<F: Field, D: PolynomialSpace<Val = F>> {
         point: EF,
     ) -> Mem<Vec<EF>>
         requires { takes trace_domain.now (map (λ c. c.items) periodic_table.now) }
-        ensures { IfOk result (λ v. EachFrom (map (λ c. c.items) periodic_table.now) v.items (IsPeriodicAt F.ring EF.ring EF.embed (D.points trace_domain.now) (D.point_at trace_domain.now) point)) };
+        ensures { IfOk result (λ v.
+            EachFrom (map (λ c. c.items) periodic_table.now) v.items
+            (IsPeriodicAt F.ring EF.ring EF.embed (D.points trace_domain.now)
+            (D.point_at trace_domain.now) point)) };
 }
 
 /// Takes no column, and so gives nothing, and wants no memory.
@@ -47,7 +51,9 @@ impl<F: Field, D: PolynomialSpace<Val = F>> PeriodicEvaluator<F, D> for () {
         _lde_domain: &D,
     ) -> Mem<PeriodicLdeTable<F>>
         requires { length (map (λ c. c.items) _periodic_table.now) ≡ 0 }
-        ensures table { IfOk result (IsPeriodicTable F.ring (D.points _trace_domain.now) (D.point_at _trace_domain.now) (D.points _lde_domain.now) (D.point_at _lde_domain.now)
+        ensures table { IfOk result
+            (IsPeriodicTable F.ring (D.points _trace_domain.now) (D.point_at _trace_domain.now)
+            (D.points _lde_domain.now) (D.point_at _lde_domain.now)
             (map (λ c. c.items) _periodic_table.now)) }
         ensures sure { IsOk result }
     {
@@ -61,7 +67,10 @@ impl<F: Field, D: PolynomialSpace<Val = F>> PeriodicEvaluator<F, D> for () {
         _point: EF,
     ) -> Mem<Vec<EF>>
         requires { length (map (λ c. c.items) _periodic_table.now) ≡ 0 }
-        ensures values { IfOk result (λ v. EachFrom (map (λ c. c.items) _periodic_table.now) v.items (IsPeriodicAt F.ring EF.ring EF.embed (D.points _trace_domain.now) (D.point_at _trace_domain.now) _point)) }
+        ensures values { IfOk result
+            (λ v. EachFrom (map (λ c. c.items) _periodic_table.now) v.items
+            (IsPeriodicAt F.ring EF.ring EF.embed (D.points _trace_domain.now)
+            (D.point_at _trace_domain.now) _point)) }
         ensures sure { IsOk result }
     {
         Ok(Vec::new(alloc))

@@ -25,7 +25,8 @@ pub(crate) fn periodic_value<F: TwoAdicField, EF: ExtensionField<F>>(
     x: EF,
 ) -> EF
     requires { IsPeriod (2 ^ domain.now.log_size) (length column.now) }
-    ensures { IsPeriodicAt F.ring EF.ring EF.embed (2 ^ domain.now.log_size) (point F.ring F.root domain.now) x column.now result }
+    ensures { IsPeriodicAt F.ring EF.ring EF.embed (2 ^ domain.now.log_size)
+        (point F.ring F.root domain.now) x column.now result }
 {
     domain.valid();
     let log_period = log2_strict_usize(column.len());
@@ -43,7 +44,9 @@ fn period_weights<F: TwoAdicField, EF: ExtensionField<F>>(
     x: EF,
 ) -> Mem<Vec<EF>>
     requires { IsPeriod (2 ^ domain.now.log_size) period }
-    ensures { IfOk result (λ v. AreWeights F.ring EF.ring EF.embed (2 ^ domain.now.log_size) (point F.ring F.root domain.now) x period v.items) }
+    ensures { IfOk result (λ v.
+        AreWeights F.ring EF.ring EF.embed (2 ^ domain.now.log_size)
+        (point F.ring F.root domain.now) x period v.items) }
 {
     domain.valid();
     let log_period = log2_strict_usize(period);
@@ -63,9 +66,14 @@ fn value_by_weights<F: TwoAdicField, EF: ExtensionField<F>>(
     weights: &mut BTreeMap<usize, Vec<EF>>,
 ) -> Mem<EF>
     requires period { IsPeriod (2 ^ domain.now.log_size) (length column.now) }
-    requires known { AreKnown F.ring EF.ring EF.embed (2 ^ domain.now.log_size) (point F.ring F.root domain.now) x (get nat_cmp weights.old) (λ v. v.items) }
-    ensures value { IfOk result (IsPeriodicAt F.ring EF.ring EF.embed (2 ^ domain.now.log_size) (point F.ring F.root domain.now) x column.now) }
-    ensures known { IfOk result (λ _. AreKnown F.ring EF.ring EF.embed (2 ^ domain.now.log_size) (point F.ring F.root domain.now) x (get nat_cmp weights.new) (λ v. v.items)) }
+    requires known { AreKnown F.ring EF.ring EF.embed (2 ^ domain.now.log_size)
+        (point F.ring F.root domain.now) x (get nat_cmp weights.old) (λ v. v.items) }
+    ensures value { IfOk result
+        (IsPeriodicAt F.ring EF.ring EF.embed (2 ^ domain.now.log_size)
+        (point F.ring F.root domain.now) x column.now) }
+    ensures known { IfOk result
+        (λ _. AreKnown F.ring EF.ring EF.embed (2 ^ domain.now.log_size)
+        (point F.ring F.root domain.now) x (get nat_cmp weights.new) (λ v. v.items)) }
 {
     let period = column.len();
     if let Some(known) = weights.get(&period) {
@@ -87,7 +95,8 @@ fn add_weights<EF: RingCore>(
     made: Vec<EF>,
 ) -> Mem<()>
     ensures here { IfOk result (λ _. get nat_cmp weights.new period ≡ Some made) }
-    ensures others { IfOk result (λ _. (n : ℕ) → n ≢ period → get nat_cmp weights.new n ≡ get nat_cmp weights.old n) }
+    ensures others { IfOk result
+        (λ _. (n : ℕ) → n ≢ period → get nat_cmp weights.new n ≡ get nat_cmp weights.old n) }
 {
     weights.insert(period, made)?;
     Ok(())
@@ -101,7 +110,10 @@ pub(crate) fn periodic_values<F: TwoAdicField, EF: ExtensionField<F>>(
     x: EF,
 ) -> Mem<Vec<EF>>
     requires { columns.height ≡ 2 ^ domain.now.log_size }
-    ensures { IfOk result (λ v. EachFrom (map (λ c. c.items) columns.entry.columns.now) v.items (IsPeriodicAt F.ring EF.ring EF.embed (2 ^ domain.now.log_size) (point F.ring F.root domain.now) x)) }
+    ensures { IfOk result (λ v.
+        EachFrom (map (λ c. c.items) columns.entry.columns.now) v.items
+        (IsPeriodicAt F.ring EF.ring EF.embed (2 ^ domain.now.log_size)
+        (point F.ring F.root domain.now) x)) }
 {
     let mut weights = BTreeMap::new(alloc);
     let mut values = Vec::with_capacity(alloc, columns.len())?;

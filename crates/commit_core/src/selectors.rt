@@ -32,10 +32,15 @@ pub(crate) fn selectors_at<F: TwoAdicField, EF: ExtensionField<F>>(
     x: EF,
 ) -> LagrangeSelectors<EF>
     requires { IsPoint (2 ^ domain.now.log_size) (point F.ring F.root domain.now) EF.embed x → ⊥ }
-    ensures first { result.is_first_row ≡ eval_poly EF.ring (map EF.embed (first_selector F.ring F.inv domain.now)) x }
-    ensures last { result.is_last_row ≡ eval_poly EF.ring (map EF.embed (last_selector F.ring F.inv F.root domain.now)) x }
-    ensures transition { result.is_transition ≡ eval_poly EF.ring (map EF.embed (transition_selector F.ring F.inv F.root domain.now)) x }
-    ensures inverse { result.inv_vanishing ≡ EF.inv (eval_poly EF.ring (map EF.embed (vanishing_polynomial F.ring F.inv domain.now)) x) }
+    ensures first { result.is_first_row
+        ≡ eval_poly EF.ring (map EF.embed (first_selector F.ring F.inv domain.now)) x }
+    ensures last { result.is_last_row
+        ≡ eval_poly EF.ring (map EF.embed (last_selector F.ring F.inv F.root domain.now)) x }
+    ensures transition { result.is_transition
+        ≡ eval_poly EF.ring (map EF.embed (transition_selector F.ring F.inv F.root domain.now)) x }
+    ensures inverse { result.inv_vanishing
+        ≡ EF.inv (eval_poly EF.ring (map EF.embed (vanishing_polynomial F.ring F.inv domain.now))
+        x) }
 {
     domain.valid();
     let ratio = EF::from_base(domain.shift_inverse()) * x;
@@ -52,7 +57,8 @@ pub(crate) fn selectors_at<F: TwoAdicField, EF: ExtensionField<F>>(
 
 // first - minus, first * step - minus, ..
 fn shifted_powers<F: Field>(alloc: Global, first: F, step: F, size: usize, minus: F) -> Mem<Vec<F>>
-    ensures { IfOk result (λ v. v.items ≡ tabulate size (λ i. sub F.ring (coset_point F.ring first step i) minus)) }
+    ensures { IfOk result (λ v.
+        v.items ≡ tabulate size (λ i. sub F.ring (coset_point F.ring first step i) minus)) }
 {
     let mut values = Vec::with_capacity(alloc, size)?;
     let mut power = first;
@@ -66,8 +72,12 @@ fn shifted_powers<F: Field>(alloc: Global, first: F, step: F, size: usize, minus
 // The quotients of two lists of values, by one inversion.
 fn quotients<F: Field>(alloc: Global, dividends: &[F], divisors: &[F]) -> Mem<Vec<F>>
     requires same { length dividends.now ≡ length divisors.now }
-    requires nonzero { (i : ℕ) → i < length divisors.now → get_or divisors.now i F.ring.zero ≡ F.ring.zero → ⊥ }
-    ensures { IfOk result (λ v. v.items ≡ tabulate (length dividends.now) (λ i. F.ring.mul (get_or dividends.now i F.ring.zero) (F.inv (get_or divisors.now i F.ring.zero)))) }
+    requires nonzero { (i : ℕ) → i < length divisors.now
+        → get_or divisors.now i F.ring.zero ≡ F.ring.zero → ⊥ }
+    ensures { IfOk result (λ v.
+        v.items ≡ tabulate (length dividends.now)
+        (λ i. F.ring.mul (get_or dividends.now i F.ring.zero)
+        (F.inv (get_or divisors.now i F.ring.zero)))) }
 {
     let inverses = batch_multiplicative_inverse(alloc, divisors)?;
     let mut values = Vec::with_capacity(alloc, dividends.len())?;
@@ -83,8 +93,12 @@ fn vanishing_on<F: TwoAdicField>(
     domain: &TwoAdicMultiplicativeCoset<F>,
     coset: &TwoAdicMultiplicativeCoset<F>,
 ) -> Mem<Vec<F>>
-    requires { AreDisjoint (2 ^ domain.now.log_size) (point F.ring F.root domain.now) (2 ^ coset.now.log_size) (point F.ring F.root coset.now) }
-    ensures { IfOk result (λ v. v.items ≡ tabulate (2 ^ coset.now.log_size) (λ i. eval_poly F.ring (vanishing_polynomial F.ring F.inv domain.now) (point F.ring F.root coset.now i))) }
+    requires { AreDisjoint (2 ^ domain.now.log_size) (point F.ring F.root domain.now)
+        (2 ^ coset.now.log_size) (point F.ring F.root coset.now) }
+    ensures { IfOk result (λ v.
+        v.items ≡ tabulate (2 ^ coset.now.log_size)
+        (λ i. eval_poly F.ring (vanishing_polynomial F.ring F.inv domain.now)
+        (point F.ring F.root coset.now i))) }
 {
     domain.valid();
     let log_size = domain.log_size();
@@ -109,7 +123,9 @@ fn distances_on<F: TwoAdicField>(
     minus: F,
 ) -> Mem<Vec<F>>
     ensures { IfOk result (λ v. v.items
-        ≡ tabulate (2 ^ coset.now.log_size) (λ i. sub F.ring (coset_point F.ring (F.ring.mul (F.inv domain.now.shift) coset.now.shift) (F.root coset.now.log_size) i) minus)) }
+        ≡ tabulate (2 ^ coset.now.log_size)
+        (λ i. sub F.ring (coset_point F.ring (F.ring.mul (F.inv domain.now.shift) coset.now.shift)
+        (F.root coset.now.log_size) i) minus)) }
 {
     let size = coset.size();
     let ratio = domain.shift_inverse() * coset.shift();
@@ -124,13 +140,26 @@ pub(crate) fn selectors_on<F: TwoAdicField>(
     domain: &TwoAdicMultiplicativeCoset<F>,
     coset: &TwoAdicMultiplicativeCoset<F>,
 ) -> Mem<LagrangeSelectors<Vec<F>>>
-    requires { AreDisjoint (2 ^ domain.now.log_size) (point F.ring F.root domain.now) (2 ^ coset.now.log_size) (point F.ring F.root coset.now) }
-    ensures first { IfOk result (λ s. s.is_first_row.items ≡ tabulate (2 ^ coset.now.log_size) (λ i. eval_poly F.ring (first_selector F.ring F.inv domain.now) (point F.ring F.root coset.now i))) }
-    ensures last { IfOk result (λ s. s.is_last_row.items ≡ tabulate (2 ^ coset.now.log_size) (λ i. eval_poly F.ring (last_selector F.ring F.inv F.root domain.now) (point F.ring F.root coset.now i))) }
+    requires { AreDisjoint (2 ^ domain.now.log_size) (point F.ring F.root domain.now)
+        (2 ^ coset.now.log_size) (point F.ring F.root coset.now) }
+    ensures first { IfOk result
+        (λ s. s.is_first_row.items
+        ≡ tabulate (2 ^ coset.now.log_size)
+        (λ i. eval_poly F.ring (first_selector F.ring F.inv domain.now)
+        (point F.ring F.root coset.now i))) }
+    ensures last { IfOk result
+        (λ s. s.is_last_row.items
+        ≡ tabulate (2 ^ coset.now.log_size)
+        (λ i. eval_poly F.ring (last_selector F.ring F.inv F.root domain.now)
+        (point F.ring F.root coset.now i))) }
     ensures transition { IfOk result (λ s. s.is_transition.items
-        ≡ tabulate (2 ^ coset.now.log_size) (λ i. eval_poly F.ring (transition_selector F.ring F.inv F.root domain.now) (point F.ring F.root coset.now i))) }
+        ≡ tabulate (2 ^ coset.now.log_size)
+        (λ i. eval_poly F.ring (transition_selector F.ring F.inv F.root domain.now)
+        (point F.ring F.root coset.now i))) }
     ensures inverse { IfOk result (λ s. s.inv_vanishing.items
-        ≡ tabulate (2 ^ coset.now.log_size) (λ i. F.inv (eval_poly F.ring (vanishing_polynomial F.ring F.inv domain.now) (point F.ring F.root coset.now i)))) }
+        ≡ tabulate (2 ^ coset.now.log_size)
+        (λ i. F.inv (eval_poly F.ring (vanishing_polynomial F.ring F.inv domain.now)
+        (point F.ring F.root coset.now i)))) }
 {
     domain.valid();
     let before_first = domain.subgroup_generator().inverse();
@@ -152,7 +181,8 @@ pub fn first_selector_at<F: TwoAdicField, EF: ExtensionField<F>>(
     point: EF,
 ) -> EF
     requires { domain.now.shift ≡ F.ring.one }
-    ensures { result ≡ eval_poly EF.ring (map EF.embed (first_selector F.ring F.inv domain.now)) point }
+    ensures { result ≡ eval_poly EF.ring (map EF.embed (first_selector F.ring F.inv domain.now))
+        point }
 {
     sum_of_powers(point, domain.log_size())
 }
@@ -164,7 +194,8 @@ pub fn last_selector_at<F: TwoAdicField, EF: ExtensionField<F>>(
     point: EF,
 ) -> EF
     requires { domain.now.shift ≡ F.ring.one }
-    ensures { result ≡ eval_poly EF.ring (map EF.embed (last_selector F.ring F.inv F.root domain.now)) point }
+    ensures { result ≡ eval_poly EF.ring
+        (map EF.embed (last_selector F.ring F.inv F.root domain.now)) point }
 {
     domain.valid();
     let generator = EF::from_base(domain.subgroup_generator());

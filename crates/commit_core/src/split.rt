@@ -21,7 +21,8 @@ pub(crate) fn split_domain<F: TwoAdicField>(
 ) -> Mem<Vec<TwoAdicMultiplicativeCoset<F>>>
     requires power { IsPowerOfTwo num_chunks }
     requires fits { num_chunks ≤ 2 ^ domain.now.log_size }
-    ensures { IfOk result (λ v. EachOf num_chunks v.items (IsPart F.ring F.root domain.now num_chunks)) }
+    ensures { IfOk result (λ v.
+        EachOf num_chunks v.items (IsPart F.ring F.root domain.now num_chunks)) }
 {
     let log_chunks = log2_strict_usize(num_chunks);
     let mut parts = Vec::with_capacity(alloc, num_chunks)?;

@@ -41,7 +41,8 @@ where
     ghost commitment_of: { Self → List (Self.Domain × Rows Self.Val) → Self.Commitment };
 
     // why the scheme refuses to extend the chunks of a quotient, of which there are so many
-    ghost extension_fault: { Self → List (Self.Domain × Rows Self.Val) → ℕ → Self.ProverError → Type 0 };
+    ghost extension_fault: { Self → List (Self.Domain × Rows Self.Val) → ℕ → Self.ProverError
+        → Type 0 };
 
     // the last matrix is the scheme's extension of the values on this domain
     ghost extends: { Self → Self.Domain → Rows Self.Val → Rows Self.Val → Type 0 };
@@ -69,7 +70,8 @@ where
         num_chunks: usize,
     ) -> Result<Vec<RowMajorMatrix<Self::Val>>, PcsFailure<Self::ProverError>>
         ensures refusal { RefusedBy (extension_fault self.now evaluations.items num_chunks) result }
-        ensures extensions { IfOk result (λ v. AreExtensions (extends self.now) evaluations.items v.items) };
+        ensures extensions { IfOk result
+            (λ v. AreExtensions (extends self.now) evaluations.items v.items) };
 
     /// Commits to the chunks of which these are extensions that `get_quotient_ldes` gave, of one call or of several. Of
     /// other matrices neither the values that are opened later nor the acceptance of the opening is promised. `Refused`
@@ -82,8 +84,11 @@ where
         ensures refusal { RefusedBy (ldes_fault self.now ldes.items) result }
         ensures made { IfOk result (λ w. Self.made self.now w.1) }
         ensures count { IfOk result (λ w. Self.matrix_count self.now w.1 ≡ length ldes.items) }
-        ensures committed { IfOk result (λ w. (chunks : List (Self.Domain × Rows Self.Val)) → AreExtensions (extends self.now) chunks ldes.items
-            → IsCommitment Self.Val.ring Self.Domain.points Self.Domain.point_at (Self.commits self.now) (Self.made self.now) (Self.holds self.now) chunks w) };
+        ensures committed { IfOk result
+            (λ w. (chunks : List (Self.Domain × Rows Self.Val))
+            → AreExtensions (extends self.now) chunks ldes.items
+            → IsCommitment Self.Val.ring Self.Domain.points Self.Domain.point_at
+            (Self.commits self.now) (Self.made self.now) (Self.holds self.now) chunks w) };
 
     /// The values of the polynomials of one committed matrix on a domain: column j has the values of polynomial j, one for
     /// each point, in the domain's order. `prover_data` must come from this scheme, and `idx`, the matrix's place in it, be
@@ -98,9 +103,11 @@ where
     ) -> Mem<RowMajorMatrix<Self::Val>>
         requires made { Self.made self.now prover_data.now }
         requires index { idx < Self.matrix_count self.now prover_data.now }
-        ensures { IfOk result (λ m. (commitment : Self.Commitment) (cs : List (Committed Self.Val)) (c : Committed Self.Val)
+        ensures { IfOk result (λ m.
+            (commitment : Self.Commitment) (cs : List (Committed Self.Val)) (c : Committed Self.Val)
             → Self.holds self.now prover_data.now commitment cs → slice_get cs idx ≡ Some c
-            → IsEvaluated Self.Val.ring (Self.Domain.points domain) (Self.Domain.point_at domain) c m) };
+            → IsEvaluated Self.Val.ring (Self.Domain.points domain) (Self.Domain.point_at domain) c
+            m) };
 
     /// The same without masking, under the same conditions.
     fn get_evaluations_on_domain_no_random(
@@ -112,9 +119,11 @@ where
     ) -> Mem<RowMajorMatrix<Self::Val>>
         requires made { Self.made self.now prover_data.now }
         requires index { idx < Self.matrix_count self.now prover_data.now }
-        ensures { IfOk result (λ m. (commitment : Self.Commitment) (cs : List (Committed Self.Val)) (c : Committed Self.Val)
+        ensures { IfOk result (λ m.
+            (commitment : Self.Commitment) (cs : List (Committed Self.Val)) (c : Committed Self.Val)
             → Self.holds self.now prover_data.now commitment cs → slice_get cs idx ≡ Some c
-            → IsEvaluated Self.Val.ring (Self.Domain.points domain) (Self.Domain.point_at domain) c m) }
+            → IsEvaluated Self.Val.ring (Self.Domain.points domain) (Self.Domain.point_at domain) c
+            m) }
     {
         self.get_evaluations_on_domain(alloc, prover_data, idx, domain)
     }
@@ -129,10 +138,12 @@ where
         trace_domain: Self::Domain,
         quotient_domain: Self::Domain,
     ) -> Mem<PeriodicLdeTable<Self::Val>>
-        requires fit { All (λ c. IsPeriod (Self.Domain.points trace_domain) (length c.items)) periodic_cols.now }
+        requires fit { All (λ c. IsPeriod (Self.Domain.points trace_domain) (length c.items))
+            periodic_cols.now }
         requires shift { Self.Domain.point_at trace_domain 0 ≡ Self.Val.ring.one }
         requires larger { Self.Domain.points trace_domain ≤ Self.Domain.points quotient_domain }
-        ensures { IfOk result (IsPeriodicTable Self.Val.ring (Self.Domain.points trace_domain) (Self.Domain.point_at trace_domain) (Self.Domain.points quotient_domain)
+        ensures { IfOk result (IsPeriodicTable Self.Val.ring (Self.Domain.points trace_domain)
+            (Self.Domain.point_at trace_domain) (Self.Domain.points quotient_domain)
             (Self.Domain.point_at quotient_domain) (map (λ c. c.items) periodic_cols.now)) };
 
     /// A commitment to polynomials of random values, which a scheme that masks nothing lacks.
@@ -153,7 +164,9 @@ where
         evaluations: Vec<(Self::Domain, RowMajorMatrix<Self::Val>)>,
     ) -> Result<(Self::Commitment, Self::ProverData), PcsFailure<Self::ProverError>>
         ensures refusal { RefusedBy (Self.commit_fault self.now evaluations.items) result }
-        ensures committed { IfOk result (IsCommitment Self.Val.ring Self.Domain.points Self.Domain.point_at (Self.commits self.now) (Self.made self.now) (Self.holds self.now) evaluations.items) }
+        ensures committed { IfOk result
+            (IsCommitment Self.Val.ring Self.Domain.points Self.Domain.point_at
+            (Self.commits self.now) (Self.made self.now) (Self.holds self.now) evaluations.items) }
     {
         self.commit(alloc, evaluations)
     }
@@ -173,12 +186,20 @@ where
         requires power { IsPowerOfTwo num_chunks }
         requires fits { num_chunks ≤ Self.Domain.points quotient_domain }
         requires height { height evaluations ≡ Self.Domain.points quotient_domain }
-        ensures refusal { RefusedBy (quotient_fault self.now quotient_domain evaluations num_chunks) result }
-        ensures refused { IfRefused result (λ e. (parts : List (Self.Domain × Rows Self.Val)) × AreParts (Self.Domain.part quotient_domain num_chunks) evaluations num_chunks parts
-            × FaultInTurn (extension_fault self.now parts num_chunks) (AreExtensions (extends self.now) parts) (ldes_fault self.now) e) }
-        ensures granted { IfOk result (λ w. (parts : List (Self.Domain × Rows Self.Val)) × AreParts (Self.Domain.part quotient_domain num_chunks) evaluations num_chunks parts
-            × NoneInTurn (extension_fault self.now parts num_chunks) (AreExtensions (extends self.now) parts) (ldes_fault self.now)
-            × IsCommitment Self.Val.ring Self.Domain.points Self.Domain.point_at (Self.commits self.now) (Self.made self.now) (Self.holds self.now) parts w) }
+        ensures refusal { RefusedBy (quotient_fault self.now quotient_domain evaluations num_chunks)
+            result }
+        ensures refused { IfRefused result
+            (λ e. (parts : List (Self.Domain × Rows Self.Val))
+            × AreParts (Self.Domain.part quotient_domain num_chunks) evaluations num_chunks parts
+            × FaultInTurn (extension_fault self.now parts num_chunks)
+            (AreExtensions (extends self.now) parts) (ldes_fault self.now) e) }
+        ensures granted { IfOk result
+            (λ w. (parts : List (Self.Domain × Rows Self.Val))
+            × AreParts (Self.Domain.part quotient_domain num_chunks) evaluations num_chunks parts
+            × NoneInTurn (extension_fault self.now parts num_chunks)
+            (AreExtensions (extends self.now) parts) (ldes_fault self.now)
+            × IsCommitment Self.Val.ring Self.Domain.points Self.Domain.point_at
+            (Self.commits self.now) (Self.made self.now) (Self.holds self.now) parts w) }
     {
         let parts = quotient_parts(alloc, &quotient_domain, evaluations, num_chunks)?;
         let ldes = self.get_quotient_ldes(alloc, parts, num_chunks)?;
@@ -200,10 +221,17 @@ where
         requires made { All (λ r. Self.made self.now r.prover_data) requests.items }
         ensures refusal { RefusedBy (Self.open_fault self.now requests.entry.items) result }
         ensures unchanged { IfRefused result (λ _. challenger.new ≡ challenger.old) }
-        ensures proof { IfOk result (λ w. Self.proves self.now challenger.old requests.entry.items w.1) }
-        ensures after { IfOk result (λ w. challenger.new ≡ Self.after_open self.now challenger.old requests.entry.items w.1) }
-        ensures opening { IfOk result (λ w. (held : List (OpenedCommitment Self.Commitment Self.Val)) → AreOpenedCommitments (Self.holds self.now) requests.entry.items held
-            → IsOpening Challenge.ring Challenge.embed Self.Domain.points (Self.excludes self.now) (λ claims. Self.opens self.now challenger.old claims w.1) requests.entry.items (nested w.0) held) }
+        ensures proof { IfOk result
+            (λ w. Self.proves self.now challenger.old requests.entry.items w.1) }
+        ensures after { IfOk result
+            (λ w. challenger.new ≡ Self.after_open self.now challenger.old requests.entry.items
+            w.1) }
+        ensures opening { IfOk result
+            (λ w. (held : List (OpenedCommitment Self.Commitment Self.Val))
+            → AreOpenedCommitments (Self.holds self.now) requests.entry.items held
+            → IsOpening Challenge.ring Challenge.embed Self.Domain.points (Self.excludes self.now)
+            (λ claims. Self.opens self.now challenger.old claims w.1) requests.entry.items
+            (nested w.0) held) }
     {
         self.open(alloc, requests, challenger)
     }
@@ -217,8 +245,10 @@ where
         challenger: &mut Challenger,
         preprocessed_commitment: Option<usize>,
     ) -> Result<(), PcsFailure<Self::Error>>
-        ensures verdict { VerifiedBy (Self.opens self.now challenger.old claims.items proof.now) (Self.fault self.now challenger.old claims.items proof.now) result }
-        ensures after { IsOk result → challenger.new ≡ Self.after_verify self.now challenger.old claims.items proof.now }
+        ensures verdict { VerifiedBy (Self.opens self.now challenger.old claims.items proof.now)
+            (Self.fault self.now challenger.old claims.items proof.now) result }
+        ensures after { IsOk result
+            → challenger.new ≡ Self.after_verify self.now challenger.old claims.items proof.now }
     {
         self.verify(alloc, claims, proof, challenger)
     }
@@ -231,24 +261,34 @@ where
 
     // The causes to refuse a quotient are those to refuse its parts: a cause to extend them, or else to commit to what may be
     // their extensions, is one.
-    ghost quotient_refused: { (s : Self) (d : Self.Domain) (m : Rows Self.Val) (n : ℕ) (parts : List (Self.Domain × Rows Self.Val)) (e : Self.ProverError)
+    ghost quotient_refused: { (s : Self) (d : Self.Domain) (m : Rows Self.Val) (n : ℕ)
+        (parts : List (Self.Domain × Rows Self.Val)) (e : Self.ProverError)
         → IsPowerOfTwo n → n ≤ Self.Domain.points d → height m ≡ Self.Domain.points d
-        → AreParts (Self.Domain.part d n) m n parts → FaultInTurn (extension_fault s parts n) (AreExtensions (extends s) parts) (ldes_fault s) e → quotient_fault s d m n e };
+        → AreParts (Self.Domain.part d n) m n parts
+        → FaultInTurn (extension_fault s parts n) (AreExtensions (extends s) parts) (ldes_fault s) e
+        → quotient_fault s d m n e };
 
     // where the parts have no cause, and some extensions of them have none, the quotient has none
-    ghost quotient_granted: { (s : Self) (d : Self.Domain) (m : Rows Self.Val) (n : ℕ) (parts : List (Self.Domain × Rows Self.Val)) → IsPowerOfTwo n
+    ghost quotient_granted: { (s : Self) (d : Self.Domain) (m : Rows Self.Val) (n : ℕ)
+        (parts : List (Self.Domain × Rows Self.Val)) → IsPowerOfTwo n
         → n ≤ Self.Domain.points d → height m ≡ Self.Domain.points d
-        → AreParts (Self.Domain.part d n) m n parts → NoneInTurn (extension_fault s parts n) (AreExtensions (extends s) parts) (ldes_fault s) → NoneOf (quotient_fault s d m n) };
+        → AreParts (Self.Domain.part d n) m n parts
+        → NoneInTurn (extension_fault s parts n) (AreExtensions (extends s) parts) (ldes_fault s)
+        → NoneOf (quotient_fault s d m n) };
 
     // the cause to refuse to extend, to commit to extensions, and to commit to a quotient, is one
-    ghost one_extension_fault: { (s : Self) (es : List (Self.Domain × Rows Self.Val)) (n : ℕ) (e g : Self.ProverError) → extension_fault s es n e → extension_fault s es n g → e ≡ g };
+    ghost one_extension_fault: { (s : Self) (es : List (Self.Domain × Rows Self.Val)) (n : ℕ)
+        (e g : Self.ProverError) → extension_fault s es n e → extension_fault s es n g → e ≡ g };
 
-    ghost one_ldes_fault: { (s : Self) (ls : List (Rows Self.Val)) (e g : Self.ProverError) → ldes_fault s ls e → ldes_fault s ls g → e ≡ g };
+    ghost one_ldes_fault: { (s : Self) (ls : List (Rows Self.Val)) (e g : Self.ProverError)
+        → ldes_fault s ls e → ldes_fault s ls g → e ≡ g };
 
-    ghost one_quotient_fault: { (s : Self) (d : Self.Domain) (m : Rows Self.Val) (n : ℕ) (e g : Self.ProverError) → quotient_fault s d m n e → quotient_fault s d m n g → e ≡ g };
+    ghost one_quotient_fault: { (s : Self) (d : Self.Domain) (m : Rows Self.Val) (n : ℕ)
+        (e g : Self.ProverError) → quotient_fault s d m n e → quotient_fault s d m n g → e ≡ g };
 
     // Where nothing is masked, the commitment is one function of what is committed.
-    ghost one_commitment: { (s : Self) (e : List (Self.Domain × Rows Self.Val)) (c : Self.Commitment) → IsFalse ZK → Self.commits s e c → c ≡ commitment_of s e };
+    ghost one_commitment: { (s : Self) (e : List (Self.Domain × Rows Self.Val))
+        (c : Self.Commitment) → IsFalse ZK → Self.commits s e c → c ≡ commitment_of s e };
 }
 
 // The parts of a domain, each with its rows.
@@ -261,7 +301,8 @@ fn quotient_parts<D: PolynomialSpace>(
     requires power { IsPowerOfTwo num_chunks }
     requires fits { num_chunks ≤ D.points domain.now }
     requires height { height evaluations ≡ D.points domain.now }
-    ensures { IfOk result (λ v. AreParts (D.part domain.now num_chunks) evaluations num_chunks v.items) }
+    ensures { IfOk result (λ v.
+        AreParts (D.part domain.now num_chunks) evaluations num_chunks v.items) }
 {
     let rows = domain.split_evals(alloc, num_chunks, evaluations)?;
     let domains = domain.split_domains(alloc, num_chunks)?;

@@ -14,6 +14,10 @@ use p3_field::{
 /// first fault, and has exactly one refusal where it fails. So it may be a row among a verifier's own checks, of which
 /// there is then one first that fails.
 pub fn a_verification_is_a_check<E: ExtensionField<P::Val>, C, P: Pcs<E, C>>()
-    ensures { (pcs : P) (challenger : C) (claims : List (CommitmentClaim E P.Commitment P.Domain)) (proof : P.Proof)
-        → HasOneRefusal (record { refusal = P.fault pcs challenger claims proof; holds = P.opens pcs challenger claims proof }) }
+    ensures { (pcs : P) (challenger : C) (claims : List (CommitmentClaim E P.Commitment P.Domain))
+        (proof : P.Proof)
+        → HasOneRefusal (record {
+          refusal = P.fault pcs challenger claims proof;
+          holds = P.opens pcs challenger claims proof;
+        }) }
 {}

@@ -56,8 +56,11 @@ pub trait Encoder<F: Field> {
     ) -> Result<RowMajorMatrix<F>, EncodeError>
         requires { IsPowerOfTwo (height message) }
         ensures code { IfOk result (encodes message log_inv_rate) }
-        ensures too_long { IsErrOf result EncodeError.CodewordTooLong ↔ (usize.MAX < length message.values * 2 ^ log_inv_rate) }
-        ensures no_subgroup { IsErrOf result EncodeError.NoSubgroup ↔ ((length message.values * 2 ^ log_inv_rate ≤ usize.MAX) × (2 ^ log_limit < height message * 2 ^ log_inv_rate)) };
+        ensures too_long { IsErrOf result EncodeError.CodewordTooLong
+            ↔ (usize.MAX < length message.values * 2 ^ log_inv_rate) }
+        ensures no_subgroup { IsErrOf result EncodeError.NoSubgroup
+            ↔ ((length message.values * 2 ^ log_inv_rate ≤ usize.MAX)
+            × (2 ^ log_limit < height message * 2 ^ log_inv_rate)) };
 
     /// The code of a matrix that was padded to the height of its codewords: all of its rows but the first of
     /// 2^`log_inv_rate` parts are zeros. `NoSubgroup` exactly where it is higher than any subgroup is large, and never
@@ -73,9 +76,11 @@ pub trait Encoder<F: Field> {
         requires padded { IsPadded F.ring.zero message log_inv_rate }
         ensures code { IfOk result (encodes message 0) }
         ensures too_long { IsErrOf result EncodeError.CodewordTooLong → ⊥ }
-        ensures no_subgroup { IsErrOf result EncodeError.NoSubgroup ↔ (2 ^ log_limit < height message) };
+        ensures no_subgroup { IsErrOf result EncodeError.NoSubgroup
+            ↔ (2 ^ log_limit < height message) };
 
-    ghost code_shape: { (m : Rows F) (rate : ℕ) (code : Rows F) → IsPowerOfTwo (height m) → encodes m rate code → (code.width ≡ m.width) × (height code ≡ height m * 2 ^ rate) };
+    ghost code_shape: { (m : Rows F) (rate : ℕ) (code : Rows F) → IsPowerOfTwo (height m)
+        → encodes m rate code → (code.width ≡ m.width) × (height code ≡ height m * 2 ^ rate) };
 }
 
 impl<F: TwoAdicField, D: TwoAdicSubgroupDft<F>> Encoder<F> for D {
@@ -91,8 +96,11 @@ impl<F: TwoAdicField, D: TwoAdicSubgroupDft<F>> Encoder<F> for D {
     ) -> Result<RowMajorMatrix<F>, EncodeError>
         requires { IsPowerOfTwo (height message) }
         ensures code { IfOk result (IsCodeOf F.ring F.root message log_inv_rate) }
-        ensures too_long { IsErrOf result EncodeError.CodewordTooLong ↔ (usize.MAX < length message.values * 2 ^ log_inv_rate) }
-        ensures no_subgroup { IsErrOf result EncodeError.NoSubgroup ↔ ((length message.values * 2 ^ log_inv_rate ≤ usize.MAX) × (2 ^ F.TWO_ADICITY < height message * 2 ^ log_inv_rate)) }
+        ensures too_long { IsErrOf result EncodeError.CodewordTooLong
+            ↔ (usize.MAX < length message.values * 2 ^ log_inv_rate) }
+        ensures no_subgroup { IsErrOf result EncodeError.NoSubgroup
+            ↔ ((length message.values * 2 ^ log_inv_rate ≤ usize.MAX)
+            × (2 ^ F.TWO_ADICITY < height message * 2 ^ log_inv_rate)) }
     {
         encoded(self, alloc, message, log_inv_rate)
     }
@@ -108,7 +116,8 @@ impl<F: TwoAdicField, D: TwoAdicSubgroupDft<F>> Encoder<F> for D {
         requires padded { IsPadded F.ring.zero message _log_inv_rate }
         ensures code { IfOk result (IsCodeOf F.ring F.root message 0) }
         ensures too_long { IsErrOf result EncodeError.CodewordTooLong → ⊥ }
-        ensures no_subgroup { IsErrOf result EncodeError.NoSubgroup ↔ (2 ^ F.TWO_ADICITY < height message) }
+        ensures no_subgroup { IsErrOf result EncodeError.NoSubgroup
+            ↔ (2 ^ F.TWO_ADICITY < height message) }
     {
         encoded(self, alloc, message, 0)
     }
@@ -125,8 +134,11 @@ fn encoded<F: TwoAdicField, D: TwoAdicSubgroupDft<F>>(
 ) -> Result<RowMajorMatrix<F>, EncodeError>
     requires { IsPowerOfTwo (height message) }
     ensures code { IfOk result (IsCodeOf F.ring F.root message log_inv_rate) }
-    ensures too_long { IsErrOf result EncodeError.CodewordTooLong ↔ (usize.MAX < length message.values * 2 ^ log_inv_rate) }
-    ensures no_subgroup { IsErrOf result EncodeError.NoSubgroup ↔ ((length message.values * 2 ^ log_inv_rate ≤ usize.MAX) × (2 ^ F.TWO_ADICITY < height message * 2 ^ log_inv_rate)) }
+    ensures too_long { IsErrOf result EncodeError.CodewordTooLong
+        ↔ (usize.MAX < length message.values * 2 ^ log_inv_rate) }
+    ensures no_subgroup { IsErrOf result EncodeError.NoSubgroup
+        ↔ ((length message.values * 2 ^ log_inv_rate ≤ usize.MAX)
+        × (2 ^ F.TWO_ADICITY < height message * 2 ^ log_inv_rate)) }
 {
     let Some(count) = checked_multiple(message.values.len(), log_inv_rate) else {
         return Err(EncodeError::CodewordTooLong);
@@ -141,7 +153,8 @@ fn encoded<F: TwoAdicField, D: TwoAdicSubgroupDft<F>>(
 // A positive number times 2^bits; None exactly where that passes `usize`.
 fn checked_multiple(n: usize, bits: usize) -> Option<usize>
     requires { 0 < n }
-    ensures { MatchOption result (usize.MAX < n * 2 ^ bits) (λ m. (m ≡ n * 2 ^ bits) × (n * 2 ^ bits ≤ usize.MAX)) }
+    ensures { MatchOption result (usize.MAX < n * 2 ^ bits)
+        (λ m. (m ≡ n * 2 ^ bits) × (n * 2 ^ bits ≤ usize.MAX)) }
 {
     if bits < 64 {
         n.checked_mul(1 << bits)
@@ -155,7 +168,9 @@ fn padded<F: RingCore>(message: RowMajorMatrix<F>, count: usize) -> Mem<RowMajor
     requires more { length message.values ≤ count }
     requires rows { (k : ℕ) × (count ≡ k * message.width) }
     ensures width { IfOk result (λ p. p.width ≡ message.width) }
-    ensures values { IfOk result (λ p. p.values ≡ message.values ++ tabulate (count - length message.values) (λ _. F.ring.zero)) }
+    ensures values { IfOk result
+        (λ p. p.values ≡ message.values
+        ++ tabulate (count - length message.values) (λ _. F.ring.zero)) }
 {
     let width = message.width;
     let mut values = message.values;

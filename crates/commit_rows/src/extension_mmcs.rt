@@ -20,7 +20,8 @@ fn flattened_matrices<F: Field, EF: ExtensionField<F>>(
     matrices: &[RowMajorMatrix<EF>],
 ) -> Mem<Vec<RowMajorMatrix<F>>>
     requires { All (λ m. m.width * EF.DIMENSION < 2 ^ 64) matrices.now }
-    ensures { IfOk result (λ v. v.items ≡ map (flat_rows EF.coefficients EF.DIMENSION) matrices.now) }
+    ensures { IfOk result (λ v.
+        v.items ≡ map (flat_rows EF.coefficients EF.DIMENSION) matrices.now) }
 {
     let mut flat = Vec::with_capacity(alloc, matrices.len())?;
     for m in matrices {
@@ -81,7 +82,9 @@ fn flattened_openings<F: Field, EF: ExtensionField<F>>(
     alloc: Global,
     openings: &[Vec<Vec<EF>>],
 ) -> Mem<Vec<Vec<Vec<F>>>>
-    ensures { IfOk result (λ v. map (λ rows. lists rows.items) v.items ≡ map (map (flat_map EF.coefficients)) (map (λ rows. lists rows.items) openings.now)) }
+    ensures { IfOk result (λ v.
+        map (λ rows. lists rows.items) v.items
+        ≡ map (map (flat_map EF.coefficients)) (map (λ rows. lists rows.items) openings.now)) }
 {
     let mut flat = Vec::with_capacity(alloc, openings.len())?;
     for rows in openings {
@@ -95,8 +98,11 @@ fn restored_openings<F: Field, EF: ExtensionField<F>>(
     alloc: Global,
     openings: &[Vec<Vec<F>>],
 ) -> Mem<Vec<Vec<Vec<EF>>>>
-    requires { All (λ rows. All (λ row. length row.items % EF.DIMENSION ≡ 0) rows.items) openings.now }
-    ensures { IfOk result (λ v. map (map (flat_map EF.coefficients)) (map (λ rows. lists rows.items) v.items) ≡ map (λ rows. lists rows.items) openings.now) }
+    requires { All (λ rows. All (λ row. length row.items % EF.DIMENSION ≡ 0) rows.items)
+        openings.now }
+    ensures { IfOk result (λ v.
+        map (map (flat_map EF.coefficients)) (map (λ rows. lists rows.items) v.items)
+        ≡ map (λ rows. lists rows.items) openings.now) }
 {
     let mut restored = Vec::with_capacity(alloc, openings.len())?;
     for rows in openings {
@@ -146,7 +152,9 @@ impl<F: Field, EF: ExtensionField<F>, InnerMmcs: Mmcs<F>> Model
 
     ghost view = { λ s. record { inner = s.inner; matrices = s.matrices.items } };
 
-    ghost invariant = { λ s. InnerMmcs.matrices s.inner ≡ map (flat_rows EF.coefficients EF.DIMENSION) s.matrices.items };
+    ghost invariant = { λ s.
+        InnerMmcs.matrices s.inner
+        ≡ map (flat_rows EF.coefficients EF.DIMENSION) s.matrices.items };
 }
 
 impl<F: Field, EF: ExtensionField<F>, InnerMmcs: Mmcs<F>> Mmcs<EF>
@@ -167,13 +175,21 @@ impl<F: Field, EF: ExtensionField<F>, InnerMmcs: Mmcs<F>> Mmcs<EF>
 
     ghost belongs = { λ s d c. InnerMmcs.belongs s d.inner c };
 
-    ghost opens = { λ s c ds i rows p. InnerMmcs.opens s c (map (widened EF.DIMENSION) ds) i (map (flat_map EF.coefficients) rows) p };
+    ghost opens = { λ s c ds i rows p.
+        InnerMmcs.opens s c (map (widened EF.DIMENSION) ds) i (map (flat_map EF.coefficients) rows)
+        p };
 
-    ghost fault = { λ s c ds i rows p e. InnerMmcs.fault s c (map (widened EF.DIMENSION) ds) i (map (flat_map EF.coefficients) rows) p e };
+    ghost fault = { λ s c ds i rows p e.
+        InnerMmcs.fault s c (map (widened EF.DIMENSION) ds) i (map (flat_map EF.coefficients) rows)
+        p e };
 
-    ghost multi_opens = { λ s c ds is rows p. InnerMmcs.multi_opens s c (map (widened EF.DIMENSION) ds) is (map (map (flat_map EF.coefficients)) rows) p };
+    ghost multi_opens = { λ s c ds is rows p.
+        InnerMmcs.multi_opens s c (map (widened EF.DIMENSION) ds) is
+        (map (map (flat_map EF.coefficients)) rows) p };
 
-    ghost multi_fault = { λ s c ds is rows p e. InnerMmcs.multi_fault s c (map (widened EF.DIMENSION) ds) is (map (map (flat_map EF.coefficients)) rows) p e };
+    ghost multi_fault = { λ s c ds is rows p e.
+        InnerMmcs.multi_fault s c (map (widened EF.DIMENSION) ds) is
+        (map (map (flat_map EF.coefficients)) rows) p e };
 
     fn commit(
         &self,
@@ -181,7 +197,8 @@ impl<F: Field, EF: ExtensionField<F>, InnerMmcs: Mmcs<F>> Mmcs<EF>
         inputs: Vec<RowMajorMatrix<EF>>,
     ) -> Mem<(InnerMmcs::Commitment, ExtensionMmcsData<F, EF, InnerMmcs>)>
         requires batch { IsBatch inputs.items }
-        requires widths { All (λ m. (m.width * EF.DIMENSION < 2 ^ 64) × InnerMmcs.takes (m.width * EF.DIMENSION)) inputs.items }
+        requires widths { All (λ m. (m.width * EF.DIMENSION < 2 ^ 64)
+            × InnerMmcs.takes (m.width * EF.DIMENSION)) inputs.items }
         ensures matrices { IfOk result (λ w. w.1.matrices ≡ inputs.items) }
         ensures belongs { IfOk result (λ w. InnerMmcs.belongs self.now w.1.inner w.0) }
     {
@@ -227,11 +244,15 @@ impl<F: Field, EF: ExtensionField<F>, InnerMmcs: Mmcs<F>> Mmcs<EF>
         index: usize,
         opening: BatchOpeningRef<'_, EF, Self>,
     ) -> Result<(), PcsFailure<InnerMmcs::Error>>
-        requires { All (λ d. (d.width * EF.DIMENSION < 2 ^ 64) × InnerMmcs.takes (d.width * EF.DIMENSION)) dimensions.now }
-        ensures { VerifiedBy (InnerMmcs.opens self.now commit.now (map (widened EF.DIMENSION) dimensions.now) index
-            (map (flat_map EF.coefficients) (lists opening.entry.opened_values.now)) opening.entry.opening_proof.now)
+        requires { All (λ d. (d.width * EF.DIMENSION < 2 ^ 64)
+            × InnerMmcs.takes (d.width * EF.DIMENSION)) dimensions.now }
+        ensures { VerifiedBy (InnerMmcs.opens self.now commit.now
+            (map (widened EF.DIMENSION) dimensions.now) index
+            (map (flat_map EF.coefficients) (lists opening.entry.opened_values.now))
+            opening.entry.opening_proof.now)
             (InnerMmcs.fault self.now commit.now (map (widened EF.DIMENSION) dimensions.now) index
-            (map (flat_map EF.coefficients) (lists opening.entry.opened_values.now)) opening.entry.opening_proof.now) result }
+            (map (flat_map EF.coefficients) (lists opening.entry.opened_values.now))
+            opening.entry.opening_proof.now) result }
     {
         let rows = flattened_rows(alloc, opening.opened_values)?;
         let wide = widened_dimensions::<F, EF>(alloc, dimensions)?;
@@ -270,21 +291,37 @@ impl<F: Field, EF: ExtensionField<F>, InnerMmcs: Mmcs<F>> Mmcs<EF>
             .verify_multi_batch(alloc, commit, &wide, indices, &openings, proof)
     }
 
-    ghost opens_faultless = { λ s c ds i rows p h. InnerMmcs.opens_faultless s c (map (widened EF.DIMENSION) ds) i (map (flat_map EF.coefficients) rows) p h };
+    ghost opens_faultless = { λ s c ds i rows p h.
+        InnerMmcs.opens_faultless s c (map (widened EF.DIMENSION) ds) i
+        (map (flat_map EF.coefficients) rows) p h };
 
-    ghost multi_opens_faultless = { λ s c ds is rows p h. InnerMmcs.multi_opens_faultless s c (map (widened EF.DIMENSION) ds) is (map (map (flat_map EF.coefficients)) rows) p h };
+    ghost multi_opens_faultless = { λ s c ds is rows p h.
+        InnerMmcs.multi_opens_faultless s c (map (widened EF.DIMENSION) ds) is
+        (map (map (flat_map EF.coefficients)) rows) p h };
 
-    ghost some_fault = { λ s c ds i rows p n f. InnerMmcs.some_fault s c (map (widened EF.DIMENSION) ds) i (map (flat_map EF.coefficients) rows) p n f };
+    ghost some_fault = { λ s c ds i rows p n f.
+        InnerMmcs.some_fault s c (map (widened EF.DIMENSION) ds) i
+        (map (flat_map EF.coefficients) rows) p n f };
 
-    ghost multi_some_fault = { λ s c ds is rows p n f. InnerMmcs.multi_some_fault s c (map (widened EF.DIMENSION) ds) is (map (map (flat_map EF.coefficients)) rows) p n f };
+    ghost multi_some_fault = { λ s c ds is rows p n f.
+        InnerMmcs.multi_some_fault s c (map (widened EF.DIMENSION) ds) is
+        (map (map (flat_map EF.coefficients)) rows) p n f };
 
-    ghost one_fault = { λ s c ds i rows p e g f h. InnerMmcs.one_fault s c (map (widened EF.DIMENSION) ds) i (map (flat_map EF.coefficients) rows) p e g f h };
+    ghost one_fault = { λ s c ds i rows p e g f h.
+        InnerMmcs.one_fault s c (map (widened EF.DIMENSION) ds) i
+        (map (flat_map EF.coefficients) rows) p e g f h };
 
-    ghost multi_one_fault = { λ s c ds is rows p e g f h. InnerMmcs.multi_one_fault s c (map (widened EF.DIMENSION) ds) is (map (map (flat_map EF.coefficients)) rows) p e g f h };
+    ghost multi_one_fault = { λ s c ds is rows p e g f h.
+        InnerMmcs.multi_one_fault s c (map (widened EF.DIMENSION) ds) is
+        (map (map (flat_map EF.coefficients)) rows) p e g f h };
 
-    ghost opened_widths = { λ s c ds i rows p h. flat_widths EF.DIMENSION EF.coefficients EF.from_coefficients EF.vector_laws ds rows
-        (InnerMmcs.opened_widths s c (map (widened EF.DIMENSION) ds) i (map (flat_map EF.coefficients) rows) p h) };
+    ghost opened_widths = { λ s c ds i rows p h.
+        flat_widths EF.DIMENSION EF.coefficients EF.from_coefficients EF.vector_laws ds rows
+        (InnerMmcs.opened_widths s c (map (widened EF.DIMENSION) ds) i
+        (map (flat_map EF.coefficients) rows) p h) };
 
-    ghost multi_opened_widths = { λ s c ds is rows p h. flat_widths_each EF.DIMENSION EF.coefficients EF.from_coefficients EF.vector_laws ds rows
-        (InnerMmcs.multi_opened_widths s c (map (widened EF.DIMENSION) ds) is (map (map (flat_map EF.coefficients)) rows) p h) };
+    ghost multi_opened_widths = { λ s c ds is rows p h.
+        flat_widths_each EF.DIMENSION EF.coefficients EF.from_coefficients EF.vector_laws ds rows
+        (InnerMmcs.multi_opened_widths s c (map (widened EF.DIMENSION) ds) is
+        (map (map (flat_map EF.coefficients)) rows) p h) };
 }

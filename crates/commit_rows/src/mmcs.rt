@@ -43,15 +43,19 @@ pub trait Mmcs<T: Copy + Eq> {
     ghost belongs: { Self → Self.ProverData → Self.Commitment → Type 0 };
 
     // the proof shows that these are the rows at a place in matrices of these dimensions
-    ghost opens: { Self → Self.Commitment → List Dimensions → ℕ → List (List T) → Self.Proof → Type 0 };
+    ghost opens: { Self → Self.Commitment → List Dimensions → ℕ → List (List T) → Self.Proof
+        → Type 0 };
 
     // the first fault of an opening for which it doesn't
-    ghost fault: { Self → Self.Commitment → List Dimensions → ℕ → List (List T) → Self.Proof → Self.Error → Type 0 };
+    ghost fault: { Self → Self.Commitment → List Dimensions → ℕ → List (List T) → Self.Proof
+        → Self.Error → Type 0 };
 
     // the same for several places
-    ghost multi_opens: { Self → Self.Commitment → List Dimensions → List ℕ → List (List (List T)) → Self.MultiProof → Type 0 };
+    ghost multi_opens: { Self → Self.Commitment → List Dimensions → List ℕ → List (List (List T))
+        → Self.MultiProof → Type 0 };
 
-    ghost multi_fault: { Self → Self.Commitment → List Dimensions → List ℕ → List (List (List T)) → Self.MultiProof → Self.Error → Type 0 };
+    ghost multi_fault: { Self → Self.Commitment → List Dimensions → List ℕ → List (List (List T))
+        → Self.MultiProof → Self.Error → Type 0 };
 
     /// Commits to at least one matrix, of heights that are powers of two. Only memory can run out.
     fn commit(
@@ -73,9 +77,12 @@ pub trait Mmcs<T: Copy + Eq> {
         prover_data: &Self::ProverData,
     ) -> Mem<BatchOpening<T, Self>>
         requires { IsRowOf (matrices prover_data.now) index }
-        ensures rows { IfOk result (λ o. AreRowsAt (matrices prover_data.now) index (lists o.opened_values.items)) }
-        ensures accepted { IfOk result (λ o. (c : Self.Commitment) → belongs self.now prover_data.now c
-            → opens self.now c (dimensions_of (matrices prover_data.now)) index (lists o.opened_values.items) o.opening_proof) };
+        ensures rows { IfOk result
+            (λ o. AreRowsAt (matrices prover_data.now) index (lists o.opened_values.items)) }
+        ensures accepted { IfOk result
+            (λ o. (c : Self.Commitment) → belongs self.now prover_data.now c
+            → opens self.now c (dimensions_of (matrices prover_data.now)) index
+            (lists o.opened_values.items) o.opening_proof) };
 
     /// The committed matrices.
     fn get_matrices<'a>(&self, prover_data: &'a Self::ProverData) -> &'a [RowMajorMatrix<T>]
@@ -92,8 +99,10 @@ pub trait Mmcs<T: Copy + Eq> {
         opening: BatchOpeningRef<'_, T, Self>,
     ) -> Result<(), PcsFailure<Self::Error>>
         requires { All (λ d. takes d.width) dimensions.now }
-        ensures { VerifiedBy (opens self.now commit.now dimensions.now index (lists opening.entry.opened_values.now) opening.entry.opening_proof.now)
-            (fault self.now commit.now dimensions.now index (lists opening.entry.opened_values.now) opening.entry.opening_proof.now) result };
+        ensures { VerifiedBy (opens self.now commit.now dimensions.now index
+            (lists opening.entry.opened_values.now) opening.entry.opening_proof.now)
+            (fault self.now commit.now dimensions.now index (lists opening.entry.opened_values.now)
+            opening.entry.opening_proof.now) result };
 
     /// The rows of `open_batch` at each of these places, with one proof.
     fn open_multi_batch(
@@ -103,9 +112,13 @@ pub trait Mmcs<T: Copy + Eq> {
         prover_data: &Self::ProverData,
     ) -> Mem<(Vec<Vec<Vec<T>>>, Self::MultiProof)>
         requires { All (IsRowOf (matrices prover_data.now)) indices.now }
-        ensures rows { IfOk result (λ w. EachFrom indices.now (map (λ rows. lists rows.items) w.0.items) (AreRowsAt (matrices prover_data.now))) }
-        ensures accepted { IfOk result (λ w. (c : Self.Commitment) → belongs self.now prover_data.now c
-            → multi_opens self.now c (dimensions_of (matrices prover_data.now)) indices.now (map (λ rows. lists rows.items) w.0.items) w.1) };
+        ensures rows { IfOk result
+            (λ w. EachFrom indices.now (map (λ rows. lists rows.items) w.0.items)
+            (AreRowsAt (matrices prover_data.now))) }
+        ensures accepted { IfOk result
+            (λ w. (c : Self.Commitment) → belongs self.now prover_data.now c
+            → multi_opens self.now c (dimensions_of (matrices prover_data.now)) indices.now
+            (map (λ rows. lists rows.items) w.0.items) w.1) };
 
     /// What `verify_batch` does for several places at once.
     fn verify_multi_batch(
@@ -118,8 +131,10 @@ pub trait Mmcs<T: Copy + Eq> {
         proof: &Self::MultiProof,
     ) -> Result<(), PcsFailure<Self::Error>>
         requires { All (λ d. takes d.width) dimensions.now }
-        ensures { VerifiedBy (multi_opens self.now commit.now dimensions.now indices.now (map (λ rows. lists rows.items) opened_values.now) proof.now)
-            (multi_fault self.now commit.now dimensions.now indices.now (map (λ rows. lists rows.items) opened_values.now) proof.now) result };
+        ensures { VerifiedBy (multi_opens self.now commit.now dimensions.now indices.now
+            (map (λ rows. lists rows.items) opened_values.now) proof.now)
+            (multi_fault self.now commit.now dimensions.now indices.now
+            (map (λ rows. lists rows.items) opened_values.now) proof.now) result };
 
     /// The height of each committed matrix.
     fn get_matrix_heights(&self, alloc: Global, prover_data: &Self::ProverData) -> Mem<Vec<usize>>
@@ -159,35 +174,46 @@ pub trait Mmcs<T: Copy + Eq> {
     ) -> Mem<(Self::Commitment, Self::ProverData)>
         requires height { IsPowerOfTwo (length input.items) }
         requires width { takes 1 }
-        ensures matrices { IfOk result (λ w. matrices w.1 ≡ record { values = input.items; width = 1 } ∷ []) }
+        ensures matrices { IfOk result
+            (λ w. matrices w.1 ≡ record { values = input.items; width = 1 } ∷ []) }
         ensures belongs { IfOk result (λ w. belongs self.now w.1 w.0) }
     {
         self.commit_matrix(alloc, RowMajorMatrix::new_col(input))
     }
 
     // an opening that is accepted has no fault
-    ghost opens_faultless: { (s : Self) (c : Self.Commitment) (ds : List Dimensions) (i : ℕ) (rows : List (List T)) (p : Self.Proof) → opens s c ds i rows p → NoneOf (fault s c ds i rows p) };
+    ghost opens_faultless: { (s : Self) (c : Self.Commitment) (ds : List Dimensions) (i : ℕ)
+        (rows : List (List T)) (p : Self.Proof) → opens s c ds i rows p
+        → NoneOf (fault s c ds i rows p) };
 
-    ghost multi_opens_faultless: { (s : Self) (c : Self.Commitment) (ds : List Dimensions) (is : List ℕ) (rows : List (List (List T))) (p : Self.MultiProof)
+    ghost multi_opens_faultless: { (s : Self) (c : Self.Commitment) (ds : List Dimensions)
+        (is : List ℕ) (rows : List (List (List T))) (p : Self.MultiProof)
         → multi_opens s c ds is rows p → NoneOf (multi_fault s c ds is rows p) };
 
     // one that isn't has a first fault
-    ghost some_fault: { (s : Self) (c : Self.Commitment) (ds : List Dimensions) (i : ℕ) (rows : List (List T)) (p : Self.Proof) → FaultUnless (opens s c ds i rows p) (fault s c ds i rows p) };
+    ghost some_fault: { (s : Self) (c : Self.Commitment) (ds : List Dimensions) (i : ℕ)
+        (rows : List (List T)) (p : Self.Proof)
+        → FaultUnless (opens s c ds i rows p) (fault s c ds i rows p) };
 
-    ghost multi_some_fault: { (s : Self) (c : Self.Commitment) (ds : List Dimensions) (is : List ℕ) (rows : List (List (List T))) (p : Self.MultiProof)
+    ghost multi_some_fault: { (s : Self) (c : Self.Commitment) (ds : List Dimensions) (is : List ℕ)
+        (rows : List (List (List T))) (p : Self.MultiProof)
         → FaultUnless (multi_opens s c ds is rows p) (multi_fault s c ds is rows p) };
 
     // the first fault is one
-    ghost one_fault: { (s : Self) (c : Self.Commitment) (ds : List Dimensions) (i : ℕ) (rows : List (List T)) (p : Self.Proof) (e g : Self.Error)
+    ghost one_fault: { (s : Self) (c : Self.Commitment) (ds : List Dimensions) (i : ℕ)
+        (rows : List (List T)) (p : Self.Proof) (e g : Self.Error)
         → fault s c ds i rows p e → fault s c ds i rows p g → e ≡ g };
 
-    ghost multi_one_fault: { (s : Self) (c : Self.Commitment) (ds : List Dimensions) (is : List ℕ) (rows : List (List (List T))) (p : Self.MultiProof) (e g : Self.Error)
+    ghost multi_one_fault: { (s : Self) (c : Self.Commitment) (ds : List Dimensions) (is : List ℕ)
+        (rows : List (List (List T))) (p : Self.MultiProof) (e g : Self.Error)
         → multi_fault s c ds is rows p e → multi_fault s c ds is rows p g → e ≡ g };
 
     // rows that are accepted have their matrices' widths
-    ghost opened_widths: { (s : Self) (c : Self.Commitment) (ds : List Dimensions) (i : ℕ) (rows : List (List T)) (p : Self.Proof) → opens s c ds i rows p → HaveWidths ds rows };
+    ghost opened_widths: { (s : Self) (c : Self.Commitment) (ds : List Dimensions) (i : ℕ)
+        (rows : List (List T)) (p : Self.Proof) → opens s c ds i rows p → HaveWidths ds rows };
 
-    ghost multi_opened_widths: { (s : Self) (c : Self.Commitment) (ds : List Dimensions) (is : List ℕ) (rows : List (List (List T))) (p : Self.MultiProof)
+    ghost multi_opened_widths: { (s : Self) (c : Self.Commitment) (ds : List Dimensions)
+        (is : List ℕ) (rows : List (List (List T))) (p : Self.MultiProof)
         → multi_opens s c ds is rows p → All (HaveWidths ds) rows };
 }
 
@@ -268,7 +294,8 @@ impl<'a, T: Copy + Eq, M: Mmcs<T>> BatchOpeningRef<'a, T, M> {
 }
 
 impl<'a, T: Copy + Eq, M: Mmcs<T>> From<&'a BatchOpening<T, M>> for BatchOpeningRef<'a, T, M> {
-    ghost from_gives = { λ o r. (lists r.opened_values.now ≡ lists o.now.opened_values.items) × (r.opening_proof.now ≡ o.now.opening_proof) };
+    ghost from_gives = { λ o r. (lists r.opened_values.now ≡ lists o.now.opened_values.items)
+        × (r.opening_proof.now ≡ o.now.opening_proof) };
 
     fn from(opening: &'a BatchOpening<T, M>) -> Self {
         BatchOpeningRef {
@@ -297,7 +324,8 @@ fn heights_of<T>(alloc: Global, matrices: &[RowMajorMatrix<T>]) -> Mem<Vec<usize
 
 /// The height of the highest matrix (not in Plonky3), and None exactly where there is no matrix.
 pub fn greatest_height<T>(matrices: &[RowMajorMatrix<T>]) -> Option<usize>
-    ensures { MatchOption result (length matrices.now ≡ 0) (IsGreatest (map (λ m. height m) matrices.now)) }
+    ensures { MatchOption result (length matrices.now ≡ 0)
+        (IsGreatest (map (λ m. height m) matrices.now)) }
 {
     matrices.iter().map(|m| m.height()).max()
 }
@@ -368,8 +396,10 @@ impl<'m, T: Copy + Eq, M: Mmcs<T>> Mmcs<T> for &'m M {
         opening: BatchOpeningRef<'_, T, Self>,
     ) -> Result<(), PcsFailure<M::Error>>
         requires { All (λ d. M.takes d.width) dimensions.now }
-        ensures { VerifiedBy (M.opens self.now.now commit.now dimensions.now index (lists opening.entry.opened_values.now) opening.entry.opening_proof.now)
-            (M.fault self.now.now commit.now dimensions.now index (lists opening.entry.opened_values.now) opening.entry.opening_proof.now) result }
+        ensures { VerifiedBy (M.opens self.now.now commit.now dimensions.now index
+            (lists opening.entry.opened_values.now) opening.entry.opening_proof.now)
+            (M.fault self.now.now commit.now dimensions.now index
+            (lists opening.entry.opened_values.now) opening.entry.opening_proof.now) result }
     {
         let inner = BatchOpeningRef {
             opened_values: opening.opened_values,
@@ -401,17 +431,21 @@ impl<'m, T: Copy + Eq, M: Mmcs<T>> Mmcs<T> for &'m M {
 
     ghost opens_faultless = { λ s c ds i rows p h. M.opens_faultless s.now c ds i rows p h };
 
-    ghost multi_opens_faultless = { λ s c ds is rows p h. M.multi_opens_faultless s.now c ds is rows p h };
+    ghost multi_opens_faultless = { λ s c ds is rows p h.
+        M.multi_opens_faultless s.now c ds is rows p h };
 
     ghost some_fault = { λ s c ds i rows p n f. M.some_fault s.now c ds i rows p n f };
 
-    ghost multi_some_fault = { λ s c ds is rows p n f. M.multi_some_fault s.now c ds is rows p n f };
+    ghost multi_some_fault = { λ s c ds is rows p n f.
+        M.multi_some_fault s.now c ds is rows p n f };
 
     ghost one_fault = { λ s c ds i rows p e g f h. M.one_fault s.now c ds i rows p e g f h };
 
-    ghost multi_one_fault = { λ s c ds is rows p e g f h. M.multi_one_fault s.now c ds is rows p e g f h };
+    ghost multi_one_fault = { λ s c ds is rows p e g f h.
+        M.multi_one_fault s.now c ds is rows p e g f h };
 
     ghost opened_widths = { λ s c ds i rows p h. M.opened_widths s.now c ds i rows p h };
 
-    ghost multi_opened_widths = { λ s c ds is rows p h. M.multi_opened_widths s.now c ds is rows p h };
+    ghost multi_opened_widths = { λ s c ds is rows p h.
+        M.multi_opened_widths s.now c ds is rows p h };
 }

@@ -54,10 +54,12 @@ where
     ghost open_fault: { Self → Self.ProverData → Self.OpeningProtocol → Self.ProverError → Type 0 };
 
     // the proof opens the commitment by the protocol from this challenger's state
-    ghost opens: { Self → Challenger → Self.Commitment → Self.OpeningProtocol → Self.Proof → Type 0 };
+    ghost opens: { Self → Challenger → Self.Commitment → Self.OpeningProtocol → Self.Proof
+        → Type 0 };
 
     // the first fault of a proof that doesn't
-    ghost fault: { Self → Challenger → Self.Commitment → Self.OpeningProtocol → Self.Proof → Self.Error → Type 0 };
+    ghost fault: { Self → Challenger → Self.Commitment → Self.OpeningProtocol → Self.Proof
+        → Self.Error → Type 0 };
 
     /// The number of variables m: a polynomial has 2^m values.
     fn num_vars(&self) -> usize
@@ -73,7 +75,8 @@ where
     ) -> Result<(Self::Commitment, Self::ProverData), PcsFailure<Self::ProverError>>
         ensures refusal { RefusedBy (commit_fault self.now witness) result }
         ensures unchanged { IfRefused result (λ _. challenger.new ≡ challenger.old) }
-        ensures observed { IfOk result (λ w. challenger.new ≡ observed self.now w.0 challenger.old) }
+        ensures observed { IfOk result
+            (λ w. challenger.new ≡ observed self.now w.0 challenger.old) }
         ensures held { IfOk result (λ w. holds self.now w.1 w.0 witness) };
 
     /// Takes a commitment into the challenger, as a verifier does where the prover committed.
@@ -91,7 +94,9 @@ where
     ) -> Result<Self::Proof, PcsFailure<Self::ProverError>>
         ensures refusal { RefusedBy (open_fault self.now prover_data protocol.now) result }
         ensures unchanged { IfRefused result (λ _. challenger.new ≡ challenger.old) }
-        ensures accepted { IfOk result (λ p. (c : Self.Commitment) (w : Self.Witness) → holds self.now prover_data c w → opens self.now challenger.old c protocol.now p) };
+        ensures accepted { IfOk result
+            (λ p. (c : Self.Commitment) (w : Self.Witness) → holds self.now prover_data c w
+            → opens self.now challenger.old c protocol.now p) };
 
     /// Whether the proof opens the commitment by the protocol, from the challenger's state: Ok exactly where it does
     /// (`opens`), and else `Refused` of the first fault.
@@ -103,19 +108,25 @@ where
         challenger: &mut Challenger,
         protocol: &Self::OpeningProtocol,
     ) -> Result<(), PcsFailure<Self::Error>>
-        ensures { VerifiedBy (opens self.now challenger.old commitment.now protocol.now proof.now) (fault self.now challenger.old commitment.now protocol.now proof.now) result };
+        ensures { VerifiedBy (opens self.now challenger.old commitment.now protocol.now proof.now)
+            (fault self.now challenger.old commitment.now protocol.now proof.now) result };
 
     // a proof that opens has no fault
-    ghost opens_faultless: { (s : Self) (t : Challenger) (c : Self.Commitment) (o : Self.OpeningProtocol) (p : Self.Proof) → opens s t c o p → NoneOf (fault s t c o p) };
+    ghost opens_faultless: { (s : Self) (t : Challenger) (c : Self.Commitment)
+        (o : Self.OpeningProtocol) (p : Self.Proof) → opens s t c o p → NoneOf (fault s t c o p) };
 
     // one that doesn't has a first fault
-    ghost some_fault: { (s : Self) (t : Challenger) (c : Self.Commitment) (o : Self.OpeningProtocol) (p : Self.Proof) → FaultUnless (opens s t c o p) (fault s t c o p) };
+    ghost some_fault: { (s : Self) (t : Challenger) (c : Self.Commitment) (o : Self.OpeningProtocol)
+        (p : Self.Proof) → FaultUnless (opens s t c o p) (fault s t c o p) };
 
     // the first fault is one
-    ghost one_fault: { (s : Self) (t : Challenger) (c : Self.Commitment) (o : Self.OpeningProtocol) (p : Self.Proof) (e g : Self.Error) → fault s t c o p e → fault s t c o p g → e ≡ g };
+    ghost one_fault: { (s : Self) (t : Challenger) (c : Self.Commitment) (o : Self.OpeningProtocol)
+        (p : Self.Proof) (e g : Self.Error) → fault s t c o p e → fault s t c o p g → e ≡ g };
 
     // and so is the cause to refuse to commit, and to open
-    ghost one_commit_fault: { (s : Self) (w : Self.Witness) (e g : Self.ProverError) → commit_fault s w e → commit_fault s w g → e ≡ g };
+    ghost one_commit_fault: { (s : Self) (w : Self.Witness) (e g : Self.ProverError)
+        → commit_fault s w e → commit_fault s w g → e ≡ g };
 
-    ghost one_open_fault: { (s : Self) (d : Self.ProverData) (o : Self.OpeningProtocol) (e g : Self.ProverError) → open_fault s d o e → open_fault s d o g → e ≡ g };
+    ghost one_open_fault: { (s : Self) (d : Self.ProverData) (o : Self.OpeningProtocol)
+        (e g : Self.ProverError) → open_fault s d o e → open_fault s d o g → e ≡ g };
 }

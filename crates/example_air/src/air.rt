@@ -116,7 +116,8 @@ fn bits<AB: AirBuilder>(builder: &mut AB) -> Mem<[AB::Expr; 8]>
     ensures keeps_shape { AB.shape builder.new ≡ AB.shape builder.old }
     ensures appends { AB.appends builder.old builder.new [] [] }
     ensures answers { IsTrue AB.never_fails → IsOk result }
-    ensures represents { IfOk result (λ es. RepresentAt (AB.represents builder.new) es column_tree) }
+    ensures represents { IfOk result
+        (λ es. RepresentAt (AB.represents builder.new) es column_tree) }
 {
     let first = column(builder, 0)?;
     let mut cells = [first; 8];
@@ -132,8 +133,11 @@ fn assert_bits<AB: AirBuilder>(builder: &mut AB) -> Mem<()>
     ensures later { AB.later builder.old builder.new }
     ensures keeps_shape { AB.shape builder.new ≡ AB.shape builder.old }
     ensures answers { IsTrue AB.never_fails → IsOk result }
-    ensures appends { IfOk result (λ _. AB.appends builder.old builder.new (map over_base (byte_row_trees AB.F.ring)) []) }
-    ensures on_error { OnErr result (SomeFirst (AB.appends builder.old builder.new) (map over_base (byte_row_trees AB.F.ring)) []) }
+    ensures appends { IfOk result
+        (λ _. AB.appends builder.old builder.new (map over_base (byte_row_trees AB.F.ring)) []) }
+    ensures on_error { OnErr result
+        (SomeFirst (AB.appends builder.old builder.new) (map over_base (byte_row_trees AB.F.ring))
+        []) }
 {
     let bits = bits(builder)?;
     builder.assert_bools(&bits)?;
@@ -149,7 +153,9 @@ fn send_number<AB: InteractionBuilder>(builder: &mut AB, one: AB::F) -> Mem<()>
     ensures later { AB.later builder.old builder.new }
     ensures keeps_shape { AB.shape builder.new ≡ AB.shape builder.old }
     ensures answers { IsTrue AB.never_fails → IsOk result }
-    ensures appends { IfOk result (λ _. AB.appends builder.old builder.new [] (byte_sent (column_tree 8) (constant one) 1 ∷ [])) }
+    ensures appends { IfOk result
+        (λ _. AB.appends builder.old builder.new []
+        (byte_sent (column_tree 8) (constant one) 1 ∷ [])) }
     ensures on_error { OnErr result (AB.appends builder.old builder.new [] []) }
 {
     let number = column(builder, 8)?;
@@ -164,7 +170,10 @@ fn send_byte<AB: InteractionBuilder>(builder: &mut AB, nothing: AB::F) -> Mem<()
     ensures later { AB.later builder.old builder.new }
     ensures keeps_shape { AB.shape builder.new ≡ AB.shape builder.old }
     ensures answers { IsTrue AB.never_fails → IsOk result }
-    ensures appends { IfOk result (λ _. AB.appends builder.old builder.new [] (byte_sent (cell_tree (Preprocessed false 0)) (difference (constant nothing) (column_tree 0)) 1024 ∷ [])) }
+    ensures appends { IfOk result
+        (λ _. AB.appends builder.old builder.new []
+        (byte_sent (cell_tree (Preprocessed false 0))
+        (difference (constant nothing) (column_tree 0)) 1024 ∷ [])) }
     ensures on_error { OnErr result (AB.appends builder.old builder.new [] []) }
 {
     let byte = builder.cell(Cell::Preprocessed {

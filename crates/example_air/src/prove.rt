@@ -67,8 +67,11 @@ pub fn prove_bytes(
 ) -> Result<BatchProof<ToolConfig>, ProvingError<PlainProverError>>
     requires power { IsPowerOfTwo (length bytes.now) }
     requires few { length bytes.now ≤ 1024 }
-    ensures proved { IfOk result (IsTablesProof (bits_rows baby_bear_ring bytes.now) (bytes_rows baby_bear_ring bytes.now)) }
-    ensures refusal { IfErr result (LacksTablesProof (bits_rows baby_bear_ring bytes.now) (bytes_rows baby_bear_ring bytes.now)) }
+    ensures proved { IfOk result
+        (IsTablesProof (bits_rows baby_bear_ring bytes.now) (bytes_rows baby_bear_ring bytes.now)) }
+    ensures refusal { IfErr result
+        (LacksTablesProof (bits_rows baby_bear_ring bytes.now)
+        (bytes_rows baby_bear_ring bytes.now)) }
     ensures accepted { let b = bytes_batch bytes.now in
         IfOk result (λ q. DrawsOutside b q → PassesChecks (log_of (length bytes.now)) q) }
 {

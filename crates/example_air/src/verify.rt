@@ -32,7 +32,8 @@ pub fn verify_bytes(
 ) -> Result<(), BatchVerificationError<PlainError>>
     requires { log_rows ≤ 10 }
     ensures verdict { IsVerdict (bytes_checks log_rows proof.now) result }
-    ensures holds { IfOk result (λ _. HoldUnlessUnlucky (tool_setting V2) 1 (example_statement log_rows) proof.now) }
+    ensures holds { IfOk result
+        (λ _. HoldUnlessUnlucky (tool_setting V2) 1 (example_statement log_rows) proof.now) }
     ensures balance { IfOk result (λ _. BytesBalance log_rows proof.now) }
     ensures bytes { IfOk result (λ _. RowsAreBytes log_rows proof.now) }
 {

@@ -19,9 +19,15 @@ pub fn committed_both_ways<E: ExtensionField<P::Val>, C, P: UnivariateStarkPcs<E
     first: Vec<(P::Domain, RowMajorMatrix<P::Val>)>,
     second: Vec<(P::Domain, RowMajorMatrix<P::Val>)>,
 ) -> Result<(P::Commitment, P::Commitment), PcsFailure<P::ProverError>>
-    ensures refusal { RefusedBy (λ e. P.commit_fault pcs.now first.items e ⊎ (NoneOf (P.commit_fault pcs.now first.items) × P.commit_fault pcs.now second.items e)) result }
-    ensures commits { IfOk result (λ w. P.commits pcs.now first.items w.0 × P.commits pcs.now second.items w.1) }
-    ensures function { IsFalse P.ZK → IfOk result (λ w. (w.0 ≡ P.commitment_of pcs.now first.items) × (w.1 ≡ P.commitment_of pcs.now second.items)) }
+    ensures refusal { RefusedBy
+        (λ e. P.commit_fault pcs.now first.items e
+        ⊎ (NoneOf (P.commit_fault pcs.now first.items) × P.commit_fault pcs.now second.items e))
+        result }
+    ensures commits { IfOk result
+        (λ w. P.commits pcs.now first.items w.0 × P.commits pcs.now second.items w.1) }
+    ensures function { IsFalse P.ZK
+        → IfOk result (λ w. (w.0 ≡ P.commitment_of pcs.now first.items)
+        × (w.1 ≡ P.commitment_of pcs.now second.items)) }
     ensures alike { IsFalse P.ZK → first.items ≡ second.items → IfOk result (λ w. w.0 ≡ w.1) }
 {
     let (commitment, _data) = pcs.commit(alloc, first)?;

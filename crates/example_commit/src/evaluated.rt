@@ -25,8 +25,10 @@ pub fn committed_and_evaluated<E: ExtensionField<P::Val>, C, P: UnivariateStarkP
     requires { index < length evaluations.items }
     ensures refusal { RefusedBy (P.commit_fault pcs.now evaluations.items) result }
     ensures committed { IfOk result (λ w. P.commits pcs.now evaluations.items w.0) }
-    ensures values { IfOk result (λ w. (d : P.Domain) (m : Rows P.Val) → slice_get evaluations.items index ≡ Some (d, m)
-        → AreExtended P.Val.ring (P.Domain.point_at d) m (P.Domain.points domain) (P.Domain.point_at domain) w.1) }
+    ensures values { IfOk result
+        (λ w. (d : P.Domain) (m : Rows P.Val) → slice_get evaluations.items index ≡ Some (d, m)
+        → AreExtended P.Val.ring (P.Domain.point_at d) m (P.Domain.points domain)
+        (P.Domain.point_at domain) w.1) }
 {
     let (commitment, prover_data) = pcs.commit(alloc, evaluations)?;
     let values = pcs.get_evaluations_on_domain(alloc, &prover_data, index, domain)?;

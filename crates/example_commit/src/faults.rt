@@ -23,9 +23,13 @@ pub fn fault_of_claims<E: ExtensionField<P::Val>, C, P: Pcs<E, C>>(
     proof: &P::Proof,
     challenger: &mut C,
 ) -> Mem<Option<P::Error>>
-    ensures accepted { IfOk result (λ o. (o ≡ None) ↔ P.opens pcs.now challenger.old claims.items proof.now) }
-    ensures cause { IfOk result (λ o. IfSome o (IsCause (P.fault pcs.now challenger.old claims.items proof.now))) }
-    ensures after { IfOk result (λ o. o ≡ None → challenger.new ≡ P.after_verify pcs.now challenger.old claims.items proof.now) }
+    ensures accepted { IfOk result
+        (λ o. (o ≡ None) ↔ P.opens pcs.now challenger.old claims.items proof.now) }
+    ensures cause { IfOk result
+        (λ o. IfSome o (IsCause (P.fault pcs.now challenger.old claims.items proof.now))) }
+    ensures after { IfOk result
+        (λ o. o ≡ None → challenger.new
+        ≡ P.after_verify pcs.now challenger.old claims.items proof.now) }
 {
     match pcs.verify(alloc, claims, proof, challenger) {
         Ok(()) => Ok(None),
@@ -45,8 +49,12 @@ pub fn fault_of_rows<T: Copy + Eq, M: Mmcs<T>>(
     opening: BatchOpeningRef<'_, T, M>,
 ) -> Mem<Option<M::Error>>
     requires { All (λ d. M.takes d.width) dimensions.now }
-    ensures accepted { IfOk result (λ o. (o ≡ None) ↔ M.opens mmcs.now commitment.now dimensions.now index (lists opening.entry.opened_values.now) opening.entry.opening_proof.now) }
-    ensures cause { IfOk result (λ o. IfSome o (IsCause (M.fault mmcs.now commitment.now dimensions.now index (lists opening.entry.opened_values.now) opening.entry.opening_proof.now))) }
+    ensures accepted { IfOk result
+        (λ o. (o ≡ None) ↔ M.opens mmcs.now commitment.now dimensions.now index
+        (lists opening.entry.opened_values.now) opening.entry.opening_proof.now) }
+    ensures cause { IfOk result
+        (λ o. IfSome o (IsCause (M.fault mmcs.now commitment.now dimensions.now index
+        (lists opening.entry.opened_values.now) opening.entry.opening_proof.now))) }
 {
     match mmcs.verify_batch(alloc, commitment, dimensions, index, opening) {
         Ok(()) => Ok(None),
@@ -66,8 +74,13 @@ pub fn rows_verified_twice<T: Copy + Eq, M: Mmcs<T>>(
     opening: BatchOpeningRef<'_, T, M>,
 ) -> Mem<(Option<M::Error>, Option<M::Error>)>
     requires { All (λ d. M.takes d.width) dimensions.now }
-    ensures accepted { IfOk result (λ w. (w.0 ≡ None) ↔ M.opens mmcs.now commitment.now dimensions.now index (lists opening.entry.opened_values.now) opening.entry.opening_proof.now) }
-    ensures cause { IfOk result (λ w. IfSome w.0 (IsCause (M.fault mmcs.now commitment.now dimensions.now index (lists opening.entry.opened_values.now) opening.entry.opening_proof.now))) }
+    ensures accepted { IfOk result
+        (λ w. (w.0 ≡ None) ↔ M.opens mmcs.now commitment.now dimensions.now index
+        (lists opening.entry.opened_values.now) opening.entry.opening_proof.now) }
+    ensures cause { IfOk result
+        (λ w. IfSome w.0 (IsCause
+        (M.fault mmcs.now commitment.now dimensions.now index
+        (lists opening.entry.opened_values.now) opening.entry.opening_proof.now))) }
     ensures one { IfOk result (λ w. w.0 ≡ w.1) }
 {
     let first = fault_of_rows(alloc, mmcs, commitment, dimensions, index, opening)?;

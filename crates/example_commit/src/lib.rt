@@ -75,11 +75,20 @@ fn opened<E: ExtensionField<P::Val>, C, P: Pcs<E, C>>(
     challenger: &mut C,
 ) -> Result<(Vec<E>, P::Proof), PcsFailure<P::ProverError>>
     requires made { P.made pcs.now prover_data.now }
-    requires held { (commitment : P.Commitment) × ((c : Committed P.Val) × P.holds pcs.now prover_data.now commitment (c ∷ [])) }
-    ensures refused { IfRefused result (P.open_fault pcs.now (record { prover_data = prover_data.now; points = (point ∷ []) ∷ [] } ∷ [])) }
-    ensures values { IfOk result (λ w. (commitment : P.Commitment) (c : Committed P.Val) → P.holds pcs.now prover_data.now commitment (c ∷ []) → w.0.items ≡ values_of E.ring E.embed c point) }
-    ensures accepted { IfOk result (λ w. (commitment : P.Commitment) (c : Committed P.Val) (d : P.Domain) → P.holds pcs.now prover_data.now commitment (c ∷ []) → (P.excludes pcs.now point → ⊥)
-        → P.Domain.points d ≡ c.size → P.opens pcs.now challenger.old (claim_of commitment d point w.0.items ∷ []) w.1) }
+    requires held { (commitment : P.Commitment)
+        × ((c : Committed P.Val) × P.holds pcs.now prover_data.now commitment (c ∷ [])) }
+    ensures refused { IfRefused result
+        (P.open_fault pcs.now (record { prover_data = prover_data.now; points = (point ∷ []) ∷ [] }
+        ∷ [])) }
+    ensures values { IfOk result
+        (λ w. (commitment : P.Commitment) (c : Committed P.Val)
+        → P.holds pcs.now prover_data.now commitment (c ∷ [])
+        → w.0.items ≡ values_of E.ring E.embed c point) }
+    ensures accepted { IfOk result
+        (λ w. (commitment : P.Commitment) (c : Committed P.Val) (d : P.Domain)
+        → P.holds pcs.now prover_data.now commitment (c ∷ []) → (P.excludes pcs.now point → ⊥)
+        → P.Domain.points d ≡ c.size
+        → P.opens pcs.now challenger.old (claim_of commitment d point w.0.items ∷ []) w.1) }
 {
     let points = one(alloc, one(alloc, point)?)?;
     let requests = one(
@@ -157,12 +166,19 @@ pub fn committed_and_verified<E: ExtensionField<P::Val>, C: Copy, P: Pcs<E, C>>(
     challenger: C,
 ) -> Result<Option<VerifiedValues<E, P::Commitment, P::Proof>>, PcsFailure<P::ProverError>>
     ensures refused { IfRefused result (λ e. P.commit_fault pcs.now ((domain, matrix) ∷ []) e
-        ⊎ ((w : P.Commitment × P.ProverData) × IsCommitment P.Val.ring P.Domain.points P.Domain.point_at (P.commits pcs.now) (P.made pcs.now) (P.holds pcs.now) ((domain, matrix) ∷ []) w
+        ⊎ ((w : P.Commitment × P.ProverData)
+        × IsCommitment P.Val.ring P.Domain.points P.Domain.point_at (P.commits pcs.now)
+        (P.made pcs.now) (P.holds pcs.now) ((domain, matrix) ∷ []) w
         × P.open_fault pcs.now (record { prover_data = w.1; points = (point ∷ []) ∷ [] } ∷ []) e)) }
     ensures accepted { (P.excludes pcs.now point → ⊥) → IfOk result IsSome }
-    ensures committed { IfOk result (λ o. IfSome o (λ v. P.commits pcs.now ((domain, matrix) ∷ []) v.commitment)) }
-    ensures opens { IfOk result (λ o. IfSome o (λ v. P.opens pcs.now challenger (claim_of v.commitment domain point v.values.items ∷ []) v.proof)) }
-    ensures values { IfOk result (λ o. IfSome o (λ v. AreValues P.Val.ring E.ring E.embed (P.Domain.point_at domain) matrix point v.values.items)) }
+    ensures committed { IfOk result
+        (λ o. IfSome o (λ v. P.commits pcs.now ((domain, matrix) ∷ []) v.commitment)) }
+    ensures opens { IfOk result
+        (λ o. IfSome o (λ v. P.opens pcs.now challenger
+        (claim_of v.commitment domain point v.values.items ∷ []) v.proof)) }
+    ensures values { IfOk result
+        (λ o. IfSome o (λ v. AreValues P.Val.ring E.ring E.embed (P.Domain.point_at domain) matrix
+        point v.values.items)) }
 {
     let (commitment, prover_data) = pcs.commit(alloc, one(alloc, (domain, matrix))?)?;
     let mut prover = challenger;

@@ -24,9 +24,13 @@ fn committed_with_preprocessing<E: ExtensionField<P::Val>, C, P: UnivariateStark
     Vec<CommittedRound<P::Domain, E, P::Commitment, P::ProverData>>,
     PcsFailure<P::ProverError>,
 >
-    ensures refusal { RefusedBy (IsCauseOfFirstRefused (λ q. P.commit_fault pcs.now q.evaluations) (rounds.items ++ preprocessed ∷ [])) result }
+    ensures refusal { RefusedBy
+        (IsCauseOfFirstRefused (λ q. P.commit_fault pcs.now q.evaluations)
+        (rounds.items ++ preprocessed ∷ [])) result }
     ensures prover_rounds { IfOk result
-        (λ v. EachFrom (rounds.items ++ preprocessed ∷ []) v.items (IsCommittedRound P.Val.ring P.Domain.points P.Domain.point_at (P.commits pcs.now) (P.made pcs.now) (P.holds pcs.now))) }
+        (λ v. EachFrom (rounds.items ++ preprocessed ∷ []) v.items
+        (IsCommittedRound P.Val.ring P.Domain.points P.Domain.point_at (P.commits pcs.now)
+        (P.made pcs.now) (P.holds pcs.now))) }
 {
     let mut prover_rounds = committed_rounds(alloc, pcs, rounds)?;
     prover_rounds.push(committed_preprocessing(alloc, pcs, preprocessed)?)?;
@@ -40,7 +44,9 @@ fn committed_preprocessing<E: ExtensionField<P::Val>, C, P: UnivariateStarkPcs<E
     round: Round<P::Domain, P::Val, E>,
 ) -> Result<CommittedRound<P::Domain, E, P::Commitment, P::ProverData>, PcsFailure<P::ProverError>>
     ensures refusal { RefusedBy (P.commit_fault pcs.now round.evaluations) result }
-    ensures prover_rounds { IfOk result (IsCommittedRound P.Val.ring P.Domain.points P.Domain.point_at (P.commits pcs.now) (P.made pcs.now) (P.holds pcs.now) round) }
+    ensures prover_rounds { IfOk result
+        (IsCommittedRound P.Val.ring P.Domain.points P.Domain.point_at (P.commits pcs.now)
+        (P.made pcs.now) (P.holds pcs.now) round) }
 {
     let Round {
         evaluations,
@@ -65,8 +71,11 @@ fn fault_with_preprocessing<E: ExtensionField<P::Val>, C, P: UnivariateStarkPcs<
     challenger: &mut C,
     place: Option<usize>,
 ) -> Mem<Option<P::Error>>
-    ensures accepted { IfOk result (λ o. (o ≡ None) ↔ P.opens pcs.now challenger.old claims.items proof.now) }
-    ensures after { IfOk result (λ o. o ≡ None → challenger.new ≡ P.after_verify pcs.now challenger.old claims.items proof.now) }
+    ensures accepted { IfOk result
+        (λ o. (o ≡ None) ↔ P.opens pcs.now challenger.old claims.items proof.now) }
+    ensures after { IfOk result
+        (λ o. o ≡ None → challenger.new
+        ≡ P.after_verify pcs.now challenger.old claims.items proof.now) }
 {
     match pcs.verify_with_preprocessing(alloc, claims, proof, challenger, place) {
         Ok(()) => Ok(None),
@@ -88,17 +97,28 @@ fn committed_verified<E: ExtensionField<P::Val>, C: Copy, P: UnivariateStarkPcs<
 >
     requires masks { IsFalse P.ZK }
     requires prover_rounds { (rs : List (RoundData P.Domain P.Val E))
-        × EachFrom rs prover_rounds.items (IsCommittedRound P.Val.ring P.Domain.points P.Domain.point_at (P.commits pcs.now) (P.made pcs.now) (P.holds pcs.now)) }
+        × EachFrom rs prover_rounds.items
+        (IsCommittedRound P.Val.ring P.Domain.points P.Domain.point_at (P.commits pcs.now)
+        (P.made pcs.now) (P.holds pcs.now)) }
     ensures refused { IfRefused result (P.open_fault pcs.now (requests_of prover_rounds.items)) }
-    ensures granted { IfOk result (λ _. NoneOf (P.open_fault pcs.now (requests_of prover_rounds.items))) }
+    ensures granted { IfOk result
+        (λ _. NoneOf (P.open_fault pcs.now (requests_of prover_rounds.items))) }
     ensures accepted { IfOk result (λ o. (rs : List (RoundData P.Domain P.Val E))
-        → EachFrom rs prover_rounds.items (IsCommittedRound P.Val.ring P.Domain.points P.Domain.point_at (P.commits pcs.now) (P.made pcs.now) (P.holds pcs.now))
+        → EachFrom rs prover_rounds.items
+        (IsCommittedRound P.Val.ring P.Domain.points P.Domain.point_at (P.commits pcs.now)
+        (P.made pcs.now) (P.holds pcs.now))
         → AreFree (P.excludes pcs.now) rs → IsSome o) }
     ensures claimed { IfOk result (λ o. (rs : List (RoundData P.Domain P.Val E))
-        → EachFrom rs prover_rounds.items (IsCommittedRound P.Val.ring P.Domain.points P.Domain.point_at (P.commits pcs.now) (P.made pcs.now) (P.holds pcs.now))
-        → IfSome o (λ v. EachFrom rs v.claims.items (IsRoundClaimed P.Val.ring E.ring E.embed P.Domain.point_at (P.commits pcs.now)))) }
-    ensures opens { IfOk result (λ o. IfSome o (λ v. P.opens pcs.now challenger v.claims.items v.proof)) }
-    ensures verifier { IfOk result (λ o. IfSome o (λ v. v.verifier ≡ P.after_verify pcs.now challenger v.claims.items v.proof)) }
+        → EachFrom rs prover_rounds.items
+        (IsCommittedRound P.Val.ring P.Domain.points P.Domain.point_at (P.commits pcs.now)
+        (P.made pcs.now) (P.holds pcs.now))
+        → IfSome o (λ v. EachFrom rs v.claims.items
+        (IsRoundClaimed P.Val.ring E.ring E.embed P.Domain.point_at (P.commits pcs.now)))) }
+    ensures opens { IfOk result
+        (λ o. IfSome o (λ v. P.opens pcs.now challenger v.claims.items v.proof)) }
+    ensures verifier { IfOk result
+        (λ o. IfSome o (λ v. v.verifier
+        ≡ P.after_verify pcs.now challenger v.claims.items v.proof)) }
     ensures one_state { IfOk result (λ o. IfSome o (λ v. v.prover ≡ v.verifier)) }
 {
     let requests = requests(alloc, &prover_rounds)?;
@@ -133,16 +153,28 @@ pub fn preprocessed_verified<E: ExtensionField<P::Val>, C: Copy, P: UnivariateSt
     PcsFailure<P::ProverError>,
 >
     requires { IsFalse P.ZK }
-    ensures refused { IfRefused result (FaultInTurn (IsCauseOfFirstRefused (λ q. P.commit_fault pcs.now q.evaluations) (rounds.items ++ preprocessed ∷ []))
+    ensures refused { IfRefused result
+        (FaultInTurn (IsCauseOfFirstRefused (λ q. P.commit_fault pcs.now q.evaluations)
+        (rounds.items ++ preprocessed ∷ []))
         (λ ks. EachFrom (rounds.items ++ preprocessed ∷ []) ks
-        (IsCommittedRound P.Val.ring P.Domain.points P.Domain.point_at (P.commits pcs.now) (P.made pcs.now) (P.holds pcs.now))) (λ ks. P.open_fault pcs.now (requests_of ks))) }
-    ensures granted { IfOk result (λ _. NoneInTurn (IsCauseOfFirstRefused (λ q. P.commit_fault pcs.now q.evaluations) (rounds.items ++ preprocessed ∷ []))
+        (IsCommittedRound P.Val.ring P.Domain.points P.Domain.point_at (P.commits pcs.now)
+        (P.made pcs.now) (P.holds pcs.now))) (λ ks. P.open_fault pcs.now (requests_of ks))) }
+    ensures granted { IfOk result
+        (λ _. NoneInTurn (IsCauseOfFirstRefused (λ q. P.commit_fault pcs.now q.evaluations)
+        (rounds.items ++ preprocessed ∷ []))
         (λ ks. EachFrom (rounds.items ++ preprocessed ∷ []) ks
-        (IsCommittedRound P.Val.ring P.Domain.points P.Domain.point_at (P.commits pcs.now) (P.made pcs.now) (P.holds pcs.now))) (λ ks. P.open_fault pcs.now (requests_of ks))) }
-    ensures accepted { AreFree (P.excludes pcs.now) (rounds.items ++ preprocessed ∷ []) → IfOk result IsSome }
-    ensures claimed { IfOk result (λ o. IfSome o (λ v. EachFrom (rounds.items ++ preprocessed ∷ []) v.claims.items (IsRoundClaimed P.Val.ring E.ring E.embed P.Domain.point_at (P.commits pcs.now)))) }
-    ensures opens { IfOk result (λ o. IfSome o (λ v. P.opens pcs.now challenger v.claims.items v.proof)) }
-    ensures verifier { IfOk result (λ o. IfSome o (λ v. v.verifier ≡ P.after_verify pcs.now challenger v.claims.items v.proof)) }
+        (IsCommittedRound P.Val.ring P.Domain.points P.Domain.point_at (P.commits pcs.now)
+        (P.made pcs.now) (P.holds pcs.now))) (λ ks. P.open_fault pcs.now (requests_of ks))) }
+    ensures accepted { AreFree (P.excludes pcs.now) (rounds.items ++ preprocessed ∷ [])
+        → IfOk result IsSome }
+    ensures claimed { IfOk result
+        (λ o. IfSome o (λ v. EachFrom (rounds.items ++ preprocessed ∷ []) v.claims.items
+        (IsRoundClaimed P.Val.ring E.ring E.embed P.Domain.point_at (P.commits pcs.now)))) }
+    ensures opens { IfOk result
+        (λ o. IfSome o (λ v. P.opens pcs.now challenger v.claims.items v.proof)) }
+    ensures verifier { IfOk result
+        (λ o. IfSome o (λ v. v.verifier
+        ≡ P.after_verify pcs.now challenger v.claims.items v.proof)) }
     ensures one_state { IfOk result (λ o. IfSome o (λ v. v.prover ≡ v.verifier)) }
 {
     let place = Some(rounds.len());

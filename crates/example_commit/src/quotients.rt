@@ -23,7 +23,8 @@ fn parts_of<D: PolynomialSpace>(
     requires power { IsPowerOfTwo num_chunks }
     requires fits { num_chunks ≤ D.points domain.now }
     requires height { height evaluations ≡ D.points domain.now }
-    ensures { IfOk result (λ v. AreParts (D.part domain.now num_chunks) evaluations num_chunks v.items) }
+    ensures { IfOk result (λ v.
+        AreParts (D.part domain.now num_chunks) evaluations num_chunks v.items) }
 {
     let rows = domain.split_evals(alloc, num_chunks, evaluations)?;
     let domains = domain.split_domains(alloc, num_chunks)?;
@@ -54,9 +55,13 @@ fn committed_by_parts<E: ExtensionField<P::Val>, C, P: UnivariateStarkPcs<E, C>>
     requires power { IsPowerOfTwo num_chunks }
     requires fits { num_chunks ≤ P.Domain.points domain.now }
     requires height { height evaluations ≡ P.Domain.points domain.now }
-    ensures refusal { RefusedBy (P.quotient_fault pcs.now domain.now evaluations num_chunks) result }
-    ensures committed { IfOk result (λ w. (parts : List (P.Domain × Rows P.Val)) × AreParts (P.Domain.part domain.now num_chunks) evaluations num_chunks parts
-        × IsCommitment P.Val.ring P.Domain.points P.Domain.point_at (P.commits pcs.now) (P.made pcs.now) (P.holds pcs.now) parts w) }
+    ensures refusal { RefusedBy (P.quotient_fault pcs.now domain.now evaluations num_chunks)
+        result }
+    ensures committed { IfOk result
+        (λ w. (parts : List (P.Domain × Rows P.Val))
+        × AreParts (P.Domain.part domain.now num_chunks) evaluations num_chunks parts
+        × IsCommitment P.Val.ring P.Domain.points P.Domain.point_at (P.commits pcs.now)
+        (P.made pcs.now) (P.holds pcs.now) parts w) }
 {
     let parts = parts_of(alloc, domain, evaluations, num_chunks)?;
     let ldes = pcs.get_quotient_ldes(alloc, parts, num_chunks)?;
@@ -80,9 +85,15 @@ pub fn quotient_committed_twice<E: ExtensionField<P::Val>, C, P: UnivariateStark
     requires fits { num_chunks ≤ P.Domain.points domain }
     requires height { height evaluations ≡ P.Domain.points domain }
     ensures refusal { RefusedBy (P.quotient_fault pcs.now domain evaluations num_chunks) result }
-    ensures by_steps { IfOk result (λ w. (parts : List (P.Domain × Rows P.Val)) × AreParts (P.Domain.part domain num_chunks) evaluations num_chunks parts × P.commits pcs.now parts w.0
+    ensures by_steps { IfOk result
+        (λ w. (parts : List (P.Domain × Rows P.Val))
+        × AreParts (P.Domain.part domain num_chunks) evaluations num_chunks parts
+        × P.commits pcs.now parts w.0
         × (IsFalse P.ZK → w.0 ≡ P.commitment_of pcs.now parts)) }
-    ensures at_once { IfOk result (λ w. (parts : List (P.Domain × Rows P.Val)) × AreParts (P.Domain.part domain num_chunks) evaluations num_chunks parts × P.commits pcs.now parts w.1
+    ensures at_once { IfOk result
+        (λ w. (parts : List (P.Domain × Rows P.Val))
+        × AreParts (P.Domain.part domain num_chunks) evaluations num_chunks parts
+        × P.commits pcs.now parts w.1
         × (IsFalse P.ZK → w.1 ≡ P.commitment_of pcs.now parts)) }
 {
     let copy = evaluations.try_clone(alloc)?;

@@ -30,7 +30,10 @@ pub struct Round<D, F, E> {
 impl<D, F, E> Model for Round<D, F, E> {
     ghost Value = { RoundData D F E };
 
-    ghost view = { λ s. record { evaluations = s.evaluations.items; points = map (λ v. v.items) s.points.items } };
+    ghost view = { λ s. record {
+      evaluations = s.evaluations.items;
+      points = map (λ v. v.items) s.points.items;
+    } };
 }
 
 // The prover data of a round that it committed to.
@@ -45,7 +48,12 @@ pub(crate) struct CommittedRound<D, E, Commitment, ProverData> {
 impl<D, E, Commitment, ProverData> Model for CommittedRound<D, E, Commitment, ProverData> {
     ghost Value = { CommittedRoundData D E Commitment ProverData };
 
-    ghost view = { λ s. record { commitment = s.commitment; prover_data = s.prover_data; domains = s.domains.items; points = map (λ v. v.items) s.points.items } };
+    ghost view = { λ s. record {
+      commitment = s.commitment;
+      prover_data = s.prover_data;
+      domains = s.domains.items;
+      points = map (λ v. v.items) s.points.items;
+    } };
 }
 
 // The domain of each matrix.
@@ -65,7 +73,9 @@ fn committed_round<E: ExtensionField<P::Val>, C, P: Pcs<E, C>>(
     round: Round<P::Domain, P::Val, E>,
 ) -> Result<CommittedRound<P::Domain, E, P::Commitment, P::ProverData>, PcsFailure<P::ProverError>>
     ensures refusal { RefusedBy (P.commit_fault pcs.now round.evaluations) result }
-    ensures prover_rounds { IfOk result (IsCommittedRound P.Val.ring P.Domain.points P.Domain.point_at (P.commits pcs.now) (P.made pcs.now) (P.holds pcs.now) round) }
+    ensures prover_rounds { IfOk result
+        (IsCommittedRound P.Val.ring P.Domain.points P.Domain.point_at (P.commits pcs.now)
+        (P.made pcs.now) (P.holds pcs.now) round) }
 {
     let Round {
         evaluations,
@@ -90,8 +100,12 @@ pub(crate) fn committed_rounds<E: ExtensionField<P::Val>, C, P: Pcs<E, C>>(
     Vec<CommittedRound<P::Domain, E, P::Commitment, P::ProverData>>,
     PcsFailure<P::ProverError>,
 >
-    ensures refusal { RefusedBy (IsCauseOfFirstRefused (λ q. P.commit_fault pcs.now q.evaluations) rounds.items) result }
-    ensures prover_rounds { IfOk result (λ v. EachFrom rounds.items v.items (IsCommittedRound P.Val.ring P.Domain.points P.Domain.point_at (P.commits pcs.now) (P.made pcs.now) (P.holds pcs.now))) }
+    ensures refusal { RefusedBy
+        (IsCauseOfFirstRefused (λ q. P.commit_fault pcs.now q.evaluations) rounds.items) result }
+    ensures prover_rounds { IfOk result
+        (λ v. EachFrom rounds.items v.items
+        (IsCommittedRound P.Val.ring P.Domain.points P.Domain.point_at (P.commits pcs.now)
+        (P.made pcs.now) (P.holds pcs.now))) }
 {
     let mut prover_rounds = Vec::with_capacity(alloc, rounds.len())?;
     for round in rounds {
@@ -152,8 +166,11 @@ fn claims_on<D: Copy, E: Copy>(
     points: &[Vec<E>],
     values: &[Vec<Vec<E>>],
 ) -> Mem<Vec<MatrixOpening<E, D>>>
-    requires { HaveRoundShape domains.now (map (λ v. v.items) points.now) (map matrix_in values.now) }
-    ensures { IfOk result (λ v. v.items ≡ matrix_claims domains.now (map (λ v. v.items) points.now) (map matrix_in values.now)) }
+    requires { HaveRoundShape domains.now (map (λ v. v.items) points.now)
+        (map matrix_in values.now) }
+    ensures { IfOk result (λ v.
+        v.items ≡ matrix_claims domains.now (map (λ v. v.items) points.now)
+        (map matrix_in values.now)) }
 {
     let mut matrices = Vec::with_capacity(alloc, values.len())?;
     for (index, opened) in values.iter().enumerate() {
@@ -174,8 +191,10 @@ pub(crate) fn claims_of<E: ExtensionField<P::Val>, C, P: Pcs<E, C>>(
     values: &[Vec<Vec<Vec<E>>>],
 ) -> Mem<Vec<CommitmentOpening<E, P::Commitment, P::Domain>>>
     requires count { length values.now ≡ length prover_rounds.now }
-    requires shapes { EachFrom prover_rounds.now (map round_in values.now) (λ k ys. HaveRoundShape k.domains k.points ys) }
-    ensures { IfOk result (λ v. v.items ≡ round_claims prover_rounds.now (map round_in values.now)) }
+    requires shapes { EachFrom prover_rounds.now (map round_in values.now)
+        (λ k ys. HaveRoundShape k.domains k.points ys) }
+    ensures { IfOk result (λ v.
+        v.items ≡ round_claims prover_rounds.now (map round_in values.now)) }
 {
     let mut claims = Vec::with_capacity(alloc, values.len())?;
     for (index, opened) in values.iter().enumerate() {

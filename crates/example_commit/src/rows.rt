@@ -34,9 +34,14 @@ pub fn committed_and_opened<T: Copy + Eq, M: Mmcs<T>>(
     requires power { IsPowerOfTwo (height matrix) }
     requires width { M.takes matrix.width }
     requires index { index < height matrix }
-    ensures committed { IfOk result (λ w. (d : M.ProverData) × (M.matrices d ≡ matrix ∷ []) × M.belongs mmcs.now d w.commitment) }
-    ensures row { IfOk result (λ w. lists w.opening.opened_values.items ≡ row_at matrix index ∷ []) }
-    ensures verdict { IfOk result (λ w. IsTrue w.accepted ↔ M.opens mmcs.now w.commitment (dimensions_of (matrix ∷ [])) claimed (lists w.opening.opened_values.items) w.opening.opening_proof) }
+    ensures committed { IfOk result
+        (λ w. (d : M.ProverData) × (M.matrices d ≡ matrix ∷ [])
+        × M.belongs mmcs.now d w.commitment) }
+    ensures row { IfOk result
+        (λ w. lists w.opening.opened_values.items ≡ row_at matrix index ∷ []) }
+    ensures verdict { IfOk result
+        (λ w. IsTrue w.accepted ↔ M.opens mmcs.now w.commitment (dimensions_of (matrix ∷ []))
+        claimed (lists w.opening.opened_values.items) w.opening.opening_proof) }
     ensures accepted { claimed ≡ index → IfOk result (λ w. IsTrue w.accepted) }
 {
     let dimensions = Dimensions {

@@ -44,16 +44,29 @@ pub fn rounds_verified<E: ExtensionField<P::Val>, C: Copy, P: Pcs<E, C>>(
     Option<VerifiedRounds<E, P::Commitment, P::Domain, P::Proof, C>>,
     PcsFailure<P::ProverError>,
 >
-    ensures refused { IfRefused result (FaultInTurn (IsCauseOfFirstRefused (λ q. P.commit_fault pcs.now q.evaluations) rounds.items)
-        (λ ks. EachFrom rounds.items ks (IsCommittedRound P.Val.ring P.Domain.points P.Domain.point_at (P.commits pcs.now) (P.made pcs.now) (P.holds pcs.now)))
+    ensures refused { IfRefused result
+        (FaultInTurn (IsCauseOfFirstRefused (λ q. P.commit_fault pcs.now q.evaluations)
+        rounds.items)
+        (λ ks. EachFrom rounds.items ks
+        (IsCommittedRound P.Val.ring P.Domain.points P.Domain.point_at (P.commits pcs.now)
+        (P.made pcs.now) (P.holds pcs.now)))
         (λ ks. P.open_fault pcs.now (requests_of ks))) }
-    ensures granted { IfOk result (λ _. NoneInTurn (IsCauseOfFirstRefused (λ q. P.commit_fault pcs.now q.evaluations) rounds.items)
-        (λ ks. EachFrom rounds.items ks (IsCommittedRound P.Val.ring P.Domain.points P.Domain.point_at (P.commits pcs.now) (P.made pcs.now) (P.holds pcs.now)))
+    ensures granted { IfOk result
+        (λ _. NoneInTurn (IsCauseOfFirstRefused (λ q. P.commit_fault pcs.now q.evaluations)
+        rounds.items)
+        (λ ks. EachFrom rounds.items ks
+        (IsCommittedRound P.Val.ring P.Domain.points P.Domain.point_at (P.commits pcs.now)
+        (P.made pcs.now) (P.holds pcs.now)))
         (λ ks. P.open_fault pcs.now (requests_of ks))) }
     ensures accepted { AreFree (P.excludes pcs.now) rounds.items → IfOk result IsSome }
-    ensures claimed { IfOk result (λ o. IfSome o (λ v. EachFrom rounds.items v.claims.items (IsRoundClaimed P.Val.ring E.ring E.embed P.Domain.point_at (P.commits pcs.now)))) }
-    ensures opens { IfOk result (λ o. IfSome o (λ v. P.opens pcs.now challenger v.claims.items v.proof)) }
-    ensures verifier { IfOk result (λ o. IfSome o (λ v. v.verifier ≡ P.after_verify pcs.now challenger v.claims.items v.proof)) }
+    ensures claimed { IfOk result
+        (λ o. IfSome o (λ v. EachFrom rounds.items v.claims.items
+        (IsRoundClaimed P.Val.ring E.ring E.embed P.Domain.point_at (P.commits pcs.now)))) }
+    ensures opens { IfOk result
+        (λ o. IfSome o (λ v. P.opens pcs.now challenger v.claims.items v.proof)) }
+    ensures verifier { IfOk result
+        (λ o. IfSome o (λ v. v.verifier
+        ≡ P.after_verify pcs.now challenger v.claims.items v.proof)) }
     ensures one_state { IfOk result (λ o. IfSome o (λ v. v.prover ≡ v.verifier)) }
 {
     let prover_rounds = committed_rounds(alloc, pcs, rounds)?;

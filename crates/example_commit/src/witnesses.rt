@@ -24,11 +24,16 @@ pub fn witness_verified<E: ExtensionField<P::Val>, C: Copy, P: MultilinearPcs<E,
     challenger: C,
 ) -> Result<(P::Commitment, P::Proof), PcsFailure<P::ProverError>>
     ensures refused { IfRefused result
-        (CauseInTurn (P.commit_fault pcs.now witness) (λ (w : P.Commitment × P.ProverData). P.holds pcs.now w.1 w.0 witness) (λ w. P.open_fault pcs.now w.1 protocol.now)) }
-    ensures granted { IfOk result (λ _. NoneInTurn (P.commit_fault pcs.now witness) (λ (w : P.Commitment × P.ProverData). P.holds pcs.now w.1 w.0 witness)
+        (CauseInTurn (P.commit_fault pcs.now witness)
+        (λ (w : P.Commitment × P.ProverData). P.holds pcs.now w.1 w.0 witness)
+        (λ w. P.open_fault pcs.now w.1 protocol.now)) }
+    ensures granted { IfOk result
+        (λ _. NoneInTurn (P.commit_fault pcs.now witness)
+        (λ (w : P.Commitment × P.ProverData). P.holds pcs.now w.1 w.0 witness)
         (λ w. P.open_fault pcs.now w.1 protocol.now)) }
     ensures committed { IfOk result (λ w. (d : P.ProverData) × P.holds pcs.now d w.0 witness) }
-    ensures opens { IfOk result (λ w. P.opens pcs.now (P.observed pcs.now w.0 challenger) w.0 protocol.now w.1) }
+    ensures opens { IfOk result
+        (λ w. P.opens pcs.now (P.observed pcs.now w.0 challenger) w.0 protocol.now w.1) }
 {
     let mut prover = challenger;
     let (commitment, prover_data) = pcs.commit(alloc, witness, &mut prover)?;

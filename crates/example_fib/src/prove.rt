@@ -35,10 +35,13 @@ pub fn prove_fib(
     log_rows: usize,
 ) -> Result<BatchProof<ToolConfig>, ProvingError<PlainProverError>>
     requires { log_rows ≤ 10 }
-    ensures proved { let b = fib_batch start number log_rows in IfOk result (IsBuilt b.setting b.prover b.statement b.traces b.degree_bits) }
-    ensures refusal { IfErr result (Tells (plain_prover_backend tool_scheme) (fib_batch start number log_rows)) }
+    ensures proved { let b = fib_batch start number log_rows in
+        IfOk result (IsBuilt b.setting b.prover b.statement b.traces b.degree_bits) }
+    ensures refusal { IfErr result
+        (Tells (plain_prover_backend tool_scheme) (fib_batch start number log_rows)) }
     ensures accepted { let b = fib_batch start number log_rows in
-        IfOk result (λ q. number ≡ fib baby_bear_ring start (2 ^ log_rows) → DrawsOutside b q → Accepted (tool_setting V2) tool_backend b.statement q) }
+        IfOk result (λ q. number ≡ fib baby_bear_ring start (2 ^ log_rows) → DrawsOutside b q
+        → Accepted (tool_setting V2) tool_backend b.statement q) }
 {
     baby_bear_has_laws();
     fib_rows_mean::<BabyBear>();

@@ -31,7 +31,10 @@ pub fn verify_fib(
     proof: &BatchProof<ToolConfig>,
 ) -> Result<(), BatchVerificationError<PlainError>>
     requires { log_rows ≤ 10 }
-    ensures verdict { IsVerdict (height_check 0 log_rows proof.now ∷ checks (tool_setting V2) tool_backend (fib_statement start number log_rows) proof.now) result }
+    ensures verdict { IsVerdict
+        (height_check 0 log_rows proof.now
+        ∷ checks (tool_setting V2) tool_backend (fib_statement start number log_rows) proof.now)
+        result }
     ensures number { IfOk result (λ _. IsNumber start number log_rows proof.now) }
     ensures few { IfOk result (λ _. AreFew start number log_rows proof.now) }
 {

@@ -16,7 +16,8 @@ use std::marker::PhantomData;
 /// Reads the values that trees are, one after the other.
 #[tactic(auto, using(crate::proofs::Items::reading_begins, crate::proofs::Items::reading_stops))]
 fn read_items<T: JsonForm>(alloc: Global, trees: &[Value]) -> Result<Vec<T::Value>, TreeError>
-    ensures ok { IfOk result (λ v. items_reading T.reading (items_view trees.now) ≡ Some (map T.data_of v.items)) }
+    ensures ok { IfOk result
+        (λ v. items_reading T.reading (items_view trees.now) ≡ Some (map T.data_of v.items)) }
     ensures err { result ≡ Err NoTree → items_reading T.reading (items_view trees.now) ≡ None }
 {
     let mut items = Vec::with_capacity(alloc, trees.len())?;
@@ -33,7 +34,8 @@ pub(crate) fn read_list<T: JsonForm>(
     least: usize,
     most: usize,
 ) -> Result<Vec<T::Value>, TreeError>
-    ensures ok { IfOk result (λ v. list_reading least most T.reading (view json.now) ≡ Some (map T.data_of v.items)) }
+    ensures ok { IfOk result
+        (λ v. list_reading least most T.reading (view json.now) ≡ Some (map T.data_of v.items)) }
     ensures err { result ≡ Err NoTree → list_reading least most T.reading (view json.now) ≡ None }
 {
     match json.as_array() {

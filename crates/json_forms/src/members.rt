@@ -55,8 +55,11 @@ impl<'v> ObjectReader<'v> {
     /// Reads the next member, which has to have this key. It is `NoTree` exactly where there is none, or it has another key or no value of
     /// the form; then a member may be gone.
     pub fn read<T: JsonForm>(&mut self, alloc: Global, key: &str) -> Result<T::Value, TreeError>
-        ensures ok { IfOk result (λ v. member_reading key.now T.reading (members_left self.old) ≡ Some (T.data_of v, members_left self.new)) }
-        ensures err { result ≡ Err NoTree → member_reading key.now T.reading (members_left self.old) ≡ None }
+        ensures ok { IfOk result
+            (λ v. member_reading key.now T.reading (members_left self.old)
+            ≡ Some (T.data_of v, members_left self.new)) }
+        ensures err { result ≡ Err NoTree
+            → member_reading key.now T.reading (members_left self.old) ≡ None }
     {
         match self.rest.next() {
             Some((name, tree)) => if name.as_str() == key {
@@ -71,8 +74,11 @@ impl<'v> ObjectReader<'v> {
     /// Reads the next member, which has to have this key and to be this word. It is `NoTree` exactly where it isn't, and there is no other
     /// error; then a member may be gone.
     pub fn read_word(&mut self, key: &str, word: &str) -> Result<(), TreeError>
-        ensures ok { IfOk result (λ u. member_reading key.now (word_reading word.now) (members_left self.old) ≡ Some (u, members_left self.new)) }
-        ensures err { result ≡ Err NoTree → member_reading key.now (word_reading word.now) (members_left self.old) ≡ None }
+        ensures ok { IfOk result
+            (λ u. member_reading key.now (word_reading word.now) (members_left self.old)
+            ≡ Some (u, members_left self.new)) }
+        ensures err { result ≡ Err NoTree
+            → member_reading key.now (word_reading word.now) (members_left self.old) ≡ None }
         ensures no_memory { IfErr result (λ e. e ≡ NoTree) }
     {
         match self.rest.next() {
@@ -88,9 +94,12 @@ impl<'v> ObjectReader<'v> {
     /// Reads the next member, which has to have this key and to be a number from `least` to `most`. It is `NoTree` exactly where it isn't, and
     /// there is no other error; then a member may be gone.
     pub fn read_number(&mut self, key: &str, least: u64, most: u64) -> Result<u64, TreeError>
-        ensures ok { IfOk result (λ n. member_reading key.now (number_reading least most) (members_left self.old) ≡ Some (n, members_left self.new)) }
+        ensures ok { IfOk result
+            (λ n. member_reading key.now (number_reading least most) (members_left self.old)
+            ≡ Some (n, members_left self.new)) }
         ensures within { IfOk result (λ n. (least ≤ n) × (n ≤ most)) }
-        ensures err { result ≡ Err NoTree → member_reading key.now (number_reading least most) (members_left self.old) ≡ None }
+        ensures err { result ≡ Err NoTree
+            → member_reading key.now (number_reading least most) (members_left self.old) ≡ None }
         ensures no_memory { IfErr result (λ e. e ≡ NoTree) }
     {
         match self.rest.next() {
@@ -135,7 +144,8 @@ impl ObjectWriter {
 
     /// Gives the object the member with this key. The only error is running out of memory, and then the members are as they were or gone.
     pub fn write<T: JsonForm>(&mut self, alloc: Global, key: &str, value: &T::Value) -> Mem<()>
-        ensures { OnOk result (members_made self.new ≡ put key.now (T.tree (T.data_of value.now)) (members_made self.old)) }
+        ensures { OnOk result (members_made self.new
+            ≡ put key.now (T.tree (T.data_of value.now)) (members_made self.old)) }
     {
         let tree = T::write(alloc, value)?;
         serde_json::put(&mut self.members, alloc, key, tree)?;
@@ -144,7 +154,8 @@ impl ObjectWriter {
 
     /// Gives the object the member with this key, which is a number. The only error is running out of memory.
     pub fn write_number(&mut self, alloc: Global, key: &str, number: u64) -> Mem<()>
-        ensures { OnOk result (members_made self.new ≡ put key.now (number_tree number) (members_made self.old)) }
+        ensures { OnOk result (members_made self.new
+            ≡ put key.now (number_tree number) (members_made self.old)) }
     {
         serde_json::put(&mut self.members, alloc, key, Value::from(number))?;
         Ok(())
@@ -152,7 +163,8 @@ impl ObjectWriter {
 
     /// Gives the object the member with this key, which is a word. The only error is running out of memory.
     pub fn write_word(&mut self, alloc: Global, key: &str, word: &str) -> Mem<()>
-        ensures { OnOk result (members_made self.new ≡ put key.now (string word.now) (members_made self.old)) }
+        ensures { OnOk result (members_made self.new
+            ≡ put key.now (string word.now) (members_made self.old)) }
     {
         let tree = Value::from(String::from_str(alloc, word)?);
         serde_json::put(&mut self.members, alloc, key, tree)?;

@@ -20,8 +20,10 @@ const MOST_LOG_HASHES: u64 = 3;
 // Reads the logarithm of the rows of a table of this kind, which has no public values.
 fn read_plain(json: &Value, kind: &str, least: u64, most: u64) -> Result<u8, TreeError>
     requires { most ≤ 255 }
-    ensures ok { IfOk result (λ k. plain_table_reading kind.now least most (view json.now) ≡ Some k) }
-    ensures err { result ≡ Err NoTree → plain_table_reading kind.now least most (view json.now) ≡ None }
+    ensures ok { IfOk result
+        (λ k. plain_table_reading kind.now least most (view json.now) ≡ Some k) }
+    ensures err { result ≡ Err NoTree
+        → plain_table_reading kind.now least most (view json.now) ≡ None }
 {
     let mut members = ObjectReader::new(json)?;
     let k = members.read_number("k", least, most)?;

@@ -24,13 +24,29 @@ use p3_uni_stark::{StarkGenericConfig, Val};
 /// its openings, which is part of its being honest. The field's two-adicity is below 63, so that no degree reaches the greatest
 /// `usize`.
 pub fn honest_proofs_are_accepted<SC: StarkGenericConfig, A: Air<Val<SC>>>()
-    ensures { (config : SC) (airs : List A) (publics : List (List SC.Val)) (common : Common SC.Val SC.Pcs.Commitment) (traces : List (Rows SC.Val)) (degree_bits : List ℕ)
-        (commitment_of : List (CosetData SC.Val × Rows SC.Val) → SC.Pcs.Commitment) (q : ProofData SC.Val SC.Challenge SC.Pcs.Commitment SC.Pcs.Proof)
+    ensures { (config : SC) (airs : List A) (publics : List (List SC.Val))
+        (common : Common SC.Val SC.Pcs.Commitment) (traces : List (Rows SC.Val))
+        (degree_bits : List ℕ)
+        (commitment_of : List (CosetData SC.Val × Rows SC.Val) → SC.Pcs.Commitment)
+        (q : ProofData SC.Val SC.Challenge SC.Pcs.Commitment SC.Pcs.Proof)
         → let c = ⟦<SC as Settings>⟧.setting config in
-        let p : Prover SC.Val SC.Challenge SC.Pcs.Commitment = record { inverse = SC.Challenge.inv; canonical = SC.Val.canonical; commitment_of = commitment_of } in
-        let s : Statement SC.Val SC.Pcs.Commitment = record { tables = tables_of A.declaration A.trees airs; publics = publics; common = common } in
-        SC.Pcs.ZK ≡ false → SC.Val.TWO_ADICITY < 63 → Valid c SC.Val.eq commitment_of s traces degree_bits
+        let p : Prover SC.Val SC.Challenge
+        SC.Pcs.Commitment = record {
+          inverse = SC.Challenge.inv;
+          canonical = SC.Val.canonical;
+          commitment_of = commitment_of;
+        } in
+        let s : Statement SC.Val
+        SC.Pcs.Commitment = record {
+          tables = tables_of A.declaration A.trees airs;
+          publics = publics;
+          common = common;
+        } in
+        SC.Pcs.ZK ≡ false → SC.Val.TWO_ADICITY < 63
+        → Valid c SC.Val.eq commitment_of s traces degree_bits
         → IsHonest c p s traces degree_bits (⟦<SC as Settings>⟧.backend config) q
-        → ((i : ℕ) → i < length airs → IsOutsideRows c (traced_at s traces degree_bits i) (zeta c p s traces degree_bits q.lookup_pow_witness q.ood_pow_witness))
+        → ((i : ℕ) → i < length airs
+        → IsOutsideRows c (traced_at s traces degree_bits i)
+        (zeta c p s traces degree_bits q.lookup_pow_witness q.ood_pow_witness))
         → Accepted c (⟦<SC as Settings>⟧.backend config) s q }
 {}

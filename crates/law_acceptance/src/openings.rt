@@ -26,41 +26,77 @@ use p3_uni_stark::{StarkGenericConfig, Val};
 /// (`mains`), the quotients' chunks (`chunks`), the permutation columns (`permutations`), and the preprocessed traces
 /// (`preprocesseds`), where each of these has a column, as an AIR's does.
 pub fn honest_matrices_are_committed<SC: StarkGenericConfig>()
-    ensures mains { (config : SC) (s : Statement SC.Val SC.Pcs.Commitment) (traces : List (Rows SC.Val)) (degree_bits : List ℕ)
-        (commitment_of : List (CosetData SC.Val × Rows SC.Val) → SC.Pcs.Commitment) (w : Option SC.Val) (z : SC.Val) (held : List (Committed SC.Val))
+    ensures mains { (config : SC) (s : Statement SC.Val SC.Pcs.Commitment)
+        (traces : List (Rows SC.Val)) (degree_bits : List ℕ)
+        (commitment_of : List (CosetData SC.Val × Rows SC.Val) → SC.Pcs.Commitment)
+        (w : Option SC.Val) (z : SC.Val) (held : List (Committed SC.Val))
         → let c = ⟦<SC as Settings>⟧.setting config in
-        let p : Prover SC.Val SC.Challenge SC.Pcs.Commitment = record { inverse = SC.Challenge.inv; canonical = SC.Val.canonical; commitment_of = commitment_of } in
+        let p : Prover SC.Val SC.Challenge
+        SC.Pcs.Commitment = record {
+          inverse = SC.Challenge.inv;
+          canonical = SC.Val.canonical;
+          commitment_of = commitment_of;
+        } in
         SC.Pcs.ZK ≡ false → IsTracedBatch c commitment_of s traces degree_bits
-        → AreCommitted SC.Val.ring ⟦<<SC::Pcs as Pcs<SC::Challenge, SC::Challenger>>::Domain as PolynomialSpace>⟧.points
+        → AreCommitted SC.Val.ring
+        ⟦<<SC::Pcs as Pcs<SC::Challenge, SC::Challenger>>::Domain as PolynomialSpace>⟧.points
         ⟦<<SC::Pcs as Pcs<SC::Challenge, SC::Challenger>>::Domain as PolynomialSpace>⟧.point_at
-        (map (λ (t : TracedTable SC.Val). (subgroup SC.Val.ring t.degree_bits, t.trace)) (all_traced s traces degree_bits)) held
+        (map (λ (t : TracedTable SC.Val). (subgroup SC.Val.ring t.degree_bits, t.trace))
+        (all_traced s traces degree_bits)) held
         → held ≡ committed_of (mains c p s traces degree_bits w z) }
-    ensures chunks { (config : SC) (s : Statement SC.Val SC.Pcs.Commitment) (traces : List (Rows SC.Val)) (degree_bits : List ℕ)
-        (commitment_of : List (CosetData SC.Val × Rows SC.Val) → SC.Pcs.Commitment) (w : Option SC.Val) (z : SC.Val) (held : List (Committed SC.Val))
+    ensures chunks { (config : SC) (s : Statement SC.Val SC.Pcs.Commitment)
+        (traces : List (Rows SC.Val)) (degree_bits : List ℕ)
+        (commitment_of : List (CosetData SC.Val × Rows SC.Val) → SC.Pcs.Commitment)
+        (w : Option SC.Val) (z : SC.Val) (held : List (Committed SC.Val))
         → let c = ⟦<SC as Settings>⟧.setting config in
-        let p : Prover SC.Val SC.Challenge SC.Pcs.Commitment = record { inverse = SC.Challenge.inv; canonical = SC.Val.canonical; commitment_of = commitment_of } in
+        let p : Prover SC.Val SC.Challenge
+        SC.Pcs.Commitment = record {
+          inverse = SC.Challenge.inv;
+          canonical = SC.Val.canonical;
+          commitment_of = commitment_of;
+        } in
         SC.Pcs.ZK ≡ false → IsTracedBatch c commitment_of s traces degree_bits
-        → AreCommitted SC.Val.ring ⟦<<SC::Pcs as Pcs<SC::Challenge, SC::Challenger>>::Domain as PolynomialSpace>⟧.points
+        → AreCommitted SC.Val.ring
+        ⟦<<SC::Pcs as Pcs<SC::Challenge, SC::Challenger>>::Domain as PolynomialSpace>⟧.points
         ⟦<<SC::Pcs as Pcs<SC::Challenge, SC::Challenger>>::Domain as PolynomialSpace>⟧.point_at
-        (flat_map (λ i. chunk_matrices c p (traced_at s traces degree_bits i) (challenges_at c p s traces degree_bits w i) (alpha c p s traces degree_bits w))
+        (flat_map (λ i. chunk_matrices c p (traced_at s traces degree_bits i)
+        (challenges_at c p s traces degree_bits w i) (alpha c p s traces degree_bits w))
         (tabulate (length s.tables) (λ i. i))) held
         → held ≡ committed_of (chunks c p s traces degree_bits w z) }
-    ensures permutations { (config : SC) (s : Statement SC.Val SC.Pcs.Commitment) (traces : List (Rows SC.Val)) (degree_bits : List ℕ)
-        (commitment_of : List (CosetData SC.Val × Rows SC.Val) → SC.Pcs.Commitment) (w : Option SC.Val) (z : SC.Val) (held : List (Committed SC.Val))
+    ensures permutations { (config : SC) (s : Statement SC.Val SC.Pcs.Commitment)
+        (traces : List (Rows SC.Val)) (degree_bits : List ℕ)
+        (commitment_of : List (CosetData SC.Val × Rows SC.Val) → SC.Pcs.Commitment)
+        (w : Option SC.Val) (z : SC.Val) (held : List (Committed SC.Val))
         → let c = ⟦<SC as Settings>⟧.setting config in
-        let p : Prover SC.Val SC.Challenge SC.Pcs.Commitment = record { inverse = SC.Challenge.inv; canonical = SC.Val.canonical; commitment_of = commitment_of } in
+        let p : Prover SC.Val SC.Challenge
+        SC.Pcs.Commitment = record {
+          inverse = SC.Challenge.inv;
+          canonical = SC.Val.canonical;
+          commitment_of = commitment_of;
+        } in
         SC.Pcs.ZK ≡ false → IsTracedBatch c commitment_of s traces degree_bits
-        → AreCommitted SC.Val.ring ⟦<<SC::Pcs as Pcs<SC::Challenge, SC::Challenger>>::Domain as PolynomialSpace>⟧.points
+        → AreCommitted SC.Val.ring
+        ⟦<<SC::Pcs as Pcs<SC::Challenge, SC::Challenger>>::Domain as PolynomialSpace>⟧.points
         ⟦<<SC::Pcs as Pcs<SC::Challenge, SC::Challenger>>::Domain as PolynomialSpace>⟧.point_at
-        (flat_map (λ i. permutation_matrices c p (traced_at s traces degree_bits i) (challenges_at c p s traces degree_bits w i)) (tabulate (length s.tables) (λ i. i))) held
+        (flat_map (λ i. permutation_matrices c p (traced_at s traces degree_bits i)
+        (challenges_at c p s traces degree_bits w i)) (tabulate (length s.tables) (λ i. i))) held
         → held ≡ committed_of (permutations c p s traces degree_bits w z) }
-    ensures preprocesseds { (config : SC) (s : Statement SC.Val SC.Pcs.Commitment) (traces : List (Rows SC.Val)) (degree_bits : List ℕ)
-        (commitment_of : List (CosetData SC.Val × Rows SC.Val) → SC.Pcs.Commitment) (w : Option SC.Val) (z : SC.Val) (held : List (Committed SC.Val))
+    ensures preprocesseds { (config : SC) (s : Statement SC.Val SC.Pcs.Commitment)
+        (traces : List (Rows SC.Val)) (degree_bits : List ℕ)
+        (commitment_of : List (CosetData SC.Val × Rows SC.Val) → SC.Pcs.Commitment)
+        (w : Option SC.Val) (z : SC.Val) (held : List (Committed SC.Val))
         → let c = ⟦<SC as Settings>⟧.setting config in
-        let p : Prover SC.Val SC.Challenge SC.Pcs.Commitment = record { inverse = SC.Challenge.inv; canonical = SC.Val.canonical; commitment_of = commitment_of } in
+        let p : Prover SC.Val SC.Challenge
+        SC.Pcs.Commitment = record {
+          inverse = SC.Challenge.inv;
+          canonical = SC.Val.canonical;
+          commitment_of = commitment_of;
+        } in
         SC.Pcs.ZK ≡ false → IsTracedBatch c commitment_of s traces degree_bits
-        → ((i : ℕ) → i < length s.tables → HasColumns (declared (traced_at s traces degree_bits i)).preprocessed)
-        → AreCommitted SC.Val.ring ⟦<<SC::Pcs as Pcs<SC::Challenge, SC::Challenger>>::Domain as PolynomialSpace>⟧.points
+        → ((i : ℕ) → i < length s.tables
+        → HasColumns (declared (traced_at s traces degree_bits i)).preprocessed)
+        → AreCommitted SC.Val.ring
+        ⟦<<SC::Pcs as Pcs<SC::Challenge, SC::Challenger>>::Domain as PolynomialSpace>⟧.points
         ⟦<<SC::Pcs as Pcs<SC::Challenge, SC::Challenger>>::Domain as PolynomialSpace>⟧.point_at
         (preprocessed_matrices SC.Val.ring.one (all_traced s traces degree_bits)) held
         → held ≡ committed_of (preprocesseds c p s traces degree_bits w z) }
@@ -71,29 +107,57 @@ pub fn honest_matrices_are_committed<SC: StarkGenericConfig>()
 /// openings is this. The proof is taken for the honest claims, unless a point is excluded (`taken`), and the values are those
 /// of the committed polynomials (`values`).
 pub fn an_honest_opening_is_taken<SC: StarkGenericConfig>()
-    ensures taken { (config : SC) (s : Statement SC.Val SC.Pcs.Commitment) (traces : List (Rows SC.Val)) (degree_bits : List ℕ)
-        (commitment_of : List (CosetData SC.Val × Rows SC.Val) → SC.Pcs.Commitment) (w : Option SC.Val) (z : SC.Val)
-        (requests : List (Request SC.Pcs.ProverData SC.Challenge)) (values : List (List (List (List SC.Challenge)))) (proof : SC.Pcs.Proof)
+    ensures taken { (config : SC) (s : Statement SC.Val SC.Pcs.Commitment)
+        (traces : List (Rows SC.Val)) (degree_bits : List ℕ)
+        (commitment_of : List (CosetData SC.Val × Rows SC.Val) → SC.Pcs.Commitment)
+        (w : Option SC.Val) (z : SC.Val)
+        (requests : List (Request SC.Pcs.ProverData SC.Challenge))
+        (values : List (List (List (List SC.Challenge)))) (proof : SC.Pcs.Proof)
         → let c = ⟦<SC as Settings>⟧.setting config in
-        let p : Prover SC.Val SC.Challenge SC.Pcs.Commitment = record { inverse = SC.Challenge.inv; canonical = SC.Val.canonical; commitment_of = commitment_of } in
+        let p : Prover SC.Val SC.Challenge
+        SC.Pcs.Commitment = record {
+          inverse = SC.Challenge.inv;
+          canonical = SC.Val.canonical;
+          commitment_of = commitment_of;
+        } in
         SC.Pcs.ZK ≡ false → IsTracedBatch c commitment_of s traces degree_bits
         → AskFor (honest_rounds c p s traces degree_bits w z) requests
-        → AreOpenedCommitments (SC.Pcs.holds (SC.pcs_of config)) requests (opened_commitments_of (honest_rounds c p s traces degree_bits w z))
-        → ((held : List (OpenedCommitment SC.Pcs.Commitment SC.Val)) → AreOpenedCommitments (SC.Pcs.holds (SC.pcs_of config)) requests held
-        → IsOpening SC.Challenge.ring SC.Challenge.embed ⟦<<SC::Pcs as Pcs<SC::Challenge, SC::Challenger>>::Domain as PolynomialSpace>⟧.points
-        (SC.Pcs.excludes (SC.pcs_of config)) (λ claims. SC.Pcs.opens (SC.pcs_of config) (opening_state c p s traces degree_bits w z) claims proof) requests values held)
+        → AreOpenedCommitments (SC.Pcs.holds (SC.pcs_of config)) requests
+        (opened_commitments_of (honest_rounds c p s traces degree_bits w z))
+        → ((held : List (OpenedCommitment SC.Pcs.Commitment SC.Val))
+        → AreOpenedCommitments (SC.Pcs.holds (SC.pcs_of config)) requests held
+        → IsOpening SC.Challenge.ring SC.Challenge.embed
+        ⟦<<SC::Pcs as Pcs<SC::Challenge, SC::Challenger>>::Domain as PolynomialSpace>⟧.points
+        (SC.Pcs.excludes (SC.pcs_of config))
+        (λ claims. SC.Pcs.opens (SC.pcs_of config) (opening_state c p s traces degree_bits w z)
+        claims proof) requests values held)
         → AvoidAll (SC.Pcs.excludes (SC.pcs_of config)) requests
-        → SC.Pcs.opens (SC.pcs_of config) (opening_state c p s traces degree_bits w z) (honest_claims c p s traces degree_bits w z proof) proof }
-    ensures values { (config : SC) (s : Statement SC.Val SC.Pcs.Commitment) (traces : List (Rows SC.Val)) (degree_bits : List ℕ)
-        (commitment_of : List (CosetData SC.Val × Rows SC.Val) → SC.Pcs.Commitment) (w : Option SC.Val) (z : SC.Val)
-        (requests : List (Request SC.Pcs.ProverData SC.Challenge)) (values : List (List (List (List SC.Challenge)))) (proof : SC.Pcs.Proof)
+        → SC.Pcs.opens (SC.pcs_of config) (opening_state c p s traces degree_bits w z)
+        (honest_claims c p s traces degree_bits w z proof) proof }
+    ensures values { (config : SC) (s : Statement SC.Val SC.Pcs.Commitment)
+        (traces : List (Rows SC.Val)) (degree_bits : List ℕ)
+        (commitment_of : List (CosetData SC.Val × Rows SC.Val) → SC.Pcs.Commitment)
+        (w : Option SC.Val) (z : SC.Val)
+        (requests : List (Request SC.Pcs.ProverData SC.Challenge))
+        (values : List (List (List (List SC.Challenge)))) (proof : SC.Pcs.Proof)
         → let c = ⟦<SC as Settings>⟧.setting config in
-        let p : Prover SC.Val SC.Challenge SC.Pcs.Commitment = record { inverse = SC.Challenge.inv; canonical = SC.Val.canonical; commitment_of = commitment_of } in
+        let p : Prover SC.Val SC.Challenge
+        SC.Pcs.Commitment = record {
+          inverse = SC.Challenge.inv;
+          canonical = SC.Val.canonical;
+          commitment_of = commitment_of;
+        } in
         SC.Pcs.ZK ≡ false → IsTracedBatch c commitment_of s traces degree_bits
         → AskFor (honest_rounds c p s traces degree_bits w z) requests
-        → AreOpenedCommitments (SC.Pcs.holds (SC.pcs_of config)) requests (opened_commitments_of (honest_rounds c p s traces degree_bits w z))
-        → ((held : List (OpenedCommitment SC.Pcs.Commitment SC.Val)) → AreOpenedCommitments (SC.Pcs.holds (SC.pcs_of config)) requests held
-        → IsOpening SC.Challenge.ring SC.Challenge.embed ⟦<<SC::Pcs as Pcs<SC::Challenge, SC::Challenger>>::Domain as PolynomialSpace>⟧.points
-        (SC.Pcs.excludes (SC.pcs_of config)) (λ claims. SC.Pcs.opens (SC.pcs_of config) (opening_state c p s traces degree_bits w z) claims proof) requests values held)
-        → values ≡ values_in_rounds SC.Challenge.ring SC.Challenge.embed (honest_rounds c p s traces degree_bits w z) }
+        → AreOpenedCommitments (SC.Pcs.holds (SC.pcs_of config)) requests
+        (opened_commitments_of (honest_rounds c p s traces degree_bits w z))
+        → ((held : List (OpenedCommitment SC.Pcs.Commitment SC.Val))
+        → AreOpenedCommitments (SC.Pcs.holds (SC.pcs_of config)) requests held
+        → IsOpening SC.Challenge.ring SC.Challenge.embed
+        ⟦<<SC::Pcs as Pcs<SC::Challenge, SC::Challenger>>::Domain as PolynomialSpace>⟧.points
+        (SC.Pcs.excludes (SC.pcs_of config))
+        (λ claims. SC.Pcs.opens (SC.pcs_of config) (opening_state c p s traces degree_bits w z)
+        claims proof) requests values held)
+        → values ≡ values_in_rounds SC.Challenge.ring SC.Challenge.embed
+        (honest_rounds c p s traces degree_bits w z) }
 {}

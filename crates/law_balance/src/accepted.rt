@@ -48,14 +48,17 @@ where
         + CanObserve<PlainCommitment<F>>,
     A: Air<F>,
     requires formed { WellFormed (map A.declaration airs.now) (read_common common.now) }
-    requires accepted { let s = stated A.declaration A.trees airs.now public_values.now common.now in
-        Accepted (⟦<PlainConfig<F, D, E, C> as Settings>⟧.setting config.now) (⟦<PlainConfig<F, D, E, C> as Settings>⟧.backend config.now) s proof.now }
+    requires accepted { let s = stated A.declaration A.trees airs.now public_values.now
+        common.now in
+        Accepted (⟦<PlainConfig<F, D, E, C> as Settings>⟧.setting config.now)
+        (⟦<PlainConfig<F, D, E, C> as Settings>⟧.backend config.now) s proof.now }
     ensures balance { let c = ⟦<PlainConfig<F, D, E, C> as Settings>⟧.setting config.now in
         let s = stated A.declaration A.trees airs.now public_values.now common.now in
         BalanceUnlessUnlucky c config.now.pcs.log_blowup s proof.now F.eq E.inv }
     ensures betas { let c = ⟦<PlainConfig<F, D, E, C> as Settings>⟧.setting config.now in
         let s = stated A.declaration A.trees airs.now public_values.now common.now in
-        HasFewerBuses c config.now.pcs.log_blowup s proof.now F.ORDER_U64 → FewBetasMeet c config.now.pcs.log_blowup s proof.now F.eq E.inv }
+        HasFewerBuses c config.now.pcs.log_blowup s proof.now F.ORDER_U64
+        → FewBetasMeet c config.now.pcs.log_blowup s proof.now F.eq E.inv }
     ensures alphas { let c = ⟦<PlainConfig<F, D, E, C> as Settings>⟧.setting config.now in
         let s = stated A.declaration A.trees airs.now public_values.now common.now in
         FewAlphasAreUnlucky c config.now.pcs.log_blowup s proof.now F.eq E.inv }

@@ -23,24 +23,43 @@ ghost use Rattle.law_checked.specs.Found.{FindsNothing, HasSelectorsAsFactorsAll
 /// So a traced batch is valid where the check finds nothing on each table, each constraint fits its chunks, no bus may carry counts that add up to the order of the
 /// field, and what the tables send balances (`batch`). Of the conditions that `prove_batch` asks for the batch is `IsTracedBatch`.
 pub fn checked_batches_are_valid<S, F, E, C>()
-    ensures table { (c : Setting S F E C) (inverse : E → E) (t : TracedTable F) → FieldsLaws c.field c.extension c.two_adicity inverse → IsTraced c t → HasQuotientDomain c t
+    ensures table { (c : Setting S F E C) (inverse : E → E) (t : TracedTable F)
+        → FieldsLaws c.field c.extension c.two_adicity inverse → IsTraced c t
+        → HasQuotientDomain c t
         → HasSelectorsAsFactorsAll t → FindsNothing c t → OwnHold c t }
-    ensures batch { (c : Setting S F E C) (inverse : E → E) (eq : F → F → Bool) (commitment_of : List (CosetData F × Rows F) → C) (s : Statement F C) (traces : List (Rows F)) (degree_bits : List ℕ)
-        → FieldsLaws c.field c.extension c.two_adicity inverse → IsTracedBatch c commitment_of s traces degree_bits
-        → ((i : ℕ) → i < length s.tables → HasSelectorsAsFactorsAll (traced_at s traces degree_bits i)) → ((i : ℕ) → i < length s.tables → FindsNothing c (traced_at s traces degree_bits i))
-        → ((i : ℕ) → i < length s.tables → AllFit c (traced_at s traces degree_bits i)) → HaveLoadsBelow c.order s.common.lookups (heights_of (masks c) degree_bits (length s.tables))
-        → AreBalanced c eq (all_traced s traces degree_bits) → Valid c eq commitment_of s traces degree_bits }
+    ensures batch { (c : Setting S F E C) (inverse : E → E) (eq : F → F → Bool)
+        (commitment_of : List (CosetData F × Rows F) → C) (s : Statement F C)
+        (traces : List (Rows F)) (degree_bits : List ℕ)
+        → FieldsLaws c.field c.extension c.two_adicity inverse
+        → IsTracedBatch c commitment_of s traces degree_bits
+        → ((i : ℕ) → i < length s.tables
+        → HasSelectorsAsFactorsAll (traced_at s traces degree_bits i))
+        → ((i : ℕ) → i < length s.tables → FindsNothing c (traced_at s traces degree_bits i))
+        → ((i : ℕ) → i < length s.tables → AllFit c (traced_at s traces degree_bits i))
+        → HaveLoadsBelow c.order s.common.lookups
+        (heights_of (masks c) degree_bits (length s.tables))
+        → AreBalanced c eq (all_traced s traces degree_bits)
+        → Valid c eq commitment_of s traces degree_bits }
 {}
 
 /// For a valid statement whose denominators aren't zero, the quotient that is put together of a table's honest chunks is at every point that of the fold of its
 /// constraints by the vanishing polynomial of its rows, whatever folds them. The AIRs read declared cells alone, as each AIR does; for a table of n rows and a
 /// quotient of C chunks, n (C + 1) is below 2^64.
 pub fn valid_batches_have_quotients<S, F, E, C>()
-    ensures { (c : Setting S F E C) (p : Prover F E C) (eq : F → F → Bool) (s : Statement F C) (traces : List (Rows F)) (degree_bits : List ℕ) (lookup_witness : Option F) (i : ℕ) (folding x : E)
-        → FieldsLaws c.field c.extension c.two_adicity p.inverse → Valid c eq p.commitment_of s traces degree_bits → i < length s.tables
-        → let t = traced_at s traces degree_bits i in All (ReadsDeclared (declared_shape (declared t))) t.table.trees
-        → HaveFractions c p s traces degree_bits lookup_witness → 2 ^ log_rows c t * (2 ^ log_parts c t + 1) < 2 ^ 64
+    ensures { (c : Setting S F E C) (p : Prover F E C) (eq : F → F → Bool) (s : Statement F C)
+        (traces : List (Rows F)) (degree_bits : List ℕ) (lookup_witness : Option F) (i : ℕ)
+        (folding x : E)
+        → FieldsLaws c.field c.extension c.two_adicity p.inverse
+        → Valid c eq p.commitment_of s traces degree_bits → i < length s.tables
+        → let t = traced_at s traces degree_bits i in
+        All (ReadsDeclared (declared_shape (declared t))) t.table.trees
+        → HaveFractions c p s traces degree_bits lookup_witness
+        → 2 ^ log_rows c t * (2 ^ log_parts c t + 1) < 2 ^ 64
         → let k = honest_committed_at c p s traces degree_bits lookup_witness i in
-        eval_poly c.extension.ring (quotient_poly c.field c.extension (honest_quotient c.field c.extension k (quotient_shift c) (log_parts c t) (constraints c t) folding)) x
-        ≡ eval_poly c.extension.ring (fold_quotient c.field c.extension k (constraints c t) folding) x }
+        eval_poly c.extension.ring
+        (quotient_poly c.field c.extension
+        (honest_quotient c.field c.extension k (quotient_shift c) (log_parts c t) (constraints c t)
+        folding)) x
+        ≡ eval_poly c.extension.ring (fold_quotient c.field c.extension k (constraints c t) folding)
+        x }
 {}

@@ -6,8 +6,21 @@ use p3_field::{BasedVectorSpace, ExtensionField, FieldCore, RingCore, TwoAdicCor
 
 /// Each two-adic field with a field above it meets the laws that this crate's other laws ask of fields.
 pub fn fields_have_laws<F: TwoAdicField, EF: ExtensionField<F>>()
-    ensures { FieldsLaws (record { ring = F.ring; inv = F.inv; root = F.root; generator = F.GENERATOR })
-        (record { ring = EF.ring; embed = EF.embed; dimension = EF.DIMENSION; basis = EF.basis; coefficients = EF.coefficients; from_coefficients = EF.from_coefficients }) F.TWO_ADICITY EF.inv }
+    ensures { FieldsLaws (record {
+      ring = F.ring;
+      inv = F.inv;
+      root = F.root;
+      generator = F.GENERATOR;
+    })
+        (record {
+          ring = EF.ring;
+          embed = EF.embed;
+          dimension = EF.DIMENSION;
+          basis = EF.basis;
+          coefficients = EF.coefficients;
+          from_coefficients = EF.from_coefficients;
+        }) F.TWO_ADICITY
+        EF.inv }
 {}
 
 /// `BabyBear` and `QuarticExtension` meet them: so there are such fields.

@@ -16,15 +16,22 @@ ghost use Rattle.law_committed.specs.Identity.{CommittedIdentity, CommittedQuoti
 /// value of the identity polynomial is the fold of the trees' values, minus that of the vanishing polynomial times the
 /// quotient's (`value`), so that it is zero exactly where the identity holds (`root`).
 pub fn an_identity_holds_at_roots<F, E>()
-    ensures quotient { (f : TwoAdic F) (e : Extension F E) (top : ℕ) (inverse : E → E) (q : CommittedQuotient F) (x : E) → FieldsLaws f e top inverse
-        → eval_poly e.ring (quotient_poly f e q) x ≡ recombined f e q.domains (chunk_values f e q x) x }
-    ensures value { (f : TwoAdic F) (e : Extension F E) (top : ℕ) (inverse : E → E) (t : CommittedTable F E) (trees : List (Tree F)) (q : CommittedQuotient F)
+    ensures quotient { (f : TwoAdic F) (e : Extension F E) (top : ℕ) (inverse : E → E)
+        (q : CommittedQuotient F) (x : E) → FieldsLaws f e top inverse
+        → eval_poly e.ring (quotient_poly f e q) x
+        ≡ recombined f e q.domains (chunk_values f e q x) x }
+    ensures value { (f : TwoAdic F) (e : Extension F E) (top : ℕ) (inverse : E → E)
+        (t : CommittedTable F E) (trees : List (Tree F)) (q : CommittedQuotient F)
         (alpha x : E) → FieldsLaws f e top inverse
         → eval_poly e.ring (identity_poly f e t trees q alpha) x
         ≡ sub e.ring (fold e.ring alpha (map (eval_tree (reading f e t x)) trees))
-        (e.ring.mul (eval_poly e.ring (rows_vanishing_polynomial f e t) x) (recombined f e q.domains (chunk_values f e q x) x)) }
-    ensures root { (f : TwoAdic F) (e : Extension F E) (top : ℕ) (inverse : E → E) (t : CommittedTable F E) (trees : List (Tree F)) (q : CommittedQuotient F) (alpha x : E) → FieldsLaws f e top inverse
-        → CommittedIdentity f e t trees q alpha x ↔ (eval_poly e.ring (identity_poly f e t trees q alpha) x ≡ e.ring.zero) }
+        (e.ring.mul (eval_poly e.ring (rows_vanishing_polynomial f e t) x)
+        (recombined f e q.domains (chunk_values f e q x) x)) }
+    ensures root { (f : TwoAdic F) (e : Extension F E) (top : ℕ) (inverse : E → E)
+        (t : CommittedTable F E) (trees : List (Tree F)) (q : CommittedQuotient F) (alpha x : E)
+        → FieldsLaws f e top inverse
+        → CommittedIdentity f e t trees q alpha x
+        ↔ (eval_poly e.ring (identity_poly f e t trees q alpha) x ≡ e.ring.zero) }
 {}
 
 /// For a bounded table of n rows and a quotient of C chunks, which are over domains of n points and have degrees below n, the
@@ -32,10 +39,15 @@ pub fn an_identity_holds_at_roots<F, E>()
 /// n (C + 1) - 1, where no tree's degree over the rows is above p (`identity`); these degrees don't stop at the greatest
 /// `usize`.
 pub fn an_identity_has_a_degree<F, E>()
-    ensures quotient { (f : TwoAdic F) (e : Extension F E) (top : ℕ) (inverse : E → E) (t : CommittedTable F E) (q : CommittedQuotient F) → FieldsLaws f e top inverse
-        → IsBoundedQuotient f t q → DegreeBelow e.ring (chunk_count_of q * row_count_of t) (quotient_poly f e q) }
-    ensures identity { (f : TwoAdic F) (e : Extension F E) (top : ℕ) (inverse : E → E) (t : CommittedTable F E) (trees : List (Tree F)) (q : CommittedQuotient F)
+    ensures quotient { (f : TwoAdic F) (e : Extension F E) (top : ℕ) (inverse : E → E)
+        (t : CommittedTable F E) (q : CommittedQuotient F) → FieldsLaws f e top inverse
+        → IsBoundedQuotient f t q
+        → DegreeBelow e.ring (chunk_count_of q * row_count_of t) (quotient_poly f e q) }
+    ensures identity { (f : TwoAdic F) (e : Extension F E) (top : ℕ) (inverse : E → E)
+        (t : CommittedTable F E) (trees : List (Tree F)) (q : CommittedQuotient F)
         (alpha : E) (p : ℕ) → FieldsLaws f e top inverse
-        → t.log_height ≤ top → IsBounded f t → IsBoundedQuotient f t q → All (λ tree. full_polynomial_degree (row_count_of t) (table_periods_of t) tree ≤ p) trees
-        → DegreeBelow e.ring (suc (max p (row_count_of t * (chunk_count_of q + 1) - 1))) (identity_poly f e t trees q alpha) }
+        → t.log_height ≤ top → IsBounded f t → IsBoundedQuotient f t q
+        → All (λ tree. full_polynomial_degree (row_count_of t) (table_periods_of t) tree ≤ p) trees
+        → DegreeBelow e.ring (suc (max p (row_count_of t * (chunk_count_of q + 1) - 1)))
+        (identity_poly f e t trees q alpha) }
 {}

@@ -16,16 +16,21 @@ ghost use Rattle.law_committed.specs.Rows.{CommitsTo};
 /// lookups and challenges, each constraint of the lookups is zero on each of its rows (`lookups`); so where the AIR's are, all
 /// constraints are (`table`).
 pub fn generated_columns_hold<F, E>()
-    ensures lookups { (f : TwoAdic F) (e : Extension F E) (top : ℕ) (inverse : E → E) (t : CommittedTable F E) (traces : TableTraces F) (columns : Rows E)
+    ensures lookups { (f : TwoAdic F) (e : Extension F E) (top : ℕ) (inverse : E → E)
+        (t : CommittedTable F E) (traces : TableTraces F) (columns : Rows E)
         (lookups : List (LookupData F)) (terminal : LookupTerminal E) → FieldsLaws f e top inverse
         → t.log_height ≤ top → CommitsTo f e t traces columns → t.terminals ≡ terminal.0 ∷ []
-        → IsGenerated (argument_over f.ring e.ring inverse e.embed traces.main traces.preprocessed traces.public_values lookups t.challenges) (height traces.main) (Ok (columns, terminal))
+        → IsGenerated (argument_over f.ring e.ring inverse e.embed traces.main traces.preprocessed
+        traces.public_values lookups t.challenges) (height traces.main) (Ok (columns, terminal))
         → All (IsLookup (sent_shape traces.main traces.preprocessed traces.public_values)) lookups
         → Holds f e t (lookup_trees f.ring lookups) }
-    ensures table { (f : TwoAdic F) (e : Extension F E) (top : ℕ) (inverse : E → E) (t : CommittedTable F E) (traces : TableTraces F) (columns : Rows E)
-        (lookups : List (LookupData F)) (terminal : LookupTerminal E) (trees : List (Tree F)) → FieldsLaws f e top inverse
+    ensures table { (f : TwoAdic F) (e : Extension F E) (top : ℕ) (inverse : E → E)
+        (t : CommittedTable F E) (traces : TableTraces F) (columns : Rows E)
+        (lookups : List (LookupData F)) (terminal : LookupTerminal E) (trees : List (Tree F))
+        → FieldsLaws f e top inverse
         → t.log_height ≤ top → CommitsTo f e t traces columns → t.terminals ≡ terminal.0 ∷ []
-        → IsGenerated (argument_over f.ring e.ring inverse e.embed traces.main traces.preprocessed traces.public_values lookups t.challenges) (height traces.main) (Ok (columns, terminal))
+        → IsGenerated (argument_over f.ring e.ring inverse e.embed traces.main traces.preprocessed
+        traces.public_values lookups t.challenges) (height traces.main) (Ok (columns, terminal))
         → All (IsLookup (sent_shape traces.main traces.preprocessed traces.public_values)) lookups
         → Holds f e t trees → Holds f e t (trees ++ lookup_trees f.ring lookups) }
 {}

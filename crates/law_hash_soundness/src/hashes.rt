@@ -52,13 +52,21 @@ where
     A: Air<F>,
     requires order { 2 ^ 20 < F.ORDER_U64 }
     requires formed { WellFormed (map A.declaration airs.now) (read_common common.now) }
-    requires accepted { let s = stated A.declaration A.trees airs.now public_values.now common.now in
-        Accepted (⟦<PlainConfig<F, D, E, C> as Settings>⟧.setting config.now) (⟦<PlainConfig<F, D, E, C> as Settings>⟧.backend config.now) s proof.now }
+    requires accepted { let s = stated A.declaration A.trees airs.now public_values.now
+        common.now in
+        Accepted (⟦<PlainConfig<F, D, E, C> as Settings>⟧.setting config.now)
+        (⟦<PlainConfig<F, D, E, C> as Settings>⟧.backend config.now) s proof.now }
     ensures { let c = ⟦<PlainConfig<F, D, E, C> as Settings>⟧.setting config.now in
         let s = stated A.declaration A.trees airs.now public_values.now common.now in
-        (IsAlphaUnlucky c config.now.pcs.log_blowup s proof.now → ⊥) → (IsZetaUnlucky c config.now.pcs.log_blowup s proof.now → ⊥) → (i row : ℕ) (air : A) → i < length airs.now
-        → A.trees (get_or airs.now i air) ≡ blake3_trees F.ring → (A.declaration (get_or airs.now i air)).width ≡ 9168 → row < 2 ^ bits_at proof.now.degree_bits i
-        → (x : Input) × AreWords x × (main_row c.field (committed_table_at c config.now.pcs.log_blowup s proof.now i) row ≡ trace_row F.ring x) }
+        (IsAlphaUnlucky c config.now.pcs.log_blowup s proof.now → ⊥)
+        → (IsZetaUnlucky c config.now.pcs.log_blowup s proof.now → ⊥) → (i row : ℕ) (air : A)
+        → i < length airs.now
+        → A.trees (get_or airs.now i air) ≡ blake3_trees F.ring
+        → (A.declaration (get_or airs.now i air)).width ≡ 9168
+        → row < 2 ^ bits_at proof.now.degree_bits i
+        → (x : Input) × AreWords x
+        × (main_row c.field (committed_table_at c config.now.pcs.log_blowup s proof.now i) row
+        ≡ trace_row F.ring x) }
 {
     opened_claims_bind::<F, E>();
     fields_have_laws::<F, E>();

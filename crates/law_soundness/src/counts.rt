@@ -49,35 +49,53 @@ where
         + CanObserve<PlainCommitment<F>>,
     A: Air<F>,
     requires formed { WellFormed (map A.declaration airs.now) (read_common common.now) }
-    requires accepted { let s = stated A.declaration A.trees airs.now public_values.now common.now in
-        Accepted (⟦<PlainConfig<F, D, E, C> as Settings>⟧.setting config.now) (⟦<PlainConfig<F, D, E, C> as Settings>⟧.backend config.now) s proof.now }
+    requires accepted { let s = stated A.declaration A.trees airs.now public_values.now
+        common.now in
+        Accepted (⟦<PlainConfig<F, D, E, C> as Settings>⟧.setting config.now)
+        (⟦<PlainConfig<F, D, E, C> as Settings>⟧.backend config.now) s proof.now }
     ensures row_alphas { let c = ⟦<PlainConfig<F, D, E, C> as Settings>⟧.setting config.now in
         let s = stated A.declaration A.trees airs.now public_values.now common.now in
-        (t : DividedTable F E) (row : ℕ) (alphas : List E) → Contains (committed_batch c config.now.pcs.log_blowup s proof.now) t → 0 < length t.trees → AreDistinct c.extension.ring.zero alphas
-        → All (IsUnluckyAlphaAt c.field c.extension t.table t.trees row) alphas → length alphas < length t.trees }
+        (t : DividedTable F E) (row : ℕ) (alphas : List E)
+        → Contains (committed_batch c config.now.pcs.log_blowup s proof.now) t → 0 < length t.trees
+        → AreDistinct c.extension.ring.zero alphas
+        → All (IsUnluckyAlphaAt c.field c.extension t.table t.trees row) alphas
+        → length alphas < length t.trees }
     ensures none { let c = ⟦<PlainConfig<F, D, E, C> as Settings>⟧.setting config.now in
         let s = stated A.declaration A.trees airs.now public_values.now common.now in
-        (t : DividedTable F E) (alpha : E) → Contains (committed_batch c config.now.pcs.log_blowup s proof.now) t → length t.trees ≡ 0
+        (t : DividedTable F E) (alpha : E)
+        → Contains (committed_batch c config.now.pcs.log_blowup s proof.now) t → length t.trees ≡ 0
         → IsUnluckyAlpha c.field c.extension t.table t.trees alpha → ⊥ }
     ensures table_alphas { let c = ⟦<PlainConfig<F, D, E, C> as Settings>⟧.setting config.now in
         let s = stated A.declaration A.trees airs.now public_values.now common.now in
-        (t : DividedTable F E) (alphas : List E) → Contains (committed_batch c config.now.pcs.log_blowup s proof.now) t → AreDistinct c.extension.ring.zero alphas
-        → All (IsUnluckyAlpha c.field c.extension t.table t.trees) alphas → length alphas ≤ most_alphas t }
+        (t : DividedTable F E) (alphas : List E)
+        → Contains (committed_batch c config.now.pcs.log_blowup s proof.now) t
+        → AreDistinct c.extension.ring.zero alphas
+        → All (IsUnluckyAlpha c.field c.extension t.table t.trees) alphas
+        → length alphas ≤ most_alphas t }
     ensures table_zetas { let c = ⟦<PlainConfig<F, D, E, C> as Settings>⟧.setting config.now in
         let s = stated A.declaration A.trees airs.now public_values.now common.now in
-        (t : DividedTable F E) (alpha : E) (zetas : List E) → Contains (committed_batch c config.now.pcs.log_blowup s proof.now) t → AreDistinct c.extension.ring.zero zetas
-        → All (IsUnluckyZeta c.field c.extension t.table t.trees t.quotient alpha) zetas → length zetas ≤ most_zetas t }
+        (t : DividedTable F E) (alpha : E) (zetas : List E)
+        → Contains (committed_batch c config.now.pcs.log_blowup s proof.now) t
+        → AreDistinct c.extension.ring.zero zetas
+        → All (IsUnluckyZeta c.field c.extension t.table t.trees t.quotient alpha) zetas
+        → length zetas ≤ most_zetas t }
     ensures chunks { let c = ⟦<PlainConfig<F, D, E, C> as Settings>⟧.setting config.now in
         let s = stated A.declaration A.trees airs.now public_values.now common.now in
-        (i : ℕ) → i < length airs.now → chunk_count_of (committed_quotient c config.now.pcs.log_blowup s proof.now i) ≡ chunk_count c s proof.now i }
+        (i : ℕ) → i < length airs.now
+        → chunk_count_of (committed_quotient c config.now.pcs.log_blowup s proof.now i)
+        ≡ chunk_count c s proof.now i }
     ensures alphas { let c = ⟦<PlainConfig<F, D, E, C> as Settings>⟧.setting config.now in
         let s = stated A.declaration A.trees airs.now public_values.now common.now in
         let batch = committed_batch c config.now.pcs.log_blowup s proof.now in
-        (alphas : List E) → AreDistinct c.extension.ring.zero alphas → All (IsUnluckyAlphaOfBatch c.field c.extension batch) alphas → length alphas ≤ sum (map most_alphas batch) }
+        (alphas : List E) → AreDistinct c.extension.ring.zero alphas
+        → All (IsUnluckyAlphaOfBatch c.field c.extension batch) alphas
+        → length alphas ≤ sum (map most_alphas batch) }
     ensures zetas { let c = ⟦<PlainConfig<F, D, E, C> as Settings>⟧.setting config.now in
         let s = stated A.declaration A.trees airs.now public_values.now common.now in
         let batch = committed_batch c config.now.pcs.log_blowup s proof.now in
-        (alpha : E) (zetas : List E) → AreDistinct c.extension.ring.zero zetas → All (IsUnluckyZetaOfBatch c.field c.extension batch alpha) zetas → length zetas ≤ sum (map most_zetas batch) }
+        (alpha : E) (zetas : List E) → AreDistinct c.extension.ring.zero zetas
+        → All (IsUnluckyZetaOfBatch c.field c.extension batch alpha) zetas
+        → length zetas ≤ sum (map most_zetas batch) }
 {
     opened_claims_bind::<F, E>();
     fields_have_laws::<F, E>();

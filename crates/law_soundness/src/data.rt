@@ -23,29 +23,69 @@ use plain_pcs::opened_claims_bind;
 /// as its backend, and of each statement whose common data is well-formed and whose constraints read declared cells. So it
 /// holds of configurations of other types too, where their backend is this.
 pub fn accepted_batches_hold<S, F: TwoAdicField, E: ExtensionField<F>, P>()
-    ensures opened { let f : TwoAdic F = record { ring = F.ring; inv = F.inv; root = F.root; generator = F.GENERATOR } in
-        let e : Extension F E = record { ring = E.ring; embed = E.embed; dimension = E.DIMENSION; basis = E.basis; coefficients = E.coefficients; from_coefficients = E.from_coefficients } in
-        (c : Setting S F E (PlainCommitmentData F)) (log_blowup : ℕ) (s : Statement F (PlainCommitmentData F)) (p : ProofData F E (PlainCommitmentData F) P)
+    ensures opened { let f : TwoAdic
+        F = record { ring = F.ring; inv = F.inv; root = F.root; generator = F.GENERATOR } in
+        let e : Extension F E = record {
+          ring = E.ring;
+          embed = E.embed;
+          dimension = E.DIMENSION;
+          basis = E.basis;
+          coefficients = E.coefficients;
+          from_coefficients = E.from_coefficients;
+        } in
+        (c : Setting S F E (PlainCommitmentData F)) (log_blowup : ℕ)
+        (s : Statement F (PlainCommitmentData F)) (p : ProofData F E (PlainCommitmentData F) P)
         → IsOverFields f e F.TWO_ADICITY c → c.zk ≡ false
-        → WellFormed (map (λ t. t.declaration) s.tables) s.common → Accepted c (plain_backend c log_blowup) s p
+        → WellFormed (map (λ t. t.declaration) s.tables) s.common
+        → Accepted c (plain_backend c log_blowup) s p
         → AllCommittedValues c log_blowup s p (drawn_of c s p).zeta }
-    ensures columns { let f : TwoAdic F = record { ring = F.ring; inv = F.inv; root = F.root; generator = F.GENERATOR } in
-        let e : Extension F E = record { ring = E.ring; embed = E.embed; dimension = E.DIMENSION; basis = E.basis; coefficients = E.coefficients; from_coefficients = E.from_coefficients } in
-        (c : Setting S F E (PlainCommitmentData F)) (log_blowup : ℕ) (s : Statement F (PlainCommitmentData F)) (p : ProofData F E (PlainCommitmentData F) P)
+    ensures columns { let f : TwoAdic
+        F = record { ring = F.ring; inv = F.inv; root = F.root; generator = F.GENERATOR } in
+        let e : Extension F E = record {
+          ring = E.ring;
+          embed = E.embed;
+          dimension = E.DIMENSION;
+          basis = E.basis;
+          coefficients = E.coefficients;
+          from_coefficients = E.from_coefficients;
+        } in
+        (c : Setting S F E (PlainCommitmentData F)) (log_blowup : ℕ)
+        (s : Statement F (PlainCommitmentData F)) (p : ProofData F E (PlainCommitmentData F) P)
         → IsOverFields f e F.TWO_ADICITY c → c.zk ≡ false
-        → WellFormed (map (λ t. t.declaration) s.tables) s.common → Accepted c (plain_backend c log_blowup) s p
+        → WellFormed (map (λ t. t.declaration) s.tables) s.common
+        → Accepted c (plain_backend c log_blowup) s p
         → AllHaveColumns c log_blowup s p }
-    ensures low { let f : TwoAdic F = record { ring = F.ring; inv = F.inv; root = F.root; generator = F.GENERATOR } in
-        let e : Extension F E = record { ring = E.ring; embed = E.embed; dimension = E.DIMENSION; basis = E.basis; coefficients = E.coefficients; from_coefficients = E.from_coefficients } in
-        (c : Setting S F E (PlainCommitmentData F)) (log_blowup : ℕ) (s : Statement F (PlainCommitmentData F)) (p : ProofData F E (PlainCommitmentData F) P)
+    ensures low { let f : TwoAdic
+        F = record { ring = F.ring; inv = F.inv; root = F.root; generator = F.GENERATOR } in
+        let e : Extension F E = record {
+          ring = E.ring;
+          embed = E.embed;
+          dimension = E.DIMENSION;
+          basis = E.basis;
+          coefficients = E.coefficients;
+          from_coefficients = E.from_coefficients;
+        } in
+        (c : Setting S F E (PlainCommitmentData F)) (log_blowup : ℕ)
+        (s : Statement F (PlainCommitmentData F)) (p : ProofData F E (PlainCommitmentData F) P)
         → IsOverFields f e F.TWO_ADICITY c → c.zk ≡ false
-        → WellFormed (map (λ t. t.declaration) s.tables) s.common → Accepted c (plain_backend c log_blowup) s p
+        → WellFormed (map (λ t. t.declaration) s.tables) s.common
+        → Accepted c (plain_backend c log_blowup) s p
         → All (HasLowDegrees c.field) (committed_batch c log_blowup s p) }
-    ensures holds { let f : TwoAdic F = record { ring = F.ring; inv = F.inv; root = F.root; generator = F.GENERATOR } in
-        let e : Extension F E = record { ring = E.ring; embed = E.embed; dimension = E.DIMENSION; basis = E.basis; coefficients = E.coefficients; from_coefficients = E.from_coefficients } in
-        (c : Setting S F E (PlainCommitmentData F)) (log_blowup : ℕ) (s : Statement F (PlainCommitmentData F)) (p : ProofData F E (PlainCommitmentData F) P)
+    ensures holds { let f : TwoAdic
+        F = record { ring = F.ring; inv = F.inv; root = F.root; generator = F.GENERATOR } in
+        let e : Extension F E = record {
+          ring = E.ring;
+          embed = E.embed;
+          dimension = E.DIMENSION;
+          basis = E.basis;
+          coefficients = E.coefficients;
+          from_coefficients = E.from_coefficients;
+        } in
+        (c : Setting S F E (PlainCommitmentData F)) (log_blowup : ℕ)
+        (s : Statement F (PlainCommitmentData F)) (p : ProofData F E (PlainCommitmentData F) P)
         → IsOverFields f e F.TWO_ADICITY c → c.zk ≡ false
-        → WellFormed (map (λ t. t.declaration) s.tables) s.common → ReadDeclared s → Accepted c (plain_backend c log_blowup) s p
+        → WellFormed (map (λ t. t.declaration) s.tables) s.common → ReadDeclared s
+        → Accepted c (plain_backend c log_blowup) s p
         → HoldUnlessUnlucky c log_blowup s p }
 {
     opened_claims_bind::<F, E>();

@@ -60,8 +60,10 @@ where
         + CanObserve<PlainCommitment<F>>,
     A: Air<F>,
     requires formed { WellFormed (map A.declaration airs.now) (read_common common.now) }
-    requires accepted { let s = stated A.declaration A.trees airs.now public_values.now common.now in
-        Accepted (⟦<PlainConfig<F, D, E, C> as Settings>⟧.setting config.now) (⟦<PlainConfig<F, D, E, C> as Settings>⟧.backend config.now) s proof.now }
+    requires accepted { let s = stated A.declaration A.trees airs.now public_values.now
+        common.now in
+        Accepted (⟦<PlainConfig<F, D, E, C> as Settings>⟧.setting config.now)
+        (⟦<PlainConfig<F, D, E, C> as Settings>⟧.backend config.now) s proof.now }
     ensures opened { let c = ⟦<PlainConfig<F, D, E, C> as Settings>⟧.setting config.now in
         let s = stated A.declaration A.trees airs.now public_values.now common.now in
         AllCommittedValues c config.now.pcs.log_blowup s proof.now (drawn_of c s proof.now).zeta }
@@ -76,8 +78,10 @@ where
         HoldUnlessUnlucky c config.now.pcs.log_blowup s proof.now }
     ensures own { let c = ⟦<PlainConfig<F, D, E, C> as Settings>⟧.setting config.now in
         let s = stated A.declaration A.trees airs.now public_values.now common.now in
-        CommittedTablesHold c config.now.pcs.log_blowup s proof.now → (i : ℕ) (air : A) → i < length airs.now
-        → Holds c.field c.extension (committed_table_at c config.now.pcs.log_blowup s proof.now i) (A.trees (get_or airs.now i air)) }
+        CommittedTablesHold c config.now.pcs.log_blowup s proof.now → (i : ℕ) (air : A)
+        → i < length airs.now
+        → Holds c.field c.extension (committed_table_at c config.now.pcs.log_blowup s proof.now i)
+        (A.trees (get_or airs.now i air)) }
 {
     opened_claims_bind::<F, E>();
     fields_have_laws::<F, E>();

@@ -45,12 +45,16 @@ where
         + CanObserve<PlainCommitment<F>>,
     A: Air<F>,
     requires formed { WellFormed (map A.declaration airs.now) (read_common common.now) }
-    requires accepted { let s = stated A.declaration A.trees airs.now public_values.now common.now in
-        Accepted (⟦<PlainConfig<F, D, E, C> as Settings>⟧.setting config.now) (⟦<PlainConfig<F, D, E, C> as Settings>⟧.backend config.now) s proof.now }
+    requires accepted { let s = stated A.declaration A.trees airs.now public_values.now
+        common.now in
+        Accepted (⟦<PlainConfig<F, D, E, C> as Settings>⟧.setting config.now)
+        (⟦<PlainConfig<F, D, E, C> as Settings>⟧.backend config.now) s proof.now }
     ensures { let c = ⟦<PlainConfig<F, D, E, C> as Settings>⟧.setting config.now in
         let s = stated A.declaration A.trees airs.now public_values.now common.now in
-        (IsAlphaUnlucky c config.now.pcs.log_blowup s proof.now → ⊥) → (IsZetaUnlucky c config.now.pcs.log_blowup s proof.now → ⊥)
-        → (i : ℕ) (air : A) (a b x : F) → i < length airs.now → A.trees (get_or airs.now i air) ≡ swap_trees → get_or s.publics i [] ≡ swap_publics a b x
+        (IsAlphaUnlucky c config.now.pcs.log_blowup s proof.now → ⊥)
+        → (IsZetaUnlucky c config.now.pcs.log_blowup s proof.now → ⊥)
+        → (i : ℕ) (air : A) (a b x : F) → i < length airs.now
+        → A.trees (get_or airs.now i air) ≡ swap_trees → get_or s.publics i [] ≡ swap_publics a b x
         → EndsSwapped (bits_at proof.now.degree_bits i) a b x }
 {
     opened_claims_bind::<F, E>();

@@ -14,9 +14,13 @@ ghost use Rattle.law_swap_checks.specs.SwapShape.{IsSwapShape, SwapProof};
 /// short list in plain terms, `swap_checks`: no check of the one fails exactly where none of the other does (`accepted`), and the
 /// first that fails has the same refusals (`refused`). There are proofs of that shape for tables of each height (`met`).
 pub fn swap_proofs_are_checked_alike()
-    ensures accepted { (version : TranscriptVersion) (k : ℕ) (a b x : BabyBear) (p : SwapProof) → k ≤ 10 → IsSwapShape k p
-        → NoneFails (checks (tool_setting version) tool_backend (tool_statement (Swap k a b x ∷ [])) p) ↔ NoneFails (swap_checks version k a b x p) }
-    ensures refused { (version : TranscriptVersion) (k : ℕ) (a b x : BabyBear) (p : SwapProof) (e : Refusal) → k ≤ 10 → IsSwapShape k p
-        → FirstFails (checks (tool_setting version) tool_backend (tool_statement (Swap k a b x ∷ [])) p) e ↔ FirstFails (swap_checks version k a b x p) e }
+    ensures accepted { (version : TranscriptVersion) (k : ℕ) (a b x : BabyBear) (p : SwapProof)
+        → k ≤ 10 → IsSwapShape k p
+        → NoneFails (checks (tool_setting version) tool_backend (tool_statement (Swap k a b x ∷ []))
+        p) ↔ NoneFails (swap_checks version k a b x p) }
+    ensures refused { (version : TranscriptVersion) (k : ℕ) (a b x : BabyBear) (p : SwapProof)
+        (e : Refusal) → k ≤ 10 → IsSwapShape k p
+        → FirstFails (checks (tool_setting version) tool_backend
+        (tool_statement (Swap k a b x ∷ [])) p) e ↔ FirstFails (swap_checks version k a b x p) e }
     ensures met { (k : ℕ) → (p : SwapProof) × IsSwapShape k p }
 {}

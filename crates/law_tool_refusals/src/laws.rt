@@ -19,9 +19,13 @@ ghost use Rattle.tool_verifier.specs.declared.status.Status.TheVariants.{Refused
 /// heights of preprocessed traces, or a periodic column. So the line with which `verify` refuses bytes names a table of another height than is stated, or a
 /// refusal that may come (`line`), and so does that of `balance` (`balance`). No command, for any words and bytes, answers with the line of another (`never`).
 pub fn verify_refuses_only_so()
-    ensures fault { (version : TranscriptVersion) (tables : List TableStatement) (p : ToolProofData) (e : BatchVerificationError PlainError) → All TableWithin tables → length tables ≤ 8
-        → HaveStatedHeights tables p.degree_bits → FirstFault (tool_setting version) tool_backend (tool_statement tables) p e → MayCome e }
+    ensures fault { (version : TranscriptVersion) (tables : List TableStatement) (p : ToolProofData)
+        (e : BatchVerificationError PlainError) → All TableWithin tables → length tables ≤ 8
+        → HaveStatedHeights tables p.degree_bits
+        → FirstFault (tool_setting version) tool_backend (tool_statement tables) p e → MayCome e }
     ensures line { (bytes text : List ℕ) → IsVerifyAnswer bytes Refused text → IsPossibleLine text }
-    ensures balance { (bytes text : List ℕ) → IsBalanceAnswer bytes Refused text → IsPossibleLine text }
-    ensures never { (words : List (List ℕ)) (bytes : List ℕ) (e : BatchVerificationError PlainError) → (MayCome e → ⊥) → IsAnswer words bytes Refused (fault_text e) → ⊥ }
+    ensures balance { (bytes text : List ℕ) → IsBalanceAnswer bytes Refused text
+        → IsPossibleLine text }
+    ensures never { (words : List (List ℕ)) (bytes : List ℕ) (e : BatchVerificationError PlainError)
+        → (MayCome e → ⊥) → IsAnswer words bytes Refused (fault_text e) → ⊥ }
 {}

@@ -32,9 +32,11 @@ use p3_field::{BabyBear, QuarticExtension};
 /// A configuration over `BabyBear` and its quartic extension serves for jobs, where its backend masks nothing and takes traces of
 /// one row and of up to 2^10 rows.
 pub fn baby_bear_serves_jobs<C, Com>()
-    ensures { (challenger : ChallengerOf C BabyBear QuarticExtension Com) (initial : C) (log_max lookup_bits ood_bits : ℕ)
+    ensures { (challenger : ChallengerOf C BabyBear QuarticExtension Com) (initial : C)
+        (log_max lookup_bits ood_bits : ℕ)
         (version : TranscriptVersion) → 10 ≤ log_max
-        → ServesJobs (baby_bear_setting challenger initial log_max lookup_bits ood_bits version) quartic_inv }
+        → ServesJobs (baby_bear_setting challenger initial log_max lookup_bits ood_bits version)
+        quartic_inv }
 {}
 
 /// The traces of a job's table meet its AIR's constraints: each is zero on each row of the table that is committed to as the
@@ -43,17 +45,25 @@ pub fn baby_bear_serves_jobs<C, Com>()
 /// the constraints of compressions mean compressions over the field (`ServesTable`): `row_means` of `blake3_prime` has that for each
 /// prime field of more than 2^20 elements.
 pub fn a_jobs_table_holds<F, E>()
-    ensures { (f : TwoAdic F) (e : Extension F E) (top : ℕ) (inverse : E → E) (j : JobTable F) → FieldsLaws f e top inverse → IsJobTableWithin j → ServesTable f.ring j → job_log_height_of j ≤ top
-        → Holds f e (committed_traces f e (traces_of (traced_job f.ring j)) no_rows [] [] (job_log_height_of j)) (source_of_job f.ring j).trees }
+    ensures { (f : TwoAdic F) (e : Extension F E) (top : ℕ) (inverse : E → E) (j : JobTable F)
+        → FieldsLaws f e top inverse → IsJobTableWithin j → ServesTable f.ring j
+        → job_log_height_of j ≤ top
+        → Holds f e (committed_traces f e (traces_of (traced_job f.ring j)) no_rows [] []
+        (job_log_height_of j)) (source_of_job f.ring j).trees }
 {}
 
 /// All constraints of a job's table, those of its lookups among them, fit any number of chunks from that of the table's sizing on,
 /// over any number of rows (`fits`). The sizing is two chunks for a hash table and one for the others (`sized`), so these fit any
 /// number of chunks but none.
 pub fn a_jobs_table_fits<F>()
-    ensures fits { (r : Ring F) (j : JobTable F) (n chunks : ℕ) → 0 < n → 2 ^ chunks_of_table r 0 n (job_table r j) (lookups_of (source_of_job r j).interactions) ≤ chunks
-        → All (FitsChunks n (periods_of (source_of_job r j).declaration) chunks) (table_trees r (source_of_job r j).trees (lookups_of (source_of_job r j).interactions)) }
-    ensures sized { (r : Ring F) (j : JobTable F) (n : ℕ) → 0 < n → chunks_of_table r 0 n (job_table r j) (lookups_of (source_of_job r j).interactions) ≡ log_parts_of j }
+    ensures fits { (r : Ring F) (j : JobTable F) (n chunks : ℕ) → 0 < n
+        → 2 ^ chunks_of_table r 0 n (job_table r j) (lookups_of (source_of_job r j).interactions)
+        ≤ chunks
+        → All (FitsChunks n (periods_of (source_of_job r j).declaration) chunks)
+        (table_trees r (source_of_job r j).trees (lookups_of (source_of_job r j).interactions)) }
+    ensures sized { (r : Ring F) (j : JobTable F) (n : ℕ) → 0 < n
+        → chunks_of_table r 0 n (job_table r j) (lookups_of (source_of_job r j).interactions)
+        ≡ log_parts_of j }
 {}
 
 /// Every job is valid: at most eight tables within the limits, in which each word is taken as often as it is given. The AIRs are
@@ -61,12 +71,16 @@ pub fn a_jobs_table_fits<F>()
 /// these: their lookups, packed within any budgets, the commitment to their preprocessed traces with its entries; it is
 /// well-formed. The configuration serves for jobs, and its backend's commitment is `commitment_of`, as one that masks nothing has it.
 pub fn every_job_is_valid<C, F, E, Com, PD>()
-    ensures { (c : Setting C F E Com) (inverse : E → E) (eq : F → F → Bool) (job : List (JobTable F)) (airs : List (ToolAir F)) (budgets : List ℕ)
-        (commitment_of : List (CosetData F × Rows F) → Com) (common : Common F Com) (kept : Option PD)
+    ensures { (c : Setting C F E Com) (inverse : E → E) (eq : F → F → Bool)
+        (job : List (JobTable F)) (airs : List (ToolAir F)) (budgets : List ℕ)
+        (commitment_of : List (CosetData F × Rows F) → Com) (common : Common F Com)
+        (kept : Option PD)
         → ServesJobs c inverse → IsJob eq job → AreAirsOf c.field.ring job airs
-        → let sources = map (source_of (tool_declaration c.field.ring) (tool_trees c.field.ring) (tool_interactions c.field.ring)) airs in let bits = map job_log_height_of job in
+        → let sources = map (source_of (tool_declaration c.field.ring) (tool_trees c.field.ring)
+        (tool_interactions c.field.ring)) airs in let bits = map job_log_height_of job in
         common.lookups ≡ tabulate (length airs) (packed_at c.field.ring 0 sources bits budgets)
-        → IsPrepared {P = PD} (λ es w. w.0 ≡ commitment_of es) (tabulate (length airs) (entry_at c.field.ring.one sources bits))
+        → IsPrepared {P = PD} (λ es w. w.0 ≡ commitment_of es)
+        (tabulate (length airs) (entry_at c.field.ring.one sources bits))
         (committed_below c.field.ring.one sources bits (length airs)) common.preprocessed kept
         → WellFormed (map (tool_declaration c.field.ring) airs) common
         → Valid c eq commitment_of (record {

@@ -22,15 +22,26 @@ use p3_uni_stark::{StarkGenericConfig, Val};
 /// Every job is valid with the common data that `ProverData::from_airs_and_degrees_with_lookup_budgets` makes for it: what that
 /// promises of the lookups, of the preprocessed traces and of the whole are the premises, and the backend's commitment is its own.
 pub fn every_job_that_is_set_up_is_valid<SC: StarkGenericConfig>()
-    ensures { (config : SC) (job : List (JobTable SC.Val)) (airs : List (ToolAir SC.Val)) (budgets : List ℕ) (common : Common SC.Val SC.Pcs.Commitment) (kept : Option SC.Pcs.ProverData)
-        → let c = ⟦<SC as Settings>⟧.setting config in ServesJobs c SC.Challenge.inv → IsJob SC.Val.eq job → AreAirsOf SC.Val.ring job airs
-        → let sources = map (source_of (tool_declaration SC.Val.ring) (tool_trees SC.Val.ring) (tool_interactions SC.Val.ring)) airs in let bits = map job_log_height_of job in
+    ensures { (config : SC) (job : List (JobTable SC.Val)) (airs : List (ToolAir SC.Val))
+        (budgets : List ℕ) (common : Common SC.Val SC.Pcs.Commitment)
+        (kept : Option SC.Pcs.ProverData)
+        → let c = ⟦<SC as Settings>⟧.setting config in
+        ServesJobs c SC.Challenge.inv → IsJob SC.Val.eq job → AreAirsOf SC.Val.ring job airs
+        → let sources = map (source_of (tool_declaration SC.Val.ring) (tool_trees SC.Val.ring)
+        (tool_interactions SC.Val.ring)) airs in let bits = map job_log_height_of job in
         common.lookups ≡ tabulate (length airs) (packed_at SC.Val.ring 0 sources bits budgets)
-        → IsPrepared (λ es p. IsCommitment SC.Val.ring ⟦<<SC::Pcs as Pcs<SC::Challenge, SC::Challenger>>::Domain as PolynomialSpace>⟧.points
-        ⟦<<SC::Pcs as Pcs<SC::Challenge, SC::Challenger>>::Domain as PolynomialSpace>⟧.point_at (SC.Pcs.commits (SC.pcs_of config)) (SC.Pcs.made (SC.pcs_of config))
+        → IsPrepared (λ es p. IsCommitment SC.Val.ring
+        ⟦<<SC::Pcs as Pcs<SC::Challenge, SC::Challenger>>::Domain as PolynomialSpace>⟧.points
+        ⟦<<SC::Pcs as Pcs<SC::Challenge, SC::Challenger>>::Domain as PolynomialSpace>⟧.point_at
+        (SC.Pcs.commits (SC.pcs_of config)) (SC.Pcs.made (SC.pcs_of config))
         (SC.Pcs.holds (SC.pcs_of config)) es p)
-        (tabulate (length airs) (entry_at SC.Val.ring.one sources bits)) (committed_below SC.Val.ring.one sources bits (length airs)) common.preprocessed kept
+        (tabulate (length airs) (entry_at SC.Val.ring.one sources bits))
+        (committed_below SC.Val.ring.one sources bits (length airs)) common.preprocessed kept
         → WellFormed (map (tool_declaration SC.Val.ring) airs) common
         → Valid c SC.Val.eq (SC.Pcs.commitment_of (SC.pcs_of config))
-        (record { tables = tables_of (tool_declaration SC.Val.ring) (tool_trees SC.Val.ring) airs; publics = map job_publics_of job; common = common }) (map (trace_of SC.Val.ring) job) bits }
+        (record {
+          tables = tables_of (tool_declaration SC.Val.ring) (tool_trees SC.Val.ring) airs;
+          publics = map job_publics_of job;
+          common = common;
+        }) (map (trace_of SC.Val.ring) job) bits }
 {}

@@ -26,10 +26,13 @@ ghost use Rattle.law_transcript.specs.Streams.{ArePlayedAlike, HaveSameParts, Te
 /// lookups' pair (`pair`), alpha (`alpha`), and from zeta on all that is drawn and the state at the opening (`zeta`). So nothing that a
 /// prover chooses after a draw has a part in it.
 pub fn draws_come_from_before<S, F, E, Com, Opening>()
-    ensures pair { (c : Setting S F E Com) (s : Statement F Com) (p q : ProofData F E Com Opening) → AgreeBeforePair p q → HaveOnePair c s p q }
-    ensures alpha { (c : Setting S F E Com) (s : Statement F Com) (p q : ProofData F E Com Opening) → AgreeBeforeAlpha p q
+    ensures pair { (c : Setting S F E Com) (s : Statement F Com) (p q : ProofData F E Com Opening)
+        → AgreeBeforePair p q → HaveOnePair c s p q }
+    ensures alpha { (c : Setting S F E Com) (s : Statement F Com) (p q : ProofData F E Com Opening)
+        → AgreeBeforeAlpha p q
         → (drawn_of c s p).alpha ≡ (drawn_of c s q).alpha }
-    ensures zeta { (c : Setting S F E Com) (s : Statement F Com) (p q : ProofData F E Com Opening) → AgreeBeforeZeta p q
+    ensures zeta { (c : Setting S F E Com) (s : Statement F Com) (p q : ProofData F E Com Opening)
+        → AgreeBeforeZeta p q
         → drawn_of c s p ≡ drawn_of c s q }
 {}
 
@@ -37,18 +40,25 @@ pub fn draws_come_from_before<S, F, E, Com, Opening>()
 /// the pair is drawn (`messages`); the committed tables are before alpha (`tables`), and with them the set of the unlucky alphas
 /// (`alphas`); the quotients are before zeta, and with them that of the unlucky zetas (`zetas`).
 pub fn unlucky_sets_come_from_before<S, F, E, Opening>()
-    ensures messages { (c : Setting S F E (PlainCommitmentData F)) (log_blowup : ℕ) (s : Statement F (PlainCommitmentData F))
-        (p q : ProofData F E (PlainCommitmentData F) Opening) → AgreeBeforePair p q → messages_of_proof c log_blowup s p ≡ messages_of_proof c log_blowup s q }
-    ensures tables { (c : Setting S F E (PlainCommitmentData F)) (log_blowup : ℕ) (s : Statement F (PlainCommitmentData F))
+    ensures messages { (c : Setting S F E (PlainCommitmentData F)) (log_blowup : ℕ)
+        (s : Statement F (PlainCommitmentData F))
+        (p q : ProofData F E (PlainCommitmentData F) Opening) → AgreeBeforePair p q
+        → messages_of_proof c log_blowup s p ≡ messages_of_proof c log_blowup s q }
+    ensures tables { (c : Setting S F E (PlainCommitmentData F)) (log_blowup : ℕ)
+        (s : Statement F (PlainCommitmentData F))
         (p q : ProofData F E (PlainCommitmentData F) Opening) → AgreeBeforeAlpha p q
         → (i : ℕ) → committed_table_at c log_blowup s p i ≡ committed_table_at c log_blowup s q i }
-    ensures alphas { (c : Setting S F E (PlainCommitmentData F)) (log_blowup : ℕ) (s : Statement F (PlainCommitmentData F))
+    ensures alphas { (c : Setting S F E (PlainCommitmentData F)) (log_blowup : ℕ)
+        (s : Statement F (PlainCommitmentData F))
         (p q : ProofData F E (PlainCommitmentData F) Opening) → AgreeBeforeAlpha p q
-        → (alpha : E) → IsUnluckyAlphaOfBatch c.field c.extension (committed_batch c log_blowup s p) alpha
+        → (alpha : E) → IsUnluckyAlphaOfBatch c.field c.extension (committed_batch c log_blowup s p)
+        alpha
         → IsUnluckyAlphaOfBatch c.field c.extension (committed_batch c log_blowup s q) alpha }
-    ensures zetas { (c : Setting S F E (PlainCommitmentData F)) (log_blowup : ℕ) (s : Statement F (PlainCommitmentData F))
+    ensures zetas { (c : Setting S F E (PlainCommitmentData F)) (log_blowup : ℕ)
+        (s : Statement F (PlainCommitmentData F))
         (p q : ProofData F E (PlainCommitmentData F) Opening) → AgreeBeforeZeta p q
-        → (alpha zeta : E) → IsUnluckyZetaOfBatch c.field c.extension (committed_batch c log_blowup s p) alpha zeta
+        → (alpha zeta : E) → IsUnluckyZetaOfBatch c.field c.extension
+        (committed_batch c log_blowup s p) alpha zeta
         → IsUnluckyZetaOfBatch c.field c.extension (committed_batch c log_blowup s q) alpha zeta }
 {}
 
@@ -57,8 +67,10 @@ pub fn unlucky_sets_come_from_before<S, F, E, Opening>()
 /// which other challenges are drawn. It asks that extension elements and commitments are told by the base elements that they are observed as, and degree bits,
 /// which enter as sums of ones, by these.
 pub fn streams_tell_their_parts<F, E, Com>()
-    ensures told { (r : Ring E) (coefficients : E → List F) (opaque : Com → List F) (most d : ℕ) (s : BatchShapeData) (g h : Given F E Com)
-        → TellElements r coefficients opaque most → FitsShape s g → FitsShape s h → All (λ n. n < most) g.degree_bits → All (λ n. n < most) h.degree_bits
+    ensures told { (r : Ring E) (coefficients : E → List F) (opaque : Com → List F) (most d : ℕ)
+        (s : BatchShapeData) (g h : Given F E Com)
+        → TellElements r coefficients opaque most → FitsShape s g → FitsShape s h
+        → All (λ n. n < most) g.degree_bits → All (λ n. n < most) h.degree_bits
         → ArePlayedAlike coefficients opaque r d s g h → HaveSameParts s g h }
 {}
 
@@ -66,7 +78,9 @@ pub fn streams_tell_their_parts<F, E, Com>()
 /// observed as, and a challenge by as many draws as it has coefficients. So a verifier that has only base elements plays the same transcript. That prover and
 /// verifier play this one is `transcripts_are_one_fold` of `batch_transcript`.
 pub fn batches_play_by_elements<S, F, E, Com>()
-    ensures { (c : ChallengerOf S F E Com) (b : ElementChallenger S F) (coefficients : E → List F) (opaque : Com → List F) (f : Ring F) (r : Ring E)
+    ensures { (c : ChallengerOf S F E Com) (b : ElementChallenger S F) (coefficients : E → List F)
+        (opaque : Com → List F) (f : Ring F) (r : Ring E)
         (d : ℕ) (initial : S) (s : BatchShapeData) (g : Given F E Com)
-        → IsOverElements c b coefficients opaque d → PlaysByElements c b coefficients opaque f r d initial s g }
+        → IsOverElements c b coefficients opaque d
+        → PlaysByElements c b coefficients opaque f r d initial s g }
 {}

@@ -103,16 +103,21 @@ pub trait GrindingChallenger: CanSampleBits + CanObserve<Self::Witness> {
     /// where it does not.
     fn check_witness(&mut self, bits: usize, value: Self::Witness) -> bool
         requires { 2 ^ bits < Self.Witness.ORDER_U64 }
-        ensures answer { IsTrue result ↔ PassesGrinding Self.observed Self.bits_drawn self.old bits value }
-        ensures state { self.new ≡ checked_state Self.observed Self.after_bits self.old bits value };
+        ensures answer { IsTrue result
+            ↔ PassesGrinding Self.observed Self.bits_drawn self.old bits value }
+        ensures state { self.new
+            ≡ checked_state Self.observed Self.after_bits self.old bits value };
 
     /// The witness of least canonical value that passes, with the state after its check, where `2 ^ bits` is below the
     /// order of its field. `None` is where no element passes, and then nothing changes.
     fn grind(&mut self, bits: usize) -> Option<Self::Witness>
         requires { 2 ^ bits < Self.Witness.ORDER_U64 }
         ensures answer { MatchOption result
-            ((n : ℕ) → n < Self.Witness.ORDER_U64 → PassesGrinding Self.observed Self.bits_drawn self.old bits (of_nat Self.Witness.ring n) → ⊥)
-            (λ w. IsLeast (λ n. PassesGrinding Self.observed Self.bits_drawn self.old bits (of_nat Self.Witness.ring n)) (Self.Witness.canonical w)) }
+            ((n : ℕ) → n < Self.Witness.ORDER_U64
+            → PassesGrinding Self.observed Self.bits_drawn self.old bits
+            (of_nat Self.Witness.ring n) → ⊥)
+            (λ w. IsLeast (λ n. PassesGrinding Self.observed Self.bits_drawn self.old bits
+            (of_nat Self.Witness.ring n)) (Self.Witness.canonical w)) }
         ensures state { MatchOption result
             (self.new ≡ self.old)
             (λ w. self.new ≡ checked_state Self.observed Self.after_bits self.old bits w) };

@@ -42,7 +42,12 @@ impl<C> ProverState<C> {
     pub fn new<F: Field>(alloc: Global, challenger: C, separator: &DomainSeparator) -> Mem<Self>
     where
         C: CanObserve<F> + Drop,
-        ensures { IfOk result (λ s. s ≡ record { state = fold C.observed challenger (map (of_nat F.ring) (encoding separator.now)); remaining = separator.now.steps }) }
+        ensures { IfOk result (λ s.
+            s ≡ record {
+              state = fold C.observed challenger
+                  (map (of_nat F.ring) (encoding separator.now));
+              remaining = separator.now.steps;
+            }) }
     {
         let mut challenger = challenger;
         let encoding = separator.encode(alloc)?;
@@ -69,7 +74,8 @@ impl<C> ProverState<C> {
     pub fn public<T>(&mut self, values: &[T])
     where
         C: CanObserve<T>,
-        requires { NextIs (IsStepOf InteractionKind.Public (Length.Fixed (length values.now))) self.old.remaining }
+        requires { NextIs (IsStepOf InteractionKind.Public (Length.Fixed (length values.now)))
+            self.old.remaining }
         ensures { self.new ≡ played self.old (fold C.observed self.old.state values.now) }
     {
         self.challenger.observe_slice(values);
@@ -104,11 +110,16 @@ impl<C> ProverState<C> {
         requires turn { NextIs (IsStep InteractionKind.Pow) self.old.remaining }
         requires few { 2 ^ next_bits self.old.remaining < C.Witness.ORDER_U64 }
         ensures answer { let bits = next_bits self.old.remaining in MatchOption result
-            ((n : ℕ) → n < C.Witness.ORDER_U64 → PassesGrinding C.observed C.bits_drawn self.old.state bits (of_nat C.Witness.ring n) → ⊥)
-            (λ w. IsLeast (λ n. PassesGrinding C.observed C.bits_drawn self.old.state bits (of_nat C.Witness.ring n)) (C.Witness.canonical w)) }
+            ((n : ℕ) → n < C.Witness.ORDER_U64
+            → PassesGrinding C.observed C.bits_drawn self.old.state bits (of_nat C.Witness.ring n)
+            → ⊥)
+            (λ w. IsLeast (λ n. PassesGrinding C.observed C.bits_drawn self.old.state bits
+            (of_nat C.Witness.ring n)) (C.Witness.canonical w)) }
         ensures state { MatchOption result
             (self.new ≡ self.old)
-            (λ w. self.new ≡ played self.old (checked_state C.observed C.after_bits self.old.state (next_bits self.old.remaining) w)) }
+            (λ w. self.new ≡ played self.old
+            (checked_state C.observed C.after_bits self.old.state (next_bits self.old.remaining)
+            w)) }
     {
         let witness = self.challenger.grind(next_number(&self.remaining))?;
         let _ = self.remaining.pop_front();

@@ -23,13 +23,19 @@ impl Model for DomainSeparator {
 
     ghost Value = { Separator };
 
-    ghost view = { λ s. record { version = s.version; name = s.name.items; steps = s.pattern; instance = s.instance.items } };
+    ghost view = { λ s. record {
+      version = s.version;
+      name = s.name.items;
+      steps = s.pattern;
+      instance = s.instance.items;
+    } };
 }
 
 impl DomainSeparator {
     /// A separator of this version byte, name and pattern. Its instance label is empty.
     pub fn new(alloc: Global, version: u8, name: &[u8], pattern: InteractionPattern) -> Mem<Self>
-        ensures { IfOk result (λ s. s ≡ record { version = version; name = name.now; steps = pattern; instance = [] }) }
+        ensures { IfOk result (λ s.
+            s ≡ record { version = version; name = name.now; steps = pattern; instance = [] }) }
     {
         Ok(DomainSeparator {
             version,
@@ -41,7 +47,8 @@ impl DomainSeparator {
 
     /// Appends bytes to the instance label. Out of memory leaves the separator as it was.
     pub fn instance(&mut self, label: &[u8]) -> Mem<()>
-        ensures appended { OnOk result (self.new ≡ record self.old { instance = self.old.instance ++ label.now }) }
+        ensures appended { OnOk result
+            (self.new ≡ record self.old { instance = self.old.instance ++ label.now }) }
         ensures unchanged { OnErr result (self.new ≡ self.old) }
     {
         self.instance.extend_from_slice(label)?;

@@ -42,7 +42,12 @@ impl<C> VerifierState<C> {
     pub fn new<F: Field>(alloc: Global, challenger: C, separator: &DomainSeparator) -> Mem<Self>
     where
         C: CanObserve<F> + Drop,
-        ensures { IfOk result (λ s. s ≡ record { state = fold C.observed challenger (map (of_nat F.ring) (encoding separator.now)); remaining = separator.now.steps }) }
+        ensures { IfOk result (λ s.
+            s ≡ record {
+              state = fold C.observed challenger
+                  (map (of_nat F.ring) (encoding separator.now));
+              remaining = separator.now.steps;
+            }) }
     {
         let mut challenger = challenger;
         let encoding = separator.encode(alloc)?;
@@ -69,7 +74,8 @@ impl<C> VerifierState<C> {
     pub fn public<T>(&mut self, values: &[T])
     where
         C: CanObserve<T>,
-        requires { NextIs (IsStepOf InteractionKind.Public (Length.Fixed (length values.now))) self.old.remaining }
+        requires { NextIs (IsStepOf InteractionKind.Public (Length.Fixed (length values.now)))
+            self.old.remaining }
         ensures { self.new ≡ played self.old (fold C.observed self.old.state values.now) }
     {
         self.challenger.observe_slice(values);
@@ -103,8 +109,12 @@ impl<C> VerifierState<C> {
         C: GrindingChallenger,
         requires turn { NextIs (IsStep InteractionKind.Pow) self.old.remaining }
         requires few { 2 ^ next_bits self.old.remaining < C.Witness.ORDER_U64 }
-        ensures answer { IsTrue result ↔ PassesGrinding C.observed C.bits_drawn self.old.state (next_bits self.old.remaining) value }
-        ensures state { self.new ≡ played self.old (checked_state C.observed C.after_bits self.old.state (next_bits self.old.remaining) value) }
+        ensures answer { IsTrue result
+            ↔ PassesGrinding C.observed C.bits_drawn self.old.state (next_bits self.old.remaining)
+            value }
+        ensures state { self.new
+            ≡ played self.old (checked_state C.observed C.after_bits self.old.state
+            (next_bits self.old.remaining) value) }
     {
         let passes = self
             .challenger

@@ -23,7 +23,9 @@ pub fn values_on_coset<F: TwoAdicField>(
 ) -> Mem<Vec<F>>
     requires subgroup { log_size ≤ F.TWO_ADICITY }
     requires fits { length coefficients.now ≤ 2 ^ log_size }
-    ensures { IfOk result (λ v. v.items ≡ values_at F.ring (coset_point F.ring shift (F.root log_size)) (2 ^ log_size) coefficients.now) }
+    ensures { IfOk result (λ v.
+        v.items ≡ values_at F.ring (coset_point F.ring shift (F.root log_size)) (2 ^ log_size)
+        coefficients.now) }
 {
     let m = RowMajorMatrix::new_col(Vec::from_slice(alloc, coefficients)?);
     let values = coset_values(&Radix2Dit, alloc, &m, shift, log_size)?;
@@ -43,7 +45,8 @@ pub fn interpolant_on_coset<F: TwoAdicField>(
     requires subgroup { log_size ≤ F.TWO_ADICITY }
     requires size { length values.now ≡ 2 ^ log_size }
     requires shift { shift ≡ F.ring.zero → ⊥ }
-    ensures { IfOk result (λ f. IsInterpolant F.ring (coset_point F.ring shift (F.root log_size)) values.now f.items) }
+    ensures { IfOk result (λ f.
+        IsInterpolant F.ring (coset_point F.ring shift (F.root log_size)) values.now f.items) }
 {
     let m = RowMajorMatrix::new_col(Vec::from_slice(alloc, values)?);
     let coefficients = coset_interpolants(&Radix2Dit, alloc, &m, shift, log_size)?;

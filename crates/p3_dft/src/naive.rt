@@ -39,7 +39,8 @@ impl RowTransform for NaiveDft {
 
 // The value at a point of each column's polynomial.
 fn values_at_point<F: Field>(alloc: Global, m: &RowMajorMatrix<F>, point: F) -> Mem<Vec<F>>
-    ensures { IfOk result (λ v. v.items ≡ tabulate m.now.width (λ j. eval_poly F.ring (column F.ring.zero m.now j) point)) }
+    ensures { IfOk result (λ v.
+        v.items ≡ tabulate m.now.width (λ j. eval_poly F.ring (column F.ring.zero m.now j) point)) }
 {
     let mut values = Vec::with_capacity(alloc, m.width())?;
     for j in 0..m.width() {

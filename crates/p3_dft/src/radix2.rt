@@ -52,7 +52,8 @@ fn push_reversed<F: RingCore>(
 ) -> Mem<()>
     requires start { start < stride }
     requires fits { stride * 2 ^ bits < 2 ^ 64 }
-    ensures { IfOk result (λ _. PutsReversed F.ring m.now start stride bits rows.old.items rows.new.items) }
+    ensures { IfOk result (λ _.
+        PutsReversed F.ring m.now start stride bits rows.old.items rows.new.items) }
 {
     if bits > 0 {
         push_reversed(rows, m, start, 2 * stride, bits - 1)?;
@@ -70,8 +71,12 @@ fn push_reversed<F: RingCore>(
 // Puts so many zeros after what is there.
 fn push_zeros<F: RingCore>(rows: &mut Vec<F>, count: usize) -> Mem<()>
     ensures length { IfOk result (λ _. length rows.new.items ≡ length rows.old.items + count) }
-    ensures before { IfOk result (λ _. (k : ℕ) → k < length rows.old.items → get_or rows.new.items k F.ring.zero ≡ get_or rows.old.items k F.ring.zero) }
-    ensures zeros { IfOk result (λ _. (k : ℕ) → length rows.old.items ≤ k → get_or rows.new.items k F.ring.zero ≡ F.ring.zero) }
+    ensures before { IfOk result
+        (λ _. (k : ℕ) → k < length rows.old.items
+        → get_or rows.new.items k F.ring.zero ≡ get_or rows.old.items k F.ring.zero) }
+    ensures zeros { IfOk result
+        (λ _. (k : ℕ) → length rows.old.items ≤ k
+        → get_or rows.new.items k F.ring.zero ≡ F.ring.zero) }
 {
     for _ in 0..count {
         rows.push(F::ZERO)?;
@@ -85,8 +90,12 @@ fn combine_rows<F: Field>(first: &mut [F], second: &mut [F], width: usize, shift
     requires same { length first.old ≡ length second.old }
     requires positive { 0 < width }
     requires filled { length first.old / width * width ≡ length first.old }
-    ensures first { (k : ℕ) → k < length first.old → get_or first.new k F.ring.zero ≡ summed F.ring width shift generator first.old second.old k }
-    ensures second { (k : ℕ) → k < length first.old → get_or second.new k F.ring.zero ≡ subtracted F.ring width shift generator first.old second.old k }
+    ensures first { (k : ℕ) → k < length first.old
+        → get_or first.new k F.ring.zero
+        ≡ summed F.ring width shift generator first.old second.old k }
+    ensures second { (k : ℕ) → k < length first.old
+        → get_or second.new k F.ring.zero
+        ≡ subtracted F.ring width shift generator first.old second.old k }
 {
     let rows = first.len() / width;
     let mut point = shift;
@@ -109,7 +118,9 @@ fn transform_rows<F: Field>(values: &mut [F], width: usize, shift: F, generator:
     requires filled { length values.old ≡ 2 ^ bits * width }
     requires turns { TurnsIn F.ring bits generator }
     ensures length { length values.new ≡ length values.old }
-    ensures columns { (j : ℕ) (f : List F) → j < width → length f ≤ 2 ^ bits → AreReversed F.ring width bits values.old j f → AreValues F.ring width shift generator bits values.new j f }
+    ensures columns { (j : ℕ) (f : List F) → j < width → length f ≤ 2 ^ bits
+        → AreReversed F.ring width bits values.old j f
+        → AreValues F.ring width shift generator bits values.new j f }
 {
     if bits > 0 {
         let half = values.len() / 2;

@@ -29,7 +29,9 @@ pub(crate) trait RowTransform {
         ensures width { IfOk result (λ v. v.width ≡ m.now.width) }
         ensures height { IfOk result (λ v. 0 < m.now.width → height v ≡ 2 ^ bits) }
         ensures columns { IfOk result (λ v. (j : ℕ) → j < m.now.width
-            → column F.ring.zero v j ≡ values_at F.ring (coset_point F.ring shift generator) (2 ^ bits) (column F.ring.zero m.now j)) };
+            → column F.ring.zero v j
+            ≡ values_at F.ring (coset_point F.ring shift generator) (2 ^ bits)
+            (column F.ring.zero m.now j)) };
 }
 
 // Row i times weight * step^i.
@@ -37,7 +39,8 @@ fn weighed_rows<F: Field>(m: RowMajorMatrix<F>, weight: F, step: F) -> RowMajorM
     requires { 0 < m.width }
     ensures width { result.width ≡ m.width }
     ensures height { height result ≡ height m }
-    ensures columns { (j : ℕ) → j < m.width → column F.ring.zero result j ≡ weighted F.ring weight step (column F.ring.zero m j) }
+    ensures columns { (j : ℕ) → j < m.width
+        → column F.ring.zero result j ≡ weighted F.ring weight step (column F.ring.zero m j) }
 {
     let width = m.width();
     let rows = m.height();
@@ -64,7 +67,9 @@ pub(crate) fn coset_values<F: TwoAdicField, T: RowTransform>(
     requires fits { height m.now ≤ 2 ^ log_size }
     ensures width { IfOk result (λ v. v.width ≡ m.now.width) }
     ensures columns { IfOk result (λ v. (j : ℕ) → j < m.now.width
-        → column F.ring.zero v j ≡ values_at F.ring (coset_point F.ring shift (F.root log_size)) (2 ^ log_size) (column F.ring.zero m.now j)) }
+        → column F.ring.zero v j
+        ≡ values_at F.ring (coset_point F.ring shift (F.root log_size)) (2 ^ log_size)
+        (column F.ring.zero m.now j)) }
 {
     transform.rows_on_powers(alloc, m, shift, F::two_adic_generator(log_size), log_size)
 }
@@ -84,7 +89,8 @@ pub(crate) fn coset_interpolants<F: TwoAdicField, T: RowTransform>(
     ensures width { IfOk result (λ v. v.width ≡ m.now.width) }
     ensures height { IfOk result (λ v. height v ≡ 2 ^ log_size) }
     ensures columns { IfOk result (λ v. (j : ℕ) → j < m.now.width
-        → IsInterpolant F.ring (coset_point F.ring shift (F.root log_size)) (column F.ring.zero m.now j) (column F.ring.zero v j)) }
+        → IsInterpolant F.ring (coset_point F.ring shift (F.root log_size))
+        (column F.ring.zero m.now j) (column F.ring.zero v j)) }
 {
     let generator = F::two_adic_generator(log_size).inverse();
     let values = transform.rows_on_powers(alloc, m, F::ONE, generator, log_size)?;

@@ -43,7 +43,9 @@ impl<F: TwoAdicCore> TwoAdicMultiplicativeCoset<F> {
     /// The coset with this shift and 2^`log_size` points; None exactly where `log_size` is above
     /// `TWO_ADICITY` or the shift is zero.
     pub fn new(shift: F, log_size: usize) -> Option<Self>
-        ensures { MatchOption result ((F.TWO_ADICITY < log_size) ⊎ (shift ≡ F.ring.zero)) (λ c. (c.shift ≡ shift) × (c.log_size ≡ log_size) × (log_size ≤ F.TWO_ADICITY) × (shift ≡ F.ring.zero → ⊥)) }
+        ensures { MatchOption result ((F.TWO_ADICITY < log_size) ⊎ (shift ≡ F.ring.zero))
+            (λ c. (c.shift ≡ shift) × (c.log_size ≡ log_size) × (log_size ≤ F.TWO_ADICITY)
+            × (shift ≡ F.ring.zero → ⊥)) }
     {
         if log_size > F::TWO_ADICITY || shift.is_zero() {
             None

@@ -110,7 +110,8 @@ pub trait FieldCore: RingCore + Eq {
 
     /// The inverse; None exactly for zero.
     fn try_inverse(&self) -> Option<Self>
-        ensures { MatchOption result (self.now ≡ Self.ring.zero) (λ y. (y ≡ inv self.now) × ((self.now ≡ Self.ring.zero) → ⊥)) };
+        ensures { MatchOption result (self.now ≡ Self.ring.zero)
+            (λ y. (y ≡ inv self.now) × ((self.now ≡ Self.ring.zero) → ⊥)) };
 
     /// The inverse of a value that isn't zero (test: `is_zero`).
     fn inverse(&self) -> Self
@@ -293,11 +294,13 @@ pub trait ExtensionField<F: FieldCore>: Field + BasedVectorSpace<F> {
     /// The sum of `c[i]` times basis element i; None exactly where the number of coefficients
     /// isn't `DIMENSION`.
     fn from_ext_basis_coefficients(c: &[Self]) -> Option<Self>
-        ensures { MatchOption result (length c.now ≡ Self.DIMENSION → ⊥) (λ y. (length c.now ≡ Self.DIMENSION) × (y ≡ combine Self.ring basis 0 c.now)) };
+        ensures { MatchOption result (length c.now ≡ Self.DIMENSION → ⊥)
+            (λ y. (length c.now ≡ Self.DIMENSION) × (y ≡ combine Self.ring basis 0 c.now)) };
 
     // Zero, one, sums and products of the base are kept.
     ghost embed_laws: { RingHom F.ring Self.ring embed };
 
     // A value is the sum of its coefficients times the basis elements.
-    ghost basis_laws: { (x : Self) → combine Self.ring basis 0 (map embed (Self.coefficients x)) ≡ x };
+    ghost basis_laws: { (x : Self)
+        → combine Self.ring basis 0 (map embed (Self.coefficients x)) ≡ x };
 }

@@ -30,7 +30,8 @@ fn opens_bus<F>(lookups: &[Lookups<F>], table: usize, index: usize) -> bool
     requires table { table < length lookups.now }
     requires index { index < length (get_or lookups.now table []) }
     ensures { let tables = map read_all lookups.now in
-        result ≡ (opener (batch_buses tables) (lookups_before tables table + index) == lookups_before tables table + index) }
+        result ≡ (opener (batch_buses tables) (lookups_before tables table + index) ==
+        lookups_before tables table + index) }
 {
     let own = lookups[table].as_slice();
     let lookup = &own[index];
@@ -66,7 +67,8 @@ fn with_bounds<E>(load: u64, counts: &[Count<E>], height: usize, limit: u64) -> 
 // A load with those of a table's lookups that are on the bus that this kind names, at most the limit.
 fn with_lookups<F>(load: u64, lookups: &[Lookup<F>], kind: &Kind, height: usize, limit: u64) -> u64
     requires { load ≤ limit }
-    ensures { result ≡ min limit (load + named_load (bus_of_kind kind.now) height (read_all lookups.now)) }
+    ensures { result ≡ min limit
+        (load + named_load (bus_of_kind kind.now) height (read_all lookups.now)) }
 {
     let mut load = load;
     for i in 0..lookups.len() {
@@ -81,7 +83,8 @@ fn with_lookups<F>(load: u64, lookups: &[Lookup<F>], kind: &Kind, height: usize,
 // The load of the bus that this kind names, at most the limit.
 fn load_of_name<F>(lookups: &[Lookups<F>], heights: &[usize], kind: &Kind, limit: u64) -> u64
     requires { length heights.now ≡ length lookups.now }
-    ensures { result ≡ min limit (named_loads (bus_of_kind kind.now) (map read_all lookups.now) heights.now) }
+    ensures { result ≡ min limit
+        (named_loads (bus_of_kind kind.now) (map read_all lookups.now) heights.now) }
 {
     let mut load = 0;
     for table in 0..lookups.len() {
@@ -101,7 +104,8 @@ fn load_at<F>(
     requires heights { length heights.now ≡ length lookups.now }
     requires table { table < length lookups.now }
     requires index { index < length (get_or lookups.now table []) }
-    ensures { let tables = map read_all lookups.now in result ≡ min limit (bus_load tables heights.now (bus_in tables table index)) }
+    ensures { let tables = map read_all lookups.now in
+        result ≡ min limit (bus_load tables heights.now (bus_in tables table index)) }
 {
     let own = lookups[table].as_slice();
     let lookup = &own[index];
@@ -122,9 +126,13 @@ fn opened_by<F>(
 ) -> Result<usize, usize>
     requires heights { length heights.now ≡ length lookups.now }
     requires table { table < length lookups.now }
-    requires opened { let tables = map read_all lookups.now in AreBoundedBelow limit tables heights.now (lookups_before tables table) opened }
+    requires opened { let tables = map read_all lookups.now in
+        AreBoundedBelow limit tables heights.now (lookups_before tables table) opened }
     ensures { let tables = map read_all lookups.now in
-        MatchResult result (λ n. AreBoundedBelow limit tables heights.now (lookups_before tables table + length (get_or lookups.now table [])) n) (λ b. IsFirstOverload limit tables heights.now b) }
+        MatchResult result (λ n.
+        AreBoundedBelow limit tables heights.now
+        (lookups_before tables table + length (get_or lookups.now table [])) n)
+        (λ b. IsFirstOverload limit tables heights.now b) }
 {
     let mut opened = opened;
     for index in 0..lookups[table].as_slice().len() {

@@ -23,7 +23,11 @@ impl<EF> Model for Challenges<EF> {
 
     ghost Value = { ChallengesData EF };
 
-    ghost view = { λ c. record { alpha = c.alpha; beta = c.beta; bus_prefix = c.bus_prefix.items } };
+    ghost view = { λ c. record {
+      alpha = c.alpha;
+      beta = c.beta;
+      bus_prefix = c.bus_prefix.items;
+    } };
 }
 
 impl<EF: Field> Challenges<EF> {

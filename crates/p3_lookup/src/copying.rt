@@ -14,7 +14,9 @@ pub(crate) fn append_tuples<F: Field>(
     tuples: &mut Vec<Vec<SymbolicExpression<F>>>,
     more: &[Vec<SymbolicExpression<F>>],
 ) -> Mem<()>
-    ensures { IfOk result (λ _. map (λ v. v.items) tuples.new.items ≡ map (λ v. v.items) tuples.old.items ++ map (λ v. v.items) more.now) }
+    ensures { IfOk result (λ _.
+        map (λ v. v.items) tuples.new.items ≡ map (λ v. v.items) tuples.old.items
+        ++ map (λ v. v.items) more.now) }
 {
     for tuple in more {
         tuples.push(copies(alloc, tuple)?)?;

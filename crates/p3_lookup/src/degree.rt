@@ -16,7 +16,8 @@ use p3_field::{Field, FieldCore, RingCore};
 
 // The degree of a tuple's sum, where beta has degree zero.
 fn tuple_degree<F: Field>(tuple: &[SymbolicExpression<F>], t: usize) -> usize
-    ensures { (b : Tree F) → multiple t b ≡ 0 → result ≡ multiple t (eval_poly (trees F.ring) (map tree_of tuple.now) b) }
+    ensures { (b : Tree F) → multiple t b ≡ 0
+        → result ≡ multiple t (eval_poly (trees F.ring) (map tree_of tuple.now) b) }
 {
     let mut degree = 0usize;
     for i in (0..tuple.len()).rev() {
@@ -34,7 +35,9 @@ fn parts_degrees<F: Field>(
 ) -> (usize, usize)
     requires counted { length multiplicities.now ≡ length elements.now }
     ensures { (a b : Tree F) → multiple t a ≡ 0 → multiple t b ≡ 0
-        → AreDegreesOf F.ring t a b result (pair_up (map (map tree_of) (map (λ v. v.items) elements.now)) (map tree_count multiplicities.now)) }
+        → AreDegreesOf F.ring t a b result
+        (pair_up (map (map tree_of) (map (λ v. v.items) elements.now))
+        (map tree_count multiplicities.now)) }
 {
     let mut common = 0usize;
     let mut numerator = 0usize;

@@ -21,7 +21,9 @@ fn lookup_challenges<AB: PermutationAirBuilder>(
     ensures keeps_shape { AB.shape builder.new ≡ AB.shape builder.old }
     ensures answers { IsTrue AB.never_fails → IsOk result }
     ensures appends { AB.appends builder.old builder.new [] [] }
-    ensures represents { IfOk result (λ p. AB.represents_ext builder.new p.0 (base_tree index) × AB.represents_ext builder.new p.1 (beta_tree index)) }
+    ensures represents { IfOk result
+        (λ p. AB.represents_ext builder.new p.0 (base_tree index)
+        × AB.represents_ext builder.new p.1 (beta_tree index)) }
 {
     let base = builder.ext_cell(ExtCell::Challenge(2 * index))?;
     let beta = builder.ext_cell(ExtCell::Challenge(2 * index + 1))?;
@@ -39,8 +41,10 @@ fn scaled_less<AB: PermutationAirBuilder>(
     ensures keeps_shape { AB.shape builder.new ≡ AB.shape builder.old }
     ensures answers { IsTrue AB.never_fails → IsOk result }
     ensures appends { AB.appends builder.old builder.new [] [] }
-    ensures represents { (s t : Tree AB.F) → AB.represents_ext builder.old y s → AB.represents_ext builder.old z t
-        → IfOk result (λ e. AB.represents_ext builder.new e (difference (product (column_tree false column) s) t)) }
+    ensures represents { (s t : Tree AB.F) → AB.represents_ext builder.old y s
+        → AB.represents_ext builder.old z t
+        → IfOk result (λ e. AB.represents_ext builder.new e
+        (difference (product (column_tree false column) s) t)) }
 {
     let x = builder.ext_cell(ExtCell::Permutation {
         next: false,
@@ -63,7 +67,9 @@ fn assert_fraction<AB: PermutationAirBuilder>(
     ensures later { AB.later builder.old builder.new }
     ensures keeps_shape { AB.shape builder.new ≡ AB.shape builder.old }
     ensures answers { IsTrue AB.never_fails → IsOk result }
-    ensures appends { IfOk result (λ _. AB.appends builder.old builder.new (over_extension (fraction_tree AB.F.ring index (read lookup.now)) ∷ []) []) }
+    ensures appends { IfOk result
+        (λ _. AB.appends builder.old builder.new
+        (over_extension (fraction_tree AB.F.ring index (read lookup.now)) ∷ []) []) }
     ensures on_error { OnErr result (AB.appends builder.old builder.new [] []) }
 {
     let challenges = lookup_challenges(builder, index)?;
@@ -88,8 +94,12 @@ pub(crate) fn assert_fractions<AB: PermutationAirBuilder>(
     ensures later { AB.later builder.old builder.new }
     ensures keeps_shape { AB.shape builder.new ≡ AB.shape builder.old }
     ensures answers { IsTrue AB.never_fails → IsOk result }
-    ensures appends { IfOk result (λ _. AB.appends builder.old builder.new (map over_extension (fraction_trees AB.F.ring 0 (read_all lookups.now))) []) }
-    ensures on_error { OnErr result (SomeFirst (AB.appends builder.old builder.new) (map over_extension (fraction_trees AB.F.ring 0 (read_all lookups.now))) []) }
+    ensures appends { IfOk result
+        (λ _. AB.appends builder.old builder.new
+        (map over_extension (fraction_trees AB.F.ring 0 (read_all lookups.now))) []) }
+    ensures on_error { OnErr result
+        (SomeFirst (AB.appends builder.old builder.new)
+        (map over_extension (fraction_trees AB.F.ring 0 (read_all lookups.now))) []) }
 {
     for i in 0..lookups.len() {
         assert_fraction(builder, &lookups[i], i)?;
@@ -107,7 +117,8 @@ fn with_column<AB: PermutationAirBuilder>(
     ensures keeps_shape { AB.shape builder.new ≡ AB.shape builder.old }
     ensures answers { IsTrue AB.never_fails → IsOk result }
     ensures appends { AB.appends builder.old builder.new [] [] }
-    ensures represents { (s : Tree AB.F) → AB.represents_ext builder.old x s → IfOk result (λ e. AB.represents_ext builder.new e (sum s (column_tree false column))) }
+    ensures represents { (s : Tree AB.F) → AB.represents_ext builder.old x s
+        → IfOk result (λ e. AB.represents_ext builder.new e (sum s (column_tree false column))) }
 {
     let fraction = builder.ext_cell(ExtCell::Permutation {
         next: false,
@@ -122,7 +133,8 @@ fn sum_of_fractions<AB: PermutationAirBuilder>(builder: &mut AB, count: usize) -
     ensures keeps_shape { AB.shape builder.new ≡ AB.shape builder.old }
     ensures answers { IsTrue AB.never_fails → IsOk result }
     ensures appends { AB.appends builder.old builder.new [] [] }
-    ensures represents { IfOk result (λ e. AB.represents_ext builder.new e (sum_tree AB.F.ring count)) }
+    ensures represents { IfOk result
+        (λ e. AB.represents_ext builder.new e (sum_tree AB.F.ring count)) }
 {
     let mut sum = constant_ext(builder, <AB::F as RingCore>::ZERO)?;
     for i in 0..count {
@@ -141,7 +153,8 @@ fn selected<AB: ExtensionBuilder>(
     ensures keeps_shape { AB.shape builder.new ≡ AB.shape builder.old }
     ensures answers { IsTrue AB.never_fails → IsOk result }
     ensures appends { AB.appends builder.old builder.new [] [] }
-    ensures represents { (t : Tree AB.F) → AB.represents_ext builder.old x t → IfOk result (λ e. AB.represents_ext builder.new e (product (cell_tree selector) t)) }
+    ensures represents { (t : Tree AB.F) → AB.represents_ext builder.old x t
+        → IfOk result (λ e. AB.represents_ext builder.new e (product (cell_tree selector) t)) }
 {
     let cell = builder.cell(selector)?;
     let factor = builder.lift(cell)?;
@@ -154,7 +167,9 @@ fn assert_selected<AB: ExtensionBuilder>(builder: &mut AB, selector: Cell, x: AB
     ensures later { AB.later builder.old builder.new }
     ensures keeps_shape { AB.shape builder.new ≡ AB.shape builder.old }
     ensures answers { IsTrue AB.never_fails → IsOk result }
-    ensures appends { (t : Tree AB.F) → AB.represents_ext builder.old x t → IfOk result (λ _. AB.appends builder.old builder.new (over_extension (product (cell_tree selector) t) ∷ []) []) }
+    ensures appends { (t : Tree AB.F) → AB.represents_ext builder.old x t
+        → IfOk result (λ _. AB.appends builder.old builder.new
+        (over_extension (product (cell_tree selector) t) ∷ []) []) }
     ensures on_error { OnErr result (AB.appends builder.old builder.new [] []) }
 {
     let chosen = selected(builder, selector, x)?;
@@ -167,7 +182,8 @@ fn assert_first<AB: PermutationAirBuilder>(builder: &mut AB) -> Mem<()>
     ensures later { AB.later builder.old builder.new }
     ensures keeps_shape { AB.shape builder.new ≡ AB.shape builder.old }
     ensures answers { IsTrue AB.never_fails → IsOk result }
-    ensures appends { IfOk result (λ _. AB.appends builder.old builder.new (over_extension first_tree ∷ []) []) }
+    ensures appends { IfOk result
+        (λ _. AB.appends builder.old builder.new (over_extension first_tree ∷ []) []) }
     ensures on_error { OnErr result (AB.appends builder.old builder.new [] []) }
 {
     let running = builder.ext_cell(ExtCell::Permutation {
@@ -189,7 +205,8 @@ fn excess<AB: PermutationAirBuilder>(
     ensures answers { IsTrue AB.never_fails → IsOk result }
     ensures appends { AB.appends builder.old builder.new [] [] }
     ensures represents { (t : Tree AB.F) → AB.represents_ext builder.old x t
-        → IfOk result (λ e. AB.represents_ext builder.new e (difference (difference (ext_cell_tree end) (column_tree false 0)) t)) }
+        → IfOk result (λ e. AB.represents_ext builder.new e
+        (difference (difference (ext_cell_tree end) (column_tree false 0)) t)) }
 {
     let to = builder.ext_cell(end)?;
     let from = builder.ext_cell(ExtCell::Permutation {
@@ -214,7 +231,9 @@ fn assert_step<AB: PermutationAirBuilder>(
     ensures keeps_shape { AB.shape builder.new ≡ AB.shape builder.old }
     ensures answers { IsTrue AB.never_fails → IsOk result }
     ensures appends { (t : Tree AB.F) → AB.represents_ext builder.old x t
-        → IfOk result (λ _. AB.appends builder.old builder.new (over_extension (product (cell_tree selector) (difference (difference (ext_cell_tree end) (column_tree false 0)) t)) ∷ []) []) }
+        → IfOk result (λ _. AB.appends builder.old builder.new
+        (over_extension (product (cell_tree selector)
+        (difference (difference (ext_cell_tree end) (column_tree false 0)) t)) ∷ []) []) }
     ensures on_error { OnErr result (AB.appends builder.old builder.new [] []) }
 {
     let rest = excess(builder, end, x)?;
@@ -228,8 +247,12 @@ pub(crate) fn assert_running<AB: PermutationAirBuilder>(builder: &mut AB, count:
     ensures later { AB.later builder.old builder.new }
     ensures keeps_shape { AB.shape builder.new ≡ AB.shape builder.old }
     ensures answers { IsTrue AB.never_fails → IsOk result }
-    ensures appends { IfOk result (λ _. AB.appends builder.old builder.new (map over_extension (running_trees AB.F.ring count)) []) }
-    ensures on_error { OnErr result (SomeFirst (AB.appends builder.old builder.new) (map over_extension (running_trees AB.F.ring count)) []) }
+    ensures appends { IfOk result
+        (λ _. AB.appends builder.old builder.new
+        (map over_extension (running_trees AB.F.ring count)) []) }
+    ensures on_error { OnErr result
+        (SomeFirst (AB.appends builder.old builder.new)
+        (map over_extension (running_trees AB.F.ring count)) []) }
 {
     assert_first(builder)?;
     let sum = sum_of_fractions(builder, count)?;

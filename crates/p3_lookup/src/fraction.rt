@@ -28,7 +28,8 @@ fn combined_step<AB: ExtensionBuilder>(
     ensures keeps_shape { AB.shape builder.new ≡ AB.shape builder.old }
     ensures answers { IsTrue AB.never_fails → IsOk result }
     ensures appends { AB.appends builder.old builder.new [] [] }
-    ensures represents { (b s : Tree AB.F) → AB.represents_ext builder.old beta b → AB.represents_ext builder.old rest s
+    ensures represents { (b s : Tree AB.F) → AB.represents_ext builder.old beta b
+        → AB.represents_ext builder.old rest s
         → IfOk result (λ e. AB.represents_ext builder.new e (sum (tree_of x.now) (product b s))) }
 {
     let first = lifted(builder, x)?;
@@ -57,7 +58,9 @@ fn combined<AB: ExtensionBuilder>(
     ensures keeps_shape { AB.shape builder.new ≡ AB.shape builder.old }
     ensures answers { IsTrue AB.never_fails → IsOk result }
     ensures appends { AB.appends builder.old builder.new [] [] }
-    ensures represents { (b : Tree AB.F) → AB.represents_ext builder.old beta b → IfOk result (λ e. AB.represents_ext builder.new e (eval_poly (trees AB.F.ring) (map tree_of tuple.now) b)) }
+    ensures represents { (b : Tree AB.F) → AB.represents_ext builder.old beta b
+        → IfOk result (λ e. AB.represents_ext builder.new e
+        (eval_poly (trees AB.F.ring) (map tree_of tuple.now) b)) }
 {
     let mut sum = constant_ext(builder, <AB::F as RingCore>::ZERO)?;
     for i in (0..tuple.len()).rev() {
@@ -77,8 +80,10 @@ fn denominator_of<AB: ExtensionBuilder>(
     ensures keeps_shape { AB.shape builder.new ≡ AB.shape builder.old }
     ensures answers { IsTrue AB.never_fails → IsOk result }
     ensures appends { AB.appends builder.old builder.new [] [] }
-    ensures represents { (a b : Tree AB.F) → AB.represents_ext builder.old base a → AB.represents_ext builder.old beta b
-        → IfOk result (λ e. AB.represents_ext builder.new e (difference a (eval_poly (trees AB.F.ring) (map tree_of tuple.now) b))) }
+    ensures represents { (a b : Tree AB.F) → AB.represents_ext builder.old base a
+        → AB.represents_ext builder.old beta b
+        → IfOk result (λ e. AB.represents_ext builder.new e
+        (difference a (eval_poly (trees AB.F.ring) (map tree_of tuple.now) b))) }
 {
     let sum = combined(builder, tuple, beta)?;
     builder.sub_ext(base, sum)
@@ -95,9 +100,11 @@ fn with_term<AB: ExtensionBuilder>(
     ensures keeps_shape { AB.shape builder.new ≡ AB.shape builder.old }
     ensures answers { IsTrue AB.never_fails → IsOk result }
     ensures appends { AB.appends builder.old builder.new [] [] }
-    ensures represents { (m d c n : Tree AB.F) → AB.represents_ext builder.old count m → AB.represents_ext builder.old denominator d
+    ensures represents { (m d c n : Tree AB.F) → AB.represents_ext builder.old count m
+        → AB.represents_ext builder.old denominator d
         → AB.represents_ext builder.old common c → AB.represents_ext builder.old numerator n
-        → IfOk result (λ p. AB.represents_ext builder.new p.0 (product d c) × AB.represents_ext builder.new p.1 (sum (product m c) (product d n))) }
+        → IfOk result (λ p. AB.represents_ext builder.new p.0 (product d c)
+        × AB.represents_ext builder.new p.1 (sum (product m c) (product d n))) }
 {
     let own = builder.mul_ext(count, common)?;
     let others = builder.mul_ext(denominator, numerator)?;
@@ -119,10 +126,14 @@ fn with_tuple<AB: ExtensionBuilder>(
     ensures keeps_shape { AB.shape builder.new ≡ AB.shape builder.old }
     ensures answers { IsTrue AB.never_fails → IsOk result }
     ensures appends { AB.appends builder.old builder.new [] [] }
-    ensures represents { (a b c n : Tree AB.F) → AB.represents_ext builder.old challenges.0 a → AB.represents_ext builder.old challenges.1 b
+    ensures represents { (a b c n : Tree AB.F) → AB.represents_ext builder.old challenges.0 a
+        → AB.represents_ext builder.old challenges.1 b
         → AB.represents_ext builder.old parts.0 c → AB.represents_ext builder.old parts.1 n
-        → IfOk result (λ p. AB.represents_ext builder.new p.0 (product (difference a (eval_poly (trees AB.F.ring) (map tree_of tuple.now) b)) c)
-        × AB.represents_ext builder.new p.1 (sum (product (tree_of count.now) c) (product (difference a (eval_poly (trees AB.F.ring) (map tree_of tuple.now) b)) n))) }
+        → IfOk result (λ p. AB.represents_ext builder.new p.0
+        (product (difference a (eval_poly (trees AB.F.ring) (map tree_of tuple.now) b)) c)
+        × AB.represents_ext builder.new p.1
+        (sum (product (tree_of count.now) c)
+        (product (difference a (eval_poly (trees AB.F.ring) (map tree_of tuple.now) b)) n))) }
 {
     let denominator = denominator_of(builder, tuple, challenges.0, challenges.1)?;
     let times = lifted(builder, count)?;
@@ -137,13 +148,18 @@ pub(crate) fn fraction_parts<AB: ExtensionBuilder>(
     challenges: (AB::ExprEF, AB::ExprEF),
 ) -> Mem<(AB::ExprEF, AB::ExprEF)>
     requires counted { length multiplicities.now ≡ length elements.now }
-    requires tuples { All (All (ReadsSendable (AB.shape builder.old))) (map (map tree_of) (map (λ v. v.items) elements.now)) }
-    requires counts { All (λ c. ReadsSendable (AB.shape builder.old) c.value) (map tree_count multiplicities.now) }
+    requires tuples { All (All (ReadsSendable (AB.shape builder.old)))
+        (map (map tree_of) (map (λ v. v.items) elements.now)) }
+    requires counts { All (λ c. ReadsSendable (AB.shape builder.old) c.value)
+        (map tree_count multiplicities.now) }
     ensures keeps_shape { AB.shape builder.new ≡ AB.shape builder.old }
     ensures answers { IsTrue AB.never_fails → IsOk result }
     ensures appends { AB.appends builder.old builder.new [] [] }
-    ensures represents { (a b : Tree AB.F) → AB.represents_ext builder.old challenges.0 a → AB.represents_ext builder.old challenges.1 b
-        → IfOk result (λ p. ArePartsOf (AB.represents_ext builder.new) AB.F.ring a b p (pair_up (map (map tree_of) (map (λ v. v.items) elements.now)) (map tree_count multiplicities.now))) }
+    ensures represents { (a b : Tree AB.F) → AB.represents_ext builder.old challenges.0 a
+        → AB.represents_ext builder.old challenges.1 b
+        → IfOk result (λ p. ArePartsOf (AB.represents_ext builder.new) AB.F.ring a b p
+        (pair_up (map (map tree_of) (map (λ v. v.items) elements.now))
+        (map tree_count multiplicities.now))) }
 {
     let mut common = constant_ext(builder, <AB::F as RingCore>::ONE)?;
     let mut numerator = constant_ext(builder, <AB::F as RingCore>::ZERO)?;

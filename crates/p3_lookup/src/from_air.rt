@@ -37,7 +37,8 @@ fn tuples_of<F: Field>(
 ) -> Mem<Vec<Vec<SymbolicExpression<F>>>>
     requires counted { 0 < count }
     ensures { IfOk result (λ v. map (λ t. t.items) v.items
-        ≡ tabulate count (λ k. slice_range fields.now (k * (length fields.now / count)) (k * (length fields.now / count) + length fields.now / count))) }
+        ≡ tabulate count (λ k. slice_range fields.now (k * (length fields.now / count))
+        (k * (length fields.now / count) + length fields.now / count))) }
 {
     let width = fields.len() / count;
     let mut tuples = Vec::with_capacity(alloc, count)?;
@@ -87,7 +88,9 @@ fn lookup_at<F: Field>(
 ) -> Mem<Lookup<F>>
     requires within { index < length builder.now.interactions }
     requires counted { (d : Placed) → 0 < length (get_or builder.now.interactions index d).counts }
-    ensures { IfOk result (λ l. (d : Placed) → read l ≡ lookup_of (interaction_at builder.now.nodes (get_or builder.now.interactions index d))) }
+    ensures { IfOk result (λ l. (d : Placed)
+        → read l ≡ lookup_of (interaction_at builder.now.nodes
+        (get_or builder.now.interactions index d))) }
 {
     let fields = builder.interaction_fields(alloc, index)?;
     let values = builder.interaction_counts(alloc, index)?;
@@ -103,7 +106,8 @@ fn lookups_in<F: Field>(
     alloc: Global,
     builder: &InteractionSymbolicBuilder<F>,
 ) -> Mem<Vec<Lookup<F>>>
-    ensures { IfOk result (λ v. read_all v.items ≡ lookups_of (sent_at builder.now.nodes builder.now.interactions)) }
+    ensures { IfOk result (λ v.
+        read_all v.items ≡ lookups_of (sent_at builder.now.nodes builder.now.interactions)) }
 {
     let mut lookups = Vec::new(alloc);
     for index in 0..builder.num_interactions() {

@@ -29,8 +29,12 @@ fn assert_lookups<AB: PermutationAirBuilder>(builder: &mut AB, lookups: &[Lookup
     ensures later { AB.later builder.old builder.new }
     ensures keeps_shape { AB.shape builder.new ≡ AB.shape builder.old }
     ensures answers { IsTrue AB.never_fails → IsOk result }
-    ensures appends { IfOk result (λ _. AB.appends builder.old builder.new (map over_extension (lookup_trees AB.F.ring (read_all lookups.now))) []) }
-    ensures on_error { OnErr result (SomeFirst (AB.appends builder.old builder.new) (map over_extension (lookup_trees AB.F.ring (read_all lookups.now))) []) }
+    ensures appends { IfOk result
+        (λ _. AB.appends builder.old builder.new
+        (map over_extension (lookup_trees AB.F.ring (read_all lookups.now))) []) }
+    ensures on_error { OnErr result
+        (SomeFirst (AB.appends builder.old builder.new)
+        (map over_extension (lookup_trees AB.F.ring (read_all lookups.now))) []) }
 {
     if lookups.is_empty() {
         return Ok(());
@@ -65,9 +69,14 @@ pub trait LookupProtocol {
         ensures keeps_shape { AB.shape builder.new ≡ AB.shape builder.old }
         ensures answers { IsTrue AB.never_fails → IsOk result }
         ensures appends { IfOk result (λ _. AB.appends builder.old builder.new
-            (map over_base (A.trees air.now) ++ map over_extension (lookup_trees AB.F.ring (read_all lookups.now))) (A.interactions air.now)) }
+            (map over_base (A.trees air.now)
+            ++ map over_extension (lookup_trees AB.F.ring (read_all lookups.now)))
+            (A.interactions air.now)) }
         ensures on_error { OnErr result
-            (SomeFirst (AB.appends builder.old builder.new) (map over_base (A.trees air.now) ++ map over_extension (lookup_trees AB.F.ring (read_all lookups.now))) (A.interactions air.now)) };
+            (SomeFirst (AB.appends builder.old builder.new)
+            (map over_base (A.trees air.now)
+            ++ map over_extension (lookup_trees AB.F.ring (read_all lookups.now)))
+            (A.interactions air.now)) };
 
     /// The honest permutation columns of a table and their terminal: per row the running sum of all fractions in the rows
     /// before, then the fraction of each lookup. The answer is `DenominatorZero` exactly where a denominator is zero, and
@@ -85,9 +94,13 @@ pub trait LookupProtocol {
         challenges: &[EF],
     ) -> Result<(RowMajorMatrix<EF>, LookupTerminal<EF>), GenerateError>
         requires preprocessed { IfSome preprocessed (λ m. height m.now ≡ height main.now) }
-        requires lookups { All (IsLookup (sent_shape main.now (option_map (λ m. m.now) preprocessed) public_values.now)) (read_all lookups.now) }
+        requires lookups { All (IsLookup
+            (sent_shape main.now (option_map (λ m. m.now) preprocessed) public_values.now))
+            (read_all lookups.now) }
         requires challenges { length challenges.now ≡ 2 * length lookups.now }
-        ensures { let p = argument_over F.ring EF.ring EF.inv EF.embed main.now (option_map (λ m. m.now) preprocessed.entry) public_values.now (read_all lookups.now) challenges.now in
+        ensures { let p = argument_over F.ring EF.ring EF.inv EF.embed main.now
+            (option_map (λ m. m.now) preprocessed.entry) public_values.now (read_all lookups.now)
+            challenges.now in
             IsGenerated p (height main.now) result };
 
     /// Whether the terminals that are present sum to zero: the answer is `TerminalSum` exactly where they don't.
@@ -95,7 +108,9 @@ pub trait LookupProtocol {
         &self,
         terminals: &[Option<LookupTerminal<EF>>],
     ) -> Result<(), LookupError>
-        ensures { MatchResult result (λ _. sum_of EF.ring (present terminals.now) ≡ EF.ring.zero) (λ e. (e ≡ TerminalSum) × (sum_of EF.ring (present terminals.now) ≡ EF.ring.zero → ⊥)) };
+        ensures { MatchResult result (λ _. sum_of EF.ring (present terminals.now) ≡ EF.ring.zero)
+            (λ e. (e ≡ TerminalSum) × (sum_of EF.ring (present terminals.now) ≡ EF.ring.zero
+            → ⊥)) };
 }
 
 // Whether the terminals that are present sum to zero.

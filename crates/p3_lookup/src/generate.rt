@@ -30,7 +30,8 @@ fn push_lookup<'a, F: Field, EF: ExtensionField<F>>(
 ) -> Result<(), GenerateError>
     requires lookup { IsLookup (row_shape cells.now) (read lookup.now) }
     ensures { AreTermsAdded EF.ring
-        (terms_of EF.ring challenges.0 challenges.1 (embedded_at F.ring EF.embed cells.now) (sent (read lookup.now))) place.0 place.1 terms.old.items terms.new.items result }
+        (terms_of EF.ring challenges.0 challenges.1 (embedded_at F.ring EF.embed cells.now)
+        (sent (read lookup.now))) place.0 place.1 terms.old.items terms.new.items result }
 {
     push_terms(
         terms,
@@ -52,7 +53,9 @@ fn push_lookups<'a, F: Field, EF: ExtensionField<F>>(
 ) -> Result<(), GenerateError>
     requires lookups { All (IsLookup (row_shape cells.now)) (read_all lookups.now) }
     requires challenges { length challenges.now ≡ 2 * length lookups.now }
-    ensures { AreRowTermsAdded EF.ring (terms_from EF.ring challenges.now (embedded_at F.ring EF.embed cells.now) 0 (read_all lookups.now)) row terms.old.items terms.new.items result }
+    ensures { AreRowTermsAdded EF.ring
+        (terms_from EF.ring challenges.now (embedded_at F.ring EF.embed cells.now) 0
+        (read_all lookups.now)) row terms.old.items terms.new.items result }
 {
     for i in 0..lookups.len() {
         let pair = (challenges[2 * i], challenges[2 * i + 1]);
@@ -73,9 +76,13 @@ fn push_row_terms<F: Field, EF: ExtensionField<F>>(
 ) -> Result<(), GenerateError>
     requires row { row < height main.now }
     requires preprocessed { IfSome preprocessed (λ m. height m.now ≡ height main.now) }
-    requires lookups { All (IsLookup (sent_shape main.now (option_map (λ m. m.now) preprocessed) public_values.now)) (read_all lookups.now) }
+    requires lookups { All (IsLookup
+        (sent_shape main.now (option_map (λ m. m.now) preprocessed) public_values.now))
+        (read_all lookups.now) }
     requires challenges { length challenges.now ≡ 2 * length lookups.now }
-    ensures { let p = argument_over F.ring EF.ring EF.inv EF.embed main.now (option_map (λ m. m.now) preprocessed.entry) public_values.now (read_all lookups.now) challenges.now in
+    ensures { let p = argument_over F.ring EF.ring EF.inv EF.embed main.now
+        (option_map (λ m. m.now) preprocessed.entry) public_values.now (read_all lookups.now)
+        challenges.now in
         AreRowTermsAdded EF.ring (row_terms p row) row terms.old.items terms.new.items result }
 {
     let height = main.height();
@@ -107,10 +114,16 @@ fn terms_of_table<F: Field, EF: ExtensionField<F>>(
     challenges: &[EF],
 ) -> Result<Vec<Term<EF>>, GenerateError>
     requires preprocessed { IfSome preprocessed (λ m. height m.now ≡ height main.now) }
-    requires lookups { All (IsLookup (sent_shape main.now (option_map (λ m. m.now) preprocessed) public_values.now)) (read_all lookups.now) }
+    requires lookups { All (IsLookup
+        (sent_shape main.now (option_map (λ m. m.now) preprocessed) public_values.now))
+        (read_all lookups.now) }
     requires challenges { length challenges.now ≡ 2 * length lookups.now }
-    ensures { let p = argument_over F.ring EF.ring EF.inv EF.embed main.now (option_map (λ m. m.now) preprocessed.entry) public_values.now (read_all lookups.now) challenges.now in
-        MatchResult result (λ v. (v.items ≡ table_terms p (height main.now)) × ((i : ℕ) → i < height main.now → RowHasInverses p i)) (IsGenerateFault p (height main.now)) }
+    ensures { let p = argument_over F.ring EF.ring EF.inv EF.embed main.now
+        (option_map (λ m. m.now) preprocessed.entry) public_values.now (read_all lookups.now)
+        challenges.now in
+        MatchResult result (λ v. (v.items ≡ table_terms p (height main.now))
+        × ((i : ℕ) → i < height main.now → RowHasInverses p i))
+        (IsGenerateFault p (height main.now)) }
 {
     let mut terms = Vec::new(alloc);
     for row in 0..main.height() {
@@ -174,7 +187,9 @@ fn push_row<F, EF: Field>(
     running: EF,
 ) -> Mem<(usize, EF)>
     requires { start + row_size (sizes (read_all lookups.now)) ≤ length quotients.now }
-    ensures { IfOk result (λ p. IsRowAdded EF.ring (group_sums EF.ring (sizes (read_all lookups.now)) (drop start quotients.now)) running values.old.items values.new.items p.1
+    ensures { IfOk result (λ p.
+        IsRowAdded EF.ring (group_sums EF.ring (sizes (read_all lookups.now))
+        (drop start quotients.now)) running values.old.items values.new.items p.1
         × (p.0 ≡ start + row_size (sizes (read_all lookups.now)))) }
 {
     values.push(running)?;
@@ -202,7 +217,9 @@ fn rows_of<F, EF: Field>(
 ) -> Mem<(Vec<EF>, EF)>
     requires { height * row_size (sizes (read_all lookups.now)) ≤ length quotients.now }
     ensures { IfOk result (λ p. AreColumns EF.ring
-        (λ i. group_sums EF.ring (sizes (read_all lookups.now)) (drop (i * row_size (sizes (read_all lookups.now))) quotients.now)) (length lookups.now) p.0.items height p.1) }
+        (λ i. group_sums EF.ring (sizes (read_all lookups.now))
+        (drop (i * row_size (sizes (read_all lookups.now))) quotients.now)) (length lookups.now)
+        p.0.items height p.1) }
 {
     let mut values = Vec::new(alloc);
     let mut place = 0;
@@ -225,9 +242,13 @@ pub(crate) fn columns_and_terminal<F: Field, EF: ExtensionField<F>>(
     challenges: &[EF],
 ) -> Result<(RowMajorMatrix<EF>, LookupTerminal<EF>), GenerateError>
     requires preprocessed { IfSome preprocessed (λ m. height m.now ≡ height main.now) }
-    requires lookups { All (IsLookup (sent_shape main.now (option_map (λ m. m.now) preprocessed) public_values.now)) (read_all lookups.now) }
+    requires lookups { All (IsLookup
+        (sent_shape main.now (option_map (λ m. m.now) preprocessed) public_values.now))
+        (read_all lookups.now) }
     requires challenges { length challenges.now ≡ 2 * length lookups.now }
-    ensures { let p = argument_over F.ring EF.ring EF.inv EF.embed main.now (option_map (λ m. m.now) preprocessed.entry) public_values.now (read_all lookups.now) challenges.now in
+    ensures { let p = argument_over F.ring EF.ring EF.inv EF.embed main.now
+        (option_map (λ m. m.now) preprocessed.entry) public_values.now (read_all lookups.now)
+        challenges.now in
         IsGenerated p (height main.now) result }
 {
     let terms = terms_of_table(

@@ -24,7 +24,11 @@ impl<F> Model for Lookup<F> {
 
     ghost Value = { Written F };
 
-    ghost view = { λ l. record { bus = bus_of_kind l.kind; elements = map (λ v. v.items) l.elements.items; multiplicities = l.multiplicities.items } };
+    ghost view = { λ l. record {
+      bus = bus_of_kind l.kind;
+      elements = map (λ v. v.items) l.elements.items;
+      multiplicities = l.multiplicities.items;
+    } };
 }
 
 /// The lookups of a table, in order (`p3_lookup::Lookups`). A contract sees them as a list.
@@ -65,7 +69,11 @@ impl<F> Lookup<F> {
         elements: Vec<Vec<SymbolicExpression<F>>>,
         multiplicities: Vec<Count<SymbolicExpression<F>>>,
     ) -> Self
-        ensures { result ≡ record { bus = bus_of_kind kind; elements = map (λ v. v.items) elements.items; multiplicities = multiplicities.items } }
+        ensures { result ≡ record {
+          bus = bus_of_kind kind;
+          elements = map (λ v. v.items) elements.items;
+          multiplicities = multiplicities.items;
+        } }
     {
         Lookup {
             kind,

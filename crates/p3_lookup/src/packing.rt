@@ -37,7 +37,9 @@ fn taken_in<F: Field>(
 ) -> Mem<Option<Lookup<F>>>
     requires first { HasCountForEach (read k.now) }
     requires second { HasCountForEach (read l.now) }
-    ensures { IfOk result (λ o. MatchOption o (takes_in F.ring t budget (read k.now) (read l.now) ≡ false) (λ m. (read m ≡ merged (read k.now) (read l.now))
+    ensures { IfOk result (λ o.
+        MatchOption o (takes_in F.ring t budget (read k.now) (read l.now) ≡ false)
+        (λ m. (read m ≡ merged (read k.now) (read l.now))
         × (takes_in F.ring t budget (read k.now) (read l.now) ≡ true))) }
 {
     if !have_one_name(&k.kind, &l.kind) {
@@ -62,8 +64,11 @@ fn taker<F: Field>(
     requires kept { All HasCountForEach (read_all kept.now) }
     requires lookup { HasCountForEach (read lookup.now) }
     ensures within { IfOk result (λ o. IfSome o (λ p. p.0 < length kept.now)) }
-    ensures placed { IfOk result (λ o. MatchOption o (read_all kept.now ++ read lookup.now ∷ [] ≡ with_lookup F.ring t budget (read_all kept.now) (read lookup.now))
-        (λ p. slice_set (read_all kept.now) p.0 (read p.1) ≡ with_lookup F.ring t budget (read_all kept.now) (read lookup.now))) }
+    ensures placed { IfOk result
+        (λ o. MatchOption o (read_all kept.now ++ read lookup.now ∷ []
+        ≡ with_lookup F.ring t budget (read_all kept.now) (read lookup.now))
+        (λ p. slice_set (read_all kept.now) p.0 (read p.1)
+        ≡ with_lookup F.ring t budget (read_all kept.now) (read lookup.now))) }
 {
     for i in 0..kept.len() {
         if let Some(both) = taken_in(alloc, &kept[i], lookup, budget, t)? {
@@ -83,7 +88,8 @@ fn placed<F: Field>(
 ) -> Mem<Vec<Lookup<F>>>
     requires kept { All HasCountForEach (read_all kept.items) }
     requires lookup { HasCountForEach (read lookup.now) }
-    ensures { IfOk result (λ v. read_all v.items ≡ with_lookup F.ring t budget (read_all kept.items) (read lookup.now)) }
+    ensures { IfOk result (λ v.
+        read_all v.items ≡ with_lookup F.ring t budget (read_all kept.items) (read lookup.now)) }
 {
     let mut kept = kept;
     match taker(alloc, &kept, lookup, budget, t)? {
@@ -111,7 +117,8 @@ impl<F: Field> Lookups<F> {
         transition: usize,
     ) -> Mem<Self>
         requires { All HasCountForEach (read_all self) }
-        ensures packed { IfOk result (λ l. read_all l ≡ packed F.ring transition budget (read_all self)) }
+        ensures packed { IfOk result
+            (λ l. read_all l ≡ packed F.ring transition budget (read_all self)) }
         ensures same { IfOk result (λ l. SendTheSame (read_all self) (read_all l)) }
     {
         let kept = all_placed(alloc, self.as_slice(), budget, transition)?;

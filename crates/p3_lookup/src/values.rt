@@ -69,7 +69,8 @@ fn combined_value<'a, F: Field, EF: ExtensionField<F>>(
     beta: EF,
 ) -> EF
     requires reads { All (ReadsSendable (row_shape row.now)) (map tree_of tuple.now) }
-    ensures { result ≡ eval_poly EF.ring (map (embedded_at F.ring EF.embed row.now) (map tree_of tuple.now)) beta }
+    ensures { result ≡ eval_poly EF.ring
+        (map (embedded_at F.ring EF.embed row.now) (map tree_of tuple.now)) beta }
 {
     let mut sum = EF::ZERO;
     for i in (0..tuple.len()).rev() {
@@ -87,7 +88,9 @@ fn term_value<'a, F: Field, EF: ExtensionField<F>>(
 ) -> Term<EF>
     requires tuple { All (ReadsSendable (row_shape row.now)) (map tree_of tuple.now) }
     requires count { ReadsSendable (row_shape row.now) (tree_of count.now) }
-    ensures { result ≡ term EF.ring challenges.0 challenges.1 (map_sent (embedded_at F.ring EF.embed row.now) (record { tuple = map tree_of tuple.now; count = tree_of count.now })) }
+    ensures { result ≡ term EF.ring challenges.0 challenges.1
+        (map_sent (embedded_at F.ring EF.embed row.now)
+        (record { tuple = map tree_of tuple.now; count = tree_of count.now })) }
 {
     Term {
         count: embedded_value::<F, EF>(count, row),
@@ -106,11 +109,15 @@ pub(crate) fn push_terms<'a, F: Field, EF: ExtensionField<F>>(
     place: (usize, usize),
 ) -> Result<(), GenerateError>
     requires counted { length multiplicities.now ≡ length elements.now }
-    requires tuples { All (All (ReadsSendable (row_shape row.now))) (map (map tree_of) (map (λ v. v.items) elements.now)) }
-    requires counts { All (λ c. ReadsSendable (row_shape row.now) c.value) (map tree_count multiplicities.now) }
+    requires tuples { All (All (ReadsSendable (row_shape row.now)))
+        (map (map tree_of) (map (λ v. v.items) elements.now)) }
+    requires counts { All (λ c. ReadsSendable (row_shape row.now) c.value)
+        (map tree_count multiplicities.now) }
     ensures { AreTermsAdded EF.ring
         (terms_of EF.ring challenges.0 challenges.1 (embedded_at F.ring EF.embed row.now)
-        (pair_up (map (map tree_of) (map (λ v. v.items) elements.now)) (map tree_count multiplicities.now))) place.0 place.1 terms.old.items terms.new.items result }
+        (pair_up (map (map tree_of) (map (λ v. v.items) elements.now))
+        (map tree_count multiplicities.now))) place.0 place.1 terms.old.items terms.new.items
+        result }
 {
     for i in 0..elements.len() {
         let term = term_value(&elements[i], &multiplicities[i].value, row, challenges);

@@ -87,7 +87,8 @@ impl<F> RowMajorMatrix<F> {
 
     /// The values of a row, or `None` out of range.
     pub fn row_slice(&self, row: usize) -> Option<&[F]>
-        ensures { MatchOption result (height self.now ≤ row) (λ r. (row < height self.now) × (r.now ≡ row_at self.now row)) }
+        ensures { MatchOption result (height self.now ≤ row)
+            (λ r. (row < height self.now) × (r.now ≡ row_at self.now row)) }
     {
         if row < self.height() {
             Some(&self.values[row * self.width..row * self.width + self.width])
@@ -140,7 +141,9 @@ impl<F: Copy> RowMajorMatrix<F> {
     pub fn transpose(&self, alloc: Global) -> Mem<Self>
         ensures width { IfOk result (λ t. t.width ≡ height self.now) }
         ensures count { IfOk result (λ t. length t.values ≡ length self.now.values) }
-        ensures cells { IfOk result (λ t. (d : F) (i j : ℕ) → i < height self.now → j < self.now.width → cell_at d t j i ≡ cell_at d self.now i j) }
+        ensures cells { IfOk result
+            (λ t. (d : F) (i j : ℕ) → i < height self.now → j < self.now.width
+            → cell_at d t j i ≡ cell_at d self.now i j) }
     {
         let height = self.height();
         let mut values = Vec::with_capacity(alloc, self.values.len())?;

@@ -15,9 +15,14 @@ pub fn flatten_matrix<F: Field, EF: ExtensionField<F>>(
     m: &RowMajorMatrix<EF>,
 ) -> Mem<RowMajorMatrix<F>>
     requires { m.now.width * EF.DIMENSION < 2 ^ 64 }
-    ensures flat { IfOk result (λ f. f ≡ record { values = flat_map EF.coefficients m.now.values; width = m.now.width * EF.DIMENSION }) }
+    ensures flat { IfOk result
+        (λ f. f ≡ record {
+          values = flat_map EF.coefficients m.now.values;
+          width = m.now.width * EF.DIMENSION;
+        }) }
     ensures height { IfOk result (λ f. height f ≡ height m.now) }
-    ensures rows { IfOk result (λ f. (i : ℕ) → i < height m.now → row_at f i ≡ flat_map EF.coefficients (row_at m.now i)) }
+    ensures rows { IfOk result
+        (λ f. (i : ℕ) → i < height m.now → row_at f i ≡ flat_map EF.coefficients (row_at m.now i)) }
 {
     let values = EF::flatten_to_base(alloc, m.as_slice())?;
     Ok(RowMajorMatrix::new(values, m.width() * EF::DIMENSION))

@@ -40,7 +40,9 @@ fn interpolation_weights<F: TwoAdicField, EF: ExtensionField<F>>(
     requires subgroup { log_size ≤ F.TWO_ADICITY }
     requires shift { shift ≡ F.ring.zero → ⊥ }
     ensures { IfOk result (λ v. v.items
-        ≡ tabulate (2 ^ log_size) (weight_at EF.ring (2 ^ log_size) (EF.embed (F.inv (of_nat F.ring (2 ^ log_size)))) (EF.embed (F.inv (F.root log_size)))
+        ≡ tabulate (2 ^ log_size)
+        (weight_at EF.ring (2 ^ log_size) (EF.embed (F.inv (of_nat F.ring (2 ^ log_size))))
+        (EF.embed (F.inv (F.root log_size)))
         (EF.ring.mul (EF.embed (F.inv shift)) point))) }
 {
     let size: usize = 1 << log_size;
@@ -65,7 +67,8 @@ fn weights_by_sums<F: Field>(
     ratio: F,
 ) -> Mem<Vec<F>>
     requires { log_size < 64 }
-    ensures { IfOk result (λ v. v.items ≡ tabulate (2 ^ log_size) (weight_at F.ring (2 ^ log_size) scale step ratio)) }
+    ensures { IfOk result (λ v.
+        v.items ≡ tabulate (2 ^ log_size) (weight_at F.ring (2 ^ log_size) scale step ratio)) }
 {
     let size: usize = 1 << log_size;
     let mut turned = ratio;
@@ -98,7 +101,9 @@ fn weighted_column<F: Field, EF: ExtensionField<F>>(
 ) -> EF
     requires column { column < m.now.width }
     requires rows { length weights.now ≡ height m.now }
-    ensures { result ≡ total EF.ring (height m.now) (λ i. EF.ring.mul (EF.embed (cell_at F.ring.zero m.now i column)) (get_or weights.now i EF.ring.zero)) }
+    ensures { result ≡ total EF.ring (height m.now)
+        (λ i. EF.ring.mul (EF.embed (cell_at F.ring.zero m.now i column))
+        (get_or weights.now i EF.ring.zero)) }
 {
     let mut sum = EF::ZERO;
     for (row, weight) in weights.iter().enumerate() {
@@ -121,7 +126,8 @@ pub fn interpolate_coset<F: TwoAdicField, EF: ExtensionField<F>>(
     requires shift { shift ≡ F.ring.zero → ⊥ }
     ensures width { IfOk result (λ v. length v.items ≡ m.now.width) }
     ensures values { IfOk result (λ v. (j k : ℕ) → j < m.now.width → height m.now ≡ 2 ^ k
-        → IsInterpolatedAt F.ring EF.ring EF.embed (coset_point F.ring shift (F.root k)) (column F.ring.zero m.now j) point (get_or v.items j EF.ring.zero)) }
+        → IsInterpolatedAt F.ring EF.ring EF.embed (coset_point F.ring shift (F.root k))
+        (column F.ring.zero m.now j) point (get_or v.items j EF.ring.zero)) }
 {
     let weights = interpolation_weights(alloc, log2_strict_usize(m.height()), shift, point)?;
     let mut values = Vec::with_capacity(alloc, m.width())?;

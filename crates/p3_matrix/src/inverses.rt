@@ -29,7 +29,8 @@ pub(crate) fn scaled_inverses<F: Field>(alloc: Global, values: &[F], factor: F) 
 
 // For each value the product of those before it, and the product of all.
 fn products_of_fronts<F: Field>(alloc: Global, values: &[F]) -> Mem<(Vec<F>, F)>
-    ensures fronts { IfOk result (λ p. p.0.items ≡ tabulate (length values.now) (product_below F.ring values.now)) }
+    ensures fronts { IfOk result
+        (λ p. p.0.items ≡ tabulate (length values.now) (product_below F.ring values.now)) }
     ensures whole { IfOk result (λ p. p.1 ≡ product_below F.ring values.now (length values.now)) }
 {
     let mut fronts = Vec::with_capacity(alloc, values.len())?;
@@ -44,9 +45,13 @@ fn products_of_fronts<F: Field>(alloc: Global, values: &[F]) -> Mem<(Vec<F>, F)>
 // From the last value back: a factor over the product up to a value, times the product before it, is the factor over that
 // value. The quotient is the factor over the product of all.
 fn inverses_by_fronts<F: Field>(values: &[F], fronts: Vec<F>, quotient_of_all: F) -> Vec<F>
-    requires nonzero { (i : ℕ) → i < length values.now → get_or values.now i F.ring.zero ≡ F.ring.zero → ⊥ }
-    requires fronts { fronts.items ≡ tabulate (length values.now) (product_below F.ring values.now) }
-    ensures { result.items ≡ map (λ x. F.ring.mul (F.ring.mul quotient_of_all (product_below F.ring values.now (length values.now))) (F.inv x)) values.now }
+    requires nonzero { (i : ℕ) → i < length values.now
+        → get_or values.now i F.ring.zero ≡ F.ring.zero → ⊥ }
+    requires fronts { fronts.items
+        ≡ tabulate (length values.now) (product_below F.ring values.now) }
+    ensures { result.items ≡ map
+        (λ x. F.ring.mul (F.ring.mul quotient_of_all
+        (product_below F.ring values.now (length values.now))) (F.inv x)) values.now }
 {
     let mut inverses = fronts;
     let mut quotient = quotient_of_all;

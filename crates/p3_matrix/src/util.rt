@@ -32,7 +32,8 @@ pub fn log2_strict_usize(n: usize) -> usize
 /// The sum of two logarithms and the size that it stands for; None exactly where the size passes `usize`
 /// (`p3_util::checked_log_size_sum`).
 pub fn checked_log_size_sum(a: usize, b: usize) -> Option<(usize, usize)>
-    ensures { MatchOption result (64 ≤ a + b) (λ s. (a + b < 64) × (s.0 ≡ a + b) × (s.1 ≡ 2 ^ (a + b))) }
+    ensures { MatchOption result (64 ≤ a + b)
+        (λ s. (a + b < 64) × (s.0 ≡ a + b) × (s.1 ≡ 2 ^ (a + b))) }
 {
     if a >= 64 || b >= 64 - a {
         None

@@ -18,7 +18,8 @@ pub fn validate_degree_bits(
     requires bounds { log_min + is_zk ≤ log_max }
     requires fits { log_max < 64 }
     ensures { MatchResult result
-        (λ p. (log_min + is_zk ≤ degree_bits) × (degree_bits ≤ log_max) × (p.0 ≡ degree_bits - is_zk) × (p.1 ≡ 2 ^ degree_bits))
+        (λ p. (log_min + is_zk ≤ degree_bits) × (degree_bits ≤ log_max)
+        × (p.0 ≡ degree_bits - is_zk) × (p.1 ≡ 2 ^ degree_bits))
         (IsBeyond air degree_bits (log_min + is_zk) log_max) }
 {
     let minimum = log_min + is_zk;

@@ -26,8 +26,11 @@ pub fn verifier_fold<F: Field, E: ExtensionField<F>, A: Air<F>>(
     folder: VerifierFolder<'_, F, E>,
 ) -> E
     requires zero { folder.accumulator ≡ E.ring.zero }
-    requires declared { Fits (declared_shape (A.declaration air.now)) (point_shape (folder_opened_of folder).values) }
-    ensures { result ≡ fold E.ring folder.entry.alpha (map (eval_tree (point_reading E.ring E.embed (folder_opened_of folder.entry).values)) (A.trees air.now)) }
+    requires declared { Fits (declared_shape (A.declaration air.now))
+        (point_shape (folder_opened_of folder).values) }
+    ensures { result ≡ fold E.ring folder.entry.alpha
+        (map (eval_tree (point_reading E.ring E.embed (folder_opened_of folder.entry).values))
+        (A.trees air.now)) }
 {
     let mut folder = folder;
     match air.eval(&mut folder) {
@@ -45,10 +48,17 @@ pub fn prover_fold<F: Field, E: ExtensionField<F>, A: Air<F>>(
 ) -> E
     requires zero { folder.accumulator ≡ E.ring.zero }
     requires first { folder.constraint_index ≡ 0 }
-    requires declared { Fits (declared_shape (A.declaration air.now)) (point_shape (folder_values_of folder)) }
-    ensures weighed { result ≡ weighed E.ring folder.entry.alpha_powers.now (map (eval_tree (point_reading E.ring E.embed (embedded E.embed (folder_values_of folder.entry)))) (A.trees air.now)) }
-    ensures fold { (alpha : E) → folder.entry.alpha_powers.now ≡ fold_powers E.ring alpha (length (A.trees air.now))
-        → result ≡ fold E.ring alpha (map (eval_tree (point_reading E.ring E.embed (embedded E.embed (folder_values_of folder.entry)))) (A.trees air.now)) }
+    requires declared { Fits (declared_shape (A.declaration air.now))
+        (point_shape (folder_values_of folder)) }
+    ensures weighed { result
+        ≡ weighed E.ring folder.entry.alpha_powers.now
+        (map (eval_tree (point_reading E.ring E.embed
+        (embedded E.embed (folder_values_of folder.entry)))) (A.trees air.now)) }
+    ensures fold { (alpha : E)
+        → folder.entry.alpha_powers.now ≡ fold_powers E.ring alpha (length (A.trees air.now))
+        → result ≡ fold E.ring alpha
+        (map (eval_tree (point_reading E.ring E.embed
+        (embedded E.embed (folder_values_of folder.entry)))) (A.trees air.now)) }
 {
     let mut folder = folder;
     match air.eval(&mut folder) {

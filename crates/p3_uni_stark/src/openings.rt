@@ -18,7 +18,8 @@ pub struct StarkOpeningLayout {
 impl StarkOpeningLayout {
     /// The layout for a backend that hides, or for one that doesn't.
     pub fn new(zk: bool) -> Self
-        ensures { result ≡ cond zk (record { trace = 1; quotient = 2; preprocessed = 3 }) (record { trace = 0; quotient = 1; preprocessed = 2 }) }
+        ensures { result ≡ cond zk (record { trace = 1; quotient = 2; preprocessed = 3 })
+            (record { trace = 0; quotient = 1; preprocessed = 2 }) }
     {
         if zk {
             StarkOpeningLayout {
@@ -85,8 +86,10 @@ pub fn num_batched_openings(
     challenge_dimension: usize,
     openings: OpeningShape,
 ) -> usize
-    requires fits { opened_count main_width main_next preprocessed_width preprocessed_next num_quotient_chunks challenge_dimension * powers openings < 2 ^ 64 }
-    ensures { result ≡ opened_count main_width main_next preprocessed_width preprocessed_next num_quotient_chunks challenge_dimension * powers openings }
+    requires fits { opened_count main_width main_next preprocessed_width preprocessed_next
+        num_quotient_chunks challenge_dimension * powers openings < 2 ^ 64 }
+    ensures { result ≡ opened_count main_width main_next preprocessed_width preprocessed_next
+        num_quotient_chunks challenge_dimension * powers openings }
 {
     let rows = count_of_row(main_width, main_next)
         + count_of_row(preprocessed_width, preprocessed_next);

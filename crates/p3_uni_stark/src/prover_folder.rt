@@ -72,7 +72,8 @@ impl<'a, F: Field, E: ExtensionField<F>> ProverFolder<'a, F, E> {
     /// constraints in by this call.
     pub fn fold_in(&mut self, x: E)
         ensures unchanged { folder_inputs_of self.new ≡ folder_inputs_of self.old }
-        ensures sum { folder_sum_of self.new ≡ added_to E.ring (folder_sum_of self.old).left self.old.accumulator x }
+        ensures sum { folder_sum_of self.new
+            ≡ added_to E.ring (folder_sum_of self.old).left self.old.accumulator x }
         ensures index { power_count self.new ≡ power_count self.old }
     {
         if self.constraint_index < self.alpha_powers.len() {
@@ -90,14 +91,20 @@ impl<'a, F: Field, E: ExtensionField<F>> AirBuilder for ProverFolder<'a, F, E> {
 
     type Expr = F;
 
-    ghost represents = { λ b e t. E.embed e ≡ eval_tree (point_reading E.ring E.embed (embedded E.embed (folder_values_of b))) t };
+    ghost represents = { λ b e t.
+        E.embed e ≡ eval_tree (point_reading E.ring E.embed (embedded E.embed (folder_values_of b)))
+        t };
 
     ghost later = { λ a b. folder_inputs_of b ≡ folder_inputs_of a };
 
     ghost appends = { λ a b ts is. (folder_inputs_of b ≡ folder_inputs_of a)
-        × (folder_sum_of b ≡ weighed_from E.ring (folder_sum_of a) (map (eval_asserted (point_reading E.ring E.embed (embedded E.embed (folder_values_of a)))) ts)) × (power_count b ≡ power_count a) };
+        × (folder_sum_of b ≡ weighed_from E.ring (folder_sum_of a)
+        (map (eval_asserted (point_reading E.ring E.embed (embedded E.embed (folder_values_of a))))
+        ts)) × (power_count b ≡ power_count a) };
 
-    ghost asserts = { λ a x b. (folder_inputs_of b ≡ folder_inputs_of a) × (folder_sum_of b ≡ added_to E.ring (folder_sum_of a).left a.accumulator (E.embed x)) × (power_count b ≡ power_count a) };
+    ghost asserts = { λ a x b. (folder_inputs_of b ≡ folder_inputs_of a)
+        × (folder_sum_of b ≡ added_to E.ring (folder_sum_of a).left a.accumulator (E.embed x))
+        × (power_count b ≡ power_count a) };
 
     ghost computes = { λ a op x y b e. e ≡ value_by F.ring op x y };
 
@@ -138,9 +145,12 @@ impl<'a, F: Field, E: ExtensionField<F>> AirBuilder for ProverFolder<'a, F, E> {
 
     ghost later_along = { λ a b c p q. q ∙ p };
 
-    ghost later_shape = { λ a b p. shape_along (λ o. o.values) (folder_inputs_of a) (folder_inputs_of b) p };
+    ghost later_shape = { λ a b p.
+        shape_along (λ o. o.values) (folder_inputs_of a) (folder_inputs_of b) p };
 
-    ghost persists = { λ a b h e t k. value_persists (λ o. point_reading E.ring E.embed (embedded E.embed o.values)) (folder_inputs_of a) (folder_inputs_of b) (E.embed e) t h k };
+    ghost persists = { λ a b h e t k.
+        value_persists (λ o. point_reading E.ring E.embed (embedded E.embed o.values))
+        (folder_inputs_of a) (folder_inputs_of b) (E.embed e) t h k };
 
     ghost appends_none = { λ a. (refl, refl, refl) };
 
@@ -148,17 +158,22 @@ impl<'a, F: Field, E: ExtensionField<F>> AirBuilder for ProverFolder<'a, F, E> {
 
     ghost appends_along = { λ a b c s t i j p q. (
       q.0 ∙ p.0,
-      weighed_along E.ring (λ o. point_reading E.ring E.embed (embedded E.embed o.values)) (folder_inputs_of a)
-          (folder_inputs_of b) (folder_sum_of a) (folder_sum_of b) (folder_sum_of c) s t p.0 p.1 q.1,
+      weighed_along E.ring (λ o. point_reading E.ring E.embed (embedded E.embed o.values))
+          (folder_inputs_of a)
+          (folder_inputs_of b) (folder_sum_of a) (folder_sum_of b) (folder_sum_of c) s t p.0 p.1
+          q.1,
       q.2 ∙ p.2,
     ) };
 
     ghost never_fails_sure = { λ h. h };
 
-    ghost computes_represents = { λ a b h op x y e s t k l q. base_value_by_persists F.ring F.ring_laws E.ring E.ring_laws E.embed E.embed_laws
-        (λ o. embedded E.embed o.values) (folder_inputs_of a) (folder_inputs_of b) op x y e s t h k l q };
+    ghost computes_represents = { λ a b h op x y e s t k l q.
+        base_value_by_persists F.ring F.ring_laws E.ring E.ring_laws E.embed E.embed_laws
+        (λ o. embedded E.embed o.values) (folder_inputs_of a) (folder_inputs_of b) op x y e s t h k
+        l q };
 
-    ghost asserts_appends = { λ a b x t h k. (k.0, k.1 ∙ ap (added_to E.ring (folder_sum_of a).left a.accumulator) h, k.2) };
+    ghost asserts_appends = { λ a b x t h k.
+        (k.0, k.1 ∙ ap (added_to E.ring (folder_sum_of a).left a.accumulator) h, k.2) };
 }
 
 impl<'a, F: Field, E: ExtensionField<F>> ExtensionBuilder for ProverFolder<'a, F, E> {
@@ -166,9 +181,12 @@ impl<'a, F: Field, E: ExtensionField<F>> ExtensionBuilder for ProverFolder<'a, F
 
     type ExprEF = E;
 
-    ghost represents_ext = { λ b e t. e ≡ eval_tree (point_reading E.ring E.embed (embedded E.embed (folder_values_of b))) t };
+    ghost represents_ext = { λ b e t.
+        e ≡ eval_tree (point_reading E.ring E.embed (embedded E.embed (folder_values_of b))) t };
 
-    ghost asserts_ext = { λ a x b. (folder_inputs_of b ≡ folder_inputs_of a) × (folder_sum_of b ≡ added_to E.ring (folder_sum_of a).left a.accumulator x) × (power_count b ≡ power_count a) };
+    ghost asserts_ext = { λ a x b. (folder_inputs_of b ≡ folder_inputs_of a)
+        × (folder_sum_of b ≡ added_to E.ring (folder_sum_of a).left a.accumulator x)
+        × (power_count b ≡ power_count a) };
 
     ghost computes_ext = { λ a op x y b e. e ≡ value_by E.ring op x y };
 
@@ -197,13 +215,20 @@ impl<'a, F: Field, E: ExtensionField<F>> ExtensionBuilder for ProverFolder<'a, F
 
     ghost arrays_fit_ext = { E.arrays_fit };
 
-    ghost persists_ext = { λ a b h e t k. value_persists (λ o. point_reading E.ring E.embed (embedded E.embed o.values)) (folder_inputs_of a) (folder_inputs_of b) e t h k };
+    ghost persists_ext = { λ a b h e t k.
+        value_persists (λ o. point_reading E.ring E.embed (embedded E.embed o.values))
+        (folder_inputs_of a) (folder_inputs_of b) e t h k };
 
-    ghost computes_ext_represents = { λ a b h op x y e s t k l q. value_by_persists E.ring E.embed (λ o. embedded E.embed o.values) (folder_inputs_of a) (folder_inputs_of b) op x y e s t h k l q };
+    ghost computes_ext_represents = { λ a b h op x y e s t k l q.
+        value_by_persists E.ring E.embed (λ o. embedded E.embed o.values) (folder_inputs_of a)
+        (folder_inputs_of b) op x y e s t h k l q };
 
-    ghost lifts_represents = { λ a b h x e t k q. value_persists (λ o. point_reading E.ring E.embed (embedded E.embed o.values)) (folder_inputs_of a) (folder_inputs_of b) e t h (q ∙ k) };
+    ghost lifts_represents = { λ a b h x e t k q.
+        value_persists (λ o. point_reading E.ring E.embed (embedded E.embed o.values))
+        (folder_inputs_of a) (folder_inputs_of b) e t h (q ∙ k) };
 
-    ghost asserts_ext_appends = { λ a b x t h k. (k.0, k.1 ∙ ap (added_to E.ring (folder_sum_of a).left a.accumulator) h, k.2) };
+    ghost asserts_ext_appends = { λ a b x t h k.
+        (k.0, k.1 ∙ ap (added_to E.ring (folder_sum_of a).left a.accumulator) h, k.2) };
 }
 
 impl<'a, F: Field, E: ExtensionField<F>> PermutationAirBuilder for ProverFolder<'a, F, E> {
@@ -215,21 +240,31 @@ impl<'a, F: Field, E: ExtensionField<F>> PermutationAirBuilder for ProverFolder<
 impl<'a, F: Field, E: ExtensionField<F>> InteractionBuilder for ProverFolder<'a, F, E> {
     ghost use Rattle.p3_uni_stark.specs.ProverState.{folder_values_of, folder_inputs_of, folder_sum_of, power_count};
 
-    ghost sends = { λ a bus xs cs b. (folder_inputs_of b ≡ folder_inputs_of a) × (folder_sum_of b ≡ folder_sum_of a) × (power_count b ≡ power_count a) };
+    ghost sends = { λ a bus xs cs b. (folder_inputs_of b ≡ folder_inputs_of a)
+        × (folder_sum_of b ≡ folder_sum_of a) × (power_count b ≡ power_count a) };
 
     fn push_interaction(&mut self, _bus_name: &str, fields: &[F], count: Count<F>) -> Mem<()>
         ensures later { folder_inputs_of self.new ≡ folder_inputs_of self.old }
-        ensures keeps_shape { point_shape (folder_values_of self.new) ≡ point_shape (folder_values_of self.old) }
+        ensures keeps_shape { point_shape (folder_values_of self.new)
+            ≡ point_shape (folder_values_of self.old) }
         ensures answers { IsTrue true → IsOk result }
         ensures appends { (fs : List (Tree F)) (v : Tree F)
-            → Represent (λ e t. E.embed e ≡ eval_tree (point_reading E.ring E.embed (embedded E.embed (folder_values_of self.old))) t) fields.now fs → E.embed count.value
-            ≡ eval_tree (point_reading E.ring E.embed (embedded E.embed (folder_values_of self.old))) v
-            → IfOk result (λ _. (folder_inputs_of self.new ≡ folder_inputs_of self.old) × (folder_sum_of self.new ≡ weighed_from E.ring (folder_sum_of self.old) [])
+            → Represent (λ e t. E.embed e
+            ≡ eval_tree (point_reading E.ring E.embed
+            (embedded E.embed (folder_values_of self.old))) t) fields.now fs → E.embed count.value
+            ≡ eval_tree (point_reading E.ring E.embed
+            (embedded E.embed (folder_values_of self.old))) v
+            → IfOk result (λ _. (folder_inputs_of self.new ≡ folder_inputs_of self.old)
+            × (folder_sum_of self.new ≡ weighed_from E.ring (folder_sum_of self.old) [])
             × (power_count self.new ≡ power_count self.old)) }
         ensures sure { IsTrue true → IsOk result }
-        ensures sends { IfOk result (λ _. (folder_inputs_of self.new ≡ folder_inputs_of self.old) × (folder_sum_of self.new ≡ folder_sum_of self.old) × (power_count self.new ≡ power_count self.old)) }
+        ensures sends { IfOk result
+            (λ _. (folder_inputs_of self.new ≡ folder_inputs_of self.old)
+            × (folder_sum_of self.new ≡ folder_sum_of self.old)
+            × (power_count self.new ≡ power_count self.old)) }
         ensures on_error { OnErr result ((folder_inputs_of self.new ≡ folder_inputs_of self.old)
-            × (folder_sum_of self.new ≡ weighed_from E.ring (folder_sum_of self.old) []) × (power_count self.new ≡ power_count self.old)) }
+            × (folder_sum_of self.new ≡ weighed_from E.ring (folder_sum_of self.old) [])
+            × (power_count self.new ≡ power_count self.old)) }
     {
         Ok(())
     }

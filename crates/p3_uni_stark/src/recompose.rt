@@ -20,7 +20,9 @@ fn is_disjoint_from_others<F: TwoAdicField>(
     index: usize,
 ) -> bool
     requires { index < length domains.now }
-    ensures { IsTrue result ↔ IsDisjointFrom (record { ring = F.ring; inv = F.inv; root = F.root; generator = F.GENERATOR }) domains.now index }
+    ensures { IsTrue result ↔ IsDisjointFrom
+        (record { ring = F.ring; inv = F.inv; root = F.root; generator = F.GENERATOR }) domains.now
+        index }
 {
     for (other, domain) in domains.iter().enumerate() {
         if other != index && !are_disjoint(&domains[index], domain) {
@@ -32,7 +34,9 @@ fn is_disjoint_from_others<F: TwoAdicField>(
 
 /// Whether no two domains of the list share a point (not in Plonky3).
 pub fn are_all_disjoint<F: TwoAdicField>(domains: &[TwoAdicMultiplicativeCoset<F>]) -> bool
-    ensures { IsTrue result ↔ AllDisjoint (record { ring = F.ring; inv = F.inv; root = F.root; generator = F.GENERATOR }) domains.now }
+    ensures { IsTrue result ↔ AllDisjoint
+        (record { ring = F.ring; inv = F.inv; root = F.root; generator = F.GENERATOR })
+        domains.now }
 {
     for index in 0..domains.len() {
         if !is_disjoint_from_others(domains, index) {
@@ -47,9 +51,13 @@ fn vanishing_product<F: TwoAdicField, EF: ExtensionField<F>>(
     domains: &[TwoAdicMultiplicativeCoset<F>],
     x: EF,
 ) -> EF
-    ensures value { result ≡ product EF.ring (length domains.now) (λ j. eval_poly EF.ring (map EF.embed (vanishing_polynomial F.ring F.inv (domain_at F.ring domains.now j))) x) }
+    ensures value { result ≡ product EF.ring (length domains.now)
+        (λ j. eval_poly EF.ring (map EF.embed
+        (vanishing_polynomial F.ring F.inv (domain_at F.ring domains.now j))) x) }
     ensures nonzero { ((j : ℕ) → j < length domains.now
-        → IsPoint (2 ^ (domain_at F.ring domains.now j).log_size) (point F.ring F.root (domain_at F.ring domains.now j)) EF.embed x → ⊥) → result ≡ EF.ring.zero → ⊥ }
+        → IsPoint (2 ^ (domain_at F.ring domains.now j).log_size)
+        (point F.ring F.root (domain_at F.ring domains.now j)) EF.embed x → ⊥)
+        → result ≡ EF.ring.zero → ⊥ }
 {
     let mut product = EF::ONE;
     for domain in domains {
@@ -65,9 +73,20 @@ fn weight_at<F: TwoAdicField, EF: ExtensionField<F>>(
     x: EF,
 ) -> EF
     requires chunk { chunk < length domains.now }
-    requires disjoint { AllDisjoint (record { ring = F.ring; inv = F.inv; root = F.root; generator = F.GENERATOR }) domains.now }
-    ensures { result ≡ chunk_weight (record { ring = F.ring; inv = F.inv; root = F.root; generator = F.GENERATOR })
-        (record { ring = EF.ring; embed = EF.embed; dimension = EF.DIMENSION; basis = EF.basis; coefficients = EF.coefficients; from_coefficients = EF.from_coefficients }) domains.now chunk x }
+    requires disjoint { AllDisjoint
+        (record { ring = F.ring; inv = F.inv; root = F.root; generator = F.GENERATOR })
+        domains.now }
+    ensures { result ≡ chunk_weight
+        (record { ring = F.ring; inv = F.inv; root = F.root; generator = F.GENERATOR })
+        (record {
+          ring = EF.ring;
+          embed = EF.embed;
+          dimension = EF.DIMENSION;
+          basis = EF.basis;
+          coefficients = EF.coefficients;
+          from_coefficients = EF.from_coefficients;
+        }) domains.now
+        chunk x }
 {
     let before = &domains[..chunk];
     let after = &domains[chunk + 1..];
@@ -97,9 +116,12 @@ pub fn recomposed_quotient<F: TwoAdicField, EF: ExtensionField<F>>(
     x: EF,
 ) -> EF
     requires one_for_each { length chunks.now ≡ length domains.now }
-    requires disjoint { AllDisjoint (record { ring = F.ring; inv = F.inv; root = F.root; generator = F.GENERATOR }) domains.now }
+    requires disjoint { AllDisjoint
+        (record { ring = F.ring; inv = F.inv; root = F.root; generator = F.GENERATOR })
+        domains.now }
     requires dimension { All (λ c. length c.items ≡ EF.DIMENSION) chunks.now }
-    ensures { result ≡ recombined (record { ring = F.ring; inv = F.inv; root = F.root; generator = F.GENERATOR })
+    ensures { result ≡ recombined
+        (record { ring = F.ring; inv = F.inv; root = F.root; generator = F.GENERATOR })
         (record {
           ring = EF.ring;
           embed = EF.embed;
@@ -123,9 +145,21 @@ pub fn recompose_quotient_from_chunks<SC: StarkGenericConfig>(
     zeta: Challenge<SC>,
 ) -> Challenge<SC>
     requires one_for_each { length chunks.now ≡ length domains.now }
-    requires disjoint { AllDisjoint (record { ring = SC.Val.ring; inv = SC.Val.inv; root = SC.Val.root; generator = SC.Val.GENERATOR }) domains.now }
+    requires disjoint { AllDisjoint
+        (record {
+          ring = SC.Val.ring;
+          inv = SC.Val.inv;
+          root = SC.Val.root;
+          generator = SC.Val.GENERATOR;
+        }) domains.now }
     requires dimension { All (λ c. length c.items ≡ SC.Challenge.DIMENSION) chunks.now }
-    ensures { result ≡ recombined (record { ring = SC.Val.ring; inv = SC.Val.inv; root = SC.Val.root; generator = SC.Val.GENERATOR })
+    ensures { result ≡ recombined
+        (record {
+          ring = SC.Val.ring;
+          inv = SC.Val.inv;
+          root = SC.Val.root;
+          generator = SC.Val.GENERATOR;
+        })
         (record {
           ring = SC.Challenge.ring;
           embed = SC.Challenge.embed;

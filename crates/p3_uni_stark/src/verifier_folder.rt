@@ -67,7 +67,8 @@ impl<'a, F: Field, E: ExtensionField<F>> VerifierFolder<'a, F, E> {
     /// value (not in Plonky3). A folder that wraps this one takes its constraints in by this call.
     pub fn fold_in(&mut self, x: E)
         ensures unchanged { folder_opened_of self.new ≡ folder_opened_of self.old }
-        ensures sum { self.new.accumulator ≡ E.ring.add (E.ring.mul self.old.accumulator self.old.alpha) x }
+        ensures sum { self.new.accumulator
+            ≡ E.ring.add (E.ring.mul self.old.accumulator self.old.alpha) x }
     {
         self.accumulator = self.accumulator * self.alpha + x;
     }
@@ -80,14 +81,17 @@ impl<'a, F: Field, E: ExtensionField<F>> AirBuilder for VerifierFolder<'a, F, E>
 
     type Expr = E;
 
-    ghost represents = { λ b e t. e ≡ eval_tree (point_reading E.ring E.embed (folder_opened_of b).values) t };
+    ghost represents = { λ b e t.
+        e ≡ eval_tree (point_reading E.ring E.embed (folder_opened_of b).values) t };
 
     ghost later = { λ a b. folder_opened_of b ≡ folder_opened_of a };
 
     ghost appends = { λ a b ts is. (folder_opened_of b ≡ folder_opened_of a)
-        × (b.accumulator ≡ fold_from E.ring a.alpha a.accumulator (map (eval_asserted (point_reading E.ring E.embed (folder_opened_of a).values)) ts)) };
+        × (b.accumulator ≡ fold_from E.ring a.alpha a.accumulator
+        (map (eval_asserted (point_reading E.ring E.embed (folder_opened_of a).values)) ts)) };
 
-    ghost asserts = { λ a x b. (folder_opened_of b ≡ folder_opened_of a) × (b.accumulator ≡ E.ring.add (E.ring.mul a.accumulator a.alpha) x) };
+    ghost asserts = { λ a x b. (folder_opened_of b ≡ folder_opened_of a)
+        × (b.accumulator ≡ E.ring.add (E.ring.mul a.accumulator a.alpha) x) };
 
     ghost computes = { λ a op x y b e. e ≡ value_by E.ring op x y };
 
@@ -128,9 +132,12 @@ impl<'a, F: Field, E: ExtensionField<F>> AirBuilder for VerifierFolder<'a, F, E>
 
     ghost later_along = { λ a b c p q. q ∙ p };
 
-    ghost later_shape = { λ a b p. shape_along (λ o. o.values) (folder_opened_of a) (folder_opened_of b) p };
+    ghost later_shape = { λ a b p.
+        shape_along (λ o. o.values) (folder_opened_of a) (folder_opened_of b) p };
 
-    ghost persists = { λ a b h e t k. value_persists (λ o. point_reading E.ring E.embed o.values) (folder_opened_of a) (folder_opened_of b) e t h k };
+    ghost persists = { λ a b h e t k.
+        value_persists (λ o. point_reading E.ring E.embed o.values) (folder_opened_of a)
+        (folder_opened_of b) e t h k };
 
     ghost appends_none = { λ a. (refl, refl) };
 
@@ -138,15 +145,19 @@ impl<'a, F: Field, E: ExtensionField<F>> AirBuilder for VerifierFolder<'a, F, E>
 
     ghost appends_along = { λ a b c s t i j p q. (
       q.0 ∙ p.0,
-      folded_along E.ring (λ o. point_reading E.ring E.embed o.values) (λ o. o.alpha) (folder_opened_of a)
+      folded_along E.ring (λ o. point_reading E.ring E.embed o.values) (λ o. o.alpha)
+          (folder_opened_of a)
           (folder_opened_of b) a.accumulator b.accumulator c.accumulator s t p.0 p.1 q.1,
     ) };
 
     ghost never_fails_sure = { λ h. h };
 
-    ghost computes_represents = { λ a b h op x y e s t k l q. value_by_persists E.ring E.embed (λ o. o.values) (folder_opened_of a) (folder_opened_of b) op x y e s t h k l q };
+    ghost computes_represents = { λ a b h op x y e s t k l q.
+        value_by_persists E.ring E.embed (λ o. o.values) (folder_opened_of a) (folder_opened_of b)
+        op x y e s t h k l q };
 
-    ghost asserts_appends = { λ a b x t h k. (k.0, k.1 ∙ ap (E.ring.add (E.ring.mul a.accumulator a.alpha)) h) };
+    ghost asserts_appends = { λ a b x t h k.
+        (k.0, k.1 ∙ ap (E.ring.add (E.ring.mul a.accumulator a.alpha)) h) };
 }
 
 impl<'a, F: Field, E: ExtensionField<F>> ExtensionBuilder for VerifierFolder<'a, F, E> {
@@ -154,9 +165,11 @@ impl<'a, F: Field, E: ExtensionField<F>> ExtensionBuilder for VerifierFolder<'a,
 
     type ExprEF = E;
 
-    ghost represents_ext = { λ b e t. e ≡ eval_tree (point_reading E.ring E.embed (folder_opened_of b).values) t };
+    ghost represents_ext = { λ b e t.
+        e ≡ eval_tree (point_reading E.ring E.embed (folder_opened_of b).values) t };
 
-    ghost asserts_ext = { λ a x b. (folder_opened_of b ≡ folder_opened_of a) × (b.accumulator ≡ E.ring.add (E.ring.mul a.accumulator a.alpha) x) };
+    ghost asserts_ext = { λ a x b. (folder_opened_of b ≡ folder_opened_of a)
+        × (b.accumulator ≡ E.ring.add (E.ring.mul a.accumulator a.alpha) x) };
 
     ghost computes_ext = { λ a op x y b e. e ≡ value_by E.ring op x y };
 
@@ -185,13 +198,20 @@ impl<'a, F: Field, E: ExtensionField<F>> ExtensionBuilder for VerifierFolder<'a,
 
     ghost arrays_fit_ext = { E.arrays_fit };
 
-    ghost persists_ext = { λ a b h e t k. value_persists (λ o. point_reading E.ring E.embed o.values) (folder_opened_of a) (folder_opened_of b) e t h k };
+    ghost persists_ext = { λ a b h e t k.
+        value_persists (λ o. point_reading E.ring E.embed o.values) (folder_opened_of a)
+        (folder_opened_of b) e t h k };
 
-    ghost computes_ext_represents = { λ a b h op x y e s t k l q. value_by_persists E.ring E.embed (λ o. o.values) (folder_opened_of a) (folder_opened_of b) op x y e s t h k l q };
+    ghost computes_ext_represents = { λ a b h op x y e s t k l q.
+        value_by_persists E.ring E.embed (λ o. o.values) (folder_opened_of a) (folder_opened_of b)
+        op x y e s t h k l q };
 
-    ghost lifts_represents = { λ a b h x e t k q. value_persists (λ o. point_reading E.ring E.embed o.values) (folder_opened_of a) (folder_opened_of b) e t h (q ∙ k) };
+    ghost lifts_represents = { λ a b h x e t k q.
+        value_persists (λ o. point_reading E.ring E.embed o.values) (folder_opened_of a)
+        (folder_opened_of b) e t h (q ∙ k) };
 
-    ghost asserts_ext_appends = { λ a b x t h k. (k.0, k.1 ∙ ap (E.ring.add (E.ring.mul a.accumulator a.alpha)) h) };
+    ghost asserts_ext_appends = { λ a b x t h k.
+        (k.0, k.1 ∙ ap (E.ring.add (E.ring.mul a.accumulator a.alpha)) h) };
 }
 
 impl<'a, F: Field, E: ExtensionField<F>> PermutationAirBuilder for VerifierFolder<'a, F, E> {
@@ -203,19 +223,28 @@ impl<'a, F: Field, E: ExtensionField<F>> PermutationAirBuilder for VerifierFolde
 impl<'a, F: Field, E: ExtensionField<F>> InteractionBuilder for VerifierFolder<'a, F, E> {
     ghost use Rattle.p3_uni_stark.specs.VerifierState.{folder_opened_of};
 
-    ghost sends = { λ a bus xs cs b. (folder_opened_of b ≡ folder_opened_of a) × (b.accumulator ≡ a.accumulator) };
+    ghost sends = { λ a bus xs cs b. (folder_opened_of b ≡ folder_opened_of a)
+        × (b.accumulator ≡ a.accumulator) };
 
     fn push_interaction(&mut self, _bus_name: &str, fields: &[E], count: Count<E>) -> Mem<()>
         ensures later { folder_opened_of self.new ≡ folder_opened_of self.old }
-        ensures keeps_shape { point_shape (folder_opened_of self.new).values ≡ point_shape (folder_opened_of self.old).values }
+        ensures keeps_shape { point_shape (folder_opened_of self.new).values
+            ≡ point_shape (folder_opened_of self.old).values }
         ensures answers { IsTrue true → IsOk result }
         ensures appends { (fs : List (Tree F)) (v : Tree F)
-            → Represent (λ e t. e ≡ eval_tree (point_reading E.ring E.embed (folder_opened_of self.old).values) t) fields.now fs → count.value
+            → Represent (λ e t. e ≡ eval_tree
+            (point_reading E.ring E.embed (folder_opened_of self.old).values) t) fields.now fs
+            → count.value
             ≡ eval_tree (point_reading E.ring E.embed (folder_opened_of self.old).values) v
-            → IfOk result (λ _. (folder_opened_of self.new ≡ folder_opened_of self.old) × (self.new.accumulator ≡ fold_from E.ring self.old.alpha self.old.accumulator [])) }
+            → IfOk result (λ _. (folder_opened_of self.new ≡ folder_opened_of self.old)
+            × (self.new.accumulator ≡ fold_from E.ring self.old.alpha self.old.accumulator [])) }
         ensures sure { IsTrue true → IsOk result }
-        ensures sends { IfOk result (λ _. (folder_opened_of self.new ≡ folder_opened_of self.old) × (self.new.accumulator ≡ self.old.accumulator)) }
-        ensures on_error { OnErr result ((folder_opened_of self.new ≡ folder_opened_of self.old) × (self.new.accumulator ≡ fold_from E.ring self.old.alpha self.old.accumulator [])) }
+        ensures sends { IfOk result
+            (λ _. (folder_opened_of self.new ≡ folder_opened_of self.old)
+            × (self.new.accumulator ≡ self.old.accumulator)) }
+        ensures on_error { OnErr result
+            ((folder_opened_of self.new ≡ folder_opened_of self.old)
+            × (self.new.accumulator ≡ fold_from E.ring self.old.alpha self.old.accumulator [])) }
     {
         Ok(())
     }

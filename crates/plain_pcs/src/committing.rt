@@ -32,11 +32,20 @@ pub(crate) fn commit<F: TwoAdicField, D: TwoAdicSubgroupDft<F>>(
     evaluations: Vec<(TwoAdicMultiplicativeCoset<F>, RowMajorMatrix<F>)>,
 ) -> Result<(PlainCommitment<F>, PlainProverData<F>), PcsFailure<PlainProverError>>
     requires { log_blowup ≤ F.TWO_ADICITY }
-    ensures refusal { RefusedBy (CommitFault (scheme F.ring F.inv F.root F.GENERATOR F.TWO_ADICITY (record { log_blowup = log_blowup })) evaluations.items) result }
-    ensures searched { IfOutOfMemory result (NoneOf (CommitFault (scheme F.ring F.inv F.root F.GENERATOR F.TWO_ADICITY (record { log_blowup = log_blowup })) evaluations.items)) }
-    ensures committed { IfOk result (IsCommitment F.ring (λ (d : CosetData F). 2 ^ d.log_size) (λ (d : CosetData F). point F.ring F.root d)
-        (λ es c. c ≡ commitment_of (scheme F.ring F.inv F.root F.GENERATOR F.TWO_ADICITY (record { log_blowup = log_blowup })) es)
-        IsMade (AreHolding (scheme F.ring F.inv F.root F.GENERATOR F.TWO_ADICITY (record { log_blowup = log_blowup }))) evaluations.items) }
+    ensures refusal { RefusedBy
+        (CommitFault (scheme F.ring F.inv F.root F.GENERATOR F.TWO_ADICITY
+        (record { log_blowup = log_blowup })) evaluations.items) result }
+    ensures searched { IfOutOfMemory result
+        (NoneOf (CommitFault (scheme F.ring F.inv F.root F.GENERATOR F.TWO_ADICITY
+        (record { log_blowup = log_blowup })) evaluations.items)) }
+    ensures committed { IfOk result
+        (IsCommitment F.ring (λ (d : CosetData F). 2 ^ d.log_size)
+        (λ (d : CosetData F). point F.ring F.root d)
+        (λ es c. c ≡ commitment_of
+        (scheme F.ring F.inv F.root F.GENERATOR F.TWO_ADICITY (record { log_blowup = log_blowup }))
+        es)
+        IsMade (AreHolding (scheme F.ring F.inv F.root F.GENERATOR F.TWO_ADICITY
+        (record { log_blowup = log_blowup }))) evaluations.items) }
 {
     if let Some(matrix) = first_not_committable(log_blowup, &evaluations) {
         return Err(PcsFailure::Refused(PlainProverError::Commit { matrix }));
@@ -54,9 +63,16 @@ pub(crate) fn extensions<F: TwoAdicField, D: TwoAdicSubgroupDft<F>>(
     evaluations: Vec<(TwoAdicMultiplicativeCoset<F>, RowMajorMatrix<F>)>,
 ) -> Result<Vec<RowMajorMatrix<F>>, PcsFailure<PlainProverError>>
     requires { log_blowup ≤ F.TWO_ADICITY }
-    ensures refusal { RefusedBy (CommitFault (scheme F.ring F.inv F.root F.GENERATOR F.TWO_ADICITY (record { log_blowup = log_blowup })) evaluations.items) result }
-    ensures searched { IfOutOfMemory result (NoneOf (CommitFault (scheme F.ring F.inv F.root F.GENERATOR F.TWO_ADICITY (record { log_blowup = log_blowup })) evaluations.items)) }
-    ensures extensions { IfOk result (λ v. AreExtensions (Extends (scheme F.ring F.inv F.root F.GENERATOR F.TWO_ADICITY (record { log_blowup = log_blowup }))) evaluations.items v.items) }
+    ensures refusal { RefusedBy
+        (CommitFault (scheme F.ring F.inv F.root F.GENERATOR F.TWO_ADICITY
+        (record { log_blowup = log_blowup })) evaluations.items) result }
+    ensures searched { IfOutOfMemory result
+        (NoneOf (CommitFault (scheme F.ring F.inv F.root F.GENERATOR F.TWO_ADICITY
+        (record { log_blowup = log_blowup })) evaluations.items)) }
+    ensures extensions { IfOk result
+        (λ v. AreExtensions (Extends
+        (scheme F.ring F.inv F.root F.GENERATOR F.TWO_ADICITY (record { log_blowup = log_blowup })))
+        evaluations.items v.items) }
 {
     if let Some(matrix) = first_not_committable(log_blowup, &evaluations) {
         return Err(PcsFailure::Refused(PlainProverError::Commit { matrix }));
@@ -76,7 +92,8 @@ pub fn has_subgroup_height<F: TwoAdicField>(matrix: &RowMajorMatrix<F>) -> bool
 
 // The place of the first matrix whose height isn't the size of a subgroup, or None.
 fn first_other_height<F: TwoAdicField>(ldes: &[RowMajorMatrix<F>]) -> Option<usize>
-    ensures { MatchOption result (All (HasSubgroupHeight F.TWO_ADICITY) ldes.now) (IsFirstWithout (HasSubgroupHeight F.TWO_ADICITY) ldes.now) }
+    ensures { MatchOption result (All (HasSubgroupHeight F.TWO_ADICITY) ldes.now)
+        (IsFirstWithout (HasSubgroupHeight F.TWO_ADICITY) ldes.now) }
 {
     for (matrix, lde) in ldes.iter().enumerate() {
         if !has_subgroup_height(lde) {
@@ -101,7 +118,8 @@ fn with_cosets<F: TwoAdicField>(
     matrices: Vec<RowMajorMatrix<F>>,
 ) -> Mem<Vec<(TwoAdicMultiplicativeCoset<F>, RowMajorMatrix<F>)>>
     requires { All (HasSubgroupHeight F.TWO_ADICITY) matrices.items }
-    ensures { IfOk result (λ v. EachFrom matrices.items v.items (λ m e. IsOnCoset F.GENERATOR m e)) }
+    ensures { IfOk result (λ v.
+        EachFrom matrices.items v.items (λ m e. IsOnCoset F.GENERATOR m e)) }
 {
     let mut evaluated = Vec::with_capacity(alloc, matrices.len())?;
     for matrix in matrices {
@@ -120,16 +138,27 @@ pub(crate) fn commit_extensions<F: TwoAdicField>(
     ldes: Vec<RowMajorMatrix<F>>,
 ) -> Result<(PlainCommitment<F>, PlainProverData<F>), PcsFailure<PlainProverError>>
     requires { log_blowup ≤ F.TWO_ADICITY }
-    ensures refusal { RefusedBy (ExtensionsFault (scheme F.ring F.inv F.root F.GENERATOR F.TWO_ADICITY (record { log_blowup = log_blowup })) ldes.items) result }
-    ensures searched { IfOutOfMemory result (NoneOf (ExtensionsFault (scheme F.ring F.inv F.root F.GENERATOR F.TWO_ADICITY (record { log_blowup = log_blowup })) ldes.items)) }
+    ensures refusal { RefusedBy
+        (ExtensionsFault (scheme F.ring F.inv F.root F.GENERATOR F.TWO_ADICITY
+        (record { log_blowup = log_blowup })) ldes.items) result }
+    ensures searched { IfOutOfMemory result
+        (NoneOf (ExtensionsFault
+        (scheme F.ring F.inv F.root F.GENERATOR F.TWO_ADICITY (record { log_blowup = log_blowup }))
+        ldes.items)) }
     ensures commitment { IfOk result (λ w. w.0 ≡ record { matrices = ldes.items }) }
     ensures made { IfOk result (λ w. IsMade w.1) }
     ensures count { IfOk result (λ w. length w.1 ≡ length ldes.items) }
     ensures committed { IfOk result (λ w. (chunks : List (CosetData F × Rows F))
-        → AreExtensions (Extends (scheme F.ring F.inv F.root F.GENERATOR F.TWO_ADICITY (record { log_blowup = log_blowup }))) chunks ldes.items
-        → IsCommitment F.ring (λ (d : CosetData F). 2 ^ d.log_size) (λ (d : CosetData F). point F.ring F.root d)
-        (λ es c. c ≡ commitment_of (scheme F.ring F.inv F.root F.GENERATOR F.TWO_ADICITY (record { log_blowup = log_blowup })) es)
-        IsMade (AreHolding (scheme F.ring F.inv F.root F.GENERATOR F.TWO_ADICITY (record { log_blowup = log_blowup }))) chunks w) }
+        → AreExtensions (Extends
+        (scheme F.ring F.inv F.root F.GENERATOR F.TWO_ADICITY (record { log_blowup = log_blowup })))
+        chunks ldes.items
+        → IsCommitment F.ring (λ (d : CosetData F). 2 ^ d.log_size)
+        (λ (d : CosetData F). point F.ring F.root d)
+        (λ es c. c ≡ commitment_of
+        (scheme F.ring F.inv F.root F.GENERATOR F.TWO_ADICITY (record { log_blowup = log_blowup }))
+        es)
+        IsMade (AreHolding (scheme F.ring F.inv F.root F.GENERATOR F.TWO_ADICITY
+        (record { log_blowup = log_blowup }))) chunks w) }
 {
     if let Some(matrix) = first_other_height(&ldes) {
         return Err(PcsFailure::Refused(PlainProverError::Commit { matrix }));
@@ -146,7 +175,9 @@ pub(crate) fn column_polynomials<F: TwoAdicField>(
 ) -> Mem<Vec<Vec<F>>>
     requires { HasSubgroupHeight F.TWO_ADICITY matrix.now }
     ensures { IfOk result (λ v. (k : ℕ) → height matrix.now ≡ 2 ^ k
-        → EachOf matrix.now.width v.items (λ j f. IsInterpolant F.ring (coset_point F.ring F.GENERATOR (F.root k)) (column F.ring.zero matrix.now j) f.items)) }
+        → EachOf matrix.now.width v.items
+        (λ j f. IsInterpolant F.ring (coset_point F.ring F.GENERATOR (F.root k))
+        (column F.ring.zero matrix.now j) f.items)) }
 {
     let log_height = log2_strict_usize(matrix.height());
     let coefficients = interpolants_on_coset(alloc, matrix, F::GENERATOR, log_height)?;
@@ -167,9 +198,13 @@ pub(crate) fn committed<F: TwoAdicField>(
     matrix: usize,
 ) -> Mem<Vec<Vec<F>>>
     requires exists { matrix < length commitment.now.matrices }
-    requires height { (m : Rows F) → slice_get commitment.now.matrices matrix ≡ Some m → HasSubgroupHeight F.TWO_ADICITY m }
-    ensures { IfOk result (λ v. (m : Rows F) (k : ℕ) → slice_get commitment.now.matrices matrix ≡ Some m → height m ≡ 2 ^ k
-        → EachOf m.width v.items (λ j f. IsInterpolant F.ring (coset_point F.ring F.GENERATOR (F.root k)) (column F.ring.zero m j) f.items)) }
+    requires height { (m : Rows F) → slice_get commitment.now.matrices matrix ≡ Some m
+        → HasSubgroupHeight F.TWO_ADICITY m }
+    ensures { IfOk result (λ v. (m : Rows F) (k : ℕ)
+        → slice_get commitment.now.matrices matrix ≡ Some m → height m ≡ 2 ^ k
+        → EachOf m.width v.items
+        (λ j f. IsInterpolant F.ring (coset_point F.ring F.GENERATOR (F.root k))
+        (column F.ring.zero m j) f.items)) }
 {
     column_polynomials(alloc, &commitment.matrices[matrix])
 }

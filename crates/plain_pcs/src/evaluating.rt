@@ -35,8 +35,11 @@ pub(crate) fn evaluations_on_domain<F: TwoAdicField, D: TwoAdicSubgroupDft<F>>(
 ) -> Mem<RowMajorMatrix<F>>
     requires made { IsMade prover_data.now }
     requires index { idx < length prover_data.now }
-    ensures { IfOk result (λ m. (b : Blowup) (commitment : PlainCommitmentData F) (cs : List (Committed F)) (c : Committed F)
-        → AreHolding (scheme F.ring F.inv F.root F.GENERATOR F.TWO_ADICITY b) prover_data.now commitment cs → slice_get cs idx ≡ Some c
+    ensures { IfOk result (λ m.
+        (b : Blowup) (commitment : PlainCommitmentData F) (cs : List (Committed F))
+        (c : Committed F)
+        → AreHolding (scheme F.ring F.inv F.root F.GENERATOR F.TWO_ADICITY b) prover_data.now
+        commitment cs → slice_get cs idx ≡ Some c
         → IsEvaluated F.ring (2 ^ domain.log_size) (point F.ring F.root domain) c m) }
 {
     let (from, matrix) = &prover_data.evaluated[idx];
@@ -80,12 +83,16 @@ pub(crate) fn periodic_table<F: TwoAdicField, D: TwoAdicSubgroupDft<F>>(
     trace_domain: TwoAdicMultiplicativeCoset<F>,
     quotient_domain: TwoAdicMultiplicativeCoset<F>,
 ) -> Mem<PeriodicLdeTable<F>>
-    requires fit { All (λ c. IsPeriod (2 ^ trace_domain.log_size) (length c.items)) periodic_cols.now }
+    requires fit { All (λ c. IsPeriod (2 ^ trace_domain.log_size) (length c.items))
+        periodic_cols.now }
     requires shift { point F.ring F.root trace_domain 0 ≡ F.ring.one }
     requires larger { 2 ^ trace_domain.log_size ≤ 2 ^ quotient_domain.log_size }
-    ensures table { IfOk result (IsPeriodicTable F.ring (2 ^ trace_domain.log_size) (point F.ring F.root trace_domain) (2 ^ quotient_domain.log_size)
+    ensures table { IfOk result
+        (IsPeriodicTable F.ring (2 ^ trace_domain.log_size) (point F.ring F.root trace_domain)
+        (2 ^ quotient_domain.log_size)
         (point F.ring F.root quotient_domain) (map (λ c. c.items) periodic_cols.now)) }
-    ensures height { IfOk result (λ t. (period : ℕ) → IsGreatest (map (λ c. length c.items) periodic_cols.now) period
+    ensures height { IfOk result
+        (λ t. (period : ℕ) → IsGreatest (map (λ c. length c.items) periodic_cols.now) period
         → height t ≡ period * (2 ^ quotient_domain.log_size / 2 ^ trace_domain.log_size)) }
 {
     match longest_period(periodic_cols) {
@@ -105,7 +112,8 @@ pub(crate) fn periodic_table<F: TwoAdicField, D: TwoAdicSubgroupDft<F>>(
 
 // The greatest length, where there is a column.
 fn longest_period<F>(columns: &[Vec<F>]) -> Option<usize>
-    ensures { MatchOption result (length columns.now ≡ 0) (IsGreatest (map (λ c. length c.items) columns.now)) }
+    ensures { MatchOption result (length columns.now ≡ 0)
+        (IsGreatest (map (λ c. length c.items) columns.now)) }
 {
     columns.iter().map(|column| column.len()).max()
 }
@@ -167,7 +175,9 @@ fn repeated<F: RingCore>(alloc: Global, columns: &[Vec<F>], rows: usize) -> Mem<
 // One more row: the columns' values at the row's number modulo their lengths.
 fn push_row<F: RingCore>(values: &mut Vec<F>, columns: &[Vec<F>], row: usize) -> Mem<()>
     requires { All (λ c. 0 < length c.items) columns.now }
-    ensures { IfOk result (λ _. values.new.items ≡ values.old.items ++ map (λ c. get_or c.items (row % length c.items) F.ring.zero) columns.now) }
+    ensures { IfOk result (λ _.
+        values.new.items ≡ values.old.items
+        ++ map (λ c. get_or c.items (row % length c.items) F.ring.zero) columns.now) }
 {
     for column in columns {
         values.push(column[row % column.len()])?;

@@ -20,7 +20,8 @@ pub(crate) fn observe_values<F: RingCore, C: CanObserve<F>>(challenger: &mut C, 
 
 /// The first point with another number of coordinates.
 pub(crate) fn first_unfit<E>(points: &[Vec<E>], num_vars: usize) -> Option<usize>
-    ensures { MatchOption result (HaveCoordinates num_vars (lists points.now)) (IsFirstUnfit num_vars (lists points.now)) }
+    ensures { MatchOption result (HaveCoordinates num_vars (lists points.now))
+        (IsFirstUnfit num_vars (lists points.now)) }
 {
     for (i, point) in points.iter().enumerate() {
         if point.len() != num_vars {
@@ -33,7 +34,8 @@ pub(crate) fn first_unfit<E>(points: &[Vec<E>], num_vars: usize) -> Option<usize
 /// The place of the first value that differs.
 pub(crate) fn first_different<E: FieldCore>(claimed: &[E], values: &[E]) -> Option<usize>
     requires { length claimed.now ≡ length values.now }
-    ensures { MatchOption result (claimed.now ≡ values.now) (IsFirstDifferent E.ring claimed.now values.now) }
+    ensures { MatchOption result (claimed.now ≡ values.now)
+        (IsFirstDifferent E.ring claimed.now values.now) }
 {
     for (i, value) in values.iter().enumerate() {
         if claimed[i] != *value {
@@ -47,7 +49,9 @@ pub(crate) fn first_different<E: FieldCore>(claimed: &[E], values: &[E]) -> Opti
 // it has a + x (b - a).
 fn first_set<E: Field>(alloc: Global, values: &[E], x: E) -> Mem<Vec<E>>
     ensures count { IfOk result (λ v. length v.items ≡ length values.now / 2) }
-    ensures value { IfOk result (λ v. (xs : List E) → length values.now ≡ 2 * 2 ^ length xs → multilinear_value E.ring v.items xs ≡ multilinear_value E.ring values.now (x ∷ xs)) }
+    ensures value { IfOk result
+        (λ v. (xs : List E) → length values.now ≡ 2 * 2 ^ length xs
+        → multilinear_value E.ring v.items xs ≡ multilinear_value E.ring values.now (x ∷ xs)) }
 {
     let count = values.len() / 2;
     let mut set = Vec::with_capacity(alloc, count)?;
@@ -72,7 +76,8 @@ fn value_at<F: Field, EF: ExtensionField<F>>(
     point: &[EF],
 ) -> Mem<EF>
     requires { length evaluations.now ≡ 2 ^ length point.now }
-    ensures { IfOk result (λ y. y ≡ multilinear_value EF.ring (map EF.embed evaluations.now) point.now) }
+    ensures { IfOk result (λ y.
+        y ≡ multilinear_value EF.ring (map EF.embed evaluations.now) point.now) }
 {
     let mut values = embedded::<F, EF>(alloc, evaluations)?;
     for &x in point {
@@ -88,7 +93,8 @@ pub(crate) fn values_at<F: Field, EF: ExtensionField<F>>(
     points: &[Vec<EF>],
 ) -> Mem<Vec<EF>>
     requires { (m : ℕ) × (HasValues m evaluations.now × HaveCoordinates m (lists points.now)) }
-    ensures { IfOk result (λ v. v.items ≡ values_at_points EF.ring EF.embed evaluations.now (lists points.now)) }
+    ensures { IfOk result (λ v.
+        v.items ≡ values_at_points EF.ring EF.embed evaluations.now (lists points.now)) }
 {
     let mut values = Vec::with_capacity(alloc, points.len())?;
     for point in points {

@@ -22,8 +22,12 @@ pub(crate) fn extension<F: TwoAdicField, D: TwoAdicSubgroupDft<F>>(
     domain: TwoAdicMultiplicativeCoset<F>,
     matrix: RowMajorMatrix<F>,
 ) -> Mem<RowMajorMatrix<F>>
-    requires { IsCommittable (scheme F.ring F.inv F.root F.GENERATOR F.TWO_ADICITY (record { log_blowup = log_blowup })) domain matrix }
-    ensures { IfOk result (λ m. m ≡ extension_of (scheme F.ring F.inv F.root F.GENERATOR F.TWO_ADICITY (record { log_blowup = log_blowup })) domain matrix) }
+    requires { IsCommittable
+        (scheme F.ring F.inv F.root F.GENERATOR F.TWO_ADICITY (record { log_blowup = log_blowup }))
+        domain matrix }
+    ensures { IfOk result (λ m.
+        m ≡ extension_of (scheme F.ring F.inv F.root F.GENERATOR F.TWO_ADICITY
+        (record { log_blowup = log_blowup })) domain matrix) }
 {
     domain.valid();
     let shift = F::GENERATOR * domain.shift_inverse();
@@ -40,7 +44,9 @@ fn is_committable<F: TwoAdicField>(
     matrix: &RowMajorMatrix<F>,
 ) -> bool
     requires { log_blowup ≤ F.TWO_ADICITY }
-    ensures { IsTrue result ↔ IsCommittable (scheme F.ring F.inv F.root F.GENERATOR F.TWO_ADICITY (record { log_blowup = log_blowup })) domain.now matrix.now }
+    ensures { IsTrue result ↔ IsCommittable
+        (scheme F.ring F.inv F.root F.GENERATOR F.TWO_ADICITY (record { log_blowup = log_blowup }))
+        domain.now matrix.now }
 {
     domain.valid();
     matrix.width() > 0
@@ -54,8 +60,13 @@ pub(crate) fn first_not_committable<F: TwoAdicField>(
     evaluations: &[(TwoAdicMultiplicativeCoset<F>, RowMajorMatrix<F>)],
 ) -> Option<usize>
     requires { log_blowup ≤ F.TWO_ADICITY }
-    ensures { MatchOption result (All (λ e. IsCommittable (scheme F.ring F.inv F.root F.GENERATOR F.TWO_ADICITY (record { log_blowup = log_blowup })) e.0 e.1) evaluations.now)
-        (IsFirstWithout (λ e. IsCommittable (scheme F.ring F.inv F.root F.GENERATOR F.TWO_ADICITY (record { log_blowup = log_blowup })) e.0 e.1) evaluations.now) }
+    ensures { MatchOption result
+        (All (λ e. IsCommittable
+        (scheme F.ring F.inv F.root F.GENERATOR F.TWO_ADICITY (record { log_blowup = log_blowup }))
+        e.0 e.1) evaluations.now)
+        (IsFirstWithout (λ e. IsCommittable
+        (scheme F.ring F.inv F.root F.GENERATOR F.TWO_ADICITY (record { log_blowup = log_blowup }))
+        e.0 e.1) evaluations.now) }
 {
     for (matrix, evaluated) in evaluations.iter().enumerate() {
         if !is_committable(log_blowup, &evaluated.0, &evaluated.1) {
@@ -72,8 +83,12 @@ pub(crate) fn extensions_from<F: TwoAdicField, D: TwoAdicSubgroupDft<F>>(
     log_blowup: usize,
     evaluations: Vec<(TwoAdicMultiplicativeCoset<F>, RowMajorMatrix<F>)>,
 ) -> Mem<Vec<RowMajorMatrix<F>>>
-    requires { All (λ e. IsCommittable (scheme F.ring F.inv F.root F.GENERATOR F.TWO_ADICITY (record { log_blowup = log_blowup })) e.0 e.1) evaluations.items }
-    ensures { IfOk result (λ v. AreExtensions (Extends (scheme F.ring F.inv F.root F.GENERATOR F.TWO_ADICITY (record { log_blowup = log_blowup }))) evaluations.items v.items) }
+    requires { All (λ e. IsCommittable
+        (scheme F.ring F.inv F.root F.GENERATOR F.TWO_ADICITY (record { log_blowup = log_blowup }))
+        e.0 e.1) evaluations.items }
+    ensures { IfOk result (λ v.
+        AreExtensions (Extends (scheme F.ring F.inv F.root F.GENERATOR F.TWO_ADICITY
+        (record { log_blowup = log_blowup }))) evaluations.items v.items) }
 {
     let mut extensions = Vec::with_capacity(alloc, evaluations.len())?;
     for evaluated in evaluations {

@@ -21,15 +21,19 @@ use p3_field::{
 /// that it gave; to commit to a quotient whose parts have at most so many rows; to open where each request has one list of
 /// points per matrix.
 pub fn nothing_is_refused_within_bounds<F: TwoAdicField, E>()
-    ensures commit { (b : Blowup) (evaluated : List (CosetData F × Rows F)) → b.log_blowup ≤ F.TWO_ADICITY
+    ensures commit { (b : Blowup) (evaluated : List (CosetData F × Rows F))
+        → b.log_blowup ≤ F.TWO_ADICITY
         → All (IsWithinBounds (scheme F.ring F.inv F.root F.GENERATOR F.TWO_ADICITY b)) evaluated
         → NoneOf (CommitFault (scheme F.ring F.inv F.root F.GENERATOR F.TWO_ADICITY b) evaluated) }
     ensures extensions { (b : Blowup) (chunks : List (CosetData F × Rows F)) (ldes : List (Rows F))
-        → AreExtensions (Extends (scheme F.ring F.inv F.root F.GENERATOR F.TWO_ADICITY b)) chunks ldes
+        → AreExtensions (Extends (scheme F.ring F.inv F.root F.GENERATOR F.TWO_ADICITY b)) chunks
+        ldes
         → NoneOf (ExtensionsFault (scheme F.ring F.inv F.root F.GENERATOR F.TWO_ADICITY b) ldes) }
-    ensures quotient { (b : Blowup) (d : CosetData F) (log_rows log_parts : ℕ) → b.log_blowup ≤ F.TWO_ADICITY
+    ensures quotient { (b : Blowup) (d : CosetData F) (log_rows log_parts : ℕ)
+        → b.log_blowup ≤ F.TWO_ADICITY
         → d.log_size ≡ log_rows + log_parts → log_rows ≤ F.TWO_ADICITY - b.log_blowup
-        → NoneOf (QuotientFault (scheme F.ring F.inv F.root F.GENERATOR F.TWO_ADICITY b) d (2 ^ log_parts)) }
+        → NoneOf (QuotientFault (scheme F.ring F.inv F.root F.GENERATOR F.TWO_ADICITY b) d
+        (2 ^ log_parts)) }
     ensures open { (requests : List (Request (List (CosetData F × Rows F)) E))
         → All (λ r. length r.points ≡ length r.prover_data) requests → NoneOf (OpenFault requests) }
 {}
@@ -40,7 +44,9 @@ pub fn nothing_is_refused_within_bounds<F: TwoAdicField, E>()
 pub fn opened_claims_bind<F: TwoAdicField, E: ExtensionField<F>>()
     ensures { (b : Blowup) (claims : List (CommitmentClaim E (PlainCommitmentData F) (CosetData F)))
         → Opens (scheme F.ring F.inv F.root F.GENERATOR F.TWO_ADICITY b) E.ring E.embed claims
-        → (round matrix : ℕ) (c : CommitmentClaim E (PlainCommitmentData F) (CosetData F)) (m : Rows F) (d : MatrixClaim E (CosetData F))
-        → slice_get claims round ≡ Some c → slice_get c.commitment.matrices matrix ≡ Some m → slice_get c.matrices matrix ≡ Some d
+        → (round matrix : ℕ) (c : CommitmentClaim E (PlainCommitmentData F) (CosetData F))
+        (m : Rows F) (d : MatrixClaim E (CosetData F))
+        → slice_get claims round ≡ Some c → slice_get c.commitment.matrices matrix ≡ Some m
+        → slice_get c.matrices matrix ≡ Some d
         → IsBound (scheme F.ring F.inv F.root F.GENERATOR F.TWO_ADICITY b) E.ring E.embed m d }
 {}

@@ -11,7 +11,8 @@ use p3_matrix::RowMajorMatrix;
 
 /// Takes in a matrix: its width, its height, and its values row by row.
 fn observe_matrix(challenger: &mut Sha256Challenger, matrix: &RowMajorMatrix<BabyBear>)
-    ensures { challenger.new ≡ observed_all challenger.old (matrix_elements baby_bear_ring matrix.now) }
+    ensures { challenger.new
+        ≡ observed_all challenger.old (matrix_elements baby_bear_ring matrix.now) }
 {
     challenger.observe(&BabyBear::from_u64(matrix.width() as u64));
     challenger.observe(&BabyBear::from_u64(matrix.height() as u64));
@@ -20,7 +21,8 @@ fn observe_matrix(challenger: &mut Sha256Challenger, matrix: &RowMajorMatrix<Bab
 
 /// Takes in matrices, each in its turn.
 fn observe_matrices(challenger: &mut Sha256Challenger, matrices: &[RowMajorMatrix<BabyBear>])
-    ensures { challenger.new ≡ observed_all challenger.old (flat_map (matrix_elements baby_bear_ring) matrices.now) }
+    ensures { challenger.new
+        ≡ observed_all challenger.old (flat_map (matrix_elements baby_bear_ring) matrices.now) }
 {
     for matrix in matrices {
         observe_matrix(challenger, matrix);

@@ -36,9 +36,12 @@ pub(crate) fn open<F: TwoAdicField, E: ExtensionField<F>>(
     ensures refusal { RefusedBy (OpenFault requests.now) result }
     ensures searched { IfOutOfMemory result (NoneOf (OpenFault requests.now)) }
     ensures opening { IfOk result (λ w. (held : List (OpenedCommitment (PlainCommitmentData F) F))
-        → AreOpenedCommitments (AreHolding (scheme F.ring F.inv F.root F.GENERATOR F.TWO_ADICITY (record { log_blowup = log_blowup }))) requests.now held
+        → AreOpenedCommitments (AreHolding
+        (scheme F.ring F.inv F.root F.GENERATOR F.TWO_ADICITY (record { log_blowup = log_blowup })))
+        requests.now held
         → IsOpening E.ring E.embed (λ (d : CosetData F). 2 ^ d.log_size) (λ (x : E). ⊥)
-        (Opens (scheme F.ring F.inv F.root F.GENERATOR F.TWO_ADICITY (record { log_blowup = log_blowup })) E.ring E.embed) requests.now (nested w) held) }
+        (Opens (scheme F.ring F.inv F.root F.GENERATOR F.TWO_ADICITY
+        (record { log_blowup = log_blowup })) E.ring E.embed) requests.now (nested w) held) }
 {
     if let Some(request) = first_unfit(requests) {
         return Err(PcsFailure::Refused(PlainProverError::Open { request }));
@@ -51,7 +54,8 @@ pub(crate) fn open<F: TwoAdicField, E: ExtensionField<F>>(
 fn first_unfit<F: TwoAdicCore, E>(
     requests: &[OpeningRequest<'_, PlainProverData<F>, E>],
 ) -> Option<usize>
-    ensures { MatchOption result (All (λ r. length r.points ≡ length r.prover_data) requests.now) (IsFirstWithout (λ r. length r.points ≡ length r.prover_data) requests.now) }
+    ensures { MatchOption result (All (λ r. length r.points ≡ length r.prover_data) requests.now)
+        (IsFirstWithout (λ r. length r.points ≡ length r.prover_data) requests.now) }
 {
     for (index, request) in requests.iter().enumerate() {
         let prover_data = request.prover_data;
@@ -73,7 +77,9 @@ fn opened_requests<F: TwoAdicField, E: ExtensionField<F>>(
     requires made { All (λ r. IsMade r.prover_data) requests.now }
     requires lists { All (λ r. length r.points ≡ length r.prover_data) requests.now }
     ensures { IfOk result (λ w. (held : List (OpenedCommitment (PlainCommitmentData F) F))
-        → EachFrom requests.now held (λ r h. EachHasValues F.ring F.root log_blowup r.prover_data h.matrices) → nested w ≡ opened E.ring E.embed held requests.now) }
+        → EachFrom requests.now held
+        (λ r h. EachHasValues F.ring F.root log_blowup r.prover_data h.matrices)
+        → nested w ≡ opened E.ring E.embed held requests.now) }
 {
     let mut rounds = Vec::with_capacity(alloc, requests.len())?;
     for request in requests {
@@ -91,7 +97,9 @@ fn opened_matrices<F: TwoAdicField, E: ExtensionField<F>>(
 ) -> Mem<OpenedValuesForRound<E>>
     requires made { IsMade prover_data.now }
     requires lists { length points.now ≡ length prover_data.now }
-    ensures { IfOk result (λ w. (cs : List (Committed F)) → EachHasValues F.ring F.root log_blowup prover_data.now cs → map (λ m. map (λ v. v.items) m.items) w.items
+    ensures { IfOk result (λ w. (cs : List (Committed F))
+        → EachHasValues F.ring F.root log_blowup prover_data.now cs
+        → map (λ m. map (λ v. v.items) m.items) w.items
         ≡ opened_each E.ring E.embed cs (map (λ v. v.items) points.now)) }
 {
     let mut matrices = Vec::with_capacity(alloc, points.len())?;
@@ -112,7 +120,9 @@ fn opened_matrix<F: TwoAdicField, E: ExtensionField<F>>(
     points: &[E],
 ) -> Mem<OpenedValuesForMatrix<E>>
     requires { height matrix.now ≡ 2 ^ domain.now.log_size }
-    ensures { IfOk result (λ w. (c : Committed F) → HaveMatrixValues F.ring F.root (2 ^ (domain.now.log_size - log_blowup)) domain.now matrix.now c.polynomials
+    ensures { IfOk result (λ w. (c : Committed F)
+        → HaveMatrixValues F.ring F.root (2 ^ (domain.now.log_size - log_blowup)) domain.now
+        matrix.now c.polynomials
         → map (λ v. v.items) w.items ≡ map (values_of E.ring E.embed c) points.now) }
 {
     let part = first_part(domain, log_blowup);
@@ -148,7 +158,9 @@ fn opened_at<F: TwoAdicField, E: ExtensionField<F>>(
     point: E,
 ) -> Mem<Vec<E>>
     requires { height matrix.now ≡ 2 ^ domain.now.log_size }
-    ensures { IfOk result (λ v. (c : Committed F) → HaveMatrixValues F.ring F.root (2 ^ domain.now.log_size) domain.now matrix.now c.polynomials → v.items ≡ values_of E.ring E.embed c point) }
+    ensures { IfOk result (λ v. (c : Committed F)
+        → HaveMatrixValues F.ring F.root (2 ^ domain.now.log_size) domain.now matrix.now
+        c.polynomials → v.items ≡ values_of E.ring E.embed c point) }
 {
     domain.valid();
     let values = interpolate_coset(alloc, matrix, domain.shift(), point)?;

@@ -129,8 +129,11 @@ impl<T: Copy + Eq> Mmcs<T> for PlainMmcs {
         opening: BatchOpeningRef<'_, T, Self>,
     ) -> Result<(), PcsFailure<PlainMmcsError>>
         requires { All (λ d. ⊤) dimensions.now }
-        ensures verdict { VerifiedBy (IsRowOpening T.eq commit.now.items dimensions.now index (lists opening.entry.opened_values.now))
-            (IsOpeningFault T.eq commit.now.items dimensions.now index (lists opening.entry.opened_values.now)) result }
+        ensures verdict { VerifiedBy
+            (IsRowOpening T.eq commit.now.items dimensions.now index
+            (lists opening.entry.opened_values.now))
+            (IsOpeningFault T.eq commit.now.items dimensions.now index
+            (lists opening.entry.opened_values.now)) result }
         ensures decided { result ≢ Err PcsFailure.OutOfMemory }
     {
         let rows = opening.opened_values;
@@ -172,8 +175,11 @@ impl<T: Copy + Eq> Mmcs<T> for PlainMmcs {
         _proof: &PlainMmcsProof,
     ) -> Result<(), PcsFailure<PlainMmcsError>>
         requires { All (λ d. ⊤) dimensions.now }
-        ensures verdict { VerifiedBy (AreRowOpenings T.eq commit.now.items dimensions.now indices.now (map (λ rows. lists rows.items) opened_values.now))
-            (IsFaultOfOpenings T.eq commit.now.items dimensions.now indices.now (map (λ rows. lists rows.items) opened_values.now)) result }
+        ensures verdict { VerifiedBy
+            (AreRowOpenings T.eq commit.now.items dimensions.now indices.now
+            (map (λ rows. lists rows.items) opened_values.now))
+            (IsFaultOfOpenings T.eq commit.now.items dimensions.now indices.now
+            (map (λ rows. lists rows.items) opened_values.now)) result }
         ensures decided { result ≢ Err PcsFailure.OutOfMemory }
     {
         if !have_shape(commit, dimensions, indices, opened_values) {
@@ -190,15 +196,19 @@ impl<T: Copy + Eq> Mmcs<T> for PlainMmcs {
 
     ghost opens_faultless = { λ s c ds i rows p h. opened_faultless T.eq c.items ds i rows h };
 
-    ghost multi_opens_faultless = { λ s c ds is rows p h. all_opened_faultless T.eq c.items ds is rows h };
+    ghost multi_opens_faultless = { λ s c ds is rows p h.
+        all_opened_faultless T.eq c.items ds is rows h };
 
     ghost some_fault = { λ s c ds i rows p n f. some_opening_fault T.eq c.items ds i rows n f };
 
-    ghost multi_some_fault = { λ s c ds is rows p n f. some_fault_of_all T.eq c.items ds is rows n f };
+    ghost multi_some_fault = { λ s c ds is rows p n f.
+        some_fault_of_all T.eq c.items ds is rows n f };
 
-    ghost one_fault = { λ s c ds i rows p e g f h. one_opening_fault T.eq c.items ds i rows e g f h };
+    ghost one_fault = { λ s c ds i rows p e g f h.
+        one_opening_fault T.eq c.items ds i rows e g f h };
 
-    ghost multi_one_fault = { λ s c ds is rows p e g f h. one_fault_of_all T.eq c.items ds is rows e g f h };
+    ghost multi_one_fault = { λ s c ds is rows p e g f h.
+        one_fault_of_all T.eq c.items ds is rows e g f h };
 
     ghost opened_widths = { λ s c ds i rows p h. h.shape.widths };
 
@@ -214,7 +224,8 @@ fn has_shape<T>(matrices: &[RowMajorMatrix<T>], dimensions: &[Dimensions], rows:
 
 // Whether each opening has a row for each of the dimensions, as long as they say.
 fn have_widths_each<T>(dimensions: &[Dimensions], openings: &[Vec<Vec<T>>]) -> bool
-    ensures { IsTrue result ↔ All (HaveWidths dimensions.now) (map (λ rows. lists rows.items) openings.now) }
+    ensures { IsTrue result ↔ All (HaveWidths dimensions.now)
+        (map (λ rows. lists rows.items) openings.now) }
 {
     for rows in openings {
         if !have_widths(dimensions, rows) {
@@ -231,7 +242,8 @@ fn have_shape<T>(
     indices: &[usize],
     openings: &[Vec<Vec<T>>],
 ) -> bool
-    ensures { IsTrue result ↔ HaveOpeningShapes matrices.now dimensions.now indices.now (map (λ rows. lists rows.items) openings.now) }
+    ensures { IsTrue result ↔ HaveOpeningShapes matrices.now dimensions.now indices.now
+        (map (λ rows. lists rows.items) openings.now) }
 {
     are_dimensions(matrices, dimensions)
         && openings.len() == indices.len()
@@ -260,7 +272,8 @@ fn are_all_the_rows<T: Copy + Eq>(
     requires places { All (IsRowOf matrices.now) indices.now }
     requires count { length openings.now ≡ length indices.now }
     requires rows { All (λ rows. length rows.items ≡ length matrices.now) openings.now }
-    ensures { IsTrue result ↔ EachFrom indices.now (map (λ rows. lists rows.items) openings.now) (AreTheRows T.eq matrices.now) }
+    ensures { IsTrue result ↔ EachFrom indices.now (map (λ rows. lists rows.items) openings.now)
+        (AreTheRows T.eq matrices.now) }
 {
     for (i, rows) in openings.iter().enumerate() {
         if !are_the_rows(matrices, indices[i], rows) {

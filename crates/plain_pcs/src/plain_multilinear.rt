@@ -119,13 +119,16 @@ impl<F: Field, EF: ExtensionField<F>, C: CanObserve<F>> MultilinearPcs<EF, C>
 
     ghost observed = { λ s c t. after_values F.ring C.observed c.values.items t };
 
-    ghost holds = { λ s d c w. HasValues s w.items × (d.values.items ≡ w.items) × (c.values.items ≡ w.items) };
+    ghost holds = { λ s d c w. HasValues s w.items × (d.values.items ≡ w.items)
+        × (c.values.items ≡ w.items) };
 
     ghost open_fault = { λ s d o e. IsOpenFault s d.values.items (lists o.items) e };
 
-    ghost opens = { λ s t c o p. AreValuesAt EF.ring EF.embed s c.values.items (lists o.items) p.items };
+    ghost opens = { λ s t c o p.
+        AreValuesAt EF.ring EF.embed s c.values.items (lists o.items) p.items };
 
-    ghost fault = { λ s t c o p e. IsClaimFault EF.ring EF.embed s c.values.items (lists o.items) p.items e };
+    ghost fault = { λ s t c o p e.
+        IsClaimFault EF.ring EF.embed s c.values.items (lists o.items) p.items e };
 
     fn num_vars(&self) -> usize {
         self.num_vars
@@ -144,8 +147,11 @@ impl<F: Field, EF: ExtensionField<F>, C: CanObserve<F>> MultilinearPcs<EF, C>
         ensures searched { IfOutOfMemory result (HasValues self.now witness.items) }
         ensures unchanged { IfRefused result (λ _. challenger.new ≡ challenger.old) }
         ensures unchanged_by_failure { IfErr result (λ _. challenger.new ≡ challenger.old) }
-        ensures observed { IfOk result (λ w. challenger.new ≡ after_values F.ring C.observed w.0.values.items challenger.old) }
-        ensures held { IfOk result (λ w. HasValues self.now witness.items × (w.1.values.items ≡ witness.items) × (w.0.values.items ≡ witness.items)) }
+        ensures observed { IfOk result
+            (λ w. challenger.new ≡ after_values F.ring C.observed w.0.values.items challenger.old) }
+        ensures held { IfOk result
+            (λ w. HasValues self.now witness.items × (w.1.values.items ≡ witness.items)
+            × (w.0.values.items ≡ witness.items)) }
     {
         if witness.len() != 1 << self.num_vars {
             return Err(PcsFailure::Refused(PlainMultilinearProverError::Length));
@@ -172,12 +178,18 @@ impl<F: Field, EF: ExtensionField<F>, C: CanObserve<F>> MultilinearPcs<EF, C>
         protocol: &Vec<Vec<EF>>,
         _challenger: &mut C,
     ) -> Result<Vec<EF>, PcsFailure<PlainMultilinearProverError>>
-        ensures refusal { RefusedBy (IsOpenFault self.now prover_data.values.items (lists protocol.now.items)) result }
-        ensures searched { IfOutOfMemory result (HasValues self.now prover_data.values.items × HaveCoordinates self.now (lists protocol.now.items)) }
+        ensures refusal { RefusedBy
+            (IsOpenFault self.now prover_data.values.items (lists protocol.now.items)) result }
+        ensures searched { IfOutOfMemory result
+            (HasValues self.now prover_data.values.items
+            × HaveCoordinates self.now (lists protocol.now.items)) }
         ensures unchanged { IfRefused result (λ _. _challenger.new ≡ _challenger.old) }
         ensures challenger { _challenger.new ≡ _challenger.old }
-        ensures accepted { IfOk result (λ p. (c : PlainEvaluations F) (w : Vec F Global) → HasValues self.now w.items × (prover_data.values.items ≡ w.items) × (c.values.items ≡ w.items)
-            → AreValuesAt EF.ring EF.embed self.now c.values.items (lists protocol.now.items) p.items) }
+        ensures accepted { IfOk result
+            (λ p. (c : PlainEvaluations F) (w : Vec F Global) → HasValues self.now w.items
+            × (prover_data.values.items ≡ w.items) × (c.values.items ≡ w.items)
+            → AreValuesAt EF.ring EF.embed self.now c.values.items (lists protocol.now.items)
+            p.items) }
     {
         if prover_data.values.len() != 1 << self.num_vars {
             return Err(PcsFailure::Refused(PlainMultilinearProverError::Length));
@@ -199,9 +211,14 @@ impl<F: Field, EF: ExtensionField<F>, C: CanObserve<F>> MultilinearPcs<EF, C>
         _challenger: &mut C,
         protocol: &Vec<Vec<EF>>,
     ) -> Result<(), PcsFailure<PlainMultilinearError>>
-        ensures verdict { VerifiedBy (AreValuesAt EF.ring EF.embed self.now commitment.now.values.items (lists protocol.now.items) proof.now.items)
-            (IsClaimFault EF.ring EF.embed self.now commitment.now.values.items (lists protocol.now.items) proof.now.items) result }
-        ensures searched { IfOutOfMemory result (HasValues self.now commitment.now.values.items × HaveCoordinates self.now (lists protocol.now.items)
+        ensures verdict { VerifiedBy
+            (AreValuesAt EF.ring EF.embed self.now commitment.now.values.items
+            (lists protocol.now.items) proof.now.items)
+            (IsClaimFault EF.ring EF.embed self.now commitment.now.values.items
+            (lists protocol.now.items) proof.now.items) result }
+        ensures searched { IfOutOfMemory result
+            (HasValues self.now commitment.now.values.items
+            × HaveCoordinates self.now (lists protocol.now.items)
             × (length proof.now.items ≡ length protocol.now.items)) }
         ensures challenger { _challenger.new ≡ _challenger.old }
     {
@@ -221,13 +238,17 @@ impl<F: Field, EF: ExtensionField<F>, C: CanObserve<F>> MultilinearPcs<EF, C>
         }
     }
 
-    ghost opens_faultless = { λ s t c o p h. claims_faultless EF.ring EF.embed s c.values.items (lists o.items) p.items h };
+    ghost opens_faultless = { λ s t c o p h.
+        claims_faultless EF.ring EF.embed s c.values.items (lists o.items) p.items h };
 
     ghost one_commit_fault = { λ s w e g f h. one_commit_cause s w.items e g f h };
 
-    ghost one_open_fault = { λ s d o e g f h. one_open_cause s d.values.items (lists o.items) e g f h };
+    ghost one_open_fault = { λ s d o e g f h.
+        one_open_cause s d.values.items (lists o.items) e g f h };
 
-    ghost some_fault = { λ s t c o p n f. some_claim_fault EF.ring EF.embed s c.values.items (lists o.items) p.items n f };
+    ghost some_fault = { λ s t c o p n f.
+        some_claim_fault EF.ring EF.embed s c.values.items (lists o.items) p.items n f };
 
-    ghost one_fault = { λ s t c o p e g. one_claim_fault EF.ring EF.embed s c.values.items (lists o.items) p.items e g };
+    ghost one_fault = { λ s t c o p e g.
+        one_claim_fault EF.ring EF.embed s c.values.items (lists o.items) p.items e g };
 }

@@ -57,7 +57,8 @@ impl<F: TwoAdicField, D: TwoAdicSubgroupDft<F> + Drop> PlainPcs<F, D> {
     /// The scheme with this transform and this logarithm to base 2 of the blowup; None exactly where the logarithm is above
     /// the field's two-adicity.
     pub fn new(dft: D, log_blowup: usize) -> Option<Self>
-        ensures { MatchOption result (F.TWO_ADICITY < log_blowup) (λ p. (p ≡ record { log_blowup = log_blowup }) × (log_blowup ≤ F.TWO_ADICITY)) }
+        ensures { MatchOption result (F.TWO_ADICITY < log_blowup)
+            (λ p. (p ≡ record { log_blowup = log_blowup }) × (log_blowup ≤ F.TWO_ADICITY)) }
     {
         if log_blowup > F::TWO_ADICITY {
             None
@@ -90,9 +91,13 @@ impl<F: TwoAdicField, D> PlainPcs<F, D> {
         matrix: usize,
     ) -> Mem<Vec<Vec<F>>>
         requires exists { matrix < length commitment.now.matrices }
-        requires height { (m : Rows F) → slice_get commitment.now.matrices matrix ≡ Some m → HasSubgroupHeight F.TWO_ADICITY m }
-        ensures { IfOk result (λ v. (m : Rows F) (k : ℕ) → slice_get commitment.now.matrices matrix ≡ Some m → height m ≡ 2 ^ k
-            → EachOf m.width v.items (λ j f. IsInterpolant F.ring (coset_point F.ring F.GENERATOR (F.root k)) (column F.ring.zero m j) f.items)) }
+        requires height { (m : Rows F) → slice_get commitment.now.matrices matrix ≡ Some m
+            → HasSubgroupHeight F.TWO_ADICITY m }
+        ensures { IfOk result (λ v. (m : Rows F) (k : ℕ)
+            → slice_get commitment.now.matrices matrix ≡ Some m → height m ≡ 2 ^ k
+            → EachOf m.width v.items
+            (λ j f. IsInterpolant F.ring (coset_point F.ring F.GENERATOR (F.root k))
+            (column F.ring.zero m j) f.items)) }
     {
         committed(alloc, commitment, matrix)
     }
@@ -126,15 +131,18 @@ impl<F: TwoAdicField, D: TwoAdicSubgroupDft<F>, E: ExtensionField<F>, C> Pcs<E, 
 
     type ProverError = PlainProverError;
 
-    ghost commit_fault = { λ s es e. CommitFault (scheme F.ring F.inv F.root F.GENERATOR F.TWO_ADICITY s) es e };
+    ghost commit_fault = { λ s es e.
+        CommitFault (scheme F.ring F.inv F.root F.GENERATOR F.TWO_ADICITY s) es e };
 
-    ghost commits = { λ s es c. c ≡ commitment_of (scheme F.ring F.inv F.root F.GENERATOR F.TWO_ADICITY s) es };
+    ghost commits = { λ s es c.
+        c ≡ commitment_of (scheme F.ring F.inv F.root F.GENERATOR F.TWO_ADICITY s) es };
 
     ghost made = { λ s d. IsMade d };
 
     ghost matrix_count = { λ s d. length d };
 
-    ghost holds = { λ s d c cs. AreHolding (scheme F.ring F.inv F.root F.GENERATOR F.TWO_ADICITY s) d c cs };
+    ghost holds = { λ s d c cs.
+        AreHolding (scheme F.ring F.inv F.root F.GENERATOR F.TWO_ADICITY s) d c cs };
 
     ghost open_fault = { λ s rs e. OpenFault rs e };
 
@@ -146,9 +154,11 @@ impl<F: TwoAdicField, D: TwoAdicSubgroupDft<F>, E: ExtensionField<F>, C> Pcs<E, 
 
     ghost excludes = { λ s x. ⊥ };
 
-    ghost opens = { λ s t claims p. Opens (scheme F.ring F.inv F.root F.GENERATOR F.TWO_ADICITY s) E.ring E.embed claims };
+    ghost opens = { λ s t claims p.
+        Opens (scheme F.ring F.inv F.root F.GENERATOR F.TWO_ADICITY s) E.ring E.embed claims };
 
-    ghost fault = { λ s t claims p e. Fault (scheme F.ring F.inv F.root F.GENERATOR F.TWO_ADICITY s) E.ring E.embed claims e };
+    ghost fault = { λ s t claims p e.
+        Fault (scheme F.ring F.inv F.root F.GENERATOR F.TWO_ADICITY s) E.ring E.embed claims e };
 
     /// The subgroup with this many points.
     fn natural_domain_for_degree(&self, degree: usize) -> TwoAdicMultiplicativeCoset<F> {
@@ -162,11 +172,18 @@ impl<F: TwoAdicField, D: TwoAdicSubgroupDft<F>, E: ExtensionField<F>, C> Pcs<E, 
         alloc: Global,
         evaluations: Vec<(TwoAdicMultiplicativeCoset<F>, RowMajorMatrix<F>)>,
     ) -> Result<(PlainCommitment<F>, PlainProverData<F>), PcsFailure<PlainProverError>>
-        ensures refusal { RefusedBy (CommitFault (scheme F.ring F.inv F.root F.GENERATOR F.TWO_ADICITY self.now) evaluations.items) result }
-        ensures searched { IfOutOfMemory result (NoneOf (CommitFault (scheme F.ring F.inv F.root F.GENERATOR F.TWO_ADICITY self.now) evaluations.items)) }
+        ensures refusal { RefusedBy
+            (CommitFault (scheme F.ring F.inv F.root F.GENERATOR F.TWO_ADICITY self.now)
+            evaluations.items) result }
+        ensures searched { IfOutOfMemory result
+            (NoneOf (CommitFault (scheme F.ring F.inv F.root F.GENERATOR F.TWO_ADICITY self.now)
+            evaluations.items)) }
         ensures committed { IfOk result
-            (IsCommitment F.ring (λ (d : CosetData F). 2 ^ d.log_size) (λ (d : CosetData F). point F.ring F.root d) (λ es c. c
-            ≡ commitment_of (scheme F.ring F.inv F.root F.GENERATOR F.TWO_ADICITY self.now) es) IsMade (AreHolding (scheme F.ring F.inv F.root F.GENERATOR F.TWO_ADICITY self.now)) evaluations.items) }
+            (IsCommitment F.ring (λ (d : CosetData F). 2 ^ d.log_size)
+            (λ (d : CosetData F). point F.ring F.root d) (λ es c. c
+            ≡ commitment_of (scheme F.ring F.inv F.root F.GENERATOR F.TWO_ADICITY self.now) es)
+            IsMade (AreHolding (scheme F.ring F.inv F.root F.GENERATOR F.TWO_ADICITY self.now))
+            evaluations.items) }
     {
         commit(alloc, &self.dft, self.log_blowup, evaluations)
     }
@@ -186,10 +203,14 @@ impl<F: TwoAdicField, D: TwoAdicSubgroupDft<F>, E: ExtensionField<F>, C> Pcs<E, 
         ensures challenger { challenger.new ≡ challenger.old }
         ensures proof { IfOk result (λ w. w.1 ≡ record {}) }
         ensures after { IfOk result (λ _. challenger.new ≡ challenger.old) }
-        ensures opening { IfOk result (λ w. (held : List (OpenedCommitment (PlainCommitmentData F) F))
-            → AreOpenedCommitments (AreHolding (scheme F.ring F.inv F.root F.GENERATOR F.TWO_ADICITY self.now)) requests.entry.items held
+        ensures opening { IfOk result
+            (λ w. (held : List (OpenedCommitment (PlainCommitmentData F) F))
+            → AreOpenedCommitments (AreHolding
+            (scheme F.ring F.inv F.root F.GENERATOR F.TWO_ADICITY self.now)) requests.entry.items
+            held
             → IsOpening E.ring E.embed (λ (d : CosetData F). 2 ^ d.log_size) (λ (x : E). ⊥)
-            (Opens (scheme F.ring F.inv F.root F.GENERATOR F.TWO_ADICITY self.now) E.ring E.embed) requests.entry.items (nested w.0) held) }
+            (Opens (scheme F.ring F.inv F.root F.GENERATOR F.TWO_ADICITY self.now) E.ring E.embed)
+            requests.entry.items (nested w.0) held) }
     {
         let values = open(alloc, self.log_blowup, &requests)?;
         Ok((values, PlainProof))
@@ -203,8 +224,11 @@ impl<F: TwoAdicField, D: TwoAdicSubgroupDft<F>, E: ExtensionField<F>, C> Pcs<E, 
         proof: &PlainProof,
         challenger: &mut C,
     ) -> Result<(), PcsFailure<PlainError>>
-        ensures verdict { VerifiedBy (Opens (scheme F.ring F.inv F.root F.GENERATOR F.TWO_ADICITY self.now) E.ring E.embed claims.items)
-            (Fault (scheme F.ring F.inv F.root F.GENERATOR F.TWO_ADICITY self.now) E.ring E.embed claims.items) result }
+        ensures verdict { VerifiedBy
+            (Opens (scheme F.ring F.inv F.root F.GENERATOR F.TWO_ADICITY self.now) E.ring E.embed
+            claims.items)
+            (Fault (scheme F.ring F.inv F.root F.GENERATOR F.TWO_ADICITY self.now) E.ring E.embed
+            claims.items) result }
         ensures after { IsOk result → challenger.new ≡ challenger.old }
         ensures challenger { challenger.new ≡ challenger.old }
     {
@@ -221,13 +245,20 @@ impl<F: TwoAdicField, D: TwoAdicSubgroupDft<F>, E: ExtensionField<F>, C> Pcs<E, 
 
     ghost holds_all = { λ s d c cs h. held_count h };
 
-    ghost opens_faultless = { λ s t claims p o. faultless_where_opens (scheme F.ring F.inv F.root F.GENERATOR F.TWO_ADICITY s) E.ring E.embed claims o };
+    ghost opens_faultless = { λ s t claims p o.
+        faultless_where_opens (scheme F.ring F.inv F.root F.GENERATOR F.TWO_ADICITY s) E.ring
+        E.embed claims o };
 
-    ghost some_fault = { λ s t claims p n f. fault_where_not (scheme F.ring F.inv F.root F.GENERATOR F.TWO_ADICITY s) E.ring E.embed claims n f };
+    ghost some_fault = { λ s t claims p n f.
+        fault_where_not (scheme F.ring F.inv F.root F.GENERATOR F.TWO_ADICITY s) E.ring E.embed
+        claims n f };
 
-    ghost one_fault = { λ s t claims p e g h k. first_fault_is_one (scheme F.ring F.inv F.root F.GENERATOR F.TWO_ADICITY s) E.ring E.embed claims e g h k };
+    ghost one_fault = { λ s t claims p e g h k.
+        first_fault_is_one (scheme F.ring F.inv F.root F.GENERATOR F.TWO_ADICITY s) E.ring E.embed
+        claims e g h k };
 
-    ghost one_commit_fault = { λ s es e g f h. one_commit_cause (scheme F.ring F.inv F.root F.GENERATOR F.TWO_ADICITY s) es e g f h };
+    ghost one_commit_fault = { λ s es e g f h.
+        one_commit_cause (scheme F.ring F.inv F.root F.GENERATOR F.TWO_ADICITY s) es e g f h };
 
     ghost one_open_fault = { λ s rs e g f h. one_open_cause rs e g f h };
 
@@ -244,15 +275,20 @@ impl<F: TwoAdicField, D: TwoAdicSubgroupDft<F>, E: ExtensionField<F>, C> Univari
 
     ghost log_min = { λ _. 0 };
 
-    ghost commitment_of = { λ s es. commitment_of (scheme F.ring F.inv F.root F.GENERATOR F.TWO_ADICITY s) es };
+    ghost commitment_of = { λ s es.
+        commitment_of (scheme F.ring F.inv F.root F.GENERATOR F.TWO_ADICITY s) es };
 
-    ghost extension_fault = { λ s es n e. CommitFault (scheme F.ring F.inv F.root F.GENERATOR F.TWO_ADICITY s) es e };
+    ghost extension_fault = { λ s es n e.
+        CommitFault (scheme F.ring F.inv F.root F.GENERATOR F.TWO_ADICITY s) es e };
 
-    ghost extends = { λ s d m l. Extends (scheme F.ring F.inv F.root F.GENERATOR F.TWO_ADICITY s) d m l };
+    ghost extends = { λ s d m l.
+        Extends (scheme F.ring F.inv F.root F.GENERATOR F.TWO_ADICITY s) d m l };
 
-    ghost ldes_fault = { λ s ls e. ExtensionsFault (scheme F.ring F.inv F.root F.GENERATOR F.TWO_ADICITY s) ls e };
+    ghost ldes_fault = { λ s ls e.
+        ExtensionsFault (scheme F.ring F.inv F.root F.GENERATOR F.TWO_ADICITY s) ls e };
 
-    ghost quotient_fault = { λ s d m n e. QuotientFault (scheme F.ring F.inv F.root F.GENERATOR F.TWO_ADICITY s) d n e };
+    ghost quotient_fault = { λ s d m n e.
+        QuotientFault (scheme F.ring F.inv F.root F.GENERATOR F.TWO_ADICITY s) d n e };
 
     /// The field's two-adicity less `log_blowup`.
     fn log_max_trace_height(&self) -> usize {
@@ -273,9 +309,16 @@ impl<F: TwoAdicField, D: TwoAdicSubgroupDft<F>, E: ExtensionField<F>, C> Univari
         evaluations: Vec<(TwoAdicMultiplicativeCoset<F>, RowMajorMatrix<F>)>,
         num_chunks: usize,
     ) -> Result<Vec<RowMajorMatrix<F>>, PcsFailure<PlainProverError>>
-        ensures refusal { RefusedBy (CommitFault (scheme F.ring F.inv F.root F.GENERATOR F.TWO_ADICITY self.now) evaluations.items) result }
-        ensures searched { IfOutOfMemory result (NoneOf (CommitFault (scheme F.ring F.inv F.root F.GENERATOR F.TWO_ADICITY self.now) evaluations.items)) }
-        ensures extensions { IfOk result (λ v. AreExtensions (Extends (scheme F.ring F.inv F.root F.GENERATOR F.TWO_ADICITY self.now)) evaluations.items v.items) }
+        ensures refusal { RefusedBy
+            (CommitFault (scheme F.ring F.inv F.root F.GENERATOR F.TWO_ADICITY self.now)
+            evaluations.items) result }
+        ensures searched { IfOutOfMemory result
+            (NoneOf (CommitFault (scheme F.ring F.inv F.root F.GENERATOR F.TWO_ADICITY self.now)
+            evaluations.items)) }
+        ensures extensions { IfOk result
+            (λ v. AreExtensions (Extends
+            (scheme F.ring F.inv F.root F.GENERATOR F.TWO_ADICITY self.now)) evaluations.items
+            v.items) }
     {
         extensions(alloc, &self.dft, self.log_blowup, evaluations)
     }
@@ -287,14 +330,24 @@ impl<F: TwoAdicField, D: TwoAdicSubgroupDft<F>, E: ExtensionField<F>, C> Univari
         alloc: Global,
         ldes: Vec<RowMajorMatrix<F>>,
     ) -> Result<(PlainCommitment<F>, PlainProverData<F>), PcsFailure<PlainProverError>>
-        ensures refusal { RefusedBy (ExtensionsFault (scheme F.ring F.inv F.root F.GENERATOR F.TWO_ADICITY self.now) ldes.items) result }
-        ensures searched { IfOutOfMemory result (NoneOf (ExtensionsFault (scheme F.ring F.inv F.root F.GENERATOR F.TWO_ADICITY self.now) ldes.items)) }
+        ensures refusal { RefusedBy
+            (ExtensionsFault (scheme F.ring F.inv F.root F.GENERATOR F.TWO_ADICITY self.now)
+            ldes.items) result }
+        ensures searched { IfOutOfMemory result
+            (NoneOf (ExtensionsFault (scheme F.ring F.inv F.root F.GENERATOR F.TWO_ADICITY self.now)
+            ldes.items)) }
         ensures commitment { IfOk result (λ w. w.0 ≡ record { matrices = ldes.items }) }
         ensures made { IfOk result (λ w. IsMade w.1) }
         ensures count { IfOk result (λ w. length w.1 ≡ length ldes.items) }
-        ensures committed { IfOk result (λ w. (chunks : List (CosetData F × Rows F)) → AreExtensions (Extends (scheme F.ring F.inv F.root F.GENERATOR F.TWO_ADICITY self.now)) chunks ldes.items
-            → IsCommitment F.ring (λ (d : CosetData F). 2 ^ d.log_size) (λ (d : CosetData F). point F.ring F.root d) (λ es c. c
-            ≡ commitment_of (scheme F.ring F.inv F.root F.GENERATOR F.TWO_ADICITY self.now) es) IsMade (AreHolding (scheme F.ring F.inv F.root F.GENERATOR F.TWO_ADICITY self.now)) chunks w) }
+        ensures committed { IfOk result
+            (λ w. (chunks : List (CosetData F × Rows F))
+            → AreExtensions (Extends
+            (scheme F.ring F.inv F.root F.GENERATOR F.TWO_ADICITY self.now)) chunks ldes.items
+            → IsCommitment F.ring (λ (d : CosetData F). 2 ^ d.log_size)
+            (λ (d : CosetData F). point F.ring F.root d) (λ es c. c
+            ≡ commitment_of (scheme F.ring F.inv F.root F.GENERATOR F.TWO_ADICITY self.now) es)
+            IsMade (AreHolding (scheme F.ring F.inv F.root F.GENERATOR F.TWO_ADICITY self.now))
+            chunks w) }
     {
         commit_extensions(alloc, self.log_blowup, ldes)
     }
@@ -320,12 +373,16 @@ impl<F: TwoAdicField, D: TwoAdicSubgroupDft<F>, E: ExtensionField<F>, C> Univari
         trace_domain: TwoAdicMultiplicativeCoset<F>,
         quotient_domain: TwoAdicMultiplicativeCoset<F>,
     ) -> Mem<PeriodicLdeTable<F>>
-        requires fit { All (λ c. IsPeriod (2 ^ trace_domain.log_size) (length c.items)) periodic_cols.now }
+        requires fit { All (λ c. IsPeriod (2 ^ trace_domain.log_size) (length c.items))
+            periodic_cols.now }
         requires shift { point F.ring F.root trace_domain 0 ≡ F.ring.one }
         requires larger { 2 ^ trace_domain.log_size ≤ 2 ^ quotient_domain.log_size }
-        ensures table { IfOk result (IsPeriodicTable F.ring (2 ^ trace_domain.log_size) (point F.ring F.root trace_domain) (2 ^ quotient_domain.log_size)
+        ensures table { IfOk result
+            (IsPeriodicTable F.ring (2 ^ trace_domain.log_size) (point F.ring F.root trace_domain)
+            (2 ^ quotient_domain.log_size)
             (point F.ring F.root quotient_domain) (map (λ c. c.items) periodic_cols.now)) }
-        ensures height { IfOk result (λ t. (period : ℕ) → IsGreatest (map (λ c. length c.items) periodic_cols.now) period
+        ensures height { IfOk result
+            (λ t. (period : ℕ) → IsGreatest (map (λ c. length c.items) periodic_cols.now) period
             → height t ≡ period * (2 ^ quotient_domain.log_size / 2 ^ trace_domain.log_size)) }
     {
         periodic_table(
@@ -344,15 +401,21 @@ impl<F: TwoAdicField, D: TwoAdicSubgroupDft<F>, E: ExtensionField<F>, C> Univari
     ghost heights_fit = { λ s. difference_fits F.TWO_ADICITY s.log_blowup };
 
     ghost quotient_refused = { λ s d m n parts e power fits rows are fault. refused_by_parts
-        (scheme F.ring F.inv F.root F.GENERATOR F.TWO_ADICITY s) d m n parts power rows are F.ring_laws F.field_laws F.root_laws e fault };
+        (scheme F.ring F.inv F.root F.GENERATOR F.TWO_ADICITY s) d m n parts power rows are
+        F.ring_laws F.field_laws F.root_laws e fault };
 
-    ghost quotient_granted = { λ s d m n parts power fits rows are none. granted_by_parts (scheme F.ring F.inv F.root F.GENERATOR F.TWO_ADICITY s) d m n parts power rows are none };
+    ghost quotient_granted = { λ s d m n parts power fits rows are none.
+        granted_by_parts (scheme F.ring F.inv F.root F.GENERATOR F.TWO_ADICITY s) d m n parts power
+        rows are none };
 
-    ghost one_extension_fault = { λ s es n e g f h. one_commit_cause (scheme F.ring F.inv F.root F.GENERATOR F.TWO_ADICITY s) es e g f h };
+    ghost one_extension_fault = { λ s es n e g f h.
+        one_commit_cause (scheme F.ring F.inv F.root F.GENERATOR F.TWO_ADICITY s) es e g f h };
 
-    ghost one_ldes_fault = { λ s ls e g f h. one_extensions_cause (scheme F.ring F.inv F.root F.GENERATOR F.TWO_ADICITY s) ls e g f h };
+    ghost one_ldes_fault = { λ s ls e g f h.
+        one_extensions_cause (scheme F.ring F.inv F.root F.GENERATOR F.TWO_ADICITY s) ls e g f h };
 
-    ghost one_quotient_fault = { λ s d m n e g f h. one_quotient_cause (scheme F.ring F.inv F.root F.GENERATOR F.TWO_ADICITY s) d n e g f h };
+    ghost one_quotient_fault = { λ s d m n e g f h.
+        one_quotient_cause (scheme F.ring F.inv F.root F.GENERATOR F.TWO_ADICITY s) d n e g f h };
 
     ghost one_commitment = { λ s es c z h. h };
 }

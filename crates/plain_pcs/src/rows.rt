@@ -51,8 +51,10 @@ fn rows_of<T: Copy>(
     requires powers { All (λ m. IsPowerOfTwo (height m)) matrices.now }
     requires greatest { IsGreatest (map (λ m. height m) matrices.now) most }
     requires row { index < most }
-    ensures values { IfOk result (λ v. lists v.items ≡ map (λ m. row_at m (row_in most (height m) index)) matrices.now) }
-    ensures widths { IfOk result (λ v. map (λ row. length row) (lists v.items) ≡ map (λ m. m.width) matrices.now) }
+    ensures values { IfOk result
+        (λ v. lists v.items ≡ map (λ m. row_at m (row_in most (height m) index)) matrices.now) }
+    ensures widths { IfOk result
+        (λ v. map (λ row. length row) (lists v.items) ≡ map (λ m. m.width) matrices.now) }
 {
     let mut rows = Vec::with_capacity(alloc, matrices.len())?;
     for m in matrices {
@@ -70,7 +72,8 @@ pub(crate) fn opened_rows<T: Copy>(
     requires powers { All (λ m. IsPowerOfTwo (height m)) matrices.now }
     requires place { IsRowOf matrices.now index }
     ensures values { IfOk result (λ v. AreRowsAt matrices.now index (lists v.items)) }
-    ensures widths { IfOk result (λ v. map (λ row. length row) (lists v.items) ≡ map (λ m. m.width) matrices.now) }
+    ensures widths { IfOk result
+        (λ v. map (λ row. length row) (lists v.items) ≡ map (λ m. m.width) matrices.now) }
 {
     let most = most_rows(matrices);
     rows_of(alloc, matrices, most, index)
@@ -78,7 +81,9 @@ pub(crate) fn opened_rows<T: Copy>(
 
 // Whether these are the matrix's width and height, and the height is a power of two.
 fn is_size<T>(matrix: &RowMajorMatrix<T>, size: Dimensions) -> bool
-    ensures { IsTrue result ↔ ((size ≡ record { width = matrix.now.width; height = height matrix.now }) × IsPowerOfTwo (height matrix.now)) }
+    ensures { IsTrue result ↔ ((size
+        ≡ record { width = matrix.now.width; height = height matrix.now })
+        × IsPowerOfTwo (height matrix.now)) }
 {
     size.width == matrix.width() && size.height == matrix.height() && is_power_of_two(size.height)
 }
@@ -124,7 +129,8 @@ fn are_rows<T: Copy + Eq>(
     requires greatest { IsGreatest (map (λ m. height m) matrices.now) most }
     requires row { index < most }
     requires count { length rows.now ≡ length matrices.now }
-    ensures { IsTrue result ↔ EachFrom matrices.now (lists rows.now) (λ m row. IsRowByEq T.eq (row_in most (height m) index) m row) }
+    ensures { IsTrue result ↔ EachFrom matrices.now (lists rows.now)
+        (λ m row. IsRowByEq T.eq (row_in most (height m) index) m row) }
 {
     for (i, matrix) in matrices.iter().enumerate() {
         if rows[i].as_slice() != row_of(matrix, most, index) {

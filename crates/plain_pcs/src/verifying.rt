@@ -34,7 +34,8 @@ fn has_degree_below<F: Field>(polynomial: &[F], bound: usize) -> bool
 
 /// The first polynomial of too high a degree, or None.
 fn first_high_degree<F: Field>(polynomials: &[Vec<F>], bound: usize) -> Option<usize>
-    ensures { FirstFailing (length polynomials.now) (λ j. DegreeBelow F.ring bound (get_or (map (λ f. f.items) polynomials.now) j [])) result }
+    ensures { FirstFailing (length polynomials.now)
+        (λ j. DegreeBelow F.ring bound (get_or (map (λ f. f.items) polynomials.now) j [])) result }
 {
     for (j, polynomial) in polynomials.iter().enumerate() {
         if !has_degree_below(polynomial, bound) {
@@ -51,7 +52,9 @@ fn first_wrong_value<F: TwoAdicField, E: ExtensionField<F>>(
     claimed: &[E],
 ) -> Option<usize>
     requires { length claimed.now ≡ length polynomials.now }
-    ensures { FirstFailing (length polynomials.now) (λ j. eval_poly E.ring (map E.embed (get_or (map (λ f. f.items) polynomials.now) j [])) point ≡ get_or claimed.now j E.ring.zero) result }
+    ensures { FirstFailing (length polynomials.now)
+        (λ j. eval_poly E.ring (map E.embed (get_or (map (λ f. f.items) polynomials.now) j []))
+        point ≡ get_or claimed.now j E.ring.zero) result }
 {
     for (j, polynomial) in polynomials.iter().enumerate() {
         if polynomial_value(polynomial, point) != claimed[j] {
@@ -80,7 +83,9 @@ fn has_dimensions<F: TwoAdicField, E: ExtensionField<F>>(
     claim: &MatrixOpening<E, TwoAdicMultiplicativeCoset<F>>,
 ) -> bool
     requires { log_blowup ≤ F.TWO_ADICITY }
-    ensures { IsTrue result ↔ HasDimensions (scheme F.ring F.inv F.root F.GENERATOR F.TWO_ADICITY (record { log_blowup = log_blowup })) E.ring E.embed matrix.now claim.now }
+    ensures { IsTrue result ↔ HasDimensions
+        (scheme F.ring F.inv F.root F.GENERATOR F.TWO_ADICITY (record { log_blowup = log_blowup }))
+        E.ring E.embed matrix.now claim.now }
 {
     claim.domain.valid();
     let log_height = claim.domain.log_size() + log_blowup;
@@ -101,8 +106,10 @@ fn points_fault<F: TwoAdicField, E: ExtensionField<F>>(
     points: &[PointOpening<E>],
 ) -> Option<PlainError>
     requires { All (λ p. length p.values ≡ length polynomials.now) points.now }
-    ensures { (s : Scheme F) (m : Rows F) (k : ℕ) → AreColumnPolynomials s m k (map (λ f. f.items) polynomials.now)
-        → FirstRefusal (of_items (point_checks s E.ring E.embed round matrix m k) points.now) result }
+    ensures { (s : Scheme F) (m : Rows F) (k : ℕ)
+        → AreColumnPolynomials s m k (map (λ f. f.items) polynomials.now)
+        → FirstRefusal (of_items (point_checks s E.ring E.embed round matrix m k) points.now)
+        result }
 {
     for (point, opening) in points.iter().enumerate() {
         if let Some(column) = first_wrong_value(polynomials, opening.point, &opening.values) {
@@ -128,7 +135,9 @@ fn matrix_fault<F: TwoAdicField, E: ExtensionField<F>>(
 ) -> Mem<Option<PlainError>>
     requires { log_blowup ≤ F.TWO_ADICITY }
     ensures { IfOk result (FirstRefusal
-        (matrix_checks (scheme F.ring F.inv F.root F.GENERATOR F.TWO_ADICITY (record { log_blowup = log_blowup })) E.ring E.embed round number (matrix.now, claim.now))) }
+        (matrix_checks (scheme F.ring F.inv F.root F.GENERATOR F.TWO_ADICITY
+        (record { log_blowup = log_blowup })) E.ring E.embed round number
+        (matrix.now, claim.now))) }
 {
     if !has_dimensions(log_blowup, matrix, claim) {
         return Ok(Some(PlainError::Dimensions {
@@ -158,7 +167,9 @@ fn matrices_fault<F: TwoAdicField, E: ExtensionField<F>>(
     requires blowup { log_blowup ≤ F.TWO_ADICITY }
     requires count { length matrices.now ≡ length claims.now }
     ensures { IfOk result (FirstRefusal
-        (of_items (matrix_checks (scheme F.ring F.inv F.root F.GENERATOR F.TWO_ADICITY (record { log_blowup = log_blowup })) E.ring E.embed round) (zip matrices.now claims.now))) }
+        (of_items (matrix_checks
+        (scheme F.ring F.inv F.root F.GENERATOR F.TWO_ADICITY (record { log_blowup = log_blowup }))
+        E.ring E.embed round) (zip matrices.now claims.now))) }
 {
     for (number, claim) in claims.iter().enumerate() {
         let matrix = &matrices[number];
@@ -179,7 +190,8 @@ fn round_fault<F: TwoAdicField, E: ExtensionField<F>>(
 ) -> Mem<Option<PlainError>>
     requires { log_blowup ≤ F.TWO_ADICITY }
     ensures { IfOk result (FirstRefusal
-        (round_checks (scheme F.ring F.inv F.root F.GENERATOR F.TWO_ADICITY (record { log_blowup = log_blowup })) E.ring E.embed round
+        (round_checks (scheme F.ring F.inv F.root F.GENERATOR F.TWO_ADICITY
+        (record { log_blowup = log_blowup })) E.ring E.embed round
         (record { commitment = commitment.now; matrices = claims.now }))) }
 {
     if commitment.matrices.len() != claims.len() {
@@ -196,7 +208,9 @@ pub(crate) fn first_fault<F: TwoAdicField, E: ExtensionField<F>>(
     claims: &[CommitmentOpening<E, PlainCommitment<F>, TwoAdicMultiplicativeCoset<F>>],
 ) -> Mem<Option<PlainError>>
     requires { log_blowup ≤ F.TWO_ADICITY }
-    ensures { IfOk result (FirstRefusal (opening_claim_checks (scheme F.ring F.inv F.root F.GENERATOR F.TWO_ADICITY (record { log_blowup = log_blowup })) E.ring E.embed claims.now)) }
+    ensures { IfOk result (FirstRefusal
+        (opening_claim_checks (scheme F.ring F.inv F.root F.GENERATOR F.TWO_ADICITY
+        (record { log_blowup = log_blowup })) E.ring E.embed claims.now)) }
 {
     for (round, claim) in claims.iter().enumerate() {
         let matrices = &claim.matrices;

@@ -19,17 +19,28 @@ pub trait ProverSettings: StarkGenericConfig {
     ghost prover: { Self → Prover Self.Val Self.Challenge Self.Pcs.Commitment };
 
     // this is what the backend gives where it commits to these matrices on these domains: a commitment with its prover data
-    ghost commits_to: { Self → List (CosetData Self.Val × Rows Self.Val) → Self.Pcs.Commitment × Self.Pcs.ProverData → Type 0 };
+    ghost commits_to: { Self → List (CosetData Self.Val × Rows Self.Val) → Self.Pcs.Commitment
+        × Self.Pcs.ProverData → Type 0 };
 
     // the prover's side of the backend
-    ghost prover_backend: { Self → ProverBackend Self.Challenger Self.Val Self.Challenge Self.Pcs.Commitment Self.Pcs.ProverData Self.Pcs.Proof Self.Pcs.ProverError };
+    ghost prover_backend: { Self
+        → ProverBackend Self.Challenger Self.Val Self.Challenge Self.Pcs.Commitment
+        Self.Pcs.ProverData Self.Pcs.Proof Self.Pcs.ProverError };
 }
 
 impl<SC: StarkGenericConfig> ProverSettings for SC {
-    ghost prover = { λ config. record { inverse = SC.Challenge.inv; canonical = SC.Val.canonical; commitment_of = SC.Pcs.commitment_of (SC.pcs_of config) } };
+    ghost prover = { λ config.
+        record {
+          inverse = SC.Challenge.inv;
+          canonical = SC.Val.canonical;
+          commitment_of = SC.Pcs.commitment_of (SC.pcs_of config);
+        } };
 
-    ghost commits_to = { λ config es w. IsCommitment SC.Val.ring ⟦<<SC::Pcs as Pcs<SC::Challenge, SC::Challenger>>::Domain as PolynomialSpace>⟧.points
-        ⟦<<SC::Pcs as Pcs<SC::Challenge, SC::Challenger>>::Domain as PolynomialSpace>⟧.point_at (SC.Pcs.commits (SC.pcs_of config)) (SC.Pcs.made (SC.pcs_of config))
+    ghost commits_to = { λ config es w.
+        IsCommitment SC.Val.ring
+        ⟦<<SC::Pcs as Pcs<SC::Challenge, SC::Challenger>>::Domain as PolynomialSpace>⟧.points
+        ⟦<<SC::Pcs as Pcs<SC::Challenge, SC::Challenger>>::Domain as PolynomialSpace>⟧.point_at
+        (SC.Pcs.commits (SC.pcs_of config)) (SC.Pcs.made (SC.pcs_of config))
         (SC.Pcs.holds (SC.pcs_of config)) es w };
 
     ghost prover_backend = { λ config. record {

@@ -44,7 +44,8 @@ pub struct LookupStage<F, E, Com, PD> {
 // A transcript's refusal to draw the lookups' pair, as a prover's.
 fn lookup_refusal<R>(error: TranscriptError) -> ProvingError<R>
     requires { error ≡ TranscriptError.WitnessNotFound ⊎ error ≡ TranscriptError.OutOfMemory }
-    ensures witness { error ≡ TranscriptError.WitnessNotFound → result ≡ ProvingError.WitnessNotFound GrindStep.Lookup }
+    ensures witness { error ≡ TranscriptError.WitnessNotFound
+        → result ≡ ProvingError.WitnessNotFound GrindStep.Lookup }
     ensures memory { error ≡ TranscriptError.OutOfMemory → result ≡ ProvingError.OutOfMemory }
 {
     match error {
@@ -89,33 +90,54 @@ pub(crate) fn lookup_stage<SC: StarkGenericConfig, A: Air<Val<SC>>>(
     ProvingError<PcsProverError<SC>>,
 >
     requires plain { SC.Pcs.ZK ≡ false }
-    requires traced { let b = batch_of (⟦<SC as Settings>⟧.setting config.now) (⟦<SC as ProverSettings>⟧.prover config.now) A.declaration A.trees instances.now common.now in IsTracedAll b }
-    requires turn { transcript.old.remaining ≡ from_lookup SC.Challenge.DIMENSION transcript.old.shape }
+    requires traced { let b = batch_of (⟦<SC as Settings>⟧.setting config.now)
+        (⟦<SC as ProverSettings>⟧.prover config.now) A.declaration A.trees instances.now
+        common.now in IsTracedAll b }
+    requires turn { transcript.old.remaining
+        ≡ from_lookup SC.Challenge.DIMENSION transcript.old.shape }
     requires shape { let b = batch_of (⟦<SC as Settings>⟧.setting config.now)
-        (⟦<SC as ProverSettings>⟧.prover config.now) A.declaration A.trees instances.now common.now in transcript.old.shape ≡ shape_of b }
+        (⟦<SC as ProverSettings>⟧.prover config.now) A.declaration A.trees instances.now
+        common.now in transcript.old.shape ≡ shape_of b }
     requires few { 2 ^ transcript.old.shape.lookup_pow_bits < SC.Val.ORDER_U64 }
     requires state { let b = batch_of (⟦<SC as Settings>⟧.setting config.now)
-        (⟦<SC as ProverSettings>⟧.prover config.now) A.declaration A.trees instances.now common.now in transcript.old.state ≡ pair_state b }
+        (⟦<SC as ProverSettings>⟧.prover config.now) A.declaration A.trees instances.now
+        common.now in transcript.old.state ≡ pair_state b }
     ensures verdict { let b = batch_of (⟦<SC as Settings>⟧.setting config.now)
-        (⟦<SC as ProverSettings>⟧.prover config.now) A.declaration A.trees instances.now common.now in let k = ⟦<SC as ProverSettings>⟧.prover_backend config.now in
+        (⟦<SC as ProverSettings>⟧.prover config.now) A.declaration A.trees instances.now
+        common.now in let k = ⟦<SC as ProverSettings>⟧.prover_backend config.now in
         IsProverAnswer (lookup_part b ++ (fraction_part b ++ permutation_part k b)) result }
     ensures witness { let b = batch_of (⟦<SC as Settings>⟧.setting config.now)
-        (⟦<SC as ProverSettings>⟧.prover config.now) A.declaration A.trees instances.now common.now in IfOk result (λ r. IsPairGroundOf b r.witness) }
+        (⟦<SC as ProverSettings>⟧.prover config.now) A.declaration A.trees instances.now
+        common.now in IfOk result (λ r. IsPairGroundOf b r.witness) }
     ensures challenges { let b = batch_of (⟦<SC as Settings>⟧.setting config.now)
-        (⟦<SC as ProverSettings>⟧.prover config.now) A.declaration A.trees instances.now common.now in IfOk result (λ r. map (λ v. v.items) r.challenges.items ≡ all_challenges b r.witness) }
+        (⟦<SC as ProverSettings>⟧.prover config.now) A.declaration A.trees instances.now
+        common.now in IfOk result
+        (λ r. map (λ v. v.items) r.challenges.items ≡ all_challenges b r.witness) }
     ensures terminals { let b = batch_of (⟦<SC as Settings>⟧.setting config.now)
-        (⟦<SC as ProverSettings>⟧.prover config.now) A.declaration A.trees instances.now common.now in IfOk result (λ r. map (option_map (λ t. t.0)) r.terminals.items ≡ terminals_of b r.witness) }
+        (⟦<SC as ProverSettings>⟧.prover config.now) A.declaration A.trees instances.now
+        common.now in IfOk result
+        (λ r. map (option_map (λ t. t.0)) r.terminals.items ≡ terminals_of b r.witness) }
     ensures fractions { let b = batch_of (⟦<SC as Settings>⟧.setting config.now)
-        (⟦<SC as ProverSettings>⟧.prover config.now) A.declaration A.trees instances.now common.now in IfOk result (λ r. HaveFractionsFor b r.witness) }
-    ensures committed { let b = batch_of (⟦<SC as Settings>⟧.setting config.now) (⟦<SC as ProverSettings>⟧.prover config.now) A.declaration A.trees instances.now common.now in
-        IfOk result (λ r. CommitsToSome (⟦<SC as ProverSettings>⟧.commits_to config.now) (all_permutations b r.witness) r.permutation) }
+        (⟦<SC as ProverSettings>⟧.prover config.now) A.declaration A.trees instances.now
+        common.now in IfOk result (λ r. HaveFractionsFor b r.witness) }
+    ensures committed { let b = batch_of (⟦<SC as Settings>⟧.setting config.now)
+        (⟦<SC as ProverSettings>⟧.prover config.now) A.declaration A.trees instances.now
+        common.now in
+        IfOk result (λ r. CommitsToSome (⟦<SC as ProverSettings>⟧.commits_to config.now)
+        (all_permutations b r.witness) r.permutation) }
     ensures permutation { let b = batch_of (⟦<SC as Settings>⟧.setting config.now)
-        (⟦<SC as ProverSettings>⟧.prover config.now) A.declaration A.trees instances.now common.now in IfOk result (λ r. option_map (λ c. c.0) r.permutation ≡ permutation_commitment b r.witness) }
+        (⟦<SC as ProverSettings>⟧.prover config.now) A.declaration A.trees instances.now
+        common.now in IfOk result
+        (λ r. option_map (λ c. c.0) r.permutation ≡ permutation_commitment b r.witness) }
     ensures alpha { let b = batch_of (⟦<SC as Settings>⟧.setting config.now)
-        (⟦<SC as ProverSettings>⟧.prover config.now) A.declaration A.trees instances.now common.now in IfOk result (λ r. r.alpha ≡ folding b r.witness) }
+        (⟦<SC as ProverSettings>⟧.prover config.now) A.declaration A.trees instances.now
+        common.now in IfOk result (λ r. r.alpha ≡ folding b r.witness) }
     ensures state { let b = batch_of (⟦<SC as Settings>⟧.setting config.now)
-        (⟦<SC as ProverSettings>⟧.prover config.now) A.declaration A.trees instances.now common.now in IfOk result (λ r. transcript.new.state ≡ quotient_state b r.witness) }
-    ensures turn { IfOk result (λ r. transcript.new.remaining ≡ from_quotient SC.Challenge.DIMENSION transcript.new.shape) }
+        (⟦<SC as ProverSettings>⟧.prover config.now) A.declaration A.trees instances.now
+        common.now in IfOk result (λ r. transcript.new.state ≡ quotient_state b r.witness) }
+    ensures turn { IfOk result
+        (λ r. transcript.new.remaining
+        ≡ from_quotient SC.Challenge.DIMENSION transcript.new.shape) }
     ensures shape { IfOk result (λ r. transcript.new.shape ≡ transcript.old.shape) }
 {
     let (challenges, witness) = match transcript.lookup_phase(

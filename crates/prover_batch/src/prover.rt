@@ -40,7 +40,12 @@ fn assembled<F: Drop, E: Drop, Com: Drop, PD: Drop, Opening>(
     opening_proof: Opening,
 ) -> TablesProof<F, E, Com, Opening>
     ensures { result ≡ record {
-      commitments = record { main = main; permutation = option_map (λ c. c.0) lookups.permutation; quotient_chunks = quotients.commitment; random = None };
+      commitments = record {
+        main = main;
+        permutation = option_map (λ c. c.0) lookups.permutation;
+        quotient_chunks = quotients.commitment;
+        random = None;
+      };
       instances = opened.items;
       opening_proof = opening_proof;
       lookup_terminals = map (option_map (λ t. t.0)) lookups.terminals.items;
@@ -75,22 +80,37 @@ pub fn prove_batch_with_point<SC: StarkGenericConfig, A: Air<Val<SC>>>(
 ) -> Result<(BatchProof<SC>, Challenge<SC>), ProvingError<PcsProverError<SC>>>
     requires plain { SC.Pcs.ZK ≡ false }
     requires traced { let b = batch_of (⟦<SC as Settings>⟧.setting config.now)
-        (⟦<SC as ProverSettings>⟧.prover config.now) A.declaration A.trees instances.now prover_data.now.common in IsTracedAll b }
-    requires prover_data { let b = batch_of (⟦<SC as Settings>⟧.setting config.now) (⟦<SC as ProverSettings>⟧.prover config.now) A.declaration A.trees instances.now prover_data.now.common in
-        HasProverData (⟦<SC as ProverSettings>⟧.commits_to config.now) (preprocessed_all b) b.statement.common.preprocessed prover_data.now.prover_only.preprocessed_prover_data }
+        (⟦<SC as ProverSettings>⟧.prover config.now) A.declaration A.trees instances.now
+        prover_data.now.common in IsTracedAll b }
+    requires prover_data { let b = batch_of (⟦<SC as Settings>⟧.setting config.now)
+        (⟦<SC as ProverSettings>⟧.prover config.now) A.declaration A.trees instances.now
+        prover_data.now.common in
+        HasProverData (⟦<SC as ProverSettings>⟧.commits_to config.now) (preprocessed_all b)
+        b.statement.common.preprocessed prover_data.now.prover_only.preprocessed_prover_data }
     ensures verdict { let b = batch_of (⟦<SC as Settings>⟧.setting config.now)
-        (⟦<SC as ProverSettings>⟧.prover config.now) A.declaration A.trees instances.now prover_data.now.common in
-        let k = ⟦<SC as ProverSettings>⟧.prover_backend config.now in IsProverAnswer (proving_checks k b) result }
+        (⟦<SC as ProverSettings>⟧.prover config.now) A.declaration A.trees instances.now
+        prover_data.now.common in
+        let k = ⟦<SC as ProverSettings>⟧.prover_backend config.now in
+        IsProverAnswer (proving_checks k b) result }
     ensures proved { let b = batch_of (⟦<SC as Settings>⟧.setting config.now)
-        (⟦<SC as ProverSettings>⟧.prover config.now) A.declaration A.trees instances.now prover_data.now.common in
-        let k = ⟦<SC as ProverSettings>⟧.prover_backend config.now in IfOk result (λ r. IsHonestProof k b r.0) }
+        (⟦<SC as ProverSettings>⟧.prover config.now) A.declaration A.trees instances.now
+        prover_data.now.common in
+        let k = ⟦<SC as ProverSettings>⟧.prover_backend config.now in
+        IfOk result (λ r. IsHonestProof k b r.0) }
     ensures accepted { let b = batch_of (⟦<SC as Settings>⟧.setting config.now)
-        (⟦<SC as ProverSettings>⟧.prover config.now) A.declaration A.trees instances.now prover_data.now.common in let k = ⟦<SC as ProverSettings>⟧.prover_backend config.now in
-        IfOk result (λ r. SC.Val.TWO_ADICITY < 63 → Valid b.setting SC.Val.eq b.prover.commitment_of b.statement b.traces b.degree_bits
-        → ((i : ℕ) → i < length instances.now → IsOutsideRows b.setting (table_at b i) (point_of b r.0.lookup_pow_witness r.0.ood_pow_witness))
-        → AvoidsExcluded k b r.0.lookup_pow_witness r.0.ood_pow_witness → Accepted b.setting (⟦<SC as Settings>⟧.backend config.now) b.statement r.0) }
+        (⟦<SC as ProverSettings>⟧.prover config.now) A.declaration A.trees instances.now
+        prover_data.now.common in let k = ⟦<SC as ProverSettings>⟧.prover_backend config.now in
+        IfOk result (λ r. SC.Val.TWO_ADICITY < 63
+        → Valid b.setting SC.Val.eq b.prover.commitment_of b.statement b.traces b.degree_bits
+        → ((i : ℕ) → i < length instances.now
+        → IsOutsideRows b.setting (table_at b i)
+        (point_of b r.0.lookup_pow_witness r.0.ood_pow_witness))
+        → AvoidsExcluded k b r.0.lookup_pow_witness r.0.ood_pow_witness
+        → Accepted b.setting (⟦<SC as Settings>⟧.backend config.now) b.statement r.0) }
     ensures point { let b = batch_of (⟦<SC as Settings>⟧.setting config.now)
-        (⟦<SC as ProverSettings>⟧.prover config.now) A.declaration A.trees instances.now prover_data.now.common in IfOk result (λ r. r.1 ≡ point_of b r.0.lookup_pow_witness r.0.ood_pow_witness) }
+        (⟦<SC as ProverSettings>⟧.prover config.now) A.declaration A.trees instances.now
+        prover_data.now.common in
+        IfOk result (λ r. r.1 ≡ point_of b r.0.lookup_pow_witness r.0.ood_pow_witness) }
 {
     let common = &prover_data.common;
     check_bound(alloc, config, instances, common)?;
@@ -155,20 +175,33 @@ pub fn prove_batch<SC: StarkGenericConfig, A: Air<Val<SC>>>(
 ) -> Result<BatchProof<SC>, ProvingError<PcsProverError<SC>>>
     requires plain { SC.Pcs.ZK ≡ false }
     requires traced { let b = batch_of (⟦<SC as Settings>⟧.setting config.now)
-        (⟦<SC as ProverSettings>⟧.prover config.now) A.declaration A.trees instances.now prover_data.now.common in IsTracedAll b }
-    requires prover_data { let b = batch_of (⟦<SC as Settings>⟧.setting config.now) (⟦<SC as ProverSettings>⟧.prover config.now) A.declaration A.trees instances.now prover_data.now.common in
-        HasProverData (⟦<SC as ProverSettings>⟧.commits_to config.now) (preprocessed_all b) b.statement.common.preprocessed prover_data.now.prover_only.preprocessed_prover_data }
+        (⟦<SC as ProverSettings>⟧.prover config.now) A.declaration A.trees instances.now
+        prover_data.now.common in IsTracedAll b }
+    requires prover_data { let b = batch_of (⟦<SC as Settings>⟧.setting config.now)
+        (⟦<SC as ProverSettings>⟧.prover config.now) A.declaration A.trees instances.now
+        prover_data.now.common in
+        HasProverData (⟦<SC as ProverSettings>⟧.commits_to config.now) (preprocessed_all b)
+        b.statement.common.preprocessed prover_data.now.prover_only.preprocessed_prover_data }
     ensures verdict { let b = batch_of (⟦<SC as Settings>⟧.setting config.now)
-        (⟦<SC as ProverSettings>⟧.prover config.now) A.declaration A.trees instances.now prover_data.now.common in
-        let k = ⟦<SC as ProverSettings>⟧.prover_backend config.now in IsProverAnswer (proving_checks k b) result }
+        (⟦<SC as ProverSettings>⟧.prover config.now) A.declaration A.trees instances.now
+        prover_data.now.common in
+        let k = ⟦<SC as ProverSettings>⟧.prover_backend config.now in
+        IsProverAnswer (proving_checks k b) result }
     ensures proved { let b = batch_of (⟦<SC as Settings>⟧.setting config.now)
-        (⟦<SC as ProverSettings>⟧.prover config.now) A.declaration A.trees instances.now prover_data.now.common in
-        let k = ⟦<SC as ProverSettings>⟧.prover_backend config.now in IfOk result (IsHonestProof k b) }
+        (⟦<SC as ProverSettings>⟧.prover config.now) A.declaration A.trees instances.now
+        prover_data.now.common in
+        let k = ⟦<SC as ProverSettings>⟧.prover_backend config.now in
+        IfOk result (IsHonestProof k b) }
     ensures accepted { let b = batch_of (⟦<SC as Settings>⟧.setting config.now)
-        (⟦<SC as ProverSettings>⟧.prover config.now) A.declaration A.trees instances.now prover_data.now.common in let k = ⟦<SC as ProverSettings>⟧.prover_backend config.now in
-        IfOk result (λ q. SC.Val.TWO_ADICITY < 63 → Valid b.setting SC.Val.eq b.prover.commitment_of b.statement b.traces b.degree_bits
-        → ((i : ℕ) → i < length instances.now → IsOutsideRows b.setting (table_at b i) (point_of b q.lookup_pow_witness q.ood_pow_witness))
-        → AvoidsExcluded k b q.lookup_pow_witness q.ood_pow_witness → Accepted b.setting (⟦<SC as Settings>⟧.backend config.now) b.statement q) }
+        (⟦<SC as ProverSettings>⟧.prover config.now) A.declaration A.trees instances.now
+        prover_data.now.common in let k = ⟦<SC as ProverSettings>⟧.prover_backend config.now in
+        IfOk result (λ q. SC.Val.TWO_ADICITY < 63
+        → Valid b.setting SC.Val.eq b.prover.commitment_of b.statement b.traces b.degree_bits
+        → ((i : ℕ) → i < length instances.now
+        → IsOutsideRows b.setting (table_at b i)
+        (point_of b q.lookup_pow_witness q.ood_pow_witness))
+        → AvoidsExcluded k b q.lookup_pow_witness q.ood_pow_witness
+        → Accepted b.setting (⟦<SC as Settings>⟧.backend config.now) b.statement q) }
 {
     let (proof, _point) = prove_batch_with_point(alloc, config, instances, prover_data)?;
     Ok(proof)

@@ -52,44 +52,77 @@ pub(crate) fn quotient_stage<SC: StarkGenericConfig, A: Air<Val<SC>>>(
     ProvingError<PcsProverError<SC>>,
 >
     requires plain { SC.Pcs.ZK ≡ false }
-    requires traced { let b = batch_of (⟦<SC as Settings>⟧.setting config.now) (⟦<SC as ProverSettings>⟧.prover config.now) A.declaration A.trees instances.now common.now in IsTracedAll b }
-    requires turn { transcript.old.remaining ≡ from_quotient SC.Challenge.DIMENSION transcript.old.shape }
+    requires traced { let b = batch_of (⟦<SC as Settings>⟧.setting config.now)
+        (⟦<SC as ProverSettings>⟧.prover config.now) A.declaration A.trees instances.now
+        common.now in IsTracedAll b }
+    requires turn { transcript.old.remaining
+        ≡ from_quotient SC.Challenge.DIMENSION transcript.old.shape }
     requires shape { let b = batch_of (⟦<SC as Settings>⟧.setting config.now)
-        (⟦<SC as ProverSettings>⟧.prover config.now) A.declaration A.trees instances.now common.now in transcript.old.shape ≡ shape_of b }
+        (⟦<SC as ProverSettings>⟧.prover config.now) A.declaration A.trees instances.now
+        common.now in transcript.old.shape ≡ shape_of b }
     requires few { 2 ^ transcript.old.shape.ood_pow_bits < SC.Val.ORDER_U64 }
     requires state { let b = batch_of (⟦<SC as Settings>⟧.setting config.now)
-        (⟦<SC as ProverSettings>⟧.prover config.now) A.declaration A.trees instances.now common.now in transcript.old.state ≡ quotient_state b lookups.now.witness }
-    requires preprocessed { let b = batch_of (⟦<SC as Settings>⟧.setting config.now) (⟦<SC as ProverSettings>⟧.prover config.now) A.declaration A.trees instances.now common.now in
-        HasProverData (⟦<SC as ProverSettings>⟧.commits_to config.now) (preprocessed_all b) b.statement.common.preprocessed (option_map (λ d. d.now) preprocessed) }
-    requires main { let b = batch_of (⟦<SC as Settings>⟧.setting config.now) (⟦<SC as ProverSettings>⟧.prover config.now) A.declaration A.trees instances.now common.now in
-        (root : SC.Pcs.Commitment) × (⟦<SC as ProverSettings>⟧.commits_to config.now) (main_matrices b) (root, main.now) }
+        (⟦<SC as ProverSettings>⟧.prover config.now) A.declaration A.trees instances.now
+        common.now in transcript.old.state ≡ quotient_state b lookups.now.witness }
+    requires preprocessed { let b = batch_of (⟦<SC as Settings>⟧.setting config.now)
+        (⟦<SC as ProverSettings>⟧.prover config.now) A.declaration A.trees instances.now
+        common.now in
+        HasProverData (⟦<SC as ProverSettings>⟧.commits_to config.now) (preprocessed_all b)
+        b.statement.common.preprocessed (option_map (λ d. d.now) preprocessed) }
+    requires main { let b = batch_of (⟦<SC as Settings>⟧.setting config.now)
+        (⟦<SC as ProverSettings>⟧.prover config.now) A.declaration A.trees instances.now
+        common.now in
+        (root : SC.Pcs.Commitment)
+        × (⟦<SC as ProverSettings>⟧.commits_to config.now) (main_matrices b) (root, main.now) }
     requires witness { let b = batch_of (⟦<SC as Settings>⟧.setting config.now)
-        (⟦<SC as ProverSettings>⟧.prover config.now) A.declaration A.trees instances.now common.now in IsPairGroundOf b lookups.now.witness }
+        (⟦<SC as ProverSettings>⟧.prover config.now) A.declaration A.trees instances.now
+        common.now in IsPairGroundOf b lookups.now.witness }
     requires fractions { let b = batch_of (⟦<SC as Settings>⟧.setting config.now)
-        (⟦<SC as ProverSettings>⟧.prover config.now) A.declaration A.trees instances.now common.now in HaveFractionsFor b lookups.now.witness }
+        (⟦<SC as ProverSettings>⟧.prover config.now) A.declaration A.trees instances.now
+        common.now in HaveFractionsFor b lookups.now.witness }
     requires challenges { let b = batch_of (⟦<SC as Settings>⟧.setting config.now)
-        (⟦<SC as ProverSettings>⟧.prover config.now) A.declaration A.trees instances.now common.now in map (λ v. v.items) lookups.now.challenges.items ≡ all_challenges b lookups.now.witness }
+        (⟦<SC as ProverSettings>⟧.prover config.now) A.declaration A.trees instances.now
+        common.now in map (λ v. v.items) lookups.now.challenges.items
+        ≡ all_challenges b lookups.now.witness }
     requires terminals { let b = batch_of (⟦<SC as Settings>⟧.setting config.now)
-        (⟦<SC as ProverSettings>⟧.prover config.now) A.declaration A.trees instances.now common.now in map (option_map (λ t. t.0)) lookups.now.terminals.items ≡ terminals_of b lookups.now.witness }
-    requires permutation { let b = batch_of (⟦<SC as Settings>⟧.setting config.now) (⟦<SC as ProverSettings>⟧.prover config.now) A.declaration A.trees instances.now common.now in
-        CommitsToSome (⟦<SC as ProverSettings>⟧.commits_to config.now) (all_permutations b lookups.now.witness) lookups.now.permutation }
+        (⟦<SC as ProverSettings>⟧.prover config.now) A.declaration A.trees instances.now
+        common.now in map (option_map (λ t. t.0)) lookups.now.terminals.items
+        ≡ terminals_of b lookups.now.witness }
+    requires permutation { let b = batch_of (⟦<SC as Settings>⟧.setting config.now)
+        (⟦<SC as ProverSettings>⟧.prover config.now) A.declaration A.trees instances.now
+        common.now in
+        CommitsToSome (⟦<SC as ProverSettings>⟧.commits_to config.now)
+        (all_permutations b lookups.now.witness) lookups.now.permutation }
     requires alpha { let b = batch_of (⟦<SC as Settings>⟧.setting config.now)
-        (⟦<SC as ProverSettings>⟧.prover config.now) A.declaration A.trees instances.now common.now in lookups.now.alpha ≡ folding b lookups.now.witness }
+        (⟦<SC as ProverSettings>⟧.prover config.now) A.declaration A.trees instances.now
+        common.now in lookups.now.alpha ≡ folding b lookups.now.witness }
     ensures verdict { let b = batch_of (⟦<SC as Settings>⟧.setting config.now)
-        (⟦<SC as ProverSettings>⟧.prover config.now) A.declaration A.trees instances.now common.now in let k = ⟦<SC as ProverSettings>⟧.prover_backend config.now in
-        IsProverAnswer ((in_turn (table_count b) (extension_part k b) ++ quotient_part k b) ++ ood_part b) result }
-    ensures committed { let b = batch_of (⟦<SC as Settings>⟧.setting config.now) (⟦<SC as ProverSettings>⟧.prover config.now) A.declaration A.trees instances.now common.now in
-        IfOk result (λ r. (⟦<SC as ProverSettings>⟧.commits_to config.now) (all_chunks b lookups.now.witness) (r.commitment, r.data)) }
+        (⟦<SC as ProverSettings>⟧.prover config.now) A.declaration A.trees instances.now
+        common.now in let k = ⟦<SC as ProverSettings>⟧.prover_backend config.now in
+        IsProverAnswer ((in_turn (table_count b) (extension_part k b) ++ quotient_part k b)
+        ++ ood_part b) result }
+    ensures committed { let b = batch_of (⟦<SC as Settings>⟧.setting config.now)
+        (⟦<SC as ProverSettings>⟧.prover config.now) A.declaration A.trees instances.now
+        common.now in
+        IfOk result (λ r. (⟦<SC as ProverSettings>⟧.commits_to config.now)
+        (all_chunks b lookups.now.witness) (r.commitment, r.data)) }
     ensures commitment { let b = batch_of (⟦<SC as Settings>⟧.setting config.now)
-        (⟦<SC as ProverSettings>⟧.prover config.now) A.declaration A.trees instances.now common.now in IfOk result (λ r. r.commitment ≡ quotient_of b lookups.now.witness) }
+        (⟦<SC as ProverSettings>⟧.prover config.now) A.declaration A.trees instances.now
+        common.now in IfOk result (λ r. r.commitment ≡ quotient_of b lookups.now.witness) }
     ensures witness { let b = batch_of (⟦<SC as Settings>⟧.setting config.now)
-        (⟦<SC as ProverSettings>⟧.prover config.now) A.declaration A.trees instances.now common.now in let k = ⟦<SC as ProverSettings>⟧.prover_backend config.now in
+        (⟦<SC as ProverSettings>⟧.prover config.now) A.declaration A.trees instances.now
+        common.now in let k = ⟦<SC as ProverSettings>⟧.prover_backend config.now in
         IfOk result (λ r. IsGroundOf b lookups.now.witness r.witness) }
-    ensures zeta { let b = batch_of (⟦<SC as Settings>⟧.setting config.now) (⟦<SC as ProverSettings>⟧.prover config.now) A.declaration A.trees instances.now common.now in
+    ensures zeta { let b = batch_of (⟦<SC as Settings>⟧.setting config.now)
+        (⟦<SC as ProverSettings>⟧.prover config.now) A.declaration A.trees instances.now
+        common.now in
         IfOk result (λ r. r.zeta ≡ point_of b lookups.now.witness r.witness) }
     ensures state { let b = batch_of (⟦<SC as Settings>⟧.setting config.now)
-        (⟦<SC as ProverSettings>⟧.prover config.now) A.declaration A.trees instances.now common.now in IfOk result (λ r. transcript.new.state ≡ state_of_opening b lookups.now.witness r.witness) }
-    ensures turn { IfOk result (λ r. transcript.new.remaining ≡ from_opening SC.Challenge.DIMENSION transcript.new.shape) }
+        (⟦<SC as ProverSettings>⟧.prover config.now) A.declaration A.trees instances.now
+        common.now in IfOk result
+        (λ r. transcript.new.state ≡ state_of_opening b lookups.now.witness r.witness) }
+    ensures turn { IfOk result
+        (λ r. transcript.new.remaining ≡ from_opening SC.Challenge.DIMENSION transcript.new.shape) }
     ensures shape { IfOk result (λ r. transcript.new.shape ≡ transcript.old.shape) }
 {
     let (commitment, data) = commit_quotients(

@@ -35,7 +35,8 @@ fn public_values<F: Field, A>(
     alloc: Global,
     instances: &[batch_setup::TableInstance<F, A>],
 ) -> Mem<Vec<Vec<F>>>
-    ensures { IfOk result (λ v. map (λ p. p.items) v.items ≡ map (λ i. i.public_values) instances.now) }
+    ensures { IfOk result (λ v.
+        map (λ p. p.items) v.items ≡ map (λ i. i.public_values) instances.now) }
 {
     let mut values = Vec::with_capacity(alloc, instances.len())?;
     for instance in instances {
@@ -55,15 +56,22 @@ pub fn bound_transcript<SC: StarkGenericConfig, A: Air<Val<SC>>>(
     degree_bits: &[usize],
     main: &Commitment<SC>,
 ) -> Mem<Transcript<SC>>
-    requires traced { let b = batch_of (⟦<SC as Settings>⟧.setting config.now) (⟦<SC as ProverSettings>⟧.prover config.now) A.declaration A.trees instances.now common.now in IsTracedAll b }
+    requires traced { let b = batch_of (⟦<SC as Settings>⟧.setting config.now)
+        (⟦<SC as ProverSettings>⟧.prover config.now) A.declaration A.trees instances.now
+        common.now in IsTracedAll b }
     requires degree_bits { let b = batch_of (⟦<SC as Settings>⟧.setting config.now)
-        (⟦<SC as ProverSettings>⟧.prover config.now) A.declaration A.trees instances.now common.now in degree_bits.now ≡ b.degree_bits }
-    requires main { let b = batch_of (⟦<SC as Settings>⟧.setting config.now) (⟦<SC as ProverSettings>⟧.prover config.now) A.declaration A.trees instances.now common.now in main.now ≡ main_of b }
+        (⟦<SC as ProverSettings>⟧.prover config.now) A.declaration A.trees instances.now
+        common.now in degree_bits.now ≡ b.degree_bits }
+    requires main { let b = batch_of (⟦<SC as Settings>⟧.setting config.now)
+        (⟦<SC as ProverSettings>⟧.prover config.now) A.declaration A.trees instances.now
+        common.now in main.now ≡ main_of b }
     ensures state { let b = batch_of (⟦<SC as Settings>⟧.setting config.now)
-        (⟦<SC as ProverSettings>⟧.prover config.now) A.declaration A.trees instances.now common.now in IfOk result (λ t. t.state ≡ pair_state b) }
+        (⟦<SC as ProverSettings>⟧.prover config.now) A.declaration A.trees instances.now
+        common.now in IfOk result (λ t. t.state ≡ pair_state b) }
     ensures turn { IfOk result (λ t. t.remaining ≡ from_lookup SC.Challenge.DIMENSION t.shape) }
     ensures shape { let b = batch_of (⟦<SC as Settings>⟧.setting config.now)
-        (⟦<SC as ProverSettings>⟧.prover config.now) A.declaration A.trees instances.now common.now in IfOk result (λ t. t.shape ≡ shape_of b) }
+        (⟦<SC as ProverSettings>⟧.prover config.now) A.declaration A.trees instances.now
+        common.now in IfOk result (λ t. t.shape ≡ shape_of b) }
     ensures few_lookup { IfOk result (λ t. 2 ^ t.shape.lookup_pow_bits < SC.Val.ORDER_U64) }
     ensures few_ood { IfOk result (λ t. 2 ^ t.shape.ood_pow_bits < SC.Val.ORDER_U64) }
 {
@@ -106,7 +114,9 @@ pub(crate) fn bind_quotient<
 )
     requires turn { transcript.old.remaining ≡ from_quotient EF.DIMENSION transcript.old.shape }
     requires count { is_some randomization ≡ transcript.old.shape.has_randomization_commitment }
-    ensures plays { Plays (⟦<C as BatchChallenger<F, EF, Com>>⟧.functions) (quotient_script quotient.now (option_copied randomization.entry)) transcript.old transcript.new [] }
+    ensures plays { Plays (⟦<C as BatchChallenger<F, EF, Com>>⟧.functions)
+        (quotient_script quotient.now (option_copied randomization.entry)) transcript.old
+        transcript.new [] }
     ensures turn { transcript.new.remaining ≡ from_ood EF.DIMENSION transcript.new.shape }
 {
     transcript.quotient_phase(quotient, randomization);

@@ -41,8 +41,12 @@ pub fn check_bound<SC: StarkGenericConfig, A: Air<Val<SC>>>(
     instances: &[StarkInstance<'_, SC, A>],
     common: &CommonData<SC>,
 ) -> Result<(), ProvingError<PcsProverError<SC>>>
-    requires { let b = batch_of (⟦<SC as Settings>⟧.setting config.now) (⟦<SC as ProverSettings>⟧.prover config.now) A.declaration A.trees instances.now common.now in IsTracedAll b }
-    ensures { let b = batch_of (⟦<SC as Settings>⟧.setting config.now) (⟦<SC as ProverSettings>⟧.prover config.now) A.declaration A.trees instances.now common.now in
+    requires { let b = batch_of (⟦<SC as Settings>⟧.setting config.now)
+        (⟦<SC as ProverSettings>⟧.prover config.now) A.declaration A.trees instances.now
+        common.now in IsTracedAll b }
+    ensures { let b = batch_of (⟦<SC as Settings>⟧.setting config.now)
+        (⟦<SC as ProverSettings>⟧.prover config.now) A.declaration A.trees instances.now
+        common.now in
         IsProverVerdict (bound_part b) result }
 {
     let heights = heights(alloc, instances)?;

@@ -45,7 +45,9 @@ fn with_matrix<SC: StarkGenericConfig>(
 ) -> Mem<Vec<(Domain<SC>, RowMajorMatrix<Val<SC>>)>>
     requires power { IsPowerOfTwo height }
     requires fits { height ≤ 2 ^ SC.Val.TWO_ADICITY }
-    ensures { IfOk result (λ v. v.items ≡ columns.items ++ option_to_list (option_map (λ m. (subgroup SC.Val.ring (log_of height), m)) matrix)) }
+    ensures { IfOk result (λ v.
+        v.items ≡ columns.items ++ option_to_list
+        (option_map (λ m. (subgroup SC.Val.ring (log_of height), m)) matrix)) }
 {
     match matrix {
         None => Ok(columns),
@@ -71,12 +73,16 @@ fn with_table<SC: StarkGenericConfig, A: Air<Val<SC>>>(
     requires lookups { length common.now.lookups ≡ length instances.now }
     requires challenges { length challenges.now ≡ length instances.now }
     requires ready { AreReady (batch_of (⟦<SC as Settings>⟧.setting config.now)
-        (⟦<SC as ProverSettings>⟧.prover config.now) A.declaration A.trees instances.now common.now) (map (λ v. v.items) challenges.now) (length instances.now) }
+        (⟦<SC as ProverSettings>⟧.prover config.now) A.declaration A.trees instances.now common.now)
+        (map (λ v. v.items) challenges.now) (length instances.now) }
     requires made { ArePermutationsMade
-        (batch_of (⟦<SC as Settings>⟧.setting config.now) (⟦<SC as ProverSettings>⟧.prover config.now) A.declaration A.trees instances.now common.now)
+        (batch_of (⟦<SC as Settings>⟧.setting config.now)
+        (⟦<SC as ProverSettings>⟧.prover config.now) A.declaration A.trees instances.now common.now)
         (map (λ v. v.items) challenges.now) place made.columns.items made.terminals.items }
-    ensures { IsMadeMore (batch_of (⟦<SC as Settings>⟧.setting config.now) (⟦<SC as ProverSettings>⟧.prover config.now) A.declaration A.trees instances.now common.now)
-        (map (λ v. v.items) challenges.now) (length instances.now) place (λ r. r.columns.items) (λ r. r.terminals.items) result }
+    ensures { IsMadeMore (batch_of (⟦<SC as Settings>⟧.setting config.now)
+        (⟦<SC as ProverSettings>⟧.prover config.now) A.declaration A.trees instances.now common.now)
+        (map (λ v. v.items) challenges.now) (length instances.now) place (λ r. r.columns.items)
+        (λ r. r.terminals.items) result }
 {
     let instance = &instances[place];
     let lookups = common.lookups[place].as_slice();
@@ -98,9 +104,12 @@ fn columns_for<SC: StarkGenericConfig, A: Air<Val<SC>>>(
     requires lookups { length common.now.lookups ≡ length instances.now }
     requires challenges { length challenges.now ≡ length instances.now }
     requires ready { AreReady (batch_of (⟦<SC as Settings>⟧.setting config.now)
-        (⟦<SC as ProverSettings>⟧.prover config.now) A.declaration A.trees instances.now common.now) (map (λ v. v.items) challenges.now) (length instances.now) }
-    ensures { IsAllMade (batch_of (⟦<SC as Settings>⟧.setting config.now) (⟦<SC as ProverSettings>⟧.prover config.now) A.declaration A.trees instances.now common.now)
-        (map (λ v. v.items) challenges.now) (length instances.now) (λ r. r.columns.items) (λ r. r.terminals.items) result }
+        (⟦<SC as ProverSettings>⟧.prover config.now) A.declaration A.trees instances.now common.now)
+        (map (λ v. v.items) challenges.now) (length instances.now) }
+    ensures { IsAllMade (batch_of (⟦<SC as Settings>⟧.setting config.now)
+        (⟦<SC as ProverSettings>⟧.prover config.now) A.declaration A.trees instances.now common.now)
+        (map (λ v. v.items) challenges.now) (length instances.now) (λ r. r.columns.items)
+        (λ r. r.terminals.items) result }
 {
     let mut made = Permutations {
         columns: Vec::new(alloc),
@@ -127,15 +136,29 @@ pub fn permutation_columns<SC: StarkGenericConfig, A: Air<Val<SC>>>(
     challenges: &[Vec<Challenge<SC>>],
 ) -> Result<Permutations<Val<SC>, Challenge<SC>>, ProvingError<PcsProverError<SC>>>
     requires plain { SC.Pcs.ZK ≡ false }
-    requires traced { let b = batch_of (⟦<SC as Settings>⟧.setting config.now) (⟦<SC as ProverSettings>⟧.prover config.now) A.declaration A.trees instances.now common.now in IsTracedAll b }
-    requires challenges { let b = batch_of (⟦<SC as Settings>⟧.setting config.now) (⟦<SC as ProverSettings>⟧.prover config.now) A.declaration A.trees instances.now common.now in
-        (w : Option SC.Val) × IsPairGroundOf b w × (map (λ v. v.items) challenges.now ≡ all_challenges b w) }
-    ensures verdict { let b = batch_of (⟦<SC as Settings>⟧.setting config.now) (⟦<SC as ProverSettings>⟧.prover config.now) A.declaration A.trees instances.now common.now in
+    requires traced { let b = batch_of (⟦<SC as Settings>⟧.setting config.now)
+        (⟦<SC as ProverSettings>⟧.prover config.now) A.declaration A.trees instances.now
+        common.now in IsTracedAll b }
+    requires challenges { let b = batch_of (⟦<SC as Settings>⟧.setting config.now)
+        (⟦<SC as ProverSettings>⟧.prover config.now) A.declaration A.trees instances.now
+        common.now in
+        (w : Option SC.Val) × IsPairGroundOf b w
+        × (map (λ v. v.items) challenges.now ≡ all_challenges b w) }
+    ensures verdict { let b = batch_of (⟦<SC as Settings>⟧.setting config.now)
+        (⟦<SC as ProverSettings>⟧.prover config.now) A.declaration A.trees instances.now
+        common.now in
         IsProverVerdict (fraction_part b) result }
-    ensures columns { let b = batch_of (⟦<SC as Settings>⟧.setting config.now) (⟦<SC as ProverSettings>⟧.prover config.now) A.declaration A.trees instances.now common.now in
-        IfOk result (λ r. (w : Option SC.Val) → IsPairGroundOf b w → r.columns.items ≡ all_permutations b w) }
-    ensures terminals { let b = batch_of (⟦<SC as Settings>⟧.setting config.now) (⟦<SC as ProverSettings>⟧.prover config.now) A.declaration A.trees instances.now common.now in
-        IfOk result (λ r. (w : Option SC.Val) → IsPairGroundOf b w → map (option_map (λ t. t.0)) r.terminals.items ≡ terminals b.setting b.prover b.statement b.traces b.degree_bits w) }
+    ensures columns { let b = batch_of (⟦<SC as Settings>⟧.setting config.now)
+        (⟦<SC as ProverSettings>⟧.prover config.now) A.declaration A.trees instances.now
+        common.now in
+        IfOk result (λ r. (w : Option SC.Val) → IsPairGroundOf b w
+        → r.columns.items ≡ all_permutations b w) }
+    ensures terminals { let b = batch_of (⟦<SC as Settings>⟧.setting config.now)
+        (⟦<SC as ProverSettings>⟧.prover config.now) A.declaration A.trees instances.now
+        common.now in
+        IfOk result (λ r. (w : Option SC.Val) → IsPairGroundOf b w
+        → map (option_map (λ t. t.0)) r.terminals.items
+        ≡ terminals b.setting b.prover b.statement b.traces b.degree_bits w) }
 {
     columns_for(alloc, config, instances, common, challenges)
 }

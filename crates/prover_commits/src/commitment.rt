@@ -23,8 +23,10 @@ pub fn commit_matrices<SC: StarkGenericConfig>(
     phase: ProverPhase,
     evaluations: Vec<(Domain<SC>, RowMajorMatrix<Val<SC>>)>,
 ) -> Result<(Commitment<SC>, Committed<SC>), ProvingError<PcsProverError<SC>>>
-    ensures verdict { IsProverVerdict (commit_part phase (SC.Pcs.commit_fault (SC.pcs_of config.now)) evaluations.items) result }
-    ensures committed { IfOk result (⟦<SC as ProverSettings>⟧.commits_to config.now evaluations.items) }
+    ensures verdict { IsProverVerdict
+        (commit_part phase (SC.Pcs.commit_fault (SC.pcs_of config.now)) evaluations.items) result }
+    ensures committed { IfOk result
+        (⟦<SC as ProverSettings>⟧.commits_to config.now evaluations.items) }
 {
     match config.pcs().commit(alloc, evaluations) {
         Ok(committed) => Ok(committed),

@@ -15,7 +15,11 @@ pub(crate) fn flattened<F: Field, EF: ExtensionField<F>>(
 ) -> Mem<RowMajorMatrix<F>>
     requires { 0 < height m.now }
     ensures fills { FillsRows m.now.values m.now.width }
-    ensures flat { IfOk result (λ f. f ≡ record { values = flat_map EF.coefficients m.now.values; width = m.now.width * EF.DIMENSION }) }
+    ensures flat { IfOk result
+        (λ f. f ≡ record {
+          values = flat_map EF.coefficients m.now.values;
+          width = m.now.width * EF.DIMENSION;
+        }) }
 {
     let values = EF::flatten_to_base(alloc, m.as_slice())?;
     Ok(RowMajorMatrix::new(values, m.width() * EF::DIMENSION))

@@ -23,11 +23,17 @@ pub(crate) fn generated_columns<F: Field, EF: ExtensionField<F>, A: BaseAir<F>, 
     lookups: &[Lookup<F>],
     challenges: &[EF],
 ) -> Result<(RowMajorMatrix<EF>, LookupTerminal<EF>), ProvingError<R>>
-    requires preprocessed { IfSome (A.declaration instance.now.air).preprocessed (λ m. height m ≡ height instance.now.trace) }
-    requires lookups { All (IsLookup (sent_shape instance.now.trace (A.declaration instance.now.air).preprocessed instance.now.public_values)) (read_all lookups.now) }
+    requires preprocessed { IfSome (A.declaration instance.now.air).preprocessed
+        (λ m. height m ≡ height instance.now.trace) }
+    requires lookups { All (IsLookup
+        (sent_shape instance.now.trace (A.declaration instance.now.air).preprocessed
+        instance.now.public_values)) (read_all lookups.now) }
     requires challenges { length challenges.now ≡ 2 * length lookups.now }
-    ensures { let p = argument_over F.ring EF.ring EF.inv EF.embed instance.now.trace (A.declaration instance.now.air).preprocessed instance.now.public_values (read_all lookups.now) challenges.now in
-        MatchResult result (λ r. IsGenerated p (height instance.now.trace) (Ok r)) (IsZeroAt p (height instance.now.trace) place) }
+    ensures { let p = argument_over F.ring EF.ring EF.inv EF.embed instance.now.trace
+        (A.declaration instance.now.air).preprocessed instance.now.public_values
+        (read_all lookups.now) challenges.now in
+        MatchResult result (λ r. IsGenerated p (height instance.now.trace) (Ok r))
+        (IsZeroAt p (height instance.now.trace) place) }
 {
     let preprocessed = instance.air.preprocessed_trace(alloc)?;
     match LogUpGadget::new().generate_permutation(

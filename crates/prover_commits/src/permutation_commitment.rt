@@ -27,9 +27,12 @@ pub fn commit_permutations<SC: StarkGenericConfig>(
     config: &SC,
     columns: Vec<(Domain<SC>, RowMajorMatrix<Val<SC>>)>,
 ) -> Result<Option<(Commitment<SC>, Committed<SC>)>, ProvingError<PcsProverError<SC>>>
-    ensures verdict { IsProverVerdict (commit_part ProverPhase.PermutationCommitment (fault_of_some (SC.Pcs.commit_fault (SC.pcs_of config.now))) columns.items) result }
+    ensures verdict { IsProverVerdict
+        (commit_part ProverPhase.PermutationCommitment
+        (fault_of_some (SC.Pcs.commit_fault (SC.pcs_of config.now))) columns.items) result }
     ensures none { columns.items ≡ [] → result ≡ Ok None }
-    ensures committed { IfOk result (CommitsToSome (⟦<SC as ProverSettings>⟧.commits_to config.now) columns.items) }
+    ensures committed { IfOk result
+        (CommitsToSome (⟦<SC as ProverSettings>⟧.commits_to config.now) columns.items) }
 {
     if columns.is_empty() {
         return Ok(None);

@@ -31,8 +31,11 @@ pub(crate) fn table_columns<F: Field, EF: ExtensionField<F>, A: BaseAir<F>, R>(
     challenges: &[EF],
 ) -> Result<TableColumns<F, EF>, ProvingError<R>>
     requires some { 0 < height instance.now.trace }
-    requires preprocessed { IfSome (A.declaration instance.now.air).preprocessed (λ m. height m ≡ height instance.now.trace) }
-    requires lookups { All (IsLookup (sent_shape instance.now.trace (A.declaration instance.now.air).preprocessed instance.now.public_values)) (read_all lookups.now) }
+    requires preprocessed { IfSome (A.declaration instance.now.air).preprocessed
+        (λ m. height m ≡ height instance.now.trace) }
+    requires lookups { All (IsLookup
+        (sent_shape instance.now.trace (A.declaration instance.now.air).preprocessed
+        instance.now.public_values)) (read_all lookups.now) }
     requires challenges { length challenges.now ≡ 2 * length lookups.now }
     ensures { let e : Extension F EF = record {
       ring = EF.ring;
@@ -42,8 +45,11 @@ pub(crate) fn table_columns<F: Field, EF: ExtensionField<F>, A: BaseAir<F>, R>(
       coefficients = EF.coefficients;
       from_coefficients = EF.from_coefficients;
     } in
-        let a = argument_over F.ring EF.ring EF.inv EF.embed instance.now.trace (A.declaration instance.now.air).preprocessed instance.now.public_values (read_all lookups.now) challenges.now in
-        MatchResult result (λ r. AreFlattened e a (height instance.now.trace) r.0 r.1) (IsZeroAt a (height instance.now.trace) place) }
+        let a = argument_over F.ring EF.ring EF.inv EF.embed instance.now.trace
+        (A.declaration instance.now.air).preprocessed instance.now.public_values
+        (read_all lookups.now) challenges.now in
+        MatchResult result (λ r. AreFlattened e a (height instance.now.trace) r.0 r.1)
+        (IsZeroAt a (height instance.now.trace) place) }
 {
     if lookups.is_empty() {
         return Ok((None, None));

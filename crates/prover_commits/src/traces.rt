@@ -46,7 +46,9 @@ fn traces_on_rows<SC: StarkGenericConfig, A: Air<Val<SC>>>(
 ) -> Mem<Vec<(Domain<SC>, RowMajorMatrix<Val<SC>>)>>
     requires powers { ArePowers instances.now }
     requires fit { All (λ i. height i.trace ≤ 2 ^ SC.Val.TWO_ADICITY) instances.now }
-    ensures { IfOk result (λ v. v.items ≡ map (λ i. (subgroup SC.Val.ring (log_of (height i.trace)), i.trace)) instances.now) }
+    ensures { IfOk result (λ v.
+        v.items ≡ map (λ i. (subgroup SC.Val.ring (log_of (height i.trace)), i.trace))
+        instances.now) }
 {
     let mut traces = Vec::with_capacity(alloc, instances.len())?;
     for instance in instances {
@@ -67,10 +69,16 @@ pub fn commit_traces<SC: StarkGenericConfig, A: Air<Val<SC>>>(
     common: &CommonData<SC>,
 ) -> Result<(Commitment<SC>, Committed<SC>), ProvingError<PcsProverError<SC>>>
     requires plain { SC.Pcs.ZK ≡ false }
-    requires traced { let b = batch_of (⟦<SC as Settings>⟧.setting config.now) (⟦<SC as ProverSettings>⟧.prover config.now) A.declaration A.trees instances.now common.now in IsTracedAll b }
-    ensures verdict { let b = batch_of (⟦<SC as Settings>⟧.setting config.now) (⟦<SC as ProverSettings>⟧.prover config.now) A.declaration A.trees instances.now common.now in
+    requires traced { let b = batch_of (⟦<SC as Settings>⟧.setting config.now)
+        (⟦<SC as ProverSettings>⟧.prover config.now) A.declaration A.trees instances.now
+        common.now in IsTracedAll b }
+    ensures verdict { let b = batch_of (⟦<SC as Settings>⟧.setting config.now)
+        (⟦<SC as ProverSettings>⟧.prover config.now) A.declaration A.trees instances.now
+        common.now in
         IsProverVerdict (trace_part (⟦<SC as ProverSettings>⟧.prover_backend config.now) b) result }
-    ensures committed { let b = batch_of (⟦<SC as Settings>⟧.setting config.now) (⟦<SC as ProverSettings>⟧.prover config.now) A.declaration A.trees instances.now common.now in
+    ensures committed { let b = batch_of (⟦<SC as Settings>⟧.setting config.now)
+        (⟦<SC as ProverSettings>⟧.prover config.now) A.declaration A.trees instances.now
+        common.now in
         IfOk result (⟦<SC as ProverSettings>⟧.commits_to config.now (main_matrices b)) }
 {
     let traces = traces_on_rows(alloc, config, instances)?;

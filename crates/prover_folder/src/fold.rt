@@ -39,13 +39,22 @@ pub fn prover_fold_with_lookups<F: Field, E: ExtensionField<F>, A: Air<F>, LG: L
     requires first { folder.inner.constraint_index ≡ 0 }
     requires declared { Fits (declared_shape (A.declaration air.now)) (prover_shape_of folder) }
     requires lookups { AreLookupsOf (A.declaration air.now) (read_all lookups.now) }
-    requires columns { 0 < length lookups.now → length lookups.now < (prover_shape_of folder).permutation }
+    requires columns { 0 < length lookups.now
+        → length lookups.now < (prover_shape_of folder).permutation }
     requires challenges { 2 * length lookups.now ≤ length folder.permutation_challenges.now }
     requires terminals { 0 < length lookups.now → 0 < length folder.permutation_values.now }
     ensures weighed { result ≡ weighed E.ring folder.entry.inner.alpha_powers.now
-        (map (eval_tree (reading_at E.ring E.embed (prover_cells_of E.ring.zero E.embed folder.entry))) (table_trees F.ring (A.trees air.now) (read_all lookups.now))) }
-    ensures fold { (alpha : E) → folder.entry.inner.alpha_powers.now ≡ fold_powers E.ring alpha (length (table_trees F.ring (A.trees air.now) (read_all lookups.now)))
-        → result ≡ fold E.ring alpha (map (eval_tree (reading_at E.ring E.embed (prover_cells_of E.ring.zero E.embed folder.entry))) (table_trees F.ring (A.trees air.now) (read_all lookups.now))) }
+        (map (eval_tree (reading_at E.ring E.embed
+        (prover_cells_of E.ring.zero E.embed folder.entry)))
+        (table_trees F.ring (A.trees air.now) (read_all lookups.now))) }
+    ensures fold { (alpha : E)
+        → folder.entry.inner.alpha_powers.now
+        ≡ fold_powers E.ring alpha
+        (length (table_trees F.ring (A.trees air.now) (read_all lookups.now)))
+        → result ≡ fold E.ring alpha
+        (map (eval_tree (reading_at E.ring E.embed
+        (prover_cells_of E.ring.zero E.embed folder.entry)))
+        (table_trees F.ring (A.trees air.now) (read_all lookups.now))) }
 {
     let mut folder = folder;
     match lookup_gadget.eval_air_and_lookups(air, &mut folder, lookups) {

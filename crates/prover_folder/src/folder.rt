@@ -41,7 +41,8 @@ impl<'a, F: Field, E: ExtensionField<F>> ProverFolderWithLookups<'a, F, E> {
     // Folds one more value in, as the plain folder does.
     fn fold_in(&mut self, x: E)
         ensures unchanged { given_with self.new ≡ given_with self.old }
-        ensures sum { folder_sum_of self.new.inner ≡ added_to E.ring (folder_sum_of self.old.inner).left self.old.inner.accumulator x }
+        ensures sum { folder_sum_of self.new.inner
+            ≡ added_to E.ring (folder_sum_of self.old.inner).left self.old.inner.accumulator x }
         ensures index { power_count self.new.inner ≡ power_count self.old.inner }
     {
         self.inner.fold_in(x);
@@ -56,15 +57,20 @@ impl<'a, F: Field, E: ExtensionField<F>> AirBuilder for ProverFolderWithLookups<
 
     type Expr = F;
 
-    ghost represents = { λ b e t. E.embed e ≡ eval_tree (reading_at E.ring E.embed (prover_cells_of E.ring.zero E.embed b)) t };
+    ghost represents = { λ b e t.
+        E.embed e ≡ eval_tree (reading_at E.ring E.embed (prover_cells_of E.ring.zero E.embed b))
+        t };
 
     ghost later = { λ a b. given_with b ≡ given_with a };
 
     ghost appends = { λ a b ts is. (given_with b ≡ given_with a)
         × (folder_sum_of b.inner ≡ weighed_from E.ring (folder_sum_of a.inner)
-        (map (eval_asserted (reading_at E.ring E.embed (prover_cells_of E.ring.zero E.embed a))) ts)) × (power_count b.inner ≡ power_count a.inner) };
+        (map (eval_asserted (reading_at E.ring E.embed (prover_cells_of E.ring.zero E.embed a)))
+        ts)) × (power_count b.inner ≡ power_count a.inner) };
 
-    ghost asserts = { λ a x b. (given_with b ≡ given_with a) × (folder_sum_of b.inner ≡ added_to E.ring (folder_sum_of a.inner).left a.inner.accumulator (E.embed x))
+    ghost asserts = { λ a x b. (given_with b ≡ given_with a)
+        × (folder_sum_of b.inner
+        ≡ added_to E.ring (folder_sum_of a.inner).left a.inner.accumulator (E.embed x))
         × (power_count b.inner ≡ power_count a.inner) };
 
     ghost computes = { λ a op x y b e. e ≡ value_by F.ring op x y };
@@ -108,7 +114,9 @@ impl<'a, F: Field, E: ExtensionField<F>> AirBuilder for ProverFolderWithLookups<
 
     ghost later_shape = { λ a b p. shape_with (given_with a) (given_with b) p };
 
-    ghost persists = { λ a b h e t k. value_persists (λ o. reading_at E.ring E.embed (given_cells E.ring.zero E.embed o)) (given_with a) (given_with b) (E.embed e) t h k };
+    ghost persists = { λ a b h e t k.
+        value_persists (λ o. reading_at E.ring E.embed (given_cells E.ring.zero E.embed o))
+        (given_with a) (given_with b) (E.embed e) t h k };
 
     ghost appends_none = { λ a. (refl, refl, refl) };
 
@@ -116,17 +124,22 @@ impl<'a, F: Field, E: ExtensionField<F>> AirBuilder for ProverFolderWithLookups<
 
     ghost appends_along = { λ a b c s t i j p q. (
       q.0 ∙ p.0,
-      weighed_along E.ring (λ o. reading_at E.ring E.embed (given_cells E.ring.zero E.embed o)) (given_with a)
-          (given_with b) (folder_sum_of a.inner) (folder_sum_of b.inner) (folder_sum_of c.inner) s t p.0 p.1 q.1,
+      weighed_along E.ring (λ o. reading_at E.ring E.embed (given_cells E.ring.zero E.embed o))
+          (given_with a)
+          (given_with b) (folder_sum_of a.inner) (folder_sum_of b.inner) (folder_sum_of c.inner) s t
+          p.0 p.1 q.1,
       q.2 ∙ p.2,
     ) };
 
     ghost never_fails_sure = { λ h. h };
 
-    ghost computes_represents = { λ a b h op x y e s t k l q. base_value_by_persists F.ring F.ring_laws E.ring E.ring_laws E.embed E.embed_laws
-        (λ o. given_cells E.ring.zero E.embed o) (given_with a) (given_with b) op x y e s t h k l q };
+    ghost computes_represents = { λ a b h op x y e s t k l q.
+        base_value_by_persists F.ring F.ring_laws E.ring E.ring_laws E.embed E.embed_laws
+        (λ o. given_cells E.ring.zero E.embed o) (given_with a) (given_with b) op x y e s t h k l
+        q };
 
-    ghost asserts_appends = { λ a b x t h k. (k.0, k.1 ∙ ap (added_to E.ring (folder_sum_of a.inner).left a.inner.accumulator) h, k.2) };
+    ghost asserts_appends = { λ a b x t h k.
+        (k.0, k.1 ∙ ap (added_to E.ring (folder_sum_of a.inner).left a.inner.accumulator) h, k.2) };
 }
 
 impl<'a, F: Field, E: ExtensionField<F>> ExtensionBuilder for ProverFolderWithLookups<'a, F, E> {
@@ -135,9 +148,12 @@ impl<'a, F: Field, E: ExtensionField<F>> ExtensionBuilder for ProverFolderWithLo
 
     type ExprEF = E;
 
-    ghost represents_ext = { λ b e t. e ≡ eval_tree (reading_at E.ring E.embed (prover_cells_of E.ring.zero E.embed b)) t };
+    ghost represents_ext = { λ b e t.
+        e ≡ eval_tree (reading_at E.ring E.embed (prover_cells_of E.ring.zero E.embed b)) t };
 
-    ghost asserts_ext = { λ a x b. (given_with b ≡ given_with a) × (folder_sum_of b.inner ≡ added_to E.ring (folder_sum_of a.inner).left a.inner.accumulator x)
+    ghost asserts_ext = { λ a x b. (given_with b ≡ given_with a)
+        × (folder_sum_of b.inner
+        ≡ added_to E.ring (folder_sum_of a.inner).left a.inner.accumulator x)
         × (power_count b.inner ≡ power_count a.inner) };
 
     ghost computes_ext = { λ a op x y b e. e ≡ value_by E.ring op x y };
@@ -167,13 +183,20 @@ impl<'a, F: Field, E: ExtensionField<F>> ExtensionBuilder for ProverFolderWithLo
 
     ghost arrays_fit_ext = { E.arrays_fit };
 
-    ghost persists_ext = { λ a b h e t k. value_persists (λ o. reading_at E.ring E.embed (given_cells E.ring.zero E.embed o)) (given_with a) (given_with b) e t h k };
+    ghost persists_ext = { λ a b h e t k.
+        value_persists (λ o. reading_at E.ring E.embed (given_cells E.ring.zero E.embed o))
+        (given_with a) (given_with b) e t h k };
 
-    ghost computes_ext_represents = { λ a b h op x y e s t k l q. value_by_persists E.ring E.embed (λ o. given_cells E.ring.zero E.embed o) (given_with a) (given_with b) op x y e s t h k l q };
+    ghost computes_ext_represents = { λ a b h op x y e s t k l q.
+        value_by_persists E.ring E.embed (λ o. given_cells E.ring.zero E.embed o) (given_with a)
+        (given_with b) op x y e s t h k l q };
 
-    ghost lifts_represents = { λ a b h x e t k q. value_persists (λ o. reading_at E.ring E.embed (given_cells E.ring.zero E.embed o)) (given_with a) (given_with b) e t h (q ∙ k) };
+    ghost lifts_represents = { λ a b h x e t k q.
+        value_persists (λ o. reading_at E.ring E.embed (given_cells E.ring.zero E.embed o))
+        (given_with a) (given_with b) e t h (q ∙ k) };
 
-    ghost asserts_ext_appends = { λ a b x t h k. (k.0, k.1 ∙ ap (added_to E.ring (folder_sum_of a.inner).left a.inner.accumulator) h, k.2) };
+    ghost asserts_ext_appends = { λ a b x t h k.
+        (k.0, k.1 ∙ ap (added_to E.ring (folder_sum_of a.inner).left a.inner.accumulator) h, k.2) };
 }
 
 impl<'a, F: Field, E: ExtensionField<F>> PermutationAirBuilder
@@ -196,22 +219,30 @@ impl<'a, F: Field, E: ExtensionField<F>> InteractionBuilder for ProverFolderWith
     ghost use Rattle.p3_uni_stark.specs.ProverState.{folder_sum_of, power_count};
     ghost use Rattle.prover_folder.specs.FolderState.{given_with, prover_cells_of, prover_shape_of};
 
-    ghost sends = { λ a bus xs cs b. (given_with b ≡ given_with a) × (folder_sum_of b.inner ≡ folder_sum_of a.inner) × (power_count b.inner ≡ power_count a.inner) };
+    ghost sends = { λ a bus xs cs b. (given_with b ≡ given_with a)
+        × (folder_sum_of b.inner ≡ folder_sum_of a.inner)
+        × (power_count b.inner ≡ power_count a.inner) };
 
     fn push_interaction(&mut self, _bus_name: &str, fields: &[F], count: Count<F>) -> Mem<()>
         ensures later { given_with self.new ≡ given_with self.old }
         ensures keeps_shape { prover_shape_of self.new ≡ prover_shape_of self.old }
         ensures answers { IsTrue true → IsOk result }
         ensures appends { (fs : List (Tree F)) (v : Tree F)
-            → Represent (λ e t. E.embed e ≡ eval_tree (reading_at E.ring E.embed (prover_cells_of E.ring.zero E.embed self.old)) t) fields.now fs → E.embed count.value
+            → Represent (λ e t. E.embed e
+            ≡ eval_tree (reading_at E.ring E.embed (prover_cells_of E.ring.zero E.embed self.old))
+            t) fields.now fs → E.embed count.value
             ≡ eval_tree (reading_at E.ring E.embed (prover_cells_of E.ring.zero E.embed self.old)) v
-            → IfOk result (λ _. (given_with self.new ≡ given_with self.old) × (folder_sum_of self.new.inner ≡ weighed_from E.ring (folder_sum_of self.old.inner) [])
+            → IfOk result (λ _. (given_with self.new ≡ given_with self.old)
+            × (folder_sum_of self.new.inner ≡ weighed_from E.ring (folder_sum_of self.old.inner) [])
             × (power_count self.new.inner ≡ power_count self.old.inner)) }
         ensures sure { IsTrue true → IsOk result }
-        ensures sends { IfOk result (λ _. (given_with self.new ≡ given_with self.old) × (folder_sum_of self.new.inner ≡ folder_sum_of self.old.inner)
+        ensures sends { IfOk result
+            (λ _. (given_with self.new ≡ given_with self.old)
+            × (folder_sum_of self.new.inner ≡ folder_sum_of self.old.inner)
             × (power_count self.new.inner ≡ power_count self.old.inner)) }
         ensures on_error { OnErr result ((given_with self.new ≡ given_with self.old)
-            × (folder_sum_of self.new.inner ≡ weighed_from E.ring (folder_sum_of self.old.inner) []) × (power_count self.new.inner ≡ power_count self.old.inner)) }
+            × (folder_sum_of self.new.inner ≡ weighed_from E.ring (folder_sum_of self.old.inner) [])
+            × (power_count self.new.inner ≡ power_count self.old.inner)) }
     {
         Ok(())
     }

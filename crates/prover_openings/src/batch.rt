@@ -54,11 +54,18 @@ pub fn open_batch<SC: StarkGenericConfig, A: Air<Val<SC>>>(
     ProvingError<PcsProverError<SC>>,
 >
     requires plain { SC.Pcs.ZK ≡ false }
-    requires traced { let b = batch_of (⟦<SC as Settings>⟧.setting config.now) (⟦<SC as ProverSettings>⟧.prover config.now) A.declaration A.trees instances.now common.now in
+    requires traced { let b = batch_of (⟦<SC as Settings>⟧.setting config.now)
+        (⟦<SC as ProverSettings>⟧.prover config.now) A.declaration A.trees instances.now
+        common.now in
         IsTracedAll b }
-    requires preprocessed { let b = batch_of (⟦<SC as Settings>⟧.setting config.now) (⟦<SC as ProverSettings>⟧.prover config.now) A.declaration A.trees instances.now common.now in
-        HasProverData (⟦<SC as ProverSettings>⟧.commits_to config.now) (preprocessed_all b) b.statement.common.preprocessed (option_map (λ d. d.now) preprocessed) }
-    requires ready { let b = batch_of (⟦<SC as Settings>⟧.setting config.now) (⟦<SC as ProverSettings>⟧.prover config.now) A.declaration A.trees instances.now common.now in
+    requires preprocessed { let b = batch_of (⟦<SC as Settings>⟧.setting config.now)
+        (⟦<SC as ProverSettings>⟧.prover config.now) A.declaration A.trees instances.now
+        common.now in
+        HasProverData (⟦<SC as ProverSettings>⟧.commits_to config.now) (preprocessed_all b)
+        b.statement.common.preprocessed (option_map (λ d. d.now) preprocessed) }
+    requires ready { let b = batch_of (⟦<SC as Settings>⟧.setting config.now)
+        (⟦<SC as ProverSettings>⟧.prover config.now) A.declaration A.trees instances.now
+        common.now in
         let k = ⟦<SC as ProverSettings>⟧.prover_backend config.now in
         IsReady k b (record {
           main = main.now;
@@ -66,16 +73,29 @@ pub fn open_batch<SC: StarkGenericConfig, A: Air<Val<SC>>>(
           preprocessed = option_map (λ d. d.now) preprocessed;
           permutation = option_map (λ d. d.now) permutation;
         }) (⟦<SC as ProverSettings>⟧.commits_to config.now) zeta challenger.old }
-    ensures verdict { let b = batch_of (⟦<SC as Settings>⟧.setting config.now) (⟦<SC as ProverSettings>⟧.prover config.now) A.declaration A.trees instances.now common.now in
+    ensures verdict { let b = batch_of (⟦<SC as Settings>⟧.setting config.now)
+        (⟦<SC as ProverSettings>⟧.prover config.now) A.declaration A.trees instances.now
+        common.now in
         let k = ⟦<SC as ProverSettings>⟧.prover_backend config.now in
         IsProverVerdict (opening_request_checks k b
-        (record { main = main.now; quotient = quotient.now; preprocessed = option_map (λ d. d.now) preprocessed.entry; permutation = option_map (λ d. d.now) permutation.entry })) result }
-    ensures opened { let b = batch_of (⟦<SC as Settings>⟧.setting config.now) (⟦<SC as ProverSettings>⟧.prover config.now) A.declaration A.trees instances.now common.now in
+        (record {
+          main = main.now;
+          quotient = quotient.now;
+          preprocessed = option_map (λ d. d.now) preprocessed.entry;
+          permutation = option_map (λ d. d.now) permutation.entry;
+        })) result }
+    ensures opened { let b = batch_of (⟦<SC as Settings>⟧.setting config.now)
+        (⟦<SC as ProverSettings>⟧.prover config.now) A.declaration A.trees instances.now
+        common.now in
         IfOk result (λ r. (w : Option SC.Val) (z : SC.Val) → IsGroundOf b w z
         → r.0.items ≡ tabulate (table_count b)
-        (λ i. opened_of b.setting b.prover (table_at b i) (challenges_at b.setting b.prover b.statement b.traces b.degree_bits w i)
-        (alpha b.setting b.prover b.statement b.traces b.degree_bits w) (honest_zeta b.setting b.prover b.statement b.traces b.degree_bits w z))) }
-    ensures proves { let b = batch_of (⟦<SC as Settings>⟧.setting config.now) (⟦<SC as ProverSettings>⟧.prover config.now) A.declaration A.trees instances.now common.now in
+        (λ i. opened_of b.setting b.prover (table_at b i)
+        (challenges_at b.setting b.prover b.statement b.traces b.degree_bits w i)
+        (alpha b.setting b.prover b.statement b.traces b.degree_bits w)
+        (honest_zeta b.setting b.prover b.statement b.traces b.degree_bits w z))) }
+    ensures proves { let b = batch_of (⟦<SC as Settings>⟧.setting config.now)
+        (⟦<SC as ProverSettings>⟧.prover config.now) A.declaration A.trees instances.now
+        common.now in
         let k = ⟦<SC as ProverSettings>⟧.prover_backend config.now in
         IfOk result (λ r. (w : Option SC.Val) (z : SC.Val) → IsGroundOf b w z
         → AreAsked k b w z (asked_of b (record {
@@ -84,7 +104,8 @@ pub fn open_batch<SC: StarkGenericConfig, A: Air<Val<SC>>>(
           preprocessed = option_map (λ d. d.now) preprocessed.entry;
           permutation = option_map (λ d. d.now) permutation.entry;
         }) w z)
-        × SC.Pcs.proves (SC.pcs_of config.now) (opening_state b.setting b.prover b.statement b.traces b.degree_bits w z)
+        × SC.Pcs.proves (SC.pcs_of config.now)
+        (opening_state b.setting b.prover b.statement b.traces b.degree_bits w z)
         (asked_of b (record {
           main = main.now;
           quotient = quotient.now;
@@ -92,19 +113,26 @@ pub fn open_batch<SC: StarkGenericConfig, A: Air<Val<SC>>>(
           permutation = option_map (λ d. d.now) permutation.entry;
         }) w z) r.1) }
     ensures unchanged { KeepsState result challenger.new challenger.old }
-    ensures after { let b = batch_of (⟦<SC as Settings>⟧.setting config.now) (⟦<SC as ProverSettings>⟧.prover config.now) A.declaration A.trees instances.now common.now in
+    ensures after { let b = batch_of (⟦<SC as Settings>⟧.setting config.now)
+        (⟦<SC as ProverSettings>⟧.prover config.now) A.declaration A.trees instances.now
+        common.now in
         IfOk result (λ r. (w : Option SC.Val) (z : SC.Val) → IsGroundOf b w z
-        → challenger.new ≡ SC.Pcs.after_open (SC.pcs_of config.now) (opening_state b.setting b.prover b.statement b.traces b.degree_bits w z)
+        → challenger.new ≡ SC.Pcs.after_open (SC.pcs_of config.now)
+        (opening_state b.setting b.prover b.statement b.traces b.degree_bits w z)
         (asked_of b (record {
           main = main.now;
           quotient = quotient.now;
           preprocessed = option_map (λ d. d.now) preprocessed.entry;
           permutation = option_map (λ d. d.now) permutation.entry;
         }) w z) r.1) }
-    ensures taken { let b = batch_of (⟦<SC as Settings>⟧.setting config.now) (⟦<SC as ProverSettings>⟧.prover config.now) A.declaration A.trees instances.now common.now in
+    ensures taken { let b = batch_of (⟦<SC as Settings>⟧.setting config.now)
+        (⟦<SC as ProverSettings>⟧.prover config.now) A.declaration A.trees instances.now
+        common.now in
         let k = ⟦<SC as ProverSettings>⟧.prover_backend config.now in
-        IfOk result (λ r. (w : Option SC.Val) (z : SC.Val) → IsGroundOf b w z → AvoidsExcluded k b w z
-        → SC.Pcs.opens (SC.pcs_of config.now) (opening_state b.setting b.prover b.statement b.traces b.degree_bits w z)
+        IfOk result (λ r. (w : Option SC.Val) (z : SC.Val) → IsGroundOf b w z
+        → AvoidsExcluded k b w z
+        → SC.Pcs.opens (SC.pcs_of config.now)
+        (opening_state b.setting b.prover b.statement b.traces b.degree_bits w z)
         (honest_claims b.setting b.prover b.statement b.traces b.degree_bits w z r.1) r.1) }
 {
     let bits = degree_bits(alloc, instances, config.is_zk())?;

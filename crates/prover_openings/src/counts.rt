@@ -33,7 +33,10 @@ fn log_count<F: Field, A: Air<F>>(
 ) -> Mem<usize>
     requires lookups { AreLookupsOf (A.declaration air.now) (read_all lookups.now) }
     requires rows { 0 < rows }
-    ensures { IfOk result (λ k. k ≡ chunks_of_table F.ring 0 rows (record { declaration = A.declaration air.now; trees = A.trees air.now }) (read_all lookups.now)) }
+    ensures { IfOk result (λ k.
+        k ≡ chunks_of_table F.ring 0 rows
+        (record { declaration = A.declaration air.now; trees = A.trees air.now })
+        (read_all lookups.now)) }
 {
     let layout = AirLayout::from_air::<F, A>(air);
     let gadget = LogUpGadget::new();
@@ -49,8 +52,12 @@ fn count_at<F: Field, A: Air<F>>(
 ) -> Mem<usize>
     requires instances { index < length instances.now }
     requires lookups { index < length lookups.now }
-    requires countable { IsCountable F.ring (tables_of A.declaration A.trees (airs_of instances.now)) (map (λ i. i.trace) instances.now) (map read_all lookups.now) index }
-    ensures { IfOk result (λ n. n ≡ 2 ^ log_count_at F.ring (tables_of A.declaration A.trees (airs_of instances.now)) (map (λ i. i.trace) instances.now) (map read_all lookups.now) index) }
+    requires countable { IsCountable F.ring
+        (tables_of A.declaration A.trees (airs_of instances.now)) (map (λ i. i.trace) instances.now)
+        (map read_all lookups.now) index }
+    ensures { IfOk result (λ n.
+        n ≡ 2 ^ log_count_at F.ring (tables_of A.declaration A.trees (airs_of instances.now))
+        (map (λ i. i.trace) instances.now) (map read_all lookups.now) index) }
 {
     let instance = &instances[index];
     let rows = instance.trace.height();
@@ -66,9 +73,12 @@ pub(crate) fn all_counts<F: Field, A: Air<F>>(
 ) -> Mem<Vec<usize>>
     requires lookups { length lookups.now ≡ length instances.now }
     requires countable { (i : ℕ) → i < length instances.now
-        → IsCountable F.ring (tables_of A.declaration A.trees (airs_of instances.now)) (map (λ i. i.trace) instances.now) (map read_all lookups.now) i }
+        → IsCountable F.ring (tables_of A.declaration A.trees (airs_of instances.now))
+        (map (λ i. i.trace) instances.now) (map read_all lookups.now) i }
     ensures { IfOk result (λ v. v.items
-        ≡ tabulate (length instances.now) (λ i. 2 ^ log_count_at F.ring (tables_of A.declaration A.trees (airs_of instances.now)) (map (λ i. i.trace) instances.now) (map read_all lookups.now) i)) }
+        ≡ tabulate (length instances.now)
+        (λ i. 2 ^ log_count_at F.ring (tables_of A.declaration A.trees (airs_of instances.now))
+        (map (λ i. i.trace) instances.now) (map read_all lookups.now) i)) }
 {
     let mut counts = Vec::with_capacity(alloc, instances.len())?;
     for index in 0..instances.len() {

@@ -38,13 +38,22 @@ fn opened_requests<SC: StarkGenericConfig>(
 ) -> Result<(OpenedValues<Challenge<SC>>, PcsProof<SC>), ProvingError<PcsProverError<SC>>>
     requires plain { SC.Pcs.ZK ≡ false }
     requires made { All (λ r. SC.Pcs.made (SC.pcs_of config.now) r.prover_data) requests.items }
-    ensures verdict { IsOpenedBy (SC.Pcs.open_fault (SC.pcs_of config.now) requests.entry.items) result }
+    ensures verdict { IsOpenedBy (SC.Pcs.open_fault (SC.pcs_of config.now) requests.entry.items)
+        result }
     ensures unchanged { KeepsState result challenger.new challenger.old }
-    ensures after { IfOk result (λ w. challenger.new ≡ SC.Pcs.after_open (SC.pcs_of config.now) challenger.old requests.entry.items w.1) }
-    ensures proof { IfOk result (λ w. SC.Pcs.proves (SC.pcs_of config.now) challenger.old requests.entry.items w.1) }
-    ensures opening { IfOk result (λ w. (held : List (OpenedCommitment SC.Pcs.Commitment SC.Val)) → AreOpenedCommitments (SC.Pcs.holds (SC.pcs_of config.now)) requests.entry.items held
-        → IsOpening SC.Challenge.ring SC.Challenge.embed ⟦<<SC::Pcs as Pcs<SC::Challenge, SC::Challenger>>::Domain as PolynomialSpace>⟧.points
-        (SC.Pcs.excludes (SC.pcs_of config.now)) (λ claims. SC.Pcs.opens (SC.pcs_of config.now) challenger.old claims w.1) requests.entry.items (nested w.0) held) }
+    ensures after { IfOk result
+        (λ w. challenger.new ≡ SC.Pcs.after_open (SC.pcs_of config.now) challenger.old
+        requests.entry.items w.1) }
+    ensures proof { IfOk result
+        (λ w. SC.Pcs.proves (SC.pcs_of config.now) challenger.old requests.entry.items w.1) }
+    ensures opening { IfOk result
+        (λ w. (held : List (OpenedCommitment SC.Pcs.Commitment SC.Val))
+        → AreOpenedCommitments (SC.Pcs.holds (SC.pcs_of config.now)) requests.entry.items held
+        → IsOpening SC.Challenge.ring SC.Challenge.embed
+        ⟦<<SC::Pcs as Pcs<SC::Challenge, SC::Challenger>>::Domain as PolynomialSpace>⟧.points
+        (SC.Pcs.excludes (SC.pcs_of config.now))
+        (λ claims. SC.Pcs.opens (SC.pcs_of config.now) challenger.old claims w.1)
+        requests.entry.items (nested w.0) held) }
 {
     match config
         .pcs()
@@ -88,15 +97,26 @@ pub(crate) fn open_counted<SC: StarkGenericConfig, A: Air<Val<SC>>>(
     ProvingError<PcsProverError<SC>>,
 >
     requires plain { SC.Pcs.ZK ≡ false }
-    requires traced { let b = batch_of (⟦<SC as Settings>⟧.setting config.now) (⟦<SC as ProverSettings>⟧.prover config.now) A.declaration A.trees instances.now common.now in
+    requires traced { let b = batch_of (⟦<SC as Settings>⟧.setting config.now)
+        (⟦<SC as ProverSettings>⟧.prover config.now) A.declaration A.trees instances.now
+        common.now in
         IsTracedAll b }
-    requires bits { let b = batch_of (⟦<SC as Settings>⟧.setting config.now) (⟦<SC as ProverSettings>⟧.prover config.now) A.declaration A.trees instances.now common.now in
+    requires bits { let b = batch_of (⟦<SC as Settings>⟧.setting config.now)
+        (⟦<SC as ProverSettings>⟧.prover config.now) A.declaration A.trees instances.now
+        common.now in
         degree_bits.now ≡ b.degree_bits }
-    requires chunks { let b = batch_of (⟦<SC as Settings>⟧.setting config.now) (⟦<SC as ProverSettings>⟧.prover config.now) A.declaration A.trees instances.now common.now in
+    requires chunks { let b = batch_of (⟦<SC as Settings>⟧.setting config.now)
+        (⟦<SC as ProverSettings>⟧.prover config.now) A.declaration A.trees instances.now
+        common.now in
         chunk_counts.now ≡ tabulate (table_count b) (λ i. 2 ^ log_parts_at b i) }
-    requires preprocessed { let b = batch_of (⟦<SC as Settings>⟧.setting config.now) (⟦<SC as ProverSettings>⟧.prover config.now) A.declaration A.trees instances.now common.now in
-        HasProverData (⟦<SC as ProverSettings>⟧.commits_to config.now) (preprocessed_all b) b.statement.common.preprocessed (option_map (λ d. d.now) preprocessed) }
-    requires ready { let b = batch_of (⟦<SC as Settings>⟧.setting config.now) (⟦<SC as ProverSettings>⟧.prover config.now) A.declaration A.trees instances.now common.now in
+    requires preprocessed { let b = batch_of (⟦<SC as Settings>⟧.setting config.now)
+        (⟦<SC as ProverSettings>⟧.prover config.now) A.declaration A.trees instances.now
+        common.now in
+        HasProverData (⟦<SC as ProverSettings>⟧.commits_to config.now) (preprocessed_all b)
+        b.statement.common.preprocessed (option_map (λ d. d.now) preprocessed) }
+    requires ready { let b = batch_of (⟦<SC as Settings>⟧.setting config.now)
+        (⟦<SC as ProverSettings>⟧.prover config.now) A.declaration A.trees instances.now
+        common.now in
         let k = ⟦<SC as ProverSettings>⟧.prover_backend config.now in
         IsReady k b (record {
           main = main.now;
@@ -104,16 +124,29 @@ pub(crate) fn open_counted<SC: StarkGenericConfig, A: Air<Val<SC>>>(
           preprocessed = option_map (λ d. d.now) preprocessed;
           permutation = option_map (λ d. d.now) permutation;
         }) (⟦<SC as ProverSettings>⟧.commits_to config.now) zeta challenger.old }
-    ensures verdict { let b = batch_of (⟦<SC as Settings>⟧.setting config.now) (⟦<SC as ProverSettings>⟧.prover config.now) A.declaration A.trees instances.now common.now in
+    ensures verdict { let b = batch_of (⟦<SC as Settings>⟧.setting config.now)
+        (⟦<SC as ProverSettings>⟧.prover config.now) A.declaration A.trees instances.now
+        common.now in
         let k = ⟦<SC as ProverSettings>⟧.prover_backend config.now in
         IsProverVerdict (opening_request_checks k b
-        (record { main = main.now; quotient = quotient.now; preprocessed = option_map (λ d. d.now) preprocessed.entry; permutation = option_map (λ d. d.now) permutation.entry })) result }
-    ensures opened { let b = batch_of (⟦<SC as Settings>⟧.setting config.now) (⟦<SC as ProverSettings>⟧.prover config.now) A.declaration A.trees instances.now common.now in
+        (record {
+          main = main.now;
+          quotient = quotient.now;
+          preprocessed = option_map (λ d. d.now) preprocessed.entry;
+          permutation = option_map (λ d. d.now) permutation.entry;
+        })) result }
+    ensures opened { let b = batch_of (⟦<SC as Settings>⟧.setting config.now)
+        (⟦<SC as ProverSettings>⟧.prover config.now) A.declaration A.trees instances.now
+        common.now in
         IfOk result (λ r. (w : Option SC.Val) (z : SC.Val) → IsGroundOf b w z
         → r.0.items ≡ tabulate (table_count b)
-        (λ i. opened_of b.setting b.prover (table_at b i) (challenges_at b.setting b.prover b.statement b.traces b.degree_bits w i)
-        (alpha b.setting b.prover b.statement b.traces b.degree_bits w) (honest_zeta b.setting b.prover b.statement b.traces b.degree_bits w z))) }
-    ensures proves { let b = batch_of (⟦<SC as Settings>⟧.setting config.now) (⟦<SC as ProverSettings>⟧.prover config.now) A.declaration A.trees instances.now common.now in
+        (λ i. opened_of b.setting b.prover (table_at b i)
+        (challenges_at b.setting b.prover b.statement b.traces b.degree_bits w i)
+        (alpha b.setting b.prover b.statement b.traces b.degree_bits w)
+        (honest_zeta b.setting b.prover b.statement b.traces b.degree_bits w z))) }
+    ensures proves { let b = batch_of (⟦<SC as Settings>⟧.setting config.now)
+        (⟦<SC as ProverSettings>⟧.prover config.now) A.declaration A.trees instances.now
+        common.now in
         let k = ⟦<SC as ProverSettings>⟧.prover_backend config.now in
         IfOk result (λ r. (w : Option SC.Val) (z : SC.Val) → IsGroundOf b w z
         → AreAsked k b w z (asked_of b (record {
@@ -122,7 +155,8 @@ pub(crate) fn open_counted<SC: StarkGenericConfig, A: Air<Val<SC>>>(
           preprocessed = option_map (λ d. d.now) preprocessed.entry;
           permutation = option_map (λ d. d.now) permutation.entry;
         }) w z)
-        × SC.Pcs.proves (SC.pcs_of config.now) (opening_state b.setting b.prover b.statement b.traces b.degree_bits w z)
+        × SC.Pcs.proves (SC.pcs_of config.now)
+        (opening_state b.setting b.prover b.statement b.traces b.degree_bits w z)
         (asked_of b (record {
           main = main.now;
           quotient = quotient.now;
@@ -130,19 +164,26 @@ pub(crate) fn open_counted<SC: StarkGenericConfig, A: Air<Val<SC>>>(
           permutation = option_map (λ d. d.now) permutation.entry;
         }) w z) r.1) }
     ensures unchanged { KeepsState result challenger.new challenger.old }
-    ensures after { let b = batch_of (⟦<SC as Settings>⟧.setting config.now) (⟦<SC as ProverSettings>⟧.prover config.now) A.declaration A.trees instances.now common.now in
+    ensures after { let b = batch_of (⟦<SC as Settings>⟧.setting config.now)
+        (⟦<SC as ProverSettings>⟧.prover config.now) A.declaration A.trees instances.now
+        common.now in
         IfOk result (λ r. (w : Option SC.Val) (z : SC.Val) → IsGroundOf b w z
-        → challenger.new ≡ SC.Pcs.after_open (SC.pcs_of config.now) (opening_state b.setting b.prover b.statement b.traces b.degree_bits w z)
+        → challenger.new ≡ SC.Pcs.after_open (SC.pcs_of config.now)
+        (opening_state b.setting b.prover b.statement b.traces b.degree_bits w z)
         (asked_of b (record {
           main = main.now;
           quotient = quotient.now;
           preprocessed = option_map (λ d. d.now) preprocessed.entry;
           permutation = option_map (λ d. d.now) permutation.entry;
         }) w z) r.1) }
-    ensures taken { let b = batch_of (⟦<SC as Settings>⟧.setting config.now) (⟦<SC as ProverSettings>⟧.prover config.now) A.declaration A.trees instances.now common.now in
+    ensures taken { let b = batch_of (⟦<SC as Settings>⟧.setting config.now)
+        (⟦<SC as ProverSettings>⟧.prover config.now) A.declaration A.trees instances.now
+        common.now in
         let k = ⟦<SC as ProverSettings>⟧.prover_backend config.now in
-        IfOk result (λ r. (w : Option SC.Val) (z : SC.Val) → IsGroundOf b w z → AvoidsExcluded k b w z
-        → SC.Pcs.opens (SC.pcs_of config.now) (opening_state b.setting b.prover b.statement b.traces b.degree_bits w z)
+        IfOk result (λ r. (w : Option SC.Val) (z : SC.Val) → IsGroundOf b w z
+        → AvoidsExcluded k b w z
+        → SC.Pcs.opens (SC.pcs_of config.now)
+        (opening_state b.setting b.prover b.statement b.traces b.degree_bits w z)
         (honest_claims b.setting b.prover b.statement b.traces b.degree_bits w z r.1) r.1) }
 {
     let masks = config.is_zk();

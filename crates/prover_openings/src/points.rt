@@ -53,7 +53,8 @@ fn main_of_table<F: TwoAdicField, A: BaseAir<F>, E: ExtensionField<F>>(
     requires masked { masks ≤ bits_at degree_bits.now index }
     requires fits { bits_at degree_bits.now index ≤ F.TWO_ADICITY }
     ensures { IfOk result (λ v. v.items
-        ≡ points_with (declared_at (map (λ i. A.declaration i.air) instances.now) index).main_next zeta (next_by E.ring E.embed F.root masks zeta (bits_at degree_bits.now index))) }
+        ≡ points_with (declared_at (map (λ i. A.declaration i.air) instances.now) index).main_next
+        zeta (next_by E.ring E.embed F.root masks zeta (bits_at degree_bits.now index))) }
 {
     let after = point_of_next::<F, E>(degree_bits[index], masks, zeta);
     let instance = &instances[index];
@@ -75,7 +76,9 @@ fn preprocessed_of_table<F: TwoAdicField, A: BaseAir<F>, E: ExtensionField<F>>(
     requires masked { masks ≤ bits_at degree_bits.now index }
     requires fits { bits_at degree_bits.now index ≤ F.TWO_ADICITY }
     ensures { IfOk result (λ v. v.items
-        ≡ points_with (declared_at (map (λ i. A.declaration i.air) instances.now) index).preprocessed_next zeta (next_by E.ring E.embed F.root masks zeta (bits_at degree_bits.now index))) }
+        ≡ points_with (declared_at (map (λ i. A.declaration i.air) instances.now)
+        index).preprocessed_next zeta
+        (next_by E.ring E.embed F.root masks zeta (bits_at degree_bits.now index))) }
 {
     let after = point_of_next::<F, E>(degree_bits[index], masks, zeta);
     let instance = &instances[index];
@@ -96,7 +99,8 @@ pub(crate) fn all_main<F: TwoAdicField, A: BaseAir<F>, E: ExtensionField<F>>(
     requires fits { (i : ℕ) → i < length instances.now → bits_at degree_bits.now i ≤ F.TWO_ADICITY }
     ensures { IfOk result (λ v. map (λ x. x.items) v.items
         ≡ tabulate (length instances.now)
-        (λ i. points_with (declared_at (map (λ i. A.declaration i.air) instances.now) i).main_next zeta (next_by E.ring E.embed F.root masks zeta (bits_at degree_bits.now i)))) }
+        (λ i. points_with (declared_at (map (λ i. A.declaration i.air) instances.now) i).main_next
+        zeta (next_by E.ring E.embed F.root masks zeta (bits_at degree_bits.now i)))) }
 {
     let mut points = Vec::with_capacity(alloc, instances.len())?;
     for index in 0..instances.len() {
@@ -120,7 +124,8 @@ pub(crate) fn all_preprocessed<F: TwoAdicField, A: BaseAir<F>, E: ExtensionField
     requires fits { (i : ℕ) → i < length instances.now → bits_at degree_bits.now i ≤ F.TWO_ADICITY }
     ensures { IfOk result (λ v. map (λ x. x.items) v.items
         ≡ tabulate (length matrices.now) (λ m. let i = get_or matrices.now m 0 in
-        points_with (declared_at (map (λ i. A.declaration i.air) instances.now) i).preprocessed_next zeta (next_by E.ring E.embed F.root masks zeta (bits_at degree_bits.now i)))) }
+        points_with (declared_at (map (λ i. A.declaration i.air) instances.now) i).preprocessed_next
+        zeta (next_by E.ring E.embed F.root masks zeta (bits_at degree_bits.now i)))) }
 {
     let mut points = Vec::with_capacity(alloc, matrices.len())?;
     for m in 0..matrices.len() {
@@ -137,7 +142,9 @@ fn with_chunks<E: RingCore>(
     count: usize,
     zeta: E,
 ) -> Mem<Vec<Vec<E>>>
-    ensures { IfOk result (λ v. map (λ x. x.items) v.items ≡ map (λ x. x.items) points.items ++ tabulate count (λ j. zeta ∷ [])) }
+    ensures { IfOk result (λ v.
+        map (λ x. x.items) v.items ≡ map (λ x. x.items) points.items
+        ++ tabulate count (λ j. zeta ∷ [])) }
 {
     let mut points = points;
     for _j in 0..count {
@@ -152,7 +159,10 @@ pub(crate) fn all_chunks<E: RingCore>(
     zeta: E,
     chunk_counts: &[usize],
 ) -> Mem<Vec<Vec<E>>>
-    ensures { IfOk result (λ v. map (λ x. x.items) v.items ≡ flat_map (λ i. tabulate (get_or chunk_counts.now i 0) (λ j. zeta ∷ [])) (tabulate (length chunk_counts.now) (λ i. i))) }
+    ensures { IfOk result (λ v.
+        map (λ x. x.items) v.items
+        ≡ flat_map (λ i. tabulate (get_or chunk_counts.now i 0) (λ j. zeta ∷ []))
+        (tabulate (length chunk_counts.now) (λ i. i))) }
 {
     let mut points = Vec::new(alloc);
     for index in 0..chunk_counts.len() {
@@ -169,7 +179,9 @@ fn with_permutation<F, E: RingCore>(
     zeta: E,
     after: E,
 ) -> Mem<Vec<Vec<E>>>
-    ensures { IfOk result (λ v. map (λ x. x.items) v.items ≡ map (λ x. x.items) points.items ++ option_to_list (where_some (read_all lookups.now) (zeta ∷ after ∷ []))) }
+    ensures { IfOk result (λ v.
+        map (λ x. x.items) v.items ≡ map (λ x. x.items) points.items
+        ++ option_to_list (where_some (read_all lookups.now) (zeta ∷ after ∷ []))) }
 {
     if lookups.as_slice().is_empty() {
         return Ok(points);
@@ -195,7 +207,9 @@ pub(crate) fn all_permutations<F: TwoAdicField, E: ExtensionField<F>>(
     requires fits { (i : ℕ) → i < length lookups.now → bits_at degree_bits.now i ≤ F.TWO_ADICITY }
     ensures { IfOk result (λ v. map (λ x. x.items) v.items
         ≡ flat_map (λ i. option_to_list
-        (where_some (get_or (map read_all lookups.now) i []) (zeta ∷ next_by E.ring E.embed F.root masks zeta (bits_at degree_bits.now i) ∷ []))) (tabulate (length lookups.now) (λ i. i))) }
+        (where_some (get_or (map read_all lookups.now) i [])
+        (zeta ∷ next_by E.ring E.embed F.root masks zeta (bits_at degree_bits.now i) ∷ [])))
+        (tabulate (length lookups.now) (λ i. i))) }
 {
     let mut points = Vec::new(alloc);
     for index in 0..lookups.len() {

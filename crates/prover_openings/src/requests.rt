@@ -41,7 +41,9 @@ fn with_request<'a, D, E: Drop>(
     prover_data: Option<&'a D>,
     points: Vec<Vec<E>>,
 ) -> Mem<Vec<OpeningRequest<'a, D, E>>>
-    ensures { IfOk result (λ v. v.items ≡ requests.entry.items ++ request_where (option_copied prover_data.entry) (map (λ x. x.items) points.items)) }
+    ensures { IfOk result (λ v.
+        v.items ≡ requests.entry.items
+        ++ request_where (option_copied prover_data.entry) (map (λ x. x.items) points.items)) }
 {
     match prover_data {
         None => Ok(requests),
@@ -78,8 +80,14 @@ pub(crate) fn all_requests<'a, F: TwoAdicField, A: BaseAir<F>, E: ExtensionField
     requires masked { (i : ℕ) → i < length instances.now → masks ≤ bits_at degree_bits.now i }
     requires fits { (i : ℕ) → i < length instances.now → bits_at degree_bits.now i ≤ F.TWO_ADICITY }
     ensures { IfOk result (λ v. v.items
-        ≡ asked (plan_of A.declaration instances.now common.now degree_bits.now chunk_counts.now) zeta (next_by E.ring E.embed F.root masks zeta)
-        (record { main = main.now; quotient = quotient.now; preprocessed = option_copied preprocessed.entry; permutation = option_copied permutation.entry })) }
+        ≡ asked (plan_of A.declaration instances.now common.now degree_bits.now chunk_counts.now)
+        zeta (next_by E.ring E.embed F.root masks zeta)
+        (record {
+          main = main.now;
+          quotient = quotient.now;
+          preprocessed = option_copied preprocessed.entry;
+          permutation = option_copied permutation.entry;
+        })) }
 {
     let mains = all_main(alloc, zeta, masks, instances, degree_bits)?;
     let chunks = all_chunks(alloc, zeta, chunk_counts)?;

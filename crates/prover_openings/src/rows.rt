@@ -39,7 +39,8 @@ pub(crate) fn next_rows<E: Drop>(
 
 // The row at zeta of the matrix that comes next.
 fn next_row<E: Drop>(alloc: Global, matrices: &mut IntoIter<OpenedValuesForMatrix<E>>) -> Vec<E>
-    ensures row { result.items ≡ first_list (first_list (matrices_in (into_iter_items matrices.old))) }
+    ensures row { result.items
+        ≡ first_list (first_list (matrices_in (into_iter_items matrices.old))) }
     ensures rest { into_iter_items matrices.new ≡ drop 1 (into_iter_items matrices.old) }
 {
     let matrix = next_list(alloc, matrices);
@@ -53,8 +54,12 @@ pub(crate) fn next_chunks<E: Drop>(
     matrices: &mut IntoIter<OpenedValuesForMatrix<E>>,
     count: usize,
 ) -> Mem<Vec<Vec<E>>>
-    ensures rows { IfOk result (λ v. map (λ x. x.items) v.items ≡ tabulate count (λ j. first_list (get_or (matrices_in (into_iter_items matrices.old)) j []))) }
-    ensures rest { IfOk result (λ _. into_iter_items matrices.new ≡ drop count (into_iter_items matrices.old)) }
+    ensures rows { IfOk result
+        (λ v. map (λ x. x.items) v.items
+        ≡ tabulate count (λ j. first_list
+        (get_or (matrices_in (into_iter_items matrices.old)) j []))) }
+    ensures rest { IfOk result
+        (λ _. into_iter_items matrices.new ≡ drop count (into_iter_items matrices.old)) }
 {
     let mut rows = Vec::with_capacity(alloc, count)?;
     for _j in 0..count {

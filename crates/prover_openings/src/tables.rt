@@ -33,8 +33,10 @@ fn next_round<E: Drop>(
     there: bool,
     rounds: &mut IntoIter<OpenedValuesForRound<E>>,
 ) -> IntoIter<OpenedValuesForMatrix<E>>
-    ensures matrices { matrices_in (into_iter_items result) ≡ cond there (first_list (rounds_in (into_iter_items rounds.old))) [] }
-    ensures rest { into_iter_items rounds.new ≡ drop (one_where there) (into_iter_items rounds.old) }
+    ensures matrices { matrices_in (into_iter_items result)
+        ≡ cond there (first_list (rounds_in (into_iter_items rounds.old))) [] }
+    ensures rest { into_iter_items rounds.new
+        ≡ drop (one_where there) (into_iter_items rounds.old) }
 {
     if there {
         let round = next_list(alloc, rounds);
@@ -50,10 +52,14 @@ fn rounds_left<E: Drop>(
     values: OpenedValues<E>,
     has_preprocessed: bool,
 ) -> RoundsLeft<E>
-    ensures main { matrices_in (into_iter_items result.main) ≡ (round_values has_preprocessed (nested values)).main }
-    ensures quotient { matrices_in (into_iter_items result.quotient) ≡ (round_values has_preprocessed (nested values)).quotient }
-    ensures preprocessed { matrices_in (into_iter_items result.preprocessed) ≡ (round_values has_preprocessed (nested values)).preprocessed }
-    ensures permutation { matrices_in (into_iter_items result.permutation) ≡ (round_values has_preprocessed (nested values)).permutation }
+    ensures main { matrices_in (into_iter_items result.main)
+        ≡ (round_values has_preprocessed (nested values)).main }
+    ensures quotient { matrices_in (into_iter_items result.quotient)
+        ≡ (round_values has_preprocessed (nested values)).quotient }
+    ensures preprocessed { matrices_in (into_iter_items result.preprocessed)
+        ≡ (round_values has_preprocessed (nested values)).preprocessed }
+    ensures permutation { matrices_in (into_iter_items result.permutation)
+        ≡ (round_values has_preprocessed (nested values)).permutation }
 {
     let mut rounds = values.into_iter();
     let main = next_round(alloc, true, &mut rounds);
@@ -74,8 +80,10 @@ fn preprocessed_rows<E: Drop>(
     has_entry: bool,
     matrices: &mut IntoIter<OpenedValuesForMatrix<E>>,
 ) -> Option<PreprocessedOpenedValues<E>>
-    ensures rows { result ≡ cond has_entry (Some (rows_in (first_list (matrices_in (into_iter_items matrices.old))))) None }
-    ensures rest { into_iter_items matrices.new ≡ drop (one_where has_entry) (into_iter_items matrices.old) }
+    ensures rows { result ≡ cond has_entry
+        (Some (rows_in (first_list (matrices_in (into_iter_items matrices.old))))) None }
+    ensures rest { into_iter_items matrices.new
+        ≡ drop (one_where has_entry) (into_iter_items matrices.old) }
 {
     if has_entry {
         Some(next_rows(alloc, matrices))
@@ -90,9 +98,14 @@ fn permutation_rows<E: Drop>(
     has_lookups: bool,
     matrices: &mut IntoIter<OpenedValuesForMatrix<E>>,
 ) -> (Vec<E>, Vec<E>)
-    ensures local { result.0.items ≡ cond has_lookups (first_list (first_list (matrices_in (into_iter_items matrices.old)))) [] }
-    ensures next { result.1.items ≡ cond has_lookups (values_of_row (second_of (first_list (matrices_in (into_iter_items matrices.old))))) [] }
-    ensures rest { into_iter_items matrices.new ≡ drop (one_where has_lookups) (into_iter_items matrices.old) }
+    ensures local { result.0.items
+        ≡ cond has_lookups (first_list (first_list (matrices_in (into_iter_items matrices.old))))
+        [] }
+    ensures next { result.1.items
+        ≡ cond has_lookups (values_of_row
+        (second_of (first_list (matrices_in (into_iter_items matrices.old))))) [] }
+    ensures rest { into_iter_items matrices.new
+        ≡ drop (one_where has_lookups) (into_iter_items matrices.old) }
 {
     if !has_lookups {
         return (Vec::new(alloc), Vec::new(alloc));
@@ -113,12 +126,22 @@ fn next_table<E: Drop>(
     has_lookups: bool,
 ) -> Mem<OpenedValuesWithLookups<E>>
     ensures table { IfOk result (λ t. t
-        ≡ taken_table chunk_count has_entry has_lookups (first_list (matrices_in (into_iter_items left.old.main))) (λ j. get_or (matrices_in (into_iter_items left.old.quotient)) j [])
-        (first_list (matrices_in (into_iter_items left.old.preprocessed))) (first_list (matrices_in (into_iter_items left.old.permutation)))) }
-    ensures main { IfOk result (λ _. into_iter_items left.new.main ≡ drop 1 (into_iter_items left.old.main)) }
-    ensures quotient { IfOk result (λ _. into_iter_items left.new.quotient ≡ drop chunk_count (into_iter_items left.old.quotient)) }
-    ensures preprocessed { IfOk result (λ _. into_iter_items left.new.preprocessed ≡ drop (one_where has_entry) (into_iter_items left.old.preprocessed)) }
-    ensures permutation { IfOk result (λ _. into_iter_items left.new.permutation ≡ drop (one_where has_lookups) (into_iter_items left.old.permutation)) }
+        ≡ taken_table chunk_count has_entry has_lookups
+        (first_list (matrices_in (into_iter_items left.old.main)))
+        (λ j. get_or (matrices_in (into_iter_items left.old.quotient)) j [])
+        (first_list (matrices_in (into_iter_items left.old.preprocessed)))
+        (first_list (matrices_in (into_iter_items left.old.permutation)))) }
+    ensures main { IfOk result
+        (λ _. into_iter_items left.new.main ≡ drop 1 (into_iter_items left.old.main)) }
+    ensures quotient { IfOk result
+        (λ _. into_iter_items left.new.quotient
+        ≡ drop chunk_count (into_iter_items left.old.quotient)) }
+    ensures preprocessed { IfOk result
+        (λ _. into_iter_items left.new.preprocessed
+        ≡ drop (one_where has_entry) (into_iter_items left.old.preprocessed)) }
+    ensures permutation { IfOk result
+        (λ _. into_iter_items left.new.permutation
+        ≡ drop (one_where has_lookups) (into_iter_items left.old.permutation)) }
 {
     let main = next_rows(alloc, &mut left.main);
     let quotient_chunks = next_chunks(alloc, &mut left.quotient, chunk_count)?;
@@ -195,7 +218,9 @@ pub(crate) fn opened_tables<F, Com, E: Drop>(
     chunk_counts: &[usize],
 ) -> Mem<Vec<OpenedValuesWithLookups<E>>>
     ensures { IfOk result (λ v. v.items
-        ≡ tabulate (length chunk_counts.now) (taken_at common.now.preprocessed (map read_all common.now.lookups) chunk_counts.now (round_values has_preprocessed (nested values)))) }
+        ≡ tabulate (length chunk_counts.now)
+        (taken_at common.now.preprocessed (map read_all common.now.lookups) chunk_counts.now
+        (round_values has_preprocessed (nested values)))) }
 {
     let rounds = rounds_left(alloc, values, has_preprocessed);
     all_tables(alloc, rounds, common, chunk_counts)

@@ -48,14 +48,22 @@ fn chunks_at<SC: StarkGenericConfig, A: Air<Val<SC>>>(
     place: Option<usize>,
 ) -> Mem<Vec<(Domain<SC>, RowMajorMatrix<Val<SC>>)>>
     requires plain { SC.Pcs.ZK ≡ false }
-    requires traced { let b = batch_of (⟦<SC as Settings>⟧.setting config.now) (⟦<SC as ProverSettings>⟧.prover config.now) A.declaration A.trees instances.now common.now in
+    requires traced { let b = batch_of (⟦<SC as Settings>⟧.setting config.now)
+        (⟦<SC as ProverSettings>⟧.prover config.now) A.declaration A.trees instances.now
+        common.now in
         IsTracedAll b }
-    requires given { let b = batch_of (⟦<SC as Settings>⟧.setting config.now) (⟦<SC as ProverSettings>⟧.prover config.now) A.declaration A.trees instances.now common.now in
-        AreGiven b (map (λ v. v.items) challenges.now) (⟦<SC as ProverSettings>⟧.prover_backend config.now) (option_map (λ d. d.now) preprocessed) main.now
+    requires given { let b = batch_of (⟦<SC as Settings>⟧.setting config.now)
+        (⟦<SC as ProverSettings>⟧.prover config.now) A.declaration A.trees instances.now
+        common.now in
+        AreGiven b (map (λ v. v.items) challenges.now)
+        (⟦<SC as ProverSettings>⟧.prover_backend config.now) (option_map (λ d. d.now) preprocessed)
+        main.now
         (option_map (λ d. d.now) permutation) (map (option_map (λ t. t.0)) terminals.now) }
     requires index { index < length instances.now }
     requires place { place ≡ permutation_matrix_place (map read_all common.now.lookups) index }
-    ensures { let b = batch_of (⟦<SC as Settings>⟧.setting config.now) (⟦<SC as ProverSettings>⟧.prover config.now) A.declaration A.trees instances.now common.now in
+    ensures { let b = batch_of (⟦<SC as Settings>⟧.setting config.now)
+        (⟦<SC as ProverSettings>⟧.prover config.now) A.declaration A.trees instances.now
+        common.now in
         IfOk result (λ v. v.items ≡ chunks_by b (map (λ v. v.items) challenges.now) alpha index) }
 {
     let places = Places {
@@ -86,8 +94,10 @@ fn extended<SC: StarkGenericConfig>(
     chunks: Vec<(Domain<SC>, RowMajorMatrix<Val<SC>>)>,
     count: usize,
 ) -> Result<Vec<RowMajorMatrix<Val<SC>>>, ProvingError<PcsProverError<SC>>>
-    ensures verdict { IsProverVerdict (extending (⟦<SC as ProverSettings>⟧.prover_backend config.now) chunks.items count) result }
-    ensures extensions { IfOk result (λ v. AreExtensions (SC.Pcs.extends (SC.pcs_of config.now)) chunks.items v.items) }
+    ensures verdict { IsProverVerdict
+        (extending (⟦<SC as ProverSettings>⟧.prover_backend config.now) chunks.items count) result }
+    ensures extensions { IfOk result
+        (λ v. AreExtensions (SC.Pcs.extends (SC.pcs_of config.now)) chunks.items v.items) }
 {
     match config.pcs().get_quotient_ldes(alloc, chunks, count) {
         Ok(ldes) => Ok(ldes),
@@ -115,17 +125,29 @@ fn extensions_at<SC: StarkGenericConfig, A: Air<Val<SC>>>(
     place: Option<usize>,
 ) -> Result<Vec<RowMajorMatrix<Val<SC>>>, ProvingError<PcsProverError<SC>>>
     requires plain { SC.Pcs.ZK ≡ false }
-    requires traced { let b = batch_of (⟦<SC as Settings>⟧.setting config.now) (⟦<SC as ProverSettings>⟧.prover config.now) A.declaration A.trees instances.now common.now in
+    requires traced { let b = batch_of (⟦<SC as Settings>⟧.setting config.now)
+        (⟦<SC as ProverSettings>⟧.prover config.now) A.declaration A.trees instances.now
+        common.now in
         IsTracedAll b }
-    requires given { let b = batch_of (⟦<SC as Settings>⟧.setting config.now) (⟦<SC as ProverSettings>⟧.prover config.now) A.declaration A.trees instances.now common.now in
-        AreGiven b (map (λ v. v.items) challenges.now) (⟦<SC as ProverSettings>⟧.prover_backend config.now) (option_map (λ d. d.now) preprocessed) main.now
+    requires given { let b = batch_of (⟦<SC as Settings>⟧.setting config.now)
+        (⟦<SC as ProverSettings>⟧.prover config.now) A.declaration A.trees instances.now
+        common.now in
+        AreGiven b (map (λ v. v.items) challenges.now)
+        (⟦<SC as ProverSettings>⟧.prover_backend config.now) (option_map (λ d. d.now) preprocessed)
+        main.now
         (option_map (λ d. d.now) permutation) (map (option_map (λ t. t.0)) terminals.now) }
     requires index { index < length instances.now }
     requires place { place ≡ permutation_matrix_place (map read_all common.now.lookups) index }
-    ensures verdict { let b = batch_of (⟦<SC as Settings>⟧.setting config.now) (⟦<SC as ProverSettings>⟧.prover config.now) A.declaration A.trees instances.now common.now in
-        IsProverVerdict (extending_at (⟦<SC as ProverSettings>⟧.prover_backend config.now) b (map (λ v. v.items) challenges.now) alpha index) result }
-    ensures extensions { let b = batch_of (⟦<SC as Settings>⟧.setting config.now) (⟦<SC as ProverSettings>⟧.prover config.now) A.declaration A.trees instances.now common.now in
-        IfOk result (λ v. AreExtensions (SC.Pcs.extends (SC.pcs_of config.now)) (chunks_by b (map (λ v. v.items) challenges.now) alpha index) v.items) }
+    ensures verdict { let b = batch_of (⟦<SC as Settings>⟧.setting config.now)
+        (⟦<SC as ProverSettings>⟧.prover config.now) A.declaration A.trees instances.now
+        common.now in
+        IsProverVerdict (extending_at (⟦<SC as ProverSettings>⟧.prover_backend config.now) b
+        (map (λ v. v.items) challenges.now) alpha index) result }
+    ensures extensions { let b = batch_of (⟦<SC as Settings>⟧.setting config.now)
+        (⟦<SC as ProverSettings>⟧.prover config.now) A.declaration A.trees instances.now
+        common.now in
+        IfOk result (λ v. AreExtensions (SC.Pcs.extends (SC.pcs_of config.now))
+        (chunks_by b (map (λ v. v.items) challenges.now) alpha index) v.items) }
 {
     let chunks = chunks_at(
         alloc,
@@ -159,15 +181,28 @@ fn all_extensions<SC: StarkGenericConfig, A: Air<Val<SC>>>(
     alpha: Challenge<SC>,
 ) -> Result<Vec<RowMajorMatrix<Val<SC>>>, ProvingError<PcsProverError<SC>>>
     requires plain { SC.Pcs.ZK ≡ false }
-    requires traced { let b = batch_of (⟦<SC as Settings>⟧.setting config.now) (⟦<SC as ProverSettings>⟧.prover config.now) A.declaration A.trees instances.now common.now in
+    requires traced { let b = batch_of (⟦<SC as Settings>⟧.setting config.now)
+        (⟦<SC as ProverSettings>⟧.prover config.now) A.declaration A.trees instances.now
+        common.now in
         IsTracedAll b }
-    requires given { let b = batch_of (⟦<SC as Settings>⟧.setting config.now) (⟦<SC as ProverSettings>⟧.prover config.now) A.declaration A.trees instances.now common.now in
-        AreGiven b (map (λ v. v.items) challenges.now) (⟦<SC as ProverSettings>⟧.prover_backend config.now) (option_map (λ d. d.now) preprocessed) main.now
+    requires given { let b = batch_of (⟦<SC as Settings>⟧.setting config.now)
+        (⟦<SC as ProverSettings>⟧.prover config.now) A.declaration A.trees instances.now
+        common.now in
+        AreGiven b (map (λ v. v.items) challenges.now)
+        (⟦<SC as ProverSettings>⟧.prover_backend config.now) (option_map (λ d. d.now) preprocessed)
+        main.now
         (option_map (λ d. d.now) permutation) (map (option_map (λ t. t.0)) terminals.now) }
-    ensures verdict { let b = batch_of (⟦<SC as Settings>⟧.setting config.now) (⟦<SC as ProverSettings>⟧.prover config.now) A.declaration A.trees instances.now common.now in
-        IsProverVerdict (in_turn (length instances.now) (extending_at (⟦<SC as ProverSettings>⟧.prover_backend config.now) b (map (λ v. v.items) challenges.now) alpha)) result }
-    ensures extensions { let b = batch_of (⟦<SC as Settings>⟧.setting config.now) (⟦<SC as ProverSettings>⟧.prover config.now) A.declaration A.trees instances.now common.now in
-        IfOk result (λ v. AreExtensions (SC.Pcs.extends (SC.pcs_of config.now)) (chunks_below b (map (λ v. v.items) challenges.now) alpha (length instances.now)) v.items) }
+    ensures verdict { let b = batch_of (⟦<SC as Settings>⟧.setting config.now)
+        (⟦<SC as ProverSettings>⟧.prover config.now) A.declaration A.trees instances.now
+        common.now in
+        IsProverVerdict (in_turn (length instances.now)
+        (extending_at (⟦<SC as ProverSettings>⟧.prover_backend config.now) b
+        (map (λ v. v.items) challenges.now) alpha)) result }
+    ensures extensions { let b = batch_of (⟦<SC as Settings>⟧.setting config.now)
+        (⟦<SC as ProverSettings>⟧.prover config.now) A.declaration A.trees instances.now
+        common.now in
+        IfOk result (λ v. AreExtensions (SC.Pcs.extends (SC.pcs_of config.now))
+        (chunks_below b (map (λ v. v.items) challenges.now) alpha (length instances.now)) v.items) }
 {
     let places = permutation_places(alloc, &common.lookups)?;
     let mut ldes = Vec::new(alloc);
@@ -198,10 +233,15 @@ fn committed<SC: StarkGenericConfig>(
     config: &SC,
     ldes: Vec<RowMajorMatrix<Val<SC>>>,
 ) -> Result<(Commitment<SC>, Committed<SC>), ProvingError<PcsProverError<SC>>>
-    ensures verdict { IsProverVerdict (committing (⟦<SC as ProverSettings>⟧.prover_backend config.now) ldes.items) result }
-    ensures committed { IfOk result (λ w. (chunks : List (CosetData SC.Val × Rows SC.Val)) → AreExtensions (SC.Pcs.extends (SC.pcs_of config.now)) chunks ldes.items
-        → IsCommitment SC.Val.ring ⟦<<SC::Pcs as Pcs<SC::Challenge, SC::Challenger>>::Domain as PolynomialSpace>⟧.points
-        ⟦<<SC::Pcs as Pcs<SC::Challenge, SC::Challenger>>::Domain as PolynomialSpace>⟧.point_at (SC.Pcs.commits (SC.pcs_of config.now))
+    ensures verdict { IsProverVerdict
+        (committing (⟦<SC as ProverSettings>⟧.prover_backend config.now) ldes.items) result }
+    ensures committed { IfOk result
+        (λ w. (chunks : List (CosetData SC.Val × Rows SC.Val))
+        → AreExtensions (SC.Pcs.extends (SC.pcs_of config.now)) chunks ldes.items
+        → IsCommitment SC.Val.ring
+        ⟦<<SC::Pcs as Pcs<SC::Challenge, SC::Challenger>>::Domain as PolynomialSpace>⟧.points
+        ⟦<<SC::Pcs as Pcs<SC::Challenge, SC::Challenger>>::Domain as PolynomialSpace>⟧.point_at
+        (SC.Pcs.commits (SC.pcs_of config.now))
         (SC.Pcs.made (SC.pcs_of config.now)) (SC.Pcs.holds (SC.pcs_of config.now)) chunks w) }
 {
     match config.pcs().commit_ldes(alloc, ldes) {
@@ -239,22 +279,39 @@ pub fn commit_quotients<SC: StarkGenericConfig, A: Air<Val<SC>>>(
     alpha: Challenge<SC>,
 ) -> Result<(Commitment<SC>, Committed<SC>), ProvingError<PcsProverError<SC>>>
     requires plain { SC.Pcs.ZK ≡ false }
-    requires traced { let b = batch_of (⟦<SC as Settings>⟧.setting config.now) (⟦<SC as ProverSettings>⟧.prover config.now) A.declaration A.trees instances.now common.now in
+    requires traced { let b = batch_of (⟦<SC as Settings>⟧.setting config.now)
+        (⟦<SC as ProverSettings>⟧.prover config.now) A.declaration A.trees instances.now
+        common.now in
         IsTracedAll b }
-    requires preprocessed { let b = batch_of (⟦<SC as Settings>⟧.setting config.now) (⟦<SC as ProverSettings>⟧.prover config.now) A.declaration A.trees instances.now common.now in
+    requires preprocessed { let b = batch_of (⟦<SC as Settings>⟧.setting config.now)
+        (⟦<SC as ProverSettings>⟧.prover config.now) A.declaration A.trees instances.now
+        common.now in
         HasProverData (⟦<SC as ProverSettings>⟧.commits_to config.now)
-        (preprocessed_all b) b.statement.common.preprocessed (option_map (λ d. d.now) preprocessed) }
-    requires main { let b = batch_of (⟦<SC as Settings>⟧.setting config.now) (⟦<SC as ProverSettings>⟧.prover config.now) A.declaration A.trees instances.now common.now in
-        (commitment : SC.Pcs.Commitment) × ⟦<SC as ProverSettings>⟧.commits_to config.now (main_matrices b) (commitment, main.now) }
-    requires drawn { let b = batch_of (⟦<SC as Settings>⟧.setting config.now) (⟦<SC as ProverSettings>⟧.prover config.now) A.declaration A.trees instances.now common.now in
-        (w : Option SC.Val) × IsPairGroundOf b w × (map (λ v. v.items) challenges.now ≡ all_challenges b w)
-        × (map (option_map (λ t. t.0)) terminals.now ≡ honest_terminals b.setting b.prover b.statement b.traces b.degree_bits w) × (alpha ≡ folding b w)
+        (preprocessed_all b) b.statement.common.preprocessed
+        (option_map (λ d. d.now) preprocessed) }
+    requires main { let b = batch_of (⟦<SC as Settings>⟧.setting config.now)
+        (⟦<SC as ProverSettings>⟧.prover config.now) A.declaration A.trees instances.now
+        common.now in
+        (commitment : SC.Pcs.Commitment)
+        × ⟦<SC as ProverSettings>⟧.commits_to config.now (main_matrices b) (commitment, main.now) }
+    requires drawn { let b = batch_of (⟦<SC as Settings>⟧.setting config.now)
+        (⟦<SC as ProverSettings>⟧.prover config.now) A.declaration A.trees instances.now
+        common.now in
+        (w : Option SC.Val) × IsPairGroundOf b w
+        × (map (λ v. v.items) challenges.now ≡ all_challenges b w)
+        × (map (option_map (λ t. t.0)) terminals.now
+        ≡ honest_terminals b.setting b.prover b.statement b.traces b.degree_bits w)
+        × (alpha ≡ folding b w)
         × HasProverDataOfSome (⟦<SC as ProverSettings>⟧.commits_to config.now)
         (all_permutations b w) (option_map (λ d. d.now) permutation) }
-    ensures verdict { let b = batch_of (⟦<SC as Settings>⟧.setting config.now) (⟦<SC as ProverSettings>⟧.prover config.now) A.declaration A.trees instances.now common.now in
+    ensures verdict { let b = batch_of (⟦<SC as Settings>⟧.setting config.now)
+        (⟦<SC as ProverSettings>⟧.prover config.now) A.declaration A.trees instances.now
+        common.now in
         let k = ⟦<SC as ProverSettings>⟧.prover_backend config.now in
         IsProverAnswer (in_turn (table_count b) (extension_part k b) ++ quotient_part k b) result }
-    ensures committed { let b = batch_of (⟦<SC as Settings>⟧.setting config.now) (⟦<SC as ProverSettings>⟧.prover config.now) A.declaration A.trees instances.now common.now in
+    ensures committed { let b = batch_of (⟦<SC as Settings>⟧.setting config.now)
+        (⟦<SC as ProverSettings>⟧.prover config.now) A.declaration A.trees instances.now
+        common.now in
         IfOk result (λ c. (w : Option SC.Val) → IsPairGroundOf b w
         → ⟦<SC as ProverSettings>⟧.commits_to config.now (all_chunks b w) c) }
 {

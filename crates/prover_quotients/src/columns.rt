@@ -36,8 +36,10 @@ fn values_on<SC: StarkGenericConfig>(
     index: usize,
     domain: Domain<SC>,
 ) -> Mem<RowMajorMatrix<Val<SC>>>
-    requires { (polynomials : List (List SC.Val)) × HoldsAt (⟦<SC as ProverSettings>⟧.prover_backend config.now) held.now index polynomials }
-    ensures { IfOk result (λ m. (polynomials : List (List SC.Val)) → HoldsAt (⟦<SC as ProverSettings>⟧.prover_backend config.now) held.now index polynomials
+    requires { (polynomials : List (List SC.Val))
+        × HoldsAt (⟦<SC as ProverSettings>⟧.prover_backend config.now) held.now index polynomials }
+    ensures { IfOk result (λ m. (polynomials : List (List SC.Val))
+        → HoldsAt (⟦<SC as ProverSettings>⟧.prover_backend config.now) held.now index polynomials
         → AreValuesOf (⟦<SC as Settings>⟧.setting config.now).field domain polynomials m) }
 {
     config
@@ -53,8 +55,12 @@ fn some_values_on<SC: StarkGenericConfig>(
     place: Option<usize>,
     domain: Domain<SC>,
 ) -> Mem<Option<RowMajorMatrix<Val<SC>>>>
-    requires { (polynomials : List (List SC.Val)) × HoldsSome (⟦<SC as ProverSettings>⟧.prover_backend config.now) place (option_map (λ d. d.now) held) polynomials }
-    ensures { IfOk result (λ o. (polynomials : List (List SC.Val)) → HoldsSome (⟦<SC as ProverSettings>⟧.prover_backend config.now) place (option_map (λ d. d.now) held.entry) polynomials
+    requires { (polynomials : List (List SC.Val))
+        × HoldsSome (⟦<SC as ProverSettings>⟧.prover_backend config.now) place
+        (option_map (λ d. d.now) held) polynomials }
+    ensures { IfOk result (λ o. (polynomials : List (List SC.Val))
+        → HoldsSome (⟦<SC as ProverSettings>⟧.prover_backend config.now) place
+        (option_map (λ d. d.now) held.entry) polynomials
         → AreSomeValues (⟦<SC as Settings>⟧.setting config.now).field domain polynomials o) }
 {
     match place {
@@ -80,9 +86,12 @@ pub(crate) fn columns_on<SC: StarkGenericConfig>(
     domain: Domain<SC>,
 ) -> Mem<TableColumns<Val<SC>>>
     requires { (t : CommittedTable SC.Val SC.Challenge)
-        × HoldsTable (⟦<SC as ProverSettings>⟧.prover_backend config.now) places (option_map (λ d. d.now) preprocessed) main.now (option_map (λ d. d.now) permutation) t }
+        × HoldsTable (⟦<SC as ProverSettings>⟧.prover_backend config.now) places
+        (option_map (λ d. d.now) preprocessed) main.now (option_map (λ d. d.now) permutation) t }
     ensures { IfOk result (λ v. (t : CommittedTable SC.Val SC.Challenge)
-        → HoldsTable (⟦<SC as ProverSettings>⟧.prover_backend config.now) places (option_map (λ d. d.now) preprocessed.entry) main.now (option_map (λ d. d.now) permutation.entry) t
+        → HoldsTable (⟦<SC as ProverSettings>⟧.prover_backend config.now) places
+        (option_map (λ d. d.now) preprocessed.entry) main.now
+        (option_map (λ d. d.now) permutation.entry) t
         → HaveTableValues (⟦<SC as Settings>⟧.setting config.now).field domain t v) }
 {
     let main = values_on(alloc, config, main, places.main, domain)?;

@@ -76,7 +76,9 @@ pub(crate) fn permutation_places<F>(
     alloc: Global,
     lookups: &[Lookups<F>],
 ) -> Mem<Vec<Option<usize>>>
-    ensures { IfOk result (λ v. v.items ≡ tabulate (length lookups.now) (permutation_matrix_place (map read_all lookups.now))) }
+    ensures { IfOk result (λ v.
+        v.items ≡ tabulate (length lookups.now)
+        (permutation_matrix_place (map read_all lookups.now))) }
 {
     let mut places = Vec::with_capacity(alloc, lookups.len())?;
     let mut next: usize = 0;

@@ -41,9 +41,11 @@ fn log_rows<SC: StarkGenericConfig, A: Air<Val<SC>>>(
     lookups: &Lookups<Val<SC>>,
 ) -> usize
     requires { let c = ⟦<SC as Settings>⟧.setting config.now in
-        IsTracedTable c (table_of_instance c A.declaration A.trees instance.now (read_all lookups.now)) }
+        IsTracedTable c (table_of_instance c A.declaration A.trees instance.now
+        (read_all lookups.now)) }
     ensures { let c = ⟦<SC as Settings>⟧.setting config.now in
-        result ≡ log_rows_of c (table_of_instance c A.declaration A.trees instance.now (read_all lookups.now)) }
+        result ≡ log_rows_of c (table_of_instance c A.declaration A.trees instance.now
+        (read_all lookups.now)) }
 {
     log2_strict_usize(instance.trace.height())
 }
@@ -57,9 +59,11 @@ fn log_parts<SC: StarkGenericConfig, A: Air<Val<SC>>>(
 ) -> Mem<usize>
     requires plain { SC.Pcs.ZK ≡ false }
     requires traced { let c = ⟦<SC as Settings>⟧.setting config.now in
-        IsTracedTable c (table_of_instance c A.declaration A.trees instance.now (read_all lookups.now)) }
+        IsTracedTable c (table_of_instance c A.declaration A.trees instance.now
+        (read_all lookups.now)) }
     ensures { let c = ⟦<SC as Settings>⟧.setting config.now in
-        IfOk result (λ k. k ≡ log_parts_of c (table_of_instance c A.declaration A.trees instance.now (read_all lookups.now))) }
+        IfOk result (λ k. k ≡ log_parts_of c
+        (table_of_instance c A.declaration A.trees instance.now (read_all lookups.now))) }
 {
     let layout = AirLayout::from_air::<Val<SC>, A>(instance.air);
     let gadget = LogUpGadget::new();
@@ -99,20 +103,30 @@ fn table_values<SC: StarkGenericConfig, A: Air<Val<SC>>>(
 ) -> Mem<Vec<Challenge<SC>>>
     requires plain { SC.Pcs.ZK ≡ false }
     requires traced { let c = ⟦<SC as Settings>⟧.setting config.now in
-        IsTracedTable c (table_of_instance c A.declaration A.trees instance.now (read_all lookups.now)) }
+        IsTracedTable c (table_of_instance c A.declaration A.trees instance.now
+        (read_all lookups.now)) }
     requires domain { let c = ⟦<SC as Settings>⟧.setting config.now in
         let t = table_of_instance c A.declaration A.trees instance.now (read_all lookups.now) in
-        domain ≡ record { shift = quotient_shift c; log_size = log_rows_of c t + log_parts_of c t } }
+        domain ≡ record {
+          shift = quotient_shift c;
+          log_size = log_rows_of c t + log_parts_of c t;
+        } }
     requires columns { let c = ⟦<SC as Settings>⟧.setting config.now in
         let t = table_of_instance c A.declaration A.trees instance.now (read_all lookups.now) in
-        HaveTableValues c.field domain (committed_table c (⟦<SC as ProverSettings>⟧.prover config.now) t challenges.now) columns.now }
+        HaveTableValues c.field domain
+        (committed_table c (⟦<SC as ProverSettings>⟧.prover config.now) t challenges.now)
+        columns.now }
     requires challenges { 2 * length lookups.now ≤ length challenges.now }
     requires terminal { let c = ⟦<SC as Settings>⟧.setting config.now in
         let t = table_of_instance c A.declaration A.trees instance.now (read_all lookups.now) in
-        option_map (λ t. t.0) terminal.now ≡ honest_terminal c (⟦<SC as ProverSettings>⟧.prover config.now) t challenges.now }
+        option_map (λ t. t.0) terminal.now
+        ≡ honest_terminal c (⟦<SC as ProverSettings>⟧.prover config.now) t challenges.now }
     ensures { let c = ⟦<SC as Settings>⟧.setting config.now in
         let t = table_of_instance c A.declaration A.trees instance.now (read_all lookups.now) in
-        IfOk result (λ v. v.items ≡ quotient_values_on c.field c.extension (committed_table c (⟦<SC as ProverSettings>⟧.prover config.now) t challenges.now) (constraints c t) alpha domain) }
+        IfOk result (λ v. v.items
+        ≡ quotient_values_on c.field c.extension
+        (committed_table c (⟦<SC as ProverSettings>⟧.prover config.now) t challenges.now)
+        (constraints c t) alpha domain) }
 {
     let layout = AirLayout::from_air::<Val<SC>, A>(instance.air);
     let gadget = LogUpGadget::new();
@@ -156,10 +170,20 @@ fn chunks_of_values<F: TwoAdicField, E: ExtensionField<F>>(
     requires fits { log_parts ≤ domain.log_size }
     requires short { domain.log_size ≤ F.TWO_ADICITY }
     requires count { length values.now ≡ 2 ^ domain.log_size }
-    ensures chunks { let f : TwoAdic F = record { ring = F.ring; inv = F.inv; root = F.root; generator = F.GENERATOR } in
-        let e : Extension F E = record { ring = E.ring; embed = E.embed; dimension = E.DIMENSION; basis = E.basis; coefficients = E.coefficients; from_coefficients = E.from_coefficients } in
-        IfOk result (λ v. (t : CommittedTable F E) (trees : List (Tree F)) (alpha : E) → domain.log_size ≡ t.log_height + log_parts
-        → values.now ≡ quotient_values_on f e t trees alpha domain → EachOf (2 ^ log_parts) v.items (IsChunk f e t domain.shift log_parts trees alpha)) }
+    ensures chunks { let f : TwoAdic
+        F = record { ring = F.ring; inv = F.inv; root = F.root; generator = F.GENERATOR } in
+        let e : Extension F E = record {
+          ring = E.ring;
+          embed = E.embed;
+          dimension = E.DIMENSION;
+          basis = E.basis;
+          coefficients = E.coefficients;
+          from_coefficients = E.from_coefficients;
+        } in
+        IfOk result (λ v. (t : CommittedTable F E) (trees : List (Tree F)) (alpha : E)
+        → domain.log_size ≡ t.log_height + log_parts
+        → values.now ≡ quotient_values_on f e t trees alpha domain
+        → EachOf (2 ^ log_parts) v.items (IsChunk f e t domain.shift log_parts trees alpha)) }
     ensures fills { IfOk result (λ v. All (λ e. FillsRows e.1.values e.1.width) v.items) }
 {
     let chunks = quotient_chunks(alloc, domain, values, power_of_two(log_parts))?;
@@ -183,18 +207,22 @@ pub(crate) fn table_chunks<SC: StarkGenericConfig, A: Air<Val<SC>>>(
 ) -> Mem<Vec<(Domain<SC>, RowMajorMatrix<Val<SC>>)>>
     requires plain { SC.Pcs.ZK ≡ false }
     requires traced { let c = ⟦<SC as Settings>⟧.setting config.now in
-        IsTracedTable c (table_of_instance c A.declaration A.trees instance.now (read_all lookups.now)) }
+        IsTracedTable c (table_of_instance c A.declaration A.trees instance.now
+        (read_all lookups.now)) }
     requires held { let c = ⟦<SC as Settings>⟧.setting config.now in
         let t = table_of_instance c A.declaration A.trees instance.now (read_all lookups.now) in
-        HoldsTable (⟦<SC as ProverSettings>⟧.prover_backend config.now) places (option_map (λ d. d.now) preprocessed) main.now (option_map (λ d. d.now) permutation)
+        HoldsTable (⟦<SC as ProverSettings>⟧.prover_backend config.now) places
+        (option_map (λ d. d.now) preprocessed) main.now (option_map (λ d. d.now) permutation)
         (committed_table c (⟦<SC as ProverSettings>⟧.prover config.now) t challenges.now) }
     requires challenges { 2 * length lookups.now ≤ length challenges.now }
     requires terminal { let c = ⟦<SC as Settings>⟧.setting config.now in
         let t = table_of_instance c A.declaration A.trees instance.now (read_all lookups.now) in
-        option_map (λ t. t.0) terminal.now ≡ honest_terminal c (⟦<SC as ProverSettings>⟧.prover config.now) t challenges.now }
+        option_map (λ t. t.0) terminal.now
+        ≡ honest_terminal c (⟦<SC as ProverSettings>⟧.prover config.now) t challenges.now }
     ensures { let c = ⟦<SC as Settings>⟧.setting config.now in
         let t = table_of_instance c A.declaration A.trees instance.now (read_all lookups.now) in
-        IfOk result (λ v. v.items ≡ chunk_matrices c (⟦<SC as ProverSettings>⟧.prover config.now) t challenges.now alpha) }
+        IfOk result (λ v. v.items
+        ≡ chunk_matrices c (⟦<SC as ProverSettings>⟧.prover config.now) t challenges.now alpha) }
 {
     let parts = log_parts(alloc, config, instance, lookups)?;
     let rows = natural_domain(config, log_rows(config, instance, lookups));

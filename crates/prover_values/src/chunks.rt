@@ -43,10 +43,22 @@ pub fn quotient_chunks<F: TwoAdicField, E: ExtensionField<F>>(
     requires power { IsPowerOfTwo num_chunks }
     requires fits { num_chunks ≤ 2 ^ quotient_domain.log_size }
     requires count { length values.now ≡ 2 ^ quotient_domain.log_size }
-    ensures { let f : TwoAdic F = record { ring = F.ring; inv = F.inv; root = F.root; generator = F.GENERATOR } in
-        let e : Extension F E = record { ring = E.ring; embed = E.embed; dimension = E.DIMENSION; basis = E.basis; coefficients = E.coefficients; from_coefficients = E.from_coefficients } in
-        IfOk result (λ v. (t : CommittedTable F E) (trees : List (Tree F)) (alpha : E) (log_chunks : ℕ) → num_chunks ≡ 2 ^ log_chunks → quotient_domain.log_size ≡ t.log_height + log_chunks
-        → values.now ≡ quotient_values_on f e t trees alpha quotient_domain → EachOf (2 ^ log_chunks) v.items (IsChunk f e t quotient_domain.shift log_chunks trees alpha)) }
+    ensures { let f : TwoAdic
+        F = record { ring = F.ring; inv = F.inv; root = F.root; generator = F.GENERATOR } in
+        let e : Extension F E = record {
+          ring = E.ring;
+          embed = E.embed;
+          dimension = E.DIMENSION;
+          basis = E.basis;
+          coefficients = E.coefficients;
+          from_coefficients = E.from_coefficients;
+        } in
+        IfOk result (λ v. (t : CommittedTable F E) (trees : List (Tree F)) (alpha : E)
+        (log_chunks : ℕ) → num_chunks ≡ 2 ^ log_chunks
+        → quotient_domain.log_size ≡ t.log_height + log_chunks
+        → values.now ≡ quotient_values_on f e t trees alpha quotient_domain
+        → EachOf (2 ^ log_chunks) v.items
+        (IsChunk f e t quotient_domain.shift log_chunks trees alpha)) }
 {
     let flat = E::flatten_to_base(alloc, values)?;
     let matrix = RowMajorMatrix::new(flat, E::DIMENSION);

@@ -20,7 +20,15 @@ fn recombined_matrix<F: Field, E: ExtensionField<F>>(
     columns: usize,
 ) -> Mem<RowMajorMatrix<E>>
     requires { flattened.now.width ≡ columns * E.DIMENSION }
-    ensures { let e : Extension F E = record { ring = E.ring; embed = E.embed; dimension = E.DIMENSION; basis = E.basis; coefficients = E.coefficients; from_coefficients = E.from_coefficients } in
+    ensures { let e : Extension F
+        E = record {
+          ring = E.ring;
+          embed = E.embed;
+          dimension = E.DIMENSION;
+          basis = E.basis;
+          coefficients = E.coefficients;
+          from_coefficients = E.from_coefficients;
+        } in
         IfOk result (λ m. flattened.now ≡ flattened_matrix e m) }
 {
     let values = E::reconstitute_from_base(alloc, flattened.as_slice())?;
@@ -34,8 +42,17 @@ pub(crate) fn recombined_columns<F: Field, E: ExtensionField<F>>(
     columns: usize,
 ) -> Mem<Option<RowMajorMatrix<E>>>
     requires { IfSome flattened (λ m. m.now.width ≡ columns * E.DIMENSION) }
-    ensures { let e : Extension F E = record { ring = E.ring; embed = E.embed; dimension = E.DIMENSION; basis = E.basis; coefficients = E.coefficients; from_coefficients = E.from_coefficients } in
-        IfOk result (λ p. option_map (λ m. m.now) flattened.entry ≡ option_map (flattened_matrix e) p) }
+    ensures { let e : Extension F
+        E = record {
+          ring = E.ring;
+          embed = E.embed;
+          dimension = E.DIMENSION;
+          basis = E.basis;
+          coefficients = E.coefficients;
+          from_coefficients = E.from_coefficients;
+        } in
+        IfOk result (λ p. option_map (λ m. m.now) flattened.entry
+        ≡ option_map (flattened_matrix e) p) }
 {
     match flattened {
         Some(m) => {

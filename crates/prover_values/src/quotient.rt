@@ -112,22 +112,37 @@ pub(crate) fn quotient_on<F: TwoAdicField, E: ExtensionField<F>, A: Air<F>, LG: 
     requires layout { layout ≡ layout_of (A.declaration air.now) }
     requires shift { trace_domain.shift ≡ F.ring.one }
     requires larger { trace_domain.log_size ≤ quotient_domain.log_size }
-    requires disjoint { AreDisjoint (2 ^ trace_domain.log_size) (point F.ring F.root trace_domain) (2 ^ quotient_domain.log_size) (point F.ring F.root quotient_domain) }
+    requires disjoint { AreDisjoint (2 ^ trace_domain.log_size) (point F.ring F.root trace_domain)
+        (2 ^ quotient_domain.log_size) (point F.ring F.root quotient_domain) }
     requires width { main.now.width ≡ (A.declaration air.now).width }
     requires height { height main.now ≡ 2 ^ quotient_domain.log_size }
-    requires permutation_width { width_of (option_map (λ m. m.now) permutation) ≡ permutation_column_count (length lookups.now) }
-    requires permutation_height { IfSome permutation (λ m. height m.now ≡ 2 ^ quotient_domain.log_size) }
-    requires preprocessed_width { width_of (option_map (λ m. m.now) preprocessed) ≡ width_of (A.declaration air.now).preprocessed }
-    requires preprocessed_height { IfSome preprocessed (λ m. height m.now ≡ 2 ^ quotient_domain.log_size) }
+    requires permutation_width { width_of (option_map (λ m. m.now) permutation)
+        ≡ permutation_column_count (length lookups.now) }
+    requires permutation_height { IfSome permutation
+        (λ m. height m.now ≡ 2 ^ quotient_domain.log_size) }
+    requires preprocessed_width { width_of (option_map (λ m. m.now) preprocessed)
+        ≡ width_of (A.declaration air.now).preprocessed }
+    requires preprocessed_height { IfSome preprocessed
+        (λ m. height m.now ≡ 2 ^ quotient_domain.log_size) }
     requires public { length public_values.now ≡ (A.declaration air.now).public_values }
     requires lookups { AreLookupsOf (A.declaration air.now) (read_all lookups.now) }
     requires challenges { 2 * length lookups.now ≤ length challenges.now }
     requires terminals { 0 < length lookups.now → 0 < length terminals.now }
-    requires periods { All (λ c. IsPeriod (2 ^ trace_domain.log_size) (length c)) (A.declaration air.now).periodic }
-    requires periodic { IsPeriodicTable F.ring (2 ^ trace_domain.log_size) (point F.ring F.root trace_domain) (2 ^ quotient_domain.log_size)
+    requires periods { All (λ c. IsPeriod (2 ^ trace_domain.log_size) (length c))
+        (A.declaration air.now).periodic }
+    requires periodic { IsPeriodicTable F.ring (2 ^ trace_domain.log_size)
+        (point F.ring F.root trace_domain) (2 ^ quotient_domain.log_size)
         (point F.ring F.root quotient_domain) (A.declaration air.now).periodic periodic.now }
-    ensures { let f : TwoAdic F = record { ring = F.ring; inv = F.inv; root = F.root; generator = F.GENERATOR } in
-        let e : Extension F E = record { ring = E.ring; embed = E.embed; dimension = E.DIMENSION; basis = E.basis; coefficients = E.coefficients; from_coefficients = E.from_coefficients } in
+    ensures { let f : TwoAdic
+        F = record { ring = F.ring; inv = F.inv; root = F.root; generator = F.GENERATOR } in
+        let e : Extension F E = record {
+          ring = E.ring;
+          embed = E.embed;
+          dimension = E.DIMENSION;
+          basis = E.basis;
+          coefficients = E.coefficients;
+          from_coefficients = E.from_coefficients;
+        } in
         let given : Evaluations F E = record {
           main = main.now;
           preprocessed = option_map (λ m. m.now) preprocessed.entry;
@@ -137,8 +152,10 @@ pub(crate) fn quotient_on<F: TwoAdicField, E: ExtensionField<F>, A: Air<F>, LG: 
           challenges = challenges.now;
           terminals = terminals.now;
         } in
-        IfOk result (λ v. (t : CommittedTable F E) → t.log_height ≡ trace_domain.log_size → IsReadOn f t quotient_domain given
-        → v.items ≡ quotient_values_on f e t (table_trees F.ring (A.trees air.now) (read_all lookups.now)) alpha quotient_domain) }
+        IfOk result (λ v. (t : CommittedTable F E) → t.log_height ≡ trace_domain.log_size
+        → IsReadOn f t quotient_domain given
+        → v.items ≡ quotient_values_on f e t
+        (table_trees F.ring (A.trees air.now) (read_all lookups.now)) alpha quotient_domain) }
 {
     let selectors = row_selectors(alloc, &trace_domain, &quotient_domain)?;
     let constraints = get_constraint_layout(alloc, air, layout, lookups, lookup_gadget)?;

@@ -41,7 +41,8 @@ pub(crate) fn expansion<F: TwoAdicField>(
 
 // first - minus, first * step - minus, ..
 fn shifted_powers<F: Field>(alloc: Global, first: F, step: F, size: usize, minus: F) -> Mem<Vec<F>>
-    ensures { IfOk result (λ v. v.items ≡ tabulate size (λ i. sub F.ring (coset_point F.ring first step i) minus)) }
+    ensures { IfOk result (λ v.
+        v.items ≡ tabulate size (λ i. sub F.ring (coset_point F.ring first step i) minus)) }
 {
     let mut values = Vec::with_capacity(alloc, size)?;
     let mut power = first;
@@ -55,8 +56,12 @@ fn shifted_powers<F: Field>(alloc: Global, first: F, step: F, size: usize, minus
 // The dividends over and over, each over the divisor at its place, by one inversion.
 fn repeated_quotients<F: Field>(alloc: Global, dividends: &[F], divisors: &[F]) -> Mem<Vec<F>>
     requires some { 0 < length dividends.now }
-    requires nonzero { (i : ℕ) → i < length divisors.now → get_or divisors.now i F.ring.zero ≡ F.ring.zero → ⊥ }
-    ensures { IfOk result (λ v. v.items ≡ tabulate (length divisors.now) (λ i. F.ring.mul (get_or dividends.now (i % length dividends.now) F.ring.zero) (F.inv (get_or divisors.now i F.ring.zero)))) }
+    requires nonzero { (i : ℕ) → i < length divisors.now
+        → get_or divisors.now i F.ring.zero ≡ F.ring.zero → ⊥ }
+    ensures { IfOk result (λ v.
+        v.items ≡ tabulate (length divisors.now)
+        (λ i. F.ring.mul (get_or dividends.now (i % length dividends.now) F.ring.zero)
+        (F.inv (get_or divisors.now i F.ring.zero)))) }
 {
     let inverses = batch_multiplicative_inverse(alloc, divisors)?;
     let mut values = Vec::with_capacity(alloc, divisors.len())?;
@@ -75,7 +80,9 @@ fn distances<F: TwoAdicField>(
 ) -> Mem<Vec<F>>
     ensures { IfOk result (λ v. v.items
         ≡ tabulate (2 ^ quotient_domain.now.log_size)
-        (λ i. sub F.ring (coset_point F.ring (F.ring.mul (F.inv trace_domain.now.shift) quotient_domain.now.shift) (F.root quotient_domain.now.log_size) i) minus)) }
+        (λ i. sub F.ring (coset_point F.ring
+        (F.ring.mul (F.inv trace_domain.now.shift) quotient_domain.now.shift)
+        (F.root quotient_domain.now.log_size) i) minus)) }
 {
     trace_domain.valid();
     quotient_domain.valid();
@@ -93,7 +100,8 @@ fn vanishing_values<F: TwoAdicField>(
     requires { trace_domain.now.log_size ≤ quotient_domain.now.log_size }
     ensures { IfOk result (λ v. v.items
         ≡ tabulate (2 ^ (quotient_domain.now.log_size - trace_domain.now.log_size))
-        (λ i. eval_poly F.ring (vanishing_polynomial F.ring F.inv trace_domain.now) (point F.ring F.root quotient_domain.now i))) }
+        (λ i. eval_poly F.ring (vanishing_polynomial F.ring F.inv trace_domain.now)
+        (point F.ring F.root quotient_domain.now i))) }
 {
     trace_domain.valid();
     quotient_domain.valid();
@@ -113,16 +121,25 @@ pub(crate) fn row_selectors<F: TwoAdicField>(
     quotient_domain: &TwoAdicMultiplicativeCoset<F>,
 ) -> Mem<RowSelectors<F>>
     requires larger { trace_domain.now.log_size ≤ quotient_domain.now.log_size }
-    requires disjoint { AreDisjoint (2 ^ trace_domain.now.log_size) (point F.ring F.root trace_domain.now) (2 ^ quotient_domain.now.log_size) (point F.ring F.root quotient_domain.now) }
+    requires disjoint { AreDisjoint (2 ^ trace_domain.now.log_size)
+        (point F.ring F.root trace_domain.now) (2 ^ quotient_domain.now.log_size)
+        (point F.ring F.root quotient_domain.now) }
     ensures first { IfOk result (λ s. s.is_first_row.items
-        ≡ tabulate (2 ^ quotient_domain.now.log_size) (λ i. eval_poly F.ring (first_selector F.ring F.inv trace_domain.now) (point F.ring F.root quotient_domain.now i))) }
+        ≡ tabulate (2 ^ quotient_domain.now.log_size)
+        (λ i. eval_poly F.ring (first_selector F.ring F.inv trace_domain.now)
+        (point F.ring F.root quotient_domain.now i))) }
     ensures last { IfOk result (λ s. s.is_last_row.items
-        ≡ tabulate (2 ^ quotient_domain.now.log_size) (λ i. eval_poly F.ring (last_selector F.ring F.inv F.root trace_domain.now) (point F.ring F.root quotient_domain.now i))) }
+        ≡ tabulate (2 ^ quotient_domain.now.log_size)
+        (λ i. eval_poly F.ring (last_selector F.ring F.inv F.root trace_domain.now)
+        (point F.ring F.root quotient_domain.now i))) }
     ensures transition { IfOk result (λ s. s.is_transition.items
-        ≡ tabulate (2 ^ quotient_domain.now.log_size) (λ i. eval_poly F.ring (transition_selector F.ring F.inv F.root trace_domain.now) (point F.ring F.root quotient_domain.now i))) }
+        ≡ tabulate (2 ^ quotient_domain.now.log_size)
+        (λ i. eval_poly F.ring (transition_selector F.ring F.inv F.root trace_domain.now)
+        (point F.ring F.root quotient_domain.now i))) }
     ensures inverse { IfOk result (λ s. s.inv_vanishing.items
         ≡ tabulate (2 ^ (quotient_domain.now.log_size - trace_domain.now.log_size))
-        (λ i. F.inv (eval_poly F.ring (vanishing_polynomial F.ring F.inv trace_domain.now) (point F.ring F.root quotient_domain.now i)))) }
+        (λ i. F.inv (eval_poly F.ring (vanishing_polynomial F.ring F.inv trace_domain.now)
+        (point F.ring F.root quotient_domain.now i)))) }
 {
     trace_domain.valid();
     quotient_domain.valid();

@@ -58,19 +58,33 @@ pub fn quotient_values<SC: StarkGenericConfig, A: Air<Val<SC>>, LG: LookupProtoc
     requires layout { layout ≡ layout_of (A.declaration air.now) }
     requires shift { trace_domain.shift ≡ SC.Val.ring.one }
     requires larger { trace_domain.log_size ≤ quotient_domain.log_size }
-    requires disjoint { AreDisjoint (2 ^ trace_domain.log_size) (point SC.Val.ring SC.Val.root trace_domain) (2 ^ quotient_domain.log_size) (point SC.Val.ring SC.Val.root quotient_domain) }
+    requires disjoint { AreDisjoint (2 ^ trace_domain.log_size)
+        (point SC.Val.ring SC.Val.root trace_domain) (2 ^ quotient_domain.log_size)
+        (point SC.Val.ring SC.Val.root quotient_domain) }
     requires width { trace_on_quotient_domain.now.width ≡ (A.declaration air.now).width }
     requires height { height trace_on_quotient_domain.now ≡ 2 ^ quotient_domain.log_size }
-    requires permutation_width { width_of (option_map (λ m. m.now) opt_permutation_on_quotient_domain) ≡ permutation_column_count (length lookups.now) * SC.Challenge.DIMENSION }
-    requires permutation_height { IfSome opt_permutation_on_quotient_domain (λ m. height m.now ≡ 2 ^ quotient_domain.log_size) }
-    requires preprocessed_width { width_of (option_map (λ m. m.now) preprocessed_on_quotient_domain) ≡ width_of (A.declaration air.now).preprocessed }
-    requires preprocessed_height { IfSome preprocessed_on_quotient_domain (λ m. height m.now ≡ 2 ^ quotient_domain.log_size) }
+    requires permutation_width { width_of
+        (option_map (λ m. m.now) opt_permutation_on_quotient_domain)
+        ≡ permutation_column_count (length lookups.now) * SC.Challenge.DIMENSION }
+    requires permutation_height { IfSome opt_permutation_on_quotient_domain
+        (λ m. height m.now ≡ 2 ^ quotient_domain.log_size) }
+    requires preprocessed_width { width_of (option_map (λ m. m.now) preprocessed_on_quotient_domain)
+        ≡ width_of (A.declaration air.now).preprocessed }
+    requires preprocessed_height { IfSome preprocessed_on_quotient_domain
+        (λ m. height m.now ≡ 2 ^ quotient_domain.log_size) }
     requires public { length public_values.now ≡ (A.declaration air.now).public_values }
     requires lookups { AreLookupsOf (A.declaration air.now) (read_all lookups.now) }
     requires challenges { 2 * length lookups.now ≤ length permutation_challenges.now }
     requires terminals { 0 < length lookups.now → 0 < length permutation_vals.now }
-    requires periods { All (λ c. IsPeriod (2 ^ trace_domain.log_size) (length c)) (A.declaration air.now).periodic }
-    ensures { let f : TwoAdic SC.Val = record { ring = SC.Val.ring; inv = SC.Val.inv; root = SC.Val.root; generator = SC.Val.GENERATOR } in
+    requires periods { All (λ c. IsPeriod (2 ^ trace_domain.log_size) (length c))
+        (A.declaration air.now).periodic }
+    ensures { let f : TwoAdic
+        SC.Val = record {
+          ring = SC.Val.ring;
+          inv = SC.Val.inv;
+          root = SC.Val.root;
+          generator = SC.Val.GENERATOR;
+        } in
         let e : Extension SC.Val SC.Challenge = record {
           ring = SC.Challenge.ring;
           embed = SC.Challenge.embed;
@@ -88,8 +102,10 @@ pub fn quotient_values<SC: StarkGenericConfig, A: Air<Val<SC>>, LG: LookupProtoc
           challenges = permutation_challenges.now;
           terminals = permutation_vals.now;
         } in
-        IfOk result (λ v. (t : CommittedTable SC.Val SC.Challenge) → t.log_height ≡ trace_domain.log_size → IsReadOn f t quotient_domain given
-        → v.items ≡ quotient_values_on f e t (table_trees SC.Val.ring (A.trees air.now) (read_all lookups.now)) alpha quotient_domain) }
+        IfOk result (λ v. (t : CommittedTable SC.Val SC.Challenge)
+        → t.log_height ≡ trace_domain.log_size → IsReadOn f t quotient_domain given
+        → v.items ≡ quotient_values_on f e t
+        (table_trees SC.Val.ring (A.trees air.now) (read_all lookups.now)) alpha quotient_domain) }
 {
     let periodic = pcs.build_periodic_lde_table(
         alloc,

@@ -27,8 +27,12 @@ pub(crate) fn audit_tables(
     proof: &ToolProof,
 ) -> Mem<BatchAudit<PlainError>>
     requires { All TableWithin tables.now }
-    ensures steps { IfOk result (λ a. IsPlayedText (tool_setting version) tool_backend (tool_statement tables.now) proof.now coefficient_numbers a.steps.items) }
-    ensures faults { IfOk result (λ a. AreNamed (audit (tool_setting version) tool_backend (tool_statement tables.now) proof.now) a.faults.items) }
+    ensures steps { IfOk result
+        (λ a. IsPlayedText (tool_setting version) tool_backend (tool_statement tables.now) proof.now
+        coefficient_numbers a.steps.items) }
+    ensures faults { IfOk result
+        (λ a. AreNamed (audit (tool_setting version) tool_backend (tool_statement tables.now)
+        proof.now) a.faults.items) }
 {
     let config = tool_config(version);
     let airs = airs_of(alloc, tables)?;

@@ -42,7 +42,8 @@ pub fn run_explain_to_exit<S: Source, K: Sink>(
         → S.faults source.new ≡ S.faults source.old }
     ensures no_write_fault { (status_told result ≡ Status.WriteFault → ⊥)
         → K.faults sink.new ≡ K.faults sink.old }
-    ensures unread { (NamesReader audit_program (map string_bytes words.now) → ⊥) → source.new ≡ source.old }
+    ensures unread { (NamesReader audit_program (map string_bytes words.now) → ⊥)
+        → source.new ≡ source.old }
     ensures unwritten { IsSilent (status_told result) → sink.new ≡ sink.old }
 {
     tool_run::run_to_exit::<Command, S, K>(alloc, words, source, sink)

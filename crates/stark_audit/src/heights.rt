@@ -16,7 +16,8 @@ pub(crate) fn mismatched_heights(
     tables: &[TableStatement],
     degree_bits: &[usize],
 ) -> Mem<Vec<usize>>
-    ensures { IfOk result (λ v. AreNamed (always (numbers (min (length tables.now) (length degree_bits.now))
+    ensures { IfOk result (λ v.
+        AreNamed (always (numbers (min (length tables.now) (length degree_bits.now))
         (HasStatedHeight tables.now degree_bits.now))) v.items) }
 {
     let count = tables.len().min(degree_bits.len());

@@ -34,7 +34,8 @@ pub(crate) fn push_heights(out: &mut Vec<u8>, heights: &[usize]) -> Mem<()>
 
 // The line of a check that fails: `fails`, the refusal's name and its numbers. Out of memory itself has no line.
 fn push_fault_line(out: &mut Vec<u8>, error: &BatchVerificationError<PlainError>) -> Mem<()>
-    ensures { OnOk result (out.new.items ≡ out.old.items ++ fails_line (name_of_fault error.now) (fault_numbers error.now)) }
+    ensures { OnOk result (out.new.items ≡ out.old.items
+        ++ fails_line (name_of_fault error.now) (fault_numbers error.now)) }
 {
     let Some(name) = fault_name(error) else {
         return Err(AllocError);

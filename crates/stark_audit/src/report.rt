@@ -37,9 +37,11 @@ fn explain_tables(
     proof: &ToolProof,
 ) -> Mem<Answer>
     requires { All TableWithin tables.now }
-    ensures report { IfOk result (λ a. IsExplained version tables.now proof.now a.status a.text.items) }
+    ensures report { IfOk result
+        (λ a. IsExplained version tables.now proof.now a.status a.text.items) }
     ensures accepted { IfOk result (λ a. DoneWhereAccepted version tables.now proof.now a.status) }
-    ensures first { IfOk result (λ a. NamesRefusalElse version tables.now proof.now a.status a.text.items) }
+    ensures first { IfOk result
+        (λ a. NamesRefusalElse version tables.now proof.now a.status a.text.items) }
 {
     let heights = mismatched_heights(alloc, tables, &proof.degree_bits)?;
     let BatchAudit { steps, faults } = audit_tables(alloc, version, tables, proof)?;
@@ -65,9 +67,15 @@ fn explain_tables(
 /// `verify`'s refusal. The only error is running out of memory.
 pub fn explain(alloc: Global, file: &ProofFile) -> Mem<Answer>
     requires { FileWithin file.now }
-    ensures report { IfOk result (λ a. IsExplained (version_of file.now.version) file.now.tables file.now.proof a.status a.text.items) }
-    ensures accepted { IfOk result (λ a. DoneWhereAccepted (version_of file.now.version) file.now.tables file.now.proof a.status) }
-    ensures first { IfOk result (λ a. NamesRefusalElse (version_of file.now.version) file.now.tables file.now.proof a.status a.text.items) }
+    ensures report { IfOk result
+        (λ a. IsExplained (version_of file.now.version) file.now.tables file.now.proof a.status
+        a.text.items) }
+    ensures accepted { IfOk result
+        (λ a. DoneWhereAccepted (version_of file.now.version) file.now.tables file.now.proof
+        a.status) }
+    ensures first { IfOk result
+        (λ a. NamesRefusalElse (version_of file.now.version) file.now.tables file.now.proof a.status
+        a.text.items) }
 {
     explain_tables(alloc, file.transcript_version(), &file.tables, &file.proof)
 }

@@ -34,15 +34,20 @@ pub fn run_explain<S: Source, K: Sink>(
     // The counts never fall, and a fault is answered only where one rose.
     ensures reads_later { S.faults source.old ≤ S.faults source.new }
     ensures writes_later { K.faults sink.old ≤ K.faults sink.new }
-    ensures read_fault { result ≡ Status.ReadFault → Rose (S.faults source.old) (S.faults source.new) }
-    ensures write_fault { result ≡ Status.WriteFault → Rose (K.faults sink.old) (K.faults sink.new) }
+    ensures read_fault { result ≡ Status.ReadFault
+        → Rose (S.faults source.old) (S.faults source.new) }
+    ensures write_fault { result ≡ Status.WriteFault
+        → Rose (K.faults sink.old) (K.faults sink.new) }
 
     // With another status no fault is passed over: the count is as it was.
-    ensures no_read_fault { (result ≡ Status.ReadFault → ⊥) → S.faults source.new ≡ S.faults source.old }
-    ensures no_write_fault { (result ≡ Status.WriteFault → ⊥) → K.faults sink.new ≡ K.faults sink.old }
+    ensures no_read_fault { (result ≡ Status.ReadFault → ⊥)
+        → S.faults source.new ≡ S.faults source.old }
+    ensures no_write_fault { (result ≡ Status.WriteFault → ⊥)
+        → K.faults sink.new ≡ K.faults sink.old }
 
     // What isn't asked stays as it was, whether or not it tells its bytes.
-    ensures unread { (NamesReader audit_program (map string_bytes words.now) → ⊥) → source.new ≡ source.old }
+    ensures unread { (NamesReader audit_program (map string_bytes words.now) → ⊥)
+        → source.new ≡ source.old }
     ensures unwritten { IsSilent result → sink.new ≡ sink.old }
 {
     tool_run::run::<Command, S, K>(alloc, words, source, sink)

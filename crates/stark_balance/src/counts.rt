@@ -42,7 +42,9 @@ fn add_message<F: PrimeField64>(
 ) -> Mem<()>
     requires keyed { AreKeyed (λ k. k.items) F.canonical entries.old.entries }
     ensures keyed { OnOk result (AreKeyed (λ k. k.items) F.canonical entries.new.entries) }
-    ensures added { OnOk result (values entries.new ≡ with_message F.ring (by_key F.canonical) (values entries.old) message.now) }
+    ensures added { OnOk result
+        (values entries.new ≡ with_message F.ring (by_key F.canonical) (values entries.old)
+        message.now) }
 {
     let key = key_of(alloc, message)?;
     let count = count_with(entries.get(&key), message.count);

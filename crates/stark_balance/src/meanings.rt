@@ -21,7 +21,8 @@ pub fn vanishing_rows_sum<F: Field, EF: ExtensionField<F>>()
 /// The entries that `nets` gives are the nets of the messages: one for each bus and tuple that is sent, with the sum of its counts
 /// (not in Plonky3).
 pub fn nets_are_nets<F: Field>()
-    ensures { (messages : List (Message F)) → AreNets F.ring F.eq messages (nets F.ring F.eq messages) }
+    ensures { (messages : List (Message F))
+        → AreNets F.ring F.eq messages (nets F.ring F.eq messages) }
 {}
 
 /// How many lookup pairs are unlucky (not in Plonky3). With tuples of one width on each bus, of at most W values, and buses that the field tells

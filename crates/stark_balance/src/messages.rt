@@ -28,7 +28,8 @@ fn values_of<'a, F: Field>(
     row: &RowValues<'a, F, F>,
 ) -> Mem<Vec<F>>
     requires reads { All (ReadsSendable (row_shape row.now)) (map tree_of tuple.now) }
-    ensures { IfOk result (λ v. v.items ≡ map (sent_in_row F.ring row.now) (map tree_of tuple.now)) }
+    ensures { IfOk result (λ v.
+        v.items ≡ map (sent_in_row F.ring row.now) (map tree_of tuple.now)) }
 {
     let mut values = Vec::with_capacity(alloc, tuple.len())?;
     for i in 0..tuple.len() {
@@ -47,7 +48,8 @@ fn push_lookup<'a, F: Field>(
 ) -> Mem<()>
     requires lookup { IsLookup (row_shape row.now) (read lookup.now) }
     ensures { OnOk result (messages.new.items
-        ≡ messages.old.items ++ map (message (sent_in_row F.ring row.now) bus) (sent (read lookup.now))) }
+        ≡ messages.old.items ++ map (message (sent_in_row F.ring row.now) bus)
+        (sent (read lookup.now))) }
 {
     for i in 0..lookup.elements.len() {
         let tuple = values_of(alloc, &lookup.elements[i], row)?;
@@ -68,7 +70,8 @@ fn push_lookups<'a, F: Field>(
     requires buses { length buses.now ≡ length lookups.now }
     requires lookups { All (IsLookup (row_shape row.now)) (read_all lookups.now) }
     ensures { OnOk result (messages.new.items ≡ messages.old.items
-        ++ messages_from (sent_in_row F.ring row.now) (λ n. get_or buses.now n 0) 0 (read_all lookups.now)) }
+        ++ messages_from (sent_in_row F.ring row.now) (λ n. get_or buses.now n 0) 0
+        (read_all lookups.now)) }
 {
     for i in 0..lookups.len() {
         push_lookup(alloc, messages, &lookups[i], row, buses[i])?;
@@ -90,9 +93,13 @@ fn push_row<F: Field>(
     requires row { row < height main.now }
     requires preprocessed { IfSome preprocessed (λ m. height m.now ≡ height main.now) }
     requires buses { length buses.now ≡ length lookups.now }
-    requires lookups { All (IsLookup (sent_shape main.now (option_map (λ m. m.now) preprocessed) public_values.now)) (read_all lookups.now) }
-    ensures { let s = sender_over F.ring main.now (option_map (λ m. m.now) preprocessed.entry) public_values.now (read_all lookups.now) buses.now in
-        OnOk result (messages.new.items ≡ messages.old.items ++ messages_from (s.value row) s.bus 0 s.lookups) }
+    requires lookups { All (IsLookup
+        (sent_shape main.now (option_map (λ m. m.now) preprocessed) public_values.now))
+        (read_all lookups.now) }
+    ensures { let s = sender_over F.ring main.now (option_map (λ m. m.now) preprocessed.entry)
+        public_values.now (read_all lookups.now) buses.now in
+        OnOk result (messages.new.items ≡ messages.old.items
+        ++ messages_from (s.value row) s.bus 0 s.lookups) }
 {
     let height = main.height();
     let next = (row + 1) % height;
@@ -128,8 +135,11 @@ pub fn table_messages<F: PrimeField64>(
 ) -> Mem<Vec<Message<F>>>
     requires preprocessed { IfSome preprocessed (λ m. height m.now ≡ height main.now) }
     requires buses { length buses.now ≡ length lookups.now }
-    requires lookups { All (IsLookup (sent_shape main.now (option_map (λ m. m.now) preprocessed) public_values.now)) (read_all lookups.now) }
-    ensures { let s = sender_over F.ring main.now (option_map (λ m. m.now) preprocessed.entry) public_values.now (read_all lookups.now) buses.now in
+    requires lookups { All (IsLookup
+        (sent_shape main.now (option_map (λ m. m.now) preprocessed) public_values.now))
+        (read_all lookups.now) }
+    ensures { let s = sender_over F.ring main.now (option_map (λ m. m.now) preprocessed.entry)
+        public_values.now (read_all lookups.now) buses.now in
         IfOk result (λ v. v.items ≡ table_messages s) }
 {
     let mut messages = Vec::new(alloc);

@@ -33,7 +33,8 @@ fn refused(alloc: Global, name: &[u8]) -> Mem<Answer>
 
 // The answer where no number passes this grinding of a job.
 fn refused_grinding(alloc: Global, job: &ChainJob, step: GrindStep) -> Mem<Answer>
-    requires { IsChainRefusal job.now.start job.now.blocks.items (ProvingError.WitnessNotFound step) }
+    requires { IsChainRefusal job.now.start job.now.blocks.items
+        (ProvingError.WitnessNotFound step) }
     ensures { IfOk result (λ a. IsJobAnswer (read_job job.now) a.status a.text.items) }
 {
     match step {

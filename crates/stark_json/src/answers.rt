@@ -59,8 +59,10 @@ fn done(text: Vec<u8>) -> Answer
 
 // What a command answers for bytes that are no file's JSON. Out of memory wherever the reading was.
 fn bad_json(alloc: Global, error: JsonError) -> Mem<Answer>
-    ensures json { error ≡ JsonError.NotJson → IfOk result (λ a. (a.status ≡ Status.BadInput) × (a.text.items ≡ codes "bad json\n")) }
-    ensures tree { error ≡ JsonError.NotProof → IfOk result (λ a. (a.status ≡ Status.BadInput) × (a.text.items ≡ codes "bad tree\n")) }
+    ensures json { error ≡ JsonError.NotJson
+        → IfOk result (λ a. (a.status ≡ Status.BadInput) × (a.text.items ≡ codes "bad json\n")) }
+    ensures tree { error ≡ JsonError.NotProof
+        → IfOk result (λ a. (a.status ≡ Status.BadInput) × (a.text.items ≡ codes "bad tree\n")) }
     ensures memory { error ≡ JsonError.OutOfMemory → IsErr result }
 {
     let text = match error {

@@ -35,14 +35,17 @@ pub fn prove_airs_with_point<A: Air<BabyBear>>(
     alloc: Global,
     instances: &[StarkInstance<'_, ToolConfig, A>],
 ) -> Result<(BatchProof<ToolConfig>, QuarticExtension), ProvingError<PlainProverError>>
-    requires shaped { All (IsShaped (tool_setting V2) A.declaration A.trees A.interactions) instances.now }
-    requires widths { HaveOneWidth (flat_map (λ a. lookups_of (A.interactions a)) (airs_of instances.now)) }
+    requires shaped { All (IsShaped (tool_setting V2) A.declaration A.trees A.interactions)
+        instances.now }
+    requires widths { HaveOneWidth
+        (flat_map (λ a. lookups_of (A.interactions a)) (airs_of instances.now)) }
     ensures proved { let b = airs_batch A.declaration A.trees A.interactions instances.now in
         IfOk result (λ r. IsBuilt b.setting b.prover b.statement b.traces b.degree_bits r.0) }
     ensures refusal { let b = airs_batch A.declaration A.trees A.interactions instances.now in
         IfErr result (Tells (plain_prover_backend tool_scheme) b) }
     ensures accepted { let b = airs_batch A.declaration A.trees A.interactions instances.now in
-        IfOk result (λ r. AreMet b → DrawsOutside b r.0 → Accepted (tool_setting V2) tool_backend b.statement r.0) }
+        IfOk result (λ r. AreMet b → DrawsOutside b r.0
+        → Accepted (tool_setting V2) tool_backend b.statement r.0) }
     ensures point { let b = airs_batch A.declaration A.trees A.interactions instances.now in
         IfOk result (λ r. r.1 ≡ drawn_point b r.0) }
 {
@@ -62,14 +65,17 @@ pub fn prove_airs<A: Air<BabyBear>>(
     alloc: Global,
     instances: &[StarkInstance<'_, ToolConfig, A>],
 ) -> Result<BatchProof<ToolConfig>, ProvingError<PlainProverError>>
-    requires shaped { All (IsShaped (tool_setting V2) A.declaration A.trees A.interactions) instances.now }
-    requires widths { HaveOneWidth (flat_map (λ a. lookups_of (A.interactions a)) (airs_of instances.now)) }
+    requires shaped { All (IsShaped (tool_setting V2) A.declaration A.trees A.interactions)
+        instances.now }
+    requires widths { HaveOneWidth
+        (flat_map (λ a. lookups_of (A.interactions a)) (airs_of instances.now)) }
     ensures proved { let b = airs_batch A.declaration A.trees A.interactions instances.now in
         IfOk result (IsBuilt b.setting b.prover b.statement b.traces b.degree_bits) }
     ensures refusal { let b = airs_batch A.declaration A.trees A.interactions instances.now in
         IfErr result (Tells (plain_prover_backend tool_scheme) b) }
     ensures accepted { let b = airs_batch A.declaration A.trees A.interactions instances.now in
-        IfOk result (λ q. AreMet b → DrawsOutside b q → Accepted (tool_setting V2) tool_backend b.statement q) }
+        IfOk result (λ q. AreMet b → DrawsOutside b q
+        → Accepted (tool_setting V2) tool_backend b.statement q) }
 {
     let (proof, _point) = prove_airs_with_point(alloc, instances)?;
     Ok(proof)

@@ -31,10 +31,16 @@ pub(crate) fn prover_data<A: Air<BabyBear>>(
     requires bits { AreWithinBounds 0 26 log_heights.now }
     requires heights { HaveHeights A.declaration airs.now log_heights.now }
     requires widths { HaveOneWidth (flat_map (λ a. lookups_of (A.interactions a)) airs.now) }
-    ensures common { IfOk result (λ d. read_common d.common ≡ airs_common A.declaration A.trees A.interactions airs.now log_heights.now) }
-    ensures formed { IfOk result (λ d. WellFormed (map A.declaration airs.now) (read_common d.common)) }
-    ensures prover_data { IfOk result (λ d. IsPrepared (plain_commits tool_scheme) (prepared_entries A.declaration A.trees A.interactions airs.now log_heights.now)
-        (prepared_traces A.declaration A.trees A.interactions airs.now log_heights.now) d.common.preprocessed d.prover_only.preprocessed_prover_data) }
+    ensures common { IfOk result
+        (λ d. read_common d.common
+        ≡ airs_common A.declaration A.trees A.interactions airs.now log_heights.now) }
+    ensures formed { IfOk result
+        (λ d. WellFormed (map A.declaration airs.now) (read_common d.common)) }
+    ensures prover_data { IfOk result
+        (λ d. IsPrepared (plain_commits tool_scheme)
+        (prepared_entries A.declaration A.trees A.interactions airs.now log_heights.now)
+        (prepared_traces A.declaration A.trees A.interactions airs.now log_heights.now)
+        d.common.preprocessed d.prover_only.preprocessed_prover_data) }
 {
     match ProverData::<ToolConfig>::from_airs_and_degrees(alloc, config, airs, log_heights) {
         Ok(data) => Ok(data),
@@ -53,12 +59,22 @@ pub(crate) fn instances_data<A: Air<BabyBear>>(
     instances: &[StarkInstance<'_, ToolConfig, A>],
 ) -> Mem<ProverData<ToolConfig>>
     requires scheme { config.now.pcs ≡ record { log_blowup = 1 } }
-    requires shaped { All (IsShaped (tool_setting V2) A.declaration A.trees A.interactions) instances.now }
-    requires widths { HaveOneWidth (flat_map (λ a. lookups_of (A.interactions a)) (airs_of instances.now)) }
-    ensures common { IfOk result (λ d. read_common d.common ≡ airs_common A.declaration A.trees A.interactions (airs_of instances.now) (bits_of 0 instances.now)) }
-    ensures formed { IfOk result (λ d. WellFormed (map A.declaration (airs_of instances.now)) (read_common d.common)) }
-    ensures prover_data { IfOk result (λ d. IsPrepared (plain_commits tool_scheme) (prepared_entries A.declaration A.trees A.interactions (airs_of instances.now) (bits_of 0 instances.now))
-        (prepared_traces A.declaration A.trees A.interactions (airs_of instances.now) (bits_of 0 instances.now)) d.common.preprocessed d.prover_only.preprocessed_prover_data) }
+    requires shaped { All (IsShaped (tool_setting V2) A.declaration A.trees A.interactions)
+        instances.now }
+    requires widths { HaveOneWidth
+        (flat_map (λ a. lookups_of (A.interactions a)) (airs_of instances.now)) }
+    ensures common { IfOk result
+        (λ d. read_common d.common
+        ≡ airs_common A.declaration A.trees A.interactions (airs_of instances.now)
+        (bits_of 0 instances.now)) }
+    ensures formed { IfOk result
+        (λ d. WellFormed (map A.declaration (airs_of instances.now)) (read_common d.common)) }
+    ensures prover_data { IfOk result
+        (λ d. IsPrepared (plain_commits tool_scheme)
+        (prepared_entries A.declaration A.trees A.interactions (airs_of instances.now)
+        (bits_of 0 instances.now))
+        (prepared_traces A.declaration A.trees A.interactions (airs_of instances.now)
+        (bits_of 0 instances.now)) d.common.preprocessed d.prover_only.preprocessed_prover_data) }
 {
     match ProverData::<ToolConfig>::from_instances(alloc, config, instances) {
         Ok(data) => Ok(data),

@@ -51,18 +51,27 @@ pub fn verify_airs<A: Air<BabyBear>>(
     requires bits { AreWithinBounds 0 26 log_heights.now }
     requires heights { HaveHeights A.declaration airs.now log_heights.now }
     requires widths { HaveOneWidth (flat_map (λ a. lookups_of (A.interactions a)) airs.now) }
-    ensures verdict { let s = airs_statement A.declaration A.trees A.interactions airs.now log_heights.now (map (λ v. v.items) public_values.now) in
+    ensures verdict { let s = airs_statement A.declaration A.trees A.interactions airs.now
+        log_heights.now (map (λ v. v.items) public_values.now) in
         IsVerdict (checks (tool_setting V2) tool_backend s proof.now) result }
-    ensures holds { let s = airs_statement A.declaration A.trees A.interactions airs.now log_heights.now (map (λ v. v.items) public_values.now) in
+    ensures holds { let s = airs_statement A.declaration A.trees A.interactions airs.now
+        log_heights.now (map (λ v. v.items) public_values.now) in
         IfOk result (λ _. HoldUnlessUnlucky (tool_setting V2) 1 s proof.now) }
-    ensures own { let s = airs_statement A.declaration A.trees A.interactions airs.now log_heights.now (map (λ v. v.items) public_values.now) in
-        IfOk result (λ _. CommittedTablesHold (tool_setting V2) 1 s proof.now → (i : ℕ) (air : A) → i < length airs.now
-        → Holds baby_bear_field quartic_extension (committed_table_at (tool_setting V2) 1 s proof.now i) (A.trees (get_or airs.now i air))) }
-    ensures columns { let s = airs_statement A.declaration A.trees A.interactions airs.now log_heights.now (map (λ v. v.items) public_values.now) in
+    ensures own { let s = airs_statement A.declaration A.trees A.interactions airs.now
+        log_heights.now (map (λ v. v.items) public_values.now) in
+        IfOk result (λ _. CommittedTablesHold (tool_setting V2) 1 s proof.now → (i : ℕ) (air : A)
+        → i < length airs.now
+        → Holds baby_bear_field quartic_extension
+        (committed_table_at (tool_setting V2) 1 s proof.now i) (A.trees (get_or airs.now i air))) }
+    ensures columns { let s = airs_statement A.declaration A.trees A.interactions airs.now
+        log_heights.now (map (λ v. v.items) public_values.now) in
         IfOk result (λ _. AllHaveColumns (tool_setting V2) 1 s proof.now) }
-    ensures balance { let s = airs_statement A.declaration A.trees A.interactions airs.now log_heights.now (map (λ v. v.items) public_values.now) in
-        IfOk result (λ _. BalanceUnlessUnlucky (tool_setting V2) 1 s proof.now same_value quartic_inv) }
-    ensures few { let s = airs_statement A.declaration A.trees A.interactions airs.now log_heights.now (map (λ v. v.items) public_values.now) in
+    ensures balance { let s = airs_statement A.declaration A.trees A.interactions airs.now
+        log_heights.now (map (λ v. v.items) public_values.now) in
+        IfOk result (λ _. BalanceUnlessUnlucky (tool_setting V2) 1 s proof.now same_value
+        quartic_inv) }
+    ensures few { let s = airs_statement A.declaration A.trees A.interactions airs.now
+        log_heights.now (map (λ v. v.items) public_values.now) in
         IfOk result (λ _. HasFewUnlucky s proof.now) }
 {
     let config = tool_config(TranscriptVersion::V2);

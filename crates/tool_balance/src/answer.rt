@@ -41,7 +41,9 @@ fn balance_text(
 /// `balanced n`, the drawn lookup pair, alpha or zeta is unlucky. The only error is running out of memory.
 pub fn answer_balance(alloc: Global, file: &ProofFile) -> Mem<Answer>
     requires { FileWithin file.now }
-    ensures { IfOk result (λ a. IsFileBalance (version_of file.now.version) file.now.tables file.now.proof a.status a.text.items) }
+    ensures { IfOk result (λ a.
+        IsFileBalance (version_of file.now.version) file.now.tables file.now.proof a.status
+        a.text.items) }
 {
     let answer = answer_verify(alloc, file)?;
     match answer.status {

@@ -9,7 +9,9 @@ ghost use Rattle.tool_verifier.specs.declared.status.Status.{Status};
 
 /// The version, the tables and the proof of a file have at most one answer of `balance`: one status, and one text.
 pub fn there_is_one_answer()
-    ensures { (version : TranscriptVersion) (tables : List TableStatement) (p : ToolProofData) (s t : Status) (x y : List ℕ) → IsFileBalance version tables p s x → IsFileBalance version tables p t y → SameAnswer s t x y }
+    ensures { (version : TranscriptVersion) (tables : List TableStatement) (p : ToolProofData)
+        (s t : Status) (x y : List ℕ) → IsFileBalance version tables p s x
+        → IsFileBalance version tables p t y → SameAnswer s t x y }
 {
     tool_verifier::there_is_one_answer();
 }

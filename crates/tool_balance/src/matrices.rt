@@ -18,7 +18,8 @@ pub(crate) fn tables_have_matrices(
     tables: &[TableStatement],
     proof: &ToolProof,
 )
-    requires formed { WellFormed (map (λ t. t.declaration) (map air_table_of tables.now)) (tool_common tables.now) }
+    requires formed { WellFormed (map (λ t. t.declaration) (map air_table_of tables.now))
+        (tool_common tables.now) }
     requires accepted { IsAccepted version tables.now proof.now }
     ensures { (i : ℕ) → i < length tables.now → HasMatrixOf tables.now proof.now i }
 {

@@ -31,7 +31,8 @@ fn push_table(
     requires matrix { HasMatrixOf tables.now proof.now table }
     requires lookups { read_all lookups.now ≡ packed_lookups_at tables.now table }
     ensures { OnOk result ((version : TranscriptVersion)
-        → messages.new.items ≡ messages.old.items ++ messages_of (sender_at version tables.now proof.now table)) }
+        → messages.new.items ≡ messages.old.items
+        ++ messages_of (sender_at version tables.now proof.now table)) }
 {
     if lookups.is_empty() {
         return Ok(());

@@ -14,7 +14,8 @@ use tool_hash_lines::{committed_columns, trace_domain};
 
 // Appends the cells of a row: the values of the columns' polynomials at a point. On an error a part may stand.
 fn push_cells(cells: &mut Vec<BabyBear>, polynomials: &[Vec<BabyBear>], point: BabyBear) -> Mem<()>
-    ensures { OnOk result (cells.new.items ≡ cells.old.items ++ polynomial_cells_at (map (λ f. f.items) polynomials.now) point) }
+    ensures { OnOk result (cells.new.items ≡ cells.old.items
+        ++ polynomial_cells_at (map (λ f. f.items) polynomials.now) point) }
 {
     for polynomial in polynomials {
         cells.push(polynomial_value(polynomial, point))?;

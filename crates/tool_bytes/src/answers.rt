@@ -20,7 +20,8 @@ pub trait InputStream: Read {
     /// What `Read::read` answers.
     fn read_some(&mut self, buf: &mut [u8]) -> io::Result<usize>
         ensures bound { ReadsAtMost result buf.new }
-        ensures bytes { ReadConsumes (Self.remaining self.old) (Self.remaining self.new) result buf.new }
+        ensures bytes { ReadConsumes (Self.remaining self.old) (Self.remaining self.new) result
+            buf.new }
         ensures answer { answers self.old self.new buf.new result };
 }
 
@@ -59,7 +60,8 @@ pub trait OutputStream: Write {
     /// What `Write::write` answers.
     fn write_some(&mut self, piece: &[u8]) -> io::Result<usize>
         ensures bound { WritesAtMost result piece.now }
-        ensures bytes { WriteAppends (Self.contents self.old) (Self.contents self.new) result piece.now }
+        ensures bytes { WriteAppends (Self.contents self.old) (Self.contents self.new) result
+            piece.now }
         ensures answer { answers self.old self.new piece.now result };
 }
 

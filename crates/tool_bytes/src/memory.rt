@@ -26,7 +26,12 @@ impl Model for MemorySource {
 
     ghost Value = { MemoryInput };
 
-    ghost view = { λ s. record { left = drop s.at s.bytes.items; failing = s.failing.items; calls = s.calls; faults = s.faults } };
+    ghost view = { λ s. record {
+      left = drop s.at s.bytes.items;
+      failing = s.failing.items;
+      calls = s.calls;
+      faults = s.faults;
+    } };
 
     ghost invariant = { λ s. (s.at ≤ length s.bytes.items) × (s.faults < 2 ^ 64) };
 }
@@ -34,7 +39,12 @@ impl Model for MemorySource {
 impl MemorySource {
     /// A source of these bytes. Of its calls of `read`, counted from 0, those in `failing` fail, and count a fault.
     pub fn new(bytes: Vec<u8>, failing: Vec<u64>) -> Self
-        ensures { result ≡ record { left = bytes.items; failing = failing.items; calls = 0; faults = 0 } }
+        ensures { result ≡ record {
+          left = bytes.items;
+          failing = failing.items;
+          calls = 0;
+          faults = 0;
+        } }
     {
         MemorySource {
             bytes,
@@ -91,9 +101,17 @@ impl Model for MemorySink {
 
     ghost Value = { MemoryOutput };
 
-    ghost view = { λ s. record { written = s.bytes.items; room = s.room; most = s.most; failing = s.failing.items; calls = s.calls; faults = s.faults } };
+    ghost view = { λ s. record {
+      written = s.bytes.items;
+      room = s.room;
+      most = s.most;
+      failing = s.failing.items;
+      calls = s.calls;
+      faults = s.faults;
+    } };
 
-    ghost invariant = { λ s. (length s.bytes.items ≤ s.room) × (s.room ≤ vec_capacity s.bytes) × (s.faults < 2 ^ 64) };
+    ghost invariant = { λ s. (length s.bytes.items ≤ s.room) × (s.room ≤ vec_capacity s.bytes)
+        × (s.faults < 2 ^ 64) };
 }
 
 impl MemorySink {
@@ -107,7 +125,15 @@ impl MemorySink {
         most: usize,
         failing: Vec<u64>,
     ) -> Result<Self, AllocError>
-        ensures { IfOk result (λ s. s ≡ record { written = []; room = room; most = most; failing = failing.items; calls = 0; faults = 0 }) }
+        ensures { IfOk result (λ s.
+            s ≡ record {
+              written = [];
+              room = room;
+              most = most;
+              failing = failing.items;
+              calls = 0;
+              faults = 0;
+            }) }
     {
         Ok(MemorySink {
             bytes: Vec::with_capacity(alloc, room)?,
@@ -138,7 +164,8 @@ impl Sink for MemorySink {
         requires { 0 < length piece.now }
         ensures bound { WritesAtMost result piece.now }
         ensures some { IfOk result (λ n. 0 < n) }
-        ensures bytes { WriteAppends (Some self.old.written) (Some self.new.written) result piece.now }
+        ensures bytes { WriteAppends (Some self.old.written) (Some self.new.written) result
+            piece.now }
         ensures cause { HasCause self.old.faults self.new.faults result }
         ensures call { WritesMemory self.old self.new (length piece.now) result }
     {

@@ -53,11 +53,13 @@ impl<R: InputStream> Source for StdSource<R> {
     fn read(&mut self, buf: &mut [u8]) -> Result<usize, Failed>
         requires { 0 < length buf.old }
         ensures bound { ReadsAtMost result buf.new }
-        ensures bytes { ReadConsumes (R.remaining (reader_of self.old)) (R.remaining (reader_of self.new)) result buf.new }
+        ensures bytes { ReadConsumes (R.remaining (reader_of self.old))
+            (R.remaining (reader_of self.new)) result buf.new }
         ensures cause { HasCause (source_faults self.old) (source_faults self.new) result }
 
         // The reader was asked, and its answer is counted: `Failed` comes exactly where the reader answered an error.
-        ensures answer { (answer : Result ℕ Error) × R.answers (reader_of self.old) (reader_of self.new) buf.new answer
+        ensures answer { (answer : Result ℕ Error)
+            × R.answers (reader_of self.old) (reader_of self.new) buf.new answer
             × CountsFault answer 0 (source_faults self.old) (source_faults self.new) result }
     {
         counted(self.reader.read_some(buf), 0, &mut self.faults)
@@ -94,11 +96,13 @@ impl<W: OutputStream> Sink for StdSink<W> {
         requires { 0 < length piece.now }
         ensures bound { WritesAtMost result piece.now }
         ensures some { IfOk result (λ n. 0 < n) }
-        ensures bytes { WriteAppends (W.contents (writer_of self.old)) (W.contents (writer_of self.new)) result piece.now }
+        ensures bytes { WriteAppends (W.contents (writer_of self.old))
+            (W.contents (writer_of self.new)) result piece.now }
         ensures cause { HasCause (sink_faults self.old) (sink_faults self.new) result }
 
         // The writer was asked, and its answer is counted: `Failed` comes exactly where the writer answered an error or took nothing.
-        ensures answer { (answer : Result ℕ Error) × W.answers (writer_of self.old) (writer_of self.new) piece.now answer
+        ensures answer { (answer : Result ℕ Error)
+            × W.answers (writer_of self.old) (writer_of self.new) piece.now answer
             × CountsFault answer 1 (sink_faults self.old) (sink_faults self.new) result }
     {
         counted(self.writer.write_some(piece), 1, &mut self.faults)

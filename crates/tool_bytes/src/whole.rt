@@ -22,8 +22,10 @@ const PIECE_BYTES: usize = 65_536;
 pub fn read_whole<S: Source>(alloc: Global, source: &mut S) -> Result<Vec<u8>, InputError>
     ensures bytes { ReadsWhole most_bytes (S.left source.old) (S.left source.new) result }
     ensures later { S.faults source.old ≤ S.faults source.new }
-    ensures fault { IsErrOf result InputError.ReadFault → Rose (S.faults source.old) (S.faults source.new) }
-    ensures no_fault { (IsErrOf result InputError.ReadFault → ⊥) → S.faults source.new ≡ S.faults source.old }
+    ensures fault { IsErrOf result InputError.ReadFault
+        → Rose (S.faults source.old) (S.faults source.new) }
+    ensures no_fault { (IsErrOf result InputError.ReadFault → ⊥)
+        → S.faults source.new ≡ S.faults source.old }
 {
     let mut bytes = Vec::new(alloc);
     let mut piece = [0; PIECE_BYTES];

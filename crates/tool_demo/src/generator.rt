@@ -10,15 +10,18 @@ use std::alloc::Global;
 // The next word.
 pub(crate) fn next_word(generator: &mut Xoshiro256PlusPlus) -> u64
     ensures word { (seed n : ℕ) → generator.old ≡ state_after seed n → result ≡ word_at seed n }
-    ensures state { (seed n : ℕ) → generator.old ≡ state_after seed n → generator.new ≡ state_after seed (n + 1) }
+    ensures state { (seed n : ℕ) → generator.old ≡ state_after seed n
+        → generator.new ≡ state_after seed (n + 1) }
 {
     generator.next_word()
 }
 
 // The next 1024 words after two, each modulo 64.
 pub(crate) fn next_numbers(alloc: Global, generator: &mut Xoshiro256PlusPlus) -> Mem<Vec<u8>>
-    ensures numbers { IfOk result (λ v. (seed : ℕ) → generator.old ≡ state_after seed 2 → v.items ≡ taken_numbers seed 1024) }
-    ensures state { OnOk result ((seed : ℕ) → generator.old ≡ state_after seed 2 → generator.new ≡ state_after seed 1026) }
+    ensures numbers { IfOk result
+        (λ v. (seed : ℕ) → generator.old ≡ state_after seed 2 → v.items ≡ taken_numbers seed 1024) }
+    ensures state { OnOk result
+        ((seed : ℕ) → generator.old ≡ state_after seed 2 → generator.new ≡ state_after seed 1026) }
 {
     let mut numbers = Vec::new(alloc);
     for _i in 0..1024usize {
@@ -29,8 +32,10 @@ pub(crate) fn next_numbers(alloc: Global, generator: &mut Xoshiro256PlusPlus) ->
 
 // The low 32 bits of each of the next 24 words, which are those of row i.
 fn next_row(generator: &mut Xoshiro256PlusPlus) -> [u32; 24]
-    ensures row { (seed i : ℕ) → generator.old ≡ state_after seed (1026 + 24 * i) → result ≡ hash_row seed i }
-    ensures state { (seed i : ℕ) → generator.old ≡ state_after seed (1026 + 24 * i) → generator.new ≡ state_after seed (1026 + 24 * (i + 1)) }
+    ensures row { (seed i : ℕ) → generator.old ≡ state_after seed (1026 + 24 * i)
+        → result ≡ hash_row seed i }
+    ensures state { (seed i : ℕ) → generator.old ≡ state_after seed (1026 + 24 * i)
+        → generator.new ≡ state_after seed (1026 + 24 * (i + 1)) }
 {
     let mut row = [0u32; 24];
     for k in 0..24 {
@@ -41,7 +46,8 @@ fn next_row(generator: &mut Xoshiro256PlusPlus) -> [u32; 24]
 
 // The next eight rows.
 pub(crate) fn next_rows(alloc: Global, generator: &mut Xoshiro256PlusPlus) -> Mem<Vec<[u32; 24]>>
-    ensures { IfOk result (λ v. (seed : ℕ) → generator.old ≡ state_after seed 1026 → v.items ≡ hash_rows seed 8) }
+    ensures { IfOk result (λ v. (seed : ℕ) → generator.old ≡ state_after seed 1026
+        → v.items ≡ hash_rows seed 8) }
 {
     let mut rows = Vec::new(alloc);
     for _i in 0..8usize {

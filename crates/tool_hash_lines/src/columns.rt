@@ -30,7 +30,8 @@ pub fn committed_columns(
 ) -> Mem<Vec<Vec<BabyBear>>>
     requires exists { matrix < length commitment.now.matrices }
     requires height { HasSubgroupHeight 27 (matrix_at commitment.now matrix) }
-    ensures { IfOk result (λ v. (k : ℕ) → k + 1 ≤ 27 → height (matrix_at commitment.now matrix) ≡ 2 ^ (k + 1)
+    ensures { IfOk result (λ v. (k : ℕ) → k + 1 ≤ 27
+        → height (matrix_at commitment.now matrix) ≡ 2 ^ (k + 1)
         → map (λ f. f.items) v.items ≡ polynomials_at tool_scheme k commitment.now matrix) }
 {
     plain_scheme().committed(alloc, commitment, matrix)

@@ -24,8 +24,10 @@ pub fn compressions_are_printed()
 /// [`hash_lines`](crate::hash_lines) may be called (not in Plonky3). The tables' common data is well-formed, and the degree bits of each table
 /// are stated.
 pub fn accepted_hash_matrices()
-    ensures { (version : TranscriptVersion) (tables : List TableStatement) (p : ToolProofData) → WellFormed (map (λ t. t.declaration) (map air_table_of tables)) (tool_common tables)
-        → Accepted (tool_setting version) tool_backend (tool_statement tables) p → HaveStatedHeights tables p.degree_bits → HasHashMatrices tables p }
+    ensures { (version : TranscriptVersion) (tables : List TableStatement) (p : ToolProofData)
+        → WellFormed (map (λ t. t.declaration) (map air_table_of tables)) (tool_common tables)
+        → Accepted (tool_setting version) tool_backend (tool_statement tables) p
+        → HaveStatedHeights tables p.degree_bits → HasHashMatrices tables p }
 {
     baby_bear_has_laws();
     opened_claims_bind::<BabyBear, QuarticExtension>();

@@ -20,7 +20,8 @@ fn push_table(
 ) -> Mem<()>
     requires exists { table < length tables.now }
     requires matrices { HasHashMatrices tables.now proof.now }
-    ensures { OnOk result (text.new.items ≡ text.old.items ++ table_lines tables.now proof.now table (slice_index_or tables.now table (Take 0))) }
+    ensures { OnOk result (text.new.items ≡ text.old.items
+        ++ table_lines tables.now proof.now table (slice_index_or tables.now table (Take 0))) }
 {
     match &tables[table] {
         TableStatement::Hash { k } => {

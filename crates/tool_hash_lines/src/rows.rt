@@ -20,7 +20,8 @@ fn push_row(
     row: usize,
 ) -> Mem<()>
     requires { length polynomials.now ≡ 9168 }
-    ensures { OnOk result (text.new.items ≡ text.old.items ++ row_line row (polynomial_cells_at (map (λ f. f.items) polynomials.now) point)) }
+    ensures { OnOk result (text.new.items ≡ text.old.items
+        ++ row_line row (polynomial_cells_at (map (λ f. f.items) polynomials.now) point)) }
 {
     match row_words(alloc, polynomials, point)? {
         Some(words) => push_words(alloc, text, &words),
@@ -50,7 +51,9 @@ pub(crate) fn push_rows(
     requires wide { length polynomials.now ≡ 9168 }
     requires high { k ≤ 27 }
     ensures { OnOk result (text.new.items
-        ≡ text.old.items ++ joined (2 ^ k) (λ row. row_line row (polynomial_cells_at (map (λ f. f.items) polynomials.now) (point baby_bear_ring baby_bear_root (subgroup baby_bear_ring k) row)))) }
+        ≡ text.old.items ++ joined (2 ^ k)
+        (λ row. row_line row (polynomial_cells_at (map (λ f. f.items) polynomials.now)
+        (point baby_bear_ring baby_bear_root (subgroup baby_bear_ring k) row)))) }
 {
     let domain = trace_domain(k);
     for row in 0..domain.size() {

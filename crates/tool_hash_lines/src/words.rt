@@ -12,7 +12,8 @@ use std::alloc::Global;
 // The canonical number of the cell in a column at a point.
 fn cell(polynomials: &[Vec<BabyBear>], point: BabyBear, column: usize) -> u64
     requires { column < length polynomials.now }
-    ensures { result ≡ cell_number (polynomial_cells_at (map (λ f. f.items) polynomials.now) point) column }
+    ensures { result ≡ cell_number (polynomial_cells_at (map (λ f. f.items) polynomials.now) point)
+        column }
 {
     let value: BabyBear = polynomial_value(&polynomials[column], point);
     value.as_canonical_u64()
@@ -22,7 +23,8 @@ fn cell(polynomials: &[Vec<BabyBear>], point: BabyBear, column: usize) -> u64
 fn word(polynomials: &[Vec<BabyBear>], point: BabyBear, column: usize) -> Option<u32>
     requires { column + 32 ≤ length polynomials.now }
     ensures { let cells = polynomial_cells_at (map (λ f. f.items) polynomials.now) point in
-        MatchOption result (HasBitCells cells column → ⊥) (λ w. HasBitCells cells column × (w ≡ word_at cells column)) }
+        MatchOption result (HasBitCells cells column → ⊥)
+        (λ w. HasBitCells cells column × (w ≡ word_at cells column)) }
 {
     let mut number: u64 = 0;
     let mut bit = 32;
@@ -57,7 +59,8 @@ pub(crate) fn row_words(
 ) -> Mem<Option<Vec<u32>>>
     requires { length polynomials.now ≡ 9168 }
     ensures { let cells = polynomial_cells_at (map (λ f. f.items) polynomials.now) point in
-        IfOk result (λ o. MatchOption o (IsReadable cells → ⊥) (λ v. IsReadable cells × (v.items ≡ printed_words cells))) }
+        IfOk result (λ o. MatchOption o (IsReadable cells → ⊥)
+        (λ v. IsReadable cells × (v.items ≡ printed_words cells))) }
 {
     let mut words = Vec::with_capacity(alloc, 44)?;
     for i in 0..44 {

@@ -38,7 +38,8 @@ fn push_taken(tallies: &mut Vec<Tally>, words: &[BabyBear]) -> Mem<()>
 
 // Appends the rows that give these words.
 fn push_given(tallies: &mut Vec<Tally>, words: &[GivenWord]) -> Mem<()>
-    ensures { OnOk result (tallies.new.items ≡ tallies.old.items ++ map given_often (map read_given words.now)) }
+    ensures { OnOk result (tallies.new.items ≡ tallies.old.items
+        ++ map given_often (map read_given words.now)) }
 {
     for given in words {
         tallies.push(Tally {
@@ -52,7 +53,8 @@ fn push_given(tallies: &mut Vec<Tally>, words: &[GivenWord]) -> Mem<()>
 
 // Appends the rows of a table.
 fn push_table(tallies: &mut Vec<Tally>, table: &JobTable) -> Mem<()>
-    ensures { OnOk result (tallies.new.items ≡ tallies.old.items ++ rows_tallied (read_table table.now)) }
+    ensures { OnOk result (tallies.new.items ≡ tallies.old.items
+        ++ rows_tallied (read_table table.now)) }
 {
     match table {
         JobTable::Swap { .. } => Ok(()),
@@ -101,7 +103,9 @@ fn first_unequal(tallies: &[Tally]) -> Option<u64>
 /// None exactly where each word of the job is taken as often as it is given (not in Plonky3); else the least word, by its canonical
 /// number, that isn't. The time is that of sorting the job's words. The only error is running out of memory.
 pub fn first_unbalanced(alloc: Global, job: &[JobTable]) -> Mem<Option<BabyBear>>
-    ensures { IfOk result (λ o. MatchOption o (IsBalancedJob same_word (read_tables job.now)) (IsFirstUnbalanced (read_tables job.now))) }
+    ensures { IfOk result (λ o.
+        MatchOption o (IsBalancedJob same_word (read_tables job.now))
+        (IsFirstUnbalanced (read_tables job.now))) }
 {
     let mut tallies = tallies_of(alloc, job)?;
     tallies.sort_unstable_by_key(|tally| tally.number);

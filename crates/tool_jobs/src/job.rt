@@ -31,9 +31,12 @@ pub fn statements_of(alloc: Global, job: &[JobTable]) -> Mem<Vec<TableStatement>
     requires { All IsJobTableWithin (read_tables job.now) }
     ensures stated { IfOk result (λ v. v.items ≡ statements_for (read_tables job.now)) }
     ensures within { IfOk result (λ v. All TableWithin v.items) }
-    ensures heights { IfOk result (λ v. log_heights_of v.items ≡ map rows_log_of (read_tables job.now)) }
-    ensures publics { IfOk result (λ v. publics_lists v.items ≡ map table_publics (read_tables job.now)) }
-    ensures sources { IfOk result (λ v. sources_of v.items ≡ map (source_of_job baby_bear_ring) (read_tables job.now)) }
+    ensures heights { IfOk result
+        (λ v. log_heights_of v.items ≡ map rows_log_of (read_tables job.now)) }
+    ensures publics { IfOk result
+        (λ v. publics_lists v.items ≡ map table_publics (read_tables job.now)) }
+    ensures sources { IfOk result
+        (λ v. sources_of v.items ≡ map (source_of_job baby_bear_ring) (read_tables job.now)) }
 {
     all_statements(alloc, job)
 }

@@ -10,5 +10,6 @@ ghost use Rattle.tool_tables.specs.declared.tool.ToolAir.{ToolAir};
 /// `tool_statement` makes for the statements of [`statements_of`](crate::statements_of).
 pub fn airs_are_the_jobs<F>()
     ensures { (r : Ring F) (job : List (JobTable F)) (airs : List (ToolAir F))
-        → map (source_of (tool_declaration r) (tool_trees r) (tool_interactions r)) airs ≡ map (source_of_job r) job → AreAirsOf r job airs }
+        → map (source_of (tool_declaration r) (tool_trees r) (tool_interactions r)) airs
+        ≡ map (source_of_job r) job → AreAirsOf r job airs }
 {}

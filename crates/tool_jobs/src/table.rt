@@ -86,7 +86,8 @@ impl JobTable {
         ensures within { TableWithin result }
         ensures height { log_height_of result ≡ rows_log_of (read_table self.now) }
         ensures publics { publics_of result ≡ table_publics (read_table self.now) }
-        ensures source { source_of_table result ≡ source_of_job baby_bear_ring (read_table self.now) }
+        ensures source { source_of_table result
+            ≡ source_of_job baby_bear_ring (read_table self.now) }
     {
         match self {
             JobTable::Swap { k, a, b } => TableStatement::Swap {

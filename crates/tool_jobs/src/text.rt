@@ -164,7 +164,8 @@ fn read_hash(alloc: Global, reader: &mut Reader) -> Result<JobTable, ItemError>
 fn read_kind(alloc: Global, reader: &mut Reader, kind: u32) -> Result<JobTable, ItemError>
     requires least { 1 ≤ kind }
     requires most { kind ≤ 5 }
-    ensures value { ReadsOne read_table (KindWithin kind) body_numbers reader.old reader.new result }
+    ensures value { ReadsOne read_table (KindWithin kind) body_numbers reader.old reader.new
+        result }
     ensures no_memory { kind ≤ 2 → IfErr result (λ e. e ≡ ItemError.Malformed) }
 {
     if kind == SWAP {
@@ -202,8 +203,11 @@ impl Form for JobTable {
     ghost grammar = { table-grammar };
 
     fn read(alloc: Global, reader: &mut Reader) -> Result<JobTable, ItemError>
-        ensures value { ReadsOne read_table IsJobTableWithin table_numbers reader.old reader.new result }
-        ensures memory { IfErr result (λ e. e ≡ ItemError.OutOfMemory → (n : ℕ) (rest : List ℕ) → reader.old ≡ decimal n ++ 10 ∷ rest → 3 ≤ n) }
+        ensures value { ReadsOne read_table IsJobTableWithin table_numbers reader.old reader.new
+            result }
+        ensures memory { IfErr result
+            (λ e. e ≡ ItemError.OutOfMemory → (n : ℕ) (rest : List ℕ)
+            → reader.old ≡ decimal n ++ 10 ∷ rest → 3 ≤ n) }
     {
         let kind = reader.number(SWAP, HASH)?;
         read_kind(alloc, reader, kind)

@@ -12,7 +12,8 @@ use std::alloc::Global;
 // The number on the next line, if that is a power of two up to `most`. Nothing is read.
 fn next_count(reader: &Reader, most: u32) -> Option<u32>
     requires { 1 ≤ most }
-    ensures { MatchOption result (Stops (IsCount most) one_number reader.now reader.now) (λ n. (rest : List ℕ) × Reads (IsCount most) one_number reader.now rest n) }
+    ensures { MatchOption result (Stops (IsCount most) one_number reader.now reader.now)
+        (λ n. (rest : List ℕ) × Reads (IsCount most) one_number reader.now rest n) }
 {
     let mut ahead = Reader::new(reader.rest());
     match ahead.number(1, most) {
@@ -48,7 +49,8 @@ pub fn read_powers<T: Form>(
     most: u32,
 ) -> Result<Vec<T::Value>, ItemError>
     requires { 1 ≤ most }
-    ensures { ReadsOne (λ v. map T.data_of v.items) (PowersWithin most T.within) (list_numbers T.numbers) reader.old reader.new result }
+    ensures { ReadsOne (λ v. map T.data_of v.items) (PowersWithin most T.within)
+        (list_numbers T.numbers) reader.old reader.new result }
 {
     let count = read_count(reader, most)?;
     read_items::<T>(alloc, reader, count as usize)

@@ -30,7 +30,8 @@ pub fn read_headed<T: Form>(
     head: &[u32],
     count: usize,
 ) -> Result<Vec<T::Value>, ItemError>
-    ensures { ReadsOne (λ v. map T.data_of v.items) (ItemsWithin count T.within) (headed_numbers head.now T.numbers) reader.old reader.new result }
+    ensures { ReadsOne (λ v. map T.data_of v.items) (ItemsWithin count T.within)
+        (headed_numbers head.now T.numbers) reader.old reader.new result }
 {
     read_fixed(reader, head)?;
     read_items::<T>(alloc, reader, count)

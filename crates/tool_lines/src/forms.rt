@@ -36,7 +36,8 @@ pub trait Form {
 
     /// Prints a value's lines. On an error a part of them may stand.
     fn print(value: &Self::Value, out: &mut Vec<u8>) -> Mem<()>
-        ensures { OnOk result (out.new.items ≡ out.old.items ++ line_text (numbers (data_of value.now))) };
+        ensures { OnOk result (out.new.items ≡ out.old.items
+            ++ line_text (numbers (data_of value.now))) };
 
     /// The lines of a value tell the value, and where they end.
     ghost grammar: { Grammar within numbers };
@@ -131,7 +132,8 @@ impl Form for WordLine {
     ghost grammar = { word-grammar };
 
     fn read(_alloc: Global, reader: &mut Reader) -> Result<u32, ItemError>
-        ensures value { ReadsOne (λ n. n) (Between 0 4294967295) one_number reader.old reader.new result }
+        ensures value { ReadsOne (λ n. n) (Between 0 4294967295) one_number reader.old reader.new
+            result }
         ensures no_memory { IfErr result (λ e. e ≡ ItemError.Malformed) }
     {
         reader.number(0, u32::MAX)

@@ -17,7 +17,8 @@ pub fn read_items<T: Form>(
     reader: &mut Reader,
     count: usize,
 ) -> Result<Vec<T::Value>, ItemError>
-    ensures { ReadsOne (λ v. map T.data_of v.items) (ItemsWithin count T.within) (items_numbers T.numbers) reader.old reader.new result }
+    ensures { ReadsOne (λ v. map T.data_of v.items) (ItemsWithin count T.within)
+        (items_numbers T.numbers) reader.old reader.new result }
 {
     let mut items = Vec::new(alloc);
     for _ in 0..count {
@@ -28,7 +29,8 @@ pub fn read_items<T: Form>(
 
 /// Prints values, one after the other. On an error a part of them may stand.
 pub fn print_items<T: Form>(items: &[T::Value], out: &mut Vec<u8>) -> Mem<()>
-    ensures { OnOk result (out.new.items ≡ out.old.items ++ line_text (items_numbers T.numbers (map T.data_of items.now))) }
+    ensures { OnOk result (out.new.items ≡ out.old.items
+        ++ line_text (items_numbers T.numbers (map T.data_of items.now))) }
 {
     for item in items {
         T::print(item, out)?;
@@ -46,7 +48,8 @@ pub fn read_list<T: Form>(
     most: u32,
 ) -> Result<Vec<T::Value>, ItemError>
     requires { least ≤ most }
-    ensures { ReadsOne (λ v. map T.data_of v.items) (ListWithin least most T.within) (list_numbers T.numbers) reader.old reader.new result }
+    ensures { ReadsOne (λ v. map T.data_of v.items) (ListWithin least most T.within)
+        (list_numbers T.numbers) reader.old reader.new result }
 {
     let count = reader.number(least, most)?;
     read_items::<T>(alloc, reader, count as usize)
@@ -54,7 +57,8 @@ pub fn read_list<T: Form>(
 
 /// Prints a list: the line of its count, and the values. On an error a part of them may stand.
 pub fn print_list<T: Form>(items: &[T::Value], out: &mut Vec<u8>) -> Mem<()>
-    ensures { OnOk result (out.new.items ≡ out.old.items ++ line_text (list_numbers T.numbers (map T.data_of items.now))) }
+    ensures { OnOk result (out.new.items ≡ out.old.items
+        ++ line_text (list_numbers T.numbers (map T.data_of items.now))) }
 {
     push_number(out, items.len() as u64)?;
     print_items::<T>(items, out)

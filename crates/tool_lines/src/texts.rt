@@ -95,7 +95,8 @@ fn is_leading_zero(count: usize, value: u64) -> bool
 fn first_number(bytes: &[u8], most: u32) -> Option<(u32, usize)>
     ensures { MatchOption result
         ((n : ℕ) (rest : List ℕ) → n ≤ most → bytes.now ≢ decimal n ++ 10 ∷ rest)
-        (λ p. (p.0 ≤ most) × (p.1 ≤ length bytes.now) × (bytes.now ≡ decimal p.0 ++ 10 ∷ drop p.1 bytes.now)) }
+        (λ p. (p.0 ≤ most) × (p.1 ≤ length bytes.now)
+        × (bytes.now ≡ decimal p.0 ++ 10 ∷ drop p.1 bytes.now)) }
 {
     let mut value: u64 = 0;
     for (i, byte) in bytes.iter().enumerate() {

@@ -15,13 +15,16 @@ pub fn one_text()
 
 /// Bytes have, from a place on, at most one line of fault.
 pub fn one_fault()
-    ensures { (bytes : List ℕ) (from line other : ℕ) → IsFaultLineFrom ProofWithin proof_numbers bytes from line
+    ensures { (bytes : List ℕ) (from line other : ℕ)
+        → IsFaultLineFrom ProofWithin proof_numbers bytes from line
         → IsFaultLineFrom ProofWithin proof_numbers bytes from other → line ≡ other }
 {}
 
 /// The text of a proof within the limits, after any bytes, is read as this proof, unless memory runs out.
 pub fn read_back()
-    ensures { (proof : ToolProofData) (front : List ℕ) (read : Result ToolProofData TextError) → ProofWithin proof
-        → ReadsTextFrom (λ p. p) ProofWithin proof_numbers (front ++ line_text (proof_numbers proof)) (length front) read
+    ensures { (proof : ToolProofData) (front : List ℕ) (read : Result ToolProofData TextError)
+        → ProofWithin proof
+        → ReadsTextFrom (λ p. p) ProofWithin proof_numbers
+        (front ++ line_text (proof_numbers proof)) (length front) read
         → MatchResult read (λ p. p ≡ proof) (λ e. e ≡ OutOfMemory) }
 {}

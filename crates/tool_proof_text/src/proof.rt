@@ -55,7 +55,8 @@ impl Form for TerminalText {
         alloc: Global,
         reader: &mut Reader,
     ) -> Result<LookupTerminal<QuarticExtension>, ItemError>
-        ensures value { ReadsOne (λ t. t.0) Unlimited extension_numbers reader.old reader.new result }
+        ensures value { ReadsOne (λ t. t.0) Unlimited extension_numbers reader.old reader.new
+            result }
         ensures no_memory { IfErr result (λ e. e ≡ ItemError.Malformed) }
     {
         let value = QuarticExtension::read(alloc, reader)?;
@@ -152,7 +153,8 @@ impl Form for ProofText {
 
 /// Prints the tables' opened values. On an error a part of them may stand.
 fn print_instances(values: &BatchOpenedValues<QuarticExtension>, out: &mut Vec<u8>) -> Mem<()>
-    ensures { OnOk result (out.new.items ≡ out.old.items ++ line_text (list_numbers instance_numbers values.now)) }
+    ensures { OnOk result (out.new.items ≡ out.old.items
+        ++ line_text (list_numbers instance_numbers values.now)) }
 {
     InstancesText::print(&values.instances, out)?;
     Ok(())

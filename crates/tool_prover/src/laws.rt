@@ -27,7 +27,9 @@ use p3_field::{
 
 /// A version and a job have at most one answer: one status, and one text.
 pub fn there_is_one_answer()
-    ensures { (version : TranscriptVersion) (job : List (JobTable BabyBear)) (s t : Status) (x y : List ℕ) → IsJobAnswer version job s x → IsJobAnswer version job t y → SameAnswer s t x y }
+    ensures { (version : TranscriptVersion) (job : List (JobTable BabyBear)) (s t : Status)
+        (x y : List ℕ) → IsJobAnswer version job s x → IsJobAnswer version job t y
+        → SameAnswer s t x y }
 {}
 
 /// The plain scheme refuses nothing that a prover of a traced batch asks of it (not in Plonky3), in no phase (`granted`): over any
@@ -35,13 +37,24 @@ pub fn there_is_one_answer()
 /// configuration allows. Where no bus may carry counts that add up to the order of the field, none is refused for that (`bounded`). So
 /// of the refusals of such a batch (`Tells`) two are left: a denominator is zero, or no element passes a grinding.
 pub fn traced_batches_are_granted<S, F: TwoAdicField, E: ExtensionField<F>>()
-    ensures granted { let f : TwoAdic F = record { ring = F.ring; inv = F.inv; root = F.root; generator = F.GENERATOR } in
-        let e : Extension F E = record { ring = E.ring; embed = E.embed; dimension = E.DIMENSION; basis = E.basis; coefficients = E.coefficients; from_coefficients = E.from_coefficients } in
-        (b : Batch S F E (PlainCommitmentData F)) (log_blowup : ℕ) → IsOverFields f e F.TWO_ADICITY b.setting → b.setting.zk ≡ false
+    ensures granted { let f : TwoAdic
+        F = record { ring = F.ring; inv = F.inv; root = F.root; generator = F.GENERATOR } in
+        let e : Extension F E = record {
+          ring = E.ring;
+          embed = E.embed;
+          dimension = E.DIMENSION;
+          basis = E.basis;
+          coefficients = E.coefficients;
+          from_coefficients = E.from_coefficients;
+        } in
+        (b : Batch S F E (PlainCommitmentData F)) (log_blowup : ℕ)
+        → IsOverFields f e F.TWO_ADICITY b.setting → b.setting.zk ≡ false
         → b.setting.log_max + log_blowup ≤ b.setting.two_adicity → IsTracedAll b
-        → (phase : ProverPhase) → NoneOf (PhaseTells (plain_prover_backend (plain_scheme b.setting log_blowup)) b phase) }
+        → (phase : ProverPhase) → NoneOf
+        (PhaseTells (plain_prover_backend (plain_scheme b.setting log_blowup)) b phase) }
     ensures bounded { (b : Batch S F E (PlainCommitmentData F)) (log_blowup : ℕ)
-        → HaveLoadsBelow b.setting.order b.statement.common.lookups (heights_of (masks b.setting) b.degree_bits (table_count b))
+        → HaveLoadsBelow b.setting.order b.statement.common.lookups
+        (heights_of (masks b.setting) b.degree_bits (table_count b))
         → NoneOf (IsOverloaded (plain_prover_backend (plain_scheme b.setting log_blowup)) b) }
 {
     fields_have_laws::<F, E>();

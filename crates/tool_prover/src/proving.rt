@@ -36,7 +36,8 @@ fn instances_of<'a>(
 ) -> Mem<Vec<StarkInstance<'a, ToolConfig, ToolAir<BabyBear>>>>
     requires traces { length traces.now ≡ length airs.now }
     requires public_values { length public_values.now ≡ length airs.now }
-    ensures { IfOk result (λ v. v.items ≡ paired airs.now traces.now (map (λ p. p.items) public_values.now)) }
+    ensures { IfOk result (λ v.
+        v.items ≡ paired airs.now traces.now (map (λ p. p.items) public_values.now)) }
 {
     match TableInstance::new_multiple::<PlainProverError>(alloc, airs, traces, public_values) {
         Ok(instances) => Ok(instances),

@@ -14,7 +14,8 @@ const BAD_INPUT: &[u8] = b"bad input at line ";
 /// What a command answers for bytes that are no text of its grammar (not in Plonky3): `BadInput`, and the line that names the line at fault. Out of
 /// memory wherever the reading was.
 pub fn bad_input(alloc: Global, error: TextError) -> Mem<Answer>
-    ensures malformed { (at : ℕ) → error ≡ Malformed at → IfOk result (λ a. (a.status ≡ Status.BadInput) × (a.text.items ≡ bad_input_text at)) }
+    ensures malformed { (at : ℕ) → error ≡ Malformed at
+        → IfOk result (λ a. (a.status ≡ Status.BadInput) × (a.text.items ≡ bad_input_text at)) }
     ensures memory { error ≡ OutOfMemory → IsErr result }
 {
     match error {

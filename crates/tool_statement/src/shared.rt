@@ -28,7 +28,9 @@ pub type ToolCommon = SharedData<BabyBear, PlainCommitment<BabyBear>>;
 /// The tables' AIRs in order. The only error is running out of memory.
 pub fn airs_of(alloc: Global, tables: &[TableStatement]) -> Mem<Vec<ToolAir<BabyBear>>>
     requires { All TableWithin tables.now }
-    ensures { IfOk result (λ v. map (source_of (tool_declaration baby_bear_ring) (tool_trees baby_bear_ring) (tool_interactions baby_bear_ring)) v.items ≡ sources_of tables.now) }
+    ensures { IfOk result (λ v.
+        map (source_of (tool_declaration baby_bear_ring) (tool_trees baby_bear_ring)
+        (tool_interactions baby_bear_ring)) v.items ≡ sources_of tables.now) }
 {
     let mut airs = Vec::new(alloc);
     for table in tables {
@@ -69,13 +71,20 @@ pub fn prover_data(
 ) -> Mem<ProverData<ToolConfig>>
     requires within { All TableWithin tables.now }
     requires scheme { config.now.pcs ≡ record { log_blowup = 1 } }
-    requires airs { map (source_of (tool_declaration baby_bear_ring) (tool_trees baby_bear_ring) (tool_interactions baby_bear_ring)) airs.now ≡ sources_of tables.now }
+    requires airs { map (source_of (tool_declaration baby_bear_ring) (tool_trees baby_bear_ring)
+        (tool_interactions baby_bear_ring)) airs.now ≡ sources_of tables.now }
     ensures common { IfOk result (λ d. read_common d.common ≡ tool_common tables.now) }
-    ensures formed { IfOk result (λ d. WellFormed (map (tool_declaration baby_bear_ring) airs.now) (read_common d.common)) }
+    ensures formed { IfOk result
+        (λ d. WellFormed (map (tool_declaration baby_bear_ring) airs.now) (read_common d.common)) }
     ensures prover_data { IfOk result
-        (λ d. IsPrepared (λ es p. IsCommitment baby_bear_ring ⟦<TwoAdicMultiplicativeCoset<BabyBear> as PolynomialSpace>⟧.points ⟦<TwoAdicMultiplicativeCoset<BabyBear> as PolynomialSpace>⟧.point_at
-        (λ es c. c ≡ commitment_of tool_scheme es) IsMade (AreHolding tool_scheme) es p) (entries_of tables.now)
-        (preprocessed_traces tables.now) d.common.preprocessed d.prover_only.preprocessed_prover_data) }
+        (λ d. IsPrepared (λ es p.
+        IsCommitment baby_bear_ring
+        ⟦<TwoAdicMultiplicativeCoset<BabyBear> as PolynomialSpace>⟧.points
+        ⟦<TwoAdicMultiplicativeCoset<BabyBear> as PolynomialSpace>⟧.point_at
+        (λ es c. c ≡ commitment_of tool_scheme es) IsMade (AreHolding tool_scheme) es p)
+        (entries_of tables.now)
+        (preprocessed_traces tables.now) d.common.preprocessed
+        d.prover_only.preprocessed_prover_data) }
 {
     tables_send_one_width::<BabyBear>();
     let bits = log_heights(alloc, tables)?;
@@ -99,9 +108,11 @@ pub fn shared_data(
 ) -> Mem<ToolCommon>
     requires within { All TableWithin tables.now }
     requires scheme { config.now.pcs ≡ record { log_blowup = 1 } }
-    requires airs { map (source_of (tool_declaration baby_bear_ring) (tool_trees baby_bear_ring) (tool_interactions baby_bear_ring)) airs.now ≡ sources_of tables.now }
+    requires airs { map (source_of (tool_declaration baby_bear_ring) (tool_trees baby_bear_ring)
+        (tool_interactions baby_bear_ring)) airs.now ≡ sources_of tables.now }
     ensures common { IfOk result (λ c. read_common c ≡ tool_common tables.now) }
-    ensures formed { IfOk result (λ c. WellFormed (map (tool_declaration baby_bear_ring) airs.now) (read_common c)) }
+    ensures formed { IfOk result
+        (λ c. WellFormed (map (tool_declaration baby_bear_ring) airs.now) (read_common c)) }
 {
     let data = prover_data(alloc, config, tables, airs)?;
     Ok(data.common)

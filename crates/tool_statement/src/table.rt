@@ -65,7 +65,9 @@ impl TableStatement {
     /// The table's AIR. The only error is running out of memory, which only a wheel's may (`sure`).
     pub fn air(&self, alloc: Global) -> Mem<ToolAir<BabyBear>>
         requires { TableWithin self.now }
-        ensures source { IfOk result (λ a. source_of (tool_declaration baby_bear_ring) (tool_trees baby_bear_ring) (tool_interactions baby_bear_ring) a ≡ source_of_table self.now) }
+        ensures source { IfOk result
+            (λ a. source_of (tool_declaration baby_bear_ring) (tool_trees baby_bear_ring)
+            (tool_interactions baby_bear_ring) a ≡ source_of_table self.now) }
         ensures sure { ((k : ℕ) → self.now ≡ TableStatement.Wheel k → ⊥) → IsOk result }
     {
         match self {

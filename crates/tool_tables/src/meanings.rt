@@ -10,5 +10,6 @@ use p3_field::{Field, FieldCore, RingCore};
 
 /// What such tables send on one bus has one width, whatever tables a batch has.
 pub fn tables_send_one_width<F: Field>()
-    ensures { (airs : List (ToolAir F)) → HaveOneWidth (flat_map (λ a. lookups_of (tool_interactions F.ring a)) airs) }
+    ensures { (airs : List (ToolAir F))
+        → HaveOneWidth (flat_map (λ a. lookups_of (tool_interactions F.ring a)) airs) }
 {}

@@ -108,7 +108,8 @@ fn transcript_name(error: &BatchTranscriptFailure) -> &'static [u8]
 
 /// The name of a refusal; None exactly where it is no refusal, but out of memory.
 pub fn fault_name(error: &BatchVerificationError<PlainError>) -> Option<&'static [u8]>
-    ensures { MatchOption result (error.now ≡ BatchVerificationError.OutOfMemory) (λ n. (error.now ≢ BatchVerificationError.OutOfMemory) × (n.now ≡ fault_name error.now)) }
+    ensures { MatchOption result (error.now ≡ BatchVerificationError.OutOfMemory)
+        (λ n. (error.now ≢ BatchVerificationError.OutOfMemory) × (n.now ≡ fault_name error.now)) }
 {
     match error {
         BatchVerificationError::Verification(e) => Some(verification_name(e)),

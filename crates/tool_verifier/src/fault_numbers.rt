@@ -109,7 +109,8 @@ fn push_shape(out: &mut Vec<u8>, error: &InvalidProofShapeError) -> Mem<()>
 
 // A table's number where it is known, a bound, and what was found.
 fn push_between(out: &mut Vec<u8>, air: Option<usize>, bound: usize, got: usize) -> Mem<()>
-    ensures { OnOk result (out.new.items ≡ out.old.items ++ spaced (known air ++ bound ∷ got ∷ [])) }
+    ensures { OnOk result (out.new.items ≡ out.old.items
+        ++ spaced (known air ++ bound ∷ got ∷ [])) }
 {
     push_known(out, air)?;
     push_spaced(out, &[bound, got])
@@ -117,7 +118,8 @@ fn push_between(out: &mut Vec<u8>, air: Option<usize>, bound: usize, got: usize)
 
 // The numbers of a refusal of the tables' checks.
 fn push_verification(out: &mut Vec<u8>, error: &VerificationError<PlainError>) -> Mem<()>
-    ensures { OnOk result (out.new.items ≡ out.old.items ++ spaced (verification_numbers error.now)) }
+    ensures { OnOk result (out.new.items ≡ out.old.items
+        ++ spaced (verification_numbers error.now)) }
 {
     match error {
         VerificationError::InvalidProofShape(e) => push_shape(out, e),

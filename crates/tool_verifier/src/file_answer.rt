@@ -14,7 +14,9 @@ use tool_proof_files::ProofFile;
 /// only error is running out of memory.
 pub fn answer_verify(alloc: Global, file: &ProofFile) -> Mem<Answer>
     requires { FileWithin file.now }
-    ensures { IfOk result (λ a. IsFileAnswer (version_of file.now.version) file.now.tables file.now.proof a.status a.text.items) }
+    ensures { IfOk result (λ a.
+        IsFileAnswer (version_of file.now.version) file.now.tables file.now.proof a.status
+        a.text.items) }
 {
     answer_tables(alloc, file.transcript_version(), &file.tables, &file.proof)
 }

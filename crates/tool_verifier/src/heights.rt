@@ -8,7 +8,8 @@ use tool_statement::TableStatement;
 /// The number of the first table, below both lengths, whose degree bits aren't the logarithm of its stated height, or None where there is
 /// none.
 pub fn first_mismatch(tables: &[TableStatement], degree_bits: &[usize]) -> Option<usize>
-    ensures { FirstFailing (min (length tables.now) (length degree_bits.now)) (HasStatedHeight tables.now degree_bits.now) result }
+    ensures { FirstFailing (min (length tables.now) (length degree_bits.now))
+        (HasStatedHeight tables.now degree_bits.now) result }
 {
     let count = tables.len().min(degree_bits.len());
     for i in 0..count {

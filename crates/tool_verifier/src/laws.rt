@@ -13,7 +13,9 @@ use verifier_batch::meanings::there_is_one_verdict;
 
 /// The version, the tables and the proof of a file have at most one answer: one status, and one text.
 pub fn there_is_one_answer()
-    ensures { (version : TranscriptVersion) (tables : List TableStatement) (p : ToolProofData) (s t : Status) (x y : List ℕ) → IsFileAnswer version tables p s x → IsFileAnswer version tables p t y → SameAnswer s t x y }
+    ensures { (version : TranscriptVersion) (tables : List TableStatement) (p : ToolProofData)
+        (s t : Status) (x y : List ℕ) → IsFileAnswer version tables p s x
+        → IsFileAnswer version tables p t y → SameAnswer s t x y }
 {
     let _first = tool_config(TranscriptVersion::V1);
     let _second = tool_config(TranscriptVersion::V2);

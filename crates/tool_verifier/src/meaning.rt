@@ -22,14 +22,19 @@ use tool_statement::TableStatement;
 /// stated heights each row of a hash table is printed as a compression (`hashes`). Few challenges are unlucky for the committed tables (`few`). With the
 /// stated heights the matrices of hash tables are as large as is stated (`matrices`).
 pub fn accepted_means(version: TranscriptVersion, tables: &[TableStatement], proof: &ToolProof)
-    requires formed { WellFormed (map (λ t. t.declaration) (map air_table_of tables.now)) (tool_common tables.now) }
-    requires accepted { Accepted (tool_setting version) tool_backend (tool_statement tables.now) proof.now }
-    ensures holds { HoldUnlessUnlucky (tool_setting version) 1 (tool_statement tables.now) proof.now }
+    requires formed { WellFormed (map (λ t. t.declaration) (map air_table_of tables.now))
+        (tool_common tables.now) }
+    requires accepted { Accepted (tool_setting version) tool_backend (tool_statement tables.now)
+        proof.now }
+    ensures holds { HoldUnlessUnlucky (tool_setting version) 1 (tool_statement tables.now)
+        proof.now }
     ensures balance { TablesBalance version tables.now proof.now }
     ensures swaps { SwapsEnd version tables.now proof.now }
-    ensures hashes { HaveStatedHeights tables.now proof.now.degree_bits → PrintCompressions version tables.now proof.now }
+    ensures hashes { HaveStatedHeights tables.now proof.now.degree_bits
+        → PrintCompressions version tables.now proof.now }
     ensures few { FewAreUnlucky version tables.now proof.now }
-    ensures matrices { HaveStatedHeights tables.now proof.now.degree_bits → HasHashMatrices tables.now proof.now }
+    ensures matrices { HaveStatedHeights tables.now proof.now.degree_bits
+        → HasHashMatrices tables.now proof.now }
 {
     baby_bear_has_laws();
     opened_claims_bind::<BabyBear, QuarticExtension>();

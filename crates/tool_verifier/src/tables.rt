@@ -36,13 +36,19 @@ pub fn verify_tables(
     proof: &ToolProof,
 ) -> Result<(), BatchVerificationError<PlainError>>
     requires { All TableWithin tables.now }
-    ensures verdict { IsVerdict (checks (tool_setting version) tool_backend (tool_statement tables.now) proof.now) result }
-    ensures holds { IfOk result (λ _. HoldUnlessUnlucky (tool_setting version) 1 (tool_statement tables.now) proof.now) }
+    ensures verdict { IsVerdict
+        (checks (tool_setting version) tool_backend (tool_statement tables.now) proof.now) result }
+    ensures holds { IfOk result
+        (λ _. HoldUnlessUnlucky (tool_setting version) 1 (tool_statement tables.now) proof.now) }
     ensures balance { IfOk result (λ _. TablesBalance version tables.now proof.now) }
     ensures swaps { IfOk result (λ _. SwapsEnd version tables.now proof.now) }
-    ensures hashes { IfOk result (λ _. HaveStatedHeights tables.now proof.now.degree_bits → PrintCompressions version tables.now proof.now) }
+    ensures hashes { IfOk result
+        (λ _. HaveStatedHeights tables.now proof.now.degree_bits
+        → PrintCompressions version tables.now proof.now) }
     ensures few { IfOk result (λ _. FewAreUnlucky version tables.now proof.now) }
-    ensures matrices { IfOk result (λ _. HaveStatedHeights tables.now proof.now.degree_bits → HasHashMatrices tables.now proof.now) }
+    ensures matrices { IfOk result
+        (λ _. HaveStatedHeights tables.now proof.now.degree_bits
+        → HasHashMatrices tables.now proof.now) }
 {
     let config = tool_config(version);
     let airs = airs_of(alloc, tables)?;

@@ -29,7 +29,8 @@ pub fn opened_claims<SC: StarkGenericConfig>(
     challenger: Challenger<SC>,
     preprocessed: Option<usize>,
 ) -> Result<(), BatchVerificationError<PcsError<SC>>>
-    ensures { IsVerdict (opens_check (⟦<SC as Settings>⟧.backend config.now) challenger claims.items proof.now) result }
+    ensures { IsVerdict (opens_check (⟦<SC as Settings>⟧.backend config.now) challenger claims.items
+        proof.now) result }
 {
     let mut challenger = challenger;
     match config

@@ -29,7 +29,8 @@ use verifier_claims::{OpeningArgumentWithQuotientDomains, commitments_with_openi
 
 // How many preprocessed columns each table has.
 fn widths_of<F: FieldCore, A: BaseAir<F>>(alloc: Global, airs: &[A]) -> Mem<Vec<usize>>
-    ensures { IfOk result (λ v. v.items ≡ map (λ a. width_of (A.declaration a).preprocessed) airs.now) }
+    ensures { IfOk result (λ v.
+        v.items ≡ map (λ a. width_of (A.declaration a).preprocessed) airs.now) }
 {
     airs.iter()
         .map(|air| air.preprocessed_width())
@@ -83,19 +84,27 @@ pub fn proof_claims<SC: StarkGenericConfig, A: Air<Val<SC>>>(
     zeta: Challenge<SC>,
 ) -> Result<OpeningArgumentWithQuotientDomains<SC>, BatchVerificationError<PcsError<SC>>>
     requires formed { WellFormed (map A.declaration airs.now) (read_common common.now) }
-    requires shape { let statement = stated A.declaration A.trees airs.now public_values.now common.now in
-        NoneFails (shape_checks {R = SC.Pcs.Error} SC.Val.ring (shape_bounds_of (⟦<SC as Settings>⟧.setting config.now)) statement proof.now) }
-    requires chunks { let statement = stated A.declaration A.trees airs.now public_values.now common.now in
-        chunks.now ≡ tabulate (length airs.now) (log_chunks_of_table (⟦<SC as Settings>⟧.setting config.now) statement proof.now) }
-    ensures verdict { let statement = stated A.declaration A.trees airs.now public_values.now common.now in
-        IsVerdict (claim_checks (⟦<SC as Settings>⟧.setting config.now) statement proof.now) result }
+    requires shape { let statement = stated A.declaration A.trees airs.now public_values.now
+        common.now in
+        NoneFails (shape_checks {R = SC.Pcs.Error} SC.Val.ring
+        (shape_bounds_of (⟦<SC as Settings>⟧.setting config.now)) statement proof.now) }
+    requires chunks { let statement = stated A.declaration A.trees airs.now public_values.now
+        common.now in
+        chunks.now ≡ tabulate (length airs.now)
+        (log_chunks_of_table (⟦<SC as Settings>⟧.setting config.now) statement proof.now) }
+    ensures verdict { let statement = stated A.declaration A.trees airs.now public_values.now
+        common.now in
+        IsVerdict (claim_checks (⟦<SC as Settings>⟧.setting config.now) statement proof.now)
+        result }
     ensures claims { let setting = ⟦<SC as Settings>⟧.setting config.now in
         let statement = stated A.declaration A.trees airs.now public_values.now common.now in
         IfOk result (λ w. w.0.items ≡ claims setting (claimed setting statement proof.now) zeta) }
     ensures domains { let setting = ⟦<SC as Settings>⟧.setting config.now in
         let statement = stated A.declaration A.trees airs.now public_values.now common.now in
         IfOk result (λ w. map (λ d. d.items) w.1.items
-        ≡ tabulate (length airs.now) (λ i. chunk_domains setting (bits_at proof.now.degree_bits i) (log_chunks_of_table setting statement proof.now i))) }
+        ≡ tabulate (length airs.now)
+        (λ i. chunk_domains setting (bits_at proof.now.degree_bits i)
+        (log_chunks_of_table setting statement proof.now i))) }
 {
     let widths = widths_of(alloc, airs)?;
     commitments_with_opening_points(
@@ -133,15 +142,24 @@ pub fn check_openings<SC: StarkGenericConfig, A: Air<Val<SC>>>(
     challenger: Challenger<SC>,
 ) -> Result<Vec<Vec<Domain<SC>>>, BatchVerificationError<PcsError<SC>>>
     requires formed { WellFormed (map A.declaration airs.now) (read_common common.now) }
-    requires shape { let statement = stated A.declaration A.trees airs.now public_values.now common.now in
-        NoneFails (shape_checks {R = SC.Pcs.Error} SC.Val.ring (shape_bounds_of (⟦<SC as Settings>⟧.setting config.now)) statement proof.now) }
-    requires chunks { let statement = stated A.declaration A.trees airs.now public_values.now common.now in
-        chunks.now ≡ tabulate (length airs.now) (log_chunks_of_table (⟦<SC as Settings>⟧.setting config.now) statement proof.now) }
-    ensures verdict { let statement = stated A.declaration A.trees airs.now public_values.now common.now in
-        IsVerdict (opening_checks (⟦<SC as Settings>⟧.setting config.now) (⟦<SC as Settings>⟧.backend config.now) statement proof.now zeta challenger) result }
+    requires shape { let statement = stated A.declaration A.trees airs.now public_values.now
+        common.now in
+        NoneFails (shape_checks {R = SC.Pcs.Error} SC.Val.ring
+        (shape_bounds_of (⟦<SC as Settings>⟧.setting config.now)) statement proof.now) }
+    requires chunks { let statement = stated A.declaration A.trees airs.now public_values.now
+        common.now in
+        chunks.now ≡ tabulate (length airs.now)
+        (log_chunks_of_table (⟦<SC as Settings>⟧.setting config.now) statement proof.now) }
+    ensures verdict { let statement = stated A.declaration A.trees airs.now public_values.now
+        common.now in
+        IsVerdict (opening_checks (⟦<SC as Settings>⟧.setting config.now)
+        (⟦<SC as Settings>⟧.backend config.now) statement proof.now zeta challenger) result }
     ensures domains { let setting = ⟦<SC as Settings>⟧.setting config.now in
         let statement = stated A.declaration A.trees airs.now public_values.now common.now in
-        IfOk result (λ v. map (λ d. d.items) v.items ≡ tabulate (length airs.now) (λ i. chunk_domains setting (bits_at proof.now.degree_bits i) (log_chunks_of_table setting statement proof.now i))) }
+        IfOk result (λ v. map (λ d. d.items) v.items
+        ≡ tabulate (length airs.now)
+        (λ i. chunk_domains setting (bits_at proof.now.degree_bits i)
+        (log_chunks_of_table setting statement proof.now i))) }
 {
     let (claims, domains, place) = proof_claims(
         alloc,

@@ -28,7 +28,8 @@ use verifier_shape::{ShapeBounds, check_shape};
 
 /// The numbers of a configuration that a proof's shape depends on (not in Plonky3).
 pub fn shape_bounds<SC: StarkGenericConfig>(config: &SC) -> ShapeBounds
-    ensures bounds { bounds_with SC.Val.ORDER_U64 result ≡ shape_bounds_of (⟦<SC as Settings>⟧.setting config.now) }
+    ensures bounds { bounds_with SC.Val.ORDER_U64 result
+        ≡ shape_bounds_of (⟦<SC as Settings>⟧.setting config.now) }
     ensures zk { result.zk ≡ SC.Pcs.ZK }
     ensures masks { result.masks ≡ masks_of (⟦<SC as Settings>⟧.setting config.now) }
     ensures dimension { result.dimension ≡ SC.Challenge.DIMENSION }
@@ -57,12 +58,16 @@ pub(crate) fn check_batch_shape<SC: StarkGenericConfig, A: Air<Val<SC>>>(
     common: &CommonData<SC>,
 ) -> Result<Vec<usize>, BatchVerificationError<PcsError<SC>>>
     requires { WellFormed (map A.declaration airs.now) (read_common common.now) }
-    ensures verdict { IsVerdict (shape_checks SC.Val.ring (shape_bounds_of (⟦<SC as Settings>⟧.setting config.now))
+    ensures verdict { IsVerdict
+        (shape_checks SC.Val.ring (shape_bounds_of (⟦<SC as Settings>⟧.setting config.now))
         (stated A.declaration A.trees airs.now public_values.now common.now) proof.now) result }
     ensures chunks { let s = stated A.declaration A.trees airs.now public_values.now common.now in
-        IfOk result (λ v. v.items ≡ tabulate (length airs.now) (log_chunks_of_table (⟦<SC as Settings>⟧.setting config.now) s proof.now)) }
+        IfOk result (λ v. v.items
+        ≡ tabulate (length airs.now)
+        (log_chunks_of_table (⟦<SC as Settings>⟧.setting config.now) s proof.now)) }
     ensures memory { IfErr result (λ e. e ≡ BatchVerificationError.OutOfMemory
-        → NoneFails (count_checks {R = SC.Pcs.Error} SC.Pcs.ZK (stated A.declaration A.trees airs.now public_values.now common.now) proof.now)) }
+        → NoneFails (count_checks {R = SC.Pcs.Error} SC.Pcs.ZK
+        (stated A.declaration A.trees airs.now public_values.now common.now) proof.now)) }
 {
     check_shape(
         alloc,
@@ -83,18 +88,25 @@ pub(crate) fn check_batch_draws<SC: StarkGenericConfig, A: Air<Val<SC>>>(
     public_values: &[Vec<Val<SC>>],
     common: &CommonData<SC>,
 ) -> Result<Drawn<Challenge<SC>, Challenger<SC>>, BatchVerificationError<PcsError<SC>>>
-    requires { NoneFails (shape_checks {R = SC.Pcs.Error} SC.Val.ring (shape_bounds_of (⟦<SC as Settings>⟧.setting config.now))
+    requires { NoneFails (shape_checks {R = SC.Pcs.Error} SC.Val.ring
+        (shape_bounds_of (⟦<SC as Settings>⟧.setting config.now))
         (stated A.declaration A.trees airs.now public_values.now common.now) proof.now) }
     ensures verdict { IsVerdict (draw_part (⟦<SC as Settings>⟧.setting config.now)
         (stated A.declaration A.trees airs.now public_values.now common.now) proof.now) result }
-    ensures challenges { let s = stated A.declaration A.trees airs.now public_values.now common.now in
-        IfOk result (λ d. map (λ v. v.items) d.challenges.items ≡ tabulate (length airs.now) (table_challenges_of (⟦<SC as Settings>⟧.setting config.now) s proof.now)) }
+    ensures challenges { let s = stated A.declaration A.trees airs.now public_values.now
+        common.now in
+        IfOk result (λ d. map (λ v. v.items) d.challenges.items
+        ≡ tabulate (length airs.now)
+        (table_challenges_of (⟦<SC as Settings>⟧.setting config.now) s proof.now)) }
     ensures alpha { IfOk result (λ d. d.alpha
-        ≡ (drawn_of (⟦<SC as Settings>⟧.setting config.now) (stated A.declaration A.trees airs.now public_values.now common.now) proof.now).alpha) }
+        ≡ (drawn_of (⟦<SC as Settings>⟧.setting config.now)
+        (stated A.declaration A.trees airs.now public_values.now common.now) proof.now).alpha) }
     ensures zeta { IfOk result (λ d. d.zeta
-        ≡ (drawn_of (⟦<SC as Settings>⟧.setting config.now) (stated A.declaration A.trees airs.now public_values.now common.now) proof.now).zeta) }
+        ≡ (drawn_of (⟦<SC as Settings>⟧.setting config.now)
+        (stated A.declaration A.trees airs.now public_values.now common.now) proof.now).zeta) }
     ensures state { IfOk result (λ d. d.challenger
-        ≡ (drawn_of (⟦<SC as Settings>⟧.setting config.now) (stated A.declaration A.trees airs.now public_values.now common.now) proof.now).opening) }
+        ≡ (drawn_of (⟦<SC as Settings>⟧.setting config.now)
+        (stated A.declaration A.trees airs.now public_values.now common.now) proof.now).opening) }
 {
     check_draws(
         alloc,
@@ -124,18 +136,30 @@ pub(crate) fn check_batch_identities<SC: StarkGenericConfig, A: Air<Val<SC>>>(
     zeta: Challenge<SC>,
 ) -> Result<(), BatchVerificationError<PcsError<SC>>>
     requires formed { WellFormed (map A.declaration airs.now) (read_common common.now) }
-    requires shape { NoneFails (shape_checks {R = SC.Pcs.Error} SC.Val.ring (shape_bounds_of (⟦<SC as Settings>⟧.setting config.now))
+    requires shape { NoneFails
+        (shape_checks {R = SC.Pcs.Error} SC.Val.ring
+        (shape_bounds_of (⟦<SC as Settings>⟧.setting config.now))
         (stated A.declaration A.trees airs.now public_values.now common.now) proof.now) }
-    requires challenges { let s = stated A.declaration A.trees airs.now public_values.now common.now in
-        map (λ v. v.items) challenges.now ≡ tabulate (length airs.now) (table_challenges_of (⟦<SC as Settings>⟧.setting config.now) s proof.now) }
+    requires challenges { let s = stated A.declaration A.trees airs.now public_values.now
+        common.now in
+        map (λ v. v.items) challenges.now
+        ≡ tabulate (length airs.now)
+        (table_challenges_of (⟦<SC as Settings>⟧.setting config.now) s proof.now) }
     requires domains { let c = ⟦<SC as Settings>⟧.setting config.now in
         let s = stated A.declaration A.trees airs.now public_values.now common.now in
-        map (λ v. v.items) domains.now ≡ tabulate (length airs.now) (λ i. chunk_domains c (bits_at proof.now.degree_bits i) (log_chunks_of_table c s proof.now i)) }
+        map (λ v. v.items) domains.now
+        ≡ tabulate (length airs.now)
+        (λ i. chunk_domains c (bits_at proof.now.degree_bits i)
+        (log_chunks_of_table c s proof.now i)) }
     requires fits { let s = stated A.declaration A.trees airs.now public_values.now common.now in
-        (i : ℕ) → i < length airs.now → bits_at proof.now.degree_bits i + log_chunks_of_table (⟦<SC as Settings>⟧.setting config.now) s proof.now i ≤ SC.Val.TWO_ADICITY }
+        (i : ℕ) → i < length airs.now
+        → bits_at proof.now.degree_bits i
+        + log_chunks_of_table (⟦<SC as Settings>⟧.setting config.now) s proof.now i
+        ≤ SC.Val.TWO_ADICITY }
     ensures { let s = stated A.declaration A.trees airs.now public_values.now common.now in
         IsVerdict (in_turn (length airs.now)
-        (identities_at (⟦<SC as Settings>⟧.setting config.now) s proof.now (map (λ v. v.items) challenges.now) (map (λ v. v.items) domains.now) alpha zeta)) result }
+        (identities_at (⟦<SC as Settings>⟧.setting config.now) s proof.now
+        (map (λ v. v.items) challenges.now) (map (λ v. v.items) domains.now) alpha zeta)) result }
 {
     check_identities(
         alloc,

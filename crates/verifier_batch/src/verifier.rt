@@ -60,10 +60,12 @@ pub fn verify_batch<SC: StarkGenericConfig, A: Air<Val<SC>>>(
     common: &CommonData<SC>,
 ) -> Result<(), BatchVerificationError<PcsError<SC>>>
     requires { WellFormed (map A.declaration airs.now) (read_common common.now) }
-    ensures verdict { IsVerdict (checks (⟦<SC as Settings>⟧.setting config.now) (⟦<SC as Settings>⟧.backend config.now)
+    ensures verdict { IsVerdict
+        (checks (⟦<SC as Settings>⟧.setting config.now) (⟦<SC as Settings>⟧.backend config.now)
         (stated A.declaration A.trees airs.now public_values.now common.now) proof.now) result }
     ensures memory { IfErr result (λ e. e ≡ BatchVerificationError.OutOfMemory
-        → NoneFails (count_checks {R = SC.Pcs.Error} SC.Pcs.ZK (stated A.declaration A.trees airs.now public_values.now common.now) proof.now)) }
+        → NoneFails (count_checks {R = SC.Pcs.Error} SC.Pcs.ZK
+        (stated A.declaration A.trees airs.now public_values.now common.now) proof.now)) }
 {
     let chunks = check_batch_shape(alloc, config, airs, proof, public_values, common)?;
     let Drawn {

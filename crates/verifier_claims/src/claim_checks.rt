@@ -32,7 +32,8 @@ fn are_listed<Com>(
     widths: usize,
     chunks: usize,
 ) -> bool
-    ensures { IsTrue result ↔ HaveClaimLengths tables preprocessed.now instances degree_bits widths chunks }
+    ensures { IsTrue result ↔ HaveClaimLengths tables preprocessed.now instances degree_bits widths
+        chunks }
 {
     instances == tables
         && degree_bits == tables
@@ -51,7 +52,8 @@ pub(crate) fn listed<Com, R>(
     widths: usize,
     chunks: usize,
 ) -> Result<(), BatchVerificationError<R>>
-    ensures { IsDecided (listed_check tables preprocessed.now instances degree_bits widths chunks) result }
+    ensures { IsDecided (listed_check tables preprocessed.now instances degree_bits widths chunks)
+        result }
 {
     if !are_listed(tables, preprocessed, instances, degree_bits, widths, chunks) {
         return Err(InvalidProofShapeError::InstanceCountMismatch.into());
@@ -96,7 +98,8 @@ pub(crate) fn all_bits<R>(
     least: usize,
     most: usize,
 ) -> Result<(), BatchVerificationError<R>>
-    ensures { IsDecided (in_turn (length degree_bits.now) (bits_between least most degree_bits.now)) result }
+    ensures { IsDecided (in_turn (length degree_bits.now) (bits_between least most degree_bits.now))
+        result }
 {
     for index in 0..degree_bits.len() {
         bits_at_index(index, degree_bits, least, most)?;
@@ -139,7 +142,8 @@ fn next_at_index<F: FieldCore, A: BaseAir<F>, E, R>(
 ) -> Result<(), BatchVerificationError<R>>
     requires airs { index < length airs.now }
     requires instances { index < length instances.now }
-    ensures { IsDecided (next_opened_check (map A.declaration airs.now) instances.now index) result }
+    ensures { IsDecided (next_opened_check (map A.declaration airs.now) instances.now index)
+        result }
 {
     if declares_next(&airs[index]) && !has_next(&instances[index]) {
         return Err(InvalidProofShapeError::TraceNextMismatch { air: Some(index) }.into());
@@ -153,7 +157,8 @@ pub(crate) fn all_next<F: FieldCore, A: BaseAir<F>, E, R>(
     instances: &[OpenedValuesWithLookups<E>],
 ) -> Result<(), BatchVerificationError<R>>
     requires instances { length instances.now ≡ length airs.now }
-    ensures { IsDecided (in_turn (length airs.now) (next_opened_check (map A.declaration airs.now) instances.now)) result }
+    ensures { IsDecided (in_turn (length airs.now)
+        (next_opened_check (map A.declaration airs.now) instances.now)) result }
 {
     for index in 0..airs.len() {
         next_at_index(index, airs, instances)?;
@@ -188,7 +193,8 @@ pub(crate) fn all_counts<E, R>(
 ) -> Result<(), BatchVerificationError<R>>
     requires instances { length instances.now ≡ length log_chunks.now }
     requires fits { (i : ℕ) → i < length log_chunks.now → get_or log_chunks.now i 0 + masks < 64 }
-    ensures { IsDecided (in_turn (length log_chunks.now) (chunks_counted masks log_chunks.now instances.now)) result }
+    ensures { IsDecided (in_turn (length log_chunks.now)
+        (chunks_counted masks log_chunks.now instances.now)) result }
 {
     for index in 0..log_chunks.len() {
         count_at_index(index, log_chunks, masks, instances)?;
@@ -211,7 +217,8 @@ fn columns_at_index<F: FieldCore, A: BaseAir<F>, E, R>(
     requires bits { index < length degree_bits.now }
     requires widths { index < length widths.now }
     requires instances { index < length instances.now }
-    ensures { IsDecided (columns_fit (map A.declaration airs.now) (get_or entries.now index None) degree_bits.now widths.now instances.now index) result }
+    ensures { IsDecided (columns_fit (map A.declaration airs.now) (get_or entries.now index None)
+        degree_bits.now widths.now instances.now index) result }
 {
     if widths[index] == 0 {
         return Err(InvalidProofShapeError::PreprocessedMetadataMismatch { air: index }.into());
@@ -244,7 +251,8 @@ fn matrix_at_index<F: FieldCore, A: BaseAir<F>, E, R>(
     requires bits { length degree_bits.now ≡ length airs.now }
     requires widths { length widths.now ≡ length airs.now }
     requires instances { length instances.now ≡ length airs.now }
-    ensures { IsDecided (matrix_fits (map A.declaration airs.now) matrices.now entries.now degree_bits.now widths.now instances.now matrix) result }
+    ensures { IsDecided (matrix_fits (map A.declaration airs.now) matrices.now entries.now
+        degree_bits.now widths.now instances.now matrix) result }
 {
     let index = matrices[matrix];
     columns_at_index(index, airs, entries, degree_bits, widths, instances)
@@ -264,7 +272,9 @@ fn matrices_of<F: FieldCore, A: BaseAir<F>, E, R>(
     requires bits { length degree_bits.now ≡ length airs.now }
     requires widths { length widths.now ≡ length airs.now }
     requires instances { length instances.now ≡ length airs.now }
-    ensures { IsDecided (in_turn (length matrices.now) (matrix_fits (map A.declaration airs.now) matrices.now entries.now degree_bits.now widths.now instances.now)) result }
+    ensures { IsDecided (in_turn (length matrices.now)
+        (matrix_fits (map A.declaration airs.now) matrices.now entries.now degree_bits.now
+        widths.now instances.now)) result }
 {
     for matrix in 0..matrices.len() {
         matrix_at_index(
@@ -295,7 +305,8 @@ pub(crate) fn all_matrices<F: FieldCore, A: BaseAir<F>, E, Com, R>(
     requires widths { length widths.now ≡ length airs.now }
     requires instances { length instances.now ≡ length airs.now }
     ensures { IsDecided (in_turn (length (matrix_tables preprocessed.now))
-        (matrix_fits (map A.declaration airs.now) (matrix_tables preprocessed.now) (entries_in preprocessed.now) degree_bits.now widths.now instances.now)) result }
+        (matrix_fits (map A.declaration airs.now) (matrix_tables preprocessed.now)
+        (entries_in preprocessed.now) degree_bits.now widths.now instances.now)) result }
 {
     match preprocessed {
         None => Ok(()),
@@ -333,7 +344,8 @@ fn all_rows<E, R>(
     committed: bool,
     instances: &[OpenedValuesWithLookups<E>],
 ) -> Result<(), BatchVerificationError<R>>
-    ensures { IsDecided (in_turn (length instances.now) (rows_paired committed instances.now)) result }
+    ensures { IsDecided (in_turn (length instances.now) (rows_paired committed instances.now))
+        result }
 {
     for index in 0..instances.len() {
         rows_at_index(index, committed, instances)?;
@@ -363,7 +375,8 @@ pub(crate) fn rows_where<E, Com, R>(
     commitment: &Option<Com>,
     instances: &[OpenedValuesWithLookups<E>],
 ) -> Result<(), BatchVerificationError<R>>
-    ensures { IsDecided (in_turn (length instances.now) (rows_paired (is_there commitment.now) instances.now)) result }
+    ensures { IsDecided (in_turn (length instances.now)
+        (rows_paired (is_there commitment.now) instances.now)) result }
 {
     all_rows(is_committed(commitment), instances)
 }

@@ -40,7 +40,9 @@ fn first_checks<F: FieldCore, A: BaseAir<F>, E, Com, R>(
     least: usize,
     most: usize,
 ) -> Result<(), BatchVerificationError<R>>
-    ensures { IsDecided (first_made least most (claimed_of A.declaration airs.now preprocessed.now commitments.now instances.now degree_bits.now log_chunks.now) widths.now) result }
+    ensures { IsDecided (first_made least most
+        (claimed_of A.declaration airs.now preprocessed.now commitments.now instances.now
+        degree_bits.now log_chunks.now) widths.now) result }
 {
     let tables = airs.len();
     let opened = instances.len();
@@ -67,7 +69,9 @@ fn all_checks<F: TwoAdicField, A: BaseAir<F>, E, Com, R>(
     most: usize,
 ) -> Result<(), BatchVerificationError<R>>
     requires { All (λ i. i < length airs.now) (matrix_tables preprocessed.now) }
-    ensures { IsDecided (made_by masks least most F.TWO_ADICITY (claimed_of A.declaration airs.now preprocessed.now commitments.now instances.now degree_bits.now log_chunks.now) widths.now) result }
+    ensures { IsDecided (made_by masks least most F.TWO_ADICITY
+        (claimed_of A.declaration airs.now preprocessed.now commitments.now instances.now
+        degree_bits.now log_chunks.now) widths.now) result }
 {
     first_checks(
         airs,
@@ -104,11 +108,19 @@ pub(crate) fn made<F: TwoAdicField, A: BaseAir<F>, E, Com, R>(
     requires fits { most ≤ F.TWO_ADICITY }
     requires listed { All (λ i. i < length airs.now) (matrix_tables preprocessed.now) }
     ensures verdict { IsVerdict (made_by masks least most F.TWO_ADICITY
-        (claimed_of A.declaration airs.now preprocessed.now commitments.now instances.now degree_bits.now log_chunks.now) widths.now) result }
+        (claimed_of A.declaration airs.now preprocessed.now commitments.now instances.now
+        degree_bits.now log_chunks.now) widths.now) result }
     ensures memory { IfErr result (λ e. e ≡ BatchVerificationError.OutOfMemory
-        → NoneFails (made_by {R = R} masks least most F.TWO_ADICITY (claimed_of A.declaration airs.now preprocessed.now commitments.now instances.now degree_bits.now log_chunks.now) widths.now)) }
-    ensures domains { IfOk result (λ v. map (λ d. d.items) v.items ≡ tabulate (length airs.now) (chunk_domains_at F.ring F.root F.GENERATOR masks degree_bits.now log_chunks.now)) }
-    ensures sized { IfOk result (λ v. AreSized masks F.TWO_ADICITY (length airs.now) degree_bits.now instances.now (map (λ d. d.items) v.items)) }
+        → NoneFails (made_by {R = R} masks least most F.TWO_ADICITY
+        (claimed_of A.declaration airs.now preprocessed.now commitments.now instances.now
+        degree_bits.now log_chunks.now) widths.now)) }
+    ensures domains { IfOk result
+        (λ v. map (λ d. d.items) v.items
+        ≡ tabulate (length airs.now)
+        (chunk_domains_at F.ring F.root F.GENERATOR masks degree_bits.now log_chunks.now)) }
+    ensures sized { IfOk result
+        (λ v. AreSized masks F.TWO_ADICITY (length airs.now) degree_bits.now instances.now
+        (map (λ d. d.items) v.items)) }
 {
     all_checks::<F, A, E, Com, R>(
         airs,
@@ -137,7 +149,8 @@ where
     D: Drop,
     E: Drop,
     Com: Drop,
-    ensures { IfOk result (λ v. v.items ≡ made.items ++ claims_of_round (Some commitment) matrices.items) }
+    ensures { IfOk result (λ v.
+        v.items ≡ made.items ++ claims_of_round (Some commitment) matrices.items) }
 {
     let mut claims = made;
     claims.push(CommitmentOpening {
@@ -156,8 +169,12 @@ fn random_round<F: TwoAdicField, E: RingCore, Com: Drop>(
     instances: &[OpenedValuesWithLookups<E>],
 ) -> Mem<Vec<CommitmentOpening<E, Com, TwoAdicMultiplicativeCoset<F>>>>
     requires instances { length instances.now ≡ length degree_bits.now }
-    requires fits { (i : ℕ) → i < length degree_bits.now → bits_at degree_bits.now i ≤ F.TWO_ADICITY }
-    ensures { IfOk result (λ v. v.items ≡ claims_of_round commitment (tabulate (length degree_bits.now) (random_claim F.ring zeta degree_bits.now instances.now))) }
+    requires fits { (i : ℕ) → i < length degree_bits.now
+        → bits_at degree_bits.now i ≤ F.TWO_ADICITY }
+    ensures { IfOk result (λ v.
+        v.items ≡ claims_of_round commitment
+        (tabulate (length degree_bits.now)
+        (random_claim F.ring zeta degree_bits.now instances.now))) }
 {
     match commitment {
         None => Ok(Vec::new(alloc)),
@@ -187,7 +204,9 @@ fn with_preprocessed_round<F: TwoAdicField, A: BaseAir<F>, E: ExtensionField<F>,
     requires fits { (i : ℕ) → i < length airs.now → bits_at degree_bits.now i ≤ F.TWO_ADICITY }
     ensures { IfOk result (λ v. v.items
         ≡ made.items ++ claims_of_round commitment
-        (tabulate (length matrices.now) (preprocessed_matrix_claim F.ring zeta (next_by E.ring E.embed F.root masks zeta) (map A.declaration airs.now) degree_bits.now instances.now matrices.now))) }
+        (tabulate (length matrices.now)
+        (preprocessed_matrix_claim F.ring zeta (next_by E.ring E.embed F.root masks zeta)
+        (map A.declaration airs.now) degree_bits.now instances.now matrices.now))) }
 {
     match commitment {
         None => Ok(made),
@@ -218,10 +237,12 @@ fn with_permutation_round<F: TwoAdicField, E: ExtensionField<F>, Com: Drop>(
 ) -> Mem<Vec<CommitmentOpening<E, Com, TwoAdicMultiplicativeCoset<F>>>>
     requires instances { length instances.now ≡ length degree_bits.now }
     requires masked { (i : ℕ) → i < length degree_bits.now → masks ≤ bits_at degree_bits.now i }
-    requires fits { (i : ℕ) → i < length degree_bits.now → bits_at degree_bits.now i ≤ F.TWO_ADICITY }
+    requires fits { (i : ℕ) → i < length degree_bits.now
+        → bits_at degree_bits.now i ≤ F.TWO_ADICITY }
     ensures { IfOk result (λ v. v.items
         ≡ made.items ++ claims_of_round commitment
-        (flat_map (permutation_claims F.ring zeta (next_by E.ring E.embed F.root masks zeta) degree_bits.now instances.now) (tabulate (length degree_bits.now) (λ i. i)))) }
+        (flat_map (permutation_claims F.ring zeta (next_by E.ring E.embed F.root masks zeta)
+        degree_bits.now instances.now) (tabulate (length degree_bits.now) (λ i. i)))) }
 {
     match commitment {
         None => Ok(made),
@@ -251,11 +272,17 @@ fn rounds<F: TwoAdicField, A: BaseAir<F>, E: ExtensionField<F>, Com: Drop>(
     requires instances { length instances.now ≡ length airs.now }
     requires masked { (i : ℕ) → i < length airs.now → masks ≤ bits_at degree_bits.now i }
     requires fits { (i : ℕ) → i < length airs.now → bits_at degree_bits.now i ≤ F.TWO_ADICITY }
-    requires count { (i : ℕ) → i < length airs.now → length (instance_at instances.now i).base.quotient_chunks ≡ length (get_or (map (λ v. v.items) domains.now) i []) }
-    requires chunks { (i : ℕ) → i < length airs.now → All (λ d. d.log_size + masks ≤ F.TWO_ADICITY) (get_or (map (λ v. v.items) domains.now) i []) }
+    requires count { (i : ℕ) → i < length airs.now
+        → length (instance_at instances.now i).base.quotient_chunks
+        ≡ length (get_or (map (λ v. v.items) domains.now) i []) }
+    requires chunks { (i : ℕ) → i < length airs.now
+        → All (λ d. d.log_size + masks ≤ F.TWO_ADICITY)
+        (get_or (map (λ v. v.items) domains.now) i []) }
     ensures { IfOk result (λ v. v.items
-        ≡ claims_by F.ring zeta (next_by E.ring E.embed F.root masks zeta) masks (map (λ v. v.items) domains.now)
-        (map A.declaration airs.now) commitments preprocessed matrices.now degree_bits.now instances.now) }
+        ≡ claims_by F.ring zeta (next_by E.ring E.embed F.root masks zeta) masks
+        (map (λ v. v.items) domains.now)
+        (map A.declaration airs.now) commitments preprocessed matrices.now degree_bits.now
+        instances.now) }
 {
     let BatchCommitments {
         main,
@@ -305,10 +332,13 @@ pub(crate) fn rounds_over<F: TwoAdicField, A: BaseAir<F>, E: ExtensionField<F>, 
     matrices: &[usize],
 ) -> Mem<Vec<CommitmentOpening<E, Com, TwoAdicMultiplicativeCoset<F>>>>
     requires listed { All (λ i. i < length airs.now) matrices.now }
-    requires sized { AreSized masks F.TWO_ADICITY (length airs.now) degree_bits.now instances.now (map (λ v. v.items) domains.now) }
+    requires sized { AreSized masks F.TWO_ADICITY (length airs.now) degree_bits.now instances.now
+        (map (λ v. v.items) domains.now) }
     ensures { IfOk result (λ v. v.items
-        ≡ claims_by F.ring zeta (next_by E.ring E.embed F.root masks zeta) masks (map (λ v. v.items) domains.now)
-        (map A.declaration airs.now) commitments preprocessed matrices.now degree_bits.now instances.now) }
+        ≡ claims_by F.ring zeta (next_by E.ring E.embed F.root masks zeta) masks
+        (map (λ v. v.items) domains.now)
+        (map A.declaration airs.now) commitments preprocessed matrices.now degree_bits.now
+        instances.now) }
 {
     rounds(
         alloc,

@@ -29,7 +29,8 @@ fn point_claim<E: RingCore>(alloc: Global, point: E, row: &[E]) -> Mem<PointOpen
 
 // The same of a row that may be absent, and then has no values.
 fn present_claim<E: RingCore>(alloc: Global, point: E, row: &Option<Vec<E>>) -> Mem<PointOpening<E>>
-    ensures { IfOk result (λ c. c ≡ at_point point (values_where_there (option_map (λ v. v.items) row.now))) }
+    ensures { IfOk result (λ c.
+        c ≡ at_point point (values_where_there (option_map (λ v. v.items) row.now))) }
 {
     match row {
         None => point_claim(alloc, point, &[]),
@@ -89,8 +90,11 @@ pub(crate) fn random_claims<F: TwoAdicField, E: RingCore>(
     instances: &[OpenedValuesWithLookups<E>],
 ) -> Mem<Vec<MatrixOpening<E, TwoAdicMultiplicativeCoset<F>>>>
     requires instances { length instances.now ≡ length degree_bits.now }
-    requires fits { (i : ℕ) → i < length degree_bits.now → bits_at degree_bits.now i ≤ F.TWO_ADICITY }
-    ensures { IfOk result (λ v. v.items ≡ tabulate (length degree_bits.now) (random_claim F.ring zeta degree_bits.now instances.now)) }
+    requires fits { (i : ℕ) → i < length degree_bits.now
+        → bits_at degree_bits.now i ≤ F.TWO_ADICITY }
+    ensures { IfOk result (λ v.
+        v.items ≡ tabulate (length degree_bits.now)
+        (random_claim F.ring zeta degree_bits.now instances.now)) }
 {
     let mut claims = Vec::new(alloc);
     for index in 0..degree_bits.len() {
@@ -108,7 +112,9 @@ fn with_next<E: RingCore>(
     after: E,
     row: &Option<Vec<E>>,
 ) -> Mem<Vec<PointOpening<E>>>
-    ensures { IfOk result (λ v. v.items ≡ points.items ++ where_declared declared.now (at_point after (values_where_there (option_map (λ v. v.items) row.now)))) }
+    ensures { IfOk result (λ v.
+        v.items ≡ points.items ++ where_declared declared.now
+        (at_point after (values_where_there (option_map (λ v. v.items) row.now)))) }
 {
     if declared.is_empty() {
         return Ok(points);
@@ -130,7 +136,9 @@ fn main_of<F: TwoAdicField, A: BaseAir<F>, E: RingCore>(
 ) -> Mem<MatrixOpening<E, TwoAdicMultiplicativeCoset<F>>>
     requires { bits ≤ F.TWO_ADICITY }
     ensures { IfOk result (λ m. m ≡ on_subgroup F.ring bits
-        (at_point zeta opened.now.base.trace_local ∷ where_declared (A.declaration air.now).main_next (at_point after (values_where_there opened.now.base.trace_next)))) }
+        (at_point zeta opened.now.base.trace_local
+        ∷ where_declared (A.declaration air.now).main_next
+        (at_point after (values_where_there opened.now.base.trace_next)))) }
 {
     let base = &opened.base_opened_values;
     let mut points = Vec::new(alloc);
@@ -164,7 +172,9 @@ fn main_at<F: TwoAdicField, A: BaseAir<F>, E: ExtensionField<F>>(
     requires instances { index < length instances.now }
     requires masked { masks ≤ bits_at degree_bits.now index }
     requires fits { bits_at degree_bits.now index ≤ F.TWO_ADICITY }
-    ensures { IfOk result (λ m. m ≡ main_claim F.ring zeta (next_by E.ring E.embed F.root masks zeta) (map A.declaration airs.now) degree_bits.now instances.now index) }
+    ensures { IfOk result (λ m.
+        m ≡ main_claim F.ring zeta (next_by E.ring E.embed F.root masks zeta)
+        (map A.declaration airs.now) degree_bits.now instances.now index) }
 {
     let bits = degree_bits[index];
     let after = point_of_next::<F, E>(bits, masks, zeta);
@@ -184,7 +194,10 @@ pub(crate) fn main_claims<F: TwoAdicField, A: BaseAir<F>, E: ExtensionField<F>>(
     requires instances { length instances.now ≡ length airs.now }
     requires masked { (i : ℕ) → i < length airs.now → masks ≤ bits_at degree_bits.now i }
     requires fits { (i : ℕ) → i < length airs.now → bits_at degree_bits.now i ≤ F.TWO_ADICITY }
-    ensures { IfOk result (λ v. v.items ≡ tabulate (length airs.now) (main_claim F.ring zeta (next_by E.ring E.embed F.root masks zeta) (map A.declaration airs.now) degree_bits.now instances.now)) }
+    ensures { IfOk result (λ v.
+        v.items ≡ tabulate (length airs.now)
+        (main_claim F.ring zeta (next_by E.ring E.embed F.root masks zeta)
+        (map A.declaration airs.now) degree_bits.now instances.now)) }
 {
     let mut claims = Vec::new(alloc);
     for index in 0..airs.len() {
@@ -206,7 +219,8 @@ fn chunk_at<F: TwoAdicField, E: RingCore>(
     requires domains { index < length domains.now }
     requires chunks { index < length chunks.now }
     requires fits { All (λ d. d.log_size + masks ≤ F.TWO_ADICITY) domains.now }
-    ensures { IfOk result (λ m. m ≡ chunk_claim F.ring zeta masks domains.now (map (λ v. v.items) chunks.now) index) }
+    ensures { IfOk result (λ m.
+        m ≡ chunk_claim F.ring zeta masks domains.now (map (λ v. v.items) chunks.now) index) }
 {
     let domain = &domains[index];
     let claim = point_claim(alloc, zeta, &chunks[index])?;
@@ -224,7 +238,9 @@ fn with_chunks<F: TwoAdicField, E: RingCore>(
 ) -> Mem<Vec<MatrixOpening<E, TwoAdicMultiplicativeCoset<F>>>>
     requires count { length chunks.now ≡ length domains.now }
     requires fits { All (λ d. d.log_size + masks ≤ F.TWO_ADICITY) domains.now }
-    ensures { IfOk result (λ v. v.items ≡ made.items ++ tabulate (length domains.now) (chunk_claim F.ring zeta masks domains.now (map (λ v. v.items) chunks.now))) }
+    ensures { IfOk result (λ v.
+        v.items ≡ made.items ++ tabulate (length domains.now)
+        (chunk_claim F.ring zeta masks domains.now (map (λ v. v.items) chunks.now))) }
 {
     let mut claims = made;
     for index in 0..domains.len() {
@@ -246,9 +262,13 @@ fn with_chunks_at<F: TwoAdicField, E: RingCore>(
 ) -> Mem<Vec<MatrixOpening<E, TwoAdicMultiplicativeCoset<F>>>>
     requires domains { index < length domains.now }
     requires instances { index < length instances.now }
-    requires count { length (instance_at instances.now index).base.quotient_chunks ≡ length (get_or (map (λ v. v.items) domains.now) index []) }
-    requires fits { All (λ d. d.log_size + masks ≤ F.TWO_ADICITY) (get_or (map (λ v. v.items) domains.now) index []) }
-    ensures { IfOk result (λ v. v.items ≡ made.items ++ chunk_claims F.ring zeta masks (map (λ v. v.items) domains.now) instances.now index) }
+    requires count { length (instance_at instances.now index).base.quotient_chunks
+        ≡ length (get_or (map (λ v. v.items) domains.now) index []) }
+    requires fits { All (λ d. d.log_size + masks ≤ F.TWO_ADICITY)
+        (get_or (map (λ v. v.items) domains.now) index []) }
+    ensures { IfOk result (λ v.
+        v.items ≡ made.items ++ chunk_claims F.ring zeta masks (map (λ v. v.items) domains.now)
+        instances.now index) }
 {
     let opened = &instances[index];
     with_chunks(alloc, made, zeta, masks, &domains[index], chunks_of(opened))
@@ -263,9 +283,15 @@ pub(crate) fn all_chunk_claims<F: TwoAdicField, E: RingCore>(
     instances: &[OpenedValuesWithLookups<E>],
 ) -> Mem<Vec<MatrixOpening<E, TwoAdicMultiplicativeCoset<F>>>>
     requires instances { length instances.now ≡ length domains.now }
-    requires count { (i : ℕ) → i < length domains.now → length (instance_at instances.now i).base.quotient_chunks ≡ length (get_or (map (λ v. v.items) domains.now) i []) }
-    requires fits { (i : ℕ) → i < length domains.now → All (λ d. d.log_size + masks ≤ F.TWO_ADICITY) (get_or (map (λ v. v.items) domains.now) i []) }
-    ensures { IfOk result (λ v. v.items ≡ flat_map (chunk_claims F.ring zeta masks (map (λ v. v.items) domains.now) instances.now) (tabulate (length domains.now) (λ i. i))) }
+    requires count { (i : ℕ) → i < length domains.now
+        → length (instance_at instances.now i).base.quotient_chunks
+        ≡ length (get_or (map (λ v. v.items) domains.now) i []) }
+    requires fits { (i : ℕ) → i < length domains.now
+        → All (λ d. d.log_size + masks ≤ F.TWO_ADICITY)
+        (get_or (map (λ v. v.items) domains.now) i []) }
+    ensures { IfOk result (λ v.
+        v.items ≡ flat_map (chunk_claims F.ring zeta masks (map (λ v. v.items) domains.now)
+        instances.now) (tabulate (length domains.now) (λ i. i))) }
 {
     let mut claims = Vec::new(alloc);
     for index in 0..domains.len() {
@@ -310,7 +336,9 @@ fn with_preprocessed_next<E: RingCore>(
     after: E,
     rows: &Option<PreprocessedOpenedValues<E>>,
 ) -> Mem<Vec<PointOpening<E>>>
-    ensures { IfOk result (λ v. v.items ≡ points.items ++ where_declared declared.now (at_point after (preprocessed_next_row rows.now))) }
+    ensures { IfOk result (λ v.
+        v.items ≡ points.items ++ where_declared declared.now
+        (at_point after (preprocessed_next_row rows.now))) }
 {
     if declared.is_empty() {
         return Ok(points);
@@ -332,7 +360,8 @@ fn preprocessed_of<F: TwoAdicField, A: BaseAir<F>, E: RingCore>(
 ) -> Mem<MatrixOpening<E, TwoAdicMultiplicativeCoset<F>>>
     requires { bits ≤ F.TWO_ADICITY }
     ensures { IfOk result (λ m. m ≡ on_subgroup F.ring bits
-        (at_point zeta (preprocessed_local_row opened.now.base.preprocessed) ∷ where_declared (A.declaration air.now).preprocessed_next
+        (at_point zeta (preprocessed_local_row opened.now.base.preprocessed)
+        ∷ where_declared (A.declaration air.now).preprocessed_next
         (at_point after (preprocessed_next_row opened.now.base.preprocessed)))) }
 {
     let base = &opened.base_opened_values;
@@ -367,7 +396,9 @@ fn preprocessed_at<F: TwoAdicField, A: BaseAir<F>, E: ExtensionField<F>>(
     requires instances { index < length instances.now }
     requires masked { masks ≤ bits_at degree_bits.now index }
     requires fits { bits_at degree_bits.now index ≤ F.TWO_ADICITY }
-    ensures { IfOk result (λ m. m ≡ preprocessed_claim F.ring zeta (next_by E.ring E.embed F.root masks zeta) (map A.declaration airs.now) degree_bits.now instances.now index) }
+    ensures { IfOk result (λ m.
+        m ≡ preprocessed_claim F.ring zeta (next_by E.ring E.embed F.root masks zeta)
+        (map A.declaration airs.now) degree_bits.now instances.now index) }
 {
     let bits = degree_bits[index];
     let after = point_of_next::<F, E>(bits, masks, zeta);
@@ -391,7 +422,9 @@ fn matrix_at<F: TwoAdicField, A: BaseAir<F>, E: ExtensionField<F>>(
     requires instances { length instances.now ≡ length airs.now }
     requires masked { (i : ℕ) → i < length airs.now → masks ≤ bits_at degree_bits.now i }
     requires fits { (i : ℕ) → i < length airs.now → bits_at degree_bits.now i ≤ F.TWO_ADICITY }
-    ensures { IfOk result (λ m. m ≡ preprocessed_matrix_claim F.ring zeta (next_by E.ring E.embed F.root masks zeta) (map A.declaration airs.now) degree_bits.now instances.now matrices.now matrix) }
+    ensures { IfOk result (λ m.
+        m ≡ preprocessed_matrix_claim F.ring zeta (next_by E.ring E.embed F.root masks zeta)
+        (map A.declaration airs.now) degree_bits.now instances.now matrices.now matrix) }
 {
     let index = matrices[matrix];
     preprocessed_at(alloc, index, zeta, masks, airs, degree_bits, instances)
@@ -413,7 +446,9 @@ pub(crate) fn all_matrix_claims<F: TwoAdicField, A: BaseAir<F>, E: ExtensionFiel
     requires masked { (i : ℕ) → i < length airs.now → masks ≤ bits_at degree_bits.now i }
     requires fits { (i : ℕ) → i < length airs.now → bits_at degree_bits.now i ≤ F.TWO_ADICITY }
     ensures { IfOk result (λ v. v.items
-        ≡ tabulate (length matrices.now) (preprocessed_matrix_claim F.ring zeta (next_by E.ring E.embed F.root masks zeta) (map A.declaration airs.now) degree_bits.now instances.now matrices.now)) }
+        ≡ tabulate (length matrices.now)
+        (preprocessed_matrix_claim F.ring zeta (next_by E.ring E.embed F.root masks zeta)
+        (map A.declaration airs.now) degree_bits.now instances.now matrices.now)) }
 {
     let mut claims = Vec::new(alloc);
     for matrix in 0..matrices.len() {
@@ -443,7 +478,8 @@ fn with_permutation<F: TwoAdicField, E: RingCore>(
     after: E,
 ) -> Mem<Vec<MatrixOpening<E, TwoAdicMultiplicativeCoset<F>>>>
     requires { bits ≤ F.TWO_ADICITY }
-    ensures { IfOk result (λ v. v.items ≡ made.items ++ where_opened F.ring zeta after bits local.now next.now) }
+    ensures { IfOk result (λ v.
+        v.items ≡ made.items ++ where_opened F.ring zeta after bits local.now next.now) }
 {
     if local.is_empty() {
         return Ok(made);
@@ -475,7 +511,9 @@ fn with_permutation_at<F: TwoAdicField, E: ExtensionField<F>>(
     requires instances { index < length instances.now }
     requires masked { masks ≤ bits_at degree_bits.now index }
     requires fits { bits_at degree_bits.now index ≤ F.TWO_ADICITY }
-    ensures { IfOk result (λ v. v.items ≡ made.items ++ permutation_claims F.ring zeta (next_by E.ring E.embed F.root masks zeta) degree_bits.now instances.now index) }
+    ensures { IfOk result (λ v.
+        v.items ≡ made.items ++ permutation_claims F.ring zeta
+        (next_by E.ring E.embed F.root masks zeta) degree_bits.now instances.now index) }
 {
     let bits = degree_bits[index];
     let after = point_of_next::<F, E>(bits, masks, zeta);
@@ -501,9 +539,11 @@ pub(crate) fn all_permutation_claims<F: TwoAdicField, E: ExtensionField<F>>(
 ) -> Mem<Vec<MatrixOpening<E, TwoAdicMultiplicativeCoset<F>>>>
     requires instances { length instances.now ≡ length degree_bits.now }
     requires masked { (i : ℕ) → i < length degree_bits.now → masks ≤ bits_at degree_bits.now i }
-    requires fits { (i : ℕ) → i < length degree_bits.now → bits_at degree_bits.now i ≤ F.TWO_ADICITY }
+    requires fits { (i : ℕ) → i < length degree_bits.now
+        → bits_at degree_bits.now i ≤ F.TWO_ADICITY }
     ensures { IfOk result (λ v. v.items
-        ≡ flat_map (permutation_claims F.ring zeta (next_by E.ring E.embed F.root masks zeta) degree_bits.now instances.now) (tabulate (length degree_bits.now) (λ i. i))) }
+        ≡ flat_map (permutation_claims F.ring zeta (next_by E.ring E.embed F.root masks zeta)
+        degree_bits.now instances.now) (tabulate (length degree_bits.now) (λ i. i))) }
 {
     let mut claims = Vec::new(alloc);
     for index in 0..degree_bits.len() {

@@ -141,13 +141,23 @@ fn made_at<SC: StarkGenericConfig, A: BaseAir<Val<SC>>>(
     log_num_quotient_chunks: &[usize],
 ) -> Result<Vec<Vec<Domain<SC>>>, BatchVerificationError<PcsError<SC>>>
     requires { WellFormed (map A.declaration airs.now) (read_common common.now) }
-    ensures verdict { let claimed = claimed_of A.declaration airs.now common.now.preprocessed commitments.now opened_values.now degree_bits.now log_num_quotient_chunks.now in
-        IsVerdict (made_checks (⟦<SC as Settings>⟧.setting config.now) claimed preprocessed_widths.now) result }
-    ensures memory { let claimed = claimed_of A.declaration airs.now common.now.preprocessed commitments.now opened_values.now degree_bits.now log_num_quotient_chunks.now in
-        IfErr result (λ e. e ≡ BatchVerificationError.OutOfMemory → NoneFails (made_checks {R = SC.Pcs.Error} (⟦<SC as Settings>⟧.setting config.now) claimed preprocessed_widths.now)) }
+    ensures verdict { let claimed = claimed_of A.declaration airs.now common.now.preprocessed
+        commitments.now opened_values.now degree_bits.now log_num_quotient_chunks.now in
+        IsVerdict (made_checks (⟦<SC as Settings>⟧.setting config.now) claimed
+        preprocessed_widths.now) result }
+    ensures memory { let claimed = claimed_of A.declaration airs.now common.now.preprocessed
+        commitments.now opened_values.now degree_bits.now log_num_quotient_chunks.now in
+        IfErr result (λ e. e ≡ BatchVerificationError.OutOfMemory
+        → NoneFails (made_checks {R = SC.Pcs.Error} (⟦<SC as Settings>⟧.setting config.now) claimed
+        preprocessed_widths.now)) }
     ensures domains { IfOk result (λ v. map (λ d. d.items) v.items
-        ≡ tabulate (length airs.now) (chunk_domains_at SC.Val.ring SC.Val.root SC.Val.GENERATOR (masks (⟦<SC as Settings>⟧.setting config.now)) degree_bits.now log_num_quotient_chunks.now)) }
-    ensures sized { IfOk result (λ v. AreSized (masks (⟦<SC as Settings>⟧.setting config.now)) SC.Val.TWO_ADICITY (length airs.now) degree_bits.now opened_values.now (map (λ d. d.items) v.items)) }
+        ≡ tabulate (length airs.now)
+        (chunk_domains_at SC.Val.ring SC.Val.root SC.Val.GENERATOR
+        (masks (⟦<SC as Settings>⟧.setting config.now)) degree_bits.now
+        log_num_quotient_chunks.now)) }
+    ensures sized { IfOk result
+        (λ v. AreSized (masks (⟦<SC as Settings>⟧.setting config.now)) SC.Val.TWO_ADICITY
+        (length airs.now) degree_bits.now opened_values.now (map (λ d. d.items) v.items)) }
 {
     let pcs = config.pcs();
     let masks = config.is_zk();
@@ -202,15 +212,25 @@ pub fn commitments_with_opening_points<SC: StarkGenericConfig, A: BaseAir<Val<SC
     log_num_quotient_chunks: &[usize],
 ) -> Result<OpeningArgumentWithQuotientDomains<SC>, BatchVerificationError<PcsError<SC>>>
     requires { WellFormed (map A.declaration airs.now) (read_common common.now) }
-    ensures verdict { let claimed = claimed_of A.declaration airs.now common.now.preprocessed commitments.now opened_values.now degree_bits.now log_num_quotient_chunks.now in
-        IsVerdict (made_checks (⟦<SC as Settings>⟧.setting config.now) claimed preprocessed_widths.now) result }
-    ensures memory { let claimed = claimed_of A.declaration airs.now common.now.preprocessed commitments.now opened_values.now degree_bits.now log_num_quotient_chunks.now in
-        IfErr result (λ e. e ≡ BatchVerificationError.OutOfMemory → NoneFails (made_checks {R = SC.Pcs.Error} (⟦<SC as Settings>⟧.setting config.now) claimed preprocessed_widths.now)) }
-    ensures claims { let claimed = claimed_of A.declaration airs.now common.now.preprocessed commitments.now opened_values.now degree_bits.now log_num_quotient_chunks.now in
-        IfOk result (λ answer. answer.0.items ≡ claims (⟦<SC as Settings>⟧.setting config.now) claimed zeta) }
+    ensures verdict { let claimed = claimed_of A.declaration airs.now common.now.preprocessed
+        commitments.now opened_values.now degree_bits.now log_num_quotient_chunks.now in
+        IsVerdict (made_checks (⟦<SC as Settings>⟧.setting config.now) claimed
+        preprocessed_widths.now) result }
+    ensures memory { let claimed = claimed_of A.declaration airs.now common.now.preprocessed
+        commitments.now opened_values.now degree_bits.now log_num_quotient_chunks.now in
+        IfErr result (λ e. e ≡ BatchVerificationError.OutOfMemory
+        → NoneFails (made_checks {R = SC.Pcs.Error} (⟦<SC as Settings>⟧.setting config.now) claimed
+        preprocessed_widths.now)) }
+    ensures claims { let claimed = claimed_of A.declaration airs.now common.now.preprocessed
+        commitments.now opened_values.now degree_bits.now log_num_quotient_chunks.now in
+        IfOk result (λ answer. answer.0.items
+        ≡ claims (⟦<SC as Settings>⟧.setting config.now) claimed zeta) }
     ensures domains { IfOk result (λ answer. map (λ chunks. chunks.items) answer.1.items
-        ≡ tabulate (length airs.now) (λ i. chunk_domains (⟦<SC as Settings>⟧.setting config.now) (bits_at degree_bits.now i) (get_or log_num_quotient_chunks.now i 0))) }
-    ensures place { IfOk result (λ answer. answer.2 ≡ place_of_preprocessed commitments.now common.now.preprocessed) }
+        ≡ tabulate (length airs.now)
+        (λ i. chunk_domains (⟦<SC as Settings>⟧.setting config.now) (bits_at degree_bits.now i)
+        (get_or log_num_quotient_chunks.now i 0))) }
+    ensures place { IfOk result
+        (λ answer. answer.2 ≡ place_of_preprocessed commitments.now common.now.preprocessed) }
 {
     let domains = made_at(
         alloc,

@@ -53,7 +53,8 @@ pub(crate) fn extended_domain<F: TwoAdicField>(log: usize) -> TwoAdicMultiplicat
 
 // Why there is no domain for a table's quotient.
 fn too_large<R>(index: usize, maximum: usize, got: usize) -> BatchVerificationError<R>
-    ensures { result ≡ Verification (InvalidProofShape (QuotientDomainTooLarge (Some index) maximum got)) }
+    ensures { result ≡ Verification
+        (InvalidProofShape (QuotientDomainTooLarge (Some index) maximum got)) }
 {
     InvalidProofShapeError::QuotientDomainTooLarge {
         air: Some(index),
@@ -96,7 +97,8 @@ fn size_at_index<F: TwoAdicField, R>(
 ) -> Result<(), BatchVerificationError<R>>
     requires bits { index < length degree_bits.now }
     requires chunks { index < length log_chunks.now }
-    ensures { IsDecided (sizes_fit masks most F.TWO_ADICITY degree_bits.now log_chunks.now index) result }
+    ensures { IsDecided (sizes_fit masks most F.TWO_ADICITY degree_bits.now log_chunks.now index)
+        result }
 {
     let chunks = log_chunks[index];
     let got = chunks.saturating_add(masks);
@@ -114,7 +116,8 @@ pub(crate) fn all_sizes<F: TwoAdicField, R>(
     most: usize,
 ) -> Result<(), BatchVerificationError<R>>
     requires { length log_chunks.now ≡ length degree_bits.now }
-    ensures { IsDecided (in_turn (length degree_bits.now) (sizes_fit masks most F.TWO_ADICITY degree_bits.now log_chunks.now)) result }
+    ensures { IsDecided (in_turn (length degree_bits.now)
+        (sizes_fit masks most F.TWO_ADICITY degree_bits.now log_chunks.now)) result }
 {
     for index in 0..degree_bits.len() {
         size_at_index::<F, R>(index, degree_bits, log_chunks, masks, most)?;
@@ -149,9 +152,14 @@ pub(crate) fn all_domains<F: TwoAdicField>(
 ) -> Mem<Vec<Vec<TwoAdicMultiplicativeCoset<F>>>>
     requires chunks { length log_chunks.now ≡ length degree_bits.now }
     requires masked { (i : ℕ) → i < length degree_bits.now → masks ≤ bits_at degree_bits.now i }
-    requires fits { (i : ℕ) → i < length degree_bits.now → bits_at degree_bits.now i + get_or log_chunks.now i 0 ≤ F.TWO_ADICITY }
-    requires short { (i : ℕ) → i < length degree_bits.now → bits_at degree_bits.now i + get_or log_chunks.now i 0 < 64 }
-    ensures { IfOk result (λ v. map (λ d. d.items) v.items ≡ tabulate (length degree_bits.now) (chunk_domains_at F.ring F.root F.GENERATOR masks degree_bits.now log_chunks.now)) }
+    requires fits { (i : ℕ) → i < length degree_bits.now
+        → bits_at degree_bits.now i + get_or log_chunks.now i 0 ≤ F.TWO_ADICITY }
+    requires short { (i : ℕ) → i < length degree_bits.now
+        → bits_at degree_bits.now i + get_or log_chunks.now i 0 < 64 }
+    ensures { IfOk result (λ v.
+        map (λ d. d.items) v.items
+        ≡ tabulate (length degree_bits.now)
+        (chunk_domains_at F.ring F.root F.GENERATOR masks degree_bits.now log_chunks.now)) }
 {
     let mut domains = Vec::new(alloc);
     for index in 0..degree_bits.len() {

@@ -80,7 +80,8 @@ pub(crate) fn next_row_of<E>(opened: &OpenedValuesWithLookups<E>) -> &[E]
 
 // Whether both have one length.
 pub(crate) fn are_paired<E>(opened: &OpenedValuesWithLookups<E>) -> bool
-    ensures { IsTrue result ↔ (length opened.now.permutation_local ≡ length opened.now.permutation_next) }
+    ensures { IsTrue result ↔ (length opened.now.permutation_local
+        ≡ length opened.now.permutation_next) }
 {
     opened.permutation_local.len() == opened.permutation_next.len()
 }

@@ -74,17 +74,26 @@ pub fn check_draws<
     requires lookup { 2 ^ lookup_bits < F.ORDER_U64 }
     requires ood { 2 ^ ood_bits < F.ORDER_U64 }
     ensures verdict { let s = stated A.declaration A.trees airs.now public_values.now common.now in
-        IsVerdict (grinding_checks (⟦<C as BatchChallenger<F, EF, Com>>⟧.functions) F.ring EF.ring EF.DIMENSION challenger version bounds.zk lookup_bits ood_bits s proof.now) result }
-    ensures challenges { let s = stated A.declaration A.trees airs.now public_values.now common.now in
+        IsVerdict (grinding_checks (⟦<C as BatchChallenger<F, EF, Com>>⟧.functions) F.ring EF.ring
+        EF.DIMENSION challenger version bounds.zk lookup_bits ood_bits s proof.now) result }
+    ensures challenges { let s = stated A.declaration A.trees airs.now public_values.now
+        common.now in
         IfOk result (λ d. map (λ v. v.items) d.challenges.items
         ≡ tabulate (length airs.now) (table_challenges EF.ring
-        (drawn (⟦<C as BatchChallenger<F, EF, Com>>⟧.functions) F.ring EF.ring EF.DIMENSION challenger version bounds.zk lookup_bits ood_bits s proof.now) s)) }
+        (drawn (⟦<C as BatchChallenger<F, EF, Com>>⟧.functions) F.ring EF.ring EF.DIMENSION
+        challenger version bounds.zk lookup_bits ood_bits s proof.now) s)) }
     ensures alpha { let s = stated A.declaration A.trees airs.now public_values.now common.now in
-        IfOk result (λ d. d.alpha ≡ (drawn (⟦<C as BatchChallenger<F, EF, Com>>⟧.functions) F.ring EF.ring EF.DIMENSION challenger version bounds.zk lookup_bits ood_bits s proof.now).alpha) }
+        IfOk result (λ d. d.alpha
+        ≡ (drawn (⟦<C as BatchChallenger<F, EF, Com>>⟧.functions) F.ring EF.ring EF.DIMENSION
+        challenger version bounds.zk lookup_bits ood_bits s proof.now).alpha) }
     ensures zeta { let s = stated A.declaration A.trees airs.now public_values.now common.now in
-        IfOk result (λ d. d.zeta ≡ (drawn (⟦<C as BatchChallenger<F, EF, Com>>⟧.functions) F.ring EF.ring EF.DIMENSION challenger version bounds.zk lookup_bits ood_bits s proof.now).zeta) }
+        IfOk result (λ d. d.zeta
+        ≡ (drawn (⟦<C as BatchChallenger<F, EF, Com>>⟧.functions) F.ring EF.ring EF.DIMENSION
+        challenger version bounds.zk lookup_bits ood_bits s proof.now).zeta) }
     ensures state { let s = stated A.declaration A.trees airs.now public_values.now common.now in
-        IfOk result (λ d. d.challenger ≡ (drawn (⟦<C as BatchChallenger<F, EF, Com>>⟧.functions) F.ring EF.ring EF.DIMENSION challenger version bounds.zk lookup_bits ood_bits s proof.now).opening) }
+        IfOk result (λ d. d.challenger
+        ≡ (drawn (⟦<C as BatchChallenger<F, EF, Com>>⟧.functions) F.ring EF.ring EF.DIMENSION
+        challenger version bounds.zk lookup_bits ood_bits s proof.now).opening) }
 {
     let shape = batch_shape(
         alloc,

@@ -65,21 +65,25 @@ pub(crate) fn play_phases<
     requires randomization { is_some randomization ≡ shape.has_randomization_commitment }
     requires lookup_bits { 2 ^ shape.lookup_pow_bits < F.ORDER_U64 }
     requires ood_bits { 2 ^ shape.ood_pow_bits < F.ORDER_U64 }
-    ensures { let d = draws (⟦<C as BatchChallenger<F, EF, Com>>⟧.functions) F.ring EF.ring EF.DIMENSION challenger shape (record {
-      degree_bits = degree_bits.now;
-      main = main.now;
-      publics = lists public_values.now;
-      preprocessed = option_copied preprocessed.entry;
-      lookup_witness = lookup_witness;
-      permutation = option_copied permutation.entry;
-      terminals = terminals.now;
-      quotient = quotient.now;
-      randomization = option_copied randomization.entry;
-      ood_witness = ood_witness;
-    }) in
+    ensures { let d = draws (⟦<C as BatchChallenger<F, EF, Com>>⟧.functions) F.ring EF.ring
+        EF.DIMENSION challenger shape (record {
+          degree_bits = degree_bits.now;
+          main = main.now;
+          publics = lists public_values.now;
+          preprocessed = option_copied preprocessed.entry;
+          lookup_witness = lookup_witness;
+          permutation = option_copied permutation.entry;
+          terminals = terminals.now;
+          quotient = quotient.now;
+          randomization = option_copied randomization.entry;
+          ood_witness = ood_witness;
+        }) in
         IsVerdict (grinding_by F.ring.zero shape lookup_witness ood_witness d) result
-        × IfOk result (λ run. (run.alpha ≡ d.alpha) × (run.zeta ≡ d.zeta) × (run.challenger ≡ d.opening)
-        × (lists run.challenges.items ≡ batch_layout EF.ring (drawn_pair shape.num_lookup_instances d) (map read_all lookups.now))) }
+        × IfOk result (λ run. (run.alpha ≡ d.alpha) × (run.zeta ≡ d.zeta)
+        × (run.challenger ≡ d.opening)
+        × (lists run.challenges.items
+        ≡ batch_layout EF.ring (drawn_pair shape.num_lookup_instances d)
+        (map read_all lookups.now))) }
 {
     let mut t = BatchVerifierTranscript::<C, F, EF, Com>::new(alloc, challenger, shape)?;
     t.instance_bindings(degree_bits);

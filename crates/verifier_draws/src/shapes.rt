@@ -39,7 +39,8 @@ fn public_value_counts<F: Field, A: BaseAir<F>>(alloc: Global, airs: &[A]) -> Me
 
 // The width of each AIR's preprocessed trace, zero where there is none.
 fn preprocessed_widths<F: Field, A: BaseAir<F>>(alloc: Global, airs: &[A]) -> Mem<Vec<usize>>
-    ensures { IfOk result (λ v. v.items ≡ map (λ a. width_of (A.declaration a).preprocessed) airs.now) }
+    ensures { IfOk result (λ v.
+        v.items ≡ map (λ a. width_of (A.declaration a).preprocessed) airs.now) }
 {
     let mut widths = Vec::with_capacity(alloc, airs.len())?;
     for air in airs {
@@ -109,7 +110,9 @@ pub fn batch_shape<F: Field, A: Air<F>, Com>(
     lookup_bits: usize,
     ood_bits: usize,
 ) -> Mem<BatchShape>
-    ensures { IfOk result (λ s. s ≡ script_shape version zk lookup_bits ood_bits (statement_with (tables_of A.declaration A.trees airs.now) [] common.now)) }
+    ensures { IfOk result (λ s.
+        s ≡ script_shape version zk lookup_bits ood_bits
+        (statement_with (tables_of A.declaration A.trees airs.now) [] common.now)) }
 {
     Ok(BatchShape {
         trace_widths: trace_widths(alloc, airs)?,

@@ -11,7 +11,8 @@ pub fn terminals_there<E: Field>(
     alloc: Global,
     terminals: &[Option<LookupTerminal<E>>],
 ) -> Mem<Vec<E>>
-    ensures { IfOk result (λ v. v.items ≡ filter_map (λ t. t) (map (option_map (λ t. t.0)) terminals.now)) }
+    ensures { IfOk result (λ v.
+        v.items ≡ filter_map (λ t. t) (map (option_map (λ t. t.0)) terminals.now)) }
 {
     let mut values = Vec::new(alloc);
     for terminal in terminals {

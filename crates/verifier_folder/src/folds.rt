@@ -33,12 +33,16 @@ pub fn verifier_fold_with_lookups<F: Field, E: ExtensionField<F>, A: Air<F>, LG:
     folder: VerifierFolderWithLookups<'_, F, E>,
 ) -> E
     requires zero { folder.inner.accumulator ≡ E.ring.zero }
-    requires declared { Fits (declared_shape (A.declaration air.now)) (verifier_shape_of (all_opened folder)) }
+    requires declared { Fits (declared_shape (A.declaration air.now))
+        (verifier_shape_of (all_opened folder)) }
     requires lookups { AreLookupsOf (A.declaration air.now) (read_all lookups.now) }
-    requires columns { 0 < length lookups.now → length lookups.now < (verifier_shape_of (all_opened folder)).permutation }
+    requires columns { 0 < length lookups.now
+        → length lookups.now < (verifier_shape_of (all_opened folder)).permutation }
     requires challenges { 2 * length lookups.now ≤ length folder.permutation_challenges.now }
     requires terminals { 0 < length lookups.now → 0 < length folder.permutation_values.now }
-    ensures { result ≡ fold E.ring folder.entry.inner.alpha (map (eval_tree (reading_of E.ring E.embed (all_opened folder.entry))) (table_trees F.ring (A.trees air.now) (read_all lookups.now))) }
+    ensures { result ≡ fold E.ring folder.entry.inner.alpha
+        (map (eval_tree (reading_of E.ring E.embed (all_opened folder.entry)))
+        (table_trees F.ring (A.trees air.now) (read_all lookups.now))) }
 {
     let mut folder = folder;
     match lookup_gadget.eval_air_and_lookups(air, &mut folder, lookups) {

@@ -44,9 +44,11 @@ impl<'a, F: Field, E: ExtensionField<F>> AirBuilder for VerifierFolderWithLookup
     ghost later = { λ a b. all_opened b ≡ all_opened a };
 
     ghost appends = { λ a b ts is. (all_opened b ≡ all_opened a)
-        × (b.inner.accumulator ≡ fold_from E.ring a.inner.alpha a.inner.accumulator (map (eval_asserted (reading_of E.ring E.embed (all_opened a))) ts)) };
+        × (b.inner.accumulator ≡ fold_from E.ring a.inner.alpha a.inner.accumulator
+        (map (eval_asserted (reading_of E.ring E.embed (all_opened a))) ts)) };
 
-    ghost asserts = { λ a x b. (all_opened b ≡ all_opened a) × (b.inner.accumulator ≡ E.ring.add (E.ring.mul a.inner.accumulator a.inner.alpha) x) };
+    ghost asserts = { λ a x b. (all_opened b ≡ all_opened a)
+        × (b.inner.accumulator ≡ E.ring.add (E.ring.mul a.inner.accumulator a.inner.alpha) x) };
 
     ghost computes = { λ a op x y b e. e ≡ value_by E.ring op x y };
 
@@ -87,9 +89,11 @@ impl<'a, F: Field, E: ExtensionField<F>> AirBuilder for VerifierFolderWithLookup
 
     ghost later_along = { λ a b c p q. q ∙ p };
 
-    ghost later_shape = { λ a b p. ap (λ (o : FolderValuesWithLookups F E). verifier_shape_of o) p };
+    ghost later_shape = { λ a b p.
+        ap (λ (o : FolderValuesWithLookups F E). verifier_shape_of o) p };
 
-    ghost persists = { λ a b h e t k. value_persists (λ o. reading_of E.ring E.embed o) (all_opened a) (all_opened b) e t h k };
+    ghost persists = { λ a b h e t k.
+        value_persists (λ o. reading_of E.ring E.embed o) (all_opened a) (all_opened b) e t h k };
 
     ghost appends_none = { λ a. (refl, refl) };
 
@@ -98,14 +102,18 @@ impl<'a, F: Field, E: ExtensionField<F>> AirBuilder for VerifierFolderWithLookup
     ghost appends_along = { λ a b c s t i j p q. (
       q.0 ∙ p.0,
       folded_along E.ring (λ o. reading_of E.ring E.embed o) (λ o. o.opened.alpha) (all_opened a)
-          (all_opened b) a.inner.accumulator b.inner.accumulator c.inner.accumulator s t p.0 p.1 q.1,
+          (all_opened b) a.inner.accumulator b.inner.accumulator c.inner.accumulator s t p.0 p.1
+          q.1,
     ) };
 
     ghost never_fails_sure = { λ h. h };
 
-    ghost computes_represents = { λ a b h op x y e s t k l q. value_by_persists E.ring E.embed (λ o. verifier_cells_of E.ring.zero E.embed o) (all_opened a) (all_opened b) op x y e s t h k l q };
+    ghost computes_represents = { λ a b h op x y e s t k l q.
+        value_by_persists E.ring E.embed (λ o. verifier_cells_of E.ring.zero E.embed o)
+        (all_opened a) (all_opened b) op x y e s t h k l q };
 
-    ghost asserts_appends = { λ a b x t h k. (k.0, k.1 ∙ ap (E.ring.add (E.ring.mul a.inner.accumulator a.inner.alpha)) h) };
+    ghost asserts_appends = { λ a b x t h k.
+        (k.0, k.1 ∙ ap (E.ring.add (E.ring.mul a.inner.accumulator a.inner.alpha)) h) };
 }
 
 impl<'a, F: Field, E: ExtensionField<F>> ExtensionBuilder for VerifierFolderWithLookups<'a, F, E> {
@@ -115,7 +123,8 @@ impl<'a, F: Field, E: ExtensionField<F>> ExtensionBuilder for VerifierFolderWith
 
     ghost represents_ext = { λ b e t. e ≡ eval_tree (reading_of E.ring E.embed (all_opened b)) t };
 
-    ghost asserts_ext = { λ a x b. (all_opened b ≡ all_opened a) × (b.inner.accumulator ≡ E.ring.add (E.ring.mul a.inner.accumulator a.inner.alpha) x) };
+    ghost asserts_ext = { λ a x b. (all_opened b ≡ all_opened a)
+        × (b.inner.accumulator ≡ E.ring.add (E.ring.mul a.inner.accumulator a.inner.alpha) x) };
 
     ghost computes_ext = { λ a op x y b e. e ≡ value_by E.ring op x y };
 
@@ -144,13 +153,19 @@ impl<'a, F: Field, E: ExtensionField<F>> ExtensionBuilder for VerifierFolderWith
 
     ghost arrays_fit_ext = { E.arrays_fit };
 
-    ghost persists_ext = { λ a b h e t k. value_persists (λ o. reading_of E.ring E.embed o) (all_opened a) (all_opened b) e t h k };
+    ghost persists_ext = { λ a b h e t k.
+        value_persists (λ o. reading_of E.ring E.embed o) (all_opened a) (all_opened b) e t h k };
 
-    ghost computes_ext_represents = { λ a b h op x y e s t k l q. value_by_persists E.ring E.embed (λ o. verifier_cells_of E.ring.zero E.embed o) (all_opened a) (all_opened b) op x y e s t h k l q };
+    ghost computes_ext_represents = { λ a b h op x y e s t k l q.
+        value_by_persists E.ring E.embed (λ o. verifier_cells_of E.ring.zero E.embed o)
+        (all_opened a) (all_opened b) op x y e s t h k l q };
 
-    ghost lifts_represents = { λ a b h x e t k q. value_persists (λ o. reading_of E.ring E.embed o) (all_opened a) (all_opened b) e t h (q ∙ k) };
+    ghost lifts_represents = { λ a b h x e t k q.
+        value_persists (λ o. reading_of E.ring E.embed o) (all_opened a) (all_opened b) e t h
+        (q ∙ k) };
 
-    ghost asserts_ext_appends = { λ a b x t h k. (k.0, k.1 ∙ ap (E.ring.add (E.ring.mul a.inner.accumulator a.inner.alpha)) h) };
+    ghost asserts_ext_appends = { λ a b x t h k.
+        (k.0, k.1 ∙ ap (E.ring.add (E.ring.mul a.inner.accumulator a.inner.alpha)) h) };
 }
 
 impl<'a, F: Field, E: ExtensionField<F>> PermutationAirBuilder
@@ -173,18 +188,29 @@ impl<'a, F: Field, E: ExtensionField<F>> InteractionBuilder
     for VerifierFolderWithLookups<'a, F, E> {
     ghost use Rattle.verifier_folder.specs.FolderState.{all_opened};
 
-    ghost sends = { λ a bus xs cs b. (all_opened b ≡ all_opened a) × (b.inner.accumulator ≡ a.inner.accumulator) };
+    ghost sends = { λ a bus xs cs b. (all_opened b ≡ all_opened a)
+        × (b.inner.accumulator ≡ a.inner.accumulator) };
 
     fn push_interaction(&mut self, _bus_name: &str, fields: &[E], count: Count<E>) -> Mem<()>
         ensures later { all_opened self.new ≡ all_opened self.old }
-        ensures keeps_shape { verifier_shape_of (all_opened self.new) ≡ verifier_shape_of (all_opened self.old) }
+        ensures keeps_shape { verifier_shape_of (all_opened self.new)
+            ≡ verifier_shape_of (all_opened self.old) }
         ensures answers { IsTrue true → IsOk result }
-        ensures appends { (fs : List (Tree F)) (v : Tree F) → Represent (λ e t. e ≡ eval_tree (reading_of E.ring E.embed (all_opened self.old)) t) fields.now fs
+        ensures appends { (fs : List (Tree F)) (v : Tree F)
+            → Represent (λ e t. e ≡ eval_tree (reading_of E.ring E.embed (all_opened self.old)) t)
+            fields.now fs
             → count.value ≡ eval_tree (reading_of E.ring E.embed (all_opened self.old)) v
-            → IfOk result (λ _. (all_opened self.new ≡ all_opened self.old) × (self.new.inner.accumulator ≡ fold_from E.ring self.old.inner.alpha self.old.inner.accumulator [])) }
+            → IfOk result (λ _. (all_opened self.new ≡ all_opened self.old)
+            × (self.new.inner.accumulator
+            ≡ fold_from E.ring self.old.inner.alpha self.old.inner.accumulator [])) }
         ensures sure { IsTrue true → IsOk result }
-        ensures sends { IfOk result (λ _. (all_opened self.new ≡ all_opened self.old) × (self.new.inner.accumulator ≡ self.old.inner.accumulator)) }
-        ensures on_error { OnErr result ((all_opened self.new ≡ all_opened self.old) × (self.new.inner.accumulator ≡ fold_from E.ring self.old.inner.alpha self.old.inner.accumulator [])) }
+        ensures sends { IfOk result
+            (λ _. (all_opened self.new ≡ all_opened self.old)
+            × (self.new.inner.accumulator ≡ self.old.inner.accumulator)) }
+        ensures on_error { OnErr result
+            ((all_opened self.new ≡ all_opened self.old)
+            × (self.new.inner.accumulator
+            ≡ fold_from E.ring self.old.inner.alpha self.old.inner.accumulator [])) }
     {
         Ok(())
     }

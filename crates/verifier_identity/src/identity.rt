@@ -63,13 +63,28 @@ impl<'a, F: TwoAdicField, E: ExtensionField<F>> IdentityData<'a, F, E> {
 
     // The folder over the opened values and these selectors, which has folded nothing yet.
     fn folder(&self, selectors: &LagrangeSelectors<E>) -> VerifierFolderWithLookups<'a, F, E>
-        requires first { selectors.now.is_first_row ≡ eval_poly E.ring (map E.embed (first_selector F.ring F.inv self.now.trace_domain)) self.now.zeta }
-        requires last { selectors.now.is_last_row ≡ eval_poly E.ring (map E.embed (last_selector F.ring F.inv F.root self.now.trace_domain)) self.now.zeta }
-        requires transition { selectors.now.is_transition ≡ eval_poly E.ring (map E.embed (transition_selector F.ring F.inv F.root self.now.trace_domain)) self.now.zeta }
+        requires first { selectors.now.is_first_row
+            ≡ eval_poly E.ring (map E.embed (first_selector F.ring F.inv self.now.trace_domain))
+            self.now.zeta }
+        requires last { selectors.now.is_last_row
+            ≡ eval_poly E.ring (map E.embed
+            (last_selector F.ring F.inv F.root self.now.trace_domain)) self.now.zeta }
+        requires transition { selectors.now.is_transition
+            ≡ eval_poly E.ring (map E.embed
+            (transition_selector F.ring F.inv F.root self.now.trace_domain)) self.now.zeta }
         ensures zero { result.inner.accumulator ≡ E.ring.zero }
-        ensures reads { let f : TwoAdic F = record { ring = F.ring; inv = F.inv; root = F.root; generator = F.GENERATOR } in
-            let e : Extension F E = record { ring = E.ring; embed = E.embed; dimension = E.DIMENSION; basis = E.basis; coefficients = E.coefficients; from_coefficients = E.from_coefficients } in
-            all_opened result ≡ opened_at f e self.now.trace_domain self.now.alpha self.now.zeta (identity_opened_of self.now) }
+        ensures reads { let f : TwoAdic
+            F = record { ring = F.ring; inv = F.inv; root = F.root; generator = F.GENERATOR } in
+            let e : Extension F E = record {
+              ring = E.ring;
+              embed = E.embed;
+              dimension = E.DIMENSION;
+              basis = E.basis;
+              coefficients = E.coefficients;
+              from_coefficients = E.from_coefficients;
+            } in
+            all_opened result ≡ opened_at f e self.now.trace_domain self.now.alpha self.now.zeta
+            (identity_opened_of self.now) }
     {
         VerifierFolderWithLookups {
             inner: VerifierFolder {
@@ -103,7 +118,12 @@ impl<'a, F: TwoAdicField, E: ExtensionField<F>> IdentityData<'a, F, E> {
         air: &A,
         lookup_gadget: &LG,
     ) -> Result<(), VerificationError<PcsErr>>
-        requires { (IsInDomain (record { ring = F.ring; inv = F.inv; root = F.root; generator = F.GENERATOR })
+        requires { (IsInDomain (record {
+          ring = F.ring;
+          inv = F.inv;
+          root = F.root;
+          generator = F.GENERATOR;
+        })
             (record {
               ring = E.ring;
               embed = E.embed;
@@ -112,11 +132,21 @@ impl<'a, F: TwoAdicField, E: ExtensionField<F>> IdentityData<'a, F, E> {
               coefficients = E.coefficients;
               from_coefficients = E.from_coefficients;
             }) self.now.trace_domain self.now.zeta → ⊥)
-            → OpensWhatIsRead (A.declaration air.now) (read_all self.now.lookups.now) (identity_opened_of self.now) }
-        ensures { let f : TwoAdic F = record { ring = F.ring; inv = F.inv; root = F.root; generator = F.GENERATOR } in
-            let e : Extension F E = record { ring = E.ring; embed = E.embed; dimension = E.DIMENSION; basis = E.basis; coefficients = E.coefficients; from_coefficients = E.from_coefficients } in
+            → OpensWhatIsRead (A.declaration air.now) (read_all self.now.lookups.now)
+            (identity_opened_of self.now) }
+        ensures { let f : TwoAdic
+            F = record { ring = F.ring; inv = F.inv; root = F.root; generator = F.GENERATOR } in
+            let e : Extension F E = record {
+              ring = E.ring;
+              embed = E.embed;
+              dimension = E.DIMENSION;
+              basis = E.basis;
+              coefficients = E.coefficients;
+              from_coefficients = E.from_coefficients;
+            } in
             let trees = table_trees F.ring (A.trees air.now) (read_all self.now.lookups.now) in
-            let checks = identity_checks f e None self.now.trace_domain self.now.alpha self.now.zeta (identity_opened_of self.now) trees self.now.quotient in
+            let checks = identity_checks f e None self.now.trace_domain self.now.alpha self.now.zeta
+            (identity_opened_of self.now) trees self.now.quotient in
             MatchResult result (λ _. NoneFails checks) (FirstFails checks) }
     {
         if self

@@ -60,7 +60,8 @@ pub(crate) fn next_row<'a, E>(
     opened: &'a Option<Vec<E>>,
     zeros: &'a [E],
 ) -> &'a [E]
-    ensures { result.now ≡ next_row_or_zeros zeros.now declared.now (option_map (λ v. v.items) opened.now) }
+    ensures { result.now ≡ next_row_or_zeros zeros.now declared.now
+        (option_map (λ v. v.items) opened.now) }
 {
     if declared.is_empty() {
         return zeros;
@@ -84,7 +85,8 @@ pub(crate) fn preprocessed_next<'a, E>(
     opened: &'a Option<PreprocessedOpenedValues<E>>,
     zeros: &'a [E],
 ) -> &'a [E]
-    ensures { result.now ≡ next_row_or_zeros zeros.now declared.now (preprocessed_next_of opened.now) }
+    ensures { result.now ≡ next_row_or_zeros zeros.now declared.now
+        (preprocessed_next_of opened.now) }
 {
     if declared.is_empty() {
         return zeros;
@@ -102,7 +104,15 @@ fn permutation_row<F: Field, E: ExtensionField<F>>(
     lookups: usize,
 ) -> Mem<Vec<E>>
     requires { length row.now ≡ permutation_width lookups E.DIMENSION }
-    ensures { let e : Extension F E = record { ring = E.ring; embed = E.embed; dimension = E.DIMENSION; basis = E.basis; coefficients = E.coefficients; from_coefficients = E.from_coefficients } in
+    ensures { let e : Extension F
+        E = record {
+          ring = E.ring;
+          embed = E.embed;
+          dimension = E.DIMENSION;
+          basis = E.basis;
+          coefficients = E.coefficients;
+          from_coefficients = E.from_coefficients;
+        } in
         IfOk result (λ v. v.items ≡ recombined_row e row.now (permutation_column_count lookups)) }
 {
     let columns = row.len() / E::DIMENSION;
@@ -143,8 +153,16 @@ pub(crate) fn made_rows<F: TwoAdicField, E: ExtensionField<F>, A: BaseAir<F>>(
     requires columns { map (λ c. c.items) columns.columns.now ≡ (A.declaration air.now).periodic }
     requires local { length opened.now.permutation_local ≡ permutation_width lookups E.DIMENSION }
     requires next { length opened.now.permutation_next ≡ permutation_width lookups E.DIMENSION }
-    ensures { let f : TwoAdic F = record { ring = F.ring; inv = F.inv; root = F.root; generator = F.GENERATOR } in
-        let e : Extension F E = record { ring = E.ring; embed = E.embed; dimension = E.DIMENSION; basis = E.basis; coefficients = E.coefficients; from_coefficients = E.from_coefficients } in
+    ensures { let f : TwoAdic
+        F = record { ring = F.ring; inv = F.inv; root = F.root; generator = F.GENERATOR } in
+        let e : Extension F E = record {
+          ring = E.ring;
+          embed = E.embed;
+          dimension = E.DIMENSION;
+          basis = E.basis;
+          coefficients = E.coefficients;
+          from_coefficients = E.from_coefficients;
+        } in
         IfOk result (AreMade f e domain.now (A.declaration air.now) lookups zeta opened.now) }
 {
     Ok(MadeRows {

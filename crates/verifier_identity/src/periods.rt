@@ -20,9 +20,18 @@ pub fn periodic_values_at<F: TwoAdicField, E: ExtensionField<F>>(
     zeta: E,
 ) -> Mem<Vec<E>>
     requires { columns.height ≡ 2 ^ domain.now.log_size }
-    ensures { let f : TwoAdic F = record { ring = F.ring; inv = F.inv; root = F.root; generator = F.GENERATOR } in
-        let e : Extension F E = record { ring = E.ring; embed = E.embed; dimension = E.DIMENSION; basis = E.basis; coefficients = E.coefficients; from_coefficients = E.from_coefficients } in
-        IfOk result (λ v. v.items ≡ map (λ c. periodic_value f e domain.now zeta c.items) columns.entry.columns.now) }
+    ensures { let f : TwoAdic
+        F = record { ring = F.ring; inv = F.inv; root = F.root; generator = F.GENERATOR } in
+        let e : Extension F E = record {
+          ring = E.ring;
+          embed = E.embed;
+          dimension = E.DIMENSION;
+          basis = E.basis;
+          coefficients = E.coefficients;
+          from_coefficients = E.from_coefficients;
+        } in
+        IfOk result (λ v. v.items
+        ≡ map (λ c. periodic_value f e domain.now zeta c.items) columns.entry.columns.now) }
 {
     domain.valid();
     domain.evaluate_periodic_columns_at(alloc, columns, zeta)

@@ -44,8 +44,10 @@ fn fitting_columns<F: FieldCore, A: BaseAir<F>, R>(
     air: &A,
     height: usize,
 ) -> Result<PeriodicColumns<'_, F>, BatchVerificationError<R>>
-    ensures decided { IsDecided (periods_check height (map length (A.declaration air.now).periodic)) result }
-    ensures columns { IfOk result (λ p. map (λ c. c.items) p.columns.now ≡ (A.declaration air.now).periodic) }
+    ensures decided { IsDecided (periods_check height (map length (A.declaration air.now).periodic))
+        result }
+    ensures columns { IfOk result
+        (λ p. map (λ c. c.items) p.columns.now ≡ (A.declaration air.now).periodic) }
     ensures height { IfOk result (λ p. p.height ≡ height) }
 {
     match PeriodicColumns::new(air.periodic_columns(), height) {
@@ -62,9 +64,19 @@ fn quotient_at<F: TwoAdicField, E: ExtensionField<F>>(
 ) -> E
     requires count { length opened.now.base.quotient_chunks ≡ length domains.now }
     requires dimension { All (λ c. length c ≡ E.DIMENSION) opened.now.base.quotient_chunks }
-    requires disjoint { AllDisjoint (record { ring = F.ring; inv = F.inv; root = F.root; generator = F.GENERATOR }) domains.now }
-    ensures { let f : TwoAdic F = record { ring = F.ring; inv = F.inv; root = F.root; generator = F.GENERATOR } in
-        let e : Extension F E = record { ring = E.ring; embed = E.embed; dimension = E.DIMENSION; basis = E.basis; coefficients = E.coefficients; from_coefficients = E.from_coefficients } in
+    requires disjoint { AllDisjoint
+        (record { ring = F.ring; inv = F.inv; root = F.root; generator = F.GENERATOR })
+        domains.now }
+    ensures { let f : TwoAdic
+        F = record { ring = F.ring; inv = F.inv; root = F.root; generator = F.GENERATOR } in
+        let e : Extension F E = record {
+          ring = E.ring;
+          embed = E.embed;
+          dimension = E.DIMENSION;
+          basis = E.basis;
+          coefficients = E.coefficients;
+          from_coefficients = E.from_coefficients;
+        } in
         result ≡ recombined f e domains.now opened.now.base.quotient_chunks zeta }
 {
     let base = &opened.base_opened_values;
@@ -85,17 +97,35 @@ fn table_data<'a, F: TwoAdicField, E: ExtensionField<F>, A: BaseAir<F>>(
     alpha: E,
     zeta: E,
 ) -> IdentityData<'a, F, E>
-    requires { let f : TwoAdic F = record { ring = F.ring; inv = F.inv; root = F.root; generator = F.GENERATOR } in
-        let e : Extension F E = record { ring = E.ring; embed = E.embed; dimension = E.DIMENSION; basis = E.basis; coefficients = E.coefficients; from_coefficients = E.from_coefficients } in
+    requires { let f : TwoAdic
+        F = record { ring = F.ring; inv = F.inv; root = F.root; generator = F.GENERATOR } in
+        let e : Extension F E = record {
+          ring = E.ring;
+          embed = E.embed;
+          dimension = E.DIMENSION;
+          basis = E.basis;
+          coefficients = E.coefficients;
+          from_coefficients = E.from_coefficients;
+        } in
         AreMade f e domain (A.declaration air.now) (length lookups.now) zeta opened.now made.now }
     ensures zeta { result.zeta ≡ zeta }
     ensures alpha { result.alpha ≡ alpha }
     ensures lookups { result.lookups.now ≡ lookups.entry.now }
     ensures domain { result.trace_domain ≡ domain }
     ensures quotient { result.quotient ≡ quotient }
-    ensures opened { let f : TwoAdic F = record { ring = F.ring; inv = F.inv; root = F.root; generator = F.GENERATOR } in
-        let e : Extension F E = record { ring = E.ring; embed = E.embed; dimension = E.DIMENSION; basis = E.basis; coefficients = E.coefficients; from_coefficients = E.from_coefficients } in
-        identity_opened_of result ≡ opened_table f e domain (A.declaration air.now) (length lookups.now) public_values.now challenges.now terminals.now zeta opened.now }
+    ensures opened { let f : TwoAdic
+        F = record { ring = F.ring; inv = F.inv; root = F.root; generator = F.GENERATOR } in
+        let e : Extension F E = record {
+          ring = E.ring;
+          embed = E.embed;
+          dimension = E.DIMENSION;
+          basis = E.basis;
+          coefficients = E.coefficients;
+          from_coefficients = E.from_coefficients;
+        } in
+        identity_opened_of result
+        ≡ opened_table f e domain (A.declaration air.now) (length lookups.now) public_values.now
+        challenges.now terminals.now zeta opened.now }
 {
     let base = &opened.base_opened_values;
     IdentityData {
@@ -128,7 +158,8 @@ fn table_data<'a, F: TwoAdicField, E: ExtensionField<F>, A: BaseAir<F>>(
 // The refusal of a table's identity, with the table's number.
 fn of_table<R>(index: usize, error: VerificationError<()>) -> VerificationError<R>
     ensures point { error ≡ OodPointInDomain → result ≡ OodPointInDomain }
-    ensures mismatch { (error ≡ OodPointInDomain → ⊥) → result ≡ OodEvaluationMismatch (Some index) }
+    ensures mismatch { (error ≡ OodPointInDomain → ⊥)
+        → result ≡ OodEvaluationMismatch (Some index) }
 {
     match error {
         VerificationError::OodPointInDomain => VerificationError::OodPointInDomain,
@@ -143,11 +174,22 @@ fn decide<F: TwoAdicField, E: ExtensionField<F>, A: Air<F>, R>(
     air: &A,
     given: &IdentityData<'_, F, E>,
 ) -> Result<(), BatchVerificationError<R>>
-    requires { OpensWhatIsRead (A.declaration air.now) (read_all given.now.lookups.now) (identity_opened_of given.now) }
-    ensures { let f : TwoAdic F = record { ring = F.ring; inv = F.inv; root = F.root; generator = F.GENERATOR } in
-        let e : Extension F E = record { ring = E.ring; embed = E.embed; dimension = E.DIMENSION; basis = E.basis; coefficients = E.coefficients; from_coefficients = E.from_coefficients } in
+    requires { OpensWhatIsRead (A.declaration air.now) (read_all given.now.lookups.now)
+        (identity_opened_of given.now) }
+    ensures { let f : TwoAdic
+        F = record { ring = F.ring; inv = F.inv; root = F.root; generator = F.GENERATOR } in
+        let e : Extension F E = record {
+          ring = E.ring;
+          embed = E.embed;
+          dimension = E.DIMENSION;
+          basis = E.basis;
+          coefficients = E.coefficients;
+          from_coefficients = E.from_coefficients;
+        } in
         let trees = table_trees F.ring (A.trees air.now) (read_all given.now.lookups.now) in
-        IsDecided (map verified (identity_checks f e {R = R} (Some index) given.now.trace_domain given.now.alpha given.now.zeta (identity_opened_of given.now) trees given.now.quotient)) result }
+        IsDecided (map verified (identity_checks f e {R = R} (Some index) given.now.trace_domain
+        given.now.alpha given.now.zeta (identity_opened_of given.now) trees given.now.quotient))
+        result }
 {
     match given.verify_constraints_with_lookups::<A, LogUpGadget, ()>(air, &LogUpGadget::new()) {
         Ok(()) => Ok(()),
@@ -171,16 +213,30 @@ pub(crate) fn check_table<F: TwoAdicField, E: ExtensionField<F>, A: Air<F>, R>(
     alpha: E,
     zeta: E,
 ) -> Result<(), BatchVerificationError<R>>
-    requires shape { NoneFails (table_checks {R = R} index (A.declaration air.now) (length public_values.now) (length domains.now) E.DIMENSION
+    requires shape { NoneFails
+        (table_checks {R = R} index (A.declaration air.now) (length public_values.now)
+        (length domains.now) E.DIMENSION
         (length (read_all lookups.now)) opened.now (is_there terminal.now)) }
     requires reads { AreLookupsOf (A.declaration air.now) (read_all lookups.now) }
     requires challenges { length challenges.now ≡ 2 * length (read_all lookups.now) }
-    requires disjoint { AllDisjoint (record { ring = F.ring; inv = F.inv; root = F.root; generator = F.GENERATOR }) domains.now }
+    requires disjoint { AllDisjoint
+        (record { ring = F.ring; inv = F.inv; root = F.root; generator = F.GENERATOR })
+        domains.now }
     requires fits { log_height ≤ F.TWO_ADICITY }
-    ensures { let f : TwoAdic F = record { ring = F.ring; inv = F.inv; root = F.root; generator = F.GENERATOR } in
-        let e : Extension F E = record { ring = E.ring; embed = E.embed; dimension = E.DIMENSION; basis = E.basis; coefficients = E.coefficients; from_coefficients = E.from_coefficients } in
-        IsVerdict (identity_of_table f e index log_height (record { declaration = A.declaration air.now; trees = A.trees air.now })
-        (read_all lookups.now) public_values.now challenges.now (option_map (λ t. t.0) terminal.now) domains.now alpha zeta opened.now) result }
+    ensures { let f : TwoAdic
+        F = record { ring = F.ring; inv = F.inv; root = F.root; generator = F.GENERATOR } in
+        let e : Extension F E = record {
+          ring = E.ring;
+          embed = E.embed;
+          dimension = E.DIMENSION;
+          basis = E.basis;
+          coefficients = E.coefficients;
+          from_coefficients = E.from_coefficients;
+        } in
+        IsVerdict (identity_of_table f e index log_height
+        (record { declaration = A.declaration air.now; trees = A.trees air.now })
+        (read_all lookups.now) public_values.now challenges.now (option_map (λ t. t.0) terminal.now)
+        domains.now alpha zeta opened.now) result }
 {
     let domain = rows_domain::<F>(log_height);
     let columns = fitting_columns(air, domain.size())?;

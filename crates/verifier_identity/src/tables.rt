@@ -45,16 +45,35 @@ pub(crate) fn table_at<F: TwoAdicField, E: ExtensionField<F>, A: Air<F>, R>(
     requires bits { index < length degree_bits.now }
     requires challenges { index < length challenges.now }
     requires domains { index < length domains.now }
-    requires reads { (a : A) → AreLookupsOf (A.declaration (get_or airs.now index a)) (read_all (get_or lookups.now index [])) }
-    requires shape { NoneFails (opened_checks_at {R = R} (tables_of A.declaration A.trees airs.now) (map (λ v. v.items) public_values.now)
-        (map read_all lookups.now) instances.now (map (option_map (λ t. t.0)) terminals.now) (length (get_or (map (λ v. v.items) domains.now) index [])) E.DIMENSION index) }
-    requires pairs { length (get_or (map (λ v. v.items) challenges.now) index []) ≡ 2 * length (get_or (map read_all lookups.now) index []) }
-    requires disjoint { AllDisjoint (record { ring = F.ring; inv = F.inv; root = F.root; generator = F.GENERATOR }) (get_or (map (λ v. v.items) domains.now) index []) }
+    requires reads { (a : A)
+        → AreLookupsOf (A.declaration (get_or airs.now index a))
+        (read_all (get_or lookups.now index [])) }
+    requires shape { NoneFails
+        (opened_checks_at {R = R} (tables_of A.declaration A.trees airs.now)
+        (map (λ v. v.items) public_values.now)
+        (map read_all lookups.now) instances.now (map (option_map (λ t. t.0)) terminals.now)
+        (length (get_or (map (λ v. v.items) domains.now) index [])) E.DIMENSION index) }
+    requires pairs { length (get_or (map (λ v. v.items) challenges.now) index []) ≡ 2
+        * length (get_or (map read_all lookups.now) index []) }
+    requires disjoint { AllDisjoint
+        (record { ring = F.ring; inv = F.inv; root = F.root; generator = F.GENERATOR })
+        (get_or (map (λ v. v.items) domains.now) index []) }
     requires fits { get_or degree_bits.now index 0 - masks ≤ F.TWO_ADICITY }
-    ensures { let f : TwoAdic F = record { ring = F.ring; inv = F.inv; root = F.root; generator = F.GENERATOR } in
-        let e : Extension F E = record { ring = E.ring; embed = E.embed; dimension = E.DIMENSION; basis = E.basis; coefficients = E.coefficients; from_coefficients = E.from_coefficients } in
-        IsVerdict (identity_by f e masks (tables_of A.declaration A.trees airs.now) (map (λ v. v.items) public_values.now) (map read_all lookups.now) instances.now
-        (map (option_map (λ t. t.0)) terminals.now) degree_bits.now (map (λ v. v.items) challenges.now) (map (λ v. v.items) domains.now) alpha zeta index) result }
+    ensures { let f : TwoAdic
+        F = record { ring = F.ring; inv = F.inv; root = F.root; generator = F.GENERATOR } in
+        let e : Extension F E = record {
+          ring = E.ring;
+          embed = E.embed;
+          dimension = E.DIMENSION;
+          basis = E.basis;
+          coefficients = E.coefficients;
+          from_coefficients = E.from_coefficients;
+        } in
+        IsVerdict (identity_by f e masks (tables_of A.declaration A.trees airs.now)
+        (map (λ v. v.items) public_values.now) (map read_all lookups.now) instances.now
+        (map (option_map (λ t. t.0)) terminals.now) degree_bits.now
+        (map (λ v. v.items) challenges.now) (map (λ v. v.items) domains.now) alpha zeta index)
+        result }
 {
     let table = &lookups[index];
     check_table(

@@ -16,7 +16,8 @@ use std::alloc::Global;
 // The heights of tables with these degree bits.
 fn heights(alloc: Global, degree_bits: &[usize], masks: usize) -> Mem<Vec<usize>>
     requires { (i : ℕ) → i < length degree_bits.now → get_or degree_bits.now i 0 < 64 }
-    ensures { IfOk result (λ v. v.items ≡ heights_of masks degree_bits.now (length degree_bits.now)) }
+    ensures { IfOk result (λ v.
+        v.items ≡ heights_of masks degree_bits.now (length degree_bits.now)) }
 {
     let mut heights = Vec::with_capacity(alloc, degree_bits.len())?;
     for index in 0..degree_bits.len() {
@@ -37,7 +38,9 @@ pub fn check_bounds<F: PrimeField64, R>(
     requires lengths { length degree_bits.now ≡ length lookups.now }
     requires fits { (i : ℕ) → i < length degree_bits.now → get_or degree_bits.now i 0 < 64 }
     ensures { let tables = map read_all lookups.now in
-        IsVerdict (in_turn (bus_count (batch_buses tables)) (bound_at F.ORDER_U64 tables (heights_of masks degree_bits.now (length degree_bits.now)))) result }
+        IsVerdict (in_turn (bus_count (batch_buses tables))
+        (bound_at F.ORDER_U64 tables (heights_of masks degree_bits.now (length degree_bits.now))))
+        result }
 {
     let heights = match heights(alloc, degree_bits, masks) {
         Ok(heights) => heights,

@@ -32,7 +32,8 @@ pub fn are_counted<F: Field, A: Air<F>, E, Com, Opening>(
     common: &SharedData<F, Com>,
     proof: &TablesProof<F, E, Com, Opening>,
 ) -> bool
-    ensures { IsTrue result ↔ HaveItemForEachTable (stated A.declaration A.trees airs.now public_values.now common.now) proof.now }
+    ensures { IsTrue result ↔ HaveItemForEachTable
+        (stated A.declaration A.trees airs.now public_values.now common.now) proof.now }
 {
     let tables = airs.len();
     let opened = &proof.opened_values;
@@ -83,7 +84,8 @@ pub fn check_counts<F: Field, A: Air<F>, E, Com, Opening, R>(
     proof: &TablesProof<F, E, Com, Opening>,
     zk: bool,
 ) -> Result<(), BatchVerificationError<R>>
-    ensures { IsDecided (count_checks zk (stated A.declaration A.trees airs.now public_values.now common.now) proof.now) result }
+    ensures { IsDecided (count_checks zk
+        (stated A.declaration A.trees airs.now public_values.now common.now) proof.now) result }
 {
     if !are_counted(airs, public_values, common, proof) {
         return Err(BatchVerificationError::Verification(VerificationError::InvalidProofShape(
@@ -124,7 +126,8 @@ pub fn check_permutation<F: Field, A: Air<F>, E, Com, Opening, R>(
     common: &SharedData<F, Com>,
     proof: &TablesProof<F, E, Com, Opening>,
 ) -> Result<(), BatchVerificationError<R>>
-    ensures { IsDecided (permutation_check (stated A.declaration A.trees airs.now public_values.now common.now) proof.now) result }
+    ensures { IsDecided (permutation_check
+        (stated A.declaration A.trees airs.now public_values.now common.now) proof.now) result }
 {
     if proof.commitments.permutation.is_some() != some_have_lookups(&common.lookups) {
         return Err(BatchVerificationError::Lookup(LookupError::CommitmentMismatch));

@@ -33,7 +33,8 @@ pub fn check_public_values<F: Field, A: BaseAir<F>, R>(
     air: &A,
     publics: &[F],
 ) -> Result<(), BatchVerificationError<R>>
-    ensures { IsDecided (public_values_check (A.declaration air.now).public_values (length publics.now) ∷ []) result }
+    ensures { IsDecided (public_values_check (A.declaration air.now).public_values
+        (length publics.now) ∷ []) result }
 {
     let expected = air.num_public_values();
     let got = publics.len();
@@ -73,7 +74,8 @@ pub fn check_trace_next<E, R>(
     declared: &[usize],
     next: &Option<Vec<E>>,
 ) -> Result<(), BatchVerificationError<R>>
-    ensures { IsDecided (next_check index width declared.now (option_map (λ v. v.items) next.now) ∷ []) result }
+    ensures { IsDecided (next_check index width declared.now (option_map (λ v. v.items) next.now)
+        ∷ []) result }
 {
     if declared.is_empty() {
         if next.is_some() {
@@ -109,7 +111,8 @@ pub fn check_chunk_count<E, R>(
     expected: usize,
     chunks: &[Vec<E>],
 ) -> Result<(), BatchVerificationError<R>>
-    ensures { IsDecided (chunk_count_check index expected (map (λ v. v.items) chunks.now) ∷ []) result }
+    ensures { IsDecided (chunk_count_check index expected (map (λ v. v.items) chunks.now) ∷ [])
+        result }
 {
     let got = chunks.len();
     if got != expected {
@@ -130,7 +133,8 @@ pub fn check_chunk_lengths<E, R>(
     dimension: usize,
     chunks: &[Vec<E>],
 ) -> Result<(), BatchVerificationError<R>>
-    ensures { IsDecided (chunk_length_check index dimension (map (λ v. v.items) chunks.now) ∷ []) result }
+    ensures { IsDecided (chunk_length_check index dimension (map (λ v. v.items) chunks.now) ∷ [])
+        result }
 {
     if !all_have(chunks, dimension) {
         return Err(of_shape(InvalidProofShapeError::QuotientChunkDimensionMismatch { air: index }));
@@ -145,7 +149,8 @@ pub fn check_random<E, R>(
     dimension: usize,
     random: &Option<Vec<E>>,
 ) -> Result<(), BatchVerificationError<R>>
-    ensures { IsDecided (random_check dimension (option_map (λ v. v.items) random.now) ∷ []) result }
+    ensures { IsDecided (random_check dimension (option_map (λ v. v.items) random.now) ∷ [])
+        result }
 {
     if let Some(random) = random {
         if random.len() != dimension {
@@ -239,7 +244,8 @@ pub fn check_preprocessed_next<E, R>(
 
 // How many values a permutation row has, where so many can be.
 fn width_of_permutation(lookups: usize, dimension: usize) -> Option<usize>
-    ensures { MatchOption result (2 ^ 64 ≤ permutation_width lookups dimension) (λ n. n ≡ permutation_width lookups dimension) }
+    ensures { MatchOption result (2 ^ 64 ≤ permutation_width lookups dimension)
+        (λ n. n ≡ permutation_width lookups dimension) }
 {
     if lookups == 0 {
         return Some(0);

@@ -20,7 +20,8 @@ fn check_main<F: Field, A: BaseAir<F>, E, R>(
     publics: &[F],
     opened: &OpenedValuesWithLookups<E>,
 ) -> Result<(), BatchVerificationError<R>>
-    ensures { IsDecided (main_checks index (A.declaration air.now) (length publics.now) opened.now.base) result }
+    ensures { IsDecided (main_checks index (A.declaration air.now) (length publics.now)
+        opened.now.base) result }
 {
     check_public_values(air, publics)?;
     let opened = &opened.base_opened_values;
@@ -55,7 +56,8 @@ fn check_preprocessed<F: Field, A: BaseAir<F>, E, R>(
     air: &A,
     opened: &OpenedValuesWithLookups<E>,
 ) -> Result<(), BatchVerificationError<R>>
-    ensures { IsDecided (preprocessed_checks index (width_of (A.declaration air.now).preprocessed) (A.declaration air.now).preprocessed_next opened.now.base.preprocessed) result }
+    ensures { IsDecided (preprocessed_checks index (width_of (A.declaration air.now).preprocessed)
+        (A.declaration air.now).preprocessed_next opened.now.base.preprocessed) result }
 {
     let base = &opened.base_opened_values;
     let width = air.preprocessed_width();
@@ -92,7 +94,8 @@ pub fn check_opened<F: Field, A: BaseAir<F>, E, R>(
     opened: &OpenedValuesWithLookups<E>,
     terminal: bool,
 ) -> Result<(), BatchVerificationError<R>>
-    ensures { IsDecided (table_checks index (A.declaration air.now) (length publics.now) chunks dimension lookups opened.now terminal) result }
+    ensures { IsDecided (table_checks index (A.declaration air.now) (length publics.now) chunks
+        dimension lookups opened.now terminal) result }
 {
     check_main(index, air, publics, opened)?;
     check_chunks(index, chunks, dimension, opened)?;

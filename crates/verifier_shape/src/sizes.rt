@@ -29,7 +29,10 @@ fn log_chunks_over<F: Field, A: Air<F>>(
     requires height { 0 < height }
     requires masks { masks ≤ 1 }
     requires lookups { AreLookupsOf (A.declaration air.now) (read_all lookups.now) }
-    ensures { IfOk result (λ k. k ≡ chunks_of_table F.ring masks height (record { declaration = A.declaration air.now; trees = A.trees air.now }) (read_all lookups.now)) }
+    ensures { IfOk result (λ k.
+        k ≡ chunks_of_table F.ring masks height
+        (record { declaration = A.declaration air.now; trees = A.trees air.now })
+        (read_all lookups.now)) }
 {
     let layout = AirLayout::from_air::<F, A>(air);
     let gadget = LogUpGadget::new();
@@ -61,8 +64,13 @@ fn table_size<F: Field, A: Air<F>, R>(
     requires masks { masks ≤ 1 }
     requires lookups { AreLookupsOf (A.declaration air.now) (read_all lookups.now) }
     ensures verdict { IsVerdict (size_checks index least most bits
-        (chunks_of_table F.ring masks (2 ^ (bits - masks)) (record { declaration = A.declaration air.now; trees = A.trees air.now }) (read_all lookups.now)) masks) result }
-    ensures chunks { IfOk result (λ k. k ≡ chunks_of_table F.ring masks (2 ^ (bits - masks)) (record { declaration = A.declaration air.now; trees = A.trees air.now }) (read_all lookups.now)) }
+        (chunks_of_table F.ring masks (2 ^ (bits - masks))
+        (record { declaration = A.declaration air.now; trees = A.trees air.now })
+        (read_all lookups.now)) masks) result }
+    ensures chunks { IfOk result
+        (λ k. k ≡ chunks_of_table F.ring masks (2 ^ (bits - masks))
+        (record { declaration = A.declaration air.now; trees = A.trees air.now })
+        (read_all lookups.now)) }
 {
     if bits < least {
         return Err(BatchVerificationError::Verification(VerificationError::InvalidProofShape(
@@ -121,9 +129,15 @@ pub fn size_at<F: Field, A: Air<F>, R>(
     requires airs { index < length airs.now }
     requires lookups { index < length lookups.now }
     requires bits { index < length degree_bits.now }
-    requires reads { (a : A) → AreLookupsOf (A.declaration (get_or airs.now index a)) (read_all (get_or lookups.now index [])) }
-    ensures verdict { IsVerdict (sizes_at F.ring least most masks (tables_of A.declaration A.trees airs.now) (map read_all lookups.now) degree_bits.now index) result }
-    ensures chunks { IfOk result (λ n. n ≡ log_chunks_at F.ring masks (tables_of A.declaration A.trees airs.now) (map read_all lookups.now) degree_bits.now index) }
+    requires reads { (a : A)
+        → AreLookupsOf (A.declaration (get_or airs.now index a))
+        (read_all (get_or lookups.now index [])) }
+    ensures verdict { IsVerdict
+        (sizes_at F.ring least most masks (tables_of A.declaration A.trees airs.now)
+        (map read_all lookups.now) degree_bits.now index) result }
+    ensures chunks { IfOk result
+        (λ n. n ≡ log_chunks_at F.ring masks (tables_of A.declaration A.trees airs.now)
+        (map read_all lookups.now) degree_bits.now index) }
 {
     table_size(
         alloc,
@@ -153,9 +167,16 @@ pub(crate) fn check_sizes<F: Field, A: Air<F>, R>(
     requires masks { masks ≤ 1 }
     requires lookups { length lookups.now ≡ length airs.now }
     requires bits { length degree_bits.now ≡ length airs.now }
-    requires reads { (i : ℕ) (a : A) → i < length airs.now → AreLookupsOf (A.declaration (get_or airs.now i a)) (read_all (get_or lookups.now i [])) }
-    ensures verdict { IsVerdict (in_turn (length airs.now) (sizes_at F.ring least most masks (tables_of A.declaration A.trees airs.now) (map read_all lookups.now) degree_bits.now)) result }
-    ensures chunks { IfOk result (λ v. v.items ≡ tabulate (length airs.now) (log_chunks_at F.ring masks (tables_of A.declaration A.trees airs.now) (map read_all lookups.now) degree_bits.now)) }
+    requires reads { (i : ℕ) (a : A) → i < length airs.now
+        → AreLookupsOf (A.declaration (get_or airs.now i a)) (read_all (get_or lookups.now i [])) }
+    ensures verdict { IsVerdict
+        (in_turn (length airs.now)
+        (sizes_at F.ring least most masks (tables_of A.declaration A.trees airs.now)
+        (map read_all lookups.now) degree_bits.now)) result }
+    ensures chunks { IfOk result
+        (λ v. v.items ≡ tabulate (length airs.now)
+        (log_chunks_at F.ring masks (tables_of A.declaration A.trees airs.now)
+        (map read_all lookups.now) degree_bits.now)) }
 {
     let mut chunks = Vec::new(alloc);
     for index in 0..airs.len() {

@@ -31,7 +31,8 @@ fn check_table<F: Field, A: Air<F>, E, R>(
     requires lookups { index < length lookups.now }
     requires instances { index < length instances.now }
     requires terminals { index < length terminals.now }
-    ensures { IsDecided (opened_checks_at (tables_of A.declaration A.trees airs.now) (map (λ v. v.items) public_values.now) (map read_all lookups.now) instances.now
+    ensures { IsDecided (opened_checks_at (tables_of A.declaration A.trees airs.now)
+        (map (λ v. v.items) public_values.now) (map read_all lookups.now) instances.now
         (map (option_map (λ t. t.0)) terminals.now) (2 ^ log_chunks) dimension index) result }
 {
     let table = &lookups[index];
@@ -66,7 +67,8 @@ pub(crate) fn check_tables<F: Field, A: Air<F>, E, R>(
     requires chunks { length chunks.now ≡ length airs.now }
     requires fits { (i : ℕ) → i < length airs.now → get_or chunks.now i 0 + masks < 64 }
     ensures { IsDecided (in_turn (length airs.now)
-        (opened_by (tables_of A.declaration A.trees airs.now) (map (λ v. v.items) public_values.now) (map read_all lookups.now) instances.now
+        (opened_by (tables_of A.declaration A.trees airs.now) (map (λ v. v.items) public_values.now)
+        (map read_all lookups.now) instances.now
         (map (option_map (λ t. t.0)) terminals.now) chunks.now masks dimension)) result }
 {
     for index in 0..airs.len() {

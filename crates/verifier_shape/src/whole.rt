@@ -47,11 +47,14 @@ fn batch_sizes<F: PrimeField64, A: Air<F>, E, Com, Opening, R>(
     requires masked { bounds.masks ≤ bounds.least }
     requires masks { bounds.masks ≤ 1 }
     requires formed { WellFormed (map A.declaration airs.now) (read_common common.now) }
-    requires counted { HaveItemForEachTable (stated A.declaration A.trees airs.now public_values.now common.now) proof.now }
+    requires counted { HaveItemForEachTable
+        (stated A.declaration A.trees airs.now public_values.now common.now) proof.now }
     ensures verdict { IsVerdict (size_part F.ring (bounds_with F.ORDER_U64 bounds)
         (stated A.declaration A.trees airs.now public_values.now common.now) proof.now) result }
     ensures chunks { IfOk result (λ v. v.items
-        ≡ tabulate (length airs.now) (log_chunks_at F.ring bounds.masks (tables_of A.declaration A.trees airs.now) (map read_all common.now.lookups) proof.now.degree_bits)) }
+        ≡ tabulate (length airs.now)
+        (log_chunks_at F.ring bounds.masks (tables_of A.declaration A.trees airs.now)
+        (map read_all common.now.lookups) proof.now.degree_bits)) }
 {
     check_sizes(
         alloc,
@@ -73,7 +76,8 @@ fn batch_bounds<F: PrimeField64, A: Air<F>, E, Com, Opening, R>(
     proof: &TablesProof<F, E, Com, Opening>,
     bounds: ShapeBounds,
 ) -> Result<(), BatchVerificationError<R>>
-    requires counted { HaveItemForEachTable (stated A.declaration A.trees airs.now public_values.now common.now) proof.now }
+    requires counted { HaveItemForEachTable
+        (stated A.declaration A.trees airs.now public_values.now common.now) proof.now }
     requires fits { (i : ℕ) → i < length airs.now → get_or proof.now.degree_bits i 0 < 64 }
     ensures { IsVerdict (bus_bound_part (bounds_with F.ORDER_U64 bounds)
         (stated A.declaration A.trees airs.now public_values.now common.now) proof.now) result }
@@ -90,12 +94,14 @@ fn batch_opened<F: PrimeField64, A: Air<F>, E, Com, Opening, R>(
     chunks: &[usize],
     bounds: ShapeBounds,
 ) -> Result<(), BatchVerificationError<R>>
-    requires counted { HaveItemForEachTable (stated A.declaration A.trees airs.now public_values.now common.now) proof.now }
+    requires counted { HaveItemForEachTable
+        (stated A.declaration A.trees airs.now public_values.now common.now) proof.now }
     requires chunks { length chunks.now ≡ length airs.now }
     requires fits { (i : ℕ) → i < length airs.now → get_or chunks.now i 0 + bounds.masks < 64 }
     ensures { IsDecided (in_turn (length airs.now)
         (opened_by (tables_of A.declaration A.trees airs.now) (map (λ v. v.items) public_values.now)
-        (map read_all common.now.lookups) proof.now.instances proof.now.lookup_terminals chunks.now bounds.masks bounds.dimension)) result }
+        (map read_all common.now.lookups) proof.now.instances proof.now.lookup_terminals chunks.now
+        bounds.masks bounds.dimension)) result }
 {
     check_tables(
         airs,
@@ -130,9 +136,12 @@ pub fn check_shape<F: PrimeField64, A: Air<F>, E, Com, Opening, R>(
     ensures verdict { IsVerdict (shape_checks F.ring (bounds_with F.ORDER_U64 bounds)
         (stated A.declaration A.trees airs.now public_values.now common.now) proof.now) result }
     ensures chunks { IfOk result (λ v. v.items
-        ≡ tabulate (length airs.now) (log_chunks_at F.ring bounds.masks (tables_of A.declaration A.trees airs.now) (map read_all common.now.lookups) proof.now.degree_bits)) }
+        ≡ tabulate (length airs.now)
+        (log_chunks_at F.ring bounds.masks (tables_of A.declaration A.trees airs.now)
+        (map read_all common.now.lookups) proof.now.degree_bits)) }
     ensures memory { IfErr result (λ e. e ≡ BatchVerificationError.OutOfMemory
-        → NoneFails (count_checks {R = R} bounds.zk (stated A.declaration A.trees airs.now public_values.now common.now) proof.now)) }
+        → NoneFails (count_checks {R = R} bounds.zk
+        (stated A.declaration A.trees airs.now public_values.now common.now) proof.now)) }
 {
     check_counts(airs, public_values, common, proof, bounds.zk)?;
     let chunks = batch_sizes(alloc, airs, public_values, common, proof, bounds)?;

@@ -13,7 +13,9 @@ impl<F: Field> InteractionSymbolicBuilder<F> {
     /// `t` (`SymbolicExpression::degree_multiple_with_transition`), or zero where none is recorded. The nodes are read once,
     /// and none is copied (not in Plonky3).
     pub fn largest_degree_multiple(&self, t: usize) -> Mem<usize>
-        ensures { IfOk result (λ d. d ≡ greatest 0 (map (λ a. multiple t a.tree) (asserted_at self.now.nodes self.now.asserted))) }
+        ensures { IfOk result (λ d.
+            d ≡ greatest 0 (map (λ a. multiple t a.tree)
+            (asserted_at self.now.nodes self.now.asserted))) }
     {
         let cells = Multiples { transition: t };
         largest_degree(self.alloc, &self.nodes, &self.asserted, &cells)
@@ -23,7 +25,9 @@ impl<F: Field> InteractionSymbolicBuilder<F> {
     /// (`SymbolicExpression::poly_degree`), or zero where none is recorded. A periodic column that `periods` doesn't name
     /// counts as constant (not in Plonky3).
     pub fn largest_poly_degree(&self, trace_len: usize, periods: &[usize]) -> Mem<usize>
-        ensures { IfOk result (λ d. d ≡ greatest 0 (map (λ a. polynomial_degree trace_len periods.now a.tree) (asserted_at self.now.nodes self.now.asserted))) }
+        ensures { IfOk result (λ d.
+            d ≡ greatest 0 (map (λ a. polynomial_degree trace_len periods.now a.tree)
+            (asserted_at self.now.nodes self.now.asserted))) }
     {
         let cells = OverRows {
             rows: trace_len,

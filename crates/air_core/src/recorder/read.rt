@@ -18,18 +18,28 @@ use std::alloc::Global;
 impl<F: Field> InteractionSymbolicBuilder<F> {
     /// The constraints asserted over the base field, in order. Where there are none, the answer is Ok.
     pub fn base_constraints(&self, alloc: Global) -> Mem<Vec<SymbolicExpression<F>>>
-        ensures trees { IfOk result (λ v. map tree_of v.items ≡ trees_at self.now.nodes (asserted_in false self.now.asserted)) }
-        ensures asserted { IfOk result (λ v. map tree_of v.items ≡ trees_over false (asserted_at self.now.nodes self.now.asserted)) }
-        ensures none { trees_over false (asserted_at self.now.nodes self.now.asserted) ≡ [] → IsOk result }
+        ensures trees { IfOk result
+            (λ v. map tree_of v.items
+            ≡ trees_at self.now.nodes (asserted_in false self.now.asserted)) }
+        ensures asserted { IfOk result
+            (λ v. map tree_of v.items
+            ≡ trees_over false (asserted_at self.now.nodes self.now.asserted)) }
+        ensures none { trees_over false (asserted_at self.now.nodes self.now.asserted) ≡ []
+            → IsOk result }
     {
         expressions(alloc, &self.nodes, &self.asserted, false)
     }
 
     /// The constraints asserted over the extension, in order. Where there are none, the answer is Ok.
     pub fn extension_constraints(&self, alloc: Global) -> Mem<Vec<SymbolicExpression<F>>>
-        ensures trees { IfOk result (λ v. map tree_of v.items ≡ trees_at self.now.nodes (asserted_in true self.now.asserted)) }
-        ensures asserted { IfOk result (λ v. map tree_of v.items ≡ trees_over true (asserted_at self.now.nodes self.now.asserted)) }
-        ensures none { trees_over true (asserted_at self.now.nodes self.now.asserted) ≡ [] → IsOk result }
+        ensures trees { IfOk result
+            (λ v. map tree_of v.items
+            ≡ trees_at self.now.nodes (asserted_in true self.now.asserted)) }
+        ensures asserted { IfOk result
+            (λ v. map tree_of v.items
+            ≡ trees_over true (asserted_at self.now.nodes self.now.asserted)) }
+        ensures none { trees_over true (asserted_at self.now.nodes self.now.asserted) ≡ []
+            → IsOk result }
     {
         expressions(alloc, &self.nodes, &self.asserted, true)
     }
@@ -38,13 +48,18 @@ impl<F: Field> InteractionSymbolicBuilder<F> {
     /// place stands once in one of both lists, and each list ascends.
     pub fn constraint_layout(&self, alloc: Global) -> Mem<ConstraintLayout>
         ensures base { IfOk result (λ l. l.base_indices ≡ indices_from false 0 self.now.asserted) }
-        ensures extension { IfOk result (λ l. l.ext_indices ≡ indices_from true 0 self.now.asserted) }
+        ensures extension { IfOk result
+            (λ l. l.ext_indices ≡ indices_from true 0 self.now.asserted) }
         ensures total { IfOk result (λ l. place_count l ≡ length self.now.asserted) }
         ensures once { IfOk result ListsEachOnce }
-        ensures base_places { IfOk result (λ l. AreTheirPlaces false self.now.asserted l.base_indices) }
-        ensures extension_places { IfOk result (λ l. AreTheirPlaces true self.now.asserted l.ext_indices) }
-        ensures base_below { IfOk result (λ l. All (λ i. i < length self.now.asserted) l.base_indices) }
-        ensures extension_below { IfOk result (λ l. All (λ i. i < length self.now.asserted) l.ext_indices) }
+        ensures base_places { IfOk result
+            (λ l. AreTheirPlaces false self.now.asserted l.base_indices) }
+        ensures extension_places { IfOk result
+            (λ l. AreTheirPlaces true self.now.asserted l.ext_indices) }
+        ensures base_below { IfOk result
+            (λ l. All (λ i. i < length self.now.asserted) l.base_indices) }
+        ensures extension_below { IfOk result
+            (λ l. All (λ i. i < length self.now.asserted) l.ext_indices) }
     {
         let base_indices = indices(alloc, &self.asserted, false)?;
         let ext_indices = indices(alloc, &self.asserted, true)?;
@@ -75,7 +90,8 @@ fn expressions<F: FieldCore>(
 ) -> Mem<Vec<SymbolicExpression<F>>>
     requires ordered { Ordered nodes.now }
     requires asserted { All (λ a. a.place < length nodes.now) asserted.now }
-    ensures trees { IfOk result (λ v. map tree_of v.items ≡ trees_at nodes.now (asserted_in in_extension asserted.now)) }
+    ensures trees { IfOk result
+        (λ v. map tree_of v.items ≡ trees_at nodes.now (asserted_in in_extension asserted.now)) }
     ensures none { asserted_in in_extension asserted.now ≡ [] → IsOk result }
 {
     let mut expressions = Vec::new(alloc);
@@ -101,7 +117,8 @@ fn indices(alloc: Global, asserted: &[Assertion], in_extension: bool) -> Mem<Vec
 
 // Appends the place where it is asked for.
 fn push_if(indices: &mut Vec<usize>, place: usize, asked: bool) -> Mem<()>
-    ensures { IfOk result (λ _. indices.new.items ≡ indices.old.items ++ cond asked (place ∷ []) []) }
+    ensures { IfOk result (λ _.
+        indices.new.items ≡ indices.old.items ++ cond asked (place ∷ []) []) }
 {
     if asked {
         indices.push(place)?;

@@ -28,7 +28,9 @@ impl<F: Field> InteractionSymbolicBuilder<F> {
     /// The fields of an interaction: its tuples one after another.
     pub fn interaction_fields(&self, alloc: Global, index: usize) -> Mem<Vec<SymbolicExpression<F>>>
         requires { index < length self.now.interactions }
-        ensures { IfOk result (λ v. (d : Placed) → map tree_of v.items ≡ (interaction_at self.now.nodes (get_or self.now.interactions index d)).fields) }
+        ensures { IfOk result (λ v. (d : Placed)
+            → map tree_of v.items ≡ (interaction_at self.now.nodes
+            (get_or self.now.interactions index d)).fields) }
     {
         let recorded = &self.interactions[index];
         expressions_at(alloc, &self.nodes, &recorded.fields)
@@ -37,7 +39,9 @@ impl<F: Field> InteractionSymbolicBuilder<F> {
     /// The counts of an interaction, one a tuple.
     pub fn interaction_counts(&self, alloc: Global, index: usize) -> Mem<Vec<SymbolicExpression<F>>>
         requires { index < length self.now.interactions }
-        ensures { IfOk result (λ v. (d : Placed) → map tree_of v.items ≡ map (λ c. tree_at self.now.nodes c.value) (get_or self.now.interactions index d).counts) }
+        ensures { IfOk result (λ v. (d : Placed)
+            → map tree_of v.items ≡ map (λ c. tree_at self.now.nodes c.value)
+            (get_or self.now.interactions index d).counts) }
     {
         let recorded = &self.interactions[index];
         counts_at(alloc, &self.nodes, &recorded.counts)
@@ -46,7 +50,8 @@ impl<F: Field> InteractionSymbolicBuilder<F> {
     /// The bounds of an interaction's counts, in order.
     pub fn interaction_bounds(&self, alloc: Global, index: usize) -> Mem<Vec<u32>>
         requires { index < length self.now.interactions }
-        ensures { IfOk result (λ v. (d : Placed) → v.items ≡ map (λ c. c.bound) (get_or self.now.interactions index d).counts) }
+        ensures { IfOk result (λ v. (d : Placed)
+            → v.items ≡ map (λ c. c.bound) (get_or self.now.interactions index d).counts) }
     {
         let recorded = &self.interactions[index];
         bounds_of(alloc, &recorded.counts)
@@ -60,7 +65,9 @@ impl<F: Field> InteractionSymbolicBuilder<F> {
         index: usize,
     ) -> Mem<bool>
         requires { index < length self.now.interactions }
-        ensures { IfOk result (λ b. (d : Placed) → IsTrue b ↔ IsInteraction (declared_shape (A.declaration air.now)) (interaction_at self.now.nodes (get_or self.now.interactions index d))) }
+        ensures { IfOk result (λ b. (d : Placed) → IsTrue b
+            ↔ IsInteraction (declared_shape (A.declaration air.now))
+            (interaction_at self.now.nodes (get_or self.now.interactions index d))) }
     {
         let _ = &self.interactions;
         let fields = self.interaction_fields(alloc, index)?;
@@ -75,7 +82,9 @@ impl<F: Field> InteractionSymbolicBuilder<F> {
     /// preprocessed cells that it declares, next cells only in declared next columns (not in Plonky3). Where there is no
     /// interaction, the answer is Ok.
     pub fn interactions_read_declared<A: BaseAir<F>>(&self, alloc: Global, air: &A) -> Mem<bool>
-        ensures declared { IfOk result (λ b. IsTrue b ↔ All (IsInteraction (declared_shape (A.declaration air.now))) (sent_at self.now.nodes self.now.interactions)) }
+        ensures declared { IfOk result
+            (λ b. IsTrue b ↔ All (IsInteraction (declared_shape (A.declaration air.now)))
+            (sent_at self.now.nodes self.now.interactions)) }
         ensures none { self.now.interactions ≡ [] → IsOk result }
     {
         for index in 0..self.num_interactions() {
@@ -135,7 +144,8 @@ fn counts_at<F: FieldCore>(
 ) -> Mem<Vec<SymbolicExpression<F>>>
     requires ordered { Ordered nodes.now }
     requires within { All (λ c. c.value < length nodes.now) counts.now }
-    ensures { IfOk result (λ v. map tree_of v.items ≡ map (λ c. tree_at nodes.now c.value) counts.now) }
+    ensures { IfOk result (λ v.
+        map tree_of v.items ≡ map (λ c. tree_at nodes.now c.value) counts.now) }
 {
     let mut expressions = Vec::with_capacity(alloc, counts.len())?;
     for count in counts {
