@@ -42,7 +42,8 @@ impl<SC: StarkGenericConfig> Settings for SC {
         coefficients = SC.Challenge.coefficients;
         from_coefficients = SC.Challenge.from_coefficients;
       };
-      challenger = ⟦<SC::Challenger as BatchChallenger<SC::Val, SC::Challenge, Commitment<SC>>>⟧.functions;
+      challenger =
+          ⟦<SC::Challenger as BatchChallenger<SC::Val, SC::Challenge, Commitment<SC>>>⟧.functions;
       initial = SC.initial_of config;
       zk = SC.Pcs.ZK;
       log_min = SC.Pcs.log_min (SC.pcs_of config);
