@@ -22,6 +22,7 @@ mod script;
 mod separator;
 mod sha256_challenger;
 mod states;
+mod typed_state;
 mod verifier_state;
 
 pub use prover_state::ProverState;
@@ -30,6 +31,7 @@ pub use script::{
 };
 pub use separator::{DomainSeparator, push_eight_bytes};
 pub use sha256_challenger::Sha256Challenger;
+pub use typed_state::{Proving, TypedState, Verifying};
 pub use verifier_state::VerifierState;
 
 /// A challenger that takes in values of type `T`, as Plonky3's `p3_challenger::CanObserve`.

@@ -1,5 +1,0 @@
-use Rattle.std.proofs.Common.{ap, refl}
-use Rattle.p3_challenger.proofs.verifier_state.VerifierState.delegate.Goals as goal
-
-pub returns-clause-run : goal.returns-clause-run
-returns-clause-run g c = record { shown = _; shows = ap (λ p. p.state) c.self.view_is; left = _; met = c.run.ensures; leaves = refl }
