@@ -20,6 +20,10 @@ pub record ComputesBool {S E F : Type 0} (represents : S → E → Tree F → Ty
   pub less_one_computed : computes first minus x unit second less_one
   pub product_computed : computes second times x less_one b e
 
+-- x (x - 1) was asserted, which was computed as above, and nothing was appended before
+abbrev pub AssertsBool : {S E F A B : Type 0} → (S → E → Tree F → Type 0) → (S → Operation → E → E → S → E → Type 0) → (S → S → List A → List B → Type 0) → (S → E → S → Type 0) → F → S → E → S → Type 0
+AssertsBool represents computes appends asserts one a x b = AssertsOne (λ m e. appends a m [] [] × ComputesBool represents computes one x m e) asserts b
+
 -- each item was asserted in turn, from the first state to the last
 abbrev pub AssertsEach : {S E : Type 0} → (S → E → S → Type 0) → List E → S → S → Type 0
 AssertsEach asserts [] a b = b ≡ a

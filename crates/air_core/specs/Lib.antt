@@ -3,6 +3,7 @@ pub mod Shape
 pub mod Symbolic
 pub mod Operation
 pub mod Asserting
+pub mod Clauses
 pub mod Degree
 pub mod Joined
 pub mod Appended

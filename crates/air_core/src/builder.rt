@@ -1,11 +1,12 @@
 //! Builders: what an AIR's constraints are handed to.
-ghost use Rattle.std.specs.Prelude.{◌≡◌, ℕ, ◌+◌, ◌*◌, ◌^◌, ◌<◌, ◌%◌, List, [], ◌∷◌, ◌++◌, IfOk, OnErr, IsOk, IsTrue, Bool, length, map};
+ghost use Rattle.std.specs.Prelude.{◌≡◌, ◌+◌, ◌*◌, ◌^◌, ◌<◌, ◌%◌, List, [], ◌∷◌, ◌++◌, IfOk, OnErr, IsOk, IsTrue, Bool, length, map};
 ghost use prog.Memory.{size, align};
 ghost use denote.Param.{layout};
+ghost use Rattle.air_core.specs.Clauses.{GivesOfOne, GivesOfTwo, AppendsOfOne, AppendsOfTwo, AppendsEachOfOne, AppendsSomeOfOne, SendsTuple, SendsTuples};
 ghost use Rattle.air_core.specs.Shape.{Shape, Declares, DeclaresExt};
-ghost use Rattle.air_core.specs.Asserting.{AssertsOne, AssertsEach, AssertsFirst, ComputesBool};
+ghost use Rattle.air_core.specs.Asserting.{AssertsOne, AssertsEach, AssertsFirst, AssertsBool};
 ghost use Rattle.air_core.specs.Operation.{Operation, plus, minus, times, tree_by};
-ghost use Rattle.air_core.specs.Tree.{Tree, Asserted, Interaction, Bus, Represent, RepresentsCount, SomeFirst, constant as constant_tree, cell as cell_tree, ext_cell as ext_cell_tree, sum, difference, product, bool_tree, over_base, over_extension, local, global};
+ghost use Rattle.air_core.specs.Tree.{Tree, Asserted, Interaction, Bus, Represent, RepresentsCount, constant as constant_tree, cell as cell_tree, ext_cell as ext_cell_tree, sum, difference, product, bool_tree, over_base, over_extension, local, global};
 ghost use Rattle.air_core.specs.declared.cells.Count.{Count as CountOf};
 
 use crate::cells::{Cell, Count, ExtCell};
@@ -76,8 +77,8 @@ pub trait AirBuilder {
         ensures answers { IsTrue never_fails → IsOk result }
         ensures sure { IsTrue only_asserting_fails → IsOk result }
         ensures computes { IfOk result (λ e. computes self.old plus x y self.new e) }
-        ensures represents { (s t : Tree Self.F) → represents self.old x s → represents self.old y t
-            → IfOk result (λ e. represents self.new e (sum s t)) };
+        ensures represents { GivesOfTwo (represents self.old) x y (represents self.new) sum
+            result };
 
     /// The difference x - y.
     fn sub(&mut self, x: Self::Expr, y: Self::Expr) -> Mem<Self::Expr>
@@ -86,8 +87,8 @@ pub trait AirBuilder {
         ensures answers { IsTrue never_fails → IsOk result }
         ensures sure { IsTrue only_asserting_fails → IsOk result }
         ensures computes { IfOk result (λ e. computes self.old minus x y self.new e) }
-        ensures represents { (s t : Tree Self.F) → represents self.old x s → represents self.old y t
-            → IfOk result (λ e. represents self.new e (difference s t)) };
+        ensures represents { GivesOfTwo (represents self.old) x y (represents self.new) difference
+            result };
 
     /// The product x * y.
     fn mul(&mut self, x: Self::Expr, y: Self::Expr) -> Mem<Self::Expr>
@@ -96,16 +97,16 @@ pub trait AirBuilder {
         ensures answers { IsTrue never_fails → IsOk result }
         ensures sure { IsTrue only_asserting_fails → IsOk result }
         ensures computes { IfOk result (λ e. computes self.old times x y self.new e) }
-        ensures represents { (s t : Tree Self.F) → represents self.old x s → represents self.old y t
-            → IfOk result (λ e. represents self.new e (product s t)) };
+        ensures represents { GivesOfTwo (represents self.old) x y (represents self.new) product
+            result };
 
     /// Asserts that x is zero in every row.
     fn assert_zero(&mut self, x: Self::Expr) -> Mem<()>
         ensures later { later self.old self.new }
         ensures keeps_shape { shape self.new ≡ shape self.old }
         ensures answers { IsTrue never_fails → IsOk result }
-        ensures appends { (t : Tree Self.F) → represents self.old x t
-            → IfOk result (λ _. appends self.old self.new (over_base t ∷ []) []) }
+        ensures appends { AppendsOfOne (represents self.old) x (appends self.old self.new) over_base
+            result }
         ensures asserts { IfOk result (λ _. asserts self.old x self.new) }
         ensures on_error { OnErr result (appends self.old self.new [] []) };
 
@@ -114,8 +115,8 @@ pub trait AirBuilder {
         ensures later { later self.old self.new }
         ensures keeps_shape { shape self.new ≡ shape self.old }
         ensures answers { IsTrue never_fails → IsOk result }
-        ensures appends { (s t : Tree Self.F) → represents self.old x s → represents self.old y t
-            → IfOk result (λ _. appends self.old self.new (over_base (difference s t) ∷ []) []) }
+        ensures appends { AppendsOfTwo (represents self.old) x y (appends self.old self.new)
+            (λ s t. over_base (difference s t)) result }
         ensures asserts { IfOk result
             (λ _. AssertsOne (λ m e. appends self.old m [] [] × computes self.old minus x y m e)
             asserts self.new) }
@@ -130,12 +131,11 @@ pub trait AirBuilder {
         ensures later { later self.old self.new }
         ensures keeps_shape { shape self.new ≡ shape self.old }
         ensures answers { IsTrue never_fails → IsOk result }
-        ensures appends { (t : Tree Self.F) → represents self.old x t
-            → IfOk result (λ _. appends self.old self.new
-            (over_base (bool_tree Self.F.ring.one t) ∷ []) []) }
+        ensures appends { AppendsOfOne (represents self.old) x (appends self.old self.new)
+            (λ t. over_base (bool_tree Self.F.ring.one t)) result }
         ensures asserts { IfOk result
-            (λ _. AssertsOne (λ m e. appends self.old m [] []
-            × ComputesBool represents computes Self.F.ring.one x m e) asserts self.new) }
+            (λ _. AssertsBool represents computes appends asserts Self.F.ring.one self.old x
+            self.new) }
         ensures on_error { OnErr result (appends self.old self.new [] []) }
     {
         let one = self.constant(<Self::F as RingCore>::ONE)?;
@@ -149,10 +149,10 @@ pub trait AirBuilder {
         ensures later { later self.old self.new }
         ensures keeps_shape { shape self.new ≡ shape self.old }
         ensures answers { IsTrue never_fails → IsOk result }
-        ensures appends { (ts : List (Tree Self.F)) → Represent (represents self.old) xs.now ts
-            → IfOk result (λ _. appends self.old self.new (map over_base ts) []) }
-        ensures on_error { (ts : List (Tree Self.F)) → Represent (represents self.old) xs.now ts
-            → OnErr result (SomeFirst (appends self.old self.new) (map over_base ts) []) }
+        ensures appends { AppendsEachOfOne (Represent (represents self.old)) xs.now
+            (appends self.old self.new) (λ ts. ts) result }
+        ensures on_error { AppendsSomeOfOne (Represent (represents self.old)) xs.now
+            (appends self.old self.new) (λ ts. ts) result }
         ensures asserts { IfOk result (λ _. AssertsEach asserts xs.now self.old self.new) }
         ensures some { OnErr result
             (AssertsFirst (λ a b. appends a b [] []) asserts xs.now self.old self.new) }
@@ -168,20 +168,15 @@ pub trait AirBuilder {
         ensures later { later self.old self.new }
         ensures keeps_shape { shape self.new ≡ shape self.old }
         ensures answers { IsTrue never_fails → IsOk result }
-        ensures appends { (ts : List (Tree Self.F)) → Represent (represents self.old) xs.now ts
-            → IfOk result (λ _. appends self.old self.new
-            (map over_base (map (bool_tree Self.F.ring.one) ts)) []) }
-        ensures on_error { (ts : List (Tree Self.F)) → Represent (represents self.old) xs.now ts
-            → OnErr result (SomeFirst (appends self.old self.new)
-            (map over_base (map (bool_tree Self.F.ring.one) ts)) []) }
+        ensures appends { AppendsEachOfOne (Represent (represents self.old)) xs.now
+            (appends self.old self.new) (map (bool_tree Self.F.ring.one)) result }
+        ensures on_error { AppendsSomeOfOne (Represent (represents self.old)) xs.now
+            (appends self.old self.new) (map (bool_tree Self.F.ring.one)) result }
         ensures asserts { IfOk result
-            (λ _. AssertsEach (λ a x b.
-            AssertsOne (λ m e. appends a m [] []
-            × ComputesBool represents computes Self.F.ring.one x m e) asserts b) xs.now self.old
-            self.new) }
+            (λ _. AssertsEach (AssertsBool represents computes appends asserts Self.F.ring.one)
+            xs.now self.old self.new) }
         ensures some { OnErr result (AssertsFirst (λ a b. appends a b [] [])
-            (λ a x b. AssertsOne (λ m e. appends a m [] []
-            × ComputesBool represents computes Self.F.ring.one x m e) asserts b) xs.now self.old
+            (AssertsBool represents computes appends asserts Self.F.ring.one) xs.now self.old
             self.new) }
     {
         for x in xs {
@@ -254,8 +249,8 @@ pub trait ExtensionBuilder: AirBuilder {
         ensures answers { IsTrue Self.never_fails → IsOk result }
         ensures sure { IsTrue Self.only_asserting_fails → IsOk result }
         ensures lifts { IfOk result (λ e. lifts self.old x self.new e) }
-        ensures represents { (t : Tree Self.F) → Self.represents self.old x t
-            → IfOk result (λ e. represents_ext self.new e t) };
+        ensures represents { GivesOfOne (Self.represents self.old) x (represents_ext self.new)
+            (λ t. t) result };
 
     /// The sum x + y.
     fn add_ext(&mut self, x: Self::ExprEF, y: Self::ExprEF) -> Mem<Self::ExprEF>
@@ -264,9 +259,8 @@ pub trait ExtensionBuilder: AirBuilder {
         ensures answers { IsTrue Self.never_fails → IsOk result }
         ensures sure { IsTrue Self.only_asserting_fails → IsOk result }
         ensures computes { IfOk result (λ e. computes_ext self.old plus x y self.new e) }
-        ensures represents { (s t : Tree Self.F) → represents_ext self.old x s
-            → represents_ext self.old y t
-            → IfOk result (λ e. represents_ext self.new e (sum s t)) };
+        ensures represents { GivesOfTwo (represents_ext self.old) x y (represents_ext self.new) sum
+            result };
 
     /// The difference x - y.
     fn sub_ext(&mut self, x: Self::ExprEF, y: Self::ExprEF) -> Mem<Self::ExprEF>
@@ -275,9 +269,8 @@ pub trait ExtensionBuilder: AirBuilder {
         ensures answers { IsTrue Self.never_fails → IsOk result }
         ensures sure { IsTrue Self.only_asserting_fails → IsOk result }
         ensures computes { IfOk result (λ e. computes_ext self.old minus x y self.new e) }
-        ensures represents { (s t : Tree Self.F) → represents_ext self.old x s
-            → represents_ext self.old y t
-            → IfOk result (λ e. represents_ext self.new e (difference s t)) };
+        ensures represents { GivesOfTwo (represents_ext self.old) x y (represents_ext self.new)
+            difference result };
 
     /// The product x * y.
     fn mul_ext(&mut self, x: Self::ExprEF, y: Self::ExprEF) -> Mem<Self::ExprEF>
@@ -286,17 +279,16 @@ pub trait ExtensionBuilder: AirBuilder {
         ensures answers { IsTrue Self.never_fails → IsOk result }
         ensures sure { IsTrue Self.only_asserting_fails → IsOk result }
         ensures computes { IfOk result (λ e. computes_ext self.old times x y self.new e) }
-        ensures represents { (s t : Tree Self.F) → represents_ext self.old x s
-            → represents_ext self.old y t
-            → IfOk result (λ e. represents_ext self.new e (product s t)) };
+        ensures represents { GivesOfTwo (represents_ext self.old) x y (represents_ext self.new)
+            product result };
 
     /// Asserts that x is zero in every row.
     fn assert_zero_ext(&mut self, x: Self::ExprEF) -> Mem<()>
         ensures later { Self.later self.old self.new }
         ensures keeps_shape { Self.shape self.new ≡ Self.shape self.old }
         ensures answers { IsTrue Self.never_fails → IsOk result }
-        ensures appends { (t : Tree Self.F) → represents_ext self.old x t
-            → IfOk result (λ _. Self.appends self.old self.new (over_extension t ∷ []) []) }
+        ensures appends { AppendsOfOne (represents_ext self.old) x (Self.appends self.old self.new)
+            over_extension result }
         ensures asserts { IfOk result (λ _. asserts_ext self.old x self.new) }
         ensures on_error { OnErr result (Self.appends self.old self.new [] []) };
 
@@ -351,15 +343,8 @@ pub trait InteractionBuilder: PermutationAirBuilder {
         ensures keeps_shape { Self.shape self.new ≡ Self.shape self.old }
         ensures answers { IsTrue Self.never_fails → IsOk result }
         ensures sure { IsTrue Self.only_asserting_fails → IsOk result }
-        ensures appends { (fs : List (Tree Self.F)) (v : Tree Self.F)
-            → Represent (Self.represents self.old) fields.now fs
-            → Self.represents self.old count.value v
-            → IfOk result (λ _. Self.appends self.old self.new []
-            (record {
-              bus = global bus_name.now;
-              fields = fs;
-              counts = record { value = v; bound = count.bound } ∷ [];
-            } ∷ [])) }
+        ensures appends { SendsTuple (Self.represents self.old) (global bus_name.now) fields.now
+            count (Self.appends self.old self.new) result }
         ensures sends { IfOk result
             (λ _. sends self.old (global bus_name.now) fields.now (count ∷ []) self.new) }
         ensures on_error { OnErr result (Self.appends self.old self.new [] []) };
@@ -378,11 +363,8 @@ pub trait InteractionBuilder: PermutationAirBuilder {
         ensures keeps_shape { Self.shape self.new ≡ Self.shape self.old }
         ensures answers { IsTrue Self.never_fails → IsOk result }
         ensures sure { IsTrue Self.only_asserting_fails → IsOk result }
-        ensures appends { (fs : List (Tree Self.F)) (vs : List (CountOf (Tree Self.F)))
-            → Represent (Self.represents self.old) fields.now fs
-            → Represent (RepresentsCount (Self.represents self.old)) counts.now vs
-            → IfOk result (λ _. Self.appends self.old self.new []
-            (record { bus = local; fields = fs; counts = vs } ∷ [])) }
+        ensures appends { SendsTuples (Self.represents self.old) local fields.now counts.now
+            (Self.appends self.old self.new) result }
         ensures sends { IfOk result (λ _. sends self.old local fields.now counts.now self.new) }
         ensures on_error { OnErr result (Self.appends self.old self.new [] []) };
 

@@ -5,7 +5,7 @@
 //! order.
 //!
 //! The definitions that the contracts cite are in `specs/`: trees with their values (`Tree`), declared cells (`Shape`),
-//! degrees (`Degree`), what builders hold (`Symbolic`, `Recording`, `RowCheck`), layouts (`Layout`), rows that meet
+//! what calls say of trees (`Clauses`), degrees (`Degree`), what builders hold (`Symbolic`, `Recording`, `RowCheck`), layouts (`Layout`), rows that meet
 //! constraints (`Check`), values of trees along maps (`Maps`), and cells at a point (`CellValues`).
 #![tactic(auto)]
 

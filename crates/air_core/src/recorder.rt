@@ -1,12 +1,12 @@
 //! The builder that records constraints and interactions.
-ghost use Rattle.std.specs.Prelude.{◌≡◌, ℕ, ◌<◌, ◌%◌, ◌++◌, List, [], ◌∷◌, length, map, IfOk, OnErr, IsTrue, IsOk, false, true, Bool, Option, IfSome, string_bytes};
+ghost use Rattle.std.specs.Prelude.{◌≡◌, ◌<◌, ◌%◌, [], ◌∷◌, length, map, IfOk, OnErr, IsTrue, IsOk, false, true, string_bytes};
 ghost use Rattle.std.specs.Option.{option_map};
 ghost use Rattle.std.proofs.Common.{lit<};
+ghost use Rattle.air_core.specs.Clauses.{GivesOfOne, GivesOfTwo, AppendsOfOne, SendsTuple, SendsTuples};
 ghost use Rattle.air_core.specs.Layout.{layout_shape};
 ghost use Rattle.air_core.specs.Symbolic.{node_tree, trees_after, OperandsBelow};
 ghost use Rattle.air_core.specs.Recording.{Recording, IsLater, HasAppended, RepresentsAt, Computes, place_or_zero, tree_or_zero, bus_of, name_of, count_or_zero, asserting, sending};
-ghost use Rattle.air_core.specs.Tree.{Tree, Interaction, Represent, RepresentsCount, sum, difference, product, global, local};
-ghost use Rattle.air_core.specs.declared.cells.Count.{Count as CountOf};
+ghost use Rattle.air_core.specs.Tree.{sum, difference, product, global, local};
 ghost use Rattle.air_core.specs.declared.node.Node.TheVariants.{Constant};
 ghost use Rattle.air_core.specs.Laws.Recording.{later-same, later-along, later-shape, represents-later, appends-none, appends-along, asserting-appends, sending-appends, computes-represents, lifts-represents};
 
@@ -134,9 +134,8 @@ impl<F: Field> InteractionSymbolicBuilder<F> {
     // Adds the sum of two expressions.
     fn push_sum(&mut self, x: usize, y: usize) -> Mem<usize>
         ensures appends { HasAppended self.old self.new [] [] }
-        ensures represents { (s t : Tree F) → RepresentsAt self.old.nodes x s
-            → RepresentsAt self.old.nodes y t
-            → IfOk result (λ e. RepresentsAt self.new.nodes e (sum s t)) }
+        ensures represents { GivesOfTwo (RepresentsAt self.old.nodes) x y
+            (RepresentsAt self.new.nodes) sum result }
         ensures known { IfOk result
             (λ e. RepresentsAt self.new.nodes e
             (sum (tree_or_zero self.old.nodes x) (tree_or_zero self.old.nodes y))) }
@@ -149,9 +148,8 @@ impl<F: Field> InteractionSymbolicBuilder<F> {
     // Adds the difference of two expressions.
     fn push_difference(&mut self, x: usize, y: usize) -> Mem<usize>
         ensures appends { HasAppended self.old self.new [] [] }
-        ensures represents { (s t : Tree F) → RepresentsAt self.old.nodes x s
-            → RepresentsAt self.old.nodes y t
-            → IfOk result (λ e. RepresentsAt self.new.nodes e (difference s t)) }
+        ensures represents { GivesOfTwo (RepresentsAt self.old.nodes) x y
+            (RepresentsAt self.new.nodes) difference result }
         ensures known { IfOk result
             (λ e. RepresentsAt self.new.nodes e
             (difference (tree_or_zero self.old.nodes x) (tree_or_zero self.old.nodes y))) }
@@ -164,9 +162,8 @@ impl<F: Field> InteractionSymbolicBuilder<F> {
     // Adds the product of two expressions.
     fn push_product(&mut self, x: usize, y: usize) -> Mem<usize>
         ensures appends { HasAppended self.old self.new [] [] }
-        ensures represents { (s t : Tree F) → RepresentsAt self.old.nodes x s
-            → RepresentsAt self.old.nodes y t
-            → IfOk result (λ e. RepresentsAt self.new.nodes e (product s t)) }
+        ensures represents { GivesOfTwo (RepresentsAt self.old.nodes) x y
+            (RepresentsAt self.new.nodes) product result }
         ensures known { IfOk result
             (λ e. RepresentsAt self.new.nodes e
             (product (tree_or_zero self.old.nodes x) (tree_or_zero self.old.nodes y))) }
@@ -178,9 +175,9 @@ impl<F: Field> InteractionSymbolicBuilder<F> {
 
     // Appends an assertion.
     fn assert(&mut self, x: usize, in_extension: bool) -> Mem<()>
-        ensures appends { (t : Tree F) → RepresentsAt self.old.nodes x t
-            → IfOk result (λ _. HasAppended self.old self.new
-            (record { tree = t; in_extension = in_extension } ∷ []) []) }
+        ensures appends { AppendsOfOne (RepresentsAt self.old.nodes) x
+            (HasAppended self.old self.new) (λ t. record { tree = t; in_extension = in_extension })
+            result }
         ensures asserted { IfOk result (λ _. self.new ≡ asserting self.old x in_extension) }
         ensures keeps_shape { OnErr result (self.new ≡ self.old) }
         ensures on_error { OnErr result (HasAppended self.old self.new [] []) }
@@ -216,12 +213,9 @@ impl<F: Field> InteractionSymbolicBuilder<F> {
         requires counted { 0 < length counts.now }
         requires whole { length fields.now % length counts.now ≡ 0 }
         ensures later { IsLater self.old self.new }
-        ensures appends { (fs : List (Tree F)) (vs : List (CountOf (Tree F)))
-            → Represent (RepresentsAt self.old.nodes) fields.now fs
-            → Represent (RepresentsCount (RepresentsAt self.old.nodes)) counts.now vs
-            → IfOk result (λ _. HasAppended self.old self.new []
-            (record { bus = bus_of (option_map string_bytes bus); fields = fs; counts = vs }
-            ∷ [])) }
+        ensures appends { SendsTuples (RepresentsAt self.old.nodes)
+            (bus_of (option_map string_bytes bus)) fields.now counts.now
+            (HasAppended self.old self.new) result }
         ensures sent { IfOk result
             (λ _. self.new ≡ sending self.old (option_map string_bytes bus) fields.now counts.now) }
         ensures on_error { OnErr result (HasAppended self.old self.new [] []) }
@@ -316,8 +310,8 @@ impl<F: Field> ExtensionBuilder for InteractionSymbolicBuilder<F> {
         ensures sure { IsTrue false → IsOk result }
         ensures lifts { IfOk result
             (λ e. RepresentsAt self.new.nodes e (tree_or_zero self.old.nodes x)) }
-        ensures represents { (t : Tree F) → RepresentsAt self.old.nodes x t
-            → IfOk result (λ e. RepresentsAt self.new.nodes e t) }
+        ensures represents { GivesOfOne (RepresentsAt self.old.nodes) x
+            (RepresentsAt self.new.nodes) (λ t. t) result }
 
         // An expression of the base is one of the extension as it is: nothing is allocated.
         ensures always { IsOk result }
@@ -365,15 +359,8 @@ impl<F: Field> InteractionBuilder for InteractionSymbolicBuilder<F> {
         ensures later { IsLater self.old self.new }
         ensures keeps_shape { layout_shape self.new.layout ≡ layout_shape self.old.layout }
         ensures answers { IsTrue false → IsOk result }
-        ensures appends { (fs : List (Tree F)) (v : Tree F)
-            → Represent (RepresentsAt self.old.nodes) fields.now fs
-            → RepresentsAt self.old.nodes count.value v
-            → IfOk result (λ _. HasAppended self.old self.new []
-            (record {
-              bus = global bus_name.now;
-              fields = fs;
-              counts = record { value = v; bound = count.bound } ∷ [];
-            } ∷ [])) }
+        ensures appends { SendsTuple (RepresentsAt self.old.nodes) (global bus_name.now) fields.now
+            count (HasAppended self.old self.new) result }
         ensures sure { IsTrue false → IsOk result }
         ensures sends { IfOk result
             (λ _. self.new ≡ sending self.old (name_of (global bus_name.now)) fields.now
@@ -390,11 +377,8 @@ impl<F: Field> InteractionBuilder for InteractionSymbolicBuilder<F> {
         ensures later { IsLater self.old self.new }
         ensures keeps_shape { layout_shape self.new.layout ≡ layout_shape self.old.layout }
         ensures answers { IsTrue false → IsOk result }
-        ensures appends { (fs : List (Tree F)) (vs : List (CountOf (Tree F)))
-            → Represent (RepresentsAt self.old.nodes) fields.now fs
-            → Represent (RepresentsCount (RepresentsAt self.old.nodes)) counts.now vs
-            → IfOk result (λ _. HasAppended self.old self.new []
-            (record { bus = local; fields = fs; counts = vs } ∷ [])) }
+        ensures appends { SendsTuples (RepresentsAt self.old.nodes) local fields.now counts.now
+            (HasAppended self.old self.new) result }
         ensures sure { IsTrue false → IsOk result }
         ensures sends { IfOk result
             (λ _. self.new ≡ sending self.old (name_of local) fields.now counts.now) }
