@@ -13,6 +13,7 @@ mod failure;
 pub mod meanings;
 mod prover_transcript;
 mod shape;
+mod transcript;
 mod verifier_transcript;
 
 pub use buses::{empty_layout, layout};
@@ -20,4 +21,5 @@ pub use challenger::BatchChallenger;
 pub use failure::{BatchTranscriptFailure, GrindStep, TranscriptError};
 pub use prover_transcript::BatchProverTranscript;
 pub use shape::BatchShape;
+pub use transcript::BatchTranscript;
 pub use verifier_transcript::BatchVerifierTranscript;

@@ -2,7 +2,7 @@ use Rattle.std.proofs.Common.{◌≡◌, ◌++◌, ◌∷◌, map, drop, take}
 use Rattle.std.specs.List.{fold}
 use Rattle.std.specs.Option.{option_copied, option_map_or}
 use Rattle.batch_transcript.specs.BatchScript.{lookup_terminal_step, constraint_challenge_step, from_quotient}
-use Rattle.batch_transcript.proofs.verifier_transcript.BatchVerifierTranscript.permutation_phase.Given as goal
+use Rattle.batch_transcript.proofs.transcript.BatchTranscript.permutation_phase.Given as goal
 
 abbrev pub invariant-loop-terminal : goal.invariant-loop-terminal
 invariant-loop-terminal g l = record {

@@ -5,7 +5,7 @@ use Rattle.std.proofs.lemmas.List.{take_all}
 use Rattle.p3_field.specs.Ring.{of_nat}
 use Rattle.batch_transcript.specs.BatchScript.{pattern, degree_bits_step, from_main}
 use Rattle.batch_transcript.specs.Laws.Phases.{map-const, plays-bindings}
-use Rattle.batch_transcript.proofs.verifier_transcript.BatchVerifierTranscript.instance_bindings.Goals as goal
+use Rattle.batch_transcript.proofs.transcript.BatchTranscript.instance_bindings.Goals as goal
 
 pub loop-bits-init : goal.loop-bits-init
 unfolding pattern

@@ -8,7 +8,7 @@ use Rattle.p3_challenger.specs.States.{NextIs, IsStep, steps_after_next}
 use Rattle.p3_challenger.specs.declared.script.InteractionKind.TheVariants.{Message}
 use Rattle.batch_transcript.specs.BatchScript.{only_with, permutation_commitment_step, constraint_challenge_step, lookup_terminal_step, from_permutation, from_quotient}
 use Rattle.batch_transcript.specs.Laws.Phases.{permutation-next, permutation-after, permutation-steps, copied-some, state-if, plays-permutation}
-use Rattle.batch_transcript.proofs.prover_transcript.BatchProverTranscript.permutation_phase.Goals as goal
+use Rattle.batch_transcript.proofs.transcript.BatchTranscript.permutation_phase.Goals as goal
 
 pub message_if_present-requires : goal.message_if_present-requires
 unfolding from_permutation

@@ -2,7 +2,7 @@ use Rattle.std.proofs.Common.{◌≡◌, ◌++◌, map, drop, take}
 use Rattle.std.specs.List.{fold}
 use Rattle.p3_field.specs.Ring.{of_nat}
 use Rattle.batch_transcript.specs.BatchScript.{degree_bits_step, from_main}
-use Rattle.batch_transcript.proofs.verifier_transcript.BatchVerifierTranscript.instance_bindings.Given as goal
+use Rattle.batch_transcript.proofs.transcript.BatchTranscript.instance_bindings.Given as goal
 
 abbrev pub invariant-loop-bits : goal.invariant-loop-bits
 invariant-loop-bits g l = record {

@@ -1,7 +1,7 @@
 use Rattle.std.proofs.Common.{◌≡◌, ◌++◌, map, drop, take, length}
 use Rattle.std.specs.List.{fold}
 use Rattle.batch_transcript.specs.BatchScript.{public_values_step, from_preprocessed}
-use Rattle.batch_transcript.proofs.verifier_transcript.BatchVerifierTranscript.main_phase.Given as goal
+use Rattle.batch_transcript.proofs.transcript.BatchTranscript.main_phase.Given as goal
 
 abbrev pub invariant-loop-values : goal.invariant-loop-values
 invariant-loop-values g l = record {

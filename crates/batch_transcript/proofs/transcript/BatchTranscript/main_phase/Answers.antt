@@ -5,7 +5,7 @@ use Rattle.std.proofs.lemmas.List.{take_all}
 use Rattle.p3_challenger.specs.States.{steps_after_next}
 use Rattle.batch_transcript.specs.BatchScript.{main_commitment_step, public_values_step, from_main, from_preprocessed}
 use Rattle.batch_transcript.specs.Laws.Phases.{plays-main, publics-steps}
-use Rattle.batch_transcript.proofs.prover_transcript.BatchProverTranscript.main_phase.Goals as goal
+use Rattle.batch_transcript.proofs.transcript.BatchTranscript.main_phase.Goals as goal
 
 pub loop-values-init : goal.loop-values-init
 unfolding from_main
