@@ -215,7 +215,7 @@ module _ (version : TranscriptVersion) (job : List (JobTable BabyBear)) (tables 
 
   -- so `verify` writes `accepted` for it
   pub outcome_there : (q : ToolProofData) → IsHonestProof (backend_with b) batch q → DrawsOutside version job q → AcceptsThen q
-      → HoldUnlessUnlucky (tool_setting version) 1 (tool_statement tables) q → SwapsEnd version tables q → (HaveStatedHeights tables q.degree_bits → PrintCompressions version tables q) → FewAreUnlucky version tables q
+      → HoldUnlessUnlucky (tool_setting version) 1 (tool_statement tables) q → (HaveStatedHeights tables q.degree_bits → SwapsEnd version tables q) → (HaveStatedHeights tables q.degree_bits → PrintCompressions version tables q) → FewAreUnlucky version tables q
       → TablesBalance version tables q → IsProvingOutcome version job (Some q)
   unfolding IsFileAnswer
   outcome_there q P d h holds swaps hashes few balance =
@@ -228,7 +228,7 @@ module _ (version : TranscriptVersion) (job : List (JobTable BabyBear)) (tables 
           (heights, accepted_there q h d),
           record {
             holds = subst (λ ts. HoldUnlessUnlucky (tool_setting version) 1 (tool_statement ts) q) same holds;
-            swaps = subst (λ ts. SwapsEnd version ts q) same swaps;
+            swaps = subst (λ ts. HaveStatedHeights ts q.degree_bits → SwapsEnd version ts q) same swaps heights;
             hashes = subst (λ ts. HaveStatedHeights ts q.degree_bits → PrintCompressions version ts q) same hashes heights;
             few = subst (λ ts. FewAreUnlucky version ts q) same few;
             balance = subst (λ ts. TablesBalance version ts q) same balance;
