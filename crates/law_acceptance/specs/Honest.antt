@@ -9,7 +9,7 @@ use Rattle.batch_statement.specs.Statement.{Statement}
 use Rattle.law_valid.specs.Traced.{TracedTable, declared, log_parts, log_rows, traced_at}
 
 -- A table is regular: a preprocessed trace has a column, and the AIR's constraints read declared cells alone, as each AIR's do. For n rows and
--- a quotient of C chunks n (C + 1) is below 2^64, as it is where the field's two-adicity is below 63.
+-- a quotient of C chunks n (C + 1) is below 2^64, as it is where n is below 2^63.
 pub record IsRegular {S F E C : Type 0} (c : Setting S F E C) (t : TracedTable F) : Type 0 where
   pub has_columns : HasColumns (declared t).preprocessed
   pub reads : All (ReadsDeclared (declared_shape (declared t))) t.table.trees
@@ -17,6 +17,10 @@ pub record IsRegular {S F E C : Type 0} (c : Setting S F E C) (t : TracedTable F
 
 abbrev pub AreRegular : {S F E C : Type 0} → Setting S F E C → Statement F C → (traces : List (Rows F)) → (degree_bits : List ℕ) → Type 0
 AreRegular c s traces degree_bits = (i : ℕ) → i < length s.tables → IsRegular c (traced_at s traces degree_bits i)
+
+-- each table has fewer than 2^63 rows
+abbrev pub HaveFewRows : {S F E C : Type 0} → Setting S F E C → Statement F C → (traces : List (Rows F)) → (degree_bits : List ℕ) → Type 0
+HaveFewRows c s traces degree_bits = (i : ℕ) → i < length s.tables → log_rows c (traced_at s traces degree_bits i) < 63
 
 -- the point isn't one of the domain of the table's rows
 abbrev pub IsOutsideRows : {S F E C : Type 0} → Setting S F E C → TracedTable F → E → Type 0

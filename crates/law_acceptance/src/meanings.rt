@@ -2,13 +2,14 @@
 ghost use Rattle.std.specs.Prelude.{◌≡◌, ℕ, ◌<◌, false, List, length};
 ghost use Rattle.p3_field.specs.Domain.{CosetData};
 ghost use Rattle.p3_matrix.specs.Matrix.{Rows};
+ghost use Rattle.batch_config.specs.Setting.{Setting};
 ghost use Rattle.batch_statement.specs.Proof.{ProofData};
 ghost use Rattle.batch_statement.specs.Statement.{Common, Statement, tables_of};
 ghost use Rattle.verifier_batch.specs.BatchChecks.{Accepted};
 ghost use Rattle.law_valid.specs.Traced.{traced_at};
-ghost use Rattle.law_valid.specs.Valid.{Valid};
+ghost use Rattle.law_valid.specs.Valid.{IsTracedBatch, Valid};
 ghost use Rattle.law_honest.specs.HonestProof.{IsHonest, Prover, zeta};
-ghost use Rattle.law_acceptance.specs.Honest.{IsOutsideRows};
+ghost use Rattle.law_acceptance.specs.Honest.{HaveFewRows, IsOutsideRows};
 
 use air_core::{Air, BaseAir};
 use batch_config::Settings;
@@ -21,7 +22,7 @@ use p3_uni_stark::{StarkGenericConfig, Val};
 
 /// An honest proof of a valid statement is accepted, over each configuration whose backend masks nothing and each kind of AIR: no
 /// check of `verify_batch` fails, unless the point of the openings lies on the rows of a table. The backend takes the proof of
-/// its openings, which is part of its being honest. The field's two-adicity is below 63, so that no degree reaches the greatest
+/// its openings, which is part of its being honest. Each table has fewer than 2^63 rows, so that no degree reaches the greatest
 /// `usize`.
 pub fn honest_proofs_are_accepted<SC: StarkGenericConfig, A: Air<Val<SC>>>()
     ensures { (config : SC) (airs : List A) (publics : List (List SC.Val))
@@ -42,11 +43,19 @@ pub fn honest_proofs_are_accepted<SC: StarkGenericConfig, A: Air<Val<SC>>>()
           publics = publics;
           common = common;
         } in
-        SC.Pcs.ZK ≡ false → SC.Val.TWO_ADICITY < 63
+        SC.Pcs.ZK ≡ false → HaveFewRows c s traces degree_bits
         → Valid c SC.Val.eq commitment_of s traces degree_bits
         → IsHonest c p s traces degree_bits (⟦<SC as Settings>⟧.backend config) q
         → ((i : ℕ) → i < length airs
         → IsOutsideRows c (traced_at s traces degree_bits i)
         (zeta c p s traces degree_bits q.lookup_pow_witness q.ood_pow_witness))
         → Accepted c (⟦<SC as Settings>⟧.backend config) s q }
+{}
+
+/// In a field whose two-adicity is below 63 each table of a traced batch has fewer than 2^63 rows.
+pub fn tables_have_few_rows<C, F, E, Com>()
+    ensures { (c : Setting C F E Com) (commitment_of : List (CosetData F × Rows F) → Com)
+        (s : Statement F Com) (traces : List (Rows F)) (degree_bits : List ℕ)
+        → c.two_adicity < 63 → IsTracedBatch c commitment_of s traces degree_bits
+        → HaveFewRows c s traces degree_bits }
 {}

@@ -4,7 +4,7 @@ ghost use Rattle.p3_field.specs.Checks.{in_turn};
 ghost use Rattle.batch_transcript.specs.BatchScript.{from_lookup};
 ghost use Rattle.law_valid.specs.Valid.{Valid};
 ghost use Rattle.verifier_batch.specs.BatchChecks.{Accepted};
-ghost use Rattle.law_acceptance.specs.Honest.{IsOutsideRows};
+ghost use Rattle.law_acceptance.specs.Honest.{HaveFewRows, IsOutsideRows};
 ghost use Rattle.law_honest.specs.HonestProof.{IsHonest};
 ghost use Rattle.prover_answer.specs.Batch.{CommitsToSome, HasProverData, IsTracedAll, all_chunks, all_permutations, batch_of, main_matrices, preprocessed_all, table_at, table_count};
 ghost use Rattle.prover_answer.specs.Proving.{AvoidsExcluded, HaveFractionsFor, IsGroundOf, IsHonestProof, extension_part, fraction_part, lookup_part, ood_part, opening_part, permutation_part, proving_checks, quotient_part};
@@ -100,7 +100,7 @@ pub fn prove_batch_with_point<SC: StarkGenericConfig, A: Air<Val<SC>>>(
     ensures accepted { let b = batch_of (⟦<SC as Settings>⟧.setting config.now)
         (⟦<SC as ProverSettings>⟧.prover config.now) A.declaration A.trees instances.now
         prover_data.now.common in let k = ⟦<SC as ProverSettings>⟧.prover_backend config.now in
-        IfOk result (λ r. SC.Val.TWO_ADICITY < 63
+        IfOk result (λ r. HaveFewRows b.setting b.statement b.traces b.degree_bits
         → Valid b.setting SC.Val.eq b.prover.commitment_of b.statement b.traces b.degree_bits
         → ((i : ℕ) → i < length instances.now
         → IsOutsideRows b.setting (table_at b i)
@@ -161,7 +161,7 @@ pub fn prove_batch_with_point<SC: StarkGenericConfig, A: Air<Val<SC>>>(
 ///
 /// Where none fails it is the honest proof, with the backend's proof of its openings (`proved`): so of a valid statement it is a proof
 /// that `verify_batch` accepts, unless the point lies on the rows of a table, or the point or a next point is one that the backend
-/// excludes (`accepted`), in a field whose two-adicity is below 63. Out of memory may come in place of any answer.
+/// excludes (`accepted`), where each table has fewer than 2^63 rows. Out of memory may come in place of any answer.
 ///
 /// The backend masks nothing. The batch is traced: the common data is well-formed, with these tables' degree bits and the commitment
 /// to their preprocessed traces; widths, heights and numbers of public values are as declared; heights are powers of two within the
@@ -195,7 +195,7 @@ pub fn prove_batch<SC: StarkGenericConfig, A: Air<Val<SC>>>(
     ensures accepted { let b = batch_of (⟦<SC as Settings>⟧.setting config.now)
         (⟦<SC as ProverSettings>⟧.prover config.now) A.declaration A.trees instances.now
         prover_data.now.common in let k = ⟦<SC as ProverSettings>⟧.prover_backend config.now in
-        IfOk result (λ q. SC.Val.TWO_ADICITY < 63
+        IfOk result (λ q. HaveFewRows b.setting b.statement b.traces b.degree_bits
         → Valid b.setting SC.Val.eq b.prover.commitment_of b.statement b.traces b.degree_bits
         → ((i : ℕ) → i < length instances.now
         → IsOutsideRows b.setting (table_at b i)

@@ -22,7 +22,8 @@ use Rattle.batch_setup.specs.Preprocessed.{IsPrepared}
 use Rattle.batch_setup.specs.Setup.{ArePowers, Instance, airs_of, bits_of, log_of}
 use Rattle.batch_setup.specs.SetupChecks.{AreWithinBounds}
 use Rattle.batch_statement.specs.Statement.{Common, WellFormed, WrittenCommon, read_common}
-use Rattle.law_acceptance.specs.Honest.{IsOutsideRows}
+use Rattle.law_acceptance.specs.Honest.{HaveFewRows, IsOutsideRows}
+use Rattle.law_acceptance.specs.Laws.Airs.{few_rows}
 use Rattle.law_committed.specs.Fields.{FieldsLaws, baby_bear_field, quartic_extension}
 use Rattle.law_honest.specs.HonestProof.{IsBuilt}
 use Rattle.law_joining.specs.Laws.Joined.{batch_kept, batch_traced}
@@ -171,7 +172,8 @@ module _ {A : Type 0} (declaration : A → Declaration BabyBear) (trees : A → 
 
     abbrev pub AcceptsThen : AirsProof → Type 0
     AcceptsThen q =
-        27 < 63 → Valid batch.setting same_value batch.prover.commitment_of batch.statement batch.traces batch.degree_bits
+        HaveFewRows batch.setting batch.statement batch.traces batch.degree_bits
+        → Valid batch.setting same_value batch.prover.commitment_of batch.statement batch.traces batch.degree_bits
         → ((i : ℕ) → i < length instances → IsOutsideRows batch.setting (table_at batch i) (drawn_point batch q))
         → AvoidsExcluded (plain_prover_backend (scheme_with b)) batch q.lookup_pow_witness q.ood_pow_witness → Accepted batch.setting (backend_of (scheme_with b)) batch.statement q
 
@@ -180,6 +182,13 @@ module _ {A : Type 0} (declaration : A → Declaration BabyBear) (trees : A → 
       valid_there M =
           subst (λ (B : AirsBatch). Valid B.setting same_value B.prover.commitment_of B.statement B.traces B.degree_bits) (sym same_batch)
           (record { batch = subst (λ (B : AirsBatch). IsTracedAll B) same_batch (traced_there formed); holds = M.holds; fits = M.fits; bounded = M.bounded; balanced = M.balanced })
+
+      low_there : c.two_adicity < 63
+      unfolding tool_setting
+      low_there = subst (λ (d : ToolSetting). d.two_adicity < 63) (sym c_is) (omega arith)
+
+      few_there : HaveFewRows batch.setting batch.statement batch.traces batch.degree_bits
+      few_there = few_rows batch.setting batch.prover.commitment_of batch.statement batch.traces batch.degree_bits low_there (traced_there formed)
 
       outside_there : (q : AirsProof) → DrawsOutside shared q → (i : ℕ) → i < length instances
           → IsOutsideRows batch.setting (table_at batch i) (drawn_point batch q)
@@ -192,4 +201,4 @@ module _ {A : Type 0} (declaration : A → Declaration BabyBear) (trees : A → 
       accepted_there q h M d =
           subst (λ (B : AirsBatch). Accepted B.setting (backend_of tool_scheme) B.statement q) same_batch
           (subst (λ (s : Blowup). Accepted batch.setting (backend_of (scheme_with s)) batch.statement q) b_is
-          (h (omega arith) (valid_there M) (outside_there q d) (λ i o l j p m k x n f. f)))
+          (h few_there (valid_there M) (outside_there q d) (λ i o l j p m k x n f. f)))

@@ -18,7 +18,8 @@ use Rattle.batch_setup.specs.Setup.{Instance, instances_of}
 use Rattle.batch_statement.specs.Statement.{statement_with, Statement, WellFormed, WrittenCommon, read_common, tables_of}
 use Rattle.law_valid.specs.Valid.{Valid}
 use Rattle.verifier_batch.specs.BatchChecks.{Accepted}
-use Rattle.law_acceptance.specs.Honest.{IsOutsideRows}
+use Rattle.law_acceptance.specs.Honest.{HaveFewRows, IsOutsideRows}
+use Rattle.law_acceptance.specs.Laws.Airs.{few_rows}
 use Rattle.law_honest.specs.HonestProof.{IsBuilt, honest_proof, zeta}
 use Rattle.law_soundness.specs.Meaning.{HoldUnlessUnlucky}
 use Rattle.prover_answer.specs.Backend.{ProverBackend}
@@ -173,14 +174,22 @@ module _ (version : TranscriptVersion) (job : List (JobTable BabyBear)) (tables 
       let n = instances_long version job U.within airs airs_there traces U.traces_are publics publics_there written common_there instances U.instances_are c U.setting_is b U.scheme_is in
       subst (λ (B : ToolBatch). IsOutsideRows B.setting (table_at B i) (zeta B.setting B.prover B.statement B.traces B.degree_bits q.lookup_pow_witness q.ood_pow_witness)) (sym batch_is) (d i (omega (arith, l, n)))
 
+  low_there : c.two_adicity < 63
+  unfolding tool_setting
+  low_there = subst (λ (x : ToolSetting). x.two_adicity < 63) (sym U.setting_is) (omega arith)
+
+  few_there : HaveFewRows batch.setting batch.statement batch.traces batch.degree_bits
+  few_there = few_rows batch.setting batch.prover.commitment_of batch.statement batch.traces batch.degree_bits low_there batch_traced
+
   abbrev AcceptsThen : ToolProofData → Type 0
   AcceptsThen q =
-      27 < 63 → Valid batch.setting same_word batch.prover.commitment_of batch.statement batch.traces batch.degree_bits
+      HaveFewRows batch.setting batch.statement batch.traces batch.degree_bits
+      → Valid batch.setting same_word batch.prover.commitment_of batch.statement batch.traces batch.degree_bits
       → ((i : ℕ) → i < length instances → IsOutsideRows batch.setting (table_at batch i) (zeta batch.setting batch.prover batch.statement batch.traces batch.degree_bits q.lookup_pow_witness q.ood_pow_witness))
       → AvoidsExcluded (backend_with b) batch q.lookup_pow_witness q.ood_pow_witness → Accepted batch.setting (backend_of (scheme_with b)) batch.statement q
 
   accepted_batch : (q : ToolProofData) → AcceptsThen q → DrawsOutside version job q → Accepted c (backend_of (scheme_with b)) batch.statement q
-  accepted_batch q h d = h (omega arith) batch_valid (outside_in q d) (λ i o l j p m k x n f. f)
+  accepted_batch q h d = h few_there batch_valid (outside_in q d) (λ i o l j p m k x n f. f)
 
   accepted_there : (q : ToolProofData) → AcceptsThen q → DrawsOutside version job q → Accepted (tool_setting version) tool_backend (tool_statement (map statement_of job)) q
   unfolding tool_backend
@@ -206,7 +215,7 @@ module _ (version : TranscriptVersion) (job : List (JobTable BabyBear)) (tables 
 
   -- so `verify` writes `accepted` for it
   pub outcome_there : (q : ToolProofData) → IsHonestProof (backend_with b) batch q → DrawsOutside version job q → AcceptsThen q
-      → HoldUnlessUnlucky (tool_setting version) 1 (tool_statement tables) q → SwapsEnd version tables q → (HaveStatedHeights tables q.degree_bits → PrintCompressions version tables q) → FewAreUnlucky version tables q
+      → HoldUnlessUnlucky (tool_setting version) 1 (tool_statement tables) q → (HaveStatedHeights tables q.degree_bits → SwapsEnd version tables q) → (HaveStatedHeights tables q.degree_bits → PrintCompressions version tables q) → FewAreUnlucky version tables q
       → TablesBalance version tables q → IsProvingOutcome version job (Some q)
   unfolding IsFileAnswer
   outcome_there q P d h holds swaps hashes few balance =
@@ -219,7 +228,7 @@ module _ (version : TranscriptVersion) (job : List (JobTable BabyBear)) (tables 
           (heights, accepted_there q h d),
           record {
             holds = subst (λ ts. HoldUnlessUnlucky (tool_setting version) 1 (tool_statement ts) q) same holds;
-            swaps = subst (λ ts. SwapsEnd version ts q) same swaps;
+            swaps = subst (λ ts. HaveStatedHeights ts q.degree_bits → SwapsEnd version ts q) same swaps heights;
             hashes = subst (λ ts. HaveStatedHeights ts q.degree_bits → PrintCompressions version ts q) same hashes heights;
             few = subst (λ ts. FewAreUnlucky version ts q) same few;
             balance = subst (λ ts. TablesBalance version ts q) same balance;

@@ -36,10 +36,16 @@ mismatch_text i = refused_text (codes "HeightMismatch") (i ∷ [])
 abbrev pub IsAccepted : TranscriptVersion → List TableStatement → ToolProofData → Type 0
 IsAccepted version tables p = HaveStatedHeights tables p.degree_bits × Accepted (tool_setting version) tool_backend (tool_statement tables) p
 
--- Where neither drawn challenge is unlucky, each swap table ends as it should: its last right cell is the second public value in a table with no degree
--- bits, which has one row, and else the first.
+-- Where neither drawn challenge is unlucky, each swap table ends as it should: its last right cell is the second stated value in a table that is stated to
+-- have one row, and else the first.
 abbrev pub SwapsEnd : TranscriptVersion → List TableStatement → ToolProofData → Type 0
 SwapsEnd version tables p =
+    (IsAlphaUnlucky (tool_setting version) 1 (tool_statement tables) p → ⊥) → (IsZetaUnlucky (tool_setting version) 1 (tool_statement tables) p → ⊥)
+    → (i k : ℕ) (a b x : BabyBear) → slice_get tables i ≡ Some (Swap k a b x) → EndsSwapped k a b x
+
+-- The same where the proof's degree bits say how many rows there are.
+abbrev pub SwapsEndByBits : TranscriptVersion → List TableStatement → ToolProofData → Type 0
+SwapsEndByBits version tables p =
     (IsAlphaUnlucky (tool_setting version) 1 (tool_statement tables) p → ⊥) → (IsZetaUnlucky (tool_setting version) 1 (tool_statement tables) p → ⊥)
     → (i k : ℕ) (a b x : BabyBear) → slice_get tables i ≡ Some (Swap k a b x) → EndsSwapped (get_or p.degree_bits i 0) a b x
 

@@ -3,7 +3,7 @@ ghost use Rattle.std.specs.Prelude.{All, IfOk};
 ghost use Rattle.batch_statement.specs.Verdict.{IsVerdict};
 ghost use Rattle.verifier_batch.specs.BatchChecks.{checks};
 ghost use Rattle.law_soundness.specs.Meaning.{HoldUnlessUnlucky};
-ghost use Rattle.tool_verifier.specs.FileAnswer.{FewAreUnlucky, PrintCompressions, SwapsEnd, TablesBalance};
+ghost use Rattle.tool_verifier.specs.FileAnswer.{FewAreUnlucky, PrintCompressions, SwapsEnd, SwapsEndByBits, TablesBalance};
 ghost use Rattle.tool_statement.specs.StatedTables.{HaveStatedHeights, TableWithin, tool_statement};
 ghost use Rattle.tool_hash_lines.specs.PrintedRows.{HasHashMatrices};
 ghost use Rattle.tool_statement.specs.Config.{tool_backend, tool_setting};
@@ -25,8 +25,8 @@ use verifier_batch::verify_batch;
 ///
 /// Where it is Ok, every constraint of every table is zero on each row of the committed polynomials, or the drawn alpha or the drawn zeta is
 /// unlucky (`holds`); what the tables send to each other balances in the field, or one of these or the drawn lookup pair is unlucky (`balance`); and where neither
-/// alpha nor zeta is, each swap table's last right cell is its second public value in a table of one row, and else its
-/// first (`swaps`), and with the stated heights each row of a hash table is printed as a compression (`hashes`). Few challenges are unlucky for the committed tables
+/// alpha nor zeta is, with the stated heights each swap table's last right cell is its second value in a table that is stated to have one row, and else its
+/// first (`swaps`; `ends` says it by the proof's degree bits, whatever heights are stated), and each row of a hash table is printed as a compression (`hashes`). Few challenges are unlucky for the committed tables
 /// (`few`). With these heights the matrices of hash
 /// tables are as large as is stated (`matrices`).
 pub fn verify_tables(
@@ -41,7 +41,10 @@ pub fn verify_tables(
     ensures holds { IfOk result
         (λ _. HoldUnlessUnlucky (tool_setting version) 1 (tool_statement tables.now) proof.now) }
     ensures balance { IfOk result (λ _. TablesBalance version tables.now proof.now) }
-    ensures swaps { IfOk result (λ _. SwapsEnd version tables.now proof.now) }
+    ensures ends { IfOk result (λ _. SwapsEndByBits version tables.now proof.now) }
+    ensures swaps { IfOk result
+        (λ _. HaveStatedHeights tables.now proof.now.degree_bits
+        → SwapsEnd version tables.now proof.now) }
     ensures hashes { IfOk result
         (λ _. HaveStatedHeights tables.now proof.now.degree_bits
         → PrintCompressions version tables.now proof.now) }

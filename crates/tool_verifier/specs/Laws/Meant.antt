@@ -35,6 +35,7 @@ use Rattle.law_soundness.specs.Laws.Swap.{holds_before}
 use Rattle.law_soundness.specs.Laws.SwapTables.{first_of, swaps_end}
 use Rattle.law_soundness.specs.Meaning.{HoldUnlessUnlucky, IsAlphaUnlucky, IsZetaUnlucky}
 use Rattle.law_soundness.specs.PlainSetting.{plain_scheme}
+use Rattle.law_soundness.specs.Swapped.{EndsSwapped}
 use Rattle.law_hash_soundness.specs.Laws.Hashes.{row_is_compression}
 use Rattle.transcript_version.specs.declared.TranscriptVersion.{TranscriptVersion}
 use Rattle.tool_tables.specs.Laws.Tool.{tool-read}
@@ -47,9 +48,9 @@ use Rattle.tool_statement.specs.declared.table.TableStatement.{TableStatement}
 use Rattle.tool_statement.specs.declared.table.TableStatement.TheVariants.{Swap, Wheel, Take, Give, Hash}
 use Rattle.tool_proof_text.specs.ProofText.{ToolProofData}
 use Rattle.tool_hash_lines.specs.Laws.Compressions.{line_of_compression}
-use Rattle.tool_hash_lines.specs.Laws.Matrices.{binds_of_tool, degree, laws_of_tool, plain_tool}
+use Rattle.tool_hash_lines.specs.Laws.Matrices.{binds_of_tool, degree, laws_of_tool, plain_tool, stated_degree}
 use Rattle.tool_hash_lines.specs.PrintedRows.{committed_cells}
-use Rattle.tool_verifier.specs.FileAnswer.{FewAreUnlucky, PrintCompressions, SwapsEnd, TablesBalance}
+use Rattle.tool_verifier.specs.FileAnswer.{FewAreUnlucky, PrintCompressions, SwapsEnd, SwapsEndByBits, TablesBalance}
 
 -- the tables' constraints read declared cells
 table_read : (t : TableStatement) → All (ReadsDeclared (declared_shape (source_of_table t).declaration)) (source_of_table t).trees
@@ -111,11 +112,16 @@ module _ (version : TranscriptVersion) (tables : List TableStatement) (p : ToolP
     publics_are : get_or s.publics i [] ≡ publics_of t
     publics_are = get_or-map publics_of tables i (Take 0) [] within ∙ ap publics_of here
 
-  -- swap tables
-  pub swaps : SwapsEnd version tables p
-  swaps no_alpha no_zeta i k a b x at =
+  -- swap tables, by the proof's degree bits
+  pub swaps_by_bits : SwapsEndByBits version tables p
+  swaps_by_bits no_alpha no_zeta i k a b x at =
       swaps_end (tool_setting version) 1 s p quartic_inv fields (first_of tables_hold no_alpha no_zeta) (heights_fit (tool_setting version) tool_backend 1 s p quartic_inv fields (plain_tool version) binds formed accepted) i a b x
       (placed i (Swap k a b x) at) (ap (λ (t : AirTable BabyBear). t.trees) (stated_is i (Swap k a b x) at)) (publics_are i (Swap k a b x) at)
+
+  -- and by the stated heights
+  pub swaps : HaveStatedHeights tables p.degree_bits → SwapsEnd version tables p
+  swaps heights no_alpha no_zeta i k a b x at =
+      subst (λ (n : ℕ). EndsSwapped n a b x) (stated_degree version tables p quartic_inv L B formed accepted heights i (Swap k a b x) at) (swaps_by_bits no_alpha no_zeta i k a b x at)
 
   -- the constraints of a hash table
   trees_of_hash : (i k : ℕ) → slice_get tables i ≡ Some (Hash k) → Holds (tool_setting version).field (tool_setting version).extension (committed_table_at (tool_setting version) 1 s p i) (stated_table s i).trees

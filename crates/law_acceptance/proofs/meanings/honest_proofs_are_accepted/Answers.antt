@@ -3,7 +3,7 @@ use Rattle.law_acceptance.specs.Laws.Airs.{airs_accepted}
 use Rattle.law_acceptance.proofs.meanings.honest_proofs_are_accepted.Goals as goal
 
 pub returns : goal.returns
-returns g k = λ config airs publics common traces degree_bits commitment_of q plain low V G outside.
+returns g k = λ config airs publics common traces degree_bits commitment_of q plain few V G outside.
     airs_accepted _ _ g.SC.Val.PartialEq.eq g.A.BaseAir.declaration g.A.Air.trees g.met.A.BaseAir.has_columns g.met.A.Air.trees_read airs publics common traces degree_bits
     (record {
       below = g.met.SC.Val.RingCore.ring_laws;
@@ -19,4 +19,4 @@ returns g k = λ config airs publics common traces degree_bits commitment_of q p
     })
     g.met.SC.Val.FieldCore.eq_same g.met.SC.Val.FieldCore.same_eq
     (record { ones = g.met.SC.Val.PrimeCore64.of_canonical; below = g.met.SC.Val.PrimeCore64.canonical_below })
-    _ q plain low V G outside
+    _ q plain g.met.SC.Val.TwoAdicCore.below_64 few V G outside

@@ -139,7 +139,7 @@ returns-clause-proved g c =
     proved_of (backend_of g c.args.config.now) b _ _ _ _ _ _ _ w z built _ c.assembled-proof.ensures _ asked.0 asked.1
 
 pub returns-clause-accepted : goal.returns-clause-accepted
-returns-clause-accepted g c = λ low V outside avoids.
+returns-clause-accepted g c = λ few V outside avoids.
     let b = batch_is g c.args.config.now c.args.instances.now c.args.prover_data.now.common in
     let w = c.in_ok-lookups.lookups.witness in
     let z = c.in_ok-lookups.quotients.witness in
@@ -163,5 +163,5 @@ returns-clause-accepted g c = λ low V outside avoids.
     })
     g.met.SC.Val.FieldCore.eq_same g.met.SC.Val.FieldCore.same_eq
     (record { ones = g.met.SC.Val.PrimeCore64.of_canonical; below = g.met.SC.Val.PrimeCore64.canonical_below })
-    _ _ c.requires.plain low V honest
+    _ _ c.requires.plain g.met.SC.Val.TwoAdicCore.below_64 few V honest
     (λ i h. outside i (let n = length-map c.args.instances.now (λ i. i.air) in omega (arith, h, n)))

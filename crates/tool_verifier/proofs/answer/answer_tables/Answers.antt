@@ -17,7 +17,7 @@ returns-in_ok-accepted_text-in-Ok c =
     let same = c.deref.ensures.value ∙ ap (λ (q : ToolProofData). q.degree_bits) c.proof.view_is in
     let stated = heights c.args.version c.args.tables.now c.args.proof.now c.deref.result.now same c.in_default.ensures in
     accepted c.args.version c.args.tables.now c.args.proof.now c.deref.result.now same c.in_default.ensures c.in-Ok.ensures.verdict
-    (record { holds = c.in-Ok.ensures.holds; swaps = c.in-Ok.ensures.swaps; hashes = c.in-Ok.ensures.hashes stated; few = c.in-Ok.ensures.few; balance = c.in-Ok.ensures.balance }) _ c.in_ok-accepted_text-in-Ok.ensures
+    (record { holds = c.in-Ok.ensures.holds; swaps = c.in-Ok.ensures.swaps stated; hashes = c.in-Ok.ensures.hashes stated; few = c.in-Ok.ensures.few; balance = c.in-Ok.ensures.balance }) _ c.in_ok-accepted_text-in-Ok.ensures
 
 pub returns-in_ok-fault_line-in-Err : goal.returns-in_ok-fault_line-in-Err
 returns-in_ok-fault_line-in-Err c =

@@ -1,6 +1,6 @@
 use Rattle.tool_hash_lines.specs.Laws.Matrices.{hash_matrices}
 use Rattle.p3_field.specs.Quartic.{quartic_inv}
-use Rattle.tool_verifier.specs.Laws.Meant.{few_unlucky, hashes, swaps, tables_balance, tables_hold}
+use Rattle.tool_verifier.specs.Laws.Meant.{few_unlucky, hashes, swaps, swaps_by_bits, tables_balance, tables_hold}
 use Rattle.tool_verifier.proofs.meaning.accepted_means.Goals as goal
 
 pub returns-clause-holds : goal.returns-clause-holds
@@ -10,6 +10,10 @@ returns-clause-holds c =
 pub returns-clause-balance : goal.returns-clause-balance
 returns-clause-balance c =
     tables_balance c.args.version c.args.tables.now c.args.proof.now c.baby_bear_has_laws.ensures (c.opened_claims_bind.ensures (record { log_blowup = 1 })) c.requires.formed c.requires.accepted
+
+pub returns-clause-ends : goal.returns-clause-ends
+returns-clause-ends c =
+    swaps_by_bits c.args.version c.args.tables.now c.args.proof.now c.baby_bear_has_laws.ensures (c.opened_claims_bind.ensures (record { log_blowup = 1 })) c.requires.formed c.requires.accepted
 
 pub returns-clause-swaps : goal.returns-clause-swaps
 returns-clause-swaps c =
