@@ -283,6 +283,11 @@ where
     ghost one_ldes_fault: { (s : Self) (ls : List (Rows Self.Val)) (e g : Self.ProverError)
         → ldes_fault s ls e → ldes_fault s ls g → e ≡ g };
 
+    // which extensions of the same matrices are committed to makes no difference to a refusal
+    ghost extended_alike: { (s : Self) (es : List (Self.Domain × Rows Self.Val))
+        (ls ks : List (Rows Self.Val)) (e : Self.ProverError) → AreExtensions (extends s) es ls
+        → AreExtensions (extends s) es ks → ldes_fault s ls e → ldes_fault s ks e };
+
     ghost one_quotient_fault: { (s : Self) (d : Self.Domain) (m : Rows Self.Val) (n : ℕ)
         (e g : Self.ProverError) → quotient_fault s d m n e → quotient_fault s d m n g → e ≡ g };
 
