@@ -51,6 +51,19 @@ pub record OpenedCommitment (C F : Type 0) : Type 0 where
 abbrev pub AreOpenedCommitments : {P E C F : Type 0} → (P → C → List (Committed F) → Type 0) → List (Request P E) → List (OpenedCommitment C F) → Type 0
 AreOpenedCommitments holds requests held = EachFrom requests held (λ r h. holds r.prover_data h.commitment h.matrices)
 
+-- two requests ask for the same points, and their prover data belongs to one commitment
+pub record IsAskedAlike {P E C F : Type 0} (holds : P → C → List (Committed F) → Type 0) (r q : Request P E) : Type 0 where
+  pub points_are : r.points ≡ q.points
+  pub commitment : C
+  pub held : List (Committed F)
+  pub kept : List (Committed F)
+  pub held_is : holds r.prover_data commitment held
+  pub kept_is : holds q.prover_data commitment kept
+
+-- each request asks alike what the one at its place in the second list asks
+abbrev pub AreAskedAlike : {P E C F : Type 0} → (P → C → List (Committed F) → Type 0) → List (Request P E) → List (Request P E) → Type 0
+AreAskedAlike holds requests others = EachFrom requests others (λ r q. IsAskedAlike holds r q)
+
 -- each request has one list of points per matrix
 abbrev pub HavePoints : {P E C F : Type 0} → List (OpenedCommitment C F) → List (Request P E) → Type 0
 HavePoints held requests = EachFrom held requests (λ h r. length r.points ≡ length h.matrices)

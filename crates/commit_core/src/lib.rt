@@ -37,6 +37,6 @@ pub use periodic::{PeriodicColumnShapeError, PeriodicColumns};
 pub use periodic_evaluator::PeriodicEvaluator;
 pub use periodic_table::PeriodicLdeTable;
 pub use selectors::{LagrangeSelectors, first_selector_at, last_selector_at};
-pub use split::rows_from;
+pub use split::{paired, rows_from};
 pub use univariate::UnivariateStarkPcs;
 pub use verdict::a_verification_is_a_check;

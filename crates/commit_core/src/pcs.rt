@@ -4,7 +4,7 @@ ghost use Rattle.std.specs.Int.{IsPowerOfTwo};
 ghost use Rattle.p3_matrix.specs.Matrix.{Rows};
 ghost use Rattle.commit_core.specs.Claims.{CommitmentClaim, Request};
 ghost use Rattle.commit_core.specs.Failure.{NoneOf, FaultUnless, RefusedBy, IfRefused, VerifiedBy};
-ghost use Rattle.commit_core.specs.Commitments.{IsSubgroup, Committed, IsCommitment, OpenedCommitment, AreOpenedCommitments, nested, AreClaims, IsOpening};
+ghost use Rattle.commit_core.specs.Commitments.{IsSubgroup, Committed, IsCommitment, OpenedCommitment, AreOpenedCommitments, nested, AreClaims, IsOpening, AreAskedAlike};
 
 use crate::claims::{CommitmentOpening, OpenedValues, OpeningRequest};
 use crate::domain::PolynomialSpace;
@@ -176,6 +176,12 @@ where
 
     ghost one_open_fault: { (s : Self) (rs : List (Request Self.ProverData Challenge))
         (e g : Self.ProverError) → open_fault s rs e → open_fault s rs g → e ≡ g };
+
+    // Which of a commitment's prover data is asked makes no difference to a refusal: requests for the same points of the same
+    // commitments are refused alike.
+    ghost opened_alike: { (s : Self) (rs qs : List (Request Self.ProverData Challenge))
+        (e : Self.ProverError) → AreAskedAlike (holds s) rs qs → open_fault s rs e
+        → open_fault s qs e };
 
     // Where the proof of an opening opens the claims of what was asked for, the verification leaves the challenger as the
     // opening did.

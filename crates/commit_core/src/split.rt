@@ -1,5 +1,5 @@
 //! A coset split in parts, and the rows of a matrix with it.
-ghost use Rattle.std.specs.Prelude.{◌≡◌, ℕ, ◌+◌, ◌*◌, ◌/◌, ◌%◌, ◌^◌, ◌<◌, ◌≤◌, List, IfOk};
+ghost use Rattle.std.specs.Prelude.{◌≡◌, ℕ, ◌+◌, ◌*◌, ◌/◌, ◌%◌, ◌^◌, ◌<◌, ◌≤◌, List, IfOk, length, zip};
 ghost use Rattle.std.specs.Int.{IsPowerOfTwo};
 ghost use Rattle.p3_field.specs.Ring.{Ring, pow};
 ghost use Rattle.p3_field.specs.Domain.{point};
@@ -81,4 +81,17 @@ pub fn rows_from<F: Copy>(
         values.extend_from_slice(m.row(first + stride * j))?;
     }
     Ok(RowMajorMatrix::new(values, m.width()))
+}
+
+/// Each item of the first list with the one at its place in the second, in order: so the parts of a domain get their rows
+/// (not in Plonky3). The only error is running out of memory.
+pub fn paired<X: Copy, Y: Drop>(alloc: Global, xs: &[X], ys: Vec<Y>) -> Mem<Vec<(X, Y)>>
+    requires { length xs.now ≡ length ys.items }
+    ensures { IfOk result (λ v. v.items ≡ zip xs.now ys.items) }
+{
+    let mut pairs = Vec::with_capacity(alloc, ys.len())?;
+    for y in ys {
+        pairs.push((xs[pairs.len()], y))?;
+    }
+    Ok(pairs)
 }

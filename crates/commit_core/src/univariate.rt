@@ -1,5 +1,5 @@
 //! What provers and verifiers of STARKs need of a scheme that commits to polynomials.
-ghost use Rattle.std.specs.Prelude.{◌≡◌, ℕ, ◌+◌, ◌<◌, ◌≤◌, ◌⊎◌, Bool, IsTrue, IsFalse, List, Option, None, Some, Ok, All, length, map, slice_get, zip, IfOk, IsOk};
+ghost use Rattle.std.specs.Prelude.{◌≡◌, ℕ, ◌+◌, ◌<◌, ◌≤◌, ◌⊎◌, Bool, IsTrue, IsFalse, List, Option, None, Some, Ok, All, length, map, slice_get, IfOk, IsOk};
 ghost use Rattle.std.specs.Int.{IsPowerOfTwo};
 ghost use Rattle.p3_matrix.specs.Matrix.{Rows, height};
 ghost use Rattle.commit_core.specs.Periodic.{IsPeriod, IsPeriodicTable};
@@ -12,6 +12,7 @@ use crate::domain::PolynomialSpace;
 use crate::failure::PcsFailure;
 use crate::pcs::Pcs;
 use crate::periodic_table::PeriodicLdeTable;
+use crate::split::paired;
 use p3_field::{
     BasedVectorSpace, ExtensionField, Field, FieldCore, Mem, PrimeCharacteristicRing, RingCore,
     TwoAdicCore,
@@ -283,6 +284,11 @@ where
     ghost one_ldes_fault: { (s : Self) (ls : List (Rows Self.Val)) (e g : Self.ProverError)
         → ldes_fault s ls e → ldes_fault s ls g → e ≡ g };
 
+    // which extensions of the same matrices are committed to makes no difference to a refusal
+    ghost extended_alike: { (s : Self) (es : List (Self.Domain × Rows Self.Val))
+        (ls ks : List (Rows Self.Val)) (e : Self.ProverError) → AreExtensions (extends s) es ls
+        → AreExtensions (extends s) es ks → ldes_fault s ls e → ldes_fault s ks e };
+
     ghost one_quotient_fault: { (s : Self) (d : Self.Domain) (m : Rows Self.Val) (n : ℕ)
         (e g : Self.ProverError) → quotient_fault s d m n e → quotient_fault s d m n g → e ≡ g };
 
@@ -308,16 +314,4 @@ fn quotient_parts<D: PolynomialSpace>(
     let domains = domain.split_domains(alloc, num_chunks)?;
     let parts = paired(alloc, &domains, rows)?;
     Ok(parts)
-}
-
-// Each item of the first list with the one at its place in the second.
-fn paired<X: Copy, Y: Drop>(alloc: Global, xs: &[X], ys: Vec<Y>) -> Mem<Vec<(X, Y)>>
-    requires { length xs.now ≡ length ys.items }
-    ensures { IfOk result (λ v. v.items ≡ zip xs.now ys.items) }
-{
-    let mut pairs = Vec::with_capacity(alloc, ys.len())?;
-    for y in ys {
-        pairs.push((xs[pairs.len()], y))?;
-    }
-    Ok(pairs)
 }

@@ -1,11 +1,11 @@
 //! A quotient's path: its parts are extended and committed to, by the calls for each step and by the one call for all.
-ghost use Rattle.std.specs.Prelude.{◌≡◌, ◌≤◌, List, length, zip, IsFalse, IfOk};
+ghost use Rattle.std.specs.Prelude.{◌≡◌, ◌≤◌, List, IsFalse, IfOk};
 ghost use Rattle.std.specs.Int.{IsPowerOfTwo};
 ghost use Rattle.p3_matrix.specs.Matrix.{Rows, height};
 ghost use Rattle.commit_core.specs.Commitments.{AreParts, IsCommitment};
 ghost use Rattle.commit_core.specs.Failure.{RefusedBy};
 
-use commit_core::{Pcs, PcsFailure, PolynomialSpace, UnivariateStarkPcs};
+use commit_core::{Pcs, PcsFailure, PolynomialSpace, UnivariateStarkPcs, paired};
 use p3_field::{
     BasedVectorSpace, ExtensionField, Field, FieldCore, Mem, PrimeCharacteristicRing, RingCore,
     TwoAdicCore,
@@ -30,18 +30,6 @@ fn parts_of<D: PolynomialSpace>(
     let domains = domain.split_domains(alloc, num_chunks)?;
     let parts = paired(alloc, &domains, rows)?;
     Ok(parts)
-}
-
-// Each item of the first list with the one at its place in the second.
-fn paired<X: Copy, Y: Drop>(alloc: Global, xs: &[X], ys: Vec<Y>) -> Mem<Vec<(X, Y)>>
-    requires { length xs.now ≡ length ys.items }
-    ensures { IfOk result (λ v. v.items ≡ zip xs.now ys.items) }
-{
-    let mut pairs = Vec::with_capacity(alloc, ys.len())?;
-    for y in ys {
-        pairs.push((xs[pairs.len()], y))?;
-    }
-    Ok(pairs)
 }
 
 // Commits to the parts of a quotient by the calls for each step. It is refused exactly as `commit_quotient` is.

@@ -2,6 +2,7 @@
 pub mod Scheme
 pub mod Checks
 pub mod Causes
+pub mod Alike
 pub mod Shifted
 pub mod Evaluations
 pub mod Extensions

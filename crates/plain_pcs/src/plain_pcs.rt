@@ -16,6 +16,7 @@ ghost use Rattle.plain_pcs.specs.Laws.Scheme.{held_count, none_below_zero, not_h
 ghost use Rattle.plain_pcs.specs.Laws.Quotients.{refused_by_parts, granted_by_parts};
 ghost use Rattle.plain_pcs.specs.Laws.Checks.{opens_faultless as faultless_where_opens, some_fault as fault_where_not, one_fault as first_fault_is_one};
 ghost use Rattle.plain_pcs.specs.Laws.Causes.{one_commit_cause, one_extensions_cause, one_quotient_cause, one_open_cause};
+ghost use Rattle.plain_pcs.specs.Laws.Alike.{opened_alike as asked_alike, extended_alike as extensions_alike};
 
 use crate::commitment::{PlainCommitment, PlainProof, PlainProverData};
 use crate::committing::{commit, commit_extensions, committed, extensions};
@@ -262,6 +263,9 @@ impl<F: TwoAdicField, D: TwoAdicSubgroupDft<F>, E: ExtensionField<F>, C> Pcs<E, 
 
     ghost one_open_fault = { λ s rs e g f h. one_open_cause rs e g f h };
 
+    ghost opened_alike = { λ s rs qs e a f.
+        asked_alike (scheme F.ring F.inv F.root F.GENERATOR F.TWO_ADICITY s) rs qs e a f };
+
     ghost one_state = { λ s t rs held claims p proves are claimed opens. refl };
 }
 
@@ -413,6 +417,9 @@ impl<F: TwoAdicField, D: TwoAdicSubgroupDft<F>, E: ExtensionField<F>, C> Univari
 
     ghost one_ldes_fault = { λ s ls e g f h.
         one_extensions_cause (scheme F.ring F.inv F.root F.GENERATOR F.TWO_ADICITY s) ls e g f h };
+
+    ghost extended_alike = { λ s es ls ks e a b f. extensions_alike
+        (scheme F.ring F.inv F.root F.GENERATOR F.TWO_ADICITY s) es ls ks e a b f };
 
     ghost one_quotient_fault = { λ s d m n e g f h.
         one_quotient_cause (scheme F.ring F.inv F.root F.GENERATOR F.TWO_ADICITY s) d n e g f h };

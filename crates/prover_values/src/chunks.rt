@@ -1,5 +1,5 @@
 //! The chunks of a quotient by its values.
-ghost use Rattle.std.specs.Prelude.{◌≡◌, ℕ, ◌+◌, ◌^◌, ◌≤◌, List, IfOk, length, zip};
+ghost use Rattle.std.specs.Prelude.{◌≡◌, ℕ, ◌+◌, ◌^◌, ◌≤◌, List, IfOk, length};
 ghost use Rattle.std.specs.Int.{IsPowerOfTwo};
 ghost use Rattle.p3_field.specs.Field.{TwoAdic, Extension};
 ghost use Rattle.air_core.specs.Tree.{Tree};
@@ -8,25 +8,13 @@ ghost use Rattle.law_committed.specs.Committed.{CommittedTable};
 ghost use Rattle.prover_values.specs.Chunks.{IsChunk};
 ghost use Rattle.prover_values.specs.Evaluations.{quotient_values_on};
 
-use commit_core::PolynomialSpace;
+use commit_core::{PolynomialSpace, paired};
 use p3_field::{
     BasedVectorSpace, ExtensionField, Field, FieldCore, Mem, PrimeCharacteristicRing, RingCore,
     TwoAdicCore, TwoAdicField, TwoAdicMultiplicativeCoset,
 };
 use p3_matrix::RowMajorMatrix;
 use std::alloc::Global;
-
-// Each item of the first list with the one at its place in the second.
-fn paired<X: Copy, Y: Drop>(alloc: Global, xs: &[X], ys: Vec<Y>) -> Mem<Vec<(X, Y)>>
-    requires { length xs.now ≡ length ys.items }
-    ensures { IfOk result (λ v. v.items ≡ zip xs.now ys.items) }
-{
-    let mut pairs = Vec::with_capacity(alloc, ys.len())?;
-    for y in ys {
-        pairs.push((xs[pairs.len()], y))?;
-    }
-    Ok(pairs)
-}
 
 /// The chunks of a quotient, of which the values at the points of its domain are given: chunk i is a matrix whose row j has the
 /// coefficients of value i + `num_chunks` j, with the part of the domain that begins at point i. To these a prover commits (not

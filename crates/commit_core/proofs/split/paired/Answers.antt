@@ -4,7 +4,7 @@ use Rattle.std.proofs.lemmas.Iterator.Adapters.{YieldsList-from_vec}
 use Rattle.std.proofs.lemmas.Iterator.Consumers.{YieldsList-turn, YieldsList-end}
 use Rattle.std.proofs.lemmas.Option.{slice_get-get_or}
 use Rattle.commit_core.specs.Laws.Pairs.{length-zip, zip-nil, zip-push}
-use Rattle.example_commit.proofs.quotients.paired.Goals as goal
+use Rattle.commit_core.proofs.split.paired.Goals as goal
 
 place : {X Y : Type 0} (xs : List X) (ys : List Y) (items : List (X × Y)) (r n m : ℕ) → r ≡ n → n ≡ length items → items ≡ zip xs ys → length ys < m → length xs ≡ m → r < length xs
 place xs ys items r n m a b e h s =
