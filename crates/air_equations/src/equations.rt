@@ -1,7 +1,8 @@
 //! Gadgets: equations under a selector.
-ghost use Rattle.std.specs.Prelude.{◌≡◌, List, [], ◌∷◌, IfOk, OnErr, IsOk, IsTrue};
+ghost use Rattle.std.specs.Prelude.{◌≡◌, [], ◌∷◌, IfOk, OnErr, IsOk, IsTrue};
+ghost use Rattle.air_core.specs.Clauses.{AppendsOfTwo};
 ghost use Rattle.air_core.specs.Shape.{Declares};
-ghost use Rattle.air_core.specs.Tree.{Tree, cell as cell_tree, over_base, sum};
+ghost use Rattle.air_core.specs.Tree.{cell as cell_tree, over_base, sum};
 ghost use Rattle.air_equations.specs.Equation.{equal_when};
 
 use air_core::{AirBuilder, Cell};
@@ -20,10 +21,8 @@ pub fn assert_eq_when<AB: AirBuilder>(
     ensures later { AB.later builder.old builder.new }
     ensures keeps_shape { AB.shape builder.new ≡ AB.shape builder.old }
     ensures answers { IsTrue AB.never_fails → IsOk result }
-    ensures appends { (s t : Tree AB.F) → AB.represents builder.old x s
-        → AB.represents builder.old y t
-        → IfOk result (λ _. AB.appends builder.old builder.new
-        (over_base (equal_when selector s t) ∷ []) []) }
+    ensures appends { AppendsOfTwo (AB.represents builder.old) x y
+        (AB.appends builder.old builder.new) (λ s t. over_base (equal_when selector s t)) result }
     ensures on_error { OnErr result (AB.appends builder.old builder.new [] []) }
 {
     let difference = builder.sub(x, y)?;

@@ -1,10 +1,10 @@
 //! Gadgets on words of 32 bits (`utils` of Plonky3's `p3-air`).
 //!
 //! A word is given by its two limbs of 16 bits or by its 32 bits, the lowest first.
-ghost use Rattle.std.specs.Prelude.{◌≡◌, ℕ, ◌+◌, ◌-◌, ◌*◌, ◌%◌, ◌^◌, ◌<◌, ◌≤◌, List, [], ◌∷◌, ◌++◌, IfOk, OnErr, IsOk, IsTrue, length, map};
-ghost use Rattle.p3_field.specs.Ring.{of_nat};
-ghost use Rattle.air_core.specs.Tree.{Tree, SomeFirst, sum, product, over_base};
-ghost use Rattle.air_gadgets.specs.Gadgets.{RepresentAt, number, difference_of_three, difference_of_four, with_high, zero_or_minus, zero_to_minus_twice, add2_trees, add3_trees, packed_bits, xor_tree, xor_shift_bit, xor_shift_trees, rotated_place, word_bits};
+ghost use Rattle.std.specs.Prelude.{◌≡◌, ℕ, ◌+◌, ◌-◌, ◌*◌, ◌%◌, ◌^◌, ◌<◌, [], IfOk, OnErr, IsOk, IsTrue, length};
+ghost use Rattle.air_core.specs.Clauses.{GivesOfOne, GivesOfTwo, GivesOfThree, AppendsOfOne, AppendsEachOfThree, AppendsSomeOfThree, AppendsEachOfFour, AppendsSomeOfFour};
+ghost use Rattle.air_core.specs.Tree.{Tree, sum, product, over_base};
+ghost use Rattle.air_gadgets.specs.Gadgets.{RepresentAt, number, difference_of_three, difference_of_four, with_high, zero_or_minus, zero_to_minus_twice, add2_trees, add3_trees, packed_bits, xor_tree, xor_shift_bit, xor_shift_trees, word_bits};
 
 use air_core::AirBuilder;
 use p3_field::{Mem, PrimeCharacteristicRing, RingCore};
@@ -20,9 +20,8 @@ fn difference_of_three<AB: AirBuilder>(
     ensures keeps_shape { AB.shape builder.new ≡ AB.shape builder.old }
     ensures answers { IsTrue AB.never_fails → IsOk result }
     ensures appends { AB.appends builder.old builder.new [] [] }
-    ensures represents { (s t u : Tree AB.F) → AB.represents builder.old x s
-        → AB.represents builder.old y t → AB.represents builder.old z u
-        → IfOk result (λ e. AB.represents builder.new e (difference_of_three s t u)) }
+    ensures represents { GivesOfThree (AB.represents builder.old) x y z (AB.represents builder.new)
+        difference_of_three result }
 {
     let first = builder.sub(x, y)?;
     builder.sub(first, z)
@@ -55,9 +54,8 @@ fn with_high<AB: AirBuilder>(builder: &mut AB, low: AB::Expr, high: AB::Expr) ->
     ensures keeps_shape { AB.shape builder.new ≡ AB.shape builder.old }
     ensures answers { IsTrue AB.never_fails → IsOk result }
     ensures appends { AB.appends builder.old builder.new [] [] }
-    ensures represents { (s t : Tree AB.F) → AB.represents builder.old low s
-        → AB.represents builder.old high t
-        → IfOk result (λ e. AB.represents builder.new e (with_high AB.F.ring s t)) }
+    ensures represents { GivesOfTwo (AB.represents builder.old) low high (AB.represents builder.new)
+        (with_high AB.F.ring) result }
 {
     let weight = builder.constant(<AB::F as RingCore>::from_u64(1 << 16))?;
     let weighed = builder.mul(weight, high)?;
@@ -70,9 +68,8 @@ fn times_more<AB: AirBuilder>(builder: &mut AB, y: AB::Expr, x: AB::Expr, n: u64
     ensures keeps_shape { AB.shape builder.new ≡ AB.shape builder.old }
     ensures answers { IsTrue AB.never_fails → IsOk result }
     ensures appends { AB.appends builder.old builder.new [] [] }
-    ensures represents { (s t : Tree AB.F) → AB.represents builder.old y s
-        → AB.represents builder.old x t
-        → IfOk result (λ e. AB.represents builder.new e (product s (sum t (number AB.F.ring n)))) }
+    ensures represents { GivesOfTwo (AB.represents builder.old) y x (AB.represents builder.new)
+        (λ s t. product s (sum t (number AB.F.ring n))) result }
 {
     let carry = builder.constant(<AB::F as RingCore>::from_u64(n))?;
     let more = builder.add(x, carry)?;
@@ -84,9 +81,8 @@ fn assert_zero_or_one<AB: AirBuilder>(builder: &mut AB, n: u64, x: AB::Expr) -> 
     ensures later { AB.later builder.old builder.new }
     ensures keeps_shape { AB.shape builder.new ≡ AB.shape builder.old }
     ensures answers { IsTrue AB.never_fails → IsOk result }
-    ensures appends { (t : Tree AB.F) → AB.represents builder.old x t
-        → IfOk result (λ _. AB.appends builder.old builder.new
-        (over_base (zero_or_minus AB.F.ring n t) ∷ []) []) }
+    ensures appends { AppendsOfOne (AB.represents builder.old) x
+        (AB.appends builder.old builder.new) (λ t. over_base (zero_or_minus AB.F.ring n t)) result }
     ensures on_error { OnErr result (AB.appends builder.old builder.new [] []) }
 {
     let both = times_more(builder, x, x, n)?;
@@ -99,9 +95,9 @@ fn assert_zero_to_two<AB: AirBuilder>(builder: &mut AB, n: u64, x: AB::Expr) -> 
     ensures later { AB.later builder.old builder.new }
     ensures keeps_shape { AB.shape builder.new ≡ AB.shape builder.old }
     ensures answers { IsTrue AB.never_fails → IsOk result }
-    ensures appends { (t : Tree AB.F) → AB.represents builder.old x t
-        → IfOk result (λ _. AB.appends builder.old builder.new
-        (over_base (zero_to_minus_twice AB.F.ring n t) ∷ []) []) }
+    ensures appends { AppendsOfOne (AB.represents builder.old) x
+        (AB.appends builder.old builder.new) (λ t. over_base (zero_to_minus_twice AB.F.ring n t))
+        result }
     ensures on_error { OnErr result (AB.appends builder.old builder.new [] []) }
 {
     let both = times_more(builder, x, x, n)?;
@@ -124,14 +120,10 @@ pub fn add2<AB: AirBuilder>(
     ensures later { AB.later builder.old builder.new }
     ensures keeps_shape { AB.shape builder.new ≡ AB.shape builder.old }
     ensures answers { IsTrue AB.never_fails → IsOk result }
-    ensures appends { (s t u : ℕ → Tree AB.F) → RepresentAt (AB.represents builder.old) a s
-        → RepresentAt (AB.represents builder.old) b t → RepresentAt (AB.represents builder.old) c u
-        → IfOk result (λ _. AB.appends builder.old builder.new
-        (map over_base (add2_trees AB.F.ring s t u)) []) }
-    ensures on_error { (s t u : ℕ → Tree AB.F) → RepresentAt (AB.represents builder.old) a s
-        → RepresentAt (AB.represents builder.old) b t → RepresentAt (AB.represents builder.old) c u
-        → OnErr result (SomeFirst (AB.appends builder.old builder.new)
-        (map over_base (add2_trees AB.F.ring s t u)) []) }
+    ensures appends { AppendsEachOfThree (RepresentAt (AB.represents builder.old)) a b c
+        (AB.appends builder.old builder.new) (add2_trees AB.F.ring) result }
+    ensures on_error { AppendsSomeOfThree (RepresentAt (AB.represents builder.old)) a b c
+        (AB.appends builder.old builder.new) (add2_trees AB.F.ring) result }
 {
     let low = difference_of_three(builder, a[0], b[0], c[0])?;
     let high = difference_of_three(builder, a[1], b[1], c[1])?;
@@ -157,16 +149,10 @@ pub fn add3<AB: AirBuilder>(
     ensures later { AB.later builder.old builder.new }
     ensures keeps_shape { AB.shape builder.new ≡ AB.shape builder.old }
     ensures answers { IsTrue AB.never_fails → IsOk result }
-    ensures appends { (s t u v : ℕ → Tree AB.F) → RepresentAt (AB.represents builder.old) a s
-        → RepresentAt (AB.represents builder.old) b t
-        → RepresentAt (AB.represents builder.old) c u → RepresentAt (AB.represents builder.old) d v
-        → IfOk result (λ _. AB.appends builder.old builder.new
-        (map over_base (add3_trees AB.F.ring s t u v)) []) }
-    ensures on_error { (s t u v : ℕ → Tree AB.F) → RepresentAt (AB.represents builder.old) a s
-        → RepresentAt (AB.represents builder.old) b t
-        → RepresentAt (AB.represents builder.old) c u → RepresentAt (AB.represents builder.old) d v
-        → OnErr result (SomeFirst (AB.appends builder.old builder.new)
-        (map over_base (add3_trees AB.F.ring s t u v)) []) }
+    ensures appends { AppendsEachOfFour (RepresentAt (AB.represents builder.old)) a b c d
+        (AB.appends builder.old builder.new) (add3_trees AB.F.ring) result }
+    ensures on_error { AppendsSomeOfFour (RepresentAt (AB.represents builder.old)) a b c d
+        (AB.appends builder.old builder.new) (add3_trees AB.F.ring) result }
 {
     let low = difference_of_four(builder, a[0], b[0], c[0], d[0])?;
     let high = difference_of_four(builder, a[1], b[1], c[1], d[1])?;
@@ -182,9 +168,8 @@ pub fn pack_bits_le<AB: AirBuilder>(builder: &mut AB, bits: &[AB::Expr]) -> Mem<
     ensures keeps_shape { AB.shape builder.new ≡ AB.shape builder.old }
     ensures answers { IsTrue AB.never_fails → IsOk result }
     ensures appends { AB.appends builder.old builder.new [] [] }
-    ensures represents { (t : ℕ → Tree AB.F) → RepresentAt (AB.represents builder.old) bits.now t
-        → IfOk result (λ e. AB.represents builder.new e
-        (packed_bits AB.F.ring t 0 (length bits.now))) }
+    ensures represents { GivesOfOne (RepresentAt (AB.represents builder.old)) bits.now
+        (AB.represents builder.new) (λ t. packed_bits AB.F.ring t 0 (length bits.now)) result }
 {
     let two = builder.constant(<AB::F as RingCore>::from_u64(2))?;
     let mut sum = builder.constant(<AB::F as RingCore>::from_u64(0))?;
@@ -202,9 +187,8 @@ pub fn xor<AB: AirBuilder>(builder: &mut AB, x: AB::Expr, y: AB::Expr) -> Mem<AB
     ensures keeps_shape { AB.shape builder.new ≡ AB.shape builder.old }
     ensures answers { IsTrue AB.never_fails → IsOk result }
     ensures appends { AB.appends builder.old builder.new [] [] }
-    ensures represents { (s t : Tree AB.F) → AB.represents builder.old x s
-        → AB.represents builder.old y t
-        → IfOk result (λ e. AB.represents builder.new e (xor_tree AB.F.ring s t)) }
+    ensures represents { GivesOfTwo (AB.represents builder.old) x y (AB.represents builder.new)
+        (xor_tree AB.F.ring) result }
 {
     let sum = builder.add(x, y)?;
     let two = builder.constant(<AB::F as RingCore>::from_u64(2))?;
@@ -225,10 +209,8 @@ fn xor_shift_bits<AB: AirBuilder>(
     ensures keeps_shape { AB.shape builder.new ≡ AB.shape builder.old }
     ensures answers { IsTrue AB.never_fails → IsOk result }
     ensures appends { AB.appends builder.old builder.new [] [] }
-    ensures represents { (t u : ℕ → Tree AB.F) → RepresentAt (AB.represents builder.old) b t
-        → RepresentAt (AB.represents builder.old) c u
-        → IfOk result (λ es. RepresentAt (AB.represents builder.new) es
-        (xor_shift_bit AB.F.ring t u s)) }
+    ensures represents { GivesOfTwo (RepresentAt (AB.represents builder.old)) b c
+        (RepresentAt (AB.represents builder.new)) (λ t u. xor_shift_bit AB.F.ring t u s) result }
 {
     let mut bits = [b[0]; 32];
     for i in 0..32 {
@@ -278,14 +260,10 @@ pub fn xor_32_shift<AB: AirBuilder>(
     ensures later { AB.later builder.old builder.new }
     ensures keeps_shape { AB.shape builder.new ≡ AB.shape builder.old }
     ensures answers { IsTrue AB.never_fails → IsOk result }
-    ensures appends { (t u v : ℕ → Tree AB.F) → RepresentAt (AB.represents builder.old) a t
-        → RepresentAt (AB.represents builder.old) b u → RepresentAt (AB.represents builder.old) c v
-        → IfOk result (λ _. AB.appends builder.old builder.new
-        (map over_base (xor_shift_trees AB.F.ring t u v s)) []) }
-    ensures on_error { (t u v : ℕ → Tree AB.F) → RepresentAt (AB.represents builder.old) a t
-        → RepresentAt (AB.represents builder.old) b u → RepresentAt (AB.represents builder.old) c v
-        → OnErr result (SomeFirst (AB.appends builder.old builder.new)
-        (map over_base (xor_shift_trees AB.F.ring t u v s)) []) }
+    ensures appends { AppendsEachOfThree (RepresentAt (AB.represents builder.old)) a b c
+        (AB.appends builder.old builder.new) (λ t u v. xor_shift_trees AB.F.ring t u v s) result }
+    ensures on_error { AppendsSomeOfThree (RepresentAt (AB.represents builder.old)) a b c
+        (AB.appends builder.old builder.new) (λ t u v. xor_shift_trees AB.F.ring t u v s) result }
 {
     builder.assert_bools(&c)?;
     let (low, high) = xor_shift_limbs(builder, b, c, s)?;

@@ -2,7 +2,7 @@
 //!
 //! Those on words hold over each prime field of more than 2^20 elements, those on bits over each field. They hold
 //! whatever values the cells have.
-ghost use Rattle.std.specs.Prelude.{◌≡◌, ℕ, ◌^◌, ◌<◌};
+ghost use Rattle.std.specs.Prelude.{ℕ, ◌^◌, ◌<◌};
 ghost use Rattle.air_core.specs.declared.cells.Cell.{Cell};
 ghost use Rattle.air_core.specs.declared.cells.ExtCell.{ExtCell};
 ghost use Rattle.air_gadgets.specs.Words.{cells_reading, Add2Means, Add3Means, XorShiftMeans, PackMeans, PackSums, BitsMean, BoolMeans, XorMeans, XorTells};

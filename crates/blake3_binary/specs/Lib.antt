@@ -1,4 +1,5 @@
 pub mod Sums
+pub mod Clauses
 pub mod Trees
 pub mod Row
 pub mod Meanings

@@ -1,10 +1,11 @@
 //! Sums of words by bits as constraints, where one and one is zero. Each function takes the bits as expressions.
-ghost use Rattle.std.specs.Prelude.{◌≡◌, ℕ, suc, ◌+◌, ◌-◌, ◌%◌, ◌<◌, List, [], ◌∷◌, ◌++◌, IfOk, OnErr, IsOk, IsTrue, length, map};
+ghost use Rattle.std.specs.Prelude.{◌≡◌, ℕ, suc, ◌+◌, ◌-◌, ◌%◌, ◌<◌, [], ◌∷◌, IfOk, OnErr, IsOk, IsTrue};
 ghost use Rattle.p3_field.specs.Poly.{tabulate};
+ghost use Rattle.air_core.specs.Clauses.{GivesOfThree, GivesOfTwo};
 ghost use Rattle.air_core.specs.Tree.{Tree, sum, product, over_base};
 ghost use Rattle.air_gadgets.specs.Gadgets.{RepresentAt};
-ghost use Rattle.air_core.specs.Joined.{joined};
 ghost use Rattle.air_core.specs.Appended.{Appended, AppendedSome, OnFailure};
+ghost use Rattle.blake3_binary.specs.Clauses.{AppendedOfThree, AppendedSomeOfThree};
 ghost use Rattle.blake3_binary.specs.Sums.{majority, carry_in, with_carries, carries_trees, sum2_trees, sum3_trees, turned};
 
 use air_core::AirBuilder;
@@ -21,9 +22,8 @@ fn majority<AB: AirBuilder>(
     ensures keeps_shape { AB.shape builder.new ≡ AB.shape builder.old }
     ensures answers { IsTrue AB.never_fails → IsOk result }
     ensures appends { AB.appends builder.old builder.new [] [] }
-    ensures represents { (s t u : Tree AB.F) → AB.represents builder.old x s
-        → AB.represents builder.old y t → AB.represents builder.old z u
-        → IfOk result (λ e. AB.represents builder.new e (majority s t u)) }
+    ensures represents { GivesOfThree (AB.represents builder.old) x y z (AB.represents builder.new)
+        majority result }
 {
     let first = builder.add(x, z)?;
     let second = builder.add(y, z)?;
@@ -43,9 +43,8 @@ fn sum_of_three<AB: AirBuilder>(
     ensures keeps_shape { AB.shape builder.new ≡ AB.shape builder.old }
     ensures answers { IsTrue AB.never_fails → IsOk result }
     ensures appends { AB.appends builder.old builder.new [] [] }
-    ensures represents { (s t u : Tree AB.F) → AB.represents builder.old x s
-        → AB.represents builder.old y t → AB.represents builder.old z u
-        → IfOk result (λ e. AB.represents builder.new e (sum (sum s t) u)) }
+    ensures represents { GivesOfThree (AB.represents builder.old) x y z (AB.represents builder.new)
+        (λ s t u. sum (sum s t) u) result }
 {
     let first = builder.add(x, y)?;
     let all = builder.add(first, z)?;
@@ -63,9 +62,8 @@ pub fn turned_bits<AB: AirBuilder>(
     ensures keeps_shape { AB.shape builder.new ≡ AB.shape builder.old }
     ensures answers { IsTrue AB.never_fails → IsOk result }
     ensures appends { AB.appends builder.old builder.new [] [] }
-    ensures represents { (t u : ℕ → Tree AB.F) → RepresentAt (AB.represents builder.old) x t
-        → RepresentAt (AB.represents builder.old) y u
-        → IfOk result (λ es. RepresentAt (AB.represents builder.new) es (turned t u s)) }
+    ensures represents { GivesOfTwo (RepresentAt (AB.represents builder.old)) x y
+        (RepresentAt (AB.represents builder.new)) (λ t u. turned t u s) result }
 {
     let mut bits = [x[0]; 32];
     for i in 0..32 {
@@ -85,9 +83,8 @@ fn carries_in<AB: AirBuilder>(
     ensures keeps_shape { AB.shape builder.new ≡ AB.shape builder.old }
     ensures answers { IsTrue AB.never_fails → IsOk result }
     ensures appends { AB.appends builder.old builder.new [] [] }
-    ensures represents { (t u v : ℕ → Tree AB.F) → RepresentAt (AB.represents builder.old) x t
-        → RepresentAt (AB.represents builder.old) y u → RepresentAt (AB.represents builder.old) s v
-        → IfOk result (λ es. RepresentAt (AB.represents builder.new) es (carry_in t u v)) }
+    ensures represents { GivesOfThree (RepresentAt (AB.represents builder.old)) x y s
+        (RepresentAt (AB.represents builder.new)) carry_in result }
 {
     let mut carries = [s[0]; 32];
     for i in 0..32 {
@@ -109,10 +106,8 @@ fn carried_bit<AB: AirBuilder>(
     ensures keeps_shape { AB.shape builder.new ≡ AB.shape builder.old }
     ensures answers { IsTrue AB.never_fails → IsOk result }
     ensures appends { AB.appends builder.old builder.new [] [] }
-    ensures represents { (t u v : ℕ → Tree AB.F) → RepresentAt (AB.represents builder.old) x.now t
-        → RepresentAt (AB.represents builder.old) y.now u
-        → RepresentAt (AB.represents builder.old) k.now v
-        → IfOk result (λ e. AB.represents builder.new e (with_carries t u v i)) }
+    ensures represents { GivesOfThree (RepresentAt (AB.represents builder.old)) x.now y.now k.now
+        (AB.represents builder.new) (λ t u v. with_carries t u v i) result }
 {
     if i == 0 {
         builder.add(x[0], y[0])
@@ -132,9 +127,8 @@ fn carried_bits<AB: AirBuilder>(
     ensures keeps_shape { AB.shape builder.new ≡ AB.shape builder.old }
     ensures answers { IsTrue AB.never_fails → IsOk result }
     ensures appends { AB.appends builder.old builder.new [] [] }
-    ensures represents { (t u v : ℕ → Tree AB.F) → RepresentAt (AB.represents builder.old) x t
-        → RepresentAt (AB.represents builder.old) y u → RepresentAt (AB.represents builder.old) k v
-        → IfOk result (λ es. RepresentAt (AB.represents builder.new) es (with_carries t u v)) }
+    ensures represents { GivesOfThree (RepresentAt (AB.represents builder.old)) x y k
+        (RepresentAt (AB.represents builder.new)) with_carries result }
 {
     let mut bits = [x[0]; 32];
     for i in 0..32 {
@@ -177,16 +171,12 @@ fn assert_carries_in<AB: AirBuilder>(
     ensures later { AB.later builder.old builder.new }
     ensures keeps_shape { AB.shape builder.new ≡ AB.shape builder.old }
     ensures answers { IsTrue AB.never_fails → IsOk result }
-    ensures appends { (t u v : ℕ → Tree AB.F) → RepresentAt (AB.represents builder.old) x t
-        → RepresentAt (AB.represents builder.old) y u
-        → RepresentAt (AB.represents builder.old) carries v
-        → IfOk result (λ _. Appended AB.appends builder.old builder.new
-        (tabulate 31 (λ i. sum (majority (t i) (u i) (v i)) (v (suc i))))) }
-    ensures on_error { (t u v : ℕ → Tree AB.F) → RepresentAt (AB.represents builder.old) x t
-        → RepresentAt (AB.represents builder.old) y u
-        → RepresentAt (AB.represents builder.old) carries v
-        → OnFailure result (AppendedSome AB.appends builder.old builder.new
-        (tabulate 31 (λ i. sum (majority (t i) (u i) (v i)) (v (suc i))))) }
+    ensures appends { AppendedOfThree (RepresentAt (AB.represents builder.old)) x y carries
+        (Appended AB.appends builder.old builder.new)
+        (λ t u v. tabulate 31 (λ i. sum (majority (t i) (u i) (v i)) (v (suc i)))) result }
+    ensures on_error { AppendedSomeOfThree (RepresentAt (AB.represents builder.old)) x y carries
+        (AppendedSome AB.appends builder.old builder.new)
+        (λ t u v. tabulate 31 (λ i. sum (majority (t i) (u i) (v i)) (v (suc i)))) result }
 {
     for i in 0..31 {
         assert_next(builder, x[i], y[i], carries[i], carries[i + 1])?;
@@ -205,12 +195,10 @@ pub fn assert_sum2<AB: AirBuilder>(
     ensures later { AB.later builder.old builder.new }
     ensures keeps_shape { AB.shape builder.new ≡ AB.shape builder.old }
     ensures answers { IsTrue AB.never_fails → IsOk result }
-    ensures appends { (t u v : ℕ → Tree AB.F) → RepresentAt (AB.represents builder.old) x t
-        → RepresentAt (AB.represents builder.old) y u → RepresentAt (AB.represents builder.old) s v
-        → IfOk result (λ _. Appended AB.appends builder.old builder.new (sum2_trees t u v)) }
-    ensures on_error { (t u v : ℕ → Tree AB.F) → RepresentAt (AB.represents builder.old) x t
-        → RepresentAt (AB.represents builder.old) y u → RepresentAt (AB.represents builder.old) s v
-        → OnFailure result (AppendedSome AB.appends builder.old builder.new (sum2_trees t u v)) }
+    ensures appends { AppendedOfThree (RepresentAt (AB.represents builder.old)) x y s
+        (Appended AB.appends builder.old builder.new) sum2_trees result }
+    ensures on_error { AppendedSomeOfThree (RepresentAt (AB.represents builder.old)) x y s
+        (AppendedSome AB.appends builder.old builder.new) sum2_trees result }
 {
     let carries = carries_in(builder, x, y, s)?;
     builder.assert_zero(carries[0])?;
@@ -250,14 +238,14 @@ fn assert_later_carries<AB: AirBuilder>(
     ensures later { AB.later builder.old builder.new }
     ensures keeps_shape { AB.shape builder.new ≡ AB.shape builder.old }
     ensures answers { IsTrue AB.never_fails → IsOk result }
-    ensures appends { (t u v : ℕ → Tree AB.F) → RepresentAt (AB.represents builder.old) x t
-        → RepresentAt (AB.represents builder.old) y u → RepresentAt (AB.represents builder.old) k v
-        → IfOk result (λ _. Appended AB.appends builder.old builder.new
-        (tabulate 30 (λ i. sum (majority (t (suc i)) (u (suc i)) (v i)) (v (suc i))))) }
-    ensures on_error { (t u v : ℕ → Tree AB.F) → RepresentAt (AB.represents builder.old) x t
-        → RepresentAt (AB.represents builder.old) y u → RepresentAt (AB.represents builder.old) k v
-        → OnFailure result (AppendedSome AB.appends builder.old builder.new
-        (tabulate 30 (λ i. sum (majority (t (suc i)) (u (suc i)) (v i)) (v (suc i))))) }
+    ensures appends { AppendedOfThree (RepresentAt (AB.represents builder.old)) x y k
+        (Appended AB.appends builder.old builder.new)
+        (λ t u v. tabulate 30 (λ i. sum (majority (t (suc i)) (u (suc i)) (v i)) (v (suc i))))
+        result }
+    ensures on_error { AppendedSomeOfThree (RepresentAt (AB.represents builder.old)) x y k
+        (AppendedSome AB.appends builder.old builder.new)
+        (λ t u v. tabulate 30 (λ i. sum (majority (t (suc i)) (u (suc i)) (v i)) (v (suc i))))
+        result }
 {
     for i in 0..30 {
         assert_next(builder, x[i + 1], y[i + 1], k[i], k[i + 1])?;
@@ -275,12 +263,10 @@ fn assert_carries<AB: AirBuilder>(
     ensures later { AB.later builder.old builder.new }
     ensures keeps_shape { AB.shape builder.new ≡ AB.shape builder.old }
     ensures answers { IsTrue AB.never_fails → IsOk result }
-    ensures appends { (t u v : ℕ → Tree AB.F) → RepresentAt (AB.represents builder.old) x t
-        → RepresentAt (AB.represents builder.old) y u → RepresentAt (AB.represents builder.old) k v
-        → IfOk result (λ _. Appended AB.appends builder.old builder.new (carries_trees t u v)) }
-    ensures on_error { (t u v : ℕ → Tree AB.F) → RepresentAt (AB.represents builder.old) x t
-        → RepresentAt (AB.represents builder.old) y u → RepresentAt (AB.represents builder.old) k v
-        → OnFailure result (AppendedSome AB.appends builder.old builder.new (carries_trees t u v)) }
+    ensures appends { AppendedOfThree (RepresentAt (AB.represents builder.old)) x y k
+        (Appended AB.appends builder.old builder.new) carries_trees result }
+    ensures on_error { AppendedSomeOfThree (RepresentAt (AB.represents builder.old)) x y k
+        (AppendedSome AB.appends builder.old builder.new) carries_trees result }
 {
     assert_first_carry(builder, x[0], y[0], k[0])?;
     assert_later_carries(builder, x, y, k)?;

@@ -1,5 +1,5 @@
 -- What the generation of permutation columns answers. After Plonky3's p3-lookup (generate_permutation).
-use Rattle.std.specs.Prelude.{◌≡◌, ℕ, ◌+◌, ◌<◌, true, List, [], length, Option, Result, Ok, Err}
+use Rattle.std.specs.Prelude.{◌≡◌, ℕ, ◌+◌, ◌<◌, true, List, [], length, All, Option, Result, Ok, Err}
 use Rattle.std.specs.Prelude.{slice_index_or as get_or}
 use Rattle.p3_field.specs.Ring.{Ring}
 use Rattle.p3_matrix.specs.Matrix.{Rows, height, cell_at}
@@ -7,7 +7,7 @@ use Rattle.air_core.specs.Tree.{Tree}
 use Rattle.air_core.specs.Shape.{Shape, width_of}
 use Rattle.air_core.specs.RowCheck.{Row, tree_value_at_row}
 use Rattle.air_core.specs.Check.{table_traces, table_row}
-use Rattle.p3_lookup.specs.Lookup.{LookupData}
+use Rattle.p3_lookup.specs.Lookup.{LookupData, IsLookup}
 use Rattle.p3_lookup.specs.Term.{Term, HasInverses}
 use Rattle.p3_lookup.specs.Honest.{Argument, argument, row_terms, honest_cell, running_sum, RowHasInverses}
 use Rattle.p3_lookup.specs.declared.terminal.LookupTerminal.{LookupTerminal}
@@ -31,6 +31,10 @@ sent_shape main preprocessed public_values = record {
   challenges = 0;
   terminals = 0;
 }
+
+-- the lookups read what a table with these traces and public values may send
+abbrev pub ReadTraces : {F : Type 0} → Rows F → Option (Rows F) → List F → List (LookupData F) → Type 0
+ReadTraces main preprocessed public_values lookups = All (IsLookup (sent_shape main preprocessed public_values)) lookups
 
 -- what fixes the permutation columns of a table with these traces, public values, lookups and challenges
 abbrev pub argument_over : {F E : Type 0} → Ring F → Ring E → (E → E) → (F → E) → Rows F → Option (Rows F) → List F → List (LookupData F) → List E → Argument F E

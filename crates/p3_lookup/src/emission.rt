@@ -1,10 +1,11 @@
 //! The constraints of lookups, handed to a builder.
-ghost use Rattle.std.specs.Prelude.{◌≡◌, ℕ, ◌+◌, ◌*◌, ◌^◌, ◌<◌, ◌≤◌, suc, false, List, [], ◌∷◌, length, map, All, IfOk, OnErr, IsOk, IsTrue};
-ghost use Rattle.air_core.specs.Tree.{Tree, sum, difference, product, over_extension, SomeFirst, cell as cell_tree, ext_cell as ext_cell_tree};
-ghost use Rattle.air_core.specs.Shape.{Shape, Declares, DeclaresExt};
+ghost use Rattle.std.specs.Prelude.{◌≡◌, ◌+◌, ◌*◌, ◌^◌, ◌<◌, ◌≤◌, false, [], ◌∷◌, length, map, All, IfOk, OnErr, IsOk, IsTrue};
+ghost use Rattle.air_core.specs.Clauses.{GivesOfOne, GivesOfTwo, AppendsOfOne};
+ghost use Rattle.air_core.specs.Tree.{sum, difference, product, over_extension, SomeFirst, cell as cell_tree, ext_cell as ext_cell_tree};
+ghost use Rattle.air_core.specs.Shape.{Declares, DeclaresExt};
 ghost use Rattle.p3_lookup.specs.Lookup.{IsLookup};
 ghost use Rattle.p3_lookup.specs.Written.{read, read_all};
-ghost use Rattle.p3_lookup.specs.Trees.{base_tree, beta_tree, column_tree, fraction_tree, fraction_trees, sum_tree, first_tree, transition_tree, last_tree, running_trees};
+ghost use Rattle.p3_lookup.specs.Trees.{base_tree, beta_tree, column_tree, fraction_tree, fraction_trees, sum_tree, first_tree, running_trees};
 
 use crate::fraction::{constant_ext, fraction_parts};
 use crate::lookup::Lookup;
@@ -41,10 +42,9 @@ fn scaled_less<AB: PermutationAirBuilder>(
     ensures keeps_shape { AB.shape builder.new ≡ AB.shape builder.old }
     ensures answers { IsTrue AB.never_fails → IsOk result }
     ensures appends { AB.appends builder.old builder.new [] [] }
-    ensures represents { (s t : Tree AB.F) → AB.represents_ext builder.old y s
-        → AB.represents_ext builder.old z t
-        → IfOk result (λ e. AB.represents_ext builder.new e
-        (difference (product (column_tree false column) s) t)) }
+    ensures represents { GivesOfTwo (AB.represents_ext builder.old) y z
+        (AB.represents_ext builder.new) (λ s t. difference (product (column_tree false column) s) t)
+        result }
 {
     let x = builder.ext_cell(ExtCell::Permutation {
         next: false,
@@ -117,8 +117,8 @@ fn with_column<AB: PermutationAirBuilder>(
     ensures keeps_shape { AB.shape builder.new ≡ AB.shape builder.old }
     ensures answers { IsTrue AB.never_fails → IsOk result }
     ensures appends { AB.appends builder.old builder.new [] [] }
-    ensures represents { (s : Tree AB.F) → AB.represents_ext builder.old x s
-        → IfOk result (λ e. AB.represents_ext builder.new e (sum s (column_tree false column))) }
+    ensures represents { GivesOfOne (AB.represents_ext builder.old) x
+        (AB.represents_ext builder.new) (λ s. sum s (column_tree false column)) result }
 {
     let fraction = builder.ext_cell(ExtCell::Permutation {
         next: false,
@@ -153,8 +153,8 @@ fn selected<AB: ExtensionBuilder>(
     ensures keeps_shape { AB.shape builder.new ≡ AB.shape builder.old }
     ensures answers { IsTrue AB.never_fails → IsOk result }
     ensures appends { AB.appends builder.old builder.new [] [] }
-    ensures represents { (t : Tree AB.F) → AB.represents_ext builder.old x t
-        → IfOk result (λ e. AB.represents_ext builder.new e (product (cell_tree selector) t)) }
+    ensures represents { GivesOfOne (AB.represents_ext builder.old) x
+        (AB.represents_ext builder.new) (λ t. product (cell_tree selector) t) result }
 {
     let cell = builder.cell(selector)?;
     let factor = builder.lift(cell)?;
@@ -167,9 +167,9 @@ fn assert_selected<AB: ExtensionBuilder>(builder: &mut AB, selector: Cell, x: AB
     ensures later { AB.later builder.old builder.new }
     ensures keeps_shape { AB.shape builder.new ≡ AB.shape builder.old }
     ensures answers { IsTrue AB.never_fails → IsOk result }
-    ensures appends { (t : Tree AB.F) → AB.represents_ext builder.old x t
-        → IfOk result (λ _. AB.appends builder.old builder.new
-        (over_extension (product (cell_tree selector) t) ∷ []) []) }
+    ensures appends { AppendsOfOne (AB.represents_ext builder.old) x
+        (AB.appends builder.old builder.new) (λ t. over_extension (product (cell_tree selector) t))
+        result }
     ensures on_error { OnErr result (AB.appends builder.old builder.new [] []) }
 {
     let chosen = selected(builder, selector, x)?;
@@ -204,9 +204,9 @@ fn excess<AB: PermutationAirBuilder>(
     ensures keeps_shape { AB.shape builder.new ≡ AB.shape builder.old }
     ensures answers { IsTrue AB.never_fails → IsOk result }
     ensures appends { AB.appends builder.old builder.new [] [] }
-    ensures represents { (t : Tree AB.F) → AB.represents_ext builder.old x t
-        → IfOk result (λ e. AB.represents_ext builder.new e
-        (difference (difference (ext_cell_tree end) (column_tree false 0)) t)) }
+    ensures represents { GivesOfOne (AB.represents_ext builder.old) x
+        (AB.represents_ext builder.new)
+        (λ t. difference (difference (ext_cell_tree end) (column_tree false 0)) t) result }
 {
     let to = builder.ext_cell(end)?;
     let from = builder.ext_cell(ExtCell::Permutation {
@@ -230,10 +230,10 @@ fn assert_step<AB: PermutationAirBuilder>(
     ensures later { AB.later builder.old builder.new }
     ensures keeps_shape { AB.shape builder.new ≡ AB.shape builder.old }
     ensures answers { IsTrue AB.never_fails → IsOk result }
-    ensures appends { (t : Tree AB.F) → AB.represents_ext builder.old x t
-        → IfOk result (λ _. AB.appends builder.old builder.new
-        (over_extension (product (cell_tree selector)
-        (difference (difference (ext_cell_tree end) (column_tree false 0)) t)) ∷ []) []) }
+    ensures appends { AppendsOfOne (AB.represents_ext builder.old) x
+        (AB.appends builder.old builder.new)
+        (λ t. over_extension (product (cell_tree selector)
+        (difference (difference (ext_cell_tree end) (column_tree false 0)) t))) result }
     ensures on_error { OnErr result (AB.appends builder.old builder.new [] []) }
 {
     let rest = excess(builder, end, x)?;

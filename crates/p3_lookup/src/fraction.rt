@@ -1,13 +1,14 @@
 //! The constraint of a lookup's fraction, handed to a builder.
-ghost use Rattle.std.specs.Prelude.{◌≡◌, ℕ, ◌+◌, ◌*◌, ◌<◌, ◌≤◌, suc, false, List, [], ◌∷◌, length, map, All, IfOk, OnErr, IsOk, IsTrue};
+ghost use Rattle.std.specs.Prelude.{◌≡◌, ◌+◌, ◌*◌, ◌<◌, [], length, map, All, IfOk, IsOk, IsTrue};
 ghost use Rattle.p3_field.specs.Poly.{eval_poly};
-ghost use Rattle.air_core.specs.Tree.{Tree, sum, difference, product, over_extension, constant as constant_tree};
+ghost use Rattle.air_core.specs.Clauses.{GivesOfOne, GivesOfTwo};
+ghost use Rattle.air_core.specs.Tree.{Tree, sum, difference, product, constant as constant_tree};
 ghost use Rattle.air_core.specs.Shape.{ReadsSendable};
 ghost use Rattle.air_core.specs.Symbolic.{tree_of};
-ghost use Rattle.p3_lookup.specs.Lookup.{HasCountForEach, ReadsSent, sent, pair_up};
-ghost use Rattle.p3_lookup.specs.Written.{read, tree_count};
+ghost use Rattle.p3_lookup.specs.Lookup.{pair_up};
+ghost use Rattle.p3_lookup.specs.Written.{tree_count};
 ghost use Rattle.p3_lookup.specs.Term.{common, numerator};
-ghost use Rattle.p3_lookup.specs.Trees.{trees, term_tree, fraction_tree};
+ghost use Rattle.p3_lookup.specs.Trees.{trees};
 ghost use Rattle.p3_lookup.specs.Emission.{ArePartsOf};
 
 use crate::expression::lifted;
@@ -28,9 +29,8 @@ fn combined_step<AB: ExtensionBuilder>(
     ensures keeps_shape { AB.shape builder.new ≡ AB.shape builder.old }
     ensures answers { IsTrue AB.never_fails → IsOk result }
     ensures appends { AB.appends builder.old builder.new [] [] }
-    ensures represents { (b s : Tree AB.F) → AB.represents_ext builder.old beta b
-        → AB.represents_ext builder.old rest s
-        → IfOk result (λ e. AB.represents_ext builder.new e (sum (tree_of x.now) (product b s))) }
+    ensures represents { GivesOfTwo (AB.represents_ext builder.old) beta rest
+        (AB.represents_ext builder.new) (λ b s. sum (tree_of x.now) (product b s)) result }
 {
     let first = lifted(builder, x)?;
     let others = builder.mul_ext(beta, rest)?;
@@ -58,9 +58,9 @@ fn combined<AB: ExtensionBuilder>(
     ensures keeps_shape { AB.shape builder.new ≡ AB.shape builder.old }
     ensures answers { IsTrue AB.never_fails → IsOk result }
     ensures appends { AB.appends builder.old builder.new [] [] }
-    ensures represents { (b : Tree AB.F) → AB.represents_ext builder.old beta b
-        → IfOk result (λ e. AB.represents_ext builder.new e
-        (eval_poly (trees AB.F.ring) (map tree_of tuple.now) b)) }
+    ensures represents { GivesOfOne (AB.represents_ext builder.old) beta
+        (AB.represents_ext builder.new) (eval_poly (trees AB.F.ring) (map tree_of tuple.now))
+        result }
 {
     let mut sum = constant_ext(builder, <AB::F as RingCore>::ZERO)?;
     for i in (0..tuple.len()).rev() {
@@ -80,10 +80,9 @@ fn denominator_of<AB: ExtensionBuilder>(
     ensures keeps_shape { AB.shape builder.new ≡ AB.shape builder.old }
     ensures answers { IsTrue AB.never_fails → IsOk result }
     ensures appends { AB.appends builder.old builder.new [] [] }
-    ensures represents { (a b : Tree AB.F) → AB.represents_ext builder.old base a
-        → AB.represents_ext builder.old beta b
-        → IfOk result (λ e. AB.represents_ext builder.new e
-        (difference a (eval_poly (trees AB.F.ring) (map tree_of tuple.now) b))) }
+    ensures represents { GivesOfTwo (AB.represents_ext builder.old) base beta
+        (AB.represents_ext builder.new)
+        (λ a b. difference a (eval_poly (trees AB.F.ring) (map tree_of tuple.now) b)) result }
 {
     let sum = combined(builder, tuple, beta)?;
     builder.sub_ext(base, sum)

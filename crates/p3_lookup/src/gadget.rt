@@ -1,11 +1,11 @@
 //! The lookup argument.
-ghost use Rattle.std.specs.Prelude.{◌≡◌, ℕ, ◌+◌, ◌*◌, ◌<◌, ◌≤◌, List, [], ◌∷◌, ◌++◌, length, map, All, IfOk, OnErr, IsOk, IsTrue, IfSome, ◌↔◌, MatchResult};
+ghost use Rattle.std.specs.Prelude.{◌≡◌, ◌+◌, ◌*◌, ◌<◌, [], ◌++◌, length, map, IfOk, OnErr, IsOk, IsTrue, IfSome, ◌↔◌, MatchResult};
 ghost use Rattle.std.specs.Option.{option_map};
 ghost use Rattle.p3_matrix.specs.Matrix.{height};
-ghost use Rattle.p3_lookup.specs.Generated.{sent_shape, argument_over, IsGenerated};
+ghost use Rattle.p3_lookup.specs.Generated.{argument_over, IsGenerated, ReadTraces};
 ghost use Rattle.air_core.specs.Tree.{over_base, over_extension, SomeFirst};
 ghost use Rattle.air_core.specs.Shape.{Fits, declared_shape};
-ghost use Rattle.p3_lookup.specs.Lookup.{FitLookups, HasCountForEach, IsLookup};
+ghost use Rattle.p3_lookup.specs.Lookup.{FitLookups, HasCountForEach};
 ghost use Rattle.p3_lookup.specs.Packing.{lookup_degree};
 ghost use Rattle.p3_lookup.specs.Written.{read, read_all};
 ghost use Rattle.p3_lookup.specs.Trees.{lookup_trees};
@@ -94,9 +94,8 @@ pub trait LookupProtocol {
         challenges: &[EF],
     ) -> Result<(RowMajorMatrix<EF>, LookupTerminal<EF>), GenerateError>
         requires preprocessed { IfSome preprocessed (λ m. height m.now ≡ height main.now) }
-        requires lookups { All (IsLookup
-            (sent_shape main.now (option_map (λ m. m.now) preprocessed) public_values.now))
-            (read_all lookups.now) }
+        requires lookups { ReadTraces main.now (option_map (λ m. m.now) preprocessed)
+            public_values.now (read_all lookups.now) }
         requires challenges { length challenges.now ≡ 2 * length lookups.now }
         ensures { let p = argument_over F.ring EF.ring EF.inv EF.embed main.now
             (option_map (λ m. m.now) preprocessed.entry) public_values.now (read_all lookups.now)

@@ -1,5 +1,5 @@
 //! Permutation columns.
-ghost use Rattle.std.specs.Prelude.{◌≡◌, ℕ, ◌+◌, ◌*◌, ◌<◌, ◌≤◌, ◌++◌, List, [], ◌∷◌, length, map, drop, All, Option, IfOk, IfSome, MatchResult};
+ghost use Rattle.std.specs.Prelude.{◌≡◌, ℕ, ◌+◌, ◌*◌, ◌<◌, ◌≤◌, [], length, map, drop, All, IfOk, IfSome, MatchResult};
 ghost use Rattle.std.specs.Option.{option_map};
 ghost use Rattle.p3_matrix.specs.Matrix.{height};
 ghost use Rattle.air_core.specs.RowCheck.{row_shape};
@@ -7,7 +7,7 @@ ghost use Rattle.p3_lookup.specs.Lookup.{IsLookup, sent};
 ghost use Rattle.p3_lookup.specs.Written.{read, read_all};
 ghost use Rattle.p3_lookup.specs.Term.{sum_of, term_value, HasInverses};
 ghost use Rattle.p3_lookup.specs.Honest.{terms_of, terms_from, row_terms, RowHasInverses};
-ghost use Rattle.p3_lookup.specs.Generated.{embedded_at, sent_shape, argument_over, IsGenerated, IsGenerateFault};
+ghost use Rattle.p3_lookup.specs.Generated.{embedded_at, argument_over, IsGenerated, IsGenerateFault, ReadTraces};
 ghost use Rattle.p3_lookup.specs.RowTerms.{AreTermsAdded, AreRowTermsAdded, table_terms, sizes, row_size, group_sums, IsRowAdded, AreColumns};
 
 use crate::lookup::Lookup;
@@ -76,8 +76,7 @@ fn push_row_terms<F: Field, EF: ExtensionField<F>>(
 ) -> Result<(), GenerateError>
     requires row { row < height main.now }
     requires preprocessed { IfSome preprocessed (λ m. height m.now ≡ height main.now) }
-    requires lookups { All (IsLookup
-        (sent_shape main.now (option_map (λ m. m.now) preprocessed) public_values.now))
+    requires lookups { ReadTraces main.now (option_map (λ m. m.now) preprocessed) public_values.now
         (read_all lookups.now) }
     requires challenges { length challenges.now ≡ 2 * length lookups.now }
     ensures { let p = argument_over F.ring EF.ring EF.inv EF.embed main.now
@@ -114,8 +113,7 @@ fn terms_of_table<F: Field, EF: ExtensionField<F>>(
     challenges: &[EF],
 ) -> Result<Vec<Term<EF>>, GenerateError>
     requires preprocessed { IfSome preprocessed (λ m. height m.now ≡ height main.now) }
-    requires lookups { All (IsLookup
-        (sent_shape main.now (option_map (λ m. m.now) preprocessed) public_values.now))
+    requires lookups { ReadTraces main.now (option_map (λ m. m.now) preprocessed) public_values.now
         (read_all lookups.now) }
     requires challenges { length challenges.now ≡ 2 * length lookups.now }
     ensures { let p = argument_over F.ring EF.ring EF.inv EF.embed main.now
@@ -242,8 +240,7 @@ pub(crate) fn columns_and_terminal<F: Field, EF: ExtensionField<F>>(
     challenges: &[EF],
 ) -> Result<(RowMajorMatrix<EF>, LookupTerminal<EF>), GenerateError>
     requires preprocessed { IfSome preprocessed (λ m. height m.now ≡ height main.now) }
-    requires lookups { All (IsLookup
-        (sent_shape main.now (option_map (λ m. m.now) preprocessed) public_values.now))
+    requires lookups { ReadTraces main.now (option_map (λ m. m.now) preprocessed) public_values.now
         (read_all lookups.now) }
     requires challenges { length challenges.now ≡ 2 * length lookups.now }
     ensures { let p = argument_over F.ring EF.ring EF.inv EF.embed main.now

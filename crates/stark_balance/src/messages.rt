@@ -6,7 +6,7 @@ ghost use Rattle.p3_matrix.specs.Matrix.{height};
 ghost use Rattle.air_core.specs.Shape.{ReadsSendable};
 ghost use Rattle.air_core.specs.Symbolic.{tree_of};
 ghost use Rattle.air_core.specs.RowCheck.{row_shape};
-ghost use Rattle.p3_lookup.specs.Generated.{sent_shape};
+ghost use Rattle.p3_lookup.specs.Generated.{ReadTraces};
 ghost use Rattle.p3_lookup.specs.Lookup.{IsLookup, sent};
 ghost use Rattle.p3_lookup.specs.Messages.{message, messages_from, table_messages};
 ghost use Rattle.p3_lookup.specs.Written.{read, read_all};
@@ -93,8 +93,7 @@ fn push_row<F: Field>(
     requires row { row < height main.now }
     requires preprocessed { IfSome preprocessed (λ m. height m.now ≡ height main.now) }
     requires buses { length buses.now ≡ length lookups.now }
-    requires lookups { All (IsLookup
-        (sent_shape main.now (option_map (λ m. m.now) preprocessed) public_values.now))
+    requires lookups { ReadTraces main.now (option_map (λ m. m.now) preprocessed) public_values.now
         (read_all lookups.now) }
     ensures { let s = sender_over F.ring main.now (option_map (λ m. m.now) preprocessed.entry)
         public_values.now (read_all lookups.now) buses.now in
@@ -135,8 +134,7 @@ pub fn table_messages<F: PrimeField64>(
 ) -> Mem<Vec<Message<F>>>
     requires preprocessed { IfSome preprocessed (λ m. height m.now ≡ height main.now) }
     requires buses { length buses.now ≡ length lookups.now }
-    requires lookups { All (IsLookup
-        (sent_shape main.now (option_map (λ m. m.now) preprocessed) public_values.now))
+    requires lookups { ReadTraces main.now (option_map (λ m. m.now) preprocessed) public_values.now
         (read_all lookups.now) }
     ensures { let s = sender_over F.ring main.now (option_map (λ m. m.now) preprocessed.entry)
         public_values.now (read_all lookups.now) buses.now in
