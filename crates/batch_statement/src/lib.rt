@@ -5,6 +5,7 @@
 //! (`Statement`), the proof as data (`Proof`), what private functions compute (`Fitting`).
 #![tactic(auto)]
 
+mod air_widths;
 mod commitments;
 mod common;
 mod entries;
@@ -15,8 +16,10 @@ mod proof;
 mod reads;
 mod widths;
 
+pub use air_widths::airs_have_one_width;
 pub use commitments::BatchCommitments;
 pub use common::{CommonData, SharedData};
 pub use error::BatchVerificationError;
 pub use preprocessed::{GlobalPreprocessed, PreprocessedInstanceMeta, PreprocessedTraces};
 pub use proof::{BatchOpenedValues, BatchProof, OpenedValuesWithLookups, TablesProof};
+pub use widths::have_one_width;

@@ -1,8 +1,9 @@
 //! Whether all tuples on one bus have one width.
-ghost use Rattle.std.specs.Prelude.{◌≡◌, ◌==◌, length};
+ghost use Rattle.std.specs.Prelude.{◌≡◌, ◌==◌, ◌↔◌, length, map, flat_map, IsTrue};
 ghost use Rattle.std.specs.List.{list_all};
+ghost use Rattle.p3_lookup.specs.Bus.{HaveOneWidth};
 ghost use Rattle.p3_lookup.specs.Packing.{same_name};
-ghost use Rattle.p3_lookup.specs.Written.{bus_of_kind};
+ghost use Rattle.p3_lookup.specs.Written.{bus_of_kind, read_all};
 ghost use Rattle.batch_statement.specs.Fitting.{widths_agree as agree_in_width, agree as agree_where_shared, agrees_with as agrees_with_all, fits_among as fits_among_all, have_one_width as have_one_width_each};
 
 use air_core::SymbolicExpression;
@@ -83,11 +84,19 @@ fn table_fits_among<F>(tables: &[Lookups<F>], table: &[Lookup<F>]) -> bool
     table.iter().all(|lookup| fits_among(tables, lookup))
 }
 
-// Whether all tuples on one bus have one width, over all of these tables.
-pub(crate) fn have_one_width<F>(tables: &[Lookups<F>]) -> bool
+// Whether all tuples on one bus have one width, as a test of each lookup against all.
+fn all_agree<F>(tables: &[Lookups<F>]) -> bool
     ensures { result ≡ have_one_width_each tables.now }
 {
     tables
         .iter()
         .all(|table| table_fits_among(tables, table.as_slice()))
+}
+
+/// Whether all tuples on one bus have one width, over the lookups of these tables (not in Plonky3). A local lookup has a bus of its own, a global one
+/// that of its name. It takes no memory.
+pub fn have_one_width<F>(tables: &[Lookups<F>]) -> bool
+    ensures { IsTrue result ↔ HaveOneWidth (flat_map (λ ls. ls) (map read_all tables.now)) }
+{
+    all_agree(tables)
 }

@@ -3,8 +3,7 @@ use Rattle.std.specs.List.{flat_map}
 use Rattle.p3_lookup.specs.Bus.{HaveOneWidth}
 use Rattle.p3_lookup.specs.Lookup.{LookupData, lookups_of}
 use Rattle.p3_lookup.specs.Written.{Written, read_all}
-use Rattle.batch_statement.specs.Laws.Widths.{have_one_width-means}
-use Rattle.batch_widths.proofs.widths.have_one_width.Goals as goal
+use Rattle.batch_statement.proofs.air_widths.airs_have_one_width.Goals as goal
 
 -- lists that are given along a map, put together
 joined : {X Y : Type 0} (f : X → List Y) (xs : List X) → flat_map (λ ys. ys) (map f xs) ≡ flat_map f xs
@@ -17,5 +16,5 @@ returns g c =
     ap (λ (l : List (List (Written g.row.F.Denot))). flat_map (λ (ls : List (LookupData g.row.F.Denot)). ls) (map read_all l)) c.deref.ensures.value in
     let same : flat_map (λ (ls : List (LookupData g.row.F.Denot)). ls) (map read_all c.deref.result.now) ≡ flat_map (λ a. lookups_of (g.A.Air.interactions a)) c.args.airs.now =
     whole ∙ (ap (λ (l : List (List (LookupData g.row.F.Denot))). flat_map (λ ls. ls) l) c.in_ok-tables.ensures ∙ joined (λ a. lookups_of (g.A.Air.interactions a)) c.args.airs.now) in
-    let means = have_one_width-means {F = g.row.F.Denot} c.deref.result.now in
-    ((λ h. subst HaveOneWidth same (means.0 (sym c.all_agree.ensures ∙ h))), λ h. c.all_agree.ensures ∙ means.1 (subst HaveOneWidth (sym same) h))
+    let told = c.have_one_width.ensures in
+    ((λ h. subst HaveOneWidth same (told.0 h)), λ h. told.1 (subst HaveOneWidth (sym same) h))
