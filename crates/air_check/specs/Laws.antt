@@ -1,2 +1,3 @@
 -- What is proved of the definitions, by subject.
 pub mod RowCheck
+pub mod Nonzero

@@ -1,2 +1,3 @@
+pub mod Values
 pub mod Checked
 pub mod Laws

@@ -1,13 +1,14 @@
 //! The check of constraints on a table's rows.
-ghost use Rattle.std.specs.Prelude.{◌≡◌, ℕ, ◌+◌, ◌%◌, ◌<◌, ◌≤◌, List, [], map, length, IfOk, All, Option, Some, None, IfSome, IsTrue, ◌↔◌};
+ghost use Rattle.std.specs.Prelude.{◌≡◌, ◌+◌, ◌%◌, ◌<◌, [], length, IfOk, All, IfSome};
 ghost use Rattle.std.specs.Option.{option_map};
 ghost use Rattle.p3_matrix.specs.Matrix.{height};
 ghost use Rattle.air_core.specs.Shape.{width_of};
-ghost use Rattle.air_core.specs.Check.{table_traces, AreNonzero, HasHeight, HoldsAtRow, periodic_row, preprocessed_row, row_values};
+ghost use Rattle.air_core.specs.Check.{table_traces, AreNonzero, row_values};
 ghost use Rattle.air_check.specs.Checked.{IsChecked};
 ghost use Rattle.air_check.specs.declared.check.CheckFailure.TheVariants.{OutOfMemory};
 
 use crate::debug::DebugConstraintBuilder;
+use crate::rows::{has_height, nonzero_places, periodic_at};
 use air_core::{Air, RowValues, preprocessed_at};
 use p3_field::{Field, FieldCore, Mem, RingCore};
 use p3_matrix::RowMajorMatrix;
@@ -39,42 +40,6 @@ impl From<AllocError> for CheckFailure {
 
     fn from(_error: AllocError) -> CheckFailure {
         CheckFailure::OutOfMemory
-    }
-}
-
-// The places of the values that aren't zero.
-fn nonzero_places<F: Field>(alloc: Global, values: &[F]) -> Mem<Vec<usize>>
-    ensures { IfOk result (λ v. AreNonzero F.ring values.now v.items) }
-{
-    let mut places = Vec::new(alloc);
-    for i in 0..values.len() {
-        if !values[i].is_zero() {
-            places.push(i)?;
-        }
-    }
-    Ok(places)
-}
-
-// The values of the periodic columns at a row.
-fn periodic_at<F: Field>(alloc: Global, columns: &[Vec<F>], row: usize) -> Mem<Vec<F>>
-    requires { All (λ c. 0 < length c.items) columns.now }
-    ensures { IfOk result (λ v.
-        v.items ≡ periodic_row F.ring.zero (map (λ c. c.items) columns.now) row) }
-{
-    let mut values = Vec::new(alloc);
-    for column in columns {
-        values.push(column[row % column.len()])?;
-    }
-    Ok(values)
-}
-
-// Whether the trace, if there is one, has this height.
-fn has_height<F>(trace: Option<&RowMajorMatrix<F>>, height: usize) -> bool
-    ensures { IsTrue result ↔ HasHeight (option_map (λ m. m.now) trace.entry) height }
-{
-    match trace {
-        Some(m) => m.height() == height,
-        None => true,
     }
 }
 

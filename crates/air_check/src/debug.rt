@@ -1,12 +1,12 @@
 //! The builder that evaluates constraints at a row.
-ghost use Rattle.std.specs.Prelude.{◌≡◌, ℕ, ◌<◌, ◌%◌, ◌++◌, List, [], ◌∷◌, length, IfOk, OnErr, IsTrue, IsOk, false, true, refl};
-ghost use Rattle.air_core.specs.Shape.{Declares, DeclaresExt};
+ghost use Rattle.std.specs.Prelude.{◌≡◌, ◌<◌, ◌%◌, ◌++◌, List, [], ◌∷◌, length, IfOk, OnErr, IsTrue, IsOk, false, true, refl};
 ghost use Rattle.air_core.specs.Tree.{Tree, Represent, RepresentsCount, over_base, over_extension};
-ghost use Rattle.air_core.specs.RowCheck.{CheckedRow, Row, Adds, tree_value_at_row, cell_value, ext_cell_value, row_shape};
+ghost use Rattle.air_core.specs.RowCheck.{CheckedRow, Adds, tree_value_at_row, row_shape};
 ghost use Rattle.air_core.specs.declared.cells.Count.{Count as CountOf};
 ghost use Rattle.std.proofs.Common.{◌∙◌};
 ghost use Rattle.air_core.specs.Operation.{value_by};
 ghost use Rattle.air_check.specs.Laws.RowCheck.{row-along, row_shape-row, value_at-row, adds-same, adds-along, keeping-adds};
+ghost use Rattle.air_check.specs.Values.{IsBaseValue};
 
 use air_core::{
     AirBuilder, Cell, Count, ExtCell, ExtensionBuilder, InteractionBuilder, PermutationAirBuilder,
@@ -71,7 +71,7 @@ impl<'a, F: Field, EF: ExtensionField<F>> AirBuilder for DebugConstraintBuilder<
 
     type Expr = F;
 
-    ghost represents = { λ b x t. EF.embed x ≡ tree_value_at_row F.ring EF.ring EF.embed b.row t };
+    ghost represents = { λ b x t. IsBaseValue F.ring EF.ring EF.embed b.row x t };
 
     ghost later = { λ a b. b.row ≡ a.row };
 
@@ -201,9 +201,8 @@ impl<'a, F: Field, EF: ExtensionField<F>> InteractionBuilder for DebugConstraint
         ensures keeps_shape { row_shape self.new.row ≡ row_shape self.old.row }
         ensures answers { IsTrue false → IsOk result }
         ensures appends { (fs : List (Tree F)) (v : Tree F)
-            → Represent (λ x t. EF.embed x
-            ≡ tree_value_at_row F.ring EF.ring EF.embed self.old.row t) fields.now fs
-            → EF.embed count.value ≡ tree_value_at_row F.ring EF.ring EF.embed self.old.row v
+            → Represent (IsBaseValue F.ring EF.ring EF.embed self.old.row) fields.now fs
+            → IsBaseValue F.ring EF.ring EF.embed self.old.row count.value v
             → IfOk result (λ _. Adds F.ring EF.ring EF.embed self.old self.new []) }
         ensures sure { IsTrue true → IsOk result }
         ensures sends { IfOk result (λ _. self.new ≡ self.old) }
@@ -219,12 +218,9 @@ impl<'a, F: Field, EF: ExtensionField<F>> InteractionBuilder for DebugConstraint
         ensures keeps_shape { row_shape self.new.row ≡ row_shape self.old.row }
         ensures answers { IsTrue false → IsOk result }
         ensures appends { (fs : List (Tree F)) (vs : List (CountOf (Tree F)))
-            → Represent (λ x t. EF.embed x
-            ≡ tree_value_at_row F.ring EF.ring EF.embed self.old.row t) fields.now fs
-            → Represent (RepresentsCount
-            (λ x t. EF.embed x ≡ tree_value_at_row F.ring EF.ring EF.embed self.old.row t))
-            counts.now vs
-            → IfOk result (λ _. Adds F.ring EF.ring EF.embed self.old self.new []) }
+            → Represent (IsBaseValue F.ring EF.ring EF.embed self.old.row) fields.now fs
+            → Represent (RepresentsCount (IsBaseValue F.ring EF.ring EF.embed self.old.row))
+            counts.now vs → IfOk result (λ _. Adds F.ring EF.ring EF.embed self.old self.new []) }
         ensures sure { IsTrue true → IsOk result }
         ensures sends { IfOk result (λ _. self.new ≡ self.old) }
         ensures on_error { OnErr result (Adds F.ring EF.ring EF.embed self.old self.new []) }

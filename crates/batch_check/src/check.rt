@@ -1,15 +1,15 @@
 //! The check of a table's constraints, those of its lookups among them, on its rows.
-ghost use Rattle.std.specs.Prelude.{◌≡◌, ℕ, ◌+◌, ◌*◌, ◌%◌, ◌<◌, ◌≤◌, List, map, length, IfOk, All, Option, IfSome, IsTrue, ◌↔◌};
+ghost use Rattle.std.specs.Prelude.{◌≡◌, ◌+◌, ◌*◌, ◌%◌, ◌<◌, List, length, IfOk, All, IfSome, IsTrue, ◌↔◌};
 ghost use Rattle.std.specs.Option.{option_map};
 ghost use Rattle.p3_matrix.specs.Matrix.{height};
 ghost use Rattle.air_core.specs.Shape.{width_of};
-ghost use Rattle.air_core.specs.Check.{table_traces, AreNonzero, HasHeight, periodic_row};
+ghost use Rattle.air_core.specs.Check.{table_traces, AreNonzero, periodic_row};
 ghost use Rattle.p3_lookup.specs.Written.{read, read_all};
 ghost use Rattle.batch_constraints.specs.BatchTrees.{AreLookupsOf};
 ghost use Rattle.batch_check.specs.BatchCheck.{checked_table, batch_row, batch_values, columns_row, IsBatchChecked};
 ghost use Rattle.batch_check.specs.declared.check.CheckFailure.TheVariants.{OutOfMemory};
 
-use air_check::DebugConstraintBuilder;
+use air_check::{DebugConstraintBuilder, has_height, nonzero_places, periodic_at};
 use air_core::{Air, BaseAir, RowValues, preprocessed_at};
 use p3_field::{ExtensionField, Field, FieldCore, Mem, RingCore};
 use p3_lookup::{Lookup, LookupProtocol};
@@ -48,32 +48,6 @@ impl From<AllocError> for CheckFailure {
     }
 }
 
-// The places of the values that aren't zero.
-fn nonzero_places<F: Field>(alloc: Global, values: &[F]) -> Mem<Vec<usize>>
-    ensures { IfOk result (λ v. AreNonzero F.ring values.now v.items) }
-{
-    let mut places = Vec::new(alloc);
-    for i in 0..values.len() {
-        if !values[i].is_zero() {
-            places.push(i)?;
-        }
-    }
-    Ok(places)
-}
-
-// The values of the periodic columns at a row.
-fn periodic_at<F: Field>(alloc: Global, columns: &[Vec<F>], row: usize) -> Mem<Vec<F>>
-    requires { All (λ c. 0 < length c.items) columns.now }
-    ensures { IfOk result (λ v.
-        v.items ≡ periodic_row F.ring.zero (map (λ c. c.items) columns.now) row) }
-{
-    let mut values = Vec::new(alloc);
-    for column in columns {
-        values.push(column[row % column.len()])?;
-    }
-    Ok(values)
-}
-
 // A row of the permutation columns, empty where there are no lookups.
 fn columns_at<'a, EF>(num_lookups: usize, columns: &'a RowMajorMatrix<EF>, row: usize) -> &'a [EF]
     requires { 0 < num_lookups → row < height columns.now }
@@ -85,16 +59,6 @@ fn columns_at<'a, EF>(num_lookups: usize, columns: &'a RowMajorMatrix<EF>, row: 
         &[]
     } else {
         columns.row(row)
-    }
-}
-
-// Whether the trace, if there is one, has this height.
-fn has_height<F>(trace: Option<&RowMajorMatrix<F>>, height: usize) -> bool
-    ensures { IsTrue result ↔ HasHeight (option_map (λ m. m.now) trace.entry) height }
-{
-    match trace {
-        Some(m) => m.height() == height,
-        None => true,
     }
 }
 

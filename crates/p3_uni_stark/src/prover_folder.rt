@@ -1,9 +1,8 @@
 //! The prover's constraint folder.
-ghost use Rattle.std.specs.Prelude.{◌≡◌, List, [], ◌∷◌, ◌%◌, ◌<◌, IfOk, OnErr, IsOk, IsTrue, true, length, map, refl};
+ghost use Rattle.std.specs.Prelude.{◌≡◌, List, [], ◌∷◌, IfOk, OnErr, IsOk, IsTrue, true, refl};
 ghost use Rattle.std.proofs.Common.{◌∙◌, ap};
-ghost use Rattle.air_core.specs.Tree.{Tree, eval_tree, eval_asserted, Represent, RepresentsCount};
-ghost use Rattle.air_core.specs.declared.cells.Count.{Count as CountOf};
-ghost use Rattle.p3_uni_stark.specs.Fold.{added_to, weighed_from};
+ghost use Rattle.air_core.specs.Tree.{Tree, Represent};
+ghost use Rattle.p3_uni_stark.specs.Fold.{added_to};
 ghost use Rattle.p3_uni_stark.specs.Point.{point_reading, embedded, point_shape};
 ghost use Rattle.p3_uni_stark.specs.Laws.Folders.{shape_along, value_persists, value_by_persists, base_value_by_persists, weighed_along};
 ghost use Rattle.air_core.specs.Operation.{value_by};
@@ -85,26 +84,19 @@ impl<'a, F: Field, E: ExtensionField<F>> ProverFolder<'a, F, E> {
 }
 
 impl<'a, F: Field, E: ExtensionField<F>> AirBuilder for ProverFolder<'a, F, E> {
-    ghost use Rattle.p3_uni_stark.specs.ProverState.{folder_values_of, folder_inputs_of, folder_sum_of, power_count};
+    ghost use Rattle.p3_uni_stark.specs.ProverState.{folder_values_of, folder_inputs_of, folder_sum_of, IsFolderValue, HasWeighed, HasWeighedTrees};
 
     type F = F;
 
     type Expr = F;
 
-    ghost represents = { λ b e t.
-        E.embed e ≡ eval_tree (point_reading E.ring E.embed (embedded E.embed (folder_values_of b)))
-        t };
+    ghost represents = { λ b e t. IsFolderValue E.ring E.embed b (E.embed e) t };
 
     ghost later = { λ a b. folder_inputs_of b ≡ folder_inputs_of a };
 
-    ghost appends = { λ a b ts is. (folder_inputs_of b ≡ folder_inputs_of a)
-        × (folder_sum_of b ≡ weighed_from E.ring (folder_sum_of a)
-        (map (eval_asserted (point_reading E.ring E.embed (embedded E.embed (folder_values_of a))))
-        ts)) × (power_count b ≡ power_count a) };
+    ghost appends = { λ a b ts is. HasWeighedTrees E.ring E.embed a b ts };
 
-    ghost asserts = { λ a x b. (folder_inputs_of b ≡ folder_inputs_of a)
-        × (folder_sum_of b ≡ added_to E.ring (folder_sum_of a).left a.accumulator (E.embed x))
-        × (power_count b ≡ power_count a) };
+    ghost asserts = { λ a x b. HasWeighed E.ring a b (E.embed x ∷ []) };
 
     ghost computes = { λ a op x y b e. e ≡ value_by F.ring op x y };
 
@@ -177,16 +169,13 @@ impl<'a, F: Field, E: ExtensionField<F>> AirBuilder for ProverFolder<'a, F, E> {
 }
 
 impl<'a, F: Field, E: ExtensionField<F>> ExtensionBuilder for ProverFolder<'a, F, E> {
-    ghost use Rattle.p3_uni_stark.specs.ProverState.{folder_values_of, folder_inputs_of, folder_sum_of, power_count};
+    ghost use Rattle.p3_uni_stark.specs.ProverState.{folder_inputs_of, folder_sum_of, IsFolderValue, HasWeighed};
 
     type ExprEF = E;
 
-    ghost represents_ext = { λ b e t.
-        e ≡ eval_tree (point_reading E.ring E.embed (embedded E.embed (folder_values_of b))) t };
+    ghost represents_ext = { λ b e t. IsFolderValue E.ring E.embed b e t };
 
-    ghost asserts_ext = { λ a x b. (folder_inputs_of b ≡ folder_inputs_of a)
-        × (folder_sum_of b ≡ added_to E.ring (folder_sum_of a).left a.accumulator x)
-        × (power_count b ≡ power_count a) };
+    ghost asserts_ext = { λ a x b. HasWeighed E.ring a b (x ∷ []) };
 
     ghost computes_ext = { λ a op x y b e. e ≡ value_by E.ring op x y };
 
@@ -238,10 +227,9 @@ impl<'a, F: Field, E: ExtensionField<F>> PermutationAirBuilder for ProverFolder<
 }
 
 impl<'a, F: Field, E: ExtensionField<F>> InteractionBuilder for ProverFolder<'a, F, E> {
-    ghost use Rattle.p3_uni_stark.specs.ProverState.{folder_values_of, folder_inputs_of, folder_sum_of, power_count};
+    ghost use Rattle.p3_uni_stark.specs.ProverState.{folder_values_of, folder_inputs_of, IsFolderValue, HasWeighed};
 
-    ghost sends = { λ a bus xs cs b. (folder_inputs_of b ≡ folder_inputs_of a)
-        × (folder_sum_of b ≡ folder_sum_of a) × (power_count b ≡ power_count a) };
+    ghost sends = { λ a bus xs cs b. HasWeighed E.ring a b [] };
 
     fn push_interaction(&mut self, _bus_name: &str, fields: &[F], count: Count<F>) -> Mem<()>
         ensures later { folder_inputs_of self.new ≡ folder_inputs_of self.old }
@@ -249,22 +237,12 @@ impl<'a, F: Field, E: ExtensionField<F>> InteractionBuilder for ProverFolder<'a,
             ≡ point_shape (folder_values_of self.old) }
         ensures answers { IsTrue true → IsOk result }
         ensures appends { (fs : List (Tree F)) (v : Tree F)
-            → Represent (λ e t. E.embed e
-            ≡ eval_tree (point_reading E.ring E.embed
-            (embedded E.embed (folder_values_of self.old))) t) fields.now fs → E.embed count.value
-            ≡ eval_tree (point_reading E.ring E.embed
-            (embedded E.embed (folder_values_of self.old))) v
-            → IfOk result (λ _. (folder_inputs_of self.new ≡ folder_inputs_of self.old)
-            × (folder_sum_of self.new ≡ weighed_from E.ring (folder_sum_of self.old) [])
-            × (power_count self.new ≡ power_count self.old)) }
+            → Represent (λ e t. IsFolderValue E.ring E.embed self.old (E.embed e) t) fields.now fs
+            → IsFolderValue E.ring E.embed self.old (E.embed count.value) v
+            → IfOk result (λ _. HasWeighed E.ring self.old self.new []) }
         ensures sure { IsTrue true → IsOk result }
-        ensures sends { IfOk result
-            (λ _. (folder_inputs_of self.new ≡ folder_inputs_of self.old)
-            × (folder_sum_of self.new ≡ folder_sum_of self.old)
-            × (power_count self.new ≡ power_count self.old)) }
-        ensures on_error { OnErr result ((folder_inputs_of self.new ≡ folder_inputs_of self.old)
-            × (folder_sum_of self.new ≡ weighed_from E.ring (folder_sum_of self.old) [])
-            × (power_count self.new ≡ power_count self.old)) }
+        ensures sends { IfOk result (λ _. HasWeighed E.ring self.old self.new []) }
+        ensures on_error { OnErr result (HasWeighed E.ring self.old self.new []) }
     {
         Ok(())
     }

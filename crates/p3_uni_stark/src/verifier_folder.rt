@@ -1,9 +1,7 @@
 //! The verifier's constraint folder.
-ghost use Rattle.std.specs.Prelude.{◌≡◌, List, [], ◌∷◌, ◌%◌, ◌<◌, IfOk, OnErr, IsOk, IsTrue, true, length, map, refl};
+ghost use Rattle.std.specs.Prelude.{◌≡◌, List, [], ◌∷◌, IfOk, OnErr, IsOk, IsTrue, true, refl};
 ghost use Rattle.std.proofs.Common.{◌∙◌, ap};
-ghost use Rattle.air_core.specs.Tree.{Tree, eval_tree, eval_asserted, Represent, RepresentsCount};
-ghost use Rattle.air_core.specs.declared.cells.Count.{Count as CountOf};
-ghost use Rattle.p3_uni_stark.specs.Fold.{fold_from};
+ghost use Rattle.air_core.specs.Tree.{Tree, Represent};
 ghost use Rattle.p3_uni_stark.specs.Point.{point_reading, point_shape};
 ghost use Rattle.p3_uni_stark.specs.Laws.Folders.{shape_along, value_persists, value_by_persists, folded_along};
 ghost use Rattle.air_core.specs.Operation.{value_by};
@@ -75,23 +73,19 @@ impl<'a, F: Field, E: ExtensionField<F>> VerifierFolder<'a, F, E> {
 }
 
 impl<'a, F: Field, E: ExtensionField<F>> AirBuilder for VerifierFolder<'a, F, E> {
-    ghost use Rattle.p3_uni_stark.specs.VerifierState.{folder_opened_of};
+    ghost use Rattle.p3_uni_stark.specs.VerifierState.{folder_opened_of, IsOpenedValue, HasFolded, HasFoldedTrees};
 
     type F = F;
 
     type Expr = E;
 
-    ghost represents = { λ b e t.
-        e ≡ eval_tree (point_reading E.ring E.embed (folder_opened_of b).values) t };
+    ghost represents = { λ b e t. IsOpenedValue E.ring E.embed (folder_opened_of b) e t };
 
     ghost later = { λ a b. folder_opened_of b ≡ folder_opened_of a };
 
-    ghost appends = { λ a b ts is. (folder_opened_of b ≡ folder_opened_of a)
-        × (b.accumulator ≡ fold_from E.ring a.alpha a.accumulator
-        (map (eval_asserted (point_reading E.ring E.embed (folder_opened_of a).values)) ts)) };
+    ghost appends = { λ a b ts is. HasFoldedTrees E.ring E.embed a b ts };
 
-    ghost asserts = { λ a x b. (folder_opened_of b ≡ folder_opened_of a)
-        × (b.accumulator ≡ E.ring.add (E.ring.mul a.accumulator a.alpha) x) };
+    ghost asserts = { λ a x b. HasFolded E.ring a b (x ∷ []) };
 
     ghost computes = { λ a op x y b e. e ≡ value_by E.ring op x y };
 
@@ -161,15 +155,13 @@ impl<'a, F: Field, E: ExtensionField<F>> AirBuilder for VerifierFolder<'a, F, E>
 }
 
 impl<'a, F: Field, E: ExtensionField<F>> ExtensionBuilder for VerifierFolder<'a, F, E> {
-    ghost use Rattle.p3_uni_stark.specs.VerifierState.{folder_opened_of};
+    ghost use Rattle.p3_uni_stark.specs.VerifierState.{folder_opened_of, IsOpenedValue, HasFolded};
 
     type ExprEF = E;
 
-    ghost represents_ext = { λ b e t.
-        e ≡ eval_tree (point_reading E.ring E.embed (folder_opened_of b).values) t };
+    ghost represents_ext = { λ b e t. IsOpenedValue E.ring E.embed (folder_opened_of b) e t };
 
-    ghost asserts_ext = { λ a x b. (folder_opened_of b ≡ folder_opened_of a)
-        × (b.accumulator ≡ E.ring.add (E.ring.mul a.accumulator a.alpha) x) };
+    ghost asserts_ext = { λ a x b. HasFolded E.ring a b (x ∷ []) };
 
     ghost computes_ext = { λ a op x y b e. e ≡ value_by E.ring op x y };
 
@@ -221,10 +213,9 @@ impl<'a, F: Field, E: ExtensionField<F>> PermutationAirBuilder for VerifierFolde
 }
 
 impl<'a, F: Field, E: ExtensionField<F>> InteractionBuilder for VerifierFolder<'a, F, E> {
-    ghost use Rattle.p3_uni_stark.specs.VerifierState.{folder_opened_of};
+    ghost use Rattle.p3_uni_stark.specs.VerifierState.{folder_opened_of, IsOpenedValue, HasFolded};
 
-    ghost sends = { λ a bus xs cs b. (folder_opened_of b ≡ folder_opened_of a)
-        × (b.accumulator ≡ a.accumulator) };
+    ghost sends = { λ a bus xs cs b. HasFolded E.ring a b [] };
 
     fn push_interaction(&mut self, _bus_name: &str, fields: &[E], count: Count<E>) -> Mem<()>
         ensures later { folder_opened_of self.new ≡ folder_opened_of self.old }
@@ -232,19 +223,12 @@ impl<'a, F: Field, E: ExtensionField<F>> InteractionBuilder for VerifierFolder<'
             ≡ point_shape (folder_opened_of self.old).values }
         ensures answers { IsTrue true → IsOk result }
         ensures appends { (fs : List (Tree F)) (v : Tree F)
-            → Represent (λ e t. e ≡ eval_tree
-            (point_reading E.ring E.embed (folder_opened_of self.old).values) t) fields.now fs
-            → count.value
-            ≡ eval_tree (point_reading E.ring E.embed (folder_opened_of self.old).values) v
-            → IfOk result (λ _. (folder_opened_of self.new ≡ folder_opened_of self.old)
-            × (self.new.accumulator ≡ fold_from E.ring self.old.alpha self.old.accumulator [])) }
+            → Represent (IsOpenedValue E.ring E.embed (folder_opened_of self.old)) fields.now fs
+            → IsOpenedValue E.ring E.embed (folder_opened_of self.old) count.value v
+            → IfOk result (λ _. HasFolded E.ring self.old self.new []) }
         ensures sure { IsTrue true → IsOk result }
-        ensures sends { IfOk result
-            (λ _. (folder_opened_of self.new ≡ folder_opened_of self.old)
-            × (self.new.accumulator ≡ self.old.accumulator)) }
-        ensures on_error { OnErr result
-            ((folder_opened_of self.new ≡ folder_opened_of self.old)
-            × (self.new.accumulator ≡ fold_from E.ring self.old.alpha self.old.accumulator [])) }
+        ensures sends { IfOk result (λ _. HasFolded E.ring self.old self.new []) }
+        ensures on_error { OnErr result (HasFolded E.ring self.old self.new []) }
     {
         Ok(())
     }

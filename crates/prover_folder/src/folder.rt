@@ -1,10 +1,10 @@
 //! The prover's constraint folder with lookups.
-ghost use Rattle.std.specs.Prelude.{◌≡◌, List, [], IfOk, OnErr, IsOk, IsTrue, true, map, refl};
+ghost use Rattle.std.specs.Prelude.{◌≡◌, List, [], IfOk, OnErr, IsOk, IsTrue, true, refl};
 ghost use Rattle.std.proofs.Common.{◌∙◌, ap};
 ghost use Rattle.air_core.specs.CellValues.{reading_at};
 ghost use Rattle.air_core.specs.Operation.{value_by};
-ghost use Rattle.air_core.specs.Tree.{Tree, eval_tree, eval_asserted, Represent};
-ghost use Rattle.p3_uni_stark.specs.Fold.{added_to, weighed_from};
+ghost use Rattle.air_core.specs.Tree.{Tree, Represent};
+ghost use Rattle.p3_uni_stark.specs.Fold.{added_to};
 ghost use Rattle.p3_uni_stark.specs.Laws.Folders.{value_persists, weighed_along};
 ghost use Rattle.batch_constraints.specs.Laws.Folders.{value_by_persists};
 ghost use Rattle.prover_folder.specs.Laws.Cells.{base_value_by_persists, shape_with};
@@ -50,28 +50,20 @@ impl<'a, F: Field, E: ExtensionField<F>> ProverFolderWithLookups<'a, F, E> {
 }
 
 impl<'a, F: Field, E: ExtensionField<F>> AirBuilder for ProverFolderWithLookups<'a, F, E> {
-    ghost use Rattle.p3_uni_stark.specs.ProverState.{folder_sum_of, power_count};
-    ghost use Rattle.prover_folder.specs.FolderState.{given_with, given_cells, prover_cells_of, prover_shape_of};
+    ghost use Rattle.p3_uni_stark.specs.ProverState.{folder_sum_of};
+    ghost use Rattle.prover_folder.specs.FolderState.{given_with, given_cells, prover_shape_of, IsProverValue, HasWeighedWith, HasWeighedTreesWith};
 
     type F = F;
 
     type Expr = F;
 
-    ghost represents = { λ b e t.
-        E.embed e ≡ eval_tree (reading_at E.ring E.embed (prover_cells_of E.ring.zero E.embed b))
-        t };
+    ghost represents = { λ b e t. IsProverValue E.ring E.embed b (E.embed e) t };
 
     ghost later = { λ a b. given_with b ≡ given_with a };
 
-    ghost appends = { λ a b ts is. (given_with b ≡ given_with a)
-        × (folder_sum_of b.inner ≡ weighed_from E.ring (folder_sum_of a.inner)
-        (map (eval_asserted (reading_at E.ring E.embed (prover_cells_of E.ring.zero E.embed a)))
-        ts)) × (power_count b.inner ≡ power_count a.inner) };
+    ghost appends = { λ a b ts is. HasWeighedTreesWith E.ring E.embed a b ts };
 
-    ghost asserts = { λ a x b. (given_with b ≡ given_with a)
-        × (folder_sum_of b.inner
-        ≡ added_to E.ring (folder_sum_of a.inner).left a.inner.accumulator (E.embed x))
-        × (power_count b.inner ≡ power_count a.inner) };
+    ghost asserts = { λ a x b. HasWeighedWith E.ring a b (E.embed x ∷ []) };
 
     ghost computes = { λ a op x y b e. e ≡ value_by F.ring op x y };
 
@@ -143,18 +135,14 @@ impl<'a, F: Field, E: ExtensionField<F>> AirBuilder for ProverFolderWithLookups<
 }
 
 impl<'a, F: Field, E: ExtensionField<F>> ExtensionBuilder for ProverFolderWithLookups<'a, F, E> {
-    ghost use Rattle.p3_uni_stark.specs.ProverState.{folder_sum_of, power_count};
-    ghost use Rattle.prover_folder.specs.FolderState.{given_with, given_cells, prover_cells_of};
+    ghost use Rattle.p3_uni_stark.specs.ProverState.{folder_sum_of};
+    ghost use Rattle.prover_folder.specs.FolderState.{given_with, given_cells, IsProverValue, HasWeighedWith};
 
     type ExprEF = E;
 
-    ghost represents_ext = { λ b e t.
-        e ≡ eval_tree (reading_at E.ring E.embed (prover_cells_of E.ring.zero E.embed b)) t };
+    ghost represents_ext = { λ b e t. IsProverValue E.ring E.embed b e t };
 
-    ghost asserts_ext = { λ a x b. (given_with b ≡ given_with a)
-        × (folder_sum_of b.inner
-        ≡ added_to E.ring (folder_sum_of a.inner).left a.inner.accumulator x)
-        × (power_count b.inner ≡ power_count a.inner) };
+    ghost asserts_ext = { λ a x b. HasWeighedWith E.ring a b (x ∷ []) };
 
     ghost computes_ext = { λ a op x y b e. e ≡ value_by E.ring op x y };
 
@@ -216,33 +204,21 @@ impl<'a, F: Field, E: ExtensionField<F>> PermutationAirBuilder
 }
 
 impl<'a, F: Field, E: ExtensionField<F>> InteractionBuilder for ProverFolderWithLookups<'a, F, E> {
-    ghost use Rattle.p3_uni_stark.specs.ProverState.{folder_sum_of, power_count};
-    ghost use Rattle.prover_folder.specs.FolderState.{given_with, prover_cells_of, prover_shape_of};
+    ghost use Rattle.prover_folder.specs.FolderState.{given_with, prover_shape_of, IsProverValue, HasWeighedWith};
 
-    ghost sends = { λ a bus xs cs b. (given_with b ≡ given_with a)
-        × (folder_sum_of b.inner ≡ folder_sum_of a.inner)
-        × (power_count b.inner ≡ power_count a.inner) };
+    ghost sends = { λ a bus xs cs b. HasWeighedWith E.ring a b [] };
 
     fn push_interaction(&mut self, _bus_name: &str, fields: &[F], count: Count<F>) -> Mem<()>
         ensures later { given_with self.new ≡ given_with self.old }
         ensures keeps_shape { prover_shape_of self.new ≡ prover_shape_of self.old }
         ensures answers { IsTrue true → IsOk result }
         ensures appends { (fs : List (Tree F)) (v : Tree F)
-            → Represent (λ e t. E.embed e
-            ≡ eval_tree (reading_at E.ring E.embed (prover_cells_of E.ring.zero E.embed self.old))
-            t) fields.now fs → E.embed count.value
-            ≡ eval_tree (reading_at E.ring E.embed (prover_cells_of E.ring.zero E.embed self.old)) v
-            → IfOk result (λ _. (given_with self.new ≡ given_with self.old)
-            × (folder_sum_of self.new.inner ≡ weighed_from E.ring (folder_sum_of self.old.inner) [])
-            × (power_count self.new.inner ≡ power_count self.old.inner)) }
+            → Represent (λ e t. IsProverValue E.ring E.embed self.old (E.embed e) t) fields.now fs
+            → IsProverValue E.ring E.embed self.old (E.embed count.value) v
+            → IfOk result (λ _. HasWeighedWith E.ring self.old self.new []) }
         ensures sure { IsTrue true → IsOk result }
-        ensures sends { IfOk result
-            (λ _. (given_with self.new ≡ given_with self.old)
-            × (folder_sum_of self.new.inner ≡ folder_sum_of self.old.inner)
-            × (power_count self.new.inner ≡ power_count self.old.inner)) }
-        ensures on_error { OnErr result ((given_with self.new ≡ given_with self.old)
-            × (folder_sum_of self.new.inner ≡ weighed_from E.ring (folder_sum_of self.old.inner) [])
-            × (power_count self.new.inner ≡ power_count self.old.inner)) }
+        ensures sends { IfOk result (λ _. HasWeighedWith E.ring self.old self.new []) }
+        ensures on_error { OnErr result (HasWeighedWith E.ring self.old self.new []) }
     {
         Ok(())
     }

@@ -1,11 +1,12 @@
 -- What a verifier's folder of a table with lookups reads, and the fold so far. After Plonky3's p3-batch-stark (the verifier's folder with
 -- lookups).
-use Rattle.std.specs.Prelude.{List, length, min}
+use Rattle.std.specs.Prelude.{◌≡◌, List, length, map, min}
 use Rattle.p3_field.specs.Ring.{Ring}
 use Rattle.air_core.specs.CellValues.{CellValues, reading_at}
 use Rattle.air_core.specs.PointValues.{point_cells, point_shape}
 use Rattle.air_core.specs.Shape.{Shape}
-use Rattle.air_core.specs.Tree.{Reading}
+use Rattle.air_core.specs.Tree.{Tree, Asserted, Reading, eval_tree, eval_asserted}
+use Rattle.p3_uni_stark.specs.Fold.{fold_from}
 use Rattle.p3_uni_stark.specs.VerifierState.{Opened, folder_opened_of}
 use Rattle.verifier_folder.specs.declared.verifier_folder.VerifierFolderWithLookups.{VerifierFolderWithLookups}
 
@@ -46,3 +47,16 @@ verifier_shape_of o = record (point_shape o.opened.values) {
   challenges = length o.challenges;
   terminals = length o.terminals;
 }
+
+-- the expression is the tree's value at what the folder reads
+abbrev pub IsValueWithLookups : {F E : Type 0} → Ring E → (F → E) → VerifierFolderWithLookups F E → E → Tree F → Type 0
+IsValueWithLookups r embed b e t = e ≡ eval_tree (reading_of r embed (all_opened b)) t
+
+-- the second folder reads what the first one does, and these values were folded in since, one after another
+abbrev pub HasFoldedWith : {F E : Type 0} → Ring E → VerifierFolderWithLookups F E → VerifierFolderWithLookups F E → List E → Type 0
+HasFoldedWith r a b values =
+    (all_opened b ≡ all_opened a) × (b.inner.accumulator ≡ fold_from r a.inner.alpha a.inner.accumulator values)
+
+-- the same of the values of asserted trees
+abbrev pub HasFoldedTreesWith : {F E : Type 0} → Ring E → (F → E) → VerifierFolderWithLookups F E → VerifierFolderWithLookups F E → List (Asserted F) → Type 0
+HasFoldedTreesWith r embed a b ts = HasFoldedWith r a b (map (eval_asserted (reading_of r embed (all_opened a))) ts)

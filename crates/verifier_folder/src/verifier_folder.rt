@@ -1,12 +1,10 @@
 //! The verifier's constraint folder of a table with lookups.
-ghost use Rattle.std.specs.Prelude.{◌≡◌, List, [], ◌∷◌, ◌%◌, ◌<◌, IfOk, OnErr, IsOk, IsTrue, true, length, map, refl};
+ghost use Rattle.std.specs.Prelude.{◌≡◌, List, [], ◌∷◌, IfOk, OnErr, IsOk, IsTrue, true, refl};
 ghost use Rattle.std.proofs.Common.{◌∙◌, ap};
-ghost use Rattle.air_core.specs.Tree.{Tree, eval_tree, eval_asserted, Represent, RepresentsCount};
+ghost use Rattle.air_core.specs.Tree.{Tree, Represent};
 ghost use Rattle.air_core.specs.Operation.{value_by};
-ghost use Rattle.p3_uni_stark.specs.Fold.{fold_from};
 ghost use Rattle.p3_uni_stark.specs.Laws.Folders.{value_persists, folded_along};
 ghost use Rattle.batch_constraints.specs.Laws.Folders.{value_by_persists};
-ghost use Rattle.verifier_folder.specs.FolderState.{FolderValuesWithLookups, verifier_cells_of, reading_of, verifier_shape_of};
 
 use air_core::{
     AirBuilder, Cell, Count, ExtCell, ExtensionBuilder, InteractionBuilder, PermutationAirBuilder,
@@ -33,22 +31,19 @@ pub struct VerifierFolderWithLookups<'a, F, E> {
 }
 
 impl<'a, F: Field, E: ExtensionField<F>> AirBuilder for VerifierFolderWithLookups<'a, F, E> {
-    ghost use Rattle.verifier_folder.specs.FolderState.{all_opened};
+    ghost use Rattle.verifier_folder.specs.FolderState.{all_opened, verifier_cells_of, verifier_shape_of, reading_of, FolderValuesWithLookups, IsValueWithLookups, HasFoldedWith, HasFoldedTreesWith};
 
     type F = F;
 
     type Expr = E;
 
-    ghost represents = { λ b e t. e ≡ eval_tree (reading_of E.ring E.embed (all_opened b)) t };
+    ghost represents = { λ b e t. IsValueWithLookups E.ring E.embed b e t };
 
     ghost later = { λ a b. all_opened b ≡ all_opened a };
 
-    ghost appends = { λ a b ts is. (all_opened b ≡ all_opened a)
-        × (b.inner.accumulator ≡ fold_from E.ring a.inner.alpha a.inner.accumulator
-        (map (eval_asserted (reading_of E.ring E.embed (all_opened a))) ts)) };
+    ghost appends = { λ a b ts is. HasFoldedTreesWith E.ring E.embed a b ts };
 
-    ghost asserts = { λ a x b. (all_opened b ≡ all_opened a)
-        × (b.inner.accumulator ≡ E.ring.add (E.ring.mul a.inner.accumulator a.inner.alpha) x) };
+    ghost asserts = { λ a x b. HasFoldedWith E.ring a b (x ∷ []) };
 
     ghost computes = { λ a op x y b e. e ≡ value_by E.ring op x y };
 
@@ -117,14 +112,13 @@ impl<'a, F: Field, E: ExtensionField<F>> AirBuilder for VerifierFolderWithLookup
 }
 
 impl<'a, F: Field, E: ExtensionField<F>> ExtensionBuilder for VerifierFolderWithLookups<'a, F, E> {
-    ghost use Rattle.verifier_folder.specs.FolderState.{all_opened};
+    ghost use Rattle.verifier_folder.specs.FolderState.{all_opened, verifier_cells_of, reading_of, IsValueWithLookups, HasFoldedWith};
 
     type ExprEF = E;
 
-    ghost represents_ext = { λ b e t. e ≡ eval_tree (reading_of E.ring E.embed (all_opened b)) t };
+    ghost represents_ext = { λ b e t. IsValueWithLookups E.ring E.embed b e t };
 
-    ghost asserts_ext = { λ a x b. (all_opened b ≡ all_opened a)
-        × (b.inner.accumulator ≡ E.ring.add (E.ring.mul a.inner.accumulator a.inner.alpha) x) };
+    ghost asserts_ext = { λ a x b. HasFoldedWith E.ring a b (x ∷ []) };
 
     ghost computes_ext = { λ a op x y b e. e ≡ value_by E.ring op x y };
 
@@ -186,10 +180,9 @@ impl<'a, F: Field, E: ExtensionField<F>> PermutationAirBuilder
 
 impl<'a, F: Field, E: ExtensionField<F>> InteractionBuilder
     for VerifierFolderWithLookups<'a, F, E> {
-    ghost use Rattle.verifier_folder.specs.FolderState.{all_opened};
+    ghost use Rattle.verifier_folder.specs.FolderState.{all_opened, verifier_shape_of, IsValueWithLookups, HasFoldedWith};
 
-    ghost sends = { λ a bus xs cs b. (all_opened b ≡ all_opened a)
-        × (b.inner.accumulator ≡ a.inner.accumulator) };
+    ghost sends = { λ a bus xs cs b. HasFoldedWith E.ring a b [] };
 
     fn push_interaction(&mut self, _bus_name: &str, fields: &[E], count: Count<E>) -> Mem<()>
         ensures later { all_opened self.new ≡ all_opened self.old }
@@ -197,20 +190,12 @@ impl<'a, F: Field, E: ExtensionField<F>> InteractionBuilder
             ≡ verifier_shape_of (all_opened self.old) }
         ensures answers { IsTrue true → IsOk result }
         ensures appends { (fs : List (Tree F)) (v : Tree F)
-            → Represent (λ e t. e ≡ eval_tree (reading_of E.ring E.embed (all_opened self.old)) t)
-            fields.now fs
-            → count.value ≡ eval_tree (reading_of E.ring E.embed (all_opened self.old)) v
-            → IfOk result (λ _. (all_opened self.new ≡ all_opened self.old)
-            × (self.new.inner.accumulator
-            ≡ fold_from E.ring self.old.inner.alpha self.old.inner.accumulator [])) }
+            → Represent (IsValueWithLookups E.ring E.embed self.old) fields.now fs
+            → IsValueWithLookups E.ring E.embed self.old count.value v
+            → IfOk result (λ _. HasFoldedWith E.ring self.old self.new []) }
         ensures sure { IsTrue true → IsOk result }
-        ensures sends { IfOk result
-            (λ _. (all_opened self.new ≡ all_opened self.old)
-            × (self.new.inner.accumulator ≡ self.old.inner.accumulator)) }
-        ensures on_error { OnErr result
-            ((all_opened self.new ≡ all_opened self.old)
-            × (self.new.inner.accumulator
-            ≡ fold_from E.ring self.old.inner.alpha self.old.inner.accumulator [])) }
+        ensures sends { IfOk result (λ _. HasFoldedWith E.ring self.old self.new []) }
+        ensures on_error { OnErr result (HasFoldedWith E.ring self.old self.new []) }
     {
         Ok(())
     }

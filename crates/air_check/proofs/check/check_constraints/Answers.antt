@@ -2,7 +2,7 @@ use Rattle.std.proofs.Common.{◌≡◌, ℕ, ◌<◌, inl, inr, length, subst, 
 use Rattle.std.specs.Option.{option_map}
 use Rattle.std.proofs.lemmas.Bool.{cases_lt}
 use Rattle.air_core.specs.Check.{table_traces, row_values, HoldsAtRow, HasHeight}
-use Rattle.air_check.proofs.Nonzero.{nonzero_empty, nonzero_fails}
+use Rattle.air_check.specs.Laws.Nonzero.{nonzero_empty, nonzero_fails}
 use Rattle.air_check.proofs.check.check_constraints.Goals as goal
 
 pub loop-row-preserved : goal.loop-row-preserved

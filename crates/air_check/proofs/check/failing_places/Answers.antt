@@ -1,7 +1,7 @@
 use Rattle.std.proofs.Common.{◌<◌, length, List, ◌∙◌, ap, subst, IfOk}
 use Rattle.std.specs.Option.{option_map}
 use Rattle.air_core.specs.Check.{AreNonzero, table_traces, periodic_row}
-use Rattle.air_check.proofs.Nonzero.{all_of_map}
+use Rattle.air_check.specs.Laws.Nonzero.{all_of_map}
 use Rattle.air_core.specs.Laws.RowOf.{row_is, values_are}
 use Rattle.air_check.proofs.check.failing_places.Goals as goal
 

@@ -5,7 +5,7 @@ use Rattle.std.proofs.lemmas.List.{length-map}
 use Rattle.air_core.specs.Check.{table_traces, HasHeight}
 use Rattle.p3_lookup.specs.Written.{read, read_all}
 use Rattle.batch_check.specs.BatchCheck.{checked_table, batch_values, HoldsInRow}
-use Rattle.batch_check.proofs.Nonzero.{nonzero_empty, nonzero_fails}
+use Rattle.air_check.specs.Laws.Nonzero.{nonzero_empty, nonzero_fails}
 use Rattle.batch_check.proofs.check.check_constraints.Goals as goal
 
 pub loop-row-preserved : goal.loop-row-preserved

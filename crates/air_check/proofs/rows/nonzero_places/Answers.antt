@@ -1,8 +1,8 @@
 use Rattle.std.proofs.Common.{rules, ◌≡◌, ◌+◌, ◌<◌, ◌++◌, List, [], ◌∷◌, length, get_or, sym, ◌∙◌, subst, ap, ℕ, arith}
 use Rattle.std.proofs.lemmas.List.{get_or_read}
-use Rattle.air_check.proofs.Nonzero.{NonzeroBelow, nonzero_skip, nonzero_push}
-use Rattle.air_check.proofs.check.nonzero_places.Goals as goal
-use Rattle.air_check.proofs.check.nonzero_places.Goals.{then-not-is_zero+in_ok-push, else-not-is_zero}
+use Rattle.air_check.specs.Laws.Nonzero.{NonzeroBelow, nonzero_skip, nonzero_push}
+use Rattle.air_check.proofs.rows.nonzero_places.Goals as goal
+use Rattle.air_check.proofs.rows.nonzero_places.Goals.{then-not-is_zero+in_ok-push, else-not-is_zero}
 
 pub loop-i-preserved : goal.loop-i-preserved
 loop-i-preserved g c =
