@@ -25,7 +25,7 @@ impl<F> Model for PlainCommitment<F> {
     ghost view = { λ c. record { matrices = c.matrices.value.items } };
 }
 
-impl<F: Drop> PlainCommitment<F> {
+impl<F: Copy> PlainCommitment<F> {
     /// The commitment of these extensions.
     pub fn new(alloc: Global, matrices: Vec<RowMajorMatrix<F>>) -> Mem<Self>
         ensures { IfOk result (λ c. c ≡ record { matrices = matrices.items }) }
