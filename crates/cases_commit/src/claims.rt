@@ -36,7 +36,8 @@ fn claim_of<E: ExtensionField<BabyBear>>(alloc: Global, lists: &[Vec<usize>]) ->
             claimed.push((domain, points))?;
         }
     }
-    CommitmentOpening::from_tuple(alloc, (PlainCommitment { matrices }, claimed))
+    let commitment = PlainCommitment::new(alloc, matrices)?;
+    CommitmentOpening::from_tuple(alloc, (commitment, claimed))
 }
 
 /// Appends claims, each commitment's after a `/`: a matrix's domain, and its points and their values.
@@ -112,7 +113,7 @@ pub fn observed(alloc: Global, lists: &[Vec<usize>]) -> Mem<String> {
         }
     }
     let mut challenger = Sha256Challenger::new();
-    challenger.observe(&PlainCommitment { matrices });
+    challenger.observe(&PlainCommitment::new(alloc, matrices)?);
     let mut again = Sha256Challenger::new();
     again.observe_slice(&values_of::<BabyBear>(alloc, elements)?);
     format!(in alloc; "{}", challenger == again)

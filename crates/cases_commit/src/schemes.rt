@@ -194,9 +194,9 @@ pub fn quotient<D: TwoAdicSubgroupDft<BabyBear> + Drop, E: ExtensionField<BabyBe
         alloc, pcs, domain, matrix, parts,
     )?;
     let mut out = String::new(alloc);
-    push_matrices(&mut out, alloc, &commitment.matrices)?;
-    push_matrices(&mut out, alloc, &steps.matrices)?;
-    push_matrices(&mut out, alloc, &once.matrices)?;
+    push_matrices(&mut out, alloc, commitment.matrices())?;
+    push_matrices(&mut out, alloc, steps.matrices())?;
+    push_matrices(&mut out, alloc, once.matrices())?;
     Ok(out)
 }
 
@@ -220,17 +220,18 @@ pub fn column<D: TwoAdicSubgroupDft<BabyBear> + Drop, E: ExtensionField<BabyBear
         return Ok(String::from_str(alloc, "not accepted")?);
     };
     let mut out = listed(alloc, &opened.values)?;
-    push_matrices(&mut out, alloc, &opened.commitment.matrices)?;
+    push_matrices(&mut out, alloc, opened.commitment.matrices())?;
     let copy = <Plain<D> as Pcs<E, Sha256Challenger>>::clone_commitment(
         pcs,
         alloc,
         &opened.commitment,
     )?;
-    push_matrices(&mut out, alloc, &copy.matrices)?;
-    let copy = copy.try_clone(alloc)?;
-    push_matrices(&mut out, alloc, &copy.matrices)?;
-    if copy.matrices.len() == 1 {
-        if has_subgroup_height(&copy.matrices[0]) {
+    push_matrices(&mut out, alloc, copy.matrices())?;
+    let copy = copy.try_clone()?;
+    push_matrices(&mut out, alloc, copy.matrices())?;
+    let kept: &[RowMajorMatrix<BabyBear>] = copy.matrices();
+    if kept.len() == 1 {
+        if has_subgroup_height(&kept[0]) {
             for polynomial in &pcs.committed(alloc, &copy, 0)? {
                 push_values(&mut out, alloc, polynomial)?;
             }
@@ -253,8 +254,8 @@ pub fn plainly<D: TwoAdicSubgroupDft<BabyBear> + Drop, E: ExtensionField<BabyBea
         let (commitment, again) = committed_both_ways::<E, Sha256Challenger, Plain<D>>(
             alloc, pcs, first, last,
         )?;
-        push_matrices(&mut out, alloc, &commitment.matrices)?;
-        push_matrices(&mut out, alloc, &again.matrices)?;
+        push_matrices(&mut out, alloc, commitment.matrices())?;
+        push_matrices(&mut out, alloc, again.matrices())?;
         return Ok(out);
     }
     let (_domain, matrix) = last;
@@ -263,7 +264,7 @@ pub fn plainly<D: TwoAdicSubgroupDft<BabyBear> + Drop, E: ExtensionField<BabyBea
         alloc,
         vec![in alloc; matrix]?,
     )?;
-    push_matrices(&mut out, alloc, &commitment.matrices)?;
+    push_matrices(&mut out, alloc, commitment.matrices())?;
     Ok(out)
 }
 
@@ -297,6 +298,6 @@ pub fn within<D: TwoAdicSubgroupDft<BabyBear> + Drop, E: ExtensionField<BabyBear
     let evaluations = vec![in alloc; (domain, matrix)]?;
     let (commitment, _kept) = committed_within(alloc, pcs, evaluations)?;
     let mut out = String::new(alloc);
-    push_matrices(&mut out, alloc, &commitment.matrices)?;
+    push_matrices(&mut out, alloc, commitment.matrices())?;
     Ok(out)
 }

@@ -31,7 +31,7 @@ pub fn proof<R: Print + AllocGlobal>(
         push_field(&proof, word, &mut out)?;
     } else {
         out.extend_from_slice(b"head\n")?;
-        write_proof_part(&proof, &mut out)?;
+        write_proof_part(rt.alloc(), &proof, &mut out)?;
     }
     print_text(rt, &out)
 }

@@ -38,11 +38,12 @@ impl JsonForm for CommitmentForm {
 
     fn read(alloc: Global, json: &Value) -> Result<PlainCommitment<BabyBear>, TreeError> {
         let matrices = Matrices::read(alloc, json)?;
-        Ok(PlainCommitment { matrices })
+        let commitment = PlainCommitment::new(alloc, matrices)?;
+        Ok(commitment)
     }
 
     fn write(alloc: Global, value: &PlainCommitment<BabyBear>) -> Mem<Value> {
-        Matrices::write(alloc, &value.matrices)
+        Matrices::write(alloc, value.matrices())
     }
 }
 

@@ -5,13 +5,16 @@ use p3_field::{Mem, TwoAdicCore, TwoAdicMultiplicativeCoset};
 use p3_matrix::RowMajorMatrix;
 use std::alloc::Global;
 use std::marker::Model;
+use std::rc::Rc;
 
 /// A commitment of the plain scheme (not in Plonky3): per committed matrix the values of its columns' polynomials on the
 /// coset whose shift is the field's GENERATOR, 2^`log_blowup` times as large as the matrix's domain; row i is at point i.
+///
+/// Copies of a commitment share its matrices.
 #[derive(Drop)]
 pub struct PlainCommitment<F> {
-    /// The extensions, in the order of the matrices.
-    pub matrices: Vec<RowMajorMatrix<F>>,
+    // The extensions, in the order of the matrices.
+    matrices: Rc<Vec<RowMajorMatrix<F>>>,
 }
 
 impl<F> Model for PlainCommitment<F> {
@@ -19,15 +22,30 @@ impl<F> Model for PlainCommitment<F> {
 
     ghost Value = { PlainCommitmentData F };
 
-    ghost view = { λ c. record { matrices = c.matrices.items } };
+    ghost view = { λ c. record { matrices = c.matrices.value.items } };
 }
 
 impl<F: Copy> PlainCommitment<F> {
-    /// A commitment equal to this one.
-    pub fn try_clone(&self, alloc: Global) -> Mem<Self>
+    /// The commitment of these extensions.
+    pub fn new(alloc: Global, matrices: Vec<RowMajorMatrix<F>>) -> Mem<Self>
+        ensures { IfOk result (λ c. c ≡ record { matrices = matrices.items }) }
+    {
+        let matrices = Rc::new(alloc, matrices)?;
+        Ok(PlainCommitment { matrices })
+    }
+
+    /// The extensions, in the order of the matrices.
+    pub fn matrices(&self) -> &Vec<RowMajorMatrix<F>>
+        ensures { result.now.items ≡ self.now.matrices }
+    {
+        &self.matrices
+    }
+
+    /// A commitment equal to this one, which shares its matrices: no value is copied, and no memory is taken.
+    pub fn try_clone(&self) -> Mem<Self>
         ensures { IfOk result (λ c. c ≡ self.now) }
     {
-        let matrices = copied_matrices(alloc, &self.matrices)?;
+        let matrices = self.matrices.clone()?;
         Ok(PlainCommitment { matrices })
     }
 }

@@ -165,7 +165,8 @@ pub(crate) fn commit_extensions<F: TwoAdicField>(
     }
     let matrices = copied_matrices(alloc, &ldes)?;
     let evaluated = with_cosets(alloc, ldes)?;
-    Ok((PlainCommitment { matrices }, PlainProverData { evaluated }))
+    let commitment = PlainCommitment::new(alloc, matrices)?;
+    Ok((commitment, PlainProverData { evaluated }))
 }
 
 /// The interpolants of a matrix's columns on the coset of its height, all found at once.
@@ -206,5 +207,6 @@ pub(crate) fn committed<F: TwoAdicField>(
         (λ j f. IsInterpolant F.ring (coset_point F.ring F.GENERATOR (F.root k))
         (column F.ring.zero m j) f.items)) }
 {
-    column_polynomials(alloc, &commitment.matrices[matrix])
+    let matrices: &[RowMajorMatrix<F>] = commitment.matrices();
+    column_polynomials(alloc, &matrices[matrix])
 }

@@ -36,7 +36,8 @@ impl CanObserve<PlainCommitment<BabyBear>> for Sha256Challenger {
     /// Takes in the number of matrices, then of each matrix its width, its height and its values row by row, each as a field
     /// element.
     fn observe(&mut self, value: &PlainCommitment<BabyBear>) {
-        self.observe(&BabyBear::from_u64(value.matrices.len() as u64));
-        observe_matrices(self, &value.matrices);
+        let matrices: &[RowMajorMatrix<BabyBear>] = value.matrices();
+        self.observe(&BabyBear::from_u64(matrices.len() as u64));
+        observe_matrices(self, matrices);
     }
 }

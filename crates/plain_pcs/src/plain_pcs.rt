@@ -239,9 +239,9 @@ impl<F: TwoAdicField, D: TwoAdicSubgroupDft<F>, E: ExtensionField<F>, C> Pcs<E, 
         }
     }
 
-    /// A copy of each extension.
+    /// The copy shares the extensions: nothing is copied, and no memory is taken.
     fn clone_commitment(&self, alloc: Global, c: &PlainCommitment<F>) -> Mem<PlainCommitment<F>> {
-        c.try_clone(alloc)
+        c.try_clone()
     }
 
     ghost holds_all = { λ s d c cs h. held_count h };

@@ -194,10 +194,11 @@ fn round_fault<F: TwoAdicField, E: ExtensionField<F>>(
         (record { log_blowup = log_blowup })) E.ring E.embed round
         (record { commitment = commitment.now; matrices = claims.now }))) }
 {
-    if commitment.matrices.len() != claims.len() {
+    let matrices: &[RowMajorMatrix<F>] = commitment.matrices();
+    if matrices.len() != claims.len() {
         return Ok(Some(PlainError::RoundShape { round }));
     }
-    matrices_fault(alloc, log_blowup, round, &commitment.matrices, claims)
+    matrices_fault(alloc, log_blowup, round, matrices, claims)
 }
 
 /// The first check of the claims that fails, or None (not in Plonky3): the claims on a commitment are one per matrix;

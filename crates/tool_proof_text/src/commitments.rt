@@ -33,11 +33,12 @@ impl Form for CommitmentText {
 
     fn read(alloc: Global, reader: &mut Reader) -> Result<PlainCommitment<BabyBear>, ItemError> {
         let matrices = MatricesText::read(alloc, reader)?;
-        Ok(PlainCommitment { matrices })
+        let commitment = PlainCommitment::new(alloc, matrices)?;
+        Ok(commitment)
     }
 
     fn print(value: &PlainCommitment<BabyBear>, out: &mut Vec<u8>) -> Mem<()> {
-        MatricesText::print(&value.matrices, out)?;
+        MatricesText::print(value.matrices(), out)?;
         Ok(())
     }
 }

@@ -1,6 +1,6 @@
 //! The text of a batch proof.
 
-ghost use Rattle.std.specs.Prelude.{◌≡◌, ◌≤◌, ◌++◌, IfErr, OnOk, length};
+ghost use Rattle.std.specs.Prelude.{◌≡◌, ◌≤◌, ◌++◌, IfErr, OnOk, OnErr, length};
 ghost use Rattle.tool_lines.specs.Texts.{ReadsOne, line_text, list_numbers};
 ghost use Rattle.tool_lines.specs.WholeText.{ReadsTextFrom};
 ghost use Rattle.tool_proof_text.specs.Openings.{instance_numbers};
@@ -171,10 +171,16 @@ pub fn read_proof_part(alloc: Global, bytes: &[u8], from: usize) -> Result<ToolP
     read_text_from::<ProofText>(alloc, bytes, from)
 }
 
-/// Appends a proof's text: of a proof within the limits the one that [`read_proof_part`] reads. On an error a part of it may
-/// stand.
-pub fn write_proof_part(proof: &ToolProof, out: &mut Vec<u8>) -> Mem<()>
-    ensures { OnOk result (out.new.items ≡ out.old.items ++ line_text (proof_numbers proof.now)) }
+/// Appends a proof's text: of a proof within the limits the one that [`read_proof_part`] reads. Where memory runs out, `out` holds
+/// what it held before: the text is made apart, and appended whole. `ProofText::print` writes it in place, and then a part of it
+/// may stand.
+pub fn write_proof_part(alloc: Global, proof: &ToolProof, out: &mut Vec<u8>) -> Mem<()>
+    ensures text { OnOk result
+        (out.new.items ≡ out.old.items ++ line_text (proof_numbers proof.now)) }
+    ensures kept { OnErr result (out.new.items ≡ out.old.items) }
 {
-    ProofText::print(proof, out)
+    let mut part = Vec::new(alloc);
+    ProofText::print(proof, &mut part)?;
+    out.extend_from_slice(&part)?;
+    Ok(())
 }

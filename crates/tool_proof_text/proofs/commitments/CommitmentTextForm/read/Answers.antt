@@ -1,3 +1,7 @@
+use Rattle.std.proofs.Common.{sym, subst}
+use Rattle.p3_field.specs.declared.baby_bear.BabyBear.{BabyBear as Element}
+use Rattle.plain_pcs.specs.Scheme.{PlainCommitmentData}
+use Rattle.tool_lines.specs.Texts.{Reads}
 use Rattle.tool_lines.specs.Laws.Stops.{handed-on, same-stops, same-reads, own-items}
 use Rattle.tool_proof_text.specs.ProofText.{CommitmentWithin, commitment_numbers}
 use Rattle.tool_proof_text.specs.Laws.Commitments.{same-commitment}
@@ -9,4 +13,6 @@ returns-in_err-matrices c = handed-on (λ v. v) CommitmentWithin commitment_numb
 
 pub returns : goal.returns
 unfolding same-commitment
-returns c = same-reads same-commitment (own-items c.in_ok-matrices.matrices.items c.in_ok-matrices.ensures)
+returns c =
+    subst (λ (m : PlainCommitmentData Element). Reads CommitmentWithin commitment_numbers _ _ m) (sym c.in_ok-commitment.ensures)
+    (same-reads same-commitment (own-items c.in_ok-matrices.matrices.items c.in_ok-matrices.ensures))
