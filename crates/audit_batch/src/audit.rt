@@ -1,11 +1,9 @@
 //! The checks of a batch proof that fail, all of them, and the steps of its script.
 ghost use Rattle.std.specs.Prelude.{◌≡◌, ◌^◌, ◌<◌, IfOk, length, map};
-ghost use Rattle.p3_field.specs.Checks.{NoneFails};
 ghost use Rattle.p3_field.specs.Poly.{tabulate};
 ghost use Rattle.batch_statement.specs.Statement.{WellFormed, read_common, stated};
-ghost use Rattle.verifier_batch.specs.OpeningChecks.{log_chunks_of_table, shape_bounds_of};
+ghost use Rattle.verifier_batch.specs.OpeningChecks.{log_chunks_of_table, HasShapeFor};
 ghost use Rattle.verifier_draws.specs.Draws.{script_shape};
-ghost use Rattle.verifier_shape.specs.ShapeChecks.{shape_checks};
 ghost use Rattle.audit_batch.specs.Asked.{AreNamed};
 ghost use Rattle.audit_batch.specs.Audit.{HasWitness, audit};
 ghost use Rattle.audit_batch.specs.Report.{IsPlayedText, steps_text};
@@ -56,8 +54,8 @@ fn audit_unplayed<SC: StarkGenericConfig, A: Air<Val<SC>>>(
     requires formed { WellFormed (map A.declaration airs.now) (read_common common.now) }
     requires shape { let statement = stated A.declaration A.trees airs.now public_values.now
         common.now in
-        NoneFails (shape_checks {R = SC.Pcs.Error} SC.Val.ring
-        (shape_bounds_of (⟦<SC as Settings>⟧.setting config.now)) statement proof.now) }
+        HasShapeFor SC.Pcs.Error SC.Val.ring (⟦<SC as Settings>⟧.setting config.now) statement
+        proof.now }
     requires chunks { let statement = stated A.declaration A.trees airs.now public_values.now
         common.now in
         chunks.now ≡ tabulate (length airs.now)
@@ -108,8 +106,8 @@ fn audit_played<SC: StarkGenericConfig, A: Air<Val<SC>>>(
     requires formed { WellFormed (map A.declaration airs.now) (read_common common.now) }
     requires shape { let statement = stated A.declaration A.trees airs.now public_values.now
         common.now in
-        NoneFails (shape_checks {R = SC.Pcs.Error} SC.Val.ring
-        (shape_bounds_of (⟦<SC as Settings>⟧.setting config.now)) statement proof.now) }
+        HasShapeFor SC.Pcs.Error SC.Val.ring (⟦<SC as Settings>⟧.setting config.now) statement
+        proof.now }
     requires chunks { let statement = stated A.declaration A.trees airs.now public_values.now
         common.now in
         chunks.now ≡ tabulate (length airs.now)
@@ -187,8 +185,8 @@ fn audit_shaped<SC: StarkGenericConfig, A: Air<Val<SC>>>(
     requires formed { WellFormed (map A.declaration airs.now) (read_common common.now) }
     requires shape { let statement = stated A.declaration A.trees airs.now public_values.now
         common.now in
-        NoneFails (shape_checks {R = SC.Pcs.Error} SC.Val.ring
-        (shape_bounds_of (⟦<SC as Settings>⟧.setting config.now)) statement proof.now) }
+        HasShapeFor SC.Pcs.Error SC.Val.ring (⟦<SC as Settings>⟧.setting config.now) statement
+        proof.now }
     requires chunks { let statement = stated A.declaration A.trees airs.now public_values.now
         common.now in
         chunks.now ≡ tabulate (length airs.now)

@@ -2,13 +2,11 @@
 //! matrix was committed for its table's height.
 ghost use Rattle.std.specs.Prelude.{◌≡◌, ◌↔◌, ◌<◌, IsTrue, OnOk, All, Some, None, [], ◌∷◌, length, map};
 ghost use Rattle.std.specs.Prelude.{slice_index_or as get_or};
-ghost use Rattle.p3_field.specs.Checks.{NoneFails};
 ghost use Rattle.p3_field.specs.Poly.{tabulate};
 ghost use Rattle.batch_statement.specs.Statement.{WellFormed, read_common, stated};
 ghost use Rattle.batch_statement.specs.Words.{bits_at};
-ghost use Rattle.verifier_batch.specs.OpeningChecks.{log_chunks_of_table, shape_bounds_of};
+ghost use Rattle.verifier_batch.specs.OpeningChecks.{log_chunks_of_table, HasShapeFor};
 ghost use Rattle.verifier_claims.specs.ClaimChecks.{HasDegreeBits, bits_listed, domain_by};
-ghost use Rattle.verifier_shape.specs.ShapeChecks.{shape_checks};
 ghost use Rattle.audit_batch.specs.Asked.{always, in_order, of_each};
 ghost use Rattle.audit_batch.specs.Audit.{parts_of};
 ghost use Rattle.audit_batch.specs.Named.{AreNamedAfter};
@@ -120,8 +118,8 @@ pub(crate) fn name_claims<SC: StarkGenericConfig, A: Air<Val<SC>>>(
     requires formed { WellFormed (map A.declaration airs.now) (read_common common.now) }
     requires shape { let statement = stated A.declaration A.trees airs.now public_values.now
         common.now in
-        NoneFails (shape_checks {R = SC.Pcs.Error} SC.Val.ring
-        (shape_bounds_of (⟦<SC as Settings>⟧.setting config.now)) statement proof.now) }
+        HasShapeFor SC.Pcs.Error SC.Val.ring (⟦<SC as Settings>⟧.setting config.now) statement
+        proof.now }
     requires chunks { let statement = stated A.declaration A.trees airs.now public_values.now
         common.now in
         chunks.now ≡ tabulate (length airs.now)

@@ -1,14 +1,13 @@
 //! The checks of the tables' identities, each table's by itself.
 ghost use Rattle.std.specs.Prelude.{◌≡◌, ℕ, ◌+◌, ◌*◌, ◌<◌, ◌≤◌, [], length, map, OnOk};
 ghost use Rattle.std.specs.Prelude.{slice_index_or as get_or};
-ghost use Rattle.p3_field.specs.Checks.{NoneFails};
 ghost use Rattle.p3_field.specs.Field.{Extension, TwoAdic};
 ghost use Rattle.p3_field.specs.Poly.{tabulate};
 ghost use Rattle.p3_lookup.specs.Written.{read_all};
 ghost use Rattle.batch_config.specs.Domains.{chunks_over};
 ghost use Rattle.batch_statement.specs.Statement.{WellFormed, read_common, tables_of, stated};
 ghost use Rattle.verifier_identity.specs.TableIdentity.{identity_at};
-ghost use Rattle.verifier_shape.specs.ShapeChecks.{bounds_with, log_chunks_at, shape_checks};
+ghost use Rattle.verifier_shape.specs.ShapeChecks.{bounds_with, log_chunks_at, HasRightShape};
 ghost use Rattle.audit_batch.specs.Asked.{in_order, of_each};
 ghost use Rattle.audit_batch.specs.Named.{AreNamedAfter};
 
@@ -45,8 +44,8 @@ pub(crate) fn name_identities<
     zeta: E,
 ) -> Mem<()>
     requires formed { WellFormed (map A.declaration airs.now) (read_common common.now) }
-    requires shape { NoneFails (shape_checks {R = R} F.ring (bounds_with F.ORDER_U64 bounds)
-        (stated A.declaration A.trees airs.now public_values.now common.now) proof.now) }
+    requires shape { HasRightShape R F.ring (bounds_with F.ORDER_U64 bounds)
+        (stated A.declaration A.trees airs.now public_values.now common.now) proof.now }
     requires lists { length challenges.now ≡ length airs.now }
     requires challenges { (i : ℕ) → i < length airs.now
         → length (get_or (map (λ v. v.items) challenges.now) i []) ≡ 2

@@ -1,13 +1,11 @@
 //! The checks of what a batch proof opens, where its script was folded.
 ghost use Rattle.std.specs.Prelude.{◌≡◌, count_by, length, map, OnOk};
-ghost use Rattle.p3_field.specs.Checks.{NoneFails};
 ghost use Rattle.p3_field.specs.Poly.{tabulate};
 ghost use Rattle.batch_statement.specs.Statement.{WellFormed, read_common, stated};
 ghost use Rattle.batch_statement.specs.Words.{has_some};
 ghost use Rattle.batch_statement.specs.declared.error.BatchVerificationError.TheVariants.{OutOfMemory};
 ghost use Rattle.verifier_batch.specs.BatchChecks.{drawn_of};
-ghost use Rattle.verifier_batch.specs.OpeningChecks.{log_chunks_of_table, shape_bounds_of};
-ghost use Rattle.verifier_shape.specs.ShapeChecks.{shape_checks};
+ghost use Rattle.verifier_batch.specs.OpeningChecks.{log_chunks_of_table, HasShapeFor};
 ghost use Rattle.audit_script.specs.Steps.{draws_told};
 ghost use Rattle.audit_batch.specs.Audit.{parts_of};
 ghost use Rattle.audit_batch.specs.Opened.{AreOpened};
@@ -57,8 +55,8 @@ pub(crate) fn name_openings<SC: StarkGenericConfig, A: Air<Val<SC>>>(
     requires formed { WellFormed (map A.declaration airs.now) (read_common common.now) }
     requires shape { let statement = stated A.declaration A.trees airs.now public_values.now
         common.now in
-        NoneFails (shape_checks {R = SC.Pcs.Error} SC.Val.ring
-        (shape_bounds_of (⟦<SC as Settings>⟧.setting config.now)) statement proof.now) }
+        HasShapeFor SC.Pcs.Error SC.Val.ring (⟦<SC as Settings>⟧.setting config.now) statement
+        proof.now }
     requires chunks { let statement = stated A.declaration A.trees airs.now public_values.now
         common.now in
         chunks.now ≡ tabulate (length airs.now)

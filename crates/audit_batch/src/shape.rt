@@ -7,7 +7,7 @@ ghost use Rattle.p3_lookup.specs.Written.{read_all};
 ghost use Rattle.batch_constraints.specs.BatchTrees.{AreLookupsOf};
 ghost use Rattle.batch_statement.specs.Statement.{WellFormed, read_common, tables_of, stated};
 ghost use Rattle.batch_statement.specs.Verdict.{IsVerdict};
-ghost use Rattle.verifier_shape.specs.ShapeChecks.{HaveItemForEachTable, bounds_with, bus_bound_part, count_checks, log_chunks_at, permutation_check, shape_checks, size_part, sizes_at};
+ghost use Rattle.verifier_shape.specs.ShapeChecks.{HaveItemForEachTable, bounds_with, bus_bound_part, count_checks, log_chunks_at, permutation_check, size_part, sizes_at, HasRightShape};
 ghost use Rattle.audit_batch.specs.Asked.{always, in_order, of_each};
 ghost use Rattle.audit_batch.specs.Named.{AreNamedAfter};
 ghost use Rattle.audit_batch.specs.Parts.{shape_asked};
@@ -298,8 +298,8 @@ pub(crate) fn name_shape<F: PrimeField64, A: Air<F>, E, Com, Opening, R: Drop>(
         faults.new.items) }
     ensures chunks { let statement = stated A.declaration A.trees airs.now public_values.now
         common.now in
-        IfOk result (λ v. NoneFails
-        (shape_checks {R = R} F.ring (bounds_with F.ORDER_U64 bounds) statement proof.now)
+        IfOk result (λ v. HasRightShape R F.ring (bounds_with F.ORDER_U64 bounds) statement
+        proof.now
         → v.items ≡ tabulate (length airs.now)
         (log_chunks_at F.ring bounds.masks statement.tables statement.common.lookups
         proof.now.degree_bits)) }

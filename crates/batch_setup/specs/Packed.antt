@@ -1,7 +1,7 @@
 -- The lookups of a batch's tables, packed within each table's budget. After Plonky3's p3-batch-stark
 -- (from_airs_and_degrees_with_lookup_budgets).
 use Rattle.std.specs.Prelude.{slice_index_or as get_or}
-use Rattle.std.specs.Prelude.{ℕ, ◌+◌, ◌-◌, ◌^◌, ◌<◌, ◌≤◌, max, false, List, [], ◌∷◌, None}
+use Rattle.std.specs.Prelude.{◌≡◌, ℕ, ◌+◌, ◌-◌, ◌^◌, ◌<◌, ◌≤◌, max, false, List, [], ◌∷◌, length, None}
 use Rattle.p3_field.specs.Checks.{Check, check}
 use Rattle.p3_field.specs.Ring.{Ring}
 use Rattle.air_core.specs.Degree.{capped_sum}
@@ -74,3 +74,18 @@ packed_at f masks sources degree_bits budgets i = packed_lookups f masks (get_or
 abbrev pub budget_at : {F E : Type 0} → Ring F → (masks log_blowup : ℕ) → List (Source F) → (degree_bits budgets : List ℕ) → ℕ → List (Check (SetupError E))
 budget_at f masks log_blowup sources degree_bits budgets i =
     budget_checks f masks log_blowup i (get_or degree_bits i 0) (get_or budgets i 0) (get_or sources i no_source)
+
+-- a table with these lookups has as many chunks as with those that its AIR makes
+abbrev pub HasOwnChunks : {F : Type 0} → Ring F → (masks bits : ℕ) → Source F → List (LookupData F) → Type 0
+HasOwnChunks f masks bits s lookups = log_chunks_with f masks bits s lookups ≡ log_chunks_with f masks bits s (unpacked_lookups s)
+
+-- each table of a batch has
+abbrev pub KeepChunks : {F : Type 0} → Ring F → (masks : ℕ) → List (Source F) → (degree_bits : List ℕ) → (lookups : List (List (LookupData F))) → Type 0
+KeepChunks f masks sources degree_bits lookups =
+    (i : ℕ) → i < length sources → HasOwnChunks f masks (get_or degree_bits i 0) (get_or sources i no_source) (get_or lookups i [])
+
+-- each has whose budget, of those that are asked for, is at most its own; a larger one may cost chunks
+abbrev pub KeepChunksWithin : {F : Type 0} → Ring F → (masks : ℕ) → List (Source F) → (degree_bits budgets : List ℕ) → (lookups : List (List (LookupData F))) → Type 0
+KeepChunksWithin f masks sources degree_bits budgets lookups =
+    (i : ℕ) → i < length sources → get_or budgets i 0 ≤ own_budget f masks (get_or degree_bits i 0) (get_or sources i no_source)
+    → HasOwnChunks f masks (get_or degree_bits i 0) (get_or sources i no_source) (get_or lookups i [])

@@ -7,7 +7,7 @@ ghost use Rattle.p3_lookup.specs.Bus.{HaveOneWidth};
 ghost use Rattle.p3_lookup.specs.Lookup.{lookups_of};
 ghost use Rattle.p3_lookup.specs.Written.{read_all};
 ghost use Rattle.batch_statement.specs.Statement.{WellFormed, read_common};
-ghost use Rattle.batch_setup.specs.Packed.{source_of, packed_at};
+ghost use Rattle.batch_setup.specs.Packed.{source_of, packed_at, KeepChunks, KeepChunksWithin};
 ghost use Rattle.batch_setup.specs.Preprocessed.{committed_below, entry_at, IsPrepared};
 ghost use Rattle.batch_setup.specs.Setup.{airs_of, bits_of, ArePowers};
 ghost use Rattle.batch_setup.specs.SetupChecks.{degree_checks, length_checks, trace_checks, table_setup_checks, AreWithinBounds};
@@ -120,8 +120,8 @@ impl<F, Com, PD> SetupData<F, Com, PD> {
     /// - `LookupBudget` for the first budget above the free one whose packed lookups give more chunks, with masking, than the
     ///   backend's blowup. Its `log_chunks` is the logarithm of that number, and stops at the greatest `usize`.
     ///
-    /// A budget of at most the free one leaves the number of chunks as it is without packing (`packing_keeps_the_chunks` of
-    /// `batch_constraints`).
+    /// A budget of at most the free one leaves the number of chunks as it is without packing (`chunks`); a larger one may cost chunks, up to
+    /// the backend's blowup.
     pub fn from_airs_and_degrees_with_lookup_budgets<SC: StarkGenericConfig, A: Air<Val<SC>>>(
         alloc: Global,
         config: &SC,
@@ -163,6 +163,11 @@ impl<F, Com, PD> SetupData<F, Com, PD> {
             d.common.preprocessed d.prover_only.preprocessed_prover_data) }
         ensures formed { IfOk result
             (λ d. WellFormed (map A.declaration airs.now) (read_common d.common)) }
+        ensures chunks { let sources = map (source_of A.declaration A.trees A.interactions)
+            airs.now in
+            IfOk result (λ d. KeepChunksWithin SC.Val.ring (cond SC.Pcs.ZK 1 0) sources
+            trace_ext_degree_bits.now lookup_budget_overrides.now
+            (map read_all d.common.lookups)) }
     {
         check_lengths(airs, trace_ext_degree_bits, lookup_budget_overrides)?;
         let masks = config.is_zk();
@@ -178,8 +183,8 @@ impl<F, Com, PD> SetupData<F, Com, PD> {
     }
 
     /// The same without budgets that are asked for (`ProverData::from_airs_and_degrees` of `p3-batch-stark`): each table's
-    /// lookups are packed within its free budget. The conditions are the same, and so are the answers, of which `LookupBudget`
-    /// never comes.
+    /// lookups are packed within its free budget, which keeps the number of its chunks (`chunks`). The conditions are the same, and so are
+    /// the answers, of which `LookupBudget` never comes.
     pub fn from_airs_and_degrees<SC: StarkGenericConfig, A: Air<Val<SC>>>(
         alloc: Global,
         config: &SC,
@@ -215,6 +220,10 @@ impl<F, Com, PD> SetupData<F, Com, PD> {
             d.common.preprocessed d.prover_only.preprocessed_prover_data) }
         ensures formed { IfOk result
             (λ d. WellFormed (map A.declaration airs.now) (read_common d.common)) }
+        ensures chunks { let sources = map (source_of A.declaration A.trees A.interactions)
+            airs.now in
+            IfOk result (λ d. KeepChunks SC.Val.ring (cond SC.Pcs.ZK 1 0) sources
+            trace_ext_degree_bits.now (map read_all d.common.lookups)) }
     {
         let budgets = zeros(alloc, airs.len())?;
         Self::from_airs_and_degrees_with_lookup_budgets(
@@ -267,6 +276,10 @@ impl<F, Com, PD> SetupData<F, Com, PD> {
             d.prover_only.preprocessed_prover_data) }
         ensures formed { IfOk result
             (λ d. WellFormed (map A.declaration (airs_of instances.now)) (read_common d.common)) }
+        ensures chunks { let sources = map (source_of A.declaration A.trees A.interactions)
+            (airs_of instances.now) in
+            IfOk result (λ d. KeepChunks SC.Val.ring (cond SC.Pcs.ZK 1 0) sources
+            (bits_of (cond SC.Pcs.ZK 1 0) instances.now) (map read_all d.common.lookups)) }
     {
         let airs = lent_airs(alloc, instances)?;
         let bits = degree_bits(alloc, instances, config.is_zk())?;

@@ -4,6 +4,7 @@ use Rattle.std.specs.Prelude.{slice_index_or as get_or}
 use Rattle.p3_field.specs.Checks.{Check, in_turn}
 use Rattle.p3_field.specs.Domain.{CosetData}
 use Rattle.p3_field.specs.Poly.{tabulate}
+use Rattle.p3_field.specs.Ring.{Ring}
 use Rattle.air_core.specs.Shape.{Declaration, width_of}
 use Rattle.commit_core.specs.Claims.{CommitmentClaim}
 use Rattle.p3_uni_stark.specs.declared.error.VerificationError.TheVariants.{InvalidOpeningArgument}
@@ -12,7 +13,7 @@ use Rattle.batch_statement.specs.Proof.{ProofData}
 use Rattle.batch_statement.specs.Statement.{Statement, entry_of}
 use Rattle.batch_statement.specs.declared.error.BatchVerificationError.{BatchVerificationError}
 use Rattle.batch_statement.specs.declared.error.BatchVerificationError.TheVariants.{Verification}
-use Rattle.verifier_shape.specs.ShapeChecks.{Bounds, log_chunks_at}
+use Rattle.verifier_shape.specs.ShapeChecks.{Bounds, HasRightShape, log_chunks_at}
 use Rattle.verifier_claims.specs.Claims.{Claimed, claims, matrix_tables}
 use Rattle.batch_statement.specs.Words.{bits_at}
 use Rattle.verifier_claims.specs.ClaimChecks.{bits_listed, domain_by}
@@ -27,6 +28,10 @@ shape_bounds_of c = record {
   order = c.order;
   dimension = c.extension.dimension;
 }
+
+-- a proof has the right shape for its statement under a configuration, whose base field has this ring; R is the type of the backend's errors
+abbrev pub HasShapeFor : {S F E C P : Type 0} (R : Type 0) → Ring F → Setting S F E C → Statement F C → ProofData F E C P → Type 0
+HasShapeFor R f c s p = HasRightShape R f (shape_bounds_of c) s p
 
 -- how many preprocessed columns each table has
 abbrev pub preprocessed_widths : {F : Type 0} → List (Declaration F) → List ℕ

@@ -1,13 +1,11 @@
 //! All checks of what a batch proof opens.
 ghost use Rattle.std.specs.Prelude.{◌≡◌, ℕ, length, map, IfOk};
 ghost use Rattle.air_core.specs.Shape.{width_of};
-ghost use Rattle.p3_field.specs.Checks.{NoneFails};
 ghost use Rattle.p3_field.specs.Poly.{tabulate};
 ghost use Rattle.verifier_claims.specs.Claims.{claims};
 ghost use Rattle.batch_statement.specs.Words.{bits_at};
-ghost use Rattle.verifier_batch.specs.OpeningChecks.{shape_bounds_of, claim_checks, claimed, log_chunks_of_table, opening_checks};
+ghost use Rattle.verifier_batch.specs.OpeningChecks.{claim_checks, claimed, log_chunks_of_table, opening_checks, HasShapeFor};
 ghost use Rattle.batch_config.specs.Domains.{chunk_domains};
-ghost use Rattle.verifier_shape.specs.ShapeChecks.{shape_checks};
 ghost use Rattle.batch_statement.specs.Statement.{AirTable, WellFormed, read_common, stated};
 ghost use Rattle.batch_statement.specs.Verdict.{IsVerdict};
 
@@ -86,8 +84,8 @@ pub fn proof_claims<SC: StarkGenericConfig, A: Air<Val<SC>>>(
     requires formed { WellFormed (map A.declaration airs.now) (read_common common.now) }
     requires shape { let statement = stated A.declaration A.trees airs.now public_values.now
         common.now in
-        NoneFails (shape_checks {R = SC.Pcs.Error} SC.Val.ring
-        (shape_bounds_of (⟦<SC as Settings>⟧.setting config.now)) statement proof.now) }
+        HasShapeFor SC.Pcs.Error SC.Val.ring (⟦<SC as Settings>⟧.setting config.now) statement
+        proof.now }
     requires chunks { let statement = stated A.declaration A.trees airs.now public_values.now
         common.now in
         chunks.now ≡ tabulate (length airs.now)
@@ -144,8 +142,8 @@ pub fn check_openings<SC: StarkGenericConfig, A: Air<Val<SC>>>(
     requires formed { WellFormed (map A.declaration airs.now) (read_common common.now) }
     requires shape { let statement = stated A.declaration A.trees airs.now public_values.now
         common.now in
-        NoneFails (shape_checks {R = SC.Pcs.Error} SC.Val.ring
-        (shape_bounds_of (⟦<SC as Settings>⟧.setting config.now)) statement proof.now) }
+        HasShapeFor SC.Pcs.Error SC.Val.ring (⟦<SC as Settings>⟧.setting config.now) statement
+        proof.now }
     requires chunks { let statement = stated A.declaration A.trees airs.now public_values.now
         common.now in
         chunks.now ≡ tabulate (length airs.now)

@@ -1,12 +1,12 @@
 //! The parts of a batch's verification, over a configuration.
 ghost use Rattle.std.specs.Prelude.{◌≡◌, ℕ, ◌+◌, ◌<◌, ◌≤◌, length, map, IfOk, IfErr};
-ghost use Rattle.p3_field.specs.Checks.{NoneFails, in_turn};
+ghost use Rattle.p3_field.specs.Checks.{in_turn};
 ghost use Rattle.p3_field.specs.Poly.{tabulate};
 ghost use Rattle.batch_statement.specs.Words.{bits_at};
-ghost use Rattle.verifier_batch.specs.OpeningChecks.{shape_bounds_of, log_chunks_of_table};
+ghost use Rattle.verifier_batch.specs.OpeningChecks.{shape_bounds_of, log_chunks_of_table, HasShapeFor};
 ghost use Rattle.batch_config.specs.Domains.{chunk_domains};
 ghost use Rattle.batch_config.specs.Setting.{masks as masks_of};
-ghost use Rattle.verifier_shape.specs.ShapeChecks.{bounds_with, count_checks, shape_checks};
+ghost use Rattle.verifier_shape.specs.ShapeChecks.{bounds_with, shape_checks, HasRightCounts};
 ghost use Rattle.batch_statement.specs.Statement.{WellFormed, read_common, stated};
 ghost use Rattle.batch_statement.specs.Verdict.{IsVerdict};
 ghost use Rattle.verifier_batch.specs.BatchChecks.{all_lookup_challenges, draw_part, drawn_of, identities_at, table_challenges_of};
@@ -66,8 +66,8 @@ pub(crate) fn check_batch_shape<SC: StarkGenericConfig, A: Air<Val<SC>>>(
         ≡ tabulate (length airs.now)
         (log_chunks_of_table (⟦<SC as Settings>⟧.setting config.now) s proof.now)) }
     ensures memory { IfErr result (λ e. e ≡ BatchVerificationError.OutOfMemory
-        → NoneFails (count_checks {R = SC.Pcs.Error} SC.Pcs.ZK
-        (stated A.declaration A.trees airs.now public_values.now common.now) proof.now)) }
+        → HasRightCounts SC.Pcs.Error SC.Pcs.ZK
+        (stated A.declaration A.trees airs.now public_values.now common.now) proof.now) }
 {
     check_shape(
         alloc,
@@ -88,9 +88,8 @@ pub(crate) fn check_batch_draws<SC: StarkGenericConfig, A: Air<Val<SC>>>(
     public_values: &[Vec<Val<SC>>],
     common: &CommonData<SC>,
 ) -> Result<Drawn<Challenge<SC>, Challenger<SC>>, BatchVerificationError<PcsError<SC>>>
-    requires { NoneFails (shape_checks {R = SC.Pcs.Error} SC.Val.ring
-        (shape_bounds_of (⟦<SC as Settings>⟧.setting config.now))
-        (stated A.declaration A.trees airs.now public_values.now common.now) proof.now) }
+    requires { HasShapeFor SC.Pcs.Error SC.Val.ring (⟦<SC as Settings>⟧.setting config.now)
+        (stated A.declaration A.trees airs.now public_values.now common.now) proof.now }
     ensures verdict { IsVerdict (draw_part (⟦<SC as Settings>⟧.setting config.now)
         (stated A.declaration A.trees airs.now public_values.now common.now) proof.now) result }
     ensures challenges { let s = stated A.declaration A.trees airs.now public_values.now
@@ -136,10 +135,8 @@ pub(crate) fn check_batch_identities<SC: StarkGenericConfig, A: Air<Val<SC>>>(
     zeta: Challenge<SC>,
 ) -> Result<(), BatchVerificationError<PcsError<SC>>>
     requires formed { WellFormed (map A.declaration airs.now) (read_common common.now) }
-    requires shape { NoneFails
-        (shape_checks {R = SC.Pcs.Error} SC.Val.ring
-        (shape_bounds_of (⟦<SC as Settings>⟧.setting config.now))
-        (stated A.declaration A.trees airs.now public_values.now common.now) proof.now) }
+    requires shape { HasShapeFor SC.Pcs.Error SC.Val.ring (⟦<SC as Settings>⟧.setting config.now)
+        (stated A.declaration A.trees airs.now public_values.now common.now) proof.now }
     requires challenges { let s = stated A.declaration A.trees airs.now public_values.now
         common.now in
         map (λ v. v.items) challenges.now

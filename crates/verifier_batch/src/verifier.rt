@@ -1,8 +1,7 @@
 //! Whether a batch proof is accepted.
 ghost use Rattle.std.specs.Prelude.{◌≡◌, map, IfErr};
-ghost use Rattle.p3_field.specs.Checks.{NoneFails};
 ghost use Rattle.batch_statement.specs.Statement.{WellFormed, read_common, stated};
-ghost use Rattle.verifier_shape.specs.ShapeChecks.{count_checks};
+ghost use Rattle.verifier_shape.specs.ShapeChecks.{HasRightCounts};
 ghost use Rattle.batch_statement.specs.Verdict.{IsVerdict};
 ghost use Rattle.verifier_batch.specs.BatchChecks.{checks};
 
@@ -64,8 +63,8 @@ pub fn verify_batch<SC: StarkGenericConfig, A: Air<Val<SC>>>(
         (checks (⟦<SC as Settings>⟧.setting config.now) (⟦<SC as Settings>⟧.backend config.now)
         (stated A.declaration A.trees airs.now public_values.now common.now) proof.now) result }
     ensures memory { IfErr result (λ e. e ≡ BatchVerificationError.OutOfMemory
-        → NoneFails (count_checks {R = SC.Pcs.Error} SC.Pcs.ZK
-        (stated A.declaration A.trees airs.now public_values.now common.now) proof.now)) }
+        → HasRightCounts SC.Pcs.Error SC.Pcs.ZK
+        (stated A.declaration A.trees airs.now public_values.now common.now) proof.now) }
 {
     let chunks = check_batch_shape(alloc, config, airs, proof, public_values, common)?;
     let Drawn {

@@ -1,9 +1,8 @@
 //! What is drawn along a proof.
 ghost use Rattle.std.specs.Prelude.{◌≡◌, ◌^◌, ◌<◌, map, length, IfOk};
-ghost use Rattle.p3_field.specs.Checks.{NoneFails};
 ghost use Rattle.p3_field.specs.Poly.{tabulate};
 ghost use Rattle.batch_statement.specs.Statement.{stated};
-ghost use Rattle.verifier_shape.specs.ShapeChecks.{bounds_with, shape_checks};
+ghost use Rattle.verifier_shape.specs.ShapeChecks.{bounds_with, HasRightShape};
 ghost use Rattle.batch_statement.specs.Verdict.{IsVerdict};
 ghost use Rattle.verifier_draws.specs.Draws.{drawn, grinding_checks, table_challenges};
 
@@ -69,8 +68,8 @@ pub fn check_draws<
     lookup_bits: usize,
     ood_bits: usize,
 ) -> Result<Drawn<EF, C>, BatchVerificationError<R>>
-    requires shape { NoneFails (shape_checks {R = R} F.ring (bounds_with F.ORDER_U64 bounds)
-        (stated A.declaration A.trees airs.now public_values.now common.now) proof.now) }
+    requires shape { HasRightShape R F.ring (bounds_with F.ORDER_U64 bounds)
+        (stated A.declaration A.trees airs.now public_values.now common.now) proof.now }
     requires lookup { 2 ^ lookup_bits < F.ORDER_U64 }
     requires ood { 2 ^ ood_bits < F.ORDER_U64 }
     ensures verdict { let s = stated A.declaration A.trees airs.now public_values.now common.now in

@@ -2,12 +2,12 @@
 ghost use Rattle.std.specs.Prelude.{◌≡◌, ℕ, ◌+◌, ◌*◌, ◌<◌, ◌≤◌, [], length, map, IsOk};
 ghost use Rattle.std.specs.Prelude.{slice_index_or as get_or};
 ghost use Rattle.p3_field.specs.Field.{TwoAdic, Extension};
-ghost use Rattle.p3_field.specs.Checks.{NoneFails, in_turn};
+ghost use Rattle.p3_field.specs.Checks.{in_turn};
 ghost use Rattle.p3_field.specs.Poly.{tabulate};
 ghost use Rattle.p3_lookup.specs.Written.{read_all};
 ghost use Rattle.batch_statement.specs.Statement.{Statement, WellFormed, read_common, tables_of, stated};
 ghost use Rattle.batch_config.specs.Domains.{chunks_over};
-ghost use Rattle.verifier_shape.specs.ShapeChecks.{bounds_with, log_chunks_at, shape_checks};
+ghost use Rattle.verifier_shape.specs.ShapeChecks.{bounds_with, log_chunks_at, HasRightShape};
 ghost use Rattle.batch_statement.specs.Verdict.{IsVerdict};
 ghost use Rattle.verifier_identity.specs.TableIdentity.{identity_at};
 
@@ -50,8 +50,8 @@ pub fn check_identity_at<
 ) -> Result<(), BatchVerificationError<R>>
     requires within { index < length airs.now }
     requires formed { WellFormed (map A.declaration airs.now) (read_common common.now) }
-    requires shape { NoneFails (shape_checks {R = R} F.ring (bounds_with F.ORDER_U64 bounds)
-        (stated A.declaration A.trees airs.now public_values.now common.now) proof.now) }
+    requires shape { HasRightShape R F.ring (bounds_with F.ORDER_U64 bounds)
+        (stated A.declaration A.trees airs.now public_values.now common.now) proof.now }
     requires lists { length challenges.now ≡ length airs.now }
     requires challenges { (i : ℕ) → i < length airs.now
         → length (get_or (map (λ v. v.items) challenges.now) i []) ≡ 2
@@ -122,8 +122,8 @@ pub fn check_identities<
     zeta: E,
 ) -> Result<(), BatchVerificationError<R>>
     requires formed { WellFormed (map A.declaration airs.now) (read_common common.now) }
-    requires shape { NoneFails (shape_checks {R = R} F.ring (bounds_with F.ORDER_U64 bounds)
-        (stated A.declaration A.trees airs.now public_values.now common.now) proof.now) }
+    requires shape { HasRightShape R F.ring (bounds_with F.ORDER_U64 bounds)
+        (stated A.declaration A.trees airs.now public_values.now common.now) proof.now }
     requires lists { length challenges.now ≡ length airs.now }
     requires challenges { (i : ℕ) → i < length airs.now
         → length (get_or (map (λ v. v.items) challenges.now) i []) ≡ 2

@@ -3,7 +3,7 @@
 use Rattle.std.specs.Prelude.{slice_index_or as get_or}
 use Rattle.std.specs.Prelude.{◌≡◌, ℕ, zero, suc, ◌+◌, ◌-◌, ◌*◌, ◌^◌, ◌<◌, ◌≤◌, Bool, true, false, cond, min, List, [], ◌∷◌, ◌++◌, length, map, All, Option, None, Some, option_map}
 use Rattle.std.specs.List.{list_any}
-use Rattle.p3_field.specs.Checks.{Check, check, in_turn}
+use Rattle.p3_field.specs.Checks.{Check, NoneFails, check, in_turn}
 use Rattle.p3_field.specs.Poly.{tabulate}
 use Rattle.p3_field.specs.Ring.{Ring}
 use Rattle.air_core.specs.Degree.{capped_sum}
@@ -251,3 +251,11 @@ opened_part f b s p = in_turn (length s.tables) (opened_checks f b.masks b.dimen
 -- the presence of permutation columns.
 unfoldable pub shape_checks : {F E C P R : Type 0} → Ring F → Bounds → Statement F C → ProofData F E C P → List (Check (BatchVerificationError R))
 shape_checks f b s p = count_checks b.zk s p ++ size_part f b s p ++ bus_bound_part b s p ++ opened_part f b s p ++ permutation_check s p
+
+-- a proof has the right counts for its statement, and what is random is there as it has to be; R is the type of the backend's errors
+abbrev pub HasRightCounts : {F E C P : Type 0} (R : Type 0) → Bool → Statement F C → ProofData F E C P → Type 0
+HasRightCounts R zk s p = NoneFails (count_checks {R = R} zk s p)
+
+-- a proof has the right shape for its statement
+abbrev pub HasRightShape : {F E C P : Type 0} (R : Type 0) → Ring F → Bounds → Statement F C → ProofData F E C P → Type 0
+HasRightShape R f b s p = NoneFails (shape_checks {R = R} f b s p)

@@ -1,13 +1,13 @@
 //! All checks of a proof's shape.
 ghost use Rattle.std.specs.Prelude.{◌≡◌, ℕ, ◌+◌, ◌^◌, ◌<◌, ◌≤◌, length, map, IfOk, IfErr};
 ghost use Rattle.std.specs.Prelude.{slice_index_or as get_or};
-ghost use Rattle.p3_field.specs.Checks.{NoneFails, in_turn};
+ghost use Rattle.p3_field.specs.Checks.{in_turn};
 ghost use Rattle.p3_field.specs.Poly.{tabulate};
 ghost use Rattle.p3_lookup.specs.Bus.{bus_count, batch_buses};
 ghost use Rattle.p3_lookup.specs.Written.{read_all};
 ghost use Rattle.batch_constraints.specs.BatchTrees.{AreLookupsOf};
 ghost use Rattle.batch_statement.specs.Statement.{Statement, WellFormed, read_common, tables_of, stated};
-ghost use Rattle.verifier_shape.specs.ShapeChecks.{HaveItemForEachTable, bus_bound_part, bounds_with, log_chunks_at, count_checks, opened_by, shape_checks, size_part};
+ghost use Rattle.verifier_shape.specs.ShapeChecks.{HaveItemForEachTable, bus_bound_part, bounds_with, log_chunks_at, opened_by, shape_checks, size_part, HasRightCounts};
 ghost use Rattle.batch_statement.specs.Verdict.{IsDecided, IsVerdict};
 
 use crate::bounds::check_bounds;
@@ -140,8 +140,8 @@ pub fn check_shape<F: PrimeField64, A: Air<F>, E, Com, Opening, R>(
         (log_chunks_at F.ring bounds.masks (tables_of A.declaration A.trees airs.now)
         (map read_all common.now.lookups) proof.now.degree_bits)) }
     ensures memory { IfErr result (λ e. e ≡ BatchVerificationError.OutOfMemory
-        → NoneFails (count_checks {R = R} bounds.zk
-        (stated A.declaration A.trees airs.now public_values.now common.now) proof.now)) }
+        → HasRightCounts R bounds.zk
+        (stated A.declaration A.trees airs.now public_values.now common.now) proof.now) }
 {
     check_counts(airs, public_values, common, proof, bounds.zk)?;
     let chunks = batch_sizes(alloc, airs, public_values, common, proof, bounds)?;

@@ -1,11 +1,13 @@
-use Rattle.std.proofs.Common.{◌≡◌, ◌<◌, ◌≤◌, ◌++◌, length, map, sym, subst, arith}
+use Rattle.std.proofs.Common.{◌≡◌, ◌<◌, ◌≤◌, ◌++◌, cond, length, map, sym, subst, arith}
 use Rattle.std.specs.Prelude.{IfOk}
+use Rattle.std.proofs.lemmas.Result.{IfOk-weaker}
 use Rattle.p3_field.specs.Laws.Checks.{holds_alone}
 use Rattle.p3_field.specs.Poly.{tabulate}
 use Rattle.p3_lookup.specs.Written.{read_all}
-use Rattle.batch_setup.specs.Packed.{source_of, packed_at}
+use Rattle.batch_setup.specs.Packed.{source_of, packed_at, KeepChunksWithin}
 use Rattle.batch_setup.specs.SetupChecks.{length_checks, table_setup_checks}
 use Rattle.batch_setup.specs.Verdict.{IsSetUp}
+use Rattle.batch_setup.specs.Laws.Chunks.{batch_keeps_within}
 use Rattle.batch_setup.specs.Laws.Verdicts.{exits, no_memory, refused_before, answer_after, whatever_memory}
 use Rattle.batch_setup.proofs.Masks.{mask_small}
 use Rattle.batch_setup.proofs.prover_data.SetupData.from_airs_and_degrees_with_lookup_budgets.Goals as goal
@@ -68,3 +70,17 @@ returns-clause-lookups g c =
 
 pub returns-clause-memory : goal.returns-clause-memory
 returns-clause-memory g c = whatever_memory c.tables_data.result (holds_alone _ c.in_ok-check_lengths.ensures.verdict)
+
+pub returns-clause-chunks : goal.returns-clause-chunks
+returns-clause-chunks g c =
+    let a = c.args in
+    let r = g.SC.Val.RingCore.ring in
+    let z = cond g.SC-Pcs-UnivariateStarkPcs.ZK 1 0 in
+    let bits = a.trace_ext_degree_bits.now in
+    let budgets = a.lookup_budget_overrides.now in
+    let sources = map (source_of g.A.BaseAir.declaration g.A.Air.trees g.A.Air.interactions) a.airs.now in
+    IfOk-weaker c.tables_data.result (λ d. map read_all d.common.lookups ≡ tabulate (length a.airs.now) (packed_at r z sources bits budgets))
+    (λ d. KeepChunksWithin r z sources bits budgets (map read_all d.common.lookups))
+    (λ d e. batch_keeps_within g.A.BaseAir.declaration g.A.Air.trees g.A.Air.interactions g.met.A.Air.interactions_read r z a.airs.now bits budgets (map read_all d.common.lookups)
+    (mask_small g.SC-Pcs-UnivariateStarkPcs.ZK) e)
+    (subst (λ m. IfOk c.tables_data.result (λ d. map read_all d.common.lookups ≡ tabulate (length a.airs.now) (packed_at r m sources bits budgets))) c.is_zk-masks.ensures c.tables_data.ensures.lookups)

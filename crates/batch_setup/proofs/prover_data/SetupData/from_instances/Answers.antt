@@ -46,3 +46,11 @@ pub returns-clause-formed : goal.returns-clause-formed
 returns-clause-formed g c =
     let airs_are : c.deref.result.now ≡ airs_of c.args.instances.now = c.deref.ensures.value ∙ c.in_ok-airs.ensures in
     rw airs_are at c.from_airs_and_degrees.ensures.formed
+
+pub returns-clause-chunks : goal.returns-clause-chunks
+returns-clause-chunks g c =
+    let instances = c.args.instances.now in
+    let z = cond g.SC-Pcs-UnivariateStarkPcs.ZK 1 0 in
+    let airs_are : c.deref.result.now ≡ airs_of instances = c.deref.ensures.value ∙ c.in_ok-airs.ensures in
+    let bits_are : c.deref-2.result.now ≡ bits_of z instances = c.deref-2.ensures.value ∙ c.in_ok-bits.ensures ∙ ap (λ m. bits_of m instances) c.is_zk.ensures in
+    rw (airs_are, bits_are) at c.from_airs_and_degrees.ensures.chunks
