@@ -5,9 +5,11 @@
 #![tactic(auto)]
 
 mod config;
+mod laws;
 mod shared;
 mod table;
 
 pub use config::{ToolConfig, tool_config};
+pub use laws::stated_tables_are_told;
 pub use shared::{ToolCommon, airs_of, prover_data, public_values_of, shared_data};
 pub use table::TableStatement;

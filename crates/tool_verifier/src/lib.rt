@@ -14,6 +14,7 @@ mod meaning;
 mod refusal;
 mod status;
 mod tables;
+mod told;
 
 pub use answer::{Answer, answer_tables};
 pub use fault_names::fault_name;
@@ -24,3 +25,4 @@ pub use meaning::accepted_means;
 pub use refusal::{fault_line, mismatch_line, refusal_line};
 pub use status::Status;
 pub use tables::verify_tables;
+pub use told::statuses_are_told;
