@@ -1,18 +1,10 @@
 -- The output as it is read from a row: by the words of the chaining value and of the last four steps.
-use Rattle.std.specs.Prelude.{◌≡◌, ℕ, ◌+◌, ◌*◌, ◌^◌, ◌<◌, ◌↔◌, List, bit_xor}
-use Rattle.std.specs.Prelude.{slice_index_or as get_or}
-use Rattle.std.specs.Int.{bit_at, rotate_left, w32}
-use Rattle.p3_field.specs.Ring.{Ring, of_nat}
+use Rattle.std.specs.Prelude.{ℕ, ◌+◌, ◌*◌, ◌<◌, List, bit_xor}
+use Rattle.std.specs.Int.{rotate_left, w32}
+use Rattle.p3_field.specs.Ring.{Ring}
 use Rattle.blake3_compress.specs.Compress.{Quarter, State, Input, chaining, word, step_of_word}
+use Rattle.blake3_compress.specs.Reading.{HasWordAt, CountsAt}
 use Rattle.blake3_binary.specs.Trees.{half_column}
-
--- the cells from a column on are the bits of this word
-abbrev pub HasWordAt : {F : Type 0} → Ring F → List F → ℕ → ℕ → Type 0
-HasWordAt {F} r row at w = (w < 2 ^ 32) × ((k : ℕ) (d : F) → k < 32 → get_or row (at + k) d ≡ of_nat r (bit_at w k))
-
--- the cells from a column on count as this word: a bit of it is zero exactly where its cell is
-abbrev pub CountsAt : {F : Type 0} → Ring F → List F → ℕ → ℕ → Type 0
-CountsAt {F} r row at w = (w < 2 ^ 32) × ((k : ℕ) (d : F) → k < 32 → (bit_at w k ≡ 0) ↔ (get_or row (at + k) d ≡ r.zero))
 
 -- the words after a step, by d and b after its first half and after it
 abbrev pub step_words : (d1 b1 d2 b2 : ℕ) → Quarter

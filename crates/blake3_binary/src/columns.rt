@@ -1,14 +1,12 @@
 //! Views of a row by the names of its columns.
-ghost use Rattle.std.specs.Prelude.{◌≡◌, ℕ, ◌+◌, ◌*◌, ◌^◌, ◌<◌, ◌≤◌, ◌↔◌, List, [], ◌∷◌, length, slice_index_or, bit_xor};
-ghost use Rattle.std.specs.Int.{bit_at};
-ghost use Rattle.p3_field.specs.Ring.{of_nat};
+ghost use Rattle.std.specs.Prelude.{◌≡◌, ℕ, ◌+◌, ◌*◌, ◌^◌, ◌<◌, ◌≤◌, length, slice_index_or};
 ghost use Rattle.blake3_compress.specs.Compress.{Input, chaining, output_of, compress};
 ghost use Rattle.blake3_compress.specs.TraceRow.{AreWords};
 ghost use Rattle.blake3_compress.specs.Generated.{quarter_of, words_of};
 ghost use Rattle.blake3_binary.specs.Row.{binary_trace_row};
-ghost use Rattle.blake3_binary.specs.Output.{HasWordAt, CountsAt, step_words, state_read, AreRead, AreCounted};
+ghost use Rattle.blake3_binary.specs.Output.{step_words, state_read, AreRead, AreCounted};
 
-use blake3_compress::FourWords;
+use blake3_compress::{FourWords, word_at};
 use p3_field::Field;
 
 /// A row by the names of its columns (`p3_blake3_air::Blake3BinaryCols`).
@@ -157,31 +155,6 @@ impl<'a, T> Blake3BinaryGCols<'a, T> {
     {
         &self.row[self.at + 158 + bit]
     }
-}
-
-// The bit that an element represents: an element that isn't zero counts as one.
-fn bit_of<F: Field>(x: F) -> u32
-    ensures below { result < 2 }
-    ensures zero { (result ≡ 0) ↔ (x ≡ F.ring.zero) }
-    ensures bit { (b : ℕ) → b < 2 → x ≡ of_nat F.ring b → result ≡ b }
-{
-    if x.is_zero() { 0 } else { 1 }
-}
-
-// The word whose 32 bits stand from a column on.
-fn word_at<F: Field>(row: &[F], at: usize) -> u32
-    requires fits { at + 32 ≤ length row.now }
-    requires wide { length row.now ≤ 11536 }
-    ensures counted { CountsAt F.ring row.now at result }
-    ensures word { (w : ℕ) → w < 2 ^ 32
-        → ((k : ℕ) (d : F) → k < 32
-        → slice_index_or row.now (at + k) d ≡ of_nat F.ring (bit_at w k)) → result ≡ w }
-{
-    let mut word = 0u32;
-    for i in 0..32 {
-        word = word % 2147483648 * 2 + bit_of(row[at + (31 - i)]);
-    }
-    word
 }
 
 // The words after step g of the last four.

@@ -5,19 +5,22 @@
 //! the block's length and the flags, in this order. A word has 32 bits.
 //!
 //! The definitions that the contracts cite are in `specs/`: the compression of the BLAKE3 paper (`Compress`), half rounds
-//! (`HalfRounds`), the row of the AIR over prime fields (`TraceRow`), and what a generator of rows holds (`Generated`).
+//! (`HalfRounds`), the row of the AIR over prime fields (`TraceRow`), what a generator of rows holds (`Generated`), and the words that
+//! cells are or count as (`Reading`).
 #![tactic(auto)]
 
 mod compression;
 mod error;
 pub mod meanings;
 mod pushing;
+mod reading;
 mod schedule;
 mod words;
 
 pub use compression::compress;
 pub use error::TraceError;
 pub use pushing::{push_bit_words, push_bits, push_limb_words, push_limbs};
+pub use reading::word_at;
 pub use schedule::scheduled_word;
 pub use words::{
     FourWords, IV, StateWords, after_half_round, first_words, made_words, taken_words, xor_words,

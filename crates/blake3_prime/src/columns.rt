@@ -6,6 +6,7 @@ ghost use Rattle.blake3_compress.specs.Compress.{Input, compress};
 ghost use Rattle.blake3_compress.specs.TraceRow.{trace_row, AreWords};
 ghost use Rattle.blake3_compress.specs.Generated.{words_of};
 
+use blake3_compress::word_at;
 use p3_field::Field;
 
 /// A row by the names of its columns (`crate::Blake3Cols`).
@@ -237,32 +238,6 @@ impl<'a, T> Blake3State<'a, T> {
     {
         &self.row[self.at + 144 + 32 * word + bit]
     }
-}
-
-// The bit that an element represents: an element that isn't zero counts as one.
-fn bit_of<F: Field>(x: F) -> u32
-    ensures below { result < 2 }
-    ensures zero { (result ≡ 0) ↔ (x ≡ F.ring.zero) }
-    ensures bit { (b : ℕ) → b < 2 → x ≡ of_nat F.ring b → result ≡ b }
-{
-    if x.is_zero() { 0 } else { 1 }
-}
-
-// The word whose 32 bits stand from a column on: a bit of it is zero exactly where its cell is.
-fn word_at<F: Field>(row: &[F], at: usize) -> u32
-    requires fits { at + 32 ≤ length row.now }
-    requires wide { length row.now ≤ 9168 }
-    ensures counted { (k : ℕ) (d : F) → k < 32 → (bit_at result k ≡ 0)
-        ↔ (slice_index_or row.now (at + k) d ≡ F.ring.zero) }
-    ensures word { (w : ℕ) → w < 2 ^ 32
-        → ((k : ℕ) (d : F) → k < 32
-        → slice_index_or row.now (at + k) d ≡ of_nat F.ring (bit_at w k)) → result ≡ w }
-{
-    let mut word = 0u32;
-    for i in 0..32 {
-        word = word % 2147483648 * 2 + bit_of(row[at + (31 - i)]);
-    }
-    word
 }
 
 impl<'a, F: Field> Blake3Cols<'a, F> {

@@ -14,7 +14,8 @@ use Rattle.blake3_compress.specs.Generated.{words_of}
 use Rattle.blake3_binary.specs.Meanings.{AreWords4}
 use Rattle.blake3_binary.specs.Trees.{half_column}
 use Rattle.blake3_binary.specs.Row.{before_half, after_half, binary_cells, binary_trace_row}
-use Rattle.blake3_binary.specs.Output.{HasWordAt, CountsAt, step_words, state_read, AreRead}
+use Rattle.blake3_compress.specs.Reading.{HasWordAt, CountsAt}
+use Rattle.blake3_binary.specs.Output.{step_words, state_read, AreRead}
 use Rattle.blake3_binary.specs.Laws.Words.{half_words, taken_words, state_words}
 use Rattle.blake3_binary.specs.Laws.Bits.{row_steps, long_row, input_cells}
 

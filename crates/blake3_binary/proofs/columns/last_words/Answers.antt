@@ -3,7 +3,8 @@ use Rattle.std.specs.Prelude.{bit_xor}
 use Rattle.std.specs.Int.{rotate_left, w32}
 use Rattle.blake3_compress.specs.Compress.{Quarter, Input}
 use Rattle.blake3_binary.specs.Trees.{half_column}
-use Rattle.blake3_binary.specs.Output.{HasWordAt, CountsAt, step_words, AreReadAs}
+use Rattle.blake3_compress.specs.Reading.{HasWordAt, CountsAt}
+use Rattle.blake3_binary.specs.Output.{step_words, AreReadAs}
 use Rattle.blake3_binary.specs.Laws.Output.{same_counted}
 use Rattle.blake3_binary.proofs.columns.last_words.Goals as goal
 
@@ -49,7 +50,7 @@ returns g c =
           let p2 = at_d2 (HasWordAt r row) x d1 b1 d2 b2 h k lk in
           let q2 = at_b2 (HasWordAt r row) x d1 b1 d2 b2 h k lk in
           is_read (d1 k) (b1 k) (d2 k) (b2 k) _ _ _ _ _ _
-          (c.word_at-d1.ensures.word _ p1.0 p1.1) (c.word_at-b1.ensures.word _ q1.0 q1.1) (c.word_at-d2.ensures.word _ p2.0 p2.1) (c.word_at-b2.ensures.word _ q2.0 q2.1)
+          (c.word_at-d1.ensures.word _ p1) (c.word_at-b1.ensures.word _ q1) (c.word_at-d2.ensures.word _ p2) (c.word_at-b2.ensures.word _ q2)
           c.rotate_left.ensures c.rotate_left-2.ensures;
       counted = λ x d1 b1 d2 b2 h.
           is_read (d1 k) (b1 k) (d2 k) (b2 k) _ _ _ _ _ _

@@ -22,13 +22,13 @@ loop-i-preserved g c =
       counted = λ j k d lt lk. elim (cases_eq j i) [
         | inl e ↦
             let word : get_or (set old i x) j 0 ≡ x = ap (λ n. get_or (set old i x) n 0) e ∙ get_or-set_same old i x 0 inside in
-            counted_at g.F.RingCore.ring.zero c.args.self.now.row.now _ x j i k d word e (c.word_at.ensures.counted k d lk)
+            counted_at g.F.RingCore.ring.zero c.args.self.now.row.now _ x j i k d word e (c.word_at.ensures.counted.1 k d lk)
         | inr n ↦
             let word : get_or (set old i x) j 0 ≡ get_or old j 0 = get_or-set_other old i j x 0 n in
             counted_at g.F.RingCore.ring.zero c.args.self.now.row.now _ (get_or old j 0) j j k d word refl (c.loop-i.invariant.counted j k d (omega (arith, lt, n)) lk)
       ];
       so_far = λ w hw h k lt. elim (cases_eq k i) [
-        | inl e ↦ ap (λ j. get_or (set old i x) j 0) e ∙ (get_or-set_same old i x 0 inside ∙ (c.word_at.ensures.word (w i) (hw i (omega arith)) (λ k d l. h i k d (omega arith) l) ∙ ap w (sym e)))
+        | inl e ↦ ap (λ j. get_or (set old i x) j 0) e ∙ (get_or-set_same old i x 0 inside ∙ (c.word_at.ensures.word (w i) (hw i (omega arith), λ k d l. h i k d (omega arith) l) ∙ ap w (sym e)))
         | inr d ↦ get_or-set_other old i k x 0 d ∙ c.loop-i.invariant.so_far w hw h k (omega (arith, lt, d))
       ];
     }

@@ -1,7 +1,7 @@
 use Rattle.std.proofs.Common.{◌≡◌, ℕ, ◌+◌, ◌-◌, ◌/◌, ◌^◌, ◌<◌, ◌↔◌, get_or}
 use Rattle.std.specs.Int.{bit_at}
 use Rattle.p3_field.specs.Ring.{of_nat}
-use Rattle.blake3_binary.proofs.columns.word_at.Given as goal
+use Rattle.blake3_compress.proofs.reading.word_at.Given as goal
 
 abbrev pub invariant-loop-i : goal.invariant-loop-i
 invariant-loop-i g l = record {

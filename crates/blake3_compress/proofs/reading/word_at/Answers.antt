@@ -4,7 +4,7 @@ use Rattle.std.proofs.lemmas.Nat.{shr-shr, shr_le}
 use Rattle.std.proofs.lemmas.List.{get_or_default}
 use Rattle.std.proofs.lemmas.Nat.Bits.{bit_at-lt, bit_at_lowest, bit_at-suc}
 use Rattle.air_gadgets.specs.Laws.Words.{bit_of_low}
-use Rattle.blake3_prime.proofs.columns.word_at.Goals as goal
+use Rattle.blake3_compress.proofs.reading.word_at.Goals as goal
 
 above : (w n : ℕ) → w < 2 ^ 32 → n ≡ 32 → 0 ≡ w / 2 ^ n
 above w n lt e = let f : 0 ≡ w / 2 ^ 32 = omega (arith, lt) in f ∙ ap (λ m. w / 2 ^ m) (sym e)
@@ -72,9 +72,12 @@ pub returns : goal.returns
 returns g c =
     let e : 32 - c.loop-i.i ≡ 0 = omega arith in
     record {
-      counted = λ k d lt.
-          let there : 32 - c.loop-i.i + k ≡ k = omega arith in
-          let h = c.loop-i.invariant.counted k d (omega (arith, lt)) in
-          subst (λ j. (bit_at c.loop-i.word k ≡ 0) ↔ (get_or c.args.row.now (c.args.at + j) d ≡ g.F.RingCore.ring.zero)) there h;
-      word = λ w lt h. c.loop-i.invariant.word w lt h ∙ (ap (λ n. w / 2 ^ n) e ∙ omega arith);
+      counted = (
+        omega arith,
+        λ k d lt.
+            let there : 32 - c.loop-i.i + k ≡ k = omega arith in
+            let h = c.loop-i.invariant.counted k d (omega (arith, lt)) in
+            subst (λ j. (bit_at c.loop-i.word k ≡ 0) ↔ (get_or c.args.row.now (c.args.at + j) d ≡ g.F.RingCore.ring.zero)) there h,
+      );
+      word = λ w h. let lt : w < 2 ^ 32 = h.0 in c.loop-i.invariant.word w lt h.1 ∙ (ap (λ n. w / 2 ^ n) e ∙ omega arith);
     }

@@ -1,7 +1,7 @@
 use Rattle.std.proofs.Common.{◌≡◌, ℕ, zero, suc, ◌<◌, refl, sym, ◌∙◌, arith, rules}
 use Rattle.p3_field.specs.Ring.{Ring, RingLaws, of_nat}
 use Rattle.p3_field.specs.Field.{FieldLaws}
-use Rattle.blake3_prime.proofs.columns.bit_of.Goals as goal
+use Rattle.blake3_compress.proofs.reading.bit_of.Goals as goal
 
 is_zero : {A : Type 0} (r : Ring A) (L : RingLaws r) (inv : A → A) (K : FieldLaws r inv) (x : A) (b : ℕ) → b < 2 → x ≡ of_nat r b → x ≡ r.zero → 0 ≡ b
 unfolding of_nat
