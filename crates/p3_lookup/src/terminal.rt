@@ -51,8 +51,7 @@ pub enum LookupError {
     TerminalSum,
 }
 
-/// Why permutation columns couldn't be generated. The name isn't one of Plonky3's, whose `generate_permutation` answers no error: it
-/// stops at a denominator that is zero.
+/// Why permutation columns couldn't be generated (`p3_lookup::GenerateError`).
 #[derive(Debug, Drop, Error)]
 pub enum GenerateError {
     /// The first denominator that is zero.
