@@ -1,7 +1,6 @@
 //! The checks of the tables' identities, each table's by itself.
 ghost use Rattle.std.specs.Prelude.{◌≡◌, ℕ, ◌+◌, ◌*◌, ◌<◌, ◌≤◌, [], length, map, OnOk};
 ghost use Rattle.std.specs.Prelude.{slice_index_or as get_or};
-ghost use Rattle.p3_field.specs.Field.{Extension, TwoAdic};
 ghost use Rattle.p3_field.specs.Poly.{tabulate};
 ghost use Rattle.p3_lookup.specs.Written.{read_all};
 ghost use Rattle.batch_config.specs.Domains.{chunks_over};
@@ -10,6 +9,7 @@ ghost use Rattle.verifier_identity.specs.TableIdentity.{identity_at};
 ghost use Rattle.verifier_shape.specs.ShapeChecks.{bounds_with, log_chunks_at, HasRightShape};
 ghost use Rattle.audit_batch.specs.Asked.{in_order, of_each};
 ghost use Rattle.audit_batch.specs.Named.{AreNamedAfter};
+ghost use Rattle.verifier_identity.specs.Fields.{extension_of, two_adic_of};
 
 use crate::naming::name_answer;
 use air_core::{Air, BaseAir};
@@ -61,16 +61,9 @@ pub(crate) fn name_identities<
         (map read_all common.now.lookups) proof.now.degree_bits i ≤ F.TWO_ADICITY }
     requires dimension { bounds.dimension ≡ E.DIMENSION }
     requires masked { bounds.masks ≤ bounds.least }
-    ensures { let f : TwoAdic
-        F = record { ring = F.ring; inv = F.inv; root = F.root; generator = F.GENERATOR } in
-        let e : Extension F E = record {
-          ring = E.ring;
-          embed = E.embed;
-          dimension = E.DIMENSION;
-          basis = E.basis;
-          coefficients = E.coefficients;
-          from_coefficients = E.from_coefficients;
-        } in
+    ensures { let f = two_adic_of F.ring F.inv F.root F.GENERATOR in
+        let e = extension_of E.ring E.embed E.DIMENSION E.basis E.coefficients
+        E.from_coefficients in
         let s = stated A.declaration A.trees airs.now public_values.now common.now in
         OnOk result (AreNamedAfter faults.old.items (of_each (length airs.now)
         (λ i. in_order (identity_at f e bounds.masks s proof.now.instances

@@ -1,7 +1,7 @@
 -- The lookups of a batch's tables, packed within each table's budget. After Plonky3's p3-batch-stark
 -- (from_airs_and_degrees_with_lookup_budgets).
 use Rattle.std.specs.Prelude.{slice_index_or as get_or}
-use Rattle.std.specs.Prelude.{◌≡◌, ℕ, ◌+◌, ◌-◌, ◌^◌, ◌<◌, ◌≤◌, max, false, List, [], ◌∷◌, length, None}
+use Rattle.std.specs.Prelude.{◌≡◌, ℕ, ◌+◌, ◌-◌, ◌^◌, ◌<◌, ◌≤◌, max, false, List, [], ◌∷◌, length, map, None}
 use Rattle.p3_field.specs.Checks.{Check, check}
 use Rattle.p3_field.specs.Ring.{Ring}
 use Rattle.air_core.specs.Degree.{capped_sum}
@@ -21,6 +21,10 @@ pub record Source (F : Type 0) : Type 0 where
 
 abbrev pub source_of : {A F : Type 0} → (A → Declaration F) → (A → List (Tree F)) → (A → List (Interaction F)) → A → Source F
 source_of declaration trees interactions a = record { declaration = declaration a; trees = trees a; interactions = interactions a }
+
+-- those of AIRs, in order
+abbrev pub batch_sources : {A F : Type 0} → (A → Declaration F) → (A → List (Tree F)) → (A → List (Interaction F)) → List A → List (Source F)
+batch_sources declaration trees interactions airs = map (source_of declaration trees interactions) airs
 
 -- a source past the end of a list
 abbrev pub no_source : {F : Type 0} → Source F

@@ -4,6 +4,7 @@ use Rattle.std.specs.Prelude.{slice_index_or as get_or}
 use Rattle.std.specs.Prelude.{◌≡◌, ℕ, zero, suc, ◌-◌, ◌^◌, List, [], ◌∷◌, ◌++◌, length, Option, None, Some}
 use Rattle.p3_field.specs.Checks.{Check, check}
 use Rattle.p3_field.specs.Domain.{CosetData}
+use Rattle.p3_field.specs.Poly.{tabulate}
 use Rattle.p3_matrix.specs.Matrix.{Rows, height}
 use Rattle.commit_core.specs.Failure.{NoneOf}
 use Rattle.batch_statement.specs.Statement.{PreprocessedTracesData, with_entry}
@@ -75,3 +76,9 @@ IsPrepared commits entries [] traces kept = (traces ≡ None) × (kept ≡ None)
 IsPrepared commits entries (e ∷ es) None kept = ⊥
 IsPrepared commits entries (e ∷ es) (Some g) None = ⊥
 IsPrepared commits entries (e ∷ es) (Some g) (Some d) = (g.instances ≡ entries) × (g.matrix_to_instance ≡ with_entry 0 entries) × commits (e ∷ es) (g.commitment, d)
+
+-- the same of the preprocessed traces of a batch's first n tables, in order, each on the natural domain of its extended degree
+abbrev pub ArePrepared : {F C P : Type 0} → (List (CosetData F × Rows F) → C × P → Type 0) → F → List (Source F) → (degree_bits : List ℕ) → (n : ℕ)
+    → Option (PreprocessedTracesData C) → Option P → Type 0
+ArePrepared commits one sources degree_bits n traces kept =
+    IsPrepared commits (tabulate n (entry_at one sources degree_bits)) (committed_below one sources degree_bits n) traces kept

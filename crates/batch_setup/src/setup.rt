@@ -7,8 +7,8 @@ ghost use Rattle.p3_lookup.specs.Bus.{HaveOneWidth};
 ghost use Rattle.p3_lookup.specs.Lookup.{lookups_of};
 ghost use Rattle.p3_lookup.specs.Written.{read_all};
 ghost use Rattle.batch_statement.specs.Statement.{WellFormed, read_common};
-ghost use Rattle.batch_setup.specs.Packed.{source_of, packed_at, KeepChunks, KeepChunksWithin};
-ghost use Rattle.batch_setup.specs.Preprocessed.{committed_below, entry_at, IsPrepared};
+ghost use Rattle.batch_setup.specs.Packed.{batch_sources, packed_at, KeepChunks, KeepChunksWithin};
+ghost use Rattle.batch_setup.specs.Preprocessed.{ArePrepared};
 ghost use Rattle.batch_setup.specs.Setup.{airs_of, bits_of, ArePowers};
 ghost use Rattle.batch_setup.specs.SetupChecks.{degree_checks, length_checks, trace_checks, table_setup_checks, AreWithinBounds};
 ghost use Rattle.batch_setup.specs.Verdict.{IsSetUp};
@@ -70,25 +70,23 @@ fn tables_data<SC: StarkGenericConfig, A: Air<Val<SC>>>(
     requires two_adic { (i : ℕ) → i < length airs.now
         → get_or degree_bits.now i 0 ≤ SC.Val.TWO_ADICITY }
     requires widths { HaveOneWidth (flat_map (λ a. lookups_of (A.interactions a)) airs.now) }
-    ensures verdict { let sources = map (source_of A.declaration A.trees A.interactions) airs.now in
-        IsSetUp (table_setup_checks SC.Val.ring masks log_blowup
-        (SC.Pcs.commit_fault (SC.pcs_of config.now)) sources degree_bits.now budgets.now
+    ensures verdict { IsSetUp (table_setup_checks SC.Val.ring masks log_blowup
+        (SC.Pcs.commit_fault (SC.pcs_of config.now))
+        (batch_sources A.declaration A.trees A.interactions airs.now) degree_bits.now budgets.now
         (length airs.now)) result }
-    ensures lookups { let sources = map (source_of A.declaration A.trees A.interactions) airs.now in
-        IfOk result (λ d. map read_all d.common.lookups
+    ensures lookups { IfOk result (λ d. map read_all d.common.lookups
         ≡ tabulate (length airs.now)
-        (packed_at SC.Val.ring masks sources degree_bits.now budgets.now)) }
-    ensures preprocessed { let sources = map (source_of A.declaration A.trees A.interactions)
-        airs.now in
-        IfOk result (λ d. IsPrepared
+        (packed_at SC.Val.ring masks (batch_sources A.declaration A.trees A.interactions airs.now)
+        degree_bits.now budgets.now)) }
+    ensures preprocessed { IfOk result (λ d. ArePrepared
         (λ es p. IsCommitment SC.Val.ring
         ⟦<<SC::Pcs as Pcs<SC::Challenge, SC::Challenger>>::Domain as PolynomialSpace>⟧.points
         ⟦<<SC::Pcs as Pcs<SC::Challenge, SC::Challenger>>::Domain as PolynomialSpace>⟧.point_at
         (SC.Pcs.commits (SC.pcs_of config.now))
         (SC.Pcs.made (SC.pcs_of config.now)) (SC.Pcs.holds (SC.pcs_of config.now)) es p)
-        (tabulate (length airs.now) (entry_at SC.Val.ring.one sources degree_bits.now))
-        (committed_below SC.Val.ring.one sources degree_bits.now (length airs.now))
-        d.common.preprocessed d.prover_only.preprocessed_prover_data) }
+        SC.Val.ring.one (batch_sources A.declaration A.trees A.interactions airs.now)
+        degree_bits.now (length airs.now) d.common.preprocessed
+        d.prover_only.preprocessed_prover_data) }
     ensures formed { IfOk result
         (λ d. WellFormed (map A.declaration airs.now) (read_common d.common)) }
 {
@@ -133,39 +131,35 @@ impl<F, Com, PD> SetupData<F, Com, PD> {
         requires bits { AreWithinBounds (SC.Pcs.log_min (SC.pcs_of config.now) + cond SC.Pcs.ZK 1 0)
             (SC.Pcs.log_max (SC.pcs_of config.now)) trace_ext_degree_bits.now }
         requires widths { HaveOneWidth (flat_map (λ a. lookups_of (A.interactions a)) airs.now) }
-        ensures verdict { let sources = map (source_of A.declaration A.trees A.interactions)
-            airs.now in
-            IsSetUp (length_checks (length airs.now) (length trace_ext_degree_bits.now)
+        ensures verdict { IsSetUp
+            (length_checks (length airs.now) (length trace_ext_degree_bits.now)
             (length lookup_budget_overrides.now)
             ++ table_setup_checks SC.Val.ring (cond SC.Pcs.ZK 1 0) log_blowup
-            (SC.Pcs.commit_fault (SC.pcs_of config.now)) sources trace_ext_degree_bits.now
+            (SC.Pcs.commit_fault (SC.pcs_of config.now))
+            (batch_sources A.declaration A.trees A.interactions airs.now) trace_ext_degree_bits.now
             lookup_budget_overrides.now (length airs.now)) result }
         ensures memory { IfErr result (λ e. e ≡ SetupError.OutOfMemory
             → (length trace_ext_degree_bits.now ≡ length airs.now)
             × (length lookup_budget_overrides.now ≡ length airs.now)) }
-        ensures lookups { let sources = map (source_of A.declaration A.trees A.interactions)
-            airs.now in
-            IfOk result (λ d. map read_all d.common.lookups
+        ensures lookups { IfOk result (λ d. map read_all d.common.lookups
             ≡ tabulate (length airs.now)
-            (packed_at SC.Val.ring (cond SC.Pcs.ZK 1 0) sources trace_ext_degree_bits.now
+            (packed_at SC.Val.ring (cond SC.Pcs.ZK 1 0)
+            (batch_sources A.declaration A.trees A.interactions airs.now) trace_ext_degree_bits.now
             lookup_budget_overrides.now)) }
-        ensures preprocessed { let sources = map (source_of A.declaration A.trees A.interactions)
-            airs.now in
-            IfOk result (λ d. IsPrepared
+        ensures preprocessed { IfOk result (λ d. ArePrepared
             (λ es p. IsCommitment SC.Val.ring
             ⟦<<SC::Pcs as Pcs<SC::Challenge, SC::Challenger>>::Domain as PolynomialSpace>⟧.points
             ⟦<<SC::Pcs as Pcs<SC::Challenge, SC::Challenger>>::Domain as PolynomialSpace>⟧.point_at
             (SC.Pcs.commits (SC.pcs_of config.now))
             (SC.Pcs.made (SC.pcs_of config.now)) (SC.Pcs.holds (SC.pcs_of config.now)) es p)
-            (tabulate (length airs.now)
-            (entry_at SC.Val.ring.one sources trace_ext_degree_bits.now))
-            (committed_below SC.Val.ring.one sources trace_ext_degree_bits.now (length airs.now))
-            d.common.preprocessed d.prover_only.preprocessed_prover_data) }
+            SC.Val.ring.one (batch_sources A.declaration A.trees A.interactions airs.now)
+            trace_ext_degree_bits.now (length airs.now) d.common.preprocessed
+            d.prover_only.preprocessed_prover_data) }
         ensures formed { IfOk result
             (λ d. WellFormed (map A.declaration airs.now) (read_common d.common)) }
-        ensures chunks { let sources = map (source_of A.declaration A.trees A.interactions)
-            airs.now in
-            IfOk result (λ d. KeepChunksWithin SC.Val.ring (cond SC.Pcs.ZK 1 0) sources
+        ensures chunks { IfOk result
+            (λ d. KeepChunksWithin SC.Val.ring (cond SC.Pcs.ZK 1 0)
+            (batch_sources A.declaration A.trees A.interactions airs.now)
             trace_ext_degree_bits.now lookup_budget_overrides.now
             (map read_all d.common.lookups)) }
     {
@@ -194,35 +188,31 @@ impl<F, Com, PD> SetupData<F, Com, PD> {
         requires bits { AreWithinBounds (SC.Pcs.log_min (SC.pcs_of config.now) + cond SC.Pcs.ZK 1 0)
             (SC.Pcs.log_max (SC.pcs_of config.now)) trace_ext_degree_bits.now }
         requires widths { HaveOneWidth (flat_map (λ a. lookups_of (A.interactions a)) airs.now) }
-        ensures verdict { let sources = map (source_of A.declaration A.trees A.interactions)
-            airs.now in
-            IsSetUp (degree_checks (length airs.now) (length trace_ext_degree_bits.now)
+        ensures verdict { IsSetUp
+            (degree_checks (length airs.now) (length trace_ext_degree_bits.now)
             ++ trace_checks SC.Val.ring.one (cond SC.Pcs.ZK 1 0)
-            (SC.Pcs.commit_fault (SC.pcs_of config.now)) sources trace_ext_degree_bits.now
+            (SC.Pcs.commit_fault (SC.pcs_of config.now))
+            (batch_sources A.declaration A.trees A.interactions airs.now) trace_ext_degree_bits.now
             (length airs.now)) result }
-        ensures lookups { let sources = map (source_of A.declaration A.trees A.interactions)
-            airs.now in
-            IfOk result (λ d. map read_all d.common.lookups
+        ensures lookups { IfOk result (λ d. map read_all d.common.lookups
             ≡ tabulate (length airs.now)
-            (packed_at SC.Val.ring (cond SC.Pcs.ZK 1 0) sources trace_ext_degree_bits.now
+            (packed_at SC.Val.ring (cond SC.Pcs.ZK 1 0)
+            (batch_sources A.declaration A.trees A.interactions airs.now) trace_ext_degree_bits.now
             (replicate (length airs.now) 0))) }
-        ensures preprocessed { let sources = map (source_of A.declaration A.trees A.interactions)
-            airs.now in
-            IfOk result (λ d. IsPrepared
+        ensures preprocessed { IfOk result (λ d. ArePrepared
             (λ es p. IsCommitment SC.Val.ring
             ⟦<<SC::Pcs as Pcs<SC::Challenge, SC::Challenger>>::Domain as PolynomialSpace>⟧.points
             ⟦<<SC::Pcs as Pcs<SC::Challenge, SC::Challenger>>::Domain as PolynomialSpace>⟧.point_at
             (SC.Pcs.commits (SC.pcs_of config.now))
             (SC.Pcs.made (SC.pcs_of config.now)) (SC.Pcs.holds (SC.pcs_of config.now)) es p)
-            (tabulate (length airs.now)
-            (entry_at SC.Val.ring.one sources trace_ext_degree_bits.now))
-            (committed_below SC.Val.ring.one sources trace_ext_degree_bits.now (length airs.now))
-            d.common.preprocessed d.prover_only.preprocessed_prover_data) }
+            SC.Val.ring.one (batch_sources A.declaration A.trees A.interactions airs.now)
+            trace_ext_degree_bits.now (length airs.now) d.common.preprocessed
+            d.prover_only.preprocessed_prover_data) }
         ensures formed { IfOk result
             (λ d. WellFormed (map A.declaration airs.now) (read_common d.common)) }
-        ensures chunks { let sources = map (source_of A.declaration A.trees A.interactions)
-            airs.now in
-            IfOk result (λ d. KeepChunks SC.Val.ring (cond SC.Pcs.ZK 1 0) sources
+        ensures chunks { IfOk result
+            (λ d. KeepChunks SC.Val.ring (cond SC.Pcs.ZK 1 0)
+            (batch_sources A.declaration A.trees A.interactions airs.now)
             trace_ext_degree_bits.now (map read_all d.common.lookups)) }
     {
         let budgets = zeros(alloc, airs.len())?;
@@ -251,34 +241,31 @@ impl<F, Com, PD> SetupData<F, Com, PD> {
             (SC.Pcs.log_max (SC.pcs_of config.now)) (bits_of (cond SC.Pcs.ZK 1 0) instances.now) }
         requires widths { HaveOneWidth
             (flat_map (λ a. lookups_of (A.interactions a)) (airs_of instances.now)) }
-        ensures verdict { let airs = airs_of instances.now in
-            let sources = map (source_of A.declaration A.trees A.interactions) airs in
-            IsSetUp (trace_checks SC.Val.ring.one (cond SC.Pcs.ZK 1 0)
-            (SC.Pcs.commit_fault (SC.pcs_of config.now)) sources
-            (bits_of (cond SC.Pcs.ZK 1 0) instances.now) (length airs)) result }
-        ensures lookups { let airs = airs_of instances.now in
-            let sources = map (source_of A.declaration A.trees A.interactions) airs in
-            IfOk result (λ d. map read_all d.common.lookups
-            ≡ tabulate (length airs)
-            (packed_at SC.Val.ring (cond SC.Pcs.ZK 1 0) sources
-            (bits_of (cond SC.Pcs.ZK 1 0) instances.now) (replicate (length airs) 0))) }
-        ensures preprocessed { let airs = airs_of instances.now in
-            let sources = map (source_of A.declaration A.trees A.interactions) airs in
-            let bits = bits_of (cond SC.Pcs.ZK 1 0) instances.now in
-            IfOk result (λ d. IsPrepared
+        ensures verdict { IsSetUp (trace_checks SC.Val.ring.one (cond SC.Pcs.ZK 1 0)
+            (SC.Pcs.commit_fault (SC.pcs_of config.now))
+            (batch_sources A.declaration A.trees A.interactions (airs_of instances.now))
+            (bits_of (cond SC.Pcs.ZK 1 0) instances.now) (length (airs_of instances.now))) result }
+        ensures lookups { IfOk result (λ d. map read_all d.common.lookups
+            ≡ tabulate (length (airs_of instances.now))
+            (packed_at SC.Val.ring (cond SC.Pcs.ZK 1 0)
+            (batch_sources A.declaration A.trees A.interactions (airs_of instances.now))
+            (bits_of (cond SC.Pcs.ZK 1 0) instances.now)
+            (replicate (length (airs_of instances.now)) 0))) }
+        ensures preprocessed { IfOk result (λ d. ArePrepared
             (λ es p. IsCommitment SC.Val.ring
             ⟦<<SC::Pcs as Pcs<SC::Challenge, SC::Challenger>>::Domain as PolynomialSpace>⟧.points
             ⟦<<SC::Pcs as Pcs<SC::Challenge, SC::Challenger>>::Domain as PolynomialSpace>⟧.point_at
             (SC.Pcs.commits (SC.pcs_of config.now))
             (SC.Pcs.made (SC.pcs_of config.now)) (SC.Pcs.holds (SC.pcs_of config.now)) es p)
-            (tabulate (length airs) (entry_at SC.Val.ring.one sources bits))
-            (committed_below SC.Val.ring.one sources bits (length airs)) d.common.preprocessed
+            SC.Val.ring.one (batch_sources A.declaration A.trees A.interactions
+            (airs_of instances.now)) (bits_of (cond SC.Pcs.ZK 1 0) instances.now)
+            (length (airs_of instances.now)) d.common.preprocessed
             d.prover_only.preprocessed_prover_data) }
         ensures formed { IfOk result
             (λ d. WellFormed (map A.declaration (airs_of instances.now)) (read_common d.common)) }
-        ensures chunks { let sources = map (source_of A.declaration A.trees A.interactions)
-            (airs_of instances.now) in
-            IfOk result (λ d. KeepChunks SC.Val.ring (cond SC.Pcs.ZK 1 0) sources
+        ensures chunks { IfOk result
+            (λ d. KeepChunks SC.Val.ring (cond SC.Pcs.ZK 1 0)
+            (batch_sources A.declaration A.trees A.interactions (airs_of instances.now))
             (bits_of (cond SC.Pcs.ZK 1 0) instances.now) (map read_all d.common.lookups)) }
     {
         let airs = lent_airs(alloc, instances)?;

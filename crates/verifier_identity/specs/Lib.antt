@@ -1,3 +1,4 @@
+pub mod Fields
 pub mod Identity
 pub mod OpenedRows
 pub mod PeriodicValues

@@ -1,13 +1,13 @@
 //! The identity of one table at a point, by itself.
 ghost use Rattle.std.specs.Prelude.{◌≡◌, List, None, MatchResult, map};
 ghost use Rattle.p3_field.specs.Checks.{NoneFails, FirstFails};
-ghost use Rattle.p3_field.specs.Field.{TwoAdic, Extension};
 ghost use Rattle.p3_field.specs.Poly.{eval_poly};
 ghost use Rattle.p3_field.specs.Domain.{first_selector, last_selector, transition_selector};
 ghost use Rattle.p3_lookup.specs.Written.{read_all};
 ghost use Rattle.batch_constraints.specs.BatchTrees.{table_trees};
 ghost use Rattle.verifier_folder.specs.FolderState.{all_opened};
 ghost use Rattle.verifier_identity.specs.Identity.{IsInDomain, OpensWhatIsRead, folded_at, identity_checks, opened_at};
+ghost use Rattle.verifier_identity.specs.Fields.{extension_of, two_adic_of};
 
 use air_core::{Air, BaseAir};
 use commit_core::{LagrangeSelectors, PolynomialSpace};
@@ -73,16 +73,9 @@ impl<'a, F: TwoAdicField, E: ExtensionField<F>> IdentityData<'a, F, E> {
             ≡ eval_poly E.ring (map E.embed
             (transition_selector F.ring F.inv F.root self.now.trace_domain)) self.now.zeta }
         ensures zero { result.inner.accumulator ≡ E.ring.zero }
-        ensures reads { let f : TwoAdic
-            F = record { ring = F.ring; inv = F.inv; root = F.root; generator = F.GENERATOR } in
-            let e : Extension F E = record {
-              ring = E.ring;
-              embed = E.embed;
-              dimension = E.DIMENSION;
-              basis = E.basis;
-              coefficients = E.coefficients;
-              from_coefficients = E.from_coefficients;
-            } in
+        ensures reads { let f = two_adic_of F.ring F.inv F.root F.GENERATOR in
+            let e = extension_of E.ring E.embed E.DIMENSION E.basis E.coefficients
+            E.from_coefficients in
             all_opened result ≡ opened_at f e self.now.trace_domain self.now.alpha self.now.zeta
             (identity_opened_of self.now) }
     {
@@ -118,32 +111,14 @@ impl<'a, F: TwoAdicField, E: ExtensionField<F>> IdentityData<'a, F, E> {
         air: &A,
         lookup_gadget: &LG,
     ) -> Result<(), VerificationError<PcsErr>>
-        requires { (IsInDomain (record {
-          ring = F.ring;
-          inv = F.inv;
-          root = F.root;
-          generator = F.GENERATOR;
-        })
-            (record {
-              ring = E.ring;
-              embed = E.embed;
-              dimension = E.DIMENSION;
-              basis = E.basis;
-              coefficients = E.coefficients;
-              from_coefficients = E.from_coefficients;
-            }) self.now.trace_domain self.now.zeta → ⊥)
+        requires { (IsInDomain (two_adic_of F.ring F.inv F.root F.GENERATOR)
+            (extension_of E.ring E.embed E.DIMENSION E.basis E.coefficients E.from_coefficients)
+            self.now.trace_domain self.now.zeta → ⊥)
             → OpensWhatIsRead (A.declaration air.now) (read_all self.now.lookups.now)
             (identity_opened_of self.now) }
-        ensures { let f : TwoAdic
-            F = record { ring = F.ring; inv = F.inv; root = F.root; generator = F.GENERATOR } in
-            let e : Extension F E = record {
-              ring = E.ring;
-              embed = E.embed;
-              dimension = E.DIMENSION;
-              basis = E.basis;
-              coefficients = E.coefficients;
-              from_coefficients = E.from_coefficients;
-            } in
+        ensures { let f = two_adic_of F.ring F.inv F.root F.GENERATOR in
+            let e = extension_of E.ring E.embed E.DIMENSION E.basis E.coefficients
+            E.from_coefficients in
             let trees = table_trees F.ring (A.trees air.now) (read_all self.now.lookups.now) in
             let checks = identity_checks f e None self.now.trace_domain self.now.alpha self.now.zeta
             (identity_opened_of self.now) trees self.now.quotient in

@@ -1,10 +1,10 @@
 //! The rows that a table's identity reads.
 ghost use Rattle.std.specs.Prelude.{◌≡◌, ◌^◌, [], length, map, option_map, replicate, unwrap_or, ◌∷◌, IfOk};
-ghost use Rattle.p3_field.specs.Field.{TwoAdic, Extension};
 ghost use Rattle.verifier_identity.specs.OpenedRows.{recombined_row};
 ghost use Rattle.verifier_shape.specs.ShapeChecks.{permutation_width, preprocessed_next_of};
 ghost use Rattle.verifier_identity.specs.MadeRows.{AreMade};
 ghost use Rattle.verifier_identity.specs.TableIdentity.{next_row_or_zeros, permutation_column_count, preprocessed_local_of};
+ghost use Rattle.verifier_identity.specs.Fields.{extension_of, two_adic_of};
 
 use crate::{periodic_values_at, recombined_row, zero_row};
 use air_core::BaseAir;
@@ -104,15 +104,8 @@ fn permutation_row<F: Field, E: ExtensionField<F>>(
     lookups: usize,
 ) -> Mem<Vec<E>>
     requires { length row.now ≡ permutation_width lookups E.DIMENSION }
-    ensures { let e : Extension F
-        E = record {
-          ring = E.ring;
-          embed = E.embed;
-          dimension = E.DIMENSION;
-          basis = E.basis;
-          coefficients = E.coefficients;
-          from_coefficients = E.from_coefficients;
-        } in
+    ensures { let e = extension_of E.ring E.embed E.DIMENSION E.basis E.coefficients
+        E.from_coefficients in
         IfOk result (λ v. v.items ≡ recombined_row e row.now (permutation_column_count lookups)) }
 {
     let columns = row.len() / E::DIMENSION;
@@ -153,16 +146,9 @@ pub(crate) fn made_rows<F: TwoAdicField, E: ExtensionField<F>, A: BaseAir<F>>(
     requires columns { map (λ c. c.items) columns.columns.now ≡ (A.declaration air.now).periodic }
     requires local { length opened.now.permutation_local ≡ permutation_width lookups E.DIMENSION }
     requires next { length opened.now.permutation_next ≡ permutation_width lookups E.DIMENSION }
-    ensures { let f : TwoAdic
-        F = record { ring = F.ring; inv = F.inv; root = F.root; generator = F.GENERATOR } in
-        let e : Extension F E = record {
-          ring = E.ring;
-          embed = E.embed;
-          dimension = E.DIMENSION;
-          basis = E.basis;
-          coefficients = E.coefficients;
-          from_coefficients = E.from_coefficients;
-        } in
+    ensures { let f = two_adic_of F.ring F.inv F.root F.GENERATOR in
+        let e = extension_of E.ring E.embed E.DIMENSION E.basis E.coefficients
+        E.from_coefficients in
         IfOk result (AreMade f e domain.now (A.declaration air.now) lookups zeta opened.now) }
 {
     Ok(MadeRows {

@@ -1,7 +1,7 @@
 //! The values of a table's periodic columns at a point.
 ghost use Rattle.std.specs.Prelude.{◌≡◌, ◌^◌, IfOk, map};
-ghost use Rattle.p3_field.specs.Field.{TwoAdic, Extension};
 ghost use Rattle.verifier_identity.specs.PeriodicValues.{periodic_value};
+ghost use Rattle.verifier_identity.specs.Fields.{extension_of, two_adic_of};
 
 use commit_core::{PeriodicColumns, PolynomialSpace};
 use p3_field::{
@@ -20,16 +20,9 @@ pub fn periodic_values_at<F: TwoAdicField, E: ExtensionField<F>>(
     zeta: E,
 ) -> Mem<Vec<E>>
     requires { columns.height ≡ 2 ^ domain.now.log_size }
-    ensures { let f : TwoAdic
-        F = record { ring = F.ring; inv = F.inv; root = F.root; generator = F.GENERATOR } in
-        let e : Extension F E = record {
-          ring = E.ring;
-          embed = E.embed;
-          dimension = E.DIMENSION;
-          basis = E.basis;
-          coefficients = E.coefficients;
-          from_coefficients = E.from_coefficients;
-        } in
+    ensures { let f = two_adic_of F.ring F.inv F.root F.GENERATOR in
+        let e = extension_of E.ring E.embed E.DIMENSION E.basis E.coefficients
+        E.from_coefficients in
         IfOk result (λ v. v.items
         ≡ map (λ c. periodic_value f e domain.now zeta c.items) columns.entry.columns.now) }
 {

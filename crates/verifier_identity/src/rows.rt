@@ -2,6 +2,7 @@
 ghost use Rattle.std.specs.Prelude.{◌≡◌, ◌+◌, ◌*◌, ◌<◌, length, replicate, slice_range, IfOk};
 ghost use Rattle.p3_field.specs.Field.{combine};
 ghost use Rattle.verifier_identity.specs.OpenedRows.{recombined_row};
+ghost use Rattle.verifier_identity.specs.Fields.{extension_of};
 
 use p3_field::{
     BasedVectorSpace, ExtensionField, Field, FieldCore, Mem, PrimeCharacteristicRing, RingCore,
@@ -17,14 +18,8 @@ pub fn recombined_row<F: Field, E: ExtensionField<F>>(
 ) -> Mem<Vec<E>>
     requires { length row.now ≡ columns * E.DIMENSION }
     ensures { IfOk result (λ v. v.items
-        ≡ recombined_row (record {
-          ring = E.ring;
-          embed = E.embed;
-          dimension = E.DIMENSION;
-          basis = E.basis;
-          coefficients = E.coefficients;
-          from_coefficients = E.from_coefficients;
-        }) row.now columns) }
+        ≡ recombined_row (extension_of E.ring E.embed E.DIMENSION E.basis E.coefficients
+        E.from_coefficients) row.now columns) }
 {
     let mut values = Vec::with_capacity(alloc, columns)?;
     for j in 0..columns {

@@ -1,7 +1,6 @@
 //! The checks of one table's identity.
 ghost use Rattle.std.specs.Prelude.{◌≡◌, ◌*◌, ◌≤◌, All, IfOk, length, map, option_map};
 ghost use Rattle.p3_field.specs.Checks.{NoneFails};
-ghost use Rattle.p3_field.specs.Field.{TwoAdic, Extension};
 ghost use Rattle.p3_field.specs.Domain.{subgroup};
 ghost use Rattle.p3_lookup.specs.Written.{read_all};
 ghost use Rattle.p3_uni_stark.specs.Recombine.{AllDisjoint, recombined};
@@ -14,6 +13,7 @@ ghost use Rattle.batch_statement.specs.Verdict.{IsDecided, IsVerdict};
 ghost use Rattle.p3_uni_stark.specs.declared.error.VerificationError.TheVariants.{OodEvaluationMismatch, OodPointInDomain};
 ghost use Rattle.verifier_identity.specs.MadeRows.{AreMade};
 ghost use Rattle.verifier_identity.specs.TableIdentity.{identity_of_table, opened_table, periods_check, verified};
+ghost use Rattle.verifier_identity.specs.Fields.{extension_of, two_adic_of};
 
 use crate::IdentityData;
 use crate::made_rows::{
@@ -65,18 +65,11 @@ fn quotient_at<F: TwoAdicField, E: ExtensionField<F>>(
     requires count { length opened.now.base.quotient_chunks ≡ length domains.now }
     requires dimension { All (λ c. length c ≡ E.DIMENSION) opened.now.base.quotient_chunks }
     requires disjoint { AllDisjoint
-        (record { ring = F.ring; inv = F.inv; root = F.root; generator = F.GENERATOR })
+        (two_adic_of F.ring F.inv F.root F.GENERATOR)
         domains.now }
-    ensures { let f : TwoAdic
-        F = record { ring = F.ring; inv = F.inv; root = F.root; generator = F.GENERATOR } in
-        let e : Extension F E = record {
-          ring = E.ring;
-          embed = E.embed;
-          dimension = E.DIMENSION;
-          basis = E.basis;
-          coefficients = E.coefficients;
-          from_coefficients = E.from_coefficients;
-        } in
+    ensures { let f = two_adic_of F.ring F.inv F.root F.GENERATOR in
+        let e = extension_of E.ring E.embed E.DIMENSION E.basis E.coefficients
+        E.from_coefficients in
         result ≡ recombined f e domains.now opened.now.base.quotient_chunks zeta }
 {
     let base = &opened.base_opened_values;
@@ -97,32 +90,18 @@ fn table_data<'a, F: TwoAdicField, E: ExtensionField<F>, A: BaseAir<F>>(
     alpha: E,
     zeta: E,
 ) -> IdentityData<'a, F, E>
-    requires { let f : TwoAdic
-        F = record { ring = F.ring; inv = F.inv; root = F.root; generator = F.GENERATOR } in
-        let e : Extension F E = record {
-          ring = E.ring;
-          embed = E.embed;
-          dimension = E.DIMENSION;
-          basis = E.basis;
-          coefficients = E.coefficients;
-          from_coefficients = E.from_coefficients;
-        } in
+    requires { let f = two_adic_of F.ring F.inv F.root F.GENERATOR in
+        let e = extension_of E.ring E.embed E.DIMENSION E.basis E.coefficients
+        E.from_coefficients in
         AreMade f e domain (A.declaration air.now) (length lookups.now) zeta opened.now made.now }
     ensures zeta { result.zeta ≡ zeta }
     ensures alpha { result.alpha ≡ alpha }
     ensures lookups { result.lookups.now ≡ lookups.entry.now }
     ensures domain { result.trace_domain ≡ domain }
     ensures quotient { result.quotient ≡ quotient }
-    ensures opened { let f : TwoAdic
-        F = record { ring = F.ring; inv = F.inv; root = F.root; generator = F.GENERATOR } in
-        let e : Extension F E = record {
-          ring = E.ring;
-          embed = E.embed;
-          dimension = E.DIMENSION;
-          basis = E.basis;
-          coefficients = E.coefficients;
-          from_coefficients = E.from_coefficients;
-        } in
+    ensures opened { let f = two_adic_of F.ring F.inv F.root F.GENERATOR in
+        let e = extension_of E.ring E.embed E.DIMENSION E.basis E.coefficients
+        E.from_coefficients in
         identity_opened_of result
         ≡ opened_table f e domain (A.declaration air.now) (length lookups.now) public_values.now
         challenges.now terminals.now zeta opened.now }
@@ -176,16 +155,9 @@ fn decide<F: TwoAdicField, E: ExtensionField<F>, A: Air<F>, R>(
 ) -> Result<(), BatchVerificationError<R>>
     requires { OpensWhatIsRead (A.declaration air.now) (read_all given.now.lookups.now)
         (identity_opened_of given.now) }
-    ensures { let f : TwoAdic
-        F = record { ring = F.ring; inv = F.inv; root = F.root; generator = F.GENERATOR } in
-        let e : Extension F E = record {
-          ring = E.ring;
-          embed = E.embed;
-          dimension = E.DIMENSION;
-          basis = E.basis;
-          coefficients = E.coefficients;
-          from_coefficients = E.from_coefficients;
-        } in
+    ensures { let f = two_adic_of F.ring F.inv F.root F.GENERATOR in
+        let e = extension_of E.ring E.embed E.DIMENSION E.basis E.coefficients
+        E.from_coefficients in
         let trees = table_trees F.ring (A.trees air.now) (read_all given.now.lookups.now) in
         IsDecided (map verified (identity_checks f e {R = R} (Some index) given.now.trace_domain
         given.now.alpha given.now.zeta (identity_opened_of given.now) trees given.now.quotient))
@@ -220,19 +192,12 @@ pub(crate) fn check_table<F: TwoAdicField, E: ExtensionField<F>, A: Air<F>, R>(
     requires reads { AreLookupsOf (A.declaration air.now) (read_all lookups.now) }
     requires challenges { length challenges.now ≡ 2 * length (read_all lookups.now) }
     requires disjoint { AllDisjoint
-        (record { ring = F.ring; inv = F.inv; root = F.root; generator = F.GENERATOR })
+        (two_adic_of F.ring F.inv F.root F.GENERATOR)
         domains.now }
     requires fits { log_height ≤ F.TWO_ADICITY }
-    ensures { let f : TwoAdic
-        F = record { ring = F.ring; inv = F.inv; root = F.root; generator = F.GENERATOR } in
-        let e : Extension F E = record {
-          ring = E.ring;
-          embed = E.embed;
-          dimension = E.DIMENSION;
-          basis = E.basis;
-          coefficients = E.coefficients;
-          from_coefficients = E.from_coefficients;
-        } in
+    ensures { let f = two_adic_of F.ring F.inv F.root F.GENERATOR in
+        let e = extension_of E.ring E.embed E.DIMENSION E.basis E.coefficients
+        E.from_coefficients in
         IsVerdict (identity_of_table f e index log_height
         (record { declaration = A.declaration air.now; trees = A.trees air.now })
         (read_all lookups.now) public_values.now challenges.now (option_map (λ t. t.0) terminal.now)

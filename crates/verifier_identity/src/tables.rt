@@ -1,7 +1,6 @@
 //! The identity of one table of a batch, by its number in the lists.
 ghost use Rattle.std.specs.Prelude.{◌≡◌, ◌-◌, ◌*◌, ◌<◌, ◌≤◌, [], length, map, option_map};
 ghost use Rattle.std.specs.Prelude.{slice_index_or as get_or};
-ghost use Rattle.p3_field.specs.Field.{TwoAdic, Extension};
 ghost use Rattle.p3_field.specs.Checks.{NoneFails};
 ghost use Rattle.p3_lookup.specs.Written.{read_all};
 ghost use Rattle.p3_uni_stark.specs.Recombine.{AllDisjoint};
@@ -10,6 +9,7 @@ ghost use Rattle.batch_statement.specs.Statement.{tables_of};
 ghost use Rattle.verifier_shape.specs.ShapeChecks.{opened_checks_at};
 ghost use Rattle.batch_statement.specs.Verdict.{IsVerdict};
 ghost use Rattle.verifier_identity.specs.TableIdentity.{identity_by};
+ghost use Rattle.verifier_identity.specs.Fields.{extension_of, two_adic_of};
 
 use crate::table::check_table;
 use air_core::{Air, BaseAir};
@@ -56,19 +56,12 @@ pub(crate) fn table_at<F: TwoAdicField, E: ExtensionField<F>, A: Air<F>, R>(
     requires pairs { length (get_or (map (λ v. v.items) challenges.now) index []) ≡ 2
         * length (get_or (map read_all lookups.now) index []) }
     requires disjoint { AllDisjoint
-        (record { ring = F.ring; inv = F.inv; root = F.root; generator = F.GENERATOR })
+        (two_adic_of F.ring F.inv F.root F.GENERATOR)
         (get_or (map (λ v. v.items) domains.now) index []) }
     requires fits { get_or degree_bits.now index 0 - masks ≤ F.TWO_ADICITY }
-    ensures { let f : TwoAdic
-        F = record { ring = F.ring; inv = F.inv; root = F.root; generator = F.GENERATOR } in
-        let e : Extension F E = record {
-          ring = E.ring;
-          embed = E.embed;
-          dimension = E.DIMENSION;
-          basis = E.basis;
-          coefficients = E.coefficients;
-          from_coefficients = E.from_coefficients;
-        } in
+    ensures { let f = two_adic_of F.ring F.inv F.root F.GENERATOR in
+        let e = extension_of E.ring E.embed E.DIMENSION E.basis E.coefficients
+        E.from_coefficients in
         IsVerdict (identity_by f e masks (tables_of A.declaration A.trees airs.now)
         (map (λ v. v.items) public_values.now) (map read_all lookups.now) instances.now
         (map (option_map (λ t. t.0)) terminals.now) degree_bits.now

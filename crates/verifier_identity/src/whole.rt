@@ -1,7 +1,6 @@
 //! The identities of all tables of a batch, by statement and proof.
 ghost use Rattle.std.specs.Prelude.{◌≡◌, ℕ, ◌+◌, ◌*◌, ◌<◌, ◌≤◌, [], length, map, IsOk};
 ghost use Rattle.std.specs.Prelude.{slice_index_or as get_or};
-ghost use Rattle.p3_field.specs.Field.{TwoAdic, Extension};
 ghost use Rattle.p3_field.specs.Checks.{in_turn};
 ghost use Rattle.p3_field.specs.Poly.{tabulate};
 ghost use Rattle.p3_lookup.specs.Written.{read_all};
@@ -10,6 +9,7 @@ ghost use Rattle.batch_config.specs.Domains.{chunks_over};
 ghost use Rattle.verifier_shape.specs.ShapeChecks.{bounds_with, log_chunks_at, HasRightShape};
 ghost use Rattle.batch_statement.specs.Verdict.{IsVerdict};
 ghost use Rattle.verifier_identity.specs.TableIdentity.{identity_at};
+ghost use Rattle.verifier_identity.specs.Fields.{extension_of, two_adic_of};
 
 use crate::tables::table_at;
 use air_core::{Air, BaseAir};
@@ -67,16 +67,9 @@ pub fn check_identity_at<
         (map read_all common.now.lookups) proof.now.degree_bits i ≤ F.TWO_ADICITY }
     requires dimension { bounds.dimension ≡ E.DIMENSION }
     requires masked { bounds.masks ≤ bounds.least }
-    ensures { let f : TwoAdic
-        F = record { ring = F.ring; inv = F.inv; root = F.root; generator = F.GENERATOR } in
-        let e : Extension F E = record {
-          ring = E.ring;
-          embed = E.embed;
-          dimension = E.DIMENSION;
-          basis = E.basis;
-          coefficients = E.coefficients;
-          from_coefficients = E.from_coefficients;
-        } in
+    ensures { let f = two_adic_of F.ring F.inv F.root F.GENERATOR in
+        let e = extension_of E.ring E.embed E.DIMENSION E.basis E.coefficients
+        E.from_coefficients in
         let s = stated A.declaration A.trees airs.now public_values.now common.now in
         IsVerdict (identity_at f e bounds.masks s proof.now.instances proof.now.lookup_terminals
         proof.now.degree_bits
@@ -139,16 +132,9 @@ pub fn check_identities<
         (map read_all common.now.lookups) proof.now.degree_bits i ≤ F.TWO_ADICITY }
     requires dimension { bounds.dimension ≡ E.DIMENSION }
     requires masked { bounds.masks ≤ bounds.least }
-    ensures verdict { let f : TwoAdic
-        F = record { ring = F.ring; inv = F.inv; root = F.root; generator = F.GENERATOR } in
-        let e : Extension F E = record {
-          ring = E.ring;
-          embed = E.embed;
-          dimension = E.DIMENSION;
-          basis = E.basis;
-          coefficients = E.coefficients;
-          from_coefficients = E.from_coefficients;
-        } in
+    ensures verdict { let f = two_adic_of F.ring F.inv F.root F.GENERATOR in
+        let e = extension_of E.ring E.embed E.DIMENSION E.basis E.coefficients
+        E.from_coefficients in
         let s = stated A.declaration A.trees airs.now public_values.now common.now in
         IsVerdict (in_turn (length airs.now)
         (identity_at f e bounds.masks s proof.now.instances proof.now.lookup_terminals
