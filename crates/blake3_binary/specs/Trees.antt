@@ -4,18 +4,14 @@ use Rattle.std.specs.Prelude.{ℕ, zero, suc, ◌+◌, ◌*◌, ◌/◌, ◌%◌
 use Rattle.std.specs.Int.{bit_at}
 use Rattle.p3_field.specs.Ring.{Ring}
 use Rattle.p3_field.specs.Poly.{tabulate}
-use Rattle.air_core.specs.declared.cells.Cell.TheVariants.{Main}
-use Rattle.air_core.specs.Tree.{Tree, cell, bool_tree}
+use Rattle.air_core.specs.Tree.{Tree, bool_tree}
 use Rattle.air_core.specs.Shape.{Declaration}
 use Rattle.air_gadgets.specs.Gadgets.{number}
 use Rattle.air_core.specs.Joined.{joined}
+pub use Rattle.blake3_compress.specs.Reading.{from_column}
 use Rattle.blake3_compress.specs.Compress.{iv, column_of, step_of_word}
 use Rattle.blake3_compress.specs.TraceRow.{turn_of, d_turn, b_turn, message_of}
 use Rattle.blake3_binary.specs.Sums.{turned, binary_half_trees}
-
--- the cells from a column on
-abbrev pub from_column : {F : Type 0} → ℕ → ℕ → Tree F
-from_column column k = cell (Main false (column + k))
 
 -- four words of the state, one of each row, as trees or as values
 pub record QuarterOf (X : Type 0) : Type 0 where

@@ -1,16 +1,15 @@
 //! The AIR.
 ghost use Rattle.std.proofs.Common.{rules};
-ghost use Rattle.std.specs.Prelude.{◌≡◌, ℕ, ◌+◌, ◌≤◌, ◌<◌, List, [], ◌∷◌, IfOk, OnErr, IsOk, IsTrue, None, true, false};
+ghost use Rattle.std.specs.Prelude.{◌≡◌, ◌+◌, ◌≤◌, ◌<◌, [], ◌∷◌, IfOk, IsOk, IsTrue, None, true, false};
 ghost use Rattle.air_core.specs.declared.cells.Cell.TheVariants.{Main as MainCell};
 ghost use Rattle.air_core.specs.Tree.{bool_tree, cell as cell_tree};
-ghost use Rattle.air_core.specs.Joined.{joined};
 ghost use Rattle.air_core.specs.Appended.{Appended, AppendedSome, OnFailure};
-ghost use Rattle.blake3_binary.specs.Trees.{from_column, bits_trees, binary_trees, air_trees, binary_declaration};
+ghost use Rattle.blake3_binary.specs.Trees.{bits_trees, binary_trees, air_trees, binary_declaration};
 ghost use Rattle.blake3_binary.specs.Laws.Reads.{binary_read, counts-binary};
 
-use crate::reading::cell_at;
 use crate::rounds::assert_steps;
 use air_core::{Air, AirBuilder, BaseAir, InteractionBuilder};
+use blake3_compress::cell_at;
 use p3_field::{Field, Mem};
 use p3_matrix::RowMajorMatrix;
 use std::alloc::Global;

@@ -1,48 +1,12 @@
 //! Cells of the row as expressions.
-ghost use Rattle.std.specs.Prelude.{◌≡◌, ℕ, ◌+◌, ◌%◌, ◌^◌, ◌<◌, ◌≤◌, List, [], ◌∷◌, IfOk, IsOk, IsTrue, false, length};
+ghost use Rattle.std.specs.Prelude.{◌≡◌, ◌+◌, ◌<◌, ◌≤◌, [], IfOk, IsOk, IsTrue};
 ghost use Rattle.std.specs.Int.{bit_at};
-ghost use Rattle.air_core.specs.declared.cells.Cell.TheVariants.{Main as MainCell};
-ghost use Rattle.air_core.specs.Tree.{cell as cell_tree};
 ghost use Rattle.air_gadgets.specs.Gadgets.{RepresentAt, number};
 ghost use Rattle.blake3_binary.specs.Trees.{from_column};
 
-use air_core::{AirBuilder, Cell};
+use air_core::AirBuilder;
+use blake3_compress::cell_at;
 use p3_field::{Mem, RingCore};
-
-// The cell of a column.
-pub fn cell_at<AB: AirBuilder>(builder: &mut AB, column: usize) -> Mem<AB::Expr>
-    requires { column < (AB.shape builder.old).main }
-    ensures later { AB.later builder.old builder.new }
-    ensures keeps_shape { AB.shape builder.new ≡ AB.shape builder.old }
-    ensures answers { IsTrue AB.never_fails → IsOk result }
-    ensures appends { AB.appends builder.old builder.new [] [] }
-    ensures represents { IfOk result
-        (λ e. AB.represents builder.new e (cell_tree (MainCell false column))) }
-{
-    builder.cell(Cell::Main {
-        next: false,
-        column,
-    })
-}
-
-// The 32 bits from a column on.
-pub fn bits_at<AB: AirBuilder>(builder: &mut AB, column: usize) -> Mem<[AB::Expr; 32]>
-    requires wide { 11536 ≤ (AB.shape builder.old).main }
-    requires within { column + 32 ≤ 11536 }
-    ensures later { AB.later builder.old builder.new }
-    ensures keeps_shape { AB.shape builder.new ≡ AB.shape builder.old }
-    ensures answers { IsTrue AB.never_fails → IsOk result }
-    ensures appends { AB.appends builder.old builder.new [] [] }
-    ensures represents { IfOk result
-        (λ es. RepresentAt (AB.represents builder.new) es (from_column column)) }
-{
-    let first = cell_at(builder, column)?;
-    let mut cells = [first; 32];
-    for i in 0..32 {
-        cells[i] = cell_at(builder, column + i)?;
-    }
-    Ok(cells)
-}
 
 // The 31 carries from a column on.
 pub fn carries_at<AB: AirBuilder>(builder: &mut AB, column: usize) -> Mem<[AB::Expr; 31]>

@@ -1,15 +1,15 @@
 //! The steps as constraints.
-ghost use Rattle.std.specs.Prelude.{◌≡◌, ℕ, ◌+◌, ◌-◌, ◌*◌, ◌/◌, ◌%◌, ◌<◌, ◌≤◌, List, [], ◌∷◌, ◌++◌, IfOk, OnErr, IsOk, IsTrue, length, map};
-ghost use Rattle.air_core.specs.Joined.{joined};
+ghost use Rattle.std.specs.Prelude.{◌≡◌, ◌+◌, ◌-◌, ◌*◌, ◌/◌, ◌%◌, ◌<◌, ◌≤◌, IfOk, IsOk, IsTrue};
 ghost use Rattle.air_core.specs.Appended.{Appended, AppendedSome, OnFailure};
 ghost use Rattle.blake3_binary.specs.Trees.{half_step_trees, binary_steps_trees};
 ghost use Rattle.blake3_binary.specs.Places.{IsInRow, first_sum_trees, second_sum_trees, placed_trees, binary_step_trees};
 
 use crate::adding::{assert_sum2, assert_sum3};
 use crate::places::{a_word, b_place, c_word, d_place, half_column, message_column};
-use crate::reading::{bits_at, carries_at};
+use crate::reading::carries_at;
 use crate::words::{Word, turned_at, word_at};
 use air_core::AirBuilder;
+use blake3_compress::bits_at;
 use p3_field::Mem;
 
 // Asserts the first sum of half a step: a and b, with their carries from `cells` on, and a message word. It is d xor (d

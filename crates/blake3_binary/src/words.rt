@@ -1,13 +1,14 @@
 //! Words of the state as expressions.
-ghost use Rattle.std.specs.Prelude.{◌≡◌, ℕ, ◌+◌, ◌%◌, ◌<◌, ◌≤◌, List, [], ◌∷◌, IfOk, IsOk, IsTrue, length};
+ghost use Rattle.std.specs.Prelude.{◌≡◌, ◌+◌, ◌<◌, ◌≤◌, [], IfOk, IsOk, IsTrue};
 ghost use Rattle.air_gadgets.specs.Gadgets.{RepresentAt};
 ghost use Rattle.blake3_binary.specs.Sums.{turned};
 ghost use Rattle.blake3_binary.specs.Trees.{from_column};
 ghost use Rattle.blake3_binary.specs.Places.{word_bit, IsInRow};
 
 use crate::adding::turned_bits;
-use crate::reading::{bits_at, constant_bits};
+use crate::reading::constant_bits;
 use air_core::AirBuilder;
+use blake3_compress::bits_at;
 use p3_field::Mem;
 
 /// Where the bits of a word of the state come from.

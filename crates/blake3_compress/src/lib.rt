@@ -20,7 +20,7 @@ mod words;
 pub use compression::compress;
 pub use error::TraceError;
 pub use pushing::{push_bit_words, push_bits, push_limb_words, push_limbs};
-pub use reading::word_at;
+pub use reading::{bits_at, cell_at, word_at};
 pub use schedule::scheduled_word;
 pub use words::{
     FourWords, IV, StateWords, after_half_round, first_words, made_words, taken_words, xor_words,

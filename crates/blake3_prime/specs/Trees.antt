@@ -2,20 +2,16 @@
 use Rattle.std.specs.Prelude.{ℕ, zero, suc, ◌+◌, ◌*◌, List, [], ◌++◌, false, None, Some}
 use Rattle.p3_field.specs.Ring.{Ring}
 use Rattle.p3_field.specs.Poly.{tabulate}
-use Rattle.air_core.specs.declared.cells.Cell.TheVariants.{Main}
-use Rattle.air_core.specs.Tree.{Tree, cell, difference, bool_tree}
+use Rattle.air_core.specs.Tree.{Tree, difference, bool_tree}
 use Rattle.air_core.specs.Shape.{Declaration}
 use Rattle.air_gadgets.specs.Gadgets.{number, add2_trees, add3_trees, packed_bits, xor_tree, xor_shift_trees}
 use Rattle.air_gadgets.specs.Words.{limb}
 use Rattle.blake3_prime.specs.declared.places.Place.{Place}
 use Rattle.blake3_prime.specs.declared.places.Columns.{Columns}
+pub use Rattle.blake3_compress.specs.Reading.{from_column}
 use Rattle.blake3_compress.specs.Compress.{iv, column_of}
 use Rattle.air_core.specs.Joined.{joined}
 use Rattle.blake3_compress.specs.TraceRow.{turn_of, d_turn, b_turn, message_of}
-
--- the cells from a column on
-abbrev pub from_column : {F : Type 0} → ℕ → ℕ → Tree F
-from_column column k = cell (Main false (column + k))
 
 -- the limbs of a word that is given by its bits
 abbrev pub packed_limbs : {F : Type 0} → Ring F → (ℕ → Tree F) → ℕ → Tree F

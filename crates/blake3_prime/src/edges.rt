@@ -1,19 +1,17 @@
 //! The constraints before and after the rounds.
-ghost use Rattle.std.specs.Prelude.{◌≡◌, ℕ, ◌+◌, ◌*◌, ◌^◌, ◌<◌, ◌≤◌, List, [], ◌∷◌, ◌++◌, IfOk, OnErr, IsOk, IsTrue, false, length, map};
+ghost use Rattle.std.specs.Prelude.{◌≡◌, ◌+◌, ◌*◌, ◌<◌, ◌≤◌, [], ◌∷◌, IfOk, IsOk, IsTrue, false};
 ghost use Rattle.air_core.specs.declared.cells.Cell.TheVariants.{Main as MainCell};
-ghost use Rattle.air_core.specs.Tree.{Tree, bool_tree, difference, cell as cell_tree};
+ghost use Rattle.air_core.specs.Tree.{bool_tree, difference, cell as cell_tree};
 ghost use Rattle.air_gadgets.specs.Gadgets.{RepresentAt, number, xor_tree};
 ghost use Rattle.air_gadgets.specs.Words.{limb};
-ghost use Rattle.blake3_compress.specs.Compress.{iv};
-ghost use Rattle.air_core.specs.Joined.{joined};
 ghost use Rattle.air_core.specs.Appended.{Appended, AppendedSome, OnFailure};
-ghost use Rattle.blake3_prime.specs.Trees.{from_column, bits_trees, packed_trees, limbs_trees, word_trees, iv_trees, masked_trees, xor_trees, first_trees, first_output_trees, other_output_trees, last_trees};
+ghost use Rattle.blake3_prime.specs.Trees.{bits_trees, packed_trees, limbs_trees, word_trees, iv_trees, masked_trees, xor_trees, first_trees, first_output_trees, other_output_trees, last_trees};
 
 use crate::half::assert_turned;
-use crate::reading::{cell_at, limbs_at, packed_at};
+use crate::reading::{limbs_at, packed_at};
 use air_core::AirBuilder;
 use air_gadgets::xor;
-use blake3_compress::IV;
+use blake3_compress::{IV, cell_at};
 use p3_field::{Mem, RingCore};
 
 // Asserts that the cell is a bit.

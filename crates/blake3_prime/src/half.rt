@@ -1,13 +1,14 @@
 //! Half a step as constraints.
-ghost use Rattle.std.specs.Prelude.{◌≡◌, ℕ, ◌+◌, ◌*◌, ◌^◌, ◌<◌, ◌≤◌, List, [], ◌∷◌, ◌++◌, IfOk, OnErr, IsOk, IsTrue, length, map};
+ghost use Rattle.std.specs.Prelude.{◌≡◌, ◌+◌, ◌^◌, ◌<◌, ◌≤◌, IfOk, IsOk, IsTrue};
 ghost use Rattle.air_gadgets.specs.Gadgets.{add2_trees, add3_trees, xor_shift_trees};
 ghost use Rattle.air_core.specs.Appended.{Appended, AppendedSome, OnFailure};
 ghost use Rattle.blake3_prime.specs.Trees.{from_column, packed_limbs, half_trees};
 
 use crate::places::Columns;
-use crate::reading::{bits_at, limbs_at, packed_at};
+use crate::reading::{limbs_at, packed_at};
 use air_core::AirBuilder;
 use air_gadgets::{add2, add3, xor_32_shift};
+use blake3_compress::bits_at;
 use p3_field::Mem;
 
 // Asserts that the word by limbs at `sum` is that at `a` and those by bits at `b` and `message`, modulo 2^32.

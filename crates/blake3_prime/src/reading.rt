@@ -1,30 +1,13 @@
 //! Words of the row as expressions (not in Plonky3, whose AIR reads them from its columns).
-ghost use Rattle.std.specs.Prelude.{◌≡◌, ℕ, ◌+◌, ◌*◌, ◌^◌, ◌<◌, ◌≤◌, List, [], ◌∷◌, IfOk, OnErr, IsOk, IsTrue, false, length, map};
-ghost use Rattle.air_core.specs.declared.cells.Cell.TheVariants.{Main as MainCell};
-ghost use Rattle.air_core.specs.Tree.{cell as cell_tree};
+ghost use Rattle.std.specs.Prelude.{◌≡◌, ◌+◌, ◌<◌, ◌≤◌, [], IfOk, IsOk, IsTrue};
 ghost use Rattle.air_gadgets.specs.Gadgets.{RepresentAt};
 ghost use Rattle.blake3_prime.specs.Trees.{from_column, packed_limbs};
 
 use crate::BITS_PER_LIMB;
-use air_core::{AirBuilder, Cell};
+use air_core::AirBuilder;
 use air_gadgets::pack_bits_le;
+use blake3_compress::{bits_at, cell_at};
 use p3_field::Mem;
-
-/// The cell of a column.
-pub fn cell_at<AB: AirBuilder>(builder: &mut AB, column: usize) -> Mem<AB::Expr>
-    requires { column < (AB.shape builder.old).main }
-    ensures later { AB.later builder.old builder.new }
-    ensures keeps_shape { AB.shape builder.new ≡ AB.shape builder.old }
-    ensures answers { IsTrue AB.never_fails → IsOk result }
-    ensures appends { AB.appends builder.old builder.new [] [] }
-    ensures represents { IfOk result
-        (λ e. AB.represents builder.new e (cell_tree (MainCell false column))) }
-{
-    builder.cell(Cell::Main {
-        next: false,
-        column,
-    })
-}
 
 /// The two limbs from a column on.
 pub fn limbs_at<AB: AirBuilder>(builder: &mut AB, column: usize) -> Mem<[AB::Expr; 2]>
@@ -40,25 +23,6 @@ pub fn limbs_at<AB: AirBuilder>(builder: &mut AB, column: usize) -> Mem<[AB::Exp
     let first = cell_at(builder, column)?;
     let mut cells = [first; 2];
     for i in 0..2 {
-        cells[i] = cell_at(builder, column + i)?;
-    }
-    Ok(cells)
-}
-
-/// The 32 bits from a column on.
-pub fn bits_at<AB: AirBuilder>(builder: &mut AB, column: usize) -> Mem<[AB::Expr; 32]>
-    requires wide { 9168 ≤ (AB.shape builder.old).main }
-    requires within { column + 32 ≤ 9168 }
-    ensures later { AB.later builder.old builder.new }
-    ensures keeps_shape { AB.shape builder.new ≡ AB.shape builder.old }
-    ensures answers { IsTrue AB.never_fails → IsOk result }
-    ensures appends { AB.appends builder.old builder.new [] [] }
-    ensures represents { IfOk result
-        (λ es. RepresentAt (AB.represents builder.new) es (from_column column)) }
-{
-    let first = cell_at(builder, column)?;
-    let mut cells = [first; 32];
-    for i in 0..32 {
         cells[i] = cell_at(builder, column + i)?;
     }
     Ok(cells)

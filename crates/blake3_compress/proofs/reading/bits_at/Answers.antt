@@ -1,7 +1,7 @@
 use Rattle.std.proofs.Common.{◌<◌, [], inl, inr, length, get_or, set, sym, subst, ◌∙◌, arith, length-set, get_or-set_same, get_or-set_other}
 use Rattle.std.proofs.lemmas.Bool.{cases_eq}
-use Rattle.blake3_binary.specs.Trees.{from_column}
-use Rattle.blake3_binary.proofs.reading.bits_at.Goals as goal
+use Rattle.blake3_compress.specs.Reading.{from_column}
+use Rattle.blake3_compress.proofs.reading.bits_at.Goals as goal
 
 pub loop-i-preserved : goal.loop-i-preserved
 loop-i-preserved g c =

@@ -1,6 +1,6 @@
 use Rattle.std.proofs.Common.{◌≡◌, ℕ, ◌<◌, [], length, get_or}
-use Rattle.blake3_prime.specs.Trees.{from_column}
-use Rattle.blake3_prime.proofs.reading.bits_at.Given as goal
+use Rattle.blake3_compress.specs.Reading.{from_column}
+use Rattle.blake3_compress.proofs.reading.bits_at.Given as goal
 
 abbrev pub invariant-loop-i : goal.invariant-loop-i
 invariant-loop-i g l =
