@@ -8,6 +8,7 @@ pub mod Read
 pub mod Checked
 pub mod Opened
 pub mod Counts
+pub mod Few
 pub mod Accepted
 pub mod Over
 pub mod Swap

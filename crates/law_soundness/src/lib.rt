@@ -13,6 +13,6 @@ mod soundness;
 mod swaps;
 
 pub use counts::few_challenges_are_unlucky;
-pub use data::accepted_batches_hold;
+pub use data::{accepted_batches_hold, few_are_unlucky};
 pub use soundness::{PlainConfig, accepted_holds};
 pub use swaps::accepted_swaps_end;

@@ -17,14 +17,14 @@ use Rattle.batch_config.specs.Setting.{Setting, Backend}
 use Rattle.batch_statement.specs.Proof.{ProofData}
 use Rattle.batch_statement.specs.Statement.{Statement, AirTable, WellFormed, WrittenCommon, read_common, tables_of, statement_with}
 use Rattle.batch_statement.specs.Words.{bits_at}
-use Rattle.verifier_batch.specs.OpeningChecks.{log_chunks_of_table}
 use Rattle.verifier_batch.specs.BatchChecks.{Accepted, drawn_of}
 use Rattle.law_soundness.specs.CommittedBatch.{ReadDeclared, chunk_count, committed_batch, committed_quotient, committed_table_at}
 use Rattle.law_soundness.specs.PlainSetting.{IsPlain, plain_scheme}
 use Rattle.law_soundness.specs.Laws.Accepted.{batch_holds, batch_low, heights_fit}
 use Rattle.law_soundness.specs.Laws.Bound.{Binds}
-use Rattle.law_soundness.specs.Laws.Counts.{few_batch_alphas, few_batch_zetas, few_contained_zetas, few_row_alphas, few_table_alphas}
-use Rattle.law_soundness.specs.Laws.Opened.{columns_declared, domains_counted, no_masks, values_opened}
+use Rattle.law_soundness.specs.Laws.Counts.{few_contained_zetas, few_row_alphas, few_table_alphas}
+use Rattle.law_soundness.specs.Laws.Few.{alphas_of_any, chunks_of_any, zetas_of_any}
+use Rattle.law_soundness.specs.Laws.Opened.{columns_declared, values_opened}
 use Rattle.law_soundness.specs.Laws.SwapTables.{first_of, own_hold, own_trees, swaps_end}
 use Rattle.law_soundness.specs.OpenedBatch.{AllCommittedValues, AllHaveColumns}
 use Rattle.law_soundness.specs.Swapped.{EndsSwapped, swap_publics}
@@ -93,15 +93,13 @@ module _ {S A F E P R : Type 0} (c : Setting S F E (PlainCommitmentData F)) (b :
   airs_table_zetas t alpha zetas among distinct unlucky = few_contained_zetas c.field c.extension c.two_adicity inverse L batch airs_fit airs_low t alpha zetas among distinct unlucky
 
   pub airs_chunks : (i : ℕ) → chunk_count_of (committed_quotient c log_blowup s p i) ≡ chunk_count c s p i
-  airs_chunks i =
-      let none = no_masks c b log_blowup s p inverse L plain binds (formed_tables declaration trees airs publics common formed) accepted in
-      domains_counted c none (bits_at p.degree_bits i) (log_chunks_of_table c s p i)
+  airs_chunks i = chunks_of_any c log_blowup s p i plain.unmasked
 
   pub airs_alphas : (alphas : List E) → AreDistinct c.extension.ring.zero alphas → All (IsUnluckyAlphaOfBatch c.field c.extension batch) alphas → length alphas ≤ sum (map most_alphas batch)
-  airs_alphas alphas distinct unlucky = few_batch_alphas c.field c.extension c.two_adicity inverse L batch alphas distinct unlucky
+  airs_alphas alphas distinct unlucky = alphas_of_any c log_blowup s p inverse L alphas distinct unlucky
 
   pub airs_zetas : (alpha : E) (zetas : List E) → AreDistinct c.extension.ring.zero zetas → All (IsUnluckyZetaOfBatch c.field c.extension batch alpha) zetas → length zetas ≤ sum (map most_zetas batch)
-  airs_zetas alpha zetas distinct unlucky = few_batch_zetas c.field c.extension c.two_adicity inverse L batch alpha zetas airs_fit airs_low distinct unlucky
+  airs_zetas alpha zetas distinct unlucky = zetas_of_any c log_blowup s p inverse L alpha zetas airs_fit airs_low distinct unlucky
 
   -- a table with the constraints of its AIR alone
   pub airs_own : AllHold c.field c.extension batch → (i : ℕ) (air : A) → i < length airs → Holds c.field c.extension (committed_table_at c log_blowup s p i) (trees (get_or airs i air))

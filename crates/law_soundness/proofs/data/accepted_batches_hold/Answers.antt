@@ -1,4 +1,4 @@
-use Rattle.law_soundness.specs.Laws.Accepted.{batch_holds, batch_low}
+use Rattle.law_soundness.specs.Laws.Accepted.{batch_holds, batch_low, heights_fit}
 use Rattle.law_soundness.specs.Laws.Opened.{columns_declared, values_opened}
 use Rattle.law_soundness.specs.Laws.Over.{own_binds, own_laws}
 use Rattle.law_soundness.specs.PlainSetting.{plain_backend}
@@ -17,6 +17,11 @@ returns-clause-columns g c setting log_blowup s p over unmasked formed accepted 
 pub returns-clause-low : goal.returns-clause-low
 returns-clause-low g c setting log_blowup s p over unmasked formed accepted =
     batch_low setting (plain_backend setting log_blowup) log_blowup s p g.E.FieldCore.inv (own_laws _ _ _ setting over g.E.FieldCore.inv c.fields_have_laws.ensures)
+    (record { unmasked = unmasked; opens = λ state claims proof o. o }) (own_binds _ _ _ setting over log_blowup (c.opened_claims_bind.ensures (record { log_blowup = log_blowup }))) formed accepted
+
+pub returns-clause-fits : goal.returns-clause-fits
+returns-clause-fits g c setting log_blowup s p over unmasked formed accepted =
+    heights_fit setting (plain_backend setting log_blowup) log_blowup s p g.E.FieldCore.inv (own_laws _ _ _ setting over g.E.FieldCore.inv c.fields_have_laws.ensures)
     (record { unmasked = unmasked; opens = λ state claims proof o. o }) (own_binds _ _ _ setting over log_blowup (c.opened_claims_bind.ensures (record { log_blowup = log_blowup }))) formed accepted
 
 pub returns-clause-holds : goal.returns-clause-holds
