@@ -1,8 +1,7 @@
 //! The checks of a batch proof that fail, all of them, and the steps of its script.
 ghost use Rattle.std.specs.Prelude.{◌≡◌, ◌^◌, ◌<◌, IfOk, length, map};
-ghost use Rattle.p3_field.specs.Poly.{tabulate};
 ghost use Rattle.batch_statement.specs.Statement.{WellFormed, read_common, stated};
-ghost use Rattle.verifier_batch.specs.OpeningChecks.{log_chunks_of_table, HasShapeFor};
+ghost use Rattle.verifier_batch.specs.OpeningChecks.{HasShapeFor, AreLogChunks};
 ghost use Rattle.verifier_draws.specs.Draws.{script_shape};
 ghost use Rattle.audit_batch.specs.Asked.{AreNamed};
 ghost use Rattle.audit_batch.specs.Audit.{HasWitness, audit};
@@ -52,14 +51,11 @@ fn audit_unplayed<SC: StarkGenericConfig, A: Air<Val<SC>>>(
     shape: &BatchShape,
 ) -> Mem<Vec<BatchVerificationError<PcsError<SC>>>>
     requires formed { WellFormed (map A.declaration airs.now) (read_common common.now) }
-    requires shape { let statement = stated A.declaration A.trees airs.now public_values.now
-        common.now in
-        HasShapeFor SC.Pcs.Error SC.Val.ring (⟦<SC as Settings>⟧.setting config.now) statement
-        proof.now }
-    requires chunks { let statement = stated A.declaration A.trees airs.now public_values.now
-        common.now in
-        chunks.now ≡ tabulate (length airs.now)
-        (log_chunks_of_table (⟦<SC as Settings>⟧.setting config.now) statement proof.now) }
+    requires shape { HasShapeFor SC.Pcs.Error SC.Val.ring (⟦<SC as Settings>⟧.setting config.now)
+        (stated A.declaration A.trees airs.now public_values.now common.now) proof.now }
+    requires chunks { AreLogChunks (⟦<SC as Settings>⟧.setting config.now)
+        (stated A.declaration A.trees airs.now public_values.now common.now) proof.now
+        (length airs.now) chunks.now }
     requires script { let setting = ⟦<SC as Settings>⟧.setting config.now in
         let statement = stated A.declaration A.trees airs.now public_values.now common.now in
         shape.now ≡ script_shape setting.version setting.zk setting.lookup_bits setting.ood_bits
@@ -104,14 +100,11 @@ fn audit_played<SC: StarkGenericConfig, A: Air<Val<SC>>>(
     shape: &BatchShape,
 ) -> Mem<BatchAudit<PcsError<SC>>>
     requires formed { WellFormed (map A.declaration airs.now) (read_common common.now) }
-    requires shape { let statement = stated A.declaration A.trees airs.now public_values.now
-        common.now in
-        HasShapeFor SC.Pcs.Error SC.Val.ring (⟦<SC as Settings>⟧.setting config.now) statement
-        proof.now }
-    requires chunks { let statement = stated A.declaration A.trees airs.now public_values.now
-        common.now in
-        chunks.now ≡ tabulate (length airs.now)
-        (log_chunks_of_table (⟦<SC as Settings>⟧.setting config.now) statement proof.now) }
+    requires shape { HasShapeFor SC.Pcs.Error SC.Val.ring (⟦<SC as Settings>⟧.setting config.now)
+        (stated A.declaration A.trees airs.now public_values.now common.now) proof.now }
+    requires chunks { AreLogChunks (⟦<SC as Settings>⟧.setting config.now)
+        (stated A.declaration A.trees airs.now public_values.now common.now) proof.now
+        (length airs.now) chunks.now }
     requires script { let setting = ⟦<SC as Settings>⟧.setting config.now in
         let statement = stated A.declaration A.trees airs.now public_values.now common.now in
         shape.now ≡ script_shape setting.version setting.zk setting.lookup_bits setting.ood_bits
@@ -183,14 +176,11 @@ fn audit_shaped<SC: StarkGenericConfig, A: Air<Val<SC>>>(
     chunks: &[usize],
 ) -> Mem<BatchAudit<PcsError<SC>>>
     requires formed { WellFormed (map A.declaration airs.now) (read_common common.now) }
-    requires shape { let statement = stated A.declaration A.trees airs.now public_values.now
-        common.now in
-        HasShapeFor SC.Pcs.Error SC.Val.ring (⟦<SC as Settings>⟧.setting config.now) statement
-        proof.now }
-    requires chunks { let statement = stated A.declaration A.trees airs.now public_values.now
-        common.now in
-        chunks.now ≡ tabulate (length airs.now)
-        (log_chunks_of_table (⟦<SC as Settings>⟧.setting config.now) statement proof.now) }
+    requires shape { HasShapeFor SC.Pcs.Error SC.Val.ring (⟦<SC as Settings>⟧.setting config.now)
+        (stated A.declaration A.trees airs.now public_values.now common.now) proof.now }
+    requires chunks { AreLogChunks (⟦<SC as Settings>⟧.setting config.now)
+        (stated A.declaration A.trees airs.now public_values.now common.now) proof.now
+        (length airs.now) chunks.now }
     ensures steps { let statement = stated A.declaration A.trees airs.now public_values.now
         common.now in
         IfOk result (λ a. IsPlayedText (⟦<SC as Settings>⟧.setting config.now)
