@@ -14,7 +14,7 @@ use Rattle.verifier_claims.specs.Claims.{claims, matrix_tables}
 use Rattle.verifier_batch.specs.OpeningChecks.{claimed, domain_checks, metadata_check, opens_check, shape_bounds_of}
 use Rattle.verifier_identity.specs.TableIdentity.{terminal_check}
 use Rattle.verifier_batch.specs.BatchChecks.{all_lookup_challenges, domains_of, drawn_of, identities_at}
-use Rattle.audit_batch.specs.Asked.{Asked, always, only}
+use Rattle.audit_batch.specs.Asked.{AreNamed, Asked, always, only}
 use Rattle.audit_batch.specs.Parts.{Parts, all_asked}
 use Rattle.audit_batch.specs.Shape.{shape_parts}
 
@@ -54,3 +54,7 @@ module _ {S F E C P R : Type 0} (c : Setting S F E C) (b : Backend S F E C P R) 
   -- the checks that are asked, in the order in which they are named
   unfoldable pub audit : List (Asked (BatchVerificationError R))
   audit = all_asked parts_of
+
+  -- these are the refusals of all that are asked and fail, in that order
+  abbrev pub NamesFaults : List (BatchVerificationError R) → Type 0
+  NamesFaults faults = AreNamed audit faults

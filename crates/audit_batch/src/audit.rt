@@ -1,11 +1,9 @@
 //! The checks of a batch proof that fail, all of them, and the steps of its script.
 ghost use Rattle.std.specs.Prelude.{◌≡◌, ◌^◌, ◌<◌, IfOk, length, map};
-ghost use Rattle.p3_field.specs.Poly.{tabulate};
 ghost use Rattle.batch_statement.specs.Statement.{WellFormed, read_common, stated};
-ghost use Rattle.verifier_batch.specs.OpeningChecks.{log_chunks_of_table, HasShapeFor};
+ghost use Rattle.verifier_batch.specs.OpeningChecks.{HasShapeFor, AreLogChunks};
 ghost use Rattle.verifier_draws.specs.Draws.{script_shape};
-ghost use Rattle.audit_batch.specs.Asked.{AreNamed};
-ghost use Rattle.audit_batch.specs.Audit.{HasWitness, audit};
+ghost use Rattle.audit_batch.specs.Audit.{HasWitness, NamesFaults};
 ghost use Rattle.audit_batch.specs.Report.{IsPlayedText, steps_text};
 
 use crate::claims::name_claims;
@@ -52,23 +50,19 @@ fn audit_unplayed<SC: StarkGenericConfig, A: Air<Val<SC>>>(
     shape: &BatchShape,
 ) -> Mem<Vec<BatchVerificationError<PcsError<SC>>>>
     requires formed { WellFormed (map A.declaration airs.now) (read_common common.now) }
-    requires shape { let statement = stated A.declaration A.trees airs.now public_values.now
-        common.now in
-        HasShapeFor SC.Pcs.Error SC.Val.ring (⟦<SC as Settings>⟧.setting config.now) statement
-        proof.now }
-    requires chunks { let statement = stated A.declaration A.trees airs.now public_values.now
-        common.now in
-        chunks.now ≡ tabulate (length airs.now)
-        (log_chunks_of_table (⟦<SC as Settings>⟧.setting config.now) statement proof.now) }
+    requires shape { HasShapeFor SC.Pcs.Error SC.Val.ring (⟦<SC as Settings>⟧.setting config.now)
+        (stated A.declaration A.trees airs.now public_values.now common.now) proof.now }
+    requires chunks { AreLogChunks (⟦<SC as Settings>⟧.setting config.now)
+        (stated A.declaration A.trees airs.now public_values.now common.now) proof.now
+        (length airs.now) chunks.now }
     requires script { let setting = ⟦<SC as Settings>⟧.setting config.now in
         let statement = stated A.declaration A.trees airs.now public_values.now common.now in
         shape.now ≡ script_shape setting.version setting.zk setting.lookup_bits setting.ood_bits
         statement }
     requires missing { HasWitness shape.now.num_lookup_instances proof.now.lookup_pow_witness → ⊥ }
-    ensures { let statement = stated A.declaration A.trees airs.now public_values.now common.now in
-        IfOk result (λ v. AreNamed
-        (audit (⟦<SC as Settings>⟧.setting config.now) (⟦<SC as Settings>⟧.backend config.now)
-        statement proof.now) v.items) }
+    ensures { IfOk result (λ v.
+        NamesFaults (⟦<SC as Settings>⟧.setting config.now) (⟦<SC as Settings>⟧.backend config.now)
+        (stated A.declaration A.trees airs.now public_values.now common.now) proof.now v.items) }
 {
     let mut faults = Vec::new(alloc);
     let missing = BatchTranscriptFailure::MissingLookupPowWitness {
@@ -104,14 +98,11 @@ fn audit_played<SC: StarkGenericConfig, A: Air<Val<SC>>>(
     shape: &BatchShape,
 ) -> Mem<BatchAudit<PcsError<SC>>>
     requires formed { WellFormed (map A.declaration airs.now) (read_common common.now) }
-    requires shape { let statement = stated A.declaration A.trees airs.now public_values.now
-        common.now in
-        HasShapeFor SC.Pcs.Error SC.Val.ring (⟦<SC as Settings>⟧.setting config.now) statement
-        proof.now }
-    requires chunks { let statement = stated A.declaration A.trees airs.now public_values.now
-        common.now in
-        chunks.now ≡ tabulate (length airs.now)
-        (log_chunks_of_table (⟦<SC as Settings>⟧.setting config.now) statement proof.now) }
+    requires shape { HasShapeFor SC.Pcs.Error SC.Val.ring (⟦<SC as Settings>⟧.setting config.now)
+        (stated A.declaration A.trees airs.now public_values.now common.now) proof.now }
+    requires chunks { AreLogChunks (⟦<SC as Settings>⟧.setting config.now)
+        (stated A.declaration A.trees airs.now public_values.now common.now) proof.now
+        (length airs.now) chunks.now }
     requires script { let setting = ⟦<SC as Settings>⟧.setting config.now in
         let statement = stated A.declaration A.trees airs.now public_values.now common.now in
         shape.now ≡ script_shape setting.version setting.zk setting.lookup_bits setting.ood_bits
@@ -124,11 +115,11 @@ fn audit_played<SC: StarkGenericConfig, A: Air<Val<SC>>>(
         IfOk result (λ a. a.steps.items
         ≡ steps_text (⟦<SC as Settings>⟧.setting config.now) (⟦<SC as Settings>⟧.backend config.now)
         statement proof.now (λ x. map SC.Val.canonical (SC.Challenge.coefficients x))) }
-    ensures faults { let statement = stated A.declaration A.trees airs.now public_values.now
-        common.now in
-        IfOk result (λ a. AreNamed
-        (audit (⟦<SC as Settings>⟧.setting config.now) (⟦<SC as Settings>⟧.backend config.now)
-        statement proof.now) a.faults.items) }
+    ensures faults { IfOk result
+        (λ a. NamesFaults (⟦<SC as Settings>⟧.setting config.now)
+        (⟦<SC as Settings>⟧.backend config.now)
+        (stated A.declaration A.trees airs.now public_values.now common.now) proof.now
+        a.faults.items) }
 {
     let challenger = config.initialise_challenger();
     let FoldedScript { text, draws } = fold_proof::<
@@ -183,24 +174,21 @@ fn audit_shaped<SC: StarkGenericConfig, A: Air<Val<SC>>>(
     chunks: &[usize],
 ) -> Mem<BatchAudit<PcsError<SC>>>
     requires formed { WellFormed (map A.declaration airs.now) (read_common common.now) }
-    requires shape { let statement = stated A.declaration A.trees airs.now public_values.now
-        common.now in
-        HasShapeFor SC.Pcs.Error SC.Val.ring (⟦<SC as Settings>⟧.setting config.now) statement
-        proof.now }
-    requires chunks { let statement = stated A.declaration A.trees airs.now public_values.now
-        common.now in
-        chunks.now ≡ tabulate (length airs.now)
-        (log_chunks_of_table (⟦<SC as Settings>⟧.setting config.now) statement proof.now) }
-    ensures steps { let statement = stated A.declaration A.trees airs.now public_values.now
-        common.now in
-        IfOk result (λ a. IsPlayedText (⟦<SC as Settings>⟧.setting config.now)
-        (⟦<SC as Settings>⟧.backend config.now) statement proof.now
+    requires shape { HasShapeFor SC.Pcs.Error SC.Val.ring (⟦<SC as Settings>⟧.setting config.now)
+        (stated A.declaration A.trees airs.now public_values.now common.now) proof.now }
+    requires chunks { AreLogChunks (⟦<SC as Settings>⟧.setting config.now)
+        (stated A.declaration A.trees airs.now public_values.now common.now) proof.now
+        (length airs.now) chunks.now }
+    ensures steps { IfOk result
+        (λ a. IsPlayedText (⟦<SC as Settings>⟧.setting config.now)
+        (⟦<SC as Settings>⟧.backend config.now)
+        (stated A.declaration A.trees airs.now public_values.now common.now) proof.now
         (λ x. map SC.Val.canonical (SC.Challenge.coefficients x)) a.steps.items) }
-    ensures faults { let statement = stated A.declaration A.trees airs.now public_values.now
-        common.now in
-        IfOk result (λ a. AreNamed
-        (audit (⟦<SC as Settings>⟧.setting config.now) (⟦<SC as Settings>⟧.backend config.now)
-        statement proof.now) a.faults.items) }
+    ensures faults { IfOk result
+        (λ a. NamesFaults (⟦<SC as Settings>⟧.setting config.now)
+        (⟦<SC as Settings>⟧.backend config.now)
+        (stated A.declaration A.trees airs.now public_values.now common.now) proof.now
+        a.faults.items) }
 {
     let shape = batch_shape(
         alloc,
@@ -256,16 +244,16 @@ pub fn audit_batch<SC: StarkGenericConfig, A: Air<Val<SC>>>(
     common: &CommonData<SC>,
 ) -> Mem<BatchAudit<PcsError<SC>>>
     requires { WellFormed (map A.declaration airs.now) (read_common common.now) }
-    ensures steps { let statement = stated A.declaration A.trees airs.now public_values.now
-        common.now in
-        IfOk result (λ a. IsPlayedText (⟦<SC as Settings>⟧.setting config.now)
-        (⟦<SC as Settings>⟧.backend config.now) statement proof.now
+    ensures steps { IfOk result
+        (λ a. IsPlayedText (⟦<SC as Settings>⟧.setting config.now)
+        (⟦<SC as Settings>⟧.backend config.now)
+        (stated A.declaration A.trees airs.now public_values.now common.now) proof.now
         (λ x. map SC.Val.canonical (SC.Challenge.coefficients x)) a.steps.items) }
-    ensures faults { let statement = stated A.declaration A.trees airs.now public_values.now
-        common.now in
-        IfOk result (λ a. AreNamed
-        (audit (⟦<SC as Settings>⟧.setting config.now) (⟦<SC as Settings>⟧.backend config.now)
-        statement proof.now) a.faults.items) }
+    ensures faults { IfOk result
+        (λ a. NamesFaults (⟦<SC as Settings>⟧.setting config.now)
+        (⟦<SC as Settings>⟧.backend config.now)
+        (stated A.declaration A.trees airs.now public_values.now common.now) proof.now
+        a.faults.items) }
 {
     let mut faults = Vec::new(alloc);
     let bounds = shape_bounds(config);

@@ -2,10 +2,9 @@
 //! matrix was committed for its table's height.
 ghost use Rattle.std.specs.Prelude.{◌≡◌, ◌↔◌, ◌<◌, IsTrue, OnOk, All, Some, None, [], ◌∷◌, length, map};
 ghost use Rattle.std.specs.Prelude.{slice_index_or as get_or};
-ghost use Rattle.p3_field.specs.Poly.{tabulate};
 ghost use Rattle.batch_statement.specs.Statement.{WellFormed, read_common, stated};
 ghost use Rattle.batch_statement.specs.Words.{bits_at};
-ghost use Rattle.verifier_batch.specs.OpeningChecks.{log_chunks_of_table, HasShapeFor};
+ghost use Rattle.verifier_batch.specs.OpeningChecks.{HasShapeFor, AreLogChunks};
 ghost use Rattle.verifier_claims.specs.ClaimChecks.{HasDegreeBits, bits_listed, domain_by};
 ghost use Rattle.audit_batch.specs.Asked.{always, in_order, of_each};
 ghost use Rattle.audit_batch.specs.Audit.{parts_of};
@@ -116,14 +115,11 @@ pub(crate) fn name_claims<SC: StarkGenericConfig, A: Air<Val<SC>>>(
     chunks: &[usize],
 ) -> Mem<()>
     requires formed { WellFormed (map A.declaration airs.now) (read_common common.now) }
-    requires shape { let statement = stated A.declaration A.trees airs.now public_values.now
-        common.now in
-        HasShapeFor SC.Pcs.Error SC.Val.ring (⟦<SC as Settings>⟧.setting config.now) statement
-        proof.now }
-    requires chunks { let statement = stated A.declaration A.trees airs.now public_values.now
-        common.now in
-        chunks.now ≡ tabulate (length airs.now)
-        (log_chunks_of_table (⟦<SC as Settings>⟧.setting config.now) statement proof.now) }
+    requires shape { HasShapeFor SC.Pcs.Error SC.Val.ring (⟦<SC as Settings>⟧.setting config.now)
+        (stated A.declaration A.trees airs.now public_values.now common.now) proof.now }
+    requires chunks { AreLogChunks (⟦<SC as Settings>⟧.setting config.now)
+        (stated A.declaration A.trees airs.now public_values.now common.now) proof.now
+        (length airs.now) chunks.now }
     ensures { let statement = stated A.declaration A.trees airs.now public_values.now common.now in
         OnOk result (AreClaimsNamed
         (parts_of (⟦<SC as Settings>⟧.setting config.now) (⟦<SC as Settings>⟧.backend config.now)

@@ -1,11 +1,10 @@
 //! The checks of what a batch proof opens, where its script was folded.
 ghost use Rattle.std.specs.Prelude.{◌≡◌, count_by, length, map, OnOk};
-ghost use Rattle.p3_field.specs.Poly.{tabulate};
 ghost use Rattle.batch_statement.specs.Statement.{WellFormed, read_common, stated};
 ghost use Rattle.batch_statement.specs.Words.{has_some};
 ghost use Rattle.batch_statement.specs.declared.error.BatchVerificationError.TheVariants.{OutOfMemory};
 ghost use Rattle.verifier_batch.specs.BatchChecks.{drawn_of};
-ghost use Rattle.verifier_batch.specs.OpeningChecks.{log_chunks_of_table, HasShapeFor};
+ghost use Rattle.verifier_batch.specs.OpeningChecks.{HasShapeFor, AreLogChunks};
 ghost use Rattle.audit_script.specs.Steps.{draws_told};
 ghost use Rattle.audit_batch.specs.Audit.{parts_of};
 ghost use Rattle.audit_batch.specs.Opened.{AreOpened};
@@ -53,14 +52,11 @@ pub(crate) fn name_openings<SC: StarkGenericConfig, A: Air<Val<SC>>>(
     draws: ScriptDraws<Challenger<SC>, Challenge<SC>>,
 ) -> Mem<()>
     requires formed { WellFormed (map A.declaration airs.now) (read_common common.now) }
-    requires shape { let statement = stated A.declaration A.trees airs.now public_values.now
-        common.now in
-        HasShapeFor SC.Pcs.Error SC.Val.ring (⟦<SC as Settings>⟧.setting config.now) statement
-        proof.now }
-    requires chunks { let statement = stated A.declaration A.trees airs.now public_values.now
-        common.now in
-        chunks.now ≡ tabulate (length airs.now)
-        (log_chunks_of_table (⟦<SC as Settings>⟧.setting config.now) statement proof.now) }
+    requires shape { HasShapeFor SC.Pcs.Error SC.Val.ring (⟦<SC as Settings>⟧.setting config.now)
+        (stated A.declaration A.trees airs.now public_values.now common.now) proof.now }
+    requires chunks { AreLogChunks (⟦<SC as Settings>⟧.setting config.now)
+        (stated A.declaration A.trees airs.now public_values.now common.now) proof.now
+        (length airs.now) chunks.now }
     requires tables { tables ≡ count_by has_some (read_common common.now).lookups }
     requires draws { let statement = stated A.declaration A.trees airs.now public_values.now
         common.now in

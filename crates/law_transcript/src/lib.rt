@@ -9,17 +9,17 @@ ghost use Rattle.p3_field.specs.Ring.{Ring};
 ghost use Rattle.batch_transcript.specs.BatchScript.{BatchShapeData, Given};
 ghost use Rattle.batch_transcript.specs.Fits.{FitsShape};
 ghost use Rattle.plain_pcs.specs.Scheme.{PlainCommitmentData};
-ghost use Rattle.law_committed.specs.Batch.{IsUnluckyAlphaOfBatch, IsUnluckyZetaOfBatch};
 ghost use Rattle.batch_config.specs.Setting.{Setting};
 ghost use Rattle.batch_statement.specs.Proof.{ProofData};
 ghost use Rattle.batch_statement.specs.Statement.{Statement};
 ghost use Rattle.verifier_batch.specs.BatchChecks.{drawn_of};
-ghost use Rattle.law_soundness.specs.CommittedBatch.{committed_batch, committed_table_at};
+ghost use Rattle.law_soundness.specs.CommittedBatch.{committed_table_at};
 ghost use Rattle.law_balance.specs.Accepted.{messages_of_proof};
 ghost use Rattle.law_transcript.specs.Before.{AgreeBeforeAlpha, AgreeBeforePair, AgreeBeforeZeta, HaveOnePair};
 ghost use Rattle.p3_challenger.specs.Elements.{ElementChallenger, IsOverElements};
 ghost use Rattle.p3_challenger.specs.Script.{ChallengerOf};
 ghost use Rattle.law_transcript.specs.Elements.{PlaysByElements};
+ghost use Rattle.law_transcript.specs.Unlucky.{ShareUnluckyAlphas, ShareUnluckyZetas};
 ghost use Rattle.law_transcript.specs.Streams.{ArePlayedAlike, HaveSameParts, TellElements};
 
 /// Of two proofs of one statement, over any configuration, a draw is the same where they agree in what the script plays before it: the
@@ -51,15 +51,11 @@ pub fn unlucky_sets_come_from_before<S, F, E, Opening>()
     ensures alphas { (c : Setting S F E (PlainCommitmentData F)) (log_blowup : ℕ)
         (s : Statement F (PlainCommitmentData F))
         (p q : ProofData F E (PlainCommitmentData F) Opening) → AgreeBeforeAlpha p q
-        → (alpha : E) → IsUnluckyAlphaOfBatch c.field c.extension (committed_batch c log_blowup s p)
-        alpha
-        → IsUnluckyAlphaOfBatch c.field c.extension (committed_batch c log_blowup s q) alpha }
+        → ShareUnluckyAlphas c log_blowup s p q }
     ensures zetas { (c : Setting S F E (PlainCommitmentData F)) (log_blowup : ℕ)
         (s : Statement F (PlainCommitmentData F))
         (p q : ProofData F E (PlainCommitmentData F) Opening) → AgreeBeforeZeta p q
-        → (alpha zeta : E) → IsUnluckyZetaOfBatch c.field c.extension
-        (committed_batch c log_blowup s p) alpha zeta
-        → IsUnluckyZetaOfBatch c.field c.extension (committed_batch c log_blowup s q) alpha zeta }
+        → ShareUnluckyZetas c log_blowup s p q }
 {}
 
 /// What is played tells what it stands for: where two statements with parts of proofs, of one shape, are played by the same base elements, they are the same

@@ -8,6 +8,7 @@ use Rattle.p3_field.specs.Ring.{Ring}
 use Rattle.air_core.specs.Shape.{Declaration, width_of}
 use Rattle.commit_core.specs.Claims.{CommitmentClaim}
 use Rattle.p3_uni_stark.specs.declared.error.VerificationError.TheVariants.{InvalidOpeningArgument}
+use Rattle.batch_config.specs.Domains.{chunk_domains}
 use Rattle.batch_config.specs.Setting.{Setting, Backend, masks}
 use Rattle.batch_statement.specs.Proof.{ProofData}
 use Rattle.batch_statement.specs.Statement.{Statement, entry_of}
@@ -48,6 +49,14 @@ module _ {S F E C P : Type 0} (c : Setting S F E C) (s : Statement F C) (p : Pro
   -- the logarithm of the number of chunks of table i's quotient, before masking
   abbrev pub log_chunks_of_table : ℕ → ℕ
   log_chunks_of_table i = log_chunks_at c.field.ring (masks c) s.tables s.common.lookups p.degree_bits i
+
+  -- this list has those of n tables
+  abbrev pub AreLogChunks : (n : ℕ) → List ℕ → Type 0
+  AreLogChunks n chunks = chunks ≡ tabulate n log_chunks_of_table
+
+  -- the domains of the chunks of n tables' quotients
+  abbrev pub made_domains : (n : ℕ) → List (List (CosetData F))
+  made_domains n = tabulate n (λ i. chunk_domains c (bits_at p.degree_bits i) (log_chunks_of_table i))
 
   -- what the proof's claims are made of
   abbrev pub claimed : Claimed F E C

@@ -1,11 +1,8 @@
 //! All checks of what a batch proof opens.
 ghost use Rattle.std.specs.Prelude.{◌≡◌, ℕ, length, map, IfOk};
 ghost use Rattle.air_core.specs.Shape.{width_of};
-ghost use Rattle.p3_field.specs.Poly.{tabulate};
 ghost use Rattle.verifier_claims.specs.Claims.{claims};
-ghost use Rattle.batch_statement.specs.Words.{bits_at};
-ghost use Rattle.verifier_batch.specs.OpeningChecks.{claim_checks, claimed, log_chunks_of_table, opening_checks, HasShapeFor};
-ghost use Rattle.batch_config.specs.Domains.{chunk_domains};
+ghost use Rattle.verifier_batch.specs.OpeningChecks.{claim_checks, claimed, opening_checks, HasShapeFor, AreLogChunks, made_domains};
 ghost use Rattle.batch_statement.specs.Statement.{AirTable, WellFormed, read_common, stated};
 ghost use Rattle.batch_statement.specs.Verdict.{IsVerdict};
 
@@ -82,14 +79,11 @@ pub fn proof_claims<SC: StarkGenericConfig, A: Air<Val<SC>>>(
     zeta: Challenge<SC>,
 ) -> Result<OpeningArgumentWithQuotientDomains<SC>, BatchVerificationError<PcsError<SC>>>
     requires formed { WellFormed (map A.declaration airs.now) (read_common common.now) }
-    requires shape { let statement = stated A.declaration A.trees airs.now public_values.now
-        common.now in
-        HasShapeFor SC.Pcs.Error SC.Val.ring (⟦<SC as Settings>⟧.setting config.now) statement
-        proof.now }
-    requires chunks { let statement = stated A.declaration A.trees airs.now public_values.now
-        common.now in
-        chunks.now ≡ tabulate (length airs.now)
-        (log_chunks_of_table (⟦<SC as Settings>⟧.setting config.now) statement proof.now) }
+    requires shape { HasShapeFor SC.Pcs.Error SC.Val.ring (⟦<SC as Settings>⟧.setting config.now)
+        (stated A.declaration A.trees airs.now public_values.now common.now) proof.now }
+    requires chunks { AreLogChunks (⟦<SC as Settings>⟧.setting config.now)
+        (stated A.declaration A.trees airs.now public_values.now common.now) proof.now
+        (length airs.now) chunks.now }
     ensures verdict { let statement = stated A.declaration A.trees airs.now public_values.now
         common.now in
         IsVerdict (claim_checks (⟦<SC as Settings>⟧.setting config.now) statement proof.now)
@@ -97,12 +91,11 @@ pub fn proof_claims<SC: StarkGenericConfig, A: Air<Val<SC>>>(
     ensures claims { let setting = ⟦<SC as Settings>⟧.setting config.now in
         let statement = stated A.declaration A.trees airs.now public_values.now common.now in
         IfOk result (λ w. w.0.items ≡ claims setting (claimed setting statement proof.now) zeta) }
-    ensures domains { let setting = ⟦<SC as Settings>⟧.setting config.now in
-        let statement = stated A.declaration A.trees airs.now public_values.now common.now in
-        IfOk result (λ w. map (λ d. d.items) w.1.items
-        ≡ tabulate (length airs.now)
-        (λ i. chunk_domains setting (bits_at proof.now.degree_bits i)
-        (log_chunks_of_table setting statement proof.now i))) }
+    ensures domains { IfOk result
+        (λ w. map (λ d. d.items) w.1.items
+        ≡ made_domains (⟦<SC as Settings>⟧.setting config.now)
+        (stated A.declaration A.trees airs.now public_values.now common.now) proof.now
+        (length airs.now)) }
 {
     let widths = widths_of(alloc, airs)?;
     commitments_with_opening_points(
@@ -140,24 +133,20 @@ pub fn check_openings<SC: StarkGenericConfig, A: Air<Val<SC>>>(
     challenger: Challenger<SC>,
 ) -> Result<Vec<Vec<Domain<SC>>>, BatchVerificationError<PcsError<SC>>>
     requires formed { WellFormed (map A.declaration airs.now) (read_common common.now) }
-    requires shape { let statement = stated A.declaration A.trees airs.now public_values.now
-        common.now in
-        HasShapeFor SC.Pcs.Error SC.Val.ring (⟦<SC as Settings>⟧.setting config.now) statement
-        proof.now }
-    requires chunks { let statement = stated A.declaration A.trees airs.now public_values.now
-        common.now in
-        chunks.now ≡ tabulate (length airs.now)
-        (log_chunks_of_table (⟦<SC as Settings>⟧.setting config.now) statement proof.now) }
+    requires shape { HasShapeFor SC.Pcs.Error SC.Val.ring (⟦<SC as Settings>⟧.setting config.now)
+        (stated A.declaration A.trees airs.now public_values.now common.now) proof.now }
+    requires chunks { AreLogChunks (⟦<SC as Settings>⟧.setting config.now)
+        (stated A.declaration A.trees airs.now public_values.now common.now) proof.now
+        (length airs.now) chunks.now }
     ensures verdict { let statement = stated A.declaration A.trees airs.now public_values.now
         common.now in
         IsVerdict (opening_checks (⟦<SC as Settings>⟧.setting config.now)
         (⟦<SC as Settings>⟧.backend config.now) statement proof.now zeta challenger) result }
-    ensures domains { let setting = ⟦<SC as Settings>⟧.setting config.now in
-        let statement = stated A.declaration A.trees airs.now public_values.now common.now in
-        IfOk result (λ v. map (λ d. d.items) v.items
-        ≡ tabulate (length airs.now)
-        (λ i. chunk_domains setting (bits_at proof.now.degree_bits i)
-        (log_chunks_of_table setting statement proof.now i))) }
+    ensures domains { IfOk result
+        (λ v. map (λ d. d.items) v.items
+        ≡ made_domains (⟦<SC as Settings>⟧.setting config.now)
+        (stated A.declaration A.trees airs.now public_values.now common.now) proof.now
+        (length airs.now)) }
 {
     let (claims, domains, place) = proof_claims(
         alloc,

@@ -3,8 +3,7 @@ ghost use Rattle.std.specs.Prelude.{◌≡◌, ℕ, ◌+◌, ◌<◌, ◌≤◌,
 ghost use Rattle.p3_field.specs.Checks.{in_turn};
 ghost use Rattle.p3_field.specs.Poly.{tabulate};
 ghost use Rattle.batch_statement.specs.Words.{bits_at};
-ghost use Rattle.verifier_batch.specs.OpeningChecks.{shape_bounds_of, log_chunks_of_table, HasShapeFor};
-ghost use Rattle.batch_config.specs.Domains.{chunk_domains};
+ghost use Rattle.verifier_batch.specs.OpeningChecks.{shape_bounds_of, log_chunks_of_table, HasShapeFor, AreLogChunks, made_domains};
 ghost use Rattle.batch_config.specs.Setting.{masks as masks_of};
 ghost use Rattle.verifier_shape.specs.ShapeChecks.{bounds_with, shape_checks, HasRightCounts};
 ghost use Rattle.batch_statement.specs.Statement.{WellFormed, read_common, stated};
@@ -61,10 +60,10 @@ pub(crate) fn check_batch_shape<SC: StarkGenericConfig, A: Air<Val<SC>>>(
     ensures verdict { IsVerdict
         (shape_checks SC.Val.ring (shape_bounds_of (⟦<SC as Settings>⟧.setting config.now))
         (stated A.declaration A.trees airs.now public_values.now common.now) proof.now) result }
-    ensures chunks { let s = stated A.declaration A.trees airs.now public_values.now common.now in
-        IfOk result (λ v. v.items
-        ≡ tabulate (length airs.now)
-        (log_chunks_of_table (⟦<SC as Settings>⟧.setting config.now) s proof.now)) }
+    ensures chunks { IfOk result
+        (λ v. AreLogChunks (⟦<SC as Settings>⟧.setting config.now)
+        (stated A.declaration A.trees airs.now public_values.now common.now) proof.now
+        (length airs.now) v.items) }
     ensures memory { IfErr result (λ e. e ≡ BatchVerificationError.OutOfMemory
         → HasRightCounts SC.Pcs.Error SC.Pcs.ZK
         (stated A.declaration A.trees airs.now public_values.now common.now) proof.now) }
@@ -142,12 +141,10 @@ pub(crate) fn check_batch_identities<SC: StarkGenericConfig, A: Air<Val<SC>>>(
         map (λ v. v.items) challenges.now
         ≡ tabulate (length airs.now)
         (table_challenges_of (⟦<SC as Settings>⟧.setting config.now) s proof.now) }
-    requires domains { let c = ⟦<SC as Settings>⟧.setting config.now in
-        let s = stated A.declaration A.trees airs.now public_values.now common.now in
-        map (λ v. v.items) domains.now
-        ≡ tabulate (length airs.now)
-        (λ i. chunk_domains c (bits_at proof.now.degree_bits i)
-        (log_chunks_of_table c s proof.now i)) }
+    requires domains { map (λ v. v.items) domains.now
+        ≡ made_domains (⟦<SC as Settings>⟧.setting config.now)
+        (stated A.declaration A.trees airs.now public_values.now common.now) proof.now
+        (length airs.now) }
     requires fits { let s = stated A.declaration A.trees airs.now public_values.now common.now in
         (i : ℕ) → i < length airs.now
         → bits_at proof.now.degree_bits i
