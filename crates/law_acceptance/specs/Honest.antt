@@ -1,12 +1,17 @@
 -- When an honest proof is accepted.
 use Rattle.std.specs.Prelude.{ℕ, ◌+◌, ◌*◌, ◌^◌, ◌<◌, List, length, All}
-use Rattle.p3_field.specs.Domain.{subgroup}
+use Rattle.p3_field.specs.Domain.{CosetData, subgroup}
 use Rattle.p3_matrix.specs.Matrix.{Rows}
 use Rattle.air_core.specs.Shape.{HasColumns, ReadsDeclared, declared_shape}
 use Rattle.verifier_identity.specs.Identity.{IsInDomain}
 use Rattle.batch_config.specs.Setting.{Setting}
 use Rattle.batch_statement.specs.Statement.{Statement}
+use Rattle.law_honest.specs.HonestProof.{Prover}
 use Rattle.law_valid.specs.Traced.{TracedTable, declared, log_parts, log_rows, traced_at}
+
+-- the prover with these inverses in the extension, these canonical numbers of values, and these commitments
+abbrev pub prover_with : {F E C : Type 0} → (E → E) → (F → ℕ) → (List (CosetData F × Rows F) → C) → Prover F E C
+prover_with inverse canonical commitment_of = record { inverse = inverse; canonical = canonical; commitment_of = commitment_of }
 
 -- A table is regular: a preprocessed trace has a column, and the AIR's constraints read declared cells alone, as each AIR's do. For n rows and
 -- a quotient of C chunks n (C + 1) is below 2^64, as it is where n is below 2^63.

@@ -8,8 +8,8 @@ ghost use Rattle.batch_statement.specs.Statement.{Common, Statement, tables_of};
 ghost use Rattle.verifier_batch.specs.BatchChecks.{Accepted};
 ghost use Rattle.law_valid.specs.Traced.{traced_at};
 ghost use Rattle.law_valid.specs.Valid.{IsTracedBatch, Valid};
-ghost use Rattle.law_honest.specs.HonestProof.{IsHonest, Prover, zeta};
-ghost use Rattle.law_acceptance.specs.Honest.{HaveFewRows, IsOutsideRows};
+ghost use Rattle.law_honest.specs.HonestProof.{IsHonest, zeta};
+ghost use Rattle.law_acceptance.specs.Honest.{HaveFewRows, IsOutsideRows, prover_with};
 
 use air_core::{Air, BaseAir};
 use batch_config::Settings;
@@ -31,12 +31,7 @@ pub fn honest_proofs_are_accepted<SC: StarkGenericConfig, A: Air<Val<SC>>>()
         (commitment_of : List (CosetData SC.Val × Rows SC.Val) → SC.Pcs.Commitment)
         (q : ProofData SC.Val SC.Challenge SC.Pcs.Commitment SC.Pcs.Proof)
         → let c = ⟦<SC as Settings>⟧.setting config in
-        let p : Prover SC.Val SC.Challenge
-        SC.Pcs.Commitment = record {
-          inverse = SC.Challenge.inv;
-          canonical = SC.Val.canonical;
-          commitment_of = commitment_of;
-        } in
+        let p = prover_with SC.Challenge.inv SC.Val.canonical commitment_of in
         let s : Statement SC.Val
         SC.Pcs.Commitment = record {
           tables = tables_of A.declaration A.trees airs;

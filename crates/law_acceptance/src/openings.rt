@@ -10,7 +10,8 @@ ghost use Rattle.commit_core.specs.Commitments.{AreCommitted, AreOpenedCommitmen
 ghost use Rattle.batch_statement.specs.Statement.{Statement};
 ghost use Rattle.law_valid.specs.Traced.{TracedTable, all_traced, declared, preprocessed_matrices, traced_at};
 ghost use Rattle.law_valid.specs.Valid.{IsTracedBatch};
-ghost use Rattle.law_honest.specs.HonestProof.{Prover, alpha, challenges_at, chunk_matrices, honest_claims, opening_state, permutation_matrices};
+ghost use Rattle.law_honest.specs.HonestProof.{alpha, challenges_at, chunk_matrices, honest_claims, opening_state, permutation_matrices};
+ghost use Rattle.law_acceptance.specs.Honest.{prover_with};
 ghost use Rattle.law_acceptance.specs.Rounds.{AskFor, chunks, committed_of, opened_commitments_of, honest_rounds, mains, permutations, preprocesseds, values_in_rounds};
 
 use batch_config::Settings;
@@ -31,12 +32,7 @@ pub fn honest_matrices_are_committed<SC: StarkGenericConfig>()
         (commitment_of : List (CosetData SC.Val × Rows SC.Val) → SC.Pcs.Commitment)
         (w : Option SC.Val) (z : SC.Val) (held : List (Committed SC.Val))
         → let c = ⟦<SC as Settings>⟧.setting config in
-        let p : Prover SC.Val SC.Challenge
-        SC.Pcs.Commitment = record {
-          inverse = SC.Challenge.inv;
-          canonical = SC.Val.canonical;
-          commitment_of = commitment_of;
-        } in
+        let p = prover_with SC.Challenge.inv SC.Val.canonical commitment_of in
         SC.Pcs.ZK ≡ false → IsTracedBatch c commitment_of s traces degree_bits
         → AreCommitted SC.Val.ring
         ⟦<<SC::Pcs as Pcs<SC::Challenge, SC::Challenger>>::Domain as PolynomialSpace>⟧.points
@@ -49,12 +45,7 @@ pub fn honest_matrices_are_committed<SC: StarkGenericConfig>()
         (commitment_of : List (CosetData SC.Val × Rows SC.Val) → SC.Pcs.Commitment)
         (w : Option SC.Val) (z : SC.Val) (held : List (Committed SC.Val))
         → let c = ⟦<SC as Settings>⟧.setting config in
-        let p : Prover SC.Val SC.Challenge
-        SC.Pcs.Commitment = record {
-          inverse = SC.Challenge.inv;
-          canonical = SC.Val.canonical;
-          commitment_of = commitment_of;
-        } in
+        let p = prover_with SC.Challenge.inv SC.Val.canonical commitment_of in
         SC.Pcs.ZK ≡ false → IsTracedBatch c commitment_of s traces degree_bits
         → AreCommitted SC.Val.ring
         ⟦<<SC::Pcs as Pcs<SC::Challenge, SC::Challenger>>::Domain as PolynomialSpace>⟧.points
@@ -68,12 +59,7 @@ pub fn honest_matrices_are_committed<SC: StarkGenericConfig>()
         (commitment_of : List (CosetData SC.Val × Rows SC.Val) → SC.Pcs.Commitment)
         (w : Option SC.Val) (z : SC.Val) (held : List (Committed SC.Val))
         → let c = ⟦<SC as Settings>⟧.setting config in
-        let p : Prover SC.Val SC.Challenge
-        SC.Pcs.Commitment = record {
-          inverse = SC.Challenge.inv;
-          canonical = SC.Val.canonical;
-          commitment_of = commitment_of;
-        } in
+        let p = prover_with SC.Challenge.inv SC.Val.canonical commitment_of in
         SC.Pcs.ZK ≡ false → IsTracedBatch c commitment_of s traces degree_bits
         → AreCommitted SC.Val.ring
         ⟦<<SC::Pcs as Pcs<SC::Challenge, SC::Challenger>>::Domain as PolynomialSpace>⟧.points
@@ -86,12 +72,7 @@ pub fn honest_matrices_are_committed<SC: StarkGenericConfig>()
         (commitment_of : List (CosetData SC.Val × Rows SC.Val) → SC.Pcs.Commitment)
         (w : Option SC.Val) (z : SC.Val) (held : List (Committed SC.Val))
         → let c = ⟦<SC as Settings>⟧.setting config in
-        let p : Prover SC.Val SC.Challenge
-        SC.Pcs.Commitment = record {
-          inverse = SC.Challenge.inv;
-          canonical = SC.Val.canonical;
-          commitment_of = commitment_of;
-        } in
+        let p = prover_with SC.Challenge.inv SC.Val.canonical commitment_of in
         SC.Pcs.ZK ≡ false → IsTracedBatch c commitment_of s traces degree_bits
         → ((i : ℕ) → i < length s.tables
         → HasColumns (declared (traced_at s traces degree_bits i)).preprocessed)
@@ -114,12 +95,7 @@ pub fn an_honest_opening_is_taken<SC: StarkGenericConfig>()
         (requests : List (Request SC.Pcs.ProverData SC.Challenge))
         (values : List (List (List (List SC.Challenge)))) (proof : SC.Pcs.Proof)
         → let c = ⟦<SC as Settings>⟧.setting config in
-        let p : Prover SC.Val SC.Challenge
-        SC.Pcs.Commitment = record {
-          inverse = SC.Challenge.inv;
-          canonical = SC.Val.canonical;
-          commitment_of = commitment_of;
-        } in
+        let p = prover_with SC.Challenge.inv SC.Val.canonical commitment_of in
         SC.Pcs.ZK ≡ false → IsTracedBatch c commitment_of s traces degree_bits
         → AskFor (honest_rounds c p s traces degree_bits w z) requests
         → AreOpenedCommitments (SC.Pcs.holds (SC.pcs_of config)) requests
@@ -141,12 +117,7 @@ pub fn an_honest_opening_is_taken<SC: StarkGenericConfig>()
         (requests : List (Request SC.Pcs.ProverData SC.Challenge))
         (values : List (List (List (List SC.Challenge)))) (proof : SC.Pcs.Proof)
         → let c = ⟦<SC as Settings>⟧.setting config in
-        let p : Prover SC.Val SC.Challenge
-        SC.Pcs.Commitment = record {
-          inverse = SC.Challenge.inv;
-          canonical = SC.Val.canonical;
-          commitment_of = commitment_of;
-        } in
+        let p = prover_with SC.Challenge.inv SC.Val.canonical commitment_of in
         SC.Pcs.ZK ≡ false → IsTracedBatch c commitment_of s traces degree_bits
         → AskFor (honest_rounds c p s traces degree_bits w z) requests
         → AreOpenedCommitments (SC.Pcs.holds (SC.pcs_of config)) requests

@@ -1,6 +1,7 @@
 -- What a prover of a batch asks its backend to open: the points of each round's matrices, table by table. After Plonky3's p3-batch-stark (prove_batch).
 use Rattle.std.specs.Prelude.{slice_index_or as get_or}
-use Rattle.std.specs.Prelude.{ℕ, ◌^◌, List, [], ◌∷◌, ◌++◌, length, map, Option, None, Some, option_to_list}
+use Rattle.std.specs.Prelude.{ℕ, ◌^◌, List, [], ◌∷◌, ◌++◌, length, map, Option, None, Some, option_map, option_to_list}
+use Rattle.std.specs.Borrow.{Bor}
 use Rattle.std.specs.List.{flat_map}
 use Rattle.p3_field.specs.Poly.{tabulate}
 use Rattle.air_core.specs.Shape.{Declaration}
@@ -22,6 +23,15 @@ pub record RoundsProverData (D : Type 0) : Type 0 where
   pub quotient : D
   pub preprocessed : Option D
   pub permutation : Option D
+
+-- the same where the last two stand behind references
+abbrev pub kept_of : {D : Type 0} → (main quotient : D) → (preprocessed permutation : Option (Bor D)) → RoundsProverData D
+kept_of {D = D} main quotient preprocessed permutation = record {
+  main = main;
+  quotient = quotient;
+  preprocessed = option_map (λ (d : Bor D). d.now) preprocessed;
+  permutation = option_map (λ (d : Bor D). d.now) permutation;
+}
 
 -- what the points depend on: what the tables declare, the common data, the degree bits, and the numbers of the quotients' chunks
 pub record Plan (F C : Type 0) : Type 0 where

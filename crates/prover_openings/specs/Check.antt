@@ -1,17 +1,20 @@
 -- The check that a batch is opened, and what a prover has before it.
 use Rattle.std.specs.Prelude.{◌≡◌, ◌⊎◌, List, [], ◌∷◌, Option, None, Some, Result, IfErr}
+use Rattle.p3_field.specs.Poly.{tabulate}
 use Rattle.p3_field.specs.Checks.{Check}
 use Rattle.p3_field.specs.Domain.{CosetData}
 use Rattle.p3_matrix.specs.Matrix.{Rows}
+use Rattle.commit_core.specs.Claims.{CommitmentClaim, Request}
 use Rattle.commit_core.specs.Failure.{NoneOf}
 use Rattle.prover_answer.specs.Backend.{ProverBackend}
-use Rattle.prover_answer.specs.Batch.{Batch, all_chunks, all_permutations, main_matrices}
-use Rattle.prover_answer.specs.Proving.{AreAsked, IsGroundOf, IsPcsRefusal}
+use Rattle.prover_answer.specs.Batch.{Batch, all_chunks, all_permutations, main_matrices, table_at, table_count}
+use Rattle.prover_answer.specs.Proving.{AreAsked, AvoidsExcluded, IsGroundOf, IsPcsRefusal}
 use Rattle.prover_answer.specs.Verdict.{IsProverVerdict}
 use Rattle.prover_answer.specs.declared.error.ProvingError.{ProvingError}
 use Rattle.prover_answer.specs.declared.error.ProvingError.TheVariants.{OutOfMemory}
+use Rattle.batch_statement.specs.Proof.{OpenedWithLookups}
 use Rattle.batch_setup.specs.declared.error.ProverPhase.TheVariants.{Opening}
-use Rattle.law_honest.specs.HonestProof.{honest_main_commitment, opening_state, honest_permutation_commitment, honest_quotient_commitment, zeta}
+use Rattle.law_honest.specs.HonestProof.{alpha, challenges_at, honest_claims, honest_main_commitment, opened_of, opening_state, honest_permutation_commitment, honest_quotient_commitment, zeta}
 use Rattle.prover_openings.specs.Asked.{RoundsProverData, asked_of}
 
 -- both are there, and in the relation, or neither is
@@ -28,6 +31,33 @@ IsOpenedBy faults result = IsProverVerdict (record { refusal = IsPcsRefusal Open
 -- an error but out of memory leaves a state as it was
 abbrev pub KeepsState : {T R S : Type 0} → Result T (ProvingError R) → (new old : S) → Type 0
 KeepsState result new old = IfErr result (λ e. e ≡ OutOfMemory ⊎ new ≡ old)
+
+module _ {S F E C : Type 0} (b : Batch S F E C) where
+  -- for all grinding values that pass, what is opened of the tables is what an honest proof opens
+  abbrev pub AreOpenedAll : List (OpenedWithLookups E) → Type 0
+  AreOpenedAll opened =
+      (w : Option F) (z : F) → IsGroundOf b w z
+      → opened ≡ tabulate (table_count b)
+      (λ i. opened_of b.setting b.prover (table_at b i) (challenges_at b.setting b.prover b.statement b.traces b.degree_bits w i) (alpha b.setting b.prover b.statement b.traces b.degree_bits w)
+      (zeta b.setting b.prover b.statement b.traces b.degree_bits w z))
+
+  -- and a state is that after the requests of an honest prover, by this function, from the state in which it opens
+  abbrev pub IsLeftAfter : {D P : Type 0} → RoundsProverData D → (after_open : S → List (Request D E) → P → S) → S → P → Type 0
+  IsLeftAfter kept after_open state opening =
+      (w : Option F) (z : F) → IsGroundOf b w z → state ≡ after_open (opening_state b.setting b.prover b.statement b.traces b.degree_bits w z) (asked_of b kept w z) opening
+
+module _ {S F E C D P R : Type 0} (k : ProverBackend S F E C D P R) (b : Batch S F E C) where
+  -- and the backend takes the proof for the claims of an honest proof, unless a point is excluded
+  abbrev pub IsTakenForAll : (opens : S → List (CommitmentClaim E C (CosetData F)) → P → Type 0) → P → Type 0
+  IsTakenForAll opens opening =
+      (w : Option F) (z : F) → IsGroundOf b w z → AvoidsExcluded k b w z
+      → opens (opening_state b.setting b.prover b.statement b.traces b.degree_bits w z) (honest_claims b.setting b.prover b.statement b.traces b.degree_bits w z opening) opening
+
+  -- and the requests are those of an honest prover, and the proof is what the backend gives for them
+  abbrev pub IsProofOfAsked : RoundsProverData D → (proves : S → List (Request D E) → P → Type 0) → P → Type 0
+  IsProofOfAsked kept proves opening =
+      (w : Option F) (z : F) → IsGroundOf b w z
+      → AreAsked k b w z (asked_of b kept w z) × proves (opening_state b.setting b.prover b.statement b.traces b.degree_bits w z) (asked_of b kept w z) opening
 
 module _ {S F E C D P R : Type 0} (k : ProverBackend S F E C D P R) (b : Batch S F E C) (kept : RoundsProverData D) where
   -- The check that what is asked, of these prover data, is opened. It is what an honest prover asks, and the backend has no cause to refuse it, or the refusal

@@ -1,13 +1,11 @@
 //! The openings of a batch.
-ghost use Rattle.std.specs.Prelude.{◌≡◌, ℕ, ◌^◌, false, List, Option, All, IfOk, map, option_map};
+ghost use Rattle.std.specs.Prelude.{◌≡◌, ◌^◌, false, List, All, IfOk, option_map};
 ghost use Rattle.p3_field.specs.Poly.{tabulate};
 ghost use Rattle.commit_core.specs.Commitments.{AreOpenedCommitments, OpenedCommitment, IsOpening, nested};
-ghost use Rattle.prover_answer.specs.Batch.{HasProverData, IsTracedAll, batch_of, log_parts_at, preprocessed_all, table_at, table_count};
-ghost use Rattle.prover_answer.specs.Proving.{AreAsked, AvoidsExcluded, IsGroundOf};
+ghost use Rattle.prover_answer.specs.Batch.{HasProverData, IsTracedAll, batch_of, log_parts_at, preprocessed_all, table_count};
 ghost use Rattle.prover_answer.specs.Verdict.{IsProverVerdict};
-ghost use Rattle.law_honest.specs.HonestProof.{alpha, challenges_at, honest_claims, opened_of, opening_state, zeta as honest_zeta};
-ghost use Rattle.prover_openings.specs.Asked.{asked_of};
-ghost use Rattle.prover_openings.specs.Check.{IsOpenedBy, IsReady, KeepsState, opening_request_checks};
+ghost use Rattle.prover_openings.specs.Asked.{kept_of};
+ghost use Rattle.prover_openings.specs.Check.{AreOpenedAll, IsLeftAfter, IsOpenedBy, IsProofOfAsked, IsReady, IsTakenForAll, KeepsState, opening_request_checks};
 
 use crate::requests::all_requests;
 use crate::tables::opened_tables;
@@ -118,73 +116,37 @@ pub(crate) fn open_counted<SC: StarkGenericConfig, A: Air<Val<SC>>>(
         (⟦<SC as ProverSettings>⟧.prover config.now) A.declaration A.trees instances.now
         common.now in
         let k = ⟦<SC as ProverSettings>⟧.prover_backend config.now in
-        IsReady k b (record {
-          main = main.now;
-          quotient = quotient.now;
-          preprocessed = option_map (λ d. d.now) preprocessed;
-          permutation = option_map (λ d. d.now) permutation;
-        }) (⟦<SC as ProverSettings>⟧.commits_to config.now) zeta challenger.old }
+        IsReady k b (kept_of main.now quotient.now preprocessed permutation)
+        (⟦<SC as ProverSettings>⟧.commits_to config.now) zeta challenger.old }
     ensures verdict { let b = batch_of (⟦<SC as Settings>⟧.setting config.now)
         (⟦<SC as ProverSettings>⟧.prover config.now) A.declaration A.trees instances.now
         common.now in
         let k = ⟦<SC as ProverSettings>⟧.prover_backend config.now in
         IsProverVerdict (opening_request_checks k b
-        (record {
-          main = main.now;
-          quotient = quotient.now;
-          preprocessed = option_map (λ d. d.now) preprocessed.entry;
-          permutation = option_map (λ d. d.now) permutation.entry;
-        })) result }
+        (kept_of main.now quotient.now preprocessed.entry permutation.entry)) result }
     ensures opened { let b = batch_of (⟦<SC as Settings>⟧.setting config.now)
         (⟦<SC as ProverSettings>⟧.prover config.now) A.declaration A.trees instances.now
         common.now in
-        IfOk result (λ r. (w : Option SC.Val) (z : SC.Val) → IsGroundOf b w z
-        → r.0.items ≡ tabulate (table_count b)
-        (λ i. opened_of b.setting b.prover (table_at b i)
-        (challenges_at b.setting b.prover b.statement b.traces b.degree_bits w i)
-        (alpha b.setting b.prover b.statement b.traces b.degree_bits w)
-        (honest_zeta b.setting b.prover b.statement b.traces b.degree_bits w z))) }
+        IfOk result (λ r. AreOpenedAll b r.0.items) }
     ensures proves { let b = batch_of (⟦<SC as Settings>⟧.setting config.now)
         (⟦<SC as ProverSettings>⟧.prover config.now) A.declaration A.trees instances.now
         common.now in
         let k = ⟦<SC as ProverSettings>⟧.prover_backend config.now in
-        IfOk result (λ r. (w : Option SC.Val) (z : SC.Val) → IsGroundOf b w z
-        → AreAsked k b w z (asked_of b (record {
-          main = main.now;
-          quotient = quotient.now;
-          preprocessed = option_map (λ d. d.now) preprocessed.entry;
-          permutation = option_map (λ d. d.now) permutation.entry;
-        }) w z)
-        × SC.Pcs.proves (SC.pcs_of config.now)
-        (opening_state b.setting b.prover b.statement b.traces b.degree_bits w z)
-        (asked_of b (record {
-          main = main.now;
-          quotient = quotient.now;
-          preprocessed = option_map (λ d. d.now) preprocessed.entry;
-          permutation = option_map (λ d. d.now) permutation.entry;
-        }) w z) r.1) }
+        IfOk result (λ r. IsProofOfAsked k b
+        (kept_of main.now quotient.now preprocessed.entry permutation.entry)
+        (SC.Pcs.proves (SC.pcs_of config.now)) r.1) }
     ensures unchanged { KeepsState result challenger.new challenger.old }
     ensures after { let b = batch_of (⟦<SC as Settings>⟧.setting config.now)
         (⟦<SC as ProverSettings>⟧.prover config.now) A.declaration A.trees instances.now
         common.now in
-        IfOk result (λ r. (w : Option SC.Val) (z : SC.Val) → IsGroundOf b w z
-        → challenger.new ≡ SC.Pcs.after_open (SC.pcs_of config.now)
-        (opening_state b.setting b.prover b.statement b.traces b.degree_bits w z)
-        (asked_of b (record {
-          main = main.now;
-          quotient = quotient.now;
-          preprocessed = option_map (λ d. d.now) preprocessed.entry;
-          permutation = option_map (λ d. d.now) permutation.entry;
-        }) w z) r.1) }
+        IfOk result (λ r. IsLeftAfter b
+        (kept_of main.now quotient.now preprocessed.entry permutation.entry)
+        (SC.Pcs.after_open (SC.pcs_of config.now)) challenger.new r.1) }
     ensures taken { let b = batch_of (⟦<SC as Settings>⟧.setting config.now)
         (⟦<SC as ProverSettings>⟧.prover config.now) A.declaration A.trees instances.now
         common.now in
         let k = ⟦<SC as ProverSettings>⟧.prover_backend config.now in
-        IfOk result (λ r. (w : Option SC.Val) (z : SC.Val) → IsGroundOf b w z
-        → AvoidsExcluded k b w z
-        → SC.Pcs.opens (SC.pcs_of config.now)
-        (opening_state b.setting b.prover b.statement b.traces b.degree_bits w z)
-        (honest_claims b.setting b.prover b.statement b.traces b.degree_bits w z r.1) r.1) }
+        IfOk result (λ r. IsTakenForAll k b (SC.Pcs.opens (SC.pcs_of config.now)) r.1) }
 {
     let masks = config.is_zk();
     let requests = all_requests(
