@@ -1,3 +1,4 @@
+pub mod Fields
 pub mod Evaluations
 pub mod QuotientRows
 pub mod Chunks

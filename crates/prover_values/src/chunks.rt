@@ -1,12 +1,13 @@
 //! The chunks of a quotient by its values.
 ghost use Rattle.std.specs.Prelude.{◌≡◌, ℕ, ◌+◌, ◌^◌, ◌≤◌, List, IfOk, length};
 ghost use Rattle.std.specs.Int.{IsPowerOfTwo};
-ghost use Rattle.p3_field.specs.Field.{TwoAdic, Extension};
+ghost use Rattle.p3_field.specs.Field.{Extension};
 ghost use Rattle.air_core.specs.Tree.{Tree};
 ghost use Rattle.commit_core.specs.Space.{EachOf};
 ghost use Rattle.law_committed.specs.Committed.{CommittedTable};
 ghost use Rattle.prover_values.specs.Chunks.{IsChunk};
 ghost use Rattle.prover_values.specs.Evaluations.{quotient_values_on};
+ghost use Rattle.prover_values.specs.Fields.{two_adic_by, extension_by};
 
 use commit_core::{PolynomialSpace, paired};
 use p3_field::{
@@ -31,19 +32,12 @@ pub fn quotient_chunks<F: TwoAdicField, E: ExtensionField<F>>(
     requires power { IsPowerOfTwo num_chunks }
     requires fits { num_chunks ≤ 2 ^ quotient_domain.log_size }
     requires count { length values.now ≡ 2 ^ quotient_domain.log_size }
-    ensures { let f : TwoAdic
-        F = record { ring = F.ring; inv = F.inv; root = F.root; generator = F.GENERATOR } in
-        let e : Extension F E = record {
-          ring = E.ring;
-          embed = E.embed;
-          dimension = E.DIMENSION;
-          basis = E.basis;
-          coefficients = E.coefficients;
-          from_coefficients = E.from_coefficients;
-        } in
-        IfOk result (λ v. (t : CommittedTable F E) (trees : List (Tree F)) (alpha : E)
-        (log_chunks : ℕ) → num_chunks ≡ 2 ^ log_chunks
-        → quotient_domain.log_size ≡ t.log_height + log_chunks
+    ensures { let f = two_adic_by F.ring F.inv F.root F.GENERATOR in
+        let e : Extension F E = extension_by E.ring E.embed E.DIMENSION E.basis E.coefficients
+        E.from_coefficients in
+        IfOk result
+        (λ v. (t : CommittedTable F E) (trees : List (Tree F)) (alpha : E) (log_chunks : ℕ)
+        → num_chunks ≡ 2 ^ log_chunks → quotient_domain.log_size ≡ t.log_height + log_chunks
         → values.now ≡ quotient_values_on f e t trees alpha quotient_domain
         → EachOf (2 ^ log_chunks) v.items
         (IsChunk f e t quotient_domain.shift log_chunks trees alpha)) }

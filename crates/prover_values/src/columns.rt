@@ -1,9 +1,10 @@
 //! Permutation columns from their flattened ones, and the periodic columns' values row by row.
-ghost use Rattle.std.specs.Prelude.{◌≡◌, ◌*◌, ◌%◌, ◌<◌, IfOk, IfSome};
+ghost use Rattle.std.specs.Prelude.{◌≡◌, ◌*◌, ◌<◌, IfOk, IfSome};
 ghost use Rattle.std.specs.Option.{option_map};
 ghost use Rattle.p3_field.specs.Field.{Extension};
 ghost use Rattle.p3_matrix.specs.Matrix.{height};
 ghost use Rattle.law_committed.specs.Rows.{flattened_matrix};
+ghost use Rattle.prover_values.specs.Fields.{extension_by};
 ghost use Rattle.prover_values.specs.QuotientRows.{periodic_at};
 
 use commit_core::PeriodicLdeTable;
@@ -20,15 +21,8 @@ fn recombined_matrix<F: Field, E: ExtensionField<F>>(
     columns: usize,
 ) -> Mem<RowMajorMatrix<E>>
     requires { flattened.now.width ≡ columns * E.DIMENSION }
-    ensures { let e : Extension F
-        E = record {
-          ring = E.ring;
-          embed = E.embed;
-          dimension = E.DIMENSION;
-          basis = E.basis;
-          coefficients = E.coefficients;
-          from_coefficients = E.from_coefficients;
-        } in
+    ensures { let e : Extension F E = extension_by E.ring E.embed E.DIMENSION E.basis E.coefficients
+        E.from_coefficients in
         IfOk result (λ m. flattened.now ≡ flattened_matrix e m) }
 {
     let values = E::reconstitute_from_base(alloc, flattened.as_slice())?;
@@ -42,17 +36,10 @@ pub(crate) fn recombined_columns<F: Field, E: ExtensionField<F>>(
     columns: usize,
 ) -> Mem<Option<RowMajorMatrix<E>>>
     requires { IfSome flattened (λ m. m.now.width ≡ columns * E.DIMENSION) }
-    ensures { let e : Extension F
-        E = record {
-          ring = E.ring;
-          embed = E.embed;
-          dimension = E.DIMENSION;
-          basis = E.basis;
-          coefficients = E.coefficients;
-          from_coefficients = E.from_coefficients;
-        } in
-        IfOk result (λ p. option_map (λ m. m.now) flattened.entry
-        ≡ option_map (flattened_matrix e) p) }
+    ensures { let e : Extension F E = extension_by E.ring E.embed E.DIMENSION E.basis E.coefficients
+        E.from_coefficients in
+        IfOk result
+        (λ p. option_map (λ m. m.now) flattened.entry ≡ option_map (flattened_matrix e) p) }
 {
     match flattened {
         Some(m) => {

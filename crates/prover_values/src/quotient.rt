@@ -1,7 +1,7 @@
 //! The fold of a table's constraints at each point of the quotient domain, over the vanishing polynomial's value there.
-ghost use Rattle.std.specs.Prelude.{◌≡◌, ℕ, ◌-◌, ◌*◌, ◌^◌, ◌<◌, ◌≤◌, List, All, IfOk, IfSome, length};
+ghost use Rattle.std.specs.Prelude.{◌≡◌, ◌-◌, ◌*◌, ◌^◌, ◌<◌, ◌≤◌, All, IfOk, IfSome, length};
 ghost use Rattle.std.specs.Option.{option_map};
-ghost use Rattle.p3_field.specs.Field.{TwoAdic, Extension};
+ghost use Rattle.p3_field.specs.Field.{Extension};
 ghost use Rattle.p3_field.specs.Domain.{point};
 ghost use Rattle.p3_matrix.specs.Matrix.{height};
 ghost use Rattle.air_core.specs.Layout.{layout_of};
@@ -14,7 +14,8 @@ ghost use Rattle.law_committed.specs.Committed.{CommittedTable};
 ghost use Rattle.law_committed.specs.Rows.{flattened_matrix};
 ghost use Rattle.prover_folder.specs.FolderState.{given_with};
 ghost use Rattle.prover_values.specs.Evaluations.{Evaluations, IsReadOn, quotient_values_on};
-ghost use Rattle.prover_values.specs.QuotientRows.{QuotientRows, given_at, periodic_at, permutation_column_count};
+ghost use Rattle.prover_values.specs.Fields.{two_adic_by, extension_by};
+ghost use Rattle.prover_values.specs.QuotientRows.{QuotientRows, given_at, permutation_column_count};
 
 use crate::columns::read_periodic;
 use crate::powers::falling_powers;
@@ -133,16 +134,9 @@ pub(crate) fn quotient_on<F: TwoAdicField, E: ExtensionField<F>, A: Air<F>, LG: 
     requires periodic { IsPeriodicTable F.ring (2 ^ trace_domain.log_size)
         (point F.ring F.root trace_domain) (2 ^ quotient_domain.log_size)
         (point F.ring F.root quotient_domain) (A.declaration air.now).periodic periodic.now }
-    ensures { let f : TwoAdic
-        F = record { ring = F.ring; inv = F.inv; root = F.root; generator = F.GENERATOR } in
-        let e : Extension F E = record {
-          ring = E.ring;
-          embed = E.embed;
-          dimension = E.DIMENSION;
-          basis = E.basis;
-          coefficients = E.coefficients;
-          from_coefficients = E.from_coefficients;
-        } in
+    ensures { let f = two_adic_by F.ring F.inv F.root F.GENERATOR in
+        let e : Extension F E = extension_by E.ring E.embed E.DIMENSION E.basis E.coefficients
+        E.from_coefficients in
         let given : Evaluations F E = record {
           main = main.now;
           preprocessed = option_map (λ m. m.now) preprocessed.entry;

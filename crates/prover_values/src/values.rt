@@ -1,7 +1,7 @@
 //! The values of a table's quotient, from evaluations that a backend gives.
-ghost use Rattle.std.specs.Prelude.{◌≡◌, ℕ, ◌*◌, ◌^◌, ◌<◌, ◌≤◌, All, IfOk, IfSome, length};
+ghost use Rattle.std.specs.Prelude.{◌≡◌, ◌*◌, ◌^◌, ◌<◌, ◌≤◌, All, IfOk, IfSome, length};
 ghost use Rattle.std.specs.Option.{option_map};
-ghost use Rattle.p3_field.specs.Field.{TwoAdic, Extension};
+ghost use Rattle.p3_field.specs.Field.{Extension};
 ghost use Rattle.p3_field.specs.Domain.{point};
 ghost use Rattle.p3_matrix.specs.Matrix.{height};
 ghost use Rattle.air_core.specs.Layout.{layout_of};
@@ -12,6 +12,7 @@ ghost use Rattle.p3_lookup.specs.Written.{read_all};
 ghost use Rattle.batch_constraints.specs.BatchTrees.{AreLookupsOf, table_trees};
 ghost use Rattle.law_committed.specs.Committed.{CommittedTable};
 ghost use Rattle.prover_values.specs.Evaluations.{Evaluations, IsReadOn, quotient_values_on};
+ghost use Rattle.prover_values.specs.Fields.{two_adic_by, extension_by};
 ghost use Rattle.prover_values.specs.QuotientRows.{permutation_column_count};
 
 use crate::columns::recombined_columns;
@@ -78,21 +79,10 @@ pub fn quotient_values<SC: StarkGenericConfig, A: Air<Val<SC>>, LG: LookupProtoc
     requires terminals { 0 < length lookups.now → 0 < length permutation_vals.now }
     requires periods { All (λ c. IsPeriod (2 ^ trace_domain.log_size) (length c))
         (A.declaration air.now).periodic }
-    ensures { let f : TwoAdic
-        SC.Val = record {
-          ring = SC.Val.ring;
-          inv = SC.Val.inv;
-          root = SC.Val.root;
-          generator = SC.Val.GENERATOR;
-        } in
-        let e : Extension SC.Val SC.Challenge = record {
-          ring = SC.Challenge.ring;
-          embed = SC.Challenge.embed;
-          dimension = SC.Challenge.DIMENSION;
-          basis = SC.Challenge.basis;
-          coefficients = SC.Challenge.coefficients;
-          from_coefficients = SC.Challenge.from_coefficients;
-        } in
+    ensures { let f = two_adic_by SC.Val.ring SC.Val.inv SC.Val.root SC.Val.GENERATOR in
+        let e : Extension SC.Val SC.Challenge = extension_by SC.Challenge.ring SC.Challenge.embed
+        SC.Challenge.DIMENSION SC.Challenge.basis SC.Challenge.coefficients
+        SC.Challenge.from_coefficients in
         let given : Evaluations SC.Val SC.Challenge = record {
           main = trace_on_quotient_domain.now;
           preprocessed = option_map (λ m. m.now) preprocessed_on_quotient_domain.entry;
