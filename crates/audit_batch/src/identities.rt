@@ -9,7 +9,7 @@ ghost use Rattle.verifier_identity.specs.TableIdentity.{identity_at};
 ghost use Rattle.verifier_shape.specs.ShapeChecks.{bounds_with, log_chunks_at, HasRightShape};
 ghost use Rattle.audit_batch.specs.Asked.{in_order, of_each};
 ghost use Rattle.audit_batch.specs.Named.{AreNamedAfter};
-ghost use Rattle.verifier_identity.specs.Fields.{extension_of, two_adic_of};
+ghost use Rattle.batch_constraints.specs.Fields.{extension_of, two_adic_of};
 
 use crate::naming::name_answer;
 use air_core::{Air, BaseAir};

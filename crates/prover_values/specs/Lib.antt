@@ -1,4 +1,3 @@
-pub mod Fields
 pub mod Evaluations
 pub mod QuotientRows
 pub mod Chunks

@@ -7,7 +7,7 @@ ghost use Rattle.commit_core.specs.Space.{EachOf};
 ghost use Rattle.law_committed.specs.Committed.{CommittedTable};
 ghost use Rattle.prover_values.specs.Chunks.{IsChunk};
 ghost use Rattle.prover_values.specs.Evaluations.{quotient_values_on};
-ghost use Rattle.prover_values.specs.Fields.{two_adic_by, extension_by};
+ghost use Rattle.batch_constraints.specs.Fields.{two_adic_of, extension_of};
 
 use commit_core::{PolynomialSpace, paired};
 use p3_field::{
@@ -32,8 +32,8 @@ pub fn quotient_chunks<F: TwoAdicField, E: ExtensionField<F>>(
     requires power { IsPowerOfTwo num_chunks }
     requires fits { num_chunks ≤ 2 ^ quotient_domain.log_size }
     requires count { length values.now ≡ 2 ^ quotient_domain.log_size }
-    ensures { let f = two_adic_by F.ring F.inv F.root F.GENERATOR in
-        let e : Extension F E = extension_by E.ring E.embed E.DIMENSION E.basis E.coefficients
+    ensures { let f = two_adic_of F.ring F.inv F.root F.GENERATOR in
+        let e : Extension F E = extension_of E.ring E.embed E.DIMENSION E.basis E.coefficients
         E.from_coefficients in
         IfOk result
         (λ v. (t : CommittedTable F E) (trees : List (Tree F)) (alpha : E) (log_chunks : ℕ)

@@ -4,7 +4,7 @@ ghost use Rattle.std.specs.Option.{option_map};
 ghost use Rattle.p3_field.specs.Field.{Extension};
 ghost use Rattle.p3_matrix.specs.Matrix.{height};
 ghost use Rattle.law_committed.specs.Rows.{flattened_matrix};
-ghost use Rattle.prover_values.specs.Fields.{extension_by};
+ghost use Rattle.batch_constraints.specs.Fields.{extension_of};
 ghost use Rattle.prover_values.specs.QuotientRows.{periodic_at};
 
 use commit_core::PeriodicLdeTable;
@@ -21,7 +21,7 @@ fn recombined_matrix<F: Field, E: ExtensionField<F>>(
     columns: usize,
 ) -> Mem<RowMajorMatrix<E>>
     requires { flattened.now.width ≡ columns * E.DIMENSION }
-    ensures { let e : Extension F E = extension_by E.ring E.embed E.DIMENSION E.basis E.coefficients
+    ensures { let e : Extension F E = extension_of E.ring E.embed E.DIMENSION E.basis E.coefficients
         E.from_coefficients in
         IfOk result (λ m. flattened.now ≡ flattened_matrix e m) }
 {
@@ -36,7 +36,7 @@ pub(crate) fn recombined_columns<F: Field, E: ExtensionField<F>>(
     columns: usize,
 ) -> Mem<Option<RowMajorMatrix<E>>>
     requires { IfSome flattened (λ m. m.now.width ≡ columns * E.DIMENSION) }
-    ensures { let e : Extension F E = extension_by E.ring E.embed E.DIMENSION E.basis E.coefficients
+    ensures { let e : Extension F E = extension_of E.ring E.embed E.DIMENSION E.basis E.coefficients
         E.from_coefficients in
         IfOk result
         (λ p. option_map (λ m. m.now) flattened.entry ≡ option_map (flattened_matrix e) p) }

@@ -14,7 +14,7 @@ ghost use Rattle.law_committed.specs.Committed.{CommittedTable};
 ghost use Rattle.law_committed.specs.Rows.{flattened_matrix};
 ghost use Rattle.prover_folder.specs.FolderState.{given_with};
 ghost use Rattle.prover_values.specs.Evaluations.{Evaluations, IsReadOn, quotient_values_on};
-ghost use Rattle.prover_values.specs.Fields.{two_adic_by, extension_by};
+ghost use Rattle.batch_constraints.specs.Fields.{two_adic_of, extension_of};
 ghost use Rattle.prover_values.specs.QuotientRows.{QuotientRows, given_at, permutation_column_count};
 
 use crate::columns::read_periodic;
@@ -134,8 +134,8 @@ pub(crate) fn quotient_on<F: TwoAdicField, E: ExtensionField<F>, A: Air<F>, LG: 
     requires periodic { IsPeriodicTable F.ring (2 ^ trace_domain.log_size)
         (point F.ring F.root trace_domain) (2 ^ quotient_domain.log_size)
         (point F.ring F.root quotient_domain) (A.declaration air.now).periodic periodic.now }
-    ensures { let f = two_adic_by F.ring F.inv F.root F.GENERATOR in
-        let e : Extension F E = extension_by E.ring E.embed E.DIMENSION E.basis E.coefficients
+    ensures { let f = two_adic_of F.ring F.inv F.root F.GENERATOR in
+        let e : Extension F E = extension_of E.ring E.embed E.DIMENSION E.basis E.coefficients
         E.from_coefficients in
         let given : Evaluations F E = record {
           main = main.now;

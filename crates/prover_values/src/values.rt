@@ -12,7 +12,7 @@ ghost use Rattle.p3_lookup.specs.Written.{read_all};
 ghost use Rattle.batch_constraints.specs.BatchTrees.{AreLookupsOf, table_trees};
 ghost use Rattle.law_committed.specs.Committed.{CommittedTable};
 ghost use Rattle.prover_values.specs.Evaluations.{Evaluations, IsReadOn, quotient_values_on};
-ghost use Rattle.prover_values.specs.Fields.{two_adic_by, extension_by};
+ghost use Rattle.batch_constraints.specs.Fields.{two_adic_of, extension_of};
 ghost use Rattle.prover_values.specs.QuotientRows.{permutation_column_count};
 
 use crate::columns::recombined_columns;
@@ -79,8 +79,8 @@ pub fn quotient_values<SC: StarkGenericConfig, A: Air<Val<SC>>, LG: LookupProtoc
     requires terminals { 0 < length lookups.now → 0 < length permutation_vals.now }
     requires periods { All (λ c. IsPeriod (2 ^ trace_domain.log_size) (length c))
         (A.declaration air.now).periodic }
-    ensures { let f = two_adic_by SC.Val.ring SC.Val.inv SC.Val.root SC.Val.GENERATOR in
-        let e : Extension SC.Val SC.Challenge = extension_by SC.Challenge.ring SC.Challenge.embed
+    ensures { let f = two_adic_of SC.Val.ring SC.Val.inv SC.Val.root SC.Val.GENERATOR in
+        let e : Extension SC.Val SC.Challenge = extension_of SC.Challenge.ring SC.Challenge.embed
         SC.Challenge.DIMENSION SC.Challenge.basis SC.Challenge.coefficients
         SC.Challenge.from_coefficients in
         let given : Evaluations SC.Val SC.Challenge = record {

@@ -1,4 +1,3 @@
-pub mod Fields
 pub mod Identity
 pub mod OpenedRows
 pub mod PeriodicValues

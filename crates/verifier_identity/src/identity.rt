@@ -7,7 +7,7 @@ ghost use Rattle.p3_lookup.specs.Written.{read_all};
 ghost use Rattle.batch_constraints.specs.BatchTrees.{table_trees};
 ghost use Rattle.verifier_folder.specs.FolderState.{all_opened};
 ghost use Rattle.verifier_identity.specs.Identity.{IsInDomain, OpensWhatIsRead, folded_at, identity_checks, opened_at};
-ghost use Rattle.verifier_identity.specs.Fields.{extension_of, two_adic_of};
+ghost use Rattle.batch_constraints.specs.Fields.{extension_of, two_adic_of};
 
 use air_core::{Air, BaseAir};
 use commit_core::{LagrangeSelectors, PolynomialSpace};

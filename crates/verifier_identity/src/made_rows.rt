@@ -4,7 +4,7 @@ ghost use Rattle.verifier_identity.specs.OpenedRows.{recombined_row};
 ghost use Rattle.verifier_shape.specs.ShapeChecks.{permutation_width, preprocessed_next_of};
 ghost use Rattle.verifier_identity.specs.MadeRows.{AreMade};
 ghost use Rattle.verifier_identity.specs.TableIdentity.{next_row_or_zeros, permutation_column_count, preprocessed_local_of};
-ghost use Rattle.verifier_identity.specs.Fields.{extension_of, two_adic_of};
+ghost use Rattle.batch_constraints.specs.Fields.{extension_of, two_adic_of};
 
 use crate::{periodic_values_at, recombined_row, zero_row};
 use air_core::BaseAir;

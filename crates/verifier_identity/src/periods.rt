@@ -1,7 +1,7 @@
 //! The values of a table's periodic columns at a point.
 ghost use Rattle.std.specs.Prelude.{◌≡◌, ◌^◌, IfOk, map};
 ghost use Rattle.verifier_identity.specs.PeriodicValues.{periodic_value};
-ghost use Rattle.verifier_identity.specs.Fields.{extension_of, two_adic_of};
+ghost use Rattle.batch_constraints.specs.Fields.{extension_of, two_adic_of};
 
 use commit_core::{PeriodicColumns, PolynomialSpace};
 use p3_field::{

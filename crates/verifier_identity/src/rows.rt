@@ -2,7 +2,7 @@
 ghost use Rattle.std.specs.Prelude.{◌≡◌, ◌+◌, ◌*◌, ◌<◌, length, replicate, slice_range, IfOk};
 ghost use Rattle.p3_field.specs.Field.{combine};
 ghost use Rattle.verifier_identity.specs.OpenedRows.{recombined_row};
-ghost use Rattle.verifier_identity.specs.Fields.{extension_of};
+ghost use Rattle.batch_constraints.specs.Fields.{extension_of};
 
 use p3_field::{
     BasedVectorSpace, ExtensionField, Field, FieldCore, Mem, PrimeCharacteristicRing, RingCore,

@@ -13,7 +13,7 @@ ghost use Rattle.batch_statement.specs.Verdict.{IsDecided, IsVerdict};
 ghost use Rattle.p3_uni_stark.specs.declared.error.VerificationError.TheVariants.{OodEvaluationMismatch, OodPointInDomain};
 ghost use Rattle.verifier_identity.specs.MadeRows.{AreMade};
 ghost use Rattle.verifier_identity.specs.TableIdentity.{identity_of_table, opened_table, periods_check, verified};
-ghost use Rattle.verifier_identity.specs.Fields.{extension_of, two_adic_of};
+ghost use Rattle.batch_constraints.specs.Fields.{extension_of, two_adic_of};
 
 use crate::IdentityData;
 use crate::made_rows::{

@@ -9,7 +9,7 @@ ghost use Rattle.batch_statement.specs.Statement.{tables_of};
 ghost use Rattle.verifier_shape.specs.ShapeChecks.{opened_checks_at};
 ghost use Rattle.batch_statement.specs.Verdict.{IsVerdict};
 ghost use Rattle.verifier_identity.specs.TableIdentity.{identity_by};
-ghost use Rattle.verifier_identity.specs.Fields.{extension_of, two_adic_of};
+ghost use Rattle.batch_constraints.specs.Fields.{extension_of, two_adic_of};
 
 use crate::table::check_table;
 use air_core::{Air, BaseAir};

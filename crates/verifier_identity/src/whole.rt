@@ -9,7 +9,7 @@ ghost use Rattle.batch_config.specs.Domains.{chunks_over};
 ghost use Rattle.verifier_shape.specs.ShapeChecks.{bounds_with, log_chunks_at, HasRightShape};
 ghost use Rattle.batch_statement.specs.Verdict.{IsVerdict};
 ghost use Rattle.verifier_identity.specs.TableIdentity.{identity_at};
-ghost use Rattle.verifier_identity.specs.Fields.{extension_of, two_adic_of};
+ghost use Rattle.batch_constraints.specs.Fields.{extension_of, two_adic_of};
 
 use crate::tables::table_at;
 use air_core::{Air, BaseAir};
