@@ -8,7 +8,7 @@ ghost use Rattle.law_acceptance.specs.Honest.{HaveFewRows, IsOutsideRows};
 ghost use Rattle.law_honest.specs.HonestProof.{IsHonest};
 ghost use Rattle.prover_answer.specs.Batch.{CommitsToSome, HasProverData, IsTracedAll, all_chunks, all_permutations, batch_of, main_matrices, preprocessed_all, table_at, table_count};
 ghost use Rattle.prover_answer.specs.Proving.{AvoidsExcluded, HaveFractionsFor, IsGroundOf, IsHonestProof, extension_part, fraction_part, lookup_part, ood_part, opening_part, permutation_part, proving_checks, quotient_part};
-ghost use Rattle.prover_answer.specs.Verdict.{IsProverAnswer};
+ghost use Rattle.prover_answer.specs.Verdict.{IsProverAnswer, IsProverVerdict};
 ghost use Rattle.prover_batch.specs.Stages.{main_of, pair_state, permutation_commitment, point_of, quotient_of, shape_of, state_of_opening, terminals_of};
 
 use crate::{LookupStage, QuotientStage, bound_transcript, data_of, drawn_stages};
@@ -92,6 +92,11 @@ pub fn prove_batch_with_point<SC: StarkGenericConfig, A: Air<Val<SC>>>(
         prover_data.now.common in
         let k = ⟦<SC as ProverSettings>⟧.prover_backend config.now in
         IsProverAnswer (proving_checks k b) result }
+    ensures first { let b = batch_of (⟦<SC as Settings>⟧.setting config.now)
+        (⟦<SC as ProverSettings>⟧.prover config.now) A.declaration A.trees instances.now
+        prover_data.now.common in
+        let k = ⟦<SC as ProverSettings>⟧.prover_backend config.now in
+        IsProverVerdict (proving_checks k b) result }
     ensures proved { let b = batch_of (⟦<SC as Settings>⟧.setting config.now)
         (⟦<SC as ProverSettings>⟧.prover config.now) A.declaration A.trees instances.now
         prover_data.now.common in
@@ -146,8 +151,8 @@ pub fn prove_batch_with_point<SC: StarkGenericConfig, A: Air<Val<SC>>>(
 
 /// Proves a batch of tables (`prove_batch` of `p3-batch-stark`).
 ///
-/// The checks before a refusal hold, and it says why; of the checks that ask nothing of the backend it is that of the first that fails. In
-/// the order of the work they are (`verdict`, `proving_checks`):
+/// The refusal is that of the first check that fails (`first`): the checks before it hold, and it says why (`verdict`). In
+/// the order of the work they are (`proving_checks`):
 ///
 /// - `MultiplicityBound`: on this bus, and on none before it, the counts, each as large as it is trusted to be, may add up to the
 ///   order of the field;
@@ -187,6 +192,11 @@ pub fn prove_batch<SC: StarkGenericConfig, A: Air<Val<SC>>>(
         prover_data.now.common in
         let k = ⟦<SC as ProverSettings>⟧.prover_backend config.now in
         IsProverAnswer (proving_checks k b) result }
+    ensures first { let b = batch_of (⟦<SC as Settings>⟧.setting config.now)
+        (⟦<SC as ProverSettings>⟧.prover config.now) A.declaration A.trees instances.now
+        prover_data.now.common in
+        let k = ⟦<SC as ProverSettings>⟧.prover_backend config.now in
+        IsProverVerdict (proving_checks k b) result }
     ensures proved { let b = batch_of (⟦<SC as Settings>⟧.setting config.now)
         (⟦<SC as ProverSettings>⟧.prover config.now) A.declaration A.trees instances.now
         prover_data.now.common in

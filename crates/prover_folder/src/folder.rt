@@ -1,5 +1,5 @@
 //! The prover's constraint folder with lookups.
-ghost use Rattle.std.specs.Prelude.{◌≡◌, List, [], IfOk, OnErr, IsOk, IsTrue, true, refl};
+ghost use Rattle.std.specs.Prelude.{◌≡◌, List, [], ◌∷◌, IfOk, OnErr, IsOk, IsTrue, true, refl};
 ghost use Rattle.std.proofs.Common.{◌∙◌, ap};
 ghost use Rattle.air_core.specs.CellValues.{reading_at};
 ghost use Rattle.air_core.specs.Operation.{value_by};

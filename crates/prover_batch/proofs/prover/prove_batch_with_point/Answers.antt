@@ -10,6 +10,7 @@ use Rattle.law_honest.specs.HonestProof.{Prover}
 use Rattle.law_acceptance.specs.Laws.Airs.{airs_accepted}
 use Rattle.prover_answer.specs.Backend.{ProverBackend}
 use Rattle.prover_answer.specs.Batch.{Batch, all_chunks, batch_of, main_matrices}
+use Rattle.prover_answer.specs.Laws.Alike.{RefusesAlike, first_of_answer}
 use Rattle.prover_answer.specs.Laws.Verdicts.{answer_exits}
 use Rattle.prover_openings.specs.Asked.{RoundsProverData}
 use Rattle.prover_commits.specs.Laws.Instances.{powers}
@@ -64,6 +65,13 @@ abbrev commits_of : (g : Over) → g.row.SC.Denot → List (CosetData g.row.SC-V
 commits_of g config es w =
     IsCommitment g.SC.Val.RingCore.ring (λ (d : CosetData g.row.SC-Val.Denot). 2 ^ d.log_size) (point g.SC.Val.RingCore.ring g.SC.Val.TwoAdicCore.root)
     (g.SC-Pcs-Pcs.commits (g.SC.StarkGenericConfig.pcs_of config)) (g.SC-Pcs-Pcs.made (g.SC.StarkGenericConfig.pcs_of config)) (g.SC-Pcs-Pcs.holds (g.SC.StarkGenericConfig.pcs_of config)) es w
+
+-- which refuses alike
+alike_of : (g : Over) (config : g.row.SC.Denot) → RefusesAlike (backend_of g config)
+alike_of g config = record {
+  opened = g.SC-Pcs-Pcs-met.opened_alike (g.SC.StarkGenericConfig.pcs_of config);
+  extended = g.SC-Pcs-UnivariateStarkPcs-met.extended_alike (g.SC.StarkGenericConfig.pcs_of config);
+}
 
 pub returns-in_err-check_bound-clause-verdict : goal.returns-in_err-check_bound-clause-verdict
 returns-in_err-check_bound-clause-verdict g c =
@@ -165,3 +173,28 @@ returns-clause-accepted g c = λ few V outside avoids.
     (record { ones = g.met.SC.Val.PrimeCore64.of_canonical; below = g.met.SC.Val.PrimeCore64.canonical_below })
     _ _ c.requires.plain g.met.SC.Val.TwoAdicCore.below_64 few V honest
     (λ i h. outside i (let n = length-map c.args.instances.now (λ i. i.air) in omega (arith, h, n)))
+
+pub returns-in_err-check_bound-clause-first : goal.returns-in_err-check_bound-clause-first
+returns-in_err-check_bound-clause-first g c =
+    let b = batch_is g c.args.config.now c.args.instances.now c.args.prover_data.now.common in
+    first_of_answer (backend_of g c.args.config.now) b (alike_of g c.args.config.now) _ (returns-in_err-check_bound-clause-verdict g c)
+
+pub returns-in_err-main-clause-first : goal.returns-in_err-main-clause-first
+returns-in_err-main-clause-first g c =
+    let b = batch_is g c.args.config.now c.args.instances.now c.args.prover_data.now.common in
+    first_of_answer (backend_of g c.args.config.now) b (alike_of g c.args.config.now) _ (returns-in_err-main-clause-verdict g c)
+
+pub returns-in_err-lookups-clause-first : goal.returns-in_err-lookups-clause-first
+returns-in_err-lookups-clause-first g c =
+    let b = batch_is g c.args.config.now c.args.instances.now c.args.prover_data.now.common in
+    first_of_answer (backend_of g c.args.config.now) b (alike_of g c.args.config.now) _ (returns-in_err-lookups-clause-verdict g c)
+
+pub returns-in_err-opened-clause-first : goal.returns-in_err-opened-clause-first
+returns-in_err-opened-clause-first g c =
+    let b = batch_is g c.args.config.now c.args.instances.now c.args.prover_data.now.common in
+    first_of_answer (backend_of g c.args.config.now) b (alike_of g c.args.config.now) _ (returns-in_err-opened-clause-verdict g c)
+
+pub returns-clause-first : goal.returns-clause-first
+returns-clause-first g c =
+    let b = batch_is g c.args.config.now c.args.instances.now c.args.prover_data.now.common in
+    first_of_answer (backend_of g c.args.config.now) b (alike_of g c.args.config.now) _ (returns-clause-verdict g c)
