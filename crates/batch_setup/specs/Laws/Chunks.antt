@@ -38,12 +38,12 @@ module _ {A F : Type 0} (declaration : A → Declaration F) (trees : A → List 
       ap (log_chunks_with r masks b s) here
       ∙ packing_keeps r s.declaration s.trees masks 0 (2 ^ (b - masks)) budget (unpacked_lookups s) small (pow_pos (b - masks)) own (larger_of (own_budget r masks b s) (get_or budgets i 0) low)
 
-zero_there : (m i : ℕ) → get_or (replicate m 0) i 0 ≡ 0
+zero_there : (m i : ℕ) → let zeros : List ℕ = replicate m 0 in get_or zeros i 0 ≡ 0
 zero_there zero i = refl
 zero_there (suc m) zero = refl
 zero_there (suc m) (suc i) = zero_there m i
 
-zero_within : (m i own : ℕ) → get_or (replicate m 0) i 0 ≤ own
+zero_within : (m i own : ℕ) → let zeros : List ℕ = replicate m 0 in get_or zeros i 0 ≤ own
 zero_within m i own = let z = zero_there m i in omega (arith, z)
 
 -- budgets of zero are at most each own one

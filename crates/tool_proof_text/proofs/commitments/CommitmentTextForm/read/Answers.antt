@@ -1,4 +1,4 @@
-use Rattle.std.proofs.Common.{sym, subst}
+use Rattle.std.proofs.Common.{◌≡◌, ℕ, List, sym, subst}
 use Rattle.p3_field.specs.declared.baby_bear.BabyBear.{BabyBear as Element}
 use Rattle.plain_pcs.specs.Scheme.{PlainCommitmentData}
 use Rattle.tool_lines.specs.Texts.{Reads}
@@ -11,8 +11,11 @@ pub returns-in_err-matrices : goal.returns-in_err-matrices
 returns-in_err-matrices c = handed-on (λ v. v) CommitmentWithin commitment_numbers _ _ _ c.in_err-matrices.field-0.0 c.from_residual.ensures.1
     (λ m. same-stops same-commitment (c.in_err-matrices.ensures m))
 
+-- a reading of a commitment's matrices is one of what is made of them
+made_of : (before after : List ℕ) (made read : PlainCommitmentData Element) → made ≡ read
+    → Reads CommitmentWithin commitment_numbers before after read → Reads CommitmentWithin commitment_numbers before after made
+made_of before after made read e r = subst (λ (m : PlainCommitmentData Element). Reads CommitmentWithin commitment_numbers before after m) (sym e) r
+
 pub returns : goal.returns
 unfolding same-commitment
-returns c =
-    subst (λ (m : PlainCommitmentData Element). Reads CommitmentWithin commitment_numbers _ _ m) (sym c.in_ok-commitment.ensures)
-    (same-reads same-commitment (own-items c.in_ok-matrices.matrices.items c.in_ok-matrices.ensures))
+returns c = made_of _ _ _ _ c.in_ok-commitment.ensures (same-reads same-commitment (own-items c.in_ok-matrices.matrices.items c.in_ok-matrices.ensures))
