@@ -81,8 +81,8 @@ module _ {S F E C : Type 0} (b : Batch S F E C) (R : Type 0) where
   unfolding AreExclusive
   fraction_exclusive = (
     λ e r h.
-        let Z = r.1.1.1 in
-        let here = h Z.witness Z.is_ground r.0 Z.within r.1.0 Z.first.within in
+        let Z = r.3 in
+        let here = h Z.witness Z.is_ground r.0 Z.within r.1 Z.first.within in
         let none : Term E = record { count = b.setting.extension.ring.zero; denominator = b.setting.extension.ring.zero } in
         here Z.lookup [] Z.first.first.within Z.tuple none Z.first.first.first.within (Z.first.first.first.zero none),
     tt,
@@ -116,23 +116,23 @@ module _ {S F E C D P R : Type 0} (k : ProverBackend S F E C D P R) (b : Batch S
 
   trace_exclusive : AreExclusive (trace_part k b)
   unfolding AreExclusive
-  trace_exclusive = ((λ e r h. h r.0 r.1.1), tt)
+  trace_exclusive = ((λ e r h. h r.0 r.2), tt)
 
   permutation_exclusive : AreExclusive (permutation_part k b)
   unfolding AreExclusive
-  permutation_exclusive = ((λ e r h. h r.0 r.1.0 r.1.1.0 r.1.1.1.1), tt)
+  permutation_exclusive = ((λ e r h. h r.0 r.1 r.2.0 r.2.2), tt)
 
   extension_exclusive : (i : ℕ) → AreExclusive (extension_part k b i)
   unfolding AreExclusive
-  extension_exclusive i = ((λ e r h. h r.0 r.1.0 r.1.1.0 r.1.1.1.1), tt)
+  extension_exclusive i = ((λ e r h. h r.0 r.1 r.2.0 r.2.2), tt)
 
   quotient_exclusive : AreExclusive (quotient_part k b)
   unfolding AreExclusive
   quotient_exclusive = (
     λ e r h.
-        let told = r.1.1.1 in
-        let free = h r.0 r.1.0 in
-        free.1.1 told.1.0 (A.extended (all_chunks b r.0) r.1.1.0 free.0 told.1.0 told.0 free.1.0 told.1.1.1),
+        let told = r.2 in
+        let free = h r.0 r.1 in
+        free.2 told.2.0 (A.extended (all_chunks b r.0) told.0 free.0 told.2.0 told.1 free.1 told.2.2),
     tt,
   )
 
@@ -140,9 +140,9 @@ module _ {S F E C D P R : Type 0} (k : ProverBackend S F E C D P R) (b : Batch S
   unfolding AreExclusive
   opening_exclusive = (
     λ e r h.
-        let told = r.1.1.1 in
-        let free = h r.0 r.1.0 r.1.1.0 in
-        free.1.1 told.1.1.0 (A.opened told.0 free.0 told.1.1.0 (asked_alike r.0 r.1.0 told.0 free.0 told.1.0 free.1.0) told.1.1.1.1),
+        let told = r.3 in
+        let free = h r.0 r.1 r.2 in
+        free.2 told.2.0 (A.opened told.0 free.0 told.2.0 (asked_alike r.0 r.1 told.0 free.0 told.1 free.1) told.2.2),
     tt,
   )
 
