@@ -1,5 +1,5 @@
 -- Items of lists, one after another, and what is moved along equations.
-use Rattle.std.proofs.Common.{◌≡◌, ℕ, zero, suc, ◌+◌, ◌<◌, List, [], ◌∷◌, length, get_or, map, inl, inr, sym, ◌∙◌, subst, arith}
+use Rattle.std.proofs.Common.{◌≡◌, ℕ, zero, suc, ◌+◌, ◌<◌, ◌≤◌, List, [], ◌∷◌, length, get_or, map, inl, inr, sym, ◌∙◌, subst, arith}
 use Rattle.std.specs.Prelude.{All}
 use Rattle.std.proofs.lemmas.Bool.{cases_lt}
 use Rattle.std.proofs.lemmas.List.{get_or-map, get_or_default, length-map}
@@ -30,3 +30,7 @@ all_of_mapped P f xs h k d l = subst P (get_or-map f xs k d (f d) l) (h k (f d) 
 -- three equations at once
 pub moved : {X Y Z : Type 0} (Q : X → Y → Z → Type 0) (a b : X) (m n : Y) (p q : Z) → a ≡ b → m ≡ n → p ≡ q → Q a m p → Q b n q
 moved Q a b m n p q e f g h = subst (λ x. Q x n q) e (subst (λ y. Q a y q) f (subst (λ z. Q a m z) g h))
+
+-- equal sums are at most the same
+pub sum_moved : (a b k l t : ℕ) → a ≡ b → k ≡ l → (a + k ≤ t → b + l ≤ t) × (b + l ≤ t → a + k ≤ t)
+sum_moved a b k l t e f = ((λ h. omega (arith, e, f, h)), λ h. omega (arith, e, f, h))

@@ -1,4 +1,4 @@
-use Rattle.std.proofs.Common.{List, length, map, refl, subst, sym}
+use Rattle.std.proofs.Common.{List, length, refl, subst, sym}
 use Rattle.std.specs.Prelude.{All}
 use Rattle.p3_field.specs.Laws.Checks.{none_first}
 use Rattle.air_core.specs.Laws.Reads.{not_true}
