@@ -1,5 +1,5 @@
 -- Items of lists, one after another, and what is moved along equations.
-use Rattle.std.proofs.Common.{◌≡◌, ℕ, zero, suc, ◌+◌, ◌<◌, ◌≤◌, List, [], ◌∷◌, length, get_or, map, inl, inr, sym, ◌∙◌, subst, arith}
+use Rattle.std.proofs.Common.{◌≡◌, ℕ, zero, suc, ◌+◌, ◌<◌, ◌≤◌, List, [], ◌∷◌, length, get_or, map, inl, inr, sym, ◌∙◌, ap, subst, arith}
 use Rattle.std.specs.Prelude.{All}
 use Rattle.std.proofs.lemmas.Bool.{cases_lt}
 use Rattle.std.proofs.lemmas.List.{get_or-map, get_or_default, length-map}
@@ -32,5 +32,9 @@ pub moved : {X Y Z : Type 0} (Q : X → Y → Z → Type 0) (a b : X) (m n : Y) 
 moved Q a b m n p q e f g h = subst (λ x. Q x n q) e (subst (λ y. Q a y q) f (subst (λ z. Q a m z) g h))
 
 -- equal sums are at most the same
-pub sum_moved : (a b k l t : ℕ) → a ≡ b → k ≡ l → (a + k ≤ t → b + l ≤ t) × (b + l ≤ t → a + k ≤ t)
-sum_moved a b k l t e f = ((λ h. omega (arith, e, f, h)), λ h. omega (arith, e, f, h))
+pub sum_moved : (a b k l t u : ℕ) → a ≡ b → k ≡ l → t ≡ u → (a + k ≤ t → b + l ≤ u) × (b + l ≤ u → a + k ≤ t)
+sum_moved a b k l t u e f m = ((λ h. omega (arith, e, f, m, h)), λ h. omega (arith, e, f, m, h))
+
+-- what is a value at one of two equal things is the value at the other
+pub value_moved : {L : Type 0} (f : L → ℕ) (a b : L) → a ≡ b → (k : ℕ) → k ≡ f a → k ≡ f b
+value_moved f a b e k h = h ∙ ap f e

@@ -8,6 +8,6 @@ own_log_chunks-requires g c = let p = pow_pos c.requires.0 in let e = c.requires
 
 pub returns : goal.returns
 returns g c =
-    let same = sum_moved _ _ _ _ g.F.TwoAdicCore.TWO_ADICITY c.log_of_rows-log_rows.ensures c.in_ok-chunks.ensures in
+    let same = sum_moved _ _ _ _ _ _ c.log_of_rows-log_rows.ensures c.in_ok-chunks.ensures c.TWO_ADICITY.ensures in
     let told = c.is_sum_within.ensures in
     ((λ h. same.0 (told.0 h)), λ h. told.1 (same.1 h))

@@ -1,11 +1,12 @@
-use Rattle.std.proofs.Common.{ℕ, Bool, List, length, sym, ◌∙◌, subst}
+use Rattle.std.proofs.Common.{ℕ, List, length, sym, ◌∙◌, subst}
 use Rattle.std.specs.Prelude.{All}
 use Rattle.std.proofs.lemmas.Result.{IfOk-weaker}
 use Rattle.air_core.specs.Check.{HasHeight}
 use Rattle.air_core.specs.Laws.Reads.{not_true}
 use Rattle.commit_core.specs.Periodic.{IsPeriod}
 use Rattle.batch_setup.specs.Packed.{source_of}
-use Rattle.tool_shaped.specs.Parts.{HasRoom, IsHeightWithin}
+use Rattle.tool_shaped.specs.Parts.{IsHeightWithin}
+use Rattle.tool_shaped.proofs.Told.{told_shape}
 use Rattle.tool_shaped.proofs.shape.has_shape.Goals as goal
 
 pub returns-then-not-has_sizes : goal.returns-then-not-has_sizes
@@ -36,18 +37,9 @@ has_room-requires g c = (c.is_height.ensures.0 c.if-not-is_height.false).0
 
 pub returns : goal.returns
 returns g c =
-    let d = g.A.BaseAir.declaration c.args.air.now in
     let s = source_of g.A.BaseAir.declaration g.A.Air.trees g.A.Air.interactions c.args.air.now in
-    let tall = c.height-rows.ensures.result in
-    let Periods : ℕ → Type 0 = λ n. All (λ (column : List g.row.F.Denot). IsPeriod n (length column)) d.periodic in
-    let Prepared : ℕ → Type 0 = λ n. HasHeight d.preprocessed n in
-    let sizes = c.has_sizes.ensures.0 c.if-not-has_sizes.false in
-    let rows = subst (IsHeightWithin c.args.least c.args.most) tall (c.is_height.ensures.0 c.if-not-is_height.false) in
-    let periods = subst Periods tall (c.have_periods.ensures.0 c.if-not-have_periods.false) in
-    let prepared = subst Prepared tall (c.in_ok-prepared.ensures.0 c.if-not-prepared.false) in
-    let Room : ℕ → Type 0 = λ n. HasRoom g.F.RingCore.ring g.F.TwoAdicCore.TWO_ADICITY s n in
-    IfOk-weaker _ _ _
-    (λ (b : Bool) e. (
-      (λ h. record { fills = c.height-rows.ensures.fills; sizes = sizes; rows = rows; periods = periods; prepared = prepared; room = subst Room tall (e.0 h) }),
-      λ h. e.1 (subst Room (sym tall) h.room),
-    )) c.has_room.ensures
+    let height = c.height-rows.ensures in
+    IfOk-weaker c.has_room.result _ _
+    (told_shape g.F.RingCore.ring g.F.TwoAdicCore.TWO_ADICITY c.args.least c.args.most s c.args.trace.now c.args.public_values.now c.height-rows.result height.result height.fills
+    (c.has_sizes.ensures.0 c.if-not-has_sizes.false) (c.is_height.ensures.0 c.if-not-is_height.false) (c.have_periods.ensures.0 c.if-not-have_periods.false) (c.in_ok-prepared.ensures.0 c.if-not-prepared.false))
+    c.has_room.ensures
