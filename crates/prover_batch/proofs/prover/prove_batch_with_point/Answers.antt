@@ -195,6 +195,4 @@ returns-in_err-opened-clause-first g c =
     first_of_answer (backend_of g c.args.config.now) b (alike_of g c.args.config.now) _ (returns-in_err-opened-clause-verdict g c)
 
 pub returns-clause-first : goal.returns-clause-first
-returns-clause-first g c =
-    let b = batch_is g c.args.config.now c.args.instances.now c.args.prover_data.now.common in
-    first_of_answer (backend_of g c.args.config.now) b (alike_of g c.args.config.now) _ (returns-clause-verdict g c)
+returns-clause-first g c = returns-clause-verdict g c
