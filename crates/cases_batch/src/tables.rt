@@ -13,7 +13,7 @@ use commit_core::PeriodicColumns;
 use p3_field::{BabyBear, FieldCore, Mem, RingCore};
 use p3_lookup::{LogUpGadget, Lookup, Lookups};
 use std::alloc::Global;
-use tool_tables::{GiveAir, TakeAir, ToolAir};
+use tool_tables::{ToolAir, WordsAir};
 
 /// The sending table with the rows 1, 2, .., 2^`log_rows` in its preprocessed column, and a periodic column of the value 3.
 pub fn sending_air(alloc: Global, log_rows: usize) -> Mem<SendingAir<BabyBear>>
@@ -37,8 +37,8 @@ pub fn tool_air(alloc: Global, name: &str, log_rows: usize) -> Mem<ToolAir<BabyB
     match name {
         "swap" => Ok(ToolAir::Swap(SwapAir)),
         "wheel" => Ok(ToolAir::Wheel(WheelAir::new(alloc, log_rows)?)),
-        "take" => Ok(ToolAir::Take(TakeAir)),
-        _ => Ok(ToolAir::Give(GiveAir)),
+        "take" => Ok(ToolAir::Words(WordsAir::Take)),
+        _ => Ok(ToolAir::Words(WordsAir::Give)),
     }
 }
 

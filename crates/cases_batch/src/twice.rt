@@ -8,7 +8,7 @@ use air_core::{Air, BaseAir, InteractionBuilder};
 use p3_field::{Field, FieldCore, Mem, RingCore};
 use p3_matrix::RowMajorMatrix;
 use std::alloc::Global;
-use tool_tables::TakeAir;
+use tool_tables::WordsAir;
 
 /// One column of words without constraints, of which each row sends its word on the bus `words` twice, once each. It hints at degree 1.
 #[derive(Drop)]
@@ -72,7 +72,7 @@ impl<F: Field> Air<F> for TwiceAir {
     ghost interactions = { λ _. twice_interactions F.ring };
 
     fn eval<AB: InteractionBuilder<F = F>>(&self, builder: &mut AB) -> Mem<()> {
-        let once = TakeAir;
+        let once = WordsAir::Take;
         once.eval(builder)?;
         once.eval(builder)
     }

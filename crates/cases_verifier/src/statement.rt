@@ -18,7 +18,7 @@ use p3_uni_stark::TranscriptVersion;
 use plain_pcs::{PlainCommitment, PlainPcs};
 use std::alloc::Global;
 use tool_statement::tool_config;
-use tool_tables::{GiveAir, TakeAir, ToolAir, tables_send_one_width};
+use tool_tables::{ToolAir, WordsAir, tables_send_one_width};
 
 /// What both sides share over the plain scheme.
 pub type Common = SharedData<BabyBear, PlainCommitment<BabyBear>>;
@@ -53,8 +53,8 @@ pub fn air_of(alloc: Global, kind: u64, log_rows: u64) -> Mem<Option<ToolAir<Bab
             let wheel = WheelAir::new(alloc, log_rows as usize)?;
             Ok(Some(ToolAir::Wheel(wheel)))
         }
-        3 => Ok(Some(ToolAir::Take(TakeAir))),
-        4 => Ok(Some(ToolAir::Give(GiveAir))),
+        3 => Ok(Some(ToolAir::Words(WordsAir::Take))),
+        4 => Ok(Some(ToolAir::Words(WordsAir::Give))),
         5 => Ok(Some(ToolAir::Hash(Blake3Air {}))),
         _ => Ok(None),
     }

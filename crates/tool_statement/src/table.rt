@@ -9,7 +9,7 @@ use air_tables::{SwapAir, WheelAir};
 use blake3_prime::Blake3Air;
 use p3_field::{BabyBear, Mem};
 use std::alloc::Global;
-use tool_tables::{GiveAir, TakeAir, ToolAir};
+use tool_tables::{ToolAir, WordsAir};
 
 /// What a proof file states of a table (not in Plonky3): its kind, the base-2 logarithm `k` of its number of rows, and its public values.
 /// `k` is 0 to 10, of a wheel 1 to 10, of a table of compressions 0 to 3.
@@ -73,8 +73,8 @@ impl TableStatement {
         match self {
             TableStatement::Swap { .. } => Ok(ToolAir::Swap(SwapAir)),
             TableStatement::Wheel { k } => Ok(ToolAir::Wheel(WheelAir::new(alloc, *k as usize)?)),
-            TableStatement::Take { .. } => Ok(ToolAir::Take(TakeAir)),
-            TableStatement::Give { .. } => Ok(ToolAir::Give(GiveAir)),
+            TableStatement::Take { .. } => Ok(ToolAir::Words(WordsAir::Take)),
+            TableStatement::Give { .. } => Ok(ToolAir::Words(WordsAir::Give)),
             TableStatement::Hash { .. } => Ok(ToolAir::Hash(Blake3Air {})),
         }
     }

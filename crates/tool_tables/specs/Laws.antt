@@ -1,3 +1,4 @@
 -- What is proved of the definitions, by subject.
 pub mod Tool
 pub mod OneWidth
+pub mod Words

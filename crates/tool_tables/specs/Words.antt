@@ -4,6 +4,8 @@ use Rattle.p3_field.specs.Ring.{Ring}
 use Rattle.air_core.specs.declared.cells.Cell.TheVariants.{Main}
 use Rattle.air_core.specs.Shape.{Declaration}
 use Rattle.air_core.specs.Tree.{Tree, Interaction, constant, cell, difference, global}
+use Rattle.tool_tables.specs.declared.words.WordsAir.{WordsAir}
+use Rattle.tool_tables.specs.declared.words.WordsAir.TheVariants.{Take, Give}
 
 -- the bytes of the bus's name, `words`
 abbrev pub words_bus : List ℕ
@@ -20,6 +22,15 @@ take_interactions r = word_sent (constant r.one) 1 ∷ []
 -- a row gives its word as often as its second column says, which is sent as that number's negative
 abbrev pub give_interactions : {F : Type 0} → Ring F → List (Interaction F)
 give_interactions r = word_sent (difference (constant r.zero) (cell (Main false 1))) 1024 ∷ []
+
+-- what a table's rows send, and how many columns it has
+abbrev pub words_interactions : {F : Type 0} → Ring F → WordsAir → List (Interaction F)
+words_interactions r Take = take_interactions r
+words_interactions r Give = give_interactions r
+
+abbrev pub words_width : WordsAir → ℕ
+words_width Take = 1
+words_width Give = 2
 
 -- so many columns
 abbrev pub words_declaration : {F : Type 0} → (width : ℕ) → Declaration F

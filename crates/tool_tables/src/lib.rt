@@ -4,12 +4,10 @@
 //! `BaseAir` and `Air` are proved to answer and to append exactly these.
 #![tactic(auto)]
 
-mod give;
 mod meanings;
-mod take;
 mod tool;
+mod words;
 
-pub use give::GiveAir;
 pub use meanings::tables_send_one_width;
-pub use take::TakeAir;
 pub use tool::ToolAir;
+pub use words::WordsAir;

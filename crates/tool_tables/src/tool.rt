@@ -3,8 +3,7 @@ ghost use Rattle.std.proofs.Common.{rules};
 ghost use Rattle.tool_tables.specs.Tool.{tool_declaration, tool_interactions, tool_trees};
 ghost use Rattle.tool_tables.specs.Laws.Tool.{tool-counts, tool-has_columns, tool-interactions_read, tool-next, tool-preprocessed_next, tool-read, tool-whole};
 
-use crate::give::GiveAir;
-use crate::take::TakeAir;
+use crate::words::WordsAir;
 use air_core::{Air, BaseAir, InteractionBuilder};
 use air_tables::{SwapAir, WheelAir};
 use blake3_prime::Blake3Air;
@@ -20,10 +19,8 @@ pub enum ToolAir<F> {
     Swap(SwapAir),
     /// A wheel.
     Wheel(WheelAir<F>),
-    /// A table that takes words.
-    Take(TakeAir),
-    /// A table that gives words.
-    Give(GiveAir),
+    /// A table that takes or gives words.
+    Words(WordsAir),
     /// A table of compressions.
     Hash(Blake3Air),
 }
@@ -35,8 +32,7 @@ impl<F: Field> BaseAir<F> for ToolAir<F> {
         match self {
             ToolAir::Swap(air) => BaseAir::<F>::width(air),
             ToolAir::Wheel(air) => BaseAir::<F>::width(air),
-            ToolAir::Take(air) => BaseAir::<F>::width(air),
-            ToolAir::Give(air) => BaseAir::<F>::width(air),
+            ToolAir::Words(air) => BaseAir::<F>::width(air),
             ToolAir::Hash(air) => BaseAir::<F>::width(air),
         }
     }
@@ -45,8 +41,7 @@ impl<F: Field> BaseAir<F> for ToolAir<F> {
         match self {
             ToolAir::Swap(air) => air.preprocessed_trace(alloc),
             ToolAir::Wheel(air) => air.preprocessed_trace(alloc),
-            ToolAir::Take(air) => air.preprocessed_trace(alloc),
-            ToolAir::Give(air) => air.preprocessed_trace(alloc),
+            ToolAir::Words(air) => air.preprocessed_trace(alloc),
             ToolAir::Hash(air) => air.preprocessed_trace(alloc),
         }
     }
@@ -55,8 +50,7 @@ impl<F: Field> BaseAir<F> for ToolAir<F> {
         match self {
             ToolAir::Swap(air) => BaseAir::<F>::preprocessed_width(air),
             ToolAir::Wheel(air) => BaseAir::<F>::preprocessed_width(air),
-            ToolAir::Take(air) => BaseAir::<F>::preprocessed_width(air),
-            ToolAir::Give(air) => BaseAir::<F>::preprocessed_width(air),
+            ToolAir::Words(air) => BaseAir::<F>::preprocessed_width(air),
             ToolAir::Hash(air) => BaseAir::<F>::preprocessed_width(air),
         }
     }
@@ -65,8 +59,7 @@ impl<F: Field> BaseAir<F> for ToolAir<F> {
         match self {
             ToolAir::Swap(air) => BaseAir::<F>::main_next_row_columns(air),
             ToolAir::Wheel(air) => BaseAir::<F>::main_next_row_columns(air),
-            ToolAir::Take(air) => BaseAir::<F>::main_next_row_columns(air),
-            ToolAir::Give(air) => BaseAir::<F>::main_next_row_columns(air),
+            ToolAir::Words(air) => BaseAir::<F>::main_next_row_columns(air),
             ToolAir::Hash(air) => BaseAir::<F>::main_next_row_columns(air),
         }
     }
@@ -75,8 +68,7 @@ impl<F: Field> BaseAir<F> for ToolAir<F> {
         match self {
             ToolAir::Swap(air) => BaseAir::<F>::preprocessed_next_row_columns(air),
             ToolAir::Wheel(air) => BaseAir::<F>::preprocessed_next_row_columns(air),
-            ToolAir::Take(air) => BaseAir::<F>::preprocessed_next_row_columns(air),
-            ToolAir::Give(air) => BaseAir::<F>::preprocessed_next_row_columns(air),
+            ToolAir::Words(air) => BaseAir::<F>::preprocessed_next_row_columns(air),
             ToolAir::Hash(air) => BaseAir::<F>::preprocessed_next_row_columns(air),
         }
     }
@@ -85,8 +77,7 @@ impl<F: Field> BaseAir<F> for ToolAir<F> {
         match self {
             ToolAir::Swap(air) => BaseAir::<F>::num_public_values(air),
             ToolAir::Wheel(air) => BaseAir::<F>::num_public_values(air),
-            ToolAir::Take(air) => BaseAir::<F>::num_public_values(air),
-            ToolAir::Give(air) => BaseAir::<F>::num_public_values(air),
+            ToolAir::Words(air) => BaseAir::<F>::num_public_values(air),
             ToolAir::Hash(air) => BaseAir::<F>::num_public_values(air),
         }
     }
@@ -95,8 +86,7 @@ impl<F: Field> BaseAir<F> for ToolAir<F> {
         match self {
             ToolAir::Swap(air) => air.periodic_columns(),
             ToolAir::Wheel(air) => air.periodic_columns(),
-            ToolAir::Take(air) => air.periodic_columns(),
-            ToolAir::Give(air) => air.periodic_columns(),
+            ToolAir::Words(air) => air.periodic_columns(),
             ToolAir::Hash(air) => air.periodic_columns(),
         }
     }
@@ -105,8 +95,7 @@ impl<F: Field> BaseAir<F> for ToolAir<F> {
         match self {
             ToolAir::Swap(air) => BaseAir::<F>::num_constraints(air),
             ToolAir::Wheel(air) => BaseAir::<F>::num_constraints(air),
-            ToolAir::Take(air) => BaseAir::<F>::num_constraints(air),
-            ToolAir::Give(air) => BaseAir::<F>::num_constraints(air),
+            ToolAir::Words(air) => BaseAir::<F>::num_constraints(air),
             ToolAir::Hash(air) => BaseAir::<F>::num_constraints(air),
         }
     }
@@ -115,8 +104,7 @@ impl<F: Field> BaseAir<F> for ToolAir<F> {
         match self {
             ToolAir::Swap(air) => BaseAir::<F>::max_constraint_degree(air),
             ToolAir::Wheel(air) => BaseAir::<F>::max_constraint_degree(air),
-            ToolAir::Take(air) => BaseAir::<F>::max_constraint_degree(air),
-            ToolAir::Give(air) => BaseAir::<F>::max_constraint_degree(air),
+            ToolAir::Words(air) => BaseAir::<F>::max_constraint_degree(air),
             ToolAir::Hash(air) => BaseAir::<F>::max_constraint_degree(air),
         }
     }
@@ -125,8 +113,7 @@ impl<F: Field> BaseAir<F> for ToolAir<F> {
         match self {
             ToolAir::Swap(air) => BaseAir::<F>::assumes_boolean_trace(air),
             ToolAir::Wheel(air) => BaseAir::<F>::assumes_boolean_trace(air),
-            ToolAir::Take(air) => BaseAir::<F>::assumes_boolean_trace(air),
-            ToolAir::Give(air) => BaseAir::<F>::assumes_boolean_trace(air),
+            ToolAir::Words(air) => BaseAir::<F>::assumes_boolean_trace(air),
             ToolAir::Hash(air) => BaseAir::<F>::assumes_boolean_trace(air),
         }
     }
@@ -149,8 +136,7 @@ impl<F: Field> Air<F> for ToolAir<F> {
         match self {
             ToolAir::Swap(air) => air.eval(builder),
             ToolAir::Wheel(air) => air.eval(builder),
-            ToolAir::Take(air) => air.eval(builder),
-            ToolAir::Give(air) => air.eval(builder),
+            ToolAir::Words(air) => air.eval(builder),
             ToolAir::Hash(air) => air.eval(builder),
         }
     }

@@ -7,7 +7,8 @@ use Rattle.p3_lookup.specs.Bus.{HaveOneWidth}
 use Rattle.p3_lookup.specs.Lookup.{LookupData, lookups_of}
 use Rattle.tool_tables.specs.Tool.{tool_interactions}
 use Rattle.tool_tables.specs.declared.tool.ToolAir.{ToolAir}
-use Rattle.tool_tables.specs.declared.tool.ToolAir.TheVariants.{Swap, Wheel, Take, Give, Hash}
+use Rattle.tool_tables.specs.declared.tool.ToolAir.TheVariants.{Swap, Wheel, Words, Hash}
+use Rattle.tool_tables.specs.declared.words.WordsAir.TheVariants.{Take, Give}
 
 -- lookups whose tuples have one field
 abbrev pub SendsWords : {F : Type 0} → LookupData F → Type 0
@@ -20,8 +21,8 @@ module _ {F : Type 0} (r : Ring F) where
   sends_words : (a : ToolAir F) → All SendsWords (lookups_of (tool_interactions r a))
   sends_words (Swap a) = search rules
   sends_words (Wheel a) = search rules
-  sends_words (Take a) = search rules
-  sends_words (Give a) = search rules
+  sends_words (Words Take) = search rules
+  sends_words (Words Give) = search rules
   sends_words (Hash a) = search rules
 
   all_send_words : (airs : List (ToolAir F)) → All SendsWords (flat_map (λ a. lookups_of (tool_interactions r a)) airs)
