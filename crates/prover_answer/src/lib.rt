@@ -10,4 +10,4 @@ mod settings;
 pub use batch_setup::ProverPhase;
 pub use batch_transcript::GrindStep;
 pub use error::ProvingError;
-pub use settings::ProverSettings;
+pub use settings::{Batches, ProverSettings};

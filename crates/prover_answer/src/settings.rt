@@ -1,17 +1,22 @@
-//! A configuration's prover as plain data.
+//! A configuration's prover, and the batches that it proves, as plain data.
 ghost use Rattle.std.specs.Prelude.{List};
 ghost use Rattle.p3_field.specs.Domain.{CosetData};
 ghost use Rattle.p3_matrix.specs.Matrix.{Rows};
 ghost use Rattle.commit_core.specs.Commitments.{IsCommitment};
+ghost use Rattle.batch_setup.specs.Setup.{Instance};
+ghost use Rattle.batch_statement.specs.Statement.{WrittenCommon};
 ghost use Rattle.law_honest.specs.HonestProof.{Prover};
 ghost use Rattle.prover_answer.specs.Backend.{ProverBackend};
+ghost use Rattle.prover_answer.specs.Batch.{Batch, batch_of};
 
+use air_core::{Air, BaseAir};
+use batch_config::Settings;
 use commit_core::{CosetPcs, Pcs, PolynomialSpace, UnivariateStarkPcs};
 use p3_field::{
     BasedVectorSpace, ExtensionField, Field, FieldCore, PrimeCharacteristicRing, PrimeCore64,
     PrimeField64, RingCore, TwoAdicCore, TwoAdicField,
 };
-use p3_uni_stark::StarkGenericConfig;
+use p3_uni_stark::{StarkGenericConfig, Val};
 
 /// A configuration's prover as plain data (not in Plonky3). Each configuration has it.
 pub trait ProverSettings: StarkGenericConfig {
@@ -54,4 +59,18 @@ impl<SC: StarkGenericConfig> ProverSettings for SC {
       proves = SC.Pcs.proves (SC.pcs_of config);
       excludes = SC.Pcs.excludes (SC.pcs_of config);
     } };
+}
+
+/// The batches over a configuration as plain data (not in Plonky3). Each configuration has them, of AIRs over its field.
+pub trait Batches<A>: StarkGenericConfig {
+    // the batch of these instances with this common data
+    ghost batch: { Self → List (Instance A Self.Val)
+        → WrittenCommon Self.Val Self.Pcs.Commitment
+        → Batch Self.Challenger Self.Val Self.Challenge Self.Pcs.Commitment };
+}
+
+impl<SC: StarkGenericConfig, A: Air<Val<SC>>> Batches<A> for SC {
+    ghost batch = { λ config instances common.
+        batch_of (⟦<SC as Settings>⟧.setting config) (⟦<SC as ProverSettings>⟧.prover config)
+        A.declaration A.trees instances common };
 }

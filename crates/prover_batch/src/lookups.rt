@@ -2,14 +2,13 @@
 ghost use Rattle.std.specs.Prelude.{◌≡◌, ◌^◌, ◌<◌, ◌++◌, ◌⊎◌, false, IfOk, is_some, map, option_map};
 ghost use Rattle.std.specs.Option.{option_copied};
 ghost use Rattle.batch_transcript.specs.BatchScript.{from_lookup, from_quotient};
-ghost use Rattle.prover_answer.specs.Batch.{CommitsToSome, IsTracedAll, all_challenges, all_permutations, batch_of, folding};
+ghost use Rattle.prover_answer.specs.Batch.{CommitsToSome, IsTracedAll, all_challenges, all_permutations, folding};
 ghost use Rattle.prover_answer.specs.Proving.{HaveFractionsFor, IsPairGroundOf, fraction_part, lookup_part, permutation_part};
 ghost use Rattle.prover_answer.specs.Verdict.{IsProverAnswer};
 ghost use Rattle.prover_batch.specs.Stages.{pair_state, permutation_commitment, quotient_state, shape_of, terminals_of};
 
 use crate::transcript::Transcript;
 use air_core::{Air, BaseAir};
-use batch_config::Settings;
 use batch_setup::{Committed, StarkInstance};
 use batch_statement::CommonData;
 use batch_transcript::TranscriptError;
@@ -21,7 +20,7 @@ use p3_field::{
 };
 use p3_lookup::{LogUpGadget, LookupTerminal};
 use p3_uni_stark::{Challenge, Commitment, PcsProverError, StarkGenericConfig, Val};
-use prover_answer::{GrindStep, ProverSettings, ProvingError};
+use prover_answer::{Batches, GrindStep, ProverSettings, ProvingError};
 use prover_commits::{Permutations, commit_permutations, permutation_columns};
 use std::alloc::Global;
 use verifier_draws::terminals_there;
@@ -90,51 +89,38 @@ pub(crate) fn lookup_stage<SC: StarkGenericConfig, A: Air<Val<SC>>>(
     ProvingError<PcsProverError<SC>>,
 >
     requires plain { SC.Pcs.ZK ≡ false }
-    requires traced { let b = batch_of (⟦<SC as Settings>⟧.setting config.now)
-        (⟦<SC as ProverSettings>⟧.prover config.now) A.declaration A.trees instances.now
-        common.now in IsTracedAll b }
+    requires traced { let b = ⟦<SC as Batches<A>>⟧.batch config.now instances.now common.now in
+        IsTracedAll b }
     requires turn { transcript.old.remaining
         ≡ from_lookup SC.Challenge.DIMENSION transcript.old.shape }
-    requires shape { let b = batch_of (⟦<SC as Settings>⟧.setting config.now)
-        (⟦<SC as ProverSettings>⟧.prover config.now) A.declaration A.trees instances.now
-        common.now in transcript.old.shape ≡ shape_of b }
+    requires shape { let b = ⟦<SC as Batches<A>>⟧.batch config.now instances.now common.now in
+        transcript.old.shape ≡ shape_of b }
     requires few { 2 ^ transcript.old.shape.lookup_pow_bits < SC.Val.ORDER_U64 }
-    requires state { let b = batch_of (⟦<SC as Settings>⟧.setting config.now)
-        (⟦<SC as ProverSettings>⟧.prover config.now) A.declaration A.trees instances.now
-        common.now in transcript.old.state ≡ pair_state b }
-    ensures verdict { let b = batch_of (⟦<SC as Settings>⟧.setting config.now)
-        (⟦<SC as ProverSettings>⟧.prover config.now) A.declaration A.trees instances.now
-        common.now in let k = ⟦<SC as ProverSettings>⟧.prover_backend config.now in
+    requires state { let b = ⟦<SC as Batches<A>>⟧.batch config.now instances.now common.now in
+        transcript.old.state ≡ pair_state b }
+    ensures verdict { let b = ⟦<SC as Batches<A>>⟧.batch config.now instances.now common.now in
+        let k = ⟦<SC as ProverSettings>⟧.prover_backend config.now in
         IsProverAnswer (lookup_part b ++ (fraction_part b ++ permutation_part k b)) result }
-    ensures witness { let b = batch_of (⟦<SC as Settings>⟧.setting config.now)
-        (⟦<SC as ProverSettings>⟧.prover config.now) A.declaration A.trees instances.now
-        common.now in IfOk result (λ r. IsPairGroundOf b r.witness) }
-    ensures challenges { let b = batch_of (⟦<SC as Settings>⟧.setting config.now)
-        (⟦<SC as ProverSettings>⟧.prover config.now) A.declaration A.trees instances.now
-        common.now in IfOk result
+    ensures witness { let b = ⟦<SC as Batches<A>>⟧.batch config.now instances.now common.now in
+        IfOk result (λ r. IsPairGroundOf b r.witness) }
+    ensures challenges { let b = ⟦<SC as Batches<A>>⟧.batch config.now instances.now common.now in
+        IfOk result
         (λ r. map (λ v. v.items) r.challenges.items ≡ all_challenges b r.witness) }
-    ensures terminals { let b = batch_of (⟦<SC as Settings>⟧.setting config.now)
-        (⟦<SC as ProverSettings>⟧.prover config.now) A.declaration A.trees instances.now
-        common.now in IfOk result
+    ensures terminals { let b = ⟦<SC as Batches<A>>⟧.batch config.now instances.now common.now in
+        IfOk result
         (λ r. map (option_map (λ t. t.0)) r.terminals.items ≡ terminals_of b r.witness) }
-    ensures fractions { let b = batch_of (⟦<SC as Settings>⟧.setting config.now)
-        (⟦<SC as ProverSettings>⟧.prover config.now) A.declaration A.trees instances.now
-        common.now in IfOk result (λ r. HaveFractionsFor b r.witness) }
-    ensures committed { let b = batch_of (⟦<SC as Settings>⟧.setting config.now)
-        (⟦<SC as ProverSettings>⟧.prover config.now) A.declaration A.trees instances.now
-        common.now in
+    ensures fractions { let b = ⟦<SC as Batches<A>>⟧.batch config.now instances.now common.now in
+        IfOk result (λ r. HaveFractionsFor b r.witness) }
+    ensures committed { let b = ⟦<SC as Batches<A>>⟧.batch config.now instances.now common.now in
         IfOk result (λ r. CommitsToSome (⟦<SC as ProverSettings>⟧.commits_to config.now)
         (all_permutations b r.witness) r.permutation) }
-    ensures permutation { let b = batch_of (⟦<SC as Settings>⟧.setting config.now)
-        (⟦<SC as ProverSettings>⟧.prover config.now) A.declaration A.trees instances.now
-        common.now in IfOk result
+    ensures permutation { let b = ⟦<SC as Batches<A>>⟧.batch config.now instances.now common.now in
+        IfOk result
         (λ r. option_map (λ c. c.0) r.permutation ≡ permutation_commitment b r.witness) }
-    ensures alpha { let b = batch_of (⟦<SC as Settings>⟧.setting config.now)
-        (⟦<SC as ProverSettings>⟧.prover config.now) A.declaration A.trees instances.now
-        common.now in IfOk result (λ r. r.alpha ≡ folding b r.witness) }
-    ensures state { let b = batch_of (⟦<SC as Settings>⟧.setting config.now)
-        (⟦<SC as ProverSettings>⟧.prover config.now) A.declaration A.trees instances.now
-        common.now in IfOk result (λ r. transcript.new.state ≡ quotient_state b r.witness) }
+    ensures alpha { let b = ⟦<SC as Batches<A>>⟧.batch config.now instances.now common.now in
+        IfOk result (λ r. r.alpha ≡ folding b r.witness) }
+    ensures state { let b = ⟦<SC as Batches<A>>⟧.batch config.now instances.now common.now in
+        IfOk result (λ r. transcript.new.state ≡ quotient_state b r.witness) }
     ensures turn { IfOk result
         (λ r. transcript.new.remaining
         ≡ from_quotient SC.Challenge.DIMENSION transcript.new.shape) }

@@ -6,7 +6,7 @@ ghost use Rattle.law_valid.specs.Valid.{Valid};
 ghost use Rattle.verifier_batch.specs.BatchChecks.{Accepted};
 ghost use Rattle.law_acceptance.specs.Honest.{HaveFewRows, IsOutsideRows};
 ghost use Rattle.law_honest.specs.HonestProof.{IsHonest};
-ghost use Rattle.prover_answer.specs.Batch.{CommitsToSome, HasProverData, IsTracedAll, all_chunks, all_permutations, batch_of, main_matrices, preprocessed_all, table_at, table_count};
+ghost use Rattle.prover_answer.specs.Batch.{CommitsToSome, HasProverData, IsTracedAll, all_chunks, all_permutations, main_matrices, preprocessed_all, table_at, table_count};
 ghost use Rattle.prover_answer.specs.Proving.{AvoidsExcluded, HaveFractionsFor, IsGroundOf, IsHonestProof, extension_part, fraction_part, lookup_part, ood_part, opening_part, permutation_part, proving_checks, quotient_part};
 ghost use Rattle.prover_answer.specs.Verdict.{IsProverAnswer, IsProverVerdict};
 ghost use Rattle.prover_batch.specs.Stages.{main_of, pair_state, permutation_commitment, point_of, quotient_of, shape_of, state_of_opening, terminals_of};
@@ -25,7 +25,7 @@ use p3_field::{
     PrimeField64, RingCore, TwoAdicCore, TwoAdicField,
 };
 use p3_uni_stark::{Challenge, Commitment, PcsProverError, StarkGenericConfig, Val};
-use prover_answer::{ProverSettings, ProvingError};
+use prover_answer::{Batches, ProverSettings, ProvingError};
 use prover_commits::{check_bound, commit_traces};
 use prover_openings::open_batch;
 use std::alloc::Global;
@@ -79,32 +79,22 @@ pub fn prove_batch_with_point<SC: StarkGenericConfig, A: Air<Val<SC>>>(
     prover_data: &ProverData<SC>,
 ) -> Result<(BatchProof<SC>, Challenge<SC>), ProvingError<PcsProverError<SC>>>
     requires plain { SC.Pcs.ZK ≡ false }
-    requires traced { let b = batch_of (⟦<SC as Settings>⟧.setting config.now)
-        (⟦<SC as ProverSettings>⟧.prover config.now) A.declaration A.trees instances.now
-        prover_data.now.common in IsTracedAll b }
-    requires prover_data { let b = batch_of (⟦<SC as Settings>⟧.setting config.now)
-        (⟦<SC as ProverSettings>⟧.prover config.now) A.declaration A.trees instances.now
-        prover_data.now.common in
+    requires traced { let b = ⟦<SC as Batches<A>>⟧.batch config.now instances.now prover_data.now.common in
+        IsTracedAll b }
+    requires prover_data { let b = ⟦<SC as Batches<A>>⟧.batch config.now instances.now prover_data.now.common in
         HasProverData (⟦<SC as ProverSettings>⟧.commits_to config.now) (preprocessed_all b)
         b.statement.common.preprocessed prover_data.now.prover_only.preprocessed_prover_data }
-    ensures verdict { let b = batch_of (⟦<SC as Settings>⟧.setting config.now)
-        (⟦<SC as ProverSettings>⟧.prover config.now) A.declaration A.trees instances.now
-        prover_data.now.common in
+    ensures verdict { let b = ⟦<SC as Batches<A>>⟧.batch config.now instances.now prover_data.now.common in
         let k = ⟦<SC as ProverSettings>⟧.prover_backend config.now in
         IsProverAnswer (proving_checks k b) result }
-    ensures first { let b = batch_of (⟦<SC as Settings>⟧.setting config.now)
-        (⟦<SC as ProverSettings>⟧.prover config.now) A.declaration A.trees instances.now
-        prover_data.now.common in
+    ensures first { let b = ⟦<SC as Batches<A>>⟧.batch config.now instances.now prover_data.now.common in
         let k = ⟦<SC as ProverSettings>⟧.prover_backend config.now in
         IsProverVerdict (proving_checks k b) result }
-    ensures proved { let b = batch_of (⟦<SC as Settings>⟧.setting config.now)
-        (⟦<SC as ProverSettings>⟧.prover config.now) A.declaration A.trees instances.now
-        prover_data.now.common in
+    ensures proved { let b = ⟦<SC as Batches<A>>⟧.batch config.now instances.now prover_data.now.common in
         let k = ⟦<SC as ProverSettings>⟧.prover_backend config.now in
         IfOk result (λ r. IsHonestProof k b r.0) }
-    ensures accepted { let b = batch_of (⟦<SC as Settings>⟧.setting config.now)
-        (⟦<SC as ProverSettings>⟧.prover config.now) A.declaration A.trees instances.now
-        prover_data.now.common in let k = ⟦<SC as ProverSettings>⟧.prover_backend config.now in
+    ensures accepted { let b = ⟦<SC as Batches<A>>⟧.batch config.now instances.now prover_data.now.common in
+        let k = ⟦<SC as ProverSettings>⟧.prover_backend config.now in
         IfOk result (λ r. HaveFewRows b.setting b.statement b.traces b.degree_bits
         → Valid b.setting SC.Val.eq b.prover.commitment_of b.statement b.traces b.degree_bits
         → ((i : ℕ) → i < length instances.now
@@ -112,9 +102,7 @@ pub fn prove_batch_with_point<SC: StarkGenericConfig, A: Air<Val<SC>>>(
         (point_of b r.0.lookup_pow_witness r.0.ood_pow_witness))
         → AvoidsExcluded k b r.0.lookup_pow_witness r.0.ood_pow_witness
         → Accepted b.setting (⟦<SC as Settings>⟧.backend config.now) b.statement r.0) }
-    ensures point { let b = batch_of (⟦<SC as Settings>⟧.setting config.now)
-        (⟦<SC as ProverSettings>⟧.prover config.now) A.declaration A.trees instances.now
-        prover_data.now.common in
+    ensures point { let b = ⟦<SC as Batches<A>>⟧.batch config.now instances.now prover_data.now.common in
         IfOk result (λ r. r.1 ≡ point_of b r.0.lookup_pow_witness r.0.ood_pow_witness) }
 {
     let common = &prover_data.common;
@@ -179,32 +167,22 @@ pub fn prove_batch<SC: StarkGenericConfig, A: Air<Val<SC>>>(
     prover_data: &ProverData<SC>,
 ) -> Result<BatchProof<SC>, ProvingError<PcsProverError<SC>>>
     requires plain { SC.Pcs.ZK ≡ false }
-    requires traced { let b = batch_of (⟦<SC as Settings>⟧.setting config.now)
-        (⟦<SC as ProverSettings>⟧.prover config.now) A.declaration A.trees instances.now
-        prover_data.now.common in IsTracedAll b }
-    requires prover_data { let b = batch_of (⟦<SC as Settings>⟧.setting config.now)
-        (⟦<SC as ProverSettings>⟧.prover config.now) A.declaration A.trees instances.now
-        prover_data.now.common in
+    requires traced { let b = ⟦<SC as Batches<A>>⟧.batch config.now instances.now prover_data.now.common in
+        IsTracedAll b }
+    requires prover_data { let b = ⟦<SC as Batches<A>>⟧.batch config.now instances.now prover_data.now.common in
         HasProverData (⟦<SC as ProverSettings>⟧.commits_to config.now) (preprocessed_all b)
         b.statement.common.preprocessed prover_data.now.prover_only.preprocessed_prover_data }
-    ensures verdict { let b = batch_of (⟦<SC as Settings>⟧.setting config.now)
-        (⟦<SC as ProverSettings>⟧.prover config.now) A.declaration A.trees instances.now
-        prover_data.now.common in
+    ensures verdict { let b = ⟦<SC as Batches<A>>⟧.batch config.now instances.now prover_data.now.common in
         let k = ⟦<SC as ProverSettings>⟧.prover_backend config.now in
         IsProverAnswer (proving_checks k b) result }
-    ensures first { let b = batch_of (⟦<SC as Settings>⟧.setting config.now)
-        (⟦<SC as ProverSettings>⟧.prover config.now) A.declaration A.trees instances.now
-        prover_data.now.common in
+    ensures first { let b = ⟦<SC as Batches<A>>⟧.batch config.now instances.now prover_data.now.common in
         let k = ⟦<SC as ProverSettings>⟧.prover_backend config.now in
         IsProverVerdict (proving_checks k b) result }
-    ensures proved { let b = batch_of (⟦<SC as Settings>⟧.setting config.now)
-        (⟦<SC as ProverSettings>⟧.prover config.now) A.declaration A.trees instances.now
-        prover_data.now.common in
+    ensures proved { let b = ⟦<SC as Batches<A>>⟧.batch config.now instances.now prover_data.now.common in
         let k = ⟦<SC as ProverSettings>⟧.prover_backend config.now in
         IfOk result (IsHonestProof k b) }
-    ensures accepted { let b = batch_of (⟦<SC as Settings>⟧.setting config.now)
-        (⟦<SC as ProverSettings>⟧.prover config.now) A.declaration A.trees instances.now
-        prover_data.now.common in let k = ⟦<SC as ProverSettings>⟧.prover_backend config.now in
+    ensures accepted { let b = ⟦<SC as Batches<A>>⟧.batch config.now instances.now prover_data.now.common in
+        let k = ⟦<SC as ProverSettings>⟧.prover_backend config.now in
         IfOk result (λ q. HaveFewRows b.setting b.statement b.traces b.degree_bits
         → Valid b.setting SC.Val.eq b.prover.commitment_of b.statement b.traces b.degree_bits
         → ((i : ℕ) → i < length instances.now

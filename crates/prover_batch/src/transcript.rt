@@ -3,11 +3,10 @@ ghost use Rattle.std.specs.Prelude.{◌≡◌, ◌^◌, ◌<◌, [], IfOk, is_so
 ghost use Rattle.std.specs.Option.{option_copied};
 ghost use Rattle.batch_transcript.specs.BatchScript.{from_lookup, from_ood, from_quotient, quotient_script};
 ghost use Rattle.batch_transcript.specs.Running.{Plays};
-ghost use Rattle.prover_answer.specs.Batch.{IsTracedAll, batch_of};
+ghost use Rattle.prover_answer.specs.Batch.{IsTracedAll};
 ghost use Rattle.prover_batch.specs.Stages.{main_of, pair_state, shape_of};
 
 use air_core::{Air, BaseAir};
-use batch_config::Settings;
 use batch_setup::{StarkInstance, lent_airs};
 use batch_statement::CommonData;
 use batch_transcript::{BatchChallenger, BatchProverTranscript};
@@ -18,7 +17,7 @@ use p3_field::{
     PrimeField64, RingCore, TwoAdicCore, TwoAdicField,
 };
 use p3_uni_stark::{Challenge, Challenger, Commitment, StarkGenericConfig, Val};
-use prover_answer::ProverSettings;
+use prover_answer::Batches;
 use std::alloc::Global;
 use verifier_draws::{batch_shape, preprocessed_commitment};
 
@@ -56,22 +55,17 @@ pub fn bound_transcript<SC: StarkGenericConfig, A: Air<Val<SC>>>(
     degree_bits: &[usize],
     main: &Commitment<SC>,
 ) -> Mem<Transcript<SC>>
-    requires traced { let b = batch_of (⟦<SC as Settings>⟧.setting config.now)
-        (⟦<SC as ProverSettings>⟧.prover config.now) A.declaration A.trees instances.now
-        common.now in IsTracedAll b }
-    requires degree_bits { let b = batch_of (⟦<SC as Settings>⟧.setting config.now)
-        (⟦<SC as ProverSettings>⟧.prover config.now) A.declaration A.trees instances.now
-        common.now in degree_bits.now ≡ b.degree_bits }
-    requires main { let b = batch_of (⟦<SC as Settings>⟧.setting config.now)
-        (⟦<SC as ProverSettings>⟧.prover config.now) A.declaration A.trees instances.now
-        common.now in main.now ≡ main_of b }
-    ensures state { let b = batch_of (⟦<SC as Settings>⟧.setting config.now)
-        (⟦<SC as ProverSettings>⟧.prover config.now) A.declaration A.trees instances.now
-        common.now in IfOk result (λ t. t.state ≡ pair_state b) }
+    requires traced { let b = ⟦<SC as Batches<A>>⟧.batch config.now instances.now common.now in
+        IsTracedAll b }
+    requires degree_bits { let b = ⟦<SC as Batches<A>>⟧.batch config.now instances.now common.now in
+        degree_bits.now ≡ b.degree_bits }
+    requires main { let b = ⟦<SC as Batches<A>>⟧.batch config.now instances.now common.now in
+        main.now ≡ main_of b }
+    ensures state { let b = ⟦<SC as Batches<A>>⟧.batch config.now instances.now common.now in
+        IfOk result (λ t. t.state ≡ pair_state b) }
     ensures turn { IfOk result (λ t. t.remaining ≡ from_lookup SC.Challenge.DIMENSION t.shape) }
-    ensures shape { let b = batch_of (⟦<SC as Settings>⟧.setting config.now)
-        (⟦<SC as ProverSettings>⟧.prover config.now) A.declaration A.trees instances.now
-        common.now in IfOk result (λ t. t.shape ≡ shape_of b) }
+    ensures shape { let b = ⟦<SC as Batches<A>>⟧.batch config.now instances.now common.now in
+        IfOk result (λ t. t.shape ≡ shape_of b) }
     ensures few_lookup { IfOk result (λ t. 2 ^ t.shape.lookup_pow_bits < SC.Val.ORDER_U64) }
     ensures few_ood { IfOk result (λ t. 2 ^ t.shape.ood_pow_bits < SC.Val.ORDER_U64) }
 {

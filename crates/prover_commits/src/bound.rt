@@ -3,12 +3,11 @@ ghost use Rattle.std.specs.Prelude.{◌≡◌, length, map, IfOk};
 ghost use Rattle.p3_lookup.specs.Bound.{IsFirstOverload};
 ghost use Rattle.p3_lookup.specs.Written.{read_all};
 ghost use Rattle.p3_matrix.specs.Matrix.{height};
-ghost use Rattle.prover_answer.specs.Batch.{IsTracedAll, batch_of};
+ghost use Rattle.prover_answer.specs.Batch.{IsTracedAll};
 ghost use Rattle.prover_answer.specs.Proving.{bound_part};
 ghost use Rattle.prover_answer.specs.Verdict.{IsProverVerdict};
 
 use air_core::{Air, BaseAir};
-use batch_config::Settings;
 use batch_setup::{StarkInstance, TableInstance};
 use batch_statement::CommonData;
 use commit_core::{CosetPcs, Pcs, PolynomialSpace, UnivariateStarkPcs};
@@ -18,7 +17,7 @@ use p3_field::{
 };
 use p3_lookup::{LookupError, check_multiplicity_height_bound};
 use p3_uni_stark::{PcsProverError, StarkGenericConfig, Val};
-use prover_answer::{ProverSettings, ProvingError};
+use prover_answer::{Batches, ProvingError};
 use std::alloc::Global;
 
 // The heights of the instances' traces, in order.
@@ -41,12 +40,9 @@ pub fn check_bound<SC: StarkGenericConfig, A: Air<Val<SC>>>(
     instances: &[StarkInstance<'_, SC, A>],
     common: &CommonData<SC>,
 ) -> Result<(), ProvingError<PcsProverError<SC>>>
-    requires { let b = batch_of (⟦<SC as Settings>⟧.setting config.now)
-        (⟦<SC as ProverSettings>⟧.prover config.now) A.declaration A.trees instances.now
-        common.now in IsTracedAll b }
-    ensures { let b = batch_of (⟦<SC as Settings>⟧.setting config.now)
-        (⟦<SC as ProverSettings>⟧.prover config.now) A.declaration A.trees instances.now
-        common.now in
+    requires { let b = ⟦<SC as Batches<A>>⟧.batch config.now instances.now common.now in
+        IsTracedAll b }
+    ensures { let b = ⟦<SC as Batches<A>>⟧.batch config.now instances.now common.now in
         IsProverVerdict (bound_part b) result }
 {
     let heights = heights(alloc, instances)?;

@@ -3,7 +3,7 @@ ghost use Rattle.std.specs.Prelude.{◌≡◌, ◌^◌, ◌<◌, ◌≤◌, ◌+
 ghost use Rattle.std.specs.Int.{IsPowerOfTwo};
 ghost use Rattle.p3_field.specs.Domain.{subgroup};
 ghost use Rattle.batch_setup.specs.Setup.{log_of};
-ghost use Rattle.prover_answer.specs.Batch.{IsTracedAll, all_challenges, all_permutations, batch_of};
+ghost use Rattle.prover_answer.specs.Batch.{IsTracedAll, all_challenges, all_permutations};
 ghost use Rattle.prover_answer.specs.Proving.{IsPairGroundOf, fraction_part};
 ghost use Rattle.prover_answer.specs.Verdict.{IsProverVerdict};
 ghost use Rattle.law_honest.specs.HonestProof.{terminals};
@@ -12,7 +12,6 @@ ghost use Rattle.prover_commits.specs.Columns.{ArePermutationsMade, AreReady, Is
 use crate::rows_domain;
 use crate::table::table_columns;
 use air_core::{Air, BaseAir};
-use batch_config::Settings;
 use batch_setup::StarkInstance;
 use batch_statement::CommonData;
 use commit_core::{CosetPcs, Pcs, PolynomialSpace, UnivariateStarkPcs};
@@ -23,7 +22,7 @@ use p3_field::{
 use p3_lookup::LookupTerminal;
 use p3_matrix::RowMajorMatrix;
 use p3_uni_stark::{Challenge, Domain, PcsProverError, StarkGenericConfig, Val};
-use prover_answer::{ProverSettings, ProvingError};
+use prover_answer::{Batches, ProvingError};
 use std::alloc::Global;
 
 /// The permutation columns of a batch, and its terminals (not in Plonky3).
@@ -72,15 +71,12 @@ fn with_table<SC: StarkGenericConfig, A: Air<Val<SC>>>(
     requires within { place < length instances.now }
     requires lookups { length common.now.lookups ≡ length instances.now }
     requires challenges { length challenges.now ≡ length instances.now }
-    requires ready { AreReady (batch_of (⟦<SC as Settings>⟧.setting config.now)
-        (⟦<SC as ProverSettings>⟧.prover config.now) A.declaration A.trees instances.now common.now)
+    requires ready { AreReady (⟦<SC as Batches<A>>⟧.batch config.now instances.now common.now)
         (map (λ v. v.items) challenges.now) (length instances.now) }
     requires made { ArePermutationsMade
-        (batch_of (⟦<SC as Settings>⟧.setting config.now)
-        (⟦<SC as ProverSettings>⟧.prover config.now) A.declaration A.trees instances.now common.now)
+        (⟦<SC as Batches<A>>⟧.batch config.now instances.now common.now)
         (map (λ v. v.items) challenges.now) place made.columns.items made.terminals.items }
-    ensures { IsMadeMore (batch_of (⟦<SC as Settings>⟧.setting config.now)
-        (⟦<SC as ProverSettings>⟧.prover config.now) A.declaration A.trees instances.now common.now)
+    ensures { IsMadeMore (⟦<SC as Batches<A>>⟧.batch config.now instances.now common.now)
         (map (λ v. v.items) challenges.now) (length instances.now) place (λ r. r.columns.items)
         (λ r. r.terminals.items) result }
 {
@@ -103,11 +99,9 @@ fn columns_for<SC: StarkGenericConfig, A: Air<Val<SC>>>(
 ) -> Result<Permutations<Val<SC>, Challenge<SC>>, ProvingError<PcsProverError<SC>>>
     requires lookups { length common.now.lookups ≡ length instances.now }
     requires challenges { length challenges.now ≡ length instances.now }
-    requires ready { AreReady (batch_of (⟦<SC as Settings>⟧.setting config.now)
-        (⟦<SC as ProverSettings>⟧.prover config.now) A.declaration A.trees instances.now common.now)
+    requires ready { AreReady (⟦<SC as Batches<A>>⟧.batch config.now instances.now common.now)
         (map (λ v. v.items) challenges.now) (length instances.now) }
-    ensures { IsAllMade (batch_of (⟦<SC as Settings>⟧.setting config.now)
-        (⟦<SC as ProverSettings>⟧.prover config.now) A.declaration A.trees instances.now common.now)
+    ensures { IsAllMade (⟦<SC as Batches<A>>⟧.batch config.now instances.now common.now)
         (map (λ v. v.items) challenges.now) (length instances.now) (λ r. r.columns.items)
         (λ r. r.terminals.items) result }
 {
@@ -136,26 +130,17 @@ pub fn permutation_columns<SC: StarkGenericConfig, A: Air<Val<SC>>>(
     challenges: &[Vec<Challenge<SC>>],
 ) -> Result<Permutations<Val<SC>, Challenge<SC>>, ProvingError<PcsProverError<SC>>>
     requires plain { SC.Pcs.ZK ≡ false }
-    requires traced { let b = batch_of (⟦<SC as Settings>⟧.setting config.now)
-        (⟦<SC as ProverSettings>⟧.prover config.now) A.declaration A.trees instances.now
-        common.now in IsTracedAll b }
-    requires challenges { let b = batch_of (⟦<SC as Settings>⟧.setting config.now)
-        (⟦<SC as ProverSettings>⟧.prover config.now) A.declaration A.trees instances.now
-        common.now in
+    requires traced { let b = ⟦<SC as Batches<A>>⟧.batch config.now instances.now common.now in
+        IsTracedAll b }
+    requires challenges { let b = ⟦<SC as Batches<A>>⟧.batch config.now instances.now common.now in
         (w : Option SC.Val) × IsPairGroundOf b w
         × (map (λ v. v.items) challenges.now ≡ all_challenges b w) }
-    ensures verdict { let b = batch_of (⟦<SC as Settings>⟧.setting config.now)
-        (⟦<SC as ProverSettings>⟧.prover config.now) A.declaration A.trees instances.now
-        common.now in
+    ensures verdict { let b = ⟦<SC as Batches<A>>⟧.batch config.now instances.now common.now in
         IsProverVerdict (fraction_part b) result }
-    ensures columns { let b = batch_of (⟦<SC as Settings>⟧.setting config.now)
-        (⟦<SC as ProverSettings>⟧.prover config.now) A.declaration A.trees instances.now
-        common.now in
+    ensures columns { let b = ⟦<SC as Batches<A>>⟧.batch config.now instances.now common.now in
         IfOk result (λ r. (w : Option SC.Val) → IsPairGroundOf b w
         → r.columns.items ≡ all_permutations b w) }
-    ensures terminals { let b = batch_of (⟦<SC as Settings>⟧.setting config.now)
-        (⟦<SC as ProverSettings>⟧.prover config.now) A.declaration A.trees instances.now
-        common.now in
+    ensures terminals { let b = ⟦<SC as Batches<A>>⟧.batch config.now instances.now common.now in
         IfOk result (λ r. (w : Option SC.Val) → IsPairGroundOf b w
         → map (option_map (λ t. t.0)) r.terminals.items
         ≡ terminals b.setting b.prover b.statement b.traces b.degree_bits w) }

@@ -4,14 +4,13 @@ ghost use Rattle.std.specs.Int.{IsPowerOfTwo};
 ghost use Rattle.p3_field.specs.Domain.{subgroup};
 ghost use Rattle.p3_matrix.specs.Matrix.{height};
 ghost use Rattle.batch_setup.specs.Setup.{ArePowers, log_of};
-ghost use Rattle.prover_answer.specs.Batch.{IsTracedAll, batch_of, main_matrices};
+ghost use Rattle.prover_answer.specs.Batch.{IsTracedAll, main_matrices};
 ghost use Rattle.prover_answer.specs.Proving.{trace_part};
 ghost use Rattle.prover_answer.specs.Verdict.{IsProverVerdict};
 
 use crate::commitment::commit_matrices;
 use crate::domains::rows_domain;
 use air_core::{Air, BaseAir};
-use batch_config::Settings;
 use batch_setup::{Committed, ProverPhase, StarkInstance};
 use batch_statement::CommonData;
 use commit_core::{CosetPcs, Pcs, PolynomialSpace, UnivariateStarkPcs};
@@ -21,7 +20,7 @@ use p3_field::{
 };
 use p3_matrix::RowMajorMatrix;
 use p3_uni_stark::{Commitment, Domain, PcsProverError, StarkGenericConfig, Val};
-use prover_answer::{ProverSettings, ProvingError};
+use prover_answer::{Batches, ProverSettings, ProvingError};
 use std::alloc::Global;
 
 // A copy of a trace, on the domain of its rows.
@@ -69,16 +68,11 @@ pub fn commit_traces<SC: StarkGenericConfig, A: Air<Val<SC>>>(
     common: &CommonData<SC>,
 ) -> Result<(Commitment<SC>, Committed<SC>), ProvingError<PcsProverError<SC>>>
     requires plain { SC.Pcs.ZK ≡ false }
-    requires traced { let b = batch_of (⟦<SC as Settings>⟧.setting config.now)
-        (⟦<SC as ProverSettings>⟧.prover config.now) A.declaration A.trees instances.now
-        common.now in IsTracedAll b }
-    ensures verdict { let b = batch_of (⟦<SC as Settings>⟧.setting config.now)
-        (⟦<SC as ProverSettings>⟧.prover config.now) A.declaration A.trees instances.now
-        common.now in
+    requires traced { let b = ⟦<SC as Batches<A>>⟧.batch config.now instances.now common.now in
+        IsTracedAll b }
+    ensures verdict { let b = ⟦<SC as Batches<A>>⟧.batch config.now instances.now common.now in
         IsProverVerdict (trace_part (⟦<SC as ProverSettings>⟧.prover_backend config.now) b) result }
-    ensures committed { let b = batch_of (⟦<SC as Settings>⟧.setting config.now)
-        (⟦<SC as ProverSettings>⟧.prover config.now) A.declaration A.trees instances.now
-        common.now in
+    ensures committed { let b = ⟦<SC as Batches<A>>⟧.batch config.now instances.now common.now in
         IfOk result (⟦<SC as ProverSettings>⟧.commits_to config.now (main_matrices b)) }
 {
     let traces = traces_on_rows(alloc, config, instances)?;

@@ -1,6 +1,6 @@
 //! The openings of a batch, as its prover makes them.
 ghost use Rattle.std.specs.Prelude.{◌≡◌, false, IfOk, option_map};
-ghost use Rattle.prover_answer.specs.Batch.{HasProverData, IsTracedAll, batch_of, preprocessed_all};
+ghost use Rattle.prover_answer.specs.Batch.{HasProverData, IsTracedAll, preprocessed_all};
 ghost use Rattle.prover_answer.specs.Verdict.{IsProverVerdict};
 ghost use Rattle.prover_openings.specs.Asked.{kept_of};
 ghost use Rattle.prover_openings.specs.Check.{AreOpenedAll, IsLeftAfter, IsProofOfAsked, IsReady, IsTakenForAll, KeepsState, opening_request_checks};
@@ -9,7 +9,6 @@ use crate::counts::all_counts;
 use crate::openings::open_counted;
 use crate::requests::lookups_of;
 use air_core::{Air, BaseAir};
-use batch_config::Settings;
 use batch_setup::{Committed, StarkInstance, degree_bits};
 use batch_statement::{CommonData, OpenedValuesWithLookups};
 use commit_core::{CosetPcs, Pcs, PolynomialSpace, UnivariateStarkPcs};
@@ -18,7 +17,7 @@ use p3_field::{
     PrimeField64, RingCore, TwoAdicCore, TwoAdicField,
 };
 use p3_uni_stark::{Challenge, Challenger, PcsProof, PcsProverError, StarkGenericConfig, Val};
-use prover_answer::{ProverSettings, ProvingError};
+use prover_answer::{Batches, ProverSettings, ProvingError};
 use std::alloc::Global;
 
 /// Opens what a batch's prover committed to: each main, preprocessed and permutation matrix at `zeta`, and at the next point
@@ -51,48 +50,32 @@ pub fn open_batch<SC: StarkGenericConfig, A: Air<Val<SC>>>(
     ProvingError<PcsProverError<SC>>,
 >
     requires plain { SC.Pcs.ZK ≡ false }
-    requires traced { let b = batch_of (⟦<SC as Settings>⟧.setting config.now)
-        (⟦<SC as ProverSettings>⟧.prover config.now) A.declaration A.trees instances.now
-        common.now in
+    requires traced { let b = ⟦<SC as Batches<A>>⟧.batch config.now instances.now common.now in
         IsTracedAll b }
-    requires preprocessed { let b = batch_of (⟦<SC as Settings>⟧.setting config.now)
-        (⟦<SC as ProverSettings>⟧.prover config.now) A.declaration A.trees instances.now
-        common.now in
+    requires preprocessed { let b = ⟦<SC as Batches<A>>⟧.batch config.now instances.now common.now in
         HasProverData (⟦<SC as ProverSettings>⟧.commits_to config.now) (preprocessed_all b)
         b.statement.common.preprocessed (option_map (λ d. d.now) preprocessed) }
-    requires ready { let b = batch_of (⟦<SC as Settings>⟧.setting config.now)
-        (⟦<SC as ProverSettings>⟧.prover config.now) A.declaration A.trees instances.now
-        common.now in
+    requires ready { let b = ⟦<SC as Batches<A>>⟧.batch config.now instances.now common.now in
         let k = ⟦<SC as ProverSettings>⟧.prover_backend config.now in
         IsReady k b (kept_of main.now quotient.now preprocessed permutation)
         (⟦<SC as ProverSettings>⟧.commits_to config.now) zeta challenger.old }
-    ensures verdict { let b = batch_of (⟦<SC as Settings>⟧.setting config.now)
-        (⟦<SC as ProverSettings>⟧.prover config.now) A.declaration A.trees instances.now
-        common.now in
+    ensures verdict { let b = ⟦<SC as Batches<A>>⟧.batch config.now instances.now common.now in
         let k = ⟦<SC as ProverSettings>⟧.prover_backend config.now in
         IsProverVerdict (opening_request_checks k b
         (kept_of main.now quotient.now preprocessed.entry permutation.entry)) result }
-    ensures opened { let b = batch_of (⟦<SC as Settings>⟧.setting config.now)
-        (⟦<SC as ProverSettings>⟧.prover config.now) A.declaration A.trees instances.now
-        common.now in
+    ensures opened { let b = ⟦<SC as Batches<A>>⟧.batch config.now instances.now common.now in
         IfOk result (λ r. AreOpenedAll b r.0.items) }
-    ensures proves { let b = batch_of (⟦<SC as Settings>⟧.setting config.now)
-        (⟦<SC as ProverSettings>⟧.prover config.now) A.declaration A.trees instances.now
-        common.now in
+    ensures proves { let b = ⟦<SC as Batches<A>>⟧.batch config.now instances.now common.now in
         let k = ⟦<SC as ProverSettings>⟧.prover_backend config.now in
         IfOk result (λ r. IsProofOfAsked k b
         (kept_of main.now quotient.now preprocessed.entry permutation.entry)
         (SC.Pcs.proves (SC.pcs_of config.now)) r.1) }
     ensures unchanged { KeepsState result challenger.new challenger.old }
-    ensures after { let b = batch_of (⟦<SC as Settings>⟧.setting config.now)
-        (⟦<SC as ProverSettings>⟧.prover config.now) A.declaration A.trees instances.now
-        common.now in
+    ensures after { let b = ⟦<SC as Batches<A>>⟧.batch config.now instances.now common.now in
         IfOk result (λ r. IsLeftAfter b
         (kept_of main.now quotient.now preprocessed.entry permutation.entry)
         (SC.Pcs.after_open (SC.pcs_of config.now)) challenger.new r.1) }
-    ensures taken { let b = batch_of (⟦<SC as Settings>⟧.setting config.now)
-        (⟦<SC as ProverSettings>⟧.prover config.now) A.declaration A.trees instances.now
-        common.now in
+    ensures taken { let b = ⟦<SC as Batches<A>>⟧.batch config.now instances.now common.now in
         let k = ⟦<SC as ProverSettings>⟧.prover_backend config.now in
         IfOk result (λ r. IsTakenForAll k b (SC.Pcs.opens (SC.pcs_of config.now)) r.1) }
 {

@@ -2,7 +2,7 @@
 ghost use Rattle.std.specs.Prelude.{◌≡◌, ◌^◌, false, List, All, IfOk, option_map};
 ghost use Rattle.p3_field.specs.Poly.{tabulate};
 ghost use Rattle.commit_core.specs.Commitments.{AreOpenedCommitments, OpenedCommitment, IsOpening, nested};
-ghost use Rattle.prover_answer.specs.Batch.{HasProverData, IsTracedAll, batch_of, log_parts_at, preprocessed_all, table_count};
+ghost use Rattle.prover_answer.specs.Batch.{HasProverData, IsTracedAll, log_parts_at, preprocessed_all, table_count};
 ghost use Rattle.prover_answer.specs.Verdict.{IsProverVerdict};
 ghost use Rattle.prover_openings.specs.Asked.{kept_of};
 ghost use Rattle.prover_openings.specs.Check.{AreOpenedAll, IsLeftAfter, IsOpenedBy, IsProofOfAsked, IsReady, IsTakenForAll, KeepsState, opening_request_checks};
@@ -10,7 +10,6 @@ ghost use Rattle.prover_openings.specs.Check.{AreOpenedAll, IsLeftAfter, IsOpene
 use crate::requests::all_requests;
 use crate::tables::opened_tables;
 use air_core::{Air, BaseAir};
-use batch_config::Settings;
 use batch_setup::{Committed, StarkInstance};
 use batch_statement::{CommonData, OpenedValuesWithLookups};
 use commit_core::{
@@ -21,7 +20,7 @@ use p3_field::{
     PrimeField64, RingCore, TwoAdicCore, TwoAdicField,
 };
 use p3_uni_stark::{Challenge, Challenger, PcsProof, PcsProverError, StarkGenericConfig, Val};
-use prover_answer::{ProverPhase, ProverSettings, ProvingError};
+use prover_answer::{Batches, ProverPhase, ProverSettings, ProvingError};
 use std::alloc::Global;
 
 // What the backend opens of requests, of which the one at this place is that of preprocessed matrices. The answer is `Pcs`
@@ -95,56 +94,36 @@ pub(crate) fn open_counted<SC: StarkGenericConfig, A: Air<Val<SC>>>(
     ProvingError<PcsProverError<SC>>,
 >
     requires plain { SC.Pcs.ZK ≡ false }
-    requires traced { let b = batch_of (⟦<SC as Settings>⟧.setting config.now)
-        (⟦<SC as ProverSettings>⟧.prover config.now) A.declaration A.trees instances.now
-        common.now in
+    requires traced { let b = ⟦<SC as Batches<A>>⟧.batch config.now instances.now common.now in
         IsTracedAll b }
-    requires bits { let b = batch_of (⟦<SC as Settings>⟧.setting config.now)
-        (⟦<SC as ProverSettings>⟧.prover config.now) A.declaration A.trees instances.now
-        common.now in
+    requires bits { let b = ⟦<SC as Batches<A>>⟧.batch config.now instances.now common.now in
         degree_bits.now ≡ b.degree_bits }
-    requires chunks { let b = batch_of (⟦<SC as Settings>⟧.setting config.now)
-        (⟦<SC as ProverSettings>⟧.prover config.now) A.declaration A.trees instances.now
-        common.now in
+    requires chunks { let b = ⟦<SC as Batches<A>>⟧.batch config.now instances.now common.now in
         chunk_counts.now ≡ tabulate (table_count b) (λ i. 2 ^ log_parts_at b i) }
-    requires preprocessed { let b = batch_of (⟦<SC as Settings>⟧.setting config.now)
-        (⟦<SC as ProverSettings>⟧.prover config.now) A.declaration A.trees instances.now
-        common.now in
+    requires preprocessed { let b = ⟦<SC as Batches<A>>⟧.batch config.now instances.now common.now in
         HasProverData (⟦<SC as ProverSettings>⟧.commits_to config.now) (preprocessed_all b)
         b.statement.common.preprocessed (option_map (λ d. d.now) preprocessed) }
-    requires ready { let b = batch_of (⟦<SC as Settings>⟧.setting config.now)
-        (⟦<SC as ProverSettings>⟧.prover config.now) A.declaration A.trees instances.now
-        common.now in
+    requires ready { let b = ⟦<SC as Batches<A>>⟧.batch config.now instances.now common.now in
         let k = ⟦<SC as ProverSettings>⟧.prover_backend config.now in
         IsReady k b (kept_of main.now quotient.now preprocessed permutation)
         (⟦<SC as ProverSettings>⟧.commits_to config.now) zeta challenger.old }
-    ensures verdict { let b = batch_of (⟦<SC as Settings>⟧.setting config.now)
-        (⟦<SC as ProverSettings>⟧.prover config.now) A.declaration A.trees instances.now
-        common.now in
+    ensures verdict { let b = ⟦<SC as Batches<A>>⟧.batch config.now instances.now common.now in
         let k = ⟦<SC as ProverSettings>⟧.prover_backend config.now in
         IsProverVerdict (opening_request_checks k b
         (kept_of main.now quotient.now preprocessed.entry permutation.entry)) result }
-    ensures opened { let b = batch_of (⟦<SC as Settings>⟧.setting config.now)
-        (⟦<SC as ProverSettings>⟧.prover config.now) A.declaration A.trees instances.now
-        common.now in
+    ensures opened { let b = ⟦<SC as Batches<A>>⟧.batch config.now instances.now common.now in
         IfOk result (λ r. AreOpenedAll b r.0.items) }
-    ensures proves { let b = batch_of (⟦<SC as Settings>⟧.setting config.now)
-        (⟦<SC as ProverSettings>⟧.prover config.now) A.declaration A.trees instances.now
-        common.now in
+    ensures proves { let b = ⟦<SC as Batches<A>>⟧.batch config.now instances.now common.now in
         let k = ⟦<SC as ProverSettings>⟧.prover_backend config.now in
         IfOk result (λ r. IsProofOfAsked k b
         (kept_of main.now quotient.now preprocessed.entry permutation.entry)
         (SC.Pcs.proves (SC.pcs_of config.now)) r.1) }
     ensures unchanged { KeepsState result challenger.new challenger.old }
-    ensures after { let b = batch_of (⟦<SC as Settings>⟧.setting config.now)
-        (⟦<SC as ProverSettings>⟧.prover config.now) A.declaration A.trees instances.now
-        common.now in
+    ensures after { let b = ⟦<SC as Batches<A>>⟧.batch config.now instances.now common.now in
         IfOk result (λ r. IsLeftAfter b
         (kept_of main.now quotient.now preprocessed.entry permutation.entry)
         (SC.Pcs.after_open (SC.pcs_of config.now)) challenger.new r.1) }
-    ensures taken { let b = batch_of (⟦<SC as Settings>⟧.setting config.now)
-        (⟦<SC as ProverSettings>⟧.prover config.now) A.declaration A.trees instances.now
-        common.now in
+    ensures taken { let b = ⟦<SC as Batches<A>>⟧.batch config.now instances.now common.now in
         let k = ⟦<SC as ProverSettings>⟧.prover_backend config.now in
         IfOk result (λ r. IsTakenForAll k b (SC.Pcs.opens (SC.pcs_of config.now)) r.1) }
 {

@@ -8,7 +8,7 @@ ghost use Rattle.p3_field.specs.Domain.{CosetData};
 ghost use Rattle.p3_matrix.specs.Matrix.{Rows};
 ghost use Rattle.std.specs.Prelude.{List};
 ghost use Rattle.law_honest.specs.HonestProof.{terminals as honest_terminals};
-ghost use Rattle.prover_answer.specs.Batch.{HasProverData, IsTracedAll, all_challenges, all_chunks, all_permutations, batch_of, folding, log_parts_at, main_matrices, preprocessed_all, table_count};
+ghost use Rattle.prover_answer.specs.Batch.{HasProverData, IsTracedAll, all_challenges, all_chunks, all_permutations, folding, log_parts_at, main_matrices, preprocessed_all, table_count};
 ghost use Rattle.prover_answer.specs.Proving.{IsPairGroundOf, extension_part, quotient_part};
 ghost use Rattle.prover_answer.specs.Verdict.{IsProverAnswer, IsProverVerdict};
 ghost use Rattle.prover_quotients.specs.Asked.{committing, extending, extending_at};
@@ -18,7 +18,6 @@ ghost use Rattle.prover_quotients.specs.Tables.{AreGiven, HasProverDataOfSome, c
 use crate::places::{Places, permutation_places, preprocessed_place};
 use crate::table::table_chunks;
 use air_core::{Air, BaseAir};
-use batch_config::Settings;
 use batch_setup::{Committed, StarkInstance};
 use batch_statement::CommonData;
 use commit_core::{CosetPcs, Pcs, PcsFailure, PolynomialSpace, UnivariateStarkPcs};
@@ -29,7 +28,7 @@ use p3_field::{
 use p3_lookup::LookupTerminal;
 use p3_matrix::RowMajorMatrix;
 use p3_uni_stark::{Challenge, Commitment, Domain, PcsProverError, StarkGenericConfig, Val};
-use prover_answer::{ProverPhase, ProverSettings, ProvingError};
+use prover_answer::{Batches, ProverPhase, ProverSettings, ProvingError};
 use std::alloc::Global;
 
 // The chunks of the quotient of one table of a batch, whose permutation columns stand at this place.
@@ -48,22 +47,16 @@ fn chunks_at<SC: StarkGenericConfig, A: Air<Val<SC>>>(
     place: Option<usize>,
 ) -> Mem<Vec<(Domain<SC>, RowMajorMatrix<Val<SC>>)>>
     requires plain { SC.Pcs.ZK ≡ false }
-    requires traced { let b = batch_of (⟦<SC as Settings>⟧.setting config.now)
-        (⟦<SC as ProverSettings>⟧.prover config.now) A.declaration A.trees instances.now
-        common.now in
+    requires traced { let b = ⟦<SC as Batches<A>>⟧.batch config.now instances.now common.now in
         IsTracedAll b }
-    requires given { let b = batch_of (⟦<SC as Settings>⟧.setting config.now)
-        (⟦<SC as ProverSettings>⟧.prover config.now) A.declaration A.trees instances.now
-        common.now in
+    requires given { let b = ⟦<SC as Batches<A>>⟧.batch config.now instances.now common.now in
         AreGiven b (map (λ v. v.items) challenges.now)
         (⟦<SC as ProverSettings>⟧.prover_backend config.now) (option_map (λ d. d.now) preprocessed)
         main.now
         (option_map (λ d. d.now) permutation) (map (option_map (λ t. t.0)) terminals.now) }
     requires index { index < length instances.now }
     requires place { place ≡ permutation_matrix_place (map read_all common.now.lookups) index }
-    ensures { let b = batch_of (⟦<SC as Settings>⟧.setting config.now)
-        (⟦<SC as ProverSettings>⟧.prover config.now) A.declaration A.trees instances.now
-        common.now in
+    ensures { let b = ⟦<SC as Batches<A>>⟧.batch config.now instances.now common.now in
         IfOk result (λ v. v.items ≡ chunks_by b (map (λ v. v.items) challenges.now) alpha index) }
 {
     let places = Places {
@@ -125,27 +118,19 @@ fn extensions_at<SC: StarkGenericConfig, A: Air<Val<SC>>>(
     place: Option<usize>,
 ) -> Result<Vec<RowMajorMatrix<Val<SC>>>, ProvingError<PcsProverError<SC>>>
     requires plain { SC.Pcs.ZK ≡ false }
-    requires traced { let b = batch_of (⟦<SC as Settings>⟧.setting config.now)
-        (⟦<SC as ProverSettings>⟧.prover config.now) A.declaration A.trees instances.now
-        common.now in
+    requires traced { let b = ⟦<SC as Batches<A>>⟧.batch config.now instances.now common.now in
         IsTracedAll b }
-    requires given { let b = batch_of (⟦<SC as Settings>⟧.setting config.now)
-        (⟦<SC as ProverSettings>⟧.prover config.now) A.declaration A.trees instances.now
-        common.now in
+    requires given { let b = ⟦<SC as Batches<A>>⟧.batch config.now instances.now common.now in
         AreGiven b (map (λ v. v.items) challenges.now)
         (⟦<SC as ProverSettings>⟧.prover_backend config.now) (option_map (λ d. d.now) preprocessed)
         main.now
         (option_map (λ d. d.now) permutation) (map (option_map (λ t. t.0)) terminals.now) }
     requires index { index < length instances.now }
     requires place { place ≡ permutation_matrix_place (map read_all common.now.lookups) index }
-    ensures verdict { let b = batch_of (⟦<SC as Settings>⟧.setting config.now)
-        (⟦<SC as ProverSettings>⟧.prover config.now) A.declaration A.trees instances.now
-        common.now in
+    ensures verdict { let b = ⟦<SC as Batches<A>>⟧.batch config.now instances.now common.now in
         IsProverVerdict (extending_at (⟦<SC as ProverSettings>⟧.prover_backend config.now) b
         (map (λ v. v.items) challenges.now) alpha index) result }
-    ensures extensions { let b = batch_of (⟦<SC as Settings>⟧.setting config.now)
-        (⟦<SC as ProverSettings>⟧.prover config.now) A.declaration A.trees instances.now
-        common.now in
+    ensures extensions { let b = ⟦<SC as Batches<A>>⟧.batch config.now instances.now common.now in
         IfOk result (λ v. AreExtensions (SC.Pcs.extends (SC.pcs_of config.now))
         (chunks_by b (map (λ v. v.items) challenges.now) alpha index) v.items) }
 {
@@ -181,26 +166,18 @@ fn all_extensions<SC: StarkGenericConfig, A: Air<Val<SC>>>(
     alpha: Challenge<SC>,
 ) -> Result<Vec<RowMajorMatrix<Val<SC>>>, ProvingError<PcsProverError<SC>>>
     requires plain { SC.Pcs.ZK ≡ false }
-    requires traced { let b = batch_of (⟦<SC as Settings>⟧.setting config.now)
-        (⟦<SC as ProverSettings>⟧.prover config.now) A.declaration A.trees instances.now
-        common.now in
+    requires traced { let b = ⟦<SC as Batches<A>>⟧.batch config.now instances.now common.now in
         IsTracedAll b }
-    requires given { let b = batch_of (⟦<SC as Settings>⟧.setting config.now)
-        (⟦<SC as ProverSettings>⟧.prover config.now) A.declaration A.trees instances.now
-        common.now in
+    requires given { let b = ⟦<SC as Batches<A>>⟧.batch config.now instances.now common.now in
         AreGiven b (map (λ v. v.items) challenges.now)
         (⟦<SC as ProverSettings>⟧.prover_backend config.now) (option_map (λ d. d.now) preprocessed)
         main.now
         (option_map (λ d. d.now) permutation) (map (option_map (λ t. t.0)) terminals.now) }
-    ensures verdict { let b = batch_of (⟦<SC as Settings>⟧.setting config.now)
-        (⟦<SC as ProverSettings>⟧.prover config.now) A.declaration A.trees instances.now
-        common.now in
+    ensures verdict { let b = ⟦<SC as Batches<A>>⟧.batch config.now instances.now common.now in
         IsProverVerdict (in_turn (length instances.now)
         (extending_at (⟦<SC as ProverSettings>⟧.prover_backend config.now) b
         (map (λ v. v.items) challenges.now) alpha)) result }
-    ensures extensions { let b = batch_of (⟦<SC as Settings>⟧.setting config.now)
-        (⟦<SC as ProverSettings>⟧.prover config.now) A.declaration A.trees instances.now
-        common.now in
+    ensures extensions { let b = ⟦<SC as Batches<A>>⟧.batch config.now instances.now common.now in
         IfOk result (λ v. AreExtensions (SC.Pcs.extends (SC.pcs_of config.now))
         (chunks_below b (map (λ v. v.items) challenges.now) alpha (length instances.now)) v.items) }
 {
@@ -279,24 +256,16 @@ pub fn commit_quotients<SC: StarkGenericConfig, A: Air<Val<SC>>>(
     alpha: Challenge<SC>,
 ) -> Result<(Commitment<SC>, Committed<SC>), ProvingError<PcsProverError<SC>>>
     requires plain { SC.Pcs.ZK ≡ false }
-    requires traced { let b = batch_of (⟦<SC as Settings>⟧.setting config.now)
-        (⟦<SC as ProverSettings>⟧.prover config.now) A.declaration A.trees instances.now
-        common.now in
+    requires traced { let b = ⟦<SC as Batches<A>>⟧.batch config.now instances.now common.now in
         IsTracedAll b }
-    requires preprocessed { let b = batch_of (⟦<SC as Settings>⟧.setting config.now)
-        (⟦<SC as ProverSettings>⟧.prover config.now) A.declaration A.trees instances.now
-        common.now in
+    requires preprocessed { let b = ⟦<SC as Batches<A>>⟧.batch config.now instances.now common.now in
         HasProverData (⟦<SC as ProverSettings>⟧.commits_to config.now)
         (preprocessed_all b) b.statement.common.preprocessed
         (option_map (λ d. d.now) preprocessed) }
-    requires main { let b = batch_of (⟦<SC as Settings>⟧.setting config.now)
-        (⟦<SC as ProverSettings>⟧.prover config.now) A.declaration A.trees instances.now
-        common.now in
+    requires main { let b = ⟦<SC as Batches<A>>⟧.batch config.now instances.now common.now in
         (commitment : SC.Pcs.Commitment)
         × ⟦<SC as ProverSettings>⟧.commits_to config.now (main_matrices b) (commitment, main.now) }
-    requires drawn { let b = batch_of (⟦<SC as Settings>⟧.setting config.now)
-        (⟦<SC as ProverSettings>⟧.prover config.now) A.declaration A.trees instances.now
-        common.now in
+    requires drawn { let b = ⟦<SC as Batches<A>>⟧.batch config.now instances.now common.now in
         (w : Option SC.Val) × IsPairGroundOf b w
         × (map (λ v. v.items) challenges.now ≡ all_challenges b w)
         × (map (option_map (λ t. t.0)) terminals.now
@@ -304,14 +273,10 @@ pub fn commit_quotients<SC: StarkGenericConfig, A: Air<Val<SC>>>(
         × (alpha ≡ folding b w)
         × HasProverDataOfSome (⟦<SC as ProverSettings>⟧.commits_to config.now)
         (all_permutations b w) (option_map (λ d. d.now) permutation) }
-    ensures verdict { let b = batch_of (⟦<SC as Settings>⟧.setting config.now)
-        (⟦<SC as ProverSettings>⟧.prover config.now) A.declaration A.trees instances.now
-        common.now in
+    ensures verdict { let b = ⟦<SC as Batches<A>>⟧.batch config.now instances.now common.now in
         let k = ⟦<SC as ProverSettings>⟧.prover_backend config.now in
         IsProverAnswer (in_turn (table_count b) (extension_part k b) ++ quotient_part k b) result }
-    ensures committed { let b = batch_of (⟦<SC as Settings>⟧.setting config.now)
-        (⟦<SC as ProverSettings>⟧.prover config.now) A.declaration A.trees instances.now
-        common.now in
+    ensures committed { let b = ⟦<SC as Batches<A>>⟧.batch config.now instances.now common.now in
         IfOk result (λ c. (w : Option SC.Val) → IsPairGroundOf b w
         → ⟦<SC as ProverSettings>⟧.commits_to config.now (all_chunks b w) c) }
 {
