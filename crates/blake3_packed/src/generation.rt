@@ -1,5 +1,5 @@
 //! The packed rows of compressions.
-ghost use Rattle.std.specs.Prelude.{◌≡◌, ℕ, ◌+◌, ◌*◌, ◌<◌, ◌≤◌, IfOk, Err, ◌↔◌, MatchResult, length};
+ghost use Rattle.std.specs.Prelude.{◌≡◌, ℕ, ◌+◌, ◌*◌, ◌<◌, ◌≤◌, IfOk, Err, ◌↔◌, MatchOption, length};
 ghost use Rattle.p3_matrix.specs.Matrix.{height};
 ghost use Rattle.blake3_compress.specs.declared.error.TraceError.TheVariants.{WrongCharacteristic, NoInput, NotPowerOfTwo, TooLong, OutOfMemory};
 ghost use Rattle.blake3_binary.specs.Rows.{compression, MayStand, HasNoRow, HasNoPower};
@@ -45,15 +45,13 @@ fn blocks_of(alloc: Global, inputs: &[Blake3CompressionInput], room: usize) -> M
     Ok(values)
 }
 
-// The number of words of so many compressions; out of memory where it passes `usize`.
-fn room_for(rows: usize) -> Result<usize, TraceError>
-    ensures { MatchResult result (λ n. n ≡ packed_height rows * 11536) (λ e. e ≡ OutOfMemory) }
+// The number of words of so many compressions; None exactly where it passes `usize`.
+fn room_for(rows: usize) -> Option<usize>
+    ensures { MatchOption result (usize.MAX < packed_height rows * 11536)
+        (λ n. n ≡ packed_height rows * 11536) }
 {
     let blocks = rows / 64 + if rows % 64 > 0 { 1 } else { 0 };
-    match blocks.checked_mul(11536) {
-        None => Err(TraceError::OutOfMemory),
-        Some(room) => Ok(room),
-    }
+    blocks.checked_mul(11536)
 }
 
 /// The packed trace of these compressions: in every column bit j of row w is the cell of row 64 w + j of the trace that
@@ -80,7 +78,7 @@ pub fn generate_binary_trace_packed<F: Field>(
     ensures never_long { result ≡ Err TooLong → ⊥ }
 {
     check_rows::<F>(inputs.len())?;
-    let room = room_for(inputs.len())?;
+    let room = room_for(inputs.len()).ok_or(TraceError::OutOfMemory)?;
     let values = blocks_of(alloc, inputs, room)?;
     Ok(RowMajorMatrix::new(values, 11536))
 }

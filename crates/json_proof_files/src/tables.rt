@@ -24,6 +24,7 @@ fn read_plain(json: &Value, kind: &str, least: u64, most: u64) -> Result<u8, Tre
         (λ k. plain_table_reading kind.now least most (view json.now) ≡ Some k) }
     ensures err { result ≡ Err NoTree
         → plain_table_reading kind.now least most (view json.now) ≡ None }
+    ensures no_memory { IfErr result (λ e. e ≡ NoTree) }
 {
     let mut members = ObjectReader::new(json)?;
     let k = members.read_number("k", least, most)?;

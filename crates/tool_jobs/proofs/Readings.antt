@@ -8,7 +8,7 @@ use Rattle.tool_lines.specs.declared.texts.ItemError.{ItemError}
 use Rattle.tool_lines.specs.declared.texts.ItemError.TheVariants.{Malformed, OutOfMemory}
 use Rattle.p3_field.specs.declared.baby_bear.BabyBear.{BabyBear}
 use Rattle.law_tool_valid.specs.Job.{IsJobTableWithin, JobTable}
-use Rattle.tool_jobs.specs.Jobs.{table_numbers}
+use Rattle.tool_jobs.specs.Jobs.{BeginsList, table_numbers}
 use Rattle.tool_jobs.specs.Laws.Kinds.{KindWithin, body_numbers}
 use Rattle.tool_jobs.specs.Laws.Texts.{same-table, tag-grammar}
 
@@ -46,3 +46,15 @@ pub lists-alone : {V : Type 0} (old mid : List ℕ) (kind : ℕ) (r : Result V I
     → (kind ≤ 2 → IfErr r (λ e. e ≡ Malformed)) → IfErr r (λ e. e ≡ OutOfMemory → (n : ℕ) (rest : List ℕ) → old ≡ decimal n ++ 10 ∷ rest → 3 ≤ n)
 lists-alone old mid kind (Ok v) r h = tt
 lists-alone old mid kind (Err e) r h = from-three old mid kind e r h
+
+at-three : (kind : ℕ) (e : ItemError) → (kind ≤ 2 → e ≡ Malformed) → e ≡ OutOfMemory → 3 ≤ kind
+at-three zero e h m = absurd (let q : Malformed ≡ OutOfMemory = sym (h (omega arith)) ∙ m in cc)
+at-three (suc zero) e h m = absurd (let q : Malformed ≡ OutOfMemory = sym (h (omega arith)) ∙ m in cc)
+at-three (suc (suc zero)) e h m = absurd (let q : Malformed ≡ OutOfMemory = sym (h (omega arith)) ∙ m in cc)
+at-three (suc (suc (suc n))) e h m = omega arith
+
+-- the text of a table that ran out of memory begins with the kind of one that has a list
+pub list-there : {V : Type 0} (old mid : List ℕ) (kind : ℕ) (r : Result V ItemError) → Reads (Between 1 5) one_number old mid kind
+    → (kind ≤ 2 → IfErr r (λ e. e ≡ Malformed)) → IfErr r (λ e. e ≡ OutOfMemory → BeginsList old)
+list-there old mid kind (Ok v) r h = tt
+list-there old mid kind (Err e) r h = λ m. (kind, mid, r.text ∙ append_assoc (decimal kind) (10 ∷ []) mid, at-three kind e h m, r.fits.1)

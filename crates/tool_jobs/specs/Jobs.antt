@@ -1,5 +1,5 @@
 -- Jobs as the program has them, seen as the plain data of law_tool_valid; the words of their text, and their limits.
-use Rattle.std.specs.Prelude.{ℕ, List, [], ◌∷◌, map}
+use Rattle.std.specs.Prelude.{◌≡◌, ℕ, ◌≤◌, List, [], ◌∷◌, ◌++◌, decimal, map}
 use Rattle.p3_field.specs.declared.baby_bear.BabyBear.{BabyBear}
 use Rattle.tool_lines.specs.Texts.{ListWithin, element_numbers, list_numbers}
 use Rattle.law_tool_valid.specs.Job.{IsJobTableWithin, JobTable, swap_of, wheel_of, take_of, give_of, hash_of}
@@ -44,3 +44,7 @@ JobWithin job = ListWithin 1 8 IsJobTableWithin job
 
 abbrev pub job_numbers : List (JobTable BabyBear) → List ℕ
 job_numbers job = list_numbers table_numbers job
+
+-- a text begins with the line of the kind of a table that has a list: one that takes or gives words, or one of compressions
+abbrev pub BeginsList : List ℕ → Type 0
+BeginsList text = (kind : ℕ) × (rest : List ℕ) × (text ≡ decimal kind ++ 10 ∷ rest) × (3 ≤ kind) × (kind ≤ 5)

@@ -2,7 +2,7 @@
 ghost use Rattle.std.specs.Prelude.{◌≡◌, ℕ, ◌≤◌, List, ◌++◌, ◌∷◌, decimal, IfErr, IfOk};
 ghost use Rattle.tool_lines.specs.Texts.{ReadsOne, line_text};
 ghost use Rattle.tool_lines.specs.WholeText.{ReadsText};
-ghost use Rattle.tool_jobs.specs.Jobs.{JobWithin, job_numbers, read_table, read_tables};
+ghost use Rattle.tool_jobs.specs.Jobs.{BeginsList, JobWithin, job_numbers, read_table, read_tables};
 ghost use Rattle.tool_jobs.specs.Laws.Kinds.{KindWithin, body_numbers};
 
 use crate::table::{GivenWord, JobTable};
@@ -183,7 +183,7 @@ fn read_kind(alloc: Global, reader: &mut Reader, kind: u32) -> Result<JobTable, 
 
 /// The kind, 1 for a swap table, 2 for a wheel, 3 for one that takes words, 4 for one that gives words, 5 for one of compressions; then
 /// the base-2 logarithm of the rows and, of a swap table, the first row; or the list of the words, whose count is a power of two up to
-/// 1024; or the list of the rows of 24 words, whose count is a power of two up to 8. Lists alone take memory (`memory`).
+/// 1024; or the list of the rows of 24 words, whose count is a power of two up to 8. Lists alone take memory (`memory`, `list`).
 impl Form for JobTable {
     type Value = JobTable;
 
@@ -208,6 +208,7 @@ impl Form for JobTable {
         ensures memory { IfErr result
             (λ e. e ≡ ItemError.OutOfMemory → (n : ℕ) (rest : List ℕ)
             → reader.old ≡ decimal n ++ 10 ∷ rest → 3 ≤ n) }
+        ensures list { IfErr result (λ e. e ≡ ItemError.OutOfMemory → BeginsList reader.old) }
     {
         let kind = reader.number(SWAP, HASH)?;
         read_kind(alloc, reader, kind)

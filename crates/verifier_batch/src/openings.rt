@@ -1,7 +1,7 @@
 //! All checks of what a batch proof opens.
 ghost use Rattle.std.specs.Prelude.{◌≡◌, ℕ, length, map, IfOk};
 ghost use Rattle.air_core.specs.Shape.{width_of};
-ghost use Rattle.verifier_claims.specs.Claims.{claims};
+ghost use Rattle.verifier_claims.specs.Claims.{claims, place_of_preprocessed};
 ghost use Rattle.verifier_batch.specs.OpeningChecks.{claim_checks, claimed, opening_checks, HasShapeFor, AreLogChunks, made_domains};
 ghost use Rattle.batch_statement.specs.Statement.{AirTable, WellFormed, read_common, stated};
 ghost use Rattle.batch_statement.specs.Verdict.{IsVerdict};
@@ -96,6 +96,8 @@ pub fn proof_claims<SC: StarkGenericConfig, A: Air<Val<SC>>>(
         ≡ made_domains (⟦<SC as Settings>⟧.setting config.now)
         (stated A.declaration A.trees airs.now public_values.now common.now) proof.now
         (length airs.now)) }
+    ensures place { IfOk result
+        (λ w. w.2 ≡ place_of_preprocessed proof.now.commitments common.now.preprocessed) }
 {
     let widths = widths_of(alloc, airs)?;
     commitments_with_opening_points(
