@@ -79,22 +79,23 @@ pub fn prove_batch_with_point<SC: StarkGenericConfig, A: Air<Val<SC>>>(
     prover_data: &ProverData<SC>,
 ) -> Result<(BatchProof<SC>, Challenge<SC>), ProvingError<PcsProverError<SC>>>
     requires plain { SC.Pcs.ZK ≡ false }
-    requires traced { let b = ⟦<SC as Batches<A>>⟧.batch config.now instances.now prover_data.now.common in
-        IsTracedAll b }
-    requires prover_data { let b = ⟦<SC as Batches<A>>⟧.batch config.now instances.now prover_data.now.common in
+    requires traced { let b = ⟦<SC as Batches<A>>⟧.batch config.now instances.now
+        prover_data.now.common in IsTracedAll b }
+    requires prover_data { let b = ⟦<SC as Batches<A>>⟧.batch config.now instances.now
+        prover_data.now.common in
         HasProverData (⟦<SC as ProverSettings>⟧.commits_to config.now) (preprocessed_all b)
         b.statement.common.preprocessed prover_data.now.prover_only.preprocessed_prover_data }
-    ensures verdict { let b = ⟦<SC as Batches<A>>⟧.batch config.now instances.now prover_data.now.common in
-        let k = ⟦<SC as ProverSettings>⟧.prover_backend config.now in
+    ensures verdict { let b = ⟦<SC as Batches<A>>⟧.batch config.now instances.now
+        prover_data.now.common in let k = ⟦<SC as ProverSettings>⟧.prover_backend config.now in
         IsProverAnswer (proving_checks k b) result }
-    ensures first { let b = ⟦<SC as Batches<A>>⟧.batch config.now instances.now prover_data.now.common in
-        let k = ⟦<SC as ProverSettings>⟧.prover_backend config.now in
+    ensures first { let b = ⟦<SC as Batches<A>>⟧.batch config.now instances.now
+        prover_data.now.common in let k = ⟦<SC as ProverSettings>⟧.prover_backend config.now in
         IsProverVerdict (proving_checks k b) result }
-    ensures proved { let b = ⟦<SC as Batches<A>>⟧.batch config.now instances.now prover_data.now.common in
-        let k = ⟦<SC as ProverSettings>⟧.prover_backend config.now in
+    ensures proved { let b = ⟦<SC as Batches<A>>⟧.batch config.now instances.now
+        prover_data.now.common in let k = ⟦<SC as ProverSettings>⟧.prover_backend config.now in
         IfOk result (λ r. IsHonestProof k b r.0) }
-    ensures accepted { let b = ⟦<SC as Batches<A>>⟧.batch config.now instances.now prover_data.now.common in
-        let k = ⟦<SC as ProverSettings>⟧.prover_backend config.now in
+    ensures accepted { let b = ⟦<SC as Batches<A>>⟧.batch config.now instances.now
+        prover_data.now.common in let k = ⟦<SC as ProverSettings>⟧.prover_backend config.now in
         IfOk result (λ r. HaveFewRows b.setting b.statement b.traces b.degree_bits
         → Valid b.setting SC.Val.eq b.prover.commitment_of b.statement b.traces b.degree_bits
         → ((i : ℕ) → i < length instances.now
@@ -102,7 +103,8 @@ pub fn prove_batch_with_point<SC: StarkGenericConfig, A: Air<Val<SC>>>(
         (point_of b r.0.lookup_pow_witness r.0.ood_pow_witness))
         → AvoidsExcluded k b r.0.lookup_pow_witness r.0.ood_pow_witness
         → Accepted b.setting (⟦<SC as Settings>⟧.backend config.now) b.statement r.0) }
-    ensures point { let b = ⟦<SC as Batches<A>>⟧.batch config.now instances.now prover_data.now.common in
+    ensures point { let b = ⟦<SC as Batches<A>>⟧.batch config.now instances.now
+        prover_data.now.common in
         IfOk result (λ r. r.1 ≡ point_of b r.0.lookup_pow_witness r.0.ood_pow_witness) }
 {
     let common = &prover_data.common;
@@ -167,22 +169,23 @@ pub fn prove_batch<SC: StarkGenericConfig, A: Air<Val<SC>>>(
     prover_data: &ProverData<SC>,
 ) -> Result<BatchProof<SC>, ProvingError<PcsProverError<SC>>>
     requires plain { SC.Pcs.ZK ≡ false }
-    requires traced { let b = ⟦<SC as Batches<A>>⟧.batch config.now instances.now prover_data.now.common in
-        IsTracedAll b }
-    requires prover_data { let b = ⟦<SC as Batches<A>>⟧.batch config.now instances.now prover_data.now.common in
+    requires traced { let b = ⟦<SC as Batches<A>>⟧.batch config.now instances.now
+        prover_data.now.common in IsTracedAll b }
+    requires prover_data { let b = ⟦<SC as Batches<A>>⟧.batch config.now instances.now
+        prover_data.now.common in
         HasProverData (⟦<SC as ProverSettings>⟧.commits_to config.now) (preprocessed_all b)
         b.statement.common.preprocessed prover_data.now.prover_only.preprocessed_prover_data }
-    ensures verdict { let b = ⟦<SC as Batches<A>>⟧.batch config.now instances.now prover_data.now.common in
-        let k = ⟦<SC as ProverSettings>⟧.prover_backend config.now in
+    ensures verdict { let b = ⟦<SC as Batches<A>>⟧.batch config.now instances.now
+        prover_data.now.common in let k = ⟦<SC as ProverSettings>⟧.prover_backend config.now in
         IsProverAnswer (proving_checks k b) result }
-    ensures first { let b = ⟦<SC as Batches<A>>⟧.batch config.now instances.now prover_data.now.common in
-        let k = ⟦<SC as ProverSettings>⟧.prover_backend config.now in
+    ensures first { let b = ⟦<SC as Batches<A>>⟧.batch config.now instances.now
+        prover_data.now.common in let k = ⟦<SC as ProverSettings>⟧.prover_backend config.now in
         IsProverVerdict (proving_checks k b) result }
-    ensures proved { let b = ⟦<SC as Batches<A>>⟧.batch config.now instances.now prover_data.now.common in
-        let k = ⟦<SC as ProverSettings>⟧.prover_backend config.now in
+    ensures proved { let b = ⟦<SC as Batches<A>>⟧.batch config.now instances.now
+        prover_data.now.common in let k = ⟦<SC as ProverSettings>⟧.prover_backend config.now in
         IfOk result (IsHonestProof k b) }
-    ensures accepted { let b = ⟦<SC as Batches<A>>⟧.batch config.now instances.now prover_data.now.common in
-        let k = ⟦<SC as ProverSettings>⟧.prover_backend config.now in
+    ensures accepted { let b = ⟦<SC as Batches<A>>⟧.batch config.now instances.now
+        prover_data.now.common in let k = ⟦<SC as ProverSettings>⟧.prover_backend config.now in
         IfOk result (λ q. HaveFewRows b.setting b.statement b.traces b.degree_bits
         → Valid b.setting SC.Val.eq b.prover.commitment_of b.statement b.traces b.degree_bits
         → ((i : ℕ) → i < length instances.now

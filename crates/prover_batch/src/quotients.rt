@@ -60,7 +60,8 @@ pub(crate) fn quotient_stage<SC: StarkGenericConfig, A: Air<Val<SC>>>(
     requires few { 2 ^ transcript.old.shape.ood_pow_bits < SC.Val.ORDER_U64 }
     requires state { let b = ⟦<SC as Batches<A>>⟧.batch config.now instances.now common.now in
         transcript.old.state ≡ quotient_state b lookups.now.witness }
-    requires preprocessed { let b = ⟦<SC as Batches<A>>⟧.batch config.now instances.now common.now in
+    requires preprocessed { let b = ⟦<SC as Batches<A>>⟧.batch config.now instances.now
+        common.now in
         HasProverData (⟦<SC as ProverSettings>⟧.commits_to config.now) (preprocessed_all b)
         b.statement.common.preprocessed (option_map (λ d. d.now) preprocessed) }
     requires main { let b = ⟦<SC as Batches<A>>⟧.batch config.now instances.now common.now in
@@ -76,8 +77,8 @@ pub(crate) fn quotient_stage<SC: StarkGenericConfig, A: Air<Val<SC>>>(
     requires terminals { let b = ⟦<SC as Batches<A>>⟧.batch config.now instances.now common.now in
         map (option_map (λ t. t.0)) lookups.now.terminals.items
         ≡ terminals_of b lookups.now.witness }
-    requires permutation { let b = ⟦<SC as Batches<A>>⟧.batch config.now instances.now common.now in
-        CommitsToSome (⟦<SC as ProverSettings>⟧.commits_to config.now)
+    requires permutation { let b = ⟦<SC as Batches<A>>⟧.batch config.now instances.now
+        common.now in CommitsToSome (⟦<SC as ProverSettings>⟧.commits_to config.now)
         (all_permutations b lookups.now.witness) lookups.now.permutation }
     requires alpha { let b = ⟦<SC as Batches<A>>⟧.batch config.now instances.now common.now in
         lookups.now.alpha ≡ folding b lookups.now.witness }

@@ -48,51 +48,58 @@ pub fn drawn_stages<SC: StarkGenericConfig, A: Air<Val<SC>>>(
     transcript: &mut Transcript<SC>,
 ) -> Result<Stages<SC>, ProvingError<PcsProverError<SC>>>
     requires plain { SC.Pcs.ZK ≡ false }
-    requires traced { let b = ⟦<SC as Batches<A>>⟧.batch config.now instances.now prover_data.now.common in
-        IsTracedAll b }
-    requires prover_data { let b = ⟦<SC as Batches<A>>⟧.batch config.now instances.now prover_data.now.common in
+    requires traced { let b = ⟦<SC as Batches<A>>⟧.batch config.now instances.now
+        prover_data.now.common in IsTracedAll b }
+    requires prover_data { let b = ⟦<SC as Batches<A>>⟧.batch config.now instances.now
+        prover_data.now.common in
         HasProverData (⟦<SC as ProverSettings>⟧.commits_to config.now) (preprocessed_all b)
         b.statement.common.preprocessed prover_data.now.prover_only.preprocessed_prover_data }
-    requires main { let b = ⟦<SC as Batches<A>>⟧.batch config.now instances.now prover_data.now.common in
+    requires main { let b = ⟦<SC as Batches<A>>⟧.batch config.now instances.now
+        prover_data.now.common in
         ⟦<SC as ProverSettings>⟧.commits_to config.now (main_matrices b) (main_of b, main.now) }
     requires turn { transcript.old.remaining
         ≡ from_lookup SC.Challenge.DIMENSION transcript.old.shape }
-    requires shape { let b = ⟦<SC as Batches<A>>⟧.batch config.now instances.now prover_data.now.common in
-        transcript.old.shape ≡ shape_of b }
+    requires shape { let b = ⟦<SC as Batches<A>>⟧.batch config.now instances.now
+        prover_data.now.common in transcript.old.shape ≡ shape_of b }
     requires few_lookup { 2 ^ transcript.old.shape.lookup_pow_bits < SC.Val.ORDER_U64 }
     requires few_ood { 2 ^ transcript.old.shape.ood_pow_bits < SC.Val.ORDER_U64 }
-    requires state { let b = ⟦<SC as Batches<A>>⟧.batch config.now instances.now prover_data.now.common in
-        transcript.old.state ≡ pair_state b }
-    ensures verdict { let b = ⟦<SC as Batches<A>>⟧.batch config.now instances.now prover_data.now.common in
-        let k = ⟦<SC as ProverSettings>⟧.prover_backend config.now in
+    requires state { let b = ⟦<SC as Batches<A>>⟧.batch config.now instances.now
+        prover_data.now.common in transcript.old.state ≡ pair_state b }
+    ensures verdict { let b = ⟦<SC as Batches<A>>⟧.batch config.now instances.now
+        prover_data.now.common in let k = ⟦<SC as ProverSettings>⟧.prover_backend config.now in
         IsProverAnswer ((lookup_part b ++ (fraction_part b ++ permutation_part k b))
         ++ ((in_turn (table_count b) (extension_part k b) ++ quotient_part k b) ++ ood_part b))
         result }
-    ensures ground { let b = ⟦<SC as Batches<A>>⟧.batch config.now instances.now prover_data.now.common in
-        IfOk result (λ r. IsGroundOf b r.0.witness r.1.witness) }
-    ensures challenges { let b = ⟦<SC as Batches<A>>⟧.batch config.now instances.now prover_data.now.common in
+    ensures ground { let b = ⟦<SC as Batches<A>>⟧.batch config.now instances.now
+        prover_data.now.common in IfOk result (λ r. IsGroundOf b r.0.witness r.1.witness) }
+    ensures challenges { let b = ⟦<SC as Batches<A>>⟧.batch config.now instances.now
+        prover_data.now.common in
         IfOk result (λ r. map (λ v. v.items) r.0.challenges.items ≡ all_challenges b r.0.witness) }
-    ensures terminals { let b = ⟦<SC as Batches<A>>⟧.batch config.now instances.now prover_data.now.common in
-        IfOk result (λ r. map (option_map (λ t. t.0)) r.0.terminals.items
+    ensures terminals { let b = ⟦<SC as Batches<A>>⟧.batch config.now instances.now
+        prover_data.now.common in IfOk result (λ r. map (option_map (λ t. t.0)) r.0.terminals.items
         ≡ terminals_of b r.0.witness) }
-    ensures permutation { let b = ⟦<SC as Batches<A>>⟧.batch config.now instances.now prover_data.now.common in
+    ensures permutation { let b = ⟦<SC as Batches<A>>⟧.batch config.now instances.now
+        prover_data.now.common in
         IfOk result (λ r. CommitsToSome (⟦<SC as ProverSettings>⟧.commits_to config.now)
         (all_permutations b r.0.witness) r.0.permutation) }
-    ensures columns { let b = ⟦<SC as Batches<A>>⟧.batch config.now instances.now prover_data.now.common in
-        IfOk result (λ r. option_map (λ c. c.0) r.0.permutation
+    ensures columns { let b = ⟦<SC as Batches<A>>⟧.batch config.now instances.now
+        prover_data.now.common in IfOk result (λ r. option_map (λ c. c.0) r.0.permutation
         ≡ permutation_commitment b r.0.witness) }
-    ensures quotient { let b = ⟦<SC as Batches<A>>⟧.batch config.now instances.now prover_data.now.common in
+    ensures quotient { let b = ⟦<SC as Batches<A>>⟧.batch config.now instances.now
+        prover_data.now.common in
         IfOk result (λ r. ⟦<SC as ProverSettings>⟧.commits_to config.now (all_chunks b r.0.witness)
         (r.1.commitment, r.1.data)) }
-    ensures chunks { let b = ⟦<SC as Batches<A>>⟧.batch config.now instances.now prover_data.now.common in
-        IfOk result (λ r. r.1.commitment ≡ quotient_of b r.0.witness) }
-    ensures fractions { let b = ⟦<SC as Batches<A>>⟧.batch config.now instances.now prover_data.now.common in
-        IfOk result (λ r. HaveFractionsFor b r.0.witness) }
-    ensures alpha { let b = ⟦<SC as Batches<A>>⟧.batch config.now instances.now prover_data.now.common in
-        IfOk result (λ r. r.0.alpha ≡ folding b r.0.witness) }
-    ensures zeta { let b = ⟦<SC as Batches<A>>⟧.batch config.now instances.now prover_data.now.common in
+    ensures chunks { let b = ⟦<SC as Batches<A>>⟧.batch config.now instances.now
+        prover_data.now.common in IfOk result (λ r. r.1.commitment ≡ quotient_of b r.0.witness) }
+    ensures fractions { let b = ⟦<SC as Batches<A>>⟧.batch config.now instances.now
+        prover_data.now.common in IfOk result (λ r. HaveFractionsFor b r.0.witness) }
+    ensures alpha { let b = ⟦<SC as Batches<A>>⟧.batch config.now instances.now
+        prover_data.now.common in IfOk result (λ r. r.0.alpha ≡ folding b r.0.witness) }
+    ensures zeta { let b = ⟦<SC as Batches<A>>⟧.batch config.now instances.now
+        prover_data.now.common in
         IfOk result (λ r. r.1.zeta ≡ point_of b r.0.witness r.1.witness) }
-    ensures state { let b = ⟦<SC as Batches<A>>⟧.batch config.now instances.now prover_data.now.common in
+    ensures state { let b = ⟦<SC as Batches<A>>⟧.batch config.now instances.now
+        prover_data.now.common in
         IfOk result (λ r. transcript.new.state ≡ state_of_opening b r.0.witness r.1.witness) }
     ensures turn { IfOk result
         (λ r. transcript.new.remaining ≡ from_opening SC.Challenge.DIMENSION transcript.new.shape) }

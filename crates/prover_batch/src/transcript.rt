@@ -57,8 +57,8 @@ pub fn bound_transcript<SC: StarkGenericConfig, A: Air<Val<SC>>>(
 ) -> Mem<Transcript<SC>>
     requires traced { let b = ⟦<SC as Batches<A>>⟧.batch config.now instances.now common.now in
         IsTracedAll b }
-    requires degree_bits { let b = ⟦<SC as Batches<A>>⟧.batch config.now instances.now common.now in
-        degree_bits.now ≡ b.degree_bits }
+    requires degree_bits { let b = ⟦<SC as Batches<A>>⟧.batch config.now instances.now
+        common.now in degree_bits.now ≡ b.degree_bits }
     requires main { let b = ⟦<SC as Batches<A>>⟧.batch config.now instances.now common.now in
         main.now ≡ main_of b }
     ensures state { let b = ⟦<SC as Batches<A>>⟧.batch config.now instances.now common.now in

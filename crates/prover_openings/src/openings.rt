@@ -100,7 +100,8 @@ pub(crate) fn open_counted<SC: StarkGenericConfig, A: Air<Val<SC>>>(
         degree_bits.now ≡ b.degree_bits }
     requires chunks { let b = ⟦<SC as Batches<A>>⟧.batch config.now instances.now common.now in
         chunk_counts.now ≡ tabulate (table_count b) (λ i. 2 ^ log_parts_at b i) }
-    requires preprocessed { let b = ⟦<SC as Batches<A>>⟧.batch config.now instances.now common.now in
+    requires preprocessed { let b = ⟦<SC as Batches<A>>⟧.batch config.now instances.now
+        common.now in
         HasProverData (⟦<SC as ProverSettings>⟧.commits_to config.now) (preprocessed_all b)
         b.statement.common.preprocessed (option_map (λ d. d.now) preprocessed) }
     requires ready { let b = ⟦<SC as Batches<A>>⟧.batch config.now instances.now common.now in

@@ -258,8 +258,8 @@ pub fn commit_quotients<SC: StarkGenericConfig, A: Air<Val<SC>>>(
     requires plain { SC.Pcs.ZK ≡ false }
     requires traced { let b = ⟦<SC as Batches<A>>⟧.batch config.now instances.now common.now in
         IsTracedAll b }
-    requires preprocessed { let b = ⟦<SC as Batches<A>>⟧.batch config.now instances.now common.now in
-        HasProverData (⟦<SC as ProverSettings>⟧.commits_to config.now)
+    requires preprocessed { let b = ⟦<SC as Batches<A>>⟧.batch config.now instances.now
+        common.now in HasProverData (⟦<SC as ProverSettings>⟧.commits_to config.now)
         (preprocessed_all b) b.statement.common.preprocessed
         (option_map (λ d. d.now) preprocessed) }
     requires main { let b = ⟦<SC as Batches<A>>⟧.batch config.now instances.now common.now in
