@@ -14,10 +14,10 @@ use tool_verifier::Status;
 /// Does what the words say, which are those after the program's name: reads the input where they name a command, and then writes one text
 /// (not in Plonky3).
 ///
-/// The text is built whole before the first write. The word `to-json` reads a proof file, and answers `Done` with its JSON. The word
-/// `from-json` reads the JSON of a proof file, and answers `Done` with the file. The word `verify-json` reads such JSON too, and answers
-/// what `verify` answers for the file. `BadInput` comes exactly where the bytes are no proof file, with the line at fault, or no JSON of
-/// one, with `bad json` where they are no JSON and `bad tree` where they are JSON that is no proof file's. All other words are `Usage`.
+/// The text is built whole before the first write. The word `explain` reads a proof file, and writes the report on it: each step of its
+/// transcript, and the checks that are asked and fail. It answers `Done` exactly where `verify` accepts the file, and else `Refused`, with
+/// `verify`'s refusal as the first that is named. `BadInput` comes exactly where the bytes are no proof file, with the line at fault. All
+/// other words are `Usage`.
 ///
 /// `ReadFault` and `WriteFault` come only where the source's or the sink's count of faults rose, and with any other status that count
 /// is as it was. `TooLarge` comes only where one byte more than [`MAX_BYTES`](tool_bytes::MAX_BYTES) was read, and `OutOfMemory` where out
